@@ -1,0 +1,1 @@
+// Bytes into a lent output, from its present end.
