@@ -1,0 +1,52 @@
+"""Cases for the programs that read them from standard input, and running such a program on them.
+
+A case is a head, its kind (one byte), the length of its body (four decimal digits) and a line feed; then the body and a line
+feed. The program answers each case with a line.
+"""
+import pathlib
+import subprocess
+import sys
+
+ROOT = pathlib.Path(__file__).resolve().parent.parent
+
+
+def case(kind, body):
+    if isinstance(body, str):
+        body = body.encode("ascii")
+    assert len(kind) == 1 and len(body) < 10000
+    return kind.encode("ascii") + b"%04d\n" % len(body) + body + b"\n"
+
+
+def stored(program, cases, answers):
+    """Compares the program's stored input and expected output with what the script makes; True where they are the same."""
+    folder = ROOT / "crates" / program
+    same = True
+    for name, content in (("stdin", b"".join(cases)), ("stdout", b"".join(answers))):
+        path = folder / name
+        if not path.exists() or path.read_bytes() != content:
+            print(f"{path.relative_to(ROOT)} is not what the script makes (write it with --write)")
+            same = False
+    return same
+
+
+def write(program, cases, answers):
+    folder = ROOT / "crates" / program
+    (folder / "stdin").write_bytes(b"".join(cases))
+    (folder / "stdout").write_bytes(b"".join(answers))
+
+
+def run(program, cases):
+    """The program's answers, a line each."""
+    done = subprocess.run([ROOT / "target" / "bin" / program], input=b"".join(cases), stdout=subprocess.PIPE, check=True)
+    return done.stdout.splitlines(keepends=True)
+
+
+def compare(program, cases, answers, what):
+    """Runs the program on the cases and ends the script at the first answer that differs."""
+    got = run(program, cases)
+    for given, expected, answer in zip(cases, answers, got):
+        if expected != answer:
+            sys.exit(f"{program}: {what}: at {given!r}\n  expected {expected!r}\n  got      {answer!r}")
+    if len(got) != len(answers):
+        sys.exit(f"{program}: {what}: {len(answers)} answers expected, {len(got)} given")
+    print(f"{program}: {what}: {len(cases)} cases agree")
