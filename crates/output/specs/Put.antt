@@ -12,6 +12,9 @@ pub record Out : Type 0 where
   pub bytes : List ℕ
   pub end : ℕ
 
+abbrev pub output : List ℕ → ℕ → Out
+output xs at = record { bytes = xs; end = at }
+
 -- xs with bs from index at on; all else as it was
 unfoldable pub put : List ℕ → ℕ → List ℕ → List ℕ
 put xs at bs = take at xs ++ bs ++ drop (at + length bs) xs
@@ -20,8 +23,8 @@ put xs at bs = take at xs ++ bs ++ drop (at + length bs) xs
 unfoldable pub putPiece : Out → List ℕ → Out
 putPiece o bs =
     pick (leb (o .end + length bs) (length (o .bytes)))
-    (record { bytes = put (o .bytes) (o .end) bs; end = o .end + length bs })
-    (record { bytes = o .bytes; end = length (o .bytes) + 1 })
+    (output (put (o .bytes) (o .end) bs) (o .end + length bs))
+    (output (o .bytes) (length (o .bytes) + 1))
 
 -- pieces, each behind the one before
 abbrev pub putAll : Out → List (List ℕ) → Out
@@ -30,4 +33,9 @@ putAll o (b ∷ bs) = putAll (putPiece o b) bs
 
 -- a writer that was lent xs with the present end `at` put these pieces: it leaves ys and answers the end r
 pub record Wrote (xs : List ℕ) (at : ℕ) (pieces : List (List ℕ)) (ys : List ℕ) (r : ℕ) : Type 0 where
-  pub all : _≡_ {A = Out} (record { bytes = ys; end = r }) (putAll (record { bytes = xs; end = at }) pieces)
+  pub all : output ys r ≡ putAll (output xs at) pieces
+
+-- all of the pieces' bytes, in order
+abbrev pub concat : List (List ℕ) → List ℕ
+concat [] = []
+concat (b ∷ bs) = b ++ concat bs
