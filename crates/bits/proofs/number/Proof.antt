@@ -1,0 +1,71 @@
+use mathlib.Core.Path.{_≡_, sym, ap, ap₂, _∙_}
+use mathlib.Core.List.{List}
+use Prim.Native.Nat.{ℕ, _+_, _-_, _%_, _^_, _≤_}
+use lib.ListN.{length, getD, take, replicate}
+use lib.Seq.{take-length}
+use borrow.Author.Needs.{needs}
+use Rattle.bits.specs.Fields.{joined, pushed}
+use Rattle.bits.proofs.Bytes.{one-more, carry}
+use Rattle.bits.proofs.number.Statement.{statement}
+use Rattle.bits.proofs.number.Tie as tie
+use Rattle.bits.proofs.number.Reads as reads
+use Rattle.bits.proofs.number.Lts as lts
+use Rattle.bits.proofs.push.Reads as push-reads
+use Rattle.bits.proofs.wide.Reads as wide-reads
+
+abbrev Inv-loop : tie.InvT-loop
+Inv-loop s n₀ i₀ n i = (i ≤ length s) × (n ≡ joined 0 (replicate i 8) (take i s) % 2 ^ 64)
+
+abbrev μ-loop : tie.MeasureT-loop
+μ-loop s n₀ i₀ n i = length s - i
+
+loop-holds : tie.Need-loop-holds Inv-loop μ-loop
+loop-holds c = search needs
+
+shared-slice-read-wide : tie.Need-shared-slice-read-wide Inv-loop μ-loop
+shared-slice-read-wide c = search needs
+
+wide-requires : tie.Need-wide-requires Inv-loop μ-loop
+wide-requires c κs = search needs
+
+push-requires : tie.Need-push-requires Inv-loop μ-loop
+push-requires c κs = search needs
+
+add-i : tie.Need-add-i Inv-loop μ-loop
+add-i c = search needs
+
+loop-less : tie.Need-loop-less Inv-loop μ-loop
+loop-less c = search needs
+
+loop-again : tie.Need-loop-again Inv-loop μ-loop
+loop-again c =
+    let l = c .before .before .before .before .loop in
+    let s = c .before .before .before .before .before .before .args .s .now in (
+      search needs,
+      c .push .ensures
+          ∙ ap₂ (λ (m b : ℕ). pushed m 8 b % 2 ^ 64) (l .inv .1) (c .before .wide .ensures)
+          ∙ carry (joined 0 (replicate (l .i) 8) (take (l .i) s)) (getD s (l .i) 0)
+          ∙ ap (λ (m : ℕ). m % 2 ^ 64) (sym (one-more s (l .i) (search needs))),
+    )
+
+returns : tie.Need-returns Inv-loop μ-loop
+returns c =
+    let l = c .before .loop in
+    let s = c .before .before .before .args .s .now in
+    let e : l .i ≡ length s = search needs in
+    l .inv .1 ∙ ap (λ (k : ℕ). joined 0 (replicate k 8) (take k s) % 2 ^ 64) e ∙ ap (λ (t : List ℕ). joined 0 (replicate (length s) 8) t % 2 ^ 64) (take-length s)
+
+pub number-spec : {M : Type 1} → statement M
+number-spec =
+    tie.close
+    (tie.spec
+    Inv-loop
+    μ-loop
+    loop-holds
+    shared-slice-read-wide
+    wide-requires
+    push-requires
+    add-i
+    loop-less
+    loop-again
+    returns)
