@@ -1,0 +1,49 @@
+-- A string's characters, up to the closing quotation mark, as a list of code points; and two comparisons of them.
+-- Assumes nothing.
+use Prim.Native.Nat.{ℕ, zero, suc, _+_}
+use mathlib.Core.Bool.{Bool, true, false}
+use mathlib.Core.List.{List, [], _∷_}
+use lib.ListN.{length, drop}
+use lib.Dec.{eqb}
+use Rattle.basis.specs.Pick.{pick}
+use Rattle.text.specs.Char.{stepOf}
+use Rattle.text.specs.declared.Char.{Char}
+use Rattle.text.specs.declared.Char.the-variants.{One, Close, Bad}
+
+-- what was read, and what follows it; or nothing
+pub data Parsed (A : Type 0) : Type 0 where
+  ok : A → List ℕ → Parsed A
+  none : Parsed A
+
+abbrev pub push : ℕ → Parsed (List ℕ) → Parsed (List ℕ)
+push c (ok d r) = ok (c ∷ d) r
+push c none = none
+
+abbrev pub byChar : (List ℕ → Parsed (List ℕ)) → Char → List ℕ → Parsed (List ℕ)
+byChar more (One c w) t = push c (more (drop (1 + w) t))
+byChar more Close t = ok [] (drop 1 t)
+byChar more Bad t = none
+
+-- at most n characters and the closing quotation mark
+unfoldable pub readChars : ℕ → List ℕ → Parsed (List ℕ)
+readChars zero t = none
+readChars (suc n) t = byChar (λ u. readChars n u) (stepOf t) t
+
+-- the characters up to the closing quotation mark, fewer than there are bytes
+unfoldable pub decoded : List ℕ → Parsed (List ℕ)
+decoded t = readChars (length t) t
+
+abbrev pub eqList : List ℕ → List ℕ → Bool
+eqList [] [] = true
+eqList [] (y ∷ ys) = false
+eqList (x ∷ xs) [] = false
+eqList (x ∷ xs) (y ∷ ys) = pick (eqb x y) (eqList xs ys) false
+
+-- a text is read, and is n
+abbrev pub isText : Parsed (List ℕ) → List ℕ → Bool
+isText (ok d r) n = eqList d n
+isText none n = false
+
+abbrev pub sameText : Parsed (List ℕ) → Parsed (List ℕ) → Bool
+sameText (ok d r) q = isText q d
+sameText none q = false

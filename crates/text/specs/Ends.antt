@@ -1,0 +1,12 @@
+-- What the code's answers say: where a reading ends in a slice s.
+use Prim.Native.Nat.{ℕ, _≤_}
+use mathlib.Core.List.{List}
+use lib.ListN.{length, drop}
+use Rattle.text.specs.Decoded.{Parsed}
+use Rattle.text.specs.Decoded.Parsed.{ok, none}
+use Rattle.text.specs.declared.Read.{Read}
+use Rattle.text.specs.declared.Read.the-variants.{End, Bad}
+
+pub data Ends {A : Type 0} (s : List ℕ) (at : ℕ) : Parsed A → Read → Type 0 where
+  ends : {a : A} (e : ℕ) → at ≤ e → e ≤ length s → Ends s at (ok a (drop e s)) (End e)
+  fails : Ends s at none Bad

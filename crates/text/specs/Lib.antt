@@ -1,0 +1,3 @@
+pub mod Char
+pub mod Decoded
+pub mod Ends
