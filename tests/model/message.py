@@ -1,0 +1,245 @@
+"""Document 01, "Packets and JSON", "Which packets are answered": what a packet says, and the texts of the written messages."""
+import datetime
+import json
+import re
+
+from .table import ALPHABET
+
+LAST = 253402300799999
+LEVELS, ENTRIES, SECONDS = 8, 16, 86400
+EPOCH = datetime.datetime(1970, 1, 1)
+MILLISECOND = datetime.timedelta(milliseconds=1)
+IDENTITY = re.compile(r"[0-9a-fA-F]{8}(-[0-9a-fA-F]{4}){3}-[0-9a-fA-F]{12}")
+TIME = re.compile(r"([0-9]{4})-([0-9]{2})-([0-9]{2})T([0-9]{2}):([0-9]{2}):([0-9]{2})\.([0-9]{3})Z")
+DECIMAL = re.compile(r"0|[1-9][0-9]*")
+ANSWERS = ("MessageAck", "MessageNotAck")
+STATUS_TYPES = ("StatusRequest", "StatusSubscribe", "StatusUnsubscribe")
+TAKEN = ("Version", "Watchdog", "Alarm", "AggregatedStatusRequest") + STATUS_TYPES
+OFFERED = ("3.1.5", "3.2")
+
+
+# Reading.
+
+class BadJson(Exception):
+    pass
+
+
+def refuse(_):
+    raise BadJson
+
+
+def members(pairs):
+    if len({name for name, _ in pairs}) != len(pairs):
+        raise BadJson
+    return dict(pairs)
+
+
+class Number:
+    def __init__(self, text):
+        self.text = text
+
+
+DECODER = json.JSONDecoder(object_pairs_hook=members, parse_int=Number, parse_float=Number, parse_constant=refuse)
+
+
+def judge_levels(value, level):
+    if isinstance(value, str) and any(0xD800 <= ord(c) <= 0xDFFF for c in value):
+        raise BadJson
+    if isinstance(value, (list, dict)):
+        if level == LEVELS:
+            raise BadJson
+        for item in value if isinstance(value, list) else [*value.keys(), *value.values()]:
+            judge_levels(item, level + 1)
+
+
+def parse(packet):
+    """The packet's object, or None."""
+    try:
+        text = packet.decode("utf-8")
+        value, end = DECODER.raw_decode(text, len(text) - len(text.lstrip(" \t\n\r")))
+        if text[end:].strip(" \t\n\r") or not isinstance(value, dict):
+            return None
+        judge_levels(value, 0)
+        return value
+    except (UnicodeDecodeError, json.JSONDecodeError, BadJson, RecursionError):
+        return None
+
+
+def identity(value):
+    """The identity in lower case, or None."""
+    return value.lower() if isinstance(value, str) and IDENTITY.fullmatch(value) else None
+
+
+def read_time(value):
+    found = TIME.fullmatch(value) if isinstance(value, str) else None
+    if not found:
+        return None
+    parts = [int(part) for part in found.groups()]
+    try:
+        ms = (datetime.datetime(*parts[:6], parts[6] * 1000) - EPOCH) // MILLISECOND
+    except ValueError:
+        return None
+    return ms if ms >= 0 else None
+
+
+def is_label(value):
+    return isinstance(value, str) and 1 <= len(value) <= 32 and all(ord(c) in ALPHABET for c in value)
+
+
+def read_version(value):
+    if not isinstance(value, str):
+        return None
+    parts = value.split(".")
+    if not 1 <= len(parts) <= 3 or not all(DECIMAL.fullmatch(part) and int(part) <= 255 for part in parts):
+        return None
+    return tuple(int(part) for part in parts) + (0,) * (3 - len(parts))
+
+
+def read_seconds(value):
+    return int(value) if isinstance(value, str) and DECIMAL.fullmatch(value) and int(value) <= SECONDS else None
+
+
+class Reason(Exception):
+    pass
+
+
+MISSING, BAD = "Missing element", "Bad value"
+
+
+def need(fields, *names):
+    for name in names:
+        if name not in fields:
+            raise Reason(MISSING)
+
+
+def need_entries(values, *names):
+    for entry in values if isinstance(values, list) else []:
+        if isinstance(entry, dict):
+            need(entry, *names)
+
+
+def good(test):
+    if not test:
+        raise Reason(BAD)
+
+
+def good_list(values):
+    good(isinstance(values, list) and len(values) <= ENTRIES and all(isinstance(entry, dict) for entry in values))
+
+
+def version_fields(fields):
+    need(fields, "RSMP", "siteId", "SXL")
+    need_entries(fields["RSMP"], "vers")
+    need_entries(fields["siteId"], "sId")
+    good_list(fields["RSMP"])
+    good_list(fields["siteId"])
+    versions = [read_version(entry["vers"]) for entry in fields["RSMP"]]
+    good(all(version is not None for version in versions))
+    sites = [entry["sId"] for entry in fields["siteId"]]
+    good(all(is_label(site) for site in sites) and is_label(fields["SXL"]))
+    return {"versions": versions, "sites": sites, "sxl": fields["SXL"]}
+
+
+def watchdog_fields(fields):
+    need(fields, "wTs")
+    time = read_time(fields["wTs"])
+    good(time is not None)
+    return {"time": time}
+
+
+def alarm_fields(fields):
+    need(fields, "cId", "aCId", "aSp")
+    good(is_label(fields["cId"]) and is_label(fields["aCId"]))
+    good(fields["aSp"] in ("Request", "Acknowledge", "Suspend", "Resume"))
+    return {"component": fields["cId"], "code": fields["aCId"], "order": fields["aSp"]}
+
+
+def aggregated_fields(fields):
+    need(fields, "cId")
+    good(is_label(fields["cId"]))
+    return {"component": fields["cId"]}
+
+
+def status_fields(fields, subscribing):
+    need(fields, "cId", "sS")
+    need_entries(fields["sS"], *(("sCI", "n", "uRt", "sOc") if subscribing else ("sCI", "n")))
+    good(is_label(fields["cId"]))
+    good_list(fields["sS"])
+    entries = []
+    for entry in fields["sS"]:
+        good(is_label(entry["sCI"]) and is_label(entry["n"]))
+        rate, change = None, None
+        if subscribing:
+            rate, change = read_seconds(entry["uRt"]), entry["sOc"]
+            good(rate is not None and isinstance(change, bool) and (rate > 0 or change))
+        entries.append((entry["sCI"], entry["n"], rate, change))
+    return {"component": fields["cId"], "entries": entries}
+
+
+def fields_of(kind, fields):
+    """The fields of a packet of a taken type; Reason where one is missing or bad."""
+    if kind == "Version":
+        return version_fields(fields)
+    if kind == "Watchdog":
+        return watchdog_fields(fields)
+    if kind == "Alarm":
+        return alarm_fields(fields)
+    if kind == "AggregatedStatusRequest":
+        return aggregated_fields(fields)
+    return status_fields(fields, kind == "StatusSubscribe")
+
+
+# Writing: no spaces, elements in the order of source document 000's listings.
+
+def text(value):
+    return json.dumps(value, separators=(",", ":")).encode("ascii")
+
+
+def time_text(ms):
+    moment = EPOCH + ms * MILLISECOND
+    return moment.strftime("%Y-%m-%dT%H:%M:%S.") + "%03dZ" % (moment.microsecond // 1000)
+
+
+def head(kind, identity_):
+    return {"mType": "rSMsg", "type": kind, "mId": identity_}
+
+
+def about(kind, identity_, component):
+    return {**head(kind, identity_), "ntsOId": "", "xNId": "", "cId": component}
+
+
+def version(identity_, site, sxl):
+    return text({**head("Version", identity_), "RSMP": [{"vers": offered} for offered in OFFERED], "siteId": [{"sId": site}], "SXL": sxl})
+
+
+def watchdog(identity_, time):
+    return text({**head("Watchdog", identity_), "wTs": time_text(time)})
+
+
+def ack(received):
+    return text({"mType": "rSMsg", "type": "MessageAck", "oMId": received})
+
+
+def not_ack(received, reason):
+    return text({"mType": "rSMsg", "type": "MessageNotAck", "oMId": received, "rea": reason})
+
+
+def alarm(identity_, component, code, event, acknowledged, active, suspended, time, category, priority):
+    return text({**about("Alarm", identity_, component), "aCId": code, "xACId": "", "xNACId": "",
+                 "aSp": ("Issue", "Acknowledge", "Suspend")[event],
+                 "ack": "Acknowledged" if acknowledged else "notAcknowledged",
+                 "aS": "Active" if active else "inActive",
+                 "sS": "Suspended" if suspended else "notSuspended",
+                 "aTs": time_text(time), "cat": "D" if category else "T", "pri": str(priority), "rvs": []})
+
+
+def aggregated(identity_, component, time, value):
+    return text({**about("AggregatedStatus", identity_, component), "aSTS": time_text(time), "fP": "", "fS": "",
+                 "se": [bool(value >> place & 1) for place in range(7, -1, -1)]})
+
+
+def statuses(kind, identity_, component, time, entries):
+    """Entries: code, name, value or None, quality."""
+    return text({**about(kind, identity_, component), "sTs": time_text(time),
+                 "sS": [{"sCI": code, "n": name, "s": None if value is None else str(value), "q": quality}
+                        for code, name, value, quality in entries]})
