@@ -1,0 +1,81 @@
+-- What is made into flags is read from them, and which numbers are flags.
+-- Assumes nothing.
+use mathlib.Core.Path.{_≡_, refl, sym, ap, _∙_}
+use mathlib.Core.Bool.{Bool, true, false}
+use mathlib.Core.List.{List, [], _∷_}
+use Prim.Native.Nat.{ℕ, _+_, _*_, _/_, _%_, _^_, _≤_, _<_}
+use lib.Dec.{eqb, lit≤}
+use native.Mathlib.Omega.{arith}
+use Rattle.bits.specs.Fields.{fieldOf, joined, split}
+use Rattle.bits.proofs.Fields.{joined-split}
+use Rattle.basis.proofs.Cases.{bool-cases}
+use borrow.Author.Tests.{eqb-true, eqb-false}
+use Rattle.entry.specs.Flags.{bit, isSet, alarmWidths, alarmFlags, statusFlags, eventOf, isAcknowledged, isActive, isSuspended, isKnown}
+
+pub bit-le : (b : Bool) → bit b ≤ 1
+bit-le true = lit≤ tt
+bit-le false = lit≤ tt
+
+bit-read : (b : Bool) {x : ℕ} → x ≡ bit b → eqb x 1 ≡ b
+bit-read true e = ap (λ (n : ℕ). eqb n 1) e
+bit-read false e = ap (λ (n : ℕ). eqb n 1) e
+
+-- a bit that was read says what stands there
+set-bit : (flags s : ℕ) → bit (isSet flags s) ≡ fieldOf flags s 1
+set-bit flags s = bool-cases (isSet flags s)
+    (λ e. let h = eqb-true (fieldOf flags s 1) 1 e in ap bit e ∙ sym h)
+    (λ e. let h = eqb-false (fieldOf flags s 1) 1 e in ap bit e ∙ omega arith)
+
+module _ (event : ℕ) (acknowledged active suspended : Bool) where
+  abbrev flags : ℕ
+  flags = alarmFlags event acknowledged active suspended
+
+  pub event-back : eventOf flags ≡ event % 4
+  unfolding alarmFlags
+  event-back = omega (arith, bit-le acknowledged, bit-le active, bit-le suspended)
+
+  pub acknowledged-back : isAcknowledged flags ≡ acknowledged
+  unfolding alarmFlags
+  acknowledged-back = bit-read acknowledged {x = fieldOf flags 3 1} (omega (arith, bit-le acknowledged, bit-le active, bit-le suspended))
+
+  pub active-back : isActive flags ≡ active
+  unfolding alarmFlags
+  active-back = bit-read active {x = fieldOf flags 2 1} (omega (arith, bit-le acknowledged, bit-le active, bit-le suspended))
+
+  pub suspended-back : isSuspended flags ≡ suspended
+  unfolding alarmFlags
+  suspended-back = bit-read suspended {x = fieldOf flags 1 1} (omega (arith, bit-le acknowledged, bit-le active, bit-le suspended))
+
+  pub alarm-flags-lt : event < 3 → flags < 48
+  unfolding alarmFlags
+  alarm-flags-lt h = omega (arith, bit-le acknowledged, bit-le active, bit-le suspended)
+
+  pub alarm-flags-even : flags % 2 ≡ 0
+  unfolding alarmFlags
+  alarm-flags-even = omega arith
+
+-- an even number below 64 is the flags of what is read from it
+pub alarm-flags-again : (f : ℕ) → f < 64 → f % 2 ≡ 0 → f ≡ alarmFlags (eventOf f) (isAcknowledged f) (isActive f) (isSuspended f)
+unfolding alarmFlags
+alarm-flags-again f h e =
+    let z : f / 2 ^ 6 ≡ 0 = omega arith in
+    let y : fieldOf f 0 1 ≡ 0 = omega arith in
+    sym (joined-split alarmWidths f)
+    ∙ ap (λ (n : ℕ). joined n alarmWidths (split alarmWidths f)) z
+    ∙ ap (λ (v : ℕ). joined 0 alarmWidths (eventOf f ∷ fieldOf f 3 1 ∷ fieldOf f 2 1 ∷ fieldOf f 1 1 ∷ v ∷ [])) y
+    ∙ ap (λ (v : ℕ). joined 0 alarmWidths (eventOf f ∷ v ∷ fieldOf f 2 1 ∷ fieldOf f 1 1 ∷ 0 ∷ [])) (sym (set-bit f 3))
+    ∙ ap (λ (v : ℕ). joined 0 alarmWidths (eventOf f ∷ bit (isAcknowledged f) ∷ v ∷ fieldOf f 1 1 ∷ 0 ∷ [])) (sym (set-bit f 2))
+    ∙ ap (λ (v : ℕ). joined 0 alarmWidths (eventOf f ∷ bit (isAcknowledged f) ∷ bit (isActive f) ∷ v ∷ 0 ∷ [])) (sym (set-bit f 1))
+
+pub known-back : (known : Bool) → isKnown (statusFlags known) ≡ known
+unfolding statusFlags
+known-back true = refl
+known-back false = refl
+
+pub known-flags : statusFlags true ≡ 32
+unfolding statusFlags
+known-flags = refl
+
+pub unknown-flags : statusFlags false ≡ 0
+unfolding statusFlags
+unknown-flags = refl

@@ -1,0 +1,4 @@
+pub mod FlagLaws
+pub mod ValidLaws
+pub mod Words
+pub mod RoundTrip

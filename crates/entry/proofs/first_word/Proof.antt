@@ -1,0 +1,65 @@
+use mathlib.Core.Path.{refl}
+use mathlib.Core.List.{[], _∷_}
+use lib.Dec.{lit≤}
+use Rattle.bits.proofs.Fields.{next-field}
+use borrow.Author.Needs.{needs}
+use Rattle.entry.proofs.first_word.Statement.{statement}
+use Rattle.entry.proofs.first_word.Tie as tie
+use Rattle.entry.proofs.first_word.Reads as reads
+use Rattle.entry.proofs.first_word.Lts as lts
+use Rattle.bits.proofs.push.Reads as push-reads
+
+cast-push : tie.Need-cast-push
+cast-push c = search needs
+
+push-requires : tie.Need-push-requires
+push-requires c κs = search needs
+
+cast-push-2 : tie.Need-cast-push-2
+cast-push-2 c = search needs
+
+push-requires-2 : tie.Need-push-requires-2
+push-requires-2 c κs = search needs
+
+cast-push-3 : tie.Need-cast-push-3
+cast-push-3 c = search needs
+
+push-requires-3 : tie.Need-push-requires-3
+push-requires-3 c κs = search needs
+
+cast-push-4 : tie.Need-cast-push-4
+cast-push-4 c = search needs
+
+push-requires-4 : tie.Need-push-requires-4
+push-requires-4 c κs = search needs
+
+push-requires-5 : tie.Need-push-requires-5
+push-requires-5 c κs = search needs
+
+returns : tie.Need-returns
+returns c =
+    let p4 = c .before in
+    let p3 = p4 .before .before in
+    let p2 = p3 .before .before in
+    let p1 = p2 .before .before in
+    let e = p1 .before .before .args .e in
+    let e1 = next-field [] [] 2 (e .link) refl (lit≤ tt) refl (p1 .push .ensures) in
+    let e2 = next-field (2 ∷ []) (e .link ∷ []) 2 (e .kind) refl (lit≤ tt) e1 (p2 .push2 .ensures) in
+    let e3 = next-field (2 ∷ 2 ∷ []) (e .link ∷ e .kind ∷ []) 6 (e .item) refl (lit≤ tt) e2 (p3 .push3 .ensures) in
+    let e4 = next-field (2 ∷ 2 ∷ 6 ∷ []) (e .link ∷ e .kind ∷ e .item ∷ []) 6 (e .flags) refl (lit≤ tt) e3 (p4 .push4 .ensures) in
+    next-field (2 ∷ 2 ∷ 6 ∷ 6 ∷ []) (e .link ∷ e .kind ∷ e .item ∷ e .flags ∷ []) 48 (e .time) refl (lit≤ tt) e4 (c .push5 .ensures)
+
+pub first-word-spec : {M : Type 1} → statement M
+first-word-spec =
+    tie.close
+    (tie.spec
+    cast-push
+    push-requires
+    cast-push-2
+    push-requires-2
+    cast-push-3
+    push-requires-3
+    cast-push-4
+    push-requires-4
+    push-requires-5
+    returns)

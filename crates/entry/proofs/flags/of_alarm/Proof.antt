@@ -1,0 +1,73 @@
+use mathlib.Core.Path.{refl, ap, _∙_}
+use mathlib.Core.List.{[], _∷_}
+use Prim.Native.Nat.{ℕ, _%_, _^_}
+use lib.Dec.{lit≤}
+use Rattle.bits.specs.Fields.{pushed}
+use Rattle.bits.proofs.Fields.{next-field}
+use Rattle.entry.specs.Flags.{bit, alarmFlags}
+use borrow.Author.Needs.{needs}
+use Rattle.entry.proofs.flags.of_alarm.Statement.{statement}
+use Rattle.entry.proofs.flags.of_alarm.Tie as tie
+use Rattle.entry.proofs.flags.of_alarm.Reads as reads
+use Rattle.entry.proofs.flags.of_alarm.Lts as lts
+use Rattle.bits.proofs.push.Reads as push-reads
+use Rattle.entry.proofs.flags.bit.Reads as bit-reads
+
+push-requires : tie.Need-push-requires
+push-requires c κs = search needs
+
+bit-requires : tie.Need-bit-requires
+bit-requires c κs = search needs
+
+push-requires-2 : tie.Need-push-requires-2
+push-requires-2 c κs = search needs
+
+bit-requires-2 : tie.Need-bit-requires-2
+bit-requires-2 c κs = search needs
+
+push-requires-3 : tie.Need-push-requires-3
+push-requires-3 c κs = search needs
+
+bit-requires-3 : tie.Need-bit-requires-3
+bit-requires-3 c κs = search needs
+
+push-requires-4 : tie.Need-push-requires-4
+push-requires-4 c κs = search needs
+
+push-requires-5 : tie.Need-push-requires-5
+push-requires-5 c κs = search needs
+
+cast-result : tie.Need-cast-result
+cast-result c = search needs
+
+returns : tie.Need-returns
+unfolding alarmFlags
+returns c =
+    let p4 = c .before in
+    let p3 = p4 .before .before in
+    let p2 = p3 .before .before in
+    let p1 = p2 .before .before in
+    let s = p1 .before .args in
+    let a = bit (s .acknowledged) in
+    let b = bit (s .active) in
+    let d = bit (s .suspended) in
+    let e1 = next-field [] [] 2 (s .event) refl (lit≤ tt) refl (p1 .push .ensures) in
+    let e2 = next-field (2 ∷ []) (s .event ∷ []) 1 a refl (lit≤ tt) e1 (p2 .push2 .ensures ∙ ap (λ (x : ℕ). pushed (p1 .push .result) 1 x % 2 ^ 64) (p2 .before .bit .ensures)) in
+    let e3 = next-field (2 ∷ 1 ∷ []) (s .event ∷ a ∷ []) 1 b refl (lit≤ tt) e2 (p3 .push3 .ensures ∙ ap (λ (x : ℕ). pushed (p2 .push2 .result) 1 x % 2 ^ 64) (p3 .before .bit2 .ensures)) in
+    let e4 = next-field (2 ∷ 1 ∷ 1 ∷ []) (s .event ∷ a ∷ b ∷ []) 1 d refl (lit≤ tt) e3 (p4 .push4 .ensures ∙ ap (λ (x : ℕ). pushed (p3 .push3 .result) 1 x % 2 ^ 64) (p4 .before .bit3 .ensures)) in
+    next-field (2 ∷ 1 ∷ 1 ∷ 1 ∷ []) (s .event ∷ a ∷ b ∷ d ∷ []) 1 0 refl (lit≤ tt) e4 (c .push5 .ensures)
+
+pub of-alarm-spec : {M : Type 1} → statement M
+of-alarm-spec =
+    tie.close
+    (tie.spec
+    push-requires
+    bit-requires
+    push-requires-2
+    bit-requires-2
+    push-requires-3
+    bit-requires-3
+    push-requires-4
+    push-requires-5
+    cast-result
+    returns)

@@ -1,0 +1,67 @@
+use mathlib.Core.Path.{_≡_, sym, ap, ap₂, _∙_}
+use Prim.Native.Nat.{ℕ, _+_, _*_, _^_}
+use lib.ListN.{length}
+use Rattle.bits.specs.Fields.{split}
+use Rattle.entry.specs.Layout.{entryOf, widths}
+use Rattle.entry.proofs.Words.{sixteen}
+use borrow.Author.Needs.{needs}
+use Rattle.entry.proofs.unchecked.Statement.{statement}
+use Rattle.entry.proofs.unchecked.Tie as tie
+use Rattle.entry.proofs.unchecked.Reads as reads
+use Rattle.entry.proofs.unchecked.Lts as lts
+use Rattle.bits.proofs.number.Reads as number-reads
+use Rattle.entry.proofs.fields.Reads as fields-reads
+
+sub-number : tie.Need-sub-number
+sub-number c = search needs
+
+part-number-start : tie.Need-part-number-start
+part-number-start c = search needs
+
+part-number-end : tie.Need-part-number-end
+part-number-end c =
+    let e : length (c .before .before .args .p .bytes) ≡ 16 = search (c .before .before, needs) in
+    search needs
+
+number-requires : tie.Need-number-requires
+number-requires c κs = search needs
+
+sub-number-2 : tie.Need-sub-number-2
+sub-number-2 c = search needs
+
+part-number-start-2 : tie.Need-part-number-start-2
+part-number-start-2 c = search needs
+
+part-number-end-2 : tie.Need-part-number-end-2
+part-number-end-2 c =
+    let e : length (c .before .before .before .before .before .args .p .bytes) ≡ 16 = search (c .before .before .before .before .before, needs) in
+    search needs
+
+number-requires-2 : tie.Need-number-requires-2
+number-requires-2 c κs = search needs
+
+fields-requires : tie.Need-fields-requires
+fields-requires c κs = search needs
+
+returns : tie.Need-returns
+returns c =
+    let s = c .before .before .before .before .before .before .before .before in
+    let e : length (s .args .p .bytes) ≡ 16 = search (s, needs) in
+    c .fields .ensures
+    ∙ ap (λ (n : ℕ). entryOf (split widths n))
+    (ap₂ (λ (h l : ℕ). h * 2 ^ 64 + l) (c .before .before .before .before .number .ensures) (c .before .number2 .ensures) ∙ sym (sixteen (s .args .p .bytes) e))
+
+pub unchecked-spec : {M : Type 1} → statement M
+unchecked-spec =
+    tie.close
+    (tie.spec
+    sub-number
+    part-number-start
+    part-number-end
+    number-requires
+    sub-number-2
+    part-number-start-2
+    part-number-end-2
+    number-requires-2
+    fields-requires
+    returns)

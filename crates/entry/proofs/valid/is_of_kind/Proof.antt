@@ -1,0 +1,50 @@
+use Rattle.entry.specs.Valid.{an-alarm, a-status, an-aggregated}
+use Rattle.entry.proofs.ValidLaws.{fails, holds, not-held, of-no-kind}
+use borrow.Author.Needs.{needs}
+use Rattle.entry.proofs.valid.is_of_kind.Statement.{statement}
+use Rattle.entry.proofs.valid.is_of_kind.Tie as tie
+use Rattle.entry.proofs.valid.is_of_kind.Reads as reads
+use Rattle.entry.proofs.valid.is_of_kind.Lts as lts
+use Rattle.entry.proofs.valid.is_aggregated.Reads as is-aggregated-reads
+use Rattle.entry.proofs.valid.is_alarm.Reads as is-alarm-reads
+use Rattle.entry.proofs.valid.is_status.Reads as is-status-reads
+
+is-alarm-requires : tie.Need-is-alarm-requires
+is-alarm-requires c κs = search needs
+
+returns : tie.Need-returns
+returns c = holds (an-alarm (c .before .is-alarm .ensures .yes (c .if1 .taken)))
+
+is-status-requires : tie.Need-is-status-requires
+is-status-requires c κs = search needs
+
+returns-2 : tie.Need-returns-2
+returns-2 c = holds (a-status (c .before .is-status .ensures .yes (c .if2 .taken)))
+
+is-aggregated-requires : tie.Need-is-aggregated-requires
+is-aggregated-requires c κs = search needs
+
+returns-3 : tie.Need-returns-3
+returns-3 c = holds (an-aggregated (c .before .is-aggregated .ensures .yes (c .if3 .taken)))
+
+returns-4 : tie.Need-returns-4
+returns-4 c =
+    let s = c .before .before .before in
+    let a = s .before .before in
+    fails
+    (of-no-kind
+    (not-held (a .is-alarm .ensures) (s .before .if1 .left))
+    (not-held (s .is-status .ensures) (c .before .before .if2 .left))
+    (not-held (c .before .is-aggregated .ensures) (c .if3 .left)))
+
+pub is-of-kind-spec : {M : Type 1} → statement M
+is-of-kind-spec =
+    tie.close
+    (tie.spec
+    is-alarm-requires
+    returns
+    is-status-requires
+    returns-2
+    is-aggregated-requires
+    returns-3
+    returns-4)

@@ -1,0 +1,5 @@
+pub mod Flags
+pub mod Layout
+pub mod Valid
+pub mod Reading
+pub mod Marked

@@ -1,0 +1,100 @@
+// Which records there are, kind by kind.
+use super::Entry;
+ghost use mathlib.Core.Path.{_≡_};
+ghost use Prim.Native.Nat.{ℕ, _+_, _*_, _/_, _%_, _^_, _≤_, _<_};
+ghost use Rattle.entry.specs.Valid.{Valid, OfKind, Alarm, Status, Aggregated, Decides};
+
+pub const LAST_TIME: u64 = 253402300799999;
+
+// Events go to Suspend, and the last flag is 0.
+fn is_alarm(e: Entry) -> bool
+    ensures { λ r. ⌜ Decides r (Alarm e) ⌝ }
+{
+    if e.kind != 0 {
+        return false;
+    }
+    if 32 <= e.item {
+        return false;
+    }
+    if 48 <= e.flags {
+        return false;
+    }
+    if e.flags % 2 != 0 {
+        return false;
+    }
+    if e.value != 0 {
+        return false;
+    }
+    true
+}
+
+// Only the first flag may be set; without it there is no value.
+fn is_status(e: Entry) -> bool
+    ensures { λ r. ⌜ Decides r (Status e) ⌝ }
+{
+    if e.kind != 1 {
+        return false;
+    }
+    if 32 <= e.item {
+        return false;
+    }
+    if e.flags == 32 {
+        return true;
+    }
+    if e.flags != 0 {
+        return false;
+    }
+    if e.value != 0 {
+        return false;
+    }
+    true
+}
+
+fn is_aggregated(e: Entry) -> bool
+    ensures { λ r. ⌜ Decides r (Aggregated e) ⌝ }
+{
+    if e.kind != 2 {
+        return false;
+    }
+    if e.item != 0 {
+        return false;
+    }
+    if e.flags != 0 {
+        return false;
+    }
+    if 256 <= e.value {
+        return false;
+    }
+    true
+}
+
+fn is_of_kind(e: Entry) -> bool
+    ensures { λ r. ⌜ Decides r (OfKind e) ⌝ }
+{
+    if is_alarm(e) {
+        return true;
+    }
+    if is_status(e) {
+        return true;
+    }
+    if is_aggregated(e) {
+        return true;
+    }
+    false
+}
+
+// Whether the site has records of these fields.
+pub fn valid(e: Entry) -> bool
+    ensures { λ r. ⌜ Decides r (Valid e) ⌝ }
+{
+    if 4 <= e.link {
+        return false;
+    }
+    if LAST_TIME < e.time {
+        return false;
+    }
+    if is_of_kind(e) {
+        return true;
+    }
+    false
+}
