@@ -1,0 +1,5 @@
+pub mod Fill
+pub mod Same
+pub mod Hex
+pub mod Text
+pub mod Read

@@ -1,0 +1,5 @@
+pub mod Hex
+pub mod Text
+pub mod Version
+pub mod Same
+pub mod Read
