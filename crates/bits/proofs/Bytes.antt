@@ -8,6 +8,7 @@ use native.Mathlib.Numerals.{add-one}
 use native.Mathlib.Omega.{arith}
 use lib.ListN.{length, getD, take, replicate, length-append, length-replicate, replicate-append-replicate}
 use lib.Seq.{take-suc, length-take-le}
+use Rattle.bits.specs.Fields.{pushed, total, joined, Within, none, next, bytesOf, numberOf}
 use Rattle.bits.specs.Fields.{pushed, total, joined, Within, bytesOf, numberOf}
 use Rattle.bits.proofs.Fields.{joined-append, joined-behind, joined-lt, joined-split, split-joined, split-length}
 
@@ -42,3 +43,8 @@ number-two us vs =
     ap (λ (ks : List ℕ). joined 0 ks (us ++ vs)) (ap (λ (k : ℕ). replicate k 8) (length-append us vs) ∙ sym (replicate-append-replicate (length us) (length vs) 8))
     ∙ joined-append (replicate (length us) 8) (replicate (length vs) 8) us vs (length-replicate (length us) 8) 0
     ∙ joined-behind (replicate (length vs) 8) vs (length-replicate (length vs) 8) (numberOf us)
+
+-- elements below 256 are bytes
+pub bytes-within : (bs : List ℕ) → ((i : ℕ) → getD bs i 0 < 256) → Within (replicate (length bs) 8) bs
+bytes-within [] h = none
+bytes-within (b ∷ bs) h = next (h 0) (bytes-within bs (λ i. h (suc i)))

@@ -3,11 +3,12 @@
 use mathlib.Core.Path.{_≡_, refl, sym, ap, ap₂, subst, _∙_}
 use mathlib.Core.List.{List, [], _∷_, _++_}
 use Prim.Native.Nat.{ℕ, zero, suc, _+_, _-_, _*_, _/_, _%_, _^_, _≤_, _<_}
-use native.Mathlib.Nat.{mod-lt, mod-eq-of-lt, mod-mod, div-one, mul-assoc, mul-one, add-assoc, add-comm, add-mul-mod-self-right, add-mul, add-zero, zero-add, zero-mul, one-mul, div-lt-iff-lt-mul}
+use native.Mathlib.Nat.{mod-lt, mod-eq-of-lt, mod-mod, div-one, mul-assoc, mul-one, add-assoc, add-comm, add-mul-mod-self-right, add-mul, add-zero, zero-add, zero-mul, one-mul, div-lt-iff-lt-mul, lt-of-lt-of-le}
+use lib.Arith.{digits-lt}
 use lib.Dec.{lit<}
 use native.Mathlib.Omega.{arith}
 use lib.ListN.{length}
-use lib.Pow.{pow-pos, pow-add, shr-shr, high, low, field as field-mod, split as split-at}
+use lib.Pow.{pow-pos, pow-mono, pow-add, shr-shr, high, low, field as field-mod, split as split-at}
 use Rattle.bits.specs.Fields.{pushed, fieldOf, total, joined, split, Within, none, next}
 
 -- the round trip of one field: the pushed value comes back
@@ -121,3 +122,13 @@ pub joined-lt : (ks vs : List ℕ) → length ks ≡ length vs → joined 0 ks v
 joined-lt ks vs e =
     subst (λ (x : ℕ). joined 0 ks vs < x) (one-mul (2 ^ total ks))
     (div-lt-iff-lt-mul (pow-pos (total ks)) .0 (subst (λ (x : ℕ). x < 1) (sym (before ks vs e 0)) (lit< tt)))
+
+-- one field more pushed behind the fields of a word: nothing is lost while their bits are at most 64
+pub next-field : (ks vs : List ℕ) (k v : ℕ) {w r : ℕ} → length ks ≡ length vs → total ks + k ≤ 64 → w ≡ joined 0 ks vs → r ≡ pushed w k v % 2 ^ 64 → r ≡ pushed (joined 0 ks vs) k v
+next-field ks vs k v e h p q =
+    q
+    ∙ ap (λ (x : ℕ). pushed x k v % 2 ^ 64) p
+    ∙ mod-eq-of-lt
+    (lt-of-lt-of-le
+    (subst (λ (x : ℕ). pushed (joined 0 ks vs) k v < x) (sym (pow-add 2 (total ks) k)) (digits-lt (joined-lt ks vs e) (mod-lt v (pow-pos k))))
+    (pow-mono h))
