@@ -2,7 +2,7 @@
 use Prim.Native.Nat.{ℕ, zero, suc, _+_, _-_, _*_}
 use mathlib.Core.Bool.{Bool, true, false}
 use mathlib.Core.List.{List, [], _∷_}
-use lib.ListN.{length, getD, drop}
+use lib.ListN.{getD}
 use lib.Dec.{ltb, leb, eqb}
 use Rattle.basis.specs.Pick.{pick}
 use Rattle.text.specs.declared.Char.{Char}
@@ -110,12 +110,3 @@ charOf t =
     (unicodeOf (hex4Of (getD t 2 0) (getD t 3 0) (getD t 4 0) (getD t 5 0)) (getD t 6 0) (getD t 7 0) (hex4Of (getD t 8 0) (getD t 9 0) (getD t 10 0) (getD t 11 0)))
     (escapeOf (getD t 1 0)))
     (rawOf (getD t 0 0) (getD t 1 0) (getD t 2 0) (getD t 3 0)))
-
--- a character that is there whole. Its width is that of the bytes after its first
-abbrev pub inside : ℕ → Char → Char
-inside n (One c w) = pick (ltb w n) (One c w) Bad
-inside n Close = pick (ltb 0 n) Close Bad
-inside n Bad = Bad
-
-unfoldable pub stepOf : List ℕ → Char
-stepOf t = inside (length t) (charOf t)

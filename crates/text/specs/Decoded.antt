@@ -6,7 +6,7 @@ use mathlib.Core.List.{List, [], _∷_}
 use lib.ListN.{length, drop}
 use lib.Dec.{eqb}
 use Rattle.basis.specs.Pick.{pick}
-use Rattle.text.specs.Char.{stepOf}
+use Rattle.text.specs.Char.{charOf}
 use Rattle.text.specs.declared.Char.{Char}
 use Rattle.text.specs.declared.Char.the-variants.{One, Close, Bad}
 
@@ -27,7 +27,7 @@ byChar more Bad t = none
 -- at most n characters and the closing quotation mark
 unfoldable pub readChars : ℕ → List ℕ → Parsed (List ℕ)
 readChars zero t = none
-readChars (suc n) t = byChar (λ u. readChars n u) (stepOf t) t
+readChars (suc n) t = byChar (λ u. readChars n u) (charOf t) t
 
 -- the characters up to the closing quotation mark, fewer than there are bytes
 unfoldable pub decoded : List ℕ → Parsed (List ℕ)

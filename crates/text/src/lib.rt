@@ -2,9 +2,10 @@
 ghost use mathlib.Core.Path.{_≡_};
 ghost use Prim.Native.Nat.{ℕ, _+_, _-_, _≤_, _<_, _^_};
 ghost use lib.ListN.{length, getD, drop};
-ghost use Rattle.text.specs.Char.{hexOf, hex4Of, hex4At, escapeOf, unicodeOf, twoOf, threeOf, fourOf, rawOf, charOf, stepOf};
+ghost use Rattle.text.specs.Char.{hexOf, hex4Of, hex4At, escapeOf, unicodeOf, twoOf, threeOf, fourOf, rawOf, charOf};
 ghost use Rattle.text.specs.Decoded.{decoded, isText, sameText};
 ghost use Rattle.text.specs.Ends.{Ends};
+ghost use Rattle.text.specs.Copied.{noCopy, copyOf};
 
 // A character and how many bytes it has after its first, the closing quotation mark, or neither.
 pub enum Char {
@@ -220,11 +221,13 @@ fn escape(e: u8) -> Char
     }
 }
 
-// The character or the quotation mark at a place, wherever the slice ends.
-fn next(s: &[u8], at: usize) -> Char
-    requires { ⌜ at < length (now s) ⌝ }
+// The character or the closing quotation mark at a place.
+fn step(s: &[u8], at: usize) -> Char
     ensures { λ r. ⌜ r ≡ charOf (drop at (now (s .entry))) ⌝ }
 {
+    if s.len() <= at {
+        return Char::Bad;
+    }
     let b = byte(s, at);
     if b == b'"' {
         return Char::Close;
@@ -245,22 +248,6 @@ fn next(s: &[u8], at: usize) -> Char
 pub enum Read {
     End(usize),
     Bad,
-}
-
-// A character that ends within the slice. Its width is that of the bytes after its first.
-fn step(s: &[u8], at: usize) -> Char
-    ensures { λ r. ⌜ r ≡ stepOf (drop at (now (s .entry))) ⌝ }
-{
-    if s.len() <= at {
-        return Char::Bad;
-    }
-    let left = s.len() - at;
-    let c = next(s, at);
-    match c {
-        Char::One(x, w) => if w < left { Char::One(x, w) } else { Char::Bad },
-        Char::Close => Char::Close,
-        Char::Bad => Char::Bad,
-    }
 }
 
 // The end of the string whose characters begin at `at`.
@@ -330,6 +317,50 @@ pub fn same(s: &[u8], p: usize, q: usize) -> bool
                 Char::Bad => return false,
             },
             Char::Bad => return false,
+        }
+    }
+}
+
+// A string that was copied out: its bytes, zeros after them, and how many they are. Where `ok` is false all the rest is zero.
+#[repr(C)]
+pub struct Copied {
+    pub length: usize,
+    pub bytes: [u8; 36],
+    pub ok: bool,
+}
+
+fn no_copy() -> Copied
+    ensures { λ r. ⌜ r ≡ noCopy ⌝ }
+{
+    Copied { length: 0, bytes: [0u8; 36], ok: false }
+}
+
+// The string whose characters begin at `at`, where it has at most `most` of them (and 36), all of them ASCII.
+pub fn copy_text(s: &[u8], at: usize, most: usize) -> Copied
+    ensures { λ r. ⌜ r ≡ copyOf most (decoded (drop at (now (s .entry)))) ⌝ }
+{
+    let mut bytes = [0u8; 36];
+    let mut k = 0;
+    let mut i = at;
+    loop {
+        let c = step(s, i);
+        match c {
+            Char::One(x, w) => {
+                if most <= k {
+                    return no_copy();
+                }
+                if 36 <= k {
+                    return no_copy();
+                }
+                if 128 <= x {
+                    return no_copy();
+                }
+                bytes[k] = x as u8;
+                k += 1;
+                i += 1 + w;
+            }
+            Char::Close => return Copied { length: k, bytes, ok: true },
+            Char::Bad => return no_copy(),
         }
     }
 }

@@ -1,18 +1,15 @@
 use Prim.Native.Nat.{_≤_, _-_, _+_}
-use mathlib.Core.Path.{_≡_, refl, _∙_, sym, ap}
-use mathlib.Core.Bool.{true, false}
+use mathlib.Core.Path.{_∙_, sym}
 use native.Mathlib.Omega.{arith}
 use borrow.Author.Needs.{needs}
-use borrow.Author.Tests.{lt-ltb, le-ltb}
 use lib.ListN.{length, drop}
 use denote.Ref.{now}
-use Rattle.text.specs.declared.Char.the-variants.{One, Close, Bad}
 use Rattle.text.specs.declared.Read.{Read}
 use Rattle.text.specs.declared.Read.the-variants as Read
 use Rattle.text.specs.Ends.{Ends}
 use Rattle.text.specs.Ends.Ends.{ends, fails}
-use Rattle.text.specs.Decoded.{decoded, isText, sameText}
-use Rattle.text.proofs.Texts.{step-at, one, one-in, close, close-in, no-char, pushed, text-same, text-other, text-long, text-done, next, past, both, differ, longer, no-second}
+use Rattle.text.specs.Decoded.{decoded}
+use Rattle.text.proofs.Texts.{one, one-in, close, close-in, no-char, pushed}
 use Rattle.text.proofs.chars.Statement.{statement}
 use Rattle.text.proofs.chars.Tie as tie
 use Rattle.text.proofs.chars.Reads as reads

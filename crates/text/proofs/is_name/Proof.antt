@@ -1,18 +1,14 @@
 use Prim.Native.Nat.{_≤_, _-_}
-use mathlib.Core.Path.{_≡_, refl, _∙_, sym, ap}
-use mathlib.Core.Bool.{true, false}
+use mathlib.Core.Path.{_≡_, refl, _∙_, sym}
 use native.Mathlib.Omega.{arith}
 use borrow.Author.Needs.{needs}
-use borrow.Author.Tests.{lt-ltb, le-ltb}
 use lib.ListN.{length, drop}
 use denote.Ref.{now}
-use Rattle.text.specs.declared.Char.the-variants.{One, Close, Bad}
 use Rattle.text.specs.declared.Read.{Read}
 use Rattle.text.specs.declared.Read.the-variants as Read
 use Rattle.text.specs.Ends.{Ends}
-use Rattle.text.specs.Ends.Ends.{ends, fails}
-use Rattle.text.specs.Decoded.{decoded, isText, sameText}
-use Rattle.text.proofs.Texts.{step-at, one, one-in, close, close-in, no-char, pushed, name-same, name-other, name-long, name-close, name-bad}
+use Rattle.text.specs.Decoded.{decoded, isText}
+use Rattle.text.proofs.Texts.{one-in, close, name-same, name-other, name-long, name-close, name-bad}
 use Rattle.text.proofs.is_name.Statement.{statement}
 use Rattle.text.proofs.is_name.Tie as tie
 use Rattle.text.proofs.is_name.Reads as reads

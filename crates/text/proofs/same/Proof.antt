@@ -1,18 +1,14 @@
-use Prim.Native.Nat.{_≤_, _-_}
-use mathlib.Core.Path.{_≡_, refl, _∙_, sym, ap}
-use mathlib.Core.Bool.{true, false}
+use Prim.Native.Nat.{_-_}
+use mathlib.Core.Path.{_≡_, refl, _∙_, sym}
 use native.Mathlib.Omega.{arith}
 use borrow.Author.Needs.{needs}
-use borrow.Author.Tests.{lt-ltb, le-ltb}
 use lib.ListN.{length, drop}
 use denote.Ref.{now}
-use Rattle.text.specs.declared.Char.the-variants.{One, Close, Bad}
 use Rattle.text.specs.declared.Read.{Read}
 use Rattle.text.specs.declared.Read.the-variants as Read
 use Rattle.text.specs.Ends.{Ends}
-use Rattle.text.specs.Ends.Ends.{ends, fails}
-use Rattle.text.specs.Decoded.{decoded, isText, sameText}
-use Rattle.text.proofs.Texts.{step-at, one, one-in, close, close-in, no-char, pushed, name-same, name-other, name-long, name-close, name-bad, same-both, same-differ, same-longer, same-shorter, same-done, same-bad-1, same-bad-2}
+use Rattle.text.specs.Decoded.{decoded, sameText}
+use Rattle.text.proofs.Texts.{one-in, close, same-both, same-differ, same-longer, same-shorter, same-done, same-bad-1, same-bad-2}
 use Rattle.text.proofs.same.Statement.{statement}
 use Rattle.text.proofs.same.Tie as tie
 use Rattle.text.proofs.same.Reads as reads

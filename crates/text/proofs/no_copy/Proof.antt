@@ -1,0 +1,11 @@
+use mathlib.Core.Path.{refl}
+use Rattle.text.specs.Copied.{noCopy}
+use Rattle.text.proofs.no_copy.Statement.{statement}
+use Rattle.text.proofs.no_copy.Tie as tie
+
+returns : tie.Need-returns
+unfolding noCopy
+returns c = refl
+
+pub no-copy-spec : {M : Type 1} → statement M
+no-copy-spec = tie.close (tie.spec returns)
