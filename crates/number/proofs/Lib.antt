@@ -1,0 +1,6 @@
+pub mod Sign
+pub mod RoundTrip
+pub mod Digits
+pub mod Places
+pub mod Reading
+pub mod Alphabet

@@ -1,0 +1,62 @@
+use mathlib.Core.Path.{_≡_, sym, ap, subst, _∙_}
+use Prim.Native.Nat.{ℕ, _-_}
+use mathlib.Core.List.{List, _∷_}
+use native.Mathlib.Omega.{arith}
+use lib.ListN.{length, take, drop, set, length-set}
+use Rattle.number.specs.Decimal.{digits}
+use Rattle.number.proofs.Places.{from-on, before}
+use borrow.Author.Needs.{needs}
+use Rattle.number.proofs.put_negative.Statement.{statement}
+use Rattle.number.proofs.put_negative.Tie as tie
+
+digits-of-requires : tie.Need-digits-of-requires
+digits-of-requires c κs = search needs
+
+sub-from : tie.Need-sub-from
+sub-from c = search needs
+
+array-write-bytes : tie.Need-array-write-bytes
+array-write-bytes c = search needs
+
+sub-put-bytes : tie.Need-sub-put-bytes
+sub-put-bytes c = search needs
+
+part-put-bytes-start : tie.Need-part-put-bytes-start
+part-put-bytes-start c = search needs
+
+part-put-bytes-end : tie.Need-part-put-bytes-end
+part-put-bytes-end c =
+    let t = c .before .before .before .before .digits-of in
+    let l : length (t .result .bytes) ≡ 21 = search needs in
+    simp length-set (omega (arith, l))
+
+put-bytes-requires : tie.Need-put-bytes-requires
+put-bytes-requires c κs = search needs
+
+same-length : tie.Need-same-length
+same-length c = search needs
+
+returns : tie.Need-returns
+returns c =
+    let t = c .before .before .before .before .before .before .before .before .digits-of in
+    let l : length (t .result .bytes) ≡ 21 = search needs in
+    let m : length (set (t .result .bytes) (t .result .from - 1) 45) ≡ 21 = simp length-set l in
+    let e : take (21 - (t .result .from - 1)) (drop (t .result .from - 1) (set (t .result .bytes) (t .result .from - 1) 45)) ≡ 45 ∷ digits (c .before .before .before .before .before .before .before .before .before .before .args .n) =
+    from-on (set (t .result .bytes) (t .result .from - 1) 45) 21 (t .result .from - 1) m
+    ∙ before (t .result .bytes) (t .result .from) 45 (t .ensures .1) (omega (arith, l, t .ensures .2))
+    ∙ ap (λ (s : List ℕ). 45 ∷ s) (t .ensures .0) in
+    rw (← e) (c .before .before .put-bytes .ensures)
+
+pub put-negative-spec : {M : Type 1} → statement M
+put-negative-spec =
+    tie.close
+    (tie.spec
+    digits-of-requires
+    sub-from
+    array-write-bytes
+    sub-put-bytes
+    part-put-bytes-start
+    part-put-bytes-end
+    put-bytes-requires
+    same-length
+    returns)

@@ -1,0 +1,90 @@
+use mathlib.Core.Path.{_≡_, refl, sym, ap, subst, _∙_}
+use mathlib.Core.List.{List, _∷_}
+use Prim.Native.Nat.{ℕ, _-_, _<_}
+use native.Mathlib.Omega.{arith}
+use lib.IntN.{ℤ}
+use lib.ListN.{length, take, drop}
+use lib.Seq.{drop-cons}
+use mir.Syntax.{w32}
+use mir.Val.{toZ, ofZ}
+use Rattle.number.specs.Reading.{ReadsInt}
+use Rattle.number.specs.Signed.{signedOf}
+use Rattle.number.proofs.Places.{from-on}
+use Rattle.number.proofs.RoundTrip.{passed-on}
+use Rattle.number.proofs.Reading.{was, was-none, from-zero, no-plain, no-text}
+use borrow.Author.Needs.{needs}
+use Rattle.number.proofs.read_i32.Statement.{statement}
+use Rattle.number.proofs.read_i32.Tie as tie
+
+returns : tie.Need-returns
+returns c = no-text (c .before .before .args .s .now) (c .if1 .taken)
+
+shared-slice-read-if2 : tie.Need-shared-slice-read-if2
+shared-slice-read-if2 c = search needs
+
+sub-read-negative : tie.Need-sub-read-negative
+sub-read-negative c = search needs
+
+part-read-negative-start : tie.Need-part-read-negative-start
+part-read-negative-start c = search needs
+
+part-read-negative-end : tie.Need-part-read-negative-end
+part-read-negative-end c = search needs
+
+read-negative-requires : tie.Need-read-negative-requires
+read-negative-requires c κs = search needs
+
+returns-2 : tie.Need-returns-2
+returns-2 c =
+    let s = c .before .before .before .before .before .before .args .s .now in
+    let h : 0 < length s = omega (arith, c .before .before .before .before .if1 .left) in
+    let e : 45 ∷ take (length s - 1) (drop 1 s) ≡ s =
+    ap (λ (l : List ℕ). 45 ∷ l) (from-on s (length s) 1 refl)
+    ∙ ap (λ (b : ℕ). b ∷ drop 1 s) (sym (c .before .before .if2 .taken))
+    ∙ sym (drop-cons s 0 0 h) in
+    subst (λ (l : List ℕ). ReadsInt l (c .read-negative .result)) e (c .read-negative .ensures)
+
+read-decimal-requires : tie.Need-read-decimal-requires
+read-decimal-requires c κs = search needs
+
+enum-known-n : tie.Need-enum-known-n
+enum-known-n c = search needs
+
+signed-of-requires : tie.Need-signed-of-requires
+signed-of-requires c κs = search needs
+
+enum-told : tie.Need-enum-told
+enum-told c = search needs
+
+returns-3 : tie.Need-returns-3
+returns-3 c =
+    let g = c .before .before .n .given in
+    let n = g .0 .0 in
+    let w = was (c .before .before .before .before .read-decimal .ensures) (g .1) in
+    let q : toZ w32 (ofZ w32 (c .signed-of .result)) ≡ signedOf n =
+    ap (λ (z : ℤ). toZ w32 (ofZ w32 z)) (c .signed-of .ensures) ∙ passed-on n (omega (arith, w .0)) in
+    rw q (from-zero n (omega (arith, w .0)) (w .1))
+
+returns-4 : tie.Need-returns-4
+returns-4 c =
+    no-plain
+    (λ n h e. was-none (c .before .before .read-decimal .ensures) (c .enum-told .given .1) n (omega arith) e)
+    (c .before .before .before .if2 .left)
+
+pub read-i32-spec : {M : Type 1} → statement M
+read-i32-spec =
+    tie.close
+    (tie.spec
+    returns
+    shared-slice-read-if2
+    sub-read-negative
+    part-read-negative-start
+    part-read-negative-end
+    read-negative-requires
+    returns-2
+    read-decimal-requires
+    enum-known-n
+    signed-of-requires
+    enum-told
+    returns-3
+    returns-4)

@@ -1,0 +1,76 @@
+use mathlib.Core.Path.{_≡_, refl, sym, ap, _∙_}
+use Prim.Native.Nat.{ℕ, _+_, _-_, _*_, _^_, _≤_, _<_}
+use native.Mathlib.Nat.{pow-suc, pow-le-pow-right}
+use native.Mathlib.Numerals.{add-one}
+use native.Mathlib.Omega.{arith}
+use lib.ListN.{length, drop, getD, drop-of-length-le}
+use borrow.Author.Needs.{needs}
+use Rattle.number.specs.Reading.{says}
+use Rattle.number.proofs.Reading.{turn}
+use Rattle.number.proofs.said.Statement.{statement}
+use Rattle.number.proofs.said.Tie as tie
+
+abbrev Inv-loop : tie.InvT-loop
+Inv-loop s n₀ i₀ n i = (i ≤ length s) × (n + 23 ≤ 23 * 10 ^ i) × (says 0 s ≡ says n (drop i s))
+
+abbrev μ-loop : tie.MeasureT-loop
+μ-loop s n₀ i₀ n i = length s - i
+
+loop-holds : tie.Need-loop-holds Inv-loop μ-loop
+loop-holds c = (search needs, omega arith, refl)
+
+mul-n : tie.Need-mul-n Inv-loop μ-loop
+mul-n c =
+    let l = c .before .loop in
+    let p : 10 ^ l .i ≤ 10 ^ 10 = pow-le-pow-right (omega arith) {j = 10} (omega arith) in
+    omega (arith, p)
+
+shared-slice-read-digit-value : tie.Need-shared-slice-read-digit-value Inv-loop μ-loop
+shared-slice-read-digit-value c = search needs
+
+digit-value-requires : tie.Need-digit-value-requires Inv-loop μ-loop
+digit-value-requires c κs = search needs
+
+add-n : tie.Need-add-n Inv-loop μ-loop
+add-n c =
+    let l = c .before .before .before .loop in
+    let p : 10 ^ l .i ≤ 10 ^ 10 = pow-le-pow-right (omega arith) {j = 10} (omega arith) in
+    omega (arith, p)
+
+add-i : tie.Need-add-i Inv-loop μ-loop
+add-i c = search needs
+
+loop-less : tie.Need-loop-less Inv-loop μ-loop
+loop-less c = search needs
+
+loop-again : tie.Need-loop-again Inv-loop μ-loop
+loop-again c =
+    let t = c .before .before in
+    let l = t .before .loop in
+    let s = t .before .before .before .args .s .now in (
+      search needs,
+      rw add-one (omega (arith, pow-suc 10 (l .i))),
+      rw (c .digit-value .ensures .0) (l .inv .2 ∙ turn s (l .i) (l .n) (t .loop-test .taken)),
+    )
+
+returns : tie.Need-returns Inv-loop μ-loop
+returns c =
+    let l = c .before .loop in
+    let s = c .before .before .before .args .s .now in
+    sym (l .inv .2 ∙ ap (says (l .n)) (drop-of-length-le s {i = l .i} (omega arith)))
+
+pub said-spec : {M : Type 1} → statement M
+said-spec =
+    tie.close
+    (tie.spec
+    Inv-loop
+    μ-loop
+    loop-holds
+    mul-n
+    shared-slice-read-digit-value
+    digit-value-requires
+    add-n
+    add-i
+    loop-less
+    loop-again
+    returns)

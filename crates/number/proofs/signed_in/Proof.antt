@@ -1,0 +1,44 @@
+use mathlib.Core.Path.{_≡_, sym, ap, subst, _∙_}
+use Prim.Native.Nat.{ℕ, _^_, _<_}
+use native.Mathlib.Nat.{mod-eq-of-lt}
+use native.Mathlib.Omega.{arith}
+use lib.ListN.{length, replicate}
+use lib.IntN.{ℤ}
+use mir.Syntax.{w32}
+use mir.Val.{toZ, ofZ}
+use Rattle.bits.specs.Fields.{numberOf, total}
+use Rattle.bits.proofs.Bytes.{number-lt}
+use Rattle.number.specs.Signed.{signedOf}
+use Rattle.number.proofs.RoundTrip.{passed-on, number-four}
+use borrow.Author.Needs.{needs}
+use Rattle.number.proofs.signed_in.Statement.{statement}
+use Rattle.number.proofs.signed_in.Tie as tie
+
+slice-aggregate-number : tie.Need-slice-aggregate-number
+slice-aggregate-number c = search needs
+
+number-requires : tie.Need-number-requires
+number-requires c κs = search needs
+
+cast-signed-of : tie.Need-cast-signed-of
+cast-signed-of c =
+    let bs = c .before .before .before .args .b .bytes in
+    let l : length bs ≡ 4 = search needs in
+    omega (arith, c .number .ensures, number-four bs l)
+
+signed-of-requires : tie.Need-signed-of-requires
+signed-of-requires c κs = search needs
+
+returns : tie.Need-returns
+returns c =
+    let bs = c .before .before .before .before .args .b .bytes in
+    let n = c .before .number in
+    let l : length bs ≡ 4 = search needs in
+    let h = number-four bs l in
+    let e : n .result ≡ numberOf bs = omega (arith, n .ensures, h) in
+    ap (λ (z : ℤ). toZ w32 (ofZ w32 z)) (c .signed-of .ensures ∙ ap signedOf e) ∙ passed-on (numberOf bs) h
+
+pub signed-in-spec : {M : Type 1} → statement M
+signed-in-spec =
+    tie.close
+    (tie.spec slice-aggregate-number number-requires cast-signed-of signed-of-requires returns)

@@ -1,0 +1,4 @@
+pub mod Signed
+pub mod Decimal
+pub mod Reading
+pub mod Alphabet
