@@ -10,7 +10,8 @@ use Rattle.bits.specs.Fields.{fieldOf, joined, split}
 use Rattle.bits.proofs.Fields.{joined-split}
 use Rattle.basis.proofs.Cases.{bool-cases}
 use borrow.Author.Tests.{eqb-true, eqb-false}
-use Rattle.entry.specs.Flags.{bit, isSet, alarmWidths, alarmFlags, statusFlags, eventOf, isAcknowledged, isActive, isSuspended, isKnown}
+use Rattle.basis.specs.Pick.{bit}
+use Rattle.entry.specs.Flags.{isSet, alarmWidths, alarmFlags, statusFlags, eventOf, isAcknowledged, isActive, isSuspended, isKnown}
 
 pub bit-le : (b : Bool) → bit b ≤ 1
 bit-le true = lit≤ tt

@@ -1,14 +1,11 @@
 -- The flags of a record: six bits, most significant first.
 -- Assumes nothing.
-use mathlib.Core.Bool.{Bool, true, false}
+use mathlib.Core.Bool.{Bool}
 use mathlib.Core.List.{List, [], _∷_}
 use Prim.Native.Nat.{ℕ}
 use lib.Dec.{eqb}
+use Rattle.basis.specs.Pick.{bit}
 use Rattle.bits.specs.Fields.{joined, fieldOf}
-
-abbrev pub bit : Bool → ℕ
-bit true = 1
-bit false = 0
 
 -- the bit of flags that has s bits behind it
 abbrev pub isSet : ℕ → ℕ → Bool

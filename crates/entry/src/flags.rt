@@ -1,7 +1,8 @@
 // The six flags of an alarm and of a status.
 ghost use mathlib.Core.Path.{_≡_};
 ghost use Prim.Native.Nat.{ℕ, _+_, _*_, _/_, _%_, _^_, _≤_, _<_};
-ghost use Rattle.entry.specs.Flags.{bit as bitOf, isSet, alarmFlags, statusFlags, eventOf, isAcknowledged, isActive, isSuspended, isKnown};
+ghost use Rattle.basis.specs.Pick.{bit as bitOf};
+ghost use Rattle.entry.specs.Flags.{isSet, alarmFlags, statusFlags, eventOf, isAcknowledged, isActive, isSuspended, isKnown};
 
 // An alarm's event, as aSp says it.
 pub const ISSUE: u16 = 0;

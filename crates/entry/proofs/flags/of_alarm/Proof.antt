@@ -4,7 +4,8 @@ use Prim.Native.Nat.{ℕ, _%_, _^_}
 use lib.Dec.{lit≤}
 use Rattle.bits.specs.Fields.{pushed}
 use Rattle.bits.proofs.Fields.{next-field}
-use Rattle.entry.specs.Flags.{bit, alarmFlags}
+use Rattle.basis.specs.Pick.{bit}
+use Rattle.entry.specs.Flags.{alarmFlags}
 use borrow.Author.Needs.{needs}
 use Rattle.entry.proofs.flags.of_alarm.Statement.{statement}
 use Rattle.entry.proofs.flags.of_alarm.Tie as tie

@@ -1,6 +1,7 @@
 use Prim.Native.Nat.{_≤_}
 use native.Mathlib.Omega.{arith}
-use Rattle.entry.specs.Flags.{bit, statusFlags}
+use Rattle.basis.specs.Pick.{bit}
+use Rattle.entry.specs.Flags.{statusFlags}
 use Rattle.entry.proofs.FlagLaws.{bit-le}
 use borrow.Author.Needs.{needs}
 use Rattle.entry.proofs.flags.of_status.Statement.{statement}

@@ -1,0 +1,19 @@
+-- Where the names stand in the table of bytes.
+-- Assumes nothing.
+use mathlib.Core.List.{List}
+use mathlib.Core.Path.{_≡_}
+use Prim.Native.Nat.{ℕ, _-_, _≤_}
+use lib.ListN.{length, take, drop}
+use Rattle.basis.specs.Text.{text}
+use Rattle.names.specs.Names.{nameOf}
+
+-- all names, one after the other
+abbrev pub table : List ℕ
+table = text "VersionWatchdogMessageAckMessageNotAckAlarmAggregatedStatusAggregatedStatusRequestStatusRequestStatusResponseStatusSubscribeStatusUnsubscribeStatusUpdateCommandRequestCommandResponseMissing elementBad valueUnexpectedNot readyRSMP versionSite idSXL versionUnknown componentUnknown alarmUnknown statusBusymTypetypemIdoMIdreantsOIdxNIdcIdRSMPverssiteIdsIdSXLwTsaCIdxACIdxNACIdaSpackaSsSaTscatprirvsaSTSfPfSsesTssCInsquRtsOcrSMsgIssueRequestAcknowledgeSuspendResumeAcknowledgednotAcknowledgedActiveinActiveSuspendednotSuspendedTDrecentunknownundefined"
+
+-- name i stands in the table from a to e, and a name by value holds it
+pub record Spans (i a e : ℕ) : Type 0 where
+  pub ordered : a ≤ e
+  pub within : e ≤ 547
+  pub short : e - a ≤ 24
+  pub named : take (e - a) (drop a table) ≡ nameOf i
