@@ -1,5 +1,5 @@
 pub mod Fill
-pub mod Same
+pub mod Lowered
 pub mod Hex
 pub mod Text
 pub mod Read

@@ -13,10 +13,10 @@ use Rattle.identity.specs.declared.Identity.{Identity}
 use Rattle.identity.specs.declared.ReadIdentity.{ReadIdentity}
 use Rattle.identity.specs.Hex.{hexValue, lowered}
 use Rattle.identity.specs.Text.{identityText}
-use Rattle.identity.specs.Same.{sameBytes}
+use Rattle.basis.specs.Lists.{sameBytes}
 use Rattle.identity.specs.Read.{SixteenBytes, Says, found, notFound, starts, byteAt, bytesOf, readIdentity, Answers, IdentityRead}
 use Rattle.identity.proofs.Fill.{mapped, mapped-below}
-use Rattle.identity.proofs.Same.{same-true, same-self}
+use Rattle.basis.proofs.Same.{same-true, same-self}
 use Rattle.identity.proofs.Hex.{value-below}
 use Rattle.identity.proofs.Text.{bytes-said, text-lowered}
 

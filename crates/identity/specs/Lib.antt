@@ -1,5 +1,4 @@
 pub mod Hex
 pub mod Text
 pub mod Version
-pub mod Same
 pub mod Read

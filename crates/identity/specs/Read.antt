@@ -10,7 +10,7 @@ use Rattle.identity.specs.declared.Identity.{Identity}
 use Rattle.identity.specs.declared.ReadIdentity.{ReadIdentity}
 use Rattle.identity.specs.Hex.{hexValue, lowered}
 use Rattle.identity.specs.Text.{identityText}
-use Rattle.identity.specs.Same.{sameBytes}
+use Rattle.basis.specs.Lists.{sameBytes}
 
 pub record SixteenBytes (bs : List ℕ) : Type 0 where
   pub sixteen : length bs ≡ 16

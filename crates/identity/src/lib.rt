@@ -9,7 +9,7 @@ ghost use Rattle.output.specs.Put.{Wrote};
 ghost use Rattle.identity.specs.Hex.{hexDigit, hexValue, lowerHex, lowered};
 ghost use Rattle.identity.specs.Text.{identityText};
 ghost use Rattle.identity.specs.Version.{version4Of};
-ghost use Rattle.identity.specs.Same.{sameBytes};
+ghost use Rattle.basis.specs.Lists.{sameBytes};
 ghost use Rattle.identity.specs.Read.{bytesOf, IdentityRead};
 
 #[repr(C)]
@@ -70,6 +70,13 @@ pub fn identity_text(id: Identity) -> [u8; 36]
         k += 1;
     }
     t
+}
+
+pub fn put_identity(out: &mut [u8], at: usize, id: Identity) -> usize
+    ensures { λ r. ⌜ Wrote (now (out .entry)) at (identityText (id .bytes) ∷ []) (now (out .exit)) r ⌝ }
+{
+    let t = identity_text(id);
+    output::put_bytes(out, at, &t)
 }
 
 // Sixteen random bytes as an identity of version 4.

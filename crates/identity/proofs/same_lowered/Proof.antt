@@ -5,8 +5,8 @@ use native.Mathlib.Omega.{arith}
 use borrow.Author.Needs.{needs}
 use lib.ListN.{length, getD}
 use Rattle.identity.specs.Hex.{lowerHex, lowered}
-use Rattle.identity.specs.Same.{sameBytes}
-use Rattle.identity.proofs.Same.{same-is, lowered-same, lowered-length, lowered-differs}
+use Rattle.basis.specs.Lists.{sameBytes}
+use Rattle.identity.proofs.Lowered.{lowered-same, lowered-length, lowered-differs}
 use Rattle.identity.proofs.same_lowered.Statement.{statement}
 use Rattle.identity.proofs.same_lowered.Tie as tie
 use Rattle.identity.proofs.same_lowered.Reads as reads

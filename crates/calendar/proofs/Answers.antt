@@ -1,0 +1,70 @@
+-- An answer by a guess that is the number wherever there is one; and there is one answer only.
+-- Assumes nothing.
+use mathlib.Core.Path.{_≡_, refl, sym, ap, subst, _∙_}
+use mathlib.Core.Bool.{Bool, true, false}
+use mathlib.Core.List.{List}
+use Prim.Native.Nat.{ℕ, _≤_, _<_}
+use native.Mathlib.Omega.{arith}
+use lib.Dec.{leb}
+use borrow.Author.Tests.{leb-true, le-leb}
+use Rattle.basis.specs.Pick.{both}
+use Rattle.basis.proofs.Cases.{picked}
+use Rattle.basis.specs.Lists.{sameBytes}
+use Rattle.basis.proofs.Same.{same-true, same-self}
+use Rattle.calendar.specs.declared.Time.{Time}
+use Rattle.calendar.specs.declared.Time.the-variants.{Is, No}
+use Rattle.calendar.specs.Read.{Answers, checked}
+
+pub no-is : {X : Type 0} (n : ℕ) → No ≡ Is n → X
+no-is n e = absurd (let z : _≡_ {A = ℕ} 0 1 = cc in omega arith)
+
+is-no : {X : Type 0} (n : ℕ) → Is n ≡ No → X
+is-no n e = no-is n (sym e)
+
+pub is-number : (a b : ℕ) → Is a ≡ Is b → a ≡ b
+is-number a b e = cc
+
+pub differs : (b : Bool) → b ≡ true → b ≡ false → ⊥
+differs b t f = let z : _≡_ {A = ℕ} 0 1 = cc in omega arith
+
+module _ (textOf : ℕ → List ℕ) (last : ℕ) (s : List ℕ) where
+  pub nothing : ((n : ℕ) → n ≤ last → s ≡ textOf n → ⊥) → Answers textOf last s No
+  nothing f = record { accepted = λ n e. no-is n e; refused = λ _. f }
+
+  pub this : (n : ℕ) → n ≤ last → s ≡ textOf n → Answers textOf last s (Is n)
+  this n h e = record { accepted = λ k i. subst (λ (m : ℕ). (m ≤ last) × (s ≡ textOf m)) (is-number n k i) (h, e); refused = λ i. is-no n i }
+
+  module _ (guess : ℕ) (only : (n : ℕ) → n ≤ last → s ≡ textOf n → guess ≡ n) where
+    pub too-large : last < guess → Answers textOf last s No
+    too-large h = nothing (λ n b e. let g = only n b e in omega arith)
+
+    pub another : (s ≡ textOf guess → ⊥) → Answers textOf last s No
+    another f = nothing (λ n b e. f (e ∙ ap textOf (sym (only n b e))))
+
+    pub checked-answers : Answers textOf last s (checked textOf last s guess)
+    checked-answers =
+        picked (Answers textOf last s) (both (leb guess last) (sameBytes s (textOf guess))) (Is guess) No
+        (λ t. this guess (leb-true guess last (both-true (leb guess last) (sameBytes s (textOf guess)) t .0)) (same-true s (textOf guess) (both-true (leb guess last) (sameBytes s (textOf guess)) t .1)))
+        (λ f. nothing (λ n b e.
+          let g = only n b e in
+          let k : s ≡ textOf guess = e ∙ ap textOf (sym g) in
+          let l : guess ≤ last = omega arith in
+          let z : _≡_ {A = Bool} true false = sym (trues (le-leb guess last l) (subst (λ (x : List ℕ). sameBytes s x ≡ true) k (same-self s))) ∙ f in
+          let w : _≡_ {A = ℕ} 0 1 = cc in
+          omega arith))
+      where
+        both-true : (a b : Bool) → both a b ≡ true → (a ≡ true) × (b ≡ true)
+        both-true true b e = (refl, e)
+        both-true false b e = (e, absurd (let w : _≡_ {A = ℕ} 0 1 = cc in omega arith))
+        trues : {a b : Bool} → a ≡ true → b ≡ true → both a b ≡ true
+        trues {a} {b} p q = rw (p, q)
+
+-- where a number is said by its text, a text has one answer only
+pub one-answer : (textOf : ℕ → List ℕ) (last : ℕ) (said : List ℕ → ℕ) → ((n : ℕ) → n ≤ last → said (textOf n) ≡ n) → (s : List ℕ) (a b : Time) → Answers textOf last s a → Answers textOf last s b → a ≡ b
+one-answer textOf last said f s (Is m) (Is n) p q =
+    let x = p .accepted m refl in
+    let y = q .accepted n refl in
+    ap Is (sym (f m (x .0)) ∙ ap said (sym (x .1) ∙ y .1) ∙ f n (y .0))
+one-answer textOf last said f s (Is m) No p q = let x = p .accepted m refl in absurd (q .refused refl m (x .0) (x .1))
+one-answer textOf last said f s No (Is n) p q = let y = q .accepted n refl in absurd (p .refused refl n (y .0) (y .1))
+one-answer textOf last said f s No No p q = refl

@@ -1,0 +1,10 @@
+pub mod LeapYears
+pub mod Years
+pub mod Months
+pub mod Once
+pub mod Counted
+pub mod Digits
+pub mod Said
+pub mod Answers
+pub mod Reading
+pub mod Writing

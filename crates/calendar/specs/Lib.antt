@@ -1,0 +1,6 @@
+pub mod Days
+pub mod Civil
+pub mod Text
+pub mod Put
+pub mod Read
+pub mod Marked
