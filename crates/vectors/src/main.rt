@@ -78,11 +78,15 @@ fn put_field(line: &mut [u8], at: usize, n: u64) -> usize {
     number::put_decimal(line, end, n)
 }
 
-fn put_entry(line: &mut [u8], e: entry::Entry) -> usize {
+fn put_head(line: &mut [u8], e: entry::Entry) -> usize {
     let end = number::put_decimal(line, 0, e.link as u64);
     let end = put_field(line, end, e.kind as u64);
     let end = put_field(line, end, e.item as u64);
-    let end = put_field(line, end, e.flags as u64);
+    put_field(line, end, e.flags as u64)
+}
+
+fn put_entry(line: &mut [u8], e: entry::Entry) -> usize {
+    let end = put_head(line, e);
     let end = put_field(line, end, e.time);
     let end = put_field(line, end, e.value as u64);
     put_field(line, end, e.sequence as u64)
