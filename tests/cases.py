@@ -3,7 +3,10 @@
 A case is a head, its kind (one byte), the length of its body (four decimal digits) and a line feed; then the body and a line
 feed. The program answers each case with a line.
 """
+import os
 import pathlib
+import platform
+import shutil
 import subprocess
 import sys
 
@@ -35,9 +38,19 @@ def write(program, cases, answers):
     (folder / "stdout").write_bytes(b"".join(answers))
 
 
+def command(program):
+    """How the program is run: programs are for x86-64, and on another processor the kit has an emulator beside its compiler."""
+    path = ROOT / "target" / "bin" / program
+    if platform.machine() == "x86_64":
+        return [path]
+    kit = pathlib.Path(os.environ.get("RATTLE_HOME") or pathlib.Path(shutil.which("rt")).resolve().parent.parent)
+    tools = kit / "on" / platform.machine() / "toolchain"
+    return [tools / "bin" / "qemu-x86_64", tools / "lib" / "ld-linux-x86-64.so.2", "--library-path", tools / "lib", path]
+
+
 def run(program, cases):
     """The program's answers, a line each."""
-    done = subprocess.run([ROOT / "target" / "bin" / program], input=b"".join(cases), stdout=subprocess.PIPE, check=True)
+    done = subprocess.run(command(program), input=b"".join(cases), stdout=subprocess.PIPE, check=True)
     return done.stdout.splitlines(keepends=True)
 
 
