@@ -1,7 +1,7 @@
 -- Fields in the bits of a number, most significant first; bytes are fields of eight bits.
 -- Assumes nothing.
 use mathlib.Core.List.{List, [], _∷_}
-use Prim.Native.Nat.{ℕ, zero, suc, _+_, _*_, _/_, _%_, _^_, _<_}
+use Prim.Native.Nat.{ℕ, _+_, _*_, _/_, _%_, _^_, _<_}
 use lib.ListN.{length, replicate}
 
 -- n, and behind it the k low bits of v

@@ -1,8 +1,8 @@
 -- Packed and unpacked: the same record; unpacked and packed: the same bytes; and the reader has one result.
 -- Assumes nothing.
 use mathlib.Core.Path.{_≡_, refl, sym, ap, subst, _∙_}
-use mathlib.Core.List.{List, [], _∷_}
-use Prim.Native.Nat.{ℕ, _+_, _*_, _/_, _%_, _^_, _≤_, _<_}
+use mathlib.Core.List.{List}
+use Prim.Native.Nat.{ℕ, _^_, _<_}
 use native.Mathlib.Nat.{div-eq-of-lt}
 use native.Mathlib.Omega.{arith}
 use lib.ListN.{length, getD, replicate}
@@ -11,11 +11,10 @@ use Rattle.bits.proofs.Fields.{joined-lt, joined-split, split-joined}
 use Rattle.bits.proofs.Bytes.{number-bytes, number-lt, bytes-number, bytes-within}
 use Rattle.entry.specs.declared.Entry.{Entry}
 use Rattle.entry.specs.declared.Unpacked.{Unpacked}
-use Rattle.entry.specs.declared.Unpacked.the-variants.{Accepted, Refused}
+use Rattle.entry.specs.declared.Unpacked.the-variants.{Accepted}
 use Rattle.entry.specs.Layout.{bytesOf, entryOf, widths, valuesOf}
-use Rattle.entry.specs.Valid.{Valid, OfKind, an-alarm, a-status, an-aggregated, Alarm, Status, Aggregated}
+use Rattle.entry.specs.Valid.{Valid, OfKind, an-alarm, a-status, an-aggregated}
 use Rattle.entry.specs.Reading.{Reads, reads, refuses}
-use Rattle.entry.proofs.FlagLaws.{known-flags, unknown-flags}
 use Rattle.entry.proofs.ValidLaws.{alarm-flags, status-cases}
 use mathlib.Core.Logic.{⊎-elim}
 

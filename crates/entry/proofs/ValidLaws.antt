@@ -3,10 +3,10 @@
 use mathlib.Core.Path.{_≡_, refl, sym, ap, _∙_}
 use mathlib.Core.Bool.{Bool, true, false}
 use mathlib.Core.Logic.{_⊎_, inl, inr}
-use Prim.Native.Nat.{ℕ, _+_, _*_, _/_, _%_, _^_, _≤_, _<_}
+use Prim.Native.Nat.{ℕ, _%_, _^_, _<_}
 use native.Mathlib.Omega.{arith}
 use Rattle.entry.specs.declared.Entry.{Entry}
-use Rattle.entry.specs.Flags.{alarmFlags, statusFlags, eventOf, isAcknowledged, isActive, isSuspended}
+use Rattle.entry.specs.Flags.{statusFlags, eventOf, isAcknowledged, isActive, isSuspended}
 use Rattle.entry.specs.Valid.{Alarm, Status, Aggregated, OfKind, an-alarm, a-status, an-aggregated, Decides}
 use Rattle.entry.proofs.FlagLaws.{alarm-flags-lt, alarm-flags-even, alarm-flags-again, known-flags, unknown-flags}
 

@@ -2,16 +2,16 @@
 -- Assumes nothing.
 use mathlib.Core.Path.{_≡_, refl, sym, ap, ap₂, subst, _∙_}
 use mathlib.Core.List.{List, [], _∷_, _++_}
-use Prim.Native.Nat.{ℕ, _+_, _-_, _*_, _/_, _%_, _^_, _≤_, _<_}
+use Prim.Native.Nat.{ℕ, _+_, _-_, _*_, _%_, _^_, _<_}
 use native.Mathlib.Nat.{mod-eq-of-lt}
 use native.Mathlib.Omega.{arith}
 use lib.ListN.{length, take, drop, replicate, take-append-drop, length-drop}
 use lib.Seq.{take-all, length-take-le}
-use Rattle.bits.specs.Fields.{total, joined, split, bytesOf as bytesIn, numberOf}
-use Rattle.bits.proofs.Fields.{split-two, joined-behind, joined-lt}
+use Rattle.bits.specs.Fields.{fieldOf, total, joined, split, bytesOf as bytesIn, numberOf}
+use Rattle.bits.proofs.Fields.{before, split-append, split-two, joined-behind, joined-lt}
 use Rattle.bits.proofs.Bytes.{number-two, number-lt}
 use Rattle.entry.specs.declared.Entry.{Entry}
-use Rattle.entry.specs.Layout.{bytesOf, widths, valuesOf}
+use Rattle.entry.specs.Layout.{bytesOf, entryOf, widths, valuesOf}
 
 abbrev firstWidths : List ℕ
 firstWidths = 2 ∷ 2 ∷ 6 ∷ 6 ∷ 48 ∷ []
@@ -31,8 +31,17 @@ entry-bytes e =
     ap (bytesIn 16) (joined-behind lastWidths (e .value ∷ e .sequence ∷ []) refl (firstWord e))
     ∙ split-two (replicate 8 8) (replicate 8 8) (firstWord e) (lastWord e) (joined-lt lastWidths (e .value ∷ e .sequence ∷ []) refl)
 
-pub two-words : (h l : ℕ) → l < 2 ^ 64 → split widths (h * 2 ^ 64 + l) ≡ split firstWidths h ++ split lastWidths l
+two-words : (h l : ℕ) → l < 2 ^ 64 → split widths (h * 2 ^ 64 + l) ≡ split firstWidths h ++ split lastWidths l
 two-words h l f = split-two firstWidths lastWidths h l f
+
+-- the record of the fields that stand in two words
+pub from-words : (h l : ℕ) {link kind item flags time value sequence : ℕ} → l < 2 ^ 64
+    → link ≡ fieldOf h 62 2 → kind ≡ fieldOf h 60 2 → item ≡ fieldOf h 54 6 → flags ≡ fieldOf h 48 6 → time ≡ fieldOf h 0 48
+    → value ≡ fieldOf l 32 32 → sequence ≡ fieldOf l 0 32
+    → _≡_ {A = Entry} (record { link = link; kind = kind; item = item; flags = flags; time = time; value = value; sequence = sequence }) (entryOf (split widths (h * 2 ^ 64 + l)))
+from-words h l f p q r s t u v =
+    (λ j. record { link = p j; kind = q j; item = r j; flags = s j; time = t j; value = u j; sequence = v j })
+    ∙ ap entryOf (sym (two-words h l f))
 
 -- sixteen bytes say two words side by side
 pub sixteen : (b : List ℕ) → length b ≡ 16 → numberOf b ≡ numberOf (take 8 b) % 2 ^ 64 * 2 ^ 64 + numberOf (take 8 (drop 8 b)) % 2 ^ 64
@@ -47,3 +56,10 @@ sixteen b e =
   where
     eight : (s : List ℕ) → length s ≡ 8 → numberOf s % 2 ^ 64 ≡ numberOf s
     eight s h = mod-eq-of-lt (subst (λ (n : ℕ). numberOf s < 2 ^ total (replicate n 8)) h (number-lt s))
+
+-- the first two bytes say link, kind, item and flags, whatever the rest is
+pub begins : (e : Entry) → take 2 (bytesOf e) ≡ bytesIn 2 (joined 0 (2 ∷ 2 ∷ 6 ∷ 6 ∷ []) (e .link ∷ e .kind ∷ e .item ∷ e .flags ∷ []))
+unfolding bytesOf
+begins e =
+    ap (take 2) (split-append (replicate 2 8) (replicate 14 8) (joined 0 widths (valuesOf e)))
+    ∙ ap (bytesIn 2) (before (48 ∷ 32 ∷ 32 ∷ []) (e .time ∷ e .value ∷ e .sequence ∷ []) refl (joined 0 (2 ∷ 2 ∷ 6 ∷ 6 ∷ []) (e .link ∷ e .kind ∷ e .item ∷ e .flags ∷ [])))

@@ -1,6 +1,6 @@
 -- The marked cases about records, as rows for the one table of marked cases.
 -- Assumes nothing.
-use mathlib.Core.Bool.{Bool, true, false}
+use mathlib.Core.Bool.{true, false}
 use mathlib.Core.List.{List, [], _∷_}
 use Prim.Native.Nat.{ℕ}
 use Rattle.entry.specs.declared.Entry.{Entry}

@@ -1,5 +1,8 @@
 // Which records there are, kind by kind.
+use super::AGGREGATED;
+use super::ALARM;
 use super::Entry;
+use super::STATUS;
 ghost use mathlib.Core.Path.{_≡_};
 ghost use Prim.Native.Nat.{ℕ, _+_, _*_, _/_, _%_, _^_, _≤_, _<_};
 ghost use Rattle.entry.specs.Valid.{Valid, OfKind, Alarm, Status, Aggregated, Decides};
@@ -10,7 +13,7 @@ pub const LAST_TIME: u64 = 253402300799999;
 fn is_alarm(e: Entry) -> bool
     ensures { λ r. ⌜ Decides r (Alarm e) ⌝ }
 {
-    if e.kind != 0 {
+    if e.kind != ALARM {
         return false;
     }
     if 32 <= e.item {
@@ -22,7 +25,7 @@ fn is_alarm(e: Entry) -> bool
     if e.flags % 2 != 0 {
         return false;
     }
-    if e.value != 0 {
+    if 0 < e.value {
         return false;
     }
     true
@@ -32,7 +35,7 @@ fn is_alarm(e: Entry) -> bool
 fn is_status(e: Entry) -> bool
     ensures { λ r. ⌜ Decides r (Status e) ⌝ }
 {
-    if e.kind != 1 {
+    if e.kind != STATUS {
         return false;
     }
     if 32 <= e.item {
@@ -53,7 +56,7 @@ fn is_status(e: Entry) -> bool
 fn is_aggregated(e: Entry) -> bool
     ensures { λ r. ⌜ Decides r (Aggregated e) ⌝ }
 {
-    if e.kind != 2 {
+    if e.kind != AGGREGATED {
         return false;
     }
     if e.item != 0 {

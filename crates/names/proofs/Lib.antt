@@ -1,3 +1,3 @@
-pub mod Table
+pub mod Spans
 pub mod Search
 pub mod ByValue

@@ -1,19 +1,22 @@
 -- The search for a name, and that no two names are the same: every name is found as itself.
 -- Assumes nothing.
-use mathlib.Core.Path.{_≡_, sym, ap, _∙_}
+use mathlib.Core.Path.{_≡_, refl, sym, ap, _∙_}
+use mathlib.Core.Logic.{⊎-elim}
 use mathlib.Core.Bool.{Bool, true, false}
 use mathlib.Core.List.{List}
-use Prim.Native.Nat.{ℕ, suc, _+_, _-_, _<_}
+use Prim.Native.Nat.{ℕ, zero, suc, _+_, _-_, _≤_, _<_}
 use native.Mathlib.Numerals.{add-one}
 use native.Mathlib.Omega.{arith}
 use lib.Dec.{T, eqb, eqb→eq}
 use Rattle.basis.specs.Pick.{pick}
 use Rattle.basis.specs.Lists.{sameBytes}
+use Rattle.basis.proofs.Cases.{bool-cases, le-or-lt}
+use Rattle.basis.proofs.Same.{same-true, same-self}
 use Rattle.basis.proofs.Table.{at}
 use Rattle.names.specs.Names.{nameOf, findIn}
 use Rattle.names.specs.declared.Found.{Found}
 use Rattle.names.specs.declared.Found.the-variants.{At, Nothing}
-use Rattle.names.proofs.Table.{starts}
+use Rattle.names.proofs.Spans.{starts}
 
 -- one turn of the search
 pub turn : (s : List ℕ) (i end : ℕ) → i < end → findIn s i (end - i) ≡ pick (sameBytes s (nameOf i)) (At i) (findIn s (i + 1) (end - (i + 1)))
@@ -34,5 +37,51 @@ itself i x = isAt i (findIn (nameOf i) 0 78)
 
 -- every name is found as itself in the whole table, so no two are the same
 pub distinct : (i : ℕ) → i < 78 → findIn (nameOf i) 0 78 ≡ At i
-unfolding itself nameOf
+unfolding itself
 distinct i h = is-at i (findIn (nameOf i) 0 78) (at itself starts tt i h)
+
+-- no two names are the same
+pub one-name : (i j : ℕ) → i < 78 → j < 78 → nameOf i ≡ nameOf j → i ≡ j
+one-name i j h k e =
+    let p = sym (distinct i h) ∙ ap (λ (s : List ℕ). findIn s 0 78) e ∙ distinct j k in
+    at-at p
+  where
+    at-at : {a b : ℕ} → At a ≡ At b → a ≡ b
+    at-at p = cc
+
+-- what is found is the name, and one of those that were looked through
+pub found : (s : List ℕ) (i n k : ℕ) → findIn s i n ≡ At k → (i ≤ k) × (k < i + n) × (s ≡ nameOf k)
+found s i zero k e = absurd (let z : _≡_ {A = ℕ} 0 1 = cc in omega arith)
+found s i (suc n) k e = bool-cases (sameBytes s (nameOf i))
+    (λ t.
+    let p : At i ≡ At k = sym (ap (λ (b : Bool). pick b (At i) (findIn s (suc i) n)) t) ∙ e in
+    let q : i ≡ k = cc in
+    (omega arith, omega arith, same-true s (nameOf i) t ∙ ap nameOf q))
+    (λ f.
+    let r = found s (suc i) n k (sym (ap (λ (b : Bool). pick b (At i) (findIn s (suc i) n)) f) ∙ e) in
+    (omega arith, omega arith, r .2))
+
+-- what is not found is none of them
+pub missed : (s : List ℕ) (i n k : ℕ) → findIn s i n ≡ Nothing → i ≤ k → k < i + n → s ≡ nameOf k → ⊥
+missed s i zero k e l h q = omega arith
+missed s i (suc n) k e l h q = bool-cases (sameBytes s (nameOf i))
+    (λ t.
+    let p : At i ≡ Nothing = sym (ap (λ (b : Bool). pick b (At i) (findIn s (suc i) n)) t) ∙ e in
+    let z : _≡_ {A = ℕ} 0 1 = cc in
+    omega arith)
+    (λ f. ⊎-elim
+    (λ (w : k ≤ i).
+    let r : k ≡ i = omega arith in
+    let t : sameBytes s (nameOf i) ≡ true = ap (sameBytes s) (sym (q ∙ ap nameOf r)) ∙ same-self s in
+    let z : _≡_ {A = ℕ} 0 1 = cc in
+    omega arith)
+    (λ (w : i < k). missed s (suc i) n k (sym (ap (λ (b : Bool). pick b (At i) (findIn s (suc i) n)) f) ∙ e) w (omega arith) q)
+    (le-or-lt k i))
+
+-- each name is found among any of the names that it is one of
+pub finds : (i n k : ℕ) → i ≤ k → k < i + n → i + n ≤ 78 → findIn (nameOf k) i n ≡ At k
+finds i n k l h m = by (findIn (nameOf k) i n) refl
+  where
+    by : (f : Found) → findIn (nameOf k) i n ≡ f → f ≡ At k
+    by (At j) e = let r = found (nameOf k) i n j e in ap At (one-name j k (omega arith) (omega arith) (sym (r .2)))
+    by Nothing e = absurd (missed (nameOf k) i n k e l h refl)

@@ -1,41 +1,51 @@
--- The fixed names, which of them a text is, and a name by value. Readers and writers cite the same ones.
+-- The fixed names, and which of them a text is. Readers and writers cite the same ones.
 -- Assumes nothing.
 use mathlib.Core.List.{List, [], _∷_, _++_}
-use Prim.Native.Nat.{ℕ, zero, suc, _-_}
-use lib.ListN.{length, getD, replicate}
+use Prim.Native.Nat.{ℕ, zero, suc}
+use lib.ListN.{getD}
 use Rattle.basis.specs.Pick.{pick}
 use Rattle.basis.specs.Lists.{sameBytes}
 use Rattle.basis.specs.Text.{text}
 use Rattle.names.specs.declared.Found.{Found}
 use Rattle.names.specs.declared.Found.the-variants.{At, Nothing}
-use Rattle.names.specs.declared.Name.{Name}
 
 -- the fourteen types of messages
 abbrev pub typeNames : List (List ℕ)
 typeNames =
-    text "Version" ∷ text "Watchdog" ∷ text "MessageAck" ∷ text "MessageNotAck" ∷ text "Alarm" ∷ text "AggregatedStatus" ∷ text "AggregatedStatusRequest" ∷ text "StatusRequest" ∷ text "StatusResponse" ∷ text "StatusSubscribe" ∷ text "StatusUnsubscribe" ∷ text "StatusUpdate" ∷ text "CommandRequest" ∷ text "CommandResponse" ∷ []
+    text "Version" ∷ text "Watchdog" ∷ text "MessageAck" ∷ text "MessageNotAck" ∷ text "Alarm"
+    ∷ text "AggregatedStatus" ∷ text "AggregatedStatusRequest" ∷ text "StatusRequest" ∷ text "StatusResponse"
+    ∷ text "StatusSubscribe" ∷ text "StatusUnsubscribe" ∷ text "StatusUpdate" ∷ text "CommandRequest"
+    ∷ text "CommandResponse" ∷ []
 
 -- the eleven reasons of a MessageNotAck
 abbrev pub reasons : List (List ℕ)
 reasons =
-    text "Missing element" ∷ text "Bad value" ∷ text "Unexpected" ∷ text "Not ready" ∷ text "RSMP version" ∷ text "Site id" ∷ text "SXL version" ∷ text "Unknown component" ∷ text "Unknown alarm" ∷ text "Unknown status" ∷ text "Busy" ∷ []
+    text "Missing element" ∷ text "Bad value" ∷ text "Unexpected" ∷ text "Not ready" ∷ text "RSMP version"
+    ∷ text "Site id" ∷ text "SXL version" ∷ text "Unknown component" ∷ text "Unknown alarm"
+    ∷ text "Unknown status" ∷ text "Busy" ∷ []
 
 -- the elements that we read or write
 abbrev pub elements : List (List ℕ)
 elements =
-    text "mType" ∷ text "type" ∷ text "mId" ∷ text "oMId" ∷ text "rea" ∷ text "ntsOId" ∷ text "xNId" ∷ text "cId" ∷ text "RSMP" ∷ text "vers" ∷ text "siteId" ∷ text "sId" ∷ text "SXL" ∷ text "wTs" ∷ text "aCId" ∷ text "xACId" ∷ text "xNACId" ∷ text "aSp" ∷ text "ack" ∷ text "aS" ∷ text "sS" ∷ text "aTs" ∷ text "cat" ∷ text "pri" ∷ text "rvs" ∷ text "aSTS" ∷ text "fP" ∷ text "fS" ∷ text "se" ∷ text "sTs" ∷ text "sCI" ∷ text "n" ∷ text "s" ∷ text "q" ∷ text "uRt" ∷ text "sOc" ∷ []
+    text "mType" ∷ text "type" ∷ text "mId" ∷ text "oMId" ∷ text "rea" ∷ text "ntsOId" ∷ text "xNId"
+    ∷ text "cId" ∷ text "RSMP" ∷ text "vers" ∷ text "siteId" ∷ text "sId" ∷ text "SXL" ∷ text "wTs"
+    ∷ text "aCId" ∷ text "xACId" ∷ text "xNACId" ∷ text "aSp" ∷ text "ack" ∷ text "aS" ∷ text "sS"
+    ∷ text "aTs" ∷ text "cat" ∷ text "pri" ∷ text "rvs" ∷ text "aSTS" ∷ text "fP" ∷ text "fS" ∷ text "se"
+    ∷ text "sTs" ∷ text "sCI" ∷ text "n" ∷ text "s" ∷ text "q" ∷ text "uRt" ∷ text "sOc" ∷ []
 
 -- the values that we read or write
 abbrev pub words : List (List ℕ)
 words =
-    text "rSMsg" ∷ text "Issue" ∷ text "Request" ∷ text "Acknowledge" ∷ text "Suspend" ∷ text "Resume" ∷ text "Acknowledged" ∷ text "notAcknowledged" ∷ text "Active" ∷ text "inActive" ∷ text "Suspended" ∷ text "notSuspended" ∷ text "T" ∷ text "D" ∷ text "recent" ∷ text "unknown" ∷ text "undefined" ∷ []
+    text "rSMsg" ∷ text "Issue" ∷ text "Request" ∷ text "Acknowledge" ∷ text "Suspend" ∷ text "Resume"
+    ∷ text "Acknowledged" ∷ text "notAcknowledged" ∷ text "Active" ∷ text "inActive" ∷ text "Suspended"
+    ∷ text "notSuspended" ∷ text "T" ∷ text "D" ∷ text "recent" ∷ text "unknown" ∷ text "undefined" ∷ []
 
 -- all of them: types from 0, reasons from 14, elements from 25, words from 61
 abbrev pub names : List (List ℕ)
 names = typeNames ++ (reasons ++ (elements ++ words))
 
 -- name i; past the last one the empty text
-unfoldable pub nameOf : ℕ → List ℕ
+abbrev pub nameOf : ℕ → List ℕ
 nameOf i = getD names i []
 
 -- the first of the n names from i on that s is
@@ -46,7 +56,3 @@ findIn s i (suc n) = pick (sameBytes s (nameOf i)) (At i) (findIn s (suc i) n)
 -- the type that s names
 abbrev pub findType : List ℕ → Found
 findType s = findIn s 0 14
-
--- name i by value: its length, and its bytes with zeros behind them
-abbrev pub heldName : ℕ → Name
-heldName i = record { length = length (nameOf i); bytes = nameOf i ++ replicate (24 - length (nameOf i)) 0 }

@@ -3,13 +3,13 @@
 use mathlib.Core.List.{List}
 use mathlib.Core.Path.{_≡_}
 use Prim.Native.Nat.{ℕ, _-_, _≤_}
-use lib.ListN.{length, take, drop}
-use Rattle.basis.specs.Text.{text}
-use Rattle.names.specs.Names.{nameOf}
+use lib.ListN.{take, drop}
+use Rattle.output.specs.Put.{concat}
+use Rattle.names.specs.Names.{names, nameOf}
 
 -- all names, one after the other
 abbrev pub table : List ℕ
-table = text "VersionWatchdogMessageAckMessageNotAckAlarmAggregatedStatusAggregatedStatusRequestStatusRequestStatusResponseStatusSubscribeStatusUnsubscribeStatusUpdateCommandRequestCommandResponseMissing elementBad valueUnexpectedNot readyRSMP versionSite idSXL versionUnknown componentUnknown alarmUnknown statusBusymTypetypemIdoMIdreantsOIdxNIdcIdRSMPverssiteIdsIdSXLwTsaCIdxACIdxNACIdaSpackaSsSaTscatprirvsaSTSfPfSsesTssCInsquRtsOcrSMsgIssueRequestAcknowledgeSuspendResumeAcknowledgednotAcknowledgedActiveinActiveSuspendednotSuspendedTDrecentunknownundefined"
+table = concat names
 
 -- name i stands in the table from a to e, and a name by value holds it
 pub record Spans (i a e : ℕ) : Type 0 where

@@ -1,6 +1,6 @@
 use mathlib.Core.Path.{_≡_, sym, ap, ap₂, _∙_}
 use mathlib.Core.List.{List}
-use Prim.Native.Nat.{ℕ, _+_, _-_, _%_, _^_, _≤_}
+use Prim.Native.Nat.{ℕ, _-_, _%_, _^_, _≤_}
 use lib.ListN.{length, getD, take, replicate}
 use lib.Seq.{take-length}
 use borrow.Author.Needs.{needs}

@@ -1,6 +1,4 @@
-use mathlib.Core.Path.{sym, ap, _∙_}
-use Rattle.entry.specs.Layout.{entryOf}
-use Rattle.entry.proofs.Words.{two-words}
+use Rattle.entry.proofs.Words.{from-words}
 use borrow.Author.Needs.{needs}
 use Rattle.entry.proofs.fields.Statement.{statement}
 use Rattle.entry.proofs.fields.Tie as tie
@@ -49,18 +47,15 @@ cast-t15 c = search needs
 
 returns : tie.Need-returns
 returns c =
-    let h = c .before .before .before .before .before .before .before .args .h in
-    let l = c .before .before .before .before .before .before .before .args .l in
-    (λ i. record {
-      time = c .before .before .before .before .before .before .field .ensures i;
-      value = c .before .before .before .before .before .field2 .ensures i;
-      sequence = c .before .before .before .before .field3 .ensures i;
-      link = c .before .before .before .field4 .ensures i;
-      kind = c .before .before .field5 .ensures i;
-      item = c .before .field6 .ensures i;
-      flags = c .field7 .ensures i;
-    })
-    ∙ ap entryOf (sym (two-words h l (c .before .before .before .before .before .before .before .fits .l .fits)))
+    let a = c .before .before .before .before .before .before .before in
+    from-words (a .args .h) (a .args .l) (a .fits .l .fits)
+    (c .before .before .before .field4 .ensures)
+    (c .before .before .field5 .ensures)
+    (c .before .field6 .ensures)
+    (c .field7 .ensures)
+    (c .before .before .before .before .before .before .field .ensures)
+    (c .before .before .before .before .before .field2 .ensures)
+    (c .before .before .before .before .field3 .ensures)
 
 pub fields-spec : {M : Type 1} → statement M
 fields-spec =

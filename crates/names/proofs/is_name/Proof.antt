@@ -5,7 +5,7 @@ use Rattle.names.proofs.is_name.Tie as tie
 use Rattle.names.proofs.is_name.Reads as reads
 use Rattle.names.proofs.is_name.Lts as lts
 use Rattle.check.proofs.same.Reads as same-reads
-use Rattle.names.proofs.span_of.Reads as span-of-reads
+use Rattle.names.proofs.table.span_of.Reads as span-of-reads
 
 span-of-requires : tie.Need-span-of-requires
 span-of-requires c κs = search needs

@@ -4,7 +4,7 @@ use Rattle.names.proofs.named.Statement.{statement}
 use Rattle.names.proofs.named.Tie as tie
 use Rattle.names.proofs.named.Reads as reads
 use Rattle.names.proofs.named.Lts as lts
-use Rattle.names.proofs.span_of.Reads as span-of-reads
+use Rattle.names.proofs.table.span_of.Reads as span-of-reads
 use Rattle.output.proofs.put_bytes.Reads as put-bytes-reads
 
 span-of-requires : tie.Need-span-of-requires

@@ -1,10 +1,10 @@
 use native.Mathlib.Omega.{arith}
-use Rattle.names.proofs.Table.{spans, past}
+use Rattle.names.proofs.Spans.{spans, past}
 use borrow.Author.Needs.{needs}
-use Rattle.names.proofs.span_of.Statement.{statement}
-use Rattle.names.proofs.span_of.Tie as tie
-use Rattle.names.proofs.span_of.Reads as reads
-use Rattle.names.proofs.span_of.Lts as lts
+use Rattle.names.proofs.table.span_of.Statement.{statement}
+use Rattle.names.proofs.table.span_of.Tie as tie
+use Rattle.names.proofs.table.span_of.Reads as reads
+use Rattle.names.proofs.table.span_of.Lts as lts
 
 mul-start : tie.Need-mul-start
 mul-start c = search needs
