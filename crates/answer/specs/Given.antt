@@ -1,6 +1,5 @@
 -- What an answer says besides its number: how many output bytes were written, the links closed, and a clock hint.
 -- Assumes nothing.
-use mathlib.Core.Bool.{Bool}
 use mathlib.Core.List.{List, [], _∷_, _++_}
 use Prim.Native.Nat.{ℕ, zero, suc, _/_, _%_, _^_}
 use lib.Dec.{eqb}

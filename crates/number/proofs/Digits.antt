@@ -1,18 +1,16 @@
 -- The shortest decimal text of a number: its digits one by one, what it says, its length, its first byte; one number a text.
 -- Assumes nothing.
-use mathlib.Core.Path.{_≡_, refl, sym, ap, ap₂, _∙_}
-use mathlib.Core.Bool.{Bool, true, false}
+use mathlib.Core.Path.{_≡_, refl, sym, ap, _∙_}
 use mathlib.Core.List.{List, [], _∷_, _++_}
-use mathlib.Core.Logic.{_⊎_, inl, inr, ⊎-elim}
+use mathlib.Core.Logic.{_⊎_, ⊎-elim}
 use Prim.Native.Nat.{ℕ, zero, suc, _+_, _-_, _*_, _/_, _%_, _^_, _≤_, _<_}
-use native.Mathlib.Nat.{pow-suc}
+use native.Mathlib.Nat.{pow-suc, mul-assoc, mul-comm, mul-le-mul-right, lt-of-lt-of-le}
 use native.Mathlib.Omega.{arith}
-use lib.Dec.{ltb}
 use lib.IntN.{ℤ, pos, negsuc}
 use lib.ListN.{length, length-append}
 use borrow.Author.Tests.{lt-ltb, le-ltb}
 use Rattle.basis.proofs.Cases.{lt-or-ge}
-use Rattle.number.specs.Decimal.{digitsBy, digitsBelow, digits, decimalOf}
+use Rattle.number.specs.Decimal.{digitsBelow, digits, decimalOf}
 use Rattle.number.specs.Reading.{says}
 use Rattle.number.specs.Signed.{Signed32, wordOf}
 
@@ -72,21 +70,23 @@ digits-length (suc k) n h = ⊎-elim
     rw (more-digits n l, length-append) (omega (arith, i)))
     (lt-or-ge n 10)
 
--- a text that begins with a digit
-pub record Begins (s : List ℕ) : Type 0 where
+-- the text begins with a digit, and with 0 only where the number is 0
+pub record Begins (n : ℕ) (s : List ℕ) : Type 0 where
   pub first : ℕ
   pub behind : List ℕ
   pub whole : s ≡ first ∷ behind
   pub low : 48 ≤ first
+  pub lead : 0 < n → 49 ≤ first
 
-pub begins : (n : ℕ) → Begins (digits n)
-begins = by-digits (λ (n : ℕ). Begins (digits n))
-    (λ n l. record { first = 48 + n; behind = []; whole = one-digit n l; low = omega arith })
+pub begins : (n : ℕ) → Begins n (digits n)
+begins = by-digits (λ (n : ℕ). Begins n (digits n))
+    (λ n l. record { first = 48 + n; behind = []; whole = one-digit n l; low = omega arith; lead = λ p. omega arith })
     (λ n l b. record {
       first = b .first;
       behind = b .behind ++ ((48 + n % 10) ∷ []);
       whole = more-digits n l ∙ ap (λ (s : List ℕ). s ++ ((48 + n % 10) ∷ [])) (b .whole);
       low = b .low;
+      lead = λ p. b .lead (omega arith);
     })
 
 -- no text of digits begins with a minus
@@ -95,6 +95,31 @@ no-minus n s e = let b = begins n in let f : 45 ≡ b .first = cc (e, b .whole) 
 
 pub not-empty : (n : ℕ) → [] ≡ digits n → ⊥
 not-empty n e = let b = begins n in let z : _≡_ {A = ℕ} 0 1 = cc (e, b .whole) in omega arith
+
+-- a row of digits
+pub data Row : List ℕ → Type 0 where
+  none : Row []
+  next : {b : ℕ} {bs : List ℕ} → 48 ≤ b → b ≤ 57 → Row bs → Row (b ∷ bs)
+
+row-snoc : {bs : List ℕ} {b : ℕ} → Row bs → 48 ≤ b → b ≤ 57 → Row (bs ++ (b ∷ []))
+row-snoc none h k = next h k none
+row-snoc (next l u r) h k = next l u (row-snoc r h k)
+
+pub digits-row : (n : ℕ) → Row (digits n)
+digits-row = by-digits (λ (n : ℕ). Row (digits n))
+    (λ n l. rw (one-digit n l) (next {b = 48 + n} (omega arith) (omega arith) none))
+    (λ n l r. rw (more-digits n l) (row-snoc {b = 48 + n % 10} r (omega arith) (omega arith)))
+
+says-below : {bs : List ℕ} → Row bs → (n : ℕ) → says n bs < (n + 1) * 10 ^ length bs
+says-below none n = omega arith
+says-below (next {b} {bs} l u r) n =
+    let m : n * 10 + (b - 48) + 1 ≤ (n + 1) * 10 = omega arith in
+    let q : (n + 1) * 10 * 10 ^ length bs ≡ (n + 1) * 10 ^ suc (length bs) = mul-assoc (n + 1) 10 (10 ^ length bs) ∙ ap (λ (x : ℕ). (n + 1) * x) (mul-comm 10 (10 ^ length bs) ∙ sym (pow-suc 10 (length bs))) in
+    rw q at (lt-of-lt-of-le (says-below r (n * 10 + (b - 48))) (mul-le-mul-right (10 ^ length bs) m))
+
+-- no row of digits that says n is shorter
+pub shortest : (n : ℕ) (b : ℕ) (bs : List ℕ) → Row (b ∷ bs) → says 0 (b ∷ bs) ≡ n → length (digits n) ≤ length (b ∷ bs)
+shortest n b bs r e = digits-length (length bs) n (omega (arith, says-below r 0, e))
 
 -- one signed value a text
 pub decimal-once : (v w : ℤ) → decimalOf v ≡ decimalOf w → v ≡ w

@@ -8,8 +8,8 @@ use lib.IntN.{ℤ, pos, negsuc, _+ℤ_}
 use lib.ListN.{length, replicate}
 use borrow.Author.Tests.{le-ltb}
 use mir.Syntax.{w32}
-use mir.Val.{SFits, Fits, toZ, ofZ}
-use mir.Facts.{toZ-ofZ, ofZ-toZ, fits-ofZ, sfits-toZ}
+use mir.Val.{toZ, ofZ}
+use mir.Facts.{toZ-ofZ, ofZ-toZ, sfits-toZ}
 use Rattle.bits.specs.Fields.{Within, total, numberOf, bytesOf}
 use Rattle.bits.proofs.Bytes.{number-bytes, bytes-number, number-lt}
 use Rattle.number.specs.Signed.{Signed32, wordOf, signedOf, fourOf, signedIn}

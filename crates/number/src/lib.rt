@@ -1,7 +1,7 @@
 // Numbers as bits, bytes and decimal text, both ways, and the table's alphabet.
 ghost use mathlib.Core.Path.{_≡_};
 ghost use mathlib.Core.List.{[], _∷_};
-ghost use Prim.Native.Nat.{ℕ, _+_, _-_, _*_, _%_, _^_, _≤_, _<_};
+ghost use Prim.Native.Nat.{_+_, _-_, _*_, _%_, _≤_, _<_};
 ghost use lib.ListN.{length, drop};
 ghost use Rattle.output.specs.Put.{Wrote};
 ghost use Rattle.number.specs.Signed.{wordOf, signedOf, fourOf, signedIn};

@@ -1,8 +1,8 @@
 -- The laws of `Wrote`: one writer after another, what stands in the output afterwards, a part that is lent on.
 -- Assumes nothing.
-use mathlib.Core.Path.{_≡_, refl, sym, ap, ap₂, _∙_, subst}
-use mathlib.Core.List.{List, [], _∷_, _++_, append-assoc, append-nil}
-use mathlib.Core.Logic.{_⊎_, inl, inr, ⊎-elim}
+use mathlib.Core.Path.{_≡_, refl, sym, ap, ap₂, _∙_}
+use mathlib.Core.List.{List, [], _∷_, _++_}
+use mathlib.Core.Logic.{_⊎_, ⊎-elim}
 use Prim.Native.Nat.{ℕ, _+_, _-_, _≤_, _<_}
 use native.Mathlib.Nat.{add-assoc, add-zero}
 use native.Mathlib.Omega.{arith}
@@ -159,6 +159,18 @@ most-some {xs} {at} {b} {bs} w = rw (end-is w) (⊎-elim
     (λ (f : at + length b ≤ length xs). most-all xs at (b ∷ bs) (omega arith))
     (λ (f : length xs < at + length b). rw (shut xs at b bs f) (omega arith))
     (le-or-lt (at + length b) (length xs)))
+
+-- and it answers that place where the pieces have no room
+pub full-some : {xs : List ℕ} {at : ℕ} {b : List ℕ} {bs : List (List ℕ)} {ys : List ℕ} {r : ℕ}
+    → Wrote xs at (b ∷ bs) ys r → length xs < at + length (concat (b ∷ bs)) → r ≡ length xs + 1
+full-some {ys = ys} {r = r} w h = ⊎-elim
+    (λ (l : r ≤ length ys). absurd (omega (arith, fitted w l)))
+    (λ (l : length ys < r). omega (arith, most-some w, same-length w))
+    (le-or-lt r (length ys))
+
+-- pieces that all stand there are as good as one
+pub as-one : {xs : List ℕ} {at : ℕ} {bs : List (List ℕ)} {ys : List ℕ} {r : ℕ} → Wrote xs at bs ys r → r ≤ length ys → Wrote xs at (concat bs ∷ []) ys r
+as-one w h = let g = fitted w h in let e = fits w g in rw (e .0, e .1) (placed g)
 
 -- once the end is past the output, nothing more is written
 pub stopped : {xs : List ℕ} {at : ℕ} {b : List ℕ} {bs : List (List ℕ)} {ys : List ℕ} {r : ℕ} (cs : List (List ℕ))

@@ -1,5 +1,4 @@
 // Bytes into a lent output, from its present end.
-ghost use mathlib.Core.Path.{_≡_};
 ghost use mathlib.Core.List.{[], _∷_};
 ghost use Rattle.output.specs.Put.{Wrote};
 

@@ -2,8 +2,7 @@ use Prim.Native.Nat.{_-_}
 use lib.ListN.{length, take, drop}
 use Rattle.number.specs.Decimal.{digits}
 use Rattle.number.proofs.Places.{from-on}
-use mathlib.Core.Path.{_≡_, sym, ap, subst, _∙_}
-use mathlib.Core.List.{[], _∷_}
+use mathlib.Core.Path.{_≡_, _∙_}
 use native.Mathlib.Omega.{arith}
 use borrow.Author.Needs.{needs}
 use Rattle.number.proofs.put_decimal.Statement.{statement}

@@ -1,4 +1,4 @@
-use mathlib.Core.Path.{_≡_, sym, ap, subst, _∙_}
+use mathlib.Core.Path.{_≡_, ap, _∙_}
 use Prim.Native.Nat.{ℕ, _-_}
 use mathlib.Core.List.{List, _∷_}
 use native.Mathlib.Omega.{arith}

@@ -1,10 +1,9 @@
-use mathlib.Core.Path.{_≡_, sym, ap, subst, _∙_}
-use mathlib.Core.Bool.{true}
+use mathlib.Core.Path.{_≡_, sym, ap, _∙_}
 use Prim.Native.Nat.{ℕ, _-_}
 use native.Mathlib.Omega.{arith}
-use lib.ListN.{length, take, drop}
+use lib.ListN.{length}
 use Rattle.number.specs.Decimal.{digits}
-use Rattle.number.specs.Reading.{is, says}
+use Rattle.number.specs.Reading.{is}
 use Rattle.number.proofs.Places.{from-on}
 use Rattle.number.proofs.Reading.{too-long, too-much, unlike}
 use borrow.Author.Needs.{needs}

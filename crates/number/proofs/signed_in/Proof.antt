@@ -1,13 +1,10 @@
-use mathlib.Core.Path.{_≡_, sym, ap, subst, _∙_}
-use Prim.Native.Nat.{ℕ, _^_, _<_}
-use native.Mathlib.Nat.{mod-eq-of-lt}
+use mathlib.Core.Path.{_≡_, ap, _∙_}
 use native.Mathlib.Omega.{arith}
-use lib.ListN.{length, replicate}
+use lib.ListN.{length}
 use lib.IntN.{ℤ}
 use mir.Syntax.{w32}
 use mir.Val.{toZ, ofZ}
-use Rattle.bits.specs.Fields.{numberOf, total}
-use Rattle.bits.proofs.Bytes.{number-lt}
+use Rattle.bits.specs.Fields.{numberOf}
 use Rattle.number.specs.Signed.{signedOf}
 use Rattle.number.proofs.RoundTrip.{passed-on, number-four}
 use borrow.Author.Needs.{needs}

@@ -1,9 +1,8 @@
-use mathlib.Core.Path.{sym, ap, _∙_}
+use mathlib.Core.Path.{ap, _∙_}
 use Prim.Native.Nat.{ℕ, _^_}
 use lib.Bits.{bitOr, and-mask, mask-lt}
 use mir.Syntax.{w32}
 use mir.Val.{toZ}
-use mir.Facts.{toZ-pos}
 use Rattle.number.proofs.Sign.{with-top, signed-is}
 use borrow.Author.Needs.{needs}
 use Rattle.number.proofs.signed_of.Statement.{statement}

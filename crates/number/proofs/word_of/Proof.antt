@@ -1,4 +1,4 @@
-use mathlib.Core.Path.{sym, ap, _∙_}
+use mathlib.Core.Path.{ap, _∙_}
 use Prim.Native.Nat.{ℕ, _^_}
 use native.Mathlib.Nat.{mod-eq-of-lt}
 use lib.Bits.{bitOr}
