@@ -46,16 +46,17 @@ module _ (textOf : ℕ → List ℕ) (last : ℕ) (s : List ℕ) where
         picked (Answers textOf last s) (both (leb guess last) (sameBytes s (textOf guess))) (Is guess) No
         (λ t. this guess (leb-true guess last (both-true (leb guess last) (sameBytes s (textOf guess)) t .0)) (same-true s (textOf guess) (both-true (leb guess last) (sameBytes s (textOf guess)) t .1)))
         (λ f. nothing (λ n b e.
-          let g = only n b e in
-          let k : s ≡ textOf guess = e ∙ ap textOf (sym g) in
-          let l : guess ≤ last = omega arith in
-          let z : _≡_ {A = Bool} true false = sym (trues (le-leb guess last l) (subst (λ (x : List ℕ). sameBytes s x ≡ true) k (same-self s))) ∙ f in
-          let w : _≡_ {A = ℕ} 0 1 = cc in
-          omega arith))
+        let g = only n b e in
+        let k : s ≡ textOf guess = e ∙ ap textOf (sym g) in
+        let l : guess ≤ last = omega arith in
+        let z : _≡_ {A = Bool} true false = sym (trues (le-leb guess last l) (subst (λ (x : List ℕ). sameBytes s x ≡ true) k (same-self s))) ∙ f in
+        let w : _≡_ {A = ℕ} 0 1 = cc in
+        omega arith))
       where
         both-true : (a b : Bool) → both a b ≡ true → (a ≡ true) × (b ≡ true)
         both-true true b e = (refl, e)
         both-true false b e = (e, absurd (let w : _≡_ {A = ℕ} 0 1 = cc in omega arith))
+
         trues : {a b : Bool} → a ≡ true → b ≡ true → both a b ≡ true
         trues {a} {b} p q = rw (p, q)
 

@@ -7,10 +7,9 @@ use native.Mathlib.Omega.{arith}
 use lib.Dec.{ltb, lit≤}
 use borrow.Author.Tests.{ltb-true, ltb-false}
 use Rattle.basis.proofs.Cases.{picked}
-use Rattle.calendar.specs.declared.Date.{Date}
 use Rattle.calendar.specs.declared.Place.{Place}
 use Rattle.calendar.specs.Days.{years, months, leapOf, yearDays, monthDays, dayOf, Valid, InYear, InMonth}
-use Rattle.calendar.specs.Civil.{yearFrom, monthFrom, dateAt, dateIn, dateOf}
+use Rattle.calendar.specs.Civil.{yearFrom, monthFrom, dateAt, dateOf}
 use Rattle.calendar.proofs.Years.{year-step, ten-thousand}
 use Rattle.calendar.proofs.Months.{month-step, twelve}
 use Rattle.calendar.proofs.Once.{once}
@@ -25,8 +24,8 @@ year-counted d (suc k) y n h e c b =
     picked (InYear d) (ltb n (yearDays y)) _ _
     (λ t. record { from = h; to = omega arith; count = c; within = ltb-true n (yearDays y) t })
     (λ t. let g = ltb-false n (yearDays y) t in
-      let a : suc y ≡ y + 1 = sym (add-one y) in
-      year-counted d k (suc y) (n - yearDays y) (omega arith) (omega arith) (omega (arith, year-step y h, ap (λ (z : ℕ). years (z - 1970)) a)) b)
+    let a : suc y ≡ y + 1 = sym (add-one y) in
+    year-counted d k (suc y) (n - yearDays y) (omega arith) (omega arith) (omega (arith, year-step y h, ap (λ (z : ℕ). years (z - 1970)) a)) b)
 
 month-counted : (l d k m n : ℕ) → 1 ≤ m → m + k ≡ 12 → months l (m - 1) + n ≡ d → d < 365 + l → InMonth l d (monthFrom l k m n)
 unfolding monthFrom
@@ -37,8 +36,8 @@ month-counted l d (suc k) m n h e c b =
     picked (InMonth l d) (ltb n (monthDays l m)) _ _
     (λ t. record { from = h; to = omega arith; count = c; within = ltb-true n (monthDays l m) t })
     (λ t. let g = ltb-false n (monthDays l m) t in
-      let a : suc m ≡ m + 1 = sym (add-one m) in
-      month-counted l d k (suc m) (n - monthDays l m) (omega arith) (omega arith) (omega (arith, month-step l m h, ap (λ (z : ℕ). months l (z - 1)) a)) b)
+    let a : suc m ≡ m + 1 = sym (add-one m) in
+    month-counted l d k (suc m) (n - monthDays l m) (omega arith) (omega arith) (omega (arith, month-step l m h, ap (λ (z : ℕ). months l (z - 1)) a)) b)
 
 -- a year and a month of it make a valid date of the day
 module _ (n : ℕ) (y m : Place) (p : InYear n y) (q : InMonth (leapOf (y .number)) (y .passed) m) where

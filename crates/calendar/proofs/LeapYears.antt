@@ -1,13 +1,11 @@
 -- The leap rule: a year is 365 or 366 days long, and what a year adds to the counts of fourth, hundredth and four hundredth years.
 -- Assumes nothing.
-use mathlib.Core.Path.{_≡_, refl, ap, _∙_}
-use mathlib.Core.Logic.{_⊎_, inl, inr, ⊎-elim}
-use mathlib.Core.Bool.{Bool, true, false}
-use Prim.Native.Nat.{ℕ, _+_, _/_, _%_, _≤_, _<_}
+use mathlib.Core.Path.{_≡_}
+use mathlib.Core.Logic.{_⊎_, ⊎-elim}
+use Prim.Native.Nat.{ℕ, _+_, _/_, _%_, _≤_}
 use native.Mathlib.Omega.{arith}
 use lib.Dec.{eqb, lit≤}
 use borrow.Author.Tests.{eq-eqb, ne-eqb, eqb-true, eqb-false}
-use Rattle.basis.specs.Pick.{pick}
 use Rattle.basis.proofs.Cases.{picked}
 use Rattle.calendar.specs.Days.{leapOf}
 
@@ -48,20 +46,23 @@ leap-adds p =
     let P : ℕ → Type 0 = λ (n : ℕ). n + p / 4 + y / 100 + p / 400 ≡ y / 4 + p / 100 + y / 400 in
     picked P (eqb (y % 4) 0) _ _
     (λ e. let f4 = next4 p (eqb-true (y % 4) 0 e) in
-      picked P (eqb (y % 100) 0) _ _
-      (λ f. let f100 = next100 p (eqb-true (y % 100) 0 f) in
-        picked P (eqb (y % 400) 0) _ _
-        (λ g. rw (f4, f100, next400 p (eqb-true (y % 400) 0 g)) (all-three (p / 4) (p / 100) (p / 400)))
-        (λ g. rw (f4, f100, same400 p (eqb-false (y % 400) 0 g)) (only-two (p / 4) (p / 100) (p / 400))))
-      (λ f. let n = eqb-false (y % 100) 0 f in rw (f4, same100 p n, same400 p (not400 y n)) (only-fourth (p / 4) (p / 100) (p / 400))))
+    picked P (eqb (y % 100) 0) _ _
+    (λ f. let f100 = next100 p (eqb-true (y % 100) 0 f) in
+    picked P (eqb (y % 400) 0) _ _
+    (λ g. rw (f4, f100, next400 p (eqb-true (y % 400) 0 g)) (all-three (p / 4) (p / 100) (p / 400)))
+    (λ g. rw (f4, f100, same400 p (eqb-false (y % 400) 0 g)) (only-two (p / 4) (p / 100) (p / 400))))
+    (λ f. let n = eqb-false (y % 100) 0 f in rw (f4, same100 p n, same400 p (not400 y n)) (only-fourth (p / 4) (p / 100) (p / 400))))
     (λ e. let n = eqb-false (y % 4) 0 e in rw (same4 p n, same100 p (not100 y n), same400 p (not400 y (not100 y n))) (nothing (p / 4) (p / 100) (p / 400)))
   where
     nothing : (a b c : ℕ) → 0 + a + b + c ≡ a + b + c
     nothing a b c = omega arith
+
     all-three : (a b c : ℕ) → 1 + a + (b + 1) + c ≡ a + 1 + b + (c + 1)
     all-three a b c = omega arith
+
     only-two : (a b c : ℕ) → 0 + a + (b + 1) + c ≡ a + 1 + b + c
     only-two a b c = omega arith
+
     only-fourth : (a b c : ℕ) → 1 + a + b + c ≡ a + 1 + b + c
     only-fourth a b c = omega arith
 

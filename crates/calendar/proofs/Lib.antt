@@ -1,5 +1,6 @@
 pub mod LeapYears
 pub mod Years
+pub mod YearParts
 pub mod Months
 pub mod Once
 pub mod Counted

@@ -1,6 +1,6 @@
 -- The days of the months, and the month of a day of a year.
 -- Assumes nothing.
-use mathlib.Core.Path.{_≡_, refl, sym, ap, subst, _∙_}
+use mathlib.Core.Path.{_≡_, refl, ap, subst, _∙_}
 use mathlib.Core.Bool.{Bool}
 use mathlib.Core.List.{List, [], _∷_}
 use Prim.Native.Nat.{ℕ, zero, suc, _+_, _-_, _*_, _/_, _≤_, _<_, zero-le}
@@ -10,7 +10,6 @@ use lib.Dec.{T, eqb, eqb→eq, lit≤}
 use lib.ListN.{replicate, getD}
 use Rattle.basis.specs.Pick.{both}
 use Rattle.basis.proofs.Table.{at, both-left, both-right}
-use Rattle.calendar.specs.declared.Place.{Place}
 use Rattle.calendar.specs.Days.{leapOf, monthDays, months, InMonth}
 use Rattle.calendar.proofs.LeapYears.{leap-le}
 
@@ -103,6 +102,7 @@ after-february l n x m hl a b hx h =
   where
     counted : (k z : ℕ) → k + 2 ≡ z + l → z ≤ x → k + (x - z) ≡ n
     counted k z e f = omega arith
+
     inside : (d z w : ℕ) → d + z ≡ w → z ≤ x → x < w → x - z < d
     inside d z w e f g = omega arith
 

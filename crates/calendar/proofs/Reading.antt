@@ -10,7 +10,7 @@ use Rattle.calendar.specs.declared.Time.{Time}
 use Rattle.calendar.specs.declared.Time.the-variants.{Is, No}
 use Rattle.calendar.specs.Days.{dayOf, Valid}
 use Rattle.calendar.specs.Text.{lastTime, lastSecond, secondText, milliText, timeText}
-use Rattle.calendar.specs.Read.{Answers, dateSaid, clockSaid, milliSaid, readSecond, readMilli, joinMilli, joinTime, readTime, TimeRead}
+use Rattle.calendar.specs.Read.{Answers, dateSaid, clockSaid, milliSaid, readSecond, readMilli, joinTime, readTime, TimeRead}
 use Rattle.calendar.proofs.Said.{second-length, milli-length, said-valid, said-second, said-milli}
 use Rattle.calendar.proofs.Answers.{this, nothing, checked-answers, one-answer}
 
@@ -32,6 +32,7 @@ time-of x m h = ap₂ (λ (a b : ℕ). secondText a ++ milliText b) (quotient x 
   where
     quotient : (x m : ℕ) → m ≤ 999 → (x * 1000 + m) / 1000 ≡ x
     quotient x m h = omega arith
+
     remainder : (x m : ℕ) → m ≤ 999 → (x * 1000 + m) % 1000 ≡ m
     remainder x m h = omega arith
 

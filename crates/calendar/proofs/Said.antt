@@ -1,12 +1,11 @@
 -- The numbers that the digits of a written time say are the ones that were written.
 -- Assumes nothing.
-use mathlib.Core.Path.{_≡_, refl, sym, ap, ap₂, subst, _∙_}
-use mathlib.Core.List.{List, [], _∷_, _++_}
+use mathlib.Core.Path.{_≡_, refl, sym, ap, subst, _∙_}
+use mathlib.Core.List.{List}
 use Prim.Native.Nat.{ℕ, _+_, _-_, _*_, _/_, _%_, _≤_, _<_}
 use native.Mathlib.Omega.{arith}
-use lib.ListN.{length, getD}
-use Rattle.calendar.specs.declared.Date.{Date}
-use Rattle.calendar.specs.Days.{leapOf, monthDays, dayOf, Valid}
+use lib.ListN.{length}
+use Rattle.calendar.specs.Days.{dayOf, Valid}
 use Rattle.calendar.specs.Civil.{dateOf}
 use Rattle.calendar.specs.Text.{lastSecond, secondText, milliText}
 use Rattle.calendar.specs.Read.{dateSaid, clockSaid, milliSaid}
@@ -41,14 +40,18 @@ clock-said n = by (n % 86400) (omega arith)
   where
     hours : (k : ℕ) → k < 86400 → k / 3600 ≤ 99
     hours k h = omega arith
+
     minutes : (k : ℕ) → k / 60 % 60 ≤ 99
     minutes k = omega arith
+
     seconds : (k : ℕ) → k % 60 ≤ 99
     seconds k = omega arith
+
     whole : (k : ℕ) → k / 3600 * 3600 + k / 60 % 60 * 60 + k % 60 ≡ k
     whole k = omega arith
+
     by : (k : ℕ) → k < 86400 →
-      ((48 + k / 3600 / 10 % 10 - 48) * 10 + (48 + k / 3600 % 10 - 48)) * 3600 + ((48 + k / 60 % 60 / 10 % 10 - 48) * 10 + (48 + k / 60 % 60 % 10 - 48)) * 60 + ((48 + k % 60 / 10 % 10 - 48) * 10 + (48 + k % 60 % 10 - 48)) ≡ k
+        ((48 + k / 3600 / 10 % 10 - 48) * 10 + (48 + k / 3600 % 10 - 48)) * 3600 + ((48 + k / 60 % 60 / 10 % 10 - 48) * 10 + (48 + k / 60 % 60 % 10 - 48)) * 60 + ((48 + k % 60 / 10 % 10 - 48) * 10 + (48 + k % 60 % 10 - 48)) ≡ k
     by k h = rw (two-digits (k / 3600) (hours k h), two-digits (k / 60 % 60) (minutes k), two-digits (k % 60) (seconds k)) (whole k)
 
 -- what h says, where it is the text of the second n
@@ -60,7 +63,7 @@ module _ (h : List ℕ) (n : ℕ) (b : n ≤ lastSecond) (e : h ≡ secondText n
   said-valid = subst Valid (sym said-date) (date-valid (n / 86400) (day-below n b))
 
   pub said-second : dayOf (dateSaid h) * 86400 + clockSaid h ≡ n
-  said-second = 
+  said-second =
       let d : dayOf (dateSaid h) ≡ n / 86400 = ap dayOf said-date ∙ date-day (n / 86400) (day-below n b) in
       let c : clockSaid h ≡ n % 86400 = ap clockSaid e ∙ clock-said n in
       rw (d, c) (whole n)

@@ -23,6 +23,6 @@ dateAt y m = record { year = y; month = m .number; day = m .passed + 1 }
 abbrev pub dateIn : Place → Date
 dateIn y = dateAt (y .number) (monthFrom (leapOf (y .number)) 11 1 (y .passed))
 
--- the date of the day n days after 1970-01-01
+-- the date of the day n days after 1970-01-01, to 9999
 unfoldable pub dateOf : ℕ → Date
 dateOf n = dateIn (yearFrom 8029 1970 n)

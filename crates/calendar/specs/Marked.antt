@@ -3,14 +3,9 @@
 use mathlib.Core.Bool.{Bool}
 use mathlib.Core.List.{List, [], _∷_}
 use Prim.Native.Nat.{ℕ}
-use Rattle.basis.specs.Pick.{both}
 use Rattle.basis.specs.Text.{text}
 use Rattle.basis.specs.Lists.{sameBytes}
 use Rattle.calendar.specs.Text.{timeText}
-use Rattle.calendar.specs.Read.{readTime}
-use Rattle.calendar.specs.declared.Time.{Time}
-use Rattle.calendar.specs.declared.Time.the-variants.{Is, No}
-use lib.Dec.{eqb}
 
 pub record TimeRow : Type 0 where
   pub time : ℕ

@@ -13,10 +13,13 @@ use Rattle.calendar.specs.declared.Time.the-variants.{Is, No}
 use Rattle.calendar.specs.Days.{dayOf}
 use Rattle.calendar.specs.Text.{lastTime, lastSecond, secondText, milliText, timeText}
 
--- the answer r to the text s, where the numbers up to the last have texts
+-- r is the answer to the text s, where the numbers up to the last have texts
 pub record Answers (textOf : ℕ → List ℕ) (last : ℕ) (s : List ℕ) (r : Time) : Type 0 where
   pub accepted : (n : ℕ) → r ≡ Is n → (n ≤ last) × (s ≡ textOf n)
   pub refused : r ≡ No → (n : ℕ) → n ≤ last → s ≡ textOf n → ⊥
+
+-- Reading as a function, for definitions that go on with the answer. It is not to be believed: the law `answers` says that it gives the
+-- answer, and `one-time` that there is no other.
 
 -- the answer to s, if no number but this guess can have the text s
 abbrev pub checked : (ℕ → List ℕ) → ℕ → List ℕ → ℕ → Time
@@ -54,7 +57,6 @@ abbrev pub joinTime : Time → Time → Time
 joinTime (Is s) t = joinMilli s t
 joinTime No t = No
 
--- reading as a function
 unfoldable pub readTime : List ℕ → Time
 readTime s = joinTime (readSecond (take 19 s)) (readMilli (drop 19 s))
 

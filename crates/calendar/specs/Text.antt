@@ -13,7 +13,7 @@ lastTime = 253402300799999
 abbrev pub lastSecond : ℕ
 lastSecond = 253402300799
 
--- the last w decimal digits of n
+-- the last w decimal digits of n, the highest first
 abbrev pub decimals : ℕ → ℕ → List ℕ
 decimals zero n = []
 decimals (suc w) n = decimals w (n / 10) ++ (48 + n % 10) ∷ []

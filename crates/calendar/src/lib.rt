@@ -11,16 +11,16 @@ ghost use Rattle.calendar.specs.Text.{lastTime, lastSecond, decimals, da
 ghost use Rattle.calendar.specs.Put.{WroteTime};
 ghost use Rattle.calendar.specs.Read.{Answers, oneAt, twoAt, dateSaid, clockSaid, milliSaid, TimeRead};
 
-pub struct Date {
-    pub year: u64,
-    pub month: u64,
-    pub day: u64,
+struct Date {
+    year: u64,
+    month: u64,
+    day: u64,
 }
 
 // A year or a month, and how many of its days went before.
-pub struct Place {
-    pub number: u64,
-    pub passed: u64,
+struct Place {
+    number: u64,
+    passed: u64,
 }
 
 pub enum Time {
@@ -147,11 +147,11 @@ fn day_of(d: Date) -> u64
 }
 
 // The last w digits of n from a place of the text on.
-fn put_digits(text: [u8; 24], at: usize, w: usize, n: u64) -> [u8; 24]
+fn put_digits(into: [u8; 24], at: usize, w: usize, n: u64) -> [u8; 24]
     requires { ⌜ at + w ≤ 24 ⌝ }
-    ensures { λ r. ⌜ r ≡ put text at (decimals w n) ⌝ }
+    ensures { λ r. ⌜ r ≡ put into at (decimals w n) ⌝ }
 {
-    let mut t = text;
+    let mut t = into;
     let mut i = w;
     let mut m = n;
     while 0 < i {

@@ -6,9 +6,8 @@ use mathlib.Core.List.{List}
 use Prim.Native.Nat.{ℕ, _*_, _+_, _-_, _/_, _%_, _≤_, _<_}
 use native.Mathlib.Omega.{arith}
 use lib.Dec.{ltb, eqb, eqb→eq, lit≤}
-use lib.ListN.{getD, replicate}
-use borrow.Author.Tests.{ltb-true, ltb-false}
-use Rattle.basis.specs.Pick.{pick}
+use lib.ListN.{replicate}
+use borrow.Author.Tests.{ltb-true}
 use Rattle.basis.proofs.Table.{at}
 use Rattle.basis.proofs.Cases.{picked}
 use Rattle.identity.specs.Hex.{hexDigit, hexValue, lowerHex}

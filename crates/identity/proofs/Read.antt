@@ -2,16 +2,14 @@
 -- Assumes nothing.
 use mathlib.Core.Path.{_≡_, refl, sym, ap, subst, _∙_}
 use mathlib.Core.Bool.{Bool, true, false}
-use mathlib.Core.List.{List, map}
-use Prim.Native.Nat.{ℕ, _+_, _*_, _<_}
+use mathlib.Core.List.{List}
+use Prim.Native.Nat.{ℕ, _+_, _<_}
 use native.Mathlib.Omega.{arith}
 use lib.Dec.{lit≤}
 use lib.ListN.{length, getD}
-use Rattle.basis.specs.Pick.{pick}
 use Rattle.basis.proofs.Cases.{bool-cases, picked}
-use Rattle.identity.specs.declared.Identity.{Identity}
 use Rattle.identity.specs.declared.ReadIdentity.{ReadIdentity}
-use Rattle.identity.specs.Hex.{hexValue, lowered}
+use Rattle.identity.specs.Hex.{lowered}
 use Rattle.identity.specs.Text.{identityText}
 use Rattle.basis.specs.Lists.{sameBytes}
 use Rattle.identity.specs.Read.{SixteenBytes, Says, found, notFound, starts, byteAt, bytesOf, readIdentity, Answers, IdentityRead}
@@ -53,9 +51,12 @@ answers s =
     })
     (λ e. record {
       accepted = λ t. no-both false t refl;
-      refused = λ _. (refl, λ bs h.
-        let k : lowered s ≡ identityText (bytesOf (lowered s)) = h .said ∙ ap identityText (sym (said-bytes s bs h)) in
-        no-both b (subst (λ (l : List ℕ). sameBytes (lowered s) l ≡ true) k (same-self (lowered s))) e);
+      refused = λ _. (
+        refl,
+        λ bs h.
+            let k : lowered s ≡ identityText (bytesOf (lowered s)) = h .said ∙ ap identityText (sym (said-bytes s bs h)) in
+            no-both b (subst (λ (l : List ℕ). sameBytes (lowered s) l ≡ true) k (same-self (lowered s))) e,
+      );
     })
 
 -- a text has one answer only
@@ -63,14 +64,14 @@ pub one-answer : (s : List ℕ) (a b : ReadIdentity) → Answers s a → Answers
 one-answer s a b p q =
     bool-cases (a .found)
     (λ t. bool-cases (b .found)
-      (λ u.
-        let e : a .id .bytes ≡ b .id .bytes = sym (said-bytes s (a .id .bytes) (p .accepted t)) ∙ said-bytes s (b .id .bytes) (q .accepted u) in
-        let f : a .found ≡ b .found = t ∙ sym u in
-        λ i. record { found = f i; id = record { bytes = e i } })
-      (λ u. absurd (q .refused u .1 (a .id .bytes) (p .accepted t))))
+    (λ u.
+    let e : a .id .bytes ≡ b .id .bytes = sym (said-bytes s (a .id .bytes) (p .accepted t)) ∙ said-bytes s (b .id .bytes) (q .accepted u) in
+    let f : a .found ≡ b .found = t ∙ sym u in
+    λ i. record { found = f i; id = record { bytes = e i } })
+    (λ u. absurd (q .refused u .1 (a .id .bytes) (p .accepted t))))
     (λ t. bool-cases (b .found)
-      (λ u. absurd (p .refused t .1 (b .id .bytes) (q .accepted u)))
-      (λ u. p .refused t .0 ∙ sym (q .refused u .0)))
+    (λ u. absurd (p .refused t .1 (b .id .bytes) (q .accepted u)))
+    (λ u. p .refused t .0 ∙ sym (q .refused u .0)))
 
 -- reading what was written gives the same bytes
 pub read-written : (bs : List ℕ) → SixteenBytes bs → readIdentity (identityText bs) ≡ found bs

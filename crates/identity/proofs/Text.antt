@@ -2,13 +2,13 @@
 -- Assumes nothing.
 use mathlib.Core.Path.{_≡_, refl, sym, ap, ap₂, _∙_}
 use mathlib.Core.Bool.{Bool}
-use mathlib.Core.List.{List, [], _∷_, _++_, map, map-append}
-use Prim.Native.Nat.{ℕ, zero, suc, _+_, _*_, _/_, _%_, _≤_, _<_}
+use mathlib.Core.List.{List, _∷_, _++_, map, map-append}
+use Prim.Native.Nat.{ℕ, zero, suc, _+_, _-_, _*_, _/_, _%_, _<_}
 use native.Mathlib.Omega.{arith}
 use lib.Dec.{T, ltb, eqb, ltb→lt, eqb→eq}
 use lib.ListN.{length, getD}
 use lib.Seq.{ext-getD}
-use borrow.Author.Tests.{lt-ltb, eq-eqb, ne-eqb}
+use borrow.Author.Tests.{le-ltb, eq-eqb, ne-eqb}
 use Rattle.basis.specs.Pick.{pick, both}
 use Rattle.basis.specs.Text.{text}
 use Rattle.basis.proofs.Table.{at, both-left, both-right}
@@ -18,15 +18,14 @@ use Rattle.identity.specs.Read.{SixteenBytes, starts, byteAt, bytesOf}
 use Rattle.identity.proofs.Fill.{mapped}
 use Rattle.identity.proofs.Hex.{lower-digit, byte-digits}
 
--- which hex digit stands at each place; 32 is a dash
-abbrev pub digits : List ℕ
-digits =
-    0 ∷ 1 ∷ 2 ∷ 3 ∷ 4 ∷ 5 ∷ 6 ∷ 7 ∷ 32 ∷ 8 ∷ 9 ∷ 10 ∷ 11 ∷ 32 ∷ 12 ∷ 13 ∷ 14 ∷ 15 ∷ 32 ∷ 16 ∷ 17 ∷ 18 ∷ 19 ∷ 32 ∷ 20 ∷ 21 ∷ 22 ∷ 23 ∷ 24 ∷ 25 ∷ 26 ∷ 27 ∷ 28 ∷ 29 ∷ 30 ∷ 31 ∷ []
+-- at each place the number of its digit, counted from the character 0 on; the dashes as they are
+abbrev pub shape : List ℕ
+shape = text "01234567-89:;-<=>?-@ABC-DEFGHIJKLMNO"
 
 abbrev pub charOf : List ℕ → ℕ → ℕ
-charOf bs p = pick (ltb p 32) (pick (eqb (p % 2) 0) (hexDigit (getD bs (p / 2) 0 / 16)) (hexDigit (getD bs (p / 2) 0 % 16))) 45
+charOf bs c = pick (ltb c 48) c (pick (eqb ((c - 48) % 2) 0) (hexDigit (getD bs ((c - 48) / 2) 0 / 16)) (hexDigit (getD bs ((c - 48) / 2) 0 % 16)))
 
-by-places : (bs : List ℕ) → identityText bs ≡ map (charOf bs) digits
+by-places : (bs : List ℕ) → identityText bs ≡ map (charOf bs) shape
 unfolding identityText
 by-places bs = refl
 
@@ -34,22 +33,29 @@ pub text-length : (bs : List ℕ) → length (identityText bs) ≡ 36
 unfolding identityText
 text-length bs = refl
 
-pub text-at : (bs : List ℕ) (k : ℕ) → k < 36 → getD (identityText bs) k 0 ≡ charOf bs (getD digits k 0)
-text-at bs k h = ap (λ (l : List ℕ). getD l k 0) (by-places bs) ∙ mapped (charOf bs) digits k h
+pub text-at : (bs : List ℕ) (k : ℕ) → k < 36 → getD (identityText bs) k 0 ≡ charOf bs (getD shape k 0)
+text-at bs k h = ap (λ (l : List ℕ). getD l k 0) (by-places bs) ∙ mapped (charOf bs) shape k h
 
--- the digits of byte i are the ones of numbers 2 * i and 2 * i + 1
+in-shape : ℕ → ℕ → Bool
+in-shape k c = ltb c 80
+
+pub shape-below : (k : ℕ) → k < 36 → getD shape k 0 < 80
+unfolding in-shape
+shape-below k h = ltb→lt (getD shape k 0) 80 (at in-shape shape tt k h)
+
+-- the digits of byte i have the numbers 2 * i and 2 * i + 1
 placed : ℕ → ℕ → Bool
-placed i p = both (ltb (p + 1) 36) (both (eqb (getD digits p 0) (2 * i)) (eqb (getD digits (p + 1) 0) (2 * i + 1)))
+placed i p = both (ltb (p + 1) 36) (both (eqb (getD shape p 0) (48 + 2 * i)) (eqb (getD shape (p + 1) 0) (49 + 2 * i)))
 
-first-digit : (bs : List ℕ) (i : ℕ) → i < 16 → charOf bs (2 * i) ≡ hexDigit (getD bs i 0 / 16)
-first-digit bs i h =
-    let e : 2 * i / 2 ≡ i = omega arith in
-    rw (lt-ltb (2 * i) 32 (omega arith), eq-eqb (2 * i % 2) 0 (omega arith), e)
+first-digit : (bs : List ℕ) (i : ℕ) → charOf bs (48 + 2 * i) ≡ hexDigit (getD bs i 0 / 16)
+first-digit bs i =
+    let e : (48 + 2 * i - 48) / 2 ≡ i = omega arith in
+    rw (le-ltb (48 + 2 * i) 48 (omega arith), eq-eqb ((48 + 2 * i - 48) % 2) 0 (omega arith), e)
 
-second-digit : (bs : List ℕ) (i : ℕ) → i < 16 → charOf bs (2 * i + 1) ≡ hexDigit (getD bs i 0 % 16)
-second-digit bs i h =
-    let e : (2 * i + 1) / 2 ≡ i = omega arith in
-    rw (lt-ltb (2 * i + 1) 32 (omega arith), ne-eqb ((2 * i + 1) % 2) 0 (λ z. omega arith), e)
+second-digit : (bs : List ℕ) (i : ℕ) → charOf bs (49 + 2 * i) ≡ hexDigit (getD bs i 0 % 16)
+second-digit bs i =
+    let e : (49 + 2 * i - 48) / 2 ≡ i = omega arith in
+    rw (le-ltb (49 + 2 * i) 48 (omega arith), ne-eqb ((49 + 2 * i - 48) % 2) 0 (λ z. omega arith), e)
 
 pub start-below : (i : ℕ) → i < 16 → getD starts i 0 + 1 < 36
 unfolding placed
@@ -59,12 +65,12 @@ byte-said : (bs : List ℕ) → SixteenBytes bs → (i : ℕ) → i < 16 → byt
 unfolding placed
 byte-said bs v i h =
     let p = getD starts i 0 in
-    let b : T (both (eqb (getD digits p 0) (2 * i)) (eqb (getD digits (p + 1) 0) (2 * i + 1))) = both-right (ltb (p + 1) 36) _ (at placed starts tt i h) in
-    let e : getD digits p 0 ≡ 2 * i = eqb→eq (getD digits p 0) (2 * i) (both-left (eqb (getD digits p 0) (2 * i)) _ b) in
-    let f : getD digits (p + 1) 0 ≡ 2 * i + 1 = eqb→eq (getD digits (p + 1) 0) (2 * i + 1) (both-right (eqb (getD digits p 0) (2 * i)) _ b) in
+    let b : T (both (eqb (getD shape p 0) (48 + 2 * i)) (eqb (getD shape (p + 1) 0) (49 + 2 * i))) = both-right (ltb (p + 1) 36) _ (at placed starts tt i h) in
+    let e : getD shape p 0 ≡ 48 + 2 * i = eqb→eq (getD shape p 0) (48 + 2 * i) (both-left (eqb (getD shape p 0) (48 + 2 * i)) _ b) in
+    let f : getD shape (p + 1) 0 ≡ 49 + 2 * i = eqb→eq (getD shape (p + 1) 0) (49 + 2 * i) (both-right (eqb (getD shape p 0) (48 + 2 * i)) _ b) in
     let s = start-below i h in
-    let x : getD (identityText bs) p 0 ≡ hexDigit (getD bs i 0 / 16) = text-at bs p (omega arith) ∙ ap (charOf bs) e ∙ first-digit bs i h in
-    let y : getD (identityText bs) (p + 1) 0 ≡ hexDigit (getD bs i 0 % 16) = text-at bs (p + 1) s ∙ ap (charOf bs) f ∙ second-digit bs i h in
+    let x : getD (identityText bs) p 0 ≡ hexDigit (getD bs i 0 / 16) = text-at bs p (omega arith) ∙ ap (charOf bs) e ∙ first-digit bs i in
+    let y : getD (identityText bs) (p + 1) 0 ≡ hexDigit (getD bs i 0 % 16) = text-at bs (p + 1) s ∙ ap (charOf bs) f ∙ second-digit bs i in
     rw (x, y) (byte-digits (getD bs i 0) (v .bytes i))
 
 -- the digits of the text of sixteen bytes say these bytes
@@ -77,7 +83,7 @@ both-lowered {a} {b} p q = map-append lowerHex a b ∙ ap₂ (λ (x y : List ℕ
 
 hex-lowered : (bs : List ℕ) → SixteenBytes bs → (i n : ℕ) → lowered (hexBytes bs i n) ≡ hexBytes bs i n
 hex-lowered bs v i zero = refl
-hex-lowered bs v i (suc n) = 
+hex-lowered bs v i (suc n) =
     let h = v .bytes i in
     let x = lower-digit (getD bs i 0 / 16) (omega arith) in
     let y = lower-digit (getD bs i 0 % 16) (omega arith) in

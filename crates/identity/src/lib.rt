@@ -17,11 +17,8 @@ pub struct Identity {
     pub bytes: [u8; 16],
 }
 
-// Which hex digit stands at each place of the text; 32 is a dash.
-const DIGITS: [usize; 36] = [
-    0, 1, 2, 3, 4, 5, 6, 7, 32, 8, 9, 10, 11, 32, 12, 13, 14, 15, 32, 16, 17, 18, 19, 32, 20, 21, 22,
-    23, 24, 25, 26, 27, 28, 29, 30, 31,
-];
+// The shape of the text: at each place the number of its digit, counted from the character 0 on; the dashes as they are.
+const SHAPE: [u8; 36] = *b"01234567-89:;-<=>?-@ABC-DEFGHIJKLMNO";
 
 // Where the two digits of each byte start in the text.
 const STARTS: [usize; 16] = [0, 2, 4, 6, 9, 11, 14, 16, 19, 21, 24, 26, 28, 30, 32, 34];
@@ -51,13 +48,13 @@ fn char_at(id: Identity, k: usize) -> u8
     if 36 <= k {
         return 0;
     }
-    let p = DIGITS[k];
-    if p < 32 {
-        let bytes = id.bytes;
-        digit_of(bytes[p / 2], p)
-    } else {
-        b'-'
+    let c = SHAPE[k];
+    if c < 48 {
+        return c;
     }
+    let p = (c - 48) as usize;
+    let bytes = id.bytes;
+    digit_of(bytes[p / 2], p)
 }
 
 pub fn identity_text(id: Identity) -> [u8; 36]
@@ -194,6 +191,9 @@ pub fn read_identity(s: &[u8]) -> ReadIdentity
     if same_lowered(s, &t) {
         ReadIdentity { found: true, id }
     } else {
-        ReadIdentity { found: false, id: Identity { bytes: [0u8; 16] } }
+        ReadIdentity {
+            found: false,
+            id: Identity { bytes: [0u8; 16] },
+        }
     }
 }

@@ -2,23 +2,16 @@ use Rattle.output.specs.Put.{put}
 use borrow.Author.Needs.{needs}
 use Rattle.calendar.proofs.date_text.Statement.{statement}
 use Rattle.calendar.proofs.date_text.Tie as tie
-use Rattle.calendar.proofs.date_text.Reads as reads
-use Rattle.calendar.proofs.date_text.Lts as lts
-use Rattle.calendar.proofs.put_digits.Reads as put-digits-reads
 
--- src/lib.rt:168:9
 put-digits-requires : tie.Need-put-digits-requires
 put-digits-requires c κs = search needs
 
--- src/lib.rt:169:9
 put-digits-requires-2 : tie.Need-put-digits-requires-2
 put-digits-requires-2 c κs = search needs
 
--- src/lib.rt:170:5
 put-digits-requires-3 : tie.Need-put-digits-requires-3
 put-digits-requires-3 c κs = search needs
 
--- src/lib.rt:165:1
 returns : tie.Need-returns
 unfolding put
 returns c = rw (c .put-digits3 .ensures, c .before .put-digits2 .ensures, c .before .before .put-digits .ensures)

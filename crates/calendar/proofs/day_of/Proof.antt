@@ -1,65 +1,47 @@
 use Rattle.calendar.specs.Days.{dayOf}
 use Rattle.calendar.proofs.Months.{month-below}
 use native.Mathlib.Omega.{arith}
-use mathlib.Core.Path.{_≡_, refl, sym, ap, ap₂, subst, _∙_}
-use Prim.Native.Nat.{ℕ, suc, _+_, _*_, _-_, _/_, _%_, _≤_, _<_}
+use Prim.Native.Nat.{_-_}
 use borrow.Author.Needs.{needs}
 use Rattle.calendar.proofs.day_of.Statement.{statement}
 use Rattle.calendar.proofs.day_of.Tie as tie
-use Rattle.calendar.proofs.day_of.Reads as reads
-use Rattle.calendar.proofs.day_of.Lts as lts
-use Rattle.calendar.proofs.leap.Reads as leap-reads
-use Rattle.calendar.proofs.month_start.Reads as month-start-reads
-use Rattle.calendar.proofs.year_start.Reads as year-start-reads
 
--- src/lib.rt:129:9
 returns : tie.Need-returns
 returns c = search needs
 
--- src/lib.rt:132:9
 returns-2 : tie.Need-returns-2
 returns-2 c = search needs
 
--- src/lib.rt:135:9
 returns-3 : tie.Need-returns-3
 returns-3 c = search needs
 
--- src/lib.rt:138:9
 returns-4 : tie.Need-returns-4
 returns-4 c = search needs
 
--- src/lib.rt:141:9
 returns-5 : tie.Need-returns-5
 returns-5 c = search needs
 
--- src/lib.rt:144:9
 returns-6 : tie.Need-returns-6
 returns-6 c = let d = c .before .before .before .before .before .before .before .before .args .d in (λ v. absurd (omega (arith, v .day .1, month-below (d .year) (d .month), c .if6 .taken)), search needs)
 
--- src/lib.rt:146:5
 year-start-requires : tie.Need-year-start-requires
 year-start-requires c κs = search needs
 
--- src/lib.rt:146:33
 leap-requires : tie.Need-leap-requires
 leap-requires c κs = search needs
 
--- src/lib.rt:146:21
 month-start-requires : tie.Need-month-start-requires
 month-start-requires c κs = search needs
 
--- src/lib.rt:146:5
 add-result : tie.Need-add-result
 add-result c = search needs
 
--- src/lib.rt:146:5
 add-result-2 : tie.Need-add-result-2
 add-result-2 c = search needs
 
--- src/lib.rt:123:1
 returns-7 : tie.Need-returns-7
 unfolding dayOf
-returns-7 c = 
+returns-7 c =
     let d = c .before .before .before .before .before .before .before .before .before .before .before .before .args .d in
     let m = rw (c .before .before .leap .ensures .0) at (c .before .month-start .ensures .0) in
     (λ v. omega (arith, c .before .before .before .year-start .ensures .0, m), omega (arith, c .before .before .before .year-start .ensures .1, c .before .month-start .ensures .1, c .before .before .before .before .if6 .left))

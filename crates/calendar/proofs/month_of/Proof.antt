@@ -1,68 +1,51 @@
-use mathlib.Core.Path.{_≡_, refl, sym, ap, ap₂, subst, _∙_}
+use mathlib.Core.Path.{refl}
 use Rattle.calendar.proofs.Months.{from-january, after-february}
 use borrow.Author.Needs.{needs}
 use Rattle.calendar.proofs.month_of.Statement.{statement}
 use Rattle.calendar.proofs.month_of.Tie as tie
-use Rattle.calendar.proofs.month_of.Reads as reads
-use Rattle.calendar.proofs.month_of.Lts as lts
 
--- src/lib.rt:71:12
 add-if1 : tie.Need-add-if1
 add-if1 c = search needs
 
--- src/lib.rt:72:18
 mul-m : tie.Need-mul-m
 mul-m c = search needs
 
--- src/lib.rt:72:18
 add-m : tie.Need-add-m
 add-m c = search needs
 
--- src/lib.rt:75:26
 mul-t8 : tie.Need-mul-t8
 mul-t8 c = search needs
 
--- src/lib.rt:75:26
 sub-t9 : tie.Need-sub-t9
 sub-t9 c = search needs
 
--- src/lib.rt:75:21
 sub-t11 : tie.Need-sub-t11
 sub-t11 c = search needs
 
--- src/lib.rt:73:9
 returns : tie.Need-returns
 returns c = let s = c .before in from-january (s .args .l) (s .args .n) _ (s .pre .0) (c .if1 .taken) refl
 
--- src/lib.rt:78:13
 add-x : tie.Need-add-x
 add-x c = search needs
 
--- src/lib.rt:78:13
 sub-x : tie.Need-sub-x
 sub-x c = search needs
 
--- src/lib.rt:79:14
 mul-m-2 : tie.Need-mul-m-2
 mul-m-2 c = search needs
 
--- src/lib.rt:79:14
 add-m-2 : tie.Need-add-m-2
 add-m-2 c = search needs
 
--- src/lib.rt:82:22
 mul-t6 : tie.Need-mul-t6
 mul-t6 c = search needs
 
--- src/lib.rt:82:22
 sub-t12 : tie.Need-sub-t12
 sub-t12 c = search needs
 
--- src/lib.rt:82:17
 sub-t14 : tie.Need-sub-t14
 sub-t14 c = search needs
 
--- src/lib.rt:67:1
 returns-2 : tie.Need-returns-2
 returns-2 c = let s = c .before in after-february (s .args .l) (s .args .n) _ _ (s .pre .0) (c .if1 .left) (s .pre .1) refl refl
 

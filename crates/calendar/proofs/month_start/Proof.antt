@@ -3,38 +3,28 @@ use Rattle.calendar.proofs.Months.{first, march-start}
 use borrow.Author.Needs.{needs}
 use Rattle.calendar.proofs.month_start.Statement.{statement}
 use Rattle.calendar.proofs.month_start.Tie as tie
-use Rattle.calendar.proofs.month_start.Reads as reads
-use Rattle.calendar.proofs.month_start.Lts as lts
 
--- src/lib.rt:116:10
 mul-result : tie.Need-mul-result
 mul-result c = search needs
 
--- src/lib.rt:116:10
 sub-result : tie.Need-sub-result
 sub-result c = search needs
 
--- src/lib.rt:118:10
 mul-result-2 : tie.Need-mul-result-2
 mul-result-2 c = search needs
 
--- src/lib.rt:118:10
 sub-result-2 : tie.Need-sub-result-2
 sub-result-2 c = search needs
 
--- src/lib.rt:118:9
 sub-result-3 : tie.Need-sub-result-3
 sub-result-3 c = search needs
 
--- src/lib.rt:118:9
 add-result : tie.Need-add-result
 add-result c = search needs
 
--- src/lib.rt:111:1
 returns : tie.Need-returns
 returns c = let s = c .before in (first (s .args .l) (s .args .m) (s .pre .1) (c .if1 .taken), search needs)
 
--- src/lib.rt:111:1
 returns-2 : tie.Need-returns-2
 returns-2 c = let s = c .before in let e = march-start (s .args .l) (s .args .m) (s .pre .0) (c .if1 .left) (s .pre .2) in (omega (arith, e), search needs)
 

@@ -1,17 +1,15 @@
-use mathlib.Core.Path.{_≡_, refl, sym, ap, ap₂, subst, _∙_}
-use Prim.Native.Nat.{ℕ, suc, _+_, _*_, _-_, _/_, _%_, _≤_, _<_}
+use mathlib.Core.Path.{_≡_, refl, sym, ap, _∙_}
+use Prim.Native.Nat.{ℕ, suc, _+_, _-_, _≤_}
 use native.Mathlib.Omega.{arith}
 use borrow.Author.Needs.{needs}
 use native.Mathlib.Numerals.{add-one}
-use lib.ListN.{length, set, length-set}
+use lib.ListN.{length, length-set}
 use Rattle.output.specs.Put.{put}
 use Rattle.output.proofs.Put.{put-nothing}
 use Rattle.calendar.specs.Text.{decimals}
 use Rattle.calendar.proofs.Digits.{put-digit}
 use Rattle.calendar.proofs.put_digits.Statement.{statement}
 use Rattle.calendar.proofs.put_digits.Tie as tie
-use Rattle.calendar.proofs.put_digits.Reads as reads
-use Rattle.calendar.proofs.put_digits.Lts as lts
 
 abbrev Inv-loop : tie.InvT-loop
 Inv-loop at w n t₀ i₀ m₀ t i m = (at + w ≤ 24) × (i ≤ w) × (length t ≡ 24) × (put t at (decimals i m) ≡ put t₀ at (decimals w n))
@@ -19,37 +17,29 @@ Inv-loop at w n t₀ i₀ m₀ t i m = (at + w ≤ 24) × (i ≤ w) × (length t
 abbrev μ-loop : tie.MeasureT-loop
 μ-loop at w n t₀ i₀ m₀ t i m = i
 
--- src/lib.rt:157:5
 loop-holds : tie.Need-loop-holds Inv-loop μ-loop
 loop-holds c = (c .pre, search needs, search needs, refl)
 
--- src/lib.rt:158:9
 sub-i : tie.Need-sub-i Inv-loop μ-loop
 sub-i c = search needs
 
--- src/lib.rt:159:26
 cast-t : tie.Need-cast-t Inv-loop μ-loop
 cast-t c = search needs
 
--- src/lib.rt:159:21
 add-t : tie.Need-add-t Inv-loop μ-loop
 add-t c = search needs
 
--- src/lib.rt:159:11
 add-t-2 : tie.Need-add-t-2 Inv-loop μ-loop
 add-t-2 c = search needs
 
--- src/lib.rt:159:9
 array-write-t : tie.Need-array-write-t Inv-loop μ-loop
 array-write-t c = search needs
 
--- src/lib.rt:157:5
 loop-less : tie.Need-loop-less Inv-loop μ-loop
 loop-less c = search needs
 
--- src/lib.rt:157:5
 loop-again : tie.Need-loop-again Inv-loop μ-loop
-loop-again c = 
+loop-again c =
     let l = c .before .loop in
     let a = c .before .before .args in
     let p : l .i - 1 + 1 ≡ l .i = omega arith in
@@ -57,9 +47,8 @@ loop-again c =
     let d = put-digit (l .t) (a .at) (l .i - 1) (l .m) (omega (arith, l .inv)) in
     (l .inv .0, search needs, length-set (l .t) _ _ ∙ l .inv .2, d ∙ ap (λ (k : ℕ). put (l .t) (a .at) (decimals k (l .m))) q ∙ l .inv .3)
 
--- src/lib.rt:150:1
 returns : tie.Need-returns Inv-loop μ-loop
-returns c = 
+returns c =
     let l = c .before .loop in
     let a = c .before .before .args in
     let e : l .i ≡ 0 = omega arith in

@@ -1,6 +1,6 @@
 use Rattle.calendar.proofs.Reading.{read-as, short, rest, joined}
-use mathlib.Core.Path.{_≡_, refl, sym, ap, ap₂, subst, _∙_}
-use Prim.Native.Nat.{ℕ, suc, _+_, _*_, _-_, _/_, _%_, _≤_, _<_}
+use mathlib.Core.Path.{refl, subst}
+use Prim.Native.Nat.{_-_}
 use native.Mathlib.Omega.{arith}
 use lib.ListN.{take, drop}
 use Rattle.calendar.specs.declared.Time.the-variants.{Is, No}
@@ -9,98 +9,76 @@ use Rattle.calendar.specs.Read.{Answers}
 use borrow.Author.Needs.{needs}
 use Rattle.calendar.proofs.read_time.Statement.{statement}
 use Rattle.calendar.proofs.read_time.Tie as tie
-use Rattle.calendar.proofs.read_time.Reads as reads
-use Rattle.calendar.proofs.read_time.Lts as lts
-use Rattle.calendar.proofs.read_milli.Reads as read-milli-reads
-use Rattle.calendar.proofs.read_second.Reads as read-second-reads
 
--- src/lib.rt:266:9
 returns : tie.Need-returns
 returns c = let s = c .before .before .args .s .now in read-as s No (short s (c .if1 .taken))
 
--- src/lib.rt:268:31
 sub-read-second : tie.Need-sub-read-second
 sub-read-second c = search needs
 
--- src/lib.rt:268:31
 part-read-second-start : tie.Need-part-read-second-start
 part-read-second-start c = search needs
 
--- src/lib.rt:268:31
 part-read-second-end : tie.Need-part-read-second-end
 part-read-second-end c = search needs
 
--- src/lib.rt:268:9
 read-second-requires : tie.Need-read-second-requires
 read-second-requires c κs = search needs
 
--- src/lib.rt:269:29
 sub-read-milli : tie.Need-sub-read-milli
 sub-read-milli c = search needs
 
--- src/lib.rt:269:29
 part-read-milli-start : tie.Need-part-read-milli-start
 part-read-milli-start c = search needs
 
--- src/lib.rt:269:29
 part-read-milli-end : tie.Need-part-read-milli-end
 part-read-milli-end c = search needs
 
--- src/lib.rt:269:9
 read-milli-requires : tie.Need-read-milli-requires
 read-milli-requires c κs = search needs
 
--- src/lib.rt:271:18
 enum-known-seconds : tie.Need-enum-known-seconds
 enum-known-seconds c = search needs
 
--- src/lib.rt:272:22
 enum-known-millis : tie.Need-enum-known-millis
 enum-known-millis c = search needs
 
--- src/lib.rt:272:37
 mul-t16 : tie.Need-mul-t16
-mul-t16 c = 
+mul-t16 c =
     let s = c .before .before .before .before .before .before .before .before .before .before .before .before .args .s .now in
     let p = subst (Answers secondText lastSecond (take 19 s)) (c .before .before .before .before .seconds .given .1) (c .before .before .before .before .before .before .before .before .read-second .ensures) in
     let q = subst (Answers milliText 999 (drop 19 s)) (c .before .millis .given .1) (rest s _ (c .before .before .before .before .before .before .read-milli .ensures)) in
     omega (arith, p .accepted _ refl .0)
 
--- src/lib.rt:272:37
 add-t17 : tie.Need-add-t17
-add-t17 c = 
+add-t17 c =
     let s = c .before .before .before .before .before .before .before .before .before .before .before .before .args .s .now in
     let p = subst (Answers secondText lastSecond (take 19 s)) (c .before .before .before .before .seconds .given .1) (c .before .before .before .before .before .before .before .before .read-second .ensures) in
     let q = subst (Answers milliText 999 (drop 19 s)) (c .before .millis .given .1) (rest s _ (c .before .before .before .before .before .before .read-milli .ensures)) in
     omega (arith, p .accepted _ refl .0, q .accepted _ refl .0)
 
--- src/lib.rt:273:25
 enum-told : tie.Need-enum-told
 enum-told c = search needs
 
--- src/lib.rt:275:21
 enum-told-2 : tie.Need-enum-told-2
 enum-told-2 c = search needs
 
--- src/lib.rt:262:1
 returns-2 : tie.Need-returns-2
-returns-2 c = 
+returns-2 c =
     let s = c .before .before .before .before .before .before .before .before .before .before .before .before .args .s .now in
     let p = subst (Answers secondText lastSecond (take 19 s)) (c .before .before .before .before .seconds .given .1) (c .before .before .before .before .before .before .before .before .read-second .ensures) in
     let q = subst (Answers milliText 999 (drop 19 s)) (c .before .millis .given .1) (rest s _ (c .before .before .before .before .before .before .read-milli .ensures)) in
     read-as s _ (joined s (Is _) (Is _) p q)
 
--- src/lib.rt:262:1
 returns-3 : tie.Need-returns-3
-returns-3 c = 
+returns-3 c =
     let s = c .before .before .before .before .before .before .before .before .before .before .before .args .s .now in
     let p = subst (Answers secondText lastSecond (take 19 s)) (c .before .before .before .seconds .given .1) (c .before .before .before .before .before .before .before .read-second .ensures) in
     let q = subst (Answers milliText 999 (drop 19 s)) (c .enum-told .given .1) (rest s _ (c .before .before .before .before .before .read-milli .ensures)) in
     read-as s No (joined s (Is _) No p q)
 
--- src/lib.rt:262:1
 returns-4 : tie.Need-returns-4
-returns-4 c = 
+returns-4 c =
     let s = c .before .before .before .before .before .before .before .before .args .s .now in
     let p = subst (Answers secondText lastSecond (take 19 s)) (c .enum-told2 .given .1) (c .before .before .before .before .read-second .ensures) in
     read-as s No (joined s No _ p (rest s _ (c .before .before .read-milli .ensures)))

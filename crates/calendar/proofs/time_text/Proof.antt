@@ -3,20 +3,13 @@ use Rattle.calendar.specs.Text.{secondText, milliText, timeText}
 use borrow.Author.Needs.{needs}
 use Rattle.calendar.proofs.time_text.Statement.{statement}
 use Rattle.calendar.proofs.time_text.Tie as tie
-use Rattle.calendar.proofs.time_text.Reads as reads
-use Rattle.calendar.proofs.time_text.Lts as lts
-use Rattle.calendar.proofs.put_digits.Reads as put-digits-reads
-use Rattle.calendar.proofs.second_text.Reads as second-text-reads
 
--- src/lib.rt:189:9
 second-text-requires : tie.Need-second-text-requires
 second-text-requires c κs = search needs
 
--- src/lib.rt:190:5
 put-digits-requires : tie.Need-put-digits-requires
 put-digits-requires c κs = search needs
 
--- src/lib.rt:185:1
 returns : tie.Need-returns
 unfolding put timeText secondText milliText
 returns c = rw (c .put-digits .ensures, c .before .second-text .ensures)

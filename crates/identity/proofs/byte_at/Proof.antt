@@ -1,5 +1,5 @@
-use mathlib.Core.Path.{_≡_, refl, sym, ap, subst, _∙_}
-use Prim.Native.Nat.{ℕ, _+_, _*_, _-_, _/_, _%_, _≤_, _<_}
+use mathlib.Core.Path.{sym, subst}
+use Prim.Native.Nat.{ℕ, _-_, _≤_}
 use native.Mathlib.Omega.{arith}
 use lib.ListN.{List·getD-eq-default}
 use Rattle.identity.specs.Hex.{lowered}
@@ -9,47 +9,35 @@ use Rattle.identity.proofs.Text.{start-below}
 use borrow.Author.Needs.{needs}
 use Rattle.identity.proofs.byte_at.Statement.{statement}
 use Rattle.identity.proofs.byte_at.Tie as tie
-use Rattle.identity.proofs.byte_at.Reads as reads
-use Rattle.identity.proofs.byte_at.Lts as lts
-use Rattle.identity.proofs.value_at.Reads as value-at-reads
 
--- src/lib.rt:140:9
 returns : tie.Need-returns
-returns c = 
+returns c =
     let a = c .before .before .args in
     sym (List·getD-eq-default (bytesOf (lowered (a .s .now))) 0 (subst (λ (n : ℕ). n ≤ a .i) (sym (said-length (lowered (a .s .now)))) (c .if1 .taken)))
 
--- src/lib.rt:142:13
 mul-p : tie.Need-mul-p
 mul-p c = search needs
 
--- src/lib.rt:142:13
 array-read-p : tie.Need-array-read-p
 array-read-p c = search needs
 
--- src/lib.rt:143:5
 value-at-requires : tie.Need-value-at-requires
 value-at-requires c κs = search needs
 
--- src/lib.rt:143:5
 mul-result : tie.Need-mul-result
 mul-result c = search needs
 
--- src/lib.rt:143:39
 add-value-at : tie.Need-add-value-at
 add-value-at c = omega (arith, start-below (c .before .before .before .args .i) (c .before .if1 .left))
 
--- src/lib.rt:143:27
 value-at-requires-2 : tie.Need-value-at-requires-2
 value-at-requires-2 c κs = search needs
 
--- src/lib.rt:143:5
 add-result : tie.Need-add-result
 add-result c = search needs
 
--- src/lib.rt:136:1
 returns-2 : tie.Need-returns-2
-returns-2 c = 
+returns-2 c =
     let a = c .before .before .before .before .args in
     let l = lowered (a .s .now) in
     rw (c .before .value-at .ensures .0, c .value-at2 .ensures .0) (sym (byte-read l (a .i) (c .before .before .if1 .left)))

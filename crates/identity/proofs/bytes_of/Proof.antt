@@ -1,17 +1,14 @@
-use mathlib.Core.Path.{_≡_, refl, sym, ap, subst, _∙_}
-use Prim.Native.Nat.{ℕ, _+_, _*_, _-_, _/_, _%_, _≤_, _<_}
+use mathlib.Core.Path.{_≡_, refl, _∙_}
+use Prim.Native.Nat.{_-_, _≤_}
 use native.Mathlib.Omega.{arith}
 use borrow.Author.Needs.{needs}
-use lib.ListN.{length, take, set, length-set}
+use lib.ListN.{length, take, length-set}
 use Rattle.identity.specs.Hex.{lowered}
 use Rattle.identity.specs.Read.{bytesOf}
 use Rattle.identity.proofs.Read.{said-length}
 use Rattle.identity.proofs.Fill.{filled-more, filled}
 use Rattle.identity.proofs.bytes_of.Statement.{statement}
 use Rattle.identity.proofs.bytes_of.Tie as tie
-use Rattle.identity.proofs.bytes_of.Reads as reads
-use Rattle.identity.proofs.bytes_of.Lts as lts
-use Rattle.identity.proofs.byte_at.Reads as byte-at-reads
 
 abbrev Inv-loop : tie.InvT-loop
 Inv-loop s b₀ i₀ b i = (i ≤ 16) × (length b ≡ 16) × (take i b ≡ take i (bytesOf (lowered s)))
@@ -19,37 +16,30 @@ Inv-loop s b₀ i₀ b i = (i ≤ 16) × (length b ≡ 16) × (take i b ≡ take
 abbrev μ-loop : tie.MeasureT-loop
 μ-loop s b₀ i₀ b i = 16 - i
 
--- src/lib.rt:152:5
 loop-holds : tie.Need-loop-holds Inv-loop μ-loop
 loop-holds c = (search needs, refl, refl)
 
--- src/lib.rt:153:16
 byte-at-requires : tie.Need-byte-at-requires Inv-loop μ-loop
 byte-at-requires c κs = search needs
 
--- src/lib.rt:153:9
 array-write-b : tie.Need-array-write-b Inv-loop μ-loop
 array-write-b c = search needs
 
--- src/lib.rt:154:9
 add-i : tie.Need-add-i Inv-loop μ-loop
 add-i c = search needs
 
--- src/lib.rt:152:5
 loop-less : tie.Need-loop-less Inv-loop μ-loop
 loop-less c = search needs
 
--- src/lib.rt:152:5
 loop-again : tie.Need-loop-again Inv-loop μ-loop
-loop-again c = 
+loop-again c =
     let l = c .before .before .loop in
     let s = lowered (c .before .before .before .before .args .s .now) in
     let m = filled-more (l .b) (bytesOf s) (l .i) (omega (arith, l .inv .1)) (omega (arith, said-length s)) (l .inv .2) in
     (search needs, length-set (l .b) (l .i) _ ∙ l .inv .1, rw (c .byte-at .ensures) m)
 
--- src/lib.rt:147:1
 returns : tie.Need-returns Inv-loop μ-loop
-returns c = 
+returns c =
     let l = c .before .loop in
     let s = lowered (c .before .before .before .args .s .now) in
     filled (l .b) (bytesOf s) (l .i) (omega (arith, l .inv .1)) (omega (arith, said-length s)) (l .inv .2)

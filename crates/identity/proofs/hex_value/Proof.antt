@@ -1,36 +1,28 @@
 use Rattle.basis.proofs.Tests.{tests}
-use Rattle.identity.specs.Hex.{hexDigit, hexValue, lowerHex}
+use Rattle.identity.specs.Hex.{hexValue}
 use borrow.Author.Needs.{needs}
 use Rattle.identity.proofs.hex_value.Statement.{statement}
 use Rattle.identity.proofs.hex_value.Tie as tie
-use Rattle.identity.proofs.hex_value.Reads as reads
-use Rattle.identity.proofs.hex_value.Lts as lts
 
--- src/lib.rt:110:9
 returns : tie.Need-returns
 unfolding hexValue
 returns c = search tests
 
--- src/lib.rt:113:9
 returns-2 : tie.Need-returns-2
 unfolding hexValue
 returns-2 c = search tests
 
--- src/lib.rt:116:9
 returns-3 : tie.Need-returns-3
 unfolding hexValue
 returns-3 c = search tests
 
--- src/lib.rt:119:16
 sub-result : tie.Need-sub-result
 sub-result c = search needs
 
--- src/lib.rt:119:9
 returns-4 : tie.Need-returns-4
 unfolding hexValue
 returns-4 c = search tests
 
--- src/lib.rt:106:1
 returns-5 : tie.Need-returns-5
 unfolding hexValue
 returns-5 c = search tests

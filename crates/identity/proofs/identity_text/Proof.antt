@@ -1,16 +1,13 @@
-use mathlib.Core.Path.{_≡_, refl, sym, ap, subst, _∙_}
-use Prim.Native.Nat.{ℕ, _+_, _*_, _-_, _/_, _%_, _≤_, _<_}
+use mathlib.Core.Path.{_≡_, refl, _∙_}
+use Prim.Native.Nat.{_-_, _≤_}
 use native.Mathlib.Omega.{arith}
 use borrow.Author.Needs.{needs}
-use lib.ListN.{length, take, set, length-set}
+use lib.ListN.{length, take, length-set}
 use Rattle.identity.specs.Text.{identityText}
 use Rattle.identity.proofs.Text.{text-length}
 use Rattle.identity.proofs.Fill.{filled-more, filled}
 use Rattle.identity.proofs.identity_text.Statement.{statement}
 use Rattle.identity.proofs.identity_text.Tie as tie
-use Rattle.identity.proofs.identity_text.Reads as reads
-use Rattle.identity.proofs.identity_text.Lts as lts
-use Rattle.identity.proofs.char_at.Reads as char-at-reads
 
 abbrev Inv-loop : tie.InvT-loop
 Inv-loop id t₀ k₀ t k = (k ≤ 36) × (length t ≡ 36) × (take k t ≡ take k (identityText (id .bytes)))
@@ -18,38 +15,31 @@ Inv-loop id t₀ k₀ t k = (k ≤ 36) × (length t ≡ 36) × (take k t ≡ tak
 abbrev μ-loop : tie.MeasureT-loop
 μ-loop id t₀ k₀ t k = 36 - k
 
--- src/lib.rt:68:5
 loop-holds : tie.Need-loop-holds Inv-loop μ-loop
 loop-holds c = (search needs, refl, refl)
 
--- src/lib.rt:69:16
 char-at-requires : tie.Need-char-at-requires Inv-loop μ-loop
 char-at-requires c κs = search needs
 
--- src/lib.rt:69:9
 array-write-t : tie.Need-array-write-t Inv-loop μ-loop
 array-write-t c = search needs
 
--- src/lib.rt:70:9
 add-k : tie.Need-add-k Inv-loop μ-loop
 add-k c = search needs
 
--- src/lib.rt:68:5
 loop-less : tie.Need-loop-less Inv-loop μ-loop
 loop-less c = search needs
 
--- src/lib.rt:68:5
 loop-again : tie.Need-loop-again Inv-loop μ-loop
-loop-again c = 
+loop-again c =
     let l = c .before .before .loop in
     let b = c .before .before .before .args .id .bytes in
     let h = c .before .loop-test .taken in
     let m = filled-more (l .t) (identityText b) (l .k) (omega (arith, l .inv .1)) (omega (arith, text-length b)) (l .inv .2) in
     (search needs, length-set (l .t) (l .k) _ ∙ l .inv .1, rw (c .char-at .ensures) m)
 
--- src/lib.rt:63:1
 returns : tie.Need-returns Inv-loop μ-loop
-returns c = 
+returns c =
     let l = c .before .loop in
     let b = c .before .before .args .id .bytes in
     filled (l .t) (identityText b) (l .k) (omega (arith, l .inv .1)) (omega (arith, text-length b)) (l .inv .2)

@@ -1,26 +1,20 @@
 use Rattle.basis.proofs.Tests.{tests}
-use Rattle.identity.specs.Hex.{hexDigit, hexValue, lowerHex}
+use Rattle.identity.specs.Hex.{lowerHex}
 use borrow.Author.Needs.{needs}
 use Rattle.identity.proofs.lower_hex.Statement.{statement}
 use Rattle.identity.proofs.lower_hex.Tie as tie
-use Rattle.identity.proofs.lower_hex.Reads as reads
-use Rattle.identity.proofs.lower_hex.Lts as lts
 
--- src/lib.rt:98:9
 returns : tie.Need-returns
 unfolding lowerHex
 returns c = search tests
 
--- src/lib.rt:101:16
 add-result : tie.Need-add-result
 add-result c = search needs
 
--- src/lib.rt:101:9
 returns-2 : tie.Need-returns-2
 unfolding lowerHex
 returns-2 c = search tests
 
--- src/lib.rt:94:1
 returns-3 : tie.Need-returns-3
 unfolding lowerHex
 returns-3 c = search tests

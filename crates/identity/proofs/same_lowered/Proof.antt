@@ -1,17 +1,13 @@
 use borrow.Author.Count.{below-more}
-use mathlib.Core.Path.{_≡_, refl, sym, ap, subst, _∙_}
-use Prim.Native.Nat.{ℕ, _+_, _*_, _-_, _/_, _%_, _≤_, _<_}
+use mathlib.Core.Path.{_≡_, sym, _∙_}
+use Prim.Native.Nat.{ℕ, _-_, _≤_, _<_}
 use native.Mathlib.Omega.{arith}
 use borrow.Author.Needs.{needs}
 use lib.ListN.{length, getD}
-use Rattle.identity.specs.Hex.{lowerHex, lowered}
-use Rattle.basis.specs.Lists.{sameBytes}
+use Rattle.identity.specs.Hex.{lowerHex}
 use Rattle.identity.proofs.Lowered.{lowered-same, lowered-length, lowered-differs}
 use Rattle.identity.proofs.same_lowered.Statement.{statement}
 use Rattle.identity.proofs.same_lowered.Tie as tie
-use Rattle.identity.proofs.same_lowered.Reads as reads
-use Rattle.identity.proofs.same_lowered.Lts as lts
-use Rattle.identity.proofs.lower_hex.Reads as lower-hex-reads
 
 abbrev Inv-loop : tie.InvT-loop
 Inv-loop s t i₀ i = (length s ≡ length t) × (i ≤ length s) × ((k : ℕ) → k < i → lowerHex (getD s k 0) ≡ getD t k 0)
@@ -19,52 +15,42 @@ Inv-loop s t i₀ i = (length s ≡ length t) × (i ≤ length s) × ((k : ℕ) 
 abbrev μ-loop : tie.MeasureT-loop
 μ-loop s t i₀ i = length s - i
 
--- src/lib.rt:164:9
 returns : tie.Need-returns Inv-loop μ-loop
-returns c = 
+returns c =
     let a = c .before .before .before .args in
     lowered-length (a .s .now) (a .t .now) (c .if1 .taken)
 
--- src/lib.rt:167:5
 loop-holds : tie.Need-loop-holds Inv-loop μ-loop
 loop-holds c = (search needs, search needs, λ k h. absurd (omega arith))
 
--- src/lib.rt:168:22
 shared-slice-read-lower-hex : tie.Need-shared-slice-read-lower-hex Inv-loop μ-loop
 shared-slice-read-lower-hex c = search needs
 
--- src/lib.rt:168:12
 lower-hex-requires : tie.Need-lower-hex-requires Inv-loop μ-loop
 lower-hex-requires c κs = search needs
 
--- src/lib.rt:168:31
 shared-slice-read-if2 : tie.Need-shared-slice-read-if2 Inv-loop μ-loop
 shared-slice-read-if2 c = search needs
 
--- src/lib.rt:169:13
 returns-2 : tie.Need-returns-2 Inv-loop μ-loop
-returns-2 c = 
+returns-2 c =
     let l = c .before .before .before .before .before .loop in
     let a = c .before .before .before .before .before .before .before .before .before .args in
     lowered-differs (a .s .now) (a .t .now) (l .i) (c .before .before .before .before .loop-test .taken) (λ e. c .if2 .taken (c .before .before .lower-hex .ensures ∙ e))
 
--- src/lib.rt:171:9
 add-i : tie.Need-add-i Inv-loop μ-loop
 add-i c = search needs
 
--- src/lib.rt:167:5
 loop-less : tie.Need-loop-less Inv-loop μ-loop
 loop-less c = search needs
 
--- src/lib.rt:167:5
 loop-again : tie.Need-loop-again Inv-loop μ-loop
-loop-again c = 
+loop-again c =
     let l = c .before .before .before .before .before .loop in
     (l .inv .0, search needs, below-more _ _ (l .inv .2) (sym (c .before .before .lower-hex .ensures) ∙ c .if2 .left))
 
--- src/lib.rt:160:1
 returns-3 : tie.Need-returns-3 Inv-loop μ-loop
-returns-3 c = 
+returns-3 c =
     let l = c .before .loop in
     let a = c .before .before .before .before .before .args in
     lowered-same (a .s .now) (a .t .now) (l .inv .0) (λ k h. l .inv .2 k (omega arith))
