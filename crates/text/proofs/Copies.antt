@@ -6,17 +6,15 @@ use mathlib.Core.Bool.{Bool, true, false}
 use mathlib.Core.List.{List, [], _∷_, _++_, append-assoc, append-nil}
 use mathlib.Core.Logic.{⊎-elim}
 use native.Mathlib.Omega.{arith}
-use native.Mathlib.Numerals.{add-one}
-use lib.Dec.{ltb, leb}
+use lib.Dec.{ltb}
 use lib.ListN.{length, drop, set, replicate, length-append}
 use lib.Seq.{set-append-seam}
 use borrow.Author.Tests.{lt-ltb, le-ltb, le-leb, lt-leb}
 use Rattle.basis.specs.Pick.{pick, both}
 use Rattle.basis.proofs.Cases.{lt-or-ge}
-use Rattle.text.specs.declared.Char.{Char}
-use Rattle.text.specs.declared.Char.the-variants.{One, Close, Bad}
+use Rattle.character.specs.declared.Char.the-variants.{One, Close, Bad}
 use Rattle.text.specs.declared.Copied.{Copied}
-use Rattle.text.specs.Char.{charOf}
+use Rattle.character.specs.Char.{charOf}
 use Rattle.text.specs.Decoded.{Parsed, push, decoded}
 use Rattle.text.specs.Decoded.Parsed.{ok, none}
 use Rattle.text.specs.Copied.{ascii, noCopy, copied, copyOf}
@@ -129,7 +127,8 @@ fill-all n [] p h g a = simp (append-nil, le-leb _ _ h, le-leb _ _ g, a)
 fill-all n (c ∷ d) p h g a =
     let m = length-append p (c ∷ d) in
     let b = p ++ replicate (36 - length p) 0 in
-    ⊎-elim (λ x. ⊎-elim (λ y. ⊎-elim (λ z. room n b (length p) (ok d []) c x y z ∙ fill-one n c d p (fill-all n d (p ++ (c ∷ []))) a x y z) (λ z. other n b (length p) (ok d []) c x y z ∙ sym (no-ascii n (p ++ c ∷ d) (ascii-next p d c a z))) (lt-or-ge c 128)) (λ y. full n b (length p) (ok d []) c x y ∙ sym (over-36 n (p ++ c ∷ d) (omega arith))) (lt-or-ge (length p) 36)) (λ x. long n b (length p) (ok d []) c x ∙ sym (too-long n (p ++ c ∷ d) (omega arith))) (lt-or-ge (length p) n)
+    ⊎-elim (λ x.
+    ⊎-elim (λ y. ⊎-elim (λ z. room n b (length p) (ok d []) c x y z ∙ fill-one n c d p (fill-all n d (p ++ (c ∷ []))) a x y z) (λ z. other n b (length p) (ok d []) c x y z ∙ sym (no-ascii n (p ++ c ∷ d) (ascii-next p d c a z))) (lt-or-ge c 128)) (λ y. full n b (length p) (ok d []) c x y ∙ sym (over-36 n (p ++ c ∷ d) (omega arith))) (lt-or-ge (length p) 36)) (λ x. long n b (length p) (ok d []) c x ∙ sym (too-long n (p ++ c ∷ d) (omega arith))) (lt-or-ge (length p) n)
 
 pub filled : (n : ℕ) (p : Parsed (List ℕ)) → fillOf n (replicate 36 0) 0 p ≡ copyOf n p
 unfolding ascii

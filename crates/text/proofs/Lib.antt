@@ -1,7 +1,6 @@
--- Laws of the definitions and of lists; theorems about the grammar.
-mod Lists
-mod Laws
-pub mod Sound
+-- Laws of the definitions, and the theorems about the grammar.
 mod Texts
-pub mod Complete
 mod Copies
+pub mod Endings
+pub mod Meaning
+pub mod Kept

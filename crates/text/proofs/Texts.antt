@@ -1,22 +1,22 @@
 -- A text's characters one by one: an equation for each answer of `step`, with no count of calls in it.
+-- Assumes nothing.
 use Prim.Native.Nat.{ℕ, zero, suc, _+_, _-_, _<_, _≤_}
 use mathlib.Core.Path.{_≡_, refl, sym, ap, _∙_}
-use mathlib.Core.Bool.{Bool, true, false}
+use mathlib.Core.Bool.{true, false}
 use mathlib.Core.List.{List, [], _∷_}
 use native.Mathlib.Omega.{arith}
-use lib.Dec.{ltb, leb, eqb, eqb·zero-suc, eqb·suc-suc}
+use lib.Dec.{eqb, eqb·zero-suc, eqb·suc-suc}
 use lib.ListN.{length, getD, drop, length-drop}
-use lib.Seq.{drop-drop, drop-cons}
-use borrow.Author.Tests.{lt-ltb, le-ltb, ltb-true, eq-eqb, ne-eqb}
-use Rattle.text.proofs.Lists.{next, past}
-use Rattle.text.proofs.Sound.{Says, char-says}
-use Rattle.text.specs.declared.Char.{Char}
-use Rattle.text.specs.declared.Char.the-variants.{One, Close, Bad}
+use lib.Seq.{drop-drop}
+use borrow.Author.Tests.{eq-eqb, ne-eqb}
+use Rattle.character.proofs.Lists.{next, past}
+use Rattle.character.proofs.Sound.{Says, char-says}
+use Rattle.character.specs.declared.Char.{Char}
+use Rattle.character.specs.declared.Char.the-variants.{One, Close, Bad}
 use Rattle.text.specs.declared.Read.{Read}
 use Rattle.text.specs.declared.Read.the-variants as Read
-use Rattle.basis.specs.Pick.{pick}
-use Rattle.text.specs.Char.{charOf, rawOf}
-use Rattle.text.specs.Decoded.{Parsed, push, byChar, readChars, decoded, eqList, isText, sameText}
+use Rattle.character.specs.Char.{charOf}
+use Rattle.text.specs.Decoded.{Parsed, push, byChar, readChars, decoded, isText, sameText}
 use Rattle.text.specs.Decoded.Parsed.{ok, none}
 use Rattle.text.specs.Ends.{Ends}
 use Rattle.text.specs.Ends.Ends.{ends, fails}
@@ -71,15 +71,7 @@ unroll t = enough (length t) (suc (length t)) t (omega arith) (omega arith) ∙ 
     go Close k = refl
     go Bad k = refl
 
--- there is no character in no bytes
-no-byte : Bad ≡ charOf []
-unfolding charOf rawOf
-no-byte = refl
-
 module _ (s : List ℕ) (i : ℕ) where
-  pub step-past : length s ≤ i → Bad ≡ charOf (drop i s)
-  step-past h = rw (past s i h) no-byte
-
   -- a character at i, and the text after it
   pub one : (c w : ℕ) → One c w ≡ charOf (drop i s) → decoded (drop i s) ≡ push c (decoded (drop (i + (1 + w)) s))
   one c w e = unroll (drop i s) ∙ rw (← e, drop-drop)

@@ -1,14 +1,13 @@
 -- A string's characters, up to the closing quotation mark, as a list of code points; and two comparisons of them.
 -- Assumes nothing.
 use Prim.Native.Nat.{ℕ, zero, suc, _+_}
-use mathlib.Core.Bool.{Bool, true, false}
+use mathlib.Core.Bool.{Bool, false}
 use mathlib.Core.List.{List, [], _∷_}
 use lib.ListN.{length, drop}
-use lib.Dec.{eqb}
-use Rattle.basis.specs.Pick.{pick}
-use Rattle.text.specs.Char.{charOf}
-use Rattle.text.specs.declared.Char.{Char}
-use Rattle.text.specs.declared.Char.the-variants.{One, Close, Bad}
+use Rattle.basis.specs.Lists.{sameBytes}
+use Rattle.character.specs.Char.{charOf}
+use Rattle.character.specs.declared.Char.{Char}
+use Rattle.character.specs.declared.Char.the-variants.{One, Close, Bad}
 
 -- what was read, and what follows it; or nothing
 pub data Parsed (A : Type 0) : Type 0 where
@@ -33,17 +32,12 @@ readChars (suc n) t = byChar (λ u. readChars n u) (charOf t) t
 unfoldable pub decoded : List ℕ → Parsed (List ℕ)
 decoded t = readChars (length t) t
 
-abbrev pub eqList : List ℕ → List ℕ → Bool
-eqList [] [] = true
-eqList [] (y ∷ ys) = false
-eqList (x ∷ xs) [] = false
-eqList (x ∷ xs) (y ∷ ys) = pick (eqb x y) (eqList xs ys) false
-
--- a text is read, and is n
+-- a string is read, and its code points are the numbers n: a name of ASCII is given by its bytes
 abbrev pub isText : Parsed (List ℕ) → List ℕ → Bool
-isText (ok d r) n = eqList d n
+isText (ok d r) n = sameBytes d n
 isText none n = false
 
+-- two strings are read, and have the same code points
 abbrev pub sameText : Parsed (List ℕ) → Parsed (List ℕ) → Bool
 sameText (ok d r) q = isText q d
 sameText none q = false

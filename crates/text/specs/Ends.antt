@@ -1,4 +1,6 @@
--- What the code's answers say: where a reading ends in a slice s.
+-- What the code's answers say of a reading that begins at a place of a slice s: `End e`, and e is where what follows begins; or `Bad`.
+-- One reading has one answer: `answered` of Claims.antt.
+-- Assumes nothing.
 use Prim.Native.Nat.{ℕ, _≤_}
 use mathlib.Core.List.{List}
 use lib.ListN.{length, drop}

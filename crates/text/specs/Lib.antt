@@ -1,6 +1,5 @@
-pub mod Utf8
 pub mod Grammar
-pub mod Char
 pub mod Decoded
 pub mod Ends
 pub mod Copied
+pub mod Claims

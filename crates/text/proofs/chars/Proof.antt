@@ -1,3 +1,5 @@
+-- `text::chars` meets its contract.
+-- Assumes nothing.
 use Prim.Native.Nat.{_≤_, _-_, _+_}
 use mathlib.Core.Path.{_∙_, sym}
 use native.Mathlib.Omega.{arith}
@@ -12,9 +14,6 @@ use Rattle.text.specs.Decoded.{decoded}
 use Rattle.text.proofs.Texts.{one, one-in, close, close-in, no-char, pushed}
 use Rattle.text.proofs.chars.Statement.{statement}
 use Rattle.text.proofs.chars.Tie as tie
-use Rattle.text.proofs.chars.Reads as reads
-use Rattle.text.proofs.chars.Lts as lts
-use Rattle.text.proofs.step.Reads as step-reads
 
 abbrev Inv-loop : tie.InvT-loop
 Inv-loop s at i₀ i = (at ≤ i) × ((r : Read) → Ends s i (decoded (drop i s)) r → Ends s at (decoded (drop at s)) r)
@@ -22,19 +21,15 @@ Inv-loop s at i₀ i = (at ≤ i) × ((r : Read) → Ends s i (decoded (drop i s
 abbrev μ-loop : tie.MeasureT-loop
 μ-loop s at i₀ i = length s - i
 
--- src/lib.rt:222:5
 loop-holds : tie.Need-loop-holds Inv-loop μ-loop
 loop-holds c = (omega arith, λ r x. x)
 
--- src/lib.rt:223:13
 step-requires : tie.Need-step-requires Inv-loop μ-loop
 step-requires c κs = search needs
 
--- src/lib.rt:225:26
 enum-known-c : tie.Need-enum-known-c Inv-loop μ-loop
 enum-known-c c = search needs
 
--- src/lib.rt:225:37
 add-i : tie.Need-add-i Inv-loop μ-loop
 add-i c =
     let l = c .before .before .before .before in
@@ -42,7 +37,6 @@ add-i c =
     let e = sym (c .before .c .given .1) ∙ c .before .before .before .step .ensures in
     omega (arith, one-in s (l .loop .i) _ _ e)
 
--- src/lib.rt:225:32
 add-i-2 : tie.Need-add-i-2 Inv-loop μ-loop
 add-i-2 c =
     let l = c .before .before .before .before in
@@ -50,7 +44,6 @@ add-i-2 c =
     let e = sym (c .before .c .given .1) ∙ c .before .before .before .step .ensures in
     omega (arith, one-in s (l .loop .i) _ _ e)
 
--- src/lib.rt:222:5
 loop-less : tie.Need-loop-less Inv-loop μ-loop
 loop-less c =
     let l = c .before .before .before .before in
@@ -58,7 +51,6 @@ loop-less c =
     let e = sym (c .before .c .given .1) ∙ c .before .before .before .step .ensures in
     omega (arith, one-in s (l .loop .i) _ _ e)
 
--- src/lib.rt:222:5
 loop-again : tie.Need-loop-again Inv-loop μ-loop
 loop-again c =
     let l = c .before .before .before .before in
@@ -66,11 +58,9 @@ loop-again c =
     let e = sym (c .before .c .given .1) ∙ c .before .before .before .step .ensures in
     (omega (arith, one-in s (l .loop .i) _ _ e), λ r x. l .loop .inv .1 r (rw (one s (l .loop .i) _ _ e) (pushed _ (omega arith) x)))
 
--- src/lib.rt:226:45
 enum-told : tie.Need-enum-told Inv-loop μ-loop
 enum-told c = search needs
 
--- src/lib.rt:226:45
 add-t7 : tie.Need-add-t7 Inv-loop μ-loop
 add-t7 c =
     let l = c .before .before .before in
@@ -78,7 +68,6 @@ add-t7 c =
     let e = sym (c .enum-told .given .1) ∙ c .before .before .step .ensures in
     omega (arith, close-in s (l .loop .i) e)
 
--- src/lib.rt:226:28
 returns : tie.Need-returns Inv-loop μ-loop
 returns c =
     let l = c .before .before .before in
@@ -86,11 +75,9 @@ returns c =
     let e = sym (c .enum-told .given .1) ∙ c .before .before .step .ensures in
     l .loop .inv .1 _ (rw (close s (l .loop .i) e) (ends (l .loop .i + 1) (omega arith) (omega (arith, close-in s (l .loop .i) e))))
 
--- src/lib.rt:227:26
 enum-told-2 : tie.Need-enum-told-2 Inv-loop μ-loop
 enum-told-2 c = search needs
 
--- src/lib.rt:227:26
 returns-2 : tie.Need-returns-2 Inv-loop μ-loop
 returns-2 c =
     let l = c .before .before .before in

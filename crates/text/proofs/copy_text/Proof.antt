@@ -1,3 +1,5 @@
+-- `text::copy_text` meets its contract.
+-- Assumes nothing.
 use Prim.Native.Nat.{_-_}
 use mathlib.Core.Path.{_≡_, refl, _∙_, sym}
 use native.Mathlib.Omega.{arith}
@@ -9,10 +11,6 @@ use Rattle.text.proofs.Texts.{one-in}
 use Rattle.text.proofs.Copies.{fillOf, filled, copy-one, copy-long, copy-full, copy-other, copy-close, copy-bad}
 use Rattle.text.proofs.copy_text.Statement.{statement}
 use Rattle.text.proofs.copy_text.Tie as tie
-use Rattle.text.proofs.copy_text.Reads as reads
-use Rattle.text.proofs.copy_text.Lts as lts
-use Rattle.text.proofs.no_copy.Reads as no-copy-reads
-use Rattle.text.proofs.step.Reads as step-reads
 
 abbrev Inv-loop : tie.InvT-loop
 Inv-loop s at most bytes₀ k₀ i₀ bytes k i = fillOf most bytes k (decoded (drop i s)) ≡ fillOf most (replicate 36 0) 0 (decoded (drop at s))
@@ -20,23 +18,18 @@ Inv-loop s at most bytes₀ k₀ i₀ bytes k i = fillOf most bytes k (decoded (
 abbrev μ-loop : tie.MeasureT-loop
 μ-loop s at most bytes₀ k₀ i₀ bytes k i = length s - i
 
--- src/lib.rt:345:5
 loop-holds : tie.Need-loop-holds Inv-loop μ-loop
 loop-holds c = refl
 
--- src/lib.rt:346:13
 step-requires : tie.Need-step-requires Inv-loop μ-loop
 step-requires c κs = search needs
 
--- src/lib.rt:348:23
 enum-known-c : tie.Need-enum-known-c Inv-loop μ-loop
 enum-known-c c = search needs
 
--- src/lib.rt:350:21
 no-copy-requires : tie.Need-no-copy-requires Inv-loop μ-loop
 no-copy-requires c κs = search needs
 
--- src/lib.rt:350:21
 returns : tie.Need-returns Inv-loop μ-loop
 returns c =
     let l = c .before .before .before .before .before .before in
@@ -46,11 +39,9 @@ returns c =
     let e = sym (c .before .before .before .c .given .1) ∙ c .before .before .before .before .before .step .ensures in
     c .no-copy .ensures ∙ copy-long (a .most) (v .bytes) (v .k) s (v .i) _ _ e (c .before .if1 .taken) ∙ v .inv ∙ filled (a .most) (decoded (drop (a .at) s))
 
--- src/lib.rt:353:21
 no-copy-requires-2 : tie.Need-no-copy-requires-2 Inv-loop μ-loop
 no-copy-requires-2 c κs = search needs
 
--- src/lib.rt:353:21
 returns-2 : tie.Need-returns-2 Inv-loop μ-loop
 returns-2 c =
     let l = c .before .before .before .before .before .before .before in
@@ -60,11 +51,9 @@ returns-2 c =
     let e = sym (c .before .before .before .before .c .given .1) ∙ c .before .before .before .before .before .before .step .ensures in
     c .no-copy2 .ensures ∙ copy-full (a .most) (v .bytes) (v .k) s (v .i) _ _ e (c .before .before .if1 .left) (c .before .if2 .taken) ∙ v .inv ∙ filled (a .most) (decoded (drop (a .at) s))
 
--- src/lib.rt:356:21
 no-copy-requires-3 : tie.Need-no-copy-requires-3 Inv-loop μ-loop
 no-copy-requires-3 c κs = search needs
 
--- src/lib.rt:356:21
 returns-3 : tie.Need-returns-3 Inv-loop μ-loop
 returns-3 c =
     let l = c .before .before .before .before .before .before .before .before in
@@ -74,19 +63,15 @@ returns-3 c =
     let e = sym (c .before .before .before .before .before .c .given .1) ∙ c .before .before .before .before .before .before .before .step .ensures in
     c .no-copy3 .ensures ∙ copy-other (a .most) (v .bytes) (v .k) s (v .i) _ _ e (c .before .before .before .if1 .left) (c .before .before .if2 .left) (c .before .if3 .taken) ∙ v .inv ∙ filled (a .most) (decoded (drop (a .at) s))
 
--- src/lib.rt:358:28
 cast-bytes : tie.Need-cast-bytes Inv-loop μ-loop
 cast-bytes c = search needs
 
--- src/lib.rt:358:17
 array-write-bytes : tie.Need-array-write-bytes Inv-loop μ-loop
 array-write-bytes c = search needs
 
--- src/lib.rt:359:17
 add-k : tie.Need-add-k Inv-loop μ-loop
 add-k c = search needs
 
--- src/lib.rt:360:22
 add-i : tie.Need-add-i Inv-loop μ-loop
 add-i c =
     let l = c .before .before .before .before .before .before .before in
@@ -96,7 +81,6 @@ add-i c =
     let e = sym (c .before .before .before .before .c .given .1) ∙ c .before .before .before .before .before .before .step .ensures in
     omega (arith, one-in s (v .i) _ _ e)
 
--- src/lib.rt:360:17
 add-i-2 : tie.Need-add-i-2 Inv-loop μ-loop
 add-i-2 c =
     let l = c .before .before .before .before .before .before .before in
@@ -106,7 +90,6 @@ add-i-2 c =
     let e = sym (c .before .before .before .before .c .given .1) ∙ c .before .before .before .before .before .before .step .ensures in
     omega (arith, one-in s (v .i) _ _ e)
 
--- src/lib.rt:345:5
 loop-less : tie.Need-loop-less Inv-loop μ-loop
 loop-less c =
     let l = c .before .before .before .before .before .before .before in
@@ -116,7 +99,6 @@ loop-less c =
     let e = sym (c .before .before .before .before .c .given .1) ∙ c .before .before .before .before .before .before .step .ensures in
     omega (arith, one-in s (v .i) _ _ e)
 
--- src/lib.rt:345:5
 loop-again : tie.Need-loop-again Inv-loop μ-loop
 loop-again c =
     let l = c .before .before .before .before .before .before .before in
@@ -126,11 +108,9 @@ loop-again c =
     let e = sym (c .before .before .before .before .c .given .1) ∙ c .before .before .before .before .before .before .step .ensures in
     copy-one (a .most) (v .bytes) (v .k) s (v .i) _ _ e (c .before .before .if1 .left) (c .before .if2 .left) (c .if3 .left) ∙ v .inv
 
--- src/lib.rt:362:55
 enum-told : tie.Need-enum-told Inv-loop μ-loop
 enum-told c = search needs
 
--- src/lib.rt:362:28
 returns-4 : tie.Need-returns-4 Inv-loop μ-loop
 returns-4 c =
     let l = c .before .before .before in
@@ -140,15 +120,12 @@ returns-4 c =
     let e = sym (c .enum-told .given .1) ∙ c .before .before .step .ensures in
     sym (copy-close (a .most) (v .bytes) (v .k) s (v .i) e) ∙ v .inv ∙ filled (a .most) (decoded (drop (a .at) s))
 
--- src/lib.rt:363:26
 enum-told-2 : tie.Need-enum-told-2 Inv-loop μ-loop
 enum-told-2 c = search needs
 
--- src/lib.rt:363:26
 no-copy-requires-4 : tie.Need-no-copy-requires-4 Inv-loop μ-loop
 no-copy-requires-4 c κs = search needs
 
--- src/lib.rt:363:26
 returns-5 : tie.Need-returns-5 Inv-loop μ-loop
 returns-5 c =
     let l = c .before .before .before .before in

@@ -1,19 +1,15 @@
+-- `text::is_name` meets its contract.
+-- Assumes nothing.
 use Prim.Native.Nat.{_≤_, _-_}
 use mathlib.Core.Path.{_≡_, refl, _∙_, sym}
 use native.Mathlib.Omega.{arith}
 use borrow.Author.Needs.{needs}
 use lib.ListN.{length, drop}
 use denote.Ref.{now}
-use Rattle.text.specs.declared.Read.{Read}
-use Rattle.text.specs.declared.Read.the-variants as Read
-use Rattle.text.specs.Ends.{Ends}
 use Rattle.text.specs.Decoded.{decoded, isText}
 use Rattle.text.proofs.Texts.{one-in, close, name-same, name-other, name-long, name-close, name-bad}
 use Rattle.text.proofs.is_name.Statement.{statement}
 use Rattle.text.proofs.is_name.Tie as tie
-use Rattle.text.proofs.is_name.Reads as reads
-use Rattle.text.proofs.is_name.Lts as lts
-use Rattle.text.proofs.step.Reads as step-reads
 
 abbrev Inv-loop : tie.InvT-loop
 Inv-loop s at name i₀ k₀ i k = (k ≤ length name) × (isText (decoded (drop i s)) (drop k name) ≡ isText (decoded (drop at s)) name)
@@ -21,19 +17,15 @@ Inv-loop s at name i₀ k₀ i k = (k ≤ length name) × (isText (decoded (drop
 abbrev μ-loop : tie.MeasureT-loop
 μ-loop s at name i₀ k₀ i k = length s - i
 
--- src/lib.rt:239:5
 loop-holds : tie.Need-loop-holds Inv-loop μ-loop
 loop-holds c = (omega arith, refl)
 
--- src/lib.rt:240:13
 step-requires : tie.Need-step-requires Inv-loop μ-loop
 step-requires c κs = search needs
 
--- src/lib.rt:242:23
 enum-known-c : tie.Need-enum-known-c Inv-loop μ-loop
 enum-known-c c = search needs
 
--- src/lib.rt:244:21
 returns : tie.Need-returns Inv-loop μ-loop
 returns c =
     let l = c .before .before .before .before .before in
@@ -43,15 +35,12 @@ returns c =
     let v = l .loop .inv in
     name-long s (l .loop .i) name (l .loop .k) _ _ e (c .if1 .taken) ∙ v .1
 
--- src/lib.rt:246:25
 shared-slice-read-if2 : tie.Need-shared-slice-read-if2 Inv-loop μ-loop
 shared-slice-read-if2 c = omega arith
 
--- src/lib.rt:246:25
 cast-if2 : tie.Need-cast-if2 Inv-loop μ-loop
 cast-if2 c = omega (arith, c .shared-slice-known3 .given (c .before .before .before .before .before .before .loop .k))
 
--- src/lib.rt:247:21
 returns-2 : tie.Need-returns-2 Inv-loop μ-loop
 returns-2 c =
     let l = c .before .before .before .before .before .before .before in
@@ -61,7 +50,6 @@ returns-2 c =
     let v = l .loop .inv in
     name-other s (l .loop .i) name (l .loop .k) _ _ e (c .before .before .if1 .left) (c .if2 .taken) ∙ v .1
 
--- src/lib.rt:249:22
 add-i : tie.Need-add-i Inv-loop μ-loop
 add-i c =
     let l = c .before .before .before .before .before .before .before in
@@ -71,7 +59,6 @@ add-i c =
     let v = l .loop .inv in
     omega (arith, one-in s (l .loop .i) _ _ e)
 
--- src/lib.rt:249:17
 add-i-2 : tie.Need-add-i-2 Inv-loop μ-loop
 add-i-2 c =
     let l = c .before .before .before .before .before .before .before in
@@ -81,11 +68,9 @@ add-i-2 c =
     let v = l .loop .inv in
     omega (arith, one-in s (l .loop .i) _ _ e)
 
--- src/lib.rt:250:17
 add-k : tie.Need-add-k Inv-loop μ-loop
 add-k c = omega arith
 
--- src/lib.rt:239:5
 loop-less : tie.Need-loop-less Inv-loop μ-loop
 loop-less c =
     let l = c .before .before .before .before .before .before .before in
@@ -95,7 +80,6 @@ loop-less c =
     let v = l .loop .inv in
     omega (arith, one-in s (l .loop .i) _ _ e)
 
--- src/lib.rt:239:5
 loop-again : tie.Need-loop-again Inv-loop μ-loop
 loop-again c =
     let l = c .before .before .before .before .before .before .before in
@@ -105,11 +89,9 @@ loop-again c =
     let v = l .loop .inv in
     (omega arith, name-same s (l .loop .i) name (l .loop .k) _ _ e (c .before .before .if1 .left) (c .if2 .left) ∙ v .1)
 
--- src/lib.rt:252:40
 enum-told : tie.Need-enum-told Inv-loop μ-loop
 enum-told c = search needs
 
--- src/lib.rt:252:28
 returns-3 : tie.Need-returns-3 Inv-loop μ-loop
 returns-3 c =
     let l = c .before .before .before in
@@ -119,11 +101,9 @@ returns-3 c =
     let v = l .loop .inv in
     name-close s (l .loop .i) name (l .loop .k) e (v .0) ∙ v .1
 
--- src/lib.rt:253:26
 enum-told-2 : tie.Need-enum-told-2 Inv-loop μ-loop
 enum-told-2 c = search needs
 
--- src/lib.rt:253:26
 returns-4 : tie.Need-returns-4 Inv-loop μ-loop
 returns-4 c =
     let l = c .before .before .before in

@@ -1,3 +1,5 @@
+-- `text::no_copy` meets its contract.
+-- Assumes nothing.
 use mathlib.Core.Path.{refl}
 use Rattle.text.specs.Copied.{noCopy}
 use Rattle.text.proofs.no_copy.Statement.{statement}

@@ -1,19 +1,15 @@
+-- `text::same` meets its contract.
+-- Assumes nothing.
 use Prim.Native.Nat.{_-_}
 use mathlib.Core.Path.{_≡_, refl, _∙_, sym}
 use native.Mathlib.Omega.{arith}
 use borrow.Author.Needs.{needs}
 use lib.ListN.{length, drop}
 use denote.Ref.{now}
-use Rattle.text.specs.declared.Read.{Read}
-use Rattle.text.specs.declared.Read.the-variants as Read
-use Rattle.text.specs.Ends.{Ends}
 use Rattle.text.specs.Decoded.{decoded, sameText}
 use Rattle.text.proofs.Texts.{one-in, close, same-both, same-differ, same-longer, same-shorter, same-done, same-bad-1, same-bad-2}
 use Rattle.text.proofs.same.Statement.{statement}
 use Rattle.text.proofs.same.Tie as tie
-use Rattle.text.proofs.same.Reads as reads
-use Rattle.text.proofs.same.Lts as lts
-use Rattle.text.proofs.step.Reads as step-reads
 
 abbrev Inv-loop : tie.InvT-loop
 Inv-loop s p q i₀ j₀ i j = (sameText (decoded (drop i s)) (decoded (drop j s)) ≡ sameText (decoded (drop p s)) (decoded (drop q s)))
@@ -21,27 +17,21 @@ Inv-loop s p q i₀ j₀ i j = (sameText (decoded (drop i s)) (decoded (drop j s
 abbrev μ-loop : tie.MeasureT-loop
 μ-loop s p q i₀ j₀ i j = length s - i
 
--- src/lib.rt:265:5
 loop-holds : tie.Need-loop-holds Inv-loop μ-loop
 loop-holds c = refl
 
--- src/lib.rt:266:13
 step-requires : tie.Need-step-requires Inv-loop μ-loop
 step-requires c κs = search needs
 
--- src/lib.rt:267:13
 step-requires-2 : tie.Need-step-requires-2 Inv-loop μ-loop
 step-requires-2 c κs = search needs
 
--- src/lib.rt:269:23
 enum-known-c : tie.Need-enum-known-c Inv-loop μ-loop
 enum-known-c c = search needs
 
--- src/lib.rt:270:27
 enum-known-d : tie.Need-enum-known-d Inv-loop μ-loop
 enum-known-d c = search needs
 
--- src/lib.rt:272:25
 returns : tie.Need-returns Inv-loop μ-loop
 returns c =
     let l = c .before .before .before .before .before .before .before .before .before in
@@ -51,7 +41,6 @@ returns c =
     let v = l .loop .inv in
     same-differ s (l .loop .i) (l .loop .j) _ _ _ _ e f (c .if1 .taken) ∙ v
 
--- src/lib.rt:274:26
 add-i : tie.Need-add-i Inv-loop μ-loop
 add-i c =
     let l = c .before .before .before .before .before .before .before .before .before in
@@ -61,7 +50,6 @@ add-i c =
     let v = l .loop .inv in
     omega (arith, one-in s (l .loop .i) _ _ e)
 
--- src/lib.rt:274:21
 add-i-2 : tie.Need-add-i-2 Inv-loop μ-loop
 add-i-2 c =
     let l = c .before .before .before .before .before .before .before .before .before in
@@ -71,7 +59,6 @@ add-i-2 c =
     let v = l .loop .inv in
     omega (arith, one-in s (l .loop .i) _ _ e)
 
--- src/lib.rt:275:26
 add-j : tie.Need-add-j Inv-loop μ-loop
 add-j c =
     let l = c .before .before .before .before .before .before .before .before .before in
@@ -81,7 +68,6 @@ add-j c =
     let v = l .loop .inv in
     omega (arith, one-in s (l .loop .j) _ _ f)
 
--- src/lib.rt:275:21
 add-j-2 : tie.Need-add-j-2 Inv-loop μ-loop
 add-j-2 c =
     let l = c .before .before .before .before .before .before .before .before .before in
@@ -91,7 +77,6 @@ add-j-2 c =
     let v = l .loop .inv in
     omega (arith, one-in s (l .loop .j) _ _ f)
 
--- src/lib.rt:265:5
 loop-less : tie.Need-loop-less Inv-loop μ-loop
 loop-less c =
     let l = c .before .before .before .before .before .before .before .before .before in
@@ -101,7 +86,6 @@ loop-less c =
     let v = l .loop .inv in
     omega (arith, one-in s (l .loop .i) _ _ e)
 
--- src/lib.rt:265:5
 loop-again : tie.Need-loop-again Inv-loop μ-loop
 loop-again c =
     let l = c .before .before .before .before .before .before .before .before .before in
@@ -111,11 +95,9 @@ loop-again c =
     let v = l .loop .inv in
     same-both s (l .loop .i) (l .loop .j) _ _ _ _ e f (c .if1 .left) ∙ v
 
--- src/lib.rt:277:32
 enum-told : tie.Need-enum-told Inv-loop μ-loop
 enum-told c = search needs
 
--- src/lib.rt:277:32
 returns-2 : tie.Need-returns-2 Inv-loop μ-loop
 returns-2 c =
     let l = c .before .before .before .before .before .before .before in
@@ -125,11 +107,9 @@ returns-2 c =
     let v = l .loop .inv in
     same-longer s (l .loop .i) (l .loop .j) _ _ e f ∙ v
 
--- src/lib.rt:278:30
 enum-told-2 : tie.Need-enum-told-2 Inv-loop μ-loop
 enum-told-2 c = search needs
 
--- src/lib.rt:278:30
 returns-3 : tie.Need-returns-3 Inv-loop μ-loop
 returns-3 c =
     let l = c .before .before .before .before .before .before .before in
@@ -139,15 +119,12 @@ returns-3 c =
     let v = l .loop .inv in
     same-bad-2 s (l .loop .i) (l .loop .j) f ∙ v
 
--- src/lib.rt:280:28
 enum-told-3 : tie.Need-enum-told-3 Inv-loop μ-loop
 enum-told-3 c = search needs
 
--- src/lib.rt:281:36
 enum-told-4 : tie.Need-enum-told-4 Inv-loop μ-loop
 enum-told-4 c = search needs
 
--- src/lib.rt:281:36
 returns-4 : tie.Need-returns-4 Inv-loop μ-loop
 returns-4 c =
     let l = c .before .before .before .before .before .before in
@@ -157,11 +134,9 @@ returns-4 c =
     let v = l .loop .inv in
     same-shorter s (l .loop .i) (l .loop .j) _ _ e f ∙ v
 
--- src/lib.rt:282:32
 enum-told-5 : tie.Need-enum-told-5 Inv-loop μ-loop
 enum-told-5 c = search needs
 
--- src/lib.rt:282:32
 returns-5 : tie.Need-returns-5 Inv-loop μ-loop
 returns-5 c =
     let l = c .before .before .before .before .before .before in
@@ -171,11 +146,9 @@ returns-5 c =
     let v = l .loop .inv in
     same-done s (l .loop .i) (l .loop .j) e f ∙ v
 
--- src/lib.rt:283:30
 enum-told-6 : tie.Need-enum-told-6 Inv-loop μ-loop
 enum-told-6 c = search needs
 
--- src/lib.rt:283:30
 returns-6 : tie.Need-returns-6 Inv-loop μ-loop
 returns-6 c =
     let l = c .before .before .before .before .before .before in
@@ -185,11 +158,9 @@ returns-6 c =
     let v = l .loop .inv in
     same-bad-2 s (l .loop .i) (l .loop .j) f ∙ v
 
--- src/lib.rt:285:26
 enum-told-7 : tie.Need-enum-told-7 Inv-loop μ-loop
 enum-told-7 c = search needs
 
--- src/lib.rt:285:26
 returns-7 : tie.Need-returns-7 Inv-loop μ-loop
 returns-7 c =
     let l = c .before .before .before .before in
