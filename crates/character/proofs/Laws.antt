@@ -1,0 +1,57 @@
+-- Four digits, and the character at a place of a slice.
+-- Assumes nothing.
+use Prim.Native.Nat.{ℕ, _+_, _-_, _*_, _<_, _≤_}
+use mathlib.Core.Path.{_≡_, ap, _∙_}
+use mathlib.Core.List.{List}
+use native.Mathlib.Nat.{add-zero, add-assoc}
+use lib.ListN.{length, getD, drop}
+use lib.Seq.{getD-drop}
+use borrow.Author.Tests.{lt-ltb, le-ltb, ne-eqb}
+use Rattle.character.proofs.Lists.{past}
+use Rattle.character.specs.declared.Char.the-variants.{Close, Bad}
+use Rattle.character.specs.Char.{hexOf, hex4Of, hex4At, escapeOf, unicodeOf, rawOf, charOf}
+
+module _ (a b c d : ℕ) where
+  pub digits : hexOf a < 16 → hexOf b < 16 → hexOf c < 16 → hexOf d < 16 → hex4Of a b c d ≡ hexOf a * 4096 + hexOf b * 256 + hexOf c * 16 + hexOf d
+  unfolding hex4Of
+  digits x y z w = simp (lt-ltb _ _ x, lt-ltb _ _ y, lt-ltb _ _ z, lt-ltb _ _ w)
+
+  pub no-digit-1 : 16 ≤ hexOf a → hex4Of a b c d ≡ 0x10000
+  unfolding hex4Of
+  no-digit-1 x = simp (le-ltb _ _ x)
+
+  pub no-digit-2 : hexOf a < 16 → 16 ≤ hexOf b → hex4Of a b c d ≡ 0x10000
+  unfolding hex4Of
+  no-digit-2 x y = simp (lt-ltb _ _ x, le-ltb _ _ y)
+
+  pub no-digit-3 : hexOf a < 16 → hexOf b < 16 → 16 ≤ hexOf c → hex4Of a b c d ≡ 0x10000
+  unfolding hex4Of
+  no-digit-3 x y z = simp (lt-ltb _ _ x, lt-ltb _ _ y, le-ltb _ _ z)
+
+  pub no-digit-4 : hexOf a < 16 → hexOf b < 16 → hexOf c < 16 → 16 ≤ hexOf d → hex4Of a b c d ≡ 0x10000
+  unfolding hex4Of
+  no-digit-4 x y z w = simp (lt-ltb _ _ x, lt-ltb _ _ y, lt-ltb _ _ z, le-ltb _ _ w)
+
+module _ (s : List ℕ) (at : ℕ) where
+  first : getD (drop at s) 0 0 ≡ getD s at 0
+  first = getD-drop at s 0 0 ∙ ap (λ (k : ℕ). getD s k 0) (add-zero at)
+
+  pub at-end : length s ≤ at → Bad ≡ charOf (drop at s)
+  unfolding charOf rawOf
+  at-end h = rw (past s at h)
+
+  pub at-close : getD s at 0 ≡ 0x22 → charOf (drop at s) ≡ Close
+  unfolding charOf
+  at-close e = rw (first, e)
+
+  pub at-unicode : getD s at 0 ≡ 0x5c → getD s (at + 1) 0 ≡ 0x75 → charOf (drop at s) ≡ unicodeOf (hex4At s (at + 2)) (getD s (at + 6) 0) (getD s (at + 7) 0) (hex4At s (at + 8))
+  unfolding charOf
+  at-unicode e f = rw (first, e, getD-drop at s 1 0, f) (simp (getD-drop at s, add-assoc))
+
+  pub at-escape : getD s at 0 ≡ 0x5c → ¬ (getD s (at + 1) 0 ≡ 0x75) → charOf (drop at s) ≡ escapeOf (getD s (at + 1) 0)
+  unfolding charOf
+  at-escape e f = rw (first, e, getD-drop at s 1 0, ne-eqb _ _ f)
+
+  pub at-raw : ¬ (getD s at 0 ≡ 0x22) → ¬ (getD s at 0 ≡ 0x5c) → charOf (drop at s) ≡ rawOf (getD s at 0) (getD s (at + 1) 0) (getD s (at + 2) 0) (getD s (at + 3) 0)
+  unfolding charOf
+  at-raw e f = rw (first, ne-eqb _ _ e, ne-eqb _ _ f) (simp (getD-drop at s))

@@ -1,0 +1,5 @@
+pub mod Utf8
+pub mod Grammar
+pub mod Char
+pub mod Encoded
+pub mod Claims
