@@ -97,7 +97,11 @@ fn record_read(body: &[u8], line: &mut [u8]) -> usize {
     feed::unhex(body, &mut bytes);
     match entry::unpack(entry::Packed { bytes }) {
         entry::Unpacked::Accepted(e) => put_entry(line, e),
-        entry::Unpacked::Refused(r) => number::put_decimal(line, 0, answer::refusal_number(r) as u64),
+        entry::Unpacked::Refused(r) => number::put_decimal(
+            line,
+            0,
+            answer::refusal_number(r) as u64,
+        ),
     }
 }
 
