@@ -1,0 +1,5 @@
+-- Laws of the loops over entries, and the theorems about what they find.
+pub mod Walks
+mod Steps
+pub mod Meaning
+pub mod Kept

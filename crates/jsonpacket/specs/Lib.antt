@@ -1,0 +1,4 @@
+pub mod Names
+pub mod Scan
+pub mod Packet
+pub mod Claims
