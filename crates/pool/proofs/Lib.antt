@@ -1,0 +1,4 @@
+pub mod Down
+pub mod Part
+pub mod Fixed
+pub mod Rows

@@ -1,0 +1,5 @@
+pub mod Places
+pub mod Shares
+pub mod Pool
+pub mod Rule
+pub mod Marked

@@ -1,0 +1,33 @@
+-- Who gives a record up when one is issued: document 01's rule, as a function of how many records each link holds and how many places are free.
+-- Assumes nothing.
+use Prim.Native.Nat.{ℕ, zero, suc, _-_}
+use mathlib.Core.Bool.{Bool, true, false}
+use lib.Dec.{leb, ltb, eqb}
+use Rattle.basis.specs.Pick.{pick, both}
+use Rattle.pool.specs.declared.Loser.{Loser}
+use Rattle.pool.specs.declared.Loser.the-variants.{Nobody, Owner}
+
+abbrev pub fuller : (ℕ → ℕ) → ℕ → ℕ → ℕ
+fuller held a b = pick (ltb (held a) (held b)) b a
+
+-- which of the links 0 to k holds most; of several the lowest
+unfoldable pub fullest : (ℕ → ℕ) → ℕ → ℕ
+fullest held zero = 0
+fullest held (suc k) = fuller held (fullest held k) (suc k)
+
+-- of n links, the one whose oldest record is lost when one is issued for link l: l's own where it holds 64; nobody's where a place
+-- is free; else, l below 16, that of the link holding most; else l's own
+unfoldable pub loser : ℕ → (ℕ → ℕ) → ℕ → ℕ → Loser
+loser n held free l =
+    pick (leb 64 (held l)) (Owner l)
+    (pick (ltb 0 free) Nobody
+    (pick (ltb (held l) 16) (Owner (fullest held (n - 1))) (Owner l)))
+
+-- of the links below n none but l holds more than 16
+unfoldable pub noOther : (ℕ → ℕ) → ℕ → ℕ → Bool
+noOther held l zero = true
+noOther held l (suc k) = both (noOther held l k) (pick (eqb k l) true (leb (held k) 16))
+
+-- number 13: nothing is free, l is one of the n links and holds fewer than 16, and no other holds more than 16
+unfoldable pub crowdedOf : ℕ → (ℕ → ℕ) → ℕ → ℕ → Bool
+crowdedOf n held free l = both (ltb l n) (both (eqb free 0) (both (ltb (held l) 16) (noOther held l n)))

@@ -1,0 +1,81 @@
+// Who gives a record up when one is issued for a link.
+use super::Loser;
+use super::Place;
+use super::Wanted;
+use super::places::and;
+use super::places::number;
+ghost use mathlib.Core.Path.{_≡_};
+ghost use mathlib.Core.Bool.{true};
+ghost use lib.Dec.{eqb, leb};
+ghost use Rattle.basis.specs.Pick.{pick};
+ghost use Rattle.pool.specs.Shares.{fuller, fullest, loser, noOther, crowdedOf};
+ghost use Rattle.pool.specs.Pool.{heldIn, freeIn};
+
+// How many records of the link are held.
+pub fn holds(p: [Place; 128], l: u16) -> usize
+    ensures { λ r. ⌜ r ≡ heldIn p l ⌝ }
+{
+    number(p, Wanted::Of(l))
+}
+
+fn fuller_of(p: [Place; 128], a: u16, b: u16) -> u16
+    ensures { λ r. ⌜ r ≡ fuller (heldIn p) a b ⌝ }
+{
+    if holds(p, a) < holds(p, b) { b } else { a }
+}
+
+// The link that holds most; of several the lowest.
+fn fullest_of(p: [Place; 128]) -> u16
+    ensures { λ r. ⌜ r ≡ fullest (heldIn p) 3 ⌝ }
+{
+    fuller_of(p, fuller_of(p, fuller_of(p, 0, 1), 2), 3)
+}
+
+// Whose oldest record is lost when one is issued for the link.
+pub fn loser_for(p: [Place; 128], l: u16) -> Loser
+    ensures { λ r. ⌜ r ≡ loser 4 (heldIn p) (freeIn p) l ⌝ }
+{
+    let held = holds(p, l);
+    if 64 <= held {
+        return Loser::Owner(l);
+    }
+    if 0 < number(p, Wanted::Free) {
+        return Loser::Nobody;
+    }
+    if held < 16 {
+        Loser::Owner(fullest_of(p))
+    } else {
+        Loser::Owner(l)
+    }
+}
+
+fn within(p: [Place; 128], l: u16, k: u16) -> bool
+    ensures { λ r. ⌜ r ≡ pick (eqb k l) true (leb (heldIn p k) 16) ⌝ }
+{
+    if k == l { true } else { holds(p, k) <= 16 }
+}
+
+fn others_within(p: [Place; 128], l: u16) -> bool
+    ensures { λ r. ⌜ r ≡ noOther (heldIn p) l 4 ⌝ }
+{
+    and(
+        and(and(within(p, l, 0), within(p, l, 1)), within(p, l, 2)),
+        within(p, l, 3),
+    )
+}
+
+// Nothing is free, the link holds fewer than 16, and no other holds more than 16.
+pub fn crowded_for(p: [Place; 128], l: u16) -> bool
+    ensures { λ r. ⌜ r ≡ crowdedOf 4 (heldIn p) (freeIn p) l ⌝ }
+{
+    if 4 <= l {
+        return false;
+    }
+    if 0 < number(p, Wanted::Free) {
+        return false;
+    }
+    if 16 <= holds(p, l) {
+        return false;
+    }
+    others_within(p, l)
+}

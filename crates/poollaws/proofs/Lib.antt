@@ -1,0 +1,17 @@
+pub mod Counts
+pub mod Oldest
+pub mod Fullest
+pub mod Chosen
+pub mod Inv
+pub mod Issue
+pub mod Other
+pub mod Lost
+pub mod Kept
+pub mod Insert
+pub mod Records
+pub mod ViewIssue
+pub mod ViewOther
+pub mod ViewAsk
+pub mod Order
+pub mod Viewed
+pub mod Contents

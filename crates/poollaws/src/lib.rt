@@ -1,0 +1,1 @@
+// What holds of the pool after every list of acts; there is no code here.
