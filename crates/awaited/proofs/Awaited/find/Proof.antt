@@ -1,0 +1,51 @@
+use Prim.Native.Nat.{_<_}
+use mathlib.Core.Path.{_≡_, sym}
+use native.Mathlib.Omega.{arith}
+use lib.ListN.{length}
+use mathlib.Core.List.{[]}
+use Rattle.awaited.specs.declared.Slot.{Slot}
+use Rattle.awaited.specs.Lists.{firstOf}
+use Rattle.awaited.proofs.Search.{find-at, find-none}
+use Rattle.awaited.specs.Awaited.{findOf}
+use Rattle.awaited.specs.Slot.{awaitsFor}
+use borrow.Author.Needs.{needs}
+use Rattle.awaited.proofs.Awaited.find.Statement.{statement}
+use Rattle.awaited.proofs.Awaited.find.Tie as tie
+
+-- what a read past the end gives
+abbrev blank : Slot
+blank = record { time = 0; sequence = 0; purpose = 0; id = record { bytes = [] } }
+
+place-of-requires : tie.Need-place-of-requires
+place-of-requires c κs = search needs
+
+mul-w : tie.Need-mul-w
+mul-w c = search needs
+
+array-copy-out-w : tie.Need-array-copy-out-w
+array-copy-out-w c = search needs
+
+sent-for-requires : tie.Need-sent-for-requires
+sent-for-requires c κs = search needs
+
+returns : tie.Need-returns
+unfolding findOf
+returns c =
+    let l = c .before .before .before .before .before .args .self .slots in
+    let id = c .before .before .before .before .before .args .id in
+    let h : length l ≡ 16 = c .before .before .before .place-of .ensures .1 in
+    let inside : firstOf (awaitsFor id) l < length l = omega (arith, c .before .before .before .place-of .ensures .0) in
+    rw (find-at id l blank inside, c .sent-for .ensures, c .before .before .before .place-of .ensures .0)
+
+returns-2 : tie.Need-returns-2
+unfolding findOf
+returns-2 c =
+    let l = c .before .before .before .args .self .slots in
+    let id = c .before .before .before .args .id in
+    let h : length l ≡ 16 = c .before .place-of .ensures .1 in
+    sym (find-none id l (omega (arith, c .before .place-of .ensures .0)))
+
+pub find-spec : {M : Type 1} → statement M
+find-spec =
+    tie.close
+    (tie.spec place-of-requires mul-w array-copy-out-w sent-for-requires returns returns-2)

@@ -1,0 +1,69 @@
+-- A pass over a list from the back, one element at a time, and what changing the first that passes comes to at its place.
+-- Assumes nothing.
+use Prim.Native.Nat.{ℕ, suc, _+_, _-_, _≤_, _<_}
+use mathlib.Core.Path.{_≡_, refl, ap, _∙_}
+use mathlib.Core.Bool.{Bool, true, false}
+use mathlib.Core.List.{List, [], _∷_}
+use native.Mathlib.Omega.{arith}
+use lib.ListN.{length, drop, getD, set, drop-of-length-le}
+use lib.Seq.{drop-cons}
+use Rattle.basis.specs.Pick.{pick, bit}
+use Rattle.basis.proofs.Cases.{bool-cases}
+use Rattle.awaited.specs.Lists.{firstOf, changeFirst, some}
+use Rattle.basis.specs.Lists.{count}
+
+module _ {A : Type 0} where
+  pub drop-back : (l : List A) (i : ℕ) (d : A) → 0 < i → i ≤ length l → drop (i - 1) l ≡ getD l (i - 1) d ∷ drop i l
+  drop-back l i d p h =
+      let e : suc (i - 1) ≡ i = omega arith in
+      drop-cons l (i - 1) d (omega arith) ∙ ap (λ (n : ℕ). getD l (i - 1) d ∷ drop n l) e
+
+  pub drop-end : (l : List A) (n : ℕ) → length l ≡ n → drop n l ≡ []
+  drop-end l n h =
+      let le : length l ≤ n = omega arith in
+      drop-of-length-le l le
+
+module _ {A : Type 0} (f : A → Bool) where
+  pub first-end : (l : List A) (n : ℕ) → length l ≡ n → n ≡ n + firstOf f (drop n l)
+  unfolding firstOf
+  first-end l n h = rw (drop-end l n h) (omega arith)
+
+  pub first-back : (l : List A) (i at : ℕ) (d : A) → 0 < i → i ≤ length l → at ≡ i + firstOf f (drop i l)
+      → pick (f (getD l (i - 1) d)) (i - 1) at ≡ i - 1 + firstOf f (drop (i - 1) l)
+  unfolding firstOf
+  first-back l i at d p h e =
+      rw (drop-back l i d p h)
+      (bool-cases (f (getD l (i - 1) d))
+      (λ t. rw t (omega arith))
+      (λ t. rw t (omega arith)))
+
+  pub count-end : (l : List A) (n : ℕ) → length l ≡ n → 0 ≡ count f (drop n l)
+  count-end l n h = rw (drop-end l n h)
+
+  pub count-back : (l : List A) (i n : ℕ) (d : A) → 0 < i → i ≤ length l → n ≡ count f (drop i l)
+      → bit (f (getD l (i - 1) d)) + n ≡ count f (drop (i - 1) l)
+  count-back l i n d p h e = rw (drop-back l i d p h, e)
+
+  pub some-end : (l : List A) (n : ℕ) → length l ≡ n → false ≡ some f (drop n l)
+  unfolding some
+  some-end l n h = rw (drop-end l n h)
+
+  pub some-back : (l : List A) (i : ℕ) (b : Bool) (d : A) → 0 < i → i ≤ length l → b ≡ some f (drop i l)
+      → pick (f (getD l (i - 1) d)) true b ≡ some f (drop (i - 1) l)
+  unfolding some
+  some-back l i b d p h e = rw (drop-back l i d p h, e)
+
+  pub count-le-length : (l : List A) → count f l ≤ length l
+  count-le-length [] = omega arith
+  count-le-length (x ∷ l) = bool-cases (f x) (λ t. rw t (omega (arith, count-le-length l))) (λ t. rw t (omega (arith, count-le-length l)))
+
+  -- the change stands at the first place
+  pub change-set : (a : A) (l : List A) → changeFirst f a l ≡ set l (firstOf f l) a
+  unfolding firstOf changeFirst
+  change-set a [] = refl
+  change-set a (x ∷ l) = bool-cases (f x) (λ t. rw t) (λ t. rw t (ap (λ (k : List A). x ∷ k) (change-set a l)))
+
+  pub change-length : (a : A) (l : List A) → length (changeFirst f a l) ≡ length l
+  unfolding changeFirst
+  change-length a [] = refl
+  change-length a (x ∷ l) = bool-cases (f x) (λ t. rw t) (λ t. rw t (ap suc (change-length a l)))

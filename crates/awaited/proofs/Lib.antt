@@ -1,0 +1,10 @@
+pub mod Back
+pub mod Search
+pub mod Span
+pub mod Change
+pub mod Same
+pub mod Slots
+pub mod Laws
+pub mod After
+pub mod View
+pub mod Kept

@@ -1,0 +1,24 @@
+-- Being the same identity: each is the same as itself, and what is the same as one is the same as its like.
+-- Assumes nothing.
+use mathlib.Core.Path.{_≡_, sym, _∙_, subst}
+use mathlib.Core.Bool.{true}
+use mathlib.Core.List.{List}
+use Prim.Native.Nat.{ℕ}
+use Rattle.basis.specs.Lists.{sameBytes}
+use Rattle.basis.proofs.Same as bytes
+use Rattle.identity.specs.declared.Identity.{Identity}
+use Rattle.awaited.specs.Slot.{sameIdentity}
+
+pub same-self : (a : Identity) → sameIdentity a a ≡ true
+unfolding sameIdentity
+same-self a = bytes.same-self (a .bytes)
+
+pub same-like : (a b d : Identity) → sameIdentity a b ≡ true → sameIdentity a d ≡ true → sameIdentity b d ≡ true
+unfolding sameIdentity
+same-like a b d p q =
+    let e : b .bytes ≡ d .bytes = sym (bytes.same-true (a .bytes) (b .bytes) p) ∙ bytes.same-true (a .bytes) (d .bytes) q in
+    subst (λ (l : List ℕ). sameBytes (b .bytes) l ≡ true) e (bytes.same-self (b .bytes))
+
+pub same-is : (a b : Identity) → sameIdentity a b ≡ true → a ≡ b
+unfolding sameIdentity
+same-is a b p = rw (bytes.same-true (a .bytes) (b .bytes) p)

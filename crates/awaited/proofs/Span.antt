@@ -1,0 +1,15 @@
+-- A span that has passed, counted without a sum that could be too large.
+-- Assumes nothing.
+use Prim.Native.Nat.{ℕ, _+_, _-_, _≤_}
+use mathlib.Core.Path.{_≡_, sym, _∙_}
+use mathlib.Core.Logic.{⊎-elim}
+use native.Mathlib.Omega.{arith}
+use lib.Dec.{leb}
+use borrow.Author.Tests.{le-leb, lt-leb}
+use Rattle.basis.proofs.Cases.{le-or-lt}
+
+pub after : (since span time : ℕ) → since ≤ time → leb span (time - since) ≡ leb (since + span) time
+after since span time h =
+    ⊎-elim (λ le. le-leb span (time - since) (omega arith) ∙ sym (le-leb (since + span) time le))
+    (λ lt. lt-leb span (time - since) (omega arith) ∙ sym (lt-leb (since + span) time lt))
+    (le-or-lt (since + span) time)

@@ -1,0 +1,67 @@
+use Prim.Native.Nat.{_≤_, _-_}
+use mathlib.Core.Path.{_≡_}
+use native.Mathlib.Omega.{arith}
+use borrow.Author.Needs.{needs}
+use lib.ListN.{length, drop}
+use Rattle.awaited.specs.Lists.{some}
+use Rattle.awaited.specs.Slot.{isLate}
+use Rattle.awaited.proofs.Back.{some-end, some-back}
+use Rattle.awaited.proofs.any_late.Statement.{statement}
+use Rattle.awaited.proofs.any_late.Tie as tie
+
+abbrev Inv-loop : tie.InvT-loop
+Inv-loop time slots found₀ i₀ found i = (i ≤ 16) × (found ≡ some (isLate time) (drop i slots))
+
+abbrev μ-loop : tie.MeasureT-loop
+μ-loop time slots found₀ i₀ found i = i
+
+loop-holds : tie.Need-loop-holds Inv-loop μ-loop
+loop-holds c =
+    let h : length (c .args .t1) ≡ 16 = search needs in
+    (omega arith, some-end (isLate (c .args .time)) (c .args .t1) 16 h)
+
+sub-i : tie.Need-sub-i Inv-loop μ-loop
+sub-i c = omega arith
+
+mul-is-late : tie.Need-mul-is-late Inv-loop μ-loop
+mul-is-late c = omega arith
+
+array-copy-out-is-late : tie.Need-array-copy-out-is-late Inv-loop μ-loop
+array-copy-out-is-late c = omega arith
+
+is-late-requires : tie.Need-is-late-requires Inv-loop μ-loop
+is-late-requires c κs = search needs
+
+either-requires : tie.Need-either-requires Inv-loop μ-loop
+either-requires c κs = search needs
+
+loop-less : tie.Need-loop-less Inv-loop μ-loop
+loop-less c = omega arith
+
+loop-again : tie.Need-loop-again Inv-loop μ-loop
+loop-again c =
+    let l = c .before .before .before .before .before .args .t1 in
+    let i = c .before .before .before .before .loop .i in
+    let h : length l ≡ 16 = search needs in
+    (omega arith, rw (c .either .ensures, c .before .is-late .ensures) (some-back (isLate _) l i _ _ (omega arith) (omega arith) (c .before .before .before .before .loop .inv .1)))
+
+returns : tie.Need-returns Inv-loop μ-loop
+returns c =
+    let e : c .before .loop .i ≡ 0 = omega arith in
+    rw e at (c .before .loop .inv .1)
+
+pub any-late-spec : {M : Type 1} → statement M
+any-late-spec =
+    tie.close
+    (tie.spec
+    Inv-loop
+    μ-loop
+    loop-holds
+    sub-i
+    mul-is-late
+    array-copy-out-is-late
+    is-late-requires
+    either-requires
+    loop-less
+    loop-again
+    returns)

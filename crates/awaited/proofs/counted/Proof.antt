@@ -1,0 +1,20 @@
+use native.Mathlib.Omega.{arith}
+use borrow.Author.Tests.{eq-eqb, ne-eqb}
+use Rattle.awaited.specs.Slot.{isTaken}
+use borrow.Author.Needs.{needs}
+use Rattle.awaited.proofs.counted.Statement.{statement}
+use Rattle.awaited.proofs.counted.Tie as tie
+
+add-result : tie.Need-add-result
+add-result c = search needs
+
+returns : tie.Need-returns
+unfolding isTaken
+returns c = simp (eq-eqb _ _ (c .if1 .taken)) (omega arith)
+
+returns-2 : tie.Need-returns-2
+unfolding isTaken
+returns-2 c = simp (ne-eqb _ _ (c .if1 .left)) (omega arith)
+
+pub counted-spec : {M : Type 1} → statement M
+counted-spec = tie.close (tie.spec add-result returns returns-2)

@@ -1,0 +1,4 @@
+pub mod Lists
+pub mod Slot
+pub mod Awaited
+pub mod Promises

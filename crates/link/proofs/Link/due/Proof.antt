@@ -1,0 +1,64 @@
+use mathlib.Core.Path.{sym, _∙_}
+use Rattle.link.specs.Due.{dueOf}
+use borrow.Author.Needs.{needs}
+use Rattle.link.proofs.Link.due.Statement.{statement}
+use Rattle.link.proofs.Link.due.Tie as tie
+
+phase-requires : tie.Need-phase-requires
+phase-requires c κs = search needs
+
+enum-told : tie.Need-enum-told
+enum-told c = search needs
+
+enum-told-2 : tie.Need-enum-told-2
+enum-told-2 c = search needs
+
+enum-told-3 : tie.Need-enum-told-3
+enum-told-3 c = search needs
+
+enum-told-4 : tie.Need-enum-told-4
+enum-told-4 c = search needs
+
+due-up-requires : tie.Need-due-up-requires
+due-up-requires c κs = search needs
+
+returns : tie.Need-returns
+unfolding dueOf
+returns c = rw (sym (c .before .before .phase .ensures) ∙ c .enum-told .given .1)
+
+returns-2 : tie.Need-returns-2
+unfolding dueOf
+returns-2 c = rw (sym (c .before .before .before .phase .ensures) ∙ c .before .enum-told2 .given .1, c .if1 .taken)
+
+returns-3 : tie.Need-returns-3
+unfolding dueOf
+returns-3 c = rw (sym (c .before .before .before .phase .ensures) ∙ c .before .enum-told2 .given .1, c .if1 .left)
+
+returns-4 : tie.Need-returns-4
+unfolding dueOf
+returns-4 c = rw (sym (c .before .before .before .phase .ensures) ∙ c .before .enum-told3 .given .1, c .if2 .taken)
+
+returns-5 : tie.Need-returns-5
+unfolding dueOf
+returns-5 c = rw (sym (c .before .before .before .phase .ensures) ∙ c .before .enum-told3 .given .1, c .if2 .left)
+
+returns-6 : tie.Need-returns-6
+unfolding dueOf
+returns-6 c = rw (sym (c .before .before .before .phase .ensures) ∙ c .before .enum-told4 .given .1) (c .due-up .ensures)
+
+pub due-spec : {M : Type 1} → statement M
+due-spec =
+    tie.close
+    (tie.spec
+    phase-requires
+    enum-told
+    enum-told-2
+    enum-told-3
+    enum-told-4
+    due-up-requires
+    returns
+    returns-2
+    returns-3
+    returns-4
+    returns-5
+    returns-6)
