@@ -1,0 +1,22 @@
+use mathlib.Core.Path.{_∙_}
+use borrow.Author.Tests.{eq-eqb, ne-eqb}
+use Rattle.aggregated.specs.Aggregated.{setOf}
+use borrow.Author.Needs.{needs}
+use Rattle.aggregated.proofs.Aggregated.set.Statement.{statement}
+use Rattle.aggregated.proofs.Aggregated.set.Tie as tie
+
+wide-requires : tie.Need-wide-requires
+wide-requires c κs = search needs
+
+returns : tie.Need-returns
+unfolding setOf
+returns c = simp (eq-eqb _ _ (c .if1 .taken ∙ c .before .before .wide .ensures))
+
+returns-2 : tie.Need-returns-2
+unfolding setOf
+returns-2 c =
+    let w = c .before .before .wide .ensures in
+    simp (w, ne-eqb _ _ (rw w at (c .if1 .left)))
+
+pub set-spec : {M : Type 1} → statement M
+set-spec = tie.close (tie.spec wide-requires returns returns-2)

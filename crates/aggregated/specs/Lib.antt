@@ -1,0 +1,3 @@
+pub mod Aggregated
+pub mod Issued
+pub mod History

@@ -1,0 +1,3 @@
+pub mod Alarm
+pub mod Issued
+pub mod History

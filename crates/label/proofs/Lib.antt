@@ -1,0 +1,5 @@
+pub mod Padded
+pub mod Both
+pub mod Stands
+pub mod Reading
+pub mod Text

@@ -1,0 +1,12 @@
+-- The text of a label, as a part of its bytes.
+-- Assumes nothing.
+use mathlib.Core.Path.{_≡_, sym, ap, _∙_}
+use Prim.Native.Nat.{ℕ, _-_, min}
+use native.Mathlib.Nat.{sub-zero}
+use lib.ListN.{length, take}
+use Rattle.label.specs.declared.Label.{Label}
+use Rattle.label.specs.Label.{textOf}
+use Rattle.label.proofs.Padded.{take-short}
+
+pub text-part : (l : Label) → length (l .bytes) ≡ 32 → (n : ℕ) → n ≡ min (l .length) 32 → take (n - 0) (l .bytes) ≡ textOf l
+text-part l z n e = ap (λ (m : ℕ). take m (l .bytes)) (sub-zero n ∙ e ∙ ap (min (l .length)) (sym z)) ∙ take-short (l .length) (l .bytes)

@@ -1,0 +1,35 @@
+use mathlib.Core.Path.{_≡_}
+use lib.ListN.{length}
+use Rattle.basis.proofs.Same.{same-is}
+use Rattle.label.proofs.Text.{text-part}
+use borrow.Author.Needs.{needs}
+use Rattle.label.proofs.is.Statement.{statement}
+use Rattle.label.proofs.is.Tie as tie
+
+size-requires : tie.Need-size-requires
+size-requires c κs = search needs
+
+sub-same : tie.Need-sub-same
+sub-same c = search needs
+
+part-same-start : tie.Need-part-same-start
+part-same-start c = search needs
+
+part-same-end : tie.Need-part-same-end
+part-same-end c =
+    let e : length (c .before .before .before .before .args .l .bytes) ≡ 32 = search needs in
+    search needs
+
+same-requires : tie.Need-same-requires
+same-requires c κs = search needs
+
+returns : tie.Need-returns
+returns c =
+    let l = c .before .before .before .before .before .before .args .l in
+    let e = c .same .ensures in
+    let k = text-part l (search needs) _ (c .before .before .before .before .size .ensures) in
+    rw (← k) (same-is _ _ (c .same .result) (e .0) (e .1))
+
+pub is-spec : {M : Type 1} → statement M
+is-spec =
+    tie.close (tie.spec size-requires sub-same part-same-start part-same-end same-requires returns)

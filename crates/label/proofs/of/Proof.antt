@@ -1,0 +1,66 @@
+use Prim.Native.Nat.{ℕ, _≤_, _-_}
+use mathlib.Core.Path.{_≡_, refl, ap, _∙_}
+use native.Mathlib.Omega.{arith}
+use lib.ListN.{length, take, length-take}
+use borrow.Author.Needs.{needs}
+use Rattle.label.specs.Padded.{padded}
+use Rattle.label.proofs.Padded.{copy-one, take-min}
+use Rattle.label.proofs.of.Statement.{statement}
+use Rattle.label.proofs.of.Tie as tie
+
+abbrev Inv-loop : tie.InvT-loop
+Inv-loop s n bytes₀ i₀ bytes i = (i ≤ n) × (bytes ≡ padded 32 0 (take i s))
+
+abbrev μ-loop : tie.MeasureT-loop
+μ-loop s n bytes₀ i₀ bytes i = n - i
+
+at-most-32-requires : tie.Need-at-most-32-requires Inv-loop μ-loop
+at-most-32-requires c κs = search needs
+
+loop-holds : tie.Need-loop-holds Inv-loop μ-loop
+loop-holds c = (search needs, refl)
+
+shared-slice-read-bytes : tie.Need-shared-slice-read-bytes Inv-loop μ-loop
+shared-slice-read-bytes c = search needs
+
+array-write-bytes : tie.Need-array-write-bytes Inv-loop μ-loop
+array-write-bytes c = search needs
+
+add-i : tie.Need-add-i Inv-loop μ-loop
+add-i c = search needs
+
+loop-less : tie.Need-loop-less Inv-loop μ-loop
+loop-less c = search needs
+
+loop-again : tie.Need-loop-again Inv-loop μ-loop
+loop-again c =
+    let l = c .before .before .loop in
+    (search needs, rw (l .inv .1) (copy-one 32 _ (l .i) (search needs) (search needs)))
+
+cast-t12 : tie.Need-cast-t12 Inv-loop μ-loop
+cast-t12 c = search needs
+
+returns : tie.Need-returns Inv-loop μ-loop
+returns c =
+    let s = c .before .before .before .before .args .s .now in
+    let n = c .before .before .at-most-32 .ensures in
+    let i : c .before .loop .i ≡ c .before .before .at-most-32 .result = search needs in
+    let e : take (c .before .loop .i) s ≡ take 32 s = ap (λ (m : ℕ). take m s) (i ∙ n) ∙ take-min 32 s in
+    let k : c .before .before .at-most-32 .result ≡ length (take 32 s) = omega (arith, length-take 32 s) in
+    simp (c .before .loop .inv .1, e, k)
+
+pub of-spec : {M : Type 1} → statement M
+of-spec =
+    tie.close
+    (tie.spec
+    Inv-loop
+    μ-loop
+    at-most-32-requires
+    loop-holds
+    shared-slice-read-bytes
+    array-write-bytes
+    add-i
+    loop-less
+    loop-again
+    cast-t12
+    returns)

@@ -1,0 +1,3 @@
+pub mod Padded
+pub mod Label
+pub mod Reading

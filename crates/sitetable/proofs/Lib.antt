@@ -1,0 +1,11 @@
+pub mod Fields
+pub mod Turns
+pub mod Prefix
+pub mod RowLaws
+pub mod HeadLaws
+pub mod Kept
+pub mod Parts
+pub mod Sound
+pub mod Complete
+pub mod Whole
+pub mod Lookups

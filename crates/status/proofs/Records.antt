@@ -1,0 +1,28 @@
+-- The record of every status' value is one that the record reader accepts.
+-- Assumes nothing.
+use Prim.Native.Nat.{ℕ, _^_, _≤_, _<_}
+use mathlib.Core.Path.{refl, ap}
+use mathlib.Core.Bool.{Bool}
+use lib.Dec.{eqb, lit<}
+use Rattle.basis.specs.Pick.{pick}
+use Rattle.basis.proofs.Cases.{picked}
+use Rattle.entry.specs.Valid.{Valid, lastTime as latest}
+use Rattle.entry.specs.Valid.OfKind.{a-status}
+use Rattle.status.specs.declared.Status.{Status}
+use Rattle.status.specs.Issued.{issuedOf}
+
+pub issued-valid : (s : Status) (link number time : ℕ) → s .value < 2 ^ 32 → link < 4 → number < 32 → time ≤ latest → Valid (issuedOf s link number time)
+issued-valid s link number time v l n t =
+    record {
+      link = l;
+      time = t;
+      sequence = lit< tt;
+      of-kind = a-status (record {
+        kind = refl;
+        item = n;
+        known = eqb (s .known) 1;
+        flags = refl;
+        value = picked (λ (x : ℕ). x < 2 ^ 32) (eqb (s .known) 1) (s .value) 0 (λ e. v) (λ e. lit< tt);
+        unknown = λ e. ap (λ (b : Bool). pick b (s .value) 0) e;
+      });
+    }
