@@ -6,7 +6,9 @@ document 01's additions (one object, eight levels, no lone surrogate, no name tw
   packets.py --fresh [SEED]   runs random packets through the program
 
 The program answers `-` for a packet that is not accepted, else its meaning on one line: n, t, f, # and a number's text,
-" and a string's code points in hexadecimal, [..] and {name:value..} with commas.
+" and a string's code points in hexadecimal, [..] and {name:value..} with commas. Behind it, for each member of the packet's
+object: = where looking its name up finds it (~ where the name is no ASCII of at most 36), its value's kind, and the kinds of an
+array's elements.
 """
 import json
 import random
@@ -67,6 +69,17 @@ def shown(value, level):
     return "{" + ",".join(points(name) + ":" + shown(item, level + 1) for name, item in value.items()) + "}"
 
 
+def kind(value):
+    if isinstance(value, Number):
+        return "#"
+    return {type(None): "n", bool: "b", str: '"', list: "[", dict: "{"}[type(value)]
+
+
+def looked_up(name, value):
+    short = len(name) <= 36 and name.isascii()
+    return (" =" if short else " ~") + kind(value) + "".join(kind(item) for item in (value if isinstance(value, list) else []))
+
+
 def meaning(packet):
     try:
         text = packet.decode("utf-8")
@@ -74,7 +87,7 @@ def meaning(packet):
         value, end = DECODER.raw_decode(text, start)
         if text[end:].strip(" \t\n\r") or not isinstance(value, dict):
             return "-"
-        return shown(value, 0)
+        return shown(value, 0) + "".join(looked_up(name, item) for name, item in value.items())
     except (UnicodeDecodeError, json.JSONDecodeError, Refused, RecursionError):
         return "-"
 

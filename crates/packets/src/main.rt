@@ -181,16 +181,22 @@ fn agree(a: Read, b: Read) -> bool {
     }
 }
 
+// The value of the member whose name is the first n bytes.
+fn looked_up(s: &[u8], object: usize, bytes: &[u8], n: usize) -> Read {
+    if n <= bytes.len() {
+        jsonfind::member(s, object, &bytes[0..n])
+    } else {
+        Read::Bad
+    }
+}
+
 // Whether looking a name up finds the value that stands behind it: = it does, ! it does not, ~ the name is too long for a fixed one.
 fn found(s: &[u8], object: usize, name: usize, value: Read) -> u8 {
     let c = text::copy_text(s, forward(name, 0), 36);
-    let n = c.length;
     let bytes = c.bytes;
     if c.ok {
-        if n <= 36 {
-            if agree(jsonfind::member(s, object, &bytes[0..n]), value) {
-                return b'=';
-            }
+        if agree(looked_up(s, object, &bytes, c.length), value) {
+            return b'=';
         }
         return b'!';
     }
