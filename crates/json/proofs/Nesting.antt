@@ -19,7 +19,9 @@ use Rattle.json.specs.Grammar.{Json}
 use Rattle.json.specs.Reader.{readScalar, readStart, readMark, Named, named, Entry, marked, afterValue, afterStart, readEntry, consOf, afterEntry, readItems, wholeOf, opened, readInside, valueBy, readValue, insideOf}
 use Rattle.json.specs.Answers.{Skipped, Marks, lastOf}
 use Rattle.json.specs.Answers.Marks.{closes, commas, neither}
-use Rattle.json.proofs.Places.{next, past, from, ended, ends-bad}
+use Rattle.character.proofs.Lists.{next, past}
+use Rattle.text.proofs.Endings.{failed}
+use Rattle.json.proofs.Places.{from, ended}
 
 -- values
 
@@ -61,7 +63,7 @@ marks-from h neither = neither
 module _ (s : List ℕ) (close : ℕ) (value : List ℕ → Parsed Json) (i : ℕ) where
   pub entry-none : Ends s i (readStart close (drop i s)) Read.Bad → Marks s i (lastOf (readEntry close value (drop i s))) Mark.Neither
   unfolding readEntry
-  entry-none x = rw (ends-bad x) neither
+  entry-none x = rw (failed x) neither
 
   module _ (v : ℕ) (x : Ends s i (readStart close (drop i s)) (Read.End v)) where
     called : List ℕ
@@ -72,7 +74,7 @@ module _ (s : List ℕ) (close : ℕ) (value : List ℕ → Parsed Json) (i : �
     started = ap (afterStart close value) (ended x .reads)
 
     pub entry-bad : Ends s v (value (drop v s)) Read.Bad → Marks s i (lastOf (readEntry close value (drop i s))) Mark.Neither
-    entry-bad y = rw (started, ends-bad y) neither
+    entry-bad y = rw (started, failed y) neither
 
     pub entry-mark : (e : ℕ) → Ends s v (value (drop v s)) (Read.End e) → (m : Mark) → Marks s e (readMark close (drop e s)) m → Marks s i (lastOf (readEntry close value (drop i s))) m
     entry-mark e y m z =

@@ -21,7 +21,9 @@ use Rattle.json.specs.Grammar.Json.{null, bool}
 use Rattle.json.specs.Reader.{isSpace, skipWs, literal, strOf, numOf, readScalar, colon, colonAt, readName, readStart, readMark}
 use Rattle.json.specs.Answers.{Skipped, Marks}
 use Rattle.json.specs.Answers.Marks.{closes, commas, neither}
-use Rattle.json.proofs.Places.{next, past, from, ended, ends-bad}
+use Rattle.character.proofs.Lists.{next, past}
+use Rattle.text.proofs.Endings.{failed}
+use Rattle.json.proofs.Places.{from, ended}
 
 -- white space
 
@@ -113,7 +115,7 @@ module _ (s : List ℕ) (i : ℕ) where
       named = rw (next s i h, q)
 
       pub name-bad : Ends s (i + 1) (decoded (drop (i + 1) s)) Read.Bad → Ends s i (readName (drop i s)) Read.Bad
-      name-bad x = rw (named, ends-bad x) fails
+      name-bad x = rw (named, failed x) fails
 
       -- the characters end at e, and white space goes on to k
       module _ (e k : ℕ) (x : Ends s (i + 1) (decoded (drop (i + 1) s)) (Read.End e)) (ws : Skipped s e k) where

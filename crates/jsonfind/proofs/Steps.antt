@@ -17,7 +17,9 @@ use Rattle.text.specs.Ends.{Ends}
 use Rattle.text.specs.Ends.Ends.{ends, fails}
 use Rattle.json.specs.Reader.{skipWs, readStart}
 use Rattle.json.specs.Answers.{Skipped}
-use Rattle.json.proofs.Places.{next, past, from, ended, ends-bad}
+use Rattle.character.proofs.Lists.{next, past}
+use Rattle.text.proofs.Endings.{failed}
+use Rattle.json.proofs.Places.{from, ended}
 use Rattle.jsonfind.specs.declared.Kind.the-variants.{Nothing}
 use Rattle.jsonfind.specs.Kinds.{kindOfByte, kindAt, trueAt, stringAt}
 use Rattle.jsonfind.specs.Entries.{nextEntry, entries, unlessClosed, insideAt, entriesOf, entriesAt, nth, valueOf, nameOf, firstNamed, elementAt, memberValueAt, memberNameAt, memberAt}
@@ -109,7 +111,7 @@ inside-length first close (b ∷ t) = picked (Less (b ∷ t)) (eqb b first) _ _ 
 module _ (s : List ℕ) (i first close : ℕ) where
   no-entries : Ends s i (insideAt first close (drop i s)) Read.Bad → entriesAt first close (drop i s) ≡ []
   unfolding entriesAt
-  no-entries x = ap (entriesOf close) (ends-bad x)
+  no-entries x = ap (entriesOf close) (failed x)
 
   some-entries : (e : ℕ) → Ends s i (insideAt first close (drop i s)) (Read.End e) → entriesAt first close (drop i s) ≡ entries close (drop e s)
   unfolding entriesAt
@@ -148,7 +150,7 @@ module _ (s : List ℕ) (i : ℕ) where
   module _ (k : ℕ) where
     pub element-none : Ends s i (nth k (entriesAt 0x5b 0x5d (drop i s))) Read.Bad → Ends s i (elementAt k (drop i s)) Read.Bad
     unfolding elementAt
-    element-none x = rw (ends-bad x) fails
+    element-none x = rw (failed x) fails
 
     pub element-some : (e : ℕ) → Ends s i (nth k (entriesAt 0x5b 0x5d (drop i s))) (Read.End e) → (r : Read) → Ends s e (readStart 0x5d (drop e s)) r → Ends s i (elementAt k (drop i s)) r
     unfolding elementAt
@@ -156,7 +158,7 @@ module _ (s : List ℕ) (i : ℕ) where
 
     pub value-none : Ends s i (nth k (entriesAt 0x7b 0x7d (drop i s))) Read.Bad → Ends s i (memberValueAt k (drop i s)) Read.Bad
     unfolding memberValueAt
-    value-none x = rw (ends-bad x) fails
+    value-none x = rw (failed x) fails
 
     pub value-some : (e : ℕ) → Ends s i (nth k (entriesAt 0x7b 0x7d (drop i s))) (Read.End e) → (r : Read) → Ends s e (readStart 0x7d (drop e s)) r → Ends s i (memberValueAt k (drop i s)) r
     unfolding memberValueAt
@@ -164,7 +166,7 @@ module _ (s : List ℕ) (i : ℕ) where
 
     pub name-none : Ends s i (nth k (entriesAt 0x7b 0x7d (drop i s))) Read.Bad → Ends s i (memberNameAt k (drop i s)) Read.Bad
     unfolding memberNameAt
-    name-none x = rw (ends-bad x) fails
+    name-none x = rw (failed x) fails
 
     pub name-some : (e : ℕ) → Ends s i (nth k (entriesAt 0x7b 0x7d (drop i s))) (Read.End e) → (m : ℕ) → Skipped s e m → Ends s i (memberNameAt k (drop i s)) (Read.End m)
     unfolding memberNameAt

@@ -21,7 +21,9 @@ use Rattle.json.specs.Grammar.{Json, Value}
 use Rattle.json.specs.Reader.{skipWs, readName, unnamed, readStart, readMark, Named, named, Entry, marked, afterValue, afterStart, readEntry, readValue}
 use Rattle.json.specs.Answers.{Skipped, Marks, lastOf}
 use Rattle.json.specs.Answers.Marks.{closes, commas, neither}
-use Rattle.json.proofs.Places.{next, past, ended, ends-bad}
+use Rattle.character.proofs.Lists.{next, past}
+use Rattle.text.proofs.Endings.{failed}
+use Rattle.json.proofs.Places.{ended}
 use Rattle.json.proofs.Sound as Sound
 use Rattle.json.proofs.Complete as Complete
 use Rattle.jsonfind.specs.Entries.{goesOn, nextEntry, afterNext, entriesFrom, entries, unlessClosed, insideAt}
@@ -165,7 +167,7 @@ module _ (s : List ℕ) (i close : ℕ) where
 
   -- entries from a place on, by what `step` answers there
   pub ends-here : Ends s i (nextEntry close (drop i s)) Read.Bad → entries close (drop i s) ≡ drop i s ∷ []
-  ends-here x = unroll close (drop i s) ∙ ap (λ (p : Parsed Named). drop i s ∷ afterNext (λ u. entries close u) p) (ends-bad x)
+  ends-here x = unroll close (drop i s) ∙ ap (λ (p : Parsed Named). drop i s ∷ afterNext (λ u. entries close u) p) (failed x)
 
   pub goes-on : (e : ℕ) → Ends s i (nextEntry close (drop i s)) (Read.End e) → entries close (drop i s) ≡ drop i s ∷ entries close (drop e s)
   goes-on e x = unroll close (drop i s) ∙ ap (λ (p : Parsed Named). drop i s ∷ afterNext (λ u. entries close u) p) (ended x .reads)

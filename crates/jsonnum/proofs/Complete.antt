@@ -141,7 +141,7 @@ int-digits {r = r} (Digits.more {b = b} {x = x} d m) f e h = int-digit b x r d (
 -- the first digit, from Minus
 first : (b : ℕ) (x r : List ℕ) → Digit b → ¬ (b ≡ 0x30) → Reads Int x r → Reads Minus (b ∷ x) r
 unfolding readNum
-first b x r d n h = rw (ne-eqb _ _ n, le-ltb b 0x31 (omega (arith, d .from, n)), lt-ltb _ _ (d .to)) (pushes b (readNum Int x) r h)
+first b x r d n h = rw (ne-eqb _ _ n, if-digit b Int d) (pushes b (readNum Int x) r h)
 
 integer : {x y z r : List ℕ} → Integer x y → Fraction y z → Exponent z r → Ended r → Reads Minus x r
 unfolding readNum

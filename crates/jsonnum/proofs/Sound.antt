@@ -73,10 +73,7 @@ on-digit q p b f =
 minus : (b : ℕ) → Turns Minus b (turnOf Minus b)
 minus b =
     picked (Turns Minus b) (eqb b 0x30) _ _ (at (λ n. Turns Minus n Zero) b 0x30 (λ x r h. (x, h .0, Integer.nought, h .1, h .2)))
-    (λ n. picked (Turns Minus b) (ltb b 0x31) _ _ (λ _. no-turn Minus b)
-    (λ lo. picked (Turns Minus b) (ltb b 0x3a) _ _
-    (λ hi x r h. (h .point, h .exp, integer (record { from = omega (arith, ltb-false b 0x31 lo); to = ltb-true _ _ hi }) (eqb-false _ _ n) (h .run), h .fraction, h .exponent))
-    (λ _. no-turn Minus b)))
+    (λ n. on-digit Minus Int b (λ d x r h. (h .point, h .exp, integer d (eqb-false _ _ n) (h .run), h .fraction, h .exponent)))
 
 start : (b : ℕ) → Turns Start b (turnOf Start b)
 start b =

@@ -3,11 +3,10 @@
 use Prim.Native.Nat.{ℕ, _+_, _<_, _≤_}
 use mathlib.Core.Path.{_≡_, sym, subst}
 use mathlib.Core.Bool.{true, false}
-use mathlib.Core.List.{List, [], _∷_}
-use lib.ListN.{length, getD, drop, drop-of-length-le}
-use lib.Seq.{drop-cons}
-use native.Mathlib.Numerals.{add-one}
+use mathlib.Core.List.{List, _∷_}
+use lib.ListN.{length, getD, drop}
 use native.Mathlib.Omega.{arith}
+use Rattle.character.proofs.Lists.{next, past}
 use Rattle.basis.specs.Pick.{both}
 use Rattle.text.specs.Decoded.{Parsed, push}
 use Rattle.text.specs.declared.Read.{Read}
@@ -17,13 +16,6 @@ use Rattle.text.specs.Ends.Ends.{ends, fails}
 use Rattle.jsonnum.specs.declared.At.{At}
 use Rattle.jsonnum.specs.declared.At.the-variants.{Start}
 use Rattle.jsonnum.specs.Machine.{turnOf, isStop, finalOf, apart, stopAt, readNum, readNumber}
-
--- the text at a place: its byte, and the text at the next place
-next : (s : List ℕ) (i : ℕ) → i < length s → drop i s ≡ getD s i 0 ∷ drop (i + 1) s
-next s i h = rw (add-one, drop-cons s i 0)
-
-past : (s : List ℕ) (i : ℕ) → length s ≤ i → drop i s ≡ []
-past s i h = drop-of-length-le s h
 
 pushed : {s : List ℕ} {i k : ℕ} {p : Parsed (List ℕ)} {r : Read} (c : ℕ) → i ≤ k → Ends s k p r → Ends s i (push c p) r
 pushed c h (ends e a b) = ends e (omega arith) b

@@ -10,18 +10,34 @@ use Rattle.text.specs.Decoded.Parsed.{ok, none}
 use Rattle.jsonnum.specs.declared.At.{At}
 use Rattle.jsonnum.specs.declared.At.the-variants.{Start, Minus, Zero, Int, Dot, Frac, Mark, Sign, Exp, Stop}
 
+-- on to q with a digit; `Stop`: the number does not go on with the byte
 abbrev pub ifDigit : ℕ → At → At
 ifDigit b q = pick (ltb b 0x30) Stop (pick (ltb b 0x3a) q Stop)
 
--- where a byte takes the machine; `Stop`: the number does not go on with it
+abbrev pub leadOf : ℕ → At
+leadOf b = pick (eqb b 0x30) Zero (ifDigit b Int)
+
+abbrev pub orMark : ℕ → At → At
+orMark b q = pick (eqb b 0x65) Mark (pick (eqb b 0x45) Mark q)
+
+abbrev pub orPoint : ℕ → At → At
+orPoint b q = pick (eqb b 0x2e) Dot q
+
+abbrev pub signOf : ℕ → At
+signOf b = pick (eqb b 0x2b) Sign (pick (eqb b 0x2d) Sign (ifDigit b Exp))
+
+abbrev pub startOf : ℕ → At
+startOf b = pick (eqb b 0x2d) Minus (leadOf b)
+
+-- where a byte takes the machine
 abbrev pub turnOf : At → ℕ → At
-turnOf Start b = pick (eqb b 0x2d) Minus (pick (eqb b 0x30) Zero (pick (ltb b 0x31) Stop (pick (ltb b 0x3a) Int Stop)))
-turnOf Minus b = pick (eqb b 0x30) Zero (pick (ltb b 0x31) Stop (pick (ltb b 0x3a) Int Stop))
-turnOf Zero b = pick (eqb b 0x2e) Dot (pick (eqb b 0x65) Mark (pick (eqb b 0x45) Mark Stop))
-turnOf Int b = pick (eqb b 0x2e) Dot (pick (eqb b 0x65) Mark (pick (eqb b 0x45) Mark (ifDigit b Int)))
+turnOf Start b = startOf b
+turnOf Minus b = leadOf b
+turnOf Zero b = orPoint b (orMark b Stop)
+turnOf Int b = orPoint b (orMark b (ifDigit b Int))
 turnOf Dot b = ifDigit b Frac
-turnOf Frac b = pick (eqb b 0x65) Mark (pick (eqb b 0x45) Mark (ifDigit b Frac))
-turnOf Mark b = pick (eqb b 0x2b) Sign (pick (eqb b 0x2d) Sign (ifDigit b Exp))
+turnOf Frac b = orMark b (ifDigit b Frac)
+turnOf Mark b = signOf b
 turnOf Sign b = ifDigit b Exp
 turnOf Exp b = ifDigit b Exp
 turnOf Stop b = Stop

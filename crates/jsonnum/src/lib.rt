@@ -5,7 +5,7 @@ ghost use mathlib.Core.Bool.{true, false};
 ghost use lib.ListN.{drop};
 ghost use Rattle.basis.specs.Pick.{both};
 ghost use Rattle.text.specs.Ends.{Ends};
-ghost use Rattle.jsonnum.specs.Machine.{turnOf, isStop, finalOf, apart, readNumber};
+ghost use Rattle.jsonnum.specs.Machine.{ifDigit, leadOf, orMark, orPoint, signOf, startOf, turnOf, isStop, finalOf, apart, readNumber};
 
 // Where in a number a byte stands.
 pub enum At {
@@ -21,95 +21,87 @@ pub enum At {
     Stop,
 }
 
+// On to q with a digit.
+fn digit(b: u8, q: At) -> At
+    ensures { λ r. ⌜ r ≡ ifDigit b q ⌝ }
+{
+    if b < b'0' {
+        return At::Stop;
+    }
+    if b < 0x3a {
+        return q;
+    }
+    At::Stop
+}
+
+// The first digit: a zero stands alone.
+fn lead(b: u8) -> At
+    ensures { λ r. ⌜ r ≡ leadOf b ⌝ }
+{
+    if b == b'0' {
+        return At::Zero;
+    }
+    digit(b, At::Int)
+}
+
+// On to the exponent with an e, else to q.
+fn or_mark(b: u8, q: At) -> At
+    ensures { λ r. ⌜ r ≡ orMark b q ⌝ }
+{
+    if b == b'e' {
+        return At::Mark;
+    }
+    if b == b'E' {
+        return At::Mark;
+    }
+    q
+}
+
+// On to the fraction with a point, else to q.
+fn or_point(b: u8, q: At) -> At
+    ensures { λ r. ⌜ r ≡ orPoint b q ⌝ }
+{
+    if b == b'.' {
+        return At::Dot;
+    }
+    q
+}
+
+// On to the sign of an exponent, or to its first digit.
+fn sign(b: u8) -> At
+    ensures { λ r. ⌜ r ≡ signOf b ⌝ }
+{
+    if b == b'+' {
+        return At::Sign;
+    }
+    if b == b'-' {
+        return At::Sign;
+    }
+    digit(b, At::Exp)
+}
+
+fn start(b: u8) -> At
+    ensures { λ r. ⌜ r ≡ startOf b ⌝ }
+{
+    if b == b'-' {
+        return At::Minus;
+    }
+    lead(b)
+}
+
 fn turn(q: At, b: u8) -> At
     ensures { λ r. ⌜ r ≡ turnOf q b ⌝ }
 {
     match q {
-        At::Start => if b == 0x2d {
-            At::Minus
-        } else if b == 0x30 {
-            At::Zero
-        } else if b < 0x31 {
-            At::Stop
-        } else if b < 0x3a {
-            At::Int
-        } else {
-            At::Stop
-        },
-        At::Minus => if b == 0x30 {
-            At::Zero
-        } else if b < 0x31 {
-            At::Stop
-        } else if b < 0x3a {
-            At::Int
-        } else {
-            At::Stop
-        },
-        At::Zero => if b == 0x2e {
-            At::Dot
-        } else if b == 0x65 {
-            At::Mark
-        } else if b == 0x45 {
-            At::Mark
-        } else {
-            At::Stop
-        },
-        At::Int => if b == 0x2e {
-            At::Dot
-        } else if b == 0x65 {
-            At::Mark
-        } else if b == 0x45 {
-            At::Mark
-        } else if b < 0x30 {
-            At::Stop
-        } else if b < 0x3a {
-            At::Int
-        } else {
-            At::Stop
-        },
-        At::Dot => if b < 0x30 {
-            At::Stop
-        } else if b < 0x3a {
-            At::Frac
-        } else {
-            At::Stop
-        },
-        At::Frac => if b == 0x65 {
-            At::Mark
-        } else if b == 0x45 {
-            At::Mark
-        } else if b < 0x30 {
-            At::Stop
-        } else if b < 0x3a {
-            At::Frac
-        } else {
-            At::Stop
-        },
-        At::Mark => if b == 0x2b {
-            At::Sign
-        } else if b == 0x2d {
-            At::Sign
-        } else if b < 0x30 {
-            At::Stop
-        } else if b < 0x3a {
-            At::Exp
-        } else {
-            At::Stop
-        },
-        At::Sign => if b < 0x30 {
-            At::Stop
-        } else if b < 0x3a {
-            At::Exp
-        } else {
-            At::Stop
-        },
-        At::Exp => if b < 0x30 {
-            At::Stop
-        } else if b < 0x3a {
-            At::Exp
-        } else {
-            At::Stop
-        },
+        At::Start => start(b),
+        At::Minus => lead(b),
+        At::Zero => or_point(b, or_mark(b, At::Stop)),
+        At::Int => or_point(b, or_mark(b, digit(b, At::Int))),
+        At::Dot => digit(b, At::Frac),
+        At::Frac => or_mark(b, digit(b, At::Frac)),
+        At::Mark => sign(b),
+        At::Sign => digit(b, At::Exp),
+        At::Exp => digit(b, At::Exp),
         At::Stop => At::Stop,
     }
 }
@@ -151,16 +143,16 @@ fn is_final(q: At) -> bool
 fn is_apart(b: u8) -> bool
     ensures { λ r. ⌜ r ≡ apart b ⌝ }
 {
-    if b == 0x2e {
+    if b == b'.' {
         return false;
     }
-    if b == 0x65 {
+    if b == b'e' {
         return false;
     }
-    if b == 0x45 {
+    if b == b'E' {
         return false;
     }
-    if b < 0x30 {
+    if b < b'0' {
         return true;
     }
     if b < 0x3a {

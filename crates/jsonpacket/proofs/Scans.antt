@@ -18,7 +18,9 @@ use Rattle.text.specs.Ends.{Ends}
 use Rattle.text.specs.Ends.Ends.{ends, fails}
 use Rattle.text.proofs.Meaning as Strings
 use Rattle.json.specs.Answers.{Skipped}
-use Rattle.json.proofs.Places.{next, past, from, ended, ends-bad}
+use Rattle.character.proofs.Lists.{next, past}
+use Rattle.text.proofs.Endings.{failed}
+use Rattle.json.proofs.Places.{from, ended}
 use Rattle.json.proofs.Shorter as Shorter
 use Rattle.jsonfind.specs.Entries.{nextEntry, entries}
 use Rattle.jsonfind.proofs.Walks.{unroll, ends-here, goes-on}
@@ -130,7 +132,7 @@ module _ (s : List ℕ) (i : ℕ) (h : i < length s) where
       go t e = rw e (scan-cons (getD s i 0) (drop (i + 1) s))
 
   pub scan-bad : Ends s i (readToken (drop i s)) Read.Bad → scan (drop i s) ≡ false
-  scan-bad x = unrolled ∙ ap (afterToken (λ u. scan u)) (ends-bad x)
+  scan-bad x = unrolled ∙ ap (afterToken (λ u. scan u)) (failed x)
 
   pub scan-on : (e : ℕ) → Ends s i (readToken (drop i s)) (Read.End e) → scan (drop i s) ≡ scan (drop e s)
   scan-on e x = unrolled ∙ ap (afterToken (λ u. scan u)) (ended x .reads)

@@ -19,7 +19,9 @@ use Rattle.json.specs.Grammar.Json.{null, bool, num, str, arr, obj}
 use Rattle.json.specs.Reader.{skipWs, readValue}
 use Rattle.json.specs.Answers.{Skipped}
 use Rattle.json.specs.Means.{Means, depth}
-use Rattle.json.proofs.Places.{next, past, ended, ends-bad}
+use Rattle.character.proofs.Lists.{next, past}
+use Rattle.text.proofs.Endings.{failed}
+use Rattle.json.proofs.Places.{ended}
 use Rattle.json.proofs.Sound as Sound
 use Rattle.json.proofs.Complete as Complete
 use Rattle.json.proofs.Shorter as Shorter
@@ -68,7 +70,7 @@ module _ (s : List ℕ) (i : ℕ) (ws : Skipped s 0 i) where
       go (ok j r) v = rw (brace (getD s i 0) (drop (i + 1) s) (next s i h) v, ne-eqb _ _ e)
 
   pub no-value : Ends s i (readValue depth (drop i s)) Read.Bad → false ≡ isPacket s
-  no-value x = sym (read ∙ ap accepted (ends-bad x))
+  no-value x = sym (read ∙ ap accepted (failed x))
 
   module _ (h : i < length s) (b : getD s i 0 ≡ 0x7b) (e : ℕ) (x : Ends s i (readValue depth (drop i s)) (Read.End e)) (k : ℕ) (w : Skipped s e k) where
     meaning : Json
