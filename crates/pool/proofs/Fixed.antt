@@ -2,7 +2,7 @@
 -- what the document says.
 -- Assumes nothing.
 use Prim.Native.Nat.{ℕ, suc, zero, _-_, _≤_, _<_}
-use mathlib.Core.Path.{_≡_, refl, sym, _∙_, ap}
+use mathlib.Core.Path.{_≡_, refl, _∙_}
 use mathlib.Core.Bool.{Bool, true, false}
 use mathlib.Core.Logic.{_⊎_, inl, inr}
 use lib.ListN.{length, length-replicate}
@@ -11,12 +11,11 @@ use native.Mathlib.Omega.{arith}
 use borrow.Author.Tests.{ltb-true, ltb-false, leb-true, eqb-true, eqb-false, le-leb, lt-leb, lt-ltb, le-ltb, eq-eqb, ne-eqb}
 use Rattle.basis.specs.Pick.{pick, both}
 use Rattle.basis.proofs.Cases.{lt-or-ge, eq-or-ne}
-use Rattle.pool.specs.declared.Loser.{Loser}
 use Rattle.pool.specs.declared.Loser.the-variants.{Nobody, Owner}
 use Rattle.pool.specs.Places.{noPlace}
 use Rattle.pool.specs.Shares.{fullest, loser, noOther, crowdedOf}
 use Rattle.pool.specs.Pool.{emptyOf}
-use Rattle.pool.specs.Rule.{HoldsMost, Rule, Crowded}
+use Rattle.pool.specs.Rule.{Rule, Crowded}
 use Rattle.pool.specs.Rule.HoldsMost.{lowest}
 
 -- the links 0 to k: the fullest is one of them, none holds more, and every lower one holds fewer
@@ -33,7 +32,6 @@ fullest-is held zero = record { one = omega arith; most = λ j h. at j (omega ar
     at j e = rw e (omega arith)
 fullest-is held (suc k) = go (ltb (held (fullest held k)) (held (suc k))) refl (fullest-is held k)
   where
-
     go : (t : Bool) → ltb (held (fullest held k)) (held (suc k)) ≡ t → Fullest held k (fullest held k) → Fullest held (suc k) (pick t (suc k) (fullest held k))
     go true e f = record { one = omega arith; most = λ j h. most j h (eq-or-ne j (suc k)); first = λ j h. omega (arith, f .most j (omega arith), ltb-true (held (fullest held k)) (held (suc k)) e) }
       where
@@ -96,10 +94,12 @@ unfolding crowdedOf
 crowded-means n held free l e =
     let a = right-of (ltb l n) _ e in
     let b = right-of (eqb free 0) _ a in
-    record { link = ltb-true l n (left-of (ltb l n) _ e)
-           ; full = eqb-true free 0 (left-of (eqb free 0) _ a)
-           ; few = ltb-true (held l) 16 (left-of (ltb (held l) 16) _ b)
-           ; others = others-mean held l n (right-of (ltb (held l) 16) _ b) }
+    record {
+      link = ltb-true l n (left-of (ltb l n) _ e);
+      full = eqb-true free 0 (left-of (eqb free 0) _ a);
+      few = ltb-true (held l) 16 (left-of (ltb (held l) 16) _ b);
+      others = others-mean held l n (right-of (ltb (held l) 16) _ b);
+    }
 
 pub crowded-when : (n : ℕ) (held : ℕ → ℕ) (free l : ℕ) → Crowded n held free l → crowdedOf n held free l ≡ true
 unfolding crowdedOf

@@ -1,7 +1,7 @@
 -- The marked rows of document 01 about the pool, for the one table of marked cases: what the links 0, 1 and 2 hold, what they lost,
 -- and the number of the oldest that each holds.
 -- Assumes nothing.
-use Prim.Native.Nat.{ℕ, zero, suc, _+_}
+use Prim.Native.Nat.{ℕ, zero, suc}
 use mathlib.Core.List.{List, [], _∷_, _++_}
 use Rattle.entry.specs.declared.Entry.{Entry}
 use Rattle.pool.specs.declared.Pool.{Pool}

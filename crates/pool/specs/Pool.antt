@@ -2,17 +2,16 @@
 -- A link outside the n issues nothing and none of its records is held.
 -- Assumes nothing.
 use Prim.Native.Nat.{ℕ, _+_}
-use mathlib.Core.List.{List, [], _∷_, map}
+use mathlib.Core.List.{List, map}
 use mathlib.Core.Bool.{Bool, true, false}
-use lib.Dec.{leb, ltb, eqb}
+use lib.Dec.{ltb, eqb}
 use lib.ListN.{getD, set, replicate}
 use Rattle.basis.specs.Pick.{pick, both}
 use Rattle.entry.specs.declared.Entry.{Entry}
 use Rattle.entry.specs.Layout.{bytesOf}
 use Rattle.pool.specs.declared.Place.{Place}
 use Rattle.pool.specs.declared.Pool.{Pool}
-use Rattle.pool.specs.declared.Wanted.{Wanted}
-use Rattle.pool.specs.declared.Wanted.the-variants.{Free, Of, Unsent, Older, Numbered, Alarm}
+use Rattle.pool.specs.declared.Wanted.the-variants.{Free, Unsent, Older, Numbered, Alarm}
 use Rattle.pool.specs.declared.Spot.{Spot}
 use Rattle.pool.specs.declared.Spot.the-variants.{At, Nowhere}
 use Rattle.pool.specs.declared.Loser.{Loser}

@@ -1,7 +1,7 @@
 -- Who gives a record up when one is issued: document 01's rule, as a function of how many records each link holds and how many places are free.
 -- Assumes nothing.
 use Prim.Native.Nat.{ℕ, zero, suc, _-_}
-use mathlib.Core.Bool.{Bool, true, false}
+use mathlib.Core.Bool.{Bool, true}
 use lib.Dec.{leb, ltb, eqb}
 use Rattle.basis.specs.Pick.{pick, both}
 use Rattle.pool.specs.declared.Loser.{Loser}

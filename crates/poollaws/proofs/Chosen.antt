@@ -1,19 +1,17 @@
 -- The place that an issue takes, and why: a free one; its own link's oldest, of 16 or more; or another link's oldest, of 17 or more.
 -- Assumes nothing.
-use Prim.Native.Nat.{ℕ, suc, zero, _+_, _-_, _*_, _≤_, _<_}
-use mathlib.Core.Path.{_≡_, refl, sym, _∙_, ap}
-use mathlib.Core.List.{List, [], _∷_}
+use Prim.Native.Nat.{ℕ, _-_, _*_, _≤_, _<_}
+use mathlib.Core.Path.{_≡_, refl, _∙_, ap}
+use mathlib.Core.List.{List}
 use mathlib.Core.Bool.{Bool, true, false}
 use lib.ListN.{length, getD, set}
-use lib.Dec.{ltb, leb, eqb}
+use lib.Dec.{ltb, leb}
 use native.Mathlib.Omega.{arith}
 use borrow.Author.Tests.{ltb-true, ltb-false, leb-true, leb-false, eqb-true, lt-ltb}
-use Rattle.basis.specs.Pick.{pick, both}
 use Rattle.entry.specs.declared.Entry.{Entry}
 use Rattle.pool.specs.declared.Place.{Place}
 use Rattle.pool.specs.declared.Pool.{Pool}
 use Rattle.pool.specs.declared.Wanted.the-variants.{Free, Older}
-use Rattle.pool.specs.declared.Spot.{Spot}
 use Rattle.pool.specs.declared.Spot.the-variants.{At}
 use Rattle.pool.specs.declared.Loser.{Loser}
 use Rattle.pool.specs.declared.Loser.the-variants.{Nobody, Owner}

@@ -1,17 +1,13 @@
 -- What holds of every issued record holds of every held one; so held records are records.
 -- Assumes nothing.
-use Prim.Native.Nat.{ℕ, suc, zero, _≤_, _<_}
-use mathlib.Core.Path.{_≡_, refl, sym, _∙_, ap, subst}
+use Prim.Native.Nat.{ℕ, suc, zero}
+use mathlib.Core.Path.{_≡_, refl, sym, subst}
 use mathlib.Core.List.{List, [], _∷_, map}
 use mathlib.Core.Bool.{Bool, true, false}
-use lib.ListN.{length, getD, set, replicate}
-use lib.Dec.{ltb, leb, eqb}
+use lib.ListN.{getD, set, replicate}
+use lib.Dec.{ltb, leb}
 use Rattle.basis.specs.Pick.{pick}
 use Rattle.entry.specs.declared.Entry.{Entry}
-use Rattle.entry.specs.declared.Unpacked.{Unpacked}
-use Rattle.entry.specs.Layout.{bytesOf}
-use Rattle.entry.specs.Reading.{Reads}
-use Rattle.entry.specs.Valid.{Valid}
 use Rattle.entry.proofs.RoundTrip.{round-trip}
 use Rattle.pool.specs.declared.Place.{Place}
 use Rattle.pool.specs.declared.Pool.{Pool}
@@ -25,7 +21,7 @@ use Rattle.poollaws.specs.Acts.{Act, act, acts}
 use Rattle.poollaws.specs.Acts.Act.{Issue, Settle, Mark, Unmark}
 use Rattle.poollaws.specs.Leaves.{Among}
 use Rattle.poollaws.specs.Leaves.Among.{first, later}
-use Rattle.poollaws.specs.View.{insert, insertIf, recordsIn, records}
+use Rattle.poollaws.specs.View.{insert, insertIf, recordsIn}
 use Rattle.poollaws.specs.Contents.{Every, Same, ReadsBack, Readable}
 use Rattle.poollaws.proofs.Counts.{and-left, not-both}
 use Rattle.poollaws.proofs.Other.{Touched, settle-touches, mark-touches}

@@ -1,16 +1,16 @@
 -- What the links hold together, and what the fullest holds: in a full pool of n links, 16 n at most 128, a link below 16 leaves another above 16.
 -- Assumes nothing.
 use Prim.Native.Nat.{ℕ, suc, zero, _+_, _-_, _*_, _≤_, _<_}
-use mathlib.Core.Path.{_≡_, refl, sym, _∙_, ap}
+use mathlib.Core.Path.{_≡_, refl, ap}
 use mathlib.Core.List.{List, [], _∷_}
 use mathlib.Core.Bool.{Bool, true, false}
 use mathlib.Core.Logic.{_⊎_, inl, inr}
 use lib.ListN.{length}
 use lib.Dec.{ltb, leb, eqb}
 use native.Mathlib.Omega.{arith}
-use borrow.Author.Tests.{ltb-true, ltb-false, leb-true, eqb-true, eqb-false, lt-ltb, le-leb, lt-leb, eq-eqb, ne-eqb}
-use Rattle.basis.specs.Pick.{pick, both}
-use Rattle.basis.proofs.Cases.{lt-or-ge, eq-or-ne, bool-cases}
+use borrow.Author.Tests.{lt-ltb, le-leb, lt-leb}
+use Rattle.basis.specs.Pick.{both}
+use Rattle.basis.proofs.Cases.{lt-or-ge, eq-or-ne}
 use Rattle.pool.specs.declared.Place.{Place}
 use Rattle.pool.specs.declared.Wanted.the-variants.{Free}
 use Rattle.basis.specs.Pick.{bit}
@@ -20,7 +20,7 @@ use Rattle.pool.specs.Shares.{fullest}
 use Rattle.pool.specs.Pool.{heldIn, freeIn}
 use Rattle.pool.proofs.Fixed.{fullest-is}
 use Rattle.poollaws.specs.View.{total}
-use Rattle.poollaws.proofs.Counts.{bit-true, bit-false, bit-le, bit-lt, bit-ge, bit-eq, bit-ne, and-left, and-right, not-both, count-cons, count-nil}
+use Rattle.poollaws.proofs.Counts.{bit-true, bit-false, bit-lt, bit-ge, bit-eq, bit-ne, count-cons, count-nil}
 
 module _ (held : ℕ → ℕ) where
   at-most : (n : ℕ) → ((j : ℕ) → j < n → held j ≤ 16) → total held n ≤ 16 * n

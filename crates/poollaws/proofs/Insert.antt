@@ -1,6 +1,6 @@
 -- Laws of insertion into a list of records in the order of their numbers.
 -- Assumes nothing.
-use Prim.Native.Nat.{ℕ, suc, zero, _+_, _≤_, _<_}
+use Prim.Native.Nat.{ℕ, suc, _+_, _≤_, _<_}
 use mathlib.Core.Path.{_≡_, refl, sym, _∙_, ap}
 use mathlib.Core.List.{List, [], _∷_, _++_, map}
 use mathlib.Core.Bool.{Bool, true, false}
@@ -8,13 +8,13 @@ use mathlib.Core.Logic.{_⊎_, inl, inr}
 use lib.ListN.{length}
 use lib.Dec.{ltb, leb, eqb}
 use native.Mathlib.Omega.{arith}
-use borrow.Author.Tests.{ltb-true, ltb-false, leb-true, leb-false, eqb-true, lt-ltb, le-ltb, le-leb, lt-leb, eq-eqb, ne-eqb}
-use Rattle.basis.specs.Pick.{pick, both, bit}
+use borrow.Author.Tests.{le-leb, lt-leb, eq-eqb}
+use Rattle.basis.specs.Pick.{pick, bit}
 use Rattle.basis.specs.Lists.{count}
 use Rattle.basis.proofs.Cases.{lt-or-ge}
 use Rattle.pool.specs.declared.Place.{Place}
 use Rattle.poollaws.specs.View.{insert, insertIf, without}
-use Rattle.poollaws.proofs.Counts.{bit-true, bit-false, bit-le, bit-lt, bit-ge, not-both, count-le}
+use Rattle.poollaws.proofs.Counts.{bit-lt, bit-ge, not-both, count-le}
 
 abbrev pub number : Place → ℕ
 number x = x .entry .sequence

@@ -1,14 +1,14 @@
 -- What every act keeps: 128 places, records of the n links only, none twice, all numbers below the next, none above 64.
 -- Assumes nothing.
 use Prim.Native.Nat.{ℕ, suc, zero, _+_, _≤_, _<_}
-use mathlib.Core.Path.{_≡_, refl, sym, _∙_, ap}
+use mathlib.Core.Path.{_≡_, refl}
 use mathlib.Core.List.{List, [], _∷_}
 use mathlib.Core.Bool.{Bool, true, false}
 use mathlib.Core.Logic.{_⊎_, inl, inr}
 use lib.ListN.{length, getD, replicate, length-replicate}
 use lib.Dec.{ltb, leb, eqb}
 use native.Mathlib.Omega.{arith}
-use borrow.Author.Tests.{ltb-true, leb-true, eqb-true, lt-ltb, le-leb, lt-leb, eq-eqb}
+use borrow.Author.Tests.{eqb-true, le-leb, lt-leb}
 use Rattle.basis.specs.Pick.{both}
 use Rattle.basis.proofs.Cases.{lt-or-ge, eq-or-ne}
 use Rattle.pool.specs.declared.Place.{Place}
@@ -19,7 +19,7 @@ use Rattle.basis.specs.Lists.{count}
 use Rattle.pool.specs.Places.{noPlace, of, fits}
 use Rattle.pool.specs.Pool.{emptyOf, heldIn, lostOf}
 use Rattle.poollaws.specs.Acts.{newerThan}
-use Rattle.poollaws.proofs.Counts.{bit-true, bit-false, bit-le, bit-lt, bit-ge, bit-eq, bit-ne, bit-and, bit-and-no, and-left, and-right, and-true, count-cons, count-nil, count-le, count-pos, count-replicate}
+use Rattle.poollaws.proofs.Counts.{bit-true, bit-false, bit-le, bit-lt, bit-ge, bit-eq, bit-ne, and-left, and-right, count-cons, count-nil, count-le, count-replicate}
 use Rattle.poollaws.proofs.Fullest.{outside}
 
 -- it holds a record numbered q or later

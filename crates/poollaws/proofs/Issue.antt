@@ -1,16 +1,16 @@
 -- What an issue does to every count, to the invariant, and to a record that was held.
 -- Assumes nothing.
-use Prim.Native.Nat.{ℕ, suc, zero, _+_, _-_, _*_, _≤_, _<_}
+use Prim.Native.Nat.{ℕ, _+_, _*_, _≤_, _<_}
 use mathlib.Core.Path.{_≡_, refl, sym, _∙_, ap}
-use mathlib.Core.List.{List, [], _∷_}
+use mathlib.Core.List.{List}
 use mathlib.Core.Bool.{Bool, true, false}
 use mathlib.Core.Logic.{_⊎_, inl, inr}
 use lib.ListN.{length, getD, set, length-set}
 use lib.Seq.{getD-set-same, getD-set-other}
-use lib.Dec.{ltb, leb, eqb}
+use lib.Dec.{ltb, eqb}
 use native.Mathlib.Omega.{arith}
-use borrow.Author.Tests.{ltb-true, ltb-false, leb-true, leb-false, eqb-true, eqb-false, lt-ltb, le-ltb, le-leb, lt-leb, eq-eqb, ne-eqb}
-use Rattle.basis.specs.Pick.{pick, both, bit}
+use borrow.Author.Tests.{ltb-true, eqb-true, lt-ltb, le-leb, lt-leb, eq-eqb, ne-eqb}
+use Rattle.basis.specs.Pick.{both, bit}
 use Rattle.basis.specs.Lists.{count}
 use Rattle.basis.proofs.Cases.{lt-or-ge, eq-or-ne}
 use Rattle.entry.specs.declared.Entry.{Entry}
@@ -22,7 +22,7 @@ use Rattle.pool.specs.declared.Loser.the-variants.{Nobody, Owner}
 use Rattle.pool.specs.Places.{noPlace, of, fits}
 use Rattle.pool.specs.Pool.{heldIn, lostOf, made, moreOf, lossOf, issueOf}
 use Rattle.poollaws.specs.Acts.{newerThan}
-use Rattle.poollaws.proofs.Counts.{bit-true, bit-false, bit-le, bit-lt, bit-ge, bit-eq, bit-ne, bit-and, bit-and-no, bit-pos, and-left, and-right, and-true, not-both, count-set, count-at, count-pos}
+use Rattle.poollaws.proofs.Counts.{bit-true, bit-false, bit-le, bit-lt, bit-ge, bit-eq, bit-ne, bit-and, and-left, and-right, and-true, not-both, count-set, count-at, count-pos}
 use Rattle.poollaws.proofs.Oldest.{below-more}
 use Rattle.poollaws.proofs.Fullest.{outside}
 use Rattle.poollaws.proofs.Chosen.{Eldest, Why, Issued, issued}
@@ -210,7 +210,3 @@ module _ (n : ℕ) (small : 16 * n ≤ 128) (p : Pool) (q : ℕ) (inv : Inv n p 
 
   pub issue-keeps : Inv n (issueOf n p e) (e .sequence + 1)
   issue-keeps = rw (it .is) inv-at
-
-  -- a link's held and lost records: one more where it is issued to
-  pub balance : (l : ℕ) → heldIn after l + getD (lossOf (p .lost) (it .who)) l 0 ≡ heldIn (p .places) l + lostOf p l + bit (of l (made e))
-  balance l = omega (arith, change (of l), loses l)

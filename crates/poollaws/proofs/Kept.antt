@@ -1,14 +1,13 @@
 -- The promises of the pool are kept, for every number of links n with 16 n at most 128.
 -- Assumes nothing.
-use Prim.Native.Nat.{ℕ, suc, zero, _+_, _-_, _*_, _≤_, _<_}
-use mathlib.Core.Path.{_≡_, refl, sym, _∙_, ap}
+use Prim.Native.Nat.{ℕ, suc, zero, _+_, _*_, _≤_, _<_}
+use mathlib.Core.Path.{_≡_, refl, ap}
 use mathlib.Core.List.{List, [], _∷_}
 use mathlib.Core.Bool.{Bool, true, false}
 use mathlib.Core.Logic.{_⊎_, inl, inr}
-use lib.ListN.{length, getD}
 use lib.Dec.{ltb, leb, eqb}
 use native.Mathlib.Omega.{arith}
-use borrow.Author.Tests.{ltb-true, eqb-true, le-leb}
+use borrow.Author.Tests.{eqb-true, le-leb}
 use Rattle.basis.specs.Pick.{both, bit}
 use Rattle.basis.specs.Lists.{count}
 use Rattle.basis.proofs.Cases.{eq-or-ne}
@@ -21,24 +20,20 @@ use Rattle.pool.specs.Shares.{fullest}
 use Rattle.pool.specs.Pool.{emptyOf, heldIn, freeIn, lostOf, crowdedIn, issueOf, settleOf, markOf, unmarkOf}
 use Rattle.poollaws.specs.Acts.{Act, act, acts, May, next, nexts, Rising, newerThan}
 use Rattle.poollaws.specs.Acts.Act.{Issue, Settle, Mark, Unmark}
-use Rattle.poollaws.specs.Acts.Rising.{none, then}
-use Rattle.poollaws.specs.Leaves.{Held, gone, leftOver, Among, NoSettle, SettlesFirst}
+use Rattle.poollaws.specs.Acts.Rising.{then}
+use Rattle.poollaws.specs.Leaves.{Held, leftOver, Among, NoSettle, SettlesFirst}
 use Rattle.poollaws.specs.Leaves.Among.{first, later}
 use Rattle.poollaws.specs.Promises.{Reached, Superseded, Promises, Fourth}
 use Rattle.poollaws.specs.Promises.Reached.{empty, after}
-use Rattle.poollaws.proofs.Counts.{bit-false, and-left, and-right, not-both, count-le, bit-le}
+use Rattle.poollaws.proofs.Counts.{count-le, bit-le}
 use Rattle.pool.specs.Rule.{Crowded}
 use Rattle.pool.proofs.Fixed.{fullest-is, crowded-means}
 use Rattle.poollaws.specs.View.{total}
 use Rattle.poollaws.proofs.Fullest.{outside, every-place, fewer}
 use Rattle.poollaws.proofs.Inv.{Inv, starts, numbered-from}
 use Rattle.poollaws.proofs.Issue.{places-after, stays, stays-past, held-new, issue-keeps}
-use Rattle.poollaws.proofs.Other.{Less, settle-less, less-keeps, settle-only, settle-gone, Alike, mark-alike, unmark-alike, alike-numbered, alike-newer, alike-keeps}
+use Rattle.poollaws.proofs.Other.{lost-same, settle-less, less-keeps, settle-only, settle-gone, mark-alike, unmark-alike, alike-numbered, alike-newer, alike-keeps}
 use Rattle.poollaws.proofs.Lost.{issue-leaves, alike-leaves}
-
-bool-or : (b : Bool) → (b ≡ true) ⊎ (b ≡ false)
-bool-or true = inl refl
-bool-or false = inr refl
 
 module _ (n : ℕ) (small : 16 * n ≤ 128) where
   pub act-keeps : (p : Pool) (q : ℕ) (a : Act) → May n q a → Inv n p q → Inv n (act n p a) (next q a)
@@ -118,13 +113,6 @@ module _ (n : ℕ) (small : 16 * n ≤ 128) where
   fate-safe p xs m k (inl x) = inl x
   fate-safe p xs m k (inr x) = inr (inr x)
 
-  no-settle-first : (xs : List Act) → NoSettle xs → SettlesFirst xs
-  no-settle-first [] s = s
-  no-settle-first (Issue e ∷ xs) s = s
-  no-settle-first (Settle l k ∷ xs) s = absurd s
-  no-settle-first (Mark l k ∷ xs) s = no-settle-first xs s
-  no-settle-first (Unmark l ∷ xs) s = no-settle-first xs s
-
   pub whole-list : (p : Pool) (q : ℕ) (xs : List Act) → Inv n p q → Rising n q xs → SettlesFirst xs → (m k : ℕ) → Held p m k → Fate p xs m k
   whole-list p q [] i r s m k h = inl h
   whole-list p q (Issue e ∷ xs) i r s m k h = fate-safe p (Issue e ∷ xs) m k (safe-stays p q (Issue e ∷ xs) i r s m k h)
@@ -153,20 +141,17 @@ module _ (n : ℕ) (small : 16 * n ≤ 128) where
   whole-issued p q (Mark l j ∷ xs) i (then y r) s e (later a) = whole-issued (markOf p l j) q xs (act-keeps p q (Mark l j) y i) r s e a
   whole-issued p q (Unmark l ∷ xs) i (then y r) s e (later a) = whole-issued (unmarkOf p l) q xs (act-keeps p q (Unmark l) y i) r s e a
 
-  lost-stays : (p r : Pool) (m : ℕ) → r .lost ≡ p .lost → lostOf r m ≡ lostOf p m
-  lost-stays p r m s = ap (λ (xs : List ℕ). getD xs m 0) s
-
   pub lost-acts : (p : Pool) (q : ℕ) (xs : List Act) → Inv n p q → Rising n q xs → (m : ℕ) → lostOf (acts n p xs) m ≡ lostOf p m + leftOver n p xs m
   unfolding leftOver
   lost-acts p q [] i r m = omega arith
   lost-acts p q (Issue e ∷ xs) i (then y r) m =
       omega (arith, lost-acts (act n p (Issue e)) (next q (Issue e)) xs (act-keeps p q (Issue e) y i) r m, issue-leaves n small p q i e (y .0) (y .1 .0) (y .1 .1) m)
   lost-acts p q (Settle l k ∷ xs) i (then y r) m =
-      omega (arith, lost-acts (settleOf p l k) q xs (act-keeps p q (Settle l k) y i) r m, lost-stays p (settleOf p l k) m (settle-less p l k .lost))
+      omega (arith, lost-acts (settleOf p l k) q xs (act-keeps p q (Settle l k) y i) r m, lost-same p (settleOf p l k) (settle-less p l k .lost) m)
   lost-acts p q (Mark l k ∷ xs) i (then y r) m =
-      omega (arith, lost-acts (markOf p l k) q xs (act-keeps p q (Mark l k) y i) r m, lost-stays p (markOf p l k) m (mark-alike p l k .lost), alike-leaves n q p (markOf p l k) (mark-alike p l k) i m)
+      omega (arith, lost-acts (markOf p l k) q xs (act-keeps p q (Mark l k) y i) r m, lost-same p (markOf p l k) (mark-alike p l k .lost) m, alike-leaves n q p (markOf p l k) (mark-alike p l k) i m)
   lost-acts p q (Unmark l ∷ xs) i (then y r) m =
-      omega (arith, lost-acts (unmarkOf p l) q xs (act-keeps p q (Unmark l) y i) r m, lost-stays p (unmarkOf p l) m (unmark-alike p l .lost), alike-leaves n q p (unmarkOf p l) (unmark-alike p l) i m)
+      omega (arith, lost-acts (unmarkOf p l) q xs (act-keeps p q (Unmark l) y i) r m, lost-same p (unmarkOf p l) (unmark-alike p l .lost) m, alike-leaves n q p (unmarkOf p l) (unmark-alike p l) i m)
 
   replicate-none : (m : ℕ) → lostOf (emptyOf n) m ≡ 0
   replicate-none m = omega (arith, starts n 0 (omega arith) .lost m)
@@ -189,6 +174,7 @@ module _ (n : ℕ) (small : 16 * n ≤ 128) where
       by : (j : ℕ) → j < n → (j ≡ l) ⊎ (j ≡ l → ⊥) → heldIn (p .places) j ≤ 16
       by j h (inl d) = omega (arith, ap (heldIn (p .places)) d, c .few)
       by j h (inr d) = c .others j h d
+
       below : (j : ℕ) → j < n → heldIn (p .places) j ≤ 16
       below j h = by j h (eq-or-ne j l)
 

@@ -1,12 +1,12 @@
 -- How many records of a link an act makes leave: one where an issue takes its place, none by a mark.
 -- Assumes nothing.
-use Prim.Native.Nat.{ℕ, suc, zero, _+_, _*_, _≤_, _<_}
+use Prim.Native.Nat.{ℕ, suc, _+_, _*_, _≤_, _<_}
 use mathlib.Core.Path.{_≡_, refl, sym, _∙_, ap, subst, subst⁻¹}
 use mathlib.Core.List.{List, [], _∷_}
 use mathlib.Core.Bool.{Bool, true, false}
 use mathlib.Core.Logic.{_⊎_, inl, inr}
-use lib.ListN.{length, getD, set}
-use lib.Dec.{ltb, leb, eqb}
+use lib.ListN.{length, getD}
+use lib.Dec.{eqb}
 use native.Mathlib.Omega.{arith}
 use borrow.Author.Tests.{eqb-true, eqb-false, le-leb, eq-eqb, ne-eqb}
 use Rattle.basis.specs.Pick.{both, bit}
@@ -19,7 +19,7 @@ use Rattle.pool.specs.declared.Wanted.the-variants.{Numbered}
 use Rattle.pool.specs.Places.{noPlace, of, fits}
 use Rattle.pool.specs.Pool.{lostOf, made, issueOf}
 use Rattle.poollaws.specs.Leaves.{gone}
-use Rattle.poollaws.proofs.Counts.{bit-true, bit-false, bit-le, bit-ne, and-left, and-right, and-true, count-pos}
+use Rattle.poollaws.proofs.Counts.{bit-true, bit-false, and-true, count-pos}
 use Rattle.poollaws.proofs.Inv.{Inv, from, of-used}
 use Rattle.poollaws.proofs.Issue.{it, after, places-after, lost-after, change, loses}
 use Rattle.poollaws.proofs.Other.{Alike, alike-numbered}

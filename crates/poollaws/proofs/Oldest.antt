@@ -1,12 +1,12 @@
 -- What `oldest` finds: a place that passes the test, and none that passes has an older record. Nowhere: no place passes.
 -- Assumes nothing.
-use Prim.Native.Nat.{ℕ, suc, zero, _+_, _≤_, _<_}
-use mathlib.Core.Path.{_≡_, refl, sym, _∙_, ap}
+use Prim.Native.Nat.{ℕ, suc, _+_, _≤_, _<_}
+use mathlib.Core.Path.{_≡_, refl}
 use mathlib.Core.List.{List, [], _∷_}
 use mathlib.Core.Bool.{Bool, true, false}
 use mathlib.Core.Logic.{_⊎_, inl, inr}
 use lib.ListN.{length, getD}
-use lib.Dec.{ltb, leb, eqb}
+use lib.Dec.{ltb, leb}
 use native.Mathlib.Omega.{arith}
 use borrow.Author.Tests.{leb-true, leb-false}
 use Rattle.basis.specs.Pick.{pick, both}
@@ -17,7 +17,7 @@ use Rattle.pool.specs.declared.Spot.the-variants.{At, Nowhere}
 use Rattle.basis.specs.Pick.{bit}
 use Rattle.basis.specs.Lists.{count}
 use Rattle.pool.specs.Places.{noPlace, lower, older, oldestFrom, oldest}
-use Rattle.poollaws.proofs.Counts.{bit-true, bit-false, bit-le, bit-and, bit-and-no, bit-and-le, bit-lt, bit-ge, count-cons, count-nil, count-le, count-pos}
+use Rattle.poollaws.proofs.Counts.{bit-false, bit-and, bit-and-no, bit-and-le, bit-lt, bit-ge, count-cons, count-nil, count-le, count-pos}
 
 module _ (f : Place → Bool) where
   -- it passes, and its record is older than the number q

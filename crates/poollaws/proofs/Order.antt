@@ -1,27 +1,23 @@
 -- A link's records are its own, each sent or not, and their numbers rise: so the rank of a record is its place in the list.
 -- Assumes nothing.
 use Prim.Native.Nat.{ℕ, suc, zero, _+_, _≤_, _<_}
-use mathlib.Core.Path.{_≡_, refl, sym, _∙_, ap}
+use mathlib.Core.Path.{_≡_, refl}
 use mathlib.Core.List.{List, [], _∷_}
 use mathlib.Core.Bool.{Bool, true, false}
 use mathlib.Core.Logic.{_⊎_, inl, inr}
-use lib.ListN.{length}
 use lib.Dec.{ltb, leb, eqb}
 use native.Mathlib.Omega.{arith}
-use borrow.Author.Tests.{ltb-true, eqb-true, le-leb, lt-leb, eq-eqb, ne-eqb}
+use borrow.Author.Tests.{ltb-true, le-leb, eq-eqb, ne-eqb}
 use Rattle.basis.specs.Pick.{pick, both, bit}
 use Rattle.basis.specs.Lists.{count}
 use Rattle.basis.proofs.Cases.{lt-or-ge, eq-or-ne}
 use Rattle.pool.specs.declared.Place.{Place}
 use Rattle.pool.specs.declared.Pool.{Pool}
-use Rattle.pool.specs.declared.Wanted.the-variants.{Numbered}
-use Rattle.pool.specs.declared.Sought.{Sought}
-use Rattle.pool.specs.declared.Sought.the-variants.{Found, Nothing}
-use Rattle.pool.specs.Places.{of, fits}
-use Rattle.poollaws.specs.View.{insert, insertIf, recordsIn, records, firstWhere, lastWhere, orElse, nth}
+use Rattle.pool.specs.Places.{of}
+use Rattle.poollaws.specs.View.{insert, insertIf, recordsIn, records, firstWhere, lastWhere, nth}
 use Rattle.poollaws.specs.Views.{InOrder}
 use Rattle.poollaws.specs.Views.InOrder.{end, next}
-use Rattle.poollaws.proofs.Counts.{bit-true, bit-false, bit-le, bit-lt, bit-ge, bit-eq, bit-ne, count-le}
+use Rattle.poollaws.proofs.Counts.{bit-true, bit-le, bit-lt, bit-ge, bit-eq, count-le}
 use Rattle.poollaws.proofs.Inv.{Inv, from, mismarked, of-used, of-link}
 use Rattle.poollaws.proofs.Insert.{number, under}
 use Rattle.poollaws.proofs.Records.{Sorted, records-sorted, records-count}

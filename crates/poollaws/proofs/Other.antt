@@ -1,26 +1,26 @@
 -- What a settle, a mark and an unmark do to every count, to the invariant, and to a record that was held.
 -- Assumes nothing.
-use Prim.Native.Nat.{ℕ, suc, zero, _+_, _≤_, _<_}
+use Prim.Native.Nat.{ℕ, _≤_, _<_}
 use mathlib.Core.Path.{_≡_, refl, sym, _∙_, ap}
-use mathlib.Core.List.{List, [], _∷_, map}
+use mathlib.Core.List.{List}
 use mathlib.Core.Bool.{Bool, true, false}
 use mathlib.Core.Logic.{_⊎_, inl, inr}
 use lib.ListN.{length, getD, set, length-set, length-map}
 use lib.Dec.{ltb, leb, eqb}
 use native.Mathlib.Omega.{arith}
-use borrow.Author.Tests.{eqb-true, lt-ltb}
+use borrow.Author.Tests.{eqb-true}
 use Rattle.basis.specs.Pick.{pick, both, bit}
 use Rattle.basis.specs.Lists.{count}
 use Rattle.basis.proofs.Cases.{lt-or-ge}
 use Rattle.pool.specs.declared.Place.{Place}
 use Rattle.pool.specs.declared.Pool.{Pool}
-use Rattle.pool.specs.declared.Wanted.the-variants.{Older, Numbered}
+use Rattle.pool.specs.declared.Wanted.the-variants.{Numbered}
 use Rattle.pool.specs.declared.Spot.{Spot}
-use Rattle.pool.specs.declared.Spot.the-variants.{At, Nowhere}
-use Rattle.pool.specs.Places.{noPlace, of, fits, oldest}
+use Rattle.pool.specs.declared.Spot.the-variants.{At}
+use Rattle.pool.specs.Places.{noPlace, of, fits}
 use Rattle.pool.specs.Pool.{heldIn, lostOf, withOf, numbered, sent, markOf, settleOf, unsentFor, unmarkOf}
 use Rattle.poollaws.specs.Acts.{newerThan}
-use Rattle.poollaws.proofs.Counts.{bit-true, bit-false, bit-le, bit-pos, and-left, and-right, count-set, count-map, count-same, count-le, count-at}
+use Rattle.poollaws.proofs.Counts.{bit-true, bit-false, and-left, and-right, count-set, count-map, count-same, count-le}
 use Rattle.poollaws.proofs.Oldest.{Oldest, the-oldest, no-oldest}
 use Rattle.poollaws.proofs.Fullest.{outside}
 use Rattle.poollaws.proofs.Inv.{Inv, from, mismarked, of-link}
@@ -76,7 +76,8 @@ settle-less p l k = go (settleOf p l k) (settle-touches p l k)
           less = λ g h. omega (arith, count-set g (p .places) at noPlace noPlace i, bit-false (g noPlace) h);
         })
 
-lost-same : (p r : Pool) → r .lost ≡ p .lost → (l : ℕ) → lostOf r l ≡ lostOf p l
+-- the same counts say the same of every link
+pub lost-same : (p r : Pool) → r .lost ≡ p .lost → (l : ℕ) → lostOf r l ≡ lostOf p l
 lost-same p r e l = ap (λ (xs : List ℕ). getD xs l 0) e
 
 pub less-keeps : (n q : ℕ) (p r : Pool) → Less p r → Inv n p q → Inv n r q

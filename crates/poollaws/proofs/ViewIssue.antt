@@ -5,25 +5,25 @@ use mathlib.Core.Path.{_≡_, refl, sym, _∙_, ap, subst}
 use mathlib.Core.List.{List, [], _∷_, _++_, append-nil}
 use mathlib.Core.Bool.{Bool, true, false}
 use mathlib.Core.Logic.{_⊎_, inl, inr}
-use lib.ListN.{length, getD, set, drop}
+use lib.ListN.{length, drop}
 use lib.Dec.{ltb, leb, eqb}
 use native.Mathlib.Omega.{arith}
-use borrow.Author.Tests.{eqb-true, eqb-false, eq-eqb, ne-eqb, le-leb, lt-leb}
+use borrow.Author.Tests.{eqb-true, eqb-false, ne-eqb, le-leb, lt-leb}
 use Rattle.basis.specs.Pick.{pick, both, bit}
 use Rattle.basis.specs.Lists.{count}
 use Rattle.basis.proofs.Cases.{lt-or-ge}
 use Rattle.entry.specs.declared.Entry.{Entry}
 use Rattle.pool.specs.declared.Place.{Place}
 use Rattle.pool.specs.declared.Pool.{Pool}
-use Rattle.pool.specs.declared.Wanted.the-variants.{Older, Numbered}
+use Rattle.pool.specs.declared.Wanted.the-variants.{Older}
 use Rattle.pool.specs.declared.Loser.{Loser}
 use Rattle.pool.specs.declared.Loser.the-variants.{Nobody, Owner}
-use Rattle.pool.specs.Places.{noPlace, of, fits}
+use Rattle.pool.specs.Places.{of, fits}
 use Rattle.pool.specs.Shares.{fuller, fullest, loser}
 use Rattle.pool.specs.Pool.{heldIn, freeIn, lostOf, made, issueOf}
-use Rattle.poollaws.specs.View.{insert, insertIf, recordsIn, records, total, holds, loserIn, shed, issueView, losses}
-use Rattle.poollaws.proofs.Counts.{bit-true, bit-false, bit-le, bit-and, bit-ge, count-le}
-use Rattle.poollaws.proofs.Fullest.{outside, every-place, total-same}
+use Rattle.poollaws.specs.View.{insert, insertIf, recordsIn, records, holds, loserIn, shed, issueView, losses}
+use Rattle.poollaws.proofs.Counts.{bit-true, bit-false, bit-le, bit-ge, count-le}
+use Rattle.poollaws.proofs.Fullest.{every-place, total-same}
 use Rattle.poollaws.proofs.Chosen.{Eldest, Why, Issued}
 use Rattle.poollaws.proofs.Chosen.Why.{vacant, own, steal}
 use Rattle.poollaws.proofs.Inv.{Inv, from, of-used, of-link, numbered-from}
@@ -109,24 +109,19 @@ module _ (n : ℕ) (small : 16 * n ≤ 128) (p : Pool) (q : ℕ) (inv : Inv n p 
       not-under false = refl
       not-under true = bit-ge (e .sequence) (number (here .old)) (omega (arith, old-below n small p q inv e mine rises fits32 m (v .mine)))
 
+  -- the place was w's, whose oldest stood there
+  by-owner : (w : ℕ) → Eldest w (p .places) (here .old) → 0 < heldIn (p .places) w → (t : Bool) → eqb w m ≡ t
+      → recordsIn then m ≡ pick t (drop 1 (recordsIn (p .places) m)) (recordsIn (p .places) m) ++ tail
+  by-owner w v h true d =
+      let s : w ≡ m = eqb-true w m d in
+      was-mine (subst (λ (j : ℕ). Eldest j (p .places) (here .old)) s v) (omega (arith, ap (heldIn (p .places)) s))
+  by-owner w v h false d =
+      not-mine (rw (of-used w (here .old) (v .mine)) (ne-eqb _ m (λ s. eqb-false w m d (sym (of-link w (here .old) (v .mine)) ∙ s))))
+
   by-loser : (who : Loser) → Why n (e .link) (p .places) (here .old) who → recordsIn then m ≡ shed who m (recordsIn (p .places) m) ++ tail
   by-loser Nobody (vacant a b) = not-mine (free-not m (here .old) b)
-  by-loser (Owner w) (own a v) = go (eqb w m) refl
-    where
-      go : (t : Bool) → eqb w m ≡ t → recordsIn then m ≡ pick t (drop 1 (recordsIn (p .places) m)) (recordsIn (p .places) m) ++ tail
-      go true d = let s : w ≡ m = eqb-true w m d in was-mine (subst (λ (j : ℕ). Eldest j (p .places) (here .old)) s v) (omega (arith, ap (heldIn (p .places)) s))
-      go false d = not-mine (other d)
-        where
-          other : eqb w m ≡ false → of m (here .old) ≡ false
-          other d = rw (of-used w (here .old) (v .mine)) (ne-eqb _ m (λ s. eqb-false w m d (sym (of-link w (here .old) (v .mine)) ∙ s)))
-  by-loser (Owner w) (steal x a b c g v) = go (eqb w m) refl
-    where
-      go : (t : Bool) → eqb w m ≡ t → recordsIn then m ≡ pick t (drop 1 (recordsIn (p .places) m)) (recordsIn (p .places) m) ++ tail
-      go true d = let s : w ≡ m = eqb-true w m d in was-mine (subst (λ (j : ℕ). Eldest j (p .places) (here .old)) s v) (omega (arith, ap (heldIn (p .places)) s))
-      go false d = not-mine (other d)
-        where
-          other : eqb w m ≡ false → of m (here .old) ≡ false
-          other d = rw (of-used w (here .old) (v .mine)) (ne-eqb _ m (λ s. eqb-false w m d (sym (of-link w (here .old) (v .mine)) ∙ s)))
+  by-loser (Owner w) (own a v) = by-owner w v (omega arith) (eqb w m) refl
+  by-loser (Owner w) (steal x a b c g v) = by-owner w v (omega arith) (eqb w m) refl
 
   same-loser : here .who ≡ loserIn n (records p) (e .link)
   same-loser = sym (here .chosen) ∙ loser-view n q p inv (e .link)
@@ -136,16 +131,13 @@ module _ (n : ℕ) (small : 16 * n ≤ 128) (p : Pool) (q : ℕ) (inv : Inv n p 
       ap (λ (l : List Place). recordsIn l m) (places-after n small p q inv e mine rises fits32)
       ∙ by-loser (here .who) (here .why) ∙ ap (λ (who : Loser). shed who m (recordsIn (p .places) m) ++ tail) same-loser
 
+  loss-of : (w : ℕ) → of w (here .old) ≡ true → bit (of m (here .old)) ≡ bit (eqb w m)
+  loss-of w o = rw (of-used w (here .old) o, of-link w (here .old) o)
+
   loss-is : (who : Loser) → Why n (e .link) (p .places) (here .old) who → bit (of m (here .old)) ≡ losses who m
   loss-is Nobody (vacant a b) = bit-false _ (free-not m (here .old) b)
-  loss-is (Owner w) (own a v) = by-owner w (v .mine)
-    where
-      by-owner : (w : ℕ) → of w (here .old) ≡ true → bit (of m (here .old)) ≡ bit (eqb w m)
-      by-owner w o = rw (of-used w (here .old) o, of-link w (here .old) o)
-  loss-is (Owner w) (steal x a b c g v) = by-owner w (v .mine)
-    where
-      by-owner : (w : ℕ) → of w (here .old) ≡ true → bit (of m (here .old)) ≡ bit (eqb w m)
-      by-owner w o = rw (of-used w (here .old) o, of-link w (here .old) o)
+  loss-is (Owner w) (own a v) = loss-of w (v .mine)
+  loss-is (Owner w) (steal x a b c g v) = loss-of w (v .mine)
 
   pub issue-view-lost : lostOf (issueOf n p e) m ≡ lostOf p m + losses (loserIn n (records p) (e .link)) m
   issue-view-lost =

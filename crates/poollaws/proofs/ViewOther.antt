@@ -2,11 +2,10 @@
 -- Assumes nothing.
 use Prim.Native.Nat.{ℕ, suc, zero, _+_, _≤_, _<_}
 use mathlib.Core.Path.{_≡_, refl, sym, _∙_, ap, subst}
-use mathlib.Core.List.{List, [], _∷_, _++_, map, map-id}
+use mathlib.Core.List.{List, [], _∷_, map, map-id}
 use mathlib.Core.Bool.{Bool, true, false}
-use mathlib.Core.Logic.{_⊎_, inl, inr}
 use lib.ListN.{length, getD, set}
-use lib.Dec.{ltb, leb, eqb}
+use lib.Dec.{ltb, eqb}
 use native.Mathlib.Omega.{arith}
 use borrow.Author.Tests.{eqb-true, eqb-false, eq-eqb, ne-eqb}
 use Rattle.basis.specs.Pick.{pick, both, bit}
@@ -17,7 +16,7 @@ use Rattle.pool.specs.declared.Wanted.the-variants.{Numbered}
 use Rattle.pool.specs.Places.{noPlace, of, fits}
 use Rattle.pool.specs.Pool.{settleOf, markOf, unsentFor, unmarkOf}
 use Rattle.poollaws.specs.View.{insert, insertIf, recordsIn, records, without, sentIf, unsent}
-use Rattle.poollaws.proofs.Counts.{bit-true, bit-false, bit-le, and-left, and-right, not-both, count-pos}
+use Rattle.poollaws.proofs.Counts.{bit-true, and-left, and-right, not-both, count-pos}
 use Rattle.poollaws.proofs.Inv.{of-used, of-link}
 use Rattle.poollaws.proofs.Other.{Touched, settle-touches, settle-gone, mark-touches}
 use Rattle.poollaws.proofs.Other.Touched.{absent, there}

@@ -1,29 +1,24 @@
 -- The laws of the view hold.
 -- Assumes nothing.
-use Prim.Native.Nat.{ℕ, suc, zero, _+_, _*_, _≤_, _<_}
+use Prim.Native.Nat.{ℕ, suc, zero, _+_, _*_, _≤_}
 use mathlib.Core.Path.{_≡_, refl, sym, _∙_, ap}
-use mathlib.Core.List.{List, [], _∷_, map}
-use mathlib.Core.Bool.{Bool, true, false}
-use lib.ListN.{length, getD, replicate}
+use mathlib.Core.List.{List, [], _∷_}
+use mathlib.Core.Bool.{Bool}
+use lib.ListN.{replicate}
 use lib.Dec.{eqb}
 use native.Mathlib.Omega.{arith}
-use Rattle.basis.specs.Pick.{both}
 use Rattle.basis.specs.Lists.{count}
-use Rattle.entry.specs.declared.Entry.{Entry}
 use Rattle.pool.specs.declared.Place.{Place}
 use Rattle.pool.specs.declared.Pool.{Pool}
-use Rattle.pool.specs.declared.Wanted.the-variants.{Unsent, Older, Numbered, Alarm}
+use Rattle.pool.specs.declared.Wanted.the-variants.{Unsent, Older, Alarm}
 use Rattle.pool.specs.Places.{noPlace, of, fits}
-use Rattle.pool.specs.Pool.{emptyOf, heldIn, heldOf, lostOf, issueOf, settleOf, markOf, unmarkOf, oldestUnsent, newestAlarm, rankIs, rankedOf}
-use Rattle.poollaws.specs.Acts.{May}
-use Rattle.poollaws.specs.Acts.Act.{Issue}
-use Rattle.poollaws.specs.Promises.{Reached}
-use Rattle.poollaws.specs.View.{recordsIn, records, total, holds, loserIn, issueView, losses, firstWhere, lastWhere, nth, notSent, ofAlarm}
+use Rattle.pool.specs.Pool.{emptyOf, heldIn, settleOf, markOf, unmarkOf, oldestUnsent, newestAlarm, rankIs, rankedOf}
+use Rattle.poollaws.specs.View.{recordsIn, records, total, holds, firstWhere, lastWhere, nth, notSent, ofAlarm}
 use Rattle.poollaws.specs.Views.{Views}
 use Rattle.poollaws.proofs.Counts.{and-left}
 use Rattle.poollaws.proofs.Fullest.{every-place, total-same}
 use Rattle.poollaws.proofs.Inv.{Inv, starts}
-use Rattle.poollaws.proofs.Other.{settle-less, mark-alike, unmark-alike}
+use Rattle.poollaws.proofs.Other.{lost-same, settle-less, mark-alike, unmark-alike}
 use Rattle.poollaws.proofs.Insert.{number, under}
 use Rattle.poollaws.proofs.Records.{records-length, records-count}
 use Rattle.poollaws.proofs.ViewIssue.{issue-view, issue-view-lost}
@@ -41,9 +36,6 @@ first-same : (f g : Place → Bool) → ((x : Place) → f x ≡ g x) → (l : L
 unfolding firstWhere
 first-same f g e [] = refl
 first-same f g e (x ∷ l) = rw (e x, first-same f g e l)
-
-lost-stays : (p r : Pool) (m : ℕ) → r .lost ≡ p .lost → lostOf r m ≡ lostOf p m
-lost-stays p r m s = ap (λ (xs : List ℕ). getD xs m 0) s
 
 asks-unsent : (p : Pool) (m : ℕ) → oldestUnsent p m ≡ firstWhere notSent (records p m)
 asks-unsent p m =
@@ -84,11 +76,11 @@ module _ (n : ℕ) (small : 16 * n ≤ 128) where
         issue = λ p q r e y m. issue-view n small p q (reached-keeps n small p q r) e (y .0) (y .1 .0) (y .1 .1) m;
         issue-lost = λ p q r e y m. issue-view-lost n small p q (reached-keeps n small p q r) e (y .0) (y .1 .0) (y .1 .1) m;
         settle = λ p q r l k m. settle-view p l k (λ a b. reached-keeps n small p q r .once a b) m;
-        settle-lost = λ p l k m. lost-stays p (settleOf p l k) m (settle-less p l k .lost);
+        settle-lost = λ p l k m. lost-same p (settleOf p l k) (settle-less p l k .lost) m;
         mark = λ p q r l k m. mark-view p l k m (reached-keeps n small p q r .once l k);
-        mark-lost = λ p l k m. lost-stays p (markOf p l k) m (mark-alike p l k .lost);
+        mark-lost = λ p l k m. lost-same p (markOf p l k) (mark-alike p l k .lost) m;
         unmark = λ p l m. unmark-view p l m;
-        unmark-lost = λ p l m. lost-stays p (unmarkOf p l) m (unmark-alike p l .lost);
+        unmark-lost = λ p l m. lost-same p (unmarkOf p l) (unmark-alike p l .lost) m;
         oldest-unsent = λ p m. asks-unsent p m;
         newest-alarm = λ p m k. asks-alarm p m k;
         ranked = λ p q r m k. asks-rank n q p (reached-keeps n small p q r) m k;

@@ -9,7 +9,7 @@ use Rattle.entry.specs.declared.Entry.{Entry}
 use Rattle.pool.specs.declared.Place.{Place}
 use Rattle.pool.specs.declared.Pool.{Pool}
 use Rattle.pool.specs.Places.{of}
-use Rattle.pool.specs.Pool.{emptyOf, issueOf, settleOf, markOf, unmarkOf}
+use Rattle.pool.specs.Pool.{issueOf, settleOf, markOf, unmarkOf}
 
 pub data Act : Type 0 where
   Issue : Entry → Act

@@ -1,13 +1,12 @@
 -- What holds of the pool after every list of acts from the empty pool in which the numbers rise. Statements only: their proof is `kept`.
 -- Assumes nothing.
-use Prim.Native.Nat.{ℕ, _+_, _*_, _≤_, _<_}
+use Prim.Native.Nat.{ℕ, _≤_, _<_}
 use mathlib.Core.Path.{_≡_}
-use mathlib.Core.List.{List, [], _∷_}
-use mathlib.Core.Bool.{Bool, true, false}
+use mathlib.Core.List.{List}
+use mathlib.Core.Bool.{false}
 use mathlib.Core.Logic.{_⊎_}
 use lib.ListN.{length}
-use lib.Dec.{ltb, leb}
-use Rattle.basis.specs.Pick.{both}
+use lib.Dec.{ltb}
 use Rattle.basis.specs.Lists.{count}
 use Rattle.entry.specs.declared.Entry.{Entry}
 use Rattle.pool.specs.declared.Place.{Place}

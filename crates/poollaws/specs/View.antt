@@ -3,8 +3,8 @@
 -- Assumes nothing.
 use Prim.Native.Nat.{ℕ, zero, suc, _+_, _-_}
 use mathlib.Core.List.{List, [], _∷_, _++_}
-use mathlib.Core.Bool.{Bool, true, false}
-use lib.Dec.{leb, ltb, eqb}
+use mathlib.Core.Bool.{Bool}
+use lib.Dec.{leb, eqb}
 use lib.ListN.{length, drop}
 use Rattle.basis.specs.Pick.{pick, both, bit}
 use Rattle.entry.specs.declared.Entry.{Entry}

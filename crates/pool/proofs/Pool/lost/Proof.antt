@@ -1,3 +1,5 @@
+-- `pool::Pool::lost` meets its contract.
+-- Assumes nothing.
 use Prim.Native.Nat.{_≤_}
 use mathlib.Core.Path.{_≡_, sym}
 use native.Mathlib.Omega.{arith}
@@ -5,22 +7,16 @@ use lib.ListN.{length, List·getD-eq-default}
 use borrow.Author.Needs.{needs}
 use Rattle.pool.proofs.Pool.lost.Statement.{statement}
 use Rattle.pool.proofs.Pool.lost.Tie as tie
-use Rattle.pool.proofs.Pool.lost.Reads as reads
-use Rattle.pool.proofs.Pool.lost.Lts as lts
 
--- src/lib.rt:207:20
 mul-result : tie.Need-mul-result
 mul-result c = search needs
 
--- src/lib.rt:207:20
 array-read-result : tie.Need-array-read-result
 array-read-result c = search needs
 
--- src/lib.rt:202:5
 returns : tie.Need-returns
 returns c = search needs
 
--- src/lib.rt:202:5
 returns-2 : tie.Need-returns-2
 returns-2 c =
     let h : length (c .before .before .args .self .lost) ≡ 4 = search needs in

@@ -1,5 +1,7 @@
-use Prim.Native.Nat.{_≤_, _-_, _<_}
-use mathlib.Core.Path.{_≡_, sym, ap, _∙_}
+-- `pool::change::all_unsent` meets its contract. The loop goes up: the places passed are changed, the rest are as they were.
+-- Assumes nothing.
+use Prim.Native.Nat.{_≤_, _-_}
+use mathlib.Core.Path.{_≡_, sym, _∙_}
 use native.Mathlib.Omega.{arith}
 use borrow.Author.Needs.{needs}
 use lib.ListN.{length}
@@ -8,9 +10,6 @@ use Rattle.pool.specs.Places.{noPlace}
 use Rattle.pool.specs.Pool.{unsentFor}
 use Rattle.pool.proofs.change.all_unsent.Statement.{statement}
 use Rattle.pool.proofs.change.all_unsent.Tie as tie
-use Rattle.pool.proofs.change.all_unsent.Reads as reads
-use Rattle.pool.proofs.change.all_unsent.Lts as lts
-use Rattle.pool.proofs.change.as_unsent.Reads as as-unsent-reads
 
 abbrev Inv-loop : tie.InvT-loop
 Inv-loop l p q₀ i₀ q i = (i ≤ 128) × (q ≡ part (unsentFor l) i p)
@@ -18,39 +17,30 @@ Inv-loop l p q₀ i₀ q i = (i ≤ 128) × (q ≡ part (unsentFor l) i p)
 abbrev μ-loop : tie.MeasureT-loop
 μ-loop l p q₀ i₀ q i = 128 - i
 
--- src/lib.rt:154:5
 loop-holds : tie.Need-loop-holds Inv-loop μ-loop
 loop-holds c = (omega arith, sym (part-none _ _))
 
--- src/lib.rt:155:26
 mul-as-unsent : tie.Need-mul-as-unsent Inv-loop μ-loop
 mul-as-unsent c = omega arith
 
--- src/lib.rt:155:26
 array-copy-out-as-unsent : tie.Need-array-copy-out-as-unsent Inv-loop μ-loop
 array-copy-out-as-unsent c = omega arith
 
--- src/lib.rt:155:16
 as-unsent-requires : tie.Need-as-unsent-requires Inv-loop μ-loop
 as-unsent-requires c κs = search needs
 
--- src/lib.rt:155:9
 mul-q : tie.Need-mul-q Inv-loop μ-loop
 mul-q c = omega arith
 
--- src/lib.rt:155:9
 array-set-from-q : tie.Need-array-set-from-q Inv-loop μ-loop
 array-set-from-q c = omega arith
 
--- src/lib.rt:156:9
 add-i : tie.Need-add-i Inv-loop μ-loop
 add-i c = omega arith
 
--- src/lib.rt:154:5
 loop-less : tie.Need-loop-less Inv-loop μ-loop
 loop-less c = omega arith
 
--- src/lib.rt:154:5
 loop-again : tie.Need-loop-again Inv-loop μ-loop
 loop-again c =
     let p = c .before .before .before .before .args .t1 in
@@ -58,7 +48,6 @@ loop-again c =
     let h : length p ≡ 128 = search needs in
     (omega arith, rw (← part-next (unsentFor _) i p noPlace (omega arith), ← c .before .before .before .loop .inv .1, c .as-unsent .ensures))
 
--- src/lib.rt:149:1
 returns : tie.Need-returns Inv-loop μ-loop
 returns c =
     let p = c .before .before .args .t1 in

@@ -1,3 +1,5 @@
+-- `pool::change::lose` meets its contract.
+-- Assumes nothing.
 use Prim.Native.Nat.{_≤_}
 use mathlib.Core.Path.{_≡_, sym}
 use native.Mathlib.Omega.{arith}
@@ -7,53 +9,39 @@ use Rattle.pool.specs.Pool.{lossOf}
 use borrow.Author.Needs.{needs}
 use Rattle.pool.proofs.change.lose.Statement.{statement}
 use Rattle.pool.proofs.change.lose.Tie as tie
-use Rattle.pool.proofs.change.lose.Reads as reads
-use Rattle.pool.proofs.change.lose.Lts as lts
-use Rattle.pool.proofs.change.more.Reads as more-reads
 
--- src/lib.rt:66:26
 enum-told : tie.Need-enum-told
 enum-told c = search needs
 
--- src/lib.rt:67:22
 enum-known-who : tie.Need-enum-known-who
 enum-known-who c = search needs
 
--- src/lib.rt:68:21
 cast-i : tie.Need-cast-i
 cast-i c = search needs
 
--- src/lib.rt:70:34
 mul-more : tie.Need-mul-more
 mul-more c = search needs
 
--- src/lib.rt:70:34
 array-read-more : tie.Need-array-read-more
 array-read-more c = search needs
 
--- src/lib.rt:70:29
 more-requires : tie.Need-more-requires
 more-requires c κs = search needs
 
--- src/lib.rt:70:17
 mul-counts : tie.Need-mul-counts
 mul-counts c = search needs
 
--- src/lib.rt:70:17
 array-write-counts : tie.Need-array-write-counts
 array-write-counts c = search needs
 
--- src/lib.rt:71:17
 returns : tie.Need-returns
 unfolding lossOf
 returns c = rw (c .before .before .before .who .given .1, c .more .ensures)
 
--- src/lib.rt:61:1
 returns-2 : tie.Need-returns-2
 unfolding lossOf
 returns-2 c = rw (c .enum-told .given .1)
 
--- src/lib.rt:61:1
 returns-3 : tie.Need-returns-3
 unfolding lossOf
 returns-3 c =

@@ -1,3 +1,5 @@
+-- `pool::change::store` meets its contract.
+-- Assumes nothing.
 use Prim.Native.Nat.{_≤_}
 use mathlib.Core.Path.{_≡_, sym}
 use native.Mathlib.Omega.{arith}
@@ -6,22 +8,16 @@ use lib.Seq.{set-out}
 use borrow.Author.Needs.{needs}
 use Rattle.pool.proofs.change.store.Statement.{statement}
 use Rattle.pool.proofs.change.store.Tie as tie
-use Rattle.pool.proofs.change.store.Reads as reads
-use Rattle.pool.proofs.change.store.Lts as lts
 
--- src/lib.rt:101:9
 mul-q : tie.Need-mul-q
 mul-q c = search needs
 
--- src/lib.rt:101:9
 array-set-from-q : tie.Need-array-set-from-q
 array-set-from-q c = search needs
 
--- src/lib.rt:102:9
 returns : tie.Need-returns
 returns c = search needs
 
--- src/lib.rt:96:1
 returns-2 : tie.Need-returns-2
 returns-2 c =
     let h : length (c .before .args .p) ≡ 128 = search needs in

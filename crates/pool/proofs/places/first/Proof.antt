@@ -1,5 +1,7 @@
+-- `pool::places::first` meets its contract. The loop goes down: what is found is the oldest of the places passed.
+-- Assumes nothing.
 use Prim.Native.Nat.{_≤_}
-use mathlib.Core.Path.{_≡_, sym, ap, _∙_}
+use mathlib.Core.Path.{_≡_, sym}
 use native.Mathlib.Omega.{arith}
 use borrow.Author.Needs.{needs}
 use lib.ListN.{length, drop}
@@ -7,10 +9,6 @@ use Rattle.pool.proofs.Down.{oldest-down, oldest-end}
 use Rattle.pool.specs.Places.{fits, oldestFrom}
 use Rattle.pool.proofs.places.first.Statement.{statement}
 use Rattle.pool.proofs.places.first.Tie as tie
-use Rattle.pool.proofs.places.first.Reads as reads
-use Rattle.pool.proofs.places.first.Lts as lts
-use Rattle.pool.proofs.places.asked.Reads as asked-reads
-use Rattle.pool.proofs.places.old.Reads as old-reads
 
 abbrev Inv-loop : tie.InvT-loop
 Inv-loop w p b₀ i₀ b i = (i ≤ 128) × (b ≡ oldestFrom (fits w) i (drop i p))
@@ -18,37 +16,29 @@ Inv-loop w p b₀ i₀ b i = (i ≤ 128) × (b ≡ oldestFrom (fits w) i (drop i
 abbrev μ-loop : tie.MeasureT-loop
 μ-loop w p b₀ i₀ b i = i
 
--- src/places.rt:108:5
 loop-holds : tie.Need-loop-holds Inv-loop μ-loop
 loop-holds c =
     let h : length (c .args .t1) ≡ 128 = search needs in
     (omega arith, sym (oldest-end _ (c .args .t1) 128 (omega arith)))
 
--- src/places.rt:109:9
 sub-i : tie.Need-sub-i Inv-loop μ-loop
 sub-i c = omega arith
 
--- src/places.rt:110:17
 mul-x : tie.Need-mul-x Inv-loop μ-loop
 mul-x c = omega arith
 
--- src/places.rt:110:17
 array-copy-out-x : tie.Need-array-copy-out-x Inv-loop μ-loop
 array-copy-out-x c = omega arith
 
--- src/places.rt:111:17
 asked-requires : tie.Need-asked-requires Inv-loop μ-loop
 asked-requires c κs = search needs
 
--- src/places.rt:111:9
 old-requires : tie.Need-old-requires Inv-loop μ-loop
 old-requires c κs = search needs
 
--- src/places.rt:108:5
 loop-less : tie.Need-loop-less Inv-loop μ-loop
 loop-less c = omega arith
 
--- src/places.rt:108:5
 loop-again : tie.Need-loop-again Inv-loop μ-loop
 loop-again c =
     let p = c .before .before .before .before .before .args .t1 in
@@ -56,7 +46,6 @@ loop-again c =
     let h : length p ≡ 128 = search needs in
     (omega arith, rw (oldest-down _ p i (omega arith) (omega arith), ← c .before .asked .ensures, ← c .before .before .before .before .loop .inv .1) (c .old .ensures))
 
--- src/places.rt:103:1
 returns : tie.Need-returns Inv-loop μ-loop
 returns c =
     let e : c .before .loop .i ≡ 0 = omega arith in

@@ -1,27 +1,22 @@
+-- `pool::places::high` meets its contract.
+-- Assumes nothing.
 use borrow.Author.Tests.{lt-ltb, le-ltb}
 use borrow.Author.Needs.{needs}
 use Rattle.pool.proofs.places.high.Statement.{statement}
 use Rattle.pool.proofs.places.high.Tie as tie
-use Rattle.pool.proofs.places.high.Reads as reads
-use Rattle.pool.proofs.places.high.Lts as lts
 
--- src/places.rt:79:26
 enum-told : tie.Need-enum-told
 enum-told c = search needs
 
--- src/places.rt:80:18
 enum-known-b : tie.Need-enum-known-b
 enum-known-b c = search needs
 
--- src/places.rt:75:1
 returns : tie.Need-returns
 returns c = rw (c .enum-told .given .1)
 
--- src/places.rt:75:1
 returns-2 : tie.Need-returns-2
 returns-2 c = rw (c .before .before .before .before .b .given .1, lt-ltb _ _ (c .if1 .taken))
 
--- src/places.rt:75:1
 returns-3 : tie.Need-returns-3
 returns-3 c = rw (c .before .before .before .before .b .given .1, le-ltb _ _ (c .if1 .left))
 

@@ -1,27 +1,22 @@
+-- `pool::places::low` meets its contract.
+-- Assumes nothing.
 use borrow.Author.Tests.{le-leb, lt-leb}
 use borrow.Author.Needs.{needs}
 use Rattle.pool.proofs.places.low.Statement.{statement}
 use Rattle.pool.proofs.places.low.Tie as tie
-use Rattle.pool.proofs.places.low.Reads as reads
-use Rattle.pool.proofs.places.low.Lts as lts
 
--- src/places.rt:64:26
 enum-told : tie.Need-enum-told
 enum-told c = search needs
 
--- src/places.rt:65:18
 enum-known-b : tie.Need-enum-known-b
 enum-known-b c = search needs
 
--- src/places.rt:60:1
 returns : tie.Need-returns
 returns c = rw (c .enum-told .given .1)
 
--- src/places.rt:60:1
 returns-2 : tie.Need-returns-2
 returns-2 c = rw (c .before .before .before .before .b .given .1, le-leb _ _ (c .if1 .taken))
 
--- src/places.rt:60:1
 returns-3 : tie.Need-returns-3
 returns-3 c = rw (c .before .before .before .before .b .given .1, lt-leb _ _ (c .if1 .left))
 

@@ -1,18 +1,15 @@
+-- `pool::places::number` meets its contract. The loop goes down: what is counted is the count over the places passed.
+-- Assumes nothing.
 use Prim.Native.Nat.{_≤_}
-use mathlib.Core.Path.{_≡_, sym, ap, _∙_}
+use mathlib.Core.Path.{_≡_, sym}
 use native.Mathlib.Omega.{arith}
 use borrow.Author.Needs.{needs}
 use lib.ListN.{length, drop, length-drop}
 use Rattle.pool.proofs.Down.{count-down, count-end, count-most}
-use Rattle.basis.specs.Pick.{bit}
 use Rattle.basis.specs.Lists.{count}
 use Rattle.pool.specs.Places.{fits}
 use Rattle.pool.proofs.places.number.Statement.{statement}
 use Rattle.pool.proofs.places.number.Tie as tie
-use Rattle.pool.proofs.places.number.Reads as reads
-use Rattle.pool.proofs.places.number.Lts as lts
-use Rattle.pool.proofs.places.add.Reads as add-reads
-use Rattle.pool.proofs.places.asked.Reads as asked-reads
 
 abbrev Inv-loop : tie.InvT-loop
 Inv-loop w p n₀ i₀ n i = (i ≤ 128) × (n ≡ count (fits w) (drop i p))
@@ -20,29 +17,23 @@ Inv-loop w p n₀ i₀ n i = (i ≤ 128) × (n ≡ count (fits w) (drop i p))
 abbrev μ-loop : tie.MeasureT-loop
 μ-loop w p n₀ i₀ n i = i
 
--- src/places.rt:53:5
 loop-holds : tie.Need-loop-holds Inv-loop μ-loop
 loop-holds c =
     let h : length (c .args .t1) ≡ 128 = search needs in
     (omega arith, sym (count-end _ (c .args .t1) 128 (omega arith)))
 
--- src/places.rt:54:9
 sub-i : tie.Need-sub-i Inv-loop μ-loop
 sub-i c = omega arith
 
--- src/places.rt:55:26
 mul-asked : tie.Need-mul-asked Inv-loop μ-loop
 mul-asked c = omega arith
 
--- src/places.rt:55:26
 array-copy-out-asked : tie.Need-array-copy-out-asked Inv-loop μ-loop
 array-copy-out-asked c = omega arith
 
--- src/places.rt:55:20
 asked-requires : tie.Need-asked-requires Inv-loop μ-loop
 asked-requires c κs = search needs
 
--- src/places.rt:55:9
 add-requires : tie.Need-add-requires Inv-loop μ-loop
 add-requires c κs =
     let p = c .before .before .before .before .args .t1 in
@@ -50,11 +41,9 @@ add-requires c κs =
     let h : length p ≡ 128 = search needs in
     omega (arith, count-most (fits (c .before .before .before .before .args .w)) (drop i p), length-drop i p)
 
--- src/places.rt:53:5
 loop-less : tie.Need-loop-less Inv-loop μ-loop
 loop-less c = omega arith
 
--- src/places.rt:53:5
 loop-again : tie.Need-loop-again Inv-loop μ-loop
 loop-again c =
     let p = c .before .before .before .before .before .args .t1 in
@@ -62,7 +51,6 @@ loop-again c =
     let h : length p ≡ 128 = search needs in
     (omega arith, rw (count-down _ p i (omega arith) (omega arith), ← c .before .asked .ensures, ← c .before .before .before .before .loop .inv .1) (c .add .ensures))
 
--- src/places.rt:48:1
 returns : tie.Need-returns Inv-loop μ-loop
 returns c =
     let e : c .before .loop .i ≡ 0 = omega arith in

@@ -1,3 +1,5 @@
+-- `pool::shares::crowded_for` meets its contract.
+-- Assumes nothing.
 use borrow.Author.Tests.{lt-ltb, le-ltb, eq-eqb, ne-eqb}
 use native.Mathlib.Omega.{arith}
 use Prim.Native.Nat.{_<_, _≤_}
@@ -7,22 +9,14 @@ use Rattle.pool.specs.Pool.{freeIn}
 use borrow.Author.Needs.{needs}
 use Rattle.pool.proofs.shares.crowded_for.Statement.{statement}
 use Rattle.pool.proofs.shares.crowded_for.Tie as tie
-use Rattle.pool.proofs.shares.crowded_for.Reads as reads
-use Rattle.pool.proofs.shares.crowded_for.Lts as lts
-use Rattle.pool.proofs.places.number.Reads as number-reads
-use Rattle.pool.proofs.shares.holds.Reads as holds-reads
-use Rattle.pool.proofs.shares.others_within.Reads as others-within-reads
 
--- src/shares.rt:70:9
 returns : tie.Need-returns
 unfolding crowdedOf
 returns c = rw (le-ltb _ 4 (c .if1 .taken))
 
--- src/shares.rt:72:12
 number-requires : tie.Need-number-requires
 number-requires c κs = search needs
 
--- src/shares.rt:73:9
 returns-2 : tie.Need-returns-2
 unfolding crowdedOf
 returns-2 c =
@@ -30,11 +24,9 @@ returns-2 c =
     let e : freeIn (c .before .before .before .args .p) ≡ 0 → ⊥ = λ z. omega arith in
     rw (lt-ltb _ 4 (c .before .before .if1 .left), ne-eqb _ 0 e)
 
--- src/shares.rt:75:14
 holds-requires : tie.Need-holds-requires
 holds-requires c κs = search needs
 
--- src/shares.rt:76:9
 returns-3 : tie.Need-returns-3
 unfolding crowdedOf
 returns-3 c =
@@ -44,11 +36,9 @@ returns-3 c =
     let b = eq-eqb _ 0 e in
     rw (a, b, le-ltb _ 16 (rw (c .before .holds .ensures) at (c .if3 .taken)))
 
--- src/shares.rt:78:5
 others-within-requires : tie.Need-others-within-requires
 others-within-requires c κs = search needs
 
--- src/shares.rt:66:1
 returns-4 : tie.Need-returns-4
 unfolding crowdedOf
 returns-4 c =

@@ -1,24 +1,19 @@
+-- `pool::shares::fuller_of` meets its contract.
+-- Assumes nothing.
 use borrow.Author.Tests.{lt-ltb, le-ltb}
 use borrow.Author.Needs.{needs}
 use Rattle.pool.proofs.shares.fuller_of.Statement.{statement}
 use Rattle.pool.proofs.shares.fuller_of.Tie as tie
-use Rattle.pool.proofs.shares.fuller_of.Reads as reads
-use Rattle.pool.proofs.shares.fuller_of.Lts as lts
-use Rattle.pool.proofs.shares.holds.Reads as holds-reads
 
--- src/shares.rt:25:8
 holds-requires : tie.Need-holds-requires
 holds-requires c κs = search needs
 
--- src/shares.rt:25:22
 holds-requires-2 : tie.Need-holds-requires-2
 holds-requires-2 c κs = search needs
 
--- src/shares.rt:22:1
 returns : tie.Need-returns
 returns c = simp (lt-ltb _ _ (rw (c .before .before .holds .ensures, c .before .holds2 .ensures) at (c .if1 .taken)))
 
--- src/shares.rt:22:1
 returns-2 : tie.Need-returns-2
 returns-2 c = simp (le-ltb _ _ (rw (c .before .before .holds .ensures, c .before .holds2 .ensures) at (c .if1 .left)))
 

@@ -1,41 +1,32 @@
+-- `pool::shares::loser_for` meets its contract.
+-- Assumes nothing.
 use borrow.Author.Tests.{lt-ltb, le-ltb, le-leb, lt-leb}
-use mathlib.Core.Path.{ap, _∙_}
+use mathlib.Core.Path.{ap}
 use Rattle.pool.specs.Shares.{loser}
 use Rattle.pool.specs.declared.Loser.the-variants.{Owner}
 use borrow.Author.Needs.{needs}
 use Rattle.pool.proofs.shares.loser_for.Statement.{statement}
 use Rattle.pool.proofs.shares.loser_for.Tie as tie
-use Rattle.pool.proofs.shares.loser_for.Reads as reads
-use Rattle.pool.proofs.shares.loser_for.Lts as lts
-use Rattle.pool.proofs.places.number.Reads as number-reads
-use Rattle.pool.proofs.shares.fullest_of.Reads as fullest-of-reads
-use Rattle.pool.proofs.shares.holds.Reads as holds-reads
 
--- src/shares.rt:39:9
 holds-requires : tie.Need-holds-requires
 holds-requires c κs = search needs
 
--- src/shares.rt:41:9
 returns : tie.Need-returns
 unfolding loser
 returns c = rw (le-leb _ _ (rw (c .before .holds .ensures) at (c .if1 .taken)))
 
--- src/shares.rt:43:12
 number-requires : tie.Need-number-requires
 number-requires c κs = search needs
 
--- src/shares.rt:44:9
 returns-2 : tie.Need-returns-2
 unfolding loser
 returns-2 c =
     let a = lt-leb _ _ (rw (c .before .before .before .holds .ensures) at (c .before .before .if1 .left)) in
     rw (a, lt-ltb _ _ (rw (c .before .number .ensures) at (c .if2 .taken)))
 
--- src/shares.rt:47:22
 fullest-of-requires : tie.Need-fullest-of-requires
 fullest-of-requires c κs = search needs
 
--- src/shares.rt:36:1
 returns-3 : tie.Need-returns-3
 unfolding loser
 returns-3 c =
@@ -44,7 +35,6 @@ returns-3 c =
     let b = le-ltb _ _ (rw (c .before .before .before .number .ensures) at (c .before .before .if2 .left)) in
     rw (a, b, lt-ltb _ _ (rw held at (c .before .if3 .taken))) (ap Owner (c .fullest-of .ensures))
 
--- src/shares.rt:36:1
 returns-4 : tie.Need-returns-4
 unfolding loser
 returns-4 c =

@@ -1,41 +1,31 @@
+-- `pool::shares::others_within` meets its contract.
+-- Assumes nothing.
 use Rattle.pool.specs.Shares.{noOther}
 use borrow.Author.Needs.{needs}
 use Rattle.pool.proofs.shares.others_within.Statement.{statement}
 use Rattle.pool.proofs.shares.others_within.Tie as tie
-use Rattle.pool.proofs.shares.others_within.Reads as reads
-use Rattle.pool.proofs.shares.others_within.Lts as lts
-use Rattle.pool.proofs.places.and.Reads as and-reads
-use Rattle.pool.proofs.shares.within.Reads as within-reads
 
--- src/shares.rt:62:17
 within-requires : tie.Need-within-requires
 within-requires c κs = search needs
 
--- src/shares.rt:62:34
 within-requires-2 : tie.Need-within-requires-2
 within-requires-2 c κs = search needs
 
--- src/shares.rt:62:13
 and-requires : tie.Need-and-requires
 and-requires c κs = search needs
 
--- src/shares.rt:62:52
 within-requires-3 : tie.Need-within-requires-3
 within-requires-3 c κs = search needs
 
--- src/shares.rt:62:9
 and-requires-2 : tie.Need-and-requires-2
 and-requires-2 c κs = search needs
 
--- src/shares.rt:62:70
 within-requires-4 : tie.Need-within-requires-4
 within-requires-4 c κs = search needs
 
--- src/shares.rt:62:5
 and-requires-3 : tie.Need-and-requires-3
 and-requires-3 c κs = search needs
 
--- src/shares.rt:59:1
 returns : tie.Need-returns
 unfolding noOther
 returns c =
