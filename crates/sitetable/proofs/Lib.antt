@@ -9,3 +9,4 @@ pub mod Sound
 pub mod Complete
 pub mod Whole
 pub mod Lookups
+pub mod Sample

@@ -1,7 +1,7 @@
+use mathlib.Core.Bool.{true, false}
 use Prim.Native.Nat.{_≤_, _-_}
-use mathlib.Core.Path.{_≡_, sym, ap, _∙_}
+use mathlib.Core.Path.{_≡_, sym}
 use native.Mathlib.Nat.{sub-zero}
-use Rattle.item.specs.Item.{isItem}
 use Rattle.item.specs.Find.{firstFrom, itemAt}
 use Rattle.item.proofs.First.{stops, goes-on, ends}
 use borrow.Author.Needs.{needs}
@@ -27,7 +27,8 @@ returns : tie.Need-returns Inv-loop μ-loop
 returns c =
     let a = c .before .before .before .before .before .before .before .args in
     let l = c .before .before .before .before .loop in
-    let t = ap (isItem (a .component) (a .code .now) (a .name .now)) (sym (c .before .before .item-in .ensures)) ∙ sym (c .before .is .ensures) ∙ c .if1 .taken in
+    let t : itemAt (a .items) (a .component) (a .code .now) (a .name .now) (l .i) ≡ true =
+    rw (← (c .before .before .item-in .ensures)) (rw (c .before .is .ensures) at (c .if1 .taken)) in
     sym (stops (itemAt (a .items) (a .component) (a .code .now) (a .name .now)) (a .count) (l .i) _ (l .inv .1) (search needs) t)
 
 add-i : tie.Need-add-i Inv-loop μ-loop
@@ -40,7 +41,8 @@ loop-again : tie.Need-loop-again Inv-loop μ-loop
 loop-again c =
     let a = c .before .before .before .before .before .before .before .args in
     let l = c .before .before .before .before .loop in
-    let t = ap (isItem (a .component) (a .code .now) (a .name .now)) (sym (c .before .before .item-in .ensures)) ∙ sym (c .before .is .ensures) ∙ c .if1 .left in
+    let t : itemAt (a .items) (a .component) (a .code .now) (a .name .now) (l .i) ≡ false =
+    rw (← (c .before .before .item-in .ensures)) (rw (c .before .is .ensures) at (c .if1 .left)) in
     (search needs, goes-on (itemAt (a .items) (a .component) (a .code .now) (a .name .now)) (a .count) (l .i) _ (l .inv .1) (search needs) t)
 
 returns-2 : tie.Need-returns-2 Inv-loop μ-loop

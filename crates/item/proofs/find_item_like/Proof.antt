@@ -1,7 +1,6 @@
-use mathlib.Core.Path.{_≡_, ap₂, _∙_}
+use mathlib.Core.Path.{_≡_}
 use lib.ListN.{length}
 use Rattle.label.proofs.Text.{text-part}
-use Rattle.item.specs.Find.{findItem}
 use borrow.Author.Needs.{needs}
 use Rattle.item.proofs.find_item_like.Statement.{statement}
 use Rattle.item.proofs.find_item_like.Tie as tie
@@ -43,7 +42,7 @@ returns c =
     let a = p .before .before .before .before .args in
     let k = text-part (a .row .code) (search needs) _ (p .before .size .ensures) in
     let m = text-part (a .row .name) (search needs) _ (p .size2 .ensures) in
-    c .find-item .ensures ∙ ap₂ (findItem (a .items) (a .count) (a .row .component)) k m
+    rw (k, m) at (c .find-item .ensures)
 
 pub find-item-like-spec : {M : Type 1} → statement M
 find-item-like-spec =
