@@ -1,8 +1,8 @@
 // Reads packets from standard input and writes what each means on a line, or `-` where it is none; tests/packets.py makes the
 // packets and the lines. The first part of a line walks the tokens, the second looks up the members of the packet's object.
+use character::Char;
 use feed::Case;
 use jsonfind::Kind;
-use character::Char;
 use text::Read;
 
 struct Walk {
