@@ -7,8 +7,10 @@ import os
 import pathlib
 import platform
 import shutil
+import random
 import subprocess
 import sys
+import time
 
 ROOT = pathlib.Path(__file__).resolve().parent.parent
 
@@ -18,6 +20,12 @@ def case(kind, body):
         body = body.encode("ascii")
     assert len(kind) == 1 and len(body) < 10000
     return kind.encode("ascii") + b"%04d\n" % len(body) + body + b"\n"
+
+
+def split(pairs):
+    """Cases and their answers, from pairs of them."""
+    pairs = list(pairs)
+    return [given for given, _ in pairs], [answer for _, answer in pairs]
 
 
 def stored(program, cases, answers):
@@ -63,3 +71,26 @@ def compare(program, cases, answers, what):
     if len(got) != len(answers):
         sys.exit(f"{program}: {what}: {len(answers)} answers expected, {len(got)} given")
     print(f"{program}: {what}: {len(cases)} cases agree")
+
+
+def script(program, stored_pairs, fresh, usage):
+    """The command line of a script that makes cases for a program: --write, --stored, --fresh [SEED].
+
+    `stored_pairs()` gives the stored pairs of a case and its answer; `fresh(source)` gives, for a source of random numbers, what
+    is run and its pairs, one after the other."""
+    words = sys.argv[1:]
+    if words == ["--write"]:
+        write(program, *split(stored_pairs()))
+        return 0
+    if words == ["--stored"]:
+        good = stored(program, *split(stored_pairs()))
+        print(f"{program}: the stored cases are what the script makes" if good else f"{program}: stored cases differ")
+        return 0 if good else 1
+    if words[:1] == ["--fresh"]:
+        seed = int(words[1]) if len(words) > 1 else time.time_ns() % 10**9
+        print(f"{program}: seed {seed}")
+        for what, pairs in fresh(random.Random(seed)):
+            compare(program, *split(pairs), what)
+        return 0
+    print(usage)
+    return 2

@@ -16,7 +16,6 @@ import copy
 import random
 import struct
 import sys
-import time
 
 import cases
 from cases import case
@@ -314,11 +313,6 @@ def misplaced():
     return run.pairs
 
 
-def split(pairs):
-    pairs = list(pairs)
-    return [c for c, _ in pairs], [a for _, a in pairs]
-
-
 def stored_pairs():
     yield from filled()
     yield from waited()
@@ -329,22 +323,9 @@ def stored_pairs():
     yield from lists(random.Random(4), 7, (20, 80, 120))
 
 
-def main(words):
-    if words == ["--write"]:
-        cases.write("linkacts", *split(stored_pairs()))
-        return 0
-    if words == ["--stored"]:
-        good = cases.stored("linkacts", *split(stored_pairs()))
-        print("linkacts: the stored cases are what the script makes" if good else "linkacts: stored cases differ")
-        return 0 if good else 1
-    if words[:1] == ["--fresh"]:
-        seed = int(words[1]) if len(words) > 1 else time.time_ns() % 10**9
-        print(f"linkacts: seed {seed}")
-        cases.compare("linkacts", *split(lists(random.Random(seed), 300)), "random acts")
-        return 0
-    print(__doc__)
-    return 2
+def fresh(source):
+    yield "random acts", lists(source, 300)
 
 
 if __name__ == "__main__":
-    sys.exit(main(sys.argv[1:]))
+    sys.exit(cases.script("linkacts", stored_pairs, fresh, __doc__))

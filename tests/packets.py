@@ -13,7 +13,6 @@ array's elements.
 import json
 import random
 import sys
-import time
 
 import cases
 from cases import case
@@ -286,34 +285,16 @@ def randoms(source, count):
         yield damaged(source, packet)
 
 
-def split(packets):
-    pairs = [pair(packet) for packet in packets]
-    return [c for c, _ in pairs], [a for _, a in pairs]
+def stored_pairs():
+    for packet in (*fixed(), *randoms(random.Random(2), 500)):
+        yield pair(packet)
 
 
-def stored_packets():
-    yield from fixed()
-    yield from randoms(random.Random(2), 500)
-
-
-def main(words):
-    if words == ["--write"]:
-        cases.write("packets", *split(stored_packets()))
-        return 0
-    if words == ["--stored"]:
-        good = cases.stored("packets", *split(stored_packets()))
-        print("packets: the stored cases are what the script makes" if good else "packets: stored cases differ")
-        return 0 if good else 1
-    if words[:1] == ["--fresh"]:
-        seed = int(words[1]) if len(words) > 1 else time.time_ns() % 10**9
-        print(f"packets: seed {seed}")
-        given, answers = split(randoms(random.Random(seed), 20000))
-        accepted = sum(a != b"-\n" for a in answers)
-        cases.compare("packets", given, answers, f"random packets, {accepted} of them accepted,")
-        return 0
-    print(__doc__)
-    return 2
+def fresh(source):
+    pairs = [pair(packet) for packet in randoms(source, 20000)]
+    accepted = sum(answer != b"-\n" for _, answer in pairs)
+    yield f"random packets, {accepted} of them accepted,", pairs
 
 
 if __name__ == "__main__":
-    sys.exit(main(sys.argv[1:]))
+    sys.exit(cases.script("packets", stored_pairs, fresh, __doc__))

@@ -7,7 +7,6 @@
 import random
 import struct
 import sys
-import time
 
 import cases
 from cases import case
@@ -125,33 +124,15 @@ def beyond():
     return run.pairs
 
 
-def split(pairs):
-    pairs = list(pairs)
-    return [c for c, _ in pairs], [a for _, a in pairs]
-
-
 def stored_pairs():
     yield from marked()
     yield from beyond()
     yield from lists(random.Random(3), 12)
 
 
-def main(words):
-    if words == ["--write"]:
-        cases.write("poolacts", *split(stored_pairs()))
-        return 0
-    if words == ["--stored"]:
-        good = cases.stored("poolacts", *split(stored_pairs()))
-        print("poolacts: the stored cases are what the script makes" if good else "poolacts: stored cases differ")
-        return 0 if good else 1
-    if words[:1] == ["--fresh"]:
-        seed = int(words[1]) if len(words) > 1 else time.time_ns() % 10**9
-        print(f"poolacts: seed {seed}")
-        cases.compare("poolacts", *split(lists(random.Random(seed), 150)), "random acts")
-        return 0
-    print(__doc__)
-    return 2
+def fresh(source):
+    yield "random acts", lists(source, 150)
 
 
 if __name__ == "__main__":
-    sys.exit(main(sys.argv[1:]))
+    sys.exit(cases.script("poolacts", stored_pairs, fresh, __doc__))

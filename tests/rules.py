@@ -13,7 +13,6 @@ import itertools
 import random
 import struct
 import sys
-import time
 
 import cases
 from cases import case
@@ -215,11 +214,6 @@ def lists(source, count, lengths=(20, 100, 300)):
         yield from Run(source, start).run(source.choice(lengths))
 
 
-def split(pairs):
-    pairs = list(pairs)
-    return [c for c, _ in pairs], [a for _, a in pairs]
-
-
 def stored_pairs():
     yield from alarm_rules()
     yield from interval_rules()
@@ -228,22 +222,9 @@ def stored_pairs():
     yield from lists(random.Random(5), 10)
 
 
-def main(words):
-    if words == ["--write"]:
-        cases.write("ruleacts", *split(stored_pairs()))
-        return 0
-    if words == ["--stored"]:
-        good = cases.stored("ruleacts", *split(stored_pairs()))
-        print("ruleacts: the stored cases are what the script makes" if good else "ruleacts: stored cases differ")
-        return 0 if good else 1
-    if words[:1] == ["--fresh"]:
-        seed = int(words[1]) if len(words) > 1 else time.time_ns() % 10**9
-        print(f"ruleacts: seed {seed}")
-        cases.compare("ruleacts", *split(lists(random.Random(seed), 300)), "random acts")
-        return 0
-    print(__doc__)
-    return 2
+def fresh(source):
+    yield "random acts", lists(source, 300)
 
 
 if __name__ == "__main__":
-    sys.exit(main(sys.argv[1:]))
+    sys.exit(cases.script("ruleacts", stored_pairs, fresh, __doc__))

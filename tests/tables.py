@@ -6,7 +6,6 @@
 """
 import random
 import sys
-import time
 
 import cases
 from cases import case
@@ -461,26 +460,9 @@ def fresh_pairs(source):
     return run.pairs
 
 
-def split(pairs):
-    return [c for c, _ in pairs], [a for _, a in pairs]
-
-
-def main(words):
-    if words == ["--write"]:
-        cases.write("tables", *split(stored_pairs()))
-        return 0
-    if words == ["--stored"]:
-        good = cases.stored("tables", *split(stored_pairs()))
-        print("tables: the stored cases are what the script makes" if good else "tables: stored cases differ")
-        return 0 if good else 1
-    if words[:1] == ["--fresh"]:
-        seed = int(words[1]) if len(words) > 1 else time.time_ns() % 10**9
-        print(f"tables: seed {seed}")
-        cases.compare("tables", *split(fresh_pairs(random.Random(seed))), "random and damaged tables, and lookups")
-        return 0
-    print(__doc__)
-    return 2
+def fresh(source):
+    yield "random and damaged tables, and lookups", fresh_pairs(source)
 
 
 if __name__ == "__main__":
-    sys.exit(main(sys.argv[1:]))
+    sys.exit(cases.script("tables", stored_pairs, fresh, __doc__))

@@ -10,7 +10,6 @@ import random
 import re
 import struct
 import sys
-import time
 import uuid
 
 import cases
@@ -310,11 +309,6 @@ def everything(source, count):
         yield from part(source, count)
 
 
-def split(pairs):
-    pairs = list(pairs)
-    return [c for c, _ in pairs], [a for _, a in pairs]
-
-
 def stored_pairs():
     source = random.Random(1)
     yield from everything(source, 400)
@@ -322,24 +316,11 @@ def stored_pairs():
         yield from both_times(ms)
 
 
-def main(words):
-    if words == ["--write"]:
-        cases.write("vectors", *split(stored_pairs()))
-        return 0
-    if words == ["--stored"]:
-        good = cases.stored("vectors", *split(stored_pairs()))
-        print("vectors: the stored cases are what the script makes" if good else "vectors: stored cases differ")
-        return 0 if good else 1
-    if words[:1] == ["--fresh"]:
-        seed = int(words[1]) if len(words) > 1 else time.time_ns() % 10**9
-        print(f"vectors: seed {seed}")
-        cases.compare("vectors", *split(everything(random.Random(seed), 5000)), "random cases")
-        edges = (pair for ms in month_edges(range(1970, 10000)) for pair in both_times(ms))
-        cases.compare("vectors", *split(edges), "first and last millisecond of every month, both ways")
-        return 0
-    print(__doc__)
-    return 2
+def fresh(source):
+    yield "random cases", everything(source, 5000)
+    yield "first and last millisecond of every month, both ways", (
+        pair for ms in month_edges(range(1970, 10000)) for pair in both_times(ms))
 
 
 if __name__ == "__main__":
-    sys.exit(main(sys.argv[1:]))
+    sys.exit(cases.script("vectors", stored_pairs, fresh, __doc__))
