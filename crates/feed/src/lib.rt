@@ -109,6 +109,36 @@ pub fn unhex(s: &[u8], bytes: &mut [u8]) {
     }
 }
 
+// The first forty bytes that stand in s as hexadecimal digits, zeros behind them.
+pub fn forty(s: &[u8]) -> [u8; 40] {
+    let mut bytes = [0u8; 40];
+    unhex(s, &mut bytes);
+    bytes
+}
+
+// The number of the n bytes from byte at on.
+fn field(bytes: [u8; 40], at: usize, n: usize) -> u64 {
+    if at < 40 {
+        if n <= 40 - at {
+            let end = at + n;
+            return bits::number(&bytes[at..end]);
+        }
+    }
+    0
+}
+
+pub fn wide(bytes: [u8; 40], at: usize) -> u64 {
+    field(bytes, at, 8)
+}
+
+pub fn long(bytes: [u8; 40], at: usize) -> u32 {
+    (field(bytes, at, 4) % 4294967296) as u32
+}
+
+pub fn short(bytes: [u8; 40], at: usize) -> u16 {
+    (field(bytes, at, 2) % 65536) as u16
+}
+
 fn digit_of(n: u8) -> u8 {
     let digits = *b"0123456789abcdef";
     digits[(n % 16) as usize]

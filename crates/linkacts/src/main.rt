@@ -28,21 +28,6 @@ struct Turn {
     more: bool,
 }
 
-// The number of the n bytes from byte at on.
-fn field(bytes: [u8; 38], at: usize, n: usize) -> u64 {
-    if at < 38 {
-        if n <= 38 - at {
-            let end = at + n;
-            return bits::number(&bytes[at..end]);
-        }
-    }
-    0
-}
-
-fn long(bytes: [u8; 38], at: usize) -> u32 {
-    (field(bytes, at, 4) % 4294967296) as u32
-}
-
 fn identity_in(body: &[u8]) -> Identity {
     let mut bytes = [0u8; 16];
     feed::unhex(body, &mut bytes);
@@ -51,17 +36,16 @@ fn identity_in(body: &[u8]) -> Identity {
 
 // Identity 16 bytes, or three numbers of 4; time 8; sequence number, period, alarms 4 each; primary, unsent 1 each.
 fn given_in(body: &[u8]) -> Given {
-    let mut b = [0u8; 38];
-    feed::unhex(body, &mut b);
+    let b = feed::forty(body);
     Given {
         id: identity_in(body),
-        time: field(b, 16, 8),
-        major: long(b, 0),
-        minor: long(b, 4),
-        patch: long(b, 8),
-        sequence: long(b, 24),
-        period: long(b, 28),
-        alarms: long(b, 32),
+        time: feed::wide(b, 16),
+        major: feed::long(b, 0),
+        minor: feed::long(b, 4),
+        patch: feed::long(b, 8),
+        sequence: feed::long(b, 24),
+        period: feed::long(b, 28),
+        alarms: feed::long(b, 32),
         primary: b[36] == 1,
         unsent: b[37] == 1,
     }

@@ -10,44 +10,25 @@ struct Turn {
     more: bool,
 }
 
-// The number of the n bytes from byte at on.
-fn field(bytes: [u8; 24], at: usize, n: usize) -> u64 {
-    if at < 24 {
-        if n <= 24 - at {
-            let end = at + n;
-            return bits::number(&bytes[at..end]);
-        }
-    }
-    0
-}
-
-fn short(bytes: [u8; 24], at: usize) -> u16 {
-    (field(bytes, at, 2) % 65536) as u16
-}
-
-fn long(bytes: [u8; 24], at: usize) -> u32 {
-    (field(bytes, at, 4) % 4294967296) as u32
-}
-
-fn entry_in(b: [u8; 24]) -> Entry {
+fn entry_in(b: [u8; 40]) -> Entry {
     Entry {
-        time: field(b, 8, 8),
-        value: long(b, 16),
-        sequence: long(b, 20),
-        link: short(b, 0),
-        kind: short(b, 2),
-        item: short(b, 4),
-        flags: short(b, 6),
+        time: feed::wide(b, 8),
+        value: feed::long(b, 16),
+        sequence: feed::long(b, 20),
+        link: feed::short(b, 0),
+        kind: feed::short(b, 2),
+        item: feed::short(b, 4),
+        flags: feed::short(b, 6),
     }
 }
 
-fn acted(kind: u8, b: [u8; 24], pool: Pool) -> Pool {
+fn acted(kind: u8, b: [u8; 40], pool: Pool) -> Pool {
     match kind {
         b'0' => Pool::empty(),
         b'i' => pool.issue(entry_in(b)),
-        b's' => pool.settle(short(b, 0), long(b, 2)),
-        b'm' => pool.mark_sent(short(b, 0), long(b, 2)),
-        b'u' => pool.unmark(short(b, 0)),
+        b's' => pool.settle(feed::short(b, 0), feed::long(b, 2)),
+        b'm' => pool.mark_sent(feed::short(b, 0), feed::long(b, 2)),
+        b'u' => pool.unmark(feed::short(b, 0)),
         _ => pool,
     }
 }
@@ -90,12 +71,18 @@ fn put_crowded(line: &mut [u8], crowded: bool) -> usize {
     }
 }
 
-fn said(kind: u8, b: [u8; 24], pool: Pool, line: &mut [u8]) -> usize {
+fn said(kind: u8, b: [u8; 40], pool: Pool, line: &mut [u8]) -> usize {
     match kind {
-        b'o' => put_sought(line, pool.oldest_unsent(short(b, 0))),
-        b'a' => put_sought(line, pool.newest_alarm(short(b, 0), short(b, 2))),
-        b'k' => put_sought(line, pool.ranked(short(b, 0), short(b, 2) as usize)),
-        b'c' => put_crowded(line, pool.crowded(short(b, 0))),
+        b'o' => put_sought(line, pool.oldest_unsent(feed::short(b, 0))),
+        b'a' => put_sought(
+            line,
+            pool.newest_alarm(feed::short(b, 0), feed::short(b, 2)),
+        ),
+        b'k' => put_sought(
+            line,
+            pool.ranked(feed::short(b, 0), feed::short(b, 2) as usize),
+        ),
+        b'c' => put_crowded(line, pool.crowded(feed::short(b, 0))),
         _ => put_counts(line, pool),
     }
 }
@@ -105,8 +92,7 @@ fn taken(pool: Pool) -> Turn {
     let mut line = [0u8; 256];
     match feed::next(&mut body) {
         Case::Body(kind, n) => {
-            let mut b = [0u8; 24];
-            feed::unhex(&body, &mut b);
+            let b = feed::forty(&body);
             let next = acted(kind, b, pool);
             let end = said(kind, b, next, &mut line);
             let more = feed::say(&line, end);

@@ -36,34 +36,14 @@ struct Turn {
     more: bool,
 }
 
-// The number of the n bytes from byte at on.
-fn field(bytes: [u8; 17], at: usize, n: usize) -> u64 {
-    if at < 17 {
-        if n <= 17 - at {
-            let end = at + n;
-            return bits::number(&bytes[at..end]);
-        }
-    }
-    0
-}
-
-fn short(bytes: [u8; 17], at: usize) -> u16 {
-    (field(bytes, at, 2) % 65536) as u16
-}
-
-fn long(bytes: [u8; 17], at: usize) -> u32 {
-    (field(bytes, at, 4) % 4294967296) as u32
-}
-
 // Time 8 bytes, value 4, link and number 2 each, one more byte.
 fn given_in(body: &[u8]) -> Given {
-    let mut b = [0u8; 17];
-    feed::unhex(body, &mut b);
+    let b = feed::forty(body);
     Given {
-        time: field(b, 0, 8),
-        value: long(b, 8),
-        link: short(b, 12),
-        number: short(b, 14),
+        time: feed::wide(b, 0),
+        value: feed::long(b, 8),
+        link: feed::short(b, 12),
+        number: feed::short(b, 14),
         byte: b[16],
     }
 }

@@ -105,27 +105,16 @@ fn record_read(body: &[u8], line: &mut [u8]) -> usize {
     }
 }
 
-fn field(bytes: [u8; 24], at: usize, n: usize) -> u64 {
-    if at < 24 {
-        if n <= 24 - at {
-            let end = at + n;
-            return bits::number(&bytes[at..end]);
-        }
-    }
-    0
-}
-
 fn record_written(body: &[u8], line: &mut [u8]) -> usize {
-    let mut b = [0u8; 24];
-    feed::unhex(body, &mut b);
+    let b = feed::forty(body);
     let e = entry::Entry {
-        time: field(b, 8, 8),
-        value: (field(b, 16, 4) % 4294967296) as u32,
-        sequence: (field(b, 20, 4) % 4294967296) as u32,
-        link: (field(b, 0, 2) % 65536) as u16,
-        kind: (field(b, 2, 2) % 65536) as u16,
-        item: (field(b, 4, 2) % 65536) as u16,
-        flags: (field(b, 6, 2) % 65536) as u16,
+        time: feed::wide(b, 8),
+        value: feed::long(b, 16),
+        sequence: feed::long(b, 20),
+        link: feed::short(b, 0),
+        kind: feed::short(b, 2),
+        item: feed::short(b, 4),
+        flags: feed::short(b, 6),
     };
     let p = entry::pack(e);
     let bytes = p.bytes;
