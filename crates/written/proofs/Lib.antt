@@ -1,0 +1,4 @@
+pub mod Onto
+pub mod Whole
+pub mod Entries
+pub mod Kept

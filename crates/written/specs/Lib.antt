@@ -1,0 +1,4 @@
+pub mod Message
+pub mod Listing
+pub mod Pieces
+pub mod Claims

@@ -1,0 +1,6 @@
+pub mod Plainness
+pub mod Messages
+pub mod Twice
+pub mod Back
+pub mod Sizes
+pub mod Kept

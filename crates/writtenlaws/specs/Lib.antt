@@ -1,0 +1,4 @@
+pub mod Formed
+pub mod Fields
+pub mod Size
+pub mod Claims
