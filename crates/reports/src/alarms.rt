@@ -6,12 +6,12 @@ ghost use Rattle.output.specs.Put.{Wrote};
 ghost use Rattle.written.specs.Listing.{eventText};
 ghost use Rattle.written.specs.Message.Message.{alarm as alarmOf};
 ghost use Rattle.written.specs.Pieces.{codePieces, statePieces, restPieces, pieces};
-use written::AlarmState;
 use identity::Identity;
 use label::Label;
 use names::elements;
 use names::types;
 use names::words;
+use written::AlarmState;
 
 fn codes(out: &mut [u8], at: usize, code: Label) -> usize
     ensures { λ r. ⌜ Wrote (now (out .entry)) at (codePieces (textOf code)) (now (out .exit)) r ⌝ }

@@ -9,13 +9,13 @@ ghost use Rattle.written.specs.Message.{status};
 ghost use Rattle.written.specs.Message.Message.{statuses};
 ghost use Rattle.written.specs.Pieces.{statusHead, codeOf, nullPieces, knownPieces, valuePieces, entryPieces, statusTail, pieces};
 ghost use Rattle.written.specs.declared.Told.the-variants.{Update as updateOf};
-use written::Told;
-use written::Value;
 use identity::Identity;
 use label::Label;
 use names::elements;
 use names::types;
 use names::words;
+use written::Told;
+use written::Value;
 
 fn type_of(kind: Told) -> usize
     ensures { λ r. ⌜ nameOf r ≡ typeText kind ⌝ }

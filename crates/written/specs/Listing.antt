@@ -2,7 +2,6 @@
 -- Assumes nothing.
 use Prim.Native.Nat.{ℕ, _/_, _%_}
 use Prim.Native.String.{String}
-use mathlib.Core.Bool.{Bool}
 use mathlib.Core.List.{List, [], _∷_, _++_}
 use lib.Dec.{eqb}
 use Rattle.basis.specs.Pick.{pick}
@@ -12,7 +11,7 @@ use Rattle.names.specs.Names.{nameOf}
 use Rattle.number.specs.Decimal.{digits, decimalOf}
 use Rattle.member.specs.Member.{momentText}
 use Rattle.json.specs.Grammar.{Json, Jsons, Members}
-use Rattle.json.specs.Grammar.Json.{null, bool, num, str, arr, obj}
+use Rattle.json.specs.Grammar.Json.{null, bool, str, arr, obj}
 use Rattle.json.specs.Grammar.Jsons.{jnil, jcons}
 use Rattle.json.specs.Grammar.Members.{mnil, mcons}
 use Rattle.jsonwrite.specs.Text.{textOf}

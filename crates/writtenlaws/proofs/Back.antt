@@ -1,20 +1,18 @@
 -- The fields of a well-formed message are read back from its listing.
 -- Assumes nothing.
-use Prim.Native.Nat.{ℕ, zero, suc, _+_, _-_, _*_, _/_, _%_, _≤_, _<_, min}
+use Prim.Native.Nat.{ℕ, zero, suc, _+_, _-_, _≤_, _<_, min}
 use native.Mathlib.Omega.{arith}
 use mathlib.Core.Path.{_≡_, refl, sym, ap, ap₂, _∙_}
 use mathlib.Core.Bool.{Bool, true, false}
-use mathlib.Core.Logic.{⊎-elim}
 use mathlib.Core.List.{List, [], _∷_}
 use lib.Dec.{eqb, eqb→eq}
 use lib.IntN.{ℤ, pos, negsuc}
 use lib.ListN.{getD, replicate}
-use borrow.Author.Tests.{eq-eqb, ne-eqb}
-use Rattle.basis.specs.Pick.{pick, bit}
+use borrow.Author.Tests.{ne-eqb}
+use Rattle.basis.specs.Pick.{pick}
 use Rattle.basis.specs.Text.{text}
 use Rattle.basis.specs.Lists.{sameBytes}
 use Rattle.basis.proofs.Table.{at}
-use Rattle.basis.proofs.Cases.{bool-cases, eq-or-ne}
 use Rattle.calendar.specs.Text.{lastTime, timeText}
 use Rattle.calendar.specs.Read.{readTime}
 use Rattle.calendar.proofs.Reading as Times
@@ -24,7 +22,7 @@ use Rattle.identity.proofs.Read as Identities
 use Rattle.names.specs.Names.{nameOf, findIn}
 use Rattle.number.specs.Decimal.{digits, decimalOf}
 use Rattle.number.specs.Reading.{says}
-use Rattle.number.proofs.Digits.{says-digits, Begins, begins}
+use Rattle.number.proofs.Digits.{says-digits, begins}
 use Rattle.member.specs.Member.{momentText}
 use Rattle.json.specs.Grammar.Json.{obj}
 use Rattle.json.specs.Grammar.Members.{mnil}
@@ -34,10 +32,10 @@ use Rattle.written.specs.declared.Value.the-variants.{Recent, Unknown, Undefine
 use Rattle.written.specs.declared.Told.the-variants.{Response, Update}
 use Rattle.written.specs.Message.{Message, Status}
 use Rattle.written.specs.Message.Message.{version, watchdog, ack, notAck, alarm, aggregated, statuses}
-use Rattle.written.specs.Listing.{jsonOf, said, statesOf, flagsOf, eventText, categoryText, valueJson, qualityText, statusJson, statusesJson}
-use Rattle.writtenlaws.specs.Formed.{Formed, FormedState, FormedStatuses}
+use Rattle.written.specs.Listing.{jsonOf, said, statesOf, flagsOf, eventText, categoryText, valueJson, qualityText, statusesJson}
+use Rattle.writtenlaws.specs.Formed.{Formed, FormedState}
 use Rattle.writtenlaws.specs.Formed.Formed.{formed-version, formed-watchdog, formed-ack, formed-notAck, formed-alarm, formed-aggregated, formed-statuses}
-use Rattle.writtenlaws.specs.Fields.{stateIn, flagsIn, timeOf, numberOf, eventOf, categoryOf, integerOf, valueIn, charactersOf, statusIn, statusesIn, fieldsOf}
+use Rattle.writtenlaws.specs.Fields.{stateIn, flagsIn, timeOf, numberOf, eventOf, categoryOf, integerOf, valueIn, statusesIn, fieldsOf}
 
 id-back : (bs : List ℕ) → SixteenBytes bs → readIdentity (identityText bs) .id .bytes ≡ bs
 id-back bs v = ap (λ r. r .id .bytes) (Identities.read-written bs v)

@@ -4,14 +4,14 @@ use mathlib.Core.Path.{_≡_, sym, ap, subst, _∙_}
 use mathlib.Core.Bool.{true}
 use mathlib.Core.List.{List, []}
 use Prim.Native.Nat.{ℕ}
-use Rattle.json.specs.Grammar.{Json, Members, Ws, Value}
+use Rattle.json.specs.Grammar.{Json, Members, Value}
 use Rattle.json.specs.Grammar.Ws.{none as no-space}
 use Rattle.json.specs.Means.{depth}
 use Rattle.jsonpacket.specs.Packet.{Packet}
 use Rattle.jsonpacket.specs.Packet.Packet.{packet}
 use Rattle.jsonpacket.specs.Names.{noTwice}
 use Rattle.jsonpacket.proofs.Whole.{meaning-once}
-use Rattle.jsonwrite.specs.Text.{textOf, textOnto}
+use Rattle.jsonwrite.specs.Text.{textOf}
 use Rattle.jsonwrite.proofs.Meaning.{means}
 use Rattle.written.specs.Message.{Message}
 use Rattle.written.specs.Message.Message.{version, watchdog, ack, notAck, alarm, aggregated, statuses}

@@ -4,17 +4,15 @@ use Prim.Native.Nat.{ℕ, suc}
 use Prim.Native.String.{String}
 use mathlib.Core.Path.{_≡_, refl}
 use mathlib.Core.Bool.{Bool, true}
-use mathlib.Core.List.{List, [], _∷_}
+use mathlib.Core.List.{List}
 use lib.Dec.{eqb}
 use Rattle.basis.specs.Pick.{pick}
 use Rattle.basis.specs.Text.{text}
 use Rattle.basis.proofs.Cases.{picked}
-use Rattle.identity.specs.Read.{SixteenBytes}
-use Rattle.identity.specs.Text.{identityText}
 use Rattle.number.specs.Alphabet.{allInAlphabet}
-use Rattle.json.specs.Grammar.{Json, Jsons, Members}
-use Rattle.json.specs.Grammar.Jsons.{jnil, jcons}
-use Rattle.jsonwrite.specs.Plain.{PlainText, Plain, PlainElements, PlainMembers}
+use Rattle.json.specs.Grammar.{Json}
+use Rattle.json.specs.Grammar.Jsons.{jcons}
+use Rattle.jsonwrite.specs.Plain.{PlainText, Plain, PlainElements}
 use Rattle.jsonwrite.specs.Plain.PlainText.{none}
 use Rattle.jsonwrite.specs.Plain.Plain.{pnull, pbool, pstr, parr₀, parr, pobj}
 use Rattle.jsonwrite.specs.Plain.PlainElements.{last-element, element}
@@ -25,8 +23,8 @@ use Rattle.written.specs.declared.Told.{Told}
 use Rattle.written.specs.declared.Told.the-variants.{Response, Update}
 use Rattle.written.specs.Message.{Message, Status}
 use Rattle.written.specs.Message.Message.{version, watchdog, ack, notAck, alarm, aggregated, statuses}
-use Rattle.written.specs.Listing.{jsonOf, eventText, categoryText, typeText, valueJson, qualityText, statusJson, statusesJson}
-use Rattle.writtenlaws.specs.Formed.{Label, Formed, FormedStatus, FormedStatuses}
+use Rattle.written.specs.Listing.{jsonOf, eventText, typeText, valueJson, qualityText, statusJson, statusesJson}
+use Rattle.writtenlaws.specs.Formed.{Formed, FormedStatus, FormedStatuses}
 use Rattle.writtenlaws.specs.Formed.Formed.{formed-version, formed-watchdog, formed-ack, formed-notAck, formed-alarm, formed-aggregated, formed-statuses}
 use Rattle.writtenlaws.specs.Formed.FormedStatuses.{none as no-more, more as one-more}
 use Rattle.writtenlaws.proofs.Plainness.{plain, plain-label, plain-digits, plain-decimal, plain-name, plain-moment, plain-identity, plain-received}

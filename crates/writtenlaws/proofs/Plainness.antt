@@ -2,23 +2,23 @@
 -- Assumes nothing.
 use Prim.Native.Nat.{ℕ, zero, suc, _+_, _/_, _%_, _≤_, _<_, min}
 use native.Mathlib.Omega.{arith}
-use mathlib.Core.Path.{_≡_, refl, sym, ap, subst, _∙_}
+use mathlib.Core.Path.{_≡_, refl, sym, subst}
 use mathlib.Core.Bool.{Bool, true, false, true≢false}
 use mathlib.Core.Logic.{⊎-elim}
-use mathlib.Core.List.{List, [], _∷_, _++_, map}
-use lib.Dec.{T, ltb, leb, eqb}
+use mathlib.Core.List.{List, [], _∷_, _++_}
+use lib.Dec.{T, leb}
 use lib.ListN.{length, getD}
 use borrow.Author.Tests.{lt-ltb, le-ltb, leb-true, eqb-false}
-use Rattle.basis.specs.Pick.{pick, both}
+use Rattle.basis.specs.Pick.{both}
 use Rattle.basis.specs.Text.{text}
-use Rattle.basis.proofs.Cases.{lt-or-ge, picked, bool-cases}
+use Rattle.basis.proofs.Cases.{lt-or-ge}
 use Rattle.calendar.specs.Civil.{dateOf}
 use Rattle.calendar.specs.Text.{lastTime, decimals, dateText, clockText, secondText, milliText, timeText}
 use Rattle.identity.specs.Hex.{hexDigit, lowerHex, lowered}
 use Rattle.identity.specs.Text.{hexBytes, identityText}
-use Rattle.identity.specs.Read.{SixteenBytes, Says}
+use Rattle.identity.specs.Read.{SixteenBytes}
 use Rattle.names.specs.Names.{names, nameOf}
-use Rattle.number.specs.Alphabet.{inAlphabet, allInAlphabet, isLabel}
+use Rattle.number.specs.Alphabet.{inAlphabet, allInAlphabet}
 use Rattle.number.specs.Decimal.{digits, decimalOf}
 use Rattle.number.proofs.Alphabet.{not-taken, digits-in, decimal-in}
 use Rattle.jsonwrite.specs.Plain.{PlainByte, PlainText}

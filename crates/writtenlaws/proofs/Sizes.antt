@@ -1,27 +1,24 @@
 -- The length of a text, counted on its JSON, and of a well-formed message's bytes.
 -- Assumes nothing.
-use Prim.Native.Nat.{ℕ, zero, suc, _+_, _-_, _*_, _/_, _%_, _^_, _≤_, _<_, min}
+use Prim.Native.Nat.{ℕ, suc, _+_, _-_, _*_, _/_, _%_, _≤_, min}
 use native.Mathlib.Omega.{arith}
-use native.Mathlib.Nat.{le-refl}
-use mathlib.Core.Path.{_≡_, refl, sym, ap, ap₂, _∙_}
-use mathlib.Core.Bool.{Bool, true, false, true≢false}
+use mathlib.Core.Path.{_≡_, refl, sym, ap, _∙_}
+use mathlib.Core.Bool.{Bool, true, false}
 use mathlib.Core.List.{List, [], _∷_, _++_}
-use lib.Dec.{ltb, leb, eqb, T}
+use lib.Dec.{leb, eqb, T}
 use lib.IntN.{ℤ, pos, negsuc}
 use lib.ListN.{length, length-append, length-map, replicate}
 use borrow.Author.Tests.{leb-true}
-use Rattle.basis.specs.Pick.{pick, both}
+use Rattle.basis.specs.Pick.{pick}
 use Rattle.basis.specs.Text.{text}
 use Rattle.basis.proofs.Cases.{picked}
 use Rattle.basis.proofs.Table.{at}
-use Rattle.calendar.specs.Text.{lastTime, timeText}
+use Rattle.calendar.specs.Text.{lastTime}
 use Rattle.calendar.proofs.Reading.{time-length}
-use Rattle.identity.specs.Hex.{lowerHex, lowered}
-use Rattle.identity.specs.Text.{identityText}
+use Rattle.identity.specs.Hex.{lowerHex}
 use Rattle.identity.proofs.Text.{text-length}
 use Rattle.names.specs.Names.{nameOf}
-use Rattle.number.specs.Alphabet.{isLabel, allInAlphabet}
-use Rattle.number.specs.Decimal.{digits, decimalOf}
+use Rattle.number.specs.Decimal.{decimalOf}
 use Rattle.number.specs.Signed.{Signed32}
 use Rattle.number.proofs.Digits.{digits-length}
 use Rattle.json.specs.Grammar.{Json, Jsons, Members}
@@ -36,7 +33,7 @@ use Rattle.written.specs.declared.Told.{Told}
 use Rattle.written.specs.declared.Told.the-variants.{Response, Update}
 use Rattle.written.specs.Message.{Message, Status}
 use Rattle.written.specs.Message.Message.{version, watchdog, ack, notAck, alarm, aggregated, statuses}
-use Rattle.written.specs.Listing.{jsonOf, bytesOf, flag, flagsOf, eventText, categoryText, typeText, valueJson, qualityText, statusJson, statusesJson}
+use Rattle.written.specs.Listing.{jsonOf, bytesOf, flag, flagsOf, eventText, typeText, valueJson, qualityText, statusJson, statusesJson}
 use Rattle.writtenlaws.specs.Formed.{Label, Received, Formed, FormedValue, FormedStatus, FormedStatuses}
 use Rattle.writtenlaws.specs.Formed.Formed.{formed-version, formed-watchdog, formed-ack, formed-notAck, formed-alarm, formed-aggregated, formed-statuses}
 use Rattle.writtenlaws.specs.Formed.FormedValue.{recent, unknown, undefined}

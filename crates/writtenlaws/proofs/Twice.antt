@@ -1,10 +1,8 @@
 -- No name stands twice in the listing of a message.
 -- Assumes nothing.
-use mathlib.Core.Path.{_≡_, refl, ap, _∙_}
-use mathlib.Core.Bool.{Bool, true}
+use mathlib.Core.Path.{_≡_, refl}
+use mathlib.Core.Bool.{true}
 use mathlib.Core.List.{List, [], _∷_}
-use Rattle.basis.specs.Pick.{both}
-use Rattle.json.specs.Grammar.{Json}
 use Rattle.jsonpacket.specs.Names.{noTwice, allOnce, once}
 use Rattle.written.specs.declared.Value.{Value}
 use Rattle.written.specs.declared.Value.the-variants.{Recent, Unknown, Undefined}
