@@ -1,0 +1,5 @@
+pub mod Word
+pub mod Values
+pub mod Head
+pub mod Small
+pub mod Claims

@@ -1,0 +1,5 @@
+pub mod Items
+pub mod Gather
+pub mod Version
+pub mod Status
+pub mod Claims

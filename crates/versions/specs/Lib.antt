@@ -1,0 +1,6 @@
+pub mod Numeral
+pub mod Version
+pub mod Dot
+pub mod Judge
+pub mod Claims
+pub mod Marked
