@@ -12,7 +12,9 @@ use Rattle.text.specs.Decoded.{Parsed, decoded}
 use Rattle.text.specs.Decoded.Parsed.{ok, none}
 use Rattle.text.specs.Ends.{Ends}
 use Rattle.text.specs.Copied.{noCopy, copyOf}
-use Rattle.json.proofs.Places.{next, past, ends-bad, ended}
+use Rattle.character.proofs.Lists.{next, past}
+use Rattle.text.proofs.Endings.{failed as ends-bad}
+use Rattle.json.proofs.Places.{ended}
 use Rattle.jsonfind.specs.Entries.{memberAt}
 use Rattle.taken.specs.declared.Element.{Element}
 use Rattle.taken.specs.Word.{Word, wordHere, wordBehind, wordAt, elementOf}

@@ -11,7 +11,9 @@ use Rattle.text.specs.Decoded.Parsed.{ok, none}
 use Rattle.text.specs.Ends.{Ends}
 use Rattle.json.specs.Reader.{skipWs}
 use Rattle.json.specs.Answers.{Skipped}
-use Rattle.json.proofs.Places.{next, past, ends-bad, ended}
+use Rattle.character.proofs.Lists.{next, past}
+use Rattle.text.proofs.Endings.{failed as ends-bad}
+use Rattle.json.proofs.Places.{ended}
 use Rattle.jsonfind.specs.Entries.{nextEntry, entries, insideAt, entriesAt, memberAt}
 use Rattle.jsonfind.proofs.Walks as Walks
 use Rattle.takenlists.specs.declared.Flag.the-variants.{Absent}
