@@ -189,6 +189,36 @@ def fields_of(kind, fields):
     return status_fields(fields, kind == "StatusSubscribe")
 
 
+def head_of(packet):
+    """What a packet is, whatever the site's state: None where it is ignored; the type and the identity of an answer; else its type
+    (None where it is not taken), the received mId, what is wrong with mType (or None), and its elements."""
+    fields = parse(packet)
+    if fields is None:
+        return None
+    kind = fields.get("type") if isinstance(fields.get("type"), str) else None
+    m_type = fields.get("mType")
+    reason = MISSING if "mType" not in fields else None if m_type == "rSMsg" else BAD
+    if kind in ANSWERS:
+        answered = identity(fields.get("oMId"))
+        return (kind, answered) if reason is None and answered else None
+    received = fields.get("mId")
+    if identity(received) is None:
+        return None
+    return (kind if kind in TAKEN else None, received, reason, fields)
+
+
+def judge(said, site, sxl):
+    """The version that is chosen of what a Version says; Reason where one of the three checks fails."""
+    common = {read_version(offered) for offered in OFFERED} & set(said["versions"])
+    if not common:
+        raise Reason("RSMP version")
+    if site not in said["sites"]:
+        raise Reason("Site id")
+    if sxl != said["sxl"]:
+        raise Reason("SXL version")
+    return max(common)
+
+
 # Writing: no spaces, elements in the order of source document 000's listings.
 
 def text(value):
