@@ -47,8 +47,12 @@ def write(program, cases, answers):
 
 
 def command(program):
-    """How the program is run: programs are for x86-64, and on another processor the kit has an emulator beside its compiler."""
-    path = ROOT / "target" / "bin" / program
+    """How one of the gate's programs is run."""
+    return wrapped(ROOT / "target" / "bin" / program)
+
+
+def wrapped(path):
+    """How a program for x86-64 is run: as it is, or on another processor under the emulator that the kit has beside its compiler."""
     if platform.machine() == "x86_64":
         return [path]
     kit = pathlib.Path(os.environ.get("RATTLE_HOME") or pathlib.Path(shutil.which("rt")).resolve().parent.parent)
