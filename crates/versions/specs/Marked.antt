@@ -1,4 +1,4 @@
--- The marked case about versions, as a row: two texts of one version. Nothing is proved of it here.
+-- The marked case about versions, as a row: two texts of one version, for the one table of marked cases. proofs/Kept.antt computes it.
 -- Assumes nothing.
 use mathlib.Core.Bool.{Bool, false}
 use mathlib.Core.List.{List, [], _∷_}
