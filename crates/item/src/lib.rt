@@ -34,13 +34,13 @@ pub fn none() -> Item
     }
 }
 
-fn label_in(labels: [Label; 8], i: usize) -> Label
+pub fn label_in(labels: [Label; 8], i: usize) -> Label
     ensures { λ r. ⌜ r ≡ getD labels i noLabel ⌝ }
 {
     if i < 8 { labels[i] } else { label::none() }
 }
 
-fn item_in(items: [Item; 32], i: usize) -> Item
+pub fn item_in(items: [Item; 32], i: usize) -> Item
     ensures { λ r. ⌜ r ≡ getD items i noItem ⌝ }
 {
     if i < 32 { items[i] } else { none() }

@@ -1,0 +1,30 @@
+use lib.Seq.{set-out}
+use lib.ListN.{length}
+use mathlib.Core.Path.{_≡_, sym}
+use borrow.Author.Needs.{needs}
+use Rattle.site.proofs.lists.put_link.Statement.{statement}
+use Rattle.site.proofs.lists.put_link.Tie as tie
+use Rattle.site.proofs.lists.put_link.Reads as reads
+use Rattle.site.proofs.lists.put_link.Lts as lts
+
+-- src/lists.rt:27:9
+mul-changed : tie.Need-mul-changed
+mul-changed c = search needs
+
+-- src/lists.rt:27:9
+array-set-from-changed : tie.Need-array-set-from-changed
+array-set-from-changed c = search needs
+
+-- src/lists.rt:28:9
+returns : tie.Need-returns
+returns c = search needs
+
+-- src/lists.rt:22:1
+returns-2 : tie.Need-returns-2
+returns-2 c =
+    let a = c .before .args in
+    let e : length (a .list) ≡ 4 = search needs in
+    sym (set-out (a .list) (a .k) _ (search needs))
+
+pub put-link-spec : {M : Type 1} → statement M
+put-link-spec = tie.close (tie.spec mul-changed array-set-from-changed returns returns-2)
