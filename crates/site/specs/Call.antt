@@ -1,6 +1,7 @@
 -- What a call gives, from what it lays down and what refuses it. Every call's definition is made of these.
 -- Assumes nothing.
 use Prim.Native.Nat.{ℕ, _%_}
+use mathlib.Core.Path.{_≡_}
 use mathlib.Core.Bool.{Bool, false}
 use mathlib.Core.List.{List, [], _∷_, _++_}
 use lib.Dec.{eqb}
@@ -103,3 +104,8 @@ writtenTo xs ms = putAll (output xs 0) (piecesOf ms)
 abbrev pub outAfter : List ℕ → List Message → Answer → List ℕ
 outAfter xs ms (Done r) = writtenTo xs ms .bytes
 outAfter xs ms (Refused x) = xs
+
+-- what a call with a lent output gives: its step, and the output afterwards
+pub record Gives (s : Site) (time : ℕ) (refuses : Refusal → Bool) (p : Plan) (xs ys : List ℕ) (r : Step) : Type 0 where
+  pub step : r ≡ stepOf s time refuses p (writtenTo xs (p .messages) .end)
+  pub out : ys ≡ outAfter xs (p .messages) (r .answer)
