@@ -1,0 +1,69 @@
+use mathlib.Core.Path.{sym, _∙_}
+use native.Mathlib.Omega.{arith}
+use Rattle.start.proofs.Values.{within-all}
+use Rattle.start.proofs.Whole.{taken, not-taken}
+use borrow.Author.Needs.{needs}
+use Rattle.start.proofs.make.Statement.{statement}
+use Rattle.start.proofs.make.Tie as tie
+use Rattle.start.proofs.make.Reads as reads
+use Rattle.start.proofs.make.Lts as lts
+use Rattle.start.proofs.fresh.Reads as fresh-reads
+use Rattle.start.proofs.judge.Reads as judge-reads
+use Rattle.start.proofs.not_accepted.Reads as not-accepted-reads
+use Rattle.start.proofs.primary_of.Reads as primary-of-reads
+use Rattle.start.proofs.within.Reads as within-reads
+
+-- src/lib.rt:99:8
+within-requires : tie.Need-within-requires
+within-requires c κs = search needs
+
+-- src/lib.rt:102:44
+cast-fresh : tie.Need-cast-fresh
+cast-fresh c =
+    let a = c .before .before .before .args in
+    let e = sym (c .before .before .within .ensures) ∙ c .before .if1 .taken in
+    omega (arith, within-all (a .links) (a .primary) (a .period) (a .first) (a .time) e .most-links)
+
+-- src/lib.rt:102:58
+primary-of-requires : tie.Need-primary-of-requires
+primary-of-requires c κs = search needs
+
+-- src/lib.rt:102:31
+fresh-requires : tie.Need-fresh-requires
+fresh-requires c κs = search needs
+
+-- src/lib.rt:102:9
+judge-requires : tie.Need-judge-requires
+judge-requires c κs = search needs
+
+-- src/lib.rt:102:9
+returns : tie.Need-returns
+returns c =
+    let a = c .before .before .before .before .before .before .args in
+    let e = sym (c .before .before .before .before .before .within .ensures) ∙ c .before .before .before .before .if1 .taken in
+    rw (c .before .fresh .ensures, c .before .before .primary-of .ensures) at (c .judge .ensures)
+    ∙ sym (taken (a .links) (a .primary) (a .period) (a .first) (a .time) (a .read) e)
+
+-- src/lib.rt:104:5
+not-accepted-requires : tie.Need-not-accepted-requires
+not-accepted-requires c κs = search needs
+
+-- src/lib.rt:96:1
+returns-2 : tie.Need-returns-2
+returns-2 c =
+    let a = c .before .before .before .args in
+    let e = sym (c .before .before .within .ensures) ∙ c .before .if1 .left in
+    c .not-accepted .ensures ∙ sym (not-taken (a .links) (a .primary) (a .period) (a .first) (a .time) (a .read) e)
+
+pub make-spec : {M : Type 1} → statement M
+make-spec =
+    tie.close
+    (tie.spec
+    within-requires
+    cast-fresh
+    primary-of-requires
+    fresh-requires
+    judge-requires
+    returns
+    not-accepted-requires
+    returns-2)

@@ -1,0 +1,29 @@
+use mathlib.Core.Path.{sym, subst}
+use Rattle.start.specs.Starts.{Starts}
+use Rattle.start.proofs.Whole.{starts-so}
+use borrow.Author.Needs.{needs}
+use Rattle.start.proofs.start.Statement.{statement}
+use Rattle.start.proofs.start.Tie as tie
+use Rattle.start.proofs.start.Reads as reads
+use Rattle.start.proofs.start.Lts as lts
+use Rattle.sitetable.proofs.read.Reads as read-reads
+use Rattle.start.proofs.make.Reads as make-reads
+
+-- src/lib.rt:111:10
+read-requires : tie.Need-read-requires
+read-requires c κs = search needs
+
+-- src/lib.rt:111:5
+make-requires : tie.Need-make-requires
+make-requires c κs = search needs
+
+-- src/lib.rt:108:1
+returns : tie.Need-returns
+returns c =
+    let a = c .before .before .before .args in
+    let s = a .table .now in
+    subst (Starts s (a .links) (a .primary) (a .period) (a .first) (a .time)) (sym (c .make .ensures))
+    (starts-so (a .links) (a .primary) (a .period) (a .first) (a .time) s _ (c .before .read .ensures))
+
+pub start-spec : {M : Type 1} → statement M
+start-spec = tie.close (tie.spec read-requires make-requires returns)

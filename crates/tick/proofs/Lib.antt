@@ -1,0 +1,5 @@
+pub mod Masks
+pub mod Records
+pub mod Judged
+pub mod Closed
+pub mod Kept

@@ -1,0 +1,4 @@
+pub mod Closing
+pub mod Intervals
+pub mod Tick
+pub mod Claims
