@@ -1,21 +1,17 @@
 -- Closing upwards: what becomes of each link, of its records and of the rest of the site.
 -- Assumes nothing.
-use Prim.Native.Nat.{ℕ, zero, suc, _+_, _*_, _≤_, _<_}
-use mathlib.Core.Path.{_≡_, refl, sym, ap, _∙_}
+use Prim.Native.Nat.{ℕ, zero, suc, _≤_, _<_}
+use mathlib.Core.Path.{_≡_, refl, sym, _∙_}
 use mathlib.Core.Bool.{Bool, true, false}
 use mathlib.Core.Logic.{_⊎_, inl, inr}
 use mathlib.Core.List.{List, [], _∷_, map}
 use native.Mathlib.Omega.{arith}
-use lib.Dec.{eqb}
 use lib.ListN.{getD, set}
 use lib.Seq.{getD-set-other}
 use borrow.Author.Tests.{eq-eqb, ne-eqb}
 use Rattle.basis.specs.Pick.{pick}
 use Rattle.basis.proofs.Cases.{eq-or-ne}
-use Rattle.link.specs.declared.Link.{Link}
 use Rattle.link.specs.Fields.{closedLink}
-use Rattle.pool.specs.declared.Place.{Place}
-use Rattle.pool.specs.Pool.{lostOf, unmarkOf}
 use Rattle.poollaws.specs.View.{records, unsent}
 use Rattle.poollaws.proofs.Viewed.{viewed}
 use Rattle.site.specs.declared.Site.{Site}

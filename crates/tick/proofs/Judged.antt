@@ -8,7 +8,6 @@ use Rattle.answer.specs.declared.Refusal.the-variants.{BadTime, SequenceSpent, 
 use Rattle.answer.specs.declared.Report.{Report}
 use Rattle.answer.specs.declared.Answer.the-variants.{Done, Refused}
 use Rattle.site.specs.declared.Site.{Site}
-use Rattle.site.specs.declared.Step.{Step}
 use Rattle.site.specs.Site.{withIssued}
 use Rattle.site.specs.Call.{Plan, batchOf, never, when, reportOf, stepped, refused, stepOf, concluded}
 

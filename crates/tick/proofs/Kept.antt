@@ -1,19 +1,18 @@
 -- The claims about a done tick.
 -- Assumes nothing.
-use Prim.Native.Nat.{ℕ, _+_, _*_, _/_, _%_, _≤_, _<_}
+use Prim.Native.Nat.{ℕ, _+_, _*_, _/_, _%_, _^_, _≤_, _<_}
 use mathlib.Core.Path.{_≡_, refl, sym, ap, _∙_}
-use mathlib.Core.Bool.{Bool, true, false}
+use mathlib.Core.Bool.{Bool, true, false, true≢false}
 use mathlib.Core.Logic.{_⊎_, inl, inr}
 use mathlib.Core.List.{List, [], _∷_, map}
 use native.Mathlib.Omega.{arith}
-use lib.Dec.{eqb}
-use lib.ListN.{length, getD, List·getD-map}
+use lib.Dec.{eqb, ltb}
+use borrow.Author.Tests.{ltb-false}
+use lib.ListN.{length, List·getD-map}
 use Rattle.basis.specs.Pick.{pick, bit}
 use Rattle.basis.proofs.Cases.{lt-or-ge}
-use Rattle.identity.specs.declared.Identity.{Identity}
-use Rattle.awaited.specs.declared.Purpose.{Purpose}
+use Rattle.entry.specs.Valid.{Valid, lastTime}
 use Rattle.awaited.specs.Lists.{some}
-use Rattle.awaited.specs.Awaited.{nothingAwaited, addOf}
 use Rattle.awaited.specs.Promises.{Act, Fresh, after, waiting, longAgo}
 use Rattle.awaited.proofs.Kept.{kept as awaits}
 use Rattle.link.specs.declared.Link.{Link}
@@ -24,16 +23,17 @@ use Rattle.poollaws.specs.View.{records, unsent}
 use Rattle.poollaws.specs.Views.{Views}
 use Rattle.poollaws.proofs.Viewed.{viewed}
 use Rattle.status.specs.Issued.{issuedOf}
+use Rattle.status.proofs.Records.{issued-valid}
 use Rattle.subscription.specs.declared.Subscription.{Subscription}
 use Rattle.subscription.specs.Subscription.{none, dueAt, tickOf}
 use Rattle.subscription.specs.History.{Act as Deed, after as kept-after, standing, atTick}
 use Rattle.subscription.specs.History.Act.{Ticked}
 use Rattle.subscription.proofs.History.{issues-told}
 use Rattle.batch.specs.Laws.{Owned}
-use Rattle.upwards.specs.Upwards.{entriesTo, entryIf}
+use Rattle.upwards.specs.Upwards.{entryIf}
 use Rattle.upwards.proofs.Entries.{owned-to, owned-if}
 use Rattle.site.specs.declared.Site.{Site}
-use Rattle.site.specs.Site.{linkAt, closeAt, maskOf}
+use Rattle.site.specs.Site.{badTimeAt, linkAt, maskOf}
 use Rattle.site.specs.Parts.{statusAt, subscriptionAt}
 use Rattle.tick.specs.Closing.{lateAt, lateMask, closedTo}
 use Rattle.tick.specs.Intervals.{renewed, recordAt, recordsOf}
@@ -54,6 +54,13 @@ held-unmarked p l m = v .held (unmarkOf p l) m ∙ ap length (v .unmark p l m) �
     by : (b : Bool) → length (pick b (map unsent (records p m)) (records p m)) ≡ length (records p m)
     by true = length-map unsent (records p m)
     by false = refl
+
+in-range : (s : Site) (time : ℕ) → badTimeAt s time ≡ false → time ≤ lastTime
+in-range s time h = by (ltb time (s .last)) h
+  where
+    by : (t : Bool) → pick t true (ltb 253402300799999 time) ≡ false → time ≤ lastTime
+    by true g = absurd (true≢false g)
+    by false g = ltb-false 253402300799999 time g
 
 module _ (s : Site) (time : ℕ) where
   closes : (l : ℕ) → l < 4 → lateAt s l time ≡ true → linkAt (siteAfter s time) l ≡ closedLink
@@ -128,6 +135,10 @@ module _ (s : Site) (time : ℕ) where
   unfolding recordsOf
   owned = owned-to (recordAt (s .subscriptions) (s .statuses) time) 4 128 owned-at
 
+  valid : badTimeAt s time ≡ false → (i : ℕ) → i < 128 → statusAt s (i % 32) .value < 2 ^ 32
+      → Valid (issuedOf (statusAt s (i % 32)) (i / 32) (i % 32) time)
+  valid e i h v = issued-valid (statusAt s (i % 32)) (i / 32) (i % 32) time v (omega arith) (omega arith) (in-range s time e)
+
   pub kept : Claims s time
   kept =
       record {
@@ -144,6 +155,7 @@ module _ (s : Site) (time : ℕ) where
         place = place;
         due = due;
         owned = owned;
+        valid = valid;
       }
 
 pub limit : (s : Site) → Limit s

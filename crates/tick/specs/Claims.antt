@@ -1,10 +1,11 @@
 -- What a done tick does, in document 01's words. Statements only: their proofs are `kept` and `limit`.
 -- Assumes nothing.
-use Prim.Native.Nat.{ℕ, _+_, _*_, _<_}
+use Prim.Native.Nat.{ℕ, _+_, _*_, _/_, _%_, _^_, _<_}
 use mathlib.Core.Path.{_≡_}
 use mathlib.Core.Bool.{true, false}
 use mathlib.Core.List.{List, map}
 use Rattle.basis.specs.Pick.{bit}
+use Rattle.entry.specs.Valid.{Valid}
 use Rattle.identity.specs.declared.Identity.{Identity}
 use Rattle.awaited.specs.declared.Purpose.{Purpose}
 use Rattle.awaited.specs.Lists.{some}
@@ -22,7 +23,7 @@ use Rattle.subscription.specs.History.{Act as Deed, after as kept-after, standi
 use Rattle.batch.specs.Laws.{Owned}
 use Rattle.upwards.specs.Upwards.{entryIf}
 use Rattle.site.specs.declared.Site.{Site}
-use Rattle.site.specs.Site.{linkAt, withPool, withLinks, withSubscriptions}
+use Rattle.site.specs.Site.{badTimeAt, linkAt, withPool, withLinks, withSubscriptions}
 use Rattle.site.specs.Parts.{statusAt, subscriptionAt}
 use Rattle.tick.specs.Closing.{lateAt}
 use Rattle.tick.specs.Intervals.{recordAt}
@@ -55,8 +56,11 @@ pub record Claims (s : Site) (time : ℕ) : Type 0 where
       ≡ entryIf (tickOf (subscriptionAt s (l * 32 + k)) time .issues) (issuedOf (statusAt s k) l k time)
   -- "at a tick uRt or more after the subscribing call or the last tick that did so"
   pub due : (i : ℕ) (h : List Deed) → subscriptionAt s i ≡ kept-after h → tickOf (subscriptionAt s i) time .issues ≡ atTick time (standing h)
-  -- every record issued is for one of the four links
+  -- every record issued is for one of the four links ..
   pub owned : Owned 4 (tickPlan s time .issued)
+  -- .. and that of each place is one that the record reader accepts
+  pub valid : badTimeAt s time ≡ false → (i : ℕ) → i < 128 → statusAt s (i % 32) .value < 2 ^ 32
+      → Valid (issuedOf (statusAt s (i % 32)) (i / 32) (i % 32) time)
 
 -- "Awaited 30,000 ms closes, 29,999 not"
 pub record Limit (s : Site) : Type 0 where

@@ -1,7 +1,6 @@
 // The passing of time: links that waited too long for an answer are closed, and subscriptions issue at their intervals.
 ghost use mathlib.Core.Path.{_≡_};
 ghost use Rattle.batch.specs.Batch.{issuedAll};
-ghost use Rattle.tick.specs.Closing.{maskTo};
 ghost use Rattle.tick.specs.Intervals.{issuedAt};
 ghost use Rattle.tick.specs.Tick.{siteAfter, reportAfter, tickStep};
 use answer::Refusal;

@@ -18,71 +18,56 @@ use Rattle.site.proofs.conclude.Reads as conclude-reads
 use Rattle.site.proofs.nothing.Reads as nothing-reads
 use Rattle.site.proofs.refused.Reads as refused-reads
 
--- src/lib.rt:15:8
 no-link-requires : tie.Need-no-link-requires
 no-link-requires c κs = search needs
 
--- src/lib.rt:16:9
 refused-requires : tie.Need-refused-requires
 refused-requires c κs = search needs
 
--- src/lib.rt:16:9
 returns : tie.Need-returns
 returns c =
     let a = c .before .before .before .args in
     c .refused .ensures ∙ connect-no-link (a .s) (a .link) (a .time) (sym (c .before .before .no-link .ensures) ∙ c .before .if1 .taken)
 
--- src/lib.rt:18:8
 bad-time-requires : tie.Need-bad-time-requires
 bad-time-requires c κs = search needs
 
--- src/lib.rt:19:9
 refused-requires-2 : tie.Need-refused-requires-2
 refused-requires-2 c κs = search needs
 
--- src/lib.rt:19:9
 returns-2 : tie.Need-returns-2
 returns-2 c =
     let a = c .before .before .before .before .before .args in
     let e = sym (c .before .before .before .before .no-link .ensures) ∙ c .before .before .before .if1 .left in
     c .refused2 .ensures ∙ connect-bad-time (a .s) (a .link) (a .time) e (sym (c .before .before .bad-time .ensures) ∙ c .before .if2 .taken)
 
--- src/lib.rt:21:13
 cast-l : tie.Need-cast-l
 cast-l c =
     let a = c .before .before .before .before .args in
     let e = sym (c .before .before .before .no-link .ensures) ∙ c .before .before .if1 .left in
     omega (arith, link-below (a .s) (a .link) e)
 
--- src/lib.rt:22:8
 down-requires : tie.Need-down-requires
 down-requires c κs = search needs
 
--- src/lib.rt:23:13
 link-requires : tie.Need-link-requires
 link-requires c κs = search needs
 
--- src/lib.rt:24:36
 connect-requires : tie.Need-connect-requires
 connect-requires c κs = search needs
 
--- src/lib.rt:24:13
 with-link-requires : tie.Need-with-link-requires
 with-link-requires c κs = search needs
 
--- src/lib.rt:28:13
 begin-requires : tie.Need-begin-requires
 begin-requires c κs = search needs
 
--- src/lib.rt:30:13
 nothing-requires : tie.Need-nothing-requires
 nothing-requires c κs = search needs
 
--- src/lib.rt:25:9
 conclude-requires : tie.Need-conclude-requires
 conclude-requires c κs = search needs
 
--- src/lib.rt:25:9
 returns-3 : tie.Need-returns-3
 returns-3 c =
     let a = c .before .before .before .before .before .before .before .before .before .before .before .before .args in
@@ -92,11 +77,9 @@ returns-3 c =
     rw (c .before .nothing .ensures, c .before .before .begin .ensures, c .before .before .before .with-link .ensures, c .before .before .before .before .connect .ensures, c .before .before .before .before .before .link .ensures)
     at (c .conclude .ensures) ∙ connects (a .s) (a .link) (a .time) e f g
 
--- src/lib.rt:33:5
 refused-requires-3 : tie.Need-refused-requires-3
 refused-requires-3 c κs = search needs
 
--- src/lib.rt:12:1
 returns-4 : tie.Need-returns-4
 returns-4 c =
     let a = c .before .before .before .before .before .before .before .args in

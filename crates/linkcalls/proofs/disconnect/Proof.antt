@@ -16,51 +16,41 @@ use Rattle.site.proofs.bit_of.Reads as bit-of-reads
 use Rattle.site.proofs.conclude.Reads as conclude-reads
 use Rattle.site.proofs.refused.Reads as refused-reads
 
--- src/lib.rt:39:8
 no-link-requires : tie.Need-no-link-requires
 no-link-requires c κs = search needs
 
--- src/lib.rt:40:9
 refused-requires : tie.Need-refused-requires
 refused-requires c κs = search needs
 
--- src/lib.rt:40:9
 returns : tie.Need-returns
 returns c =
     let a = c .before .before .before .args in
     c .refused .ensures ∙ disconnect-no-link (a .s) (a .link) (a .time) (sym (c .before .before .no-link .ensures) ∙ c .before .if1 .taken)
 
--- src/lib.rt:42:8
 bad-time-requires : tie.Need-bad-time-requires
 bad-time-requires c κs = search needs
 
--- src/lib.rt:43:9
 refused-requires-2 : tie.Need-refused-requires-2
 refused-requires-2 c κs = search needs
 
--- src/lib.rt:43:9
 returns-2 : tie.Need-returns-2
 returns-2 c =
     let a = c .before .before .before .before .before .args in
     let e = sym (c .before .before .before .before .no-link .ensures) ∙ c .before .before .before .if1 .left in
     c .refused2 .ensures ∙ disconnect-bad-time (a .s) (a .link) (a .time) e (sym (c .before .before .bad-time .ensures) ∙ c .before .if2 .taken)
 
--- src/lib.rt:45:13
 cast-l : tie.Need-cast-l
 cast-l c =
     let a = c .before .before .before .before .args in
     let e = sym (c .before .before .before .no-link .ensures) ∙ c .before .before .if1 .left in
     omega (arith, link-below (a .s) (a .link) e)
 
--- src/lib.rt:46:8
 down-requires : tie.Need-down-requires
 down-requires c κs = search needs
 
--- src/lib.rt:47:9
 refused-requires-3 : tie.Need-refused-requires-3
 refused-requires-3 c κs = search needs
 
--- src/lib.rt:47:9
 returns-3 : tie.Need-returns-3
 returns-3 c =
     let a = c .before .before .before .before .before .before .before .args in
@@ -69,23 +59,18 @@ returns-3 c =
     let g = sym (c .before .before .down .ensures) ∙ c .before .if3 .taken in
     c .refused3 .ensures ∙ disconnect-down (a .s) (a .link) (a .time) e f g
 
--- src/lib.rt:49:9
 close-requires : tie.Need-close-requires
 close-requires c κs = search needs
 
--- src/lib.rt:53:17
 bit-of-requires : tie.Need-bit-of-requires
 bit-of-requires c κs = search needs
 
--- src/lib.rt:56:24
 begin-requires : tie.Need-begin-requires
 begin-requires c κs = search needs
 
--- src/lib.rt:56:5
 conclude-requires : tie.Need-conclude-requires
 conclude-requires c κs = search needs
 
--- src/lib.rt:36:1
 returns-4 : tie.Need-returns-4
 returns-4 c =
     let a = c .before .before .before .before .before .before .before .before .before .before .args in

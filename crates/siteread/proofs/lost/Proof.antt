@@ -11,29 +11,24 @@ use Rattle.siteread.proofs.lost.Lts as lts
 use Rattle.pool.proofs.Pool.lost.Reads as lost-reads
 use Rattle.site.proofs.Site.no_link.Reads as no-link-reads
 
--- src/lib.rt:31:8
 no-link-requires : tie.Need-no-link-requires
 no-link-requires c κs = search needs
 
--- src/lib.rt:32:9
 returns : tie.Need-returns
 returns c =
     let a = c .before .before .args in
     let e : noLinkAt (a .s) (a .link) ≡ true = sym (c .before .no-link .ensures) ∙ c .if1 .taken in
     rw e refl
 
--- src/lib.rt:35:15
 cast-lost : tie.Need-cast-lost
 cast-lost c =
     let a = c .before .before .before .args in
     let e : noLinkAt (a .s) (a .link) ≡ false = sym (c .before .before .no-link .ensures) ∙ c .before .if1 .left in
     omega (arith, link-below (a .s) (a .link) e)
 
--- src/lib.rt:35:5
 lost-requires : tie.Need-lost-requires
 lost-requires c κs = search needs
 
--- src/lib.rt:28:1
 returns-2 : tie.Need-returns-2
 returns-2 c =
     let a = c .before .before .before .before .args in

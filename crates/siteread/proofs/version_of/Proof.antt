@@ -11,29 +11,24 @@ use Rattle.siteread.proofs.version_of.Lts as lts
 use Rattle.site.proofs.Site.link.Reads as link-reads
 use Rattle.site.proofs.Site.no_link.Reads as no-link-reads
 
--- src/lib.rt:63:8
 no-link-requires : tie.Need-no-link-requires
 no-link-requires c κs = search needs
 
--- src/lib.rt:64:9
 returns : tie.Need-returns
 returns c =
     let a = c .before .before .args in
     let e : noLinkAt (a .s) (a .link) ≡ true = sym (c .before .no-link .ensures) ∙ c .if1 .taken in
     rw e refl
 
--- src/lib.rt:70:20
 cast-link : tie.Need-cast-link
 cast-link c =
     let a = c .before .before .args in
     let e : noLinkAt (a .s) (a .link) ≡ false = sym (c .before .no-link .ensures) ∙ c .if1 .left in
     omega (arith, link-below (a .s) (a .link) e)
 
--- src/lib.rt:70:9
 link-requires : tie.Need-link-requires
 link-requires c κs = search needs
 
--- src/lib.rt:60:1
 returns-2 : tie.Need-returns-2
 returns-2 c =
     let a = c .before .before .before .args in

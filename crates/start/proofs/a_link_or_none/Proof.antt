@@ -4,11 +4,9 @@ use Rattle.start.proofs.a_link_or_none.Tie as tie
 use Rattle.start.proofs.a_link_or_none.Reads as reads
 use Rattle.start.proofs.a_link_or_none.Lts as lts
 
--- src/lib.rt:31:9
 returns : tie.Need-returns
 returns c = search tests
 
--- src/lib.rt:27:1
 returns-2 : tie.Need-returns-2
 returns-2 c = search tests
 

@@ -12,31 +12,24 @@ use Rattle.pool.proofs.Pool.empty.Reads as empty-reads
 use Rattle.status.proofs.Status.unknown.Reads as unknown-reads
 use Rattle.subscription.proofs.Subscription.none.Reads as none-reads
 
--- src/lib.rt:57:9
 closed-requires : tie.Need-closed-requires
 closed-requires c κs = search needs
 
--- src/lib.rt:58:9
 none-requires : tie.Need-none-requires
 none-requires c κs = search needs
 
--- src/lib.rt:59:9
 begin-requires : tie.Need-begin-requires
 begin-requires c κs = search needs
 
--- src/lib.rt:60:9
 unknown-requires : tie.Need-unknown-requires
 unknown-requires c κs = search needs
 
--- src/lib.rt:62:15
 empty-requires : tie.Need-empty-requires
 empty-requires c κs = search needs
 
--- src/lib.rt:67:21
 begin-requires-2 : tie.Need-begin-requires-2
 begin-requires-2 c κs = search needs
 
--- src/lib.rt:54:1
 returns : tie.Need-returns
 unfolding fresh
 returns c =

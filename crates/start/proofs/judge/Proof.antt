@@ -7,27 +7,21 @@ use Rattle.start.proofs.judge.Lts as lts
 use Rattle.site.proofs.nothing.Reads as nothing-reads
 use Rattle.start.proofs.not_accepted.Reads as not-accepted-reads
 
--- src/lib.rt:88:32
 enum-told : tie.Need-enum-told
 enum-told c = search needs
 
--- src/lib.rt:88:32
 not-accepted-requires : tie.Need-not-accepted-requires
 not-accepted-requires c κs = search needs
 
--- src/lib.rt:91:34
 enum-told-2 : tie.Need-enum-told-2
 enum-told-2 c = search needs
 
--- src/lib.rt:91:34
 nothing-requires : tie.Need-nothing-requires
 nothing-requires c κs = search needs
 
--- src/lib.rt:84:1
 returns : tie.Need-returns
 returns c = rw (c .before .enum-told .given .1) (c .not-accepted .ensures)
 
--- src/lib.rt:84:1
 returns-2 : tie.Need-returns-2
 returns-2 c = rw (c .before .enum-told2 .given .1, c .nothing .ensures) refl
 

@@ -13,30 +13,24 @@ use Rattle.start.proofs.not_accepted.Reads as not-accepted-reads
 use Rattle.start.proofs.primary_of.Reads as primary-of-reads
 use Rattle.start.proofs.within.Reads as within-reads
 
--- src/lib.rt:99:8
 within-requires : tie.Need-within-requires
 within-requires c κs = search needs
 
--- src/lib.rt:102:44
 cast-fresh : tie.Need-cast-fresh
 cast-fresh c =
     let a = c .before .before .before .args in
     let e = sym (c .before .before .within .ensures) ∙ c .before .if1 .taken in
     omega (arith, within-all (a .links) (a .primary) (a .period) (a .first) (a .time) e .most-links)
 
--- src/lib.rt:102:58
 primary-of-requires : tie.Need-primary-of-requires
 primary-of-requires c κs = search needs
 
--- src/lib.rt:102:31
 fresh-requires : tie.Need-fresh-requires
 fresh-requires c κs = search needs
 
--- src/lib.rt:102:9
 judge-requires : tie.Need-judge-requires
 judge-requires c κs = search needs
 
--- src/lib.rt:102:9
 returns : tie.Need-returns
 returns c =
     let a = c .before .before .before .before .before .before .args in
@@ -44,11 +38,9 @@ returns c =
     rw (c .before .fresh .ensures, c .before .before .primary-of .ensures) at (c .judge .ensures)
     ∙ sym (taken (a .links) (a .primary) (a .period) (a .first) (a .time) (a .read) e)
 
--- src/lib.rt:104:5
 not-accepted-requires : tie.Need-not-accepted-requires
 not-accepted-requires c κs = search needs
 
--- src/lib.rt:96:1
 returns-2 : tie.Need-returns-2
 returns-2 c =
     let a = c .before .before .before .args in

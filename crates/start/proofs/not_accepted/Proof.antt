@@ -7,19 +7,15 @@ use Rattle.site.proofs.refused.Reads as refused-reads
 use Rattle.sitetable.proofs.none.Reads as none-reads
 use Rattle.start.proofs.fresh.Reads as fresh-reads
 
--- src/lib.rt:81:25
 none-requires : tie.Need-none-requires
 none-requires c κs = search needs
 
--- src/lib.rt:81:19
 fresh-requires : tie.Need-fresh-requires
 fresh-requires c κs = search needs
 
--- src/lib.rt:81:5
 refused-requires : tie.Need-refused-requires
 refused-requires c κs = search needs
 
--- src/lib.rt:78:1
 returns : tie.Need-returns
 returns c = rw (c .before .fresh .ensures, c .before .before .none .ensures) at (c .refused .ensures)
 

@@ -5,15 +5,12 @@ use Rattle.start.proofs.primary_of.Tie as tie
 use Rattle.start.proofs.primary_of.Reads as reads
 use Rattle.start.proofs.primary_of.Lts as lts
 
--- src/lib.rt:24:22
 cast-result : tie.Need-cast-result
 cast-result c = search needs
 
--- src/lib.rt:21:1
 returns : tie.Need-returns
 returns c = search tests
 
--- src/lib.rt:21:1
 returns-2 : tie.Need-returns-2
 returns-2 c = search tests
 

@@ -9,15 +9,12 @@ use Rattle.start.proofs.start.Lts as lts
 use Rattle.sitetable.proofs.read.Reads as read-reads
 use Rattle.start.proofs.make.Reads as make-reads
 
--- src/lib.rt:111:10
 read-requires : tie.Need-read-requires
 read-requires c κs = search needs
 
--- src/lib.rt:111:5
 make-requires : tie.Need-make-requires
 make-requires c κs = search needs
 
--- src/lib.rt:108:1
 returns : tie.Need-returns
 returns c =
     let a = c .before .before .before .args in

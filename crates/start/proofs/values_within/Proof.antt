@@ -5,22 +5,18 @@ use Rattle.start.proofs.values_within.Tie as tie
 use Rattle.start.proofs.values_within.Reads as reads
 use Rattle.start.proofs.values_within.Lts as lts
 
--- src/lib.rt:40:9
 returns : tie.Need-returns
 unfolding valuesWithin
 returns c = search tests
 
--- src/lib.rt:43:9
 returns-2 : tie.Need-returns-2
 unfolding valuesWithin
 returns-2 c = search tests
 
--- src/lib.rt:46:9
 returns-3 : tie.Need-returns-3
 unfolding valuesWithin
 returns-3 c = search tests
 
--- src/lib.rt:36:1
 returns-4 : tie.Need-returns-4
 unfolding valuesWithin
 returns-4 c = search tests

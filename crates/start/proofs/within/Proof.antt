@@ -10,25 +10,20 @@ use Rattle.start.proofs.within.Lts as lts
 use Rattle.start.proofs.a_link_or_none.Reads as a-link-or-none-reads
 use Rattle.start.proofs.values_within.Reads as values-within-reads
 
--- src/lib.rt:55:9
 returns : tie.Need-returns
 unfolding isWithin
 returns c = search tests
 
--- src/lib.rt:58:9
 returns-2 : tie.Need-returns-2
 unfolding isWithin
 returns-2 c = search tests
 
--- src/lib.rt:60:8
 a-link-or-none-requires : tie.Need-a-link-or-none-requires
 a-link-or-none-requires c κs = search needs
 
--- src/lib.rt:61:9
 values-within-requires : tie.Need-values-within-requires
 values-within-requires c κs = search needs
 
--- src/lib.rt:61:9
 returns-3 : tie.Need-returns-3
 returns-3 c =
     let a = c .before .before .before .before .before .args in
@@ -36,7 +31,6 @@ returns-3 c =
     ∙ to-values (a .links) (a .primary) (a .period) (a .first) (a .time) (c .before .before .before .before .if1 .left) (c .before .before .before .if2 .left)
     (sym (c .before .before .a-link-or-none .ensures) ∙ c .before .if3 .taken)
 
--- src/lib.rt:51:1
 returns-4 : tie.Need-returns-4
 returns-4 c =
     let a = c .before .before .before .before .args in

@@ -1,27 +1,21 @@
+-- `tick::closing::close_all` meets its contract.
+-- Assumes nothing.
 use borrow.Author.Needs.{needs}
 use Rattle.tick.proofs.closing.close_all.Statement.{statement}
 use Rattle.tick.proofs.closing.close_all.Tie as tie
-use Rattle.tick.proofs.closing.close_all.Reads as reads
-use Rattle.tick.proofs.closing.close_all.Lts as lts
-use Rattle.tick.proofs.closing.close_late.Reads as close-late-reads
 
--- src/closing.rt:25:9
 close-late-requires : tie.Need-close-late-requires
 close-late-requires c κs = search needs
 
--- src/closing.rt:26:9
 close-late-requires-2 : tie.Need-close-late-requires-2
 close-late-requires-2 c κs = search needs
 
--- src/closing.rt:27:9
 close-late-requires-3 : tie.Need-close-late-requires-3
 close-late-requires-3 c κs = search needs
 
--- src/closing.rt:28:5
 close-late-requires-4 : tie.Need-close-late-requires-4
 close-late-requires-4 c κs = search needs
 
--- src/closing.rt:22:1
 returns : tie.Need-returns
 returns c = rw (← c .before .before .before .close-late .ensures, ← c .before .before .close-late2 .ensures, ← c .before .close-late3 .ensures) (c .close-late4 .ensures)
 

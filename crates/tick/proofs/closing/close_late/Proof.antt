@@ -1,27 +1,21 @@
+-- `tick::closing::close_late` meets its contract.
+-- Assumes nothing.
 use mathlib.Core.Path.{refl}
 use Rattle.tick.specs.Closing.{closeLate}
 use borrow.Author.Needs.{needs}
 use Rattle.tick.proofs.closing.close_late.Statement.{statement}
 use Rattle.tick.proofs.closing.close_late.Tie as tie
-use Rattle.tick.proofs.closing.close_late.Reads as reads
-use Rattle.tick.proofs.closing.close_late.Lts as lts
-use Rattle.site.proofs.Site.close.Reads as close-reads
-use Rattle.tick.proofs.closing.late.Reads as late-reads
 
--- src/closing.rt:16:8
 late-requires : tie.Need-late-requires
 late-requires c κs = search needs
 
--- src/closing.rt:17:9
 close-requires : tie.Need-close-requires
 close-requires c κs = search needs
 
--- src/closing.rt:17:9
 returns : tie.Need-returns
 unfolding closeLate
 returns c = rw (← c .before .before .late .ensures, c .before .if1 .taken) (c .close .ensures)
 
--- src/closing.rt:13:1
 returns-2 : tie.Need-returns-2
 unfolding closeLate
 returns-2 c = rw (← c .before .late .ensures, c .if1 .left) refl

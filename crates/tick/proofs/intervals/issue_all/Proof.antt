@@ -1,3 +1,5 @@
+-- `tick::intervals::issue_all` meets its contract.
+-- Assumes nothing.
 use Rattle.tick.proofs.Records.{all-places}
 use Prim.Native.Nat.{_≤_, _-_}
 use mathlib.Core.Path.{_≡_, refl}
@@ -9,9 +11,6 @@ use Rattle.upwards.proofs.Turns.{turn}
 use Rattle.tick.specs.Intervals.{recordAt}
 use Rattle.tick.proofs.intervals.issue_all.Statement.{statement}
 use Rattle.tick.proofs.intervals.issue_all.Tie as tie
-use Rattle.tick.proofs.intervals.issue_all.Reads as reads
-use Rattle.tick.proofs.intervals.issue_all.Lts as lts
-use Rattle.tick.proofs.intervals.issue_one.Reads as issue-one-reads
 
 abbrev Inv-loop : tie.InvT-loop
 Inv-loop time list statuses c₀ i₀ c i = (i ≤ 128) × (c ≡ addedAll 4 c₀ (entriesTo (recordAt list statuses time) i))
@@ -19,54 +18,42 @@ Inv-loop time list statuses c₀ i₀ c i = (i ≤ 128) × (c ≡ addedAll 4 c�
 abbrev μ-loop : tie.MeasureT-loop
 μ-loop time list statuses c₀ i₀ c i = 128 - i
 
--- src/intervals.rt:46:5
 loop-holds : tie.Need-loop-holds Inv-loop μ-loop
 loop-holds c = (omega arith, refl)
 
--- src/intervals.rt:47:31
 cast-issue-one : tie.Need-cast-issue-one Inv-loop μ-loop
 cast-issue-one c = search needs
 
--- src/intervals.rt:47:26
 mul-issue-one : tie.Need-mul-issue-one Inv-loop μ-loop
 mul-issue-one c = omega arith
 
--- src/intervals.rt:47:26
 array-copy-out-issue-one : tie.Need-array-copy-out-issue-one Inv-loop μ-loop
 array-copy-out-issue-one c = omega arith
 
--- src/intervals.rt:47:53
 cast-issue-one-2 : tie.Need-cast-issue-one-2 Inv-loop μ-loop
 cast-issue-one-2 c = search needs
 
--- src/intervals.rt:47:44
 mul-issue-one-2 : tie.Need-mul-issue-one-2 Inv-loop μ-loop
 mul-issue-one-2 c = omega arith
 
--- src/intervals.rt:47:44
 array-copy-out-issue-one-2 : tie.Need-array-copy-out-issue-one-2 Inv-loop μ-loop
 array-copy-out-issue-one-2 c = omega arith
 
--- src/intervals.rt:47:9
 issue-one-requires : tie.Need-issue-one-requires Inv-loop μ-loop
 issue-one-requires c κs = search needs
 
--- src/intervals.rt:48:9
 add-i : tie.Need-add-i Inv-loop μ-loop
 add-i c = omega arith
 
--- src/intervals.rt:46:5
 loop-less : tie.Need-loop-less Inv-loop μ-loop
 loop-less c = omega arith
 
--- src/intervals.rt:46:5
 loop-again : tie.Need-loop-again Inv-loop μ-loop
 loop-again c =
     let a = c .before .before .before .before .before .args in
     let l = c .before .before .before .before .loop in
     (omega arith, rw (turn (recordAt (a .t2) (a .t3) (a .time)) (a .b) (l .i), ← l .inv .1) (c .issue-one .ensures))
 
--- src/intervals.rt:41:1
 returns : tie.Need-returns Inv-loop μ-loop
 returns c =
     let a = c .before .before .args in
