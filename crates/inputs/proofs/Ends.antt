@@ -1,7 +1,7 @@
 -- What a call without output gives, condition by condition in their order.
 -- Assumes nothing.
 use Prim.Native.Nat.{ℕ, _≤_, _<_}
-use mathlib.Core.Path.{_≡_, refl, sym}
+use mathlib.Core.Path.{_≡_, refl}
 use mathlib.Core.Bool.{Bool, true, false}
 use borrow.Author.Tests.{le-leb, lt-leb}
 use Rattle.basis.specs.Pick.{pick}
@@ -9,9 +9,8 @@ use Rattle.answer.specs.declared.Refusal.the-variants.{NoSuchItem, BadTime, Seq
 use Rattle.answer.specs.declared.Report.{Report}
 use Rattle.answer.specs.declared.Answer.the-variants.{Done, Refused}
 use Rattle.site.specs.declared.Site.{Site}
-use Rattle.site.specs.declared.Step.{Step}
 use Rattle.site.specs.Site.{badTimeAt}
-use Rattle.site.specs.Call.{Plan, never, when, stepped, refused, stepOf, batchOf, reportOf}
+use Rattle.site.specs.Call.{Plan, never, stepped, refused, stepOf, batchOf}
 use Rattle.inputs.specs.Inputs.{planned, itemRefuses, aggregatedRefuses}
 
 ended : (s t : Site) (r : Report) (spent crowded : Bool)

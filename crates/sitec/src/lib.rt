@@ -3,11 +3,14 @@ ghost use mathlib.Core.Path.{_≡_};
 ghost use Rattle.linkcalls.specs.Connect.{connectStep, disconnectStep};
 ghost use Rattle.inputs.specs.Inputs.{alarmStep, statusStep, aggregatedStep};
 ghost use Rattle.tick.specs.Tick.{tickStep};
+ghost use lib.ListN.{length};
+ghost use Rattle.pump.specs.Pump.{identityOf, pumpRefuses, pumpPlan};
 ghost use Rattle.siteread.specs.Readings.{heldAt, lostAt, phaseAt, versionAt, recordAt};
 ghost use lib.Dec.{ltb};
-ghost use Rattle.sitec.specs.Outcome.{reportIn, outcomeOf, Started};
+ghost use Rattle.sitec.specs.Outcome.{reportIn, outcomeOf, Started, Told};
 use answer::Answer;
 use answer::Report;
+use identity::Identity;
 use pool::Reading;
 use site::Site;
 use site::Step;
@@ -105,6 +108,20 @@ pub extern "C" fn rsmp_tick(s: Site, time: u64) -> Outcome
     ensures { λ r. ⌜ r ≡ outcomeOf (tickStep s time) ⌝ }
 {
     outcome_of(tick::tick(s, time))
+}
+
+// The next due message of the link goes into `out`, one at most; `random` is sixteen random bytes.
+#[no_mangle]
+pub extern "C" fn rsmp_pump(
+    s: Site,
+    link: u32,
+    time: u64,
+    random: Identity,
+    out: &mut [u8],
+) -> Outcome
+    ensures { λ r. ⌜ Told s time (pumpRefuses s link time (identityOf random) (length (now (out .entry)))) (pumpPlan s link time (identityOf random)) (now (out .entry)) (now (out .exit)) r ⌝ }
+{
+    outcome_of(pump::pump(s, link, time, random, out))
 }
 
 // How many records of the link are held.

@@ -1,39 +1,31 @@
+-- `inputs::status` meets its contract.
+-- Assumes nothing.
 use mir.Facts.{toZ-ofZ}
-use mathlib.Core.Path.{sym, _∙_}
-use Rattle.inputs.specs.Inputs.{statusPlan}
+use lib.IntN.{ℤ}
+use mathlib.Core.Path.{sym, ap, _∙_}
+use Rattle.inputs.specs.Inputs.{planned, statusPlan}
 use Rattle.inputs.proofs.Ends.{no-item, item-late, item-on-time}
 use borrow.Author.Needs.{needs}
 use Rattle.inputs.proofs.status.Statement.{statement}
 use Rattle.inputs.proofs.status.Tie as tie
-use Rattle.inputs.proofs.status.Reads as reads
-use Rattle.inputs.proofs.status.Lts as lts
-use Rattle.inputs.proofs.doing.status.Reads as status-reads
-use Rattle.site.proofs.Site.bad_time.Reads as bad-time-reads
-use Rattle.site.proofs.refused.Reads as refused-reads
 
--- src/lib.rt:30:9
 cast-if1 : tie.Need-cast-if1
 cast-if1 c = search needs
 
--- src/lib.rt:31:9
 refused-requires : tie.Need-refused-requires
 refused-requires c κs = search needs
 
--- src/lib.rt:31:9
 returns : tie.Need-returns
 returns c =
     let a = c .before .before .before .before .args in
     c .refused .ensures ∙ no-item (a .s) (a .time) (statusPlan (a .s) (a .number) (a .value) (a .time)) (a .s .table .statuscount) (a .number) (c .before .if1 .taken)
 
--- src/lib.rt:33:8
 bad-time-requires : tie.Need-bad-time-requires
 bad-time-requires c κs = search needs
 
--- src/lib.rt:34:9
 refused-requires-2 : tie.Need-refused-requires-2
 refused-requires-2 c κs = search needs
 
--- src/lib.rt:34:9
 returns-2 : tie.Need-returns-2
 returns-2 c =
     let a = c .before .before .before .before .before .before .args in
@@ -41,20 +33,18 @@ returns-2 c =
     c .refused2 .ensures
     ∙ item-late (a .s) (a .time) (statusPlan (a .s) (a .number) (a .value) (a .time)) (a .s .table .statuscount) (a .number) (w .before .if1 .left) (sym (w .bad-time .ensures) ∙ c .before .if2 .taken)
 
--- src/lib.rt:36:22
 cast-status : tie.Need-cast-status
 cast-status c = search needs
 
--- src/lib.rt:36:5
 status-requires : tie.Need-status-requires
 status-requires c κs = search needs
 
--- src/lib.rt:26:1
 returns-3 : tie.Need-returns-3
 returns-3 c =
     let a = c .before .before .before .before .before .before .args in
     let w = c .before .before in
-    rw (toZ-ofZ (w .before .before .before .before .fits .value)) at (c .status .ensures)
+    c .status .ensures
+    ∙ ap (λ (v : ℤ). planned (a .s) (a .time) (statusPlan (a .s) (a .number) v (a .time))) (toZ-ofZ (w .before .before .before .before .fits .value))
     ∙ item-on-time (a .s) (a .time) (statusPlan (a .s) (a .number) (a .value) (a .time)) (a .s .table .statuscount) (a .number) (w .before .if1 .left) (sym (w .bad-time .ensures) ∙ c .before .if2 .left)
 
 pub status-spec : {M : Type 1} → statement M

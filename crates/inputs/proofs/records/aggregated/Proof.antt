@@ -1,3 +1,5 @@
+-- `inputs::records::aggregated` meets its contract. The loop goes up: the batch has the records of the links passed.
+-- Assumes nothing.
 use Prim.Native.Nat.{_≤_, _-_}
 use mathlib.Core.Path.{_≡_, sym, _∙_}
 use native.Mathlib.Omega.{arith}
@@ -8,10 +10,6 @@ use Rattle.upwards.proofs.Turns.{turn}
 use Rattle.inputs.specs.Inputs.{aggregatedEntry}
 use Rattle.inputs.proofs.records.aggregated.Statement.{statement}
 use Rattle.inputs.proofs.records.aggregated.Tie as tie
-use Rattle.inputs.proofs.records.aggregated.Reads as reads
-use Rattle.inputs.proofs.records.aggregated.Lts as lts
-use Rattle.inputs.proofs.records.begin.Reads as begin-reads
-use Rattle.inputs.proofs.records.with_aggregated.Reads as with-aggregated-reads
 
 abbrev Inv-loop : tie.InvT-loop
 Inv-loop s x b₀ l₀ b l = (l ≤ s .linkcount) × (b ≡ issuedAll 4 (s .pool) (s .next) (entriesTo (aggregatedEntry x) l))
@@ -19,33 +17,27 @@ Inv-loop s x b₀ l₀ b l = (l ≤ s .linkcount) × (b ≡ issuedAll 4 (s .pool
 abbrev μ-loop : tie.MeasureT-loop
 μ-loop s x b₀ l₀ b l = s .linkcount - l
 
--- src/records.rt:69:9
 begin-requires : tie.Need-begin-requires Inv-loop μ-loop
 begin-requires c κs = search needs
 
--- src/records.rt:71:5
 loop-holds : tie.Need-loop-holds Inv-loop μ-loop
 loop-holds c = (omega arith, c .begin .ensures)
 
--- src/records.rt:72:9
 with-aggregated-requires : tie.Need-with-aggregated-requires Inv-loop μ-loop
 with-aggregated-requires c κs = search needs
 
--- src/records.rt:73:9
+-- the link count, the site's tenth field, has 16 bits
 add-l : tie.Need-add-l Inv-loop μ-loop
 add-l c = omega (arith, c .before .before .before .before .before .good .0 .1 .1 .1 .1 .1 .1 .1 .1 .1 .1 .1 .0)
 
--- src/records.rt:71:5
 loop-less : tie.Need-loop-less Inv-loop μ-loop
 loop-less c = omega arith
 
--- src/records.rt:71:5
 loop-again : tie.Need-loop-again Inv-loop μ-loop
 loop-again c =
     let w = c .before .before .before .loop in
     (omega arith, rw (w .inv .1) at (c .with-aggregated .ensures) ∙ sym (turn _ _ (w .l)))
 
--- src/records.rt:66:1
 returns : tie.Need-returns Inv-loop μ-loop
 returns c =
     let w = c .before .before .loop in

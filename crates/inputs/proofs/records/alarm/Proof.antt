@@ -1,37 +1,28 @@
+-- `inputs::records::alarm` meets its contract.
+-- Assumes nothing.
 use borrow.Author.Tests.{lt-ltb, le-ltb}
 use borrow.Author.Needs.{needs}
 use Rattle.inputs.proofs.records.alarm.Statement.{statement}
 use Rattle.inputs.proofs.records.alarm.Tie as tie
-use Rattle.inputs.proofs.records.alarm.Reads as reads
-use Rattle.inputs.proofs.records.alarm.Lts as lts
-use Rattle.alarm.proofs.Alarm.issued.Reads as issued-reads
-use Rattle.batch.proofs.Batch.add.Reads as add-reads
-use Rattle.inputs.proofs.records.begin.Reads as begin-reads
 
--- src/records.rt:21:9
 begin-requires : tie.Need-begin-requires
 begin-requires c κs = search needs
 
--- src/records.rt:25:26
 issued-requires : tie.Need-issued-requires
 issued-requires c κs = search needs
 
--- src/records.rt:25:13
 add-requires : tie.Need-add-requires
 add-requires c κs = search needs
 
--- src/records.rt:25:13
 returns : tie.Need-returns
 returns c =
     let w = c .before .before .before .before .before in
     let e = rw (c .before .issued .ensures, w .before .begin .ensures) at (c .add .ensures) in
     rw (w .if1 .taken, lt-ltb _ _ (c .before .before .before .if2 .taken)) e
 
--- src/records.rt:18:1
 returns-2 : tie.Need-returns-2
 returns-2 c = rw (c .before .before .if1 .taken, le-ltb _ _ (c .if2 .left)) (c .before .before .before .begin .ensures)
 
--- src/records.rt:18:1
 returns-3 : tie.Need-returns-3
 returns-3 c = rw (c .if1 .left) (c .before .begin .ensures)
 

@@ -1,46 +1,34 @@
+-- `inputs::records::with_status` meets its contract.
+-- Assumes nothing.
 use mathlib.Core.Path.{refl, sym, _∙_}
 use borrow.Author.Needs.{needs}
 use Rattle.inputs.proofs.records.with_status.Statement.{statement}
 use Rattle.inputs.proofs.records.with_status.Tie as tie
-use Rattle.inputs.proofs.records.with_status.Reads as reads
-use Rattle.inputs.proofs.records.with_status.Lts as lts
-use Rattle.batch.proofs.Batch.add.Reads as add-reads
-use Rattle.site.proofs.parts.subscription.Reads as subscription-reads
-use Rattle.status.proofs.Status.issued.Reads as issued-reads
-use Rattle.subscription.proofs.Subscription.on_value.Reads as on-value-reads
 
--- src/records.rt:35:36
 mul-subscription : tie.Need-mul-subscription
 mul-subscription c = search needs
 
--- src/records.rt:35:36
 add-subscription : tie.Need-add-subscription
 add-subscription c = search needs
 
--- src/records.rt:35:9
 subscription-requires : tie.Need-subscription-requires
 subscription-requires c κs = search needs
 
--- src/records.rt:36:8
 on-value-requires : tie.Need-on-value-requires
 on-value-requires c κs = search needs
 
--- src/records.rt:38:22
 issued-requires : tie.Need-issued-requires
 issued-requires c κs = search needs
 
--- src/records.rt:38:9
 add-requires : tie.Need-add-requires
 add-requires c κs = search needs
 
--- src/records.rt:38:9
 returns : tie.Need-returns
 returns c =
     let w = c .before .before .before in
     let t = sym (rw (w .before .before .subscription .ensures) at (w .before .on-value .ensures)) ∙ w .if1 .taken in
     rw t (rw (c .before .issued .ensures) at (c .add .ensures))
 
--- src/records.rt:32:1
 returns-2 : tie.Need-returns-2
 returns-2 c =
     let t = sym (rw (c .before .before .subscription .ensures) at (c .before .on-value .ensures)) ∙ c .if1 .left in

@@ -1,0 +1,4 @@
+pub mod Laws
+pub mod Ready
+pub mod Plans
+pub mod Kept

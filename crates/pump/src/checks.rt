@@ -1,0 +1,94 @@
+// What is due, and what refuses the call.
+ghost use mathlib.Core.Path.{_≡_};
+ghost use Rattle.pump.specs.Pump.{identityOf, isHeld, dueAt, Below, isNothing, isAwaited, laterVerdict, verdictOf};
+use answer::Answer;
+use answer::Refusal;
+use awaited::Found;
+use identity::Identity;
+use link::Due;
+use pool::Sought;
+use site::Site;
+
+pub fn own_identity(random: Identity) -> Identity
+    ensures { λ r. ⌜ r ≡ identityOf random ⌝ }
+{
+    identity::version4(random)
+}
+
+fn is_held(x: Sought) -> bool
+    ensures { λ r. ⌜ r ≡ isHeld x ⌝ }
+{
+    match x {
+        Sought::Nothing => false,
+        Sought::Found(_) => true,
+    }
+}
+
+pub fn due_at(s: Site, l: u16, time: u64) -> Due
+    ensures due { λ r. ⌜ r ≡ dueAt s l time ⌝ }
+    ensures small { λ r. ⌜ Below 65536 r ⌝ }
+{
+    let pool = s.pool;
+    let unsent = is_held(pool.oldest_unsent(l));
+    let k = s.link(l);
+    let table = s.table;
+    k.due(time, s.period, s.role(l), table.alarmcount as u32, unsent)
+}
+
+fn is_nothing(d: Due) -> bool
+    ensures { λ r. ⌜ r ≡ isNothing d ⌝ }
+{
+    match d {
+        Due::Nothing => true,
+        Due::Version => false,
+        Due::Watchdog => false,
+        Due::Aggregated => false,
+        Due::Alarm(_) => false,
+        Due::Entry => false,
+    }
+}
+
+fn is_awaited(f: Found) -> bool
+    ensures { λ r. ⌜ r ≡ isAwaited f ⌝ }
+{
+    match f {
+        Found::For(_) => true,
+        Found::Nothing => false,
+    }
+}
+
+// Numbers 6 to 9.
+fn later_verdict(s: Site, l: u16, time: u64, id: Identity) -> Answer
+    ensures { λ r. ⌜ r ≡ laterVerdict s l time id ⌝ }
+{
+    if s.down(l) {
+        return Answer::Refused(Refusal::WrongPhase);
+    }
+    if is_nothing(due_at(s, l, time)) {
+        return Answer::Refused(Refusal::NothingDue);
+    }
+    let k = s.link(l);
+    if k.crowded() {
+        return Answer::Refused(Refusal::ManyAwaited);
+    }
+    if is_awaited(k.awaits(id)) {
+        return Answer::Refused(Refusal::IdentityAwaited);
+    }
+    Answer::Done(site::nothing())
+}
+
+// What the checks answer, in their order.
+pub fn verdict(s: Site, link: u32, time: u64, id: Identity, room: usize) -> Answer
+    ensures { λ r. ⌜ r ≡ verdictOf s link time id room ⌝ }
+{
+    if s.no_link(link) {
+        return Answer::Refused(Refusal::NoSuchLink);
+    }
+    if room < 4096 {
+        return Answer::Refused(Refusal::ShortOutput);
+    }
+    if s.bad_time(time) {
+        return Answer::Refused(Refusal::BadTime);
+    }
+    later_verdict(s, link as u16, time, id)
+}
