@@ -1,0 +1,136 @@
+/* The site end of RSMP 3.2 towards one to four supervisors: a library without heap, global state or system calls, for x86-64.
+ *
+ * A site is a block of RSMP_SITE_BYTES bytes that you own; there may be several. Every call takes a site by value with its
+ * arguments and gives a step: a number, and the next site. Number 0 says that the call is done: keep step.site as your site and
+ * look at step.written, step.closed and step.hint. Any other number says that nothing was done: step.site is the site that you
+ * passed and the lent bytes are as they were, so that you may keep either.
+ *
+ * You bring: TCP connections, the form feed (0x0C) between packets, a clock, random bytes, and stack for a call: see
+ * docs/EMBEDDING.md. One call at a time on a site. All pointers must be valid for their lengths, also where a length is 0, and the
+ * output may not overlap the packet.
+ */
+#ifndef RSMP_SITE_H
+#define RSMP_SITE_H
+
+#include <stddef.h>
+#include <stdint.h>
+
+#ifdef __cplusplus
+extern "C" {
+#endif
+
+#define RSMP_SITE_BYTES 13912
+#define RSMP_LINKS 4                     /* links are numbered from 0 */
+#define RSMP_OUTPUT_BYTES 4096           /* the least output to lend: no call writes more */
+#define RSMP_PACKET_BYTES 4096           /* the longest packet that is read */
+#define RSMP_LAST_TIME 253402300799999u  /* 9999-12-31T23:59:59.999Z */
+#define RSMP_NO_PRIMARY 4294967295u
+
+/* The numbers a call can give, and what to do on each. */
+enum rsmp_number {
+    RSMP_DONE = 0,            /* keep step.site, send the written bytes, close the connections of the closed links */
+    RSMP_IGNORED = 1,         /* packet: it is not answered. Drop it and go on */
+    RSMP_NO_LINK = 2,         /* no such configured link: a fault of yours */
+    RSMP_NO_ITEM = 3,         /* no such alarm or status in the site table: a fault of yours, or the wrong table */
+    RSMP_SHORT_OUTPUT = 4,    /* lend RSMP_OUTPUT_BYTES or more */
+    RSMP_BAD_TIME = 5,        /* the time is before that of an earlier call, or past RSMP_LAST_TIME: never let your clock step back */
+    RSMP_WRONG_PHASE = 6,     /* connect on a link that is not Down; disconnect, packet or pump on a Down link */
+    RSMP_NOTHING_DUE = 7,     /* pump: nothing to send now */
+    RSMP_FULL = 8,            /* pump: something is due, but 8 or more answers are outstanding. Pump again after a packet or a tick */
+    RSMP_SAME_IDENTITY = 9,   /* the random bytes make an identity that is awaited: call again with fresh random bytes */
+    RSMP_SEQUENCE_SPENT = 10, /* sequence numbers would pass 4294967295: start a new site */
+    RSMP_NOT_ACCEPTED = 11,   /* start: a value or the site table is out of its limits */
+    RSMP_LONG_PACKET = 12,    /* packet: longer than RSMP_PACKET_BYTES. Drop it and go on */
+    RSMP_POOL_FULL = 13       /* no room for a record; cannot happen with four links or fewer */
+};
+
+enum rsmp_phase_number { RSMP_DOWN = 0, RSMP_GREETING = 1, RSMP_BEATING = 2, RSMP_UP = 3 };
+
+/* Nothing in it is for you to read; copy it as you like. */
+typedef struct rsmp_site {
+    uint64_t words[RSMP_SITE_BYTES / 8];
+} rsmp_site;
+
+/* 16 random bytes, fresh for each call, of which the identity of a message is made. They need not be secret, but no two may be equal. */
+typedef struct rsmp_id {
+    uint8_t bytes[16];
+} rsmp_id;
+
+typedef struct rsmp_step {
+    rsmp_site site;
+    uint64_t hint;    /* the primary's clock, milliseconds since 1970 UTC, where hinted is 1 */
+    uint32_t number;
+    uint32_t written; /* bytes written to the start of the output: whole messages, each with its form feed */
+    uint32_t closed;  /* links that are Down now, link 0 being bit 0: close their connections, after sending what was written */
+    uint32_t hinted;
+} rsmp_step;
+
+typedef struct rsmp_version {
+    uint32_t major, minor, patch;
+} rsmp_version;
+
+typedef struct rsmp_reading {
+    uint8_t found;
+    uint8_t bytes[16];
+} rsmp_reading;
+
+/* Time is in milliseconds since 1970 UTC in every call, and never before that of an earlier call on the site. */
+
+/* A new site: its table's bits (rsmp-table makes them), 1 to 4 links, which of them is primary or RSMP_NO_PRIMARY, the watchdog's period
+ * in seconds (1 to 3600), the first sequence number (0 to 4294967295; after a restart any will do) and the time. Numbers: 11. */
+rsmp_step rsmp_start(const uint8_t *table, size_t table_length, uint32_t links, uint32_t primary, uint32_t period, uint64_t first, uint64_t time);
+
+/* A connection to the supervisor of a link stands. Numbers: 2, 5, 6. */
+rsmp_step rsmp_connect(rsmp_site site, uint32_t link, uint64_t time);
+
+/* It is gone. What waits is kept. Numbers: 2, 5, 6. */
+rsmp_step rsmp_disconnect(rsmp_site site, uint32_t link, uint64_t time);
+
+/* A packet came: the bytes between two form feeds, without them. Leave out empty ones. The written bytes are the answer.
+ * Numbers: 2, 4, 12, 5, 6, 1, 9, 10, 13. */
+rsmp_step rsmp_packet(rsmp_site site, uint32_t link, uint64_t time, rsmp_id random, const uint8_t *packet, size_t packet_length,
+                      uint8_t *output, size_t output_length);
+
+/* An alarm's input: active 1 or inactive 0. An input that is as before does nothing. Numbers: 3, 5, 10, 13. */
+rsmp_step rsmp_alarm(rsmp_site site, uint32_t number, uint32_t active, uint64_t time);
+
+/* A status has this value. Numbers: 3, 5, 10, 13. */
+rsmp_step rsmp_status(rsmp_site site, uint32_t number, int32_t value, uint64_t time);
+
+/* The eight booleans of the aggregated status, the first in the highest bit. Numbers: 5, 10, 13. */
+rsmp_step rsmp_aggregated(rsmp_site site, uint8_t value, uint64_t time);
+
+/* Time passes: call it once a second or more often. Subscriptions at intervals become due, and links are closed whose supervisor has
+ * not answered for 30 seconds. Numbers: 5, 10, 13. */
+rsmp_step rsmp_tick(rsmp_site site, uint64_t time);
+
+/* Writes the next message that is due on a link, one at most: call it after every other call, for every connected link, until it
+ * gives 7 or 8. Numbers: 2, 4, 5, 6, 7, 8, 9. */
+rsmp_step rsmp_pump(rsmp_site site, uint32_t link, uint64_t time, rsmp_id random, uint8_t *output, size_t output_length);
+
+/* Readings. They change nothing; for a link that is not configured they are 0. */
+
+/* Records that wait for a link's answer, and records that were pushed out of the pool since start. */
+uint64_t rsmp_held(rsmp_site site, uint32_t link);
+uint64_t rsmp_lost(rsmp_site site, uint32_t link);
+
+/* One of rsmp_phase_number. */
+uint32_t rsmp_phase(rsmp_site site, uint32_t link);
+
+/* The chosen version, 0.0.0 before there is one. */
+rsmp_version rsmp_version_of(rsmp_site site, uint32_t link);
+
+/* The 16 bytes of a record held for a link, the oldest being rank 0; found is 0 where there is none of that rank. */
+rsmp_reading rsmp_record(rsmp_site site, uint32_t link, uint64_t rank);
+
+#ifndef __cplusplus
+_Static_assert(sizeof(rsmp_site) == RSMP_SITE_BYTES && RSMP_SITE_BYTES % 8 == 0, "the site's size");
+_Static_assert(offsetof(rsmp_step, hint) == RSMP_SITE_BYTES && sizeof(rsmp_step) == RSMP_SITE_BYTES + 24, "the step's size");
+_Static_assert(sizeof(rsmp_id) == 16 && sizeof(rsmp_version) == 12 && sizeof(rsmp_reading) == 17, "the small ones' sizes");
+#endif
+
+#ifdef __cplusplus
+}
+#endif
+
+#endif

@@ -1,0 +1,84 @@
+//! The safe crate over the library, run on x86-64: sizes on this side of the calling convention, typed refusals, clones.
+
+use rsmp_site::{ffi, Phase, Refusal, Site, Start, LAST_TIME, OUTPUT_BYTES};
+use std::mem::{align_of, size_of};
+
+const TABLE: &[u8] = include_bytes!("../../examples/barrier.bits");
+const NOON: u64 = 1_254_398_371_571;
+const GOOD: Start = Start { links: 2, primary: Some(0), period: 60, first: 0, time: NOON };
+
+fn site() -> Site {
+    Site::start(TABLE, &GOOD).expect("the example table is good")
+}
+
+#[test]
+fn sizes() {
+    assert_eq!((size_of::<ffi::Site>(), align_of::<ffi::Site>()), (ffi::SITE_BYTES, 8));
+    assert_eq!((size_of::<ffi::Step>(), align_of::<ffi::Step>()), (ffi::SITE_BYTES + 24, 8));
+    assert_eq!((size_of::<ffi::Id>(), size_of::<ffi::Version>(), size_of::<ffi::Reading>()), (16, 12, 17));
+}
+
+#[test]
+fn starts_are_judged() {
+    let refused = |start: Start| Site::start(TABLE, &start).err();
+    for start in [
+        Start { links: 0, ..GOOD },
+        Start { links: 5, ..GOOD },
+        Start { primary: Some(2), ..GOOD },
+        Start { primary: Some(u32::MAX), ..GOOD },
+        Start { period: 0, ..GOOD },
+        Start { period: 3601, ..GOOD },
+        Start { first: 1 << 32, ..GOOD },
+        Start { time: LAST_TIME + 1, ..GOOD },
+    ] {
+        assert_eq!(refused(start), Some(Refusal::NotAccepted), "{:?}", start);
+    }
+    assert_eq!(Site::start(&[], &GOOD).err(), Some(Refusal::NotAccepted));
+    assert_eq!(Site::start(&TABLE[..TABLE.len() - 1], &GOOD).err(), Some(Refusal::NotAccepted));
+    assert!(refused(Start { primary: None, first: u64::from(u32::MAX), time: LAST_TIME, ..GOOD }).is_none());
+}
+
+#[test]
+fn refusals_are_typed() {
+    let mut site = site();
+    let mut output = [0; OUTPUT_BYTES];
+    assert_eq!(site.connect(2, NOON), Err(Refusal::NoLink));
+    assert_eq!(site.connect(0, NOON - 1), Err(Refusal::BadTime));
+    assert_eq!(site.disconnect(0, NOON), Err(Refusal::WrongPhase));
+    assert_eq!(site.alarm(6, true, NOON), Err(Refusal::NoItem));
+    assert_eq!(site.status(7, 1, NOON), Err(Refusal::NoItem));
+    assert_eq!(site.pump(0, NOON, [0; 16], &mut output[..OUTPUT_BYTES - 1]), Err(Refusal::ShortOutput));
+    assert_eq!(site.pump(0, NOON, [0; 16], &mut output), Err(Refusal::WrongPhase));
+    assert!(site.connect(0, NOON).is_ok());
+    let written = site.pump(0, NOON, [0; 16], &mut output).expect("our Version is due").written;
+    assert!(output[..written].starts_with(b"{\"mType\":\"rSMsg\",\"type\":\"Version\",\"mId\":\"00000000-0000-4000-8000-000000000000\""));
+    assert_eq!(output[written - 1], 0x0C);
+    assert_eq!(site.pump(0, NOON, [1; 16], &mut output), Err(Refusal::NothingDue));
+    assert_eq!(Refusal::NothingDue.number(), 7);
+    assert!(Refusal::BadTime.to_string().contains("(number 5)"));
+}
+
+#[test]
+fn clones_do_not_know_of_each_other() {
+    let mut one = site();
+    let mut two = one.clone();
+    assert!(one.connect(0, NOON).is_ok() && one.alarm(0, true, NOON).is_ok());
+    assert_eq!((one.phase(0), one.held(0)), (Phase::Greeting, 1));
+    assert_eq!((two.phase(0), two.held(0)), (Phase::Down, 0));
+    assert!(two.connect(0, NOON).is_ok());
+    let closed = one.disconnect(0, NOON).expect("it is connected").closed;
+    assert_eq!((closed.mask(), closed.contains(0), closed.iter().collect::<Vec<_>>()), (1, true, vec![0]));
+    assert_eq!((one.phase(0), two.phase(0)), (Phase::Down, Phase::Greeting));
+}
+
+#[test]
+fn readings() {
+    let mut site = site();
+    assert!(site.alarm(3, true, NOON).is_ok());
+    assert!(site.aggregated(5, NOON).is_ok());
+    assert_eq!((site.held(0), site.held(1), site.held(2), site.lost(0)), (2, 1, 0, 0));
+    let records: Vec<[u8; 16]> = site.records(0).collect();
+    assert_eq!(records.len(), 2);
+    assert_eq!(records[0][..2], [0x00, 0xC4]);
+    assert_eq!((site.version(0), site.phase(9), site.records(1).count()), (None, Phase::Down, 1));
+}

@@ -1,0 +1,56 @@
+//! Site tables: the parts of a table, its readable text and its bits.
+
+pub mod bits;
+pub mod text;
+
+pub const MOST_COMPONENTS: usize = 8;
+pub const MOST_ROWS: usize = 32;
+pub const LONGEST: usize = 32;
+
+/// A table that document 01 allows. Strings are 1 to 32 printable ASCII characters without `"` and `\`.
+#[derive(Clone, Debug, PartialEq, Eq)]
+pub struct Table {
+    pub site: String,
+    pub sxl: String,
+    pub components: Vec<String>,
+    pub alarms: Vec<Alarm>,
+    pub statuses: Vec<Status>,
+}
+
+#[derive(Clone, Debug, PartialEq, Eq)]
+pub struct Alarm {
+    pub component: usize,
+    pub code: String,
+    pub category: Category,
+    pub priority: u8,
+}
+
+#[derive(Clone, Copy, Debug, PartialEq, Eq)]
+pub enum Category {
+    Traffic,
+    Technical,
+}
+
+#[derive(Clone, Debug, PartialEq, Eq)]
+pub struct Status {
+    pub component: usize,
+    pub code: String,
+    pub name: String,
+}
+
+/// What is wrong with a string of a table, or nothing.
+pub fn string_fault(string: &[u8]) -> Option<String> {
+    if string.is_empty() {
+        return Some("is empty, wanted 1 to 32 characters".to_string());
+    }
+    if string.len() > LONGEST {
+        return Some(format!("is {} characters long, at most 32 are allowed", string.len()));
+    }
+    let bad = string.iter().find(|byte| !(0x20..=0x7E).contains(*byte) || matches!(byte, b'"' | b'\\'));
+    bad.map(|byte| format!("has a byte 0x{:02X}; printable ASCII without \" and \\ is allowed", byte))
+}
+
+/// Where a row's key stands among the rows before it.
+pub(crate) fn twice<T: PartialEq>(rows: &[T], row: &T) -> Option<usize> {
+    rows.iter().position(|other| other == row)
+}

@@ -1,0 +1,201 @@
+//! A table's text: one line for the site id, the SXL version, and each component, alarm and status; `#` begins a comment.
+//! A string with a space or a `#` stands in double quotes.
+
+use crate::{string_fault, twice, Alarm, Category, Status, Table, MOST_COMPONENTS, MOST_ROWS};
+use std::fmt::Write;
+
+pub const FORMS: [&str; 5] = [
+    "site SITEID",
+    "sxl VERSION",
+    "component ID",
+    "alarm COMPONENT CODE T|D PRIORITY",
+    "status COMPONENT CODE NAME",
+];
+
+/// What is wrong with a line, counted from 1.
+#[derive(Debug, PartialEq, Eq)]
+pub struct LineError {
+    pub line: usize,
+    pub message: String,
+}
+
+/// The text of a table, with the number of each component, alarm and status behind it.
+pub fn write(table: &Table) -> String {
+    let mut text = String::new();
+    let mut line = |words: String, comment: String| {
+        let _ = writeln!(text, "{}", if comment.is_empty() { words } else { format!("{:<60} # {}", words, comment) });
+    };
+    line(format!("site {}", word(&table.site)), String::new());
+    line(format!("sxl {}", word(&table.sxl)), String::new());
+    for (number, id) in table.components.iter().enumerate() {
+        line(format!("component {}", word(id)), format!("component {}", number));
+    }
+    for (number, alarm) in table.alarms.iter().enumerate() {
+        let id = word(&table.components[alarm.component]);
+        let category = if alarm.category == Category::Traffic { 'T' } else { 'D' };
+        line(format!("alarm {} {} {} {}", id, word(&alarm.code), category, alarm.priority), format!("alarm {}", number));
+    }
+    for (number, status) in table.statuses.iter().enumerate() {
+        let id = word(&table.components[status.component]);
+        line(format!("status {} {} {}", id, word(&status.code), word(&status.name)), format!("status {}", number));
+    }
+    text
+}
+
+fn word(string: &str) -> String {
+    if string.contains(|c| c == ' ' || c == '#') {
+        format!("\"{}\"", string)
+    } else {
+        string.to_string()
+    }
+}
+
+/// The table, or everything that is wrong, a line each.
+pub fn read(text: &str) -> Result<Table, Vec<LineError>> {
+    let mut reader = Reader::default();
+    let mut faults = Vec::new();
+    for (place, line) in text.lines().enumerate() {
+        if let Err(message) = words(line).and_then(|words| reader.take(&words)) {
+            faults.push(LineError { line: place + 1, message });
+        }
+    }
+    let last = text.lines().count().max(1);
+    let mut missing = |there: bool, form: &str| {
+        if !there {
+            faults.push(LineError { line: last, message: format!("the table has no line `{}`", form) });
+        }
+    };
+    missing(reader.site.is_some(), FORMS[0]);
+    missing(reader.sxl.is_some(), FORMS[1]);
+    missing(!reader.components.is_empty(), FORMS[2]);
+    match (reader.site, reader.sxl) {
+        (Some(site), Some(sxl)) if faults.is_empty() => {
+            Ok(Table { site, sxl, components: reader.components, alarms: reader.alarms, statuses: reader.statuses })
+        }
+        _ => Err(faults),
+    }
+}
+
+/// The words of a line without its comment.
+fn words(line: &str) -> Result<Vec<String>, String> {
+    let mut words = Vec::new();
+    let mut rest = line.trim_start_matches(blank);
+    while !rest.is_empty() && !rest.starts_with('#') {
+        let (word, behind) = if let Some(quoted) = rest.strip_prefix('"') {
+            quoted.split_once('"').ok_or("a quote is not closed on this line")?
+        } else {
+            rest.split_at(rest.find(|c| blank(c) || c == '#').unwrap_or(rest.len()))
+        };
+        if word.contains('"') || !(behind.is_empty() || behind.starts_with(|c| blank(c) || c == '#')) {
+            return Err("a quote inside a word; strings cannot hold a quote".to_string());
+        }
+        words.push(word.to_string());
+        rest = behind.trim_start_matches(blank);
+    }
+    Ok(words)
+}
+
+fn blank(c: char) -> bool {
+    c == ' ' || c == '\t' || c == '\r'
+}
+
+#[derive(Default)]
+struct Reader {
+    site: Option<String>,
+    sxl: Option<String>,
+    components: Vec<String>,
+    alarms: Vec<Alarm>,
+    statuses: Vec<Status>,
+}
+
+impl Reader {
+    fn take(&mut self, words: &[String]) -> Result<(), String> {
+        let name = match words.first() {
+            Some(name) => name.as_str(),
+            None => return Ok(()),
+        };
+        let known = || format!("a line begins with site, sxl, component, alarm or status, not '{}'", name.escape_default());
+        let form = *FORMS.iter().find(|form| form.split(' ').next() == Some(name)).ok_or_else(known)?;
+        let wanted = form.split(' ').count();
+        if words.len() != wanted {
+            return Err(format!("{} words where {} are wanted: {} (a string with spaces stands in quotes)", words.len(), wanted, form));
+        }
+        match name {
+            "site" => once(&mut self.site, string("the site id", &words[1])?, name),
+            "sxl" => once(&mut self.sxl, string("the SXL version", &words[1])?, name),
+            "component" => self.component(string("a component id", &words[1])?),
+            "alarm" => self.alarm(words),
+            _ => self.status(words),
+        }
+    }
+
+    fn component(&mut self, id: String) -> Result<(), String> {
+        if self.components.contains(&id) {
+            return Err(format!("component '{}' is there already", id));
+        }
+        room(&self.components, MOST_COMPONENTS, "components")?;
+        self.components.push(id);
+        Ok(())
+    }
+
+    fn alarm(&mut self, words: &[String]) -> Result<(), String> {
+        let component = self.number_of(&words[1])?;
+        let code = string("an alarm code", &words[2])?;
+        let category = match words[3].as_str() {
+            "T" => Category::Traffic,
+            "D" => Category::Technical,
+            other => return Err(format!("the category is '{}', wanted T (traffic) or D (technical)", other.escape_default())),
+        };
+        let priority = match words[4].as_str() {
+            "1" => 1,
+            "2" => 2,
+            "3" => 3,
+            other => return Err(format!("the priority is '{}', wanted 1, 2 or 3", other.escape_default())),
+        };
+        let keys: Vec<_> = self.alarms.iter().map(|alarm| (alarm.component, alarm.code.clone())).collect();
+        if let Some(number) = twice(&keys, &(component, code.clone())) {
+            return Err(format!("component '{}' has the code '{}' already, alarm {}", words[1], code, number));
+        }
+        room(&self.alarms, MOST_ROWS, "alarms")?;
+        self.alarms.push(Alarm { component, code, category, priority });
+        Ok(())
+    }
+
+    fn status(&mut self, words: &[String]) -> Result<(), String> {
+        let component = self.number_of(&words[1])?;
+        let status = Status { component, code: string("a status code", &words[2])?, name: string("a status name", &words[3])? };
+        if let Some(number) = twice(&self.statuses, &status) {
+            return Err(format!("component '{}' has this code and name already, status {}", words[1], number));
+        }
+        room(&self.statuses, MOST_ROWS, "statuses")?;
+        self.statuses.push(status);
+        Ok(())
+    }
+
+    fn number_of(&self, id: &str) -> Result<usize, String> {
+        let unknown = || format!("no line above names the component '{}'", id.escape_default());
+        self.components.iter().position(|component| component == id).ok_or_else(unknown)
+    }
+}
+
+fn string(what: &str, word: &str) -> Result<String, String> {
+    match string_fault(word.as_bytes()) {
+        Some(fault) => Err(format!("{} {}", what, fault)),
+        None => Ok(word.to_string()),
+    }
+}
+
+fn once(place: &mut Option<String>, given: String, name: &str) -> Result<(), String> {
+    match place.replace(given) {
+        None => Ok(()),
+        Some(_) => Err(format!("a second line `{}`", name)),
+    }
+}
+
+fn room<T>(rows: &[T], most: usize, what: &str) -> Result<(), String> {
+    if rows.len() < most {
+        Ok(())
+    } else {
+        Err(format!("more than {} {}", most, what))
+    }
+}

@@ -1,0 +1,134 @@
+//! Turns the readable text of a site table into its bits and back.
+
+use rsmp_table::{bits, text, Table};
+use std::fs;
+use std::io::{self, Read, Write};
+use std::process::ExitCode;
+
+const USAGE: &str = "rsmp-table: the text of a site table and its bits
+
+  rsmp-table pack [TEXT [BITS]]      text to bits
+  rsmp-table unpack [BITS [TEXT]]    bits to text
+  rsmp-table hex FILE ..             each file's bits as hexadecimal digits, as rsmp-replay's start takes them
+  rsmp-table check FILE ..           says of each file whether it is a table
+
+hex and check take texts and bits.
+A missing file name or - is standard input or output. Status: 0, 1 where a file is no table, 2 otherwise.
+
+The lines of a text, in this order of words; alarms and statuses are numbered from 0 as they stand:
+";
+
+const NOTES: &str = "
+A # begins a comment. A string has 1 to 32 printable ASCII characters without \" and \\, and stands in quotes where it has a space or
+a #. 1 to 8 components, the first of which carries the aggregated status; up to 32 alarms, T traffic or D technical, priority 1 to
+3; up to 32 statuses. A component's line stands above those that name it.
+";
+
+enum Failed {
+    NoTable(Vec<String>),
+    Unusable(String),
+}
+
+type Done<T> = Result<T, Failed>;
+
+fn content(name: &str) -> Done<Vec<u8>> {
+    let mut bytes = Vec::new();
+    let read = if name == "-" { io::stdin().read_to_end(&mut bytes).map(|_| ()) } else { fs::read(name).map(|read| bytes = read) };
+    read.map(|()| bytes).map_err(|error| Failed::Unusable(format!("{}: {}", shown(name), error)))
+}
+
+fn put(name: &str, bytes: &[u8]) -> Done<()> {
+    let written = if name == "-" { io::stdout().write_all(bytes) } else { fs::write(name, bytes) };
+    written.map_err(|error| Failed::Unusable(format!("{}: {}", shown(name), error)))
+}
+
+fn shown(name: &str) -> &str {
+    if name == "-" {
+        "standard input"
+    } else {
+        name
+    }
+}
+
+fn from_text(name: &str, bytes: &[u8]) -> Done<Table> {
+    if bits::looks_like_bits(bytes) {
+        return Err(Failed::NoTable(vec![format!("{}: these are a table's bits, not its text", shown(name))]));
+    }
+    let line = |fault: text::LineError| format!("{}:{}: {}", shown(name), fault.line, fault.message);
+    text::read(&String::from_utf8_lossy(bytes)).map_err(|faults| Failed::NoTable(faults.into_iter().map(line).collect()))
+}
+
+fn from_bits(name: &str, bytes: &[u8]) -> Done<Table> {
+    bits::read(bytes).map_err(|fault| Failed::NoTable(vec![format!("{}: byte {}: {}", shown(name), fault.byte, fault.message)]))
+}
+
+fn either(name: &str) -> Done<Table> {
+    let bytes = content(name)?;
+    if bits::looks_like_bits(&bytes) {
+        from_bits(name, &bytes)
+    } else {
+        from_text(name, &bytes)
+    }
+}
+
+fn summary(name: &str, table: &Table) -> String {
+    let (components, alarms, statuses) = (table.components.len(), table.alarms.len(), table.statuses.len());
+    format!("{}: {} components, {} alarms, {} statuses, {} bytes", shown(name), components, alarms, statuses, bits::write(table).len())
+}
+
+fn hex(table: &Table) -> String {
+    bits::write(table).iter().map(|byte| format!("{:02x}", byte)).collect()
+}
+
+/// A line for each table; the faults of those that are none at the end.
+fn each(names: &[&str], line: impl Fn(&str, &Table) -> String) -> Done<()> {
+    let mut faults = Vec::new();
+    for name in names {
+        match either(name).map(|table| line(name, &table)) {
+            Ok(line) => println!("{}", line),
+            Err(Failed::NoTable(lines)) => faults.extend(lines),
+            Err(unusable) => return Err(unusable),
+        }
+    }
+    if faults.is_empty() {
+        Ok(())
+    } else {
+        Err(Failed::NoTable(faults))
+    }
+}
+
+fn run(words: &[&str]) -> Done<()> {
+    let name = |place: usize| words.get(place).copied().unwrap_or("-");
+    match (words.first().copied(), words.len()) {
+        (Some("pack"), 1..=3) => put(name(2), &bits::write(&from_text(name(1), &content(name(1))?)?)),
+        (Some("unpack"), 1..=3) => put(name(2), text::write(&from_bits(name(1), &content(name(1))?)?).as_bytes()),
+        (Some("hex"), 2..) => each(&words[1..], |_, table| hex(table)),
+        (Some("check"), 2..) => each(&words[1..], summary),
+        _ => Err(Failed::Unusable(help())),
+    }
+}
+
+fn help() -> String {
+    let forms: String = text::FORMS.iter().map(|form| format!("  {}\n", form)).collect();
+    format!("{}{}{}", USAGE, forms, NOTES)
+}
+
+fn main() -> ExitCode {
+    let words: Vec<String> = std::env::args().skip(1).collect();
+    let words: Vec<&str> = words.iter().map(String::as_str).collect();
+    if words == ["--help"] {
+        print!("{}", help());
+        return ExitCode::SUCCESS;
+    }
+    match run(&words) {
+        Ok(()) => ExitCode::SUCCESS,
+        Err(Failed::NoTable(lines)) => {
+            eprintln!("{}", lines.join("\n"));
+            ExitCode::from(1)
+        }
+        Err(Failed::Unusable(message)) => {
+            eprintln!("{}", message);
+            ExitCode::from(2)
+        }
+    }
+}

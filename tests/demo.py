@@ -1,0 +1,98 @@
+"""`make run`: a barrier's site talks to two supervisors over TCP on this machine."""
+import re
+import sys
+import tempfile
+import time
+
+from model import message
+from sockets import NORTH, SITE, SXL, Process, subscription
+from supervisors import Supervisor
+
+RELEASE, TOO_LATE = 1, 2
+LIMIT = 300
+BEGAN = time.monotonic()
+
+
+def say(text=""):
+    print(f"{time.monotonic() - BEGAN:5.1f} s  {text}" if text else "", flush=True)
+
+
+def values(supervisor):
+    return [entry["s"] for said in supervisor.of("StatusUpdate") for entry in said["sS"]]
+
+
+def release(process, value):
+    process.order(f"status {RELEASE} {value}")
+    if value > LIMIT:
+        process.order(f"alarm {TOO_LATE} on")
+
+
+def alarms(supervisor):
+    return sum(said["aS"] == "Active" for said in supervisor.of("Alarm"))
+
+
+def show(process, centre, workshop):
+    say(f"The site of a road barrier starts and calls its two supervisors: the traffic centre (primary) on {centre.address},")
+    say(f"the workshop (secondary) on {workshop.address}.")
+    centre.wait_up()
+    workshop.wait_up()
+    say(f"Both have greeted: {process.order('links')}.")
+    say()
+    centre.ask("StatusSubscribe", **subscription())
+    say("The centre subscribes to the time that the north barrier's brake takes to release. It creeps up:")
+    for value in range(190, 341, 15):
+        release(process, value)
+    centre.wait(lambda: values(centre)[-1:] == ["340"] and alarms(centre), "the release times")
+    say("  the centre got " + ", ".join(value or "unknown" for value in values(centre)) + " ms")
+    say(f"  and, above {LIMIT} ms, the alarm {centre.of('Alarm')[-1]['aCId']}. The workshop got {len(workshop.of('Alarm'))} alarms: "
+        "they are the primary's.")
+    say()
+    say("The centre's connection is cut. The barrier goes on measuring:")
+    before = len(values(centre))
+    centre.greets = False
+    centre.cut()
+    centre.wait(lambda: centre.stream is None, "the cut")
+    for value in (345, 360, 350):
+        release(process, value)
+    say(f"  {process.order('counts')}")
+    centre.greets = True
+    centre.cut()
+    centre.wait(lambda: values(centre)[before:][-3:] == ["345", "360", "350"], "what waited")
+    say("The connection is back, greeted anew, and what waited arrives: " + ", ".join(values(centre)[-3:]) + " ms")
+    say()
+    say("The workshop floods the site: it subscribes 640 times and answers nothing.")
+    workshop.answers = False
+    for _ in range(40):
+        workshop.send("StatusSubscribe", cId=NORTH, sS=subscription()["sS"] * 16)
+    workshop.ask("StatusUnsubscribe", cId=NORTH, sS=[{"sCI": "S0101", "n": "release"}])
+    release(process, 355)
+    centre.wait(lambda: values(centre)[-1] == "355", "the value in the flood")
+    say(f"  {process.order('counts')}")
+    say(f"  Nothing of the centre's was pushed out, and the next value, {values(centre)[-1]} ms, reached it at once.")
+    say()
+
+
+def summary(process):
+    say("The site ends. Its own count of messages and records:")
+    for line in process.lines[process.lines.index("summary") + 1:]:
+        say("  " + re.sub(r" 127\.0\.0\.1:\d+", "", line.strip()))
+
+
+def main():
+    centre, workshop = Supervisor(SITE, SXL), Supervisor(SITE, SXL, offer="3.1.5")
+    with tempfile.TemporaryDirectory() as room:
+        process = Process(room, [centre, workshop])
+        try:
+            show(process, centre, workshop)
+            process.quit()
+        finally:
+            process.process.kill()
+        summary(process)
+    say("Two of the messages that the centre got:")
+    for said in (centre.messages[0], centre.of("StatusUpdate")[-1]):
+        say("  " + message.text(said).decode()[:180])
+    return 0
+
+
+if __name__ == "__main__":
+    sys.exit(main())

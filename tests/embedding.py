@@ -1,0 +1,68 @@
+"""The library as a C program gets it: nothing undefined but four functions of memory, the header without a warning, and the example of
+docs/EMBEDDING.md compiled and run.
+
+  embedding.py --stored
+"""
+import pathlib
+import re
+import subprocess
+import sys
+import tempfile
+
+from cases import ROOT
+
+LIBRARY, HEADER = ROOT / "target" / "staticlib" / "libsitec.a", ROOT / "build" / "rsmp_site.h"
+CC, RUN = ROOT / "build" / "tools" / "cc", ROOT / "build" / "tools" / "run"
+STRICT = ["-std=c11", "-Wall", "-Wextra", "-Wpedantic", "-Werror", "-O2"]
+ALLOWED = {"memcpy", "memmove", "memset", "memcmp"}
+NM = r"^\s*([0-9a-f]*)\s+([A-Za-z])\s+(\S+)$"
+
+
+def hold(good, what):
+    if not good:
+        sys.exit(f"embedding: {what}")
+
+
+def symbols():
+    listed = subprocess.run(["nm", LIBRARY], capture_output=True, text=True, check=True).stdout
+    return [(kind, name) for _, kind, name in re.findall(NM, listed, re.MULTILINE)]
+
+
+def judge_symbols():
+    """Also no data that changes: nothing in a writable section."""
+    undefined = {name for kind, name in symbols() if kind == "U"} - {name for kind, name in symbols() if kind != "U"}
+    hold(undefined <= ALLOWED, f"the archive wants {sorted(undefined - ALLOWED)}")
+    writable = [name for kind, name in symbols() if kind in "dDbBC"]
+    hold(not writable, f"the archive has writable data: {writable}")
+    declared = set(re.findall(r"\b(rsmp_[a-z_]+)\(", re.sub(r"/\*.*?\*/", "", HEADER.read_text(), flags=re.DOTALL)))
+    exported = {name for kind, name in symbols() if kind == "T"}
+    hold(declared == {name for name in exported if name.startswith("rsmp_")}, f"header and archive differ: {sorted(declared ^ exported)}")
+    return len(declared)
+
+
+def judge_example():
+    text = (ROOT / "docs" / "EMBEDDING.md").read_text()
+    code = re.search(r"```c\n(.*?)```", text, re.DOTALL).group(1)
+    with tempfile.TemporaryDirectory() as room:
+        source, program = pathlib.Path(room) / "example.c", pathlib.Path(room) / "example"
+        source.write_text(code)
+        subprocess.run([CC, *STRICT, "-I", HEADER.parent, "-o", program, source, LIBRARY], check=True)
+        said = subprocess.run([RUN, program, ROOT / "examples" / "barrier.bits"], capture_output=True, text=True, check=True).stdout
+    wanted = ['"type":"Version"', '"type":"MessageAck","oMId":"6f968141-4de5-42ff-8032-45f8093762c5"', "the packet gave 0",
+              "phase 1, held 1, lost 0"]
+    for words in wanted:
+        hold(words in said, f"the example does not say {words!r}: {said}")
+
+
+def main(words):
+    if words != ["--stored"]:
+        print(__doc__)
+        return 2
+    count = judge_symbols()
+    judge_example()
+    print(f"embedding: {count} functions, the header and the example of docs/EMBEDDING.md hold")
+    return 0
+
+
+if __name__ == "__main__":
+    sys.exit(main(sys.argv[1:]))

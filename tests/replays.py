@@ -1,0 +1,509 @@
+"""Scripts of calls, played by the program `rsmp-replay` over the proved library and by the model in tests/model/site.py, which is
+written from document 01 alone. Every line's answer is compared.
+
+  replays.py --write     writes the stored scripts and answers, tests/scripts
+  replays.py --stored    checks that the stored ones are what this script makes, and plays them
+  replays.py --fresh [SEED [LINES]]   plays random scripts and prints how often each number, reason and due kind came
+  replays.py --without CALL ..   first: leaves a call out of the scripts
+"""
+import collections
+import pathlib
+import random
+import subprocess
+import sys
+import time
+
+import lives
+from cases import ROOT
+from model import message, table
+from model.site import LAST_SEQUENCE
+from player import CALLS, Player
+from supervisor import ANSWER, NO_ANSWER, Supervisor
+
+PROGRAM = ROOT / "build" / "rsmp-replay"
+SCRIPTS = ROOT / "tests" / "scripts"
+FAILED = ROOT / "build" / "replay-failed.txt"
+LINES = 120000
+NOON = 1254398371571
+
+
+# A small site whose links are led by hand.
+
+BARRIER = table.Table(b"O+14439=481WA001", b"1.0.13", [b"O+14439=481WA001", b"O+14439=481BR001"],
+                      [(0, 1, 1, b"A0001"), (1, 2, 0, b"A0001"), (1, 3, 1, b"A0002")],
+                      [(0, b"S0001", b"uptime"), (1, b"S0001", b"release"), (1, b"S0002", b"release")])
+
+
+class Hand:
+    """A player with a counter for random bytes, so that every identity is another one."""
+
+    def __init__(self, links=2, primary=0, period=60, first=0, at=NOON, site=BARRIER):
+        self.player = Player()
+        self.supervisor = Supervisor(Calm(1), self.player)
+        self.time, self.count = at, 0
+        self.player.start(site.bytes(), links, primary, period, first, at)
+
+    def random(self):
+        self.count += 1
+        return self.count.to_bytes(4, "big") * 4
+
+    def connect(self, link):
+        return self.player.connect(link, self.time)
+
+    def pump(self, link, **more):
+        return self.player.pump(link, self.time, self.random(), **more)
+
+    def tell(self, link, members, **more):
+        return self.player.packet(link, self.time, self.random(), self.supervisor.written(members), **more)
+
+    def awaited(self, link):
+        return list(self.player.site.links[link].awaited)
+
+    def answer(self, link, kind=ANSWER):
+        """Answers the oldest awaited identity."""
+        return self.tell(link, self.supervisor.answer(self.awaited(link)[0], kind))
+
+    def beating(self, link):
+        self.connect(link)
+        self.pump(link)
+        self.answer(link)
+        self.tell(link, self.supervisor.version())
+
+    def up(self, link):
+        self.beating(link)
+        self.pump(link)
+        self.answer(link)
+        self.tell(link, self.supervisor.watchdog(self.time))
+
+    def sent_out(self, link):
+        """Pumps and answers until nothing is due."""
+        while not self.pump(link).number:
+            self.answer(link)
+
+    def subscribe(self, link, count=1, rate=("0", True)):
+        return self.tell(link, self.supervisor.of_statuses("StatusSubscribe", count, rate))
+
+    def done(self):
+        self.player.counts()
+        self.player.readings()
+        return self.player
+
+
+class Calm(random.Random):
+    """Numbers at which a supervisor does nothing unusual."""
+
+    def random(self):
+        return 0.5
+
+    def getrandbits(self, count):  # without it, choices would be made from random()
+        return super().getrandbits(count)
+
+
+# Stored scripts: each gives a player.
+
+def start_limits():
+    player = Player()
+    good = dict(table=BARRIER.bytes(), links=2, primary=1, period=60, first=0, time=NOON)
+    for name, values in (("links", (0, 1, 4, 5, 2**32 - 1)), ("primary", (None, 0, 1, 2, 2**32 - 2)), ("period", (0, 1, 3600, 3601)),
+                         ("first", (LAST_SEQUENCE, LAST_SEQUENCE + 1, 2**64 - 1)), ("time", (0, message.LAST, message.LAST + 1, 2**64 - 1)),
+                         ("table", (b"", BARRIER.bytes()[:-1], BARRIER.bytes() + b"\0"))):
+        for value in values:
+            given = {**good, name: value}
+            if name == "links" and value == 1:
+                given["primary"] = 0
+            player.start(**given)
+            player.counts()
+    return player
+
+
+def checks_in_order():
+    """Each call with everything wrong at once, and then one thing less each time."""
+    hand = Hand(links=1, primary=None)
+    player, random_ = hand.player, bytes(range(16))
+    long, bad_time, good_time = b"x" * 4097, NOON - 1, NOON
+    for time_ in (bad_time, message.LAST + 1, good_time):
+        for link in (1, 0):
+            player.connect(link, time_)
+            player.disconnect(link, time_)
+            player.pump(link, time_, random_, 4095)
+            player.pump(link, time_, random_)
+            player.packet(link, time_, random_, long, 4095)
+            player.packet(link, time_, random_, long)
+            player.packet(link, time_, random_, b"")
+        player.alarm(3, True, time_)
+        player.alarm(0, True, time_)
+        player.status(3, 1, time_)
+        player.status(0, 1, time_)
+        player.aggregated(1, time_)
+        player.tick(time_)
+    return hand.done()
+
+
+def without_packets():
+    """All that can happen where no supervisor says anything."""
+    hand = Hand(links=4, primary=2, period=1)
+    player = hand.player
+    for link in range(4):
+        hand.pump(link)
+        hand.connect(link)
+        hand.connect(link)
+        hand.pump(link, room=4095)
+        hand.pump(link)
+        hand.pump(link)
+    for step in range(70):
+        player.alarm(step % 3, step % 2 == 0, hand.time + step)
+        player.aggregated(step, hand.time + step)
+        player.status(step % 3, step, hand.time + step)
+    player.readings()
+    player.tick(NOON + 29999)
+    player.disconnect(1, NOON + 29999)
+    player.tick(NOON + 30000)
+    player.disconnect(0, NOON + 30000)
+    player.connect(0, NOON + 30000)
+    player.pump(0, NOON + 30000, bytes(16))
+    return hand.done()
+
+
+def sequence_end():
+    hand = Hand(links=2, primary=1, first=LAST_SEQUENCE - 5)
+    player = hand.player
+    for value in (1, 2, 2, 3, 4, 5):
+        player.aggregated(value, hand.time)
+    player.alarm(0, True, hand.time)
+    player.alarm(1, True, hand.time)
+    player.tick(hand.time)
+    return hand.done()
+
+
+def time_end():
+    hand = Hand(at=message.LAST - 30000)
+    hand.connect(0)
+    hand.pump(0)
+    hand.player.tick(message.LAST - 1)
+    hand.player.tick(message.LAST)
+    hand.player.tick(message.LAST + 1)
+    hand.player.connect(0, message.LAST)
+    hand.player.pump(0, message.LAST, bytes(16))
+    return hand.done()
+
+
+def whole_life():
+    """Greeting, first pass, records, a cut, what waited, the answer."""
+    hand = Hand()
+    player = hand.player
+    player.alarm(1, True, hand.time)
+    player.status(1, 190, hand.time)
+    for link in (0, 1):
+        hand.up(link)
+    hand.sent_out(0)
+    hand.sent_out(1)
+    hand.subscribe(0, 2)
+    hand.subscribe(1, 2, ("1", True))
+    for value in (190, 240, 290, 340):
+        hand.time += 500
+        player.status(1, value, hand.time)
+        player.tick(hand.time)
+        hand.pump(0)
+    player.disconnect(0, hand.time)
+    player.counts()
+    player.aggregated(5, hand.time)
+    hand.up(0)
+    hand.sent_out(0)
+    hand.sent_out(1)
+    return hand.done()
+
+
+def awaited_too_long():
+    """29,999 ms and 30,000 ms."""
+    hand = Hand()
+    for link in (0, 1):
+        hand.up(link)
+        hand.pump(link)
+        hand.time += 1
+    hand.player.tick(NOON + 29999)
+    hand.player.tick(NOON + 30000)
+    hand.player.tick(NOON + 30001)
+    return hand.done()
+
+
+def lengths():
+    """Outputs of 4,095 and 4,096 bytes, packets of 4,096 and 4,097."""
+    hand = Hand()
+    hand.connect(0)
+    hand.pump(0, room=4095)
+    hand.pump(0, room=4096)
+    hand.answer(0)
+    version = hand.supervisor.written(hand.supervisor.version())
+    for length, room in ((4097, 4096), (4096, 4095), (4097, 4095), (4096, 4096)):
+        hand.player.packet(0, hand.time, hand.random(), version + b" " * (length - len(version)), room)
+    return hand.done()
+
+
+def every_reason():
+    hand = Hand()
+    tell, supervisor = hand.tell, hand.supervisor
+    hand.connect(0)
+    tell(0, supervisor.version())
+    tell(0, supervisor.watchdog(0))
+    tell(0, supervisor.of_statuses("StatusRequest", 1))
+    for spoiled in (dict(offer=("3.1.4",)), dict(site="another"), dict(sxl="1.0.130")):
+        hand.pump(0)
+        hand.answer(0)
+        tell(0, supervisor.version(**spoiled))
+        hand.connect(0)
+    hand.pump(0)
+    version = supervisor.version
+    for members in (lacking(version(), "mType"), changed(version(), "mType", "rSMsgs"), lacking(version(), "SXL"), changed(version(), "SXL", 7),
+                    changed(version(), "type", "Versions"), lacking(version(), "mId"), version(), version()):
+        tell(0, members)
+    hand.answer(0)
+    tell(0, supervisor.of_statuses("StatusRequest", 1))
+    hand.pump(0)
+    hand.answer(0)
+    tell(0, supervisor.watchdog(0))
+    tell(0, supervisor.version())
+    tell(0, changed(supervisor.order("Suspend", 0), "cId", "no such"))
+    tell(0, changed(supervisor.order("Suspend", 0), "aCId", "no such"))
+    tell(0, changed(supervisor.aggregated_request(), "cId", "O+14439=481BR001"))
+    for kind in message.STATUS_TYPES:
+        tell(0, changed(supervisor.of_statuses(kind, 1), "cId", "no such"))
+        tell(0, changed(supervisor.of_statuses(kind, 1), "sS", [{"sCI": "no such", "n": "release", "uRt": "1", "sOc": True}]))
+    tell(0, supervisor.of_statuses("StatusUnsubscribe", 1))
+    for kind in message.TAKEN[1:]:
+        tell(0, supervisor.head(kind))
+    while not hand.tell(0, supervisor.aggregated_request()).written.count(b"Busy"):
+        pass
+    hand.pump(0)
+    hand.answer(0)
+    tell(0, supervisor.aggregated_request())
+    return hand.done()
+
+
+def lacking(members, name):
+    return [(n, value) for n, value in members if n != name]
+
+
+def changed(members, name, new):
+    return [(n, new if n == name else value) for n, value in members]
+
+
+def numbers_of_a_link():
+    """7, 8 and 9, and 9 in a reply."""
+    hand = Hand()
+    hand.up(0)
+    for _ in range(4):
+        hand.pump(0)
+    hand.player.aggregated(1, hand.time)
+    for value in range(2, 9):
+        hand.player.aggregated(value, hand.time)
+        hand.pump(0)
+    first = bytes.fromhex(hand.awaited(0)[0].replace("-", ""))
+    hand.player.pump(0, hand.time, first)
+    hand.player.packet(0, hand.time, first, hand.supervisor.written(hand.supervisor.aggregated_request()))
+    hand.answer(0)
+    hand.player.pump(0, hand.time, bytes.fromhex(hand.awaited(0)[0].replace("-", "")))
+    hand.player.pump(0, hand.time, first)
+    hand.sent_out(0)
+    return hand.done()
+
+
+def closing_answers():
+    """MessageNotAck to our Version, to our Watchdog while Beating and while Up; answers settle either way."""
+    hand = Hand(period=1)
+    hand.connect(0)
+    hand.pump(0)
+    hand.answer(0, NO_ANSWER)
+    hand.beating(0)
+    hand.pump(0)
+    hand.answer(0, NO_ANSWER)
+    hand.up(0)
+    hand.time += 1000
+    hand.pump(0)
+    hand.answer(0, NO_ANSWER)
+    hand.player.alarm(0, True, hand.time)
+    while not hand.pump(0).number:
+        hand.answer(0, NO_ANSWER)
+        hand.player.counts()
+    return hand.done()
+
+
+def alarm_orders():
+    """Orders of the primary and of a secondary, in every state, suspended events without a record."""
+    hand = Hand()
+    for link in (0, 1):
+        hand.up(link)
+        hand.sent_out(link)
+    for link in (0, 1):
+        for order in ("Request", "Acknowledge", "Suspend", "Suspend", "Request", "Resume", "Resume"):
+            for active in (True, False):
+                hand.time += 1
+                hand.tell(link, hand.supervisor.order(order, 1))
+                hand.player.alarm(1, active, hand.time)
+    hand.sent_out(0)
+    hand.sent_out(1)
+    return hand.done()
+
+
+def errors_met():
+    """The four that document 01 lists."""
+    hand = Hand()
+    hand.up(0)
+    hand.sent_out(0)
+    hand.player.alarm(0, True, hand.time)
+    hand.pump(0)
+    hand.player.counts()
+    hand.player.disconnect(0, hand.time)
+    hand.player.counts()
+    hand.connect(0)
+    hand.tell(0, hand.supervisor.of_statuses("StatusRequest", 1))
+    hand.pump(0)
+    hand.tell(0, hand.supervisor.of_statuses("StatusRequest", 1))
+    hand.connect(1)
+    hand.pump(1)
+    hand.answer(1)
+    hand.tell(1, hand.supervisor.version(offer=("3.2.0",)))
+    hand.pump(1)
+    hand.answer(1)
+    hand.tell(1, hand.supervisor.watchdog(hand.time))
+    hand.tell(1, hand.supervisor.order("Request", 0))
+    return hand.done()
+
+
+def filled_pool():
+    """Held 64, 64, 0: a record for link 2 gives 63, 64, 1, the 16th 56, 56, 16, the 17th the same."""
+    hand = Hand(links=3, primary=0)
+    for link in (0, 1, 2):
+        hand.up(link)
+        hand.sent_out(link)
+    component = hand.supervisor.site.table.components[1].decode()
+    one = [{"sCI": "S0001", "n": "release", "uRt": "0", "sOc": True}]
+    subscribing = lambda link: hand.tell(link, hand.supervisor.head("StatusSubscribe") + [("cId", component), ("sS", one)])
+    for link in (0, 1):
+        for _ in range(64):
+            subscribing(link)
+    for _ in range(17):
+        subscribing(2)
+        hand.player.counts()
+    for link in (0, 1, 2):
+        hand.sent_out(link)
+    return hand.done()
+
+
+def late_answer():
+    """An answer for a record that was lost meanwhile removes the awaited identity only."""
+    hand = Hand(links=1)
+    hand.up(0)
+    hand.sent_out(0)
+    hand.player.aggregated(1, hand.time)
+    hand.pump(0)
+    for value in range(2, 70):
+        hand.player.aggregated(value, hand.time)
+    hand.player.counts()
+    hand.answer(0)
+    hand.player.counts()
+    return hand.done()
+
+
+STORED = (start_limits, checks_in_order, without_packets, sequence_end, time_end, whole_life, awaited_too_long, lengths, every_reason,
+          numbers_of_a_link, closing_answers, alarm_orders, errors_met, filled_pool, late_answer)
+
+
+def texts(player):
+    return ("".join(f"{given}\n" for given, _ in player.pairs), "".join(f"{answer}\n" for _, answer in player.pairs))
+
+
+def paths(script):
+    return SCRIPTS / f"{script.__name__}.txt", SCRIPTS / f"{script.__name__}.answers"
+
+
+def write():
+    SCRIPTS.mkdir(exist_ok=True)
+    for script in STORED:
+        for path, text in zip(paths(script), texts(script())):
+            path.write_text(text)
+
+
+def stored(calls):
+    good = True
+    for script in STORED:
+        player = script()
+        for path, text in zip(paths(script), texts(player)):
+            if not path.exists() or path.read_text() != text:
+                print(f"{path.relative_to(ROOT)} is not what the script makes (write it with --write)")
+                good = False
+        if all(given.split()[0] in (*calls, "counts", "readings") for given, _ in player.pairs):
+            compare([player], f"stored script {script.__name__}")
+    return good
+
+
+# Playing.
+
+def compare(players, what):
+    """Plays the scripts in one run of the program and ends this one at the first answer that differs."""
+    pairs = [pair for player in players for pair in player.pairs]
+    given = "".join(f"{line}\n" for line, _ in pairs)
+    began = time.perf_counter()
+    done = subprocess.run([PROGRAM], input=given, stdout=subprocess.PIPE, text=True)
+    taken = time.perf_counter() - began
+    answers = done.stdout.splitlines()
+    for place, (line, expected) in enumerate(pairs):
+        answer = answers[place] if place < len(answers) else f"nothing (status {done.returncode})"
+        if answer != expected:
+            FAILED.write_text("".join(f"{line}\n" for line, _ in of_same_site(pairs[:place + 1])))
+            sys.exit(f"rsmp-replay: {what}: line {place + 1}\n  {line}\n  expected {expected}\n  got      {answer}\n"
+                     f"  the script up to it is in {FAILED.relative_to(ROOT)}")
+    if len(answers) != len(pairs) or done.returncode:
+        sys.exit(f"rsmp-replay: {what}: status {done.returncode}, {len(pairs)} lines given, {len(answers)} answered")
+    print(f"rsmp-replay: {what}: {len(pairs)} lines agree, {len(pairs) / taken:.0f} a second")
+
+
+def of_same_site(pairs):
+    """From the last start that was done."""
+    last = max(place for place, (line, answer) in enumerate(pairs) if line.startswith("start ") and answer.startswith("0") or place == 0)
+    return pairs[last:]
+
+
+def fresh(seed, lines, calls):
+    print(f"rsmp-replay: seed {seed}")
+    players = list(lives.lives(random.Random(seed), lines, calls))
+    compare(players, f"{len(players)} random scripts")
+    came = sum((player.came for player in players), collections.Counter())
+    print_coverage(came, calls)
+
+
+def print_coverage(came, calls):
+    for name in CALLS:
+        numbers = {number: count for (kind, *key), count in keyed(came) if kind == "number" and key[0] == name for number in key[1:]}
+        if numbers:
+            print(f"  {name:12}" + "".join(f"  {number}: {numbers[number]}" for number in sorted(numbers)))
+    for kind in ("due", "answered", "closed by"):
+        rows = sorted((key[0], count) for (row, *key), count in keyed(came) if row == kind and count)
+        if rows:
+            print(f"  {kind:12}  " + ", ".join(f"{name} {count}" for name, count in rows))
+    print(f"  clock hints {came['hint']}, records lost {came['lost']}, of them at a full pool {came['lost at a full pool']}")
+
+
+def keyed(came):
+    return [(key, count) for key, count in came.items() if isinstance(key, tuple)]
+
+
+def main(words):
+    calls = CALLS
+    while words[:1] == ["--without"]:
+        calls = tuple(call for call in calls if call != words[1])
+        words = words[2:]
+    if words == ["--write"]:
+        write()
+    elif words == ["--stored"]:
+        return 0 if stored(calls) else 1
+    elif words[:1] == ["--fresh"]:
+        seed = int(words[1]) if len(words) > 1 else time.time_ns() % 10**9
+        fresh(seed, int(words[2]) if len(words) > 2 else LINES, calls)
+    else:
+        print(__doc__)
+        return 2
+    return 0
+
+
+if __name__ == "__main__":
+    sys.exit(main(sys.argv[1:]))

@@ -1,0 +1,139 @@
+"""What a supervisor sends to the model's site: good packets, packets spoiled at one place, and packets damaged anywhere."""
+import uuid
+
+import reads
+from model import message
+from packets import damaged
+
+LONGEST = 4096
+ANSWER, NO_ANSWER = "MessageAck", "MessageNotAck"
+OFFERS = (("3.2",), ("3.1.5",), ("3.2.0",), ("3.1.5", "3.2"), ("3.2", "3.1.5"), ("3.1.5", "3.2.0", "4"), ("3.1.4", "3.2"))
+FAILED_OFFERS = (("3.1.4",), ("3",), ("3.2.1",), ("3.3", "2.1.5"), ())
+RATES = (("0", True), ("1", False), ("1", True), ("5", False), ("60", True), ("86400", False), ("2", False))
+
+
+def new_identity(source):
+    return "".join(source.choice((c, c.upper())) if source.random() < 0.2 else c for c in str(uuid.UUID(int=source.getrandbits(128))))
+
+
+class Supervisor:
+    """The far end of the links of a player's site."""
+
+    def __init__(self, source, player):
+        self.source, self.player = source, player
+
+    @property
+    def site(self):
+        return self.player.site
+
+    # Members of good packets.
+
+    def head(self, kind):
+        return [("mType", "rSMsg"), ("type", kind), ("mId", new_identity(self.source))]
+
+    def version(self, offer=None, site=None, sxl=None):
+        table = self.site.table
+        sites = [site or table.site.decode()]
+        if self.source.random() < 0.2:
+            sites.insert(self.source.randrange(2), "another site")
+        return self.head("Version") + [
+            ("RSMP", [{"vers": version} for version in (self.source.choice(OFFERS) if offer is None else offer)]),
+            ("siteId", [{"sId": one} for one in sites]), ("SXL", sxl or table.sxl.decode())]
+
+    def failing_version(self):
+        way = self.source.randrange(3)
+        if way == 0:
+            return self.version(offer=self.source.choice(FAILED_OFFERS))
+        return self.version(site="no such site", sxl=None) if way == 1 else self.version(sxl="no such version")
+
+    def watchdog(self, time=None):
+        given = self.source.randrange(message.LAST + 1) if time is None else time
+        return self.head("Watchdog") + [("wTs", message.time_text(given))]
+
+    def answer(self, identity, kind=ANSWER):
+        cased = "".join(self.source.choice((c, c.upper())) if self.source.random() < 0.1 else c for c in identity)
+        return [("mType", "rSMsg"), ("type", kind), ("oMId", cased)] + ([("rea", "because")] if kind == NO_ANSWER else [])
+
+    def component(self, number):
+        return self.site.table.components[number].decode()
+
+    def some_component(self):
+        return self.component(self.source.randrange(len(self.site.table.components)))
+
+    def order(self, order=None, number=None):
+        rows = self.site.table.alarms
+        order = order or self.source.choice(("Request", "Acknowledge", "Suspend", "Resume"))
+        if not rows or self.source.random() < 0.05:
+            component = self.source.choice(("no such", self.some_component()))
+            return self.head("Alarm") + [("cId", component), ("aCId", "no such"), ("aSp", order)]
+        row = rows[self.source.randrange(len(rows)) if number is None else number]
+        return self.head("Alarm") + [("cId", self.component(row[0])), ("aCId", row[3].decode()), ("aSp", order)]
+
+    def aggregated_request(self):
+        component = self.component(0) if self.source.random() < 0.9 else self.source.choice(("no such", self.some_component()))
+        return self.head("AggregatedStatusRequest") + [("cId", component)]
+
+    def of_statuses(self, kind, count=None, rate=None):
+        rows = self.site.table.statuses
+        many = self.source.choice((1, 1, 2, 3, 8, 16)) if count is None else count
+        if not rows or self.source.random() < 0.05:
+            component = self.source.choice(("no such", self.some_component()))
+            entries = [("no such", "name")] * many
+        else:
+            number = self.source.choice(rows)[0]
+            component = self.component(number)
+            own = [row for row in rows if row[0] == number]
+            entries = [(row[1].decode(), row[2].decode()) for row in (self.source.choice(own) for _ in range(many))]
+            if self.source.random() < 0.03:
+                entries[self.source.randrange(many)] = ("no such", "name")
+            if self.source.random() < 0.03:
+                component = "no such"
+        if self.source.random() < 0.02:
+            entries = []
+        return self.head(kind) + [("cId", component), ("sS", [self.entry(kind, *entry, rate) for entry in entries])]
+
+    def entry(self, kind, code, name, rate):
+        if kind != "StatusSubscribe":
+            return {"sCI": code, "n": name}
+        seconds, change = rate or self.source.choice(RATES)
+        return {"sCI": code, "n": name, "uRt": seconds, "sOc": change}
+
+    def good(self):
+        """A packet that an Up link may get."""
+        way = self.source.randrange(10)
+        if way < 2:
+            return self.watchdog()
+        if way < 4:
+            return self.order()
+        if way == 4:
+            return self.aggregated_request()
+        if way < 9:
+            return self.of_statuses(self.source.choice(message.STATUS_TYPES))
+        return self.version()
+
+    # Bytes.
+
+    def written(self, members):
+        """The packet, now and then with other spaces, its members in another order, or filled up to the limit."""
+        if self.source.random() < 0.1:
+            members = list(members)
+            self.source.shuffle(members)
+        packet = reads.raw(members)
+        if self.source.random() < 0.1:
+            packet = packet.replace(b'","', self.source.choice((b'", "', b'"\n,\t"')))
+        if self.source.random() < 0.02:
+            packet += b" " * (LONGEST - len(packet))
+        return packet
+
+    def spoiled(self, members):
+        """One element missing, of another kind, or with another value."""
+        changed, left_out = self.source.choice(list(reads.places(members)))
+        if self.source.random() < 0.3:
+            return reads.raw(left_out)
+        bodies = self.source.choice((reads.STRINGS, reads.SECONDS, reads.VERSIONS, reads.TIMES, reads.IDENTITIES, reads.TYPES, reads.MTYPES,
+                                     reads.ORDER_WORDS))
+        wrong = self.source.choice(reads.WRONG) if self.source.random() < 0.5 else reads.quoted(self.source.choice(bodies))
+        return reads.raw(changed(wrong))
+
+    def damaged(self, members):
+        return damaged(self.source, reads.raw(members))
