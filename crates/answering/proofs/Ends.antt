@@ -12,7 +12,7 @@ use Rattle.identity.specs.declared.Identity.{Identity}
 use Rattle.entry.specs.declared.Entry.{Entry}
 use Rattle.awaited.specs.Awaited.{findOf}
 use Rattle.batch.specs.declared.Batch.{Batch}
-use Rattle.batch.specs.Batch.{issuedAll}
+use Rattle.batch.specs.Batch.{beginning, issuedAll}
 use Rattle.output.specs.Put.{Out, output, putAll, Wrote}
 use Rattle.output.proofs.Laws.{then}
 use Rattle.written.specs.Message.{Message}
@@ -98,11 +98,21 @@ writes-ack s after b time hint hinted received g h w e =
       out = rw (e, g, h) (ap (λ (x : Out). x .bytes) o);
     }
 
+-- the same, said of equal parts
+pub like : (s a c : Site) (b d : Batch) (time h i k m : ℕ) (received : List ℕ) {xs ys : List ℕ} {r : Step}
+    → a ≡ c
+    → b ≡ d
+    → h ≡ i
+    → k ≡ m
+    → Acks s a b time h k received xs ys r
+    → Acks s c d time i m received xs ys r
+like s a c b d time h i k m received e f g n x = rw (← e, ← f, ← g, ← n) x
+
 pub with-batch : (s after : Site) (b c : Batch) (time hint hinted : ℕ) (received : List ℕ) {xs ys : List ℕ} {r : Step}
     → b ≡ c
     → Acks s after b time hint hinted received xs ys r
     → Acks s after c time hint hinted received xs ys r
-with-batch s after b c time hint hinted received e a = rw (← e) a
+with-batch s after b c time hint hinted received e a = like s after after b c time hint hint hinted hinted received refl e refl refl a
 
 -- acknowledged
 pub acks : (s after : Site) (es : List Entry) (time : ℕ) (hint : Hint) (received : List ℕ) {xs ys : List ℕ} {r : Step}
@@ -113,6 +123,23 @@ acks s after es time hint received {xs} a =
       step = a .step ∙ concludes s time (acked after es received hint .plan) (writtenTo xs (ack received ∷ []) .end);
       out = a .out;
     }
+
+pub acknowledges : (s after next : Site) (b : Batch) (es : List Entry) (time : ℕ) (received : List ℕ) {xs ys : List ℕ} {r : Step}
+    → after ≡ next
+    → b ≡ issuedAll 4 (next .pool) (next .next) es
+    → Acks s after b time 0 0 received xs ys r
+    → Gives s time never (acked next es received none .plan) xs ys r
+acknowledges s after next b es time received e f a = acks s next es time none received (like s after next b _ time 0 0 0 0 received e f refl refl a)
+
+pub accepts : (s after next : Site) (time : ℕ) (hint : Hint) (h k : ℕ) (received : List ℕ) {xs ys : List ℕ} {r : Step}
+    → after ≡ next
+    → h ≡ hintTime hint
+    → k ≡ hintBit hint
+    → Acks s after (beginning (after .pool) (after .next)) time h k received xs ys r
+    → Gives s time never (acked next [] received hint .plan) xs ys r
+accepts s after next time hint h k received e f g a =
+    acks s next [] time hint received
+    (like s after next _ (beginning (next .pool) (next .next)) time h _ k _ received e (ap (λ (x : Site). beginning (x .pool) (x .next)) e) f g a)
 
 -- what sends no message of its own has no condition of its own
 pub unreplied : (s : Site) (l time : ℕ) (id : Identity) (t : Taken) {xs ys : List ℕ} {r : Step}

@@ -5,6 +5,7 @@ ghost use Rattle.inputs.specs.Inputs.{alarmStep, statusStep, aggregatedStep};
 ghost use Rattle.tick.specs.Tick.{tickStep};
 ghost use lib.ListN.{length};
 ghost use Rattle.pump.specs.Pump.{identityOf, pumpRefuses, pumpPlan};
+ghost use Rattle.packet.specs.Packet.{packetRefuses, packetTaken};
 ghost use Rattle.siteread.specs.Readings.{heldAt, lostAt, phaseAt, versionAt, recordAt};
 ghost use lib.Dec.{ltb};
 ghost use Rattle.sitec.specs.Outcome.{reportIn, outcomeOf, Started, Told};
@@ -108,6 +109,21 @@ pub extern "C" fn rsmp_tick(s: Site, time: u64) -> Outcome
     ensures { λ r. ⌜ r ≡ outcomeOf (tickStep s time) ⌝ }
 {
     outcome_of(tick::tick(s, time))
+}
+
+// One message without its form feed, received on the link; the answer and a reply go into `out`. `random` is sixteen random bytes.
+#[no_mangle]
+pub extern "C" fn rsmp_packet(
+    s: Site,
+    link: u32,
+    time: u64,
+    random: Identity,
+    received: &[u8],
+    out: &mut [u8],
+) -> Outcome
+    ensures { λ r. ⌜ Told s time (packetRefuses s link time (identityOf random) (length (now (out .entry))) (now (received .entry))) (packetTaken s link time (identityOf random) (now (received .entry)) .plan) (now (out .entry)) (now (out .exit)) r ⌝ }
+{
+    outcome_of(packet::packet(s, link, time, random, received, out))
 }
 
 // The next due message of the link goes into `out`, one at most; `random` is sixteen random bytes.

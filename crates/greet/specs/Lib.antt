@@ -1,0 +1,4 @@
+pub mod Answered
+pub mod Version
+pub mod Watchdog
+pub mod Claims

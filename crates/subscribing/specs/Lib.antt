@@ -1,0 +1,2 @@
+pub mod Subscribing
+pub mod Claims
