@@ -1,4 +1,4 @@
-"""How long judging a packet takes, by its shape: an ordinary StatusSubscribe of four entries, and packets of 4,096 bytes that
+"""How much processor time judging a packet takes, by its shape: an ordinary StatusSubscribe of four entries, and packets of 4,096 bytes that
 are meant to be bad for the reader. Prints the time of one judging, the time per byte, and its ratio to the ordinary packet's.
 
   packets.py         runs the program `jsonbench`, which `rt check jsonbench` leaves in target/bin
@@ -6,9 +6,9 @@ are meant to be bad for the reader. Prints the time of one judging, the time per
 Where the program runs under an emulator (on a processor other than x86-64) only the ratios say something.
 """
 import pathlib
+import resource
 import subprocess
 import sys
-import time
 
 sys.path.insert(0, str(pathlib.Path(__file__).resolve().parent.parent / "tests"))
 
@@ -68,12 +68,18 @@ SHAPES = (("ordinary StatusSubscribe", ordinary), ("many names", many_names), ("
           ("white space", spaces))
 
 
+def processor_time():
+    used = resource.getrusage(resource.RUSAGE_CHILDREN)
+    return used.ru_utime + used.ru_stime
+
+
 def seconds(given):
+    """The least processor time of three runs: other work on the machine hardly changes it."""
     best = None
     for _ in range(3):
-        began = time.perf_counter()
+        began = processor_time()
         done = subprocess.run(cases.command("jsonbench"), input=given, stdout=subprocess.PIPE, check=True)
-        taken = time.perf_counter() - began
+        taken = processor_time() - began
         best = taken if best is None else min(best, taken)
     return best, done.stdout
 

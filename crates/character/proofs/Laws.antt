@@ -6,10 +6,14 @@ use mathlib.Core.List.{List}
 use native.Mathlib.Nat.{add-zero, add-assoc}
 use lib.ListN.{length, getD, drop}
 use lib.Seq.{getD-drop}
-use borrow.Author.Tests.{lt-ltb, le-ltb, ne-eqb}
+use native.Mathlib.Omega.{arith}
+use borrow.Author.Tests.{lt-ltb, le-ltb, ne-eqb, ltb-false, leb-false, eqb-false}
+use Rattle.basis.proofs.Cases.{picked}
+use mathlib.Core.Bool.{Bool, true, false}
+use lib.Dec.{ltb, leb, eqb}
 use Rattle.character.proofs.Lists.{past}
-use Rattle.character.specs.declared.Char.the-variants.{Close, Bad}
-use Rattle.character.specs.Char.{hexOf, hex4Of, hex4At, escapeOf, unicodeOf, rawOf, charOf}
+use Rattle.character.specs.declared.Char.the-variants.{One, Close, Bad}
+use Rattle.character.specs.Char.{hexOf, hex4Of, hex4At, escapeOf, unicodeOf, rawOf, charOf, isPlain}
 
 module _ (a b c d : ℕ) where
   pub digits : hexOf a < 16 → hexOf b < 16 → hexOf c < 16 → hexOf d < 16 → hex4Of a b c d ≡ hexOf a * 4096 + hexOf b * 256 + hexOf c * 16 + hexOf d
@@ -55,3 +59,22 @@ module _ (s : List ℕ) (at : ℕ) where
   pub at-raw : ¬ (getD s at 0 ≡ 0x22) → ¬ (getD s at 0 ≡ 0x5c) → charOf (drop at s) ≡ rawOf (getD s at 0) (getD s (at + 1) 0) (getD s (at + 2) 0) (getD s (at + 3) 0)
   unfolding charOf
   at-raw e f = rw (first, ne-eqb _ _ e, ne-eqb _ _ f) (simp (getD-drop at s))
+
+-- a plain byte is a character by itself
+
+no : {P : Type 0} → false ≡ true → P
+no e = let z : _≡_ {A = ℕ} 0 1 = cc in absurd (omega arith)
+
+plain-raw : (b : ℕ) → isPlain b ≡ true → (0x20 ≤ b) × (b < 0x80) × (¬ (b ≡ 0x22)) × (¬ (b ≡ 0x5c))
+unfolding isPlain
+plain-raw b =
+    picked P (ltb b 0x20) _ _ (λ _ f. no f) λ h. picked P (leb 0x80 b) _ _ (λ _ f. no f) λ g. picked P (eqb b 0x22) _ _ (λ _ f. no f) λ m. picked P (eqb b 0x5c) _ _ (λ _ f. no f) λ n e. (ltb-false _ _ h, leb-false _ _ g, eqb-false _ _ m, eqb-false _ _ n)
+  where
+    P : Bool → Type 0
+    P q = q ≡ true → (0x20 ≤ b) × (b < 0x80) × (¬ (b ≡ 0x22)) × (¬ (b ≡ 0x5c))
+
+pub at-plain : (s : List ℕ) (at : ℕ) → isPlain (getD s at 0) ≡ true → charOf (drop at s) ≡ One (getD s at 0) 0
+unfolding rawOf
+at-plain s at p =
+    let h = plain-raw (getD s at 0) p in
+    at-raw s at (h .2) (h .3) ∙ rw (le-ltb _ _ (h .0), lt-ltb _ _ (h .1))

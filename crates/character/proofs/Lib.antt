@@ -1,7 +1,7 @@
 -- Laws of lists and of the definitions, and the theorems about the grammar.
 pub mod Lists
 mod Ranges
-mod Laws
+pub mod Laws
 pub mod Sound
 pub mod Complete
 pub mod Encoding

@@ -3,6 +3,7 @@
 use Prim.Native.Nat.{ℕ, _+_, _-_, _*_}
 use mathlib.Core.List.{List}
 use lib.ListN.{getD}
+use mathlib.Core.Bool.{Bool, true, false}
 use lib.Dec.{ltb, leb, eqb}
 use Rattle.basis.specs.Pick.{pick}
 use Rattle.character.specs.Utf8.{two, three, four}
@@ -111,3 +112,7 @@ charOf t =
     (unicodeOf (hex4Of (getD t 2 0) (getD t 3 0) (getD t 4 0) (getD t 5 0)) (getD t 6 0) (getD t 7 0) (hex4Of (getD t 8 0) (getD t 9 0) (getD t 10 0) (getD t 11 0)))
     (escapeOf (getD t 1 0)))
     (rawOf (getD t 0 0) (getD t 1 0) (getD t 2 0) (getD t 3 0)))
+
+-- a byte that is a character by itself
+unfoldable pub isPlain : ℕ → Bool
+isPlain b = pick (ltb b 0x20) false (pick (leb 0x80 b) false (pick (eqb b 0x22) false (pick (eqb b 0x5c) false true)))

@@ -2,7 +2,7 @@
 ghost use mathlib.Core.Path.{_≡_};
 ghost use Prim.Native.Nat.{ℕ, _+_, _-_, _≤_, _<_, _^_};
 ghost use lib.ListN.{length, getD, drop};
-ghost use Rattle.character.specs.Char.{hexOf, hex4Of, hex4At, escapeOf, unicodeOf, twoOf, threeOf, fourOf, rawOf, charOf};
+ghost use Rattle.character.specs.Char.{hexOf, hex4Of, hex4At, escapeOf, unicodeOf, twoOf, threeOf, fourOf, rawOf, charOf, isPlain};
 
 // A character and how many bytes it has after its first, the closing quotation mark, or neither.
 pub enum Char {
@@ -242,7 +242,7 @@ fn raw_at(s: &[u8], at: usize) -> Char
 }
 
 // The character or the closing quotation mark at a place.
-pub fn step(s: &[u8], at: usize) -> Char
+pub fn any(s: &[u8], at: usize) -> Char
     ensures { λ r. ⌜ r ≡ charOf (drop at (now (s .entry))) ⌝ }
 {
     if s.len() <= at {
@@ -260,4 +260,37 @@ pub fn step(s: &[u8], at: usize) -> Char
         return escape(e);
     }
     raw_at(s, at)
+}
+
+// Whether a byte is a character by itself: of ASCII, and no control character, no quotation mark and no backslash.
+pub fn is_plain(b: u8) -> bool
+    ensures { λ r. ⌜ r ≡ isPlain b ⌝ }
+{
+    if b < 0x20 {
+        return false;
+    }
+    if 0x80 <= b {
+        return false;
+    }
+    if b == b'"' {
+        return false;
+    }
+    if b == b'\\' {
+        return false;
+    }
+    true
+}
+
+// The same as `any`, quickly where the byte is plain, as nearly all are.
+pub fn step(s: &[u8], at: usize) -> Char
+    ensures { λ r. ⌜ r ≡ charOf (drop at (now (s .entry))) ⌝ }
+{
+    let b = byte(s, at);
+    if is_plain(b) {
+        return Char::One(b as u32, 0);
+    }
+    if b == b'"' {
+        return Char::Close;
+    }
+    any(s, at)
 }

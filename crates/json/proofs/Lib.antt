@@ -1,7 +1,7 @@
 -- Laws of the reader, and the theorems about the grammar.
 pub mod Places
 mod Steps
-mod Nesting
+pub mod Nesting
 pub mod Sound
 pub mod Shorter
 pub mod Complete

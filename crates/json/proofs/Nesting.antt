@@ -25,7 +25,7 @@ use Rattle.json.proofs.Places.{from, ended}
 
 -- values
 
-value-cons : (l b : ℕ) (t : List ℕ) → readValue l (b ∷ t) ≡ valueBy (λ close u. insideOf close l u) (b ∷ t)
+pub value-cons : (l b : ℕ) (t : List ℕ) → readValue l (b ∷ t) ≡ valueBy (λ close u. insideOf close l u) (b ∷ t)
 unfolding readValue insideOf
 value-cons zero b t = refl
 value-cons (suc l) b t = refl
@@ -173,7 +173,7 @@ unfolding insideOf
 no-levels s close l i e = rw e fails
 
 module _ (s : List ℕ) (close l at i : ℕ) (pos : ¬ (l ≡ 0)) (ws : Skipped s at i) where
-  opens : insideOf close l (drop at s) ≡ opened close (λ v. readValue (l - 1) v) (length (drop at s)) (drop i s)
+  pub opens : insideOf close l (drop at s) ≡ opened close (λ v. readValue (l - 1) v) (length (drop at s)) (drop i s)
   unfolding insideOf readInside
   opens =
       ap (λ (k : ℕ). insideOf close k (drop at s)) (one-less l pos)

@@ -29,6 +29,8 @@ use Rattle.jsonpacket.specs.Names.{noTwice}
 use Rattle.jsonpacket.specs.Scan.{scan}
 use Rattle.jsonpacket.specs.Packet.{Packet, isObject, isEmpty, accepted, isPacket, jsonOf, meaningOf}
 use Rattle.jsonpacket.proofs.Scans.{scan-nil}
+use Rattle.jsonsure.specs.Sure.{sure}
+use Rattle.jsonpacket.proofs.Sures.{sure-once}
 use Rattle.jsonpacket.proofs.Twice as Twice
 
 -- a value is an object exactly when it begins with a brace
@@ -91,6 +93,10 @@ module _ (s : List ℕ) (i : ℕ) (ws : Skipped s 0 i) where
 
     pub more-follows : k < length s → false ≡ isPacket s
     more-follows g = sym (judged ∙ ap (λ (u : List ℕ). both (isEmpty u) (noTwice meaning)) (next s k g))
+
+    pub by-marks : length s ≤ k → ((j : Json) (u : List ℕ) → readValue depth (drop i s) ≡ ok j u → sure j ≡ true) → true ≡ isPacket s
+    unfolding meaning
+    by-marks g f = sym (judged ∙ ap (λ (u : List ℕ). both (isEmpty u) (noTwice (ended x .what))) (past s k g) ∙ sure-once (ended x .what) (f (ended x .what) (drop e s) (ended x .reads)))
 
     pub by-names : length s ≤ k → (q : Bool) → q ≡ scan s → q ≡ isPacket s
     by-names g q n = n ∙ scanned ∙ sym (judged ∙ ap (λ (u : List ℕ). both (isEmpty u) (noTwice meaning)) (past s k g))

@@ -1,4 +1,5 @@
 // Whether a slice is a packet: one JSON object of at most eight levels with no name twice in an object.
+use jsonsure::Judged;
 use text::Read;
 ghost use mathlib.Core.Path.{_≡_};
 ghost use Prim.Native.Nat.{_+_, _<_};
@@ -82,12 +83,15 @@ pub fn is_packet(s: &[u8]) -> bool
     if s[i] != b'{' {
         return false;
     }
-    let v = json::value(s, i, LEVELS);
+    let v = jsonsure::value(s, i, LEVELS);
     match v {
-        Read::Bad => false,
-        Read::End(e) => {
+        Judged::Bad => false,
+        Judged::End(e, sure) => {
             if json::space(s, e) < s.len() {
                 return false;
+            }
+            if sure {
+                return true;
             }
             names_once(s)
         }

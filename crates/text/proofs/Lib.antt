@@ -1,5 +1,6 @@
 -- Laws of the definitions, and the theorems about the grammar.
-mod Texts
+pub mod Texts
+mod Runs
 mod Copies
 pub mod Endings
 pub mod Meaning

@@ -1,4 +1,5 @@
 pub mod Grammar
+pub mod Run
 pub mod Decoded
 pub mod Ends
 pub mod Copied

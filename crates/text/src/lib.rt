@@ -1,7 +1,10 @@
 // The strings of a JSON text: where they end, what they are compared with, and a copy. A character is one step.
 ghost use mathlib.Core.Path.{_≡_};
-ghost use lib.ListN.{drop};
+ghost use Prim.Native.Nat.{_+_};
+ghost use lib.Dec.{eqb};
+ghost use lib.ListN.{getD, drop};
 ghost use Rattle.text.specs.Decoded.{decoded, isText, sameText};
+ghost use Rattle.text.specs.Run.{run};
 ghost use Rattle.text.specs.Ends.{Ends};
 ghost use Rattle.text.specs.Copied.{noCopy, copyOf};
 use character::Char;
@@ -12,16 +15,41 @@ pub enum Read {
     Bad,
 }
 
+// The place after the plain characters that begin at `at`.
+fn plain(s: &[u8], at: usize) -> usize
+    ensures { λ r. ⌜ r ≡ at + run (drop at (now (s .entry))) ⌝ }
+{
+    let mut i = at;
+    while i < s.len() {
+        if character::is_plain(s[i]) {
+            i += 1;
+        } else {
+            return i;
+        }
+    }
+    i
+}
+
+fn is_quote(s: &[u8], at: usize) -> bool
+    ensures { λ r. ⌜ r ≡ eqb (getD (now (s .entry)) at 0) 0x22 ⌝ }
+{
+    if at < s.len() { s[at] == b'"' } else { false }
+}
+
 // The end of the string whose characters begin at `at`.
 pub fn chars(s: &[u8], at: usize) -> Read
     ensures { λ r. ⌜ Ends (now (s .entry)) at (decoded (drop at (now (s .entry)))) r ⌝ }
 {
     let mut i = at;
     loop {
-        let c = character::step(s, i);
+        let k = plain(s, i);
+        if is_quote(s, k) {
+            return Read::End(k + 1);
+        }
+        let c = character::any(s, k);
         match c {
-            Char::One(_, w) => i += 1 + w,
-            Char::Close => return Read::End(i + 1),
+            Char::One(_, w) => i = k + (1 + w),
+            Char::Close => return Read::End(k + 1),
             Char::Bad => return Read::Bad,
         }
     }

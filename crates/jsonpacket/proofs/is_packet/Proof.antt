@@ -1,7 +1,7 @@
 -- `jsonpacket::is_packet` meets its contract.
 -- Assumes nothing.
-use borrow.Author.Needs.{needs}
-use Rattle.jsonpacket.proofs.Whole.{none-there, no-object, no-value, more-follows, by-names}
+use mathlib.Core.Path.{_∙_, sym}
+use Rattle.jsonpacket.proofs.Whole.{none-there, no-object, no-value, more-follows, by-marks, by-names}
 use borrow.Author.Needs.{needs}
 use Rattle.jsonpacket.proofs.is_packet.Statement.{statement}
 use Rattle.jsonpacket.proofs.is_packet.Tie as tie
@@ -31,16 +31,23 @@ space-requires-2 : tie.Need-space-requires-2
 space-requires-2 c κs = search needs
 
 returns-3 : tie.Need-returns-3
-returns-3 c = more-follows _ _ (c .before .before .before .before .before .before .before .before .before .space .ensures) (c .before .before .before .before .before .before .before .before .if1 .left) (c .before .before .before .before .before .before .if2 .left) _ (rw (c .before .before .before .v .given .1) at (c .before .before .before .before .before .value .ensures)) _ (c .before .space2 .ensures) (c .if3 .taken)
+returns-3 c = more-follows _ _ (c .before .before .before .before .before .before .before .before .before .space .ensures) (c .before .before .before .before .before .before .before .before .if1 .left) (c .before .before .before .before .before .before .if2 .left) _ ((rw (c .before .before .before .v .given .1) at (c .before .before .before .before .before .value .ensures)) .place) _ (c .before .space2 .ensures) (c .if3 .taken)
+
+returns-4 : tie.Need-returns-4
+returns-4 c =
+    let v = rw (c .before .before .before .before .v .given .1) at (c .before .before .before .before .before .before .value .ensures) in
+    by-marks _ _ (c .before .before .before .before .before .before .before .before .before .before .space .ensures) (c .before .before .before .before .before .before .before .before .before .if1 .left) (c .before .before .before .before .before .before .before .if2 .left) _ (v .place) _ (c .before .before .space2 .ensures) (c .before .if3 .left) (λ j u h. sym (v .says j u h) ∙ c .if4 .taken)
 
 names-once-requires : tie.Need-names-once-requires
 names-once-requires c κs = search needs
 
-returns-4 : tie.Need-returns-4
-returns-4 c = no-value _ _ (c .before .before .before .before .before .before .space .ensures) (rw (c .enum-told .given .1) at (c .before .before .value .ensures))
-
 returns-5 : tie.Need-returns-5
-returns-5 c = by-names _ _ (c .before .before .before .before .before .before .before .before .before .before .space .ensures) (c .before .before .before .before .before .before .before .before .before .if1 .left) (c .before .before .before .before .before .before .before .if2 .left) _ (rw (c .before .before .before .before .v .given .1) at (c .before .before .before .before .before .before .value .ensures)) _ (c .before .before .space2 .ensures) (c .before .if3 .left) _ (c .names-once .ensures)
+returns-5 c = no-value _ _ (c .before .before .before .before .before .before .space .ensures) ((rw (c .enum-told .given .1) at (c .before .before .value .ensures)) .place)
+
+returns-6 : tie.Need-returns-6
+returns-6 c =
+    let v = rw (c .before .before .before .before .before .v .given .1) at (c .before .before .before .before .before .before .before .value .ensures) in
+    by-names _ _ (c .before .before .before .before .before .before .before .before .before .before .before .space .ensures) (c .before .before .before .before .before .before .before .before .before .before .if1 .left) (c .before .before .before .before .before .before .before .before .if2 .left) _ (v .place) _ (c .before .before .before .space2 .ensures) (c .before .before .if3 .left) _ (c .names-once .ensures)
 
 pub is-packet-spec : {M : Type 1} → statement M
 is-packet-spec =
@@ -55,6 +62,7 @@ is-packet-spec =
     enum-known-v
     space-requires-2
     returns-3
-    names-once-requires
     returns-4
-    returns-5)
+    names-once-requires
+    returns-5
+    returns-6)

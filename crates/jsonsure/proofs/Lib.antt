@@ -1,0 +1,4 @@
+-- Laws of the definitions.
+mod Marks
+mod Entries
+mod Saying
