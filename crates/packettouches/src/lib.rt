@@ -1,0 +1,1 @@
+// By which acts pump and the packets touch the records held; there is no code here.

@@ -1,0 +1,1 @@
+// By which acts each call touches the records held; there is no code here.
