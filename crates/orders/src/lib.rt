@@ -5,7 +5,7 @@ ghost use Rattle.basis.specs.Pick.{both};
 ghost use Rattle.batch.specs.Batch.{issuedAll};
 ghost use Rattle.taken.specs.Small.{alarmAt, aggregatedAt};
 ghost use Rattle.sending.specs.Sending.{alarmMessage, aggregatedMessage};
-ghost use Rattle.answering.specs.Taken.{replied, unlessBusy, takenRefuses};
+ghost use Rattle.answering.specs.Taken.{replied, unlessBusy};
 ghost use Rattle.site.specs.Call.{never, Gives};
 ghost use Rattle.orders.specs.Takes.{Takes};
 ghost use Rattle.orders.specs.Orders.{hasPrimary, recordsOf, changedTo, changeTaken, requestTaken, ordered as orderedBy, foundTaken, alarmTaken, isZero, aggregatedOf, aggregatedTaken};

@@ -1,5 +1,6 @@
 // The site after a message went out.
 ghost use mathlib.Core.Path.{_≡_};
+ghost use Rattle.pool.specs.Pool.{markOf};
 ghost use Rattle.outgoing.specs.Outgoing.{marked, sameEvent, carriedOf, carriedAt, messageOut, versionSent, watchdogSent, aggregatedSent, alarmSentWith, alarmSent, entrySent};
 use entry::Entry;
 use identity::Identity;
@@ -58,11 +59,18 @@ fn message_out(k: Link, id: Identity, time: u64, c: Carried) -> Link
     }
 }
 
+// A record that is sent stays held.
+fn mark_sent(p: Pool, l: u16, q: u32) -> Pool
+    ensures { λ r. ⌜ r ≡ markOf p l q ⌝ }
+{
+    p.mark_sent(l, q)
+}
+
 fn mark(p: Pool, l: u16, c: Carried) -> Pool
     ensures { λ r. ⌜ r ≡ marked p l c ⌝ }
 {
     match c {
-        Carried::Held(q) => p.mark_sent(l, q),
+        Carried::Held(q) => mark_sent(p, l, q),
         Carried::NoRecord => p,
     }
 }
@@ -116,7 +124,7 @@ pub fn entry(s: Site, l: u16, time: u64, id: Identity, sequence: u32) -> Site
     let k = s.link(l);
     let mut t = s.with_link(l, k.entry_out(id, time, sequence));
     let before = s.pool;
-    let after = before.mark_sent(l, sequence);
+    let after = mark_sent(before, l, sequence);
     t.pool = after;
     t
 }

@@ -3,25 +3,21 @@
 use Prim.Native.Nat.{ℕ, _+_, _%_, _≤_}
 use native.Mathlib.Nat.{zero-add}
 use native.Mathlib.Omega.{arith}
-use mathlib.Core.Path.{_≡_, refl, sym, ap, ap₂, subst, _∙_}
+use mathlib.Core.Path.{_≡_, refl, sym, ap, subst, _∙_}
 use mathlib.Core.Bool.{Bool}
 use mathlib.Core.List.{List, [], _∷_, append-nil}
-use lib.ListN.{length, take, drop}
+use lib.ListN.{length}
 use Rattle.answer.specs.declared.Refusal.{Refusal}
 use Rattle.answer.specs.declared.Report.{Report}
 use Rattle.answer.specs.declared.Answer.{Answer}
 use Rattle.answer.specs.declared.Answer.the-variants.{Done, Refused}
-use Rattle.answer.specs.Given.{Hint}
 use Rattle.answer.specs.Given.Hint.{none}
 use Rattle.identity.specs.declared.Identity.{Identity}
 use Rattle.output.specs.Put.{Out, output, putAll, Wrote, concat}
 use Rattle.output.proofs.Laws.{fits, behind, sent, same-length}
-use Rattle.pool.specs.declared.Place.{Place}
 use Rattle.pool.specs.declared.Sought.{Sought}
-use Rattle.pool.specs.declared.Sought.the-variants.{Found, Nothing as NoEntry}
-use Rattle.pool.specs.Pool.{oldestUnsent, newestAlarm}
 use Rattle.link.specs.declared.Due.{Due}
-use Rattle.link.specs.declared.Due.the-variants.{Alarm, Entry}
+use Rattle.link.specs.declared.Due.the-variants.{Alarm}
 use Rattle.written.specs.Message.{Message}
 use Rattle.written.specs.Listing.{bytesOf}
 use Rattle.written.specs.Pieces.{pieces}
@@ -31,15 +27,16 @@ use Rattle.site.specs.declared.Site.{Site}
 use Rattle.site.specs.declared.Step.{Step}
 use Rattle.site.specs.Site.{withIssued}
 use Rattle.site.specs.Parts.{alarmAt}
-use Rattle.site.specs.Call.{Plan, batchOf, hintTime, hintBit, reportOf, stepped, answerOf, stepOf, writtenTo, outAfter}
+use Rattle.site.specs.Call.{Plan, batchOf, reportOf, stepped, answerOf, stepOf, writtenTo, outAfter}
 use Rattle.sending.specs.Sending.{alarmMessage}
 use Rattle.outgoing.specs.declared.Carried.{Carried}
 use Rattle.outgoing.specs.declared.Carried.the-variants.{Held, NoRecord}
 use Rattle.outgoing.specs.Outgoing.{carriedOf, carriedAt, alarmSentWith}
 use Rattle.pump.specs.Pump.{dueAt, pumpRefuses, sends, entryPlan, planFor, pumpPlan}
-use Rattle.pump.specs.Claims.{Ready, Written, Gave, SameEvent, Claims}
+use Rattle.pump.specs.Claims.{Ready, Written, Gave, Claims}
 use Rattle.pump.proofs.Laws.{does, plan-issues}
 use Rattle.pump.proofs.Ready.{verdict-ready, answer-ready}
+use Rattle.pump.proofs.Due.{in-order}
 use Rattle.pump.proofs.Plans.{found, one-for, most-for, quiet-for, held-for, reached-for, carries, carries-none}
 
 stepped-answer : (s t : Site) (a : Answer) → stepped s t a .answer ≡ a
@@ -108,6 +105,7 @@ with-carried s l time id k c d e =
 pub kept : Claims
 kept =
     record {
+      in-order = in-order;
       done = λ s l time id xs ys r g h. (_, done-with s l time id xs ys r g h);
       only-then = λ s l time id xs ys r q g e. only-then s l time id xs ys r g q e;
       one = λ s l time id room h. one-for s l time id (dueAt s l time) (h .due) (found s l time);

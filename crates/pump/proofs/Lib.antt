@@ -1,4 +1,5 @@
 pub mod Laws
 pub mod Ready
 pub mod Plans
+pub mod Due
 pub mod Kept

@@ -1,11 +1,11 @@
 -- The plan by what is due.
 -- Assumes nothing.
 use Prim.Native.Nat.{ℕ, _+_, _*_, _≤_}
-use mathlib.Core.Path.{_≡_, refl, sym, ap, subst, _∙_}
+use mathlib.Core.Path.{_≡_, refl, ap, subst, _∙_}
 use mathlib.Core.Bool.{Bool, true, false}
-use mathlib.Core.List.{List, [], _∷_}
+use mathlib.Core.List.{[], _∷_}
 use native.Mathlib.Omega.{arith}
-use lib.Dec.{ltb, leb, eqb}
+use lib.Dec.{ltb, leb}
 use lib.ListN.{length}
 use borrow.Author.Tests.{eq-eqb, eqb-true}
 use Rattle.basis.specs.Pick.{pick, both}
@@ -13,7 +13,6 @@ use Rattle.basis.proofs.Cases.{bool-cases, picked}
 use Rattle.answer.specs.Given.Hint.{none}
 use Rattle.identity.specs.declared.Identity.{Identity}
 use Rattle.pool.specs.declared.Place.{Place}
-use Rattle.pool.specs.declared.Pool.{Pool}
 use Rattle.pool.specs.declared.Sought.{Sought}
 use Rattle.pool.specs.declared.Sought.the-variants.{Found, Nothing as NoEntry}
 use Rattle.pool.specs.Pool.{oldestUnsent, newestAlarm}
@@ -38,7 +37,7 @@ use Rattle.outgoing.specs.declared.Carried.the-variants.{Held, NoRecord}
 use Rattle.outgoing.specs.Outgoing.{marked, sameEvent, carriedOf, carriedAt}
 use Rattle.alarm.specs.Issued.{issuedOf}
 use Rattle.site.specs.Parts.{alarmAt}
-use Rattle.pump.specs.Pump.{isHeld, dueAt, entryPlan, planFor, pumpPlan}
+use Rattle.pump.specs.Pump.{isHeld, dueAt, entryPlan, planFor}
 use Rattle.pump.specs.Claims.{SameEvent}
 
 -- an Entry is due only where a record is not sent

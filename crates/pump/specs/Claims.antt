@@ -1,7 +1,8 @@
 -- What is claimed of pump, in the words of document 01. proofs/Kept.antt proves it.
 -- Assumes nothing.
-use Prim.Native.Nat.{ℕ, _≤_, _<_}
+use Prim.Native.Nat.{ℕ, _+_, _*_, _≤_, _<_}
 use mathlib.Core.Path.{_≡_}
+use mathlib.Core.Bool.{true, false}
 use mathlib.Core.List.{List, [], _∷_}
 use lib.ListN.{length, take, drop}
 use Rattle.answer.specs.declared.Report.{Report}
@@ -15,8 +16,8 @@ use Rattle.pool.specs.declared.Sought.the-variants.{Found, Nothing as NoEntry}
 use Rattle.pool.specs.Pool.{markOf, oldestUnsent, newestAlarm}
 use Rattle.poollaws.specs.Promises.{Reached}
 use Rattle.poollaws.specs.Leaves.{Held}
-use Rattle.link.specs.declared.Phase.the-variants.{Down}
-use Rattle.link.specs.declared.Due.the-variants.{Nothing, Alarm, Entry}
+use Rattle.link.specs.declared.Phase.the-variants.{Down, Up}
+use Rattle.link.specs.declared.Due.the-variants.{Nothing, Watchdog, Aggregated, Alarm, Entry}
 use Rattle.link.specs.Phase.{phaseOf}
 use Rattle.link.specs.Steps.{messageOutOf, alarmPassedOf}
 use Rattle.written.specs.Message.{Message}
@@ -56,7 +57,31 @@ pub record SameEvent (s : Site) (k : ℕ) (x : Place) : Type 0 where
   pub time : x .entry .time ≡ alarmAt s k .time
   pub states : x .entry .flags ≡ issuedOf (alarmAt s k) 0 k .flags
 
+-- what is due in Up, in this order
+module _ (s : Site) (l time : ℕ) where
+  -- less than a period after the last Watchdog, and the AggregatedStatus of this life is out
+  pub record Passing : Type 0 where
+    pub up : phaseOf (linkAt s l) ≡ Up
+    pub soon : time < linkAt s l .beat + s .period * 1000
+    pub aggregated : linkAt s l .aggregatedout ≡ true
+
+  -- the first pass is over: it goes through the alarms on the primary alone
+  abbrev pub Passed : Type 0
+  Passed = l ≡ s .primary → s .table .alarmcount ≤ linkAt s l .alarm
+
+  pub record InOrder : Type 0 where
+    -- Watchdog a period or more after the last
+    pub watchdog : phaseOf (linkAt s l) ≡ Up → linkAt s l .beat + s .period * 1000 ≤ time → dueAt s l time ≡ Watchdog
+    -- once per link life the AggregatedStatus
+    pub aggregated : phaseOf (linkAt s l) ≡ Up → time < linkAt s l .beat + s .period * 1000 → linkAt s l .aggregatedout ≡ false → dueAt s l time ≡ Aggregated
+    -- then on the primary every alarm 0 upwards
+    pub alarm : Passing → l ≡ s .primary → linkAt s l .alarm < s .table .alarmcount → dueAt s l time ≡ Alarm (linkAt s l .alarm)
+    -- then the oldest held record not sent
+    pub entry : Passing → Passed → (x : Place) → oldestUnsent (s .pool) l ≡ Found x → dueAt s l time ≡ Entry
+    pub nothing : Passing → Passed → oldestUnsent (s .pool) l ≡ NoEntry → dueAt s l time ≡ Nothing
+
 pub record Claims : Type 0 where
+  pub in-order : (s : Site) (l time : ℕ) → InOrder s l time
   -- a call that nothing stands against is done, and only such a one
   pub done : (s : Site) (l time : ℕ) (id : Identity) (xs ys : List ℕ) (r : Step) → Gave s l time id xs ys r → Ready s l time id (length xs)
       → (q : Report) × (r .answer ≡ Done q)

@@ -87,7 +87,7 @@ sends after m = record { site = after; issued = []; messages = m ∷ []; closed 
 abbrev pub versionPlan : Site → ℕ → ℕ → Identity → Plan
 versionPlan s l time id = sends (versionSent s l time id) (version (id .bytes) (textOf (s .table .site)) (textOf (s .table .sxl)))
 
--- "our wTs is the call's time"
+-- its wTs is the call's time
 abbrev pub watchdogPlan : Site → ℕ → ℕ → Identity → Plan
 watchdogPlan s l time id = sends (watchdogSent s l time id) (watchdog (id .bytes) time)
 
@@ -117,13 +117,17 @@ pumpPlan s l time id = planFor (dueAt s l time) s l time id
 abbrev pub verdictOf : Site → ℕ → ℕ → Identity → ℕ → Answer
 verdictOf s l time id room = judged (pumpRefuses s l time id room) inOrder (Done nothingOf)
 
--- the later four of them
+-- the later four of them, of which these apply
+abbrev pub laterOf : Bool → Bool → Bool → Bool → Answer
+laterOf down nothing crowded awaited =
+    pick down (Refused WrongPhase)
+    (pick nothing (Refused NothingDue)
+    (pick crowded (Refused ManyAwaited)
+    (pick awaited (Refused IdentityAwaited) (Done nothingOf))))
+
 abbrev pub laterVerdict : Site → ℕ → ℕ → Identity → Answer
 laterVerdict s l time id =
-    pick (downAt s l) (Refused WrongPhase)
-    (pick (isNothing (dueAt s l time)) (Refused NothingDue)
-    (pick (crowdedOf (linkAt s l)) (Refused ManyAwaited)
-    (pick (isAwaited (findOf (linkAt s l .awaited) id)) (Refused IdentityAwaited) (Done nothingOf))))
+    laterOf (downAt s l) (isNothing (dueAt s l time)) (crowdedOf (linkAt s l)) (isAwaited (findOf (linkAt s l .awaited) id))
 
 -- nothing is issued
 abbrev pub finished : Plan → ℕ → ℕ → Step

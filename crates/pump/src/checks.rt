@@ -1,6 +1,8 @@
 // What is due, and what refuses the call.
 ghost use mathlib.Core.Path.{_≡_};
-ghost use Rattle.pump.specs.Pump.{identityOf, isHeld, dueAt, Below, isNothing, isAwaited, laterVerdict, verdictOf};
+ghost use Rattle.basis.specs.Pick.{pick};
+ghost use Rattle.answer.specs.declared.Answer.the-variants.{Refused as refusedFor};
+ghost use Rattle.pump.specs.Pump.{identityOf, isHeld, dueAt, Below, isNothing, isAwaited, laterOf, laterVerdict, verdictOf};
 use answer::Answer;
 use answer::Refusal;
 use awaited::Found;
@@ -57,24 +59,34 @@ fn is_awaited(f: Found) -> bool
     }
 }
 
-// Numbers 6 to 9.
+fn unless(refuses: bool, why: Refusal, rest: Answer) -> Answer
+    ensures { λ r. ⌜ r ≡ pick refuses (refusedFor why) rest ⌝ }
+{
+    if refuses { Answer::Refused(why) } else { rest }
+}
+
+// Numbers 6 to 9, of which these apply.
+fn in_order(down: bool, nothing: bool, crowded: bool, awaited: bool) -> Answer
+    ensures { λ r. ⌜ r ≡ laterOf down nothing crowded awaited ⌝ }
+{
+    let fresh = unless(
+        awaited,
+        Refusal::IdentityAwaited,
+        Answer::Done(site::nothing()),
+    );
+    let seven = Refusal::NothingDue;
+    let eight = Refusal::ManyAwaited;
+    let due = unless(nothing, seven, unless(crowded, eight, fresh));
+    unless(down, Refusal::WrongPhase, due)
+}
+
 fn later_verdict(s: Site, l: u16, time: u64, id: Identity) -> Answer
     ensures { λ r. ⌜ r ≡ laterVerdict s l time id ⌝ }
 {
-    if s.down(l) {
-        return Answer::Refused(Refusal::WrongPhase);
-    }
-    if is_nothing(due_at(s, l, time)) {
-        return Answer::Refused(Refusal::NothingDue);
-    }
+    let down = s.down(l);
+    let nothing = is_nothing(due_at(s, l, time));
     let k = s.link(l);
-    if k.crowded() {
-        return Answer::Refused(Refusal::ManyAwaited);
-    }
-    if is_awaited(k.awaits(id)) {
-        return Answer::Refused(Refusal::IdentityAwaited);
-    }
-    Answer::Done(site::nothing())
+    in_order(down, nothing, k.crowded(), is_awaited(k.awaits(id)))
 }
 
 // What the checks answer, in their order.

@@ -5,7 +5,7 @@ use Rattle.outgoing.proofs.entry.Tie as tie
 use Rattle.outgoing.proofs.entry.Reads as reads
 use Rattle.outgoing.proofs.entry.Lts as lts
 use Rattle.link.proofs.Link.entry_out.Reads as entry-out-reads
-use Rattle.pool.proofs.Pool.mark_sent.Reads as mark-sent-reads
+use Rattle.outgoing.proofs.mark_sent.Reads as mark-sent-reads
 use Rattle.site.proofs.Site.link.Reads as link-reads
 use Rattle.site.proofs.Site.with_link.Reads as with-link-reads
 

@@ -3,7 +3,7 @@ use Rattle.outgoing.proofs.mark.Statement.{statement}
 use Rattle.outgoing.proofs.mark.Tie as tie
 use Rattle.outgoing.proofs.mark.Reads as reads
 use Rattle.outgoing.proofs.mark.Lts as lts
-use Rattle.pool.proofs.Pool.mark_sent.Reads as mark-sent-reads
+use Rattle.outgoing.proofs.mark_sent.Reads as mark-sent-reads
 
 -- src/lib.rt:65:23
 enum-known-c : tie.Need-enum-known-c

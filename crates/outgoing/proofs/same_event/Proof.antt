@@ -1,5 +1,5 @@
 use Rattle.basis.proofs.Tests.{tests}
-use borrow.Author.Tests.{eq-eqb, ne-eqb}
+use borrow.Author.Tests.{ne-eqb}
 use mathlib.Core.Path.{refl}
 use Rattle.outgoing.proofs.same_event.Statement.{statement}
 use Rattle.outgoing.proofs.same_event.Tie as tie
