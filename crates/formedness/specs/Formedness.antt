@@ -1,0 +1,113 @@
+-- Every message that a sound site writes is well-formed, and a done call writes exactly its messages' bytes, 4,096 at most, each of which
+-- reads back to its message. Statements only: their proofs are `messages`, `plans`, `received` and `outputs`.
+-- Assumes nothing.
+use Prim.Native.Nat.{ℕ, _≤_, _<_}
+use mathlib.Core.Path.{_≡_}
+use mathlib.Core.Bool.{Bool, false}
+use mathlib.Core.List.{List, [], _∷_, _++_}
+use lib.ListN.{length, take, drop}
+use Rattle.answer.specs.declared.Refusal.{Refusal}
+use Rattle.answer.specs.declared.Report.{Report}
+use Rattle.answer.specs.declared.Answer.the-variants.{Done}
+use Rattle.identity.specs.declared.Identity.{Identity}
+use Rattle.identity.specs.Read.{SixteenBytes}
+use Rattle.identity.specs.Version.{version4Of}
+use Rattle.entry.specs.declared.Entry.{Entry}
+use Rattle.label.specs.Label.{textOf as labelText}
+use Rattle.jsonpacket.specs.Packet.{Packet}
+use Rattle.jsonwrite.specs.Text.{textOf}
+use Rattle.written.specs.Message.{Message}
+use Rattle.written.specs.Message.Message.{version, watchdog}
+use Rattle.written.specs.Listing.{jsonOf, bytesOf}
+use Rattle.writtenlaws.specs.Formed.{Formed, Received}
+use Rattle.writtenlaws.specs.Fields.{fieldsOf}
+use Rattle.taken.specs.declared.Verdict.{Verdict}
+use Rattle.taken.specs.declared.Kind.{Kind}
+use Rattle.taken.specs.declared.Class.the-variants.{Asked}
+use Rattle.taken.specs.declared.GotTime.{GotTime}
+use Rattle.taken.specs.declared.GotLabel.{GotLabel}
+use Rattle.taken.specs.declared.AlarmFields.{AlarmFields}
+use Rattle.taken.specs.Head.{headAt}
+use Rattle.takenlists.specs.declared.VersionFields.{VersionFields}
+use Rattle.takenlists.specs.declared.StatusFields.{StatusFields}
+use Rattle.takenlists.specs.Status.{statusAt}
+use Rattle.site.specs.declared.Site.{Site}
+use Rattle.site.specs.declared.Step.{Step}
+use Rattle.site.specs.Call.{Plan, Gives}
+use Rattle.sending.specs.Sending.{alarmMessage, aggregatedMessage, entryMessage}
+use Rattle.pump.specs.Pump.{pumpPlan}
+use Rattle.answering.specs.Taken.{notAcked}
+use Rattle.greet.specs.Answered.{answeredPlan}
+use Rattle.greet.specs.Version.{versionTaken}
+use Rattle.greet.specs.Watchdog.{watchdogTaken}
+use Rattle.subscribing.specs.Subscribing.{subscribingTaken}
+use Rattle.orders.specs.Orders.{alarmTaken, aggregatedTaken}
+use Rattle.statusreply.specs.StatusReply.{statusTaken}
+use Rattle.sound.specs.Sound.{EntryOf, SoundAt}
+
+-- each is well-formed
+abbrev pub EachFormed : List Message → Type 0
+EachFormed [] = Unit {0}
+EachFormed (m ∷ ms) = Formed m × EachFormed ms
+
+-- their bytes, one behind the other, form feeds included
+abbrev pub allBytes : List Message → List ℕ
+allBytes [] = []
+allBytes (m ∷ ms) = bytesOf m ++ allBytes ms
+
+-- the messages of a call: well-formed, with room in 4,096 bytes
+pub record Sendable (ms : List Message) : Type 0 where
+  pub formed : EachFormed ms
+  pub room : length (allBytes ms) ≤ 4096
+
+-- ---- the messages that tell a part of a sound site
+pub record Messages : Type 0 where
+  pub version : (now : ℕ) (s : Site) → SoundAt now s → (id : List ℕ) → SixteenBytes id → Formed (version id (labelText (s .table .site)) (labelText (s .table .sxl)))
+  pub alarm : (now : ℕ) (s : Site) → SoundAt now s → (id : List ℕ) → SixteenBytes id → (k : ℕ) → k < s .table .alarmcount → Formed (alarmMessage s id k)
+  pub aggregated : (now : ℕ) (s : Site) → SoundAt now s → (id : List ℕ) → SixteenBytes id → Formed (aggregatedMessage s id)
+  -- of a held record
+  pub entry : (now : ℕ) (s : Site) → SoundAt now s → (id : List ℕ) → SixteenBytes id → (e : Entry) → EntryOf s now e → Formed (entryMessage s id e)
+
+-- ---- the messages of every call that writes; `received` are the characters of the packet's mId
+pub record Plans : Type 0 where
+  pub identity : (bs : List ℕ) → SixteenBytes bs → SixteenBytes (version4Of bs)
+  pub pump : (time : ℕ) (s : Site) → SoundAt time s → (l : ℕ) (id : Identity) → SixteenBytes (id .bytes) → Sendable (pumpPlan s l time id .messages)
+  pub answered : (s : Site) (l : ℕ) (id : Identity) (acknowledged : Bool) → answeredPlan s l id acknowledged .messages ≡ []
+  -- the eleven reasons are names 14 to 24
+  pub refused : (s : Site) (received : List ℕ) → Received received → (reason : ℕ) → 14 ≤ reason → reason ≤ 24 → Sendable (notAcked s received reason .plan .messages)
+  pub version : (s : Site) (l : ℕ) (received : List ℕ) → Received received → (f : VersionFields) → Sendable (versionTaken s l received f .plan .messages)
+  pub watchdog : (s : Site) (l : ℕ) (received : List ℕ) → Received received → (f : GotTime) → Sendable (watchdogTaken s l received f .plan .messages)
+  pub subscribing : (subscribing : Bool) (s : Site) (l time : ℕ) (received : List ℕ) → Received received → (f : StatusFields)
+      → Sendable (subscribingTaken subscribing s l time received f .plan .messages)
+  pub alarm : (time : ℕ) (s : Site) → SoundAt time s → (l : ℕ) (id : Identity) → SixteenBytes (id .bytes) → (received : List ℕ) → Received received → (f : AlarmFields)
+      → Sendable (alarmTaken s l time id received f .plan .messages)
+  pub aggregated : (time : ℕ) (s : Site) → SoundAt time s → (l : ℕ) (id : Identity) → SixteenBytes (id .bytes) → (received : List ℕ) → Received received → (f : GotLabel)
+      → Sendable (aggregatedTaken s l time id received f .plan .messages)
+  -- a StatusRequest, its fields read from the packet's bytes
+  pub status : (time : ℕ) (s : Site) → SoundAt time s → (l : ℕ) (id : Identity) → SixteenBytes (id .bytes) → (received : List ℕ) → Received received → (packet : List ℕ)
+      → Sendable (statusTaken s l time id received (statusAt false packet) .plan .messages)
+
+-- the mId of a packet that is a request, as it was received
+abbrev pub ReceivedIn : Type 0
+ReceivedIn = (packet : List ℕ) (v : Verdict) (k : Kind) → headAt packet .class ≡ Asked v k → Received (headAt packet .received .bytes)
+
+-- ---- what a done call writes
+-- its text is one packet, whose fields are its own
+pub record ReadsBack (m : Message) : Type 0 where
+  pub packet : Packet (textOf (jsonOf m)) (jsonOf m)
+  pub fields : fieldsOf (jsonOf m) ≡ m
+
+abbrev pub EachReadsBack : List Message → Type 0
+EachReadsBack [] = Unit {0}
+EachReadsBack (m ∷ ms) = ReadsBack m × EachReadsBack ms
+
+pub record Wrote (ms : List Message) (xs ys : List ℕ) (d : Report) : Type 0 where
+  pub counted : d .written ≡ length (allBytes ms)
+  pub most : d .written ≤ 4096
+  pub first : take (d .written) ys ≡ allBytes ms
+  pub behind : drop (d .written) ys ≡ drop (d .written) xs
+  pub read-back : EachReadsBack ms
+
+abbrev pub Outputs : Type 0
+Outputs = (s : Site) (time : ℕ) (refuses : Refusal → Bool) (p : Plan) (xs ys : List ℕ) (r : Step) (d : Report)
+    → Gives s time refuses p xs ys r → r .answer ≡ Done d → 4096 ≤ length xs → Sendable (p .messages) → Wrote (p .messages) xs ys d

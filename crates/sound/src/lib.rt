@@ -1,0 +1,1 @@
+// What every site that start made keeps, whatever is called; there is no code here.

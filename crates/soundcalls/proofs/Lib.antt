@@ -1,0 +1,4 @@
+pub mod Alarms
+pub mod Inputs
+pub mod Ticks
+pub mod Kept

@@ -1,0 +1,1 @@
+// Connect, disconnect, the inputs and tick keep a site sound; there is no code here.
