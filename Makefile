@@ -1,30 +1,18 @@
 .PHONY: build run test library
 
-# Empty while the library has no packet call, else --cfg packet.
-PACKET =
-
-# The product's main job: a site talks to two supervisors over TCP on this machine. Until the library has its packet call, the
-# leaves' vectors.
-ifeq ($(PACKET),)
-run:
-	@echo "The site over TCP is not built yet: this runs the program over the leaves' vectors."
-	rt check vectors
-else
+# The product's main job: a site talks to two supervisors over TCP on this machine.
 run: build
 	python3 tests/demo.py
-
-build: build/rsmp-site build/frame-tests
-endif
 
 # The gate: everything is proved from nothing, every must-fail edit is refused, every program's output is compared.
 test:
 	bash .ci/run
 
 # The host's programs, for x86-64, in build/. `host/tools` says with which compilers and how they are run.
-build: build/rsmp-replay build/rsmp-table build/rsmp_site.h build/site-tests
+build: build/rsmp-site build/rsmp-replay build/rsmp-table build/rsmp_site.h build/site-tests build/frame-tests
 
 LIBRARY = target/staticlib/libsitec.a
-RUSTC = build/tools/rustc --edition 2021 -O -C strip=symbols $(PACKET)
+RUSTC = build/tools/rustc --edition 2021 -O -C strip=symbols
 OUT = build/x86-64
 SITE = $(OUT)/librsmp_site.rlib
 TABLE = $(OUT)/librsmp_table.rlib

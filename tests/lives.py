@@ -357,12 +357,12 @@ def reads_like(supervisor):
     return supervisor.written(supervisor.good()).rstrip()
 
 
-def lives(source, count, calls):
+def lives(source, count):
     """Players whose scripts have together about so many lines."""
     total = 0
     kinds = list(LIVES)
     while total < count:
-        player = Player(calls)
+        player = Player()
         Life(source, player, source.choice(kinds)).go(source.choice((100, 300, 600, 1200)))
         total += len(player.pairs)
         yield player

@@ -25,8 +25,8 @@ def shown(answer):
 
 
 class Player:
-    def __init__(self, calls=CALLS):
-        self.calls, self.site, self.settings = calls, None, None
+    def __init__(self):
+        self.site = None
         self.pairs, self.came = [], collections.Counter()
 
     def say(self, line, answer):
@@ -78,9 +78,6 @@ class Player:
         return answer
 
     def packet(self, link, time, random, packet, room=ROOM):
-        """None where packets are not played."""
-        if "packet" not in self.calls:
-            return None
         answer = self.counting_lost("packet", (link, time, random.hex(), room, hexed(packet)), link, time, random, room, packet)
         if not answer.number:
             for text in answer.written.split(sites.FORM_FEED)[:-1]:

@@ -4,7 +4,6 @@ written from document 01 alone. Every line's answer is compared.
   replays.py --write     writes the stored scripts and answers, tests/scripts
   replays.py --stored    checks that the stored ones are what this script makes, and plays them
   replays.py --fresh [SEED [LINES]]   plays random scripts and prints how often each number, reason and due kind came
-  replays.py --without CALL ..   first: leaves a call out of the scripts
 """
 import collections
 import pathlib
@@ -423,7 +422,7 @@ def write():
             path.write_text(text)
 
 
-def stored(calls):
+def stored():
     good = True
     for script in STORED:
         player = script()
@@ -431,8 +430,7 @@ def stored(calls):
             if not path.exists() or path.read_text() != text:
                 print(f"{path.relative_to(ROOT)} is not what the script makes (write it with --write)")
                 good = False
-        if all(given.split()[0] in (*calls, "counts", "readings") for given, _ in player.pairs):
-            compare([player], f"stored script {script.__name__}")
+        compare([player], f"stored script {script.__name__}")
     return good
 
 
@@ -463,15 +461,15 @@ def of_same_site(pairs):
     return pairs[last:]
 
 
-def fresh(seed, lines, calls):
+def fresh(seed, lines):
     print(f"rsmp-replay: seed {seed}")
-    players = list(lives.lives(random.Random(seed), lines, calls))
+    players = list(lives.lives(random.Random(seed), lines))
     compare(players, f"{len(players)} random scripts")
     came = sum((player.came for player in players), collections.Counter())
-    print_coverage(came, calls)
+    print_coverage(came)
 
 
-def print_coverage(came, calls):
+def print_coverage(came):
     for name in CALLS:
         numbers = {number: count for (kind, *key), count in keyed(came) if kind == "number" and key[0] == name for number in key[1:]}
         if numbers:
@@ -488,17 +486,13 @@ def keyed(came):
 
 
 def main(words):
-    calls = CALLS
-    while words[:1] == ["--without"]:
-        calls = tuple(call for call in calls if call != words[1])
-        words = words[2:]
     if words == ["--write"]:
         write()
     elif words == ["--stored"]:
-        return 0 if stored(calls) else 1
+        return 0 if stored() else 1
     elif words[:1] == ["--fresh"]:
         seed = int(words[1]) if len(words) > 1 else time.time_ns() % 10**9
-        fresh(seed, int(words[2]) if len(words) > 2 else LINES, calls)
+        fresh(seed, int(words[2]) if len(words) > 2 else LINES)
     else:
         print(__doc__)
         return 2

@@ -27,9 +27,6 @@ impl Player {
         if let Line::Start { table, links, primary, period, first, time } = line {
             return Ok(self.start(&table, links, primary, period, first, time));
         }
-        if cfg!(not(packet)) && matches!(line, Line::Packet { .. }) {
-            return Err("packet is not built yet".to_string());
-        }
         let (site, links) = self.site.take().ok_or("a call before any start that was done")?;
         let answer = self.call(&site, links, line);
         match answer {
@@ -70,9 +67,6 @@ impl Player {
             Line::Status { number, value, time } => unsafe { ffi::rsmp_status(now(), number, value, time) },
             Line::Aggregated { value, time } => unsafe { ffi::rsmp_aggregated(now(), value, time) },
             Line::Tick { time } => unsafe { ffi::rsmp_tick(now(), time) },
-            #[cfg(not(packet))]
-            Line::Packet { .. } => unreachable!(),
-            #[cfg(packet)]
             Line::Packet { link, time, random, room, packet } => {
                 let given = packet.clone();
                 let out = self.lent.lend(room);

@@ -52,7 +52,6 @@ extern "C" {
     pub fn rsmp_start(table: *const u8, table_len: usize, links: u32, primary: u32, period: u32, first: u64, time: u64) -> Step;
     pub fn rsmp_connect(site: Site, link: u32, time: u64) -> Step;
     pub fn rsmp_disconnect(site: Site, link: u32, time: u64) -> Step;
-    #[cfg(packet)]
     pub fn rsmp_packet(
         site: Site, link: u32, time: u64, random: Id, packet: *const u8, packet_len: usize, out: *mut u8, out_len: usize,
     ) -> Step;

@@ -106,7 +106,6 @@ impl Site {
     }
 
     /// A packet that came, without form feeds; the answer is written to `output`.
-    #[cfg(packet)]
     pub fn packet(&mut self, link: u32, time: u64, random: [u8; 16], packet: &[u8], output: &mut [u8]) -> Called {
         // The output is lent for its length and cannot overlap the packet.
         let step = unsafe {

@@ -1,0 +1,61 @@
+/* The time of one call and of libcjson parsing a packet, in one process: the call is made on the site that the script has made.
+ *
+ *   calls PACKETFILE TIMES CALL <SCRIPT     CALL is a line of a script; prints the call's number, its nanoseconds, those of the parsing
+ *                                           and those of one copy of the site, each the least of three rounds
+ */
+#include "input.h"
+#include <cjson/cJSON.h>
+#include <time.h>
+
+#define ROUNDS 3
+
+static char packet[MOST_BYTES];
+static size_t length;
+static struct line line;
+
+static void parse(void)
+{
+    cJSON *parsed = cJSON_ParseWithLength(packet, length);
+    if (!parsed) give_up("libcjson refuses the packet");
+    cJSON_Delete(parsed);
+}
+
+static void perform(void) { call(&line, line.bytes, output); }
+
+static void copy(void) { memcpy(&step.site, &site, sizeof site); }
+
+/* Processor time, so that others on the machine count less. */
+static double each(void (*act)(void), long times)
+{
+    struct timespec began, ended;
+    clock_gettime(CLOCK_PROCESS_CPUTIME_ID, &began);
+    for (long left = times; left > 0; left--) act();
+    clock_gettime(CLOCK_PROCESS_CPUTIME_ID, &ended);
+    return ((double)(ended.tv_sec - began.tv_sec) * 1e9 + (double)(ended.tv_nsec - began.tv_nsec)) / (double)times;
+}
+
+int main(int count, char **words)
+{
+    FILE *file = count == 4 ? fopen(words[1], "rb") : NULL;
+    if (!file) give_up("calls PACKETFILE TIMES CALL");
+    length = fread(packet, 1, sizeof packet, file);
+    fclose(file);
+    while (next_line(&line)) {
+        perform();
+        keep();
+    }
+    read_line(words[3], &line);
+    perform();
+    printf("%u", (unsigned)step.number);
+    void (*acts[])(void) = {perform, parse, copy};
+    for (int act = 0; act < 3; act++) {
+        double least = each(acts[act], atol(words[2]));
+        for (int round = 1; round < ROUNDS; round++) {
+            double taken = each(acts[act], atol(words[2]));
+            if (taken < least) least = taken;
+        }
+        printf(" %.0f", least);
+    }
+    putchar('\n');
+    return 0;
+}

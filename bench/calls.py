@@ -1,0 +1,150 @@
+"""How long each call takes, as a ratio to a C JSON library (Debian's libcjson) parsing the same packet in the same process: the
+packet that the call was given or that it wrote, and for a call without one an ordinary StatusSubscribe of four entries.
+
+  calls.py [TIMES]     after `make build`; runs bench/calls.c
+
+It is compiled for x86-64 by the compiler in CC (default: cc; on another processor a cross compiler), with the flags in CJSON
+(default: -lcjson). Under an emulator only the ratios say something, and copying memory is dearer there than on a processor: each
+call's time is also given in copies of a site.
+"""
+import os
+import pathlib
+import sys
+import tempfile
+
+from built import output, program
+
+import cases
+from replays import Hand
+
+TIMES = 2000
+
+
+class Case:
+    """A hand whose last act is measured."""
+
+    def __init__(self, name, lead, act):
+        hand = Hand()
+        lead(hand)
+        answer = act(hand)
+        *lines, self.call = (line for line, _ in hand.player.pairs)
+        self.name, self.script = name, "".join(f"{line}\n" for line in lines)
+        self.number = getattr(answer, "number", None)
+        self.packet = self.given() or (getattr(answer, "written", b"") or b"").rstrip(b"\x0c") or ordinary(hand.supervisor)
+
+    def given(self):
+        words = self.call.split()
+        return bytes.fromhex(words[5]) if words[0] == "packet" else b""
+
+
+def ordinary(supervisor):
+    return supervisor.written(supervisor.of_statuses("StatusSubscribe", 4, ("60", True)))
+
+
+def nothing(_):
+    pass
+
+
+def connected(hand):
+    hand.connect(0)
+
+
+def version_sent(hand):
+    hand.connect(0)
+    hand.pump(0)
+
+
+def version_answered(hand):
+    version_sent(hand)
+    hand.answer(0)
+
+
+def beating(hand):
+    hand.beating(0)
+
+
+def both_up(hand):
+    for link in (0, 1):
+        hand.up(link)
+        hand.sent_out(link)
+
+
+def subscribed(hand):
+    both_up(hand)
+    for link in (0, 1):
+        hand.subscribe(link, 4, ("1", True))
+        hand.sent_out(link)
+
+
+def alarm_waits(hand):
+    both_up(hand)
+    hand.player.alarm(1, True, hand.time)
+
+
+def status_waits(hand):
+    subscribed(hand)
+    hand.player.status(1, 340, hand.time)
+
+
+def told(members):
+    return lambda hand: hand.tell(0, members(hand.supervisor))
+
+
+def of_statuses(kind):
+    return told(lambda supervisor: supervisor.of_statuses(kind, 4, ("60", True)))
+
+
+def later(act):
+    def done(hand):
+        hand.time += 1000
+        return act(hand)
+    return done
+
+
+CASES = (
+    ("start", nothing, nothing),
+    ("connect", nothing, connected),
+    ("disconnect", both_up, lambda hand: hand.player.disconnect(0, hand.time)),
+    ("alarm", both_up, lambda hand: hand.player.alarm(1, True, hand.time)),
+    ("alarm as before", alarm_waits, lambda hand: hand.player.alarm(1, True, hand.time)),
+    ("status", subscribed, lambda hand: hand.player.status(1, 340, hand.time)),
+    ("aggregated", both_up, lambda hand: hand.player.aggregated(5, hand.time)),
+    ("tick, nothing due", both_up, lambda hand: hand.player.tick(hand.time)),
+    ("tick, intervals due", subscribed, later(lambda hand: hand.player.tick(hand.time))),
+    ("pump, nothing due", both_up, lambda hand: hand.pump(0)),
+    ("pump Version", connected, lambda hand: hand.pump(0)),
+    ("pump Watchdog", beating, lambda hand: hand.pump(0)),
+    ("pump AggregatedStatus", lambda hand: hand.up(0), lambda hand: hand.pump(0)),
+    ("pump Alarm", alarm_waits, lambda hand: hand.pump(0)),
+    ("pump StatusUpdate", status_waits, lambda hand: hand.pump(0)),
+    ("packet, no JSON", both_up, lambda hand: hand.player.packet(0, hand.time, hand.random(), b"{}")),
+    ("packet Version", version_answered, told(lambda supervisor: supervisor.version())),
+    ("packet Watchdog", both_up, told(lambda supervisor: supervisor.watchdog(0))),
+    ("packet MessageAck", version_sent, lambda hand: hand.answer(0)),
+    ("packet Alarm", both_up, told(lambda supervisor: supervisor.order("Suspend", 1))),
+    ("packet AggregatedStatusRequest", both_up, told(lambda supervisor: supervisor.aggregated_request())),
+    ("packet StatusRequest", both_up, of_statuses("StatusRequest")),
+    ("packet StatusSubscribe", both_up, of_statuses("StatusSubscribe")),
+    ("packet StatusUnsubscribe", subscribed, of_statuses("StatusUnsubscribe")),
+    ("held and lost", both_up, lambda hand: hand.player.counts()),
+    ("phase, version and record", both_up, lambda hand: hand.player.readings()),
+)
+
+
+def main(words):
+    times = words[0] if words else str(TIMES)
+    with tempfile.TemporaryDirectory() as room:
+        made = program("calls", room, os.environ.get("CC", "cc"), os.environ.get("CJSON", "-lcjson").split())
+        packet = pathlib.Path(room) / "packet"
+        for case in (Case(*row) for row in CASES):
+            packet.write_bytes(case.packet)
+            number, ours, theirs, copy = map(int, output([*cases.wrapped(made), packet, times, case.call], case.script).split())
+            if case.number not in (None, number):
+                sys.exit(f"{case.name}: number {number} where {case.number} was expected")
+            print(f"{case.name:31} {ours / 1e3:8.1f} us, libcjson {len(case.packet):4} bytes {theirs / 1e3:7.1f} us, ratio {ours / theirs:6.2f}, "
+                  f"copies of a site {ours / copy:5.1f}")
+    return 0
+
+
+if __name__ == "__main__":
+    sys.exit(main(sys.argv[1:]))

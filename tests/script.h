@@ -1,0 +1,117 @@
+/* A script of calls, as rsmp-replay reads it, called from C on one site. Wants nothing of a C library but memcpy and memset, and
+ * `give_up` of the program that includes it, which ends the program. */
+#ifndef SCRIPT_H
+#define SCRIPT_H
+
+#include "rsmp_site.h"
+
+#define MOST_WORDS 7
+#define MOST_BYTES 8192
+#define MOST_ROOM 65536
+
+struct line {
+    const char *words[MOST_WORDS];
+    uint64_t numbers[MOST_WORDS]; /* by place; of no meaning where the word is no number */
+    uint8_t bytes[MOST_BYTES];    /* the table or the packet */
+    size_t length, room;
+    rsmp_id random;
+};
+
+static rsmp_site site;
+static rsmp_step step;
+
+static void give_up(const char *what);
+
+static int ends(char c) { return c == ' ' || c == '\n' || c == 0; }
+
+static int same(const char *word, const char *name)
+{
+    while (*name && *word == *name) word++, name++;
+    return !*name && ends(*word);
+}
+
+static int is(const struct line *line, const char *name) { return same(line->words[0], name); }
+
+static uint64_t of_digits(const char *word)
+{
+    if (same(word, "-")) return RSMP_NO_PRIMARY;
+    uint64_t sum = 0;
+    for (const char *digit = word + (*word == '-'); *digit >= '0' && *digit <= '9'; digit++) sum = sum * 10 + (uint64_t)(*digit - '0');
+    return *word == '-' ? -sum : sum;
+}
+
+static unsigned of_digit(char c) { return (unsigned)(c <= '9' ? c - '0' : (c | 32) - 'a' + 10) & 15; }
+
+static size_t of_hex(const char *word, uint8_t *to, size_t most)
+{
+    size_t length = 0;
+    while (!same(word, "-") && !ends(word[2 * length])) {
+        if (length == most) give_up("too many bytes");
+        to[length] = (uint8_t)(of_digit(word[2 * length]) << 4 | of_digit(word[2 * length + 1]));
+        length++;
+    }
+    return length;
+}
+
+/* Reads a line, to which it keeps pointers, and gives the place behind it. */
+static const char *read_line(const char *text, struct line *line)
+{
+    size_t count = 0;
+    for (; *text && *text != '\n'; text += *text == ' ') {
+        if (count == MOST_WORDS) give_up("too many words");
+        line->numbers[count] = of_digits(text);
+        line->words[count++] = text;
+        while (!ends(*text)) text++;
+    }
+    if (!count) give_up("an empty line");
+    line->length = line->room = 0;
+    if (is(line, "start") && count == 7) line->length = of_hex(line->words[1], line->bytes, MOST_BYTES);
+    if (is(line, "packet") && count == 6) line->length = of_hex(line->words[5], line->bytes, MOST_BYTES);
+    if ((is(line, "packet") || is(line, "pump")) && count >= 5) {
+        of_hex(line->words[3], line->random.bytes, sizeof line->random.bytes);
+        line->room = line->numbers[4];
+        if (line->room > MOST_ROOM) give_up("too much room");
+    }
+    return text + (*text == '\n');
+}
+
+/* The call of a line, into `step`, with these bytes for its table or packet and this output; `site` stays as it is. A reading
+ * leaves no step. */
+static void call(const struct line *line, const uint8_t *bytes, uint8_t *output)
+{
+    const uint64_t *n = line->numbers;
+    if (is(line, "start"))
+        step = rsmp_start(bytes, line->length, (uint32_t)n[2], (uint32_t)n[3], (uint32_t)n[4], n[5], n[6]);
+    else if (is(line, "connect"))
+        step = rsmp_connect(site, (uint32_t)n[1], n[2]);
+    else if (is(line, "disconnect"))
+        step = rsmp_disconnect(site, (uint32_t)n[1], n[2]);
+    else if (is(line, "packet"))
+        step = rsmp_packet(site, (uint32_t)n[1], n[2], line->random, bytes, line->length, output, line->room);
+    else if (is(line, "alarm"))
+        step = rsmp_alarm(site, (uint32_t)n[1], (uint32_t)n[2], n[3]);
+    else if (is(line, "status"))
+        step = rsmp_status(site, (uint32_t)n[1], (int32_t)(int64_t)n[2], n[3]);
+    else if (is(line, "aggregated"))
+        step = rsmp_aggregated(site, (uint8_t)n[1], n[2]);
+    else if (is(line, "tick"))
+        step = rsmp_tick(site, n[1]);
+    else if (is(line, "pump"))
+        step = rsmp_pump(site, (uint32_t)n[1], n[2], line->random, output, line->room);
+    else if (is(line, "counts")) {
+        rsmp_held(site, 0);
+        rsmp_lost(site, 0);
+    } else if (is(line, "readings")) {
+        rsmp_phase(site, 0);
+        rsmp_version_of(site, 0);
+        rsmp_record(site, 0, 63);
+    } else
+        give_up("no such call");
+}
+
+static void keep(void)
+{
+    if (step.number == RSMP_DONE) site = step.site;
+}
+
+#endif
