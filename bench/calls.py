@@ -37,8 +37,15 @@ class Case:
         return bytes.fromhex(words[5]) if words[0] == "packet" else b""
 
 
+def of_statuses(supervisor, kind, seconds="60"):
+    """Four entries, of the second component."""
+    more = {"uRt": seconds, "sOc": True} if kind == "StatusSubscribe" else {}
+    entries = [{"sCI": code, "n": "release", **more} for code in ("S0001", "S0002", "S0001", "S0002")]
+    return supervisor.head(kind) + [("cId", supervisor.component(1)), ("sS", entries)]
+
+
 def ordinary(supervisor):
-    return supervisor.written(supervisor.of_statuses("StatusSubscribe", 4, ("60", True)))
+    return supervisor.written(of_statuses(supervisor, "StatusSubscribe"))
 
 
 def nothing(_):
@@ -72,7 +79,7 @@ def both_up(hand):
 def subscribed(hand):
     both_up(hand)
     for link in (0, 1):
-        hand.subscribe(link, 4, ("1", True))
+        hand.tell(link, of_statuses(hand.supervisor, "StatusSubscribe", "1"))
         hand.sent_out(link)
 
 
@@ -90,8 +97,8 @@ def told(members):
     return lambda hand: hand.tell(0, members(hand.supervisor))
 
 
-def of_statuses(kind):
-    return told(lambda supervisor: supervisor.of_statuses(kind, 4, ("60", True)))
+def told_statuses(kind):
+    return told(lambda supervisor: of_statuses(supervisor, kind))
 
 
 def later(act):
@@ -117,15 +124,15 @@ CASES = (
     ("pump AggregatedStatus", lambda hand: hand.up(0), lambda hand: hand.pump(0)),
     ("pump Alarm", alarm_waits, lambda hand: hand.pump(0)),
     ("pump StatusUpdate", status_waits, lambda hand: hand.pump(0)),
-    ("packet, no JSON", both_up, lambda hand: hand.player.packet(0, hand.time, hand.random(), b"{}")),
+    ("packet, ignored", both_up, lambda hand: hand.player.packet(0, hand.time, hand.random(), b"{}")),
     ("packet Version", version_answered, told(lambda supervisor: supervisor.version())),
     ("packet Watchdog", both_up, told(lambda supervisor: supervisor.watchdog(0))),
     ("packet MessageAck", version_sent, lambda hand: hand.answer(0)),
     ("packet Alarm", both_up, told(lambda supervisor: supervisor.order("Suspend", 1))),
     ("packet AggregatedStatusRequest", both_up, told(lambda supervisor: supervisor.aggregated_request())),
-    ("packet StatusRequest", both_up, of_statuses("StatusRequest")),
-    ("packet StatusSubscribe", both_up, of_statuses("StatusSubscribe")),
-    ("packet StatusUnsubscribe", subscribed, of_statuses("StatusUnsubscribe")),
+    ("packet StatusRequest", both_up, told_statuses("StatusRequest")),
+    ("packet StatusSubscribe", both_up, told_statuses("StatusSubscribe")),
+    ("packet StatusUnsubscribe", subscribed, told_statuses("StatusUnsubscribe")),
     ("held and lost", both_up, lambda hand: hand.player.counts()),
     ("phase, version and record", both_up, lambda hand: hand.player.readings()),
 )
