@@ -1,2 +1,2 @@
-pub mod Call
+pub mod Typed
 pub mod Sequences

@@ -11,12 +11,13 @@ use Rattle.site.specs.declared.Step.{Step}
 use Rattle.start.specs.Starts.{Starts}
 use Rattle.sound.specs.Sound.{Sound}
 use Rattle.formedness.specs.Formedness.{Wrote}
-use Rattle.sequences.specs.Call.{Call, Typed, planOf, outputOf, does, outputAfter, after, EachTyped}
+use Rattle.calls.specs.Calls.{Call, planOf, outputOf, stepBy, outBy, siteAfter}
+use Rattle.sequences.specs.Typed.{Typed, EachTyped}
 
 pub record Sequences : Type 0 where
   pub started : (b : List ℕ) (links primary period first time : ℕ) (r : Step) (d : Report) → Starts b links primary period first time r → r .answer ≡ Done d
-      → (cs : List Call) → EachTyped cs → Sound (after (r .site) cs)
-  pub sound : (s : Site) → Sound s → (cs : List Call) → EachTyped cs → Sound (after s cs)
+      → (cs : List Call) → EachTyped cs → Sound (siteAfter (r .site) cs)
+  pub sound : (s : Site) → Sound s → (cs : List Call) → EachTyped cs → Sound (siteAfter s cs)
   -- of the next call
-  pub writes : (s : Site) → Sound s → (c : Call) → Typed c → (d : Report) → does s c .answer ≡ Done d
-      → Wrote (planOf s c .messages) (outputOf c) (outputAfter s c) d
+  pub writes : (s : Site) → Sound s → (c : Call) → Typed c → (d : Report) → stepBy s c .answer ≡ Done d
+      → Wrote (planOf s c .messages) (outputOf c) (outBy s c) d

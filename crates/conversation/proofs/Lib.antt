@@ -1,0 +1,6 @@
+pub mod Received
+pub mod WithoutPacket
+pub mod Answered
+pub mod Started
+pub mod Typed
+pub mod Kept

@@ -1,0 +1,3 @@
+pub mod Sites
+pub mod Packets
+pub mod Conversation

@@ -1,0 +1,1 @@
+// A conversation, computed call by call; there is no code here.

@@ -1,0 +1,1 @@
+// The demands over every sequence of calls from every accepted start; there is no code here.

@@ -1,0 +1,10 @@
+pub mod Links
+pub mod Moved
+pub mod Done
+pub mod Lived
+pub mod Born
+pub mod Stocked
+pub mod Stocking
+pub mod Messages
+pub mod Heeded
+pub mod Spoken

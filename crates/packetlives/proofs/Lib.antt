@@ -1,0 +1,4 @@
+pub mod Comes
+pub mod Greeting
+pub mod Subscribing
+pub mod Kept
