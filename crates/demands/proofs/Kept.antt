@@ -14,7 +14,7 @@ use Rattle.poollaws.specs.Contents.{Every}
 use Rattle.poollaws.specs.View.{records}
 use Rattle.pool.specs.Pool.{heldOf, lostOf}
 use Rattle.site.specs.declared.Site.{Site}
-use Rattle.holding.specs.Touches.{Issues, Superseded, Genuine, settled}
+use Rattle.holding.specs.Touches.{Configured, Issues, Superseded, Genuine, settled}
 use Rattle.holding.specs.Sequences as any
 use Rattle.holding.proofs.Kept.{same}
 use Rattle.touches.specs.Start.{Begun, FromStart}
@@ -28,7 +28,7 @@ use Rattle.demands.specs.Demand3.Released.{answered, superseded, earlier
 use Rattle.demands.proofs.Touching.{touching, settles}
 use Rattle.demands.proofs.Counting.{answers-count, gone}
 
-begun : (s : Site) → Started s → Begun s
+pub begun : (s : Site) → Started s → Begun s
 begun s (started {b = b} {links = links} {primary = primary} {period = period} {first = first} {time = time} {r = r} x d) = begins b links primary period first time r x d
 
 module _ (s : Site) where
@@ -89,6 +89,10 @@ module _ (s : Site) where
     counted cs m =
         subst (λ (t : Site). heldOf (t .pool) m + lostOf (t .pool) m + answeredIn s cs m ≡ issuedIn s cs m) (same-after cs)
         (omega (arith, any-calls .lost cs m, settled-count cs m, issued-count cs m))
+
+-- one to four links, and the primary one of them or none
+pub configured-after : (s : Site) → Started s → (cs : List Call) → Configured (siteAfter s cs)
+configured-after s b cs = subst Configured (same-after s cs) (any-calls s (begun s b) .promises .configured cs)
 
 pub kept : Promises
 kept =

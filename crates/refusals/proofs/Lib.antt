@@ -1,0 +1,3 @@
+pub mod So
+pub mod OnlySo
+pub mod Kept
