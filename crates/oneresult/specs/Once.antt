@@ -1,0 +1,76 @@
+-- "Two results that one statement allows are shown equal": each relation that a public contract is made of, where it is no plain equation.
+-- Statements only: their proof is `kept`.
+-- Assumes nothing.
+use Prim.Native.Nat.{ℕ, _≤_}
+use mathlib.Core.Path.{_≡_}
+use mathlib.Core.Bool.{Bool}
+use mathlib.Core.List.{List}
+use lib.ListN.{length}
+use Rattle.answer.specs.declared.Refusal.{Refusal}
+use Rattle.output.specs.Put.{Wrote}
+use Rattle.number.specs.declared.Number.{Number}
+use Rattle.number.specs.declared.Int.{Int}
+use Rattle.number.specs.Reading.{Reads, ReadsInt}
+use Rattle.identity.specs.declared.ReadIdentity.{ReadIdentity}
+use Rattle.identity.specs.Read.{IdentityRead}
+use Rattle.calendar.specs.declared.Time.{Time}
+use Rattle.calendar.specs.Put.{WroteTime}
+use Rattle.calendar.specs.Read.{TimeRead}
+use Rattle.names.specs.declared.Name.{Name}
+use Rattle.names.specs.Held.{Held}
+use Rattle.entry.specs.declared.Unpacked.{Unpacked}
+use Rattle.entry.specs.Reading.{Reads as ReadsEntry}
+use Rattle.entry.specs.Valid.{Decides}
+use Rattle.text.specs.Decoded.{Parsed}
+use Rattle.text.specs.declared.Read.{Read}
+use Rattle.text.specs.Ends.{Ends}
+use Rattle.json.specs.Grammar.{Json}
+use Rattle.json.specs.declared.Mark.{Mark}
+use Rattle.json.specs.Answers.{Skipped, Marks}
+use Rattle.jsonsure.specs.declared.Judged.{Judged}
+use Rattle.jsonsure.specs.Judges.{Judges}
+use Rattle.sitetable.specs.declared.TableRead.{TableRead}
+use Rattle.sitetable.specs.Reads.{Reads as ReadsTable}
+use Rattle.batch.specs.declared.Batch.{Batch}
+use Rattle.site.specs.declared.Site.{Site}
+use Rattle.site.specs.declared.Step.{Step}
+use Rattle.site.specs.Call.{Plan, Gives}
+use Rattle.start.specs.Starts.{Starts}
+use Rattle.answering.specs.Ending.{Acks}
+use Rattle.pump.specs.Pump.{Sends}
+use Rattle.sitec.specs.declared.Outcome.{Outcome}
+use Rattle.sitec.specs.Outcome.{Started, Told}
+
+pub record Once : Type 1 where
+  -- ---- what is exported: the outcome, and the bytes of a lent output
+  pub started : {b : List ℕ} {links primary period first time : ℕ} {r q : Outcome}
+      → Started b links primary period first time r → Started b links primary period first time q → r ≡ q
+  pub told : {s : Site} {time : ℕ} {refuses : Refusal → Bool} {p : Plan} {xs ys zs : List ℕ} {r q : Outcome}
+      → Told s time refuses p xs ys r → Told s time refuses p xs zs q → (r ≡ q) × (ys ≡ zs)
+  -- ---- the calls
+  pub starts : {b : List ℕ} {links primary period first time : ℕ} {r q : Step}
+      → Starts b links primary period first time r → Starts b links primary period first time q → r ≡ q
+  pub gives : {s : Site} {time : ℕ} {refuses : Refusal → Bool} {p : Plan} {xs ys zs : List ℕ} {r q : Step}
+      → Gives s time refuses p xs ys r → Gives s time refuses p xs zs q → (r ≡ q) × (ys ≡ zs)
+  pub acks : {s after : Site} {b : Batch} {time hint hinted : ℕ} {received xs ys zs : List ℕ} {r q : Step}
+      → Acks s after b time hint hinted received xs ys r → Acks s after b time hint hinted received xs zs q → (r ≡ q) × (ys ≡ zs)
+  pub sends : {time : ℕ} {p : Plan} {xs ys zs : List ℕ} {r q : Step} → Sends time p xs ys r → Sends time p xs zs q → (r ≡ q) × (ys ≡ zs)
+  -- ---- what is written: the bytes and where they end
+  pub wrote : {xs : List ℕ} {at : ℕ} {pieces : List (List ℕ)} {ys zs : List ℕ} {r q : ℕ}
+      → Wrote xs at pieces ys r → Wrote xs at pieces zs q → (ys ≡ zs) × (r ≡ q)
+  pub wrote-time : {xs : List ℕ} {at ms : ℕ} {ys zs : List ℕ} {r q : ℕ} → WroteTime xs at ms ys r → WroteTime xs at ms zs q → (ys ≡ zs) × (r ≡ q)
+  pub name : {i : ℕ} {r q : Name} → Held i r → Held i q → r ≡ q
+  -- ---- what is read
+  pub decimal : {limit : ℕ} {s : List ℕ} {r q : Number} → Reads limit s r → Reads limit s q → r ≡ q
+  pub integer : {s : List ℕ} {r q : Int} → ReadsInt s r → ReadsInt s q → r ≡ q
+  pub identity : {s : List ℕ} {r q : ReadIdentity} → IdentityRead s r → IdentityRead s q → r ≡ q
+  pub time : {s : List ℕ} {r q : Time} → TimeRead s r → TimeRead s q → r ≡ q
+  pub entry : {b : List ℕ} {r q : Unpacked} → ReadsEntry b r → ReadsEntry b q → r ≡ q
+  pub decides : {P : Type 0} {r q : Bool} → Decides r P → Decides q P → r ≡ q
+  pub table : {b : List ℕ} {r q : TableRead} → ReadsTable b r → ReadsTable b q → r ≡ q
+  -- ---- where a reading of the text s from `at` ends
+  pub ends : {A : Type 0} {s : List ℕ} {at : ℕ} {p : Parsed A} {r q : Read} → Ends s at p r → Ends s at p q → r ≡ q
+  pub marks : {s : List ℕ} {at : ℕ} {p : Parsed Bool} {r q : Mark} → Marks s at p r → Marks s at p q → r ≡ q
+  pub judges : {s : List ℕ} {at : ℕ} {p : Parsed Json} {r q : Judged} → Judges s at p r → Judges s at p q → r ≡ q
+  -- of a place in the text; past its end there is nothing to pass over
+  pub skipped : {s : List ℕ} {at r q : ℕ} → at ≤ length s → Skipped s at r → Skipped s at q → r ≡ q

@@ -1,0 +1,1 @@
+// Two results that one contract allows are equal; there is no code here.
