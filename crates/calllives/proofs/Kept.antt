@@ -104,7 +104,7 @@ no-alarm s (tick t) m sh k d e r = among-none r
 no-alarm s (pump l t random xs) m sh k d e r = pumped s l t (identityOf random) .no-alarm k e m r
 no-alarm s (packet l t random p xs) m sh k d e r = packeted s l t (identityOf random) p .no-alarm e m r
 
-living : Living Call timeOf refuses planOf endOf actsOf
+pub living : Living Call timeOf refuses planOf endOf actsOf
 living = record { moves = moves; heeds = heeds }
 
 issued : Issuing Call timeOf refuses planOf endOf actsOf

@@ -44,7 +44,7 @@ lasts q [] b h = omega arith
 lasts q (e ∷ es) b h = ltb-false 4294967296 (q + suc (length es)) (rw (lt-ltb 0 (suc (length es)) (omega arith)) at h)
 
 module _ (s : Site) (p : Plan) (xs : List Act) (r : Reached 4 (s .pool) (s .next)) (t : Touches s p xs) where
-  before : Reached 4 (p .site .pool) (p .site .next)
+  pub before : Reached 4 (p .site .pool) (p .site .next)
   before = rw (t .pool, t .next) (quiet-reached (s .pool) (s .next) r xs (t .quiet))
 
   lasting : batchOf p .spent ≡ false → Lasting (p .site .next) (p .issued)
@@ -62,10 +62,10 @@ module _ (s : Site) (p : Plan) (xs : List Act) (r : Reached 4 (s .pool) (s .next
     abbrev issuing : List Act
     issuing = issues (numbered (p .site .next) (p .issued))
 
-    pool-is : batchOf p .pool ≡ acts 4 (p .site .pool) issuing
+    pub pool-is : batchOf p .pool ≡ acts 4 (p .site .pool) issuing
     pool-is = laws .pool (p .site .pool) (p .site .next) (p .issued) (lasting unspent)
 
-    rising : Rising 4 (p .site .next) issuing
+    pub rising : Rising 4 (p .site .next) issuing
     rising = laws .rising (p .site .next) (p .issued) (t .owned) (lasting unspent)
 
     reached-next : Reached 4 (batchOf p .pool) (batchOf p .next)

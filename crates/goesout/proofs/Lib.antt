@@ -1,0 +1,15 @@
+pub mod Places
+pub mod Found
+pub mod Linked
+pub mod Upward
+pub mod Paired
+pub mod Pumps
+pub mod Packets
+pub mod Tick
+pub mod Marking
+pub mod Facts
+pub mod Step
+pub mod Done
+pub mod Oldest
+pub mod Out
+pub mod Kept
