@@ -1,0 +1,16 @@
+pub mod Records
+pub mod Awaits
+pub mod Links
+pub mod Sends
+pub mod Pools
+pub mod Packets
+pub mod Rounds
+pub mod Told
+pub mod Ahead
+pub mod Steps
+pub mod Turns
+pub mod Entries
+pub mod Dues
+pub mod Reach
+pub mod Input
+pub mod Kept
