@@ -40,7 +40,7 @@ use Rattle.calllives.specs.Calls.{linkOf, actsOf, LivedFromStart, Spoken
 abbrev Done : Site → Call → Type 0
 Done s c = doneBy Call timeOf refuses planOf endOf actsOf s c ≡ true
 
-moves : (s : Site) (c : Call) → Shaped s → Done s c → Moves s (planOf s c) (actsOf s c)
+pub moves : (s : Site) (c : Call) → Shaped s → Done s c → Moves s (planOf s c) (actsOf s c)
 moves s (connect l t) sh d = moved s sh .connect l
 moves s (disconnect l t) sh d = moved s sh .disconnect l
 moves s (alarm k a t) sh d = moved s sh .alarm k a t
@@ -74,7 +74,7 @@ stocks s (tick t) sh d = stocking s .tick t
 stocks s (pump l t random xs) sh d = pumped s l t (identityOf random) .stocks
 stocks s (packet l t random p xs) sh d = packeted s l t (identityOf random) p .stocks
 
-reports : (s : Site) (c : Call) (m : Message) → Shaped s → Done s c → Among m (planOf s c .messages) → isReport m ≡ true
+pub reports : (s : Site) (c : Call) (m : Message) → Shaped s → Done s c → Among m (planOf s c .messages) → isReport m ≡ true
     → (linkOf c < 4) × (phaseOf (linkAt s (linkOf c)) ≡ Up)
 reports s (connect l t) m sh d r e = among-none r
 reports s (disconnect l t) m sh d r e = among-none r

@@ -1,0 +1,13 @@
+pub mod Listed
+pub mod Told
+pub mod Goes
+pub mod Steps
+pub mod Turns
+pub mod Quiet
+pub mod Packets
+pub mod Calls
+pub mod Sequence
+pub mod Waits
+pub mod Clean
+pub mod Once
+pub mod Kept
