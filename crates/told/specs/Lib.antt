@@ -1,0 +1,5 @@
+pub mod Told
+pub mod Life
+pub mod Items
+pub mod Issued
+pub mod Claims

@@ -1,0 +1,14 @@
+pub mod Choices
+pub mod Ours
+pub mod Phases
+pub mod Acts
+pub mod Answered
+pub mod Later
+pub mod Bits
+pub mod Plain
+pub mod Tables
+pub mod Reported
+pub mod Pumped
+pub mod Packeted
+pub mod Steps
+pub mod Kept
