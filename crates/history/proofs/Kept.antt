@@ -1,7 +1,6 @@
 -- The claims, from every done start.
 -- Assumes nothing.
 use Prim.Native.Nat.{ℕ, _<_}
-use native.Mathlib.Omega.{arith}
 use mathlib.Core.Path.{_≡_, refl, sym, ap, subst, _∙_}
 use mathlib.Core.Bool.{true}
 use mathlib.Core.List.{List, [], _∷_}
@@ -22,6 +21,7 @@ use Rattle.start.specs.Starts.{Starts}
 use Rattle.start.specs.Starts.Starts.{starts, refuses}
 use Rattle.sound.specs.Sound.{Sound}
 use Rattle.formedness.specs.Formedness.{Wrote}
+use Rattle.holding.specs.Touches.{isDone as answersDone}
 use Rattle.lives.specs.Messages.{isReport, Among}
 use Rattle.lives.specs.Sequence.{isDone}
 use Rattle.calls.specs.Calls.{Call, planOf, outputOf, stepBy, outBy, siteAfter}
@@ -30,16 +30,17 @@ use Rattle.sequences.specs.Typed.{Typed, EachTyped}
 use Rattle.sequences.proofs.Kept.{kept as sequences}
 use Rattle.calllives.specs.Calls.{linkOf}
 use Rattle.calllives.proofs.Kept.{reports}
+use Rattle.demands.specs.Demand3.Started.{started}
 use Rattle.history.specs.Events.{Event, eventsIf, eventsBy, upon, historyOf, logOf, Tells, TellsAll, sentIn}
 use Rattle.history.specs.Events.Tells.{tells}
 use Rattle.history.specs.Events.TellsAll.{none as none-told, done as done-told, refused as refused-told}
 use Rattle.history.specs.Greeted.{Greeted, Beaten, Waits, Throughout}
 use Rattle.history.specs.Greeted.Throughout.{none}
 use Rattle.history.specs.Claims.{Claims, FromStart}
-use Rattle.history.specs.Claims.Started.{started}
-use Rattle.history.proofs.Listed.{messages-in}
+use Rattle.history.proofs.Listed.{no, messages-in}
 use Rattle.history.proofs.Turns.{Turn, course-turn, opens-in, opened-in, closes-in, closed-in}
 use Rattle.history.proofs.Sequence.{Ran, shaped, ran-after, told}
+use Rattle.history.proofs.Primary.{on-primary}
 use Rattle.history.proofs.Once.{tells-once}
 use Rattle.history.proofs.Waits.{up-told, Writes, call-waits}
 
@@ -123,18 +124,19 @@ module _ (table : SiteTable) (links primary period first time : ℕ) where
         only = tells-only so cs;
         reports = reported cs;
         waits = waited cs;
+        secondary = on-primary table links primary period first time cs;
         opens = λ c l h. opens-in l (eventsBy (siteAfter start cs) c) (linkAt (siteAfter start cs) l) (linkAt (siteAfter start (c ∷ cs)) l) (turned cs c l h);
         opened = λ c l h. opened-in l (eventsBy (siteAfter start cs) c) (linkAt (siteAfter start cs) l) (linkAt (siteAfter start (c ∷ cs)) l) (turned cs c l h);
         closes = λ c l h. closes-in l (eventsBy (siteAfter start cs) c) (linkAt (siteAfter start cs) l) (linkAt (siteAfter start (c ∷ cs)) l) (turned cs c l h);
         closed = λ c l h. closed-in l (eventsBy (siteAfter start cs) c) (linkAt (siteAfter start cs) l) (linkAt (siteAfter start (c ∷ cs)) l) (turned cs c l h);
       }
 
-from : {b : List ℕ} {links primary period first time : ℕ} {r : Step} {d : Report} → Starts b links primary period first time r → r .answer ≡ Done d
+from : {b : List ℕ} {links primary period first time : ℕ} {r : Step} → Starts b links primary period first time r → answersDone (r .answer) ≡ true
     → (cs : List Call) → Claims (r .site) cs
 from {b} {links} {primary} {period} {first} {time} (starts {t = t} a e w) q cs =
     claims (memoryOf t) links (primaryOf primary) period first time
-    (λ ks ts. sequences .started b links primary period first time _ _ (starts a e w) q ks ts) cs
-from (refuses n) q cs = absurd (let z : _≡_ {A = ℕ} 0 1 = cc in omega arith)
+    (λ ks ts. sequences .started b links primary period first time _ _ (starts a e w) refl ks ts) cs
+from (refuses n) q cs = no q
 
 pub kept : FromStart
 kept s (started st q) cs = from st q cs

@@ -8,6 +8,7 @@ pub mod Packets
 pub mod Calls
 pub mod Sequence
 pub mod Waits
+pub mod Primary
 pub mod Clean
 pub mod Once
 pub mod Kept

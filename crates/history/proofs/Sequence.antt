@@ -61,7 +61,7 @@ module _ (s : Site) (c : Call) (l : ℕ) (h : l < 4) (sh : Shaped s) (f : linkAt
             link = ap (λ (t : Site). linkAt t l) (calls-kept .numbered s c .same-site x e);
           }
 
-same-site : (s : Site) (cs : List Call) → livesAfter Call timeOf refuses planOf endOf actsOf s cs ≡ siteAfter s cs
+pub same-site : (s : Site) (cs : List Call) → livesAfter Call timeOf refuses planOf endOf actsOf s cs ≡ siteAfter s cs
 same-site s [] = refl
 same-site s (c ∷ cs) = ap (λ (t : Site). stepBy t c .site) (same-site s cs)
 

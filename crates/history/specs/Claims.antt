@@ -10,22 +10,16 @@ use Rattle.link.specs.declared.Phase.the-variants.{Down}
 use Rattle.link.specs.Phase.{phaseOf}
 use Rattle.written.specs.Message.{Message}
 use Rattle.site.specs.declared.Site.{Site}
-use Rattle.site.specs.declared.Step.{Step}
 use Rattle.site.specs.Site.{linkAt}
-use Rattle.start.specs.Starts.{Starts}
 use Rattle.formedness.specs.Formedness.{Wrote}
 use Rattle.calls.specs.Calls.{Call, planOf, outputOf, stepBy, outBy, siteAfter}
 use Rattle.sequences.specs.Typed.{Typed, EachTyped}
 use Rattle.lives.specs.Messages.{isReport, Among}
 use Rattle.calllives.specs.Calls.{linkOf}
+use Rattle.demands.specs.Demand3.{Started}
 use Rattle.history.specs.Events.{Event, eventsBy, historyOf, logOf, TellsAll, sentIn, Within}
 use Rattle.history.specs.Events.Event.{Opened, Closed}
-use Rattle.history.specs.Greeted.{Greeted, Beaten, Waits, Throughout}
-
--- a site that a done start makes
-pub data Started : Site → Type 0 where
-  started : {b : List ℕ} {links primary period first time : ℕ} {r : Step} {d : Report}
-      → Starts b links primary period first time r → r .answer ≡ Done d → Started (r .site)
+use Rattle.history.specs.Greeted.{Greeted, Beaten, Waits, OnPrimary, Throughout}
 
 abbrev pub DownAt : Site → ℕ → Type 0
 DownAt s l = phaseOf (linkAt s l) ≡ Down
@@ -44,6 +38,8 @@ pub record Claims (s : Site) (cs : List Call) : Type 0 where
       → (m : Message) → Among m (planOf (siteAfter s cs) c .messages) → isReport m ≡ true
       → Greeted (linkOf c) (historyOf s cs) × Beaten (linkOf c) (historyOf s cs)
   pub waits : Throughout Waits (historyOf s cs)
+  -- "a secondary never gets an Alarm": wherever one stands in the history, its link is the primary's
+  pub secondary : Throughout (OnPrimary (s .primary)) (historyOf s cs)
   -- the next call opens a link, in the history, exactly where it was Down before and is not after; and closes one exactly where it was not
   -- Down before and is after
   pub opens : (c : Call) (l : ℕ) → l < 4 → Within (Opened l) (eventsBy (siteAfter s cs) c) → DownAt (siteAfter s cs) l × (DownAt (siteAfter s (c ∷ cs)) l → ⊥)

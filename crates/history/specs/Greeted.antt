@@ -1,4 +1,4 @@
--- The greeting, told on a history, LATEST FIRST: nothing here looks at a link or at a site.
+-- The greeting, and who gets an Alarm, told on a history, LATEST FIRST: nothing here looks at a link or at a site.
 -- Assumes nothing.
 use Prim.Native.Nat.{ℕ}
 use mathlib.Core.Path.{_≡_}
@@ -10,7 +10,7 @@ use Rattle.taken.specs.declared.Kind.{Kind}
 use Rattle.taken.specs.declared.Kind.the-variants.{Version, Watchdog}
 use Rattle.taken.specs.declared.Class.the-variants.{Acked, Asked}
 use Rattle.taken.specs.Head.{headAt}
-use Rattle.lives.specs.Messages.{isReport}
+use Rattle.lives.specs.Messages.{isReport, isAlarm}
 use Rattle.history.specs.Events.{Event}
 use Rattle.history.specs.Events.Event.{Opened, Got, Sent, Closed}
 
@@ -55,6 +55,13 @@ Waits (Opened l) h = Unit {0}
 Waits (Got l p) h = Unit {0}
 Waits (Sent l m) h = isReport m ≡ true → Greeted l h × Beaten l h
 Waits (Closed l) h = Unit {0}
+
+-- what an Alarm needs of its link, p being the primary's
+abbrev pub OnPrimary : ℕ → Event → List Event → Type 0
+OnPrimary p (Opened l) h = Unit {0}
+OnPrimary p (Got l q) h = Unit {0}
+OnPrimary p (Sent l m) h = isAlarm m ≡ true → l ≡ p
+OnPrimary p (Closed l) h = Unit {0}
 
 -- each event of a history, with those before it
 pub data Throughout (Holds : Event → List Event → Type 0) : List Event → Type 0 where

@@ -1,0 +1,10 @@
+pub mod Added
+pub mod Finds
+pub mod Records
+pub mod Silence
+pub mod Asked
+pub mod Steps
+pub mod Bounds
+pub mod Alarms
+pub mod Small
+pub mod Kept
