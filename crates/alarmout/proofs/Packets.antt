@@ -12,10 +12,11 @@ use Rattle.answer.specs.Given.Hint.{none as no-hint}
 use Rattle.answer.specs.Order.{inOrder, None}
 use Rattle.answer.specs.Order.None.{none, more}
 use Rattle.identity.specs.declared.Identity.{Identity}
+use Rattle.identity.specs.Version.{identityOf}
 use Rattle.awaited.specs.declared.Purpose.{Purpose}
 use Rattle.awaited.specs.declared.Found.{Found}
 use Rattle.awaited.specs.declared.Found.the-variants.{For}
-use Rattle.awaited.specs.Awaited.{findOf}
+use Rattle.awaited.specs.Awaited.{findOf, isAwaited}
 use Rattle.link.specs.declared.Link.{Link}
 use Rattle.link.specs.declared.Phase.the-variants.{Up}
 use Rattle.link.specs.Phase.{phaseOf}
@@ -27,10 +28,8 @@ use Rattle.taken.specs.Head.{headAt}
 use Rattle.site.specs.declared.Site.{Site}
 use Rattle.site.specs.Site.{noLinkAt, badTimeAt, linkAt, withLink, isDown, closeAt, maskOf, withIssued}
 use Rattle.site.specs.Call.{Plan, only, batchOf, reportOf}
-use Rattle.answering.specs.Taken.{isAwaited}
 use Rattle.greet.specs.Answered.{settledFor, settled, answeredPlan}
 use Rattle.packet.specs.Packet.{unawaited, ignoredBy, classTaken}
-use Rattle.pump.specs.Pump.{identityOf}
 use Rattle.calls.specs.Calls.{Call, planOf, endOf, stepBy}
 use Rattle.calls.specs.Calls.Call.{packet}
 use Rattle.calls.specs.Claims.{conditionsOf}

@@ -8,6 +8,7 @@ use mathlib.Core.List.{List, [], _∷_}
 use Rattle.answer.specs.declared.Report.{Report}
 use Rattle.answer.specs.declared.Answer.{Answer}
 use Rattle.answer.specs.declared.Answer.the-variants.{Done, Refused}
+use Rattle.answer.specs.Number.{isDone}
 use Rattle.awaited.proofs.Laws.{Sound as SoundAwaited}
 use Rattle.awaited.proofs.After.{sound as sound-letters}
 use Rattle.poollaws.specs.Promises.{Reached}
@@ -25,7 +26,6 @@ use Rattle.start.specs.Fresh.{fresh, primaryOf}
 use Rattle.start.specs.Starts.{Starts}
 use Rattle.start.specs.Starts.Starts.{starts, refuses}
 use Rattle.sound.specs.Sound.{Sound}
-use Rattle.holding.specs.Touches.{isDone}
 use Rattle.holding.specs.Sequences as holding
 use Rattle.touches.specs.Start.{Begun}
 use Rattle.touches.proofs.Start.{begins, from-start}

@@ -6,7 +6,9 @@ use mathlib.Core.Bool.{Bool, true}
 use mathlib.Core.List.{List}
 use lib.ListN.{length, getD, set, length-set}
 use lib.Seq.{getD-set-same}
+use Rattle.answer.specs.Number.{isDone}
 use Rattle.identity.specs.declared.Identity.{Identity}
+use Rattle.identity.specs.Version.{identityOf}
 use Rattle.awaited.specs.declared.Purpose.{Purpose}
 use Rattle.awaited.specs.declared.Purpose.the-variants.{Version, Watchdog, Entry, Other}
 use Rattle.awaited.specs.declared.Found.the-variants.{For}
@@ -23,13 +25,12 @@ use Rattle.written.specs.Message.{Message}
 use Rattle.site.specs.declared.Site.{Site}
 use Rattle.site.specs.Site.{linkAt, withLink, withPool, withIssued}
 use Rattle.site.specs.Call.{Plan, batchOf}
-use Rattle.pump.specs.Pump.{identityOf, pumpPlan, sends}
+use Rattle.pump.specs.Pump.{pumpPlan, sends}
 use Rattle.pump.specs.Claims.{Ready}
 use Rattle.pump.proofs.Kept.{kept as pump-kept}
 use Rattle.calls.specs.Calls.{Call, stepBy, outBy}
 use Rattle.calls.specs.Calls.Call.{packet, pump}
 use Rattle.calls.proofs.Kept.{kept as calls-kept}
-use Rattle.holding.specs.Touches.{isDone}
 use Rattle.alarmout.proofs.Links.{leftBy, Lasts}
 use Rattle.alarmout.proofs.Packets.{Answering, answeredSite, classOf}
 use Rattle.alarmout.proofs.Packets as packets

@@ -8,6 +8,7 @@ use mathlib.Core.List.{List, [], _∷_}
 use mathlib.Core.Logic.{_⊎_, inl, inr}
 use lib.ListN.{length, getD}
 use Rattle.basis.specs.Lists.{count}
+use Rattle.answer.specs.Number.{isDone}
 use Rattle.identity.specs.declared.Identity.{Identity}
 use Rattle.awaited.specs.declared.Purpose.{Purpose}
 use Rattle.awaited.specs.declared.Purpose.the-variants.{Entry as ForEntry}
@@ -35,7 +36,6 @@ use Rattle.site.specs.Site.{linkAt, withLink, withPool}
 use Rattle.pump.specs.Pump.{dueAt, sends, pumpPlan}
 use Rattle.pump.specs.Claims.{Ready}
 use Rattle.calls.specs.Calls.{Call, stepBy}
-use Rattle.holding.specs.Touches.{isDone}
 use Rattle.alarmout.specs.Alarmout.{Exchange, identityIn, pumpIn, answerIn, Fair, Timely}
 use Rattle.alarmout.proofs.Links.{Going, Sent, leftBy, Lasts, up, found, answered}
 use Rattle.alarmout.proofs.Packets.{classOf}

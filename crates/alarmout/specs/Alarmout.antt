@@ -13,6 +13,7 @@ use Rattle.basis.specs.Pick.{pick, bit}
 use Rattle.basis.specs.Lists.{count}
 use Rattle.identity.specs.declared.Identity.{Identity}
 use Rattle.identity.specs.Read.{SixteenBytes}
+use Rattle.identity.specs.Version.{identityOf}
 use Rattle.awaited.specs.declared.Purpose.the-variants.{Entry as ForEntry}
 use Rattle.awaited.specs.declared.Found.the-variants.{For, Nothing}
 use Rattle.awaited.specs.Awaited.{findOf, howManyOf}
@@ -28,7 +29,6 @@ use Rattle.site.specs.declared.Site.{Site}
 use Rattle.site.specs.Site.{linkAt}
 use Rattle.site.specs.Parts.{alarmAt, alarmRowAt}
 use Rattle.sending.specs.Sending.{stateOf, alarmTold}
-use Rattle.pump.specs.Pump.{identityOf}
 use Rattle.calls.specs.Calls.{Call, planOf, outBy, siteAfter}
 use Rattle.calls.specs.Calls.Call.{packet, alarm, pump}
 use Rattle.sequences.specs.Typed.{EachTyped}

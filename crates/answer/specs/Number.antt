@@ -1,6 +1,7 @@
 -- The numbers that a call can give, each beside the words of document 01.
 -- Assumes nothing.
 use Prim.Native.Nat.{ℕ}
+use mathlib.Core.Bool.{Bool, true, false}
 use Rattle.answer.specs.declared.Refusal.{Refusal}
 use Rattle.answer.specs.declared.Refusal.the-variants.{
   Ignored,
@@ -38,3 +39,7 @@ refusalNumber PoolFull = 13  -- pool full, the link holds fewer than 16, no othe
 abbrev pub numberOf : Answer → ℕ
 numberOf (Done r) = 0  -- done
 numberOf (Refused r) = refusalNumber r
+
+abbrev pub isDone : Answer → Bool
+isDone (Done r) = true
+isDone (Refused x) = false

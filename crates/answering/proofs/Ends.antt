@@ -10,7 +10,7 @@ use Rattle.answer.specs.Given.{Hint}
 use Rattle.answer.specs.Given.Hint.{none, clock}
 use Rattle.identity.specs.declared.Identity.{Identity}
 use Rattle.entry.specs.declared.Entry.{Entry}
-use Rattle.awaited.specs.Awaited.{findOf}
+use Rattle.awaited.specs.Awaited.{findOf, isAwaited}
 use Rattle.batch.specs.declared.Batch.{Batch}
 use Rattle.batch.specs.Batch.{beginning, issuedAll}
 use Rattle.output.specs.Put.{Out, output, putAll, Wrote}
@@ -22,7 +22,7 @@ use Rattle.site.specs.declared.Site.{Site}
 use Rattle.site.specs.declared.Step.{Step}
 use Rattle.site.specs.Site.{linkAt, closeAt, maskOf}
 use Rattle.site.specs.Call.{Plan, never, stepOf, concluded, refused, piecesOf, writtenTo, outAfter, Gives, reportOf, batchOf, hintTime, hintBit}
-use Rattle.answering.specs.Taken.{Taken, isAwaited, takenRefuses, notAcked, closing, acked, replied}
+use Rattle.answering.specs.Taken.{Taken, takenRefuses, notAcked, closing, acked, replied}
 use Rattle.answering.specs.Ending.{report, doneAt, repliedAt, Acks}
 
 ++-nil : (bs : List (List ℕ)) → bs ++ [] ≡ bs

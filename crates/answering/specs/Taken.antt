@@ -10,10 +10,8 @@ use Rattle.answer.specs.Given.{Hint}
 use Rattle.answer.specs.Given.Hint.{none}
 use Rattle.identity.specs.declared.Identity.{Identity}
 use Rattle.entry.specs.declared.Entry.{Entry}
-use Rattle.awaited.specs.declared.Found.{Found}
-use Rattle.awaited.specs.declared.Found.the-variants.{For, Nothing}
 use Rattle.awaited.specs.declared.Purpose.the-variants.{Other}
-use Rattle.awaited.specs.Awaited.{findOf}
+use Rattle.awaited.specs.Awaited.{findOf, isAwaited}
 use Rattle.link.specs.Steps.{messageOutOf, fullOf}
 use Rattle.written.specs.Message.{Message}
 use Rattle.written.specs.Message.Message.{ack, notAck}
@@ -27,10 +25,6 @@ use Rattle.site.specs.Call.{Plan, never, when}
 pub record Taken : Type 0 where
   pub plan : Plan
   pub replies : Bool
-
-abbrev pub isAwaited : Found → Bool
-isAwaited (For p) = true
-isAwaited Nothing = false
 
 -- number 9: the identity to be sent is already awaited on that link
 abbrev pub takenRefuses : Site → ℕ → Identity → Taken → Refusal → Bool

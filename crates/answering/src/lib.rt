@@ -1,6 +1,6 @@
 // The answer to a packet that is not ignored, and the end of its call.
 ghost use mathlib.Core.Path.{_≡_};
-ghost use Rattle.awaited.specs.Awaited.{findOf};
+ghost use Rattle.awaited.specs.Awaited.{findOf, isAwaited};
 ghost use Rattle.batch.specs.Batch.{beginning};
 ghost use Rattle.link.specs.Steps.{fullOf};
 ghost use Rattle.output.specs.Put.{Wrote};
@@ -8,7 +8,7 @@ ghost use Rattle.written.specs.Message.Message.{ack as ackOf, notAck};
 ghost use Rattle.written.specs.Pieces.{pieces};
 ghost use Rattle.site.specs.Site.{linkAt};
 ghost use Rattle.site.specs.Call.{never, Gives};
-ghost use Rattle.answering.specs.Taken.{isAwaited, notAcked, closing};
+ghost use Rattle.answering.specs.Taken.{notAcked, closing};
 ghost use Rattle.answering.specs.Ending.{report as reportOf, doneAt, repliedAt, Acks};
 use answer::Answer;
 use answer::Refusal;

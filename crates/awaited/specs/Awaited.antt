@@ -2,7 +2,7 @@
 -- Assumes nothing.
 use Prim.Native.Nat.{ℕ}
 use mathlib.Core.List.{List, [], _∷_}
-use mathlib.Core.Bool.{Bool}
+use mathlib.Core.Bool.{Bool, true, false}
 use lib.ListN.{replicate}
 use Rattle.basis.specs.Pick.{pick}
 use Rattle.identity.specs.declared.Identity.{Identity}
@@ -29,6 +29,10 @@ findIn id (x ∷ l) = pick (awaitsFor id x) (For (purposeOf x)) (findIn id l)
 
 unfoldable pub findOf : Awaited → Identity → Found
 findOf a id = findIn id (a .slots)
+
+abbrev pub isAwaited : Found → Bool
+isAwaited (For p) = true
+isAwaited Nothing = false
 
 -- the identity's first place becomes free; where there is none nothing changes
 unfoldable pub removeOf : Awaited → Identity → Awaited

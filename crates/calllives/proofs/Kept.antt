@@ -6,6 +6,7 @@ use mathlib.Core.Bool.{Bool, true, false}
 use mathlib.Core.List.{List, [], _∷_}
 use lib.ListN.{length}
 use Rattle.basis.specs.Pick.{pick}
+use Rattle.identity.specs.Version.{identityOf}
 use Rattle.link.specs.declared.Role.the-variants.{Secondary}
 use Rattle.link.specs.declared.Phase.the-variants.{Up}
 use Rattle.link.specs.Phase.{phaseOf}
@@ -14,7 +15,7 @@ use Rattle.written.specs.Message.{Message}
 use Rattle.site.specs.declared.Site.{Site}
 use Rattle.site.specs.Site.{linkAt, roleOf}
 use Rattle.site.specs.Call.{issuing, batchOf, reportOf}
-use Rattle.linkcalls.proofs.Below.{link-below}
+use Rattle.site.proofs.Checks.{link-below}
 use Rattle.start.specs.Fresh.{fresh}
 use Rattle.tick.specs.Closing.{lateAt}
 use Rattle.lives.specs.Moves.{Shaped, Moves, Heedful}
@@ -32,7 +33,6 @@ use Rattle.lives.proofs.Lived.{lived}
 use Rattle.lives.proofs.Spoken.{spoken}
 use Rattle.pumplives.proofs.Kept.{pumped}
 use Rattle.framelives.proofs.Kept.{packeted}
-use Rattle.pump.specs.Pump.{identityOf}
 use Rattle.calls.specs.Calls.{Call, timeOf, refuses, planOf, endOf}
 use Rattle.calls.specs.Calls.Call.{connect, disconnect, packet, alarm, status, aggregated, tick, pump}
 use Rattle.calllives.specs.Calls.{linkOf, actsOf, LivedFromStart, SpokenFromStart}

@@ -7,13 +7,14 @@ use lib.IntN.{ℤ}
 use lib.ListN.{length}
 use Rattle.answer.specs.declared.Refusal.{Refusal}
 use Rattle.identity.specs.declared.Identity.{Identity}
+use Rattle.identity.specs.Version.{identityOf}
 use Rattle.site.specs.declared.Site.{Site}
 use Rattle.site.specs.declared.Step.{Step}
 use Rattle.site.specs.Call.{Plan, stepOf, writtenTo, outAfter}
 use Rattle.linkcalls.specs.Connect.{connectRefuses, connectPlan, disconnectRefuses, disconnectPlan}
 use Rattle.inputs.specs.Inputs.{alarmRefuses, alarmPlan, statusRefuses, statusPlan, aggregatedRefuses, aggregatedPlan}
 use Rattle.tick.specs.Tick.{tickRefuses, tickPlan}
-use Rattle.pump.specs.Pump.{identityOf, pumpRefuses, pumpPlan}
+use Rattle.pump.specs.Pump.{pumpRefuses, pumpPlan}
 use Rattle.packet.specs.Packet.{packetRefuses, packetTaken}
 
 -- `random` are the sixteen random bytes, `out` the bytes of the lent output before the call

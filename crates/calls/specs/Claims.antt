@@ -11,6 +11,7 @@ use Rattle.answer.specs.declared.Report.{Report}
 use Rattle.answer.specs.declared.Answer.the-variants.{Done, Refused}
 use Rattle.answer.specs.Order.{inOrder, First, None}
 use Rattle.identity.specs.declared.Identity.{Identity}
+use Rattle.identity.specs.Version.{identityOf}
 use Rattle.site.specs.declared.Site.{Site}
 use Rattle.site.specs.declared.Step.{Step}
 use Rattle.site.specs.Site.{withIssued}
@@ -18,7 +19,7 @@ use Rattle.site.specs.Call.{batchOf, reportOf, Gives}
 use Rattle.linkcalls.specs.Connect.{connectStep, disconnectStep}
 use Rattle.inputs.specs.Inputs.{alarmStep, statusStep, aggregatedStep}
 use Rattle.tick.specs.Tick.{tickStep}
-use Rattle.pump.specs.Pump.{identityOf, pumpRefuses, pumpPlan}
+use Rattle.pump.specs.Pump.{pumpRefuses, pumpPlan}
 use Rattle.packet.specs.Packet.{packetRefuses, packetTaken}
 use Rattle.numbers.specs.Numbers.{conditions, Numbers}
 use Rattle.numbers.specs.Steps.{Written}

@@ -8,6 +8,7 @@ use Rattle.answer.specs.declared.Report.{Report}
 use Rattle.answer.specs.declared.Answer.{Answer}
 use Rattle.answer.specs.declared.Answer.the-variants.{Done, Refused}
 use Rattle.answer.specs.Given.{linksIn}
+use Rattle.answer.specs.Number.{isDone}
 use Rattle.identity.specs.declared.Identity.{Identity}
 use Rattle.entry.specs.declared.Entry.{Entry}
 use Rattle.awaited.specs.declared.Purpose.the-variants.{Entry as ForEntry}
@@ -22,18 +23,16 @@ use Rattle.site.specs.declared.Step.{Step}
 use Rattle.site.specs.Site.{linkAt, withIssued}
 use Rattle.site.specs.Call.{issuing, batchOf, reportOf}
 use Rattle.site.specs.Parts.{alarmAt}
+use Rattle.site.proofs.Checks.{link-below}
 use Rattle.sitetable.specs.declared.SiteTable.{SiteTable}
 use Rattle.sitetable.specs.Memory.{memoryOf}
 use Rattle.sending.specs.Sending.{entryMessage}
 use Rattle.start.specs.Fresh.{fresh, primaryOf}
 use Rattle.start.specs.Starts.{Starts}
 use Rattle.start.specs.Starts.Starts.{starts, refuses}
-use Rattle.holding.specs.Touches.{isDone as answersDone}
 use Rattle.lives.specs.Moves.{doesAll}
-use Rattle.lives.specs.Sequence.{isDone}
 use Rattle.lives.proofs.Born.{born}
 use Rattle.lives.proofs.Done.{passed}
-use Rattle.linkcalls.proofs.Below.{link-below}
 use Rattle.calls.specs.Calls.{Call, refuses as refusesOf, planOf, endOf, stepBy, siteAfter}
 use Rattle.calls.specs.Calls.Call.{packet}
 use Rattle.calls.proofs.Kept.{kept as calls-kept}
@@ -142,7 +141,7 @@ module _ (table : SiteTable) (links primary period first time : ℕ) (b : Starte
       onward cs c m h id q (unbound cs c m h id q e) (by-answer cs c m h id q (stepBy (siteAfter begun cs) c .answer) refl e)
       (λ f. all cs m h id q f)
 
-from : {b : List ℕ} {links primary period first time : ℕ} {r : Step} → Starts b links primary period first time r → answersDone (r .answer) ≡ true
+from : {b : List ℕ} {links primary period first time : ℕ} {r : Step} → Starts b links primary period first time r → isDone (r .answer) ≡ true
     → (cs : List Call) (m : ℕ) → m < 4 → (id : Identity) (q : ℕ)
     → findOf (linkAt (siteAfter (r .site) cs) m .awaited) id ≡ For (ForEntry q) → Carried (r .site) cs m id q
 from {b} {links} {primary} {period} {first} {time} (starts {t = t} a e w) d cs m h id q f =
@@ -154,18 +153,13 @@ carried : (s : Site) → Started s → (cs : List Call) (m : ℕ) → m < 4 → 
 carried s (started x d) cs m h id k f = from x d cs m h id k f
 
 -- the link of a done packet call is one of the four
-below : (s : Site) (l t : ℕ) (random : Identity) (p out : List ℕ) → answersDone (stepBy s (packet l t random p out) .answer) ≡ true → l < 4
+below : (s : Site) (l t : ℕ) (random : Identity) (p out : List ℕ) → isDone (stepBy s (packet l t random p out) .answer) ≡ true → l < 4
 below s l t random p out d =
     link-below s l
     (passed (issuing (batchOf (planOf s (packet l t random p out))) (refusesOf s (packet l t random p out)))
     (reportOf (planOf s (packet l t random p out)) (endOf s (packet l t random p out))) s
     (withIssued (planOf s (packet l t random p out) .site) (batchOf (planOf s (packet l t random p out))) t)
-    (is-done (stepBy s (packet l t random p out) .answer) d)
-    .link)
-  where
-    is-done : (a : Answer) → answersDone a ≡ true → isDone a ≡ true
-    is-done (Done r) e = refl
-    is-done (Refused r) e = no e
+    d .link)
 
 pub kept : Claims
 kept =

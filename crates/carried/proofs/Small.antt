@@ -11,6 +11,7 @@ use Rattle.answer.specs.Given.Hint.{none}
 use Rattle.answer.specs.declared.Answer.{Answer}
 use Rattle.answer.specs.declared.Answer.the-variants.{Done, Refused}
 use Rattle.identity.specs.declared.Identity.{Identity}
+use Rattle.identity.specs.Version.{identityOf}
 use Rattle.alarm.specs.declared.Alarm.{Alarm as AlarmNow}
 use Rattle.alarm.specs.declared.Order.{Order as Change}
 use Rattle.alarm.specs.declared.Order.the-variants.{Acknowledge as Acknowledging, Suspend as Suspending, Resume as Resuming}
@@ -63,7 +64,7 @@ use Rattle.orders.specs.Orders.{isZero, requestBy, requestTaken, orderedOf, fou
 use Rattle.statusreply.specs.StatusReply.{passes, requestedOf, statusTaken}
 use Rattle.subscribing.specs.Subscribing.{wanted, replacedAt, replaced, changed, judged, asked, subscribingTaken}
 use Rattle.packet.specs.Packet.{expected, unready, kindTaken, expectedTaken, classTaken}
-use Rattle.pump.specs.Pump.{identityOf, dueAt, entryPlan, planFor}
+use Rattle.pump.specs.Pump.{dueAt, entryPlan, planFor}
 use Rattle.calls.specs.Calls.{Call, timeOf, refuses, planOf, endOf, stepBy, siteAfter}
 use Rattle.calls.specs.Calls.Call.{connect, disconnect, packet, alarm, status, aggregated, tick, pump}
 use Rattle.site.specs.Parts.{alarmAt as alarmNow}

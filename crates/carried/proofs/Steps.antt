@@ -12,6 +12,7 @@ use Rattle.basis.specs.Pick.{pick}
 use Rattle.basis.proofs.Cases.{eq-or-ne}
 use Rattle.answer.specs.Given.{linksIn}
 use Rattle.identity.specs.declared.Identity.{Identity}
+use Rattle.identity.specs.Version.{identityOf}
 use Rattle.entry.specs.declared.Entry.{Entry}
 use Rattle.alarm.specs.Issued.{issuedOf}
 use Rattle.awaited.specs.declared.Purpose.the-variants.{Entry as ForEntry}
@@ -39,7 +40,7 @@ use Rattle.site.specs.Parts.{alarmAt}
 use Rattle.sending.specs.Sending.{alarmMessage, entryMessage}
 use Rattle.outgoing.specs.declared.Carried.the-variants.{Held, NoRecord}
 use Rattle.outgoing.specs.Outgoing.{sameEvent, carriedOf}
-use Rattle.pump.specs.Pump.{identityOf, dueAt, planFor, entryPlan}
+use Rattle.pump.specs.Pump.{dueAt, planFor, entryPlan}
 use Rattle.tick.specs.Closing.{lateAt}
 use Rattle.lives.specs.Moves.{doesAll}
 use Rattle.pumplives.specs.Pumped.{sentAs, recordActs, dueActs}

@@ -9,6 +9,7 @@ use lib.ListN.{length}
 use Rattle.basis.specs.Pick.{pick}
 use Rattle.answer.specs.declared.Report.{Report}
 use Rattle.identity.specs.declared.Identity.{Identity}
+use Rattle.identity.specs.Version.{identityOf}
 use Rattle.awaited.specs.declared.Purpose.{Purpose}
 use Rattle.awaited.specs.declared.Purpose.the-variants.{Version, Watchdog, Entry, Other}
 use Rattle.awaited.specs.declared.Found.{Found}
@@ -28,7 +29,6 @@ use Rattle.link.specs.Life.{happened, letters}
 use Rattle.link.proofs.Tells.{tells}
 use Rattle.site.specs.declared.Site.{Site}
 use Rattle.site.specs.Site.{linkAt}
-use Rattle.pump.specs.Pump.{identityOf}
 use Rattle.lives.specs.Moves.{doesAll, Shaped, Moves}
 use Rattle.lives.proofs.Moved.{moved}
 use Rattle.pumplives.proofs.Kept.{pumped}

@@ -5,6 +5,7 @@ use mathlib.Core.Path.{_≡_, refl, sym, ap, subst, _∙_}
 use mathlib.Core.Bool.{true, false}
 use mathlib.Core.List.{List, [], _∷_}
 use Rattle.identity.specs.declared.Identity.{Identity}
+use Rattle.identity.specs.Version.{identityOf}
 use Rattle.written.specs.Message.{Message}
 use Rattle.taken.specs.declared.Verdict.{Verdict}
 use Rattle.taken.specs.declared.Kind.{Kind}
@@ -13,7 +14,6 @@ use Rattle.taken.specs.declared.Class.the-variants.{Ignored as NoClass, Acked, 
 use Rattle.taken.specs.Head.{headAt}
 use Rattle.site.specs.declared.Site.{Site}
 use Rattle.packet.specs.Packet.{classTaken}
-use Rattle.pump.specs.Pump.{identityOf}
 use Rattle.lives.specs.Messages.{isAnswer, AnswerTo, Among, NoAnswer}
 use Rattle.lives.specs.Messages as seen
 use Rattle.lives.specs.Messages.Among.{first, later}

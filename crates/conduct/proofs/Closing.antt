@@ -8,6 +8,7 @@ use native.Mathlib.Omega.{arith}
 use Rattle.basis.specs.Pick.{pick, bit}
 use Rattle.answer.specs.declared.Report.{Report}
 use Rattle.identity.specs.declared.Identity.{Identity}
+use Rattle.identity.specs.Version.{identityOf}
 use Rattle.awaited.specs.declared.Found.the-variants.{For}
 use Rattle.awaited.specs.declared.Purpose.the-variants.{Version, Watchdog}
 use Rattle.awaited.specs.Lists.{some}
@@ -20,10 +21,10 @@ use Rattle.link.proofs.Kept.{kept as links}
 use Rattle.taken.specs.Head.{headAt}
 use Rattle.site.specs.declared.Site.{Site}
 use Rattle.site.specs.Site.{maskOf}
-use Rattle.linkcalls.proofs.Below.{link-below}
+use Rattle.site.proofs.Checks.{link-below}
 use Rattle.tick.specs.Closing.{lateAt}
 use Rattle.tick.proofs.Kept.{kept as ticks}
-use Rattle.pump.specs.Pump.{identityOf, dueAt}
+use Rattle.pump.specs.Pump.{dueAt}
 use Rattle.calls.specs.Calls.{Call, planOf, siteAfter}
 use Rattle.calls.specs.Calls.Call.{connect, disconnect, packet, alarm, status, aggregated, tick, pump}
 use Rattle.calls.proofs.Kept.{kept as calls}

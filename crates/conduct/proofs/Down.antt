@@ -11,6 +11,7 @@ use Rattle.basis.specs.Pick.{pick}
 use Rattle.basis.proofs.Cases.{bool-cases}
 use Rattle.answer.specs.declared.Report.{Report}
 use Rattle.identity.specs.declared.Identity.{Identity}
+use Rattle.identity.specs.Version.{identityOf}
 use Rattle.awaited.specs.declared.Found.the-variants.{For}
 use Rattle.awaited.specs.declared.Purpose.the-variants.{Version as ForVersion, Watchdog as ForWatchdog}
 use Rattle.awaited.specs.Promises.{waiting}
@@ -25,7 +26,7 @@ use Rattle.taken.specs.Head.{headAt}
 use Rattle.site.specs.declared.Site.{Site}
 use Rattle.site.specs.Site.{linkAt}
 use Rattle.greet.specs.Version.{own}
-use Rattle.pump.specs.Pump.{identityOf, dueAt}
+use Rattle.pump.specs.Pump.{dueAt}
 use Rattle.tick.specs.Closing.{lateAt}
 use Rattle.lives.specs.Moves.{doesAll, onlyOn}
 use Rattle.pumplives.specs.Pumped.{dueActs}

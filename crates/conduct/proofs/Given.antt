@@ -9,6 +9,7 @@ use Rattle.answer.specs.Given.Hint.{none}
 use Rattle.answer.specs.declared.Answer.{Answer}
 use Rattle.answer.specs.declared.Answer.the-variants.{Done, Refused}
 use Rattle.identity.specs.declared.Identity.{Identity}
+use Rattle.identity.specs.Version.{identityOf}
 use Rattle.awaited.specs.declared.Purpose.the-variants.{Version as ForVersion, Watchdog as ForWatchdog, Entry as ForEntry, Other as ForOther}
 use Rattle.awaited.specs.declared.Found.{Found}
 use Rattle.awaited.specs.declared.Found.the-variants.{For, Nothing as NotAwaited}
@@ -58,7 +59,7 @@ use Rattle.orders.specs.Orders.{isZero, requestBy, requestTaken, ordered, order
 use Rattle.statusreply.specs.StatusReply.{passes, response, requestedOf, statusTaken}
 use Rattle.subscribing.specs.Subscribing.{wanted, replacedAt, replaced, changed, judged, asked, subscribingTaken}
 use Rattle.packet.specs.Packet.{expected, unready, kindTaken, expectedTaken, askedTaken, classTaken}
-use Rattle.pump.specs.Pump.{identityOf, dueAt, entryPlan, planFor}
+use Rattle.pump.specs.Pump.{dueAt, entryPlan, planFor}
 use Rattle.calls.specs.Calls.{Call, timeOf, refuses, planOf, endOf, stepBy, siteAfter}
 use Rattle.calls.specs.Calls.Call.{connect, disconnect, packet, alarm, status, aggregated, tick, pump}
 

@@ -10,6 +10,7 @@ use Rattle.answer.specs.declared.Report.{Report}
 use Rattle.answer.specs.Given.{Hint, hintIn}
 use Rattle.answer.specs.Given.Hint.{none, clock}
 use Rattle.identity.specs.declared.Identity.{Identity}
+use Rattle.identity.specs.Version.{identityOf}
 use Rattle.awaited.specs.declared.Found.{Found}
 use Rattle.awaited.specs.Awaited.{findOf}
 use Rattle.pool.specs.declared.Sought.{Sought as SoughtEntry}
@@ -54,7 +55,7 @@ use Rattle.orders.specs.Orders.{isZero, requestBy, requestTaken, orderedOf, fou
 use Rattle.statusreply.specs.StatusReply.{passes, requestedOf, statusTaken}
 use Rattle.subscribing.specs.Subscribing.{changed, judged, asked, subscribingTaken}
 use Rattle.packet.specs.Packet.{expected, unready, kindTaken, expectedTaken, classTaken}
-use Rattle.pump.specs.Pump.{identityOf, dueAt, entryPlan, planFor}
+use Rattle.pump.specs.Pump.{dueAt, entryPlan, planFor}
 use Rattle.calls.specs.Calls.{Call, planOf, endOf, siteAfter}
 use Rattle.calls.specs.Calls.Call.{connect, disconnect, packet, alarm, status, aggregated, tick, pump}
 use Rattle.calls.proofs.Kept.{kept as calls}

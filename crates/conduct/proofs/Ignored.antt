@@ -19,7 +19,7 @@ use Rattle.answer.specs.Order.First.{here, later}
 use Rattle.identity.specs.declared.Identity.{Identity}
 use Rattle.awaited.specs.declared.Found.{Found}
 use Rattle.awaited.specs.declared.Found.the-variants.{For, Nothing}
-use Rattle.awaited.specs.Awaited.{findOf}
+use Rattle.awaited.specs.Awaited.{findOf, isAwaited}
 use Rattle.awaited.specs.Promises.{said}
 use Rattle.link.specs.declared.Link.{Link}
 use Rattle.link.specs.declared.Phase.{Phase}
@@ -39,7 +39,6 @@ use Rattle.taken.specs.declared.Class.the-variants.{Ignored as NoClass, Acked, 
 use Rattle.taken.specs.Head.{headAt}
 use Rattle.site.specs.declared.Site.{Site}
 use Rattle.site.specs.Site.{linkAt, isDown, noLinkAt, badTimeAt, downAt}
-use Rattle.answering.specs.Taken.{isAwaited}
 use Rattle.packet.specs.Packet.{isVersion, isGreeting, unawaited, early, ignoredBy}
 use Rattle.calls.specs.Calls.{Call, stepBy, siteAfter}
 use Rattle.calls.specs.Calls.Call.{packet}

@@ -5,6 +5,7 @@ use mathlib.Core.Path.{_≡_, refl, sym, ap, subst, _∙_}
 use mathlib.Core.Bool.{Bool, true, false}
 use mathlib.Core.List.{List, [], _∷_}
 use native.Mathlib.Omega.{arith}
+use Rattle.answer.specs.Number.{isDone}
 use Rattle.link.specs.Acts.{after}
 use Rattle.link.specs.Careful.{Answers}
 use Rattle.sitetable.specs.Memory.{memoryOf}
@@ -14,7 +15,6 @@ use Rattle.site.specs.Site.{linkAt}
 use Rattle.start.specs.Fresh.{primaryOf}
 use Rattle.start.specs.Starts.{Starts}
 use Rattle.start.specs.Starts.Starts.{starts, refuses as not-accepted}
-use Rattle.holding.specs.Touches.{isDone}
 use Rattle.touches.proofs.Start.{begins}
 use Rattle.lives.specs.Moves.{Shaped}
 use Rattle.lives.specs.Sequence as any

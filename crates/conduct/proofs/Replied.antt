@@ -7,6 +7,7 @@ use mathlib.Core.List.{List, [], _∷_}
 use native.Mathlib.Omega.{arith}
 use Rattle.answer.specs.declared.Report.{Report}
 use Rattle.identity.specs.declared.Identity.{Identity}
+use Rattle.identity.specs.Version.{identityOf}
 use Rattle.link.specs.declared.Role.{Role}
 use Rattle.link.specs.declared.Role.the-variants.{Primary, Secondary}
 use Rattle.written.specs.Message.{Message}
@@ -29,7 +30,6 @@ use Rattle.site.specs.declared.Site.{Site}
 use Rattle.site.specs.Site.{roleOf}
 use Rattle.sending.specs.Sending.{alarmMessage, aggregatedMessage}
 use Rattle.statusreply.specs.StatusReply.{response}
-use Rattle.pump.specs.Pump.{identityOf}
 use Rattle.lives.specs.Messages.{isAnswer, Among}
 use Rattle.lives.specs.Messages.Among.{first, later}
 use Rattle.lives.proofs.Messages.{among-none, among-one}

@@ -9,7 +9,9 @@ use lib.Dec.{eqb}
 use Rattle.basis.specs.Pick.{pick}
 use Rattle.answer.specs.declared.Refusal.{Refusal}
 use Rattle.answer.specs.declared.Report.{Report}
+use Rattle.answer.specs.Number.{isDone}
 use Rattle.identity.specs.declared.Identity.{Identity}
+use Rattle.identity.specs.Version.{identityOf}
 use Rattle.pool.specs.declared.Sought.{Sought}
 use Rattle.pool.specs.declared.Sought.the-variants.{Found, Nothing as NoEntry}
 use Rattle.pool.specs.Pool.{oldestUnsent}
@@ -32,18 +34,17 @@ use Rattle.sitetable.specs.declared.SiteTable.{SiteTable}
 use Rattle.site.specs.declared.Site.{Site}
 use Rattle.site.specs.Site.{linkAt, roleOf}
 use Rattle.site.specs.Call.{issuing, batchOf, reportOf}
-use Rattle.linkcalls.proofs.Below.{link-below}
+use Rattle.site.proofs.Checks.{link-below}
 use Rattle.answering.specs.Taken.{unexpected, notReady}
 use Rattle.greet.specs.Answered.{answeredPlan}
 use Rattle.packet.specs.Packet.{expected, unready, classTaken}
-use Rattle.pump.specs.Pump.{identityOf, isHeld, dueAt, planFor, entryPlan}
+use Rattle.pump.specs.Pump.{isHeld, dueAt, planFor, entryPlan}
 use Rattle.pump.proofs.Kept.{kept as pumps}
 use Rattle.lives.proofs.Done.{Passed, passed}
 use Rattle.packetlives.proofs.Greeting.{answers}
 use Rattle.calls.specs.Calls.{Call, refuses, planOf, endOf, stepBy, outBy, siteAfter}
 use Rattle.calls.specs.Calls.Call.{connect, disconnect, packet, alarm, status, aggregated, tick, pump}
 use Rattle.demands.specs.Demand3.{Started}
-use Rattle.holding.specs.Touches.{isDone}
 use Rattle.conduct.specs.History.{DoneWith, messagesOf, historyOf}
 use Rattle.conduct.specs.Due.{dueBy, dueMessages}
 use Rattle.conduct.specs.Reasons.{Objection, not, reasonIf, reasonBy, isUnexpected, isNotReady, elementsIn, namesIn, replyTo, isFull, answering, objectionTo, answersTo}

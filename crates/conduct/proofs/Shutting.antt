@@ -6,6 +6,7 @@ use mathlib.Core.Bool.{Bool, true, false}
 use mathlib.Core.List.{List}
 use Rattle.basis.specs.Pick.{pick, both}
 use Rattle.identity.specs.declared.Identity.{Identity}
+use Rattle.identity.specs.Version.{identityOf}
 use Rattle.awaited.specs.declared.Found.{Found}
 use Rattle.awaited.specs.declared.Found.the-variants.{For, Nothing}
 use Rattle.awaited.specs.declared.Purpose.the-variants.{Version, Watchdog, Entry, Other}
@@ -33,13 +34,13 @@ use Rattle.taken.specs.Head.{headAt}
 use Rattle.takenlists.specs.Version.{versionAt}
 use Rattle.site.specs.declared.Site.{Site}
 use Rattle.site.specs.Site.{linkAt}
+use Rattle.greet.specs.Version.{ownOffer}
 use Rattle.packet.specs.Packet.{expected, unready}
-use Rattle.pump.specs.Pump.{identityOf}
 use Rattle.calls.specs.Calls.{Call, siteAfter}
 use Rattle.calls.specs.Calls.Call.{packet}
 use Rattle.demands.specs.Demand3.{Started}
 use Rattle.conduct.specs.History.{historyOf}
-use Rattle.conduct.specs.Closes.{offerOf, Closes}
+use Rattle.conduct.specs.Closes.{Closes}
 use Rattle.conduct.specs.Closes.Closes.{version-refused, watchdog-refused, version-fails}
 use Rattle.conduct.specs.Due.{beaten}
 use Rattle.conduct.specs.Reasons.{not, isUnexpected, isNotReady}
@@ -128,8 +129,8 @@ module _ (s : Site) (b : Started s) (cs : List Call) where
     readiness : (kind : Kind) → unready (linkAt (siteAfter s cs) l) kind ≡ isNotReady (historyOf s cs l) kind
     readiness kind = ap (λ (k : Link). unready k kind) (link-is s b cs l below) ∙ not-ready (historyOf s cs l) kind
 
-    judging : isFailed (judge (offerOf (siteAfter s cs .table)) (versionAt p .offer)) ≡ isFailed (judge (offerOf (s .table)) (versionAt p .offer))
-    judging = ap (λ (g : Given). isFailed (judge (offerOf (g .table)) (versionAt p .offer))) (given-stays s cs)
+    judging : isFailed (judge (ownOffer (siteAfter s cs .table)) (versionAt p .offer)) ≡ isFailed (judge (ownOffer (s .table)) (versionAt p .offer))
+    judging = ap (λ (g : Given). isFailed (judge (ownOffer (g .table)) (versionAt p .offer))) (given-stays s cs)
 
     refused-then : (f : Found) → said (letters (historyOf s cs l)) (headAt p .identity) ≡ f → headAt p .class ≡ NotAcked
         → closesOn (phaseOf (after (historyOf s cs l))) f ≡ true → Closes s cs (packet l t random p out) l
@@ -149,7 +150,7 @@ module _ (s : Site) (b : Started s) (cs : List Call) where
         let w = went-out (happened (historyOf s cs l) TheirVersion) (happened (historyOf s cs l) OurVersion) (sym (expecting TypeVersion) ∙ x) in
         version-fails (c ∙ ap (λ (q : Verdict). Asked q kind) g ∙ ap (λ (q : Kind). Asked Good q) k) (w .0) (w .1)
         (good (versionAt p .verdict) (left (isGood (versionAt p .verdict)) _ y))
-        (failed (judge (offerOf (s .table)) (versionAt p .offer)) (sym judging ∙ right (isGood (versionAt p .verdict)) _ y))
+        (failed (judge (ownOffer (s .table)) (versionAt p .offer)) (sym judging ∙ right (isGood (versionAt p .verdict)) _ y))
 
     pub shuts-then : (c : Class) → headAt p .class ≡ c → shuts c ≡ true → Closes s cs (packet l t random p out) l
     shuts-then NoClass q e = no e
@@ -166,12 +167,12 @@ module _ (s : Site) (b : Started s) (cs : List Call) where
     then-refuses f c q e = ap shuts c ∙ refusal ∙ ap (closesOn (phaseOf (after (historyOf s cs l)))) q ∙ e
 
     pub then-fails : headAt p .class ≡ Asked Good TypeVersion → happened (historyOf s cs l) OurVersion ≡ true → happened (historyOf s cs l) TheirVersion ≡ false
-        → versionAt p .verdict ≡ Good → ((v : ℕ) → judge (offerOf (s .table)) (versionAt p .offer) ≡ Chosen v → ⊥) → shuts (headAt p .class) ≡ true
+        → versionAt p .verdict ≡ Good → ((v : ℕ) → judge (ownOffer (s .table)) (versionAt p .offer) ≡ Chosen v → ⊥) → shuts (headAt p .class) ≡ true
     then-fails c o n g f =
         let x : expected (linkAt (siteAfter s cs) l) TypeVersion ≡ true = expecting TypeVersion ∙ rw (o, n) refl in
         let u : unready (linkAt (siteAfter s cs) l) TypeVersion ≡ false = readiness TypeVersion ∙
         not-through (happened (historyOf s cs l) Connected) (happened (historyOf s cs l) OurVersion) (happened (historyOf s cs l) OurVersionAcked)
         (happened (historyOf s cs l) TheirVersion) (not (beaten (historyOf s cs l))) n in
-        let z : isFailed (judge (offerOf (siteAfter s cs .table)) (versionAt p .offer)) ≡ true = judging ∙ is-failed
-        (judge (offerOf (s .table)) (versionAt p .offer)) f in
+        let z : isFailed (judge (ownOffer (siteAfter s cs .table)) (versionAt p .offer)) ≡ true = judging ∙ is-failed
+        (judge (ownOffer (s .table)) (versionAt p .offer)) f in
         ap shuts c ∙ rw (x, u, g, z) refl

@@ -10,7 +10,9 @@ use Rattle.answer.specs.declared.Refusal.{Refusal}
 use Rattle.answer.specs.declared.Report.{Report}
 use Rattle.answer.specs.declared.Answer.{Answer}
 use Rattle.answer.specs.declared.Answer.the-variants.{Refused}
+use Rattle.answer.specs.Number.{isDone}
 use Rattle.identity.specs.declared.Identity.{Identity}
+use Rattle.identity.specs.Version.{identityOf}
 use Rattle.link.specs.declared.Link.{Link}
 use Rattle.link.specs.declared.Role.{Role}
 use Rattle.link.specs.declared.Role.the-variants.{Primary, Secondary}
@@ -27,10 +29,9 @@ use Rattle.taken.specs.declared.Class.the-variants.{Ignored as NoClass, Acked, 
 use Rattle.taken.specs.Head.{headAt}
 use Rattle.site.specs.declared.Site.{Site}
 use Rattle.site.specs.Site.{roleOf, linkAt}
-use Rattle.linkcalls.proofs.Below.{link-below}
+use Rattle.site.proofs.Checks.{link-below}
 use Rattle.answering.specs.Taken.{unexpected, notReady}
 use Rattle.packet.specs.Packet.{expected, unready}
-use Rattle.pump.specs.Pump.{identityOf}
 use Rattle.lives.specs.Moves.{onlyOn}
 use Rattle.lives.specs.Sequence as any
 use Rattle.pumplives.specs.Pumped.{dueActs}
@@ -83,7 +84,7 @@ module _ (s : Site) (b : Started s) (cs : List Call) where
 -- what a call adds, done or refused
 module _ (s : Site) (cs : List Call) (c : Call) (l : ℕ) where
   abbrev adds : Answer → Site → List Act
-  adds a t = any.upon (pick (any.isDone a) (actsOf t c l) []) (historyOf s cs l)
+  adds a t = any.upon (pick (isDone a) (actsOf t c l) []) (historyOf s cs l)
 
   by-answer : historyOf s (c ∷ cs) l ≡ adds (stepBy (siteAfter s cs) c .answer) (siteAfter s cs)
   by-answer = ap (λ (t : Site). adds (stepBy t c .answer) t) (same-after s cs)

@@ -12,6 +12,7 @@ use Rattle.answer.specs.declared.Refusal.{Refusal}
 use Rattle.answer.specs.declared.Report.{Report}
 use Rattle.answer.specs.declared.Answer.the-variants.{Refused}
 use Rattle.identity.specs.declared.Identity.{Identity}
+use Rattle.identity.specs.Version.{identityOf}
 use Rattle.awaited.specs.Lists.{some}
 use Rattle.awaited.specs.Promises.{waiting, longAgo}
 use Rattle.pool.specs.Pool.{oldestUnsent}
@@ -33,14 +34,14 @@ use Rattle.sitetable.specs.declared.SiteTable.{SiteTable}
 use Rattle.site.specs.declared.Site.{Site}
 use Rattle.site.specs.Site.{roleOf}
 use Rattle.answering.specs.Taken.{rsmpVersion, siteId, sxlVersion}
-use Rattle.pump.specs.Pump.{identityOf, isHeld}
+use Rattle.pump.specs.Pump.{isHeld}
+use Rattle.greet.specs.Version.{ownOffer}
 use Rattle.lives.specs.Moves.{onlyOn, onNone}
 use Rattle.lives.specs.Sequence.{upon}
 use Rattle.pumplives.specs.Pumped.{dueActs}
 use Rattle.calls.specs.Calls.{Call, stepBy, siteAfter}
 use Rattle.calls.specs.Calls.Call.{connect, disconnect, packet, alarm, status, aggregated, tick, pump}
 use Rattle.conduct.specs.History.{DoneWith, historyOf}
-use Rattle.conduct.specs.Closes.{offerOf}
 use Rattle.conduct.specs.Due.{dueBy}
 use Rattle.conduct.specs.Reasons.{Objection, replyTo, objectionTo}
 use Rattle.conduct.specs.Reasons.Objection.{none, because}
@@ -63,7 +64,7 @@ replyActs id time (m ∷ ms) = OtherOut id time ∷ []
 
 -- a request that is acknowledged, with this reply
 abbrev pub ackedActs : SiteTable → List ℕ → Identity → ℕ → List Message → Kind → List Act
-ackedActs table p id time reply Version = acceptedActs (judge (offerOf table) (versionAt p .offer))
+ackedActs table p id time reply Version = acceptedActs (judge (ownOffer table) (versionAt p .offer))
 ackedActs table p id time reply Watchdog = WatchdogTaken ∷ []
 ackedActs table p id time reply Alarm = replyActs id time reply
 ackedActs table p id time reply AggregatedStatusRequest = replyActs id time reply

@@ -16,7 +16,6 @@ use Rattle.awaited.specs.Promises.{said, waiting, longAgo}
 use Rattle.link.specs.Deed.Deed.{Connected, OurVersion, TheirVersion}
 use Rattle.link.specs.Life.{happened, letters}
 use Rattle.link.specs.Promises.{Greeted, Beaten}
-use Rattle.versions.specs.declared.Offer.{Offer}
 use Rattle.versions.specs.declared.Judged.the-variants.{Chosen}
 use Rattle.versions.specs.Judge.{judge}
 use Rattle.taken.specs.declared.Verdict.the-variants.{Good}
@@ -24,16 +23,11 @@ use Rattle.taken.specs.declared.Kind.the-variants.{Version as TypeVersion}
 use Rattle.taken.specs.declared.Class.the-variants.{NotAcked, Asked}
 use Rattle.taken.specs.Head.{headAt}
 use Rattle.takenlists.specs.Version.{versionAt}
-use Rattle.sitetable.specs.declared.SiteTable.{SiteTable}
 use Rattle.site.specs.declared.Site.{Site}
-use Rattle.greet.specs.Version.{ownVersions, ownSites}
+use Rattle.greet.specs.Version.{ownOffer}
 use Rattle.calls.specs.Calls.{Call}
 use Rattle.calls.specs.Calls.Call.{disconnect, packet, tick}
 use Rattle.conduct.specs.History.{DoneWith, historyOf}
-
--- what our Version offers: 3.1.5 and 3.2, and the table's site id and SXL version
-abbrev pub offerOf : SiteTable → Offer
-offerOf table = record { versions = ownVersions; sites = ownSites (table .site); sxl = table .sxl }
 
 -- the call, made after the calls cs and done, closes the link
 pub data Closes (s : Site) (cs : List Call) : Call → ℕ → Type 0 where
@@ -50,7 +44,7 @@ pub data Closes (s : Site) (cs : List Call) : Call → ℕ → Type 0 where
   -- their Version, whole and of good values, after ours went out and before theirs was accepted: it fails one of the three checks
   version-fails : {l t : ℕ} {random : Identity} {p out : List ℕ} → headAt p .class ≡ Asked Good TypeVersion
       → happened (historyOf s cs l) OurVersion ≡ true → happened (historyOf s cs l) TheirVersion ≡ false
-      → versionAt p .verdict ≡ Good → ((v : ℕ) → judge (offerOf (s .table)) (versionAt p .offer) ≡ Chosen v → ⊥)
+      → versionAt p .verdict ≡ Good → ((v : ℕ) → judge (ownOffer (s .table)) (versionAt p .offer) ≡ Chosen v → ⊥)
       → Closes s cs (packet l t random p out) l
 
 -- the report names the links closed: link l is bit l

@@ -31,6 +31,7 @@ use Rattle.takenlists.specs.declared.StatusFields.{StatusFields}
 use Rattle.takenlists.specs.Version.{versionAt}
 use Rattle.takenlists.specs.Status.{statusAt}
 use Rattle.sitetable.specs.declared.SiteTable.{SiteTable}
+use Rattle.greet.specs.Version.{ownOffer}
 use Rattle.sought.specs.declared.Sought.{Sought}
 use Rattle.sought.specs.declared.Sought.the-variants.{Is, Nothing}
 use Rattle.sought.specs.declared.SoughtAlarm.{SoughtAlarm}
@@ -42,7 +43,6 @@ use Rattle.answering.specs.Taken.{missingElement, badValue, unexpected, notRead
 use Rattle.orders.specs.Orders.{isZero}
 use Rattle.packet.specs.Packet.{isWatchdog}
 use Rattle.statusreply.specs.StatusReply.{response}
-use Rattle.conduct.specs.Closes.{offerOf}
 use Rattle.conduct.specs.Due.{greeted, beaten}
 
 -- what stands against a packet: a reason, by its number in the table of names (crate `reasons`), or nothing
@@ -120,7 +120,7 @@ statusReason table other f = reasonIf (not (areStatuses table other f (component
 
 -- what the packet names
 abbrev pub namesIn : SiteTable → List ℕ → Kind → Objection
-namesIn table p Version = judgement (judge (offerOf table) (versionAt p .offer))
+namesIn table p Version = judgement (judge (ownOffer table) (versionAt p .offer))
 namesIn table p Watchdog = none
 namesIn table p Alarm = unknownIn (alarmSought table (alarmAt p .component) (alarmAt p .code))
 namesIn table p AggregatedStatusRequest = reasonIf (not (isZero (componentSought table (aggregatedAt p .label)))) unknownComponent none

@@ -7,6 +7,7 @@ use mathlib.Core.Bool.{true, false}
 use mathlib.Core.List.{List, [], _∷_}
 use Rattle.answer.specs.declared.Report.{Report}
 use Rattle.identity.specs.declared.Identity.{Identity}
+use Rattle.identity.specs.Version.{identityOf}
 use Rattle.pool.specs.Pool.{oldestUnsent}
 use Rattle.link.specs.declared.Role.the-variants.{Primary}
 use Rattle.written.specs.Message.{Message}
@@ -24,7 +25,7 @@ use Rattle.site.specs.declared.Site.{Site}
 use Rattle.site.specs.Site.{roleOf}
 use Rattle.sending.specs.Sending.{alarmMessage, aggregatedMessage}
 use Rattle.statusreply.specs.StatusReply.{response}
-use Rattle.pump.specs.Pump.{identityOf, isHeld}
+use Rattle.pump.specs.Pump.{isHeld}
 use Rattle.formedness.specs.Formedness.{Wrote}
 use Rattle.lives.specs.Messages.{isAnswer, Among}
 use Rattle.calls.specs.Calls.{Call, outputOf, outBy, siteAfter}

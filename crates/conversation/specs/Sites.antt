@@ -5,6 +5,7 @@ use mathlib.Core.List.{[], _∷_}
 use lib.ListN.{replicate}
 use Rattle.basis.specs.Text.{text}
 use Rattle.identity.specs.declared.Identity.{Identity}
+use Rattle.identity.specs.Version.{identityOf}
 use Rattle.awaited.specs.declared.Awaited.{Awaited}
 use Rattle.awaited.specs.declared.Purpose.{Purpose}
 use Rattle.awaited.specs.declared.Purpose.the-variants.{Version, Watchdog, Entry, Other}
@@ -23,7 +24,6 @@ use Rattle.sitetable.specs.Memory.{memoryOf}
 use Rattle.site.specs.declared.Site.{Site}
 use Rattle.site.specs.Site.{site}
 use Rattle.start.specs.Fresh.{fresh}
-use Rattle.pump.specs.Pump.{identityOf}
 
 abbrev pub table : Table
 table =

@@ -10,7 +10,9 @@ use native.Mathlib.Omega.{arith}
 use Rattle.basis.specs.Pick.{pick}
 use Rattle.answer.specs.declared.Answer.{Answer}
 use Rattle.answer.specs.declared.Answer.the-variants.{Done, Refused}
+use Rattle.answer.specs.Number.{isDone}
 use Rattle.identity.specs.declared.Identity.{Identity}
+use Rattle.identity.specs.Version.{identityOf}
 use Rattle.entry.specs.declared.Entry.{Entry}
 use Rattle.awaited.specs.declared.Purpose.the-variants.{Version, Watchdog, Entry as ForEntry, Other}
 use Rattle.awaited.specs.declared.Found.{Found}
@@ -35,12 +37,11 @@ use Rattle.site.specs.Site.{linkAt, withIssued}
 use Rattle.site.specs.Call.{Plan, batchOf, stepped, answerOf}
 use Rattle.greet.specs.Answered.{answeredPlan}
 use Rattle.packet.specs.Packet.{classTaken}
-use Rattle.holding.specs.Touches.{isDone, settled}
+use Rattle.holding.specs.Touches.{settled}
 use Rattle.touches.specs.Calls.{closingActs}
 use Rattle.touches.proofs.Touched.{touched as standing}
 use Rattle.packettouches.specs.Packets.{foundActs, answeredActs, verdictActs}
 use Rattle.packettouches.proofs.Packets.{touched}
-use Rattle.pump.specs.Pump.{identityOf}
 use Rattle.calls.specs.Calls.{Call, timeOf, refuses, planOf, endOf, stepBy}
 use Rattle.calls.specs.Calls.Call.{connect, disconnect, packet, alarm, status, aggregated, tick, pump}
 use Rattle.demands.specs.Acts.{expectedActs, classActs, actsOf}

@@ -7,6 +7,7 @@ use mathlib.Core.List.{List, []}
 use mathlib.Core.Logic.{_⊎_, inl, inr}
 use Rattle.basis.specs.Pick.{pick}
 use Rattle.identity.specs.declared.Identity.{Identity}
+use Rattle.identity.specs.Version.{identityOf}
 use Rattle.awaited.specs.declared.Purpose.the-variants.{Entry as ForEntry}
 use Rattle.awaited.specs.declared.Found.the-variants.{For}
 use Rattle.awaited.specs.Awaited.{findOf}
@@ -27,8 +28,7 @@ use Rattle.site.specs.declared.Site.{Site}
 use Rattle.site.specs.Site.{linkAt}
 use Rattle.answering.specs.Taken.{Taken, notAcked, byVerdict, unexpected, notReady}
 use Rattle.packet.specs.Packet.{expected, unready, kindTaken, expectedTaken, classTaken}
-use Rattle.pump.specs.Pump.{identityOf}
-use Rattle.linkcalls.proofs.Below.{link-below}
+use Rattle.site.proofs.Checks.{link-below}
 use Rattle.holding.specs.Touches.{Configured, Touches}
 use Rattle.holding.specs.Sequences.{Touching}
 use Rattle.holding.proofs.Lists.{unsettled}

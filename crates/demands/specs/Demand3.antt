@@ -12,6 +12,7 @@ use Rattle.basis.specs.Pick.{pick}
 use Rattle.basis.specs.Lists.{count}
 use Rattle.answer.specs.declared.Refusal.the-variants.{PoolFull}
 use Rattle.answer.specs.declared.Answer.the-variants.{Refused}
+use Rattle.answer.specs.Number.{isDone}
 use Rattle.entry.specs.declared.Entry.{Entry}
 use Rattle.awaited.specs.declared.Purpose.{Purpose}
 use Rattle.awaited.specs.declared.Purpose.the-variants.{Version, Watchdog, Entry as ForEntry, Other}
@@ -34,7 +35,7 @@ use Rattle.site.specs.declared.Site.{Site}
 use Rattle.site.specs.declared.Step.{Step}
 use Rattle.site.specs.Site.{linkAt}
 use Rattle.start.specs.Starts.{Starts}
-use Rattle.holding.specs.Touches.{isDone, Issues, Genuine, issuedFor}
+use Rattle.holding.specs.Touches.{Issues, Genuine, issuedFor}
 use Rattle.calls.specs.Calls.{Call, planOf, stepBy, siteAfter}
 use Rattle.calls.specs.Calls.Call.{connect, disconnect, packet, alarm, status, aggregated, tick, pump}
 use Rattle.demands.specs.Acts.{actsOf}

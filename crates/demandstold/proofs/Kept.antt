@@ -7,8 +7,7 @@ use mathlib.Core.List.{List, [], _∷_}
 use mathlib.Core.Logic.{_⊎_, inl, inr}
 use lib.Dec.{eqb}
 use Rattle.basis.specs.Pick.{pick, bit}
-use Rattle.answer.specs.declared.Answer.{Answer}
-use Rattle.answer.specs.declared.Answer.the-variants.{Done, Refused}
+use Rattle.answer.specs.Number.{isDone}
 use Rattle.entry.specs.declared.Entry.{Entry}
 use Rattle.pool.specs.declared.Place.{Place}
 use Rattle.poollaws.specs.Acts.{Act}
@@ -19,13 +18,13 @@ use Rattle.poollaws.specs.View.{records}
 use Rattle.poollaws.specs.Contents.{Every}
 use Rattle.batch.specs.Laws.{numbered, issues}
 use Rattle.site.specs.declared.Site.{Site}
-use Rattle.holding.specs.Touches.{isDone as isDoneThere, issuedFor}
+use Rattle.holding.specs.Touches.{issuedFor}
 use Rattle.calls.specs.Calls.{Call, planOf, stepBy, siteAfter}
 use Rattle.demands.specs.Demand3.{Started, Issued, issuedIn}
 use Rattle.demands.specs.Demand3.Issued.{now as issued-now, before as issued-before}
 use Rattle.demands.specs.Demand3.Started.{started as by-start}
 use Rattle.demands.proofs.Kept.{kept as demand3}
-use Rattle.told.specs.Told.{Setup, Told, isDone}
+use Rattle.told.specs.Told.{Setup, Told}
 use Rattle.told.specs.Issued.{issuedBy}
 use Rattle.told.specs.Claims.{Fits, toldBy, started}
 use Rattle.toldcalls.proofs.Kept.{kept as calls-told}
@@ -63,10 +62,6 @@ numbered-for : (m q : ℕ) (es : List Entry) → issuedFor m (numbered q es) ≡
 numbered-for m q [] = refl
 numbered-for m q (e ∷ es) = ap (λ (n : ℕ). bit (eqb (e .link) m) + n) (numbered-for m (q + 1) es)
 
-same-done : (a : Answer) → isDoneThere a ≡ isDone a
-same-done (Done r) = refl
-same-done (Refused x) = refl
-
 whatever-holds : {P Q : Entry → Type 0} → ((e : Entry) → P e → Q e) → (xs : List Place) → Every P xs → Every Q xs
 whatever-holds f [] h = tt
 whatever-holds f (x ∷ xs) h = (f (x .entry) (h .0), whatever-holds f xs (h .1))
@@ -88,8 +83,7 @@ module _ (g : Setup) (period : ℕ) (fits : Fits g) where
 
   as-told : {e : Entry} {cs : List Call} → Issued (started g period) e cs → IssuedIn g e (tale cs)
   as-told {e = e} (issued-now {c = c} {cs = cs} d i) =
-      let k : isDone (stepBy (after cs) c .answer) ≡ true = sym (same-done (stepBy (after cs) c .answer)) ∙ d in
-      now k (among-act e (issuedBy g (tale cs) c) (subst (λ (es : List Entry). AmongActs (Issue e) (issues es)) (lays cs c k) i))
+      now d (among-act e (issuedBy g (tale cs) c) (subst (λ (es : List Entry). AmongActs (Issue e) (issues es)) (lays cs c d) i))
   as-told (issued-before i) = before (as-told i)
 
   told : (e : Entry) (cs : List Call) → IssuedIn g e (tale cs) → Issued (started g period) e cs
@@ -98,7 +92,7 @@ module _ (g : Setup) (period : ℕ) (fits : Fits g) where
     where
       by : IssuedIn g e (tale (c ∷ cs)) → (IssuedIn g e (tale cs) → Issued (started g period) e cs) → Issued (started g period) e (c ∷ cs)
       by (now d a) k =
-          issued-now (same-done (stepBy (after cs) c .answer) ∙ d)
+          issued-now d
           (subst⁻¹ (λ (es : List Entry). AmongActs (Issue e) (issues es)) (lays cs c d) (act-among a))
       by (before a) k = issued-before (k a)
 
@@ -111,10 +105,10 @@ module _ (g : Setup) (period : ℕ) (fits : Fits g) where
       here d = sym (numbered-for m (after cs .next) (planOf (after cs) c .issued)) ∙ ap (issuedFor m) (lays cs c d)
 
       by : (b : Bool) → isDone (stepBy (after cs) c .answer) ≡ b
-          → pick (isDoneThere (stepBy (after cs) c .answer)) (issuedFor m (planOf (after cs) c .issued)) 0
+          → pick (isDone (stepBy (after cs) c .answer)) (issuedFor m (planOf (after cs) c .issued)) 0
           ≡ pick (isDone (stepBy (after cs) c .answer)) (issuedFor m (issuedBy g (tale cs) c)) 0
-      by true d = rw (same-done (stepBy (after cs) c .answer), d) (here d)
-      by false d = rw (same-done (stepBy (after cs) c .answer), d) refl
+      by true d = rw d (here d)
+      by false d = rw d refl
 
   kept-fresh : Started (started g period) → (cs : List Call) → Kept g (started g period) cs
   kept-fresh s cs =
@@ -129,7 +123,7 @@ module _ (g : Setup) (period : ℕ) (fits : Fits g) where
       }
 
 was-started : (g : Setup) (s : Site) → Given g s → Started s
-was-started g s (given {r = r} x d a e) = by-start x (same-done (r .answer) ∙ d)
+was-started g s (given x d a e) = by-start x d
 
 kept-given : (g : Setup) (s : Site) → Given g s → (cs : List Call) → Kept g s cs
 kept-given g s x cs =

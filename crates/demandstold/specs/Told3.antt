@@ -7,6 +7,7 @@ use mathlib.Core.Bool.{true}
 use mathlib.Core.List.{List, [], _∷_}
 use mathlib.Core.Logic.{_⊎_}
 use Rattle.basis.specs.Pick.{pick}
+use Rattle.answer.specs.Number.{isDone}
 use Rattle.entry.specs.declared.Entry.{Entry}
 use Rattle.pool.specs.Pool.{heldOf, lostOf}
 use Rattle.poollaws.specs.Leaves.{Held}
@@ -24,7 +25,7 @@ use Rattle.start.specs.Starts.{Starts}
 use Rattle.holding.specs.Touches.{Genuine, issuedFor}
 use Rattle.calls.specs.Calls.{Call, planOf, stepBy, siteAfter}
 use Rattle.demands.specs.Demand3.{Started, Issued, Released, answeredIn}
-use Rattle.told.specs.Told.{Setup, Told, isDone}
+use Rattle.told.specs.Told.{Setup, Told}
 use Rattle.told.specs.Issued.{issuedBy}
 use Rattle.told.specs.Claims.{toldBy}
 

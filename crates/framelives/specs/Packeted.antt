@@ -5,6 +5,7 @@ use mathlib.Core.Path.{_≡_}
 use mathlib.Core.Bool.{Bool, true, false}
 use mathlib.Core.List.{List, [], _∷_}
 use Rattle.basis.specs.Pick.{pick}
+use Rattle.answer.specs.Number.{isDone}
 use Rattle.identity.specs.declared.Identity.{Identity}
 use Rattle.link.specs.declared.Role.the-variants.{Secondary}
 use Rattle.link.specs.declared.Phase.the-variants.{Up}
@@ -30,7 +31,6 @@ use Rattle.packet.specs.Packet.{expected, unready, packetTaken, packetRefuses}
 use Rattle.lives.specs.Moves.{onlyOn, Shaped, Moves, Heedful}
 use Rattle.lives.specs.Stock.{Stocks}
 use Rattle.lives.specs.Messages.{isReport, isAlarm, Among, AnsweredOnce}
-use Rattle.lives.specs.Sequence.{isDone}
 use Rattle.packetlives.specs.Answering.{replyActs}
 use Rattle.packetlives.specs.Packets.{whereGood, versionActs, watchdogActs}
 

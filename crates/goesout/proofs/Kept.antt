@@ -5,6 +5,7 @@ use mathlib.Core.Path.{_≡_, refl, ap, subst, subst⁻¹}
 use mathlib.Core.Bool.{false}
 use mathlib.Core.List.{List, _∷_}
 use mathlib.Core.Logic.{_⊎_, inl, inr}
+use Rattle.answer.specs.Number.{isDone}
 use Rattle.entry.specs.declared.Entry.{Entry}
 use Rattle.pool.specs.declared.Place.{Place}
 use Rattle.poollaws.specs.Leaves.{Held}
@@ -16,7 +17,6 @@ use Rattle.link.specs.declared.Phase.the-variants.{Up}
 use Rattle.link.specs.Phase.{phaseOf}
 use Rattle.site.specs.declared.Site.{Site}
 use Rattle.site.specs.Site.{linkAt}
-use Rattle.holding.specs.Touches.{isDone}
 use Rattle.sound.specs.Sound.{Sound}
 use Rattle.calls.specs.Calls.{Call, siteAfter}
 use Rattle.sequences.specs.Typed.{EachTyped}

@@ -9,6 +9,7 @@ use Rattle.answer.specs.declared.Report.{Report}
 use Rattle.answer.specs.declared.Answer.the-variants.{Done}
 use Rattle.identity.specs.declared.Identity.{Identity}
 use Rattle.identity.specs.Read.{SixteenBytes}
+use Rattle.identity.specs.Version.{identityOf}
 use Rattle.awaited.specs.Awaited.{findOf}
 use Rattle.pool.specs.declared.Place.{Place}
 use Rattle.pool.specs.declared.Sought.{Sought}
@@ -30,7 +31,7 @@ use Rattle.site.specs.declared.Site.{Site}
 use Rattle.site.specs.Site.{linkAt}
 use Rattle.site.specs.Call.{Plan}
 use Rattle.sending.specs.Sending.{entryMessage}
-use Rattle.pump.specs.Pump.{identityOf, dueAt}
+use Rattle.pump.specs.Pump.{dueAt}
 use Rattle.pump.specs.Claims.{Ready, Gave}
 use Rattle.pump.proofs.Kept.{kept as pumped}
 use Rattle.lives.specs.Moves.{doesAll}

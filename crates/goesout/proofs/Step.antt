@@ -8,6 +8,7 @@ use mathlib.Core.Logic.{_⊎_, inl, inr}
 use borrow.Author.Tests.{eq-eqb, ne-eqb}
 use Rattle.basis.proofs.Cases.{eq-or-ne}
 use Rattle.answer.specs.declared.Refusal.the-variants.{NoSuchLink}
+use Rattle.identity.specs.Version.{identityOf}
 use Rattle.poollaws.specs.Acts.{Act as PoolAct, acts}
 use Rattle.poollaws.specs.Promises.{Reached}
 use Rattle.poollaws.specs.View.{records}
@@ -16,8 +17,8 @@ use Rattle.link.specs.Acts.Act.{Connect, Close}
 use Rattle.taken.specs.Head.{headAt}
 use Rattle.site.specs.declared.Site.{Site}
 use Rattle.site.specs.Site.{linkAt}
-use Rattle.linkcalls.proofs.Below.{link-below}
-use Rattle.pump.specs.Pump.{identityOf, dueAt}
+use Rattle.site.proofs.Checks.{link-below}
+use Rattle.pump.specs.Pump.{dueAt}
 use Rattle.lives.specs.Moves.{doesAll, onlyOn, Heedful}
 use Rattle.touches.specs.Calls.{closingActs}
 use Rattle.packettouches.specs.Packets.{dueActs}

@@ -11,6 +11,7 @@ use lib.ListN.{length}
 use Rattle.answer.specs.declared.Answer.the-variants.{Done}
 use Rattle.identity.specs.declared.Identity.{Identity}
 use Rattle.identity.specs.Read.{SixteenBytes}
+use Rattle.identity.specs.Version.{identityOf}
 use Rattle.entry.specs.declared.Entry.{Entry}
 use Rattle.awaited.specs.declared.Purpose.the-variants.{Entry as ForEntry}
 use Rattle.awaited.specs.declared.Found.the-variants.{For, Nothing as NotAwaited}
@@ -24,7 +25,6 @@ use Rattle.written.specs.Listing.{bytesOf}
 use Rattle.site.specs.declared.Site.{Site}
 use Rattle.site.specs.Site.{linkAt}
 use Rattle.sending.specs.Sending.{entryMessage}
-use Rattle.pump.specs.Pump.{identityOf}
 use Rattle.pump.specs.Claims.{Passing, Passed, Written}
 use Rattle.calls.specs.Calls.{Call, planOf, stepBy, outBy, siteAfter}
 use Rattle.calls.specs.Calls.Call.{connect, disconnect, packet, alarm, status, aggregated, tick, pump}

@@ -6,6 +6,7 @@ use lib.ListN.{replicate}
 use Rattle.answer.specs.Given.Hint.{none}
 use Rattle.label.specs.declared.Label.{Label}
 use Rattle.label.specs.Label.{noLabel}
+use Rattle.sitetable.specs.declared.SiteTable.{SiteTable}
 use Rattle.link.specs.Steps.{versionAcceptedOf}
 use Rattle.versions.specs.declared.Versions.{Versions}
 use Rattle.versions.specs.declared.Sites.{Sites}
@@ -19,15 +20,18 @@ use Rattle.site.specs.declared.Site.{Site}
 use Rattle.site.specs.Site.{linkAt, withLink}
 use Rattle.answering.specs.Taken.{Taken, closing, acked, byVerdict, rsmpVersion, siteId, sxlVersion}
 
--- what our Version offers: 3.1.5 and 3.2, our site id, our SXL version
+-- what our Version offers: 3.1.5 and 3.2, the table's site id and SXL version
 abbrev pub ownVersions : Versions
 ownVersions = record { count = 2; list = version 3 1 5 ∷ version 3 2 0 ∷ replicate 14 0 }
 
 abbrev pub ownSites : Label → Sites
 ownSites id = record { count = 1; list = id ∷ replicate 15 noLabel }
 
+abbrev pub ownOffer : SiteTable → Offer
+ownOffer table = record { versions = ownVersions; sites = ownSites (table .site); sxl = table .sxl }
+
 abbrev pub own : Site → Offer
-own s = record { versions = ownVersions; sites = ownSites (s .table .site); sxl = s .table .sxl }
+own s = ownOffer (s .table)
 
 -- the link goes on with the version, whose three parts are in one number
 abbrev pub accepted : Site → ℕ → ℕ → Site

@@ -5,6 +5,7 @@ use mathlib.Core.Path.{_≡_, refl, sym, ap, subst, _∙_}
 use mathlib.Core.Bool.{true}
 use mathlib.Core.List.{List, [], _∷_}
 use lib.ListN.{length}
+use Rattle.answer.specs.Number.{isDone}
 use Rattle.poollaws.proofs.Counts.{not-both}
 use Rattle.link.specs.declared.Phase.the-variants.{Down}
 use Rattle.link.specs.Fields.{closedLink}
@@ -22,7 +23,6 @@ use Rattle.start.specs.Starts.Starts.{starts, refuses as not-started}
 use Rattle.lives.specs.Sequence as lives
 use Rattle.calllives.specs.Calls.{actsOf}
 use Rattle.calllives.proofs.Kept.{lived-from-start}
-use Rattle.holding.specs.Touches.{isDone}
 use Rattle.holding.specs.Sequences as any
 use Rattle.touches.specs.Start.{Begun}
 use Rattle.touches.proofs.Start.{begins, from-start}

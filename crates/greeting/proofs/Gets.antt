@@ -9,12 +9,13 @@ use borrow.Author.Tests.{le-ltb}
 use Rattle.basis.specs.Pick.{pick, both}
 use Rattle.answer.specs.Given.Hint.{none}
 use Rattle.identity.specs.declared.Identity.{Identity}
+use Rattle.identity.specs.Version.{identityOf}
 use Rattle.awaited.specs.declared.Awaited.{Awaited}
 use Rattle.awaited.specs.declared.Purpose.{Purpose}
 use Rattle.awaited.specs.declared.Purpose.the-variants.{Version as ForVersion, Watchdog as ForWatchdog}
 use Rattle.awaited.specs.declared.Found.{Found}
 use Rattle.awaited.specs.declared.Found.the-variants.{For}
-use Rattle.awaited.specs.Awaited.{findOf, removeOf}
+use Rattle.awaited.specs.Awaited.{findOf, removeOf, isAwaited}
 use Rattle.link.specs.declared.Link.{Link}
 use Rattle.link.specs.declared.Phase.{Phase}
 use Rattle.link.specs.declared.Phase.the-variants.{Greeting}
@@ -35,11 +36,10 @@ use Rattle.sitetable.specs.declared.SiteTable.{SiteTable}
 use Rattle.site.specs.declared.Site.{Site}
 use Rattle.site.specs.Site.{linkAt, withLink, roleOf, isDown, downAt}
 use Rattle.site.specs.Call.{only}
-use Rattle.answering.specs.Taken.{Taken, isAwaited, notAcked, acked, byVerdict, unexpected, notReady}
+use Rattle.answering.specs.Taken.{Taken, notAcked, acked, byVerdict, unexpected, notReady}
 use Rattle.greet.specs.Answered.{settledFor, settled, answeredPlan}
 use Rattle.greet.specs.Version.{ownVersions, ownSites, own, accepted, versionJudged, versionTaken}
 use Rattle.greet.specs.Watchdog.{hintFrom, beaten, beat}
-use Rattle.pump.specs.Pump.{identityOf}
 use Rattle.packet.specs.Packet.{isGreeting, expected, unready, unawaited, ignoredBy, classTaken, packetTaken}
 use Rattle.calls.specs.Calls.{refuses}
 use Rattle.calls.specs.Calls.Call.{packet}

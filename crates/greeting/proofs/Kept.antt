@@ -5,6 +5,7 @@ use native.Mathlib.Omega.{arith}
 use mathlib.Core.Path.{_≡_, refl, ap, _∙_}
 use mathlib.Core.Bool.{Bool, true, false}
 use mathlib.Core.List.{List, [], _∷_}
+use Rattle.identity.specs.Version.{identityOf}
 use Rattle.awaited.specs.declared.Awaited.{Awaited}
 use Rattle.awaited.specs.declared.Purpose.the-variants.{Version as ForVersion, Watchdog as ForWatchdog}
 use Rattle.awaited.specs.Awaited.{nothingAwaited, addOf, removeOf}
@@ -14,7 +15,6 @@ use Rattle.link.specs.Fields.{closedLink}
 use Rattle.link.specs.Phase.{phaseOf}
 use Rattle.site.specs.declared.Site.{Site}
 use Rattle.site.specs.Site.{linkAt, isDown}
-use Rattle.pump.specs.Pump.{identityOf}
 use Rattle.calls.specs.Calls.{Call, siteAfter}
 use Rattle.calls.specs.Calls.Call.{connect, disconnect}
 use Rattle.greeting.specs.Greeting.{Received, Greeting, Follows, sends, gets, versions, Moment, watchdogs, greeting, latest, Timely, AllDone, BringsUp, GreetsAll}

@@ -9,9 +9,10 @@ use lib.ListN.{length}
 use borrow.Author.Tests.{le-ltb}
 use Rattle.basis.specs.Pick.{pick}
 use Rattle.identity.specs.declared.Identity.{Identity}
+use Rattle.identity.specs.Version.{identityOf}
 use Rattle.awaited.specs.declared.Awaited.{Awaited}
 use Rattle.awaited.specs.declared.Purpose.the-variants.{Version as ForVersion, Watchdog as ForWatchdog}
-use Rattle.awaited.specs.Awaited.{nothingAwaited, addOf, findOf, howManyOf}
+use Rattle.awaited.specs.Awaited.{nothingAwaited, addOf, findOf, howManyOf, isAwaited}
 use Rattle.pool.specs.Pool.{oldestUnsent}
 use Rattle.link.specs.declared.Link.{Link}
 use Rattle.link.specs.declared.Phase.{Phase}
@@ -24,7 +25,7 @@ use Rattle.link.specs.Steps.{connectOf, versionOutOf, watchdogOutOf, crowdedOf}
 use Rattle.link.proofs.Kept.{limits, order}
 use Rattle.site.specs.declared.Site.{Site}
 use Rattle.site.specs.Site.{linkAt, roleOf, isDown, downAt}
-use Rattle.pump.specs.Pump.{identityOf, isHeld, dueAt, isNothing, isAwaited, planFor}
+use Rattle.pump.specs.Pump.{isHeld, dueAt, isNothing, planFor}
 use Rattle.calls.specs.Calls.{refuses}
 use Rattle.calls.specs.Calls.Call.{connect, disconnect, pump}
 use Rattle.greeting.proofs.Awaits.{Empty}

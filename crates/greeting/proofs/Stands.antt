@@ -12,6 +12,7 @@ use Rattle.answer.specs.declared.Refusal.the-variants.{Ignored, NoSuchLink, NoS
 use Rattle.answer.specs.declared.Answer.the-variants.{Done}
 use Rattle.answer.specs.Order.{inOrder, None}
 use Rattle.answer.specs.Order.None.{none, more}
+use Rattle.answer.specs.Number.{isDone}
 use Rattle.entry.specs.declared.Entry.{Entry}
 use Rattle.awaited.specs.declared.Awaited.{Awaited}
 use Rattle.batch.specs.declared.Batch.{Batch}
@@ -21,7 +22,6 @@ use Rattle.link.specs.Fields.{closedLink}
 use Rattle.site.specs.declared.Site.{Site}
 use Rattle.site.specs.Site.{noLinkAt, badTimeAt, linkAt, withIssued}
 use Rattle.site.specs.Call.{Plan, batchOf, reportOf}
-use Rattle.holding.specs.Touches.{isDone}
 use Rattle.numbers.specs.Numbers.{conditions}
 use Rattle.calls.specs.Calls.{Call, timeOf, refuses, planOf, endOf, stepBy}
 use Rattle.calls.proofs.Kept.{kept}

@@ -7,6 +7,7 @@ use mathlib.Core.Bool.{Bool, true, false}
 use mathlib.Core.List.{List, [], _∷_}
 use lib.ListN.{length}
 use Rattle.identity.specs.declared.Identity.{Identity}
+use Rattle.identity.specs.Version.{identityOf}
 use Rattle.link.specs.declared.Phase.the-variants.{Down, Up}
 use Rattle.link.specs.Phase.{phaseOf}
 use Rattle.versions.specs.declared.Judged.the-variants.{Chosen}
@@ -20,7 +21,6 @@ use Rattle.takenlists.specs.Version.{versionAt}
 use Rattle.site.specs.declared.Site.{Site}
 use Rattle.site.specs.Site.{linkAt}
 use Rattle.greet.specs.Version.{own}
-use Rattle.pump.specs.Pump.{identityOf}
 use Rattle.calls.specs.Calls.{Call, timeOf, siteAfter}
 use Rattle.calls.specs.Calls.Call.{connect, disconnect, packet, pump}
 use Rattle.demands.specs.Demand3.{Started, doneAt}

@@ -7,7 +7,9 @@ use mathlib.Core.List.{List, [], _∷_, _++_}
 use Rattle.basis.specs.Pick.{pick}
 use Rattle.basis.proofs.Cases.{bool-cases}
 use Rattle.answer.specs.Given.{linksIn}
+use Rattle.answer.specs.Number.{isDone}
 use Rattle.identity.specs.declared.Identity.{Identity}
+use Rattle.identity.specs.Version.{identityOf}
 use Rattle.awaited.specs.Awaited.{lateOf}
 use Rattle.awaited.proofs.Laws.{nothing-late}
 use Rattle.pool.specs.declared.Sought.{Sought}
@@ -24,15 +26,14 @@ use Rattle.link.proofs.Phases.{phase-cases}
 use Rattle.site.specs.declared.Site.{Site}
 use Rattle.site.specs.Site.{linkAt, isDown, maskOf, withIssued}
 use Rattle.site.specs.Call.{issuing, batchOf, reportOf}
-use Rattle.linkcalls.proofs.Below.{link-below}
+use Rattle.site.proofs.Checks.{link-below}
 use Rattle.outgoing.specs.declared.Carried.{Carried}
 use Rattle.outgoing.specs.declared.Carried.the-variants.{Held, NoRecord}
 use Rattle.outgoing.specs.Outgoing.{carriedAt}
-use Rattle.pump.specs.Pump.{identityOf, dueAt, planFor, entryPlan}
+use Rattle.pump.specs.Pump.{dueAt, planFor, entryPlan}
 use Rattle.tick.specs.Closing.{lateAt}
 use Rattle.tick.specs.Tick.{tickPlan}
 use Rattle.tick.proofs.Kept.{kept as tick-kept}
-use Rattle.lives.specs.Sequence.{isDone}
 use Rattle.lives.specs.Acts.{tickActs}
 use Rattle.lives.proofs.Done.{Passed, passed}
 use Rattle.pumplives.specs.Pumped.{sentAs, recordActs, dueActs}

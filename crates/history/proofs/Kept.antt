@@ -9,6 +9,7 @@ use Rattle.answer.specs.declared.Report.{Report}
 use Rattle.answer.specs.declared.Answer.{Answer}
 use Rattle.answer.specs.declared.Answer.the-variants.{Done, Refused}
 use Rattle.answer.specs.Given.{linksIn}
+use Rattle.answer.specs.Number.{isDone}
 use Rattle.link.specs.declared.Link.{Link}
 use Rattle.written.specs.Message.{Message}
 use Rattle.site.specs.declared.Site.{Site}
@@ -21,9 +22,7 @@ use Rattle.start.specs.Starts.{Starts}
 use Rattle.start.specs.Starts.Starts.{starts, refuses}
 use Rattle.sound.specs.Sound.{Sound}
 use Rattle.formedness.specs.Formedness.{Wrote}
-use Rattle.holding.specs.Touches.{isDone as answersDone}
 use Rattle.lives.specs.Messages.{isReport, Among}
-use Rattle.lives.specs.Sequence.{isDone}
 use Rattle.calls.specs.Calls.{Call, planOf, outputOf, stepBy, outBy, siteAfter}
 use Rattle.calls.specs.Calls.Call.{connect, disconnect, packet, alarm, status, aggregated, tick, pump}
 use Rattle.sequences.specs.Typed.{Typed, EachTyped}
@@ -131,7 +130,7 @@ module _ (table : SiteTable) (links primary period first time : ℕ) where
         closed = λ c l h. closed-in l (eventsBy (siteAfter start cs) c) (linkAt (siteAfter start cs) l) (linkAt (siteAfter start (c ∷ cs)) l) (turned cs c l h);
       }
 
-from : {b : List ℕ} {links primary period first time : ℕ} {r : Step} → Starts b links primary period first time r → answersDone (r .answer) ≡ true
+from : {b : List ℕ} {links primary period first time : ℕ} {r : Step} → Starts b links primary period first time r → isDone (r .answer) ≡ true
     → (cs : List Call) → Claims (r .site) cs
 from {b} {links} {primary} {period} {first} {time} (starts {t = t} a e w) q cs =
     claims (memoryOf t) links (primaryOf primary) period first time

@@ -11,6 +11,7 @@ use Rattle.basis.proofs.Cases.{bool-cases}
 use Rattle.answer.specs.declared.Answer.{Answer}
 use Rattle.answer.specs.declared.Answer.the-variants.{Done, Refused}
 use Rattle.answer.specs.Given.{linksIn}
+use Rattle.answer.specs.Number.{isDone}
 use Rattle.link.specs.declared.Role.the-variants.{Primary, Secondary}
 use Rattle.written.specs.Message.{Message}
 use Rattle.site.specs.declared.Site.{Site}
@@ -19,7 +20,6 @@ use Rattle.sitetable.specs.declared.SiteTable.{SiteTable}
 use Rattle.start.specs.Fresh.{fresh}
 use Rattle.lives.specs.Messages.{isAlarm, Among}
 use Rattle.lives.specs.Messages.Among.{first, later}
-use Rattle.lives.specs.Sequence.{isDone}
 use Rattle.calls.specs.Calls.{Call, planOf, stepBy, siteAfter}
 use Rattle.calls.specs.Calls.Call.{connect, disconnect, packet, alarm, status, aggregated, tick, pump}
 use Rattle.calllives.specs.Calls.{linkOf}

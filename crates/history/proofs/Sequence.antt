@@ -8,6 +8,7 @@ use Rattle.answer.specs.declared.Report.{Report}
 use Rattle.answer.specs.declared.Answer.{Answer}
 use Rattle.answer.specs.declared.Answer.the-variants.{Done, Refused}
 use Rattle.answer.specs.Given.{linksIn}
+use Rattle.answer.specs.Number.{isDone}
 use Rattle.link.specs.declared.Link.{Link}
 use Rattle.link.specs.Fields.{closedLink}
 use Rattle.link.specs.Acts.{Act, after}
@@ -17,7 +18,7 @@ use Rattle.site.specs.Site.{linkAt}
 use Rattle.sitetable.specs.declared.SiteTable.{SiteTable}
 use Rattle.start.specs.Fresh.{fresh}
 use Rattle.lives.specs.Moves.{doesAll, Shaped}
-use Rattle.lives.specs.Sequence.{isDone, siteAfter as livesAfter, lifeOf}
+use Rattle.lives.specs.Sequence.{siteAfter as livesAfter, lifeOf}
 use Rattle.lives.proofs.Born.{born}
 use Rattle.calls.specs.Calls.{Call, timeOf, refuses, planOf, endOf, stepBy, siteAfter}
 use Rattle.calls.proofs.Kept.{kept as calls-kept}

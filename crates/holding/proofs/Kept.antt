@@ -11,6 +11,7 @@ use Rattle.basis.proofs.Cases.{bool-cases}
 use Rattle.answer.specs.declared.Refusal.the-variants.{NoSuchLink, PoolFull}
 use Rattle.answer.specs.declared.Answer.{Answer}
 use Rattle.answer.specs.declared.Answer.the-variants.{Done, Refused}
+use Rattle.answer.specs.Number.{isDone}
 use Rattle.entry.specs.declared.Entry.{Entry}
 use Rattle.pool.specs.Pool.{heldOf, lostOf}
 use Rattle.poollaws.specs.Acts.Act.{Settle}
@@ -23,7 +24,7 @@ use Rattle.poollaws.proofs.Kept.{kept as promised}
 use Rattle.site.specs.declared.Site.{Site}
 use Rattle.site.specs.Site.{withIssued}
 use Rattle.site.specs.Call.{batchOf, answerOf, reportOf, stepped}
-use Rattle.holding.specs.Touches.{Configured, isDone, Issues, Superseded, Known, issuedFor, settled, Does}
+use Rattle.holding.specs.Touches.{Configured, Issues, Superseded, Known, issuedFor, settled, Does}
 use Rattle.holding.specs.Sequences.{Calls, Touching, stepBy, doneAt, after, Issued, now, before, Released, settles, supersedes, earlier, issuedIn, settledIn, Promises, Kept, Same}
 use Rattle.holding.proofs.Passed.{done-passed, full-passed, stepped-answer, stepped-same}
 use Rattle.holding.proofs.One.{one, done-every}

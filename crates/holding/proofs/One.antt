@@ -15,6 +15,7 @@ use Rattle.answer.specs.declared.Refusal.{Refusal}
 use Rattle.answer.specs.declared.Refusal.the-variants.{PoolFull}
 use Rattle.answer.specs.declared.Answer.{Answer}
 use Rattle.answer.specs.declared.Answer.the-variants.{Done, Refused}
+use Rattle.answer.specs.Number.{isDone}
 use Rattle.entry.specs.declared.Entry.{Entry}
 use Rattle.pool.specs.declared.Pool.{Pool}
 use Rattle.pool.specs.Pool.{heldOf, lostOf}
@@ -31,7 +32,7 @@ use Rattle.batch.proofs.Kept.{kept as batches}
 use Rattle.site.specs.declared.Site.{Site}
 use Rattle.site.specs.Site.{withIssued}
 use Rattle.site.specs.Call.{Plan, batchOf, answerOf, reportOf, stepped}
-use Rattle.holding.specs.Touches.{Configured, Touches, isDone, Issues, Superseded, Genuine, Known, issuedFor, settled, Does, EveryOne}
+use Rattle.holding.specs.Touches.{Configured, Touches, Issues, Superseded, Genuine, Known, issuedFor, settled, Does, EveryOne}
 use Rattle.holding.proofs.Lists.{Safe, quiet-reached, quiet-held, quiet-counts, issues-held, issues-new, issues-counts}
 use Rattle.holding.proofs.Genuine.{quiet-every, issues-all, quiet-genuine, issues-keep, issues-genuine}
 use Rattle.holding.proofs.Passed.{done-passed, full-passed, full-crowded, stepped-answer}

@@ -23,14 +23,13 @@ use Rattle.answer.specs.declared.Refusal.the-variants.{
 use Rattle.answer.specs.declared.Report.{Report}
 use Rattle.answer.specs.declared.Answer.{Answer}
 use Rattle.answer.specs.declared.Answer.the-variants.{Done, Refused}
-use Rattle.answer.specs.Number.{refusalNumber}
+use Rattle.answer.specs.Number.{refusalNumber, isDone}
 use Rattle.answer.specs.Order.{inOrder, judged, None, more, First, here, later}
 use Rattle.answer.proofs.Checks.{done-none, refused-first}
 use Rattle.poollaws.proofs.Counts.{not-both}
 use Rattle.batch.specs.declared.Batch.{Batch}
 use Rattle.site.specs.declared.Site.{Site}
 use Rattle.site.specs.Call.{issuing, stepped}
-use Rattle.holding.specs.Touches.{isDone}
 
 none-at : (applies : Refusal → Bool) (a : List Refusal) (x : Refusal) (b : List Refusal) → None applies (a ++ x ∷ b) → applies x ≡ false
 none-at applies [] x b (more e n) = e

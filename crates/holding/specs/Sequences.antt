@@ -10,6 +10,7 @@ use Rattle.basis.specs.Pick.{pick}
 use Rattle.answer.specs.declared.Refusal.{Refusal}
 use Rattle.answer.specs.declared.Refusal.the-variants.{NoSuchLink, PoolFull}
 use Rattle.answer.specs.declared.Answer.the-variants.{Refused}
+use Rattle.answer.specs.Number.{isDone}
 use Rattle.entry.specs.declared.Entry.{Entry}
 use Rattle.pool.specs.Pool.{heldOf, lostOf}
 use Rattle.poollaws.specs.Acts.{Act}
@@ -21,7 +22,7 @@ use Rattle.poollaws.specs.Contents.{Every}
 use Rattle.site.specs.declared.Site.{Site}
 use Rattle.site.specs.declared.Step.{Step}
 use Rattle.site.specs.Call.{Plan, stepOf}
-use Rattle.holding.specs.Touches.{Configured, Touches, isDone, Issues, Superseded, Genuine, issuedFor, settled}
+use Rattle.holding.specs.Touches.{Configured, Touches, Issues, Superseded, Genuine, issuedFor, settled}
 
 -- the calls that may be made: what refuses each, what it lays down, and by which acts its plan touches the records
 pub record Calls : Type 1 where

@@ -2,7 +2,7 @@
 -- Assumes nothing.
 use Prim.Native.Nat.{ℕ, _+_, _≤_, _<_}
 use mathlib.Core.Path.{_≡_}
-use mathlib.Core.Bool.{Bool, true, false}
+use mathlib.Core.Bool.{Bool, true}
 use mathlib.Core.List.{List, [], _∷_}
 use mathlib.Core.Logic.{_⊎_}
 use lib.Dec.{eqb}
@@ -11,8 +11,8 @@ use Rattle.basis.specs.Pick.{pick}
 use Rattle.basis.specs.Lists.{count}
 use Rattle.answer.specs.declared.Refusal.{Refusal}
 use Rattle.answer.specs.declared.Refusal.the-variants.{PoolFull}
-use Rattle.answer.specs.declared.Answer.{Answer}
-use Rattle.answer.specs.declared.Answer.the-variants.{Done, Refused}
+use Rattle.answer.specs.declared.Answer.the-variants.{Refused}
+use Rattle.answer.specs.Number.{isDone}
 use Rattle.entry.specs.declared.Entry.{Entry}
 use Rattle.pool.specs.declared.Pool.{Pool}
 use Rattle.pool.specs.declared.Wanted.the-variants.{Numbered}
@@ -50,10 +50,6 @@ pub record Touches (s : Site) (p : Plan) (xs : List Act) : Type 0 where
   pub owned : Owned 4 (p .issued)
   pub links : p .site .linkcount ≡ s .linkcount
   pub primary : p .site .primary ≡ s .primary
-
-abbrev pub isDone : Answer → Bool
-isDone (Done r) = true
-isDone (Refused x) = false
 
 -- the record e is one of those that the plan issues, under its number
 abbrev pub Issues : Site → Plan → Entry → Type 0

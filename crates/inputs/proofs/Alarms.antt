@@ -19,7 +19,8 @@ use Rattle.alarm.specs.Issued.{issuedOf as alarmRecord}
 use Rattle.site.specs.declared.Site.{Site}
 use Rattle.site.specs.Parts.{alarmAt}
 use Rattle.site.specs.Call.{only}
-use Rattle.inputs.specs.Inputs.{hasPrimary, alarmPlan}
+use Rattle.site.specs.Site.{hasPrimary}
+use Rattle.inputs.specs.Inputs.{alarmPlan}
 use Rattle.inputs.specs.Claims.{Every}
 use Rattle.inputs.proofs.Lists.{set-same, every-if}
 

@@ -1,23 +1,21 @@
 -- The three inputs keep what is promised of them.
 -- Assumes nothing.
-use Prim.Native.Nat.{ℕ, _≤_, _<_}
+use Prim.Native.Nat.{ℕ, _<_}
 use mathlib.Core.Path.{_≡_, refl, sym, ap, _∙_}
-use mathlib.Core.Bool.{Bool, true, false, true≢false}
 use mathlib.Core.List.{List, []}
 use native.Mathlib.Omega.{arith}
 use lib.Dec.{ltb}
-use borrow.Author.Tests.{ltb-false}
 use Rattle.basis.specs.Pick.{pick}
 use Rattle.entry.specs.declared.Entry.{Entry}
-use Rattle.entry.specs.Valid.{Valid, lastTime}
+use Rattle.entry.specs.Valid.{Valid}
 use Rattle.number.specs.Signed.{wordOf}
 use Rattle.number.proofs.RoundTrip.{word-lt}
 use Rattle.status.specs.Status.{holding}
 use Rattle.status.proofs.Records.{issued-valid as status-record-valid}
 use Rattle.aggregated.proofs.Records.{issued-valid as aggregated-record-valid}
 use Rattle.site.specs.declared.Site.{Site}
-use Rattle.site.specs.Site.{badTimeAt}
 use Rattle.site.specs.Call.{Plan, only}
+use Rattle.site.proofs.Checks.{in-range}
 use Rattle.inputs.specs.Inputs.{planned, alarmPlan, statusPlan, aggregatedPlan}
 use Rattle.inputs.specs.Claims.{idle, Claims}
 use Rattle.inputs.proofs.Ends.{on-time, item-on-time}
@@ -29,14 +27,6 @@ use Rattle.inputs.proofs.Aggregates.{each-aggregated, own-aggregated, a
 -- a plan that lays down nothing
 idles : (s : Site) (time : ℕ) (p : Plan) → p ≡ only s → planned s time p ≡ idle s time
 idles s time p h = ap (planned s time) h
-
--- a time that is not refused has a date
-in-range : (s : Site) (time : ℕ) → badTimeAt s time ≡ false → time ≤ lastTime
-in-range s time h = by (ltb time (s .last)) h
-  where
-    by : (t : Bool) → pick t true (ltb 253402300799999 time) ≡ false → time ≤ lastTime
-    by true g = absurd (true≢false g)
-    by false g = ltb-false 253402300799999 time g
 
 pub kept : Claims
 kept =

@@ -3,7 +3,7 @@
 use Prim.Native.Nat.{ℕ, _+_, _*_}
 use mathlib.Core.Bool.{Bool}
 use mathlib.Core.List.{List}
-use lib.Dec.{leb, ltb}
+use lib.Dec.{leb}
 use lib.IntN.{ℤ}
 use Rattle.basis.specs.Pick.{both}
 use Rattle.answer.specs.declared.Refusal.{Refusal}
@@ -23,7 +23,7 @@ use Rattle.aggregated.specs.Issued.{issuedOf as aggregatedRecord}
 use Rattle.upwards.specs.Upwards.{entriesTo, entryIf}
 use Rattle.site.specs.declared.Site.{Site}
 use Rattle.site.specs.declared.Step.{Step}
-use Rattle.site.specs.Site.{badTimeAt, withAggregated}
+use Rattle.site.specs.Site.{badTimeAt, withAggregated, hasPrimary}
 use Rattle.site.specs.Parts.{alarmAt, withAlarm, statusAt, withStatus, subscriptionAt}
 use Rattle.site.specs.Call.{Plan, issues, batchOf, never, when, reportOf, concluded, stepOf}
 
@@ -34,9 +34,6 @@ itemRefuses s count k time = when NoSuchItem (leb count k) (when BadTime (badTim
 -- what a call that writes nothing does, where none of its own conditions applies
 abbrev pub planned : Site → ℕ → Plan → Step
 planned s time p = concluded s (p .site) (batchOf p) time (reportOf p 0)
-
-abbrev pub hasPrimary : Site → Bool
-hasPrimary s = ltb (s .primary) (s .linkcount)
 
 -- an event's record, where it makes one: alarm records are issued for the primary alone
 abbrev pub alarmEntries : Site → ℕ → Changed → List Entry

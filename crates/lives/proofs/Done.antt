@@ -13,9 +13,9 @@ use Rattle.answer.specs.declared.Answer.{Answer}
 use Rattle.answer.specs.declared.Answer.the-variants.{Done, Refused}
 use Rattle.answer.specs.Order.{inOrder, judged, None}
 use Rattle.answer.specs.Order.None.{none, more}
+use Rattle.answer.specs.Number.{isDone}
 use Rattle.site.specs.declared.Site.{Site}
 use Rattle.site.specs.Call.{stepped}
-use Rattle.lives.specs.Sequence.{isDone}
 
 no : {P : Type 0} → false ≡ true → P
 no q = absurd (let z : _≡_ {A = ℕ} 0 1 = cc in omega arith)

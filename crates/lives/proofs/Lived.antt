@@ -8,6 +8,7 @@ use Rattle.basis.specs.Pick.{pick}
 use Rattle.answer.specs.declared.Refusal.{Refusal}
 use Rattle.answer.specs.declared.Answer.{Answer}
 use Rattle.answer.specs.declared.Answer.the-variants.{Done, Refused}
+use Rattle.answer.specs.Number.{isDone}
 use Rattle.link.specs.declared.Link.{Link}
 use Rattle.link.specs.declared.Phase.the-variants.{Up}
 use Rattle.link.specs.Fields.{closedLink}
@@ -23,7 +24,7 @@ use Rattle.site.specs.Site.{linkAt, withIssued}
 use Rattle.site.specs.Call.{Plan, batchOf, stepped, answerOf}
 use Rattle.lives.specs.Moves.{doesAll, Shaped, Moves, Heedful}
 use Rattle.lives.specs.Moves.Heedful.{none, more}
-use Rattle.lives.specs.Sequence.{isDone, upon, Unborn, stepBy, doneBy, siteAfter, actsBy, lifeOf, Living, Lived, LivedAll}
+use Rattle.lives.specs.Sequence.{upon, Unborn, stepBy, doneBy, siteAfter, actsBy, lifeOf, Living, Lived, LivedAll}
 
 after-upon : (xs h : List Act) → after (upon xs h) ≡ doesAll (after h) xs
 unfolding after

@@ -9,6 +9,7 @@ use Rattle.basis.specs.Pick.{pick}
 use Rattle.answer.specs.declared.Refusal.{Refusal}
 use Rattle.answer.specs.declared.Answer.{Answer}
 use Rattle.answer.specs.declared.Answer.the-variants.{Done, Refused}
+use Rattle.answer.specs.Number.{isDone}
 use Rattle.pool.specs.declared.Pool.{Pool}
 use Rattle.link.specs.declared.Role.{Role}
 use Rattle.link.specs.declared.Role.the-variants.{Primary, Secondary}
@@ -18,7 +19,7 @@ use Rattle.site.specs.Site.{withIssued}
 use Rattle.site.specs.Call.{Plan, batchOf, stepped, answerOf}
 use Rattle.lives.specs.Stock.{Stocked, Stocks}
 use Rattle.lives.specs.Stock.Stocked.{empty}
-use Rattle.lives.specs.Sequence.{isDone, Unborn, siteAfter, Living, Lived, Issuing, SpokenAll}
+use Rattle.lives.specs.Sequence.{Unborn, siteAfter, Living, Lived, Issuing, SpokenAll}
 use Rattle.lives.proofs.Stocked.{stocked-plan}
 use Rattle.lives.proofs.Lived.{lived}
 

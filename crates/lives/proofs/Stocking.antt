@@ -10,9 +10,9 @@ use Rattle.status.specs.Issued.{issuedOf as statusRecord}
 use Rattle.aggregated.specs.Issued.{issuedOf as aggregatedRecord}
 use Rattle.subscription.specs.Subscription.{issuesOn, tickOf}
 use Rattle.site.specs.declared.Site.{Site}
-use Rattle.site.specs.Site.{closeAt}
+use Rattle.site.specs.Site.{closeAt, hasPrimary}
 use Rattle.site.specs.Parts.{statusAt, subscriptionAt}
-use Rattle.inputs.specs.Inputs.{hasPrimary, alarmChange, statusEntry, statusChange, aggregatedEntry, aggregatedChange}
+use Rattle.inputs.specs.Inputs.{alarmChange, statusEntry, statusChange, aggregatedEntry, aggregatedChange}
 use Rattle.tick.specs.Closing.{lateAt, closeLate, closedTo}
 use Rattle.tick.specs.Intervals.{recordAt, recordsOf}
 use Rattle.tick.specs.Tick.{siteAfter}

@@ -6,8 +6,7 @@ use mathlib.Core.Bool.{Bool, true, false}
 use mathlib.Core.List.{List, [], _∷_}
 use Rattle.basis.specs.Pick.{pick}
 use Rattle.answer.specs.declared.Refusal.{Refusal}
-use Rattle.answer.specs.declared.Answer.{Answer}
-use Rattle.answer.specs.declared.Answer.the-variants.{Done, Refused}
+use Rattle.answer.specs.Number.{isDone}
 use Rattle.pool.specs.Pool.{emptyOf}
 use Rattle.link.specs.declared.Role.the-variants.{Secondary}
 use Rattle.link.specs.declared.Phase.the-variants.{Up}
@@ -24,10 +23,6 @@ use Rattle.site.specs.Call.{Plan, stepOf}
 use Rattle.lives.specs.Moves.{Shaped, Moves, Heedful}
 use Rattle.lives.specs.Stock.{Stocked, Stocks}
 use Rattle.lives.specs.Messages.{isReport, isAlarm, Among}
-
-abbrev pub isDone : Answer → Bool
-isDone (Done r) = true
-isDone (Refused x) = false
 
 -- acts, the first first, upon a history, the latest first
 abbrev pub upon : List Act → List Act → List Act

@@ -19,9 +19,9 @@ use Rattle.site.specs.Site.{roleOf}
 use Rattle.answering.specs.Taken.{acked, replied, byVerdict, unlessBusy}
 use Rattle.answering.specs.Ending.{Acks}
 use Rattle.answering.proofs.Ends.{acks, unreplied}
-use Rattle.orders.specs.Takes.{Takes}
+use Rattle.answering.specs.Takes.{Takes}
 use Rattle.orders.specs.Orders.{requestBy, requestTaken, orderedOf, foundTaken, alarmTaken, aggregatedOf, aggregatedTaken}
-use Rattle.orders.proofs.Laws.{like}
+use Rattle.answering.proofs.Choices.{like}
 
 module _ (s : Site) (l time : ℕ) (id : Identity) (received : List ℕ) {xs ys : List ℕ} {r : Step} where
   pub from-primary : (k : ℕ)

@@ -18,10 +18,11 @@ use Rattle.site.specs.declared.Site.{Site}
 use Rattle.site.specs.declared.Step.{Step}
 use Rattle.site.specs.Parts.{alarmAt, withAlarm}
 use Rattle.site.specs.Call.{never, Gives}
+use Rattle.site.specs.Site.{hasPrimary}
 use Rattle.answering.specs.Ending.{Acks}
 use Rattle.answering.proofs.Ends.{acks, with-batch, unreplied}
-use Rattle.orders.specs.Takes.{Takes}
-use Rattle.orders.specs.Orders.{hasPrimary, recordsOf, changedTo, changeTaken}
+use Rattle.answering.specs.Takes.{Takes}
+use Rattle.orders.specs.Orders.{recordsOf, changedTo, changeTaken}
 
 module _ (s : Site) (k : ℕ) (c : Changed) where
   recorded : (h : Bool) → h ≡ both (c .records) (hasPrimary s) → (x : Bool) → h ≡ x

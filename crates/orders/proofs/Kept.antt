@@ -27,10 +27,10 @@ use Rattle.sought.specs.declared.SoughtAlarm.the-variants.{Alarm, NoComponent, 
 use Rattle.sought.specs.Sought.{alarmSought}
 use Rattle.sending.specs.Sending.{alarmMessage}
 use Rattle.site.specs.declared.Site.{Site}
-use Rattle.site.specs.Site.{roleOf, linkAt}
+use Rattle.site.specs.Site.{roleOf, linkAt, hasPrimary}
 use Rattle.site.specs.Parts.{alarmAt}
 use Rattle.answering.specs.Taken.{Taken, notAcked, replied, byVerdict, missingElement, badValue, unknownComponent, unknownAlarm, busy}
-use Rattle.orders.specs.Orders.{hasPrimary, recordsOf, changeTaken, requestBy, requestTaken, ordered, orderedOf, foundTaken, alarmTaken}
+use Rattle.orders.specs.Orders.{recordsOf, changeTaken, requestBy, requestTaken, ordered, orderedOf, foundTaken, alarmTaken}
 use Rattle.orders.specs.Claims.{AnAnswer, Claims}
 use Rattle.orders.specs.Claims.AnAnswer.{acknowledged, not-acknowledged}
 

@@ -1,4 +1,3 @@
-pub mod Laws
 pub mod Changes
 pub mod Asked
 pub mod Kept

@@ -1,3 +1,2 @@
-pub mod Takes
 pub mod Orders
 pub mod Claims

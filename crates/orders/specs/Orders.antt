@@ -3,7 +3,7 @@
 use Prim.Native.Nat.{ℕ}
 use mathlib.Core.Bool.{Bool, false}
 use mathlib.Core.List.{List, [], _∷_}
-use lib.Dec.{eqb, ltb}
+use lib.Dec.{eqb}
 use Rattle.basis.specs.Pick.{pick, both}
 use Rattle.answer.specs.Given.Hint.{none}
 use Rattle.identity.specs.declared.Identity.{Identity}
@@ -26,13 +26,9 @@ use Rattle.sought.specs.declared.SoughtAlarm.the-variants.{Alarm, NoComponent, 
 use Rattle.sought.specs.Sought.{componentSought, alarmSought}
 use Rattle.sending.specs.Sending.{alarmMessage, aggregatedMessage}
 use Rattle.site.specs.declared.Site.{Site}
-use Rattle.site.specs.Site.{roleOf}
+use Rattle.site.specs.Site.{roleOf, hasPrimary}
 use Rattle.site.specs.Parts.{alarmAt, withAlarm}
 use Rattle.answering.specs.Taken.{Taken, notAcked, acked, replied, byVerdict, unlessBusy, unknownComponent, unknownAlarm}
-
--- "Without a primary no alarm record is issued"
-abbrev pub hasPrimary : Site → Bool
-hasPrimary s = ltb (s .primary) (s .linkcount)
 
 -- "alarm records are issued for the primary alone"
 abbrev pub recordsOf : Site → ℕ → Changed → List Entry

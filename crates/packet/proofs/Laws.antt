@@ -17,7 +17,7 @@ use Rattle.site.specs.Site.{linkAt}
 use Rattle.site.specs.Call.{Plan, never, when, refused, stepOf, outAfter, Gives}
 use Rattle.answering.specs.Taken.{Taken, takenRefuses}
 use Rattle.greet.specs.Answered.{answeredPlan}
-use Rattle.orders.specs.Takes.{Takes}
+use Rattle.answering.specs.Takes.{Takes}
 
 -- no message leaves the output as it was
 untouched : (xs : List ℕ) (a : Answer) → xs ≡ outAfter xs [] a

@@ -9,7 +9,7 @@ use Rattle.basis.specs.Pick.{pick, both}
 use Rattle.answer.specs.declared.Refusal.{Refusal}
 use Rattle.answer.specs.declared.Refusal.the-variants.{NoSuchLink, ShortOutput, LongPacket, BadTime, WrongPhase, Ignored}
 use Rattle.identity.specs.declared.Identity.{Identity}
-use Rattle.awaited.specs.Awaited.{findOf}
+use Rattle.awaited.specs.Awaited.{findOf, isAwaited}
 use Rattle.link.specs.declared.Link.{Link}
 use Rattle.link.specs.declared.Phase.{Phase}
 use Rattle.link.specs.declared.Phase.the-variants.{Down, Greeting, Beating, Up}
@@ -28,7 +28,7 @@ use Rattle.takenlists.specs.Status.{statusAt}
 use Rattle.site.specs.declared.Site.{Site}
 use Rattle.site.specs.Site.{noLinkAt, badTimeAt, downAt, linkAt}
 use Rattle.site.specs.Call.{Plan, only, when}
-use Rattle.answering.specs.Taken.{Taken, isAwaited, takenRefuses, notAcked, byVerdict, unexpected, notReady}
+use Rattle.answering.specs.Taken.{Taken, takenRefuses, notAcked, byVerdict, unexpected, notReady}
 use Rattle.greet.specs.Answered.{answeredPlan}
 use Rattle.greet.specs.Version.{versionTaken}
 use Rattle.greet.specs.Watchdog.{watchdogTaken}

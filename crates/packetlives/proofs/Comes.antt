@@ -15,7 +15,7 @@ use Rattle.pool.specs.declared.Pool.{Pool}
 use Rattle.awaited.specs.declared.Found.{Found}
 use Rattle.awaited.specs.declared.Found.the-variants.{For, Nothing}
 use Rattle.awaited.specs.declared.Purpose.the-variants.{Other}
-use Rattle.awaited.specs.Awaited.{findOf, howManyOf}
+use Rattle.awaited.specs.Awaited.{findOf, howManyOf, isAwaited}
 use Rattle.link.specs.declared.Link.{Link}
 use Rattle.link.specs.declared.Role.the-variants.{Secondary}
 use Rattle.link.specs.Steps.{messageOutOf, fullOf}
@@ -28,7 +28,7 @@ use Rattle.taken.specs.declared.Verdict.{Verdict}
 use Rattle.taken.specs.declared.Verdict.the-variants.{Good, Missing, Bad}
 use Rattle.site.specs.declared.Site.{Site}
 use Rattle.site.specs.Site.{linkAt, roleOf}
-use Rattle.answering.specs.Taken.{Taken, isAwaited, takenRefuses, notAcked, acked, replied, byVerdict, unlessBusy, missingElement, badValue, busy}
+use Rattle.answering.specs.Taken.{Taken, takenRefuses, notAcked, acked, replied, byVerdict, unlessBusy, missingElement, badValue, busy}
 use Rattle.lives.specs.Moves.{onlyOn, Shaped, Moves, Heedful}
 use Rattle.lives.specs.Moves.Heedful.{none}
 use Rattle.lives.specs.Stock.{AlarmsFor, Stocked, Stocks}

@@ -30,12 +30,12 @@ use Rattle.sought.specs.declared.SoughtAlarm.the-variants.{Alarm, NoComponent, 
 use Rattle.sought.specs.Sought.{componentSought, alarmSought}
 use Rattle.sending.specs.Sending.{alarmMessage, aggregatedMessage}
 use Rattle.site.specs.declared.Site.{Site}
-use Rattle.site.specs.Site.{roleOf}
+use Rattle.site.specs.Site.{roleOf, hasPrimary}
 use Rattle.site.specs.Parts.{alarmAt, withAlarm}
 use Rattle.answering.specs.Taken.{Taken, notAcked, replied, unlessBusy, unknownComponent, unknownAlarm, unknownStatus}
 use Rattle.greet.specs.Version.{own, versionJudged}
 use Rattle.greet.specs.Watchdog.{beat}
-use Rattle.orders.specs.Orders.{hasPrimary, recordsOf, changeTaken, isZero, requestBy, requestTaken, ordered, orderedOf, foundTaken, alarmTaken, aggregatedOf, aggregatedTaken}
+use Rattle.orders.specs.Orders.{recordsOf, changeTaken, isZero, requestBy, requestTaken, ordered, orderedOf, foundTaken, alarmTaken, aggregatedOf, aggregatedTaken}
 use Rattle.statusreply.specs.StatusReply.{response, passes, statusTaken}
 use Rattle.lives.specs.Stock.{AlarmsFor}
 use Rattle.packetlives.specs.Packets.{AllPackets}

@@ -49,7 +49,7 @@ use Rattle.sought.specs.declared.SoughtAlarm.{SoughtAlarm}
 use Rattle.sought.specs.declared.SoughtAlarm.the-variants.{Alarm, NoComponent, NoAlarm}
 use Rattle.sought.specs.Sought.{componentSought, alarmSought, statusSought, entryAt, allStatuses}
 use Rattle.site.specs.declared.Site.{Site}
-use Rattle.site.specs.Site.{linkAt, roleOf, withLink, closeAt, maskOf}
+use Rattle.site.specs.Site.{linkAt, roleOf, withLink, closeAt, maskOf, hasPrimary}
 use Rattle.site.specs.Parts.{alarmAt, withSubscription}
 use Rattle.site.specs.Call.{Plan}
 use Rattle.holding.specs.Touches.{Configured, Touches}
@@ -65,7 +65,7 @@ use Rattle.greet.specs.Version.{own, versionJudged}
 use Rattle.greet.specs.Watchdog.{beat}
 use Rattle.subscribing.specs.Subscribing.{wanted, replacedAt, replaced, records, changed, judged, asked, subscribingTaken}
 use Rattle.subscribing.proofs.Kept.{kept as subscribes}
-use Rattle.orders.specs.Orders.{hasPrimary, changedTo, changeTaken, isZero, requestBy, requestTaken, ordered, orderedOf, foundTaken, alarmTaken, aggregatedOf, aggregatedTaken}
+use Rattle.orders.specs.Orders.{changedTo, changeTaken, isZero, requestBy, requestTaken, ordered, orderedOf, foundTaken, alarmTaken, aggregatedOf, aggregatedTaken}
 use Rattle.statusreply.specs.StatusReply.{passes, requestedOf, statusTaken}
 use Rattle.packettouches.specs.Packets.{carriedActs, entryActs, dueActs, foundActs, judgedActs, verdictActs, Touched}
 

@@ -9,7 +9,7 @@ use lib.Dec.{ltb, leb}
 use lib.ListN.{length}
 use borrow.Author.Tests.{ltb-true}
 use Rattle.basis.specs.Pick.{pick}
-use Rattle.basis.proofs.Cases.{bool-cases, picked}
+use Rattle.basis.proofs.Cases.{picked}
 use Rattle.answer.specs.declared.Refusal.{Refusal}
 use Rattle.answer.specs.declared.Refusal.the-variants.{NoSuchLink, ShortOutput, BadTime, WrongPhase, NothingDue, ManyAwaited, IdentityAwaited, SequenceSpent, PoolFull}
 use Rattle.answer.specs.declared.Report.{Report}
@@ -39,9 +39,10 @@ use Rattle.site.specs.declared.Site.{Site}
 use Rattle.site.specs.declared.Step.{Step}
 use Rattle.site.specs.Site.{noLinkAt, badTimeAt, linkAt, downAt, withIssued}
 use Rattle.site.specs.Call.{Plan, only, batchOf, never, when, issuing, reportOf, stepped, refused, answerOf, stepOf, concluded, nothingOf, writtenTo, outAfter, Gives}
-use Rattle.awaited.specs.Awaited.{findOf}
+use Rattle.site.proofs.Checks.{link-below}
+use Rattle.awaited.specs.Awaited.{findOf, isAwaited}
 use Rattle.link.specs.Steps.{crowdedOf}
-use Rattle.pump.specs.Pump.{dueAt, isNothing, isAwaited, pumpRefuses, sends, entryPlan, planFor, pumpPlan, verdictOf, finished, Sends, Below}
+use Rattle.pump.specs.Pump.{dueAt, isNothing, pumpRefuses, sends, entryPlan, planFor, pumpPlan, verdictOf, finished, Sends, Below}
 
 abbrev doneNumber : Answer → ℕ
 doneNumber (Done r) = 0
@@ -52,12 +53,6 @@ not-done e = let z : _≡_ {A = ℕ} 1 0 = ap doneNumber e in absurd (omega arit
 
 not-refused : {P : Type 0} {x : Refusal} {r : Report} → Done r ≡ Refused x → P
 not-refused e = not-done (sym e)
-
--- a configured link is one of four
-pub link-below : (s : Site) (l : ℕ) → noLinkAt s l ≡ false → l < 4
-link-below s l e =
-    bool-cases (ltb l 4) (λ t. ltb-true l 4 t)
-    (λ f. let z : true ≡ false = rw f at e in let y : _≡_ {A = ℕ} 0 1 = cc in absurd (omega arith))
 
 unless : (b : Bool) (x : Refusal) (a : Answer) {r : Report} → pick b (Refused x) a ≡ Done r → b ≡ false
 unless true x a e = not-done e

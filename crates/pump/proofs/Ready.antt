@@ -14,7 +14,7 @@ use Rattle.answer.specs.Order.{inOrder, judged}
 use Rattle.identity.specs.declared.Identity.{Identity}
 use Rattle.awaited.specs.declared.Found.{Found}
 use Rattle.awaited.specs.declared.Found.the-variants.{For, Nothing as NotAwaited}
-use Rattle.awaited.specs.Awaited.{findOf, howManyOf}
+use Rattle.awaited.specs.Awaited.{findOf, howManyOf, isAwaited}
 use Rattle.batch.specs.declared.Batch.{Batch}
 use Rattle.link.specs.declared.Link.{Link}
 use Rattle.link.specs.declared.Phase.{Phase}
@@ -26,9 +26,10 @@ use Rattle.link.specs.Steps.{crowdedOf}
 use Rattle.site.specs.declared.Site.{Site}
 use Rattle.site.specs.Site.{noLinkAt, badTimeAt, linkAt, isDown, downAt}
 use Rattle.site.specs.Call.{issuing, nothingOf}
-use Rattle.pump.specs.Pump.{dueAt, isNothing, isAwaited, pumpRefuses, verdictOf}
+use Rattle.site.proofs.Checks.{link-below}
+use Rattle.pump.specs.Pump.{dueAt, isNothing, pumpRefuses, verdictOf}
 use Rattle.pump.specs.Claims.{Ready}
-use Rattle.pump.proofs.Laws.{link-below, seven, first, not-done}
+use Rattle.pump.proofs.Laws.{seven, first, not-done}
 
 never : {P : Type 0} → true ≡ false → P
 never e = let y : _≡_ {A = ℕ} 0 1 = cc in absurd (omega arith)

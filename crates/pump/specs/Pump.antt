@@ -14,10 +14,7 @@ use Rattle.answer.specs.Order.{inOrder, judged}
 use Rattle.answer.specs.Given.Hint.{none}
 use Rattle.label.specs.Label.{textOf}
 use Rattle.identity.specs.declared.Identity.{Identity}
-use Rattle.identity.specs.Version.{version4Of}
-use Rattle.awaited.specs.declared.Found.{Found}
-use Rattle.awaited.specs.declared.Found.the-variants.{For, Nothing as NotAwaited}
-use Rattle.awaited.specs.Awaited.{findOf}
+use Rattle.awaited.specs.Awaited.{findOf, isAwaited}
 use Rattle.pool.specs.declared.Sought.{Sought}
 use Rattle.pool.specs.declared.Sought.the-variants.{Found as FoundEntry, Nothing as NoEntry}
 use Rattle.pool.specs.Pool.{oldestUnsent}
@@ -34,10 +31,6 @@ use Rattle.site.specs.Site.{noLinkAt, badTimeAt, roleOf, linkAt, downAt, withIs
 use Rattle.site.specs.Call.{Plan, only, never, when, reportOf, writtenTo, nothingOf}
 use Rattle.sending.specs.Sending.{alarmMessage, aggregatedMessage, entryMessage}
 use Rattle.outgoing.specs.Outgoing.{versionSent, watchdogSent, aggregatedSent, alarmSent, entrySent}
-
--- sixteen random bytes as an identity of version 4
-abbrev pub identityOf : Identity → Identity
-identityOf random = record { bytes = version4Of (random .bytes) }
 
 abbrev pub isHeld : Sought → Bool
 isHeld (FoundEntry x) = true
@@ -64,10 +57,6 @@ isNothing Watchdog = false
 isNothing Aggregated = false
 isNothing (Alarm k) = false
 isNothing Entry = false
-
-abbrev pub isAwaited : Found → Bool
-isAwaited (For p) = true
-isAwaited NotAwaited = false
 
 -- room is the length of the output
 abbrev pub pumpRefuses : Site → ℕ → ℕ → Identity → ℕ → Refusal → Bool

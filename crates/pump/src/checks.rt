@@ -2,7 +2,9 @@
 ghost use mathlib.Core.Path.{_≡_};
 ghost use Rattle.basis.specs.Pick.{pick};
 ghost use Rattle.answer.specs.declared.Answer.the-variants.{Refused as refusedFor};
-ghost use Rattle.pump.specs.Pump.{identityOf, isHeld, dueAt, Below, isNothing, isAwaited, laterOf, laterVerdict, verdictOf};
+ghost use Rattle.identity.specs.Version.{identityOf};
+ghost use Rattle.awaited.specs.Awaited.{isAwaited};
+ghost use Rattle.pump.specs.Pump.{isHeld, dueAt, Below, isNothing, laterOf, laterVerdict, verdictOf};
 use answer::Answer;
 use answer::Refusal;
 use awaited::Found;

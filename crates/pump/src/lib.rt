@@ -1,8 +1,9 @@
 // The call pump: sends the next due message of a link, one at most.
 ghost use mathlib.Core.Path.{_≡_};
 ghost use lib.ListN.{length};
+ghost use Rattle.identity.specs.Version.{identityOf};
 ghost use Rattle.site.specs.Call.{Gives};
-ghost use Rattle.pump.specs.Pump.{identityOf, pumpRefuses, pumpPlan};
+ghost use Rattle.pump.specs.Pump.{pumpRefuses, pumpPlan};
 use answer::Answer;
 use identity::Identity;
 use site::Site;

@@ -9,6 +9,7 @@ use lib.Dec.{eqb, ltb, leb}
 use borrow.Author.Tests.{le-ltb, eqb-true, eqb-false}
 use Rattle.basis.specs.Pick.{pick}
 use Rattle.basis.proofs.Cases.{bool-cases}
+use Rattle.answer.specs.Number.{isDone}
 use Rattle.identity.specs.declared.Identity.{Identity}
 use Rattle.entry.specs.declared.Entry.{Entry as Record}
 use Rattle.pool.specs.declared.Sought.{Sought}
@@ -32,7 +33,6 @@ use Rattle.pump.specs.Pump.{isHeld, dueAt, pumpRefuses, planFor, entryPlan, pum
 use Rattle.lives.specs.Stock.{Stocked}
 use Rattle.lives.specs.Moves.{Heedful}
 use Rattle.lives.specs.Messages.{isReport, isAlarm, isAnswer, Among, NoAnswer}
-use Rattle.lives.specs.Sequence.{isDone}
 use Rattle.lives.proofs.Done.{Passed, passed}
 use Rattle.lives.proofs.Heeded.{heeds-one}
 use Rattle.lives.proofs.Messages.{among-none, among-one}

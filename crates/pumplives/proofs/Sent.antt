@@ -9,7 +9,7 @@ use borrow.Author.Tests.{leb-false}
 use Rattle.identity.specs.declared.Identity.{Identity}
 use Rattle.awaited.specs.declared.Found.{Found}
 use Rattle.awaited.specs.declared.Found.the-variants.{For, Nothing as NotAwaited}
-use Rattle.awaited.specs.Awaited.{findOf, howManyOf}
+use Rattle.awaited.specs.Awaited.{findOf, howManyOf, isAwaited}
 use Rattle.pool.specs.declared.Sought.{Sought}
 use Rattle.pool.specs.declared.Sought.the-variants.{Found as FoundEntry, Nothing as NoEntry}
 use Rattle.pool.specs.Pool.{oldestUnsent}
@@ -28,7 +28,7 @@ use Rattle.sending.specs.Sending.{alarmMessage}
 use Rattle.outgoing.specs.declared.Carried.{Carried}
 use Rattle.outgoing.specs.declared.Carried.the-variants.{Held, NoRecord}
 use Rattle.outgoing.specs.Outgoing.{carriedAt, messageOut, alarmSentWith}
-use Rattle.pump.specs.Pump.{isAwaited, sends, versionPlan, watchdogPlan, aggregatedPlan, entryPlan, planFor}
+use Rattle.pump.specs.Pump.{sends, versionPlan, watchdogPlan, aggregatedPlan, entryPlan, planFor}
 use Rattle.lives.specs.Moves.{onlyOn, Shaped, Moves, Heedful}
 use Rattle.lives.specs.Moves.Heedful.{none}
 use Rattle.lives.specs.Stock.{Stocked, Stocks}

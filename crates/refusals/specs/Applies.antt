@@ -21,6 +21,7 @@ use Rattle.answer.specs.declared.Refusal.the-variants.{
   LongPacket,
 }
 use Rattle.identity.specs.declared.Identity.{Identity}
+use Rattle.identity.specs.Version.{identityOf}
 use Rattle.awaited.specs.declared.Purpose.{Purpose}
 use Rattle.awaited.specs.declared.Found.the-variants.{For, Nothing as NotAwaited}
 use Rattle.awaited.specs.Awaited.{findOf, howManyOf}
@@ -35,7 +36,7 @@ use Rattle.taken.specs.declared.Class.the-variants.{Ignored as NoClass, Acked, 
 use Rattle.taken.specs.Head.{headAt}
 use Rattle.site.specs.declared.Site.{Site}
 use Rattle.site.specs.Site.{linkAt}
-use Rattle.pump.specs.Pump.{identityOf, dueAt}
+use Rattle.pump.specs.Pump.{dueAt}
 use Rattle.packet.specs.Packet.{packetTaken}
 use Rattle.calls.specs.Calls.{Call, timeOf, planOf}
 use Rattle.calls.specs.Calls.Call.{connect, disconnect, packet, alarm, status, aggregated, tick, pump}

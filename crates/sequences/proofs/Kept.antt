@@ -9,12 +9,12 @@ use lib.ListN.{length}
 use Rattle.answer.specs.declared.Refusal.{Refusal}
 use Rattle.answer.specs.declared.Report.{Report}
 use Rattle.answer.specs.declared.Answer.the-variants.{Done}
+use Rattle.identity.specs.Version.{identityOf}
 use Rattle.site.specs.declared.Site.{Site}
 use Rattle.site.specs.Call.{Plan, reportOf, stepOf, writtenTo, outAfter}
 use Rattle.written.specs.Message.{Message}
 use Rattle.numbers.proofs.Given.{numbers}
 use Rattle.numbers.proofs.Stepped.{steps}
-use Rattle.pump.specs.Pump.{identityOf}
 use Rattle.sound.specs.Sound.{Sound}
 use Rattle.sound.proofs.Started.{started}
 use Rattle.soundcalls.proofs.Kept.{kept as each}

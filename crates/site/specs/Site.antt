@@ -70,6 +70,10 @@ noLinkAt s l = pick (ltb l 4) (leb (s .linkcount) l) true
 abbrev pub badTimeAt : Site → ℕ → Bool
 badTimeAt s time = pick (ltb time (s .last)) true (ltb 253402300799999 time)
 
+-- "Without a primary no alarm record is issued"
+abbrev pub hasPrimary : Site → Bool
+hasPrimary s = ltb (s .primary) (s .linkcount)
+
 abbrev pub roleOf : Site → ℕ → Role
 roleOf s l = pick (eqb l (s .primary)) Primary Secondary
 

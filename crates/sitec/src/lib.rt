@@ -1,10 +1,11 @@
 // What C and Rust call: the site by value, one function a call, each the call's own definition with its number.
 ghost use mathlib.Core.Path.{_≡_};
+ghost use Rattle.identity.specs.Version.{identityOf};
 ghost use Rattle.linkcalls.specs.Connect.{connectStep, disconnectStep};
 ghost use Rattle.inputs.specs.Inputs.{alarmStep, statusStep, aggregatedStep};
 ghost use Rattle.tick.specs.Tick.{tickStep};
 ghost use lib.ListN.{length};
-ghost use Rattle.pump.specs.Pump.{identityOf, pumpRefuses, pumpPlan};
+ghost use Rattle.pump.specs.Pump.{pumpRefuses, pumpPlan};
 ghost use Rattle.packet.specs.Packet.{packetRefuses, packetTaken};
 ghost use Rattle.siteread.specs.Readings.{heldAt, lostAt, phaseAt, versionAt, recordAt};
 ghost use lib.Dec.{ltb};

@@ -25,10 +25,10 @@ use Rattle.alarm.specs.Issued.{issuedOf as alarmRecord}
 use Rattle.link.specs.Steps.{connectOf}
 use Rattle.subscription.specs.Subscription.{issuesOn}
 use Rattle.site.specs.declared.Site.{Site}
-use Rattle.site.specs.Site.{linkAt}
+use Rattle.site.specs.Site.{linkAt, hasPrimary}
 use Rattle.site.specs.Parts.{alarmAt, subscriptionAt}
 use Rattle.linkcalls.specs.Connect.{connectPlan, disconnectPlan}
-use Rattle.inputs.specs.Inputs.{hasPrimary, alarmChange, alarmPlan, statusChange, statusEntry, statusPlan, aggregatedChange, aggregatedEntry, aggregatedPlan}
+use Rattle.inputs.specs.Inputs.{alarmChange, alarmPlan, statusChange, statusEntry, statusPlan, aggregatedChange, aggregatedEntry, aggregatedPlan}
 use Rattle.sound.specs.Sound.{SoundAggregated, SoundEntry, EntryOf, SoundAt}
 use Rattle.sound.specs.Claims.{SoundPlan}
 use Rattle.sound.proofs.Entries.{each-if, each-to}

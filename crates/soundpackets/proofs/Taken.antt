@@ -40,14 +40,14 @@ use Rattle.sought.specs.declared.SoughtAlarm.the-variants.{Alarm, NoComponent, 
 use Rattle.sought.specs.Sought.{componentSought, alarmSought}
 use Rattle.sending.specs.Sending.{alarmMessage, aggregatedMessage}
 use Rattle.site.specs.declared.Site.{Site}
-use Rattle.site.specs.Site.{roleOf, linkAt, withLink, closeAt, maskOf}
+use Rattle.site.specs.Site.{roleOf, linkAt, withLink, closeAt, maskOf, hasPrimary}
 use Rattle.site.specs.Parts.{alarmAt}
 use Rattle.site.specs.Call.{Plan, only}
 use Rattle.answering.specs.Taken.{Taken, notAcked, closing, acked, replied, byVerdict, unlessBusy, unknownComponent, unknownAlarm, unknownStatus, busy}
 use Rattle.greet.specs.Answered.{settledFor, settled, answeredPlan}
 use Rattle.greet.specs.Version.{own, versionJudged, versionTaken}
 use Rattle.greet.specs.Watchdog.{beat, watchdogTaken}
-use Rattle.orders.specs.Orders.{hasPrimary, changeTaken, isZero, requestBy, requestTaken, ordered, orderedOf, foundTaken, alarmTaken, aggregatedOf, aggregatedTaken}
+use Rattle.orders.specs.Orders.{changeTaken, isZero, requestBy, requestTaken, ordered, orderedOf, foundTaken, alarmTaken, aggregatedOf, aggregatedTaken}
 use Rattle.statusreply.specs.StatusReply.{passes, response, requestedOf, statusTaken}
 use Rattle.sound.specs.Sound.{EntryOf, SoundAt}
 use Rattle.sound.specs.Claims.{SoundPlan}

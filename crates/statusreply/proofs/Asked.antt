@@ -9,7 +9,7 @@ use Rattle.sought.specs.Sought.{componentSought}
 use Rattle.site.specs.declared.Site.{Site}
 use Rattle.site.specs.declared.Step.{Step}
 use Rattle.answering.specs.Taken.{byVerdict}
-use Rattle.orders.specs.Takes.{Takes}
+use Rattle.answering.specs.Takes.{Takes}
 use Rattle.statusreply.specs.StatusReply.{requestedOf, statusTaken}
 
 pub status-judged : (s : Site) (l time : ℕ) (id : Identity) (received : List ℕ) (f : StatusFields) {xs ys : List ℕ} {r : Step}

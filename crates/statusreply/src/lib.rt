@@ -7,7 +7,7 @@ ghost use Rattle.written.specs.Pieces.{pieces, entryPieces, entriesPieces};
 ghost use Rattle.takenlists.specs.Status.{statusAt};
 ghost use Rattle.sought.specs.Sought.{componentSought, statusSought, entryAt, allStatuses};
 ghost use Rattle.answering.specs.Taken.{replied, unlessBusy};
-ghost use Rattle.orders.specs.Takes.{Takes};
+ghost use Rattle.answering.specs.Takes.{Takes};
 ghost use Rattle.statusreply.specs.StatusReply.{valueOf, valueIn, toldOf, toldTo, response, passes as passesOf, requestedOf, statusTaken};
 use answer::Refusal;
 use identity::Identity;

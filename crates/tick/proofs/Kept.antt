@@ -2,16 +2,15 @@
 -- Assumes nothing.
 use Prim.Native.Nat.{ℕ, _+_, _*_, _/_, _%_, _^_, _≤_, _<_}
 use mathlib.Core.Path.{_≡_, refl, sym, ap, _∙_}
-use mathlib.Core.Bool.{Bool, true, false, true≢false}
+use mathlib.Core.Bool.{Bool, true, false}
 use mathlib.Core.Logic.{_⊎_, inl, inr}
 use mathlib.Core.List.{List, [], _∷_, map}
 use native.Mathlib.Omega.{arith}
-use lib.Dec.{eqb, ltb}
-use borrow.Author.Tests.{ltb-false}
+use lib.Dec.{eqb}
 use lib.ListN.{length, List·getD-map}
 use Rattle.basis.specs.Pick.{pick, bit}
 use Rattle.basis.proofs.Cases.{lt-or-ge}
-use Rattle.entry.specs.Valid.{Valid, lastTime}
+use Rattle.entry.specs.Valid.{Valid}
 use Rattle.awaited.specs.Lists.{some}
 use Rattle.awaited.specs.Promises.{Act, Fresh, after, waiting, longAgo}
 use Rattle.awaited.proofs.Kept.{kept as awaits}
@@ -35,6 +34,7 @@ use Rattle.upwards.proofs.Entries.{owned-to, owned-if}
 use Rattle.site.specs.declared.Site.{Site}
 use Rattle.site.specs.Site.{badTimeAt, linkAt, maskOf}
 use Rattle.site.specs.Parts.{statusAt, subscriptionAt}
+use Rattle.site.proofs.Checks.{in-range}
 use Rattle.tick.specs.Closing.{lateAt, lateMask, closedTo}
 use Rattle.tick.specs.Intervals.{renewed, recordAt, recordsOf}
 use Rattle.tick.specs.Tick.{siteAfter, tickPlan}
@@ -54,13 +54,6 @@ held-unmarked p l m = v .held (unmarkOf p l) m ∙ ap length (v .unmark p l m) �
     by : (b : Bool) → length (pick b (map unsent (records p m)) (records p m)) ≡ length (records p m)
     by true = length-map unsent (records p m)
     by false = refl
-
-in-range : (s : Site) (time : ℕ) → badTimeAt s time ≡ false → time ≤ lastTime
-in-range s time h = by (ltb time (s .last)) h
-  where
-    by : (t : Bool) → pick t true (ltb 253402300799999 time) ≡ false → time ≤ lastTime
-    by true g = absurd (true≢false g)
-    by false g = ltb-false 253402300799999 time g
 
 module _ (s : Site) (time : ℕ) where
   closes : (l : ℕ) → l < 4 → lateAt s l time ≡ true → linkAt (siteAfter s time) l ≡ closedLink

@@ -5,6 +5,7 @@ use Prim.Native.Nat.{ℕ, _+_, _*_, _≤_, _<_}
 use mathlib.Core.Path.{_≡_}
 use mathlib.Core.Bool.{Bool, true, false}
 use mathlib.Core.List.{List, [], _∷_}
+use Rattle.answer.specs.Number.{isDone}
 use Rattle.link.specs.declared.Phase.{Phase}
 use Rattle.link.specs.declared.Phase.the-variants.{Down, Greeting, Beating, Up}
 use Rattle.link.specs.Phase.{phaseOf}
@@ -15,7 +16,7 @@ use Rattle.site.specs.Parts.{alarmAt, statusAt, subscriptionAt}
 use Rattle.start.specs.Fresh.{fresh}
 use Rattle.lives.specs.Moves.{Shaped}
 use Rattle.calls.specs.Calls.{Call, planOf, stepBy, siteAfter}
-use Rattle.told.specs.Told.{Setup, Told, isDone}
+use Rattle.told.specs.Told.{Setup, Told}
 use Rattle.told.specs.Life.{isUp, lifeOf}
 use Rattle.told.specs.Items.{alarmAfter, statusAfter, aggregatedAfter, subscriptionAfter}
 use Rattle.told.specs.Issued.{recordsBy, nextNumber, issuedBy}

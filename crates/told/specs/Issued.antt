@@ -5,6 +5,7 @@ use mathlib.Core.Bool.{Bool, true}
 use mathlib.Core.List.{List, [], _∷_, _++_}
 use lib.ListN.{length}
 use Rattle.basis.specs.Pick.{pick, both}
+use Rattle.answer.specs.Number.{isDone}
 use Rattle.entry.specs.declared.Entry.{Entry}
 use Rattle.number.specs.Signed.{wordOf}
 use Rattle.alarm.specs.declared.Changed.{Changed}
@@ -27,7 +28,7 @@ use Rattle.sought.specs.declared.Sought.the-variants.{Is, Nothing}
 use Rattle.sought.specs.Sought.{statusSought, entryAt}
 use Rattle.calls.specs.Calls.{Call}
 use Rattle.calls.specs.Calls.Call.{connect, disconnect, packet, alarm, status, aggregated, tick, pump}
-use Rattle.told.specs.Told.{Setup, Told, isDone, hasPrimary}
+use Rattle.told.specs.Told.{Setup, Told, hasPrimary}
 use Rattle.told.specs.Items.{isSubscribing, takenOn, alarmBy, alarmAfter, statusAfter, aggregatedAfter, passing, componentOf, subscriptionAfter}
 
 -- after the calls h, what the call c makes of alarm k

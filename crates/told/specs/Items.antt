@@ -6,6 +6,7 @@ use mathlib.Core.Bool.{Bool, true, false}
 use mathlib.Core.List.{List, [], _∷_}
 use lib.Dec.{eqb}
 use Rattle.basis.specs.Pick.{pick, both}
+use Rattle.answer.specs.Number.{isDone}
 use Rattle.number.specs.Signed.{wordOf}
 use Rattle.alarm.specs.declared.Alarm.{Alarm}
 use Rattle.alarm.specs.declared.Changed.{Changed}
@@ -38,7 +39,7 @@ use Rattle.sought.specs.declared.SoughtAlarm.the-variants.{Alarm as TheAlarm, N
 use Rattle.sought.specs.Sought.{componentSought, alarmSought, statusSought, entryAt, allStatuses}
 use Rattle.calls.specs.Calls.{Call}
 use Rattle.calls.specs.Calls.Call.{connect, disconnect, packet, alarm, status, aggregated, tick, pump}
-use Rattle.told.specs.Told.{Setup, Told, isDone, isGood}
+use Rattle.told.specs.Told.{Setup, Told, isGood}
 use Rattle.told.specs.Life.{lifeOf, isUp}
 
 -- ---- what a packet asks for, by the meaning of its bytes: orders and subscriptions are for Up

@@ -5,9 +5,10 @@ use mathlib.Core.Bool.{Bool, true, false}
 use mathlib.Core.List.{List, [], _∷_}
 use lib.Dec.{eqb}
 use Rattle.basis.specs.Pick.{pick, both}
+use Rattle.answer.specs.Number.{isDone}
 use Rattle.identity.specs.declared.Identity.{Identity}
+use Rattle.identity.specs.Version.{identityOf}
 use Rattle.awaited.specs.Slot.{sameIdentity}
-use Rattle.versions.specs.declared.Offer.{Offer}
 use Rattle.versions.specs.declared.Judged.{Judged}
 use Rattle.versions.specs.declared.Judged.the-variants.{Chosen, RsmpVersion, SiteId, SxlVersion}
 use Rattle.versions.specs.Judge.{judge}
@@ -20,12 +21,10 @@ use Rattle.taken.specs.Head.{headAt}
 use Rattle.taken.specs.Small.{watchdogAt}
 use Rattle.takenlists.specs.declared.VersionFields.{VersionFields}
 use Rattle.takenlists.specs.Version.{versionAt}
-use Rattle.sitetable.specs.declared.SiteTable.{SiteTable}
-use Rattle.greet.specs.Version.{ownVersions, ownSites}
-use Rattle.pump.specs.Pump.{identityOf}
+use Rattle.greet.specs.Version.{ownOffer}
 use Rattle.calls.specs.Calls.{Call}
 use Rattle.calls.specs.Calls.Call.{connect, disconnect, packet, alarm, status, aggregated, tick, pump}
-use Rattle.told.specs.Told.{Setup, Told, isDone, closes, isGood}
+use Rattle.told.specs.Told.{Setup, Told, closes, isGood}
 
 -- a message of ours: not sent yet, sent under this identity, or acknowledged
 pub data Ours : Type 0 where
@@ -95,9 +94,6 @@ answered id k =
       watchdog = ackedBy id (k .watchdog);
       theirWatchdog = k .theirWatchdog;
     }
-
-abbrev pub ownOffer : SiteTable → Offer
-ownOffer t = record { versions = ownVersions; sites = ownSites (t .site); sxl = t .sxl }
 
 abbrev pub isChosen : Judged → Bool
 isChosen (Chosen v) = true

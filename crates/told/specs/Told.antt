@@ -22,10 +22,6 @@ pub record Told : Type 0 where
   pub call : Call
   pub answer : Answer
 
-abbrev pub isDone : Answer → Bool
-isDone (Done r) = true
-isDone (Refused x) = false
-
 -- the links that the report of a done call says it closed: link 0 is bit 0
 abbrev pub closes : Answer → ℕ → Bool
 closes (Done r) l = eqb (r .closed / 2 ^ l % 2) 1

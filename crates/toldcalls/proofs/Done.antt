@@ -10,13 +10,13 @@ use Rattle.answer.specs.declared.Answer.{Answer}
 use Rattle.answer.specs.declared.Answer.the-variants.{Done, Refused}
 use Rattle.answer.specs.Order.{inOrder, None}
 use Rattle.answer.specs.Order.None.{none, more}
+use Rattle.answer.specs.Number.{isDone}
 use Rattle.site.specs.declared.Site.{Site}
 use Rattle.site.specs.Site.{withIssued}
 use Rattle.site.specs.Call.{batchOf}
 use Rattle.calls.specs.Calls.{Call, timeOf, planOf, stepBy}
 use Rattle.calls.specs.Claims.{conditionsOf}
 use Rattle.calls.proofs.Kept.{kept}
-use Rattle.told.specs.Told.{isDone}
 
 no : {P : Type 0} → false ≡ true → P
 no q = absurd (let z : _≡_ {A = ℕ} 0 1 = cc in omega arith)

@@ -12,6 +12,7 @@ use borrow.Author.Tests.{eq-eqb, ne-eqb}
 use Rattle.basis.specs.Pick.{pick}
 use Rattle.basis.proofs.Cases.{eq-or-ne}
 use Rattle.answer.specs.declared.Answer.{Answer}
+use Rattle.answer.specs.Number.{isDone}
 use Rattle.alarm.specs.declared.Alarm.{Alarm}
 use Rattle.status.specs.declared.Status.{Status}
 use Rattle.aggregated.specs.declared.Aggregated.{Aggregated}
@@ -21,7 +22,7 @@ use Rattle.site.specs.declared.Site.{Site}
 use Rattle.site.specs.Site.{withIssued}
 use Rattle.site.specs.Parts.{alarmAt, statusAt, subscriptionAt}
 use Rattle.calls.specs.Calls.{Call}
-use Rattle.told.specs.Told.{Setup, Told, isDone}
+use Rattle.told.specs.Told.{Setup, Told}
 use Rattle.told.specs.Items.{alarmBy, alarmAfter, statusBy, statusAfter, aggregatedBy, aggregatedAfter, subscriptionBy, subscriptionAfter}
 use Rattle.told.specs.Claims.{SameItems}
 

@@ -8,6 +8,7 @@ use native.Mathlib.Omega.{arith}
 use lib.ListN.{length, getD-replicate}
 use Rattle.basis.specs.Pick.{pick}
 use Rattle.basis.proofs.Cases.{bool-cases}
+use Rattle.answer.specs.Number.{isDone}
 use Rattle.entry.specs.declared.Entry.{Entry}
 use Rattle.alarm.specs.Alarm.{beginning}
 use Rattle.status.specs.Status.{unknown}
@@ -20,7 +21,7 @@ use Rattle.lives.specs.Moves.{Shaped}
 use Rattle.calllives.proofs.Kept.{lived-from-start}
 use Rattle.calls.specs.Calls.{Call, timeOf, planOf, stepBy, siteAfter}
 use Rattle.calls.specs.Calls.Call.{connect, disconnect, packet, alarm, status, aggregated, tick, pump}
-use Rattle.told.specs.Told.{Setup, Told, isDone}
+use Rattle.told.specs.Told.{Setup, Told}
 use Rattle.told.specs.Issued.{recordsBy, nextNumber}
 use Rattle.told.specs.Claims.{Fits, toldBy, SameItems, Steps, StepsAll, started, Agrees}
 use Rattle.toldlife.proofs.Kept.{same-up}

@@ -11,6 +11,7 @@ use borrow.Author.Tests.{ltb-false, lt-ltb}
 use Rattle.basis.specs.Pick.{pick, both}
 use Rattle.answer.specs.declared.Refusal.the-variants.{NoSuchLink}
 use Rattle.identity.specs.declared.Identity.{Identity}
+use Rattle.identity.specs.Version.{identityOf}
 use Rattle.entry.specs.declared.Entry.{Entry}
 use Rattle.pool.specs.declared.Pool.{Pool}
 use Rattle.batch.specs.Batch.{issuedAll}
@@ -40,8 +41,7 @@ use Rattle.site.specs.Site.{linkAt, roleOf}
 use Rattle.answering.specs.Taken.{Taken, notAcked, byVerdict, unexpected, notReady}
 use Rattle.orders.specs.Orders.{changeTaken, requestBy, requestTaken, ordered, orderedOf, foundTaken, alarmTaken}
 use Rattle.packet.specs.Packet.{expected, unready, kindTaken, expectedTaken, classTaken}
-use Rattle.pump.specs.Pump.{identityOf}
-use Rattle.linkcalls.proofs.Below.{link-below}
+use Rattle.site.proofs.Checks.{link-below}
 use Rattle.touches.proofs.Touched.{touched as standing}
 use Rattle.packettouches.proofs.Packets.{touched}
 use Rattle.calls.specs.Calls.{Call, refuses, planOf}

@@ -4,6 +4,7 @@ use Prim.Native.Nat.{ℕ, _+_, _*_, _<_}
 use mathlib.Core.Path.{_≡_, refl, ap₂, _∙_}
 use mathlib.Core.List.{List, []}
 use Rattle.identity.specs.declared.Identity.{Identity}
+use Rattle.identity.specs.Version.{identityOf}
 use Rattle.status.specs.declared.Status.{Status}
 use Rattle.status.specs.Issued.{issuedOf}
 use Rattle.subscription.specs.declared.Subscription.{Subscription}
@@ -23,7 +24,7 @@ use Rattle.site.specs.declared.Site.{Site}
 use Rattle.site.specs.Site.{withPool, withLinks}
 use Rattle.site.specs.Parts.{alarmAt, statusAt}
 use Rattle.linkcalls.specs.Connect.{connectPlan, disconnectPlan}
-use Rattle.pump.specs.Pump.{identityOf, dueAt, entryPlan, planFor, pumpPlan}
+use Rattle.pump.specs.Pump.{dueAt, entryPlan, planFor, pumpPlan}
 use Rattle.tick.specs.Intervals.{recordAt, recordsOf}
 use Rattle.tick.specs.Tick.{siteAfter, tickPlan}
 use Rattle.tick.proofs.Closed.{stays}

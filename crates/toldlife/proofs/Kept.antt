@@ -7,6 +7,7 @@ use Rattle.basis.specs.Pick.{pick}
 use Rattle.answer.specs.declared.Answer.{Answer}
 use Rattle.answer.specs.declared.Answer.the-variants.{Done, Refused}
 use Rattle.answer.specs.declared.Report.{Report}
+use Rattle.answer.specs.Number.{isDone}
 use Rattle.awaited.proofs.Laws.{Sound}
 use Rattle.awaited.proofs.After.{sound}
 use Rattle.link.specs.declared.Link.{Link}
@@ -17,13 +18,13 @@ use Rattle.site.specs.Site.{linkAt, withIssued}
 use Rattle.site.specs.Call.{batchOf, stepped, answerOf}
 use Rattle.start.specs.Fresh.{fresh}
 use Rattle.lives.specs.Moves.{Shaped}
-use Rattle.lives.specs.Sequence.{Lived, isDone as isDoneBy, siteAfter as sitesAfter, lifeOf as actsAfter}
+use Rattle.lives.specs.Sequence.{Lived, siteAfter as sitesAfter, lifeOf as actsAfter}
 use Rattle.lives.proofs.Born.{born}
 use Rattle.calls.specs.Calls.{Call, timeOf, refuses, planOf, endOf, stepBy, siteAfter}
 use Rattle.calls.proofs.Kept.{kept as calls-kept}
 use Rattle.calllives.specs.Calls.{actsOf}
 use Rattle.calllives.proofs.Kept.{lived-from-start}
-use Rattle.told.specs.Told.{Setup, isDone, closes}
+use Rattle.told.specs.Told.{Setup, closes}
 use Rattle.told.specs.Life.{Life, down, livesOn, lifeOf}
 use Rattle.told.specs.Claims.{toldBy, started, SameUpAll}
 use Rattle.toldlife.specs.Agree.{Agree, AgreeAll}
@@ -57,7 +58,7 @@ module _ (g : Setup) (s : Site) (table : s .table ≡ g .table) (sh : Shaped s) 
       by (Done r) e =
           subst (λ (d : Report). Agree (linkAt (planOf s c .site) l) (pick (hasBit (d .closed) l) down (livesOn g c l v)))
           (sym (calls-kept .numbered s c .numbers .done-only-so r e .1))
-          (call-agrees g s table l h o v a sh c (ap (λ (x : Answer). isDoneBy (stepped s (nextOf s c) x .answer)) e))
+          (call-agrees g s table l h o v a sh c (ap (λ (x : Answer). isDone (stepped s (nextOf s c) x .answer)) e))
       by (Refused q) e = a
 
 -- ---- every sequence

@@ -29,7 +29,7 @@ use Rattle.site.specs.declared.Site.{Site}
 use Rattle.site.specs.Site.{linkAt}
 use Rattle.sitetable.specs.declared.SiteTable.{SiteTable}
 use Rattle.answering.specs.Taken.{Taken}
-use Rattle.greet.specs.Version.{own}
+use Rattle.greet.specs.Version.{own, ownOffer}
 use Rattle.orders.specs.Orders.{alarmTaken, aggregatedTaken}
 use Rattle.statusreply.specs.StatusReply.{statusTaken}
 use Rattle.packet.specs.Packet.{expected, unready}
@@ -38,7 +38,7 @@ use Rattle.packetlives.specs.Answering.{replyActs}
 use Rattle.packetlives.specs.Packets.{whereGood, judgedActs, versionActs}
 use Rattle.framelives.specs.Packeted.{kindActs, askedActs, classActs}
 use Rattle.told.specs.Told.{Setup, isGood}
-use Rattle.told.specs.Life.{Life, down, isSent, isAcknowledged, ownOffer, isChosen, kindGot, classGot}
+use Rattle.told.specs.Life.{Life, down, isSent, isAcknowledged, isChosen, kindGot, classGot}
 use Rattle.toldlife.specs.Agree.{Agree}
 use Rattle.toldlife.specs.Shut.{shutsBy}
 use Rattle.toldlife.proofs.Choices.{clash, left, right, both-true, both-false, judged-new, judged-old, unjudged}

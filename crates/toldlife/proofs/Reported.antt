@@ -10,7 +10,9 @@ use borrow.Author.Tests.{eq-eqb, ne-eqb}
 use Rattle.basis.specs.Pick.{pick}
 use Rattle.basis.proofs.Cases.{eq-or-ne}
 use Rattle.answer.specs.Given.Hint.{none}
+use Rattle.answer.specs.Number.{isDone}
 use Rattle.identity.specs.declared.Identity.{Identity}
+use Rattle.identity.specs.Version.{identityOf}
 use Rattle.awaited.specs.Awaited.{findOf}
 use Rattle.pool.specs.declared.Sought.{Sought}
 use Rattle.pool.specs.declared.Sought.the-variants.{Found as FoundEntry, Nothing as NoEntry}
@@ -41,7 +43,7 @@ use Rattle.answering.specs.Taken.{Taken, byVerdict, notAcked, unexpected, notRe
 use Rattle.greet.specs.Answered.{settled, answeredPlan}
 use Rattle.greet.specs.Version.{own, versionJudged}
 use Rattle.greet.specs.Watchdog.{beat}
-use Rattle.linkcalls.proofs.Below.{link-below}
+use Rattle.site.proofs.Checks.{link-below}
 use Rattle.orders.specs.Orders.{alarmTaken, aggregatedTaken}
 use Rattle.statusreply.specs.StatusReply.{statusTaken}
 use Rattle.outgoing.specs.declared.Carried.{Carried}
@@ -49,10 +51,9 @@ use Rattle.outgoing.specs.declared.Carried.the-variants.{Held, NoRecord}
 use Rattle.outgoing.specs.Outgoing.{carriedAt}
 use Rattle.tick.specs.Closing.{lateAt}
 use Rattle.tick.proofs.Kept.{kept as tick-kept}
-use Rattle.pump.specs.Pump.{identityOf, dueAt, planFor, entryPlan}
+use Rattle.pump.specs.Pump.{dueAt, planFor, entryPlan}
 use Rattle.packet.specs.Packet.{expected, unready, kindTaken, askedTaken, classTaken}
 use Rattle.lives.specs.Moves.{onlyOn}
-use Rattle.lives.specs.Sequence.{isDone}
 use Rattle.lives.proofs.Done.{Passed, passed}
 use Rattle.pumplives.specs.Pumped.{sentAs, recordActs, dueActs}
 use Rattle.packetlives.specs.Answering.{replyActs}

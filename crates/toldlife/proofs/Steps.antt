@@ -9,8 +9,10 @@ use lib.Dec.{eqb}
 use borrow.Author.Tests.{eq-eqb, ne-eqb}
 use Rattle.basis.specs.Pick.{pick}
 use Rattle.basis.proofs.Cases.{eq-or-ne}
+use Rattle.answer.specs.Number.{isDone}
 use Rattle.identity.specs.declared.Identity.{Identity}
-use Rattle.awaited.specs.Awaited.{findOf}
+use Rattle.identity.specs.Version.{identityOf}
+use Rattle.awaited.specs.Awaited.{findOf, isAwaited}
 use Rattle.awaited.proofs.Laws.{Sound}
 use Rattle.pool.specs.Pool.{oldestUnsent}
 use Rattle.link.specs.declared.Link.{Link}
@@ -25,9 +27,8 @@ use Rattle.taken.specs.Head.{headAt}
 use Rattle.site.specs.declared.Site.{Site}
 use Rattle.site.specs.Site.{linkAt, roleOf, isDown, downAt}
 use Rattle.tick.specs.Closing.{lateAt}
-use Rattle.pump.specs.Pump.{identityOf, isHeld, dueAt, isNothing, isAwaited}
+use Rattle.pump.specs.Pump.{isHeld, dueAt, isNothing}
 use Rattle.lives.specs.Moves.{doesAll, onlyOn, Shaped, Moves}
-use Rattle.lives.specs.Sequence.{isDone}
 use Rattle.lives.proofs.Moved.{moved}
 use Rattle.pumplives.specs.Pumped.{dueActs}
 use Rattle.pumplives.proofs.Sent.{sendable}

@@ -6,6 +6,7 @@ use mathlib.Core.Bool.{Bool, true, false}
 use mathlib.Core.List.{List, []}
 use Rattle.basis.specs.Pick.{pick}
 use Rattle.identity.specs.declared.Identity.{Identity}
+use Rattle.identity.specs.Version.{identityOf}
 use Rattle.awaited.specs.declared.Found.{Found}
 use Rattle.awaited.specs.declared.Found.the-variants.{For, Nothing as NotFound}
 use Rattle.awaited.specs.declared.Purpose.the-variants.{Version as ForVersion, Watchdog as ForWatchdog, Entry as ForEntry, Other as ForOther}
@@ -40,7 +41,7 @@ use Rattle.greet.specs.Version.{own, versionJudged}
 use Rattle.greet.specs.Watchdog.{beat}
 use Rattle.tick.specs.Tick.{siteAfter}
 use Rattle.tick.proofs.Closed.{stays}
-use Rattle.pump.specs.Pump.{identityOf, dueAt, planFor, entryPlan}
+use Rattle.pump.specs.Pump.{dueAt, planFor, entryPlan}
 use Rattle.packet.specs.Packet.{expected, unready, kindTaken, askedTaken, classTaken}
 use Rattle.calls.specs.Calls.{Call, planOf}
 use Rattle.calls.specs.Calls.Call.{connect, disconnect, packet, alarm, status, aggregated, tick, pump}

@@ -6,6 +6,7 @@ use mathlib.Core.Bool.{Bool, true, false}
 use mathlib.Core.List.{List, [], _∷_}
 use lib.Dec.{eqb}
 use Rattle.basis.specs.Pick.{pick}
+use Rattle.answer.specs.Number.{isDone}
 use Rattle.link.specs.declared.Link.{Link}
 use Rattle.link.specs.Steps.{closesOf}
 use Rattle.link.specs.Acts.{Act, does}
@@ -13,7 +14,6 @@ use Rattle.link.specs.Acts.Act.{Connect, VersionOut, WatchdogOut, EntryOut, Oth
 use Rattle.site.specs.declared.Site.{Site}
 use Rattle.site.specs.Site.{linkAt}
 use Rattle.lives.specs.Moves.{Shaped}
-use Rattle.lives.specs.Sequence.{isDone}
 use Rattle.calls.specs.Calls.{Call, planOf, stepBy}
 use Rattle.calllives.specs.Calls.{actsOf}
 

@@ -32,8 +32,9 @@ use Rattle.sought.specs.Sought.{alarmSought}
 use Rattle.site.specs.declared.Site.{Site}
 use Rattle.site.specs.Parts.{alarmAt}
 use Rattle.site.specs.Call.{Plan}
+use Rattle.site.specs.Site.{hasPrimary}
 use Rattle.answering.specs.Taken.{Taken, byVerdict, missingElement, badValue, unknownComponent, unknownAlarm}
-use Rattle.orders.specs.Orders.{hasPrimary, recordsOf, changedTo, changeTaken, requestTaken, orderedOf, foundTaken, alarmTaken}
+use Rattle.orders.specs.Orders.{recordsOf, changedTo, changeTaken, requestTaken, orderedOf, foundTaken, alarmTaken}
 use Rattle.told.specs.Told.{isGood}
 use Rattle.told.specs.Items.{isThe, ordered}
 use Rattle.toldpackets.proofs.Entries.{one-to}

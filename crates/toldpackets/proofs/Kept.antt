@@ -9,9 +9,9 @@ use lib.ListN.{length, getD}
 use native.Mathlib.Omega.{arith}
 use borrow.Author.Tests.{ltb-true}
 use Rattle.basis.specs.Pick.{pick, both}
-use Rattle.answer.specs.declared.Answer.{Answer}
-use Rattle.answer.specs.declared.Answer.the-variants.{Done, Refused}
+use Rattle.answer.specs.Number.{isDone}
 use Rattle.identity.specs.declared.Identity.{Identity}
+use Rattle.identity.specs.Version.{identityOf}
 use Rattle.alarm.specs.declared.Alarm.{Alarm}
 use Rattle.status.specs.declared.Status.{Status}
 use Rattle.status.specs.Status.{unknown}
@@ -32,7 +32,6 @@ use Rattle.sitetable.specs.declared.SiteTable.{SiteTable}
 use Rattle.site.specs.declared.Site.{Site}
 use Rattle.site.specs.Site.{isDown, linkAt}
 use Rattle.site.specs.Call.{Plan, issuing, batchOf, reportOf}
-use Rattle.pump.specs.Pump.{identityOf}
 use Rattle.answering.specs.Taken.{Taken, notAcked, unexpected, notReady}
 use Rattle.greet.specs.Answered.{answeredPlan}
 use Rattle.orders.specs.Orders.{alarmTaken}
@@ -41,9 +40,8 @@ use Rattle.packet.specs.Packet.{isGreeting, expected, unready, early, ignoredBy
 use Rattle.calls.specs.Calls.{Call, planOf, stepBy, endOf}
 use Rattle.calls.specs.Calls.Call.{packet}
 use Rattle.lives.specs.Moves.{Shaped}
-use Rattle.lives.specs.Sequence.{isDone as isDoneAnswer}
 use Rattle.lives.proofs.Done.{Passed, passed}
-use Rattle.told.specs.Told.{Setup, Told, isDone}
+use Rattle.told.specs.Told.{Setup, Told}
 use Rattle.told.specs.Life.{lifeOf, isUp}
 use Rattle.told.specs.Items.{asksFor, isAlarmKind, isSubscribing, alarmAfter, subscriptionAfter}
 use Rattle.told.specs.Claims.{isUpPhase, SameItems, SameUp, Steps}
@@ -127,10 +125,6 @@ module _ (s : Site) (alarms : ℕ → Alarm) (subscriptions : ℕ → ℕ → Su
   by-class answered (Asked Bad kind) d e = either-way up _ (not-acked s received _)
 
 -- ---- a packet that is done
-done-so : (a : Answer) → isDone a ≡ true → isDoneAnswer a ≡ true
-done-so (Done r) e = refl
-done-so (Refused x) e = no e
-
 -- number 2 does not apply
 linked : (l n : ℕ) → pick (ltb l 4) (leb n l) true ≡ false → l < 4
 linked l n e = by (ltb l 4) (ltb-true l 4) e
@@ -149,8 +143,7 @@ module _ (l t : ℕ) (random : Identity) (p out : List ℕ) (g : Setup) (s : Sit
 
   conditions : isDone (stepBy s call .answer) ≡ true → Passed (issuing (batchOf (planOf s call)) (packetRefuses s l t (identityOf random) (length out) p))
   conditions e =
-      passed (issuing (batchOf (planOf s call)) (packetRefuses s l t (identityOf random) (length out) p)) (reportOf (planOf s call) (endOf s call)) s _
-      (done-so (stepBy s call .answer) e)
+      passed (issuing (batchOf (planOf s call)) (packetRefuses s l t (identityOf random) (length out) p)) (reportOf (planOf s call) (endOf s call)) s _ e
 
   module _ (sh : Shaped s) (same : SameItems g s h) (e : isDone (stepBy s call .answer) ≡ true) where
     known : Known s (alarmAfter g h) (subscriptionAfter g h) h

@@ -24,7 +24,8 @@ use Rattle.sought.specs.Sought.{alarmSought}
 use Rattle.site.specs.declared.Site.{Site}
 use Rattle.site.specs.Parts.{alarmAt, statusAt, subscriptionAt}
 use Rattle.site.specs.Call.{Plan}
-use Rattle.orders.specs.Orders.{hasPrimary, alarmTaken}
+use Rattle.site.specs.Site.{hasPrimary}
+use Rattle.orders.specs.Orders.{alarmTaken}
 use Rattle.subscribing.specs.Subscribing.{subscribingTaken}
 use Rattle.lives.specs.Moves.{Shaped}
 use Rattle.told.specs.Told.{Told, isGood}

@@ -23,10 +23,10 @@ use Rattle.batch.specs.Laws.{Owned}
 use Rattle.upwards.specs.Upwards.{entryIf}
 use Rattle.upwards.proofs.Entries.{owned-to, owned-if}
 use Rattle.site.specs.declared.Site.{Site}
-use Rattle.site.specs.Site.{linkAt, closeAt}
+use Rattle.site.specs.Site.{linkAt, closeAt, hasPrimary}
 use Rattle.site.specs.Parts.{subscriptionAt}
 use Rattle.holding.specs.Touches.{Configured, Quiet, Touches}
-use Rattle.inputs.specs.Inputs.{hasPrimary, alarmChange, statusEntry, statusChange, aggregatedEntry, aggregatedChange, alarmPlan, statusPlan, aggregatedPlan}
+use Rattle.inputs.specs.Inputs.{alarmChange, statusEntry, statusChange, aggregatedEntry, aggregatedChange, alarmPlan, statusPlan, aggregatedPlan}
 use Rattle.tick.specs.Closing.{lateAt, closeLate, closedTo}
 use Rattle.tick.specs.Tick.{siteAfter, tickPlan}
 use Rattle.tick.proofs.Closed.{stays}

@@ -4,6 +4,7 @@ use Prim.Native.Nat.{ℕ, _+_}
 use mathlib.Core.Path.{_≡_}
 use mathlib.Core.Bool.{true}
 use mathlib.Core.List.{List, []}
+use Rattle.answer.specs.Number.{isDone}
 use Rattle.pool.specs.Pool.{heldOf, lostOf}
 use Rattle.entry.specs.declared.Entry.{Entry}
 use Rattle.poollaws.specs.Promises.{Reached}
@@ -11,7 +12,7 @@ use Rattle.poollaws.specs.View.{records}
 use Rattle.poollaws.specs.Contents.{Every}
 use Rattle.site.specs.declared.Site.{Site}
 use Rattle.site.specs.declared.Step.{Step}
-use Rattle.holding.specs.Touches.{Configured, isDone}
+use Rattle.holding.specs.Touches.{Configured}
 use Rattle.holding.specs.Sequences.{Calls, Touching, after, Issued, issuedIn, settledIn, Promises}
 use Rattle.start.specs.Starts.{Starts}
 

@@ -1,7 +1,7 @@
 use mathlib.Core.Path.{sym, _∙_}
 use native.Mathlib.Omega.{arith}
 use Rattle.linkcalls.proofs.Laws.{connect-no-link, connect-bad-time, connect-up, connects}
-use Rattle.linkcalls.proofs.Below.{link-below}
+use Rattle.site.proofs.Checks.{link-below}
 use borrow.Author.Needs.{needs}
 use Rattle.linkcalls.proofs.connect.Statement.{statement}
 use Rattle.linkcalls.proofs.connect.Tie as tie

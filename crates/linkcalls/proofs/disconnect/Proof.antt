@@ -1,7 +1,7 @@
 use mathlib.Core.Path.{sym, _∙_}
 use native.Mathlib.Omega.{arith}
 use Rattle.linkcalls.proofs.Laws.{disconnect-no-link, disconnect-bad-time, disconnect-down, disconnects}
-use Rattle.linkcalls.proofs.Below.{link-below}
+use Rattle.site.proofs.Checks.{link-below}
 use borrow.Author.Needs.{needs}
 use Rattle.linkcalls.proofs.disconnect.Statement.{statement}
 use Rattle.linkcalls.proofs.disconnect.Tie as tie

@@ -1,7 +1,7 @@
 use mathlib.Core.Path.{_≡_, sym}
 use Rattle.taken.specs.declared.GotLabel.{GotLabel}
 use Rattle.orders.specs.Orders.{aggregatedTaken}
-use Rattle.orders.proofs.Laws.{like}
+use Rattle.answering.proofs.Choices.{like}
 use borrow.Author.Needs.{needs}
 use Rattle.orders.proofs.aggregated.Statement.{statement}
 use Rattle.orders.proofs.aggregated.Tie as tie

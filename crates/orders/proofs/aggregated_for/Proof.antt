@@ -3,7 +3,7 @@ use Rattle.answering.specs.Taken.{notAcked, unknownComponent}
 use Rattle.sought.specs.Sought.{componentSought}
 use Rattle.sending.specs.Sending.{aggregatedMessage}
 use Rattle.orders.specs.Orders.{isZero}
-use Rattle.orders.proofs.Laws.{due, not-acked, picked-first, picked-second}
+use Rattle.answering.proofs.Choices.{due, not-acked, picked-first, picked-second}
 use borrow.Author.Needs.{needs}
 use Rattle.orders.proofs.aggregated_for.Statement.{statement}
 use Rattle.orders.proofs.aggregated_for.Tie as tie

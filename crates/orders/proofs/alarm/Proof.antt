@@ -1,7 +1,7 @@
 use mathlib.Core.Path.{_≡_, sym}
 use Rattle.taken.specs.declared.AlarmFields.{AlarmFields}
 use Rattle.orders.specs.Orders.{alarmTaken}
-use Rattle.orders.proofs.Laws.{like}
+use Rattle.answering.proofs.Choices.{like}
 use borrow.Author.Needs.{needs}
 use Rattle.orders.proofs.alarm.Statement.{statement}
 use Rattle.orders.proofs.alarm.Tie as tie

@@ -1,6 +1,6 @@
 use mathlib.Core.Path.{_≡_, sym, _∙_}
 use Rattle.answering.specs.Taken.{unknownComponent, unknownAlarm}
-use Rattle.orders.proofs.Laws.{not-acked}
+use Rattle.answering.proofs.Choices.{not-acked}
 use Rattle.orders.proofs.Asked.{found}
 use borrow.Author.Needs.{needs}
 use Rattle.orders.proofs.find.Statement.{statement}

@@ -1,5 +1,5 @@
 use Rattle.orders.specs.Orders.{foundTaken}
-use Rattle.orders.proofs.Laws.{good, missing, bad}
+use Rattle.answering.proofs.Choices.{good, missing, bad}
 use Rattle.orders.proofs.Asked.{alarm-judged}
 use borrow.Author.Needs.{needs}
 use Rattle.orders.proofs.judge.Statement.{statement}

@@ -1,6 +1,6 @@
 use Rattle.sought.specs.Sought.{componentSought}
 use Rattle.orders.specs.Orders.{aggregatedOf}
-use Rattle.orders.proofs.Laws.{good, missing, bad}
+use Rattle.answering.proofs.Choices.{good, missing, bad}
 use Rattle.orders.proofs.Asked.{aggregated-judged}
 use borrow.Author.Needs.{needs}
 use Rattle.orders.proofs.judge_aggregated.Statement.{statement}

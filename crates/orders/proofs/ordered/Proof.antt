@@ -2,7 +2,7 @@ use mathlib.Core.Path.{_≡_, sym, _∙_}
 use Rattle.taken.specs.declared.Order.{Order}
 use Rattle.alarm.specs.declared.Order.the-variants.{Acknowledge, Suspend, Resume}
 use Rattle.orders.specs.Orders.{ordered}
-use Rattle.orders.proofs.Laws.{like}
+use Rattle.answering.proofs.Choices.{like}
 use Rattle.orders.proofs.Changes.{taken-so}
 use borrow.Author.Needs.{needs}
 use Rattle.orders.proofs.ordered.Statement.{statement}

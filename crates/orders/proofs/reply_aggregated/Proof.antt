@@ -1,6 +1,6 @@
 use mathlib.Core.Path.{_≡_, refl, sym, _∙_}
 use Rattle.sending.specs.Sending.{aggregatedMessage}
-use Rattle.orders.proofs.Laws.{is-busy, is-awaited, is-sent}
+use Rattle.answering.proofs.Choices.{is-busy, is-awaited, is-sent}
 use borrow.Author.Needs.{needs}
 use Rattle.orders.proofs.reply_aggregated.Statement.{statement}
 use Rattle.orders.proofs.reply_aggregated.Tie as tie

@@ -1,4 +1,4 @@
-use Rattle.orders.proofs.Laws.{good, missing, bad}
+use Rattle.answering.proofs.Choices.{good, missing, bad}
 use borrow.Author.Needs.{needs}
 use Rattle.packet.proofs.asked.Statement.{statement}
 use Rattle.packet.proofs.asked.Tie as tie

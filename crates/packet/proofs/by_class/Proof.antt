@@ -1,6 +1,6 @@
 use Rattle.packet.proofs.Laws.{quiet, answers-quietly}
 use Rattle.packet.specs.Packet.{classTaken}
-use Rattle.orders.proofs.Laws.{like}
+use Rattle.answering.proofs.Choices.{like}
 use Rattle.greet.specs.Answered.{answeredPlan}
 use Rattle.site.specs.Call.{only}
 use Rattle.taken.specs.declared.Class.{Class}

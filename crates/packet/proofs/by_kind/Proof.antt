@@ -3,7 +3,7 @@ use Rattle.takenlists.specs.Version.{versionAt}
 use Rattle.taken.specs.Small.{watchdogAt}
 use Rattle.taken.specs.declared.Kind.the-variants.{Version, Watchdog, StatusSubscribe, StatusUnsubscribe}
 use Rattle.packet.specs.Packet.{kindTaken}
-use Rattle.orders.proofs.Laws.{like, not-acked}
+use Rattle.answering.proofs.Choices.{like, not-acked}
 use Rattle.subscribing.proofs.Kept.{kept as subscribing-kept}
 use Rattle.greet.proofs.Kept.{kept as greet-kept}
 use Rattle.answering.proofs.Ends.{unreplied}

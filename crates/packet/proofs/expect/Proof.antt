@@ -1,4 +1,4 @@
-use Rattle.orders.proofs.Laws.{picked-first, picked-second, not-acked}
+use Rattle.answering.proofs.Choices.{picked-first, picked-second, not-acked}
 use Rattle.answering.specs.Taken.{notReady, unexpected}
 use mathlib.Core.Path.{sym, _∙_}
 use borrow.Author.Needs.{needs}

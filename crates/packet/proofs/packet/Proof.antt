@@ -1,10 +1,10 @@
+use Rattle.identity.specs.Version.{identityOf}
 use Rattle.packet.proofs.Laws.{no-link, short, long, late, closed, through}
 use Rattle.packet.specs.Packet.{ignoredBy, packetTaken}
 use Rattle.site.specs.Site.{noLinkAt, badTimeAt, downAt, linkAt}
 use Rattle.taken.specs.Head.{headAt}
-use Rattle.pump.specs.Pump.{identityOf}
 use lib.ListN.{length}
-use Rattle.linkcalls.proofs.Below.{link-below}
+use Rattle.site.proofs.Checks.{link-below}
 use native.Mathlib.Omega.{arith}
 use lib.Dec.{ltb}
 use borrow.Author.Tests.{lt-ltb, le-ltb}

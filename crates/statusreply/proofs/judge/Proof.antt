@@ -2,7 +2,7 @@ use mathlib.Core.Path.{_≡_, sym}
 use Rattle.sought.specs.declared.Sought.{Sought}
 use Rattle.sought.specs.Sought.{componentSought}
 use Rattle.statusreply.specs.StatusReply.{requestedOf}
-use Rattle.orders.proofs.Laws.{like, good, missing, bad}
+use Rattle.answering.proofs.Choices.{like, good, missing, bad}
 use Rattle.statusreply.proofs.Asked.{status-judged}
 use borrow.Author.Needs.{needs}
 use Rattle.statusreply.proofs.judge.Statement.{statement}

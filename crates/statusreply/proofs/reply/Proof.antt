@@ -1,6 +1,6 @@
 use mathlib.Core.Path.{_≡_, refl, sym, _∙_}
 use Rattle.statusreply.specs.StatusReply.{response}
-use Rattle.orders.proofs.Laws.{is-busy, is-awaited, is-sent}
+use Rattle.answering.proofs.Choices.{is-busy, is-awaited, is-sent}
 use borrow.Author.Needs.{needs}
 use Rattle.statusreply.proofs.reply.Statement.{statement}
 use Rattle.statusreply.proofs.reply.Tie as tie

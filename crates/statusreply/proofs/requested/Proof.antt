@@ -1,7 +1,7 @@
 use mathlib.Core.Path.{_≡_, sym, _∙_}
 use Rattle.answering.specs.Taken.{notAcked, unknownStatus}
 use Rattle.statusreply.specs.StatusReply.{response, passes}
-use Rattle.orders.proofs.Laws.{due, not-acked, picked-first, picked-second}
+use Rattle.answering.proofs.Choices.{due, not-acked, picked-first, picked-second}
 use borrow.Author.Needs.{needs}
 use Rattle.statusreply.proofs.requested.Statement.{statement}
 use Rattle.statusreply.proofs.requested.Tie as tie

@@ -1,7 +1,7 @@
 use mathlib.Core.Path.{_≡_, sym}
 use Rattle.takenlists.specs.declared.StatusFields.{StatusFields}
 use Rattle.statusreply.specs.StatusReply.{statusTaken}
-use Rattle.orders.proofs.Laws.{like}
+use Rattle.answering.proofs.Choices.{like}
 use borrow.Author.Needs.{needs}
 use Rattle.statusreply.proofs.status_request.Statement.{statement}
 use Rattle.statusreply.proofs.status_request.Tie as tie

@@ -1,4 +1,4 @@
-use Rattle.pump.proofs.Laws.{link-below}
+use Rattle.site.proofs.Checks.{link-below}
 use Prim.Native.Nat.{_<_}
 use borrow.Author.Tests.{lt-ltb, le-ltb}
 use mathlib.Core.Path.{refl, sym, _∙_}

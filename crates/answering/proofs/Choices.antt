@@ -7,7 +7,7 @@ use mathlib.Core.List.{List}
 use Rattle.basis.specs.Pick.{pick}
 use Rattle.answer.specs.declared.Refusal.the-variants.{IdentityAwaited}
 use Rattle.identity.specs.declared.Identity.{Identity}
-use Rattle.awaited.specs.Awaited.{findOf}
+use Rattle.awaited.specs.Awaited.{findOf, isAwaited}
 use Rattle.link.specs.Steps.{fullOf}
 use Rattle.output.specs.Put.{Wrote}
 use Rattle.written.specs.Message.{Message}
@@ -19,10 +19,10 @@ use Rattle.site.specs.declared.Site.{Site}
 use Rattle.site.specs.declared.Step.{Step}
 use Rattle.site.specs.Site.{linkAt}
 use Rattle.site.specs.Call.{never, refused, Gives}
-use Rattle.answering.specs.Taken.{Taken, isAwaited, notAcked, replied, byVerdict, unlessBusy, missingElement, badValue, busy}
+use Rattle.answering.specs.Taken.{Taken, notAcked, replied, byVerdict, unlessBusy, missingElement, badValue, busy}
 use Rattle.answering.specs.Ending.{repliedAt}
 use Rattle.answering.proofs.Ends.{unreplied, replies, replies-refused}
-use Rattle.orders.specs.Takes.{Takes}
+use Rattle.answering.specs.Takes.{Takes}
 
 module _ (s : Site) (l time : ℕ) (id : Identity) (received : List ℕ) where
   pub not-acked : (reason : ℕ) {xs ys : List ℕ} {r : Step} → Gives s time never (notAcked s received reason .plan) xs ys r → Takes s l time id (notAcked s received reason) xs ys r

@@ -1,0 +1,1 @@
+// The three demands in one place; there is no code here.
