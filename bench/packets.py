@@ -1,7 +1,7 @@
 """How much processor time judging a packet takes, by its shape: an ordinary StatusSubscribe of four entries, and packets of 4,096 bytes that
 are meant to be bad for the reader. Prints the time of one judging, the time per byte, and its ratio to the ordinary packet's.
 
-  packets.py         runs the program `jsonbench`, which `rt check jsonbench` leaves in target/bin
+  packets.py         runs the program `bench_json`, which `rt check bench_json` leaves in target/bin
 
 Where the program runs under an emulator (on a processor other than x86-64) only the ratios say something.
 """
@@ -78,7 +78,7 @@ def seconds(given):
     best = None
     for _ in range(3):
         began = processor_time()
-        done = subprocess.run(cases.command("jsonbench"), input=given, stdout=subprocess.PIPE, check=True)
+        done = subprocess.run(cases.command("bench_json"), input=given, stdout=subprocess.PIPE, check=True)
         taken = processor_time() - began
         best = taken if best is None else min(best, taken)
     return best, done.stdout

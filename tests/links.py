@@ -328,4 +328,4 @@ def fresh(source):
 
 
 if __name__ == "__main__":
-    sys.exit(cases.script("linkacts", stored_pairs, fresh, __doc__))
+    sys.exit(cases.script("run_links", stored_pairs, fresh, __doc__))

@@ -297,4 +297,4 @@ def fresh(source):
 
 
 if __name__ == "__main__":
-    sys.exit(cases.script("packets", stored_pairs, fresh, __doc__))
+    sys.exit(cases.script("run_packets", stored_pairs, fresh, __doc__))

@@ -135,4 +135,4 @@ def fresh(source):
 
 
 if __name__ == "__main__":
-    sys.exit(cases.script("poolacts", stored_pairs, fresh, __doc__))
+    sys.exit(cases.script("run_pool", stored_pairs, fresh, __doc__))

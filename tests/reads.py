@@ -499,4 +499,4 @@ def fresh(source):
 
 
 if __name__ == "__main__":
-    sys.exit(cases.script("reads", stored_pairs, fresh, __doc__))
+    sys.exit(cases.script("run_reads", stored_pairs, fresh, __doc__))

@@ -227,4 +227,4 @@ def fresh(source):
 
 
 if __name__ == "__main__":
-    sys.exit(cases.script("ruleacts", stored_pairs, fresh, __doc__))
+    sys.exit(cases.script("run_rules", stored_pairs, fresh, __doc__))

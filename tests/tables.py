@@ -465,4 +465,4 @@ def fresh(source):
 
 
 if __name__ == "__main__":
-    sys.exit(cases.script("tables", stored_pairs, fresh, __doc__))
+    sys.exit(cases.script("run_tables", stored_pairs, fresh, __doc__))

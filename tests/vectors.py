@@ -323,4 +323,4 @@ def fresh(source):
 
 
 if __name__ == "__main__":
-    sys.exit(cases.script("vectors", stored_pairs, fresh, __doc__))
+    sys.exit(cases.script("run_vectors", stored_pairs, fresh, __doc__))

@@ -236,4 +236,4 @@ def fresh(source):
 
 
 if __name__ == "__main__":
-    sys.exit(cases.script("writes", stored_pairs, fresh, __doc__))
+    sys.exit(cases.script("run_writes", stored_pairs, fresh, __doc__))

@@ -12,19 +12,19 @@ use Rattle.awaited.specs.declared.Purpose.the-variants.{Entry as ForEntry}
 use Rattle.pool.specs.declared.Place.{Place}
 use Rattle.pool.specs.declared.Sought.the-variants.{Found}
 use Rattle.pool.specs.Pool.{markOf, oldestUnsent}
-use Rattle.poollaws.specs.View.{without, notSent}
+use Rattle.pool_laws.specs.View.{without, notSent}
 use Rattle.link.specs.declared.Link.{Link}
 use Rattle.link.specs.declared.Due.the-variants.{Entry}
 use Rattle.link.specs.Steps.{messageOutOf}
-use Rattle.sitetable.specs.declared.SiteTable.{SiteTable}
-use Rattle.written.specs.Message.{Message}
+use Rattle.table_whole.specs.declared.SiteTable.{SiteTable}
+use Rattle.write_message.specs.Message.{Message}
 use Rattle.site.specs.declared.Site.{Site}
 use Rattle.site.specs.Site.{linkAt}
 use Rattle.site.specs.Call.{Plan}
-use Rattle.sending.specs.Sending.{entryMessage}
-use Rattle.pump.specs.Pump.{dueAt}
-use Rattle.pump.specs.Claims.{Ready, Passing}
-use Rattle.pump.proofs.Kept.{kept as pump-kept}
+use Rattle.send_message.specs.Sending.{entryMessage}
+use Rattle.call_pump.specs.Pump.{dueAt}
+use Rattle.call_pump.specs.Claims.{Ready, Passing}
+use Rattle.call_pump.proofs.Kept.{kept as pump-kept}
 use Rattle.alarmout.proofs.Records.{numberOf}
 use Rattle.alarmout.proofs.Links.{leftBy, answered-beat, answered-alarm, answered-aggregated}
 use Rattle.alarmout.proofs.Sends.{message-sent, message-beat, message-alarm, message-aggregated}

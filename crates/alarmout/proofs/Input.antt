@@ -22,19 +22,19 @@ use Rattle.pool.specs.declared.Place.{Place}
 use Rattle.pool.specs.declared.Loser.{Loser}
 use Rattle.pool.specs.declared.Loser.the-variants.{Nobody, Owner}
 use Rattle.pool.specs.Pool.{made}
-use Rattle.poollaws.specs.Promises.{Reached}
-use Rattle.poollaws.specs.View.{records, loserIn, shed, notSent}
-use Rattle.batch.specs.declared.Batch.{Batch}
-use Rattle.batch.specs.Batch.{renumbered, issuedAll}
-use Rattle.batch.specs.Laws.{Laws, Lasting, numbered}
-use Rattle.batch.proofs.Kept.{kept as batch-kept}
+use Rattle.pool_laws.specs.Promises.{Reached}
+use Rattle.pool_laws.specs.View.{records, loserIn, shed, notSent}
+use Rattle.pool_batch.specs.declared.Batch.{Batch}
+use Rattle.pool_batch.specs.Batch.{renumbered, issuedAll}
+use Rattle.pool_batch.specs.Laws.{Laws, Lasting, numbered}
+use Rattle.pool_batch.proofs.Kept.{kept as batch-kept}
 use Rattle.link.specs.declared.Link.{Link}
 use Rattle.site.specs.declared.Site.{Site}
 use Rattle.site.specs.Site.{linkAt, withIssued}
 use Rattle.site.specs.Parts.{alarmAt}
 use Rattle.site.specs.Call.{Plan, batchOf}
-use Rattle.inputs.specs.Inputs.{alarmPlan}
-use Rattle.inputs.proofs.Kept.{kept as inputs-kept}
+use Rattle.call_input.specs.Inputs.{alarmPlan}
+use Rattle.call_input.proofs.Kept.{kept as inputs-kept}
 use Rattle.sound.specs.Sound.{Sound}
 use Rattle.sound.proofs.Kept.{an-item, in-time, not-spent, not-above}
 use Rattle.soundcalls.proofs.Alarms.{few-alarms}

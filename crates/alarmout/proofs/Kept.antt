@@ -9,9 +9,9 @@ use mathlib.Core.Logic.{⊎-elim}
 use lib.ListN.{length, take}
 use Rattle.identity.specs.declared.Identity.{Identity}
 use Rattle.pool.specs.declared.Place.{Place}
-use Rattle.poollaws.specs.Promises.{Reached}
-use Rattle.written.specs.Message.{Message}
-use Rattle.written.specs.Listing.{bytesOf}
+use Rattle.pool_laws.specs.Promises.{Reached}
+use Rattle.write_message.specs.Message.{Message}
+use Rattle.write_message.specs.Listing.{bytesOf}
 use Rattle.site.specs.declared.Site.{Site}
 use Rattle.site.specs.Site.{linkAt}
 use Rattle.formedness.specs.Formedness.{allBytes, Wrote}

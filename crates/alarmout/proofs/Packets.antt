@@ -21,15 +21,15 @@ use Rattle.link.specs.declared.Link.{Link}
 use Rattle.link.specs.declared.Phase.the-variants.{Up}
 use Rattle.link.specs.Phase.{phaseOf}
 use Rattle.link.specs.Steps.{closesOf, answeredOf, noted, removedOf}
-use Rattle.batch.specs.Batch.{beginning}
-use Rattle.taken.specs.declared.Class.{Class}
-use Rattle.taken.specs.declared.Class.the-variants.{Acked, NotAcked}
-use Rattle.taken.specs.Head.{headAt}
+use Rattle.pool_batch.specs.Batch.{beginning}
+use Rattle.read_head.specs.declared.Class.{Class}
+use Rattle.read_head.specs.declared.Class.the-variants.{Acked, NotAcked}
+use Rattle.read_head.specs.Head.{headAt}
 use Rattle.site.specs.declared.Site.{Site}
 use Rattle.site.specs.Site.{noLinkAt, badTimeAt, linkAt, withLink, isDown, closeAt, maskOf, withIssued}
 use Rattle.site.specs.Call.{Plan, only, batchOf, reportOf}
-use Rattle.greet.specs.Answered.{settledFor, settled, answeredPlan}
-use Rattle.packet.specs.Packet.{unawaited, ignoredBy, classTaken}
+use Rattle.packet_greet.specs.Answered.{settledFor, settled, answeredPlan}
+use Rattle.call_packet.specs.Packet.{unawaited, ignoredBy, classTaken}
 use Rattle.calls.specs.Calls.{Call, planOf, endOf, stepBy}
 use Rattle.calls.specs.Calls.Call.{packet}
 use Rattle.calls.specs.Claims.{conditionsOf}

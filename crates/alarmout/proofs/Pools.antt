@@ -14,12 +14,12 @@ use Rattle.pool.specs.declared.Place.{Place}
 use Rattle.pool.specs.declared.Pool.{Pool}
 use Rattle.pool.specs.declared.Sought.the-variants.{Found}
 use Rattle.pool.specs.Pool.{markOf, settleOf, oldestUnsent, newestAlarm}
-use Rattle.poollaws.specs.Acts.Act.{Mark, Settle}
-use Rattle.poollaws.specs.Promises.{Reached}
-use Rattle.poollaws.specs.Promises.Reached.{after}
-use Rattle.poollaws.specs.View.{records, without, sentIf, firstWhere, lastWhere, notSent, ofAlarm}
-use Rattle.poollaws.specs.Views.{Views, InOrder}
-use Rattle.poollaws.proofs.Viewed.{viewed}
+use Rattle.pool_laws.specs.Acts.Act.{Mark, Settle}
+use Rattle.pool_laws.specs.Promises.{Reached}
+use Rattle.pool_laws.specs.Promises.Reached.{after}
+use Rattle.pool_laws.specs.View.{records, without, sentIf, firstWhere, lastWhere, notSent, ofAlarm}
+use Rattle.pool_laws.specs.Views.{Views, InOrder}
+use Rattle.pool_laws.proofs.Viewed.{viewed}
 use Rattle.alarmout.proofs.Records.{numberOf, isNumbered, marked-settled, last-stays, fewer, one-fewer, apart}
 use Rattle.alarmout.proofs.Records.{first-or-last, last-passes, last-fails, first-not, last-not}
 

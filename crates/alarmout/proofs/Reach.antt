@@ -11,20 +11,20 @@ use Rattle.answer.specs.declared.Answer.the-variants.{Done, Refused}
 use Rattle.answer.specs.Number.{isDone}
 use Rattle.awaited.proofs.Laws.{Sound as SoundAwaited}
 use Rattle.awaited.proofs.After.{sound as sound-letters}
-use Rattle.poollaws.specs.Promises.{Reached}
+use Rattle.pool_laws.specs.Promises.{Reached}
 use Rattle.link.specs.declared.Link.{Link}
 use Rattle.link.specs.Acts.{Act, after}
 use Rattle.link.specs.Careful.{Careful}
 use Rattle.link.proofs.Kept.{kept as link-kept}
 use Rattle.link.proofs.Replies.{fresh-letters}
-use Rattle.sitetable.specs.declared.SiteTable.{SiteTable}
-use Rattle.sitetable.specs.Memory.{memoryOf}
+use Rattle.table_whole.specs.declared.SiteTable.{SiteTable}
+use Rattle.table_whole.specs.Memory.{memoryOf}
 use Rattle.site.specs.declared.Site.{Site}
 use Rattle.site.specs.declared.Step.{Step}
 use Rattle.site.specs.Site.{linkAt}
-use Rattle.start.specs.Fresh.{fresh, primaryOf}
-use Rattle.start.specs.Starts.{Starts}
-use Rattle.start.specs.Starts.Starts.{starts, refuses}
+use Rattle.call_start.specs.Fresh.{fresh, primaryOf}
+use Rattle.call_start.specs.Starts.{Starts}
+use Rattle.call_start.specs.Starts.Starts.{starts, refuses}
 use Rattle.sound.specs.Sound.{Sound}
 use Rattle.holding.specs.Sequences as holding
 use Rattle.touches.specs.Start.{Begun}

@@ -14,9 +14,9 @@ use Rattle.basis.proofs.Cases.{bool-cases}
 use Rattle.pool.specs.declared.Place.{Place}
 use Rattle.pool.specs.declared.Sought.{Sought}
 use Rattle.pool.specs.declared.Sought.the-variants.{Found, Nothing}
-use Rattle.poollaws.specs.View.{without, sentIf, firstWhere, orElse, lastWhere, notSent}
-use Rattle.poollaws.specs.Views.{InOrder}
-use Rattle.poollaws.specs.Views.InOrder.{next}
+use Rattle.pool_laws.specs.View.{without, sentIf, firstWhere, orElse, lastWhere, notSent}
+use Rattle.pool_laws.specs.Views.{InOrder}
+use Rattle.pool_laws.specs.Views.InOrder.{next}
 
 bit-true : (b : Bool) → b ≡ true → bit b ≡ 1
 bit-true b e = rw e

@@ -15,19 +15,19 @@ use Rattle.awaited.specs.declared.Found.the-variants.{For}
 use Rattle.awaited.specs.Awaited.{findOf}
 use Rattle.pool.specs.declared.Pool.{Pool}
 use Rattle.pool.specs.Pool.{settleOf}
-use Rattle.batch.specs.Batch.{beginning}
+use Rattle.pool_batch.specs.Batch.{beginning}
 use Rattle.link.specs.declared.Link.{Link}
 use Rattle.link.specs.declared.Phase.the-variants.{Up}
 use Rattle.link.specs.Fields.{closedLink}
 use Rattle.link.specs.Phase.{phaseOf}
-use Rattle.taken.specs.Head.{headAt}
-use Rattle.written.specs.Message.{Message}
+use Rattle.read_head.specs.Head.{headAt}
+use Rattle.write_message.specs.Message.{Message}
 use Rattle.site.specs.declared.Site.{Site}
 use Rattle.site.specs.Site.{linkAt, withLink, withPool, withIssued}
 use Rattle.site.specs.Call.{Plan, batchOf}
-use Rattle.pump.specs.Pump.{pumpPlan, sends}
-use Rattle.pump.specs.Claims.{Ready}
-use Rattle.pump.proofs.Kept.{kept as pump-kept}
+use Rattle.call_pump.specs.Pump.{pumpPlan, sends}
+use Rattle.call_pump.specs.Claims.{Ready}
+use Rattle.call_pump.proofs.Kept.{kept as pump-kept}
 use Rattle.calls.specs.Calls.{Call, stepBy, outBy}
 use Rattle.calls.specs.Calls.Call.{packet, pump}
 use Rattle.calls.proofs.Kept.{kept as calls-kept}

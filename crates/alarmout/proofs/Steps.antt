@@ -17,24 +17,24 @@ use Rattle.awaited.specs.Awaited.{findOf}
 use Rattle.alarm.specs.declared.Alarm.{Alarm}
 use Rattle.alarm.specs.Alarm.{beginning}
 use Rattle.alarm.specs.Issued.{issuedOf}
-use Rattle.batch.specs.Batch.{renumbered}
+use Rattle.pool_batch.specs.Batch.{renumbered}
 use Rattle.pool.specs.declared.Place.{Place}
 use Rattle.pool.specs.declared.Pool.{Pool}
 use Rattle.pool.specs.Pool.{made}
-use Rattle.poollaws.specs.View.{notSent}
+use Rattle.pool_laws.specs.View.{notSent}
 use Rattle.link.specs.declared.Link.{Link}
 use Rattle.link.specs.declared.Phase.the-variants.{Down, Up}
 use Rattle.link.specs.declared.Due.{Due}
 use Rattle.link.specs.declared.Due.the-variants.{Nothing}
 use Rattle.link.specs.Phase.{phaseOf}
-use Rattle.sitetable.specs.declared.SiteTable.{SiteTable}
-use Rattle.taken.specs.declared.Class.the-variants.{Acked, NotAcked}
-use Rattle.taken.specs.Head.{headAt}
-use Rattle.written.specs.Message.{Message}
+use Rattle.table_whole.specs.declared.SiteTable.{SiteTable}
+use Rattle.read_head.specs.declared.Class.the-variants.{Acked, NotAcked}
+use Rattle.read_head.specs.Head.{headAt}
+use Rattle.write_message.specs.Message.{Message}
 use Rattle.site.specs.declared.Site.{Site}
 use Rattle.site.specs.Site.{linkAt, withLink, withPool}
-use Rattle.pump.specs.Pump.{dueAt, sends, pumpPlan}
-use Rattle.pump.specs.Claims.{Ready}
+use Rattle.call_pump.specs.Pump.{dueAt, sends, pumpPlan}
+use Rattle.call_pump.specs.Claims.{Ready}
 use Rattle.calls.specs.Calls.{Call, stepBy}
 use Rattle.alarmout.specs.Alarmout.{Exchange, identityIn, pumpIn, answerIn, Fair, Timely}
 use Rattle.alarmout.proofs.Links.{Going, Sent, leftBy, Lasts, up, found, answered}

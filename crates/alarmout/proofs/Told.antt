@@ -11,16 +11,16 @@ use Rattle.entry.proofs.FlagLaws.{event-back, acknowledged-back, active-back, s
 use Rattle.alarm.specs.declared.Alarm.{Alarm}
 use Rattle.alarm.specs.Alarm.{beginning}
 use Rattle.alarm.specs.Issued.{issuedOf}
-use Rattle.batch.specs.Batch.{renumbered}
+use Rattle.pool_batch.specs.Batch.{renumbered}
 use Rattle.label.specs.Label.{textOf, noLabel}
-use Rattle.item.specs.declared.Item.{Item}
-use Rattle.item.specs.Item.{noItem}
-use Rattle.sitetable.specs.declared.SiteTable.{SiteTable}
-use Rattle.written.specs.Message.{Message}
-use Rattle.written.specs.Message.Message.{alarm}
-use Rattle.written.specs.declared.AlarmState.{AlarmState}
+use Rattle.table_item.specs.declared.Item.{Item}
+use Rattle.table_item.specs.Item.{noItem}
+use Rattle.table_whole.specs.declared.SiteTable.{SiteTable}
+use Rattle.write_message.specs.Message.{Message}
+use Rattle.write_message.specs.Message.Message.{alarm}
+use Rattle.write_message.specs.declared.AlarmState.{AlarmState}
 use Rattle.site.specs.declared.Site.{Site}
-use Rattle.sending.specs.Sending.{stateOf, heldState, alarmMessage, entryMessage}
+use Rattle.send_message.specs.Sending.{stateOf, heldState, alarmMessage, entryMessage}
 
 -- the Alarm of row k of a table, with the states of an alarm
 abbrev pub toldBy : SiteTable → List ℕ → ℕ → Alarm → Message

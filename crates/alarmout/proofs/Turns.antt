@@ -22,25 +22,25 @@ use Rattle.pool.specs.declared.Pool.{Pool}
 use Rattle.pool.specs.declared.Sought.{Sought}
 use Rattle.pool.specs.declared.Sought.the-variants.{Found, Nothing as NoEntry}
 use Rattle.pool.specs.Pool.{markOf, newestAlarm}
-use Rattle.poollaws.specs.View.{without, notSent, ofAlarm}
+use Rattle.pool_laws.specs.View.{without, notSent, ofAlarm}
 use Rattle.link.specs.declared.Link.{Link}
 use Rattle.link.specs.declared.Due.{Due}
 use Rattle.link.specs.declared.Due.the-variants.{Watchdog, Aggregated, Alarm as DueAlarm}
 use Rattle.link.specs.Steps.{watchdogOutOf, messageOutOf, aggregatedPassedOf, alarmPassedOf}
-use Rattle.sitetable.specs.declared.SiteTable.{SiteTable}
-use Rattle.written.specs.Message.{Message}
-use Rattle.written.specs.Message.Message.{watchdog}
+use Rattle.table_whole.specs.declared.SiteTable.{SiteTable}
+use Rattle.write_message.specs.Message.{Message}
+use Rattle.write_message.specs.Message.Message.{watchdog}
 use Rattle.site.specs.declared.Site.{Site}
 use Rattle.site.specs.Site.{linkAt, withLink, withPool}
 use Rattle.site.specs.Call.{Plan}
 use Rattle.site.specs.Parts.{alarmAt}
-use Rattle.sending.specs.Sending.{alarmMessage, aggregatedMessage}
-use Rattle.outgoing.specs.declared.Carried.{Carried}
-use Rattle.outgoing.specs.declared.Carried.the-variants.{Held, NoRecord}
-use Rattle.outgoing.specs.Outgoing.{sameEvent, carriedOf, carriedAt, alarmSentWith}
-use Rattle.pump.specs.Pump.{dueAt, sends, planFor, pumpPlan}
-use Rattle.pump.specs.Claims.{Ready, SameEvent, Passing, InOrder}
-use Rattle.pump.proofs.Kept.{kept as pump-kept}
+use Rattle.send_message.specs.Sending.{alarmMessage, aggregatedMessage}
+use Rattle.send_after.specs.declared.Carried.{Carried}
+use Rattle.send_after.specs.declared.Carried.the-variants.{Held, NoRecord}
+use Rattle.send_after.specs.Outgoing.{sameEvent, carriedOf, carriedAt, alarmSentWith}
+use Rattle.call_pump.specs.Pump.{dueAt, sends, planFor, pumpPlan}
+use Rattle.call_pump.specs.Claims.{Ready, SameEvent, Passing, InOrder}
+use Rattle.call_pump.proofs.Kept.{kept as pump-kept}
 use Rattle.alarmout.proofs.Records.{numberOf, isNumbered}
 use Rattle.alarmout.proofs.Links.{Sent, leftBy, Lasts, answered-beat, answered-alarm, answered-aggregated}
 use Rattle.alarmout.proofs.Sends.{message-sent, message-beat, message-alarm, message-aggregated}

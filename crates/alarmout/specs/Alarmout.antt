@@ -18,17 +18,17 @@ use Rattle.awaited.specs.declared.Purpose.the-variants.{Entry as ForEntry}
 use Rattle.awaited.specs.declared.Found.the-variants.{For, Nothing}
 use Rattle.awaited.specs.Awaited.{findOf, howManyOf}
 use Rattle.alarm.specs.Alarm.{issued}
-use Rattle.poollaws.specs.View.{records, notSent}
+use Rattle.pool_laws.specs.View.{records, notSent}
 use Rattle.link.specs.declared.Phase.the-variants.{Up}
 use Rattle.link.specs.Phase.{phaseOf}
-use Rattle.taken.specs.declared.Class.the-variants.{Acked, NotAcked}
-use Rattle.taken.specs.Head.{headAt}
-use Rattle.written.specs.Message.{Message}
-use Rattle.written.specs.Listing.{bytesOf}
+use Rattle.read_head.specs.declared.Class.the-variants.{Acked, NotAcked}
+use Rattle.read_head.specs.Head.{headAt}
+use Rattle.write_message.specs.Message.{Message}
+use Rattle.write_message.specs.Listing.{bytesOf}
 use Rattle.site.specs.declared.Site.{Site}
 use Rattle.site.specs.Site.{linkAt}
 use Rattle.site.specs.Parts.{alarmAt, alarmRowAt}
-use Rattle.sending.specs.Sending.{stateOf, alarmTold}
+use Rattle.send_message.specs.Sending.{stateOf, alarmTold}
 use Rattle.calls.specs.Calls.{Call, planOf, outBy, siteAfter}
 use Rattle.calls.specs.Calls.Call.{packet, alarm, pump}
 use Rattle.sequences.specs.Typed.{EachTyped}

@@ -11,13 +11,13 @@ use Rattle.link.specs.declared.Role.the-variants.{Secondary}
 use Rattle.link.specs.declared.Phase.the-variants.{Up}
 use Rattle.link.specs.Phase.{phaseOf}
 use Rattle.link.specs.Acts.Act.{Connect, Close}
-use Rattle.written.specs.Message.{Message}
+use Rattle.write_message.specs.Message.{Message}
 use Rattle.site.specs.declared.Site.{Site}
 use Rattle.site.specs.Site.{linkAt, roleOf}
 use Rattle.site.specs.Call.{issuing, batchOf, reportOf}
 use Rattle.site.proofs.Checks.{link-below}
-use Rattle.start.specs.Fresh.{fresh}
-use Rattle.tick.specs.Closing.{lateAt}
+use Rattle.call_start.specs.Fresh.{fresh}
+use Rattle.call_tick.specs.Closing.{lateAt}
 use Rattle.lives.specs.Moves.{Shaped, Moves, Heedful}
 use Rattle.lives.specs.Moves.Heedful.{none}
 use Rattle.lives.specs.Stock.{Stocked, Stocks}

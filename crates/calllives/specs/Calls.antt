@@ -4,9 +4,9 @@ use Prim.Native.Nat.{ℕ}
 use mathlib.Core.List.{List}
 use Rattle.identity.specs.Version.{identityOf}
 use Rattle.link.specs.Acts.{Act}
-use Rattle.sitetable.specs.declared.SiteTable.{SiteTable}
+use Rattle.table_whole.specs.declared.SiteTable.{SiteTable}
 use Rattle.site.specs.declared.Site.{Site}
-use Rattle.start.specs.Fresh.{fresh}
+use Rattle.call_start.specs.Fresh.{fresh}
 use Rattle.lives.specs.Moves.{onNone}
 use Rattle.lives.specs.Acts.{connectActs, disconnectActs, tickActs}
 use Rattle.lives.specs.Sequence.{Lived, Spoken}

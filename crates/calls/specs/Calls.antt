@@ -11,11 +11,11 @@ use Rattle.identity.specs.Version.{identityOf}
 use Rattle.site.specs.declared.Site.{Site}
 use Rattle.site.specs.declared.Step.{Step}
 use Rattle.site.specs.Call.{Plan, stepOf, writtenTo, outAfter}
-use Rattle.linkcalls.specs.Connect.{connectRefuses, connectPlan, disconnectRefuses, disconnectPlan}
-use Rattle.inputs.specs.Inputs.{alarmRefuses, alarmPlan, statusRefuses, statusPlan, aggregatedRefuses, aggregatedPlan}
-use Rattle.tick.specs.Tick.{tickRefuses, tickPlan}
-use Rattle.pump.specs.Pump.{pumpRefuses, pumpPlan}
-use Rattle.packet.specs.Packet.{packetRefuses, packetTaken}
+use Rattle.call_link.specs.Connect.{connectRefuses, connectPlan, disconnectRefuses, disconnectPlan}
+use Rattle.call_input.specs.Inputs.{alarmRefuses, alarmPlan, statusRefuses, statusPlan, aggregatedRefuses, aggregatedPlan}
+use Rattle.call_tick.specs.Tick.{tickRefuses, tickPlan}
+use Rattle.call_pump.specs.Pump.{pumpRefuses, pumpPlan}
+use Rattle.call_packet.specs.Packet.{packetRefuses, packetTaken}
 
 -- `random` are the sixteen random bytes, `out` the bytes of the lent output before the call
 pub data Call : Type 0 where

@@ -16,11 +16,11 @@ use Rattle.site.specs.declared.Site.{Site}
 use Rattle.site.specs.declared.Step.{Step}
 use Rattle.site.specs.Site.{withIssued}
 use Rattle.site.specs.Call.{batchOf, reportOf, Gives}
-use Rattle.linkcalls.specs.Connect.{connectStep, disconnectStep}
-use Rattle.inputs.specs.Inputs.{alarmStep, statusStep, aggregatedStep}
-use Rattle.tick.specs.Tick.{tickStep}
-use Rattle.pump.specs.Pump.{pumpRefuses, pumpPlan}
-use Rattle.packet.specs.Packet.{packetRefuses, packetTaken}
+use Rattle.call_link.specs.Connect.{connectStep, disconnectStep}
+use Rattle.call_input.specs.Inputs.{alarmStep, statusStep, aggregatedStep}
+use Rattle.call_tick.specs.Tick.{tickStep}
+use Rattle.call_pump.specs.Pump.{pumpRefuses, pumpPlan}
+use Rattle.call_packet.specs.Packet.{packetRefuses, packetTaken}
 use Rattle.numbers.specs.Numbers.{conditions, Numbers}
 use Rattle.numbers.specs.Steps.{Written}
 use Rattle.calls.specs.Calls.{Call, timeOf, outputOf, refuses, planOf, endOf, stepBy, outBy}

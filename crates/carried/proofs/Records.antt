@@ -12,16 +12,16 @@ use Rattle.entry.specs.declared.Entry.{Entry}
 use Rattle.pool.specs.declared.Place.{Place}
 use Rattle.pool.specs.declared.Sought.{Sought}
 use Rattle.pool.specs.declared.Sought.the-variants.{Found, Nothing}
-use Rattle.poollaws.specs.View.{firstWhere, lastWhere, orElse, ofAlarm}
-use Rattle.poollaws.specs.Views.{InOrder}
-use Rattle.poollaws.specs.Views.InOrder.{next}
-use Rattle.poollaws.specs.Contents.{Every}
+use Rattle.pool_laws.specs.View.{firstWhere, lastWhere, orElse, ofAlarm}
+use Rattle.pool_laws.specs.Views.{InOrder}
+use Rattle.pool_laws.specs.Views.InOrder.{next}
+use Rattle.pool_laws.specs.Contents.{Every}
 use Rattle.alarm.specs.Issued.{issuedOf}
-use Rattle.batch.specs.Batch.{renumbered}
+use Rattle.pool_batch.specs.Batch.{renumbered}
 use Rattle.site.specs.declared.Site.{Site}
 use Rattle.site.specs.Parts.{alarmAt}
-use Rattle.sending.specs.Sending.{alarmMessage, entryMessage}
-use Rattle.outgoing.specs.Outgoing.{sameEvent}
+use Rattle.send_message.specs.Sending.{alarmMessage, entryMessage}
+use Rattle.send_after.specs.Outgoing.{sameEvent}
 use Rattle.alarmout.proofs.Told.{told, record-told}
 use Rattle.history.proofs.Listed.{never, no}
 

@@ -4,7 +4,7 @@ use Prim.Native.Nat.{ℕ}
 use mathlib.Core.Path.{_≡_, sym, ap}
 use mathlib.Core.List.{List, [], _∷_, _++_}
 use Rattle.identity.specs.declared.Identity.{Identity}
-use Rattle.written.specs.Message.{Message}
+use Rattle.write_message.specs.Message.{Message}
 use Rattle.history.specs.Events.{Event, sentOn, closedAll, upon}
 use Rattle.history.specs.Events.Event.{Opened, Got, Sent, Closed}
 use Rattle.history.specs.Greeted.{Since}

@@ -22,26 +22,26 @@ use Rattle.awaited.proofs.Laws.{Sound as SoundAwaited}
 use Rattle.pool.specs.declared.Sought.{Sought}
 use Rattle.pool.specs.declared.Sought.the-variants.{Found, Nothing as NoEntry}
 use Rattle.pool.specs.Pool.{oldestUnsent, newestAlarm}
-use Rattle.poollaws.specs.View.{records, notSent, ofAlarm}
-use Rattle.poollaws.specs.Views.{Views}
-use Rattle.poollaws.specs.Contents.{Every}
-use Rattle.poollaws.proofs.Viewed.{viewed}
+use Rattle.pool_laws.specs.View.{records, notSent, ofAlarm}
+use Rattle.pool_laws.specs.Views.{Views}
+use Rattle.pool_laws.specs.Contents.{Every}
+use Rattle.pool_laws.proofs.Viewed.{viewed}
 use Rattle.link.specs.declared.Due.{Due}
 use Rattle.link.specs.declared.Due.the-variants.{Nothing, Version as DueVersion, Watchdog as DueWatchdog, Aggregated, Alarm as DueAlarm, Entry as DueEntry}
 use Rattle.link.specs.Acts.{Act}
 use Rattle.link.specs.Acts.Act.{Connect, EntryOut, OtherOut, AlarmPassed, Close}
-use Rattle.written.specs.Message.{Message}
-use Rattle.taken.specs.declared.Class.{Class}
-use Rattle.taken.specs.declared.Class.the-variants.{Ignored as NoClass, Acked, NotAcked, Asked}
-use Rattle.taken.specs.Head.{headAt}
+use Rattle.write_message.specs.Message.{Message}
+use Rattle.read_head.specs.declared.Class.{Class}
+use Rattle.read_head.specs.declared.Class.the-variants.{Ignored as NoClass, Acked, NotAcked, Asked}
+use Rattle.read_head.specs.Head.{headAt}
 use Rattle.site.specs.declared.Site.{Site}
 use Rattle.site.specs.Site.{linkAt}
 use Rattle.site.specs.Parts.{alarmAt}
-use Rattle.sending.specs.Sending.{alarmMessage, entryMessage}
-use Rattle.outgoing.specs.declared.Carried.the-variants.{Held, NoRecord}
-use Rattle.outgoing.specs.Outgoing.{sameEvent, carriedOf}
-use Rattle.pump.specs.Pump.{dueAt, planFor, entryPlan}
-use Rattle.tick.specs.Closing.{lateAt}
+use Rattle.send_message.specs.Sending.{alarmMessage, entryMessage}
+use Rattle.send_after.specs.declared.Carried.the-variants.{Held, NoRecord}
+use Rattle.send_after.specs.Outgoing.{sameEvent, carriedOf}
+use Rattle.call_pump.specs.Pump.{dueAt, planFor, entryPlan}
+use Rattle.call_tick.specs.Closing.{lateAt}
 use Rattle.lives.specs.Moves.{doesAll}
 use Rattle.pumplives.specs.Pumped.{sentAs, recordActs, dueActs}
 use Rattle.framelives.specs.Packeted.{askedActs, classActs}

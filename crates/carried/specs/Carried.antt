@@ -11,12 +11,12 @@ use Rattle.entry.specs.declared.Entry.{Entry}
 use Rattle.awaited.specs.declared.Purpose.the-variants.{Entry as ForEntry}
 use Rattle.awaited.specs.declared.Found.the-variants.{For}
 use Rattle.awaited.specs.Awaited.{findOf}
-use Rattle.written.specs.Message.{Message}
-use Rattle.taken.specs.declared.Class.the-variants.{Acked, NotAcked}
-use Rattle.taken.specs.Head.{headAt}
+use Rattle.write_message.specs.Message.{Message}
+use Rattle.read_head.specs.declared.Class.the-variants.{Acked, NotAcked}
+use Rattle.read_head.specs.Head.{headAt}
 use Rattle.site.specs.declared.Site.{Site}
 use Rattle.site.specs.Site.{linkAt}
-use Rattle.sending.specs.Sending.{entryMessage}
+use Rattle.send_message.specs.Sending.{entryMessage}
 use Rattle.calls.specs.Calls.{Call, siteAfter}
 use Rattle.calls.specs.Calls.Call.{packet}
 use Rattle.demands.specs.Demand3.{Started, doneAt, AnsweredBy, Issued}

@@ -6,12 +6,12 @@ use mathlib.Core.List.{List, [], _∷_}
 use lib.ListN.{length}
 use Rattle.identity.specs.declared.Identity.{Identity}
 use Rattle.identity.specs.Read.{SixteenBytes}
-use Rattle.written.specs.Message.{Message}
+use Rattle.write_message.specs.Message.{Message}
 use Rattle.formedness.specs.Formedness.{Wrote}
 use Rattle.site.specs.declared.Site.{Site}
 use Rattle.identity.specs.Version.{identityOf}
-use Rattle.pump.specs.Claims.{Ready}
-use Rattle.pump.proofs.Kept.{kept as of-pump}
+use Rattle.call_pump.specs.Claims.{Ready}
+use Rattle.call_pump.proofs.Kept.{kept as of-pump}
 use Rattle.calls.specs.Calls.{Call, stepBy, outBy, siteAfter}
 use Rattle.calls.specs.Calls.Call.{pump}
 use Rattle.sequences.specs.Typed.{EachTyped}

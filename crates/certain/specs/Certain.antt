@@ -8,11 +8,11 @@ use lib.ListN.{length}
 use Rattle.answer.specs.declared.Report.{Report}
 use Rattle.identity.specs.declared.Identity.{Identity}
 use Rattle.identity.specs.Read.{SixteenBytes}
-use Rattle.written.specs.Message.{Message}
+use Rattle.write_message.specs.Message.{Message}
 use Rattle.formedness.specs.Formedness.{Wrote}
 use Rattle.site.specs.declared.Site.{Site}
 use Rattle.identity.specs.Version.{identityOf}
-use Rattle.pump.specs.Claims.{Ready}
+use Rattle.call_pump.specs.Claims.{Ready}
 use Rattle.calls.specs.Calls.{Call, outBy, siteAfter}
 use Rattle.calls.specs.Calls.Call.{pump}
 use Rattle.sequences.specs.Typed.{EachTyped}

@@ -18,13 +18,13 @@ use Rattle.link.specs.declared.Link.{Link}
 use Rattle.link.specs.Phase.{isBeating}
 use Rattle.link.specs.Life.{letters}
 use Rattle.link.proofs.Kept.{kept as links}
-use Rattle.taken.specs.Head.{headAt}
+use Rattle.read_head.specs.Head.{headAt}
 use Rattle.site.specs.declared.Site.{Site}
 use Rattle.site.specs.Site.{maskOf}
 use Rattle.site.proofs.Checks.{link-below}
-use Rattle.tick.specs.Closing.{lateAt}
-use Rattle.tick.proofs.Kept.{kept as ticks}
-use Rattle.pump.specs.Pump.{dueAt}
+use Rattle.call_tick.specs.Closing.{lateAt}
+use Rattle.call_tick.proofs.Kept.{kept as ticks}
+use Rattle.call_pump.specs.Pump.{dueAt}
 use Rattle.calls.specs.Calls.{Call, planOf, siteAfter}
 use Rattle.calls.specs.Calls.Call.{connect, disconnect, packet, alarm, status, aggregated, tick, pump}
 use Rattle.calls.proofs.Kept.{kept as calls}

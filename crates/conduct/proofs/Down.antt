@@ -22,12 +22,12 @@ use Rattle.link.specs.Acts.{Act}
 use Rattle.link.specs.Acts.Act.{Connect, Close}
 use Rattle.link.specs.Life.{happened, letters}
 use Rattle.link.proofs.Kept.{kept as links}
-use Rattle.taken.specs.Head.{headAt}
+use Rattle.read_head.specs.Head.{headAt}
 use Rattle.site.specs.declared.Site.{Site}
 use Rattle.site.specs.Site.{linkAt}
-use Rattle.greet.specs.Version.{own}
-use Rattle.pump.specs.Pump.{dueAt}
-use Rattle.tick.specs.Closing.{lateAt}
+use Rattle.packet_greet.specs.Version.{own}
+use Rattle.call_pump.specs.Pump.{dueAt}
+use Rattle.call_tick.specs.Closing.{lateAt}
 use Rattle.lives.specs.Moves.{doesAll, onlyOn}
 use Rattle.pumplives.specs.Pumped.{dueActs}
 use Rattle.framelives.specs.Packeted.{classActs}

@@ -31,15 +31,15 @@ use Rattle.link.specs.Life.{happened, letters}
 use Rattle.link.specs.Promises.{Greeted}
 use Rattle.link.specs.Careful.{Answers}
 use Rattle.link.proofs.Kept.{kept as links}
-use Rattle.taken.specs.declared.Verdict.{Verdict}
-use Rattle.taken.specs.declared.Kind.{Kind}
-use Rattle.taken.specs.declared.Kind.the-variants.{Version, Watchdog, Alarm, AggregatedStatusRequest, StatusRequest, StatusSubscribe, StatusUnsubscribe, Unexpected}
-use Rattle.taken.specs.declared.Class.{Class}
-use Rattle.taken.specs.declared.Class.the-variants.{Ignored as NoClass, Acked, NotAcked, Asked}
-use Rattle.taken.specs.Head.{headAt}
+use Rattle.read_head.specs.declared.Verdict.{Verdict}
+use Rattle.read_head.specs.declared.Kind.{Kind}
+use Rattle.read_head.specs.declared.Kind.the-variants.{Version, Watchdog, Alarm, AggregatedStatusRequest, StatusRequest, StatusSubscribe, StatusUnsubscribe, Unexpected}
+use Rattle.read_head.specs.declared.Class.{Class}
+use Rattle.read_head.specs.declared.Class.the-variants.{Ignored as NoClass, Acked, NotAcked, Asked}
+use Rattle.read_head.specs.Head.{headAt}
 use Rattle.site.specs.declared.Site.{Site}
 use Rattle.site.specs.Site.{linkAt, isDown, noLinkAt, badTimeAt, downAt}
-use Rattle.packet.specs.Packet.{isVersion, isGreeting, unawaited, early, ignoredBy}
+use Rattle.call_packet.specs.Packet.{isVersion, isGreeting, unawaited, early, ignoredBy}
 use Rattle.calls.specs.Calls.{Call, stepBy, siteAfter}
 use Rattle.calls.specs.Calls.Call.{packet}
 use Rattle.calls.specs.Claims.{conditionsOf}

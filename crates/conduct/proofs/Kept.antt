@@ -4,7 +4,7 @@ use mathlib.Core.Path.{refl}
 use mathlib.Core.List.{List, _∷_}
 use Rattle.answer.specs.declared.Refusal.the-variants.{Ignored}
 use Rattle.identity.specs.Version.{identityOf}
-use Rattle.taken.specs.Head.{headAt}
+use Rattle.read_head.specs.Head.{headAt}
 use Rattle.site.specs.declared.Site.{Site}
 use Rattle.framelives.proofs.Kept.{packeted}
 use Rattle.calls.specs.Calls.{Call, siteAfter}

@@ -8,13 +8,13 @@ use native.Mathlib.Omega.{arith}
 use Rattle.answer.specs.Number.{isDone}
 use Rattle.link.specs.Acts.{after}
 use Rattle.link.specs.Careful.{Answers}
-use Rattle.sitetable.specs.Memory.{memoryOf}
+use Rattle.table_whole.specs.Memory.{memoryOf}
 use Rattle.site.specs.declared.Site.{Site}
 use Rattle.site.specs.declared.Step.{Step}
 use Rattle.site.specs.Site.{linkAt}
-use Rattle.start.specs.Fresh.{primaryOf}
-use Rattle.start.specs.Starts.{Starts}
-use Rattle.start.specs.Starts.Starts.{starts, refuses as not-accepted}
+use Rattle.call_start.specs.Fresh.{primaryOf}
+use Rattle.call_start.specs.Starts.{Starts}
+use Rattle.call_start.specs.Starts.Starts.{starts, refuses as not-accepted}
 use Rattle.touches.proofs.Start.{begins}
 use Rattle.lives.specs.Moves.{Shaped}
 use Rattle.lives.specs.Sequence as any

@@ -25,9 +25,9 @@ use Rattle.link.specs.Memory.{lastBeat, alarmsOut}
 use Rattle.link.specs.Careful.{Answers}
 use Rattle.link.proofs.Flags.{flag, beating-by}
 use Rattle.link.proofs.Tells.{tells}
-use Rattle.taken.specs.declared.Kind.{Kind}
-use Rattle.taken.specs.declared.Kind.the-variants.{Version as TypeVersion, Watchdog as TypeWatchdog, Alarm as TypeAlarm, AggregatedStatusRequest, StatusRequest, StatusSubscribe, StatusUnsubscribe, Unexpected}
-use Rattle.packet.specs.Packet.{isWatchdog, expected, unready}
+use Rattle.read_head.specs.declared.Kind.{Kind}
+use Rattle.read_head.specs.declared.Kind.the-variants.{Version as TypeVersion, Watchdog as TypeWatchdog, Alarm as TypeAlarm, AggregatedStatusRequest, StatusRequest, StatusSubscribe, StatusUnsubscribe, Unexpected}
+use Rattle.call_packet.specs.Packet.{isWatchdog, expected, unready}
 use Rattle.conduct.specs.Due.{dueBy}
 use Rattle.conduct.specs.Reasons as told
 

@@ -24,22 +24,22 @@ use Rattle.link.specs.Steps.{fullOf}
 use Rattle.link.specs.Due.{dueOf}
 use Rattle.link.specs.Acts.{Act, after}
 use Rattle.link.specs.Careful.{Answers}
-use Rattle.written.specs.Message.{Message}
-use Rattle.taken.specs.declared.Verdict.{Verdict}
-use Rattle.taken.specs.declared.Kind.{Kind}
-use Rattle.taken.specs.declared.Class.{Class}
-use Rattle.taken.specs.declared.Class.the-variants.{Ignored as NoClass, Acked, NotAcked, Asked}
-use Rattle.taken.specs.Head.{headAt}
-use Rattle.sitetable.specs.declared.SiteTable.{SiteTable}
+use Rattle.write_message.specs.Message.{Message}
+use Rattle.read_head.specs.declared.Verdict.{Verdict}
+use Rattle.read_head.specs.declared.Kind.{Kind}
+use Rattle.read_head.specs.declared.Class.{Class}
+use Rattle.read_head.specs.declared.Class.the-variants.{Ignored as NoClass, Acked, NotAcked, Asked}
+use Rattle.read_head.specs.Head.{headAt}
+use Rattle.table_whole.specs.declared.SiteTable.{SiteTable}
 use Rattle.site.specs.declared.Site.{Site}
 use Rattle.site.specs.Site.{linkAt, roleOf}
 use Rattle.site.specs.Call.{issuing, batchOf, reportOf}
 use Rattle.site.proofs.Checks.{link-below}
-use Rattle.answering.specs.Taken.{unexpected, notReady}
-use Rattle.greet.specs.Answered.{answeredPlan}
-use Rattle.packet.specs.Packet.{expected, unready, classTaken}
-use Rattle.pump.specs.Pump.{isHeld, dueAt, planFor, entryPlan}
-use Rattle.pump.proofs.Kept.{kept as pumps}
+use Rattle.packet_answer.specs.Taken.{unexpected, notReady}
+use Rattle.packet_greet.specs.Answered.{answeredPlan}
+use Rattle.call_packet.specs.Packet.{expected, unready, classTaken}
+use Rattle.call_pump.specs.Pump.{isHeld, dueAt, planFor, entryPlan}
+use Rattle.call_pump.proofs.Kept.{kept as pumps}
 use Rattle.lives.proofs.Done.{Passed, passed}
 use Rattle.packetlives.proofs.Greeting.{answers}
 use Rattle.calls.specs.Calls.{Call, refuses, planOf, endOf, stepBy, outBy, siteAfter}

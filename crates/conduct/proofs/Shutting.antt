@@ -21,21 +21,21 @@ use Rattle.link.specs.Acts.{Act, after}
 use Rattle.link.specs.Life.{happened, letters}
 use Rattle.link.specs.Careful.{Answers}
 use Rattle.link.proofs.Kept.{kept as links}
-use Rattle.versions.specs.declared.Judged.{Judged}
-use Rattle.versions.specs.declared.Judged.the-variants.{Chosen, RsmpVersion, SiteId, SxlVersion}
-use Rattle.versions.specs.Judge.{judge}
-use Rattle.taken.specs.declared.Verdict.{Verdict}
-use Rattle.taken.specs.declared.Verdict.the-variants.{Good, Missing, Bad}
-use Rattle.taken.specs.declared.Kind.{Kind}
-use Rattle.taken.specs.declared.Kind.the-variants.{Version as TypeVersion, Watchdog as TypeWatchdog, Alarm as TypeAlarm, AggregatedStatusRequest, StatusRequest, StatusSubscribe, StatusUnsubscribe, Unexpected}
-use Rattle.taken.specs.declared.Class.{Class}
-use Rattle.taken.specs.declared.Class.the-variants.{Ignored as NoClass, Acked, NotAcked, Asked}
-use Rattle.taken.specs.Head.{headAt}
-use Rattle.takenlists.specs.Version.{versionAt}
+use Rattle.read_versions.specs.declared.Judged.{Judged}
+use Rattle.read_versions.specs.declared.Judged.the-variants.{Chosen, RsmpVersion, SiteId, SxlVersion}
+use Rattle.read_versions.specs.Judge.{judge}
+use Rattle.read_head.specs.declared.Verdict.{Verdict}
+use Rattle.read_head.specs.declared.Verdict.the-variants.{Good, Missing, Bad}
+use Rattle.read_head.specs.declared.Kind.{Kind}
+use Rattle.read_head.specs.declared.Kind.the-variants.{Version as TypeVersion, Watchdog as TypeWatchdog, Alarm as TypeAlarm, AggregatedStatusRequest, StatusRequest, StatusSubscribe, StatusUnsubscribe, Unexpected}
+use Rattle.read_head.specs.declared.Class.{Class}
+use Rattle.read_head.specs.declared.Class.the-variants.{Ignored as NoClass, Acked, NotAcked, Asked}
+use Rattle.read_head.specs.Head.{headAt}
+use Rattle.read_lists.specs.Version.{versionAt}
 use Rattle.site.specs.declared.Site.{Site}
 use Rattle.site.specs.Site.{linkAt}
-use Rattle.greet.specs.Version.{ownOffer}
-use Rattle.packet.specs.Packet.{expected, unready}
+use Rattle.packet_greet.specs.Version.{ownOffer}
+use Rattle.call_packet.specs.Packet.{expected, unready}
 use Rattle.calls.specs.Calls.{Call, siteAfter}
 use Rattle.calls.specs.Calls.Call.{packet}
 use Rattle.demands.specs.Demand3.{Started}

@@ -21,17 +21,17 @@ use Rattle.link.specs.Steps.{fullOf}
 use Rattle.link.specs.Acts.{Act, after}
 use Rattle.link.specs.Acts.Act.{Close}
 use Rattle.link.specs.Careful.{Answers}
-use Rattle.written.specs.Message.{Message}
-use Rattle.taken.specs.declared.Verdict.{Verdict}
-use Rattle.taken.specs.declared.Kind.{Kind}
-use Rattle.taken.specs.declared.Class.{Class}
-use Rattle.taken.specs.declared.Class.the-variants.{Ignored as NoClass, Acked, NotAcked, Asked}
-use Rattle.taken.specs.Head.{headAt}
+use Rattle.write_message.specs.Message.{Message}
+use Rattle.read_head.specs.declared.Verdict.{Verdict}
+use Rattle.read_head.specs.declared.Kind.{Kind}
+use Rattle.read_head.specs.declared.Class.{Class}
+use Rattle.read_head.specs.declared.Class.the-variants.{Ignored as NoClass, Acked, NotAcked, Asked}
+use Rattle.read_head.specs.Head.{headAt}
 use Rattle.site.specs.declared.Site.{Site}
 use Rattle.site.specs.Site.{roleOf, linkAt}
 use Rattle.site.proofs.Checks.{link-below}
-use Rattle.answering.specs.Taken.{unexpected, notReady}
-use Rattle.packet.specs.Packet.{expected, unready}
+use Rattle.packet_answer.specs.Taken.{unexpected, notReady}
+use Rattle.call_packet.specs.Packet.{expected, unready}
 use Rattle.lives.specs.Moves.{onlyOn}
 use Rattle.lives.specs.Sequence as any
 use Rattle.pumplives.specs.Pumped.{dueActs}

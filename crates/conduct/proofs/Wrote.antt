@@ -6,11 +6,11 @@ use mathlib.Core.Bool.{true}
 use mathlib.Core.List.{List, _∷_}
 use Rattle.answer.specs.declared.Report.{Report}
 use Rattle.answer.specs.Number.{isDone}
-use Rattle.written.specs.Message.{Message}
+use Rattle.write_message.specs.Message.{Message}
 use Rattle.site.specs.declared.Site.{Site}
 use Rattle.site.specs.declared.Step.{Step}
-use Rattle.start.specs.Starts.{Starts}
-use Rattle.start.specs.Starts.Starts.{starts, refuses as not-accepted}
+use Rattle.call_start.specs.Starts.{Starts}
+use Rattle.call_start.specs.Starts.Starts.{starts, refuses as not-accepted}
 use Rattle.sound.specs.Sound.{Sound}
 use Rattle.formedness.specs.Formedness.{Wrote}
 use Rattle.calls.specs.Calls.{Call, outputOf, outBy, siteAfter}

@@ -20,22 +20,22 @@ use Rattle.link.specs.declared.Role.{Role}
 use Rattle.link.specs.Acts.{Act}
 use Rattle.link.specs.Acts.Act.{Connect, OtherOut, Answered, VersionAccepted, WatchdogTaken, Close}
 use Rattle.link.specs.Life.{letters}
-use Rattle.written.specs.Message.{Message}
-use Rattle.versions.specs.declared.Judged.{Judged}
-use Rattle.versions.specs.declared.Judged.the-variants.{Chosen, RsmpVersion, SiteId, SxlVersion}
-use Rattle.versions.specs.Judge.{judge}
-use Rattle.taken.specs.declared.Kind.{Kind}
-use Rattle.taken.specs.declared.Kind.the-variants.{Version, Watchdog, Alarm, AggregatedStatusRequest, StatusRequest, StatusSubscribe, StatusUnsubscribe, Unexpected}
-use Rattle.taken.specs.declared.Class.{Class}
-use Rattle.taken.specs.declared.Class.the-variants.{Ignored, Acked, NotAcked, Asked}
-use Rattle.taken.specs.Head.{headAt}
-use Rattle.takenlists.specs.Version.{versionAt}
-use Rattle.sitetable.specs.declared.SiteTable.{SiteTable}
+use Rattle.write_message.specs.Message.{Message}
+use Rattle.read_versions.specs.declared.Judged.{Judged}
+use Rattle.read_versions.specs.declared.Judged.the-variants.{Chosen, RsmpVersion, SiteId, SxlVersion}
+use Rattle.read_versions.specs.Judge.{judge}
+use Rattle.read_head.specs.declared.Kind.{Kind}
+use Rattle.read_head.specs.declared.Kind.the-variants.{Version, Watchdog, Alarm, AggregatedStatusRequest, StatusRequest, StatusSubscribe, StatusUnsubscribe, Unexpected}
+use Rattle.read_head.specs.declared.Class.{Class}
+use Rattle.read_head.specs.declared.Class.the-variants.{Ignored, Acked, NotAcked, Asked}
+use Rattle.read_head.specs.Head.{headAt}
+use Rattle.read_lists.specs.Version.{versionAt}
+use Rattle.table_whole.specs.declared.SiteTable.{SiteTable}
 use Rattle.site.specs.declared.Site.{Site}
 use Rattle.site.specs.Site.{roleOf}
-use Rattle.answering.specs.Taken.{rsmpVersion, siteId, sxlVersion}
-use Rattle.pump.specs.Pump.{isHeld}
-use Rattle.greet.specs.Version.{ownOffer}
+use Rattle.packet_answer.specs.Taken.{rsmpVersion, siteId, sxlVersion}
+use Rattle.call_pump.specs.Pump.{isHeld}
+use Rattle.packet_greet.specs.Version.{ownOffer}
 use Rattle.lives.specs.Moves.{onlyOn, onNone}
 use Rattle.lives.specs.Sequence.{upon}
 use Rattle.pumplives.specs.Pumped.{dueActs}

@@ -16,12 +16,12 @@ use Rattle.link.specs.Deed.Deed.{Connected}
 use Rattle.link.specs.Acts.{Act}
 use Rattle.link.specs.Life.{happened, letters}
 use Rattle.link.specs.Promises.{Greeted}
-use Rattle.written.specs.Message.{Message}
-use Rattle.taken.specs.declared.Verdict.{Verdict}
-use Rattle.taken.specs.declared.Kind.{Kind}
-use Rattle.taken.specs.declared.Kind.the-variants.{Version}
-use Rattle.taken.specs.declared.Class.the-variants.{Ignored as NoClass, Acked, NotAcked, Asked}
-use Rattle.taken.specs.Head.{headAt}
+use Rattle.write_message.specs.Message.{Message}
+use Rattle.read_head.specs.declared.Verdict.{Verdict}
+use Rattle.read_head.specs.declared.Kind.{Kind}
+use Rattle.read_head.specs.declared.Kind.the-variants.{Version}
+use Rattle.read_head.specs.declared.Class.the-variants.{Ignored as NoClass, Acked, NotAcked, Asked}
+use Rattle.read_head.specs.Head.{headAt}
 use Rattle.site.specs.declared.Site.{Site}
 use Rattle.lives.specs.Messages.{isAnswer, AnswerTo, Among, NoAnswer}
 use Rattle.calls.specs.Calls.{Call, stepBy, outBy, siteAfter}

@@ -16,15 +16,15 @@ use Rattle.awaited.specs.Promises.{said, waiting, longAgo}
 use Rattle.link.specs.Deed.Deed.{Connected, OurVersion, TheirVersion}
 use Rattle.link.specs.Life.{happened, letters}
 use Rattle.link.specs.Promises.{Greeted, Beaten}
-use Rattle.versions.specs.declared.Judged.the-variants.{Chosen}
-use Rattle.versions.specs.Judge.{judge}
-use Rattle.taken.specs.declared.Verdict.the-variants.{Good}
-use Rattle.taken.specs.declared.Kind.the-variants.{Version as TypeVersion}
-use Rattle.taken.specs.declared.Class.the-variants.{NotAcked, Asked}
-use Rattle.taken.specs.Head.{headAt}
-use Rattle.takenlists.specs.Version.{versionAt}
+use Rattle.read_versions.specs.declared.Judged.the-variants.{Chosen}
+use Rattle.read_versions.specs.Judge.{judge}
+use Rattle.read_head.specs.declared.Verdict.the-variants.{Good}
+use Rattle.read_head.specs.declared.Kind.the-variants.{Version as TypeVersion}
+use Rattle.read_head.specs.declared.Class.the-variants.{NotAcked, Asked}
+use Rattle.read_head.specs.Head.{headAt}
+use Rattle.read_lists.specs.Version.{versionAt}
 use Rattle.site.specs.declared.Site.{Site}
-use Rattle.greet.specs.Version.{ownOffer}
+use Rattle.packet_greet.specs.Version.{ownOffer}
 use Rattle.calls.specs.Calls.{Call}
 use Rattle.calls.specs.Calls.Call.{disconnect, packet, tick}
 use Rattle.conduct.specs.History.{DoneWith, historyOf}

@@ -17,11 +17,11 @@ use Rattle.link.specs.Due.{alarmsFor}
 use Rattle.link.specs.Acts.{Act}
 use Rattle.link.specs.Life.{happened}
 use Rattle.link.specs.Memory.{lastBeat, alarmsOut}
-use Rattle.written.specs.Message.{Message}
-use Rattle.written.specs.Message.Message.{version, watchdog}
-use Rattle.sitetable.specs.declared.SiteTable.{SiteTable}
+use Rattle.write_message.specs.Message.{Message}
+use Rattle.write_message.specs.Message.Message.{version, watchdog}
+use Rattle.table_whole.specs.declared.SiteTable.{SiteTable}
 use Rattle.site.specs.declared.Site.{Site}
-use Rattle.sending.specs.Sending.{alarmMessage, aggregatedMessage, entryMessage}
+use Rattle.send_message.specs.Sending.{alarmMessage, aggregatedMessage, entryMessage}
 
 -- in this life both Versions, and both Watchdogs, are through
 abbrev pub greeted : List Act → Bool

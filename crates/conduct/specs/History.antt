@@ -7,7 +7,7 @@ use mathlib.Core.List.{List}
 use Rattle.answer.specs.declared.Report.{Report}
 use Rattle.answer.specs.declared.Answer.the-variants.{Done}
 use Rattle.link.specs.Acts.{Act}
-use Rattle.written.specs.Message.{Message}
+use Rattle.write_message.specs.Message.{Message}
 use Rattle.site.specs.declared.Site.{Site}
 use Rattle.lives.specs.Sequence.{lifeOf}
 use Rattle.calls.specs.Calls.{Call, timeOf, refuses, planOf, endOf, stepBy, siteAfter}

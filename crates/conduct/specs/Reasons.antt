@@ -13,36 +13,36 @@ use Rattle.link.specs.declared.Role.the-variants.{Primary, Secondary}
 use Rattle.link.specs.Deed.Deed.{Connected, OurVersion, TheirVersion}
 use Rattle.link.specs.Acts.{Act}
 use Rattle.link.specs.Life.{happened, letters}
-use Rattle.written.specs.Message.{Message}
-use Rattle.written.specs.Message.Message.{ack, notAck}
-use Rattle.versions.specs.declared.Judged.{Judged}
-use Rattle.versions.specs.declared.Judged.the-variants.{Chosen, RsmpVersion, SiteId, SxlVersion}
-use Rattle.versions.specs.Judge.{judge}
-use Rattle.taken.specs.declared.Verdict.{Verdict}
-use Rattle.taken.specs.declared.Verdict.the-variants.{Good, Missing, Bad}
-use Rattle.taken.specs.declared.Kind.{Kind}
-use Rattle.taken.specs.declared.Kind.the-variants.{Version, Watchdog, Alarm, AggregatedStatusRequest, StatusRequest, StatusSubscribe, StatusUnsubscribe, Unexpected}
-use Rattle.taken.specs.declared.Class.{Class}
-use Rattle.taken.specs.declared.Class.the-variants.{Ignored, Acked, NotAcked, Asked}
-use Rattle.taken.specs.declared.Order.{Order}
-use Rattle.taken.specs.declared.Order.the-variants.{Request, Acknowledge, Suspend, Resume}
-use Rattle.taken.specs.Small.{watchdogAt, aggregatedAt, alarmAt}
-use Rattle.takenlists.specs.declared.StatusFields.{StatusFields}
-use Rattle.takenlists.specs.Version.{versionAt}
-use Rattle.takenlists.specs.Status.{statusAt}
-use Rattle.sitetable.specs.declared.SiteTable.{SiteTable}
-use Rattle.greet.specs.Version.{ownOffer}
-use Rattle.sought.specs.declared.Sought.{Sought}
-use Rattle.sought.specs.declared.Sought.the-variants.{Is, Nothing}
-use Rattle.sought.specs.declared.SoughtAlarm.{SoughtAlarm}
-use Rattle.sought.specs.declared.SoughtAlarm.the-variants.{Alarm as AnAlarm, NoComponent, NoAlarm}
-use Rattle.sought.specs.Sought.{componentSought, alarmSought, allStatuses}
+use Rattle.write_message.specs.Message.{Message}
+use Rattle.write_message.specs.Message.Message.{ack, notAck}
+use Rattle.read_versions.specs.declared.Judged.{Judged}
+use Rattle.read_versions.specs.declared.Judged.the-variants.{Chosen, RsmpVersion, SiteId, SxlVersion}
+use Rattle.read_versions.specs.Judge.{judge}
+use Rattle.read_head.specs.declared.Verdict.{Verdict}
+use Rattle.read_head.specs.declared.Verdict.the-variants.{Good, Missing, Bad}
+use Rattle.read_head.specs.declared.Kind.{Kind}
+use Rattle.read_head.specs.declared.Kind.the-variants.{Version, Watchdog, Alarm, AggregatedStatusRequest, StatusRequest, StatusSubscribe, StatusUnsubscribe, Unexpected}
+use Rattle.read_head.specs.declared.Class.{Class}
+use Rattle.read_head.specs.declared.Class.the-variants.{Ignored, Acked, NotAcked, Asked}
+use Rattle.read_head.specs.declared.Order.{Order}
+use Rattle.read_head.specs.declared.Order.the-variants.{Request, Acknowledge, Suspend, Resume}
+use Rattle.read_head.specs.Small.{watchdogAt, aggregatedAt, alarmAt}
+use Rattle.read_lists.specs.declared.StatusFields.{StatusFields}
+use Rattle.read_lists.specs.Version.{versionAt}
+use Rattle.read_lists.specs.Status.{statusAt}
+use Rattle.table_whole.specs.declared.SiteTable.{SiteTable}
+use Rattle.packet_greet.specs.Version.{ownOffer}
+use Rattle.packet_lookup.specs.declared.Sought.{Sought}
+use Rattle.packet_lookup.specs.declared.Sought.the-variants.{Is, Nothing}
+use Rattle.packet_lookup.specs.declared.SoughtAlarm.{SoughtAlarm}
+use Rattle.packet_lookup.specs.declared.SoughtAlarm.the-variants.{Alarm as AnAlarm, NoComponent, NoAlarm}
+use Rattle.packet_lookup.specs.Sought.{componentSought, alarmSought, allStatuses}
 use Rattle.site.specs.declared.Site.{Site}
-use Rattle.sending.specs.Sending.{alarmMessage, aggregatedMessage}
-use Rattle.answering.specs.Taken.{missingElement, badValue, unexpected, notReady, rsmpVersion, siteId, sxlVersion, unknownComponent, unknownAlarm, unknownStatus, busy}
-use Rattle.orders.specs.Orders.{isZero}
-use Rattle.packet.specs.Packet.{isWatchdog}
-use Rattle.statusreply.specs.StatusReply.{response}
+use Rattle.send_message.specs.Sending.{alarmMessage, aggregatedMessage}
+use Rattle.packet_answer.specs.Taken.{missingElement, badValue, unexpected, notReady, rsmpVersion, siteId, sxlVersion, unknownComponent, unknownAlarm, unknownStatus, busy}
+use Rattle.packet_alarm.specs.Orders.{isZero}
+use Rattle.call_packet.specs.Packet.{isWatchdog}
+use Rattle.packet_status.specs.StatusReply.{response}
 use Rattle.conduct.specs.Due.{greeted, beaten}
 
 -- what stands against a packet: a reason, by its number in the table of names (crate `reasons`), or nothing

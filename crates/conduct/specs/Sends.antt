@@ -10,22 +10,22 @@ use Rattle.identity.specs.declared.Identity.{Identity}
 use Rattle.identity.specs.Version.{identityOf}
 use Rattle.pool.specs.Pool.{oldestUnsent}
 use Rattle.link.specs.declared.Role.the-variants.{Primary}
-use Rattle.written.specs.Message.{Message}
-use Rattle.taken.specs.declared.Verdict.the-variants.{Good}
-use Rattle.taken.specs.declared.Kind.{Kind}
-use Rattle.taken.specs.declared.Kind.the-variants.{Alarm, AggregatedStatusRequest, StatusRequest}
-use Rattle.taken.specs.declared.Class.the-variants.{Asked}
-use Rattle.taken.specs.declared.Order.the-variants.{Request}
-use Rattle.taken.specs.Head.{headAt}
-use Rattle.taken.specs.Small.{alarmAt}
-use Rattle.takenlists.specs.Status.{statusAt}
-use Rattle.sought.specs.declared.SoughtAlarm.the-variants.{Alarm as AnAlarm}
-use Rattle.sought.specs.Sought.{componentSought, alarmSought}
+use Rattle.write_message.specs.Message.{Message}
+use Rattle.read_head.specs.declared.Verdict.the-variants.{Good}
+use Rattle.read_head.specs.declared.Kind.{Kind}
+use Rattle.read_head.specs.declared.Kind.the-variants.{Alarm, AggregatedStatusRequest, StatusRequest}
+use Rattle.read_head.specs.declared.Class.the-variants.{Asked}
+use Rattle.read_head.specs.declared.Order.the-variants.{Request}
+use Rattle.read_head.specs.Head.{headAt}
+use Rattle.read_head.specs.Small.{alarmAt}
+use Rattle.read_lists.specs.Status.{statusAt}
+use Rattle.packet_lookup.specs.declared.SoughtAlarm.the-variants.{Alarm as AnAlarm}
+use Rattle.packet_lookup.specs.Sought.{componentSought, alarmSought}
 use Rattle.site.specs.declared.Site.{Site}
 use Rattle.site.specs.Site.{roleOf}
-use Rattle.sending.specs.Sending.{alarmMessage, aggregatedMessage}
-use Rattle.statusreply.specs.StatusReply.{response}
-use Rattle.pump.specs.Pump.{isHeld}
+use Rattle.send_message.specs.Sending.{alarmMessage, aggregatedMessage}
+use Rattle.packet_status.specs.StatusReply.{response}
+use Rattle.call_pump.specs.Pump.{isHeld}
 use Rattle.formedness.specs.Formedness.{Wrote}
 use Rattle.lives.specs.Messages.{isAnswer, Among}
 use Rattle.calls.specs.Calls.{Call, outputOf, outBy, siteAfter}

@@ -9,7 +9,7 @@ use lib.Dec.{ltb}
 use Rattle.answer.specs.declared.Refusal.the-variants.{NoSuchLink, ShortOutput, LongPacket, BadTime, WrongPhase, Ignored}
 use Rattle.answer.specs.Given.Hint.{none, clock}
 use Rattle.identity.specs.declared.Identity.{Identity}
-use Rattle.start.specs.Fresh.{fresh}
+use Rattle.call_start.specs.Fresh.{fresh}
 use Rattle.awaited.specs.Lists.{changeFirst}
 use Rattle.awaited.specs.Slot.{sameIdentity, purposeOf, awaitsFor}
 use Rattle.awaited.specs.Awaited.{nothingAwaited, findIn, findOf, removeOf}
@@ -19,23 +19,23 @@ use Rattle.pool.specs.Places.{noPlace, oldestFrom}
 use Rattle.pool.specs.Pool.{withOf, settleOf}
 use Rattle.entry.specs.Flags.{alarmFlags}
 use Rattle.output.specs.Put.{put, putPiece}
-use Rattle.written.specs.Pieces.{headPieces, pieces}
-use Rattle.versions.specs.Version.{version}
-use Rattle.versions.specs.Judge.{has, latest, lists, meet, judge}
-use Rattle.taken.specs.declared.Head.{Head}
-use Rattle.taken.specs.declared.Kind.the-variants.{Version, Watchdog}
-use Rattle.taken.specs.declared.GotTime.{GotTime}
-use Rattle.taken.specs.Head.{headAt}
-use Rattle.takenlists.specs.declared.VersionFields.{VersionFields}
+use Rattle.write_message.specs.Pieces.{headPieces, pieces}
+use Rattle.read_versions.specs.Version.{version}
+use Rattle.read_versions.specs.Judge.{has, latest, lists, meet, judge}
+use Rattle.read_head.specs.declared.Head.{Head}
+use Rattle.read_head.specs.declared.Kind.the-variants.{Version, Watchdog}
+use Rattle.read_head.specs.declared.GotTime.{GotTime}
+use Rattle.read_head.specs.Head.{headAt}
+use Rattle.read_lists.specs.declared.VersionFields.{VersionFields}
 use Rattle.site.specs.declared.Site.{Site}
 use Rattle.site.specs.declared.Step.{Step}
 use Rattle.site.specs.Site.{noLinkAt, badTimeAt, downAt, linkAt}
 use Rattle.site.specs.Call.{when, refused, stepOf, writtenTo, outAfter}
-use Rattle.answering.specs.Taken.{Taken, takenRefuses, acked}
-use Rattle.greet.specs.Answered.{answeredPlan}
-use Rattle.greet.specs.Version.{accepted, versionTaken}
-use Rattle.greet.specs.Watchdog.{watchdogTaken}
-use Rattle.packet.specs.Packet.{ignoredBy, headTaken}
+use Rattle.packet_answer.specs.Taken.{Taken, takenRefuses, acked}
+use Rattle.packet_greet.specs.Answered.{answeredPlan}
+use Rattle.packet_greet.specs.Version.{accepted, versionTaken}
+use Rattle.packet_greet.specs.Watchdog.{watchdogTaken}
+use Rattle.call_packet.specs.Packet.{ignoredBy, headTaken}
 use Rattle.calls.specs.Calls.{stepBy as does, outBy as outputAfter}
 use Rattle.conversation.specs.Sites.{now, own, versionOut, versionAcked, greeted as greetedLink, watchdogOut, watchdogAcked, beaten as beatenLink, alarmOut, settled, talking, place, alarmed}
 use Rattle.conversation.specs.Packets.{theirVersionAck, theirVersion, theirWatchdogAck, theirWatchdog, theirAlarmAck, theirStrayAck, ourVersionAck, ourWatchdogAck}

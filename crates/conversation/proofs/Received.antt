@@ -7,37 +7,37 @@ use lib.ListN.{replicate}
 use Rattle.basis.specs.Text.{text}
 use Rattle.label.specs.Label.{labelOf, noLabel}
 use Rattle.identity.specs.declared.Identity.{Identity}
-use Rattle.character.specs.Char.{rawOf, charOf}
-use Rattle.text.specs.Decoded.{readChars, decoded}
-use Rattle.text.specs.Copied.{ascii}
-use Rattle.json.specs.Reader.{skipWs, readScalar, readName, readStart, readMark, readEntry, readItems, readInside, readValue}
-use Rattle.jsonfind.specs.Kinds.{stringAt}
-use Rattle.jsonfind.specs.Entries.{nextEntry, entriesFrom, entries, insideAt, entriesAt, memberAt}
-use Rattle.taken.specs.Word.{wordHere, wordAt}
-use Rattle.jsonpacket.specs.Names.{noTwice, allOnce, once}
-use Rattle.jsonpacket.specs.Packet.{isPacket}
-use Rattle.taken.specs.Head.{headBy, headAt}
+use Rattle.json_character.specs.Char.{rawOf, charOf}
+use Rattle.json_text.specs.Decoded.{readChars, decoded}
+use Rattle.json_text.specs.Copied.{ascii}
+use Rattle.json_value.specs.Reader.{skipWs, readScalar, readName, readStart, readMark, readEntry, readItems, readInside, readValue}
+use Rattle.json_find.specs.Kinds.{stringAt}
+use Rattle.json_find.specs.Entries.{nextEntry, entriesFrom, entries, insideAt, entriesAt, memberAt}
+use Rattle.read_head.specs.Word.{wordHere, wordAt}
+use Rattle.json_packet.specs.Names.{noTwice, allOnce, once}
+use Rattle.json_packet.specs.Packet.{isPacket}
+use Rattle.read_head.specs.Head.{headBy, headAt}
 use Rattle.identity.specs.Hex.{hexDigit, hexValue, lowerHex}
 use Rattle.identity.specs.Text.{identityText}
 use Rattle.identity.specs.Read.{bytesOf, readIdentity}
 use Rattle.number.specs.Decimal.{digits, digitsBelow}
-use Rattle.versions.specs.Numeral.{numberIn}
-use Rattle.versions.specs.Version.{version, before, behind, onePart, twoParts, versionOf}
-use Rattle.takenlists.specs.Gather.{gather}
-use Rattle.takenlists.specs.Items.{begins, listHere, listAt}
-use Rattle.takenlists.specs.Version.{pushVersion, pushSite, versionAt}
+use Rattle.read_versions.specs.Numeral.{numberIn}
+use Rattle.read_versions.specs.Version.{version, before, behind, onePart, twoParts, versionOf}
+use Rattle.read_lists.specs.Gather.{gather}
+use Rattle.read_lists.specs.Items.{begins, listHere, listAt}
+use Rattle.read_lists.specs.Version.{pushVersion, pushSite, versionAt}
 use Rattle.calendar.specs.Days.{leapOf, years, months, dayOf}
 use Rattle.calendar.specs.Civil.{yearFrom, monthFrom, dateOf}
 use Rattle.calendar.specs.Text.{secondText, milliText, timeText}
 use Rattle.calendar.specs.Read.{readSecond, readMilli, readTime}
-use Rattle.taken.specs.Small.{watchdogAt}
-use Rattle.taken.specs.declared.Verdict.the-variants.{Good}
-use Rattle.taken.specs.declared.Kind.{Kind}
-use Rattle.taken.specs.declared.Kind.the-variants.{Version, Watchdog}
-use Rattle.taken.specs.declared.Class.the-variants.{Acked, Asked}
-use Rattle.taken.specs.declared.Head.{Head}
-use Rattle.taken.specs.declared.GotTime.{GotTime}
-use Rattle.takenlists.specs.declared.VersionFields.{VersionFields}
+use Rattle.read_head.specs.Small.{watchdogAt}
+use Rattle.read_head.specs.declared.Verdict.the-variants.{Good}
+use Rattle.read_head.specs.declared.Kind.{Kind}
+use Rattle.read_head.specs.declared.Kind.the-variants.{Version, Watchdog}
+use Rattle.read_head.specs.declared.Class.the-variants.{Acked, Asked}
+use Rattle.read_head.specs.declared.Head.{Head}
+use Rattle.read_head.specs.declared.GotTime.{GotTime}
+use Rattle.read_lists.specs.declared.VersionFields.{VersionFields}
 use Rattle.conversation.specs.Sites.{now, own}
 use Rattle.conversation.specs.Packets.{theirVersionAck, theirVersion, theirWatchdogAck, theirWatchdog, theirAlarmAck, theirStrayAck}
 

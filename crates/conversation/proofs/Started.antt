@@ -7,11 +7,11 @@ use mathlib.Core.Logic.{inl}
 use native.Mathlib.Omega.{arith}
 use lib.Dec.{lit≤}
 use Rattle.answer.specs.Given.Hint.{none as noHint}
-use Rattle.sitetable.specs.Bytes.{tableBytes}
-use Rattle.sitetable.specs.Allowed.{Allowed}
-use Rattle.sitetable.specs.Allowed.Every.{none, more}
-use Rattle.start.specs.Starts.{Within, Starts}
-use Rattle.start.specs.Starts.Starts.{starts}
+use Rattle.table_whole.specs.Bytes.{tableBytes}
+use Rattle.table_whole.specs.Allowed.{Allowed}
+use Rattle.table_whole.specs.Allowed.Every.{none, more}
+use Rattle.call_start.specs.Starts.{Within, Starts}
+use Rattle.call_start.specs.Starts.Starts.{starts}
 use Rattle.conversation.specs.Sites.{table, now, started}
 use Rattle.conversation.specs.Conversation.{tableGiven, done}
 

@@ -4,7 +4,7 @@ use mathlib.Core.Path.{_≡_, refl}
 use mathlib.Core.Bool.{true}
 use mathlib.Core.List.{[]}
 use Rattle.answer.specs.Given.Hint.{none}
-use Rattle.start.specs.Fresh.{fresh}
+use Rattle.call_start.specs.Fresh.{fresh}
 use Rattle.awaited.specs.Lists.{changeFirst}
 use Rattle.awaited.specs.Slot.{sameIdentity, purposeOf, isTaken, awaitsFor}
 use Rattle.awaited.specs.Awaited.{nothingAwaited, addOf, findIn, findOf, removeOf, howManyOf}
@@ -14,11 +14,11 @@ use Rattle.link.specs.Steps.{connectOf, versionOutOf, mayJudgeOf, versionAccept
 use Rattle.pool.specs.Places.{oldestFrom, newestFrom}
 use Rattle.pool.specs.Shares.{loser, noOther, crowdedOf as crowdedFor}
 use Rattle.pool.specs.Pool.{emptyOf, lossOf, roomOf, withOf, issueOf, markOf, settleOf}
-use Rattle.batch.specs.Batch.{added}
+use Rattle.pool_batch.specs.Batch.{added}
 use Rattle.alarm.specs.Alarm.{inputOf}
 use Rattle.entry.specs.Flags.{alarmFlags}
 use Rattle.output.specs.Put.{put, putPiece}
-use Rattle.written.specs.Pieces.{headPieces, ownPieces, aboutPieces, offerPieces, sitePieces, codePieces, statePieces, restPieces, highPieces, lowPieces, bodyPieces, pieces}
+use Rattle.write_message.specs.Pieces.{headPieces, ownPieces, aboutPieces, offerPieces, sitePieces, codePieces, statePieces, restPieces, highPieces, lowPieces, bodyPieces, pieces}
 use Rattle.identity.specs.Hex.{hexDigit}
 use Rattle.identity.specs.Text.{identityText}
 use Rattle.calendar.specs.Days.{leapOf, years, months, dayOf}

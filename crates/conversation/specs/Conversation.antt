@@ -20,7 +20,7 @@ use Rattle.link.specs.Phase.{phaseOf}
 use Rattle.site.specs.declared.Site.{Site}
 use Rattle.site.specs.declared.Step.{Step}
 use Rattle.site.specs.Call.{refused, hintTime, hintBit}
-use Rattle.start.specs.Starts.{Starts}
+use Rattle.call_start.specs.Starts.{Starts}
 use Rattle.calls.specs.Calls.{Call, stepBy as does, outBy as outputAfter, siteAfter as after}
 use Rattle.sequences.specs.Typed.{EachTyped}
 use Rattle.calls.specs.Calls.Call.{connect as Connect, alarm as Alarm, pump as Pump, packet as Packet}

@@ -19,11 +19,11 @@ use Rattle.link.specs.Fields.{closedLink, withAwaited, withBeat, withAlarm, wit
 use Rattle.alarm.specs.declared.Alarm.{Alarm}
 use Rattle.alarm.specs.Alarm.{beginning}
 use Rattle.alarm.specs.Issued.{issuedOf}
-use Rattle.sitetable.specs.Table.{Table}
-use Rattle.sitetable.specs.Memory.{memoryOf}
+use Rattle.table_whole.specs.Table.{Table}
+use Rattle.table_whole.specs.Memory.{memoryOf}
 use Rattle.site.specs.declared.Site.{Site}
 use Rattle.site.specs.Site.{site}
-use Rattle.start.specs.Fresh.{fresh}
+use Rattle.call_start.specs.Fresh.{fresh}
 
 abbrev pub table : Table
 table =

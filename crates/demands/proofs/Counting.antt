@@ -19,24 +19,24 @@ use Rattle.awaited.specs.declared.Found.{Found}
 use Rattle.awaited.specs.declared.Found.the-variants.{For, Nothing}
 use Rattle.awaited.specs.Awaited.{findOf}
 use Rattle.pool.specs.declared.Pool.{Pool}
-use Rattle.poollaws.specs.Acts.{Act, act, acts}
-use Rattle.poollaws.specs.Acts.Act.{Issue, Settle, Mark, Unmark}
-use Rattle.poollaws.specs.Leaves.{Held, NoSettle}
-use Rattle.poollaws.specs.Promises.{Reached}
-use Rattle.poollaws.proofs.Counts.{not-both}
-use Rattle.poollaws.proofs.Kept.{kept as pool-kept}
+use Rattle.pool_laws.specs.Acts.{Act, act, acts}
+use Rattle.pool_laws.specs.Acts.Act.{Issue, Settle, Mark, Unmark}
+use Rattle.pool_laws.specs.Leaves.{Held, NoSettle}
+use Rattle.pool_laws.specs.Promises.{Reached}
+use Rattle.pool_laws.proofs.Counts.{not-both}
+use Rattle.pool_laws.proofs.Kept.{kept as pool-kept}
 use Rattle.link.specs.declared.Phase.{Phase}
 use Rattle.link.specs.Phase.{phaseOf, closesOn}
 use Rattle.link.specs.Steps.{closesOf}
-use Rattle.taken.specs.declared.Class.{Class}
-use Rattle.taken.specs.declared.Class.the-variants.{Ignored, Acked, NotAcked, Asked}
-use Rattle.taken.specs.Head.{headAt}
-use Rattle.batch.specs.Batch.{issuedAll}
+use Rattle.read_head.specs.declared.Class.{Class}
+use Rattle.read_head.specs.declared.Class.the-variants.{Ignored, Acked, NotAcked, Asked}
+use Rattle.read_head.specs.Head.{headAt}
+use Rattle.pool_batch.specs.Batch.{issuedAll}
 use Rattle.site.specs.declared.Site.{Site}
 use Rattle.site.specs.Site.{linkAt, withIssued}
 use Rattle.site.specs.Call.{Plan, batchOf, stepped, answerOf}
-use Rattle.greet.specs.Answered.{answeredPlan}
-use Rattle.packet.specs.Packet.{classTaken}
+use Rattle.packet_greet.specs.Answered.{answeredPlan}
+use Rattle.call_packet.specs.Packet.{classTaken}
 use Rattle.holding.specs.Touches.{settled}
 use Rattle.touches.specs.Calls.{closingActs}
 use Rattle.touches.proofs.Touched.{touched as standing}

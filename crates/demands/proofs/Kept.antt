@@ -8,10 +8,10 @@ use mathlib.Core.Logic.{_⊎_, inl, inr}
 use native.Mathlib.Omega.{arith}
 use Rattle.basis.specs.Pick.{pick}
 use Rattle.entry.specs.declared.Entry.{Entry}
-use Rattle.poollaws.specs.Leaves.{Held}
-use Rattle.poollaws.specs.Promises.{Reached}
-use Rattle.poollaws.specs.Contents.{Every}
-use Rattle.poollaws.specs.View.{records}
+use Rattle.pool_laws.specs.Leaves.{Held}
+use Rattle.pool_laws.specs.Promises.{Reached}
+use Rattle.pool_laws.specs.Contents.{Every}
+use Rattle.pool_laws.specs.View.{records}
 use Rattle.pool.specs.Pool.{heldOf, lostOf}
 use Rattle.site.specs.declared.Site.{Site}
 use Rattle.holding.specs.Touches.{Configured, Issues, Superseded, Genuine, settled}

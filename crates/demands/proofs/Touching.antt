@@ -11,23 +11,23 @@ use Rattle.identity.specs.Version.{identityOf}
 use Rattle.awaited.specs.declared.Purpose.the-variants.{Entry as ForEntry}
 use Rattle.awaited.specs.declared.Found.the-variants.{For}
 use Rattle.awaited.specs.Awaited.{findOf}
-use Rattle.poollaws.specs.Acts.{Act}
-use Rattle.poollaws.specs.Acts.Act.{Settle}
-use Rattle.poollaws.specs.Leaves.{Among, NoSettle}
-use Rattle.taken.specs.declared.Verdict.{Verdict}
-use Rattle.taken.specs.declared.Verdict.the-variants.{Good, Missing, Bad}
-use Rattle.taken.specs.declared.Kind.{Kind}
-use Rattle.taken.specs.declared.Kind.the-variants.{Version, Watchdog, Alarm, AggregatedStatusRequest, StatusRequest, StatusSubscribe, StatusUnsubscribe, Unexpected}
-use Rattle.taken.specs.declared.Class.{Class}
-use Rattle.taken.specs.declared.Class.the-variants.{Ignored, Acked, NotAcked, Asked}
-use Rattle.taken.specs.Head.{headAt}
-use Rattle.taken.specs.Small.{watchdogAt, aggregatedAt, alarmAt}
-use Rattle.takenlists.specs.Version.{versionAt}
-use Rattle.takenlists.specs.Status.{statusAt}
+use Rattle.pool_laws.specs.Acts.{Act}
+use Rattle.pool_laws.specs.Acts.Act.{Settle}
+use Rattle.pool_laws.specs.Leaves.{Among, NoSettle}
+use Rattle.read_head.specs.declared.Verdict.{Verdict}
+use Rattle.read_head.specs.declared.Verdict.the-variants.{Good, Missing, Bad}
+use Rattle.read_head.specs.declared.Kind.{Kind}
+use Rattle.read_head.specs.declared.Kind.the-variants.{Version, Watchdog, Alarm, AggregatedStatusRequest, StatusRequest, StatusSubscribe, StatusUnsubscribe, Unexpected}
+use Rattle.read_head.specs.declared.Class.{Class}
+use Rattle.read_head.specs.declared.Class.the-variants.{Ignored, Acked, NotAcked, Asked}
+use Rattle.read_head.specs.Head.{headAt}
+use Rattle.read_head.specs.Small.{watchdogAt, aggregatedAt, alarmAt}
+use Rattle.read_lists.specs.Version.{versionAt}
+use Rattle.read_lists.specs.Status.{statusAt}
 use Rattle.site.specs.declared.Site.{Site}
 use Rattle.site.specs.Site.{linkAt}
-use Rattle.answering.specs.Taken.{Taken, notAcked, byVerdict, unexpected, notReady}
-use Rattle.packet.specs.Packet.{expected, unready, kindTaken, expectedTaken, classTaken}
+use Rattle.packet_answer.specs.Taken.{Taken, notAcked, byVerdict, unexpected, notReady}
+use Rattle.call_packet.specs.Packet.{expected, unready, kindTaken, expectedTaken, classTaken}
 use Rattle.site.proofs.Checks.{link-below}
 use Rattle.holding.specs.Touches.{Configured, Touches}
 use Rattle.holding.specs.Sequences.{Touching}

@@ -5,16 +5,16 @@ use mathlib.Core.Bool.{true, false}
 use mathlib.Core.List.{List, []}
 use Rattle.basis.specs.Pick.{pick}
 use Rattle.identity.specs.declared.Identity.{Identity}
-use Rattle.poollaws.specs.Acts.{Act}
-use Rattle.taken.specs.declared.Kind.{Kind}
-use Rattle.taken.specs.declared.Kind.the-variants.{Version, Watchdog, Alarm, AggregatedStatusRequest, StatusRequest, StatusSubscribe, StatusUnsubscribe, Unexpected}
-use Rattle.taken.specs.declared.Class.{Class}
-use Rattle.taken.specs.declared.Class.the-variants.{Ignored, Acked, NotAcked, Asked}
-use Rattle.taken.specs.Head.{headAt}
-use Rattle.takenlists.specs.Version.{versionAt}
+use Rattle.pool_laws.specs.Acts.{Act}
+use Rattle.read_head.specs.declared.Kind.{Kind}
+use Rattle.read_head.specs.declared.Kind.the-variants.{Version, Watchdog, Alarm, AggregatedStatusRequest, StatusRequest, StatusSubscribe, StatusUnsubscribe, Unexpected}
+use Rattle.read_head.specs.declared.Class.{Class}
+use Rattle.read_head.specs.declared.Class.the-variants.{Ignored, Acked, NotAcked, Asked}
+use Rattle.read_head.specs.Head.{headAt}
+use Rattle.read_lists.specs.Version.{versionAt}
 use Rattle.site.specs.declared.Site.{Site}
 use Rattle.site.specs.Site.{linkAt}
-use Rattle.packet.specs.Packet.{expected, unready}
+use Rattle.call_packet.specs.Packet.{expected, unready}
 use Rattle.holding.specs.Sequences.{Calls}
 use Rattle.touches.specs.Calls.{closingActs, lateActs}
 use Rattle.packettouches.specs.Packets.{pumpActs, answeredActs, verdictActs, versionActs}

@@ -23,18 +23,18 @@ use Rattle.pool.specs.declared.Pool.{Pool}
 use Rattle.pool.specs.declared.Wanted.the-variants.{Numbered}
 use Rattle.pool.specs.Places.{fits}
 use Rattle.pool.specs.Pool.{heldOf, lostOf}
-use Rattle.poollaws.specs.Acts.{newerThan}
-use Rattle.poollaws.specs.Acts.Act.{Settle}
-use Rattle.poollaws.specs.Leaves.{Held, Among}
-use Rattle.poollaws.specs.View.{records}
-use Rattle.poollaws.specs.Contents.{Every}
-use Rattle.taken.specs.declared.Class.{Class}
-use Rattle.taken.specs.declared.Class.the-variants.{Ignored, Acked, NotAcked, Asked}
-use Rattle.taken.specs.Head.{headAt}
+use Rattle.pool_laws.specs.Acts.{newerThan}
+use Rattle.pool_laws.specs.Acts.Act.{Settle}
+use Rattle.pool_laws.specs.Leaves.{Held, Among}
+use Rattle.pool_laws.specs.View.{records}
+use Rattle.pool_laws.specs.Contents.{Every}
+use Rattle.read_head.specs.declared.Class.{Class}
+use Rattle.read_head.specs.declared.Class.the-variants.{Ignored, Acked, NotAcked, Asked}
+use Rattle.read_head.specs.Head.{headAt}
 use Rattle.site.specs.declared.Site.{Site}
 use Rattle.site.specs.declared.Step.{Step}
 use Rattle.site.specs.Site.{linkAt}
-use Rattle.start.specs.Starts.{Starts}
+use Rattle.call_start.specs.Starts.{Starts}
 use Rattle.holding.specs.Touches.{Issues, Genuine, issuedFor}
 use Rattle.calls.specs.Calls.{Call, planOf, stepBy, siteAfter}
 use Rattle.calls.specs.Calls.Call.{connect, disconnect, packet, alarm, status, aggregated, tick, pump}

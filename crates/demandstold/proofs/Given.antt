@@ -5,17 +5,17 @@ use mathlib.Core.Path.{_≡_, refl, ap}
 use mathlib.Core.Bool.{true, false}
 use mathlib.Core.List.{List}
 use native.Mathlib.Omega.{arith}
-use Rattle.sitetable.specs.declared.SiteTable.{SiteTable}
-use Rattle.sitetable.specs.declared.TableRead.{TableRead}
-use Rattle.sitetable.specs.Table.{Table}
-use Rattle.sitetable.specs.Bytes.{tableBytes}
-use Rattle.sitetable.specs.Allowed.{Allowed}
-use Rattle.sitetable.specs.Memory.{memoryOf}
-use Rattle.sitetable.specs.Reads.Reads.{reads}
-use Rattle.sitetable.proofs.Whole.{once}
+use Rattle.table_whole.specs.declared.SiteTable.{SiteTable}
+use Rattle.table_whole.specs.declared.TableRead.{TableRead}
+use Rattle.table_whole.specs.Table.{Table}
+use Rattle.table_whole.specs.Bytes.{tableBytes}
+use Rattle.table_whole.specs.Allowed.{Allowed}
+use Rattle.table_whole.specs.Memory.{memoryOf}
+use Rattle.table_whole.specs.Reads.Reads.{reads}
+use Rattle.table_whole.proofs.Whole.{once}
 use Rattle.site.specs.declared.Site.{Site}
-use Rattle.start.specs.Fresh.{fresh, primaryOf}
-use Rattle.start.specs.Starts.Starts.{starts, refuses}
+use Rattle.call_start.specs.Fresh.{fresh, primaryOf}
+use Rattle.call_start.specs.Starts.Starts.{starts, refuses}
 use Rattle.demands.specs.Demand3.{Started}
 use Rattle.demands.specs.Demand3.Started.{started as by-start}
 use Rattle.told.specs.Told.{Setup}

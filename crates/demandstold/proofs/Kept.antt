@@ -10,13 +10,13 @@ use Rattle.basis.specs.Pick.{pick, bit}
 use Rattle.answer.specs.Number.{isDone}
 use Rattle.entry.specs.declared.Entry.{Entry}
 use Rattle.pool.specs.declared.Place.{Place}
-use Rattle.poollaws.specs.Acts.{Act}
-use Rattle.poollaws.specs.Acts.Act.{Issue}
-use Rattle.poollaws.specs.Leaves.{Among as AmongActs}
-use Rattle.poollaws.specs.Leaves.Among.{first as first-act, later as later-act}
-use Rattle.poollaws.specs.View.{records}
-use Rattle.poollaws.specs.Contents.{Every}
-use Rattle.batch.specs.Laws.{numbered, issues}
+use Rattle.pool_laws.specs.Acts.{Act}
+use Rattle.pool_laws.specs.Acts.Act.{Issue}
+use Rattle.pool_laws.specs.Leaves.{Among as AmongActs}
+use Rattle.pool_laws.specs.Leaves.Among.{first as first-act, later as later-act}
+use Rattle.pool_laws.specs.View.{records}
+use Rattle.pool_laws.specs.Contents.{Every}
+use Rattle.pool_batch.specs.Laws.{numbered, issues}
 use Rattle.site.specs.declared.Site.{Site}
 use Rattle.holding.specs.Touches.{issuedFor}
 use Rattle.calls.specs.Calls.{Call, planOf, stepBy, siteAfter}

@@ -10,18 +10,18 @@ use Rattle.basis.specs.Pick.{pick}
 use Rattle.answer.specs.Number.{isDone}
 use Rattle.entry.specs.declared.Entry.{Entry}
 use Rattle.pool.specs.Pool.{heldOf, lostOf}
-use Rattle.poollaws.specs.Leaves.{Held}
-use Rattle.poollaws.specs.View.{records}
-use Rattle.poollaws.specs.Contents.{Every}
-use Rattle.batch.specs.Laws.{numbered}
-use Rattle.sitetable.specs.Table.{Table}
-use Rattle.sitetable.specs.Bytes.{tableBytes}
-use Rattle.sitetable.specs.Allowed.{Allowed}
-use Rattle.sitetable.specs.Memory.{memoryOf}
+use Rattle.pool_laws.specs.Leaves.{Held}
+use Rattle.pool_laws.specs.View.{records}
+use Rattle.pool_laws.specs.Contents.{Every}
+use Rattle.pool_batch.specs.Laws.{numbered}
+use Rattle.table_whole.specs.Table.{Table}
+use Rattle.table_whole.specs.Bytes.{tableBytes}
+use Rattle.table_whole.specs.Allowed.{Allowed}
+use Rattle.table_whole.specs.Memory.{memoryOf}
 use Rattle.site.specs.declared.Site.{Site}
 use Rattle.site.specs.declared.Step.{Step}
-use Rattle.start.specs.Fresh.{primaryOf}
-use Rattle.start.specs.Starts.{Starts}
+use Rattle.call_start.specs.Fresh.{primaryOf}
+use Rattle.call_start.specs.Starts.{Starts}
 use Rattle.holding.specs.Touches.{Genuine, issuedFor}
 use Rattle.calls.specs.Calls.{Call, planOf, stepBy, siteAfter}
 use Rattle.demands.specs.Demand3.{Started, Issued, Released, answeredIn}

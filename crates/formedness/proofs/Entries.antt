@@ -15,33 +15,33 @@ use Rattle.basis.specs.Text.{text}
 use Rattle.basis.proofs.Cases.{picked, bool-cases, eq-or-ne}
 use Rattle.number.specs.Alphabet.{isLabel}
 use Rattle.label.specs.Label.{labelOf, textOf}
-use Rattle.json.specs.Reader.{skipWs}
-use Rattle.taken.specs.declared.Verdict.{Verdict}
-use Rattle.taken.specs.declared.Verdict.the-variants.{Good, Missing, Bad}
-use Rattle.taken.specs.declared.GotLabel.{GotLabel}
-use Rattle.taken.specs.Word.{Word, absent, other, word, wordAt}
-use Rattle.taken.specs.Values.{worst, noText, gotLabel}
-use Rattle.takenlists.specs.declared.Flag.{Flag}
-use Rattle.takenlists.specs.declared.Flag.the-variants.{Is as IsFlag}
-use Rattle.takenlists.specs.declared.GotNumber.{GotNumber}
-use Rattle.takenlists.specs.declared.StatusEntry.{StatusEntry}
-use Rattle.takenlists.specs.declared.GotEntry.{GotEntry}
-use Rattle.takenlists.specs.declared.StatusList.{StatusList}
-use Rattle.takenlists.specs.declared.StatusFields.{StatusFields}
-use Rattle.takenlists.specs.Items.{Item, Items, absent as no-list, other as no-such-list, items, listAt}
-use Rattle.takenlists.specs.Gather.{gather}
-use Rattle.takenlists.specs.Status.{changed, entryOf, noEntry, gotSeconds, plainEntry, fullEntry, entryOfItem, noStatuses, pushEntry, statusesOf, statusFrom, statusBy, statusAt}
-use Rattle.sought.specs.declared.Sought.{Sought}
-use Rattle.sought.specs.declared.Sought.the-variants.{Is, Nothing}
-use Rattle.sought.specs.Sought.{statusSought, entryAt}
-use Rattle.written.specs.Message.{Status}
-use Rattle.written.specs.declared.Value.the-variants.{Undefined}
-use Rattle.writtenlaws.specs.Formed.{Label, FormedValue, FormedStatus, FormedStatuses}
-use Rattle.writtenlaws.specs.Formed.FormedValue.{undefined}
-use Rattle.writtenlaws.specs.Formed.FormedStatuses.{none, more}
+use Rattle.json_value.specs.Reader.{skipWs}
+use Rattle.read_head.specs.declared.Verdict.{Verdict}
+use Rattle.read_head.specs.declared.Verdict.the-variants.{Good, Missing, Bad}
+use Rattle.read_head.specs.declared.GotLabel.{GotLabel}
+use Rattle.read_head.specs.Word.{Word, absent, other, word, wordAt}
+use Rattle.read_head.specs.Values.{worst, noText, gotLabel}
+use Rattle.read_lists.specs.declared.Flag.{Flag}
+use Rattle.read_lists.specs.declared.Flag.the-variants.{Is as IsFlag}
+use Rattle.read_lists.specs.declared.GotNumber.{GotNumber}
+use Rattle.read_lists.specs.declared.StatusEntry.{StatusEntry}
+use Rattle.read_lists.specs.declared.GotEntry.{GotEntry}
+use Rattle.read_lists.specs.declared.StatusList.{StatusList}
+use Rattle.read_lists.specs.declared.StatusFields.{StatusFields}
+use Rattle.read_lists.specs.Items.{Item, Items, absent as no-list, other as no-such-list, items, listAt}
+use Rattle.read_lists.specs.Gather.{gather}
+use Rattle.read_lists.specs.Status.{changed, entryOf, noEntry, gotSeconds, plainEntry, fullEntry, entryOfItem, noStatuses, pushEntry, statusesOf, statusFrom, statusBy, statusAt}
+use Rattle.packet_lookup.specs.declared.Sought.{Sought}
+use Rattle.packet_lookup.specs.declared.Sought.the-variants.{Is, Nothing}
+use Rattle.packet_lookup.specs.Sought.{statusSought, entryAt}
+use Rattle.write_message.specs.Message.{Status}
+use Rattle.write_message.specs.declared.Value.the-variants.{Undefined}
+use Rattle.write_laws.specs.Formed.{Label, FormedValue, FormedStatus, FormedStatuses}
+use Rattle.write_laws.specs.Formed.FormedValue.{undefined}
+use Rattle.write_laws.specs.Formed.FormedStatuses.{none, more}
 use Rattle.site.specs.declared.Site.{Site}
 use Rattle.site.specs.Parts.{statusAt as statusIn}
-use Rattle.statusreply.specs.StatusReply.{valueOf, valueIn, toldOf, toldTo}
+use Rattle.packet_status.specs.StatusReply.{valueOf, valueIn, toldOf, toldTo}
 use Rattle.sound.specs.Sound.{SoundAt}
 use Rattle.formedness.proofs.Rows.{label-text}
 use Rattle.formedness.proofs.Tells.{value-formed}

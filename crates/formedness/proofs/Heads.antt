@@ -19,18 +19,18 @@ use Rattle.identity.proofs.Read.{answers}
 use Rattle.identity.proofs.Text.{text-length}
 use Rattle.names.specs.declared.Found.{Found}
 use Rattle.names.specs.declared.Found.the-variants.{At, Nothing}
-use Rattle.json.specs.Reader.{skipWs}
-use Rattle.jsonpacket.specs.Packet.{isPacket}
-use Rattle.writtenlaws.specs.Formed.{Received}
-use Rattle.taken.specs.declared.Verdict.{Verdict}
-use Rattle.taken.specs.declared.Verdict.the-variants.{Good, Missing, Bad}
-use Rattle.taken.specs.declared.Kind.{Kind}
-use Rattle.taken.specs.declared.Class.{Class}
-use Rattle.taken.specs.declared.Class.the-variants.{Ignored, Acked, NotAcked, Asked}
-use Rattle.taken.specs.declared.Head.{Head}
-use Rattle.taken.specs.Word.{Word, absent, other, word, wordAt}
-use Rattle.taken.specs.Values.{verdictOf}
-use Rattle.taken.specs.Head.{identityOf, characters, typeOf, kindFor, ignored, answered, asked, headFor, headOf, headBy, headAt}
+use Rattle.json_value.specs.Reader.{skipWs}
+use Rattle.json_packet.specs.Packet.{isPacket}
+use Rattle.write_laws.specs.Formed.{Received}
+use Rattle.read_head.specs.declared.Verdict.{Verdict}
+use Rattle.read_head.specs.declared.Verdict.the-variants.{Good, Missing, Bad}
+use Rattle.read_head.specs.declared.Kind.{Kind}
+use Rattle.read_head.specs.declared.Class.{Class}
+use Rattle.read_head.specs.declared.Class.the-variants.{Ignored, Acked, NotAcked, Asked}
+use Rattle.read_head.specs.declared.Head.{Head}
+use Rattle.read_head.specs.Word.{Word, absent, other, word, wordAt}
+use Rattle.read_head.specs.Values.{verdictOf}
+use Rattle.read_head.specs.Head.{identityOf, characters, typeOf, kindFor, ignored, answered, asked, headFor, headOf, headBy, headAt}
 use Rattle.formedness.specs.Formedness.{ReceivedIn}
 
 -- a request's characters are those of an identity

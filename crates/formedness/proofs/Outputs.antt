@@ -9,12 +9,12 @@ use Rattle.answer.specs.declared.Report.{Report}
 use Rattle.answer.specs.declared.Answer.the-variants.{Done}
 use Rattle.output.specs.Put.{Wrote as Puts, concat}
 use Rattle.output.proofs.Laws as laws
-use Rattle.written.specs.Message.{Message}
-use Rattle.written.specs.Listing.{bytesOf}
-use Rattle.written.specs.Pieces.{pieces}
-use Rattle.written.proofs.Whole.{whole}
-use Rattle.writtenlaws.specs.Claims.{Claims}
-use Rattle.writtenlaws.proofs.Kept.{kept as lawful}
+use Rattle.write_message.specs.Message.{Message}
+use Rattle.write_message.specs.Listing.{bytesOf}
+use Rattle.write_message.specs.Pieces.{pieces}
+use Rattle.write_message.proofs.Whole.{whole}
+use Rattle.write_laws.specs.Claims.{Claims}
+use Rattle.write_laws.proofs.Kept.{kept as lawful}
 use Rattle.site.specs.declared.Step.{Step}
 use Rattle.site.specs.Call.{reportOf, stepOf, piecesOf, writtenTo, outAfter}
 use Rattle.numbers.proofs.Given.{numbers}

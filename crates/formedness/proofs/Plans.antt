@@ -24,54 +24,54 @@ use Rattle.pool.specs.declared.Sought.{Sought as Searched}
 use Rattle.pool.specs.declared.Sought.the-variants.{Found as FoundEntry, Nothing as NoEntry}
 use Rattle.pool.specs.Places.{noPlace, of, fits, soughtAt}
 use Rattle.pool.specs.Pool.{oldestUnsent}
-use Rattle.poollaws.proofs.Counts.{and-left}
-use Rattle.poollaws.proofs.Inv.{of-used}
-use Rattle.poollaws.proofs.Oldest.{Oldest, the-oldest, no-oldest}
+use Rattle.pool_laws.proofs.Counts.{and-left}
+use Rattle.pool_laws.proofs.Inv.{of-used}
+use Rattle.pool_laws.proofs.Oldest.{Oldest, the-oldest, no-oldest}
 use Rattle.link.specs.declared.Due.{Due}
 use Rattle.link.specs.declared.Due.the-variants.{Nothing, Version, Watchdog, Aggregated, Alarm, Entry as DueEntry}
 use Rattle.link.specs.declared.Role.{Role}
 use Rattle.link.specs.declared.Role.the-variants.{Primary, Secondary}
 use Rattle.link.specs.Steps.{fullOf, closesOf}
 use Rattle.alarm.specs.declared.Order.{Order as Change}
-use Rattle.written.specs.Message.{Message}
-use Rattle.written.specs.Message.Message.{ack, notAck}
-use Rattle.written.specs.Listing.{bytesOf}
-use Rattle.writtenlaws.specs.Formed.{Received, Formed}
-use Rattle.writtenlaws.specs.Formed.Formed.{formed-watchdog, formed-ack, formed-notAck, formed-statuses}
-use Rattle.writtenlaws.specs.Size.{most, entriesIn}
-use Rattle.writtenlaws.proofs.Kept.{kept as lawful}
-use Rattle.taken.specs.declared.Verdict.{Verdict}
-use Rattle.taken.specs.declared.Verdict.the-variants.{Good, Missing, Bad}
-use Rattle.taken.specs.declared.Order.{Order}
-use Rattle.taken.specs.declared.Order.the-variants.{Request, Acknowledge, Suspend, Resume}
-use Rattle.taken.specs.declared.AlarmFields.{AlarmFields}
-use Rattle.taken.specs.declared.GotLabel.{GotLabel}
-use Rattle.taken.specs.declared.GotTime.{GotTime}
-use Rattle.takenlists.specs.declared.VersionFields.{VersionFields}
-use Rattle.takenlists.specs.declared.StatusFields.{StatusFields}
-use Rattle.takenlists.specs.Status.{statusAt}
-use Rattle.versions.specs.declared.Judged.{Judged}
-use Rattle.versions.specs.declared.Judged.the-variants.{Chosen, RsmpVersion, SiteId, SxlVersion}
-use Rattle.versions.specs.Judge.{judge}
-use Rattle.sought.specs.declared.Sought.{Sought}
-use Rattle.sought.specs.declared.Sought.the-variants.{Is, Nothing as NoSuch}
-use Rattle.sought.specs.declared.SoughtAlarm.{SoughtAlarm}
-use Rattle.sought.specs.declared.SoughtAlarm.the-variants.{Alarm as AnAlarm, NoComponent, NoAlarm}
-use Rattle.sought.specs.Sought.{componentSought, alarmSought, allStatuses}
-use Rattle.sending.specs.Sending.{alarmMessage, aggregatedMessage, heldState, alarmTold, aggregatedTold, heldValue, statusTold, entryMessage}
+use Rattle.write_message.specs.Message.{Message}
+use Rattle.write_message.specs.Message.Message.{ack, notAck}
+use Rattle.write_message.specs.Listing.{bytesOf}
+use Rattle.write_laws.specs.Formed.{Received, Formed}
+use Rattle.write_laws.specs.Formed.Formed.{formed-watchdog, formed-ack, formed-notAck, formed-statuses}
+use Rattle.write_laws.specs.Size.{most, entriesIn}
+use Rattle.write_laws.proofs.Kept.{kept as lawful}
+use Rattle.read_head.specs.declared.Verdict.{Verdict}
+use Rattle.read_head.specs.declared.Verdict.the-variants.{Good, Missing, Bad}
+use Rattle.read_head.specs.declared.Order.{Order}
+use Rattle.read_head.specs.declared.Order.the-variants.{Request, Acknowledge, Suspend, Resume}
+use Rattle.read_head.specs.declared.AlarmFields.{AlarmFields}
+use Rattle.read_head.specs.declared.GotLabel.{GotLabel}
+use Rattle.read_head.specs.declared.GotTime.{GotTime}
+use Rattle.read_lists.specs.declared.VersionFields.{VersionFields}
+use Rattle.read_lists.specs.declared.StatusFields.{StatusFields}
+use Rattle.read_lists.specs.Status.{statusAt}
+use Rattle.read_versions.specs.declared.Judged.{Judged}
+use Rattle.read_versions.specs.declared.Judged.the-variants.{Chosen, RsmpVersion, SiteId, SxlVersion}
+use Rattle.read_versions.specs.Judge.{judge}
+use Rattle.packet_lookup.specs.declared.Sought.{Sought}
+use Rattle.packet_lookup.specs.declared.Sought.the-variants.{Is, Nothing as NoSuch}
+use Rattle.packet_lookup.specs.declared.SoughtAlarm.{SoughtAlarm}
+use Rattle.packet_lookup.specs.declared.SoughtAlarm.the-variants.{Alarm as AnAlarm, NoComponent, NoAlarm}
+use Rattle.packet_lookup.specs.Sought.{componentSought, alarmSought, allStatuses}
+use Rattle.send_message.specs.Sending.{alarmMessage, aggregatedMessage, heldState, alarmTold, aggregatedTold, heldValue, statusTold, entryMessage}
 use Rattle.site.specs.declared.Site.{Site}
 use Rattle.site.specs.Site.{roleOf, linkAt}
 use Rattle.site.specs.Parts.{alarmRowAt, statusRowAt}
 use Rattle.site.specs.Call.{Plan}
-use Rattle.pump.specs.Pump.{isHeld, Below, dueAt, entryPlan, planFor, pumpPlan}
-use Rattle.pump.proofs.Laws.{due-below}
-use Rattle.answering.specs.Taken.{Taken, notAcked, acked, replied, byVerdict, unlessBusy, busy, unknownComponent, unknownAlarm, unknownStatus}
-use Rattle.greet.specs.Answered.{answeredPlan}
-use Rattle.greet.specs.Version.{own, versionJudged, versionTaken}
-use Rattle.greet.specs.Watchdog.{beat, watchdogTaken}
-use Rattle.subscribing.specs.Subscribing.{changed, judged, asked, subscribingTaken}
-use Rattle.orders.specs.Orders.{changeTaken, isZero, requestBy, requestTaken, ordered, orderedOf, foundTaken, alarmTaken, aggregatedOf, aggregatedTaken}
-use Rattle.statusreply.specs.StatusReply.{toldTo, passes, response, requestedOf, statusTaken}
+use Rattle.call_pump.specs.Pump.{isHeld, Below, dueAt, entryPlan, planFor, pumpPlan}
+use Rattle.call_pump.proofs.Laws.{due-below}
+use Rattle.packet_answer.specs.Taken.{Taken, notAcked, acked, replied, byVerdict, unlessBusy, busy, unknownComponent, unknownAlarm, unknownStatus}
+use Rattle.packet_greet.specs.Answered.{answeredPlan}
+use Rattle.packet_greet.specs.Version.{own, versionJudged, versionTaken}
+use Rattle.packet_greet.specs.Watchdog.{beat, watchdogTaken}
+use Rattle.packet_subscribe.specs.Subscribing.{changed, judged, asked, subscribingTaken}
+use Rattle.packet_alarm.specs.Orders.{changeTaken, isZero, requestBy, requestTaken, ordered, orderedOf, foundTaken, alarmTaken, aggregatedOf, aggregatedTaken}
+use Rattle.packet_status.specs.StatusReply.{toldTo, passes, response, requestedOf, statusTaken}
 use Rattle.sound.specs.Sound.{EachHeld, EntryOf, SoundAt}
 use Rattle.sound.proofs.Held.{held-at}
 use Rattle.sound.proofs.Parts.{each-set}

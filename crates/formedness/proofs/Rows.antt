@@ -8,14 +8,14 @@ use native.Mathlib.Omega.{arith}
 use lib.ListN.{length, getD}
 use Rattle.number.specs.Alphabet.{isLabel}
 use Rattle.label.specs.Label.{labelOf, noLabel, textOf}
-use Rattle.item.specs.Item.{noItem}
-use Rattle.sitetable.specs.declared.SiteTable.{SiteTable}
-use Rattle.sitetable.specs.Table.{Row, noRow}
-use Rattle.sitetable.specs.Allowed.{Every, IsString, IsAlarm, IsStatus}
-use Rattle.sitetable.specs.Allowed.Every.{none, more}
-use Rattle.sitetable.specs.Memory.{itemOf}
-use Rattle.sitetable.proofs.Kept.{text-label, kept-text, kept-item}
-use Rattle.writtenlaws.specs.Formed.{Label}
+use Rattle.table_item.specs.Item.{noItem}
+use Rattle.table_whole.specs.declared.SiteTable.{SiteTable}
+use Rattle.table_whole.specs.Table.{Row, noRow}
+use Rattle.table_whole.specs.Allowed.{Every, IsString, IsAlarm, IsStatus}
+use Rattle.table_whole.specs.Allowed.Every.{none, more}
+use Rattle.table_whole.specs.Memory.{itemOf}
+use Rattle.table_whole.proofs.Kept.{text-label, kept-text, kept-item}
+use Rattle.write_laws.specs.Formed.{Label}
 use Rattle.sound.specs.Sound.{SoundStart}
 
 every-at : {A : Type 0} {P : A → Type 0} (d : A) (xs : List A) → Every P xs → (i : ℕ) → i < length xs → P (getD xs i d)

@@ -11,7 +11,7 @@ use lib.ListN.{length, getD}
 use Rattle.basis.specs.Pick.{pick}
 use Rattle.basis.proofs.Cases.{picked}
 use Rattle.label.specs.Label.{textOf}
-use Rattle.item.specs.declared.Item.{Item}
+use Rattle.table_item.specs.declared.Item.{Item}
 use Rattle.number.specs.Signed.{signedOf}
 use Rattle.number.proofs.RoundTrip.{signed-range}
 use Rattle.identity.specs.Read.{SixteenBytes}
@@ -22,20 +22,20 @@ use Rattle.entry.specs.Valid.{Alarm as AnAlarm, Status as AStatus, Aggregated a
 use Rattle.entry.specs.Valid.OfKind.{an-alarm, a-status, an-aggregated}
 use Rattle.entry.proofs.ValidLaws.{alarm-flags}
 use Rattle.status.specs.declared.Status.{Status}
-use Rattle.sitetable.specs.Table.{Row, noRow}
-use Rattle.sitetable.specs.Allowed.{IsAlarm, IsStatus}
-use Rattle.sitetable.specs.Memory.{itemOf}
-use Rattle.written.specs.declared.AlarmState.{AlarmState}
-use Rattle.written.specs.declared.Value.{Value}
-use Rattle.written.specs.declared.Value.the-variants.{Unknown}
-use Rattle.written.specs.Message.Message.{version}
-use Rattle.writtenlaws.specs.Formed.{Label, FormedState, FormedValue, FormedStatus, Formed}
-use Rattle.writtenlaws.specs.Formed.FormedValue.{recent, unknown}
-use Rattle.writtenlaws.specs.Formed.FormedStatuses.{none, more}
-use Rattle.writtenlaws.specs.Formed.Formed.{formed-version, formed-alarm, formed-aggregated, formed-statuses}
+use Rattle.table_whole.specs.Table.{Row, noRow}
+use Rattle.table_whole.specs.Allowed.{IsAlarm, IsStatus}
+use Rattle.table_whole.specs.Memory.{itemOf}
+use Rattle.write_message.specs.declared.AlarmState.{AlarmState}
+use Rattle.write_message.specs.declared.Value.{Value}
+use Rattle.write_message.specs.declared.Value.the-variants.{Unknown}
+use Rattle.write_message.specs.Message.Message.{version}
+use Rattle.write_laws.specs.Formed.{Label, FormedState, FormedValue, FormedStatus, Formed}
+use Rattle.write_laws.specs.Formed.FormedValue.{recent, unknown}
+use Rattle.write_laws.specs.Formed.FormedStatuses.{none, more}
+use Rattle.write_laws.specs.Formed.Formed.{formed-version, formed-alarm, formed-aggregated, formed-statuses}
 use Rattle.site.specs.declared.Site.{Site}
 use Rattle.site.specs.Parts.{alarmAt, alarmRowAt, statusRowAt}
-use Rattle.sending.specs.Sending.{componentText, stateOf, heldState, alarmTold, alarmMessage, aggregatedTold, aggregatedMessage, knownValue, statusValue, heldValue, statusTold, entryMessage}
+use Rattle.send_message.specs.Sending.{componentText, stateOf, heldState, alarmTold, alarmMessage, aggregatedTold, aggregatedMessage, knownValue, statusValue, heldValue, statusTold, entryMessage}
 use Rattle.sound.specs.Sound.{SoundStatus, itemsOf, EntryOf, SoundAt}
 use Rattle.formedness.specs.Formedness.{Messages}
 use Rattle.formedness.proofs.Rows.{label-text, component-label, site-label, sxl-label, alarm-row, alarm-allowed, status-row, status-allowed}

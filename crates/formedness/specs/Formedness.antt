@@ -14,35 +14,35 @@ use Rattle.identity.specs.Read.{SixteenBytes}
 use Rattle.identity.specs.Version.{version4Of}
 use Rattle.entry.specs.declared.Entry.{Entry}
 use Rattle.label.specs.Label.{textOf as labelText}
-use Rattle.jsonpacket.specs.Packet.{Packet}
-use Rattle.jsonwrite.specs.Text.{textOf}
-use Rattle.written.specs.Message.{Message}
-use Rattle.written.specs.Message.Message.{version, watchdog}
-use Rattle.written.specs.Listing.{jsonOf, bytesOf}
-use Rattle.writtenlaws.specs.Formed.{Formed, Received}
-use Rattle.writtenlaws.specs.Fields.{fieldsOf}
-use Rattle.taken.specs.declared.Verdict.{Verdict}
-use Rattle.taken.specs.declared.Kind.{Kind}
-use Rattle.taken.specs.declared.Class.the-variants.{Asked}
-use Rattle.taken.specs.declared.GotTime.{GotTime}
-use Rattle.taken.specs.declared.GotLabel.{GotLabel}
-use Rattle.taken.specs.declared.AlarmFields.{AlarmFields}
-use Rattle.taken.specs.Head.{headAt}
-use Rattle.takenlists.specs.declared.VersionFields.{VersionFields}
-use Rattle.takenlists.specs.declared.StatusFields.{StatusFields}
-use Rattle.takenlists.specs.Status.{statusAt}
+use Rattle.json_packet.specs.Packet.{Packet}
+use Rattle.json_write.specs.Text.{textOf}
+use Rattle.write_message.specs.Message.{Message}
+use Rattle.write_message.specs.Message.Message.{version, watchdog}
+use Rattle.write_message.specs.Listing.{jsonOf, bytesOf}
+use Rattle.write_laws.specs.Formed.{Formed, Received}
+use Rattle.write_laws.specs.Fields.{fieldsOf}
+use Rattle.read_head.specs.declared.Verdict.{Verdict}
+use Rattle.read_head.specs.declared.Kind.{Kind}
+use Rattle.read_head.specs.declared.Class.the-variants.{Asked}
+use Rattle.read_head.specs.declared.GotTime.{GotTime}
+use Rattle.read_head.specs.declared.GotLabel.{GotLabel}
+use Rattle.read_head.specs.declared.AlarmFields.{AlarmFields}
+use Rattle.read_head.specs.Head.{headAt}
+use Rattle.read_lists.specs.declared.VersionFields.{VersionFields}
+use Rattle.read_lists.specs.declared.StatusFields.{StatusFields}
+use Rattle.read_lists.specs.Status.{statusAt}
 use Rattle.site.specs.declared.Site.{Site}
 use Rattle.site.specs.declared.Step.{Step}
 use Rattle.site.specs.Call.{Plan, Gives}
-use Rattle.sending.specs.Sending.{alarmMessage, aggregatedMessage, entryMessage}
-use Rattle.pump.specs.Pump.{pumpPlan}
-use Rattle.answering.specs.Taken.{notAcked}
-use Rattle.greet.specs.Answered.{answeredPlan}
-use Rattle.greet.specs.Version.{versionTaken}
-use Rattle.greet.specs.Watchdog.{watchdogTaken}
-use Rattle.subscribing.specs.Subscribing.{subscribingTaken}
-use Rattle.orders.specs.Orders.{alarmTaken, aggregatedTaken}
-use Rattle.statusreply.specs.StatusReply.{statusTaken}
+use Rattle.send_message.specs.Sending.{alarmMessage, aggregatedMessage, entryMessage}
+use Rattle.call_pump.specs.Pump.{pumpPlan}
+use Rattle.packet_answer.specs.Taken.{notAcked}
+use Rattle.packet_greet.specs.Answered.{answeredPlan}
+use Rattle.packet_greet.specs.Version.{versionTaken}
+use Rattle.packet_greet.specs.Watchdog.{watchdogTaken}
+use Rattle.packet_subscribe.specs.Subscribing.{subscribingTaken}
+use Rattle.packet_alarm.specs.Orders.{alarmTaken, aggregatedTaken}
+use Rattle.packet_status.specs.StatusReply.{statusTaken}
 use Rattle.sound.specs.Sound.{EntryOf, SoundAt}
 
 -- each is well-formed

@@ -15,10 +15,10 @@ use Rattle.entry.specs.declared.Entry.{Entry}
 use Rattle.pool.specs.declared.Place.{Place}
 use Rattle.pool.specs.declared.Pool.{Pool}
 use Rattle.pool.specs.Pool.{made}
-use Rattle.poollaws.specs.Acts.{acts}
-use Rattle.poollaws.specs.View.{records, unsent}
-use Rattle.poollaws.proofs.Kept.{kept as promised}
-use Rattle.batch.specs.Laws.{numbered, issues}
+use Rattle.pool_laws.specs.Acts.{acts}
+use Rattle.pool_laws.specs.View.{records, unsent}
+use Rattle.pool_laws.proofs.Kept.{kept as promised}
+use Rattle.pool_batch.specs.Laws.{numbered, issues}
 use Rattle.link.specs.declared.Link.{Link}
 use Rattle.site.specs.declared.Site.{Site}
 use Rattle.site.specs.Site.{linkAt, withIssued}

@@ -3,13 +3,13 @@
 use Prim.Native.Nat.{ℕ, _<_}
 use mathlib.Core.Path.{_≡_, refl, ap, subst}
 use mathlib.Core.List.{List, [], _∷_}
-use Rattle.poollaws.specs.Promises.{Reached}
-use Rattle.poollaws.proofs.Counts.{not-both}
+use Rattle.pool_laws.specs.Promises.{Reached}
+use Rattle.pool_laws.proofs.Counts.{not-both}
 use Rattle.site.specs.declared.Site.{Site}
 use Rattle.site.specs.Site.{linkAt}
-use Rattle.start.specs.Fresh.{primaryOf}
-use Rattle.start.specs.Starts.Starts.{starts, refuses}
-use Rattle.sitetable.specs.Memory.{memoryOf}
+use Rattle.call_start.specs.Fresh.{primaryOf}
+use Rattle.call_start.specs.Starts.Starts.{starts, refuses}
+use Rattle.table_whole.specs.Memory.{memoryOf}
 use Rattle.lives.specs.Moves.{Shaped}
 use Rattle.lives.specs.Sequence as any-lives
 use Rattle.lives.proofs.Born.{born}

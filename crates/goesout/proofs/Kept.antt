@@ -8,11 +8,11 @@ use mathlib.Core.Logic.{_⊎_, inl, inr}
 use Rattle.answer.specs.Number.{isDone}
 use Rattle.entry.specs.declared.Entry.{Entry}
 use Rattle.pool.specs.declared.Place.{Place}
-use Rattle.poollaws.specs.Leaves.{Held}
-use Rattle.poollaws.specs.View.{records}
-use Rattle.poollaws.specs.Views.{InOrder}
-use Rattle.poollaws.specs.Contents.{Every}
-use Rattle.poollaws.proofs.Counts.{not-both}
+use Rattle.pool_laws.specs.Leaves.{Held}
+use Rattle.pool_laws.specs.View.{records}
+use Rattle.pool_laws.specs.Views.{InOrder}
+use Rattle.pool_laws.specs.Contents.{Every}
+use Rattle.pool_laws.proofs.Counts.{not-both}
 use Rattle.link.specs.declared.Phase.the-variants.{Up}
 use Rattle.link.specs.Phase.{phaseOf}
 use Rattle.site.specs.declared.Site.{Site}

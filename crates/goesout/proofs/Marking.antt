@@ -15,17 +15,17 @@ use Rattle.awaited.specs.Awaited.{findOf}
 use Rattle.pool.specs.declared.Sought.{Sought}
 use Rattle.pool.specs.declared.Sought.the-variants.{Found as FoundEntry, Nothing as NoEntry}
 use Rattle.pool.specs.Pool.{oldestUnsent}
-use Rattle.poollaws.specs.Acts.{Act as PoolAct}
+use Rattle.pool_laws.specs.Acts.{Act as PoolAct}
 use Rattle.link.specs.declared.Due.{Due}
 use Rattle.link.specs.declared.Due.the-variants.{Nothing, Version, Watchdog, Aggregated, Alarm, Entry}
 use Rattle.link.specs.Steps.{closesOf}
-use Rattle.versions.specs.declared.Judged.{Judged}
-use Rattle.versions.specs.declared.Judged.the-variants.{Chosen, RsmpVersion, SiteId, SxlVersion}
-use Rattle.versions.specs.Judge.{judge}
-use Rattle.taken.specs.declared.Verdict.{Verdict}
-use Rattle.taken.specs.declared.Verdict.the-variants.{Good, Missing, Bad}
-use Rattle.taken.specs.declared.Kind.{Kind}
-use Rattle.taken.specs.declared.Kind.the-variants.{
+use Rattle.read_versions.specs.declared.Judged.{Judged}
+use Rattle.read_versions.specs.declared.Judged.the-variants.{Chosen, RsmpVersion, SiteId, SxlVersion}
+use Rattle.read_versions.specs.Judge.{judge}
+use Rattle.read_head.specs.declared.Verdict.{Verdict}
+use Rattle.read_head.specs.declared.Verdict.the-variants.{Good, Missing, Bad}
+use Rattle.read_head.specs.declared.Kind.{Kind}
+use Rattle.read_head.specs.declared.Kind.the-variants.{
   Version as KindVersion,
   Watchdog as KindWatchdog,
   Alarm as KindAlarm,
@@ -35,18 +35,18 @@ use Rattle.taken.specs.declared.Kind.the-variants.{
   StatusUnsubscribe,
   Unexpected,
 }
-use Rattle.taken.specs.declared.Class.{Class}
-use Rattle.taken.specs.declared.Class.the-variants.{Ignored, Acked, NotAcked, Asked}
-use Rattle.taken.specs.Head.{headAt}
-use Rattle.takenlists.specs.Version.{versionAt}
+use Rattle.read_head.specs.declared.Class.{Class}
+use Rattle.read_head.specs.declared.Class.the-variants.{Ignored, Acked, NotAcked, Asked}
+use Rattle.read_head.specs.Head.{headAt}
+use Rattle.read_lists.specs.Version.{versionAt}
 use Rattle.site.specs.declared.Site.{Site}
 use Rattle.site.specs.Site.{linkAt}
-use Rattle.outgoing.specs.declared.Carried.{Carried}
-use Rattle.outgoing.specs.declared.Carried.the-variants.{Held, NoRecord}
-use Rattle.outgoing.specs.Outgoing.{carriedAt}
-use Rattle.pump.specs.Pump.{dueAt}
-use Rattle.greet.specs.Version.{own}
-use Rattle.packet.specs.Packet.{expected, unready}
+use Rattle.send_after.specs.declared.Carried.{Carried}
+use Rattle.send_after.specs.declared.Carried.the-variants.{Held, NoRecord}
+use Rattle.send_after.specs.Outgoing.{carriedAt}
+use Rattle.call_pump.specs.Pump.{dueAt}
+use Rattle.packet_greet.specs.Version.{own}
+use Rattle.call_packet.specs.Packet.{expected, unready}
 use Rattle.touches.specs.Calls.{closingActs}
 use Rattle.packettouches.specs.Packets.{carriedActs, entryActs, dueActs, purposeActs, foundActs, answeredActs, judgedActs, verdictActs}
 use Rattle.calls.specs.Calls.{Call}

@@ -13,9 +13,9 @@ use Rattle.basis.specs.Lists.{count}
 use Rattle.basis.proofs.Cases.{bool-cases}
 use Rattle.pool.specs.declared.Place.{Place}
 use Rattle.pool.specs.declared.Sought.the-variants.{Found}
-use Rattle.poollaws.specs.View.{firstWhere, notSent}
-use Rattle.poollaws.specs.Views.{InOrder}
-use Rattle.poollaws.specs.Views.InOrder.{next}
+use Rattle.pool_laws.specs.View.{firstWhere, notSent}
+use Rattle.pool_laws.specs.Views.{InOrder}
+use Rattle.pool_laws.specs.Views.InOrder.{next}
 use Rattle.goesout.specs.Goesout.{In, Unsent}
 use Rattle.goesout.specs.Goesout.In.{first, later}
 

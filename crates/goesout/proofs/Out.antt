@@ -16,8 +16,8 @@ use Rattle.pool.specs.declared.Sought.{Sought}
 use Rattle.pool.specs.declared.Sought.the-variants.{Found}
 use Rattle.pool.specs.declared.Pool.{Pool}
 use Rattle.pool.specs.Pool.{oldestUnsent, markOf}
-use Rattle.poollaws.specs.Acts.{acts}
-use Rattle.poollaws.specs.View.{records, sentIf}
+use Rattle.pool_laws.specs.Acts.{acts}
+use Rattle.pool_laws.specs.View.{records, sentIf}
 use Rattle.link.specs.declared.Link.{Link}
 use Rattle.link.specs.declared.Due.{Due}
 use Rattle.link.specs.declared.Due.the-variants.{Nothing, Entry}
@@ -25,15 +25,15 @@ use Rattle.link.specs.declared.Phase.the-variants.{Down, Up}
 use Rattle.link.specs.Acts.{does}
 use Rattle.link.specs.Acts.Act.{EntryOut}
 use Rattle.link.specs.Careful.{Sendable}
-use Rattle.written.specs.Message.{Message}
-use Rattle.written.specs.Listing.{bytesOf}
+use Rattle.write_message.specs.Message.{Message}
+use Rattle.write_message.specs.Listing.{bytesOf}
 use Rattle.site.specs.declared.Site.{Site}
 use Rattle.site.specs.Site.{linkAt}
 use Rattle.site.specs.Call.{Plan}
-use Rattle.sending.specs.Sending.{entryMessage}
-use Rattle.pump.specs.Pump.{dueAt}
-use Rattle.pump.specs.Claims.{Ready, Gave}
-use Rattle.pump.proofs.Kept.{kept as pumped}
+use Rattle.send_message.specs.Sending.{entryMessage}
+use Rattle.call_pump.specs.Pump.{dueAt}
+use Rattle.call_pump.specs.Claims.{Ready, Gave}
+use Rattle.call_pump.proofs.Kept.{kept as pumped}
 use Rattle.lives.specs.Moves.{doesAll}
 use Rattle.packettouches.specs.Packets.{entryActs, dueActs as poolActs}
 use Rattle.pumplives.specs.Pumped.{recordActs, dueActs}

@@ -13,21 +13,21 @@ use Rattle.awaited.specs.declared.Purpose.the-variants.{Version as ForVersion, 
 use Rattle.awaited.specs.declared.Found.{Found}
 use Rattle.awaited.specs.declared.Found.the-variants.{For, Nothing as NotAwaited}
 use Rattle.awaited.specs.Awaited.{findOf}
-use Rattle.poollaws.specs.Acts.{Act as PoolAct}
-use Rattle.poollaws.specs.Acts.Act.{Unmark}
+use Rattle.pool_laws.specs.Acts.{Act as PoolAct}
+use Rattle.pool_laws.specs.Acts.Act.{Unmark}
 use Rattle.link.specs.declared.Link.{Link}
 use Rattle.link.specs.Fields.{closedLink}
 use Rattle.link.specs.Steps.{removedOf, noted, closesOf, answeredOf}
 use Rattle.link.specs.Acts.{Act, does}
 use Rattle.link.specs.Acts.Act.{OtherOut, Answered, VersionAccepted, WatchdogTaken}
 use Rattle.link.specs.Careful.Sends.{other}
-use Rattle.versions.specs.declared.Judged.{Judged}
-use Rattle.versions.specs.declared.Judged.the-variants.{Chosen, RsmpVersion, SiteId, SxlVersion}
-use Rattle.versions.specs.Judge.{judge}
-use Rattle.taken.specs.declared.Verdict.{Verdict}
-use Rattle.taken.specs.declared.Verdict.the-variants.{Good, Missing, Bad}
-use Rattle.taken.specs.declared.Kind.{Kind}
-use Rattle.taken.specs.declared.Kind.the-variants.{
+use Rattle.read_versions.specs.declared.Judged.{Judged}
+use Rattle.read_versions.specs.declared.Judged.the-variants.{Chosen, RsmpVersion, SiteId, SxlVersion}
+use Rattle.read_versions.specs.Judge.{judge}
+use Rattle.read_head.specs.declared.Verdict.{Verdict}
+use Rattle.read_head.specs.declared.Verdict.the-variants.{Good, Missing, Bad}
+use Rattle.read_head.specs.declared.Kind.{Kind}
+use Rattle.read_head.specs.declared.Kind.the-variants.{
   Version,
   Watchdog,
   Alarm,
@@ -37,17 +37,17 @@ use Rattle.taken.specs.declared.Kind.the-variants.{
   StatusUnsubscribe,
   Unexpected,
 }
-use Rattle.taken.specs.declared.Class.{Class}
-use Rattle.taken.specs.declared.Class.the-variants.{Ignored, Acked, NotAcked, Asked}
-use Rattle.taken.specs.Small.{watchdogAt, aggregatedAt, alarmAt}
-use Rattle.takenlists.specs.Version.{versionAt}
-use Rattle.takenlists.specs.Status.{statusAt}
+use Rattle.read_head.specs.declared.Class.{Class}
+use Rattle.read_head.specs.declared.Class.the-variants.{Ignored, Acked, NotAcked, Asked}
+use Rattle.read_head.specs.Small.{watchdogAt, aggregatedAt, alarmAt}
+use Rattle.read_lists.specs.Version.{versionAt}
+use Rattle.read_lists.specs.Status.{statusAt}
 use Rattle.site.specs.declared.Site.{Site}
 use Rattle.site.specs.Site.{linkAt}
-use Rattle.greet.specs.Version.{own}
-use Rattle.orders.specs.Orders.{alarmTaken, aggregatedTaken}
-use Rattle.statusreply.specs.StatusReply.{statusTaken}
-use Rattle.packet.specs.Packet.{expected, unready}
+use Rattle.packet_greet.specs.Version.{own}
+use Rattle.packet_alarm.specs.Orders.{alarmTaken, aggregatedTaken}
+use Rattle.packet_status.specs.StatusReply.{statusTaken}
+use Rattle.call_packet.specs.Packet.{expected, unready}
 use Rattle.lives.specs.Moves.{doesAll, Heedful}
 use Rattle.lives.specs.Moves.Heedful.{more}
 use Rattle.packetlives.specs.Packets.{whereGood, judgedActs as linkJudgedActs}

@@ -10,10 +10,10 @@ use borrow.Author.Tests.{eqb-true, ne-eqb}
 use Rattle.basis.specs.Pick.{pick}
 use Rattle.pool.specs.declared.Place.{Place}
 use Rattle.pool.specs.declared.Pool.{Pool}
-use Rattle.poollaws.specs.Acts.{Act, acts}
-use Rattle.poollaws.specs.Acts.Act.{Settle, Mark, Unmark}
-use Rattle.poollaws.specs.Promises.{Reached}
-use Rattle.poollaws.specs.View.{records, without, sentIf, unsent}
+use Rattle.pool_laws.specs.Acts.{Act, acts}
+use Rattle.pool_laws.specs.Acts.Act.{Settle, Mark, Unmark}
+use Rattle.pool_laws.specs.Promises.{Reached}
+use Rattle.pool_laws.specs.View.{records, without, sentIf, unsent}
 use Rattle.link.specs.declared.Link.{Link}
 use Rattle.goesout.specs.Goesout.{Unsent, Awaits}
 use Rattle.goesout.proofs.Places.{views, Each, each-so, each-map, each-without, pick-own, mark-other}

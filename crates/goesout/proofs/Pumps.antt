@@ -24,10 +24,10 @@ use Rattle.link.specs.Acts.Act.{EntryOut, OtherOut, AggregatedPassed, AlarmPass
 use Rattle.link.specs.Careful.Sends.{version, watchdog, entry, other}
 use Rattle.site.specs.declared.Site.{Site}
 use Rattle.site.specs.Site.{linkAt, roleOf}
-use Rattle.outgoing.specs.declared.Carried.{Carried}
-use Rattle.outgoing.specs.declared.Carried.the-variants.{Held, NoRecord}
-use Rattle.outgoing.specs.Outgoing.{carriedAt}
-use Rattle.pump.specs.Pump.{isHeld, dueAt}
+use Rattle.send_after.specs.declared.Carried.{Carried}
+use Rattle.send_after.specs.declared.Carried.the-variants.{Held, NoRecord}
+use Rattle.send_after.specs.Outgoing.{carriedAt}
+use Rattle.call_pump.specs.Pump.{isHeld, dueAt}
 use Rattle.lives.specs.Moves.{doesAll, Heedful}
 use Rattle.lives.specs.Moves.Heedful.{more}
 use Rattle.pumplives.specs.Pumped.{sentAs, recordActs, dueActs as linkDueActs}

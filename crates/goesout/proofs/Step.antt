@@ -9,16 +9,16 @@ use borrow.Author.Tests.{eq-eqb, ne-eqb}
 use Rattle.basis.proofs.Cases.{eq-or-ne}
 use Rattle.answer.specs.declared.Refusal.the-variants.{NoSuchLink}
 use Rattle.identity.specs.Version.{identityOf}
-use Rattle.poollaws.specs.Acts.{Act as PoolAct, acts}
-use Rattle.poollaws.specs.Promises.{Reached}
-use Rattle.poollaws.specs.View.{records}
+use Rattle.pool_laws.specs.Acts.{Act as PoolAct, acts}
+use Rattle.pool_laws.specs.Promises.{Reached}
+use Rattle.pool_laws.specs.View.{records}
 use Rattle.link.specs.Acts.{Act}
 use Rattle.link.specs.Acts.Act.{Connect, Close}
-use Rattle.taken.specs.Head.{headAt}
+use Rattle.read_head.specs.Head.{headAt}
 use Rattle.site.specs.declared.Site.{Site}
 use Rattle.site.specs.Site.{linkAt}
 use Rattle.site.proofs.Checks.{link-below}
-use Rattle.pump.specs.Pump.{dueAt}
+use Rattle.call_pump.specs.Pump.{dueAt}
 use Rattle.lives.specs.Moves.{doesAll, onlyOn, Heedful}
 use Rattle.touches.specs.Calls.{closingActs}
 use Rattle.packettouches.specs.Packets.{dueActs}

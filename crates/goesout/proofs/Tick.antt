@@ -11,13 +11,13 @@ use Rattle.basis.proofs.Cases.{eq-or-ne}
 use Rattle.pool.specs.declared.Place.{Place}
 use Rattle.pool.specs.declared.Pool.{Pool}
 use Rattle.pool.specs.Pool.{unmarkOf}
-use Rattle.poollaws.specs.Acts.{Act as PoolAct, act, acts}
-use Rattle.poollaws.specs.Promises.{Reached}
-use Rattle.poollaws.specs.View.{records, unsent}
+use Rattle.pool_laws.specs.Acts.{Act as PoolAct, act, acts}
+use Rattle.pool_laws.specs.Promises.{Reached}
+use Rattle.pool_laws.specs.View.{records, unsent}
 use Rattle.link.specs.Acts.Act.{Close}
 use Rattle.site.specs.declared.Site.{Site}
 use Rattle.site.specs.Site.{linkAt}
-use Rattle.tick.specs.Closing.{lateAt}
+use Rattle.call_tick.specs.Closing.{lateAt}
 use Rattle.lives.specs.Moves.{doesAll}
 use Rattle.touches.specs.Calls.{closingActs, lateActs}
 use Rattle.goesout.specs.Goesout.{Unsent}

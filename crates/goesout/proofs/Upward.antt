@@ -18,7 +18,7 @@ use Rattle.awaited.specs.Slot.{sameIdentity}
 use Rattle.awaited.specs.Awaited.{findOf}
 use Rattle.awaited.specs.Promises.{Act as Letter, after as awaitedAfter, said}
 use Rattle.awaited.specs.Promises.Act.{Sent, Answered as GotAnswer}
-use Rattle.poollaws.proofs.Counts.{not-both, and-left, and-right}
+use Rattle.pool_laws.proofs.Counts.{not-both, and-left, and-right}
 use Rattle.link.specs.declared.Link.{Link}
 use Rattle.link.specs.declared.Phase.the-variants.{Up}
 use Rattle.link.specs.Deed.{Deed, is}

@@ -17,15 +17,15 @@ use Rattle.awaited.specs.declared.Purpose.the-variants.{Entry as ForEntry}
 use Rattle.awaited.specs.declared.Found.the-variants.{For, Nothing as NotAwaited}
 use Rattle.awaited.specs.Awaited.{findOf, howManyOf}
 use Rattle.pool.specs.declared.Place.{Place}
-use Rattle.poollaws.specs.View.{records}
+use Rattle.pool_laws.specs.View.{records}
 use Rattle.link.specs.declared.Link.{Link}
 use Rattle.link.specs.declared.Phase.the-variants.{Up}
 use Rattle.link.specs.Phase.{phaseOf}
-use Rattle.written.specs.Listing.{bytesOf}
+use Rattle.write_message.specs.Listing.{bytesOf}
 use Rattle.site.specs.declared.Site.{Site}
 use Rattle.site.specs.Site.{linkAt}
-use Rattle.sending.specs.Sending.{entryMessage}
-use Rattle.pump.specs.Claims.{Passing, Passed, Written}
+use Rattle.send_message.specs.Sending.{entryMessage}
+use Rattle.call_pump.specs.Claims.{Passing, Passed, Written}
 use Rattle.calls.specs.Calls.{Call, planOf, stepBy, outBy, siteAfter}
 use Rattle.calls.specs.Calls.Call.{connect, disconnect, packet, alarm, status, aggregated, tick, pump}
 use Rattle.sequences.specs.Typed.{EachTyped}

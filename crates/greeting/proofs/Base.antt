@@ -6,20 +6,20 @@ use mathlib.Core.Bool.{true}
 use mathlib.Core.List.{List, [], _∷_}
 use lib.ListN.{length}
 use Rattle.answer.specs.Number.{isDone}
-use Rattle.poollaws.proofs.Counts.{not-both}
+use Rattle.pool_laws.proofs.Counts.{not-both}
 use Rattle.link.specs.declared.Phase.the-variants.{Down}
 use Rattle.link.specs.Fields.{closedLink}
 use Rattle.link.specs.Phase.{phaseOf}
 use Rattle.link.specs.Acts.{after}
 use Rattle.link.proofs.Kept.{kept as link-kept}
-use Rattle.sitetable.specs.declared.SiteTable.{SiteTable}
-use Rattle.sitetable.specs.Memory.{memoryOf}
+use Rattle.table_whole.specs.declared.SiteTable.{SiteTable}
+use Rattle.table_whole.specs.Memory.{memoryOf}
 use Rattle.site.specs.declared.Site.{Site}
 use Rattle.site.specs.declared.Step.{Step}
 use Rattle.site.specs.Site.{linkAt}
-use Rattle.start.specs.Fresh.{fresh, primaryOf}
-use Rattle.start.specs.Starts.{Starts}
-use Rattle.start.specs.Starts.Starts.{starts, refuses as not-started}
+use Rattle.call_start.specs.Fresh.{fresh, primaryOf}
+use Rattle.call_start.specs.Starts.{Starts}
+use Rattle.call_start.specs.Starts.Starts.{starts, refuses as not-started}
 use Rattle.lives.specs.Sequence as lives
 use Rattle.calllives.specs.Calls.{actsOf}
 use Rattle.calllives.proofs.Kept.{lived-from-start}

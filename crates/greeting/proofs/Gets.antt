@@ -21,26 +21,26 @@ use Rattle.link.specs.declared.Phase.{Phase}
 use Rattle.link.specs.declared.Phase.the-variants.{Greeting}
 use Rattle.link.specs.Phase.{phaseOf, isBeating}
 use Rattle.link.specs.Steps.{closesOf, answeredOf, versionAcceptedOf, watchdogTakenOf}
-use Rattle.versions.specs.declared.Judged.{Judged}
-use Rattle.versions.specs.declared.Judged.the-variants.{Chosen}
-use Rattle.versions.specs.Judge.{judge}
-use Rattle.taken.specs.declared.Verdict.{Verdict}
-use Rattle.taken.specs.declared.Verdict.the-variants.{Good}
-use Rattle.taken.specs.declared.Kind.the-variants.{Version, Watchdog}
-use Rattle.taken.specs.declared.Class.{Class}
-use Rattle.taken.specs.declared.Class.the-variants.{Acked, Asked}
-use Rattle.taken.specs.Head.{headAt}
-use Rattle.taken.specs.Small.{watchdogAt}
-use Rattle.takenlists.specs.Version.{versionAt}
-use Rattle.sitetable.specs.declared.SiteTable.{SiteTable}
+use Rattle.read_versions.specs.declared.Judged.{Judged}
+use Rattle.read_versions.specs.declared.Judged.the-variants.{Chosen}
+use Rattle.read_versions.specs.Judge.{judge}
+use Rattle.read_head.specs.declared.Verdict.{Verdict}
+use Rattle.read_head.specs.declared.Verdict.the-variants.{Good}
+use Rattle.read_head.specs.declared.Kind.the-variants.{Version, Watchdog}
+use Rattle.read_head.specs.declared.Class.{Class}
+use Rattle.read_head.specs.declared.Class.the-variants.{Acked, Asked}
+use Rattle.read_head.specs.Head.{headAt}
+use Rattle.read_head.specs.Small.{watchdogAt}
+use Rattle.read_lists.specs.Version.{versionAt}
+use Rattle.table_whole.specs.declared.SiteTable.{SiteTable}
 use Rattle.site.specs.declared.Site.{Site}
 use Rattle.site.specs.Site.{linkAt, withLink, roleOf, isDown, downAt}
 use Rattle.site.specs.Call.{only}
-use Rattle.answering.specs.Taken.{Taken, notAcked, acked, byVerdict, unexpected, notReady}
-use Rattle.greet.specs.Answered.{settledFor, settled, answeredPlan}
-use Rattle.greet.specs.Version.{ownVersions, ownSites, own, accepted, versionJudged, versionTaken}
-use Rattle.greet.specs.Watchdog.{hintFrom, beaten, beat}
-use Rattle.packet.specs.Packet.{isGreeting, expected, unready, unawaited, ignoredBy, classTaken, packetTaken}
+use Rattle.packet_answer.specs.Taken.{Taken, notAcked, acked, byVerdict, unexpected, notReady}
+use Rattle.packet_greet.specs.Answered.{settledFor, settled, answeredPlan}
+use Rattle.packet_greet.specs.Version.{ownVersions, ownSites, own, accepted, versionJudged, versionTaken}
+use Rattle.packet_greet.specs.Watchdog.{hintFrom, beaten, beat}
+use Rattle.call_packet.specs.Packet.{isGreeting, expected, unready, unawaited, ignoredBy, classTaken, packetTaken}
 use Rattle.calls.specs.Calls.{refuses}
 use Rattle.calls.specs.Calls.Call.{packet}
 use Rattle.greeting.specs.Greeting.{AcceptedVersion, AckOf, GoodWatchdog}

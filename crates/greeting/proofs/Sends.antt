@@ -25,7 +25,7 @@ use Rattle.link.specs.Steps.{connectOf, versionOutOf, watchdogOutOf, crowdedOf}
 use Rattle.link.proofs.Kept.{limits, order}
 use Rattle.site.specs.declared.Site.{Site}
 use Rattle.site.specs.Site.{linkAt, roleOf, isDown, downAt}
-use Rattle.pump.specs.Pump.{isHeld, dueAt, isNothing, planFor}
+use Rattle.call_pump.specs.Pump.{isHeld, dueAt, isNothing, planFor}
 use Rattle.calls.specs.Calls.{refuses}
 use Rattle.calls.specs.Calls.Call.{connect, disconnect, pump}
 use Rattle.greeting.proofs.Awaits.{Empty}

@@ -15,8 +15,8 @@ use Rattle.answer.specs.Order.None.{none, more}
 use Rattle.answer.specs.Number.{isDone}
 use Rattle.entry.specs.declared.Entry.{Entry}
 use Rattle.awaited.specs.declared.Awaited.{Awaited}
-use Rattle.batch.specs.declared.Batch.{Batch}
-use Rattle.batch.specs.Batch.{issuedAll}
+use Rattle.pool_batch.specs.declared.Batch.{Batch}
+use Rattle.pool_batch.specs.Batch.{issuedAll}
 use Rattle.link.specs.declared.Link.{Link}
 use Rattle.link.specs.Fields.{closedLink}
 use Rattle.site.specs.declared.Site.{Site}

@@ -10,17 +10,17 @@ use Rattle.identity.specs.declared.Identity.{Identity}
 use Rattle.identity.specs.Version.{identityOf}
 use Rattle.link.specs.declared.Phase.the-variants.{Down, Up}
 use Rattle.link.specs.Phase.{phaseOf}
-use Rattle.versions.specs.declared.Judged.the-variants.{Chosen}
-use Rattle.versions.specs.Judge.{judge}
-use Rattle.taken.specs.declared.Verdict.the-variants.{Good}
-use Rattle.taken.specs.declared.Kind.the-variants.{Version, Watchdog}
-use Rattle.taken.specs.declared.Class.the-variants.{Acked, Asked}
-use Rattle.taken.specs.Head.{headAt}
-use Rattle.taken.specs.Small.{watchdogAt}
-use Rattle.takenlists.specs.Version.{versionAt}
+use Rattle.read_versions.specs.declared.Judged.the-variants.{Chosen}
+use Rattle.read_versions.specs.Judge.{judge}
+use Rattle.read_head.specs.declared.Verdict.the-variants.{Good}
+use Rattle.read_head.specs.declared.Kind.the-variants.{Version, Watchdog}
+use Rattle.read_head.specs.declared.Class.the-variants.{Acked, Asked}
+use Rattle.read_head.specs.Head.{headAt}
+use Rattle.read_head.specs.Small.{watchdogAt}
+use Rattle.read_lists.specs.Version.{versionAt}
 use Rattle.site.specs.declared.Site.{Site}
 use Rattle.site.specs.Site.{linkAt}
-use Rattle.greet.specs.Version.{own}
+use Rattle.packet_greet.specs.Version.{own}
 use Rattle.calls.specs.Calls.{Call, timeOf, siteAfter}
 use Rattle.calls.specs.Calls.Call.{connect, disconnect, packet, pump}
 use Rattle.demands.specs.Demand3.{Started, doneAt}

@@ -27,13 +27,13 @@ use Rattle.site.specs.declared.Site.{Site}
 use Rattle.site.specs.Site.{linkAt, isDown, maskOf, withIssued}
 use Rattle.site.specs.Call.{issuing, batchOf, reportOf}
 use Rattle.site.proofs.Checks.{link-below}
-use Rattle.outgoing.specs.declared.Carried.{Carried}
-use Rattle.outgoing.specs.declared.Carried.the-variants.{Held, NoRecord}
-use Rattle.outgoing.specs.Outgoing.{carriedAt}
-use Rattle.pump.specs.Pump.{dueAt, planFor, entryPlan}
-use Rattle.tick.specs.Closing.{lateAt}
-use Rattle.tick.specs.Tick.{tickPlan}
-use Rattle.tick.proofs.Kept.{kept as tick-kept}
+use Rattle.send_after.specs.declared.Carried.{Carried}
+use Rattle.send_after.specs.declared.Carried.the-variants.{Held, NoRecord}
+use Rattle.send_after.specs.Outgoing.{carriedAt}
+use Rattle.call_pump.specs.Pump.{dueAt, planFor, entryPlan}
+use Rattle.call_tick.specs.Closing.{lateAt}
+use Rattle.call_tick.specs.Tick.{tickPlan}
+use Rattle.call_tick.proofs.Kept.{kept as tick-kept}
 use Rattle.lives.specs.Acts.{tickActs}
 use Rattle.lives.proofs.Done.{Passed, passed}
 use Rattle.pumplives.specs.Pumped.{sentAs, recordActs, dueActs}

@@ -4,12 +4,12 @@ use Prim.Native.Nat.{ℕ, _≤_}
 use native.Mathlib.Omega.{arith}
 use mathlib.Core.Path.{_≡_}
 use mathlib.Core.List.{List, [], _∷_}
-use Rattle.character.specs.Utf8.{Utf8}
-use Rattle.character.specs.Grammar.{Unescaped, Escape, Hex, Hex4, Character}
-use Rattle.text.specs.Grammar.{Chars}
-use Rattle.jsonnum.specs.Number.{Digits, Integer, Fraction, Signed, Exponent, Number}
-use Rattle.json.specs.Grammar.{Json, Jsons, Members, Space, Ws, Name, Value, Elements, Pairs}
-use Rattle.jsonpacket.specs.Packet.{Packet}
+use Rattle.json_character.specs.Utf8.{Utf8}
+use Rattle.json_character.specs.Grammar.{Unescaped, Escape, Hex, Hex4, Character}
+use Rattle.json_text.specs.Grammar.{Chars}
+use Rattle.json_number.specs.Number.{Digits, Integer, Fraction, Signed, Exponent, Number}
+use Rattle.json_value.specs.Grammar.{Json, Jsons, Members, Space, Ws, Name, Value, Elements, Pairs}
+use Rattle.json_packet.specs.Packet.{Packet}
 
 -- no form feed stands in the text t before r, which is its end
 pub data Clean : List ℕ → List ℕ → Type 0 where

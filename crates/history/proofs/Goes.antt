@@ -13,11 +13,11 @@ use Rattle.link.specs.declared.Link.{Link}
 use Rattle.link.specs.Steps.{closesOf}
 use Rattle.link.specs.Acts.{Act}
 use Rattle.link.specs.Acts.Act.{Connect, VersionOut, WatchdogOut, EntryOut, OtherOut, Answered, VersionAccepted, WatchdogTaken, AggregatedPassed, AlarmPassed, Close}
-use Rattle.written.specs.Message.Message.{version, watchdog, ack}
-use Rattle.taken.specs.declared.Verdict.the-variants.{Good}
-use Rattle.taken.specs.declared.Kind.the-variants.{Version, Watchdog}
-use Rattle.taken.specs.declared.Class.the-variants.{Acked, Asked}
-use Rattle.taken.specs.Head.{headAt}
+use Rattle.write_message.specs.Message.Message.{version, watchdog, ack}
+use Rattle.read_head.specs.declared.Verdict.the-variants.{Good}
+use Rattle.read_head.specs.declared.Kind.the-variants.{Version, Watchdog}
+use Rattle.read_head.specs.declared.Class.the-variants.{Acked, Asked}
+use Rattle.read_head.specs.Head.{headAt}
 use Rattle.site.specs.declared.Site.{Site}
 use Rattle.site.specs.Site.{linkAt, maskOf}
 use Rattle.lives.specs.Moves.{onlyOn}

@@ -11,15 +11,15 @@ use Rattle.answer.specs.declared.Answer.the-variants.{Done, Refused}
 use Rattle.answer.specs.Given.{linksIn}
 use Rattle.answer.specs.Number.{isDone}
 use Rattle.link.specs.declared.Link.{Link}
-use Rattle.written.specs.Message.{Message}
+use Rattle.write_message.specs.Message.{Message}
 use Rattle.site.specs.declared.Site.{Site}
 use Rattle.site.specs.declared.Step.{Step}
 use Rattle.site.specs.Site.{linkAt}
-use Rattle.sitetable.specs.declared.SiteTable.{SiteTable}
-use Rattle.sitetable.specs.Memory.{memoryOf}
-use Rattle.start.specs.Fresh.{fresh, primaryOf}
-use Rattle.start.specs.Starts.{Starts}
-use Rattle.start.specs.Starts.Starts.{starts, refuses}
+use Rattle.table_whole.specs.declared.SiteTable.{SiteTable}
+use Rattle.table_whole.specs.Memory.{memoryOf}
+use Rattle.call_start.specs.Fresh.{fresh, primaryOf}
+use Rattle.call_start.specs.Starts.{Starts}
+use Rattle.call_start.specs.Starts.Starts.{starts, refuses}
 use Rattle.sound.specs.Sound.{Sound}
 use Rattle.formedness.specs.Formedness.{Wrote}
 use Rattle.lives.specs.Messages.{isReport, Among}

@@ -10,7 +10,7 @@ use lib.ListN.{length}
 use Rattle.basis.specs.Pick.{pick, bit}
 use Rattle.basis.proofs.Cases.{eq-or-ne}
 use Rattle.answer.specs.Given.{linksIn}
-use Rattle.written.specs.Message.{Message}
+use Rattle.write_message.specs.Message.{Message}
 use Rattle.site.specs.Site.{maskOf}
 use Rattle.calls.specs.Calls.{Call}
 use Rattle.calls.specs.Calls.Call.{connect, disconnect, packet, alarm, status, aggregated, tick, pump}

@@ -3,12 +3,12 @@
 use Prim.Native.Nat.{ℕ}
 use mathlib.Core.Path.{_≡_, refl, sym, ap, subst, _∙_}
 use mathlib.Core.List.{List, [], _∷_, _++_, append-assoc}
-use Rattle.jsonpacket.specs.Packet.{Packet}
-use Rattle.jsonpacket.proofs.Kept.{kept as packets}
-use Rattle.jsonwrite.specs.Text.{textOf}
-use Rattle.written.specs.Message.{Message}
-use Rattle.written.specs.Listing.{jsonOf, bytesOf}
-use Rattle.writtenlaws.specs.Fields.{fieldsOf}
+use Rattle.json_packet.specs.Packet.{Packet}
+use Rattle.json_packet.proofs.Kept.{kept as packets}
+use Rattle.json_write.specs.Text.{textOf}
+use Rattle.write_message.specs.Message.{Message}
+use Rattle.write_message.specs.Listing.{jsonOf, bytesOf}
+use Rattle.write_laws.specs.Fields.{fieldsOf}
 use Rattle.formedness.specs.Formedness.{allBytes, ReadsBack, EachReadsBack}
 use Rattle.answer.specs.declared.Report.{Report}
 use Rattle.answer.specs.Given.{linksIn}

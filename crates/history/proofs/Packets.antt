@@ -11,31 +11,31 @@ use Rattle.awaited.specs.Awaited.{findOf}
 use Rattle.link.specs.Steps.{closesOf, answeredOf}
 use Rattle.link.specs.Acts.{Act}
 use Rattle.link.specs.Acts.Act.{OtherOut, Answered, WatchdogTaken}
-use Rattle.written.specs.Message.{Message}
-use Rattle.versions.specs.declared.Judged.{Judged}
-use Rattle.versions.specs.declared.Judged.the-variants.{Chosen, RsmpVersion, SiteId, SxlVersion}
-use Rattle.versions.specs.Judge.{judge}
-use Rattle.taken.specs.declared.Verdict.{Verdict}
-use Rattle.taken.specs.declared.Verdict.the-variants.{Good, Missing, Bad}
-use Rattle.taken.specs.declared.Kind.{Kind}
-use Rattle.taken.specs.declared.Kind.the-variants.{Version, Watchdog, Alarm, AggregatedStatusRequest, StatusRequest, StatusSubscribe, StatusUnsubscribe, Unexpected}
-use Rattle.taken.specs.declared.Class.{Class}
-use Rattle.taken.specs.declared.Class.the-variants.{Ignored as NoClass, Acked, NotAcked, Asked}
-use Rattle.taken.specs.Head.{headAt}
-use Rattle.taken.specs.Small.{watchdogAt, aggregatedAt, alarmAt}
-use Rattle.takenlists.specs.Version.{versionAt}
-use Rattle.takenlists.specs.Status.{statusAt}
+use Rattle.write_message.specs.Message.{Message}
+use Rattle.read_versions.specs.declared.Judged.{Judged}
+use Rattle.read_versions.specs.declared.Judged.the-variants.{Chosen, RsmpVersion, SiteId, SxlVersion}
+use Rattle.read_versions.specs.Judge.{judge}
+use Rattle.read_head.specs.declared.Verdict.{Verdict}
+use Rattle.read_head.specs.declared.Verdict.the-variants.{Good, Missing, Bad}
+use Rattle.read_head.specs.declared.Kind.{Kind}
+use Rattle.read_head.specs.declared.Kind.the-variants.{Version, Watchdog, Alarm, AggregatedStatusRequest, StatusRequest, StatusSubscribe, StatusUnsubscribe, Unexpected}
+use Rattle.read_head.specs.declared.Class.{Class}
+use Rattle.read_head.specs.declared.Class.the-variants.{Ignored as NoClass, Acked, NotAcked, Asked}
+use Rattle.read_head.specs.Head.{headAt}
+use Rattle.read_head.specs.Small.{watchdogAt, aggregatedAt, alarmAt}
+use Rattle.read_lists.specs.Version.{versionAt}
+use Rattle.read_lists.specs.Status.{statusAt}
 use Rattle.site.specs.declared.Site.{Site}
 use Rattle.site.specs.Site.{linkAt, withLink, closeAt, maskOf}
 use Rattle.site.specs.Call.{Plan, only}
-use Rattle.answering.specs.Taken.{Taken, notAcked, byVerdict, unexpected, notReady}
-use Rattle.greet.specs.Answered.{settled, answeredPlan}
-use Rattle.greet.specs.Version.{own, versionJudged}
-use Rattle.greet.specs.Watchdog.{beat}
-use Rattle.orders.specs.Orders.{alarmTaken, aggregatedTaken}
-use Rattle.statusreply.specs.StatusReply.{statusTaken}
-use Rattle.subscribing.specs.Subscribing.{subscribingTaken}
-use Rattle.packet.specs.Packet.{expected, unready, kindTaken, askedTaken, classTaken, packetTaken}
+use Rattle.packet_answer.specs.Taken.{Taken, notAcked, byVerdict, unexpected, notReady}
+use Rattle.packet_greet.specs.Answered.{settled, answeredPlan}
+use Rattle.packet_greet.specs.Version.{own, versionJudged}
+use Rattle.packet_greet.specs.Watchdog.{beat}
+use Rattle.packet_alarm.specs.Orders.{alarmTaken, aggregatedTaken}
+use Rattle.packet_status.specs.StatusReply.{statusTaken}
+use Rattle.packet_subscribe.specs.Subscribing.{subscribingTaken}
+use Rattle.call_packet.specs.Packet.{expected, unready, kindTaken, askedTaken, classTaken, packetTaken}
 use Rattle.packetlives.specs.Answering.{replyActs}
 use Rattle.packetlives.specs.Packets.{whereGood, judgedActs}
 use Rattle.framelives.specs.Packeted.{kindActs, askedActs, classActs}

@@ -13,11 +13,11 @@ use Rattle.answer.specs.declared.Answer.the-variants.{Done, Refused}
 use Rattle.answer.specs.Given.{linksIn}
 use Rattle.answer.specs.Number.{isDone}
 use Rattle.link.specs.declared.Role.the-variants.{Primary, Secondary}
-use Rattle.written.specs.Message.{Message}
+use Rattle.write_message.specs.Message.{Message}
 use Rattle.site.specs.declared.Site.{Site}
 use Rattle.site.specs.Site.{roleOf}
-use Rattle.sitetable.specs.declared.SiteTable.{SiteTable}
-use Rattle.start.specs.Fresh.{fresh}
+use Rattle.table_whole.specs.declared.SiteTable.{SiteTable}
+use Rattle.call_start.specs.Fresh.{fresh}
 use Rattle.lives.specs.Messages.{isAlarm, Among}
 use Rattle.lives.specs.Messages.Among.{first, later}
 use Rattle.calls.specs.Calls.{Call, planOf, stepBy, siteAfter}

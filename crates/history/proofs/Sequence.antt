@@ -15,8 +15,8 @@ use Rattle.link.specs.Acts.{Act, after}
 use Rattle.link.proofs.Shut.{shut}
 use Rattle.site.specs.declared.Site.{Site}
 use Rattle.site.specs.Site.{linkAt}
-use Rattle.sitetable.specs.declared.SiteTable.{SiteTable}
-use Rattle.start.specs.Fresh.{fresh}
+use Rattle.table_whole.specs.declared.SiteTable.{SiteTable}
+use Rattle.call_start.specs.Fresh.{fresh}
 use Rattle.lives.specs.Moves.{doesAll, Shaped}
 use Rattle.lives.specs.Sequence.{siteAfter as livesAfter, lifeOf}
 use Rattle.lives.proofs.Born.{born}

@@ -19,17 +19,17 @@ use Rattle.link.specs.Fields.{closedLink, withAwaited, withBeat, withAlarm, wit
 use Rattle.link.specs.Phase.{phaseOf, isUp, takesIn}
 use Rattle.link.specs.Steps.{connectOf, versionOutOf, mayJudgeOf, versionAcceptedOf, mayBeatOf, watchdogOutOf, watchdogTakenOf, messageOutOf, removedOf, notedFor, noted, closesOf, answeredOf, aggregatedPassedOf, alarmPassedOf}
 use Rattle.link.specs.Acts.{Act, does}
-use Rattle.taken.specs.declared.Verdict.the-variants.{Good}
-use Rattle.taken.specs.declared.Kind.the-variants.{Version, Watchdog}
-use Rattle.taken.specs.declared.Class.the-variants.{Acked, Asked}
-use Rattle.taken.specs.Head.{headAt}
+use Rattle.read_head.specs.declared.Verdict.the-variants.{Good}
+use Rattle.read_head.specs.declared.Kind.the-variants.{Version, Watchdog}
+use Rattle.read_head.specs.declared.Class.the-variants.{Acked, Asked}
+use Rattle.read_head.specs.Head.{headAt}
 use Rattle.site.specs.Site.{maskOf}
 use Rattle.lives.specs.Moves.{doesAll}
 use Rattle.history.specs.Events.{Event, closedAll, upon}
 use Rattle.history.specs.Events.Event.{Opened, Got, Sent}
 use Rattle.history.specs.Greeted.VersionOut.{out as version-sent}
 use Rattle.history.specs.Greeted.WatchdogOut.{out as watchdog-sent}
-use Rattle.written.specs.Message.Message.{version, watchdog, ack}
+use Rattle.write_message.specs.Message.Message.{version, watchdog, ack}
 use Rattle.history.specs.Greeted.Since.{now}
 use Rattle.history.specs.Greeted.Acknowledged.{acknowledged}
 use Rattle.history.specs.Greeted.Taken.{taken as taken-in}

@@ -21,7 +21,7 @@ use Rattle.awaited.proofs.Slots.{awaits-same, slot-purpose}
 use Rattle.awaited.proofs.Same.{same-is}
 use Rattle.link.specs.declared.Link.{Link}
 use Rattle.link.specs.Fields.{closedLink, withAwaited}
-use Rattle.taken.specs.declared.Kind.the-variants.{Version as TakenVersion, Watchdog as TakenWatchdog}
+use Rattle.read_head.specs.declared.Kind.the-variants.{Version as TakenVersion, Watchdog as TakenWatchdog}
 use Rattle.history.specs.Events.{Event, upon}
 use Rattle.history.specs.Greeted.{Since, VersionOut, WatchdogOut, Acknowledged, Taken}
 use Rattle.history.specs.Greeted.Since.{before}

@@ -14,7 +14,7 @@ use Rattle.link.specs.declared.Phase.{Phase}
 use Rattle.link.specs.declared.Phase.the-variants.{Up}
 use Rattle.link.specs.Phase.{greeted, beaten, phaseOf}
 use Rattle.link.proofs.Phases.{phase-cases}
-use Rattle.written.specs.Message.{Message}
+use Rattle.write_message.specs.Message.{Message}
 use Rattle.lives.specs.Messages.{isReport, Among}
 use Rattle.lives.specs.Messages.Among.{first, later}
 use Rattle.calls.specs.Calls.{Call}

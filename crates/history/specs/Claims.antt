@@ -8,7 +8,7 @@ use Rattle.answer.specs.declared.Report.{Report}
 use Rattle.answer.specs.declared.Answer.the-variants.{Done}
 use Rattle.link.specs.declared.Phase.the-variants.{Down}
 use Rattle.link.specs.Phase.{phaseOf}
-use Rattle.written.specs.Message.{Message}
+use Rattle.write_message.specs.Message.{Message}
 use Rattle.site.specs.declared.Site.{Site}
 use Rattle.site.specs.Site.{linkAt}
 use Rattle.formedness.specs.Formedness.{Wrote}

@@ -10,7 +10,7 @@ use Rattle.answer.specs.declared.Report.{Report}
 use Rattle.answer.specs.declared.Answer.{Answer}
 use Rattle.answer.specs.declared.Answer.the-variants.{Done, Refused}
 use Rattle.answer.specs.Given.{linksIn}
-use Rattle.written.specs.Message.{Message}
+use Rattle.write_message.specs.Message.{Message}
 use Rattle.site.specs.declared.Site.{Site}
 use Rattle.formedness.specs.Formedness.{allBytes, EachReadsBack}
 use Rattle.calls.specs.Calls.{Call, planOf, stepBy, outBy, siteAfter}

@@ -4,12 +4,12 @@ use Prim.Native.Nat.{ℕ}
 use mathlib.Core.Path.{_≡_}
 use mathlib.Core.Bool.{true}
 use mathlib.Core.List.{List, [], _∷_}
-use Rattle.written.specs.Message.Message.{version, watchdog, ack}
-use Rattle.taken.specs.declared.Verdict.the-variants.{Good}
-use Rattle.taken.specs.declared.Kind.{Kind}
-use Rattle.taken.specs.declared.Kind.the-variants.{Version, Watchdog}
-use Rattle.taken.specs.declared.Class.the-variants.{Acked, Asked}
-use Rattle.taken.specs.Head.{headAt}
+use Rattle.write_message.specs.Message.Message.{version, watchdog, ack}
+use Rattle.read_head.specs.declared.Verdict.the-variants.{Good}
+use Rattle.read_head.specs.declared.Kind.{Kind}
+use Rattle.read_head.specs.declared.Kind.the-variants.{Version, Watchdog}
+use Rattle.read_head.specs.declared.Class.the-variants.{Acked, Asked}
+use Rattle.read_head.specs.Head.{headAt}
 use Rattle.lives.specs.Messages.{isReport, isAlarm}
 use Rattle.history.specs.Events.{Event}
 use Rattle.history.specs.Events.Event.{Opened, Got, Sent, Closed}

@@ -14,10 +14,10 @@ use Rattle.pool.specs.declared.Pool.{Pool}
 use Rattle.pool.specs.declared.Wanted.the-variants.{Numbered}
 use Rattle.pool.specs.Places.{noPlace, of, fits}
 use Rattle.pool.specs.Pool.{heldOf, lostOf, issueOf, settleOf, markOf, unmarkOf}
-use Rattle.poollaws.proofs.Counts.{bit-true, bit-false, and-left, count-set, count-pos}
-use Rattle.poollaws.proofs.Inv.{Inv, of-link, of-used}
-use Rattle.poollaws.proofs.Issue.{places-after, lost-after, change, loses}
-use Rattle.poollaws.proofs.Other.{Touched, absent, there, settle-touches, lost-same, settle-less, mark-alike, unmark-alike, alike-of}
+use Rattle.pool_laws.proofs.Counts.{bit-true, bit-false, and-left, count-set, count-pos}
+use Rattle.pool_laws.proofs.Inv.{Inv, of-link, of-used}
+use Rattle.pool_laws.proofs.Issue.{places-after, lost-after, change, loses}
+use Rattle.pool_laws.proofs.Other.{Touched, absent, there, settle-touches, lost-same, settle-less, mark-alike, unmark-alike, alike-of}
 
 -- a settled record is one fewer of its link, where it was held
 settle-held : (p : Pool) (l k m : ℕ) → count (fits (Numbered l k)) (p .places) ≤ 1

@@ -14,13 +14,13 @@ use Rattle.answer.specs.declared.Answer.the-variants.{Done, Refused}
 use Rattle.answer.specs.Number.{isDone}
 use Rattle.entry.specs.declared.Entry.{Entry}
 use Rattle.pool.specs.Pool.{heldOf, lostOf}
-use Rattle.poollaws.specs.Acts.Act.{Settle}
-use Rattle.poollaws.specs.Leaves.{Held, Among}
-use Rattle.poollaws.specs.Promises.{Reached}
-use Rattle.poollaws.specs.View.{records}
-use Rattle.poollaws.specs.Contents.{Every}
-use Rattle.poollaws.proofs.Counts.{not-both}
-use Rattle.poollaws.proofs.Kept.{kept as promised}
+use Rattle.pool_laws.specs.Acts.Act.{Settle}
+use Rattle.pool_laws.specs.Leaves.{Held, Among}
+use Rattle.pool_laws.specs.Promises.{Reached}
+use Rattle.pool_laws.specs.View.{records}
+use Rattle.pool_laws.specs.Contents.{Every}
+use Rattle.pool_laws.proofs.Counts.{not-both}
+use Rattle.pool_laws.proofs.Kept.{kept as promised}
 use Rattle.site.specs.declared.Site.{Site}
 use Rattle.site.specs.Site.{withIssued}
 use Rattle.site.specs.Call.{batchOf, answerOf, reportOf, stepped}

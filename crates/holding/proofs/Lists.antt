@@ -10,16 +10,16 @@ use Rattle.basis.specs.Lists.{count}
 use Rattle.entry.specs.declared.Entry.{Entry}
 use Rattle.pool.specs.declared.Pool.{Pool}
 use Rattle.pool.specs.Pool.{heldOf, lostOf, issueOf, settleOf, markOf, unmarkOf}
-use Rattle.poollaws.specs.Acts.{Act, acts, newerThan, Rising}
-use Rattle.poollaws.specs.Acts.Act.{Issue, Settle, Mark, Unmark}
-use Rattle.poollaws.specs.Acts.Rising.{then}
-use Rattle.poollaws.specs.Leaves.{Held, Among, NoSettle, SettlesFirst}
-use Rattle.poollaws.specs.Leaves.Among.{first, later}
-use Rattle.poollaws.specs.Promises.{Promises, Reached}
-use Rattle.poollaws.specs.Promises.Reached.{after}
-use Rattle.poollaws.proofs.Kept.{kept as promised, reached-keeps}
-use Rattle.batch.specs.Batch.{renumbered}
-use Rattle.batch.specs.Laws.{numbered, issues}
+use Rattle.pool_laws.specs.Acts.{Act, acts, newerThan, Rising}
+use Rattle.pool_laws.specs.Acts.Act.{Issue, Settle, Mark, Unmark}
+use Rattle.pool_laws.specs.Acts.Rising.{then}
+use Rattle.pool_laws.specs.Leaves.{Held, Among, NoSettle, SettlesFirst}
+use Rattle.pool_laws.specs.Leaves.Among.{first, later}
+use Rattle.pool_laws.specs.Promises.{Promises, Reached}
+use Rattle.pool_laws.specs.Promises.Reached.{after}
+use Rattle.pool_laws.proofs.Kept.{kept as promised, reached-keeps}
+use Rattle.pool_batch.specs.Batch.{renumbered}
+use Rattle.pool_batch.specs.Laws.{numbered, issues}
 use Rattle.holding.specs.Touches.{Quiet, issuedFor, settled}
 use Rattle.holding.proofs.Counted.{settle-counts, mark-counts, unmark-counts, issue-counts}
 

@@ -19,16 +19,16 @@ use Rattle.answer.specs.Number.{isDone}
 use Rattle.entry.specs.declared.Entry.{Entry}
 use Rattle.pool.specs.declared.Pool.{Pool}
 use Rattle.pool.specs.Pool.{heldOf, lostOf}
-use Rattle.poollaws.specs.Acts.{Act, acts, newerThan, Rising}
-use Rattle.poollaws.specs.Acts.Act.{Issue, Settle}
-use Rattle.poollaws.specs.Leaves.{Held, Among}
-use Rattle.poollaws.specs.Promises.{Reached}
-use Rattle.poollaws.specs.View.{records}
-use Rattle.poollaws.specs.Contents.{Every}
-use Rattle.poollaws.proofs.Counts.{not-both}
-use Rattle.poollaws.proofs.Kept.{reached-keeps}
-use Rattle.batch.specs.Laws.{numbered, issues, Lasting, Laws}
-use Rattle.batch.proofs.Kept.{kept as batches}
+use Rattle.pool_laws.specs.Acts.{Act, acts, newerThan, Rising}
+use Rattle.pool_laws.specs.Acts.Act.{Issue, Settle}
+use Rattle.pool_laws.specs.Leaves.{Held, Among}
+use Rattle.pool_laws.specs.Promises.{Reached}
+use Rattle.pool_laws.specs.View.{records}
+use Rattle.pool_laws.specs.Contents.{Every}
+use Rattle.pool_laws.proofs.Counts.{not-both}
+use Rattle.pool_laws.proofs.Kept.{reached-keeps}
+use Rattle.pool_batch.specs.Laws.{numbered, issues, Lasting, Laws}
+use Rattle.pool_batch.proofs.Kept.{kept as batches}
 use Rattle.site.specs.declared.Site.{Site}
 use Rattle.site.specs.Site.{withIssued}
 use Rattle.site.specs.Call.{Plan, batchOf, answerOf, reportOf, stepped}

@@ -26,8 +26,8 @@ use Rattle.answer.specs.declared.Answer.the-variants.{Done, Refused}
 use Rattle.answer.specs.Number.{refusalNumber, isDone}
 use Rattle.answer.specs.Order.{inOrder, judged, None, more, First, here, later}
 use Rattle.answer.proofs.Checks.{done-none, refused-first}
-use Rattle.poollaws.proofs.Counts.{not-both}
-use Rattle.batch.specs.declared.Batch.{Batch}
+use Rattle.pool_laws.proofs.Counts.{not-both}
+use Rattle.pool_batch.specs.declared.Batch.{Batch}
 use Rattle.site.specs.declared.Site.{Site}
 use Rattle.site.specs.Call.{issuing, stepped}
 

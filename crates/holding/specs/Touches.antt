@@ -18,13 +18,13 @@ use Rattle.pool.specs.declared.Pool.{Pool}
 use Rattle.pool.specs.declared.Wanted.the-variants.{Numbered}
 use Rattle.pool.specs.Places.{fits}
 use Rattle.pool.specs.Pool.{heldOf, lostOf}
-use Rattle.poollaws.specs.Acts.{Act, act, acts, newerThan}
-use Rattle.poollaws.specs.Acts.Act.{Issue, Settle, Mark, Unmark}
-use Rattle.poollaws.specs.Leaves.{Held, Among}
-use Rattle.poollaws.specs.Promises.{Reached}
-use Rattle.poollaws.specs.View.{records}
-use Rattle.poollaws.specs.Contents.{Every}
-use Rattle.batch.specs.Laws.{numbered, issues, Owned}
+use Rattle.pool_laws.specs.Acts.{Act, act, acts, newerThan}
+use Rattle.pool_laws.specs.Acts.Act.{Issue, Settle, Mark, Unmark}
+use Rattle.pool_laws.specs.Leaves.{Held, Among}
+use Rattle.pool_laws.specs.Promises.{Reached}
+use Rattle.pool_laws.specs.View.{records}
+use Rattle.pool_laws.specs.Contents.{Every}
+use Rattle.pool_batch.specs.Laws.{numbered, issues, Owned}
 use Rattle.site.specs.declared.Site.{Site}
 use Rattle.site.specs.Call.{Plan, stepOf}
 

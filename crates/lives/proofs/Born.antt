@@ -4,8 +4,8 @@ use Prim.Native.Nat.{ℕ}
 use mathlib.Core.Path.{refl}
 use lib.ListN.{getD-replicate}
 use Rattle.link.specs.Fields.{closedLink}
-use Rattle.sitetable.specs.declared.SiteTable.{SiteTable}
-use Rattle.start.specs.Fresh.{fresh}
+use Rattle.table_whole.specs.declared.SiteTable.{SiteTable}
+use Rattle.call_start.specs.Fresh.{fresh}
 use Rattle.lives.specs.Sequence.{Unborn}
 
 pub born : (table : SiteTable) (links primary period first time : ℕ) → Unborn (fresh table links primary period first time)

@@ -18,12 +18,12 @@ use Rattle.pool.specs.declared.Pool.{Pool}
 use Rattle.link.specs.declared.Link.{Link}
 use Rattle.site.specs.declared.Site.{Site}
 use Rattle.site.specs.Site.{linkAt}
-use Rattle.linkcalls.specs.Connect.{connectPlan, disconnectPlan}
-use Rattle.inputs.specs.Inputs.{alarmPlan, statusPlan, aggregatedPlan, alarmChange, statusChange}
-use Rattle.tick.specs.Closing.{lateAt, closedTo}
-use Rattle.tick.specs.Intervals.{renewed}
-use Rattle.tick.specs.Tick.{siteAfter, tickPlan}
-use Rattle.tick.proofs.Closed.{stays, link-after}
+use Rattle.call_link.specs.Connect.{connectPlan, disconnectPlan}
+use Rattle.call_input.specs.Inputs.{alarmPlan, statusPlan, aggregatedPlan, alarmChange, statusChange}
+use Rattle.call_tick.specs.Closing.{lateAt, closedTo}
+use Rattle.call_tick.specs.Intervals.{renewed}
+use Rattle.call_tick.specs.Tick.{siteAfter, tickPlan}
+use Rattle.call_tick.proofs.Closed.{stays, link-after}
 use Rattle.lives.specs.Moves.{doesAll, Shaped, Moves}
 use Rattle.lives.specs.Acts.{tickActs, Moved, AllMoved}
 use Rattle.lives.proofs.Links.{Beside, shape, moves-one, moves-none}

@@ -16,17 +16,17 @@ use Rattle.pool.specs.declared.Sought.{Sought}
 use Rattle.pool.specs.declared.Sought.the-variants.{Found, Nothing}
 use Rattle.pool.specs.Places.{of}
 use Rattle.pool.specs.Pool.{emptyOf, unmarkOf, oldestUnsent}
-use Rattle.poollaws.specs.Acts.{Act, act, acts}
-use Rattle.poollaws.specs.Acts.Act.{Issue, Settle, Mark, Unmark}
-use Rattle.poollaws.specs.Leaves.{Among}
-use Rattle.poollaws.specs.Leaves.Among.{first, later}
-use Rattle.poollaws.specs.Contents.{Every}
-use Rattle.poollaws.specs.View.{records, recordsIn, insert, insertIf, firstWhere, notSent}
-use Rattle.poollaws.proofs.Contents.{same}
-use Rattle.poollaws.proofs.Viewed.{viewed}
-use Rattle.batch.specs.declared.Batch.{Batch}
-use Rattle.batch.specs.Batch.{under, added, addedAll}
-use Rattle.upwards.specs.Upwards.{entriesTo, entryIf}
+use Rattle.pool_laws.specs.Acts.{Act, act, acts}
+use Rattle.pool_laws.specs.Acts.Act.{Issue, Settle, Mark, Unmark}
+use Rattle.pool_laws.specs.Leaves.{Among}
+use Rattle.pool_laws.specs.Leaves.Among.{first, later}
+use Rattle.pool_laws.specs.Contents.{Every}
+use Rattle.pool_laws.specs.View.{records, recordsIn, insert, insertIf, firstWhere, notSent}
+use Rattle.pool_laws.proofs.Contents.{same}
+use Rattle.pool_laws.proofs.Viewed.{viewed}
+use Rattle.pool_batch.specs.declared.Batch.{Batch}
+use Rattle.pool_batch.specs.Batch.{under, added, addedAll}
+use Rattle.call_records.specs.Upwards.{entriesTo, entryIf}
 use Rattle.site.specs.declared.Site.{Site}
 use Rattle.site.specs.Call.{Plan, batchOf}
 use Rattle.lives.specs.Stock.{AlarmFor, AlarmsFor, Issues, Stocked, Stocks, Unalarming}

@@ -4,7 +4,7 @@ use Prim.Native.Nat.{ℕ, zero, suc, _/_, _%_, _*_, _+_}
 use mathlib.Core.Path.{_≡_, refl}
 use mathlib.Core.Bool.{Bool, true, false}
 use Rattle.basis.specs.Pick.{pick, both}
-use Rattle.poollaws.specs.Acts.Act.{Unmark}
+use Rattle.pool_laws.specs.Acts.Act.{Unmark}
 use Rattle.alarm.specs.Issued.{issuedOf as alarmRecord}
 use Rattle.status.specs.Issued.{issuedOf as statusRecord}
 use Rattle.aggregated.specs.Issued.{issuedOf as aggregatedRecord}
@@ -12,10 +12,10 @@ use Rattle.subscription.specs.Subscription.{issuesOn, tickOf}
 use Rattle.site.specs.declared.Site.{Site}
 use Rattle.site.specs.Site.{closeAt, hasPrimary}
 use Rattle.site.specs.Parts.{statusAt, subscriptionAt}
-use Rattle.inputs.specs.Inputs.{alarmChange, statusEntry, statusChange, aggregatedEntry, aggregatedChange}
-use Rattle.tick.specs.Closing.{lateAt, closeLate, closedTo}
-use Rattle.tick.specs.Intervals.{recordAt, recordsOf}
-use Rattle.tick.specs.Tick.{siteAfter}
+use Rattle.call_input.specs.Inputs.{alarmChange, statusEntry, statusChange, aggregatedEntry, aggregatedChange}
+use Rattle.call_tick.specs.Closing.{lateAt, closeLate, closedTo}
+use Rattle.call_tick.specs.Intervals.{recordAt, recordsOf}
+use Rattle.call_tick.specs.Tick.{siteAfter}
 use Rattle.lives.specs.Stock.{AlarmsFor, Stocked, Stocking}
 use Rattle.lives.specs.Stock.Stocked.{then}
 use Rattle.lives.proofs.Stocked.{alarms-to, alarms-if, none-if}

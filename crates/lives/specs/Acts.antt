@@ -8,10 +8,10 @@ use Rattle.basis.specs.Pick.{pick}
 use Rattle.link.specs.Acts.{Act}
 use Rattle.link.specs.Acts.Act.{Connect, Close}
 use Rattle.site.specs.declared.Site.{Site}
-use Rattle.linkcalls.specs.Connect.{connectPlan, disconnectPlan}
-use Rattle.inputs.specs.Inputs.{alarmPlan, statusPlan, aggregatedPlan}
-use Rattle.tick.specs.Closing.{lateAt}
-use Rattle.tick.specs.Tick.{tickPlan}
+use Rattle.call_link.specs.Connect.{connectPlan, disconnectPlan}
+use Rattle.call_input.specs.Inputs.{alarmPlan, statusPlan, aggregatedPlan}
+use Rattle.call_tick.specs.Closing.{lateAt}
+use Rattle.call_tick.specs.Tick.{tickPlan}
 use Rattle.lives.specs.Moves.{onlyOn, onNone, Shaped, Moves}
 
 abbrev pub connectActs : ℕ → ℕ → List Act

@@ -15,7 +15,7 @@ use Rattle.link.specs.Phase.{phaseOf}
 use Rattle.link.specs.Acts.{Act, after}
 use Rattle.link.specs.Promises.{Greeted, Beaten}
 use Rattle.link.specs.Careful.{Careful, Answers}
-use Rattle.written.specs.Message.{Message}
+use Rattle.write_message.specs.Message.{Message}
 use Rattle.site.specs.declared.Site.{Site}
 use Rattle.site.specs.declared.Step.{Step}
 use Rattle.site.specs.Site.{linkAt, roleOf}

@@ -10,13 +10,13 @@ use Rattle.pool.specs.declared.Pool.{Pool}
 use Rattle.pool.specs.declared.Place.{Place}
 use Rattle.pool.specs.declared.Sought.the-variants.{Found}
 use Rattle.pool.specs.Pool.{emptyOf, oldestUnsent}
-use Rattle.poollaws.specs.Acts.{Act, act}
-use Rattle.poollaws.specs.Acts.Act.{Issue, Settle, Mark, Unmark}
+use Rattle.pool_laws.specs.Acts.{Act, act}
+use Rattle.pool_laws.specs.Acts.Act.{Issue, Settle, Mark, Unmark}
 use Rattle.site.specs.declared.Site.{Site}
 use Rattle.site.specs.Call.{Plan}
-use Rattle.linkcalls.specs.Connect.{connectPlan, disconnectPlan}
-use Rattle.inputs.specs.Inputs.{alarmPlan, statusPlan, aggregatedPlan}
-use Rattle.tick.specs.Tick.{tickPlan}
+use Rattle.call_link.specs.Connect.{connectPlan, disconnectPlan}
+use Rattle.call_input.specs.Inputs.{alarmPlan, statusPlan, aggregatedPlan}
+use Rattle.call_tick.specs.Tick.{tickPlan}
 
 -- a record of an alarm (kind 0) is for link n
 abbrev pub AlarmFor : ℕ → Entry → Type 0

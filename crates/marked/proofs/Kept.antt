@@ -16,8 +16,8 @@ use Rattle.pool.specs.Shares.{fullest, loser}
 use Rattle.pool.specs.Pool.{emptyOf, lossOf, roomOf, withOf, issueOf}
 use Rattle.pool.specs.Marked.{Row as Counts}
 use Rattle.pool.proofs.Rows as rows
-use Rattle.versions.specs.Numeral.{numberIn}
-use Rattle.versions.specs.Version.{before, behind, onePart, twoParts as atMostTwo, versionOf}
+use Rattle.read_versions.specs.Numeral.{numberIn}
+use Rattle.read_versions.specs.Version.{before, behind, onePart, twoParts as atMostTwo, versionOf}
 use Rattle.bits.specs.Fields.{joined, total, split}
 use Rattle.bits.proofs.Fields.{before as first-fields, split-append}
 use Rattle.marked.specs.Marked.{alarm, leapDay, aTime, lastTime, statusBytes, alarmBegins, oldestOf2, twoParts, threeParts, Computes, Marked}

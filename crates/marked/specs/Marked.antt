@@ -22,8 +22,8 @@ use Rattle.pool.specs.declared.Pool.{Pool}
 use Rattle.pool.specs.Places.{of, oldest}
 use Rattle.pool.specs.Pool.{heldOf, lostOf}
 use Rattle.pool.specs.Marked.{afterIssues, numberAt}
-use Rattle.batch.specs.Batch.{renumbered}
-use Rattle.versions.specs.Version.{version, versionOf}
+use Rattle.pool_batch.specs.Batch.{renumbered}
+use Rattle.read_versions.specs.Version.{version, versionOf}
 
 pub record Row : Type 0 where
   pub computed : List ℕ

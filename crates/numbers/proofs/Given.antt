@@ -18,8 +18,8 @@ use Rattle.answer.specs.Order.{inOrder, First, here, later, None}
 use Rattle.answer.proofs.Checks.{first-refuses, refused-first, none-refuses, done-none}
 use Rattle.entry.specs.declared.Entry.{Entry}
 use Rattle.pool.specs.Pool.{crowdedIn}
-use Rattle.batch.specs.Batch.{added, issuedAll}
-use Rattle.batch.proofs.Kept.{kept}
+use Rattle.pool_batch.specs.Batch.{added, issuedAll}
+use Rattle.pool_batch.proofs.Kept.{kept}
 use Rattle.site.specs.Call.{Plan, reportOf, answerOf}
 use Rattle.numbers.specs.Numbers.{conditions, Numbers}
 

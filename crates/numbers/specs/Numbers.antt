@@ -16,8 +16,8 @@ use Rattle.answer.specs.Number.{refusalNumber}
 use Rattle.answer.specs.Order.{inOrder, First, None}
 use Rattle.entry.specs.declared.Entry.{Entry}
 use Rattle.pool.specs.Pool.{crowdedIn}
-use Rattle.poollaws.specs.Promises.{Reached}
-use Rattle.batch.specs.Laws.{Owned, Lasting}
+use Rattle.pool_laws.specs.Promises.{Reached}
+use Rattle.pool_batch.specs.Laws.{Owned, Lasting}
 use Rattle.site.specs.Call.{Plan, batchOf, issuing, reportOf, answerOf}
 
 -- the conditions of a call: those of its definition, and numbers 10 and 13 of the records that it issues

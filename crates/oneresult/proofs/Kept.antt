@@ -11,16 +11,16 @@ use Rattle.output.proofs.Laws.{puts-once}
 use Rattle.number.proofs.Reading.{reads-once, reads-int-once}
 use Rattle.entry.specs.Valid.{Decides}
 use Rattle.entry.proofs.RoundTrip.{one-result}
-use Rattle.sitetable.proofs.Whole.{once as one-table}
+use Rattle.table_whole.proofs.Whole.{once as one-table}
 use Rattle.site.specs.declared.Site.{Site}
 use Rattle.site.specs.declared.Step.{Step}
 use Rattle.site.specs.Call.{Plan, Gives, outAfter}
-use Rattle.start.specs.Starts.{Starts}
-use Rattle.start.proofs.Whole.{once as one-start}
-use Rattle.answering.specs.Ending.{Acks}
-use Rattle.written.specs.Message.{Message}
-use Rattle.written.specs.Message.Message.{ack}
-use Rattle.pump.specs.Pump.{Sends}
+use Rattle.call_start.specs.Starts.{Starts}
+use Rattle.call_start.proofs.Whole.{once as one-start}
+use Rattle.packet_answer.specs.Ending.{Acks}
+use Rattle.write_message.specs.Message.{Message}
+use Rattle.write_message.specs.Message.Message.{ack}
+use Rattle.call_pump.specs.Pump.{Sends}
 use Rattle.sitec.specs.declared.Outcome.{Outcome}
 use Rattle.sitec.specs.Outcome.{outcomeOf, Started, started, Told, told}
 use Rattle.oneresult.specs.Once.{Once}

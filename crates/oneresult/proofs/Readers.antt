@@ -6,19 +6,19 @@ use mathlib.Core.Bool.{Bool, true, false, true≢false}
 use mathlib.Core.List.{List, []}
 use native.Mathlib.Omega.{arith}
 use lib.ListN.{length, drop, length-drop}
-use Rattle.text.specs.Decoded.{Parsed}
-use Rattle.text.specs.Decoded.Parsed.{ok, none}
-use Rattle.text.specs.declared.Read.{Read}
-use Rattle.text.specs.declared.Read.the-variants as Read
-use Rattle.text.specs.Ends.{Ends, ends, fails}
-use Rattle.json.specs.Grammar.{Json}
-use Rattle.json.specs.declared.Mark.{Mark}
-use Rattle.json.specs.declared.Mark.the-variants as Mark
-use Rattle.json.specs.Answers.{Skipped, Marks, closes, commas, neither}
-use Rattle.jsonsure.specs.declared.Judged.{Judged}
-use Rattle.jsonsure.specs.declared.Judged.the-variants as Judged
-use Rattle.jsonsure.specs.Sure.{sure}
-use Rattle.jsonsure.specs.Judges.{Judges, placeOf, Says}
+use Rattle.json_text.specs.Decoded.{Parsed}
+use Rattle.json_text.specs.Decoded.Parsed.{ok, none}
+use Rattle.json_text.specs.declared.Read.{Read}
+use Rattle.json_text.specs.declared.Read.the-variants as Read
+use Rattle.json_text.specs.Ends.{Ends, ends, fails}
+use Rattle.json_value.specs.Grammar.{Json}
+use Rattle.json_value.specs.declared.Mark.{Mark}
+use Rattle.json_value.specs.declared.Mark.the-variants as Mark
+use Rattle.json_value.specs.Answers.{Skipped, Marks, closes, commas, neither}
+use Rattle.json_sure.specs.declared.Judged.{Judged}
+use Rattle.json_sure.specs.declared.Judged.the-variants as Judged
+use Rattle.json_sure.specs.Sure.{sure}
+use Rattle.json_sure.specs.Judges.{Judges, placeOf, Says}
 
 -- two places of a text with the same rest are one
 pub same-place : (s : List ℕ) (a b : ℕ) → a ≤ length s → b ≤ length s → drop a s ≡ drop b s → a ≡ b

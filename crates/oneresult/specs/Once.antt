@@ -21,23 +21,23 @@ use Rattle.names.specs.Held.{Held}
 use Rattle.entry.specs.declared.Unpacked.{Unpacked}
 use Rattle.entry.specs.Reading.{Reads as ReadsEntry}
 use Rattle.entry.specs.Valid.{Decides}
-use Rattle.text.specs.Decoded.{Parsed}
-use Rattle.text.specs.declared.Read.{Read}
-use Rattle.text.specs.Ends.{Ends}
-use Rattle.json.specs.Grammar.{Json}
-use Rattle.json.specs.declared.Mark.{Mark}
-use Rattle.json.specs.Answers.{Skipped, Marks}
-use Rattle.jsonsure.specs.declared.Judged.{Judged}
-use Rattle.jsonsure.specs.Judges.{Judges}
-use Rattle.sitetable.specs.declared.TableRead.{TableRead}
-use Rattle.sitetable.specs.Reads.{Reads as ReadsTable}
-use Rattle.batch.specs.declared.Batch.{Batch}
+use Rattle.json_text.specs.Decoded.{Parsed}
+use Rattle.json_text.specs.declared.Read.{Read}
+use Rattle.json_text.specs.Ends.{Ends}
+use Rattle.json_value.specs.Grammar.{Json}
+use Rattle.json_value.specs.declared.Mark.{Mark}
+use Rattle.json_value.specs.Answers.{Skipped, Marks}
+use Rattle.json_sure.specs.declared.Judged.{Judged}
+use Rattle.json_sure.specs.Judges.{Judges}
+use Rattle.table_whole.specs.declared.TableRead.{TableRead}
+use Rattle.table_whole.specs.Reads.{Reads as ReadsTable}
+use Rattle.pool_batch.specs.declared.Batch.{Batch}
 use Rattle.site.specs.declared.Site.{Site}
 use Rattle.site.specs.declared.Step.{Step}
 use Rattle.site.specs.Call.{Plan, Gives}
-use Rattle.start.specs.Starts.{Starts}
-use Rattle.answering.specs.Ending.{Acks}
-use Rattle.pump.specs.Pump.{Sends}
+use Rattle.call_start.specs.Starts.{Starts}
+use Rattle.packet_answer.specs.Ending.{Acks}
+use Rattle.call_pump.specs.Pump.{Sends}
 use Rattle.sitec.specs.declared.Outcome.{Outcome}
 use Rattle.sitec.specs.Outcome.{Started, Told}
 

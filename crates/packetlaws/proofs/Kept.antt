@@ -17,18 +17,18 @@ use Rattle.answer.specs.Order.{inOrder, None}
 use Rattle.answer.specs.Order.None.{more}
 use Rattle.identity.specs.declared.Identity.{Identity}
 use Rattle.identity.specs.Read.{SixteenBytes}
-use Rattle.taken.specs.declared.Verdict.{Verdict}
-use Rattle.taken.specs.declared.Verdict.the-variants.{Good, Missing, Bad}
-use Rattle.taken.specs.declared.Kind.{Kind}
-use Rattle.taken.specs.declared.Kind.the-variants.{Version, Watchdog, Alarm, AggregatedStatusRequest, StatusRequest, StatusSubscribe, StatusUnsubscribe, Unexpected}
-use Rattle.taken.specs.declared.Class.{Class}
-use Rattle.taken.specs.declared.Class.the-variants.{Ignored as NoClass, Acked, NotAcked, Asked}
-use Rattle.taken.specs.Head.{headAt}
-use Rattle.taken.specs.Small.{watchdogAt, aggregatedAt, alarmAt}
-use Rattle.takenlists.specs.Version.{versionAt}
-use Rattle.takenlists.specs.Status.{statusAt}
-use Rattle.written.specs.Message.{Message}
-use Rattle.writtenlaws.specs.Formed.{Received}
+use Rattle.read_head.specs.declared.Verdict.{Verdict}
+use Rattle.read_head.specs.declared.Verdict.the-variants.{Good, Missing, Bad}
+use Rattle.read_head.specs.declared.Kind.{Kind}
+use Rattle.read_head.specs.declared.Kind.the-variants.{Version, Watchdog, Alarm, AggregatedStatusRequest, StatusRequest, StatusSubscribe, StatusUnsubscribe, Unexpected}
+use Rattle.read_head.specs.declared.Class.{Class}
+use Rattle.read_head.specs.declared.Class.the-variants.{Ignored as NoClass, Acked, NotAcked, Asked}
+use Rattle.read_head.specs.Head.{headAt}
+use Rattle.read_head.specs.Small.{watchdogAt, aggregatedAt, alarmAt}
+use Rattle.read_lists.specs.Version.{versionAt}
+use Rattle.read_lists.specs.Status.{statusAt}
+use Rattle.write_message.specs.Message.{Message}
+use Rattle.write_laws.specs.Formed.{Received}
 use Rattle.site.specs.declared.Site.{Site}
 use Rattle.site.specs.declared.Step.{Step}
 use Rattle.site.specs.Site.{noLinkAt, badTimeAt, linkAt}
@@ -36,9 +36,9 @@ use Rattle.site.specs.Call.{Plan, Gives, stepOf, writtenTo, answerOf}
 use Rattle.numbers.specs.Numbers.{conditions}
 use Rattle.numbers.proofs.Given.{numbers}
 use Rattle.numbers.proofs.Stepped.{steps}
-use Rattle.answering.specs.Taken.{Taken, notAcked, byVerdict, unexpected, notReady}
-use Rattle.pump.specs.Pump.{pumpRefuses, pumpPlan}
-use Rattle.packet.specs.Packet.{expected, unready, kindTaken, expectedTaken, askedTaken, classTaken, packetTaken, packetRefuses}
+use Rattle.packet_answer.specs.Taken.{Taken, notAcked, byVerdict, unexpected, notReady}
+use Rattle.call_pump.specs.Pump.{pumpRefuses, pumpPlan}
+use Rattle.call_packet.specs.Packet.{expected, unready, kindTaken, expectedTaken, askedTaken, classTaken, packetTaken, packetRefuses}
 use Rattle.sound.specs.Sound.{SoundAt, Sound}
 use Rattle.sound.specs.Claims.{SoundPlan}
 use Rattle.sound.proofs.Kept.{a-link, in-time, at-time}

@@ -12,8 +12,8 @@ use Rattle.identity.specs.Read.{SixteenBytes}
 use Rattle.site.specs.declared.Site.{Site}
 use Rattle.site.specs.declared.Step.{Step}
 use Rattle.site.specs.Call.{Gives, stepOf}
-use Rattle.pump.specs.Pump.{pumpRefuses, pumpPlan}
-use Rattle.packet.specs.Packet.{packetTaken, packetRefuses}
+use Rattle.call_pump.specs.Pump.{pumpRefuses, pumpPlan}
+use Rattle.call_packet.specs.Packet.{packetTaken, packetRefuses}
 use Rattle.sound.specs.Sound.{SoundAt, Sound}
 use Rattle.formedness.specs.Formedness.{Sendable, Wrote}
 

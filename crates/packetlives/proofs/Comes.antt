@@ -22,13 +22,13 @@ use Rattle.link.specs.Steps.{messageOutOf, fullOf}
 use Rattle.link.specs.Acts.{Act, does}
 use Rattle.link.specs.Acts.Act.{OtherOut}
 use Rattle.link.specs.Careful.{Sendable}
-use Rattle.written.specs.Message.{Message}
-use Rattle.written.specs.Message.Message.{ack, notAck}
-use Rattle.taken.specs.declared.Verdict.{Verdict}
-use Rattle.taken.specs.declared.Verdict.the-variants.{Good, Missing, Bad}
+use Rattle.write_message.specs.Message.{Message}
+use Rattle.write_message.specs.Message.Message.{ack, notAck}
+use Rattle.read_head.specs.declared.Verdict.{Verdict}
+use Rattle.read_head.specs.declared.Verdict.the-variants.{Good, Missing, Bad}
 use Rattle.site.specs.declared.Site.{Site}
 use Rattle.site.specs.Site.{linkAt, roleOf}
-use Rattle.answering.specs.Taken.{Taken, takenRefuses, notAcked, acked, replied, byVerdict, unlessBusy, missingElement, badValue, busy}
+use Rattle.packet_answer.specs.Taken.{Taken, takenRefuses, notAcked, acked, replied, byVerdict, unlessBusy, missingElement, badValue, busy}
 use Rattle.lives.specs.Moves.{onlyOn, Shaped, Moves, Heedful}
 use Rattle.lives.specs.Moves.Heedful.{none}
 use Rattle.lives.specs.Stock.{AlarmsFor, Stocked, Stocks}

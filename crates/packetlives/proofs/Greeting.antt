@@ -12,25 +12,25 @@ use Rattle.awaited.specs.declared.Found.{Found}
 use Rattle.awaited.specs.declared.Found.the-variants.{For, Nothing}
 use Rattle.awaited.specs.declared.Purpose.the-variants.{Version, Watchdog, Entry, Other}
 use Rattle.awaited.specs.Awaited.{findOf}
-use Rattle.poollaws.specs.Acts.Act.{Settle, Unmark}
+use Rattle.pool_laws.specs.Acts.Act.{Settle, Unmark}
 use Rattle.link.specs.declared.Link.{Link}
 use Rattle.link.specs.Fields.{closedLink}
 use Rattle.link.specs.Steps.{versionAcceptedOf, watchdogTakenOf, closesOf, answeredOf}
 use Rattle.link.specs.Acts.{Act, does}
 use Rattle.link.specs.Acts.Act.{Answered, VersionAccepted, WatchdogTaken, Close}
-use Rattle.written.specs.Message.{Message}
-use Rattle.written.specs.Message.Message.{ack, notAck}
-use Rattle.versions.specs.declared.Judged.{Judged}
-use Rattle.versions.specs.declared.Judged.the-variants.{Chosen, RsmpVersion, SiteId, SxlVersion}
-use Rattle.taken.specs.declared.Verdict.{Verdict}
-use Rattle.taken.specs.declared.Verdict.the-variants.{Good, Missing, Bad}
+use Rattle.write_message.specs.Message.{Message}
+use Rattle.write_message.specs.Message.Message.{ack, notAck}
+use Rattle.read_versions.specs.declared.Judged.{Judged}
+use Rattle.read_versions.specs.declared.Judged.the-variants.{Chosen, RsmpVersion, SiteId, SxlVersion}
+use Rattle.read_head.specs.declared.Verdict.{Verdict}
+use Rattle.read_head.specs.declared.Verdict.the-variants.{Good, Missing, Bad}
 use Rattle.site.specs.declared.Site.{Site}
 use Rattle.site.specs.Site.{linkAt, withLink, roleOf, closeAt, maskOf}
 use Rattle.site.specs.Call.{Plan, only}
-use Rattle.answering.specs.Taken.{Taken, acked, closing, byVerdict, missingElement, badValue, rsmpVersion, siteId, sxlVersion}
-use Rattle.greet.specs.Answered.{settled, answeredPlan}
-use Rattle.greet.specs.Version.{accepted, versionJudged}
-use Rattle.greet.specs.Watchdog.{hintFrom, beat}
+use Rattle.packet_answer.specs.Taken.{Taken, acked, closing, byVerdict, missingElement, badValue, rsmpVersion, siteId, sxlVersion}
+use Rattle.packet_greet.specs.Answered.{settled, answeredPlan}
+use Rattle.packet_greet.specs.Version.{accepted, versionJudged}
+use Rattle.packet_greet.specs.Watchdog.{hintFrom, beat}
 use Rattle.lives.specs.Moves.{onlyOn, Shaped, Moves, Heedful}
 use Rattle.lives.specs.Moves.Heedful.{none}
 use Rattle.lives.specs.Stock.{Stocks}

@@ -18,25 +18,25 @@ use Rattle.alarm.specs.Issued.{issuedOf}
 use Rattle.link.specs.declared.Role.{Role}
 use Rattle.link.specs.declared.Role.the-variants.{Primary, Secondary}
 use Rattle.link.specs.Acts.Act.{WatchdogTaken}
-use Rattle.versions.specs.Judge.{judge}
-use Rattle.taken.specs.declared.Order.{Order}
-use Rattle.taken.specs.declared.Order.the-variants.{Request, Acknowledge, Suspend, Resume}
-use Rattle.taken.specs.declared.AlarmFields.{AlarmFields}
-use Rattle.taken.specs.declared.GotLabel.{GotLabel}
-use Rattle.takenlists.specs.declared.StatusFields.{StatusFields}
-use Rattle.sought.specs.declared.Sought.{Sought}
-use Rattle.sought.specs.declared.SoughtAlarm.{SoughtAlarm}
-use Rattle.sought.specs.declared.SoughtAlarm.the-variants.{Alarm, NoComponent, NoAlarm}
-use Rattle.sought.specs.Sought.{componentSought, alarmSought}
-use Rattle.sending.specs.Sending.{alarmMessage, aggregatedMessage}
+use Rattle.read_versions.specs.Judge.{judge}
+use Rattle.read_head.specs.declared.Order.{Order}
+use Rattle.read_head.specs.declared.Order.the-variants.{Request, Acknowledge, Suspend, Resume}
+use Rattle.read_head.specs.declared.AlarmFields.{AlarmFields}
+use Rattle.read_head.specs.declared.GotLabel.{GotLabel}
+use Rattle.read_lists.specs.declared.StatusFields.{StatusFields}
+use Rattle.packet_lookup.specs.declared.Sought.{Sought}
+use Rattle.packet_lookup.specs.declared.SoughtAlarm.{SoughtAlarm}
+use Rattle.packet_lookup.specs.declared.SoughtAlarm.the-variants.{Alarm, NoComponent, NoAlarm}
+use Rattle.packet_lookup.specs.Sought.{componentSought, alarmSought}
+use Rattle.send_message.specs.Sending.{alarmMessage, aggregatedMessage}
 use Rattle.site.specs.declared.Site.{Site}
 use Rattle.site.specs.Site.{roleOf, hasPrimary}
 use Rattle.site.specs.Parts.{alarmAt, withAlarm}
-use Rattle.answering.specs.Taken.{Taken, notAcked, replied, unlessBusy, unknownComponent, unknownAlarm, unknownStatus}
-use Rattle.greet.specs.Version.{own, versionJudged}
-use Rattle.greet.specs.Watchdog.{beat}
-use Rattle.orders.specs.Orders.{recordsOf, changeTaken, isZero, requestBy, requestTaken, ordered, orderedOf, foundTaken, alarmTaken, aggregatedOf, aggregatedTaken}
-use Rattle.statusreply.specs.StatusReply.{response, passes, statusTaken}
+use Rattle.packet_answer.specs.Taken.{Taken, notAcked, replied, unlessBusy, unknownComponent, unknownAlarm, unknownStatus}
+use Rattle.packet_greet.specs.Version.{own, versionJudged}
+use Rattle.packet_greet.specs.Watchdog.{beat}
+use Rattle.packet_alarm.specs.Orders.{recordsOf, changeTaken, isZero, requestBy, requestTaken, ordered, orderedOf, foundTaken, alarmTaken, aggregatedOf, aggregatedTaken}
+use Rattle.packet_status.specs.StatusReply.{response, passes, statusTaken}
 use Rattle.lives.specs.Stock.{AlarmsFor}
 use Rattle.packetlives.specs.Packets.{AllPackets}
 use Rattle.packetlives.proofs.Comes.{Comes, reason, done, reply, by-verdict, unless-busy, answering}

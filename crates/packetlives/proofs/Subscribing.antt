@@ -11,16 +11,16 @@ use Rattle.identity.specs.declared.Identity.{Identity}
 use Rattle.status.specs.Issued.{issuedOf}
 use Rattle.subscription.specs.declared.Subscription.{Subscription}
 use Rattle.link.specs.Acts.Act.{OtherOut}
-use Rattle.takenlists.specs.declared.StatusEntry.{StatusEntry}
-use Rattle.takenlists.specs.declared.StatusFields.{StatusFields}
-use Rattle.sought.specs.declared.Sought.{Sought}
-use Rattle.sought.specs.declared.Sought.the-variants.{Is, Nothing}
-use Rattle.sought.specs.Sought.{componentSought, statusSought, entryAt, allStatuses}
+use Rattle.read_lists.specs.declared.StatusEntry.{StatusEntry}
+use Rattle.read_lists.specs.declared.StatusFields.{StatusFields}
+use Rattle.packet_lookup.specs.declared.Sought.{Sought}
+use Rattle.packet_lookup.specs.declared.Sought.the-variants.{Is, Nothing}
+use Rattle.packet_lookup.specs.Sought.{componentSought, statusSought, entryAt, allStatuses}
 use Rattle.site.specs.declared.Site.{Site}
 use Rattle.site.specs.Parts.{statusAt}
-use Rattle.answering.specs.Taken.{notAcked, unknownStatus}
-use Rattle.subscribing.specs.Subscribing.{wanted, replacedAt, replaced, recordOf, records, changed, judged, asked, subscribingTaken}
-use Rattle.subscribing.proofs.Kept.{kept}
+use Rattle.packet_answer.specs.Taken.{notAcked, unknownStatus}
+use Rattle.packet_subscribe.specs.Subscribing.{wanted, replacedAt, replaced, recordOf, records, changed, judged, asked, subscribingTaken}
+use Rattle.packet_subscribe.proofs.Kept.{kept}
 use Rattle.lives.specs.Stock.{AlarmsFor}
 use Rattle.lives.proofs.Links.{Beside}
 use Rattle.lives.proofs.Stocked.{none-if, alarms-append}

@@ -10,10 +10,10 @@ use Rattle.identity.specs.declared.Identity.{Identity}
 use Rattle.link.specs.declared.Role.the-variants.{Secondary}
 use Rattle.link.specs.Acts.{Act}
 use Rattle.link.specs.Acts.Act.{OtherOut}
-use Rattle.written.specs.Message.{Message}
+use Rattle.write_message.specs.Message.{Message}
 use Rattle.site.specs.declared.Site.{Site}
 use Rattle.site.specs.Site.{linkAt, roleOf}
-use Rattle.answering.specs.Taken.{Taken, takenRefuses}
+use Rattle.packet_answer.specs.Taken.{Taken, takenRefuses}
 use Rattle.lives.specs.Moves.{onlyOn, Shaped, Moves, Heedful}
 use Rattle.lives.specs.Stock.{Stocks}
 use Rattle.lives.specs.Messages.{isReport, isAlarm, Among, AnsweredOnce}

@@ -21,52 +21,52 @@ use Rattle.awaited.specs.Awaited.{findOf}
 use Rattle.pool.specs.declared.Sought.{Sought}
 use Rattle.pool.specs.declared.Sought.the-variants.{Found as FoundEntry, Nothing as NoEntry}
 use Rattle.pool.specs.Pool.{oldestUnsent}
-use Rattle.poollaws.specs.Acts.{Act}
-use Rattle.poollaws.specs.Acts.Act.{Settle}
-use Rattle.poollaws.specs.Leaves.{Among, NoSettle}
-use Rattle.poollaws.specs.Leaves.Among.{first, later}
-use Rattle.batch.specs.Laws.{Owned}
+use Rattle.pool_laws.specs.Acts.{Act}
+use Rattle.pool_laws.specs.Acts.Act.{Settle}
+use Rattle.pool_laws.specs.Leaves.{Among, NoSettle}
+use Rattle.pool_laws.specs.Leaves.Among.{first, later}
+use Rattle.pool_batch.specs.Laws.{Owned}
 use Rattle.link.specs.declared.Role.{Role}
 use Rattle.link.specs.declared.Role.the-variants.{Primary, Secondary}
 use Rattle.link.specs.declared.Due.{Due}
 use Rattle.link.specs.declared.Due.the-variants.{Nothing as NothingDue, Version as VersionDue, Watchdog as WatchdogDue, Aggregated as AggregatedDue, Alarm as AlarmDue, Entry as EntryDue}
 use Rattle.link.specs.Steps.{closesOf, answeredOf, fullOf}
-use Rattle.written.specs.Message.{Message}
-use Rattle.taken.specs.declared.Verdict.{Verdict}
-use Rattle.taken.specs.declared.Verdict.the-variants.{Good, Missing, Bad}
-use Rattle.taken.specs.declared.GotLabel.{GotLabel}
-use Rattle.taken.specs.declared.AlarmFields.{AlarmFields}
-use Rattle.taken.specs.declared.Order.{Order}
-use Rattle.taken.specs.declared.Order.the-variants.{Request, Acknowledge, Suspend, Resume}
-use Rattle.takenlists.specs.declared.StatusEntry.{StatusEntry}
-use Rattle.takenlists.specs.declared.StatusFields.{StatusFields}
-use Rattle.versions.specs.declared.Judged.{Judged}
-use Rattle.versions.specs.declared.Judged.the-variants.{Chosen, RsmpVersion, SiteId, SxlVersion}
-use Rattle.versions.specs.Judge.{judge}
-use Rattle.sought.specs.declared.Sought.{Sought as Named}
-use Rattle.sought.specs.declared.Sought.the-variants.{Is, Nothing as Unknown}
-use Rattle.sought.specs.declared.SoughtAlarm.{SoughtAlarm}
-use Rattle.sought.specs.declared.SoughtAlarm.the-variants.{Alarm, NoComponent, NoAlarm}
-use Rattle.sought.specs.Sought.{componentSought, alarmSought, statusSought, entryAt, allStatuses}
+use Rattle.write_message.specs.Message.{Message}
+use Rattle.read_head.specs.declared.Verdict.{Verdict}
+use Rattle.read_head.specs.declared.Verdict.the-variants.{Good, Missing, Bad}
+use Rattle.read_head.specs.declared.GotLabel.{GotLabel}
+use Rattle.read_head.specs.declared.AlarmFields.{AlarmFields}
+use Rattle.read_head.specs.declared.Order.{Order}
+use Rattle.read_head.specs.declared.Order.the-variants.{Request, Acknowledge, Suspend, Resume}
+use Rattle.read_lists.specs.declared.StatusEntry.{StatusEntry}
+use Rattle.read_lists.specs.declared.StatusFields.{StatusFields}
+use Rattle.read_versions.specs.declared.Judged.{Judged}
+use Rattle.read_versions.specs.declared.Judged.the-variants.{Chosen, RsmpVersion, SiteId, SxlVersion}
+use Rattle.read_versions.specs.Judge.{judge}
+use Rattle.packet_lookup.specs.declared.Sought.{Sought as Named}
+use Rattle.packet_lookup.specs.declared.Sought.the-variants.{Is, Nothing as Unknown}
+use Rattle.packet_lookup.specs.declared.SoughtAlarm.{SoughtAlarm}
+use Rattle.packet_lookup.specs.declared.SoughtAlarm.the-variants.{Alarm, NoComponent, NoAlarm}
+use Rattle.packet_lookup.specs.Sought.{componentSought, alarmSought, statusSought, entryAt, allStatuses}
 use Rattle.site.specs.declared.Site.{Site}
 use Rattle.site.specs.Site.{linkAt, roleOf, withLink, closeAt, maskOf, hasPrimary}
 use Rattle.site.specs.Parts.{alarmAt, withSubscription}
 use Rattle.site.specs.Call.{Plan}
 use Rattle.holding.specs.Touches.{Configured, Touches}
 use Rattle.touches.specs.Calls.{closingActs}
-use Rattle.outgoing.specs.declared.Carried.{Carried}
-use Rattle.outgoing.specs.declared.Carried.the-variants.{Held, NoRecord}
-use Rattle.outgoing.specs.Outgoing.{carriedAt, alarmSentWith}
-use Rattle.sending.specs.Sending.{alarmMessage}
-use Rattle.pump.specs.Pump.{dueAt, sends, entryPlan, planFor}
-use Rattle.answering.specs.Taken.{Taken, notAcked, closing, replied, byVerdict, unlessBusy}
-use Rattle.greet.specs.Answered.{settled}
-use Rattle.greet.specs.Version.{own, versionJudged}
-use Rattle.greet.specs.Watchdog.{beat}
-use Rattle.subscribing.specs.Subscribing.{wanted, replacedAt, replaced, records, changed, judged, asked, subscribingTaken}
-use Rattle.subscribing.proofs.Kept.{kept as subscribes}
-use Rattle.orders.specs.Orders.{changedTo, changeTaken, isZero, requestBy, requestTaken, ordered, orderedOf, foundTaken, alarmTaken, aggregatedOf, aggregatedTaken}
-use Rattle.statusreply.specs.StatusReply.{passes, requestedOf, statusTaken}
+use Rattle.send_after.specs.declared.Carried.{Carried}
+use Rattle.send_after.specs.declared.Carried.the-variants.{Held, NoRecord}
+use Rattle.send_after.specs.Outgoing.{carriedAt, alarmSentWith}
+use Rattle.send_message.specs.Sending.{alarmMessage}
+use Rattle.call_pump.specs.Pump.{dueAt, sends, entryPlan, planFor}
+use Rattle.packet_answer.specs.Taken.{Taken, notAcked, closing, replied, byVerdict, unlessBusy}
+use Rattle.packet_greet.specs.Answered.{settled}
+use Rattle.packet_greet.specs.Version.{own, versionJudged}
+use Rattle.packet_greet.specs.Watchdog.{beat}
+use Rattle.packet_subscribe.specs.Subscribing.{wanted, replacedAt, replaced, records, changed, judged, asked, subscribingTaken}
+use Rattle.packet_subscribe.proofs.Kept.{kept as subscribes}
+use Rattle.packet_alarm.specs.Orders.{changedTo, changeTaken, isZero, requestBy, requestTaken, ordered, orderedOf, foundTaken, alarmTaken, aggregatedOf, aggregatedTaken}
+use Rattle.packet_status.specs.StatusReply.{passes, requestedOf, statusTaken}
 use Rattle.packettouches.specs.Packets.{carriedActs, entryActs, dueActs, foundActs, judgedActs, verdictActs, Touched}
 
 -- ---- pump

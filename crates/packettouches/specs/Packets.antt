@@ -14,37 +14,37 @@ use Rattle.awaited.specs.Awaited.{findOf}
 use Rattle.pool.specs.declared.Sought.{Sought}
 use Rattle.pool.specs.declared.Sought.the-variants.{Found as FoundEntry, Nothing as NoEntry}
 use Rattle.pool.specs.Pool.{oldestUnsent}
-use Rattle.poollaws.specs.Acts.{Act}
-use Rattle.poollaws.specs.Acts.Act.{Settle, Mark}
-use Rattle.poollaws.specs.Leaves.{Among, NoSettle}
+use Rattle.pool_laws.specs.Acts.{Act}
+use Rattle.pool_laws.specs.Acts.Act.{Settle, Mark}
+use Rattle.pool_laws.specs.Leaves.{Among, NoSettle}
 use Rattle.link.specs.declared.Due.{Due}
 use Rattle.link.specs.declared.Due.the-variants.{Nothing as NothingDue, Version as VersionDue, Watchdog as WatchdogDue, Aggregated as AggregatedDue, Alarm as AlarmDue, Entry as EntryDue}
 use Rattle.link.specs.Steps.{closesOf}
-use Rattle.taken.specs.declared.Verdict.{Verdict}
-use Rattle.taken.specs.declared.Verdict.the-variants.{Good, Missing, Bad}
-use Rattle.taken.specs.declared.GotTime.{GotTime}
-use Rattle.taken.specs.declared.GotLabel.{GotLabel}
-use Rattle.taken.specs.declared.AlarmFields.{AlarmFields}
-use Rattle.takenlists.specs.declared.VersionFields.{VersionFields}
-use Rattle.takenlists.specs.declared.StatusFields.{StatusFields}
-use Rattle.versions.specs.declared.Judged.{Judged}
-use Rattle.versions.specs.declared.Judged.the-variants.{Chosen, RsmpVersion, SiteId, SxlVersion}
-use Rattle.versions.specs.Judge.{judge}
+use Rattle.read_head.specs.declared.Verdict.{Verdict}
+use Rattle.read_head.specs.declared.Verdict.the-variants.{Good, Missing, Bad}
+use Rattle.read_head.specs.declared.GotTime.{GotTime}
+use Rattle.read_head.specs.declared.GotLabel.{GotLabel}
+use Rattle.read_head.specs.declared.AlarmFields.{AlarmFields}
+use Rattle.read_lists.specs.declared.VersionFields.{VersionFields}
+use Rattle.read_lists.specs.declared.StatusFields.{StatusFields}
+use Rattle.read_versions.specs.declared.Judged.{Judged}
+use Rattle.read_versions.specs.declared.Judged.the-variants.{Chosen, RsmpVersion, SiteId, SxlVersion}
+use Rattle.read_versions.specs.Judge.{judge}
 use Rattle.site.specs.declared.Site.{Site}
 use Rattle.site.specs.Site.{linkAt}
 use Rattle.holding.specs.Touches.{Configured, Touches}
 use Rattle.touches.specs.Calls.{closingActs}
-use Rattle.outgoing.specs.declared.Carried.{Carried}
-use Rattle.outgoing.specs.declared.Carried.the-variants.{Held, NoRecord}
-use Rattle.outgoing.specs.Outgoing.{carriedAt}
-use Rattle.pump.specs.Pump.{dueAt, pumpPlan}
-use Rattle.answering.specs.Taken.{notAcked, closing}
-use Rattle.greet.specs.Answered.{answeredPlan}
-use Rattle.greet.specs.Version.{own, versionTaken}
-use Rattle.greet.specs.Watchdog.{watchdogTaken}
-use Rattle.subscribing.specs.Subscribing.{subscribingTaken}
-use Rattle.orders.specs.Orders.{alarmTaken, aggregatedTaken}
-use Rattle.statusreply.specs.StatusReply.{statusTaken}
+use Rattle.send_after.specs.declared.Carried.{Carried}
+use Rattle.send_after.specs.declared.Carried.the-variants.{Held, NoRecord}
+use Rattle.send_after.specs.Outgoing.{carriedAt}
+use Rattle.call_pump.specs.Pump.{dueAt, pumpPlan}
+use Rattle.packet_answer.specs.Taken.{notAcked, closing}
+use Rattle.packet_greet.specs.Answered.{answeredPlan}
+use Rattle.packet_greet.specs.Version.{own, versionTaken}
+use Rattle.packet_greet.specs.Watchdog.{watchdogTaken}
+use Rattle.packet_subscribe.specs.Subscribing.{subscribingTaken}
+use Rattle.packet_alarm.specs.Orders.{alarmTaken, aggregatedTaken}
+use Rattle.packet_status.specs.StatusReply.{statusTaken}
 
 -- ---- pump: a record that goes out is marked sent
 abbrev pub carriedActs : ℕ → Carried → List Act

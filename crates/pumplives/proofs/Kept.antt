@@ -24,12 +24,12 @@ use Rattle.link.specs.declared.Due.{Due}
 use Rattle.link.specs.declared.Due.the-variants.{Nothing, Version, Watchdog, Aggregated, Alarm, Entry}
 use Rattle.link.specs.Phase.{phaseOf}
 use Rattle.link.specs.Due.{dueUp, dueIn, dueOf}
-use Rattle.written.specs.Message.{Message}
+use Rattle.write_message.specs.Message.{Message}
 use Rattle.site.specs.declared.Site.{Site}
 use Rattle.site.specs.Site.{roleOf, linkAt}
 use Rattle.site.specs.Call.{stepOf, issuing, batchOf, reportOf}
-use Rattle.sending.specs.Sending.{entryMessage}
-use Rattle.pump.specs.Pump.{isHeld, dueAt, pumpRefuses, planFor, entryPlan, pumpPlan}
+use Rattle.send_message.specs.Sending.{entryMessage}
+use Rattle.call_pump.specs.Pump.{isHeld, dueAt, pumpRefuses, planFor, entryPlan, pumpPlan}
 use Rattle.lives.specs.Stock.{Stocked}
 use Rattle.lives.specs.Moves.{Heedful}
 use Rattle.lives.specs.Messages.{isReport, isAlarm, isAnswer, Among, NoAnswer}

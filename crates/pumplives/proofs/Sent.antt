@@ -13,7 +13,7 @@ use Rattle.awaited.specs.Awaited.{findOf, howManyOf, isAwaited}
 use Rattle.pool.specs.declared.Sought.{Sought}
 use Rattle.pool.specs.declared.Sought.the-variants.{Found as FoundEntry, Nothing as NoEntry}
 use Rattle.pool.specs.Pool.{oldestUnsent}
-use Rattle.poollaws.specs.Acts.Act.{Mark}
+use Rattle.pool_laws.specs.Acts.Act.{Mark}
 use Rattle.link.specs.declared.Link.{Link}
 use Rattle.link.specs.declared.Due.{Due}
 use Rattle.link.specs.declared.Due.the-variants.{Nothing, Version, Watchdog, Aggregated, Alarm, Entry}
@@ -24,11 +24,11 @@ use Rattle.link.specs.Careful.{Sendable}
 use Rattle.site.specs.declared.Site.{Site}
 use Rattle.site.specs.Site.{linkAt}
 use Rattle.site.specs.Call.{Plan, only}
-use Rattle.sending.specs.Sending.{alarmMessage}
-use Rattle.outgoing.specs.declared.Carried.{Carried}
-use Rattle.outgoing.specs.declared.Carried.the-variants.{Held, NoRecord}
-use Rattle.outgoing.specs.Outgoing.{carriedAt, messageOut, alarmSentWith}
-use Rattle.pump.specs.Pump.{sends, versionPlan, watchdogPlan, aggregatedPlan, entryPlan, planFor}
+use Rattle.send_message.specs.Sending.{alarmMessage}
+use Rattle.send_after.specs.declared.Carried.{Carried}
+use Rattle.send_after.specs.declared.Carried.the-variants.{Held, NoRecord}
+use Rattle.send_after.specs.Outgoing.{carriedAt, messageOut, alarmSentWith}
+use Rattle.call_pump.specs.Pump.{sends, versionPlan, watchdogPlan, aggregatedPlan, entryPlan, planFor}
 use Rattle.lives.specs.Moves.{onlyOn, Shaped, Moves, Heedful}
 use Rattle.lives.specs.Moves.Heedful.{none}
 use Rattle.lives.specs.Stock.{Stocked, Stocks}

@@ -16,14 +16,14 @@ use Rattle.link.specs.declared.Due.the-variants.{Nothing, Version, Watchdog, Ag
 use Rattle.link.specs.Phase.{phaseOf}
 use Rattle.link.specs.Acts.{Act}
 use Rattle.link.specs.Acts.Act.{VersionOut, WatchdogOut, EntryOut, OtherOut, AggregatedPassed, AlarmPassed}
-use Rattle.written.specs.Message.{Message}
+use Rattle.write_message.specs.Message.{Message}
 use Rattle.site.specs.declared.Site.{Site}
 use Rattle.site.specs.Site.{linkAt, roleOf}
 use Rattle.site.specs.Call.{stepOf}
-use Rattle.outgoing.specs.declared.Carried.{Carried}
-use Rattle.outgoing.specs.declared.Carried.the-variants.{Held, NoRecord}
-use Rattle.outgoing.specs.Outgoing.{carriedAt}
-use Rattle.pump.specs.Pump.{dueAt, pumpRefuses, pumpPlan}
+use Rattle.send_after.specs.declared.Carried.{Carried}
+use Rattle.send_after.specs.declared.Carried.the-variants.{Held, NoRecord}
+use Rattle.send_after.specs.Outgoing.{carriedAt}
+use Rattle.call_pump.specs.Pump.{dueAt, pumpRefuses, pumpPlan}
 use Rattle.lives.specs.Moves.{onlyOn, Shaped, Moves, Heedful}
 use Rattle.lives.specs.Stock.{Stocked, Stocks}
 use Rattle.lives.specs.Messages.{isReport, isAlarm, Among, NoAnswer}

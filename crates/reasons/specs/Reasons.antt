@@ -3,7 +3,7 @@
 use mathlib.Core.Path.{_≡_}
 use Rattle.basis.specs.Text.{text}
 use Rattle.names.specs.Names.{nameOf}
-use Rattle.answering.specs.Taken.{missingElement, badValue, unexpected, notReady, rsmpVersion, siteId, sxlVersion, unknownComponent, unknownAlarm, unknownStatus, busy}
+use Rattle.packet_answer.specs.Taken.{missingElement, badValue, unexpected, notReady, rsmpVersion, siteId, sxlVersion, unknownComponent, unknownAlarm, unknownStatus, busy}
 
 pub record Reasons : Type 0 where
   pub missing-element : nameOf missingElement ≡ text "Missing element"

@@ -12,7 +12,7 @@ use Rattle.answer.specs.declared.Answer.the-variants.{Done}
 use Rattle.identity.specs.Version.{identityOf}
 use Rattle.site.specs.declared.Site.{Site}
 use Rattle.site.specs.Call.{Plan, reportOf, stepOf, writtenTo, outAfter}
-use Rattle.written.specs.Message.{Message}
+use Rattle.write_message.specs.Message.{Message}
 use Rattle.numbers.proofs.Given.{numbers}
 use Rattle.numbers.proofs.Stepped.{steps}
 use Rattle.sound.specs.Sound.{Sound}

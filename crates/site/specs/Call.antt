@@ -16,11 +16,11 @@ use Rattle.answer.specs.Order.{inOrder, judged}
 use Rattle.answer.specs.Given.{Hint}
 use Rattle.answer.specs.Given.Hint.{none, clock}
 use Rattle.entry.specs.declared.Entry.{Entry}
-use Rattle.batch.specs.declared.Batch.{Batch}
-use Rattle.batch.specs.Batch.{issuedAll}
+use Rattle.pool_batch.specs.declared.Batch.{Batch}
+use Rattle.pool_batch.specs.Batch.{issuedAll}
 use Rattle.output.specs.Put.{Out, output, putAll}
-use Rattle.written.specs.Message.{Message}
-use Rattle.written.specs.Pieces.{pieces}
+use Rattle.write_message.specs.Message.{Message}
+use Rattle.write_message.specs.Pieces.{pieces}
 use Rattle.site.specs.declared.Site.{Site}
 use Rattle.site.specs.declared.Step.{Step}
 use Rattle.site.specs.Site.{withIssued}

@@ -10,8 +10,8 @@ use Rattle.subscription.specs.declared.Subscription.{Subscription}
 use Rattle.subscription.specs.Subscription.{none}
 use Rattle.label.specs.declared.Label.{Label}
 use Rattle.label.specs.Label.{noLabel}
-use Rattle.item.specs.declared.Item.{Item}
-use Rattle.item.specs.Item.{noItem}
+use Rattle.table_item.specs.declared.Item.{Item}
+use Rattle.table_item.specs.Item.{noItem}
 use Rattle.site.specs.declared.Site.{Site}
 use Rattle.site.specs.Site.{withAlarms, withStatuses, withSubscriptions}
 

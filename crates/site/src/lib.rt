@@ -7,14 +7,14 @@ use alarm::Alarm;
 use answer::Answer;
 use answer::Refusal;
 use answer::Report;
-use batch::Batch;
 use link::Link;
 use link::Phase;
 use link::Role;
 use pool::Pool;
-use sitetable::SiteTable;
+use pool_batch::Batch;
 use status::Status;
 use subscription::Subscription;
+use table_whole::SiteTable;
 
 mod lists; // lists.rt: one element of a list
 pub mod parts; // parts.rt: one element of a list of the site, read and replaced

@@ -4,10 +4,10 @@ ghost use Rattle.site.specs.Parts.{alarmAt, withAlarm, statusAt, withSta
 use super::Site;
 use super::lists;
 use alarm::Alarm;
-use item::Item;
 use label::Label;
 use status::Status;
 use subscription::Subscription;
+use table_item::Item;
 
 pub fn alarm(s: Site, k: usize) -> Alarm
     ensures { λ r. ⌜ r ≡ alarmAt s k ⌝ }
@@ -65,7 +65,7 @@ pub fn component(s: Site, k: usize) -> Label
 {
     let table = s.table;
     let list = table.components;
-    item::label_in(list, k)
+    table_item::label_in(list, k)
 }
 
 pub fn alarm_row(s: Site, k: usize) -> Item
@@ -73,7 +73,7 @@ pub fn alarm_row(s: Site, k: usize) -> Item
 {
     let table = s.table;
     let list = table.alarms;
-    item::item_in(list, k)
+    table_item::item_in(list, k)
 }
 
 pub fn status_row(s: Site, k: usize) -> Item
@@ -81,5 +81,5 @@ pub fn status_row(s: Site, k: usize) -> Item
 {
     let table = s.table;
     let list = table.statuses;
-    item::item_in(list, k)
+    table_item::item_in(list, k)
 }

@@ -12,7 +12,7 @@ use Rattle.answer.specs.Number.{numberOf}
 use Rattle.site.specs.declared.Site.{Site}
 use Rattle.site.specs.declared.Step.{Step}
 use Rattle.site.specs.Call.{Plan, Gives, nothingOf}
-use Rattle.start.specs.Starts.{Starts}
+use Rattle.call_start.specs.Starts.{Starts}
 use Rattle.sitec.specs.declared.Outcome.{Outcome}
 
 -- a refused call reports nothing

@@ -1,22 +1,22 @@
 // What C and Rust call: the site by value, one function a call, each the call's own definition with its number.
 ghost use mathlib.Core.Path.{_≡_};
 ghost use Rattle.identity.specs.Version.{identityOf};
-ghost use Rattle.linkcalls.specs.Connect.{connectStep, disconnectStep};
-ghost use Rattle.inputs.specs.Inputs.{alarmStep, statusStep, aggregatedStep};
-ghost use Rattle.tick.specs.Tick.{tickStep};
+ghost use Rattle.call_link.specs.Connect.{connectStep, disconnectStep};
+ghost use Rattle.call_input.specs.Inputs.{alarmStep, statusStep, aggregatedStep};
+ghost use Rattle.call_tick.specs.Tick.{tickStep};
 ghost use lib.ListN.{length};
-ghost use Rattle.pump.specs.Pump.{pumpRefuses, pumpPlan};
-ghost use Rattle.packet.specs.Packet.{packetRefuses, packetTaken};
-ghost use Rattle.siteread.specs.Readings.{heldAt, lostAt, phaseAt, versionAt, recordAt};
+ghost use Rattle.call_pump.specs.Pump.{pumpRefuses, pumpPlan};
+ghost use Rattle.call_packet.specs.Packet.{packetRefuses, packetTaken};
+ghost use Rattle.call_read.specs.Readings.{heldAt, lostAt, phaseAt, versionAt, recordAt};
 ghost use lib.Dec.{ltb};
 ghost use Rattle.sitec.specs.Outcome.{reportIn, outcomeOf, Started, Told};
 use answer::Answer;
 use answer::Report;
+use call_read::ChosenVersion;
 use identity::Identity;
 use pool::Reading;
 use site::Site;
 use site::Step;
-use siteread::ChosenVersion;
 
 // The next site, the number of the answer, and what a done call reports; where it is refused the site is the one given, and the rest is 0.
 #[repr(C)]
@@ -58,14 +58,14 @@ fn outcome_of(t: Step) -> Outcome
 pub extern "C" fn rsmp_connect(s: Site, link: u32, time: u64) -> Outcome
     ensures { λ r. ⌜ r ≡ outcomeOf (connectStep s link time) ⌝ }
 {
-    outcome_of(linkcalls::connect(s, link, time))
+    outcome_of(call_link::connect(s, link, time))
 }
 
 #[no_mangle]
 pub extern "C" fn rsmp_disconnect(s: Site, link: u32, time: u64) -> Outcome
     ensures { λ r. ⌜ r ≡ outcomeOf (disconnectStep s link time) ⌝ }
 {
-    outcome_of(linkcalls::disconnect(s, link, time))
+    outcome_of(call_link::disconnect(s, link, time))
 }
 
 // The first site, from the table's bytes; no primary where primary is 4294967295.
@@ -80,7 +80,7 @@ pub extern "C" fn rsmp_start(
 ) -> Outcome
     ensures { λ r. ⌜ Started (now (table .entry)) links primary period first time r ⌝ }
 {
-    outcome_of(start::start(table, links, primary, period, first, time))
+    outcome_of(call_start::start(table, links, primary, period, first, time))
 }
 
 // The alarm's input: active where `active` is not 0.
@@ -88,28 +88,28 @@ pub extern "C" fn rsmp_start(
 pub extern "C" fn rsmp_alarm(s: Site, number: u32, active: u32, time: u64) -> Outcome
     ensures { λ r. ⌜ r ≡ outcomeOf (alarmStep s number (ltb 0 active) time) ⌝ }
 {
-    outcome_of(inputs::alarm(s, number, 0 < active, time))
+    outcome_of(call_input::alarm(s, number, 0 < active, time))
 }
 
 #[no_mangle]
 pub extern "C" fn rsmp_status(s: Site, number: u32, value: i32, time: u64) -> Outcome
     ensures { λ r. ⌜ r ≡ outcomeOf (statusStep s number value time) ⌝ }
 {
-    outcome_of(inputs::status(s, number, value, time))
+    outcome_of(call_input::status(s, number, value, time))
 }
 
 #[no_mangle]
 pub extern "C" fn rsmp_aggregated(s: Site, value: u8, time: u64) -> Outcome
     ensures { λ r. ⌜ r ≡ outcomeOf (aggregatedStep s value time) ⌝ }
 {
-    outcome_of(inputs::aggregated(s, value, time))
+    outcome_of(call_input::aggregated(s, value, time))
 }
 
 #[no_mangle]
 pub extern "C" fn rsmp_tick(s: Site, time: u64) -> Outcome
     ensures { λ r. ⌜ r ≡ outcomeOf (tickStep s time) ⌝ }
 {
-    outcome_of(tick::tick(s, time))
+    outcome_of(call_tick::tick(s, time))
 }
 
 // One message without its form feed, received on the link; the answer and a reply go into `out`. `random` is sixteen random bytes.
@@ -124,7 +124,7 @@ pub extern "C" fn rsmp_packet(
 ) -> Outcome
     ensures { λ r. ⌜ Told s time (packetRefuses s link time (identityOf random) (length (now (out .entry))) (now (received .entry))) (packetTaken s link time (identityOf random) (now (received .entry)) .plan) (now (out .entry)) (now (out .exit)) r ⌝ }
 {
-    outcome_of(packet::packet(s, link, time, random, received, out))
+    outcome_of(call_packet::packet(s, link, time, random, received, out))
 }
 
 // The next due message of the link goes into `out`, one at most; `random` is sixteen random bytes.
@@ -138,7 +138,7 @@ pub extern "C" fn rsmp_pump(
 ) -> Outcome
     ensures { λ r. ⌜ Told s time (pumpRefuses s link time (identityOf random) (length (now (out .entry)))) (pumpPlan s link time (identityOf random)) (now (out .entry)) (now (out .exit)) r ⌝ }
 {
-    outcome_of(pump::pump(s, link, time, random, out))
+    outcome_of(call_pump::pump(s, link, time, random, out))
 }
 
 // How many records of the link are held.
@@ -146,7 +146,7 @@ pub extern "C" fn rsmp_pump(
 pub extern "C" fn rsmp_held(s: Site, link: u32) -> u64
     ensures { λ r. ⌜ r ≡ heldAt s link ⌝ }
 {
-    siteread::held(s, link)
+    call_read::held(s, link)
 }
 
 // How many records the link lost since start.
@@ -154,7 +154,7 @@ pub extern "C" fn rsmp_held(s: Site, link: u32) -> u64
 pub extern "C" fn rsmp_lost(s: Site, link: u32) -> u64
     ensures { λ r. ⌜ r ≡ lostAt s link ⌝ }
 {
-    siteread::lost(s, link)
+    call_read::lost(s, link)
 }
 
 // 0 Down, 1 Greeting, 2 Beating, 3 Up.
@@ -162,7 +162,7 @@ pub extern "C" fn rsmp_lost(s: Site, link: u32) -> u64
 pub extern "C" fn rsmp_phase(s: Site, link: u32) -> u32
     ensures { λ r. ⌜ r ≡ phaseAt s link ⌝ }
 {
-    siteread::phase(s, link)
+    call_read::phase(s, link)
 }
 
 // The version chosen in this life of the link; zeros before.
@@ -170,7 +170,7 @@ pub extern "C" fn rsmp_phase(s: Site, link: u32) -> u32
 pub extern "C" fn rsmp_version_of(s: Site, link: u32) -> ChosenVersion
     ensures { λ r. ⌜ r ≡ versionAt s link ⌝ }
 {
-    siteread::version_of(s, link)
+    call_read::version_of(s, link)
 }
 
 // The sixteen bytes of the held record of the link with so many older ones.
@@ -178,5 +178,5 @@ pub extern "C" fn rsmp_version_of(s: Site, link: u32) -> ChosenVersion
 pub extern "C" fn rsmp_record(s: Site, link: u32, rank: u64) -> Reading
     ensures { λ r. ⌜ r ≡ recordAt s link rank ⌝ }
 {
-    siteread::record_at(s, link, rank)
+    call_read::record_at(s, link, rank)
 }

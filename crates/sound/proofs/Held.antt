@@ -19,12 +19,12 @@ use Rattle.pool.specs.declared.Sought.the-variants.{Found, Nothing}
 use Rattle.pool.specs.Places.{noPlace, of}
 use Rattle.pool.specs.Shares.{loser}
 use Rattle.pool.specs.Pool.{emptyOf, heldIn, freeIn, made, lossOf, roomOf, withOf, issueOf, settleOf, markOf, unsentFor, unmarkOf}
-use Rattle.poollaws.proofs.Counts.{and-left, not-both}
-use Rattle.poollaws.proofs.Other.{Touched, settle-touches, mark-touches}
-use Rattle.poollaws.proofs.Other.Touched.{absent, there}
-use Rattle.poollaws.proofs.Inv.{of-used}
-use Rattle.batch.specs.declared.Batch.{Batch}
-use Rattle.batch.specs.Batch.{renumbered, under, added, addedAll}
+use Rattle.pool_laws.proofs.Counts.{and-left, not-both}
+use Rattle.pool_laws.proofs.Other.{Touched, settle-touches, mark-touches}
+use Rattle.pool_laws.proofs.Other.Touched.{absent, there}
+use Rattle.pool_laws.proofs.Inv.{of-used}
+use Rattle.pool_batch.specs.declared.Batch.{Batch}
+use Rattle.pool_batch.specs.Batch.{renumbered, under, added, addedAll}
 use Rattle.sound.specs.Sound.{EachHeld, Each}
 
 module _ (P : Entry → Type 0) where

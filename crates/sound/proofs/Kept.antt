@@ -18,9 +18,9 @@ use Rattle.answer.specs.Order.{inOrder, None}
 use Rattle.answer.specs.Order.None.{none, more}
 use Rattle.entry.specs.declared.Entry.{Entry}
 use Rattle.pool.specs.declared.Pool.{Pool}
-use Rattle.batch.specs.Batch.{beginning, issuedAll}
-use Rattle.batch.specs.Laws.{Lasting}
-use Rattle.batch.proofs.Kept.{kept as batched}
+use Rattle.pool_batch.specs.Batch.{beginning, issuedAll}
+use Rattle.pool_batch.specs.Laws.{Lasting}
+use Rattle.pool_batch.proofs.Kept.{kept as batched}
 use Rattle.site.specs.declared.Site.{Site}
 use Rattle.site.specs.Site.{badTimeAt, withIssued}
 use Rattle.site.specs.Call.{Plan, batchOf, answerOf, stepOf}

@@ -15,12 +15,12 @@ use Rattle.status.specs.Status.{unknown}
 use Rattle.link.specs.Fields.{closedLink}
 use Rattle.subscription.specs.declared.Subscription.{Subscription}
 use Rattle.subscription.specs.Subscription.{none}
-use Rattle.sitetable.specs.Table.{Table}
-use Rattle.sitetable.specs.Allowed.{Allowed}
-use Rattle.sitetable.specs.Memory.{memoryOf}
-use Rattle.start.specs.Fresh.{fresh, primaryOf}
-use Rattle.start.specs.Starts.{Within, Starts}
-use Rattle.start.specs.Starts.Starts.{starts, refuses}
+use Rattle.table_whole.specs.Table.{Table}
+use Rattle.table_whole.specs.Allowed.{Allowed}
+use Rattle.table_whole.specs.Memory.{memoryOf}
+use Rattle.call_start.specs.Fresh.{fresh, primaryOf}
+use Rattle.call_start.specs.Starts.{Within, Starts}
+use Rattle.call_start.specs.Starts.Starts.{starts, refuses}
 use Rattle.sound.specs.Sound.{SoundAlarm, SoundStatus, EntryOf, Sound}
 use Rattle.sound.specs.Claims.{Started}
 use Rattle.sound.proofs.Held.{held-empty}

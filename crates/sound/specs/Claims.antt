@@ -11,7 +11,7 @@ use Rattle.answer.specs.Order.{inOrder, None}
 use Rattle.site.specs.declared.Site.{Site}
 use Rattle.site.specs.declared.Step.{Step}
 use Rattle.site.specs.Call.{Plan, stepOf}
-use Rattle.start.specs.Starts.{Starts}
+use Rattle.call_start.specs.Starts.{Starts}
 use Rattle.numbers.specs.Numbers.{conditions}
 use Rattle.sound.specs.Sound.{Each, EntryOf, SoundAt, Sound}
 

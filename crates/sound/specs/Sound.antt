@@ -18,10 +18,10 @@ use Rattle.status.specs.Status.{unknown}
 use Rattle.subscription.specs.declared.Subscription.{Subscription}
 use Rattle.subscription.specs.Subscription.{none}
 use Rattle.aggregated.specs.declared.Aggregated.{Aggregated}
-use Rattle.sitetable.specs.declared.SiteTable.{SiteTable}
-use Rattle.sitetable.specs.Table.{Table}
-use Rattle.sitetable.specs.Allowed.{Allowed}
-use Rattle.sitetable.specs.Memory.{memoryOf}
+use Rattle.table_whole.specs.declared.SiteTable.{SiteTable}
+use Rattle.table_whole.specs.Table.{Table}
+use Rattle.table_whole.specs.Allowed.{Allowed}
+use Rattle.table_whole.specs.Memory.{memoryOf}
 use Rattle.site.specs.declared.Site.{Site}
 
 -- what start was given: 1 to 4 links, the primary one of them or 65535, a period of 1 to 3600 seconds, an allowed table as it is kept

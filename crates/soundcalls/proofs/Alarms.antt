@@ -15,7 +15,7 @@ use Rattle.alarm.specs.declared.Order.{Order}
 use Rattle.alarm.specs.declared.Order.the-variants.{Acknowledge, Suspend, Resume}
 use Rattle.alarm.specs.Alarm.{nothing, event, issued, inputOf, acknowledgeOf, suspendOf, orderOf}
 use Rattle.alarm.specs.Issued.{issuedOf}
-use Rattle.sitetable.specs.declared.SiteTable.{SiteTable}
+use Rattle.table_whole.specs.declared.SiteTable.{SiteTable}
 use Rattle.sound.specs.Sound.{SoundAlarm, SoundStart, SoundEntry}
 
 module _ (now : ℕ) (a : Alarm) (h : SoundAlarm now a) where

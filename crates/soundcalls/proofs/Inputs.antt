@@ -27,8 +27,8 @@ use Rattle.subscription.specs.Subscription.{issuesOn}
 use Rattle.site.specs.declared.Site.{Site}
 use Rattle.site.specs.Site.{linkAt, hasPrimary}
 use Rattle.site.specs.Parts.{alarmAt, subscriptionAt}
-use Rattle.linkcalls.specs.Connect.{connectPlan, disconnectPlan}
-use Rattle.inputs.specs.Inputs.{alarmChange, alarmPlan, statusChange, statusEntry, statusPlan, aggregatedChange, aggregatedEntry, aggregatedPlan}
+use Rattle.call_link.specs.Connect.{connectPlan, disconnectPlan}
+use Rattle.call_input.specs.Inputs.{alarmChange, alarmPlan, statusChange, statusEntry, statusPlan, aggregatedChange, aggregatedEntry, aggregatedPlan}
 use Rattle.sound.specs.Sound.{SoundAggregated, SoundEntry, EntryOf, SoundAt}
 use Rattle.sound.specs.Claims.{SoundPlan}
 use Rattle.sound.proofs.Entries.{each-if, each-to}

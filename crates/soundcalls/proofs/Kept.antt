@@ -3,9 +3,9 @@
 use Prim.Native.Nat.{ℕ}
 use mathlib.Core.Path.{_≡_}
 use borrow.Author.Tests.{leb-false}
-use Rattle.linkcalls.specs.Connect.{connectRefuses, connectPlan, disconnectRefuses, disconnectPlan}
-use Rattle.inputs.specs.Inputs.{alarmRefuses, alarmPlan, statusRefuses, statusPlan, aggregatedRefuses, aggregatedPlan}
-use Rattle.tick.specs.Tick.{tickRefuses, tickPlan}
+use Rattle.call_link.specs.Connect.{connectRefuses, connectPlan, disconnectRefuses, disconnectPlan}
+use Rattle.call_input.specs.Inputs.{alarmRefuses, alarmPlan, statusRefuses, statusPlan, aggregatedRefuses, aggregatedPlan}
+use Rattle.call_tick.specs.Tick.{tickRefuses, tickPlan}
 use Rattle.sound.proofs.Kept.{an-item, in-time, at-time}
 use Rattle.sound.proofs.Kept.{kept as keeps}
 use Rattle.soundcalls.specs.Calls.{Calls}

@@ -15,11 +15,11 @@ use Rattle.subscription.specs.Subscription.{none, dueAt, tickOf}
 use Rattle.site.specs.declared.Site.{Site}
 use Rattle.site.specs.Site.{closeAt}
 use Rattle.site.specs.Parts.{statusAt}
-use Rattle.tick.specs.Closing.{lateAt, closeLate, closedTo}
-use Rattle.tick.specs.Intervals.{renewed, recordAt, recordsOf, issuedAt}
-use Rattle.tick.specs.Tick.{siteAfter, tickPlan}
-use Rattle.tick.specs.Claims.{exceptFor}
-use Rattle.tick.proofs.Closed.{stays}
+use Rattle.call_tick.specs.Closing.{lateAt, closeLate, closedTo}
+use Rattle.call_tick.specs.Intervals.{renewed, recordAt, recordsOf, issuedAt}
+use Rattle.call_tick.specs.Tick.{siteAfter, tickPlan}
+use Rattle.call_tick.specs.Claims.{exceptFor}
+use Rattle.call_tick.proofs.Closed.{stays}
 use Rattle.sound.specs.Sound.{SoundSubscriptions, Each, EntryOf, SoundAt}
 use Rattle.sound.specs.Claims.{SoundPlan}
 use Rattle.sound.proofs.Entries.{each-if, each-to}

@@ -6,9 +6,9 @@ use mathlib.Core.Bool.{Bool}
 use lib.IntN.{ℤ}
 use Rattle.number.specs.Signed.{Signed32}
 use Rattle.site.specs.declared.Site.{Site}
-use Rattle.linkcalls.specs.Connect.{connectStep, disconnectStep}
-use Rattle.inputs.specs.Inputs.{alarmStep, statusStep, aggregatedStep}
-use Rattle.tick.specs.Tick.{tickStep}
+use Rattle.call_link.specs.Connect.{connectStep, disconnectStep}
+use Rattle.call_input.specs.Inputs.{alarmStep, statusStep, aggregatedStep}
+use Rattle.call_tick.specs.Tick.{tickStep}
 use Rattle.sound.specs.Sound.{Sound}
 
 pub record Calls : Type 0 where

@@ -9,18 +9,18 @@ use lib.ListN.{length}
 use Rattle.basis.specs.Pick.{pick}
 use Rattle.label.specs.declared.Label.{Label}
 use Rattle.label.specs.Label.{textOf}
-use Rattle.item.specs.declared.Found.{Found}
-use Rattle.item.specs.declared.Found.the-variants.{At, Nothing as Missing}
-use Rattle.sitetable.specs.declared.SiteTable.{SiteTable}
-use Rattle.sitetable.specs.Lookup.{Finds, findAlarm, findStatus}
-use Rattle.sitetable.specs.Lookup.Finds.{only, absent}
-use Rattle.sitetable.proofs.Lookups.{alarm-found, status-found}
-use Rattle.takenlists.specs.declared.StatusEntry.{StatusEntry}
-use Rattle.sought.specs.declared.Sought.{Sought}
-use Rattle.sought.specs.declared.Sought.the-variants.{Is, Nothing}
-use Rattle.sought.specs.declared.SoughtAlarm.{SoughtAlarm}
-use Rattle.sought.specs.declared.SoughtAlarm.the-variants.{Alarm, NoComponent, NoAlarm}
-use Rattle.sought.specs.Sought.{numbered, componentSought, alarmIn, orNoAlarm, alarmOf, alarmSought, statusSought}
+use Rattle.table_item.specs.declared.Found.{Found}
+use Rattle.table_item.specs.declared.Found.the-variants.{At, Nothing as Missing}
+use Rattle.table_whole.specs.declared.SiteTable.{SiteTable}
+use Rattle.table_whole.specs.Lookup.{Finds, findAlarm, findStatus}
+use Rattle.table_whole.specs.Lookup.Finds.{only, absent}
+use Rattle.table_whole.proofs.Lookups.{alarm-found, status-found}
+use Rattle.read_lists.specs.declared.StatusEntry.{StatusEntry}
+use Rattle.packet_lookup.specs.declared.Sought.{Sought}
+use Rattle.packet_lookup.specs.declared.Sought.the-variants.{Is, Nothing}
+use Rattle.packet_lookup.specs.declared.SoughtAlarm.{SoughtAlarm}
+use Rattle.packet_lookup.specs.declared.SoughtAlarm.the-variants.{Alarm, NoComponent, NoAlarm}
+use Rattle.packet_lookup.specs.Sought.{numbered, componentSought, alarmIn, orNoAlarm, alarmOf, alarmSought, statusSought}
 use Rattle.sound.specs.Sound.{SoundStart}
 
 abbrev FoundBelow : ℕ → Found → Type 0

@@ -2,7 +2,7 @@
 -- Assumes nothing.
 use Prim.Native.Nat.{ℕ}
 use mathlib.Core.Path.{_≡_}
-use Rattle.pump.specs.Pump.{pumpRefuses, pumpPlan}
+use Rattle.call_pump.specs.Pump.{pumpRefuses, pumpPlan}
 use Rattle.sound.proofs.Kept.{in-time, at-time}
 use Rattle.sound.proofs.Kept.{kept as keeps}
 use Rattle.soundpackets.specs.Packets.{Packets}

@@ -11,10 +11,10 @@ use Rattle.link.specs.declared.Due.the-variants.{Nothing, Version, Watchdog, Ag
 use Rattle.link.specs.Steps.{versionOutOf, watchdogOutOf, aggregatedPassedOf, alarmPassedOf}
 use Rattle.site.specs.declared.Site.{Site}
 use Rattle.site.specs.Site.{linkAt, withLink}
-use Rattle.outgoing.specs.declared.Carried.{Carried}
-use Rattle.outgoing.specs.declared.Carried.the-variants.{Held, NoRecord}
-use Rattle.outgoing.specs.Outgoing.{marked, carriedAt, messageOut, alarmSentWith}
-use Rattle.pump.specs.Pump.{dueAt, entryPlan, planFor, pumpPlan}
+use Rattle.send_after.specs.declared.Carried.{Carried}
+use Rattle.send_after.specs.declared.Carried.the-variants.{Held, NoRecord}
+use Rattle.send_after.specs.Outgoing.{marked, carriedAt, messageOut, alarmSentWith}
+use Rattle.call_pump.specs.Pump.{dueAt, entryPlan, planFor, pumpPlan}
 use Rattle.sound.specs.Sound.{EachHeld, EntryOf, SoundAt}
 use Rattle.sound.specs.Claims.{SoundPlan}
 use Rattle.sound.proofs.Held.{held-mark}

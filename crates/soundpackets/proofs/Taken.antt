@@ -21,34 +21,34 @@ use Rattle.link.specs.Steps.{messageOutOf, fullOf, closesOf, answeredOf, versio
 use Rattle.alarm.specs.declared.Order.{Order as Change}
 use Rattle.alarm.specs.Alarm.{orderOf}
 use Rattle.alarm.specs.Issued.{issuedOf}
-use Rattle.written.specs.Message.{Message}
-use Rattle.taken.specs.declared.Verdict.{Verdict}
-use Rattle.taken.specs.declared.Verdict.the-variants.{Good, Missing, Bad}
-use Rattle.taken.specs.declared.Order.{Order}
-use Rattle.taken.specs.declared.Order.the-variants.{Request, Acknowledge, Suspend, Resume}
-use Rattle.taken.specs.declared.AlarmFields.{AlarmFields}
-use Rattle.taken.specs.declared.GotLabel.{GotLabel}
-use Rattle.taken.specs.declared.GotTime.{GotTime}
-use Rattle.takenlists.specs.declared.VersionFields.{VersionFields}
-use Rattle.takenlists.specs.declared.StatusFields.{StatusFields}
-use Rattle.versions.specs.declared.Judged.{Judged}
-use Rattle.versions.specs.declared.Judged.the-variants.{Chosen, RsmpVersion, SiteId, SxlVersion}
-use Rattle.versions.specs.Judge.{judge}
-use Rattle.sought.specs.declared.Sought.{Sought}
-use Rattle.sought.specs.declared.SoughtAlarm.{SoughtAlarm}
-use Rattle.sought.specs.declared.SoughtAlarm.the-variants.{Alarm, NoComponent, NoAlarm}
-use Rattle.sought.specs.Sought.{componentSought, alarmSought}
-use Rattle.sending.specs.Sending.{alarmMessage, aggregatedMessage}
+use Rattle.write_message.specs.Message.{Message}
+use Rattle.read_head.specs.declared.Verdict.{Verdict}
+use Rattle.read_head.specs.declared.Verdict.the-variants.{Good, Missing, Bad}
+use Rattle.read_head.specs.declared.Order.{Order}
+use Rattle.read_head.specs.declared.Order.the-variants.{Request, Acknowledge, Suspend, Resume}
+use Rattle.read_head.specs.declared.AlarmFields.{AlarmFields}
+use Rattle.read_head.specs.declared.GotLabel.{GotLabel}
+use Rattle.read_head.specs.declared.GotTime.{GotTime}
+use Rattle.read_lists.specs.declared.VersionFields.{VersionFields}
+use Rattle.read_lists.specs.declared.StatusFields.{StatusFields}
+use Rattle.read_versions.specs.declared.Judged.{Judged}
+use Rattle.read_versions.specs.declared.Judged.the-variants.{Chosen, RsmpVersion, SiteId, SxlVersion}
+use Rattle.read_versions.specs.Judge.{judge}
+use Rattle.packet_lookup.specs.declared.Sought.{Sought}
+use Rattle.packet_lookup.specs.declared.SoughtAlarm.{SoughtAlarm}
+use Rattle.packet_lookup.specs.declared.SoughtAlarm.the-variants.{Alarm, NoComponent, NoAlarm}
+use Rattle.packet_lookup.specs.Sought.{componentSought, alarmSought}
+use Rattle.send_message.specs.Sending.{alarmMessage, aggregatedMessage}
 use Rattle.site.specs.declared.Site.{Site}
 use Rattle.site.specs.Site.{roleOf, linkAt, withLink, closeAt, maskOf, hasPrimary}
 use Rattle.site.specs.Parts.{alarmAt}
 use Rattle.site.specs.Call.{Plan, only}
-use Rattle.answering.specs.Taken.{Taken, notAcked, closing, acked, replied, byVerdict, unlessBusy, unknownComponent, unknownAlarm, unknownStatus, busy}
-use Rattle.greet.specs.Answered.{settledFor, settled, answeredPlan}
-use Rattle.greet.specs.Version.{own, versionJudged, versionTaken}
-use Rattle.greet.specs.Watchdog.{beat, watchdogTaken}
-use Rattle.orders.specs.Orders.{changeTaken, isZero, requestBy, requestTaken, ordered, orderedOf, foundTaken, alarmTaken, aggregatedOf, aggregatedTaken}
-use Rattle.statusreply.specs.StatusReply.{passes, response, requestedOf, statusTaken}
+use Rattle.packet_answer.specs.Taken.{Taken, notAcked, closing, acked, replied, byVerdict, unlessBusy, unknownComponent, unknownAlarm, unknownStatus, busy}
+use Rattle.packet_greet.specs.Answered.{settledFor, settled, answeredPlan}
+use Rattle.packet_greet.specs.Version.{own, versionJudged, versionTaken}
+use Rattle.packet_greet.specs.Watchdog.{beat, watchdogTaken}
+use Rattle.packet_alarm.specs.Orders.{changeTaken, isZero, requestBy, requestTaken, ordered, orderedOf, foundTaken, alarmTaken, aggregatedOf, aggregatedTaken}
+use Rattle.packet_status.specs.StatusReply.{passes, response, requestedOf, statusTaken}
 use Rattle.sound.specs.Sound.{EntryOf, SoundAt}
 use Rattle.sound.specs.Claims.{SoundPlan}
 use Rattle.sound.proofs.Held.{held-settle}

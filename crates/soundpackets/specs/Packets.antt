@@ -5,21 +5,21 @@ use Prim.Native.Nat.{ℕ, _<_}
 use mathlib.Core.Bool.{Bool}
 use mathlib.Core.List.{List}
 use Rattle.identity.specs.declared.Identity.{Identity}
-use Rattle.taken.specs.declared.GotTime.{GotTime}
-use Rattle.taken.specs.declared.GotLabel.{GotLabel}
-use Rattle.taken.specs.declared.AlarmFields.{AlarmFields}
-use Rattle.takenlists.specs.declared.VersionFields.{VersionFields}
-use Rattle.takenlists.specs.declared.StatusFields.{StatusFields}
+use Rattle.read_head.specs.declared.GotTime.{GotTime}
+use Rattle.read_head.specs.declared.GotLabel.{GotLabel}
+use Rattle.read_head.specs.declared.AlarmFields.{AlarmFields}
+use Rattle.read_lists.specs.declared.VersionFields.{VersionFields}
+use Rattle.read_lists.specs.declared.StatusFields.{StatusFields}
 use Rattle.site.specs.declared.Site.{Site}
 use Rattle.site.specs.Call.{stepOf}
-use Rattle.pump.specs.Pump.{pumpRefuses, pumpPlan}
-use Rattle.answering.specs.Taken.{notAcked}
-use Rattle.greet.specs.Answered.{answeredPlan}
-use Rattle.greet.specs.Version.{versionTaken}
-use Rattle.greet.specs.Watchdog.{watchdogTaken}
-use Rattle.subscribing.specs.Subscribing.{subscribingTaken}
-use Rattle.orders.specs.Orders.{alarmTaken, aggregatedTaken}
-use Rattle.statusreply.specs.StatusReply.{statusTaken}
+use Rattle.call_pump.specs.Pump.{pumpRefuses, pumpPlan}
+use Rattle.packet_answer.specs.Taken.{notAcked}
+use Rattle.packet_greet.specs.Answered.{answeredPlan}
+use Rattle.packet_greet.specs.Version.{versionTaken}
+use Rattle.packet_greet.specs.Watchdog.{watchdogTaken}
+use Rattle.packet_subscribe.specs.Subscribing.{subscribingTaken}
+use Rattle.packet_alarm.specs.Orders.{alarmTaken, aggregatedTaken}
+use Rattle.packet_status.specs.StatusReply.{statusTaken}
 use Rattle.sound.specs.Sound.{SoundAt, Sound}
 use Rattle.sound.specs.Claims.{SoundPlan}
 

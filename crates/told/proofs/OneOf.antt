@@ -7,8 +7,8 @@ use mathlib.Core.Logic.{_⊎_, inl, inr}
 use native.Mathlib.Omega.{arith}
 use Rattle.basis.proofs.Cases.{eq-or-ne}
 use Rattle.entry.specs.declared.Entry.{Entry}
-use Rattle.upwards.specs.Upwards.{entriesTo}
-use Rattle.upwards.proofs.Entries.{none-to}
+use Rattle.call_records.specs.Upwards.{entriesTo}
+use Rattle.call_records.proofs.Entries.{none-to}
 
 -- each place has the same records
 pub entries-same : (f g : ℕ → List Entry) (n : ℕ) → ((i : ℕ) → i < n → f i ≡ g i) → entriesTo f n ≡ entriesTo g n

@@ -9,11 +9,11 @@ use Rattle.answer.specs.Number.{isDone}
 use Rattle.link.specs.declared.Phase.{Phase}
 use Rattle.link.specs.declared.Phase.the-variants.{Down, Greeting, Beating, Up}
 use Rattle.link.specs.Phase.{phaseOf}
-use Rattle.batch.specs.Laws.{numbered}
+use Rattle.pool_batch.specs.Laws.{numbered}
 use Rattle.site.specs.declared.Site.{Site}
 use Rattle.site.specs.Site.{linkAt}
 use Rattle.site.specs.Parts.{alarmAt, statusAt, subscriptionAt}
-use Rattle.start.specs.Fresh.{fresh}
+use Rattle.call_start.specs.Fresh.{fresh}
 use Rattle.lives.specs.Moves.{Shaped}
 use Rattle.calls.specs.Calls.{Call, planOf, stepBy, siteAfter}
 use Rattle.told.specs.Told.{Setup, Told}

@@ -17,15 +17,15 @@ use Rattle.aggregated.specs.declared.Set.{Set as AggregatedSet}
 use Rattle.aggregated.specs.Aggregated.{setOf as aggregatedSet}
 use Rattle.aggregated.specs.Issued.{issuedOf as aggregatedRecord}
 use Rattle.subscription.specs.Subscription.{issuesOn, tickOf}
-use Rattle.batch.specs.Laws.{numbered}
-use Rattle.upwards.specs.Upwards.{entriesTo, entryIf}
-use Rattle.takenlists.specs.declared.StatusEntry.{StatusEntry}
-use Rattle.takenlists.specs.declared.StatusFields.{StatusFields}
-use Rattle.takenlists.specs.Status.{statusAt}
-use Rattle.sitetable.specs.declared.SiteTable.{SiteTable}
-use Rattle.sought.specs.declared.Sought.{Sought}
-use Rattle.sought.specs.declared.Sought.the-variants.{Is, Nothing}
-use Rattle.sought.specs.Sought.{statusSought, entryAt}
+use Rattle.pool_batch.specs.Laws.{numbered}
+use Rattle.call_records.specs.Upwards.{entriesTo, entryIf}
+use Rattle.read_lists.specs.declared.StatusEntry.{StatusEntry}
+use Rattle.read_lists.specs.declared.StatusFields.{StatusFields}
+use Rattle.read_lists.specs.Status.{statusAt}
+use Rattle.table_whole.specs.declared.SiteTable.{SiteTable}
+use Rattle.packet_lookup.specs.declared.Sought.{Sought}
+use Rattle.packet_lookup.specs.declared.Sought.the-variants.{Is, Nothing}
+use Rattle.packet_lookup.specs.Sought.{statusSought, entryAt}
 use Rattle.calls.specs.Calls.{Call}
 use Rattle.calls.specs.Calls.Call.{connect, disconnect, packet, alarm, status, aggregated, tick, pump}
 use Rattle.told.specs.Told.{Setup, Told, hasPrimary}

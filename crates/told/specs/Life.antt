@@ -9,19 +9,19 @@ use Rattle.answer.specs.Number.{isDone}
 use Rattle.identity.specs.declared.Identity.{Identity}
 use Rattle.identity.specs.Version.{identityOf}
 use Rattle.awaited.specs.Slot.{sameIdentity}
-use Rattle.versions.specs.declared.Judged.{Judged}
-use Rattle.versions.specs.declared.Judged.the-variants.{Chosen, RsmpVersion, SiteId, SxlVersion}
-use Rattle.versions.specs.Judge.{judge}
-use Rattle.taken.specs.declared.Kind.{Kind}
-use Rattle.taken.specs.declared.Kind.the-variants.{Version, Watchdog, Alarm, AggregatedStatusRequest, StatusRequest, StatusSubscribe, StatusUnsubscribe, Unexpected}
-use Rattle.taken.specs.declared.Class.{Class}
-use Rattle.taken.specs.declared.Class.the-variants.{Ignored, Acked, NotAcked, Asked}
-use Rattle.taken.specs.declared.Head.{Head}
-use Rattle.taken.specs.Head.{headAt}
-use Rattle.taken.specs.Small.{watchdogAt}
-use Rattle.takenlists.specs.declared.VersionFields.{VersionFields}
-use Rattle.takenlists.specs.Version.{versionAt}
-use Rattle.greet.specs.Version.{ownOffer}
+use Rattle.read_versions.specs.declared.Judged.{Judged}
+use Rattle.read_versions.specs.declared.Judged.the-variants.{Chosen, RsmpVersion, SiteId, SxlVersion}
+use Rattle.read_versions.specs.Judge.{judge}
+use Rattle.read_head.specs.declared.Kind.{Kind}
+use Rattle.read_head.specs.declared.Kind.the-variants.{Version, Watchdog, Alarm, AggregatedStatusRequest, StatusRequest, StatusSubscribe, StatusUnsubscribe, Unexpected}
+use Rattle.read_head.specs.declared.Class.{Class}
+use Rattle.read_head.specs.declared.Class.the-variants.{Ignored, Acked, NotAcked, Asked}
+use Rattle.read_head.specs.declared.Head.{Head}
+use Rattle.read_head.specs.Head.{headAt}
+use Rattle.read_head.specs.Small.{watchdogAt}
+use Rattle.read_lists.specs.declared.VersionFields.{VersionFields}
+use Rattle.read_lists.specs.Version.{versionAt}
+use Rattle.packet_greet.specs.Version.{ownOffer}
 use Rattle.calls.specs.Calls.{Call}
 use Rattle.calls.specs.Calls.Call.{connect, disconnect, packet, alarm, status, aggregated, tick, pump}
 use Rattle.told.specs.Told.{Setup, Told, closes, isGood}

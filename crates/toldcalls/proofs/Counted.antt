@@ -23,8 +23,8 @@ use Rattle.subscription.specs.Subscription.{issuesOn, tickOf}
 use Rattle.aggregated.specs.declared.Aggregated.{Aggregated}
 use Rattle.aggregated.specs.Aggregated.{setOf as aggregatedSet}
 use Rattle.aggregated.specs.Issued.{issuedOf as aggregatedRecord}
-use Rattle.upwards.specs.Upwards.{entriesTo, entryIf}
-use Rattle.upwards.proofs.Entries.{none-to}
+use Rattle.call_records.specs.Upwards.{entriesTo, entryIf}
+use Rattle.call_records.proofs.Entries.{none-to}
 use Rattle.holding.specs.Touches.{issuedFor}
 use Rattle.calls.specs.Calls.Call.{alarm}
 use Rattle.told.specs.Told.{Setup, Told, hasPrimary}

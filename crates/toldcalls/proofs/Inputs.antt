@@ -25,10 +25,10 @@ use Rattle.subscription.specs.declared.Subscription.{Subscription}
 use Rattle.subscription.specs.Subscription.{issuesOn}
 use Rattle.aggregated.specs.declared.Aggregated.{Aggregated}
 use Rattle.aggregated.specs.Aggregated.{setOf as aggregatedSet}
-use Rattle.upwards.specs.Upwards.{entriesTo, entryIf}
+use Rattle.call_records.specs.Upwards.{entriesTo, entryIf}
 use Rattle.site.specs.declared.Site.{Site}
 use Rattle.site.specs.Parts.{alarmAt}
-use Rattle.inputs.specs.Inputs.{alarmPlan, alarmChange, alarmEntries, statusPlan, statusChange, statusEntry, aggregatedPlan, aggregatedEntry}
+use Rattle.call_input.specs.Inputs.{alarmPlan, alarmChange, alarmEntries, statusPlan, statusChange, statusEntry, aggregatedPlan, aggregatedEntry}
 use Rattle.lives.specs.Moves.{Shaped}
 use Rattle.calls.specs.Calls.{stepBy}
 use Rattle.calls.specs.Calls.Call.{alarm, status, aggregated}

@@ -17,7 +17,7 @@ use Rattle.alarm.specs.declared.Alarm.{Alarm}
 use Rattle.status.specs.declared.Status.{Status}
 use Rattle.aggregated.specs.declared.Aggregated.{Aggregated}
 use Rattle.subscription.specs.declared.Subscription.{Subscription}
-use Rattle.batch.specs.declared.Batch.{Batch}
+use Rattle.pool_batch.specs.declared.Batch.{Batch}
 use Rattle.site.specs.declared.Site.{Site}
 use Rattle.site.specs.Site.{withIssued}
 use Rattle.site.specs.Parts.{alarmAt, statusAt, subscriptionAt}

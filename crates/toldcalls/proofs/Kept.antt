@@ -13,10 +13,10 @@ use Rattle.entry.specs.declared.Entry.{Entry}
 use Rattle.alarm.specs.Alarm.{beginning}
 use Rattle.status.specs.Status.{unknown}
 use Rattle.subscription.specs.Subscription.{none}
-use Rattle.batch.specs.Laws.{numbered}
+use Rattle.pool_batch.specs.Laws.{numbered}
 use Rattle.site.specs.declared.Site.{Site}
 use Rattle.site.specs.Call.{batchOf}
-use Rattle.start.specs.Fresh.{fresh}
+use Rattle.call_start.specs.Fresh.{fresh}
 use Rattle.lives.specs.Moves.{Shaped}
 use Rattle.calllives.proofs.Kept.{lived-from-start}
 use Rattle.calls.specs.Calls.{Call, timeOf, planOf, stepBy, siteAfter}

@@ -14,33 +14,33 @@ use Rattle.identity.specs.declared.Identity.{Identity}
 use Rattle.identity.specs.Version.{identityOf}
 use Rattle.entry.specs.declared.Entry.{Entry}
 use Rattle.pool.specs.declared.Pool.{Pool}
-use Rattle.batch.specs.Batch.{issuedAll}
-use Rattle.batch.specs.Laws.{Lasting, Laws}
-use Rattle.batch.proofs.Kept.{kept as batches}
+use Rattle.pool_batch.specs.Batch.{issuedAll}
+use Rattle.pool_batch.specs.Laws.{Lasting, Laws}
+use Rattle.pool_batch.proofs.Kept.{kept as batches}
 use Rattle.link.specs.declared.Role.{Role}
 use Rattle.link.specs.declared.Role.the-variants.{Primary, Secondary}
 use Rattle.link.specs.Steps.{fullOf}
-use Rattle.taken.specs.declared.Verdict.{Verdict}
-use Rattle.taken.specs.declared.Verdict.the-variants.{Good, Missing, Bad}
-use Rattle.taken.specs.declared.Kind.{Kind}
-use Rattle.taken.specs.declared.Kind.the-variants.{Version, Watchdog, Alarm, AggregatedStatusRequest, StatusRequest, StatusSubscribe, StatusUnsubscribe, Unexpected}
-use Rattle.taken.specs.declared.Class.{Class}
-use Rattle.taken.specs.declared.Class.the-variants.{Ignored, Acked, NotAcked, Asked}
-use Rattle.taken.specs.declared.Order.{Order}
-use Rattle.taken.specs.declared.Order.the-variants.{Request, Acknowledge, Suspend, Resume}
-use Rattle.taken.specs.declared.AlarmFields.{AlarmFields}
-use Rattle.taken.specs.Head.{headAt}
-use Rattle.taken.specs.Small.{watchdogAt, aggregatedAt, alarmAt}
-use Rattle.takenlists.specs.Version.{versionAt}
-use Rattle.takenlists.specs.Status.{statusAt}
-use Rattle.sought.specs.declared.SoughtAlarm.{SoughtAlarm}
-use Rattle.sought.specs.declared.SoughtAlarm.the-variants.{Alarm as TheAlarm, NoComponent, NoAlarm}
-use Rattle.sought.specs.Sought.{alarmSought}
+use Rattle.read_head.specs.declared.Verdict.{Verdict}
+use Rattle.read_head.specs.declared.Verdict.the-variants.{Good, Missing, Bad}
+use Rattle.read_head.specs.declared.Kind.{Kind}
+use Rattle.read_head.specs.declared.Kind.the-variants.{Version, Watchdog, Alarm, AggregatedStatusRequest, StatusRequest, StatusSubscribe, StatusUnsubscribe, Unexpected}
+use Rattle.read_head.specs.declared.Class.{Class}
+use Rattle.read_head.specs.declared.Class.the-variants.{Ignored, Acked, NotAcked, Asked}
+use Rattle.read_head.specs.declared.Order.{Order}
+use Rattle.read_head.specs.declared.Order.the-variants.{Request, Acknowledge, Suspend, Resume}
+use Rattle.read_head.specs.declared.AlarmFields.{AlarmFields}
+use Rattle.read_head.specs.Head.{headAt}
+use Rattle.read_head.specs.Small.{watchdogAt, aggregatedAt, alarmAt}
+use Rattle.read_lists.specs.Version.{versionAt}
+use Rattle.read_lists.specs.Status.{statusAt}
+use Rattle.packet_lookup.specs.declared.SoughtAlarm.{SoughtAlarm}
+use Rattle.packet_lookup.specs.declared.SoughtAlarm.the-variants.{Alarm as TheAlarm, NoComponent, NoAlarm}
+use Rattle.packet_lookup.specs.Sought.{alarmSought}
 use Rattle.site.specs.declared.Site.{Site}
 use Rattle.site.specs.Site.{linkAt, roleOf}
-use Rattle.answering.specs.Taken.{Taken, notAcked, byVerdict, unexpected, notReady}
-use Rattle.orders.specs.Orders.{changeTaken, requestBy, requestTaken, ordered, orderedOf, foundTaken, alarmTaken}
-use Rattle.packet.specs.Packet.{expected, unready, kindTaken, expectedTaken, classTaken}
+use Rattle.packet_answer.specs.Taken.{Taken, notAcked, byVerdict, unexpected, notReady}
+use Rattle.packet_alarm.specs.Orders.{changeTaken, requestBy, requestTaken, ordered, orderedOf, foundTaken, alarmTaken}
+use Rattle.call_packet.specs.Packet.{expected, unready, kindTaken, expectedTaken, classTaken}
 use Rattle.site.proofs.Checks.{link-below}
 use Rattle.touches.proofs.Touched.{touched as standing}
 use Rattle.packettouches.proofs.Packets.{touched}

@@ -16,19 +16,19 @@ use Rattle.pool.specs.Pool.{oldestUnsent}
 use Rattle.link.specs.declared.Link.{Link}
 use Rattle.link.specs.declared.Due.{Due}
 use Rattle.link.specs.declared.Due.the-variants.{Nothing, Version, Watchdog, Aggregated, Alarm, Entry}
-use Rattle.upwards.specs.Upwards.{entriesTo, entryIf}
-use Rattle.outgoing.specs.declared.Carried.{Carried}
-use Rattle.outgoing.specs.declared.Carried.the-variants.{Held, NoRecord}
-use Rattle.outgoing.specs.Outgoing.{carriedAt, alarmSentWith}
+use Rattle.call_records.specs.Upwards.{entriesTo, entryIf}
+use Rattle.send_after.specs.declared.Carried.{Carried}
+use Rattle.send_after.specs.declared.Carried.the-variants.{Held, NoRecord}
+use Rattle.send_after.specs.Outgoing.{carriedAt, alarmSentWith}
 use Rattle.site.specs.declared.Site.{Site}
 use Rattle.site.specs.Site.{withPool, withLinks}
 use Rattle.site.specs.Parts.{alarmAt, statusAt}
-use Rattle.linkcalls.specs.Connect.{connectPlan, disconnectPlan}
-use Rattle.pump.specs.Pump.{dueAt, entryPlan, planFor, pumpPlan}
-use Rattle.tick.specs.Intervals.{recordAt, recordsOf}
-use Rattle.tick.specs.Tick.{siteAfter, tickPlan}
-use Rattle.tick.proofs.Closed.{stays}
-use Rattle.tick.proofs.Kept.{kept as ticked}
+use Rattle.call_link.specs.Connect.{connectPlan, disconnectPlan}
+use Rattle.call_pump.specs.Pump.{dueAt, entryPlan, planFor, pumpPlan}
+use Rattle.call_tick.specs.Intervals.{recordAt, recordsOf}
+use Rattle.call_tick.specs.Tick.{siteAfter, tickPlan}
+use Rattle.call_tick.proofs.Closed.{stays}
+use Rattle.call_tick.proofs.Kept.{kept as ticked}
 use Rattle.calls.specs.Calls.{stepBy}
 use Rattle.calls.specs.Calls.Call.{connect, disconnect, tick, pump}
 use Rattle.told.specs.Told.{Setup, Told}

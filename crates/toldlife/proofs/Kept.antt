@@ -16,7 +16,7 @@ use Rattle.link.proofs.Replies.{fresh-letters}
 use Rattle.site.specs.declared.Site.{Site}
 use Rattle.site.specs.Site.{linkAt, withIssued}
 use Rattle.site.specs.Call.{batchOf, stepped, answerOf}
-use Rattle.start.specs.Fresh.{fresh}
+use Rattle.call_start.specs.Fresh.{fresh}
 use Rattle.lives.specs.Moves.{Shaped}
 use Rattle.lives.specs.Sequence.{Lived, siteAfter as sitesAfter, lifeOf as actsAfter}
 use Rattle.lives.proofs.Born.{born}

@@ -12,28 +12,28 @@ use Rattle.link.specs.declared.Role.{Role}
 use Rattle.link.specs.declared.Role.the-variants.{Primary, Secondary}
 use Rattle.link.specs.Steps.{fullOf}
 use Rattle.subscription.specs.declared.Subscription.{Subscription}
-use Rattle.written.specs.Message.{Message}
-use Rattle.taken.specs.declared.Verdict.{Verdict}
-use Rattle.taken.specs.declared.Verdict.the-variants.{Good, Missing, Bad}
-use Rattle.taken.specs.declared.Order.{Order}
-use Rattle.taken.specs.declared.Order.the-variants.{Request, Acknowledge, Suspend, Resume}
-use Rattle.taken.specs.declared.AlarmFields.{AlarmFields}
-use Rattle.taken.specs.declared.GotLabel.{GotLabel}
-use Rattle.takenlists.specs.declared.StatusEntry.{StatusEntry}
-use Rattle.takenlists.specs.declared.StatusFields.{StatusFields}
-use Rattle.sought.specs.declared.Sought.{Sought}
-use Rattle.sought.specs.declared.Sought.the-variants.{Is, Nothing}
-use Rattle.sought.specs.declared.SoughtAlarm.{SoughtAlarm}
-use Rattle.sought.specs.declared.SoughtAlarm.the-variants.{Alarm, NoComponent, NoAlarm}
-use Rattle.sought.specs.Sought.{componentSought, alarmSought, statusSought, entryAt, allStatuses}
-use Rattle.sending.specs.Sending.{alarmMessage, aggregatedMessage}
+use Rattle.write_message.specs.Message.{Message}
+use Rattle.read_head.specs.declared.Verdict.{Verdict}
+use Rattle.read_head.specs.declared.Verdict.the-variants.{Good, Missing, Bad}
+use Rattle.read_head.specs.declared.Order.{Order}
+use Rattle.read_head.specs.declared.Order.the-variants.{Request, Acknowledge, Suspend, Resume}
+use Rattle.read_head.specs.declared.AlarmFields.{AlarmFields}
+use Rattle.read_head.specs.declared.GotLabel.{GotLabel}
+use Rattle.read_lists.specs.declared.StatusEntry.{StatusEntry}
+use Rattle.read_lists.specs.declared.StatusFields.{StatusFields}
+use Rattle.packet_lookup.specs.declared.Sought.{Sought}
+use Rattle.packet_lookup.specs.declared.Sought.the-variants.{Is, Nothing}
+use Rattle.packet_lookup.specs.declared.SoughtAlarm.{SoughtAlarm}
+use Rattle.packet_lookup.specs.declared.SoughtAlarm.the-variants.{Alarm, NoComponent, NoAlarm}
+use Rattle.packet_lookup.specs.Sought.{componentSought, alarmSought, statusSought, entryAt, allStatuses}
+use Rattle.send_message.specs.Sending.{alarmMessage, aggregatedMessage}
 use Rattle.site.specs.declared.Site.{Site}
 use Rattle.site.specs.Site.{linkAt, roleOf}
 use Rattle.site.specs.Call.{Plan}
-use Rattle.answering.specs.Taken.{Taken, notAcked, replied, byVerdict, unlessBusy, busy, unknownComponent, unknownStatus}
-use Rattle.orders.specs.Orders.{changeTaken, isZero, requestBy, requestTaken, ordered, orderedOf, foundTaken, alarmTaken, aggregatedTaken}
-use Rattle.statusreply.specs.StatusReply.{response, passes, statusTaken}
-use Rattle.subscribing.specs.Subscribing.{wanted, replacedAt, replaced, changed, judged, asked, subscribingTaken}
+use Rattle.packet_answer.specs.Taken.{Taken, notAcked, replied, byVerdict, unlessBusy, busy, unknownComponent, unknownStatus}
+use Rattle.packet_alarm.specs.Orders.{changeTaken, isZero, requestBy, requestTaken, ordered, orderedOf, foundTaken, alarmTaken, aggregatedTaken}
+use Rattle.packet_status.specs.StatusReply.{response, passes, statusTaken}
+use Rattle.packet_subscribe.specs.Subscribing.{wanted, replacedAt, replaced, changed, judged, asked, subscribingTaken}
 
 pub record Plain (s : Site) (p : Plan) : Type 0 where
   pub table : p .site .table ≡ s .table

@@ -20,10 +20,10 @@ use Rattle.link.specs.Acts.{does}
 use Rattle.link.specs.Acts.Act.{AlarmPassed}
 use Rattle.link.specs.Careful.{Sendable}
 use Rattle.site.specs.declared.Site.{Site}
-use Rattle.outgoing.specs.declared.Carried.{Carried}
-use Rattle.outgoing.specs.declared.Carried.the-variants.{Held, NoRecord}
-use Rattle.outgoing.specs.Outgoing.{carriedAt}
-use Rattle.pump.specs.Pump.{isNothing}
+use Rattle.send_after.specs.declared.Carried.{Carried}
+use Rattle.send_after.specs.declared.Carried.the-variants.{Held, NoRecord}
+use Rattle.send_after.specs.Outgoing.{carriedAt}
+use Rattle.call_pump.specs.Pump.{isNothing}
 use Rattle.lives.specs.Moves.{doesAll}
 use Rattle.pumplives.specs.Pumped.{sentAs, recordActs, dueActs}
 use Rattle.told.specs.Life.{Life, isSent, isAcknowledged, pumped}

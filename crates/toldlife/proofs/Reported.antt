@@ -23,36 +23,36 @@ use Rattle.link.specs.declared.Due.the-variants.{Nothing, Version, Watchdog, Ag
 use Rattle.link.specs.Steps.{closesOf, answeredOf}
 use Rattle.link.specs.Acts.{Act}
 use Rattle.link.specs.Acts.Act.{OtherOut, Answered, AlarmPassed, Close}
-use Rattle.versions.specs.declared.Judged.{Judged}
-use Rattle.versions.specs.declared.Judged.the-variants.{Chosen, RsmpVersion, SiteId, SxlVersion}
-use Rattle.versions.specs.Judge.{judge}
-use Rattle.taken.specs.declared.Verdict.{Verdict}
-use Rattle.taken.specs.declared.Verdict.the-variants.{Good, Missing, Bad}
-use Rattle.taken.specs.declared.Kind.{Kind}
-use Rattle.taken.specs.declared.Kind.the-variants.{Version as VersionKind, Watchdog as WatchdogKind, Alarm as AlarmKind, AggregatedStatusRequest, StatusRequest, StatusSubscribe, StatusUnsubscribe, Unexpected}
-use Rattle.taken.specs.declared.Class.{Class}
-use Rattle.taken.specs.declared.Class.the-variants.{Ignored as NoClass, Acked, NotAcked, Asked}
-use Rattle.taken.specs.Head.{headAt}
-use Rattle.taken.specs.Small.{watchdogAt, aggregatedAt, alarmAt}
-use Rattle.takenlists.specs.Version.{versionAt}
-use Rattle.takenlists.specs.Status.{statusAt}
+use Rattle.read_versions.specs.declared.Judged.{Judged}
+use Rattle.read_versions.specs.declared.Judged.the-variants.{Chosen, RsmpVersion, SiteId, SxlVersion}
+use Rattle.read_versions.specs.Judge.{judge}
+use Rattle.read_head.specs.declared.Verdict.{Verdict}
+use Rattle.read_head.specs.declared.Verdict.the-variants.{Good, Missing, Bad}
+use Rattle.read_head.specs.declared.Kind.{Kind}
+use Rattle.read_head.specs.declared.Kind.the-variants.{Version as VersionKind, Watchdog as WatchdogKind, Alarm as AlarmKind, AggregatedStatusRequest, StatusRequest, StatusSubscribe, StatusUnsubscribe, Unexpected}
+use Rattle.read_head.specs.declared.Class.{Class}
+use Rattle.read_head.specs.declared.Class.the-variants.{Ignored as NoClass, Acked, NotAcked, Asked}
+use Rattle.read_head.specs.Head.{headAt}
+use Rattle.read_head.specs.Small.{watchdogAt, aggregatedAt, alarmAt}
+use Rattle.read_lists.specs.Version.{versionAt}
+use Rattle.read_lists.specs.Status.{statusAt}
 use Rattle.site.specs.declared.Site.{Site}
 use Rattle.site.specs.Site.{linkAt, withLink, closeAt, maskOf}
 use Rattle.site.specs.Call.{Plan, only, issuing, batchOf, reportOf}
-use Rattle.answering.specs.Taken.{Taken, byVerdict, notAcked, unexpected, notReady}
-use Rattle.greet.specs.Answered.{settled, answeredPlan}
-use Rattle.greet.specs.Version.{own, versionJudged}
-use Rattle.greet.specs.Watchdog.{beat}
+use Rattle.packet_answer.specs.Taken.{Taken, byVerdict, notAcked, unexpected, notReady}
+use Rattle.packet_greet.specs.Answered.{settled, answeredPlan}
+use Rattle.packet_greet.specs.Version.{own, versionJudged}
+use Rattle.packet_greet.specs.Watchdog.{beat}
 use Rattle.site.proofs.Checks.{link-below}
-use Rattle.orders.specs.Orders.{alarmTaken, aggregatedTaken}
-use Rattle.statusreply.specs.StatusReply.{statusTaken}
-use Rattle.outgoing.specs.declared.Carried.{Carried}
-use Rattle.outgoing.specs.declared.Carried.the-variants.{Held, NoRecord}
-use Rattle.outgoing.specs.Outgoing.{carriedAt}
-use Rattle.tick.specs.Closing.{lateAt}
-use Rattle.tick.proofs.Kept.{kept as tick-kept}
-use Rattle.pump.specs.Pump.{dueAt, planFor, entryPlan}
-use Rattle.packet.specs.Packet.{expected, unready, kindTaken, askedTaken, classTaken}
+use Rattle.packet_alarm.specs.Orders.{alarmTaken, aggregatedTaken}
+use Rattle.packet_status.specs.StatusReply.{statusTaken}
+use Rattle.send_after.specs.declared.Carried.{Carried}
+use Rattle.send_after.specs.declared.Carried.the-variants.{Held, NoRecord}
+use Rattle.send_after.specs.Outgoing.{carriedAt}
+use Rattle.call_tick.specs.Closing.{lateAt}
+use Rattle.call_tick.proofs.Kept.{kept as tick-kept}
+use Rattle.call_pump.specs.Pump.{dueAt, planFor, entryPlan}
+use Rattle.call_packet.specs.Packet.{expected, unready, kindTaken, askedTaken, classTaken}
 use Rattle.lives.specs.Moves.{onlyOn}
 use Rattle.lives.proofs.Done.{Passed, passed}
 use Rattle.pumplives.specs.Pumped.{sentAs, recordActs, dueActs}

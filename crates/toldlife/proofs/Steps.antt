@@ -23,11 +23,11 @@ use Rattle.link.specs.Due.{dueUp, dueOf}
 use Rattle.link.specs.Acts.{Act, does}
 use Rattle.link.specs.Acts.Act.{Connect, Close}
 use Rattle.link.proofs.Phases.{phase-cases}
-use Rattle.taken.specs.Head.{headAt}
+use Rattle.read_head.specs.Head.{headAt}
 use Rattle.site.specs.declared.Site.{Site}
 use Rattle.site.specs.Site.{linkAt, roleOf, isDown, downAt}
-use Rattle.tick.specs.Closing.{lateAt}
-use Rattle.pump.specs.Pump.{isHeld, dueAt, isNothing}
+use Rattle.call_tick.specs.Closing.{lateAt}
+use Rattle.call_pump.specs.Pump.{isHeld, dueAt, isNothing}
 use Rattle.lives.specs.Moves.{doesAll, onlyOn, Shaped, Moves}
 use Rattle.lives.proofs.Moved.{moved}
 use Rattle.pumplives.specs.Pumped.{dueActs}

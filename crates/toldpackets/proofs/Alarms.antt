@@ -19,22 +19,22 @@ use Rattle.alarm.specs.declared.Order.{Order as Change}
 use Rattle.alarm.specs.declared.Order.the-variants.{Acknowledge as Acknowledging, Suspend as Suspending, Resume as Resuming}
 use Rattle.alarm.specs.Alarm.{beginning, nothing, orderOf}
 use Rattle.alarm.specs.Issued.{issuedOf}
-use Rattle.upwards.specs.Upwards.{entriesTo, entryIf}
-use Rattle.upwards.proofs.Entries.{none-to}
-use Rattle.taken.specs.declared.Verdict.{Verdict}
-use Rattle.taken.specs.declared.Verdict.the-variants.{Good, Missing, Bad}
-use Rattle.taken.specs.declared.Order.{Order}
-use Rattle.taken.specs.declared.Order.the-variants.{Request, Acknowledge, Suspend, Resume}
-use Rattle.taken.specs.declared.AlarmFields.{AlarmFields}
-use Rattle.sought.specs.declared.SoughtAlarm.{SoughtAlarm}
-use Rattle.sought.specs.declared.SoughtAlarm.the-variants.{Alarm as TheAlarm, NoComponent, NoAlarm}
-use Rattle.sought.specs.Sought.{alarmSought}
+use Rattle.call_records.specs.Upwards.{entriesTo, entryIf}
+use Rattle.call_records.proofs.Entries.{none-to}
+use Rattle.read_head.specs.declared.Verdict.{Verdict}
+use Rattle.read_head.specs.declared.Verdict.the-variants.{Good, Missing, Bad}
+use Rattle.read_head.specs.declared.Order.{Order}
+use Rattle.read_head.specs.declared.Order.the-variants.{Request, Acknowledge, Suspend, Resume}
+use Rattle.read_head.specs.declared.AlarmFields.{AlarmFields}
+use Rattle.packet_lookup.specs.declared.SoughtAlarm.{SoughtAlarm}
+use Rattle.packet_lookup.specs.declared.SoughtAlarm.the-variants.{Alarm as TheAlarm, NoComponent, NoAlarm}
+use Rattle.packet_lookup.specs.Sought.{alarmSought}
 use Rattle.site.specs.declared.Site.{Site}
 use Rattle.site.specs.Parts.{alarmAt}
 use Rattle.site.specs.Call.{Plan}
 use Rattle.site.specs.Site.{hasPrimary}
-use Rattle.answering.specs.Taken.{Taken, byVerdict, missingElement, badValue, unknownComponent, unknownAlarm}
-use Rattle.orders.specs.Orders.{recordsOf, changedTo, changeTaken, requestTaken, orderedOf, foundTaken, alarmTaken}
+use Rattle.packet_answer.specs.Taken.{Taken, byVerdict, missingElement, badValue, unknownComponent, unknownAlarm}
+use Rattle.packet_alarm.specs.Orders.{recordsOf, changedTo, changeTaken, requestTaken, orderedOf, foundTaken, alarmTaken}
 use Rattle.told.specs.Told.{isGood}
 use Rattle.told.specs.Items.{isThe, ordered}
 use Rattle.toldpackets.proofs.Entries.{one-to}

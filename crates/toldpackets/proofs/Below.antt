@@ -8,16 +8,16 @@ use borrow.Author.Tests.{ltb-true}
 use Rattle.basis.specs.Pick.{pick}
 use Rattle.label.specs.declared.Label.{Label}
 use Rattle.label.specs.Label.{textOf}
-use Rattle.item.specs.declared.Found.{Found}
-use Rattle.item.specs.declared.Found.the-variants.{At, Nothing as Missing}
-use Rattle.sitetable.specs.declared.SiteTable.{SiteTable}
-use Rattle.sitetable.specs.Lookup.{findAlarm, findStatus}
-use Rattle.takenlists.specs.declared.StatusEntry.{StatusEntry}
-use Rattle.sought.specs.declared.Sought.{Sought}
-use Rattle.sought.specs.declared.Sought.the-variants.{Is, Nothing}
-use Rattle.sought.specs.declared.SoughtAlarm.{SoughtAlarm}
-use Rattle.sought.specs.declared.SoughtAlarm.the-variants.{Alarm, NoComponent, NoAlarm}
-use Rattle.sought.specs.Sought.{numbered, componentSought, alarmIn, orNoAlarm, alarmOf, alarmSought, statusSought}
+use Rattle.table_item.specs.declared.Found.{Found}
+use Rattle.table_item.specs.declared.Found.the-variants.{At, Nothing as Missing}
+use Rattle.table_whole.specs.declared.SiteTable.{SiteTable}
+use Rattle.table_whole.specs.Lookup.{findAlarm, findStatus}
+use Rattle.read_lists.specs.declared.StatusEntry.{StatusEntry}
+use Rattle.packet_lookup.specs.declared.Sought.{Sought}
+use Rattle.packet_lookup.specs.declared.Sought.the-variants.{Is, Nothing}
+use Rattle.packet_lookup.specs.declared.SoughtAlarm.{SoughtAlarm}
+use Rattle.packet_lookup.specs.declared.SoughtAlarm.the-variants.{Alarm, NoComponent, NoAlarm}
+use Rattle.packet_lookup.specs.Sought.{numbered, componentSought, alarmIn, orNoAlarm, alarmOf, alarmSought, statusSought}
 
 abbrev pub Below : Sought → Type 0
 Below (Is k) = k < 32

@@ -15,24 +15,24 @@ use Rattle.entry.specs.declared.Entry.{Entry}
 use Rattle.alarm.specs.declared.Changed.{Changed}
 use Rattle.alarm.specs.Alarm.{nothing}
 use Rattle.alarm.specs.Issued.{issuedOf}
-use Rattle.upwards.specs.Upwards.{entriesTo, entryIf}
-use Rattle.upwards.proofs.Entries.{none-to}
-use Rattle.taken.specs.declared.Verdict.the-variants.{Good, Missing, Bad}
-use Rattle.taken.specs.declared.Kind.{Kind}
-use Rattle.taken.specs.declared.Kind.the-variants.{Version, Watchdog, Alarm, AggregatedStatusRequest, StatusRequest, StatusSubscribe, StatusUnsubscribe, Unexpected}
-use Rattle.taken.specs.declared.Class.{Class}
-use Rattle.taken.specs.declared.Class.the-variants.{Ignored, Acked, NotAcked, Asked}
-use Rattle.taken.specs.Head.{headAt}
-use Rattle.taken.specs.Small.{alarmAt}
-use Rattle.takenlists.specs.declared.StatusEntry.{StatusEntry}
-use Rattle.takenlists.specs.declared.StatusFields.{StatusFields}
-use Rattle.takenlists.specs.Status.{statusAt}
-use Rattle.sitetable.specs.declared.SiteTable.{SiteTable}
-use Rattle.sought.specs.declared.Sought.{Sought}
-use Rattle.sought.specs.declared.Sought.the-variants.{Is, Nothing}
-use Rattle.sought.specs.declared.SoughtAlarm.{SoughtAlarm}
-use Rattle.sought.specs.declared.SoughtAlarm.the-variants.{Alarm as TheAlarm, NoComponent, NoAlarm}
-use Rattle.sought.specs.Sought.{alarmSought, statusSought, entryAt, isSought, allStatuses}
+use Rattle.call_records.specs.Upwards.{entriesTo, entryIf}
+use Rattle.call_records.proofs.Entries.{none-to}
+use Rattle.read_head.specs.declared.Verdict.the-variants.{Good, Missing, Bad}
+use Rattle.read_head.specs.declared.Kind.{Kind}
+use Rattle.read_head.specs.declared.Kind.the-variants.{Version, Watchdog, Alarm, AggregatedStatusRequest, StatusRequest, StatusSubscribe, StatusUnsubscribe, Unexpected}
+use Rattle.read_head.specs.declared.Class.{Class}
+use Rattle.read_head.specs.declared.Class.the-variants.{Ignored, Acked, NotAcked, Asked}
+use Rattle.read_head.specs.Head.{headAt}
+use Rattle.read_head.specs.Small.{alarmAt}
+use Rattle.read_lists.specs.declared.StatusEntry.{StatusEntry}
+use Rattle.read_lists.specs.declared.StatusFields.{StatusFields}
+use Rattle.read_lists.specs.Status.{statusAt}
+use Rattle.table_whole.specs.declared.SiteTable.{SiteTable}
+use Rattle.packet_lookup.specs.declared.Sought.{Sought}
+use Rattle.packet_lookup.specs.declared.Sought.the-variants.{Is, Nothing}
+use Rattle.packet_lookup.specs.declared.SoughtAlarm.{SoughtAlarm}
+use Rattle.packet_lookup.specs.declared.SoughtAlarm.the-variants.{Alarm as TheAlarm, NoComponent, NoAlarm}
+use Rattle.packet_lookup.specs.Sought.{alarmSought, statusSought, entryAt, isSought, allStatuses}
 use Rattle.calls.specs.Calls.Call.{packet}
 use Rattle.told.specs.Told.{Setup, Told, isGood, hasPrimary}
 use Rattle.told.specs.Life.{lifeOf, isUp}

@@ -7,8 +7,8 @@ use mathlib.Core.List.{List, [], _++_, append-nil}
 use native.Mathlib.Omega.{arith}
 use Rattle.basis.proofs.Cases.{eq-or-ne}
 use Rattle.entry.specs.declared.Entry.{Entry}
-use Rattle.upwards.specs.Upwards.{entriesTo}
-use Rattle.upwards.proofs.Entries.{none-to}
+use Rattle.call_records.specs.Upwards.{entriesTo}
+use Rattle.call_records.proofs.Entries.{none-to}
 
 module _ (f : ℕ → List Entry) (j : ℕ) (none : (k : ℕ) → (j ≡ k → ⊥) → f k ≡ []) where
   -- only place j has records: all are its

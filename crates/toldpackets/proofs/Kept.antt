@@ -19,24 +19,24 @@ use Rattle.subscription.specs.declared.Subscription.{Subscription}
 use Rattle.link.specs.declared.Phase.{Phase}
 use Rattle.link.specs.declared.Phase.the-variants.{Down, Greeting, Beating, Up}
 use Rattle.link.specs.Phase.{phaseOf, isBeating}
-use Rattle.taken.specs.declared.Verdict.the-variants.{Good, Missing, Bad}
-use Rattle.taken.specs.declared.Kind.{Kind}
-use Rattle.taken.specs.declared.Kind.the-variants.{Version, Watchdog, Alarm as AlarmKind, AggregatedStatusRequest, StatusRequest, StatusSubscribe, StatusUnsubscribe, Unexpected}
-use Rattle.taken.specs.declared.Class.{Class}
-use Rattle.taken.specs.declared.Class.the-variants.{Ignored, Acked, NotAcked, Asked}
-use Rattle.taken.specs.Head.{headAt}
-use Rattle.taken.specs.Small.{watchdogAt, aggregatedAt, alarmAt as alarmFields}
-use Rattle.takenlists.specs.Version.{versionAt}
-use Rattle.takenlists.specs.Status.{statusAt as statusFields}
-use Rattle.sitetable.specs.declared.SiteTable.{SiteTable}
+use Rattle.read_head.specs.declared.Verdict.the-variants.{Good, Missing, Bad}
+use Rattle.read_head.specs.declared.Kind.{Kind}
+use Rattle.read_head.specs.declared.Kind.the-variants.{Version, Watchdog, Alarm as AlarmKind, AggregatedStatusRequest, StatusRequest, StatusSubscribe, StatusUnsubscribe, Unexpected}
+use Rattle.read_head.specs.declared.Class.{Class}
+use Rattle.read_head.specs.declared.Class.the-variants.{Ignored, Acked, NotAcked, Asked}
+use Rattle.read_head.specs.Head.{headAt}
+use Rattle.read_head.specs.Small.{watchdogAt, aggregatedAt, alarmAt as alarmFields}
+use Rattle.read_lists.specs.Version.{versionAt}
+use Rattle.read_lists.specs.Status.{statusAt as statusFields}
+use Rattle.table_whole.specs.declared.SiteTable.{SiteTable}
 use Rattle.site.specs.declared.Site.{Site}
 use Rattle.site.specs.Site.{isDown, linkAt}
 use Rattle.site.specs.Call.{Plan, issuing, batchOf, reportOf}
-use Rattle.answering.specs.Taken.{Taken, notAcked, unexpected, notReady}
-use Rattle.greet.specs.Answered.{answeredPlan}
-use Rattle.orders.specs.Orders.{alarmTaken}
-use Rattle.subscribing.specs.Subscribing.{subscribingTaken}
-use Rattle.packet.specs.Packet.{isGreeting, expected, unready, early, ignoredBy, kindTaken, expectedTaken, classTaken, packetRefuses}
+use Rattle.packet_answer.specs.Taken.{Taken, notAcked, unexpected, notReady}
+use Rattle.packet_greet.specs.Answered.{answeredPlan}
+use Rattle.packet_alarm.specs.Orders.{alarmTaken}
+use Rattle.packet_subscribe.specs.Subscribing.{subscribingTaken}
+use Rattle.call_packet.specs.Packet.{isGreeting, expected, unready, early, ignoredBy, kindTaken, expectedTaken, classTaken, packetRefuses}
 use Rattle.calls.specs.Calls.{Call, planOf, stepBy, endOf}
 use Rattle.calls.specs.Calls.Call.{packet}
 use Rattle.lives.specs.Moves.{Shaped}

@@ -14,19 +14,19 @@ use Rattle.alarm.specs.declared.Changed.{Changed}
 use Rattle.alarm.specs.Alarm.{beginning, nothing}
 use Rattle.subscription.specs.declared.Subscription.{Subscription}
 use Rattle.subscription.specs.Subscription.{none}
-use Rattle.upwards.specs.Upwards.{entriesTo}
-use Rattle.upwards.proofs.Entries.{none-to}
-use Rattle.taken.specs.Small.{alarmAt as alarmFields}
-use Rattle.takenlists.specs.Status.{statusAt as statusFields}
-use Rattle.takenlists.specs.declared.StatusFields.{StatusFields}
-use Rattle.sitetable.specs.declared.SiteTable.{SiteTable}
-use Rattle.sought.specs.Sought.{alarmSought}
+use Rattle.call_records.specs.Upwards.{entriesTo}
+use Rattle.call_records.proofs.Entries.{none-to}
+use Rattle.read_head.specs.Small.{alarmAt as alarmFields}
+use Rattle.read_lists.specs.Status.{statusAt as statusFields}
+use Rattle.read_lists.specs.declared.StatusFields.{StatusFields}
+use Rattle.table_whole.specs.declared.SiteTable.{SiteTable}
+use Rattle.packet_lookup.specs.Sought.{alarmSought}
 use Rattle.site.specs.declared.Site.{Site}
 use Rattle.site.specs.Parts.{alarmAt, statusAt, subscriptionAt}
 use Rattle.site.specs.Call.{Plan}
 use Rattle.site.specs.Site.{hasPrimary}
-use Rattle.orders.specs.Orders.{alarmTaken}
-use Rattle.subscribing.specs.Subscribing.{subscribingTaken}
+use Rattle.packet_alarm.specs.Orders.{alarmTaken}
+use Rattle.packet_subscribe.specs.Subscribing.{subscribingTaken}
 use Rattle.lives.specs.Moves.{Shaped}
 use Rattle.told.specs.Told.{Told, isGood}
 use Rattle.told.specs.Items.{isThe, ordered, statusAfter, passing, componentOf, fieldsFor}

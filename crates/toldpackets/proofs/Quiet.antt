@@ -14,27 +14,27 @@ use Rattle.awaited.specs.Awaited.{findOf}
 use Rattle.link.specs.declared.Role.{Role}
 use Rattle.link.specs.declared.Role.the-variants.{Primary, Secondary}
 use Rattle.link.specs.Steps.{closesOf, answeredOf, fullOf}
-use Rattle.written.specs.Message.{Message}
-use Rattle.taken.specs.declared.Verdict.{Verdict}
-use Rattle.taken.specs.declared.Verdict.the-variants.{Good, Missing, Bad}
-use Rattle.taken.specs.declared.GotLabel.{GotLabel}
-use Rattle.taken.specs.declared.GotTime.{GotTime}
-use Rattle.takenlists.specs.declared.StatusFields.{StatusFields}
-use Rattle.takenlists.specs.declared.VersionFields.{VersionFields}
-use Rattle.versions.specs.declared.Judged.{Judged}
-use Rattle.versions.specs.declared.Judged.the-variants.{Chosen, RsmpVersion, SiteId, SxlVersion}
-use Rattle.versions.specs.Judge.{judge}
-use Rattle.sought.specs.Sought.{componentSought}
-use Rattle.sending.specs.Sending.{alarmMessage, aggregatedMessage}
+use Rattle.write_message.specs.Message.{Message}
+use Rattle.read_head.specs.declared.Verdict.{Verdict}
+use Rattle.read_head.specs.declared.Verdict.the-variants.{Good, Missing, Bad}
+use Rattle.read_head.specs.declared.GotLabel.{GotLabel}
+use Rattle.read_head.specs.declared.GotTime.{GotTime}
+use Rattle.read_lists.specs.declared.StatusFields.{StatusFields}
+use Rattle.read_lists.specs.declared.VersionFields.{VersionFields}
+use Rattle.read_versions.specs.declared.Judged.{Judged}
+use Rattle.read_versions.specs.declared.Judged.the-variants.{Chosen, RsmpVersion, SiteId, SxlVersion}
+use Rattle.read_versions.specs.Judge.{judge}
+use Rattle.packet_lookup.specs.Sought.{componentSought}
+use Rattle.send_message.specs.Sending.{alarmMessage, aggregatedMessage}
 use Rattle.site.specs.declared.Site.{Site}
 use Rattle.site.specs.Site.{linkAt, roleOf, withLink, closeAt, maskOf}
 use Rattle.site.specs.Call.{Plan, only}
-use Rattle.answering.specs.Taken.{Taken, notAcked, closing, replied, byVerdict, unlessBusy, busy, missingElement, badValue, unknownComponent, unknownStatus, rsmpVersion, siteId, sxlVersion}
-use Rattle.greet.specs.Answered.{settled, answeredPlan}
-use Rattle.greet.specs.Version.{own, versionJudged, versionTaken}
-use Rattle.greet.specs.Watchdog.{beat, watchdogTaken}
-use Rattle.orders.specs.Orders.{isZero, requestBy, requestTaken, aggregatedTaken}
-use Rattle.statusreply.specs.StatusReply.{response, passes, requestedOf, statusTaken}
+use Rattle.packet_answer.specs.Taken.{Taken, notAcked, closing, replied, byVerdict, unlessBusy, busy, missingElement, badValue, unknownComponent, unknownStatus, rsmpVersion, siteId, sxlVersion}
+use Rattle.packet_greet.specs.Answered.{settled, answeredPlan}
+use Rattle.packet_greet.specs.Version.{own, versionJudged, versionTaken}
+use Rattle.packet_greet.specs.Watchdog.{beat, watchdogTaken}
+use Rattle.packet_alarm.specs.Orders.{isZero, requestBy, requestTaken, aggregatedTaken}
+use Rattle.packet_status.specs.StatusReply.{response, passes, requestedOf, statusTaken}
 
 -- all that records are made of, but for the alarms and the subscriptions
 pub record Rest (s t : Site) : Type 0 where

@@ -17,18 +17,18 @@ use Rattle.status.specs.declared.Status.{Status}
 use Rattle.status.specs.Issued.{issuedOf}
 use Rattle.subscription.specs.declared.Subscription.{Subscription}
 use Rattle.subscription.specs.Subscription.{none}
-use Rattle.taken.specs.declared.Verdict.{Verdict}
-use Rattle.taken.specs.declared.Verdict.the-variants.{Good, Missing, Bad}
-use Rattle.takenlists.specs.declared.StatusEntry.{StatusEntry}
-use Rattle.takenlists.specs.declared.StatusFields.{StatusFields}
-use Rattle.sought.specs.declared.Sought.{Sought}
-use Rattle.sought.specs.declared.Sought.the-variants.{Is, Nothing}
-use Rattle.sought.specs.Sought.{componentSought, statusSought, entryAt, allStatuses}
+use Rattle.read_head.specs.declared.Verdict.{Verdict}
+use Rattle.read_head.specs.declared.Verdict.the-variants.{Good, Missing, Bad}
+use Rattle.read_lists.specs.declared.StatusEntry.{StatusEntry}
+use Rattle.read_lists.specs.declared.StatusFields.{StatusFields}
+use Rattle.packet_lookup.specs.declared.Sought.{Sought}
+use Rattle.packet_lookup.specs.declared.Sought.the-variants.{Is, Nothing}
+use Rattle.packet_lookup.specs.Sought.{componentSought, statusSought, entryAt, allStatuses}
 use Rattle.site.specs.declared.Site.{Site}
 use Rattle.site.specs.Parts.{statusAt, subscriptionAt}
 use Rattle.site.specs.Call.{Plan}
-use Rattle.answering.specs.Taken.{Taken, notAcked, byVerdict, missingElement, badValue, unknownStatus}
-use Rattle.subscribing.specs.Subscribing.{wanted, replacedAt, replaced, recordOf, records, changed, judged, asked, subscribingTaken}
+use Rattle.packet_answer.specs.Taken.{Taken, notAcked, byVerdict, missingElement, badValue, unknownStatus}
+use Rattle.packet_subscribe.specs.Subscribing.{wanted, replacedAt, replaced, recordOf, records, changed, judged, asked, subscribingTaken}
 use Rattle.told.specs.Told.{Told, isGood}
 use Rattle.told.specs.Items.{statusAfter, isStatus, entriesFor, passing, componentOf, fieldsFor}
 use Rattle.told.specs.Issued.{entryRecord, entryRecords, fieldsRecords}

@@ -7,7 +7,7 @@ use mathlib.Core.Bool.{true, false}
 use mathlib.Core.List.{List, []}
 use lib.ListN.{length}
 use Rattle.identity.specs.declared.Identity.{Identity}
-use Rattle.takenlists.specs.Status.{statusAt}
+use Rattle.read_lists.specs.Status.{statusAt}
 use Rattle.calls.specs.Calls.Call.{packet}
 use Rattle.told.specs.Told.{Setup, Told}
 use Rattle.told.specs.Life.{lifeOf, isUp}

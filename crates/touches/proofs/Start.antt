@@ -8,18 +8,18 @@ use borrow.Author.Tests.{lt-ltb, le-ltb}
 use lib.ListN.{length}
 use Rattle.entry.specs.declared.Entry.{Entry}
 use Rattle.pool.specs.Pool.{heldOf}
-use Rattle.poollaws.specs.Contents.{Every}
-use Rattle.poollaws.specs.Views.{Views}
-use Rattle.poollaws.specs.Promises.Reached.{empty}
-use Rattle.poollaws.proofs.Counts.{not-both}
-use Rattle.poollaws.proofs.Viewed.{viewed}
-use Rattle.sitetable.specs.declared.SiteTable.{SiteTable}
+use Rattle.pool_laws.specs.Contents.{Every}
+use Rattle.pool_laws.specs.Views.{Views}
+use Rattle.pool_laws.specs.Promises.Reached.{empty}
+use Rattle.pool_laws.proofs.Counts.{not-both}
+use Rattle.pool_laws.proofs.Viewed.{viewed}
+use Rattle.table_whole.specs.declared.SiteTable.{SiteTable}
 use Rattle.site.specs.declared.Site.{Site}
 use Rattle.holding.specs.Sequences.{Issued}
 use Rattle.holding.proofs.Kept.{kept, same}
-use Rattle.start.specs.Fresh.{fresh, primaryOf}
-use Rattle.start.specs.Starts.{Within}
-use Rattle.start.specs.Starts.Starts.{starts, refuses}
+use Rattle.call_start.specs.Fresh.{fresh, primaryOf}
+use Rattle.call_start.specs.Starts.{Within}
+use Rattle.call_start.specs.Starts.Starts.{starts, refuses}
 use Rattle.touches.specs.Start.{Begun, Begins, EveryStart}
 
 views : Views 4

@@ -16,21 +16,21 @@ use Rattle.aggregated.specs.Issued.{issuedOf as aggregatedRecord}
 use Rattle.subscription.specs.Subscription.{issuesOn}
 use Rattle.link.specs.Fields.{closedLink}
 use Rattle.pool.specs.declared.Pool.{Pool}
-use Rattle.poollaws.specs.Acts.{Act, act, acts}
-use Rattle.poollaws.specs.Acts.Act.{Issue, Settle, Mark, Unmark}
-use Rattle.poollaws.specs.Leaves.{NoSettle}
-use Rattle.batch.specs.Laws.{Owned}
-use Rattle.upwards.specs.Upwards.{entryIf}
-use Rattle.upwards.proofs.Entries.{owned-to, owned-if}
+use Rattle.pool_laws.specs.Acts.{Act, act, acts}
+use Rattle.pool_laws.specs.Acts.Act.{Issue, Settle, Mark, Unmark}
+use Rattle.pool_laws.specs.Leaves.{NoSettle}
+use Rattle.pool_batch.specs.Laws.{Owned}
+use Rattle.call_records.specs.Upwards.{entryIf}
+use Rattle.call_records.proofs.Entries.{owned-to, owned-if}
 use Rattle.site.specs.declared.Site.{Site}
 use Rattle.site.specs.Site.{linkAt, closeAt, hasPrimary}
 use Rattle.site.specs.Parts.{subscriptionAt}
 use Rattle.holding.specs.Touches.{Configured, Quiet, Touches}
-use Rattle.inputs.specs.Inputs.{alarmChange, statusEntry, statusChange, aggregatedEntry, aggregatedChange, alarmPlan, statusPlan, aggregatedPlan}
-use Rattle.tick.specs.Closing.{lateAt, closeLate, closedTo}
-use Rattle.tick.specs.Tick.{siteAfter, tickPlan}
-use Rattle.tick.proofs.Closed.{stays}
-use Rattle.tick.proofs.Kept.{kept as ticks}
+use Rattle.call_input.specs.Inputs.{alarmChange, statusEntry, statusChange, aggregatedEntry, aggregatedChange, alarmPlan, statusPlan, aggregatedPlan}
+use Rattle.call_tick.specs.Closing.{lateAt, closeLate, closedTo}
+use Rattle.call_tick.specs.Tick.{siteAfter, tickPlan}
+use Rattle.call_tick.proofs.Closed.{stays}
+use Rattle.call_tick.proofs.Kept.{kept as ticks}
 use Rattle.touches.specs.Calls.{closingActs, lateActs, Touched}
 
 -- ---- the inputs

@@ -5,15 +5,15 @@ use mathlib.Core.Bool.{Bool}
 use mathlib.Core.List.{List, [], _∷_, _++_}
 use lib.IntN.{ℤ}
 use Rattle.basis.specs.Pick.{pick}
-use Rattle.poollaws.specs.Acts.{Act}
-use Rattle.poollaws.specs.Acts.Act.{Unmark}
-use Rattle.poollaws.specs.Leaves.{NoSettle}
+use Rattle.pool_laws.specs.Acts.{Act}
+use Rattle.pool_laws.specs.Acts.Act.{Unmark}
+use Rattle.pool_laws.specs.Leaves.{NoSettle}
 use Rattle.site.specs.declared.Site.{Site}
 use Rattle.holding.specs.Touches.{Configured, Touches}
-use Rattle.linkcalls.specs.Connect.{connectPlan, disconnectPlan}
-use Rattle.inputs.specs.Inputs.{alarmPlan, statusPlan, aggregatedPlan}
-use Rattle.tick.specs.Closing.{lateAt}
-use Rattle.tick.specs.Tick.{tickPlan}
+use Rattle.call_link.specs.Connect.{connectPlan, disconnectPlan}
+use Rattle.call_input.specs.Inputs.{alarmPlan, statusPlan, aggregatedPlan}
+use Rattle.call_tick.specs.Closing.{lateAt}
+use Rattle.call_tick.specs.Tick.{tickPlan}
 
 -- a link is closed: no record of it is marked sent
 abbrev pub closingActs : ℕ → List Act

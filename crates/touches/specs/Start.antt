@@ -7,14 +7,14 @@ use mathlib.Core.List.{List, []}
 use Rattle.answer.specs.Number.{isDone}
 use Rattle.pool.specs.Pool.{heldOf, lostOf}
 use Rattle.entry.specs.declared.Entry.{Entry}
-use Rattle.poollaws.specs.Promises.{Reached}
-use Rattle.poollaws.specs.View.{records}
-use Rattle.poollaws.specs.Contents.{Every}
+use Rattle.pool_laws.specs.Promises.{Reached}
+use Rattle.pool_laws.specs.View.{records}
+use Rattle.pool_laws.specs.Contents.{Every}
 use Rattle.site.specs.declared.Site.{Site}
 use Rattle.site.specs.declared.Step.{Step}
 use Rattle.holding.specs.Touches.{Configured}
 use Rattle.holding.specs.Sequences.{Calls, Touching, after, Issued, issuedIn, settledIn, Promises}
-use Rattle.start.specs.Starts.{Starts}
+use Rattle.call_start.specs.Starts.{Starts}
 
 -- nothing held and nothing lost
 pub record Begun (s : Site) : Type 0 where

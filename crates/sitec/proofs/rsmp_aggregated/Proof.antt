@@ -3,7 +3,7 @@ use Rattle.sitec.proofs.rsmp_aggregated.Statement.{statement}
 use Rattle.sitec.proofs.rsmp_aggregated.Tie as tie
 use Rattle.sitec.proofs.rsmp_aggregated.Reads as reads
 use Rattle.sitec.proofs.rsmp_aggregated.Lts as lts
-use Rattle.inputs.proofs.aggregated.Reads as aggregated-reads
+use Rattle.call_input.proofs.aggregated.Reads as aggregated-reads
 use Rattle.sitec.proofs.outcome_of.Reads as outcome-of-reads
 
 -- src/lib.rt:97:16

@@ -3,7 +3,7 @@ use Rattle.sitec.proofs.rsmp_alarm.Statement.{statement}
 use Rattle.sitec.proofs.rsmp_alarm.Tie as tie
 use Rattle.sitec.proofs.rsmp_alarm.Reads as reads
 use Rattle.sitec.proofs.rsmp_alarm.Lts as lts
-use Rattle.inputs.proofs.alarm.Reads as alarm-reads
+use Rattle.call_input.proofs.alarm.Reads as alarm-reads
 use Rattle.sitec.proofs.outcome_of.Reads as outcome-of-reads
 
 -- src/lib.rt:83:16

@@ -3,7 +3,7 @@ use Rattle.sitec.proofs.rsmp_connect.Statement.{statement}
 use Rattle.sitec.proofs.rsmp_connect.Tie as tie
 use Rattle.sitec.proofs.rsmp_connect.Reads as reads
 use Rattle.sitec.proofs.rsmp_connect.Lts as lts
-use Rattle.linkcalls.proofs.connect.Reads as connect-reads
+use Rattle.call_link.proofs.connect.Reads as connect-reads
 use Rattle.sitec.proofs.outcome_of.Reads as outcome-of-reads
 
 -- src/lib.rt:50:16

@@ -3,7 +3,7 @@ use Rattle.sitec.proofs.rsmp_disconnect.Statement.{statement}
 use Rattle.sitec.proofs.rsmp_disconnect.Tie as tie
 use Rattle.sitec.proofs.rsmp_disconnect.Reads as reads
 use Rattle.sitec.proofs.rsmp_disconnect.Lts as lts
-use Rattle.linkcalls.proofs.disconnect.Reads as disconnect-reads
+use Rattle.call_link.proofs.disconnect.Reads as disconnect-reads
 use Rattle.sitec.proofs.outcome_of.Reads as outcome-of-reads
 
 -- src/lib.rt:57:16

@@ -4,7 +4,7 @@ use Rattle.sitec.proofs.rsmp_packet.Statement.{statement}
 use Rattle.sitec.proofs.rsmp_packet.Tie as tie
 use Rattle.sitec.proofs.rsmp_packet.Reads as reads
 use Rattle.sitec.proofs.rsmp_packet.Lts as lts
-use Rattle.packet.proofs.packet.Reads as packet-reads
+use Rattle.call_packet.proofs.packet.Reads as packet-reads
 use Rattle.sitec.proofs.outcome_of.Reads as outcome-of-reads
 
 -- src/lib.rt:126:16

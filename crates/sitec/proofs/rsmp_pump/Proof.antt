@@ -4,7 +4,7 @@ use Rattle.sitec.proofs.rsmp_pump.Statement.{statement}
 use Rattle.sitec.proofs.rsmp_pump.Tie as tie
 use Rattle.sitec.proofs.rsmp_pump.Reads as reads
 use Rattle.sitec.proofs.rsmp_pump.Lts as lts
-use Rattle.pump.proofs.pump.Reads as pump-reads
+use Rattle.call_pump.proofs.pump.Reads as pump-reads
 use Rattle.sitec.proofs.outcome_of.Reads as outcome-of-reads
 
 -- src/lib.rt:124:16

@@ -5,7 +5,7 @@ use Rattle.sitec.proofs.rsmp_start.Tie as tie
 use Rattle.sitec.proofs.rsmp_start.Reads as reads
 use Rattle.sitec.proofs.rsmp_start.Lts as lts
 use Rattle.sitec.proofs.outcome_of.Reads as outcome-of-reads
-use Rattle.start.proofs.start.Reads as start-reads
+use Rattle.call_start.proofs.start.Reads as start-reads
 
 -- src/lib.rt:75:16
 start-requires : tie.Need-start-requires

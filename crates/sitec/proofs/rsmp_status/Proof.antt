@@ -4,7 +4,7 @@ use Rattle.sitec.proofs.rsmp_status.Statement.{statement}
 use Rattle.sitec.proofs.rsmp_status.Tie as tie
 use Rattle.sitec.proofs.rsmp_status.Reads as reads
 use Rattle.sitec.proofs.rsmp_status.Lts as lts
-use Rattle.inputs.proofs.status.Reads as status-reads
+use Rattle.call_input.proofs.status.Reads as status-reads
 use Rattle.sitec.proofs.outcome_of.Reads as outcome-of-reads
 
 -- src/lib.rt:90:16

@@ -4,7 +4,7 @@ use Rattle.sitec.proofs.rsmp_tick.Tie as tie
 use Rattle.sitec.proofs.rsmp_tick.Reads as reads
 use Rattle.sitec.proofs.rsmp_tick.Lts as lts
 use Rattle.sitec.proofs.outcome_of.Reads as outcome-of-reads
-use Rattle.tick.proofs.tick.Reads as tick-reads
+use Rattle.call_tick.proofs.tick.Reads as tick-reads
 
 -- src/lib.rt:104:16
 tick-requires : tie.Need-tick-requires

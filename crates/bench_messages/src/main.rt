@@ -1,0 +1,216 @@
+// Reads each packet from standard input (kind r) or writes a message (kind w, by the letter in its body) as often as the first
+// digit of the body says, and writes a number that depends on every turn. bench/messages.py measures it.
+use identity::Identity;
+use label::Label;
+use read_head::Class;
+use read_head::Kind;
+use run_feed::Case;
+use write_message::AlarmState;
+use write_message::Value;
+
+// How often the digit says: 0 once, 1 ten times, and so on.
+fn times(digit: u8) -> u32 {
+    match digit {
+        b'0' => 1,
+        b'1' => 10,
+        b'2' => 100,
+        b'3' => 1000,
+        _ => 10000,
+    }
+}
+
+fn order_number(o: read_head::Order) -> u64 {
+    match o {
+        read_head::Order::Request => 1,
+        read_head::Order::Acknowledge => 2,
+        read_head::Order::Suspend => 3,
+        read_head::Order::Resume => 4,
+    }
+}
+
+fn versions_said(s: &[u8]) -> u64 {
+    let f = read_lists::read_version(s);
+    let o = f.offer;
+    let v = o.versions;
+    v.count as u64
+}
+
+fn time_said(s: &[u8]) -> u64 {
+    let f = read_head::read_watchdog(s);
+    f.time % 1000
+}
+
+fn order_said(s: &[u8]) -> u64 {
+    let f = read_head::read_alarm(s);
+    let o = f.order;
+    order_number(o)
+}
+
+fn component_said(s: &[u8]) -> u64 {
+    let f = read_head::read_aggregated(s);
+    let l = f.label;
+    l.length as u64
+}
+
+fn entries_said(s: &[u8], subscribing: bool) -> u64 {
+    let f = read_lists::read_status(s, subscribing);
+    f.count as u64
+}
+
+fn said_by(s: &[u8], k: Kind) -> u64 {
+    match k {
+        Kind::Version => versions_said(s),
+        Kind::Watchdog => time_said(s),
+        Kind::Alarm => order_said(s),
+        Kind::AggregatedStatusRequest => component_said(s),
+        Kind::StatusRequest => entries_said(s, false),
+        Kind::StatusSubscribe => entries_said(s, true),
+        Kind::StatusUnsubscribe => entries_said(s, false),
+        Kind::Unexpected => 0,
+    }
+}
+
+fn read_once(s: &[u8]) -> u64 {
+    let h = read_head::read_head(s);
+    let c = h.class;
+    match c {
+        Class::Ignored => 0,
+        Class::Acked => 1,
+        Class::NotAcked => 2,
+        Class::Asked(_, k) => said_by(s, k),
+    }
+}
+
+fn id_of(n: u32) -> Identity {
+    Identity {
+        bytes: [(n % 256) as u8; 16],
+    }
+}
+
+fn some_label() -> Label {
+    label::of(b"AA+BBCCC=DDDEE001")
+}
+
+fn state_of(n: u32) -> AlarmState {
+    AlarmState {
+        time: 1254398371571 + (n as u64),
+        event: 0,
+        category: 1,
+        priority: 2,
+        acknowledged: false,
+        active: true,
+        suspended: false,
+    }
+}
+
+fn greet(out: &mut [u8], message: u8, n: u32) -> usize {
+    match message {
+        b'V' => write_message::greeting::version(
+            out,
+            0,
+            id_of(n),
+            some_label(),
+            label::of(b"1.0.13"),
+        ),
+        b'W' => write_message::greeting::watchdog(out, 0, id_of(n), 1254398371571 + (n as u64)),
+        b'K' => write_message::answers::ack(out, 0, b"d6d97f8b-e9db-4572-8084-70b55e312584"),
+        _ => write_message::answers::not_ack(
+            out,
+            0,
+            b"d6d97f8b-e9db-4572-8084-70b55e312584",
+            14 + (n % 11) as usize,
+        ),
+    }
+}
+
+fn write_once(out: &mut [u8], message: u8, n: u32) -> usize {
+    match message {
+        b'A' => write_report::alarms::alarm(
+            out,
+            0,
+            id_of(n),
+            some_label(),
+            label::of(b"A0001"),
+            state_of(n),
+        ),
+        b'G' => write_report::aggregate::aggregated(
+            out,
+            0,
+            id_of(n),
+            some_label(),
+            1254398371571,
+            (n % 256) as u8,
+        ),
+        b'U' => write_report::status::update(
+            out,
+            0,
+            id_of(n),
+            some_label(),
+            1254398371571,
+            label::of(b"S0001"),
+            label::of(b"release"),
+            Value::Recent((n % 1000) as i32),
+        ),
+        _ => greet(out, message, n),
+    }
+}
+
+fn sum(total: u64, more: u64) -> u64 {
+    (total % 1000000007 + more % 1000000007) % 1000000007
+}
+
+fn reading(s: &[u8], often: u32) -> u64 {
+    let mut total: u64 = 0;
+    let mut left = often;
+    while 0 < left {
+        total = sum(total, read_once(s));
+        left -= 1;
+    }
+    total
+}
+
+fn writing(out: &mut [u8], message: u8, often: u32) -> u64 {
+    let mut total: u64 = 0;
+    let mut left = often;
+    while 0 < left {
+        total = sum(total, write_once(out, message, left) as u64);
+        left -= 1;
+    }
+    total
+}
+
+fn measured(kind: u8, body: &[u8]) -> u64 {
+    if body.len() < 2 {
+        return 0;
+    }
+    let often = times(body[0]);
+    if kind == b'r' {
+        reading(&body[1..], often)
+    } else {
+        let mut out = [0u8; 4096];
+        writing(&mut out, body[1], often)
+    }
+}
+
+// Takes one case; whether there was one.
+fn turn() -> bool {
+    let mut body = [0u8; 8192];
+    let mut line = [0u8; 64];
+    match run_feed::next(&mut body) {
+        Case::Body(kind, n) => {
+            if body.len() < n {
+                return false;
+            }
+            let end = number::put_decimal(&mut line, 0, measured(kind, &body[0..n]));
+            run_feed::say(&line, end)
+        }
+        Case::End => false,
+    }
+}
+
+fn main() {
+    let mut turns = u64::MAX;
+    while turns > 0 && turn() {
+        turns -= 1;
+    }
+}

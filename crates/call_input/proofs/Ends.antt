@@ -1,0 +1,41 @@
+-- What a call without output gives, condition by condition in their order.
+-- Assumes nothing.
+use Prim.Native.Nat.{ℕ, _≤_, _<_}
+use mathlib.Core.Path.{_≡_, refl}
+use mathlib.Core.Bool.{Bool, true, false}
+use borrow.Author.Tests.{le-leb, lt-leb}
+use Rattle.basis.specs.Pick.{pick}
+use Rattle.answer.specs.declared.Refusal.the-variants.{NoSuchItem, BadTime, SequenceSpent, PoolFull}
+use Rattle.answer.specs.declared.Report.{Report}
+use Rattle.answer.specs.declared.Answer.the-variants.{Done, Refused}
+use Rattle.site.specs.declared.Site.{Site}
+use Rattle.site.specs.Site.{badTimeAt}
+use Rattle.site.specs.Call.{Plan, never, stepped, refused, stepOf, batchOf}
+use Rattle.call_input.specs.Inputs.{planned, itemRefuses, aggregatedRefuses}
+
+ended : (s t : Site) (r : Report) (spent crowded : Bool)
+    → pick spent (refused s SequenceSpent) (pick crowded (refused s PoolFull) (record { site = t; answer = Done r }))
+    ≡ stepped s t (pick spent (Refused SequenceSpent) (pick crowded (Refused PoolFull) (Done r)))
+ended s t r true crowded = refl
+ended s t r false true = refl
+ended s t r false false = refl
+
+module _ (s : Site) (time : ℕ) (p : Plan) where
+  done : planned s time p ≡ stepOf s time never p 0
+  done = ended s _ _ (batchOf p .spent) (batchOf p .crowded)
+
+  pub late : badTimeAt s time ≡ true → refused s BadTime ≡ stepOf s time (aggregatedRefuses s time) p 0
+  late h = rw h refl
+
+  pub on-time : badTimeAt s time ≡ false → planned s time p ≡ stepOf s time (aggregatedRefuses s time) p 0
+  on-time h = rw h done
+
+  module _ (count k : ℕ) where
+    pub no-item : count ≤ k → refused s NoSuchItem ≡ stepOf s time (itemRefuses s count k time) p 0
+    no-item h = rw (le-leb count k h) refl
+
+    pub item-late : k < count → badTimeAt s time ≡ true → refused s BadTime ≡ stepOf s time (itemRefuses s count k time) p 0
+    item-late h g = rw (lt-leb count k h, g) refl
+
+    pub item-on-time : k < count → badTimeAt s time ≡ false → planned s time p ≡ stepOf s time (itemRefuses s count k time) p 0
+    item-on-time h g = rw (lt-leb count k h, g) done

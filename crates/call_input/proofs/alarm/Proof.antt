@@ -1,0 +1,59 @@
+-- `call_input::alarm` meets its contract.
+-- Assumes nothing.
+use mathlib.Core.Path.{sym, _∙_}
+use Rattle.call_input.specs.Inputs.{alarmPlan}
+use Rattle.call_input.proofs.Ends.{no-item, item-late, item-on-time}
+use borrow.Author.Needs.{needs}
+use Rattle.call_input.proofs.alarm.Statement.{statement}
+use Rattle.call_input.proofs.alarm.Tie as tie
+
+cast-if1 : tie.Need-cast-if1
+cast-if1 c = search needs
+
+refused-requires : tie.Need-refused-requires
+refused-requires c κs = search needs
+
+returns : tie.Need-returns
+returns c =
+    let a = c .before .before .before .before .args in
+    c .refused .ensures ∙ no-item (a .s) (a .time) (alarmPlan (a .s) (a .number) (a .active) (a .time)) (a .s .table .alarmcount) (a .number) (c .before .if1 .taken)
+
+bad-time-requires : tie.Need-bad-time-requires
+bad-time-requires c κs = search needs
+
+refused-requires-2 : tie.Need-refused-requires-2
+refused-requires-2 c κs = search needs
+
+returns-2 : tie.Need-returns-2
+returns-2 c =
+    let a = c .before .before .before .before .before .before .args in
+    let w = c .before .before in
+    c .refused2 .ensures
+    ∙ item-late (a .s) (a .time) (alarmPlan (a .s) (a .number) (a .active) (a .time)) (a .s .table .alarmcount) (a .number) (w .before .if1 .left) (sym (w .bad-time .ensures) ∙ c .before .if2 .taken)
+
+cast-alarm : tie.Need-cast-alarm
+cast-alarm c = search needs
+
+alarm-requires : tie.Need-alarm-requires
+alarm-requires c κs = search needs
+
+returns-3 : tie.Need-returns-3
+returns-3 c =
+    let a = c .before .before .before .before .before .before .args in
+    let w = c .before .before in
+    c .alarm .ensures
+    ∙ item-on-time (a .s) (a .time) (alarmPlan (a .s) (a .number) (a .active) (a .time)) (a .s .table .alarmcount) (a .number) (w .before .if1 .left) (sym (w .bad-time .ensures) ∙ c .before .if2 .left)
+
+pub alarm-spec : {M : Type 1} → statement M
+alarm-spec =
+    tie.close
+    (tie.spec
+    cast-if1
+    refused-requires
+    returns
+    bad-time-requires
+    refused-requires-2
+    returns-2
+    cast-alarm
+    alarm-requires
+    returns-3)

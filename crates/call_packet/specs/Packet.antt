@@ -1,0 +1,139 @@
+-- Packet: which are ignored, what each other one comes to, and the call.
+-- Assumes nothing.
+use Prim.Native.Nat.{ℕ}
+use mathlib.Core.Bool.{Bool, true, false}
+use mathlib.Core.List.{List}
+use lib.Dec.{ltb}
+use lib.ListN.{length}
+use Rattle.basis.specs.Pick.{pick, both}
+use Rattle.answer.specs.declared.Refusal.{Refusal}
+use Rattle.answer.specs.declared.Refusal.the-variants.{NoSuchLink, ShortOutput, LongPacket, BadTime, WrongPhase, Ignored}
+use Rattle.identity.specs.declared.Identity.{Identity}
+use Rattle.awaited.specs.Awaited.{findOf, isAwaited}
+use Rattle.link.specs.declared.Link.{Link}
+use Rattle.link.specs.declared.Phase.{Phase}
+use Rattle.link.specs.declared.Phase.the-variants.{Down, Greeting, Beating, Up}
+use Rattle.link.specs.Phase.{phaseOf, isBeating}
+use Rattle.link.specs.Steps.{mayJudgeOf}
+use Rattle.read_head.specs.declared.Verdict.{Verdict}
+use Rattle.read_head.specs.declared.Kind.{Kind}
+use Rattle.read_head.specs.declared.Kind.the-variants.{Version, Watchdog, Alarm, AggregatedStatusRequest, StatusRequest, StatusSubscribe, StatusUnsubscribe, Unexpected}
+use Rattle.read_head.specs.declared.Class.{Class}
+use Rattle.read_head.specs.declared.Class.the-variants.{Ignored as NoClass, Acked, NotAcked, Asked}
+use Rattle.read_head.specs.declared.Head.{Head}
+use Rattle.read_head.specs.Head.{headAt}
+use Rattle.read_head.specs.Small.{watchdogAt, aggregatedAt, alarmAt}
+use Rattle.read_lists.specs.Version.{versionAt}
+use Rattle.read_lists.specs.Status.{statusAt}
+use Rattle.site.specs.declared.Site.{Site}
+use Rattle.site.specs.Site.{noLinkAt, badTimeAt, downAt, linkAt}
+use Rattle.site.specs.Call.{Plan, only, when}
+use Rattle.packet_answer.specs.Taken.{Taken, takenRefuses, notAcked, byVerdict, unexpected, notReady}
+use Rattle.packet_greet.specs.Answered.{answeredPlan}
+use Rattle.packet_greet.specs.Version.{versionTaken}
+use Rattle.packet_greet.specs.Watchdog.{watchdogTaken}
+use Rattle.packet_alarm.specs.Orders.{alarmTaken, aggregatedTaken}
+use Rattle.packet_status.specs.StatusReply.{statusTaken}
+use Rattle.packet_subscribe.specs.Subscribing.{subscribingTaken}
+
+abbrev pub isVersion : Kind → Bool
+isVersion Version = true
+isVersion Watchdog = false
+isVersion Alarm = false
+isVersion AggregatedStatusRequest = false
+isVersion StatusRequest = false
+isVersion StatusSubscribe = false
+isVersion StatusUnsubscribe = false
+isVersion Unexpected = false
+
+abbrev pub isWatchdog : Kind → Bool
+isWatchdog Version = false
+isWatchdog Watchdog = true
+isWatchdog Alarm = false
+isWatchdog AggregatedStatusRequest = false
+isWatchdog StatusRequest = false
+isWatchdog StatusSubscribe = false
+isWatchdog StatusUnsubscribe = false
+isWatchdog Unexpected = false
+
+abbrev pub isGreeting : Phase → Bool
+isGreeting Down = false
+isGreeting Greeting = true
+isGreeting Beating = false
+isGreeting Up = false
+
+-- "Unexpected": a type that is not taken, and Version before ours went out or after theirs was accepted
+abbrev pub expected : Link → Kind → Bool
+expected k Version = mayJudgeOf k
+expected k Watchdog = true
+expected k Alarm = true
+expected k AggregatedStatusRequest = true
+expected k StatusRequest = true
+expected k StatusSubscribe = true
+expected k StatusUnsubscribe = true
+expected k Unexpected = false
+
+-- "Not ready": Beating, not Watchdog
+abbrev pub unready : Link → Kind → Bool
+unready k kind = both (isBeating (phaseOf k)) (pick (isWatchdog kind) false true)
+
+abbrev pub unawaited : Link → Identity → Bool
+unawaited k id = pick (isAwaited (findOf (k .awaited) id)) false true
+
+abbrev pub early : Link → Kind → Bool
+early k kind = both (isGreeting (phaseOf k)) (pick (isVersion kind) false true)
+
+-- Ignored: bad JSON and what has no readable mId; an answer to what is not awaited; in Greeting, all but type Version and the two answers
+abbrev pub ignoredBy : Link → Identity → Class → Bool
+ignoredBy k id NoClass = true
+ignoredBy k id Acked = unawaited k id
+ignoredBy k id NotAcked = unawaited k id
+ignoredBy k id (Asked v kind) = early k kind
+
+-- Below, p is the packet, and id the identity of a reply.
+
+-- a request of a kind that is taken now
+abbrev pub kindTaken : Site → ℕ → ℕ → Identity → List ℕ → List ℕ → Kind → Taken
+kindTaken s l time id received p Version = versionTaken s l received (versionAt p)
+kindTaken s l time id received p Watchdog = watchdogTaken s l received (watchdogAt p)
+kindTaken s l time id received p Alarm = alarmTaken s l time id received (alarmAt p)
+kindTaken s l time id received p AggregatedStatusRequest = aggregatedTaken s l time id received (aggregatedAt p)
+kindTaken s l time id received p StatusRequest = statusTaken s l time id received (statusAt false p)
+kindTaken s l time id received p StatusSubscribe = subscribingTaken true s l time received (statusAt true p)
+kindTaken s l time id received p StatusUnsubscribe = subscribingTaken false s l time received (statusAt false p)
+kindTaken s l time id received p Unexpected = notAcked s received unexpected
+
+-- the reasons in their order: mType, "Unexpected", "Not ready", then those of the kind
+abbrev pub expectedTaken : Site → ℕ → ℕ → Identity → List ℕ → List ℕ → Kind → Taken
+expectedTaken s l time id received p kind =
+    pick (expected (linkAt s l) kind)
+    (pick (unready (linkAt s l) kind) (notAcked s received notReady) (kindTaken s l time id received p kind))
+    (notAcked s received unexpected)
+
+abbrev pub askedTaken : Site → ℕ → ℕ → Identity → List ℕ → List ℕ → Verdict → Kind → Taken
+askedTaken s l time id received p v kind = byVerdict v s received (expectedTaken s l time id received p kind)
+
+abbrev pub classTaken : Site → ℕ → ℕ → Identity → Identity → List ℕ → List ℕ → Class → Taken
+classTaken s l time id answered received p NoClass = record { plan = only s; replies = false }
+classTaken s l time id answered received p Acked = record { plan = answeredPlan s l answered true; replies = false }
+classTaken s l time id answered received p NotAcked = record { plan = answeredPlan s l answered false; replies = false }
+classTaken s l time id answered received p (Asked v kind) = askedTaken s l time id received p v kind
+
+abbrev pub headTaken : Site → ℕ → ℕ → Identity → List ℕ → Head → Taken
+headTaken s l time id p h = classTaken s l time id (h .identity) (h .received .bytes) p (h .class)
+
+abbrev pub headRefuses : Site → ℕ → ℕ → Identity → List ℕ → Head → Refusal → Bool
+headRefuses s l time id p h =
+    when Ignored (ignoredBy (linkAt s l) (h .identity) (h .class)) (takenRefuses s l id (headTaken s l time id p h))
+
+abbrev pub packetTaken : Site → ℕ → ℕ → Identity → List ℕ → Taken
+packetTaken s l time id p = headTaken s l time id p (headAt p)
+
+-- room is the length of the output
+abbrev pub packetRefuses : Site → ℕ → ℕ → Identity → ℕ → List ℕ → Refusal → Bool
+packetRefuses s l time id room p =
+    when NoSuchLink (noLinkAt s l)
+    (when ShortOutput (ltb room 4096)
+    (when LongPacket (ltb 4096 (length p))
+    (when BadTime (badTimeAt s time)
+    (when WrongPhase (downAt s l) (headRefuses s l time id p (headAt p))))))

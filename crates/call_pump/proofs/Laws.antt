@@ -1,0 +1,185 @@
+-- What the proofs of the code cite.
+-- Assumes nothing.
+use Prim.Native.Nat.{ℕ, _+_, _*_, _≤_, _<_}
+use mathlib.Core.Path.{_≡_, refl, sym, ap, subst, _∙_}
+use mathlib.Core.Bool.{Bool, true, false}
+use mathlib.Core.List.{List, [], append-nil}
+use native.Mathlib.Omega.{arith}
+use lib.Dec.{ltb, leb}
+use lib.ListN.{length}
+use borrow.Author.Tests.{ltb-true}
+use Rattle.basis.specs.Pick.{pick}
+use Rattle.basis.proofs.Cases.{picked}
+use Rattle.answer.specs.declared.Refusal.{Refusal}
+use Rattle.answer.specs.declared.Refusal.the-variants.{NoSuchLink, ShortOutput, BadTime, WrongPhase, NothingDue, ManyAwaited, IdentityAwaited, SequenceSpent, PoolFull}
+use Rattle.answer.specs.declared.Report.{Report}
+use Rattle.answer.specs.declared.Answer.{Answer}
+use Rattle.answer.specs.declared.Answer.the-variants.{Done, Refused}
+use Rattle.answer.specs.Order.{inOrder, judged}
+use Rattle.identity.specs.declared.Identity.{Identity}
+use Rattle.entry.specs.declared.Entry.{Entry as HeldEntry}
+use Rattle.pool.specs.declared.Sought.{Sought}
+use Rattle.pool.specs.declared.Sought.the-variants.{Found, Nothing as NoEntry}
+use Rattle.pool.specs.Pool.{oldestUnsent}
+use Rattle.pool_batch.specs.declared.Batch.{Batch}
+use Rattle.pool_batch.specs.Batch.{beginning, issuedAll}
+use Rattle.link.specs.declared.Link.{Link}
+use Rattle.link.specs.declared.Role.{Role}
+use Rattle.link.specs.declared.Role.the-variants.{Primary, Secondary}
+use Rattle.link.specs.declared.Phase.{Phase}
+use Rattle.link.specs.declared.Phase.the-variants.{Down, Greeting, Beating, Up}
+use Rattle.link.specs.declared.Due.{Due}
+use Rattle.link.specs.declared.Due.the-variants.{Nothing, Version, Watchdog, Aggregated, Alarm, Entry}
+use Rattle.link.specs.Phase.{phaseOf}
+use Rattle.link.specs.Due.{alarmsFor, dueUp, dueIn, dueOf}
+use Rattle.output.specs.Put.{Out, output, putAll, Wrote}
+use Rattle.write_message.specs.Message.{Message}
+use Rattle.write_message.specs.Pieces.{pieces}
+use Rattle.site.specs.declared.Site.{Site}
+use Rattle.site.specs.declared.Step.{Step}
+use Rattle.site.specs.Site.{noLinkAt, badTimeAt, linkAt, downAt, withIssued}
+use Rattle.site.specs.Call.{Plan, only, batchOf, never, when, issuing, reportOf, stepped, refused, answerOf, stepOf, concluded, nothingOf, writtenTo, outAfter, Gives}
+use Rattle.site.proofs.Checks.{link-below}
+use Rattle.awaited.specs.Awaited.{findOf, isAwaited}
+use Rattle.link.specs.Steps.{crowdedOf}
+use Rattle.call_pump.specs.Pump.{dueAt, isNothing, pumpRefuses, sends, entryPlan, planFor, pumpPlan, verdictOf, finished, Sends, Below}
+
+abbrev doneNumber : Answer → ℕ
+doneNumber (Done r) = 0
+doneNumber (Refused x) = 1
+
+pub not-done : {P : Type 0} {x : Refusal} {r : Report} → Refused x ≡ Done r → P
+not-done e = let z : _≡_ {A = ℕ} 1 0 = ap doneNumber e in absurd (omega arith)
+
+not-refused : {P : Type 0} {x : Refusal} {r : Report} → Done r ≡ Refused x → P
+not-refused e = not-done (sym e)
+
+unless : (b : Bool) (x : Refusal) (a : Answer) {r : Report} → pick b (Refused x) a ≡ Done r → b ≡ false
+unless true x a e = not-done e
+unless false x a e = refl
+
+pub verdict-below : (s : Site) (l time : ℕ) (id : Identity) (room : ℕ) {r : Report} → verdictOf s l time id room ≡ Done r → l < 4
+verdict-below s l time id room e = link-below s l (unless (noLinkAt s l) NoSuchLink _ e)
+
+-- an alarm that is due has a number below the number of alarms
+few-for : (role : Role) (n : ℕ) → alarmsFor role n ≤ n
+few-for Primary n = omega arith
+few-for Secondary n = omega arith
+
+fewer : (k a n m : ℕ) → k < a → a ≤ n → n ≤ m → k < m
+fewer k a n m x y z = omega arith
+
+up-below : (l : Link) (time period : ℕ) (role : Role) (n : ℕ) (unsent : Bool) (m : ℕ) → n ≤ m → Below m (dueUp l time period role n unsent)
+unfolding dueUp
+up-below l time period role n unsent m h =
+    picked (Below m) (leb (l .beat + period * 1000) time) _ _ (λ e. tt)
+    (λ e. picked (Below m) (l .aggregatedout) _ _
+    (λ e. picked (Below m) (ltb (l .alarm) (alarmsFor role n)) _ _
+    (λ t. fewer (l .alarm) (alarmsFor role n) n m (ltb-true _ _ t) (few-for role n) h)
+    (λ e. picked (Below m) unsent _ _ (λ e. tt) (λ e. tt)))
+    (λ e. tt))
+
+in-below : (f : Phase) (l : Link) (up : Due) (m : ℕ) → Below m up → Below m (dueIn f l up)
+in-below Down l up m h = tt
+in-below Greeting l up m h = picked (Below m) (l .versionout) _ _ (λ e. tt) (λ e. tt)
+in-below Beating l up m h = picked (Below m) (l .watchdogout) _ _ (λ e. tt) (λ e. tt)
+in-below Up l up m h = h
+
+pub due-below : (l : Link) (time period : ℕ) (role : Role) (n : ℕ) (unsent : Bool) (m : ℕ) → n ≤ m → Below m (dueOf l time period role n unsent)
+unfolding dueOf
+due-below l time period role n unsent m h = in-below (phaseOf l) l _ m (up-below l time period role n unsent m h)
+
+pub alarm-below : {d : Due} {m k : ℕ} → Below m d → d ≡ Alarm k → k < m
+alarm-below {d} {m} b e = subst (Below m) e b
+
+-- the end of a call that issues nothing
+pub ended : (s after : Site) {b : Batch} (time : ℕ) (report : Report) → b ≡ beginning (after .pool) (after .next)
+    → concluded s after b time report ≡ record { site = withIssued after (beginning (after .pool) (after .next)) time; answer = Done report }
+ended s after time report e = ap (λ (x : Batch). concluded s after x time report) e
+
+-- a message that was written from the beginning on
+pub sent : {time : ℕ} {after : Site} {m : Message} {xs ys : List ℕ} {end : ℕ} {r : Step}
+    → Wrote xs 0 (pieces m) ys end → r ≡ finished (only after) time end → Sends time (sends after m) xs ys r
+sent {time} {after} {m} {xs} w e =
+    let a = w .all ∙ ap (λ (ps : List (List ℕ)). putAll (output xs 0) ps) (sym (append-nil (pieces m))) in
+    record { step = e ∙ ap (λ (o : Out). finished (only after) time (o .end)) a; out = ap (λ (o : Out). o .bytes) a }
+
+-- the seven conditions
+abbrev pub seven : Bool → Bool → Bool → Bool → Bool → Bool → Bool → Refusal → Bool
+seven a b c d e f g =
+    when NoSuchLink a (when ShortOutput b (when BadTime c (when WrongPhase d (when NothingDue e (when ManyAwaited f (when IdentityAwaited g never))))))
+
+abbrev pub first : Bool → Bool → Bool → Bool → Bool → Bool → Bool → Answer
+first a b c d e f g = judged (seven a b c d e f g) inOrder (Done nothingOf)
+
+-- one of them refuses whatever is issued
+stays : (a b c d e f g : Bool) (w : Batch) (o : Answer) (x : Refusal) → first a b c d e f g ≡ Refused x → judged (issuing w (seven a b c d e f g)) inOrder o ≡ Refused x
+stays true b c d e f g w o x h = h
+stays false true c d e f g w o x h = h
+stays false false true d e f g w o x h = h
+stays false false false true e f g w o x h = h
+stays false false false false true f g w o x h = h
+stays false false false false false true g w o x h = h
+stays false false false false false false true w o x h = h
+stays false false false false false false false w o x h = not-refused h
+
+-- where none does, numbers 10 and 13 are left
+clear : (a b c d e f g : Bool) (w : Batch) (o : Answer) (q : Report) → first a b c d e f g ≡ Done q
+    → judged (issuing w (seven a b c d e f g)) inOrder o ≡ pick (w .spent) (Refused SequenceSpent) (pick (w .crowded) (Refused PoolFull) o)
+clear true b c d e f g w o q h = not-done h
+clear false true c d e f g w o q h = not-done h
+clear false false true d e f g w o q h = not-done h
+clear false false false true e f g w o q h = not-done h
+clear false false false false true f g w o q h = not-done h
+clear false false false false false true g w o q h = not-done h
+clear false false false false false false true w o q h = not-done h
+clear false false false false false false false w o q h = refl
+
+done-answer : (b : Batch) (p : Site) (o : Answer) → b ≡ beginning (p .pool) (p .next) → pick (b .spent) (Refused SequenceSpent) (pick (b .crowded) (Refused PoolFull) o) ≡ o
+done-answer b p o e = ap (λ (w : Batch). pick (w .spent) (Refused SequenceSpent) (pick (w .crowded) (Refused PoolFull) o)) e
+
+no-batch : (p : Plan) → p .issued ≡ [] → batchOf p ≡ beginning (p .site .pool) (p .site .next)
+no-batch p i = ap (λ (es : List HeldEntry). issuedAll 4 (p .site .pool) (p .site .next) es) i
+
+-- pump issues nothing
+entry-issues : (x : Sought) (s : Site) (l time : ℕ) (id : Identity) → entryPlan x s l time id .issued ≡ []
+entry-issues NoEntry s l time id = refl
+entry-issues (Found x) s l time id = refl
+
+pub plan-issues : (d : Due) (s : Site) (l time : ℕ) (id : Identity) → planFor d s l time id .issued ≡ []
+plan-issues Nothing s l time id = refl
+plan-issues Version s l time id = refl
+plan-issues Watchdog s l time id = refl
+plan-issues Aggregated s l time id = refl
+plan-issues (Alarm k) s l time id = refl
+plan-issues Entry s l time id = entry-issues (oldestUnsent (s .pool) l) s l time id
+
+-- what the answer is, where the checks gave their own
+module _ (s : Site) (l time : ℕ) (id : Identity) (room : ℕ) where
+  pub refuses : {x : Refusal} (p : Plan) (end : ℕ) → verdictOf s l time id room ≡ Refused x → answerOf (pumpRefuses s l time id room) p end ≡ Refused x
+  refuses {x} p end e = stays (noLinkAt s l) (ltb room 4096) (badTimeAt s time) (downAt s l) (isNothing (dueAt s l time)) (crowdedOf (linkAt s l)) (isAwaited (findOf (linkAt s l .awaited) id)) (batchOf p) (Done (reportOf p end)) x e
+
+  pub does : {q : Report} (p : Plan) (end : ℕ) → p .issued ≡ [] → verdictOf s l time id room ≡ Done q → answerOf (pumpRefuses s l time id room) p end ≡ Done (reportOf p end)
+  does {q} p end i e = clear (noLinkAt s l) (ltb room 4096) (badTimeAt s time) (downAt s l) (isNothing (dueAt s l time)) (crowdedOf (linkAt s l)) (isAwaited (findOf (linkAt s l .awaited) id)) (batchOf p) (Done (reportOf p end)) q e ∙ done-answer (batchOf p) (p .site) _ (no-batch p i)
+
+  steps : {q : Report} (p : Plan) (end : ℕ) → p .issued ≡ [] → verdictOf s l time id room ≡ Done q → stepOf s time (pumpRefuses s l time id room) p end ≡ finished p time end
+  steps p end i e =
+      ap (stepped s (withIssued (p .site) (batchOf p) time)) (does p end i e)
+      ∙ ap (λ (b : Batch). stepped s (withIssued (p .site) b time) (Done (reportOf p end))) (no-batch p i)
+
+pub refused-gives : (s : Site) (l time : ℕ) (id : Identity) {xs : List ℕ} {x : Refusal} {r : Step} (p : Plan) → verdictOf s l time id (length xs) ≡ Refused x → r ≡ refused s x
+    → Gives s time (pumpRefuses s l time id (length xs)) p xs xs r
+refused-gives s l time id {xs} {x} {r} p e d =
+    record {
+      step = d ∙ sym (ap (stepped s (withIssued (p .site) (batchOf p) time)) (refuses s l time id (length xs) p (writtenTo xs (p .messages) .end) e));
+      out = sym (ap (λ (z : Step). outAfter xs (p .messages) (z .answer)) d);
+    }
+
+pub sent-gives : (s : Site) (l time : ℕ) (id : Identity) {xs ys : List ℕ} {q : Report} {r : Step} → verdictOf s l time id (length xs) ≡ Done q → Sends time (pumpPlan s l time id) xs ys r
+    → Gives s time (pumpRefuses s l time id (length xs)) (pumpPlan s l time id) xs ys r
+sent-gives s l time id {xs} {ys} e w =
+    let p = pumpPlan s l time id in
+    record {
+      step = w .step ∙ sym (steps s l time id (length xs) p (writtenTo xs (p .messages) .end) (plan-issues (dueAt s l time) s l time id) e);
+      out = w .out ∙ sym (ap (λ (z : Step). outAfter xs (p .messages) (z .answer)) (w .step));
+    }

@@ -1,0 +1,53 @@
+-- Start is what document 01 says of it, and there is one result for each input.
+-- Assumes nothing.
+use Prim.Native.Nat.{ℕ}
+use mathlib.Core.Path.{_≡_, refl, sym, ap, subst, _∙_}
+use mathlib.Core.Bool.{Bool, true, false, true≢false}
+use mathlib.Core.List.{List}
+use Rattle.basis.specs.Pick.{pick}
+use Rattle.basis.proofs.Cases.{bool-cases}
+use Rattle.answer.specs.declared.Answer.the-variants.{Done}
+use Rattle.table_whole.specs.declared.SiteTable.{SiteTable}
+use Rattle.table_whole.specs.declared.TableRead.{TableRead}
+use Rattle.table_whole.specs.Reads.{Reads}
+use Rattle.table_whole.specs.Reads.Reads.{reads, refuses as no-table}
+use Rattle.table_whole.proofs.Whole.{once as one-table}
+use Rattle.site.specs.declared.Step.{Step}
+use Rattle.site.specs.Call.{nothingOf}
+use Rattle.call_start.specs.Fresh.{fresh, primaryOf}
+use Rattle.call_start.specs.Starts.{Starts}
+use Rattle.call_start.specs.Starts.Starts.{starts, refuses}
+use Rattle.call_start.specs.Making.{isWithin, notAccepted, judgedBy, makeOf}
+use Rattle.call_start.proofs.Values.{within-all, all-within}
+
+module _ (links primary period first time : ℕ) where
+  pub taken : (r : TableRead) → isWithin links primary period first time ≡ true
+      → makeOf r links primary period first time ≡ judgedBy (r .verdict) (fresh (r .table) links (primaryOf primary) period first time)
+  unfolding makeOf
+  taken r e = rw e refl
+
+  pub not-taken : (r : TableRead) → isWithin links primary period first time ≡ false → makeOf r links primary period first time ≡ notAccepted
+  unfolding makeOf
+  not-taken r e = rw e refl
+
+  pub starts-so : (b : List ℕ) (r : TableRead) → Reads b r → Starts b links primary period first time (makeOf r links primary period first time)
+  starts-so b r q =
+      bool-cases (isWithin links primary period first time)
+      (λ e. subst (Starts b links primary period first time) (sym (taken r e)) (made r q e))
+      (λ e.
+      subst (Starts b links primary period first time) (sym (not-taken r e))
+      (refuses (λ t v p w. true≢false (sym (all-within links primary period first time w) ∙ e))))
+    where
+      made : (r : TableRead) → Reads b r → isWithin links primary period first time ≡ true
+          → Starts b links primary period first time (judgedBy (r .verdict) (fresh (r .table) links (primaryOf primary) period first time))
+      made r (reads v p) e = starts v p (within-all links primary period first time e)
+      made r (no-table n) e = refuses (λ t v p w. n t v p)
+
+  -- one result for each input
+  pub once : {b : List ℕ} {r q : Step} → Starts b links primary period first time r → Starts b links primary period first time q → r ≡ q
+  once (starts v p w) (starts x y z) =
+      ap (λ (d : TableRead). record { site = fresh (d .table) links (primaryOf primary) period first time; answer = Done nothingOf })
+      (one-table (reads v p) (reads x y))
+  once (starts {t = t} v p w) (refuses n) = absurd (n t v p w)
+  once (refuses n) (starts {t = t} v p w) = absurd (n t v p w)
+  once (refuses n) (refuses m) = refl

@@ -1,0 +1,43 @@
+use Rattle.basis.proofs.Tests.{tests}
+use Rattle.call_start.specs.Making.{isWithin}
+use mathlib.Core.Path.{sym, _∙_}
+use Rattle.call_start.proofs.Values.{to-values, no-link}
+use borrow.Author.Needs.{needs}
+use Rattle.call_start.proofs.within.Statement.{statement}
+use Rattle.call_start.proofs.within.Tie as tie
+use Rattle.call_start.proofs.within.Reads as reads
+use Rattle.call_start.proofs.within.Lts as lts
+use Rattle.call_start.proofs.a_link_or_none.Reads as a-link-or-none-reads
+use Rattle.call_start.proofs.values_within.Reads as values-within-reads
+
+returns : tie.Need-returns
+unfolding isWithin
+returns c = search tests
+
+returns-2 : tie.Need-returns-2
+unfolding isWithin
+returns-2 c = search tests
+
+a-link-or-none-requires : tie.Need-a-link-or-none-requires
+a-link-or-none-requires c κs = search needs
+
+values-within-requires : tie.Need-values-within-requires
+values-within-requires c κs = search needs
+
+returns-3 : tie.Need-returns-3
+returns-3 c =
+    let a = c .before .before .before .before .before .args in
+    c .values-within .ensures
+    ∙ to-values (a .links) (a .primary) (a .period) (a .first) (a .time) (c .before .before .before .before .if1 .left) (c .before .before .before .if2 .left)
+    (sym (c .before .before .a-link-or-none .ensures) ∙ c .before .if3 .taken)
+
+returns-4 : tie.Need-returns-4
+returns-4 c =
+    let a = c .before .before .before .before .args in
+    no-link (a .links) (a .primary) (a .period) (a .first) (a .time) (c .before .before .before .if1 .left) (c .before .before .if2 .left)
+    (sym (c .before .a-link-or-none .ensures) ∙ c .if3 .left)
+
+pub within-spec : {M : Type 1} → statement M
+within-spec =
+    tie.close
+    (tie.spec returns returns-2 a-link-or-none-requires values-within-requires returns-3 returns-4)

@@ -1,0 +1,37 @@
+-- Start, step by step; what it comes to is said in Starts.
+-- Assumes nothing.
+use Prim.Native.Nat.{ℕ}
+use mathlib.Core.Bool.{Bool, true}
+use lib.Dec.{eqb, leb, ltb}
+use Rattle.basis.specs.Pick.{pick, both}
+use Rattle.answer.specs.declared.Refusal.the-variants.{NotAccepted}
+use Rattle.answer.specs.declared.Answer.the-variants.{Done}
+use Rattle.table_whole.specs.declared.TableRead.{TableRead}
+use Rattle.table_whole.specs.declared.Verdict.{Verdict}
+use Rattle.table_whole.specs.declared.Verdict.the-variants.{Accepted, Refused}
+use Rattle.site.specs.declared.Site.{Site}
+use Rattle.site.specs.declared.Step.{Step}
+use Rattle.site.specs.Call.{refused, nothingOf}
+use Rattle.call_start.specs.Fresh.{fresh, primaryOf, noSite}
+
+abbrev pub aLinkOrNone : ℕ → ℕ → Bool
+aLinkOrNone links primary = pick (ltb primary links) true (eqb primary 4294967295)
+
+unfoldable pub valuesWithin : ℕ → ℕ → ℕ → Bool
+valuesWithin period first time = both (leb 1 period) (both (leb period 3600) (both (leb first 4294967295) (leb time 253402300799999)))
+
+unfoldable pub isWithin : ℕ → ℕ → ℕ → ℕ → ℕ → Bool
+isWithin links primary period first time = both (leb 1 links) (both (leb links 4) (both (aLinkOrNone links primary) (valuesWithin period first time)))
+
+abbrev pub notAccepted : Step
+notAccepted = refused noSite NotAccepted
+
+abbrev pub judgedBy : Verdict → Site → Step
+judgedBy Accepted made = record { site = made; answer = Done nothingOf }
+judgedBy (Refused x) made = notAccepted
+
+unfoldable pub makeOf : TableRead → ℕ → ℕ → ℕ → ℕ → ℕ → Step
+makeOf read links primary period first time =
+    pick (isWithin links primary period first time)
+    (judgedBy (read .verdict) (fresh (read .table) links (primaryOf primary) period first time))
+    notAccepted

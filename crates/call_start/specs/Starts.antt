@@ -1,0 +1,31 @@
+-- What start gives: the site made of the table whose bytes it takes, and number 11 where document 01 does not accept them or a value.
+-- Assumes nothing.
+use Prim.Native.Nat.{ℕ, _≤_, _<_}
+use mathlib.Core.Path.{_≡_}
+use mathlib.Core.List.{List}
+use mathlib.Core.Logic.{_⊎_}
+use Rattle.answer.specs.declared.Refusal.the-variants.{NotAccepted}
+use Rattle.answer.specs.declared.Answer.the-variants.{Done, Refused}
+use Rattle.table_whole.specs.Table.{Table}
+use Rattle.table_whole.specs.Bytes.{tableBytes}
+use Rattle.table_whole.specs.Allowed.{Allowed}
+use Rattle.table_whole.specs.Memory.{memoryOf}
+use Rattle.site.specs.declared.Step.{Step}
+use Rattle.site.specs.Call.{nothingOf}
+use Rattle.call_start.specs.Fresh.{fresh, primaryOf, noSite}
+
+-- each limit of a start value; the primary is one of the links, or 4294967295 where there is none
+pub record Within (links primary period first time : ℕ) : Type 0 where
+  pub fewest-links : 1 ≤ links
+  pub most-links : links ≤ 4
+  pub a-link-or-none : (primary < links) ⊎ (primary ≡ 4294967295)
+  pub shortest-period : 1 ≤ period
+  pub longest-period : period ≤ 3600
+  pub highest-first : first ≤ 4294967295
+  pub latest : time ≤ 253402300799999
+
+pub data Starts (b : List ℕ) (links primary period first time : ℕ) : Step → Type 0 where
+  starts : {t : Table} → Allowed t → tableBytes t ≡ b → Within links primary period first time
+      → Starts b links primary period first time (record { site = fresh (memoryOf t) links (primaryOf primary) period first time; answer = Done nothingOf })
+  refuses : ((t : Table) → Allowed t → tableBytes t ≡ b → Within links primary period first time → ⊥)
+      → Starts b links primary period first time (record { site = noSite; answer = Refused NotAccepted })

@@ -1,0 +1,13 @@
+-- Where the loop over the places ends.
+-- Assumes nothing.
+use Prim.Native.Nat.{ℕ}
+use mathlib.Core.Path.{_≡_, ap}
+use mathlib.Core.List.{List}
+use Rattle.status.specs.declared.Status.{Status}
+use Rattle.subscription.specs.declared.Subscription.{Subscription}
+use Rattle.call_records.specs.Upwards.{entriesTo}
+use Rattle.call_tick.specs.Intervals.{recordAt, recordsOf}
+
+pub all-places : (xs : List Subscription) (ks : List Status) (time n : ℕ) → n ≡ 128 → entriesTo (recordAt xs ks time) n ≡ recordsOf xs ks time
+unfolding recordsOf
+all-places xs ks time n e = ap (entriesTo (recordAt xs ks time)) e

@@ -1,0 +1,17 @@
+-- `call_tick::closing::late` meets its contract.
+-- Assumes nothing.
+use borrow.Author.Needs.{needs}
+use Rattle.call_tick.proofs.closing.late.Statement.{statement}
+use Rattle.call_tick.proofs.closing.late.Tie as tie
+
+link-requires : tie.Need-link-requires
+link-requires c κs = search needs
+
+late-requires : tie.Need-late-requires
+late-requires c κs = search needs
+
+returns : tie.Need-returns
+returns c = rw (← c .before .link .ensures) (c .late .ensures)
+
+pub late-spec : {M : Type 1} → statement M
+late-spec = tie.close (tie.spec link-requires late-requires returns)

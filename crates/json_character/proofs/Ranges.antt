@@ -1,0 +1,8 @@
+-- A number of a range is in a wider one.
+-- Assumes nothing.
+use Prim.Native.Nat.{ℕ, _≤_}
+use native.Mathlib.Omega.{arith}
+use Rattle.json_character.specs.Utf8.{In}
+
+pub between : {low high low′ high′ b : ℕ} → In low high b → low′ ≤ low → high ≤ high′ → In low′ high′ b
+between i h g = record { from = omega arith; to = omega arith }

@@ -1,0 +1,88 @@
+-- `json_character::hex4` meets its contract.
+-- Assumes nothing.
+use native.Mathlib.Omega.{arith}
+use Rattle.json_character.proofs.Laws.{digits, no-digit-1, no-digit-2, no-digit-3, no-digit-4}
+use Rattle.json_character.specs.Char.{hex4Of}
+use borrow.Author.Needs.{needs}
+use Rattle.json_character.proofs.hex4.Statement.{statement}
+use Rattle.json_character.proofs.hex4.Tie as tie
+
+hex-requires : tie.Need-hex-requires
+hex-requires c κs = search needs
+
+hex-requires-2 : tie.Need-hex-requires-2
+hex-requires-2 c κs = search needs
+
+hex-requires-3 : tie.Need-hex-requires-3
+hex-requires-3 c κs = search needs
+
+hex-requires-4 : tie.Need-hex-requires-4
+hex-requires-4 c κs = search needs
+
+mul-result : tie.Need-mul-result
+mul-result c = search needs
+
+mul-result-2 : tie.Need-mul-result-2
+mul-result-2 c = search needs
+
+add-result : tie.Need-add-result
+add-result c = search needs
+
+mul-result-3 : tie.Need-mul-result-3
+mul-result-3 c = search needs
+
+add-result-2 : tie.Need-add-result-2
+add-result-2 c = search needs
+
+add-result-3 : tie.Need-add-result-3
+add-result-3 c = search needs
+
+returns : tie.Need-returns
+unfolding hex4Of
+returns c =
+    let a = c .before .before .before .before .before .before .before .before .args in
+    cc (digits (a .a) (a .b) (a .c) (a .d) (omega arith) (omega arith) (omega arith) (omega arith))
+
+returns-2 : tie.Need-returns-2
+unfolding hex4Of
+returns-2 c =
+    let a = c .before .before .before .before .before .before .before .before .args in
+    cc (no-digit-4 (a .a) (a .b) (a .c) (a .d) (omega arith) (omega arith) (omega arith) (omega arith))
+
+returns-3 : tie.Need-returns-3
+unfolding hex4Of
+returns-3 c =
+    let a = c .before .before .before .before .before .before .before .args in
+    cc (no-digit-3 (a .a) (a .b) (a .c) (a .d) (omega arith) (omega arith) (omega arith))
+
+returns-4 : tie.Need-returns-4
+unfolding hex4Of
+returns-4 c =
+    let a = c .before .before .before .before .before .before .args in
+    cc (no-digit-2 (a .a) (a .b) (a .c) (a .d) (omega arith) (omega arith))
+
+returns-5 : tie.Need-returns-5
+unfolding hex4Of
+returns-5 c =
+    let a = c .before .before .before .before .before .args in
+    cc (no-digit-1 (a .a) (a .b) (a .c) (a .d) (omega arith))
+
+pub hex4-spec : {M : Type 1} → statement M
+hex4-spec =
+    tie.close
+    (tie.spec
+    hex-requires
+    hex-requires-2
+    hex-requires-3
+    hex-requires-4
+    mul-result
+    mul-result-2
+    add-result
+    mul-result-3
+    add-result-2
+    add-result-3
+    returns
+    returns-2
+    returns-3
+    returns-4
+    returns-5)

@@ -1,0 +1,79 @@
+-- Members and elements of a meaning, and what it is that a place found shows them.
+-- Assumes nothing.
+use Prim.Native.Nat.{ℕ, zero, suc}
+use mathlib.Core.List.{List}
+use Rattle.basis.specs.Lists.{sameBytes}
+use Rattle.basis.specs.Pick.{pick}
+use Rattle.json_text.specs.declared.Read.{Read}
+use Rattle.json_text.specs.declared.Read.the-variants.{End, Bad}
+use Rattle.json_value.specs.Grammar.{Json, Jsons, Members}
+use Rattle.json_value.specs.Grammar.Json.{null, bool, num, str, arr, obj}
+use Rattle.json_value.specs.Grammar.Jsons.{jnil, jcons}
+use Rattle.json_value.specs.Grammar.Members.{mnil, mcons}
+use Rattle.json_value.specs.Means.{Means}
+
+pub data Found : Type 0 where
+  found : Json → Found
+  missing : Found
+
+-- what has no members has none
+abbrev pub membersIn : Json → Members
+membersIn null = mnil
+membersIn (bool b) = mnil
+membersIn (num d) = mnil
+membersIn (str d) = mnil
+membersIn (arr js) = mnil
+membersIn (obj ms) = ms
+
+abbrev pub elementsIn : Json → Jsons
+elementsIn null = jnil
+elementsIn (bool b) = jnil
+elementsIn (num d) = jnil
+elementsIn (str d) = jnil
+elementsIn (arr js) = js
+elementsIn (obj ms) = jnil
+
+abbrev pub named : List ℕ → Members → Found
+named name mnil = missing
+named name (mcons d j ms) = pick (sameBytes d name) (found j) (named name ms)
+
+abbrev pub nthElement : ℕ → Jsons → Found
+nthElement k jnil = missing
+nthElement zero (jcons j js) = found j
+nthElement (suc k) (jcons j js) = nthElement k js
+
+abbrev pub nthName : ℕ → Members → Found
+nthName k mnil = missing
+nthName zero (mcons d j ms) = found (str d)
+nthName (suc k) (mcons d j ms) = nthName k ms
+
+abbrev pub nthValue : ℕ → Members → Found
+nthValue k mnil = missing
+nthValue zero (mcons d j ms) = found j
+nthValue (suc k) (mcons d j ms) = nthValue k ms
+
+abbrev pub countElements : Jsons → ℕ
+countElements jnil = zero
+countElements (jcons j js) = suc (countElements js)
+
+abbrev pub countMembers : Members → ℕ
+countMembers mnil = zero
+countMembers (mcons d j ms) = suc (countMembers ms)
+
+-- the member of a name, the k-th element, the k-th member's name and value
+abbrev pub member : List ℕ → Json → Found
+member name j = named name (membersIn j)
+
+abbrev pub element : ℕ → Json → Found
+element k j = nthElement k (elementsIn j)
+
+abbrev pub memberName : ℕ → Json → Found
+memberName k j = nthName k (membersIn j)
+
+abbrev pub memberValue : ℕ → Json → Found
+memberValue k j = nthValue k (membersIn j)
+
+-- an answer shows what is found: `End p`, and the place p means it; `Bad`, and it is missing
+pub data Shows (s : List ℕ) : Read → Found → Type 0 where
+  shown : {p : ℕ} {j : Json} → Means s p j → Shows s (End p) (found j)
+  absent : Shows s Bad missing

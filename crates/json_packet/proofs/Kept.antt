@@ -1,0 +1,23 @@
+-- The claims about packets are kept.
+-- Assumes nothing.
+use mathlib.Core.Path.{_≡_, sym, _∙_}
+use mathlib.Core.Bool.{true, false, false≢true}
+use mathlib.Core.List.{List}
+use Prim.Native.Nat.{ℕ}
+use Rattle.json_value.specs.Grammar.{Json}
+use Rattle.json_packet.specs.Packet.{Packet, isPacket}
+use Rattle.json_packet.specs.Claims.{Claims}
+use Rattle.json_packet.proofs.Whole as Whole
+
+pub refused : {s : List ℕ} {j : Json} → isPacket s ≡ false → Packet s j → ⊥
+refused e p = false≢true (sym e ∙ Whole.complete p .0)
+
+pub kept : Claims
+kept =
+    record {
+      sound = Whole.sound;
+      complete = Whole.complete;
+      refused = refused;
+      meaning-once = Whole.meaning-once;
+      means = Whole.means;
+    }

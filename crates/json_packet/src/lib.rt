@@ -1,0 +1,99 @@
+// Whether a slice is a packet: one JSON object of at most eight levels with no name twice in an object.
+use json_sure::Judged;
+use json_text::Read;
+ghost use mathlib.Core.Path.{_≡_};
+ghost use Prim.Native.Nat.{_+_, _<_};
+ghost use lib.ListN.{length, drop};
+ghost use Rattle.json_text.specs.Decoded.{decoded};
+ghost use Rattle.json_text.specs.Ends.{Ends};
+ghost use Rattle.json_packet.specs.Scan.{sameString, again, readToken, scan};
+ghost use Rattle.json_packet.specs.Packet.{isPacket};
+
+const LEVELS: u8 = 8;
+
+// Whether at q stands a string with the characters that begin at p.
+fn same_string(s: &[u8], p: usize, q: usize) -> bool
+    ensures { λ r. ⌜ r ≡ sameString (decoded (drop p (now (s .entry)))) (drop q (now (s .entry))) ⌝ }
+{
+    if s.len() <= q {
+        return false;
+    }
+    if s[q] != b'"' {
+        return false;
+    }
+    json_text::same(s, p, q + 1)
+}
+
+// Whether the string at a place is the name of a member, and of a later one in the same object too.
+fn is_again(s: &[u8], at: usize) -> bool
+    requires { ⌜ at < length (now s) ⌝ }
+    ensures { λ r. ⌜ r ≡ again (drop (at + 1) (now (s .entry))) (drop at (now (s .entry))) ⌝ }
+{
+    let p = at + 1;
+    let mut i = at;
+    loop {
+        let m = json_find::step(s, i, b'}');
+        match m {
+            Read::Bad => return false,
+            Read::End(e) => {
+                if same_string(s, p, json_value::space(s, e)) {
+                    return true;
+                }
+                i = e;
+            }
+        }
+    }
+}
+
+// The place after the string or the byte at a place, unless the string is a name again.
+fn token(s: &[u8], at: usize) -> Read
+    requires { ⌜ at < length (now s) ⌝ }
+    ensures { λ r. ⌜ Ends (now (s .entry)) at (readToken (drop at (now (s .entry)))) r ⌝ }
+{
+    if s[at] != b'"' {
+        return Read::End(at + 1);
+    }
+    if is_again(s, at) {
+        return Read::Bad;
+    }
+    json_text::chars(s, at + 1)
+}
+
+fn names_once(s: &[u8]) -> bool
+    ensures { λ r. ⌜ r ≡ scan (now (s .entry)) ⌝ }
+{
+    let mut i = 0;
+    while i < s.len() {
+        let t = token(s, i);
+        match t {
+            Read::Bad => return false,
+            Read::End(e) => i = e,
+        }
+    }
+    true
+}
+
+pub fn is_packet(s: &[u8]) -> bool
+    ensures { λ r. ⌜ r ≡ isPacket (now (s .entry)) ⌝ }
+{
+    let i = json_value::space(s, 0);
+    if s.len() <= i {
+        return false;
+    }
+    if s[i] != b'{' {
+        return false;
+    }
+    let v = json_sure::value(s, i, LEVELS);
+    match v {
+        Judged::Bad => false,
+        Judged::End(e, sure) => {
+            if json_value::space(s, e) < s.len() {
+                return false;
+            }
+            if sure {
+                return true;
+            }
+            names_once(s)
+        }
+    }
+}

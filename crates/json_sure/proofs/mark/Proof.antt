@@ -1,0 +1,103 @@
+-- `json_sure::mark` meets its contract.
+-- Assumes nothing.
+use Prim.Native.Nat.{_<_, _-_}
+use mathlib.Core.Path.{_≡_, refl, _∙_, sym}
+use native.Mathlib.Omega.{arith}
+use borrow.Author.Needs.{needs}
+use lib.ListN.{length, drop}
+use denote.Ref.{now}
+use Rattle.json_text.specs.Decoded.{decoded}
+use Rattle.json_text.proofs.Texts.{one-in}
+use Rattle.json_sure.specs.Sure.{markRead}
+use Rattle.json_sure.proofs.Marks.{mark-one, mark-close, mark-bad}
+use Rattle.json_sure.proofs.mark.Statement.{statement}
+use Rattle.json_sure.proofs.mark.Tie as tie
+
+abbrev Inv-loop : tie.InvT-loop
+Inv-loop s at i₀ h₀ i h = (h < 128) × (markRead 0 (decoded (drop at s)) ≡ markRead h (decoded (drop i s)))
+
+abbrev μ-loop : tie.MeasureT-loop
+μ-loop s at i₀ h₀ i h = length s - i
+
+loop-holds : tie.Need-loop-holds Inv-loop μ-loop
+loop-holds c = (omega arith, refl)
+
+step-requires : tie.Need-step-requires Inv-loop μ-loop
+step-requires c κs = search needs
+
+enum-known-c : tie.Need-enum-known-c Inv-loop μ-loop
+enum-known-c c = search needs
+
+mul-h : tie.Need-mul-h Inv-loop μ-loop
+mul-h c = omega arith
+
+add-h : tie.Need-add-h Inv-loop μ-loop
+add-h c = omega arith
+
+add-i : tie.Need-add-i Inv-loop μ-loop
+add-i c =
+    let l = c .before .before .before .before in
+    let s = now (l .before .before .args .s) in
+    let e = sym (c .before .c .given .1) ∙ c .before .before .before .step .ensures in
+    omega (arith, one-in s (l .loop .i) _ _ e)
+
+add-i-2 : tie.Need-add-i-2 Inv-loop μ-loop
+add-i-2 c =
+    let l = c .before .before .before .before in
+    let s = now (l .before .before .args .s) in
+    let e = sym (c .before .c .given .1) ∙ c .before .before .before .step .ensures in
+    omega (arith, one-in s (l .loop .i) _ _ e)
+
+loop-less : tie.Need-loop-less Inv-loop μ-loop
+loop-less c =
+    let l = c .before .before .before .before in
+    let s = now (l .before .before .args .s) in
+    let e = sym (c .before .c .given .1) ∙ c .before .before .before .step .ensures in
+    omega (arith, one-in s (l .loop .i) _ _ e)
+
+loop-again : tie.Need-loop-again Inv-loop μ-loop
+loop-again c =
+    let l = c .before .before .before .before in
+    let s = now (l .before .before .args .s) in
+    let e = sym (c .before .c .given .1) ∙ c .before .before .before .step .ensures in
+    (omega arith, l .loop .inv .1 ∙ mark-one s (l .loop .i) (l .loop .h) _ _ e)
+
+enum-told : tie.Need-enum-told Inv-loop μ-loop
+enum-told c = search needs
+
+returns : tie.Need-returns Inv-loop μ-loop
+returns c =
+    let l = c .before .before .before in
+    let s = now (l .before .before .args .s) in
+    let e = sym (c .enum-told .given .1) ∙ c .before .before .step .ensures in
+    sym (l .loop .inv .1 ∙ mark-close s (l .loop .i) (l .loop .h) e)
+
+enum-told-2 : tie.Need-enum-told-2 Inv-loop μ-loop
+enum-told-2 c = search needs
+
+returns-2 : tie.Need-returns-2 Inv-loop μ-loop
+returns-2 c =
+    let l = c .before .before .before in
+    let s = now (l .before .before .args .s) in
+    let e = sym (c .enum-told2 .given .1) ∙ c .before .before .step .ensures in
+    sym (l .loop .inv .1 ∙ mark-bad s (l .loop .i) (l .loop .h) e)
+
+pub mark-spec : {M : Type 1} → statement M
+mark-spec =
+    tie.close
+    (tie.spec
+    Inv-loop
+    μ-loop
+    loop-holds
+    step-requires
+    enum-known-c
+    mul-h
+    add-h
+    add-i
+    add-i-2
+    loop-less
+    loop-again
+    enum-told
+    returns
+    enum-told-2
+    returns-2)

@@ -1,0 +1,75 @@
+-- Plain characters are passed over one by one.
+-- Assumes nothing.
+use Prim.Native.Nat.{ℕ, zero, suc, _+_, _<_, _≤_}
+use mathlib.Core.Path.{_≡_, refl, sym}
+use mathlib.Core.Bool.{true, false}
+use mathlib.Core.List.{List}
+use native.Mathlib.Omega.{arith}
+use native.Mathlib.Nat.{add-zero}
+use mathlib.Core.Logic.{⊎-elim}
+use Rattle.basis.proofs.Cases.{bool-cases, lt-or-ge}
+use lib.ListN.{length, getD, drop}
+use Rattle.json_character.specs.Char.{isPlain}
+use Rattle.json_character.proofs.Lists.{next, past}
+use Rattle.json_character.proofs.Laws.{at-plain, at-close}
+use Rattle.json_text.specs.declared.Read.{Read}
+use Rattle.json_text.specs.declared.Read.the-variants as Read
+use Rattle.json_text.specs.Decoded.{decoded}
+use Rattle.json_text.specs.Ends.{Ends}
+use Rattle.json_text.specs.Ends.Ends.{ends}
+use Rattle.json_text.specs.Run.{run}
+use Rattle.json_text.proofs.Texts.{one, close, close-in, pushed}
+
+module _ (s : List ℕ) (i : ℕ) where
+  pub run-past : length s ≤ i → run (drop i s) ≡ 0
+  unfolding run
+  run-past h = rw (past s i h)
+
+  pub run-stop : i < length s → isPlain (getD s i 0) ≡ false → run (drop i s) ≡ 0
+  unfolding run
+  run-stop h e = rw (next s i h, e)
+
+  pub run-on : i < length s → isPlain (getD s i 0) ≡ true → run (drop i s) ≡ suc (run (drop (i + 1) s))
+  unfolding run
+  run-on h e = rw (next s i h, e)
+
+  passed : isPlain (getD s i 0) ≡ true → (r : Read) → Ends s (i + 1) (decoded (drop (i + 1) s)) r → Ends s i (decoded (drop i s)) r
+  passed p r x = rw (one s i (getD s i 0) 0 (sym (at-plain s i p))) (pushed (getD s i 0) step x)
+    where
+      step : i ≤ i + 1
+      step = omega arith
+
+-- whatever answers after the run answers before it
+pub run-ends : (s : List ℕ) (n i : ℕ) → run (drop i s) ≡ n → (r : Read) → Ends s (i + n) (decoded (drop (i + n) s)) r → Ends s i (decoded (drop i s)) r
+run-ends s zero i e r x = rw (add-zero i) at x
+run-ends s (suc n) i e r x = ⊎-elim (λ h. bool-cases (isPlain (getD s i 0)) (on (run-ends s n (i + 1)) h) (stop h)) beyond (lt-or-ge i (length s))
+  where
+    shift : i + suc n ≡ i + 1 + n
+    shift = omega arith
+
+    on : (run (drop (i + 1) s) ≡ n → (q : Read) → Ends s (i + 1 + n) (decoded (drop (i + 1 + n) s)) q → Ends s (i + 1) (decoded (drop (i + 1) s)) q) → i < length s → isPlain (getD s i 0) ≡ true → Ends s i (decoded (drop i s)) r
+    on ih h p = passed s i p r (ih (omega (arith, run-on s i h p)) r (rw shift at x))
+
+    stop : i < length s → isPlain (getD s i 0) ≡ false → Ends s i (decoded (drop i s)) r
+    stop h p = absurd (omega (arith, run-stop s i h p))
+
+    beyond : length s ≤ i → Ends s i (decoded (drop i s)) r
+    beyond h = absurd (omega (arith, run-past s i h))
+
+-- k is the place after the run at i
+module _ (s : List ℕ) (i k : ℕ) (p : k ≡ i + run (drop i s)) where
+  pub run-to : (r : Read) → Ends s k (decoded (drop k s)) r → Ends s i (decoded (drop i s)) r
+  run-to r x = run-ends s (run (drop i s)) i refl r (rw p at x)
+
+  module _ (q : getD s k 0 ≡ 0x22) where
+    pub quote-in : k < length s
+    quote-in = close-in s k (sym (at-close s k q))
+
+    pub run-close : Ends s i (decoded (drop i s)) (Read.End (k + 1))
+    run-close = run-to (Read.End (k + 1)) (rw (close s k (sym (at-close s k q))) (ends (k + 1) on quote-in′))
+      where
+        on : k ≤ k + 1
+        on = omega arith
+
+        quote-in′ : k + 1 ≤ length s
+        quote-in′ = omega (arith, close-in s k (sym (at-close s k q)))

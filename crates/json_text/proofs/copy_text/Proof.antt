@@ -1,0 +1,164 @@
+-- `json_text::copy_text` meets its contract.
+-- Assumes nothing.
+use Prim.Native.Nat.{_-_}
+use mathlib.Core.Path.{_≡_, refl, _∙_, sym}
+use native.Mathlib.Omega.{arith}
+use borrow.Author.Needs.{needs}
+use lib.ListN.{length, drop, replicate}
+use denote.Ref.{now}
+use Rattle.json_text.specs.Decoded.{decoded}
+use Rattle.json_text.proofs.Texts.{one-in}
+use Rattle.json_text.proofs.Copies.{fillOf, filled, copy-one, copy-long, copy-full, copy-other, copy-close, copy-bad}
+use Rattle.json_text.proofs.copy_text.Statement.{statement}
+use Rattle.json_text.proofs.copy_text.Tie as tie
+
+abbrev Inv-loop : tie.InvT-loop
+Inv-loop s at most bytes₀ k₀ i₀ bytes k i = fillOf most bytes k (decoded (drop i s)) ≡ fillOf most (replicate 36 0) 0 (decoded (drop at s))
+
+abbrev μ-loop : tie.MeasureT-loop
+μ-loop s at most bytes₀ k₀ i₀ bytes k i = length s - i
+
+loop-holds : tie.Need-loop-holds Inv-loop μ-loop
+loop-holds c = refl
+
+step-requires : tie.Need-step-requires Inv-loop μ-loop
+step-requires c κs = search needs
+
+enum-known-c : tie.Need-enum-known-c Inv-loop μ-loop
+enum-known-c c = search needs
+
+no-copy-requires : tie.Need-no-copy-requires Inv-loop μ-loop
+no-copy-requires c κs = search needs
+
+returns : tie.Need-returns Inv-loop μ-loop
+returns c =
+    let l = c .before .before .before .before .before .before in
+    let a = l .before .before .args in
+    let s = now (a .s) in
+    let v = l .loop in
+    let e = sym (c .before .before .before .c .given .1) ∙ c .before .before .before .before .before .step .ensures in
+    c .no-copy .ensures ∙ copy-long (a .most) (v .bytes) (v .k) s (v .i) _ _ e (c .before .if1 .taken) ∙ v .inv ∙ filled (a .most) (decoded (drop (a .at) s))
+
+no-copy-requires-2 : tie.Need-no-copy-requires-2 Inv-loop μ-loop
+no-copy-requires-2 c κs = search needs
+
+returns-2 : tie.Need-returns-2 Inv-loop μ-loop
+returns-2 c =
+    let l = c .before .before .before .before .before .before .before in
+    let a = l .before .before .args in
+    let s = now (a .s) in
+    let v = l .loop in
+    let e = sym (c .before .before .before .before .c .given .1) ∙ c .before .before .before .before .before .before .step .ensures in
+    c .no-copy2 .ensures ∙ copy-full (a .most) (v .bytes) (v .k) s (v .i) _ _ e (c .before .before .if1 .left) (c .before .if2 .taken) ∙ v .inv ∙ filled (a .most) (decoded (drop (a .at) s))
+
+no-copy-requires-3 : tie.Need-no-copy-requires-3 Inv-loop μ-loop
+no-copy-requires-3 c κs = search needs
+
+returns-3 : tie.Need-returns-3 Inv-loop μ-loop
+returns-3 c =
+    let l = c .before .before .before .before .before .before .before .before in
+    let a = l .before .before .args in
+    let s = now (a .s) in
+    let v = l .loop in
+    let e = sym (c .before .before .before .before .before .c .given .1) ∙ c .before .before .before .before .before .before .before .step .ensures in
+    c .no-copy3 .ensures ∙ copy-other (a .most) (v .bytes) (v .k) s (v .i) _ _ e (c .before .before .before .if1 .left) (c .before .before .if2 .left) (c .before .if3 .taken) ∙ v .inv ∙ filled (a .most) (decoded (drop (a .at) s))
+
+cast-bytes : tie.Need-cast-bytes Inv-loop μ-loop
+cast-bytes c = search needs
+
+array-write-bytes : tie.Need-array-write-bytes Inv-loop μ-loop
+array-write-bytes c = search needs
+
+add-k : tie.Need-add-k Inv-loop μ-loop
+add-k c = search needs
+
+add-i : tie.Need-add-i Inv-loop μ-loop
+add-i c =
+    let l = c .before .before .before .before .before .before .before in
+    let a = l .before .before .args in
+    let s = now (a .s) in
+    let v = l .loop in
+    let e = sym (c .before .before .before .before .c .given .1) ∙ c .before .before .before .before .before .before .step .ensures in
+    omega (arith, one-in s (v .i) _ _ e)
+
+add-i-2 : tie.Need-add-i-2 Inv-loop μ-loop
+add-i-2 c =
+    let l = c .before .before .before .before .before .before .before in
+    let a = l .before .before .args in
+    let s = now (a .s) in
+    let v = l .loop in
+    let e = sym (c .before .before .before .before .c .given .1) ∙ c .before .before .before .before .before .before .step .ensures in
+    omega (arith, one-in s (v .i) _ _ e)
+
+loop-less : tie.Need-loop-less Inv-loop μ-loop
+loop-less c =
+    let l = c .before .before .before .before .before .before .before in
+    let a = l .before .before .args in
+    let s = now (a .s) in
+    let v = l .loop in
+    let e = sym (c .before .before .before .before .c .given .1) ∙ c .before .before .before .before .before .before .step .ensures in
+    omega (arith, one-in s (v .i) _ _ e)
+
+loop-again : tie.Need-loop-again Inv-loop μ-loop
+loop-again c =
+    let l = c .before .before .before .before .before .before .before in
+    let a = l .before .before .args in
+    let s = now (a .s) in
+    let v = l .loop in
+    let e = sym (c .before .before .before .before .c .given .1) ∙ c .before .before .before .before .before .before .step .ensures in
+    copy-one (a .most) (v .bytes) (v .k) s (v .i) _ _ e (c .before .before .if1 .left) (c .before .if2 .left) (c .if3 .left) ∙ v .inv
+
+enum-told : tie.Need-enum-told Inv-loop μ-loop
+enum-told c = search needs
+
+returns-4 : tie.Need-returns-4 Inv-loop μ-loop
+returns-4 c =
+    let l = c .before .before .before in
+    let a = l .before .before .args in
+    let s = now (a .s) in
+    let v = l .loop in
+    let e = sym (c .enum-told .given .1) ∙ c .before .before .step .ensures in
+    sym (copy-close (a .most) (v .bytes) (v .k) s (v .i) e) ∙ v .inv ∙ filled (a .most) (decoded (drop (a .at) s))
+
+enum-told-2 : tie.Need-enum-told-2 Inv-loop μ-loop
+enum-told-2 c = search needs
+
+no-copy-requires-4 : tie.Need-no-copy-requires-4 Inv-loop μ-loop
+no-copy-requires-4 c κs = search needs
+
+returns-5 : tie.Need-returns-5 Inv-loop μ-loop
+returns-5 c =
+    let l = c .before .before .before .before in
+    let a = l .before .before .args in
+    let s = now (a .s) in
+    let v = l .loop in
+    let e = sym (c .before .enum-told2 .given .1) ∙ c .before .before .before .step .ensures in
+    c .no-copy4 .ensures ∙ copy-bad (a .most) (v .bytes) (v .k) s (v .i) e ∙ v .inv ∙ filled (a .most) (decoded (drop (a .at) s))
+
+pub copy-text-spec : {M : Type 1} → statement M
+copy-text-spec =
+    tie.close
+    (tie.spec
+    Inv-loop
+    μ-loop
+    loop-holds
+    step-requires
+    enum-known-c
+    no-copy-requires
+    returns
+    no-copy-requires-2
+    returns-2
+    no-copy-requires-3
+    returns-3
+    cast-bytes
+    array-write-bytes
+    add-k
+    add-i
+    add-i-2
+    loop-less
+    loop-again
+    enum-told
+    returns-4
+    enum-told-2
+    no-copy-requires-4
+    returns-5)

@@ -1,0 +1,60 @@
+-- `json_value::space` meets its contract.
+-- Assumes nothing.
+use Prim.Native.Nat.{_≤_, _-_}
+use mathlib.Core.Path.{_≡_, refl, _∙_, sym}
+use native.Mathlib.Omega.{arith}
+use borrow.Author.Needs.{needs}
+use lib.ListN.{length, drop}
+use Rattle.json_value.specs.Reader.{skipWs}
+use Rattle.json_value.proofs.Steps.{skip-yes, skip-no, skip-end}
+use Rattle.json_value.proofs.space.Statement.{statement}
+use Rattle.json_value.proofs.space.Tie as tie
+
+abbrev Inv-loop : tie.InvT-loop
+Inv-loop s at i₀ i = (at ≤ i) × (at ≤ length s → i ≤ length s) × (skipWs (drop at s) ≡ skipWs (drop i s))
+
+abbrev μ-loop : tie.MeasureT-loop
+μ-loop s at i₀ i = length s - i
+
+loop-holds : tie.Need-loop-holds Inv-loop μ-loop
+loop-holds c = (omega arith, λ h. h, refl)
+
+shared-slice-read-is-space : tie.Need-shared-slice-read-is-space Inv-loop μ-loop
+shared-slice-read-is-space c = omega arith
+
+is-space-requires : tie.Need-is-space-requires Inv-loop μ-loop
+is-space-requires c κs = search needs
+
+add-i : tie.Need-add-i Inv-loop μ-loop
+add-i c = omega arith
+
+loop-less : tie.Need-loop-less Inv-loop μ-loop
+loop-less c = omega arith
+
+loop-again : tie.Need-loop-again Inv-loop μ-loop
+loop-again c =
+    let l = c .before .before .before .before in
+    (omega arith, λ h. omega arith, l .loop .inv .2 ∙ skip-yes _ _ (c .before .before .before .loop-test .taken) (sym (c .before .is-space .ensures) ∙ c .if1 .taken))
+
+returns : tie.Need-returns Inv-loop μ-loop
+returns c =
+    let l = c .before .before .before .before in
+    record { from = l .loop .inv .0; within = l .loop .inv .1; rest = l .loop .inv .2 ∙ skip-no _ _ (c .before .before .before .loop-test .taken) (sym (c .before .is-space .ensures) ∙ c .if1 .left) }
+
+returns-2 : tie.Need-returns-2 Inv-loop μ-loop
+returns-2 c = record { from = c .before .loop .inv .0; within = c .before .loop .inv .1; rest = c .before .loop .inv .2 ∙ skip-end _ _ (c .loop-test .left) }
+
+pub space-spec : {M : Type 1} → statement M
+space-spec =
+    tie.close
+    (tie.spec
+    Inv-loop
+    μ-loop
+    loop-holds
+    shared-slice-read-is-space
+    is-space-requires
+    add-i
+    loop-less
+    loop-again
+    returns
+    returns-2)

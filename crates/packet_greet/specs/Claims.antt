@@ -1,0 +1,55 @@
+-- What is claimed of the answers and of what greets. proofs/Kept.antt proves it.
+-- Assumes nothing.
+use Prim.Native.Nat.{ℕ}
+use mathlib.Core.Path.{_≡_}
+use mathlib.Core.Bool.{Bool, false}
+use mathlib.Core.List.{List}
+use Rattle.basis.specs.Text.{text}
+use Rattle.number.specs.declared.Number.the-variants.{Is}
+use Rattle.answer.specs.Given.Hint.{none, clock}
+use Rattle.identity.specs.declared.Identity.{Identity}
+use Rattle.awaited.specs.declared.Purpose.the-variants.{Entry}
+use Rattle.awaited.specs.declared.Found.the-variants.{For}
+use Rattle.awaited.specs.Awaited.{findOf}
+use Rattle.pool.specs.Pool.{settleOf, numbered}
+use Rattle.pool.specs.declared.Spot.the-variants.{Nowhere}
+use Rattle.link.specs.declared.Role.the-variants.{Primary, Secondary}
+use Rattle.read_head.specs.declared.Verdict.the-variants.{Good}
+use Rattle.read_head.specs.declared.GotTime.{GotTime}
+use Rattle.read_lists.specs.declared.VersionFields.{VersionFields}
+use Rattle.read_versions.specs.declared.Judged.the-variants.{Chosen}
+use Rattle.read_versions.specs.Version.{version, versionOf}
+use Rattle.read_versions.specs.Judge.{judge}
+use Rattle.site.specs.declared.Site.{Site}
+use Rattle.site.specs.Site.{linkAt, roleOf, closeAt, maskOf}
+use Rattle.packet_greet.specs.Answered.{answeredPlan}
+use Rattle.packet_greet.specs.Version.{own, versionTaken}
+use Rattle.packet_greet.specs.Watchdog.{watchdogTaken}
+
+pub record Claims : Type 0 where
+  -- either answer settles the record that its message carried, and no other
+  pub settles : (s : Site) (l : ℕ) (id : Identity) (acknowledged : Bool) (q : ℕ)
+      → findOf (linkAt s l .awaited) id ≡ For (Entry q)
+      → answeredPlan s l id acknowledged .site .pool ≡ settleOf (s .pool) l q
+  -- a late answer for a lost record leaves the pool as it was
+  pub late : (s : Site) (l : ℕ) (id : Identity) (acknowledged : Bool) (q : ℕ)
+      → findOf (linkAt s l .awaited) id ≡ For (Entry q)
+      → numbered (s .pool) l q ≡ Nowhere
+      → answeredPlan s l id acknowledged .site .pool ≡ s .pool
+  -- a Version that fails a check closes the link
+  pub failed : (s : Site) (l : ℕ) (received : List ℕ) (f : VersionFields)
+      → f .verdict ≡ Good
+      → ((v : ℕ) → judge (own s) (f .offer) ≡ Chosen v → ⊥)
+      → (versionTaken s l received f .plan .site ≡ closeAt s l) × (versionTaken s l received f .plan .closed ≡ maskOf l)
+  -- the versions that are judged are those that our Version writes
+  pub older : versionOf (text "3.1.5") ≡ Is (version 3 1 5)
+  pub newer : versionOf (text "3.2") ≡ Is (version 3 2 0)
+  -- only the primary's Watchdog gives a hint, and its time is the hint
+  pub hints : (s : Site) (l : ℕ) (received : List ℕ) (f : GotTime)
+      → roleOf s l ≡ Primary
+      → f .verdict ≡ Good
+      → watchdogTaken s l received f .plan .hint ≡ clock (f .time)
+  pub no-hint : (s : Site) (l : ℕ) (received : List ℕ) (f : GotTime) → roleOf s l ≡ Secondary → watchdogTaken s l received f .plan .hint ≡ none
+  -- neither sends a message of its own
+  pub version-only-answered : (s : Site) (l : ℕ) (received : List ℕ) (f : VersionFields) → versionTaken s l received f .replies ≡ false
+  pub watchdog-only-answered : (s : Site) (l : ℕ) (received : List ℕ) (f : GotTime) → watchdogTaken s l received f .replies ≡ false

@@ -1,0 +1,64 @@
+-- The entries of a StatusResponse, put one by one between its head and its tail.
+-- Assumes nothing.
+use Prim.Native.Nat.{ℕ, zero, suc, _+_}
+use mathlib.Core.Path.{_≡_, refl, sym, ap, subst, _∙_}
+use mathlib.Core.Bool.{Bool, true}
+use mathlib.Core.List.{List, [], _∷_, _++_}
+use native.Mathlib.Numerals.{add-one}
+use native.Mathlib.Omega.{arith}
+use lib.Dec.{eqb}
+use lib.ListN.{length, length-append}
+use Rattle.label.specs.Label.{textOf}
+use Rattle.output.specs.Put.{Wrote}
+use Rattle.output.proofs.Laws.{then}
+use Rattle.write_message.specs.declared.Value.{Value}
+use Rattle.write_message.specs.declared.Told.the-variants.{Response}
+use Rattle.write_message.specs.Message.{Status, status}
+use Rattle.write_message.specs.Pieces.{statusHead, entryPieces, entriesPieces, statusTail, pieces}
+use Rattle.write_message.proofs.Kept.{kept}
+use Rattle.read_lists.specs.declared.StatusEntry.{StatusEntry}
+use Rattle.read_lists.specs.declared.StatusFields.{StatusFields}
+use Rattle.packet_lookup.specs.declared.Sought.{Sought}
+use Rattle.packet_lookup.specs.Sought.{entryAt}
+use Rattle.site.specs.declared.Site.{Site}
+use Rattle.packet_status.specs.StatusReply.{valueIn, toldOf, toldTo, response}
+
+pub none-told : (xs : List ℕ) (at : ℕ) → Wrote xs at (entriesPieces true []) xs at
+none-told xs at = subst (λ (x : List (List ℕ)). Wrote xs at x xs at) (sym (kept .no-entry)) (record { all = refl })
+
+module _ (s : Site) (component : Sought) where
+  pub one-told : (e : StatusEntry) (first : Bool) {v : Value} {xs ys : List ℕ} {at r : ℕ}
+      → v ≡ valueIn s component e
+      → Wrote xs at (entryPieces first (status (textOf (e .code)) (textOf (e .name)) v)) ys r
+      → Wrote xs at (entryPieces first (toldOf s component e)) ys r
+  unfolding toldOf
+  one-told e first {xs = xs} {ys = ys} {at = at} {r = r} f w =
+      subst (λ (x : Value). Wrote xs at (entryPieces first (status (textOf (e .code)) (textOf (e .name)) x)) ys r) f w
+
+  module _ (entries : List StatusEntry) where
+    told-length : (n : ℕ) → length (toldTo s component entries n) ≡ n
+    told-length zero = refl
+    told-length (suc n) =
+        omega (arith, length-append (toldTo s component entries n) (toldOf s component (entryAt entries n) ∷ []), told-length n)
+
+    pub one-more-told : (i : ℕ) {xs ys zs : List ℕ} {at m r : ℕ}
+        → Wrote xs at (entriesPieces true (toldTo s component entries i)) ys m
+        → Wrote ys m (entryPieces (eqb i 0) (toldOf s component (entryAt entries i))) zs r
+        → Wrote xs at (entriesPieces true (toldTo s component entries (i + 1))) zs r
+    one-more-told i {xs} {ys} {zs} {at} {m} {r} a b =
+        let x = toldOf s component (entryAt entries i) in
+        let first : entryPieces (eqb (length (toldTo s component entries i)) 0) x ≡ entryPieces (eqb i 0) x = ap (λ (n : ℕ). entryPieces (eqb n 0) x) (told-length i) in
+        let all : entriesPieces true (toldTo s component entries i ++ (x ∷ [])) ≡ entriesPieces true (toldTo s component entries i) ++ entryPieces (eqb i 0) x =
+        kept .one-more (toldTo s component entries i) x ∙ ap (λ (p : List (List ℕ)). entriesPieces true (toldTo s component entries i) ++ p) first in
+        rw add-one (subst (λ (p : List (List ℕ)). Wrote xs at p zs r) (sym all) (then a b))
+
+  pub whole-told : (time : ℕ) (id : List ℕ) (f : StatusFields) {xs ys zs ws : List ℕ} {at m n r : ℕ}
+      → Wrote xs at (statusHead Response id (textOf (f .component)) time) ys m
+      → Wrote ys m (entriesPieces true (toldTo s component (f .entries) (f .count))) zs n
+      → Wrote zs n statusTail ws r
+      → Wrote xs at (pieces (response s time id component f)) ws r
+  unfolding response
+  whole-told time id f {xs} {ys} {zs} {ws} {at} {m} {n} {r} a b c =
+      subst (λ (p : List (List ℕ)). Wrote xs at p ws r)
+      (sym (kept .told Response id (textOf (f .component)) time (toldTo s component (f .entries) (f .count))))
+      (then (then a b) c)

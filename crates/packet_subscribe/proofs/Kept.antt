@@ -1,0 +1,102 @@
+-- The claims about StatusSubscribe and StatusUnsubscribe are kept.
+-- Assumes nothing.
+use Prim.Native.Nat.{ℕ, zero, suc, _+_, _<_}
+use mathlib.Core.Path.{_≡_, refl, sym, ap₂, _∙_}
+use mathlib.Core.Bool.{Bool, true, false}
+use mathlib.Core.List.{List, [], _∷_, _++_}
+use native.Mathlib.Numerals.{add-one}
+use native.Mathlib.Omega.{arith}
+use lib.ListN.{length, length-append}
+use Rattle.basis.specs.Pick.{pick, both}
+use Rattle.entry.specs.declared.Entry.{Entry}
+use Rattle.pool_batch.specs.Laws.{Owned}
+use Rattle.read_head.specs.declared.Verdict.{Verdict}
+use Rattle.read_head.specs.declared.Verdict.the-variants.{Good, Missing, Bad}
+use Rattle.read_lists.specs.declared.StatusEntry.{StatusEntry}
+use Rattle.read_lists.specs.declared.StatusFields.{StatusFields}
+use Rattle.packet_lookup.specs.declared.Sought.{Sought}
+use Rattle.packet_lookup.specs.declared.Sought.the-variants.{Is, Nothing}
+use Rattle.packet_lookup.specs.Sought.{componentSought, statusSought, entryAt, isSought, allStatuses}
+use Rattle.site.specs.declared.Site.{Site}
+use Rattle.packet_answer.specs.Taken.{Taken, byVerdict}
+use Rattle.packet_subscribe.specs.Subscribing.{recordOf, records, changed, judged, asked, subscribingTaken}
+use Rattle.packet_subscribe.specs.Claims.{Claims}
+
+both-true : (a b : Bool) → both a b ≡ true → (a ≡ true) × (b ≡ true)
+both-true true b e = (refl, e)
+both-true false b e = (e, absurd (let w : _≡_ {A = ℕ} 0 1 = cc in omega arith))
+
+one : (s : Site) (l time : ℕ) (x : Sought) → isSought x ≡ true → length (recordOf s l time x) ≡ 1
+one s l time (Is k) e = refl
+one s l time Nothing e = absurd (let w : _≡_ {A = ℕ} 0 1 = cc in omega arith)
+
+one-each : (s : Site) (l time c : ℕ) (es : List StatusEntry) (n : ℕ) → allStatuses (s .table) c es n ≡ true → length (records s l time c es n) ≡ n
+one-each s l time c es zero e = refl
+one-each s l time c es (suc n) e =
+    let h = both-true (allStatuses (s .table) c es n) (isSought (statusSought (s .table) c (entryAt es n))) e in
+    length-append (records s l time c es n) (recordOf s l time (statusSought (s .table) c (entryAt es n)))
+    ∙ ap₂ (λ (a b : ℕ). a + b) (one-each s l time c es n (h .0)) (one s l time (statusSought (s .table) c (entryAt es n)) (h .1))
+    ∙ add-one n
+
+owned-append : (xs ys : List Entry) → Owned 4 xs → Owned 4 ys → Owned 4 (xs ++ ys)
+owned-append [] ys g h = h
+owned-append (x ∷ xs) ys g h = (g .0, owned-append xs ys (g .1) h)
+
+owned-one : (s : Site) (l time : ℕ) (x : Sought) → l < 4 → Owned 4 (recordOf s l time x)
+owned-one s l time (Is k) h = (h, tt)
+owned-one s l time Nothing h = tt
+
+owned : (s : Site) (l time c : ℕ) (es : List StatusEntry) (n : ℕ) → l < 4 → Owned 4 (records s l time c es n)
+owned s l time c es zero h = tt
+owned s l time c es (suc n) h =
+    owned-append (records s l time c es n) _ (owned s l time c es n h) (owned-one s l time (statusSought (s .table) c (entryAt es n)) h)
+
+-- what holds of an answer with a reason and of what the packet asks for holds of what it comes to
+ends-judged : (s : Site) (l time : ℕ) (received : List ℕ) (f : StatusFields) (c : ℕ) (b : Bool)
+    → allStatuses (s .table) c (f .entries) (f .count) ≡ b
+    → judged false s l time received f c .plan .issued ≡ []
+unfolding judged changed
+ends-judged s l time received f c true e = rw e refl
+ends-judged s l time received f c false e = rw e refl
+
+ends-asked : (s : Site) (l time : ℕ) (received : List ℕ) (f : StatusFields) (x : Sought) → asked false s l time received f x .plan .issued ≡ []
+ends-asked s l time received f (Is c) = ends-judged s l time received f c _ refl
+ends-asked s l time received f Nothing = refl
+
+ends-by : (v : Verdict) (s : Site) (received : List ℕ) (t : Taken) → t .plan .issued ≡ [] → byVerdict v s received t .plan .issued ≡ []
+ends-by Good s received t e = e
+ends-by Missing s received t e = refl
+ends-by Bad s received t e = refl
+
+ends : (s : Site) (l time : ℕ) (received : List ℕ) (f : StatusFields) → subscribingTaken false s l time received f .plan .issued ≡ []
+unfolding subscribingTaken
+ends s l time received f =
+    ends-by (f .verdict) s received (asked false s l time received f (componentSought (s .table) (f .component)))
+    (ends-asked s l time received f (componentSought (s .table) (f .component)))
+
+silent-judged : (subscribing : Bool) (s : Site) (l time : ℕ) (received : List ℕ) (f : StatusFields) (c : ℕ) (b : Bool)
+    → allStatuses (s .table) c (f .entries) (f .count) ≡ b
+    → judged subscribing s l time received f c .replies ≡ false
+unfolding judged changed
+silent-judged subscribing s l time received f c true e = rw e refl
+silent-judged subscribing s l time received f c false e = rw e refl
+
+silent-asked : (subscribing : Bool) (s : Site) (l time : ℕ) (received : List ℕ) (f : StatusFields) (x : Sought)
+    → asked subscribing s l time received f x .replies ≡ false
+silent-asked subscribing s l time received f (Is c) = silent-judged subscribing s l time received f c _ refl
+silent-asked subscribing s l time received f Nothing = refl
+
+silent-by : (v : Verdict) (s : Site) (received : List ℕ) (t : Taken) → t .replies ≡ false → byVerdict v s received t .replies ≡ false
+silent-by Good s received t e = e
+silent-by Missing s received t e = refl
+silent-by Bad s received t e = refl
+
+only-answered : (subscribing : Bool) (s : Site) (l time : ℕ) (received : List ℕ) (f : StatusFields)
+    → subscribingTaken subscribing s l time received f .replies ≡ false
+unfolding subscribingTaken
+only-answered subscribing s l time received f =
+    silent-by (f .verdict) s received (asked subscribing s l time received f (componentSought (s .table) (f .component)))
+    (silent-asked subscribing s l time received f (componentSought (s .table) (f .component)))
+
+pub kept : Claims
+kept = record { one-each = one-each; owned = owned; ends = ends; only-answered = only-answered }

@@ -1,0 +1,24 @@
+-- What is claimed of StatusSubscribe and StatusUnsubscribe. proofs/Kept.antt proves it.
+-- Assumes nothing.
+use Prim.Native.Nat.{ℕ, _<_}
+use mathlib.Core.Path.{_≡_}
+use mathlib.Core.Bool.{Bool, true, false}
+use mathlib.Core.List.{List, []}
+use lib.ListN.{length}
+use Rattle.pool_batch.specs.Laws.{Owned}
+use Rattle.read_lists.specs.declared.StatusEntry.{StatusEntry}
+use Rattle.read_lists.specs.declared.StatusFields.{StatusFields}
+use Rattle.packet_lookup.specs.Sought.{allStatuses}
+use Rattle.site.specs.declared.Site.{Site}
+use Rattle.packet_subscribe.specs.Subscribing.{records, subscribingTaken}
+
+pub record Claims : Type 0 where
+  -- where all entries are statuses, one record is issued for each
+  pub one-each : (s : Site) (l time c : ℕ) (es : List StatusEntry) (n : ℕ) → allStatuses (s .table) c es n ≡ true → length (records s l time c es n) ≡ n
+  -- all of them are for a link of the site
+  pub owned : (s : Site) (l time c : ℕ) (es : List StatusEntry) (n : ℕ) → l < 4 → Owned 4 (records s l time c es n)
+  -- ending a subscription issues no record
+  pub ends : (s : Site) (l time : ℕ) (received : List ℕ) (f : StatusFields) → subscribingTaken false s l time received f .plan .issued ≡ []
+  -- neither sends a message of its own
+  pub only-answered : (subscribing : Bool) (s : Site) (l time : ℕ) (received : List ℕ) (f : StatusFields)
+      → subscribingTaken subscribing s l time received f .replies ≡ false

@@ -1,0 +1,63 @@
+-- StatusSubscribe and StatusUnsubscribe: the Bool says that it is StatusSubscribe. Entry i of a packet is a status of component c.
+-- Assumes nothing.
+use Prim.Native.Nat.{ℕ, zero, suc, _+_, _*_}
+use mathlib.Core.Bool.{Bool}
+use mathlib.Core.List.{List, [], _∷_, _++_}
+use Rattle.basis.specs.Pick.{pick}
+use Rattle.answer.specs.Given.Hint.{none as noHint}
+use Rattle.entry.specs.declared.Entry.{Entry}
+use Rattle.status.specs.Issued.{issuedOf}
+use Rattle.subscription.specs.declared.Subscription.{Subscription}
+use Rattle.subscription.specs.Subscription.{none, subscribed}
+use Rattle.read_lists.specs.declared.StatusEntry.{StatusEntry}
+use Rattle.read_lists.specs.declared.StatusFields.{StatusFields}
+use Rattle.packet_lookup.specs.declared.Sought.{Sought}
+use Rattle.packet_lookup.specs.declared.Sought.the-variants.{Is, Nothing}
+use Rattle.packet_lookup.specs.Sought.{componentSought, statusSought, entryAt, allStatuses}
+use Rattle.site.specs.declared.Site.{Site}
+use Rattle.site.specs.Parts.{statusAt, withSubscription}
+use Rattle.packet_answer.specs.Taken.{Taken, notAcked, acked, byVerdict, unknownStatus}
+
+-- what an entry asks for, or no subscription
+abbrev pub wanted : Bool → StatusEntry → ℕ → Subscription
+wanted subscribing e time = pick subscribing (subscribed (e .seconds) (e .onchange) time) none
+
+-- "A link has one subscription per status; a new one replaces it"
+abbrev pub replacedAt : Site → ℕ → Subscription → Sought → Site
+replacedAt s l x (Is k) = withSubscription s (l * 32 + k) x
+replacedAt s l x Nothing = s
+
+-- after the first n entries, in order
+abbrev pub replaced : Bool → Site → ℕ → ℕ → ℕ → List StatusEntry → ℕ → Site
+replaced subscribing s l time c es zero = s
+replaced subscribing s l time c es (suc n) =
+    replacedAt (replaced subscribing s l time c es n) l (wanted subscribing (entryAt es n) time) (statusSought (s .table) c (entryAt es n))
+
+-- "A subscription issues a record at once": the status' value now, for the link
+abbrev pub recordOf : Site → ℕ → ℕ → Sought → List Entry
+recordOf s l time (Is k) = issuedOf (statusAt s k) l k time ∷ []
+recordOf s l time Nothing = []
+
+-- of the first n entries, "entries in order"
+abbrev pub records : Site → ℕ → ℕ → ℕ → List StatusEntry → ℕ → List Entry
+records s l time c es zero = []
+records s l time c es (suc n) = records s l time c es n ++ recordOf s l time (statusSought (s .table) c (entryAt es n))
+
+-- every entry is done, and acknowledged
+unfoldable pub changed : Bool → Site → ℕ → ℕ → List ℕ → StatusFields → ℕ → Taken
+changed subscribing s l time received f c =
+    acked (replaced subscribing s l time c (f .entries) (f .count)) (pick subscribing (records s l time c (f .entries) (f .count)) []) received noHint
+
+-- all entries pass or none is done
+unfoldable pub judged : Bool → Site → ℕ → ℕ → List ℕ → StatusFields → ℕ → Taken
+judged subscribing s l time received f c =
+    pick (allStatuses (s .table) c (f .entries) (f .count)) (changed subscribing s l time received f c) (notAcked s received unknownStatus)
+
+-- "in the other status types it is "Unknown status"": a component that is not known
+abbrev pub asked : Bool → Site → ℕ → ℕ → List ℕ → StatusFields → Sought → Taken
+asked subscribing s l time received f (Is c) = judged subscribing s l time received f c
+asked subscribing s l time received f Nothing = notAcked s received unknownStatus
+
+unfoldable pub subscribingTaken : Bool → Site → ℕ → ℕ → List ℕ → StatusFields → Taken
+subscribingTaken subscribing s l time received f =
+    byVerdict (f .verdict) s received (asked subscribing s l time received f (componentSought (s .table) (f .component)))

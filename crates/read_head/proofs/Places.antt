@@ -1,0 +1,44 @@
+-- The element at a place.
+-- Assumes nothing.
+use mathlib.Core.Path.{_≡_, refl, sym, ap, _∙_}
+use mathlib.Core.Bool.{Bool, true, false}
+use mathlib.Core.List.{List, [], _∷_}
+use Prim.Native.Nat.{ℕ, _+_, _≤_, _<_}
+use lib.ListN.{length, drop, getD}
+use borrow.Author.Tests.{eq-eqb, ne-eqb}
+use Rattle.json_text.specs.declared.Read.{Read}
+use Rattle.json_text.specs.declared.Read.the-variants.{End, Bad}
+use Rattle.json_text.specs.Decoded.{Parsed, decoded}
+use Rattle.json_text.specs.Decoded.Parsed.{ok, none}
+use Rattle.json_text.specs.Ends.{Ends}
+use Rattle.json_text.specs.Copied.{noCopy, copyOf}
+use Rattle.json_character.proofs.Lists.{next, past}
+use Rattle.json_text.proofs.Endings.{failed as ends-bad}
+use Rattle.json_value.proofs.Places.{ended}
+use Rattle.json_find.specs.Entries.{memberAt}
+use Rattle.read_head.specs.declared.Element.{Element}
+use Rattle.read_head.specs.Word.{Word, wordHere, wordBehind, wordAt, elementOf}
+use Rattle.read_head.proofs.Copies.{copied-read}
+
+module _ (s : List ℕ) (i : ℕ) where
+  pub value-past : length s ≤ i → record { there = true; copy = noCopy } ≡ elementOf (wordHere (drop i s))
+  unfolding wordHere
+  value-past h = sym (rw (past s i h))
+
+  module _ (h : i < length s) where
+    pub value-other : (getD s i 0 ≡ 0x22 → ⊥) → record { there = true; copy = noCopy } ≡ elementOf (wordHere (drop i s))
+    unfolding wordHere
+    value-other n = sym (rw (next s i h, ne-eqb (getD s i 0) 0x22 n))
+
+    pub value-string : getD s i 0 ≡ 0x22 → record { there = true; copy = copyOf 36 (decoded (drop (i + 1) s)) } ≡ elementOf (wordHere (drop i s))
+    unfolding wordHere
+    value-string e = copied-read (decoded (drop (i + 1) s)) ∙ sym (rw (next s i h, eq-eqb (getD s i 0) 0x22 e))
+
+  module _ (name : List ℕ) where
+    pub missing : Ends s i (memberAt name (drop i s)) Bad → record { there = false; copy = noCopy } ≡ elementOf (wordAt (drop i s) name)
+    unfolding wordAt
+    missing x = sym (rw (ends-bad x))
+
+    pub there : (v : ℕ) → Ends s i (memberAt name (drop i s)) (End v) → elementOf (wordHere (drop v s)) ≡ elementOf (wordAt (drop i s) name)
+    unfolding wordAt
+    there v x = sym (rw (ended x .reads))

@@ -1,0 +1,26 @@
+use borrow.Author.Needs.{needs}
+use mathlib.Core.Path.{_≡_, refl, sym, ap, ap₂, _∙_}
+use Rattle.read_head.specs.Word.{wordOf, wordAt}
+use Rattle.read_head.proofs.Copies.{says, found-at}
+use Rattle.read_head.specs.Values.{gotLabel}
+use Rattle.read_head.proofs.label_in.Statement.{statement}
+use Rattle.read_head.proofs.label_in.Tie as tie
+use Rattle.read_head.proofs.label_in.Reads as reads
+use Rattle.read_head.proofs.label_in.Lts as lts
+use Rattle.read_head.proofs.element_in.Reads as element-in-reads
+use Rattle.read_head.proofs.label_of.Reads as label-of-reads
+
+-- src/lib.rt:298:14
+element-in-requires : tie.Need-element-in-requires
+element-in-requires c κs = search needs
+
+-- src/lib.rt:298:5
+label-of-requires : tie.Need-label-of-requires
+label-of-requires c κs = search needs
+
+-- src/lib.rt:295:1
+returns : tie.Need-returns
+returns c = c .label-of .ensures ∙ ap gotLabel (ap wordOf (c .before .element-in .ensures) ∙ says (found-at _ _))
+
+pub label-in-spec : {M : Type 1} → statement M
+label-in-spec = tie.close (tie.spec element-in-requires label-of-requires returns)

@@ -1,0 +1,14 @@
+use mathlib.Core.Path.{refl}
+use Rattle.json_text.specs.Copied.{noCopy}
+use Rattle.read_head.proofs.no_copy.Statement.{statement}
+use Rattle.read_head.proofs.no_copy.Tie as tie
+use Rattle.read_head.proofs.no_copy.Reads as reads
+use Rattle.read_head.proofs.no_copy.Lts as lts
+
+-- src/lib.rt:100:1
+returns : tie.Need-returns
+unfolding noCopy
+returns c = refl
+
+pub no-copy-spec : {M : Type 1} → statement M
+no-copy-spec = tie.close (tie.spec returns)

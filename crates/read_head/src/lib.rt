@@ -1,0 +1,540 @@
+// What a packet says: its head, and the fields of the messages without lists.
+use calendar::Time;
+use identity::Identity;
+use identity::ReadIdentity;
+use json_text::Copied;
+use json_text::Read;
+use label::Label;
+use names::Found;
+use names::elements;
+use names::types;
+use names::words;
+ghost use mathlib.Core.Path.{_≡_};
+ghost use Prim.Native.Nat.{min};
+ghost use lib.ListN.{drop};
+ghost use Rattle.basis.specs.Lists.{sameBytes};
+ghost use Rattle.names.specs.Names.{nameOf};
+ghost use Rattle.basis.specs.Text.{text};
+ghost use Rattle.json_text.specs.Ends.{Ends};
+ghost use Rattle.json_text.specs.Copied.{noCopy};
+ghost use Rattle.json_find.specs.Entries.{memberAt};
+ghost use Rattle.read_head.specs.Word.{word, wordHere, wordAt, elementOf, wordOf};
+ghost use Rattle.read_head.specs.Values.{worst as worstOf, verdictOf, noText, gotLabel, gotTime, anOrder, gotOrder, orderFor};
+ghost use Rattle.basis.specs.Pick.{pick};
+ghost use Rattle.identity.specs.Read.{notFound};
+ghost use Rattle.read_head.specs.Head.{identityOf, typeOf, kindFor, ignored as ignoredHead, answered as answeredBy, asked as askedBy, headFor, headBy, headAt};
+ghost use Rattle.read_head.specs.Small.{watchdogAt, aggregatedAt, alarmFrom, alarmAt};
+
+// Whether an element is as it must be, and else the reason.
+pub enum Verdict {
+    Good,
+    Missing,
+    Bad,
+}
+
+// What a supervisor orders of an alarm.
+pub enum Order {
+    Request,
+    Acknowledge,
+    Suspend,
+    Resume,
+}
+
+// The types that are taken, besides the two answers.
+pub enum Kind {
+    Version,
+    Watchdog,
+    Alarm,
+    AggregatedStatusRequest,
+    StatusRequest,
+    StatusSubscribe,
+    StatusUnsubscribe,
+    Unexpected,
+}
+
+// An answer, or a request with what its mType is; what is neither is ignored.
+pub enum Class {
+    Ignored,
+    Acked,
+    NotAcked,
+    Asked(Verdict, Kind),
+}
+
+// The 36 characters of a request's mId, as they were received.
+pub struct Received {
+    pub bytes: [u8; 36],
+}
+
+// An answer has the identity that it answers, a request the characters of its own.
+pub struct Head {
+    pub class: Class,
+    pub received: Received,
+    pub identity: Identity,
+}
+
+pub struct GotLabel {
+    pub verdict: Verdict,
+    pub label: Label,
+}
+
+pub struct GotTime {
+    pub verdict: Verdict,
+    pub time: u64,
+}
+
+pub struct GotOrder {
+    pub verdict: Verdict,
+    pub order: Order,
+}
+
+pub struct AlarmFields {
+    pub verdict: Verdict,
+    pub component: Label,
+    pub code: Label,
+    pub order: Order,
+}
+
+// The copy of an element that may be a string.
+pub struct Element {
+    pub there: bool,
+    pub copy: Copied,
+}
+
+fn no_copy() -> Copied
+    ensures { λ r. ⌜ r ≡ noCopy ⌝ }
+{
+    Copied {
+        length: 0,
+        bytes: [0u8; 36],
+        ok: false,
+    }
+}
+
+fn unusable(there: bool) -> Element
+    ensures { λ r. ⌜ r ≡ record { there = there; copy = noCopy } ⌝ }
+{
+    Element {
+        there,
+        copy: no_copy(),
+    }
+}
+
+// The value at a place, copied if it is a string.
+fn value_at(s: &[u8], at: usize) -> Element
+    ensures { λ r. ⌜ r ≡ elementOf (wordHere (drop at (now (s .entry)))) ⌝ }
+{
+    if s.len() <= at {
+        return unusable(true);
+    }
+    if s[at] != b'"' {
+        return unusable(true);
+    }
+    Element {
+        there: true,
+        copy: json_text::copy_text(s, at + 1, 36),
+    }
+}
+
+// The place of the element with name i of the object at a place.
+pub fn lookup(s: &[u8], at: usize, i: usize) -> Read
+    ensures { λ r. ⌜ Ends (now (s .entry)) at (memberAt (nameOf i) (drop at (now (s .entry)))) r ⌝ }
+{
+    let name = names::named(i);
+    let n = name.length;
+    let bytes = name.bytes;
+    json_find::member(s, at, &bytes[0..n])
+}
+
+// The element with name i of the object at a place.
+pub fn element_in(s: &[u8], at: usize, i: usize) -> Element
+    ensures { λ r. ⌜ r ≡ elementOf (wordAt (drop at (now (s .entry))) (nameOf i)) ⌝ }
+{
+    let p = lookup(s, at, i);
+    match p {
+        Read::Bad => unusable(false),
+        Read::End(v) => value_at(s, v),
+    }
+}
+
+fn at_most_36(n: usize) -> usize
+    ensures { λ r. ⌜ r ≡ min n 36 ⌝ }
+{
+    if n <= 36 { n } else { 36 }
+}
+
+fn no_label(v: Verdict) -> GotLabel
+    ensures { λ r. ⌜ r ≡ noText v ⌝ }
+{
+    GotLabel {
+        verdict: v,
+        label: label::none(),
+    }
+}
+
+fn label_text(d: &[u8]) -> GotLabel
+    ensures { λ r. ⌜ r ≡ gotLabel (word (now (d .entry))) ⌝ }
+{
+    if number::is_label(d) {
+        GotLabel {
+            verdict: Verdict::Good,
+            label: label::of(d),
+        }
+    } else {
+        no_label(Verdict::Bad)
+    }
+}
+
+pub fn label_of(e: Element) -> GotLabel
+    ensures { λ r. ⌜ r ≡ gotLabel (wordOf e) ⌝ }
+{
+    if e.there {
+        let c = e.copy;
+        if c.ok {
+            let n = at_most_36(c.length);
+            let bytes = c.bytes;
+            label_text(&bytes[0..n])
+        } else {
+            no_label(Verdict::Bad)
+        }
+    } else {
+        no_label(Verdict::Missing)
+    }
+}
+
+fn time_text(d: &[u8]) -> GotTime
+    ensures { λ r. ⌜ r ≡ gotTime (word (now (d .entry))) ⌝ }
+{
+    let t = calendar::read_time(d);
+    match t {
+        Time::Is(n) => GotTime {
+            verdict: Verdict::Good,
+            time: n,
+        },
+        Time::No => GotTime {
+            verdict: Verdict::Bad,
+            time: 0,
+        },
+    }
+}
+
+fn time_of(e: Element) -> GotTime
+    ensures { λ r. ⌜ r ≡ gotTime (wordOf e) ⌝ }
+{
+    if e.there {
+        let c = e.copy;
+        if c.ok {
+            let n = at_most_36(c.length);
+            let bytes = c.bytes;
+            time_text(&bytes[0..n])
+        } else {
+            GotTime {
+                verdict: Verdict::Bad,
+                time: 0,
+            }
+        }
+    } else {
+        GotTime {
+            verdict: Verdict::Missing,
+            time: 0,
+        }
+    }
+}
+
+fn an_order(verdict: Verdict, order: Order) -> GotOrder
+    ensures { λ r. ⌜ r ≡ anOrder verdict order ⌝ }
+{
+    GotOrder { verdict, order }
+}
+
+fn order_text(d: &[u8]) -> GotOrder
+    ensures { λ r. ⌜ r ≡ orderFor (now (d .entry)) ⌝ }
+{
+    if names::is_name(d, words::REQUEST) {
+        return an_order(Verdict::Good, Order::Request);
+    }
+    if names::is_name(d, words::ACKNOWLEDGE) {
+        return an_order(Verdict::Good, Order::Acknowledge);
+    }
+    if names::is_name(d, words::SUSPEND) {
+        return an_order(Verdict::Good, Order::Suspend);
+    }
+    if names::is_name(d, words::RESUME) {
+        return an_order(Verdict::Good, Order::Resume);
+    }
+    an_order(Verdict::Bad, Order::Request)
+}
+
+fn order_of(e: Element) -> GotOrder
+    ensures { λ r. ⌜ r ≡ gotOrder (wordOf e) ⌝ }
+{
+    if e.there {
+        let c = e.copy;
+        if c.ok {
+            let n = at_most_36(c.length);
+            let bytes = c.bytes;
+            order_text(&bytes[0..n])
+        } else {
+            an_order(Verdict::Bad, Order::Request)
+        }
+    } else {
+        an_order(Verdict::Missing, Order::Request)
+    }
+}
+
+pub fn worst(a: Verdict, b: Verdict) -> Verdict
+    ensures { λ r. ⌜ r ≡ worstOf a b ⌝ }
+{
+    match a {
+        Verdict::Missing => Verdict::Missing,
+        Verdict::Bad => match b {
+            Verdict::Missing => Verdict::Missing,
+            Verdict::Bad => Verdict::Bad,
+            Verdict::Good => Verdict::Bad,
+        },
+        Verdict::Good => b,
+    }
+}
+
+// The used string that is the element with name i of the object at a place.
+pub fn label_in(s: &[u8], at: usize, i: usize) -> GotLabel
+    ensures { λ r. ⌜ r ≡ gotLabel (wordAt (drop at (now (s .entry))) (nameOf i)) ⌝ }
+{
+    label_of(element_in(s, at, i))
+}
+
+// Watchdog.
+pub fn read_watchdog(s: &[u8]) -> GotTime
+    ensures { λ r. ⌜ r ≡ watchdogAt (now (s .entry)) ⌝ }
+{
+    let at = json_value::space(s, 0);
+    time_of(element_in(s, at, elements::W_TS))
+}
+
+// AggregatedStatusRequest.
+pub fn read_aggregated(s: &[u8]) -> GotLabel
+    ensures { λ r. ⌜ r ≡ aggregatedAt (now (s .entry)) ⌝ }
+{
+    let at = json_value::space(s, 0);
+    label_in(s, at, elements::C_ID)
+}
+
+fn order_in(s: &[u8], at: usize) -> GotOrder
+    ensures { λ r. ⌜ r ≡ gotOrder (wordAt (drop at (now (s .entry))) (text "aSp")) ⌝ }
+{
+    order_of(element_in(s, at, elements::A_SP))
+}
+
+// Alarm.
+pub fn read_alarm(s: &[u8]) -> AlarmFields
+    ensures { λ r. ⌜ r ≡ alarmAt (now (s .entry)) ⌝ }
+{
+    let at = json_value::space(s, 0);
+    let component = label_in(s, at, elements::C_ID);
+    let code = label_in(s, at, elements::A_C_ID);
+    let order = order_in(s, at);
+    alarm_of(component, code, order)
+}
+
+fn alarm_of(c: GotLabel, a: GotLabel, o: GotOrder) -> AlarmFields
+    ensures { λ r. ⌜ r ≡ alarmFrom c a o ⌝ }
+{
+    let component = c.label;
+    let code = a.label;
+    let x = c.verdict;
+    let y = a.verdict;
+    let z = o.verdict;
+    let verdict = worst(x, worst(y, z));
+    let order = o.order;
+    AlarmFields {
+        verdict,
+        component,
+        code,
+        order,
+    }
+}
+
+fn no_identity() -> ReadIdentity
+    ensures { λ r. ⌜ r ≡ notFound ⌝ }
+{
+    ReadIdentity {
+        found: false,
+        id: Identity { bytes: [0u8; 16] },
+    }
+}
+
+fn identity_of(e: Element) -> ReadIdentity
+    ensures { λ r. ⌜ r ≡ identityOf (wordOf e) ⌝ }
+{
+    if e.there {
+        let c = e.copy;
+        if c.ok {
+            let n = at_most_36(c.length);
+            let bytes = c.bytes;
+            identity::read_identity(&bytes[0..n])
+        } else {
+            no_identity()
+        }
+    } else {
+        no_identity()
+    }
+}
+
+fn type_of(e: Element) -> Found
+    ensures { λ r. ⌜ r ≡ typeOf (wordOf e) ⌝ }
+{
+    if e.there {
+        let c = e.copy;
+        if c.ok {
+            let n = at_most_36(c.length);
+            let bytes = c.bytes;
+            names::find_type(&bytes[0..n])
+        } else {
+            Found::Nothing
+        }
+    } else {
+        Found::Nothing
+    }
+}
+
+fn name_verdict(d: &[u8], i: usize) -> Verdict
+    ensures { λ r. ⌜ r ≡ pick (sameBytes (now (d .entry)) (nameOf i)) Verdict.Good Verdict.Bad ⌝ }
+{
+    if names::is_name(d, i) {
+        Verdict::Good
+    } else {
+        Verdict::Bad
+    }
+}
+
+// Whether an element is name i.
+fn verdict_of(e: Element, i: usize) -> Verdict
+    ensures { λ r. ⌜ r ≡ verdictOf (λ d. sameBytes d (nameOf i)) (wordOf e) ⌝ }
+{
+    if e.there {
+        let c = e.copy;
+        if c.ok {
+            let n = at_most_36(c.length);
+            let bytes = c.bytes;
+            name_verdict(&bytes[0..n], i)
+        } else {
+            Verdict::Bad
+        }
+    } else {
+        Verdict::Missing
+    }
+}
+
+fn kind_for(i: usize) -> Kind
+    ensures { λ r. ⌜ r ≡ kindFor i ⌝ }
+{
+    if i == types::VERSION {
+        return Kind::Version;
+    }
+    if i == types::WATCHDOG {
+        return Kind::Watchdog;
+    }
+    if i == types::ALARM {
+        return Kind::Alarm;
+    }
+    if i == types::AGGREGATED_STATUS_REQUEST {
+        return Kind::AggregatedStatusRequest;
+    }
+    if i == types::STATUS_REQUEST {
+        return Kind::StatusRequest;
+    }
+    if i == types::STATUS_SUBSCRIBE {
+        return Kind::StatusSubscribe;
+    }
+    if i == types::STATUS_UNSUBSCRIBE {
+        return Kind::StatusUnsubscribe;
+    }
+    Kind::Unexpected
+}
+
+fn ignored() -> Head
+    ensures { λ r. ⌜ r ≡ ignoredHead ⌝ }
+{
+    Head {
+        class: Class::Ignored,
+        received: Received { bytes: [0u8; 36] },
+        identity: Identity { bytes: [0u8; 16] },
+    }
+}
+
+fn answered_with(class: Class, o: ReadIdentity) -> Head
+    ensures { λ r. ⌜ r ≡ answeredBy class Verdict.Good o ⌝ }
+{
+    if o.found {
+        let identity = o.id;
+        Head {
+            class,
+            received: Received { bytes: [0u8; 36] },
+            identity,
+        }
+    } else {
+        ignored()
+    }
+}
+
+fn answered(s: &[u8], at: usize, class: Class, v: Verdict) -> Head
+    ensures { λ r. ⌜ r ≡ answeredBy class v (identityOf (wordAt (drop at (now (s .entry))) (text "oMId"))) ⌝ }
+{
+    match v {
+        Verdict::Good => answered_with(class, identity_of(element_in(s, at, elements::O_M_ID))),
+        Verdict::Missing => ignored(),
+        Verdict::Bad => ignored(),
+    }
+}
+
+fn asked(s: &[u8], at: usize, kind: Kind, v: Verdict) -> Head
+    ensures { λ r. ⌜ r ≡ askedBy kind v (wordAt (drop at (now (s .entry))) (text "mId")) ⌝ }
+{
+    let e = element_in(s, at, elements::M_ID);
+    let o = identity_of(e);
+    if o.found {
+        let c = e.copy;
+        let bytes = c.bytes;
+        Head {
+            class: Class::Asked(v, kind),
+            received: Received { bytes },
+            identity: Identity { bytes: [0u8; 16] },
+        }
+    } else {
+        ignored()
+    }
+}
+
+fn head_for(s: &[u8], at: usize, i: usize, v: Verdict) -> Head
+    ensures { λ r. ⌜ r ≡ headFor i v (wordAt (drop at (now (s .entry)))) ⌝ }
+{
+    if i == types::MESSAGE_ACK {
+        return answered(s, at, Class::Acked, v);
+    }
+    if i == types::MESSAGE_NOT_ACK {
+        return answered(s, at, Class::NotAcked, v);
+    }
+    asked(s, at, kind_for(i), v)
+}
+
+fn head_at(s: &[u8], at: usize) -> Head
+    ensures { λ r. ⌜ r ≡ headBy (wordAt (drop at (now (s .entry)))) ⌝ }
+{
+    let v = verdict_of(element_in(s, at, elements::M_TYPE), words::R_S_MSG);
+    let t = type_of(element_in(s, at, elements::TYPE));
+    match t {
+        Found::At(i) => head_for(s, at, i, v),
+        Found::Nothing => asked(s, at, Kind::Unexpected, v),
+    }
+}
+
+// What kind of packet it is: nothing but a packet is taken.
+pub fn read_head(s: &[u8]) -> Head
+    ensures { λ r. ⌜ r ≡ headAt (now (s .entry)) ⌝ }
+{
+    if json_packet::is_packet(s) {
+        let at = json_value::space(s, 0);
+        head_at(s, at)
+    } else {
+        ignored()
+    }
+}

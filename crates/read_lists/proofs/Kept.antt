@@ -1,0 +1,33 @@
+-- The claims about packets with lists are kept.
+-- Assumes nothing.
+use mathlib.Core.Path.{_≡_, ap, ap₂, _∙_}
+use mathlib.Core.Bool.{Bool}
+use mathlib.Core.List.{List}
+use Prim.Native.Nat.{ℕ}
+use native.Mathlib.Omega.{arith}
+use Rattle.json_value.specs.Grammar.{Json}
+use Rattle.json_value.specs.Reader.{skipWs}
+use Rattle.json_value.proofs.Complete as Complete
+use Rattle.json_packet.specs.Packet.{Packet, packet}
+use Rattle.read_head.specs.Word.{wordIn, wordAt}
+use Rattle.read_head.proofs.Kept.{words}
+use Rattle.read_lists.specs.Items.{listIn, listAt}
+use Rattle.read_lists.specs.Version.{versionBy, versionIn, versionAt}
+use Rattle.read_lists.specs.Status.{statusBy, statusIn, statusAt}
+use Rattle.read_lists.specs.Claims.{Claims}
+use Rattle.read_lists.proofs.Listed.{lists-agree}
+
+-- the lists of a packet are those of its meaning
+pub lists : {s : List ℕ} {j : Json} → Packet s j → listAt (skipWs s) ≡ listIn j
+lists (packet {s} {u} w v x n) = ap listAt (Complete.skip w (Complete.solid u (Complete.begins v))) ∙ lists-agree (omega arith) v
+
+version : {s : List ℕ} {j : Json} → Packet s j → versionAt s ≡ versionIn j
+unfolding versionAt versionIn
+version p = rw (words p, lists p)
+
+status : (subscribing : Bool) {s : List ℕ} {j : Json} → Packet s j → statusAt subscribing s ≡ statusIn subscribing j
+unfolding statusAt statusIn
+status subscribing p = rw (words p, lists p)
+
+pub kept : Claims
+kept = record { version = version; status = status }

@@ -1,0 +1,28 @@
+use borrow.Author.Needs.{needs}
+use mathlib.Core.Path.{_≡_, refl, sym, ap, ap₂, _∙_}
+use Rattle.read_lists.proofs.plain_entry.Statement.{statement}
+use Rattle.read_lists.proofs.plain_entry.Tie as tie
+use Rattle.read_lists.proofs.plain_entry.Reads as reads
+use Rattle.read_lists.proofs.plain_entry.Lts as lts
+use Rattle.read_head.proofs.label_in.Reads as label-in-reads
+use Rattle.read_lists.proofs.entry_of.Reads as entry-of-reads
+
+-- src/lib.rt:462:9
+label-in-requires : tie.Need-label-in-requires
+label-in-requires c κs = search needs
+
+-- src/lib.rt:463:9
+label-in-requires-2 : tie.Need-label-in-requires-2
+label-in-requires-2 c κs = search needs
+
+-- src/lib.rt:468:5
+entry-of-requires : tie.Need-entry-of-requires
+entry-of-requires c κs = search needs
+
+-- src/lib.rt:459:1
+returns : tie.Need-returns
+returns c = c .entry-of .ensures ∙ rw (c .before .before .label-in .ensures, c .before .label-in2 .ensures)
+
+pub plain-entry-spec : {M : Type 1} → statement M
+plain-entry-spec =
+    tie.close (tie.spec label-in-requires label-in-requires-2 entry-of-requires returns)

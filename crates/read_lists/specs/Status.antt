@@ -1,0 +1,94 @@
+-- The fields of the three status types, or the first reason that applies: cId and sS (each entry sCI, n; to subscribe also uRt, sOc).
+-- Assumes nothing.
+use mathlib.Core.Bool.{Bool, true, false}
+use mathlib.Core.List.{List}
+use Prim.Native.Nat.{ℕ, _+_}
+use lib.Dec.{ltb, eqb}
+use lib.ListN.{set, replicate}
+use Rattle.basis.specs.Pick.{pick}
+use Rattle.basis.specs.Text.{text}
+use Rattle.label.specs.Label.{noLabel}
+use Rattle.json_value.specs.Grammar.{Json}
+use Rattle.json_value.specs.Reader.{skipWs}
+use Rattle.read_versions.specs.Numeral.{numberIn}
+use Rattle.read_head.specs.declared.Verdict.{Verdict}
+use Rattle.read_head.specs.declared.Verdict.the-variants.{Good, Missing, Bad}
+use Rattle.read_head.specs.declared.GotLabel.{GotLabel}
+use Rattle.read_head.specs.Word.{Word, absent, other, word, wordIn, wordAt}
+use Rattle.read_head.specs.Values.{worst, gotLabel}
+use Rattle.read_lists.specs.declared.Flag.{Flag}
+use Rattle.read_lists.specs.declared.Flag.the-variants.{Absent, Other, Is}
+use Rattle.read_lists.specs.declared.GotNumber.{GotNumber}
+use Rattle.read_lists.specs.declared.StatusEntry.{StatusEntry}
+use Rattle.read_lists.specs.declared.GotEntry.{GotEntry}
+use Rattle.read_lists.specs.declared.StatusList.{StatusList}
+use Rattle.read_lists.specs.declared.StatusFields.{StatusFields}
+use Rattle.read_lists.specs.Items.{Item, Items, listIn, listAt}
+use Rattle.read_lists.specs.Gather.{gathered}
+use Rattle.read_lists.specs.Version.{oneMore, noNumber, numbered}
+
+-- uRt: decimal text, seconds 0 to 86400 without leading zeros
+abbrev pub gotSeconds : Word → GotNumber
+gotSeconds absent = noNumber Missing
+gotSeconds other = noNumber Bad
+gotSeconds (word d) = numbered (numberIn 86400 d)
+
+-- sOc: a boolean; 0 with false is a Bad value
+abbrev pub changed : ℕ → Flag → Verdict
+changed n Absent = Missing
+changed n Other = Bad
+changed n (Is true) = Good
+changed n (Is false) = pick (eqb n 0) Bad Good
+
+abbrev pub isSet : Flag → Bool
+isSet Absent = false
+isSet Other = false
+isSet (Is b) = b
+
+abbrev pub entryOf : GotLabel → GotLabel → GotNumber → Flag → GotEntry
+entryOf c n u o =
+    record {
+      verdict = worst (worst (c .verdict) (n .verdict)) (worst (u .verdict) (changed (u .number) o));
+      entry = record { code = c .label; name = n .label; seconds = u .number; onchange = isSet o };
+    }
+
+abbrev pub noEntry : StatusEntry
+noEntry = record { code = noLabel; name = noLabel; seconds = 0; onchange = false }
+
+-- without uRt and sOc: as if they said 0 and true
+abbrev pub plainEntry : (List ℕ → Word) → GotEntry
+plainEntry f = entryOf (gotLabel (f (text "sCI"))) (gotLabel (f (text "n"))) (record { verdict = Good; number = 0 }) (Is true)
+
+abbrev pub fullEntry : (List ℕ → Word) → (List ℕ → Flag) → GotEntry
+fullEntry f g = entryOf (gotLabel (f (text "sCI"))) (gotLabel (f (text "n"))) (gotSeconds (f (text "uRt"))) (g (text "sOc"))
+
+abbrev pub entryOfItem : Bool → Item → GotEntry
+entryOfItem subscribing x =
+    pick (x .object) (pick subscribing (fullEntry (x .words) (x .flags)) (plainEntry (x .words))) (record { verdict = Bad; entry = noEntry })
+
+abbrev pub noStatuses : Verdict → StatusList
+noStatuses v = record { verdict = v; count = 0; entries = replicate 16 noEntry }
+
+unfoldable pub pushEntry : StatusList → GotEntry → StatusList
+pushEntry l g =
+    pick (ltb (l .count) 16)
+    (record { verdict = worst (l .verdict) (g .verdict); count = l .count + 1; entries = set (l .entries) (l .count) (g .entry) })
+    (record { verdict = worst (worst (l .verdict) (g .verdict)) Bad; count = l .count; entries = l .entries })
+
+abbrev pub statusesOf : Bool → Items → StatusList
+statusesOf subscribing i =
+    gathered (λ l x. pushEntry l (entryOfItem subscribing x)) (noStatuses Good) (noStatuses Missing) (noStatuses Bad) i
+
+abbrev pub statusFrom : GotLabel → StatusList → StatusFields
+statusFrom c l = record { verdict = worst (c .verdict) (l .verdict); component = c .label; count = l .count; entries = l .entries }
+
+abbrev pub statusBy : Bool → (List ℕ → Word) → (List ℕ → Items) → StatusFields
+statusBy subscribing f g = statusFrom (gotLabel (f (text "cId"))) (statusesOf subscribing (g (text "sS")))
+
+-- of a packet's meaning
+unfoldable pub statusIn : Bool → Json → StatusFields
+statusIn subscribing j = statusBy subscribing (wordIn j) (listIn j)
+
+-- of any text, as the code looks the elements up
+unfoldable pub statusAt : Bool → List ℕ → StatusFields
+statusAt subscribing s = statusBy subscribing (wordAt (skipWs s)) (listAt (skipWs s))

@@ -1,0 +1,91 @@
+use mathlib.Core.Bool.{Bool, true}
+use Rattle.basis.specs.Pick.{pick}
+use Prim.Native.Nat.{_≤_, _<_, _-_, min}
+use mathlib.Core.Path.{_≡_, refl, sym, ap, ap₂, _∙_}
+use native.Mathlib.Omega.{arith}
+use lib.Dec.{eqb}
+use lib.ListN.{length, take, drop, getD}
+use borrow.Author.Needs.{needs}
+use Rattle.read_versions.specs.Judge.{has as hasOf}
+use Rattle.read_versions.proofs.Backwards.{past, back, counted}
+use Rattle.read_versions.proofs.has.Statement.{statement}
+use Rattle.read_versions.proofs.has.Tie as tie
+use Rattle.read_versions.proofs.has.Reads as reads
+use Rattle.read_versions.proofs.has.Lts as lts
+use Rattle.read_versions.proofs.at_most_16.Reads as at-most-16-reads
+use Rattle.read_versions.proofs.either.Reads as either-reads
+
+abbrev Inv-loop : tie.InvT-loop
+Inv-loop n list i₀ found₀ i found = (i ≤ i₀) × (i₀ ≤ 16) × (found ≡ hasOf (drop i (take i₀ list)) n)
+
+abbrev μ-loop : tie.MeasureT-loop
+μ-loop n list i₀ found₀ i found = i
+
+-- src/lib.rt:144:9
+at-most-16-requires : tie.Need-at-most-16-requires Inv-loop μ-loop
+at-most-16-requires c κs = search needs
+
+-- src/lib.rt:146:5
+loop-holds : tie.Need-loop-holds Inv-loop μ-loop
+unfolding hasOf
+loop-holds c =
+    let list = c .before .before .args .v .list in
+    let e : length list ≡ 16 = search needs in
+    let n = c .at-most-16 .ensures in
+    (search needs, omega arith, sym (rw (past list 0 (c .at-most-16 .result) (omega arith))))
+
+-- src/lib.rt:147:9
+sub-i : tie.Need-sub-i Inv-loop μ-loop
+sub-i c = search needs
+
+-- src/lib.rt:148:24
+mul-either : tie.Need-mul-either Inv-loop μ-loop
+mul-either c = search needs
+
+-- src/lib.rt:148:24
+array-read-either : tie.Need-array-read-either Inv-loop μ-loop
+array-read-either c = search needs
+
+-- src/lib.rt:148:9
+either-requires : tie.Need-either-requires Inv-loop μ-loop
+either-requires c κs = search needs
+
+-- src/lib.rt:146:5
+loop-less : tie.Need-loop-less Inv-loop μ-loop
+loop-less c = search needs
+
+-- src/lib.rt:146:5
+loop-again : tie.Need-loop-again Inv-loop μ-loop
+unfolding hasOf
+loop-again c =
+    let l = c .before .before .loop in
+    let n = c .before .before .before .at-most-16 .result in
+    let list = c .before .before .before .before .before .args .v .list in
+    let e : length list ≡ 16 = search needs in
+    (search needs, l .inv .1, c .either .ensures ∙ ap (λ (b : Bool). pick (eqb (getD list (l .i - 1) 0) (c .before .before .before .before .before .args .n)) true b) (l .inv .2) ∙ sym (rw (back list 0 n (omega (arith, l .inv .1)) (l .i) (search needs) (l .inv .0))))
+
+-- src/lib.rt:140:1
+returns : tie.Need-returns Inv-loop μ-loop
+returns c =
+    let l = c .before .loop in
+    let list = c .before .before .before .before .args .v .list in
+    let e : length list ≡ 16 = search needs in
+    let i : l .i ≡ 0 = search needs in
+    let k = counted list (c .before .before .before .before .args .v .count) 16 (c .before .before .at-most-16 .result) e (c .before .before .at-most-16 .ensures) in
+    rw (← k) (rw i at (l .inv .2))
+
+pub has-spec : {M : Type 1} → statement M
+has-spec =
+    tie.close
+    (tie.spec
+    Inv-loop
+    μ-loop
+    at-most-16-requires
+    loop-holds
+    sub-i
+    mul-either
+    array-read-either
+    either-requires
+    loop-less
+    loop-again
+    returns)

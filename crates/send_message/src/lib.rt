@@ -1,0 +1,172 @@
+// The messages that tell a part of the site, put into a lent output.
+ghost use mathlib.Core.Path.{_≡_};
+ghost use Prim.Native.Nat.{_%_};
+ghost use Rattle.output.specs.Put.{Wrote};
+ghost use Rattle.write_message.specs.Pieces.{pieces, entryPieces};
+ghost use Rattle.site.specs.Parts.{alarmRowAt, statusRowAt};
+ghost use Rattle.send_message.specs.Sending.{stateOf, heldState, alarmTold, alarmMessage, aggregatedTold, aggregatedMessage, knownValue, statusValue, heldValue, rowTold, statusTold, entryMessage};
+use alarm::Alarm;
+use entry::Entry;
+use entry::flags;
+use identity::Identity;
+use site::Site;
+use site::parts;
+use status::Status;
+use table_item::Item;
+use write_message::AlarmState;
+use write_message::Value;
+
+// An alarm's states and last event.
+pub fn state_of(a: Alarm, row: Item) -> AlarmState
+    ensures { λ r. ⌜ r ≡ stateOf a row ⌝ }
+{
+    AlarmState {
+        time: a.time,
+        event: a.event,
+        category: row.category,
+        priority: row.priority,
+        acknowledged: a.acknowledged == 1,
+        active: a.active == 1,
+        suspended: a.suspended == 1,
+    }
+}
+
+// The same out of a record.
+fn held_state(e: Entry, row: Item) -> AlarmState
+    ensures { λ r. ⌜ r ≡ heldState e row ⌝ }
+{
+    AlarmState {
+        time: e.time,
+        event: flags::event(e.flags),
+        category: row.category,
+        priority: row.priority,
+        acknowledged: flags::acknowledged(e.flags),
+        active: flags::active(e.flags),
+        suspended: flags::suspended(e.flags),
+    }
+}
+
+fn known_value(w: u32) -> Value
+    ensures { λ r. ⌜ r ≡ knownValue w ⌝ }
+{
+    Value::Recent(number::signed_of(w))
+}
+
+// What is told of a status.
+pub fn status_value(x: Status) -> Value
+    ensures { λ r. ⌜ r ≡ statusValue x ⌝ }
+{
+    if x.known == 1 {
+        return known_value(x.value);
+    }
+    Value::Unknown
+}
+
+// What a record tells of a status.
+fn held_value(e: Entry) -> Value
+    ensures { λ r. ⌜ r ≡ heldValue e ⌝ }
+{
+    if flags::known(e.flags) {
+        return known_value(e.value);
+    }
+    Value::Unknown
+}
+
+// An entry of a StatusResponse or StatusUpdate: a row with its value.
+pub fn write_row(out: &mut [u8], at: usize, first: bool, row: Item, v: Value) -> usize
+    ensures { λ r. ⌜ Wrote (now (out .entry)) at (entryPieces first (rowTold row v)) (now (out .exit)) r ⌝ }
+{
+    let code = row.code;
+    let name = row.name;
+    write_report::status::entry(out, at, first, code, name, v)
+}
+
+fn tell_alarm(
+    out: &mut [u8],
+    at: usize,
+    s: Site,
+    id: Identity,
+    row: Item,
+    state: AlarmState,
+) -> usize
+    ensures { λ r. ⌜ Wrote (now (out .entry)) at (pieces (alarmTold s (id .bytes) row state)) (now (out .exit)) r ⌝ }
+{
+    let component = parts::component(s, row.component as usize);
+    let code = row.code;
+    write_report::alarms::alarm(out, at, id, component, code, state)
+}
+
+// Alarm k as it is.
+pub fn write_alarm(out: &mut [u8], at: usize, s: Site, id: Identity, k: usize) -> usize
+    ensures { λ r. ⌜ Wrote (now (out .entry)) at (pieces (alarmMessage s (id .bytes) k)) (now (out .exit)) r ⌝ }
+{
+    let row = parts::alarm_row(s, k);
+    let state = state_of(parts::alarm(s, k), row);
+    tell_alarm(out, at, s, id, row, state)
+}
+
+fn low_byte(value: u64) -> u8
+    ensures { λ r. ⌜ r ≡ value % 256 ⌝ }
+{
+    bits::low(value, 8) as u8
+}
+
+fn tell_aggregated(out: &mut [u8], at: usize, s: Site, id: Identity, time: u64, value: u64) -> usize
+    ensures { λ r. ⌜ Wrote (now (out .entry)) at (pieces (aggregatedTold s (id .bytes) time value)) (now (out .exit)) r ⌝ }
+{
+    let component = parts::component(s, 0);
+    let byte = low_byte(value);
+    write_report::aggregate::aggregated(out, at, id, component, time, byte)
+}
+
+// The aggregated status as it is, with the time of its last change.
+pub fn write_aggregated(out: &mut [u8], at: usize, s: Site, id: Identity) -> usize
+    ensures { λ r. ⌜ Wrote (now (out .entry)) at (pieces (aggregatedMessage s (id .bytes))) (now (out .exit)) r ⌝ }
+{
+    let a = s.aggregated;
+    tell_aggregated(out, at, s, id, a.time, a.value)
+}
+
+fn tell_status(
+    out: &mut [u8],
+    at: usize,
+    s: Site,
+    id: Identity,
+    row: Item,
+    time: u64,
+    v: Value,
+) -> usize
+    ensures { λ r. ⌜ Wrote (now (out .entry)) at (pieces (statusTold s (id .bytes) row time v)) (now (out .exit)) r ⌝ }
+{
+    let component = parts::component(s, row.component as usize);
+    let code = row.code;
+    let name = row.name;
+    write_report::status::update(out, at, id, component, time, code, name, v)
+}
+
+fn write_held_alarm(out: &mut [u8], at: usize, s: Site, id: Identity, e: Entry) -> usize
+    ensures { λ r. ⌜ Wrote (now (out .entry)) at (pieces (alarmTold s (id .bytes) (alarmRowAt s (e .item)) (heldState e (alarmRowAt s (e .item))))) (now (out .exit)) r ⌝ }
+{
+    let row = parts::alarm_row(s, e.item as usize);
+    tell_alarm(out, at, s, id, row, held_state(e, row))
+}
+
+fn write_held_status(out: &mut [u8], at: usize, s: Site, id: Identity, e: Entry) -> usize
+    ensures { λ r. ⌜ Wrote (now (out .entry)) at (pieces (statusTold s (id .bytes) (statusRowAt s (e .item)) (e .time) (heldValue e))) (now (out .exit)) r ⌝ }
+{
+    let row = parts::status_row(s, e.item as usize);
+    tell_status(out, at, s, id, row, e.time, held_value(e))
+}
+
+// A held record.
+pub fn write_entry(out: &mut [u8], at: usize, s: Site, id: Identity, e: Entry) -> usize
+    ensures { λ r. ⌜ Wrote (now (out .entry)) at (pieces (entryMessage s (id .bytes) e)) (now (out .exit)) r ⌝ }
+{
+    if e.kind == entry::ALARM {
+        return write_held_alarm(out, at, s, id, e);
+    }
+    if e.kind == entry::STATUS {
+        return write_held_status(out, at, s, id, e);
+    }
+    tell_aggregated(out, at, s, id, e.time, e.value as u64)
+}

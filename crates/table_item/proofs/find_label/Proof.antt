@@ -1,0 +1,67 @@
+use Prim.Native.Nat.{_≤_, _-_}
+use mathlib.Core.Path.{_≡_, sym, ap, _∙_}
+use native.Mathlib.Nat.{sub-zero}
+use Rattle.basis.specs.Lists.{sameBytes}
+use Rattle.label.specs.declared.Label.{Label}
+use Rattle.label.specs.Label.{textOf}
+use Rattle.table_item.specs.Find.{firstFrom, labelAt}
+use Rattle.table_item.proofs.First.{stops, goes-on, ends}
+use borrow.Author.Needs.{needs}
+use Rattle.table_item.proofs.find_label.Statement.{statement}
+use Rattle.table_item.proofs.find_label.Tie as tie
+
+abbrev Inv-loop : tie.InvT-loop
+Inv-loop labels count text i₀ i = (i ≤ count) × (firstFrom (labelAt labels text) 0 count ≡ firstFrom (labelAt labels text) i (count - i))
+
+abbrev μ-loop : tie.MeasureT-loop
+μ-loop labels count text i₀ i = count - i
+
+loop-holds : tie.Need-loop-holds Inv-loop μ-loop
+loop-holds c = (search needs, rw sub-zero)
+
+label-in-requires : tie.Need-label-in-requires Inv-loop μ-loop
+label-in-requires c κs = search needs
+
+is-requires : tie.Need-is-requires Inv-loop μ-loop
+is-requires c κs = search needs
+
+returns : tie.Need-returns Inv-loop μ-loop
+returns c =
+    let a = c .before .before .before .before .before .before .args in
+    let l = c .before .before .before .before .loop in
+    let t = ap (λ (l : Label). sameBytes (textOf l) (a .text .now)) (sym (c .before .before .label-in .ensures)) ∙ sym (c .before .is .ensures) ∙ c .if1 .taken in
+    sym (stops (labelAt (a .labels) (a .text .now)) (a .count) (l .i) _ (l .inv .1) (search needs) t)
+
+add-i : tie.Need-add-i Inv-loop μ-loop
+add-i c = search needs
+
+loop-less : tie.Need-loop-less Inv-loop μ-loop
+loop-less c = search needs
+
+loop-again : tie.Need-loop-again Inv-loop μ-loop
+loop-again c =
+    let a = c .before .before .before .before .before .before .args in
+    let l = c .before .before .before .before .loop in
+    let t = ap (λ (l : Label). sameBytes (textOf l) (a .text .now)) (sym (c .before .before .label-in .ensures)) ∙ sym (c .before .is .ensures) ∙ c .if1 .left in
+    (search needs, goes-on (labelAt (a .labels) (a .text .now)) (a .count) (l .i) _ (l .inv .1) (search needs) t)
+
+returns-2 : tie.Need-returns-2 Inv-loop μ-loop
+returns-2 c =
+    let a = c .before .before .before .args in
+    let l = c .before .loop in
+    sym (ends (labelAt (a .labels) (a .text .now)) (a .count) (l .i) _ (l .inv .1) (search needs))
+
+pub find-label-spec : {M : Type 1} → statement M
+find-label-spec =
+    tie.close
+    (tie.spec
+    Inv-loop
+    μ-loop
+    loop-holds
+    label-in-requires
+    is-requires
+    returns
+    add-i
+    loop-less
+    loop-again
+    returns-2)

@@ -1,0 +1,41 @@
+use mathlib.Core.Path.{_≡_, ap, _∙_}
+use lib.ListN.{length}
+use Rattle.label.proofs.Text.{text-part}
+use Rattle.table_item.specs.Find.{findLabel}
+use borrow.Author.Needs.{needs}
+use Rattle.table_item.proofs.find_label_like.Statement.{statement}
+use Rattle.table_item.proofs.find_label_like.Tie as tie
+
+size-requires : tie.Need-size-requires
+size-requires c κs = search needs
+
+sub-find-label : tie.Need-sub-find-label
+sub-find-label c = search needs
+
+part-find-label-start : tie.Need-part-find-label-start
+part-find-label-start c = search needs
+
+part-find-label-end : tie.Need-part-find-label-end
+part-find-label-end c =
+    let e : length (c .before .before .before .args .l .bytes) ≡ 32 = search needs in
+    search needs
+
+find-label-requires : tie.Need-find-label-requires
+find-label-requires c κs = search needs
+
+returns : tie.Need-returns
+returns c =
+    let a = c .before .before .before .before .before .args in
+    let k = text-part (a .l) (search needs) _ (c .before .before .before .before .size .ensures) in
+    c .find-label .ensures ∙ ap (findLabel (a .labels) (a .count)) k
+
+pub find-label-like-spec : {M : Type 1} → statement M
+find-label-like-spec =
+    tie.close
+    (tie.spec
+    size-requires
+    sub-find-label
+    part-find-label-start
+    part-find-label-end
+    find-label-requires
+    returns)

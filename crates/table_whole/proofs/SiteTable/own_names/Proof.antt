@@ -1,0 +1,59 @@
+use mathlib.Core.Path.{sym, _∙_}
+use borrow.Author.Tests.{not-true, not-false}
+use Rattle.table_whole.specs.Reading.{ownNames}
+use borrow.Author.Needs.{needs}
+use Rattle.table_whole.proofs.SiteTable.own_names.Statement.{statement}
+use Rattle.table_whole.proofs.SiteTable.own_names.Tie as tie
+
+wide-requires : tie.Need-wide-requires
+wide-requires c κs = search needs
+
+own-labels-requires : tie.Need-own-labels-requires
+own-labels-requires c κs = search needs
+
+returns : tie.Need-returns
+unfolding ownNames
+returns c = sym (simp (sym (rw (c .before .before .wide .ensures) at (c .before .own-labels .ensures)) ∙ not-true _ (c .if1 .taken)))
+
+wide-requires-2 : tie.Need-wide-requires-2
+wide-requires-2 c κs = search needs
+
+own-items-requires : tie.Need-own-items-requires
+own-items-requires c κs = search needs
+
+returns-2 : tie.Need-returns-2
+unfolding ownNames
+returns-2 c =
+    let p = c .before .before .before .before in
+    let labels = sym (rw (p .before .before .wide .ensures) at (p .before .own-labels .ensures)) ∙ not-false _ (p .if1 .left) in
+    let alarms = sym (rw (c .before .before .wide2 .ensures) at (c .before .own-items .ensures)) ∙ not-true _ (c .if2 .taken) in
+    sym (simp (labels, alarms))
+
+wide-requires-3 : tie.Need-wide-requires-3
+wide-requires-3 c κs = search needs
+
+own-items-requires-2 : tie.Need-own-items-requires-2
+own-items-requires-2 c κs = search needs
+
+returns-3 : tie.Need-returns-3
+unfolding ownNames
+returns-3 c =
+    let q = c .before .before .before in
+    let p = q .before .before .before .before in
+    let labels = sym (rw (p .before .before .wide .ensures) at (p .before .own-labels .ensures)) ∙ not-false _ (p .if1 .left) in
+    let alarms = sym (rw (q .before .before .wide2 .ensures) at (q .before .own-items .ensures)) ∙ not-false _ (q .if2 .left) in
+    simp (labels, alarms) (rw (c .before .wide3 .ensures) at (c .own-items2 .ensures))
+
+pub own-names-spec : {M : Type 1} → statement M
+own-names-spec =
+    tie.close
+    (tie.spec
+    wide-requires
+    own-labels-requires
+    returns
+    wide-requires-2
+    own-items-requires
+    returns-2
+    wide-requires-3
+    own-items-requires-2
+    returns-3)

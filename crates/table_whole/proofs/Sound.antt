@@ -1,0 +1,240 @@
+-- What the reader accepts is the bytes of an allowed table, and what it keeps is that table.
+-- Assumes nothing.
+use mathlib.Core.Path.{_≡_, refl, sym, ap, subst, _∙_}
+use mathlib.Core.Bool.{true}
+use mathlib.Core.List.{List, _++_}
+use mathlib.Core.Logic.{⊎-elim}
+use Prim.Native.Nat.{ℕ, _+_, _≤_, _<_}
+use native.Mathlib.Omega.{arith}
+use lib.ListN.{length, getD, take, length-append}
+use Rattle.basis.proofs.Cases.{bool-cases, le-or-lt}
+use Rattle.bits.specs.Fields.{numberOf}
+use Rattle.label.specs.declared.LabelRead.{LabelRead}
+use Rattle.label.specs.Label.{string, labelOf, noLabel}
+use Rattle.label.specs.Reading.{far, readAt}
+use Rattle.label.proofs.Both.{both-true}
+use Rattle.label.proofs.Stands.{Stands, joined, whole}
+use Rattle.label.proofs.Reading.{Got, read-sound}
+use Rattle.table_item.specs.Item.{noItem}
+use Rattle.table_item.specs.Find.{ownLabels, ownItems}
+use Rattle.table_row.specs.declared.Head.{Head}
+use Rattle.table_row.specs.declared.LabelsRead.{LabelsRead}
+use Rattle.table_row.specs.declared.ItemsRead.{ItemsRead}
+use Rattle.table_row.specs.Head.{goodHead, headOf, noHead}
+use Rattle.table_row.specs.Rows.{labelsTo, itemsTo}
+use Rattle.table_row.proofs.Heads.{head-short, head-bad}
+use Rattle.table_whole.specs.declared.Laid.{Laid}
+use Rattle.table_whole.specs.Table.{Table}
+use Rattle.table_whole.specs.Bytes.{inTurn, alarmBytes, statusBytes, tableBytes}
+use Rattle.table_whole.specs.Allowed.{Every, IsString, IsAlarm, IsStatus, Allowed}
+use Rattle.table_whole.specs.Memory.{itemOf, memoryOf}
+use Rattle.table_whole.specs.Reading.{siteAt, sxlAt, componentsAt, alarmsAt, statusesAt, laidFrom, laidOut, ownNames}
+use Rattle.table_whole.proofs.Turns.{Counted, turns-sound, placeTo, keptTo}
+use Rattle.table_whole.proofs.RowLaws.{starts, alarmItem, alarmNext, statusItem, statusNext, alarm-sound, status-sound}
+use Rattle.table_whole.proofs.HeadLaws.{HeadRead, Limits, headWith, bytesWith, head-sound}
+use Rattle.table_whole.proofs.Parts.{labelValue, labelNext, label-one, labels-turns, alarms-turns, statuses-turns}
+use Rattle.table_whole.proofs.Kept.{labels-once, items-once}
+
+-- nothing is read behind a head that was not read
+nothing-behind : (s : List ℕ) → length s < far → laidFrom s noHead .next ≡ length s → ⊥
+unfolding siteAt sxlAt componentsAt alarmsAt statusesAt labelsTo itemsTo
+nothing-behind s f e =
+    let sxl = read-sound s (readAt s far .next) f (omega arith) in
+    let site = read-sound s far f (starts s (readAt s far .next) (sxl .text) (sxl .stands)) in
+    let l : far ≤ length s = starts s far (site .text) (site .stands) in
+    omega arith
+
+head-read : (s : List ℕ) → ((i : ℕ) → getD s i 0 < 256) → length s < far → laidOut s .next ≡ length s → HeadRead s
+unfolding laidOut
+head-read s b f e =
+    ⊎-elim
+    (λ (h : 3 ≤ length s).
+    bool-cases (goodHead (numberOf (take 3 s)))
+    (λ g. head-sound s b h g)
+    (λ g. absurd (nothing-behind s f (ap (λ (d : Head). laidFrom s d .next) (sym (head-bad s h g)) ∙ e))))
+    (λ (h : length s < 3). absurd (nothing-behind s f (ap (λ (d : Head). laidFrom s d .next) (sym (head-short s h)) ∙ e)))
+    (le-or-lt 3 (length s))
+
+-- a piece behind another
+link : (s : List ℕ) (p q : ℕ) (b c : List ℕ) → q ≡ p + length b → Stands s p b → Stands s q c → Stands s p (b ++ c)
+link s p q b c e h k = joined s p b c h (subst (λ (m : ℕ). Stands s m c) e k)
+
+-- the parts behind a head of these counts
+pub record Behind (s : List ℕ) (c a t : ℕ) : Type 0 where
+  pub site : Got s 3
+  pub sxl : Got s (siteAt s (headWith c a t) .next)
+  pub components : Counted labelOf noLabel string IsString (labelValue s) (labelNext s) s 8 (sxlAt s (headWith c a t) .next) c
+  pub alarms : Counted itemOf noItem alarmBytes (IsAlarm c) (alarmItem s c) (alarmNext s c) s 32 (componentsAt s (headWith c a t) .next) a
+  pub statuses : Counted itemOf noItem statusBytes (IsStatus c) (statusItem s c) (statusNext s c) s 32 (alarmsAt s (headWith c a t) .next) t
+
+module _ (s : List ℕ) (b : (i : ℕ) → getD s i 0 < 256) (f : length s < far) (c a t : ℕ) (l : Limits c a t) where
+  abbrev h : Head
+  h = headWith c a t
+
+  components-next : componentsAt s h .next ≡ placeTo (labelNext s) (sxlAt s h .next) c
+  unfolding componentsAt
+  components-next = ap (λ (r : LabelsRead). r .next) (labels-turns s (sxlAt s h .next) c)
+
+  alarms-next : alarmsAt s h .next ≡ placeTo (alarmNext s c) (componentsAt s h .next) a
+  unfolding alarmsAt
+  alarms-next = ap (λ (r : ItemsRead). r .next) (alarms-turns s c (componentsAt s h .next) a)
+
+  statuses-next : statusesAt s h .next ≡ placeTo (statusNext s c) (alarmsAt s h .next) t
+  unfolding statusesAt
+  statuses-next = ap (λ (r : ItemsRead). r .next) (statuses-turns s c (alarmsAt s h .next) t)
+
+  -- the first place is within where the last is
+  before : {A X : Type 0} {keep : A → X} {z : X} {bytes : A → List ℕ} {Valid : A → Type 0} {value : ℕ → X} {next : ℕ → ℕ} {n at i : ℕ}
+      → Counted keep z bytes Valid value next s n at i → placeTo next at i ≤ length s → at ≤ length s
+  before {next = next} {at = at} p e =
+      let q = ap (placeTo next at) (p .count) in
+      let r = p .some .place-is in
+      omega (arith, q, r)
+
+  behind-head : laidFrom s h .next ≤ length s → Behind s c a t
+  unfolding siteAt sxlAt
+  behind-head e =
+      let st : placeTo (statusNext s c) (alarmsAt s h .next) t ≤ length s = subst (λ (m : ℕ). m ≤ length s) statuses-next e in
+      let S = turns-sound itemOf noItem statusBytes (IsStatus c) (statusItem s c) (statusNext s c) s 32 (status-sound s c b f) (alarmsAt s h .next) t (l .most-statuses) st in
+      let at : placeTo (alarmNext s c) (componentsAt s h .next) a ≤ length s = subst (λ (m : ℕ). m ≤ length s) alarms-next (before S st) in
+      let A = turns-sound itemOf noItem alarmBytes (IsAlarm c) (alarmItem s c) (alarmNext s c) s 32 (alarm-sound s c b f) (componentsAt s h .next) a (l .most-alarms) at in
+      let ct : placeTo (labelNext s) (sxlAt s h .next) c ≤ length s = subst (λ (m : ℕ). m ≤ length s) components-next (before A at) in
+      let C = turns-sound labelOf noLabel string IsString (labelValue s) (labelNext s) s 8 (label-one s f) (sxlAt s h .next) c (l .most-components) ct in
+      let sxl = read-sound s (siteAt s h .next) f (before C ct) in
+      let site = read-sound s 3 f (starts s (siteAt s h .next) (sxl .text) (sxl .stands)) in
+      record { site = site; sxl = sxl; components = C; alarms = A; statuses = S }
+
+  module _ (p : Behind s c a t) where
+    abbrev found : Table
+    found =
+        record {
+          site = p .site .text;
+          sxl = p .sxl .text;
+          components = p .components .things;
+          alarms = p .alarms .things;
+          statuses = p .statuses .things;
+        }
+
+    labels-kept : componentsAt s h .labels ≡ memoryOf found .components
+    unfolding componentsAt
+    labels-kept =
+        ap (λ (r : LabelsRead). r .labels) (labels-turns s (sxlAt s h .next) c)
+        ∙ ap (keptTo 8 noLabel (labelValue s) (labelNext s) (sxlAt s h .next)) (sym (p .components .count))
+        ∙ p .components .some .kept-is
+
+    alarms-kept : alarmsAt s h .items ≡ memoryOf found .alarms
+    unfolding alarmsAt
+    alarms-kept =
+        ap (λ (r : ItemsRead). r .items) (alarms-turns s c (componentsAt s h .next) a)
+        ∙ ap (keptTo 32 noItem (alarmItem s c) (alarmNext s c) (componentsAt s h .next)) (sym (p .alarms .count))
+        ∙ p .alarms .some .kept-is
+
+    statuses-kept : statusesAt s h .items ≡ memoryOf found .statuses
+    unfolding statusesAt
+    statuses-kept =
+        ap (λ (r : ItemsRead). r .items) (statuses-turns s c (alarmsAt s h .next) t)
+        ∙ ap (keptTo 32 noItem (statusItem s c) (statusNext s c) (alarmsAt s h .next)) (sym (p .statuses .count))
+        ∙ p .statuses .some .kept-is
+
+    found-kept : laidFrom s h .table ≡ memoryOf found
+    unfolding siteAt sxlAt
+    found-kept = λ i. record {
+      componentcount = sym (p .components .count) i;
+      alarmcount = sym (p .alarms .count) i;
+      statuscount = sym (p .statuses .count) i;
+      site = ap (λ (r : LabelRead). r .label) (p .site .is) i;
+      sxl = ap (λ (r : LabelRead). r .label) (p .sxl .is) i;
+      components = labels-kept i;
+      alarms = alarms-kept i;
+      statuses = statuses-kept i;
+    }
+
+    found-allowed : ownNames (laidFrom s h .table) ≡ true → Allowed found
+    unfolding ownNames
+    found-allowed e =
+        let o = ap ownNames (sym found-kept) ∙ e in
+        let o1 = both-true (ownLabels (memoryOf found .components) (memoryOf found .componentcount)) _ o in
+        let o2 = both-true (ownItems (memoryOf found .alarms) (memoryOf found .alarmcount)) _ (o1 .1) in
+        record {
+          fewest-components = omega (arith, p .components .count, l .fewest-components);
+          most-components = omega (arith, p .components .count, l .most-components);
+          most-alarms = omega (arith, p .alarms .count, l .most-alarms);
+          most-statuses = omega (arith, p .statuses .count, l .most-statuses);
+          site = p .site .label;
+          sxl = p .sxl .label;
+          components = p .components .some .valid;
+          alarms = subst (λ (m : ℕ). Every (IsAlarm m) (p .alarms .things)) (sym (p .components .count)) (p .alarms .some .valid);
+          statuses = subst (λ (m : ℕ). Every (IsStatus m) (p .statuses .things)) (sym (p .components .count)) (p .statuses .some .valid);
+          no-component-twice = labels-once (p .components .things) (o1 .0);
+          no-alarm-twice = items-once (p .alarms .things) (o2 .0);
+          no-status-twice = items-once (p .statuses .things) (o2 .1);
+        }
+
+    -- the place behind each part
+    site-end : siteAt s h .next ≡ 3 + length (string (found .site))
+    unfolding siteAt
+    site-end = ap (λ (r : LabelRead). r .next) (p .site .is)
+
+    sxl-end : sxlAt s h .next ≡ siteAt s h .next + length (string (found .sxl))
+    unfolding sxlAt
+    sxl-end = ap (λ (r : LabelRead). r .next) (p .sxl .is)
+
+    components-end : componentsAt s h .next ≡ sxlAt s h .next + length (inTurn string (found .components))
+    components-end = components-next ∙ ap (placeTo (labelNext s) (sxlAt s h .next)) (sym (p .components .count)) ∙ p .components .some .place-is
+
+    alarms-end : alarmsAt s h .next ≡ componentsAt s h .next + length (inTurn alarmBytes (found .alarms))
+    alarms-end = alarms-next ∙ ap (placeTo (alarmNext s c) (componentsAt s h .next)) (sym (p .alarms .count)) ∙ p .alarms .some .place-is
+
+    statuses-end : statusesAt s h .next ≡ alarmsAt s h .next + length (inTurn statusBytes (found .statuses))
+    statuses-end = statuses-next ∙ ap (placeTo (statusNext s c) (alarmsAt s h .next)) (sym (p .statuses .count)) ∙ p .statuses .some .place-is
+
+    found-stands : Stands s 0 (bytesWith c a t) → Stands s 0 (tableBytes found)
+    unfolding tableBytes
+    found-stands st =
+        let e : bytesWith c a t ≡ bytesWith (length (found .components)) (length (found .alarms)) (length (found .statuses)) =
+        (λ i. bytesWith (sym (p .components .count) i) (sym (p .alarms .count) i) (sym (p .statuses .count) i)) in
+        link s 0 3 _ _ refl (subst (Stands s 0) e st)
+        (link s 3 (siteAt s h .next) _ _ site-end (p .site .stands)
+        (link s (siteAt s h .next) (sxlAt s h .next) _ _ sxl-end (p .sxl .stands)
+        (link s (sxlAt s h .next) (componentsAt s h .next) _ _ components-end (p .components .some .stands)
+        (link s (componentsAt s h .next) (alarmsAt s h .next) _ _ alarms-end (p .alarms .some .stands)
+        (p .statuses .some .stands)))))
+
+    found-length : length (tableBytes found) ≡ statusesAt s h .next
+    unfolding tableBytes
+    found-length =
+        let x = inTurn string (found .components) in
+        let y = inTurn alarmBytes (found .alarms) in
+        let z = inTurn statusBytes (found .statuses) in
+        let e1 = length-append (string (found .site)) (string (found .sxl) ++ (x ++ (y ++ z))) in
+        let e2 = length-append (string (found .sxl)) (x ++ (y ++ z)) in
+        let e3 = length-append x (y ++ z) in
+        let e4 = length-append y z in
+        omega (arith, site-end, sxl-end, components-end, alarms-end, statuses-end, e1, e2, e3, e4)
+
+    found-bytes : Stands s 0 (bytesWith c a t) → statusesAt s h .next ≡ length s → tableBytes found ≡ s
+    found-bytes st e = whole (found-stands st) (found-length ∙ e)
+
+-- an allowed table whose bytes these are, and which is kept
+pub record Sound (s : List ℕ) : Type 0 where
+  pub table : Table
+  pub allowed : Allowed table
+  pub bytes : tableBytes table ≡ s
+  pub kept : laidOut s .table ≡ memoryOf table
+
+pub sound : (s : List ℕ) → ((i : ℕ) → getD s i 0 < 256) → length s < far → laidOut s .next ≡ length s → ownNames (laidOut s .table) ≡ true → Sound s
+unfolding laidOut
+sound s b f e o =
+    let hd = head-read s b f e in
+    let c = hd .components in
+    let a = hd .alarms in
+    let t = hd .statuses in
+    let is : laidFrom s (headOf s) ≡ laidFrom s (headWith c a t) = ap (laidFrom s) (hd .is) in
+    let end : laidFrom s (headWith c a t) .next ≡ length s = ap (λ (d : Laid). d .next) (sym is) ∙ e in
+    let p = behind-head s b f c a t (hd .limits) (omega (arith, end)) in
+    record {
+      table = found s b f c a t (hd .limits) p;
+      allowed = found-allowed s b f c a t (hd .limits) p (ap (λ (d : Laid). ownNames (d .table)) (sym is) ∙ o);
+      bytes = found-bytes s b f c a t (hd .limits) p (hd .stands) end;
+      kept = ap (λ (d : Laid). d .table) is ∙ found-kept s b f c a t (hd .limits) p;
+    }

@@ -1,0 +1,45 @@
+-- The bytes of a site table, most significant bit first: document 01, "Site table".
+-- Assumes nothing.
+use Prim.Native.Nat.{ℕ, _+_, _/_}
+use mathlib.Core.List.{List, [], _∷_, _++_}
+use lib.ListN.{length}
+use Rattle.bits.specs.Fields.{joined, total, bytesOf}
+use Rattle.label.specs.Label.{string}
+use Rattle.table_whole.specs.Table.{Row, Table}
+
+-- fields of these widths, as so many bytes as they fill
+abbrev pub fields : List ℕ → List ℕ → List ℕ
+fields widths values = bytesOf (total widths / 8) (joined 0 widths values)
+
+-- one thing behind the other
+abbrev pub inTurn : {A : Type 0} → (A → List ℕ) → List A → List ℕ
+inTurn f [] = []
+inTurn f (x ∷ xs) = f x ++ inTurn f xs
+
+-- a head: the edition in 4 bits, a count in each of these widths, and zeros
+abbrev pub headBytes : ℕ → List ℕ → List ℕ → ℕ → List ℕ
+headBytes edition widths counts zeros = fields (4 ∷ (widths ++ (zeros ∷ []))) (edition ∷ (counts ++ (0 ∷ [])))
+
+-- component 3, priority 2, category 1, zero 2; code
+abbrev pub alarmBytes : Row → List ℕ
+alarmBytes r = fields (3 ∷ 2 ∷ 1 ∷ 2 ∷ []) (r .component ∷ r .priority ∷ r .category ∷ 0 ∷ []) ++ string (r .code)
+
+-- component 3, zero 5; code, name
+abbrev pub statusBytes : Row → List ℕ
+statusBytes r = fields (3 ∷ 5 ∷ []) (r .component ∷ 0 ∷ []) ++ (string (r .code) ++ string (r .name))
+
+-- edition 1: components 4, alarms 6, statuses 6, zero 4
+abbrev pub countWidths : List ℕ
+countWidths = 4 ∷ 6 ∷ 6 ∷ []
+
+abbrev pub countsOf : Table → List ℕ
+countsOf t = length (t .components) ∷ length (t .alarms) ∷ length (t .statuses) ∷ []
+
+unfoldable pub tableBytes : Table → List ℕ
+tableBytes t =
+    headBytes 1 countWidths (countsOf t) 4
+    ++ (string (t .site)
+    ++ (string (t .sxl)
+    ++ (inTurn string (t .components)
+    ++ (inTurn alarmBytes (t .alarms)
+    ++ inTurn statusBytes (t .statuses)))))

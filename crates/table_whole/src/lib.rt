@@ -1,0 +1,168 @@
+// The site table: read from bits that someone else made, and looked up.
+ghost use mathlib.Core.Path.{_≡_};
+ghost use Rattle.table_whole.specs.Memory.{noTable};
+ghost use Rattle.table_whole.specs.Reading.{laidOut, ownNames, readTable, refused as refusedOf};
+ghost use Rattle.table_whole.specs.Reads.{Reads};
+ghost use Rattle.table_whole.specs.Lookup.{findComponent, findAlarm, findStatus};
+use answer::Refusal;
+use label::Label;
+use table_item::Found;
+use table_item::Item;
+
+#[repr(C)]
+pub struct SiteTable {
+    pub componentcount: u16,
+    pub alarmcount: u16,
+    pub statuscount: u16,
+    pub site: Label,
+    pub sxl: Label,
+    pub components: [Label; 8],
+    pub alarms: [Item; 32],
+    pub statuses: [Item; 32],
+}
+
+pub enum Verdict {
+    Accepted,
+    Refused(Refusal),
+}
+
+pub struct TableRead {
+    pub table: SiteTable,
+    pub verdict: Verdict,
+}
+
+struct Laid {
+    table: SiteTable,
+    next: usize,
+}
+
+fn wide(n: u16) -> usize
+    ensures { λ r. ⌜ r ≡ n ⌝ }
+{
+    n as usize
+}
+
+pub fn none() -> SiteTable
+    ensures { λ r. ⌜ r ≡ noTable ⌝ }
+{
+    let label = label::none();
+    let item = table_item::none();
+    SiteTable {
+        componentcount: 0,
+        alarmcount: 0,
+        statuscount: 0,
+        site: label,
+        sxl: label,
+        components: [label; 8],
+        alarms: [item; 32],
+        statuses: [item; 32],
+    }
+}
+
+// One part behind the other.
+fn laid_out(s: &[u8]) -> Laid
+    ensures { λ r. ⌜ r ≡ laidOut (now (s .entry)) ⌝ }
+{
+    let h = table_row::read_head(s);
+    let components = wide(h.components);
+    let site = label::read(s, h.next);
+    let sxl = label::read(s, site.next);
+    let ids = table_row::read_labels(s, sxl.next, components);
+    let a = table_row::read_items(s, ids.next, false, components as u64, wide(h.alarms));
+    let b = table_row::read_items(s, a.next, true, components as u64, wide(h.statuses));
+    let siteid = site.label;
+    let version = sxl.label;
+    let labels = ids.labels;
+    let alarms = a.items;
+    let statuses = b.items;
+    let t = SiteTable {
+        componentcount: h.components,
+        alarmcount: h.alarms,
+        statuscount: h.statuses,
+        site: siteid,
+        sxl: version,
+        components: labels,
+        alarms: alarms,
+        statuses: statuses,
+    };
+    Laid {
+        table: t,
+        next: b.next,
+    }
+}
+
+impl SiteTable {
+    // No component id, no alarm and no status twice.
+    fn own_names(self) -> bool
+        ensures { λ r. ⌜ r ≡ ownNames self ⌝ }
+    {
+        let components = self.components;
+        if !table_item::own_labels(components, wide(self.componentcount)) {
+            return false;
+        }
+        let alarms = self.alarms;
+        if !table_item::own_items(alarms, wide(self.alarmcount)) {
+            return false;
+        }
+        let statuses = self.statuses;
+        table_item::own_items(statuses, wide(self.statuscount))
+    }
+
+    pub fn find_component(self, id: &[u8]) -> Found
+        ensures { λ r. ⌜ r ≡ findComponent self (now (id .entry)) ⌝ }
+    {
+        let components = self.components;
+        table_item::find_label(components, wide(self.componentcount), id)
+    }
+
+    pub fn find_alarm(self, component: u8, code: &[u8]) -> Found
+        ensures { λ r. ⌜ r ≡ findAlarm self component (now (code .entry)) ⌝ }
+    {
+        let alarms = self.alarms;
+        table_item::find_item(alarms, wide(self.alarmcount), component, code, b"")
+    }
+
+    pub fn find_status(self, component: u8, code: &[u8], name: &[u8]) -> Found
+        ensures { λ r. ⌜ r ≡ findStatus self component (now (code .entry)) (now (name .entry)) ⌝ }
+    {
+        let statuses = self.statuses;
+        table_item::find_item(statuses, wide(self.statuscount), component, code, name)
+    }
+}
+
+fn refused() -> TableRead
+    ensures { λ r. ⌜ r ≡ refusedOf ⌝ }
+{
+    TableRead {
+        table: none(),
+        verdict: Verdict::Refused(Refusal::NotAccepted),
+    }
+}
+
+fn read_table(s: &[u8]) -> TableRead
+    ensures { λ r. ⌜ r ≡ readTable (now (s .entry)) ⌝ }
+{
+    if label::FAR <= s.len() {
+        return refused();
+    }
+    let l = laid_out(s);
+    if l.next != s.len() {
+        return refused();
+    }
+    let t = l.table;
+    if t.own_names() {
+        TableRead {
+            table: t,
+            verdict: Verdict::Accepted,
+        }
+    } else {
+        refused()
+    }
+}
+
+// Accepts exactly the bytes of a table that is allowed.
+pub fn read(s: &[u8]) -> TableRead
+    ensures { λ r. ⌜ Reads (now (s .entry)) r ⌝ }
+{
+    read_table(s)
+}

@@ -1,0 +1,129 @@
+-- The listing of a well-formed message is plain: no numbers, strings that stand for themselves, few levels.
+-- Assumes nothing.
+use Prim.Native.Nat.{ℕ, suc}
+use Prim.Native.String.{String}
+use mathlib.Core.Path.{_≡_, refl}
+use mathlib.Core.Bool.{Bool, true}
+use mathlib.Core.List.{List}
+use lib.Dec.{eqb}
+use Rattle.basis.specs.Pick.{pick}
+use Rattle.basis.specs.Text.{text}
+use Rattle.basis.proofs.Cases.{picked}
+use Rattle.number.specs.Alphabet.{allInAlphabet}
+use Rattle.json_value.specs.Grammar.{Json}
+use Rattle.json_value.specs.Grammar.Jsons.{jcons}
+use Rattle.json_write.specs.Plain.{PlainText, Plain, PlainElements}
+use Rattle.json_write.specs.Plain.PlainText.{none}
+use Rattle.json_write.specs.Plain.Plain.{pnull, pbool, pstr, parr₀, parr, pobj}
+use Rattle.json_write.specs.Plain.PlainElements.{last-element, element}
+use Rattle.json_write.specs.Plain.PlainMembers.{last-member, member}
+use Rattle.write_message.specs.declared.Value.{Value}
+use Rattle.write_message.specs.declared.Value.the-variants.{Recent, Unknown, Undefined}
+use Rattle.write_message.specs.declared.Told.{Told}
+use Rattle.write_message.specs.declared.Told.the-variants.{Response, Update}
+use Rattle.write_message.specs.Message.{Message, Status}
+use Rattle.write_message.specs.Message.Message.{version, watchdog, ack, notAck, alarm, aggregated, statuses}
+use Rattle.write_message.specs.Listing.{jsonOf, eventText, typeText, valueJson, qualityText, statusJson, statusesJson}
+use Rattle.write_laws.specs.Formed.{Formed, FormedStatus, FormedStatuses}
+use Rattle.write_laws.specs.Formed.Formed.{formed-version, formed-watchdog, formed-ack, formed-notAck, formed-alarm, formed-aggregated, formed-statuses}
+use Rattle.write_laws.specs.Formed.FormedStatuses.{none as no-more, more as one-more}
+use Rattle.write_laws.proofs.Plainness.{plain, plain-label, plain-digits, plain-decimal, plain-name, plain-moment, plain-identity, plain-received}
+
+word : (s : String) → allInAlphabet (text s) ≡ true → PlainText (text s)
+word s e = plain (text s) e
+
+choice : (b : Bool) (x y : String) → allInAlphabet (text x) ≡ true → allInAlphabet (text y) ≡ true → PlainText (pick b (text x) (text y))
+choice b x y p q = picked PlainText b (text x) (text y) (λ e. word x p) (λ e. word y q)
+
+event : (e : ℕ) → PlainText (eventText e)
+event e = picked PlainText (eqb e 0) (text "Issue") _ (λ h. word "Issue" refl) (λ h. choice (eqb e 1) "Acknowledge" "Suspend" refl refl)
+
+kind-word : (k : Told) → PlainText (typeText k)
+kind-word Response = word "StatusResponse" refl
+kind-word Update = word "StatusUpdate" refl
+
+value : {l : ℕ} (v : Value) → Plain l (valueJson v)
+value (Recent v) = pstr (plain-decimal v)
+value Unknown = pnull
+value Undefined = pnull
+
+quality : (v : Value) → PlainText (qualityText v)
+quality (Recent v) = word "recent" refl
+quality Unknown = word "unknown" refl
+quality Undefined = word "undefined" refl
+
+status : {l : ℕ} {s : Status} → FormedStatus s → Plain (suc l) (statusJson s)
+status {s = s} f =
+    pobj (member (word "sCI" refl) (pstr (plain-label (f .code)))
+    (member (word "n" refl) (pstr (plain-label (f .name)))
+    (member (word "s" refl) (value (s .value))
+    (last-member (word "q" refl) (pstr (quality (s .value)))))))
+
+some-statuses : {l : ℕ} {s : Status} {ss : List Status} → FormedStatus s → FormedStatuses ss → PlainElements (suc l) (jcons (statusJson s) (statusesJson ss))
+some-statuses f no-more = last-element (status f)
+some-statuses f (one-more g gs) = element (status f) (some-statuses g gs)
+
+all-statuses : {l : ℕ} {ss : List Status} → FormedStatuses ss → Plain (suc (suc l)) (Json.arr (statusesJson ss))
+all-statuses no-more = parr₀
+all-statuses (one-more f fs) = parr (some-statuses f fs)
+
+pub plain-message : (m : Message) → Formed m → Plain 8 (jsonOf m)
+plain-message (version id site sxl) (formed-version i s x) =
+    pobj (member (word "mType" refl) (pstr (word "rSMsg" refl))
+    (member (word "type" refl) (pstr (word "Version" refl))
+    (member (word "mId" refl) (pstr (plain-identity i))
+    (member (word "RSMP" refl) (parr (element (pobj (last-member (word "vers" refl) (pstr (word "3.1.5" refl)))) (last-element (pobj (last-member (word "vers" refl) (pstr (word "3.2" refl)))))))
+    (member (word "siteId" refl) (parr (last-element (pobj (last-member (word "sId" refl) (pstr (plain-label s))))))
+    (last-member (word "SXL" refl) (pstr (plain-label x))))))))
+plain-message (watchdog id time) (formed-watchdog i t) =
+    pobj (member (word "mType" refl) (pstr (word "rSMsg" refl))
+    (member (word "type" refl) (pstr (word "Watchdog" refl))
+    (member (word "mId" refl) (pstr (plain-identity i))
+    (last-member (word "wTs" refl) (pstr (plain-moment time))))))
+plain-message (ack received) (formed-ack r) =
+    pobj (member (word "mType" refl) (pstr (word "rSMsg" refl))
+    (member (word "type" refl) (pstr (word "MessageAck" refl))
+    (last-member (word "oMId" refl) (pstr (plain-received r)))))
+plain-message (notAck received reason) (formed-notAck r low high) =
+    pobj (member (word "mType" refl) (pstr (word "rSMsg" refl))
+    (member (word "type" refl) (pstr (word "MessageNotAck" refl))
+    (member (word "oMId" refl) (pstr (plain-received r))
+    (last-member (word "rea" refl) (pstr (plain-name reason))))))
+plain-message (alarm id component code s) (formed-alarm i c k f) =
+    pobj (member (word "mType" refl) (pstr (word "rSMsg" refl))
+    (member (word "type" refl) (pstr (word "Alarm" refl))
+    (member (word "mId" refl) (pstr (plain-identity i))
+    (member (word "ntsOId" refl) (pstr none)
+    (member (word "xNId" refl) (pstr none)
+    (member (word "cId" refl) (pstr (plain-label c))
+    (member (word "aCId" refl) (pstr (plain-label k))
+    (member (word "xACId" refl) (pstr none)
+    (member (word "xNACId" refl) (pstr none)
+    (member (word "aSp" refl) (pstr (event (s .event)))
+    (member (word "ack" refl) (pstr (choice (s .acknowledged) "Acknowledged" "notAcknowledged" refl refl))
+    (member (word "aS" refl) (pstr (choice (s .active) "Active" "inActive" refl refl))
+    (member (word "sS" refl) (pstr (choice (s .suspended) "Suspended" "notSuspended" refl refl))
+    (member (word "aTs" refl) (pstr (plain-moment (s .time)))
+    (member (word "cat" refl) (pstr (choice (eqb (s .category) 0) "T" "D" refl refl))
+    (member (word "pri" refl) (pstr (plain-digits (s .priority)))
+    (last-member (word "rvs" refl) parr₀)))))))))))))))))
+plain-message (aggregated id component time value) (formed-aggregated i c t v) =
+    pobj (member (word "mType" refl) (pstr (word "rSMsg" refl))
+    (member (word "type" refl) (pstr (word "AggregatedStatus" refl))
+    (member (word "mId" refl) (pstr (plain-identity i))
+    (member (word "ntsOId" refl) (pstr none)
+    (member (word "xNId" refl) (pstr none)
+    (member (word "cId" refl) (pstr (plain-label c))
+    (member (word "aSTS" refl) (pstr (plain-moment time))
+    (member (word "fP" refl) (pstr none)
+    (member (word "fS" refl) (pstr none)
+    (last-member (word "se" refl) (parr (element pbool (element pbool (element pbool (element pbool (element pbool (element pbool (element pbool (last-element pbool)))))))))))))))))))
+plain-message (statuses kind id component time entries) (formed-statuses i c t f) =
+    pobj (member (word "mType" refl) (pstr (word "rSMsg" refl))
+    (member (word "type" refl) (pstr (kind-word kind))
+    (member (word "mId" refl) (pstr (plain-identity i))
+    (member (word "ntsOId" refl) (pstr none)
+    (member (word "xNId" refl) (pstr none)
+    (member (word "cId" refl) (pstr (plain-label c))
+    (member (word "sTs" refl) (pstr (plain-moment time))
+    (last-member (word "sS" refl) (all-statuses f)))))))))

@@ -1,0 +1,11 @@
+-- The claims are kept.
+-- Assumes nothing.
+use mathlib.Core.Path.{refl}
+use Rattle.write_message.specs.Claims.{Claims}
+use Rattle.write_message.specs.Pieces.{entriesPieces, pieces}
+use Rattle.write_message.proofs.Whole.{whole}
+use Rattle.write_message.proofs.Entries.{one-more}
+
+pub kept : Claims
+unfolding pieces entriesPieces
+kept = record { whole = whole; told = λ kind id component time ss. refl; no-entry = refl; one-more = one-more }

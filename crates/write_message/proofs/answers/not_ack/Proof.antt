@@ -1,0 +1,39 @@
+use Rattle.write_message.specs.Pieces.{pieces}
+use Rattle.output.proofs.Laws.{then}
+use borrow.Author.Needs.{needs}
+use Rattle.write_message.proofs.answers.not_ack.Statement.{statement}
+use Rattle.write_message.proofs.answers.not_ack.Tie as tie
+
+head-requires : tie.Need-head-requires
+head-requires c κs = search needs
+
+slice-aggregate-word : tie.Need-slice-aggregate-word
+slice-aggregate-word c = search needs
+
+word-requires : tie.Need-word-requires
+word-requires c κs = search needs
+
+slice-aggregate-put-bytes : tie.Need-slice-aggregate-put-bytes
+slice-aggregate-put-bytes c = search needs
+
+put-bytes-requires : tie.Need-put-bytes-requires
+put-bytes-requires c κs = search needs
+
+same-length : tie.Need-same-length
+same-length c = search needs
+
+returns : tie.Need-returns
+unfolding pieces
+returns c = then (then (c .before .before .before .before .before .before .before .before .before .before .before .before .head .ensures) (c .before .before .before .before .before .before .before .word .ensures)) (c .before .before .put-bytes .ensures)
+
+pub not-ack-spec : {M : Type 1} → statement M
+not-ack-spec =
+    tie.close
+    (tie.spec
+    head-requires
+    slice-aggregate-word
+    word-requires
+    slice-aggregate-put-bytes
+    put-bytes-requires
+    same-length
+    returns)

@@ -1,0 +1,23 @@
+-- What is claimed of the pieces. proofs/Kept.antt proves it.
+-- Assumes nothing.
+use Prim.Native.Nat.{ℕ}
+use mathlib.Core.Path.{_≡_}
+use mathlib.Core.Bool.{true}
+use mathlib.Core.List.{List, [], _∷_, _++_}
+use lib.Dec.{eqb}
+use lib.ListN.{length}
+use Rattle.output.specs.Put.{concat}
+use Rattle.write_message.specs.declared.Told.{Told}
+use Rattle.write_message.specs.Message.{Message, Status}
+use Rattle.write_message.specs.Message.Message.{statuses}
+use Rattle.write_message.specs.Listing.{bytesOf}
+use Rattle.write_message.specs.Pieces.{statusHead, entryPieces, entriesPieces, statusTail, pieces}
+
+pub record Claims : Type 0 where
+  -- the pieces of a message are, together, its text and the form feed
+  pub whole : (m : Message) → concat (pieces m) ≡ bytesOf m
+  -- entries that are put one by one between a head and a tail make the message
+  pub told : (kind : Told) (id component : List ℕ) (time : ℕ) (ss : List Status)
+      → pieces (statuses kind id component time ss) ≡ statusHead kind id component time ++ entriesPieces true ss ++ statusTail
+  pub no-entry : entriesPieces true [] ≡ []
+  pub one-more : (ss : List Status) (s : Status) → entriesPieces true (ss ++ (s ∷ [])) ≡ entriesPieces true ss ++ entryPieces (eqb (length ss) 0) s

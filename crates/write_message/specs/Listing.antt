@@ -1,0 +1,117 @@
+-- A message as JSON: its elements in the order of source document 000's listings. Its text is `textOf` of this and nothing else.
+-- Assumes nothing.
+use Prim.Native.Nat.{ℕ, _/_, _%_}
+use Prim.Native.String.{String}
+use mathlib.Core.List.{List, [], _∷_, _++_}
+use lib.Dec.{eqb}
+use Rattle.basis.specs.Pick.{pick}
+use Rattle.basis.specs.Text.{text}
+use Rattle.identity.specs.Text.{identityText}
+use Rattle.names.specs.Names.{nameOf}
+use Rattle.number.specs.Decimal.{digits, decimalOf}
+use Rattle.write_member.specs.Member.{momentText}
+use Rattle.json_value.specs.Grammar.{Json, Jsons, Members}
+use Rattle.json_value.specs.Grammar.Json.{null, bool, str, arr, obj}
+use Rattle.json_value.specs.Grammar.Jsons.{jnil, jcons}
+use Rattle.json_value.specs.Grammar.Members.{mnil, mcons}
+use Rattle.json_write.specs.Text.{textOf}
+use Rattle.write_message.specs.declared.AlarmState.{AlarmState}
+use Rattle.write_message.specs.declared.Value.{Value}
+use Rattle.write_message.specs.declared.Value.the-variants.{Recent, Unknown, Undefined}
+use Rattle.write_message.specs.declared.Told.{Told}
+use Rattle.write_message.specs.declared.Told.the-variants.{Response, Update}
+use Rattle.write_message.specs.Message.{Message, Status}
+use Rattle.write_message.specs.Message.Message.{version, watchdog, ack, notAck, alarm, aggregated, statuses}
+
+-- an element and the ones after it; an element that is a string
+abbrev pub element : String → Json → Members → Members
+element name j ms = mcons (text name) j ms
+
+abbrev pub said : String → List ℕ → Members → Members
+said name s ms = mcons (text name) (str s) ms
+
+-- how every message begins: mType, type and the identity under its name
+abbrev pub headOf : List ℕ → String → List ℕ → Members → Members
+headOf type name id ms = said "mType" (text "rSMsg") (said "type" type (said name id ms))
+
+abbrev pub aboutOf : List ℕ → List ℕ → List ℕ → Members → Members
+aboutOf type id component ms = headOf type "mId" (identityText id) (said "ntsOId" [] (said "xNId" [] (said "cId" component ms)))
+
+-- "offering 3.1.5 and 3.2"
+abbrev pub offered : List (List ℕ)
+offered = text "3.1.5" ∷ text "3.2" ∷ []
+
+abbrev pub offeredJson : List (List ℕ) → Jsons
+offeredJson [] = jnil
+offeredJson (v ∷ vs) = jcons (obj (said "vers" v mnil)) (offeredJson vs)
+
+-- aSp: 0 Issue, 1 Acknowledge, 2 Suspend
+abbrev pub eventText : ℕ → List ℕ
+eventText e = pick (eqb e 0) (text "Issue") (pick (eqb e 1) (text "Acknowledge") (text "Suspend"))
+
+abbrev pub statesOf : AlarmState → Members → Members
+statesOf s ms =
+    said "aSp" (eventText (s .event))
+    (said "ack" (pick (s .acknowledged) (text "Acknowledged") (text "notAcknowledged"))
+    (said "aS" (pick (s .active) (text "Active") (text "inActive"))
+    (said "sS" (pick (s .suspended) (text "Suspended") (text "notSuspended")) ms)))
+
+-- category: 0 T, 1 D
+abbrev pub categoryText : ℕ → List ℕ
+categoryText c = pick (eqb c 0) (text "T") (text "D")
+
+-- whether the bit of weight p is set
+abbrev pub flag : ℕ → ℕ → Json
+flag value p = bool (eqb (value / p % 2) 1)
+
+-- the eight booleans, the first highest
+abbrev pub flagsOf : ℕ → Jsons
+flagsOf v =
+    jcons (flag v 128) (jcons (flag v 64) (jcons (flag v 32) (jcons (flag v 16)
+    (jcons (flag v 8) (jcons (flag v 4) (jcons (flag v 2) (jcons (flag v 1) jnil)))))))
+
+abbrev pub typeText : Told → List ℕ
+typeText Response = text "StatusResponse"
+typeText Update = text "StatusUpdate"
+
+-- "`s` is the shortest decimal text, `q` recent"; else `s` null
+abbrev pub valueJson : Value → Json
+valueJson (Recent v) = str (decimalOf v)
+valueJson Unknown = null
+valueJson Undefined = null
+
+abbrev pub qualityText : Value → List ℕ
+qualityText (Recent v) = text "recent"
+qualityText Unknown = text "unknown"
+qualityText Undefined = text "undefined"
+
+abbrev pub statusJson : Status → Json
+statusJson s =
+    obj (said "sCI" (s .code) (said "n" (s .name) (element "s" (valueJson (s .value)) (said "q" (qualityText (s .value)) mnil))))
+
+abbrev pub statusesJson : List Status → Jsons
+statusesJson [] = jnil
+statusesJson (s ∷ ss) = jcons (statusJson s) (statusesJson ss)
+
+abbrev pub jsonOf : Message → Json
+jsonOf (version id site sxl) =
+    obj (headOf (text "Version") "mId" (identityText id)
+    (element "RSMP" (arr (offeredJson offered))
+    (element "siteId" (arr (jcons (obj (said "sId" site mnil)) jnil)) (said "SXL" sxl mnil))))
+jsonOf (watchdog id time) = obj (headOf (text "Watchdog") "mId" (identityText id) (said "wTs" (momentText time) mnil))
+jsonOf (ack received) = obj (headOf (text "MessageAck") "oMId" received mnil)
+jsonOf (notAck received reason) = obj (headOf (text "MessageNotAck") "oMId" received (said "rea" (nameOf reason) mnil))
+jsonOf (alarm id component code s) =
+    obj (aboutOf (text "Alarm") id component
+    (said "aCId" code (said "xACId" [] (said "xNACId" []
+    (statesOf s
+    (said "aTs" (momentText (s .time)) (said "cat" (categoryText (s .category)) (said "pri" (digits (s .priority)) (element "rvs" (arr jnil) mnil)))))))))
+jsonOf (aggregated id component time value) =
+    obj (aboutOf (text "AggregatedStatus") id component
+    (said "aSTS" (momentText time) (said "fP" [] (said "fS" [] (element "se" (arr (flagsOf value)) mnil)))))
+jsonOf (statuses kind id component time entries) =
+    obj (aboutOf (typeText kind) id component (said "sTs" (momentText time) (element "sS" (arr (statusesJson entries)) mnil)))
+
+-- the message's bytes: its text and the form feed
+abbrev pub bytesOf : Message → List ℕ
+bytesOf m = textOf (jsonOf m) ++ (0x0c ∷ [])

@@ -1,0 +1,63 @@
+// The written messages, put piece by piece into a lent output, each with its form feed: how they begin, answers and greeting. The others are in `reports`.
+ghost use Rattle.label.specs.Label.{textOf};
+ghost use Rattle.names.specs.Names.{nameOf};
+ghost use Rattle.output.specs.Put.{Wrote};
+ghost use Rattle.write_message.specs.Pieces.{headPieces, ownPieces, aboutPieces};
+use identity::Identity;
+use label::Label;
+use names::elements;
+use names::words;
+
+pub mod answers; // answers.rt: MessageAck and MessageNotAck
+pub mod greeting; // greeting.rt: Version and Watchdog
+
+// An alarm's states and its last event. The event: 0 Issue, 1 Acknowledge, 2 Suspend. The category: 0 T, 1 D.
+pub struct AlarmState {
+    pub time: u64,
+    pub event: u16,
+    pub category: u8,
+    pub priority: u8,
+    pub acknowledged: bool,
+    pub active: bool,
+    pub suspended: bool,
+}
+
+// What is told of a status.
+pub enum Value {
+    Recent(i32),
+    Unknown,
+    Undefined,
+}
+
+// The two types that tell statuses.
+pub enum Told {
+    Response,
+    Update,
+}
+
+// How every message begins: mType, type (name `kind`) and the identity in element `element`.
+pub fn head(out: &mut [u8], at: usize, kind: usize, element: usize, id: &[u8]) -> usize
+    ensures { λ r. ⌜ Wrote (now (out .entry)) at (headPieces (nameOf kind) (nameOf element) (now (id .entry))) (now (out .exit)) r ⌝ }
+{
+    let end = write_member::word(out, at, b"{\"", elements::M_TYPE, words::R_S_MSG);
+    let end = write_member::word(out, end, b",\"", elements::TYPE, kind);
+    write_member::string(out, end, b",\"", element, id)
+}
+
+// How a message with an identity of ours begins.
+pub fn own_head(out: &mut [u8], at: usize, kind: usize, id: Identity) -> usize
+    ensures { λ r. ⌜ Wrote (now (out .entry)) at (ownPieces (nameOf kind) (id .bytes)) (now (out .exit)) r ⌝ }
+{
+    let t = identity::identity_text(id);
+    head(out, at, kind, elements::M_ID, &t)
+}
+
+// How a message about a component begins.
+pub fn about(out: &mut [u8], at: usize, kind: usize, id: Identity, component: Label) -> usize
+    ensures { λ r. ⌜ Wrote (now (out .entry)) at (aboutPieces (nameOf kind) (id .bytes) (textOf component)) (now (out .exit)) r ⌝ }
+{
+    let end = own_head(out, at, kind, id);
+    let end = write_member::empty(out, end, elements::NTS_O_ID);
+    let end = write_member::empty(out, end, elements::X_N_ID);
+    write_member::label(out, end, b",\"", elements::C_ID, component)
+}

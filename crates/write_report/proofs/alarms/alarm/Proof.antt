@@ -1,0 +1,29 @@
+use Rattle.write_message.specs.Pieces.{pieces}
+use Rattle.output.proofs.Laws.{then}
+use borrow.Author.Needs.{needs}
+use Rattle.write_report.proofs.alarms.alarm.Statement.{statement}
+use Rattle.write_report.proofs.alarms.alarm.Tie as tie
+
+about-requires : tie.Need-about-requires
+about-requires c κs = search needs
+
+codes-requires : tie.Need-codes-requires
+codes-requires c κs = search needs
+
+states-requires : tie.Need-states-requires
+states-requires c κs = search needs
+
+rest-requires : tie.Need-rest-requires
+rest-requires c κs = search needs
+
+same-length : tie.Need-same-length
+same-length c = search needs
+
+returns : tie.Need-returns
+unfolding pieces
+returns c = then (then (then (c .before .before .before .before .before .before .before .before .before .before .before .before .before .before .about .ensures) (c .before .before .before .before .before .before .before .before .before .before .codes .ensures)) (c .before .before .before .before .before .before .states .ensures)) (c .before .before .rest .ensures)
+
+pub alarm-spec : {M : Type 1} → statement M
+alarm-spec =
+    tie.close
+    (tie.spec about-requires codes-requires states-requires rest-requires same-length returns)
