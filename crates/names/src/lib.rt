@@ -13,6 +13,9 @@ pub mod reasons; // reasons.rt: the eleven reasons of a MessageNotAck
 pub mod elements; // elements.rt: the elements that we read or write
 pub mod words; // words.rt: the values that we read or write
 
+// How long a name by value may be.
+const LONGEST: usize = 26;
+
 pub enum Found {
     At(usize),
     Nothing,
@@ -21,7 +24,7 @@ pub enum Found {
 // A name by value, to be lent as &bytes[0..length].
 pub struct Name {
     pub length: usize,
-    pub bytes: [u8; 24],
+    pub bytes: [u8; LONGEST],
 }
 
 // Writes name i.
@@ -41,7 +44,7 @@ pub fn named(i: usize) -> Name
     let s = table::span_of(i);
     let start = s.start;
     let end = s.end;
-    let mut bytes = [0u8; 24];
+    let mut bytes = [0u8; LONGEST];
     output::put_bytes(&mut bytes, 0, &table::TABLE[start..end]);
     Name {
         length: end - start,
@@ -77,5 +80,5 @@ pub fn find(s: &[u8], first: usize, end: usize) -> Found
 pub fn find_type(s: &[u8]) -> Found
     ensures { λ r. ⌜ r ≡ findType (now (s .entry)) ⌝ }
 {
-    find(s, 0, 14)
+    find(s, 0, types::END)
 }
