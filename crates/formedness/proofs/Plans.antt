@@ -164,9 +164,6 @@ abbrev Sends : Taken → Type 0
 Sends t = Sendable (t .plan .messages)
 
 module _ (s : Site) (l : ℕ) (received : List ℕ) (r : Received received) where
-  not-acked : (reason : ℕ) → IsReason reason → Sends (notAcked s received reason)
-  not-acked reason t = a-reason received r reason t
-
   by-verdict : (v : Verdict) (t : Taken) → (v ≡ Good → Sends t) → Sends (byVerdict v s received t)
   by-verdict Good t g = g refl
   by-verdict Missing t g = a-reason received r missingElement tt
@@ -265,7 +262,7 @@ plans =
       identity = sixteen-still;
       pump = pump-sends;
       answered = answered-none;
-      refused = λ s received r reason a b. a-reason received r reason a b;
+      refused = λ s received r reason t. a-reason received r reason t;
       version = version-sends;
       watchdog = watchdog-sends;
       subscribing = λ subscribing s l time received r f. subscribing-sends s l received r subscribing time f;
