@@ -5,7 +5,6 @@ use mathlib.Core.Path.{_≡_, refl, sym, _∙_, ap, subst}
 use mathlib.Core.Bool.{Bool, true, false}
 use mathlib.Core.List.{List, [], _∷_, _++_}
 use native.Mathlib.Omega.{arith}
-use lib.Dec.{eqb}
 use lib.ListN.{length, replicate, length-map}
 use Rattle.basis.specs.Pick.{pick}
 use Rattle.basis.specs.Text.{text}
@@ -30,7 +29,7 @@ use Rattle.read_head.specs.declared.Class.the-variants.{Ignored, Acked, NotAcke
 use Rattle.read_head.specs.declared.Head.{Head}
 use Rattle.read_head.specs.Word.{Word, absent, other, word, wordAt}
 use Rattle.read_head.specs.Values.{verdictOf}
-use Rattle.read_head.specs.Head.{identityOf, characters, typeOf, kindFor, ignored, answered, asked, headFor, headOf, headBy, headAt}
+use Rattle.read_head.specs.Head.{identityOf, characters, typeOf, isType, kindFor, ignored, answered, asked, headFor, headOf, headBy, headAt}
 use Rattle.formedness.specs.Formedness.{ReceivedIn}
 
 -- a request's characters are those of an identity
@@ -78,8 +77,8 @@ answer-kept c n Bad o = ignored-kept
 
 for-kept : (i : ℕ) (v : Verdict) (f : List ℕ → Word) → Kept (headFor i v f)
 for-kept i v f =
-    picked Kept (eqb i 2) _ _ (λ e. answer-kept Acked (λ a b d. omega (arith, ap which d)) v (identityOf (f (text "oMId"))))
-    (λ e. picked Kept (eqb i 3) _ _ (λ g. answer-kept NotAcked (λ a b d. omega (arith, ap which d)) v (identityOf (f (text "oMId"))))
+    picked Kept (isType "MessageAck" i) _ _ (λ e. answer-kept Acked (λ a b d. omega (arith, ap which d)) v (identityOf (f (text "oMId"))))
+    (λ e. picked Kept (isType "MessageNotAck" i) _ _ (λ g. answer-kept NotAcked (λ a b d. omega (arith, ap which d)) v (identityOf (f (text "oMId"))))
     (λ g. asked-kept (kindFor i) v (f (text "mId"))))
 
 of-kept : (t : Found) (v : Verdict) (f : List ℕ → Word) → Kept (headOf t v f)

@@ -16,6 +16,7 @@ use Rattle.identity.specs.Read.{SixteenBytes}
 use Rattle.identity.specs.Version.{version4Of}
 use Rattle.label.specs.Label.{textOf}
 use Rattle.entry.specs.declared.Entry.{Entry}
+use Rattle.names.specs.Names.{IsReason}
 use Rattle.pool.specs.declared.Place.{Place}
 use Rattle.pool.specs.declared.Pool.{Pool}
 use Rattle.pool.specs.declared.Wanted.the-variants.{Unsent}
@@ -65,7 +66,7 @@ use Rattle.site.specs.Parts.{alarmRowAt, statusRowAt}
 use Rattle.site.specs.Call.{Plan}
 use Rattle.call_pump.specs.Pump.{isHeld, Below, dueAt, entryPlan, planFor, pumpPlan}
 use Rattle.call_pump.proofs.Laws.{due-below}
-use Rattle.packet_answer.specs.Taken.{Taken, notAcked, acked, replied, byVerdict, unlessBusy, busy, unknownComponent, unknownAlarm, unknownStatus}
+use Rattle.packet_answer.specs.Taken.{Taken, notAcked, acked, replied, byVerdict, unlessBusy, missingElement, badValue, rsmpVersion, siteId, sxlVersion, busy, unknownComponent, unknownAlarm, unknownStatus}
 use Rattle.packet_greet.specs.Answered.{answeredPlan}
 use Rattle.packet_greet.specs.Version.{own, versionJudged, versionTaken}
 use Rattle.packet_greet.specs.Watchdog.{beat, watchdogTaken}
@@ -94,8 +95,8 @@ one-message m f h = record { formed = (f, tt); room = omega (arith, lawful .long
 an-ack : (received : List ℕ) → Received received → Sendable (ack received ∷ [])
 an-ack received r = one-message (ack received) (formed-ack r) (lit≤ tt)
 
-a-reason : (received : List ℕ) → Received received → (reason : ℕ) → 14 ≤ reason → reason ≤ 24 → Sendable (notAck received reason ∷ [])
-a-reason received r reason a b = one-message (notAck received reason) (formed-notAck r a b) (lit≤ tt)
+a-reason : (received : List ℕ) → Received received → (reason : ℕ) → IsReason reason → Sendable (notAck received reason ∷ [])
+a-reason received r reason t = one-message (notAck received reason) (formed-notAck r t) (lit≤ tt)
 
 and-reply : (received : List ℕ) → Received received → (m : Message) → Formed m → entriesIn m ≤ 16 → Sendable (ack received ∷ m ∷ [])
 and-reply received r m f h =
@@ -163,22 +164,19 @@ abbrev Sends : Taken → Type 0
 Sends t = Sendable (t .plan .messages)
 
 module _ (s : Site) (l : ℕ) (received : List ℕ) (r : Received received) where
-  not-acked : (reason : ℕ) → 14 ≤ reason → reason ≤ 24 → Sends (notAcked s received reason)
-  not-acked reason a b = a-reason received r reason a b
-
   by-verdict : (v : Verdict) (t : Taken) → (v ≡ Good → Sends t) → Sends (byVerdict v s received t)
   by-verdict Good t g = g refl
-  by-verdict Missing t g = a-reason received r 14 (lit≤ tt) (lit≤ tt)
-  by-verdict Bad t g = a-reason received r 15 (lit≤ tt) (lit≤ tt)
+  by-verdict Missing t g = a-reason received r missingElement tt
+  by-verdict Bad t g = a-reason received r badValue tt
 
   unless-busy : (t : Taken) → Sends t → Sends (unlessBusy s l received t)
-  unless-busy t g = picked Sends (fullOf (linkAt s l)) (notAcked s received busy) t (λ e. a-reason received r 24 (lit≤ tt) (lit≤ tt)) (λ e. g)
+  unless-busy t g = picked Sends (fullOf (linkAt s l)) (notAcked s received busy) t (λ e. a-reason received r busy tt) (λ e. g)
 
   judged-sends : (j : Judged) → Sends (versionJudged s l received j)
   judged-sends (Chosen v) = an-ack received r
-  judged-sends RsmpVersion = a-reason received r 18 (lit≤ tt) (lit≤ tt)
-  judged-sends SiteId = a-reason received r 19 (lit≤ tt) (lit≤ tt)
-  judged-sends SxlVersion = a-reason received r 20 (lit≤ tt) (lit≤ tt)
+  judged-sends RsmpVersion = a-reason received r rsmpVersion tt
+  judged-sends SiteId = a-reason received r siteId tt
+  judged-sends SxlVersion = a-reason received r sxlVersion tt
 
   version-sends : (f : VersionFields) → Sends (versionTaken s l received f)
   version-sends f = by-verdict (f .verdict) (versionJudged s l received (judge (own s) (f .offer))) (λ e. judged-sends (judge (own s) (f .offer)))
@@ -191,11 +189,11 @@ module _ (s : Site) (l : ℕ) (received : List ℕ) (r : Received received) wher
     unfolding judged changed
     change-sends c =
         picked Sends (allStatuses (s .table) c (f .entries) (f .count)) _ (notAcked s received unknownStatus)
-        (λ e. an-ack received r) (λ e. a-reason received r 23 (lit≤ tt) (lit≤ tt))
+        (λ e. an-ack received r) (λ e. a-reason received r unknownStatus tt)
 
     asked-sends : (x : Sought) → Sends (asked subscribing s l time received f x)
     asked-sends (Is c) = change-sends c
-    asked-sends NoSuch = a-reason received r 23 (lit≤ tt) (lit≤ tt)
+    asked-sends NoSuch = a-reason received r unknownStatus tt
 
     subscribing-sends : Sends (subscribingTaken subscribing s l time received f)
     unfolding subscribingTaken
@@ -219,8 +217,8 @@ module _ (s : Site) (l : ℕ) (received : List ℕ) (r : Received received) wher
 
     order-sends : (o : Order) (x : SoughtAlarm) → AlarmBelow (s .table .alarmcount) x → Sends (orderedOf s l time id received o x)
     order-sends o (AnAlarm k) i = ordered-sends k i o
-    order-sends o NoComponent i = a-reason received r 21 (lit≤ tt) (lit≤ tt)
-    order-sends o NoAlarm i = a-reason received r 22 (lit≤ tt) (lit≤ tt)
+    order-sends o NoComponent i = a-reason received r unknownComponent tt
+    order-sends o NoAlarm i = a-reason received r unknownAlarm tt
 
     alarm-sends : (f : AlarmFields) → Sends (alarmTaken s l time id received f)
     unfolding alarmTaken foundTaken
@@ -236,7 +234,7 @@ module _ (s : Site) (l : ℕ) (received : List ℕ) (r : Received received) wher
         let m = aggregatedMessage s (id .bytes) in
         by-verdict (f .verdict) (aggregatedOf s l time id received x)
         (λ e. picked Sends (isZero x) (unlessBusy s l received (replied s l time id received m)) (notAcked s received unknownComponent)
-        (λ t. replied-sends m (aggregated-formed time s h (id .bytes) sixteen) (lit≤ tt)) (λ t. a-reason received r 21 (lit≤ tt) (lit≤ tt)))
+        (λ t. replied-sends m (aggregated-formed time s h (id .bytes) sixteen) (lit≤ tt)) (λ t. a-reason received r unknownComponent tt))
 
     response-formed : (x : Sought) (f : StatusFields) → GoodFields f → f .verdict ≡ Good → Formed (response s time (id .bytes) x f)
     unfolding response
@@ -253,7 +251,7 @@ module _ (s : Site) (l : ℕ) (received : List ℕ) (r : Received received) wher
         let m = response s time (id .bytes) x f in
         by-verdict (f .verdict) (requestedOf s l time id received f x)
         (λ e. picked Sends (passes s f x) (unlessBusy s l received (replied s l time id received m)) (notAcked s received unknownStatus)
-        (λ t. replied-sends m (response-formed x f g e) (response-few x f g)) (λ t. a-reason received r 23 (lit≤ tt) (lit≤ tt)))
+        (λ t. replied-sends m (response-formed x f g e) (response-few x f g)) (λ t. a-reason received r unknownStatus tt))
 
     status-sends : (packet : List ℕ) → Sends (statusTaken s l time id received (statusAt false packet))
     status-sends packet = fields-send (statusAt false packet) (fields-good false packet)
@@ -264,7 +262,7 @@ plans =
       identity = sixteen-still;
       pump = pump-sends;
       answered = answered-none;
-      refused = λ s received r reason a b. a-reason received r reason a b;
+      refused = λ s received r reason t. a-reason received r reason t;
       version = version-sends;
       watchdog = watchdog-sends;
       subscribing = λ subscribing s l time received r f. subscribing-sends s l received r subscribing time f;

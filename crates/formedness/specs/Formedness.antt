@@ -13,6 +13,7 @@ use Rattle.identity.specs.declared.Identity.{Identity}
 use Rattle.identity.specs.Read.{SixteenBytes}
 use Rattle.identity.specs.Version.{version4Of}
 use Rattle.entry.specs.declared.Entry.{Entry}
+use Rattle.names.specs.Names.{IsReason}
 use Rattle.label.specs.Label.{textOf as labelText}
 use Rattle.json_packet.specs.Packet.{Packet}
 use Rattle.json_write.specs.Text.{textOf}
@@ -73,8 +74,7 @@ pub record Plans : Type 0 where
   pub identity : (bs : List ℕ) → SixteenBytes bs → SixteenBytes (version4Of bs)
   pub pump : (time : ℕ) (s : Site) → SoundAt time s → (l : ℕ) (id : Identity) → SixteenBytes (id .bytes) → Sendable (pumpPlan s l time id .messages)
   pub answered : (s : Site) (l : ℕ) (id : Identity) (acknowledged : Bool) → answeredPlan s l id acknowledged .messages ≡ []
-  -- the eleven reasons are names 14 to 24
-  pub refused : (s : Site) (received : List ℕ) → Received received → (reason : ℕ) → 14 ≤ reason → reason ≤ 24 → Sendable (notAcked s received reason .plan .messages)
+  pub refused : (s : Site) (received : List ℕ) → Received received → (reason : ℕ) → IsReason reason → Sendable (notAcked s received reason .plan .messages)
   pub version : (s : Site) (l : ℕ) (received : List ℕ) → Received received → (f : VersionFields) → Sendable (versionTaken s l received f .plan .messages)
   pub watchdog : (s : Site) (l : ℕ) (received : List ℕ) → Received received → (f : GotTime) → Sendable (watchdogTaken s l received f .plan .messages)
   pub subscribing : (subscribing : Bool) (s : Site) (l time : ℕ) (received : List ℕ) → Received received → (f : StatusFields)

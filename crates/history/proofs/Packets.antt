@@ -28,7 +28,7 @@ use Rattle.read_lists.specs.Status.{statusAt}
 use Rattle.site.specs.declared.Site.{Site}
 use Rattle.site.specs.Site.{linkAt, withLink, closeAt, maskOf}
 use Rattle.site.specs.Call.{Plan, only}
-use Rattle.packet_answer.specs.Taken.{Taken, notAcked, byVerdict, unexpected, notReady}
+use Rattle.packet_answer.specs.Taken.{Taken, notAcked, byVerdict, missingElement, badValue, unexpected, notReady}
 use Rattle.packet_greet.specs.Answered.{settled, answeredPlan}
 use Rattle.packet_greet.specs.Version.{own, versionJudged}
 use Rattle.packet_greet.specs.Watchdog.{beat}
@@ -80,8 +80,8 @@ module _ (s : Site) (l time : ℕ) (id : Identity) (p : List ℕ) (up : linkAt s
 
   by-verdict : (v : Verdict) (t : Taken) (xs : List Act) → Comes t xs → Comes (byVerdict v s received t) (whereGood v xs)
   by-verdict Good t xs c = c
-  by-verdict Missing t xs c = reason received 14
-  by-verdict Bad t xs c = reason received 15
+  by-verdict Missing t xs c = reason received missingElement
+  by-verdict Bad t xs c = reason received badValue
 
   by-kind : (kind : Kind) → headAt p .class ≡ Asked Good kind → Comes (kindTaken s l time id received p kind) (kindActs s l time id received p kind)
   by-kind Version e = by-verdict (versionAt p .verdict) _ _ (judged-comes e (judge (own s) (versionAt p .offer)))
@@ -107,8 +107,8 @@ module _ (s : Site) (l time : ℕ) (id : Identity) (p : List ℕ) (up : linkAt s
       → Comes (askedTaken s l time id received p v kind) (askedActs s l time id received p v kind)
   by-asked Good kind e =
       else-picked (expected (linkAt s l) kind) unexpected _ _ (picked (unready (linkAt s l) kind) notReady _ _ (by-kind kind e))
-  by-asked Missing kind e = reason received 14
-  by-asked Bad kind e = reason received 15
+  by-asked Missing kind e = reason received missingElement
+  by-asked Bad kind e = reason received badValue
 
   -- an answer
   abbrev Answers : Plan → List Act → Type 0

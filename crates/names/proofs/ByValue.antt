@@ -9,7 +9,7 @@ use lib.ListN.{length, take, drop, replicate, length-drop, length-append}
 use lib.Seq.{length-take-le, take-append-seam}
 use Rattle.output.specs.Put.{Out, Wrote, output, put, putPiece}
 use Rattle.output.proofs.Laws.{piece-fits}
-use Rattle.names.specs.Names.{nameOf}
+use Rattle.names.specs.Names.{nameOf, longest}
 use Rattle.names.specs.Held.{heldName, Held}
 use Rattle.names.specs.Table.{table, Spans}
 use Rattle.names.specs.declared.Name.{Name}
@@ -29,21 +29,25 @@ spanned {i} {a} {e} s =
     let w = s .within in
     ap length (sym (s .named)) ∙ length-take-le (e - a) (drop a table) (rw (length-drop a table) (omega arith))
 
-whole : {i a e : ℕ} {ys : List ℕ} {r : ℕ} → Spans i a e → Wrote (zeros 24) 0 (take (e - a) (drop a table) ∷ []) ys r → _≡_ {A = Name} (record { length = e - a; bytes = ys }) (heldName i)
+whole : {i a e : ℕ} {ys : List ℕ} {r : ℕ} → Spans i a e → Wrote (zeros longest) 0 (take (e - a) (drop a table) ∷ []) ys r → _≡_ {A = Name} (record { length = e - a; bytes = ys }) (heldName i)
 unfolding put
 whole {i} {a} {e} {ys} {r} s w =
     let n = spanned s in
-    let f : 0 + length (nameOf i) ≤ 24 = omega (arith, s .short, n) in
-    let b : ys ≡ nameOf i ++ drop (0 + length (nameOf i)) (zeros 24) = ap (λ (o : Out). o .bytes) (w .all) ∙ ap (λ (bs : List ℕ). putPiece (output (zeros 24) 0) bs .bytes) (s .named) ∙ ap (λ (o : Out). o .bytes) (piece-fits (zeros 24) 0 (nameOf i) f) in
-    let d : drop (0 + length (nameOf i)) (zeros 24) ≡ zeros (24 - length (nameOf i)) = ap (λ (k : ℕ). drop k (zeros 24)) (zero-add (length (nameOf i))) ∙ drop-zeros 24 (length (nameOf i)) in
+    let f : 0 + length (nameOf i) ≤ longest = omega (arith, s .short, n) in
+    let b : ys ≡ nameOf i ++ drop (0 + length (nameOf i)) (zeros longest) = ap (λ (o : Out). o .bytes) (w .all) ∙ ap (λ (bs : List ℕ). putPiece (output (zeros longest) 0) bs .bytes) (s .named) ∙ ap (λ (o : Out). o .bytes) (piece-fits (zeros longest) 0 (nameOf i) f) in
+    let d : drop (0 + length (nameOf i)) (zeros longest) ≡ zeros (longest - length (nameOf i)) = ap (λ (k : ℕ). drop k (zeros longest)) (zero-add (length (nameOf i))) ∙ drop-zeros longest (length (nameOf i)) in
     λ j. record { length = (sym n) j; bytes = (b ∙ ap (λ (l : List ℕ). nameOf i ++ l) d) j }
 
 -- a name written into zeros is held
-pub held : {i a e : ℕ} {ys : List ℕ} {r : ℕ} → Spans i a e → Wrote (zeros 24) 0 (take (e - a) (drop a table) ∷ []) ys r → Held i (record { length = e - a; bytes = ys })
+pub held : {i a e : ℕ} {ys : List ℕ} {r : ℕ} → Spans i a e → Wrote (zeros longest) 0 (take (e - a) (drop a table) ∷ []) ys r → Held i (record { length = e - a; bytes = ys })
 held {i} {a} {e} {ys} s w =
     let p = whole s w in
     record {
       whole = p;
-      within = subst (λ (n : Name). n .length ≤ length (n .bytes)) (sym p) (omega (arith, length-append (nameOf i) (zeros (24 - length (nameOf i)))));
-      lent = ap (λ (n : Name). take (n .length) (n .bytes)) p ∙ take-append-seam (nameOf i) (zeros (24 - length (nameOf i)));
+      within = subst (λ (n : Name). n .length ≤ length (n .bytes)) (sym p) (omega (arith, length-append (nameOf i) (zeros (longest - length (nameOf i)))));
+      lent = ap (λ (n : Name). take (n .length) (n .bytes)) p ∙ take-append-seam (nameOf i) (zeros (longest - length (nameOf i)));
     }
+
+-- what is lent of a name from its first byte on
+pub lent-whole : {i : ℕ} {r : Name} → Held i r → take (r .length - 0) (r .bytes) ≡ nameOf i
+lent-whole {i} {r} h = ap (λ (n : ℕ). take n (r .bytes)) (sub-zero (r .length)) ∙ h .lent

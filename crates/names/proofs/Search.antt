@@ -1,19 +1,20 @@
 -- The search for a name, and that no two names are the same: every name is found as itself.
 -- Assumes nothing.
-use mathlib.Core.Path.{_≡_, refl, sym, ap, _∙_}
+use mathlib.Core.Path.{_≡_, refl, sym, ap, subst, _∙_}
 use mathlib.Core.Logic.{⊎-elim}
 use mathlib.Core.Bool.{Bool, true, false}
 use mathlib.Core.List.{List}
 use Prim.Native.Nat.{ℕ, zero, suc, _+_, _-_, _≤_, _<_}
 use native.Mathlib.Numerals.{add-one}
 use native.Mathlib.Omega.{arith}
-use lib.Dec.{T, eqb, eqb→eq}
+use lib.ListN.{length, replicate}
+use lib.Dec.{T, eqb, eqb→eq, leb, ltb, leb→le, ltb→lt, lit≤}
 use Rattle.basis.specs.Pick.{pick}
 use Rattle.basis.specs.Lists.{sameBytes}
 use Rattle.basis.proofs.Cases.{bool-cases, le-or-lt}
 use Rattle.basis.proofs.Same.{same-true, same-self}
-use Rattle.basis.proofs.Table.{at}
-use Rattle.names.specs.Names.{nameOf, findIn}
+use Rattle.basis.proofs.Table.{every, at, both-left, both-right}
+use Rattle.names.specs.Names.{typeNames, reasons, names, nameOf, findIn, findReason, numberOf, indexOf, IsReason}
 use Rattle.names.specs.declared.Found.{Found}
 use Rattle.names.specs.declared.Found.the-variants.{At, Nothing}
 use Rattle.names.proofs.Spans.{starts}
@@ -33,17 +34,17 @@ is-at i (At j) t = ap At (sym (eqb→eq i j t))
 is-at i Nothing t = absurd t
 
 itself : ℕ → ℕ → Bool
-itself i x = isAt i (findIn (nameOf i) 0 78)
+itself i x = isAt i (findIn (nameOf i) 0 (length names))
 
 -- every name is found as itself in the whole table, so no two are the same
-pub distinct : (i : ℕ) → i < 78 → findIn (nameOf i) 0 78 ≡ At i
+pub distinct : (i : ℕ) → i < length names → findIn (nameOf i) 0 (length names) ≡ At i
 unfolding itself
-distinct i h = is-at i (findIn (nameOf i) 0 78) (at itself starts tt i h)
+distinct i h = is-at i (findIn (nameOf i) 0 (length names)) (at itself starts tt i h)
 
 -- no two names are the same
-pub one-name : (i j : ℕ) → i < 78 → j < 78 → nameOf i ≡ nameOf j → i ≡ j
+pub one-name : (i j : ℕ) → i < length names → j < length names → nameOf i ≡ nameOf j → i ≡ j
 one-name i j h k e =
-    let p = sym (distinct i h) ∙ ap (λ (s : List ℕ). findIn s 0 78) e ∙ distinct j k in
+    let p = sym (distinct i h) ∙ ap (λ (s : List ℕ). findIn s 0 (length names)) e ∙ distinct j k in
     at-at p
   where
     at-at : {a b : ℕ} → At a ≡ At b → a ≡ b
@@ -79,9 +80,32 @@ missed s i (suc n) k e l h q = bool-cases (sameBytes s (nameOf i))
     (le-or-lt k i))
 
 -- each name is found among any of the names that it is one of
-pub finds : (i n k : ℕ) → i ≤ k → k < i + n → i + n ≤ 78 → findIn (nameOf k) i n ≡ At k
+pub finds : (i n k : ℕ) → i ≤ k → k < i + n → i + n ≤ length names → findIn (nameOf k) i n ≡ At k
 finds i n k l h m = by (findIn (nameOf k) i n) refl
   where
     by : (f : Found) → findIn (nameOf k) i n ≡ f → f ≡ At k
     by (At j) e = let r = found (nameOf k) i n j e in ap At (one-name j k (omega arith) (omega arith) (sym (r .2)))
     by Nothing e = absurd (missed (nameOf k) i n k e l h refl)
+
+-- a name is cited by its own number
+pub indexed : (i : ℕ) → i < length names → indexOf (nameOf i) ≡ i
+indexed i h = ap numberOf (distinct i h)
+
+-- the numbers of the reasons
+pub reason-from : (r : ℕ) → IsReason r → length typeNames ≤ r
+reason-from r t = leb→le (length typeNames) r (both-left (leb (length typeNames) r) (ltb r (length typeNames + length reasons)) t)
+
+pub reason-before : (r : ℕ) → IsReason r → r < length typeNames + length reasons
+reason-before r t = ltb→lt r (length typeNames + length reasons) (both-right (leb (length typeNames) r) (ltb r (length typeNames + length reasons)) t)
+
+-- each reason is found as itself among the reasons
+pub reason-found : (r : ℕ) → IsReason r → findReason (nameOf r) ≡ At r
+reason-found r t = finds (length typeNames) (length reasons) r (reason-from r t) (reason-before r t) (lit≤ tt)
+
+-- a test that antt computes at each reason
+pub at-reasons : (f : ℕ → Bool) → T (every (λ (k x : ℕ). f (length typeNames + k)) 0 (replicate (length reasons) 0)) → (r : ℕ) → IsReason r → T (f r)
+at-reasons f all r t =
+    let l = reason-from r t in
+    let h = reason-before r t in
+    let e : length typeNames + (r - length typeNames) ≡ r = omega arith in
+    subst (λ (n : ℕ). T (f n)) e (at (λ (k x : ℕ). f (length typeNames + k)) (replicate (length reasons) 0) all (r - length typeNames) (omega arith))

@@ -11,7 +11,7 @@ use lib.ListN.{length, getD, take, drop, List·getD-eq-default}
 use Rattle.basis.specs.Pick.{both}
 use Rattle.basis.specs.Lists.{sameBytes}
 use Rattle.basis.proofs.Table.{at, both-left, both-right}
-use Rattle.names.specs.Names.{names, nameOf}
+use Rattle.names.specs.Names.{names, nameOf, longest}
 use Rattle.names.specs.Table.{table, Spans}
 use Rattle.basis.proofs.Same.{same-true}
 
@@ -31,24 +31,24 @@ told true t = refl
 told false t = absurd t
 
 right : ℕ → ℕ → Bool
-right i s = both (both (leb (s + getD lens i 0) 547) (leb (getD lens i 0) 24)) (sameBytes (take (getD lens i 0) (drop s table)) (nameOf i))
+right i s = both (both (leb (s + getD lens i 0) (length table)) (leb (getD lens i 0) longest)) (sameBytes (take (getD lens i 0) (drop s table)) (nameOf i))
 
-pub spans : (i : ℕ) → i < 78 → Spans i (getD starts i 0) (getD starts i 0 + getD lens i 0)
+pub spans : (i : ℕ) → i < length names → Spans i (getD starts i 0) (getD starts i 0 + getD lens i 0)
 unfolding right
 spans i h =
     let a = getD starts i 0 in
     let n = getD lens i 0 in
-    let sized = both (leb (a + n) 547) (leb n 24) in
+    let sized = both (leb (a + n) (length table)) (leb n longest) in
     let said = sameBytes (take n (drop a table)) (nameOf i) in
     let t : T (right i a) = at right starts tt i h in
-    let short : n ≤ 24 = leb→le n 24 (both-right (leb (a + n) 547) (leb n 24) (both-left sized said t)) in
+    let short : n ≤ longest = leb→le n longest (both-right (leb (a + n) (length table)) (leb n longest) (both-left sized said t)) in
     record {
       ordered = omega arith;
-      within = leb→le (a + n) 547 (both-left (leb (a + n) 547) (leb n 24) (both-left sized said t));
+      within = leb→le (a + n) (length table) (both-left (leb (a + n) (length table)) (leb n longest) (both-left sized said t));
       short = omega arith;
       named = ap (λ (k : ℕ). take k (drop a table)) (add-sub-cancel-left a n) ∙ same-true (take n (drop a table)) (nameOf i) (told said (both-right sized said t));
     }
 
 -- past the last name
-pub past : (i : ℕ) → 78 ≤ i → Spans i 0 0
+pub past : (i : ℕ) → length names ≤ i → Spans i 0 0
 past i h = record { ordered = lit≤ tt; within = lit≤ tt; short = lit≤ tt; named = sym (List·getD-eq-default names [] h) }

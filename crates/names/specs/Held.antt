@@ -4,12 +4,12 @@ use mathlib.Core.List.{_++_}
 use mathlib.Core.Path.{_≡_}
 use Prim.Native.Nat.{ℕ, _-_, _≤_}
 use lib.ListN.{length, take, replicate}
-use Rattle.names.specs.Names.{nameOf}
+use Rattle.names.specs.Names.{nameOf, longest}
 use Rattle.names.specs.declared.Name.{Name}
 
 -- name i: its length, and its bytes with zeros behind them
 abbrev pub heldName : ℕ → Name
-heldName i = record { length = length (nameOf i); bytes = nameOf i ++ replicate (24 - length (nameOf i)) 0 }
+heldName i = record { length = length (nameOf i); bytes = nameOf i ++ replicate (longest - length (nameOf i)) 0 }
 
 -- r is name i, and what is lent of it, `&bytes[0..length]`, is the name's bytes
 pub record Held (i : ℕ) (r : Name) : Type 0 where

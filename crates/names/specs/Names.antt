@@ -1,9 +1,10 @@
 -- The fixed names, and which of them a text is. Readers and writers cite the same ones.
 -- Assumes nothing.
 use mathlib.Core.List.{List, [], _∷_, _++_}
-use Prim.Native.Nat.{ℕ, zero, suc}
-use lib.ListN.{getD}
-use Rattle.basis.specs.Pick.{pick}
+use Prim.Native.Nat.{ℕ, zero, suc, _+_}
+use lib.Dec.{T, leb, ltb}
+use lib.ListN.{length, getD}
+use Rattle.basis.specs.Pick.{pick, both}
 use Rattle.basis.specs.Lists.{sameBytes}
 use Rattle.basis.specs.Text.{text}
 use Rattle.names.specs.declared.Found.{Found}
@@ -40,13 +41,17 @@ words =
     ∷ text "Acknowledged" ∷ text "notAcknowledged" ∷ text "Active" ∷ text "inActive" ∷ text "Suspended"
     ∷ text "notSuspended" ∷ text "T" ∷ text "D" ∷ text "recent" ∷ text "unknown" ∷ text "undefined" ∷ []
 
--- all of them: types from 0, reasons from 14, elements from 25, words from 61
+-- all of them: types, reasons, elements, words
 abbrev pub names : List (List ℕ)
 names = typeNames ++ (reasons ++ (elements ++ words))
 
 -- name i; past the last one the empty text
 abbrev pub nameOf : ℕ → List ℕ
 nameOf i = getD names i []
+
+-- how long a name by value may be
+abbrev pub longest : ℕ
+longest = 26
 
 -- the first of the n names from i on that s is
 abbrev pub findIn : List ℕ → ℕ → ℕ → Found
@@ -55,4 +60,20 @@ findIn s i (suc n) = pick (sameBytes s (nameOf i)) (At i) (findIn s (suc i) n)
 
 -- the type that s names
 abbrev pub findType : List ℕ → Found
-findType s = findIn s 0 14
+findType s = findIn s 0 (length typeNames)
+
+-- the reason that s names
+abbrev pub findReason : List ℕ → Found
+findReason s = findIn s (length typeNames) (length reasons)
+
+abbrev pub numberOf : Found → ℕ
+numberOf (At i) = i
+numberOf Nothing = length names
+
+-- i is the number of a reason
+abbrev pub IsReason : ℕ → Type 0
+IsReason i = T (both (leb (length typeNames) i) (ltb i (length typeNames + length reasons)))
+
+-- the number of the name s; of any other text, past the last name
+abbrev pub indexOf : List ℕ → ℕ
+indexOf s = numberOf (findIn s 0 (length names))

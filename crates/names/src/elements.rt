@@ -1,72 +1,76 @@
 // The names of elements, by their numbers in the table.
-pub const M_TYPE: usize = 25;
+use super::reasons;
 
-pub const TYPE: usize = 26;
+pub const M_TYPE: usize = reasons::END;
 
-pub const M_ID: usize = 27;
+pub const TYPE: usize = reasons::END + 1;
 
-pub const O_M_ID: usize = 28;
+pub const M_ID: usize = reasons::END + 2;
 
-pub const REA: usize = 29;
+pub const O_M_ID: usize = reasons::END + 3;
 
-pub const NTS_O_ID: usize = 30;
+pub const REA: usize = reasons::END + 4;
 
-pub const X_N_ID: usize = 31;
+pub const NTS_O_ID: usize = reasons::END + 5;
 
-pub const C_ID: usize = 32;
+pub const X_N_ID: usize = reasons::END + 6;
 
-pub const RSMP: usize = 33;
+pub const C_ID: usize = reasons::END + 7;
 
-pub const VERS: usize = 34;
+pub const RSMP: usize = reasons::END + 8;
 
-pub const SITE_ID: usize = 35;
+pub const VERS: usize = reasons::END + 9;
 
-pub const S_ID: usize = 36;
+pub const SITE_ID: usize = reasons::END + 10;
 
-pub const SXL: usize = 37;
+pub const S_ID: usize = reasons::END + 11;
 
-pub const W_TS: usize = 38;
+pub const SXL: usize = reasons::END + 12;
 
-pub const A_C_ID: usize = 39;
+pub const W_TS: usize = reasons::END + 13;
 
-pub const X_A_C_ID: usize = 40;
+pub const A_C_ID: usize = reasons::END + 14;
 
-pub const X_N_A_C_ID: usize = 41;
+pub const X_A_C_ID: usize = reasons::END + 15;
 
-pub const A_SP: usize = 42;
+pub const X_N_A_C_ID: usize = reasons::END + 16;
 
-pub const ACK: usize = 43;
+pub const A_SP: usize = reasons::END + 17;
 
-pub const A_S: usize = 44;
+pub const ACK: usize = reasons::END + 18;
 
-pub const S_S: usize = 45;
+pub const A_S: usize = reasons::END + 19;
 
-pub const A_TS: usize = 46;
+pub const S_S: usize = reasons::END + 20;
 
-pub const CAT: usize = 47;
+pub const A_TS: usize = reasons::END + 21;
 
-pub const PRI: usize = 48;
+pub const CAT: usize = reasons::END + 22;
 
-pub const RVS: usize = 49;
+pub const PRI: usize = reasons::END + 23;
 
-pub const A_S_TS: usize = 50;
+pub const RVS: usize = reasons::END + 24;
 
-pub const F_P: usize = 51;
+pub const A_S_TS: usize = reasons::END + 25;
 
-pub const F_S: usize = 52;
+pub const F_P: usize = reasons::END + 26;
 
-pub const SE: usize = 53;
+pub const F_S: usize = reasons::END + 27;
 
-pub const S_TS: usize = 54;
+pub const SE: usize = reasons::END + 28;
 
-pub const S_C_I: usize = 55;
+pub const S_TS: usize = reasons::END + 29;
 
-pub const N: usize = 56;
+pub const S_C_I: usize = reasons::END + 30;
 
-pub const S: usize = 57;
+pub const N: usize = reasons::END + 31;
 
-pub const Q: usize = 58;
+pub const S: usize = reasons::END + 32;
 
-pub const U_RT: usize = 59;
+pub const Q: usize = reasons::END + 33;
 
-pub const S_OC: usize = 60;
+pub const U_RT: usize = reasons::END + 34;
+
+pub const S_OC: usize = reasons::END + 35;
+
+pub const END: usize = reasons::END + 36;

@@ -13,6 +13,9 @@ pub mod reasons; // reasons.rt: the eleven reasons of a MessageNotAck
 pub mod elements; // elements.rt: the elements that we read or write
 pub mod words; // words.rt: the values that we read or write
 
+// How long a name by value may be.
+const LONGEST: usize = 26;
+
 pub enum Found {
     At(usize),
     Nothing,
@@ -21,27 +24,17 @@ pub enum Found {
 // A name by value, to be lent as &bytes[0..length].
 pub struct Name {
     pub length: usize,
-    pub bytes: [u8; 24],
+    pub bytes: [u8; LONGEST],
 }
 
-// Writes name i.
-pub fn put(out: &mut [u8], at: usize, i: usize) -> usize
-    ensures { λ r. ⌜ Wrote (now (out .entry)) at (nameOf i ∷ []) (now (out .exit)) r ⌝ }
-{
-    let s = table::span_of(i);
-    let start = s.start;
-    let end = s.end;
-    output::put_bytes(out, at, &table::TABLE[start..end])
-}
-
-// Name i by value.
+// Name i by value. Only here are the bytes of all names: each function that holds them has a copy.
 pub fn named(i: usize) -> Name
     ensures { λ r. ⌜ Held i r ⌝ }
 {
     let s = table::span_of(i);
     let start = s.start;
     let end = s.end;
-    let mut bytes = [0u8; 24];
+    let mut bytes = [0u8; LONGEST];
     output::put_bytes(&mut bytes, 0, &table::TABLE[start..end]);
     Name {
         length: end - start,
@@ -49,14 +42,24 @@ pub fn named(i: usize) -> Name
     }
 }
 
+// Writes name i.
+pub fn put(out: &mut [u8], at: usize, i: usize) -> usize
+    ensures { λ r. ⌜ Wrote (now (out .entry)) at (nameOf i ∷ []) (now (out .exit)) r ⌝ }
+{
+    let name = named(i);
+    let n = name.length;
+    let bytes = name.bytes;
+    output::put_bytes(out, at, &bytes[0..n])
+}
+
 // Whether s is name i.
 pub fn is_name(s: &[u8], i: usize) -> bool
     ensures { λ r. ⌜ r ≡ sameBytes (now (s .entry)) (nameOf i) ⌝ }
 {
-    let t = table::span_of(i);
-    let start = t.start;
-    let end = t.end;
-    check::same(s, &table::TABLE[start..end])
+    let name = named(i);
+    let n = name.length;
+    let bytes = name.bytes;
+    check::same(s, &bytes[0..n])
 }
 
 // The first of the names from first to before end that s is.
@@ -77,5 +80,5 @@ pub fn find(s: &[u8], first: usize, end: usize) -> Found
 pub fn find_type(s: &[u8]) -> Found
     ensures { λ r. ⌜ r ≡ findType (now (s .entry)) ⌝ }
 {
-    find(s, 0, 14)
+    find(s, 0, types::END)
 }

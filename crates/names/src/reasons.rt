@@ -1,22 +1,26 @@
 // The reasons of a MessageNotAck, by their numbers in the table.
-pub const MISSING_ELEMENT: usize = 14;
+use super::types;
 
-pub const BAD_VALUE: usize = 15;
+pub const MISSING_ELEMENT: usize = types::END;
 
-pub const UNEXPECTED: usize = 16;
+pub const BAD_VALUE: usize = types::END + 1;
 
-pub const NOT_READY: usize = 17;
+pub const UNEXPECTED: usize = types::END + 2;
 
-pub const RSMP_VERSION: usize = 18;
+pub const NOT_READY: usize = types::END + 3;
 
-pub const SITE_ID: usize = 19;
+pub const RSMP_VERSION: usize = types::END + 4;
 
-pub const SXL_VERSION: usize = 20;
+pub const SITE_ID: usize = types::END + 5;
 
-pub const UNKNOWN_COMPONENT: usize = 21;
+pub const SXL_VERSION: usize = types::END + 6;
 
-pub const UNKNOWN_ALARM: usize = 22;
+pub const UNKNOWN_COMPONENT: usize = types::END + 7;
 
-pub const UNKNOWN_STATUS: usize = 23;
+pub const UNKNOWN_ALARM: usize = types::END + 8;
 
-pub const BUSY: usize = 24;
+pub const UNKNOWN_STATUS: usize = types::END + 9;
+
+pub const BUSY: usize = types::END + 10;
+
+pub const END: usize = types::END + 11;

@@ -2,8 +2,9 @@
 ghost use mathlib.Core.Path.{_≡_};
 ghost use Prim.Native.Nat.{ℕ, _+_, _-_, _≤_, _<_};
 ghost use Rattle.names.specs.Table.{Spans};
+use super::words;
 
-const COUNT: usize = 78;
+const COUNT: usize = words::END;
 
 pub const TABLE: [u8; 547] =
     *b"VersionWatchdogMessageAckMessageNotAckAlarmAggregatedStatusAggregatedStatusRequestStatusRequestStatusResponseStatusSubscribeStatusUnsubscribeStatusUpdateCommandRequestCommandResponse\
@@ -11,7 +12,7 @@ pub const TABLE: [u8; 547] =
       mTypetypemIdoMIdreantsOIdxNIdcIdRSMPverssiteIdsIdSXLwTsaCIdxACIdxNACIdaSpackaSsSaTscatprirvsaSTSfPfSsesTssCInsquRtsOc\
       rSMsgIssueRequestAcknowledgeSuspendResumeAcknowledgednotAcknowledgedActiveinActiveSuspendednotSuspendedTDrecentunknownundefined";
 
-const STARTS: [usize; 78] = [
+const STARTS: [u16; COUNT] = [
     0,
     7,
     15,
@@ -92,86 +93,8 @@ const STARTS: [usize; 78] = [
     538,
 ];
 
-const LENS: [usize; 78] = [
-    7,
-    8,
-    10,
-    13,
-    5,
-    16,
-    23,
-    13,
-    14,
-    15,
-    17,
-    12,
-    14,
-    15,
-    15,
-    9,
-    10,
-    9,
-    12,
-    7,
-    11,
-    17,
-    13,
-    14,
-    4,
-    5,
-    4,
-    3,
-    4,
-    3,
-    6,
-    4,
-    3,
-    4,
-    4,
-    6,
-    3,
-    3,
-    3,
-    4,
-    5,
-    6,
-    3,
-    3,
-    2,
-    2,
-    3,
-    3,
-    3,
-    3,
-    4,
-    2,
-    2,
-    2,
-    3,
-    3,
-    1,
-    1,
-    1,
-    3,
-    3,
-    5,
-    5,
-    7,
-    11,
-    7,
-    6,
-    12,
-    15,
-    6,
-    8,
-    9,
-    12,
-    1,
-    1,
-    6,
-    7,
-    9,
-];
+const LENS: [u8; COUNT] =
+    *b"\x07\x08\x0a\x0d\x05\x10\x17\x0d\x0e\x0f\x11\x0c\x0e\x0f\x0f\x09\x0a\x09\x0c\x07\x0b\x11\x0d\x0e\x04\x05\x04\x03\x04\x03\x06\x04\x03\x04\x04\x06\x03\x03\x03\x04\x05\x06\x03\x03\x02\x02\x03\x03\x03\x03\x04\x02\x02\x02\x03\x03\x01\x01\x01\x03\x03\x05\x05\x07\x0b\x07\x06\x0c\x0f\x06\x08\x09\x0c\x01\x01\x06\x07\x09";
 
 pub struct Span {
     pub start: usize,
@@ -183,10 +106,10 @@ pub fn span_of(i: usize) -> Span
     ensures { λ r. ⌜ Spans i (r .start) (r .end) ⌝ }
 {
     if i < COUNT {
-        let start = STARTS[i];
+        let start = STARTS[i] as usize;
         Span {
             start,
-            end: start + LENS[i],
+            end: start + LENS[i] as usize,
         }
     } else {
         Span { start: 0, end: 0 }

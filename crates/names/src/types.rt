@@ -26,3 +26,5 @@ pub const STATUS_UPDATE: usize = 11;
 pub const COMMAND_REQUEST: usize = 12;
 
 pub const COMMAND_RESPONSE: usize = 13;
+
+pub const END: usize = 14;

@@ -1,34 +1,38 @@
 // The values that elements have, by their numbers in the table.
-pub const R_S_MSG: usize = 61;
+use super::elements;
 
-pub const ISSUE: usize = 62;
+pub const R_S_MSG: usize = elements::END;
 
-pub const REQUEST: usize = 63;
+pub const ISSUE: usize = elements::END + 1;
 
-pub const ACKNOWLEDGE: usize = 64;
+pub const REQUEST: usize = elements::END + 2;
 
-pub const SUSPEND: usize = 65;
+pub const ACKNOWLEDGE: usize = elements::END + 3;
 
-pub const RESUME: usize = 66;
+pub const SUSPEND: usize = elements::END + 4;
 
-pub const ACKNOWLEDGED: usize = 67;
+pub const RESUME: usize = elements::END + 5;
 
-pub const NOT_ACKNOWLEDGED: usize = 68;
+pub const ACKNOWLEDGED: usize = elements::END + 6;
 
-pub const ACTIVE: usize = 69;
+pub const NOT_ACKNOWLEDGED: usize = elements::END + 7;
 
-pub const IN_ACTIVE: usize = 70;
+pub const ACTIVE: usize = elements::END + 8;
 
-pub const SUSPENDED: usize = 71;
+pub const IN_ACTIVE: usize = elements::END + 9;
 
-pub const NOT_SUSPENDED: usize = 72;
+pub const SUSPENDED: usize = elements::END + 10;
 
-pub const T: usize = 73;
+pub const NOT_SUSPENDED: usize = elements::END + 11;
 
-pub const D: usize = 74;
+pub const T: usize = elements::END + 12;
 
-pub const RECENT: usize = 75;
+pub const D: usize = elements::END + 13;
 
-pub const UNKNOWN: usize = 76;
+pub const RECENT: usize = elements::END + 14;
 
-pub const UNDEFINED: usize = 77;
+pub const UNKNOWN: usize = elements::END + 15;
+
+pub const UNDEFINED: usize = elements::END + 16;
+
+pub const END: usize = elements::END + 17;

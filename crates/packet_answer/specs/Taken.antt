@@ -4,11 +4,13 @@ use Prim.Native.Nat.{ℕ}
 use mathlib.Core.Bool.{Bool, true, false}
 use mathlib.Core.List.{List, [], _∷_}
 use Rattle.basis.specs.Pick.{pick, both}
+use Rattle.basis.specs.Text.{text}
 use Rattle.answer.specs.declared.Refusal.{Refusal}
 use Rattle.answer.specs.declared.Refusal.the-variants.{IdentityAwaited}
 use Rattle.answer.specs.Given.{Hint}
 use Rattle.answer.specs.Given.Hint.{none}
 use Rattle.identity.specs.declared.Identity.{Identity}
+use Rattle.names.specs.Names.{indexOf}
 use Rattle.entry.specs.declared.Entry.{Entry}
 use Rattle.awaited.specs.declared.Purpose.the-variants.{Other}
 use Rattle.awaited.specs.Awaited.{findOf, isAwaited}
@@ -55,37 +57,37 @@ replied s l time id received m =
 
 -- The reasons by their numbers in the table of names.
 abbrev pub missingElement : ℕ
-missingElement = 14
+missingElement = indexOf (text "Missing element")
 
 abbrev pub badValue : ℕ
-badValue = 15
+badValue = indexOf (text "Bad value")
 
 abbrev pub unexpected : ℕ
-unexpected = 16
+unexpected = indexOf (text "Unexpected")
 
 abbrev pub notReady : ℕ
-notReady = 17
+notReady = indexOf (text "Not ready")
 
 abbrev pub rsmpVersion : ℕ
-rsmpVersion = 18
+rsmpVersion = indexOf (text "RSMP version")
 
 abbrev pub siteId : ℕ
-siteId = 19
+siteId = indexOf (text "Site id")
 
 abbrev pub sxlVersion : ℕ
-sxlVersion = 20
+sxlVersion = indexOf (text "SXL version")
 
 abbrev pub unknownComponent : ℕ
-unknownComponent = 21
+unknownComponent = indexOf (text "Unknown component")
 
 abbrev pub unknownAlarm : ℕ
-unknownAlarm = 22
+unknownAlarm = indexOf (text "Unknown alarm")
 
 abbrev pub unknownStatus : ℕ
-unknownStatus = 23
+unknownStatus = indexOf (text "Unknown status")
 
 abbrev pub busy : ℕ
-busy = 24
+busy = indexOf (text "Busy")
 
 -- "Missing element", then "Bad value", then what the packet asks for
 abbrev pub byVerdict : Verdict → Site → List ℕ → Taken → Taken

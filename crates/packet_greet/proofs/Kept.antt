@@ -3,7 +3,7 @@
 use Prim.Native.Nat.{ℕ}
 use mathlib.Core.Path.{_≡_, refl, sym, _∙_}
 use mathlib.Core.Bool.{Bool, true, false}
-use mathlib.Core.List.{List}
+use mathlib.Core.List.{List, map}
 use Rattle.basis.specs.Text.{text}
 use Rattle.number.specs.declared.Number.the-variants.{Is}
 use Rattle.number.specs.Decimal.{digits, digitsBelow}
@@ -24,12 +24,14 @@ use Rattle.read_versions.specs.Numeral.{numberIn}
 use Rattle.read_versions.specs.declared.Judged.{Judged}
 use Rattle.read_versions.specs.declared.Judged.the-variants.{Chosen, RsmpVersion, SiteId, SxlVersion}
 use Rattle.read_versions.specs.Version.{version, versionOf, before, behind, onePart, twoParts}
-use Rattle.read_versions.specs.Judge.{judge}
+use Rattle.read_versions.specs.Judge.{versionsIn, judge}
+use Rattle.table_whole.specs.declared.SiteTable.{SiteTable}
+use Rattle.write_message.specs.Listing.{offered}
 use Rattle.site.specs.declared.Site.{Site}
 use Rattle.site.specs.Site.{linkAt, roleOf, closeAt, maskOf}
 use Rattle.packet_answer.specs.Taken.{Taken, byVerdict}
 use Rattle.packet_greet.specs.Answered.{answeredPlan}
-use Rattle.packet_greet.specs.Version.{own, versionJudged, versionTaken}
+use Rattle.packet_greet.specs.Version.{ownOffer, own, versionJudged, versionTaken}
 use Rattle.packet_greet.specs.Watchdog.{watchdogTaken}
 use Rattle.packet_greet.specs.Claims.{Claims}
 
@@ -72,6 +74,10 @@ newer : versionOf (text "3.2") ≡ Is (version 3 2 0)
 unfolding versionOf twoParts onePart before behind numberIn digits digitsBelow
 newer = refl
 
+offers : (table : SiteTable) → map versionOf offered ≡ map Is (versionsIn (ownOffer table))
+unfolding versionOf twoParts onePart before behind numberIn digits digitsBelow
+offers table = refl
+
 hints : (s : Site) (l : ℕ) (received : List ℕ) (f : GotTime)
     → roleOf s l ≡ Primary
     → f .verdict ≡ Good
@@ -104,6 +110,7 @@ kept =
       settles = settles;
       late = λ s l id acknowledged q e h. settles s l id acknowledged q e ∙ missed s l q h;
       failed = failed;
+      offers = offers;
       older = older;
       newer = newer;
       hints = hints;

@@ -3,7 +3,7 @@
 use Prim.Native.Nat.{ℕ}
 use mathlib.Core.Path.{_≡_}
 use mathlib.Core.Bool.{Bool, false}
-use mathlib.Core.List.{List}
+use mathlib.Core.List.{List, map}
 use Rattle.basis.specs.Text.{text}
 use Rattle.number.specs.declared.Number.the-variants.{Is}
 use Rattle.answer.specs.Given.Hint.{none, clock}
@@ -19,11 +19,13 @@ use Rattle.read_head.specs.declared.GotTime.{GotTime}
 use Rattle.read_lists.specs.declared.VersionFields.{VersionFields}
 use Rattle.read_versions.specs.declared.Judged.the-variants.{Chosen}
 use Rattle.read_versions.specs.Version.{version, versionOf}
-use Rattle.read_versions.specs.Judge.{judge}
+use Rattle.read_versions.specs.Judge.{versionsIn, judge}
+use Rattle.table_whole.specs.declared.SiteTable.{SiteTable}
+use Rattle.write_message.specs.Listing.{offered}
 use Rattle.site.specs.declared.Site.{Site}
 use Rattle.site.specs.Site.{linkAt, roleOf, closeAt, maskOf}
 use Rattle.packet_greet.specs.Answered.{answeredPlan}
-use Rattle.packet_greet.specs.Version.{own, versionTaken}
+use Rattle.packet_greet.specs.Version.{ownOffer, own, versionTaken}
 use Rattle.packet_greet.specs.Watchdog.{watchdogTaken}
 
 pub record Claims : Type 0 where
@@ -41,7 +43,8 @@ pub record Claims : Type 0 where
       → f .verdict ≡ Good
       → ((v : ℕ) → judge (own s) (f .offer) ≡ Chosen v → ⊥)
       → (versionTaken s l received f .plan .site ≡ closeAt s l) × (versionTaken s l received f .plan .closed ≡ maskOf l)
-  -- the versions that are judged are those that our Version writes
+  -- the versions that are judged are those that our Version writes, one for one
+  pub offers : (table : SiteTable) → map versionOf offered ≡ map Is (versionsIn (ownOffer table))
   pub older : versionOf (text "3.1.5") ≡ Is (version 3 1 5)
   pub newer : versionOf (text "3.2") ≡ Is (version 3 2 0)
   -- only the primary's Watchdog gives a hint, and its time is the hint

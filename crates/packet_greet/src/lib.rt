@@ -11,6 +11,7 @@ use awaited::Purpose;
 use identity::Identity;
 use label::Label;
 use link::Role;
+use names::reasons;
 use read_head::GotTime;
 use read_head::Received;
 use read_head::Verdict;
@@ -111,9 +112,16 @@ fn version_judged(s: Site, l: u16, time: u64, received: Received, j: Judged, out
 {
     match j {
         Judged::Chosen(v) => packet_answer::accept(s, accepted(s, l, v), time, received, 0, 0, out),
-        Judged::RsmpVersion => packet_answer::close(s, l, time, received, 18, out),
-        Judged::SiteId => packet_answer::close(s, l, time, received, 19, out),
-        Judged::SxlVersion => packet_answer::close(s, l, time, received, 20, out),
+        Judged::RsmpVersion => packet_answer::close(
+            s,
+            l,
+            time,
+            received,
+            reasons::RSMP_VERSION,
+            out,
+        ),
+        Judged::SiteId => packet_answer::close(s, l, time, received, reasons::SITE_ID, out),
+        Judged::SxlVersion => packet_answer::close(s, l, time, received, reasons::SXL_VERSION, out),
     }
 }
 
@@ -140,8 +148,14 @@ fn version_by(
                 out,
             )
         }
-        Verdict::Missing => packet_answer::not_ack(s, time, received, 14, out),
-        Verdict::Bad => packet_answer::not_ack(s, time, received, 15, out),
+        Verdict::Missing => packet_answer::not_ack(
+            s,
+            time,
+            received,
+            reasons::MISSING_ELEMENT,
+            out,
+        ),
+        Verdict::Bad => packet_answer::not_ack(s, time, received, reasons::BAD_VALUE, out),
     }
 }
 
@@ -200,8 +214,14 @@ fn watchdog_by(s: Site, l: u16, time: u64, received: Received, f: GotTime, out: 
     let v = f.verdict;
     match v {
         Verdict::Good => beat(s, l, time, received, f.time, out),
-        Verdict::Missing => packet_answer::not_ack(s, time, received, 14, out),
-        Verdict::Bad => packet_answer::not_ack(s, time, received, 15, out),
+        Verdict::Missing => packet_answer::not_ack(
+            s,
+            time,
+            received,
+            reasons::MISSING_ELEMENT,
+            out,
+        ),
+        Verdict::Bad => packet_answer::not_ack(s, time, received, reasons::BAD_VALUE, out),
     }
 }
 

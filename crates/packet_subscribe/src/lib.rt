@@ -9,6 +9,7 @@ ghost use Rattle.site.specs.Call.{never, Gives};
 ghost use Rattle.read_lists.specs.Status.{statusAt as fieldsAt};
 ghost use Rattle.packet_lookup.specs.Sought.{componentSought, statusSought};
 ghost use Rattle.packet_subscribe.specs.Subscribing.{wanted as wantedOf, replacedAt, replaced as replacedOf, recordOf, records as recordsOf, changed, judged, asked, subscribingTaken};
+use names::reasons;
 use packet_lookup::Sought;
 use pool_batch::Batch;
 use read_head::Received;
@@ -185,7 +186,7 @@ fn judge(
     if packet_lookup::all_statuses(table, component, entries, f.count) {
         return change(s, subscribing, l, time, component, f, received, out);
     }
-    packet_answer::not_ack(s, time, received, 23, out)
+    packet_answer::not_ack(s, time, received, reasons::UNKNOWN_STATUS, out)
 }
 
 fn ask(
@@ -202,7 +203,7 @@ fn ask(
 {
     match component {
         Sought::Is(c) => judge(s, subscribing, l, time, c, f, received, out),
-        Sought::Nothing => packet_answer::not_ack(s, time, received, 23, out),
+        Sought::Nothing => packet_answer::not_ack(s, time, received, reasons::UNKNOWN_STATUS, out),
     }
 }
 
@@ -245,8 +246,14 @@ fn take(
     let v = f.verdict;
     match v {
         Verdict::Good => ask_of(s, subscribing, l, time, f, received, out),
-        Verdict::Missing => packet_answer::not_ack(s, time, received, 14, out),
-        Verdict::Bad => packet_answer::not_ack(s, time, received, 15, out),
+        Verdict::Missing => packet_answer::not_ack(
+            s,
+            time,
+            received,
+            reasons::MISSING_ELEMENT,
+            out,
+        ),
+        Verdict::Bad => packet_answer::not_ack(s, time, received, reasons::BAD_VALUE, out),
     }
 }
 

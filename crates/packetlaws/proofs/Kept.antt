@@ -4,7 +4,7 @@ use Prim.Native.Nat.{ℕ, _≤_, _<_}
 use mathlib.Core.Path.{_≡_, refl, sym, _∙_, ap}
 use mathlib.Core.Bool.{Bool, true, false, true≢false}
 use mathlib.Core.List.{List, []}
-use lib.Dec.{ltb, leb, lit≤}
+use lib.Dec.{ltb, leb}
 use lib.ListN.{length}
 use borrow.Author.Tests.{ltb-false, leb-false}
 use Rattle.basis.specs.Pick.{pick}
@@ -36,7 +36,7 @@ use Rattle.site.specs.Call.{Plan, Gives, stepOf, writtenTo, answerOf}
 use Rattle.numbers.specs.Numbers.{conditions}
 use Rattle.numbers.proofs.Given.{numbers}
 use Rattle.numbers.proofs.Stepped.{steps}
-use Rattle.packet_answer.specs.Taken.{Taken, notAcked, byVerdict, unexpected, notReady}
+use Rattle.packet_answer.specs.Taken.{Taken, notAcked, byVerdict, missingElement, badValue, unexpected, notReady}
 use Rattle.call_pump.specs.Pump.{pumpRefuses, pumpPlan}
 use Rattle.call_packet.specs.Packet.{expected, unready, kindTaken, expectedTaken, askedTaken, classTaken, packetTaken, packetRefuses}
 use Rattle.sound.specs.Sound.{SoundAt, Sound}
@@ -99,9 +99,6 @@ module _ (time : ℕ) (s : Site) (h : SoundAt time s) (l : ℕ) (id : Identity) 
   Sends t = Sendable (t .plan .messages)
 
   module _ (chars : List ℕ) (r : Received chars) where
-    reason : (n : ℕ) → 14 ≤ n → n ≤ 24 → Sends (notAcked s chars n)
-    reason n a b = plans .refused s chars r n a b
-
     kind-sends : (k : Kind) → Sends (kindTaken s l time id chars p k)
     kind-sends Version = plans .version s l chars r (versionAt p)
     kind-sends Watchdog = plans .watchdog s l chars r (watchdogAt p)
@@ -110,18 +107,18 @@ module _ (time : ℕ) (s : Site) (h : SoundAt time s) (l : ℕ) (id : Identity) 
     kind-sends StatusRequest = plans .status time s h l id sixteen chars r p
     kind-sends StatusSubscribe = plans .subscribing true s l time chars r (statusAt true p)
     kind-sends StatusUnsubscribe = plans .subscribing false s l time chars r (statusAt false p)
-    kind-sends Unexpected = reason 16 (lit≤ tt) (lit≤ tt)
+    kind-sends Unexpected = plans .refused s chars r unexpected tt
 
     expected-sends : (k : Kind) → Sends (expectedTaken s l time id chars p k)
     expected-sends k =
         picked Sends (expected (linkAt s l) k) _ (notAcked s chars unexpected)
-        (λ e. picked Sends (unready (linkAt s l) k) (notAcked s chars notReady) (kindTaken s l time id chars p k) (λ u. reason 17 (lit≤ tt) (lit≤ tt)) (λ u. kind-sends k))
-        (λ e. reason 16 (lit≤ tt) (lit≤ tt))
+        (λ e. picked Sends (unready (linkAt s l) k) (notAcked s chars notReady) (kindTaken s l time id chars p k) (λ u. plans .refused s chars r notReady tt) (λ u. kind-sends k))
+        (λ e. plans .refused s chars r unexpected tt)
 
     asked-sends : (v : Verdict) (k : Kind) → Sends (askedTaken s l time id chars p v k)
     asked-sends Good k = expected-sends k
-    asked-sends Missing k = reason 14 (lit≤ tt) (lit≤ tt)
-    asked-sends Bad k = reason 15 (lit≤ tt) (lit≤ tt)
+    asked-sends Missing k = plans .refused s chars r missingElement tt
+    asked-sends Bad k = plans .refused s chars r badValue tt
 
   none-sent : (ms : List Message) → ms ≡ [] → Sendable ms
   none-sent ms e = rw e no-message

@@ -1,5 +1,7 @@
 -- What kind of packet it is, before its own elements are judged: an answer, a request, or to be ignored.
 -- Assumes nothing.
+use Prim.Native.String.{String}
+use mathlib.Core.Bool.{Bool}
 use mathlib.Core.List.{List, _++_}
 use Prim.Native.Nat.{ℕ, _-_}
 use lib.Dec.{eqb}
@@ -9,7 +11,7 @@ use Rattle.basis.specs.Lists.{sameBytes}
 use Rattle.basis.specs.Text.{text}
 use Rattle.names.specs.declared.Found.{Found}
 use Rattle.names.specs.declared.Found.the-variants.{At, Nothing}
-use Rattle.names.specs.Names.{findType}
+use Rattle.names.specs.Names.{findType, indexOf}
 use Rattle.identity.specs.declared.ReadIdentity.{ReadIdentity}
 use Rattle.identity.specs.Read.{readIdentity, notFound}
 use Rattle.json_value.specs.Grammar.{Json}
@@ -43,15 +45,19 @@ typeOf absent = Nothing
 typeOf other = Nothing
 typeOf (word d) = findType d
 
+-- i is the number of a type
+abbrev pub isType : String → ℕ → Bool
+isType name i = eqb i (indexOf (text name))
+
 -- the types that are taken, besides the two answers, by their numbers in the table of names
 abbrev pub kindFor : ℕ → Kind
 kindFor i =
-    pick (eqb i 0) Version
-    (pick (eqb i 1) Watchdog
-    (pick (eqb i 4) Alarm
-    (pick (eqb i 6) AggregatedStatusRequest
-    (pick (eqb i 7) StatusRequest
-    (pick (eqb i 9) StatusSubscribe (pick (eqb i 10) StatusUnsubscribe Unexpected))))))
+    pick (isType "Version" i) Version
+    (pick (isType "Watchdog" i) Watchdog
+    (pick (isType "Alarm" i) Alarm
+    (pick (isType "AggregatedStatusRequest" i) AggregatedStatusRequest
+    (pick (isType "StatusRequest" i) StatusRequest
+    (pick (isType "StatusSubscribe" i) StatusSubscribe (pick (isType "StatusUnsubscribe" i) StatusUnsubscribe Unexpected))))))
 
 abbrev pub ignored : Head
 ignored = record { class = Ignored; received = record { bytes = replicate 36 0 }; identity = record { bytes = replicate 16 0 } }
@@ -68,8 +74,8 @@ asked k v w = pick (identityOf w .found) (record { class = Asked v k; received =
 
 abbrev pub headFor : ℕ → Verdict → (List ℕ → Word) → Head
 headFor i v f =
-    pick (eqb i 2) (answered Acked v (identityOf (f (text "oMId"))))
-    (pick (eqb i 3) (answered NotAcked v (identityOf (f (text "oMId")))) (asked (kindFor i) v (f (text "mId"))))
+    pick (isType "MessageAck" i) (answered Acked v (identityOf (f (text "oMId"))))
+    (pick (isType "MessageNotAck" i) (answered NotAcked v (identityOf (f (text "oMId")))) (asked (kindFor i) v (f (text "mId"))))
 
 abbrev pub headOf : Found → Verdict → (List ℕ → Word) → Head
 headOf (At i) v f = headFor i v f

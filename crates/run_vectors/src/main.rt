@@ -150,7 +150,7 @@ fn of_tables(kind: u8, body: &[u8], line: &mut [u8]) -> usize {
         b'r' => record_read(body, line),
         b'R' => record_written(body, line),
         b'Y' => type_found(body, line),
-        b'y' => name_written(body, 0, line),
+        b'y' => name_written(body, names::types::VERSION, line),
         b'z' => name_written(body, names::reasons::MISSING_ELEMENT, line),
         _ => refused(line),
     }

@@ -43,7 +43,7 @@ use Rattle.site.specs.declared.Site.{Site}
 use Rattle.site.specs.Site.{roleOf, linkAt, withLink, closeAt, maskOf, hasPrimary}
 use Rattle.site.specs.Parts.{alarmAt}
 use Rattle.site.specs.Call.{Plan, only}
-use Rattle.packet_answer.specs.Taken.{Taken, notAcked, closing, acked, replied, byVerdict, unlessBusy, unknownComponent, unknownAlarm, unknownStatus, busy}
+use Rattle.packet_answer.specs.Taken.{Taken, notAcked, closing, acked, replied, byVerdict, unlessBusy, rsmpVersion, siteId, sxlVersion, unknownComponent, unknownAlarm, unknownStatus, busy}
 use Rattle.packet_greet.specs.Answered.{settledFor, settled, answeredPlan}
 use Rattle.packet_greet.specs.Version.{own, versionJudged, versionTaken}
 use Rattle.packet_greet.specs.Watchdog.{beat, watchdogTaken}
@@ -100,9 +100,9 @@ module _ (s : Site) (time : ℕ) (h : SoundAt time s) where
   judged-sound : (l : ℕ) (received : List ℕ) (j : Judged) → SoundPlan time (versionJudged s l received j .plan)
   judged-sound l received (Chosen v) =
       record { site = with-link time s h l (versionAcceptedOf (linkAt s l) (v / 65536) (v / 256 % 256) (v % 256)); issued = tt }
-  judged-sound l received RsmpVersion = closing-sound l received 18
-  judged-sound l received SiteId = closing-sound l received 19
-  judged-sound l received SxlVersion = closing-sound l received 20
+  judged-sound l received RsmpVersion = closing-sound l received rsmpVersion
+  judged-sound l received SiteId = closing-sound l received siteId
+  judged-sound l received SxlVersion = closing-sound l received sxlVersion
 
   pub version-sound : (l : ℕ) (received : List ℕ) (f : VersionFields) → SoundPlan time (versionTaken s l received f .plan)
   version-sound l received f = by-verdict (f .verdict) received (versionJudged s l received (judge (own s) (f .offer))) (judged-sound l received (judge (own s) (f .offer)))

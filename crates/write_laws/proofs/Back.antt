@@ -1,8 +1,8 @@
 -- The fields of a well-formed message are read back from its listing.
 -- Assumes nothing.
-use Prim.Native.Nat.{ℕ, zero, suc, _+_, _-_, _≤_, _<_, min}
+use Prim.Native.Nat.{ℕ, zero, suc, _-_, _≤_, _<_, min}
 use native.Mathlib.Omega.{arith}
-use mathlib.Core.Path.{_≡_, refl, sym, ap, ap₂, _∙_}
+use mathlib.Core.Path.{_≡_, refl, ap, ap₂, _∙_}
 use mathlib.Core.Bool.{Bool, true, false}
 use mathlib.Core.List.{List, [], _∷_}
 use lib.Dec.{eqb, eqb→eq}
@@ -19,7 +19,9 @@ use Rattle.calendar.proofs.Reading as Times
 use Rattle.identity.specs.Read.{SixteenBytes, readIdentity}
 use Rattle.identity.specs.Text.{identityText}
 use Rattle.identity.proofs.Read as Identities
-use Rattle.names.specs.Names.{nameOf, findIn}
+use Rattle.names.specs.declared.Found.{Found as NameFound}
+use Rattle.names.specs.Names.{numberOf}
+use Rattle.names.proofs.Search.{reason-found}
 use Rattle.number.specs.Decimal.{digits, decimalOf}
 use Rattle.number.specs.Reading.{says}
 use Rattle.number.proofs.Digits.{says-digits, begins}
@@ -35,7 +37,7 @@ use Rattle.write_message.specs.Message.Message.{version, watchdog, ack, notAck,
 use Rattle.write_message.specs.Listing.{jsonOf, said, statesOf, flagsOf, eventText, categoryText, valueJson, qualityText, statusesJson}
 use Rattle.write_laws.specs.Formed.{Formed, FormedState}
 use Rattle.write_laws.specs.Formed.Formed.{formed-version, formed-watchdog, formed-ack, formed-notAck, formed-alarm, formed-aggregated, formed-statuses}
-use Rattle.write_laws.specs.Fields.{stateIn, flagsIn, timeOf, numberOf, eventOf, categoryOf, integerOf, valueIn, statusesIn, fieldsOf}
+use Rattle.write_laws.specs.Fields.{stateIn, flagsIn, timeOf, eventOf, categoryOf, integerOf, valueIn, statusesIn, fieldsOf}
 
 id-back : (bs : List ℕ) → SixteenBytes bs → readIdentity (identityText bs) .id .bytes ≡ bs
 id-back bs v = ap (λ r. r .id .bytes) (Identities.read-written bs v)
@@ -59,19 +61,6 @@ category-back : (c : ℕ) → c ≤ 1 → categoryOf (categoryText c) ≡ c
 category-back zero h = refl
 category-back (suc zero) h = refl
 category-back (suc (suc c)) h = absurd (omega arith)
-
--- each reason is found where it stands
-found-there : ℕ → ℕ → Bool
-found-there k x = eqb (numberOf (findIn (nameOf (14 + k)) 14 11)) (14 + k)
-
-reason-at : (k : ℕ) → k < 11 → numberOf (findIn (nameOf (14 + k)) 14 11) ≡ 14 + k
-unfolding found-there
-reason-at k h = eqb→eq _ _ (at found-there (replicate 11 0) tt k h)
-
-reason-back : (r : ℕ) → 14 ≤ r → r ≤ 24 → numberOf (findIn (nameOf r) 14 11) ≡ r
-reason-back r l h =
-    let e : 14 + (r - 14) ≡ r = omega arith in
-    ap (λ (n : ℕ). numberOf (findIn (nameOf n) 14 11)) (sym e) ∙ reason-at (r - 14) (omega arith) ∙ e
 
 integer-back : (v : ℤ) → integerOf (decimalOf v) ≡ v
 unfolding decimalOf
@@ -114,7 +103,7 @@ pub back : (m : Message) → Formed m → fieldsOf (jsonOf m) ≡ m
 back (version id site sxl) (formed-version i s x) = ap (λ (b : List ℕ). version b site sxl) (id-back id i)
 back (watchdog id time) (formed-watchdog i t) = ap₂ watchdog (id-back id i) (time-back time t)
 back (ack received) (formed-ack r) = refl
-back (notAck received reason) (formed-notAck r low high) = ap (notAck received) (reason-back reason low high)
+back (notAck received reason) (formed-notAck r t) = ap (λ (f : NameFound). notAck received (numberOf f)) (reason-found reason t)
 back (alarm id component code s) (formed-alarm i c k f) = ap₂ (λ (b : List ℕ) (a : AlarmState). alarm b component code a) (id-back id i) (state-back s f)
 back (aggregated id component time value) (formed-aggregated i c t v) =
     ap₂ (λ (b : List ℕ) (n : ℕ). aggregated b component n (flagsIn 0 (flagsOf value))) (id-back id i) (time-back time t)

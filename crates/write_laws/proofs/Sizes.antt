@@ -2,12 +2,12 @@
 -- Assumes nothing.
 use Prim.Native.Nat.{ℕ, suc, _+_, _-_, _*_, _/_, _%_, _≤_, min}
 use native.Mathlib.Omega.{arith}
-use mathlib.Core.Path.{_≡_, refl, sym, ap, _∙_}
+use mathlib.Core.Path.{_≡_, sym, ap, _∙_}
 use mathlib.Core.Bool.{Bool, true, false}
 use mathlib.Core.List.{List, [], _∷_, _++_}
-use lib.Dec.{leb, eqb, T}
+use lib.Dec.{leb, leb→le, eqb}
 use lib.IntN.{ℤ, pos, negsuc}
-use lib.ListN.{length, length-append, length-map, replicate}
+use lib.ListN.{length, length-append, length-map}
 use borrow.Author.Tests.{leb-true}
 use Rattle.basis.specs.Pick.{pick}
 use Rattle.basis.specs.Text.{text}
@@ -17,7 +17,8 @@ use Rattle.calendar.specs.Text.{lastTime}
 use Rattle.calendar.proofs.Reading.{time-length}
 use Rattle.identity.specs.Hex.{lowerHex}
 use Rattle.identity.proofs.Text.{text-length}
-use Rattle.names.specs.Names.{nameOf}
+use Rattle.names.specs.Names.{nameOf, IsReason}
+use Rattle.names.proofs.Search.{at-reasons}
 use Rattle.number.specs.Decimal.{decimalOf}
 use Rattle.number.specs.Signed.{Signed32}
 use Rattle.number.proofs.Digits.{digits-length}
@@ -101,19 +102,8 @@ unfolding decimalOf
 decimal-size (pos n) h = omega (arith, digits-length 9 n (omega arith))
 decimal-size (negsuc n) h = omega (arith, digits-length 9 (suc n) (omega arith))
 
-short-reason : ℕ → ℕ → Bool
-short-reason k x = leb (length (nameOf (14 + k))) 17
-
-reason-size : (r : ℕ) → 14 ≤ r → r ≤ 24 → length (nameOf r) ≤ 17
-unfolding short-reason
-reason-size r l h =
-    let e : 14 + (r - 14) ≡ r = omega arith in
-    let t : length (nameOf (14 + (r - 14))) ≤ 17 = leb-true _ 17 (is-true _ (at short-reason (replicate 11 0) tt (r - 14) (omega arith))) in
-    omega (arith, ap (λ (n : ℕ). length (nameOf n)) e, t)
-  where
-    is-true : (b : Bool) → T b → b ≡ true
-    is-true true t = refl
-    is-true false t = absurd t
+reason-size : (r : ℕ) → IsReason r → length (nameOf r) ≤ 17
+reason-size r t = leb→le (length (nameOf r)) 17 (at-reasons (λ (n : ℕ). leb (length (nameOf n)) 17) tt r t)
 
 choice-size : (b : Bool) (x y : List ℕ) (n : ℕ) → length x ≤ n → length y ≤ n → length (pick b x y) ≤ n
 choice-size b x y n p q = picked (λ (s : List ℕ). length s ≤ n) b x y (λ e. p) (λ e. q)
@@ -155,7 +145,7 @@ sized : (m : Message) → Formed m → size (jsonOf m) + 1 ≤ most m
 sized (version id site sxl) (formed-version i s x) = omega (arith, text-length id, label-size s, label-size x)
 sized (watchdog id time) (formed-watchdog i t) = omega (arith, text-length id, moment-size time)
 sized (ack received) (formed-ack r) = omega (arith, received-size r)
-sized (notAck received reason) (formed-notAck r low high) = omega (arith, received-size r, reason-size reason low high)
+sized (notAck received reason) (formed-notAck r t) = omega (arith, received-size r, reason-size reason t)
 sized (alarm id component code s) (formed-alarm i c k f) =
     omega (
       arith,

@@ -15,9 +15,7 @@ use Rattle.calendar.specs.declared.Time.{Time}
 use Rattle.calendar.specs.declared.Time.the-variants.{Is, No}
 use Rattle.calendar.specs.Read.{readTime}
 use Rattle.identity.specs.Read.{readIdentity}
-use Rattle.names.specs.declared.Found.{Found as NameFound}
-use Rattle.names.specs.declared.Found.the-variants.{At, Nothing}
-use Rattle.names.specs.Names.{findIn}
+use Rattle.names.specs.Names.{findReason, numberOf}
 use Rattle.number.specs.Reading.{says}
 use Rattle.json_value.specs.Grammar.{Json, Jsons}
 use Rattle.json_value.specs.Grammar.Json.{null, bool, num, str, arr, obj}
@@ -61,10 +59,6 @@ timeIn name j = timeOf (readTime (said name j))
 
 abbrev pub identityIn : Json → List ℕ
 identityIn j = readIdentity (said "mId" j) .id .bytes
-
-abbrev pub numberOf : NameFound → ℕ
-numberOf (At i) = i
-numberOf Nothing = 0
 
 -- the first element of an array
 abbrev pub first : String → Json → Json
@@ -113,7 +107,7 @@ fieldsOf j =
     pick (saidIs "type" "Version" j) (version (identityIn j) (said "sId" (first "siteId" j)) (said "SXL" j))
     (pick (saidIs "type" "Watchdog" j) (watchdog (identityIn j) (timeIn "wTs" j))
     (pick (saidIs "type" "MessageAck" j) (ack (said "oMId" j))
-    (pick (saidIs "type" "MessageNotAck" j) (notAck (said "oMId" j) (numberOf (findIn (said "rea" j) 14 11)))
+    (pick (saidIs "type" "MessageNotAck" j) (notAck (said "oMId" j) (numberOf (findReason (said "rea" j))))
     (pick (saidIs "type" "Alarm" j) (alarm (identityIn j) (said "cId" j) (said "aCId" j) (stateIn j))
     (pick (saidIs "type" "AggregatedStatus" j) (aggregated (identityIn j) (said "cId" j) (timeIn "aSTS" j) (flagsIn 0 (elementsIn (valueOf (member (text "se") j)))))
     (pick (saidIs "type" "StatusResponse" j) (toldIn Response j) (toldIn Update j)))))))

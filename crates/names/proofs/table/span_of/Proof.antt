@@ -12,14 +12,17 @@ mul-start c = search needs
 array-read-start : tie.Need-array-read-start
 array-read-start c = search needs
 
-mul-t6 : tie.Need-mul-t6
-mul-t6 c = search needs
+cast-start : tie.Need-cast-start
+cast-start c = omega (arith, spans (c .before .args .i) (c .if1 .taken) .within)
 
-array-read-t9 : tie.Need-array-read-t9
-array-read-t9 c = search needs
+array-read-t13 : tie.Need-array-read-t13
+array-read-t13 c = search needs
 
-add-t13 : tie.Need-add-t13
-add-t13 c = omega (arith, spans (c .before .args .i) (c .if1 .taken) .within)
+cast-t6 : tie.Need-cast-t6
+cast-t6 c = omega (arith, spans (c .before .args .i) (c .if1 .taken) .within)
+
+add-t14 : tie.Need-add-t14
+add-t14 c = omega (arith, spans (c .before .args .i) (c .if1 .taken) .within)
 
 returns : tie.Need-returns
 returns c = spans (c .before .args .i) (c .if1 .taken)
@@ -29,4 +32,13 @@ returns-2 c = past (c .before .args .i) (c .if1 .left)
 
 pub span-of-spec : {M : Type 1} → statement M
 span-of-spec =
-    tie.close (tie.spec mul-start array-read-start mul-t6 array-read-t9 add-t13 returns returns-2)
+    tie.close
+    (tie.spec
+    mul-start
+    array-read-start
+    cast-start
+    array-read-t13
+    cast-t6
+    add-t14
+    returns
+    returns-2)
