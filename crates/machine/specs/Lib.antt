@@ -10,6 +10,7 @@ pub mod Messages
 pub mod Pool
 pub mod Effects
 pub mod Step
+pub mod Run
 pub mod Readings
 pub mod Example
 pub mod Computed
