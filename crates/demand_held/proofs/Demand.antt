@@ -1,0 +1,196 @@
+-- Demand 3 holds of every run.
+-- Assumes nothing.
+use Prim.Native.Nat.{ℕ, _+_, _≤_, _<_}
+use mathlib.Core.Path.{_≡_, refl, sym, _∙_, ap, subst}
+use mathlib.Core.Bool.{Bool, true, false}
+use mathlib.Core.List.{List, [], _∷_}
+use mathlib.Core.Option.{Option, some, none}
+use mathlib.Core.Logic.{_⊎_, inl, inr}
+use lib.Dec.{ltb, leb, eqb}
+use lib.ListN.{length, length-replicate}
+use native.Mathlib.Omega.{arith}
+use borrow.Author.Tests.{ltb-true, leb-true, eq-eqb}
+use Rattle.basis.specs.Pick.{pick, both}
+use Rattle.machine.specs.Words.{maybe, isNumber}
+use Rattle.machine.specs.State.{Issued, Setup, Pool, Start, Machine, Act, Call, Outcome}
+use Rattle.machine.specs.State.Outcome.{refused}
+use Rattle.machine.specs.Table.{goodStart, first, Begins}
+use Rattle.machine.specs.Table.Begins.{begins}
+use Rattle.machine.specs.Pool.{issueAll}
+use Rattle.machine.specs.Step.{poolSticks, numberOf, after, step, leaves}
+use Rattle.machine.specs.Run.{Past, Run}
+use Rattle.machine.specs.Run.Run.{begun, next}
+use Rattle.demand_held.specs.Held.{IsHeld, newer, IsDone, issuedBy, Answered, Kept, Fate, packetLink, Until, At}
+use Rattle.demand_held.specs.Held.Answered.{answered}
+use Rattle.demand_held.specs.Held.Kept.{stays, pushed}
+use Rattle.demand_held.specs.Held.Fate.{kept, settled}
+use Rattle.demand_held.specs.Held.Until.{lasts, answered-now, pushed-now, later}
+use Rattle.demand_held.specs.Demand.{Holding, Demand3}
+use Rattle.demand_held.proofs.Lists.{clash, Each}
+use Rattle.demand_held.proofs.Lists.Each.{no-more, one-more}
+use Rattle.demand_held.proofs.Good.{Good}
+use Rattle.demand_held.proofs.Good.Rising.{ends}
+use Rattle.demand_held.proofs.Rising.{rising-once, newer-older}
+use Rattle.demand_held.proofs.Room.{Over}
+use Rattle.demand_held.proofs.Issue.{For, held-below, all-good, all-lost, fate-of, issued-of, never-stuck}
+use Rattle.demand_held.proofs.Lays.{Lays, lays}
+use Rattle.demand_held.proofs.Steps.{laid, step-done, step-refused, done-number, number-done, refused-number, there, no-thirteen}
+
+pub record Sound (m : Machine) : Type 0 where
+  pub good : Good (m .pool)
+  pub counts : length (m .pool .lost) ≡ m .setup .links
+  pub primary : (p : ℕ) → m .setup .primary ≡ some p → p < m .setup .links
+
+over-newer : (l n : ℕ) (p : Pool) → Over l n p → 16 ≤ newer l n (p .held)
+over-newer l n p o = omega (arith, o .none, o .many, newer-older l n (p .held))
+
+module _ (m : Machine) (s : Sound m) (c : Call) where
+  module _ (here : (l : ℕ) → packetLink (c .act) ≡ some l → l < m .setup .links) where
+    lay : Lays (λ l n. Answered m l n (c .act)) m (laid m c)
+    lay = lays m (s .primary) (c .time) (c .act) here
+
+    good-laid : Good (laid m c .leaves .pool)
+    good-laid = lay .frame .good (s .good)
+
+    for-laid : Each (For (length (laid m c .leaves .pool .lost))) (laid m c .issues)
+    for-laid = rw (lay .frame .lost, s .counts) (lay .issued)
+
+  not-two : numberOf m c ≡ none → numberOf m c ≡ some 2 → ⊥
+  not-two e f = let z : _≡_ {A = ℕ} 0 1 = cc in omega arith
+
+  module _ (e : numberOf m c ≡ none) where
+    here : (l : ℕ) → packetLink (c .act) ≡ some l → l < m .setup .links
+    here = there m (c .time) (c .act) (not-two e)
+
+    done-sound : Sound (after (c .time) (laid m c))
+    done-sound =
+        record {
+          good = all-good (laid m c .issues) (laid m c .leaves .pool) (good-laid here) (for-laid here);
+          counts =
+              all-lost (laid m c .issues) (laid m c .leaves .pool) (good-laid here) (for-laid here)
+              ∙ ap length (lay here .frame .lost) ∙ s .counts ∙ ap (λ (u : Setup). u .links) (sym (lay here .frame .setup));
+          primary = rw (lay here .frame .setup) (s .primary);
+        }
+
+    abbrev End : Pool
+    End = issueAll (laid m c .issues) (laid m c .leaves .pool)
+
+    after-all : (r : Issued) (n : ℕ) → IsHeld r n (End .held) ⊎ ((1 ≤ length (issuedBy m c)) × Over (r .link) n End) → Kept m c r n
+    after-all r n (inl h) = stays (rw (step-done m c e) h)
+    after-all r n (inr o) = pushed (number-done m c e) (o .0) (rw (step-done m c e) (over-newer (r .link) n End (o .1)))
+
+    fate-done : (r : Issued) (n : ℕ) → IsHeld r n (m .pool .held) → Kept m c r n ⊎ Answered m (r .link) n (c .act)
+    fate-done r n h = go (lay here .frame .spared r n h)
+      where
+        go : IsHeld r n (laid m c .leaves .pool .held) ⊎ Answered m (r .link) n (c .act) → Kept m c r n ⊎ Answered m (r .link) n (c .act)
+        go (inl k) = inl (after-all r n (fate-of (laid m c .issues) (laid m c .leaves .pool) (good-laid here) (for-laid here) r n k))
+        go (inr a) = inr a
+
+    issued-done : (k : ℕ) (i : Issued) → At i k (issuedBy m c) → Kept m c i (m .pool .next + k)
+    issued-done k i a =
+        after-all i (m .pool .next + k)
+        (subst (λ (n : ℕ). IsHeld i (n + k) (End .held) ⊎ ((1 ≤ length (issuedBy m c)) × Over (i .link) (n + k) End)) (lay here .frame .next)
+        (issued-of (laid m c .issues) (laid m c .leaves .pool) (good-laid here) (for-laid here) a))
+
+  -- ---- refused or done
+  by-number : {P : Type 0} → (numberOf m c ≡ none → P) → ((n : ℕ) → numberOf m c ≡ some n → P) → P
+  by-number {P} f g = go (numberOf m c) refl
+    where
+      go : (o : Option ℕ) → numberOf m c ≡ o → P
+      go none e = f e
+      go (some n) e = g n e
+
+  pub step-sound : Sound (step m c .1)
+  step-sound = by-number (λ e. rw (step-done m c e) (done-sound e)) (λ n e. rw (step-refused m c n e) s)
+
+  fate : (r : Issued) (n : ℕ) → IsHeld r n (m .pool .held) → (IsDone m c × Answered m (r .link) n (c .act)) ⊎ Kept m c r n
+  fate r n h = by-number (λ e. go e (fate-done e r n h)) (λ k e. inr (stays (rw (step-refused m c k e) h)))
+    where
+      go : numberOf m c ≡ none → Kept m c r n ⊎ Answered m (r .link) n (c .act) → (IsDone m c × Answered m (r .link) n (c .act)) ⊎ Kept m c r n
+      go e (inl k) = inr k
+      go e (inr a) = inl (number-done m c e, a)
+
+  pub held : (r : Issued) (n : ℕ) → IsHeld r n (m .pool .held) → Fate m c r n
+  held r n h = go (fate r n h)
+    where
+      go : (IsDone m c × Answered m (r .link) n (c .act)) ⊎ Kept m c r n → Fate m c r n
+      go (inl a) = settled (a .0) (a .1)
+      go (inr k) = kept k
+
+  pub apart : (r : Issued) (n : ℕ) → isNumber (r .link) (packetLink (c .act)) ≡ false → IsHeld r n (m .pool .held) → Kept m c r n
+  apart r n e h = go (fate r n h)
+    where
+      on-its-link : (act : Act) → Answered m (r .link) n act → isNumber (r .link) (packetLink act) ≡ true
+      on-its-link act (answered p q a t) = eq-eqb (r .link) (r .link) refl
+
+      go : (IsDone m c × Answered m (r .link) n (c .act)) ⊎ Kept m c r n → Kept m c r n
+      go (inl a) = clash (on-its-link (c .act) (a .1)) e
+      go (inr k) = k
+
+  pub issued : IsDone m c → (k : ℕ) (i : Issued) → At i k (issuedBy m c) → Kept m c i (m .pool .next + k)
+  issued d = issued-done (done-number m c d)
+
+  pub unstuck : ((l : ℕ) → packetLink (c .act) ≡ some l → l < m .setup .links) → poolSticks (laid m c) ≡ false
+  unstuck at = never-stuck (laid m c .issues) (laid m c .leaves .pool) (good-laid at) (for-laid at)
+
+  pub no-thirteenth : step m c .0 ≡ refused 13 → ⊥
+  no-thirteenth r =
+      let n : numberOf m c ≡ some 13 = refused-number m c 13 r in
+      no-thirteen m (c .time) (c .act) (unstuck (there m (c .time) (c .act) (λ q. let z : _≡_ {A = ℕ} 2 13 = cc in omega arith))) n
+
+pub held-on : (m : Machine) → Sound m → (cs : List Call) (r : Issued) (n : ℕ) → IsHeld r n (m .pool .held) → Until r n m cs
+held-on m s [] r n h = lasts h
+held-on m s (c ∷ cs) r n h = go (held m s c r n h) (held-on (step m c .1) (step-sound m s c) cs r n)
+  where
+    go : Fate m c r n → (IsHeld r n (step m c .1 .pool .held) → Until r n (step m c .1) cs) → Until r n m (c ∷ cs)
+    go (settled d a) f = answered-now d a
+    go (kept (stays k)) f = later (f k)
+    go (kept (pushed d i o)) f = pushed-now d i o
+
+-- ---- from start
+and-left : (a b : Bool) → both a b ≡ true → a ≡ true
+and-left true b e = refl
+and-left false b e = e
+
+and-right : (a b : Bool) → both a b ≡ true → b ≡ true
+and-right true b e = e
+and-right false b e = clash e refl
+
+inside : (o : Option ℕ) (n p : ℕ) → maybe true (λ (q : ℕ). ltb q n) o ≡ true → o ≡ some p → p < n
+inside none n p h e = absurd (let z : _≡_ {A = ℕ} 0 1 = cc in omega arith)
+inside (some q) n p h e = let same : q ≡ p = cc in omega (arith, ltb-true q n h)
+
+begun-sound : (s : Start) (m : Machine) → Begins s (some m) → Sound m
+begun-sound s m (begins allowed e g) =
+    record {
+      good = record {
+        few = omega (arith, length-replicate {A = ℕ} (s .links) 0, leb-true (s .links) 4 (and-left (leb (s .links) 4) _ (and-right (leb 1 (s .links)) _ g)));
+        links = no-more;
+        most = λ l. omega arith;
+        all = omega arith;
+        rising = ends {a = 0} (omega arith);
+      };
+      counts = length-replicate {A = ℕ} (s .links) 0;
+      primary = λ p f. inside (s .primary) (s .links) p (and-left (maybe true (λ (q : ℕ). ltb q (s .links)) (s .primary)) _ (and-right (leb (s .links) 4) _ (and-right (leb 1 (s .links)) _ g))) f;
+    }
+
+run-sound : {s : Start} {h : List Past} {m : Machine} → Run s h m → Sound m
+run-sound (begun b) = begun-sound _ _ b
+run-sound (next c r) = step-sound _ (run-sound r) c
+
+pub demand3 : Demand3
+demand3 =
+    record {
+      of-every-run = λ s h m r. record {
+        held = λ c. held m (run-sound r) c;
+        held-on = λ cs. held-on m (run-sound r) cs;
+        apart = λ c. apart m (run-sound r) c;
+        issued = λ c. issued m (run-sound r) c;
+        most = run-sound r .good .most;
+        all = run-sound r .good .all;
+        given = held-below (m .pool) (run-sound r .good);
+        once = λ n. rising-once n (m .pool .held) (run-sound r .good .rising);
+        unstuck = λ c. unstuck m (run-sound r) c;
+        never-thirteen = λ c. no-thirteenth m (run-sound r) c;
+      };
+    }

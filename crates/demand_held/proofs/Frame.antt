@@ -1,0 +1,119 @@
+-- What each call does to the pool before it issues: nothing but marks, unless it is the answer that settles a record. And for which links it
+-- issues.
+-- Assumes nothing.
+use Prim.Native.Nat.{ℕ, zero, suc, _+_, _≤_, _<_}
+use Prim.Native.String.{String}
+use mathlib.Core.Path.{_≡_, refl, sym, _∙_, ap}
+use mathlib.Core.Bool.{Bool, true, false, not}
+use mathlib.Core.List.{List, [], _∷_, _++_, map}
+use mathlib.Core.Option.{Option, some, none}
+use mathlib.Core.Logic.{_⊎_, inl, inr}
+use lib.Dec.{eqb, ltb, leb}
+use lib.ListN.{length}
+use native.Mathlib.Omega.{arith}
+use borrow.Author.Tests.{eqb-true, leb-false, ne-eqb, eq-eqb}
+use Rattle.basis.specs.Pick.{pick, both, bit}
+use Rattle.basis.specs.Lists.{count}
+use Rattle.basis.proofs.Cases.{bool-cases, picked}
+use Rattle.json_value.specs.Grammar.{Json}
+use Rattle.write_message.specs.Message.{Message}
+use Rattle.machine.specs.Words.{Bytes, maybe, keep, flat, upTo, isNumber}
+use Rattle.machine.specs.State.{Issued, Held, Pool, poolOf, Setup, Machine, withHeld, Act, Effect, effect, only}
+use Rattle.machine.specs.Pool.{isFor, holds, settled, marked}
+use Rattle.machine.specs.Life.{unsent, close, closeAll}
+use Rattle.machine.specs.Run.{Among}
+use Rattle.demand_held.specs.Held.{IsHeld, Answered}
+use Rattle.demand_held.specs.Held.IsHeld.{held}
+use Rattle.demand_held.proofs.Lists.{clash, maybe-cases, Each, each-map, each-keep, among-map, among-keep, count-map, count-keep, length-map, length-keep}
+use Rattle.demand_held.proofs.Lists.Each.{no-more, one-more}
+use Rattle.demand_held.proofs.Good.{Good, Below}
+use Rattle.demand_held.proofs.Rising.{rising-map, rising-keep}
+use Rattle.demand_held.proofs.Issue.{For}
+
+-- what a call leaves before it issues; E ends a record otherwise
+pub record Frame (E : ℕ → ℕ → Type 0) (m k : Machine) : Type 0 where
+  pub setup : k .setup ≡ m .setup
+  pub next : k .pool .next ≡ m .pool .next
+  pub lost : k .pool .lost ≡ m .pool .lost
+  pub good : Good (m .pool) → Good (k .pool)
+  pub spared : (r : Issued) (n : ℕ) → IsHeld r n (m .pool .held) → IsHeld r n (k .pool .held) ⊎ E (r .link) n
+
+-- the pool is the same
+pub still : {E : ℕ → ℕ → Type 0} {m : Machine} (k : Machine) → k .setup ≡ m .setup → k .pool ≡ m .pool → Frame E m k
+still k s e =
+    record {
+      setup = s;
+      next = ap (λ (p : Pool). p .next) e;
+      lost = ap (λ (p : Pool). p .lost) e;
+      good = λ g. rw e g;
+      spared = λ r n h. inl (rw e h);
+    }
+
+pub then : {E : ℕ → ℕ → Type 0} {m k j : Machine} → Frame E m k → Frame (λ l n. ⊥) k j → Frame E m j
+then {E} {m} {k} {j} a b =
+    record {
+      setup = b .setup ∙ a .setup;
+      next = b .next ∙ a .next;
+      lost = b .lost ∙ a .lost;
+      good = λ g. b .good (a .good g);
+      spared = λ r n h. go r n (a .spared r n h);
+    }
+  where
+    on : (r : Issued) (n : ℕ) → IsHeld r n (j .pool .held) ⊎ ⊥ → IsHeld r n (j .pool .held) ⊎ E (r .link) n
+    on r n (inl h) = inl h
+    on r n (inr e) = absurd e
+
+    go : (r : Issued) (n : ℕ) → IsHeld r n (k .pool .held) ⊎ E (r .link) n → IsHeld r n (j .pool .held) ⊎ E (r .link) n
+    go r n (inl h) = on r n (b .spared r n h)
+    go r n (inr e) = inr e
+
+-- marks are changed alone
+module _ {E : ℕ → ℕ → Type 0} (m : Machine) (g : Held → Held) (same-link : (h : Held) → g h .link ≡ h .link) (same-content : (h : Held) → g h .content ≡ h .content) (same-number : (h : Held) → g h .sequence ≡ h .sequence) where
+  pub marks : Frame E m (withHeld (map g (m .pool .held)) m)
+  marks =
+      record {
+        setup = refl;
+        next = refl;
+        lost = refl;
+        good = λ p. record {
+          few = p .few;
+          links = each-map g (λ h b. rw (same-link h) b) (p .links);
+          most = λ l. omega (arith, p .most l, count-map (isFor l) (isFor l) g (λ h. ap (λ (k : ℕ). eqb k l) (same-link h)) (m .pool .held));
+          all = omega (arith, p .all, length-map g (m .pool .held));
+          rising = rising-map g same-number (p .rising);
+        };
+        spared = λ r n h. inl (again r n h);
+      }
+    where
+      again : (r : Issued) (n : ℕ) → IsHeld r n (m .pool .held) → IsHeld r n (map g (m .pool .held))
+      again r n (held {h} a e c f) = held (among-map g a) (same-link h ∙ e) (same-content h ∙ c) (same-number h ∙ f)
+
+-- a record is settled
+module _ {E : ℕ → ℕ → Type 0} (m : Machine) (k i : ℕ) (ends : E k i) where
+  pub settles : Frame E m (withHeld (settled k i (m .pool .held)) m)
+  settles =
+      record {
+        setup = refl;
+        next = refl;
+        lost = refl;
+        good = λ p. record {
+          few = p .few;
+          links = each-keep other (p .links);
+          most = λ l. omega (arith, p .most l, count-keep other (isFor l) (m .pool .held));
+          all = omega (arith, p .all, length-keep other (m .pool .held));
+          rising = rising-keep other (p .rising);
+        };
+        spared = keeps;
+      }
+    where
+      other : Held → Bool
+      other h = not (both (isFor k h) (eqb (h .sequence) i))
+
+      by : (r : Issued) (n : ℕ) (h : Held) → Among h (m .pool .held) → h .link ≡ r .link → h .content ≡ r .content → h .sequence ≡ n
+          → (x y : Bool) → eqb (h .link) k ≡ x → eqb (h .sequence) i ≡ y → IsHeld r n (settled k i (m .pool .held)) ⊎ E (r .link) n
+      by r n h a e c f true true p q = inr (rw (← e, ← f, eqb-true (h .link) k p, eqb-true (h .sequence) i q) ends)
+      by r n h a e c f true false p q = inl (held (among-keep other (rw (p, q)) a) e c f)
+      by r n h a e c f false y p q = inl (held (among-keep other (rw p) a) e c f)
+
+      keeps : (r : Issued) (n : ℕ) → IsHeld r n (m .pool .held) → IsHeld r n (settled k i (m .pool .held)) ⊎ E (r .link) n
+      keeps r n (held {h} a e c f) = by r n h a e c f (eqb (h .link) k) (eqb (h .sequence) i) refl refl

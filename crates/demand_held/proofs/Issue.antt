@@ -1,0 +1,156 @@
+-- Issuing keeps a pool good; what becomes of a record while others are issued, and of one that is issued.
+-- Assumes nothing.
+use Prim.Native.Nat.{ℕ, suc, _+_, _≤_, _<_}
+use mathlib.Core.Path.{_≡_, refl, sym, _∙_, ap}
+use mathlib.Core.Bool.{Bool, true, false}
+use mathlib.Core.List.{List, [], _∷_, _++_}
+use mathlib.Core.Logic.{_⊎_, inl, inr}
+use lib.Dec.{eqb, leb}
+use lib.ListN.{length}
+use native.Mathlib.Omega.{arith}
+use borrow.Author.Tests.{lt-leb, ne-eqb}
+use Rattle.basis.specs.Pick.{both, bit}
+use Rattle.basis.specs.Lists.{count}
+use Rattle.basis.proofs.Cases.{eq-or-ne}
+use Rattle.machine.specs.State.{Issued, Held, heldAs, Pool}
+use Rattle.machine.specs.Pool.{isFor, holds, makeRoom, added, issue, issueAll, isStuck, sticks}
+use Rattle.demand_held.specs.Held.{IsHeld, At}
+use Rattle.demand_held.specs.Held.IsHeld.{held}
+use Rattle.demand_held.specs.Held.At.{first, behind}
+use Rattle.demand_held.proofs.Lists.{bit-false, bit-le, no-right, Each, each-append, among-last, among-left, count-last, length-last}
+use Rattle.demand_held.proofs.Lists.Each.{no-more, one-more}
+use Rattle.demand_held.proofs.Good.{Rising, Below, Good, not-stuck}
+use Rattle.demand_held.proofs.Rising.{rising-last, rising-below, older}
+use Rattle.demand_held.proofs.Room.{Over, Room, holds-added, makes-room}
+
+abbrev pub For : ℕ → Issued → Type 0
+For n i = i .link < n
+
+module _ (i : Issued) (p : Pool) (g : Good p) where
+  abbrev new : Pool → Held
+  new q = heldAs (i .link) (i .content) (q .next) false
+
+  module _ (q : Pool) (r : Room i p q) where
+    most-added : (l : ℕ) → holds (added i q) l ≤ 64
+    most-added l = go (eq-or-ne (i .link) l)
+      where
+        go : (i .link ≡ l) ⊎ (i .link ≡ l → ⊥) → holds (added i q) l ≤ 64
+        go (inl e) = omega (arith, holds-added i q l, bit-le (eqb (i .link) l), r .below, ap (holds q) e)
+        go (inr e) = omega (arith, holds-added i q l, bit-false (eqb (i .link) l) (ne-eqb (i .link) l e), r .fewer (isFor l), g .most l)
+
+    good-added : i .link < length (p .lost) → Good (added i q)
+    good-added h =
+        record {
+          few = omega (arith, r .lost, g .few);
+          links = rw (r .lost) (each-append (r .links) (one-more h no-more));
+          most = most-added;
+          all = omega (arith, r .place, length-last (q .held) (new q));
+          rising = rw (r .next) (rising-last (heldAs (i .link) (i .content) (p .next) false) refl (r .rising));
+        }
+
+    older-added : (l n : ℕ) → n < p .next → count (older l n) (added i q .held) ≡ count (older l n) (q .held)
+    older-added l n b =
+        omega (
+          arith,
+          count-last (older l n) (q .held) (new q),
+          bit-false (older l n (new q)) (no-right (isFor l (new q)) (leb (q .next) n) (lt-leb (q .next) n (omega (arith, r .next)))),
+        )
+
+    fate-added : (x : Issued) (n : ℕ) → n < p .next → IsHeld x n (p .held) → IsHeld x n (added i q .held) ⊎ Over (x .link) n (added i q)
+    fate-added x n b h = go (r .spared x n h)
+      where
+        go : IsHeld x n (q .held) ⊎ ((count (older (x .link) n) (q .held) ≡ 0) × (16 ≤ holds (added i q) (x .link))) → IsHeld x n (added i q .held) ⊎ Over (x .link) n (added i q)
+        go (inl (held a e c f)) = inl (held (among-left (new q ∷ []) a) e c f)
+        go (inr o) = inr (record { none = omega (arith, o .0, older-added (x .link) n b); many = o .1 })
+
+    over-added : (l n : ℕ) → n < p .next → Over l n p → Over l n (added i q)
+    over-added l n b o = record { none = omega (arith, o .none, older-added l n b, r .fewer (older l n)); many = r .sixteen l (o .many) }
+
+    has-added : IsHeld i (p .next) (added i q .held)
+    has-added = held (among-last (q .held) (new q)) refl refl (r .next)
+
+  pub issue-good : i .link < length (p .lost) → Good (issue i p)
+  unfolding issue
+  issue-good = good-added (makeRoom (i .link) p) (makes-room i p g)
+
+  pub issue-next : issue i p .next ≡ suc (p .next)
+  unfolding issue
+  issue-next = ap suc (makes-room i p g .next)
+
+  pub issue-lost : length (issue i p .lost) ≡ length (p .lost)
+  unfolding issue
+  issue-lost = makes-room i p g .lost
+
+  pub issue-fate : (x : Issued) (n : ℕ) → n < p .next → IsHeld x n (p .held) → IsHeld x n (issue i p .held) ⊎ Over (x .link) n (issue i p)
+  unfolding issue
+  issue-fate = fate-added (makeRoom (i .link) p) (makes-room i p g)
+
+  pub issue-over : (l n : ℕ) → n < p .next → Over l n p → Over l n (issue i p)
+  unfolding issue
+  issue-over = over-added (makeRoom (i .link) p) (makes-room i p g)
+
+  pub issue-has : IsHeld i (p .next) (issue i p .held)
+  unfolding issue
+  issue-has = has-added (makeRoom (i .link) p) (makes-room i p g)
+
+-- ---- several, one by one
+pub held-below : (p : Pool) → Good p → (x : Issued) (n : ℕ) → IsHeld x n (p .held) → n < p .next
+held-below p g x n (held a e c f) = omega (arith, rising-below (g .rising) a)
+
+for-next : (i : Issued) (p : Pool) → Good p → {is : List Issued} → Each (For (length (p .lost))) is → Each (For (length (issue i p .lost))) is
+for-next i p g a = rw (issue-lost i p g) a
+
+pub all-good : (is : List Issued) (p : Pool) → Good p → Each (For (length (p .lost))) is → Good (issueAll is p)
+all-good [] p g a = g
+all-good (i ∷ is) p g (one-more f a) = all-good is (issue i p) (issue-good i p g f) (for-next i p g a)
+
+pub all-lost : (is : List Issued) (p : Pool) → Good p → Each (For (length (p .lost))) is → length (issueAll is p .lost) ≡ length (p .lost)
+all-lost [] p g a = refl
+all-lost (i ∷ is) p g (one-more f a) = all-lost is (issue i p) (issue-good i p g f) (for-next i p g a) ∙ issue-lost i p g
+
+all-over : (is : List Issued) (p : Pool) → Good p → Each (For (length (p .lost))) is → (l n : ℕ) → n < p .next → Over l n p → Over l n (issueAll is p)
+all-over [] p g a l n b o = o
+all-over (i ∷ is) p g (one-more f a) l n b o =
+    all-over is (issue i p) (issue-good i p g f) (for-next i p g a) l n (omega (arith, issue-next i p g)) (issue-over i p g l n b o)
+
+pub all-fate : (is : List Issued) (p : Pool) → Good p → Each (For (length (p .lost))) is → (x : Issued) (n : ℕ) → IsHeld x n (p .held)
+    → IsHeld x n (issueAll is p .held) ⊎ Over (x .link) n (issueAll is p)
+all-fate [] p g a x n h = inl h
+all-fate (i ∷ is) p g (one-more f a) x n h = go (issue-fate i p g x n (held-below p g x n h) h) (all-fate is (issue i p) (issue-good i p g f) (for-next i p g a) x n)
+  where
+    go : IsHeld x n (issue i p .held) ⊎ Over (x .link) n (issue i p) → (IsHeld x n (issue i p .held) → IsHeld x n (issueAll is (issue i p) .held) ⊎ Over (x .link) n (issueAll is (issue i p)))
+        → IsHeld x n (issueAll is (issue i p) .held) ⊎ Over (x .link) n (issueAll is (issue i p))
+    go (inl k) r = r k
+    go (inr o) r =
+        inr (all-over is (issue i p) (issue-good i p g f) (for-next i p g a) (x .link) n (omega (arith, held-below p g x n h, issue-next i p g)) o)
+
+-- the k-th that is issued
+pub all-issued : {k : ℕ} {i : Issued} (is : List Issued) (p : Pool) → Good p → Each (For (length (p .lost))) is → At i k is
+    → IsHeld i (p .next + k) (issueAll is p .held) ⊎ Over (i .link) (p .next + k) (issueAll is p)
+all-issued (i ∷ is) p g (one-more f a) first =
+    let e : p .next + 0 ≡ p .next = omega arith in
+    rw e (all-fate is (issue i p) (issue-good i p g f) (for-next i p g a) i (p .next) (issue-has i p g))
+all-issued (j ∷ is) p g (one-more f a) (behind {k} r) =
+    let e : p .next + suc k ≡ issue j p .next + k = omega (arith, issue-next j p g) in
+    rw e (all-issued is (issue j p) (issue-good j p g f) (for-next j p g a) r)
+
+-- it is held, or records were issued and it is over
+some-issued : (is : List Issued) (p : Pool) (x : Issued) (n : ℕ) → (is ≡ [] → IsHeld x n (p .held)) → IsHeld x n (p .held) ⊎ Over (x .link) n p → IsHeld x n (p .held) ⊎ ((1 ≤ length is) × Over (x .link) n p)
+some-issued is p x n h (inl k) = inl k
+some-issued [] p x n h (inr o) = inl (h refl)
+some-issued (i ∷ is) p x n h (inr o) = inr (omega arith, o)
+
+pub fate-of : (is : List Issued) (p : Pool) → Good p → Each (For (length (p .lost))) is → (x : Issued) (n : ℕ) → IsHeld x n (p .held)
+    → IsHeld x n (issueAll is p .held) ⊎ ((1 ≤ length is) × Over (x .link) n (issueAll is p))
+fate-of is p g a x n h = some-issued is (issueAll is p) x n (λ e. rw e h) (all-fate is p g a x n h)
+
+pub issued-of : {k : ℕ} {i : Issued} (is : List Issued) (p : Pool) → Good p → Each (For (length (p .lost))) is → At i k is
+    → IsHeld i (p .next + k) (issueAll is p .held) ⊎ ((1 ≤ length is) × Over (i .link) (p .next + k) (issueAll is p))
+issued-of {k} {i} is p g a r = some-issued is (issueAll is p) i (p .next + k) (λ e. absurd (nothing is r e)) (all-issued is p g a r)
+  where
+    nothing : (is : List Issued) → At i k is → is ≡ [] → ⊥
+    nothing (x ∷ is) r e = let z : _≡_ {A = ℕ} 0 1 = cc in omega arith
+
+pub never-stuck : (is : List Issued) (p : Pool) → Good p → Each (For (length (p .lost))) is → sticks is p ≡ false
+never-stuck [] p g a = refl
+never-stuck (i ∷ is) p g (one-more f a) = rw (not-stuck p g (i .link)) (never-stuck is (issue i p) (issue-good i p g f) (for-next i p g a))

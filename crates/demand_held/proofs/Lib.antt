@@ -1,0 +1,9 @@
+pub mod Lists
+pub mod Good
+pub mod Rising
+pub mod Room
+pub mod Issue
+pub mod Frame
+pub mod Lays
+pub mod Steps
+pub mod Demand

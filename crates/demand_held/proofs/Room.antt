@@ -1,0 +1,122 @@
+-- Room for a record that is issued: what making room keeps, and that a link which loses one has 16 newer ones after.
+-- Assumes nothing.
+use Prim.Native.Nat.{ℕ, suc, _+_, _≤_, _<_}
+use mathlib.Core.Path.{_≡_, refl, sym, _∙_}
+use mathlib.Core.Bool.{Bool, true, false, not}
+use mathlib.Core.List.{List, [], _∷_, _++_}
+use mathlib.Core.Logic.{_⊎_, inl, inr}
+use lib.Dec.{eqb, ltb, leb}
+use lib.ListN.{length}
+use native.Mathlib.Omega.{arith}
+use borrow.Author.Tests.{ltb-true, ltb-false, leb-true, leb-false, eq-eqb, ne-eqb, eqb-true, not-true, not-false}
+use Rattle.basis.specs.Pick.{pick, both, bit}
+use Rattle.basis.specs.Lists.{count}
+use Rattle.basis.proofs.Cases.{picked, eq-or-ne}
+use Rattle.machine.specs.Words.{butFirst}
+use Rattle.machine.specs.State.{Issued, Held, heldAs, Pool}
+use Rattle.machine.specs.Pool.{isFor, holds, isFull, fullest, lose, makeRoom, added}
+use Rattle.machine.specs.Run.{Among}
+use Rattle.demand_held.specs.Held.{IsHeld}
+use Rattle.demand_held.specs.Held.IsHeld.{held}
+use Rattle.demand_held.proofs.Lists.{bit-true, bit-false, Each, each-butFirst, count-last, count-butFirst, length-butFirst, count-left, count-other, length-changed}
+use Rattle.demand_held.proofs.Good.{Rising, Below, Good, fullest-holds}
+use Rattle.demand_held.proofs.Rising.{rising-butFirst, older, left-or-oldest}
+
+-- record n of link l, and all as old, are gone, and 16 of its link are held
+pub record Over (l n : ℕ) (p : Pool) : Type 0 where
+  pub none : count (older l n) (p .held) ≡ 0
+  pub many : 16 ≤ holds p l
+
+-- q has room for i, and is p but for one record at most
+pub record Room (i : Issued) (p q : Pool) : Type 0 where
+  pub next : q .next ≡ p .next
+  pub lost : length (q .lost) ≡ length (p .lost)
+  pub below : holds q (i .link) ≤ 63
+  pub place : length (q .held) ≤ 127
+  pub fewer : (f : Held → Bool) → count f (q .held) ≤ count f (p .held)
+  pub links : Each (Below (length (p .lost))) (q .held)
+  pub rising : Rising (p .next) 0 (q .held)
+  pub spared : (r : Issued) (n : ℕ) → IsHeld r n (p .held) → IsHeld r n (q .held) ⊎ ((count (older (r .link) n) (q .held) ≡ 0) × (16 ≤ holds (added i q) (r .link)))
+  pub sixteen : (l : ℕ) → 16 ≤ holds p l → 16 ≤ holds (added i q) l
+
+pub holds-added : (i : Issued) (q : Pool) (l : ℕ) → holds (added i q) l ≡ holds q l + bit (eqb (i .link) l)
+holds-added i q l = count-last (isFor l) (q .held) (heldAs (i .link) (i .content) (q .next) false)
+
+module _ (i : Issued) (p : Pool) (g : Good p) where
+  free : holds p (i .link) < 64 → length (p .held) < 128 → Room i p p
+  free a b =
+      record {
+        next = refl;
+        lost = refl;
+        below = omega arith;
+        place = omega arith;
+        fewer = λ f. omega arith;
+        links = g .links;
+        rising = g .rising;
+        spared = λ r n h. inl h;
+        sixteen = λ l h. omega (arith, holds-added i p l);
+      }
+
+  -- link k loses its oldest and has 16 after
+  module _ (k : ℕ) where
+    loses : 1 ≤ holds p k → holds (lose k p) (i .link) ≤ 63 → 16 ≤ holds (added i (lose k p)) k → Room i p (lose k p)
+    unfolding lose
+    loses one below many =
+        record {
+          next = refl;
+          lost = length-changed k suc (p .lost);
+          below = below;
+          place = omega (arith, g .all, length-butFirst (isFor k) (p .held) one);
+          fewer = λ f. count-left (isFor k) f (p .held);
+          links = each-butFirst (isFor k) (g .links);
+          rising = rising-butFirst (isFor k) (g .rising);
+          spared = spare;
+          sixteen = λ l h. other l h (eq-or-ne k l);
+        }
+      where
+        after : (r : Issued) (n : ℕ) (h : Held) → h .link ≡ r .link → h .content ≡ r .content → h .sequence ≡ n
+            → Among h (butFirst (isFor k) (p .held)) ⊎ ((h .link ≡ k) × (count (older k (h .sequence)) (butFirst (isFor k) (p .held)) ≡ 0))
+            → IsHeld r n (butFirst (isFor k) (p .held)) ⊎ ((count (older (r .link) n) (butFirst (isFor k) (p .held)) ≡ 0) × (16 ≤ holds (added i (lose k p)) (r .link)))
+        after r n h e c f (inl a) = inl (held a e c f)
+        after r n h e c f (inr o) =
+            let same : r .link ≡ k = sym e ∙ o .0 in
+            inr (rw (same, ← f) (o .1), rw same many)
+
+        spare : (r : Issued) (n : ℕ) → IsHeld r n (p .held)
+            → IsHeld r n (butFirst (isFor k) (p .held)) ⊎ ((count (older (r .link) n) (butFirst (isFor k) (p .held)) ≡ 0) × (16 ≤ holds (added i (lose k p)) (r .link)))
+        spare r n (held {h} a e c f) = after r n h e c f (left-or-oldest k (g .rising) a)
+
+        other : (l : ℕ) → 16 ≤ holds p l → (k ≡ l) ⊎ (k ≡ l → ⊥) → 16 ≤ holds (added i (lose k p)) l
+        other l h (inl e) = rw (← e) many
+        other l h (inr e) =
+            omega (arith, holds-added i (lose k p) l, count-other (isFor k) (isFor l) (λ x t. ne-eqb (x .link) l (λ q. e (sym (eqb-true (x .link) k t) ∙ q))) (p .held))
+
+    loses-one : 1 ≤ holds p k → holds (lose k p) k + 1 ≡ holds p k
+    unfolding lose
+    loses-one one = count-butFirst (isFor k) (p .held) one
+
+    loses-no-more : (l : ℕ) → holds (lose k p) l ≤ holds p l
+    unfolding lose
+    loses-no-more l = count-left (isFor k) (isFor l) (p .held)
+
+  own : 16 ≤ holds p (i .link) → Room i p (lose (i .link) p)
+  own h =
+      loses (i .link) (omega arith) (omega (arith, g .most (i .link), loses-one (i .link) (omega arith)))
+      (omega (arith, holds-added i (lose (i .link) p) (i .link), bit-true (eqb (i .link) (i .link)) (eq-eqb (i .link) (i .link) refl), loses-one (i .link) (omega arith)))
+
+  steals : holds p (i .link) < 16 → 128 ≤ length (p .held) → Room i p (lose (fullest p) p)
+  steals h full =
+      let most : 32 ≤ holds p (fullest p) = fullest-holds p g full in
+      loses (fullest p) (omega arith) (omega (arith, loses-no-more (fullest p) (i .link)))
+      (omega (arith, holds-added i (lose (fullest p) p) (fullest p), loses-one (fullest p) (omega arith)))
+
+  pub makes-room : Room i p (makeRoom (i .link) p)
+  unfolding makeRoom
+  makes-room =
+      picked (Room i p) (leb 64 (holds p (i .link))) (lose (i .link) p) _
+      (λ e. own (omega (arith, leb-true 64 (holds p (i .link)) e)))
+      (λ e. picked (Room i p) (not (isFull p)) p _
+      (λ f. free (leb-false 64 (holds p (i .link)) e) (leb-false 128 (length (p .held)) (not-true (isFull p) f)))
+      (λ f. picked (Room i p) (ltb (holds p (i .link)) 16) (lose (fullest p) p) (lose (i .link) p)
+      (λ q. steals (ltb-true (holds p (i .link)) 16 q) (leb-true 128 (length (p .held)) (not-false (isFull p) f)))
+      (λ q. own (ltb-false (holds p (i .link)) 16 q))))

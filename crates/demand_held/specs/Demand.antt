@@ -1,0 +1,41 @@
+-- Demand 3: "A record issued for a link stays held until its supervisor answers a message that carried it, or until a call issues a record
+-- after which at least 16 newer ones of that link are held. None ever has more than 64 held. No call of another link changes this."
+-- Assumes nothing.
+use Prim.Native.Nat.{ℕ, _+_, _≤_, _<_}
+use mathlib.Core.Path.{_≡_}
+use mathlib.Core.Bool.{false}
+use mathlib.Core.List.{List}
+use mathlib.Core.Option.{some}
+use lib.Dec.{eqb}
+use lib.ListN.{length}
+use Rattle.basis.specs.Lists.{count}
+use Rattle.machine.specs.Words.{isNumber}
+use Rattle.machine.specs.State.{Issued, Held, Start, Machine, Call}
+use Rattle.machine.specs.State.Outcome.{refused}
+use Rattle.machine.specs.Pool.{holds}
+use Rattle.machine.specs.Effects.{effectOf}
+use Rattle.machine.specs.Step.{poolSticks, step}
+use Rattle.machine.specs.Run.{Past, Run}
+use Rattle.demand_held.specs.Held.{IsHeld, IsDone, issuedBy, Kept, Fate, packetLink, Until, At}
+
+module _ (s : Start) (h : List Past) (m : Machine) where
+  pub record Holding : Type 0 where
+    -- what becomes of a held record in one call, and over any calls
+    pub held : (c : Call) (r : Issued) (n : ℕ) → IsHeld r n (m .pool .held) → Fate m c r n
+    pub held-on : (cs : List Call) (r : Issued) (n : ℕ) → IsHeld r n (m .pool .held) → Until r n m cs
+    -- "No call of another link changes this": only a packet call on its own link ends a record otherwise than by newer ones
+    pub apart : (c : Call) (r : Issued) (n : ℕ) → isNumber (r .link) (packetLink (c .act)) ≡ false → IsHeld r n (m .pool .held) → Kept m c r n
+    -- the k-th record that a done call issues is held after it, or 16 newer ones of its link are
+    pub issued : (c : Call) → IsDone m c → (k : ℕ) (r : Issued) → At r k (issuedBy m c) → Kept m c r (m .pool .next + k)
+    -- "None ever has more than 64 held", and 128 together
+    pub most : (l : ℕ) → holds (m .pool) l ≤ 64
+    pub all : length (m .pool .held) ≤ 128
+    -- a held number was given before, and stands once
+    pub given : (r : Issued) (n : ℕ) → IsHeld r n (m .pool .held) → n < m .pool .next
+    pub once : (n : ℕ) → count (λ (h : Held). eqb (h .sequence) n) (m .pool .held) ≤ 1
+    -- number 13's condition holds before no record that a call issues, so that the number is never given
+    pub unstuck : (c : Call) → ((l : ℕ) → packetLink (c .act) ≡ some l → l < m .setup .links) → poolSticks (effectOf m (c .time) (c .act)) ≡ false
+    pub never-thirteen : (c : Call) → step m c .0 ≡ refused 13 → ⊥
+
+pub record Demand3 : Type 0 where
+  pub of-every-run : (s : Start) (h : List Past) (m : Machine) → Run s h m → Holding s h m

@@ -1,0 +1,76 @@
+-- What can become of a held record.
+-- Assumes nothing.
+use Prim.Native.Nat.{ℕ, suc, _≤_}
+use mathlib.Core.Path.{_≡_}
+use mathlib.Core.Bool.{true}
+use mathlib.Core.List.{List, [], _∷_}
+use mathlib.Core.Option.{Option, some, none}
+use lib.Dec.{ltb}
+use lib.ListN.{length}
+use Rattle.basis.specs.Lists.{count}
+use Rattle.json_value.specs.Grammar.{Json}
+use Rattle.write_message.specs.Message.{Message}
+use Rattle.machine.specs.Words.{Bytes, _and_}
+use Rattle.machine.specs.State.{Issued, Held, Awaited, Machine, Act, Call, lifeAt}
+use Rattle.machine.specs.State.Act.{connect, disconnect, packet, alarmInput, statusValue, aggregatedValue, tick, pump}
+use Rattle.machine.specs.State.Outcome.{done}
+use Rattle.machine.specs.Json.{readPacket, stringOf}
+use Rattle.machine.specs.Life.{awaitedBy}
+use Rattle.machine.specs.Answers.{isAnswer}
+use Rattle.machine.specs.Pool.{isFor}
+use Rattle.machine.specs.Effects.{carried, effectOf}
+use Rattle.machine.specs.Step.{step, leaves}
+use Rattle.machine.specs.Run.{Among}
+
+-- the record r, issued under number n, is held
+pub data IsHeld (r : Issued) (n : ℕ) (hs : List Held) : Type 0 where
+  held : {h : Held} → Among h hs → h .link ≡ r .link → h .content ≡ r .content → h .sequence ≡ n → IsHeld r n hs
+
+-- how many newer ones of link l are; no number stands twice, so that they are other records
+abbrev pub newer : ℕ → ℕ → List Held → ℕ
+newer l n hs = count (λ (h : Held). isFor l h and ltb n (h .sequence)) hs
+
+pub data IsDone (m : Machine) (c : Call) : Type 0 where
+  is-done : {messages : List Message} {closed : List ℕ} {hint : Option ℕ} → step m c .0 ≡ done messages closed hint → IsDone m c
+
+abbrev pub issuedBy : Machine → Call → List Issued
+issuedBy m c = effectOf m (c .time) (c .act) .issues
+
+-- "A supervisor answers a message when a packet call on its link is done with a MessageAck or MessageNotAck whose oMId is that message's
+-- awaited identity": a message that carried record n
+pub data Answered (m : Machine) (l n : ℕ) : Act → Type 0 where
+  answered : {random bytes : Bytes} {room : ℕ} {j : Json} {a : Awaited} → readPacket bytes ≡ some j → isAnswer j ≡ true
+      → awaitedBy (lifeAt m l) (stringOf "oMId" j) ≡ some a → carried (a .message) ≡ some n → Answered m l n (packet l random bytes room)
+
+-- it stays, or a record was issued and at least 16 newer ones of its link are held after the call
+pub data Kept (m : Machine) (c : Call) (r : Issued) (n : ℕ) : Type 0 where
+  stays : IsHeld r n (step m c .1 .pool .held) → Kept m c r n
+  pushed : IsDone m c → 1 ≤ length (issuedBy m c) → 16 ≤ newer (r .link) n (step m c .1 .pool .held) → Kept m c r n
+
+pub data Fate (m : Machine) (c : Call) (r : Issued) (n : ℕ) : Type 0 where
+  kept : Kept m c r n → Fate m c r n
+  settled : IsDone m c → Answered m (r .link) n (c .act) → Fate m c r n
+
+-- the link that a packet came in on
+abbrev pub packetLink : Act → Option ℕ
+packetLink (connect l) = none
+packetLink (disconnect l) = none
+packetLink (packet l random bytes room) = some l
+packetLink (alarmInput i active) = none
+packetLink (statusValue i v) = none
+packetLink (aggregatedValue v) = none
+packetLink tick = none
+packetLink (pump l random room) = none
+
+-- over the calls of a list: it is held at the end, or one of them ended it
+pub data Until (r : Issued) (n : ℕ) : Machine → List Call → Type 0 where
+  lasts : {m : Machine} {cs : List Call} → IsHeld r n (leaves m cs .pool .held) → Until r n m cs
+  answered-now : {m : Machine} {c : Call} {cs : List Call} → IsDone m c → Answered m (r .link) n (c .act) → Until r n m (c ∷ cs)
+  pushed-now : {m : Machine} {c : Call} {cs : List Call} → IsDone m c → 1 ≤ length (issuedBy m c) → 16 ≤ newer (r .link) n (step m c .1 .pool .held)
+      → Until r n m (c ∷ cs)
+  later : {m : Machine} {c : Call} {cs : List Call} → Until r n (step m c .1) cs → Until r n m (c ∷ cs)
+
+-- the k-th of a list
+pub data At {A : Type 0} (x : A) : ℕ → List A → Type 0 where
+  first : {xs : List A} → At x 0 (x ∷ xs)
+  behind : {k : ℕ} {y : A} {xs : List A} → At x k xs → At x (suc k) (y ∷ xs)

@@ -1,0 +1,3 @@
+-- Demand 3, of every run of the machine.
+pub mod Held
+pub mod Demand

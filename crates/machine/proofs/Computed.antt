@@ -1,0 +1,58 @@
+-- The claims of specs/Computed, computed.
+-- Assumes nothing.
+use mathlib.Core.Path.{refl}
+use Rattle.entry.specs.Flags.{alarmFlags, statusFlags}
+use Rattle.entry.specs.Layout.{bytesOf}
+use Rattle.json_character.specs.Char.{rawOf, charOf}
+use Rattle.json_text.specs.Decoded.{readChars, decoded}
+use Rattle.json_number.specs.Machine.{apart, readNum, readNumber}
+use Rattle.json_value.specs.Reader.{skipWs, literal, readScalar, readName, readStart, readMark, readEntry, readItems, readInside, readValue}
+use Rattle.json_packet.specs.Names.{noTwice, allOnce, once}
+use Rattle.json_packet.specs.Packet.{isPacket, meaningOf}
+use Rattle.identity.specs.Hex.{hexDigit, lowerHex}
+use Rattle.identity.specs.Text.{identityText}
+use Rattle.number.specs.Decimal.{digits, digitsBelow}
+use Rattle.calendar.specs.Days.{leapOf, years, months, dayOf}
+use Rattle.calendar.specs.Civil.{yearFrom, monthFrom, dateOf}
+use Rattle.calendar.specs.Text.{secondText, milliText, timeText}
+use Rattle.calendar.specs.Read.{readSecond, readMilli, readTime}
+use Rattle.machine.specs.Json.{versionIn}
+use Rattle.machine.specs.Life.{close, carriedBy, dueUp, due}
+use Rattle.machine.specs.Answers.{isIgnored, needs, reasons}
+use Rattle.machine.specs.Items.{happens, subscribe, unsubscribe, intervals, becomes, aggregates}
+use Rattle.machine.specs.Pool.{lose, makeRoom, issue, isStuck}
+use Rattle.machine.specs.Effects.{connects, closes, ticks, sends, answers, answered, refuses, carriedOut, replying, receives, effectOf}
+use Rattle.machine.specs.Step.{conditions, step}
+use Rattle.machine.specs.Computed.{bothFull, Marked, Conversation}
+
+pub marked : Marked
+unfolding leapOf yearFrom monthFrom dateOf secondText milliText timeText alarmFlags statusFlags bytesOf bothFull lose makeRoom issue digits digitsBelow versionIn
+marked =
+    record {
+      leap-day = refl;
+      a-time = refl;
+      last-time = refl;
+      status-record = refl;
+      alarm-record = refl;
+      both-full = refl;
+      first-of-link-2 = refl;
+      sixteenth = refl;
+      seventeenth = refl;
+      seventeenth-lost = refl;
+      same-version = refl;
+    }
+
+pub conversation : Conversation
+unfolding rawOf charOf readChars decoded skipWs literal readScalar readName readStart readMark readEntry readItems readInside readValue noTwice allOnce once isPacket meaningOf hexDigit lowerHex identityText digits digitsBelow leapOf years months dayOf yearFrom monthFrom dateOf secondText milliText timeText readSecond readMilli readTime apart readNum readNumber versionIn close carriedBy dueUp due isIgnored needs reasons happens subscribe unsubscribe intervals becomes aggregates lose makeRoom issue isStuck connects closes ticks sends answers answered refuses carriedOut replying receives effectOf conditions step
+conversation =
+    record {
+      greets = refl;
+      comes-up = refl;
+      alarm-told = refl;
+      alarm-settled = refl;
+      numbers = refl;
+      suspends = refl;
+      requested = refl;
+      awaited-long = refl;
+      statuses-told = refl;
+    }

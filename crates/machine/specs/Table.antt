@@ -1,0 +1,71 @@
+-- Document 01, "Site table": what is looked up in it, and the machine that start makes.
+-- Assumes nothing.
+use Prim.Native.Nat.{ℕ}
+use mathlib.Core.Path.{_≡_}
+use mathlib.Core.Bool.{Bool, true, false}
+use mathlib.Core.List.{List, [], map}
+use mathlib.Core.Option.{Option, some, none}
+use lib.Dec.{eqb, ltb, leb}
+use lib.ListN.{length, getD, replicate}
+use Rattle.basis.specs.Lists.{sameBytes}
+use Rattle.table_whole.specs.Table.{Row, noRow, Table}
+use Rattle.table_whole.specs.Bytes.{tableBytes}
+use Rattle.table_whole.specs.Allowed.{Allowed}
+use Rattle.machine.specs.Words.{Bytes, _and_, maybe, placeOf}
+use Rattle.machine.specs.State.{Setup, Start, Machine, machine, poolOf, alarmOf, fresh}
+use Rattle.machine.specs.State.Event.{Issue}
+
+abbrev pub lastTime : ℕ
+lastTime = 253402300799999
+
+abbrev pub lastSequence : ℕ
+lastSequence = 4294967295
+
+abbrev pub componentText : Table → ℕ → Bytes
+componentText t c = getD (t .components) c []
+
+abbrev pub alarmRow : Table → ℕ → Row
+alarmRow t i = getD (t .alarms) i noRow
+
+abbrev pub statusRow : Table → ℕ → Row
+statusRow t i = getD (t .statuses) i noRow
+
+-- the number of a component by its id, of an alarm by component and code, of a status by component, code and name
+abbrev pub componentOf : Table → Bytes → Option ℕ
+componentOf t id = placeOf (sameBytes id) (t .components)
+
+abbrev pub alarmNumber : Table → ℕ → Bytes → Option ℕ
+alarmNumber t c code = placeOf (λ r. eqb (r .component) c and sameBytes (r .code) code) (t .alarms)
+
+abbrev pub statusNumber : Table → ℕ → Bytes → Bytes → Option ℕ
+statusNumber t c code name = placeOf (λ r. eqb (r .component) c and sameBytes (r .code) code and sameBytes (r .name) name) (t .statuses)
+
+-- "link count [1 to 4], primary (or none), watchdog period (1 to 3,600 seconds), first sequence number (0 to number 10's limit)
+-- and time (0 to 253402300799999)"
+abbrev pub goodStart : Start → Bool
+goodStart s =
+    leb 1 (s .links) and leb (s .links) 4
+    and maybe true (λ p. ltb p (s .links)) (s .primary)
+    and leb 1 (s .period) and leb (s .period) 3600
+    and leb (s .first) lastSequence
+    and leb (s .time) lastTime
+
+-- "An alarm starts inactive, acknowledged, not suspended, last event Issue at start." "The aggregated value starts all false at the
+-- start time." "Lost counts are kept per link, from start."
+abbrev pub first : Table → Start → Machine
+first t s =
+    machine (record { table = t; links = s .links; primary = s .primary; period = s .period })
+    (s .time)
+    (map (λ r. alarmOf false true false Issue (s .time)) (t .alarms))
+    (map (λ r. none) (t .statuses))
+    0
+    (s .time)
+    []
+    (replicate (s .links) (fresh false))
+    (poolOf (s .first) [] (replicate (s .links) 0))
+
+-- "11: start values, site table .. not accepted": the machine that a start makes, or none
+pub data Begins (s : Start) : Option Machine → Type 0 where
+  begins : {t : Table} → Allowed t → tableBytes t ≡ s .table → goodStart s ≡ true → Begins s (some (first t s))
+  not-good : goodStart s ≡ false → Begins s none
+  no-table : ((t : Table) → Allowed t → tableBytes t ≡ s .table → ⊥) → Begins s none

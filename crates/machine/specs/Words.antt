@@ -1,0 +1,111 @@
+-- The words that the rules are written in.
+-- Assumes nothing.
+use Prim.Native.Nat.{ℕ, zero, suc}
+use Prim.Native.String.{String}
+use mathlib.Core.Bool.{Bool, true, false, not}
+use mathlib.Core.List.{List, [], _∷_, _++_}
+use mathlib.Core.Option.{Option, some, none}
+use lib.Dec.{eqb}
+use Rattle.basis.specs.Pick.{pick, both}
+use Rattle.basis.specs.Lists.{sameBytes}
+use Rattle.basis.specs.Text.{text}
+
+infixr 12 if_then_else_
+infixr 30 _and_
+infixr 20 _or_
+infixr 70 _when_
+abbrev pub Bytes : Type 0
+Bytes = List ℕ
+
+abbrev pub if_then_else_ : {A : Type 0} → Bool → A → A → A
+if_then_else_ test a b = pick test a b
+
+abbrev pub _and_ : Bool → Bool → Bool
+_and_ a b = both a b
+
+abbrev pub _or_ : Bool → Bool → Bool
+_or_ a b = pick a true b
+
+abbrev pub alike : Bool → Bool → Bool
+alike a b = pick a b (not b)
+
+-- the bytes are the quoted text
+abbrev pub reads : String → Bytes → Bool
+reads quoted bytes = sameBytes bytes (text quoted)
+
+-- ---- what may be there or not
+abbrev pub maybe : {A B : Type 0} → B → (A → B) → Option A → B
+maybe b f none = b
+maybe b f (some a) = f a
+
+abbrev pub isSome : {A : Type 0} → Option A → Bool
+isSome none = false
+isSome (some a) = true
+
+abbrev pub orElse : {A : Type 0} → A → Option A → A
+orElse a none = a
+orElse a (some b) = b
+
+abbrev pub isNumber : ℕ → Option ℕ → Bool
+isNumber n none = false
+isNumber n (some k) = eqb n k
+
+-- ---- lists
+abbrev pub keep : {A : Type 0} → (A → Bool) → List A → List A
+keep f [] = []
+keep f (x ∷ xs) = pick (f x) (x ∷ keep f xs) (keep f xs)
+
+abbrev pub any : {A : Type 0} → (A → Bool) → List A → Bool
+any f [] = false
+any f (x ∷ xs) = f x or any f xs
+
+abbrev pub each : {A : Type 0} → (A → Bool) → List A → Bool
+each f [] = true
+each f (x ∷ xs) = f x and each f xs
+
+-- the first element that passes, all but that one, and its place
+abbrev pub firstThat : {A : Type 0} → (A → Bool) → List A → Option A
+firstThat f [] = none
+firstThat f (x ∷ xs) = pick (f x) (some x) (firstThat f xs)
+
+abbrev pub butFirst : {A : Type 0} → (A → Bool) → List A → List A
+butFirst f [] = []
+butFirst f (x ∷ xs) = pick (f x) xs (x ∷ butFirst f xs)
+
+abbrev pub placeFrom : {A : Type 0} → ℕ → (A → Bool) → List A → Option ℕ
+placeFrom i f [] = none
+placeFrom i f (x ∷ xs) = pick (f x) (some i) (placeFrom (suc i) f xs)
+
+abbrev pub placeOf : {A : Type 0} → (A → Bool) → List A → Option ℕ
+placeOf f xs = placeFrom 0 f xs
+
+abbrev pub flat : {A B : Type 0} → (A → List B) → List A → List B
+flat f [] = []
+flat f (x ∷ xs) = f x ++ flat f xs
+
+-- element i changed
+abbrev pub changed : {A : Type 0} → ℕ → (A → A) → List A → List A
+changed i f [] = []
+changed zero f (x ∷ xs) = f x ∷ xs
+changed (suc i) f (x ∷ xs) = x ∷ changed i f xs
+
+-- the numbers below n, upwards; whether one of them passes
+abbrev pub upTo : ℕ → List ℕ
+upTo zero = []
+upTo (suc n) = upTo n ++ (n ∷ [])
+
+abbrev pub anyBelow : ℕ → (ℕ → Bool) → Bool
+anyBelow zero f = false
+anyBelow (suc n) f = f n or anyBelow n f
+
+-- ---- "first that applies"
+pub record Case (A : Type 0) : Type 0 where
+  pub gives : A
+  pub applies : Bool
+
+abbrev pub _when_ : {A : Type 0} → A → Bool → Case A
+_when_ a applies = record { gives = a; applies = applies }
+
+abbrev pub firstOf : {A : Type 0} → List (Case A) → Option A
+firstOf [] = none
+firstOf (c ∷ cs) = pick (c .applies) (some (c .gives)) (firstOf cs)

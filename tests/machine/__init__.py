@@ -1,0 +1,1 @@
+"""The machine of crates/machine/specs, its own text translated to Python and run."""

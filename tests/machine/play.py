@@ -1,0 +1,137 @@
+"""Plays a script for rsmp-replay on the machine and gives the line that rsmp-replay prints for each of its lines."""
+import uuid
+
+from cases import ROOT
+from model import message, table
+
+from .given import NONE, REASONS, TYPES, signed
+from .translate import Translation
+
+SPECS = ROOT / "crates" / "machine" / "specs"
+QUALITY = {"Recent": "recent", "Unknown": "unknown", "Undefined": "undefined"}
+KIND = {"Response": "StatusResponse", "Update": "StatusUpdate"}
+
+
+def played(lines, specs=SPECS):
+    machine = Translation(specs)
+    state = None
+    for line in lines:
+        name, *words = line.split()
+        if name == "start":
+            made = started(machine, unhexed(words[0]), *words[1:])
+            state = made or state
+            yield "0 0 - -" if made else "11"
+        elif name in ("counts", "readings"):
+            readings = [machine["Readings", "reading"](state, link) for link in range(state["setup"]["links"])]
+            yield " ".join(map(counted if name == "counts" else read, readings))
+        else:
+            outcome, state = machine["Step", "step"](state, call(name, words))
+            yield shown(outcome)
+
+
+# What is given.
+
+def unhexed(word):
+    return b"" if word == "-" else bytes.fromhex(word)
+
+
+def option(word):
+    return NONE if word == "-" else ("some", int(word))
+
+
+def whole(value):
+    return ("pos", value) if value >= 0 else ("negsuc", -1 - value)
+
+
+def started(machine, data, links, primary, period, first, time):
+    given = dict(table=tuple(data), links=int(links), primary=option(primary), period=int(period), first=int(first), time=int(time))
+    try:
+        rows = table.read(data)
+    except table.Refused:
+        return None
+    return machine["Table", "first"](table_of(rows), given) if machine["Table", "goodStart"](given) else None
+
+
+def table_of(rows):
+    return dict(site=tuple(rows.site), sxl=tuple(rows.sxl), components=tuple(map(tuple, rows.components)),
+                alarms=tuple(row(c, code, b"", priority, category) for c, priority, category, code in rows.alarms),
+                statuses=tuple(row(c, code, name) for c, code, name in rows.statuses))
+
+
+def row(component, code, name, priority=0, category=0):
+    return dict(component=component, priority=priority, category=category, code=tuple(code), name=tuple(name))
+
+
+def call(name, words):
+    if name == "packet":
+        link, time, random, room, received = words
+        return at(time, "packet", int(link), tuple(unhexed(random)), tuple(unhexed(received)), int(room))
+    if name == "pump":
+        link, time, random, room = words
+        return at(time, "pump", int(link), tuple(unhexed(random)), int(room))
+    *numbers, time = map(int, words)
+    if name == "alarm":
+        return at(time, "alarmInput", numbers[0], numbers[1] != 0)
+    if name == "status":
+        return at(time, "statusValue", numbers[0], whole(numbers[1]))
+    return at(time, {"aggregated": "aggregatedValue"}.get(name, name), *numbers)
+
+
+def at(time, *act):
+    return dict(time=int(time), act=act)
+
+
+# What is shown.
+
+def counted(reading):
+    return f"{reading['held']}/{reading['lost']}"
+
+
+def read(reading):
+    records = ",".join(bytes(record).hex() for record in reading["records"]) or "-"
+    return f"{reading['phase']}/{'.'.join(map(str, reading['version'] or (0, 0, 0)))}/{records}"
+
+
+def shown(outcome):
+    if outcome[0] == "refused":
+        return str(outcome[1])
+    _, messages, closed, hint = outcome
+    written = b"".join(text(*said) + b"\x0c" for said in messages)
+    return f"0 {sum(1 << link for link in closed)} {'-' if hint == NONE else hint[1]} {written.hex() or '-'}"
+
+
+def text(kind, *parts):
+    """A message's text; the model's writers take the same fields."""
+    if kind == "version":
+        return message.version(identity(parts[0]), string(parts[1]), string(parts[2]))
+    if kind == "watchdog":
+        return message.watchdog(identity(parts[0]), parts[1])
+    if kind == "ack":
+        return message.ack(string(parts[0]))
+    if kind == "notAck":
+        return message.not_ack(string(parts[0]), REASONS[parts[1] - TYPES])
+    if kind == "alarm":
+        state = parts[3]
+        return message.alarm(*head(parts), string(parts[2]), state["event"], state["acknowledged"], state["active"], state["suspended"],
+                             state["time"], state["category"], state["priority"])
+    if kind == "aggregated":
+        return message.aggregated(*head(parts), *parts[2:])
+    told, *rest = parts
+    return message.statuses(KIND[told[0]], *head(rest), rest[2], list(map(entry, rest[3])))
+
+
+def head(parts):
+    return identity(parts[0]), string(parts[1])
+
+
+def entry(status):
+    value = status["value"]
+    return string(status["code"]), string(status["name"]), signed(value[1]) if value[0] == "Recent" else None, QUALITY[value[0]]
+
+
+def identity(bytes_):
+    return str(uuid.UUID(bytes=bytes(bytes_)))
+
+
+def string(characters):
+    return bytes(characters).decode("ascii")
