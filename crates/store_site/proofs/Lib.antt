@@ -1,2 +1,3 @@
 pub mod RowLaws
 pub mod SiteLaws
+pub mod HeadLaws

@@ -5,7 +5,8 @@ use mathlib.Core.Logic.{_⊎_, inl, inr}
 use Rattle.basis.proofs.Cases.{eq-or-ne, lt-or-ge}
 use Prim.Native.Nat.{ℕ, _+_, _*_, _<_, _≤_}
 use native.Mathlib.Omega.{arith}
-use mathlib.Core.List.{List, []}
+use mathlib.Core.List.{List, [], _∷_}
+use lib.Dec.{lit≤}
 use lib.ListN.{length, getD, set}
 use Rattle.link.specs.declared.Link.{Link}
 use Rattle.link.specs.Fields.{closedLink}
@@ -17,13 +18,14 @@ use Rattle.alarm.specs.declared.Alarm.{Alarm}
 use Rattle.alarm.specs.Alarm.{beginning}
 use Rattle.status.specs.declared.Status.{Status}
 use Rattle.status.specs.Status.{unknown}
+use Rattle.aggregated.specs.declared.Aggregated.{Aggregated}
 use Rattle.table_whole.specs.declared.SiteTable.{SiteTable}
 use Rattle.site.specs.declared.Site.{Site}
-use Rattle.site.specs.Site.{withPool, withLinks, withSubscriptions, withAlarms, withStatuses, linkAt, withLink}
+use Rattle.site.specs.Site.{withPool, withLinks, withSubscriptions, withAlarms, withStatuses, withAggregated, linkAt, withLink}
 use Rattle.site.specs.Parts.{subscriptionAt, withSubscription, alarmAt, withAlarm, statusAt, withStatus}
 use Rattle.store_words.specs.Words.{word, Stored, Put}
 use Rattle.store_words.proofs.Elements.{list-at, list-length, list-same, list-put}
-use Rattle.store_words.proofs.Stores.{stored, first, Same, below, above}
+use Rattle.store_words.proofs.Stores.{stored, first, next, Same, below, above}
 use Rattle.store_link.specs.Rows.{linkIn, PlainAt, PutLink}
 use Rattle.store_link.proofs.RowLaws.{link-same}
 use Rattle.store_site.specs.Rows.{placeIn, subscriptionIn, alarmIn, statusIn}
@@ -272,3 +274,26 @@ last-turns ws n h =
 pub places-length : (ws : List ℕ) → length (placesIn ws) ≡ 128
 unfolding placesIn
 places-length ws = list-length (λ (k : ℕ). placeIn ws (9 + 4 * k)) 128
+
+pub aggregated-turns : (ws : List ℕ) (x : Aggregated) → length ws ≡ 1173 → Turns (λ (s : Site). withAggregated s x) ws (set (set ws 3 (x .time)) 4 (x .value))
+unfolding siteOf
+aggregated-turns ws x h =
+    let vs = set (set ws 3 (x .time)) 4 (x .value) in
+    let s = stored ws 3 (x .time) (x .value ∷ []) (omega arith) in
+    record {
+      site = λ t.
+          rw (
+            first ws 3 (x .time) (x .value ∷ []) (omega arith),
+            next ws 3 (x .time) (x .value ∷ []) (omega arith) 1 (lit≤ tt) (lit≤ tt),
+            s .before 0 (omega arith),
+            s .before 1 (omega arith),
+            s .before 2 (omega arith),
+            lost-same ws vs (above 5 4 s (omega arith)),
+            places-same ws vs (above 9 512 s (omega arith)),
+            links-same ws vs (above 521 300 s (omega arith)),
+            subscriptions-same ws vs (above 821 256 s (omega arith)),
+            alarms-same ws vs (above 1077 64 s (omega arith)),
+            statuses-same ws vs (above 1141 32 s (omega arith)),
+          );
+      plain = plain-before s (omega arith);
+    }
