@@ -19,6 +19,7 @@ use Rattle.link.specs.Fields.{closedLink}
 use Rattle.pool.specs.declared.Place.{Place}
 use Rattle.pool.specs.Places.{noPlace}
 use Rattle.subscription.specs.declared.Subscription.{Subscription}
+use Rattle.subscription.specs.Subscription.{none as noSubscription}
 use Rattle.alarm.specs.declared.Alarm.{Alarm}
 use Rattle.alarm.specs.Alarm.{beginning}
 use Rattle.status.specs.declared.Status.{Status}
