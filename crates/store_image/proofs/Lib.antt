@@ -1,0 +1,4 @@
+pub mod Spans
+pub mod Back
+pub mod Forth
+pub mod Kept

@@ -1,0 +1,1 @@
+// The words of a site, and the site by value.

@@ -1,0 +1,65 @@
+-- What the words from a place on stand for: a slot, what is awaited, a link. Every content stands for something.
+-- Assumes nothing.
+use Prim.Native.Nat.{ℕ, _+_, _*_, _<_}
+use mathlib.Core.Path.{_≡_}
+use mathlib.Core.Bool.{Bool}
+use mathlib.Core.List.{List}
+use Rattle.basis.specs.Pick.{bit}
+use Rattle.awaited.specs.declared.Slot.{Slot}
+use Rattle.awaited.specs.declared.Awaited.{Awaited}
+use Rattle.link.specs.declared.Link.{Link}
+use Rattle.store_words.specs.Words.{word, flag, listOf, Stored, Put}
+use Rattle.store_words.specs.Narrow.{upper, lower, identityFrom}
+
+unfoldable pub slotFrom : ℕ → ℕ → ℕ → ℕ → Slot
+slotFrom a b c d = record { time = a; sequence = upper b; purpose = lower b; id = identityFrom c d }
+
+abbrev pub slotIn : List ℕ → ℕ → Slot
+slotIn ws i = slotFrom (word ws i) (word ws (i + 1)) (word ws (i + 2)) (word ws (i + 3))
+
+unfoldable pub awaitedIn : List ℕ → ℕ → Awaited
+awaitedIn ws i = record { slots = listOf (λ (k : ℕ). slotIn ws (i + 4 * k)) 16 }
+
+-- 3 words of times and numbers, 8 of what has happened, 64 of what is awaited
+unfoldable pub linkIn : List ℕ → ℕ → Link
+linkIn ws i =
+    record {
+      awaited = awaitedIn ws (i + 11);
+      beat = word ws i;
+      alarm = upper (word ws (i + 1));
+      major = lower (word ws (i + 1));
+      minor = upper (word ws (i + 2));
+      patch = lower (word ws (i + 2));
+      connected = flag (word ws (i + 3));
+      versionout = flag (word ws (i + 4));
+      versionacked = flag (word ws (i + 5));
+      versiontaken = flag (word ws (i + 6));
+      watchdogout = flag (word ws (i + 7));
+      watchdogacked = flag (word ws (i + 8));
+      watchdogtaken = flag (word ws (i + 9));
+      aggregatedout = flag (word ws (i + 10));
+    }
+
+-- what the stores of a link's parts leave
+pub record PutHead (ws vs : List ℕ) (i a b c d e : ℕ) : Type 0 where
+  pub beat : word vs i ≡ a
+  pub alarm : upper (word vs (i + 1)) ≡ b
+  pub major : lower (word vs (i + 1)) ≡ c
+  pub minor : upper (word vs (i + 2)) ≡ d
+  pub patch : lower (word vs (i + 2)) ≡ e
+  pub kept : Stored ws vs i 3
+
+pub record PutMarks (ws vs : List ℕ) (i : ℕ) (a b c d : Bool) : Type 0 where
+  pub first : word vs i ≡ bit a
+  pub second : word vs (i + 1) ≡ bit b
+  pub third : word vs (i + 2) ≡ bit c
+  pub fourth : word vs (i + 3) ≡ bit d
+  pub kept : Stored ws vs i 4
+
+-- what has happened is 0 or 1 in each of its eight words
+abbrev pub PlainAt : List ℕ → ℕ → Type 0
+PlainAt ws i = (k : ℕ) → k < 8 → word ws (i + (3 + k)) < 2
+
+pub record PutLink (ws vs : List ℕ) (i : ℕ) (x : Link) : Type 0 where
+  pub put : Put linkIn 75 ws vs i x
+  pub plain : PlainAt vs i

@@ -1,0 +1,61 @@
+-- `store_pool::change::unmark` meets its contract.
+-- Assumes nothing.
+use Prim.Native.Nat.{_≤_, _-_}
+use mathlib.Core.Path.{_≡_}
+use native.Mathlib.Omega.{arith}
+use borrow.Author.Needs.{needs}
+use lib.ListN.{length}
+use Rattle.store_pool.proofs.PoolLaws.{Upto, upto-none, upto-next, unmarked, pool-turns}
+use Rattle.pool.specs.declared.Pool.{Pool}
+use Rattle.pool.specs.Pool.{unmarkOf}
+use Rattle.store_pool.proofs.change.unmark.Statement.{statement}
+use Rattle.store_pool.proofs.change.unmark.Tie as tie
+
+abbrev Inv-loop : tie.InvT-loop
+Inv-loop w₀ l i₀ w i = (i ≤ 128) × ((length w ≡ 1173) × ((length w₀ ≡ 1173) × Upto w₀ w l i))
+
+abbrev μ-loop : tie.MeasureT-loop
+μ-loop w₀ l i₀ w i = 128 - i
+
+loop-holds : tie.Need-loop-holds Inv-loop μ-loop
+loop-holds c = (omega arith, (search needs, (search needs, upto-none (c .before .args .w .now) (c .before .args .l))))
+
+unmark-at-requires : tie.Need-unmark-at-requires Inv-loop μ-loop
+unmark-at-requires c κs = search needs
+
+add-i : tie.Need-add-i Inv-loop μ-loop
+add-i c = omega arith
+
+loop-less : tie.Need-loop-less Inv-loop μ-loop
+loop-less c = omega arith
+
+loop-again : tie.Need-loop-again Inv-loop μ-loop
+loop-again c =
+    let l = c .before .before .before .before .before .loop in
+    let a = c .before .before .before .before .before .before .before .args in
+    let put = c .before .before .unmark-at in
+    let n : length (put .last .0) ≡ 1173 = search needs in
+    (omega arith, (n, (l .inv .1 .1 .0, upto-next (a .w .now) (l .w) (put .last .0) (a .l) (l .i) (omega arith) (l .inv .1 .1 .1) (put .ensures))))
+
+same-length : tie.Need-same-length Inv-loop μ-loop
+same-length c = search needs
+
+returns : tie.Need-returns Inv-loop μ-loop
+returns c =
+    let l = c .before .loop in
+    let a = c .before .before .before .args in
+    pool-turns (λ (p : Pool). unmarkOf p (a .l)) (a .w .now) (l .w) (unmarked (a .w .now) (l .w) (a .l) (l .i) (omega arith) (l .inv .1 .1 .1))
+
+pub unmark-spec : {M : Type 1} → statement M
+unmark-spec =
+    tie.close
+    (tie.spec
+    Inv-loop
+    μ-loop
+    loop-holds
+    unmark-at-requires
+    add-i
+    loop-less
+    loop-again
+    same-length
+    returns)

@@ -1,0 +1,70 @@
+-- `store_pool::places::first` meets its contract.
+-- Assumes nothing.
+use Prim.Native.Nat.{_≤_, _-_}
+use mathlib.Core.Path.{_≡_, refl}
+use native.Mathlib.Omega.{arith}
+use borrow.Author.Needs.{needs}
+use lib.ListN.{length, drop}
+use Rattle.pool.specs.Places.{fits, oldestFrom}
+use Rattle.store_site.specs.Layout.{placesIn}
+use Rattle.store_site.proofs.SiteLaws.{places-length}
+use Rattle.pool.proofs.Down.{oldest-down, oldest-end}
+use Rattle.store_pool.specs.Best.{Is}
+use Rattle.store_pool.specs.Best.Is.{nowhere}
+use Rattle.store_pool.proofs.PoolLaws.{stands}
+use Rattle.store_pool.proofs.places.first.Statement.{statement}
+use Rattle.store_pool.proofs.places.first.Tie as tie
+
+abbrev Inv-loop : tie.InvT-loop
+Inv-loop w q b₀ i₀ b i = (i ≤ 128) × Is (placesIn w) (b .at) (b .sequence) (oldestFrom (fits q) i (drop i (placesIn w)))
+
+abbrev μ-loop : tie.MeasureT-loop
+μ-loop w q b₀ i₀ b i = i
+
+loop-holds : tie.Need-loop-holds Inv-loop μ-loop
+loop-holds c =
+    let p = placesIn (c .before .args .w .now) in
+    let h : length p ≡ 128 = places-length _ in
+    (omega arith, rw (oldest-end (fits (c .before .args .q)) p 128 (omega arith)) (nowhere refl))
+
+sub-i : tie.Need-sub-i Inv-loop μ-loop
+sub-i c = omega arith
+
+place-requires : tie.Need-place-requires Inv-loop μ-loop
+place-requires c κs = search needs
+
+asked-requires : tie.Need-asked-requires Inv-loop μ-loop
+asked-requires c κs = search needs
+
+nearer-requires : tie.Need-nearer-requires Inv-loop μ-loop
+nearer-requires c κs = omega arith
+
+loop-less : tie.Need-loop-less Inv-loop μ-loop
+loop-less c = omega arith
+
+loop-again : tie.Need-loop-again Inv-loop μ-loop
+loop-again c =
+    let p = placesIn (c .before .before .before .before .before .before .args .w .now) in
+    let i = c .before .before .before .before .loop .i in
+    let h : length p ≡ 128 = places-length _ in
+    (omega arith, rw (oldest-down (fits (c .before .before .before .before .before .before .args .q)) p i (omega arith) (omega arith), ← c .before .before .place .ensures, ← c .before .asked .ensures) (c .nearer .ensures p (c .before .before .place .result) (oldestFrom (fits (c .before .before .before .before .before .before .args .q)) i (drop i p)) refl (c .before .before .place .ensures) (c .before .before .before .before .loop .inv .1)))
+
+returns : tie.Need-returns Inv-loop μ-loop
+returns c =
+    let e : c .before .loop .i ≡ 0 = omega arith in
+    stands (rw e at (c .before .loop .inv .1))
+
+pub first-spec : {M : Type 1} → statement M
+first-spec =
+    tie.close
+    (tie.spec
+    Inv-loop
+    μ-loop
+    loop-holds
+    sub-i
+    place-requires
+    asked-requires
+    nearer-requires
+    loop-less
+    loop-again
+    returns)

@@ -1,0 +1,71 @@
+-- `store_pool::places::ranked` meets its contract.
+-- Assumes nothing.
+use Prim.Native.Nat.{_≤_, _-_}
+use mathlib.Core.Path.{_≡_, refl}
+use native.Mathlib.Omega.{arith}
+use borrow.Author.Needs.{needs}
+use lib.ListN.{length, drop}
+use Rattle.pool.specs.Places.{oldestFrom}
+use Rattle.pool.specs.Pool.{rankIs}
+use Rattle.store_site.specs.Layout.{placesIn}
+use Rattle.store_site.proofs.SiteLaws.{places-length}
+use Rattle.pool.proofs.Down.{oldest-down, oldest-end}
+use Rattle.store_pool.specs.Best.{Is}
+use Rattle.store_pool.specs.Best.Is.{nowhere}
+use Rattle.store_pool.proofs.PoolLaws.{stands}
+use Rattle.store_pool.proofs.places.ranked.Statement.{statement}
+use Rattle.store_pool.proofs.places.ranked.Tie as tie
+
+abbrev Inv-loop : tie.InvT-loop
+Inv-loop w l rank b₀ i₀ b i = (i ≤ 128) × Is (placesIn w) (b .at) (b .sequence) (oldestFrom (rankIs (placesIn w) l rank) i (drop i (placesIn w)))
+
+abbrev μ-loop : tie.MeasureT-loop
+μ-loop w l rank b₀ i₀ b i = i
+
+loop-holds : tie.Need-loop-holds Inv-loop μ-loop
+loop-holds c =
+    let p = placesIn (c .before .args .w .now) in
+    let h : length p ≡ 128 = places-length _ in
+    (omega arith, rw (oldest-end (rankIs p (c .before .args .l) (c .before .args .rank)) p 128 (omega arith)) (nowhere refl))
+
+sub-i : tie.Need-sub-i Inv-loop μ-loop
+sub-i c = omega arith
+
+place-requires : tie.Need-place-requires Inv-loop μ-loop
+place-requires c κs = search needs
+
+has-rank-requires : tie.Need-has-rank-requires Inv-loop μ-loop
+has-rank-requires c κs = search needs
+
+nearer-requires : tie.Need-nearer-requires Inv-loop μ-loop
+nearer-requires c κs = omega arith
+
+loop-less : tie.Need-loop-less Inv-loop μ-loop
+loop-less c = omega arith
+
+loop-again : tie.Need-loop-again Inv-loop μ-loop
+loop-again c =
+    let p = placesIn (c .before .before .before .before .before .before .args .w .now) in
+    let i = c .before .before .before .before .loop .i in
+    let h : length p ≡ 128 = places-length _ in
+    (omega arith, rw (oldest-down (rankIs p (c .before .before .before .before .before .before .args .l) (c .before .before .before .before .before .before .args .rank)) p i (omega arith) (omega arith), ← c .before .before .place .ensures, ← c .before .has-rank .ensures) (c .nearer .ensures p (c .before .before .place .result) (oldestFrom (rankIs p (c .before .before .before .before .before .before .args .l) (c .before .before .before .before .before .before .args .rank)) i (drop i p)) refl (c .before .before .place .ensures) (c .before .before .before .before .loop .inv .1)))
+
+returns : tie.Need-returns Inv-loop μ-loop
+returns c =
+    let e : c .before .loop .i ≡ 0 = omega arith in
+    stands (rw e at (c .before .loop .inv .1))
+
+pub ranked-spec : {M : Type 1} → statement M
+ranked-spec =
+    tie.close
+    (tie.spec
+    Inv-loop
+    μ-loop
+    loop-holds
+    sub-i
+    place-requires
+    has-rank-requires
+    nearer-requires
+    loop-less
+    loop-again
+    returns)

@@ -1,0 +1,16 @@
+-- `store_pool::read::held` meets its contract.
+-- Assumes nothing.
+use Rattle.store_site.specs.Layout.{siteOf}
+use borrow.Author.Needs.{needs}
+use Rattle.store_pool.proofs.read.held.Statement.{statement}
+use Rattle.store_pool.proofs.read.held.Tie as tie
+
+holds-requires : tie.Need-holds-requires
+holds-requires c κs = search needs
+
+returns : tie.Need-returns
+unfolding siteOf
+returns c = λ t. c .holds .ensures
+
+pub held-spec : {M : Type 1} → statement M
+held-spec = tie.close (tie.spec holds-requires returns)

@@ -1,0 +1,19 @@
+-- `store_pool::read::oldest_unsent` meets its contract.
+-- Assumes nothing.
+use Rattle.store_site.specs.Layout.{siteOf}
+use borrow.Author.Needs.{needs}
+use Rattle.store_pool.proofs.read.oldest_unsent.Statement.{statement}
+use Rattle.store_pool.proofs.read.oldest_unsent.Tie as tie
+
+first-requires : tie.Need-first-requires
+first-requires c κs = search needs
+
+look-requires : tie.Need-look-requires
+look-requires c κs = search needs
+
+returns : tie.Need-returns
+unfolding siteOf
+returns c = λ t. c .look .ensures _ (c .before .first .ensures)
+
+pub oldest-unsent-spec : {M : Type 1} → statement M
+oldest-unsent-spec = tie.close (tie.spec first-requires look-requires returns)

@@ -1,0 +1,156 @@
+// A record issued in place.
+ghost use mathlib.Core.Path.{_≡_};
+ghost use mathlib.Core.Bool.{true};
+ghost use lib.Dec.{eqb, leb};
+ghost use lib.ListN.{length};
+ghost use Rattle.basis.specs.Pick.{pick};
+ghost use Rattle.table_whole.specs.declared.SiteTable.{SiteTable};
+ghost use Rattle.pool.specs.declared.Loser.the-variants.{Owner};
+ghost use Rattle.pool.specs.Shares.{fuller, fullest, loser, noOther};
+ghost use Rattle.pool.specs.Pool.{heldIn, freeIn, moreOf, roomOf, issueOf, crowdedIn};
+ghost use Rattle.site.specs.declared.Site.{Site};
+ghost use Rattle.site.specs.Site.{withPool};
+ghost use Rattle.store_site.specs.Turns.{Turns};
+ghost use Rattle.store_site.specs.Layout.{placesIn, siteOf};
+ghost use Rattle.store_pool.specs.Best.{Stands};
+ghost use Rattle.store_pool.specs.Pools.{Loss};
+use super::places;
+use entry::Entry;
+use pool::Loser;
+use pool::Place;
+use pool::Wanted;
+
+fn fuller_of(w: &[u64], a: u16, b: u16) -> u16
+    requires { ⌜ length (now w) ≡ 1173 ⌝ }
+    ensures { λ r. ⌜ r ≡ fuller (heldIn (placesIn (now (w .entry)))) a b ⌝ }
+{
+    if places::holds(w, a) < places::holds(w, b) {
+        b
+    } else {
+        a
+    }
+}
+
+// The link that holds most; of several the lowest.
+fn fullest_of(w: &[u64]) -> u16
+    requires { ⌜ length (now w) ≡ 1173 ⌝ }
+    ensures { λ r. ⌜ r ≡ fullest (heldIn (placesIn (now (w .entry)))) 3 ⌝ }
+{
+    fuller_of(w, fuller_of(w, fuller_of(w, 0, 1), 2), 3)
+}
+
+// Whose oldest record is lost when one is issued for the link.
+fn loser_for(w: &[u64], l: u16) -> Loser
+    requires { ⌜ length (now w) ≡ 1173 ⌝ }
+    ensures { λ r. ⌜ r ≡ loser 4 (heldIn (placesIn (now (w .entry)))) (freeIn (placesIn (now (w .entry)))) l ⌝ }
+{
+    let held = places::holds(w, l);
+    if 64 <= held {
+        return Loser::Owner(l);
+    }
+    if 0 < places::number(w, Wanted::Free) {
+        return Loser::Nobody;
+    }
+    if held < 16 {
+        Loser::Owner(fullest_of(w))
+    } else {
+        Loser::Owner(l)
+    }
+}
+
+fn within(w: &[u64], l: u16, k: u16) -> bool
+    requires { ⌜ length (now w) ≡ 1173 ⌝ }
+    ensures { λ r. ⌜ r ≡ pick (eqb k l) true (leb (heldIn (placesIn (now (w .entry))) k) 16) ⌝ }
+{
+    if k == l {
+        true
+    } else {
+        places::holds(w, k) <= 16
+    }
+}
+
+fn others_within(w: &[u64], l: u16) -> bool
+    requires { ⌜ length (now w) ≡ 1173 ⌝ }
+    ensures { λ r. ⌜ r ≡ noOther (heldIn (placesIn (now (w .entry)))) l 4 ⌝ }
+{
+    places::and(
+        places::and(
+            places::and(within(w, l, 0), within(w, l, 1)),
+            within(w, l, 2),
+        ),
+        within(w, l, 3),
+    )
+}
+
+// Number 13: nothing is free, the link holds fewer than 16, and no other holds more than 16.
+pub fn crowded(w: &[u64], l: u16) -> bool
+    requires { ⌜ length (now w) ≡ 1173 ⌝ }
+    ensures { λ r. ⌜ ((t : SiteTable) → r ≡ crowdedIn 4 (siteOf (now (w .entry)) t .pool) l) ⌝ }
+{
+    if 4 <= l {
+        return false;
+    }
+    if 0 < places::number(w, Wanted::Free) {
+        return false;
+    }
+    if 16 <= places::holds(w, l) {
+        return false;
+    }
+    others_within(w, l)
+}
+
+// The place that a new record takes.
+fn room(w: &[u64], who: Loser) -> usize
+    requires { ⌜ length (now w) ≡ 1173 ⌝ }
+    ensures { λ r. ⌜ Stands (placesIn (now (w .entry))) r (roomOf (placesIn (now (w .entry))) who) ⌝ }
+{
+    match who {
+        Loser::Nobody => places::first(w, Wanted::Free),
+        Loser::Owner(m) => places::first(w, Wanted::Of(m)),
+    }
+}
+
+// One more; a count that cannot grow stays.
+fn more(k: u64) -> u64
+    ensures { λ r. ⌜ r ≡ moreOf k ⌝ }
+{
+    if k < 18446744073709551615 { k + 1 } else { k }
+}
+
+fn lose_of(w: &mut [u64], m: u16)
+    requires { ⌜ length (now w) ≡ 1173 ⌝ }
+    ensures { λ _. ⌜ Loss (now (w .entry)) (now (w .exit)) (Owner m) ⌝ }
+{
+    if 4 <= m {
+        return;
+    }
+    let i = 5 + m as usize;
+    w[i] = more(w[i]);
+}
+
+fn lose(w: &mut [u64], who: Loser)
+    requires { ⌜ length (now w) ≡ 1173 ⌝ }
+    ensures { λ _. ⌜ Loss (now (w .entry)) (now (w .exit)) who ⌝ }
+{
+    match who {
+        Loser::Nobody => {}
+        Loser::Owner(m) => lose_of(w, m),
+    }
+}
+
+// A record is issued for its link; for a link above 3 nothing is.
+pub fn issue(w: &mut [u64], e: Entry)
+    requires { ⌜ length (now w) ≡ 1173 ⌝ }
+    ensures { λ _. ⌜ Turns (λ (s : Site). withPool s (issueOf 4 (s .pool) e)) (now (w .entry)) (now (w .exit)) ⌝ }
+{
+    if 4 <= e.link {
+        return;
+    }
+    let who = loser_for(w, e.link);
+    let i = room(w, who);
+    if 128 <= i {
+        return;
+    }
+    places::put_place(w, i, Place { entry: e, mark: 1 });
+    lose(w, who);
+}

@@ -1,0 +1,60 @@
+-- What every call asks of the site, and what a link says, from the words.
+-- Assumes nothing.
+use mathlib.Core.Path.{_≡_, refl, sym, ap, _∙_}
+use mathlib.Core.Bool.{Bool, true}
+use Prim.Native.Nat.{ℕ, _+_, _*_, _<_, _≤_}
+use mathlib.Core.List.{List}
+use lib.Dec.{ltb, leb}
+use borrow.Author.Tests.{lt-ltb, le-ltb}
+use Rattle.basis.specs.Pick.{pick, both}
+use Rattle.bits.specs.Fields.{fieldOf}
+use Rattle.link.specs.declared.Link.{Link}
+use Rattle.link.specs.declared.Phase.{Phase}
+use Rattle.link.specs.declared.Phase.the-variants.{Down, Greeting, Beating, Up}
+use Rattle.link.specs.Phase.{greeted, beaten, phaseOf}
+use Rattle.table_whole.specs.declared.SiteTable.{SiteTable}
+use Rattle.site.specs.Site.{noLinkAt, badTimeAt, linkAt}
+use Rattle.store_words.specs.Words.{word, flag}
+use Rattle.store_link.specs.Rows.{linkIn}
+use Rattle.store_site.specs.Layout.{siteOf}
+use Rattle.store_site.proofs.SiteLaws.{link-read}
+
+module _ (ws : List ℕ) (t : SiteTable) (l : ℕ) where
+  pub no-link-low : {n : ℕ} → n ≡ fieldOf (word ws 2) 16 16 → l < 4 → leb n l ≡ noLinkAt (siteOf ws t) l
+  unfolding siteOf
+  no-link-low e h = rw (lt-ltb l 4 h, e)
+
+  pub no-link-high : 4 ≤ l → true ≡ noLinkAt (siteOf ws t) l
+  unfolding siteOf
+  no-link-high h = rw (le-ltb l 4 h)
+
+  pub time-early : l < word ws 1 → true ≡ badTimeAt (siteOf ws t) l
+  unfolding siteOf
+  time-early h = rw (lt-ltb l (word ws 1) h)
+
+  pub time-late : word ws 1 ≤ l → ltb 253402300799999 l ≡ badTimeAt (siteOf ws t) l
+  unfolding siteOf
+  time-late h = rw (le-ltb l (word ws 1) h)
+
+-- three words of what has happened
+abbrev pub three : ℕ → ℕ → ℕ → Bool
+three a b c = both (flag a) (both (flag b) (flag c))
+
+abbrev phaseFrom : Bool → Bool → Bool → Phase
+phaseFrom a b c = pick a (pick b (pick c Up Beating) Greeting) Down
+
+phase-from : (ws : List ℕ) (i : ℕ)
+    → phaseOf (linkIn ws i) ≡ phaseFrom (flag (word ws (i + 3))) (three (word ws (i + 4)) (word ws (i + 5)) (word ws (i + 6))) (three (word ws (i + 7)) (word ws (i + 8)) (word ws (i + 9)))
+unfolding phaseOf greeted beaten linkIn
+phase-from ws i = refl
+
+module _ (ws : List ℕ) (t : SiteTable) (l : ℕ) (h : l < 4) {a b c : Bool}
+    (e : flag (word ws (521 + 75 * l + 3)) ≡ a)
+    (f : three (word ws (521 + 75 * l + 4)) (word ws (521 + 75 * l + 5)) (word ws (521 + 75 * l + 6)) ≡ b)
+    (g : three (word ws (521 + 75 * l + 7)) (word ws (521 + 75 * l + 8)) (word ws (521 + 75 * l + 9)) ≡ c) where
+  pub phase-is : phaseFrom a b c ≡ phaseOf (linkAt (siteOf ws t) l)
+  phase-is = rw (← e, ← f, ← g) (sym (phase-from ws (521 + 75 * l)) ∙ ap phaseOf (link-read ws t l h))
+
+-- any reading of a link
+pub link-says : {A : Type 0} (f : Link → A) (ws : List ℕ) (t : SiteTable) (l : ℕ) → l < 4 → {x : A} → x ≡ f (linkIn ws (521 + 75 * l)) → x ≡ f (linkAt (siteOf ws t) l)
+link-says f ws t l h e = e ∙ ap f (link-read ws t l h)

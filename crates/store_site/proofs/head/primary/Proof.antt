@@ -1,0 +1,19 @@
+-- `store_site::head::primary` meets its contract.
+-- Assumes nothing.
+use Rattle.store_site.specs.Layout.{siteOf}
+use borrow.Author.Needs.{needs}
+use Rattle.store_site.proofs.head.primary.Statement.{statement}
+use Rattle.store_site.proofs.head.primary.Tie as tie
+
+shared-slice-read-quarter : tie.Need-shared-slice-read-quarter
+shared-slice-read-quarter c = search needs
+
+quarter-requires : tie.Need-quarter-requires
+quarter-requires c κs = search needs
+
+returns : tie.Need-returns
+unfolding siteOf
+returns c = λ t. c .quarter .ensures
+
+pub primary-spec : {M : Type 1} → statement M
+primary-spec = tie.close (tie.spec shared-slice-read-quarter quarter-requires returns)

@@ -1,0 +1,4 @@
+// The site in words that the host lends: each part read and replaced in place.
+pub mod head; // head.rt: what stands once, and what every call asks
+pub mod parts; // parts.rt: each part of the site
+pub mod phases; // phases.rt: a link's phase, times, version and what has happened

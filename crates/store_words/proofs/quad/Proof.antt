@@ -1,0 +1,36 @@
+-- `store_words::quad` meets its contract.
+-- Assumes nothing.
+use mathlib.Core.Path.{refl}
+use mathlib.Core.List.{[], _∷_}
+use lib.Dec.{lit≤}
+use Rattle.bits.proofs.Fields.{next-field}
+use borrow.Author.Needs.{needs}
+use Rattle.store_words.proofs.quad.Statement.{statement}
+use Rattle.store_words.proofs.quad.Tie as tie
+
+push-requires : tie.Need-push-requires
+push-requires c κs = search needs
+
+push-requires-2 : tie.Need-push-requires-2
+push-requires-2 c κs = search needs
+
+push-requires-3 : tie.Need-push-requires-3
+push-requires-3 c κs = search needs
+
+push-requires-4 : tie.Need-push-requires-4
+push-requires-4 c κs = search needs
+
+returns : tie.Need-returns
+returns c =
+    let p3 = c .before in
+    let p2 = p3 .before in
+    let p1 = p2 .before in
+    let g = p1 .before .args in
+    let e1 = next-field [] [] 16 (g .a) refl (lit≤ tt) refl (p1 .push .ensures) in
+    let e2 = next-field (16 ∷ []) (g .a ∷ []) 16 (g .b) refl (lit≤ tt) e1 (p2 .push2 .ensures) in
+    let e3 = next-field (16 ∷ 16 ∷ []) (g .a ∷ g .b ∷ []) 16 (g .c) refl (lit≤ tt) e2 (p3 .push3 .ensures) in
+    next-field (16 ∷ 16 ∷ 16 ∷ []) (g .a ∷ g .b ∷ g .c ∷ []) 16 (g .d) refl (lit≤ tt) e3 (c .push4 .ensures)
+
+pub quad-spec : {M : Type 1} → statement M
+quad-spec =
+    tie.close (tie.spec push-requires push-requires-2 push-requires-3 push-requires-4 returns)
