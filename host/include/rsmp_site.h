@@ -19,6 +19,12 @@
 extern "C" {
 #endif
 
+/* The version of the library, of this header, of the Rust crate and of the programs. rsmp_start is called by a name that has the
+ * version in it, so that the linker refuses a library of another one ("undefined reference to rsmp_start_.."). */
+#define RSMP_VERSION "0.2.0"
+#define rsmp_start rsmp_start_0_2_0
+extern const char rsmp_library_version[];
+
 #define RSMP_SITE_BYTES 13912
 #define RSMP_LINKS 4                     /* links are numbered from 0 */
 #define RSMP_OUTPUT_BYTES 4096           /* the least output to lend: no call writes more */
