@@ -19,6 +19,20 @@ pub enum Line {
     Readings,
 }
 
+impl Line {
+    /// When the call is made; readings have no time.
+    pub fn time(&self) -> Option<u64> {
+        match self {
+            Line::Start { time, .. } | Line::Connect { time, .. } | Line::Disconnect { time, .. } | Line::Packet { time, .. } => {
+                Some(*time)
+            }
+            Line::Alarm { time, .. } | Line::Status { time, .. } | Line::Aggregated { time, .. } | Line::Tick { time } => Some(*time),
+            Line::Pump { time, .. } => Some(*time),
+            Line::Counts | Line::Readings => None,
+        }
+    }
+}
+
 const FORMS: [&str; 11] = [
     "start TABLEHEX LINKS PRIMARY|- PERIOD FIRST TIME",
     "connect LINK TIME",
@@ -41,10 +55,7 @@ pub fn help() -> String {
 pub fn read(line: &str) -> Result<Line, String> {
     let words: Vec<&str> = line.split_ascii_whitespace().collect();
     let name = *words.first().ok_or("an empty line")?;
-    let form = FORMS
-        .iter()
-        .find(|form| form.split(' ').next() == Some(name))
-        .ok_or_else(|| format!("no such call: {}", shown(name)))?;
+    let form = FORMS.iter().find(|form| form.split(' ').next() == Some(name)).ok_or_else(|| format!("no such call: {}", shown(name)))?;
     let wanted: Vec<&str> = form.split(' ').collect();
     if words.len() != wanted.len() {
         return Err(format!("{} words where {} are wanted: {}", words.len(), wanted.len(), form));
