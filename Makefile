@@ -1,6 +1,8 @@
-.PHONY: build run test library clean help always
+.PHONY: build run test library install uninstall clean help always
 .DELETE_ON_ERROR:
 
+PREFIX = /usr/local
+DESTDIR =
 export RSMP_VERSION := $(shell cat VERSION)
 export RSMP_SYMBOL := $(subst .,_,$(RSMP_VERSION))
 
@@ -18,6 +20,8 @@ test:
 ## library    proves and compiles the library alone: build/librsmp_site.a and build/rsmp_site.h
 library: build/librsmp_site.a build/rsmp_site.h
 
+## install    programs, library, header, manual pages and a systemd unit below PREFIX (/usr/local), all of it below DESTDIR where given
+## uninstall  takes away what install put there
 ## clean      removes build/; what is proved and compiled stays in target/ (rm -r target: prove everything again)
 clean:
 	rm -rf build
@@ -78,3 +82,5 @@ build/rsmp_site.h: host/include/rsmp_site.h
 
 build/%: $(OUT)/%
 	build/tools/place $< $@
+
+include host/install.mk
