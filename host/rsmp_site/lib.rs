@@ -5,8 +5,10 @@
 
 pub mod ffi;
 mod refusal;
+mod stored;
 
 pub use refusal::Refusal;
+pub use stored::{check_sum, NotStored, STORED_BYTES, STORED_EDITION};
 
 /// The least output to lend; no call writes more.
 pub const OUTPUT_BYTES: usize = 4096;
