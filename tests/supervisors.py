@@ -31,6 +31,7 @@ class Supervisor:
                 stream, _ = self.listener.accept()
             except OSError:
                 return
+            stream.setsockopt(socket.IPPROTO_TCP, socket.TCP_NODELAY, 1)
             self.connections.append(bytearray())
             self.stream, self.up, self.acknowledged = stream, False, set()
             try:

@@ -233,4 +233,38 @@ mod tests {
         let first = Start { first: 9, time: 0, ..START };
         assert!(read(&setup(TABLE, &first), &good).is_ok());
     }
+
+    /// The site within the stored bytes, one byte of it changed, the check sum right.
+    fn with_byte(good: &[u8], at: usize, value: u8) -> Vec<u8> {
+        let mut bytes = good[..good.len() - 8].to_vec();
+        bytes[16 + at] = value;
+        let sum = check_sum(&bytes);
+        bytes.extend_from_slice(&sum.to_le_bytes());
+        bytes
+    }
+
+    #[test]
+    fn booleans_are_0_or_1() {
+        let good = site().to_bytes().to_vec();
+        let refused: Vec<usize> = (0..good.len() - 24)
+            .filter(|at| Site::from_bytes(&with_byte(&good, *at, 0xff)).is_err())
+            .collect();
+        let booleans = (0..4).flat_map(|link| (0..8).map(move |place| 4128 + 544 * link + 536 + place));
+        let wanted: Vec<usize> = booleans.chain([9156, 9157]).collect();
+        assert_eq!(refused, wanted);
+    }
+
+    #[test]
+    fn booleans_stand_where_they_are_judged() {
+        let start = Start { links: 4, ..START };
+        for link in 0..4 {
+            let mut site = Site::start(TABLE, &start).unwrap();
+            let before = site.to_bytes();
+            site.connect(link, START.time).unwrap();
+            let after = site.to_bytes();
+            let changed = |at: &usize| before[16 + at] != after[16 + at];
+            let changed: Vec<usize> = (0..before.len() - 24).filter(changed).collect();
+            assert_eq!(changed, [4128 + 544 * link as usize + 536]);
+        }
+    }
 }
