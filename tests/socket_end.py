@@ -84,9 +84,7 @@ def nobody_reads_the_log(room):
         for _ in range(count):
             hold(supervisor.ask("AggregatedStatusRequest", cId=SITE) is True, "a request while nobody reads the log")
 
-    for _ in range(450):
-        supervisor.send("AggregatedStatusRequest", cId=SITE, pad="x" * 1000)
-    asks(3)
+    supervisor.flood("AggregatedStatusRequest", 400, cId=SITE, pad="x" * 1500)
     hold("link 0 Up" in control.order("links"), "an order while nobody reads the log")
     said, end = b"", time.monotonic() + 20
     while b" lines of the log were dropped here)\n" not in said:
@@ -100,9 +98,7 @@ def nobody_reads_the_log(room):
     process = Process(room, [supervisor], "--control", path, "--log-level", "debug", record=False, stdout=its)
     os.close(its)
     wait(lambda: supervisor.up, "the link again")
-    for _ in range(450):
-        supervisor.send("AggregatedStatusRequest", cId=SITE, pad="x" * 1000)
-    asks(1)
+    supervisor.flood("AggregatedStatusRequest", 400, cId=SITE, pad="x" * 1500)
     began = time.monotonic()
     process.terminate()
     os.close(stalled)
@@ -133,11 +129,11 @@ def files_opened_again(room):
         process.quit()
     hold(sum(line.startswith("start ") for line in record.read_text().splitlines()) == 2, "the record is not appended to")
     record.unlink()
-    process = Process(room, [NOWHERE], "--record-size", "3K")
+    process = Process(room, [NOWHERE], "--record-size", "1K")
     aside = room / "record.txt.1"
     wait(aside.exists, "a long record to be put aside")
     process.quit()
-    hold(aside.stat().st_size >= 3072 and record.read_text().startswith("restore 52534d5053495445"), "the records put aside")
+    hold(aside.stat().st_size >= 1024 and record.read_text().startswith("restore 52534d5053495445"), "the records put aside")
     supervisor.close()
 
 

@@ -1,6 +1,6 @@
 """Links that do not come to Up, who closed one and why, pauses before the next, slow readers, memory in a flood."""
+import json
 import pathlib
-import re
 import socket
 import threading
 import time
@@ -59,7 +59,7 @@ def pauses_grow(room):
         stream, peer = listener.accept()
         times.append(time.monotonic())
         if turn == 5:
-            hold(keepalive(peer[1]), "the connection is not kept alive")
+            wait(lambda: keepalive(peer[1]), "the connection to be kept alive", 5)
         stream.close()
     gaps = [after - before for before, after in zip(times, times[1:])]
     for gap, wanted in zip(gaps, (0.3, 0.6, 1.2, 1.2, 1.2)):
@@ -88,7 +88,7 @@ class Slow(Supervisor):
                 time.sleep(0.002)
             *packets, rest = (rest + data).split(FORM_FEED)
             for packet in packets:
-                self.take(__import__("json").loads(packet))
+                self.take(json.loads(packet))
 
 
 def slow_reader(room):
@@ -98,9 +98,12 @@ def slow_reader(room):
     slow.wait_up()
     quick.wait_up()
     slow.slow = True
-    asked = [slow.send("StatusRequest", cId=NORTH, sS=[{"sCI": "S0101", "n": "release"}] * 16) for _ in range(60)]
-    hold(quick.ask("AggregatedStatusRequest", cId=SITE) is True, "another link beside a slow one")
-    slow.wait(lambda: set(asked) <= slow.acknowledged, "what the slow one asked for", 40)
+    flood = threading.Thread(target=slow.flood, args=["StatusRequest", 80], kwargs={"cId": NORTH, "sS": [{"sCI": "S0101", "n": "release"}] * 16})
+    flood.start()
+    for _ in range(40):
+        hold(quick.ask("AggregatedStatusRequest", cId=SITE) is True, "another link beside a slow one")
+    flood.join()
+    slow.wait(lambda: len(slow.of("StatusResponse")) == 80, "what the slow one asked for")
     process.quit()
     slow.close()
     quick.close()
@@ -137,8 +140,7 @@ def flooded(supervisor, seconds):
     """Requests as fast as they are answered, eight at a time."""
     end, count = time.monotonic() + seconds, 0
     while time.monotonic() < end:
-        asked = {supervisor.send("AggregatedStatusRequest", cId=SITE) for _ in range(8)}
-        supervisor.wait(lambda: asked <= supervisor.acknowledged, "answers in the flood")
+        supervisor.flood("AggregatedStatusRequest", 8, cId=SITE)
         supervisor.messages.clear()
         supervisor.acknowledged.clear()
         supervisor.connections[-1].clear()

@@ -29,24 +29,24 @@ def restart(room):
     supervisor.wait_up()
     hold(supervisor.ask("StatusSubscribe", **subscription()) is True, "a subscription")
     hold(process.order("alarm 2 on") == "done", "an alarm")
-    supervisor.wait(lambda: supervisor.of("Alarm"), "the alarm")
+    wait(lambda: supervisor.of("Alarm") and process.order("counts") == "link 0 holds 0, lost 0", "the alarm")
     supervisor.greets = False
     supervisor.cut()
     for value in (200, 210, 220):
         hold(process.order(f"status {RELEASE} {value}") == "done", "a status")
     hold(process.order("counts") == "link 0 holds 3, lost 0", "three are held")
     process.quit()
-    supervisor.greets, alarms = True, len(supervisor.of("Alarm"))
+    supervisor.greets = True
     clock.set(NOON - HOUR)
+    supervisor.messages.clear()
     process = started(room, [supervisor], *options)
     supervisor.wait(lambda: values(supervisor)[-3:] == ["200", "210", "220"], "what was held over the restart")
     hold(process.logged("goes on from ") == 1 and process.logged("link 0 holds 3, lost 0") == 1, "the log does not tell of the state")
+    active = [said for said in supervisor.of("Alarm") if said["aS"] == "Active"]
+    hold(len(active) == 1 and active[0]["cId"] == NORTH and active[0]["aTs"] >= "2009-10-01T11:59:31", f"the alarm after the restart: {active}")
+    wait(lambda: process.order("counts") == "link 0 holds 0, lost 0", "answers")
     hold(process.order("alarm 2 on") == "done" and process.order(f"status {RELEASE} 220") == "done", "inputs as they were")
-    hold(supervisor.ask("Alarm", cId=NORTH, aCId="A0101", aSp="Request") is True, "a Request of the alarm")
-    supervisor.wait(lambda: len(supervisor.of("Alarm")) > alarms, "the requested alarm")
-    last = supervisor.of("Alarm")[-1]
-    hold(last["aS"] == "Active" and last["aTs"] >= "2009-10-01T11:59:31", f"the alarm after the restart: {last}")
-    hold(values(supervisor)[-1] == "220" and len(supervisor.of("Alarm")) == alarms + 1, "an input as it was is sent again")
+    hold(process.order("counts") == "link 0 holds 0, lost 0", "an input as it was is sent again")
     beats = [said["wTs"] for said in supervisor.of("Watchdog")]
     hold(beats == sorted(beats), f"the times of Watchdogs: {beats}")
     process.quit()
@@ -94,7 +94,7 @@ class Book:
     """What must come, what must not come again."""
 
     def __init__(self, supervisor):
-        self.supervisor, self.next, self.given, self.kept, self.settled = supervisor, 1000, set(), set(), {}
+        self.supervisor, self.next, self.given, self.kept, self.settled = supervisor, 1000, 0, set(), {}
 
     def arrived(self):
         """Each value with the connection on which it came."""
@@ -122,22 +122,25 @@ class Numbering(Supervisor):
 
 
 def one_life(process, supervisor, book, source, at_once):
-    """Orders and answers until the process is gone."""
+    """Orders and answers until the process is gone. So few are held that none is pushed out."""
+    given = set()
     while True:
         supervisor.answers = source.random() < 0.8
+        if int(process.order("counts").split()[3].rstrip(",")) > 40:
+            time.sleep(0.02)
+            continue
         for _ in range(source.randrange(1, 4)):
             book.next += 1
             if process.order(f"status {RELEASE} {book.next}") == "done":
-                book.given.add(book.next)
-                if at_once:
-                    book.kept.add(book.next)
+                book.given += 1
+                (book.kept if at_once else given).add(book.next)
         if not supervisor.up:
             time.sleep(0.05)
             continue
         connection = len(supervisor.connections)
         answered = {int(entry["s"]) for said in list(supervisor.messages) if said["type"] == "StatusUpdate" and said["answered"]
                     and said["connection"] == connection for entry in said["sS"] if entry["s"] is not None}
-        given, identity = set(book.given), supervisor.send("AggregatedStatusRequest", cId=SITE)
+        identity = supervisor.send("AggregatedStatusRequest", cId=SITE)
         end = time.monotonic() + 10
         while identity not in supervisor.acknowledged:
             if process.process.poll() is not None:
@@ -173,12 +176,12 @@ def kills(room, count=20, seed=None):
         book.judge()
     supervisor.answers = True
     process = started(room, [supervisor], "--quiet")
-    wait(lambda: not book.missing(), f"seed {seed}: {len(book.missing())} of {len(book.kept)} values that were stored: {sorted(book.missing())[:9]}")
-    wait(lambda: process.order("counts") == "link 0 holds 0, lost 0", f"seed {seed}: everything to be answered: {process.order('counts')}")
+    wait(lambda: process.order("counts") == "link 0 holds 0, lost 0", f"seed {seed}: everything to be answered")
+    hold(not book.missing(), f"seed {seed}: {len(book.missing())} of {len(book.kept)} values that were stored are lost: {sorted(book.missing())[:9]}")
     process.quit()
     book.judge()
     supervisor.close()
-    return (f"seed {seed}: {count} kills, {len(book.given)} values given, {len(book.kept)} surely stored and all came, "
+    return (f"seed {seed}: {count} kills, {book.given} values given, {len(book.kept)} surely stored and all came, "
             f"{len(book.settled)} surely answered and none came back")
 
 

@@ -99,6 +99,12 @@ class Supervisor:
         self.wait(lambda: identity in self.acknowledged or identity in self.refused, f"an answer to a {kind}")
         return True if identity in self.acknowledged else self.refused[identity]
 
+    def flood(self, kind, count, **more):
+        """So many requests, eight at a time: more are not answered at once."""
+        for _ in range(0, count, 8):
+            asked = {self.send(kind, **more) for _ in range(8)}
+            self.wait(lambda: asked <= self.acknowledged, f"answers to {kind} in a flood")
+
     def wait(self, test, what, seconds=20):
         end = time.monotonic() + seconds
         with self.changed:

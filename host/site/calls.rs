@@ -127,9 +127,11 @@ impl Calls {
 
     /// So that what follows can be played without what came before.
     fn record_site(&mut self) {
-        if self.record.is_some() {
+        if let Some(record) = &mut self.record {
             let line = format!("restore {}", hex(&self.site.to_bytes()));
-            self.record(|| line);
+            if let Err(error) = record.begin(&line) {
+                self.end_record(error);
+            }
         }
     }
 

@@ -7,7 +7,7 @@ use crate::journal::{Journal, Level};
 use crate::options::Options;
 use crate::orders::{self, Order};
 use crate::readable::{kind, value_of};
-use crate::wires::{Closing, Event, Wire};
+use crate::wires::{Closing, Event, Wire, NOT_READ};
 use rsmp_site::{Called, Phase, Refusal, Report};
 use std::fmt::Display;
 use std::sync::mpsc::{channel, Receiver};
@@ -265,8 +265,8 @@ impl Host {
             self.links[link as usize].sent += 1;
         }
         let wire = self.links[link as usize].wire.as_ref();
-        if let Some(Err(why)) = wire.map(|wire| wire.send(bytes)) {
-            self.cut(link, &why);
+        if wire.map_or(false, |wire| !wire.send(bytes)) {
+            self.cut(link, NOT_READ);
         }
     }
 

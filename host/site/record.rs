@@ -27,6 +27,13 @@ impl Record {
         })
     }
 
+    /// A line that begins a file, which does not count as its length.
+    pub fn begin(&mut self, line: &str) -> io::Result<()> {
+        self.line(line)?;
+        self.written = 0;
+        Ok(())
+    }
+
     pub fn line(&mut self, line: &str) -> io::Result<()> {
         self.written += line.len() as u64 + 1;
         self.out.write_all(line.as_bytes())?;

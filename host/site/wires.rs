@@ -20,7 +20,8 @@ const NOT_TAKEN: Duration = Duration::from_secs(60);
 const CLOSING: Duration = Duration::from_secs(10);
 /// A supervisor that does not read what it is sent is cut off when so many bytes wait for it.
 const MOST_WAITING: usize = 1 << 20;
-const NOT_READ: &str = "the supervisor does not read what it is sent";
+const CLOSED: &str = "the supervisor closed it";
+pub const NOT_READ: &str = "the supervisor does not read what it is sent";
 
 pub enum Event {
     Connected(u32, Wire),
@@ -78,6 +79,7 @@ fn write_out(orders: Receiver<Vec<u8>>, mut out: TcpStream, shared: &Shared) {
         if let Err(error) = out.write_all(&bytes) {
             let why = match error.kind() {
                 io::ErrorKind::WouldBlock => NOT_READ.to_string(),
+                io::ErrorKind::BrokenPipe | io::ErrorKind::ConnectionReset => CLOSED.to_string(),
                 _ => error.to_string(),
             };
             if let Ok(mut not_written) = shared.not_written.lock() {
@@ -105,14 +107,14 @@ impl Wire {
         })
     }
 
-    /// Or why it cannot be sent.
-    pub fn send(&self, bytes: &[u8]) -> Result<(), String> {
+    /// False where the supervisor does not read. Where the connection is gone, that is told apart.
+    pub fn send(&self, bytes: &[u8]) -> bool {
         let before = self.shared.waiting.fetch_add(bytes.len(), Ordering::Relaxed);
-        if before + bytes.len() > MOST_WAITING {
-            return Err(NOT_READ.to_string());
+        let room = before + bytes.len() <= MOST_WAITING;
+        if room {
+            let _ = self.queue.send(bytes.to_vec());
         }
-        let not_sent = || self.shared.why_not_written().unwrap_or_default();
-        self.queue.send(bytes.to_vec()).map_err(|_| not_sent())
+        room
     }
 
     /// The link came to Up: the next pause is the shortest again.
@@ -182,11 +184,14 @@ fn read(link: u32, mut stream: TcpStream, events: &SyncSender<Event>) -> (String
     let mut buffer = [0; 4096];
     loop {
         match stream.read(&mut buffer) {
-            Ok(0) => return ("the supervisor closed it".to_string(), framer.unfinished()),
+            Ok(0) => return (CLOSED.to_string(), framer.unfinished()),
             Ok(count) => framer.push(&buffer[..count], |frame| {
                 let _ = events.send(Event::Frame(link, frame));
             }),
             Err(error) if error.kind() == io::ErrorKind::Interrupted => {}
+            Err(error) if error.kind() == io::ErrorKind::ConnectionReset => {
+                return (format!("{}: {}", CLOSED, error), framer.unfinished());
+            }
             Err(error) => return (error.to_string(), framer.unfinished()),
         }
     }
