@@ -2,6 +2,7 @@
 
   layout.py --stored
 """
+import pathlib
 import re
 import shutil
 import subprocess
@@ -38,7 +39,7 @@ def main(words):
     formatted = "rustfmt is not there to be asked"
     if shutil.which("rustfmt"):
         done = subprocess.run(["rustfmt", "--edition", "2021", "--check", "-l", *FILES], cwd=ROOT, capture_output=True, text=True)
-        faults += [f"{name}: not in rustfmt's layout" for name in sorted(set(done.stdout.split()))] or ([done.stderr] if done.returncode else [])
+        faults += [f"{pathlib.Path(name).relative_to(ROOT)}: not in rustfmt's layout" for name in sorted(set(done.stdout.split()))] or ([done.stderr] if done.returncode else [])
         formatted = "in rustfmt's layout"
     if faults:
         sys.exit("\n".join(faults))

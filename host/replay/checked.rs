@@ -2,11 +2,13 @@
 //! the written ones and around the lent ones always.
 
 use crate::script::Line;
-use rsmp_site::ffi::{self, Id, Site, Step};
+use rsmp_site::ffi::{self, Id, Site, Step, SITE_BYTES};
 
 const LAST_NUMBER: u32 = 13;
 const LINKS: u32 = 4;
 const GUARD: usize = 64;
+/// What stands before the site's bytes where they are stored: a name, the edition, the length.
+const STORED_HEAD: usize = 16;
 
 pub struct Violation(pub String);
 
@@ -28,6 +30,9 @@ impl Player {
         self.written = 0;
         if let Line::Start { table, links, primary, period, first, time } = line {
             return Ok(self.start(table, *links, *primary, *period, *first, *time));
+        }
+        if let Line::Restore { bytes } = line {
+            return self.restore(bytes).map(Ok);
         }
         let (site, links) = self.site.take().ok_or("a call before any start that was done")?;
         let answer = self.call(&site, links, line);
@@ -85,6 +90,15 @@ impl Player {
         Ok(answer(&step, &[]))
     }
 
+    /// A site as `rsmp-site` stores it; what was played before does not matter from here on.
+    fn restore(&mut self, bytes: &[u8]) -> Result<String, String> {
+        let links = rsmp_site::Site::from_bytes(bytes).map_err(|fault| fault.to_string())?.links();
+        let mut site = Site { bytes: [0; SITE_BYTES] };
+        site.bytes.copy_from_slice(&bytes[STORED_HEAD..STORED_HEAD + SITE_BYTES]);
+        self.site = Some((site, links));
+        Ok("0 0 - -".to_string())
+    }
+
     /// The next site where there is one, and the line.
     fn call(&mut self, site: &Site, links: u32, line: &Line) -> Result<(Option<Site>, String), Violation> {
         let step = match line {
@@ -132,7 +146,9 @@ fn by_value(site: Site, line: &Line) -> Step {
             Line::Status { number, value, time } => ffi::rsmp_status(site, number, value, time),
             Line::Aggregated { value, time } => ffi::rsmp_aggregated(site, value, time),
             Line::Tick { time } => ffi::rsmp_tick(site, time),
-            Line::Start { .. } | Line::Packet { .. } | Line::Pump { .. } | Line::Counts | Line::Readings => unreachable!(),
+            Line::Start { .. } | Line::Restore { .. } | Line::Packet { .. } | Line::Pump { .. } | Line::Counts | Line::Readings => {
+                unreachable!()
+            }
         }
     }
 }

@@ -13,6 +13,12 @@ pub struct Stay {
     pub to: u64,
 }
 
+impl Stay {
+    pub fn length(&self) -> u64 {
+        self.to.saturating_sub(self.from)
+    }
+}
+
 #[derive(Default)]
 pub struct Link {
     /// The phase from a time on, a change each.
@@ -23,6 +29,8 @@ pub struct Link {
     pub lost: Vec<u64>,
     /// What was held when another site was started.
     pub dropped: Vec<u64>,
+    /// What a stored site held already.
+    pub brought: usize,
     /// Records that are gone, and those still held at the end.
     pub gone: Vec<Stay>,
     pub held: Vec<Stay>,
@@ -30,39 +38,41 @@ pub struct Link {
     first_pass: Pass,
 }
 
+/// The first pass after a greeting: the aggregated status, then each alarm once. What comes again carries a record.
 #[derive(Default)]
 struct Pass {
     aggregated: bool,
-    alarms: usize,
+    alarms: Vec<String>,
+    over: bool,
 }
 
 #[derive(Default)]
 pub struct Day {
     pub site: String,
-    pub primary: u32,
+    /// Where it is known and there is one.
+    pub primary: Option<u32>,
     pub links: Vec<Link>,
     pub starts: Vec<u64>,
     pub first: u64,
     pub last: u64,
     pub calls: usize,
-    alarms: usize,
 }
 
 impl Day {
     /// After a line was played.
     pub fn note(&mut self, line: &Line, done: bool, player: &Player) {
-        let time = match line.time() {
-            Some(time) if done => time,
+        let time = match (line.time(), line) {
+            (Some(time), _) if done => time,
+            (None, Line::Restore { .. }) => return self.restore(player),
             _ => return,
         };
-        self.calls += 1;
-        self.first = if self.starts.is_empty() { time } else { self.first.min(time) };
+        self.first = if self.calls == 0 { time } else { self.first.min(time) };
         self.last = self.last.max(time);
-        if let Line::Start { table, primary, .. } = line {
-            self.start(table, *primary, player.links() as usize, time);
-        }
-        if let Line::Pump { link, .. } = line {
-            self.send(*link, time, player);
+        self.calls += 1;
+        match line {
+            Line::Start { table, primary, .. } => self.start(table, *primary, player.links() as usize, time),
+            Line::Pump { link, .. } => self.send(*link, time, player),
+            _ => {}
         }
         for link in 0..player.links() {
             self.links[link as usize].follow(link, time, player);
@@ -72,30 +82,43 @@ impl Day {
     fn start(&mut self, table: &[u8], primary: u32, links: usize, time: u64) {
         let length = usize::from(table[3]);
         self.site = table[4..4 + length].iter().map(|byte| char::from(*byte)).collect();
-        self.alarms = usize::from(table[1] >> 2);
-        self.primary = primary;
+        self.primary = Some(primary).filter(|primary| *primary != NO_PRIMARY);
         self.starts.push(time);
         for link in &mut self.links {
             link.end(time);
         }
+        self.widen(links);
+    }
+
+    fn widen(&mut self, links: usize) {
         while self.links.len() < links {
             self.links.push(Link::default());
         }
     }
 
-    /// What a pump sent, where it carries a record. Of the first pass after the greeting only an alarm does that is as its newest
-    /// record says.
+    /// A stored site goes on. What it holds and we do not know was issued before; what we know and it does not hold is left behind; a link
+    /// that we first see Up has its first pass behind it.
+    fn restore(&mut self, player: &Player) {
+        self.widen(player.links() as usize);
+        for (number, link) in self.links.iter_mut().enumerate() {
+            let (phase, _, lost) = player.state(number as u32);
+            link.restore(player.records(number as u32), phase, lost, self.last);
+        }
+    }
+
+    /// What a pump sent, where it carries a record. Of the first pass only an alarm does that is as its newest record says.
     fn send(&mut self, number: u32, time: u64, player: &Player) {
         let message = String::from_utf8_lossy(player.written()).into_owned();
-        let alarms = if number == self.primary { self.alarms } else { 0 };
         let link = &mut self.links[number as usize];
+        let pass = &mut link.first_pass;
         let is = |name: &str| message.contains(&format!("\"type\":\"{}\"", name));
         let carries = if is("AggregatedStatus") {
-            std::mem::replace(&mut link.first_pass.aggregated, true)
-        } else if is("Alarm") && link.first_pass.alarms < alarms {
-            link.first_pass.alarms += 1;
-            let of_alarm = |record: &[u8; 16]| alarm_of(record) == Some(link.first_pass.alarms - 1);
-            player.records(number).into_iter().rev().find(of_alarm).map_or(false, |record| says(&message, &record))
+            std::mem::replace(&mut pass.aggregated, true) || pass.over
+        } else if is("Alarm") && !pass.over && !pass.alarms.contains(&alarm_in(&message)) {
+            let of_alarm = |record: &[u8; 16]| alarm_of(record) == Some(pass.alarms.len());
+            let carries = player.records(number).into_iter().rev().find(of_alarm).map_or(false, |record| says(&message, &record));
+            pass.alarms.push(alarm_in(&message));
+            carries
         } else {
             is("Alarm") || is("StatusUpdate")
         };
@@ -107,12 +130,8 @@ impl Day {
     /// The last call is behind us: what is held has been so up to it.
     pub fn end(&mut self) {
         for stay in self.links.iter_mut().flat_map(|link| &mut link.held) {
-            stay.to = self.last;
+            stay.to = self.last.max(stay.from);
         }
-    }
-
-    pub fn no_primary(&self) -> bool {
-        self.primary == NO_PRIMARY
     }
 }
 
@@ -148,6 +167,19 @@ impl Link {
         self.lost.extend(std::iter::repeat(time).take(newly_lost));
     }
 
+    fn restore(&mut self, records: Vec<[u8; 16]>, phase: u32, lost: u64, last: u64) {
+        let holds = |stay: &Stay| records.iter().any(|record| sequence_of(record) == stay.sequence);
+        let (stay, left): (Vec<Stay>, Vec<Stay>) = self.held.drain(..).partition(holds);
+        self.dropped.extend(std::iter::repeat(last).take(left.len()));
+        self.gone.extend(left.into_iter().map(|stay| Stay { to: last, ..stay }));
+        let known = |record: &&[u8; 16]| stay.iter().any(|stay| stay.sequence == sequence_of(record));
+        let brought: Vec<Stay> = records.iter().filter(|record| !known(record)).map(stay_of).collect();
+        self.brought += brought.len();
+        self.held = stay.into_iter().chain(brought).collect();
+        self.seen_lost = lost;
+        self.first_pass.over = self.first_pass.over || self.phases.is_empty() && phase == 3;
+    }
+
     /// Another site begins.
     fn end(&mut self, time: u64) {
         self.dropped.extend(std::iter::repeat(time).take(self.held.len()));
@@ -157,8 +189,24 @@ impl Link {
     }
 }
 
+/// Of a record that was issued before: its own time is when.
+fn stay_of(record: &[u8; 16]) -> Stay {
+    Stay { sequence: sequence_of(record), from: time_of(record), to: time_of(record) }
+}
+
+fn time_of(record: &[u8; 16]) -> u64 {
+    record[2..8].iter().fold(0, |time, byte| time << 8 | u64::from(*byte))
+}
+
 fn sequence_of(record: &[u8; 16]) -> u32 {
     u32::from_be_bytes([record[12], record[13], record[14], record[15]])
+}
+
+/// The component and the code of an Alarm message.
+fn alarm_in(message: &str) -> String {
+    let from = message.find("\"cId\":").unwrap_or(0);
+    let to = message.find(",\"xACId\":").unwrap_or(message.len());
+    message.get(from..to).unwrap_or("").to_string()
 }
 
 /// The number of the alarm that a record is of.
@@ -174,14 +222,8 @@ fn says(message: &str, record: &[u8; 16]) -> bool {
     let word = |bit: u8, yes: &'static str, no: &'static str| if flags >> bit & 1 == 1 { yes } else { no };
     let acknowledged = word(3, "Acknowledged", "notAcknowledged");
     let (active, suspended) = (word(2, "Active", "inActive"), word(1, "Suspended", "notSuspended"));
-    let time = record[2..8].iter().fold(0, |time, byte| time << 8 | u64::from(*byte));
-    let states = format!(
-        "\"aSp\":\"{}\",\"ack\":\"{}\",\"aS\":\"{}\",\"sS\":\"{}\",\"aTs\":\"{}\"",
-        event,
-        acknowledged,
-        active,
-        suspended,
-        crate::moment::full(time)
-    );
+    let time = crate::moment::full(time_of(record));
+    let states =
+        format!("\"aSp\":\"{}\",\"ack\":\"{}\",\"aS\":\"{}\",\"sS\":\"{}\",\"aTs\":\"{}\"", event, acknowledged, active, suspended, time);
     message.contains(&states)
 }

@@ -53,7 +53,7 @@ impl Scale {
     }
 
     fn x(&self, time: u64) -> f64 {
-        LEFT as f64 + (time - self.first) as f64 * PLOT as f64 / self.length as f64
+        LEFT as f64 + time.saturating_sub(self.first) as f64 * PLOT as f64 / self.length as f64
     }
 
     /// Where a column of a point's width begins.
@@ -69,7 +69,8 @@ impl Scale {
 
     /// A time as it is said on this page: with its day where there are several.
     fn said(&self, time: u64) -> String {
-        let days = if day(self.first) == day(self.last()) { String::new() } else { format!("{} ", day(time)) };
+        let one_day = day(self.first) == day(self.last()) && day(time) == day(self.first);
+        let days = if one_day { String::new() } else { format!("{} ", day(time)) };
         format!("{}{}", days, clock(time, 1_000))
     }
 
@@ -102,12 +103,12 @@ pub fn draw(day_: &Day) -> String {
 }
 
 fn title(day_: &Day) -> String {
-    if day_.starts.is_empty() {
+    if day_.calls == 0 {
         return "No site was started".to_string();
     }
     let (from, to) = (day(day_.first), day(day_.last));
     let days = if from == to { from } else { format!("{} to {}", from, to) };
-    format!("Site {}, {}", day_.site, days)
+    format!("Site {}, {}", if day_.site.is_empty() { "of a stored state" } else { &day_.site }, days)
 }
 
 fn text(page: &mut String, x: f64, y: f64, more: &str, words: &str) {
@@ -131,7 +132,7 @@ fn escaped(words: &str) -> String {
 fn head(page: &mut String, day_: &Day) {
     text(page, LEFT as f64, 30.0, "font-size=\"19\" font-weight=\"bold\"", &title(day_));
     let lost: usize = day_.links.iter().map(|link| link.lost.len() + link.dropped.len()).sum();
-    let longest = day_.links.iter().filter_map(longest).map(|stay| stay.to - stay.from).max().unwrap_or(0);
+    let longest = day_.links.iter().filter_map(longest).map(Stay::length).max().unwrap_or(0);
     let lost = if lost == 0 { "no record was lost".to_string() } else { format!("{} lost", plural(lost, "record")) };
     let from = format!("{} {}", day(day_.first), clock(day_.first, 1_000));
     let (calls, to) = (plural(day_.calls, "call"), format!("{} {}", day(day_.last), clock(day_.last, 1_000)));
@@ -159,7 +160,7 @@ fn plural(count: usize, what: &str) -> String {
 
 /// The stay in the pool that lasted longest, those that have not ended counted up to the last call.
 fn longest(link: &Link) -> Option<&Stay> {
-    link.gone.iter().chain(&link.held).max_by_key(|stay| stay.to - stay.from)
+    link.gone.iter().chain(&link.held).max_by_key(|stay| stay.length())
 }
 
 fn panel(page: &mut String, day_: &Day, scale: &Scale, number: usize, link: &Link, top: u64) {
@@ -167,13 +168,19 @@ fn panel(page: &mut String, day_: &Day, scale: &Scale, number: usize, link: &Lin
         [("issued", &link.issued), ("sent", &link.sent), ("answered", &link.answered), ("lost", &link.lost), ("dropped", &link.dropped)];
     let said: String = counts.iter().map(|(name, times)| format!(" data-{}=\"{}\"", name, times.len())).collect();
     let phase = link.phases.last().map_or("", |(_, phase)| PHASES[*phase as usize]);
-    let _ = writeln!(page, "<g id=\"link{}\"{} data-held=\"{}\" data-phase=\"{}\">", number, said, link.held.len(), phase);
-    let whose = if number as u32 == day_.primary {
-        ", primary"
-    } else if day_.no_primary() {
-        ""
-    } else {
-        ", secondary"
+    let _ = writeln!(
+        page,
+        "<g id=\"link{}\"{} data-held=\"{}\" data-brought=\"{}\" data-phase=\"{}\">",
+        number,
+        said,
+        link.held.len(),
+        link.brought,
+        phase
+    );
+    let whose = match day_.primary {
+        Some(primary) if primary == number as u32 => ", primary",
+        Some(_) => ", secondary",
+        None => "",
     };
     text(page, LEFT as f64, top as f64 + 20.0, "font-size=\"15\" font-weight=\"bold\"", &format!("Link {}{}", number, whose));
     summary(page, scale, link, top as f64 + 37.0);
@@ -205,12 +212,15 @@ fn summary(page: &mut String, scale: &Scale, link: &Link, y: f64) {
     let lost = if link.lost.is_empty() { lost } else { format!("<tspan fill=\"{}\" font-weight=\"bold\">{}</tspan>", LOST_COLOUR, lost) };
     let _ = write!(page, "<text x=\"{}\" y=\"{:.1}\" fill=\"{}\">", LEFT, y, SOFT);
     let _ = write!(page, "{} issued, sent {}, {} answered, {} held at the end, {}", issued, sent, answered, held, lost);
+    if link.brought > 0 {
+        let _ = write!(page, ", {} held already at the beginning", link.brought);
+    }
     if !link.dropped.is_empty() {
         let _ = write!(page, ", {} left behind by a new start", link.dropped.len());
     }
-    if let Some(stay) = longest(link).filter(|stay| stay.to > stay.from) {
+    if let Some(stay) = longest(link).filter(|stay| stay.length() > 0) {
         let (from, to) = (scale.said(stay.from), scale.said(stay.to));
-        let _ = write!(page, "; the longest wait: {}, from {} to {}", span(stay.to - stay.from), from, to);
+        let _ = write!(page, "; the longest wait: {}, from {} to {}", span(stay.length()), from, to);
     }
     page.push_str("</text>\n");
 }
@@ -274,7 +284,7 @@ fn short_phases(scale: &Scale, link: &Link) -> Vec<(u64, [u64; 4])> {
 fn holding(page: &mut String, scale: &Scale, link: &Link, top: f64) {
     let stays = || link.gone.iter().chain(&link.held);
     let all = most_at_once(scale, stays().map(|stay| (stay.from, stay.to)));
-    let waited = most_at_once(scale, stays().filter(|stay| stay.to - stay.from > WAITED).map(|stay| (stay.from + WAITED, stay.to)));
+    let waited = most_at_once(scale, stays().filter(|stay| stay.length() > WAITED).map(|stay| (stay.from + WAITED, stay.to)));
     let most = all.iter().copied().max().unwrap_or(0);
     let full = [4, 8, 16, 32, MOST_HELD].into_iter().find(|full| most <= *full).unwrap_or(MOST_HELD);
     label(page, top + 11.0, "records");

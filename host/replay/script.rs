@@ -7,6 +7,7 @@ pub const MOST_ROOM: usize = 1 << 24;
 
 pub enum Line {
     Start { table: Vec<u8>, links: u32, primary: u32, period: u32, first: u64, time: u64 },
+    Restore { bytes: Vec<u8> },
     Connect { link: u32, time: u64 },
     Disconnect { link: u32, time: u64 },
     Packet { link: u32, time: u64, random: [u8; 16], room: usize, packet: Vec<u8> },
@@ -20,7 +21,7 @@ pub enum Line {
 }
 
 impl Line {
-    /// When the call is made; readings have no time.
+    /// When the call is made; a stored site and readings have no time.
     pub fn time(&self) -> Option<u64> {
         match self {
             Line::Start { time, .. } | Line::Connect { time, .. } | Line::Disconnect { time, .. } | Line::Packet { time, .. } => {
@@ -28,13 +29,14 @@ impl Line {
             }
             Line::Alarm { time, .. } | Line::Status { time, .. } | Line::Aggregated { time, .. } | Line::Tick { time } => Some(*time),
             Line::Pump { time, .. } => Some(*time),
-            Line::Counts | Line::Readings => None,
+            Line::Restore { .. } | Line::Counts | Line::Readings => None,
         }
     }
 }
 
-const FORMS: [&str; 11] = [
+const FORMS: [&str; 12] = [
     "start TABLEHEX LINKS PRIMARY|- PERIOD FIRST TIME",
+    "restore STOREDHEX",
     "connect LINK TIME",
     "disconnect LINK TIME",
     "packet LINK TIME RANDOMHEX ROOM PACKETHEX|-",
@@ -70,6 +72,7 @@ pub fn read(line: &str) -> Result<Line, String> {
             first: words.number(5)?,
             time: words.number(6)?,
         },
+        "restore" => Line::Restore { bytes: words.hex(1)? },
         "connect" => Line::Connect { link: words.number(1)?, time: words.number(2)? },
         "disconnect" => Line::Disconnect { link: words.number(1)?, time: words.number(2)? },
         "packet" => Line::Packet {

@@ -10,9 +10,11 @@ extern crate std;
 
 pub mod ffi;
 mod refusal;
+mod stored;
 
 use core::fmt;
 pub use refusal::Refusal;
+pub use stored::{check_sum, NotStored, STORED_BYTES, STORED_EDITION};
 
 /// The version of this crate, which is that of the library, of the header and of the programs.
 pub const VERSION: &str = env!("RSMP_VERSION");
