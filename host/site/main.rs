@@ -172,8 +172,9 @@ fn run(options: Options) -> Result<(), String> {
     if let Some(socket) = socket {
         socket.remove();
     }
-    log.drain(LAST_LINES);
-    replies.drain(LAST_LINES);
+    let until = Instant::now() + LAST_LINES;
+    log.drain(until);
+    replies.drain(until);
     Ok(())
 }
 
