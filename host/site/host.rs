@@ -97,9 +97,7 @@ impl Host {
     pub fn take(&mut self, event: Event) {
         match event {
             Event::Connected(link, wire) => self.connected(link, wire),
-            Event::Failed(link, error) => {
-                self.say(Level::Warning, link, format!("cannot connect: {}", error))
-            }
+            Event::Failed(link, error) => self.say(Level::Warning, link, format!("cannot connect: {}", error)),
             Event::Frame(link, Frame::Packet(packet)) => self.packet(link, &packet),
             Event::Frame(link, Frame::TooLong(count)) => {
                 let text = format!("a packet of {} bytes is dropped", count);
@@ -398,8 +396,7 @@ impl Host {
 
     fn counts(&self) -> String {
         let site = &self.calls.site;
-        let each = (0..site.links())
-            .map(|link| format!("link {} holds {}, lost {}", link, site.held(link), site.lost(link)));
+        let each = (0..site.links()).map(|link| format!("link {} holds {}, lost {}", link, site.held(link), site.lost(link)));
         each.collect::<Vec<_>>().join("; ")
     }
 

@@ -69,19 +69,14 @@ impl Outlet {
     }
 
     fn to(target: Target) -> Outlet {
-        let outlet = Outlet {
-            waiting: Arc::default(),
-        };
+        let outlet = Outlet { waiting: Arc::default() };
         let writer = outlet.clone();
         thread::spawn(move || writer.write_out(target));
         outlet
     }
 
     fn waiting(&self) -> MutexGuard<'_, Waiting> {
-        self.waiting
-            .0
-            .lock()
-            .unwrap_or_else(|poisoned| poisoned.into_inner())
+        self.waiting.0.lock().unwrap_or_else(|poisoned| poisoned.into_inner())
     }
 
     /// Takes a line, without its end, or drops it.
@@ -162,9 +157,7 @@ mod tests {
 
     #[test]
     fn nobody_reads() {
-        let outlet = Outlet {
-            waiting: Arc::default(),
-        };
+        let outlet = Outlet { waiting: Arc::default() };
         let line = "x".repeat(999);
         for _ in 0..400 {
             outlet.line(&line);
