@@ -109,31 +109,44 @@ def slow_reader(room):
     quick.close()
 
 
+class Deaf(Supervisor):
+    """Reads nothing any more when it is told so, and has little room for what comes."""
+    deaf = False
+
+    def __init__(self, *words):
+        super().__init__(*words)
+        self.listener.setsockopt(socket.SOL_SOCKET, socket.SO_RCVBUF, 2048)
+
+    def take(self, said):
+        super().take(said)
+        while self.deaf:
+            time.sleep(0.05)
+
+
 def never_reads(room):
-    """One that asks and never reads is cut off, and the log says why."""
-    listener = socket.socket()
-    listener.setsockopt(socket.SOL_SOCKET, socket.SO_RCVBUF, 2048)
-    listener.bind(("127.0.0.1", 0))
-    listener.listen()
-    process = Process(room, ["127.0.0.1:%d" % listener.getsockname()[1]], "--quiet", record=False)
-    stream, _ = listener.accept()
-    greeting = Supervisor(SITE, SXL)
-    greeting.stream = stream
-    while b"Version" not in stream.recv(4096):
-        pass
-    _, watchdog = greeting.packet("Watchdog", wTs=message.time_text(int(time.time() * 1000)))
-    flood = watchdog * 200
-    stream.settimeout(30)
-    try:
-        while True:
-            stream.sendall(flood)
-    except OSError:
-        pass
-    process.wait_logged("the supervisor does not read what it is sent", 30)
-    hold(process.resident() < 60 << 20, f"{process.resident()} bytes for one that does not read")
+    """One that sends and never reads is cut off, and the log says why; nothing piles up for it."""
+    deaf, good = Deaf(SITE, SXL), Supervisor(SITE, SXL)
+    process = Process(room, [deaf, good], "--quiet", record=False)
+    deaf.wait_up()
+    good.wait_up()
+    wait(lambda: process.order("counts").startswith("link 0 holds 0") and len(deaf.of("Alarm")) == 6, "answers to all")
+    time.sleep(0.5)
+    deaf.deaf = True
+    _, watchdog = deaf.packet("Watchdog", wTs=message.time_text(int(time.time() * 1000)))
+    began = time.monotonic()
+    while not process.logged("link 0  the connection is gone") and not process.logged("link 0  we close"):
+        hold(time.monotonic() < began + 90, "the one that does not read is not cut off")
+        deaf.send_raw(watchdog * 50)
+    why = process.logged("the supervisor does not read what it is sent") + process.logged("Connection timed out")
+    hold(why == 1, "the log does not say why")
+    taken = time.monotonic() - began
+    hold(good.up and good.ask("AggregatedStatusRequest", cId=SITE) is True, "another link")
+    deaf.deaf = False
+    deaf.wait_up()
     process.quit()
-    listener.close()
-    greeting.close()
+    deaf.close()
+    good.close()
+    return f"cut off after {taken:.0f} s"
 
 
 def flooded(supervisor, seconds):
@@ -163,4 +176,5 @@ def memory_in_a_flood(room, short=4, long=14):
     return f"{count} requests; {before >> 10} KB resident after {short} s of flood, {after >> 10} KB after {long} s more"
 
 
-TESTS = [silent_in_greeting, who_closed, pauses_grow, slow_reader, memory_in_a_flood]
+TESTS = [memory_in_a_flood, silent_in_greeting, who_closed, pauses_grow, slow_reader]
+LONG = [never_reads]

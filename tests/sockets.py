@@ -2,8 +2,9 @@
 
   sockets.py --stored            what the gate runs
   sockets.py --only NAME ..      these tests
+  sockets.py --long              300 kills, a supervisor that never reads, memory after an hour's flood as after a minute's
   sockets.py --kills COUNT [SEED]
-  sockets.py --flood SECONDS     memory after so long a flood as after a minute
+  sockets.py --flood SECONDS
 """
 import concurrent.futures
 import sys
@@ -49,7 +50,12 @@ def main(words):
         print(f"rsmp-site: {len(tests)} tests over real sockets in {time.monotonic() - began:.0f} s{', some FAILED' if code else ''}")
         return code
     if words[:1] == ["--only"]:
-        return all_of([test for test in tests if test.__name__ in words[1:]])
+        return all_of([test for test in tests + socket_links.LONG if test.__name__ in words[1:]])
+    if words == ["--long"]:
+        run(socket_state.kills, 300)
+        run(socket_links.never_reads)
+        run(socket_links.memory_in_a_flood, 60, 3600)
+        return 0
     if words[:1] == ["--kills"]:
         return run(socket_state.kills, *map(int, words[1:])) or 0
     if words[:1] == ["--flood"]:

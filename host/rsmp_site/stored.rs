@@ -34,11 +34,7 @@ impl fmt::Display for NotStored {
         match self {
             NotStored::Length => write!(formatter, "not as long as a stored site"),
             NotStored::Foreign => write!(formatter, "no stored site"),
-            NotStored::Edition(found) => write!(
-                formatter,
-                "a site of edition {}, where {} is read",
-                found, STORED_EDITION
-            ),
+            NotStored::Edition(found) => write!(formatter, "a site of edition {}, where {} is read", found, STORED_EDITION),
             NotStored::Damaged => write!(formatter, "damaged: its check sum is wrong"),
             NotStored::NoSite => write!(formatter, "not what a site's bytes can be"),
         }
@@ -47,9 +43,7 @@ impl fmt::Display for NotStored {
 
 /// FNV-1a of 64 bits: another byte anywhere gives another sum.
 pub fn check_sum(bytes: &[u8]) -> u64 {
-    bytes.iter().fold(0xcbf2_9ce4_8422_2325, |sum, byte| {
-        (sum ^ u64::from(*byte)).wrapping_mul(0x0000_0100_0000_01b3)
-    })
+    bytes.iter().fold(0xcbf2_9ce4_8422_2325, |sum, byte| (sum ^ u64::from(*byte)).wrapping_mul(0x0000_0100_0000_01b3))
 }
 
 fn word(bytes: &[u8], at: usize) -> u32 {
@@ -99,9 +93,7 @@ impl Site {
         if check_sum(told).to_le_bytes() != sum {
             return Err(NotStored::Damaged);
         }
-        let mut state = ffi::Site {
-            bytes: [0; ffi::SITE_BYTES],
-        };
+        let mut state = ffi::Site { bytes: [0; ffi::SITE_BYTES] };
         state.bytes.copy_from_slice(&told[HEAD_BYTES..]);
         let links = links_of(&state.bytes).ok_or(NotStored::NoSite)?;
         Ok(Site { state, links })

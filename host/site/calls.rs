@@ -33,12 +33,7 @@ pub struct Kit {
 
 impl Calls {
     /// A new site, or the one that was stored: then every link whose connection the end of the last process took is disconnected.
-    pub fn start(
-        table: Vec<u8>,
-        mut start: Start,
-        mut kit: Kit,
-        stored: Option<Stored>,
-    ) -> Result<Calls, Refusal> {
+    pub fn start(table: Vec<u8>, mut start: Start, mut kit: Kit, stored: Option<Stored>) -> Result<Calls, Refusal> {
         if let Some(stored) = &stored {
             kit.clock.no_earlier_than(stored.time);
         }
@@ -104,24 +99,13 @@ impl Calls {
 
     fn end_record(&mut self, error: std::io::Error) {
         self.record = None;
-        self.trouble
-            .push(format!("the record cannot be written any more: {}", error));
+        self.trouble.push(format!("the record cannot be written any more: {}", error));
     }
 
     fn record_start(&mut self) {
         let (start, table) = (self.start, std::mem::take(&mut self.table));
         let primary = start.primary.map_or("-".to_string(), |link| link.to_string());
-        self.record(|| {
-            format!(
-                "start {} {} {} {} {} {}",
-                hex(&table),
-                start.links,
-                primary,
-                start.period,
-                start.first,
-                start.time
-            )
-        });
+        self.record(|| format!("start {} {} {} {} {} {}", hex(&table), start.links, primary, start.period, start.first, start.time));
         self.table = table;
     }
 
@@ -299,8 +283,7 @@ impl Calls {
     /// Where there are no random bytes, the answer is that of bytes that repeat.
     fn random(&mut self) -> Result<[u8; 16], Refusal> {
         self.random.bytes().map_err(|error| {
-            self.trouble
-                .push(format!("there are no random bytes: {}", error));
+            self.trouble.push(format!("there are no random bytes: {}", error));
             Refusal::SameIdentity
         })
     }

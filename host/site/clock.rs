@@ -33,10 +33,7 @@ impl Source {
                 let mut numbers = text.split_ascii_whitespace().map(|word| word.parse::<u64>().ok());
                 let (at_start, longer) = (numbers.next()??, numbers.next()??);
                 let monotonic = began.elapsed().as_millis() as u64 + longer;
-                Some(Reading {
-                    monotonic,
-                    system: at_start.saturating_add(monotonic),
-                })
+                Some(Reading { monotonic, system: at_start.saturating_add(monotonic) })
             }
         }
     }
@@ -80,12 +77,7 @@ impl Clock {
 
     fn of(source: Source) -> Clock {
         let (began, steady) = (Instant::now(), Steady::default());
-        let mut clock = Clock {
-            source,
-            began,
-            steady,
-            last_offset: 0,
-        };
+        let mut clock = Clock { source, began, steady, last_offset: 0 };
         clock.now();
         clock.last_offset = clock.steady.offset;
         clock

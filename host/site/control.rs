@@ -51,9 +51,7 @@ pub fn listen(path: &str) -> Result<(UnixListener, Socket), String> {
             return Err(format!("{}: is there already and is no socket", path));
         }
         match UnixStream::connect(path) {
-            Err(error) if error.kind() == io::ErrorKind::ConnectionRefused => {
-                fs::remove_file(path).map_err(told)?
-            }
+            Err(error) if error.kind() == io::ErrorKind::ConnectionRefused => fs::remove_file(path).map_err(told)?,
             Err(error) => return Err(told(error)),
             Ok(_) => return Err(format!("{}: another program takes orders there", path)),
         }
@@ -103,9 +101,7 @@ fn serve_aside(mut stream: UnixStream, events: &SyncSender<Event>, served: &Arc<
     let (events, counted) = (events.clone(), served.clone());
     let thread = thread::Builder::new().spawn(move || {
         if let Ok(mut out) = stream.try_clone() {
-            serve(BufReader::new(stream), &events, |text| {
-                writeln!(out, "{}", text).is_ok()
-            });
+            serve(BufReader::new(stream), &events, |text| writeln!(out, "{}", text).is_ok());
         }
         counted.fetch_sub(1, Ordering::Relaxed);
     });

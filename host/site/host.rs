@@ -16,6 +16,8 @@ use std::time::{Duration, Instant};
 const GOODBYE: Duration = Duration::from_secs(2);
 /// Clocks that differ by less are not worth a line.
 const CLOCKS_DIFFER: u64 = 1000;
+/// Nor is more than one line in so long a time.
+const CLOCK_LINES: Duration = Duration::from_secs(60);
 
 /// One supervisor.
 struct Link {
@@ -27,8 +29,9 @@ struct Link {
     sent: u64,
     received: u64,
     unanswered: u64,
-    /// The last difference of the primary's clock that was said, in milliseconds.
+    /// The last difference of the primary's clock that was said, in milliseconds, and when.
     clock_ahead: i128,
+    clock_said: Option<Instant>,
 }
 
 pub struct Host {
@@ -54,6 +57,7 @@ impl Host {
             received: 0,
             unanswered: 0,
             clock_ahead: 0,
+            clock_said: None,
         };
         Host {
             calls,
@@ -93,9 +97,7 @@ impl Host {
     pub fn take(&mut self, event: Event) {
         match event {
             Event::Connected(link, wire) => self.connected(link, wire),
-            Event::Failed(link, error) => {
-                self.say(Level::Warning, link, format!("cannot connect: {}", error))
-            }
+            Event::Failed(link, error) => self.say(Level::Warning, link, format!("cannot connect: {}", error)),
             Event::Frame(link, Frame::Packet(packet)) => self.packet(link, &packet),
             Event::Frame(link, Frame::TooLong(count)) => {
                 let text = format!("a packet of {} bytes is dropped", count);
@@ -115,7 +117,6 @@ impl Host {
         of_link.wire = Some(wire);
         of_link.since = Instant::now();
         of_link.up = false;
-        of_link.clock_ahead = 0;
         let text = format!("connected to {}", of_link.address);
         self.say(Level::Info, link, text);
         let called = self.calls.connect(link);
@@ -245,9 +246,11 @@ impl Host {
 
     fn compare_clocks(&mut self, link: u32, hint: u64) {
         let ahead = i128::from(hint) - i128::from(self.calls.now());
-        let before = self.links[link as usize].clock_ahead;
-        if (ahead - before).unsigned_abs() >= u128::from(CLOCKS_DIFFER) {
-            self.links[link as usize].clock_ahead = ahead;
+        let of_link = &mut self.links[link as usize];
+        let differs = (ahead - of_link.clock_ahead).unsigned_abs() >= u128::from(CLOCKS_DIFFER);
+        if differs && of_link.clock_said.map_or(true, |said| said.elapsed() >= CLOCK_LINES) {
+            of_link.clock_ahead = ahead;
+            of_link.clock_said = Some(Instant::now());
             let text = format!("the primary's clock is {} ms ahead of ours", ahead);
             self.say(Level::Info, link, text);
         }
@@ -393,8 +396,7 @@ impl Host {
 
     fn counts(&self) -> String {
         let site = &self.calls.site;
-        let each = (0..site.links())
-            .map(|link| format!("link {} holds {}, lost {}", link, site.held(link), site.lost(link)));
+        let each = (0..site.links()).map(|link| format!("link {} holds {}, lost {}", link, site.held(link), site.lost(link)));
         each.collect::<Vec<_>>().join("; ")
     }
 

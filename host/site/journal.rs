@@ -17,13 +17,8 @@ pub enum Level {
     Debug,
 }
 
-const LEVELS: [(&str, Level); 5] = [
-    ("error", Level::Error),
-    ("warning", Level::Warning),
-    ("info", Level::Info),
-    ("message", Level::Message),
-    ("debug", Level::Debug),
-];
+const LEVELS: [(&str, Level); 5] =
+    [("error", Level::Error), ("warning", Level::Warning), ("info", Level::Info), ("message", Level::Message), ("debug", Level::Debug)];
 
 impl FromStr for Level {
     type Err = ();

@@ -57,25 +57,16 @@ fn table_of(name: &str) -> Result<Vec<u8>, String> {
         };
     }
     let line = |fault: text::LineError| format!("{}:{}: {}", name, fault.line, fault.message);
-    let lines = |faults: Vec<text::LineError>| {
-        faults.into_iter().map(line).collect::<Vec<_>>().join("\n")
-    };
-    text::read(&String::from_utf8_lossy(&bytes))
-        .map(|table| bits::write(&table))
-        .map_err(lines)
+    let lines = |faults: Vec<text::LineError>| faults.into_iter().map(line).collect::<Vec<_>>().join("\n");
+    text::read(&String::from_utf8_lossy(&bytes)).map(|table| bits::write(&table)).map_err(lines)
 }
 
 /// The calls, and what is to be said of the state that was found.
 fn calls_of(options: &Options) -> Result<(Calls, Option<(Level, String)>), String> {
     let named = |name: &str, error: io::Error| format!("{}: {}", name, error);
     let table = table_of(&options.table)?;
-    let start = Start {
-        links: options.supervisors.len() as u32,
-        primary: options.primary,
-        period: options.period,
-        first: options.first,
-        time: 0,
-    };
+    let start =
+        Start { links: options.supervisors.len() as u32, primary: options.primary, period: options.period, first: options.first, time: 0 };
     let (mut store, mut stored, mut said) = (None, None, None);
     if let Some(path) = &options.state {
         let (opened, found) = Store::open(path, options.state_interval, &table, &start)?;
@@ -105,12 +96,7 @@ fn calls_of(options: &Options) -> Result<(Calls, Option<(Level, String)>), Strin
         }
         None => None,
     };
-    let kit = Kit {
-        clock,
-        random,
-        record,
-        store,
-    };
+    let kit = Kit { clock, random, record, store };
     let calls = Calls::start(table, start, kit, stored).map_err(|refusal| refusal.to_string())?;
     Ok((calls, said))
 }
@@ -119,15 +105,10 @@ fn run(options: Options) -> Result<(), String> {
     let (calls, said) = calls_of(&options)?;
     let replies = Outlet::standard_output();
     let log = match &options.log {
-        Some(name) => {
-            Outlet::file(name.into()).map_err(|error| format!("{}: {}", name, error))?
-        }
+        Some(name) => Outlet::file(name.into()).map_err(|error| format!("{}: {}", name, error))?,
         None => replies.clone(),
     };
-    let journal = Journal {
-        level: options.level,
-        outlet: log.clone(),
-    };
+    let journal = Journal { level: options.level, outlet: log.clone() };
     let (sender, events) = sync_channel(EVENTS);
     let socket = match &options.control {
         Some(path) => {
@@ -172,8 +153,9 @@ fn run(options: Options) -> Result<(), String> {
     if let Some(socket) = socket {
         socket.remove();
     }
-    log.drain(LAST_LINES);
-    replies.drain(LAST_LINES);
+    let until = Instant::now() + LAST_LINES;
+    log.drain(until);
+    replies.drain(until);
     Ok(())
 }
 

@@ -22,11 +22,7 @@ impl Notifier {
         let number = |name: &str| std::env::var(name).ok()?.parse::<u64>().ok();
         let ours = number("WATCHDOG_PID").map_or(true, |pid| pid == u64::from(std::process::id()));
         let limit = number("WATCHDOG_USEC").filter(|_| ours);
-        Notifier {
-            to,
-            every: limit.map(|limit| Duration::from_micros(limit) / 3),
-            last: None,
-        }
+        Notifier { to, every: limit.map(|limit| Duration::from_micros(limit) / 3), last: None }
     }
 
     pub fn tell(&self, text: &str) {

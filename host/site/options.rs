@@ -139,8 +139,7 @@ impl Options {
         let bytes = fs::read(file).map_err(|error| format!("{}: {}", file, error))?;
         let text = String::from_utf8(bytes).map_err(|_| format!("{}: is not UTF-8", file))?;
         for (number, line) in text.lines().enumerate() {
-            self.read_line(line)
-                .map_err(|why| format!("{}:{}: {}", file, number + 1, why))?;
+            self.read_line(line).map_err(|why| format!("{}:{}: {}", file, number + 1, why))?;
         }
         Ok(())
     }
@@ -170,9 +169,23 @@ impl Options {
     /// The error begins with the name.
     fn set(&mut self, name: &str, value: Option<String>) -> Result<(), String> {
         let known = [
-            "table", "supervisor", "primary", "period", "first", "reconnect", "reconnect-limit",
-            "greeting-limit", "state", "state-interval", "control", "record", "record-size", "log",
-            "log-level", "clock", "random",
+            "table",
+            "supervisor",
+            "primary",
+            "period",
+            "first",
+            "reconnect",
+            "reconnect-limit",
+            "greeting-limit",
+            "state",
+            "state-interval",
+            "control",
+            "record",
+            "record-size",
+            "log",
+            "log-level",
+            "clock",
+            "random",
         ];
         if !known.contains(&name) {
             return Err(format!("{}: no such option", clean(name)));
@@ -243,9 +256,7 @@ impl Options {
 /// HOST:PORT, an address of IPv6 in brackets.
 fn judge_address(address: &str) -> Result<(), String> {
     let shown = clean(address);
-    let (host, port) = address
-        .rsplit_once(':')
-        .ok_or_else(|| format!("'{}' has no port: wanted HOST:PORT", shown))?;
+    let (host, port) = address.rsplit_once(':').ok_or_else(|| format!("'{}' has no port: wanted HOST:PORT", shown))?;
     let bracketed = host.starts_with('[') && host.ends_with(']') && host.len() > 2;
     if host.is_empty() || (host.contains(':') && !bracketed) {
         return Err(format!("'{}' has no host: wanted HOST:PORT or [IPV6]:PORT", shown));

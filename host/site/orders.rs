@@ -2,8 +2,7 @@
 
 use crate::readable::clean;
 
-pub const HELP: &str =
-    "alarm NUMBER on|off, status NUMBER VALUE, aggregated 0..255, counts, links, save, help, quit";
+pub const HELP: &str = "alarm NUMBER on|off, status NUMBER VALUE, aggregated 0..255, counts, links, save, help, quit";
 
 pub enum Order {
     Alarm(u32, bool),

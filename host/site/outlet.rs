@@ -6,7 +6,7 @@ use std::io::{self, Write};
 use std::path::{Path, PathBuf};
 use std::sync::{Arc, Condvar, Mutex, MutexGuard};
 use std::thread;
-use std::time::{Duration, Instant};
+use std::time::Instant;
 
 /// So many bytes wait at most.
 const MOST_WAITING: usize = 256 * 1024;
@@ -69,19 +69,14 @@ impl Outlet {
     }
 
     fn to(target: Target) -> Outlet {
-        let outlet = Outlet {
-            waiting: Arc::default(),
-        };
+        let outlet = Outlet { waiting: Arc::default() };
         let writer = outlet.clone();
         thread::spawn(move || writer.write_out(target));
         outlet
     }
 
     fn waiting(&self) -> MutexGuard<'_, Waiting> {
-        self.waiting
-            .0
-            .lock()
-            .unwrap_or_else(|poisoned| poisoned.into_inner())
+        self.waiting.0.lock().unwrap_or_else(|poisoned| poisoned.into_inner())
     }
 
     /// Takes a line, without its end, or drops it.
@@ -108,9 +103,8 @@ impl Outlet {
         self.waiting.1.notify_all();
     }
 
-    /// Waits until all is written, or so long.
-    pub fn drain(&self, longest: Duration) {
-        let until = Instant::now() + longest;
+    /// Waits until all is written, or until then.
+    pub fn drain(&self, until: Instant) {
         let mut waiting = self.waiting();
         while !waiting.bytes.is_empty() || waiting.writing {
             let left = until.saturating_duration_since(Instant::now());
@@ -159,12 +153,11 @@ impl Outlet {
 mod tests {
     use super::*;
     use std::fs;
+    use std::time::Duration;
 
     #[test]
     fn nobody_reads() {
-        let outlet = Outlet {
-            waiting: Arc::default(),
-        };
+        let outlet = Outlet { waiting: Arc::default() };
         let line = "x".repeat(999);
         for _ in 0..400 {
             outlet.line(&line);
@@ -187,11 +180,11 @@ mod tests {
         let moved = path.with_extension("1");
         let outlet = Outlet::file(path.clone()).unwrap();
         outlet.line("one");
-        outlet.drain(Duration::from_secs(9));
+        outlet.drain(Instant::now() + Duration::from_secs(9));
         fs::rename(&path, &moved).unwrap();
         outlet.reopen();
         outlet.line("two");
-        outlet.drain(Duration::from_secs(9));
+        outlet.drain(Instant::now() + Duration::from_secs(9));
         assert_eq!(fs::read_to_string(&moved).unwrap(), "one\n");
         assert_eq!(fs::read_to_string(&path).unwrap(), "two\n");
         let _ = (fs::remove_file(&path), fs::remove_file(&moved));

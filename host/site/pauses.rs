@@ -16,13 +16,7 @@ pub struct Pauses {
 impl Pauses {
     pub fn new(first: Duration, limit: Duration) -> Pauses {
         let limit = limit.max(first);
-        Pauses {
-            first,
-            limit,
-            next: first,
-            random: RandomState::new(),
-            drawn: 0,
-        }
+        Pauses { first, limit, next: first, random: RandomState::new(), drawn: 0 }
     }
 
     /// The last connection was good.
@@ -48,9 +42,7 @@ mod tests {
     #[test]
     fn pauses_grow_to_the_limit() {
         let mut pauses = Pauses::new(Duration::from_secs(1), Duration::from_secs(10));
-        let near = |pause: Duration, wanted: f64| {
-            (0.9 * wanted..=1.101 * wanted).contains(&pause.as_secs_f64())
-        };
+        let near = |pause: Duration, wanted: f64| (0.9 * wanted..=1.101 * wanted).contains(&pause.as_secs_f64());
         for wanted in [1.0, 2.0, 4.0, 8.0, 10.0, 10.0] {
             let pause = pauses.take();
             assert!(near(pause, wanted), "{:?} for {}", pause, wanted);

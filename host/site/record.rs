@@ -19,12 +19,7 @@ impl Record {
         let file = appended(&path)?;
         let written = file.metadata()?.len();
         let out = BufWriter::new(file);
-        Ok(Record {
-            path,
-            out,
-            written,
-            most,
-        })
+        Ok(Record { path, out, written, most })
     }
 
     /// A line that begins a file, which does not count as its length.

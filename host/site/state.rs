@@ -60,10 +60,7 @@ fn read(setup: &[u8; 20], bytes: &[u8]) -> Result<Stored, String> {
     let mut time = [0; 8];
     time.copy_from_slice(&told[32..40]);
     let site = Site::from_bytes(&told[HEAD_BYTES..]).map_err(|fault| format!("it is {}", fault))?;
-    Ok(Stored {
-        site,
-        time: u64::from_le_bytes(time),
-    })
+    Ok(Stored { site, time: u64::from_le_bytes(time) })
 }
 
 pub enum Found {
@@ -83,12 +80,7 @@ pub struct Store {
 
 impl Store {
     /// What a file has, and the store that will write it. A file that is not taken is kept aside.
-    pub fn open(
-        path: &str,
-        interval: Duration,
-        table: &[u8],
-        start: &Start,
-    ) -> Result<(Store, Found), String> {
+    pub fn open(path: &str, interval: Duration, table: &[u8], start: &Start) -> Result<(Store, Found), String> {
         let path = PathBuf::from(path);
         let setup = setup(table, start);
         let told = |error: io::Error| format!("{}: {}", path.display(), error);
@@ -105,13 +97,7 @@ impl Store {
             },
         };
         let (last, changed) = (None, true);
-        let store = Store {
-            path,
-            interval,
-            setup,
-            last,
-            changed,
-        };
+        let store = Store { path, interval, setup, last, changed };
         Ok((store, found))
     }
 
@@ -137,8 +123,7 @@ impl Store {
     /// Writes the site and syncs it.
     pub fn write(&mut self, site: &Site, time: u64) -> Result<(), String> {
         self.last = Some(Instant::now());
-        replace(&self.path, &written(&self.setup, site, time))
-            .map_err(|error| format!("{}: {}", self.path.display(), error))?;
+        replace(&self.path, &written(&self.setup, site, time)).map_err(|error| format!("{}: {}", self.path.display(), error))?;
         self.changed = false;
         Ok(())
     }
@@ -180,13 +165,7 @@ mod tests {
     use super::*;
 
     const TABLE: &[u8] = include_bytes!("../../examples/barrier.bits");
-    const START: Start = Start {
-        links: 2,
-        primary: Some(0),
-        period: 60,
-        first: 0,
-        time: 1_254_398_371_571,
-    };
+    const START: Start = Start { links: 2, primary: Some(0), period: 60, first: 0, time: 1_254_398_371_571 };
 
     fn site() -> Site {
         let mut site = Site::start(TABLE, &START).unwrap();

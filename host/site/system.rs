@@ -24,13 +24,7 @@ const MSG_NOSIGNAL: c_int = 0x4000;
 extern "C" {
     fn signal(number: c_int, handler: extern "C" fn(c_int)) -> usize;
     fn umask(mask: c_uint) -> c_uint;
-    fn setsockopt(
-        socket: c_int,
-        level: c_int,
-        name: c_int,
-        value: *const c_void,
-        length: c_uint,
-    ) -> c_int;
+    fn setsockopt(socket: c_int, level: c_int, name: c_int, value: *const c_void, length: c_uint) -> c_int;
     fn sendto(
         socket: c_int,
         bytes: *const c_void,
@@ -69,15 +63,7 @@ fn set_option(stream: &TcpStream, level: c_int, name: c_int, value: c_int) -> io
     let length = std::mem::size_of::<c_int>() as c_uint;
     // SAFETY: the socket is open while `stream` is borrowed, and the value is an int that lives during the call, of the length that
     // is passed.
-    let done = unsafe {
-        setsockopt(
-            stream.as_raw_fd(),
-            level,
-            name,
-            (&value as *const c_int).cast(),
-            length,
-        )
-    };
+    let done = unsafe { setsockopt(stream.as_raw_fd(), level, name, (&value as *const c_int).cast(), length) };
     if done == 0 {
         Ok(())
     } else {
@@ -93,20 +79,12 @@ pub fn end_when_dead(stream: &TcpStream, idle: Duration, unanswered: Duration) -
     set_option(stream, IPPROTO_TCP, TCP_KEEPIDLE, seconds)?;
     set_option(stream, IPPROTO_TCP, TCP_KEEPINTVL, (seconds / 3).max(1))?;
     set_option(stream, IPPROTO_TCP, TCP_KEEPCNT, 3)?;
-    set_option(
-        stream,
-        IPPROTO_TCP,
-        TCP_USER_TIMEOUT,
-        unanswered.as_millis() as c_int,
-    )
+    set_option(stream, IPPROTO_TCP, TCP_USER_TIMEOUT, unanswered.as_millis() as c_int)
 }
 
 /// Sends a datagram to a Unix socket by its path, or by its abstract name where the path begins with @.
 pub fn send_datagram(socket: &UnixDatagram, path: &[u8], bytes: &[u8]) -> io::Result<()> {
-    let mut address = UnixAddress {
-        family: AF_UNIX,
-        path: [0; 108],
-    };
+    let mut address = UnixAddress { family: AF_UNIX, path: [0; 108] };
     if path.is_empty() || path.len() >= address.path.len() {
         return Err(io::ErrorKind::InvalidInput.into());
     }
@@ -117,16 +95,7 @@ pub fn send_datagram(socket: &UnixDatagram, path: &[u8], bytes: &[u8]) -> io::Re
     let length = std::mem::size_of::<u16>() + path.len();
     // SAFETY: the socket is open while it is borrowed; the bytes and the address live during the call, and the lengths are theirs:
     // the path was checked to fit.
-    let sent = unsafe {
-        sendto(
-            socket.as_raw_fd(),
-            bytes.as_ptr().cast(),
-            bytes.len(),
-            MSG_NOSIGNAL,
-            &address,
-            length as c_uint,
-        )
-    };
+    let sent = unsafe { sendto(socket.as_raw_fd(), bytes.as_ptr().cast(), bytes.len(), MSG_NOSIGNAL, &address, length as c_uint) };
     if sent < 0 {
         Err(io::Error::last_os_error())
     } else {
@@ -140,27 +109,13 @@ mod tests {
     use std::net::TcpListener;
 
     extern "C" {
-        fn getsockopt(
-            socket: c_int,
-            level: c_int,
-            name: c_int,
-            value: *mut c_void,
-            length: *mut c_uint,
-        ) -> c_int;
+        fn getsockopt(socket: c_int, level: c_int, name: c_int, value: *mut c_void, length: *mut c_uint) -> c_int;
     }
 
     fn option(stream: &TcpStream, level: c_int, name: c_int) -> c_int {
         let (mut value, mut length): (c_int, c_uint) = (-1, 4);
         // SAFETY: the value has the four bytes that the length says.
-        let done = unsafe {
-            getsockopt(
-                stream.as_raw_fd(),
-                level,
-                name,
-                (&mut value as *mut c_int).cast(),
-                &mut length,
-            )
-        };
+        let done = unsafe { getsockopt(stream.as_raw_fd(), level, name, (&mut value as *mut c_int).cast(), &mut length) };
         assert_eq!(done, 0);
         value
     }
@@ -171,8 +126,7 @@ mod tests {
         let stream = TcpStream::connect(listener.local_addr().unwrap()).unwrap();
         end_when_dead(&stream, Duration::from_secs(30), Duration::from_secs(60)).unwrap();
         assert_eq!(option(&stream, SOL_SOCKET, SO_KEEPALIVE), 1);
-        let times =
-            [TCP_KEEPIDLE, TCP_KEEPINTVL, TCP_KEEPCNT].map(|name| option(&stream, IPPROTO_TCP, name));
+        let times = [TCP_KEEPIDLE, TCP_KEEPINTVL, TCP_KEEPCNT].map(|name| option(&stream, IPPROTO_TCP, name));
         assert_eq!(times, [30, 10, 3]);
         assert_eq!(option(&stream, IPPROTO_TCP, TCP_USER_TIMEOUT), 60_000);
     }

@@ -99,12 +99,7 @@ impl Wire {
         let (of_writer, out) = (shared.clone(), stream.try_clone()?);
         let stream = stream.try_clone()?;
         let writer = thread::Builder::new().spawn(move || write_out(orders, out, &of_writer))?;
-        Ok(Wire {
-            queue,
-            shared,
-            stream,
-            writer,
-        })
+        Ok(Wire { queue, shared, stream, writer })
     }
 
     /// False where the supervisor does not read. Where the connection is gone, that is told apart.
@@ -125,11 +120,7 @@ impl Wire {
     /// Closes the connection after what waits is written.
     pub fn close(self) -> Closing {
         let until = Instant::now() + CLOSING;
-        Closing {
-            writer: self.writer,
-            stream: self.stream,
-            until,
-        }
+        Closing { writer: self.writer, stream: self.stream, until }
     }
 
     pub fn cut(self) {
