@@ -1,33 +1,61 @@
-.PHONY: build run test library
+.PHONY: build run test library install uninstall clean help always
+.DELETE_ON_ERROR:
 
-# The product's main job: a site talks to two supervisors over TCP on this machine.
+PREFIX = /usr/local
+DESTDIR =
+export RSMP_VERSION := $(shell cat VERSION)
+export RSMP_SYMBOL := $(subst .,_,$(RSMP_VERSION))
+
+## build      the library and the programs, into build/ (the default; the first time it proves the library, see README)
+build: build/rsmp-site build/rsmp-replay build/rsmp-table build/rsmp_site.h build/librsmp_site.a build/site-tests build/frame-tests
+
+## run        builds, then shows the main job: a site talks to two supervisors over TCP on this machine
 run: build
 	python3 tests/demo.py
 
-# The gate: everything is proved from nothing, every must-fail edit is refused, every program's output is compared.
+## test       the gate: everything is proved from nothing, every must-fail edit is refused, every program's output is compared
 test:
 	bash .ci/run
 
-# The host's programs, for x86-64, in build/. `host/tools` says with which compilers and how they are run.
-build: build/rsmp-site build/rsmp-replay build/rsmp-table build/rsmp_site.h build/site-tests build/frame-tests
+## library    proves and compiles the library alone: build/librsmp_site.a and build/rsmp_site.h
+library: build/librsmp_site.a build/rsmp_site.h
 
-LIBRARY = target/staticlib/libsitec.a
+## install    programs, library, header, manual pages and a systemd unit below PREFIX (/usr/local), all of it below DESTDIR where given
+## uninstall  takes away what install put there
+## clean      removes build/; what is proved and compiled stays in target/ (rm -r target: prove everything again)
+clean:
+	rm -rf build
+
+help:
+	@sed -n 's/^## /  make /p' Makefile
+
+PROVED = target/staticlib/libsitec.a
+LIBRARY = build/librsmp_site.a
 RUSTC = build/tools/rustc --edition 2021 -O -C strip=symbols
 OUT = build/x86-64
 SITE = $(OUT)/librsmp_site.rlib
 TABLE = $(OUT)/librsmp_table.rlib
 
+# The compilers for x86-64, and how its programs are run; host/tools says which.
 build/tools/ready: host/tools
 	sh host/tools build/tools
 
-library:
-	rt staticlib sitec
+# Asked each time, and only remade where a crate's files or the toolchain have changed.
+$(PROVED): always
+	@host/prove-library sitec
 
-$(LIBRARY): library ;
+always: ;
 
-$(SITE): host/rsmp_site/lib.rs host/rsmp_site/ffi.rs host/rsmp_site/refusal.rs $(LIBRARY) build/tools/ready
+# The proved archive, and what ties it to the header's version.
+$(LIBRARY): $(PROVED) host/include/version.S VERSION build/tools/ready
 	mkdir -p $(OUT)
-	$(RUSTC) --crate-type rlib --crate-name rsmp_site -L $(dir $(LIBRARY)) -o $@ $<
+	build/tools/cc -c '-DVERSION="$(RSMP_VERSION)"' -DVERSIONED_START=rsmp_start_$(RSMP_SYMBOL) -o $(OUT)/version.o host/include/version.S
+	cp $(PROVED) $@
+	build/tools/ar rs $@ $(OUT)/version.o
+
+$(SITE): $(wildcard host/rsmp_site/*.rs) $(LIBRARY) VERSION build/tools/ready
+	mkdir -p $(OUT)
+	$(RUSTC) --crate-type rlib --crate-name rsmp_site --cfg 'feature="std"' -L $(dir $(LIBRARY)) -o $@ host/rsmp_site/lib.rs
 
 $(OUT)/site-tests: host/rsmp_site/tests.rs $(SITE) examples/barrier.bits
 	$(RUSTC) --test --crate-name site_tests --extern rsmp_site=$(SITE) -o $@ $<
@@ -45,7 +73,7 @@ $(OUT)/rsmp-site: host/site/main.rs $(wildcard host/site/*.rs) $(SITE) $(TABLE)
 $(OUT)/frame-tests: host/site/main.rs $(wildcard host/site/*.rs) $(SITE) $(TABLE)
 	$(RUSTC) --test --crate-name frame_tests --extern rsmp_site=$(SITE) --extern rsmp_table=$(TABLE) -o $@ $<
 
-$(OUT)/rsmp-table: host/table/main.rs $(TABLE)
+$(OUT)/rsmp-table: host/table/main.rs $(TABLE) VERSION
 	$(RUSTC) --crate-name rsmp_table_program --extern rsmp_table=$(TABLE) -o $@ $<
 
 build/rsmp_site.h: host/include/rsmp_site.h
@@ -54,3 +82,5 @@ build/rsmp_site.h: host/include/rsmp_site.h
 
 build/%: $(OUT)/%
 	build/tools/place $< $@
+
+include host/install.mk

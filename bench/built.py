@@ -7,7 +7,7 @@ import sys
 ROOT = pathlib.Path(__file__).resolve().parent.parent
 sys.path.insert(0, str(ROOT / "tests"))
 
-LIBRARY, TOOLS = ROOT / "target" / "staticlib" / "libsitec.a", ROOT / "build" / "tools"
+LIBRARY, TOOLS = ROOT / "build" / "librsmp_site.a", ROOT / "build" / "tools"
 FLAGS = ["-std=gnu11", "-Wall", "-Wextra", "-Werror", "-O2", "-I", ROOT / "build"]
 
 

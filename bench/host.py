@@ -8,7 +8,7 @@ import tempfile
 import time
 
 import built  # finds tests/
-from sockets import SITE, SXL, BARRIER, Process
+from process import SITE, SXL, BARRIER, Process
 from supervisors import Supervisor
 
 REQUESTS, AT_ONCE = 400, 8

@@ -1,5 +1,6 @@
 """How much processor time judging a packet takes, by its shape: an ordinary StatusSubscribe of four entries, and packets of 4,096 bytes that
-are meant to be bad for the reader. Prints the time of one judging, the time per byte, and its ratio to the ordinary packet's.
+are meant to be bad for the reader. Prints the time of one judging, the time per byte, and its ratio to the ordinary packet's, each out of so
+many judgings that starting the program is a small part of it.
 
   packets.py         runs the program `bench_json`, which `rt check bench_json` leaves in target/bin
 
@@ -14,8 +15,10 @@ sys.path.insert(0, str(pathlib.Path(__file__).resolve().parent.parent / "tests")
 
 import cases
 
-KIND, TIMES = "2", 100
+KIND, TIMES = "2", 100  # a case of this kind is judged so often
 SIZE = 4096
+ENOUGH = 0.2  # seconds, and this many times what the program takes for nothing: only such a measurement is used
+OVER_NOTHING = 20
 
 
 def ordinary():
@@ -84,18 +87,27 @@ def seconds(given):
     return best, done.stdout
 
 
+def judging(name, packet, nothing):
+    """The processor time of one judging, out of as many as the clock needs."""
+    cases_ = 1
+    while True:
+        taken, said = seconds(cases.case(KIND, packet) * cases_)
+        if said != b"%d\n" % TIMES * cases_:
+            sys.exit(f"{name}: the packet is not accepted")
+        if taken >= max(ENOUGH, OVER_NOTHING * nothing):
+            return (taken - nothing) / (TIMES * cases_), TIMES * cases_
+        cases_ *= 2
+
+
 def main():
     nothing, _ = seconds(b"")
     first = None
     for name, make in SHAPES:
         packet = make()
-        taken, said = seconds(cases.case(KIND, packet))
-        if said != b"%d\n" % TIMES:
-            sys.exit(f"{name}: the packet is not accepted")
-        each = (taken - nothing) / TIMES
+        each, times = judging(name, packet, nothing)
         byte = each / len(packet)
         first = first or byte
-        print(f"{name:30} {len(packet):5} bytes {each * 1e6:9.1f} us {byte * 1e9:8.1f} ns a byte, ratio {byte / first:6.2f}")
+        print(f"{name:30} {len(packet):5} bytes {each * 1e6:9.1f} us {byte * 1e9:8.1f} ns a byte, ratio {byte / first:6.2f}, of {times} judgings")
     return 0
 
 

@@ -5,7 +5,7 @@ import tempfile
 import time
 
 from model import message
-from sockets import NORTH, SITE, SXL, Process, subscription
+from process import NORTH, SITE, SXL, Process, subscription
 from supervisors import Supervisor
 
 RELEASE, TOO_LATE = 1, 2

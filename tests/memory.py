@@ -11,7 +11,7 @@ import tempfile
 from cases import ROOT
 from replays import SCRIPTS
 
-LIBRARY, TOOLS = ROOT / "target" / "staticlib" / "libsitec.a", ROOT / "build" / "tools"
+LIBRARY, TOOLS = ROOT / "build" / "librsmp_site.a", ROOT / "build" / "tools"
 FLAGS = ["-std=gnu11", "-Wall", "-Wextra", "-Werror", "-O2", "-ffreestanding", "-fno-tree-loop-distribute-patterns", "-nostdlib", "-static",
          "-I", ROOT / "build", "-idirafter", TOOLS / "root" / "usr" / "include"]
 NO_MEMCHECK = 77

@@ -31,6 +31,7 @@ class Supervisor:
                 stream, _ = self.listener.accept()
             except OSError:
                 return
+            stream.setsockopt(socket.IPPROTO_TCP, socket.TCP_NODELAY, 1)
             self.connections.append(bytearray())
             self.stream, self.up, self.acknowledged = stream, False, set()
             try:
@@ -97,6 +98,12 @@ class Supervisor:
         identity = self.send(kind, **more)
         self.wait(lambda: identity in self.acknowledged or identity in self.refused, f"an answer to a {kind}")
         return True if identity in self.acknowledged else self.refused[identity]
+
+    def flood(self, kind, count, **more):
+        """So many requests, eight at a time: more are not answered at once."""
+        for _ in range(0, count, 8):
+            asked = {self.send(kind, **more) for _ in range(8)}
+            self.wait(lambda: asked <= self.acknowledged, f"answers to {kind} in a flood")
 
     def wait(self, test, what, seconds=20):
         end = time.monotonic() + seconds

@@ -123,6 +123,35 @@ WRONG_BITS = (
 )
 
 
+def listed(made):
+    """The rows that `check` is to list: what, number, and the words behind them."""
+    ids = [id_.decode() for id_ in made.components]
+    rows = [("component", number, id_) for number, id_ in enumerate(ids)]
+    rows += [("alarm", number, ids[row[0]], row[3].decode(), f"category {CATEGORIES[row[2]]}, priority {row[1]}")
+             for number, row in enumerate(made.alarms)]
+    rows += [("status", number, ids[row[0]], row[1].decode(), row[2].decode()) for number, row in enumerate(made.statuses)]
+    return [[what, str(number), *" ".join(words).split()] for what, number, *words in rows]
+
+
+def judge_check(folder):
+    """Tables are listed, every fault of every file is told with its line, and one bad file does not hide another."""
+    made = table_of(EXAMPLE.read_text())
+    for name in (EXAMPLE, EXAMPLE.with_suffix(".bits")):
+        status, said, _ = run("check", name)
+        rows = [line.replace("(carries the aggregated status)", "").split() for line in said.decode().splitlines()]
+        hold(status == 0 and rows[0][0] == f"{name}:" and rows[1:] == listed(made), f"check {name}: {said.decode()}")
+    one, two, bits = folder / "one", folder / "two", folder / "bits"
+    one.write_text("site S\nsxl 1\ncomponent C\nalarm D A x 9\nstatus C S n\nalarm\n")
+    two.write_text("site S\nsxl 1\ncomponent C\nstatus E '' \"\"\n")
+    bits.write_bytes(SMALL[:-1])
+    status, said, faults = run("check", one, EXAMPLE, two, bits)
+    told = [line[:line.index(": ")] for line in faults.splitlines()]
+    hold(status == 1 and said.decode().startswith(f"{EXAMPLE}: site "), f"check of four: status {status}, {said.decode()}")
+    hold(told == [f"{one}:4"] * 3 + [f"{one}:6"] + [f"{two}:4"] * 2 + [f"{bits}"], f"check of four: {faults}")
+    status, said, faults = run("check", one, "no such file", EXAMPLE)
+    hold(status == 2 and said and f"{one}:6: " in faults and "no such file: " in faults, f"check with one that is not there: {faults}")
+
+
 def stored():
     bits = EXAMPLE.with_suffix(".bits").read_bytes()
     hold(run("pack", EXAMPLE)[:2] == (0, bits), "examples/barrier.bits is not what rsmp-table makes of the text")
@@ -137,6 +166,8 @@ def stored():
         hold(status == 1 and said.startswith(f"standard input: byte {byte}: ") and words in said, f"{given.hex()}: {said!r}, not {words!r}")
     hold(run("unpack", "no such file")[0] == 2 and run("pack", "a", "b", "c")[0] == 2 and run()[0] == 2, "status 2 is not given")
     hold(run("--help")[0] == 0, "--help")
+    with tempfile.TemporaryDirectory() as room:
+        judge_check(pathlib.Path(room))
     print(f"rsmp-table: the example, {len(WRONG_LINES)} wrong lines and {len(WRONG_BITS)} wrong bits are told as they should be")
 
 

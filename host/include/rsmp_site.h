@@ -14,10 +14,17 @@
 
 #include <stddef.h>
 #include <stdint.h>
+#include <string.h>
 
 #ifdef __cplusplus
 extern "C" {
 #endif
+
+/* The version of the library, of this header, of the Rust crate and of the programs. rsmp_start is called by a name that has the
+ * version in it, so that the linker refuses a library of another one ("undefined reference to rsmp_start_.."). */
+#define RSMP_VERSION "0.2.0"
+#define rsmp_start rsmp_start_0_2_0
+extern const char rsmp_library_version[];
 
 #define RSMP_SITE_BYTES 13912
 #define RSMP_LINKS 4                     /* links are numbered from 0 */
@@ -122,6 +129,52 @@ rsmp_version rsmp_version_of(rsmp_site site, uint32_t link);
 
 /* The 16 bytes of a record held for a link, the oldest being rank 0; found is 0 where there is none of that rank. */
 rsmp_reading rsmp_record(rsmp_site site, uint32_t link, uint64_t rank);
+
+/* Over a power loss: a site's bytes to store after a call, and back. After a restart disconnect every link that is not Down, at a time
+ * that is no earlier than that of the last call, and go on. See docs/EMBEDDING.md. */
+
+#define RSMP_STORED_EDITION 1u /* another layout of the site has another */
+#define RSMP_STORED_BYTES (16 + RSMP_SITE_BYTES + 8)
+
+/* FNV-1a of 64 bits. */
+static inline uint64_t rsmp_check_sum(const uint8_t *bytes, size_t length) {
+    uint64_t sum = 0xcbf29ce484222325u;
+    for (size_t i = 0; i < length; i++) sum = (sum ^ bytes[i]) * 0x100000001b3u;
+    return sum;
+}
+
+static inline void rsmp_put_number(uint8_t *bytes, uint64_t number, size_t length) {
+    for (size_t i = 0; i < length; i++) bytes[i] = (uint8_t)(number >> 8 * i);
+}
+
+/* Writes RSMP_STORED_BYTES bytes: a name, the edition, the length, the site, the check sum of all before. */
+static inline void rsmp_to_bytes(const rsmp_site *site, uint8_t *bytes) {
+    memcpy(bytes, "RSMPSITE", 8);
+    rsmp_put_number(bytes + 8, RSMP_STORED_EDITION, 4);
+    rsmp_put_number(bytes + 12, RSMP_SITE_BYTES, 4);
+    memcpy(bytes + 16, site, RSMP_SITE_BYTES);
+    rsmp_put_number(bytes + 16 + RSMP_SITE_BYTES, rsmp_check_sum(bytes, 16 + RSMP_SITE_BYTES), 8);
+}
+
+/* Reads them. RSMP_NOT_ACCEPTED, and *site as it was, where they are foreign, of another edition, damaged, or no site's: start a new
+ * one then. No byte of a site that holds a boolean may be anything but 0 or 1. */
+static inline uint32_t rsmp_from_bytes(const uint8_t *bytes, size_t length, rsmp_site *site) {
+    uint8_t wanted[16], sum[8];
+    uint32_t links;
+    if (length != RSMP_STORED_BYTES) return RSMP_NOT_ACCEPTED;
+    memcpy(wanted, "RSMPSITE", 8);
+    rsmp_put_number(wanted + 8, RSMP_STORED_EDITION, 4);
+    rsmp_put_number(wanted + 12, RSMP_SITE_BYTES, 4);
+    rsmp_put_number(sum, rsmp_check_sum(bytes, 16 + RSMP_SITE_BYTES), 8);
+    if (memcmp(bytes, wanted, 16) != 0 || memcmp(bytes + 16 + RSMP_SITE_BYTES, sum, 8) != 0) return RSMP_NOT_ACCEPTED;
+    for (size_t link = 0; link < RSMP_LINKS; link++)
+        for (size_t i = 0; i < 8; i++)
+            if (bytes[16 + 4128 + 544 * link + 536 + i] > 1) return RSMP_NOT_ACCEPTED;
+    links = bytes[16 + 9156] + 256u * bytes[16 + 9157];
+    if (links < 1 || links > RSMP_LINKS) return RSMP_NOT_ACCEPTED;
+    memcpy(site, bytes + 16, RSMP_SITE_BYTES);
+    return RSMP_DONE;
+}
 
 #ifndef __cplusplus
 _Static_assert(sizeof(rsmp_site) == RSMP_SITE_BYTES && RSMP_SITE_BYTES % 8 == 0, "the site's size");

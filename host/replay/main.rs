@@ -1,13 +1,23 @@
-//! Plays a script of calls from standard input on a site, one line each, and prints one line per call.
+//! Plays a script of calls on a site, one line each, and prints one line per call, or a picture of the whole.
 
 mod checked;
+mod day;
+mod moment;
+mod picture;
 mod script;
 
 use checked::{Player, Violation};
-use std::io::{self, BufRead, Write};
+use day::Day;
+use script::Line;
+use std::fs::File;
+use std::io::{self, BufRead, BufReader, Write};
 use std::process::ExitCode;
 
-const USAGE: &str = "rsmp-replay: plays a script of calls from standard input and prints one line per call.
+const USAGE: &str = "rsmp-replay: plays a script of calls on a site
+
+  rsmp-replay <SCRIPT                plays it and prints one line per call
+  rsmp-replay --picture [SCRIPT]     plays it and prints a picture of it (SVG): phases, records issued, sent, answered, held and lost
+  rsmp-replay --version | --help
 
 Lines, - standing for empty bytes or no primary:
 ";
@@ -33,16 +43,28 @@ impl From<io::Error> for End {
     }
 }
 
-fn play(input: impl BufRead, output: &mut impl Write) -> Result<(), End> {
+impl End {
+    fn told(self) -> ExitCode {
+        match self {
+            End::Violation => return ExitCode::from(1),
+            End::BadLine(number, message) => eprintln!("rsmp-replay: line {}: {}", number, message),
+            End::Broken(error) => eprintln!("rsmp-replay: {}", error),
+        }
+        ExitCode::from(2)
+    }
+}
+
+/// Plays each line, and hands on the line with its answer and the site after it.
+fn play(input: impl BufRead, mut each: impl FnMut(&Line, &str, &Player) -> io::Result<()>) -> Result<(), End> {
     let mut player = Player::new();
     for (place, line) in input.split(b'\n').enumerate() {
         let number = place + 1;
         let line = String::from_utf8(line?).map_err(|_| End::BadLine(number, "not UTF-8".to_string()))?;
         let line = script::read(&line).map_err(|message| End::BadLine(number, message))?;
-        match player.play(line).map_err(|message| End::BadLine(number, message))? {
-            Ok(answer) => writeln!(output, "{}", answer)?,
+        match player.play(&line).map_err(|message| End::BadLine(number, message))? {
+            Ok(answer) => each(&line, &answer, &player)?,
             Err(Violation(what)) => {
-                writeln!(output, "VIOLATION line {}: {}", number, what)?;
+                println!("VIOLATION line {}: {}", number, what);
                 return Err(End::Violation);
             }
         }
@@ -50,21 +72,41 @@ fn play(input: impl BufRead, output: &mut impl Write) -> Result<(), End> {
     Ok(())
 }
 
+fn answers(input: impl BufRead) -> Result<(), End> {
+    let mut output = io::stdout().lock();
+    play(input, |_, answer, _| writeln!(output, "{}", answer))
+}
+
+/// What could be played is drawn, also of a script that breaks off.
+fn picture(input: impl BufRead) -> Result<(), End> {
+    let mut day = Day::default();
+    let played = play(input, |line, answer, player| {
+        day.note(line, answer.starts_with("0 "), player);
+        Ok(())
+    });
+    if let Err(End::Violation) = played {
+        return played;
+    }
+    day.end();
+    io::stdout().write_all(picture::draw(&day).as_bytes())?;
+    played
+}
+
 fn main() -> ExitCode {
-    if std::env::args().len() > 1 {
-        print!("{}{}{}", USAGE, script::help(), ANSWERS);
-        return ExitCode::from(if std::env::args().nth(1).as_deref() == Some("--help") { 0 } else { 2 });
-    }
-    match play(io::stdin().lock(), &mut io::stdout().lock()) {
-        Ok(()) => ExitCode::SUCCESS,
-        Err(End::Violation) => ExitCode::from(1),
-        Err(End::BadLine(number, message)) => {
-            eprintln!("rsmp-replay: line {}: {}", number, message);
-            ExitCode::from(2)
+    let words: Vec<String> = std::env::args_os().skip(1).map(|word| word.to_string_lossy().into_owned()).collect();
+    let words: Vec<&str> = words.iter().map(String::as_str).collect();
+    let done = match words[..] {
+        [] => answers(io::stdin().lock()),
+        ["--picture"] => picture(io::stdin().lock()),
+        ["--picture", name] => File::open(name).map_err(End::Broken).and_then(|file| picture(BufReader::new(file))),
+        ["--version" | "-V"] => {
+            println!("rsmp-replay {}", env!("RSMP_VERSION"));
+            Ok(())
         }
-        Err(End::Broken(error)) => {
-            eprintln!("rsmp-replay: {}", error);
-            ExitCode::from(2)
+        _ => {
+            print!("{}{}{}", USAGE, script::help(), ANSWERS);
+            return ExitCode::from(if matches!(words[..], ["--help" | "-h"]) { 0 } else { 2 });
         }
-    }
+    };
+    done.map_or_else(End::told, |()| ExitCode::SUCCESS)
 }

@@ -7,6 +7,7 @@ pub const MOST_ROOM: usize = 1 << 24;
 
 pub enum Line {
     Start { table: Vec<u8>, links: u32, primary: u32, period: u32, first: u64, time: u64 },
+    Restore { bytes: Vec<u8> },
     Connect { link: u32, time: u64 },
     Disconnect { link: u32, time: u64 },
     Packet { link: u32, time: u64, random: [u8; 16], room: usize, packet: Vec<u8> },
@@ -19,8 +20,23 @@ pub enum Line {
     Readings,
 }
 
-const FORMS: [&str; 11] = [
+impl Line {
+    /// When the call is made; a stored site and readings have no time.
+    pub fn time(&self) -> Option<u64> {
+        match self {
+            Line::Start { time, .. } | Line::Connect { time, .. } | Line::Disconnect { time, .. } | Line::Packet { time, .. } => {
+                Some(*time)
+            }
+            Line::Alarm { time, .. } | Line::Status { time, .. } | Line::Aggregated { time, .. } | Line::Tick { time } => Some(*time),
+            Line::Pump { time, .. } => Some(*time),
+            Line::Restore { .. } | Line::Counts | Line::Readings => None,
+        }
+    }
+}
+
+const FORMS: [&str; 12] = [
     "start TABLEHEX LINKS PRIMARY|- PERIOD FIRST TIME",
+    "restore STOREDHEX",
     "connect LINK TIME",
     "disconnect LINK TIME",
     "packet LINK TIME RANDOMHEX ROOM PACKETHEX|-",
@@ -41,10 +57,7 @@ pub fn help() -> String {
 pub fn read(line: &str) -> Result<Line, String> {
     let words: Vec<&str> = line.split_ascii_whitespace().collect();
     let name = *words.first().ok_or("an empty line")?;
-    let form = FORMS
-        .iter()
-        .find(|form| form.split(' ').next() == Some(name))
-        .ok_or_else(|| format!("no such call: {}", shown(name)))?;
+    let form = FORMS.iter().find(|form| form.split(' ').next() == Some(name)).ok_or_else(|| format!("no such call: {}", shown(name)))?;
     let wanted: Vec<&str> = form.split(' ').collect();
     if words.len() != wanted.len() {
         return Err(format!("{} words where {} are wanted: {}", words.len(), wanted.len(), form));
@@ -59,6 +72,7 @@ pub fn read(line: &str) -> Result<Line, String> {
             first: words.number(5)?,
             time: words.number(6)?,
         },
+        "restore" => Line::Restore { bytes: words.hex(1)? },
         "connect" => Line::Connect { link: words.number(1)?, time: words.number(2)? },
         "disconnect" => Line::Disconnect { link: words.number(1)?, time: words.number(2)? },
         "packet" => Line::Packet {

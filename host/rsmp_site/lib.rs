@@ -3,11 +3,21 @@
 //! A call that is refused changes nothing. Links, alarms and statuses are numbered from 0; times are milliseconds since 1970 UTC and
 //! never go back from one call to the next. What the host brings is said in docs/EMBEDDING.md.
 
+#![no_std]
+
+#[cfg(feature = "std")]
+extern crate std;
+
 pub mod ffi;
 mod refusal;
+mod stored;
 
+use core::fmt;
 pub use refusal::Refusal;
+pub use stored::{check_sum, NotStored, STORED_BYTES, STORED_EDITION};
 
+/// The version of this crate, which is that of the library, of the header and of the programs.
+pub const VERSION: &str = env!("RSMP_VERSION");
 /// The least output to lend; no call writes more.
 pub const OUTPUT_BYTES: usize = 4096;
 /// The longest packet that is read.
@@ -89,25 +99,27 @@ impl Site {
             Some(ffi::NO_PRIMARY) => return Err(Refusal::NotAccepted),
             Some(link) => link,
         };
-        // The table is read, for its length; nothing is kept.
+        // SAFETY: the table is lent for its length, is only read, and nothing of it is kept.
         let step = unsafe { ffi::rsmp_start(table.as_ptr(), table.len(), start.links, primary, start.period, start.first, start.time) };
         let mut site = Site { state: step.site.clone(), links: start.links };
         site.keep(step).map(|_| site)
     }
 
     pub fn connect(&mut self, link: u32, time: u64) -> Called {
+        // SAFETY: everything goes by value, and every value is allowed.
         let step = unsafe { ffi::rsmp_connect(self.state.clone(), link, time) };
         self.keep(step)
     }
 
     pub fn disconnect(&mut self, link: u32, time: u64) -> Called {
+        // SAFETY: everything goes by value, and every value is allowed.
         let step = unsafe { ffi::rsmp_disconnect(self.state.clone(), link, time) };
         self.keep(step)
     }
 
     /// A packet that came, without form feeds; the answer is written to `output`.
     pub fn packet(&mut self, link: u32, time: u64, random: [u8; 16], packet: &[u8], output: &mut [u8]) -> Called {
-        // The output is lent for its length and cannot overlap the packet.
+        // SAFETY: both are lent for their lengths; the output is borrowed alone, so it cannot overlap the packet.
         let step = unsafe {
             let random = ffi::Id { bytes: random };
             ffi::rsmp_packet(self.state.clone(), link, time, random, packet.as_ptr(), packet.len(), output.as_mut_ptr(), output.len())
@@ -116,28 +128,33 @@ impl Site {
     }
 
     pub fn alarm(&mut self, number: u32, active: bool, time: u64) -> Called {
+        // SAFETY: everything goes by value, and every value is allowed.
         let step = unsafe { ffi::rsmp_alarm(self.state.clone(), number, u32::from(active), time) };
         self.keep(step)
     }
 
     pub fn status(&mut self, number: u32, value: i32, time: u64) -> Called {
+        // SAFETY: everything goes by value, and every value is allowed.
         let step = unsafe { ffi::rsmp_status(self.state.clone(), number, value, time) };
         self.keep(step)
     }
 
     /// The eight booleans, the first in the highest bit.
     pub fn aggregated(&mut self, value: u8, time: u64) -> Called {
+        // SAFETY: everything goes by value, and every value is allowed.
         let step = unsafe { ffi::rsmp_aggregated(self.state.clone(), value, time) };
         self.keep(step)
     }
 
     pub fn tick(&mut self, time: u64) -> Called {
+        // SAFETY: everything goes by value, and every value is allowed.
         let step = unsafe { ffi::rsmp_tick(self.state.clone(), time) };
         self.keep(step)
     }
 
     /// Writes the next message that is due on a link, one at most.
     pub fn pump(&mut self, link: u32, time: u64, random: [u8; 16], output: &mut [u8]) -> Called {
+        // SAFETY: the output is lent for its length, and nothing of it is kept.
         let step = unsafe {
             let random = ffi::Id { bytes: random };
             ffi::rsmp_pump(self.state.clone(), link, time, random, output.as_mut_ptr(), output.len())
@@ -161,15 +178,18 @@ impl Site {
 
     /// The records that wait for a link's answer.
     pub fn held(&self, link: u32) -> u64 {
+        // SAFETY: everything goes by value, and every value is allowed.
         self.reading(link, 0, || unsafe { ffi::rsmp_held(self.state.clone(), link) })
     }
 
     /// The records of a link that were pushed out of the pool, since start.
     pub fn lost(&self, link: u32) -> u64 {
+        // SAFETY: everything goes by value, and every value is allowed.
         self.reading(link, 0, || unsafe { ffi::rsmp_lost(self.state.clone(), link) })
     }
 
     pub fn phase(&self, link: u32) -> Phase {
+        // SAFETY: everything goes by value, and every value is allowed.
         match self.reading(link, 0, || unsafe { ffi::rsmp_phase(self.state.clone(), link) }) {
             1 => Phase::Greeting,
             2 => Phase::Beating,
@@ -181,6 +201,7 @@ impl Site {
     /// The chosen version, where the link's greeting has come so far.
     pub fn version(&self, link: u32) -> Option<(u32, u32, u32)> {
         let none = ffi::Version { major: 0, minor: 0, patch: 0 };
+        // SAFETY: everything goes by value, and every value is allowed.
         let found = self.reading(link, none, || unsafe { ffi::rsmp_version_of(self.state.clone(), link) });
         Some((found.major, found.minor, found.patch)).filter(|_| found != none)
     }
@@ -189,9 +210,14 @@ impl Site {
     pub fn records(&self, link: u32) -> impl Iterator<Item = [u8; 16]> + '_ {
         let ranks = 0..self.held(link);
         ranks.map_while(move |rank| {
+            // SAFETY: everything goes by value, and every value is allowed.
             let reading = unsafe { ffi::rsmp_record(self.state.clone(), link, rank) };
             Some(reading.bytes).filter(|_| reading.found != 0)
         })
+    }
+
+    fn seen(&self, link: u32) -> Seen {
+        Seen { phase: self.phase(link), version: self.version(link), held: self.held(link), lost: self.lost(link) }
     }
 
     fn reading<T>(&self, link: u32, otherwise: T, read: impl FnOnce() -> T) -> T {
@@ -200,5 +226,21 @@ impl Site {
         } else {
             otherwise
         }
+    }
+}
+
+/// What is shown of a link where a site is printed.
+#[derive(Debug)]
+#[allow(dead_code)] // its Debug reads it
+struct Seen {
+    phase: Phase,
+    version: Option<(u32, u32, u32)>,
+    held: u64,
+    lost: u64,
+}
+
+impl fmt::Debug for Site {
+    fn fmt(&self, formatter: &mut fmt::Formatter) -> fmt::Result {
+        formatter.debug_list().entries((0..self.links).map(|link| self.seen(link))).finish()
     }
 }

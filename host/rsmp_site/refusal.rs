@@ -1,4 +1,4 @@
-use std::fmt;
+use core::fmt;
 
 /// Why a call was refused: the numbers of rsmp_site.h but 0.
 #[derive(Clone, Copy, Debug, PartialEq, Eq)]
@@ -21,7 +21,18 @@ pub enum Refusal {
 use Refusal::*;
 
 const ALL: [Refusal; 13] = [
-    Ignored, NoLink, NoItem, ShortOutput, BadTime, WrongPhase, NothingDue, Full, SameIdentity, SequenceSpent, NotAccepted, LongPacket,
+    Ignored,
+    NoLink,
+    NoItem,
+    ShortOutput,
+    BadTime,
+    WrongPhase,
+    NothingDue,
+    Full,
+    SameIdentity,
+    SequenceSpent,
+    NotAccepted,
+    LongPacket,
     PoolFull,
 ];
 
@@ -60,4 +71,5 @@ impl fmt::Display for Refusal {
     }
 }
 
+#[cfg(feature = "std")]
 impl std::error::Error for Refusal {}

@@ -31,6 +31,16 @@ pub enum Category {
     Technical,
 }
 
+impl Category {
+    /// As a text and a message have it.
+    pub fn letter(self) -> char {
+        match self {
+            Category::Traffic => 'T',
+            Category::Technical => 'D',
+        }
+    }
+}
+
 #[derive(Clone, Debug, PartialEq, Eq)]
 pub struct Status {
     pub component: usize,

@@ -4,13 +4,8 @@
 use crate::{string_fault, twice, Alarm, Category, Status, Table, MOST_COMPONENTS, MOST_ROWS};
 use std::fmt::Write;
 
-pub const FORMS: [&str; 5] = [
-    "site SITEID",
-    "sxl VERSION",
-    "component ID",
-    "alarm COMPONENT CODE T|D PRIORITY",
-    "status COMPONENT CODE NAME",
-];
+pub const FORMS: [&str; 5] =
+    ["site SITEID", "sxl VERSION", "component ID", "alarm COMPONENT CODE T|D PRIORITY", "status COMPONENT CODE NAME"];
 
 /// What is wrong with a line, counted from 1.
 #[derive(Debug, PartialEq, Eq)]
@@ -32,8 +27,7 @@ pub fn write(table: &Table) -> String {
     }
     for (number, alarm) in table.alarms.iter().enumerate() {
         let id = word(&table.components[alarm.component]);
-        let category = if alarm.category == Category::Traffic { 'T' } else { 'D' };
-        line(format!("alarm {} {} {} {}", id, word(&alarm.code), category, alarm.priority), format!("alarm {}", number));
+        line(format!("alarm {} {} {} {}", id, word(&alarm.code), alarm.category.letter(), alarm.priority), format!("alarm {}", number));
     }
     for (number, status) in table.statuses.iter().enumerate() {
         let id = word(&table.components[status.component]);
@@ -43,20 +37,20 @@ pub fn write(table: &Table) -> String {
 }
 
 fn word(string: &str) -> String {
-    if string.contains(|c| c == ' ' || c == '#') {
+    if string.contains([' ', '#']) {
         format!("\"{}\"", string)
     } else {
         string.to_string()
     }
 }
 
-/// The table, or everything that is wrong, a line each.
+/// The table, or everything that is wrong with it, each fault with its line.
 pub fn read(text: &str) -> Result<Table, Vec<LineError>> {
     let mut reader = Reader::default();
     let mut faults = Vec::new();
     for (place, line) in text.lines().enumerate() {
-        if let Err(message) = words(line).and_then(|words| reader.take(&words)) {
-            faults.push(LineError { line: place + 1, message });
+        if let Err(messages) = words(line).map_err(one).and_then(|words| reader.take(&words)) {
+            faults.extend(messages.into_iter().map(|message| LineError { line: place + 1, message }));
         }
     }
     let last = text.lines().count().max(1);
@@ -74,6 +68,17 @@ pub fn read(text: &str) -> Result<Table, Vec<LineError>> {
         }
         _ => Err(faults),
     }
+}
+
+/// Everything that is wrong with a line.
+type Faults = Vec<String>;
+
+fn one(fault: String) -> Faults {
+    vec![fault]
+}
+
+fn all<const COUNT: usize>(faults: [Option<String>; COUNT]) -> Faults {
+    faults.into_iter().flatten().collect()
 }
 
 /// The words of a line without its comment.
@@ -109,21 +114,22 @@ struct Reader {
 }
 
 impl Reader {
-    fn take(&mut self, words: &[String]) -> Result<(), String> {
+    fn take(&mut self, words: &[String]) -> Result<(), Faults> {
         let name = match words.first() {
             Some(name) => name.as_str(),
             None => return Ok(()),
         };
-        let known = || format!("a line begins with site, sxl, component, alarm or status, not '{}'", name.escape_default());
+        let known = || one(format!("a line begins with site, sxl, component, alarm or status, not '{}'", name.escape_default()));
         let form = *FORMS.iter().find(|form| form.split(' ').next() == Some(name)).ok_or_else(known)?;
         let wanted = form.split(' ').count();
         if words.len() != wanted {
-            return Err(format!("{} words where {} are wanted: {} (a string with spaces stands in quotes)", words.len(), wanted, form));
+            let words = words.len();
+            return Err(one(format!("{} words where {} are wanted: {} (a string with spaces stands in quotes)", words, wanted, form)));
         }
         match name {
-            "site" => once(&mut self.site, string("the site id", &words[1])?, name),
-            "sxl" => once(&mut self.sxl, string("the SXL version", &words[1])?, name),
-            "component" => self.component(string("a component id", &words[1])?),
+            "site" => string("the site id", &words[1]).and_then(|id| once(&mut self.site, id, name)).map_err(one),
+            "sxl" => string("the SXL version", &words[1]).and_then(|version| once(&mut self.sxl, version, name)).map_err(one),
+            "component" => string("a component id", &words[1]).and_then(|id| self.component(id)).map_err(one),
             "alarm" => self.alarm(words),
             _ => self.status(words),
         }
@@ -138,34 +144,38 @@ impl Reader {
         Ok(())
     }
 
-    fn alarm(&mut self, words: &[String]) -> Result<(), String> {
-        let component = self.number_of(&words[1])?;
-        let code = string("an alarm code", &words[2])?;
-        let category = match words[3].as_str() {
-            "T" => Category::Traffic,
-            "D" => Category::Technical,
-            other => return Err(format!("the category is '{}', wanted T (traffic) or D (technical)", other.escape_default())),
-        };
-        let priority = match words[4].as_str() {
-            "1" => 1,
-            "2" => 2,
-            "3" => 3,
-            other => return Err(format!("the priority is '{}', wanted 1, 2 or 3", other.escape_default())),
-        };
+    fn alarm(&mut self, words: &[String]) -> Result<(), Faults> {
+        let component = self.number_of(&words[1]);
+        let code = string("an alarm code", &words[2]);
+        match (component, code, category(&words[3]), priority(&words[4])) {
+            (Ok(component), Ok(code), Ok(category), Ok(priority)) => {
+                self.add_alarm(Alarm { component, code, category, priority }, &words[1]).map_err(one)
+            }
+            (component, code, category, priority) => Err(all([component.err(), code.err(), category.err(), priority.err()])),
+        }
+    }
+
+    fn add_alarm(&mut self, alarm: Alarm, id: &str) -> Result<(), String> {
         let keys: Vec<_> = self.alarms.iter().map(|alarm| (alarm.component, alarm.code.clone())).collect();
-        if let Some(number) = twice(&keys, &(component, code.clone())) {
-            return Err(format!("component '{}' has the code '{}' already, alarm {}", words[1], code, number));
+        if let Some(number) = twice(&keys, &(alarm.component, alarm.code.clone())) {
+            return Err(format!("component '{}' has the code '{}' already, alarm {}", id, alarm.code, number));
         }
         room(&self.alarms, MOST_ROWS, "alarms")?;
-        self.alarms.push(Alarm { component, code, category, priority });
+        self.alarms.push(alarm);
         Ok(())
     }
 
-    fn status(&mut self, words: &[String]) -> Result<(), String> {
-        let component = self.number_of(&words[1])?;
-        let status = Status { component, code: string("a status code", &words[2])?, name: string("a status name", &words[3])? };
+    fn status(&mut self, words: &[String]) -> Result<(), Faults> {
+        let component = self.number_of(&words[1]);
+        match (component, string("a status code", &words[2]), string("a status name", &words[3])) {
+            (Ok(component), Ok(code), Ok(name)) => self.add_status(Status { component, code, name }, &words[1]).map_err(one),
+            (component, code, name) => Err(all([component.err(), code.err(), name.err()])),
+        }
+    }
+
+    fn add_status(&mut self, status: Status, id: &str) -> Result<(), String> {
         if let Some(number) = twice(&self.statuses, &status) {
-            return Err(format!("component '{}' has this code and name already, status {}", words[1], number));
+            return Err(format!("component '{}' has this code and name already, status {}", id, number));
         }
         room(&self.statuses, MOST_ROWS, "statuses")?;
         self.statuses.push(status);
@@ -175,6 +185,23 @@ impl Reader {
     fn number_of(&self, id: &str) -> Result<usize, String> {
         let unknown = || format!("no line above names the component '{}'", id.escape_default());
         self.components.iter().position(|component| component == id).ok_or_else(unknown)
+    }
+}
+
+fn category(word: &str) -> Result<Category, String> {
+    match word {
+        "T" => Ok(Category::Traffic),
+        "D" => Ok(Category::Technical),
+        other => Err(format!("the category is '{}', wanted T (traffic) or D (technical)", other.escape_default())),
+    }
+}
+
+fn priority(word: &str) -> Result<u8, String> {
+    match word {
+        "1" => Ok(1),
+        "2" => Ok(2),
+        "3" => Ok(3),
+        other => Err(format!("the priority is '{}', wanted 1, 2 or 3", other.escape_default())),
     }
 }
 

@@ -1,42 +1,120 @@
-//! The readable log.
+//! The readable log: a line each, with date and UTC.
 
+use crate::outlet::Outlet;
+use crate::readable::{clean, detail, kind};
 use std::fmt::Display;
+use std::str::FromStr;
 
-const DAY: u64 = 86_400_000;
+#[derive(Clone, Copy, Debug, PartialEq, Eq, PartialOrd, Ord)]
+pub enum Level {
+    Error,
+    Warning,
+    /// What happens to connections.
+    Info,
+    /// Also a line for each message.
+    Message,
+    /// Also each message's own text.
+    Debug,
+}
+
+const LEVELS: [(&str, Level); 5] =
+    [("error", Level::Error), ("warning", Level::Warning), ("info", Level::Info), ("message", Level::Message), ("debug", Level::Debug)];
+
+impl FromStr for Level {
+    type Err = ();
+
+    fn from_str(word: &str) -> Result<Level, ()> {
+        let found = LEVELS.iter().find(|(name, _)| *name == word);
+        found.map(|(_, level)| *level).ok_or(())
+    }
+}
+
+impl Level {
+    fn name(self) -> &'static str {
+        LEVELS[self as usize].0
+    }
+}
 
 pub struct Journal {
-    pub quiet: bool,
+    pub level: Level,
+    pub outlet: Outlet,
 }
 
 impl Journal {
-    pub fn say(&self, time: u64, link: Option<u32>, text: impl Display) {
-        match link {
-            Some(link) => println!("{} link {}   {}", clock(time), link, text),
-            None => println!("{} site     {}", clock(time), text),
+    pub fn says(&self, level: Level) -> bool {
+        level <= self.level
+    }
+
+    pub fn say(&self, time: u64, level: Level, link: Option<u32>, text: impl Display) {
+        if !self.says(level) {
+            return;
         }
+        let whose = link.map_or("site  ".to_string(), |link| format!("link {}", link));
+        let text = clean(&text.to_string());
+        let line = format!("{} {:<7} {}  {}", moment(time), level.name(), whose, text);
+        self.outlet.line(&line);
     }
 
     /// A message; `mark` is > for sent, < for received, ! for received and not answered.
     pub fn message(&self, time: u64, link: u32, mark: char, message: &[u8]) {
-        if !self.quiet {
-            println!("{} link {} {} {:<18} {}", clock(time), link, mark, kind(message), printable(message));
+        if !self.says(Level::Message) {
+            return;
+        }
+        let text = String::from_utf8_lossy(message);
+        let line = format!("{} {:<18} {}", mark, kind(&text), detail(&text));
+        self.say(time, Level::Message, Some(link), line.trim_end());
+        if self.says(Level::Debug) {
+            self.say(time, Level::Debug, Some(link), format!("{} {}", mark, text));
         }
     }
 }
 
-fn clock(time: u64) -> String {
+const DAY: u64 = 86_400_000;
+
+/// A time as people read it, in UTC.
+pub fn moment(time: u64) -> String {
+    let (year, month, date) = civil(time / DAY);
     let day = time % DAY;
-    format!("{:02}:{:02}:{:02}.{:03}", day / 3_600_000, day / 60_000 % 60, day / 1000 % 60, day % 1000)
+    format!(
+        "{:04}-{:02}-{:02} {:02}:{:02}:{:02}.{:03}Z",
+        year,
+        month,
+        date,
+        day / 3_600_000,
+        day / 60_000 % 60,
+        day / 1000 % 60,
+        day % 1000
+    )
 }
 
-/// The message's type, for the eye only.
-fn kind(message: &[u8]) -> String {
-    const NAME: &str = "\"type\":\"";
-    let text = String::from_utf8_lossy(message).replace(": ", ":");
-    let kind = text.find(NAME).map(|at| text[at + NAME.len()..].chars().take_while(|c| *c != '"').take(30).collect::<String>());
-    kind.unwrap_or_else(|| "?".to_string())
+/// Year, month and day of so many days after 1970-01-01: counted in years that begin with March, so that leap days come last.
+fn civil(days: u64) -> (u64, u64, u64) {
+    let days = days + 719_468;
+    let (era, day) = (days / 146_097, days % 146_097);
+    let year = (day - day / 1460 + day / 36_524 - day / 146_096) / 365;
+    let of_year = day - (365 * year + year / 4 - year / 100);
+    let month = (5 * of_year + 2) / 153;
+    let date = of_year - (153 * month + 2) / 5 + 1;
+    let month = if month < 10 { month + 3 } else { month - 9 };
+    (year + era * 400 + u64::from(month <= 2), month, date)
 }
 
-fn printable(message: &[u8]) -> String {
-    String::from_utf8_lossy(message).chars().map(|c| if c.is_control() { ' ' } else { c }).collect()
+#[cfg(test)]
+mod tests {
+    use super::*;
+
+    #[test]
+    fn moments() {
+        assert_eq!(moment(0), "1970-01-01 00:00:00.000Z");
+        assert_eq!(moment(1_254_398_371_571), "2009-10-01 11:59:31.571Z");
+        assert_eq!(moment(951_782_400_000), "2000-02-29 00:00:00.000Z");
+        assert_eq!(moment(rsmp_site::LAST_TIME), "9999-12-31 23:59:59.999Z");
+    }
+
+    #[test]
+    fn levels() {
+        assert_eq!("info".parse(), Ok(Level::Info));
+        assert_eq!("loud".parse::<Level>(), Err(()));
+        assert!(LEVELS.iter().all(|(name, level)| level.name() == *name));
+    }
 }

@@ -1,29 +1,52 @@
-//! The command line.
+//! The command line, and the same words in a file.
 
+use crate::journal::Level;
+use crate::readable::clean;
+use std::ffi::OsString;
+use std::fs;
 use std::time::Duration;
 
 pub const HELP: &str = "rsmp-site: the site end of RSMP 3.2 for a road-barrier detector
 
   rsmp-site --table FILE --supervisor HOST:PORT [--supervisor HOST:PORT ..] [options]
 
-  --table FILE            the site table, as text or bits (see rsmp-table --help)
-  --supervisor HOST:PORT  one to four; the first is link 0
-  --primary LINK|none     which link gets the alarms (default 0)
-  --period SECONDS        between our Watchdog messages, 1 to 3600 (default 60)
-  --reconnect SECONDS     before a connection that is gone or failed is tried again (default 10; 0.5 is half a second)
-  --first NUMBER          the first sequence number of a record (default 0)
-  --control PATH          take orders on a Unix socket; without it, on standard input
-  --record FILE           write every call as a script that rsmp-replay plays
-  --quiet                 log what happens to connections, not every message
-  --help                  this text
+  --table FILE               the site table, as text or bits (see rsmp-table --help)
+  --supervisor HOST:PORT     one to four; the first is link 0
+  --primary LINK|none        which link gets the alarms (default 0)
+  --period SECONDS           between our Watchdog messages, 1 to 3600 (default 60)
+  --first NUMBER             the first sequence number of a record (default 0)
+
+  --reconnect SECONDS        before a connection that is gone or failed is tried again (default 2; 0.5 is half a second); twice as
+                             long each time that it does not come to Up, a tenth more or less
+  --reconnect-limit SECONDS  and no longer than this (default 60)
+  --greeting-limit SECONDS   a connection that is not Up by then is closed (default 60)
+
+  --state FILE               keep the site in this file over a restart or a power loss
+  --state-interval SECONDS   write it so often at most (default 10); 0: before anything that depends on it is sent
+  --control PATH             take orders on a Unix socket; without it, on standard input
+  --record FILE              append every call as a script that rsmp-replay plays
+  --record-size BYTES        put it aside as FILE.1 when it is so long (default 64M; K, M and G are known; 0: never)
+  --log FILE                 append the log to a file; without it, it goes to standard output
+  --log-level LEVEL          error, warning, info (what happens to connections), message (a line for each; the default), debug
+  --quiet                    the same as --log-level info
+
+  --config FILE              options from a file, a line each: the same words without --, then the value; # begins a comment
+  --version                  say which version this is
+  -h, --help                 this text
+  --clock FILE, --random FILE   for tests: the clock is a file with two numbers, the milliseconds since 1970 of the system's clock
+                             at our start and how many milliseconds longer than it seems we run; random bytes are read from a file
+
+A value may also stand behind =, as in --period=60. SIGHUP has the log and the record opened again, SIGTERM and SIGINT say goodbye and
+end. Status 0: ended as told; 1: it cannot start; 2: wrong words.
 
 Orders, a line each:
-  alarm NUMBER on|off     the input of an alarm, numbered from 0 as the table lists them
-  status NUMBER VALUE     the value of a status, numbered in the same way
-  aggregated 0..255       the eight booleans of the aggregated status, the first being 128
-  counts                  the records held and lost of each link
-  links                   the state of each link
-  quit                    say goodbye and end; SIGTERM and SIGINT do the same
+  alarm NUMBER on|off        the input of an alarm, numbered from 0 as the table lists them
+  status NUMBER VALUE        the value of a status, numbered in the same way
+  aggregated 0..255          the eight booleans of the aggregated status, the first being 128
+  counts                     the records held and lost of each link
+  links                      the state of each link
+  save                       write the state now
+  quit                       say goodbye and end
 
 The log shows every message: > is sent, < is received, ! says that it was not answered.
 ";
@@ -33,67 +56,272 @@ pub struct Options {
     pub supervisors: Vec<String>,
     pub primary: Option<u32>,
     pub period: u32,
-    pub reconnect: Duration,
     pub first: u64,
+    pub reconnect: Duration,
+    pub reconnect_limit: Duration,
+    pub greeting_limit: Duration,
+    pub state: Option<String>,
+    pub state_interval: Duration,
     pub control: Option<String>,
     pub record: Option<String>,
-    pub quiet: bool,
+    pub record_size: u64,
+    pub log: Option<String>,
+    pub level: Level,
+    pub clock: Option<String>,
+    pub random: String,
 }
 
-/// The options, or what is wrong with them; None where help is asked for.
-pub fn read(words: impl Iterator<Item = String>) -> Result<Option<Options>, String> {
-    let mut words = words;
-    let mut table = None;
+pub enum Wanted {
+    Help,
+    Version,
+    Run(Options),
+}
+
+/// What is wanted, or what is wrong.
+pub fn read(words: impl Iterator<Item = OsString>) -> Result<Wanted, String> {
     let mut options = Options {
         table: String::new(),
         supervisors: Vec::new(),
         primary: Some(0),
         period: 60,
-        reconnect: Duration::from_secs(10),
         first: 0,
+        reconnect: Duration::from_secs(2),
+        reconnect_limit: Duration::from_secs(60),
+        greeting_limit: Duration::from_secs(60),
+        state: None,
+        state_interval: Duration::from_secs(10),
         control: None,
         record: None,
-        quiet: false,
+        record_size: 64 << 20,
+        log: None,
+        level: Level::Message,
+        clock: None,
+        random: "/dev/urandom".to_string(),
     };
-    while let Some(name) = words.next() {
-        if name == "--help" {
-            return Ok(None);
-        }
-        if name == "--quiet" {
-            options.quiet = true;
-            continue;
-        }
-        let value = words.next();
-        let value = || value.clone().ok_or_else(|| format!("{} needs a value", name));
-        let bad = |wanted: &str| format!("{}: wanted {}", name, wanted);
-        match name.as_str() {
-            "--table" => table = Some(value()?),
-            "--supervisor" => options.supervisors.push(value()?),
-            "--primary" => {
-                let given = value()?;
-                options.primary = if given == "none" { None } else { Some(given.parse().map_err(|_| bad("a link's number or none"))?) };
+    let mut words = words.map(as_text);
+    while let Some(word) = words.next() {
+        let word = word?;
+        match word.as_str() {
+            "-h" | "--help" => return Ok(Wanted::Help),
+            "--version" => return Ok(Wanted::Version),
+            "--quiet" => options.level = Level::Info,
+            _ => {
+                let (name, value) = match word.split_once('=') {
+                    Some((name, value)) => (name, Some(value.to_string())),
+                    None => (word.as_str(), words.next().transpose()?),
+                };
+                let plain = name.strip_prefix("--").ok_or_else(|| no_such(name))?;
+                if plain == "config" {
+                    let file = value.ok_or("--config needs a value")?;
+                    options.read_file(&file)?;
+                } else {
+                    options.set(plain, value).map_err(|why| format!("--{}", why))?;
+                }
             }
-            "--period" => {
-                let seconds = value()?.parse().ok().filter(|seconds| (1..=3600).contains(seconds));
-                options.period = seconds.ok_or_else(|| bad("1 to 3600 seconds"))?;
-            }
-            "--reconnect" => {
-                let seconds: Option<f64> = value()?.parse().ok().filter(|seconds| (0.01..=86400.0).contains(seconds));
-                options.reconnect = Duration::from_secs_f64(seconds.ok_or_else(|| bad("0.01 to 86400 seconds"))?);
-            }
-            "--first" => options.first = u64::from(value()?.parse::<u32>().map_err(|_| bad("0 to 4294967295"))?),
-            "--control" => options.control = Some(value()?),
-            "--record" => options.record = Some(value()?),
-            _ => return Err(format!("no such option: {}", name)),
         }
     }
-    options.table = table.ok_or("--table is missing")?;
-    let links = options.supervisors.len();
-    if !(1..=4).contains(&links) {
-        return Err(format!("{} supervisors, 1 to 4 are allowed", links));
+    options.judged().map(Wanted::Run)
+}
+
+fn as_text(word: OsString) -> Result<String, String> {
+    word.into_string().map_err(|word| {
+        let shown = clean(&word.to_string_lossy());
+        format!("a word is not UTF-8: '{}'", shown)
+    })
+}
+
+fn no_such(name: &str) -> String {
+    format!("no such option: {}", clean(name))
+}
+
+impl Options {
+    fn read_file(&mut self, file: &str) -> Result<(), String> {
+        let bytes = fs::read(file).map_err(|error| format!("{}: {}", file, error))?;
+        let text = String::from_utf8(bytes).map_err(|_| format!("{}: is not UTF-8", file))?;
+        for (number, line) in text.lines().enumerate() {
+            self.read_line(line).map_err(|why| format!("{}:{}: {}", file, number + 1, why))?;
+        }
+        Ok(())
     }
-    if options.primary.map_or(false, |primary| primary as usize >= links) {
-        return Err(format!("--primary: the links are numbered 0 to {}", links - 1));
+
+    /// A line of the file: a name, then its value up to the end or to a # behind a space.
+    fn read_line(&mut self, line: &str) -> Result<(), String> {
+        let comment = match line.trim_start().starts_with('#') {
+            true => Some(0),
+            false => line.find(" #").or_else(|| line.find("\t#")),
+        };
+        let line = line[..comment.unwrap_or(line.len())].trim();
+        if line.is_empty() {
+            return Ok(());
+        }
+        let (name, value) = match line.split_once(char::is_whitespace) {
+            Some((name, value)) => (name, Some(value.trim().to_string())),
+            None => (line, None),
+        };
+        match (name, &value) {
+            ("quiet", None) => self.level = Level::Info,
+            ("config" | "quiet" | "version" | "help", _) => return Err(no_such(line)),
+            _ => self.set(name, value)?,
+        }
+        Ok(())
     }
-    Ok(Some(options))
+
+    /// The error begins with the name.
+    fn set(&mut self, name: &str, value: Option<String>) -> Result<(), String> {
+        let known = [
+            "table",
+            "supervisor",
+            "primary",
+            "period",
+            "first",
+            "reconnect",
+            "reconnect-limit",
+            "greeting-limit",
+            "state",
+            "state-interval",
+            "control",
+            "record",
+            "record-size",
+            "log",
+            "log-level",
+            "clock",
+            "random",
+        ];
+        if !known.contains(&name) {
+            return Err(format!("{}: no such option", clean(name)));
+        }
+        let value = value.ok_or_else(|| format!("{} needs a value", name))?;
+        let bad = |wanted: &str| format!("{}: wanted {}, not '{}'", name, wanted, clean(&value));
+        let seconds = |least: f64| -> Result<Duration, String> {
+            let seconds: Option<f64> = value.parse().ok();
+            let seconds = seconds.filter(|seconds| (least..=86400.0).contains(seconds));
+            let seconds = seconds.ok_or_else(|| bad(&format!("{} to 86400 seconds", least)))?;
+            Ok(Duration::from_secs_f64(seconds))
+        };
+        match name {
+            "table" => self.table = value,
+            "supervisor" => {
+                judge_address(&value).map_err(|why| format!("{}: {}", name, why))?;
+                self.supervisors.push(value);
+            }
+            "primary" if value == "none" => self.primary = None,
+            "primary" => {
+                let link = value.parse().map_err(|_| bad("a link's number or none"))?;
+                self.primary = Some(link);
+            }
+            "period" => {
+                let seconds = value.parse().ok().filter(|seconds| (1..=3600).contains(seconds));
+                self.period = seconds.ok_or_else(|| bad("1 to 3600 seconds"))?;
+            }
+            "first" => {
+                let first: u32 = value.parse().map_err(|_| bad("0 to 4294967295"))?;
+                self.first = u64::from(first);
+            }
+            "reconnect" => self.reconnect = seconds(0.01)?,
+            "reconnect-limit" => self.reconnect_limit = seconds(0.01)?,
+            "greeting-limit" => self.greeting_limit = seconds(0.1)?,
+            "state" => self.state = Some(value),
+            "state-interval" => self.state_interval = seconds(0.0)?,
+            "control" => self.control = Some(value),
+            "record" => self.record = Some(value),
+            "record-size" => {
+                self.record_size = size(&value).ok_or_else(|| bad("a number of bytes, as 500K or 64M"))?;
+            }
+            "log" => self.log = Some(value),
+            "log-level" => {
+                let level = value.parse().map_err(|_| bad("error, warning, info, message or debug"))?;
+                self.level = level;
+            }
+            "clock" => self.clock = Some(value),
+            _ => self.random = value,
+        }
+        Ok(())
+    }
+
+    fn judged(self) -> Result<Options, String> {
+        if self.table.is_empty() {
+            return Err("--table is missing".to_string());
+        }
+        let links = self.supervisors.len();
+        if !(1..=4).contains(&links) {
+            return Err(format!("{} supervisors, 1 to 4 are allowed", links));
+        }
+        if self.primary.map_or(false, |primary| primary as usize >= links) {
+            return Err(format!("--primary: the links are numbered 0 to {}", links - 1));
+        }
+        Ok(self)
+    }
+}
+
+/// HOST:PORT, an address of IPv6 in brackets.
+fn judge_address(address: &str) -> Result<(), String> {
+    let shown = clean(address);
+    let (host, port) = address.rsplit_once(':').ok_or_else(|| format!("'{}' has no port: wanted HOST:PORT", shown))?;
+    let bracketed = host.starts_with('[') && host.ends_with(']') && host.len() > 2;
+    if host.is_empty() || (host.contains(':') && !bracketed) {
+        return Err(format!("'{}' has no host: wanted HOST:PORT or [IPV6]:PORT", shown));
+    }
+    match port.parse::<u16>() {
+        Ok(port) if port > 0 => Ok(()),
+        _ => Err(format!("'{}' has no port from 1 to 65535", shown)),
+    }
+}
+
+fn size(text: &str) -> Option<u64> {
+    let (digits, unit) = match text.chars().last()? {
+        'K' => (&text[..text.len() - 1], 1 << 10),
+        'M' => (&text[..text.len() - 1], 1 << 20),
+        'G' => (&text[..text.len() - 1], 1 << 30),
+        _ => (text, 1),
+    };
+    digits.parse::<u64>().ok()?.checked_mul(unit)
+}
+
+#[cfg(test)]
+mod tests {
+    use super::*;
+
+    fn of(words: &[&str]) -> Result<Options, String> {
+        match read(words.iter().map(OsString::from))? {
+            Wanted::Run(options) => Ok(options),
+            _ => Err("no run".to_string()),
+        }
+    }
+
+    #[test]
+    fn words() {
+        let options = of(&["--table=t", "--supervisor", "a:1", "--supervisor=[::1]:65535", "--period=9", "--quiet"]).unwrap();
+        assert_eq!(options.supervisors, ["a:1", "[::1]:65535"]);
+        assert_eq!((options.period, options.level, options.primary), (9, Level::Info, Some(0)));
+        for (given, wanted) in [
+            ("a", "no port"),
+            ("a:", "no port"),
+            ("a:0", "1 to 65535"),
+            ("a:99999", "1 to 65535"),
+            (":1", "no host"),
+            ("::1:80", "no host"),
+        ] {
+            let said = of(&["--table", "t", "--supervisor", given]).err().unwrap();
+            assert!(said.contains(wanted) && said.starts_with("--supervisor"), "{}", said);
+        }
+    }
+
+    #[test]
+    fn lines() {
+        let mut options = of(&["--table=t", "--supervisor=a:1"]).unwrap();
+        for line in ["", "# nothing", "supervisor  b:2  # the workshop", "quiet", "table a file#1.txt"] {
+            options.read_line(line).unwrap();
+        }
+        assert_eq!((options.supervisors.len(), options.table.as_str()), (2, "a file#1.txt"));
+        for line in ["period", "period x", "config again", "quiet yes", "nonsense 1"] {
+            assert!(options.read_line(line).is_err(), "{}", line);
+        }
+    }
+
+    #[test]
+    fn sizes() {
+        let each = ["0", "7", "2K", "3M", "1G"].map(|text| size(text).unwrap());
+        assert_eq!(each, [0, 7, 2048, 3 << 20, 1 << 30]);
+        assert!(size("").is_none() && size("M").is_none() && size("99999999999G").is_none());
+    }
 }

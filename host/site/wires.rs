@@ -1,18 +1,27 @@
 //! The connections: for each supervisor a thread that connects, reads and connects again, and for each connection one that writes.
 
+use crate::control::Asked;
 use crate::framing::{Frame, Framer};
+use crate::pauses::Pauses;
+use crate::system::end_when_dead;
 use std::io::{self, Read, Write};
 use std::net::{Shutdown, TcpStream, ToSocketAddrs};
-use std::sync::atomic::{AtomicUsize, Ordering};
-use std::sync::mpsc::{channel, Sender, SyncSender};
-use std::sync::Arc;
+use std::sync::atomic::{AtomicBool, AtomicUsize, Ordering};
+use std::sync::mpsc::{channel, Receiver, Sender, SyncSender};
+use std::sync::{Arc, Mutex};
 use std::thread;
-use std::time::Duration;
+use std::time::{Duration, Instant};
 
 const CONNECT_WAIT: Duration = Duration::from_secs(5);
 const WRITE_WAIT: Duration = Duration::from_secs(10);
+const SILENCE: Duration = Duration::from_secs(30);
+const NOT_TAKEN: Duration = Duration::from_secs(60);
+/// A closing connection gets so long for what still waits.
+const CLOSING: Duration = Duration::from_secs(10);
 /// A supervisor that does not read what it is sent is cut off when so many bytes wait for it.
 const MOST_WAITING: usize = 1 << 20;
+const CLOSED: &str = "the supervisor closed it";
+pub const NOT_READ: &str = "the supervisor does not read what it is sent";
 
 pub enum Event {
     Connected(u32, Wire),
@@ -20,43 +29,98 @@ pub enum Event {
     Frame(u32, Frame),
     /// The connection is gone, with so many bytes behind the last form feed.
     Gone(u32, String, u64),
-    Control(String, Sender<String>),
+    Control(Asked),
+    /// What a thread cannot do, for the log.
+    Trouble(String),
+}
+
+/// What the threads of a connection tell each other.
+#[derive(Default)]
+struct Shared {
+    waiting: AtomicUsize,
+    was_up: AtomicBool,
+    /// Why writing ended, where it failed.
+    not_written: Mutex<Option<String>>,
+}
+
+impl Shared {
+    fn why_not_written(&self) -> Option<String> {
+        self.not_written.lock().ok()?.clone()
+    }
 }
 
 /// The sending end of a connection.
 pub struct Wire {
     queue: Sender<Vec<u8>>,
-    waiting: Arc<AtomicUsize>,
+    shared: Arc<Shared>,
     stream: TcpStream,
     writer: thread::JoinHandle<()>,
+}
+
+/// A connection that is closed when what waits is written.
+pub struct Closing {
+    writer: thread::JoinHandle<()>,
+    stream: TcpStream,
+    until: Instant,
+}
+
+impl Closing {
+    /// Whether it is closed; one that takes too long is cut.
+    pub fn done(&self) -> bool {
+        if Instant::now() >= self.until {
+            let _ = self.stream.shutdown(Shutdown::Both);
+        }
+        self.writer.is_finished()
+    }
+}
+
+fn write_out(orders: Receiver<Vec<u8>>, mut out: TcpStream, shared: &Shared) {
+    for bytes in orders {
+        if let Err(error) = out.write_all(&bytes) {
+            let why = match error.kind() {
+                io::ErrorKind::WouldBlock => NOT_READ.to_string(),
+                io::ErrorKind::BrokenPipe | io::ErrorKind::ConnectionReset => CLOSED.to_string(),
+                _ => error.to_string(),
+            };
+            if let Ok(mut not_written) = shared.not_written.lock() {
+                *not_written = Some(why);
+            }
+            break;
+        }
+        shared.waiting.fetch_sub(bytes.len(), Ordering::Relaxed);
+    }
+    let _ = out.shutdown(Shutdown::Both);
 }
 
 impl Wire {
     fn new(stream: &TcpStream) -> io::Result<Wire> {
         let (queue, orders) = channel::<Vec<u8>>();
-        let waiting = Arc::new(AtomicUsize::new(0));
-        let (left, mut out) = (waiting.clone(), stream.try_clone()?);
-        let writer = thread::spawn(move || {
-            for bytes in orders {
-                if out.write_all(&bytes).is_err() {
-                    break;
-                }
-                left.fetch_sub(bytes.len(), Ordering::Relaxed);
-            }
-            let _ = out.shutdown(Shutdown::Both);
-        });
-        Ok(Wire { queue, waiting, stream: stream.try_clone()?, writer })
+        let shared = Arc::new(Shared::default());
+        let (of_writer, out) = (shared.clone(), stream.try_clone()?);
+        let stream = stream.try_clone()?;
+        let writer = thread::Builder::new().spawn(move || write_out(orders, out, &of_writer))?;
+        Ok(Wire { queue, shared, stream, writer })
     }
 
-    /// False where the supervisor does not read.
+    /// False where the supervisor does not read. Where the connection is gone, that is told apart.
     pub fn send(&self, bytes: &[u8]) -> bool {
-        let waiting = self.waiting.fetch_add(bytes.len(), Ordering::Relaxed) + bytes.len();
-        waiting <= MOST_WAITING && self.queue.send(bytes.to_vec()).is_ok()
+        let before = self.shared.waiting.fetch_add(bytes.len(), Ordering::Relaxed);
+        let room = before + bytes.len() <= MOST_WAITING;
+        if room {
+            let _ = self.queue.send(bytes.to_vec());
+        }
+        room
+    }
+
+    /// The link came to Up: the next pause is the shortest again.
+    pub fn is_up(&self) {
+        self.shared.was_up.store(true, Ordering::Relaxed);
     }
 
     /// Closes the connection after what waits is written.
-    pub fn close(self) -> thread::JoinHandle<()> {
-        self.writer
+    pub fn close(self) -> Closing {
+        let until = Instant::now() + CLOSING;
+        Closing { writer: self.writer, stream: self.stream, until }
     }
 
     pub fn cut(self) {
@@ -64,13 +128,20 @@ impl Wire {
     }
 }
 
-/// Keeps a link's connection: this never returns.
-pub fn keep(link: u32, address: String, again: Duration, events: SyncSender<Event>) {
+/// Keeps a link's connection: the thread never ends.
+pub fn keep(link: u32, address: String, mut pauses: Pauses, events: SyncSender<Event>) {
     thread::spawn(move || loop {
         let event = match connect(&address) {
             Ok((stream, wire)) => {
-                let told = events.send(Event::Connected(link, wire)).is_ok();
-                let (why, unfinished) = if told { read(link, stream, &events) } else { return };
+                let shared = wire.shared.clone();
+                if events.send(Event::Connected(link, wire)).is_err() {
+                    return;
+                }
+                let (why, unfinished) = read(link, stream, &events);
+                if shared.was_up.load(Ordering::Relaxed) {
+                    pauses.begin_again();
+                }
+                let why = shared.why_not_written().unwrap_or(why);
                 Event::Gone(link, why, unfinished)
             }
             Err(error) => Event::Failed(link, error),
@@ -78,7 +149,7 @@ pub fn keep(link: u32, address: String, again: Duration, events: SyncSender<Even
         if events.send(event).is_err() {
             return;
         }
-        thread::sleep(again);
+        thread::sleep(pauses.take());
     });
 }
 
@@ -89,6 +160,7 @@ fn connect(address: &str) -> io::Result<(TcpStream, Wire)> {
             Ok(stream) => {
                 stream.set_nodelay(true)?;
                 stream.set_write_timeout(Some(WRITE_WAIT))?;
+                end_when_dead(&stream, SILENCE, NOT_TAKEN)?;
                 let wire = Wire::new(&stream)?;
                 return Ok((stream, wire));
             }
@@ -103,11 +175,14 @@ fn read(link: u32, mut stream: TcpStream, events: &SyncSender<Event>) -> (String
     let mut buffer = [0; 4096];
     loop {
         match stream.read(&mut buffer) {
-            Ok(0) => return ("the supervisor closed it".to_string(), framer.unfinished()),
+            Ok(0) => return (CLOSED.to_string(), framer.unfinished()),
             Ok(count) => framer.push(&buffer[..count], |frame| {
                 let _ = events.send(Event::Frame(link, frame));
             }),
             Err(error) if error.kind() == io::ErrorKind::Interrupted => {}
+            Err(error) if error.kind() == io::ErrorKind::ConnectionReset => {
+                return (format!("{}: {}", CLOSED, error), framer.unfinished());
+            }
             Err(error) => return (error.to_string(), framer.unfinished()),
         }
     }

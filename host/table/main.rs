@@ -10,9 +10,10 @@ const USAGE: &str = "rsmp-table: the text of a site table and its bits
   rsmp-table pack [TEXT [BITS]]      text to bits
   rsmp-table unpack [BITS [TEXT]]    bits to text
   rsmp-table hex FILE ..             each file's bits as hexadecimal digits, as rsmp-replay's start takes them
-  rsmp-table check FILE ..           says of each file whether it is a table
+  rsmp-table check FILE ..           lists each file's components, alarms and statuses with their numbers, or all that is wrong with it
+  rsmp-table --version | --help
 
-hex and check take texts and bits.
+hex and check take texts and bits, and go on behind a file that is no table.
 A missing file name or - is standard input or output. Status: 0, 1 where a file is no table, 2 otherwise.
 
 The lines of a text, in this order of words; alarms and statuses are numbered from 0 as they stand:
@@ -71,29 +72,55 @@ fn either(name: &str) -> Done<Table> {
     }
 }
 
-fn summary(name: &str, table: &Table) -> String {
-    let (components, alarms, statuses) = (table.components.len(), table.alarms.len(), table.statuses.len());
-    format!("{}: {} components, {} alarms, {} statuses, {} bytes", shown(name), components, alarms, statuses, bits::write(table).len())
+/// What a table has, and its rows as they are numbered in calls and orders.
+fn listing(name: &str, table: &Table) -> String {
+    let count = |count: usize, one: &str, more: &str| format!("{} {}", count, if count == 1 { one } else { more });
+    let mut lines = vec![format!(
+        "{}: site {}, SXL {}: {}, {}, {}, {} bytes as bits",
+        shown(name),
+        table.site,
+        table.sxl,
+        count(table.components.len(), "component", "components"),
+        count(table.alarms.len(), "alarm", "alarms"),
+        count(table.statuses.len(), "status", "statuses"),
+        bits::write(table).len()
+    )];
+    let width = table.components.iter().map(String::len).max().unwrap_or(0);
+    let component = |number: usize| format!("{:width$}", table.components[number], width = width);
+    for (number, id) in table.components.iter().enumerate() {
+        lines.push(format!("  component {:2}  {}{}", number, id, if number == 0 { "  (carries the aggregated status)" } else { "" }));
+    }
+    for (number, alarm) in table.alarms.iter().enumerate() {
+        let (id, category) = (component(alarm.component), alarm.category.letter());
+        lines.push(format!("  alarm     {:2}  {}  {}  category {}, priority {}", number, id, alarm.code, category, alarm.priority));
+    }
+    for (number, status) in table.statuses.iter().enumerate() {
+        lines.push(format!("  status    {:2}  {}  {}  {}", number, component(status.component), status.code, status.name));
+    }
+    lines.join("\n")
 }
 
 fn hex(table: &Table) -> String {
     bits::write(table).iter().map(|byte| format!("{:02x}", byte)).collect()
 }
 
-/// A line for each table; the faults of those that are none at the end.
+/// Something for each table; all that is wrong with those that are none, and with files that cannot be read, at the end.
 fn each(names: &[&str], line: impl Fn(&str, &Table) -> String) -> Done<()> {
-    let mut faults = Vec::new();
+    let (mut faults, mut unreadable) = (Vec::new(), false);
     for name in names {
         match either(name).map(|table| line(name, &table)) {
-            Ok(line) => println!("{}", line),
+            Ok(line) => put("-", format!("{}\n", line).as_bytes())?,
             Err(Failed::NoTable(lines)) => faults.extend(lines),
-            Err(unusable) => return Err(unusable),
+            Err(Failed::Unusable(line)) => {
+                unreadable = true;
+                faults.push(line);
+            }
         }
     }
-    if faults.is_empty() {
-        Ok(())
-    } else {
-        Err(Failed::NoTable(faults))
+    match (faults.is_empty(), unreadable) {
+        (true, _) => Ok(()),
+        (_, false) => Err(Failed::NoTable(faults)),
+        (_, true) => Err(Failed::Unusable(faults.join("\n"))),
     }
 }
 
@@ -103,7 +130,7 @@ fn run(words: &[&str]) -> Done<()> {
         (Some("pack"), 1..=3) => put(name(2), &bits::write(&from_text(name(1), &content(name(1))?)?)),
         (Some("unpack"), 1..=3) => put(name(2), text::write(&from_bits(name(1), &content(name(1))?)?).as_bytes()),
         (Some("hex"), 2..) => each(&words[1..], |_, table| hex(table)),
-        (Some("check"), 2..) => each(&words[1..], summary),
+        (Some("check"), 2..) => each(&words[1..], listing),
         _ => Err(Failed::Unusable(help())),
     }
 }
@@ -114,13 +141,20 @@ fn help() -> String {
 }
 
 fn main() -> ExitCode {
-    let words: Vec<String> = std::env::args().skip(1).collect();
+    let words: Vec<String> = match std::env::args_os().skip(1).map(|word| word.into_string()).collect() {
+        Ok(words) => words,
+        Err(word) => {
+            eprintln!("rsmp-table: {:?} is not UTF-8", word);
+            return ExitCode::from(2);
+        }
+    };
     let words: Vec<&str> = words.iter().map(String::as_str).collect();
-    if words == ["--help"] {
-        print!("{}", help());
-        return ExitCode::SUCCESS;
-    }
-    match run(&words) {
+    let said = match words[..] {
+        ["--help" | "-h"] => put("-", help().as_bytes()),
+        ["--version" | "-V"] => put("-", format!("rsmp-table {}\n", env!("RSMP_VERSION")).as_bytes()),
+        _ => run(&words),
+    };
+    match said {
         Ok(()) => ExitCode::SUCCESS,
         Err(Failed::NoTable(lines)) => {
             eprintln!("{}", lines.join("\n"));

@@ -1,0 +1,25 @@
+# What `make install` puts where. The programs are those for x86-64 themselves, also where they were built on another processor.
+BINDIR = $(PREFIX)/bin
+LIBDIR = $(PREFIX)/lib
+INCLUDEDIR = $(PREFIX)/include
+MANDIR = $(PREFIX)/share/man
+UNITDIR = $(PREFIX)/lib/systemd/system
+
+PROGRAMS = rsmp-site rsmp-replay rsmp-table $(if $(wildcard host/week/main.rs),rsmp-week)
+PAGES = $(addsuffix .1,$(PROGRAMS))
+INSTALLED = $(addprefix $(BINDIR)/,$(PROGRAMS)) $(LIBDIR)/librsmp_site.a $(INCLUDEDIR)/rsmp_site.h $(LIBDIR)/pkgconfig/rsmp_site.pc \
+	$(addprefix $(MANDIR)/man1/,$(PAGES)) $(UNITDIR)/rsmp-site.service
+
+FILLED = sed -e 's|@PREFIX@|$(PREFIX)|g; s|@BINDIR@|$(BINDIR)|g; s|@LIBDIR@|$(LIBDIR)|g; s|@INCLUDEDIR@|$(INCLUDEDIR)|g; s|@VERSION@|$(RSMP_VERSION)|g'
+
+install: build
+	mkdir -p $(sort $(addprefix $(DESTDIR),$(dir $(INSTALLED))))
+	install -m 755 $(addprefix $(OUT)/,$(PROGRAMS)) $(DESTDIR)$(BINDIR)
+	install -m 644 $(LIBRARY) $(DESTDIR)$(LIBDIR)
+	install -m 644 build/rsmp_site.h $(DESTDIR)$(INCLUDEDIR)
+	$(FILLED) host/include/rsmp_site.pc >$(DESTDIR)$(LIBDIR)/pkgconfig/rsmp_site.pc
+	for page in $(PAGES); do $(FILLED) host/man/$$page >$(DESTDIR)$(MANDIR)/man1/$$page; done
+	$(FILLED) host/unit/rsmp-site.service >$(DESTDIR)$(UNITDIR)/rsmp-site.service
+
+uninstall:
+	rm -f $(addprefix $(DESTDIR),$(INSTALLED))

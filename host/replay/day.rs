@@ -1,0 +1,229 @@
+//! What a script of calls did, link by link over time: phases, and records issued, sent, answered, held and lost.
+
+use crate::checked::Player;
+use crate::script::Line;
+use rsmp_site::ffi::NO_PRIMARY;
+
+pub const PHASES: [&str; 4] = ["Down", "Greeting", "Beating", "Up"];
+
+/// A record while it is held: from the call that issued it to the one at whose end it was gone.
+pub struct Stay {
+    pub sequence: u32,
+    pub from: u64,
+    pub to: u64,
+}
+
+impl Stay {
+    pub fn length(&self) -> u64 {
+        self.to.saturating_sub(self.from)
+    }
+}
+
+#[derive(Default)]
+pub struct Link {
+    /// The phase from a time on, a change each.
+    pub phases: Vec<(u64, u32)>,
+    pub issued: Vec<u64>,
+    pub sent: Vec<u64>,
+    pub answered: Vec<u64>,
+    pub lost: Vec<u64>,
+    /// What was held when another site was started.
+    pub dropped: Vec<u64>,
+    /// What a stored site held already.
+    pub brought: usize,
+    /// Records that are gone, and those still held at the end.
+    pub gone: Vec<Stay>,
+    pub held: Vec<Stay>,
+    seen_lost: u64,
+    first_pass: Pass,
+}
+
+/// The first pass after a greeting: the aggregated status, then each alarm once. What comes again carries a record.
+#[derive(Default)]
+struct Pass {
+    aggregated: bool,
+    alarms: Vec<String>,
+    over: bool,
+}
+
+#[derive(Default)]
+pub struct Day {
+    pub site: String,
+    /// Where it is known and there is one.
+    pub primary: Option<u32>,
+    pub links: Vec<Link>,
+    pub starts: Vec<u64>,
+    pub first: u64,
+    pub last: u64,
+    pub calls: usize,
+}
+
+impl Day {
+    /// After a line was played.
+    pub fn note(&mut self, line: &Line, done: bool, player: &Player) {
+        let time = match (line.time(), line) {
+            (Some(time), _) if done => time,
+            (None, Line::Restore { .. }) => return self.restore(player),
+            _ => return,
+        };
+        self.first = if self.calls == 0 { time } else { self.first.min(time) };
+        self.last = self.last.max(time);
+        self.calls += 1;
+        match line {
+            Line::Start { table, primary, .. } => self.start(table, *primary, player.links() as usize, time),
+            Line::Pump { link, .. } => self.send(*link, time, player),
+            _ => {}
+        }
+        for link in 0..player.links() {
+            self.links[link as usize].follow(link, time, player);
+        }
+    }
+
+    fn start(&mut self, table: &[u8], primary: u32, links: usize, time: u64) {
+        let length = usize::from(table[3]);
+        self.site = table[4..4 + length].iter().map(|byte| char::from(*byte)).collect();
+        self.primary = Some(primary).filter(|primary| *primary != NO_PRIMARY);
+        self.starts.push(time);
+        for link in &mut self.links {
+            link.end(time);
+        }
+        self.widen(links);
+    }
+
+    fn widen(&mut self, links: usize) {
+        while self.links.len() < links {
+            self.links.push(Link::default());
+        }
+    }
+
+    /// A stored site goes on. What it holds and we do not know was issued before; what we know and it does not hold is left behind; a link
+    /// that we first see Up has its first pass behind it.
+    fn restore(&mut self, player: &Player) {
+        self.widen(player.links() as usize);
+        for (number, link) in self.links.iter_mut().enumerate() {
+            let (phase, _, lost) = player.state(number as u32);
+            link.restore(player.records(number as u32), phase, lost, self.last);
+        }
+    }
+
+    /// What a pump sent, where it carries a record. Of the first pass only an alarm does that is as its newest record says.
+    fn send(&mut self, number: u32, time: u64, player: &Player) {
+        let message = String::from_utf8_lossy(player.written()).into_owned();
+        let link = &mut self.links[number as usize];
+        let pass = &mut link.first_pass;
+        let is = |name: &str| message.contains(&format!("\"type\":\"{}\"", name));
+        let carries = if is("AggregatedStatus") {
+            std::mem::replace(&mut pass.aggregated, true) || pass.over
+        } else if is("Alarm") && !pass.over && !pass.alarms.contains(&alarm_in(&message)) {
+            let of_alarm = |record: &[u8; 16]| alarm_of(record) == Some(pass.alarms.len());
+            let carries = player.records(number).into_iter().rev().find(of_alarm).map_or(false, |record| says(&message, &record));
+            pass.alarms.push(alarm_in(&message));
+            carries
+        } else {
+            is("Alarm") || is("StatusUpdate")
+        };
+        if carries {
+            link.sent.push(time);
+        }
+    }
+
+    /// The last call is behind us: what is held has been so up to it.
+    pub fn end(&mut self) {
+        for stay in self.links.iter_mut().flat_map(|link| &mut link.held) {
+            stay.to = self.last.max(stay.from);
+        }
+    }
+}
+
+impl Link {
+    fn follow(&mut self, number: u32, time: u64, player: &Player) {
+        let (phase, held, lost) = player.state(number);
+        if self.phases.last().map(|(_, phase)| *phase) != Some(phase) {
+            self.phases.push((time, phase));
+        }
+        if phase < 2 {
+            self.first_pass = Pass::default();
+        }
+        let newly_lost = (lost - self.seen_lost) as usize;
+        self.seen_lost = lost;
+        if newly_lost == 0 && held as usize == self.held.len() {
+            return;
+        }
+        let records: Vec<u32> = player.records(number).iter().map(sequence_of).collect();
+        let before = self.held.len();
+        let (stay, left): (Vec<Stay>, Vec<Stay>) = self.held.drain(..).partition(|stay| records.contains(&stay.sequence));
+        self.held = stay;
+        self.gone.extend(left.into_iter().map(|stay| Stay { to: time, ..stay }));
+        for sequence in records {
+            if !self.held.iter().any(|stay| stay.sequence == sequence) {
+                self.held.push(Stay { sequence, from: time, to: time });
+            }
+        }
+        // A call answers a record or issues some, and never both.
+        let issued = (self.held.len() + newly_lost).saturating_sub(before);
+        let answered = before.saturating_sub(self.held.len() + newly_lost);
+        self.issued.extend(std::iter::repeat(time).take(issued));
+        self.answered.extend(std::iter::repeat(time).take(answered));
+        self.lost.extend(std::iter::repeat(time).take(newly_lost));
+    }
+
+    fn restore(&mut self, records: Vec<[u8; 16]>, phase: u32, lost: u64, last: u64) {
+        let holds = |stay: &Stay| records.iter().any(|record| sequence_of(record) == stay.sequence);
+        let (stay, left): (Vec<Stay>, Vec<Stay>) = self.held.drain(..).partition(holds);
+        self.dropped.extend(std::iter::repeat(last).take(left.len()));
+        self.gone.extend(left.into_iter().map(|stay| Stay { to: last, ..stay }));
+        let known = |record: &&[u8; 16]| stay.iter().any(|stay| stay.sequence == sequence_of(record));
+        let brought: Vec<Stay> = records.iter().filter(|record| !known(record)).map(stay_of).collect();
+        self.brought += brought.len();
+        self.held = stay.into_iter().chain(brought).collect();
+        self.seen_lost = lost;
+        self.first_pass.over = self.first_pass.over || self.phases.is_empty() && phase == 3;
+    }
+
+    /// Another site begins.
+    fn end(&mut self, time: u64) {
+        self.dropped.extend(std::iter::repeat(time).take(self.held.len()));
+        self.gone.extend(self.held.drain(..).map(|stay| Stay { to: time, ..stay }));
+        self.seen_lost = 0;
+        self.first_pass = Pass::default();
+    }
+}
+
+/// Of a record that was issued before: its own time is when.
+fn stay_of(record: &[u8; 16]) -> Stay {
+    Stay { sequence: sequence_of(record), from: time_of(record), to: time_of(record) }
+}
+
+fn time_of(record: &[u8; 16]) -> u64 {
+    record[2..8].iter().fold(0, |time, byte| time << 8 | u64::from(*byte))
+}
+
+fn sequence_of(record: &[u8; 16]) -> u32 {
+    u32::from_be_bytes([record[12], record[13], record[14], record[15]])
+}
+
+/// The component and the code of an Alarm message.
+fn alarm_in(message: &str) -> String {
+    let from = message.find("\"cId\":").unwrap_or(0);
+    let to = message.find(",\"xACId\":").unwrap_or(message.len());
+    message.get(from..to).unwrap_or("").to_string()
+}
+
+/// The number of the alarm that a record is of.
+fn alarm_of(record: &[u8; 16]) -> Option<usize> {
+    let head = u16::from_be_bytes([record[0], record[1]]);
+    Some(usize::from(head >> 6 & 63)).filter(|_| head >> 12 & 3 == 0)
+}
+
+/// Whether an Alarm message says what a record of its alarm does.
+fn says(message: &str, record: &[u8; 16]) -> bool {
+    let flags = record[1] & 63;
+    let event = ["Issue", "Acknowledge", "Suspend"].get(usize::from(flags >> 4)).copied().unwrap_or("");
+    let word = |bit: u8, yes: &'static str, no: &'static str| if flags >> bit & 1 == 1 { yes } else { no };
+    let acknowledged = word(3, "Acknowledged", "notAcknowledged");
+    let (active, suspended) = (word(2, "Active", "inActive"), word(1, "Suspended", "notSuspended"));
+    let time = crate::moment::full(time_of(record));
+    let states =
+        format!("\"aSp\":\"{}\",\"ack\":\"{}\",\"aS\":\"{}\",\"sS\":\"{}\",\"aTs\":\"{}\"", event, acknowledged, active, suspended, time);
+    message.contains(&states)
+}

@@ -1,0 +1,448 @@
+//! What the process does with each event: calls on the site, bytes to the supervisors, lines to the log.
+
+use crate::calls::Calls;
+use crate::control::Asked;
+use crate::framing::{Frame, FORM_FEED};
+use crate::journal::{Journal, Level};
+use crate::options::Options;
+use crate::orders::{self, Order};
+use crate::readable::{kind, value_of};
+use crate::wires::{Closing, Event, Wire, NOT_READ};
+use rsmp_site::{Called, Phase, Refusal, Report};
+use std::fmt::Display;
+use std::sync::mpsc::{channel, Receiver};
+use std::time::{Duration, Instant};
+
+const GOODBYE: Duration = Duration::from_secs(2);
+/// Clocks that differ by less are not worth a line.
+const CLOCKS_DIFFER: u64 = 1000;
+/// Nor is more than one line in so long a time.
+const CLOCK_LINES: Duration = Duration::from_secs(60);
+
+/// One supervisor.
+struct Link {
+    address: String,
+    wire: Option<Wire>,
+    since: Instant,
+    up: bool,
+    connections: u64,
+    sent: u64,
+    received: u64,
+    unanswered: u64,
+    /// The last difference of the primary's clock that was said, in milliseconds, and when.
+    clock_ahead: i128,
+    clock_said: Option<Instant>,
+}
+
+pub struct Host {
+    calls: Calls,
+    journal: Journal,
+    links: Vec<Link>,
+    greeting_limit: Duration,
+    closing: Vec<Closing>,
+    system_behind: u64,
+    /// Set by quit: ends when its reply is written.
+    quitting: Option<Receiver<()>>,
+}
+
+impl Host {
+    pub fn new(calls: Calls, journal: Journal, options: &Options) -> Host {
+        let link = |address: &String| Link {
+            address: address.clone(),
+            wire: None,
+            since: Instant::now(),
+            up: false,
+            connections: 0,
+            sent: 0,
+            received: 0,
+            unanswered: 0,
+            clock_ahead: 0,
+            clock_said: None,
+        };
+        Host {
+            calls,
+            journal,
+            links: options.supervisors.iter().map(link).collect(),
+            greeting_limit: options.greeting_limit,
+            closing: Vec::new(),
+            system_behind: 0,
+            quitting: None,
+        }
+    }
+
+    pub fn is_quitting(&self) -> bool {
+        self.quitting.is_some()
+    }
+
+    fn say(&mut self, level: Level, link: u32, text: impl Display) {
+        let now = self.calls.now();
+        self.journal.say(now, level, Some(link), text);
+    }
+
+    fn say_of_site(&mut self, level: Level, text: impl Display) {
+        let now = self.calls.now();
+        self.journal.say(now, level, None, text);
+    }
+
+    pub fn say_beginning(&mut self, version: &str, state: Option<(Level, String)>) {
+        let (links, counts) = (self.links.len(), self.counts());
+        let text = format!("rsmp-site {} begins with {} links", version, links);
+        self.say_of_site(Level::Info, text);
+        if let Some((level, text)) = state {
+            self.say_of_site(level, text);
+            self.say_of_site(Level::Info, counts);
+        }
+    }
+
+    pub fn take(&mut self, event: Event) {
+        match event {
+            Event::Connected(link, wire) => self.connected(link, wire),
+            Event::Failed(link, error) => self.say(Level::Warning, link, format!("cannot connect: {}", error)),
+            Event::Frame(link, Frame::Packet(packet)) => self.packet(link, &packet),
+            Event::Frame(link, Frame::TooLong(count)) => {
+                let text = format!("a packet of {} bytes is dropped", count);
+                self.say(Level::Warning, link, text)
+            }
+            Event::Gone(link, why, unfinished) => self.gone(link, why, unfinished),
+            Event::Control(asked) => self.answer(asked),
+            Event::Trouble(text) => self.say_of_site(Level::Error, text),
+        }
+    }
+
+    // Connections.
+
+    fn connected(&mut self, link: u32, wire: Wire) {
+        let of_link = &mut self.links[link as usize];
+        of_link.connections += 1;
+        of_link.wire = Some(wire);
+        of_link.since = Instant::now();
+        of_link.up = false;
+        let text = format!("connected to {}", of_link.address);
+        self.say(Level::Info, link, text);
+        let called = self.calls.connect(link);
+        self.keep(link, called);
+    }
+
+    /// Nothing to say where we closed it: that was said.
+    fn gone(&mut self, link: u32, why: String, unfinished: u64) {
+        if self.links[link as usize].wire.take().is_none() {
+            return;
+        }
+        let rest = match unfinished {
+            0 => String::new(),
+            count => format!(", {} bytes of an unfinished packet", count),
+        };
+        let text = format!("the connection is gone: {}{}", why, rest);
+        self.say(Level::Info, link, text);
+        let called = self.calls.disconnect(link);
+        self.keep(link, called);
+    }
+
+    /// We close it, and what waits to be sent with it.
+    fn cut(&mut self, link: u32, why: &str) {
+        if let Some(wire) = self.links[link as usize].wire.take() {
+            self.say(Level::Warning, link, format!("we close the connection: {}", why));
+            wire.cut();
+            let _ = self.calls.disconnect(link);
+        }
+    }
+
+    /// The site closes these.
+    fn close(&mut self, report: Report, why: &str) {
+        for link in report.closed.iter() {
+            if let Some(wire) = self.links[link as usize].wire.take() {
+                self.say(Level::Warning, link, format!("we close the connection: {}", why));
+                self.closing.push(wire.close());
+            }
+        }
+        self.closing.retain(|closing| !closing.done());
+    }
+
+    fn look_whether_up(&mut self, link: u32) {
+        let site = &self.calls.site;
+        if self.links[link as usize].up || site.phase(link) != Phase::Up {
+            return;
+        }
+        let (held, version) = (site.held(link), self.phase_of(link));
+        self.links[link as usize].up = true;
+        if let Some(wire) = &self.links[link as usize].wire {
+            wire.is_up();
+        }
+        self.say(Level::Info, link, format!("{}; {} records wait", version, held));
+    }
+
+    // Calls and what they did.
+
+    fn packet(&mut self, link: u32, packet: &[u8]) {
+        if self.links[link as usize].wire.is_none() {
+            return;
+        }
+        self.links[link as usize].received += 1;
+        let called = self.calls.packet(link, packet);
+        let now = self.calls.now();
+        let mark = if called.is_ok() { '<' } else { '!' };
+        self.journal.message(now, link, mark, packet);
+        match called {
+            Ok(report) => {
+                let why = self.why_closed(link, packet, report);
+                self.done(link, report, &why);
+                self.look_whether_up(link);
+            }
+            Err(refusal) => {
+                self.links[link as usize].unanswered += 1;
+                self.refused(link, refusal);
+            }
+        }
+    }
+
+    /// Why a packet closed its link; a refused Version is worth a line of its own in any log.
+    fn why_closed(&mut self, link: u32, packet: &[u8], report: Report) -> String {
+        let up = self.links[link as usize].up;
+        if up && report.closed.is_empty() {
+            return String::new();
+        }
+        let packet = String::from_utf8_lossy(packet);
+        let answer = String::from_utf8_lossy(self.calls.written(report.written)).into_owned();
+        let (asked, reason) = (kind(&packet), |text: &str| value_of(text, "rea").map(str::to_string));
+        let why = match (reason(&answer), asked.as_str()) {
+            (Some(reason), _) => format!("its {} is refused: {}", asked, reason),
+            (None, "MessageNotAck") => {
+                let reason = reason(&packet).unwrap_or_default();
+                format!("it refuses our message: {}", reason)
+            }
+            (None, _) => format!("after its {}", asked),
+        };
+        let said = report.closed.is_empty() && (reason(&answer).is_some() || asked == "MessageNotAck");
+        if said {
+            self.say(Level::Warning, link, &why);
+        }
+        why
+    }
+
+    fn refused(&mut self, link: u32, refusal: Refusal) {
+        match refusal {
+            Refusal::Ignored => {}
+            Refusal::SameIdentity => self.cut(link, "the random bytes repeat: their source is broken"),
+            Refusal::SequenceSpent => self.start_anew(),
+            _ => self.say(Level::Warning, link, refusal),
+        }
+    }
+
+    /// What a call on a link did.
+    fn keep(&mut self, link: u32, called: Called) {
+        if let Ok(report) = called {
+            self.done(link, report, "told to");
+        }
+    }
+
+    fn done(&mut self, link: u32, report: Report, why: &str) {
+        self.calls.save_before_it_is_seen();
+        self.send(link, report.written);
+        self.close(report, why);
+        if let Some(hint) = report.hint {
+            self.compare_clocks(link, hint);
+        }
+    }
+
+    fn compare_clocks(&mut self, link: u32, hint: u64) {
+        let ahead = i128::from(hint) - i128::from(self.calls.now());
+        let of_link = &mut self.links[link as usize];
+        let differs = (ahead - of_link.clock_ahead).unsigned_abs() >= u128::from(CLOCKS_DIFFER);
+        if differs && of_link.clock_said.map_or(true, |said| said.elapsed() >= CLOCK_LINES) {
+            of_link.clock_ahead = ahead;
+            of_link.clock_said = Some(Instant::now());
+            let text = format!("the primary's clock is {} ms ahead of ours", ahead);
+            self.say(Level::Info, link, text);
+        }
+    }
+
+    fn send(&mut self, link: u32, written: usize) {
+        if written == 0 {
+            return;
+        }
+        let now = self.calls.now();
+        let bytes = self.calls.written(written);
+        let messages = bytes.split(|byte| *byte == FORM_FEED);
+        for message in messages.filter(|message| !message.is_empty()) {
+            self.journal.message(now, link, '>', message);
+            self.links[link as usize].sent += 1;
+        }
+        let wire = self.links[link as usize].wire.as_ref();
+        if wire.map_or(false, |wire| !wire.send(bytes)) {
+            self.cut(link, NOT_READ);
+        }
+    }
+
+    pub fn pump(&mut self) {
+        for link in 0..self.links.len() as u32 {
+            while self.links[link as usize].wire.is_some() {
+                match self.calls.pump(link) {
+                    Ok(report) => self.keep(link, Ok(report)),
+                    Err(Refusal::SameIdentity) => self.refused(link, Refusal::SameIdentity),
+                    Err(_) => break,
+                }
+            }
+        }
+    }
+
+    pub fn tick(&mut self) {
+        match self.calls.tick() {
+            Ok(report) => self.close(report, "no answer for 30 seconds"),
+            Err(Refusal::SequenceSpent) => self.start_anew(),
+            Err(refusal) => self.say_of_site(Level::Error, refusal),
+        }
+        for link in 0..self.links.len() as u32 {
+            let of_link = &self.links[link as usize];
+            if of_link.wire.is_some() && !of_link.up && of_link.since.elapsed() >= self.greeting_limit {
+                let limit = self.greeting_limit.as_secs_f64();
+                self.cut(link, &format!("it is not Up after {} seconds", limit));
+            }
+        }
+        self.look_at_clock();
+        self.calls.flush();
+    }
+
+    fn look_at_clock(&mut self) {
+        let jump = self.calls.clock.take_jump();
+        if jump >= CLOCKS_DIFFER {
+            let text = format!("the system's clock was set: our time goes on {} ms later", jump);
+            self.say_of_site(Level::Warning, text);
+        }
+        let behind = self.calls.clock.system_behind();
+        let before = self.system_behind;
+        if behind.max(before) - behind.min(before) >= CLOCKS_DIFFER {
+            self.system_behind = behind;
+            let text = format!("the system's clock is {} ms behind our time, which goes on", behind);
+            self.say_of_site(Level::Warning, text);
+        }
+    }
+
+    /// At the end of every turn.
+    pub fn go_on(&mut self) {
+        self.calls.save_where_due();
+        for text in self.calls.take_trouble() {
+            self.say_of_site(Level::Error, text);
+        }
+    }
+
+    pub fn reopen(&mut self) {
+        self.journal.outlet.reopen();
+        self.calls.reopen_record();
+        self.say_of_site(Level::Info, "the log and the record are opened again");
+    }
+
+    /// A new site where the sequence numbers are used up.
+    fn start_anew(&mut self) {
+        let counts = self.counts();
+        self.say_of_site(
+            Level::Error,
+            format!(
+                "the sequence numbers are used up: a new site starts. Not carried over: the records ({}), the subscriptions, \
+                 the inputs of alarms and statuses and the aggregated status, which are to be given again",
+                counts
+            ),
+        );
+        for link in 0..self.links.len() as u32 {
+            self.cut(link, "a new site starts");
+        }
+        if let Err(refusal) = self.calls.start_anew() {
+            self.say_of_site(Level::Error, format!("the new site does not start: {}", refusal));
+        }
+    }
+
+    // Orders.
+
+    fn answer(&mut self, asked: Asked) {
+        let (gone, written) = channel();
+        let text = match orders::read(&asked.line) {
+            Ok(Order::Quit) => {
+                self.quitting = Some(written);
+                "goodbye".to_string()
+            }
+            Ok(order) => self.obey(order),
+            Err(message) => message,
+        };
+        self.calls.save_before_it_is_seen();
+        let _ = asked.reply.send((text, gone));
+    }
+
+    fn obey(&mut self, order: Order) -> String {
+        let mut called = match order {
+            Order::Counts => return self.counts(),
+            Order::Links => return self.phases(),
+            Order::Help | Order::Quit => return orders::HELP.to_string(),
+            Order::Save if self.calls.save() => return "done".to_string(),
+            Order::Save => return "refused: there is no state, or it cannot be written".to_string(),
+            _ => self.input(&order),
+        };
+        if called == Err(Refusal::SequenceSpent) {
+            self.start_anew();
+            called = self.input(&order);
+        }
+        match called {
+            Ok(_) => "done".to_string(),
+            Err(refusal) => format!("refused: {}", refusal),
+        }
+    }
+
+    fn input(&mut self, order: &Order) -> Called {
+        match *order {
+            Order::Alarm(number, active) => self.calls.alarm(number, active),
+            Order::Status(number, value) => self.calls.status(number, value),
+            Order::Aggregated(value) => self.calls.aggregated(value),
+            _ => Err(Refusal::Ignored),
+        }
+    }
+
+    fn counts(&self) -> String {
+        let site = &self.calls.site;
+        let each = (0..site.links()).map(|link| format!("link {} holds {}, lost {}", link, site.held(link), site.lost(link)));
+        each.collect::<Vec<_>>().join("; ")
+    }
+
+    fn phase_of(&self, link: u32) -> String {
+        let site = &self.calls.site;
+        match (site.phase(link), site.version(link)) {
+            (Phase::Up, Some((major, minor, patch))) => format!("Up, RSMP {}.{}.{}", major, minor, patch),
+            (phase, _) => format!("{:?}", phase),
+        }
+    }
+
+    fn phases(&self) -> String {
+        let each = (0..self.links.len() as u32).map(|link| format!("link {} {}", link, self.phase_of(link)));
+        each.collect::<Vec<_>>().join("; ")
+    }
+
+    // The end.
+
+    pub fn goodbye(&mut self) {
+        self.say_of_site(Level::Info, "ends as told");
+        for link in 0..self.links.len() as u32 {
+            if let Some(wire) = self.links[link as usize].wire.take() {
+                let _ = self.calls.disconnect(link);
+                self.closing.push(wire.close());
+            }
+        }
+        self.calls.flush();
+        self.calls.save();
+        for text in self.calls.take_trouble() {
+            self.say_of_site(Level::Error, text);
+        }
+        let until = Instant::now() + GOODBYE;
+        if let Some(written) = self.quitting.take() {
+            let _ = written.recv_timeout(GOODBYE);
+        }
+        while self.closing.iter().any(|closing| !closing.done()) && Instant::now() < until {
+            std::thread::sleep(Duration::from_millis(10));
+        }
+        self.journal.outlet.line("summary");
+        for (number, link) in self.links.iter().enumerate() {
+            let site = &self.calls.site;
+            let (held, lost) = (site.held(number as u32), site.lost(number as u32));
+            self.journal.outlet.line(&format!(
+                "  link {} {}: {} connections, {} messages sent, {} received, {} of them not answered, {} records held, {} lost",
+                number, link.address, link.connections, link.sent, link.received, link.unanswered, held, lost
+            ));
+        }
+    }
+}

@@ -1,0 +1,253 @@
+//! The site's bytes in a file, so that what is held and what is set survive a power loss. The file is replaced as a whole: it has the
+//! former site or the new one, never a part.
+
+use rsmp_site::{check_sum, Site, Start};
+use std::fs::{self, File};
+use std::io::{self, Write};
+use std::path::{Path, PathBuf};
+use std::time::{Duration, Instant};
+
+const NAME: &[u8; 8] = b"RSMPHOST";
+const EDITION: u32 = 1;
+/// Name, edition, what the site was started with, the last time.
+const HEAD_BYTES: usize = 40;
+const SUM_BYTES: usize = 8;
+const MOST_ASIDE: u32 = 9;
+
+pub struct Stored {
+    pub site: Site,
+    /// No later call was at an earlier time.
+    pub time: u64,
+}
+
+/// What a site was started with: one that was started with something else is another site.
+fn setup(table: &[u8], start: &Start) -> [u8; 20] {
+    let mut bytes = [0; 20];
+    bytes[..4].copy_from_slice(&start.links.to_le_bytes());
+    bytes[4..8].copy_from_slice(&start.primary.unwrap_or(u32::MAX).to_le_bytes());
+    bytes[8..12].copy_from_slice(&start.period.to_le_bytes());
+    bytes[12..].copy_from_slice(&check_sum(table).to_le_bytes());
+    bytes
+}
+
+fn written(setup: &[u8; 20], site: &Site, time: u64) -> Vec<u8> {
+    let mut bytes = NAME.to_vec();
+    bytes.extend_from_slice(&EDITION.to_le_bytes());
+    bytes.extend_from_slice(setup);
+    bytes.extend_from_slice(&time.to_le_bytes());
+    bytes.extend_from_slice(&site.to_bytes());
+    let sum = check_sum(&bytes);
+    bytes.extend_from_slice(&sum.to_le_bytes());
+    bytes
+}
+
+/// The site of a file's bytes, or why they are none of ours.
+fn read(setup: &[u8; 20], bytes: &[u8]) -> Result<Stored, String> {
+    if bytes.len() < HEAD_BYTES + SUM_BYTES || bytes[..8] != *NAME {
+        return Err("it is no state of rsmp-site".to_string());
+    }
+    let edition = u32::from_le_bytes([bytes[8], bytes[9], bytes[10], bytes[11]]);
+    if edition != EDITION {
+        return Err(format!("it is of edition {}, where {} is read", edition, EDITION));
+    }
+    let (told, sum) = bytes.split_at(bytes.len() - SUM_BYTES);
+    if check_sum(told).to_le_bytes() != sum {
+        return Err("it is damaged: its check sum is wrong".to_string());
+    }
+    if told[12..32] != *setup {
+        return Err("it is of another table, or of other links, primary or period".to_string());
+    }
+    let mut time = [0; 8];
+    time.copy_from_slice(&told[32..40]);
+    let site = Site::from_bytes(&told[HEAD_BYTES..]).map_err(|fault| format!("it is {}", fault))?;
+    Ok(Stored { site, time: u64::from_le_bytes(time) })
+}
+
+pub enum Found {
+    Nothing,
+    Site(Stored),
+    /// Why the file was not taken, and where it is kept.
+    Aside(String),
+}
+
+pub struct Store {
+    path: PathBuf,
+    interval: Duration,
+    setup: [u8; 20],
+    last: Option<Instant>,
+    changed: bool,
+}
+
+impl Store {
+    /// What a file has, and the store that will write it. A file that is not taken is kept aside.
+    pub fn open(path: &str, interval: Duration, table: &[u8], start: &Start) -> Result<(Store, Found), String> {
+        let path = PathBuf::from(path);
+        let setup = setup(table, start);
+        let told = |error: io::Error| format!("{}: {}", path.display(), error);
+        let found = match fs::read(&path) {
+            Err(error) if error.kind() == io::ErrorKind::NotFound => Found::Nothing,
+            Err(error) => return Err(told(error)),
+            Ok(bytes) => match read(&setup, &bytes) {
+                Ok(stored) => Found::Site(stored),
+                Err(why) => {
+                    let aside = put_aside(&path).map_err(told)?;
+                    let kept = format!("{}: {}; kept as {}", path.display(), why, aside.display());
+                    Found::Aside(kept)
+                }
+            },
+        };
+        let (last, changed) = (None, true);
+        let store = Store { path, interval, setup, last, changed };
+        Ok((store, found))
+    }
+
+    /// Whether every call is to be stored before its bytes go out.
+    pub fn at_once(&self) -> bool {
+        self.interval.is_zero()
+    }
+
+    pub fn has_changed(&mut self) {
+        self.changed = true;
+    }
+
+    pub fn changed(&self) -> bool {
+        self.changed
+    }
+
+    /// Whether a write is due.
+    pub fn due(&self) -> bool {
+        let rested = self.last.map_or(true, |last| last.elapsed() >= self.interval);
+        self.changed && rested
+    }
+
+    /// Writes the site and syncs it.
+    pub fn write(&mut self, site: &Site, time: u64) -> Result<(), String> {
+        self.last = Some(Instant::now());
+        replace(&self.path, &written(&self.setup, site, time)).map_err(|error| format!("{}: {}", self.path.display(), error))?;
+        self.changed = false;
+        Ok(())
+    }
+}
+
+fn beside(path: &Path, ending: &str) -> PathBuf {
+    let mut name = path.as_os_str().to_os_string();
+    name.push(ending);
+    PathBuf::from(name)
+}
+
+/// A new file, synced, takes the old one's name; then the folder is synced.
+fn replace(path: &Path, bytes: &[u8]) -> io::Result<()> {
+    let new = beside(path, ".new");
+    let mut file = File::create(&new)?;
+    file.write_all(bytes)?;
+    file.sync_all()?;
+    fs::rename(&new, path)?;
+    let folder = path.parent().filter(|folder| !folder.as_os_str().is_empty());
+    File::open(folder.unwrap_or_else(|| Path::new(".")))?.sync_all()
+}
+
+fn put_aside(path: &Path) -> io::Result<PathBuf> {
+    let names = (1..=MOST_ASIDE).map(|number| beside(path, &format!(".aside{}", number)));
+    let (mut free, mut last) = (None, path.to_path_buf());
+    for name in names {
+        if free.is_none() && !name.exists() {
+            free = Some(name.clone());
+        }
+        last = name;
+    }
+    let aside = free.unwrap_or(last);
+    fs::rename(path, &aside)?;
+    Ok(aside)
+}
+
+#[cfg(test)]
+mod tests {
+    use super::*;
+
+    const TABLE: &[u8] = include_bytes!("../../examples/barrier.bits");
+    const START: Start = Start { links: 2, primary: Some(0), period: 60, first: 0, time: 1_254_398_371_571 };
+
+    fn site() -> Site {
+        let mut site = Site::start(TABLE, &START).unwrap();
+        site.alarm(2, true, START.time + 1).unwrap();
+        site
+    }
+
+    #[test]
+    fn bytes_and_back() {
+        let (setup, site) = (setup(TABLE, &START), site());
+        let bytes = written(&setup, &site, 77);
+        let stored = read(&setup, &bytes).unwrap_or_else(|why| panic!("{}", why));
+        assert_eq!(stored.time, 77);
+        assert_eq!(stored.site.to_bytes()[..], site.to_bytes()[..]);
+        assert_eq!((stored.site.links(), stored.site.held(0)), (2, 1));
+    }
+
+    #[test]
+    fn other_bytes_are_refused() {
+        let (setup_, site) = (setup(TABLE, &START), site());
+        let good = written(&setup_, &site, 77);
+        let why = |bytes: &[u8]| read(&setup_, bytes).err().unwrap_or_default();
+        for at in (0..good.len()).step_by(97).chain([0, 8, 12, 32, 40, good.len() - 1]) {
+            let mut bytes = good.clone();
+            bytes[at] ^= 1;
+            assert!(!why(&bytes).is_empty(), "byte {}", at);
+        }
+        assert!(why(&good[..good.len() - 1]).contains("check sum"));
+        assert!(why(&good[..9]).contains("no state"));
+        assert!(why(b"").contains("no state"));
+        let mut older = good.clone();
+        older[8] = 0;
+        assert!(why(&older).contains("edition 0"));
+        let mut table = TABLE.to_vec();
+        table[9] ^= 1;
+        for other in [
+            setup(&table, &START),
+            setup(TABLE, &Start { links: 3, ..START }),
+            setup(TABLE, &Start { primary: None, ..START }),
+            setup(TABLE, &Start { period: 61, ..START }),
+        ] {
+            assert!(read(&other, &good).err().unwrap().contains("another table"));
+        }
+        let first = Start { first: 9, time: 0, ..START };
+        assert!(read(&setup(TABLE, &first), &good).is_ok());
+    }
+
+    /// The site within the stored bytes, one byte of it changed, the check sum right.
+    fn with_byte(good: &[u8], at: usize, value: u8) -> Vec<u8> {
+        let mut bytes = good[..good.len() - 8].to_vec();
+        bytes[16 + at] = value;
+        let sum = check_sum(&bytes);
+        bytes.extend_from_slice(&sum.to_le_bytes());
+        bytes
+    }
+
+    #[test]
+    fn booleans_are_0_or_1() {
+        let good = site().to_bytes().to_vec();
+        let every_link = (0..4).flat_map(|link| 4128 + 544 * link + 530..4128 + 544 * link + 548);
+        let some = (0..4000).chain(6400..9140).chain(9160..good.len() - 24);
+        let refused: Vec<usize> = every_link
+            .chain(9150..9160)
+            .chain(some.step_by(31))
+            .filter(|at| Site::from_bytes(&with_byte(&good, *at, 0xff)).is_err())
+            .collect();
+        let booleans = (0..4).flat_map(|link| (0..8).map(move |place| 4128 + 544 * link + 536 + place));
+        let wanted: Vec<usize> = booleans.chain([9156, 9157]).collect();
+        assert_eq!(refused, wanted);
+    }
+
+    #[test]
+    fn booleans_stand_where_they_are_judged() {
+        let start = Start { links: 4, ..START };
+        for link in 0..4 {
+            let mut site = Site::start(TABLE, &start).unwrap();
+            let before = site.to_bytes();
+            site.connect(link, START.time).unwrap();
+            let after = site.to_bytes();
+            let changed = |at: &usize| before[16 + at] != after[16 + at];
+            let changed: Vec<usize> = (0..before.len() - 24).filter(changed).collect();
+            assert_eq!(changed, [4128 + 544 * link as usize + 536]);
+        }
+    }
+}

@@ -1,0 +1,129 @@
+"""Pictures by `rsmp-replay --picture`: well-formed, and with the numbers that the model in tests/model counts.
+
+  picture.py --stored        pictures of the stored scripts
+  picture.py --fresh [SEED]  .. of random ones
+"""
+import collections
+import random
+import subprocess
+import sys
+import time
+import xml.etree.ElementTree as xml
+
+import lives
+import replays
+from cases import ROOT
+from model import link as links_
+from model import pool, site
+
+PROGRAM = ROOT / "build" / "rsmp-replay"
+NAME = "{http://www.w3.org/2000/svg}"
+PHASES = ("Down", "Greeting", "Beating", "Up")
+WHAT = ("issued", "sent", "answered", "lost")
+LINES = 4000
+
+
+class Counting:
+    """The model's acts on records, counted while it is inside."""
+
+    def __enter__(self):
+        self.count = collections.Counter()
+        self.kept = pool.Pool.issue, pool.Pool.lose, pool.Pool.settle, site.Site.pump
+        issue, lose, settle, pump = self.kept
+        count = self.count
+
+        def issuing(one, record):
+            issue(one, record)
+            count["issued", record.link] += 1
+
+        def losing(one, record):
+            lose(one, record)
+            count["lost", record.link] += 1
+
+        def settling(one, link, sequence):
+            count["answered", link] += one.find(link, sequence) is not None
+            settle(one, link, sequence)
+
+        def pumping(one, link, *more):
+            done = pump(one, link, *more)
+            count["sent", link] += list(one.links[link].awaited.values())[-1][0] == links_.RECORD
+            return done
+
+        pool.Pool.issue, pool.Pool.lose, pool.Pool.settle, site.Site.pump = issuing, losing, settling, pumping
+        return self
+
+    def __exit__(self, *_):
+        pool.Pool.issue, pool.Pool.lose, pool.Pool.settle, site.Site.pump = self.kept
+
+
+def hold(good, what):
+    if not good:
+        sys.exit(f"picture: {what}")
+
+
+def picture(script, status=0):
+    done = subprocess.run([PROGRAM, "--picture"], input=script, stdout=subprocess.PIPE, stderr=subprocess.PIPE, text=True)
+    hold(done.returncode == status, f"status {done.returncode}: {done.stderr}")
+    return xml.fromstring(done.stdout)
+
+
+def judge(what, player, count):
+    """The picture of a script that ends with this player's site."""
+    root = picture(replays.texts(player)[0])
+    drawn = {group.get("id"): group for group in root.iter(NAME + "g")}
+    most = max([link for _, link in count] + [len(player.site.links) - 1])
+    hold(len(drawn) >= most + 1, f"{what}: {len(drawn)} links are drawn")
+    for number, one in enumerate(player.site.links):
+        group = drawn[f"link{number}"]
+        wanted = {name: count[name, number] for name in WHAT}
+        wanted["held"] = player.site.pool.held(number)
+        wanted["dropped"] = wanted["issued"] - wanted["answered"] - wanted["lost"] - wanted["held"]
+        said = {name: int(group.get(f"data-{name}")) for name in wanted}
+        hold(said == wanted, f"{what}, link {number}: {said}, and the model counts {wanted}")
+        hold(group.get("data-phase") == PHASES[one.phase], f"{what}, link {number}: {group.get('data-phase')}")
+        words = " ".join("".join(text.itertext()) for text in group.iter(NAME + "text"))
+        hold(f"{wanted['answered']} answered, {wanted['held']} held at the end, {wanted['lost']} lost" in words, f"{what}: {words}")
+    return len(root.findall(".//*"))
+
+
+def stored():
+    for script in replays.STORED:
+        with Counting() as counting:
+            player = script()
+        judge(script.__name__, player, counting.count)
+    whole = replays.paths(replays.whole_life)[0].read_text()
+    hold(picture("", 0).findall(f".//{NAME}g") == [], "nothing is drawn of nothing")
+    broken = picture(whole + "pump 0", 2)
+    hold(len(broken.findall(f"{NAME}g")) == 2, "what was played before a line that cannot be read is drawn")
+    print(f"picture: {len(replays.STORED)} stored scripts drawn, with the model's numbers")
+
+
+def fresh(seed):
+    print(f"picture: seed {seed}")
+    made = lives.lives(random.Random(seed), LINES)
+    drawn = total = 0
+    while True:
+        with Counting() as counting:
+            player = next(made, None)
+        if player is None:
+            break
+        if player.site:
+            judge(f"random script {drawn}", player, counting.count)
+            drawn += 1
+            total += sum(counting.count.values())
+    print(f"picture: {drawn} random scripts with {total} acts on records drawn, with the model's numbers")
+
+
+def main(words):
+    if words == ["--stored"]:
+        stored()
+    elif words[:1] == ["--fresh"]:
+        fresh(int(words[1]) if len(words) > 1 else time.time_ns() % 10**9)
+    else:
+        print(__doc__)
+        return 2
+    return 0
+
+
+if __name__ == "__main__":
+    sys.exit(main(sys.argv[1:]))

@@ -1,0 +1,135 @@
+"""The program `rsmp-site` as a process, led by its standard input or its control socket."""
+import os
+import pathlib
+import re
+import socket
+import subprocess
+import threading
+import time
+
+import tabletexts
+from cases import ROOT
+
+PROGRAM = ROOT / "build" / "rsmp-site"
+TABLE = ROOT / "examples" / "barrier.txt"
+BARRIER = tabletexts.table_of(TABLE.read_text())
+SITE, SXL = BARRIER.site.decode(), BARRIER.sxl.decode()
+NORTH = BARRIER.components[1].decode()
+RELEASE = 1
+LOGGED = re.compile(r"\d{4}-\d\d-\d\d \d\d:\d\d:\d\d\.\d{3}Z (error  |warning|info   |message|debug  ) (site  |link \d)  ")
+
+
+class Failed(Exception):
+    """A test does not hold."""
+
+
+class Dead(Exception):
+    """The process is gone."""
+
+
+def hold(good, what):
+    if not good:
+        raise Failed(what)
+
+
+def wait(test, what, seconds=20):
+    end = time.monotonic() + seconds
+    while not test():
+        hold(time.monotonic() < end, f"waited {seconds} s for {what}")
+        time.sleep(0.02)
+
+
+def subscription(name="release", code="S0101", rate="0", change=True):
+    return {"cId": NORTH, "sS": [{"sCI": code, "n": name, "uRt": rate, "sOc": change}]}
+
+
+class Process:
+    """rsmp-site with supervisors."""
+
+    def __init__(self, room, supervisors, *options, record=True, table=TABLE, **more):
+        self.record, self.lines = pathlib.Path(room) / "record.txt", []
+        words = ["--table", table, "--reconnect", "0.2", "--reconnect-limit", "0.4"]
+        words += [word for one in supervisors for word in ("--supervisor", getattr(one, "address", one))]
+        words += ["--record", self.record] if record else []
+        more = {"stdin": subprocess.PIPE, "stdout": subprocess.PIPE, "stderr": subprocess.STDOUT, **more}
+        self.process = subprocess.Popen([PROGRAM, *words, *options], text=True, bufsize=1, errors="replace", **more)
+        self.pid, self.reader = self.process.pid, None
+        if self.process.stdout:
+            self.reader = threading.Thread(target=self.read, daemon=True)
+            self.reader.start()
+
+    def read(self):
+        for line in self.process.stdout:
+            self.lines.append(line.rstrip("\n"))
+
+    def order(self, line):
+        """Gives an order and gives its reply."""
+        before = len(self.replies())
+        try:
+            self.process.stdin.write(line + "\n")
+        except OSError:
+            raise Dead
+        end = time.monotonic() + 10
+        while len(self.replies()) == before:
+            if self.process.poll() is not None and not self.reader.is_alive() and len(self.replies()) == before:
+                raise Dead
+            hold(time.monotonic() < end, f"no reply to {line!r}")
+            time.sleep(0.005)
+        return self.replies()[-1]
+
+    def replies(self):
+        return [line for line in list(self.lines) if not re.match(r"summary|  link |\(\d+ lines", line) and not LOGGED.match(line)]
+
+    def quit(self):
+        hold(self.order("quit") == "goodbye", "quit is not taken")
+        self.ended()
+
+    def terminate(self):
+        self.process.terminate()
+        self.ended()
+
+    def ended(self):
+        hold(self.process.wait(10) == 0, f"ends with status {self.process.returncode}")
+        if self.reader:
+            self.reader.join(5)
+
+    def kill(self):
+        self.process.kill()
+        self.process.wait()
+        if self.reader:
+            self.reader.join(5)
+
+    def logged(self, words):
+        return sum(words in line for line in list(self.lines))
+
+    def wait_logged(self, words, seconds=20):
+        wait(lambda: self.logged(words), f"the log to say {words!r}; it says {self.lines[-5:]}", seconds)
+
+    def resident(self):
+        """Bytes of memory in use."""
+        status = pathlib.Path(f"/proc/{self.pid}/status").read_text()
+        return 1024 * int(re.search(r"VmRSS:\s*(\d+) kB", status).group(1))
+
+    def processor_seconds(self):
+        fields = pathlib.Path(f"/proc/{self.pid}/stat").read_text().rsplit(")", 1)[1].split()
+        return (int(fields[11]) + int(fields[12])) / os.sysconf("SC_CLK_TCK")
+
+
+class Control:
+    """A connection to the control socket."""
+
+    def __init__(self, path):
+        wait(pathlib.Path(path).exists, "the control socket")
+        self.socket = socket.socket(socket.AF_UNIX)
+        self.socket.settimeout(10)
+        self.socket.connect(str(path))
+        self.stream = self.socket.makefile("rw", errors="replace")
+
+    def order(self, line):
+        self.stream.write(line + "\n")
+        self.stream.flush()
+        return self.stream.readline().rstrip("\n")
+
+    def close(self):
+        self.stream.close()
+        self.socket.close()

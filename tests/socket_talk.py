@@ -1,0 +1,125 @@
+"""Talk over real sockets: cut links, half packets, several in one segment, floods, garbage, four supervisors at once of which one never
+answers; then the record is played again, and the counts must add up."""
+import pathlib
+import re
+import time
+
+from process import NORTH, RELEASE, SITE, SXL, Control, Process, hold, subscription
+from recorded import judge_record
+from supervisors import FORM_FEED, Supervisor
+
+
+def odd_framing(supervisor):
+    """Leading and repeated form feeds, half packets, several in one segment, too long ones, garbage."""
+    supervisor.send_raw(FORM_FEED * 3)
+    first, packet = supervisor.packet("StatusRequest", cId=NORTH, sS=[{"sCI": "S0101", "n": "release"}])
+    supervisor.send_raw(packet[:10], packet[10:-1], packet[-1:])
+    several = [supervisor.packet("AggregatedStatusRequest", cId=SITE) for _ in range(4)]
+    supervisor.send_raw(b"".join(packet for _, packet in several) + FORM_FEED)
+    long, packet = supervisor.packet("AggregatedStatusRequest", cId=SITE, pad="x" * 4000)
+    supervisor.send_raw(packet)
+    supervisor.send_raw(b"y" * 100000 + FORM_FEED + b"{]" + FORM_FEED + b"\xff\xfe\x00" + FORM_FEED)
+    last, packet = supervisor.packet("AggregatedStatusRequest", cId=SITE)
+    supervisor.send_raw(packet)
+    wanted = {first, last, *(identity for identity, _ in several)}
+    supervisor.wait(lambda: wanted <= supervisor.acknowledged, "answers behind odd framing")
+    hold(long not in supervisor.acknowledged and long not in supervisor.refused, "a packet of more than 4,096 bytes is answered")
+
+
+def conversation(room):
+    primary, secondary = Supervisor(SITE, SXL), Supervisor(SITE, SXL, offer="3.1.5")
+    deaf, garbled = Supervisor(SITE, SXL, answers=False), Supervisor(SITE, SXL)
+    supervisors = [primary, secondary, deaf, garbled]
+    process = Process(room, supervisors, "--period", "2")
+    began = time.monotonic()
+    for one in (primary, secondary, garbled):
+        one.wait_up()
+    hold("link 0 Up, RSMP 3.2.0; link 1 Up, RSMP 3.1.5" in process.order("links"), "the links are not Up")
+
+    hold(process.order("alarm 2 on") == "done" and process.order(f"status {RELEASE} 190") == "done", "inputs are not taken")
+    hold("number 3" in process.order("alarm 6 on") and "number 3" in process.order("status 7 1"), "a wrong number is taken")
+    hold("known:" in process.order("alarm two on") and "known:" in process.order("open the barrier"), "a wrong order is taken")
+    primary.wait(lambda: any(said["aS"] == "Active" for said in primary.of("Alarm")), "the alarm")
+    hold(not secondary.of("Alarm"), "the secondary got an alarm")
+    hold(secondary.ask("Alarm", cId=NORTH, aCId="A0101", aSp="Request") is True, "a secondary's Request is not acknowledged")
+    hold(primary.ask("Alarm", cId=NORTH, aCId="A0101", aSp="Acknowledge") is True, "Acknowledge")
+    hold(primary.ask("Alarm", cId="nowhere", aCId="A0101", aSp="Suspend") == "Unknown component", "Unknown component")
+
+    hold(primary.ask("StatusSubscribe", **subscription()) is True, "the primary's subscription")
+    odd_framing(garbled)
+    odd_framing(garbled)
+    cut_and_back(process, primary)
+    flood(process, primary, secondary)
+    garbled.send_raw(b"z" * 300000 + FORM_FEED)
+
+    deaf_connections = len(deaf.connections)
+    hold(deaf_connections >= 1, "the one that never answers is not connected")
+    deaf.wait(lambda: len(deaf.connections) > deaf_connections, "the one that never answers to be dropped and called again",
+              40 - (time.monotonic() - began) + 10)
+    hold(process.logged("no answer for 30 seconds") >= 1, "the log does not say why")
+    for one in (primary, secondary, garbled):
+        hold(one.stream is not None, "another link was disturbed")
+    process.quit()
+    hold(process.logged("a packet of 100000 bytes is dropped") == 2, "the log does not tell of the long packet")
+    for one in supervisors:
+        one.close()
+    return judged(process, supervisors)
+
+
+def cut_and_back(process, primary):
+    """What is issued while a link is down arrives when it is back."""
+    before = len(primary.of("StatusUpdate"))
+    primary.greets = False
+    primary.cut()
+    primary.wait(lambda: primary.stream is None, "the cut")
+    for value in (200, 240, 290, 340):
+        hold(process.order(f"status {RELEASE} {value}") == "done", "a status while the link is down")
+    primary.greets = True
+    primary.cut()
+    values = lambda: [said["sS"][0]["s"] for said in primary.of("StatusUpdate")][before:]
+    primary.wait(lambda: values()[-4:] == ["200", "240", "290", "340"], "what waited")
+
+
+def flood(process, primary, secondary):
+    """A secondary that subscribes without end and does not answer pushes nothing of the primary's out."""
+    secondary.answers = False
+    for _ in range(40):
+        entries = [{"sCI": "S0101", "n": "release", "uRt": "0", "sOc": True}] * 16
+        secondary.send("StatusSubscribe", cId=NORTH, sS=entries)
+    hold(secondary.ask("StatusUnsubscribe", **{"cId": NORTH, "sS": [{"sCI": "S0101", "n": "release"}]}) is True, "the end of the flood")
+    before = len(primary.of("StatusUpdate"))
+    hold(process.order(f"status {RELEASE} 350") == "done", "a status in the flood")
+    primary.wait(lambda: len(primary.of("StatusUpdate")) > before, "the primary's status in the flood")
+    counts = process.order("counts")
+    hold(re.match(r"link 0 holds \d+, lost 0; link 1 holds 64, lost [1-9]", counts), f"the flood: {counts}")
+    secondary.answers = True
+    secondary.cut()
+    secondary.wait_up()
+    secondary.wait(lambda: len(secondary.of("StatusUpdate")) >= 64, "what is held after the flood")
+
+
+def control_socket(room):
+    """Orders by a Unix socket; SIGTERM ends cleanly."""
+    supervisor = Supervisor(SITE, SXL)
+    path = pathlib.Path(room) / "control"
+    process = Process(room, [supervisor], "--control", path, "--primary", "none", "--quiet")
+    supervisor.wait_up()
+    control = Control(path)
+    for line, wanted in (("aggregated 5", "done"), ("counts", "link 0 holds"), ("links", "link 0 Up"), ("aggregated 256", "known:"),
+                         ("save", "refused: there is no state")):
+        hold(wanted in control.order(line), f"control socket: {line}")
+    supervisor.wait(lambda: any(said["se"][5] and said["se"][7] for said in supervisor.of("AggregatedStatus")), "the aggregated status")
+    process.terminate()
+    hold(process.logged("summary") == 1 and not path.exists(), "no clean end after SIGTERM")
+    supervisor.close()
+    return judged(process, [supervisor])
+
+
+def judged(process, supervisors):
+    calls, issued, settled = judge_record(process, supervisors)
+    messages = sum(len(one.messages) for one in supervisors)
+    return (f"{messages} messages; {calls} calls played again to the same bytes, {issued} records issued, {settled} answered, "
+            "the rest held or lost")
+
+
+TESTS = [conversation, control_socket]

@@ -1,0 +1,85 @@
+"""Clocks that are set, through a clock that the test feeds."""
+import pathlib
+from datetime import datetime, timezone
+
+from process import RELEASE, SITE, SXL, Process, hold, subscription, wait
+from supervisors import Supervisor
+
+HOUR = 3_600_000
+NOON = 1_254_398_371_571
+
+
+class FedClock:
+    """The system's clock at the program's start, and how much longer than it seems the program runs, in milliseconds."""
+
+    def __init__(self, room, system):
+        self.path, self.system, self.longer = pathlib.Path(room) / "clock", system, 0
+        self.write()
+
+    def write(self):
+        new = self.path.with_suffix(".new")
+        new.write_text(f"{self.system} {self.longer}\n")
+        new.rename(self.path)
+
+    def set(self, system):
+        self.system = system
+        self.write()
+
+    def pass_(self, milliseconds):
+        self.longer += milliseconds
+        self.write()
+
+
+def milliseconds(text):
+    moment = datetime.strptime(text, "%Y-%m-%dT%H:%M:%S.%fZ").replace(tzinfo=timezone.utc)
+    return round(moment.timestamp() * 1000)
+
+
+def watchdogs(supervisor):
+    return [milliseconds(said["wTs"]) for said in supervisor.of("Watchdog")]
+
+
+def set_back(room):
+    """An hour back: Watchdogs, updates at intervals and the closing after 30 s go on, and no time goes back."""
+    clock, supervisor = FedClock(room, NOON), Supervisor(SITE, SXL)
+    process = Process(room, [supervisor], "--clock", clock.path, "--period", "1")
+    supervisor.wait_up()
+    hold(process.order(f"status {RELEASE} 190") == "done", "a status")
+    hold(supervisor.ask("StatusSubscribe", **subscription(rate="1", change=False)) is True, "a subscription at intervals")
+    clock.set(NOON - HOUR)
+    process.wait_logged("the system's clock is 36")
+    beats, updates = len(watchdogs(supervisor)), len(supervisor.of("StatusUpdate"))
+    supervisor.wait(lambda: len(watchdogs(supervisor)) >= beats + 2 and len(supervisor.of("StatusUpdate")) >= updates + 2,
+                    "Watchdogs and updates after the clock was set back")
+    supervisor.answers = False
+    beats = len(watchdogs(supervisor))
+    supervisor.wait(lambda: len(watchdogs(supervisor)) > beats, "a Watchdog that is not answered")
+    clock.pass_(31_000)
+    process.wait_logged("we close the connection: no answer for 30 seconds")
+    supervisor.answers = True
+    supervisor.wait_up()
+    times = watchdogs(supervisor)
+    hold(times == sorted(times) and NOON <= times[0] and times[-1] < NOON + 120_000, f"the times of Watchdogs: {times}")
+    process.quit()
+    supervisor.close()
+
+
+def boots_in_1970(room):
+    """The clock is set right while the site runs: its times are right from then on; and after an hour's jump, too."""
+    clock, supervisor = FedClock(room, 0), Supervisor(SITE, SXL)
+    process = Process(room, [supervisor], "--clock", clock.path, "--period", "1")
+    supervisor.wait_up()
+    hold(process.order("alarm 2 on") == "done", "an alarm in 1970")
+    for turn, right in enumerate((NOON, NOON + HOUR), 1):
+        clock.set(right)
+        wait(lambda: process.logged("the system's clock was set") == turn, "the log to tell of the clock")
+        supervisor.wait(lambda: watchdogs(supervisor)[-1] >= right, "a Watchdog at the right time")
+        supervisor.wait_up()
+        hold("link 0 Up" in process.order("links"), "the link after the clock was set")
+    times = watchdogs(supervisor)
+    hold(times[0] < 60_000 and times == sorted(times) and times[-1] < NOON + HOUR + 60_000, f"the times of Watchdogs: {times}")
+    process.quit()
+    supervisor.close()
+
+
+TESTS = [set_back, boots_in_1970]
