@@ -45,6 +45,7 @@ def subscription(name="release", code="S0101", rate="0", change=True):
 
 class Process:
     """rsmp-site with supervisors."""
+    started = []
 
     def __init__(self, room, supervisors, *options, record=True, table=TABLE, **more):
         self.record, self.lines = pathlib.Path(room) / "record.txt", []
@@ -53,7 +54,8 @@ class Process:
         words += ["--record", self.record] if record else []
         more = {"stdin": subprocess.PIPE, "stdout": subprocess.PIPE, "stderr": subprocess.STDOUT, **more}
         self.process = subprocess.Popen([PROGRAM, *words, *options], text=True, bufsize=1, errors="replace", **more)
-        self.pid, self.reader = self.process.pid, None
+        self.pid, self.reader, self.room = self.process.pid, None, str(room)
+        self.started.append(self)
         if self.process.stdout:
             self.reader = threading.Thread(target=self.read, daemon=True)
             self.reader.start()
@@ -98,6 +100,15 @@ class Process:
         self.process.wait()
         if self.reader:
             self.reader.join(5)
+
+    @classmethod
+    def end_all(cls, room):
+        """Those of a room that a failed test left."""
+        for one in list(cls.started):
+            if one.room == str(room):
+                cls.started.remove(one)
+                one.process.kill()
+                one.process.wait()
 
     def logged(self, words):
         return sum(words in line for line in list(self.lines))

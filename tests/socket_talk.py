@@ -1,12 +1,19 @@
 """Talk over real sockets: cut links, half packets, several in one segment, floods, garbage, four supervisors at once of which one never
 answers; then the record is played again, and the counts must add up."""
+import json
 import pathlib
 import re
+import socket
 import time
+import uuid
 
+from model import message
 from process import NORTH, RELEASE, SITE, SXL, Control, Process, hold, subscription
 from recorded import judge_record
 from supervisors import FORM_FEED, Supervisor
+
+IDENTITY = re.compile(r"[0-9a-f]{8}-[0-9a-f]{4}-4[0-9a-f]{3}-[89ab][0-9a-f]{3}-[0-9a-f]{12}")
+TIME = re.compile(r"\d{4}-\d\d-\d\dT\d\d:\d\d:\d\d\.\d{3}Z")
 
 
 def odd_framing(supervisor):
@@ -115,6 +122,85 @@ def control_socket(room):
     return judged(process, [supervisor])
 
 
+class Strict:
+    """A supervisor that takes one packet after the other and nothing that it does not expect."""
+
+    def __init__(self):
+        self.listener, self.stream, self.rest = socket.create_server(("127.0.0.1", 0)), None, b""
+        self.address = "127.0.0.1:%d" % self.listener.getsockname()[1]
+
+    def accept(self):
+        self.listener.settimeout(20)
+        self.stream, _ = self.listener.accept()
+
+    def next(self, kind, *names):
+        """The next packet, which is of this type and has these elements in this order beside mType, type and mId."""
+        self.stream.settimeout(20)
+        while FORM_FEED not in self.rest:
+            data = self.stream.recv(4096)
+            hold(data, f"the connection is closed where a {kind} is expected")
+            self.rest += data
+        packet, self.rest = self.rest.split(FORM_FEED, 1)
+        said = json.loads(packet.decode("ascii"))
+        hold(message.text(said) == packet and said["mType"] == "rSMsg" and said["type"] == kind, f"{packet} where a {kind} is expected")
+        head = ["mType", "type"] if kind in message.ANSWERS else ["mType", "type", "mId"]
+        hold(list(said) == head + list(names), f"the elements of a {kind}: {list(said)}")
+        hold("mId" not in said or IDENTITY.fullmatch(said["mId"]), f"the identity of a {kind}: {said}")
+        return said
+
+    def silence(self, when):
+        self.stream.settimeout(0.4)
+        try:
+            self.rest += self.stream.recv(4096)
+        except TimeoutError:
+            pass
+        hold(not self.rest, f"{self.rest} {when}")
+
+    def send(self, kind, **more):
+        identity = str(uuid.uuid4())
+        self.stream.sendall(message.text({**message.head(kind, identity), **more}) + FORM_FEED)
+        return identity
+
+    def acknowledge(self, said):
+        self.stream.sendall(message.ack(said["mId"]) + FORM_FEED)
+
+
+def strict_greeting(room):
+    """Each step of the greeting waits for the one before, and nothing else is sent before the link is Up."""
+    strict = Strict()
+    process = Process(room, [strict], "--period", "3600")
+    strict.accept()
+    version = strict.next("Version", "RSMP", "siteId", "SXL")
+    hold(version["RSMP"] == [{"vers": "3.1.5"}, {"vers": "3.2"}] and version["siteId"] == [{"sId": SITE}] and version["SXL"] == SXL, f"{version}")
+    hold(process.order("alarm 2 on") == "done", "an alarm before the greeting")
+    strict.silence("before our Version is acknowledged")
+    strict.acknowledge(version)
+    strict.silence("before theirs has come")
+    theirs = strict.send("Version", RSMP=[{"vers": "3.2.0"}, {"vers": "2.0"}], siteId=[{"sId": "another"}, {"sId": SITE}], SXL=SXL)
+    hold(strict.next("MessageAck", "oMId")["oMId"] == theirs, "the acknowledgement of their Version")
+    watchdog = strict.next("Watchdog", "wTs")
+    hold(TIME.fullmatch(watchdog["wTs"]), f"{watchdog}")
+    early = strict.send("AggregatedStatusRequest", cId=SITE)
+    refused = strict.next("MessageNotAck", "oMId", "rea")
+    hold(refused["oMId"] == early and refused["rea"] == "Not ready", f"{refused}")
+    strict.acknowledge(watchdog)
+    strict.silence("before their Watchdog has come")
+    theirs = strict.send("Watchdog", wTs=watchdog["wTs"])
+    hold(strict.next("MessageAck", "oMId")["oMId"] == theirs, "the acknowledgement of their Watchdog")
+    status = strict.next("AggregatedStatus", "ntsOId", "xNId", "cId", "aSTS", "fP", "fS", "se")
+    hold(status["se"] == [False] * 8 and status["cId"] == SITE and status["fP"] == "" and TIME.fullmatch(status["aSTS"]), f"{status}")
+    alarms = [strict.next("Alarm", "ntsOId", "xNId", "cId", "aCId", "xACId", "xNACId", "aSp", "ack", "aS", "sS", "aTs", "cat", "pri", "rvs")
+              for _ in range(6)]
+    hold([said["aS"] for said in alarms] == ["inActive", "inActive", "Active", "inActive", "inActive", "inActive"], f"{alarms}")
+    strict.silence("when all is said")
+    for said in [status, *alarms]:
+        strict.acknowledge(said)
+    strict.silence("when all is answered")
+    hold(process.order("counts") == "link 0 holds 0, lost 0", "the alarm's record is answered by the alarm of the greeting")
+    process.quit()
+    strict.listener.close()
+
+
 def judged(process, supervisors):
     calls, issued, settled = judge_record(process, supervisors)
     messages = sum(len(one.messages) for one in supervisors)
@@ -122,4 +208,4 @@ def judged(process, supervisors):
             "the rest held or lost")
 
 
-TESTS = [conversation, control_socket]
+TESTS = [conversation, control_socket, strict_greeting]

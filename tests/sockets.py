@@ -17,7 +17,7 @@ import socket_links
 import socket_state
 import socket_talk
 import socket_time
-from process import Failed
+from process import Failed, Process
 
 AT_ONCE = 2
 # The longest first.
@@ -27,7 +27,10 @@ SUBJECTS = socket_talk, socket_state, socket_links, socket_time, socket_hostile,
 def run(test, *more):
     with tempfile.TemporaryDirectory() as room:
         began = time.monotonic()
-        said = test(room, *more)
+        try:
+            said = test(room, *more)
+        finally:
+            Process.end_all(room)
         print(f"rsmp-site: {test.__name__}: {time.monotonic() - began:.0f} s{'; ' + said if said else ''}", flush=True)
 
 

@@ -1,16 +1,14 @@
 //! What the process does with each event: calls on the site, bytes to the supervisors, lines to the log.
 
 use crate::calls::Calls;
-use crate::control::Asked;
 use crate::framing::{Frame, FORM_FEED};
 use crate::journal::{Journal, Level};
 use crate::options::Options;
-use crate::orders::{self, Order};
 use crate::readable::{kind, value_of};
 use crate::wires::{Closing, Event, Wire, NOT_READ};
 use rsmp_site::{Called, Phase, Refusal, Report};
 use std::fmt::Display;
-use std::sync::mpsc::{channel, Receiver};
+use std::sync::mpsc::Receiver;
 use std::time::{Duration, Instant};
 
 const GOODBYE: Duration = Duration::from_secs(2);
@@ -20,7 +18,7 @@ const CLOCKS_DIFFER: u64 = 1000;
 const CLOCK_LINES: Duration = Duration::from_secs(60);
 
 /// One supervisor.
-struct Link {
+pub struct Link {
     address: String,
     wire: Option<Wire>,
     since: Instant,
@@ -35,14 +33,14 @@ struct Link {
 }
 
 pub struct Host {
-    calls: Calls,
+    pub calls: Calls,
     journal: Journal,
-    links: Vec<Link>,
+    pub links: Vec<Link>,
     greeting_limit: Duration,
     closing: Vec<Closing>,
     system_behind: u64,
     /// Set by quit: ends when its reply is written.
-    quitting: Option<Receiver<()>>,
+    pub quitting: Option<Receiver<()>>,
 }
 
 impl Host {
@@ -332,7 +330,7 @@ impl Host {
     }
 
     /// A new site where the sequence numbers are used up.
-    fn start_anew(&mut self) {
+    pub fn start_anew(&mut self) {
         let counts = self.counts();
         self.say_of_site(
             Level::Error,
@@ -348,69 +346,6 @@ impl Host {
         if let Err(refusal) = self.calls.start_anew() {
             self.say_of_site(Level::Error, format!("the new site does not start: {}", refusal));
         }
-    }
-
-    // Orders.
-
-    fn answer(&mut self, asked: Asked) {
-        let (gone, written) = channel();
-        let text = match orders::read(&asked.line) {
-            Ok(Order::Quit) => {
-                self.quitting = Some(written);
-                "goodbye".to_string()
-            }
-            Ok(order) => self.obey(order),
-            Err(message) => message,
-        };
-        self.calls.save_before_it_is_seen();
-        let _ = asked.reply.send((text, gone));
-    }
-
-    fn obey(&mut self, order: Order) -> String {
-        let mut called = match order {
-            Order::Counts => return self.counts(),
-            Order::Links => return self.phases(),
-            Order::Help | Order::Quit => return orders::HELP.to_string(),
-            Order::Save if self.calls.save() => return "done".to_string(),
-            Order::Save => return "refused: there is no state, or it cannot be written".to_string(),
-            _ => self.input(&order),
-        };
-        if called == Err(Refusal::SequenceSpent) {
-            self.start_anew();
-            called = self.input(&order);
-        }
-        match called {
-            Ok(_) => "done".to_string(),
-            Err(refusal) => format!("refused: {}", refusal),
-        }
-    }
-
-    fn input(&mut self, order: &Order) -> Called {
-        match *order {
-            Order::Alarm(number, active) => self.calls.alarm(number, active),
-            Order::Status(number, value) => self.calls.status(number, value),
-            Order::Aggregated(value) => self.calls.aggregated(value),
-            _ => Err(Refusal::Ignored),
-        }
-    }
-
-    fn counts(&self) -> String {
-        let site = &self.calls.site;
-        let each = (0..site.links()).map(|link| format!("link {} holds {}, lost {}", link, site.held(link), site.lost(link)));
-        each.collect::<Vec<_>>().join("; ")
-    }
-
-    fn phase_of(&self, link: u32) -> String {
-        let site = &self.calls.site;
-        match (site.phase(link), site.version(link)) {
-            (Phase::Up, Some((major, minor, patch))) => format!("Up, RSMP {}.{}.{}", major, minor, patch),
-            (phase, _) => format!("{:?}", phase),
-        }
-    }
-
-    fn phases(&self) -> String {
-        let each = (0..self.links.len() as u32).map(|link| format!("link {} {}", link, self.phase_of(link)));
-        each.collect::<Vec<_>>().join("; ")
     }
 
     // The end.

@@ -7,6 +7,7 @@ mod framing;
 mod host;
 mod journal;
 mod notify;
+mod obey;
 mod options;
 mod orders;
 mod outlet;

@@ -1,7 +1,7 @@
 //! The site's bytes in a file, so that what is held and what is set survive a power loss. The file is replaced as a whole: it has the
 //! former site or the new one, never a part.
 
-use rsmp_site::{check_sum, Site, Start};
+use rsmp_site::{check_sum, Phase, Site, Start};
 use std::fs::{self, File};
 use std::io::{self, Write};
 use std::path::{Path, PathBuf};
@@ -59,8 +59,17 @@ fn read(setup: &[u8; 20], bytes: &[u8]) -> Result<Stored, String> {
     }
     let mut time = [0; 8];
     time.copy_from_slice(&told[32..40]);
+    let time = u64::from_le_bytes(time);
     let site = Site::from_bytes(&told[HEAD_BYTES..]).map_err(|fault| format!("it is {}", fault))?;
-    Ok(Stored { site, time: u64::from_le_bytes(time) })
+    if !goes_on(site.clone(), time) {
+        return Err("its site does not go on at its time".to_string());
+    }
+    Ok(Stored { site, time })
+}
+
+/// Whether every link that is not Down can be disconnected, as it is after a restart.
+fn goes_on(mut site: Site, time: u64) -> bool {
+    (0..site.links()).all(|link| site.phase(link) == Phase::Down || site.disconnect(link, time).is_ok())
 }
 
 pub enum Found {
@@ -176,9 +185,9 @@ mod tests {
     #[test]
     fn bytes_and_back() {
         let (setup, site) = (setup(TABLE, &START), site());
-        let bytes = written(&setup, &site, 77);
+        let bytes = written(&setup, &site, START.time + 77);
         let stored = read(&setup, &bytes).unwrap_or_else(|why| panic!("{}", why));
-        assert_eq!(stored.time, 77);
+        assert_eq!(stored.time, START.time + 77);
         assert_eq!(stored.site.to_bytes()[..], site.to_bytes()[..]);
         assert_eq!((stored.site.links(), stored.site.held(0)), (2, 1));
     }
@@ -211,6 +220,16 @@ mod tests {
         }
         let first = Start { first: 9, time: 0, ..START };
         assert!(read(&setup(TABLE, &first), &good).is_ok());
+    }
+
+    #[test]
+    fn a_site_of_a_later_time_is_refused() {
+        let (setup, mut site) = (setup(TABLE, &START), site());
+        site.connect(1, START.time + 9).unwrap();
+        let why = |time: u64| read(&setup, &written(&setup, &site, time)).err();
+        assert_eq!(why(START.time + 9), None);
+        assert_eq!(why(START.time + 8).as_deref(), Some("its site does not go on at its time"));
+        assert_eq!(why(u64::MAX).as_deref(), Some("its site does not go on at its time"));
     }
 
     /// The site within the stored bytes, one byte of it changed, the check sum right.
