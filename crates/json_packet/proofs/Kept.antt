@@ -7,6 +7,7 @@ use Prim.Native.Nat.{ℕ}
 use Rattle.json_value.specs.Grammar.{Json}
 use Rattle.json_packet.specs.Packet.{Packet, isPacket}
 use Rattle.json_packet.specs.Claims.{Claims}
+use Rattle.json_packet.proofs.Once as Once
 use Rattle.json_packet.proofs.Whole as Whole
 
 pub refused : {s : List ℕ} {j : Json} → isPacket s ≡ false → Packet s j → ⊥
@@ -20,4 +21,6 @@ kept =
       refused = refused;
       meaning-once = Whole.meaning-once;
       means = Whole.means;
+      once = Once.sound;
+      passes = Once.complete;
     }

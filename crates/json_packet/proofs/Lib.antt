@@ -2,5 +2,6 @@
 mod Scans
 mod Twice
 mod Sures
+mod Once
 pub mod Whole
 pub mod Kept

@@ -7,6 +7,8 @@ use mathlib.Core.List.{List}
 use Rattle.json_value.specs.Grammar.{Json}
 use Rattle.json_value.specs.Answers.{Skipped}
 use Rattle.json_value.specs.Means.{Means}
+use Rattle.json_packet.specs.Names.{noTwice}
+use Rattle.json_packet.specs.Once.{NoNameTwice}
 use Rattle.json_packet.specs.Packet.{Packet, isPacket, meaningOf}
 
 pub record Claims : Type 0 where
@@ -18,3 +20,6 @@ pub record Claims : Type 0 where
   pub meaning-once : {s : List ℕ} {j k : Json} → Packet s j → Packet s k → j ≡ k
   -- and the place after its first white space means that
   pub means : {s : List ℕ} {i : ℕ} → isPacket s ≡ true → Skipped s 0 i → Means s i (meaningOf s)
+  -- and exactly the values without a name twice in an object pass
+  pub once : (j : Json) → noTwice j ≡ true → NoNameTwice j
+  pub passes : (j : Json) → NoNameTwice j → noTwice j ≡ true

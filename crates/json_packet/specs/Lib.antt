@@ -1,4 +1,5 @@
 pub mod Names
+pub mod Once
 pub mod Scan
 pub mod Packet
 pub mod Claims

@@ -42,7 +42,7 @@ label s h k e = rw (le-leb 1 (length s) h, le-leb (length s) 32 k, e)
 pub all-read : (s : List ℕ) (i : ℕ) → length s ≤ i → allInAlphabet (drop i s) ≡ true
 all-read s i h = ap allInAlphabet (drop-of-length-le s {i = i} h)
 
-both-parts : (a b : Bool) → both a b ≡ true → (a ≡ true) × (b ≡ true)
+pub both-parts : (a b : Bool) → both a b ≡ true → (a ≡ true) × (b ≡ true)
 both-parts true b e = (refl, e)
 both-parts false b e = absurd (let z : _≡_ {A = ℕ} 0 1 = cc in omega arith)
 

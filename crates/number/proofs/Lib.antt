@@ -6,3 +6,4 @@ pub mod Reading
 pub mod Alphabet
 pub mod Refused
 pub mod Examples
+pub mod Kept

@@ -2,3 +2,4 @@ pub mod Signed
 pub mod Decimal
 pub mod Reading
 pub mod Alphabet
+pub mod Claims

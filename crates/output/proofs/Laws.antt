@@ -172,11 +172,14 @@ full-some {ys = ys} {r = r} w h = ⊎-elim
 pub as-one : {xs : List ℕ} {at : ℕ} {bs : List (List ℕ)} {ys : List ℕ} {r : ℕ} → Wrote xs at bs ys r → r ≤ length ys → Wrote xs at (concat bs ∷ []) ys r
 as-one w h = let g = fitted w h in let e = fits w g in rw (e .0, e .1) (placed g)
 
--- once the end is past the output, nothing more is written
-pub stopped : {xs : List ℕ} {at : ℕ} {b : List ℕ} {bs : List (List ℕ)} {ys : List ℕ} {r : ℕ} (cs : List (List ℕ))
-    → Wrote xs at (b ∷ bs) ys r → length ys < r → Wrote xs at (b ∷ (bs ++ cs)) ys r
-stopped {ys = ys} {r = r} cs w h =
-    let e : r ≡ length ys + 1 = omega (arith, most-some w, same-length w) in
+-- a writer that found no room, and all that would follow it: nothing follows
+pub stopped : {xs : List ℕ} {at : ℕ} {bs : List (List ℕ)} {ys : List ℕ} {r : ℕ} (cs : List (List ℕ))
+    → at ≤ length xs
+    → Wrote xs at bs ys r
+    → length ys < r
+    → Wrote xs at (bs ++ cs) ys r
+stopped {ys = ys} {r = r} cs l w h =
+    let e : r ≡ length ys + 1 = omega (arith, most w (omega arith), same-length w) in
     then w (record { all = ap (output ys) e ∙ sym (stop ys cs) ∙ ap (λ (n : ℕ). putAll (output ys n) cs) (sym e) })
 
 -- xs with its part from k on, lent, left as the writer left it; the end counted from the start of xs
@@ -218,3 +221,11 @@ rest {xs} {k} {bs} {ys} {r} h w = record {
       ∙ whole-all xs k h (midOf k (length xs - k) xs) 0 bs (mid-len k (length xs) xs (omega arith))
       ∙ ap₂ (λ (l : List ℕ) (n : ℕ). putAll (output l n) bs) (put-same k (length xs - k) xs) (add-zero k);
 }
+
+-- one writer, and another that is lent the rest of the output from where the first ended: what the two leave in the whole
+pub lent : {xs : List ℕ} {at : ℕ} {bs : List (List ℕ)} {ys : List ℕ} {k : ℕ} {cs : List (List ℕ)} {zs : List ℕ} {r : ℕ}
+    → Wrote xs at bs ys k
+    → k ≤ length ys
+    → Wrote (midOf k (length ys - k) ys) 0 cs zs r
+    → Wrote xs at (bs ++ cs) (putMid k (length ys - k) ys zs) (k + r)
+lent w h v = then w (rest h v)

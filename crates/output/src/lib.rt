@@ -34,48 +34,9 @@ pub fn put3(out: &mut [u8], at: usize, a: &[u8], b: &[u8], c: &[u8]) -> usize
     put_bytes(out, end, c)
 }
 
-pub fn put4(out: &mut [u8], at: usize, a: &[u8], b: &[u8], c: &[u8], d: &[u8]) -> usize
-    ensures { λ r. ⌜ Wrote (now (out .entry)) at (now (a .entry) ∷ now (b .entry) ∷ now (c .entry) ∷ now (d .entry) ∷ []) (now (out .exit)) r ⌝ }
-{
-    let end = put2(out, at, a, b);
-    put2(out, end, c, d)
-}
-
 pub fn put5(out: &mut [u8], at: usize, a: &[u8], b: &[u8], c: &[u8], d: &[u8], e: &[u8]) -> usize
     ensures { λ r. ⌜ Wrote (now (out .entry)) at (now (a .entry) ∷ now (b .entry) ∷ now (c .entry) ∷ now (d .entry) ∷ now (e .entry) ∷ []) (now (out .exit)) r ⌝ }
 {
     let end = put3(out, at, a, b, c);
     put2(out, end, d, e)
-}
-
-pub fn put10(
-    out: &mut [u8],
-    at: usize,
-    a: &[u8],
-    b: &[u8],
-    c: &[u8],
-    d: &[u8],
-    e: &[u8],
-    f: &[u8],
-    g: &[u8],
-    h: &[u8],
-    i: &[u8],
-    j: &[u8],
-) -> usize
-    ensures { λ r. ⌜ Wrote (now (out .entry)) at (now (a .entry) ∷ now (b .entry) ∷ now (c .entry) ∷ now (d .entry) ∷ now (e .entry) ∷ now (f .entry) ∷ now (g .entry) ∷ now (h .entry) ∷ now (i .entry) ∷ now (j .entry) ∷ []) (now (out .exit)) r ⌝ }
-{
-    let end = put5(out, at, a, b, c, d, e);
-    put5(out, end, f, g, h, i, j)
-}
-
-// Writes first from at on, then second into the rest of the output, lent from the end of first. Where first found no room, nothing follows.
-pub fn put_behind(out: &mut [u8], at: usize, first: &[u8], second: &[u8]) -> usize
-    ensures { λ r. ⌜ Wrote (now (out .entry)) at (now (first .entry) ∷ now (second .entry) ∷ []) (now (out .exit)) r ⌝ }
-{
-    let end = put_bytes(out, at, first);
-    if out.len() < end {
-        return end;
-    }
-    let more = put_bytes(&mut out[end..], 0, second);
-    end + more
 }

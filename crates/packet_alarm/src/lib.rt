@@ -1,9 +1,13 @@
 // What a supervisor orders of an alarm, and its request for the aggregated status.
 ghost use mathlib.Core.Path.{_≡_};
+ghost use mathlib.Core.List.{_++_};
 ghost use Rattle.packet_lookup.specs.Sought.{alarmSought, componentSought};
 ghost use Rattle.basis.specs.Pick.{both};
 ghost use Rattle.pool_batch.specs.Batch.{issuedAll};
+ghost use Rattle.output.specs.Put.{Wrote};
 ghost use Rattle.read_head.specs.Small.{alarmAt, aggregatedAt};
+ghost use Rattle.write_message.specs.Message.Message.{ack};
+ghost use Rattle.write_message.specs.Pieces.{pieces};
 ghost use Rattle.send_message.specs.Sending.{alarmMessage, aggregatedMessage};
 ghost use Rattle.packet_answer.specs.Taken.{replied, unlessBusy};
 ghost use Rattle.site.specs.Call.{never, Gives};
@@ -74,6 +78,18 @@ fn change(
     changed(s, time, received, k, a.order(order, time), out)
 }
 
+// The acknowledgement, and the alarm in the rest of the output, lent from where it ends. Where it found no room, nothing follows.
+fn answer_and_alarm(s: Site, id: Identity, received: Received, k: u8, out: &mut [u8]) -> usize
+    ensures { λ r. ⌜ Wrote (now (out .entry)) 0 (pieces (ack (received .bytes)) ++ pieces (alarmMessage s (id .bytes) k)) (now (out .exit)) r ⌝ }
+{
+    let end = packet_answer::ack(received, out);
+    if out.len() < end {
+        return end;
+    }
+    let more = send_message::write_alarm(&mut out[end..], 0, s, id, k as usize);
+    end + more
+}
+
 // The alarm as it is, behind the acknowledgement.
 fn reply_alarm(
     s: Site,
@@ -92,8 +108,7 @@ fn reply_alarm(
     if packet_answer::is_awaited(s, l, id) {
         return site::refused(s, Refusal::IdentityAwaited);
     }
-    let end = packet_answer::ack(received, out);
-    let end = send_message::write_alarm(out, end, s, id, k as usize);
+    let end = answer_and_alarm(s, id, received, k, out);
     packet_answer::reply_done(s, l, time, id, end)
 }
 
@@ -210,6 +225,18 @@ pub fn alarm(
     judge(s, l, time, id, received, f, out)
 }
 
+// The acknowledgement, and the aggregated status in the rest of the output, lent from where it ends. Where it found no room, nothing follows.
+fn answer_and_aggregated(s: Site, id: Identity, received: Received, out: &mut [u8]) -> usize
+    ensures { λ r. ⌜ Wrote (now (out .entry)) 0 (pieces (ack (received .bytes)) ++ pieces (aggregatedMessage s (id .bytes))) (now (out .exit)) r ⌝ }
+{
+    let end = packet_answer::ack(received, out);
+    if out.len() < end {
+        return end;
+    }
+    let more = send_message::write_aggregated(&mut out[end..], 0, s, id);
+    end + more
+}
+
 // The aggregated status as it is, behind the acknowledgement.
 fn reply_aggregated(
     s: Site,
@@ -227,8 +254,7 @@ fn reply_aggregated(
     if packet_answer::is_awaited(s, l, id) {
         return site::refused(s, Refusal::IdentityAwaited);
     }
-    let end = packet_answer::ack(received, out);
-    let end = send_message::write_aggregated(out, end, s, id);
+    let end = answer_and_aggregated(s, id, received, out);
     packet_answer::reply_done(s, l, time, id, end)
 }
 

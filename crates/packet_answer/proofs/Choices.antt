@@ -3,7 +3,7 @@
 use Prim.Native.Nat.{ℕ}
 use mathlib.Core.Path.{_≡_, refl, sym, subst}
 use mathlib.Core.Bool.{Bool, true, false}
-use mathlib.Core.List.{List}
+use mathlib.Core.List.{List, _++_}
 use Rattle.basis.specs.Pick.{pick}
 use Rattle.answer.specs.declared.Refusal.the-variants.{IdentityAwaited}
 use Rattle.identity.specs.declared.Identity.{Identity}
@@ -68,15 +68,14 @@ module _ (s : Site) (l time : ℕ) (id : Identity) (received : List ℕ) where
     is-awaited e h f o =
         picked-second (fullOf (linkAt s l)) (notAcked s received busy) (replied s l time id received m) e (replies-refused s l time id received m h f o)
 
-    pub is-sent : {xs ys zs : List ℕ} {k end : ℕ} {r : Step}
+    pub is-sent : {xs ys : List ℕ} {end : ℕ} {r : Step}
         → fullOf (linkAt s l) ≡ false
         → isAwaited (findOf (linkAt s l .awaited) id) ≡ false
-        → Wrote xs 0 (pieces (ack received)) ys k
-        → Wrote ys k (pieces m) zs end
+        → Wrote xs 0 (pieces (ack received) ++ pieces m) ys end
         → r ≡ repliedAt s l time id end
-        → Takes s l time id due xs zs r
-    is-sent e h v w f =
-        picked-second (fullOf (linkAt s l)) (notAcked s received busy) (replied s l time id received m) e (replies s l time id received m h v w f)
+        → Takes s l time id due xs ys r
+    is-sent e h w f =
+        picked-second (fullOf (linkAt s l)) (notAcked s received busy) (replied s l time id received m) e (replies s l time id received m h w f)
 
   -- what is chosen by a value that a function gave
   pub like : {A : Type 0} (f : A → Taken) {x y : A} {xs ys : List ℕ} {r : Step} → x ≡ y → Takes s l time id (f y) xs ys r → Takes s l time id (f x) xs ys r

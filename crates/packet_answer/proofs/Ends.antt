@@ -14,7 +14,6 @@ use Rattle.awaited.specs.Awaited.{findOf, isAwaited}
 use Rattle.pool_batch.specs.declared.Batch.{Batch}
 use Rattle.pool_batch.specs.Batch.{beginning, issuedAll}
 use Rattle.output.specs.Put.{Out, output, putAll, Wrote}
-use Rattle.output.proofs.Laws.{then}
 use Rattle.write_message.specs.Message.{Message}
 use Rattle.write_message.specs.Message.Message.{ack, notAck}
 use Rattle.write_message.specs.Pieces.{pieces}
@@ -33,11 +32,8 @@ use Rattle.packet_answer.specs.Ending.{report, doneAt, repliedAt, Acks}
 pub one : (m : Message) {xs ys : List ℕ} {end : ℕ} → Wrote xs 0 (pieces m) ys end → output ys end ≡ writtenTo xs (m ∷ [])
 one m {xs} w = w .all ∙ ap (λ (x : List (List ℕ)). putAll (output xs 0) x) (sym (++-nil (pieces m)))
 
-pub two : (m n : Message) {xs ys zs : List ℕ} {k end : ℕ}
-    → Wrote xs 0 (pieces m) ys k
-    → Wrote ys k (pieces n) zs end
-    → output zs end ≡ writtenTo xs (m ∷ n ∷ [])
-two m n {xs} v w = then v w .all ∙ ap (λ (x : List (List ℕ)). putAll (output xs 0) (pieces m ++ x)) (sym (++-nil (pieces n)))
+pub two : (m n : Message) {xs ys : List ℕ} {end : ℕ} → Wrote xs 0 (pieces m ++ pieces n) ys end → output ys end ≡ writtenTo xs (m ∷ n ∷ [])
+two m n {xs} w = w .all ∙ ap (λ (x : List (List ℕ)). putAll (output xs 0) (pieces m ++ x)) (sym (++-nil (pieces n)))
 
 -- answered with a reason
 pub not-acks : (s : Site) (time : ℕ) (received : List ℕ) (reason : ℕ) {xs ys : List ℕ} {end : ℕ} {r : Step}
@@ -156,12 +152,11 @@ pub replies-refused : (s : Site) (l time : ℕ) (id : Identity) (received : List
     → Gives s time (takenRefuses s l id (replied s l time id received m)) (replied s l time id received m .plan) xs ys r
 replies-refused s l time id received m h e f = record { step = rw h e; out = rw e f }
 
-pub replies : (s : Site) (l time : ℕ) (id : Identity) (received : List ℕ) (m : Message) {xs ys zs : List ℕ} {k end : ℕ} {r : Step}
+pub replies : (s : Site) (l time : ℕ) (id : Identity) (received : List ℕ) (m : Message) {xs ys : List ℕ} {end : ℕ} {r : Step}
     → isAwaited (findOf (linkAt s l .awaited) id) ≡ false
-    → Wrote xs 0 (pieces (ack received)) ys k
-    → Wrote ys k (pieces m) zs end
+    → Wrote xs 0 (pieces (ack received) ++ pieces m) ys end
     → r ≡ repliedAt s l time id end
-    → Gives s time (takenRefuses s l id (replied s l time id received m)) (replied s l time id received m .plan) xs zs r
-replies s l time id received m h v w e =
-    let o = two (ack received) m v w in
+    → Gives s time (takenRefuses s l id (replied s l time id received m)) (replied s l time id received m .plan) xs ys r
+replies s l time id received m h w e =
+    let o = two (ack received) m w in
     record { step = rw h (e ∙ ap (λ (x : Out). repliedAt s l time id (x .end)) o); out = rw e (ap (λ (x : Out). x .bytes) o) }

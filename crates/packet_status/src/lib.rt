@@ -1,8 +1,10 @@
 // StatusRequest: its entries, told with their values.
 ghost use mathlib.Core.Path.{_≡_};
 ghost use mathlib.Core.Bool.{true, false};
+ghost use mathlib.Core.List.{_++_};
 ghost use lib.Dec.{eqb};
 ghost use Rattle.output.specs.Put.{Wrote};
+ghost use Rattle.write_message.specs.Message.Message.{ack};
 ghost use Rattle.write_message.specs.Pieces.{pieces, entryPieces, entriesPieces};
 ghost use Rattle.read_lists.specs.Status.{statusAt};
 ghost use Rattle.packet_lookup.specs.Sought.{componentSought, statusSought, entryAt, allStatuses};
@@ -100,22 +102,42 @@ fn write_entries(
     end
 }
 
+// From the start of the part that is lent.
 fn write_response(
     out: &mut [u8],
-    at: usize,
     s: Site,
     id: Identity,
     time: u64,
     component: Sought,
     f: StatusFields,
 ) -> usize
-    ensures { λ r. ⌜ Wrote (now (out .entry)) at (pieces (response s time (id .bytes) component f)) (now (out .exit)) r ⌝ }
+    ensures { λ r. ⌜ Wrote (now (out .entry)) 0 (pieces (response s time (id .bytes) component f)) (now (out .exit)) r ⌝ }
 {
     let named = f.component;
     let entries = f.entries;
-    let end = write_report::status::begin(out, at, Told::Response, id, named, time);
+    let end = write_report::status::begin(out, 0, Told::Response, id, named, time);
     let end = write_entries(out, end, s, component, entries, f.count);
     write_report::status::finish(out, end)
+}
+
+// The acknowledgement, and the response in the rest of the output, lent from where it ends. Where it found no room, nothing follows.
+fn answer_and_response(
+    s: Site,
+    id: Identity,
+    time: u64,
+    received: Received,
+    component: Sought,
+    f: StatusFields,
+    out: &mut [u8],
+) -> usize
+    ensures { λ r. ⌜ Wrote (now (out .entry)) 0 (pieces (ack (received .bytes)) ++ pieces (response s time (id .bytes) component f)) (now (out .exit)) r ⌝ }
+{
+    let end = packet_answer::ack(received, out);
+    if out.len() < end {
+        return end;
+    }
+    let more = write_response(&mut out[end..], s, id, time, component, f);
+    end + more
 }
 
 fn all_known(s: Site, f: StatusFields, component: u8) -> bool
@@ -155,8 +177,7 @@ fn reply(
     if packet_answer::is_awaited(s, l, id) {
         return site::refused(s, Refusal::IdentityAwaited);
     }
-    let end = packet_answer::ack(received, out);
-    let end = write_response(out, end, s, id, time, component, f);
+    let end = answer_and_response(s, id, time, received, component, f, out);
     packet_answer::reply_done(s, l, time, id, end)
 }
 

@@ -16,6 +16,8 @@ use Rattle.read_lists.specs.Version.{versionBy, versionIn, versionAt}
 use Rattle.read_lists.specs.Status.{statusBy, statusIn, statusAt}
 use Rattle.read_lists.specs.Claims.{Claims}
 use Rattle.read_lists.proofs.Listed.{lists-agree}
+use Rattle.read_lists.proofs.Seconds.{seconds, only-seconds, no-seconds, only-missing, too-long, subscribed}
+use Rattle.read_lists.proofs.Counts.{statuses, versions, sites}
 
 -- the lists of a packet are those of its meaning
 pub lists : {s : List ℕ} {j : Json} → Packet s j → listAt (skipWs s) ≡ listIn j
@@ -30,4 +32,17 @@ unfolding statusAt statusIn
 status subscribing p = rw (words p, lists p)
 
 pub kept : Claims
-kept = record { version = version; status = status }
+kept =
+    record {
+      version = version;
+      status = status;
+      seconds = seconds;
+      only-seconds = only-seconds;
+      no-seconds = no-seconds;
+      only-missing = only-missing;
+      too-long = too-long;
+      subscribed = subscribed;
+      statuses = statuses;
+      versions = versions;
+      sites = sites;
+    }

@@ -33,6 +33,10 @@ gotSeconds absent = noNumber Missing
 gotSeconds other = noNumber Bad
 gotSeconds (word d) = numbered (numberIn 86400 d)
 
+-- of an entry's meaning
+abbrev pub secondsIn : Json → GotNumber
+secondsIn j = gotSeconds (wordIn j (text "uRt"))
+
 -- sOc: a boolean; 0 with false is a Bad value
 abbrev pub changed : ℕ → Flag → Verdict
 changed n Absent = Missing
