@@ -1,3 +1,4 @@
+pub mod Times
 pub mod Number
 pub mod Given
 pub mod Order

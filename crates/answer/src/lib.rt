@@ -2,6 +2,9 @@
 ghost use mathlib.Core.Path.{_≡_};
 ghost use Rattle.answer.specs.Number.{refusalNumber, numberOf};
 
+// The last millisecond of 9999.
+pub const LAST_TIME: u64 = 253402300799999;
+
 pub enum Refusal {
     Ignored,
     NoSuchLink,

@@ -3,4 +3,3 @@ pub mod Civil
 pub mod Text
 pub mod Put
 pub mod Read
-pub mod Marked

@@ -3,13 +3,11 @@
 use mathlib.Core.List.{List, [], _∷_, _++_}
 use Prim.Native.Nat.{ℕ, zero, suc, _+_, _/_, _%_}
 use Rattle.basis.specs.Text.{text}
+pub use Rattle.answer.specs.Times.{lastTime}
 use Rattle.calendar.specs.declared.Date.{Date}
 use Rattle.calendar.specs.Civil.{dateOf}
 
--- the last millisecond and the last second of 9999
-abbrev pub lastTime : ℕ
-lastTime = 253402300799999
-
+-- the last second of 9999
 abbrev pub lastSecond : ℕ
 lastSecond = 253402300799
 

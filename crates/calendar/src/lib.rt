@@ -194,7 +194,7 @@ fn time_text(ms: u64) -> [u8; 24]
 pub fn put_time(out: &mut [u8], at: usize, ms: u64) -> usize
     ensures { λ r. ⌜ WroteTime (now (out .entry)) at ms (now (out .exit)) r ⌝ }
 {
-    if 253402300799999 < ms {
+    if answer::LAST_TIME < ms {
         return out.len() + 1;
     }
     let t = time_text(ms);

@@ -11,6 +11,7 @@ use Rattle.answer.specs.declared.Report.{Report}
 use Rattle.answer.specs.declared.Answer.{Answer}
 use Rattle.answer.specs.declared.Answer.the-variants.{Done}
 use Rattle.answer.specs.Order.{inOrder, judged}
+use Rattle.answer.specs.Times.{lastTime}
 use Rattle.identity.specs.declared.Identity.{Identity}
 use Rattle.awaited.specs.declared.Found.{Found}
 use Rattle.awaited.specs.declared.Found.the-variants.{For, Nothing as NotAwaited}
@@ -94,7 +95,7 @@ module _ (s : Site) (l time : ℕ) (id : Identity) (room : ℕ) where
       record {
         link = rw (lt-ltb l 4 (h .four), lt-leb (s .linkcount) l (h .configured)) refl;
         room = le-ltb room 4096 (h .enough);
-        time = rw (le-ltb time (s .last) (h .later), le-ltb 253402300799999 time (h .years)) refl;
+        time = rw (le-ltb time (s .last) (h .later), le-ltb lastTime time (h .years)) refl;
         phase = is-up (phaseOf (linkAt s l)) (h .not-down);
         due = is-due (dueAt s l time) (h .due);
         few = crowded-eight (linkAt s l) ∙ lt-leb 8 (howManyOf (linkAt s l .awaited)) (h .few);
@@ -107,13 +108,13 @@ module _ (s : Site) (l time : ℕ) (id : Identity) (room : ℕ) where
   pub ready : Checked → Ready s l time id room
   ready h =
       let four = link-below s l (h .link) in
-      let times = neither (ltb time (s .last)) (ltb 253402300799999 time) (h .time) in
+      let times = neither (ltb time (s .last)) (ltb lastTime time) (h .time) in
       record {
         four = four;
         configured = configured four (h .link);
         enough = ltb-false room 4096 (h .room);
         later = ltb-false time (s .last) (times .0);
-        years = ltb-false 253402300799999 time (times .1);
+        years = ltb-false lastTime time (times .1);
         not-down = λ (e : phaseOf (linkAt s l) ≡ Down). never (sym (ap isDown e) ∙ h .phase);
         due = λ (e : dueAt s l time ≡ Nothing). never (sym (ap isNothing e) ∙ h .due);
         few = leb-false 8 (howManyOf (linkAt s l .awaited)) (sym (crowded-eight (linkAt s l)) ∙ h .few);

@@ -7,6 +7,7 @@ use mathlib.Core.List.{List, [], _∷_}
 use lib.ListN.{length, take, drop}
 use Rattle.answer.specs.declared.Report.{Report}
 use Rattle.answer.specs.declared.Answer.the-variants.{Done}
+use Rattle.answer.specs.Times.{lastTime}
 use Rattle.identity.specs.declared.Identity.{Identity}
 use Rattle.awaited.specs.declared.Found.the-variants.{Nothing as NotAwaited}
 use Rattle.awaited.specs.declared.Purpose.the-variants.{Entry as ForEntry, Other as ForOther}
@@ -38,7 +39,7 @@ pub record Ready (s : Site) (l time : ℕ) (id : Identity) (room : ℕ) : Type 0
   pub configured : l < s .linkcount
   pub enough : 4096 ≤ room
   pub later : s .last ≤ time
-  pub years : time ≤ 253402300799999
+  pub years : time ≤ lastTime
   pub not-down : phaseOf (linkAt s l) ≡ Down → ⊥
   pub due : dueAt s l time ≡ Nothing → ⊥
   pub few : howManyOf (linkAt s l .awaited) < 8

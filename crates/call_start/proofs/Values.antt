@@ -8,6 +8,7 @@ use lib.Dec.{eqb, leb, ltb}
 use borrow.Author.Tests.{ltb-true, ltb-false, leb-true, eqb-true, lt-ltb, le-leb, eq-eqb, ne-eqb}
 use native.Mathlib.Omega.{arith}
 use Rattle.basis.proofs.Cases.{bool-cases}
+use Rattle.answer.specs.Times.{lastTime}
 use Rattle.label.proofs.Both.{both-true, both-of}
 use Rattle.call_start.specs.Fresh.{primaryOf}
 use Rattle.call_start.specs.Starts.{Within}
@@ -39,7 +40,7 @@ module _ (links primary period first time : ℕ) where
         shortest-period = leb-true 1 period (s .0);
         longest-period = leb-true period 3600 (t .0);
         highest-first = leb-true first 4294967295 (u .0);
-        latest = leb-true time 253402300799999 (u .1);
+        latest = leb-true time lastTime (u .1);
       }
 
   pub all-within : Within links primary period first time → isWithin links primary period first time ≡ true
@@ -50,7 +51,7 @@ module _ (links primary period first time : ℕ) where
       (both-of (within-primary links primary (w .a-link-or-none))
       (both-of (le-leb 1 period (w .shortest-period))
       (both-of (le-leb period 3600 (w .longest-period))
-      (both-of (le-leb first 4294967295 (w .highest-first)) (le-leb time 253402300799999 (w .latest)))))))
+      (both-of (le-leb first 4294967295 (w .highest-first)) (le-leb time lastTime (w .latest)))))))
 
   -- of the links, the last test decides
   pub to-values : 1 ≤ links → links ≤ 4 → aLinkOrNone links primary ≡ true → valuesWithin period first time ≡ isWithin links primary period first time

@@ -6,6 +6,7 @@ use lib.Dec.{eqb, leb, ltb}
 use Rattle.basis.specs.Pick.{pick, both}
 use Rattle.answer.specs.declared.Refusal.the-variants.{NotAccepted}
 use Rattle.answer.specs.declared.Answer.the-variants.{Done}
+use Rattle.answer.specs.Times.{lastTime}
 use Rattle.table_whole.specs.declared.TableRead.{TableRead}
 use Rattle.table_whole.specs.declared.Verdict.{Verdict}
 use Rattle.table_whole.specs.declared.Verdict.the-variants.{Accepted, Refused}
@@ -18,7 +19,7 @@ abbrev pub aLinkOrNone : ℕ → ℕ → Bool
 aLinkOrNone links primary = pick (ltb primary links) true (eqb primary 4294967295)
 
 unfoldable pub valuesWithin : ℕ → ℕ → ℕ → Bool
-valuesWithin period first time = both (leb 1 period) (both (leb period 3600) (both (leb first 4294967295) (leb time 253402300799999)))
+valuesWithin period first time = both (leb 1 period) (both (leb period 3600) (both (leb first 4294967295) (leb time lastTime)))
 
 unfoldable pub isWithin : ℕ → ℕ → ℕ → ℕ → ℕ → Bool
 isWithin links primary period first time = both (leb 1 links) (both (leb links 4) (both (aLinkOrNone links primary) (valuesWithin period first time)))

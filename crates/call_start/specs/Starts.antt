@@ -6,6 +6,7 @@ use mathlib.Core.List.{List}
 use mathlib.Core.Logic.{_⊎_}
 use Rattle.answer.specs.declared.Refusal.the-variants.{NotAccepted}
 use Rattle.answer.specs.declared.Answer.the-variants.{Done, Refused}
+use Rattle.answer.specs.Times.{lastTime}
 use Rattle.table_whole.specs.Table.{Table}
 use Rattle.table_whole.specs.Bytes.{tableBytes}
 use Rattle.table_whole.specs.Allowed.{Allowed}
@@ -22,7 +23,7 @@ pub record Within (links primary period first time : ℕ) : Type 0 where
   pub shortest-period : 1 ≤ period
   pub longest-period : period ≤ 3600
   pub highest-first : first ≤ 4294967295
-  pub latest : time ≤ 253402300799999
+  pub latest : time ≤ lastTime
 
 pub data Starts (b : List ℕ) (links primary period first time : ℕ) : Step → Type 0 where
   starts : {t : Table} → Allowed t → tableBytes t ≡ b → Within links primary period first time

@@ -45,7 +45,7 @@ fn values_within(period: u32, first: u64, time: u64) -> bool
     if 4294967295 < first {
         return false;
     }
-    time <= 253402300799999
+    time <= answer::LAST_TIME
 }
 
 fn within(links: u32, primary: u32, period: u32, first: u64, time: u64) -> bool

@@ -2,4 +2,3 @@ pub mod Flags
 pub mod Layout
 pub mod Valid
 pub mod Reading
-pub mod Marked

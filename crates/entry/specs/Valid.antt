@@ -3,12 +3,9 @@
 use mathlib.Core.Path.{_≡_}
 use mathlib.Core.Bool.{Bool, true, false}
 use Prim.Native.Nat.{ℕ, _^_, _≤_, _<_}
+pub use Rattle.answer.specs.Times.{lastTime}
 use Rattle.entry.specs.declared.Entry.{Entry}
 use Rattle.entry.specs.Flags.{alarmFlags, statusFlags}
-
--- the last millisecond of the year 9999
-abbrev pub lastTime : ℕ
-lastTime = 253402300799999
 
 -- kind 0, an alarm: its event and its states in the flags, and no value
 pub record Alarm (e : Entry) : Type 0 where

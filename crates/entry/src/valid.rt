@@ -7,8 +7,6 @@ ghost use mathlib.Core.Path.{_≡_};
 ghost use Prim.Native.Nat.{ℕ, _+_, _*_, _/_, _%_, _^_, _≤_, _<_};
 ghost use Rattle.entry.specs.Valid.{Valid, OfKind, Alarm, Status, Aggregated, Decides};
 
-pub const LAST_TIME: u64 = 253402300799999;
-
 // Events go to Suspend, and the last flag is 0.
 fn is_alarm(e: Entry) -> bool
     ensures { λ r. ⌜ Decides r (Alarm e) ⌝ }
@@ -93,7 +91,7 @@ pub fn valid(e: Entry) -> bool
     if 4 <= e.link {
         return false;
     }
-    if LAST_TIME < e.time {
+    if answer::LAST_TIME < e.time {
         return false;
     }
     if is_of_kind(e) {

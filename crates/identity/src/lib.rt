@@ -1,11 +1,9 @@
 // Message identities: sixteen bytes, their text of 36 characters, and version 4 out of random bytes.
 ghost use mathlib.Core.Path.{_≡_};
-ghost use mathlib.Core.List.{[], _∷_};
 ghost use Prim.Native.Nat.{_<_, _≤_, _/_, _%_};
 ghost use lib.Dec.{eqb};
 ghost use lib.ListN.{getD};
 ghost use Rattle.basis.specs.Pick.{pick};
-ghost use Rattle.output.specs.Put.{Wrote};
 ghost use Rattle.identity.specs.Hex.{hexDigit, hexValue, lowerHex, lowered};
 ghost use Rattle.identity.specs.Text.{identityText};
 ghost use Rattle.identity.specs.Version.{version4Of};
@@ -67,13 +65,6 @@ pub fn identity_text(id: Identity) -> [u8; 36]
         k += 1;
     }
     t
-}
-
-pub fn put_identity(out: &mut [u8], at: usize, id: Identity) -> usize
-    ensures { λ r. ⌜ Wrote (now (out .entry)) at (identityText (id .bytes) ∷ []) (now (out .exit)) r ⌝ }
-{
-    let t = identity_text(id);
-    output::put_bytes(out, at, &t)
 }
 
 // Sixteen random bytes as an identity of version 4.

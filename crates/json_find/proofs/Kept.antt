@@ -16,15 +16,10 @@ use Rattle.json_find.proofs.Meaning as Meaning
 pub at : {s : List ℕ} {p : ℕ} {j : Json} → Means s p j → At s p j
 at m =
     record {
-      kind = Meaning.kind-at m;
-      truth = Meaning.true-at m;
       string = λ fixed. Meaning.string-at fixed m;
       elements = Meaning.elements-at m;
       members = Meaning.members-at m;
-      element-shown = λ k r x. Meaning.element-at m k x;
       member-shown = λ name r x. Meaning.member-at m name x;
-      name-shown = λ k r x. Meaning.member-name-at m k x;
-      value-shown = λ k r x. Meaning.member-value-at m k x;
     }
 
 string-begins : {l : ℕ} {t r : List ℕ} {j : Json} {d : List ℕ} → Value l t r j → j ≡ str d → Chars (drop 1 t) r d

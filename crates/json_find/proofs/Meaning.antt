@@ -1,14 +1,13 @@
--- What the lookups answer where a place means something: the kind, the string, the members and elements of that meaning.
+-- What the lookups answer where a place means something: the string, the members and elements of that meaning.
 -- Assumes nothing.
-use Prim.Native.Nat.{ℕ, zero, suc, _-_, _<_, _≤_}
+use Prim.Native.Nat.{ℕ, suc, _≤_}
 use mathlib.Core.Path.{_≡_, refl, ap, _∙_}
 use mathlib.Core.Bool.{Bool, true, false}
 use mathlib.Core.List.{List, [], _∷_}
-use mathlib.Core.Logic.{_⊎_, inl, inr}
 use lib.Dec.{eqb}
 use lib.ListN.{length, drop}
 use native.Mathlib.Omega.{arith}
-use borrow.Author.Tests.{ne-eqb, eq-eqb, lt-ltb, le-ltb}
+use borrow.Author.Tests.{ne-eqb, eq-eqb}
 use Rattle.basis.specs.Pick.{pick}
 use Rattle.json_text.specs.Decoded.{Parsed}
 use Rattle.json_text.specs.Decoded.Parsed.{ok, none}
@@ -26,47 +25,15 @@ use Rattle.json_value.specs.Means.{Means}
 use Rattle.json_value.proofs.Complete as Complete
 use Rattle.json_value.proofs.Shorter as Shorter
 use Rattle.json_value.proofs.Deeper as Deeper
-use Rattle.json_find.specs.declared.Kind.{Kind}
-use Rattle.json_find.specs.declared.Kind.the-variants as Kind
-use Rattle.json_find.specs.Kinds.{kindOfByte, kindAt, kindOf, trueAt, isTrue, stringAt, isStr}
-use Rattle.json_find.specs.Entries.{nextEntry, entries, insideAt, entriesAt, nth, valueOf, nameOf, firstNamed, elementAt, memberValueAt, memberNameAt, memberAt}
+use Rattle.json_find.specs.Kinds.{stringAt, isStr}
+use Rattle.json_find.specs.Entries.{nextEntry, entries, insideAt, entriesAt, firstNamed, memberAt}
 use Rattle.json_find.specs.Lookup as Lookup
-use Rattle.json_find.specs.Lookup.{Found, membersIn, elementsIn, nthElement, nthName, nthValue, countElements, countMembers, member, element, memberName, memberValue, Shows}
+use Rattle.json_find.specs.Lookup.{Found, membersIn, elementsIn, countElements, countMembers, member, Shows}
 use Rattle.json_find.specs.Lookup.Found.{found, missing}
 use Rattle.json_find.specs.Lookup.Shows.{shown, absent}
 use Rattle.json_find.proofs.Walks.{unroll}
 
--- kinds and strings
-
-number-kind : (b : ℕ) → b < 0x3a → (b ≡ 0x2d) ⊎ (0x30 ≤ b) → kindOfByte b ≡ Kind.Number
-unfolding kindOfByte
-number-kind b h (inl e) = rw e
-number-kind b h (inr g) =
-    simp (ne-eqb b 0x22 (λ e. omega arith), ne-eqb b 0x7b (λ e. omega arith), ne-eqb b 0x5b (λ e. omega arith), ne-eqb b 0x6e (λ e. omega arith), ne-eqb b 0x74 (λ e. omega arith), ne-eqb b 0x66 (λ e. omega arith), ne-eqb b 0x2d (λ e. omega arith), le-ltb b 0x30 g, lt-ltb b 0x3a h)
-
-kind-value : {l : ℕ} {t r : List ℕ} {j : Json} → Value l t r j → kindAt t ≡ kindOf j
-unfolding kindAt kindOfByte
-kind-value Value.vnull = refl
-kind-value Value.vtrue = refl
-kind-value Value.vfalse = refl
-kind-value (Value.vnum n e d) = let b = Shorter.begun n in rw (b .is) (number-kind (b .first) (b .high) (b .sort))
-kind-value (Value.vstr c) = refl
-kind-value (Value.varr₀ w) = refl
-kind-value (Value.varr i) = refl
-kind-value (Value.vobj₀ w) = refl
-kind-value (Value.vobj i) = refl
-
-true-value : {l : ℕ} {t r : List ℕ} {j : Json} → Value l t r j → trueAt t ≡ isTrue j
-unfolding trueAt
-true-value Value.vnull = refl
-true-value Value.vtrue = refl
-true-value Value.vfalse = refl
-true-value (Value.vnum n e d) = let b = Shorter.begun n in rw (b .is, ne-eqb (b .first) 0x74 (λ x. omega (arith, b .high)))
-true-value (Value.vstr c) = refl
-true-value (Value.varr₀ w) = refl
-true-value (Value.varr i) = refl
-true-value (Value.vobj₀ w) = refl
-true-value (Value.vobj i) = refl
+-- strings
 
 string-value : (fixed : List ℕ) {l : ℕ} {t r : List ℕ} {j : Json} → Value l t r j → stringAt fixed t ≡ isStr fixed j
 unfolding stringAt
@@ -79,12 +46,6 @@ string-value fixed (Value.varr₀ w) = refl
 string-value fixed (Value.varr i) = refl
 string-value fixed (Value.vobj₀ w) = refl
 string-value fixed (Value.vobj i) = refl
-
-pub kind-at : {s : List ℕ} {p : ℕ} {j : Json} → Means s p j → kindAt (drop p s) ≡ kindOf j
-kind-at m = kind-value (m .stands)
-
-pub true-at : {s : List ℕ} {p : ℕ} {j : Json} → Means s p j → trueAt (drop p s) ≡ isTrue j
-true-at m = true-value (m .stands)
 
 pub string-at : (fixed : List ℕ) {s : List ℕ} {p : ℕ} {j : Json} → Means s p j → stringAt fixed (drop p s) ≡ isStr fixed j
 string-at fixed m = string-value fixed (m .stands)
@@ -188,24 +149,6 @@ shows : {s : List ℕ} {at : ℕ} {p : Parsed (List ℕ)} {f : Found} {r : Read}
 shows (to {r = r} v) (ends e a b) = shown (record { rest = r; stands = v })
 shows nowhere fails = absent
 
-nth-listing : {ts : List (List ℕ)} {js : Jsons} (k : ℕ) → Listing ts js → Leads (valueOf 0x5d (nth k ts)) (nthElement k js)
-nth-listing k lnil = nowhere
-nth-listing zero (lcons a x i) = rw (Complete.start-value a (Complete.begins x)) (to (Deeper.value 8 (omega arith) x))
-nth-listing (suc k) (lcons a x i) = nth-listing k i
-
-nth-value : {ts : List (List ℕ)} {ms : Members} (k : ℕ) → Pairing ts ms → Leads (valueOf 0x7d (nth k ts)) (nthValue k ms)
-nth-value k pnil = nowhere
-nth-value zero (pcons {u = u} a x i) = rw (Complete.start-name a (Complete.solid u (Complete.begins x))) (to (Deeper.value 8 (omega arith) x))
-nth-value (suc k) (pcons a x i) = nth-value k i
-
-name-leads : {t u d : List ℕ} → Name t u d → Leads (ok [] (skipWs t)) (found (str d))
-name-leads (Name.name a c b e) = rw (Complete.skip a refl) (to (Value.vstr c))
-
-nth-name : {ts : List (List ℕ)} {ms : Members} (k : ℕ) → Pairing ts ms → Leads (nameOf (nth k ts)) (nthName k ms)
-nth-name k pnil = nowhere
-nth-name zero (pcons a x i) = name-leads a
-nth-name (suc k) (pcons a x i) = nth-name k i
-
 -- a name's string is the fixed one exactly when the name is
 pub name-string : (fixed : List ℕ) {t u d : List ℕ} → Name t u d → stringAt fixed (skipWs t) ≡ isStr fixed (str d)
 unfolding stringAt
@@ -236,18 +179,6 @@ module _ {s : List ℕ} {at : ℕ} {j : Json} (m : Means s at j) where
 
   pub members-at : length (entriesAt 0x7b 0x7d (drop at s)) ≡ countMembers (membersIn j)
   members-at = count-pairing (value-pairing (omega arith) (m .stands))
-
-  pub element-at : (k : ℕ) {r : Read} → Ends s at (elementAt k (drop at s)) r → Shows s r (element k j)
-  unfolding elementAt
-  element-at k x = shows (nth-listing k (value-listing (omega arith) (m .stands))) x
-
-  pub member-value-at : (k : ℕ) {r : Read} → Ends s at (memberValueAt k (drop at s)) r → Shows s r (memberValue k j)
-  unfolding memberValueAt
-  member-value-at k x = shows (nth-value k (value-pairing (omega arith) (m .stands))) x
-
-  pub member-name-at : (k : ℕ) {r : Read} → Ends s at (memberNameAt k (drop at s)) r → Shows s r (memberName k j)
-  unfolding memberNameAt
-  member-name-at k x = shows (nth-name k (value-pairing (omega arith) (m .stands))) x
 
   pub member-at : (name : List ℕ) {r : Read} → Ends s at (memberAt name (drop at s)) r → Shows s r (member name j)
   unfolding memberAt

@@ -10,23 +10,16 @@ use Rattle.json_text.specs.Ends.{Ends}
 use Rattle.json_value.specs.Grammar.{Json}
 use Rattle.json_value.specs.Grammar.Json.{str}
 use Rattle.json_value.specs.Means.{Means}
-use Rattle.json_find.specs.Kinds.{kindAt, kindOf, trueAt, isTrue, stringAt, isStr}
-use Rattle.json_find.specs.Entries.{entriesAt, elementAt, memberValueAt, memberNameAt, memberAt}
-use Rattle.json_find.specs.Lookup.{membersIn, elementsIn, countElements, countMembers, member, element, memberName, memberValue, Shows}
+use Rattle.json_find.specs.Kinds.{stringAt, isStr}
+use Rattle.json_find.specs.Entries.{entriesAt, memberAt}
+use Rattle.json_find.specs.Lookup.{membersIn, elementsIn, countElements, countMembers, member, Shows}
 
 pub record At (s : List ℕ) (at : ℕ) (j : Json) : Type 0 where
-  -- `kind_at`, `is_true`, `is_string`
-  pub kind : kindAt (drop at s) ≡ kindOf j
-  pub truth : trueAt (drop at s) ≡ isTrue j
   pub string : (fixed : List ℕ) → stringAt fixed (drop at s) ≡ isStr fixed j
-  -- `elements`, `members`
+  -- the entries of its text are its elements, its members: as many
   pub elements : length (entriesAt 0x5b 0x5d (drop at s)) ≡ countElements (elementsIn j)
   pub members : length (entriesAt 0x7b 0x7d (drop at s)) ≡ countMembers (membersIn j)
-  -- `element`, `member`, `member_name`, `member_value`
-  pub element-shown : (k : ℕ) (r : Read) → Ends s at (elementAt k (drop at s)) r → Shows s r (element k j)
   pub member-shown : (name : List ℕ) (r : Read) → Ends s at (memberAt name (drop at s)) r → Shows s r (member name j)
-  pub name-shown : (k : ℕ) (r : Read) → Ends s at (memberNameAt k (drop at s)) r → Shows s r (memberName k j)
-  pub value-shown : (k : ℕ) (r : Read) → Ends s at (memberValueAt k (drop at s)) r → Shows s r (memberValue k j)
 
 pub record Claims : Type 0 where
   pub at : {s : List ℕ} {p : ℕ} {j : Json} → Means s p j → At s p j

@@ -48,33 +48,10 @@ entriesOf close none = []
 unfoldable pub entriesAt : ℕ → ℕ → List ℕ → List (List ℕ)
 entriesAt first close t = entriesOf close (insideAt first close t)
 
-abbrev pub nth : ℕ → List (List ℕ) → Parsed (List ℕ)
-nth k [] = none
-nth zero (t ∷ ts) = ok [] t
-nth (suc k) (t ∷ ts) = nth k ts
-
--- the value of an entry, and the string that is its name
-abbrev pub valueOf : ℕ → Parsed (List ℕ) → Parsed (List ℕ)
-valueOf close (ok x t) = readStart close t
-valueOf close none = none
-
-abbrev pub nameOf : Parsed (List ℕ) → Parsed (List ℕ)
-nameOf (ok x t) = ok [] (skipWs t)
-nameOf none = none
-
 -- the value of the first entry that has the name
 abbrev pub firstNamed : List ℕ → List (List ℕ) → Parsed (List ℕ)
 firstNamed name [] = none
 firstNamed name (t ∷ ts) = pick (stringAt name (skipWs t)) (readStart 0x7d t) (firstNamed name ts)
-
-unfoldable pub elementAt : ℕ → List ℕ → Parsed (List ℕ)
-elementAt k t = valueOf 0x5d (nth k (entriesAt 0x5b 0x5d t))
-
-unfoldable pub memberValueAt : ℕ → List ℕ → Parsed (List ℕ)
-memberValueAt k t = valueOf 0x7d (nth k (entriesAt 0x7b 0x7d t))
-
-unfoldable pub memberNameAt : ℕ → List ℕ → Parsed (List ℕ)
-memberNameAt k t = nameOf (nth k (entriesAt 0x7b 0x7d t))
 
 unfoldable pub memberAt : List ℕ → List ℕ → Parsed (List ℕ)
 memberAt name t = firstNamed name (entriesAt 0x7b 0x7d t)

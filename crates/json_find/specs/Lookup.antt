@@ -42,16 +42,6 @@ nthElement k jnil = missing
 nthElement zero (jcons j js) = found j
 nthElement (suc k) (jcons j js) = nthElement k js
 
-abbrev pub nthName : ℕ → Members → Found
-nthName k mnil = missing
-nthName zero (mcons d j ms) = found (str d)
-nthName (suc k) (mcons d j ms) = nthName k ms
-
-abbrev pub nthValue : ℕ → Members → Found
-nthValue k mnil = missing
-nthValue zero (mcons d j ms) = found j
-nthValue (suc k) (mcons d j ms) = nthValue k ms
-
 abbrev pub countElements : Jsons → ℕ
 countElements jnil = zero
 countElements (jcons j js) = suc (countElements js)
@@ -60,18 +50,12 @@ abbrev pub countMembers : Members → ℕ
 countMembers mnil = zero
 countMembers (mcons d j ms) = suc (countMembers ms)
 
--- the member of a name, the k-th element, the k-th member's name and value
+-- the member of a name, the k-th element
 abbrev pub member : List ℕ → Json → Found
 member name j = named name (membersIn j)
 
 abbrev pub element : ℕ → Json → Found
 element k j = nthElement k (elementsIn j)
-
-abbrev pub memberName : ℕ → Json → Found
-memberName k j = nthName k (membersIn j)
-
-abbrev pub memberValue : ℕ → Json → Found
-memberValue k j = nthValue k (membersIn j)
 
 -- an answer shows what is found: `End p`, and the place p means it; `Bad`, and it is missing
 pub data Shows (s : List ℕ) : Read → Found → Type 0 where

@@ -1,7 +1,6 @@
 // Reads packets from standard input and writes what each means on a line, or `-` where it is none; tests/packets.py makes the
 // packets and the lines. The first part of a line walks the tokens, the second looks up the members of the packet's object.
 use json_character::Char;
-use json_find::Kind;
 use json_text::Read;
 use run_feed::Case;
 
@@ -86,34 +85,28 @@ fn put_word(line: &mut [u8], at: usize, b: u8, next: usize) -> Walk {
     }
 }
 
-// The token at i.
-fn put_token(s: &[u8], i: usize, line: &mut [u8], at: usize) -> Walk {
-    match json_find::kind_at(s, i) {
-        Kind::Null => put_word(line, at, b'n', forward(i, 3)),
-        Kind::Bool => {
-            if json_find::is_true(s, i) {
-                put_word(line, at, b't', forward(i, 3))
-            } else {
-                put_word(line, at, b'f', forward(i, 4))
-            }
-        }
-        Kind::Number => put_number(s, i, line, at),
-        Kind::Text => put_text(s, i, line, at),
-        Kind::Array => put_word(line, at, b'[', forward(i, 0)),
-        Kind::Object => put_word(line, at, b'{', forward(i, 0)),
-        Kind::Nothing => put_mark(s, i, line, at),
+fn is_number(b: u8) -> bool {
+    if b == b'-' {
+        return true;
     }
+    b'0' <= b && b <= b'9'
 }
 
-// A comma, a colon, or a closing bracket or brace.
-fn put_mark(s: &[u8], i: usize, line: &mut [u8], at: usize) -> Walk {
-    if i < s.len() {
-        put_word(line, at, s[i], forward(i, 0))
-    } else {
-        Walk {
-            next: forward(i, 0),
-            end: at,
-        }
+// The token at i; a bracket, a brace, a comma and a colon are themselves.
+fn put_token(s: &[u8], i: usize, line: &mut [u8], at: usize) -> Walk {
+    if s.len() <= i {
+        return Walk { next: i, end: at };
+    }
+    let b = s[i];
+    if is_number(b) {
+        return put_number(s, i, line, at);
+    }
+    match b {
+        b'"' => put_text(s, i, line, at),
+        b'n' => put_word(line, at, b, forward(i, 3)),
+        b't' => put_word(line, at, b, forward(i, 3)),
+        b'f' => put_word(line, at, b, forward(i, 4)),
+        _ => put_word(line, at, b, forward(i, 0)),
     }
 }
 
@@ -132,15 +125,19 @@ fn put_tokens(s: &[u8], line: &mut [u8]) -> usize {
     end
 }
 
+// The kind of the value at a place, by its first byte.
 fn letter(s: &[u8], at: usize) -> u8 {
-    match json_find::kind_at(s, at) {
-        Kind::Null => b'n',
-        Kind::Bool => b'b',
-        Kind::Number => b'#',
-        Kind::Text => b'"',
-        Kind::Array => b'[',
-        Kind::Object => b'{',
-        Kind::Nothing => b'?',
+    if s.len() <= at {
+        return b'?';
+    }
+    let b = s[at];
+    if is_number(b) {
+        return b'#';
+    }
+    match b {
+        b't' => b'b',
+        b'f' => b'b',
+        _ => b,
     }
 }
 
@@ -151,22 +148,34 @@ fn put_kind(s: &[u8], place: Read, line: &mut [u8], at: usize) -> usize {
     }
 }
 
-// The kinds of the elements of an array at a place; of no other value.
-fn put_elements(s: &[u8], array: usize, line: &mut [u8], at: usize) -> usize {
-    let n = json_find::elements(s, array);
+// The kinds of an element and of those behind it.
+fn put_elements(s: &[u8], first: usize, line: &mut [u8], at: usize) -> usize {
+    let mut i = first;
     let mut end = at;
-    let mut k = 0;
-    while k < n {
-        end = put_kind(s, json_find::element(s, array, k), line, end);
-        k += 1;
+    let mut left = s.len();
+    while 0 < left {
+        left -= 1;
+        end = put_kind(s, json_value::start(s, i, b']'), line, end);
+        match json_find::step(s, i, b']') {
+            Read::End(e) => i = e,
+            Read::Bad => left = 0,
+        }
     }
     end
+}
+
+// The kinds of the elements of an array at a place; of no other value.
+fn put_array(s: &[u8], array: usize, line: &mut [u8], at: usize) -> usize {
+    match json_find::inside(s, array, b'[', b']') {
+        Read::End(i) => put_elements(s, i, line, at),
+        Read::Bad => at,
+    }
 }
 
 fn put_value(s: &[u8], place: Read, line: &mut [u8], at: usize) -> usize {
     let end = put_kind(s, place, line, at);
     match place {
-        Read::End(p) => put_elements(s, p, line, end),
+        Read::End(p) => put_array(s, p, line, end),
         Read::Bad => end,
     }
 }
@@ -203,50 +212,46 @@ fn found(s: &[u8], object: usize, name: usize, value: Read) -> u8 {
     b'~'
 }
 
-fn put_found(
-    s: &[u8],
-    object: usize,
-    name: Read,
-    value: Read,
-    line: &mut [u8],
-    at: usize,
-) -> usize {
-    match name {
-        Read::End(p) => output::put_bytes(line, at, &[found(s, object, p, value)]),
-        Read::Bad => output::put_bytes(line, at, b"!"),
-    }
-}
-
-fn put_member(s: &[u8], object: usize, k: usize, line: &mut [u8], at: usize) -> usize {
-    let value = json_find::member_value(s, object, k);
+// The member at a place of an object.
+fn put_member(s: &[u8], object: usize, i: usize, line: &mut [u8], at: usize) -> usize {
+    let value = json_value::start(s, i, b'}');
     let end = output::put_bytes(line, at, b" ");
-    let end = put_found(
-        s,
-        object,
-        json_find::member_name(s, object, k),
-        value,
+    let end = output::put_bytes(
         line,
         end,
+        &[found(s, object, json_value::space(s, i), value)],
     );
     put_value(s, value, line, end)
 }
 
-fn put_members(s: &[u8], line: &mut [u8], at: usize) -> usize {
-    let object = json_value::space(s, 0);
-    let n = json_find::members(s, object);
+// A member and those behind it.
+fn put_members(s: &[u8], object: usize, first: usize, line: &mut [u8], at: usize) -> usize {
+    let mut i = first;
     let mut end = at;
-    let mut k = 0;
-    while k < n {
-        end = put_member(s, object, k, line, end);
-        k += 1;
+    let mut left = s.len();
+    while 0 < left {
+        left -= 1;
+        end = put_member(s, object, i, line, end);
+        match json_find::step(s, i, b'}') {
+            Read::End(e) => i = e,
+            Read::Bad => left = 0,
+        }
     }
     end
+}
+
+fn put_object(s: &[u8], line: &mut [u8], at: usize) -> usize {
+    let object = json_value::space(s, 0);
+    match json_find::inside(s, object, b'{', b'}') {
+        Read::End(i) => put_members(s, object, i, line, at),
+        Read::Bad => at,
+    }
 }
 
 fn put_meaning(s: &[u8], line: &mut [u8]) -> usize {
     if json_packet::is_packet(s) {
         let end = put_tokens(s, line);
-        put_members(s, line, end)
+        put_object(s, line, end)
     } else {
         output::put_bytes(line, 0, b"-")
     }

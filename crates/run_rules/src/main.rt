@@ -109,7 +109,7 @@ fn on_tick(g: Given, rules: Rules) -> Outcome {
     next.subscription = after;
     Outcome {
         rules: next,
-        happened: before.exists(),
+        happened: 0 < before.state,
         issues: ticked.issues,
     }
 }
@@ -119,7 +119,7 @@ fn with_subscription(s: Subscription, rules: Rules) -> Outcome {
     next.subscription = s;
     Outcome {
         rules: next,
-        happened: s.exists(),
+        happened: 0 < s.state,
         issues: false,
     }
 }

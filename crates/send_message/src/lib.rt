@@ -2,9 +2,9 @@
 ghost use mathlib.Core.Path.{_≡_};
 ghost use Prim.Native.Nat.{_%_};
 ghost use Rattle.output.specs.Put.{Wrote};
-ghost use Rattle.write_message.specs.Pieces.{pieces, entryPieces};
+ghost use Rattle.write_message.specs.Pieces.{pieces};
 ghost use Rattle.site.specs.Parts.{alarmRowAt, statusRowAt};
-ghost use Rattle.send_message.specs.Sending.{stateOf, heldState, alarmTold, alarmMessage, aggregatedTold, aggregatedMessage, knownValue, statusValue, heldValue, rowTold, statusTold, entryMessage};
+ghost use Rattle.send_message.specs.Sending.{stateOf, heldState, alarmTold, alarmMessage, aggregatedTold, aggregatedMessage, knownValue, statusValue, heldValue, statusTold, entryMessage};
 use alarm::Alarm;
 use entry::Entry;
 use entry::flags;
@@ -70,15 +70,6 @@ fn held_value(e: Entry) -> Value
         return known_value(e.value);
     }
     Value::Unknown
-}
-
-// An entry of a StatusResponse or StatusUpdate: a row with its value.
-pub fn write_row(out: &mut [u8], at: usize, first: bool, row: Item, v: Value) -> usize
-    ensures { λ r. ⌜ Wrote (now (out .entry)) at (entryPieces first (rowTold row v)) (now (out .exit)) r ⌝ }
-{
-    let code = row.code;
-    let name = row.name;
-    write_report::status::entry(out, at, first, code, name, v)
 }
 
 fn tell_alarm(

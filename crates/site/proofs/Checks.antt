@@ -8,7 +8,7 @@ use lib.Dec.{ltb}
 use borrow.Author.Tests.{ltb-true, ltb-false}
 use Rattle.basis.specs.Pick.{pick}
 use Rattle.basis.proofs.Cases.{bool-cases}
-use Rattle.entry.specs.Valid.{lastTime}
+use Rattle.answer.specs.Times.{lastTime}
 use Rattle.site.specs.declared.Site.{Site}
 use Rattle.site.specs.Site.{noLinkAt, badTimeAt}
 
@@ -18,6 +18,6 @@ link-below s l e = bool-cases (ltb l 4) (ltb-true l 4) (λ no. let t : true ≡ 
 pub in-range : (s : Site) (time : ℕ) → badTimeAt s time ≡ false → time ≤ lastTime
 in-range s time h = by (ltb time (s .last)) h
   where
-    by : (t : Bool) → pick t true (ltb 253402300799999 time) ≡ false → time ≤ lastTime
+    by : (t : Bool) → pick t true (ltb lastTime time) ≡ false → time ≤ lastTime
     by true g = absurd (true≢false g)
-    by false g = ltb-false 253402300799999 time g
+    by false g = ltb-false lastTime time g

@@ -6,6 +6,7 @@ use mathlib.Core.List.{List}
 use lib.Dec.{eqb, leb, ltb}
 use lib.ListN.{getD, set}
 use Rattle.basis.specs.Pick.{pick}
+use Rattle.answer.specs.Times.{lastTime}
 use Rattle.pool.specs.declared.Pool.{Pool}
 use Rattle.pool.specs.Pool.{unmarkOf}
 use Rattle.link.specs.declared.Link.{Link}
@@ -66,9 +67,9 @@ withIssued s b time = site s (b .pool) (s .links) (s .subscriptions) (s .alarms)
 abbrev pub noLinkAt : Site → ℕ → Bool
 noLinkAt s l = pick (ltb l 4) (leb (s .linkcount) l) true
 
--- number 5: before the last time of a call done, or above 253402300799999
+-- number 5: before the last time of a call done, or after the last one
 abbrev pub badTimeAt : Site → ℕ → Bool
-badTimeAt s time = pick (ltb time (s .last)) true (ltb 253402300799999 time)
+badTimeAt s time = pick (ltb time (s .last)) true (ltb lastTime time)
 
 -- "Without a primary no alarm record is issued"
 abbrev pub hasPrimary : Site → Bool

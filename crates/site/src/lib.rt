@@ -136,7 +136,7 @@ impl Site {
         if time < self.last {
             return true;
         }
-        253402300799999 < time
+        answer::LAST_TIME < time
     }
 
     pub fn role(self, l: u16) -> Role

@@ -2,7 +2,7 @@
 ghost use mathlib.Core.Path.{_≡_};
 ghost use Prim.Native.Nat.{_+_};
 ghost use lib.Dec.{leb};
-ghost use Rattle.subscription.specs.Subscription.{none as noneOf, subscribed, existsOf, issuesOn, dueAt, tickOf};
+ghost use Rattle.subscription.specs.Subscription.{none as noneOf, subscribed, issuesOn, dueAt, tickOf};
 
 // since: the time of the subscribing call, or of the last tick that issued; seconds: uRt, 0 for none;
 // state: 0 no subscription, 1 without sOc, 2 with sOc.
@@ -56,12 +56,6 @@ impl Subscription {
             seconds: seconds,
             state: if soc { 2 } else { 1 },
         }
-    }
-
-    pub fn exists(self) -> bool
-        ensures { λ r. ⌜ r ≡ existsOf self ⌝ }
-    {
-        0 < self.state
     }
 
     // Whether it issues a record when the status' value is set.

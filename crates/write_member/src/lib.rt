@@ -58,10 +58,10 @@ pub fn label(out: &mut [u8], at: usize, before: &[u8], i: usize, l: Label) -> us
 fn no_later(ms: u64) -> u64
     ensures { λ r. ⌜ r ≡ min ms lastTime ⌝ }
 {
-    if ms < 253402300799999 {
+    if ms < answer::LAST_TIME {
         ms
     } else {
-        253402300799999
+        answer::LAST_TIME
     }
 }
 

@@ -16,7 +16,7 @@ use Rattle.read_lists.proofs.versions_in.Reads as reads
 use Rattle.read_lists.proofs.versions_in.Lts as lts
 use Rattle.json_value.proofs.space.Reads as space-reads
 use Rattle.json_find.proofs.step.Reads as step-reads
-use Rattle.read_lists.proofs.first.Reads as first-reads
+use Rattle.json_find.proofs.inside.Reads as inside-reads
 use Rattle.read_lists.proofs.no_versions.Reads as no-versions-reads
 use Rattle.read_lists.proofs.push_version.Reads as push-version-reads
 use Rattle.read_lists.proofs.version_entry.Reads as version-entry-reads
@@ -32,8 +32,8 @@ no-versions-requires : tie.Need-no-versions-requires Inv-loop μ-loop
 no-versions-requires c κs = search needs
 
 -- src/lib.rt:219:9
-first-requires : tie.Need-first-requires Inv-loop μ-loop
-first-requires c κs = search needs
+inside-requires : tie.Need-inside-requires Inv-loop μ-loop
+inside-requires c κs = search needs
 
 -- src/lib.rt:220:19
 enum-known-p : tie.Need-enum-known-p Inv-loop μ-loop
@@ -45,11 +45,11 @@ enum-told c = search needs
 
 -- src/lib.rt:221:9
 returns : tie.Need-returns Inv-loop μ-loop
-returns c = c .before .before .before .no-versions .ensures ∙ none-in (λ l x. pushVersion l (versionOfItem x)) _ _ _ (rw (c .enum-told .given .1) at (c .before .before .first .ensures))
+returns c = c .before .before .before .no-versions .ensures ∙ none-in (λ l x. pushVersion l (versionOfItem x)) _ _ _ (rw (c .enum-told .given .1) at (c .before .before .inside .ensures))
 
 -- src/lib.rt:224:5
 loop-holds : tie.Need-loop-holds Inv-loop μ-loop
-loop-holds c = rw (c .before .before .before .before .no-versions .ensures) (some-in (λ l x. pushVersion l (versionOfItem x)) _ _ _ _ (rw (c .before .p .given .1) at (c .before .before .before .first .ensures)))
+loop-holds c = rw (c .before .before .before .before .no-versions .ensures) (some-in (λ l x. pushVersion l (versionOfItem x)) _ _ _ _ (rw (c .before .p .given .1) at (c .before .before .before .inside .ensures)))
 
 -- src/lib.rt:225:52
 space-requires : tie.Need-space-requires Inv-loop μ-loop
@@ -96,7 +96,7 @@ versions-in-spec =
     Inv-loop
     μ-loop
     no-versions-requires
-    first-requires
+    inside-requires
     enum-known-p
     enum-told
     returns

@@ -1,41 +1,48 @@
 use lib.ListN.{length}
 use mathlib.Core.Path.{_≡_}
-use Prim.Native.Nat.{_≤_, _-_}
 use borrow.Author.Needs.{needs}
 use Rattle.run_packets.proofs.put_members.Statement.{statement}
 use Rattle.run_packets.proofs.put_members.Tie as tie
 use Rattle.run_packets.proofs.put_members.Reads as reads
 use Rattle.run_packets.proofs.put_members.Lts as lts
-use Rattle.json_value.proofs.space.Reads as space-reads
-use Rattle.json_find.proofs.members.Reads as members-reads
+use Rattle.json_find.proofs.step.Reads as step-reads
 use Rattle.run_packets.proofs.put_member.Reads as put-member-reads
 
 abbrev Inv-loop : tie.InvT-loop
-Inv-loop s line₀ at object n end₀ k₀ line end k = (length line ≡ length line₀) × (k ≤ n)
+Inv-loop s object first line₀ at i₀ end₀ left₀ line i end left = length line ≡ length line₀
 
 abbrev μ-loop : tie.MeasureT-loop
-μ-loop s line₀ at object n end₀ k₀ line end k = n - k
-
-space-requires : tie.Need-space-requires Inv-loop μ-loop
-space-requires c κs = search needs
-
-members-requires : tie.Need-members-requires Inv-loop μ-loop
-members-requires c κs = search needs
+μ-loop s object first line₀ at i₀ end₀ left₀ line i end left = left
 
 loop-holds : tie.Need-loop-holds Inv-loop μ-loop
 loop-holds c = search needs
 
+sub-left : tie.Need-sub-left Inv-loop μ-loop
+sub-left c = search needs
+
 put-member-requires : tie.Need-put-member-requires Inv-loop μ-loop
 put-member-requires c κs = search needs
 
-add-k : tie.Need-add-k Inv-loop μ-loop
-add-k c = search needs
+step-requires : tie.Need-step-requires Inv-loop μ-loop
+step-requires c κs = search needs
+
+enum-known-e : tie.Need-enum-known-e Inv-loop μ-loop
+enum-known-e c = search needs
 
 loop-less : tie.Need-loop-less Inv-loop μ-loop
 loop-less c = search needs
 
 loop-again : tie.Need-loop-again Inv-loop μ-loop
 loop-again c = search needs
+
+enum-told : tie.Need-enum-told Inv-loop μ-loop
+enum-told c = search needs
+
+loop-less-2 : tie.Need-loop-less-2 Inv-loop μ-loop
+loop-less-2 c = search needs
+
+loop-again-2 : tie.Need-loop-again-2 Inv-loop μ-loop
+loop-again-2 c = search needs
 
 same-length : tie.Need-same-length Inv-loop μ-loop
 same-length c = search needs
@@ -49,12 +56,15 @@ put-members-spec =
     (tie.spec
     Inv-loop
     μ-loop
-    space-requires
-    members-requires
     loop-holds
+    sub-left
     put-member-requires
-    add-k
+    step-requires
+    enum-known-e
     loop-less
     loop-again
+    enum-told
+    loop-less-2
+    loop-again-2
     same-length
     returns)
