@@ -1,4 +1,4 @@
-.PHONY: build run test library
+.PHONY: build run test library week-library
 
 # The product's main job: a site talks to two supervisors over TCP on this machine.
 run: build
@@ -9,9 +9,10 @@ test:
 	bash .ci/run
 
 # The host's programs, for x86-64, in build/. `host/tools` says with which compilers and how they are run.
-build: build/rsmp-site build/rsmp-replay build/rsmp-table build/rsmp_site.h build/site-tests build/frame-tests
+build: build/rsmp-site build/rsmp-replay build/rsmp-table build/rsmp-week build/rsmp_site.h build/rsmp_week.h build/site-tests build/frame-tests
 
 LIBRARY = target/staticlib/libsitec.a
+WEEK_LIBRARY = target/staticlib/libweekc.a
 RUSTC = build/tools/rustc --edition 2021 -O -C strip=symbols
 OUT = build/x86-64
 SITE = $(OUT)/librsmp_site.rlib
@@ -24,6 +25,11 @@ library:
 	rt staticlib sitec
 
 $(LIBRARY): library ;
+
+week-library:
+	rt staticlib weekc
+
+$(WEEK_LIBRARY): week-library ;
 
 $(SITE): host/rsmp_site/lib.rs host/rsmp_site/ffi.rs host/rsmp_site/refusal.rs $(LIBRARY) build/tools/ready
 	mkdir -p $(OUT)
@@ -48,7 +54,11 @@ $(OUT)/frame-tests: host/site/main.rs $(wildcard host/site/*.rs) $(SITE) $(TABLE
 $(OUT)/rsmp-table: host/table/main.rs $(TABLE)
 	$(RUSTC) --crate-name rsmp_table_program --extern rsmp_table=$(TABLE) -o $@ $<
 
-build/rsmp_site.h: host/include/rsmp_site.h
+$(OUT)/rsmp-week: host/week/main.rs $(WEEK_LIBRARY) build/tools/ready
+	mkdir -p $(OUT)
+	$(RUSTC) --crate-name rsmp_week_program -L $(dir $(WEEK_LIBRARY)) -o $@ $<
+
+build/%.h: host/include/%.h
 	mkdir -p build
 	cp $< $@
 
