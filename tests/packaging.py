@@ -14,10 +14,9 @@ from cases import ROOT
 
 VERSION = (ROOT / "VERSION").read_text().strip()
 CC, RUN = ROOT / "build" / "tools" / "cc", ROOT / "build" / "tools" / "run"
-PROGRAMS = ["rsmp-site", "rsmp-replay", "rsmp-table"] + (["rsmp-week"] if (ROOT / "host" / "week" / "main.rs").exists() else [])
-WITH_VERSION = {"rsmp-site", "rsmp-replay", "rsmp-table"}
+PROGRAMS = ["rsmp-site", "rsmp-replay", "rsmp-table", "rsmp-week"]
 TREE = {*(f"bin/{name}" for name in PROGRAMS), *(f"share/man/man1/{name}.1" for name in PROGRAMS), "include/rsmp_site.h",
-        "lib/librsmp_site.a", "lib/pkgconfig/rsmp_site.pc", "lib/systemd/system/rsmp-site.service"}
+        "include/rsmp_week.h", "lib/librsmp_site.a", "lib/librsmp_week.a", "lib/pkgconfig/rsmp_site.pc", "lib/systemd/system/rsmp-site.service"}
 ENDS = """#include <rsmp_site.h>
 int main(void) { return (int)rsmp_start((const uint8_t *)"", 0, 1, 0, 60, 0, 0).number; }
 """
@@ -64,7 +63,7 @@ def judge_tree(place):
     for name, path in files(place).items():
         if name.split("/")[0] in ("share", "include") or path.suffix in (".pc", ".service"):
             hold(not re.search(r"@[A-Z]+@", path.read_text()), f"{name} has a place that is not filled in")
-    for name in WITH_VERSION:
+    for name in PROGRAMS:
         said = subprocess.run([RUN, place / "bin" / name, "--version"], capture_output=True, text=True).stdout
         hold(said == f"{name} {VERSION}\n", f"the installed {name} says {said!r}")
 
