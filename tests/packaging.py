@@ -39,17 +39,18 @@ def files(place):
     return {str(path.relative_to(place)): path for path in place.rglob("*") if path.is_file()}
 
 
-def times(place):
-    """Of what make made; other tests may be writing beside it."""
-    return {name: path.stat().st_mtime_ns for name, path in files(place).items() if name.split("/")[0] not in ("tools", "cargo")}
+def times():
+    """Of what make made; the compilers are not made each time, and other tests may be writing where cargo builds."""
+    made = [path for path in (ROOT / "build").iterdir() if path.name not in ("tools", "cargo")]
+    paths = [path for one in made for path in (one.iterdir() if one.is_dir() else [one])]
+    return {path: path.stat().st_mtime_ns for path in [*paths, *(ROOT / "target" / "staticlib").iterdir()]}
 
 
 def judge_nothing_done():
-    before, archive = times(ROOT / "build"), (ROOT / "target" / "staticlib" / "libsitec.a").stat().st_mtime_ns
+    before = times()
     said = make()
     hold(said == "", f"nothing has changed, and make does {said!r}")
-    hold(before == times(ROOT / "build") and archive == (ROOT / "target" / "staticlib" / "libsitec.a").stat().st_mtime_ns,
-         "nothing has changed, and make has written files")
+    hold(before == times(), "nothing has changed, and make has written files")
 
 
 def judge_help():
