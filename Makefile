@@ -7,7 +7,7 @@ export RSMP_VERSION := $(shell cat VERSION)
 export RSMP_SYMBOL := $(subst .,_,$(RSMP_VERSION))
 
 ## build      the library and the programs, into build/ (the default; the first time it proves the library, see README)
-build: build/rsmp-site build/rsmp-replay build/rsmp-table build/rsmp_site.h build/librsmp_site.a build/site-tests build/frame-tests
+build: build/rsmp-site build/rsmp-replay build/rsmp-table build/rsmp-week library build/site-tests build/frame-tests
 
 ## run        builds, then shows the main job: a site talks to two supervisors over TCP on this machine
 run: build
@@ -17,8 +17,8 @@ run: build
 test:
 	bash .ci/run
 
-## library    proves and compiles the library alone: build/librsmp_site.a and build/rsmp_site.h
-library: build/librsmp_site.a build/rsmp_site.h
+## library    proves and compiles the libraries alone: build/librsmp_site.a and librsmp_week.a with their headers
+library: build/librsmp_site.a build/rsmp_site.h build/librsmp_week.a build/rsmp_week.h
 
 ## install    programs, library, header, manual pages and a systemd unit below PREFIX (/usr/local), all of it below DESTDIR where given
 ## uninstall  takes away what install put there
@@ -30,7 +30,9 @@ help:
 	@sed -n 's/^## /  make /p' Makefile
 
 PROVED = target/staticlib/libsitec.a
+WEEK_PROVED = target/staticlib/libweekc.a
 LIBRARY = build/librsmp_site.a
+WEEK_LIBRARY = build/librsmp_week.a
 RUSTC = build/tools/rustc --edition 2021 -O -C strip=symbols
 OUT = build/x86-64
 SITE = $(OUT)/librsmp_site.rlib
@@ -44,6 +46,9 @@ build/tools/ready: host/tools
 $(PROVED): always
 	@host/prove-library sitec
 
+$(WEEK_PROVED): always | $(PROVED)
+	@host/prove-library weekc
+
 always: ;
 
 # The proved archive, and what ties it to the header's version.
@@ -52,6 +57,10 @@ $(LIBRARY): $(PROVED) host/include/version.S VERSION build/tools/ready
 	build/tools/cc -c '-DVERSION="$(RSMP_VERSION)"' -DVERSIONED_START=rsmp_start_$(RSMP_SYMBOL) -o $(OUT)/version.o host/include/version.S
 	cp $(PROVED) $@
 	build/tools/ar rs $@ $(OUT)/version.o
+
+$(WEEK_LIBRARY): $(WEEK_PROVED)
+	mkdir -p build
+	cp $< $@
 
 $(SITE): $(wildcard host/rsmp_site/*.rs) $(LIBRARY) VERSION build/tools/ready
 	mkdir -p $(OUT)
@@ -76,7 +85,11 @@ $(OUT)/frame-tests: host/site/main.rs $(wildcard host/site/*.rs) $(SITE) $(TABLE
 $(OUT)/rsmp-table: host/table/main.rs $(TABLE) VERSION
 	$(RUSTC) --crate-name rsmp_table_program --extern rsmp_table=$(TABLE) -o $@ $<
 
-build/rsmp_site.h: host/include/rsmp_site.h
+$(OUT)/rsmp-week: host/week/main.rs $(WEEK_LIBRARY) VERSION build/tools/ready
+	mkdir -p $(OUT)
+	$(RUSTC) --crate-name rsmp_week_program -L $(dir $(WEEK_LIBRARY)) -o $@ $<
+
+build/%.h: host/include/%.h
 	mkdir -p build
 	cp $< $@
 

@@ -5,9 +5,11 @@ INCLUDEDIR = $(PREFIX)/include
 MANDIR = $(PREFIX)/share/man
 UNITDIR = $(PREFIX)/lib/systemd/system
 
-PROGRAMS = rsmp-site rsmp-replay rsmp-table $(if $(wildcard host/week/main.rs),rsmp-week)
+PROGRAMS = rsmp-site rsmp-replay rsmp-table rsmp-week
+HEADERS = rsmp_site.h rsmp_week.h
+LIBRARIES = librsmp_site.a librsmp_week.a
 PAGES = $(addsuffix .1,$(PROGRAMS))
-INSTALLED = $(addprefix $(BINDIR)/,$(PROGRAMS)) $(LIBDIR)/librsmp_site.a $(INCLUDEDIR)/rsmp_site.h $(LIBDIR)/pkgconfig/rsmp_site.pc \
+INSTALLED = $(addprefix $(BINDIR)/,$(PROGRAMS)) $(addprefix $(LIBDIR)/,$(LIBRARIES)) $(addprefix $(INCLUDEDIR)/,$(HEADERS)) $(LIBDIR)/pkgconfig/rsmp_site.pc \
 	$(addprefix $(MANDIR)/man1/,$(PAGES)) $(UNITDIR)/rsmp-site.service
 
 FILLED = sed -e 's|@PREFIX@|$(PREFIX)|g; s|@BINDIR@|$(BINDIR)|g; s|@LIBDIR@|$(LIBDIR)|g; s|@INCLUDEDIR@|$(INCLUDEDIR)|g; s|@VERSION@|$(RSMP_VERSION)|g'
@@ -15,8 +17,8 @@ FILLED = sed -e 's|@PREFIX@|$(PREFIX)|g; s|@BINDIR@|$(BINDIR)|g; s|@LIBDIR@|$(LI
 install: build
 	mkdir -p $(sort $(addprefix $(DESTDIR),$(dir $(INSTALLED))))
 	install -m 755 $(addprefix $(OUT)/,$(PROGRAMS)) $(DESTDIR)$(BINDIR)
-	install -m 644 $(LIBRARY) $(DESTDIR)$(LIBDIR)
-	install -m 644 build/rsmp_site.h $(DESTDIR)$(INCLUDEDIR)
+	install -m 644 $(addprefix build/,$(LIBRARIES)) $(DESTDIR)$(LIBDIR)
+	install -m 644 $(addprefix build/,$(HEADERS)) $(DESTDIR)$(INCLUDEDIR)
 	$(FILLED) host/include/rsmp_site.pc >$(DESTDIR)$(LIBDIR)/pkgconfig/rsmp_site.pc
 	for page in $(PAGES); do $(FILLED) host/man/$$page >$(DESTDIR)$(MANDIR)/man1/$$page; done
 	$(FILLED) host/unit/rsmp-site.service >$(DESTDIR)$(UNITDIR)/rsmp-site.service

@@ -63,7 +63,7 @@ def pauses_grow(room):
         stream.close()
     gaps = [after - before for before, after in zip(times, times[1:])]
     for gap, wanted in zip(gaps, (0.3, 0.6, 1.2, 1.2, 1.2)):
-        hold(0.85 * wanted < gap < 1.15 * wanted + 0.5, f"pauses of {gaps}")
+        hold(0.85 * wanted < gap < 1.15 * wanted + 0.9, f"pauses of {gaps}")
     process.quit()
     listener.close()
 

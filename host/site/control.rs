@@ -100,9 +100,7 @@ fn serve_aside(mut stream: UnixStream, events: &SyncSender<Event>, served: &Arc<
     }
     let (events, counted) = (events.clone(), served.clone());
     let thread = thread::Builder::new().spawn(move || {
-        if let Ok(mut out) = stream.try_clone() {
-            serve(BufReader::new(stream), &events, |text| writeln!(out, "{}", text).is_ok());
-        }
+        serve(BufReader::new(&stream), &events, |text| writeln!(&stream, "{}", text).is_ok());
         counted.fetch_sub(1, Ordering::Relaxed);
     });
     if thread.is_err() {

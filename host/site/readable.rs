@@ -127,6 +127,23 @@ mod tests {
     }
 
     #[test]
+    fn any_bytes() {
+        let signs: Vec<char> = "{}[]:,\"\\ \n\u{1b}tåype\u{fffd}".chars().collect();
+        let mut random: u64 = 88_172_645_463_325_252;
+        for _ in 0..3000 {
+            let mut text = String::new();
+            for _ in 0..24 {
+                random ^= random << 13;
+                random ^= random >> 7;
+                random ^= random << 17;
+                text.push(signs[(random % signs.len() as u64) as usize]);
+            }
+            let line = clean(&format!("{} {}", kind(&text), detail(&text)));
+            assert!(line.chars().all(|c| !c.is_control()), "{:?} of {:?}", line, text);
+        }
+    }
+
+    #[test]
     fn cleaned() {
         assert_eq!(clean("a\u{1b}[2J\r\nå\u{202e}\u{9b}z"), "a\\u{1b}[2J\\r\\nå\\u{202e}\\u{9b}z");
         assert_eq!(clean(&"x".repeat(5000)).len(), LONGEST + 3);

@@ -160,7 +160,8 @@ fn connect(address: &str) -> io::Result<(TcpStream, Wire)> {
             Ok(stream) => {
                 stream.set_nodelay(true)?;
                 stream.set_write_timeout(Some(WRITE_WAIT))?;
-                end_when_dead(&stream, SILENCE, NOT_TAKEN)?;
+                // Where the system cannot do it, the site's own 30 seconds are left.
+                let _ = end_when_dead(&stream, SILENCE, NOT_TAKEN);
                 let wire = Wire::new(&stream)?;
                 return Ok((stream, wire));
             }
