@@ -90,6 +90,22 @@ def not_ours(room):
     supervisor.close()
 
 
+def one_at_a_time(room):
+    """A second program on the same state does not start, and the first goes on; after a kill the state is free."""
+    state = pathlib.Path(room) / "state"
+    process = started(room, ["127.0.0.1:1"])
+    hold(process.order("alarm 1 on") == "done" and process.order("save") == "done", "the first")
+    second = started(room, ["127.0.0.1:1"])
+    hold(second.process.wait(10) == 1, "a second program takes the state")
+    second.reader.join(5)
+    hold(second.logged(f"{state}: another program keeps its state there") == 1, f"the second says {second.lines}")
+    hold(process.order("counts") == "link 0 holds 1, lost 0", "the first is disturbed")
+    process.kill()
+    third = started(room, ["127.0.0.1:1"])
+    hold(third.order("counts") == "link 0 holds 1, lost 0", "the state after a kill")
+    third.quit()
+
+
 class Book:
     """What must come, what must not come again."""
 
@@ -185,4 +201,4 @@ def kills(room, count=20, seed=None):
             f"{len(book.settled)} surely answered and none came back")
 
 
-TESTS = [restart, not_ours, kills]
+TESTS = [restart, not_ours, one_at_a_time, kills]

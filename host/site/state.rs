@@ -1,6 +1,7 @@
 //! The site's bytes in a file, so that what is held and what is set survive a power loss. The file is replaced as a whole: it has the
 //! former site or the new one, never a part.
 
+use crate::system::lock;
 use rsmp_site::{check_sum, Phase, Site, Start};
 use std::fs::{self, File};
 use std::io::{self, Write};
@@ -85,12 +86,14 @@ pub struct Store {
     setup: [u8; 20],
     last: Option<Instant>,
     changed: bool,
+    _lock: File,
 }
 
 impl Store {
     /// What a file has, and the store that will write it. A file that is not taken is kept aside.
     pub fn open(path: &str, interval: Duration, table: &[u8], start: &Start) -> Result<(Store, Found), String> {
         let path = PathBuf::from(path);
+        let lock = alone(&path)?;
         let setup = setup(table, start);
         let told = |error: io::Error| format!("{}: {}", path.display(), error);
         let found = match fs::read(&path) {
@@ -105,8 +108,7 @@ impl Store {
                 }
             },
         };
-        let (last, changed) = (None, true);
-        let store = Store { path, interval, setup, last, changed };
+        let store = Store { path, interval, setup, last: None, changed: true, _lock: lock };
         Ok((store, found))
     }
 
@@ -135,6 +137,19 @@ impl Store {
         replace(&self.path, &written(&self.setup, site, time)).map_err(|error| format!("{}: {}", self.path.display(), error))?;
         self.changed = false;
         Ok(())
+    }
+}
+
+/// Two programs on one state would each undo what the other stored. Where the file system has no locks, none is asked for.
+fn alone(path: &Path) -> Result<File, String> {
+    let name = beside(path, ".lock");
+    let told = |error: io::Error| format!("{}: {}", name.display(), error);
+    let file = File::create(&name).map_err(told)?;
+    match lock(&file) {
+        Err(error) if error.kind() == io::ErrorKind::WouldBlock => {
+            Err(format!("{}: another program keeps its state there", path.display()))
+        }
+        _ => Ok(file),
     }
 }
 

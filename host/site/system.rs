@@ -1,5 +1,6 @@
 //! The calls of the system that the standard library has no name for, declared by hand for Linux.
 
+use std::fs::File;
 use std::io;
 use std::net::TcpStream;
 use std::os::raw::{c_int, c_uint, c_void};
@@ -19,11 +20,14 @@ const TCP_KEEPINTVL: c_int = 5;
 const TCP_KEEPCNT: c_int = 6;
 const TCP_USER_TIMEOUT: c_int = 18;
 const AF_UNIX: u16 = 1;
+const LOCK_EX: c_int = 2;
+const LOCK_NB: c_int = 4;
 const MSG_NOSIGNAL: c_int = 0x4000;
 
 extern "C" {
     fn signal(number: c_int, handler: extern "C" fn(c_int)) -> usize;
     fn umask(mask: c_uint) -> c_uint;
+    fn flock(file: c_int, operation: c_int) -> c_int;
     fn setsockopt(socket: c_int, level: c_int, name: c_int, value: *const c_void, length: c_uint) -> c_int;
     fn sendto(
         socket: c_int,
@@ -57,6 +61,16 @@ pub fn with_private_files<T>(act: impl FnOnce() -> T) -> T {
     // SAFETY: as above.
     unsafe { umask(before) };
     done
+}
+
+/// Takes a lock that ends with the file or with the process; an error of kind WouldBlock where another has it.
+pub fn lock(file: &File) -> io::Result<()> {
+    // SAFETY: the file is open while it is borrowed.
+    if unsafe { flock(file.as_raw_fd(), LOCK_EX | LOCK_NB) } == 0 {
+        Ok(())
+    } else {
+        Err(io::Error::last_os_error())
+    }
 }
 
 fn set_option(stream: &TcpStream, level: c_int, name: c_int, value: c_int) -> io::Result<()> {
