@@ -1,0 +1,6 @@
+pub mod Integers
+pub mod Folds
+pub mod Lines
+pub mod Groups
+pub mod Steps
+pub mod Kept
