@@ -90,7 +90,7 @@ unfolding notAbove belowOf
 above-is m [] = refl
 above-is m (b ∷ bs) = rw (not-above b m (2 ^ 31)) (ap (λ (n : ℕ). bit (ltb b (m + 1)) + n) (above-is m bs))
 
-rank-is : (k : ℕ) (bs : List ℕ) (m : ℕ) → hasRank k (map lowered bs) (lowered m) ≡ hasRankOf k bs m
+pub rank-is : (k : ℕ) (bs : List ℕ) (m : ℕ) → hasRank k (map lowered bs) (lowered m) ≡ hasRankOf k bs m
 rank-is k bs m = rw (below-is m bs, above-is m bs)
 
 first-is : (f : ℤ → Bool) (g : ℕ → Bool) → ((n : ℕ) → f (lowered n) ≡ g n) → (z : ℕ) (bs : List ℕ)

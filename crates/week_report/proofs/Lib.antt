@@ -1,5 +1,6 @@
 pub mod Integers
 pub mod Folds
+pub mod Ranks
 pub mod Lines
 pub mod Groups
 pub mod Steps
