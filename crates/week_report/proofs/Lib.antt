@@ -1,0 +1,7 @@
+pub mod Integers
+pub mod Folds
+pub mod Ranks
+pub mod Lines
+pub mod Groups
+pub mod Steps
+pub mod Kept

@@ -1,0 +1,4 @@
+pub mod Tally
+pub mod Figures
+pub mod Report
+pub mod Claims
