@@ -1,0 +1,2 @@
+-- Demand 1, of the machine.
+pub mod Demand

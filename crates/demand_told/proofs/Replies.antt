@@ -1,0 +1,134 @@
+-- A reply is written in Up alone: in Greeting its packet is ignored, in Beating it is "Not ready".
+-- Assumes nothing.
+use Prim.Native.Nat.{ℕ, _≤_}
+use Prim.Native.String.{String}
+use mathlib.Core.Path.{_≡_, refl, ap}
+use mathlib.Core.Bool.{Bool, true, false, not}
+use mathlib.Core.List.{List, [], _∷_}
+use mathlib.Core.Option.{Option, some, none}
+use lib.ListN.{length}
+use native.Mathlib.Omega.{arith}
+use Rattle.basis.specs.Pick.{pick, both}
+use Rattle.basis.specs.Lists.{sameBytes}
+use Rattle.basis.specs.Text.{text}
+use Rattle.basis.proofs.Cases.{picked}
+use Rattle.basis.proofs.Same.{same-true}
+use Rattle.json_value.specs.Grammar.{Json}
+use Rattle.write_message.specs.Message.{Message}
+use Rattle.write_message.specs.Message.Message.{ack, notAck}
+use Rattle.machine.specs.Words.{Bytes, maybe, reads, Case, firstOf}
+use Rattle.machine.specs.State.{Life, Machine, lifeAt, Effect}
+use Rattle.machine.specs.Json.{element, stringAt, elementIs, isType}
+use Rattle.machine.specs.Life.{isOver, isDown, isGreeting, isBeating, isUp}
+use Rattle.machine.specs.Answers.{isAnswer, awaitedHere, isReadable, isIgnored, isUnexpected, wantsReply, reasons, reasonOf, failsCheck}
+use Rattle.machine.specs.Effects.{closes, refusal, refuses, carriedOut, replying, receives}
+use Rattle.machine.specs.Run.{Among}
+use Rattle.machine.specs.Run.Among.{here, later}
+use Rattle.demand_held.proofs.Lists.{maybe-cases, clash}
+use Rattle.demand_told.specs.Demand.{isTold}
+use Rattle.demand_told.proofs.Written.{quiet-answered}
+
+pub nobody : {A : Type 0} {x : A} → Among x [] → ⊥
+nobody a = let some-there : 1 ≤ 0 = counted a in omega arith
+  where
+    counted : {A : Type 0} {x : A} {xs : List A} → Among x xs → 1 ≤ length xs
+    counted here = omega arith
+    counted (later a) = omega (arith, counted a)
+
+first-no : {A : Type 0} (b : Bool) (x : A) (rest : Option A) → pick b (some x) rest ≡ none → (b ≡ false) × (rest ≡ none)
+first-no true x rest e = absurd (let z : _≡_ {A = ℕ} 0 1 = cc in omega arith)
+first-no false x rest e = (refl, e)
+
+-- where none applies, each does not
+pub none-at : {A : Type 0} {k : Case A} (ks : List (Case A)) → firstOf ks ≡ none → Among k ks → k .applies ≡ false
+none-at (k ∷ ks) e here = first-no (k .applies) (k .gives) (firstOf ks) e .0
+none-at (x ∷ ks) e (later a) = none-at ks (first-no (x .applies) (x .gives) (firstOf ks) e .1) a
+
+-- ---- a packet has one type
+one-type : (a b : String) → sameBytes (text a) (text b) ≡ false → (j : Json) → isType a j ≡ true → isType b j ≡ false
+one-type a b other j e = go (stringAt "type" j) e
+  where
+    go : (o : Option Bytes) → maybe false (reads a) o ≡ true → maybe false (reads b) o ≡ false
+    go none f = refl
+    go (some s) f = rw (same-true s (text a) f) other
+
+abbrev NoGreeting : Json → Type 0
+NoGreeting j = (isType "Version" j ≡ false) × (isType "Watchdog" j ≡ false)
+
+asks : (m : Machine) (l : ℕ) (j : Json) → wantsReply m l j ≡ true → NoGreeting j
+asks m l j e = go (isType "Alarm" j) _ (isType "AggregatedStatusRequest" j) (isType "StatusRequest" j) refl refl refl e
+  where
+    go : (a b c d : Bool) → isType "Alarm" j ≡ a → isType "AggregatedStatusRequest" j ≡ c → isType "StatusRequest" j ≡ d → pick (both a b) true (pick c true d) ≡ true → NoGreeting j
+    go true b c d x y z e = (one-type "Alarm" "Version" refl j x, one-type "Alarm" "Watchdog" refl j x)
+    go false b true d x y z e = (one-type "AggregatedStatusRequest" "Version" refl j y, one-type "AggregatedStatusRequest" "Watchdog" refl j y)
+    go false b false true x y z e = (one-type "StatusRequest" "Version" refl j z, one-type "StatusRequest" "Watchdog" refl j z)
+    go false b false false x y z e = clash e refl
+
+-- ---- what is told is a reply
+only-ack : (w : Message) (a : Bytes) → Among w (ack a ∷ []) → isTold w ≡ true → ⊥
+only-ack w a here u = clash u refl
+
+only-not-ack : (w : Message) (a : Bytes) (r : ℕ) → Among w (notAck a r ∷ []) → isTold w ≡ true → ⊥
+only-not-ack w a r here u = clash u refl
+
+abbrev Telling : Message → Effect → Type 0 → Type 0
+Telling w e P = Among w (e .messages) → isTold w ≡ true → P
+
+tells-replying : (l t : ℕ) (id : Bytes) (j : Json) (e : Effect) (w : Message) → Telling w (replying l t id j e) (NoGreeting j)
+unfolding replying
+tells-replying l t id j e w =
+    picked (λ (x : Effect). Telling w x (NoGreeting j)) (wantsReply (e .leaves) l j) _ _
+    (λ h a u. asks (e .leaves) l j h)
+    (λ h a u. absurd (only-ack w _ a u))
+
+tells-refuses : (l : ℕ) (j : Json) (m : Machine) (reason : String) (w : Message) → Telling w (refuses l j m reason) ⊥
+unfolding refuses closes
+tells-refuses l j m reason w =
+    picked (λ (x : Effect). Telling w x ⊥) (failsCheck reason) _ _
+    (λ h a u. only-not-ack w _ _ a u)
+    (λ h a u. only-not-ack w _ _ a u)
+
+pub record Replied (m : Machine) (l : ℕ) (j : Json) : Type 0 where
+  pub other : isAnswer j ≡ false
+  pub reason : reasonOf m l j ≡ none
+  pub asked : NoGreeting j
+
+pub tells-received : (l t : ℕ) (id : Bytes) (m : Machine) (j : Json) (w : Message) → Telling w (receives l t id m j) (Replied m l j)
+unfolding receives
+tells-received l t id m j w =
+    picked (λ (x : Effect). Telling w x (Replied m l j)) (isAnswer j) _ _
+    (λ e a u. absurd (nobody (rw (quiet-answered l j m) at a)))
+    (λ e. maybe-cases (λ (x : Effect). Telling w x (Replied m l j)) _ _ (reasonOf m l j)
+    (λ f a u. record { other = e; reason = f; asked = tells-replying l t id j (carriedOut l t j m) w a u })
+    (λ reason f a u. absurd (tells-refuses l j m reason w a u)))
+
+-- ---- the phase
+pub not-greeting : (k : Life) (j : Json) → isAnswer j ≡ false → isType "Version" j ≡ false → isIgnored k (some j) ≡ false → isGreeting k ≡ false
+unfolding isIgnored
+not-greeting k j other version e = go (isAnswer j) _ (isReadable j) (isGreeting k) (isType "Version" j) e other version
+  where
+    go : (a x r g v : Bool) → pick a x (pick (not r) true (both g (not v))) ≡ false → a ≡ false → v ≡ false → g ≡ false
+    go true x r g v e p q = clash refl p
+    go false x true true true e p q = clash refl q
+    go false x true true false e p q = clash refl e
+    go false x true false v e p q = refl
+    go false x false g v e p q = clash refl e
+
+pub up-when : (k : Life) (w : Bool) → isDown k ≡ false → isGreeting k ≡ false → both (isBeating k) (not w) ≡ false → w ≡ false → isUp k ≡ true
+up-when k w down greeting beating watchdog = go (k .connected) (isOver (k .versions)) (isOver (k .watchdogs)) w down greeting beating watchdog
+  where
+    go : (c v x w : Bool) → not c ≡ false → both c (not v) ≡ false → both (both c (both v (not x))) (not w) ≡ false → w ≡ false → both c (both v x) ≡ true
+    go false v x w d g b q = clash refl d
+    go true false x w d g b q = clash refl g
+    go true true true w d g b q = refl
+    go true true false true d g b q = clash refl q
+    go true true false false d g b q = clash refl b
+
+-- a packet that is not ignored and that no reason refuses, on a link that is not Down
+pub replied-up : (m : Machine) (l : ℕ) (j : Json) → Replied m l j → isDown (lifeAt m l) ≡ false → isIgnored (lifeAt m l) (some j) ≡ false → isUp (lifeAt m l) ≡ true
+unfolding reasons
+replied-up m l j r down ignored =
+    up-when (lifeAt m l) (isType "Watchdog" j) down
+    (not-greeting (lifeAt m l) j (r .other) (r .asked .0) ignored)
+    (none-at (reasons m l j) (r .reason) (later (later (later here))))
+    (r .asked .1)

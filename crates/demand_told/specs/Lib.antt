@@ -1,0 +1,2 @@
+-- Demand 2, of the machine.
+pub mod Demand
