@@ -28,16 +28,17 @@ use Rattle.demand_held.specs.Held.Until.{lasts, answered-now, pushed-now
 use Rattle.demand_held.specs.Demand.{Holding, Demand3}
 use Rattle.demand_held.proofs.Lists.{clash, Each}
 use Rattle.demand_held.proofs.Lists.Each.{no-more, one-more}
-use Rattle.demand_held.proofs.Good.{Good}
+use Rattle.demand_held.proofs.Good.{Good, Fits}
 use Rattle.demand_held.proofs.Good.Rising.{ends}
 use Rattle.demand_held.proofs.Rising.{rising-once, newer-older}
 use Rattle.demand_held.proofs.Room.{Over}
-use Rattle.demand_held.proofs.Issue.{For, held-below, all-good, all-lost, fate-of, issued-of, never-stuck}
+use Rattle.demand_held.proofs.Issue.{For, held-below, all-good, all-every, all-lost, fate-of, issued-of, never-stuck}
 use Rattle.demand_held.proofs.Lays.{Lays, lays}
 use Rattle.demand_held.proofs.Steps.{laid, step-done, step-refused, done-number, number-done, refused-number, there, no-thirteen}
 
 pub record Sound (m : Machine) : Type 0 where
   pub good : Good (m .pool)
+  pub alarms : Each (Fits (m .setup)) (m .pool .held)
   pub counts : length (m .pool .lost) ≡ m .setup .links
   pub primary : (p : ℕ) → m .setup .primary ≡ some p → p < m .setup .links
 
@@ -66,6 +67,9 @@ module _ (m : Machine) (s : Sound m) (c : Call) where
     done-sound =
         record {
           good = all-good (laid m c .issues) (laid m c .leaves .pool) (good-laid here) (for-laid here);
+          alarms =
+              rw (lay here .frame .setup) (all-every (laid m c .issues) (laid m c .leaves .pool) (good-laid here) (for-laid here) (m .setup) (lay here .told)
+              (lay here .frame .every (m .setup) (s .alarms)));
           counts =
               all-lost (laid m c .issues) (laid m c .leaves .pool) (good-laid here) (for-laid here)
               ∙ ap length (lay here .frame .lost) ∙ s .counts ∙ ap (λ (u : Setup). u .links) (sym (lay here .frame .setup));
@@ -170,11 +174,12 @@ begun-sound s m (begins allowed e g) =
         all = omega arith;
         rising = ends {a = 0} (omega arith);
       };
+      alarms = no-more;
       counts = length-replicate {A = ℕ} (s .links) 0;
       primary = λ p f. inside (s .primary) (s .links) p (and-left (maybe true (λ (q : ℕ). ltb q (s .links)) (s .primary)) _ (and-right (leb (s .links) 4) _ (and-right (leb 1 (s .links)) _ g))) f;
     }
 
-run-sound : {s : Start} {h : List Past} {m : Machine} → Run s h m → Sound m
+pub run-sound : {s : Start} {h : List Past} {m : Machine} → Run s h m → Sound m
 run-sound (begun b) = begun-sound _ _ b
 run-sound (next c r) = step-sound _ (run-sound r) c
 

@@ -26,7 +26,7 @@ use Rattle.demand_held.specs.Held.{IsHeld, Answered}
 use Rattle.demand_held.specs.Held.IsHeld.{held}
 use Rattle.demand_held.proofs.Lists.{clash, maybe-cases, Each, each-map, each-keep, among-map, among-keep, count-map, count-keep, length-map, length-keep}
 use Rattle.demand_held.proofs.Lists.Each.{no-more, one-more}
-use Rattle.demand_held.proofs.Good.{Good, Below}
+use Rattle.demand_held.proofs.Good.{Good, Below, Fits}
 use Rattle.demand_held.proofs.Rising.{rising-map, rising-keep}
 use Rattle.demand_held.proofs.Issue.{For}
 
@@ -36,6 +36,7 @@ pub record Frame (E : ℕ → ℕ → Type 0) (m k : Machine) : Type 0 where
   pub next : k .pool .next ≡ m .pool .next
   pub lost : k .pool .lost ≡ m .pool .lost
   pub good : Good (m .pool) → Good (k .pool)
+  pub every : (u : Setup) → Each (Fits u) (m .pool .held) → Each (Fits u) (k .pool .held)
   pub spared : (r : Issued) (n : ℕ) → IsHeld r n (m .pool .held) → IsHeld r n (k .pool .held) ⊎ E (r .link) n
 
 -- the pool is the same
@@ -46,6 +47,7 @@ still k s e =
       next = ap (λ (p : Pool). p .next) e;
       lost = ap (λ (p : Pool). p .lost) e;
       good = λ g. rw e g;
+      every = λ u h. rw e h;
       spared = λ r n h. inl (rw e h);
     }
 
@@ -56,6 +58,7 @@ then {E} {m} {k} {j} a b =
       next = b .next ∙ a .next;
       lost = b .lost ∙ a .lost;
       good = λ g. b .good (a .good g);
+      every = λ u h. b .every u (a .every u h);
       spared = λ r n h. go r n (a .spared r n h);
     }
   where
@@ -82,6 +85,7 @@ module _ {E : ℕ → ℕ → Type 0} (m : Machine) (g : Held → Held) (same-li
           all = omega (arith, p .all, length-map g (m .pool .held));
           rising = rising-map g same-number (p .rising);
         };
+        every = λ u h. each-map g (λ x f. rw (same-link x, same-content x) f) h;
         spared = λ r n h. inl (again r n h);
       }
     where
@@ -103,6 +107,7 @@ module _ {E : ℕ → ℕ → Type 0} (m : Machine) (k i : ℕ) (ends : E k i) w
           all = omega (arith, p .all, length-keep other (m .pool .held));
           rising = rising-keep other (p .rising);
         };
+        every = λ u h. each-keep other h;
         spared = keeps;
       }
     where

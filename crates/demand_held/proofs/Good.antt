@@ -13,8 +13,9 @@ use borrow.Author.Tests.{ltb-true, ltb-false, leb-true, eqb-true, ne-eqb, not-tr
 use Rattle.basis.specs.Pick.{pick, both, bit}
 use Rattle.basis.specs.Lists.{count}
 use Rattle.basis.proofs.Cases.{bool-cases, picked, lt-or-ge, eq-or-ne}
-use Rattle.machine.specs.Words.{anyBelow}
-use Rattle.machine.specs.State.{Held, Pool}
+use Rattle.machine.specs.Words.{isNumber, anyBelow}
+use Rattle.machine.specs.State.{Setup, Content, Held, Pool}
+use Rattle.machine.specs.State.Content.{ofAlarm, ofStatus, ofAggregated}
 use Rattle.machine.specs.Pool.{isFor, holds, isFull, fullestBelow, fullest, isStuck}
 use Rattle.demand_held.proofs.Lists.{bit-false, clash, Each, none-below}
 use Rattle.demand_held.proofs.Lists.Each.{no-more, one-more}
@@ -26,6 +27,15 @@ pub data Rising (b : ℕ) : ℕ → List Held → Type 0 where
 
 abbrev pub Below : ℕ → Held → Type 0
 Below n h = h .link < n
+
+-- an alarm's record is the primary's
+abbrev pub fits : Setup → ℕ → Content → Bool
+fits u l (ofAlarm i a) = isNumber l (u .primary)
+fits u l (ofStatus i v t) = true
+fits u l (ofAggregated v t) = true
+
+abbrev pub Fits : Setup → Held → Type 0
+Fits u h = fits u (h .link) (h .content) ≡ true
 
 pub record Good (p : Pool) : Type 0 where
   pub few : length (p .lost) ≤ 4

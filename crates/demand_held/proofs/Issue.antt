@@ -12,16 +12,19 @@ use borrow.Author.Tests.{lt-leb, ne-eqb}
 use Rattle.basis.specs.Pick.{both, bit}
 use Rattle.basis.specs.Lists.{count}
 use Rattle.basis.proofs.Cases.{eq-or-ne}
-use Rattle.machine.specs.State.{Issued, Held, heldAs, Pool}
+use Rattle.machine.specs.State.{Setup, Issued, Held, heldAs, Pool}
 use Rattle.machine.specs.Pool.{isFor, holds, makeRoom, added, issue, issueAll, isStuck, sticks}
 use Rattle.demand_held.specs.Held.{IsHeld, At}
 use Rattle.demand_held.specs.Held.IsHeld.{held}
 use Rattle.demand_held.specs.Held.At.{first, behind}
 use Rattle.demand_held.proofs.Lists.{bit-false, bit-le, no-right, Each, each-append, among-last, among-left, count-last, length-last}
 use Rattle.demand_held.proofs.Lists.Each.{no-more, one-more}
-use Rattle.demand_held.proofs.Good.{Rising, Below, Good, not-stuck}
+use Rattle.demand_held.proofs.Good.{Rising, Below, fits, Fits, Good, not-stuck}
 use Rattle.demand_held.proofs.Rising.{rising-last, rising-below, older}
 use Rattle.demand_held.proofs.Room.{Over, Room, holds-added, makes-room}
+
+abbrev pub FitsIssued : Setup → Issued → Type 0
+FitsIssued u i = fits u (i .link) (i .content) ≡ true
 
 abbrev pub For : ℕ → Issued → Type 0
 For n i = i .link < n
@@ -85,6 +88,10 @@ module _ (i : Issued) (p : Pool) (g : Good p) where
   unfolding issue
   issue-fate = fate-added (makeRoom (i .link) p) (makes-room i p g)
 
+  pub issue-every : (u : Setup) → FitsIssued u i → Each (Fits u) (p .held) → Each (Fits u) (issue i p .held)
+  unfolding issue
+  issue-every u f h = each-append (makes-room i p g .every u h) (one-more f no-more)
+
   pub issue-over : (l n : ℕ) → n < p .next → Over l n p → Over l n (issue i p)
   unfolding issue
   issue-over = over-added (makeRoom (i .link) p) (makes-room i p g)
@@ -107,6 +114,11 @@ all-good (i ∷ is) p g (one-more f a) = all-good is (issue i p) (issue-good i p
 pub all-lost : (is : List Issued) (p : Pool) → Good p → Each (For (length (p .lost))) is → length (issueAll is p .lost) ≡ length (p .lost)
 all-lost [] p g a = refl
 all-lost (i ∷ is) p g (one-more f a) = all-lost is (issue i p) (issue-good i p g f) (for-next i p g a) ∙ issue-lost i p g
+
+pub all-every : (is : List Issued) (p : Pool) → Good p → Each (For (length (p .lost))) is → (u : Setup) → Each (FitsIssued u) is → Each (Fits u) (p .held)
+    → Each (Fits u) (issueAll is p .held)
+all-every [] p g a u b h = h
+all-every (i ∷ is) p g (one-more f a) u (one-more e b) h = all-every is (issue i p) (issue-good i p g f) (for-next i p g a) u b (issue-every i p g u e h)
 
 all-over : (is : List Issued) (p : Pool) → Good p → Each (For (length (p .lost))) is → (l n : ℕ) → n < p .next → Over l n p → Over l n (issueAll is p)
 all-over [] p g a l n b o = o

@@ -10,7 +10,7 @@ use lib.Dec.{eqb}
 use lib.IntN.{ℤ}
 use lib.ListN.{length}
 use native.Mathlib.Omega.{arith}
-use borrow.Author.Tests.{eqb-true}
+use borrow.Author.Tests.{eqb-true, eq-eqb}
 use Rattle.basis.specs.Pick.{pick, both}
 use Rattle.basis.proofs.Cases.{picked}
 use Rattle.json_value.specs.Grammar.{Json}
@@ -21,6 +21,7 @@ use Rattle.machine.specs.State.{
   Alarm,
   Subscription,
   Issued,
+  issuedFor,
   Sent,
   Awaited,
   Life,
@@ -35,6 +36,7 @@ use Rattle.machine.specs.State.{
   effect,
   only,
 }
+use Rattle.machine.specs.State.Content.{ofAlarm, ofStatus, ofAggregated}
 use Rattle.machine.specs.State.Act.{connect, disconnect, packet, alarmInput, statusValue, aggregatedValue, tick, pump}
 use Rattle.machine.specs.Json.{readPacket, stringOf, entriesOf, isType}
 use Rattle.machine.specs.Life.{unsent, close, closeAll, awaitedBy, Due, due}
@@ -65,7 +67,7 @@ use Rattle.demand_held.specs.Held.{Answered, packetLink}
 use Rattle.demand_held.specs.Held.Answered.{answered as answered-by}
 use Rattle.demand_held.proofs.Lists.{maybe-cases, Each, each-map, each-of, each-kept, each-flat, each-below}
 use Rattle.demand_held.proofs.Lists.Each.{no-more, one-more}
-use Rattle.demand_held.proofs.Issue.{For}
+use Rattle.demand_held.proofs.Issue.{FitsIssued, For}
 use Rattle.demand_held.proofs.Frame.{Frame, still, then, marks, settles}
 
 both-first : (a b : Bool) → both a b ≡ true → a ≡ true
@@ -95,14 +97,15 @@ module _ (E : ℕ → ℕ → Type 0) (m : Machine) where
   pub record Lays (e : Effect) : Type 0 where
     pub frame : Frame E m (e .leaves)
     pub issued : Each (For (m .setup .links)) (e .issues)
+    pub told : Each (FitsIssued (m .setup)) (e .issues)
 
   -- a call that leaves the pool, or only closes, and issues nothing
   calm : (k : Machine) (messages : List Message) (closed : List ℕ) (hint : Option ℕ) → k .setup ≡ m .setup → k .pool ≡ m .pool → Lays (effect k [] messages closed hint)
-  calm k messages closed hint s e = record { frame = still k s e; issued = no-more }
+  calm k messages closed hint s e = record { frame = still k s e; issued = no-more; told = no-more }
 
   lays-closes : (l : ℕ) (messages : List Message) → Lays (closes l messages m)
   unfolding closes
-  lays-closes l messages = record { frame = close-frame l m; issued = no-more }
+  lays-closes l messages = record { frame = close-frame l m; issued = no-more; told = no-more }
 
   lays-connects : (l : ℕ) → Lays (connects l m)
   unfolding connects
@@ -116,6 +119,8 @@ module _ (E : ℕ → ℕ → Type 0) (m : Machine) where
         issued =
             subst (λ (u : Setup). Each (For (u .links)) (intervals t (closeAll (late t m) m) .issues)) (close-all-frame {E = E} (late t m) m .setup)
             (each-map _ (λ s h. h) (upwards-links (closeAll (late t m) m) (isTime t)));
+        told =
+            each-of (λ (s : Subscription). update (closeAll (late t m) m) t (s .link) (s .status)) (λ s. refl) (upwards (closeAll (late t m) m) (isTime t));
       }
 
   -- ---- inputs
@@ -125,16 +130,26 @@ module _ (E : ℕ → ℕ → Type 0) (m : Machine) where
         picked (Each (For (m .setup .links))) (isSilent (a .event) (a .suspended)) [] _ (λ e. no-more)
         (λ e. maybe-cases (Each (For (m .setup .links))) [] _ (m .setup .primary) (λ f. no-more) (λ p f. one-more (primary p f) no-more))
 
+    told-fits : (i : ℕ) (a : Alarm) → Each (FitsIssued (m .setup)) (told m i a)
+    told-fits i a =
+        picked (Each (FitsIssued (m .setup))) (isSilent (a .event) (a .suspended)) [] _ (λ e. no-more)
+        (λ e. maybe-cases (Each (FitsIssued (m .setup))) [] (λ (p : ℕ). issuedFor p (ofAlarm i a) ∷ []) (m .setup .primary) (λ f. no-more)
+        (λ p f. one-more (rw f (eq-eqb p p refl)) no-more))
+
     lays-happens : (i : ℕ) (o : Option Alarm) → Lays (happens m i o)
     unfolding happens
     lays-happens i none = calm m [] [] none refl refl
-    lays-happens i (some a) = record { frame = still _ refl refl; issued = told-links i a }
+    lays-happens i (some a) = record { frame = still _ refl refl; issued = told-links i a; told = told-fits i a }
 
   lays-becomes : (i : ℕ) (v : ℤ) (t : ℕ) → Lays (becomes m i v t)
   unfolding becomes
   lays-becomes i v t =
       picked Lays (isNew v (valueAt m i)) _ _
-      (λ e. record { frame = still _ refl refl; issued = each-map _ (λ s h. h) (upwards-links m _) })
+      (λ e. record {
+        frame = still _ refl refl;
+        issued = each-map _ (λ s h. h) (upwards-links m _);
+        told = each-of (λ (s : Subscription). issuedFor (s .link) (ofStatus i (some v) t)) (λ s. refl) (upwards m (λ s. both (eqb (s .status) i) (s .onChange)));
+      })
       (λ e. calm m [] [] none refl refl)
 
   lays-aggregates : (v t : ℕ) → Lays (aggregates m v t)
@@ -142,7 +157,11 @@ module _ (E : ℕ → ℕ → Type 0) (m : Machine) where
   lays-aggregates v t =
       picked Lays (eqb v (m .aggregated)) _ _
       (λ e. calm m [] [] none refl refl)
-      (λ e. record { frame = still _ refl refl; issued = each-map _ (λ l h. h) (each-below (m .setup .links)) })
+      (λ e. record {
+        frame = still _ refl refl;
+        issued = each-map _ (λ l h. h) (each-below (m .setup .links));
+        told = each-of (λ (l : ℕ). issuedFor l (ofAggregated v t)) (λ l. refl) (upTo (m .setup .links));
+      })
 
   -- ---- pump
   mark-frame : (message : Sent) → Frame E m (markSent message m)
@@ -151,7 +170,7 @@ module _ (E : ℕ → ℕ → Type 0) (m : Machine) where
 
   lays-sends : (l t : ℕ) (id : Bytes) (d : Due) → Lays (sends l t id m d)
   unfolding sends
-  lays-sends l t id d = record { frame = then (mark-frame (sentAs m l d)) (still _ refl refl); issued = no-more }
+  lays-sends l t id d = record { frame = then (mark-frame (sentAs m l d)) (still _ refl refl); issued = no-more; told = no-more }
 
   -- ---- packet
   lays-refuses : (l : ℕ) (j : Json) (reason : String) → Lays (refuses l j m reason)
@@ -162,13 +181,17 @@ module _ (E : ℕ → ℕ → Type 0) (m : Machine) where
   unfolding replying
   lays-replying l t id j e a =
       picked Lays (wantsReply (e .leaves) l j) _ _
-      (λ w. record { frame = then (a .frame) (still _ refl refl); issued = a .issued })
-      (λ w. record { frame = a .frame; issued = a .issued })
+      (λ w. record { frame = then (a .frame) (still _ refl refl); issued = a .issued; told = a .told })
+      (λ w. record { frame = a .frame; issued = a .issued; told = a .told })
 
   module _ (primary : (p : ℕ) → m .setup .primary ≡ some p → p < m .setup .links) (l : ℕ) (there : l < m .setup .links) where
     lays-subscribe : (t : ℕ) (j : Json) → Lays (subscribe m t l j)
     unfolding subscribe
-    lays-subscribe t j = record { frame = still _ refl refl; issued = each-of (λ (e : Json). update m t l (numberAsked m j e)) (λ e. there) (entriesOf "sS" j) }
+    lays-subscribe t j = record {
+      frame = still _ refl refl;
+      issued = each-of (λ (e : Json). update m t l (numberAsked m j e)) (λ e. there) (entriesOf "sS" j);
+      told = each-of (λ (e : Json). update m t l (numberAsked m j e)) (λ e. refl) (entriesOf "sS" j);
+    }
 
     lays-unsubscribe : (j : Json) → Lays (unsubscribe m l j)
     unfolding unsubscribe
@@ -196,7 +219,7 @@ module _ (m : Machine) (l : ℕ) (random bytes : Bytes) (room : ℕ) (j : Json) 
   lays-answers a e =
       picked (Lays Ends m) (answerCloses (lifeAt m l) (isType "MessageAck" j) (a .message)) _ _
       (λ f. lays-closes Ends m l [])
-      (λ f. record { frame = then (settle-frame a e) (still _ refl refl); issued = no-more })
+      (λ f. record { frame = then (settle-frame a e) (still _ refl refl); issued = no-more; told = no-more })
 
   lays-answered : Lays Ends m (answered l j m)
   unfolding answered

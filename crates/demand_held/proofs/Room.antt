@@ -13,13 +13,13 @@ use Rattle.basis.specs.Pick.{pick, both, bit}
 use Rattle.basis.specs.Lists.{count}
 use Rattle.basis.proofs.Cases.{picked, eq-or-ne}
 use Rattle.machine.specs.Words.{butFirst}
-use Rattle.machine.specs.State.{Issued, Held, heldAs, Pool}
+use Rattle.machine.specs.State.{Setup, Issued, Held, heldAs, Pool}
 use Rattle.machine.specs.Pool.{isFor, holds, isFull, fullest, lose, makeRoom, added}
 use Rattle.machine.specs.Run.{Among}
 use Rattle.demand_held.specs.Held.{IsHeld}
 use Rattle.demand_held.specs.Held.IsHeld.{held}
 use Rattle.demand_held.proofs.Lists.{bit-true, bit-false, Each, each-butFirst, count-last, count-butFirst, length-butFirst, count-left, count-other, length-changed}
-use Rattle.demand_held.proofs.Good.{Rising, Below, Good, fullest-holds}
+use Rattle.demand_held.proofs.Good.{Rising, Below, Fits, Good, fullest-holds}
 use Rattle.demand_held.proofs.Rising.{rising-butFirst, older, left-or-oldest}
 
 -- record n of link l, and all as old, are gone, and 16 of its link are held
@@ -35,6 +35,7 @@ pub record Room (i : Issued) (p q : Pool) : Type 0 where
   pub place : length (q .held) ≤ 127
   pub fewer : (f : Held → Bool) → count f (q .held) ≤ count f (p .held)
   pub links : Each (Below (length (p .lost))) (q .held)
+  pub every : (u : Setup) → Each (Fits u) (p .held) → Each (Fits u) (q .held)
   pub rising : Rising (p .next) 0 (q .held)
   pub spared : (r : Issued) (n : ℕ) → IsHeld r n (p .held) → IsHeld r n (q .held) ⊎ ((count (older (r .link) n) (q .held) ≡ 0) × (16 ≤ holds (added i q) (r .link)))
   pub sixteen : (l : ℕ) → 16 ≤ holds p l → 16 ≤ holds (added i q) l
@@ -52,6 +53,7 @@ module _ (i : Issued) (p : Pool) (g : Good p) where
         place = omega arith;
         fewer = λ f. omega arith;
         links = g .links;
+        every = λ u h. h;
         rising = g .rising;
         spared = λ r n h. inl h;
         sixteen = λ l h. omega (arith, holds-added i p l);
@@ -69,6 +71,7 @@ module _ (i : Issued) (p : Pool) (g : Good p) where
           place = omega (arith, g .all, length-butFirst (isFor k) (p .held) one);
           fewer = λ f. count-left (isFor k) f (p .held);
           links = each-butFirst (isFor k) (g .links);
+          every = λ u h. each-butFirst (isFor k) h;
           rising = rising-butFirst (isFor k) (g .rising);
           spared = spare;
           sixteen = λ l h. other l h (eq-or-ne k l);

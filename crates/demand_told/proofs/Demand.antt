@@ -13,21 +13,25 @@ use Rattle.basis.proofs.Cases.{picked}
 use Rattle.json_value.specs.Grammar.{Json}
 use Rattle.write_message.specs.Message.{Message}
 use Rattle.machine.specs.Words.{Bytes, maybe, firstOf}
-use Rattle.machine.specs.State.{Alarm, Machine, Act, Call, Outcome, Effect, lifeAt, valueAt, only}
+use Rattle.machine.specs.State.{Alarm, Start, Machine, Act, Call, Outcome, Effect, lifeAt, valueAt, only}
 use Rattle.machine.specs.State.Act.{connect, disconnect, packet, alarmInput, statusValue, aggregatedValue, tick, pump}
 use Rattle.machine.specs.State.Outcome.{refused, done}
 use Rattle.machine.specs.Json.{readPacket, stringOf}
-use Rattle.machine.specs.Life.{isUp, isDown, Due, due}
+use Rattle.machine.specs.Life.{isUp, isDown, isPrimary, Due, due}
 use Rattle.machine.specs.Answers.{isAnswer, isIgnored}
 use Rattle.machine.specs.Items.{happens, isNew, becomes, aggregates}
 use Rattle.machine.specs.Effects.{connects, closes, ticks, sends, dueMessage, ownIdentity, receives, effectOf}
 use Rattle.machine.specs.Step.{conditions, numberOf, outcome, after, step}
-use Rattle.machine.specs.Run.{Among}
+use Rattle.machine.specs.Run.{Past, Run, Among}
 use Rattle.machine.specs.Run.Among.{here, later}
 use Rattle.demand_held.proofs.Lists.{maybe-cases, clash}
+use Rattle.demand_held.proofs.Lists.{Each}
+use Rattle.demand_held.proofs.Good.{Fits}
+use Rattle.demand_held.proofs.Demand.{run-sound}
 use Rattle.demand_held.proofs.Steps.{laid, step-done, step-refused}
-use Rattle.demand_told.specs.Demand.{messagesOf, linkOf, isTold, isAnAnswer, OneAnswer, isPacketCall, Telling, Demand2}
+use Rattle.demand_told.specs.Demand.{messagesOf, linkOf, isTold, isAlarm, isAnAnswer, OneAnswer, isPacketCall, Telling, Demand2}
 use Rattle.demand_told.proofs.Written.{due-no-answer, due-up, once-received, quiet-received}
+use Rattle.demand_told.proofs.Primary.{is-number, due-primary, alarm-received}
 use Rattle.demand_told.proofs.Replies.{nobody, none-at, Replied, tells-received, replied-up}
 
 -- ---- the calls that write nothing
@@ -136,5 +140,35 @@ module _ (m : Machine) (c : Call) where
         unasked = λ e. by-number (λ (ms : List Message). count isAnAnswer ms ≡ 0) refl (λ n. unasked m (c .time) (c .act) e);
       }
 
+-- ---- an Alarm goes to the primary
+abbrev ToPrimary : Machine → ℕ → Message → Effect → Type 0
+ToPrimary m l w e = Among w (e .messages) → isAlarm w ≡ true → isPrimary m l ≡ true
+
+pumped-primary : (m : Machine) → Each (Fits (m .setup)) (m .pool .held) → (l t : ℕ) (id : Bytes) (d : Due) → due m l t ≡ some d → (w : Message) → ToPrimary m l w (sends l t id m d)
+unfolding sends
+pumped-primary m s l t id d e w here u = due-primary m s l t id d e u
+
+primary-of : (m : Machine) → Each (Fits (m .setup)) (m .pool .held) → (t : ℕ) (act : Act) (l : ℕ) → linkOf act ≡ some l → (w : Message) → ToPrimary m l w (effectOf m t act)
+unfolding effectOf connects closes
+primary-of m s t (connect k) l e w = λ a u. absurd (nobody a)
+primary-of m s t (disconnect k) l e w = λ a u. absurd (nobody a)
+primary-of m s t (packet k random bytes room) l e w =
+    let same : k ≡ l = cc in
+    rw (← same) (maybe-cases (ToPrimary m k w) (only m) _ (readPacket bytes) (λ n a u. absurd (nobody a)) (λ j r. alarm-received k t (ownIdentity random) m j w))
+primary-of m s t (alarmInput i active) l e w = λ a u. absurd (let z : _≡_ {A = ℕ} 0 1 = cc in omega arith)
+primary-of m s t (statusValue i v) l e w = λ a u. absurd (let z : _≡_ {A = ℕ} 0 1 = cc in omega arith)
+primary-of m s t (aggregatedValue v) l e w = λ a u. absurd (let z : _≡_ {A = ℕ} 0 1 = cc in omega arith)
+primary-of m s t tick l e w = λ a u. absurd (let z : _≡_ {A = ℕ} 0 1 = cc in omega arith)
+primary-of m s t (pump k random room) l e w =
+    let same : k ≡ l = cc in
+    rw (← same) (maybe-cases (ToPrimary m k w) (only m) _ (due m k t) (λ n a u. absurd (nobody a)) (λ d r. pumped-primary m s k t (ownIdentity random) d r w))
+
+primary-only : {s : Start} {h : List Past} {m : Machine} → Run s h m → (c : Call) (w : Message) → Among w (messagesOf (step m c .0)) → isAlarm w ≡ true
+    → (l : ℕ) → linkOf (c .act) ≡ some l → m .setup .primary ≡ some l
+primary-only {m = m} r c w a u l e =
+    is-number l (m .setup .primary)
+    (by-number m c (λ (ms : List Message). Among w ms → isPrimary m l ≡ true) (λ b. absurd (nobody b))
+    (λ n b. primary-of m (run-sound r .alarms) (c .time) (c .act) l e w b u) a)
+
 pub demand2 : Demand2
-demand2 = record { of-every-call = telling }
+demand2 = record { of-every-call = telling; primary-only = λ s h m r. primary-only r }

@@ -45,7 +45,7 @@ none-at (k ∷ ks) e here = first-no (k .applies) (k .gives) (firstOf ks) e .0
 none-at (x ∷ ks) e (later a) = none-at ks (first-no (x .applies) (x .gives) (firstOf ks) e .1) a
 
 -- ---- a packet has one type
-one-type : (a b : String) → sameBytes (text a) (text b) ≡ false → (j : Json) → isType a j ≡ true → isType b j ≡ false
+pub one-type : (a b : String) → sameBytes (text a) (text b) ≡ false → (j : Json) → isType a j ≡ true → isType b j ≡ false
 one-type a b other j e = go (stringAt "type" j) e
   where
     go : (o : Option Bytes) → maybe false (reads a) o ≡ true → maybe false (reads b) o ≡ false

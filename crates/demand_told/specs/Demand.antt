@@ -11,14 +11,14 @@ use Rattle.json_value.specs.Grammar.{Json}
 use Rattle.write_message.specs.Message.{Message}
 use Rattle.write_message.specs.Message.Message.{version, watchdog, ack, notAck, alarm, aggregated, statuses}
 use Rattle.machine.specs.Words.{Bytes}
-use Rattle.machine.specs.State.{Machine, Act, Call, Outcome, lifeAt}
+use Rattle.machine.specs.State.{Start, Machine, Act, Call, Outcome, lifeAt}
 use Rattle.machine.specs.State.Act.{connect, disconnect, packet, alarmInput, statusValue, aggregatedValue, tick, pump}
 use Rattle.machine.specs.State.Outcome.{refused, done}
 use Rattle.machine.specs.Json.{readPacket, stringOf}
 use Rattle.machine.specs.Life.{isUp}
 use Rattle.machine.specs.Answers.{isAnswer}
 use Rattle.machine.specs.Step.{step}
-use Rattle.machine.specs.Run.{Among}
+use Rattle.machine.specs.Run.{Past, Run, Among}
 
 abbrev pub messagesOf : Outcome → List Message
 messagesOf (refused n) = []
@@ -44,6 +44,15 @@ isTold (notAck id reason) = false
 isTold (alarm id component code state) = true
 isTold (aggregated id component t v) = true
 isTold (statuses kind id component t entries) = true
+
+abbrev pub isAlarm : Message → Bool
+isAlarm (version id site sxl) = false
+isAlarm (watchdog id t) = false
+isAlarm (ack id) = false
+isAlarm (notAck id reason) = false
+isAlarm (alarm id component code state) = true
+isAlarm (aggregated id component t v) = false
+isAlarm (statuses kind id component t entries) = false
 
 -- MessageAck, MessageNotAck
 abbrev pub isAnAnswer : Message → Bool
@@ -85,3 +94,6 @@ module _ (m : Machine) (c : Call) where
 
 pub record Demand2 : Type 0 where
   pub of-every-call : (m : Machine) (c : Call) → Telling m c
+  -- "a secondary supervisor gets no alarm"
+  pub primary-only : (s : Start) (h : List Past) (m : Machine) → Run s h m → (c : Call) (w : Message) → Among w (messagesOf (step m c .0)) → isAlarm w ≡ true
+      → (l : ℕ) → linkOf (c .act) ≡ some l → m .setup .primary ≡ some l
