@@ -1,0 +1,73 @@
+-- `store_whole::lists::put_places` meets its contract.
+-- Assumes nothing.
+use Prim.Native.Nat.{_≤_, _-_}
+use mathlib.Core.Path.{_≡_}
+use native.Mathlib.Omega.{arith}
+use borrow.Author.Needs.{needs}
+use lib.ListN.{length}
+use Rattle.pool.specs.Places.{noPlace}
+use Rattle.store_whole.specs.Filled.{withPlaces}
+use Rattle.store_site.specs.Layout.{placesIn}
+use Rattle.store_whole.proofs.FillLaws.{Upto, inside, upto-none, upto-next, upto-all}
+use Rattle.store_whole.proofs.ListLaws.{places-part, place-turns}
+use Rattle.store_whole.proofs.lists.put_places.Statement.{statement}
+use Rattle.store_whole.proofs.lists.put_places.Tie as tie
+
+abbrev Inv-loop : tie.InvT-loop
+Inv-loop w₀ places k₀ w k = (k ≤ 128) × ((length w ≡ 1173) × ((length w₀ ≡ 1173) × Upto placesIn withPlaces noPlace w₀ w places k))
+
+abbrev μ-loop : tie.MeasureT-loop
+μ-loop w₀ places k₀ w k = 128 - k
+
+loop-holds : tie.Need-loop-holds Inv-loop μ-loop
+loop-holds c = (omega arith, (search needs, (search needs, upto-none places-part noPlace (c .before .args .w .now) (c .before .args .t2))))
+
+mul-put-place : tie.Need-mul-put-place Inv-loop μ-loop
+mul-put-place c = omega arith
+
+array-copy-out-put-place : tie.Need-array-copy-out-put-place Inv-loop μ-loop
+array-copy-out-put-place c = omega arith
+
+put-place-requires : tie.Need-put-place-requires Inv-loop μ-loop
+put-place-requires c κs = search needs
+
+add-k : tie.Need-add-k Inv-loop μ-loop
+add-k c = omega arith
+
+loop-less : tie.Need-loop-less Inv-loop μ-loop
+loop-less c = omega arith
+
+loop-again : tie.Need-loop-again Inv-loop μ-loop
+loop-again c =
+    let l = c .before .before .before .before .before .before .loop in
+    let s = c .before .before .before .before .before .before .before .before in
+    let a = s .args in
+    let put = c .before .before .put-place in
+    let n : length (put .last .0) ≡ 1173 = search needs in
+    let m : length (a .t2) ≡ 128 = search (s, needs) in
+    (omega arith, (n, (l .inv .1 .1 .0, upto-next places-part noPlace (a .w .now) (l .w) (put .last .0) (a .t2) (l .k) (l .inv .1 .1 .1) (omega arith) m _ (inside (a .t2) (l .k) _ noPlace (omega arith)) (place-turns (l .w) (put .last .0) (l .k) _ (omega arith) (put .ensures)))))
+
+same-length : tie.Need-same-length Inv-loop μ-loop
+same-length c = search needs
+
+returns : tie.Need-returns Inv-loop μ-loop
+returns c =
+    let l = c .before .loop in
+    let s = c .before .before .before in
+    upto-all places-part noPlace (s .args .w .now) (l .w) (s .args .t2) (l .k) (omega arith) (search (s, needs)) (l .inv .1 .1 .1)
+
+pub put-places-spec : {M : Type 1} → statement M
+put-places-spec =
+    tie.close
+    (tie.spec
+    Inv-loop
+    μ-loop
+    loop-holds
+    mul-put-place
+    array-copy-out-put-place
+    put-place-requires
+    add-k
+    loop-less
+    loop-again
+    same-length
+    returns)

@@ -1,0 +1,30 @@
+-- `store_whole::numbers` meets its contract.
+-- Assumes nothing.
+use mathlib.Core.Path.{refl}
+use mathlib.Core.List.{[], _∷_}
+use lib.Dec.{lit≤}
+use Rattle.bits.proofs.Fields.{next-field}
+use borrow.Author.Needs.{needs}
+use Rattle.store_whole.proofs.numbers.Statement.{statement}
+use Rattle.store_whole.proofs.numbers.Tie as tie
+
+push-requires : tie.Need-push-requires
+push-requires c κs = search needs
+
+push-requires-2 : tie.Need-push-requires-2
+push-requires-2 c κs = search needs
+
+push-requires-3 : tie.Need-push-requires-3
+push-requires-3 c κs = search needs
+
+returns : tie.Need-returns
+returns c =
+    let p2 = c .before in
+    let p1 = p2 .before in
+    let g = p1 .before .args in
+    let e1 = next-field [] [] 32 (g .period) refl (lit≤ tt) refl (p1 .push .ensures) in
+    let e2 = next-field (32 ∷ []) (g .period ∷ []) 16 (g .links) refl (lit≤ tt) e1 (p2 .push2 .ensures) in
+    next-field (32 ∷ 16 ∷ []) (g .period ∷ g .links ∷ []) 16 (g .primary) refl (lit≤ tt) e2 (c .push3 .ensures)
+
+pub numbers-spec : {M : Type 1} → statement M
+numbers-spec = tie.close (tie.spec push-requires push-requires-2 push-requires-3 returns)
