@@ -184,6 +184,7 @@ def kill_later(process, supervisor, from_up, delay):
 def kills(room, count=20, seed=None):
     """Killed at random points: nothing stored as answered comes back, nothing stored as held is lost."""
     seed = time.time_ns() % 10**9 if seed is None else seed
+    print(f"rsmp-site: kills: seed {seed}", flush=True)
     source, supervisor = random.Random(seed), Numbering(SITE, SXL)
     book = Book(supervisor)
     process = started(room, [supervisor], "--state-interval", "0", "--quiet")
