@@ -130,9 +130,11 @@ class Book:
 
 
 class Numbering(Supervisor):
-    """Notes with each message the connection on which it came, and which of them it answered."""
+    """Notes with each message the connection on which it came and whether it is answered; updates are not where it withholds."""
+    withholds = False
 
     def take(self, said):
+        self.answers = not (self.withholds and said["type"] == "StatusUpdate")
         said["connection"], said["answered"] = len(self.connections), self.answers
         super().take(said)
 
@@ -141,7 +143,7 @@ def one_life(process, supervisor, book, source, at_once):
     """Orders and answers until the process is gone. So few are held that none is pushed out."""
     given = set()
     while True:
-        supervisor.answers = source.random() < 0.8
+        supervisor.withholds = source.random() < 0.2
         if int(process.order("counts").split()[3].rstrip(",")) > 40:
             time.sleep(0.02)
             continue
@@ -167,11 +169,22 @@ def one_life(process, supervisor, book, source, at_once):
             book.kept |= given
             for value in answered:
                 book.settled.setdefault(value, connection)
+            time.sleep(source.uniform(0, 0.3))  # so that some kills find nothing newer than the answers
+
+
+def kill_later(process, supervisor, from_up, delay):
+    """After so many seconds, counted from when its link is Up or from now."""
+    before, end = len(supervisor.connections), time.monotonic() + 10
+    while from_up and not (supervisor.up and len(supervisor.connections) > before) and time.monotonic() < end:
+        time.sleep(0.01)
+    time.sleep(delay)
+    process.process.send_signal(signal.SIGKILL)
 
 
 def kills(room, count=20, seed=None):
     """Killed at random points: nothing stored as answered comes back, nothing stored as held is lost."""
     seed = time.time_ns() % 10**9 if seed is None else seed
+    print(f"rsmp-site: kills: seed {seed}", flush=True)
     source, supervisor = random.Random(seed), Numbering(SITE, SXL)
     book = Book(supervisor)
     process = started(room, [supervisor], "--state-interval", "0", "--quiet")
@@ -181,7 +194,8 @@ def kills(room, count=20, seed=None):
     for turn in range(count):
         at_once = turn % 2 == 0
         process = started(room, [supervisor], "--state-interval", "0" if at_once else "0.4", "--quiet")
-        killer = threading.Timer(source.uniform(0.05, 1.6), process.process.send_signal, [signal.SIGKILL])
+        from_up = source.random() < 0.8
+        killer = threading.Thread(target=kill_later, args=[process, supervisor, from_up, source.uniform(0, 1)])
         killer.start()
         try:
             one_life(process, supervisor, book, source, at_once)
@@ -190,7 +204,7 @@ def kills(room, count=20, seed=None):
         killer.join()
         process.kill()
         book.judge()
-    supervisor.answers = True
+    supervisor.withholds = False
     process = started(room, [supervisor], "--quiet")
     wait(lambda: process.order("counts") == "link 0 holds 0, lost 0", f"seed {seed}: everything to be answered")
     hold(not book.missing(), f"seed {seed}: {len(book.missing())} of {len(book.kept)} values that were stored are lost: {sorted(book.missing())[:9]}")
