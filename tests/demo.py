@@ -1,9 +1,11 @@
 """`make run`: a barrier's site talks to two supervisors over TCP on this machine."""
 import re
+import subprocess
 import sys
 import tempfile
 import time
 
+import weeks
 from model import message
 from process import NORTH, SITE, SXL, Process, subscription
 from supervisors import Supervisor
@@ -78,6 +80,17 @@ def summary(process):
         say("  " + re.sub(r" 127\.0\.0\.1:\d+", "", line.strip()))
 
 
+def report(centre):
+    stream = b"".join(centre.connections)
+    told = subprocess.run([weeks.PROGRAM], input=stream, stdout=subprocess.PIPE, check=True).stdout.decode()
+    if told != weeks.report(stream):
+        sys.exit("the weekly report is another than the test's own:\n" + told)
+    say("The weekly report of what the centre got:")
+    for line in told.splitlines():
+        say("  " + "  ".join(line.split("\t")))
+    say()
+
+
 def main():
     centre, workshop = Supervisor(SITE, SXL), Supervisor(SITE, SXL, offer="3.1.5")
     with tempfile.TemporaryDirectory() as room:
@@ -88,6 +101,7 @@ def main():
         finally:
             process.process.kill()
         summary(process)
+    report(centre)
     say("Two of the messages that the centre got:")
     for said in (centre.messages[0], centre.of("StatusUpdate")[-1]):
         say("  " + message.text(said).decode()[:180])

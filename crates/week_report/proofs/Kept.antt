@@ -21,6 +21,7 @@ use Rattle.week_report.specs.Report.{linesOf, textOfTally, reportText}
 use Rattle.week_report.specs.Claims.{noteAll, Claims}
 use Rattle.week_report.proofs.Lines.{groupedFrom, lines-text}
 use Rattle.week_report.proofs.Groups.Most.{none}
+use Rattle.week_report.proofs.Room.{room}
 use Rattle.week_report.proofs.Ranks.{once, ranked}
 use Rattle.week_report.proofs.Steps.{Told, Next, next, told-limited, fits-not}
 
@@ -71,4 +72,4 @@ report : (es : List Entry) → length es < 2 ^ 64 → concat (reportPieces (note
 report es h = run es begun fits-begun (omega arith)
 
 pub kept : Claims
-kept = record { report = report; printed = λ es h w r. sent w r ∙ report es h; once = once; ranked = ranked }
+kept = record { report = report; printed = λ es h w r. sent w r ∙ report es h; room = room; once = once; ranked = ranked }

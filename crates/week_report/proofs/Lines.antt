@@ -28,7 +28,7 @@ use Rattle.week_report.specs.Report.{lineOf, linesOf}
 use Rattle.week_report.proofs.Integers.{lowered, difference-text}
 use Rattle.week_report.proofs.Folds.{least-of, most-of, sum-of, middle-of}
 
-concat-append : (bs cs : List (List ℕ)) → concat (bs ++ cs) ≡ concat bs ++ concat cs
+pub concat-append : (bs cs : List (List ℕ)) → concat (bs ++ cs) ≡ concat bs ++ concat cs
 concat-append [] cs = refl
 concat-append (b ∷ bs) cs = ap (λ (l : List ℕ). b ++ l) (concat-append bs cs) ∙ sym (append-assoc b (concat bs) (concat cs))
 

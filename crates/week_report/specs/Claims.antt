@@ -5,12 +5,13 @@ use mathlib.Core.Bool.{true}
 use mathlib.Core.Path.{_≡_}
 use mathlib.Core.List.{List, [], _∷_, map}
 use lib.IntN.{ℤ}
-use lib.ListN.{length, take}
+use lib.ListN.{length, getD, take}
 use Rattle.number.specs.Signed.{signedOf}
 use Rattle.output.specs.Put.{Wrote, concat}
 use Rattle.week_entry.specs.declared.Entry.{Entry}
 use Rattle.week_tally.specs.Tally.{Tally}
 use Rattle.week_tally.specs.Tally.Tally.{within}
+use Rattle.week_tally.specs.Words.{tallyOf}
 use Rattle.week_tally.specs.Noted.{noted}
 use Rattle.week_text.specs.Pieces.{reportPieces}
 use Rattle.week_report.specs.Figures.{hasRank, middle}
@@ -31,6 +32,8 @@ pub record Claims : Type 0 where
   -- so where it has room, the lent output begins with the report
   pub printed : (es : List Entry) → length es < 2 ^ 64 → {xs ys : List ℕ} {r : ℕ} → Wrote xs 0 (reportPieces (noteAll (within [] []) es)) ys r → r ≤ length ys
       → take r ys ≡ reportText es
+  -- 16,384 bytes are room enough, whatever the lent words hold
+  pub room : (ws : List ℕ) → length ws ≡ 5027 → ((i : ℕ) → getD ws i 0 < 2 ^ 64) → length (concat (reportPieces (tallyOf ws))) ≤ 16384
   -- among any values at most one number has a rank
   pub once : (rank : ℕ) (vs : List ℤ) (m k : ℤ) → hasRank rank vs m ≡ true → hasRank rank vs k ≡ true → m ≡ k
   -- and the middle has the rank (n + 1) / 2, the half dropped
