@@ -1,21 +1,17 @@
 -- Strings at a place, one turn of the loop over entries, and what the lookup makes of the first entry's place.
 -- Assumes nothing.
-use Prim.Native.Nat.{ℕ, suc, _+_, _-_, _<_, _≤_}
-use mathlib.Core.Path.{_≡_, subst, ap, _∙_}
+use Prim.Native.Nat.{ℕ, _+_, _<_, _≤_}
+use mathlib.Core.Path.{_≡_, ap, _∙_}
 use mathlib.Core.Bool.{true, false}
-use mathlib.Core.List.{List, [], _∷_}
-use lib.Dec.{eqb}
-use lib.ListN.{length, getD, drop, length-drop}
-use native.Mathlib.Omega.{arith}
+use mathlib.Core.List.{List, []}
+use lib.ListN.{length, getD, drop}
 use borrow.Author.Tests.{ne-eqb}
-use Rattle.basis.proofs.Cases.{picked}
-use Rattle.json_text.specs.Decoded.{Parsed, decoded, isText}
-use Rattle.json_text.specs.Decoded.Parsed.{ok, none}
+use Rattle.json_text.specs.Decoded.{decoded, isText}
 use Rattle.json_text.specs.declared.Read.{Read}
 use Rattle.json_text.specs.declared.Read.the-variants as Read
 use Rattle.json_text.specs.Ends.{Ends}
-use Rattle.json_text.specs.Ends.Ends.{ends, fails}
-use Rattle.json_value.specs.Reader.{skipWs, readStart}
+use Rattle.json_text.specs.Ends.Ends.{fails}
+use Rattle.json_value.specs.Reader.{readStart}
 use Rattle.json_value.specs.Answers.{Skipped}
 use Rattle.json_character.proofs.Lists.{next, past}
 use Rattle.json_text.proofs.Endings.{failed}

@@ -2,7 +2,7 @@
 -- Assumes nothing.
 use mathlib.Core.Path.{_≡_, refl, sym, ap, ap₂, _∙_}
 use mathlib.Core.List.{List, [], _∷_, _++_}
-use mathlib.Core.Logic.{_⊎_, ⊎-elim}
+use mathlib.Core.Logic.{⊎-elim}
 use Prim.Native.Nat.{ℕ, _+_, _-_, _≤_, _<_}
 use native.Mathlib.Nat.{add-assoc, add-zero}
 use native.Mathlib.Omega.{arith}
@@ -152,25 +152,6 @@ module _ {xs : List ℕ} {at : ℕ} {bs : List (List ℕ)} {ys : List ℕ} {r : 
 -- what a writer sends that starts at the output's start
 pub sent : {xs : List ℕ} {bs : List (List ℕ)} {ys : List ℕ} {r : ℕ} → Wrote xs 0 bs ys r → r ≤ length ys → take r ys ≡ concat bs
 sent w h = written w h
-
--- a writer of a piece or more answers at most the place behind the output's end, whatever its start
-pub most-some : {xs : List ℕ} {at : ℕ} {b : List ℕ} {bs : List (List ℕ)} {ys : List ℕ} {r : ℕ} → Wrote xs at (b ∷ bs) ys r → r ≤ length xs + 1
-most-some {xs} {at} {b} {bs} w = rw (end-is w) (⊎-elim
-    (λ (f : at + length b ≤ length xs). most-all xs at (b ∷ bs) (omega arith))
-    (λ (f : length xs < at + length b). rw (shut xs at b bs f) (omega arith))
-    (le-or-lt (at + length b) (length xs)))
-
--- and it answers that place where the pieces have no room
-pub full-some : {xs : List ℕ} {at : ℕ} {b : List ℕ} {bs : List (List ℕ)} {ys : List ℕ} {r : ℕ}
-    → Wrote xs at (b ∷ bs) ys r → length xs < at + length (concat (b ∷ bs)) → r ≡ length xs + 1
-full-some {ys = ys} {r = r} w h = ⊎-elim
-    (λ (l : r ≤ length ys). absurd (omega (arith, fitted w l)))
-    (λ (l : length ys < r). omega (arith, most-some w, same-length w))
-    (le-or-lt r (length ys))
-
--- pieces that all stand there are as good as one
-pub as-one : {xs : List ℕ} {at : ℕ} {bs : List (List ℕ)} {ys : List ℕ} {r : ℕ} → Wrote xs at bs ys r → r ≤ length ys → Wrote xs at (concat bs ∷ []) ys r
-as-one w h = let g = fitted w h in let e = fits w g in rw (e .0, e .1) (placed g)
 
 -- a writer that found no room, and all that would follow it: nothing follows
 pub stopped : {xs : List ℕ} {at : ℕ} {bs : List (List ℕ)} {ys : List ℕ} {r : ℕ} (cs : List (List ℕ))

@@ -26,17 +26,3 @@ pub fn put2(out: &mut [u8], at: usize, a: &[u8], b: &[u8]) -> usize
     let end = put_bytes(out, at, a);
     put_bytes(out, end, b)
 }
-
-pub fn put3(out: &mut [u8], at: usize, a: &[u8], b: &[u8], c: &[u8]) -> usize
-    ensures { λ r. ⌜ Wrote (now (out .entry)) at (now (a .entry) ∷ now (b .entry) ∷ now (c .entry) ∷ []) (now (out .exit)) r ⌝ }
-{
-    let end = put2(out, at, a, b);
-    put_bytes(out, end, c)
-}
-
-pub fn put5(out: &mut [u8], at: usize, a: &[u8], b: &[u8], c: &[u8], d: &[u8], e: &[u8]) -> usize
-    ensures { λ r. ⌜ Wrote (now (out .entry)) at (now (a .entry) ∷ now (b .entry) ∷ now (c .entry) ∷ now (d .entry) ∷ now (e .entry) ∷ []) (now (out .exit)) r ⌝ }
-{
-    let end = put3(out, at, a, b, c);
-    put2(out, end, d, e)
-}
