@@ -4,7 +4,6 @@ import json
 import pathlib
 import re
 import socket
-import time
 import uuid
 
 from model import message
