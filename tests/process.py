@@ -18,6 +18,8 @@ NORTH = BARRIER.components[1].decode()
 RELEASE = 1
 LOGGED = re.compile(r"\d{4}-\d\d-\d\d \d\d:\d\d:\d\d\.\d{3}Z (error  |warning|info   |message|debug  ) (site  |link \d)  ")
 
+NO_REPLY = re.compile(r"summary|  link |\(\d+ lines")
+
 
 class Failed(Exception):
     """A test does not hold."""
@@ -48,7 +50,7 @@ class Process:
     started = []
 
     def __init__(self, room, supervisors, *options, record=True, table=TABLE, **more):
-        self.record, self.lines = pathlib.Path(room) / "record.txt", []
+        self.record, self.lines, self.said = pathlib.Path(room) / "record.txt", [], []
         words = ["--table", table, "--reconnect", "0.2", "--reconnect-limit", "0.4"]
         words += [word for one in supervisors for word in ("--supervisor", getattr(one, "address", one))]
         words += ["--record", self.record] if record else []
@@ -62,25 +64,28 @@ class Process:
 
     def read(self):
         for line in self.process.stdout:
-            self.lines.append(line.rstrip("\n"))
+            line = line.rstrip("\n")
+            self.lines.append(line)
+            if not NO_REPLY.match(line) and not LOGGED.match(line):
+                self.said.append(line)
 
     def order(self, line):
         """Gives an order and gives its reply."""
-        before = len(self.replies())
+        before = len(self.said)
         try:
             self.process.stdin.write(line + "\n")
         except OSError:
             raise Dead
-        end = time.monotonic() + 10
-        while len(self.replies()) == before:
-            if self.process.poll() is not None and not self.reader.is_alive() and len(self.replies()) == before:
+        end = time.monotonic() + 20
+        while len(self.said) == before:
+            if self.process.poll() is not None and not self.reader.is_alive() and len(self.said) == before:
                 raise Dead
             hold(time.monotonic() < end, f"no reply to {line!r}")
             time.sleep(0.005)
-        return self.replies()[-1]
+        return self.said[-1]
 
     def replies(self):
-        return [line for line in list(self.lines) if not re.match(r"summary|  link |\(\d+ lines", line) and not LOGGED.match(line)]
+        return list(self.said)
 
     def quit(self):
         hold(self.order("quit") == "goodbye", "quit is not taken")

@@ -7,7 +7,7 @@ import subprocess
 import sys
 import time
 
-from process import LOGGED, NORTH, PROGRAM, RELEASE, SITE, SXL, TABLE, Control, Dead, Process, hold, subscription, wait
+from process import LOGGED, PROGRAM, RELEASE, SITE, SXL, TABLE, Control, Process, hold, subscription, wait
 from supervisors import FORM_FEED, Supervisor
 
 BUSY = "import time; end = time.monotonic() + 3\nwhile time.monotonic() < end: pass\nprint(time.process_time())"

@@ -4,7 +4,6 @@ import json
 import pathlib
 import re
 import socket
-import time
 import uuid
 
 from model import message
@@ -38,7 +37,6 @@ def conversation(room):
     deaf, garbled = Supervisor(SITE, SXL, answers=False), Supervisor(SITE, SXL)
     supervisors = [primary, secondary, deaf, garbled]
     process = Process(room, supervisors, "--period", "2")
-    began = time.monotonic()
     for one in (primary, secondary, garbled):
         one.wait_up()
     hold("link 0 Up, RSMP 3.2.0; link 1 Up, RSMP 3.1.5" in process.order("links"), "the links are not Up")
@@ -59,10 +57,7 @@ def conversation(room):
     flood(process, primary, secondary)
     garbled.send_raw(b"z" * 300000 + FORM_FEED)
 
-    deaf_connections = len(deaf.connections)
-    hold(deaf_connections >= 1, "the one that never answers is not connected")
-    deaf.wait(lambda: len(deaf.connections) > deaf_connections, "the one that never answers to be dropped and called again",
-              40 - (time.monotonic() - began) + 10)
+    deaf.wait(lambda: len(deaf.connections) >= 2, "the one that never answers to be dropped and called again", 60)
     hold(process.logged("no answer for 30 seconds") >= 1, "the log does not say why")
     for one in (primary, secondary, garbled):
         hold(one.stream is not None, "another link was disturbed")
