@@ -1,17 +1,16 @@
 -- The figures of raised values are those of the values.
 -- Assumes nothing.
 use mathlib.Core.Path.{_≡_, refl, sym, ap, _∙_}
-use mathlib.Core.Bool.{Bool, true, false, not}
+use mathlib.Core.Bool.{Bool, true, false}
 use mathlib.Core.Logic.{⊎-elim}
 use mathlib.Core.List.{List, [], _∷_, map}
 use Prim.Native.Nat.{ℕ, suc, _+_, _-_, _*_, _/_, _^_, _≤_, _<_}
 use native.Mathlib.Omega.{arith}
 use borrow.Author.Tests.{lt-ltb, le-ltb}
-use lib.Dec.{ltb, leb}
-use lib.IntN.{ℤ, pos, subℕ, _+ℤ_, +ℤ-idl, +ℤ-idr, +ℤ-assoc}
-use lib.Signed.{ltZ}
-use lib.ListN.{length, getD, length-map}
-use Rattle.basis.specs.Pick.{pick, both, bit}
+use lib.Dec.{ltb}
+use lib.IntN.{ℤ, subℕ, _+ℤ_, +ℤ-idl, +ℤ-idr, +ℤ-assoc}
+use lib.ListN.{length, length-map}
+use Rattle.basis.specs.Pick.{pick, bit}
 use Rattle.basis.specs.Lists.{count}
 use Rattle.basis.proofs.Cases.{lt-or-ge}
 use Rattle.week_count.specs.declared.Figures.{Figures}

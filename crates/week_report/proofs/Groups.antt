@@ -3,15 +3,13 @@
 use mathlib.Core.Path.{_≡_, refl, sym, ap, _∙_}
 use mathlib.Core.Bool.{Bool, true, false}
 use mathlib.Core.Logic.{⊎-elim}
-use mathlib.Core.List.{List, [], _∷_, _++_, append-assoc, append-nil, map}
-use Prim.Native.Nat.{ℕ, suc, _+_, _-_, _*_, _/_, _%_, _^_, _≤_, _<_}
-use native.Mathlib.Nat.{add-zero, mod-lt}
+use mathlib.Core.List.{List, [], _∷_, _++_, append-nil, map}
+use Prim.Native.Nat.{ℕ, suc, _+_, _-_, _/_, _%_, _^_, _≤_, _<_}
+use native.Mathlib.Nat.{add-zero}
 use native.Mathlib.Omega.{arith}
 use borrow.Author.Tests.{lt-ltb, le-ltb, eq-eqb, ne-eqb}
-use lib.Dec.{ltb, eqb}
 use lib.IntN.{ℤ}
 use lib.ListN.{length, getD, set}
-use Rattle.basis.specs.Pick.{pick}
 use Rattle.basis.proofs.Cases.{bool-cases, lt-or-ge}
 use Rattle.label.specs.Label.{textOf}
 use Rattle.week_entry.specs.declared.Entry.{Entry}
@@ -20,7 +18,7 @@ use Rattle.week_tally.specs.Tally.{Status as Kept}
 use Rattle.week_tally.specs.Words.{bumped}
 use Rattle.week_tally.specs.Noted.{isFor, placeFor, placeOf, newStatus as newKept, noStatus, oneNull, entered}
 use Rattle.week_tally.proofs.Places.{raised-small}
-use Rattle.week_report.specs.Tally.{Status, valueOf, withEntry, newStatus, add}
+use Rattle.week_report.specs.Tally.{Status, valueOf, withEntry, add}
 use Rattle.week_report.proofs.Integers.{lowered, lowered-raised}
 use Rattle.week_report.proofs.Lines.{plain, groupedFrom}
 

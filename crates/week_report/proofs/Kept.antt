@@ -3,11 +3,11 @@
 use mathlib.Core.Path.{_≡_, refl, sym, ap, _∙_}
 use mathlib.Core.Bool.{true, false}
 use mathlib.Core.List.{List, [], _∷_, _++_}
-use Prim.Native.Nat.{ℕ, suc, _+_, _-_, _^_, _≤_, _<_}
+use Prim.Native.Nat.{ℕ, _+_, _-_, _^_, _<_}
 use native.Mathlib.Omega.{arith}
-use lib.ListN.{length, take}
+use lib.ListN.{length}
 use Rattle.basis.proofs.Cases.{bool-cases}
-use Rattle.output.specs.Put.{Wrote, concat}
+use Rattle.output.specs.Put.{concat}
 use Rattle.output.proofs.Laws.{sent}
 use Rattle.week_entry.specs.declared.Entry.{Entry}
 use Rattle.week_count.specs.Values.{valuesOf}
@@ -15,7 +15,7 @@ use Rattle.week_tally.specs.Tally.{Status as Kept, Tally}
 use Rattle.week_tally.specs.Tally.Tally.{too-many, within}
 use Rattle.week_tally.specs.Noted.{noted, limited}
 use Rattle.week_text.specs.Line.{header, tooManyLine}
-use Rattle.week_text.specs.Pieces.{reportPieces, linesTo}
+use Rattle.week_text.specs.Pieces.{reportPieces}
 use Rattle.week_report.specs.Tally.{Status, add, tallyFrom, total, fits}
 use Rattle.week_report.specs.Report.{linesOf, textOfTally, reportText}
 use Rattle.week_report.specs.Claims.{noteAll, Claims}
@@ -23,7 +23,7 @@ use Rattle.week_report.proofs.Lines.{groupedFrom, lines-text}
 use Rattle.week_report.proofs.Groups.Most.{none}
 use Rattle.week_report.proofs.Room.{room}
 use Rattle.week_report.proofs.Ranks.{once, ranked}
-use Rattle.week_report.proofs.Steps.{Told, Next, next, told-limited, fits-not}
+use Rattle.week_report.proofs.Steps.{Told, next, told-limited, fits-not}
 
 fits-never : (es : List Entry) (ss : List Status) → fits ss ≡ false → fits (tallyFrom ss es) ≡ false
 unfolding tallyFrom

@@ -1,21 +1,19 @@
 -- The pieces of a status are its line, and those of all statuses their lines.
 -- Assumes nothing.
 use mathlib.Core.Path.{_≡_, refl, sym, ap, _∙_}
-use mathlib.Core.Bool.{Bool, true, false}
 use mathlib.Core.List.{List, [], _∷_, _++_, append-assoc, append-nil, map}
-use Prim.Native.Nat.{ℕ, suc, _+_, _*_, _/_, _%_, _^_, _≤_, _<_}
+use Prim.Native.Nat.{ℕ, suc, _+_, _*_, _/_, _^_, _<_}
 use native.Mathlib.Nat.{add-zero, zero-add}
 use native.Mathlib.Omega.{arith}
 use borrow.Author.Tests.{ne-eqb}
 use lib.IntN.{ℤ, subℕ}
 use lib.ListN.{length, getD, length-map}
-use Rattle.basis.specs.Pick.{pick}
 use Rattle.basis.proofs.Cases.{bool-cases}
 use Rattle.label.specs.Label.{textOf}
 use Rattle.number.specs.Decimal.{digits, decimalOf}
 use Rattle.output.specs.Put.{concat}
 use Rattle.week_count.specs.declared.Figures.{Figures}
-use Rattle.week_count.specs.Values.{isOf, valueIn, valuesOf}
+use Rattle.week_count.specs.Values.{isOf, valuesOf}
 use Rattle.week_count.specs.Figures.{figuresOf, noFigures}
 use Rattle.week_count.specs.Middle.{middleOf}
 use Rattle.week_count.proofs.Starts.{count-is}
@@ -23,7 +21,7 @@ use Rattle.week_tally.specs.Tally.{Status as Kept}
 use Rattle.week_tally.specs.Noted.{noStatus}
 use Rattle.week_text.specs.Pieces.{differencePieces, figurePieces, linePieces, linesTo}
 use Rattle.week_report.specs.Tally.{Status}
-use Rattle.week_report.specs.Figures.{smallest, largest, sum, middle}
+use Rattle.week_report.specs.Figures.{sum}
 use Rattle.week_report.specs.Report.{lineOf, linesOf}
 use Rattle.week_report.proofs.Integers.{lowered, difference-text}
 use Rattle.week_report.proofs.Folds.{least-of, most-of, sum-of, middle-of}

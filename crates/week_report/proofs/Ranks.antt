@@ -2,21 +2,19 @@
 -- Assumes nothing.
 use mathlib.Core.Path.{_≡_, refl, sym, ap, subst, _∙_}
 use mathlib.Core.Bool.{Bool, true, false, not}
-use mathlib.Core.Logic.{_⊎_, inl, inr, ⊎-elim}
+use mathlib.Core.Logic.{_⊎_, ⊎-elim}
 use mathlib.Core.List.{List, [], _∷_, map}
 use Prim.Native.Nat.{ℕ, zero, suc, _+_, _-_, _/_, _%_, _^_, _≤_, _<_}
 use native.Mathlib.Omega.{arith}
-use borrow.Author.Tests.{lt-ltb, le-ltb, le-leb, ltb-true, leb-true}
+use borrow.Author.Tests.{lt-ltb, le-ltb, ltb-true, leb-true}
 use lib.Dec.{ltb, leb}
 use lib.IntN.{ℤ, pos, negsuc}
 use lib.Signed.{ltZ}
 use lib.ListN.{length, length-map}
 use Rattle.basis.specs.Pick.{both, bit}
-use Rattle.basis.specs.Lists.{count}
-use Rattle.basis.proofs.Cases.{bool-cases, lt-or-ge, le-or-lt}
-use Rattle.number.specs.Signed.{signedOf}
+use Rattle.basis.proofs.Cases.{lt-or-ge, le-or-lt}
 use Rattle.week_count.specs.Values.{raised}
-use Rattle.week_count.specs.Middle.{Between, middleOf, hasRank as hasRankOf, below as belowOf}
+use Rattle.week_count.specs.Middle.{middleOf, hasRank as hasRankOf, below as belowOf}
 use Rattle.week_count.proofs.Ranks.{Ranked, middle-is, ranked-is}
 use Rattle.week_tally.proofs.Places.{raised-small}
 use Rattle.week_report.specs.Figures.{below, notAbove, hasRank, middle}

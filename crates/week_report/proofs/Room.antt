@@ -1,36 +1,32 @@
 -- How long a report can be.
 -- Assumes nothing.
-use mathlib.Core.Path.{_≡_, refl, sym, ap, _∙_}
+use mathlib.Core.Path.{_≡_, ap, _∙_}
 use mathlib.Core.Bool.{Bool, true, false}
 use mathlib.Core.Logic.{⊎-elim}
 use mathlib.Core.List.{List, [], _∷_, _++_, append-nil}
-use Prim.Native.Nat.{ℕ, zero, suc, _+_, _-_, _*_, _/_, _%_, _^_, _≤_, _<_, min}
+use Prim.Native.Nat.{ℕ, zero, suc, _+_, _-_, _*_, _/_, _^_, _≤_, _<_}
 use native.Mathlib.Omega.{arith}
-use borrow.Author.Tests.{le-leb, lt-leb, eq-eqb, ne-eqb, lt-ltb}
-use lib.Dec.{ltb, leb, eqb}
-use lib.ListN.{length, getD, take, drop, length-append, length-take, length-drop}
+use borrow.Author.Tests.{le-leb, lt-leb, eq-eqb, ne-eqb}
+use lib.Dec.{ltb}
+use lib.ListN.{length, getD, drop, length-append, length-take}
 use lib.Seq.{getD-take, getD-drop}
 use Rattle.basis.specs.Pick.{pick}
 use Rattle.basis.proofs.Cases.{bool-cases, lt-or-ge, eq-or-ne}
-use Rattle.bits.specs.Fields.{bytesOf}
-use Rattle.label.specs.declared.Label.{Label}
 use Rattle.label.specs.Label.{textOf}
 use Rattle.number.specs.Decimal.{digits}
 use Rattle.number.proofs.Digits.{digits-length}
 use Rattle.output.specs.Put.{concat}
-use Rattle.week_words.specs.Packed.{labelFrom, labelIn}
+use Rattle.week_words.specs.Packed.{labelFrom}
 use Rattle.week_count.specs.declared.Figures.{Figures}
 use Rattle.week_count.specs.Values.{isOf, valueIn, valuesOf}
 use Rattle.week_count.specs.Figures.{figuresOf, noFigures, withValue}
 use Rattle.week_count.specs.Middle.{middleOf, hasRank, firstSuch}
 use Rattle.week_count.proofs.Starts.{count-is, values-most}
-use Rattle.week_tally.specs.Tally.{Status, Tally}
-use Rattle.week_tally.specs.Tally.Tally.{too-many, within}
-use Rattle.week_tally.specs.Words.{statusOf, statusIn, rowIn, statusCount, valueCount, statusesIn, valuesIn, tallyOf}
+use Rattle.week_tally.specs.Tally.{Status}
+use Rattle.week_tally.specs.Words.{statusIn, rowIn, statusesIn, valuesIn, tallyOf}
 use Rattle.week_tally.specs.Noted.{noStatus}
 use Rattle.week_tally.proofs.Stores.{tally-of, tally-over, statuses-count, values-count, status-at}
-use Rattle.week_text.specs.Line.{header, tooManyLine}
-use Rattle.week_text.specs.Pieces.{tab, differencePieces, endPieces, restPieces, figurePieces, linePieces, linesTo, reportPieces}
+use Rattle.week_text.specs.Pieces.{differencePieces, endPieces, restPieces, figurePieces, linePieces, linesTo, reportPieces}
 use Rattle.week_report.proofs.Lines.{concat-append}
 
 abbrev long : List (List ℕ) → ℕ
@@ -97,16 +93,18 @@ figures-long f m a b c d e =
     ⊎-elim
     (λ (h : f .count ≡ 0). rw (eq-eqb (f .count) 0 h) (omega arith))
     (λ (h : f .count ≡ 0 → ⊥).
-      rw (ne-eqb (f .count) 0 h)
-      (omega (arith,
-        long-append (endPieces f) (restPieces f m),
-        long-append (differencePieces (f .least) (2 ^ 31)) (differencePieces (f .most) (2 ^ 31)),
-        long-append (differencePieces (f .sum) (f .count * 2 ^ 31) ++ differencePieces m (2 ^ 31)) ((10 ∷ []) ∷ []),
-        long-append (differencePieces (f .sum) (f .count * 2 ^ 31)) (differencePieces m (2 ^ 31)),
-        difference-long (f .least) (2 ^ 31) (omega arith) (omega arith),
-        difference-long (f .most) (2 ^ 31) (omega arith) (omega arith),
-        difference-long (f .sum) (f .count * 2 ^ 31) c (omega arith),
-        difference-long m (2 ^ 31) (omega arith) (omega arith))))
+    rw (ne-eqb (f .count) 0 h)
+    (omega (
+      arith,
+      long-append (endPieces f) (restPieces f m),
+      long-append (differencePieces (f .least) (2 ^ 31)) (differencePieces (f .most) (2 ^ 31)),
+      long-append (differencePieces (f .sum) (f .count * 2 ^ 31) ++ differencePieces m (2 ^ 31)) ((10 ∷ []) ∷ []),
+      long-append (differencePieces (f .sum) (f .count * 2 ^ 31)) (differencePieces m (2 ^ 31)),
+      difference-long (f .least) (2 ^ 31) (omega arith) (omega arith),
+      difference-long (f .most) (2 ^ 31) (omega arith) (omega arith),
+      difference-long (f .sum) (f .count * 2 ^ 31) c (omega arith),
+      difference-long m (2 ^ 31) (omega arith) (omega arith),
+    )))
     (eq-or-ne (f .count) 0)
 
 label-long : (a b c d n : ℕ) → length (textOf (labelFrom a b c d n)) ≤ 32
@@ -136,10 +134,12 @@ lines-long : (ss : List Status) (vs : List ℕ) (n : ℕ) → ((i : ℕ) → i <
 unfolding linesTo
 lines-long ss vs zero h l = omega arith
 lines-long ss vs (suc n) h l =
-    omega (arith,
+    omega (
+      arith,
       long-append (linesTo ss vs n) (linePieces (getD ss n noStatus) (valuesOf n vs)),
       lines-long ss vs n (λ i g. h i (omega arith)) l,
-      line-long (getD ss n noStatus) (valuesOf n vs) (h n (omega arith)) (small-values n vs) (omega (arith, values-most n vs)))
+      line-long (getD ss n noStatus) (valuesOf n vs) (h n (omega arith)) (small-values n vs) (omega (arith, values-most n vs)),
+    )
 
 module _ (ws : List ℕ) (e : length ws ≡ 5027) (w : (i : ℕ) → getD ws i 0 < 2 ^ 64) where
   status-short : (p : ℕ) → Short (statusIn ws p)
@@ -162,9 +162,11 @@ module _ (ws : List ℕ) (e : length ws ≡ 5027) (w : (i : ℕ) → getD ws i 0
       ⊎-elim
       (λ (h : 0 < getD ws 0 0). rw (tally-over ws h) (omega arith))
       (λ (h : getD ws 0 0 ≤ 0).
-        let z : getD ws 0 0 ≡ 0 = omega arith in
-        rw (tally-of ws z)
-        (omega (arith,
-          statuses-count ws,
-          lines-long (statusesIn ws) (valuesIn ws) (length (statusesIn ws)) kept-short (omega (arith, values-count ws e)))))
+      let z : getD ws 0 0 ≡ 0 = omega arith in
+      rw (tally-of ws z)
+      (omega (
+        arith,
+        statuses-count ws,
+        lines-long (statusesIn ws) (valuesIn ws) (length (statusesIn ws)) kept-short (omega (arith, values-count ws e)),
+      )))
       (lt-or-ge 0 (getD ws 0 0))

@@ -7,7 +7,7 @@ use mathlib.Core.List.{List, [], _∷_, _++_}
 use Prim.Native.Nat.{ℕ, suc, _+_, _-_, _^_, _≤_, _<_}
 use native.Mathlib.Nat.{zero-add}
 use native.Mathlib.Omega.{arith}
-use borrow.Author.Tests.{le-leb, lt-leb, leb-true, lt-ltb, le-ltb}
+use borrow.Author.Tests.{le-leb, lt-leb, lt-ltb, le-ltb}
 use lib.Dec.{leb}
 use lib.ListN.{length, length-append, length-set}
 use Rattle.basis.specs.Pick.{pick, both, bit}
@@ -15,14 +15,14 @@ use Rattle.basis.proofs.Cases.{bool-cases, lt-or-ge, le-or-lt}
 use Rattle.label.specs.Label.{textOf}
 use Rattle.week_entry.specs.declared.Entry.{Entry}
 use Rattle.week_count.specs.Values.{valuesOf, valueWord}
-use Rattle.week_tally.specs.Tally.{Status as Kept, Tally}
+use Rattle.week_tally.specs.Tally.{Status as Kept}
 use Rattle.week_tally.specs.Tally.Tally.{too-many, within}
 use Rattle.week_tally.specs.Words.{bumped}
 use Rattle.week_tally.specs.Noted.{placeFor, placeOf, newStatus as newKept, oneNull, entered, limited, marked, noted}
 use Rattle.week_tally.proofs.Limits.{place-most}
-use Rattle.week_report.specs.Tally.{Status, valueOf, isSame, withEntry, newStatus, add, total, fits}
+use Rattle.week_report.specs.Tally.{Status, valueOf, isSame, add, total, fits}
 use Rattle.week_report.proofs.Lines.{groupedFrom}
-use Rattle.week_report.proofs.Groups.{values-there, entered-hit, entered-miss, place-hit, place-miss, bumpedAt, bumped-is, bumped-first, bumped-hit, bumped-miss, grouped-value, grouped-null, is, Most}
+use Rattle.week_report.proofs.Groups.{values-there, entered-hit, entered-miss, bumpedAt, bumped-is, bumped-first, bumped-hit, bumped-miss, grouped-value, grouped-null, is, Most}
 use Rattle.week_report.proofs.Groups.Most.{none, more}
 
 pub grouped-length : (p : ℕ) (fs : List Kept) (vs : List ℕ) → length (groupedFrom p fs vs) ≡ length fs
