@@ -98,3 +98,16 @@ def script(program, stored_pairs, fresh, usage):
         return 0
     print(usage)
     return 2
+
+
+def stored_or_fresh(stored, fresh, usage):
+    """The command line of a script that runs a program by itself: --stored, --fresh [SEED]."""
+    words = sys.argv[1:]
+    if words == ["--stored"]:
+        stored()
+    elif words[:1] == ["--fresh"]:
+        fresh(int(words[1]) if len(words) > 1 else time.time_ns() % 10**9)
+    else:
+        print(usage)
+        return 2
+    return 0

@@ -7,12 +7,11 @@ import collections
 import random
 import subprocess
 import sys
-import time
 import xml.etree.ElementTree as xml
 
 import lives
 import replays
-from cases import ROOT
+from cases import ROOT, stored_or_fresh
 from model import link as links_
 from model import pool, site
 
@@ -114,16 +113,5 @@ def fresh(seed):
     print(f"picture: {drawn} random scripts with {total} acts on records drawn, with the model's numbers")
 
 
-def main(words):
-    if words == ["--stored"]:
-        stored()
-    elif words[:1] == ["--fresh"]:
-        fresh(int(words[1]) if len(words) > 1 else time.time_ns() % 10**9)
-    else:
-        print(__doc__)
-        return 2
-    return 0
-
-
 if __name__ == "__main__":
-    sys.exit(main(sys.argv[1:]))
+    sys.exit(stored_or_fresh(stored, fresh, __doc__))

@@ -9,9 +9,8 @@ import shlex
 import subprocess
 import sys
 import tempfile
-import time
 
-from cases import ROOT
+from cases import ROOT, stored_or_fresh
 from lives import some_table
 from model import table
 from tables import with_bit, with_byte
@@ -210,16 +209,5 @@ def fresh(seed):
     print(f"rsmp-table: {len(made)} tables as text and bits, {len(damaged)} damaged ones, {len(accepted)} of them still good, agree")
 
 
-def main(words):
-    if words == ["--stored"]:
-        stored()
-    elif words[:1] == ["--fresh"]:
-        fresh(int(words[1]) if len(words) > 1 else time.time_ns() % 10**9)
-    else:
-        print(__doc__)
-        return 2
-    return 0
-
-
 if __name__ == "__main__":
-    sys.exit(main(sys.argv[1:]))
+    sys.exit(stored_or_fresh(stored, fresh, __doc__))
