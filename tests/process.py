@@ -131,14 +131,25 @@ class Process:
         return (int(fields[11]) + int(fields[12])) / os.sysconf("SC_CLK_TCK")
 
 
+def connected(path):
+    """A connection to a Unix socket, or None while it is not there or, just made, not listened on."""
+    made = socket.socket(socket.AF_UNIX)
+    made.settimeout(10)
+    try:
+        made.connect(str(path))
+        return made
+    except (FileNotFoundError, ConnectionRefusedError):
+        made.close()
+        return None
+
+
 class Control:
     """A connection to the control socket."""
 
     def __init__(self, path):
-        wait(pathlib.Path(path).exists, "the control socket")
-        self.socket = socket.socket(socket.AF_UNIX)
-        self.socket.settimeout(10)
-        self.socket.connect(str(path))
+        tries = []
+        wait(lambda: tries.append(connected(path)) or tries[-1], "the control socket")
+        self.socket = tries[-1]
         self.stream = self.socket.makefile("rw", errors="replace")
 
     def order(self, line):
