@@ -47,7 +47,3 @@ held {i} {a} {e} {ys} s w =
       within = subst (λ (n : Name). n .length ≤ length (n .bytes)) (sym p) (omega (arith, length-append (nameOf i) (zeros (longest - length (nameOf i)))));
       lent = ap (λ (n : Name). take (n .length) (n .bytes)) p ∙ take-append-seam (nameOf i) (zeros (longest - length (nameOf i)));
     }
-
--- what is lent of a name from its first byte on
-pub lent-whole : {i : ℕ} {r : Name} → Held i r → take (r .length - 0) (r .bytes) ≡ nameOf i
-lent-whole {i} {r} h = ap (λ (n : ℕ). take n (r .bytes)) (sub-zero (r .length)) ∙ h .lent

@@ -27,7 +27,17 @@ pub struct Name {
     pub bytes: [u8; LONGEST],
 }
 
-// Name i by value. Only here are the bytes of all names: each function that holds them has a copy.
+// Writes name i.
+pub fn put(out: &mut [u8], at: usize, i: usize) -> usize
+    ensures { λ r. ⌜ Wrote (now (out .entry)) at (nameOf i ∷ []) (now (out .exit)) r ⌝ }
+{
+    let s = table::span_of(i);
+    let start = s.start;
+    let end = s.end;
+    output::put_bytes(out, at, &table::TABLE[start..end])
+}
+
+// Name i by value.
 pub fn named(i: usize) -> Name
     ensures { λ r. ⌜ Held i r ⌝ }
 {
@@ -42,24 +52,14 @@ pub fn named(i: usize) -> Name
     }
 }
 
-// Writes name i.
-pub fn put(out: &mut [u8], at: usize, i: usize) -> usize
-    ensures { λ r. ⌜ Wrote (now (out .entry)) at (nameOf i ∷ []) (now (out .exit)) r ⌝ }
-{
-    let name = named(i);
-    let n = name.length;
-    let bytes = name.bytes;
-    output::put_bytes(out, at, &bytes[0..n])
-}
-
 // Whether s is name i.
 pub fn is_name(s: &[u8], i: usize) -> bool
     ensures { λ r. ⌜ r ≡ sameBytes (now (s .entry)) (nameOf i) ⌝ }
 {
-    let name = named(i);
-    let n = name.length;
-    let bytes = name.bytes;
-    check::same(s, &bytes[0..n])
+    let t = table::span_of(i);
+    let start = t.start;
+    let end = t.end;
+    check::same(s, &table::TABLE[start..end])
 }
 
 // The first of the names from first to before end that s is.

@@ -1,4 +1,3 @@
-use Rattle.names.proofs.ByValue.{lent-whole}
 use Rattle.basis.proofs.Same.{same-is}
 use borrow.Author.Needs.{needs}
 use Rattle.names.proofs.is_name.Statement.{statement}
@@ -6,10 +5,10 @@ use Rattle.names.proofs.is_name.Tie as tie
 use Rattle.names.proofs.is_name.Reads as reads
 use Rattle.names.proofs.is_name.Lts as lts
 use Rattle.check.proofs.same.Reads as same-reads
-use Rattle.names.proofs.named.Reads as named-reads
+use Rattle.names.proofs.table.span_of.Reads as span-of-reads
 
-named-requires : tie.Need-named-requires
-named-requires c κs = search needs
+span-of-requires : tie.Need-span-of-requires
+span-of-requires c κs = search needs
 
 sub-same : tie.Need-sub-same
 sub-same c = search needs
@@ -25,11 +24,11 @@ same-requires c κs = search needs
 
 returns : tie.Need-returns
 returns c =
-    let name = c .before .before .before .before .named in
+    let p = c .before .before .before .span-of .ensures .named in
     let e = c .same .ensures in
-    rw (← (lent-whole (name .ensures))) (same-is _ _ (c .same .result) (e .0) (e .1))
+    rw (← p) (same-is _ _ (c .same .result) (e .0) (e .1))
 
 pub is-name-spec : {M : Type 1} → statement M
 is-name-spec =
     tie.close
-    (tie.spec named-requires sub-same part-same-start part-same-end same-requires returns)
+    (tie.spec span-of-requires sub-same part-same-start part-same-end same-requires returns)

@@ -1,14 +1,13 @@
-use Rattle.names.proofs.ByValue.{lent-whole}
 use borrow.Author.Needs.{needs}
 use Rattle.names.proofs.put.Statement.{statement}
 use Rattle.names.proofs.put.Tie as tie
 use Rattle.names.proofs.put.Reads as reads
 use Rattle.names.proofs.put.Lts as lts
-use Rattle.names.proofs.named.Reads as named-reads
+use Rattle.names.proofs.table.span_of.Reads as span-of-reads
 use Rattle.output.proofs.put_bytes.Reads as put-bytes-reads
 
-named-requires : tie.Need-named-requires
-named-requires c κs = search needs
+span-of-requires : tie.Need-span-of-requires
+span-of-requires c κs = search needs
 
 sub-put-bytes : tie.Need-sub-put-bytes
 sub-put-bytes c = search needs
@@ -26,15 +25,13 @@ same-length : tie.Need-same-length
 same-length c = search needs
 
 returns : tie.Need-returns
-returns c =
-    let name = c .before .before .before .before .before .before .before .named in
-    rw (← (lent-whole (name .ensures))) (c .before .before .put-bytes .ensures)
+returns c = rw (← (c .before .before .before .before .before .before .span-of .ensures .named)) (c .before .before .put-bytes .ensures)
 
 pub put-spec : {M : Type 1} → statement M
 put-spec =
     tie.close
     (tie.spec
-    named-requires
+    span-of-requires
     sub-put-bytes
     part-put-bytes-start
     part-put-bytes-end
