@@ -109,6 +109,10 @@ TIME = re.compile(r"(\d{4})-(\d\d)-(\d\d)T(\d\d):(\d\d):(\d\d)\.(\d{3})Z", re.A)
 EPOCH = datetime.datetime(1970, 1, 1)
 
 
+def lastTime():
+    return (datetime.datetime.max - EPOCH) // datetime.timedelta(milliseconds=1)
+
+
 def readTime(characters):
     found = TIME.fullmatch("".join(map(chr, characters)))
     try:
@@ -180,16 +184,7 @@ def isPacket(packet):
     return meaningOf(packet) is not None
 
 
-# The table's rows, a message's entries, a record's bytes; the names as crates/names has them.
-
-REASONS = ("Missing element", "Bad value", "Unexpected", "Not ready", "RSMP version", "Site id", "SXL version", "Unknown component",
-           "Unknown alarm", "Unknown status", "Busy")
-TYPES = 14
-
-
-def names():
-    return ((),) * TYPES + tuple(map(text, REASONS))
-
+# The table's rows, a message's entries, a record's bytes.
 
 def noRow():
     return dict(component=0, priority=0, category=0, code=(), name=())

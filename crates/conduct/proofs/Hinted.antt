@@ -6,6 +6,7 @@ use mathlib.Core.Bool.{Bool, true, false}
 use mathlib.Core.List.{List, []}
 use lib.Dec.{eqb}
 use Rattle.basis.specs.Pick.{pick, both}
+use Rattle.basis.proofs.Both.{untrue}
 use Rattle.answer.specs.declared.Report.{Report}
 use Rattle.answer.specs.Given.{Hint, hintIn}
 use Rattle.answer.specs.Given.Hint.{none, clock}
@@ -62,7 +63,6 @@ use Rattle.calls.proofs.Kept.{kept as calls}
 use Rattle.conduct.specs.History.{DoneWith}
 use Rattle.conduct.specs.Hints.{timeFrom, hintIf, hintBy}
 use Rattle.conduct.proofs.Given.{Given, given-stays}
-use Rattle.conduct.proofs.Links.{no}
 use Rattle.conduct.proofs.Closed.{isGood}
 
 module _ (s : Site) (l time : ℕ) (id : Identity) (received : List ℕ) where
@@ -120,7 +120,7 @@ module _ (s : Site) (l time : ℕ) (id : Identity) (received : List ℕ) where
   from-role Secondary t = refl
 
   not-good : (q : Role) (v w : Verdict) (t : ℕ) → both (isGood v) (isGood w) ≡ false → none ≡ timeFrom q v w t
-  not-good Primary Good Good t e = no (sym e)
+  not-good Primary Good Good t e = untrue (sym e)
   not-good Primary Good Missing t e = refl
   not-good Primary Good Bad t e = refl
   not-good Primary Missing w t e = refl

@@ -8,6 +8,7 @@ use lib.ListN.{length}
 use borrow.Author.Tests.{le-ltb}
 use Rattle.basis.specs.Pick.{pick, both}
 use Rattle.answer.specs.Given.Hint.{none}
+use Rattle.answer.specs.Times.{lastTime}
 use Rattle.identity.specs.declared.Identity.{Identity}
 use Rattle.identity.specs.Version.{identityOf}
 use Rattle.awaited.specs.declared.Awaited.{Awaited}
@@ -100,7 +101,7 @@ module _ (t : Site) (l time : ℕ) (id : Identity) (p : List ℕ) where
 -- ---- none is refused
 module _
     (s t : Site) (l u : ℕ) (time : ℕ) (random : Identity) (p out : List ℕ)
-    (enough : 4096 ≤ length out) (short : length p ≤ 4096) (before : u ≤ time) (years : time ≤ 253402300799999)
+    (enough : 4096 ≤ length out) (short : length p ≤ 4096) (before : u ≤ time) (years : time ≤ lastTime)
   where
     abbrev comes : Taken
     comes = packetTaken t l time (identityOf random) p

@@ -5,14 +5,12 @@ use Prim.Native.String.{String}
 use mathlib.Core.Bool.{Bool, true, false, not}
 use mathlib.Core.List.{List, [], _∷_, map}
 use mathlib.Core.Option.{Option, some, none}
-use Rattle.basis.specs.Lists.{sameBytes}
 use Rattle.basis.specs.Text.{text}
-use Rattle.names.specs.Names.{names}
 use Rattle.identity.specs.Version.{version4Of}
 use Rattle.json_value.specs.Grammar.{Json}
 use Rattle.write_message.specs.Message.{Message}
 use Rattle.write_message.specs.Message.Message.{version, watchdog, ack, notAck}
-use Rattle.machine.specs.Words.{Bytes, if_then_else_, _and_, maybe, orElse, keep, placeOf, upTo}
+use Rattle.machine.specs.Words.{Bytes, if_then_else_, _and_, maybe, orElse, keep, upTo}
 use Rattle.machine.specs.State.{
   Sent,
   Awaited,
@@ -146,9 +144,9 @@ answered l j m =
     maybe (only m) (answers l (stringOf "oMId" j) (isType "MessageAck" j) m) (awaitedBy (lifeAt m l) (stringOf "oMId" j))
 
 -- ---- packet: any other, "If the call is done, any other packet except an answer gets one answer."
--- "An answer's oMId repeats the received mId unchanged." A reason is written by its text; a Message has its place among the names
+-- "An answer's oMId repeats the received mId unchanged."
 abbrev pub refusal : Json → String → Message
-refusal j reason = notAck (stringOf "mId" j) (orElse 0 (placeOf (sameBytes (text reason)) names))
+refusal j reason = notAck (stringOf "mId" j) (text reason)
 
 -- "A failure of these three sends MessageNotAck and closes the link."
 unfoldable pub refuses : ℕ → Json → Machine → String → Effect
