@@ -105,7 +105,7 @@ def version4Of(random):
     return tuple(uuid.UUID(bytes=bytes(random), version=4).bytes)
 
 
-TIME = re.compile(r"(\d{4})-(\d\d)-(\d\d)T(\d\d):(\d\d):(\d\d)\.(\d{3})Z", re.A)
+TIME = re.compile(r"(\d{4})-(\d\d)-(\d\d)T(\d\d):(\d\d):(\d\d)(?:\.(\d{1,6}))?Z", re.A)
 EPOCH = datetime.datetime(1970, 1, 1)
 
 
@@ -121,7 +121,8 @@ def readTime(characters):
         at = None
     if at is None or at < EPOCH:
         return ("No",)
-    return "Is", (at - EPOCH) // datetime.timedelta(seconds=1) * 1000 + int(found[7])
+    decimals = found[7] or ""
+    return "Is", (at - EPOCH) // datetime.timedelta(seconds=1) * 1000 + int((decimals + "000")[:3]), len(decimals)
 
 
 # Packets.

@@ -12,8 +12,8 @@ use Rattle.basis.proofs.Cases.{picked}
 use Rattle.basis.specs.Lists.{sameBytes}
 use Rattle.basis.proofs.Same.{same-true, same-self}
 use Rattle.basis.proofs.Both.{not-both, both-true, both-of}
-use Rattle.calendar.specs.declared.Time.{Time}
-use Rattle.calendar.specs.declared.Time.the-variants.{Is, No}
+use Rattle.calendar.specs.declared.Second.{Second}
+use Rattle.calendar.specs.declared.Second.the-variants.{Is, No}
 use Rattle.calendar.specs.Read.{Answers, checked}
 
 pub no-is : {X : Type 0} (n : ℕ) → No ≡ Is n → X
@@ -51,13 +51,3 @@ module _ (textOf : ℕ → List ℕ) (last : ℕ) (s : List ℕ) where
         let k : s ≡ textOf guess = e ∙ ap textOf (sym g) in
         let l : guess ≤ last = omega arith in
         not-both (both-of (le-leb guess last l) (subst (λ (x : List ℕ). sameBytes s x ≡ true) k (same-self s))) f))
-
--- where a number is said by its text, a text has one answer only
-pub one-answer : (textOf : ℕ → List ℕ) (last : ℕ) (said : List ℕ → ℕ) → ((n : ℕ) → n ≤ last → said (textOf n) ≡ n) → (s : List ℕ) (a b : Time) → Answers textOf last s a → Answers textOf last s b → a ≡ b
-one-answer textOf last said f s (Is m) (Is n) p q =
-    let x = p .accepted m refl in
-    let y = q .accepted n refl in
-    ap Is (sym (f m (x .0)) ∙ ap said (sym (x .1) ∙ y .1) ∙ f n (y .0))
-one-answer textOf last said f s (Is m) No p q = let x = p .accepted m refl in absurd (q .refused refl m (x .0) (x .1))
-one-answer textOf last said f s No (Is n) p q = let y = q .accepted n refl in absurd (p .refused refl n (y .0) (y .1))
-one-answer textOf last said f s No No p q = refl

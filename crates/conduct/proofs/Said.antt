@@ -146,7 +146,7 @@ module _ (s : Site) (l time : ℕ) (id : Identity) (received : List ℕ) where
       (replyTo s (s .table) (roleOf s l) time (id .bytes) p kind)
   unfolding alarmTaken foundTaken aggregatedTaken statusTaken subscribingTaken
   kind-says p Version e = by-verdict (versionAt p .verdict) _ _ [] (judged-says (fullOf (linkAt s l)) (judge (own s) (versionAt p .offer)))
-  kind-says p Watchdog e = by-verdict (watchdogAt p .verdict) (beat s l received (watchdogAt p .time)) _ [] refl
+  kind-says p Watchdog e = by-verdict (watchdogAt p .verdict) (beat s l received (watchdogAt p)) _ [] refl
   kind-says p Alarm e =
       by-verdict (alarmAt p .verdict) _ _ _ (ordered-says (alarmAt p .order) (alarmSought (s .table) (alarmAt p .component) (alarmAt p .code)))
   kind-says p AggregatedStatusRequest e =

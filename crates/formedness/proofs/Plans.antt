@@ -182,7 +182,7 @@ module _ (s : Site) (l : ℕ) (received : List ℕ) (r : Received received) wher
   version-sends f = by-verdict (f .verdict) (versionJudged s l received (judge (own s) (f .offer))) (λ e. judged-sends (judge (own s) (f .offer)))
 
   watchdog-sends : (f : GotTime) → Sends (watchdogTaken s l received f)
-  watchdog-sends f = by-verdict (f .verdict) (beat s l received (f .time)) (λ e. an-ack received r)
+  watchdog-sends f = by-verdict (f .verdict) (beat s l received f) (λ e. an-ack received r)
 
   module _ (subscribing : Bool) (time : ℕ) (f : StatusFields) where
     change-sends : (c : ℕ) → Sends (judged subscribing s l time received f c)

@@ -36,6 +36,7 @@ use Rattle.machine.specs.Example.{
   theirId,
   asks,
   orders,
+  beats,
   greeting,
   quiet,
   says,
@@ -78,6 +79,10 @@ pub record Conversation : Type 0 where
       ∷ done (ack theirId ∷ []) [] (some noon)
       ∷ []
   pub comes-up : leaves (started 2) greeting ≡ up
+  -- request 05: "The clock hint is given only where three or more stood; with fewer the watchdog is acknowledged and no hint given." Of six
+  -- the last three are dropped
+  pub decimals-told : outcomes up (atNoon (beats "2009-10-01T11:59:31Z") ∷ atNoon (beats "2009-10-01T11:59:31.57Z") ∷ atNoon (beats "2009-10-01T11:59:31.571999Z") ∷ [])
+      ≡ says (ack theirId ∷ []) ∷ says (ack theirId ∷ []) ∷ done (ack theirId ∷ []) [] (some noon) ∷ []
   -- an alarm becomes active: the first pass sends the AggregatedStatus, then the alarm with its record; either answer settles it
   pub alarm-told : outcomes up (atNoon (alarmInput 0 true) ∷ pumped 3 ∷ pumped 4 ∷ atNoon (gets "MessageAck\",\"oMId\":\"04040404-0404-4404-8404-040404040404\"}") ∷ pumped 5 ∷ [])
       ≡ quiet ∷ says (aggregated (own 3) (text "C0") noon 0 ∷ []) ∷ says (alarmNow 4 0 noon false true false ∷ []) ∷ quiet ∷ refused 7 ∷ []

@@ -29,7 +29,7 @@ use Rattle.machine.specs.State.{
 }
 use Rattle.machine.specs.State.Sent.{ourVersion, ourWatchdog, noRecord, theRecord}
 use Rattle.machine.specs.State.Act.{connect, disconnect, packet, alarmInput, statusValue, aggregatedValue, tick, pump}
-use Rattle.machine.specs.Json.{readPacket, stringOf, isType, timeIn}
+use Rattle.machine.specs.Json.{readPacket, stringOf, isType, hintIn}
 use Rattle.machine.specs.Life.{
   isBeating,
   isPrimary,
@@ -158,12 +158,12 @@ agreed chosen k = lifeOf (k .connected) (nowTaken (k .versions)) (k .watchdogs) 
 abbrev pub versionAccepted : ℕ → Json → Machine → Effect
 versionAccepted l j m = only (withLife l (agreed (orElse [] (common j)) (lifeAt m l)) m)
 
--- "Only the primary's watchdog time is a clock hint."
+-- "Only the primary's watchdog time is a clock hint." Request 05: "with fewer [decimals] the watchdog is acknowledged and no hint given."
 abbrev pub watchdogTaken : ℕ → Json → Machine → Effect
 watchdogTaken l j m =
     effect (withLife l (withWatchdogs (nowTaken (lifeAt m l .watchdogs)) (lifeAt m l)) m)
     [] [] []
-    (if isPrimary m l then timeIn (stringOf "wTs" j) else none)
+    (if isPrimary m l then hintIn (stringOf "wTs" j) else none)
 
 abbrev pub alarmOrdered : ℕ → Json → Machine → ℕ → Effect
 alarmOrdered t j m i = happens m i (ordered t j (alarmAt m i))

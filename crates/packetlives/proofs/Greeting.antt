@@ -24,6 +24,7 @@ use Rattle.write_message.specs.Message.{Message}
 use Rattle.write_message.specs.Message.Message.{ack}
 use Rattle.read_versions.specs.declared.Judged.{Judged}
 use Rattle.read_versions.specs.declared.Judged.the-variants.{Chosen, RsmpVersion, SiteId, SxlVersion}
+use Rattle.read_head.specs.declared.GotTime.{GotTime}
 use Rattle.read_head.specs.declared.Verdict.{Verdict}
 use Rattle.read_head.specs.declared.Verdict.the-variants.{Good, Missing, Bad}
 use Rattle.site.specs.declared.Site.{Site}
@@ -85,9 +86,9 @@ module _ (s : Site) (l : ℕ) (id : Identity) (received : List ℕ) where
   judged SiteId = closes siteId
   judged SxlVersion = closes sxlVersion
 
-  pub beaten : (t : ℕ) → Answering s l id received (beat s l received t) (WatchdogTaken ∷ [])
+  pub beaten : (f : GotTime) → Answering s l id received (beat s l received f) (WatchdogTaken ∷ [])
   unfolding does
-  beaten t = one-act WatchdogTaken (hintFrom (roleOf s l) t) refl
+  beaten f = one-act WatchdogTaken (hintFrom (roleOf s l) f) refl
 
   pub judged-alone : (j : Judged) → versionJudged s l received j .replies ≡ false
   judged-alone (Chosen v) = refl

@@ -34,6 +34,7 @@ use Rattle.link.specs.declared.Due.{Due}
 use Rattle.link.specs.declared.Due.the-variants.{Nothing as NothingDue, Version as VersionDue, Watchdog as WatchdogDue, Aggregated as AggregatedDue, Alarm as AlarmDue, Entry as EntryDue}
 use Rattle.link.specs.Steps.{closesOf, answeredOf, fullOf}
 use Rattle.write_message.specs.Message.{Message}
+use Rattle.read_head.specs.declared.GotTime.{GotTime}
 use Rattle.read_head.specs.declared.Verdict.{Verdict}
 use Rattle.read_head.specs.declared.Verdict.the-variants.{Good, Missing, Bad}
 use Rattle.read_head.specs.declared.GotLabel.{GotLabel}
@@ -175,8 +176,8 @@ module _ (s : Site) (received : List ℕ) where
   version-judged l SiteId = closes l _
   version-judged l SxlVersion = closes l _
 
-  beats : (l t : ℕ) → Touches s (beat s l received t .plan) []
-  beats l t = record { quiet = tt; pool = refl; next = refl; owned = tt; links = refl; primary = refl }
+  beats : (l : ℕ) (f : GotTime) → Touches s (beat s l received f .plan) []
+  beats l f = record { quiet = tt; pool = refl; next = refl; owned = tt; links = refl; primary = refl }
 
 judged-settles : (l : ℕ) (j : Judged) → NoSettle (judgedActs l j)
 judged-settles l (Chosen v) = tt
@@ -296,7 +297,7 @@ touched =
       pump = λ s l time id. due-out (dueAt s l time) s l time id;
       answered = λ s l id a. answer-touches s l id a (closesOf (linkAt s l) id a) (findOf (linkAt s l .awaited) id);
       version = λ s l received f. by-verdict s received (f .verdict) (versionJudged s l received (judge (own s) (f .offer))) (judgedActs l (judge (own s) (f .offer))) (version-judged s received l (judge (own s) (f .offer)));
-      watchdog = λ s l received f. whatever-verdict s received (f .verdict) (beat s l received (f .time)) (beats s received l (f .time));
+      watchdog = λ s l received f. whatever-verdict s received (f .verdict) (beat s l received f) (beats s received l f);
       subscribing = λ b s l h time received f. subscribing-touches b s l h time received f;
       alarm = λ s g l time id received f. alarm-touches s l time id received g f;
       aggregated = aggregated-touches;

@@ -50,7 +50,7 @@ abbrev pub saidIs : String → String → Json → Bool
 saidIs name value j = sameBytes (said name j) (text value)
 
 abbrev pub timeOf : Time → ℕ
-timeOf (Is ms) = ms
+timeOf (Is ms decimals) = ms
 timeOf No = 0
 
 abbrev pub timeIn : String → Json → ℕ
