@@ -55,4 +55,5 @@ conversation =
       requested = refl;
       awaited-long = refl;
       statuses-told = refl;
+      old-issued = refl;
     }

@@ -46,10 +46,14 @@ fn held_state(e: Entry, row: Item) -> AlarmState
     }
 }
 
-fn known_value(w: u32) -> Value
-    ensures { λ r. ⌜ r ≡ knownValue w ⌝ }
+fn known_value(old: bool, w: u32) -> Value
+    ensures { λ r. ⌜ r ≡ knownValue old w ⌝ }
 {
-    Value::Recent(number::signed_of(w))
+    let n = number::signed_of(w);
+    if old {
+        return Value::Old(n);
+    }
+    Value::Recent(n)
 }
 
 // What is told of a status.
@@ -57,7 +61,7 @@ pub fn status_value(x: Status) -> Value
     ensures { λ r. ⌜ r ≡ statusValue x ⌝ }
 {
     if x.known == 1 {
-        return known_value(x.value);
+        return known_value(false, x.value);
     }
     Value::Unknown
 }
@@ -67,7 +71,7 @@ fn held_value(e: Entry) -> Value
     ensures { λ r. ⌜ r ≡ heldValue e ⌝ }
 {
     if flags::known(e.flags) {
-        return known_value(e.value);
+        return known_value(flags::old(e.flags), e.value);
     }
     Value::Unknown
 }
