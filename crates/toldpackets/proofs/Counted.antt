@@ -2,7 +2,7 @@
 -- Assumes nothing.
 use Prim.Native.Nat.{ℕ, zero, suc, _+_, _≤_, _<_}
 use mathlib.Core.Path.{_≡_, refl, ap, ap₂, subst, sym, _∙_}
-use mathlib.Core.Bool.{Bool, true, false}
+use mathlib.Core.Bool.{Bool, true, false, not}
 use mathlib.Core.List.{List, []}
 use lib.Dec.{eqb}
 use lib.ListN.{length, length-append}
@@ -159,6 +159,7 @@ counted g h a l t random p out =
           (ap (λ (b : Bool). both b (asksFor (isSubscribing true) (headAt p .class))) e) (ap (λ (b : Bool). both b (asksFor isAlarmKind (headAt p .class))) e);
       one-alarm = at-most-one g h t p (takenOn g h l isAlarmKind p) (named g h l t p) (alarm-below (g .table) (alarmAt p .component) (alarmAt p .code));
       each-entry = subscribed-each g h l t p (takenOn g h l isAlarmKind p) (takenOn g h l (isSubscribing true) p);
+      recent = λ e. ap not (both-true (isUp (lifeOf g h l)) (asksFor (isSubscribing true) (headAt p .class)) e .0);
       ending = λ e.
           let w = ends-alone (isUp (lifeOf g h l)) (headAt p .class) e in
           neither g h l t p (takenOn g h l isAlarmKind p) (takenOn g h l (isSubscribing true) p) (w .0) (w .1);

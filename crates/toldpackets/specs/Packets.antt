@@ -13,7 +13,7 @@ use Rattle.calls.specs.Calls.Call.{packet}
 use Rattle.told.specs.Told.{Setup, Told}
 use Rattle.told.specs.Life.{lifeOf, isUp}
 use Rattle.told.specs.Items.{isSubscribing, takenOn, passing, componentOf}
-use Rattle.told.specs.Issued.{alarmsIssued, recordsBy}
+use Rattle.told.specs.Issued.{isOld, alarmsIssued, recordsBy}
 use Rattle.told.specs.Claims.{StepsAll}
 
 abbrev pub PacketsStep : Type 0
@@ -28,6 +28,8 @@ pub record Records (g : Setup) (h : List Told) (a : Answer) (l t : ℕ) (random 
   pub each-entry : takenOn g h l (isSubscribing true) p ≡ true
       → passing (g .table) (statusAt true p) (componentOf (g .table) (statusAt true p)) ≡ true
       → length (recordsBy g h a (packet l t random p out)) ≡ statusAt true p .count
+  -- .. and none of them old, since the packet is taken on a link that is Up
+  pub recent : takenOn g h l (isSubscribing true) p ≡ true → isOld g h l ≡ false
   -- ending a subscription issues none
   pub ending : takenOn g h l (isSubscribing false) p ≡ true → recordsBy g h a (packet l t random p out) ≡ []
 
