@@ -59,8 +59,8 @@ loop-less c = omega arith
 
 loop-again : tie.Need-loop-again Inv-loop μ-loop
 loop-again c =
-    let a = c .before .before .before .before .before .args in
-    let l = c .before .before .before .before .loop in
+    let a = c .before .before .before .before .before .before .args in
+    let l = c .before .before .before .before .before .loop in
     (omega arith, rw (turn (recordAt (a .t2) (a .t3) (a .t4) (a .time)) (a .b) (l .i), ← l .inv .1) (c .issue-one .ensures))
 
 returns : tie.Need-returns Inv-loop μ-loop
