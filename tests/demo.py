@@ -19,8 +19,12 @@ def say(text=""):
     print(f"{time.monotonic() - BEGAN:5.1f} s  {text}" if text else "", flush=True)
 
 
+def updates(supervisor):
+    return [(entry["s"], entry["q"]) for said in supervisor.of("StatusUpdate") for entry in said["sS"]]
+
+
 def values(supervisor):
-    return [entry["s"] for said in supervisor.of("StatusUpdate") for entry in said["sS"]]
+    return [value for value, _ in updates(supervisor)]
 
 
 def release(process, value):
@@ -53,14 +57,16 @@ def show(process, centre, workshop):
     before = len(values(centre))
     centre.greets = False
     centre.cut()
-    centre.wait(lambda: centre.stream is None, "the cut")
+    centre.wait(lambda: centre.stream is None and "link 0 Up" not in process.order("links"), "the cut")
     for value in (345, 360, 350):
         release(process, value)
     say(f"  {process.order('counts')}")
     centre.greets = True
     centre.cut()
-    centre.wait(lambda: values(centre)[before:][-3:] == ["345", "360", "350"], "what waited")
-    say("The connection is back, greeted anew, and what waited arrives: " + ", ".join(values(centre)[-3:]) + " ms")
+    waited = [(value, "old") for value in ("345", "360", "350")]
+    centre.wait(lambda: updates(centre)[before:][-3:] == waited, "what waited, marked old")
+    say("The connection is back, greeted anew, and what waited arrives, marked as what it is: "
+        + ", ".join(f"{value} ms ({quality})" for value, quality in updates(centre)[-3:]))
     say()
     say("The workshop floods the site: it subscribes 640 times and answers nothing.")
     workshop.answers = False

@@ -421,8 +421,47 @@ def late_answer():
     return hand.done()
 
 
+def old_is_old():
+    """Request 02: what is issued while its link is Up is recent and stays so over a cut; Down, Greeting and Beating it is old and stays
+    so when the link is Up; a tick closes before it issues; what has no value stays unknown."""
+    hand = Hand()
+    player, component = hand.player, hand.supervisor.site.table.components[1].decode()
+    both = [{"sCI": code, "n": "release", "uRt": "30", "sOc": True} for code in ("S0001", "S0002")]
+    for link in (0, 1):
+        hand.up(link)
+        hand.sent_out(link)
+        hand.tell(link, hand.supervisor.head("StatusSubscribe") + [("cId", component), ("sS", both)])
+    value = iter(range(100))
+    measures = lambda: player.status(1, next(value), hand.time)
+    measures()
+    player.disconnect(0, hand.time)
+    measures()
+    hand.connect(0)
+    measures()
+    hand.pump(0)
+    hand.answer(0)
+    hand.tell(0, hand.supervisor.version())
+    measures()
+    player.readings()
+    hand.pump(0)
+    hand.answer(0)
+    hand.tell(0, hand.supervisor.watchdog(hand.time))
+    measures()
+    hand.tell(0, hand.supervisor.of_statuses("StatusRequest", 2))
+    hand.sent_out(0)
+    hand.answer(0)
+    hand.pump(1)
+    hand.time += 30000
+    player.tick(hand.time)
+    player.readings()
+    hand.sent_out(0)
+    hand.up(1)
+    hand.sent_out(1)
+    return hand.done()
+
+
 STORED = (start_limits, checks_in_order, without_packets, sequence_end, time_end, whole_life, decimals_of_a_watchdog, awaited_too_long,
-          lengths, every_reason, numbers_of_a_link, closing_answers, alarm_orders, errors_met, filled_pool, late_answer)
+          lengths, every_reason, numbers_of_a_link, closing_answers, alarm_orders, errors_met, filled_pool, late_answer, old_is_old)
 
 
 def texts(player):

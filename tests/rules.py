@@ -6,8 +6,9 @@ tests/model/alarm.py.
   rules.py --fresh [SEED]   runs random act lists through the program
 
 A line says whether the act changed something (of a subscription: whether one is there), whether it makes a record, and the
-bytes of the record that the alarm, the status or the aggregated value now has, its sequence number 0. That a subscription
-issues at once is the site's, and not given here; nor are times that go back (number 5).
+bytes of the record that the alarm, the status or the aggregated value now has, its sequence number 0. Of a status the second
+bit of the case's byte says whether its record is old. That a subscription issues at once is the site's, and not given here; nor
+are times that go back (number 5).
 """
 import itertools
 import random
@@ -34,19 +35,22 @@ class Run:
 
     # A case, and the line that the model has for it.
 
-    def of_alarm(self, link, item):
+    def of_alarm(self, link, item, _):
         return Record(link, 0, item, self.alarm.flags(), self.alarm.time, 0, 0)
 
-    def of_status(self, link, item):
-        return Record(link, 1, item, self.status.flags(), self.time, self.status.word(), 0)
+    def of_status(self, link, item, old):
+        return Record(link, 1, item, self.status.flags(old), self.time, self.status.word(), 0)
 
-    def of_aggregated(self, link, _):
+    def of_aggregated(self, link, *_):
         return Record(link, 2, 0, 0, self.aggregated.time, self.aggregated.value, 0)
 
     def say(self, kind, part, happened, issues, value=0, byte=0):
         link, item = self.source.randrange(4), self.source.choice((0, 31, self.source.randrange(32)))
+        old = self.source.randrange(2)
+        if part == self.of_status:
+            byte |= old << 1
         body = struct.pack(">QIHHB", self.time, value, link, item, byte)
-        answer = f"{int(happened)} {int(issues)} {part(link, item).packed().hex()}\n"
+        answer = f"{int(happened)} {int(issues)} {part(link, item, old).packed().hex()}\n"
         self.pairs.append((case(kind, body.hex()), answer.encode("ascii")))
 
     def alarm_event(self, kind, event, byte=0):

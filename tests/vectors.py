@@ -249,7 +249,7 @@ def valid(fields):
     if kind == 0:
         return item <= 31 and flags >> 4 <= 2 and flags % 2 == 0 and value == 0
     if kind == 1:
-        return item <= 31 and (flags == 0b100000 or flags == 0 and value == 0)
+        return item <= 31 and flags % 16 == 0 and (flags >> 5 == 1 or value == 0)
     if kind == 2:
         return item == 0 and flags == 0 and value <= 255
     return False
@@ -272,8 +272,8 @@ def good_record(source):
     if kind == 0:
         return [link, 0, source.randrange(32), source.randrange(3) << 4 | source.randrange(8) << 1, ms, 0, sequence]
     if kind == 1:
-        known = source.randrange(2)
-        return [link, 1, source.randrange(32), known << 5, ms, known * source.randrange(2**32), sequence]
+        known, old = source.randrange(2), source.randrange(2)
+        return [link, 1, source.randrange(32), known << 5 | old << 4, ms, known * source.randrange(2**32), sequence]
     return [link, 2, 0, 0, ms, source.randrange(256), sequence]
 
 

@@ -8,8 +8,8 @@ An answer is the message, its form feed and a line feed, compared byte for byte:
 of spaces. Each message is also read by Python's json, and what it says is compared with the fields that the case gives.
 
 Fields are hexadecimal digits of: the identity (16 bytes), the time (8), six bytes by type, and labels with their length before
-them; a status is a byte (0 a value, 1 unknown, 2 undefined), the value (4), its code and its name. Of an answer it is the received
-identity as it stands, behind two digits of the reason's number in the table of names.
+them; a status is a byte (0 a value, 1 unknown, 2 undefined, 3 an old value), the value (4), its code and its name. Of an answer
+it is the received identity as it stands, behind two digits of the reason's number in the table of names.
 """
 import itertools
 import json
@@ -28,7 +28,8 @@ LAST = 253402300799999
 TIMES = (0, 1, 999, 951782399999, 951782400000, 1254398371571, LAST - 1, LAST)
 VALUES = (-2**31, -2**31 + 1, -10, -1, 0, 1, 9, 10, 2**31 - 1)
 LETTERS = "".join(sorted(map(chr, ALPHABET)))
-UNKNOWN, UNDEFINED = "unknown", "undefined"
+UNKNOWN, UNDEFINED, OLD = "unknown", "undefined", "old"
+OLD_VALUES = tuple((OLD, value) for value in VALUES)
 REASONS = ("Missing element", "Bad value", "Unexpected", "Not ready", "RSMP version", "Site id", "SXL version",
            "Unknown component", "Unknown alarm", "Unknown status", "Busy")
 FIRST_REASON = 14
@@ -102,12 +103,16 @@ def aggregated(identity, component, time, value):
 def status_bytes(code, name, value):
     if value in (UNKNOWN, UNDEFINED):
         return bytes([1 + (UNKNOWN, UNDEFINED).index(value)]) + bytes(4) + labelled(code, name)
-    return b"\0" + struct.pack(">i", value) + labelled(code, name)
+    old, value = value if isinstance(value, tuple) else (None, value)
+    return (b"\3" if old else b"\0") + struct.pack(">i", value) + labelled(code, name)
 
 
 def status_entry(code, name, value):
     """As the model takes it: code, name, value or None, quality."""
-    return (code, name, None, value) if value in (UNKNOWN, UNDEFINED) else (code, name, value, "recent")
+    if value in (UNKNOWN, UNDEFINED):
+        return code, name, None, value
+    quality, value = value if isinstance(value, tuple) else ("recent", value)
+    return code, name, value, quality
 
 
 def statuses(kind, identity, component, time, given):
@@ -162,7 +167,7 @@ def aggregates():
 
 def status_limits():
     longest = (LETTERS[:32], LETTERS[-32:])
-    told = (*VALUES, UNKNOWN, UNDEFINED)
+    told = (*VALUES, *OLD_VALUES, UNKNOWN, UNDEFINED)
     for kind in "RU":
         for value in told:
             yield statuses(kind, OURS, "C", 1254398371571, [("S0001", "plan", value)])
@@ -186,7 +191,7 @@ def some_time(source):
 
 
 def some_value(source):
-    return source.choice((source.choice(VALUES), UNKNOWN, UNDEFINED, source.randrange(-2**31, 2**31),
+    return source.choice((source.choice(VALUES), source.choice(OLD_VALUES), UNKNOWN, UNDEFINED, source.randrange(-2**31, 2**31),
                           source.randrange(-2**31, 2**31) >> source.randrange(31)))
 
 

@@ -8,7 +8,7 @@ from .given import NONE, signed
 from .translate import Translation
 
 SPECS = ROOT / "crates" / "machine" / "specs"
-QUALITY = {"Recent": "recent", "Unknown": "unknown", "Undefined": "undefined"}
+QUALITY = {"Recent": "recent", "Old": "old", "Unknown": "unknown", "Undefined": "undefined"}
 KIND = {"Response": "StatusResponse", "Update": "StatusUpdate"}
 
 
@@ -126,7 +126,7 @@ def head(parts):
 
 def entry(status):
     value = status["value"]
-    return string(status["code"]), string(status["name"]), signed(value[1]) if value[0] == "Recent" else None, QUALITY[value[0]]
+    return string(status["code"]), string(status["name"]), signed(value[1]) if len(value) > 1 else None, QUALITY[value[0]]
 
 
 def identity(bytes_):

@@ -47,8 +47,8 @@ class Status:
         self.value = value
         return changed
 
-    def flags(self):
-        return 0 if self.value is None else 0b100000
+    def flags(self, old):
+        return (self.value is not None) << 5 | old << 4
 
     def word(self):
         return 0 if self.value is None else self.value % 2**32

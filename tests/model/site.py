@@ -90,8 +90,9 @@ class Site:
         self.issue(self.primary, 0, number, alarm.flags(), alarm.time, 0)
 
     def issue_status(self, link, number, time):
-        status = self.statuses[number]
-        self.issue(link, 1, number, status.flags(), time, status.word())
+        """Old where the link is not Up as it is issued (request 02)."""
+        status, old = self.statuses[number], self.links[link].phase != links_.UP
+        self.issue(link, 1, number, status.flags(old), time, status.word())
 
     def close(self, link):
         self.links[link].close()
@@ -123,9 +124,9 @@ class Site:
             return self.alarm_text(identity, record.item, flags >> 4, flags >> 3 & 1, flags >> 2 & 1, flags >> 1 & 1, record.time)
         if record.kind == 1:
             component, code, name = self.table.statuses[record.item]
-            known = record.flags >> 5
+            known, old = record.flags >> 5, record.flags >> 4 & 1
             value = (record.value + 2**31) % 2**32 - 2**31 if known else None
-            entry = code.decode(), name.decode(), value, "recent" if known else "unknown"
+            entry = code.decode(), name.decode(), value, ("old" if old else "recent") if known else "unknown"
             return message.statuses("StatusUpdate", identity, self.table.components[component].decode(), record.time, [entry])
         return self.aggregated_text(identity, record.time, record.value)
 

@@ -51,7 +51,7 @@ kept =
       aggregated-owned = λ s value time n. owned-of 4 (aggregatedPlan s value time .issued) (aggregated-every s value time (λ e. e .link < 4) (λ l h. omega arith));
       alarm-valid = λ s k active time n h t. alarm-every s k active time Valid (λ g. alarm-record s k active time (omega arith) h (in-range s time t));
       status-valid = λ s k value time n h v t.
-          status-every s k value time Valid (λ l g. status-record-valid (holding (wordOf value)) l k time (word-lt value v) (omega arith) h (in-range s time t));
+          status-every s k value time Valid (λ l g. status-record-valid (holding (wordOf value)) l k time _ (word-lt value v) (omega arith) h (in-range s time t));
       aggregated-valid = λ s value time n t.
           aggregated-every s value time Valid (λ l g. aggregated-record-valid (record { time = time; value = value }) l (omega arith) (in-range s time t));
     }

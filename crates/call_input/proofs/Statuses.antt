@@ -11,12 +11,13 @@ use Rattle.number.specs.Signed.{wordOf}
 use Rattle.status.specs.declared.Status.{Status}
 use Rattle.status.specs.declared.Set.{Set as StatusSet}
 use Rattle.status.specs.Status.{holding, news, setOf as statusSet}
-use Rattle.status.specs.Issued.{issuedOf as statusRecord}
 use Rattle.subscription.specs.Subscription.{issuesOn}
 use Rattle.call_records.specs.Upwards.{entriesTo}
 use Rattle.call_records.proofs.Entries.{none-to}
 use Rattle.site.specs.declared.Site.{Site}
+use Rattle.site.specs.Site.{linkAt}
 use Rattle.site.specs.Parts.{statusAt, subscriptionAt}
+use Rattle.site.specs.Records.{statusRecord}
 use Rattle.site.specs.Call.{only}
 use Rattle.call_input.specs.Inputs.{statusEntry, statusPlan}
 use Rattle.call_input.specs.Claims.{Every}
@@ -32,8 +33,8 @@ module _ (s : Site) (k : ℕ) (value : ℤ) (time : ℕ) where
   abbrev entry : ℕ → List Entry
   entry l = statusEntry s k change time l
 
-  entry-is : (P : Entry → Type 0) (l : ℕ) → P (statusRecord (holding (wordOf value)) l k time) → Every P (entry l)
-  entry-is P l h = every-if P (issuesOn (subscriptionAt s (l * 32 + k)) (change .changed)) (statusRecord (change .status) l k time) (λ g. h)
+  entry-is : (P : Entry → Type 0) (l : ℕ) → P (statusRecord (linkAt s l) (holding (wordOf value)) l k time) → Every P (entry l)
+  entry-is P l h = every-if P (issuesOn (subscriptionAt s (l * 32 + k)) (change .changed)) (statusRecord (linkAt s l) (change .status) l k time) (λ g. h)
 
   pub own-status : (i : ℕ) → For i (entry i)
   own-status i = entry-is (λ e. e .link ≡ i) i refl
@@ -44,6 +45,6 @@ module _ (s : Site) (k : ℕ) (value : ℤ) (time : ℕ) where
       let none : entriesTo entry (s .linkcount) ≡ [] = none-to entry (s .linkcount) (λ l g. rw n refl) in
       rw (set-same (s .statuses) k (holding (wordOf value)) _ h, none) refl
 
-  pub status-every : (P : Entry → Type 0) → ((l : ℕ) → l < s .linkcount → P (statusRecord (holding (wordOf value)) l k time))
+  pub status-every : (P : Entry → Type 0) → ((l : ℕ) → l < s .linkcount → P (statusRecord (linkAt s l) (holding (wordOf value)) l k time))
       → Every P (statusPlan s k value time .issued)
   status-every P f = every-to P entry (s .linkcount) (λ l g. entry-is P l (f l g))

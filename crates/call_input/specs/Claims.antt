@@ -15,14 +15,14 @@ use Rattle.number.specs.Signed.{Signed32, wordOf}
 use Rattle.alarm.specs.Alarm.{issued as issueOf}
 use Rattle.alarm.specs.Issued.{issuedOf as alarmRecord}
 use Rattle.status.specs.Status.{holding, news}
-use Rattle.status.specs.Issued.{issuedOf as statusRecord}
 use Rattle.aggregated.specs.Issued.{issuedOf as aggregatedRecord}
 use Rattle.pool_batch.specs.Laws.{Owned}
 use Rattle.call_records.specs.Upwards.{entryIf}
 use Rattle.site.specs.declared.Site.{Site}
 use Rattle.site.specs.declared.Step.{Step}
-use Rattle.site.specs.Site.{site, badTimeAt}
+use Rattle.site.specs.Site.{site, badTimeAt, linkAt}
 use Rattle.site.specs.Parts.{alarmAt, statusAt, subscriptionAt}
+use Rattle.site.specs.Records.{statusRecord}
 use Rattle.site.specs.Call.{nothingOf}
 use Rattle.call_input.specs.Inputs.{alarmPlan, alarmStep, statusPlan, statusStep, aggregatedPlan, aggregatedStep}
 
@@ -74,7 +74,7 @@ pub record Claims : Type 0 where
   pub status-link : (s : Site) (k : ℕ) (value : ℤ) (time l : ℕ)
       → forLink l (statusPlan s k value time .issued)
       ≡ pick (ltb l (s .linkcount))
-      (entryIf (both (news (statusAt s k) (wordOf value)) (eqb (subscriptionAt s (l * 32 + k) .state) 2)) (statusRecord (holding (wordOf value)) l k time))
+      (entryIf (both (news (statusAt s k) (wordOf value)) (eqb (subscriptionAt s (l * 32 + k) .state) 2)) (statusRecord (linkAt s l) (holding (wordOf value)) l k time))
       []
   -- an aggregated value that is the one before issues nothing
   pub aggregated-same : (s : Site) (value time : ℕ) → badTimeAt s time ≡ false → s .aggregated .value ≡ value → aggregatedStep s value time ≡ idle s time

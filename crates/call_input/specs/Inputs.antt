@@ -15,7 +15,6 @@ use Rattle.alarm.specs.Alarm.{inputOf}
 use Rattle.alarm.specs.Issued.{issuedOf as alarmRecord}
 use Rattle.status.specs.declared.Set.{Set as StatusSet}
 use Rattle.status.specs.Status.{setOf as statusSet}
-use Rattle.status.specs.Issued.{issuedOf as statusRecord}
 use Rattle.subscription.specs.Subscription.{issuesOn}
 use Rattle.aggregated.specs.declared.Set.{Set as AggregatedSet}
 use Rattle.aggregated.specs.Aggregated.{setOf as aggregatedSet}
@@ -23,8 +22,9 @@ use Rattle.aggregated.specs.Issued.{issuedOf as aggregatedRecord}
 use Rattle.call_records.specs.Upwards.{entriesTo, entryIf}
 use Rattle.site.specs.declared.Site.{Site}
 use Rattle.site.specs.declared.Step.{Step}
-use Rattle.site.specs.Site.{badTimeAt, withAggregated, hasPrimary}
+use Rattle.site.specs.Site.{badTimeAt, linkAt, withAggregated, hasPrimary}
 use Rattle.site.specs.Parts.{alarmAt, withAlarm, statusAt, withStatus, subscriptionAt}
+use Rattle.site.specs.Records.{statusRecord}
 use Rattle.site.specs.Call.{Plan, issues, batchOf, never, when, reportOf, concluded, stepOf}
 
 -- numbers 3 and 5, where the site table has `count` of the items
@@ -54,7 +54,7 @@ alarmStep s k active time = stepOf s time (alarmRefuses s k time) (alarmPlan s k
 
 -- link l's record of status k, where its subscription issues one
 abbrev pub statusEntry : Site → ℕ → StatusSet → ℕ → ℕ → List Entry
-statusEntry s k x time l = entryIf (issuesOn (subscriptionAt s (l * 32 + k)) (x .changed)) (statusRecord (x .status) l k time)
+statusEntry s k x time l = entryIf (issuesOn (subscriptionAt s (l * 32 + k)) (x .changed)) (statusRecord (linkAt s l) (x .status) l k time)
 
 abbrev pub statusEntries : Site → ℕ → StatusSet → ℕ → List Entry
 statusEntries s k x time = entriesTo (statusEntry s k x time) (s .linkcount)

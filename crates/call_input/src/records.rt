@@ -6,6 +6,7 @@ use alarm::Changed;
 use pool_batch::Batch;
 use site::Site;
 use site::parts;
+use site::records;
 
 fn begin(s: Site) -> Batch
     ensures { λ r. ⌜ r ≡ beginning (s .pool) (s .next) ⌝ }
@@ -35,7 +36,8 @@ fn with_status(b: Batch, s: Site, x: status::Set, number: u16, time: u64, l: u16
     let u = parts::subscription(s, (l as usize) * 32 + (number as usize));
     if u.on_value(x.changed) {
         let v = x.status;
-        return b.add(v.issued(l, number, time));
+        let n = s.link(l);
+        return b.add(records::status(n, v, l, number, time));
     }
     b
 }

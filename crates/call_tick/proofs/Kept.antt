@@ -21,7 +21,6 @@ use Rattle.pool.specs.Pool.{heldOf, lostOf, unmarkOf}
 use Rattle.pool_laws.specs.View.{records, unsent}
 use Rattle.pool_laws.specs.Views.{Views}
 use Rattle.pool_laws.proofs.Viewed.{viewed}
-use Rattle.status.specs.Issued.{issuedOf}
 use Rattle.status.proofs.Records.{issued-valid}
 use Rattle.subscription.specs.declared.Subscription.{Subscription}
 use Rattle.subscription.specs.Subscription.{none, dueAt, tickOf}
@@ -34,6 +33,7 @@ use Rattle.call_records.proofs.Entries.{owned-to, owned-if}
 use Rattle.site.specs.declared.Site.{Site}
 use Rattle.site.specs.Site.{badTimeAt, linkAt, maskOf}
 use Rattle.site.specs.Parts.{statusAt, subscriptionAt}
+use Rattle.site.specs.Records.{statusRecord}
 use Rattle.site.proofs.Checks.{in-range}
 use Rattle.call_tick.specs.Closing.{lateAt, lateMask, closedTo}
 use Rattle.call_tick.specs.Intervals.{renewed, recordAt, recordsOf}
@@ -111,8 +111,8 @@ module _ (s : Site) (time : ℕ) where
   rest p ls xs = stays (exceptFor p ls xs) (λ t l. refl) s time 4
 
   place : (l k : ℕ) → k < 32
-      → recordAt (s .subscriptions) (s .statuses) time (l * 32 + k)
-      ≡ entryIf (tickOf (subscriptionAt s (l * 32 + k)) time .issues) (issuedOf (statusAt s k) l k time)
+      → recordAt (s .subscriptions) (s .statuses) (siteAfter s time .links) time (l * 32 + k)
+      ≡ entryIf (tickOf (subscriptionAt s (l * 32 + k)) time .issues) (statusRecord (linkAt (siteAfter s time) l) (statusAt s k) l k time)
   place l k h =
       let d : (l * 32 + k) / 32 ≡ l = omega arith in
       let m : (l * 32 + k) % 32 ≡ k = omega arith in
@@ -121,16 +121,16 @@ module _ (s : Site) (time : ℕ) where
   due : (i : ℕ) (h : List Deed) → subscriptionAt s i ≡ kept-after h → tickOf (subscriptionAt s i) time .issues ≡ atTick time (standing h)
   due i h e = rw e (issues-told h (Ticked time))
 
-  owned-at : (i : ℕ) → i < 128 → Owned 4 (recordAt (s .subscriptions) (s .statuses) time i)
-  owned-at i h = owned-if 4 (tickOf (subscriptionAt s i) time .issues) (issuedOf (statusAt s (i % 32)) (i / 32) (i % 32) time) (omega arith)
+  owned-at : (i : ℕ) → i < 128 → Owned 4 (recordAt (s .subscriptions) (s .statuses) (siteAfter s time .links) time i)
+  owned-at i h = owned-if 4 (tickOf (subscriptionAt s i) time .issues) (statusRecord (linkAt (siteAfter s time) (i / 32)) (statusAt s (i % 32)) (i / 32) (i % 32) time) (omega arith)
 
   owned : Owned 4 (tickPlan s time .issued)
   unfolding recordsOf
-  owned = owned-to (recordAt (s .subscriptions) (s .statuses) time) 4 128 owned-at
+  owned = owned-to (recordAt (s .subscriptions) (s .statuses) (siteAfter s time .links) time) 4 128 owned-at
 
   valid : badTimeAt s time ≡ false → (i : ℕ) → i < 128 → statusAt s (i % 32) .value < 2 ^ 32
-      → Valid (issuedOf (statusAt s (i % 32)) (i / 32) (i % 32) time)
-  valid e i h v = issued-valid (statusAt s (i % 32)) (i / 32) (i % 32) time v (omega arith) (omega arith) (in-range s time e)
+      → Valid (statusRecord (linkAt (siteAfter s time) (i / 32)) (statusAt s (i % 32)) (i / 32) (i % 32) time)
+  valid e i h v = issued-valid (statusAt s (i % 32)) (i / 32) (i % 32) time _ v (omega arith) (omega arith) (in-range s time e)
 
   pub kept : Claims s time
   kept =

@@ -3,11 +3,12 @@
 use Prim.Native.Nat.{ℕ}
 use mathlib.Core.Path.{_≡_, ap}
 use mathlib.Core.List.{List}
+use Rattle.link.specs.declared.Link.{Link}
 use Rattle.status.specs.declared.Status.{Status}
 use Rattle.subscription.specs.declared.Subscription.{Subscription}
 use Rattle.call_records.specs.Upwards.{entriesTo}
 use Rattle.call_tick.specs.Intervals.{recordAt, recordsOf}
 
-pub all-places : (xs : List Subscription) (ks : List Status) (time n : ℕ) → n ≡ 128 → entriesTo (recordAt xs ks time) n ≡ recordsOf xs ks time
+pub all-places : (xs : List Subscription) (ks : List Status) (ns : List Link) (time n : ℕ) → n ≡ 128 → entriesTo (recordAt xs ks ns time) n ≡ recordsOf xs ks ns time
 unfolding recordsOf
-all-places xs ks time n e = ap (entriesTo (recordAt xs ks time)) e
+all-places xs ks ns time n e = ap (entriesTo (recordAt xs ks ns time)) e

@@ -16,7 +16,6 @@ use Rattle.link.specs.Fields.{closedLink}
 use Rattle.pool.specs.declared.Pool.{Pool}
 use Rattle.pool.specs.Pool.{heldOf, lostOf}
 use Rattle.pool_laws.specs.View.{records, unsent}
-use Rattle.status.specs.Issued.{issuedOf}
 use Rattle.subscription.specs.declared.Subscription.{Subscription}
 use Rattle.subscription.specs.Subscription.{tickOf}
 use Rattle.subscription.specs.History.{Act as Deed, after as kept-after, standing, atTick}
@@ -25,6 +24,7 @@ use Rattle.call_records.specs.Upwards.{entryIf}
 use Rattle.site.specs.declared.Site.{Site}
 use Rattle.site.specs.Site.{badTimeAt, linkAt, withPool, withLinks, withSubscriptions}
 use Rattle.site.specs.Parts.{statusAt, subscriptionAt}
+use Rattle.site.specs.Records.{statusRecord}
 use Rattle.call_tick.specs.Closing.{lateAt}
 use Rattle.call_tick.specs.Intervals.{recordAt}
 use Rattle.call_tick.specs.Tick.{siteAfter, tickPlan}
@@ -50,17 +50,17 @@ pub record Claims (s : Site) (time : ℕ) : Type 0 where
   pub subscriptions : (i : ℕ) → subscriptionAt (siteAfter s time) i ≡ tickOf (subscriptionAt s i) time .subscription
   -- nothing else is changed but by the records issued
   pub rest : (p : Pool) (ls : List Link) (xs : List Subscription) → exceptFor p ls xs (siteAfter s time) ≡ exceptFor p ls xs s
-  -- the subscription of link l to status k issues a record of that status for that link, or none
+  -- the subscription of link l to status k issues a record of that status for that link, as the tick leaves it, or none
   pub place : (l k : ℕ) → k < 32
-      → recordAt (s .subscriptions) (s .statuses) time (l * 32 + k)
-      ≡ entryIf (tickOf (subscriptionAt s (l * 32 + k)) time .issues) (issuedOf (statusAt s k) l k time)
+      → recordAt (s .subscriptions) (s .statuses) (siteAfter s time .links) time (l * 32 + k)
+      ≡ entryIf (tickOf (subscriptionAt s (l * 32 + k)) time .issues) (statusRecord (linkAt (siteAfter s time) l) (statusAt s k) l k time)
   -- "at a tick uRt or more after the subscribing call or the last tick that did so"
   pub due : (i : ℕ) (h : List Deed) → subscriptionAt s i ≡ kept-after h → tickOf (subscriptionAt s i) time .issues ≡ atTick time (standing h)
   -- every record issued is for one of the four links ..
   pub owned : Owned 4 (tickPlan s time .issued)
   -- .. and that of each place is one that the record reader accepts
   pub valid : badTimeAt s time ≡ false → (i : ℕ) → i < 128 → statusAt s (i % 32) .value < 2 ^ 32
-      → Valid (issuedOf (statusAt s (i % 32)) (i / 32) (i % 32) time)
+      → Valid (statusRecord (linkAt (siteAfter s time) (i / 32)) (statusAt s (i % 32)) (i / 32) (i % 32) time)
 
 -- "Awaited 30,000 ms closes, 29,999 not"
 pub record Limit (s : Site) : Type 0 where

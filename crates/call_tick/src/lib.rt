@@ -1,7 +1,7 @@
 // The passing of time: links that waited too long for an answer are closed, and subscriptions issue at their intervals.
 ghost use mathlib.Core.Path.{_≡_};
 ghost use Rattle.pool_batch.specs.Batch.{issuedAll};
-ghost use Rattle.call_tick.specs.Intervals.{issuedAt};
+ghost use Rattle.call_tick.specs.Intervals.{recordsOf};
 ghost use Rattle.call_tick.specs.Tick.{siteAfter, reportAfter, tickStep};
 use answer::Refusal;
 use answer::Report;
@@ -23,14 +23,15 @@ fn after(s: Site, time: u64) -> Site
     t
 }
 
-// What the subscriptions of s issue, from the pool and the next number of t.
+// What the subscriptions of s issue while the links are as in t, from the pool and the next number of t.
 fn issued(s: Site, t: Site, time: u64) -> Batch
-    ensures { λ r. ⌜ r ≡ issuedAll 4 (t .pool) (t .next) (issuedAt s time) ⌝ }
+    ensures { λ r. ⌜ r ≡ issuedAll 4 (t .pool) (t .next) (recordsOf (s .subscriptions) (s .statuses) (t .links) time) ⌝ }
 {
     let pool = t.pool;
     let list = s.subscriptions;
     let statuses = s.statuses;
-    intervals::issue_all(Batch::begin(pool, t.next), list, statuses, time)
+    let links = t.links;
+    intervals::issue_all(Batch::begin(pool, t.next), list, statuses, links, time)
 }
 
 fn report(s: Site, time: u64) -> Report

@@ -33,7 +33,7 @@ Below n h = h .link < n
 -- an alarm's record is the primary's
 abbrev pub fits : Setup → ℕ → Content → Bool
 fits u l (ofAlarm i a) = isNumber l (u .primary)
-fits u l (ofStatus i v t) = true
+fits u l (ofStatus i v old t) = true
 fits u l (ofAggregated v t) = true
 
 abbrev pub Fits : Setup → Held → Type 0

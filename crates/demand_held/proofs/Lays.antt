@@ -37,12 +37,12 @@ use Rattle.machine.specs.State.{
   effect,
   only,
 }
-use Rattle.machine.specs.State.Content.{ofAlarm, ofStatus, ofAggregated}
+use Rattle.machine.specs.State.Content.{ofAlarm, ofAggregated}
 use Rattle.machine.specs.State.Act.{connect, disconnect, packet, alarmInput, statusValue, aggregatedValue, tick, pump}
 use Rattle.machine.specs.Json.{readPacket, stringOf, entriesOf, isType}
 use Rattle.machine.specs.Life.{unsent, close, closeAll, awaitedBy, Due, due}
 use Rattle.machine.specs.Answers.{isAnswer, alarmAsked, wantsReply, reasonOf, failsCheck}
-use Rattle.machine.specs.Items.{isSilent, isOf, update, numberAsked, upwards, isTime, isNew, told, happens, subscribe, unsubscribe, intervals, becomes, aggregates}
+use Rattle.machine.specs.Items.{isSilent, isOf, statusFor, update, numberAsked, upwards, isTime, isNew, told, happens, subscribe, unsubscribe, intervals, becomes, aggregates}
 use Rattle.machine.specs.Pool.{marked, settled}
 use Rattle.machine.specs.Effects.{
   connects,
@@ -145,7 +145,7 @@ module _ (E : ℕ → ℕ → Type 0) (m : Machine) where
       (λ e. record {
         frame = still _ refl refl;
         issued = each-map _ (λ s h. h) (upwards-links m _);
-        told = each-of (λ (s : Subscription). issuedFor (s .link) (ofStatus i (some v) t)) (λ s. refl) (upwards m (λ s. both (eqb (s .status) i) (s .onChange)));
+        told = each-of (λ (s : Subscription). statusFor m t (s .link) (some v) i) (λ s. refl) (upwards m (λ s. both (eqb (s .status) i) (s .onChange)));
       })
       (λ e. calm m [] [] none refl refl)
 

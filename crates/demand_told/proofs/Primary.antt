@@ -51,7 +51,7 @@ found {P} f (x ∷ hs) h (one-more p r) e = go (f x) refl e (found f hs h r)
 
 alarm-record : (u : Setup) (t : Table) (id : Bytes) (l : ℕ) (x : Content) → fits u l x ≡ true → isAlarm (recordMessage t id x) ≡ true → isNumber l (u .primary) ≡ true
 alarm-record u t id l (ofAlarm i a) e w = e
-alarm-record u t id l (ofStatus i v time) e w = not-both w refl
+alarm-record u t id l (ofStatus i v old time) e w = not-both w refl
 alarm-record u t id l (ofAggregated v time) e w = not-both w refl
 
 -- ---- pump

@@ -36,12 +36,12 @@ use Rattle.demand_told.specs.Demand.OneAnswer.{acked, not-acked}
 -- ---- pump
 record-told : (t : Table) (id : Bytes) (x : Content) → isTold (recordMessage t id x) ≡ true
 record-told t id (ofAlarm i a) = refl
-record-told t id (ofStatus i v time) = refl
+record-told t id (ofStatus i v old time) = refl
 record-told t id (ofAggregated v time) = refl
 
 record-no-answer : (t : Table) (id : Bytes) (x : Content) → isAnAnswer (recordMessage t id x) ≡ false
 record-no-answer t id (ofAlarm i a) = refl
-record-no-answer t id (ofStatus i v time) = refl
+record-no-answer t id (ofStatus i v old time) = refl
 record-no-answer t id (ofAggregated v time) = refl
 
 pub due-no-answer : (m : Machine) (t : ℕ) (id : Bytes) (d : Due) → isAnAnswer (dueMessage m t id d) ≡ false

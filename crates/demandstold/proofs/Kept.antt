@@ -27,7 +27,7 @@ use Rattle.demands.specs.Demand3.Started.{started as by-start}
 use Rattle.demands.proofs.Kept.{kept as demand3}
 use Rattle.told.specs.Told.{Setup, Told}
 use Rattle.told.specs.Issued.{issuedBy}
-use Rattle.told.specs.Claims.{Fits, toldBy, started}
+use Rattle.told.specs.Claims.{Fits, toldOn, toldBy, started}
 use Rattle.toldcalls.proofs.Kept.{kept as calls-told}
 use Rattle.demandstold.specs.Told3.{Given, IssuedIn, countIn, Kept, Promises}
 use Rattle.demandstold.specs.Told3.Given.{given}
@@ -75,12 +75,12 @@ module _ (g : Setup) (period : ℕ) (fits : Fits g) where
   tale cs = toldBy (started g period) cs
 
   lays : (cs : List Call) (c : Call) → isDone (stepBy (after cs) c .answer) ≡ true
-      → numbered (after cs .next) (planOf (after cs) c .issued) ≡ issuedBy g (tale cs) c
+      → numbered (after cs .next) (planOf (after cs) c .issued) ≡ issuedBy g (tale cs) (toldOn (after cs) c)
   lays cs c d = calls-told .agrees g period cs fits .issued c d
 
   as-told : {e : Entry} {cs : List Call} → Issued (started g period) e cs → IssuedIn g e (tale cs)
   as-told {e = e} (issued-now {c = c} {cs = cs} d i) =
-      now d (among-act e (issuedBy g (tale cs) c) (subst (λ (es : List Entry). Among (Issue e) (issues es)) (lays cs c d) i))
+      now d (among-act e (issuedBy g (tale cs) (toldOn (after cs) c)) (subst (λ (es : List Entry). Among (Issue e) (issues es)) (lays cs c d) i))
   as-told (issued-before i) = before (as-told i)
 
   told : (e : Entry) (cs : List Call) → IssuedIn g e (tale cs) → Issued (started g period) e cs
@@ -98,12 +98,12 @@ module _ (g : Setup) (period : ℕ) (fits : Fits g) where
   counts (c ∷ cs) m =
       ap₂ (λ (a b : ℕ). a + b) (counts cs m) (by (isDone (stepBy (after cs) c .answer)) refl)
     where
-      here : isDone (stepBy (after cs) c .answer) ≡ true → issuedFor m (planOf (after cs) c .issued) ≡ issuedFor m (issuedBy g (tale cs) c)
+      here : isDone (stepBy (after cs) c .answer) ≡ true → issuedFor m (planOf (after cs) c .issued) ≡ issuedFor m (issuedBy g (tale cs) (toldOn (after cs) c))
       here d = sym (numbered-for m (after cs .next) (planOf (after cs) c .issued)) ∙ ap (issuedFor m) (lays cs c d)
 
       by : (b : Bool) → isDone (stepBy (after cs) c .answer) ≡ b
           → pick (isDone (stepBy (after cs) c .answer)) (issuedFor m (planOf (after cs) c .issued)) 0
-          ≡ pick (isDone (stepBy (after cs) c .answer)) (issuedFor m (issuedBy g (tale cs) c)) 0
+          ≡ pick (isDone (stepBy (after cs) c .answer)) (issuedFor m (issuedBy g (tale cs) (toldOn (after cs) c))) 0
       by true d = rw d (here d)
       by false d = rw d refl
 

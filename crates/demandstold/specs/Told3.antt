@@ -28,7 +28,7 @@ use Rattle.calls.specs.Calls.{Call, planOf, stepBy, siteAfter}
 use Rattle.demands.specs.Demand3.{Started, Issued, Released, answeredIn}
 use Rattle.told.specs.Told.{Setup, Told}
 use Rattle.told.specs.Issued.{issuedBy}
-use Rattle.told.specs.Claims.{toldBy}
+use Rattle.told.specs.Claims.{toldOn, toldBy}
 
 -- what start was given with the table t
 abbrev pub setupOf : Table → ℕ → ℕ → ℕ → ℕ → Setup
@@ -41,19 +41,19 @@ pub data Given : Setup → Site → Type 0 where
 
 -- a done call of those told issued the record e: the latest one, or one before
 pub data IssuedIn (g : Setup) (e : Entry) : List Told → Type 0 where
-  now : {d : Told} {h : List Told} → isDone (d .answer) ≡ true → Among e (issuedBy g h (d .call)) → IssuedIn g e (d ∷ h)
+  now : {d : Told} {h : List Told} → isDone (d .answer) ≡ true → Among e (issuedBy g h d) → IssuedIn g e (d ∷ h)
   before : {d : Told} {h : List Told} → IssuedIn g e h → IssuedIn g e (d ∷ h)
 
 -- how many records the done calls issued for link m
 abbrev pub countIn : Setup → List Told → ℕ → ℕ
 countIn g [] m = 0
-countIn g (d ∷ h) m = countIn g h m + pick (isDone (d .answer)) (issuedFor m (issuedBy g h (d .call))) 0
+countIn g (d ∷ h) m = countIn g h m + pick (isDone (d .answer)) (issuedFor m (issuedBy g h d)) 0
 
 -- of a site that start made of g, and the calls made since
 pub record Kept (g : Setup) (s : Site) (cs : List Call) : Type 0 where
   -- "Each call issues .. what that document lays down and nothing else": the next one that is done, these records under these numbers in this order
   pub issues : (c : Call) → isDone (stepBy (siteAfter s cs) c .answer) ≡ true
-      → numbered (siteAfter s cs .next) (planOf (siteAfter s cs) c .issued) ≡ issuedBy g (toldBy s cs) c
+      → numbered (siteAfter s cs .next) (planOf (siteAfter s cs) c .issued) ≡ issuedBy g (toldBy s cs) (toldOn (siteAfter s cs) c)
   -- the records of demand 3 are those that are told, and no others
   pub as-told : (e : Entry) → Issued s e cs → IssuedIn g e (toldBy s cs)
   pub told : (e : Entry) → IssuedIn g e (toldBy s cs) → Issued s e cs

@@ -11,7 +11,7 @@ use Rattle.bits.proofs.Fields.{joined-split}
 use Rattle.basis.proofs.Cases.{bool-cases}
 use borrow.Author.Tests.{eqb-true, eqb-false}
 use Rattle.basis.specs.Pick.{bit}
-use Rattle.entry.specs.Flags.{isSet, alarmWidths, alarmFlags, statusFlags, eventOf, isAcknowledged, isActive, isSuspended, isKnown}
+use Rattle.entry.specs.Flags.{isSet, alarmWidths, alarmFlags, statusWidths, statusFlags, eventOf, isAcknowledged, isActive, isSuspended, isKnown, isOld}
 
 pub bit-le : (b : Bool) → bit b ≤ 1
 bit-le true = lit≤ tt
@@ -68,15 +68,41 @@ alarm-flags-again f h e =
     ∙ ap (λ (v : ℕ). joined 0 alarmWidths (eventOf f ∷ bit (isAcknowledged f) ∷ v ∷ fieldOf f 1 1 ∷ 0 ∷ [])) (sym (set-bit f 2))
     ∙ ap (λ (v : ℕ). joined 0 alarmWidths (eventOf f ∷ bit (isAcknowledged f) ∷ bit (isActive f) ∷ v ∷ 0 ∷ [])) (sym (set-bit f 1))
 
-pub known-back : (known : Bool) → isKnown (statusFlags known) ≡ known
-unfolding statusFlags
-known-back true = refl
-known-back false = refl
+module _ (known old : Bool) where
+  abbrev made : ℕ
+  made = statusFlags known old
 
-pub known-flags : statusFlags true ≡ 32
-unfolding statusFlags
-known-flags = refl
+  pub known-back : isKnown made ≡ known
+  unfolding statusFlags
+  known-back = bit-read known {x = fieldOf made 5 1} (omega (arith, bit-le known, bit-le old))
 
-pub unknown-flags : statusFlags false ≡ 0
+  pub old-back : isOld made ≡ old
+  unfolding statusFlags
+  old-back = bit-read old {x = fieldOf made 4 1} (omega (arith, bit-le known, bit-le old))
+
+  pub status-flags-lt : made < 64
+  unfolding statusFlags
+  status-flags-lt = omega (arith, bit-le known, bit-le old)
+
+  pub status-flags-zeros : made % 16 ≡ 0
+  unfolding statusFlags
+  status-flags-zeros = omega (arith, bit-le known, bit-le old)
+
+-- a number below 64 with four zeros at the end is the flags of what is read from it
+pub status-flags-again : (f : ℕ) → f < 64 → f % 16 ≡ 0 → f ≡ statusFlags (isKnown f) (isOld f)
 unfolding statusFlags
-unknown-flags = refl
+status-flags-again f h e =
+    let z : f / 2 ^ 6 ≡ 0 = omega arith in
+    let y : fieldOf f 0 4 ≡ 0 = omega arith in
+    sym (joined-split statusWidths f)
+    ∙ ap (λ (n : ℕ). joined n statusWidths (split statusWidths f)) z
+    ∙ ap (λ (v : ℕ). joined 0 statusWidths (fieldOf f 5 1 ∷ fieldOf f 4 1 ∷ v ∷ [])) y
+    ∙ ap (λ (v : ℕ). joined 0 statusWidths (v ∷ fieldOf f 4 1 ∷ 0 ∷ [])) (sym (set-bit f 5))
+    ∙ ap (λ (v : ℕ). joined 0 statusWidths (bit (isKnown f) ∷ v ∷ 0 ∷ [])) (sym (set-bit f 4))
+
+-- of such a number, known is the higher half
+pub known-high : (f : ℕ) → 32 ≤ f → f < 64 → isKnown f ≡ true
+known-high f l h = let e : fieldOf f 5 1 ≡ 1 = omega arith in ap (λ (n : ℕ). eqb n 1) e
+
+pub unknown-low : (f : ℕ) → f < 32 → isKnown f ≡ false
+unknown-low f h = let e : fieldOf f 5 1 ≡ 0 = omega arith in ap (λ (n : ℕ). eqb n 1) e

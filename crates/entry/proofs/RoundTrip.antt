@@ -15,8 +15,7 @@ use Rattle.entry.specs.declared.Unpacked.the-variants.{Accepted}
 use Rattle.entry.specs.Layout.{bytesOf, entryOf, widths, valuesOf}
 use Rattle.entry.specs.Valid.{Valid, OfKind, an-alarm, a-status, an-aggregated}
 use Rattle.entry.specs.Reading.{Reads, reads, refuses}
-use Rattle.entry.proofs.ValidLaws.{alarm-flags, status-cases}
-use mathlib.Core.Logic.{⊎-elim}
+use Rattle.entry.proofs.ValidLaws.{alarm-flags, status-flags}
 
 -- the fields of each kind fit their widths
 pub record Narrow (e : Entry) : Type 0 where
@@ -27,7 +26,7 @@ pub record Narrow (e : Entry) : Type 0 where
 
 narrow : {e : Entry} → OfKind e → Narrow e
 narrow (an-alarm a) = let f = alarm-flags a in record { kind = omega (arith, a .kind); item = omega (arith, a .item); flags = omega (arith, f .0); value = omega (arith, a .value) }
-narrow (a-status s) = record { kind = omega (arith, s .kind); item = omega (arith, s .item); flags = ⊎-elim (λ h. omega arith) (λ h. omega arith) (status-cases s); value = s .value }
+narrow (a-status s) = let f = status-flags s in record { kind = omega (arith, s .kind); item = omega (arith, s .item); flags = f .0; value = s .value }
 narrow (an-aggregated g) = record { kind = omega (arith, g .kind); item = omega (arith, g .item); flags = omega (arith, g .flags); value = omega (arith, g .value) }
 
 pub within : {e : Entry} → Valid e → Within widths (valuesOf e)

@@ -2,13 +2,12 @@
 -- Assumes nothing.
 use mathlib.Core.Path.{_≡_, refl, sym, ap, _∙_}
 use mathlib.Core.Bool.{Bool, true, false}
-use mathlib.Core.Logic.{_⊎_, inl, inr}
-use Prim.Native.Nat.{ℕ, _%_, _^_, _<_}
+use Prim.Native.Nat.{ℕ, _%_, _^_, _≤_, _<_}
 use native.Mathlib.Omega.{arith}
 use Rattle.entry.specs.declared.Entry.{Entry}
-use Rattle.entry.specs.Flags.{statusFlags, eventOf, isAcknowledged, isActive, isSuspended}
+use Rattle.entry.specs.Flags.{eventOf, isAcknowledged, isActive, isSuspended, isKnown, isOld}
 use Rattle.entry.specs.Valid.{Alarm, Status, Aggregated, OfKind, an-alarm, a-status, an-aggregated, Decides}
-use Rattle.entry.proofs.FlagLaws.{alarm-flags-lt, alarm-flags-even, alarm-flags-again, known-flags, unknown-flags}
+use Rattle.entry.proofs.FlagLaws.{alarm-flags-lt, alarm-flags-even, alarm-flags-again, known-back, status-flags-lt, status-flags-zeros, status-flags-again, known-high, unknown-low}
 
 pub holds : {P : Type 0} → P → Decides true P
 holds p = record { yes = λ e. p; only = λ q. refl }
@@ -35,32 +34,32 @@ an-alarm-of e k i f even v = record {
   value = v;
 }
 
-pub status-cases : {e : Entry} → Status e → (e .flags ≡ 32) ⊎ ((e .flags ≡ 0) × (e .value ≡ 0))
-status-cases {e} s = by (s .known) (s .flags) (s .unknown)
-  where
-    by : (known : Bool) → e .flags ≡ statusFlags known → (known ≡ false → e .value ≡ 0) → (e .flags ≡ 32) ⊎ ((e .flags ≡ 0) × (e .value ≡ 0))
-    by true f u = inl (f ∙ known-flags)
-    by false f u = inr (f ∙ unknown-flags, u refl)
+pub status-flags : {e : Entry} → Status e → (e .flags < 64) × (e .flags % 16 ≡ 0)
+status-flags s =
+    let lt = status-flags-lt (s .known) (s .old) in
+    let zeros = status-flags-zeros (s .known) (s .old) in
+    (omega (arith, s .flags), ap (λ (n : ℕ). n % 16) (s .flags) ∙ zeros)
 
-pub a-known : (e : Entry) → e .kind ≡ 1 → e .item < 32 → e .flags ≡ 32 → e .value < 2 ^ 32 → Status e
-a-known e k i f v = record {
+-- without the first flag there is no value
+pub no-value : {e : Entry} → Status e → e .flags < 32 → e .value ≡ 0
+no-value {e} s h = s .unknown (sym (ap isKnown (s .flags) ∙ known-back (s .known) (s .old)) ∙ unknown-low (e .flags) h)
+
+a-status-of : (e : Entry) → e .kind ≡ 1 → e .item < 32 → e .flags < 64 → e .flags % 16 ≡ 0 → e .value < 2 ^ 32 → (isKnown (e .flags) ≡ false → e .value ≡ 0) → Status e
+a-status-of e k i f zeros v u = record {
   kind = k;
   item = i;
-  known = true;
-  flags = f ∙ sym known-flags;
+  known = isKnown (e .flags);
+  old = isOld (e .flags);
+  flags = status-flags-again (e .flags) f zeros;
   value = v;
-  unknown = λ u. absurd (let z : _≡_ {A = ℕ} 0 1 = cc in omega arith);
+  unknown = u;
 }
 
-pub an-unknown : (e : Entry) → e .kind ≡ 1 → e .item < 32 → e .flags ≡ 0 → e .value ≡ 0 → Status e
-an-unknown e k i f v = record {
-  kind = k;
-  item = i;
-  known = false;
-  flags = f ∙ sym unknown-flags;
-  value = omega arith;
-  unknown = λ u. v;
-}
+pub a-known : (e : Entry) → e .kind ≡ 1 → e .item < 32 → 32 ≤ e .flags → e .flags < 64 → e .flags % 16 ≡ 0 → e .value < 2 ^ 32 → Status e
+a-known e k i l f zeros v = a-status-of e k i f zeros v (λ u. absurd (let t = known-high (e .flags) l f in let z : _≡_ {A = ℕ} 0 1 = cc in omega arith))
+
+pub an-unknown : (e : Entry) → e .kind ≡ 1 → e .item < 32 → e .flags < 32 → e .flags % 16 ≡ 0 → e .value ≡ 0 → Status e
+an-unknown e k i f zeros v = a-status-of e k i (omega arith) zeros (omega arith) (λ u. v)
 
 -- a test that was false
 pub not-held : {P : Type 0} {r : Bool} → Decides r P → r ≡ false → P → ⊥

@@ -41,9 +41,15 @@ isActive flags = isSet flags 2
 abbrev pub isSuspended : ℕ → Bool
 isSuspended flags = isSet flags 1
 
--- of a status: known, five zeros
-unfoldable pub statusFlags : Bool → ℕ
-statusFlags known = joined 0 (1 ∷ 5 ∷ []) (bit known ∷ 0 ∷ [])
+-- of a status: known, old, four zeros
+abbrev pub statusWidths : List ℕ
+statusWidths = 1 ∷ 1 ∷ 4 ∷ []
+
+unfoldable pub statusFlags : Bool → Bool → ℕ
+statusFlags known old = joined 0 statusWidths (bit known ∷ bit old ∷ 0 ∷ [])
 
 abbrev pub isKnown : ℕ → Bool
 isKnown flags = isSet flags 5
+
+abbrev pub isOld : ℕ → Bool
+isOld flags = isSet flags 4

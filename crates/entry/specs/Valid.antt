@@ -19,12 +19,13 @@ pub record Alarm (e : Entry) : Type 0 where
   pub flags : e .flags ≡ alarmFlags event acknowledged active suspended
   pub value : e .value ≡ 0
 
--- kind 1, a status: a value of 32 bits, which is 0 if it is not known
+-- kind 1, a status: known or not, old or not, and a value of 32 bits, which is 0 if it is not known
 pub record Status (e : Entry) : Type 0 where
   pub kind : e .kind ≡ 1
   pub item : e .item < 32
   pub known : Bool
-  pub flags : e .flags ≡ statusFlags known
+  pub old : Bool
+  pub flags : e .flags ≡ statusFlags known old
   pub value : e .value < 2 ^ 32
   pub unknown : known ≡ false → e .value ≡ 0
 

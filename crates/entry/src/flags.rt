@@ -2,7 +2,7 @@
 ghost use mathlib.Core.Path.{_≡_};
 ghost use Prim.Native.Nat.{ℕ, _+_, _*_, _/_, _%_, _^_, _≤_, _<_};
 ghost use Rattle.basis.specs.Pick.{bit as bitOf};
-ghost use Rattle.entry.specs.Flags.{isSet, alarmFlags, statusFlags, eventOf, isAcknowledged, isActive, isSuspended, isKnown};
+ghost use Rattle.entry.specs.Flags.{isSet, alarmFlags, statusFlags, eventOf, isAcknowledged, isActive, isSuspended, isKnown, isOld};
 
 // An alarm's event, as aSp says it.
 pub const ISSUE: u16 = 0;
@@ -29,10 +29,12 @@ pub fn of_alarm(event: u16, acknowledged: bool, active: bool, suspended: bool) -
 }
 
 // The flags of a status.
-pub fn of_status(known: bool) -> u16
-    ensures { λ r. ⌜ r ≡ statusFlags known ⌝ }
+pub fn of_status(known: bool, old: bool) -> u16
+    ensures { λ r. ⌜ r ≡ statusFlags known old ⌝ }
 {
-    bits::push(bit(known), 5, 0) as u16
+    let f = bits::push(0, 1, bit(known));
+    let f = bits::push(f, 1, bit(old));
+    bits::push(f, 4, 0) as u16
 }
 
 fn is_set(flags: u16, shift: u32) -> bool
@@ -69,4 +71,10 @@ pub fn known(flags: u16) -> bool
     ensures { λ r. ⌜ r ≡ isKnown flags ⌝ }
 {
     is_set(flags, 5)
+}
+
+pub fn old(flags: u16) -> bool
+    ensures { λ r. ⌜ r ≡ isOld flags ⌝ }
+{
+    is_set(flags, 4)
 }

@@ -29,7 +29,7 @@ fn is_alarm(e: Entry) -> bool
     true
 }
 
-// Only the first flag may be set; without it there is no value.
+// Only the first two flags may be set; without the first there is no value.
 fn is_status(e: Entry) -> bool
     ensures { λ r. ⌜ Decides r (Status e) ⌝ }
 {
@@ -39,11 +39,14 @@ fn is_status(e: Entry) -> bool
     if 32 <= e.item {
         return false;
     }
-    if e.flags == 32 {
-        return true;
-    }
-    if e.flags != 0 {
+    if e.flags % 16 != 0 {
         return false;
+    }
+    if 64 <= e.flags {
+        return false;
+    }
+    if 32 <= e.flags {
+        return true;
     }
     if e.value != 0 {
         return false;

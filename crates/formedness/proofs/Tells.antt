@@ -2,7 +2,7 @@
 -- Assumes nothing.
 use Prim.Native.Nat.{ℕ, _%_, _^_, _≤_, _<_}
 use mathlib.Core.Path.{_≡_, refl, sym, _∙_, ap, subst}
-use mathlib.Core.Bool.{Bool}
+use mathlib.Core.Bool.{Bool, true, false}
 use mathlib.Core.List.{List, [], _∷_}
 use native.Mathlib.Omega.{arith}
 use native.Mathlib.Nat.{mod-lt}
@@ -16,7 +16,7 @@ use Rattle.number.specs.Signed.{signedOf}
 use Rattle.number.proofs.RoundTrip.{signed-range}
 use Rattle.identity.specs.Read.{SixteenBytes}
 use Rattle.entry.specs.declared.Entry.{Entry}
-use Rattle.entry.specs.Flags.{eventOf, isKnown}
+use Rattle.entry.specs.Flags.{eventOf, isKnown, isOld}
 use Rattle.entry.specs.Valid.{OfKind}
 use Rattle.entry.specs.Valid.{Alarm as AnAlarm, Status as AStatus, Aggregated as AnAggregated}
 use Rattle.entry.specs.Valid.OfKind.{an-alarm, a-status, an-aggregated}
@@ -30,7 +30,7 @@ use Rattle.write_message.specs.declared.Value.{Value}
 use Rattle.write_message.specs.declared.Value.the-variants.{Unknown}
 use Rattle.write_message.specs.Message.Message.{version}
 use Rattle.write_laws.specs.Formed.{Label, FormedState, FormedValue, FormedStatus, Formed}
-use Rattle.write_laws.specs.Formed.FormedValue.{recent, unknown}
+use Rattle.write_laws.specs.Formed.FormedValue.{recent, old, unknown}
 use Rattle.write_laws.specs.Formed.FormedStatuses.{none, more}
 use Rattle.write_laws.specs.Formed.Formed.{formed-version, formed-alarm, formed-aggregated, formed-statuses}
 use Rattle.site.specs.declared.Site.{Site}
@@ -40,11 +40,12 @@ use Rattle.sound.specs.Sound.{SoundStatus, itemsOf, EntryOf, SoundAt}
 use Rattle.formedness.specs.Formedness.{Messages}
 use Rattle.formedness.proofs.Rows.{label-text, component-label, site-label, sxl-label, alarm-row, alarm-allowed, status-row, status-allowed}
 
-pub known-formed : (w : ℕ) → w < 2 ^ 32 → FormedValue (knownValue w)
-known-formed w h = recent (signed-range w h)
+pub known-formed : (b : Bool) (w : ℕ) → w < 2 ^ 32 → FormedValue (knownValue b w)
+known-formed true w h = old (signed-range w h)
+known-formed false w h = recent (signed-range w h)
 
 pub value-formed : (x : Status) → SoundStatus x → FormedValue (statusValue x)
-value-formed x h = picked FormedValue (eqb (x .known) 1) (knownValue (x .value)) Unknown (λ e. known-formed (x .value) (h .value)) (λ e. unknown)
+value-formed x h = picked FormedValue (eqb (x .known) 1) (knownValue false (x .value)) Unknown (λ e. known-formed false (x .value) (h .value)) (λ e. unknown)
 
 module _ (now : ℕ) (s : Site) (h : SoundAt now s) (id : List ℕ) (sixteen : SixteenBytes id) where
   component-formed : (c : ℕ) → c < length (h .start .read .components) → Label (componentText s c)
@@ -102,7 +103,7 @@ module _ (now : ℕ) (s : Site) (h : SoundAt now s) (id : List ℕ) (sixteen : S
   held-status e a t i =
       subst (λ (row : Item). Formed (statusTold s id row (e .time) (heldValue e))) (status-row (s .linkcount) (s .primary) (s .period) (s .table) (h .start) (e .item) i)
       (status-told (getD (h .start .read .statuses) (e .item) noRow) (status-allowed (s .linkcount) (s .primary) (s .period) (s .table) (h .start) (e .item) i) (e .time) t (heldValue e)
-      (picked FormedValue (isKnown (e .flags)) (knownValue (e .value)) Unknown (λ k. known-formed (e .value) (a .value)) (λ k. unknown)))
+      (picked FormedValue (isKnown (e .flags)) (knownValue (isOld (e .flags)) (e .value)) Unknown (λ k. known-formed (isOld (e .flags)) (e .value) (a .value)) (λ k. unknown)))
 
   -- ---- records, by kind
   module _ (e : Entry) (g : EntryOf s now e) where

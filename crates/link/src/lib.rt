@@ -198,6 +198,12 @@ impl Link {
         Phase::Down
     }
 
+    pub fn up(self) -> bool
+        ensures { λ r. ⌜ r ≡ isUp (phaseOf self) ⌝ }
+    {
+        is_up(self.phase())
+    }
+
     pub fn connect(self) -> Link
         ensures { λ r. ⌜ r ≡ connectOf self ⌝ }
     {

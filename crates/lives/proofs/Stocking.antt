@@ -6,12 +6,12 @@ use mathlib.Core.Bool.{Bool, true, false}
 use Rattle.basis.specs.Pick.{pick, both}
 use Rattle.pool_laws.specs.Acts.Act.{Unmark}
 use Rattle.alarm.specs.Issued.{issuedOf as alarmRecord}
-use Rattle.status.specs.Issued.{issuedOf as statusRecord}
 use Rattle.aggregated.specs.Issued.{issuedOf as aggregatedRecord}
 use Rattle.subscription.specs.Subscription.{issuesOn, tickOf}
 use Rattle.site.specs.declared.Site.{Site}
-use Rattle.site.specs.Site.{closeAt, hasPrimary}
+use Rattle.site.specs.Site.{linkAt, closeAt, hasPrimary}
 use Rattle.site.specs.Parts.{statusAt, subscriptionAt}
+use Rattle.site.specs.Records.{statusRecord}
 use Rattle.call_input.specs.Inputs.{alarmChange, statusEntry, statusChange, aggregatedEntry, aggregatedChange}
 use Rattle.call_tick.specs.Closing.{lateAt, closeLate, closedTo}
 use Rattle.call_tick.specs.Intervals.{recordAt, recordsOf}
@@ -34,11 +34,11 @@ module _ (s : Site) where
   unfolding siteAfter
   tick-pool n time h = closed-stocked n time 4 h
 
-  tick-issued : (n time : ℕ) → AlarmsFor n (recordsOf (s .subscriptions) (s .statuses) time)
+  tick-issued : (n time : ℕ) → AlarmsFor n (recordsOf (s .subscriptions) (s .statuses) (siteAfter s time .links) time)
   unfolding recordsOf
   tick-issued n time =
-      alarms-to n (recordAt (s .subscriptions) (s .statuses) time) 128
-      (λ i. none-if n (tickOf (subscriptionAt s i) time .issues) (statusRecord (statusAt s (i % 32)) (i / 32) (i % 32) time) 0 refl)
+      alarms-to n (recordAt (s .subscriptions) (s .statuses) (siteAfter s time .links) time) 128
+      (λ i. none-if n (tickOf (subscriptionAt s i) time .issues) (statusRecord (linkAt (siteAfter s time) (i / 32)) (statusAt s (i % 32)) (i / 32) (i % 32) time) 0 refl)
 
   pub stocking : Stocking s
   stocking =
@@ -59,7 +59,7 @@ module _ (s : Site) where
                   alarms-to (s .primary) (statusEntry s k (statusChange s k value) time) (s .linkcount)
                   (λ l.
                   none-if (s .primary) (issuesOn (subscriptionAt s (l * 32 + k)) (statusChange s k value .changed))
-                  (statusRecord (statusChange s k value .status) l k time) 0 refl);
+                  (statusRecord (linkAt s l) (statusChange s k value .status) l k time) 0 refl);
             };
         aggregated = λ value time.
             record {

@@ -56,4 +56,5 @@ conversation =
       requested = refl;
       awaited-long = refl;
       statuses-told = refl;
+      old-issued = refl;
     }

@@ -55,7 +55,7 @@ pub record Marked : Type 0 where
   pub leap-day : timeText 951782400000 ≡ text "2000-02-29T00:00:00.000Z"
   pub a-time : timeText 1254398371571 ≡ text "2009-10-01T11:59:31.571Z"
   pub last-time : timeText lastTime ≡ text "9999-12-31T23:59:59.999Z"
-  pub status-record : recordBytes (heldAs 1 (ofStatus 5 (some (negsuc 1)) 1254398371571) 7 false)
+  pub status-record : recordBytes (heldAs 1 (ofStatus 5 (some (negsuc 1)) false 1254398371571) 7 false)
       ≡ 0x51 ∷ 0x60 ∷ 0x01 ∷ 0x24 ∷ 0x0F ∷ 0xF8 ∷ 0x26 ∷ 0xF3 ∷ 0xFF ∷ 0xFF ∷ 0xFF ∷ 0xFE ∷ 0x00 ∷ 0x00 ∷ 0x00 ∷ 0x07 ∷ []
   pub alarm-record : take 2 (recordBytes (heldAs 0 (ofAlarm 3 (alarmOf true false false Issue 1254398371571)) 7 false)) ≡ 0x00 ∷ 0xC4 ∷ []
   -- "held 64, 64, 0: a record for link 2 gives 63, 64, 1; the 16th gives 56, 56, 16; the 17th leaves these counts, link 2 losing its
@@ -112,3 +112,13 @@ pub record Conversation : Type 0 where
       ∷ says (notAck theirId (text "Bad value") ∷ [])
       ∷ says (ack theirId ∷ [])
       ∷ quiet ∷ quiet ∷ quiet ∷ []
+  -- issued while Up, and issued by a tick for a link that it closes: the first stays as it was issued, the second is old
+  pub old-issued : leaves up (atNoon (asks "StatusSubscribe" "C0\",\"sS\":[{\"sCI\":\"S1\",\"n\":\"release\",\"uRt\":\"30\",\"sOc\":true}]}")
+      ∷ atNoon (statusValue 0 (negsuc 1))
+      ∷ pumped 3
+      ∷ later 30000 tick
+      ∷ []) .pool .held
+      ≡ heldAs 0 (ofStatus 0 none false noon) 0 false
+      ∷ heldAs 0 (ofStatus 0 (some (negsuc 1)) false noon) 1 false
+      ∷ heldAs 0 (ofStatus 0 (some (negsuc 1)) true (noon + 30000)) 2 false
+      ∷ []

@@ -22,6 +22,7 @@ use Rattle.machine.specs.State.{
   withStatus,
   withAggregated,
   withSubscriptions,
+  lifeAt,
   valueAt,
   Effect,
   effect,
@@ -30,6 +31,7 @@ use Rattle.machine.specs.State.{
 use Rattle.machine.specs.State.Event.{Issue, Acknowledge, Suspend}
 use Rattle.machine.specs.State.Content.{ofAlarm, ofStatus, ofAggregated}
 use Rattle.machine.specs.Json.{booleanOf, entriesOf, elementIs}
+use Rattle.machine.specs.Life.{isUp}
 use Rattle.machine.specs.Answers.{interval, statusAsked}
 
 -- ---- alarms
@@ -75,9 +77,13 @@ happens m i (some a) = effect (withAlarm i a m) (told m i a) [] [] none
 abbrev pub isOf : ℕ → ℕ → Subscription → Bool
 isOf l i s = eqb (s .link) l and eqb (s .status) i
 
+-- "the second flag of a status record says that it was issued while its link was not Up": as m has the link
+abbrev pub statusFor : Machine → ℕ → ℕ → Option ℤ → ℕ → Issued
+statusFor m t l v i = issuedFor l (ofStatus i v (not (isUp (lifeAt m l))) t)
+
 -- the record that a subscription issues: the status' value, or that it has none
 abbrev pub update : Machine → ℕ → ℕ → ℕ → Issued
-update m t l i = issuedFor l (ofStatus i (valueAt m i) t)
+update m t l i = statusFor m t l (valueAt m i) i
 
 -- the status numbers that the entries of a packet ask for, in order
 abbrev pub numberAsked : Machine → Json → Json → ℕ
@@ -140,7 +146,7 @@ isNew v w = maybe true (λ x. not (sameValue v x)) w
 unfoldable pub becomes : Machine → ℕ → ℤ → ℕ → Effect
 becomes m i v t =
     if isNew v (valueAt m i) then
-    effect (withStatus i v m) (map (λ s. issuedFor (s .link) (ofStatus i (some v) t)) (upwards m (λ s. eqb (s .status) i and s .onChange))) [] [] none
+    effect (withStatus i v m) (map (λ s. statusFor m t (s .link) (some v) i) (upwards m (λ s. eqb (s .status) i and s .onChange))) [] [] none
     else only m
 
 -- ---- "The aggregated value starts all false at the start time; a changed one issues a record for every link."

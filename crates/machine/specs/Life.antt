@@ -132,7 +132,7 @@ sameAlarm a b =
 -- "If the newest held record of an alarm equals that alarm's last event, states and time, the message of this pass carries that record."
 abbrev pub alarmIn : ℕ → Content → Option Alarm
 alarmIn i (ofAlarm n a) = if eqb n i then some a else none
-alarmIn i (ofStatus n v t) = none
+alarmIn i (ofStatus n v old t) = none
 alarmIn i (ofAggregated v t) = none
 
 abbrev pub newest : ℕ → ℕ → Option Held → List Held → Option Held

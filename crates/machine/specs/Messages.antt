@@ -1,6 +1,7 @@
 -- Document 01: the messages that tell an alarm, the aggregated status, a record, and the answer to a StatusRequest.
 -- Assumes nothing.
 use Prim.Native.Nat.{ℕ}
+use mathlib.Core.Bool.{Bool, false}
 use mathlib.Core.List.{List, [], _∷_, map}
 use mathlib.Core.Option.{Option, some, none}
 use lib.IntN.{ℤ}
@@ -8,11 +9,11 @@ use Rattle.json_value.specs.Grammar.{Json}
 use Rattle.table_whole.specs.Table.{Row, Table}
 use Rattle.write_message.specs.declared.AlarmState.{AlarmState}
 use Rattle.write_message.specs.declared.Value.{Value}
-use Rattle.write_message.specs.declared.Value.the-variants.{Recent, Unknown, Undefined}
+use Rattle.write_message.specs.declared.Value.the-variants.{Recent, Old, Unknown, Undefined}
 use Rattle.write_message.specs.declared.Told.the-variants.{Response, Update}
 use Rattle.write_message.specs.Message.{Message, Status, status}
 use Rattle.write_message.specs.Message.Message.{alarm, aggregated, statuses}
-use Rattle.machine.specs.Words.{Bytes, maybe}
+use Rattle.machine.specs.Words.{Bytes, if_then_else_, maybe}
 use Rattle.machine.specs.State.{eventNumber, Alarm, Content, Machine, valueAt}
 use Rattle.machine.specs.State.Content.{ofAlarm, ofStatus, ofAggregated}
 use Rattle.machine.specs.Json.{stringOf, entriesOf}
@@ -40,21 +41,22 @@ alarmMessage t id i a = alarm id (componentText t (alarmRow t i .component)) (al
 abbrev pub aggregatedMessage : Table → Bytes → ℕ → ℕ → Message
 aggregatedMessage t id v time = aggregated id (componentText t 0) time v
 
--- "A status without a value so far: `s` null, `q` unknown. Otherwise `s` is the shortest decimal text, `q` recent."
-abbrev pub valueOf : Option ℤ → Value
-valueOf none = Unknown
-valueOf (some v) = Recent v
+-- "A status without a value so far: `s` null, `q` unknown. Otherwise `s` is the shortest decimal text, `q` recent", or old of a record
+-- that is old
+abbrev pub valueOf : Bool → Option ℤ → Value
+valueOf old none = Unknown
+valueOf old (some v) = if old then Old v else Recent v
 
 abbrev pub recordMessage : Table → Bytes → Content → Message
 recordMessage t id (ofAlarm i a) = alarmMessage t id i a
-recordMessage t id (ofStatus i v time) =
-    statuses Update id (componentText t (statusRow t i .component)) time (status (statusRow t i .code) (statusRow t i .name) (valueOf v) ∷ [])
+recordMessage t id (ofStatus i v old time) =
+    statuses Update id (componentText t (statusRow t i .component)) time (status (statusRow t i .code) (statusRow t i .name) (valueOf old v) ∷ [])
 recordMessage t id (ofAggregated v time) = aggregatedMessage t id v time
 
 -- "An unknown component in StatusRequest is answered with `s` null, `q` undefined (000)."
 abbrev pub answerEntry : Machine → Json → Json → Status
 answerEntry m j e =
-    status (stringOf "sCI" e) (stringOf "n" e) (maybe Undefined (λ c. valueOf (valueAt m (numberAsked m j e))) (componentAsked m j))
+    status (stringOf "sCI" e) (stringOf "n" e) (maybe Undefined (λ c. valueOf false (valueAt m (numberAsked m j e))) (componentAsked m j))
 
 abbrev pub responseMessage : Machine → ℕ → Bytes → Json → Message
 responseMessage m t id j = statuses Response id (stringOf "cId" j) t (map (answerEntry m j) (entriesOf "sS" j))

@@ -30,14 +30,14 @@ entry link kind item flags time value sequence =
     record { time = time; value = value; sequence = sequence; link = link; kind = kind; item = item; flags = flags }
 
 -- "A status holds a signed 32-bit value, two's complement (0 if unknown)"
-abbrev pub statusEntry : ℕ → ℕ → ℕ → ℕ → Option ℤ → Entry
-statusEntry link number time sequence none = entry link 1 number (statusFlags false) time 0 sequence
-statusEntry link number time sequence (some v) = entry link 1 number (statusFlags true) time (wordOf v) sequence
+abbrev pub statusEntry : ℕ → ℕ → Bool → ℕ → ℕ → Option ℤ → Entry
+statusEntry link number old time sequence none = entry link 1 number (statusFlags false old) time 0 sequence
+statusEntry link number old time sequence (some v) = entry link 1 number (statusFlags true old) time (wordOf v) sequence
 
 abbrev pub entryFor : ℕ → ℕ → Content → Entry
 entryFor link sequence (ofAlarm i a) =
     entry link 0 i (alarmFlags (eventNumber (a .event)) (a .acknowledged) (a .active) (a .suspended)) (a .time) 0 sequence
-entryFor link sequence (ofStatus i v time) = statusEntry link i time sequence v
+entryFor link sequence (ofStatus i v old time) = statusEntry link i old time sequence v
 entryFor link sequence (ofAggregated v time) = entry link 2 0 0 time v sequence
 
 abbrev pub recordBytes : Held → Bytes

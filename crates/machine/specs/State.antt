@@ -45,10 +45,10 @@ pub record Subscription : Type 0 where
   pub since : ℕ  -- "the subscribing call or the last tick that did so"
 
 -- ---- records
--- what a record tells: an alarm as it was at the event, a status' value, the aggregated value; and its time
+-- what a record tells: an alarm as it was at the event, a status' value and whether it is old, the aggregated value; and its time
 pub data Content : Type 0 where
   ofAlarm : (number : ℕ) (alarm : Alarm) → Content
-  ofStatus : (number : ℕ) (value : Option ℤ) (time : ℕ) → Content
+  ofStatus : (number : ℕ) (value : Option ℤ) (old : Bool) (time : ℕ) → Content
   ofAggregated : (value time : ℕ) → Content
 
 -- a record to be issued, and a held one

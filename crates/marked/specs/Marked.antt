@@ -3,7 +3,7 @@
 -- Assumes nothing.
 use Prim.Native.Nat.{ℕ}
 use mathlib.Core.Path.{_≡_}
-use mathlib.Core.Bool.{true}
+use mathlib.Core.Bool.{true, false}
 use mathlib.Core.List.{List, [], _∷_}
 use lib.IntN.{negsuc}
 use lib.ListN.{take}
@@ -29,9 +29,9 @@ pub record Row : Type 0 where
   pub computed : List ℕ
   pub said : List ℕ
 
--- link 1, status 5, known, 1254398371571, -2, sequence 7
+-- link 1, status 5, known, 1254398371571, -2, sequence 7: issued on an Up link
 abbrev pub status : Entry
-status = renumbered (statusRecord (holding (wordOf (negsuc 1))) 1 5 1254398371571) 7
+status = renumbered (statusRecord (holding (wordOf (negsuc 1))) 1 5 1254398371571 false) 7
 
 -- alarm 3, link 0, Issue, unacknowledged, active, not suspended: an alarm that has become active
 abbrev pub alarm : ℕ → ℕ → Entry

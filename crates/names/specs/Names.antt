@@ -39,7 +39,8 @@ abbrev pub words : List (List ℕ)
 words =
     text "rSMsg" ∷ text "Issue" ∷ text "Request" ∷ text "Acknowledge" ∷ text "Suspend" ∷ text "Resume"
     ∷ text "Acknowledged" ∷ text "notAcknowledged" ∷ text "Active" ∷ text "inActive" ∷ text "Suspended"
-    ∷ text "notSuspended" ∷ text "T" ∷ text "D" ∷ text "recent" ∷ text "unknown" ∷ text "undefined" ∷ []
+    ∷ text "notSuspended" ∷ text "T" ∷ text "D" ∷ text "recent" ∷ text "unknown" ∷ text "undefined" ∷ text "old"
+    ∷ []
 
 -- all of them: types, reasons, elements, words
 abbrev pub names : List (List ℕ)

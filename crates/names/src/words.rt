@@ -35,4 +35,6 @@ pub const UNKNOWN: usize = elements::END + 15;
 
 pub const UNDEFINED: usize = elements::END + 16;
 
-pub const END: usize = elements::END + 17;
+pub const OLD: usize = elements::END + 17;
+
+pub const END: usize = elements::END + 18;

@@ -6,7 +6,6 @@ use mathlib.Core.List.{List, [], _∷_, _++_}
 use Rattle.basis.specs.Pick.{pick}
 use Rattle.answer.specs.Given.Hint.{none as noHint}
 use Rattle.entry.specs.declared.Entry.{Entry}
-use Rattle.status.specs.Issued.{issuedOf}
 use Rattle.subscription.specs.declared.Subscription.{Subscription}
 use Rattle.subscription.specs.Subscription.{none, subscribed}
 use Rattle.read_lists.specs.declared.StatusEntry.{StatusEntry}
@@ -15,7 +14,9 @@ use Rattle.packet_lookup.specs.declared.Sought.{Sought}
 use Rattle.packet_lookup.specs.declared.Sought.the-variants.{Is, Nothing}
 use Rattle.packet_lookup.specs.Sought.{componentSought, statusSought, entryAt, allStatuses}
 use Rattle.site.specs.declared.Site.{Site}
+use Rattle.site.specs.Site.{linkAt}
 use Rattle.site.specs.Parts.{statusAt, withSubscription}
+use Rattle.site.specs.Records.{statusRecord}
 use Rattle.packet_answer.specs.Taken.{Taken, notAcked, acked, byVerdict, unknownStatus}
 
 -- what an entry asks for, or no subscription
@@ -35,7 +36,7 @@ replaced subscribing s l time c es (suc n) =
 
 -- "A subscription issues a record at once": the status' value now, for the link
 abbrev pub recordOf : Site → ℕ → ℕ → Sought → List Entry
-recordOf s l time (Is k) = issuedOf (statusAt s k) l k time ∷ []
+recordOf s l time (Is k) = statusRecord (linkAt s l) (statusAt s k) l k time ∷ []
 recordOf s l time Nothing = []
 
 -- of the first n entries, "entries in order"

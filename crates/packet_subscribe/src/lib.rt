@@ -89,7 +89,8 @@ fn issue_of(b: Batch, s: Site, l: u16, time: u64, k: u8) -> Batch
     ensures { λ r. ⌜ r ≡ addedAll 4 b (recordOf s l time (Sought.Is k)) ⌝ }
 {
     let v = site::parts::status(s, k as usize);
-    b.add(v.issued(l, k as u16, time))
+    let n = s.link(l);
+    b.add(site::records::status(n, v, l, k as u16, time))
 }
 
 fn issue(b: Batch, s: Site, l: u16, time: u64, status: Sought) -> Batch

@@ -8,7 +8,6 @@ use lib.ListN.{length-set}
 use Rattle.basis.specs.Pick.{pick}
 use Rattle.answer.specs.Given.Hint.{none as no-hint}
 use Rattle.identity.specs.declared.Identity.{Identity}
-use Rattle.status.specs.Issued.{issuedOf}
 use Rattle.subscription.specs.declared.Subscription.{Subscription}
 use Rattle.link.specs.Acts.Act.{OtherOut}
 use Rattle.read_lists.specs.declared.StatusEntry.{StatusEntry}
@@ -17,7 +16,9 @@ use Rattle.packet_lookup.specs.declared.Sought.{Sought}
 use Rattle.packet_lookup.specs.declared.Sought.the-variants.{Is, Nothing}
 use Rattle.packet_lookup.specs.Sought.{componentSought, statusSought, entryAt, allStatuses}
 use Rattle.site.specs.declared.Site.{Site}
+use Rattle.site.specs.Site.{linkAt}
 use Rattle.site.specs.Parts.{statusAt}
+use Rattle.site.specs.Records.{statusRecord}
 use Rattle.packet_answer.specs.Taken.{notAcked, unknownStatus}
 use Rattle.packet_subscribe.specs.Subscribing.{wanted, replacedAt, replaced, recordOf, records, changed, judged, asked, subscribingTaken}
 use Rattle.packet_subscribe.proofs.Kept.{kept}
@@ -70,7 +71,7 @@ module _ (b : Bool) (s : Site) (l time : ℕ) where
       (by (statusSought (s .table) c (entryAt es n)))
     where
       by : (q : Sought) → AlarmsFor (s .primary) (recordOf s l time q)
-      by (Is k) = none-if (s .primary) true (issuedOf (statusAt s k) l k time) 0 refl
+      by (Is k) = none-if (s .primary) true (statusRecord (linkAt s l) (statusAt s k) l k time) 0 refl
       by Nothing = tt
 
   issued-by : (c : ℕ) (es : List StatusEntry) (n : ℕ) (t : Bool) → AlarmsFor (s .primary) (pick t (records s l time c es n) [])

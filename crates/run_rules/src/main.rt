@@ -149,14 +149,18 @@ fn acted(kind: u8, g: Given, rules: Rules) -> Outcome {
         b'0' => unchanged(begin(g.time)),
         b'v' => on_value(g, rules),
         b't' => on_tick(g, rules),
-        b'b' => with_subscription(Subscription::subscribe(g.value, g.byte == 1, g.time), rules),
+        b'b' => with_subscription(
+            Subscription::subscribe(g.value, g.byte % 2 == 1, g.time),
+            rules,
+        ),
         b'e' => with_subscription(Subscription::none(), rules),
         b'g' => on_aggregated(g, rules),
         _ => unchanged(rules),
     }
 }
 
-// The record that the act's part of the rules now has: of the alarm, the aggregated value, or else the status.
+// The record that the act's part of the rules now has: of the alarm, the aggregated value, or else the status, which is old by the byte's
+// second bit.
 fn entry_of(kind: u8, g: Given, rules: Rules) -> Entry {
     let alarm = rules.alarm;
     let status = rules.status;
@@ -167,7 +171,7 @@ fn entry_of(kind: u8, g: Given, rules: Rules) -> Entry {
     if kind == b'g' || kind == b'G' {
         return aggregated.issued(g.link);
     }
-    status.issued(g.link, g.number, g.time)
+    status.issued(g.link, g.number, g.time, g.byte / 2 % 2 == 1)
 }
 
 fn put_bool(line: &mut [u8], at: usize, b: bool) -> usize {

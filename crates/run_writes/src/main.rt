@@ -59,6 +59,7 @@ fn value_in(s: &[u8], at: usize) -> Value {
     match byte_in(s, at) {
         0 => Value::Recent(signed_in(s, at + 1)),
         1 => Value::Unknown,
+        3 => Value::Old(signed_in(s, at + 1)),
         _ => Value::Undefined,
     }
 }

@@ -1,6 +1,7 @@
 -- The messages that tell a part of the site. `id` is the sixteen bytes of the message's identity.
 -- Assumes nothing.
 use Prim.Native.Nat.{ℕ, _%_}
+use mathlib.Core.Bool.{Bool, false}
 use mathlib.Core.List.{List, [], _∷_}
 use lib.Dec.{eqb}
 use Rattle.basis.specs.Pick.{pick}
@@ -9,11 +10,11 @@ use Rattle.table_item.specs.declared.Item.{Item}
 use Rattle.alarm.specs.declared.Alarm.{Alarm}
 use Rattle.status.specs.declared.Status.{Status}
 use Rattle.entry.specs.declared.Entry.{Entry}
-use Rattle.entry.specs.Flags.{eventOf, isAcknowledged, isActive, isSuspended, isKnown}
+use Rattle.entry.specs.Flags.{eventOf, isAcknowledged, isActive, isSuspended, isKnown, isOld}
 use Rattle.number.specs.Signed.{signedOf}
 use Rattle.write_message.specs.declared.AlarmState.{AlarmState}
 use Rattle.write_message.specs.declared.Value.{Value}
-use Rattle.write_message.specs.declared.Value.the-variants.{Recent, Unknown}
+use Rattle.write_message.specs.declared.Value.the-variants.{Recent, Old, Unknown}
 use Rattle.write_message.specs.declared.Told.the-variants.{Update}
 use Rattle.write_message.specs.Message.{Message, status}
 use Rattle.write_message.specs.Message.{Status as Told}
@@ -66,15 +67,21 @@ aggregatedTold s id time value = aggregated id (componentText s 0) time (value %
 abbrev pub aggregatedMessage : Site → List ℕ → Message
 aggregatedMessage s id = aggregatedTold s id (s .aggregated .time) (s .aggregated .value)
 
--- a word of 32 bits that is known, or not
-abbrev pub knownValue : ℕ → Value
-knownValue w = Recent (signedOf w)
+-- a word of 32 bits that is known, old or not
+abbrev pub knownValue : Bool → ℕ → Value
+knownValue old w = pick old (Old (signedOf w)) (Recent (signedOf w))
 
+-- "an unknown value stays unknown"
+abbrev pub valueOf : Bool → Status → Value
+valueOf old x = pick (eqb (x .known) 1) (knownValue old (x .value)) Unknown
+
+-- as it is
 abbrev pub statusValue : Status → Value
-statusValue x = pick (eqb (x .known) 1) (knownValue (x .value)) Unknown
+statusValue x = valueOf false x
 
+-- as its record says: the flag that it was issued with decides, however its link stands now
 abbrev pub heldValue : Entry → Value
-heldValue e = pick (isKnown (e .flags)) (knownValue (e .value)) Unknown
+heldValue e = pick (isKnown (e .flags)) (knownValue (isOld (e .flags)) (e .value)) Unknown
 
 -- a row's entry with this value
 abbrev pub rowTold : Item → Value → Told

@@ -1,5 +1,6 @@
 // The messages that tell a part of the site, put into a lent output.
 ghost use mathlib.Core.Path.{_≡_};
+ghost use mathlib.Core.Bool.{true, false};
 ghost use Prim.Native.Nat.{_%_};
 ghost use Rattle.output.specs.Put.{Wrote};
 ghost use Rattle.write_message.specs.Pieces.{pieces};
@@ -46,10 +47,25 @@ fn held_state(e: Entry, row: Item) -> AlarmState
     }
 }
 
-fn known_value(w: u32) -> Value
-    ensures { λ r. ⌜ r ≡ knownValue w ⌝ }
+fn recent_value(w: u32) -> Value
+    ensures { λ r. ⌜ r ≡ knownValue false w ⌝ }
 {
     Value::Recent(number::signed_of(w))
+}
+
+fn old_value(w: u32) -> Value
+    ensures { λ r. ⌜ r ≡ knownValue true w ⌝ }
+{
+    Value::Old(number::signed_of(w))
+}
+
+fn known_value(old: bool, w: u32) -> Value
+    ensures { λ r. ⌜ r ≡ knownValue old w ⌝ }
+{
+    if old {
+        return old_value(w);
+    }
+    recent_value(w)
 }
 
 // What is told of a status.
@@ -57,7 +73,7 @@ pub fn status_value(x: Status) -> Value
     ensures { λ r. ⌜ r ≡ statusValue x ⌝ }
 {
     if x.known == 1 {
-        return known_value(x.value);
+        return recent_value(x.value);
     }
     Value::Unknown
 }
@@ -67,7 +83,7 @@ fn held_value(e: Entry) -> Value
     ensures { λ r. ⌜ r ≡ heldValue e ⌝ }
 {
     if flags::known(e.flags) {
-        return known_value(e.value);
+        return known_value(flags::old(e.flags), e.value);
     }
     Value::Unknown
 }

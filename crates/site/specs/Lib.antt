@@ -1,3 +1,4 @@
 pub mod Site
 pub mod Call
 pub mod Parts
+pub mod Records

@@ -18,6 +18,7 @@ use table_whole::SiteTable;
 
 mod lists; // lists.rt: one element of a list
 pub mod parts; // parts.rt: one element of a list of the site, read and replaced
+pub mod records; // records.rt: the record of a status for a link
 
 // The subscription of link l to status k stands at l * 32 + k. There is no primary where primary is 65535.
 #[repr(C)]

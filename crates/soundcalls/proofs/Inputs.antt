@@ -14,7 +14,6 @@ use Rattle.basis.proofs.Both.{both-true}
 use Rattle.number.specs.Signed.{Signed32, wordOf}
 use Rattle.number.proofs.RoundTrip.{word-lt}
 use Rattle.status.specs.Status.{holding}
-use Rattle.status.specs.Issued.{issuedOf as statusRecord}
 use Rattle.status.proofs.Records.{issued-valid as status-valid}
 use Rattle.aggregated.specs.declared.Aggregated.{Aggregated}
 use Rattle.aggregated.specs.declared.Set.{Set}
@@ -22,11 +21,13 @@ use Rattle.aggregated.specs.Aggregated.{setOf}
 use Rattle.aggregated.specs.Issued.{issuedOf as aggregatedRecord}
 use Rattle.aggregated.proofs.Records.{issued-valid as aggregated-valid}
 use Rattle.alarm.specs.Issued.{issuedOf as alarmRecord}
+use Rattle.link.specs.declared.Link.{Link}
 use Rattle.link.specs.Steps.{connectOf}
 use Rattle.subscription.specs.Subscription.{issuesOn}
 use Rattle.site.specs.declared.Site.{Site}
 use Rattle.site.specs.Site.{linkAt, hasPrimary}
 use Rattle.site.specs.Parts.{alarmAt, subscriptionAt}
+use Rattle.site.specs.Records.{statusRecord}
 use Rattle.call_link.specs.Connect.{connectPlan, disconnectPlan}
 use Rattle.call_input.specs.Inputs.{alarmChange, alarmPlan, statusChange, statusEntry, statusPlan, aggregatedChange, aggregatedEntry, aggregatedPlan}
 use Rattle.sound.specs.Sound.{SoundAggregated, SoundEntry, EntryOf, SoundAt}
@@ -54,13 +55,13 @@ module _ (s : Site) (time : ℕ) (h : SoundAt time s) where
             (ltb-true (s .primary) (s .linkcount) (both-true (c .records) (hasPrimary s) t .1)) i);
       }
 
-  pub status-entry : (l k value known : ℕ) → value < 2 ^ 32 → l < s .linkcount → k < s .table .statuscount
-      → EntryOf s time (statusRecord (record { value = value; known = known }) l k time)
-  status-entry l k value known v g i =
+  pub status-entry : (n : Link) (l k value known : ℕ) → value < 2 ^ 32 → l < s .linkcount → k < s .table .statuscount
+      → EntryOf s time (statusRecord n (record { value = value; known = known }) l k time)
+  status-entry n l k value known v g i =
       let few = few-statuses (s .linkcount) (s .primary) (s .period) (s .table) (h .start) in
       let four = h .start .most-links in
       record {
-        valid = status-valid (record { value = value; known = known }) l k time v (omega (arith, g, four)) (omega (arith, i, few)) (h .last);
+        valid = status-valid (record { value = value; known = known }) l k time _ v (omega (arith, g, four)) (omega (arith, i, few)) (h .last);
         link = g;
         item = i;
         time = omega arith;
@@ -73,8 +74,8 @@ module _ (s : Site) (time : ℕ) (h : SoundAt time s) where
       record {
         site = with-status time s h k (holding (wordOf value)) (record { known = lit≤ tt; value = word-lt value v });
         issued = each-to (EntryOf s time) (statusEntry s k x time) (s .linkcount)
-            (λ l g. each-if (EntryOf s time) (issuesOn (subscriptionAt s (l * 32 + k)) (x .changed)) (statusRecord (x .status) l k time)
-            (λ t. status-entry l k (wordOf value) 1 (word-lt value v) g i));
+            (λ l g. each-if (EntryOf s time) (issuesOn (subscriptionAt s (l * 32 + k)) (x .changed)) (statusRecord (linkAt s l) (x .status) l k time)
+            (λ t. status-entry (linkAt s l) l k (wordOf value) 1 (word-lt value v) g i));
       }
 
   set-sound : (value : ℕ) → value < 256 → SoundAggregated time (setOf (s .aggregated) value time .aggregated)

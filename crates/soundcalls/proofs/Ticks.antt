@@ -9,15 +9,15 @@ use native.Mathlib.Omega.{arith}
 use lib.ListN.{length, getD, length-map, List·getD-map}
 use Rattle.basis.proofs.Cases.{picked, lt-or-ge}
 use Rattle.entry.specs.declared.Entry.{Entry}
-use Rattle.status.specs.Issued.{issuedOf}
 use Rattle.subscription.specs.declared.Subscription.{Subscription}
 use Rattle.subscription.specs.Subscription.{none, dueAt, tickOf}
 use Rattle.site.specs.declared.Site.{Site}
-use Rattle.site.specs.Site.{closeAt}
+use Rattle.site.specs.Site.{linkAt, closeAt}
 use Rattle.site.specs.Parts.{statusAt}
+use Rattle.site.specs.Records.{statusRecord}
 use Rattle.call_tick.specs.Closing.{lateAt, closeLate, closedTo}
-use Rattle.call_tick.specs.Intervals.{renewed, recordAt, recordsOf, issuedAt}
-use Rattle.call_tick.specs.Tick.{siteAfter, tickPlan}
+use Rattle.call_tick.specs.Intervals.{renewed, recordAt, recordsOf}
+use Rattle.call_tick.specs.Tick.{siteAfter, issuedAt, tickPlan}
 use Rattle.call_tick.specs.Claims.{exceptFor}
 use Rattle.call_tick.proofs.Closed.{stays}
 use Rattle.sound.specs.Sound.{SoundSubscriptions, Each, EntryOf, SoundAt}
@@ -89,9 +89,9 @@ module _ (s : Site) (time : ℕ) (h : SoundAt time s) where
   entries-sound : Each (EntryOf s time) (issuedAt s time)
   unfolding recordsOf
   entries-sound =
-      each-to (EntryOf s time) (recordAt (s .subscriptions) (s .statuses) time) 128
-      (λ i g. each-if (EntryOf s time) (tickOf (getD (s .subscriptions) i none) time .issues) (issuedOf (statusAt s (i % 32)) (i / 32) (i % 32) time)
-      (λ t. status-entry s time h (i / 32) (i % 32) (statusAt s (i % 32) .value) (statusAt s (i % 32) .known) (h .statuses .each (i % 32) .value) (configured i t) (in-table i t)))
+      each-to (EntryOf s time) (recordAt (s .subscriptions) (s .statuses) (siteAfter s time .links) time) 128
+      (λ i g. each-if (EntryOf s time) (tickOf (getD (s .subscriptions) i none) time .issues) (statusRecord (linkAt (siteAfter s time) (i / 32)) (statusAt s (i % 32)) (i / 32) (i % 32) time)
+      (λ t. status-entry s time h (linkAt (siteAfter s time) (i / 32)) (i / 32) (i % 32) (statusAt s (i % 32) .value) (statusAt s (i % 32) .known) (h .statuses .each (i % 32) .value) (configured i t) (in-table i t)))
 
   pub tick-plan : SoundPlan time (tickPlan s time)
   unfolding siteAfter

@@ -11,7 +11,6 @@ use lib.Seq.{getD-set-other}
 use Rattle.basis.specs.Pick.{pick}
 use Rattle.basis.proofs.Cases.{picked}
 use Rattle.entry.specs.declared.Entry.{Entry}
-use Rattle.status.specs.Issued.{issuedOf}
 use Rattle.subscription.specs.declared.Subscription.{Subscription}
 use Rattle.subscription.specs.Subscription.{none}
 use Rattle.read_lists.specs.declared.StatusEntry.{StatusEntry}
@@ -20,6 +19,7 @@ use Rattle.packet_lookup.specs.declared.Sought.{Sought}
 use Rattle.packet_lookup.specs.declared.Sought.the-variants.{Is, Nothing}
 use Rattle.packet_lookup.specs.Sought.{componentSought, statusSought, entryAt, allStatuses}
 use Rattle.site.specs.declared.Site.{Site}
+use Rattle.site.specs.Site.{linkAt}
 use Rattle.site.specs.Parts.{statusAt, withSubscription}
 use Rattle.packet_answer.specs.Taken.{Taken, notAcked, unknownStatus}
 use Rattle.packet_subscribe.specs.Subscribing.{wanted, replacedAt, replaced, recordOf, records, changed, judged, asked, subscribingTaken}
@@ -74,7 +74,7 @@ module _ (s : Site) (time : ℕ) (h : SoundAt time s) (l : ℕ) (configured : l 
       (status-below (s .linkcount) (s .primary) (s .period) (s .table) (h .start) c (entryAt es n))
 
   record-sound : (k : Sought) → Below (s .table .statuscount) k → Each (EntryOf s time) (recordOf s l time k)
-  record-sound (Is k) i = (status-entry s time h l k (statusAt s k .value) (statusAt s k .known) (h .statuses .each k .value) configured i, tt)
+  record-sound (Is k) i = (status-entry s time h (linkAt s l) l k (statusAt s k .value) (statusAt s k .known) (h .statuses .each k .value) configured i, tt)
   record-sound Nothing i = tt
 
   records-sound : (c : ℕ) (es : List StatusEntry) (n : ℕ) → Each (EntryOf s time) (records s l time c es n)

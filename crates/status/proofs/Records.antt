@@ -11,8 +11,8 @@ use Rattle.entry.specs.Valid.OfKind.{a-status}
 use Rattle.status.specs.declared.Status.{Status}
 use Rattle.status.specs.Issued.{issuedOf}
 
-pub issued-valid : (s : Status) (link number time : ℕ) → s .value < 2 ^ 32 → link < 4 → number < 32 → time ≤ latest → Valid (issuedOf s link number time)
-issued-valid s link number time v l n t =
+pub issued-valid : (s : Status) (link number time : ℕ) (old : Bool) → s .value < 2 ^ 32 → link < 4 → number < 32 → time ≤ latest → Valid (issuedOf s link number time old)
+issued-valid s link number time old v l n t =
     record {
       link = l;
       time = t;
@@ -21,6 +21,7 @@ issued-valid s link number time v l n t =
         kind = refl;
         item = n;
         known = eqb (s .known) 1;
+        old = old;
         flags = refl;
         value = picked (λ (x : ℕ). x < 2 ^ 32) (eqb (s .known) 1) (s .value) 0 (λ e. v) (λ e. lit< tt);
         unknown = λ e. ap (λ (b : Bool). pick b (s .value) 0) e;

@@ -1,15 +1,16 @@
 -- The record of a status' value.
 -- Assumes nothing.
 use Prim.Native.Nat.{ℕ}
+use mathlib.Core.Bool.{Bool}
 use lib.Dec.{eqb}
 use Rattle.entry.specs.declared.Entry.{Entry}
 use Rattle.entry.specs.Flags.{statusFlags}
 use Rattle.status.specs.declared.Status.{Status}
 use Rattle.status.specs.Status.{heldOf}
 
--- kind 1, the status' number, whether the value is known, the value or 0; the pool gives the sequence number
-abbrev pub issuedOf : Status → ℕ → ℕ → ℕ → Entry
-issuedOf s link number time =
+-- kind 1, the status' number, whether the value is known and whether it is old, the value or 0; the pool gives the sequence number
+abbrev pub issuedOf : Status → ℕ → ℕ → ℕ → Bool → Entry
+issuedOf s link number time old =
     record {
       time = time;
       value = heldOf s;
@@ -17,5 +18,5 @@ issuedOf s link number time =
       link = link;
       kind = 1;
       item = number;
-      flags = statusFlags (eqb (s .known) 1);
+      flags = statusFlags (eqb (s .known) 1) old;
     }

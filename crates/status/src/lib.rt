@@ -59,8 +59,8 @@ impl Status {
     }
 
     // The record of the value for a link, before it has its sequence number.
-    pub fn issued(self, link: u16, number: u16, time: u64) -> Entry
-        ensures { λ r. ⌜ r ≡ issuedOf self link number time ⌝ }
+    pub fn issued(self, link: u16, number: u16, time: u64, old: bool) -> Entry
+        ensures { λ r. ⌜ r ≡ issuedOf self link number time old ⌝ }
     {
         Entry {
             time: time,
@@ -69,7 +69,7 @@ impl Status {
             link: link,
             kind: entry::STATUS,
             item: number,
-            flags: flags::of_status(self.known == 1),
+            flags: flags::of_status(self.known == 1, old),
         }
     }
 }

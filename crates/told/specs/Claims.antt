@@ -3,12 +3,10 @@
 -- Assumes nothing.
 use Prim.Native.Nat.{ℕ, _+_, _*_, _≤_, _<_}
 use mathlib.Core.Path.{_≡_}
-use mathlib.Core.Bool.{Bool, true, false}
+use mathlib.Core.Bool.{true}
 use mathlib.Core.List.{List, [], _∷_}
 use Rattle.answer.specs.Number.{isDone}
-use Rattle.link.specs.declared.Phase.{Phase}
-use Rattle.link.specs.declared.Phase.the-variants.{Down, Greeting, Beating, Up}
-use Rattle.link.specs.Phase.{phaseOf}
+use Rattle.link.specs.Phase.{phaseOf, isUp as isUpPhase}
 use Rattle.pool_batch.specs.Laws.{numbered}
 use Rattle.site.specs.declared.Site.{Site}
 use Rattle.site.specs.Site.{linkAt}
@@ -21,22 +19,20 @@ use Rattle.told.specs.Life.{isUp, lifeOf}
 use Rattle.told.specs.Items.{alarmAfter, statusAfter, aggregatedAfter, subscriptionAfter}
 use Rattle.told.specs.Issued.{recordsBy, nextNumber, issuedBy}
 
-abbrev pub isUpPhase : Phase → Bool
-isUpPhase Down = false
-isUpPhase Greeting = false
-isUpPhase Beating = false
-isUpPhase Up = true
-
 -- the upper limits of what start accepts
 pub record Fits (g : Setup) : Type 0 where
   pub links : g .links ≤ 4
   pub alarms : g .table .alarmcount ≤ 32
   pub statuses : g .table .statuscount ≤ 32
 
+-- a call on a site, with the answer that it gives
+abbrev pub toldOn : Site → Call → Told
+toldOn s c = record { call = c; answer = stepBy s c .answer }
+
 -- the calls of a sequence, each with the answer that it gave
 abbrev pub toldBy : Site → List Call → List Told
 toldBy s [] = []
-toldBy s (c ∷ cs) = record { call = c; answer = stepBy (siteAfter s cs) c .answer } ∷ toldBy s cs
+toldBy s (c ∷ cs) = toldOn (siteAfter s cs) c ∷ toldBy s cs
 
 -- the parts of the site that records are made of
 pub record SameItems (g : Setup) (s : Site) (h : List Told) : Type 0 where
@@ -53,11 +49,12 @@ SameUp g s h = (l : ℕ) → l < 4 → isUpPhase (phaseOf (linkAt s l)) ≡ isUp
 
 -- one done call
 pub record Steps (g : Setup) (s : Site) (h : List Told) (c : Call) : Type 0 where
-  pub issued : planOf s c .issued ≡ recordsBy g h c
-  pub items : SameItems g (planOf s c .site) (record { call = c; answer = stepBy s c .answer } ∷ h)
+  pub issued : planOf s c .issued ≡ recordsBy g h (stepBy s c .answer) c
+  pub items : SameItems g (planOf s c .site) (toldOn s c ∷ h)
 
 abbrev pub StepsAll : Call → Type 0
-StepsAll c = (g : Setup) (s : Site) (h : List Told) → Fits g → Shaped s → SameItems g s h → SameUp g s h → isDone (stepBy s c .answer) ≡ true → Steps g s h c
+StepsAll c = (g : Setup) (s : Site) (h : List Told) → Fits g → Shaped s → SameItems g s h → SameUp g s h
+    → SameUp g (stepBy s c .site) (toldOn s c ∷ h) → isDone (stepBy s c .answer) ≡ true → Steps g s h c
 
 -- ---- over every sequence
 abbrev pub started : Setup → ℕ → Site
@@ -71,7 +68,7 @@ pub record Agrees (g : Setup) (s : Site) (h : List Told) : Type 0 where
   pub up : SameUp g s h
   pub next : s .next ≡ nextNumber g h
   -- "Each call issues .. what that document lays down and nothing else"
-  pub issued : (c : Call) → isDone (stepBy s c .answer) ≡ true → numbered (s .next) (planOf s c .issued) ≡ issuedBy g h c
+  pub issued : (c : Call) → isDone (stepBy s c .answer) ≡ true → numbered (s .next) (planOf s c .issued) ≡ issuedBy g h (toldOn s c)
 
 abbrev pub AgreesAll : Type 0
 AgreesAll = (g : Setup) (period : ℕ) (cs : List Call) → Fits g → Agrees g (siteAfter (started g period) cs) (toldBy (started g period) cs)

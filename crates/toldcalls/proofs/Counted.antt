@@ -4,7 +4,7 @@ use Prim.Native.Nat.{ℕ, zero, suc, _*_, _≤_, _<_}
 use mathlib.Core.Path.{_≡_, refl, sym, ap, subst⁻¹, _∙_}
 use mathlib.Core.Bool.{Bool, true, false, not}
 use mathlib.Core.Logic.{_⊎_, inl, inr}
-use mathlib.Core.List.{List, []}
+use mathlib.Core.List.{List, [], _∷_}
 use native.Mathlib.Omega.{arith}
 use lib.Dec.{eqb}
 use lib.IntN.{ℤ}
@@ -14,6 +14,7 @@ use Rattle.basis.specs.Pick.{pick, both, bit}
 use Rattle.basis.proofs.Cases.{lt-or-ge}
 use Rattle.basis.proofs.Both.{untrue}
 use Rattle.number.specs.Signed.{wordOf}
+use Rattle.answer.specs.declared.Answer.{Answer}
 use Rattle.entry.specs.declared.Entry.{Entry}
 use Rattle.alarm.specs.Alarm.{nothing, event, issued, inputOf}
 use Rattle.alarm.specs.Issued.{issuedOf as alarmRecord}
@@ -27,10 +28,10 @@ use Rattle.aggregated.specs.Issued.{issuedOf as aggregatedRecord}
 use Rattle.call_records.specs.Upwards.{entriesTo, entryIf}
 use Rattle.call_records.proofs.Entries.{none-to}
 use Rattle.holding.specs.Touches.{issuedFor}
-use Rattle.calls.specs.Calls.Call.{alarm}
+use Rattle.calls.specs.Calls.Call.{alarm, tick}
 use Rattle.told.specs.Told.{Setup, Told, hasPrimary}
 use Rattle.told.specs.Items.{alarmAfter, statusAfter, aggregatedAfter, subscriptionAfter}
-use Rattle.told.specs.Issued.{alarmRecords, alarmsIssued, valueSet, valueRecord, aggregatedRecords, tickRecord, tickRecords}
+use Rattle.told.specs.Issued.{isOld, alarmRecords, alarmsIssued, valueSet, valueRecord, aggregatedRecords, tickRecord, tickRecords}
 use Rattle.told.proofs.OneOf.{one-of}
 use Rattle.toldcalls.specs.Records.{RecordsAll}
 use Rattle.toldcalls.proofs.Inputs.{entryOf, others, own}
@@ -103,20 +104,20 @@ module _ (g : Setup) (h : List Told) (k : ℕ) (active : Bool) (t : ℕ) where
 
 -- ---- statuses and the aggregated value
 module _ (g : Setup) (h : List Told) where
-  unsaid : (k : ℕ) (value t : ℕ) (x : Status) → x ≡ holding value → (l : ℕ)
-      → entryIf (issuesOn (subscriptionAfter g h l k) (statusSet x value .changed)) (statusRecord (statusSet x value .status) l k t) ≡ []
-  unsaid k value t x e l =
-      ap (λ (y : Status). entryIf (issuesOn (subscriptionAfter g h l k) (statusSet y value .changed)) (statusRecord (statusSet y value .status) l k t)) e
+  unsaid : (k : ℕ) (value t : ℕ) (x : Status) → x ≡ holding value → (l : ℕ) (old : Bool)
+      → entryIf (issuesOn (subscriptionAfter g h l k) (statusSet x value .changed)) (statusRecord (statusSet x value .status) l k t old) ≡ []
+  unsaid k value t x e l old =
+      ap (λ (y : Status). entryIf (issuesOn (subscriptionAfter g h l k) (statusSet y value .changed)) (statusRecord (statusSet y value .status) l k t old)) e
       ∙ by (eqb value value) (eq-eqb value value refl)
     where
-      by : (b : Bool) → b ≡ true → entryIf (issuesOn (subscriptionAfter g h l k) (not b)) (statusRecord (holding value) l k t) ≡ []
+      by : (b : Bool) → b ≡ true → entryIf (issuesOn (subscriptionAfter g h l k) (not b)) (statusRecord (holding value) l k t old) ≡ []
       by true q = refl
       by false q = untrue q
 
   same-value : (k : ℕ) (value : ℤ) (t : ℕ) → statusAfter h k ≡ holding (wordOf value)
       → entriesTo (valueRecord g h k (valueSet h k (wordOf value)) t) (g .links) ≡ []
   same-value k value t e =
-      none-to (valueRecord g h k (valueSet h k (wordOf value)) t) (g .links) (λ l m. unsaid k (wordOf value) t (statusAfter h k) e l)
+      none-to (valueRecord g h k (valueSet h k (wordOf value)) t) (g .links) (λ l m. unsaid k (wordOf value) t (statusAfter h k) e l (isOld g h l))
 
   set-changes : (x : Aggregated) (value t : ℕ) → (x .value ≡ value → ⊥) → aggregatedSet x value t .changed ≡ true
   unfolding aggregatedSet
@@ -140,13 +141,15 @@ module _ (g : Setup) (h : List Told) where
       (λ l m. ap (λ (b : Bool). entryIf b (aggregatedRecord (aggregatedSet (aggregatedAfter g h) value t .aggregated) l))
       (set-same (aggregatedAfter g h) value t e))
 
-  each-subscription : (t : ℕ) → length (entriesTo (tickRecords g h t) 4) ≤ 128
-  each-subscription t =
-      at-most (tickRecords g h t) 32 4
-      (λ l. at-most (tickRecord g h t l) 1 32 (λ k. one-at-most (tickOf (subscriptionAfter g h l k) t .issues) (statusRecord (statusAfter h k) l k t)))
+  each-subscription : (a : Answer) (t : ℕ) → length (entriesTo (tickRecords g h a t) 4) ≤ 128
+  each-subscription a t =
+      at-most (tickRecords g h a t) 32 4
+      (λ l. at-most (tickRecord g h a t l) 1 32
+      (λ k. one-at-most (tickOf (subscriptionAfter g h l k) t .issues)
+      (statusRecord (statusAfter h k) l k t (isOld g (record { call = tick t; answer = a } ∷ h) l))))
 
 pub counted : RecordsAll
-counted g h =
+counted g h a =
     record {
       connects = λ l t. refl;
       disconnects = λ l t. refl;
@@ -163,10 +166,10 @@ counted g h =
           let n : length (entriesTo (valueRecord g h k (valueSet h k (wordOf value)) t) (g .links)) ≤ g .links * 1
           = at-most (valueRecord g h k (valueSet h k (wordOf value)) t) 1 (g .links)
           (λ l. one-at-most (issuesOn (subscriptionAfter g h l k) (valueSet h k (wordOf value) .changed))
-          (statusRecord (valueSet h k (wordOf value) .status) l k t)) in
+          (statusRecord (valueSet h k (wordOf value) .status) l k t (isOld g h l))) in
           omega arith;
       same-value = same-value g h;
       every-link = every-link g h;
       same-aggregated = same-aggregated g h;
-      each-subscription = each-subscription g h;
+      each-subscription = each-subscription g h a;
     }

@@ -2,7 +2,7 @@
 -- Assumes nothing.
 use Prim.Native.Nat.{ℕ, _≤_, _<_}
 use mathlib.Core.Path.{_≡_, refl, sym, ap, ap₂, _∙_}
-use mathlib.Core.Bool.{Bool, true, false}
+use mathlib.Core.Bool.{Bool, true, false, not}
 use mathlib.Core.Logic.{_⊎_, inl, inr}
 use mathlib.Core.List.{List, []}
 use native.Mathlib.Omega.{arith}
@@ -20,22 +20,24 @@ use Rattle.alarm.specs.Alarm.{beginning, nothing, inputOf}
 use Rattle.alarm.specs.Issued.{issuedOf as alarmRecord}
 use Rattle.status.specs.declared.Status.{Status}
 use Rattle.status.specs.Status.{unknown, holding, setOf as statusSet}
-use Rattle.status.specs.Issued.{issuedOf as statusRecord}
+use Rattle.status.specs.Issued.{issuedOf}
 use Rattle.subscription.specs.declared.Subscription.{Subscription}
 use Rattle.subscription.specs.Subscription.{issuesOn}
 use Rattle.aggregated.specs.declared.Aggregated.{Aggregated}
 use Rattle.aggregated.specs.Aggregated.{setOf as aggregatedSet}
 use Rattle.call_records.specs.Upwards.{entriesTo, entryIf}
 use Rattle.site.specs.declared.Site.{Site}
+use Rattle.site.specs.Site.{linkAt}
 use Rattle.site.specs.Parts.{alarmAt}
+use Rattle.site.specs.Records.{statusRecord}
 use Rattle.call_input.specs.Inputs.{alarmPlan, alarmChange, alarmEntries, statusPlan, statusChange, statusEntry, aggregatedPlan, aggregatedEntry}
 use Rattle.lives.specs.Moves.{Shaped}
 use Rattle.calls.specs.Calls.{stepBy}
 use Rattle.calls.specs.Calls.Call.{alarm, status, aggregated}
 use Rattle.told.specs.Told.{Setup, Told, hasPrimary}
-use Rattle.told.specs.Items.{alarmBy, alarmAfter, aggregatedAfter}
+use Rattle.told.specs.Items.{alarmBy, alarmAfter, aggregatedAfter, subscriptionAfter}
 use Rattle.told.specs.Issued.{alarmRecords, alarmsIssued, valueSet, valueRecord, aggregatedRecords}
-use Rattle.told.specs.Claims.{Fits, SameItems, StepsAll}
+use Rattle.told.specs.Claims.{Fits, SameItems, SameUp, StepsAll}
 use Rattle.told.proofs.OneOf.{entries-same, one-of}
 use Rattle.toldcalls.proofs.Done.{passed}
 use Rattle.toldcalls.proofs.Items.{Made, items-made, set-one}
@@ -99,7 +101,7 @@ module _ (j : ℕ) (active : Bool) (t : ℕ) where
         }
 
 pub alarms : (k : ℕ) (active : Bool) (t : ℕ) → StepsAll (alarm k active t)
-alarms k active t g s h f sh i u d =
+alarms k active t g s h f sh i u w d =
     let b : k < 32 =
     below (s .table .alarmcount) (g .table .alarmcount) k (passed s (alarm k active t) d .item) (ap (λ (x : _). x .alarmcount) (i .table)) (f .alarms) in
     record {
@@ -109,18 +111,24 @@ alarms k active t g s h f sh i u d =
 
 -- ---- a status' value
 module _ (j : ℕ) (value : ℤ) (t : ℕ) (g : Setup) (s : Site) (h : List Told) where
-  at-link : Fits g → SameItems g s h → j < 32 → (l : ℕ) → l < g .links
+  at-link : Fits g → SameItems g s h → SameUp g s h → j < 32 → (l : ℕ) → l < g .links
       → statusEntry s j (statusChange s j value) t l ≡ valueRecord g h j (valueSet h j (wordOf value)) t l
-  at-link f i b l m =
+  at-link f i u b l m =
+      let four : l < 4 = omega (arith, f .links) in
       ap₂
-      (λ (x : Subscription) (y : Status). entryIf (issuesOn x (statusSet y (wordOf value) .changed)) (statusRecord (statusSet y (wordOf value) .status) l j t))
-      (i .subscriptions l j (omega (arith, f .links)) b) (i .statuses j b)
+      (λ (x : Subscription) (y : Status).
+      entryIf (issuesOn x (statusSet y (wordOf value) .changed)) (statusRecord (linkAt s l) (statusSet y (wordOf value) .status) l j t))
+      (i .subscriptions l j four b) (i .statuses j b)
+      ∙ ap
+      (λ (x : Bool).
+      entryIf (issuesOn (subscriptionAfter g h l j) (valueSet h j (wordOf value) .changed)) (issuedOf (valueSet h j (wordOf value) .status) l j t (not x)))
+      (u l four)
 
-  status-issued : Fits g → SameItems g s h → j < 32
+  status-issued : Fits g → SameItems g s h → SameUp g s h → j < 32
       → statusPlan s j value t .issued ≡ entriesTo (valueRecord g h j (valueSet h j (wordOf value)) t) (g .links)
-  status-issued f i b =
+  status-issued f i u b =
       ap (entriesTo (statusEntry s j (statusChange s j value) t)) (i .links)
-      ∙ entries-same (statusEntry s j (statusChange s j value) t) (valueRecord g h j (valueSet h j (wordOf value)) t) (g .links) (at-link f i b)
+      ∙ entries-same (statusEntry s j (statusChange s j value) t) (valueRecord g h j (valueSet h j (wordOf value)) t) (g .links) (at-link f i u b)
 
   status-made : Shaped s → Made g s (statusPlan s j value t .site) h (status j value t)
   status-made sh =
@@ -135,11 +143,11 @@ module _ (j : ℕ) (value : ℤ) (t : ℕ) (g : Setup) (s : Site) (h : List Told
       }
 
 pub statuses : (k : ℕ) (value : ℤ) (t : ℕ) → StepsAll (status k value t)
-statuses k value t g s h f sh i u d =
+statuses k value t g s h f sh i u w d =
     let b : k < 32 =
     below (s .table .statuscount) (g .table .statuscount) k (passed s (status k value t) d .item) (ap (λ (x : _). x .statuscount) (i .table)) (f .statuses) in
     record {
-      issued = status-issued k value t g s h f i b;
+      issued = status-issued k value t g s h f i u b;
       items = items-made g s h i (status k value t) (stepBy s (status k value t) .answer) (statusPlan s k value t .site) (status-made k value t g s h sh) d;
     }
 
@@ -164,7 +172,7 @@ module _ (value t : ℕ) (g : Setup) (s : Site) (h : List Told) where
       }
 
 pub aggregates : (value t : ℕ) → StepsAll (aggregated value t)
-aggregates value t g s h f sh i u d =
+aggregates value t g s h f sh i u w d =
     record {
       issued = aggregated-issued value t g s h i;
       items =

@@ -23,7 +23,7 @@ use Rattle.calls.specs.Calls.{Call, timeOf, planOf, stepBy, siteAfter}
 use Rattle.calls.specs.Calls.Call.{connect, disconnect, packet, alarm, status, aggregated, tick, pump}
 use Rattle.told.specs.Told.{Setup, Told}
 use Rattle.told.specs.Issued.{recordsBy, nextNumber}
-use Rattle.told.specs.Claims.{Fits, toldBy, SameItems, Steps, StepsAll, started, Agrees}
+use Rattle.told.specs.Claims.{Fits, toldOn, toldBy, SameItems, Steps, StepsAll, started, Agrees}
 use Rattle.toldlife.proofs.Kept.{same-up}
 use Rattle.toldpackets.proofs.Kept.{packets}
 use Rattle.toldcalls.specs.Claims.{Claims}
@@ -46,7 +46,7 @@ every-call (pump l t random out) = pumps l t random out
 -- ---- one call more
 module _ (g : Setup) (s : Site) (h : List Told) (c : Call) where
   abbrev now : Told
-  now = record { call = c; answer = stepBy s c .answer }
+  now = toldOn s c
 
   items-next : SameItems g s h → (isDone (stepBy s c .answer) ≡ true → Steps g s h c) → SameItems g (stepBy s c .site) (now ∷ h)
   items-next i step =
@@ -65,9 +65,9 @@ module _ (g : Setup) (s : Site) (h : List Told) (c : Call) where
   number-next n step =
       bool-cases (isDone (stepBy s c .answer))
       (λ d. number-done d ∙ ap₂ (λ (q : ℕ) (es : List Entry). q + length es) n (step d .issued)
-      ∙ sym (ap (λ (b : Bool). pick b (nextNumber g h + length (recordsBy g h c)) (nextNumber g h)) d))
+      ∙ sym (ap (λ (b : Bool). pick b (nextNumber g h + length (recordsBy g h (stepBy s c .answer) c)) (nextNumber g h)) d))
       (λ d. ap (λ (t : Site). t .next) (refused-site s c d) ∙ n
-      ∙ sym (ap (λ (b : Bool). pick b (nextNumber g h + length (recordsBy g h c)) (nextNumber g h)) d))
+      ∙ sym (ap (λ (b : Bool). pick b (nextNumber g h + length (recordsBy g h (stepBy s c .answer) c)) (nextNumber g h)) d))
 
 -- ---- every sequence
 module _ (g : Setup) (period : ℕ) where
@@ -99,7 +99,7 @@ module _ (g : Setup) (period : ℕ) where
     tale cs = toldBy (started g period) cs
 
     steps : (cs : List Call) (c : Call) → SameItems g (after cs) (tale cs) → isDone (stepBy (after cs) c .answer) ≡ true → Steps g (after cs) (tale cs) c
-    steps cs c i d = every-call c g (after cs) (tale cs) fits (shaped cs) i (same-up g period cs) d
+    steps cs c i d = every-call c g (after cs) (tale cs) fits (shaped cs) i (same-up g period cs) (same-up g period (c ∷ cs)) d
 
     items-all : (cs : List Call) → SameItems g (after cs) (tale cs)
     items-all [] = begun

@@ -1,8 +1,11 @@
 -- Connect, disconnect and pump issue nothing and leave the parts that records are made of; tick issues place by place.
 -- Assumes nothing.
 use Prim.Native.Nat.{ℕ, _+_, _*_, _<_}
-use mathlib.Core.Path.{_≡_, refl, ap₂, _∙_}
-use mathlib.Core.List.{List, []}
+use mathlib.Core.Path.{_≡_, refl, sym, ap, ap₂, _∙_}
+use mathlib.Core.Bool.{Bool, not}
+use mathlib.Core.List.{List, [], _∷_}
+use Rattle.answer.specs.declared.Answer.{Answer}
+use Rattle.entry.specs.declared.Entry.{Entry as Record}
 use Rattle.identity.specs.declared.Identity.{Identity}
 use Rattle.identity.specs.Version.{identityOf}
 use Rattle.status.specs.declared.Status.{Status}
@@ -14,6 +17,7 @@ use Rattle.pool.specs.declared.Sought.{Sought}
 use Rattle.pool.specs.declared.Sought.the-variants.{Found, Nothing as NoEntry}
 use Rattle.pool.specs.Pool.{oldestUnsent}
 use Rattle.link.specs.declared.Link.{Link}
+use Rattle.link.specs.Phase.{phaseOf, isUp as isUpPhase}
 use Rattle.link.specs.declared.Due.{Due}
 use Rattle.link.specs.declared.Due.the-variants.{Nothing, Version, Watchdog, Aggregated, Alarm, Entry}
 use Rattle.call_records.specs.Upwards.{entriesTo, entryIf}
@@ -21,8 +25,9 @@ use Rattle.send_after.specs.declared.Carried.{Carried}
 use Rattle.send_after.specs.declared.Carried.the-variants.{Held, NoRecord}
 use Rattle.send_after.specs.Outgoing.{carriedAt, alarmSentWith}
 use Rattle.site.specs.declared.Site.{Site}
-use Rattle.site.specs.Site.{withPool, withLinks}
+use Rattle.site.specs.Site.{linkAt, withPool, withLinks}
 use Rattle.site.specs.Parts.{alarmAt, statusAt}
+use Rattle.site.specs.Records.{statusRecord}
 use Rattle.call_link.specs.Connect.{connectPlan, disconnectPlan}
 use Rattle.call_pump.specs.Pump.{dueAt, entryPlan, planFor, pumpPlan}
 use Rattle.call_tick.specs.Intervals.{recordAt, recordsOf}
@@ -32,9 +37,12 @@ use Rattle.call_tick.proofs.Kept.{kept as ticked}
 use Rattle.calls.specs.Calls.{stepBy}
 use Rattle.calls.specs.Calls.Call.{connect, disconnect, tick, pump}
 use Rattle.told.specs.Told.{Setup, Told}
+use Rattle.told.specs.Life.{lifeOf, isUp}
+use Rattle.told.specs.Items.{statusAfter, subscriptionAfter}
 use Rattle.told.specs.Issued.{tickRecord, tickRecords}
 use Rattle.told.specs.Claims.{SameItems, StepsAll}
 use Rattle.told.proofs.OneOf.{entries-same, rows}
+use Rattle.toldcalls.proofs.Done.{done-site}
 use Rattle.toldcalls.proofs.Items.{Made, items-made}
 
 -- ---- connect and disconnect
@@ -64,11 +72,11 @@ module _ (g : Setup) (s : Site) (h : List Told) (l t : ℕ) where
       }
 
 pub connects : (l t : ℕ) → StepsAll (connect l t)
-connects l t g s h f sh i u d =
+connects l t g s h f sh i u w d =
     record { issued = refl; items = items-made g s h i (connect l t) (stepBy s (connect l t) .answer) (connectPlan s l .site) (connected g s h l t) d }
 
 pub disconnects : (l t : ℕ) → StepsAll (disconnect l t)
-disconnects l t g s h f sh i u d =
+disconnects l t g s h f sh i u w d =
     record {
       issued = refl;
       items = items-made g s h i (disconnect l t) (stepBy s (disconnect l t) .answer) (disconnectPlan s l .site) (disconnected g s h l t) d;
@@ -133,7 +141,7 @@ module _ (g : Setup) (s : Site) (h : List Told) (l time : ℕ) (random : Identit
   issues-none Entry = entry-issues (oldestUnsent (s .pool) l)
 
 pub pumps : (l t : ℕ) (random : Identity) (out : List ℕ) → StepsAll (pump l t random out)
-pumps l t random out g s h f sh i u d =
+pumps l t random out g s h f sh i u w d =
     record {
       issued = issues-none g s h l t random out (identityOf random) (dueAt s l t);
       items =
@@ -156,21 +164,32 @@ module _ (g : Setup) (s : Site) (h : List Told) (time : ℕ) where
         subscriptions = λ l k b e. ticked s time .subscriptions (l * 32 + k);
       }
 
-  module _ (i : SameItems g s h) where
-    at-place : (l k : ℕ) → l < 4 → k < 32 → recordAt (s .subscriptions) (s .statuses) time (l * 32 + k) ≡ tickRecord g h time l k
+  -- the links that are Up as the tick leaves them, by the site and by what it tells
+  module _ (i : SameItems g s h) (a : Answer)
+      (up : (l : ℕ) → l < 4 → isUpPhase (phaseOf (linkAt (siteAfter s time) l)) ≡ isUp (lifeOf g (record { call = tick time; answer = a } ∷ h) l)) where
+    abbrev places : ℕ → List Record
+    places = recordAt (s .subscriptions) (s .statuses) (siteAfter s time .links) time
+
+    at-place : (l k : ℕ) → l < 4 → k < 32 → places (l * 32 + k) ≡ tickRecord g h a time l k
     at-place l k b e =
         ticked s time .place l k e
-        ∙ ap₂ (λ (x : Subscription) (y : Status). entryIf (tickOf x time .issues) (issuedOf y l k time)) (i .subscriptions l k b e) (i .statuses k e)
+        ∙ ap₂ (λ (x : Subscription) (y : Status). entryIf (tickOf x time .issues) (statusRecord (linkAt (siteAfter s time) l) y l k time))
+        (i .subscriptions l k b e) (i .statuses k e)
+        ∙ ap (λ (x : Bool). entryIf (tickOf (subscriptionAfter g h l k) time .issues) (issuedOf (statusAfter h k) l k time (not x))) (up l b)
 
-    row : (l : ℕ) → l < 4 → entriesTo (λ (k : ℕ). recordAt (s .subscriptions) (s .statuses) time (l * 32 + k)) 32 ≡ tickRecords g h time l
-    row l b = entries-same (λ (k : ℕ). recordAt (s .subscriptions) (s .statuses) time (l * 32 + k)) (tickRecord g h time l) 32 (λ k e. at-place l k b e)
+    row : (l : ℕ) → l < 4 → entriesTo (λ (k : ℕ). places (l * 32 + k)) 32 ≡ tickRecords g h a time l
+    row l b = entries-same (λ (k : ℕ). places (l * 32 + k)) (tickRecord g h a time l) 32 (λ k e. at-place l k b e)
 
-    due : tickPlan s time .issued ≡ entriesTo (tickRecords g h time) 4
+    due : tickPlan s time .issued ≡ entriesTo (tickRecords g h a time) 4
     unfolding recordsOf
     due =
-        rows (recordAt (s .subscriptions) (s .statuses) time) 32 4 128 refl
-        ∙ entries-same (λ (l : ℕ). entriesTo (λ (k : ℕ). recordAt (s .subscriptions) (s .statuses) time (l * 32 + k)) 32) (tickRecords g h time) 4 row
+        rows places 32 4 128 refl
+        ∙ entries-same (λ (l : ℕ). entriesTo (λ (k : ℕ). places (l * 32 + k)) 32) (tickRecords g h a time) 4 row
 
 pub ticks : (t : ℕ) → StepsAll (tick t)
-ticks t g s h f sh i u d =
-    record { issued = due g s h t i; items = items-made g s h i (tick t) (stepBy s (tick t) .answer) (siteAfter s t) (made g s h t) d }
+ticks t g s h f sh i u w d =
+    record {
+      issued = due g s h t i (stepBy s (tick t) .answer)
+          (λ l b. sym (ap (λ (x : Site). isUpPhase (phaseOf (linkAt x l))) (done-site s (tick t) d)) ∙ w l b);
+      items = items-made g s h i (tick t) (stepBy s (tick t) .answer) (siteAfter s t) (made g s h t) d;
+    }

@@ -24,7 +24,7 @@ use Rattle.told.specs.Life.{Ours, isAcknowledged}
 use Rattle.told.specs.Life.Ours.{unsent, sent, acknowledged}
 use Rattle.toldlife.specs.Agree.{Awaits, Agrees}
 use Rattle.toldlife.proofs.Ours.{acked-sent}
-use Rattle.toldlife.proofs.Phases.{told-reports}
+use Rattle.toldlife.proofs.Phases.{told-up}
 
 -- what has happened in the life of m is what has in that of k
 record Same (k m : Link) : Type 0 where
@@ -74,7 +74,7 @@ module _ (c : Bool) (o : Ours) (t : Bool) (w : Ours) (u : Bool) where
   -- a reply goes out in Up, or not at all
   pub reply-agrees : (k : Link) (id : Identity) (time : ℕ) → Agrees k c o t w u → Agrees (messageOutOf k id time Other) c o t w u
   unfolding messageOutOf
-  reply-agrees k id time a = by (isUp (phaseOf k)) (sym (told-reports k c o t w u a))
+  reply-agrees k id time a = by (isUp (phaseOf k)) (sym (told-up k c o t w u a))
     where
       by : (b : Bool) → both (both (isAcknowledged o) t) (both (isAcknowledged w) u) ≡ b
           → Agrees (pick b (withAwaited k (addOf (k .awaited) id time Other)) k) c o t w u

@@ -10,7 +10,6 @@ use Rattle.link.specs.declared.Phase.the-variants.{Down, Greeting, Beating, Up}
 use Rattle.link.specs.Phase.{greeted, beaten, phaseOf, isUp, isBeating, takesIn}
 use Rattle.told.specs.Life.{Ours, isSent, isAcknowledged}
 use Rattle.told.specs.Life.Ours.{unsent, sent, acknowledged}
-use Rattle.told.specs.Claims.{isUpPhase}
 use Rattle.toldlife.specs.Agree.{Agrees}
 use Rattle.toldlife.proofs.Choices.{both-true, picked-true, picked-self}
 use Rattle.toldlife.proofs.Ours.{acked-sent}
@@ -43,14 +42,8 @@ module _ (k : Link) (c : Bool) (o : Ours) (t : Bool) (w : Ours) (u : Bool) (a : 
   pub begun-connected : both (isAcknowledged o) t ≡ true → c ≡ true
   begun-connected e = a .version-connected (acked-sent o (both-first (isAcknowledged o) t e))
 
-  pub told-up : isUpPhase (phaseOf k) ≡ both (both (isAcknowledged o) t) (both (isAcknowledged w) u)
+  pub told-up : isUp (phaseOf k) ≡ both (both (isAcknowledged o) t) (both (isAcknowledged w) u)
   told-up =
-      ap isUpPhase told-phase
-      ∙ by-phase isUpPhase refl refl c (both (isAcknowledged o) t) (both (isAcknowledged w) u) begun-connected
-      ∙ ap (both (both (isAcknowledged o) t)) (picked-self (both (isAcknowledged w) u))
-
-  pub told-reports : isUp (phaseOf k) ≡ both (both (isAcknowledged o) t) (both (isAcknowledged w) u)
-  told-reports =
       ap isUp told-phase
       ∙ by-phase isUp refl refl c (both (isAcknowledged o) t) (both (isAcknowledged w) u) begun-connected
       ∙ ap (both (both (isAcknowledged o) t)) (picked-self (both (isAcknowledged w) u))

@@ -2,7 +2,7 @@
 -- Assumes nothing.
 use Prim.Native.Nat.{ℕ, zero, suc, _+_, _≤_, _<_}
 use mathlib.Core.Path.{_≡_, refl, ap, ap₂, subst, sym, _∙_}
-use mathlib.Core.Bool.{Bool, true, false}
+use mathlib.Core.Bool.{Bool, true, false, not}
 use mathlib.Core.List.{List, []}
 use lib.Dec.{eqb}
 use lib.ListN.{length, length-append}
@@ -38,7 +38,7 @@ use Rattle.calls.specs.Calls.Call.{packet}
 use Rattle.told.specs.Told.{Setup, Told, isGood, hasPrimary}
 use Rattle.told.specs.Life.{lifeOf, isUp}
 use Rattle.told.specs.Items.{asksFor, isAlarmKind, isSubscribing, takenOn, isThe, ordered, alarmAfter, passing, componentOf}
-use Rattle.told.specs.Issued.{alarmsIssued, entryRecord, entryRecords, fieldsRecords, subscribingRecords, recordsBy}
+use Rattle.told.specs.Issued.{isOld, alarmsIssued, entryRecord, entryRecords, fieldsRecords, subscribingRecords, recordsBy}
 use Rattle.toldpackets.specs.Packets.{RecordsAll}
 use Rattle.toldpackets.proofs.Entries.{one-to}
 use Rattle.toldpackets.proofs.Below.{AlarmBelow, alarm-below}
@@ -84,24 +84,24 @@ module _ (g : Setup) (h : List Told) (t : ℕ) (p : List ℕ) where
   at-most-one a NoAlarm i = rw (none-issued a NoAlarm (λ k. refl)) (omega arith)
 
 -- ---- subscriptions
-entry-one : (h : List Told) (l t : ℕ) (x : Sought) → isSought x ≡ true → length (entryRecord h l t x) ≡ 1
-entry-one h l t (Is k) e = refl
-entry-one h l t Nothing e = untrue e
+entry-one : (h : List Told) (old : Bool) (l t : ℕ) (x : Sought) → isSought x ≡ true → length (entryRecord h old l t x) ≡ 1
+entry-one h old l t (Is k) e = refl
+entry-one h old l t Nothing e = untrue e
 
-entry-each : (table : SiteTable) (h : List Told) (l t c : ℕ) (es : List StatusEntry) (n : ℕ) → allStatuses table c es n ≡ true
-    → length (entryRecords table h l t c es n) ≡ n
-entry-each table h l t c es zero e = refl
-entry-each table h l t c es (suc n) e =
+entry-each : (table : SiteTable) (h : List Told) (old : Bool) (l t c : ℕ) (es : List StatusEntry) (n : ℕ) → allStatuses table c es n ≡ true
+    → length (entryRecords table h old l t c es n) ≡ n
+entry-each table h old l t c es zero e = refl
+entry-each table h old l t c es (suc n) e =
     let w = both-true (allStatuses table c es n) (isSought (statusSought table c (entryAt es n))) e in
-    length-append (entryRecords table h l t c es n) (entryRecord h l t (statusSought table c (entryAt es n)))
-    ∙ ap₂ (λ (a b : ℕ). a + b) (entry-each table h l t c es n (w .0)) (entry-one h l t (statusSought table c (entryAt es n)) (w .1))
+    length-append (entryRecords table h old l t c es n) (entryRecord h old l t (statusSought table c (entryAt es n)))
+    ∙ ap₂ (λ (a b : ℕ). a + b) (entry-each table h old l t c es n (w .0)) (entry-one h old l t (statusSought table c (entryAt es n)) (w .1))
     ∙ add-one n
 
-fields-each : (table : SiteTable) (h : List Told) (l t : ℕ) (f : StatusFields) (x : Sought) → passing table f x ≡ true
-    → length (fieldsRecords table h l t f x) ≡ f .count
-fields-each table h l t f (Is c) e =
-    entry-each table h l t c (f .entries) (f .count) (both-true (isGood (f .verdict)) (allStatuses table c (f .entries) (f .count)) e .1)
-fields-each table h l t f Nothing e = untrue e
+fields-each : (table : SiteTable) (h : List Told) (old : Bool) (l t : ℕ) (f : StatusFields) (x : Sought) → passing table f x ≡ true
+    → length (fieldsRecords table h old l t f x) ≡ f .count
+fields-each table h old l t f (Is c) e =
+    entry-each table h old l t c (f .entries) (f .count) (both-true (isGood (f .verdict)) (allStatuses table c (f .entries) (f .count)) e .1)
+fields-each table h old l t f Nothing e = untrue e
 
 -- one kind at a time
 ends-kind : (kind : Kind) → isSubscribing false kind ≡ true → (isSubscribing true kind ≡ false) × (isAlarmKind kind ≡ false)
@@ -139,16 +139,17 @@ module _ (g : Setup) (h : List Told) (l t : ℕ) (p : List ℕ) where
 
   subscribed-each : (a b : Bool) → b ≡ true → passing (g .table) (statusAt true p) (componentOf (g .table) (statusAt true p)) ≡ true
       → length (records a b) ≡ statusAt true p .count
-  subscribed-each a true d e = rw e (fields-each (g .table) h l t (statusAt true p) (componentOf (g .table) (statusAt true p)) e)
+  subscribed-each a true d e = rw e (fields-each (g .table) h (isOld g h l) l t (statusAt true p) (componentOf (g .table) (statusAt true p)) e)
   subscribed-each a false d e = untrue d
 
 pub counted : RecordsAll
-counted g h l t random p out =
+counted g h a l t random p out =
     record {
       only-up = λ e. neither g h l t p (takenOn g h l isAlarmKind p) (takenOn g h l (isSubscribing true) p)
           (ap (λ (b : Bool). both b (asksFor (isSubscribing true) (headAt p .class))) e) (ap (λ (b : Bool). both b (asksFor isAlarmKind (headAt p .class))) e);
       one-alarm = at-most-one g h t p (takenOn g h l isAlarmKind p) (named g h l t p) (alarm-below (g .table) (alarmAt p .component) (alarmAt p .code));
       each-entry = subscribed-each g h l t p (takenOn g h l isAlarmKind p) (takenOn g h l (isSubscribing true) p);
+      recent = λ e. ap not (both-true (isUp (lifeOf g h l)) (asksFor (isSubscribing true) (headAt p .class)) e .0);
       ending = λ e.
           let w = ends-alone (isUp (lifeOf g h l)) (headAt p .class) e in
           neither g h l t p (takenOn g h l isAlarmKind p) (takenOn g h l (isSubscribing true) p) (w .0) (w .1);

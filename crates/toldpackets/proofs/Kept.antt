@@ -2,7 +2,7 @@
 -- Assumes nothing.
 use Prim.Native.Nat.{ℕ, _<_}
 use mathlib.Core.Path.{_≡_, refl, sym, ap, subst, _∙_}
-use mathlib.Core.Bool.{Bool, true, false}
+use mathlib.Core.Bool.{Bool, true, false, not}
 use mathlib.Core.List.{List}
 use lib.Dec.{ltb, leb}
 use lib.ListN.{length, getD}
@@ -18,7 +18,7 @@ use Rattle.status.specs.Status.{unknown}
 use Rattle.subscription.specs.declared.Subscription.{Subscription}
 use Rattle.link.specs.declared.Phase.{Phase}
 use Rattle.link.specs.declared.Phase.the-variants.{Down, Greeting, Beating, Up}
-use Rattle.link.specs.Phase.{phaseOf, isBeating}
+use Rattle.link.specs.Phase.{phaseOf, isUp as isUpPhase, isBeating}
 use Rattle.read_head.specs.declared.Verdict.the-variants.{Good, Missing, Bad}
 use Rattle.read_head.specs.declared.Kind.{Kind}
 use Rattle.read_head.specs.declared.Kind.the-variants.{Version, Watchdog, Alarm as AlarmKind, AggregatedStatusRequest, StatusRequest, StatusSubscribe, StatusUnsubscribe, Unexpected}
@@ -44,7 +44,7 @@ use Rattle.lives.proofs.Done.{Passed, passed}
 use Rattle.told.specs.Told.{Setup, Told}
 use Rattle.told.specs.Life.{lifeOf, isUp}
 use Rattle.told.specs.Items.{asksFor, isAlarmKind, isSubscribing, alarmAfter, subscriptionAfter}
-use Rattle.told.specs.Claims.{isUpPhase, SameItems, SameUp, Steps}
+use Rattle.told.specs.Claims.{SameItems, SameUp, Steps}
 use Rattle.toldpackets.specs.Packets.{PacketsStep}
 use Rattle.toldpackets.proofs.Quiet.{Quiet, answer-quiet, not-acked, version-quiet, watchdog-quiet, aggregated-quiet, status-quiet}
 use Rattle.toldpackets.proofs.Meets.{Meets, Known, MeetsHere, quiet-meets, alarm-meets, subscribe-meets, unsubscribe-meets}
@@ -151,7 +151,7 @@ module _ (l t : ℕ) (random : Identity) (p out : List ℕ) (g : Setup) (s : Sit
 
     abbrev Told-by : SiteTable → ℕ → ℕ → Bool → Type 0
     Told-by table links primary up =
-        Meets (alarmAfter g h) (subscriptionAfter g h) h l t p table links primary s
+        Meets (alarmAfter g h) (subscriptionAfter g h) h (not up) l t p table links primary s
         (both up (asksFor isAlarmKind (headAt p .class)))
         (both up (asksFor (isSubscribing true) (headAt p .class)))
         (both up (asksFor (isSubscribing false) (headAt p .class)))
@@ -187,4 +187,4 @@ module _ (l t : ℕ) (random : Identity) (p out : List ℕ) (g : Setup) (s : Sit
         }
 
 pub packets : PacketsStep
-packets l t random p out g s h fits sh same up e = steps l t random p out g s h sh same e (by-setup l t random p out g s h sh same e up)
+packets l t random p out g s h fits sh same up after e = steps l t random p out g s h sh same e (by-setup l t random p out g s h sh same e up)

@@ -2,7 +2,7 @@
 -- Assumes nothing.
 use Prim.Native.Nat.{ℕ, _*_, _+_, _<_}
 use mathlib.Core.Path.{_≡_, refl, sym, ap, _∙_}
-use mathlib.Core.Bool.{Bool, true, false}
+use mathlib.Core.Bool.{Bool, true, false, not}
 use mathlib.Core.List.{List, []}
 use lib.Dec.{eqb, ltb}
 use lib.ListN.{getD}
@@ -14,6 +14,7 @@ use Rattle.alarm.specs.declared.Changed.{Changed}
 use Rattle.alarm.specs.Alarm.{beginning, nothing}
 use Rattle.subscription.specs.declared.Subscription.{Subscription}
 use Rattle.subscription.specs.Subscription.{none}
+use Rattle.link.specs.Phase.{phaseOf, isUp}
 use Rattle.call_records.specs.Upwards.{entriesTo}
 use Rattle.call_records.proofs.Entries.{none-to}
 use Rattle.read_head.specs.Small.{alarmAt as alarmFields}
@@ -24,7 +25,7 @@ use Rattle.packet_lookup.specs.Sought.{alarmSought}
 use Rattle.site.specs.declared.Site.{Site}
 use Rattle.site.specs.Parts.{alarmAt, statusAt, subscriptionAt}
 use Rattle.site.specs.Call.{Plan}
-use Rattle.site.specs.Site.{hasPrimary}
+use Rattle.site.specs.Site.{hasPrimary, linkAt}
 use Rattle.packet_alarm.specs.Orders.{alarmTaken}
 use Rattle.packet_subscribe.specs.Subscribing.{subscribingTaken}
 use Rattle.lives.specs.Moves.{Shaped}
@@ -35,8 +36,9 @@ use Rattle.toldpackets.proofs.Quiet.{Rest, Quiet, rest-of}
 use Rattle.toldpackets.proofs.Alarms.{recordAt, no-record, alarm-turns}
 use Rattle.toldpackets.proofs.Subscriptions.{subscribing-turns}
 
--- `alarms`, `subscriptions` and h are what the calls tell before this packet p, on link l at this time; the site's table, links and primary
-module _ (alarms : ℕ → Alarm) (subscriptions : ℕ → ℕ → Subscription) (h : List Told) (l time : ℕ) (p : List ℕ) (table : SiteTable) (links primary : ℕ) where
+-- `alarms`, `subscriptions`, h and whether a record for link l is old are what the calls tell before this packet p, on link l at this time; the
+-- site's table, links and primary
+module _ (alarms : ℕ → Alarm) (subscriptions : ℕ → ℕ → Subscription) (h : List Told) (old : Bool) (l time : ℕ) (p : List ℕ) (table : SiteTable) (links primary : ℕ) where
   abbrev pub changeBy : Bool → ℕ → Changed
   changeBy a k =
       pick (both a (both (isGood (alarmFields p .verdict)) (isThe (alarmSought table (alarmFields p .component) (alarmFields p .code)) k)))
@@ -53,7 +55,7 @@ module _ (alarms : ℕ → Alarm) (subscriptions : ℕ → ℕ → Subscription)
       (subscriptions m k)
 
   abbrev pub subscribingBy : StatusFields → List Entry
-  subscribingBy f = pick (passing table f (componentOf table f)) (fieldsRecords table h l time f (componentOf table f)) []
+  subscribingBy f = pick (passing table f (componentOf table f)) (fieldsRecords table h old l time f (componentOf table f)) []
 
   abbrev pub issuedBy : Bool → Bool → List Entry
   issuedBy a b = pick b (subscribingBy (statusFields true p)) (entriesTo (recordAt (ltb primary links) primary (changeBy a)) 32)
@@ -75,7 +77,7 @@ pub record Known (s : Site) (alarms : ℕ → Alarm) (subscriptions : ℕ → �
 module _ (s : Site) (alarms : ℕ → Alarm) (subscriptions : ℕ → ℕ → Subscription) (h : List Told) (g : Known s alarms subscriptions h) (l time : ℕ)
     (p : List ℕ) where
   abbrev pub MeetsHere : Bool → Bool → Bool → Plan → Type 0
-  MeetsHere a b c q = Meets alarms subscriptions h l time p (s .table) (s .linkcount) (s .primary) s a b c q
+  MeetsHere a b c q = Meets alarms subscriptions h (not (isUp (phaseOf (linkAt s l)))) l time p (s .table) (s .linkcount) (s .primary) s a b c q
 
   same-either : (b : Bool) (x : Subscription) → x ≡ pick b x x
   same-either true x = refl

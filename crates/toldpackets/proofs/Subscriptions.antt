@@ -2,7 +2,7 @@
 -- Assumes nothing.
 use Prim.Native.Nat.{ℕ, zero, suc, _+_, _*_, _<_}
 use mathlib.Core.Path.{_≡_, refl, sym, ap, subst, _∙_}
-use mathlib.Core.Bool.{Bool, true, false}
+use mathlib.Core.Bool.{Bool, true, false, not}
 use mathlib.Core.Logic.{_⊎_, inl, inr}
 use mathlib.Core.List.{List, [], _∷_, _++_}
 use lib.Dec.{eqb}
@@ -15,6 +15,7 @@ use Rattle.basis.proofs.Cases.{eq-or-ne}
 use Rattle.entry.specs.declared.Entry.{Entry}
 use Rattle.status.specs.declared.Status.{Status}
 use Rattle.status.specs.Issued.{issuedOf}
+use Rattle.link.specs.Phase.{phaseOf, isUp}
 use Rattle.subscription.specs.declared.Subscription.{Subscription}
 use Rattle.subscription.specs.Subscription.{none}
 use Rattle.read_head.specs.declared.Verdict.{Verdict}
@@ -25,6 +26,7 @@ use Rattle.packet_lookup.specs.declared.Sought.{Sought}
 use Rattle.packet_lookup.specs.declared.Sought.the-variants.{Is, Nothing}
 use Rattle.packet_lookup.specs.Sought.{componentSought, statusSought, entryAt, allStatuses}
 use Rattle.site.specs.declared.Site.{Site}
+use Rattle.site.specs.Site.{linkAt}
 use Rattle.site.specs.Parts.{statusAt, subscriptionAt}
 use Rattle.site.specs.Call.{Plan}
 use Rattle.packet_answer.specs.Taken.{Taken, notAcked, byVerdict, missingElement, badValue, unknownStatus}
@@ -71,16 +73,19 @@ all-stay b s l time c es (suc n) =
     one-stays s (replaced b s l time c es n) l (wanted b (entryAt es n) time) (statusSought (s .table) c (entryAt es n)) (all-stay b s l time c es n)
 
 -- ---- the records
+abbrev oldOn : Site → ℕ → Bool
+oldOn s l = not (isUp (phaseOf (linkAt s l)))
+
 module _ (s : Site) (h : List Told) (same : (k : ℕ) → k < 32 → statusAt s k ≡ statusAfter h k) (l time : ℕ) where
-  record-told : (q : Sought) → Below q → recordOf s l time q ≡ entryRecord h l time q
-  record-told (Is k) i = ap (λ (x : Status). issuedOf x l k time ∷ []) (same k i)
+  record-told : (q : Sought) → Below q → recordOf s l time q ≡ entryRecord h (oldOn s l) l time q
+  record-told (Is k) i = ap (λ (x : Status). issuedOf x l k time (oldOn s l) ∷ []) (same k i)
   record-told Nothing i = refl
 
-  records-told : (c : ℕ) (es : List StatusEntry) (n : ℕ) → records s l time c es n ≡ entryRecords (s .table) h l time c es n
+  records-told : (c : ℕ) (es : List StatusEntry) (n : ℕ) → records s l time c es n ≡ entryRecords (s .table) h (oldOn s l) l time c es n
   records-told c es zero = refl
   records-told c es (suc n) =
       ap (λ (xs : List Entry). xs ++ recordOf s l time (statusSought (s .table) c (entryAt es n))) (records-told c es n)
-      ∙ ap (λ (xs : List Entry). entryRecords (s .table) h l time c es n ++ xs)
+      ∙ ap (λ (xs : List Entry). entryRecords (s .table) h (oldOn s l) l time c es n ++ xs)
       (record-told (statusSought (s .table) c (entryAt es n)) (status-below (s .table) c (entryAt es n)))
 
 -- ---- the subscriptions
@@ -143,7 +148,7 @@ module _ (subscribing : Bool) (s : Site) (y : ℕ → ℕ → Subscription) (sam
     changed-turns : (c : ℕ)
         → Turns s (changed subscribing s l time received f c .plan)
         (λ m k. onLink m (entriesFor subscribing (s .table) c (f .entries) (f .count) time k (y m k)) (y m k))
-        (issues (entryRecords (s .table) h l time c (f .entries) (f .count)))
+        (issues (entryRecords (s .table) h (oldOn s l) l time c (f .entries) (f .count)))
     unfolding changed
     changed-turns c =
         record {
@@ -156,7 +161,7 @@ module _ (subscribing : Bool) (s : Site) (y : ℕ → ℕ → Subscription) (sam
     abbrev Passing : Taken → ℕ → Bool → Type 0
     Passing t c b =
         Turns s (t .plan) (λ m k. onLink m (pick b (entriesFor subscribing (s .table) c (f .entries) (f .count) time k (y m k)) (y m k)) (y m k))
-        (issues (pick b (entryRecords (s .table) h l time c (f .entries) (f .count)) []))
+        (issues (pick b (entryRecords (s .table) h (oldOn s l) l time c (f .entries) (f .count)) []))
 
     judged-turns : (c : ℕ) → Passing (judged subscribing s l time received f c) c (allStatuses (s .table) c (f .entries) (f .count))
     unfolding judged
@@ -182,7 +187,7 @@ module _ (subscribing : Bool) (s : Site) (y : ℕ → ℕ → Subscription) (sam
     Fielded t x =
         Turns s (t .plan)
         (λ m k. onLink m (pick (passing (s .table) f x) (fieldsFor subscribing (s .table) f x time k (y m k)) (y m k)) (y m k))
-        (issues (pick (passing (s .table) f x) (fieldsRecords (s .table) h l time f x) []))
+        (issues (pick (passing (s .table) f x) (fieldsRecords (s .table) h (oldOn s l) l time f x) []))
 
     asked-turns : (x : Sought) → Fielded (byVerdict (f .verdict) s received (asked subscribing s l time received f x)) x
     asked-turns (Is c) =

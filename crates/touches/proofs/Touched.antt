@@ -11,7 +11,6 @@ use borrow.Author.Tests.{ltb-true}
 use Rattle.basis.specs.Pick.{pick, both}
 use Rattle.entry.specs.declared.Entry.{Entry}
 use Rattle.alarm.specs.Issued.{issuedOf as alarmRecord}
-use Rattle.status.specs.Issued.{issuedOf as statusRecord}
 use Rattle.aggregated.specs.Issued.{issuedOf as aggregatedRecord}
 use Rattle.subscription.specs.Subscription.{issuesOn}
 use Rattle.link.specs.Fields.{closedLink}
@@ -25,6 +24,7 @@ use Rattle.call_records.proofs.Entries.{owned-to, owned-if}
 use Rattle.site.specs.declared.Site.{Site}
 use Rattle.site.specs.Site.{linkAt, closeAt, hasPrimary}
 use Rattle.site.specs.Parts.{subscriptionAt}
+use Rattle.site.specs.Records.{statusRecord}
 use Rattle.holding.specs.Touches.{Configured, Quiet, Touches}
 use Rattle.call_input.specs.Inputs.{alarmChange, statusEntry, statusChange, aggregatedEntry, aggregatedChange, alarmPlan, statusPlan, aggregatedPlan}
 use Rattle.call_tick.specs.Closing.{lateAt, closeLate, closedTo}
@@ -64,7 +64,7 @@ module _ (s : Site) (g : Configured s) where
         pool = refl;
         next = refl;
         owned = owned-to (statusEntry s k (statusChange s k value) time) 4 (s .linkcount)
-            (λ i h. owned-if 4 (issuesOn (subscriptionAt s (i * 32 + k)) (statusChange s k value .changed)) (statusRecord (statusChange s k value .status) i k time) (omega (arith, g .most)));
+            (λ i h. owned-if 4 (issuesOn (subscriptionAt s (i * 32 + k)) (statusChange s k value .changed)) (statusRecord (linkAt s i) (statusChange s k value .status) i k time) (omega (arith, g .most)));
         links = refl;
         primary = refl;
       }

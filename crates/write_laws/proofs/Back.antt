@@ -27,7 +27,7 @@ use Rattle.json_value.specs.Grammar.Json.{obj}
 use Rattle.json_value.specs.Grammar.Members.{mnil}
 use Rattle.write_message.specs.declared.AlarmState.{AlarmState}
 use Rattle.write_message.specs.declared.Value.{Value}
-use Rattle.write_message.specs.declared.Value.the-variants.{Recent, Unknown, Undefined}
+use Rattle.write_message.specs.declared.Value.the-variants.{Recent, Old, Unknown, Undefined}
 use Rattle.write_message.specs.declared.Told.the-variants.{Response, Update}
 use Rattle.write_message.specs.Message.{Message, Status}
 use Rattle.write_message.specs.Message.Message.{version, watchdog, ack, notAck, alarm, aggregated, statuses}
@@ -71,6 +71,7 @@ integer-back (negsuc n) =
 
 value-back : (v : Value) → valueIn (qualityText v) (valueJson v) ≡ v
 value-back (Recent v) = ap Recent (integer-back v)
+value-back (Old v) = ap Old (integer-back v)
 value-back Unknown = refl
 value-back Undefined = refl
 

@@ -18,7 +18,7 @@ use Rattle.json_write.specs.Plain.Plain.{pnull, pbool, pstr, parr₀, parr, pob
 use Rattle.json_write.specs.Plain.PlainElements.{last-element, element}
 use Rattle.json_write.specs.Plain.PlainMembers.{last-member, member}
 use Rattle.write_message.specs.declared.Value.{Value}
-use Rattle.write_message.specs.declared.Value.the-variants.{Recent, Unknown, Undefined}
+use Rattle.write_message.specs.declared.Value.the-variants.{Recent, Old, Unknown, Undefined}
 use Rattle.write_message.specs.declared.Told.{Told}
 use Rattle.write_message.specs.declared.Told.the-variants.{Response, Update}
 use Rattle.write_message.specs.Message.{Message, Status}
@@ -44,11 +44,13 @@ kind-word Update = word "StatusUpdate" refl
 
 value : {l : ℕ} (v : Value) → Plain l (valueJson v)
 value (Recent v) = pstr (plain-decimal v)
+value (Old v) = pstr (plain-decimal v)
 value Unknown = pnull
 value Undefined = pnull
 
 quality : (v : Value) → PlainText (qualityText v)
 quality (Recent v) = word "recent" refl
+quality (Old v) = word "old" refl
 quality Unknown = word "unknown" refl
 quality Undefined = word "undefined" refl
 

@@ -30,7 +30,7 @@ use Rattle.json_value.specs.Grammar.Members.{mnil, mcons}
 use Rattle.json_write.specs.Text.{quoted, textOnto, elementsOnto, membersOnto, textOf}
 use Rattle.write_member.specs.Member.{momentText}
 use Rattle.write_message.specs.declared.Value.{Value}
-use Rattle.write_message.specs.declared.Value.the-variants.{Recent, Unknown, Undefined}
+use Rattle.write_message.specs.declared.Value.the-variants.{Recent, Old, Unknown, Undefined}
 use Rattle.write_message.specs.declared.Told.{Told}
 use Rattle.write_message.specs.declared.Told.the-variants.{Response, Update}
 use Rattle.write_message.specs.Message.{Message, Status}
@@ -38,7 +38,7 @@ use Rattle.write_message.specs.Message.Message.{version, watchdog, ack, notAck,
 use Rattle.write_message.specs.Listing.{jsonOf, bytesOf, flag, flagsOf, eventText, typeText, valueJson, qualityText, statusJson, statusesJson}
 use Rattle.write_laws.specs.Formed.{Label, Received, Formed, FormedValue, FormedStatus, FormedStatuses}
 use Rattle.write_laws.specs.Formed.Formed.{formed-version, formed-watchdog, formed-ack, formed-notAck, formed-alarm, formed-aggregated, formed-statuses}
-use Rattle.write_laws.specs.Formed.FormedValue.{recent, unknown, undefined}
+use Rattle.write_laws.specs.Formed.FormedValue.{recent, old, unknown, undefined}
 use Rattle.write_laws.specs.Formed.FormedStatuses.{none as no-more, more as one-more}
 use Rattle.write_laws.specs.Size.{most, mostStatuses, entriesIn}
 
@@ -127,6 +127,7 @@ flags-size v = omega (arith, flag-size v 128, flag-size v 64, flag-size v 32, fl
 
 value-size : (v : Value) → FormedValue v → size (valueJson v) + length (qualityText v) ≤ 19
 value-size (Recent v) (recent h) = omega (arith, decimal-size v h)
+value-size (Old v) (old h) = omega (arith, decimal-size v h)
 value-size Unknown unknown = omega arith
 value-size Undefined undefined = omega arith
 

@@ -5,7 +5,7 @@ use mathlib.Core.Bool.{true}
 use mathlib.Core.List.{List, [], _∷_}
 use Rattle.json_packet.specs.Names.{noTwice, allOnce, once}
 use Rattle.write_message.specs.declared.Value.{Value}
-use Rattle.write_message.specs.declared.Value.the-variants.{Recent, Unknown, Undefined}
+use Rattle.write_message.specs.declared.Value.the-variants.{Recent, Old, Unknown, Undefined}
 use Rattle.write_message.specs.Message.{Message, Status}
 use Rattle.write_message.specs.Message.Message.{version, watchdog, ack, notAck, alarm, aggregated, statuses}
 use Rattle.write_message.specs.Listing.{jsonOf, valueJson, statusJson, statusesJson}
@@ -13,6 +13,7 @@ use Rattle.write_message.specs.Listing.{jsonOf, valueJson, statusJson, statuses
 value-once : (v : Value) → noTwice (valueJson v) ≡ true
 unfolding noTwice allOnce once
 value-once (Recent v) = refl
+value-once (Old v) = refl
 value-once Unknown = refl
 value-once Undefined = refl
 

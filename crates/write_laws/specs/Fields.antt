@@ -24,7 +24,7 @@ use Rattle.json_find.specs.Lookup.{Found, member, element, elementsIn}
 use Rattle.json_find.specs.Lookup.Found.{found, missing}
 use Rattle.write_message.specs.declared.AlarmState.{AlarmState}
 use Rattle.write_message.specs.declared.Value.{Value}
-use Rattle.write_message.specs.declared.Value.the-variants.{Recent, Unknown, Undefined}
+use Rattle.write_message.specs.declared.Value.the-variants.{Recent, Old, Unknown, Undefined}
 use Rattle.write_message.specs.declared.Told.{Told}
 use Rattle.write_message.specs.declared.Told.the-variants.{Response, Update}
 use Rattle.write_message.specs.Message.{Message, Status}
@@ -89,7 +89,9 @@ abbrev pub integerOf : List ℕ → ℤ
 integerOf s = pick (eqb (getD s 0 0) 45) (negsuc (says 0 (drop 1 s) - 1)) (pos (says 0 s))
 
 abbrev pub valueIn : List ℕ → Json → Value
-valueIn quality s = pick (sameBytes quality (text "recent")) (Recent (integerOf (charactersOf s))) (pick (sameBytes quality (text "unknown")) Unknown Undefined)
+valueIn quality s =
+    pick (sameBytes quality (text "recent")) (Recent (integerOf (charactersOf s)))
+    (pick (sameBytes quality (text "old")) (Old (integerOf (charactersOf s))) (pick (sameBytes quality (text "unknown")) Unknown Undefined))
 
 abbrev pub statusIn : Json → Status
 statusIn j = record { code = said "sCI" j; name = said "n" j; value = valueIn (said "q" j) (valueOf (member (text "s") j)) }

@@ -11,7 +11,7 @@ use Rattle.number.specs.Alphabet.{isLabel}
 use Rattle.number.specs.Signed.{Signed32}
 use Rattle.write_message.specs.declared.AlarmState.{AlarmState}
 use Rattle.write_message.specs.declared.Value.{Value}
-use Rattle.write_message.specs.declared.Value.the-variants.{Recent, Unknown, Undefined}
+use Rattle.write_message.specs.declared.Value.the-variants.{Recent, Old, Unknown, Undefined}
 use Rattle.write_message.specs.declared.Told.{Told}
 use Rattle.write_message.specs.Message.{Message, Status}
 use Rattle.write_message.specs.Message.Message.{version, watchdog, ack, notAck, alarm, aggregated, statuses}
@@ -34,6 +34,7 @@ pub record FormedState (s : AlarmState) : Type 0 where
 
 pub data FormedValue : Value → Type 0 where
   recent : {v : _} → Signed32 v → FormedValue (Recent v)
+  old : {v : _} → Signed32 v → FormedValue (Old v)
   unknown : FormedValue Unknown
   undefined : FormedValue Undefined
 

@@ -11,7 +11,7 @@ use Rattle.json_value.specs.Grammar.Json.{bool}
 use Rattle.json_value.specs.Grammar.Jsons.{jcons}
 use Rattle.json_write.specs.Text.{textOnto, elementsOnto}
 use Rattle.write_message.specs.declared.Value.{Value}
-use Rattle.write_message.specs.declared.Value.the-variants.{Recent, Unknown, Undefined}
+use Rattle.write_message.specs.declared.Value.the-variants.{Recent, Old, Unknown, Undefined}
 use Rattle.write_message.specs.Message.{Message, Status, status}
 use Rattle.write_message.specs.Message.Message.{version, watchdog, ack, notAck, alarm, aggregated, statuses}
 use Rattle.write_message.specs.Listing.{jsonOf, bytesOf, statusJson, statusesJson}
@@ -27,9 +27,11 @@ entry-text : (first : Bool) (code name : List ℕ) (v : Value) (more : List (Lis
     → concat (entryPieces first (status code name v) ++ more) ≡ pick first [] (text ",") ++ textOnto (statusJson (status code name v)) (concat more)
 unfolding entryPieces valuePieces
 entry-text true code name (Recent v) more = refl
+entry-text true code name (Old v) more = refl
 entry-text true code name Unknown more = refl
 entry-text true code name Undefined more = refl
 entry-text false code name (Recent v) more = refl
+entry-text false code name (Old v) more = refl
 entry-text false code name Unknown more = refl
 entry-text false code name Undefined more = refl
 

@@ -16,7 +16,7 @@ use Rattle.json_value.specs.Grammar.Members.{mnil, mcons}
 use Rattle.json_write.specs.Text.{textOf}
 use Rattle.write_message.specs.declared.AlarmState.{AlarmState}
 use Rattle.write_message.specs.declared.Value.{Value}
-use Rattle.write_message.specs.declared.Value.the-variants.{Recent, Unknown, Undefined}
+use Rattle.write_message.specs.declared.Value.the-variants.{Recent, Old, Unknown, Undefined}
 use Rattle.write_message.specs.declared.Told.{Told}
 use Rattle.write_message.specs.declared.Told.the-variants.{Response, Update}
 use Rattle.write_message.specs.Message.{Message, Status}
@@ -73,14 +73,16 @@ abbrev pub typeText : Told → List ℕ
 typeText Response = text "StatusResponse"
 typeText Update = text "StatusUpdate"
 
--- "`s` is the shortest decimal text, `q` recent"; else `s` null
+-- "`s` is the shortest decimal text, `q` recent", or old; else `s` null
 abbrev pub valueJson : Value → Json
 valueJson (Recent v) = str (decimalOf v)
+valueJson (Old v) = str (decimalOf v)
 valueJson Unknown = null
 valueJson Undefined = null
 
 abbrev pub qualityText : Value → List ℕ
 qualityText (Recent v) = text "recent"
+qualityText (Old v) = text "old"
 qualityText Unknown = text "unknown"
 qualityText Undefined = text "undefined"
 

@@ -12,7 +12,7 @@ use Rattle.number.specs.Decimal.{digits, decimalOf}
 use Rattle.write_member.specs.Member.{named, string, next, momentText}
 use Rattle.write_message.specs.declared.AlarmState.{AlarmState}
 use Rattle.write_message.specs.declared.Value.{Value}
-use Rattle.write_message.specs.declared.Value.the-variants.{Recent, Unknown, Undefined}
+use Rattle.write_message.specs.declared.Value.the-variants.{Recent, Old, Unknown, Undefined}
 use Rattle.write_message.specs.declared.Told.{Told}
 use Rattle.write_message.specs.Message.{Message, Status}
 use Rattle.write_message.specs.Message.Message.{version, watchdog, ack, notAck, alarm, aggregated, statuses}
@@ -76,11 +76,12 @@ statusHead kind id component time = aboutPieces (typeText kind) id component ++ 
 abbrev pub nullPieces : List ℕ → List (List ℕ)
 nullPieces quality = named next (text "s") (text "\":null") ++ string next (text "q") quality
 
-abbrev pub knownPieces : ℤ → List (List ℕ)
-knownPieces v = string next (text "s") (decimalOf v) ++ string next (text "q") (text "recent")
+abbrev pub knownPieces : List ℕ → ℤ → List (List ℕ)
+knownPieces quality v = string next (text "s") (decimalOf v) ++ string next (text "q") quality
 
 unfoldable pub valuePieces : Value → List (List ℕ)
-valuePieces (Recent v) = knownPieces v
+valuePieces (Recent v) = knownPieces (text "recent") v
+valuePieces (Old v) = knownPieces (text "old") v
 valuePieces Unknown = nullPieces (text "unknown")
 valuePieces Undefined = nullPieces (text "undefined")
 

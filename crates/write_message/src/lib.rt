@@ -22,9 +22,10 @@ pub struct AlarmState {
     pub suspended: bool,
 }
 
-// What is told of a status.
+// What is told of a status: a value that is up to date or not, none so far, or of no known component.
 pub enum Value {
     Recent(i32),
+    Old(i32),
     Unknown,
     Undefined,
 }

@@ -53,11 +53,11 @@ fn coded(out: &mut [u8], at: usize, first: bool, l: Label) -> usize
     }
 }
 
-fn known(out: &mut [u8], at: usize, v: i32) -> usize
-    ensures { λ r. ⌜ Wrote (now (out .entry)) at (knownPieces v) (now (out .exit)) r ⌝ }
+fn known(out: &mut [u8], at: usize, v: i32, quality: usize) -> usize
+    ensures { λ r. ⌜ Wrote (now (out .entry)) at (knownPieces (nameOf quality) v) (now (out .exit)) r ⌝ }
 {
     let end = write_member::signed(out, at, elements::S, v);
-    write_member::word(out, end, b",\"", elements::Q, words::RECENT)
+    write_member::word(out, end, b",\"", elements::Q, quality)
 }
 
 fn not_known(out: &mut [u8], at: usize, quality: usize) -> usize
@@ -71,7 +71,8 @@ fn value(out: &mut [u8], at: usize, v: Value) -> usize
     ensures { λ r. ⌜ Wrote (now (out .entry)) at (valuePieces v) (now (out .exit)) r ⌝ }
 {
     match v {
-        Value::Recent(n) => known(out, at, n),
+        Value::Recent(n) => known(out, at, n, words::RECENT),
+        Value::Old(n) => known(out, at, n, words::OLD),
         Value::Unknown => not_known(out, at, words::UNKNOWN),
         Value::Undefined => not_known(out, at, words::UNDEFINED),
     }

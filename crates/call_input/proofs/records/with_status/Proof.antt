@@ -17,17 +17,20 @@ subscription-requires c κs = search needs
 on-value-requires : tie.Need-on-value-requires
 on-value-requires c κs = search needs
 
-issued-requires : tie.Need-issued-requires
-issued-requires c κs = search needs
+link-requires : tie.Need-link-requires
+link-requires c κs = search needs
+
+status-requires : tie.Need-status-requires
+status-requires c κs = search needs
 
 add-requires : tie.Need-add-requires
 add-requires c κs = search needs
 
 returns : tie.Need-returns
 returns c =
-    let w = c .before .before .before in
+    let w = c .before .before .before .before in
     let t = sym (rw (w .before .before .subscription .ensures) at (w .before .on-value .ensures)) ∙ w .if1 .taken in
-    rw t (rw (c .before .issued .ensures) at (c .add .ensures))
+    rw t (rw (c .before .status .ensures, c .before .before .link .ensures) at (c .add .ensures))
 
 returns-2 : tie.Need-returns-2
 returns-2 c =
@@ -42,7 +45,8 @@ with-status-spec =
     add-subscription
     subscription-requires
     on-value-requires
-    issued-requires
+    link-requires
+    status-requires
     add-requires
     returns
     returns-2)

@@ -13,10 +13,10 @@ use Rattle.call_tick.proofs.intervals.issue_all.Statement.{statement}
 use Rattle.call_tick.proofs.intervals.issue_all.Tie as tie
 
 abbrev Inv-loop : tie.InvT-loop
-Inv-loop time list statuses c₀ i₀ c i = (i ≤ 128) × (c ≡ addedAll 4 c₀ (entriesTo (recordAt list statuses time) i))
+Inv-loop time list statuses links c₀ i₀ c i = (i ≤ 128) × (c ≡ addedAll 4 c₀ (entriesTo (recordAt list statuses links time) i))
 
 abbrev μ-loop : tie.MeasureT-loop
-μ-loop time list statuses c₀ i₀ c i = 128 - i
+μ-loop time list statuses links c₀ i₀ c i = 128 - i
 
 loop-holds : tie.Need-loop-holds Inv-loop μ-loop
 loop-holds c = (omega arith, refl)
@@ -39,6 +39,15 @@ mul-issue-one-2 c = omega arith
 array-copy-out-issue-one-2 : tie.Need-array-copy-out-issue-one-2 Inv-loop μ-loop
 array-copy-out-issue-one-2 c = omega arith
 
+cast-issue-one-3 : tie.Need-cast-issue-one-3 Inv-loop μ-loop
+cast-issue-one-3 c = search needs
+
+mul-issue-one-3 : tie.Need-mul-issue-one-3 Inv-loop μ-loop
+mul-issue-one-3 c = omega arith
+
+array-copy-out-issue-one-3 : tie.Need-array-copy-out-issue-one-3 Inv-loop μ-loop
+array-copy-out-issue-one-3 c = omega arith
+
 issue-one-requires : tie.Need-issue-one-requires Inv-loop μ-loop
 issue-one-requires c κs = search needs
 
@@ -50,15 +59,15 @@ loop-less c = omega arith
 
 loop-again : tie.Need-loop-again Inv-loop μ-loop
 loop-again c =
-    let a = c .before .before .before .before .before .args in
-    let l = c .before .before .before .before .loop in
-    (omega arith, rw (turn (recordAt (a .t2) (a .t3) (a .time)) (a .b) (l .i), ← l .inv .1) (c .issue-one .ensures))
+    let a = c .before .before .before .before .before .before .args in
+    let l = c .before .before .before .before .before .loop in
+    (omega arith, rw (turn (recordAt (a .t2) (a .t3) (a .t4) (a .time)) (a .b) (l .i), ← l .inv .1) (c .issue-one .ensures))
 
 returns : tie.Need-returns Inv-loop μ-loop
 returns c =
     let a = c .before .before .args in
     let l = c .before .loop in
-    rw (← all-places (a .t2) (a .t3) (a .time) (l .i) (omega arith)) (l .inv .1)
+    rw (← all-places (a .t2) (a .t3) (a .t4) (a .time) (l .i) (omega arith)) (l .inv .1)
 
 pub issue-all-spec : {M : Type 1} → statement M
 issue-all-spec =
@@ -73,6 +82,9 @@ issue-all-spec =
     cast-issue-one-2
     mul-issue-one-2
     array-copy-out-issue-one-2
+    cast-issue-one-3
+    mul-issue-one-3
+    array-copy-out-issue-one-3
     issue-one-requires
     add-i
     loop-less

@@ -1,8 +1,11 @@
-use Prim.Native.Nat.{_≤_}
-use native.Mathlib.Omega.{arith}
+use mathlib.Core.Path.{refl, ap, _∙_}
+use mathlib.Core.List.{[], _∷_}
+use Prim.Native.Nat.{ℕ, _%_, _^_}
+use lib.Dec.{lit≤}
+use Rattle.bits.specs.Fields.{pushed}
+use Rattle.bits.proofs.Fields.{next-field}
 use Rattle.basis.specs.Pick.{bit}
 use Rattle.entry.specs.Flags.{statusFlags}
-use Rattle.entry.proofs.FlagLaws.{bit-le}
 use borrow.Author.Needs.{needs}
 use Rattle.entry.proofs.flags.of_status.Statement.{statement}
 use Rattle.entry.proofs.flags.of_status.Tie as tie
@@ -17,16 +20,29 @@ bit-requires c κs = search needs
 push-requires : tie.Need-push-requires
 push-requires c κs = search needs
 
+bit-requires-2 : tie.Need-bit-requires-2
+bit-requires-2 c κs = search needs
+
+push-requires-2 : tie.Need-push-requires-2
+push-requires-2 c κs = search needs
+
+push-requires-3 : tie.Need-push-requires-3
+push-requires-3 c κs = search needs
+
 cast-result : tie.Need-cast-result
-cast-result c =
-    let h : bit (c .before .before .args .known) ≤ 1 = bit-le (c .before .before .args .known) in
-    omega arith
+cast-result c = search needs
 
 returns : tie.Need-returns
 unfolding statusFlags
 returns c =
-    let h : bit (c .before .before .args .known) ≤ 1 = bit-le (c .before .before .args .known) in
-    omega arith
+    let p2 = c .before in
+    let p1 = p2 .before .before in
+    let s = p1 .before .before .args in
+    let a = bit (s .known) in
+    let b = bit (s .old) in
+    let e1 = next-field [] [] 1 a refl (lit≤ tt) refl (p1 .push .ensures ∙ ap (λ (x : ℕ). pushed 0 1 x % 2 ^ 64) (p1 .before .bit .ensures)) in
+    let e2 = next-field (1 ∷ []) (a ∷ []) 1 b refl (lit≤ tt) e1 (p2 .push2 .ensures ∙ ap (λ (x : ℕ). pushed (p1 .push .result) 1 x % 2 ^ 64) (p2 .before .bit2 .ensures)) in
+    next-field (1 ∷ 1 ∷ []) (a ∷ b ∷ []) 4 0 refl (lit≤ tt) e2 (c .push3 .ensures)
 
 pub of-status-spec : {M : Type 1} → statement M
-of-status-spec = tie.close (tie.spec bit-requires push-requires cast-result returns)
+of-status-spec = tie.close (tie.spec bit-requires push-requires bit-requires-2 push-requires-2 push-requires-3 cast-result returns)

@@ -1,0 +1,17 @@
+-- `site::records::status` meets its contract.
+-- Assumes nothing.
+use borrow.Author.Needs.{needs}
+use Rattle.site.proofs.records.status.Statement.{statement}
+use Rattle.site.proofs.records.status.Tie as tie
+
+up-requires : tie.Need-up-requires
+up-requires c κs = search needs
+
+issued-requires : tie.Need-issued-requires
+issued-requires c κs = search needs
+
+returns : tie.Need-returns
+returns c = rw (← c .before .up .ensures) (c .issued .ensures)
+
+pub status-spec : {M : Type 1} → statement M
+status-spec = tie.close (tie.spec up-requires issued-requires returns)
