@@ -9,21 +9,23 @@ use lib.Dec.{eqb}
 use lib.IntN.{ℤ}
 use native.Mathlib.Nat.{mod-eq-of-lt}
 use native.Mathlib.Omega.{arith}
+use borrow.Author.Tests.{eq-eqb, eqb-true}
 use Rattle.basis.specs.Pick.{pick, both}
 use Rattle.number.specs.Signed.{Signed32, wordOf, signedOf}
 use Rattle.number.proofs.RoundTrip.{signed-word}
 use Rattle.entry.specs.declared.Entry.{Entry}
-use Rattle.entry.specs.Flags.{alarmFlags, statusFlags, isKnown}
+use Rattle.entry.specs.Flags.{alarmFlags, statusFlags, eventOf, isAcknowledged, isActive, isSuspended, isKnown}
 use Rattle.entry.proofs.FlagLaws.{event-back, acknowledged-back, active-back, suspended-back, known-back}
 use Rattle.pool_laws.specs.View.{ofAlarm as isAlarm}
 use Rattle.pool_batch.specs.Batch.{renumbered, under}
-use Rattle.machine.specs.Words.{isSome}
+use Rattle.machine.specs.Words.{isSome, alike}
 use Rattle.machine.specs.State.{Event, eventNumber, Alarm, Content, Issued, Held}
 use Rattle.machine.specs.State.Event.{Issue, Acknowledge, Suspend}
 use Rattle.machine.specs.State.Content.{ofAlarm, ofStatus, ofAggregated}
-use Rattle.machine.specs.Life.{alarmIn as alarmOf}
+use Rattle.machine.specs.Life.{alarmIn as alarmOf, sameAlarm}
 use Rattle.machine.specs.Readings.{entryFor}
-use Rattle.refine_pool.specs.Record.{placeFor, unnumbered, eventIn, contentOf, IsTold}
+use Rattle.demand_held.proofs.Lists.{clash}
+use Rattle.refine_pool.specs.Record.{placeFor, unnumbered, eventIn, contentOf, Bounded, flagsFor}
 use Rattle.refine_pool.specs.Claims.{Contents}
 
 module _ (l q : ℕ) where
@@ -72,8 +74,8 @@ event-again Issue = refl
 event-again Acknowledge = refl
 event-again Suspend = refl
 
-alarm-told : (i : ℕ) (a : Alarm) → IsTold (ofAlarm i a)
-alarm-told i a l q =
+told : (l q : ℕ) (c : Content) → Bounded c → contentOf (entryFor l q c) ≡ c
+told l q (ofAlarm i a) h =
     rw (
       event-back (eventNumber (a .event)) (a .acknowledged) (a .active) (a .suspended),
       acknowledged-back (eventNumber (a .event)) (a .acknowledged) (a .active) (a .suspended),
@@ -81,12 +83,99 @@ alarm-told i a l q =
       suspended-back (eventNumber (a .event)) (a .acknowledged) (a .active) (a .suspended),
       event-again (a .event),
     )
+told l q (ofStatus i none t) h = rw (known-back false)
+told l q (ofStatus i (some v) t) h = rw (known-back true, signed-word v h)
+told l q (ofAggregated v t) h = rw (mod-eq-of-lt h)
 
-value-told : (i : ℕ) (v : ℤ) (t : ℕ) → Signed32 v → IsTold (ofStatus i (some v) t)
-value-told i v t h l q = rw (known-back true, signed-word v h)
+-- ---- alarms are alike where their times and their flags are
+alike-is : (x y : Bool) → x ≡ y → alike y x ≡ true
+alike-is true true e = refl
+alike-is false false e = refl
+alike-is true false e = sym e
+alike-is false true e = e
 
-no-value-told : (i t : ℕ) → IsTold (ofStatus i none t)
-no-value-told i t l q = rw (known-back false)
+is-alike : (x y : Bool) → alike y x ≡ true → x ≡ y
+is-alike true true e = refl
+is-alike false false e = refl
+is-alike true false e = sym e
+is-alike false true e = e
+
+left-of : (x y : Bool) → both x y ≡ true → x ≡ true
+left-of true y e = refl
+left-of false y e = e
+
+right-of : (x y : Bool) → both x y ≡ true → y ≡ true
+right-of true y e = e
+right-of false y e = clash e refl
+
+both-true : (x : Bool) → both x true ≡ x
+both-true true = refl
+both-true false = refl
+
+both-false : (x : Bool) → both x false ≡ false
+both-false true = refl
+both-false false = refl
+
+to-end : (t x y z w : Bool) → both t (both x (both y (both z w))) ≡ both x (both y (both z (both w t)))
+to-end true x y z w = rw (both-true w)
+to-end false x y z w = rw (both-false w, both-false z, both-false y, both-false x)
+
+same-test : (x y : Bool) → (x ≡ true → y ≡ true) → (y ≡ true → x ≡ true) → x ≡ y
+same-test true y f g = sym (f refl)
+same-test false true f g = g refl
+same-test false false f g = refl
+
+number-small : (e : Event) → eventNumber e % 4 ≡ eventNumber e
+number-small Issue = refl
+number-small Acknowledge = refl
+number-small Suspend = refl
+
+event-read : (a : Alarm) → eventOf (flagsFor a) ≡ eventNumber (a .event)
+event-read a = event-back (eventNumber (a .event)) (a .acknowledged) (a .active) (a .suspended) ∙ number-small (a .event)
+
+module _ (a b : Alarm) where
+  abbrev states : Bool
+  states =
+      both (alike (b .active) (a .active))
+      (both (alike (b .acknowledged) (a .acknowledged))
+      (both (alike (b .suspended) (a .suspended)) (eqb (eventNumber (b .event)) (eventNumber (a .event)))))
+
+  flags-alike : flagsFor a ≡ flagsFor b → states ≡ true
+  flags-alike e =
+      rw (
+        alike-is (a .active) (b .active)
+            (sym (active-back (eventNumber (a .event)) (a .acknowledged) (a .active) (a .suspended)) ∙ ap isActive e
+            ∙ active-back (eventNumber (b .event)) (b .acknowledged) (b .active) (b .suspended)),
+        alike-is (a .acknowledged) (b .acknowledged)
+            (sym (acknowledged-back (eventNumber (a .event)) (a .acknowledged) (a .active) (a .suspended)) ∙ ap isAcknowledged e
+            ∙ acknowledged-back (eventNumber (b .event)) (b .acknowledged) (b .active) (b .suspended)),
+        alike-is (a .suspended) (b .suspended)
+            (sym (suspended-back (eventNumber (a .event)) (a .acknowledged) (a .active) (a .suspended)) ∙ ap isSuspended e
+            ∙ suspended-back (eventNumber (b .event)) (b .acknowledged) (b .active) (b .suspended)),
+        eq-eqb (eventNumber (b .event)) (eventNumber (a .event)) (sym (event-read b) ∙ ap eventOf (sym e) ∙ event-read a),
+      )
+
+  alike-flags : states ≡ true → flagsFor a ≡ flagsFor b
+  alike-flags e =
+      let k = right-of (alike (b .active) (a .active)) _ e in
+      let s = right-of (alike (b .acknowledged) (a .acknowledged)) _ k in
+      rw (
+        is-alike (a .active) (b .active) (left-of (alike (b .active) (a .active)) _ e),
+        is-alike (a .acknowledged) (b .acknowledged) (left-of (alike (b .acknowledged) (a .acknowledged)) _ k),
+        is-alike (a .suspended) (b .suspended) (left-of (alike (b .suspended) (a .suspended)) _ s),
+        eqb-true (eventNumber (b .event)) (eventNumber (a .event)) (right-of (alike (b .suspended) (a .suspended)) _ s),
+      )
+
+  flags-same : eqb (flagsFor a) (flagsFor b) ≡ states
+  flags-same = same-test _ states (λ e. flags-alike (eqb-true (flagsFor a) (flagsFor b) e)) (λ e. eq-eqb (flagsFor a) (flagsFor b) (alike-flags e))
+
+  times-same : eqb (a .time) (b .time) ≡ eqb (b .time) (a .time)
+  times-same = same-test _ _ (λ e. eq-eqb (b .time) (a .time) (sym (eqb-true (a .time) (b .time) e))) (λ e. eq-eqb (a .time) (b .time) (sym (eqb-true (b .time) (a .time) e)))
+
+  same-alarm : both (eqb (a .time) (b .time)) (eqb (flagsFor a) (flagsFor b)) ≡ sameAlarm b a
+  same-alarm =
+      rw (flags-same, times-same) (to-end (eqb (b .time) (a .time)) (alike (b .active) (a .active)) (alike (b .acknowledged) (a .acknowledged))
+      (alike (b .suspended) (a .suspended)) (eqb (eventNumber (b .event)) (eventNumber (a .event))))
 
 pub contents : Contents
-contents = record { alarm = alarm-told; value = value-told; no-value = no-value-told; aggregated = λ v t l q. refl }
+contents = record { told = told; same-alarm = same-alarm }

@@ -1,24 +1,22 @@
 -- What stands for what: a place of the code's pool for a held record of the machine, an entry for a record that is issued. Which fields a
 -- content has says the machine (`entryFor`); `contentOf` reads them back.
 -- Assumes nothing.
-use Prim.Native.Nat.{ℕ}
-use mathlib.Core.Path.{_≡_}
+use Prim.Native.Nat.{ℕ, _%_, _<_}
 use mathlib.Core.Bool.{Bool}
 use mathlib.Core.List.{List, map}
 use mathlib.Core.Option.{Option, some, none}
 use lib.Dec.{eqb, ltb}
-use lib.IntN.{ℤ}
 use lib.ListN.{length, getD, replicate}
 use Rattle.basis.specs.Pick.{pick}
-use Rattle.number.specs.Signed.{signedOf}
+use Rattle.number.specs.Signed.{Signed32, signedOf}
 use Rattle.entry.specs.declared.Entry.{Entry}
-use Rattle.entry.specs.Flags.{eventOf, isAcknowledged, isActive, isSuspended, isKnown}
+use Rattle.entry.specs.Flags.{alarmFlags, eventOf, isAcknowledged, isActive, isSuspended, isKnown}
 use Rattle.pool.specs.declared.Place.{Place}
 use Rattle.pool.specs.declared.Reading.{Reading}
 use Rattle.pool.specs.declared.Sought.{Sought}
 use Rattle.pool.specs.declared.Sought.the-variants.{Found, Nothing}
 use Rattle.machine.specs.Words.{Bytes, maybe}
-use Rattle.machine.specs.State.{Event, alarmOf, Content, Issued, Held}
+use Rattle.machine.specs.State.{Event, eventNumber, Alarm, alarmOf, Content, Issued, Held}
 use Rattle.machine.specs.State.Event.{Issue, Acknowledge, Suspend}
 use Rattle.machine.specs.State.Content.{ofAlarm, ofStatus, ofAggregated}
 use Rattle.machine.specs.Readings.{entryFor}
@@ -49,12 +47,20 @@ alarmIn e =
 abbrev pub statusIn : Entry → Content
 statusIn e = ofStatus (e .item) (pick (isKnown (e .flags)) (some (signedOf (e .value))) none) (e .time)
 
+-- "the eight booleans, first highest, in the low byte"
 abbrev pub contentOf : Entry → Content
-contentOf e = pick (eqb (e .kind) 0) (alarmIn e) (pick (eqb (e .kind) 1) (statusIn e) (ofAggregated (e .value) (e .time)))
+contentOf e = pick (eqb (e .kind) 0) (alarmIn e) (pick (eqb (e .kind) 1) (statusIn e) (ofAggregated (e .value % 256) (e .time)))
 
--- a content that its entry tells: every alarm's and the aggregated status', and a status' without a value or with one of 32 bits
-abbrev pub IsTold : Content → Type 0
-IsTold c = (link sequence : ℕ) → contentOf (entryFor link sequence c) ≡ c
+-- what an entry can tell: of a status a signed value of 32 bits, of the aggregated status eight booleans
+abbrev pub Bounded : Content → Type 0
+Bounded (ofAlarm i a) = Unit {0}
+Bounded (ofStatus i none t) = Unit {0}
+Bounded (ofStatus i (some v) t) = Signed32 v
+Bounded (ofAggregated v t) = v < 256
+
+-- an alarm's event and states
+abbrev pub flagsFor : Alarm → ℕ
+flagsFor a = alarmFlags (eventNumber (a .event)) (a .acknowledged) (a .active) (a .suspended)
 
 -- ---- the reading of the record than which r are older, of a link's records
 abbrev pub readingAt : ℕ → List Bytes → Reading
