@@ -153,7 +153,7 @@ module _ {links q : ℕ} {p : Pool} (m : Machine) (same : SamePool links p q (m 
           numbered-same m same l (h .sequence),
           counts (isNumbered (h .sequence)) (eq-eqb (h .sequence) (h .sequence) refl) (among-keep (isFor l) e a),
         );
-        bounded = of-each (same .bounded) a;
+        told = of-each (same .told) a;
       }
 
   pub unsent-stands : (l : ℕ) (h : Held) → oldestUnsentOf m l ≡ some h → Stands p l h

@@ -25,7 +25,7 @@ use Rattle.machine.specs.State.Content.{ofAlarm, ofStatus, ofAggregated}
 use Rattle.machine.specs.Life.{alarmIn as alarmOf, sameAlarm}
 use Rattle.machine.specs.Readings.{entryFor}
 use Rattle.demand_held.proofs.Lists.{clash}
-use Rattle.refine_pool.specs.Record.{placeFor, unnumbered, eventIn, contentOf, Bounded, flagsFor}
+use Rattle.refine_pool.specs.Record.{placeFor, unnumbered, eventIn, contentOf, IsTold, flagsFor}
 use Rattle.refine_pool.specs.Claims.{Contents}
 
 module _ (l q : ℕ) where
@@ -74,8 +74,8 @@ event-again Issue = refl
 event-again Acknowledge = refl
 event-again Suspend = refl
 
-told : (l q : ℕ) (c : Content) → Bounded c → contentOf (entryFor l q c) ≡ c
-told l q (ofAlarm i a) h =
+alarm-told : (i : ℕ) (a : Alarm) → IsTold (ofAlarm i a)
+alarm-told i a l q =
     rw (
       event-back (eventNumber (a .event)) (a .acknowledged) (a .active) (a .suspended),
       acknowledged-back (eventNumber (a .event)) (a .acknowledged) (a .active) (a .suspended),
@@ -83,9 +83,34 @@ told l q (ofAlarm i a) h =
       suspended-back (eventNumber (a .event)) (a .acknowledged) (a .active) (a .suspended),
       event-again (a .event),
     )
-told l q (ofStatus i none t) h = rw (known-back false)
-told l q (ofStatus i (some v) t) h = rw (known-back true, signed-word v h)
-told l q (ofAggregated v t) h = rw (mod-eq-of-lt h)
+
+value-told : (i : ℕ) (v : ℤ) (t : ℕ) → Signed32 v → IsTold (ofStatus i (some v) t)
+value-told i v t h l q = rw (known-back true, signed-word v h)
+
+no-value-told : (i t : ℕ) → IsTold (ofStatus i none t)
+no-value-told i t l q = rw (known-back false)
+
+aggregated-told : (v t : ℕ) → v < 256 → IsTold (ofAggregated v t)
+aggregated-told v t h l q = rw (mod-eq-of-lt h)
+
+-- the value of a content, and of what its entry tells
+abbrev valueOf : ℤ → Content → ℤ
+valueOf v (ofAlarm i a) = v
+valueOf v (ofStatus i none t) = v
+valueOf v (ofStatus i (some w) t) = w
+valueOf v (ofAggregated w t) = v
+
+abbrev booleansOf : ℕ → Content → ℕ
+booleansOf v (ofAlarm i a) = v
+booleansOf v (ofStatus i w t) = v
+booleansOf v (ofAggregated w t) = w
+
+value-read : (i : ℕ) (v : ℤ) (t : ℕ) → IsTold (ofStatus i (some v) t) → signedOf (wordOf v) ≡ v
+value-read i v t h =
+    ap (λ (b : Bool). valueOf (signedOf (wordOf v)) (ofStatus i (pick b (some (signedOf (wordOf v))) none) t)) (sym (known-back true)) ∙ ap (valueOf (signedOf (wordOf v))) (h 0 0)
+
+aggregated-read : (v t : ℕ) → IsTold (ofAggregated v t) → v % 256 ≡ v
+aggregated-read v t h = ap (booleansOf v) (h 0 0)
 
 -- ---- alarms are alike where their times and their flags are
 alike-is : (x y : Bool) → x ≡ y → alike y x ≡ true
@@ -178,4 +203,13 @@ module _ (a b : Alarm) where
       (alike (b .suspended) (a .suspended)) (eqb (eventNumber (b .event)) (eventNumber (a .event))))
 
 pub contents : Contents
-contents = record { told = told; same-alarm = same-alarm }
+contents =
+    record {
+      alarm = alarm-told;
+      value = value-told;
+      no-value = no-value-told;
+      aggregated = aggregated-told;
+      value-read = value-read;
+      aggregated-read = aggregated-read;
+      same-alarm = same-alarm;
+    }

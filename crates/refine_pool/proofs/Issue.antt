@@ -30,14 +30,14 @@ use Rattle.machine.specs.Readings.{entryFor}
 use Rattle.demand_held.proofs.Lists.{Each, each-append, each-butFirst}
 use Rattle.demand_held.proofs.Lists.Each.{no-more, one-more}
 use Rattle.demand_held.proofs.Issue.{For, issue-good, issue-next, issue-lost}
-use Rattle.refine_pool.specs.Record.{placeFor, unnumbered, Bounded}
+use Rattle.refine_pool.specs.Record.{placeFor, unnumbered, IsTold}
 use Rattle.refine_pool.specs.Same.{SamePool}
 use Rattle.refine_pool.proofs.Lists.{keep-first, keep-other, keep-last, drop-map, getD-changed}
 use Rattle.refine_pool.proofs.Entries.{entry-link, entry-sequence, numbered-entry}
 use Rattle.refine_pool.proofs.Room.{Configured, losing, few-links, room-same, loser-configured}
 
-abbrev BoundedRecord : Held → Type 0
-BoundedRecord h = Bounded (h .content)
+abbrev ToldRecord : Held → Type 0
+ToldRecord h = IsTold (h .content)
 
 -- ---- the loser's oldest is lost
 module _ (m : Listed) where
@@ -46,10 +46,10 @@ module _ (m : Listed) where
   losing-next Nobody = refl
   losing-next (Owner w) = refl
 
-  losing-bounded : (who : Loser) → Each BoundedRecord (m .held) → Each BoundedRecord (losing who m .held)
+  losing-told : (who : Loser) → Each ToldRecord (m .held) → Each ToldRecord (losing who m .held)
   unfolding lose
-  losing-bounded Nobody a = a
-  losing-bounded (Owner w) a = each-butFirst (isFor w) a
+  losing-told Nobody a = a
+  losing-told (Owner w) a = each-butFirst (isFor w) a
 
   losing-lost : {links : ℕ} (who : Loser) → Configured links who → length (m .lost) ≡ links → (l : ℕ)
       → getD (losing who m .lost) l 0 ≡ getD (m .lost) l 0 + losses who l
@@ -69,7 +69,7 @@ module _ (m : Listed) where
       go false e =
           ap (map placeFor) (sym (keep-other (isFor w) (isFor l) (λ h t. ne-eqb (h .link) l (λ s. eqb-false w l e (sym (eqb-true (h .link) w t) ∙ s))) (m .held)))
 
-module _ {links q : ℕ} {p : Pool} {m : Listed} (same : SamePool links p q m) (i : Issued) (link : i .link < links) (bounded : Bounded (i .content)) (small : q ≤ 4294967295) where
+module _ {links q : ℕ} {p : Pool} {m : Listed} (same : SamePool links p q m) (i : Issued) (link : i .link < links) (told : IsTold (i .content)) (small : q ≤ 4294967295) where
   abbrev entry : Entry
   entry = entryFor (i .link) q (i .content)
 
@@ -139,7 +139,7 @@ module _ {links q : ℕ} {p : Pool} {m : Listed} (same : SamePool links p q m) (
       record {
         next = issue-next i m (same .good) ∙ ap suc (same .next);
         held = λ l. after-held l ∙ ap (λ (r : Listed). map placeFor (keep (isFor l) (r .held))) (sym issue-is);
-        bounded = rw issue-is (each-append (losing-bounded m who (same .bounded)) (one-more bounded no-more));
+        told = rw issue-is (each-append (losing-told m who (same .told)) (one-more told no-more));
         lost = λ l. after-lost l ∙ ap (λ (r : Listed). getD (r .lost) l 0) (sym issue-is);
         configured = issue-lost i m (same .good) ∙ same .configured;
         reached = after-reached;
@@ -155,13 +155,13 @@ module _ (b : Batch) (i : Issued) (small : b .next ≤ 4294967295) where
   unfolding addedTo
   one-next = more-is (b .next) small
 
-  one-same : {links : ℕ} {m : Listed} → SamePool links (b .pool) (b .next) m → i .link < links → Bounded (i .content)
+  one-same : {links : ℕ} {m : Listed} → SamePool links (b .pool) (b .next) m → i .link < links → IsTold (i .content)
       → SamePool links (addedTo 4 b (unnumbered i) .pool) (addedTo 4 b (unnumbered i) .next) (issue i m)
   unfolding addedTo
   one-same same f t = rw (more-is (b .next) small, numbered-entry i (b .next) small) (issue-same same i f t small)
 
 pub issue-all-same : {links : ℕ} (b : Batch) {m : Listed} → SamePool links (b .pool) (b .next) m → (is : List Issued) → Each (For links) is
-    → Each (λ (i : Issued). Bounded (i .content)) is → b .next + length is ≤ 4294967296
+    → Each (λ (i : Issued). IsTold (i .content)) is → b .next + length is ≤ 4294967296
     → SamePool links (addedAll 4 b (map unnumbered is) .pool) (addedAll 4 b (map unnumbered is) .next) (issueAll is m)
 issue-all-same b same [] fs ts h = same
 issue-all-same b same (i ∷ is) (one-more f fs) (one-more t ts) h =

@@ -43,7 +43,7 @@ start-same links few first h =
     record {
       next = refl;
       held = viewed 4 (omega arith) .start;
-      bounded = no-more;
+      told = no-more;
       lost = λ l. viewed 4 (omega arith) .start-lost l ∙ sym (nothing-lost links l);
       configured = length-replicate links 0;
       reached = empty {q = first} (omega arith);
@@ -150,7 +150,7 @@ module _ {links q : ℕ} {p : Pool} (m : Machine) (same : SamePool links p q (m 
       record {
         next = same .next;
         held = settle-held l n;
-        bounded = each-keep (λ h. not (both (isFor l h) (isNumbered n h))) (same .bounded);
+        told = each-keep (λ h. not (both (isFor l h) (isNumbered n h))) (same .told);
         lost = λ j. viewed 4 (omega arith) .settle-lost p l n j ∙ same .lost j;
         configured = same .configured;
         reached = after (Settle l n) (same .reached) tt;
@@ -183,7 +183,7 @@ module _ {links q : ℕ} {p : Pool} (m : Machine) (same : SamePool links p q (m 
       record {
         next = same .next;
         held = mark-held l n h;
-        bounded = each-map (marked n) (λ x t. t) (same .bounded);
+        told = each-map (marked n) (λ x t. t) (same .told);
         lost = λ j. viewed 4 (omega arith) .mark-lost p l n j ∙ same .lost j;
         configured = same .configured;
         reached = after (Mark l n) (same .reached) tt;
@@ -204,7 +204,7 @@ module _ {links q : ℕ} {p : Pool} (m : Machine) (same : SamePool links p q (m 
       record {
         next = same .next;
         held = unmark-held l;
-        bounded = each-map (unsent l) (λ x t. t) (same .bounded);
+        told = each-map (unsent l) (λ x t. t) (same .told);
         lost = λ j. viewed 4 (omega arith) .unmark-lost p l j ∙ same .lost j;
         configured = same .configured;
         reached = after (Unmark l) (same .reached) tt;

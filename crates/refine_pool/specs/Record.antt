@@ -1,14 +1,15 @@
 -- What stands for what: a place of the code's pool for a held record of the machine, an entry for a record that is issued. Which fields a
 -- content has says the machine (`entryFor`); `contentOf` reads them back.
 -- Assumes nothing.
-use Prim.Native.Nat.{ℕ, _%_, _<_}
+use Prim.Native.Nat.{ℕ, _%_}
+use mathlib.Core.Path.{_≡_}
 use mathlib.Core.Bool.{Bool}
 use mathlib.Core.List.{List, map}
 use mathlib.Core.Option.{Option, some, none}
 use lib.Dec.{eqb, ltb}
 use lib.ListN.{length, getD, replicate}
 use Rattle.basis.specs.Pick.{pick}
-use Rattle.number.specs.Signed.{Signed32, signedOf}
+use Rattle.number.specs.Signed.{signedOf}
 use Rattle.entry.specs.declared.Entry.{Entry}
 use Rattle.entry.specs.Flags.{alarmFlags, eventOf, isAcknowledged, isActive, isSuspended, isKnown}
 use Rattle.pool.specs.declared.Place.{Place}
@@ -51,12 +52,9 @@ statusIn e = ofStatus (e .item) (pick (isKnown (e .flags)) (some (signedOf (e .v
 abbrev pub contentOf : Entry → Content
 contentOf e = pick (eqb (e .kind) 0) (alarmIn e) (pick (eqb (e .kind) 1) (statusIn e) (ofAggregated (e .value % 256) (e .time)))
 
--- what an entry can tell: of a status a signed value of 32 bits, of the aggregated status eight booleans
-abbrev pub Bounded : Content → Type 0
-Bounded (ofAlarm i a) = Unit {0}
-Bounded (ofStatus i none t) = Unit {0}
-Bounded (ofStatus i (some v) t) = Signed32 v
-Bounded (ofAggregated v t) = v < 256
+-- a content that its entry tells: every alarm's, a status' without a value or with a signed one of 32 bits, eight booleans
+abbrev pub IsTold : Content → Type 0
+IsTold c = (link sequence : ℕ) → contentOf (entryFor link sequence c) ≡ c
 
 -- an alarm's event and states
 abbrev pub flagsFor : Alarm → ℕ

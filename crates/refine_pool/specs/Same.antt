@@ -13,14 +13,14 @@ use Rattle.machine.specs.State.{Held, Pool as Listed}
 use Rattle.machine.specs.Pool.{isFor}
 use Rattle.demand_held.proofs.Lists.{Each}
 use Rattle.demand_held.proofs.Good.{Good}
-use Rattle.refine_pool.specs.Record.{placeFor, Bounded}
+use Rattle.refine_pool.specs.Record.{placeFor, IsTold}
 
 -- q is the site's next number; so many links are configured
 pub record SamePool (links : ℕ) (p : Pool) (q : ℕ) (m : Listed) : Type 0 where
   pub next : m .next ≡ q
   -- each link's records, oldest first, with their marks
   pub held : (l : ℕ) → records p l ≡ map placeFor (keep (isFor l) (m .held))
-  pub bounded : Each (λ (h : Held). Bounded (h .content)) (m .held)
+  pub told : Each (λ (h : Held). IsTold (h .content)) (m .held)
   -- the lost counts: the code has four, the machine one for each configured link
   pub lost : (l : ℕ) → lostOf p l ≡ getD (m .lost) l 0
   pub configured : length (m .lost) ≡ links
