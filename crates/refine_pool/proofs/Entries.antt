@@ -1,10 +1,9 @@
 -- What the entry of a content says, and that it tells the content.
 -- Assumes nothing.
-use Prim.Native.Nat.{ℕ, suc, _+_, _%_, _≤_, _<_}
+use Prim.Native.Nat.{ℕ, _%_, _≤_, _<_}
 use mathlib.Core.Path.{_≡_, refl, sym, _∙_, ap}
 use mathlib.Core.Bool.{Bool, true, false}
-use mathlib.Core.List.{List, [], _∷_, map}
-use mathlib.Core.Option.{Option, some, none}
+use mathlib.Core.Option.{some, none}
 use lib.Dec.{eqb}
 use lib.IntN.{ℤ}
 use native.Mathlib.Nat.{mod-eq-of-lt}
@@ -13,19 +12,20 @@ use borrow.Author.Tests.{eq-eqb, eqb-true}
 use Rattle.basis.specs.Pick.{pick, both}
 use Rattle.number.specs.Signed.{Signed32, wordOf, signedOf}
 use Rattle.number.proofs.RoundTrip.{signed-word}
-use Rattle.entry.specs.declared.Entry.{Entry}
-use Rattle.entry.specs.Flags.{alarmFlags, statusFlags, eventOf, isAcknowledged, isActive, isSuspended, isKnown}
+use Rattle.entry.specs.Flags.{eventOf, isAcknowledged, isActive, isSuspended}
 use Rattle.entry.proofs.FlagLaws.{event-back, acknowledged-back, active-back, suspended-back, known-back}
+use Rattle.pool.specs.declared.Sought.the-variants.{Found}
 use Rattle.pool_laws.specs.View.{ofAlarm as isAlarm}
 use Rattle.pool_batch.specs.Batch.{renumbered, under}
-use Rattle.machine.specs.Words.{isSome, alike}
+use Rattle.machine.specs.Words.{isSome, maybe, alike}
 use Rattle.machine.specs.State.{Event, eventNumber, Alarm, Content, Issued, Held}
 use Rattle.machine.specs.State.Event.{Issue, Acknowledge, Suspend}
 use Rattle.machine.specs.State.Content.{ofAlarm, ofStatus, ofAggregated}
-use Rattle.machine.specs.Life.{alarmIn as alarmOf, sameAlarm}
+use Rattle.machine.specs.State.Sent.{noRecord, theRecord}
+use Rattle.machine.specs.Life.{alarmIn as alarmOf, sameAlarm, carries}
 use Rattle.machine.specs.Readings.{entryFor}
 use Rattle.demand_held.proofs.Lists.{clash}
-use Rattle.refine_pool.specs.Record.{placeFor, unnumbered, eventIn, contentOf, IsTold, flagsFor}
+use Rattle.refine_pool.specs.Record.{placeFor, unnumbered, eventIn, IsTold, flagsFor, carriedLike}
 use Rattle.refine_pool.specs.Claims.{Contents}
 
 module _ (l q : ℕ) where
@@ -125,11 +125,11 @@ is-alike false false e = refl
 is-alike true false e = sym e
 is-alike false true e = e
 
-left-of : (x y : Bool) → both x y ≡ true → x ≡ true
+pub left-of : (x y : Bool) → both x y ≡ true → x ≡ true
 left-of true y e = refl
 left-of false y e = e
 
-right-of : (x y : Bool) → both x y ≡ true → y ≡ true
+pub right-of : (x y : Bool) → both x y ≡ true → y ≡ true
 right-of true y e = e
 right-of false y e = clash e refl
 
@@ -201,6 +201,22 @@ module _ (a b : Alarm) where
   same-alarm =
       rw (flags-same, times-same) (to-end (eqb (b .time) (a .time)) (alike (b .active) (a .active)) (alike (b .acknowledged) (a .acknowledged))
       (alike (b .suspended) (a .suspended)) (eqb (eventNumber (b .event)) (eventNumber (a .event))))
+
+-- the message of the first pass carries an alarm's record
+pub carried-entry : (b : Alarm) (i : ℕ) (h : Held) → isSome (alarmOf i (h .content)) ≡ true → carries b i h ≡ carriedLike b (Found (placeFor h))
+carried-entry b i h e = go (h .content) e
+  where
+    number : (a : Alarm) (t : Bool) → isSome (pick t (some a) none) ≡ true → t ≡ true
+    number a true e = refl
+    number a false e = e
+
+    go : (c : Content) → isSome (alarmOf i c) ≡ true
+        → pick (maybe false (sameAlarm b) (alarmOf i c)) (theRecord (h .sequence)) noRecord
+        ≡ pick (both (eqb (entryFor (h .link) (h .sequence) c .time) (b .time)) (eqb (entryFor (h .link) (h .sequence) c .flags) (flagsFor b))) (theRecord (entryFor (h .link) (h .sequence) c .sequence)) noRecord
+    go (ofAlarm n a) e = rw (number a (eqb n i) e, same-alarm a b)
+    go (ofStatus n none t) e = clash e refl
+    go (ofStatus n (some v) t) e = clash e refl
+    go (ofAggregated v t) e = clash e refl
 
 pub contents : Contents
 contents =

@@ -4,11 +4,11 @@ use Prim.Native.Nat.{ℕ, suc, _+_, _≤_, _<_}
 use mathlib.Core.Path.{_≡_, refl, sym, _∙_, ap, subst}
 use mathlib.Core.Bool.{Bool, true, false}
 use mathlib.Core.List.{List, [], _∷_, _++_, map, map-append}
-use lib.Dec.{eqb, ltb}
+use lib.Dec.{eqb}
 use lib.ListN.{length, getD, drop}
 use native.Mathlib.Omega.{arith}
 use borrow.Author.Tests.{eqb-true, eqb-false, ne-eqb, lt-ltb}
-use Rattle.basis.specs.Pick.{pick, bit}
+use Rattle.basis.specs.Pick.{pick}
 use Rattle.entry.specs.declared.Entry.{Entry}
 use Rattle.pool.specs.declared.Place.{Place}
 use Rattle.pool.specs.declared.Pool.{Pool}
@@ -19,13 +19,13 @@ use Rattle.pool_laws.specs.Acts.{May}
 use Rattle.pool_laws.specs.Acts.Act.{Issue}
 use Rattle.pool_laws.specs.Promises.{Reached}
 use Rattle.pool_laws.specs.Promises.Reached.{after}
-use Rattle.pool_laws.specs.View.{records, loserIn, shed, issueView, losses}
+use Rattle.pool_laws.specs.View.{records, loserIn, shed, losses}
 use Rattle.pool_laws.proofs.Viewed.{viewed}
 use Rattle.pool_batch.specs.declared.Batch.{Batch}
 use Rattle.pool_batch.specs.Batch.{added as addedTo, addedAll}
 use Rattle.machine.specs.Words.{keep, butFirst}
 use Rattle.machine.specs.State.{Issued, Held, heldAs, Pool as Listed}
-use Rattle.machine.specs.Pool.{isFor, lose, makeRoom, added, issue, issueAll}
+use Rattle.machine.specs.Pool.{isFor, lose, added, issue, issueAll}
 use Rattle.machine.specs.Readings.{entryFor}
 use Rattle.demand_held.proofs.Lists.{Each, each-append, each-butFirst}
 use Rattle.demand_held.proofs.Lists.Each.{no-more, one-more}

@@ -1,11 +1,11 @@
 -- The start, and what settles, marks and unmarks.
 -- Assumes nothing.
-use Prim.Native.Nat.{ℕ, zero, suc, _+_, _≤_, _<_}
+use Prim.Native.Nat.{ℕ, zero, suc, _+_, _≤_}
 use mathlib.Core.Path.{_≡_, refl, sym, _∙_, ap, ap₂}
 use mathlib.Core.Bool.{Bool, true, false, not}
 use mathlib.Core.List.{List, [], _∷_, map}
 use lib.Dec.{eqb}
-use lib.ListN.{length, getD, replicate, length-replicate}
+use lib.ListN.{getD, replicate, length-replicate}
 use native.Mathlib.Omega.{arith}
 use borrow.Author.Tests.{eqb-true, eqb-false, ne-eqb}
 use Rattle.basis.specs.Pick.{pick, both, bit}
@@ -19,10 +19,10 @@ use Rattle.pool_laws.specs.Promises.Reached.{empty, after}
 use Rattle.pool_laws.specs.View.{records, without, sentIf, unsent as unsentPlace}
 use Rattle.pool_laws.proofs.Viewed.{viewed}
 use Rattle.machine.specs.Words.{keep}
-use Rattle.machine.specs.State.{Held, Pool as Listed, poolOf, Machine, withHeld}
+use Rattle.machine.specs.State.{Held, poolOf, Machine, withHeld}
 use Rattle.machine.specs.Pool.{isFor, settled, marked}
 use Rattle.machine.specs.Life.{unsent}
-use Rattle.demand_held.proofs.Lists.{bit-false, each-map, each-keep, count-map}
+use Rattle.demand_held.proofs.Lists.{each-map, each-keep, count-map}
 use Rattle.demand_held.proofs.Lists.Each.{no-more}
 use Rattle.demand_held.proofs.Good.Rising.{ends}
 use Rattle.demand_held.proofs.Rising.{rising-once}

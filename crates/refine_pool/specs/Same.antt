@@ -1,8 +1,9 @@
--- The code's pool of 128 places, with the site's next sequence number, and the machine's pool, one list, hold and lost the same.
+-- When the code's pool, 128 places, with the site's next sequence number is the machine's, one list: a proof's device, nothing here need be
+-- believed.
 -- Assumes nothing.
 use Prim.Native.Nat.{ℕ}
 use mathlib.Core.Path.{_≡_}
-use mathlib.Core.List.{List, map}
+use mathlib.Core.List.{map}
 use lib.ListN.{length, getD}
 use Rattle.pool.specs.declared.Pool.{Pool}
 use Rattle.pool.specs.Pool.{lostOf}
