@@ -1,0 +1,7 @@
+pub mod Words
+pub mod Usable
+pub mod Identity
+pub mod Head
+pub mod Types
+pub mod Fields
+pub mod Kept

@@ -1,0 +1,5 @@
+-- The code's readings of a packet in the machine's words.
+pub mod Verdicts
+pub mod Head
+pub mod Fields
+pub mod Claims
