@@ -33,7 +33,7 @@ pub kept-text : (s : Bytes) → textOf (labelOf s) ≡ s
 kept-text s = take-append-seam s _
 
 -- ---- a used string
-label-verdict : (w : Word) → gotLabel w .verdict ≡ verdictOf isLabel w
+pub label-verdict : (w : Word) → gotLabel w .verdict ≡ verdictOf isLabel w
 label-verdict absent = refl
 label-verdict other = refl
 label-verdict (word d) = bool-cases (isLabel d) (λ t. rw t) (λ f. rw f)

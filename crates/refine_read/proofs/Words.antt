@@ -3,7 +3,7 @@
 use Prim.Native.Nat.{ℕ}
 use Prim.Native.String.{String}
 use native.Mathlib.Omega.{arith}
-use mathlib.Core.Path.{_≡_, refl, sym, ap, subst, _∙_}
+use mathlib.Core.Path.{_≡_, refl, sym, ap, ap₂, subst, _∙_}
 use mathlib.Core.Bool.{Bool, true, false, not}
 use mathlib.Core.List.{List, [], _∷_}
 use mathlib.Core.Option.{Option, some, none}
@@ -81,10 +81,10 @@ sure-word good sure d e = rw (sure d e)
 abbrev isString : (Bytes → Bool) → Json → Bool
 isString good v = fits (aString good) v
 
-abbrev pub judgedOne : (Bytes → Bool) → Option Json → Verdict
-judgedOne good o = verdict (not (isSome o) or false) (maybe false (λ v. not (isString good v)) o or false)
+abbrev judgedOne : (Bytes → Bool) → Option Json → Verdict
+judgedOne good o = verdict (not (isSome o)) (maybe false (λ v. not (isString good v)) o)
 
-pub one-judged : (good : Bytes → Bool) → Sure good → (o : Option Json) → verdictOf good (wordOf o) ≡ judgedOne good o
+one-judged : (good : Bytes → Bool) → Sure good → (o : Option Json) → verdictOf good (wordOf o) ≡ judgedOne good o
 one-judged good sure none = refl
 one-judged good sure (some null) = refl
 one-judged good sure (some (bool b)) = refl
@@ -148,10 +148,21 @@ both-good Bad Good e = absurd (let z : _≡_ {A = ℕ} 0 1 = cc in omega arith)
 both-good Bad Missing e = absurd (let z : _≡_ {A = ℕ} 0 1 = cc in omega arith)
 both-good Bad Bad e = absurd (let z : _≡_ {A = ℕ} 0 1 = cc in omega arith)
 
+-- an element that is a string
+pub element-judged : (good : Bytes → Bool) → Sure good → (j : Json) (name : String)
+    → verdictOf good (wordIn j (text name)) ≡ verdict (not (isSome (element name j))) (maybe false (λ v. not (fits (aString good) v)) (element name j))
+element-judged good sure j name = ap (verdictOf good) (word-in j name) ∙ one-judged good sure (element name j)
+
+pub or-false : (b : Bool) → (b or false) ≡ b
+or-false true = refl
+or-false false = refl
+
 -- the element of a need that is one string
 pub need-judged : (good : Bytes → Bool) → Sure good → (j : Json) (name : String)
     → verdictOf good (wordIn j (text name)) ≡ verdict (isMissing j (one (name is aString good))) (isBad j (one (name is aString good)))
-need-judged good sure j name = ap (verdictOf good) (word-in j name) ∙ one-judged good sure (element name j)
+need-judged good sure j name =
+    element-judged good sure j name
+    ∙ sym (ap₂ verdict (or-false (not (isSome (element name j)))) (or-false (maybe false (λ v. not (fits (aString good) v)) (element name j))))
 
 pub need-good : (good : Bytes → Bool) (j : Json) (name : String) → verdictOf good (wordIn j (text name)) ≡ Good
     → (wordIn j (text name) ≡ word (stringOf name j)) × (good (stringOf name j) ≡ true)
