@@ -212,6 +212,24 @@ def whole_life():
     return hand.done()
 
 
+def decimals_of_a_watchdog():
+    """Zero to seven decimals, from the primary and from a secondary, by the Watchdog that brings the link up and by one in Up."""
+    hand = Hand()
+    for decimals in [digits[:count] for digits in ("5000000", "9999999", "0004999") for count in range(8)]:
+        for link in (0, 1):
+            hand.beating(link)
+            hand.pump(link)
+            hand.answer(link)
+            hand.tell(link, hand.supervisor.watchdog(hand.time, decimals))
+            hand.player.readings()
+            hand.tell(link, hand.supervisor.watchdog(message.LAST, decimals))
+            hand.player.disconnect(link, hand.time)
+    hand.beating(0)
+    for text in ("2015-06-08T12:01:39.Z", "2015-06-08T12:01:39", "2015-06-08T12:01:39.5", "2015-06-08T12:01:39,5Z", "2015-06-08T12:01:39.5z"):
+        hand.tell(0, changed(hand.supervisor.watchdog(0), "wTs", text))
+    return hand.done()
+
+
 def awaited_too_long():
     """29,999 ms and 30,000 ms."""
     hand = Hand()
@@ -403,8 +421,8 @@ def late_answer():
     return hand.done()
 
 
-STORED = (start_limits, checks_in_order, without_packets, sequence_end, time_end, whole_life, awaited_too_long, lengths, every_reason,
-          numbers_of_a_link, closing_answers, alarm_orders, errors_met, filled_pool, late_answer)
+STORED = (start_limits, checks_in_order, without_packets, sequence_end, time_end, whole_life, decimals_of_a_watchdog, awaited_too_long,
+          lengths, every_reason, numbers_of_a_link, closing_answers, alarm_orders, errors_met, filled_pool, late_answer)
 
 
 def texts(player):

@@ -82,4 +82,35 @@ def boots_in_1970(room):
     supervisor.close()
 
 
-TESTS = [set_back, boots_in_1970]
+def fewer_decimals(room):
+    """Supervisors whose clocks write zero to six decimals: the link comes up with each, and only from three on is there a hint."""
+    for decimals in range(7):
+        place = pathlib.Path(room) / str(decimals)
+        place.mkdir()
+        clock, supervisor = FedClock(place, NOON), Supervisor(SITE, SXL, decimals=decimals)
+        process = Process(place, [supervisor], "--clock", clock.path, "--period", "1")
+        supervisor.wait_up()
+        again = supervisor.beat()
+        supervisor.wait(lambda: again in supervisor.acknowledged, f"the acknowledgement of a Watchdog with {decimals} decimals")
+        if decimals >= 3:
+            process.wait_logged("the primary's clock is")
+        process.quit()
+        hold(process.logged("the primary's clock is") == (decimals >= 3), f"a hint at {decimals} decimals: {process.lines}")
+        supervisor.close()
+
+
+def seven_decimals(room):
+    """Seven are refused: the link does not come up by such a Watchdog."""
+    clock, supervisor = FedClock(room, NOON), Supervisor(SITE, SXL, decimals=7)
+    process = Process(room, [supervisor], "--clock", clock.path)
+    supervisor.wait(lambda: "Bad value" in supervisor.refused.values(), "a refused Watchdog")
+    hold("link 0 Beating" in process.order("links"), "the link after seven decimals")
+    supervisor.decimals = 0
+    supervisor.beat()
+    supervisor.wait_up()
+    hold(not process.logged("the primary's clock is"), f"no hint: {process.lines}")
+    process.quit()
+    supervisor.close()
+
+
+TESTS = [set_back, boots_in_1970, fewer_decimals, seven_decimals]

@@ -46,9 +46,11 @@ class Supervisor:
             return self.version(offer=self.source.choice(FAILED_OFFERS))
         return self.version(site="no such site", sxl=None) if way == 1 else self.version(sxl="no such version")
 
-    def watchdog(self, time=None):
+    def watchdog(self, time=None, decimals=None):
         given = self.source.randrange(message.LAST + 1) if time is None else time
-        return self.head("Watchdog") + [("wTs", message.time_text(given))]
+        if decimals is None and self.source.random() < 0.3:
+            decimals = "".join(self.source.choices("0123456789", k=self.source.randrange(7)))
+        return self.head("Watchdog") + [("wTs", message.time_text(given) if decimals is None else message.time_with(given, decimals))]
 
     def answer(self, identity, kind=ANSWER):
         cased = "".join(self.source.choice((c, c.upper())) if self.source.random() < 0.1 else c for c in identity)

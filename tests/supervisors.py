@@ -13,8 +13,8 @@ FORM_FEED = b"\x0c"
 class Supervisor:
     """One supervisor on loopback, one connection at a time. What comes is kept in `messages`, in order."""
 
-    def __init__(self, site, sxl, answers=True, greets=True, offer="3.2"):
-        self.site, self.sxl, self.answers, self.greets, self.offer = site, sxl, answers, greets, offer
+    def __init__(self, site, sxl, answers=True, greets=True, offer="3.2", decimals=3):
+        self.site, self.sxl, self.answers, self.greets, self.offer, self.decimals = site, sxl, answers, greets, offer, decimals
         self.messages, self.connections, self.acknowledged, self.refused = [], [], set(), {}
         self.changed, self.sending, self.stream = threading.Condition(), threading.RLock(), None
         self.listener = socket.socket()
@@ -63,7 +63,7 @@ class Supervisor:
         if kind == "Version" and self.greets:
             self.send("Version", RSMP=[{"vers": self.offer}], siteId=[{"sId": self.site}], SXL=self.sxl)
         if kind == "Watchdog" and self.greets:
-            self.send("Watchdog", wTs=message.time_text(int(time.time() * 1000)))
+            self.beat()
         with self.changed:
             self.messages.append(said)
             self.up = self.up or kind == "AggregatedStatus"
@@ -92,6 +92,11 @@ class Supervisor:
         identity, packet = self.packet(kind, **more)
         self.send_raw(packet)
         return identity
+
+    def beat(self):
+        """Sends the time by its own clock, with as many decimals as that writes."""
+        now = time.time_ns()
+        return self.send("Watchdog", wTs=message.time_with(now // 10**6, f"{now % 10**9:09}"[:self.decimals]))
 
     def ask(self, kind, **more):
         """Sends a message and waits for its answer: True where it is acknowledged, else the reason."""

@@ -34,20 +34,20 @@ def time_text(ms):
     return moment.strftime("%Y-%m-%dT%H:%M:%S.") + "%03dZ" % (moment.microsecond // 1000)
 
 
-TIME = re.compile(rb"(\d{4})-(\d\d)-(\d\d)T(\d\d):(\d\d):(\d\d)\.(\d{3})Z")
+TIME = re.compile(rb"(\d{4})-(\d\d)-(\d\d)T(\d\d):(\d\d):(\d\d)(?:\.(\d{1,6}))?Z")
 
 
 def time_read(text):
     found = TIME.fullmatch(text)
     if not found:
         return "-"
-    parts = [int(p) for p in found.groups()]
+    *parts, decimals = found.groups(default=b"")
     try:
-        moment = datetime.datetime(*parts[:6], parts[6] * 1000)
+        moment = datetime.datetime(*map(int, parts), int(decimals.ljust(6, b"0")))
     except ValueError:
         return "-"
     ms = (moment - EPOCH) // MILLISECOND
-    return str(ms) if ms >= 0 else "-"
+    return f"{ms} {len(decimals)}" if ms >= 0 else "-"
 
 
 def write_time(ms):
@@ -60,6 +60,15 @@ def read_time(text):
 
 def both_times(ms):
     return [write_time(ms), read_time(time_text(ms).encode("ascii"))]
+
+
+def with_decimals(ms, decimals):
+    """The text of a time's second with these decimals instead of its own; without any there is no dot."""
+    return (time_text(ms)[:19] + ("." + decimals if decimals else "") + "Z").encode("ascii")
+
+
+DECIMALS = [digits[:count] for digits in ("5000000", "0000000", "9999999", "1234567", "0005000", "9995000", "0050505", "6549999")
+            for count in range(8)]
 
 
 def month_edges(years):
@@ -103,10 +112,22 @@ def times(source, count):
                  b"2000-01-01 00:00:00.000Z", b"2000-01-01T00:00:00,000Z", b"02000-01-01T00:00:00.000Z",
                  b"10000-01-01T00:00:00.000Z", b"2000-01-01T00:00:00.000+00:00", b"0000-01-01T00:00:00.000Z"):
         yield read_time(text)
+    for ms in (0, 951782400000, 1254398371571, LAST):
+        for decimals in DECIMALS:
+            yield read_time(with_decimals(ms, decimals))
+    for text in (b"2000-01-01T00:00:00.Z", b"2000-01-01T00:00:00", b"2000-01-01T00:00:00.5", b"2000-01-01T00:00:00..5Z",
+                 b"2000-01-01T00:00:00.5.Z", b"2000-01-01T00:00:00.5ZZ", b"2000-01-01T00:00:00ZZ", b"2000-01-01T00:00:00.-5Z",
+                 b"2000-01-01T00:00:00. 5Z", b"2000-01-01T00:00:00.5 Z", b"2000-01-01T00:00:00.12345:Z", b"2000-01-01T00:00:00./2345Z",
+                 b"2000-01-01T00:00:00,5Z", b"2000-01-01T00:00:00:5Z", b"2000-01-01T00:00:005Z", b"2000-01-01T00:00:00.5z",
+                 b"2000-01-01T00:00:0.5Z", b"2000-01-01T00:00:60Z", b"2000-02-30T00:00:00Z", b"1969-12-31T23:59:59.999999Z"):
+        yield read_time(text)
     for _ in range(count):
         ms = source.randint(0, LAST)
         yield from both_times(ms)
         yield read_time(damaged(source, time_text(ms).encode("ascii")))
+        text = with_decimals(ms, "".join(source.choices("0123456789", k=source.randrange(8))))
+        yield read_time(text)
+        yield read_time(damaged(source, text))
 
 
 # Identities.

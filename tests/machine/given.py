@@ -105,8 +105,12 @@ def version4Of(random):
     return tuple(uuid.UUID(bytes=bytes(random), version=4).bytes)
 
 
-TIME = re.compile(r"(\d{4})-(\d\d)-(\d\d)T(\d\d):(\d\d):(\d\d)\.(\d{3})Z", re.A)
+TIME = re.compile(r"(\d{4})-(\d\d)-(\d\d)T(\d\d):(\d\d):(\d\d)(?:\.(\d{1,6}))?Z", re.A)
 EPOCH = datetime.datetime(1970, 1, 1)
+
+
+def lastTime():
+    return (datetime.datetime.max - EPOCH) // datetime.timedelta(milliseconds=1)
 
 
 def readTime(characters):
@@ -117,7 +121,8 @@ def readTime(characters):
         at = None
     if at is None or at < EPOCH:
         return ("No",)
-    return "Is", (at - EPOCH) // datetime.timedelta(seconds=1) * 1000 + int(found[7])
+    decimals = found[7] or ""
+    return "Is", (at - EPOCH) // datetime.timedelta(seconds=1) * 1000 + int((decimals + "000")[:3]), len(decimals)
 
 
 # Packets.
@@ -180,16 +185,7 @@ def isPacket(packet):
     return meaningOf(packet) is not None
 
 
-# The table's rows, a message's entries, a record's bytes; the names as crates/names has them.
-
-REASONS = ("Missing element", "Bad value", "Unexpected", "Not ready", "RSMP version", "Site id", "SXL version", "Unknown component",
-           "Unknown alarm", "Unknown status", "Busy")
-TYPES = 14
-
-
-def names():
-    return ((),) * TYPES + tuple(map(text, REASONS))
-
+# The table's rows, a message's entries, a record's bytes.
 
 def noRow():
     return dict(component=0, priority=0, category=0, code=(), name=())

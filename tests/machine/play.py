@@ -4,7 +4,7 @@ import uuid
 from cases import ROOT
 from model import message, table
 
-from .given import NONE, REASONS, TYPES, signed
+from .given import NONE, signed
 from .translate import Translation
 
 SPECS = ROOT / "crates" / "machine" / "specs"
@@ -109,7 +109,7 @@ def text(kind, *parts):
     if kind == "ack":
         return message.ack(string(parts[0]))
     if kind == "notAck":
-        return message.not_ack(string(parts[0]), REASONS[parts[1] - TYPES])
+        return message.not_ack(string(parts[0]), string(parts[1]))
     if kind == "alarm":
         state = parts[3]
         return message.alarm(*head(parts), string(parts[2]), state["event"], state["acknowledged"], state["active"], state["suspended"],

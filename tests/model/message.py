@@ -10,7 +10,7 @@ LEVELS, ENTRIES, SECONDS = 8, 16, 86400
 EPOCH = datetime.datetime(1970, 1, 1)
 MILLISECOND = datetime.timedelta(milliseconds=1)
 IDENTITY = re.compile(r"[0-9a-fA-F]{8}(-[0-9a-fA-F]{4}){3}-[0-9a-fA-F]{12}")
-TIME = re.compile(r"([0-9]{4})-([0-9]{2})-([0-9]{2})T([0-9]{2}):([0-9]{2}):([0-9]{2})\.([0-9]{3})Z")
+TIME = re.compile(r"([0-9]{4})-([0-9]{2})-([0-9]{2})T([0-9]{2}):([0-9]{2}):([0-9]{2})(?:\.([0-9]{1,6}))?Z")
 DECIMAL = re.compile(r"0|[1-9][0-9]*")
 ANSWERS = ("MessageAck", "MessageNotAck")
 STATUS_TYPES = ("StatusRequest", "StatusSubscribe", "StatusUnsubscribe")
@@ -71,15 +71,16 @@ def identity(value):
 
 
 def read_time(value):
+    """The milliseconds and how many decimals stood there (document 02, request 05), or None."""
     found = TIME.fullmatch(value) if isinstance(value, str) else None
     if not found:
         return None
-    parts = [int(part) for part in found.groups()]
+    *parts, decimals = found.groups(default="")
     try:
-        ms = (datetime.datetime(*parts[:6], parts[6] * 1000) - EPOCH) // MILLISECOND
+        ms = (datetime.datetime(*map(int, parts), int(decimals.ljust(6, "0"))) - EPOCH) // MILLISECOND
     except ValueError:
         return None
-    return ms if ms >= 0 else None
+    return (ms, len(decimals)) if ms >= 0 else None
 
 
 def is_label(value):
@@ -142,9 +143,10 @@ def version_fields(fields):
 
 def watchdog_fields(fields):
     need(fields, "wTs")
-    time = read_time(fields["wTs"])
-    good(time is not None)
-    return {"time": time}
+    read = read_time(fields["wTs"])
+    good(read is not None)
+    time, decimals = read
+    return {"time": time, "decimals": decimals}
 
 
 def alarm_fields(fields):
@@ -228,6 +230,11 @@ def text(value):
 def time_text(ms):
     moment = EPOCH + ms * MILLISECOND
     return moment.strftime("%Y-%m-%dT%H:%M:%S.") + "%03dZ" % (moment.microsecond // 1000)
+
+
+def time_with(ms, decimals):
+    """A time as a supervisor may write it, its second with these decimals; without any there is no dot."""
+    return time_text(ms)[:19] + ("." + decimals if decimals else "") + "Z"
 
 
 def head(kind, identity_):

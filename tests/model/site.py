@@ -316,7 +316,8 @@ class Site:
     def take_Watchdog(self, link, time, random, said, answer):
         self.last = time
         self.links[link].take_watchdog()
-        return Done(hint=said["time"] if link == self.primary else None, written=answer)
+        hints = link == self.primary and said["decimals"] >= 3
+        return Done(hint=said["time"] if hints else None, written=answer)
 
     def component(self, said):
         name = said["component"].encode()

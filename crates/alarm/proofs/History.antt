@@ -1,11 +1,12 @@
 -- Every alarm is as its history tells; it is unacknowledged exactly when it became active and nobody acknowledged it since.
 -- Assumes nothing.
 use Prim.Native.Nat.{ℕ}
-use mathlib.Core.Path.{_≡_, refl, ap, _∙_}
-use mathlib.Core.Bool.{Bool, true, false, true≢false}
+use mathlib.Core.Path.{_≡_, refl, sym, ap, _∙_}
+use mathlib.Core.Bool.{Bool, true, false}
 use mathlib.Core.Logic.{_↔_}
 use mathlib.Core.List.{List, [], _∷_, _++_}
 use Rattle.basis.specs.Pick.{pick, both, bit}
+use Rattle.basis.proofs.Both.{untrue}
 use Rattle.alarm.specs.declared.Alarm.{Alarm}
 use Rattle.alarm.specs.declared.Changed.{Changed}
 use Rattle.alarm.specs.declared.Order.the-variants.{Acknowledge, Suspend, Resume}
@@ -86,9 +87,6 @@ later act acts h u =
       silent = more h (u .silent);
     }
 
-never : {P : Type 0} → true ≡ false → P
-never e = absurd (true≢false e)
-
 -- what an input leaves unacknowledged, by its value and the state before it
 rising : (active a : Bool) (t : ℕ) (before : List Act) → wasActive before ≡ a → (wasAcknowledged before ≡ false → Unanswered before)
     → pick (both active (differs active a)) false (wasAcknowledged before) ≡ false → Unanswered (Input active t ∷ before)
@@ -97,9 +95,9 @@ rising true true t before was u h = later _ _ refl (u h)
 rising false a t before was u h = later _ _ refl (u h)
 
 unanswered-if : (acts : List Act) → wasAcknowledged acts ≡ false → Unanswered acts
-unanswered-if [] h = never h
+unanswered-if [] h = untrue (sym h)
 unanswered-if (Input active t ∷ before) h = rising active (wasActive before) t before refl (unanswered-if before) h
-unanswered-if (Ordered Acknowledge t ∷ before) h = never h
+unanswered-if (Ordered Acknowledge t ∷ before) h = untrue (sym h)
 unanswered-if (Ordered Suspend t ∷ before) h = later _ _ refl (unanswered-if before h)
 unanswered-if (Ordered Resume t ∷ before) h = later _ _ refl (unanswered-if before h)
 
@@ -110,7 +108,7 @@ kept (Input active t) acts h u = rw u (either (both active (differs active (wasA
     either : (b : Bool) → pick b false false ≡ false
     either true = refl
     either false = refl
-kept (Ordered Acknowledge t) acts h u = never h
+kept (Ordered Acknowledge t) acts h u = untrue (sym h)
 kept (Ordered Suspend t) acts h u = u
 kept (Ordered Resume t) acts h u = u
 

@@ -13,6 +13,7 @@ use Rattle.basis.specs.Lists.{count}
 use Rattle.answer.specs.declared.Report.{Report}
 use Rattle.answer.specs.declared.Answer.the-variants.{Done}
 use Rattle.answer.specs.Order.{inOrder, None}
+use Rattle.answer.specs.Times.{lastTime}
 use Rattle.entry.specs.declared.Entry.{Entry}
 use Rattle.awaited.proofs.Laws.{Sound as SoundAwaited}
 use Rattle.alarm.specs.declared.Alarm.{Alarm}
@@ -69,7 +70,7 @@ one-lasts : (b : Batch) (q : ℕ) → b .spent ≡ both (ltb 0 1) (ltb 429496729
 one-lasts b q e f = ltb-false 4294967296 (q + 1) (sym e ∙ f)
 
 -- the time of an input that is done
-pub years : (s : Site) (k : ℕ) (active : Bool) (t : ℕ) → Changes s k active t → t ≤ 253402300799999
+pub years : (s : Site) (k : ℕ) (active : Bool) (t : ℕ) → Changes s k active t → t ≤ lastTime
 years s k active t h =
     let report : (d : Report) × (stepBy s (alarm k active t) .answer ≡ Done d) = is-done (stepBy s (alarm k active t) .answer) (h .done) in
     not-above s t (in-time (calls-kept .numbered s (alarm k active t) .done-only-so (report .0) (report .1) .0))
@@ -155,7 +156,7 @@ module _
           exchange = x;
         }
 
-    pub fixed : u < t + s .period * 1000 → u ≤ 253402300799999 → ((n : ℕ) → Fair x n) → Fixed setting
+    pub fixed : u < t + s .period * 1000 → u ≤ lastTime → ((n : ℕ) → Fair x n) → Fixed setting
     fixed b c a =
         record {
           four = four;

@@ -7,6 +7,7 @@ use mathlib.Core.Bool.{Bool, true}
 use mathlib.Core.List.{List, [], _∷_, append-nil}
 use mathlib.Core.Logic.{⊎-elim}
 use lib.ListN.{length, take}
+use Rattle.answer.specs.Times.{lastTime}
 use Rattle.identity.specs.declared.Identity.{Identity}
 use Rattle.pool.specs.declared.Place.{Place}
 use Rattle.pool_laws.specs.Promises.{Reached}
@@ -90,7 +91,7 @@ module _
     held : Reached 4 (siteAfter s cs .pool) (siteAfter s cs .next)
     held = reached s b cs
 
-    in-a-period : (u : ℕ) → Timely x t u → u < t + now .period * 1000 → u ≤ 253402300799999 → out.GoesOut s cs k active t x u
+    in-a-period : (u : ℕ) → Timely x t u → u < t + now .period * 1000 → u ≤ lastTime → out.GoesOut s cs k active t x u
     in-a-period u timely within years =
         let e : Setting = setting now fine held k active t h x u timely in
         let v : List Place = older now fine held k active t h x u timely in

@@ -5,6 +5,7 @@ use native.Mathlib.Omega.{arith}
 use mathlib.Core.Path.{_≡_, refl, sym, ap, subst, _∙_}
 use mathlib.Core.Bool.{Bool, true, false}
 use Rattle.basis.specs.Pick.{both}
+use Rattle.basis.proofs.Both.{both-second}
 use Rattle.identity.specs.declared.Identity.{Identity}
 use Rattle.awaited.specs.declared.Awaited.{Awaited}
 use Rattle.awaited.specs.declared.Purpose.{Purpose}
@@ -22,9 +23,6 @@ use Rattle.link.proofs.Phases.{phase-cases, is-up}
 use Rattle.alarmout.proofs.Awaits.{Room, sent-found, answered-room}
 
 -- ---- Up
-right-true : (a b : Bool) → both a b ≡ true → b ≡ true
-right-true true b e = e
-right-true false b e = let z : _≡_ {A = ℕ} 0 1 = cc in absurd (omega arith)
 
 pub record Marks (k : Link) : Type 0 where
   pub connected : k .connected ≡ true
@@ -62,7 +60,7 @@ module _ (k : Link) (h : Marks k) where
   pub marks-watchdog : Marks (mark OurWatchdog k)
   unfolding greeted beaten
   marks-watchdog =
-      let b : both (k .watchdogacked) (k .watchdogtaken) ≡ true = right-true (k .watchdogout) (both (k .watchdogacked) (k .watchdogtaken)) (h .beaten) in
+      let b : both (k .watchdogacked) (k .watchdogtaken) ≡ true = both-second (k .watchdogout) (both (k .watchdogacked) (k .watchdogtaken)) (h .beaten) in
       record { connected = h .connected; greeted = h .greeted; beaten = b }
 
   pub marks-acked : Marks (mark OurWatchdogAcked k)
@@ -70,7 +68,7 @@ module _ (k : Link) (h : Marks k) where
   marks-acked = record { connected = h .connected; greeted = h .greeted; beaten = by (k .watchdogout) (k .watchdogacked) (k .watchdogtaken) (h .beaten) }
     where
       by : (a b c : Bool) → both a (both b c) ≡ true → both a (both true c) ≡ true
-      by true b c e = right-true b c e
+      by true b c e = both-second b c e
       by false b c e = e
 
   marks-version : Marks (mark OurVersionAcked k)
@@ -78,7 +76,7 @@ module _ (k : Link) (h : Marks k) where
   marks-version = record { connected = h .connected; greeted = by (k .versionout) (k .versionacked) (k .versiontaken) (h .greeted); beaten = h .beaten }
     where
       by : (a b c : Bool) → both a (both b c) ≡ true → both a (both true c) ≡ true
-      by true b c e = right-true b c e
+      by true b c e = both-second b c e
       by false b c e = e
 
   marks-noted : (p : Purpose) → Marks (notedFor p k)

@@ -11,6 +11,7 @@ use Rattle.answer.specs.declared.Answer.the-variants.{Done}
 use Rattle.answer.specs.Given.Hint.{none as no-hint}
 use Rattle.answer.specs.Order.{inOrder, None}
 use Rattle.answer.specs.Order.None.{none, more}
+use Rattle.answer.specs.Times.{lastTime}
 use Rattle.identity.specs.declared.Identity.{Identity}
 use Rattle.identity.specs.Version.{identityOf}
 use Rattle.awaited.specs.declared.Purpose.{Purpose}
@@ -58,7 +59,7 @@ module _ (s : Site) (l t : ℕ) (random id : Identity) (p out : List ℕ) (ack :
     pub enough : 4096 ≤ length out
     pub short : length p ≤ 4096
     pub later : s .last ≤ t
-    pub years : t ≤ 253402300799999
+    pub years : t ≤ lastTime
     pub up : phaseOf (linkAt s l) ≡ Up
     pub class : headAt p .class ≡ classOf ack
     pub identity : headAt p .identity ≡ id
@@ -119,7 +120,7 @@ module _ (s : Site) (l t : ℕ) (random id : Identity) (p out : List ℕ) (ack :
     linked = rw (lt-ltb l 4 (h .four), lt-leb (s .linkcount) l (h .configured)) refl
 
     timely : badTimeAt s t ≡ false
-    timely = rw (le-ltb t (s .last) (h .later), le-ltb 253402300799999 t (h .years)) refl
+    timely = rw (le-ltb t (s .last) (h .later), le-ltb lastTime t (h .years)) refl
 
     nothing-against : None (conditionsOf s answer) inOrder
     nothing-against =

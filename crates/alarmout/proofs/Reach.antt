@@ -1,10 +1,10 @@
 -- What holds of the site after every sequence of calls from a done start: it is sound, its records and what each link awaits are what acts left.
 -- Assumes nothing.
 use Prim.Native.Nat.{ℕ, _<_}
-use native.Mathlib.Omega.{arith}
 use mathlib.Core.Path.{_≡_, refl, sym, ap, subst}
-use mathlib.Core.Bool.{true, false}
+use mathlib.Core.Bool.{true}
 use mathlib.Core.List.{List, [], _∷_}
+use Rattle.basis.proofs.Both.{untrue}
 use Rattle.answer.specs.declared.Report.{Report}
 use Rattle.answer.specs.declared.Answer.{Answer}
 use Rattle.answer.specs.declared.Answer.the-variants.{Done, Refused}
@@ -40,12 +40,9 @@ use Rattle.demands.specs.Demand3.{Started}
 use Rattle.demands.specs.Demand3.Started.{started}
 use Rattle.demands.proofs.Touching.{touching}
 
-pub not-done : {P : Type 0} → false ≡ true → P
-not-done e = let z : _≡_ {A = ℕ} 0 1 = cc in absurd (omega arith)
-
 pub is-done : (a : Answer) → isDone a ≡ true → (d : Report) × (a ≡ Done d)
 is-done (Done d) e = (d, refl)
-is-done (Refused x) e = not-done e
+is-done (Refused x) e = untrue e
 
 -- ---- the site is sound
 pub sound : (s : Site) → Started s → (cs : List Call) → EachTyped cs → Sound (siteAfter s cs)
@@ -86,7 +83,7 @@ from-start-step : {b : List ℕ} {links primary period first time : ℕ} {r : St
     → (cs : List Call) (l : ℕ) → l < 4 → SoundAwaited (linkAt (siteAfter (r .site) cs) l .awaited)
 from-start-step {links = links} {primary = primary} {period = period} {first = first} {time = time} (starts {t = t} a p w) d cs l h =
     from-fresh (memoryOf t) links (primaryOf primary) period first time cs l h
-from-start-step (refuses n) d cs l h = not-done d
+from-start-step (refuses n) d cs l h = untrue d
 
 pub awaited : (s : Site) → Started s → (cs : List Call) (l : ℕ) → l < 4 → SoundAwaited (linkAt (siteAfter s cs) l .awaited)
 awaited s (started x d) cs l h = from-start-step x d cs l h

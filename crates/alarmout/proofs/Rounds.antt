@@ -7,6 +7,7 @@ use mathlib.Core.List.{List}
 use lib.ListN.{length, getD, set, length-set}
 use lib.Seq.{getD-set-same}
 use Rattle.answer.specs.Number.{isDone}
+use Rattle.answer.specs.Times.{lastTime}
 use Rattle.identity.specs.declared.Identity.{Identity}
 use Rattle.identity.specs.Version.{identityOf}
 use Rattle.awaited.specs.declared.Purpose.{Purpose}
@@ -122,7 +123,7 @@ module _ (s : Site) (l t z : ℕ) (random other : Identity) (out p back : List �
 
       module _ (c : Purpose) (links : length (s .links) ≡ 4) (up : phaseOf j ≡ Up) (found : findOf (j .awaited) (identityOf random) ≡ For c) (lasts : Lasts c)
           (ack : Bool) (class : headAt p .class ≡ classOf ack) (identity : headAt p .identity ≡ identityOf random)
-          (short : length p ≤ 4096) (room : 4096 ≤ length back) (order : t ≤ z) (years : z ≤ 253402300799999)
+          (short : length p ≤ 4096) (room : 4096 ≤ length back) (order : t ≤ z) (years : z ≤ lastTime)
         where
           answering : Answering (sentSite s l t j q) l z other (identityOf random) p back ack c
           answering =

@@ -9,6 +9,7 @@ use mathlib.Core.Logic.{_⊎_, inl, inr}
 use lib.ListN.{length, getD}
 use Rattle.basis.specs.Lists.{count}
 use Rattle.answer.specs.Number.{isDone}
+use Rattle.answer.specs.Times.{lastTime}
 use Rattle.identity.specs.declared.Identity.{Identity}
 use Rattle.awaited.specs.declared.Purpose.{Purpose}
 use Rattle.awaited.specs.declared.Purpose.the-variants.{Entry as ForEntry}
@@ -90,7 +91,7 @@ aheadOf e k v = ahead (e .until) (e .period) (e .table .alarmcount) k (count not
 pub record Fixed (e : Setting) : Type 0 where
   pub four : e .l < 4
   pub timely : Timely (e .exchange) (e .from) (e .until)
-  pub years : e .until ≤ 253402300799999
+  pub years : e .until ≤ lastTime
   pub within : e .until < e .from + e .period * 1000
   pub few : e .table .alarmcount ≤ 32
   pub event : e .state .event ≤ 2
@@ -136,10 +137,10 @@ module _ (e : Setting) (f : Fixed e) (n : ℕ) (s : Site) (v : List Place) (w : 
   pub is-up : phaseOf (linkAt s (e .l)) ≡ Up
   is-up = up (linkAt s (e .l)) (w .going .marks)
 
-  years-answered : e .exchange .answered n ≤ 253402300799999
+  years-answered : e .exchange .answered n ≤ lastTime
   years-answered = omega (arith, f .timely .until n, f .years)
 
-  years-sent : at e n ≤ 253402300799999
+  years-sent : at e n ≤ lastTime
   years-sent = omega (arith, f .timely .sent-answered n, years-answered)
 
   pub ready : (d : Due) → dueAt s (e .l) (at e n) ≡ d → (d ≡ Nothing → ⊥) → Ready s (e .l) (at e n) (ids e n) (length (e .exchange .out n))

@@ -11,6 +11,7 @@ use lib.Dec.{leb}
 use lib.ListN.{length, take}
 use Rattle.basis.specs.Pick.{pick, bit}
 use Rattle.basis.specs.Lists.{count}
+use Rattle.answer.specs.Times.{lastTime}
 use Rattle.identity.specs.declared.Identity.{Identity}
 use Rattle.identity.specs.Read.{SixteenBytes}
 use Rattle.identity.specs.Version.{identityOf}
@@ -132,7 +133,7 @@ pub record Claims : Type 0 where
   pub in-a-period : (s : Site) → Started s → (cs : List Call) → EachTyped cs
       → (k : ℕ) (active : Bool) (t : ℕ) → Changes (siteAfter s cs) k active t
       → (x : Exchange) → ((n : ℕ) → Fair x n) → Open (siteAfter s (alarm k active t ∷ cs)) (siteAfter s cs .primary) x
-      → (u : ℕ) → Timely x t u → u < t + siteAfter s cs .period * 1000 → u ≤ 253402300799999
+      → (u : ℕ) → Timely x t u → u < t + siteAfter s cs .period * 1000 → u ≤ lastTime
       → GoesOut s cs k active t x u
   -- so all of them may be made at the time of the input
   pub at-its-time : (s : Site) → Started s → (cs : List Call) → EachTyped cs

@@ -18,12 +18,13 @@ use Rattle.awaited.specs.declared.Found.{Found}
 use Rattle.awaited.specs.declared.Found.the-variants.{For, Nothing}
 use Rattle.awaited.specs.Lists.{changeFirst, some}
 use Rattle.basis.specs.Lists.{count}
+use Rattle.basis.proofs.Both.{not-both}
 use Rattle.awaited.specs.Slot.{sameIdentity, freeSlot, slotOf, purposeOf, isFree, isTaken, awaitsFor, isLate}
 use Rattle.awaited.specs.Awaited.{nothingAwaited, addOf, findIn, findOf, removeOf, howManyOf, lateOf}
 use Rattle.awaited.proofs.Back.{change-length}
 use Rattle.awaited.proofs.Change.{bit-true, bit-false, change-none, count-change, some-change, some-less, count-both, count-same, count-less, count-replicate, some-replicate}
 use Rattle.awaited.proofs.Same.{same-self, same-like}
-use Rattle.awaited.proofs.Slots.{false-true, free-awaits, free-taken, free-late, awaits-taken, awaits-same, same-awaits, taken-free, slot-purpose, slot-awaits, slot-taken, slot-late}
+use Rattle.awaited.proofs.Slots.{free-awaits, free-taken, free-late, awaits-taken, awaits-same, same-awaits, taken-free, slot-purpose, slot-awaits, slot-taken, slot-late}
 
 -- finding, over the places
 module _ (j : Identity) where
@@ -77,7 +78,7 @@ like-awaits id j h x =
     (λ t. rw t (bool-cases (sameIdentity (x .id) j)
     (λ s. s ∙ sym (same-like j (x .id) id (same-other (x .id) j s) (same-other id j h)))
     (λ n. n ∙ sym (bool-cases (sameIdentity (x .id) id)
-    (λ s. false-true (sameIdentity (x .id) j) n (same-like id (x .id) j (same-other (x .id) id s) h))
+    (λ s. not-both (same-like id (x .id) j (same-other (x .id) id s) h) n)
     (λ m. m)))))
 
 like-count : (id j : Identity) → sameIdentity id j ≡ true → (l : List Slot) → count (awaitsFor j) l ≡ count (awaitsFor id) l
@@ -184,7 +185,7 @@ module _ (a : Awaited) (id : Identity) where
   remove-other j n =
       find-kept j (awaitsFor id) freeSlot
       (λ x e. same-awaits id j x e
-      ∙ bool-cases (sameIdentity (x .id) j) (λ s. false-true (sameIdentity id j) n (same-like (x .id) id j (awaits-same id x e) s)) (λ s. s))
+      ∙ bool-cases (sameIdentity (x .id) j) (λ s. not-both (same-like (x .id) id j (awaits-same id x e) s) n) (λ s. s))
       (free-awaits j freeSlot refl) (a .slots)
 
   pub remove-late : (t : ℕ) → lateOf (removeOf a id) t ≡ true → lateOf a t ≡ true

@@ -2,19 +2,16 @@
 -- Assumes nothing.
 use Prim.Native.Nat.{ℕ, _+_}
 use mathlib.Core.Path.{_≡_, refl}
-use mathlib.Core.Bool.{Bool, true, false}
-use native.Mathlib.Omega.{arith}
+use mathlib.Core.Bool.{true, false}
 use lib.Dec.{leb}
 use Rattle.basis.specs.Pick.{bit}
 use Rattle.basis.proofs.Cases.{bool-cases}
+use Rattle.basis.proofs.Both.{untrue}
 use Rattle.identity.specs.declared.Identity.{Identity}
 use Rattle.awaited.specs.declared.Slot.{Slot}
 use Rattle.awaited.specs.declared.Purpose.{Purpose}
 use Rattle.awaited.specs.declared.Purpose.the-variants.{Version, Watchdog, Entry, Other}
 use Rattle.awaited.specs.Slot.{sameIdentity, slotOf, purposeOf, isFree, isTaken, awaitsFor, isLate}
-
-pub false-true : {P : Type 0} (b : Bool) → b ≡ false → b ≡ true → P
-false-true b p q = absurd (let z : _≡_ {A = ℕ} 0 1 = cc in omega arith)
 
 pub free-awaits : (id : Identity) (x : Slot) → isFree x ≡ true → awaitsFor id x ≡ false
 unfolding awaitsFor
@@ -30,15 +27,15 @@ free-late t x e = rw e
 
 pub awaits-taken : (id : Identity) (x : Slot) → awaitsFor id x ≡ true → isTaken x ≡ true
 unfolding awaitsFor isTaken
-awaits-taken id x t = bool-cases (isFree x) (λ u. false-true false refl (rw u at t)) (λ u. rw u)
+awaits-taken id x t = bool-cases (isFree x) (λ u. untrue (rw u at t)) (λ u. rw u)
 
 pub awaits-same : (id : Identity) (x : Slot) → awaitsFor id x ≡ true → sameIdentity (x .id) id ≡ true
 unfolding awaitsFor
-awaits-same id x t = bool-cases (isFree x) (λ u. false-true false refl (rw u at t)) (λ u. rw u at t)
+awaits-same id x t = bool-cases (isFree x) (λ u. untrue (rw u at t)) (λ u. rw u at t)
 
 pub same-awaits : (id j : Identity) (x : Slot) → awaitsFor id x ≡ true → awaitsFor j x ≡ sameIdentity (x .id) j
 unfolding awaitsFor
-same-awaits id j x t = bool-cases (isFree x) (λ u. false-true false refl (rw u at t)) (λ u. rw u)
+same-awaits id j x t = bool-cases (isFree x) (λ u. untrue (rw u at t)) (λ u. rw u)
 
 pub taken-free : (x : Slot) → bit (isTaken x) + bit (isFree x) ≡ 1
 unfolding isTaken

@@ -2,3 +2,5 @@ pub mod Tests
 pub mod Table
 pub mod Cases
 pub mod Same
+pub mod Both
+pub mod Among

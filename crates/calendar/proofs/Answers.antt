@@ -11,8 +11,9 @@ use Rattle.basis.specs.Pick.{both}
 use Rattle.basis.proofs.Cases.{picked}
 use Rattle.basis.specs.Lists.{sameBytes}
 use Rattle.basis.proofs.Same.{same-true, same-self}
-use Rattle.calendar.specs.declared.Time.{Time}
-use Rattle.calendar.specs.declared.Time.the-variants.{Is, No}
+use Rattle.basis.proofs.Both.{not-both, both-true, both-of}
+use Rattle.calendar.specs.declared.Second.{Second}
+use Rattle.calendar.specs.declared.Second.the-variants.{Is, No}
 use Rattle.calendar.specs.Read.{Answers, checked}
 
 pub no-is : {X : Type 0} (n : ℕ) → No ≡ Is n → X
@@ -25,7 +26,7 @@ pub is-number : (a b : ℕ) → Is a ≡ Is b → a ≡ b
 is-number a b e = cc
 
 pub differs : (b : Bool) → b ≡ true → b ≡ false → ⊥
-differs b t f = let z : _≡_ {A = ℕ} 0 1 = cc in omega arith
+differs b t f = not-both t f
 
 module _ (textOf : ℕ → List ℕ) (last : ℕ) (s : List ℕ) where
   pub nothing : ((n : ℕ) → n ≤ last → s ≡ textOf n → ⊥) → Answers textOf last s No
@@ -49,23 +50,4 @@ module _ (textOf : ℕ → List ℕ) (last : ℕ) (s : List ℕ) where
         let g = only n b e in
         let k : s ≡ textOf guess = e ∙ ap textOf (sym g) in
         let l : guess ≤ last = omega arith in
-        let z : _≡_ {A = Bool} true false = sym (trues (le-leb guess last l) (subst (λ (x : List ℕ). sameBytes s x ≡ true) k (same-self s))) ∙ f in
-        let w : _≡_ {A = ℕ} 0 1 = cc in
-        omega arith))
-      where
-        both-true : (a b : Bool) → both a b ≡ true → (a ≡ true) × (b ≡ true)
-        both-true true b e = (refl, e)
-        both-true false b e = (e, absurd (let w : _≡_ {A = ℕ} 0 1 = cc in omega arith))
-
-        trues : {a b : Bool} → a ≡ true → b ≡ true → both a b ≡ true
-        trues {a} {b} p q = rw (p, q)
-
--- where a number is said by its text, a text has one answer only
-pub one-answer : (textOf : ℕ → List ℕ) (last : ℕ) (said : List ℕ → ℕ) → ((n : ℕ) → n ≤ last → said (textOf n) ≡ n) → (s : List ℕ) (a b : Time) → Answers textOf last s a → Answers textOf last s b → a ≡ b
-one-answer textOf last said f s (Is m) (Is n) p q =
-    let x = p .accepted m refl in
-    let y = q .accepted n refl in
-    ap Is (sym (f m (x .0)) ∙ ap said (sym (x .1) ∙ y .1) ∙ f n (y .0))
-one-answer textOf last said f s (Is m) No p q = let x = p .accepted m refl in absurd (q .refused refl m (x .0) (x .1))
-one-answer textOf last said f s No (Is n) p q = let y = q .accepted n refl in absurd (p .refused refl n (y .0) (y .1))
-one-answer textOf last said f s No No p q = refl
+        not-both (both-of (le-leb guess last l) (subst (λ (x : List ℕ). sameBytes s x ≡ true) k (same-self s))) f))

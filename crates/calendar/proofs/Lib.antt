@@ -7,5 +7,6 @@ pub mod Counted
 pub mod Digits
 pub mod Said
 pub mod Answers
+pub mod Rest
 pub mod Reading
 pub mod Writing

@@ -1,109 +1,150 @@
 -- Reading a time: the function gives the answer, there is one answer only, and each direction is the other's inverse.
 -- Assumes nothing.
 use mathlib.Core.Path.{_≡_, refl, sym, ap, ap₂, subst, _∙_}
-use mathlib.Core.List.{List, _++_}
+use mathlib.Core.Bool.{true}
+use mathlib.Core.List.{List, [], _∷_, _++_}
 use Prim.Native.Nat.{ℕ, _+_, _-_, _*_, _/_, _%_, _≤_, _<_}
 use native.Mathlib.Omega.{arith}
 use lib.ListN.{length, take, drop, length-append, length-drop, take-append-drop}
 use lib.Seq.{take-at, drop-at, take-all}
+use Rattle.basis.specs.Text.{text}
+use Rattle.calendar.specs.declared.Second.{Second}
+use Rattle.calendar.specs.declared.Second.the-variants.{Is as IsSecond, No as NoSecond}
 use Rattle.calendar.specs.declared.Time.{Time}
 use Rattle.calendar.specs.declared.Time.the-variants.{Is, No}
 use Rattle.calendar.specs.Days.{dayOf, Valid}
-use Rattle.calendar.specs.Text.{lastTime, lastSecond, secondText, milliText, timeText}
-use Rattle.calendar.specs.Read.{Answers, dateSaid, clockSaid, milliSaid, readSecond, readMilli, joinTime, readTime, TimeRead}
-use Rattle.calendar.proofs.Said.{second-length, milli-length, said-valid, said-second, said-milli}
-use Rattle.calendar.proofs.Answers.{this, nothing, checked-answers, one-answer}
+use Rattle.calendar.specs.Text.{lastTime, lastSecond, decimals, secondText, milliText, timeText}
+use Rattle.calendar.specs.Read.{Answers, areDigits, pointed, millis, Form, Reads, dateSaid, clockSaid, readSecond, readRest, joinTime, readTime, TimeRead}
+use Rattle.calendar.specs.Read.Reads.{is, no}
+use Rattle.calendar.proofs.Said.{second-length, milli-length, said-valid, said-second, said-millis}
+use Rattle.calendar.proofs.Answers.{checked-answers}
+use Rattle.calendar.proofs.Rest.{RestForm, ReadsRest, millis-most, digits-are, digits-again, rest-complete, rest-answers}
+use Rattle.calendar.proofs.Rest.ReadsRest.{is-rest, no-rest}
 
 pub time-length : (n : ℕ) → length (timeText n) ≡ 24
 unfolding timeText
 time-length n = omega (arith, length-append (secondText (n / 1000)) (milliText (n % 1000)), second-length (n / 1000), milli-length (n % 1000))
 
-time-second : (n : ℕ) → take 19 (timeText n) ≡ secondText (n / 1000)
-unfolding timeText
-time-second n = take-at (secondText (n / 1000)) (milliText (n % 1000)) 19 (second-length (n / 1000))
-
-time-milli : (n : ℕ) → drop 19 (timeText n) ≡ milliText (n % 1000)
-unfolding timeText
-time-milli n = drop-at (secondText (n / 1000)) (milliText (n % 1000)) 19 (second-length (n / 1000))
-
-time-of : (x m : ℕ) → m ≤ 999 → timeText (x * 1000 + m) ≡ secondText x ++ milliText m
-unfolding timeText
-time-of x m h = ap₂ (λ (a b : ℕ). secondText a ++ milliText b) (quotient x m h) (remainder x m h)
-  where
-    quotient : (x m : ℕ) → m ≤ 999 → (x * 1000 + m) / 1000 ≡ x
-    quotient x m h = omega arith
-
-    remainder : (x m : ℕ) → m ≤ 999 → (x * 1000 + m) % 1000 ≡ m
-    remainder x m h = omega arith
-
 pub second-part : (n m : ℕ) → take 19 (secondText n ++ milliText m) ≡ secondText n
 second-part n m = take-at (secondText n) (milliText m) 19 (second-length n)
-
-pub milli-part : (m : ℕ) → m ≤ 999 → take 5 (drop 19 (timeText m)) ≡ milliText m
-milli-part m h = ap (take 5) (time-milli m ∙ ap milliText (small m h)) ∙ take-all 5 (milliText m) (omega (arith, milli-length m))
-  where
-    small : (m : ℕ) → m ≤ 999 → m % 1000 ≡ m
-    small m h = omega arith
 
 -- a guess that is right wherever h is the text of a second
 pub guess-second : (h : List ℕ) (c d : ℕ) → c ≡ clockSaid h → (Valid (dateSaid h) → d ≡ dayOf (dateSaid h)) → (n : ℕ) → n ≤ lastSecond → h ≡ secondText n → d * 86400 + c ≡ n
 guess-second h c d e f n b z = rw (e, f (said-valid h n b z)) (said-second h n b z)
 
-second-below : (n : ℕ) → n ≤ lastTime → n / 1000 ≤ lastSecond
-second-below n h = omega arith
+-- the two parts of a text of the form
+module _ {s : List ℕ} {second : ℕ} {ds : List ℕ} (f : Form s second ds) where
+  form-second : take 19 s ≡ secondText second
+  form-second = ap (take 19) (f .said) ∙ take-at (secondText second) (pointed ds ++ text "Z") 19 (second-length second)
 
-milli-below : (n : ℕ) → n % 1000 ≤ 999
-milli-below n = omega arith
+  form-rest : RestForm (drop 19 s) ds
+  form-rest = record { digits = f .digits; most = f .most; said = ap (drop 19) (f .said) ∙ drop-at (secondText second) (pointed ds ++ text "Z") 19 (second-length second) }
 
 -- the answers to the two parts make the answer to the whole
-pub joined : (s : List ℕ) (a b : Time) → Answers secondText lastSecond (take 19 s) a → Answers milliText 999 (drop 19 s) b → Answers timeText lastTime s (joinTime a b)
-joined s (Is x) (Is m) p q =
+pub joined : (s : List ℕ) (a : Second) (b : Time) → Answers secondText lastSecond (take 19 s) a → ReadsRest (drop 19 s) b → Reads s (joinTime a b)
+joined s (IsSecond x) _ p (is-rest ds f) =
     let u = p .accepted x refl in
-    let v = q .accepted m refl in
-    this timeText lastTime s (x * 1000 + m) (omega (arith, u .0, v .0))
-    (sym (take-append-drop 19 s) ∙ ap₂ (λ (k l : List ℕ). k ++ l) (u .1) (v .1) ∙ sym (time-of x m (v .0)))
-joined s (Is x) No p q = nothing timeText lastTime s (λ n h e. q .refused refl (n % 1000) (milli-below n) (ap (drop 19) e ∙ time-milli n))
-joined s No b p q = nothing timeText lastTime s (λ n h e. p .refused refl (n / 1000) (second-below n h) (ap (take 19) e ∙ time-second n))
+    is x ds (record { to-9999 = u .0; digits = f .digits; most = f .most; said = sym (take-append-drop 19 s) ∙ ap₂ (λ (k l : List ℕ). k ++ l) (u .1) (f .said) })
+joined s (IsSecond x) _ p (no-rest g) = no (λ n ds f. g ds (form-rest f))
+joined s NoSecond b p q = no (λ n ds f. p .refused refl n (f .to-9999) (form-second f))
 
 -- the rest of the text, to its end
-pub rest : (s : List ℕ) (r : Time) → Answers milliText 999 (take (length s - 19) (drop 19 s)) r → Answers milliText 999 (drop 19 s) r
-rest s r p = subst (λ (t : List ℕ). Answers milliText 999 t r) (take-all (length s - 19) (drop 19 s) (omega (arith, length-drop 19 s))) p
+pub rest : (s : List ℕ) (r : Time) → r ≡ readRest (take (length s - 19) (drop 19 s)) → ReadsRest (drop 19 s) r
+rest s r e = subst (ReadsRest (drop 19 s)) (sym (e ∙ ap readRest (take-all (length s - 19) (drop 19 s) (omega (arith, length-drop 19 s))))) (rest-answers (drop 19 s))
 
 -- a text that is too short for the first part
-pub short : (s : List ℕ) → length s < 19 → Answers timeText lastTime s No
-short s h = nothing timeText lastTime s (λ n b e. omega (arith, ap length e, time-length n))
+pub short : (s : List ℕ) → length s < 19 → Reads s No
+short s h = no (λ n ds f. omega (arith, ap length (f .said), length-append (secondText n) (pointed ds ++ text "Z"), second-length n))
 
-pub answers : (s : List ℕ) → Answers timeText lastTime s (readTime s)
-unfolding readTime readSecond readMilli
+pub answers : (s : List ℕ) → Reads s (readTime s)
+unfolding readTime readSecond
 answers s =
     let h = take 19 s in
-    let t = drop 19 s in
-    joined s (readSecond h) (readMilli t)
+    joined s (readSecond h) (readRest (drop 19 s))
     (checked-answers secondText lastSecond h (dayOf (dateSaid h) * 86400 + clockSaid h) (said-second h))
-    (checked-answers milliText 999 t (milliSaid t) (said-milli t))
+    (rest-answers (drop 19 s))
 
-abbrev timeSaid : List ℕ → ℕ
-timeSaid s = (dayOf (dateSaid (take 19 s)) * 86400 + clockSaid (take 19 s)) * 1000 + milliSaid (drop 19 s)
+-- a text of the form is read
+one-second : (h : List ℕ) (a : Second) → Answers secondText lastSecond h a → (n : ℕ) → n ≤ lastSecond → h ≡ secondText n → a ≡ IsSecond n
+one-second h (IsSecond x) p n b e = let u = p .accepted x refl in ap IsSecond (sym (said-second h x (u .0) (u .1)) ∙ said-second h n b e)
+one-second h NoSecond p n b e = absurd (p .refused refl n b e)
 
-time-said : (n : ℕ) → n ≤ lastTime → timeSaid (timeText n) ≡ n
-time-said n h =
-    rw (said-second (take 19 (timeText n)) (n / 1000) (second-below n h) (time-second n), said-milli (drop 19 (timeText n)) (n % 1000) (milli-below n) (time-milli n)) (whole n)
+pub complete : {s : List ℕ} {second : ℕ} {ds : List ℕ} → Form s second ds → readTime s ≡ Is (second * 1000 + millis ds) (length ds)
+unfolding readTime readSecond
+complete {s} {second} {ds} f =
+    let h = take 19 s in
+    ap₂ joinTime
+    (one-second h (readSecond h) (checked-answers secondText lastSecond h (dayOf (dateSaid h) * 86400 + clockSaid h) (said-second h)) second (f .to-9999) (form-second f))
+    (rest-complete (drop 19 s) ds (form-rest f))
+
+-- what gives the answer equals the function
+equal : (s : List ℕ) (r : Time) → Reads s r → r ≡ readTime s
+equal s _ (is x ds f) = sym (complete f)
+equal s _ (no g) = by (readTime s) (answers s)
   where
+    by : (r : Time) → Reads s r → No ≡ r
+    by _ (is x ds f) = absurd (g x ds f)
+    by _ (no h) = refl
+
+pub read-as : (s : List ℕ) (r : Time) → Reads s r → TimeRead s r
+read-as s r p = record { answers = p; equals = equal s r p }
+
+-- a text has one answer only
+pub one-time : (s : List ℕ) (a b : Time) → Reads s a → Reads s b → a ≡ b
+one-time s a b p q = equal s a p ∙ sym (equal s b q)
+
+-- reading what was written gives the time again
+pub read-written : (ms : ℕ) → ms ≤ lastTime → readTime (timeText ms) ≡ Is ms 3
+unfolding timeText milliText
+read-written ms h = complete written ∙ ap (λ (n : ℕ). Is n 3) (ap (λ (m : ℕ). ms / 1000 * 1000 + m) (said-millis (ms % 1000) (below ms)) ∙ whole ms)
+  where
+    below : (n : ℕ) → n % 1000 ≤ 999
+    below n = omega arith
+
     whole : (n : ℕ) → n / 1000 * 1000 + n % 1000 ≡ n
     whole n = omega arith
 
--- a text has one answer only
-pub one-time : (s : List ℕ) (a b : Time) → Answers timeText lastTime s a → Answers timeText lastTime s b → a ≡ b
-one-time s a b p q = one-answer timeText lastTime timeSaid time-said s a b p q
+    seconds : (n : ℕ) → n ≤ lastTime → n / 1000 ≤ lastSecond
+    seconds n h = omega arith
 
--- what gives the answer equals the function
-pub read-as : (s : List ℕ) (r : Time) → Answers timeText lastTime s r → TimeRead s r
-read-as s r p = record { answers = p; equals = one-time s r (readTime s) p (answers s) }
+    written : Form (timeText ms) (ms / 1000) (decimals 3 (ms % 1000))
+    written = record { to-9999 = seconds ms h; digits = digits-are (ms % 1000); most = omega arith; said = refl }
 
--- reading what was written gives the time again
-pub read-written : (ms : ℕ) → ms ≤ lastTime → readTime (timeText ms) ≡ Is ms
-read-written ms h = one-time (timeText ms) (readTime (timeText ms)) (Is ms) (answers (timeText ms)) (this timeText lastTime (timeText ms) ms h refl)
+-- what was read is a time with at most six decimals
+module _ (s : List ℕ) (ms k : ℕ) (e : readTime s ≡ Is ms k) where
+  record Found : Type 0 where
+    pub second : ℕ
+    pub ds : List ℕ
+    pub form : Form s second ds
+    pub time : ms ≡ second * 1000 + millis ds
+    pub count : k ≡ length ds
 
--- writing what was read gives the text again
-pub written-read : (s : List ℕ) (ms : ℕ) → readTime s ≡ Is ms → timeText ms ≡ s
-written-read s ms e = sym (answers s .accepted ms e .1)
+  found : Found
+  found = by (readTime s) (answers s) e
+    where
+      by : (r : Time) → Reads s r → r ≡ Is ms k → Found
+      by _ (is x ds f) e = record { second = x; ds = ds; form = f; time = cc; count = cc }
+      by _ (no g) e = absurd (let z : _≡_ {A = ℕ} 0 1 = cc in omega arith)
+
+  pub time-within : ms ≤ lastTime
+  time-within = let f = found in omega (arith, f .time, f .form .to-9999, millis-most (f .ds) (f .form .digits))
+
+-- writing what was read with three decimals gives the text again
+pub written-read : (s : List ℕ) (ms : ℕ) → readTime s ≡ Is ms 3 → timeText ms ≡ s
+unfolding timeText milliText
+written-read s ms e =
+    let f = found s ms 3 e in
+    let ds = f .ds in
+    let m : millis ds ≤ 999 = millis-most ds (f .form .digits) in
+    let q : ms / 1000 ≡ f .second = omega (arith, f .time) in
+    let r : ms % 1000 ≡ millis ds = omega (arith, f .time) in
+    ap₂ (λ (a b : ℕ). secondText a ++ milliText b) q r
+    ∙ ap (λ (t : List ℕ). secondText (f .second) ++ t) (again ds (digits-again ds (f .form .digits) (sym (f .count))) (sym (f .count)))
+    ∙ sym (f .form .said)
+  where
+    dotted : (ds : List ℕ) → length ds ≡ 3 → text "." ++ ds ++ text "Z" ≡ pointed ds ++ text "Z"
+    dotted [] l = absurd (omega arith)
+    dotted (d ∷ ds) l = refl
+
+    again : (ds : List ℕ) → decimals 3 (millis ds) ≡ ds → length ds ≡ 3 → milliText (millis ds) ≡ pointed ds ++ text "Z"
+    again ds e l = ap (λ (xs : List ℕ). text "." ++ xs ++ text "Z") e ∙ dotted ds l

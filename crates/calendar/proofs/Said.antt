@@ -7,8 +7,8 @@ use native.Mathlib.Omega.{arith}
 use lib.ListN.{length}
 use Rattle.calendar.specs.Days.{dayOf, Valid}
 use Rattle.calendar.specs.Civil.{dateOf}
-use Rattle.calendar.specs.Text.{lastSecond, secondText, milliText}
-use Rattle.calendar.specs.Read.{dateSaid, clockSaid, milliSaid}
+use Rattle.calendar.specs.Text.{lastSecond, decimals, secondText, milliText}
+use Rattle.calendar.specs.Read.{millis, dateSaid, clockSaid}
 use Rattle.calendar.proofs.Months.{month-below}
 use Rattle.calendar.proofs.Counted.{date-valid, date-day}
 use Rattle.calendar.proofs.Digits.{two-digits, three-digits, four-digits}
@@ -71,6 +71,5 @@ module _ (h : List ℕ) (n : ℕ) (b : n ≤ lastSecond) (e : h ≡ secondText n
       whole : (n : ℕ) → n / 86400 * 86400 + n % 86400 ≡ n
       whole n = omega arith
 
-pub said-milli : (t : List ℕ) (m : ℕ) → m ≤ 999 → t ≡ milliText m → milliSaid t ≡ m
-unfolding milliText
-said-milli t m b e = ap milliSaid e ∙ three-digits m b
+pub said-millis : (m : ℕ) → m ≤ 999 → millis (decimals 3 m) ≡ m
+said-millis m b = three-digits m b

@@ -1,4 +1,4 @@
-// Times: milliseconds since 1970 UTC and YYYY-MM-DDThh:mm:ss.mmmZ, from 1970 to 9999, both ways.
+// Times: milliseconds since 1970 UTC and YYYY-MM-DDThh:mm:ss.mmmZ, from 1970 to 9999, both ways; read with zero to six decimals.
 ghost use mathlib.Core.Path.{_≡_};
 ghost use mathlib.Core.List.{_++_};
 ghost use Prim.Native.Nat.{ℕ, _+_, _-_, _*_, _/_, _%_, _≤_, _<_};
@@ -9,7 +9,7 @@ ghost use Rattle.calendar.specs.Days.{leapOf, years, months, dayOf, Vali
 ghost use Rattle.calendar.specs.Civil.{dateOf};
 ghost use Rattle.calendar.specs.Text.{lastTime, lastSecond, decimals, dateText, secondText, milliText, timeText};
 ghost use Rattle.calendar.specs.Put.{WroteTime};
-ghost use Rattle.calendar.specs.Read.{Answers, oneAt, twoAt, dateSaid, clockSaid, milliSaid, TimeRead};
+ghost use Rattle.calendar.specs.Read.{Answers, isDigit, areDigits, oneAt, twoAt, millis as millisOf, dateSaid, clockSaid, readDecimals, readRest, TimeRead};
 
 struct Date {
     year: u64,
@@ -23,8 +23,14 @@ struct Place {
     passed: u64,
 }
 
-pub enum Time {
+enum Second {
     Is(u64),
+    No,
+}
+
+// The milliseconds, and how many decimals stood there.
+pub enum Time {
+    Is(u64, usize),
     No,
 }
 
@@ -239,35 +245,89 @@ fn clock_said(h: &[u8]) -> u64
 }
 
 // The seconds whose first 19 characters h is: they are worked out of its digits, written again and compared.
-fn read_second(h: &[u8]) -> Time
+fn read_second(h: &[u8]) -> Second
     ensures { λ r. ⌜ Answers secondText lastSecond (now (h .entry)) r ⌝ }
 {
     let guess = day_of(date_said(h)) * 86400 + clock_said(h);
     if 253402300799 < guess {
-        return Time::No;
+        return Second::No;
     }
     let t = second_text(guess);
     if check::same(h, &t[0..19]) {
-        Time::Is(guess)
+        Second::Is(guess)
+    } else {
+        Second::No
+    }
+}
+
+fn is_digit(b: u8) -> bool
+    ensures { λ r. ⌜ r ≡ isDigit b ⌝ }
+{
+    if b < 48 {
+        return false;
+    }
+    if 57 < b {
+        return false;
+    }
+    true
+}
+
+fn are_digits(s: &[u8]) -> bool
+    ensures { λ r. ⌜ r ≡ areDigits (now (s .entry)) ⌝ }
+{
+    let mut i = 0;
+    while i < s.len() {
+        if !is_digit(s[i]) {
+            return false;
+        }
+        i += 1;
+    }
+    true
+}
+
+// The milliseconds that decimals say; those after the third are dropped.
+fn millis(ds: &[u8]) -> u64
+    ensures { λ r. ⌜ r ≡ millisOf (now (ds .entry)) ⌝ }
+{
+    one_at(ds, 0) * 100 + two_at(ds, 1)
+}
+
+// One to six decimals.
+fn read_decimals(ds: &[u8]) -> Time
+    ensures { λ r. ⌜ r ≡ readDecimals (now (ds .entry)) ⌝ }
+{
+    let k = ds.len();
+    if k < 1 {
+        return Time::No;
+    }
+    if 6 < k {
+        return Time::No;
+    }
+    if are_digits(ds) {
+        Time::Is(millis(ds), k)
     } else {
         Time::No
     }
 }
 
-// The milliseconds that the rest after these says.
-fn read_milli(t: &[u8]) -> Time
-    ensures { λ r. ⌜ Answers milliText 999 (now (t .entry)) r ⌝ }
+// The milliseconds that the rest after the seconds says.
+fn read_rest(t: &[u8]) -> Time
+    ensures { λ r. ⌜ r ≡ readRest (now (t .entry)) ⌝ }
 {
-    let guess = one_at(t, 1) * 100 + two_at(t, 2);
-    if 999 < guess {
+    let n = t.len();
+    if n < 1 {
         return Time::No;
     }
-    let again = time_text(guess);
-    if check::same(t, &again[19..24]) {
-        Time::Is(guess)
-    } else {
-        Time::No
+    if t[n - 1] != b'Z' {
+        return Time::No;
     }
+    if n < 2 {
+        return Time::Is(0, 0);
+    }
+    if t[0] != b'.' {
+        return Time::No;
+    }
+    read_decimals(&t[1..n - 1])
 }
 
 pub fn read_time(s: &[u8]) -> Time
@@ -277,12 +337,12 @@ pub fn read_time(s: &[u8]) -> Time
         return Time::No;
     }
     let seconds = read_second(&s[0..19]);
-    let millis = read_milli(&s[19..]);
+    let rest = read_rest(&s[19..]);
     match seconds {
-        Time::Is(a) => match millis {
-            Time::Is(b) => Time::Is(a * 1000 + b),
+        Second::Is(a) => match rest {
+            Time::Is(b, k) => Time::Is(a * 1000 + b, k),
             Time::No => Time::No,
         },
-        Time::No => Time::No,
+        Second::No => Time::No,
     }
 }

@@ -9,6 +9,7 @@ use lib.ListN.{length}
 use lib.Seq.{getD-set-same}
 use borrow.Author.Tests.{ltb-true, lt-ltb, eq-eqb, ne-eqb}
 use Rattle.basis.specs.Pick.{pick, both, bit}
+use Rattle.basis.proofs.Both.{both-first, both-second}
 use Rattle.entry.specs.declared.Entry.{Entry}
 use Rattle.entry.specs.Valid.{Valid, lastTime}
 use Rattle.entry.specs.Valid.OfKind.{an-alarm}
@@ -23,14 +24,6 @@ use Rattle.site.specs.Site.{hasPrimary}
 use Rattle.call_input.specs.Inputs.{alarmPlan}
 use Rattle.call_input.specs.Claims.{Every}
 use Rattle.call_input.proofs.Lists.{set-same, every-if}
-
-both-first : (a b : Bool) → both a b ≡ true → a ≡ true
-both-first true b h = refl
-both-first false b h = absurd (false≢true h)
-
-both-second : (a b : Bool) → both a b ≡ true → b ≡ true
-both-second true b h = h
-both-second false b h = absurd (false≢true h)
 
 -- the input, case by case
 module _ (a : Alarm) (active : Bool) (time : ℕ) where

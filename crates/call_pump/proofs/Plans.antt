@@ -2,14 +2,15 @@
 -- Assumes nothing.
 use Prim.Native.Nat.{ℕ, _+_, _*_, _≤_}
 use mathlib.Core.Path.{_≡_, refl, ap, subst, _∙_}
-use mathlib.Core.Bool.{Bool, true, false}
+use mathlib.Core.Bool.{Bool, true}
 use mathlib.Core.List.{[], _∷_}
 use native.Mathlib.Omega.{arith}
 use lib.Dec.{ltb, leb}
 use lib.ListN.{length}
 use borrow.Author.Tests.{eq-eqb, eqb-true}
-use Rattle.basis.specs.Pick.{pick, both}
+use Rattle.basis.specs.Pick.{pick}
 use Rattle.basis.proofs.Cases.{bool-cases, picked}
+use Rattle.basis.proofs.Both.{both-true}
 use Rattle.answer.specs.Given.Hint.{none}
 use Rattle.identity.specs.declared.Identity.{Identity}
 use Rattle.pool.specs.declared.Place.{Place}
@@ -144,10 +145,6 @@ module _ (s : Site) (l time : ℕ) (id : Identity) where
   reached-for Aggregated q r = r
   reached-for (Alarm j) q r = marked-reached (carriedAt s l j) q r
   reached-for Entry q r = entry-reached (oldestUnsent (s .pool) l) q r
-
-both-true : (a b : Bool) → both a b ≡ true → (a ≡ true) × (b ≡ true)
-both-true true b e = (refl, e)
-both-true false b e = let z : _≡_ {A = ℕ} 0 1 = cc in absurd (omega arith)
 
 -- what the message of alarm k carries
 module _ (s : Site) (l k : ℕ) (x : Place) (f : newestAlarm (s .pool) l k ≡ Found x) where

@@ -3,10 +3,10 @@
 use Prim.Native.Nat.{ℕ, _<_}
 use mathlib.Core.Path.{_≡_, refl, sym, ap, _∙_}
 use mathlib.Core.Bool.{Bool, true, false}
-use native.Mathlib.Omega.{arith}
 use lib.Dec.{ltb, leb}
 use borrow.Author.Tests.{lt-ltb, le-ltb, lt-leb, ltb-false, leb-false}
 use Rattle.basis.specs.Pick.{pick}
+use Rattle.basis.proofs.Both.{untrue, not-both}
 use Rattle.answer.specs.declared.Report.{Report}
 use Rattle.answer.specs.declared.Answer.{Answer}
 use Rattle.answer.specs.declared.Answer.the-variants.{Done}
@@ -31,9 +31,6 @@ use Rattle.site.proofs.Checks.{link-below}
 use Rattle.call_pump.specs.Pump.{dueAt, isNothing, pumpRefuses, verdictOf}
 use Rattle.call_pump.specs.Claims.{Ready}
 use Rattle.call_pump.proofs.Laws.{seven, first, not-done}
-
-never : {P : Type 0} → true ≡ false → P
-never e = let y : _≡_ {A = ℕ} 0 1 = cc in absurd (omega arith)
 
 -- all of seven tests fail
 pub record Clear (a b c d e f g : Bool) : Type 0 where
@@ -74,11 +71,11 @@ is-due (Alarm k) n = refl
 is-due Entry n = refl
 
 is-fresh : (f : Found) → isAwaited f ≡ false → f ≡ NotAwaited
-is-fresh (For p) e = never e
+is-fresh (For p) e = untrue (sym e)
 is-fresh NotAwaited e = refl
 
 neither : (a b : Bool) → pick a true b ≡ false → (a ≡ false) × (b ≡ false)
-neither true b e = never e
+neither true b e = untrue (sym e)
 neither false b e = (refl, e)
 
 crowded-eight : (k : Link) → crowdedOf k ≡ leb 8 (howManyOf (k .awaited))
@@ -115,8 +112,8 @@ module _ (s : Site) (l time : ℕ) (id : Identity) (room : ℕ) where
         enough = ltb-false room 4096 (h .room);
         later = ltb-false time (s .last) (times .0);
         years = ltb-false lastTime time (times .1);
-        not-down = λ (e : phaseOf (linkAt s l) ≡ Down). never (sym (ap isDown e) ∙ h .phase);
-        due = λ (e : dueAt s l time ≡ Nothing). never (sym (ap isNothing e) ∙ h .due);
+        not-down = λ (e : phaseOf (linkAt s l) ≡ Down). not-both (sym (ap isDown e)) (h .phase);
+        due = λ (e : dueAt s l time ≡ Nothing). not-both (sym (ap isNothing e)) (h .due);
         few = leb-false 8 (howManyOf (linkAt s l .awaited)) (sym (crowded-eight (linkAt s l)) ∙ h .few);
         fresh = is-fresh (findOf (linkAt s l .awaited) id) (h .fresh);
       }

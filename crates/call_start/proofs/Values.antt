@@ -8,8 +8,8 @@ use lib.Dec.{eqb, leb, ltb}
 use borrow.Author.Tests.{ltb-true, ltb-false, leb-true, eqb-true, lt-ltb, le-leb, eq-eqb, ne-eqb}
 use native.Mathlib.Omega.{arith}
 use Rattle.basis.proofs.Cases.{bool-cases}
+use Rattle.basis.proofs.Both.{both-true, both-of}
 use Rattle.answer.specs.Times.{lastTime}
-use Rattle.label.proofs.Both.{both-true, both-of}
 use Rattle.call_start.specs.Fresh.{primaryOf}
 use Rattle.call_start.specs.Starts.{Within}
 use Rattle.call_start.specs.Making.{aLinkOrNone, valuesWithin, isWithin}

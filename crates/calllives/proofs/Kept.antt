@@ -6,6 +6,8 @@ use mathlib.Core.Bool.{Bool, true, false}
 use mathlib.Core.List.{List, [], _∷_}
 use lib.ListN.{length}
 use Rattle.basis.specs.Pick.{pick}
+use Rattle.basis.specs.Lists.{Among}
+use Rattle.basis.proofs.Among.{among-none}
 use Rattle.identity.specs.Version.{identityOf}
 use Rattle.link.specs.declared.Role.the-variants.{Secondary}
 use Rattle.link.specs.declared.Phase.the-variants.{Up}
@@ -21,13 +23,12 @@ use Rattle.call_tick.specs.Closing.{lateAt}
 use Rattle.lives.specs.Moves.{Shaped, Moves, Heedful}
 use Rattle.lives.specs.Moves.Heedful.{none}
 use Rattle.lives.specs.Stock.{Stocked, Stocks}
-use Rattle.lives.specs.Messages.{isReport, isAlarm, Among}
+use Rattle.lives.specs.Messages.{isReport, isAlarm}
 use Rattle.lives.specs.Sequence.{doneBy, Living, Issuing, Speaking}
 use Rattle.lives.proofs.Done.{passed}
 use Rattle.lives.proofs.Moved.{moved}
 use Rattle.lives.proofs.Stocking.{stocking}
 use Rattle.lives.proofs.Heeded.{silent, heeds-one}
-use Rattle.lives.proofs.Messages.{among-none}
 use Rattle.lives.proofs.Born.{born}
 use Rattle.lives.proofs.Lived.{lived}
 use Rattle.lives.proofs.Spoken.{spoken}

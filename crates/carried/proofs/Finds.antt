@@ -8,6 +8,7 @@ use mathlib.Core.List.{List, [], _∷_}
 use lib.Dec.{ltb}
 use Rattle.basis.specs.Pick.{pick}
 use Rattle.basis.proofs.Cases.{bool-cases, picked}
+use Rattle.basis.proofs.Both.{untrue}
 use Rattle.identity.specs.declared.Identity.{Identity}
 use Rattle.awaited.specs.declared.Awaited.{Awaited}
 use Rattle.awaited.specs.declared.Purpose.{Purpose}
@@ -25,7 +26,7 @@ use Rattle.link.specs.Steps.{connectOf, versionOutOf, mayJudgeOf, versionAccept
 use Rattle.link.specs.Acts.{Act, does}
 use Rattle.link.specs.Acts.Act.{Connect, VersionOut, WatchdogOut, EntryOut, OtherOut, Answered, VersionAccepted, WatchdogTaken, AggregatedPassed, AlarmPassed, Close}
 use Rattle.lives.specs.Moves.{doesAll}
-use Rattle.history.proofs.Listed.{never, no}
+use Rattle.history.proofs.Listed.{never}
 use Rattle.carried.proofs.Added.{added-either}
 
 abbrev numbered : Purpose → ℕ
@@ -104,7 +105,7 @@ module _ (id : Identity) (q : ℕ) where
         (λ s. (sym (remove-other (k .awaited) j id s) ∙ e, λ i. other s i))
       where
         other : sameIdentity j id ≡ false → j ≡ id → ⊥
-        other s i = no (sym (subst (λ (x : Identity). sameIdentity x id ≡ false) i s) ∙ same-self id)
+        other s i = untrue (sym (subst (λ (x : Identity). sameIdentity x id ≡ false) i s) ∙ same-self id)
 
 noted-same : (f : Found) (k : Link) → noted f k .awaited ≡ k .awaited
 unfolding noted notedFor
@@ -138,9 +139,9 @@ module _ (id : Identity) (q : ℕ) where
   one-plain k Connect t e = connect-awaits id q k e
   one-plain k (VersionOut j u) t e = version-awaits id q k j u e
   one-plain k (WatchdogOut j u) t e = watchdog-awaits id q k j u e
-  one-plain k (EntryOut j u r) t e = no t
+  one-plain k (EntryOut j u r) t e = untrue t
   one-plain k (OtherOut j u) t e = other-awaits id q k j u e
-  one-plain k (Answered j b) t e = no t
+  one-plain k (Answered j b) t e = untrue t
   one-plain k (VersionAccepted x y z) t e = accepted-awaits id q k x y z e
   one-plain k WatchdogTaken t e = taken-awaits id q k e
   one-plain k AggregatedPassed t e = aggregated-awaits id q k e

@@ -4,6 +4,7 @@ use Prim.Native.Nat.{ℕ, _≤_, _<_}
 use mathlib.Core.Path.{_≡_, refl, sym, ap, subst, _∙_}
 use mathlib.Core.Bool.{true}
 use mathlib.Core.List.{List, [], _∷_, _++_}
+use Rattle.basis.proofs.Both.{untrue}
 use Rattle.answer.specs.declared.Report.{Report}
 use Rattle.answer.specs.declared.Answer.{Answer}
 use Rattle.answer.specs.declared.Answer.the-variants.{Done, Refused}
@@ -46,7 +47,7 @@ use Rattle.alarmout.proofs.Reach.{reached, awaited}
 use Rattle.conduct.proofs.Given.{Given, given-stays}
 use Rattle.history.specs.Events.{Event, incoming, sentOn, closedAll, eventsIf, eventsBy, upon, historyOf}
 use Rattle.history.specs.Events.Event.{Sent}
-use Rattle.history.proofs.Listed.{no, Unbound, sent}
+use Rattle.history.proofs.Listed.{Unbound, sent}
 use Rattle.history.proofs.Sequence.{Ran, shaped, ran-after}
 use Rattle.carried.specs.Carried.{SinceUnanswered, SentAs, Carried, Claims}
 use Rattle.carried.specs.Carried.SinceUnanswered.{now}
@@ -146,7 +147,7 @@ from : {b : List ℕ} {links primary period first time : ℕ} {r : Step} → Sta
     → findOf (linkAt (siteAfter (r .site) cs) m .awaited) id ≡ For (ForEntry q) → Carried (r .site) cs m id q
 from {b} {links} {primary} {period} {first} {time} (starts {t = t} a e w) d cs m h id q f =
     all (memoryOf t) links (primaryOf primary) period first time (started (starts {t = t} a e w) d) cs m h id q f
-from (refuses n) d cs m h id q f = no d
+from (refuses n) d cs m h id q f = untrue d
 
 carried : (s : Site) → Started s → (cs : List Call) (m : ℕ) → m < 4 → (id : Identity) (k : ℕ)
     → findOf (linkAt (siteAfter s cs) m .awaited) id ≡ For (ForEntry k) → Carried s cs m id k

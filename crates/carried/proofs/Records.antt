@@ -6,8 +6,9 @@ use mathlib.Core.Bool.{Bool, true, false}
 use mathlib.Core.List.{List, [], _∷_}
 use lib.Dec.{eqb}
 use borrow.Author.Tests.{eqb-true}
-use Rattle.basis.specs.Pick.{pick, both}
+use Rattle.basis.specs.Pick.{pick}
 use Rattle.basis.proofs.Cases.{bool-cases}
+use Rattle.basis.proofs.Both.{both-first, both-second}
 use Rattle.entry.specs.declared.Entry.{Entry}
 use Rattle.pool.specs.declared.Place.{Place}
 use Rattle.pool.specs.declared.Sought.{Sought}
@@ -23,19 +24,11 @@ use Rattle.site.specs.Parts.{alarmAt}
 use Rattle.send_message.specs.Sending.{alarmMessage, entryMessage}
 use Rattle.send_after.specs.Outgoing.{sameEvent}
 use Rattle.alarmout.proofs.Told.{told, record-told}
-use Rattle.history.proofs.Listed.{never, no}
+use Rattle.history.proofs.Listed.{never}
 
 abbrev placed : Sought → Place → Place
 placed (Found x) d = x
 placed Nothing d = d
-
-left : (a b : Bool) → both a b ≡ true → a ≡ true
-left true b e = refl
-left false b e = e
-
-right : (a b : Bool) → both a b ≡ true → b ≡ true
-right true b e = e
-right false b e = no e
 
 -- ---- what is found is one of those held
 module _ (E : Entry → Type 0) where
@@ -75,12 +68,12 @@ every-both P Q (x ∷ xs) p q = ((p .0, q .0), every-both P Q xs (p .1) (q .1))
 pub alarm-told : (s : Site) (id : List ℕ) (l k : ℕ) (x : Place) → ofAlarm k x ≡ true → sameEvent (x .entry) (issuedOf (alarmAt s k) l k) ≡ true
     → alarmAt s k .event ≤ 2 → alarmMessage s id k ≡ entryMessage s id (x .entry)
 alarm-told s id l k x o e h =
-    let kind : x .entry .kind ≡ 0 = eqb-true (x .entry .kind) 0 (left (eqb (x .entry .kind) 0) (eqb (x .entry .item) k) o) in
-    let item : x .entry .item ≡ k = eqb-true (x .entry .item) k (right (eqb (x .entry .kind) 0) (eqb (x .entry .item) k) o) in
+    let kind : x .entry .kind ≡ 0 = eqb-true (x .entry .kind) 0 (both-first (eqb (x .entry .kind) 0) (eqb (x .entry .item) k) o) in
+    let item : x .entry .item ≡ k = eqb-true (x .entry .item) k (both-second (eqb (x .entry .kind) 0) (eqb (x .entry .item) k) o) in
     let i : Entry = issuedOf (alarmAt s k) l k in
-    let time : x .entry .time ≡ i .time = eqb-true (x .entry .time) (i .time) (left (eqb (x .entry .time) (i .time)) (eqb (x .entry .flags) (i .flags)) e) in
+    let time : x .entry .time ≡ i .time = eqb-true (x .entry .time) (i .time) (both-first (eqb (x .entry .time) (i .time)) (eqb (x .entry .flags) (i .flags)) e) in
     let flags : x .entry .flags ≡ i .flags =
-    eqb-true (x .entry .flags) (i .flags) (right (eqb (x .entry .time) (i .time)) (eqb (x .entry .flags) (i .flags)) e) in
+    eqb-true (x .entry .flags) (i .flags) (both-second (eqb (x .entry .time) (i .time)) (eqb (x .entry .flags) (i .flags)) e) in
     let r : entryMessage s id (x .entry) ≡ entryMessage s id (renumbered i 0) = rw (kind, item, time, flags) refl in
     told s id k (s .table) (s .alarms) refl refl ∙ sym (record-told s id (alarmAt s k) l k 0 (s .table) refl h) ∙ sym r
 

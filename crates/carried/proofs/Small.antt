@@ -130,7 +130,7 @@ module _ (s : Site) (l time : ℕ) (id : Identity) (received : List ℕ) where
   kind-keeps : (p : List ℕ) (kind : Kind) → Keeps s (kindTaken s l time id received p kind)
   unfolding alarmTaken foundTaken aggregatedTaken statusTaken subscribingTaken
   kind-keeps p Version = by-verdict (versionAt p .verdict) _ (judged-keeps (judge (own s) (versionAt p .offer)))
-  kind-keeps p Watchdog = by-verdict (watchdogAt p .verdict) (beat s l received (watchdogAt p .time)) (λ w. w)
+  kind-keeps p Watchdog = by-verdict (watchdogAt p .verdict) (beat s l received (watchdogAt p)) (λ w. w)
   kind-keeps p Alarm = by-verdict (alarmAt p .verdict) _ (ordered-keeps (alarmAt p .order) (alarmSought (s .table) (alarmAt p .component) (alarmAt p .code)))
   kind-keeps p AggregatedStatusRequest = by-verdict (aggregatedAt p .verdict) _ (aggregated-keeps (componentSought (s .table) (aggregatedAt p .label)))
   kind-keeps p StatusRequest =

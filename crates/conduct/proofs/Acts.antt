@@ -7,6 +7,7 @@ use mathlib.Core.List.{List, [], _∷_}
 use lib.Dec.{ltb}
 use lib.ListN.{length}
 use Rattle.basis.specs.Pick.{pick}
+use Rattle.basis.proofs.Both.{untrue}
 use Rattle.answer.specs.declared.Report.{Report}
 use Rattle.identity.specs.declared.Identity.{Identity}
 use Rattle.identity.specs.Version.{identityOf}
@@ -39,7 +40,7 @@ use Rattle.calls.proofs.Kept.{kept as calls}
 use Rattle.calllives.specs.Calls.{actsOf}
 use Rattle.demands.specs.Demand3.{Started}
 use Rattle.conduct.specs.History.{DoneWith, historyOf}
-use Rattle.conduct.proofs.Links.{no, link-is, answers-told, shaped}
+use Rattle.conduct.proofs.Links.{link-is, answers-told, shaped}
 
 moves : (s : Site) (c : Call) → Shaped s → Moves s (planOf s c) (actsOf s c)
 moves s (connect l t) sh = moved s sh .connect l
@@ -101,14 +102,14 @@ stays k (VersionOut id t) n e = either (pick (k .versionout) false (k .connected
 stays k (WatchdogOut id t) n e = either (steps.mayBeatOf k) _ k e e
 stays k (EntryOut id t q) n e = either (isUp (phaseOf k)) _ k e e
 stays k (OtherOut id t) n e = either (isUp (phaseOf k)) _ k e e
-stays k (Answered id ack) n e = no (sym n)
+stays k (Answered id ack) n e = untrue (sym n)
 stays k (VersionAccepted x y z) n e = either (steps.mayJudgeOf k) _ k e e
 stays k WatchdogTaken n e = either (takesIn (phaseOf k)) _ k e e
 stays k AggregatedPassed n e = either (isUp (phaseOf k)) _ k e e
 stays k AlarmPassed n e =
     either (isUp (phaseOf k)) (pick (ltb (k .alarm) 4294967295) (withAlarm k (k .alarm + 1)) k) k
     (either (ltb (k .alarm) 4294967295) (withAlarm k (k .alarm + 1)) k e e) e
-stays k Close n e = no (sym n)
+stays k Close n e = untrue (sym n)
 
 noted-stays : (f : Found) (k : Link) → k .connected ≡ true → steps.noted f k .connected ≡ true
 unfolding steps.noted steps.notedFor
@@ -125,6 +126,6 @@ answered-stays k id given n e = by (closesOf k id given) given n
   where
     by : (q g : Bool) → q ≡ false
         → pick q closedLink (pick g (steps.noted (findOf (k .awaited) id) (steps.removedOf k id)) (steps.removedOf k id)) .connected ≡ true
-    by true g n = no (sym n)
+    by true g n = untrue (sym n)
     by false true n = noted-stays (findOf (k .awaited) id) (steps.removedOf k id) e
     by false false n = e

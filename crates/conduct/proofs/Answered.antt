@@ -4,6 +4,10 @@ use Prim.Native.Nat.{ℕ}
 use mathlib.Core.Path.{_≡_, refl, sym, ap, subst, _∙_}
 use mathlib.Core.Bool.{true, false}
 use mathlib.Core.List.{List, [], _∷_}
+use Rattle.basis.specs.Lists.{Among}
+use Rattle.basis.specs.Lists.Among.{first, later}
+use Rattle.basis.proofs.Both.{untrue}
+use Rattle.basis.proofs.Among.{among-none}
 use Rattle.identity.specs.declared.Identity.{Identity}
 use Rattle.identity.specs.Version.{identityOf}
 use Rattle.write_message.specs.Message.{Message}
@@ -14,17 +18,14 @@ use Rattle.read_head.specs.declared.Class.the-variants.{Ignored as NoClass, Ack
 use Rattle.read_head.specs.Head.{headAt}
 use Rattle.site.specs.declared.Site.{Site}
 use Rattle.call_packet.specs.Packet.{classTaken}
-use Rattle.lives.specs.Messages.{isAnswer, AnswerTo, Among, NoAnswer}
+use Rattle.lives.specs.Messages.{isAnswer, AnswerTo, NoAnswer}
 use Rattle.lives.specs.Messages as seen
-use Rattle.lives.specs.Messages.Among.{first, later}
-use Rattle.lives.proofs.Messages.{among-none}
 use Rattle.pumplives.proofs.Kept.{pumped}
 use Rattle.framelives.proofs.Kept.{packeted}
 use Rattle.calls.specs.Calls.{Call, planOf}
 use Rattle.calls.specs.Calls.Call.{connect, disconnect, packet, alarm, status, aggregated, tick, pump}
 use Rattle.conduct.specs.Answers.{isAnswerTo, AnsweredOnce, AnswersIts}
 use Rattle.conduct.specs.Answers.AnswersIts.{asked}
-use Rattle.conduct.proofs.Links.{no}
 
 pub once : (p : List ℕ) (ms : List Message) → seen.AnsweredOnce (headAt p .received .bytes) ms → AnsweredOnce p ms
 once p ms (seen.AnsweredOnce.once {m = m} {ms = others} a n) = record { answer = m; others = others; all = refl; to-it = a; no-other = n }
@@ -32,7 +33,7 @@ once p ms (seen.AnsweredOnce.once {m = m} {ms = others} a n) = record { answer =
 -- an answer among them is the first
 the-first : (p : List ℕ) (m : Message) (ms : List Message) → seen.AnsweredOnce (headAt p .received .bytes) ms → Among m ms → isAnswer m ≡ true → isAnswerTo p m
 the-first p m ms (seen.AnsweredOnce.once a n) first e = a
-the-first p m ms (seen.AnsweredOnce.once a n) (later r) e = no (sym (n m r) ∙ e)
+the-first p m ms (seen.AnsweredOnce.once a n) (later r) e = untrue (sym (n m r) ∙ e)
 
 module _ (s : Site) where
   packet-answers : (l t : ℕ) (random : Identity) (p out : List ℕ) (m : Message) (c : Class) → headAt p .class ≡ c
@@ -53,4 +54,4 @@ module _ (s : Site) where
   nothing-else (status k value t) m r e = among-none r
   nothing-else (aggregated value t) m r e = among-none r
   nothing-else (tick t) m r e = among-none r
-  nothing-else (pump l t random out) m r e = no (sym (pumped s l t (identityOf random) .answers-none m r) ∙ e)
+  nothing-else (pump l t random out) m r e = untrue (sym (pumped s l t (identityOf random) .answers-none m r) ∙ e)

@@ -123,7 +123,7 @@ module _ (s : Site) (l time : ℕ) (id : Identity) (received : List ℕ) where
   kind-shuts : (p : List ℕ) (kind : Kind) → Shuts (kindTaken s l time id received p kind) (failsIn s p kind)
   unfolding alarmTaken foundTaken aggregatedTaken statusTaken subscribingTaken
   kind-shuts p Version = by-verdict (versionAt p .verdict) _ _ (judged-shuts (judge (own s) (versionAt p .offer)))
-  kind-shuts p Watchdog = by-verdict-none (watchdogAt p .verdict) (beat s l received (watchdogAt p .time)) refl
+  kind-shuts p Watchdog = by-verdict-none (watchdogAt p .verdict) (beat s l received (watchdogAt p)) refl
   kind-shuts p Alarm =
       by-verdict-none (alarmAt p .verdict) _ (ordered-shuts (alarmAt p .order) (alarmSought (s .table) (alarmAt p .component) (alarmAt p .code)))
   kind-shuts p AggregatedStatusRequest = by-verdict-none (aggregatedAt p .verdict) _ (aggregated-shuts (componentSought (s .table) (aggregatedAt p .label)))

@@ -6,6 +6,7 @@ use mathlib.Core.Bool.{Bool, true, false}
 use mathlib.Core.List.{List, []}
 use lib.Dec.{eqb}
 use Rattle.basis.specs.Pick.{pick, both}
+use Rattle.basis.proofs.Both.{untrue}
 use Rattle.answer.specs.declared.Report.{Report}
 use Rattle.answer.specs.Given.{Hint, hintIn}
 use Rattle.answer.specs.Given.Hint.{none, clock}
@@ -26,6 +27,7 @@ use Rattle.link.specs.Steps.{closesOf, answeredOf, fullOf}
 use Rattle.read_versions.specs.declared.Judged.{Judged}
 use Rattle.read_versions.specs.declared.Judged.the-variants.{Chosen, RsmpVersion, SiteId, SxlVersion}
 use Rattle.read_versions.specs.Judge.{judge}
+use Rattle.read_head.specs.declared.GotTime.{GotTime}
 use Rattle.read_head.specs.declared.Verdict.{Verdict}
 use Rattle.read_head.specs.declared.Verdict.the-variants.{Good, Missing, Bad}
 use Rattle.read_head.specs.declared.Kind.{Kind}
@@ -62,7 +64,6 @@ use Rattle.calls.proofs.Kept.{kept as calls}
 use Rattle.conduct.specs.History.{DoneWith}
 use Rattle.conduct.specs.Hints.{timeFrom, hintIf, hintBy}
 use Rattle.conduct.proofs.Given.{Given, given-stays}
-use Rattle.conduct.proofs.Links.{no}
 use Rattle.conduct.proofs.Closed.{isGood}
 
 module _ (s : Site) (l time : ℕ) (id : Identity) (received : List ℕ) where
@@ -115,29 +116,29 @@ module _ (s : Site) (l time : ℕ) (id : Identity) (received : List ℕ) where
   asked-by false u t k = refl
 
   -- their Watchdog is always expected, and never too early
-  from-role : (q : Role) (t : ℕ) → hintFrom q t ≡ timeFrom q Good Good t
-  from-role Primary t = refl
-  from-role Secondary t = refl
+  from-role : (q : Role) (f : GotTime) → hintFrom q f ≡ timeFrom q Good Good (f .time) (f .decimals)
+  from-role Primary f = refl
+  from-role Secondary f = refl
 
-  not-good : (q : Role) (v w : Verdict) (t : ℕ) → both (isGood v) (isGood w) ≡ false → none ≡ timeFrom q v w t
-  not-good Primary Good Good t e = no (sym e)
-  not-good Primary Good Missing t e = refl
-  not-good Primary Good Bad t e = refl
-  not-good Primary Missing w t e = refl
-  not-good Primary Bad w t e = refl
-  not-good Secondary v w t e = refl
+  not-good : (q : Role) (v w : Verdict) (t k : ℕ) → both (isGood v) (isGood w) ≡ false → none ≡ timeFrom q v w t k
+  not-good Primary Good Good t k e = untrue (sym e)
+  not-good Primary Good Missing t k e = refl
+  not-good Primary Good Bad t k e = refl
+  not-good Primary Missing w t k e = refl
+  not-good Primary Bad w t k e = refl
+  not-good Secondary v w t k e = refl
 
-  beats : (v w : Verdict) (b : Bool) (t : ℕ)
-      → byVerdict v s received (pick (both b false) (notAcked s received notReady) (byVerdict w s received (beat s l received t))) .plan .hint ≡ timeFrom
-      (roleOf s l) v w t
-  beats Good Good true t = from-role (roleOf s l) t
-  beats Good Good false t = from-role (roleOf s l) t
-  beats Good Missing true t = not-good (roleOf s l) Good Missing t refl
-  beats Good Missing false t = not-good (roleOf s l) Good Missing t refl
-  beats Good Bad true t = not-good (roleOf s l) Good Bad t refl
-  beats Good Bad false t = not-good (roleOf s l) Good Bad t refl
-  beats Missing w b t = not-good (roleOf s l) Missing w t refl
-  beats Bad w b t = not-good (roleOf s l) Bad w t refl
+  beats : (v w : Verdict) (b : Bool) (f : GotTime)
+      → byVerdict v s received (pick (both b false) (notAcked s received notReady) (byVerdict w s received (beat s l received f))) .plan .hint ≡ timeFrom
+      (roleOf s l) v w (f .time) (f .decimals)
+  beats Good Good true f = from-role (roleOf s l) f
+  beats Good Good false f = from-role (roleOf s l) f
+  beats Good Missing true f = not-good (roleOf s l) Good Missing (f .time) (f .decimals) refl
+  beats Good Missing false f = not-good (roleOf s l) Good Missing (f .time) (f .decimals) refl
+  beats Good Bad true f = not-good (roleOf s l) Good Bad (f .time) (f .decimals) refl
+  beats Good Bad false f = not-good (roleOf s l) Good Bad (f .time) (f .decimals) refl
+  beats Missing w b f = not-good (roleOf s l) Missing w (f .time) (f .decimals) refl
+  beats Bad w b f = not-good (roleOf s l) Bad w (f .time) (f .decimals) refl
 
   answered-silent : (i : Identity) (given : Bool) → answeredPlan s l i given .hint ≡ none
   answered-silent i given = by (closesOf (linkAt s l) i given) (findOf (linkAt s l .awaited) i)
@@ -158,7 +159,7 @@ module _ (s : Site) (l time : ℕ) (id : Identity) (received : List ℕ) where
       by-verdict v (expectedTaken s l time id received p Version)
       (asked-by (expected (linkAt s l) Version) (unready (linkAt s l) Version) (kindTaken s l time id received p Version)
       (by-verdict (versionAt p .verdict) _ (judged-silent (judge (own s) (versionAt p .offer)))))
-  class-hints i p (Asked v Watchdog) = beats v (watchdogAt p .verdict) (isBeating (phaseOf (linkAt s l))) (watchdogAt p .time)
+  class-hints i p (Asked v Watchdog) = beats v (watchdogAt p .verdict) (isBeating (phaseOf (linkAt s l))) (watchdogAt p)
   class-hints i p (Asked v Alarm) =
       by-verdict v (expectedTaken s l time id received p Alarm)
       (asked-by true (unready (linkAt s l) Alarm) (kindTaken s l time id received p Alarm)

@@ -8,14 +8,16 @@ use native.Mathlib.Omega.{arith}
 use lib.Dec.{ltb, leb}
 use lib.ListN.{length}
 use borrow.Author.Tests.{ltb-true, ltb-false, lt-ltb, le-ltb, leb-false, lt-leb}
-use Rattle.basis.specs.Pick.{pick, both}
+use Rattle.basis.specs.Pick.{pick}
 use Rattle.basis.proofs.Cases.{bool-cases}
+use Rattle.basis.proofs.Both.{both-first, both-second, untrue}
 use Rattle.answer.specs.declared.Refusal.{Refusal}
 use Rattle.answer.specs.declared.Refusal.the-variants.{Ignored, NoSuchLink, NoSuchItem, ShortOutput, LongPacket, BadTime, WrongPhase}
 use Rattle.answer.specs.declared.Answer.the-variants.{Refused}
 use Rattle.answer.specs.Number.{refusalNumber}
 use Rattle.answer.specs.Order.{inOrder, First}
 use Rattle.answer.specs.Order.First.{here, later}
+use Rattle.answer.specs.Times.{lastTime}
 use Rattle.identity.specs.declared.Identity.{Identity}
 use Rattle.awaited.specs.declared.Found.{Found}
 use Rattle.awaited.specs.declared.Found.the-variants.{For, Nothing}
@@ -49,7 +51,7 @@ use Rattle.conduct.specs.History.{historyOf}
 use Rattle.conduct.specs.Answers.{IsIgnored, Arrives}
 use Rattle.conduct.specs.Answers.IsIgnored.{unreadable, stray-ack, stray-not-ack, early as too-early}
 use Rattle.conduct.proofs.Given.{Given, given-stays}
-use Rattle.conduct.proofs.Links.{no, four-links, link-is, answers-told}
+use Rattle.conduct.proofs.Links.{four-links, link-is, answers-told}
 
 -- the first that applies does, and those before it do not
 applies : (f : Refusal → Bool) (r : Refusal) (xs : List Refusal) → First f r xs → f r ≡ true
@@ -63,25 +65,17 @@ other f r x xs n (later e g) = (e, g)
 
 -- by the phase and what is awaited
 by-found : (f : Found) → pick (isAwaited f) false true ≡ true → f ≡ Nothing
-by-found (For p) e = no e
+by-found (For p) e = untrue e
 by-found Nothing e = refl
 
 greeting : (f : Phase) → isGreeting f ≡ true → f ≡ Greeting
-greeting Down e = no e
+greeting Down e = untrue e
 greeting Greeting e = refl
-greeting Beating e = no e
-greeting Up e = no e
-
-left : (a b : Bool) → both a b ≡ true → a ≡ true
-left true b e = refl
-left false b e = e
-
-right : (a b : Bool) → both a b ≡ true → b ≡ true
-right true b e = e
-right false b e = no e
+greeting Beating e = untrue e
+greeting Up e = untrue e
 
 other-kind : (kind : Kind) → pick (isVersion kind) false true ≡ true → kind ≡ Version → ⊥
-other-kind kind e q = no (subst (λ (x : Kind). pick (isVersion x) false true ≡ true) q e)
+other-kind kind e q = untrue (subst (λ (x : Kind). pick (isVersion x) false true ≡ true) q e)
 
 not-version : (kind : Kind) → (kind ≡ Version → ⊥) → pick (isVersion kind) false true ≡ true
 not-version Version n = absurd (n refl)
@@ -99,8 +93,8 @@ module _ (h : List Act) (a : Answers h) (p : List ℕ) where
   ignored-then Acked q e = stray-ack q (sym (a .found (headAt p .identity)) ∙ by-found _ e)
   ignored-then NotAcked q e = stray-not-ack q (sym (a .found (headAt p .identity)) ∙ by-found _ e)
   ignored-then (Asked v kind) q e =
-      too-early q (other-kind kind (right (isGreeting (phaseOf (after h))) _ e))
-      (links .greeting-only-if h (greeting (phaseOf (after h)) (left (isGreeting (phaseOf (after h))) _ e)) .1)
+      too-early q (other-kind kind (both-second (isGreeting (phaseOf (after h))) _ e))
+      (links .greeting-only-if h (greeting (phaseOf (after h)) (both-first (isGreeting (phaseOf (after h))) _ e)) .1)
 
   pub then-ignored : happened h Connected ≡ true → IsIgnored h p → ignoredBy (after h) (headAt p .identity) (headAt p .class) ≡ true
   then-ignored c (unreadable q) = rw q refl
@@ -124,30 +118,30 @@ module _ (s : Site) (b : Started s) (cs : List Call) (l : ℕ) where
     where
       by : (q : Bool) → pick q (leb (siteAfter s cs .linkcount) l) true ≡ false → l < siteAfter s cs .linkcount
       by true e = leb-false (siteAfter s cs .linkcount) l e
-      by false e = no (sym e)
+      by false e = untrue (sym e)
 
   link-is-there : l < s .linkcount → noLinkAt (siteAfter s cs) l ≡ false
   link-is-there h =
       let most : s .linkcount ≤ 4 = four-links s b in
       rw (lt-ltb l 4 (omega arith)) (lt-leb (siteAfter s cs .linkcount) l (omega (arith, h, links-stay)))
 
-  in-time : (t : ℕ) → badTimeAt (siteAfter s cs) t ≡ false → (siteAfter s cs .last ≤ t) × (t ≤ 253402300799999)
+  in-time : (t : ℕ) → badTimeAt (siteAfter s cs) t ≡ false → (siteAfter s cs .last ≤ t) × (t ≤ lastTime)
   in-time t e = by (ltb t (siteAfter s cs .last)) refl e
     where
-      by : (q : Bool) → ltb t (siteAfter s cs .last) ≡ q → pick q true (ltb 253402300799999 t) ≡ false → (siteAfter s cs .last ≤ t) × (t ≤ 253402300799999)
-      by true r e = no (sym e)
-      by false r e = (ltb-false t (siteAfter s cs .last) r, ltb-false 253402300799999 t e)
+      by : (q : Bool) → ltb t (siteAfter s cs .last) ≡ q → pick q true (ltb lastTime t) ≡ false → (siteAfter s cs .last ≤ t) × (t ≤ lastTime)
+      by true r e = untrue (sym e)
+      by false r e = (ltb-false t (siteAfter s cs .last) r, ltb-false lastTime t e)
 
   module _ (four : l < 4) where
     connected : downAt (siteAfter s cs) l ≡ false → happened (historyOf s cs l) Connected ≡ true
     connected e =
         bool-cases (happened (historyOf s cs l) Connected) (λ q. q)
-        (λ q. no (sym e ∙ ap isDown (ap phaseOf (link-is s b cs l four) ∙ links .down-if (historyOf s cs l) q)))
+        (λ q. untrue (sym e ∙ ap isDown (ap phaseOf (link-is s b cs l four) ∙ links .down-if (historyOf s cs l) q)))
 
     is-connected : happened (historyOf s cs l) Connected ≡ true → downAt (siteAfter s cs) l ≡ false
     is-connected c =
         not-down (phaseOf (linkAt (siteAfter s cs) l))
-        (λ q. no (sym (links .down-only-if (historyOf s cs l) (sym (ap phaseOf (link-is s b cs l four)) ∙ q)) ∙ c))
+        (λ q. untrue (sym (links .down-only-if (historyOf s cs l) (sym (ap phaseOf (link-is s b cs l four)) ∙ q)) ∙ c))
 
   module _ (t : ℕ) (random : Identity) (p out : List ℕ) where
     abbrev conditions : Refusal → Bool
@@ -161,7 +155,7 @@ module _ (s : Site) (b : Started s) (cs : List Call) (l : ℕ) where
         (later refl
         (later (le-ltb (length out) 4096 (a .room))
         (later (le-ltb 4096 (length p) (a .size))
-        (later (rw (le-ltb t (siteAfter s cs .last) (a .later)) (le-ltb 253402300799999 t (a .years)))
+        (later (rw (le-ltb t (siteAfter s cs .last) (a .later)) (le-ltb lastTime t (a .years)))
         (later (is-connected four (a .connected))
         (here (rw (link-is s b cs l four) (then-ignored (historyOf s cs l) (answers-told s b cs l four) p (a .connected) i)))))))))
 

@@ -2,9 +2,9 @@
 -- Assumes nothing.
 use Prim.Native.Nat.{ℕ, _≤_, _<_}
 use mathlib.Core.Path.{_≡_, refl, sym, ap, subst, _∙_}
-use mathlib.Core.Bool.{Bool, true, false}
+use mathlib.Core.Bool.{Bool, true}
 use mathlib.Core.List.{List, [], _∷_}
-use native.Mathlib.Omega.{arith}
+use Rattle.basis.proofs.Both.{untrue}
 use Rattle.answer.specs.Number.{isDone}
 use Rattle.link.specs.Acts.{after}
 use Rattle.link.specs.Careful.{Answers}
@@ -25,13 +25,10 @@ use Rattle.demands.specs.Demand3.{Started}
 use Rattle.demands.specs.Demand3.Started.{started}
 use Rattle.conduct.specs.History.{historyOf}
 
-pub no : {P : Type 0} → false ≡ true → P
-no q = absurd (let z : _≡_ {A = ℕ} 0 1 = cc in omega arith)
-
 lived-by : (b : List ℕ) (links primary period first time : ℕ) (r : Step) → Starts b links primary period first time r → isDone (r .answer) ≡ true
     → (cs : List Call) → any.Lived Call timeOf refuses planOf endOf actsOf (r .site) cs
 lived-by b links primary period first time r (starts {t = t} v p w) h cs = lived-from-start (memoryOf t) links (primaryOf primary) period first time cs
-lived-by b links primary period first time r (not-accepted n) h cs = no h
+lived-by b links primary period first time r (not-accepted n) h cs = untrue h
 
 lived : (s : Site) → Started s → (cs : List Call) → any.Lived Call timeOf refuses planOf endOf actsOf s cs
 lived s (started {b = b} {links = links} {primary = primary} {period = period} {first = first} {time = time} {r = r} x d) cs =

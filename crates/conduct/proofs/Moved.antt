@@ -5,6 +5,7 @@ use mathlib.Core.Path.{_≡_, refl, sym, ap, _∙_}
 use mathlib.Core.Bool.{Bool, true, false}
 use mathlib.Core.List.{List, [], _∷_}
 use Rattle.basis.specs.Pick.{pick, both}
+use Rattle.basis.proofs.Both.{untrue}
 use Rattle.identity.specs.declared.Identity.{Identity}
 use Rattle.pool.specs.declared.Sought.{Sought}
 use Rattle.pool.specs.declared.Sought.the-variants.{Found as FoundEntry, Nothing as NoEntry}
@@ -41,7 +42,6 @@ use Rattle.lives.specs.Moves.{doesAll}
 use Rattle.packetlives.specs.Packets.{whereGood, judgedActs}
 use Rattle.pumplives.specs.Pumped.{sentAs, recordActs, dueActs}
 use Rattle.framelives.specs.Packeted.{kindActs, classActs}
-use Rattle.conduct.proofs.Links.{no}
 use Rattle.conduct.proofs.Closed.{isGood, isFailed, failsIn, shutsBy}
 use Rattle.conduct.proofs.Shutting.{never-acked}
 use Rattle.conduct.proofs.Acts.{mayClose, stays, answered-stays}
@@ -57,7 +57,7 @@ module _ (k : Link) where
   shut-by id e = rw e refl
 
 failed-acts : (j : Judged) → isFailed j ≡ true → judgedActs j ≡ Close ∷ []
-failed-acts (Chosen v) e = no e
+failed-acts (Chosen v) e = untrue e
 failed-acts RsmpVersion e = refl
 failed-acts SiteId e = refl
 failed-acts SxlVersion e = refl
@@ -65,16 +65,16 @@ failed-acts SxlVersion e = refl
 -- a request acts where its mType is good, it is expected and not too early
 taken-acts : (v : Verdict) (e u f : Bool) (xs : List Act) → both (isGood v) (both e (both (pick u false true) f)) ≡ true
     → (whereGood v (pick e (pick u [] xs) []) ≡ xs) × (f ≡ true)
-taken-acts Good true true f xs q = no q
+taken-acts Good true true f xs q = untrue q
 taken-acts Good true false f xs q = (refl, q)
-taken-acts Good false u f xs q = no q
-taken-acts Missing e u f xs q = no q
-taken-acts Bad e u f xs q = no q
+taken-acts Good false u f xs q = untrue q
+taken-acts Missing e u f xs q = untrue q
+taken-acts Bad e u f xs q = untrue q
 
 version-acts : (w : Verdict) (j : Judged) → both (isGood w) (isFailed j) ≡ true → whereGood w (judgedActs j) ≡ Close ∷ []
 version-acts Good j q = failed-acts j q
-version-acts Missing j q = no q
-version-acts Bad j q = no q
+version-acts Missing j q = untrue q
+version-acts Bad j q = untrue q
 
 -- ---- connected still
 module _ (k : Link) (c : k .connected ≡ true) where
@@ -104,9 +104,9 @@ module _ (k : Link) (c : k .connected ≡ true) where
 
   version-stays : (w : Verdict) (j : Judged) → both (isGood w) (isFailed j) ≡ false → doesAll k (whereGood w (judgedActs j)) .connected ≡ true
   version-stays Good (Chosen v) q = one-stays (VersionAccepted _ _ _) refl
-  version-stays Good RsmpVersion q = no (sym q)
-  version-stays Good SiteId q = no (sym q)
-  version-stays Good SxlVersion q = no (sym q)
+  version-stays Good RsmpVersion q = untrue (sym q)
+  version-stays Good SiteId q = untrue (sym q)
+  version-stays Good SxlVersion q = untrue (sym q)
   version-stays Missing j q = c
   version-stays Bad j q = c
 
@@ -133,17 +133,17 @@ module _ (s : Site) (l time : ℕ) (id : Identity) (received p : List ℕ) (i : 
 
   kind-shut : (kind : Kind) → failsIn s p kind ≡ true → kindActs s l time id received p kind ≡ Close ∷ []
   kind-shut Version q = version-acts (versionAt p .verdict) (judge (own s) (versionAt p .offer)) q
-  kind-shut Watchdog q = no q
-  kind-shut Alarm q = no q
-  kind-shut AggregatedStatusRequest q = no q
-  kind-shut StatusRequest q = no q
-  kind-shut StatusSubscribe q = no q
-  kind-shut StatusUnsubscribe q = no q
-  kind-shut Unexpected q = no q
+  kind-shut Watchdog q = untrue q
+  kind-shut Alarm q = untrue q
+  kind-shut AggregatedStatusRequest q = untrue q
+  kind-shut StatusRequest q = untrue q
+  kind-shut StatusSubscribe q = untrue q
+  kind-shut StatusUnsubscribe q = untrue q
+  kind-shut Unexpected q = untrue q
 
   pub class-shut : (c : Class) → shuts c ≡ true → doesAll (linkAt s l) (classActs s l time id i received p c) ≡ closedLink
-  class-shut NoClass q = no q
-  class-shut Acked q = no (sym (never-acked (linkAt s l) i) ∙ q)
+  class-shut NoClass q = untrue q
+  class-shut Acked q = untrue (sym (never-acked (linkAt s l) i) ∙ q)
   class-shut NotAcked q = shut-by (linkAt s l) i q
   class-shut (Asked v kind) q =
       let x = taken-acts v (expected (linkAt s l) kind) (unready (linkAt s l) kind) (failsIn s p kind) (kindActs s l time id received p kind) q in

@@ -5,6 +5,10 @@ use mathlib.Core.Path.{_≡_, refl, sym, ap, subst, _∙_}
 use mathlib.Core.Bool.{Bool, true, false}
 use mathlib.Core.List.{List, [], _∷_}
 use native.Mathlib.Omega.{arith}
+use Rattle.basis.specs.Lists.{Among}
+use Rattle.basis.specs.Lists.Among.{first, later}
+use Rattle.basis.proofs.Both.{untrue}
+use Rattle.basis.proofs.Among.{among-none, among-one}
 use Rattle.answer.specs.declared.Report.{Report}
 use Rattle.identity.specs.declared.Identity.{Identity}
 use Rattle.identity.specs.Version.{identityOf}
@@ -30,9 +34,7 @@ use Rattle.site.specs.declared.Site.{Site}
 use Rattle.site.specs.Site.{roleOf}
 use Rattle.send_message.specs.Sending.{alarmMessage, aggregatedMessage}
 use Rattle.packet_status.specs.StatusReply.{response}
-use Rattle.lives.specs.Messages.{isAnswer, Among}
-use Rattle.lives.specs.Messages.Among.{first, later}
-use Rattle.lives.proofs.Messages.{among-none, among-one}
+use Rattle.lives.specs.Messages.{isAnswer}
 use Rattle.calls.specs.Calls.{Call, siteAfter}
 use Rattle.calls.specs.Calls.Call.{packet}
 use Rattle.demands.specs.Demand3.{Started}
@@ -41,7 +43,6 @@ use Rattle.conduct.specs.Reasons.{Objection, reasonBy, alarmReply, reply
 use Rattle.conduct.specs.Reasons.Objection.{none, because}
 use Rattle.conduct.specs.Sends.{Acknowledged, Replies}
 use Rattle.conduct.specs.Sends.Replies.{requested, aggregated-requested, status-requested}
-use Rattle.conduct.proofs.Links.{no}
 use Rattle.conduct.proofs.Sent.{sends}
 
 -- nothing stands against a packet of good mType alone
@@ -53,9 +54,9 @@ good Bad o e = absurd (let z : _≡_ {A = ℕ} 0 1 = cc in omega arith)
 -- behind a MessageAck, the reply; behind a MessageNotAck, nothing
 behind : (o : Objection) (received : List ℕ) (reply : List Message) (m : Message) → Among m (answering o received reply) → isAnswer m ≡ false
     → (o ≡ none) × Among m reply
-behind none received reply m first e = no (sym e)
+behind none received reply m first e = untrue (sym e)
 behind none received reply m (later r) e = (refl, r)
-behind (because reason) received reply m first e = no (sym e)
+behind (because reason) received reply m first e = untrue (sym e)
 behind (because reason) received reply m (later r) e = among-none r
 
 -- the one reply to an order about an alarm

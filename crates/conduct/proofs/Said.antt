@@ -5,6 +5,7 @@ use mathlib.Core.Path.{_≡_, refl, sym, ap, _∙_}
 use mathlib.Core.Bool.{Bool, true, false}
 use mathlib.Core.List.{List, [], _∷_}
 use Rattle.basis.specs.Pick.{pick, both}
+use Rattle.basis.proofs.Both.{untrue}
 use Rattle.identity.specs.declared.Identity.{Identity}
 use Rattle.link.specs.declared.Role.{Role}
 use Rattle.link.specs.declared.Role.the-variants.{Primary, Secondary}
@@ -40,7 +41,6 @@ use Rattle.packet_subscribe.specs.Subscribing.{changed, judged, asked, subscrib
 use Rattle.call_packet.specs.Packet.{expected, unready, kindTaken, expectedTaken, askedTaken}
 use Rattle.conduct.specs.Reasons.{Objection, not, reasonIf, reasonOf, reasonBy, elementsIn, judgement, unknownIn, areStatuses, statusReason, namesIn, alarmReply, replyTo, isDue, answering}
 use Rattle.conduct.specs.Reasons.Objection.{none, because}
-use Rattle.conduct.proofs.Links.{no}
 
 -- against what names nothing unknown only "Busy" stands
 abbrev pub unlessFull : Bool → Objection → List Message → Objection
@@ -146,7 +146,7 @@ module _ (s : Site) (l time : ℕ) (id : Identity) (received : List ℕ) where
       (replyTo s (s .table) (roleOf s l) time (id .bytes) p kind)
   unfolding alarmTaken foundTaken aggregatedTaken statusTaken subscribingTaken
   kind-says p Version e = by-verdict (versionAt p .verdict) _ _ [] (judged-says (fullOf (linkAt s l)) (judge (own s) (versionAt p .offer)))
-  kind-says p Watchdog e = by-verdict (watchdogAt p .verdict) (beat s l received (watchdogAt p .time)) _ [] refl
+  kind-says p Watchdog e = by-verdict (watchdogAt p .verdict) (beat s l received (watchdogAt p)) _ [] refl
   kind-says p Alarm e =
       by-verdict (alarmAt p .verdict) _ _ _ (ordered-says (alarmAt p .order) (alarmSought (s .table) (alarmAt p .component) (alarmAt p .code)))
   kind-says p AggregatedStatusRequest e =
@@ -160,7 +160,7 @@ module _ (s : Site) (l time : ℕ) (id : Identity) (received : List ℕ) where
   kind-says p StatusUnsubscribe e =
       by-verdict (statusAt false p .verdict) _ _ _
       (asked-says false (fullOf (linkAt s l)) (statusAt false p) (componentSought (s .table) (statusAt false p .component)))
-  kind-says p Unexpected e = no e
+  kind-says p Unexpected e = untrue e
 
   expected-says : (e u : Bool) (t : Taken) (o : Objection) (reply : List Message) → (e ≡ true → Says t o reply)
       → Says (pick e (pick u (notAcked s received notReady) t) (notAcked s received unexpected)) (reasonIf (not e) unexpected (reasonIf u notReady o)) reply

@@ -5,6 +5,7 @@ use mathlib.Core.Path.{_≡_, refl, sym, ap, subst, _∙_}
 use mathlib.Core.Bool.{Bool, true, false}
 use mathlib.Core.List.{List}
 use Rattle.basis.specs.Pick.{pick, both}
+use Rattle.basis.proofs.Both.{both-first, both-second, untrue}
 use Rattle.identity.specs.declared.Identity.{Identity}
 use Rattle.identity.specs.Version.{identityOf}
 use Rattle.awaited.specs.declared.Found.{Found}
@@ -45,17 +46,9 @@ use Rattle.conduct.specs.Closes.Closes.{version-refused, watchdog-refuse
 use Rattle.conduct.specs.Due.{beaten}
 use Rattle.conduct.specs.Reasons.{not, isUnexpected, isNotReady}
 use Rattle.conduct.proofs.Given.{Given, given-stays}
-use Rattle.conduct.proofs.Links.{no, link-is, answers-told}
+use Rattle.conduct.proofs.Links.{link-is, answers-told}
 use Rattle.conduct.proofs.Phases.{as-expected, not-ready}
 use Rattle.conduct.proofs.Closed.{isGood, isFailed, failsIn, shutsBy}
-
-left : (a b : Bool) → both a b ≡ true → a ≡ true
-left true b e = refl
-left false b e = e
-
-right : (a b : Bool) → both a b ≡ true → b ≡ true
-right true b e = e
-right false b e = no e
 
 -- a MessageNotAck closes by what it refuses
 by-said : (h : List Act) → Answers h → (i : Identity) → closesOf (after h) i false ≡ closesOn (phaseOf (after h)) (said (letters h) i)
@@ -67,20 +60,20 @@ unfolding closesOf
 never-acked k i = refl
 
 beating : (f : Phase) → isBeating f ≡ true → f ≡ Beating
-beating Down e = no e
-beating Greeting e = no e
+beating Down e = untrue e
+beating Greeting e = untrue e
 beating Beating e = refl
-beating Up e = no e
+beating Up e = untrue e
 
 -- their Version is expected: ours went out, and theirs was not accepted
 went-out : (t o : Bool) → not (pick t true (not o)) ≡ true → (o ≡ true) × (t ≡ false)
-went-out true o e = no e
+went-out true o e = untrue e
 went-out false true e = (refl, refl)
-went-out false false e = no e
+went-out false false e = untrue e
 
 -- and then the Versions are not through
 not-through : (c o a t b : Bool) → t ≡ false → both (both (both c (both o (both a t))) b) true ≡ false
-not-through true true true true b e = no (sym e)
+not-through true true true true b e = untrue (sym e)
 not-through true true true false b e = refl
 not-through true true false t b e = refl
 not-through true false a t b e = refl
@@ -88,11 +81,11 @@ not-through false o a t b e = refl
 
 good : (v : Verdict) → isGood v ≡ true → v ≡ Good
 good Good e = refl
-good Missing e = no e
-good Bad e = no e
+good Missing e = untrue e
+good Bad e = untrue e
 
 failed : (j : Judged) → isFailed j ≡ true → (v : ℕ) → j ≡ Chosen v → ⊥
-failed j e v q = no (sym (ap isFailed q) ∙ e)
+failed j e v q = untrue (sym (ap isFailed q) ∙ e)
 
 is-failed : (j : Judged) → ((v : ℕ) → j ≡ Chosen v → ⊥) → isFailed j ≡ true
 is-failed (Chosen v) n = absurd (n v refl)
@@ -103,13 +96,13 @@ is-failed SxlVersion n = refl
 -- only a Version fails
 fails : (s : Site) (p : List ℕ) (kind : Kind) → failsIn s p kind ≡ true → kind ≡ TypeVersion
 fails s p TypeVersion e = refl
-fails s p TypeWatchdog e = no e
-fails s p TypeAlarm e = no e
-fails s p AggregatedStatusRequest e = no e
-fails s p StatusRequest e = no e
-fails s p StatusSubscribe e = no e
-fails s p StatusUnsubscribe e = no e
-fails s p Unexpected e = no e
+fails s p TypeWatchdog e = untrue e
+fails s p TypeAlarm e = untrue e
+fails s p AggregatedStatusRequest e = untrue e
+fails s p StatusRequest e = untrue e
+fails s p StatusSubscribe e = untrue e
+fails s p StatusUnsubscribe e = untrue e
+fails s p Unexpected e = untrue e
 
 module _ (s : Site) (b : Started s) (cs : List Call) where
   -- a packet on link l, by the history of l
@@ -134,13 +127,13 @@ module _ (s : Site) (b : Started s) (cs : List Call) where
 
     refused-then : (f : Found) → said (letters (historyOf s cs l)) (headAt p .identity) ≡ f → headAt p .class ≡ NotAcked
         → closesOn (phaseOf (after (historyOf s cs l))) f ≡ true → Closes s cs (packet l t random p out) l
-    refused-then Nothing q c e = no e
+    refused-then Nothing q c e = untrue e
     refused-then (For Version) q c e = version-refused c q
     refused-then (For Watchdog) q c e =
         let g = links .beating-only-if (historyOf s cs l) (beating (phaseOf (after (historyOf s cs l))) e) in
         watchdog-refused c q (g .0) (g .1)
-    refused-then (For (Entry n)) q c e = no e
-    refused-then (For Other) q c e = no e
+    refused-then (For (Entry n)) q c e = untrue e
+    refused-then (For Other) q c e = untrue e
 
     fails-then : (v : Verdict) (kind : Kind) → headAt p .class ≡ Asked v kind → v ≡ Good → kind ≡ TypeVersion
         → expected (linkAt (siteAfter s cs) l) kind ≡ true → failsIn (siteAfter s cs) p kind ≡ true → Closes s cs (packet l t random p out) l
@@ -149,18 +142,18 @@ module _ (s : Site) (b : Started s) (cs : List Call) where
         let y : failsIn (siteAfter s cs) p TypeVersion ≡ true = subst (λ (q : Kind). failsIn (siteAfter s cs) p q ≡ true) k f in
         let w = went-out (happened (historyOf s cs l) TheirVersion) (happened (historyOf s cs l) OurVersion) (sym (expecting TypeVersion) ∙ x) in
         version-fails (c ∙ ap (λ (q : Verdict). Asked q kind) g ∙ ap (λ (q : Kind). Asked Good q) k) (w .0) (w .1)
-        (good (versionAt p .verdict) (left (isGood (versionAt p .verdict)) _ y))
-        (failed (judge (ownOffer (s .table)) (versionAt p .offer)) (sym judging ∙ right (isGood (versionAt p .verdict)) _ y))
+        (good (versionAt p .verdict) (both-first (isGood (versionAt p .verdict)) _ y))
+        (failed (judge (ownOffer (s .table)) (versionAt p .offer)) (sym judging ∙ both-second (isGood (versionAt p .verdict)) _ y))
 
     pub shuts-then : (c : Class) → headAt p .class ≡ c → shuts c ≡ true → Closes s cs (packet l t random p out) l
-    shuts-then NoClass q e = no e
-    shuts-then Acked q e = no (sym (never-acked (linkAt (siteAfter s cs) l) (headAt p .identity)) ∙ e)
+    shuts-then NoClass q e = untrue e
+    shuts-then Acked q e = untrue (sym (never-acked (linkAt (siteAfter s cs) l) (headAt p .identity)) ∙ e)
     shuts-then NotAcked q e = refused-then (said (letters (historyOf s cs l)) (headAt p .identity)) refl q (sym refusal ∙ e)
     shuts-then (Asked v kind) q e =
-        let r = right (isGood v) _ e in
-        let u = right (expected (linkAt (siteAfter s cs) l) kind) _ r in
-        let f = right (pick (unready (linkAt (siteAfter s cs) l) kind) false true) (failsIn (siteAfter s cs) p kind) u in
-        fails-then v kind q (good v (left (isGood v) _ e)) (fails (siteAfter s cs) p kind f) (left (expected (linkAt (siteAfter s cs) l) kind) _ r) f
+        let r = both-second (isGood v) _ e in
+        let u = both-second (expected (linkAt (siteAfter s cs) l) kind) _ r in
+        let f = both-second (pick (unready (linkAt (siteAfter s cs) l) kind) false true) (failsIn (siteAfter s cs) p kind) u in
+        fails-then v kind q (good v (both-first (isGood v) _ e)) (fails (siteAfter s cs) p kind f) (both-first (expected (linkAt (siteAfter s cs) l) kind) _ r) f
 
     pub then-refuses : (f : Found) → headAt p .class ≡ NotAcked → said (letters (historyOf s cs l)) (headAt p .identity) ≡ f
         → closesOn (phaseOf (after (historyOf s cs l))) f ≡ true → shuts (headAt p .class) ≡ true

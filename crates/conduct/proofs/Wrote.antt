@@ -4,6 +4,7 @@ use Prim.Native.Nat.{ℕ}
 use mathlib.Core.Path.{_≡_, refl, subst}
 use mathlib.Core.Bool.{true}
 use mathlib.Core.List.{List, _∷_}
+use Rattle.basis.proofs.Both.{untrue}
 use Rattle.answer.specs.declared.Report.{Report}
 use Rattle.answer.specs.Number.{isDone}
 use Rattle.write_message.specs.Message.{Message}
@@ -20,14 +21,13 @@ use Rattle.sequences.specs.Typed.{EachTyped}
 use Rattle.sequences.proofs.Kept.{kept as sequences}
 use Rattle.conduct.specs.History.{DoneWith, messagesOf}
 use Rattle.conduct.specs.Sends.{sentBy}
-use Rattle.conduct.proofs.Links.{no}
 use Rattle.conduct.proofs.Sent.{sends}
 
 sound-by : (b : List ℕ) (links primary period first time : ℕ) (r : Step) → Starts b links primary period first time r → isDone (r .answer) ≡ true
     → (cs : List Call) → EachTyped cs → Sound (siteAfter (r .site) cs)
 sound-by b links primary period first time r (starts {t = t} v p w) h cs x =
     sequences .started b links primary period first time r _ (starts {t = t} v p w) refl cs x
-sound-by b links primary period first time r (not-accepted n) h cs x = no h
+sound-by b links primary period first time r (not-accepted n) h cs x = untrue h
 
 sound : (s : Site) → Started s → (cs : List Call) → EachTyped cs → Sound (siteAfter s cs)
 sound s (started {b = b} {links = links} {primary = primary} {period = period} {first = first} {time = time} {r = r} x d) cs y =

@@ -6,9 +6,11 @@ use mathlib.Core.Path.{_≡_}
 use mathlib.Core.Bool.{true}
 use mathlib.Core.List.{List, [], _∷_}
 use lib.ListN.{length}
+use Rattle.basis.specs.Lists.{Among}
 use Rattle.answer.specs.declared.Refusal.the-variants.{Ignored}
 use Rattle.answer.specs.declared.Report.{Report}
 use Rattle.answer.specs.declared.Answer.the-variants.{Refused}
+use Rattle.answer.specs.Times.{lastTime}
 use Rattle.identity.specs.declared.Identity.{Identity}
 use Rattle.awaited.specs.declared.Found.the-variants.{Nothing}
 use Rattle.awaited.specs.Promises.{said}
@@ -23,7 +25,7 @@ use Rattle.read_head.specs.declared.Kind.the-variants.{Version}
 use Rattle.read_head.specs.declared.Class.the-variants.{Ignored as NoClass, Acked, NotAcked, Asked}
 use Rattle.read_head.specs.Head.{headAt}
 use Rattle.site.specs.declared.Site.{Site}
-use Rattle.lives.specs.Messages.{isAnswer, AnswerTo, Among, NoAnswer}
+use Rattle.lives.specs.Messages.{isAnswer, AnswerTo, NoAnswer}
 use Rattle.calls.specs.Calls.{Call, stepBy, outBy, siteAfter}
 use Rattle.calls.specs.Calls.Call.{packet}
 use Rattle.conduct.specs.History.{DoneWith, messagesOf, historyOf}
@@ -61,7 +63,7 @@ pub record Arrives (s : Site) (cs : List Call) (l t : ℕ) (p out : List ℕ) : 
   pub room : 4096 ≤ length out
   pub size : length p ≤ 4096
   pub later : siteAfter s cs .last ≤ t
-  pub years : t ≤ 253402300799999
+  pub years : t ≤ lastTime
   pub connected : happened (historyOf s cs l) Connected ≡ true
 
 pub record Answers (s : Site) (cs : List Call) : Type 0 where

@@ -1,8 +1,11 @@
--- "Only the primary's watchdog time is a clock hint." Statements only: their proof is `kept`.
+-- "Only the primary's watchdog time is a clock hint." Document 02, request 05: "The clock hint is given only where three or more [decimals]
+-- stood; with fewer the watchdog is acknowledged and no hint given." Statements only: their proof is `kept`.
 -- Assumes nothing.
 use Prim.Native.Nat.{ℕ}
 use mathlib.Core.Path.{_≡_}
 use mathlib.Core.List.{List}
+use lib.Dec.{leb}
+use Rattle.basis.specs.Pick.{pick}
 use Rattle.answer.specs.declared.Report.{Report}
 use Rattle.answer.specs.Given.{Hint, hintIn}
 use Rattle.answer.specs.Given.Hint.{none, clock}
@@ -22,21 +25,21 @@ use Rattle.calls.specs.Calls.{Call}
 use Rattle.calls.specs.Calls.Call.{connect, disconnect, packet, alarm, status, aggregated, tick, pump}
 use Rattle.conduct.specs.History.{DoneWith}
 
--- the time of a packet whose mType and wTs are good, from the primary
-abbrev pub timeFrom : Role → Verdict → Verdict → ℕ → Hint
-timeFrom Primary Good Good time = clock time
-timeFrom Primary Good Missing time = none
-timeFrom Primary Good Bad time = none
-timeFrom Primary Missing w time = none
-timeFrom Primary Bad w time = none
-timeFrom Secondary v w time = none
+-- the time of a packet whose mType and wTs are good, from the primary, with three or more decimals
+abbrev pub timeFrom : Role → Verdict → Verdict → (time decimals : ℕ) → Hint
+timeFrom Primary Good Good time decimals = pick (leb 3 decimals) (clock time) none
+timeFrom Primary Good Missing time decimals = none
+timeFrom Primary Good Bad time decimals = none
+timeFrom Primary Missing w time decimals = none
+timeFrom Primary Bad w time decimals = none
+timeFrom Secondary v w time decimals = none
 
 abbrev pub hintIf : Role → List ℕ → Class → Hint
 hintIf role p Ignored = none
 hintIf role p Acked = none
 hintIf role p NotAcked = none
 hintIf role p (Asked v Version) = none
-hintIf role p (Asked v Watchdog) = timeFrom role v (watchdogAt p .verdict) (watchdogAt p .time)
+hintIf role p (Asked v Watchdog) = timeFrom role v (watchdogAt p .verdict) (watchdogAt p .time) (watchdogAt p .decimals)
 hintIf role p (Asked v Alarm) = none
 hintIf role p (Asked v AggregatedStatusRequest) = none
 hintIf role p (Asked v StatusRequest) = none

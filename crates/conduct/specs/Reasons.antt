@@ -7,6 +7,7 @@ use mathlib.Core.List.{List, [], _∷_}
 use lib.Dec.{leb}
 use lib.ListN.{length}
 use Rattle.basis.specs.Pick.{pick, both}
+use Rattle.names.specs.Names.{nameOf}
 use Rattle.awaited.specs.Promises.{waiting}
 use Rattle.link.specs.declared.Role.{Role}
 use Rattle.link.specs.declared.Role.the-variants.{Primary, Secondary}
@@ -173,7 +174,7 @@ objectionTo table h p v kind reply =
 -- the answer first, and behind a MessageAck the reply
 abbrev pub answering : Objection → List ℕ → List Message → List Message
 answering none received reply = ack received ∷ reply
-answering (because reason) received reply = notAck received reason ∷ []
+answering (because reason) received reply = notAck received (nameOf reason) ∷ []
 
 -- a packet of this class; one that is ignored gets no answer, nor does an answer
 abbrev pub answersTo : Site → SiteTable → Role → List Act → ℕ → List ℕ → List ℕ → List ℕ → Class → List Message

@@ -5,6 +5,7 @@ use Prim.Native.Nat.{ℕ}
 use mathlib.Core.Path.{_≡_}
 use mathlib.Core.Bool.{true, false}
 use mathlib.Core.List.{List, [], _∷_}
+use Rattle.basis.specs.Lists.{Among}
 use Rattle.answer.specs.declared.Report.{Report}
 use Rattle.identity.specs.declared.Identity.{Identity}
 use Rattle.identity.specs.Version.{identityOf}
@@ -27,7 +28,7 @@ use Rattle.send_message.specs.Sending.{alarmMessage, aggregatedMessage}
 use Rattle.packet_status.specs.StatusReply.{response}
 use Rattle.call_pump.specs.Pump.{isHeld}
 use Rattle.formedness.specs.Formedness.{Wrote}
-use Rattle.lives.specs.Messages.{isAnswer, Among}
+use Rattle.lives.specs.Messages.{isAnswer}
 use Rattle.calls.specs.Calls.{Call, outputOf, outBy, siteAfter}
 use Rattle.calls.specs.Calls.Call.{connect, disconnect, packet, alarm, status, aggregated, tick, pump}
 use Rattle.sequences.specs.Typed.{EachTyped}

@@ -29,7 +29,7 @@ use Rattle.read_lists.specs.Version.{pushVersion, pushSite, versionAt}
 use Rattle.calendar.specs.Days.{leapOf, years, months, dayOf}
 use Rattle.calendar.specs.Civil.{yearFrom, monthFrom, dateOf}
 use Rattle.calendar.specs.Text.{secondText, milliText, timeText}
-use Rattle.calendar.specs.Read.{readSecond, readMilli, readTime}
+use Rattle.calendar.specs.Read.{readSecond, readDecimals, readRest, readTime}
 use Rattle.read_head.specs.Small.{watchdogAt}
 use Rattle.read_head.specs.declared.Verdict.the-variants.{Good}
 use Rattle.read_head.specs.declared.Kind.{Kind}
@@ -73,7 +73,7 @@ offer =
     }
 
 abbrev pub clockTime : GotTime
-clockTime = record { verdict = Good; time = now }
+clockTime = record { verdict = Good; time = now; decimals = 3 }
 
 pub version-answer : headAt theirVersionAck ≡ answer 1
 unfolding rawOf charOf readChars decoded ascii skipWs readScalar readName readStart readMark readEntry readItems readInside readValue stringAt nextEntry entriesFrom entries insideAt entriesAt memberAt wordHere wordAt noTwice allOnce once isPacket headBy headAt hexDigit hexValue lowerHex identityText bytesOf readIdentity
@@ -104,5 +104,5 @@ unfolding rawOf charOf readChars decoded ascii skipWs readScalar readName readSt
 version-fields = refl
 
 pub watchdog-fields : watchdogAt theirWatchdog ≡ clockTime
-unfolding rawOf charOf readChars decoded ascii skipWs readScalar readName readStart readMark readEntry readItems readInside readValue stringAt nextEntry entriesFrom entries insideAt entriesAt memberAt wordHere wordAt leapOf years months dayOf yearFrom monthFrom dateOf secondText milliText timeText readSecond readMilli readTime watchdogAt
+unfolding rawOf charOf readChars decoded ascii skipWs readScalar readName readStart readMark readEntry readItems readInside readValue stringAt nextEntry entriesFrom entries insideAt entriesAt memberAt wordHere wordAt leapOf years months dayOf yearFrom monthFrom dateOf secondText milliText timeText readSecond readDecimals readRest readTime watchdogAt
 watchdog-fields = refl

@@ -2,7 +2,7 @@
 -- Assumes nothing.
 use Prim.Native.Nat.{ℕ, _+_, _≤_, _<_}
 use mathlib.Core.Path.{_≡_, refl, sym, _∙_, ap, subst}
-use mathlib.Core.Bool.{Bool, true, false}
+use mathlib.Core.Bool.{true, false}
 use mathlib.Core.List.{List, [], _∷_}
 use mathlib.Core.Option.{Option, some, none}
 use mathlib.Core.Logic.{_⊎_, inl, inr}
@@ -10,7 +10,8 @@ use lib.Dec.{ltb, leb, eqb}
 use lib.ListN.{length, length-replicate}
 use native.Mathlib.Omega.{arith}
 use borrow.Author.Tests.{ltb-true, leb-true, eq-eqb}
-use Rattle.basis.specs.Pick.{pick, both}
+use Rattle.basis.specs.Pick.{pick}
+use Rattle.basis.proofs.Both.{both-first, both-second, not-both}
 use Rattle.machine.specs.Words.{maybe, isNumber}
 use Rattle.machine.specs.State.{Issued, Setup, Pool, Start, Machine, Act, Call, Outcome}
 use Rattle.machine.specs.State.Outcome.{refused}
@@ -26,7 +27,7 @@ use Rattle.demand_held.specs.Held.Kept.{stays, pushed}
 use Rattle.demand_held.specs.Held.Fate.{kept, settled}
 use Rattle.demand_held.specs.Held.Until.{lasts, answered-now, pushed-now, later}
 use Rattle.demand_held.specs.Demand.{Holding, Demand3}
-use Rattle.demand_held.proofs.Lists.{clash, Each}
+use Rattle.demand_held.proofs.Lists.{Each}
 use Rattle.demand_held.proofs.Lists.Each.{no-more, one-more}
 use Rattle.demand_held.proofs.Good.{Good, Fits}
 use Rattle.demand_held.proofs.Good.Rising.{ends}
@@ -128,7 +129,7 @@ module _ (m : Machine) (s : Sound m) (c : Call) where
       on-its-link act (answered p q a t) = eq-eqb (r .link) (r .link) refl
 
       go : (IsDone m c × Answered m (r .link) n (c .act)) ⊎ Kept m c r n → Kept m c r n
-      go (inl a) = clash (on-its-link (c .act) (a .1)) e
+      go (inl a) = not-both (on-its-link (c .act) (a .1)) e
       go (inr k) = k
 
   pub issued : IsDone m c → (k : ℕ) (i : Issued) → At i k (issuedBy m c) → Kept m c i (m .pool .next + k)
@@ -152,13 +153,6 @@ held-on m s (c ∷ cs) r n h = go (held m s c r n h) (held-on (step m c .1) (ste
     go (kept (pushed d i o)) f = pushed-now d i o
 
 -- ---- from start
-and-left : (a b : Bool) → both a b ≡ true → a ≡ true
-and-left true b e = refl
-and-left false b e = e
-
-and-right : (a b : Bool) → both a b ≡ true → b ≡ true
-and-right true b e = e
-and-right false b e = clash e refl
 
 inside : (o : Option ℕ) (n p : ℕ) → maybe true (λ (q : ℕ). ltb q n) o ≡ true → o ≡ some p → p < n
 inside none n p h e = absurd (let z : _≡_ {A = ℕ} 0 1 = cc in omega arith)
@@ -168,7 +162,7 @@ begun-sound : (s : Start) (m : Machine) → Begins s (some m) → Sound m
 begun-sound s m (begins allowed e g) =
     record {
       good = record {
-        few = omega (arith, length-replicate {A = ℕ} (s .links) 0, leb-true (s .links) 4 (and-left (leb (s .links) 4) _ (and-right (leb 1 (s .links)) _ g)));
+        few = omega (arith, length-replicate {A = ℕ} (s .links) 0, leb-true (s .links) 4 (both-first (leb (s .links) 4) _ (both-second (leb 1 (s .links)) _ g)));
         links = no-more;
         most = λ l. omega arith;
         all = omega arith;
@@ -176,7 +170,7 @@ begun-sound s m (begins allowed e g) =
       };
       alarms = no-more;
       counts = length-replicate {A = ℕ} (s .links) 0;
-      primary = λ p f. inside (s .primary) (s .links) p (and-left (maybe true (λ (q : ℕ). ltb q (s .links)) (s .primary)) _ (and-right (leb (s .links) 4) _ (and-right (leb 1 (s .links)) _ g))) f;
+      primary = λ p f. inside (s .primary) (s .links) p (both-first (maybe true (λ (q : ℕ). ltb q (s .links)) (s .primary)) _ (both-second (leb (s .links) 4) _ (both-second (leb 1 (s .links)) _ g))) f;
     }
 
 pub run-sound : {s : Start} {h : List Past} {m : Machine} → Run s h m → Sound m

@@ -13,7 +13,7 @@ use lib.ListN.{length}
 use native.Mathlib.Omega.{arith}
 use borrow.Author.Tests.{eqb-true, leb-false, ne-eqb, eq-eqb}
 use Rattle.basis.specs.Pick.{pick, both, bit}
-use Rattle.basis.specs.Lists.{count}
+use Rattle.basis.specs.Lists.{count, Among}
 use Rattle.basis.proofs.Cases.{bool-cases, picked}
 use Rattle.json_value.specs.Grammar.{Json}
 use Rattle.write_message.specs.Message.{Message}
@@ -21,10 +21,9 @@ use Rattle.machine.specs.Words.{Bytes, maybe, keep, flat, upTo, isNumber}
 use Rattle.machine.specs.State.{Issued, Held, Pool, poolOf, Setup, Machine, withHeld, Act, Effect, effect, only}
 use Rattle.machine.specs.Pool.{isFor, holds, settled, marked}
 use Rattle.machine.specs.Life.{unsent, close, closeAll}
-use Rattle.machine.specs.Run.{Among}
 use Rattle.demand_held.specs.Held.{IsHeld, Answered}
 use Rattle.demand_held.specs.Held.IsHeld.{held}
-use Rattle.demand_held.proofs.Lists.{clash, maybe-cases, Each, each-map, each-keep, among-map, among-keep, count-map, count-keep, length-map, length-keep}
+use Rattle.demand_held.proofs.Lists.{maybe-cases, Each, each-map, each-keep, among-map, among-keep, count-map, count-keep, length-map, length-keep}
 use Rattle.demand_held.proofs.Lists.Each.{no-more, one-more}
 use Rattle.demand_held.proofs.Good.{Good, Below, Fits}
 use Rattle.demand_held.proofs.Rising.{rising-map, rising-keep}

@@ -13,11 +13,12 @@ use borrow.Author.Tests.{ltb-true, ltb-false, leb-true, eqb-true, ne-eqb, not-tr
 use Rattle.basis.specs.Pick.{pick, both, bit}
 use Rattle.basis.specs.Lists.{count}
 use Rattle.basis.proofs.Cases.{bool-cases, picked, lt-or-ge, eq-or-ne}
+use Rattle.basis.proofs.Both.{not-both}
 use Rattle.machine.specs.Words.{isNumber, anyBelow}
 use Rattle.machine.specs.State.{Setup, Content, Held, Pool}
 use Rattle.machine.specs.State.Content.{ofAlarm, ofStatus, ofAggregated}
 use Rattle.machine.specs.Pool.{isFor, holds, isFull, fullestBelow, fullest, isStuck}
-use Rattle.demand_held.proofs.Lists.{bit-false, clash, Each, none-below}
+use Rattle.demand_held.proofs.Lists.{bit-false, Each, none-below}
 use Rattle.demand_held.proofs.Lists.Each.{no-more, one-more}
 
 -- the numbers of a list rise, from a on and below b
@@ -90,7 +91,7 @@ module _ (p : Pool) (g : Good p) where
   few-each s y z l = go (lt-or-ge l (length (p .lost))) (eq-or-ne l s)
     where
       right-false : (a b : Bool) → both (not a) b ≡ false → a ≡ false → b ≡ false
-      right-false true b h e = clash refl e
+      right-false true b h e = not-both refl e
       right-false false b h e = h
 
       go : (l < length (p .lost)) ⊎ (length (p .lost) ≤ l) → (l ≡ s) ⊎ (l ≡ s → ⊥) → holds p l ≤ 16
@@ -107,8 +108,8 @@ module _ (p : Pool) (g : Good p) where
     where
       no : (a b c : Bool) → isFull p ≡ a → ltb (holds p s) 16 ≡ b → anyBelow (length (p .lost)) (λ l. both (not (eqb l s)) (ltb 16 (holds p l))) ≡ c
           → both a (both b (not c)) ≡ true → ⊥
-      no false b c x y z e = clash e refl
-      no true false c x y z e = clash e refl
-      no true true true x y z e = clash e refl
+      no false b c x y z e = not-both e refl
+      no true false c x y z e = not-both e refl
+      no true true true x y z e = not-both e refl
       no true true false x y z e =
           omega (arith, four (g .few) (p .held) (g .links), leb-true 128 (length (p .held)) x, few-each s y z 0, few-each s y z 1, few-each s y z 2, few-each s y z 3)

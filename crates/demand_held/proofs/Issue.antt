@@ -12,12 +12,14 @@ use borrow.Author.Tests.{lt-leb, ne-eqb}
 use Rattle.basis.specs.Pick.{both, bit}
 use Rattle.basis.specs.Lists.{count}
 use Rattle.basis.proofs.Cases.{eq-or-ne}
+use Rattle.basis.proofs.Both.{both-no}
+use Rattle.basis.proofs.Among.{among-left}
 use Rattle.machine.specs.State.{Setup, Issued, Held, heldAs, Pool}
 use Rattle.machine.specs.Pool.{isFor, holds, makeRoom, added, issue, issueAll, isStuck, sticks}
 use Rattle.demand_held.specs.Held.{IsHeld, At}
 use Rattle.demand_held.specs.Held.IsHeld.{held}
 use Rattle.demand_held.specs.Held.At.{first, behind}
-use Rattle.demand_held.proofs.Lists.{bit-false, bit-le, no-right, Each, each-append, among-last, among-left, count-last, length-last}
+use Rattle.demand_held.proofs.Lists.{bit-false, bit-le, Each, each-append, among-last, count-last, length-last}
 use Rattle.demand_held.proofs.Lists.Each.{no-more, one-more}
 use Rattle.demand_held.proofs.Good.{Rising, Below, fits, Fits, Good, not-stuck}
 use Rattle.demand_held.proofs.Rising.{rising-last, rising-below, older}
@@ -56,7 +58,7 @@ module _ (i : Issued) (p : Pool) (g : Good p) where
         omega (
           arith,
           count-last (older l n) (q .held) (new q),
-          bit-false (older l n (new q)) (no-right (isFor l (new q)) (leb (q .next) n) (lt-leb (q .next) n (omega (arith, r .next)))),
+          bit-false (older l n (new q)) (both-no (isFor l (new q)) (leb (q .next) n) (lt-leb (q .next) n (omega (arith, r .next)))),
         )
 
     fate-added : (x : Issued) (n : ℕ) → n < p .next → IsHeld x n (p .held) → IsHeld x n (added i q .held) ⊎ Over (x .link) n (added i q)

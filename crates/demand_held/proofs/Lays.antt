@@ -13,6 +13,7 @@ use native.Mathlib.Omega.{arith}
 use borrow.Author.Tests.{eqb-true, eq-eqb}
 use Rattle.basis.specs.Pick.{pick, both}
 use Rattle.basis.proofs.Cases.{picked}
+use Rattle.basis.proofs.Both.{both-first}
 use Rattle.json_value.specs.Grammar.{Json}
 use Rattle.write_message.specs.Message.{Message}
 use Rattle.machine.specs.Words.{Bytes, maybe, keep, flat, upTo}
@@ -69,10 +70,6 @@ use Rattle.demand_held.proofs.Lists.{maybe-cases, Each, each-map, each-
 use Rattle.demand_held.proofs.Lists.Each.{no-more, one-more}
 use Rattle.demand_held.proofs.Issue.{FitsIssued, For}
 use Rattle.demand_held.proofs.Frame.{Frame, still, then, marks, settles}
-
-both-first : (a b : Bool) → both a b ≡ true → a ≡ true
-both-first true b e = refl
-both-first false b e = e
 
 -- ---- closing
 close-frame : {E : ℕ → ℕ → Type 0} (l : ℕ) (m : Machine) → Frame E m (close l m)

@@ -9,11 +9,11 @@ use mathlib.Core.Logic.{_⊎_, inl, inr}
 use lib.ListN.{length}
 use native.Mathlib.Omega.{arith}
 use Rattle.basis.specs.Pick.{pick, both, bit}
-use Rattle.basis.specs.Lists.{count}
+use Rattle.basis.specs.Lists.{count, Among}
+use Rattle.basis.specs.Lists.Among.{first, later}
 use Rattle.basis.proofs.Cases.{picked, lt-or-ge}
+use Rattle.basis.proofs.Both.{not-both}
 use Rattle.machine.specs.Words.{maybe, keep, butFirst, flat, changed, upTo, anyBelow}
-use Rattle.machine.specs.Run.{Among}
-use Rattle.machine.specs.Run.Among.{here, later}
 
 pub bit-true : (b : Bool) → b ≡ true → bit b ≡ 1
 bit-true b e = rw e
@@ -27,13 +27,6 @@ bit-le false = omega arith
 
 pub no-left : (a b : Bool) → a ≡ false → both a b ≡ false
 no-left a b e = rw e
-
-pub no-right : (a b : Bool) → b ≡ false → both a b ≡ false
-no-right true b e = e
-no-right false b e = refl
-
-pub clash : {P : Type 0} {b : Bool} → b ≡ true → b ≡ false → P
-clash p q = absurd (let z : _≡_ {A = ℕ} 0 1 = cc in omega arith)
 
 pub maybe-cases : {A B : Type 0} (P : B → Type 0) (b : B) (f : A → B) (o : Option A) → (o ≡ none → P b) → ((a : A) → o ≡ some a → P (f a)) → P (maybe b f o)
 maybe-cases P b f none g h = g refl
@@ -82,20 +75,16 @@ each-below n = go n n (omega arith)
 
 module _ {A : Type 0} where
   pub among-last : (xs : List A) (x : A) → Among x (xs ++ (x ∷ []))
-  among-last [] x = here
+  among-last [] x = first
   among-last (y ∷ xs) x = later (among-last xs x)
 
-  pub among-left : {x : A} {xs : List A} (ys : List A) → Among x xs → Among x (xs ++ ys)
-  among-left ys here = here
-  among-left ys (later a) = later (among-left ys a)
-
   pub among-keep : (f : A → Bool) {x : A} {xs : List A} → f x ≡ true → Among x xs → Among x (keep f xs)
-  among-keep f {x} e (here {xs}) = picked (Among x) (f x) (x ∷ keep f xs) (keep f xs) (λ g. here) (λ g. clash e g)
+  among-keep f {x} e (first {xs}) = picked (Among x) (f x) (x ∷ keep f xs) (keep f xs) (λ g. first) (λ g. not-both e g)
   among-keep f {x} e (later {y} {xs} a) =
       picked (Among x) (f y) (y ∷ keep f xs) (keep f xs) (λ g. later (among-keep f e a)) (λ g. among-keep f e a)
 
 pub among-map : {A B : Type 0} (g : A → B) {x : A} {xs : List A} → Among x xs → Among (g x) (map g xs)
-among-map g here = here
+among-map g first = first
 among-map g (later a) = later (among-map g a)
 
 module _ {A : Type 0} (f : A → Bool) where
@@ -164,7 +153,7 @@ length-changed zero g (x ∷ xs) = refl
 length-changed (suc i) g (x ∷ xs) = omega (arith, length-changed i g xs)
 
 pub neither : (a b : Bool) → pick a true b ≡ false → (a ≡ false) × (b ≡ false)
-neither true b e = clash refl e
+neither true b e = not-both refl e
 neither false b e = (refl, e)
 
 pub none-below : (n : ℕ) (f : ℕ → Bool) → anyBelow n f ≡ false → (l : ℕ) → l < n → f l ≡ false

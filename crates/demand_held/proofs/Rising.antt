@@ -9,15 +9,15 @@ use lib.Dec.{eqb, ltb, leb}
 use native.Mathlib.Omega.{arith}
 use borrow.Author.Tests.{leb-true, leb-false, lt-leb, lt-ltb, le-ltb, le-leb, eqb-true, eq-eqb, ne-eqb}
 use Rattle.basis.specs.Pick.{pick, both, bit}
-use Rattle.basis.specs.Lists.{count}
+use Rattle.basis.specs.Lists.{count, Among}
+use Rattle.basis.specs.Lists.Among.{first, later}
 use Rattle.basis.proofs.Cases.{picked, lt-or-ge, eq-or-ne}
+use Rattle.basis.proofs.Both.{both-no}
 use Rattle.machine.specs.Words.{keep, butFirst}
 use Rattle.machine.specs.State.{Held, Pool}
 use Rattle.machine.specs.Pool.{isFor}
-use Rattle.machine.specs.Run.{Among}
-use Rattle.machine.specs.Run.Among.{here, later}
 use Rattle.demand_held.specs.Held.{newer}
-use Rattle.demand_held.proofs.Lists.{bit-true, bit-false, no-left, no-right}
+use Rattle.demand_held.proofs.Lists.{bit-true, bit-false, no-left}
 use Rattle.demand_held.proofs.Good.{Rising}
 use Rattle.demand_held.proofs.Good.Rising.{ends, rises}
 
@@ -45,7 +45,7 @@ rising-last {a = a} h e (ends f) = rises {a = a} {h = h} (omega arith) (ends {a 
 rising-last h e (rises f r) = rises f (rising-last h e r)
 
 pub rising-below : {b a : ℕ} {h : Held} {hs : List Held} → Rising b a hs → Among h hs → h .sequence < b
-rising-below (rises f r) here = end r
+rising-below (rises f r) first = end r
   where
     end : {b a : ℕ} {hs : List Held} → Rising b (suc a) hs → a < b
     end (ends g) = omega arith
@@ -72,7 +72,7 @@ older l n h = both (isFor l h) (leb (h .sequence) n)
 pub none-older : (l n : ℕ) {b a : ℕ} (hs : List Held) → n < a → Rising b a hs → count (older l n) hs ≡ 0
 none-older l n [] f (ends g) = refl
 none-older l n (h ∷ hs) f (rises g r) =
-    omega (arith, bit-false (older l n h) (no-right (isFor l h) _ (lt-leb (h .sequence) n (omega arith))), none-older l n hs (omega arith) r)
+    omega (arith, bit-false (older l n h) (both-no (isFor l h) _ (lt-leb (h .sequence) n (omega arith))), none-older l n hs (omega arith) r)
 
 one-side : (t : Bool) (n k : ℕ) → bit (both t (ltb n k)) + bit (both t (leb k n)) ≡ bit t
 one-side false n k = refl
@@ -89,10 +89,10 @@ newer-older l n (h ∷ hs) = omega (arith, one-side (isFor l h) n (h .sequence),
 -- a record is left, or it was the oldest of the link that lost one
 pub left-or-oldest : (k : ℕ) {b a : ℕ} {h : Held} {hs : List Held} → Rising b a hs → Among h hs
     → Among h (butFirst (isFor k) hs) ⊎ ((h .link ≡ k) × (count (older k (h .sequence)) (butFirst (isFor k) hs) ≡ 0))
-left-or-oldest k {h = h} (rises {hs = hs} f r) here =
+left-or-oldest k {h = h} (rises {hs = hs} f r) first =
     picked (λ (q : List Held). Among h q ⊎ ((h .link ≡ k) × (count (older k (h .sequence)) q ≡ 0))) (isFor k h) hs (h ∷ butFirst (isFor k) hs)
     (λ e. inr (eqb-true (h .link) k e, none-older k (h .sequence) hs (omega arith) r))
-    (λ e. inl here)
+    (λ e. inl first)
 left-or-oldest k {h = h} (rises {h = y} {hs = hs} f r) (later m) =
     picked (λ (q : List Held). Among h q ⊎ ((h .link ≡ k) × (count (older k (h .sequence)) q ≡ 0))) (isFor k y) hs (y ∷ butFirst (isFor k) hs)
     (λ e. inl m)

@@ -10,12 +10,11 @@ use lib.ListN.{length}
 use native.Mathlib.Omega.{arith}
 use borrow.Author.Tests.{ltb-true, ltb-false, leb-true, leb-false, eq-eqb, ne-eqb, eqb-true, not-true, not-false}
 use Rattle.basis.specs.Pick.{pick, both, bit}
-use Rattle.basis.specs.Lists.{count}
+use Rattle.basis.specs.Lists.{count, Among}
 use Rattle.basis.proofs.Cases.{picked, eq-or-ne}
 use Rattle.machine.specs.Words.{butFirst}
 use Rattle.machine.specs.State.{Setup, Issued, Held, heldAs, Pool}
 use Rattle.machine.specs.Pool.{isFor, holds, isFull, fullest, lose, makeRoom, added}
-use Rattle.machine.specs.Run.{Among}
 use Rattle.demand_held.specs.Held.{IsHeld}
 use Rattle.demand_held.specs.Held.IsHeld.{held}
 use Rattle.demand_held.proofs.Lists.{bit-true, bit-false, Each, each-butFirst, count-last, count-butFirst, length-butFirst, count-left, count-other, length-changed}

@@ -10,6 +10,7 @@ use native.Mathlib.Omega.{arith}
 use borrow.Author.Tests.{leb-false}
 use Rattle.basis.specs.Pick.{pick}
 use Rattle.basis.proofs.Cases.{bool-cases}
+use Rattle.basis.proofs.Both.{not-both}
 use Rattle.write_message.specs.Message.{Message}
 use Rattle.machine.specs.Words.{Bytes, maybe, Case, firstOf}
 use Rattle.machine.specs.State.{Machine, Act, Call, Outcome, Effect}
@@ -20,7 +21,7 @@ use Rattle.machine.specs.Effects.{effectOf}
 use Rattle.machine.specs.Step.{noSuchLink, poolSticks, conditions, numberOf, after, outcome, step}
 use Rattle.demand_held.specs.Held.{IsDone, packetLink}
 use Rattle.demand_held.specs.Held.IsDone.{is-done}
-use Rattle.demand_held.proofs.Lists.{clash, Each}
+use Rattle.demand_held.proofs.Lists.{Each}
 use Rattle.demand_held.proofs.Lists.Each.{no-more, one-more}
 
 module _ (m : Machine) (c : Call) where
@@ -87,7 +88,7 @@ not-given n [] no-more e = let z : _≡_ {A = ℕ} 0 1 = cc in omega arith
 not-given n (k ∷ cs) (one-more h r) e = go (k .applies) refl e (not-given n cs r)
   where
     go : (b : Bool) → k .applies ≡ b → pick b (some (k .gives)) (firstOf cs) ≡ some n → (firstOf cs ≡ some n → ⊥) → ⊥
-    go true f q s = clash f (h cc)
+    go true f q s = not-both f (h cc)
     go false f q s = s q
 
 pub no-thirteen : (m : Machine) (t : ℕ) (act : Act) → poolSticks (effectOf m t act) ≡ false → firstOf (conditions m t act) ≡ some 13 → ⊥

@@ -7,7 +7,7 @@ use mathlib.Core.List.{List, [], _∷_}
 use mathlib.Core.Option.{Option, some, none}
 use lib.Dec.{ltb}
 use lib.ListN.{length}
-use Rattle.basis.specs.Lists.{count}
+use Rattle.basis.specs.Lists.{count, Among}
 use Rattle.json_value.specs.Grammar.{Json}
 use Rattle.write_message.specs.Message.{Message}
 use Rattle.machine.specs.Words.{Bytes, _and_}
@@ -20,7 +20,6 @@ use Rattle.machine.specs.Answers.{isAnswer}
 use Rattle.machine.specs.Pool.{isFor}
 use Rattle.machine.specs.Effects.{carried, effectOf}
 use Rattle.machine.specs.Step.{step, leaves}
-use Rattle.machine.specs.Run.{Among}
 
 -- the record r, issued under number n, is held
 pub data IsHeld (r : Issued) (n : ℕ) (hs : List Held) : Type 0 where

@@ -7,6 +7,8 @@ use mathlib.Core.List.{List, [], _∷_}
 use mathlib.Core.Option.{Option, some, none}
 use native.Mathlib.Omega.{arith}
 use Rattle.basis.specs.Pick.{pick}
+use Rattle.basis.specs.Lists.{Among}
+use Rattle.basis.specs.Lists.Among.{first as here, later}
 use Rattle.table_whole.specs.Table.{Table}
 use Rattle.table_whole.proofs.Whole.{same-table}
 use Rattle.machine.specs.Words.{Case, firstOf}
@@ -17,8 +19,6 @@ use Rattle.machine.specs.Table.{first, Begins}
 use Rattle.machine.specs.Table.Begins.{begins, not-good, no-table}
 use Rattle.machine.specs.Effects.{effectOf}
 use Rattle.machine.specs.Step.{conditions, numberOf, after, outcome, step, outcomes, leaves}
-use Rattle.machine.specs.Run.{Among}
-use Rattle.machine.specs.Run.Among.{here, later}
 use Rattle.demand_refused.specs.Demand.{NoneApplies, FirstIs, numbers, Refusing, Demand1}
 use Rattle.demand_refused.specs.Demand.NoneApplies.{none-applies, nor}
 use Rattle.demand_refused.specs.Demand.FirstIs.{first-is, behind}

@@ -5,13 +5,13 @@ use mathlib.Core.Path.{_≡_}
 use mathlib.Core.Bool.{Bool, true, false}
 use mathlib.Core.List.{List, [], _∷_, _++_}
 use mathlib.Core.Option.{Option, some, none}
+use Rattle.basis.specs.Lists.{Among}
 use Rattle.machine.specs.Words.{Case}
 use Rattle.machine.specs.State.{Start, Machine, Call}
 use Rattle.machine.specs.State.Outcome.{refused}
 use Rattle.machine.specs.Table.{Begins}
 use Rattle.machine.specs.Effects.{effectOf}
 use Rattle.machine.specs.Step.{conditions, after, outcome, step, outcomes, leaves}
-use Rattle.machine.specs.Run.{Among}
 
 -- none of these conditions holds
 pub data NoneApplies : List (Case ℕ) → Type 0 where

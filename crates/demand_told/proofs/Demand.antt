@@ -8,8 +8,10 @@ use mathlib.Core.Option.{Option, some, none}
 use lib.Dec.{eqb}
 use native.Mathlib.Omega.{arith}
 use Rattle.basis.specs.Pick.{pick, both, bit}
-use Rattle.basis.specs.Lists.{count}
+use Rattle.basis.specs.Lists.{count, Among}
+use Rattle.basis.specs.Lists.Among.{first, later}
 use Rattle.basis.proofs.Cases.{picked}
+use Rattle.basis.proofs.Both.{not-both}
 use Rattle.json_value.specs.Grammar.{Json}
 use Rattle.write_message.specs.Message.{Message}
 use Rattle.machine.specs.Words.{Bytes, maybe, firstOf}
@@ -22,9 +24,8 @@ use Rattle.machine.specs.Answers.{isAnswer, isIgnored}
 use Rattle.machine.specs.Items.{happens, isNew, becomes, aggregates}
 use Rattle.machine.specs.Effects.{connects, closes, ticks, sends, dueMessage, ownIdentity, receives, effectOf}
 use Rattle.machine.specs.Step.{conditions, numberOf, outcome, after, step}
-use Rattle.machine.specs.Run.{Past, Run, Among}
-use Rattle.machine.specs.Run.Among.{here, later}
-use Rattle.demand_held.proofs.Lists.{maybe-cases, clash}
+use Rattle.machine.specs.Run.{Past, Run}
+use Rattle.demand_held.proofs.Lists.{maybe-cases}
 use Rattle.demand_held.proofs.Lists.{Each}
 use Rattle.demand_held.proofs.Good.{Fits}
 use Rattle.demand_held.proofs.Demand.{run-sound}
@@ -60,7 +61,7 @@ UpFirst m l w e = Among w (e .messages) → isTold w ≡ true → isUp (lifeAt m
 
 pumped-up : (m : Machine) (l t : ℕ) (id : Bytes) (d : Due) → due m l t ≡ some d → (w : Message) → UpFirst m l w (sends l t id m d)
 unfolding sends
-pumped-up m l t id d e w here u = due-up m l t id d e u
+pumped-up m l t id d e w first u = due-up m l t id d e u
 
 told-up : (m : Machine) (t : ℕ) (act : Act) (l : ℕ) → linkOf act ≡ some l → firstOf (conditions m t act) ≡ none → (w : Message) → UpFirst m l w (effectOf m t act)
 unfolding effectOf conditions connects closes
@@ -73,8 +74,8 @@ told-up m t (packet k random bytes room) l e f w =
     there j r p =
         let same : k ≡ l = cc in
         rw (← same) (replied-up m k j p
-        (none-at (conditions m t (packet k random bytes room)) f (later (later (later (later here)))))
-        (rw r at (none-at (conditions m t (packet k random bytes room)) f (later (later (later (later (later here))))))))
+        (none-at (conditions m t (packet k random bytes room)) f (later (later (later (later first)))))
+        (rw r at (none-at (conditions m t (packet k random bytes room)) f (later (later (later (later (later first))))))))
 told-up m t (alarmInput i active) l e f w = λ a u. absurd (let z : _≡_ {A = ℕ} 0 1 = cc in omega arith)
 told-up m t (statusValue i v) l e f w = λ a u. absurd (let z : _≡_ {A = ℕ} 0 1 = cc in omega arith)
 told-up m t (aggregatedValue v) l e f w = λ a u. absurd (let z : _≡_ {A = ℕ} 0 1 = cc in omega arith)
@@ -101,7 +102,7 @@ unasked : (m : Machine) (t : ℕ) (act : Act) → isPacketCall act ≡ false →
 unfolding effectOf connects closes becomes aggregates ticks sends
 unasked m t (connect l) e = refl
 unasked m t (disconnect l) e = refl
-unasked m t (packet l random bytes room) e = clash refl e
+unasked m t (packet l random bytes room) e = not-both refl e
 unasked m t (alarmInput i active) e = rw (quiet-happens m i _)
 unasked m t (statusValue i v) e = picked NoAnswer (isNew v (valueAt m i)) _ _ (λ f. refl) (λ f. refl)
 unasked m t (aggregatedValue v) e = picked NoAnswer (eqb v (m .aggregated)) _ _ (λ f. refl) (λ f. refl)
@@ -146,7 +147,7 @@ ToPrimary m l w e = Among w (e .messages) → isAlarm w ≡ true → isPrimary m
 
 pumped-primary : (m : Machine) → Each (Fits (m .setup)) (m .pool .held) → (l t : ℕ) (id : Bytes) (d : Due) → due m l t ≡ some d → (w : Message) → ToPrimary m l w (sends l t id m d)
 unfolding sends
-pumped-primary m s l t id d e w here u = due-primary m s l t id d e u
+pumped-primary m s l t id d e w first u = due-primary m s l t id d e u
 
 primary-of : (m : Machine) → Each (Fits (m .setup)) (m .pool .held) → (t : ℕ) (act : Act) (l : ℕ) → linkOf act ≡ some l → (w : Message) → ToPrimary m l w (effectOf m t act)
 unfolding effectOf connects closes

@@ -11,7 +11,10 @@ use lib.ListN.{length}
 use native.Mathlib.Omega.{arith}
 use borrow.Author.Tests.{ltb-true, eq-eqb, eqb-true}
 use Rattle.basis.specs.Pick.{pick, both}
+use Rattle.basis.specs.Lists.{Among}
+use Rattle.basis.specs.Lists.Among.{first, later}
 use Rattle.basis.proofs.Cases.{picked}
+use Rattle.basis.proofs.Both.{both-first, not-both}
 use Rattle.json_value.specs.Grammar.{Json}
 use Rattle.table_whole.specs.Table.{Table}
 use Rattle.write_message.specs.Message.{Message}
@@ -26,9 +29,7 @@ use Rattle.machine.specs.Answers.{isAnswer, wantsReply, reasonOf, failsCheck}
 use Rattle.machine.specs.Items.{happens, subscribe, unsubscribe}
 use Rattle.machine.specs.Messages.{recordMessage}
 use Rattle.machine.specs.Effects.{closes, dueMessage, refuses, carriedOut, replyMessage, replying, receives}
-use Rattle.machine.specs.Run.{Among}
-use Rattle.machine.specs.Run.Among.{here, later}
-use Rattle.demand_held.proofs.Lists.{maybe-cases, clash, Each}
+use Rattle.demand_held.proofs.Lists.{maybe-cases, Each}
 use Rattle.demand_held.proofs.Lists.Each.{no-more, one-more}
 use Rattle.demand_held.proofs.Good.{fits, Fits}
 use Rattle.demand_told.specs.Demand.{isAlarm}
@@ -36,12 +37,8 @@ use Rattle.demand_told.proofs.Written.{quiet-answered}
 use Rattle.demand_told.proofs.Replies.{nobody, one-type}
 
 pub is-number : (l : ℕ) (o : Option ℕ) → isNumber l o ≡ true → o ≡ some l
-is-number l none e = clash e refl
+is-number l none e = not-both e refl
 is-number l (some k) e = ap some (sym (eqb-true l k e))
-
-both-first : (a b : Bool) → both a b ≡ true → a ≡ true
-both-first true b e = refl
-both-first false b e = e
 
 -- ---- the oldest unsent record of a link is one of its own
 found : {P : Held → Type 0} (f : Held → Bool) (hs : List Held) (h : Held) → Each P hs → firstThat f hs ≡ some h → P h × (f h ≡ true)
@@ -54,8 +51,8 @@ found {P} f (x ∷ hs) h (one-more p r) e = go (f x) refl e (found f hs h r)
 
 alarm-record : (u : Setup) (t : Table) (id : Bytes) (l : ℕ) (x : Content) → fits u l x ≡ true → isAlarm (recordMessage t id x) ≡ true → isNumber l (u .primary) ≡ true
 alarm-record u t id l (ofAlarm i a) e w = e
-alarm-record u t id l (ofStatus i v time) e w = clash w refl
-alarm-record u t id l (ofAggregated v time) e w = clash w refl
+alarm-record u t id l (ofStatus i v time) e w = not-both w refl
+alarm-record u t id l (ofAggregated v time) e w = not-both w refl
 
 -- ---- pump
 abbrev ByPrimary : Machine → ℕ → ℕ → Bytes → Option Due → Type 0
@@ -66,7 +63,7 @@ module _ (m : Machine) (alarms : Each (Fits (m .setup)) (m .pool .held)) (l t : 
   same-due x d f = cc
 
   other : (x : Due) → isAlarm (dueMessage m t id x) ≡ false → ByPrimary m l t id (some x)
-  other x e d f w = clash w (rw (same-due x d f) at e)
+  other x e d f w = not-both w (rw (same-due x d f) at e)
 
   held-by : (h : Held) → oldestUnsent m l ≡ some h → ByPrimary m l t id (some (theHeld h))
   held-by h e d f w =
@@ -79,7 +76,7 @@ module _ (m : Machine) (alarms : Each (Fits (m .setup)) (m .pool .held)) (l t : 
     where
       go : (b : Bool) → ltb k (pick b (suc (length (m .alarms))) 1) ≡ true → b ≡ true
       go true f = refl
-      go false f = clash (eq-eqb k 0 (omega (arith, ltb-true k 1 f))) e
+      go false f = not-both (eq-eqb k 0 (omega (arith, ltb-true k 1 f))) e
 
   nothing : (d : Due) → none ≡ some d → ⊥
   nothing d f = let z : _≡_ {A = ℕ} 0 1 = cc in omega arith
@@ -108,22 +105,22 @@ asks-alarm m l j a e =
   where
     go : (a b p c d : Bool) → a ≡ true → c ≡ false → d ≡ false → pick (both a (both b p)) true (pick c true d) ≡ true → p ≡ true
     go a b true c d x y z e = refl
-    go true true false true d x y z e = clash refl y
-    go true true false false true x y z e = clash refl z
+    go true true false true d x y z e = not-both refl y
+    go true true false false true x y z e = not-both refl z
     go true true false false false x y z e = e
-    go true false false true d x y z e = clash refl y
-    go true false false false true x y z e = clash refl z
+    go true false false true d x y z e = not-both refl y
+    go true false false false true x y z e = not-both refl z
     go true false false false false x y z e = e
-    go false b false c d x y z e = clash x refl
+    go false b false c d x y z e = not-both x refl
 
 reply-alarm : (m : Machine) (t : ℕ) (id : Bytes) (j : Json) → isAlarm (replyMessage m t id j) ≡ true → isType "Alarm" j ≡ true
 reply-alarm m t id j =
     picked (λ (w : Message). isAlarm w ≡ true → isType "Alarm" j ≡ true) (isType "Alarm" j) _ _ (λ e w. e)
-    (λ e. picked (λ (w : Message). isAlarm w ≡ true → isType "Alarm" j ≡ true) (isType "AggregatedStatusRequest" j) _ _ (λ f w. clash w refl) (λ f w. clash w refl))
+    (λ e. picked (λ (w : Message). isAlarm w ≡ true → isType "Alarm" j ≡ true) (isType "AggregatedStatusRequest" j) _ _ (λ f w. not-both w refl) (λ f w. not-both w refl))
 
 two : (w : Message) (a : Bytes) (v : Message) → Among w (ack a ∷ v ∷ []) → isAlarm w ≡ true → w ≡ v
-two w a v here u = clash u refl
-two w a v (later here) u = refl
+two w a v first u = not-both u refl
+two w a v (later first) u = refl
 
 alarm-replying : (l t : ℕ) (id : Bytes) (j : Json) (e : Effect) (w : Message) → ToPrimary (e .leaves) l w (replying l t id j e)
 unfolding replying
@@ -133,15 +130,15 @@ alarm-replying l t id j e w =
     (λ h a u. absurd (only-ack w _ a u))
   where
     only-ack : (w : Message) (a : Bytes) → Among w (ack a ∷ []) → isAlarm w ≡ true → ⊥
-    only-ack w a here u = clash u refl
+    only-ack w a first u = not-both u refl
 
 alarm-refuses : (l : ℕ) (j : Json) (m : Machine) (reason : String) (w : Message) → ToPrimary m l w (refuses l j m reason)
 unfolding refuses closes
 alarm-refuses l j m reason w =
     picked (ToPrimary m l w) (failsCheck reason) _ _ (λ h a u. absurd (only-not-ack w _ _ a u)) (λ h a u. absurd (only-not-ack w _ _ a u))
   where
-    only-not-ack : (w : Message) (a : Bytes) (r : ℕ) → Among w (notAck a r ∷ []) → isAlarm w ≡ true → ⊥
-    only-not-ack w a r here u = clash u refl
+    only-not-ack : (w : Message) (a r : Bytes) → Among w (notAck a r ∷ []) → isAlarm w ≡ true → ⊥
+    only-not-ack w a r first u = not-both u refl
 
 -- an order leaves the setup
 abbrev SameSetup : Machine → Effect → Type 0

@@ -9,10 +9,12 @@ use mathlib.Core.Option.{Option, some, none}
 use lib.ListN.{length}
 use native.Mathlib.Omega.{arith}
 use Rattle.basis.specs.Pick.{pick, both}
-use Rattle.basis.specs.Lists.{sameBytes}
+use Rattle.basis.specs.Lists.{sameBytes, Among}
+use Rattle.basis.specs.Lists.Among.{first, later}
 use Rattle.basis.specs.Text.{text}
 use Rattle.basis.proofs.Cases.{picked}
 use Rattle.basis.proofs.Same.{same-true}
+use Rattle.basis.proofs.Both.{not-both}
 use Rattle.json_value.specs.Grammar.{Json}
 use Rattle.write_message.specs.Message.{Message}
 use Rattle.write_message.specs.Message.Message.{ack, notAck}
@@ -22,9 +24,7 @@ use Rattle.machine.specs.Json.{element, stringAt, elementIs, isType}
 use Rattle.machine.specs.Life.{isOver, isDown, isGreeting, isBeating, isUp}
 use Rattle.machine.specs.Answers.{isAnswer, awaitedHere, isReadable, isIgnored, isUnexpected, wantsReply, reasons, reasonOf, failsCheck}
 use Rattle.machine.specs.Effects.{closes, refusal, refuses, carriedOut, replying, receives}
-use Rattle.machine.specs.Run.{Among}
-use Rattle.machine.specs.Run.Among.{here, later}
-use Rattle.demand_held.proofs.Lists.{maybe-cases, clash}
+use Rattle.demand_held.proofs.Lists.{maybe-cases}
 use Rattle.demand_told.specs.Demand.{isTold}
 use Rattle.demand_told.proofs.Written.{quiet-answered}
 
@@ -32,7 +32,7 @@ pub nobody : {A : Type 0} {x : A} → Among x [] → ⊥
 nobody a = let some-there : 1 ≤ 0 = counted a in omega arith
   where
     counted : {A : Type 0} {x : A} {xs : List A} → Among x xs → 1 ≤ length xs
-    counted here = omega arith
+    counted first = omega arith
     counted (later a) = omega (arith, counted a)
 
 first-no : {A : Type 0} (b : Bool) (x : A) (rest : Option A) → pick b (some x) rest ≡ none → (b ≡ false) × (rest ≡ none)
@@ -41,7 +41,7 @@ first-no false x rest e = (refl, e)
 
 -- where none applies, each does not
 pub none-at : {A : Type 0} {k : Case A} (ks : List (Case A)) → firstOf ks ≡ none → Among k ks → k .applies ≡ false
-none-at (k ∷ ks) e here = first-no (k .applies) (k .gives) (firstOf ks) e .0
+none-at (k ∷ ks) e first = first-no (k .applies) (k .gives) (firstOf ks) e .0
 none-at (x ∷ ks) e (later a) = none-at ks (first-no (x .applies) (x .gives) (firstOf ks) e .1) a
 
 -- ---- a packet has one type
@@ -62,14 +62,14 @@ asks m l j e = go (isType "Alarm" j) _ (isType "AggregatedStatusRequest" j) (isT
     go true b c d x y z e = (one-type "Alarm" "Version" refl j x, one-type "Alarm" "Watchdog" refl j x)
     go false b true d x y z e = (one-type "AggregatedStatusRequest" "Version" refl j y, one-type "AggregatedStatusRequest" "Watchdog" refl j y)
     go false b false true x y z e = (one-type "StatusRequest" "Version" refl j z, one-type "StatusRequest" "Watchdog" refl j z)
-    go false b false false x y z e = clash e refl
+    go false b false false x y z e = not-both e refl
 
 -- ---- what is told is a reply
 only-ack : (w : Message) (a : Bytes) → Among w (ack a ∷ []) → isTold w ≡ true → ⊥
-only-ack w a here u = clash u refl
+only-ack w a first u = not-both u refl
 
-only-not-ack : (w : Message) (a : Bytes) (r : ℕ) → Among w (notAck a r ∷ []) → isTold w ≡ true → ⊥
-only-not-ack w a r here u = clash u refl
+only-not-ack : (w : Message) (a r : Bytes) → Among w (notAck a r ∷ []) → isTold w ≡ true → ⊥
+only-not-ack w a r first u = not-both u refl
 
 abbrev Telling : Message → Effect → Type 0 → Type 0
 Telling w e P = Among w (e .messages) → isTold w ≡ true → P
@@ -108,21 +108,21 @@ unfolding isIgnored
 not-greeting k j other version e = go (isAnswer j) _ (isReadable j) (isGreeting k) (isType "Version" j) e other version
   where
     go : (a x r g v : Bool) → pick a x (pick (not r) true (both g (not v))) ≡ false → a ≡ false → v ≡ false → g ≡ false
-    go true x r g v e p q = clash refl p
-    go false x true true true e p q = clash refl q
-    go false x true true false e p q = clash refl e
+    go true x r g v e p q = not-both refl p
+    go false x true true true e p q = not-both refl q
+    go false x true true false e p q = not-both refl e
     go false x true false v e p q = refl
-    go false x false g v e p q = clash refl e
+    go false x false g v e p q = not-both refl e
 
 pub up-when : (k : Life) (w : Bool) → isDown k ≡ false → isGreeting k ≡ false → both (isBeating k) (not w) ≡ false → w ≡ false → isUp k ≡ true
 up-when k w down greeting beating watchdog = go (k .connected) (isOver (k .versions)) (isOver (k .watchdogs)) w down greeting beating watchdog
   where
     go : (c v x w : Bool) → not c ≡ false → both c (not v) ≡ false → both (both c (both v (not x))) (not w) ≡ false → w ≡ false → both c (both v x) ≡ true
-    go false v x w d g b q = clash refl d
-    go true false x w d g b q = clash refl g
+    go false v x w d g b q = not-both refl d
+    go true false x w d g b q = not-both refl g
     go true true true w d g b q = refl
-    go true true false true d g b q = clash refl q
-    go true true false false d g b q = clash refl b
+    go true true false true d g b q = not-both refl q
+    go true true false false d g b q = not-both refl b
 
 -- a packet that is not ignored and that no reason refuses, on a link that is not Down
 pub replied-up : (m : Machine) (l : ℕ) (j : Json) → Replied m l j → isDown (lifeAt m l) ≡ false → isIgnored (lifeAt m l) (some j) ≡ false → isUp (lifeAt m l) ≡ true
@@ -130,5 +130,5 @@ unfolding reasons
 replied-up m l j r down ignored =
     up-when (lifeAt m l) (isType "Watchdog" j) down
     (not-greeting (lifeAt m l) j (r .other) (r .asked .0) ignored)
-    (none-at (reasons m l j) (r .reason) (later (later (later here))))
+    (none-at (reasons m l j) (r .reason) (later (later (later first))))
     (r .asked .1)

@@ -14,6 +14,7 @@ use native.Mathlib.Omega.{arith}
 use Rattle.basis.specs.Pick.{pick, both, bit}
 use Rattle.basis.specs.Lists.{count}
 use Rattle.basis.proofs.Cases.{picked}
+use Rattle.basis.proofs.Both.{not-both}
 use Rattle.json_value.specs.Grammar.{Json}
 use Rattle.table_whole.specs.Table.{Table}
 use Rattle.write_message.specs.Message.{Message}
@@ -28,9 +29,7 @@ use Rattle.machine.specs.Answers.{isAnswer, isIgnored, wantsReply, reasons, rea
 use Rattle.machine.specs.Items.{isNew, happens, subscribe, unsubscribe, becomes, aggregates}
 use Rattle.machine.specs.Messages.{recordMessage}
 use Rattle.machine.specs.Effects.{answerCloses, closes, refusal, sends, dueMessage, answers, answered, refuses, carriedOut, replyMessage, replying, receives}
-use Rattle.machine.specs.Run.{Among}
-use Rattle.machine.specs.Run.Among.{here, later}
-use Rattle.demand_held.proofs.Lists.{maybe-cases, clash}
+use Rattle.demand_held.proofs.Lists.{maybe-cases}
 use Rattle.demand_told.specs.Demand.{isTold, isAnAnswer, OneAnswer}
 use Rattle.demand_told.specs.Demand.OneAnswer.{acked, not-acked}
 
@@ -69,7 +68,7 @@ due-up m l t id =
     same x d f = cc
 
     silent : (x d : Due) → some x ≡ some d → isTold (dueMessage m t id x) ≡ false → isTold (dueMessage m t id d) ≡ true → isUp (lifeAt m l) ≡ true
-    silent x d f not-told is-told = clash is-told (rw (same x d f) at not-told)
+    silent x d f not-told is-told = not-both is-told (rw (same x d f) at not-told)
 
     nothing : (d : Due) → none ≡ some d → ⊥
     nothing d f = let z : _≡_ {A = ℕ} 0 1 = cc in omega arith
@@ -109,9 +108,9 @@ once-replying l t id j e =
 pub once-received : (l t : ℕ) (id : Bytes) (m : Machine) (j : Json) → isAnswer j ≡ false → Once j (receives l t id m j)
 unfolding receives
 once-received l t id m j other =
-    picked (Once j) (isAnswer j) _ _ (λ e. clash e other)
+    picked (Once j) (isAnswer j) _ _ (λ e. not-both e other)
     (λ e. maybe-cases (Once j) _ _ (reasonOf m l j) (λ f. once-replying l t id j (carriedOut l t j m)) (λ reason f. once-refuses l j m reason))
 
 pub quiet-received : (l t : ℕ) (id : Bytes) (m : Machine) (j : Json) → isAnswer j ≡ true → Quiet (receives l t id m j)
 unfolding receives
-quiet-received l t id m j is = picked Quiet (isAnswer j) _ _ (λ e. quiet-answered l j m) (λ e. clash is e)
+quiet-received l t id m j is = picked Quiet (isAnswer j) _ _ (λ e. quiet-answered l j m) (λ e. not-both is e)

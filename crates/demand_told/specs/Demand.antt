@@ -6,7 +6,7 @@ use mathlib.Core.Path.{_≡_}
 use mathlib.Core.Bool.{Bool, true, false}
 use mathlib.Core.List.{List, [], _∷_}
 use mathlib.Core.Option.{Option, some, none}
-use Rattle.basis.specs.Lists.{count}
+use Rattle.basis.specs.Lists.{count, Among}
 use Rattle.json_value.specs.Grammar.{Json}
 use Rattle.write_message.specs.Message.{Message}
 use Rattle.write_message.specs.Message.Message.{version, watchdog, ack, notAck, alarm, aggregated, statuses}
@@ -18,7 +18,7 @@ use Rattle.machine.specs.Json.{readPacket, stringOf}
 use Rattle.machine.specs.Life.{isUp}
 use Rattle.machine.specs.Answers.{isAnswer}
 use Rattle.machine.specs.Step.{step}
-use Rattle.machine.specs.Run.{Past, Run, Among}
+use Rattle.machine.specs.Run.{Past, Run}
 
 abbrev pub messagesOf : Outcome → List Message
 messagesOf (refused n) = []
@@ -67,7 +67,7 @@ isAnAnswer (statuses kind id component t entries) = false
 -- one answer, first, that repeats the mId, and none behind it
 pub data OneAnswer (mId : Bytes) : List Message → Type 0 where
   acked : {ms : List Message} → count isAnAnswer ms ≡ 0 → OneAnswer mId (ack mId ∷ ms)
-  not-acked : {ms : List Message} {reason : ℕ} → count isAnAnswer ms ≡ 0 → OneAnswer mId (notAck mId reason ∷ ms)
+  not-acked : {ms : List Message} {reason : Bytes} → count isAnAnswer ms ≡ 0 → OneAnswer mId (notAck mId reason ∷ ms)
 
 abbrev pub isPacketCall : Act → Bool
 isPacketCall (connect l) = false

@@ -8,6 +8,7 @@ use mathlib.Core.Logic.{_⊎_, inl, inr}
 use lib.Dec.{eqb}
 use native.Mathlib.Omega.{arith}
 use Rattle.basis.specs.Pick.{pick}
+use Rattle.basis.proofs.Both.{not-both}
 use Rattle.answer.specs.declared.Answer.{Answer}
 use Rattle.answer.specs.declared.Answer.the-variants.{Done, Refused}
 use Rattle.answer.specs.Number.{isDone}
@@ -23,7 +24,6 @@ use Rattle.pool_laws.specs.Acts.{Act, act, acts}
 use Rattle.pool_laws.specs.Acts.Act.{Issue, Settle, Mark, Unmark}
 use Rattle.pool_laws.specs.Leaves.{Held, NoSettle}
 use Rattle.pool_laws.specs.Promises.{Reached}
-use Rattle.pool_laws.proofs.Counts.{not-both}
 use Rattle.pool_laws.proofs.Kept.{kept as pool-kept}
 use Rattle.link.specs.declared.Phase.{Phase}
 use Rattle.link.specs.Phase.{phaseOf, closesOn}

@@ -6,6 +6,7 @@ use mathlib.Core.Bool.{Bool, true, false}
 use mathlib.Core.List.{List, []}
 use mathlib.Core.Logic.{_⊎_, inl, inr}
 use Rattle.basis.specs.Pick.{pick}
+use Rattle.basis.specs.Lists.{Among}
 use Rattle.identity.specs.declared.Identity.{Identity}
 use Rattle.identity.specs.Version.{identityOf}
 use Rattle.awaited.specs.declared.Purpose.the-variants.{Entry as ForEntry}
@@ -13,7 +14,7 @@ use Rattle.awaited.specs.declared.Found.the-variants.{For}
 use Rattle.awaited.specs.Awaited.{findOf}
 use Rattle.pool_laws.specs.Acts.{Act}
 use Rattle.pool_laws.specs.Acts.Act.{Settle}
-use Rattle.pool_laws.specs.Leaves.{Among, NoSettle}
+use Rattle.pool_laws.specs.Leaves.{NoSettle}
 use Rattle.read_head.specs.declared.Verdict.{Verdict}
 use Rattle.read_head.specs.declared.Verdict.the-variants.{Good, Missing, Bad}
 use Rattle.read_head.specs.declared.Kind.{Kind}

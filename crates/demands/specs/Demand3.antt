@@ -9,7 +9,7 @@ use mathlib.Core.Logic.{_⊎_}
 use lib.Dec.{eqb}
 use lib.ListN.{length}
 use Rattle.basis.specs.Pick.{pick}
-use Rattle.basis.specs.Lists.{count}
+use Rattle.basis.specs.Lists.{count, Among}
 use Rattle.answer.specs.declared.Refusal.the-variants.{PoolFull}
 use Rattle.answer.specs.declared.Answer.the-variants.{Refused}
 use Rattle.answer.specs.Number.{isDone}
@@ -25,7 +25,7 @@ use Rattle.pool.specs.Places.{fits}
 use Rattle.pool.specs.Pool.{heldOf, lostOf}
 use Rattle.pool_laws.specs.Acts.{newerThan}
 use Rattle.pool_laws.specs.Acts.Act.{Settle}
-use Rattle.pool_laws.specs.Leaves.{Held, Among}
+use Rattle.pool_laws.specs.Leaves.{Held}
 use Rattle.pool_laws.specs.View.{records}
 use Rattle.pool_laws.specs.Contents.{Every}
 use Rattle.read_head.specs.declared.Class.{Class}

@@ -2,9 +2,8 @@
 -- Assumes nothing.
 use Prim.Native.Nat.{ℕ}
 use mathlib.Core.Path.{_≡_, refl, ap}
-use mathlib.Core.Bool.{true, false}
 use mathlib.Core.List.{List}
-use native.Mathlib.Omega.{arith}
+use Rattle.basis.proofs.Both.{untrue}
 use Rattle.table_whole.specs.declared.SiteTable.{SiteTable}
 use Rattle.table_whole.specs.declared.TableRead.{TableRead}
 use Rattle.table_whole.specs.Table.{Table}
@@ -23,9 +22,6 @@ use Rattle.told.specs.Claims.{Fits, started}
 use Rattle.demandstold.specs.Told3.{setupOf, Given}
 use Rattle.demandstold.specs.Told3.Given.{given}
 
-no : {P : Type 0} → false ≡ true → P
-no q = absurd (let z : _≡_ {A = ℕ} 0 1 = cc in omega arith)
-
 -- the bytes of a table say what it is
 same-table : (b : List ℕ) (t u : Table) → Allowed t → Allowed u → tableBytes t ≡ b → tableBytes u ≡ b → memoryOf t ≡ memoryOf u
 same-table b t u v w e f = ap (λ (r : TableRead). r .table) (once (reads v e) (reads w f))
@@ -43,9 +39,9 @@ begun g s (given {b = b} {t = t} {links = links} {primary = primary} {period = p
       site = ap (λ (m : SiteTable). fresh m links (primaryOf primary) period first time) (same-table b u t v a e f);
       fits = record { links = w .most-links; alarms = a .most-alarms; statuses = a .most-statuses };
     }
-begun g s (given (refuses n) d a f) = no d
+begun g s (given (refuses n) d a f) = untrue d
 
 pub every-start : (s : Site) → Started s → (g : Setup) × Given g s
 every-start s (by-start {links = links} {primary = primary} {first = first} {time = time} (starts {t = t} v e w) d) =
     (setupOf t links primary first time, given (starts v e w) refl v e)
-every-start s (by-start (refuses n) d) = no d
+every-start s (by-start (refuses n) d) = untrue d

@@ -7,13 +7,14 @@ use mathlib.Core.List.{List, [], _∷_}
 use mathlib.Core.Logic.{_⊎_, inl, inr}
 use lib.Dec.{eqb}
 use Rattle.basis.specs.Pick.{pick, bit}
+use Rattle.basis.specs.Lists.{Among}
+use Rattle.basis.specs.Lists.Among.{first, later}
+use Rattle.basis.proofs.Among.{among-none}
 use Rattle.answer.specs.Number.{isDone}
 use Rattle.entry.specs.declared.Entry.{Entry}
 use Rattle.pool.specs.declared.Place.{Place}
 use Rattle.pool_laws.specs.Acts.{Act}
 use Rattle.pool_laws.specs.Acts.Act.{Issue}
-use Rattle.pool_laws.specs.Leaves.{Among as AmongActs}
-use Rattle.pool_laws.specs.Leaves.Among.{first as first-act, later as later-act}
 use Rattle.pool_laws.specs.View.{records}
 use Rattle.pool_laws.specs.Contents.{Every}
 use Rattle.pool_batch.specs.Laws.{numbered, issues}
@@ -28,32 +29,28 @@ use Rattle.told.specs.Told.{Setup, Told}
 use Rattle.told.specs.Issued.{issuedBy}
 use Rattle.told.specs.Claims.{Fits, toldBy, started}
 use Rattle.toldcalls.proofs.Kept.{kept as calls-told}
-use Rattle.demandstold.specs.Told3.{Given, Among, IssuedIn, countIn, Kept, Promises}
+use Rattle.demandstold.specs.Told3.{Given, IssuedIn, countIn, Kept, Promises}
 use Rattle.demandstold.specs.Told3.Given.{given}
-use Rattle.demandstold.specs.Told3.Among.{first, later}
 use Rattle.demandstold.specs.Told3.IssuedIn.{now, before}
 use Rattle.demandstold.proofs.Given.{Fresh, begun, every-start}
 
 -- ---- records and the acts that issue them
-act-among : {e : Entry} {es : List Entry} → Among e es → AmongActs (Issue e) (issues es)
-act-among first = first-act
-act-among (later a) = later-act (act-among a)
+act-among : {e : Entry} {es : List Entry} → Among e es → Among (Issue e) (issues es)
+act-among first = first
+act-among (later a) = later (act-among a)
 
-first-or-later : (x : Act) (xs : List Act) (e : Entry) → AmongActs (Issue e) (x ∷ xs) → (Issue e ≡ x) ⊎ AmongActs (Issue e) xs
-first-or-later x xs e first-act = inl refl
-first-or-later x xs e (later-act a) = inr a
+first-or-later : (x : Act) (xs : List Act) (e : Entry) → Among (Issue e) (x ∷ xs) → (Issue e ≡ x) ⊎ Among (Issue e) xs
+first-or-later x xs e first = inl refl
+first-or-later x xs e (later a) = inr a
 
 same-entry : (e x : Entry) → Issue e ≡ Issue x → e ≡ x
 same-entry e x q = cc
 
-none-among : (e : Entry) → AmongActs (Issue e) [] → ⊥
-none-among e = elim [ ]
-
-among-act : (e : Entry) (es : List Entry) → AmongActs (Issue e) (issues es) → Among e es
-among-act e [] a = absurd (none-among e a)
+among-act : (e : Entry) (es : List Entry) → Among (Issue e) (issues es) → Among e es
+among-act e [] a = among-none a
 among-act e (x ∷ es) a = by (first-or-later (Issue x) (issues es) e a) (among-act e es)
   where
-    by : (Issue e ≡ Issue x) ⊎ AmongActs (Issue e) (issues es) → (AmongActs (Issue e) (issues es) → Among e es) → Among e (x ∷ es)
+    by : (Issue e ≡ Issue x) ⊎ Among (Issue e) (issues es) → (Among (Issue e) (issues es) → Among e es) → Among e (x ∷ es)
     by (inl q) k = subst (λ (y : Entry). Among e (y ∷ es)) (same-entry e x q) first
     by (inr b) k = later (k b)
 
@@ -83,7 +80,7 @@ module _ (g : Setup) (period : ℕ) (fits : Fits g) where
 
   as-told : {e : Entry} {cs : List Call} → Issued (started g period) e cs → IssuedIn g e (tale cs)
   as-told {e = e} (issued-now {c = c} {cs = cs} d i) =
-      now d (among-act e (issuedBy g (tale cs) c) (subst (λ (es : List Entry). AmongActs (Issue e) (issues es)) (lays cs c d) i))
+      now d (among-act e (issuedBy g (tale cs) c) (subst (λ (es : List Entry). Among (Issue e) (issues es)) (lays cs c d) i))
   as-told (issued-before i) = before (as-told i)
 
   told : (e : Entry) (cs : List Call) → IssuedIn g e (tale cs) → Issued (started g period) e cs
@@ -93,7 +90,7 @@ module _ (g : Setup) (period : ℕ) (fits : Fits g) where
       by : IssuedIn g e (tale (c ∷ cs)) → (IssuedIn g e (tale cs) → Issued (started g period) e cs) → Issued (started g period) e (c ∷ cs)
       by (now d a) k =
           issued-now d
-          (subst⁻¹ (λ (es : List Entry). AmongActs (Issue e) (issues es)) (lays cs c d) (act-among a))
+          (subst⁻¹ (λ (es : List Entry). Among (Issue e) (issues es)) (lays cs c d) (act-among a))
       by (before a) k = issued-before (k a)
 
   counts : (cs : List Call) (m : ℕ) → issuedIn (started g period) cs m ≡ countIn g (tale cs) m

@@ -7,6 +7,7 @@ use mathlib.Core.Bool.{true}
 use mathlib.Core.List.{List, [], _∷_}
 use mathlib.Core.Logic.{_⊎_}
 use Rattle.basis.specs.Pick.{pick}
+use Rattle.basis.specs.Lists.{Among}
 use Rattle.answer.specs.Number.{isDone}
 use Rattle.entry.specs.declared.Entry.{Entry}
 use Rattle.pool.specs.Pool.{heldOf, lostOf}
@@ -37,10 +38,6 @@ setupOf t links primary first time = record { table = memoryOf t; links = links;
 pub data Given : Setup → Site → Type 0 where
   given : {b : List ℕ} {t : Table} {links primary period first time : ℕ} {r : Step} → Starts b links primary period first time r → isDone (r .answer) ≡ true
       → Allowed t → tableBytes t ≡ b → Given (setupOf t links primary first time) (r .site)
-
-pub data Among (e : Entry) : List Entry → Type 0 where
-  first : {es : List Entry} → Among e (e ∷ es)
-  later : {x : Entry} {es : List Entry} → Among e es → Among e (x ∷ es)
 
 -- a done call of those told issued the record e: the latest one, or one before
 pub data IssuedIn (g : Setup) (e : Entry) : List Told → Type 0 where

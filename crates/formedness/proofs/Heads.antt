@@ -2,7 +2,7 @@
 -- Assumes nothing.
 use Prim.Native.Nat.{ℕ, _-_}
 use mathlib.Core.Path.{_≡_, refl, sym, _∙_, ap, subst}
-use mathlib.Core.Bool.{Bool, true, false}
+use mathlib.Core.Bool.{Bool, true}
 use mathlib.Core.List.{List, [], _∷_, _++_}
 use native.Mathlib.Omega.{arith}
 use lib.ListN.{length, replicate, length-map}
@@ -10,6 +10,7 @@ use Rattle.basis.specs.Pick.{pick}
 use Rattle.basis.specs.Text.{text}
 use Rattle.basis.specs.Lists.{sameBytes}
 use Rattle.basis.proofs.Cases.{picked}
+use Rattle.basis.proofs.Both.{untrue}
 use Rattle.identity.specs.declared.ReadIdentity.{ReadIdentity}
 use Rattle.identity.specs.Hex.{lowerHex}
 use Rattle.identity.specs.Text.{identityText}
@@ -56,12 +57,9 @@ append-nil (x ∷ d) = ap (λ (r : List ℕ). x ∷ r) (append-nil d)
 all-of-it : (d : List ℕ) → length d ≡ 36 → d ≡ d ++ replicate (36 - length d) 0
 all-of-it d e = subst (λ (n : ℕ). d ≡ d ++ replicate (36 - n) 0) (sym e) (append-nil d)
 
-same-not : {P : Type 0} → false ≡ true → P
-same-not e = absurd (let z : _≡_ {A = ℕ} 0 1 = cc in omega arith)
-
 characters-kept : (w : Word) → identityOf w .found ≡ true → Received (characters w)
-characters-kept absent e = same-not e
-characters-kept other e = same-not e
+characters-kept absent e = untrue e
+characters-kept other e = untrue e
 characters-kept (word d) e =
     let h = answers d .accepted e in
     subst Received (all-of-it d (said-length d (readIdentity d .id .bytes) h)) (record { bytes = readIdentity d .id .bytes; says = h })

@@ -11,12 +11,13 @@ use lib.ListN.{length, getD, set, length-set, length-append}
 use Rattle.basis.specs.Lists.{count}
 use Rattle.basis.specs.Pick.{pick}
 use Rattle.basis.proofs.Cases.{picked, lt-or-ge}
+use Rattle.basis.proofs.Both.{both-first}
 use Rattle.identity.specs.declared.Identity.{Identity}
 use Rattle.identity.specs.Read.{SixteenBytes}
 use Rattle.identity.specs.Version.{version4Of}
 use Rattle.label.specs.Label.{textOf}
 use Rattle.entry.specs.declared.Entry.{Entry}
-use Rattle.names.specs.Names.{IsReason}
+use Rattle.names.specs.Names.{nameOf, IsReason}
 use Rattle.pool.specs.declared.Place.{Place}
 use Rattle.pool.specs.declared.Pool.{Pool}
 use Rattle.pool.specs.declared.Wanted.the-variants.{Unsent}
@@ -25,7 +26,6 @@ use Rattle.pool.specs.declared.Sought.{Sought as Searched}
 use Rattle.pool.specs.declared.Sought.the-variants.{Found as FoundEntry, Nothing as NoEntry}
 use Rattle.pool.specs.Places.{noPlace, of, fits, soughtAt}
 use Rattle.pool.specs.Pool.{oldestUnsent}
-use Rattle.pool_laws.proofs.Counts.{and-left}
 use Rattle.pool_laws.proofs.Inv.{of-used}
 use Rattle.pool_laws.proofs.Oldest.{Oldest, the-oldest, no-oldest}
 use Rattle.link.specs.declared.Due.{Due}
@@ -95,8 +95,8 @@ one-message m f h = record { formed = (f, tt); room = omega (arith, lawful .long
 an-ack : (received : List ℕ) → Received received → Sendable (ack received ∷ [])
 an-ack received r = one-message (ack received) (formed-ack r) (lit≤ tt)
 
-a-reason : (received : List ℕ) → Received received → (reason : ℕ) → IsReason reason → Sendable (notAck received reason ∷ [])
-a-reason received r reason t = one-message (notAck received reason) (formed-notAck r t) (lit≤ tt)
+a-reason : (received : List ℕ) → Received received → (reason : ℕ) → IsReason reason → Sendable (notAck received (nameOf reason) ∷ [])
+a-reason received r reason t = one-message (notAck received (nameOf reason)) (formed-notAck r t) (lit≤ tt)
 
 and-reply : (received : List ℕ) → Received received → (m : Message) → Formed m → entriesIn m ≤ 16 → Sendable (ack received ∷ m ∷ [])
 and-reply received r m f h =
@@ -130,7 +130,7 @@ found-held P p l a = go (lt-or-ge 0 (count (fits (Unsent l)) (p .places)))
         let o : Oldest (fits (Unsent l)) (p .places) = the-oldest (fits (Unsent l)) (p .places) h in
         subst (λ (b : Spot). Holds P (soughtAt b)) (sym (o .is))
         (subst (λ (x : Place). ltb 0 (x .mark) ≡ true → P (x .entry)) (o .stands) (held-at P (p .places) (o .at) a)
-        (of-used l (o .what) (and-left (of l (o .what)) _ (o .passes))))
+        (of-used l (o .what) (both-first (of l (o .what)) _ (o .passes))))
     go (inr h) = subst (λ (b : Spot). Holds P (soughtAt b)) (sym (no-oldest (fits (Unsent l)) (p .places) (omega arith))) tt
 
 entry-small : (s : Site) (id : List ℕ) (e : Entry) → most (entryMessage s id e) ≤ 4096
@@ -182,7 +182,7 @@ module _ (s : Site) (l : ℕ) (received : List ℕ) (r : Received received) wher
   version-sends f = by-verdict (f .verdict) (versionJudged s l received (judge (own s) (f .offer))) (λ e. judged-sends (judge (own s) (f .offer)))
 
   watchdog-sends : (f : GotTime) → Sends (watchdogTaken s l received f)
-  watchdog-sends f = by-verdict (f .verdict) (beat s l received (f .time)) (λ e. an-ack received r)
+  watchdog-sends f = by-verdict (f .verdict) (beat s l received f) (λ e. an-ack received r)
 
   module _ (subscribing : Bool) (time : ℕ) (f : StatusFields) where
     change-sends : (c : ℕ) → Sends (judged subscribing s l time received f c)

@@ -4,8 +4,10 @@ use Prim.Native.Nat.{ℕ}
 use mathlib.Core.Path.{_≡_, refl, sym, ap, subst, _∙_}
 use mathlib.Core.Bool.{Bool, true, false}
 use mathlib.Core.List.{List, [], _∷_}
-use native.Mathlib.Omega.{arith}
 use Rattle.basis.specs.Pick.{pick, both}
+use Rattle.basis.specs.Lists.{Among}
+use Rattle.basis.proofs.Both.{untrue}
+use Rattle.basis.proofs.Among.{among-none}
 use Rattle.answer.specs.declared.Refusal.the-variants.{IdentityAwaited}
 use Rattle.identity.specs.declared.Identity.{Identity}
 use Rattle.link.specs.declared.Link.{Link}
@@ -35,24 +37,20 @@ use Rattle.call_packet.specs.Packet.{isGreeting, expected, unready, early, igno
 use Rattle.lives.specs.Moves.{onlyOn, Shaped, Moves, Heedful}
 use Rattle.lives.specs.Moves.Heedful.{none}
 use Rattle.lives.specs.Stock.{Stocks}
-use Rattle.lives.specs.Messages.{isReport, isAlarm, Among, AnsweredOnce}
+use Rattle.lives.specs.Messages.{isReport, isAlarm, AnsweredOnce}
 use Rattle.lives.proofs.Done.{Passed, passed}
 use Rattle.lives.proofs.Links.{moves-none, moves-nothing}
 use Rattle.lives.proofs.Heeded.{heeds-one}
-use Rattle.lives.proofs.Messages.{among-none}
 use Rattle.packetlives.specs.Answering.{Answering}
 use Rattle.packetlives.proofs.Greeting.{good, answers}
 use Rattle.packetlives.proofs.Kept.{packets}
 use Rattle.framelives.specs.Packeted.{kindActs, askedActs, classActs, packetActs, Done, PacketedAll}
 
-no : {P : Type 0} → false ≡ true → P
-no q = absurd (let z : _≡_ {A = ℕ} 0 1 = cc in omega arith)
-
 -- not Down, and neither too early nor not ready
 up : (f : Phase) → isDown f ≡ false → both (isGreeting f) true ≡ false → both (isBeating f) true ≡ false → f ≡ Up
-up Down d g b = no (sym d)
-up Greeting d g b = no (sym g)
-up Beating d g b = no (sym b)
+up Down d g b = untrue (sym d)
+up Greeting d g b = untrue (sym g)
+up Beating d g b = untrue (sym b)
 up Up d g b = refl
 
 module _ (s : Site) (l time : ℕ) (id : Identity) (received p : List ℕ) where
@@ -82,27 +80,27 @@ module _ (s : Site) (l time : ℕ) (id : Identity) (received p : List ℕ) where
   -- only the kinds that wait for Up reply
   kind-up : (kind : Kind) → isDown (phaseOf (linkAt s l)) ≡ false → early (linkAt s l) kind ≡ false → unready (linkAt s l) kind ≡ false
       → kindTaken s l time id received p kind .replies ≡ true → phaseOf (linkAt s l) ≡ Up
-  kind-up Version d e u r = no (sym (packets s l time id received .version-alone (versionAt p)) ∙ r)
-  kind-up Watchdog d e u r = no (sym (packets s l time id received .watchdog-alone (watchdogAt p)) ∙ r)
+  kind-up Version d e u r = untrue (sym (packets s l time id received .version-alone (versionAt p)) ∙ r)
+  kind-up Watchdog d e u r = untrue (sym (packets s l time id received .watchdog-alone (watchdogAt p)) ∙ r)
   kind-up Alarm d e u r = up (phaseOf (linkAt s l)) d e u
   kind-up AggregatedStatusRequest d e u r = up (phaseOf (linkAt s l)) d e u
   kind-up StatusRequest d e u r = up (phaseOf (linkAt s l)) d e u
   kind-up StatusSubscribe d e u r = up (phaseOf (linkAt s l)) d e u
   kind-up StatusUnsubscribe d e u r = up (phaseOf (linkAt s l)) d e u
-  kind-up Unexpected d e u r = no r
+  kind-up Unexpected d e u r = untrue r
 
   asked-up : (v : Verdict) (kind : Kind) → isDown (phaseOf (linkAt s l)) ≡ false → early (linkAt s l) kind ≡ false
       → askedTaken s l time id received p v kind .replies ≡ true → phaseOf (linkAt s l) ≡ Up
-  asked-up Missing kind d e r = no r
-  asked-up Bad kind d e r = no r
+  asked-up Missing kind d e r = untrue r
+  asked-up Bad kind d e r = untrue r
   asked-up Good kind d e r = by (expected (linkAt s l) kind) (unready (linkAt s l) kind) (kind-up kind d e) r
     where
       by : (a u : Bool) → (u ≡ false → kindTaken s l time id received p kind .replies ≡ true → phaseOf (linkAt s l) ≡ Up)
           → pick a (pick u (notAcked s received notReady) (kindTaken s l time id received p kind)) (notAcked s received unexpected) .replies ≡ true
           → phaseOf (linkAt s l) ≡ Up
-      by true true f r = no r
+      by true true f r = untrue r
       by true false f r = f refl r
-      by false u f r = no r
+      by false u f r = untrue r
 
   -- by what the packet is
   module _ (i : Identity) where

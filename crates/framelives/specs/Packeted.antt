@@ -5,6 +5,7 @@ use mathlib.Core.Path.{_≡_}
 use mathlib.Core.Bool.{Bool, true, false}
 use mathlib.Core.List.{List, [], _∷_}
 use Rattle.basis.specs.Pick.{pick}
+use Rattle.basis.specs.Lists.{Among}
 use Rattle.answer.specs.Number.{isDone}
 use Rattle.identity.specs.declared.Identity.{Identity}
 use Rattle.link.specs.declared.Role.the-variants.{Secondary}
@@ -30,7 +31,7 @@ use Rattle.packet_status.specs.StatusReply.{statusTaken}
 use Rattle.call_packet.specs.Packet.{expected, unready, packetTaken, packetRefuses}
 use Rattle.lives.specs.Moves.{onlyOn, Shaped, Moves, Heedful}
 use Rattle.lives.specs.Stock.{Stocks}
-use Rattle.lives.specs.Messages.{isReport, isAlarm, Among, AnsweredOnce}
+use Rattle.lives.specs.Messages.{isReport, isAlarm, AnsweredOnce}
 use Rattle.packetlives.specs.Answering.{replyActs}
 use Rattle.packetlives.specs.Packets.{whereGood, versionActs, watchdogActs}
 

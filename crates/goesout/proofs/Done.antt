@@ -6,6 +6,7 @@ use mathlib.Core.List.{List, [], _∷_}
 use mathlib.Core.Logic.{_⊎_, inl, inr}
 use lib.ListN.{length}
 use native.Mathlib.Omega.{arith}
+use Rattle.basis.specs.Lists.{Among}
 use Rattle.basis.proofs.Cases.{lt-or-ge}
 use Rattle.answer.specs.declared.Refusal.{Refusal}
 use Rattle.answer.specs.declared.Report.{Report}
@@ -34,7 +35,6 @@ use Rattle.calllives.proofs.Kept.{living}
 use Rattle.demands.specs.Acts.{actsOf}
 use Rattle.demands.specs.Demand3.{Started}
 use Rattle.demands.proofs.Touching.{touching}
-use Rattle.goesout.specs.Goesout.{In}
 use Rattle.goesout.proofs.Places.{views, Each, each-one, issues-each, Markless, markless-each}
 use Rattle.goesout.proofs.Paired.{Kept}
 use Rattle.goesout.proofs.Facts.{Facts, begun, facts}
@@ -126,9 +126,9 @@ module _ (s : Site) (b : Started s) (m : ℕ) where
       by (inl h) = accounted-below h cs
       by (inr h) = subst⁻¹ (Each (Kept (linkAt (siteAfter s cs) m))) (none-above h cs) tt
 
-  pub below : (cs : List Call) (x : Place) → In x (records (siteAfter s cs .pool) m) → m < 4
+  pub below : (cs : List Call) (x : Place) → Among x (records (siteAfter s cs .pool) m) → m < 4
   below cs x i = by (lt-or-ge m 4)
     where
       by : (m < 4) ⊎ (4 ≤ m) → m < 4
       by (inl h) = h
-      by (inr h) = each-one (λ (y : Place). m < 4) {l = []} tt (subst (In x) (none-above h cs) i)
+      by (inr h) = each-one (λ (y : Place). m < 4) {l = []} tt (subst (Among x) (none-above h cs) i)

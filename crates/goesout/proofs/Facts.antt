@@ -3,8 +3,8 @@
 use Prim.Native.Nat.{ℕ, _<_}
 use mathlib.Core.Path.{_≡_, refl, ap, subst}
 use mathlib.Core.List.{List, [], _∷_}
+use Rattle.basis.proofs.Both.{not-both}
 use Rattle.pool_laws.specs.Promises.{Reached}
-use Rattle.pool_laws.proofs.Counts.{not-both}
 use Rattle.site.specs.declared.Site.{Site}
 use Rattle.site.specs.Site.{linkAt}
 use Rattle.call_start.specs.Fresh.{primaryOf}

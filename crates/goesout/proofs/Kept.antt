@@ -5,6 +5,9 @@ use mathlib.Core.Path.{_≡_, refl, ap, subst, subst⁻¹}
 use mathlib.Core.Bool.{false}
 use mathlib.Core.List.{List, _∷_}
 use mathlib.Core.Logic.{_⊎_, inl, inr}
+use Rattle.basis.specs.Lists.{Among}
+use Rattle.basis.specs.Lists.Among.{first, later}
+use Rattle.basis.proofs.Both.{not-both}
 use Rattle.answer.specs.Number.{isDone}
 use Rattle.entry.specs.declared.Entry.{Entry}
 use Rattle.pool.specs.declared.Place.{Place}
@@ -12,7 +15,6 @@ use Rattle.pool_laws.specs.Leaves.{Held}
 use Rattle.pool_laws.specs.View.{records}
 use Rattle.pool_laws.specs.Views.{InOrder}
 use Rattle.pool_laws.specs.Contents.{Every}
-use Rattle.pool_laws.proofs.Counts.{not-both}
 use Rattle.link.specs.declared.Phase.the-variants.{Up}
 use Rattle.link.specs.Phase.{phaseOf}
 use Rattle.site.specs.declared.Site.{Site}
@@ -24,8 +26,7 @@ use Rattle.sequences.proofs.Kept.{kept as sequenced}
 use Rattle.demands.specs.Demand3.{Started, Issued, Released}
 use Rattle.demands.specs.Demand3.Started.{started}
 use Rattle.demands.proofs.Kept.{kept as demanded}
-use Rattle.goesout.specs.Goesout.{In, Holds, Unsent, Awaits, pumpsOn, Due, Promises}
-use Rattle.goesout.specs.Goesout.In.{first, later}
+use Rattle.goesout.specs.Goesout.{Holds, Unsent, Awaits, pumpsOn, Due, Promises}
 use Rattle.goesout.proofs.Places.{views, each-one, each-all}
 use Rattle.goesout.proofs.Upward.{awaits-up}
 use Rattle.goesout.proofs.Paired.{Kept}
@@ -61,7 +62,7 @@ module _ (s : Site) (b : Started s) (cs : List Call) where
         (λ z f g. refl) (λ z g. refl) (markless after c m n)
         (each-all (λ (z : Place). z .entry .sequence ≡ x .entry .sequence → Unsent z) (records (after .pool) m) same)) j e
       where
-        same : (z : Place) → In z (records (after .pool) m) → z .entry .sequence ≡ x .entry .sequence → Unsent z
+        same : (z : Place) → Among z (records (after .pool) m) → z .entry .sequence ≡ x .entry .sequence → Unsent z
         same z k g = subst⁻¹ Unsent (only-one m (after .next) 0 (records (after .pool) m) in-order x z i k g) u
 
 -- every site that start makes is sound, and so is every one after it
@@ -70,7 +71,7 @@ sound s (started {b = b} {links = n} {primary = primary} {period = period} {firs
     answer-cases (r .answer) (λ q e. sequenced .started b n primary period number time r q x e cs t) (λ q e. not-both d (ap isDone e))
 
 -- ---- what is issued
-genuine : {x : Place} {l : List Place} (e : Entry) → Every (λ (d : Entry). d .sequence ≡ e .sequence → d ≡ e) l → In x l
+genuine : {x : Place} {l : List Place} (e : Entry) → Every (λ (d : Entry). d .sequence ≡ e .sequence → d ≡ e) l → Among x l
     → x .entry .sequence ≡ e .sequence → x .entry ≡ e
 genuine e (h, a) first q = h q
 genuine e (h, a) (later i) q = genuine e a i q

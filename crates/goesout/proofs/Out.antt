@@ -5,6 +5,7 @@ use mathlib.Core.Path.{_≡_, refl, sym, _∙_, ap, subst, subst⁻¹}
 use mathlib.Core.List.{List, [], _∷_, map, append-nil}
 use lib.ListN.{length}
 use native.Mathlib.Omega.{arith}
+use Rattle.basis.specs.Lists.{Among}
 use Rattle.answer.specs.declared.Report.{Report}
 use Rattle.answer.specs.declared.Answer.the-variants.{Done}
 use Rattle.identity.specs.declared.Identity.{Identity}
@@ -42,7 +43,7 @@ use Rattle.formedness.specs.Formedness.{Wrote, allBytes}
 use Rattle.calls.specs.Calls.{Call, planOf, stepBy, outBy}
 use Rattle.calls.specs.Calls.Call.{pump}
 use Rattle.sequences.proofs.Kept.{kept as sequenced}
-use Rattle.goesout.specs.Goesout.{In, Clear, GoesOut}
+use Rattle.goesout.specs.Goesout.{Clear, GoesOut}
 use Rattle.goesout.proofs.Places.{views, pick-own, in-map}
 use Rattle.goesout.proofs.Linked.{entry-found}
 use Rattle.goesout.proofs.Facts.{Facts}
@@ -124,13 +125,13 @@ module _
     abbrev as-sent : Place
     as-sent = record { entry = r .oldest .entry; mark = 2 }
 
-    still-held : In as-sent (records (stepBy s call .site .pool) m)
+    still-held : Among as-sent (records (stepBy s call .site .pool) m)
     still-held =
         let q : ℕ = r .oldest .entry .sequence in
         let before : List Place = records (s .pool) m in
         let after : records (stepBy s call .site .pool) m ≡ map (sentIf q) before =
         ap (λ (p : Pool). records p m) marked ∙ views .mark (s .pool) (s .next) (f .reached) m q m ∙ pick-own m (map (sentIf q) before) before in
-        subst⁻¹ (In as-sent) after (subst (λ (x : Place). In x (map (sentIf q) before)) (pick-own q as-sent (r .oldest)) (in-map (sentIf q) (r .held)))
+        subst⁻¹ (Among as-sent) after (subst (λ (x : Place). Among x (map (sentIf q) before)) (pick-own q as-sent (r .oldest)) (in-map (sentIf q) (r .held)))
 
     pub goes-out : Sound s → SixteenBytes (random .bytes) → GoesOut s m t random out
     goes-out h b =

@@ -9,6 +9,8 @@ use lib.ListN.{drop}
 use native.Mathlib.Omega.{arith}
 use borrow.Author.Tests.{eq-eqb, eqb-false, ne-eqb}
 use Rattle.basis.specs.Pick.{pick}
+use Rattle.basis.specs.Lists.{Among}
+use Rattle.basis.specs.Lists.Among.{first, later}
 use Rattle.entry.specs.declared.Entry.{Entry}
 use Rattle.pool.specs.declared.Place.{Place}
 use Rattle.pool.specs.declared.Pool.{Pool}
@@ -25,8 +27,6 @@ use Rattle.pool_laws.specs.Views.{Views}
 use Rattle.pool_laws.proofs.Viewed.{viewed}
 use Rattle.pool_batch.specs.Batch.{renumbered}
 use Rattle.pool_batch.specs.Laws.{numbered, issues}
-use Rattle.goesout.specs.Goesout.{In}
-use Rattle.goesout.specs.Goesout.In.{first, later}
 
 pub views : Views 4
 views = viewed 4 (omega arith)
@@ -36,11 +36,11 @@ abbrev pub Each : (Place → Type 0) → List Place → Type 0
 Each P [] = Unit {0}
 Each P (x ∷ l) = P x × Each P l
 
-pub each-one : (P : Place → Type 0) {x : Place} {l : List Place} → Each P l → In x l → P x
+pub each-one : (P : Place → Type 0) {x : Place} {l : List Place} → Each P l → Among x l → P x
 each-one P (h, a) first = h
 each-one P (h, a) (later i) = each-one P a i
 
-pub each-all : (P : Place → Type 0) (l : List Place) → ((x : Place) → In x l → P x) → Each P l
+pub each-all : (P : Place → Type 0) (l : List Place) → ((x : Place) → Among x l → P x) → Each P l
 each-all P [] f = tt
 each-all P (x ∷ l) f = (f x first, each-all P l (λ y i. f y (later i)))
 
@@ -52,7 +52,7 @@ pub each-map : (P Q : Place → Type 0) (f : Place → Place) → ((x : Place) �
 each-map P Q f e [] a = tt
 each-map P Q f e (x ∷ l) (h, a) = (e x h, each-map P Q f e l a)
 
-pub in-map : (f : Place → Place) {x : Place} {l : List Place} → In x l → In (f x) (map f l)
+pub in-map : (f : Place → Place) {x : Place} {l : List Place} → Among x l → Among (f x) (map f l)
 in-map f first = first
 in-map f (later i) = later (in-map f i)
 

@@ -4,8 +4,8 @@ use Prim.Native.Nat.{ℕ}
 use mathlib.Core.Path.{_≡_, refl, ap, _∙_}
 use mathlib.Core.Bool.{Bool, true, false}
 use mathlib.Core.List.{[], _∷_}
-use native.Mathlib.Omega.{arith}
 use Rattle.basis.specs.Pick.{pick}
+use Rattle.basis.proofs.Both.{untrue}
 use Rattle.identity.specs.declared.Identity.{Identity}
 use Rattle.awaited.specs.declared.Awaited.{Awaited}
 use Rattle.awaited.specs.Awaited.{findOf}
@@ -56,21 +56,18 @@ tells Aggregated = false
 tells (Alarm k) = true
 tells Entry = true
 
-no : {P : Type 0} → false ≡ true → P
-no q = absurd (let z : _≡_ {A = ℕ} 0 1 = cc in omega arith)
-
 tells-up : (k : Link) (f : Phase) (up : Due) → tells (dueIn f k up) ≡ true → f ≡ Up
-tells-up k Down up e = no e
+tells-up k Down up e = untrue e
 tells-up k Greeting up e = by (k .versionout) e
   where
     by : (b : Bool) → tells (pick b Nothing Version) ≡ true → Greeting ≡ Up
-    by true e = no e
-    by false e = no e
+    by true e = untrue e
+    by false e = untrue e
 tells-up k Beating up e = by (k .watchdogout) e
   where
     by : (b : Bool) → tells (pick b Nothing Watchdog) ≡ true → Beating ≡ Up
-    by true e = no e
-    by false e = no e
+    by true e = untrue e
+    by false e = untrue e
 tells-up k Up up e = refl
 
 pub due-up : (s : Site) (l time : ℕ) → tells (dueAt s l time) ≡ true → phaseOf (linkAt s l) ≡ Up

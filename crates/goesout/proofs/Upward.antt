@@ -9,6 +9,7 @@ use mathlib.Core.Logic.{_⊎_, inl, inr}
 use native.Mathlib.Omega.{arith}
 use Rattle.basis.specs.Pick.{pick, both}
 use Rattle.basis.proofs.Cases.{bool-cases}
+use Rattle.basis.proofs.Both.{not-both, both-first, both-second}
 use Rattle.identity.specs.declared.Identity.{Identity}
 use Rattle.awaited.specs.declared.Awaited.{Awaited}
 use Rattle.awaited.specs.declared.Purpose.{Purpose}
@@ -18,7 +19,6 @@ use Rattle.awaited.specs.Slot.{sameIdentity}
 use Rattle.awaited.specs.Awaited.{findOf}
 use Rattle.awaited.specs.Promises.{Act as Letter, after as awaitedAfter, said}
 use Rattle.awaited.specs.Promises.Act.{Sent, Answered as GotAnswer}
-use Rattle.pool_laws.proofs.Counts.{not-both, and-left, and-right}
 use Rattle.link.specs.declared.Link.{Link}
 use Rattle.link.specs.declared.Phase.the-variants.{Up}
 use Rattle.link.specs.Deed.{Deed, is}
@@ -91,19 +91,19 @@ record Through (p : Deed → Bool) : Type 0 where
 
 through-if : (p : Deed → Bool) → both (begun p) (beat p) ≡ true → Through p
 through-if p e =
-    let g : begun p ≡ true = and-left (begun p) (beat p) e in
-    let b : beat p ≡ true = and-right (begun p) (beat p) e in
+    let g : begun p ≡ true = both-first (begun p) (beat p) e in
+    let b : beat p ≡ true = both-second (begun p) (beat p) e in
     let v : both (p OurVersion) (both (p OurVersionAcked) (p TheirVersion)) ≡ true =
-    and-right (p Connected) (both (p OurVersion) (both (p OurVersionAcked) (p TheirVersion))) g in
-    let w : both (p OurVersionAcked) (p TheirVersion) ≡ true = and-right (p OurVersion) (both (p OurVersionAcked) (p TheirVersion)) v in
-    let x : both (p OurWatchdogAcked) (p TheirWatchdog) ≡ true = and-right (p OurWatchdog) (both (p OurWatchdogAcked) (p TheirWatchdog)) b in
+    both-second (p Connected) (both (p OurVersion) (both (p OurVersionAcked) (p TheirVersion))) g in
+    let w : both (p OurVersionAcked) (p TheirVersion) ≡ true = both-second (p OurVersion) (both (p OurVersionAcked) (p TheirVersion)) v in
+    let x : both (p OurWatchdogAcked) (p TheirWatchdog) ≡ true = both-second (p OurWatchdog) (both (p OurWatchdogAcked) (p TheirWatchdog)) b in
     record {
-      version = and-left (p OurVersion) (both (p OurVersionAcked) (p TheirVersion)) v;
-      version-acked = and-left (p OurVersionAcked) (p TheirVersion) w;
-      their-version = and-right (p OurVersionAcked) (p TheirVersion) w;
-      watchdog = and-left (p OurWatchdog) (both (p OurWatchdogAcked) (p TheirWatchdog)) b;
-      watchdog-acked = and-left (p OurWatchdogAcked) (p TheirWatchdog) x;
-      their-watchdog = and-right (p OurWatchdogAcked) (p TheirWatchdog) x;
+      version = both-first (p OurVersion) (both (p OurVersionAcked) (p TheirVersion)) v;
+      version-acked = both-first (p OurVersionAcked) (p TheirVersion) w;
+      their-version = both-second (p OurVersionAcked) (p TheirVersion) w;
+      watchdog = both-first (p OurWatchdog) (both (p OurWatchdogAcked) (p TheirWatchdog)) b;
+      watchdog-acked = both-first (p OurWatchdogAcked) (p TheirWatchdog) x;
+      their-watchdog = both-second (p OurWatchdogAcked) (p TheirWatchdog) x;
     }
 
 through-more : (p : Deed → Bool) (e : Deed) → Through p → Through (λ (d : Deed). pick (is e d) true (p d))

@@ -8,7 +8,9 @@ use mathlib.Core.List.{List, [], _∷_}
 use mathlib.Core.Logic.{_⊎_}
 use lib.Dec.{eqb}
 use lib.ListN.{length}
+use Rattle.basis.specs.Lists.{Among}
 use Rattle.answer.specs.declared.Answer.the-variants.{Done}
+use Rattle.answer.specs.Times.{lastTime}
 use Rattle.identity.specs.declared.Identity.{Identity}
 use Rattle.identity.specs.Read.{SixteenBytes}
 use Rattle.identity.specs.Version.{identityOf}
@@ -31,14 +33,9 @@ use Rattle.calls.specs.Calls.Call.{connect, disconnect, packet, alarm, status, 
 use Rattle.sequences.specs.Typed.{EachTyped}
 use Rattle.demands.specs.Demand3.{Started, Issued, Released}
 
--- a record stands in the list, with its mark
-pub data In (x : Place) : List Place → Type 0 where
-  first : {l : List Place} → In x (x ∷ l)
-  later : {y : Place} {l : List Place} → In x l → In x (y ∷ l)
-
 -- it is one of the records of link m that the site holds
 abbrev pub Holds : Site → ℕ → Place → Type 0
-Holds s m x = In x (records (s .pool) m)
+Holds s m x = Among x (records (s .pool) m)
 
 -- it is not marked sent: a held record's mark is 1, or 2 where it is sent
 abbrev pub Unsent : Place → Type 0
@@ -65,7 +62,7 @@ pub record Clear (s : Site) (m t : ℕ) (id : Identity) (room : ℕ) : Type 0 wh
   pub configured : m < s .linkcount
   pub enough : 4096 ≤ room
   pub on-time : s .last ≤ t
-  pub years : t ≤ 253402300799999
+  pub years : t ≤ lastTime
   pub passing : Passing s m t
   pub passed : Passed s m t
   pub few : howManyOf (linkAt s m .awaited) < 8

@@ -5,8 +5,8 @@ use mathlib.Core.Path.{_≡_, refl, sym, ap, subst, _∙_}
 use mathlib.Core.Bool.{true}
 use mathlib.Core.List.{List, [], _∷_}
 use lib.ListN.{length}
+use Rattle.basis.proofs.Both.{not-both}
 use Rattle.answer.specs.Number.{isDone}
-use Rattle.pool_laws.proofs.Counts.{not-both}
 use Rattle.link.specs.declared.Phase.the-variants.{Down}
 use Rattle.link.specs.Fields.{closedLink}
 use Rattle.link.specs.Phase.{phaseOf}

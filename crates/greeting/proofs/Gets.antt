@@ -8,6 +8,7 @@ use lib.ListN.{length}
 use borrow.Author.Tests.{le-ltb}
 use Rattle.basis.specs.Pick.{pick, both}
 use Rattle.answer.specs.Given.Hint.{none}
+use Rattle.answer.specs.Times.{lastTime}
 use Rattle.identity.specs.declared.Identity.{Identity}
 use Rattle.identity.specs.Version.{identityOf}
 use Rattle.awaited.specs.declared.Awaited.{Awaited}
@@ -80,13 +81,13 @@ module _ (t : Site) (l time : ℕ) (id : Identity) (p : List ℕ) where
       ∙ ap (λ (j : Judged). versionJudged t l received j) chosen
 
   watchdog-is : headAt p .class ≡ Asked Good Watchdog → unready (linkAt t l) Watchdog ≡ false → watchdogAt p .verdict ≡ Good
-      → packetTaken t l time id p ≡ acked (beaten t l) [] (headAt p .received .bytes) (hintFrom (roleOf t l) (watchdogAt p .time))
+      → packetTaken t l time id p ≡ acked (beaten t l) [] (headAt p .received .bytes) (hintFrom (roleOf t l) (watchdogAt p))
   watchdog-is asked ready good =
       let received : List ℕ = headAt p .received .bytes in
-      let taken : Taken = byVerdict (watchdogAt p .verdict) t received (beat t l received (watchdogAt p .time)) in
+      let taken : Taken = byVerdict (watchdogAt p .verdict) t received (beat t l received (watchdogAt p)) in
       ap (λ (c : Class). classTaken t l time id (headAt p .identity) received p c) asked
       ∙ ap (λ (b : Bool). pick b (notAcked t received notReady) taken) ready
-      ∙ ap (λ (v : Verdict). byVerdict v t received (beat t l received (watchdogAt p .time))) good
+      ∙ ap (λ (v : Verdict). byVerdict v t received (beat t l received (watchdogAt p))) good
 
   ack-is : (i : Identity) (q : Purpose) → headAt p .class ≡ Acked → headAt p .identity ≡ i → findOf (linkAt t l .awaited) i ≡ For q → settledFor t l q ≡ t
       → packetTaken t l time id p ≡ record { plan = only (withLink t l (answeredOf (linkAt t l) i true)); replies = false }
@@ -100,7 +101,7 @@ module _ (t : Site) (l time : ℕ) (id : Identity) (p : List ℕ) where
 -- ---- none is refused
 module _
     (s t : Site) (l u : ℕ) (time : ℕ) (random : Identity) (p out : List ℕ)
-    (enough : 4096 ≤ length out) (short : length p ≤ 4096) (before : u ≤ time) (years : time ≤ 253402300799999)
+    (enough : 4096 ≤ length out) (short : length p ≤ 4096) (before : u ≤ time) (years : time ≤ lastTime)
   where
     abbrev comes : Taken
     comes = packetTaken t l time (identityOf random) p
@@ -154,7 +155,7 @@ module _
     takes-watchdog {wo = wo} {wa = wa} {wt = wt} {w = w} v n =
         let k : Link = linkAt t l in
         let f : phaseOf k ≡ phaseBy true (both wo (both wa wt)) = phase k w (n .looks) in
-        let e : comes ≡ acked (beaten t l) [] (headAt p .received .bytes) (hintFrom (roleOf t l) (watchdogAt p .time))
+        let e : comes ≡ acked (beaten t l) [] (headAt p .received .bytes) (hintFrom (roleOf t l) (watchdogAt p))
         = watchdog-is t l time (identityOf random) p (v .asked)
         (ap (λ (x : Phase). both (isBeating x) false) f ∙ greeted-ready (both wo (both wa wt))) (v .good) in
         goes s t l (n .stands) (packet l time random p out) (watchdogTakenOf k)
@@ -163,7 +164,7 @@ module _
         ∙ ap (λ (x : Phase). both (isGreeting x) true) f
         ∙ greeted-early (both wo (both wa wt)))
         (ap (λ (x : Taken). x .replies) e))
-        (lays _ (acked (beaten t l) [] (headAt p .received .bytes) (hintFrom (roleOf t l) (watchdogAt p .time))) e
+        (lays _ (acked (beaten t l) [] (headAt p .received .bytes) (hintFrom (roleOf t l) (watchdogAt p))) e
         (record { issued = refl; links = refl; count = refl; table = refl }))
         (watchdog-taken k w (n .looks))
 

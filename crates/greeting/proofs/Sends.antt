@@ -8,6 +8,7 @@ use mathlib.Core.List.{List}
 use lib.ListN.{length}
 use borrow.Author.Tests.{le-ltb}
 use Rattle.basis.specs.Pick.{pick}
+use Rattle.answer.specs.Times.{lastTime}
 use Rattle.identity.specs.declared.Identity.{Identity}
 use Rattle.identity.specs.Version.{identityOf}
 use Rattle.awaited.specs.declared.Awaited.{Awaited}
@@ -32,7 +33,7 @@ use Rattle.greeting.proofs.Awaits.{Empty}
 use Rattle.greeting.proofs.Looks.{Looks, connects, phase, version-out, watchdog-out}
 use Rattle.greeting.proofs.Stands.{Fine, Stands, Next, Now, Goes, a-link, in-time, next, goes}
 
-module _ (s t : Site) (l u : ℕ) (h : Stands s t l) (last : t .last ≡ u) (time : ℕ) (before : u ≤ time) (years : time ≤ 253402300799999) where
+module _ (s t : Site) (l u : ℕ) (h : Stands s t l) (last : t .last ≡ u) (time : ℕ) (before : u ≤ time) (years : time ≤ lastTime) where
   connect-fine : phaseOf (linkAt t l) ≡ Down → Fine (refuses t (connect l time))
   connect-fine e =
       record {
@@ -72,7 +73,7 @@ module _ (s t : Site) (l u : ℕ) (h : Stands s t l) (last : t .last ≡ u) (tim
   disconnecting e = next s t l h (disconnect l time) closedLink (disconnect-fine e) (record { issued = refl; links = refl; count = refl; table = refl })
 
 module _ (s t : Site) (l u : ℕ) (w : Awaited) (e : Empty w) (time : ℕ) (random : Identity) (out : List ℕ) (enough : 4096 ≤ length out)
-    (before : u ≤ time) (years : time ≤ 253402300799999)
+    (before : u ≤ time) (years : time ≤ lastTime)
   where
     few : (k : Link) → k .awaited ≡ w → crowdedOf k ≡ false
     few k a = limits .below-eight k (subst⁻¹ (λ (x : Awaited). howManyOf x < 8) a (omega (arith, e .many)))

@@ -13,6 +13,7 @@ use Rattle.answer.specs.declared.Answer.the-variants.{Done}
 use Rattle.answer.specs.Order.{inOrder, None}
 use Rattle.answer.specs.Order.None.{none, more}
 use Rattle.answer.specs.Number.{isDone}
+use Rattle.answer.specs.Times.{lastTime}
 use Rattle.entry.specs.declared.Entry.{Entry}
 use Rattle.awaited.specs.declared.Awaited.{Awaited}
 use Rattle.pool_batch.specs.declared.Batch.{Batch}
@@ -93,8 +94,8 @@ module _ (s t : Site) (l : ℕ) (h : Stands s t l) where
   pub a-link : noLinkAt t l ≡ false
   a-link = rw (lt-ltb l 4 (h .four), lt-leb (t .linkcount) l (h .configured)) refl
 
-  pub in-time : (u time : ℕ) → t .last ≡ u → u ≤ time → time ≤ 253402300799999 → badTimeAt t time ≡ false
-  in-time u time e a b = rw (e, le-ltb time u a, le-ltb 253402300799999 time b) refl
+  pub in-time : (u time : ℕ) → t .last ≡ u → u ≤ time → time ≤ lastTime → badTimeAt t time ≡ false
+  in-time u time e a b = rw (e, le-ltb time u a, le-ltb lastTime time b) refl
 
   module _ (p : Plan) (k : Link) (y : Lays t p l k) (b : Batch) (time : ℕ) where
     stands-after : Stands s (withIssued (p .site) b time) l

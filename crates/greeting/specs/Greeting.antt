@@ -6,6 +6,7 @@ use mathlib.Core.Path.{_≡_}
 use mathlib.Core.Bool.{Bool, true, false}
 use mathlib.Core.List.{List, [], _∷_}
 use lib.ListN.{length}
+use Rattle.answer.specs.Times.{lastTime}
 use Rattle.identity.specs.declared.Identity.{Identity}
 use Rattle.identity.specs.Version.{identityOf}
 use Rattle.link.specs.declared.Phase.the-variants.{Down, Up}
@@ -103,14 +104,14 @@ watchdogs acknowledged l g before = gets l (g .their-watchdog) ∷ gets l (g .wa
 abbrev pub greeting : Bool → Moment → ℕ → Greeting → List Call → List Call
 greeting first when l g before = watchdogs when l g (versions first l g (connect l (g .connected) ∷ before))
 
--- no time is before the one of the call before, the first one not before `last`, and none above 253402300799999
+-- no time is before the one of the call before, the first one not before `last`, and none above `lastTime`
 abbrev pub latest : ℕ → List Call → ℕ
 latest last [] = last
 latest last (c ∷ cs) = timeOf c
 
 abbrev pub Timely : ℕ → List Call → Type 0
 Timely last [] = Unit {0}
-Timely last (c ∷ cs) = (latest last cs ≤ timeOf c) × ((timeOf c ≤ 253402300799999) × Timely last cs)
+Timely last (c ∷ cs) = (latest last cs ≤ timeOf c) × ((timeOf c ≤ lastTime) × Timely last cs)
 
 -- each call is done, on the site left by those before it
 abbrev pub AllDone : Site → List Call → Type 0

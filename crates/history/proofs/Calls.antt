@@ -6,6 +6,7 @@ use mathlib.Core.Bool.{Bool, true, false}
 use mathlib.Core.List.{List, [], _∷_, _++_}
 use Rattle.basis.specs.Pick.{pick}
 use Rattle.basis.proofs.Cases.{bool-cases}
+use Rattle.basis.proofs.Both.{untrue}
 use Rattle.answer.specs.Given.{linksIn}
 use Rattle.answer.specs.Number.{isDone}
 use Rattle.identity.specs.declared.Identity.{Identity}
@@ -42,7 +43,7 @@ use Rattle.calls.specs.Calls.Call.{connect, disconnect, packet, alarm, status, 
 use Rattle.calllives.specs.Calls.{linkOf, actsOf}
 use Rattle.history.specs.Events.{incoming, sentOn, closedAll}
 use Rattle.history.specs.Events.Event.{Opened}
-use Rattle.history.proofs.Listed.{no, got, opened-other, unbound-sent, several, passing, hidden, shown, none-opened}
+use Rattle.history.proofs.Listed.{got, opened-other, unbound-sent, several, passing, hidden, shown, none-opened}
 use Rattle.history.proofs.Goes.{Passing, Goes, Course, course-on}
 use Rattle.history.proofs.Goes.Passing.{none, entry, other, aggregated as first-aggregated, alarm as first-alarm}
 use Rattle.history.proofs.Goes.Goes.{passes, opens, closes, version-out, watchdog-out}
@@ -60,12 +61,12 @@ conditions s c d =
 is-up : (k : Link) → isDown (phaseOf k) ≡ false → k .connected ≡ true
 is-up k =
     phase-cases k (λ (f : Phase). isDown f ≡ false → k .connected ≡ true)
-    (λ c e. no (sym e)) (λ c g e. c) (λ c g b e. c) (λ c g b e. c)
+    (λ c e. untrue (sym e)) (λ c g e. c) (λ c g b e. c) (λ c g b e. c)
 
 is-down : (k : Link) → pick (isDown (phaseOf k)) false true ≡ false → k .connected ≡ false
 is-down k =
     phase-cases k (λ (f : Phase). pick (isDown f) false true ≡ false → k .connected ≡ false)
-    (λ c e. c) (λ c g e. no (sym e)) (λ c g b e. no (sym e)) (λ c g b e. no (sym e))
+    (λ c e. c) (λ c g e. untrue (sym e)) (λ c g b e. untrue (sym e)) (λ c g b e. untrue (sym e))
 
 -- ---- pump
 module _ (s : Site) (l time : ℕ) (id : Identity) where
@@ -90,7 +91,7 @@ module _ (s : Site) (l time : ℕ) (id : Identity) where
 late-up : (k : Link) (time : ℕ) → (k .connected ≡ false → k ≡ closedLink) → lateOf (k .awaited) time ≡ true → k .connected ≡ true
 late-up k time f e =
     bool-cases (k .connected) (λ c. c)
-    (λ c. no (sym (nothing-late time) ∙ sym (ap (λ (x : Link). lateOf (x .awaited) time) (f c)) ∙ e))
+    (λ c. untrue (sym (nothing-late time) ∙ sym (ap (λ (x : Link). lateOf (x .awaited) time) (f c)) ∙ e))
 
 tick-course : (s : Site) (time l : ℕ) → l < 4 → (linkAt s l .connected ≡ false → linkAt s l ≡ closedLink)
     → Course l (linkAt s l) (tickActs s time l) (closedAll (linksIn 4 (tickPlan s time .closed)))

@@ -6,6 +6,7 @@ use mathlib.Core.Bool.{true, false}
 use mathlib.Core.Logic.{_⊎_, inl, inr}
 use mathlib.Core.List.{List, [], _∷_, _++_}
 use borrow.Author.Tests.{eq-eqb, ne-eqb}
+use Rattle.basis.specs.Lists.{Among}
 use Rattle.basis.proofs.Cases.{eq-or-ne}
 use Rattle.answer.specs.Given.{linksIn}
 use Rattle.identity.specs.declared.Identity.{Identity}
@@ -21,7 +22,7 @@ use Rattle.read_head.specs.Head.{headAt}
 use Rattle.site.specs.declared.Site.{Site}
 use Rattle.site.specs.Site.{linkAt, maskOf}
 use Rattle.lives.specs.Moves.{onlyOn}
-use Rattle.history.specs.Events.{Event, closedAll, Within}
+use Rattle.history.specs.Events.{Event, closedAll}
 use Rattle.history.specs.Events.Event.{Opened, Got, Sent, Closed}
 use Rattle.history.proofs.Listed.{Unbound, closed-other, unbound-append, one-closed}
 
@@ -51,7 +52,7 @@ pub data Goes (l : ℕ) (k : Link) : List Act → List Event → ℕ → Type 0 
 pub data Course (l : ℕ) (k : Link) : List Act → List Event → Type 0 where
   own : {xs : List Act} {es : List Event} {mask : ℕ} → l < 4 → Goes l k xs es mask → Course l k xs (es ++ closedAll (linksIn 4 mask))
   apart : {es : List Event} → Unbound l es → Course l k [] es
-  late : {es : List Event} → k .connected ≡ true → Within (Closed l) es → (Within (Opened l) es → ⊥) → Course l k (Close ∷ []) es
+  late : {es : List Event} → k .connected ≡ true → Among (Closed l) es → (Among (Opened l) es → ⊥) → Course l k (Close ∷ []) es
 
 mask-in : {l : ℕ} {k : Link} {xs : List Act} {es : List Event} {mask : ℕ} → Goes l k xs es mask → (mask ≡ 0) ⊎ (mask ≡ maskOf l)
 mask-in (passes p u) = inl refl

@@ -4,6 +4,8 @@ use Prim.Native.Nat.{ℕ, _<_}
 use mathlib.Core.Path.{_≡_, refl, sym, ap, subst, _∙_}
 use mathlib.Core.Bool.{true}
 use mathlib.Core.List.{List, [], _∷_}
+use Rattle.basis.specs.Lists.{Among}
+use Rattle.basis.proofs.Both.{untrue}
 use Rattle.answer.specs.declared.Refusal.{Refusal}
 use Rattle.answer.specs.declared.Report.{Report}
 use Rattle.answer.specs.declared.Answer.{Answer}
@@ -22,7 +24,7 @@ use Rattle.call_start.specs.Starts.{Starts}
 use Rattle.call_start.specs.Starts.Starts.{starts, refuses}
 use Rattle.sound.specs.Sound.{Sound}
 use Rattle.formedness.specs.Formedness.{Wrote}
-use Rattle.lives.specs.Messages.{isReport, Among}
+use Rattle.lives.specs.Messages.{isReport}
 use Rattle.calls.specs.Calls.{Call, planOf, outputOf, stepBy, outBy, siteAfter}
 use Rattle.calls.specs.Calls.Call.{connect, disconnect, packet, alarm, status, aggregated, tick, pump}
 use Rattle.sequences.specs.Typed.{Typed, EachTyped}
@@ -36,7 +38,7 @@ use Rattle.history.specs.Events.TellsAll.{none as none-told, done as don
 use Rattle.history.specs.Greeted.{Greeted, Beaten, Waits, Throughout}
 use Rattle.history.specs.Greeted.Throughout.{none}
 use Rattle.history.specs.Claims.{Claims, FromStart}
-use Rattle.history.proofs.Listed.{no, messages-in}
+use Rattle.history.proofs.Listed.{messages-in}
 use Rattle.history.proofs.Turns.{Turn, course-turn, opens-in, opened-in, closes-in, closed-in}
 use Rattle.history.proofs.Sequence.{Ran, shaped, ran-after, told}
 use Rattle.history.proofs.Primary.{on-primary}
@@ -135,7 +137,7 @@ from : {b : List ℕ} {links primary period first time : ℕ} {r : Step} → Sta
 from {b} {links} {primary} {period} {first} {time} (starts {t = t} a e w) q cs =
     claims (memoryOf t) links (primaryOf primary) period first time
     (λ ks ts. sequences .started b links primary period first time _ _ (starts a e w) refl ks ts) cs
-from (refuses n) q cs = no q
+from (refuses n) q cs = untrue q
 
 pub kept : FromStart
 kept s (started st q) cs = from st q cs

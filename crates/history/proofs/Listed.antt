@@ -4,26 +4,25 @@ use Prim.Native.Nat.{ℕ, zero, suc, _+_, _*_, _<_}
 use native.Mathlib.Omega.{arith}
 use mathlib.Core.Path.{_≡_, refl, sym, ap, subst, _∙_}
 use mathlib.Core.Bool.{Bool, true, false}
-use mathlib.Core.Logic.{_⊎_, inl, inr, ⊎-elim}
+use mathlib.Core.Logic.{_⊎_, ⊎-elim}
 use mathlib.Core.List.{List, [], _∷_, _++_}
-use lib.ListN.{length}
 use Rattle.basis.specs.Pick.{pick, bit}
+use Rattle.basis.specs.Lists.{Among}
+use Rattle.basis.specs.Lists.Among.{first, later}
 use Rattle.basis.proofs.Cases.{eq-or-ne}
+use Rattle.basis.proofs.Both.{untrue}
+use Rattle.basis.proofs.Among.{among-none, among-left, among-right}
 use Rattle.answer.specs.Given.{linksIn}
 use Rattle.write_message.specs.Message.{Message}
 use Rattle.site.specs.Site.{maskOf}
 use Rattle.calls.specs.Calls.{Call}
 use Rattle.calls.specs.Calls.Call.{connect, disconnect, packet, alarm, status, aggregated, tick, pump}
 use Rattle.calllives.specs.Calls.{linkOf}
-use Rattle.history.specs.Events.{Event, incoming, sentOn, closedAll, sentIn, Within}
+use Rattle.history.specs.Events.{Event, incoming, sentOn, closedAll, sentIn}
 use Rattle.history.specs.Events.Event.{Opened, Got, Sent, Closed}
-use Rattle.history.specs.Events.Within.{first, later}
 
 pub never : {P : Type 0} → _≡_ {A = ℕ} 0 1 → P
 never z = absurd (omega arith)
-
-pub no : {P : Type 0} → false ≡ true → P
-no q = absurd (let z : _≡_ {A = ℕ} 0 1 = cc in omega arith)
 
 -- neither opens nor closes link l
 pub record Leaves (l : ℕ) (e : Event) : Type 0 where
@@ -52,13 +51,6 @@ opened-other l m n = record { unopened = λ e. n (sym (ap linked e)); unclosed =
 pub closed-other : (l m : ℕ) → (l ≡ m → ⊥) → Leaves l (Closed m)
 closed-other l m n = record { unopened = λ e. never (cc); unclosed = λ e. n (sym (ap linked e)) }
 
-not-empty : {e : Event} {es : List Event} → Within e es → 0 < length es
-not-empty first = omega arith
-not-empty (later r) = omega arith
-
-pub within-none : {e : Event} {P : Type 0} → Within e [] → P
-within-none r = absurd (let z : 0 < 0 = not-empty r in omega arith)
-
 pub unbound-append : (l : ℕ) (es fs : List Event) → Unbound l es → Unbound l fs → Unbound l (es ++ fs)
 unbound-append l [] fs u v = v
 unbound-append l (e ∷ es) fs u v = (u .0, unbound-append l es fs (u .1) v)
@@ -68,31 +60,13 @@ unbound-sent l m [] = tt
 unbound-sent l m (x ∷ ms) = (sent l m x, unbound-sent l m ms)
 
 -- what is unbound neither opens nor closes
-pub unbound-within : {l : ℕ} {e : Event} (es : List Event) → Unbound l es → Within e es → Leaves l e
-unbound-within [] u r = within-none r
-unbound-within (e ∷ es) u first = u .0
-unbound-within (o ∷ es) u (later r) = unbound-within es (u .1) r
+pub unbound-among : {l : ℕ} {e : Event} (es : List Event) → Unbound l es → Among e es → Leaves l e
+unbound-among [] u r = among-none r
+unbound-among (e ∷ es) u first = u .0
+unbound-among (o ∷ es) u (later r) = unbound-among es (u .1) r
 
-pub within-left : {e : Event} (es fs : List Event) → Within e es → Within e (es ++ fs)
-within-left [] fs r = within-none r
-within-left (e ∷ es) fs first = first
-within-left (o ∷ es) fs (later r) = later (within-left es fs r)
-
-pub within-right : {e : Event} (es fs : List Event) → Within e fs → Within e (es ++ fs)
-within-right [] fs r = r
-within-right (o ∷ es) fs r = later (within-right es fs r)
-
-pub within-either : {e : Event} (es fs : List Event) → Within e (es ++ fs) → Within e es ⊎ Within e fs
-within-either [] fs r = inr r
-within-either (o ∷ es) fs first = inl first
-within-either {e = e} (o ∷ es) fs (later r) = step (within-either es fs r)
-  where
-    step : Within e es ⊎ Within e fs → Within e (o ∷ es) ⊎ Within e fs
-    step (inl a) = inl (later a)
-    step (inr b) = inr b
-
-pub none-opened : (l : ℕ) (ls : List ℕ) → Within (Opened l) (closedAll ls) → ⊥
-none-opened l [] r = within-none r
+pub none-opened : (l : ℕ) (ls : List ℕ) → Among (Opened l) (closedAll ls) → ⊥
+none-opened l [] r = among-none r
 none-opened l (m ∷ ls) (later r) = none-opened l ls r
 
 -- ---- the links of a report
@@ -139,7 +113,7 @@ closed-append (k ∷ ks) ls = ap (λ (es : List Event). Closed k ∷ es) (closed
 
 module _ (f : ℕ → Bool) where
   hidden-one : (l k : ℕ) → f l ≡ false → (b : Bool) → f k ≡ b → Unbound l (closedAll (pick b (k ∷ []) []))
-  hidden-one l k e true g = (closed-other l k (λ i. no (sym e ∙ ap f i ∙ g)), tt)
+  hidden-one l k e true g = (closed-other l k (λ i. untrue (sym e ∙ ap f i ∙ g)), tt)
   hidden-one l k e false g = tt
 
   hidden-more : (l k : ℕ) (ks : List ℕ) → f l ≡ false → Unbound l (closedAll ks) → Unbound l (closedAll (ks ++ pick (f k) (k ∷ []) []))
@@ -151,17 +125,17 @@ module _ (f : ℕ → Bool) where
   hidden zero l e = tt
   hidden (suc n) l e = hidden-more l n (passing f n) e (hidden n l e)
 
-  shown-last : (k : ℕ) (ks : List ℕ) → f k ≡ true → Within (Closed k) (closedAll (ks ++ pick (f k) (k ∷ []) []))
+  shown-last : (k : ℕ) (ks : List ℕ) → f k ≡ true → Among (Closed k) (closedAll (ks ++ pick (f k) (k ∷ []) []))
   shown-last k ks e =
-      subst (Within (Closed k)) (sym (closed-append ks (pick (f k) (k ∷ []) [])))
-      (within-right (closedAll ks) (closedAll (pick (f k) (k ∷ []) [])) (rw e first))
+      subst (Among (Closed k)) (sym (closed-append ks (pick (f k) (k ∷ []) [])))
+      (among-right (closedAll ks) (rw e first))
 
-  shown-more : (l k : ℕ) (ks : List ℕ) → Within (Closed l) (closedAll ks) → Within (Closed l) (closedAll (ks ++ pick (f k) (k ∷ []) []))
+  shown-more : (l k : ℕ) (ks : List ℕ) → Among (Closed l) (closedAll ks) → Among (Closed l) (closedAll (ks ++ pick (f k) (k ∷ []) []))
   shown-more l k ks r =
-      subst (Within (Closed l)) (sym (closed-append ks (pick (f k) (k ∷ []) [])))
-      (within-left (closedAll ks) (closedAll (pick (f k) (k ∷ []) [])) r)
+      subst (Among (Closed l)) (sym (closed-append ks (pick (f k) (k ∷ []) [])))
+      (among-left (closedAll (pick (f k) (k ∷ []) [])) r)
 
-  pub shown : (n l : ℕ) → l < n → f l ≡ true → Within (Closed l) (closedAll (passing f n))
+  pub shown : (n l : ℕ) → l < n → f l ≡ true → Among (Closed l) (closedAll (passing f n))
   shown zero l h e = absurd (omega arith)
   shown (suc n) l h e =
       ⊎-elim (λ g. rw g (shown-last n (passing f n) (sym (ap f g) ∙ e)))

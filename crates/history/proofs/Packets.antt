@@ -85,7 +85,7 @@ module _ (s : Site) (l time : ℕ) (id : Identity) (p : List ℕ) (up : linkAt s
 
   by-kind : (kind : Kind) → headAt p .class ≡ Asked Good kind → Comes (kindTaken s l time id received p kind) (kindActs s l time id received p kind)
   by-kind Version e = by-verdict (versionAt p .verdict) _ _ (judged-comes e (judge (own s) (versionAt p .offer)))
-  by-kind Watchdog e = by-verdict (watchdogAt p .verdict) (beat s l received (watchdogAt p .time)) (WatchdogTaken ∷ []) (taken e)
+  by-kind Watchdog e = by-verdict (watchdogAt p .verdict) (beat s l received (watchdogAt p)) (WatchdogTaken ∷ []) (taken e)
   by-kind Alarm e = replying (alarmTaken s l time id received (alarmAt p)) (alarm-quiet s l time id received (alarmAt p))
   by-kind AggregatedStatusRequest e = replying (aggregatedTaken s l time id received (aggregatedAt p)) (aggregated-quiet s l time id received (aggregatedAt p))
   by-kind StatusRequest e = replying (statusTaken s l time id received (statusAt false p)) (status-quiet s l time id received (statusAt false p))

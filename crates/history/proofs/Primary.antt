@@ -7,7 +7,10 @@ use mathlib.Core.List.{List, [], _∷_, _++_}
 use lib.Dec.{eqb}
 use borrow.Author.Tests.{eqb-true}
 use Rattle.basis.specs.Pick.{pick}
+use Rattle.basis.specs.Lists.{Among}
+use Rattle.basis.specs.Lists.Among.{first, later}
 use Rattle.basis.proofs.Cases.{bool-cases}
+use Rattle.basis.proofs.Both.{untrue}
 use Rattle.answer.specs.declared.Answer.{Answer}
 use Rattle.answer.specs.declared.Answer.the-variants.{Done, Refused}
 use Rattle.answer.specs.Given.{linksIn}
@@ -18,8 +21,7 @@ use Rattle.site.specs.declared.Site.{Site}
 use Rattle.site.specs.Site.{roleOf}
 use Rattle.table_whole.specs.declared.SiteTable.{SiteTable}
 use Rattle.call_start.specs.Fresh.{fresh}
-use Rattle.lives.specs.Messages.{isAlarm, Among}
-use Rattle.lives.specs.Messages.Among.{first, later}
+use Rattle.lives.specs.Messages.{isAlarm}
 use Rattle.calls.specs.Calls.{Call, planOf, stepBy, siteAfter}
 use Rattle.calls.specs.Calls.Call.{connect, disconnect, packet, alarm, status, aggregated, tick, pump}
 use Rattle.calllives.specs.Calls.{linkOf}
@@ -27,7 +29,6 @@ use Rattle.calllives.proofs.Kept.{spoken-from-start}
 use Rattle.history.specs.Events.{Event, incoming, sentOn, closedAll, eventsIf, upon, historyOf}
 use Rattle.history.specs.Greeted.{OnPrimary, Throughout}
 use Rattle.history.specs.Greeted.Throughout.{none, more}
-use Rattle.history.proofs.Listed.{no}
 use Rattle.history.proofs.Sequence.{same-site}
 
 -- what is asked of the messages of a call on link l
@@ -77,7 +78,7 @@ module _ (table : SiteTable) (links primary period first time : ℕ) where
       → Proper (begun .primary) (linkOf c) (planOf (siteAfter begun cs) c .messages)
   proper cs c d m a e =
       bool-cases (eqb (linkOf c) (begun .primary)) (λ t. eqb-true (linkOf c) (begun .primary) t)
-      (λ f. no (sym (no-alarm cs c m d (ap (λ b. pick b Primary Secondary) f) a) ∙ e))
+      (λ f. untrue (sym (no-alarm cs c m d (ap (λ b. pick b Primary Secondary) f) a) ∙ e))
 
   pub on-primary : (cs : List Call) → Throughout (OnPrimary (begun .primary)) (historyOf begun cs)
   on-primary [] = none

@@ -7,6 +7,7 @@ use mathlib.Core.List.{List, [], _∷_}
 use lib.ListN.{replicate}
 use Rattle.basis.specs.Pick.{pick}
 use Rattle.basis.proofs.Cases.{bool-cases, picked}
+use Rattle.basis.proofs.Both.{untrue}
 use Rattle.identity.specs.declared.Identity.{Identity}
 use Rattle.awaited.specs.declared.Slot.{Slot}
 use Rattle.awaited.specs.declared.Awaited.{Awaited}
@@ -25,7 +26,7 @@ use Rattle.read_head.specs.declared.Kind.the-variants.{Version as TakenVersion,
 use Rattle.history.specs.Events.{Event, upon}
 use Rattle.history.specs.Greeted.{Since, VersionOut, WatchdogOut, Acknowledged, Taken}
 use Rattle.history.specs.Greeted.Since.{before}
-use Rattle.history.proofs.Listed.{never, no, Leaves, Unbound}
+use Rattle.history.proofs.Listed.{never, Leaves, Unbound}
 
 -- what an awaited identity was sent for, the history tells
 pub record Kept (l : ℕ) (h : List Event) (x : Slot) : Type 0 where
@@ -116,10 +117,10 @@ module _ (l : ℕ) (h : List Event) where
   closed-told =
       record {
         awaited = each-replicate (Kept l h) freeSlot free-kept 16;
-        version-acked = no;
-        version-taken = no;
-        watchdog-acked = no;
-        watchdog-taken = no;
+        version-acked = untrue;
+        version-taken = untrue;
+        watchdog-acked = untrue;
+        watchdog-taken = untrue;
       }
 
   pub picked-told : (b : Bool) (x y : Link) → Told l x h → Told l y h → Told l (pick b x y) h

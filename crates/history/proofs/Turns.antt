@@ -7,6 +7,10 @@ use mathlib.Core.Logic.{_⊎_, inl, inr}
 use mathlib.Core.List.{List, [], _∷_, _++_}
 use lib.Dec.{ltb}
 use Rattle.basis.specs.Pick.{pick}
+use Rattle.basis.specs.Lists.{Among}
+use Rattle.basis.specs.Lists.Among.{first, later}
+use Rattle.basis.proofs.Both.{untrue}
+use Rattle.basis.proofs.Among.{among-none, among-right, among-either}
 use Rattle.answer.specs.Given.{linksIn}
 use Rattle.identity.specs.declared.Identity.{Identity}
 use Rattle.awaited.specs.declared.Purpose.{Purpose}
@@ -24,10 +28,9 @@ use Rattle.link.specs.Acts.{Act, does}
 use Rattle.link.proofs.Phases.{phase-cases, is-down}
 use Rattle.site.specs.Site.{maskOf}
 use Rattle.lives.specs.Moves.{doesAll}
-use Rattle.history.specs.Events.{Event, closedAll, Within}
+use Rattle.history.specs.Events.{Event, closedAll}
 use Rattle.history.specs.Events.Event.{Opened, Closed}
-use Rattle.history.specs.Events.Within.{first, later}
-use Rattle.history.proofs.Listed.{never, no, got, sent, Unbound, unbound-append, unbound-within, within-none, within-right, within-either, none-opened, one-closed}
+use Rattle.history.proofs.Listed.{never, got, sent, Unbound, unbound-append, unbound-among, none-opened, one-closed}
 use Rattle.history.proofs.Goes.{Passing, Goes, Course}
 use Rattle.history.proofs.Goes.Passing.{none, entry, other, aggregated, alarm}
 use Rattle.history.proofs.Goes.Goes.{passes, opens, closes, shuts, refused, acked, version-out, watchdog-out, accepted, taken}
@@ -36,8 +39,8 @@ use Rattle.history.proofs.Goes.Course.{own, apart, late}
 -- whether the link is connected, before the events of a call and after them
 pub data Turn (l : ℕ) (es : List Event) (b c : Bool) : Type 0 where
   stays : c ≡ b → Unbound l es → Turn l es b c
-  comes : b ≡ false → c ≡ true → Within (Opened l) es → (Within (Closed l) es → ⊥) → Turn l es b c
-  leaves : b ≡ true → c ≡ false → Within (Closed l) es → (Within (Opened l) es → ⊥) → Turn l es b c
+  comes : b ≡ false → c ≡ true → Among (Opened l) es → (Among (Closed l) es → ⊥) → Turn l es b c
+  leaves : b ≡ true → c ≡ false → Among (Closed l) es → (Among (Opened l) es → ⊥) → Turn l es b c
 
 picked-same : (b c : Bool) (x y : Link) → x .connected ≡ c → y .connected ≡ c → pick b x y .connected ≡ c
 picked-same true c x y p q = p
@@ -108,18 +111,18 @@ passing-same k (alarm p) = passing-same (alarmPassedOf k) p ∙ alarm-same k
 
 -- a report that names the link, and no event before it that does
 module _ (l : ℕ) (b : l < 4) (es : List Event) (u : Unbound l es) where
-  named : Within (Closed l) (es ++ closedAll (linksIn 4 (maskOf l)))
-  named = within-right es (closedAll (linksIn 4 (maskOf l))) (rw (one-closed l b) first)
+  named : Among (Closed l) (es ++ closedAll (linksIn 4 (maskOf l)))
+  named = among-right es (rw (one-closed l b) first)
 
-  not-opened : Within (Opened l) (es ++ closedAll (linksIn 4 (maskOf l))) → ⊥
-  not-opened r = by (within-either es (closedAll (linksIn 4 (maskOf l))) r)
+  not-opened : Among (Opened l) (es ++ closedAll (linksIn 4 (maskOf l))) → ⊥
+  not-opened r = by (among-either es (closedAll (linksIn 4 (maskOf l))) r)
     where
-      by : Within (Opened l) es ⊎ Within (Opened l) (closedAll (linksIn 4 (maskOf l))) → ⊥
-      by (inl q) = unbound-within es u q .unopened refl
+      by : Among (Opened l) es ⊎ Among (Opened l) (closedAll (linksIn 4 (maskOf l))) → ⊥
+      by (inl q) = unbound-among es u q .unopened refl
       by (inr q) = none-opened l (linksIn 4 (maskOf l)) q
 
-opened-only : (l : ℕ) → Within (Closed l) (Opened l ∷ []) → ⊥
-opened-only l (later q) = within-none q
+opened-only : (l : ℕ) → Among (Closed l) (Opened l ∷ []) → ⊥
+opened-only l (later q) = among-none q
 
 goes-turn : (l : ℕ) (k : Link) → l < 4 → {xs : List Act} {es : List Event} {mask : ℕ} → Goes l k xs es mask
     → Turn l (es ++ closedAll (linksIn 4 mask)) (k .connected) (doesAll k xs .connected)
@@ -148,22 +151,22 @@ down-then k =
     (λ c e. c) (λ c g e. never (cc)) (λ c g b e. never (cc)) (λ c g b e. never (cc))
 
 module _ (l : ℕ) (es : List Event) (k m : Link) where
-  pub opens-in : Turn l es (k .connected) (m .connected) → Within (Opened l) es → (phaseOf k ≡ Down) × (phaseOf m ≡ Down → ⊥)
-  opens-in (stays e u) r = absurd (unbound-within es u r .unopened refl)
-  opens-in (comes b c i o) r = (is-down k b, λ d. no (sym (down-then m d) ∙ c))
+  pub opens-in : Turn l es (k .connected) (m .connected) → Among (Opened l) es → (phaseOf k ≡ Down) × (phaseOf m ≡ Down → ⊥)
+  opens-in (stays e u) r = absurd (unbound-among es u r .unopened refl)
+  opens-in (comes b c i o) r = (is-down k b, λ d. untrue (sym (down-then m d) ∙ c))
   opens-in (leaves b c i o) r = absurd (o r)
 
-  pub opened-in : Turn l es (k .connected) (m .connected) → phaseOf k ≡ Down → (phaseOf m ≡ Down → ⊥) → Within (Opened l) es
+  pub opened-in : Turn l es (k .connected) (m .connected) → phaseOf k ≡ Down → (phaseOf m ≡ Down → ⊥) → Among (Opened l) es
   opened-in (stays e u) d n = absurd (n (is-down m (e ∙ down-then k d)))
   opened-in (comes b c i o) d n = i
   opened-in (leaves b c i o) d n = absurd (n (is-down m c))
 
-  pub closes-in : Turn l es (k .connected) (m .connected) → Within (Closed l) es → (phaseOf k ≡ Down → ⊥) × (phaseOf m ≡ Down)
-  closes-in (stays e u) r = absurd (unbound-within es u r .unclosed refl)
+  pub closes-in : Turn l es (k .connected) (m .connected) → Among (Closed l) es → (phaseOf k ≡ Down → ⊥) × (phaseOf m ≡ Down)
+  closes-in (stays e u) r = absurd (unbound-among es u r .unclosed refl)
   closes-in (comes b c i o) r = absurd (o r)
-  closes-in (leaves b c i o) r = ((λ d. no (sym (down-then k d) ∙ b)), is-down m c)
+  closes-in (leaves b c i o) r = ((λ d. untrue (sym (down-then k d) ∙ b)), is-down m c)
 
-  pub closed-in : Turn l es (k .connected) (m .connected) → (phaseOf k ≡ Down → ⊥) → phaseOf m ≡ Down → Within (Closed l) es
+  pub closed-in : Turn l es (k .connected) (m .connected) → (phaseOf k ≡ Down → ⊥) → phaseOf m ≡ Down → Among (Closed l) es
   closed-in (stays e u) n d = absurd (n (is-down k (sym e ∙ down-then m d)))
-  closed-in (comes b c i o) n d = no (sym (down-then m d) ∙ c)
+  closed-in (comes b c i o) n d = untrue (sym (down-then m d) ∙ c)
   closed-in (leaves b c i o) n d = i

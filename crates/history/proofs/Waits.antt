@@ -2,9 +2,12 @@
 -- Assumes nothing.
 use Prim.Native.Nat.{ℕ}
 use mathlib.Core.Path.{_≡_, refl}
-use mathlib.Core.Bool.{Bool, true, false}
+use mathlib.Core.Bool.{true}
 use mathlib.Core.List.{List, [], _∷_, _++_}
 use Rattle.basis.specs.Pick.{both}
+use Rattle.basis.specs.Lists.{Among}
+use Rattle.basis.specs.Lists.Among.{first, later}
+use Rattle.basis.proofs.Both.{both-first, both-second}
 use Rattle.answer.specs.declared.Report.{Report}
 use Rattle.answer.specs.declared.Answer.{Answer}
 use Rattle.answer.specs.declared.Answer.the-variants.{Done, Refused}
@@ -15,8 +18,7 @@ use Rattle.link.specs.declared.Phase.the-variants.{Up}
 use Rattle.link.specs.Phase.{greeted, beaten, phaseOf}
 use Rattle.link.proofs.Phases.{phase-cases}
 use Rattle.write_message.specs.Message.{Message}
-use Rattle.lives.specs.Messages.{isReport, Among}
-use Rattle.lives.specs.Messages.Among.{first, later}
+use Rattle.lives.specs.Messages.{isReport}
 use Rattle.calls.specs.Calls.{Call}
 use Rattle.calls.specs.Calls.Call.{connect, disconnect, packet, alarm, status, aggregated, tick, pump}
 use Rattle.calllives.specs.Calls.{linkOf}
@@ -26,7 +28,7 @@ use Rattle.history.specs.Greeted.{Since, Acknowledged, Greeted, Beaten, 
 use Rattle.history.specs.Greeted.Since.{now, before}
 use Rattle.history.specs.Greeted.Acknowledged.{acknowledged}
 use Rattle.history.specs.Greeted.Throughout.{more}
-use Rattle.history.proofs.Listed.{never, no, Leaves, got, sent}
+use Rattle.history.proofs.Listed.{never, Leaves, got, sent}
 use Rattle.history.proofs.Told.{AckedIn, Told, since-more}
 
 -- what was acknowledged in this life went out in this life
@@ -35,37 +37,29 @@ out-before : {l : ℕ} {Out : List ℕ → Event → List Event → Type 0} {id 
 out-before {l = l} (now (acknowledged {p = p} {h = h} c e r)) = since-more l (Got l p) (got l l p) h r
 out-before (before o c r) = before o c (out-before r)
 
-left : (a b : Bool) → both a b ≡ true → a ≡ true
-left true b e = refl
-left false b e = e
-
-right : (a b : Bool) → both a b ≡ true → b ≡ true
-right true b e = e
-right false b e = no e
-
 module _ (l : ℕ) (k : Link) (h : List Event) (w : Told l k h) where
   greeting : greeted k ≡ true → Greeted l h
   unfolding greeted
   greeting e =
-      let r : both (k .versionacked) (k .versiontaken) ≡ true = right (k .versionout) (both (k .versionacked) (k .versiontaken)) e in
-      let a : AckedIn l _ h = w .version-acked (left (k .versionacked) (k .versiontaken) r) in
+      let r : both (k .versionacked) (k .versiontaken) ≡ true = both-second (k .versionout) (both (k .versionacked) (k .versiontaken)) e in
+      let a : AckedIn l _ h = w .version-acked (both-first (k .versionacked) (k .versiontaken) r) in
       record {
         identity = a .identity;
         version-out = out-before (a .acked);
         version-acked = a .acked;
-        version-accepted = w .version-taken (right (k .versionacked) (k .versiontaken) r);
+        version-accepted = w .version-taken (both-second (k .versionacked) (k .versiontaken) r);
       }
 
   beating : beaten k ≡ true → Beaten l h
   unfolding beaten
   beating e =
-      let r : both (k .watchdogacked) (k .watchdogtaken) ≡ true = right (k .watchdogout) (both (k .watchdogacked) (k .watchdogtaken)) e in
-      let a : AckedIn l _ h = w .watchdog-acked (left (k .watchdogacked) (k .watchdogtaken) r) in
+      let r : both (k .watchdogacked) (k .watchdogtaken) ≡ true = both-second (k .watchdogout) (both (k .watchdogacked) (k .watchdogtaken)) e in
+      let a : AckedIn l _ h = w .watchdog-acked (both-first (k .watchdogacked) (k .watchdogtaken) r) in
       record {
         identity = a .identity;
         watchdog-out = out-before (a .acked);
         watchdog-acked = a .acked;
-        watchdog-taken = w .watchdog-taken (right (k .watchdogacked) (k .watchdogtaken) r);
+        watchdog-taken = w .watchdog-taken (both-second (k .watchdogacked) (k .watchdogtaken) r);
       }
 
   pub up-told : phaseOf k ≡ Up → Greeted l h × Beaten l h

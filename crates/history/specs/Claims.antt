@@ -4,6 +4,7 @@ use Prim.Native.Nat.{ℕ, _<_}
 use mathlib.Core.Path.{_≡_}
 use mathlib.Core.Bool.{true}
 use mathlib.Core.List.{List, _∷_}
+use Rattle.basis.specs.Lists.{Among}
 use Rattle.answer.specs.declared.Report.{Report}
 use Rattle.answer.specs.declared.Answer.the-variants.{Done}
 use Rattle.link.specs.declared.Phase.the-variants.{Down}
@@ -14,10 +15,10 @@ use Rattle.site.specs.Site.{linkAt}
 use Rattle.formedness.specs.Formedness.{Wrote}
 use Rattle.calls.specs.Calls.{Call, planOf, outputOf, stepBy, outBy, siteAfter}
 use Rattle.sequences.specs.Typed.{Typed, EachTyped}
-use Rattle.lives.specs.Messages.{isReport, Among}
+use Rattle.lives.specs.Messages.{isReport}
 use Rattle.calllives.specs.Calls.{linkOf}
 use Rattle.demands.specs.Demand3.{Started}
-use Rattle.history.specs.Events.{Event, eventsBy, historyOf, logOf, TellsAll, sentIn, Within}
+use Rattle.history.specs.Events.{Event, eventsBy, historyOf, logOf, TellsAll, sentIn}
 use Rattle.history.specs.Events.Event.{Opened, Closed}
 use Rattle.history.specs.Greeted.{Greeted, Beaten, Waits, OnPrimary, Throughout}
 
@@ -42,10 +43,10 @@ pub record Claims (s : Site) (cs : List Call) : Type 0 where
   pub secondary : Throughout (OnPrimary (s .primary)) (historyOf s cs)
   -- the next call opens a link, in the history, exactly where it was Down before and is not after; and closes one exactly where it was not
   -- Down before and is after
-  pub opens : (c : Call) (l : ℕ) → l < 4 → Within (Opened l) (eventsBy (siteAfter s cs) c) → DownAt (siteAfter s cs) l × (DownAt (siteAfter s (c ∷ cs)) l → ⊥)
-  pub opened : (c : Call) (l : ℕ) → l < 4 → DownAt (siteAfter s cs) l → (DownAt (siteAfter s (c ∷ cs)) l → ⊥) → Within (Opened l) (eventsBy (siteAfter s cs) c)
-  pub closes : (c : Call) (l : ℕ) → l < 4 → Within (Closed l) (eventsBy (siteAfter s cs) c) → (DownAt (siteAfter s cs) l → ⊥) × DownAt (siteAfter s (c ∷ cs)) l
-  pub closed : (c : Call) (l : ℕ) → l < 4 → (DownAt (siteAfter s cs) l → ⊥) → DownAt (siteAfter s (c ∷ cs)) l → Within (Closed l) (eventsBy (siteAfter s cs) c)
+  pub opens : (c : Call) (l : ℕ) → l < 4 → Among (Opened l) (eventsBy (siteAfter s cs) c) → DownAt (siteAfter s cs) l × (DownAt (siteAfter s (c ∷ cs)) l → ⊥)
+  pub opened : (c : Call) (l : ℕ) → l < 4 → DownAt (siteAfter s cs) l → (DownAt (siteAfter s (c ∷ cs)) l → ⊥) → Among (Opened l) (eventsBy (siteAfter s cs) c)
+  pub closes : (c : Call) (l : ℕ) → l < 4 → Among (Closed l) (eventsBy (siteAfter s cs) c) → (DownAt (siteAfter s cs) l → ⊥) × DownAt (siteAfter s (c ∷ cs)) l
+  pub closed : (c : Call) (l : ℕ) → l < 4 → (DownAt (siteAfter s cs) l → ⊥) → DownAt (siteAfter s (c ∷ cs)) l → Among (Closed l) (eventsBy (siteAfter s cs) c)
 
 abbrev pub FromStart : Type 0
 FromStart = (s : Site) → Started s → (cs : List Call) → Claims s cs

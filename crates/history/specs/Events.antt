@@ -95,7 +95,3 @@ sentIn (Opened l ∷ es) = sentIn es
 sentIn (Got l p ∷ es) = sentIn es
 sentIn (Sent l m ∷ es) = m ∷ sentIn es
 sentIn (Closed l ∷ es) = sentIn es
-
-pub data Within (e : Event) : List Event → Type 0 where
-  first : {es : List Event} → Within e (e ∷ es)
-  later : {o : Event} {es : List Event} → Within e es → Within e (o ∷ es)

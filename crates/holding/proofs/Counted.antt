@@ -8,13 +8,14 @@ use native.Mathlib.Omega.{arith}
 use borrow.Author.Tests.{eqb-true, eqb-false, ne-eqb}
 use Rattle.basis.specs.Pick.{pick, bit}
 use Rattle.basis.specs.Lists.{count}
+use Rattle.basis.proofs.Both.{both-first}
 use Rattle.entry.specs.declared.Entry.{Entry}
 use Rattle.pool.specs.declared.Place.{Place}
 use Rattle.pool.specs.declared.Pool.{Pool}
 use Rattle.pool.specs.declared.Wanted.the-variants.{Numbered}
 use Rattle.pool.specs.Places.{noPlace, of, fits}
 use Rattle.pool.specs.Pool.{heldOf, lostOf, issueOf, settleOf, markOf, unmarkOf}
-use Rattle.pool_laws.proofs.Counts.{bit-true, bit-false, and-left, count-set, count-pos}
+use Rattle.pool_laws.proofs.Counts.{bit-true, bit-false, count-set, count-pos}
 use Rattle.pool_laws.proofs.Inv.{Inv, of-link, of-used}
 use Rattle.pool_laws.proofs.Issue.{places-after, lost-after, change, loses}
 use Rattle.pool_laws.proofs.Other.{Touched, absent, there, settle-touches, lost-same, settle-less, mark-alike, unmark-alike, alike-of}
@@ -31,10 +32,10 @@ settle-held p l k m once = go (settleOf p l k) (settle-touches p l k)
     by : (old : Place) (held c n : ℕ) (b : Bool) → eqb l m ≡ b → fits (Numbered l k) old ≡ true → c ≡ 1 → n + bit (of m old) ≡ held → n + pick b c 0 ≡ held
     by old held c n true e t o h =
         let same : l ≡ m = eqb-true l m e in
-        omega (arith, bit-true (of m old) (rw (← same) (and-left (of l old) _ t)))
+        omega (arith, bit-true (of m old) (rw (← same) (both-first (of l old) _ t)))
     by old held c n false e t o h =
         let other : of m old ≡ false =
-        rw (of-used l old (and-left (of l old) _ t)) (ne-eqb _ m (λ z. eqb-false l m e (sym (of-link l old (and-left (of l old) _ t)) ∙ z))) in
+        rw (of-used l old (both-first (of l old) _ t)) (ne-eqb _ m (λ z. eqb-false l m e (sym (of-link l old (both-first (of l old) _ t)) ∙ z))) in
         omega (arith, bit-false (of m old) other)
 
     go : (r : Pool) → Touched p l k (λ (x : Place). noPlace) r → heldOf r m + pick (eqb l m) (count (fits (Numbered l k)) (p .places)) 0 ≡ heldOf p m

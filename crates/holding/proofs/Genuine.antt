@@ -8,6 +8,8 @@ use lib.Dec.{eqb}
 use lib.ListN.{length, drop}
 use native.Mathlib.Omega.{arith}
 use Rattle.basis.specs.Pick.{pick}
+use Rattle.basis.specs.Lists.{Among}
+use Rattle.basis.specs.Lists.Among.{first, later}
 use Rattle.entry.specs.declared.Entry.{Entry}
 use Rattle.pool.specs.declared.Place.{Place}
 use Rattle.pool.specs.declared.Pool.{Pool}
@@ -17,8 +19,6 @@ use Rattle.pool.specs.Pool.{made, issueOf, settleOf, markOf, unmarkOf}
 use Rattle.pool_laws.specs.Acts.{Act, acts, May, Rising}
 use Rattle.pool_laws.specs.Acts.Act.{Issue, Settle, Mark, Unmark}
 use Rattle.pool_laws.specs.Acts.Rising.{then}
-use Rattle.pool_laws.specs.Leaves.{Among}
-use Rattle.pool_laws.specs.Leaves.Among.{first, later}
 use Rattle.pool_laws.specs.Contents.{Every}
 use Rattle.pool_laws.specs.Promises.{Reached}
 use Rattle.pool_laws.specs.Promises.Reached.{after}

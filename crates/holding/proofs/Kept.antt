@@ -7,7 +7,9 @@ use mathlib.Core.List.{List, [], _∷_}
 use mathlib.Core.Logic.{_⊎_, inl, inr}
 use native.Mathlib.Omega.{arith}
 use Rattle.basis.specs.Pick.{pick}
+use Rattle.basis.specs.Lists.{Among}
 use Rattle.basis.proofs.Cases.{bool-cases}
+use Rattle.basis.proofs.Both.{not-both}
 use Rattle.answer.specs.declared.Refusal.the-variants.{NoSuchLink, PoolFull}
 use Rattle.answer.specs.declared.Answer.{Answer}
 use Rattle.answer.specs.declared.Answer.the-variants.{Done, Refused}
@@ -15,11 +17,10 @@ use Rattle.answer.specs.Number.{isDone}
 use Rattle.entry.specs.declared.Entry.{Entry}
 use Rattle.pool.specs.Pool.{heldOf, lostOf}
 use Rattle.pool_laws.specs.Acts.Act.{Settle}
-use Rattle.pool_laws.specs.Leaves.{Held, Among}
+use Rattle.pool_laws.specs.Leaves.{Held}
 use Rattle.pool_laws.specs.Promises.{Reached}
 use Rattle.pool_laws.specs.View.{records}
 use Rattle.pool_laws.specs.Contents.{Every}
-use Rattle.pool_laws.proofs.Counts.{not-both}
 use Rattle.pool_laws.proofs.Kept.{kept as promised}
 use Rattle.site.specs.declared.Site.{Site}
 use Rattle.site.specs.Site.{withIssued}

@@ -6,15 +6,15 @@ use mathlib.Core.List.{List, [], _∷_}
 use mathlib.Core.Logic.{_⊎_, inl, inr}
 use lib.ListN.{length}
 use native.Mathlib.Omega.{arith}
-use Rattle.basis.specs.Lists.{count}
+use Rattle.basis.specs.Lists.{count, Among}
+use Rattle.basis.specs.Lists.Among.{first, later}
 use Rattle.entry.specs.declared.Entry.{Entry}
 use Rattle.pool.specs.declared.Pool.{Pool}
 use Rattle.pool.specs.Pool.{heldOf, lostOf, issueOf, settleOf, markOf, unmarkOf}
 use Rattle.pool_laws.specs.Acts.{Act, acts, newerThan, Rising}
 use Rattle.pool_laws.specs.Acts.Act.{Issue, Settle, Mark, Unmark}
 use Rattle.pool_laws.specs.Acts.Rising.{then}
-use Rattle.pool_laws.specs.Leaves.{Held, Among, NoSettle, SettlesFirst}
-use Rattle.pool_laws.specs.Leaves.Among.{first, later}
+use Rattle.pool_laws.specs.Leaves.{Held, NoSettle, SettlesFirst}
 use Rattle.pool_laws.specs.Promises.{Promises, Reached}
 use Rattle.pool_laws.specs.Promises.Reached.{after}
 use Rattle.pool_laws.proofs.Kept.{kept as promised, reached-keeps}

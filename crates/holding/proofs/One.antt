@@ -10,7 +10,8 @@ use lib.ListN.{length}
 use native.Mathlib.Omega.{arith}
 use borrow.Author.Tests.{ltb-false, lt-ltb}
 use Rattle.basis.specs.Pick.{both}
-use Rattle.basis.specs.Lists.{count}
+use Rattle.basis.specs.Lists.{count, Among}
+use Rattle.basis.proofs.Both.{not-both}
 use Rattle.answer.specs.declared.Refusal.{Refusal}
 use Rattle.answer.specs.declared.Refusal.the-variants.{PoolFull}
 use Rattle.answer.specs.declared.Answer.{Answer}
@@ -21,11 +22,10 @@ use Rattle.pool.specs.declared.Pool.{Pool}
 use Rattle.pool.specs.Pool.{heldOf, lostOf}
 use Rattle.pool_laws.specs.Acts.{Act, acts, newerThan, Rising}
 use Rattle.pool_laws.specs.Acts.Act.{Issue, Settle}
-use Rattle.pool_laws.specs.Leaves.{Held, Among}
+use Rattle.pool_laws.specs.Leaves.{Held}
 use Rattle.pool_laws.specs.Promises.{Reached}
 use Rattle.pool_laws.specs.View.{records}
 use Rattle.pool_laws.specs.Contents.{Every}
-use Rattle.pool_laws.proofs.Counts.{not-both}
 use Rattle.pool_laws.proofs.Kept.{reached-keeps}
 use Rattle.pool_batch.specs.Laws.{numbered, issues, Lasting, Laws}
 use Rattle.pool_batch.proofs.Kept.{kept as batches}

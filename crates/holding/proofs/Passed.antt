@@ -5,6 +5,7 @@ use mathlib.Core.Bool.{Bool, true, false}
 use mathlib.Core.List.{List, [], _∷_, _++_}
 use lib.Dec.{eqb}
 use borrow.Author.Tests.{eqb-false}
+use Rattle.basis.proofs.Both.{not-both}
 use Rattle.answer.specs.declared.Refusal.{Refusal}
 use Rattle.answer.specs.declared.Refusal.the-variants.{
   Ignored,
@@ -26,7 +27,6 @@ use Rattle.answer.specs.declared.Answer.the-variants.{Done, Refused}
 use Rattle.answer.specs.Number.{refusalNumber, isDone}
 use Rattle.answer.specs.Order.{inOrder, judged, None, more, First, here, later}
 use Rattle.answer.proofs.Checks.{done-none, refused-first}
-use Rattle.pool_laws.proofs.Counts.{not-both}
 use Rattle.pool_batch.specs.declared.Batch.{Batch}
 use Rattle.site.specs.declared.Site.{Site}
 use Rattle.site.specs.Call.{issuing, stepped}

@@ -8,7 +8,7 @@ use mathlib.Core.Logic.{_⊎_}
 use lib.Dec.{eqb}
 use lib.ListN.{length}
 use Rattle.basis.specs.Pick.{pick}
-use Rattle.basis.specs.Lists.{count}
+use Rattle.basis.specs.Lists.{count, Among}
 use Rattle.answer.specs.declared.Refusal.{Refusal}
 use Rattle.answer.specs.declared.Refusal.the-variants.{PoolFull}
 use Rattle.answer.specs.declared.Answer.the-variants.{Refused}
@@ -20,7 +20,7 @@ use Rattle.pool.specs.Places.{fits}
 use Rattle.pool.specs.Pool.{heldOf, lostOf}
 use Rattle.pool_laws.specs.Acts.{Act, act, acts, newerThan}
 use Rattle.pool_laws.specs.Acts.Act.{Issue, Settle, Mark, Unmark}
-use Rattle.pool_laws.specs.Leaves.{Held, Among}
+use Rattle.pool_laws.specs.Leaves.{Held}
 use Rattle.pool_laws.specs.Promises.{Reached}
 use Rattle.pool_laws.specs.View.{records}
 use Rattle.pool_laws.specs.Contents.{Every}

@@ -1,7 +1,7 @@
 -- Reading an identity: the function gives the answer, there is one answer only, and what was written is read back.
 -- Assumes nothing.
 use mathlib.Core.Path.{_≡_, refl, sym, ap, subst, _∙_}
-use mathlib.Core.Bool.{Bool, true, false}
+use mathlib.Core.Bool.{true}
 use mathlib.Core.List.{List}
 use Prim.Native.Nat.{ℕ, _+_, _<_}
 use native.Mathlib.Omega.{arith}
@@ -15,11 +15,9 @@ use Rattle.basis.specs.Lists.{sameBytes}
 use Rattle.identity.specs.Read.{SixteenBytes, Says, found, notFound, starts, byteAt, bytesOf, readIdentity, Answers, IdentityRead}
 use Rattle.identity.proofs.Fill.{mapped, mapped-below}
 use Rattle.basis.proofs.Same.{same-true, same-self}
+use Rattle.basis.proofs.Both.{not-both, untrue}
 use Rattle.identity.proofs.Hex.{value-below}
 use Rattle.identity.proofs.Text.{bytes-said, text-lowered}
-
-no-both : {X : Type 0} (b : Bool) → b ≡ true → b ≡ false → X
-no-both b t f = absurd (let z : _≡_ {A = ℕ} 0 1 = cc in omega arith)
 
 byte-below : (l : List ℕ) (p : ℕ) → byteAt l p < 256
 byte-below l p = omega (arith, value-below (getD l p 0), value-below (getD l (p + 1) 0))
@@ -47,15 +45,15 @@ answers s =
     picked (Answers s) b (found (bytesOf (lowered s))) notFound
     (λ e. record {
       accepted = λ _. record { valid = sixteen-said (lowered s); said = same-true (lowered s) (identityText (bytesOf (lowered s))) e };
-      refused = λ f. no-both true refl f;
+      refused = λ f. not-both refl f;
     })
     (λ e. record {
-      accepted = λ t. no-both false t refl;
+      accepted = λ t. untrue t;
       refused = λ _. (
         refl,
         λ bs h.
             let k : lowered s ≡ identityText (bytesOf (lowered s)) = h .said ∙ ap identityText (sym (said-bytes s bs h)) in
-            no-both b (subst (λ (l : List ℕ). sameBytes (lowered s) l ≡ true) k (same-self (lowered s))) e,
+            not-both (subst (λ (l : List ℕ). sameBytes (lowered s) l ≡ true) k (same-self (lowered s))) e,
       );
     })
 
@@ -78,7 +76,7 @@ pub read-written : (bs : List ℕ) → SixteenBytes bs → readIdentity (identit
 read-written bs v =
     let s : Says (identityText bs) bs = record { valid = v; said = text-lowered bs v } in
     one-answer (identityText bs) (readIdentity (identityText bs)) (found bs) (answers (identityText bs))
-    (record { accepted = λ _. s; refused = λ f. no-both true refl f })
+    (record { accepted = λ _. s; refused = λ f. not-both refl f })
 
 -- what equals the function is the answer
 pub read-as : (s : List ℕ) (r : ReadIdentity) → r ≡ readIdentity s → IdentityRead s r

@@ -6,10 +6,10 @@ use mathlib.Core.List.{List}
 use native.Mathlib.Nat.{add-zero, add-assoc}
 use lib.ListN.{length, getD, drop}
 use lib.Seq.{getD-drop}
-use native.Mathlib.Omega.{arith}
 use borrow.Author.Tests.{lt-ltb, le-ltb, ne-eqb, ltb-false, leb-false, eqb-false}
 use Rattle.basis.proofs.Cases.{picked}
-use mathlib.Core.Bool.{Bool, true, false}
+use Rattle.basis.proofs.Both.{untrue}
+use mathlib.Core.Bool.{Bool, true}
 use lib.Dec.{ltb, leb, eqb}
 use Rattle.json_character.proofs.Lists.{past}
 use Rattle.json_character.specs.declared.Char.the-variants.{One, Close, Bad}
@@ -62,13 +62,10 @@ module _ (s : List ℕ) (at : ℕ) where
 
 -- a plain byte is a character by itself
 
-no : {P : Type 0} → false ≡ true → P
-no e = let z : _≡_ {A = ℕ} 0 1 = cc in absurd (omega arith)
-
 plain-raw : (b : ℕ) → isPlain b ≡ true → (0x20 ≤ b) × (b < 0x80) × (¬ (b ≡ 0x22)) × (¬ (b ≡ 0x5c))
 unfolding isPlain
 plain-raw b =
-    picked P (ltb b 0x20) _ _ (λ _ f. no f) λ h. picked P (leb 0x80 b) _ _ (λ _ f. no f) λ g. picked P (eqb b 0x22) _ _ (λ _ f. no f) λ m. picked P (eqb b 0x5c) _ _ (λ _ f. no f) λ n e. (ltb-false _ _ h, leb-false _ _ g, eqb-false _ _ m, eqb-false _ _ n)
+    picked P (ltb b 0x20) _ _ (λ _ f. untrue f) λ h. picked P (leb 0x80 b) _ _ (λ _ f. untrue f) λ g. picked P (eqb b 0x22) _ _ (λ _ f. untrue f) λ m. picked P (eqb b 0x5c) _ _ (λ _ f. untrue f) λ n e. (ltb-false _ _ h, leb-false _ _ g, eqb-false _ _ m, eqb-false _ _ n)
   where
     P : Bool → Type 0
     P q = q ≡ true → (0x20 ≤ b) × (b < 0x80) × (¬ (b ≡ 0x22)) × (¬ (b ≡ 0x5c))

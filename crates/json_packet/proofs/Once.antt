@@ -9,6 +9,7 @@ use Rattle.basis.specs.Pick.{pick, both}
 use Rattle.basis.specs.Lists.{sameBytes}
 use Rattle.basis.proofs.Cases.{bool-cases}
 use Rattle.basis.proofs.Same.{same-true, same-self}
+use Rattle.basis.proofs.Both.{both-true}
 use Rattle.json_value.specs.Grammar.{Json, Jsons, Members}
 use Rattle.json_value.specs.Grammar.Json.{null, bool, num, str, arr, obj}
 use Rattle.json_value.specs.Grammar.Jsons.{jnil, jcons}
@@ -18,10 +19,6 @@ use Rattle.json_packet.specs.Once.{Element, Member, In, Distinct, NoName
 use Rattle.json_packet.specs.Once.Element.{first-element, next-element}
 use Rattle.json_packet.specs.Once.Member.{first-member, next-member}
 use Rattle.json_packet.specs.Once.In.{itself, in-array, in-object}
-
-both-parts : (a b : Bool) → both a b ≡ true → (a ≡ true) × (b ≡ true)
-both-parts true b e = (refl, e)
-both-parts false b e = absurd (false≢true e)
 
 -- a member's name is called
 named : {i : ℕ} {name : List ℕ} {j : Json} {ms : Members} → Member i name j ms → called name ms ≡ true
@@ -41,7 +38,7 @@ begins d j ms e = by (called d ms) refl e
   where
     by : (q : Bool) → called d ms ≡ q → pick q false (both (noTwice j) (once ms)) ≡ true → Begins d j ms
     by true f g = absurd (false≢true g)
-    by false f g = let p = both-parts (noTwice j) (once ms) g in record { new = f; value = p .0; rest = p .1 }
+    by false f g = let p = both-true (noTwice j) (once ms) g in record { new = f; value = p .0; rest = p .1 }
 
 distinct : {i k : ℕ} {name : List ℕ} {x y : Json} {ms : Members} → once ms ≡ true → Member i name x ms → Member k name y ms → i ≡ k
 distinct e first-member first-member = refl
@@ -51,8 +48,8 @@ distinct e (next-member {other = other} {k = k} {ms = ms} m) (next-member n) = a
 
 element-of : {i : ℕ} {j : Json} {js : Jsons} → allOnce js ≡ true → Element i j js → noTwice j ≡ true
 unfolding allOnce
-element-of e (first-element {j = j} {js = js}) = both-parts (noTwice j) (allOnce js) e .0
-element-of e (next-element {k = k} {js = js} m) = element-of (both-parts (noTwice k) (allOnce js) e .1) m
+element-of e (first-element {j = j} {js = js}) = both-true (noTwice j) (allOnce js) e .0
+element-of e (next-element {k = k} {js = js} m) = element-of (both-true (noTwice k) (allOnce js) e .1) m
 
 member-of : {i : ℕ} {name : List ℕ} {j : Json} {ms : Members} → once ms ≡ true → Member i name j ms → noTwice j ≡ true
 member-of e (first-member {name = name} {j = j} {ms = ms}) = begins name j ms e .value

@@ -12,6 +12,7 @@ use borrow.Author.Tests.{lt-ltb}
 use Rattle.basis.specs.Lists.{sameBytes}
 use Rattle.basis.proofs.Cases.{bool-cases, eq-or-ne}
 use Rattle.basis.proofs.Same.{same-true}
+use Rattle.basis.proofs.Both.{untrue}
 use Rattle.json_value.specs.Grammar.{Json, Jsons, Members}
 use Rattle.json_value.specs.Grammar.Json.{null, bool, num, str, arr, obj}
 use Rattle.json_value.specs.Grammar.Jsons.{jnil, jcons}
@@ -19,9 +20,6 @@ use Rattle.json_value.specs.Grammar.Members.{mnil, mcons}
 use Rattle.json_sure.specs.declared.Seen.{Seen}
 use Rattle.json_sure.specs.Sure.{next, mark, markFrom, noneSeen, allOf, noteOf, sure, sureAll, sureOnce}
 use Rattle.json_packet.specs.Names.{called, noTwice, allOnce, once}
-
-no : {P : Type 0} → false ≡ true → P
-no e = absurd (let z : _≡_ {A = ℕ} 0 1 = cc in omega arith)
 
 low : (h : ℕ) (d : List ℕ) → h < 128 → markFrom h d < 128
 unfolding markFrom
@@ -38,9 +36,9 @@ record New (t : Seen) (m : ℕ) (value : Bool) : Type 0 where
   fresh : getD (t .marks) m false ≡ false
 
 all-true : (a v o : Bool) → allOf a v o ≡ true → (a ≡ true) × (v ≡ true) × (o ≡ false)
-all-true a v true h = no h
+all-true a v true h = untrue h
 all-true true v false h = (refl, h, refl)
-all-true false v false h = no h
+all-true false v false h = untrue h
 
 noted : (t : Seen) (m : ℕ) (v : Bool) → m < 128 → noteOf t m v ≡ record { marks = set (t .marks) m true; sure = allOf (t .sure) v (getD (t .marks) m false) }
 unfolding noteOf
@@ -84,7 +82,7 @@ uncalled d t (mcons e j ms) l k h =
     let n = new t (mark e) (sure j) (low 0 e (omega arith)) (sticky (noteOf t (mark e) (sure j)) ms h) in
     let f = marks-noted t (mark e) (sure j) (low 0 e (omega arith)) in
     let g = uncalled d (noteOf t (mark e) (sure j)) ms (ap length f ∙ length-set (t .marks) (mark e) true ∙ l) (ap (λ (xs : List Bool). getD xs (mark d) false) f ∙ kept (t .marks) (mark e) (mark d) (omega (arith, low 0 d (omega arith))) k) h in
-    bool-cases (sameBytes e d) (λ q. no (sym (n .fresh) ∙ ap (λ (x : List ℕ). getD (t .marks) (mark x) false) (same-true e d q) ∙ k)) (λ q. rw (q, g))
+    bool-cases (sameBytes e d) (λ q. untrue (sym (n .fresh) ∙ ap (λ (x : List ℕ). getD (t .marks) (mark x) false) (same-true e d q) ∙ k)) (λ q. rw (q, g))
 
 start : length (noneSeen .marks) ≡ 128
 unfolding noneSeen

@@ -9,6 +9,7 @@ use lib.ListN.{length, getD, drop}
 use native.Mathlib.Omega.{arith}
 use borrow.Author.Tests.{ne-eqb, eq-eqb}
 use Rattle.basis.specs.Pick.{both}
+use Rattle.basis.proofs.Both.{both-first, both-second}
 use Rattle.json_text.specs.Decoded.{Parsed}
 use Rattle.json_text.specs.Decoded.Parsed.{ok, none}
 use Rattle.json_text.specs.declared.Read.{Read}
@@ -121,14 +122,6 @@ module _ (s : List ℕ) (i : ℕ) (ws : Skipped s 0 i) where
 
 -- accepted texts are packets
 
-both-left : (a b : Bool) → both a b ≡ true → a ≡ true
-both-left true b h = refl
-both-left false b h = h
-
-both-right : (a b : Bool) → both a b ≡ true → b ≡ true
-both-right true b h = h
-both-right false b h = absurd (false≢true h)
-
 made : (s u v : List ℕ) (j : Json) → Ws s u → Value depth u v j → Ws v [] → isObject j ≡ true → noTwice j ≡ true → Packet s j
 made s u v null a x b o n = absurd (false≢true o)
 made s u v (bool q) a x b o n = absurd (false≢true o)
@@ -149,10 +142,10 @@ sound s h = go (readValue depth (skipWs s)) (Sound.value depth (skipWs s)) h
     go : (p : Parsed Json) → Sound.ValueIf depth (skipWs s) p → accepted p ≡ true → Packet s (jsonOf p)
     go none v h = absurd (false≢true h)
     go (ok j r) v h =
-        let o = both-left (isObject j) (both (isEmpty (skipWs r)) (noTwice j)) h in
-        let m = both-right (isObject j) (both (isEmpty (skipWs r)) (noTwice j)) h in
-        let e = empty (skipWs r) (both-left (isEmpty (skipWs r)) (noTwice j) m) in
-        made s (skipWs s) r j (Sound.ws s) v (subst (λ (u : List ℕ). Ws r u) e (Sound.ws r)) o (both-right (isEmpty (skipWs r)) (noTwice j) m)
+        let o = both-first (isObject j) (both (isEmpty (skipWs r)) (noTwice j)) h in
+        let m = both-second (isObject j) (both (isEmpty (skipWs r)) (noTwice j)) h in
+        let e = empty (skipWs r) (both-first (isEmpty (skipWs r)) (noTwice j) m) in
+        made s (skipWs s) r j (Sound.ws s) v (subst (λ (u : List ℕ). Ws r u) e (Sound.ws r)) o (both-second (isEmpty (skipWs r)) (noTwice j) m)
 
 -- a packet is accepted
 pub complete : {s : List ℕ} {j : Json} → Packet s j → (isPacket s ≡ true) × (meaningOf s ≡ j)

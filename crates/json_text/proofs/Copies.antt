@@ -12,6 +12,7 @@ use lib.Seq.{set-append-seam}
 use borrow.Author.Tests.{lt-ltb, le-ltb, le-leb, lt-leb}
 use Rattle.basis.specs.Pick.{pick, both}
 use Rattle.basis.proofs.Cases.{lt-or-ge}
+use Rattle.basis.proofs.Both.{both-false}
 use Rattle.json_character.specs.declared.Char.the-variants.{One, Close, Bad}
 use Rattle.json_text.specs.declared.Copied.{Copied}
 use Rattle.json_character.specs.Char.{charOf}
@@ -70,10 +71,6 @@ module _ (n : ℕ) (b : List ℕ) (k : ℕ) where
 
     pub copy-bad : Bad ≡ charOf (drop i s) → noCopy ≡ fillOf n b k (decoded (drop i s))
     copy-bad e = sym (rw (no-char s i e))
-
-both-false : (b : Bool) → both b false ≡ false
-both-false true = refl
-both-false false = refl
 
 -- what is too long, or has a code point above 127, is not copied
 module _ (n : ℕ) (d : List ℕ) where

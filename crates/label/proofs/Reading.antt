@@ -7,6 +7,7 @@ use native.Mathlib.Numerals.{add-one}
 use native.Mathlib.Omega.{arith}
 use lib.Seq.{getD-drop, drop-drop, drop-cons, take-at, length-take-le}
 use Rattle.basis.proofs.Cases.{le-or-lt, bool-cases}
+use Rattle.basis.proofs.Both.{both-true}
 use Rattle.label.proofs.Stands.{Stands}
 use mathlib.Core.Bool.{true, false}
 use mathlib.Core.List.{List, _∷_, _++_}
@@ -18,7 +19,6 @@ use Rattle.number.specs.Alphabet.{isLabel}
 use Rattle.label.specs.declared.LabelRead.{LabelRead}
 use Rattle.label.specs.Label.{labelOf, string}
 use Rattle.label.specs.Reading.{far, textAt, readAt, missed}
-use Rattle.label.proofs.Both.{both-true}
 
 -- how long a label is
 pub label-some : (s : List ℕ) → isLabel s ≡ true → 1 ≤ length s

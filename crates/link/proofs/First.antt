@@ -1,11 +1,10 @@
 -- Our Version goes out on a connected link alone, so where it has happened the link is connected.
 -- Assumes nothing.
-use Prim.Native.Nat.{ℕ}
-use native.Mathlib.Omega.{arith}
 use mathlib.Core.Path.{_≡_, refl}
 use mathlib.Core.Bool.{Bool, true, false}
 use mathlib.Core.List.{List, [], _∷_}
 use Rattle.basis.specs.Pick.{pick, both}
+use Rattle.basis.proofs.Both.{untrue}
 use Rattle.awaited.specs.declared.Awaited.{Awaited}
 use Rattle.awaited.specs.declared.Purpose.the-variants.{Version, Watchdog, Entry, Other}
 use Rattle.awaited.specs.declared.Found.{Found}
@@ -20,11 +19,8 @@ use Rattle.link.specs.Life.{thenPast, happened, letters}
 use Rattle.link.specs.Acts.Act.{Connect, VersionOut, WatchdogOut, EntryOut, OtherOut, Answered, VersionAccepted, WatchdogTaken, AggregatedPassed, AlarmPassed, Close}
 use Rattle.link.specs.Events.Event.{Starts, Ends, Is, Counts, NoEvent}
 
-no : {P : Type 0} → false ≡ true → P
-no q = absurd (let z : _≡_ {A = ℕ} 0 1 = cc in omega arith)
-
 last : (o c : Bool) → pick o false c ≡ true → c ≡ true
-last true c e = no e
+last true c e = untrue e
 last false c e = e
 
 module _ (p : Deed → Bool) (ih : p OurVersion ≡ true → p Connected ≡ true) where
@@ -45,8 +41,8 @@ module _ (p : Deed → Bool) (ih : p OurVersion ≡ true → p Connected ≡ tru
 
   by-refused : (f : Found) → Keeps (refused p f)
   by-refused Nothing = ih
-  by-refused (For Version) = no
-  by-refused (For Watchdog) = by-pick (both (begun p) (pick (beat p) false true)) Ends Counts (λ t. no) ih
+  by-refused (For Version) = untrue
+  by-refused (For Watchdog) = by-pick (both (begun p) (pick (beat p) false true)) Ends Counts (λ t. untrue) ih
   by-refused (For (Entry q)) = ih
   by-refused (For Other) = ih
 
@@ -64,9 +60,9 @@ module _ (p : Deed → Bool) (ih : p OurVersion ≡ true → p Connected ≡ tru
   by-act w WatchdogTaken = by-pick (begun p) (Is TheirWatchdog) NoEvent (λ c. ih) ih
   by-act w AggregatedPassed = by-pick (both (begun p) (beat p)) (Is OurAggregated) NoEvent (λ c. ih) ih
   by-act w AlarmPassed = by-pick (both (begun p) (beat p)) Counts NoEvent (λ c. ih) ih
-  by-act w Close = no
+  by-act w Close = untrue
 
 pub connected-first : (h : List Act) → happened h OurVersion ≡ true → happened h Connected ≡ true
 unfolding happened
-connected-first [] e = no e
+connected-first [] e = untrue e
 connected-first (a ∷ h) e = by-act (λ (d : Deed). happened h d) (connected-first h) (awaitedAfter (letters h)) a e

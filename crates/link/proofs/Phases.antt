@@ -1,12 +1,11 @@
 -- Each phase, by the three Version deeds and the three Watchdog deeds.
 -- Assumes nothing.
-use Prim.Native.Nat.{ℕ}
-use native.Mathlib.Omega.{arith}
 use mathlib.Core.Path.{_≡_, refl, sym, _∙_}
 use mathlib.Core.Bool.{Bool, true, false}
 use mathlib.Core.List.{List}
 use Rattle.basis.specs.Pick.{pick, both}
 use Rattle.basis.proofs.Cases.{bool-cases}
+use Rattle.basis.proofs.Both.{both-first, both-second, not-both}
 use Rattle.link.specs.declared.Link.{Link}
 use Rattle.link.specs.declared.Phase.{Phase}
 use Rattle.link.specs.declared.Phase.the-variants.{Down, Greeting, Beating, Up}
@@ -15,17 +14,6 @@ use Rattle.link.specs.Phase.{greeted, beaten, phaseOf}
 use Rattle.link.specs.Acts.{Act, after}
 use Rattle.link.specs.Promises.{Greeted, Beaten}
 use Rattle.link.proofs.Tells.{tells}
-
-no : {P : Type 0} (b : Bool) → b ≡ true → b ≡ false → P
-no b p q = absurd (let z : _≡_ {A = ℕ} 0 1 = cc in omega arith)
-
-left : (a b : Bool) → both a b ≡ true → a ≡ true
-left true b h = refl
-left false b h = h
-
-right : (a b : Bool) → both a b ≡ true → b ≡ true
-right true b h = h
-right false b h = no false h refl
 
 -- the phase and what led to it
 pub phase-cases : (l : Link) (P : Phase → Type 0)
@@ -54,11 +42,11 @@ module _ (h : List Act) where
   unfolding greeted
   then-greeted e =
       let l : Link = after h in
-      let r : both (l .versionacked) (l .versiontaken) ≡ true = right (l .versionout) (both (l .versionacked) (l .versiontaken)) e in
+      let r : both (l .versionacked) (l .versiontaken) ≡ true = both-second (l .versionout) (both (l .versionacked) (l .versiontaken)) e in
       record {
-        version-out = sym (tells h .deeds OurVersion) ∙ left (l .versionout) (both (l .versionacked) (l .versiontaken)) e;
-        version-acked = sym (tells h .deeds OurVersionAcked) ∙ left (l .versionacked) (l .versiontaken) r;
-        version-accepted = sym (tells h .deeds TheirVersion) ∙ right (l .versionacked) (l .versiontaken) r;
+        version-out = sym (tells h .deeds OurVersion) ∙ both-first (l .versionout) (both (l .versionacked) (l .versiontaken)) e;
+        version-acked = sym (tells h .deeds OurVersionAcked) ∙ both-first (l .versionacked) (l .versiontaken) r;
+        version-accepted = sym (tells h .deeds TheirVersion) ∙ both-second (l .versionacked) (l .versiontaken) r;
       }
 
   pub beaten-then : Beaten h → beaten (after h) ≡ true
@@ -70,11 +58,11 @@ module _ (h : List Act) where
   unfolding beaten
   then-beaten e =
       let l : Link = after h in
-      let r : both (l .watchdogacked) (l .watchdogtaken) ≡ true = right (l .watchdogout) (both (l .watchdogacked) (l .watchdogtaken)) e in
+      let r : both (l .watchdogacked) (l .watchdogtaken) ≡ true = both-second (l .watchdogout) (both (l .watchdogacked) (l .watchdogtaken)) e in
       record {
-        watchdog-out = sym (tells h .deeds OurWatchdog) ∙ left (l .watchdogout) (both (l .watchdogacked) (l .watchdogtaken)) e;
-        watchdog-acked = sym (tells h .deeds OurWatchdogAcked) ∙ left (l .watchdogacked) (l .watchdogtaken) r;
-        watchdog-taken = sym (tells h .deeds TheirWatchdog) ∙ right (l .watchdogacked) (l .watchdogtaken) r;
+        watchdog-out = sym (tells h .deeds OurWatchdog) ∙ both-first (l .watchdogout) (both (l .watchdogacked) (l .watchdogtaken)) e;
+        watchdog-acked = sym (tells h .deeds OurWatchdogAcked) ∙ both-first (l .watchdogacked) (l .watchdogtaken) r;
+        watchdog-taken = sym (tells h .deeds TheirWatchdog) ∙ both-second (l .watchdogacked) (l .watchdogtaken) r;
       }
 
   pub not-greeted : (Greeted h → ⊥) → greeted (after h) ≡ false
@@ -84,10 +72,10 @@ module _ (h : List Act) where
   not-beaten n = bool-cases (beaten (after h)) (λ t. absurd (n (then-beaten t))) (λ f. f)
 
   pub never-greeted : greeted (after h) ≡ false → Greeted h → ⊥
-  never-greeted f g = no (greeted (after h)) (greeted-then g) f
+  never-greeted f g = not-both (greeted-then g) f
 
   pub never-beaten : beaten (after h) ≡ false → Beaten h → ⊥
-  never-beaten f g = no (beaten (after h)) (beaten-then g) f
+  never-beaten f g = not-both (beaten-then g) f
 
 module _ (l : Link) where
   pub is-up : l .connected ≡ true → greeted l ≡ true → beaten l ≡ true → phaseOf l ≡ Up

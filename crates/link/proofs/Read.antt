@@ -7,6 +7,7 @@ use mathlib.Core.List.{List, [], _∷_}
 use mathlib.Core.Bool.{Bool, true, false}
 use Rattle.basis.specs.Pick.{pick, both}
 use Rattle.basis.proofs.Cases.{bool-cases}
+use Rattle.basis.proofs.Both.{untrue}
 use Rattle.identity.specs.declared.Identity.{Identity}
 use Rattle.awaited.specs.declared.Awaited.{Awaited}
 use Rattle.awaited.specs.declared.Purpose.the-variants.{Version, Watchdog, Entry, Other}
@@ -27,21 +28,18 @@ use Rattle.link.specs.Since.Closes.{close, version-refused, watchdog-ref
 use Rattle.link.specs.Since.Since.{started, done, before}
 use Rattle.link.proofs.Flags.{eight}
 
-no : {P : Type 0} → false ≡ true → P
-no q = absurd (let z : _≡_ {A = ℕ} 0 1 = cc in omega arith)
-
 never : {P : Type 0} → _≡_ {A = ℕ} 0 1 → P
 never z = absurd (omega arith)
 
 same : (e d : Deed) → is e d ≡ true → e ≡ d
-same Connected = eight (λ (d : Deed). is Connected d ≡ true → Connected ≡ d) (λ _. refl) no no no no no no no
-same OurVersion = eight (λ (d : Deed). is OurVersion d ≡ true → OurVersion ≡ d) no (λ _. refl) no no no no no no
-same OurVersionAcked = eight (λ (d : Deed). is OurVersionAcked d ≡ true → OurVersionAcked ≡ d) no no (λ _. refl) no no no no no
-same TheirVersion = eight (λ (d : Deed). is TheirVersion d ≡ true → TheirVersion ≡ d) no no no (λ _. refl) no no no no
-same OurWatchdog = eight (λ (d : Deed). is OurWatchdog d ≡ true → OurWatchdog ≡ d) no no no no (λ _. refl) no no no
-same OurWatchdogAcked = eight (λ (d : Deed). is OurWatchdogAcked d ≡ true → OurWatchdogAcked ≡ d) no no no no no (λ _. refl) no no
-same TheirWatchdog = eight (λ (d : Deed). is TheirWatchdog d ≡ true → TheirWatchdog ≡ d) no no no no no no (λ _. refl) no
-same OurAggregated = eight (λ (d : Deed). is OurAggregated d ≡ true → OurAggregated ≡ d) no no no no no no no (λ _. refl)
+same Connected = eight (λ (d : Deed). is Connected d ≡ true → Connected ≡ d) (λ _. refl) untrue untrue untrue untrue untrue untrue untrue
+same OurVersion = eight (λ (d : Deed). is OurVersion d ≡ true → OurVersion ≡ d) untrue (λ _. refl) untrue untrue untrue untrue untrue untrue
+same OurVersionAcked = eight (λ (d : Deed). is OurVersionAcked d ≡ true → OurVersionAcked ≡ d) untrue untrue (λ _. refl) untrue untrue untrue untrue untrue
+same TheirVersion = eight (λ (d : Deed). is TheirVersion d ≡ true → TheirVersion ≡ d) untrue untrue untrue (λ _. refl) untrue untrue untrue untrue
+same OurWatchdog = eight (λ (d : Deed). is OurWatchdog d ≡ true → OurWatchdog ≡ d) untrue untrue untrue untrue (λ _. refl) untrue untrue untrue
+same OurWatchdogAcked = eight (λ (d : Deed). is OurWatchdogAcked d ≡ true → OurWatchdogAcked ≡ d) untrue untrue untrue untrue untrue (λ _. refl) untrue untrue
+same TheirWatchdog = eight (λ (d : Deed). is TheirWatchdog d ≡ true → TheirWatchdog ≡ d) untrue untrue untrue untrue untrue untrue (λ _. refl) untrue
+same OurAggregated = eight (λ (d : Deed). is OurAggregated d ≡ true → OurAggregated ≡ d) untrue untrue untrue untrue untrue untrue untrue (λ _. refl)
 
 itself : (d : Deed) → is d d ≡ true
 itself = eight (λ (d : Deed). is d d ≡ true) refl refl refl refl refl refl refl refl
@@ -50,7 +48,7 @@ itself = eight (λ (d : Deed). is d d ≡ true) refl refl refl refl refl refl re
 module _ (h : List Act) (a : Act) (d : Deed) (ih : happened h d ≡ true → Since d h) where
   back : (v : Event) → eventAfter h a ≡ v → thenPast (happened h) v d ≡ true → Since d (a ∷ h)
   back Starts e q = subst (λ (x : Deed). Since x (a ∷ h)) (same Connected d q) (started e)
-  back Ends e q = no q
+  back Ends e q = untrue q
   back (Is b) e q =
       bool-cases (is b d)
       (λ t. subst (λ (x : Deed). Since x (a ∷ h)) (same b d t) (done e))
@@ -60,7 +58,7 @@ module _ (h : List Act) (a : Act) (d : Deed) (ih : happened h d ≡ true → Sin
 
 since : (h : List Act) (d : Deed) → happened h d ≡ true → Since d h
 unfolding happened eventAfter
-since [] d e = no e
+since [] d e = untrue e
 since (a ∷ h) d e = back h a d (since h d) (eventAfter h a) refl e
 
 -- and forth

@@ -1,13 +1,13 @@
 -- A link that is not connected is the one closed link, after every sequence of acts.
 -- Assumes nothing.
-use Prim.Native.Nat.{ℕ, _+_}
-use native.Mathlib.Omega.{arith}
+use Prim.Native.Nat.{_+_}
 use mathlib.Core.Path.{_≡_, refl, ap, _∙_, subst}
 use mathlib.Core.Bool.{Bool, true, false}
 use mathlib.Core.List.{List, [], _∷_}
 use lib.Dec.{ltb}
 use Rattle.basis.specs.Pick.{pick}
 use Rattle.basis.proofs.Cases.{bool-cases}
+use Rattle.basis.proofs.Both.{not-both}
 use Rattle.identity.specs.declared.Identity.{Identity}
 use Rattle.awaited.specs.declared.Purpose.the-variants.{Version, Watchdog, Entry, Other}
 use Rattle.awaited.specs.declared.Found.{Found}
@@ -22,9 +22,6 @@ use Rattle.link.specs.Steps.{connectOf, versionOutOf, mayJudgeOf, versio
 use Rattle.link.specs.Acts.{Act, does, after}
 use Rattle.link.specs.Acts.Act.{Connect, VersionOut, WatchdogOut, EntryOut, OtherOut, Answered, VersionAccepted, WatchdogTaken, AggregatedPassed, AlarmPassed, Close}
 
-no : {P : Type 0} (b : Bool) → b ≡ true → b ≡ false → P
-no b p q = absurd (let z : _≡_ {A = ℕ} 0 1 = cc in omega arith)
-
 -- on the closed link every act but Connect does nothing
 removed-closed : (id : Identity) → withAwaited closedLink (removeOf nothingAwaited id) ≡ closedLink
 removed-closed id = rw (remove-none nothingAwaited id (nothing-found id))
@@ -36,7 +33,7 @@ answered-closed id false = rw (nothing-found id) (removed-closed id)
 
 on-closed : (a : Act) → does closedLink a .connected ≡ false → does closedLink a ≡ closedLink
 unfolding does connectOf versionOutOf versionAcceptedOf mayJudgeOf mayBeatOf watchdogOutOf watchdogTakenOf messageOutOf aggregatedPassedOf alarmPassedOf phaseOf
-on-closed Connect e = no true refl e
+on-closed Connect e = not-both refl e
 on-closed (VersionOut id t) e = refl
 on-closed (WatchdogOut id t) e = refl
 on-closed (EntryOut id t q) e = refl
@@ -50,8 +47,8 @@ on-closed Close e = refl
 
 -- on a connected link only closing ends the connection
 stays : {P : Type 0} (b : Bool) (x y : Link) → x .connected ≡ true → y .connected ≡ true → pick b x y .connected ≡ false → P
-stays true x y p q e = no (x .connected) p e
-stays false x y p q e = no (y .connected) q e
+stays true x y p q e = not-both p e
+stays false x y p q e = not-both q e
 
 noted-stays : (f : Found) (m : Link) → m .connected ≡ true → noted f m .connected ≡ true
 unfolding noted notedFor

@@ -1,11 +1,10 @@
 -- A call that is done is refused by none of its conditions.
 -- Assumes nothing.
-use Prim.Native.Nat.{ℕ}
 use mathlib.Core.Path.{_≡_, refl}
 use mathlib.Core.Bool.{Bool, true, false}
 use mathlib.Core.List.{List, [], _∷_}
-use native.Mathlib.Omega.{arith}
 use Rattle.basis.specs.Pick.{pick}
+use Rattle.basis.proofs.Both.{untrue}
 use Rattle.answer.specs.declared.Refusal.{Refusal}
 use Rattle.answer.specs.declared.Refusal.the-variants.{Ignored, NoSuchLink, WrongPhase, NothingDue, ManyAwaited, IdentityAwaited}
 use Rattle.answer.specs.declared.Report.{Report}
@@ -16,9 +15,6 @@ use Rattle.answer.specs.Order.None.{none, more}
 use Rattle.answer.specs.Number.{isDone}
 use Rattle.site.specs.declared.Site.{Site}
 use Rattle.site.specs.Call.{stepped}
-
-no : {P : Type 0} → false ≡ true → P
-no q = absurd (let z : _≡_ {A = ℕ} 0 1 = cc in omega arith)
 
 -- none of the conditions of a call's links and identity applies
 pub record Passed (applies : Refusal → Bool) : Type 0 where
@@ -34,19 +30,19 @@ module _ (b : Bool) (x : Refusal) (a : Answer) where
   here = by b
     where
       by : (b : Bool) → isDone (pick b (Refused x) a) ≡ true → b ≡ false
-      by true e = no e
+      by true e = untrue e
       by false e = refl
 
   pub there : isDone (pick b (Refused x) a) ≡ true → isDone a ≡ true
   there = by b
     where
       by : (b : Bool) → isDone (pick b (Refused x) a) ≡ true → isDone a ≡ true
-      by true e = no e
+      by true e = untrue e
       by false e = e
 
 done-answer : (s t : Site) (a : Answer) → isDone (stepped s t a .answer) ≡ true → isDone a ≡ true
 done-answer s t (Done r) e = refl
-done-answer s t (Refused x) e = no e
+done-answer s t (Refused x) e = untrue e
 
 module _ (f : Refusal → Bool) (r : Report) where
   none-of : (xs : List Refusal) → isDone (judged f xs (Done r)) ≡ true → None f xs

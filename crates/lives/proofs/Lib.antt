@@ -5,6 +5,5 @@ pub mod Lived
 pub mod Born
 pub mod Stocked
 pub mod Stocking
-pub mod Messages
 pub mod Heeded
 pub mod Spoken

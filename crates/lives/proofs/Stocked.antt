@@ -8,7 +8,10 @@ use native.Mathlib.Omega.{arith}
 use borrow.Author.Tests.{eqb-true}
 use lib.Dec.{eqb, ltb, leb}
 use lib.ListN.{length}
-use Rattle.basis.specs.Pick.{pick, both}
+use Rattle.basis.specs.Pick.{pick}
+use Rattle.basis.specs.Lists.{Among}
+use Rattle.basis.specs.Lists.Among.{first, later}
+use Rattle.basis.proofs.Both.{both-second}
 use Rattle.entry.specs.declared.Entry.{Entry}
 use Rattle.pool.specs.declared.Place.{Place}
 use Rattle.pool.specs.declared.Pool.{Pool}
@@ -18,8 +21,6 @@ use Rattle.pool.specs.Places.{of}
 use Rattle.pool.specs.Pool.{emptyOf, unmarkOf, oldestUnsent}
 use Rattle.pool_laws.specs.Acts.{Act, act, acts}
 use Rattle.pool_laws.specs.Acts.Act.{Issue, Settle, Mark, Unmark}
-use Rattle.pool_laws.specs.Leaves.{Among}
-use Rattle.pool_laws.specs.Leaves.Among.{first, later}
 use Rattle.pool_laws.specs.Contents.{Every}
 use Rattle.pool_laws.specs.View.{records, recordsIn, insert, insertIf, firstWhere, notSent}
 use Rattle.pool_laws.proofs.Contents.{same}
@@ -116,10 +117,6 @@ module _ (P : Entry → Type 0) where
       go : (t : Bool) → Every P (insert x l) → Every P (pick t (x ∷ z ∷ l) (z ∷ insert x l))
       go true r = (h, (b, a))
       go false r = (b, r)
-
-both-second : (a b : Bool) → both a b ≡ true → b ≡ true
-both-second true b e = e
-both-second false b e = absurd (let z : _≡_ {A = ℕ} 0 1 = cc in omega arith)
 
 own-records : (p : List Place) (m : ℕ) → Every (λ (e : Entry). e .link ≡ m) (recordsIn p m)
 unfolding recordsIn

@@ -4,6 +4,7 @@ use Prim.Native.Nat.{ℕ}
 use mathlib.Core.Path.{_≡_}
 use mathlib.Core.Bool.{Bool, true, false}
 use mathlib.Core.List.{List, [], _∷_}
+use Rattle.basis.specs.Lists.{Among}
 use Rattle.write_message.specs.Message.{Message}
 use Rattle.write_message.specs.Message.Message.{version, watchdog, ack, notAck, alarm, aggregated, statuses}
 
@@ -39,11 +40,7 @@ isAnswer (statuses kind id component time entries) = false
 -- an answer with these characters of an mId
 pub data AnswerTo (received : List ℕ) : Message → Type 0 where
   acknowledged : AnswerTo received (ack received)
-  refused : {reason : ℕ} → AnswerTo received (notAck received reason)
-
-pub data Among (m : Message) : List Message → Type 0 where
-  first : {ms : List Message} → Among m (m ∷ ms)
-  later : {o : Message} {ms : List Message} → Among m ms → Among m (o ∷ ms)
+  refused : {reason : List ℕ} → AnswerTo received (notAck received reason)
 
 -- no answer is among them
 abbrev pub NoAnswer : List Message → Type 0

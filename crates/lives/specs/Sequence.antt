@@ -5,6 +5,7 @@ use mathlib.Core.Path.{_≡_}
 use mathlib.Core.Bool.{Bool, true, false}
 use mathlib.Core.List.{List, [], _∷_}
 use Rattle.basis.specs.Pick.{pick}
+use Rattle.basis.specs.Lists.{Among}
 use Rattle.answer.specs.declared.Refusal.{Refusal}
 use Rattle.answer.specs.Number.{isDone}
 use Rattle.pool.specs.Pool.{emptyOf}
@@ -22,7 +23,7 @@ use Rattle.site.specs.Site.{linkAt, roleOf}
 use Rattle.site.specs.Call.{Plan, stepOf}
 use Rattle.lives.specs.Moves.{Shaped, Moves, Heedful}
 use Rattle.lives.specs.Stock.{Stocked, Stocks}
-use Rattle.lives.specs.Messages.{isReport, isAlarm, Among}
+use Rattle.lives.specs.Messages.{isReport, isAlarm}
 
 -- acts, the first first, upon a history, the latest first
 abbrev pub upon : List Act → List Act → List Act

@@ -15,7 +15,7 @@ use Rattle.number.specs.Decimal.{digits, digitsBelow}
 use Rattle.calendar.specs.Days.{leapOf, years, months, dayOf}
 use Rattle.calendar.specs.Civil.{yearFrom, monthFrom, dateOf}
 use Rattle.calendar.specs.Text.{secondText, milliText, timeText}
-use Rattle.calendar.specs.Read.{readSecond, readMilli, readTime}
+use Rattle.calendar.specs.Read.{readSecond, readDecimals, readRest, readTime}
 use Rattle.machine.specs.Json.{versionIn}
 use Rattle.machine.specs.Life.{close, carriedBy, dueUp, due}
 use Rattle.machine.specs.Answers.{isIgnored, needs, reasons}
@@ -43,11 +43,12 @@ marked =
     }
 
 pub conversation : Conversation
-unfolding rawOf charOf readChars decoded skipWs literal readScalar readName readStart readMark readEntry readItems readInside readValue noTwice allOnce once isPacket meaningOf hexDigit lowerHex identityText digits digitsBelow leapOf years months dayOf yearFrom monthFrom dateOf secondText milliText timeText readSecond readMilli readTime apart readNum readNumber versionIn close carriedBy dueUp due isIgnored needs reasons happens subscribe unsubscribe intervals becomes aggregates lose makeRoom issue isStuck connects closes ticks sends answers answered refuses carriedOut replying receives effectOf conditions step
+unfolding rawOf charOf readChars decoded skipWs literal readScalar readName readStart readMark readEntry readItems readInside readValue noTwice allOnce once isPacket meaningOf hexDigit lowerHex identityText digits digitsBelow leapOf years months dayOf yearFrom monthFrom dateOf secondText milliText timeText readSecond readDecimals readRest readTime apart readNum readNumber versionIn close carriedBy dueUp due isIgnored needs reasons happens subscribe unsubscribe intervals becomes aggregates lose makeRoom issue isStuck connects closes ticks sends answers answered refuses carriedOut replying receives effectOf conditions step
 conversation =
     record {
       greets = refl;
       comes-up = refl;
+      decimals-told = refl;
       alarm-told = refl;
       alarm-settled = refl;
       numbers = refl;

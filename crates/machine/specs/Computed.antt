@@ -8,6 +8,7 @@ use mathlib.Core.Option.{Option, some, none}
 use lib.IntN.{negsuc}
 use lib.ListN.{take}
 use Rattle.basis.specs.Text.{text}
+use Rattle.answer.specs.Times.{lastTime}
 use Rattle.calendar.specs.Text.{timeText}
 use Rattle.write_message.specs.declared.Value.the-variants.{Undefined}
 use Rattle.write_message.specs.declared.Told.the-variants.{Response}
@@ -35,6 +36,7 @@ use Rattle.machine.specs.Example.{
   theirId,
   asks,
   orders,
+  beats,
   greeting,
   quiet,
   says,
@@ -52,7 +54,7 @@ counts p = holds p 0 ∷ holds p 1 ∷ holds p 2 ∷ []
 pub record Marked : Type 0 where
   pub leap-day : timeText 951782400000 ≡ text "2000-02-29T00:00:00.000Z"
   pub a-time : timeText 1254398371571 ≡ text "2009-10-01T11:59:31.571Z"
-  pub last-time : timeText 253402300799999 ≡ text "9999-12-31T23:59:59.999Z"
+  pub last-time : timeText lastTime ≡ text "9999-12-31T23:59:59.999Z"
   pub status-record : recordBytes (heldAs 1 (ofStatus 5 (some (negsuc 1)) 1254398371571) 7 false)
       ≡ 0x51 ∷ 0x60 ∷ 0x01 ∷ 0x24 ∷ 0x0F ∷ 0xF8 ∷ 0x26 ∷ 0xF3 ∷ 0xFF ∷ 0xFF ∷ 0xFF ∷ 0xFE ∷ 0x00 ∷ 0x00 ∷ 0x00 ∷ 0x07 ∷ []
   pub alarm-record : take 2 (recordBytes (heldAs 0 (ofAlarm 3 (alarmOf true false false Issue 1254398371571)) 7 false)) ≡ 0x00 ∷ 0xC4 ∷ []
@@ -77,6 +79,10 @@ pub record Conversation : Type 0 where
       ∷ done (ack theirId ∷ []) [] (some noon)
       ∷ []
   pub comes-up : leaves (started 2) greeting ≡ up
+  -- request 05: "The clock hint is given only where three or more stood; with fewer the watchdog is acknowledged and no hint given." Of six
+  -- the last three are dropped
+  pub decimals-told : outcomes up (atNoon (beats "2009-10-01T11:59:31Z") ∷ atNoon (beats "2009-10-01T11:59:31.57Z") ∷ atNoon (beats "2009-10-01T11:59:31.571999Z") ∷ [])
+      ≡ says (ack theirId ∷ []) ∷ says (ack theirId ∷ []) ∷ done (ack theirId ∷ []) [] (some noon) ∷ []
   -- an alarm becomes active: the first pass sends the AggregatedStatus, then the alarm with its record; either answer settles it
   pub alarm-told : outcomes up (atNoon (alarmInput 0 true) ∷ pumped 3 ∷ pumped 4 ∷ atNoon (gets "MessageAck\",\"oMId\":\"04040404-0404-4404-8404-040404040404\"}") ∷ pumped 5 ∷ [])
       ≡ quiet ∷ says (aggregated (own 3) (text "C0") noon 0 ∷ []) ∷ says (alarmNow 4 0 noon false true false ∷ []) ∷ quiet ∷ refused 7 ∷ []
@@ -101,8 +107,8 @@ pub record Conversation : Type 0 where
       ∷ later 4999 tick ∷ later 5000 tick
       ∷ [])
       ≡ says (ack theirId ∷ statuses Response (own 15) (text "C9") noon (status (text "S1") (text "release") Undefined ∷ []) ∷ [])
-      ∷ says (notAck theirId 23 ∷ [])
-      ∷ says (notAck theirId 14 ∷ [])
-      ∷ says (notAck theirId 15 ∷ [])
+      ∷ says (notAck theirId (text "Unknown status") ∷ [])
+      ∷ says (notAck theirId (text "Missing element") ∷ [])
+      ∷ says (notAck theirId (text "Bad value") ∷ [])
       ∷ says (ack theirId ∷ [])
       ∷ quiet ∷ quiet ∷ quiet ∷ []

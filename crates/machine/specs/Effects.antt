@@ -5,14 +5,12 @@ use Prim.Native.String.{String}
 use mathlib.Core.Bool.{Bool, true, false, not}
 use mathlib.Core.List.{List, [], _∷_, map}
 use mathlib.Core.Option.{Option, some, none}
-use Rattle.basis.specs.Lists.{sameBytes}
 use Rattle.basis.specs.Text.{text}
-use Rattle.names.specs.Names.{names}
 use Rattle.identity.specs.Version.{version4Of}
 use Rattle.json_value.specs.Grammar.{Json}
 use Rattle.write_message.specs.Message.{Message}
 use Rattle.write_message.specs.Message.Message.{version, watchdog, ack, notAck}
-use Rattle.machine.specs.Words.{Bytes, if_then_else_, _and_, maybe, orElse, keep, placeOf, upTo}
+use Rattle.machine.specs.Words.{Bytes, if_then_else_, _and_, maybe, orElse, keep, upTo}
 use Rattle.machine.specs.State.{
   Sent,
   Awaited,
@@ -31,7 +29,7 @@ use Rattle.machine.specs.State.{
 }
 use Rattle.machine.specs.State.Sent.{ourVersion, ourWatchdog, noRecord, theRecord}
 use Rattle.machine.specs.State.Act.{connect, disconnect, packet, alarmInput, statusValue, aggregatedValue, tick, pump}
-use Rattle.machine.specs.Json.{readPacket, stringOf, isType, timeIn}
+use Rattle.machine.specs.Json.{readPacket, stringOf, isType, hintIn}
 use Rattle.machine.specs.Life.{
   isBeating,
   isPrimary,
@@ -146,9 +144,9 @@ answered l j m =
     maybe (only m) (answers l (stringOf "oMId" j) (isType "MessageAck" j) m) (awaitedBy (lifeAt m l) (stringOf "oMId" j))
 
 -- ---- packet: any other, "If the call is done, any other packet except an answer gets one answer."
--- "An answer's oMId repeats the received mId unchanged." A reason is written by its text; a Message has its place among the names
+-- "An answer's oMId repeats the received mId unchanged."
 abbrev pub refusal : Json → String → Message
-refusal j reason = notAck (stringOf "mId" j) (orElse 0 (placeOf (sameBytes (text reason)) names))
+refusal j reason = notAck (stringOf "mId" j) (text reason)
 
 -- "A failure of these three sends MessageNotAck and closes the link."
 unfoldable pub refuses : ℕ → Json → Machine → String → Effect
@@ -160,12 +158,12 @@ agreed chosen k = lifeOf (k .connected) (nowTaken (k .versions)) (k .watchdogs) 
 abbrev pub versionAccepted : ℕ → Json → Machine → Effect
 versionAccepted l j m = only (withLife l (agreed (orElse [] (common j)) (lifeAt m l)) m)
 
--- "Only the primary's watchdog time is a clock hint."
+-- "Only the primary's watchdog time is a clock hint." Request 05: "with fewer [decimals] the watchdog is acknowledged and no hint given."
 abbrev pub watchdogTaken : ℕ → Json → Machine → Effect
 watchdogTaken l j m =
     effect (withLife l (withWatchdogs (nowTaken (lifeAt m l .watchdogs)) (lifeAt m l)) m)
     [] [] []
-    (if isPrimary m l then timeIn (stringOf "wTs" j) else none)
+    (if isPrimary m l then hintIn (stringOf "wTs" j) else none)
 
 abbrev pub alarmOrdered : ℕ → Json → Machine → ℕ → Effect
 alarmOrdered t j m i = happens m i (ordered t j (alarmAt m i))

@@ -85,6 +85,10 @@ abbrev pub orders : String → Act
 orders aSp = packet 0 (random 15)
     (text "{\"mType\":\"rSMsg\",\"type\":\"Alarm\",\"mId\":\"CD613E30-d8f1-6adf-91b7-584a2265b1f5\",\"cId\":\"C1\",\"aCId\":\"A1\",\"aSp\":\"" ++ text aSp ++ text "\"}") 4096
 
+abbrev pub beats : String → Act
+beats wTs = packet 0 (random 15)
+    (text "{\"mType\":\"rSMsg\",\"type\":\"Watchdog\",\"mId\":\"CD613E30-d8f1-6adf-91b7-584a2265b1f5\",\"wTs\":\"" ++ text wTs ++ text "\"}") 4096
+
 abbrev pub greeting : List Call
 greeting =
     atNoon (connect 0)

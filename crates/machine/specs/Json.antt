@@ -109,10 +109,19 @@ numbered ps = take 3 (map (λ p. orElse 0 (numberIn 255 p)) ps ++ replicate 3 0)
 unfoldable pub versionIn : Bytes → Option (List ℕ)
 versionIn s = if leb (length (parts s)) 3 and each (λ p. isSome (numberIn 255 p)) (parts s) then some (numbered (parts s)) else none
 
--- "Times are `YYYY-MM-DDThh:mm:ss.mmmZ`, 1970 to 9999, hh to 23, both ways."
+-- "Times are `YYYY-MM-DDThh:mm:ss.mmmZ`, 1970 to 9999, hh to 23, both ways." Request 05: "Reading a time shall accept zero to six decimals,
+-- drop those after the third, and say how many stood there."
 abbrev pub said : Time → Option ℕ
-said (Is t) = some t
+said (Is t decimals) = some t
 said No = none
 
 abbrev pub timeIn : Bytes → Option ℕ
 timeIn s = said (readTime s)
+
+-- Request 05: "The clock hint is given only where three or more stood"
+abbrev pub hinted : Time → Option ℕ
+hinted (Is t decimals) = if leb 3 decimals then some t else none
+hinted No = none
+
+abbrev pub hintIn : Bytes → Option ℕ
+hintIn s = hinted (readTime s)

@@ -18,8 +18,3 @@ past m c = record { call = c; gave = step m c .0 }
 pub data Run (s : Start) : List Past → Machine → Type 0 where
   begun : {m : Machine} → Begins s (some m) → Run s [] m
   next : {h : List Past} {m : Machine} (c : Call) → Run s h m → Run s (past m c ∷ h) (step m c .1)
-
--- being one of a list
-pub data Among {A : Type 0} (x : A) : List A → Type 0 where
-  here : {xs : List A} → Among x (x ∷ xs)
-  later : {y : A} {xs : List A} → Among x xs → Among x (y ∷ xs)

@@ -6,13 +6,14 @@ use mathlib.Core.List.{List, [], _∷_}
 use mathlib.Core.Option.{Option, some, none}
 use lib.Dec.{ltb, leb}
 use lib.ListN.{length}
+use Rattle.answer.specs.Times.{lastTime}
 use Rattle.json_value.specs.Grammar.{Json}
 use Rattle.machine.specs.Words.{Bytes, if_then_else_, _and_, _or_, maybe, isSome, Case, _when_, firstOf}
 use Rattle.machine.specs.State.{Machine, atEnd, lifeAt, Act, Call, Outcome, Effect}
 use Rattle.machine.specs.State.Act.{connect, disconnect, packet, alarmInput, statusValue, aggregatedValue, tick, pump}
 use Rattle.machine.specs.State.Outcome.{refused, done}
 use Rattle.machine.specs.Json.{readPacket}
-use Rattle.machine.specs.Table.{lastTime, lastSequence}
+use Rattle.machine.specs.Table.{lastSequence}
 use Rattle.machine.specs.Life.{isDown, isAwaited, due}
 use Rattle.machine.specs.Answers.{isAnswer, isIgnored, wantsReply, reasonOf}
 use Rattle.machine.specs.Pool.{issueAll, sticks}

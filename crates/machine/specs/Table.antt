@@ -8,15 +8,13 @@ use mathlib.Core.Option.{Option, some, none}
 use lib.Dec.{eqb, ltb, leb}
 use lib.ListN.{length, getD, replicate}
 use Rattle.basis.specs.Lists.{sameBytes}
+use Rattle.answer.specs.Times.{lastTime}
 use Rattle.table_whole.specs.Table.{Row, noRow, Table}
 use Rattle.table_whole.specs.Bytes.{tableBytes}
 use Rattle.table_whole.specs.Allowed.{Allowed}
 use Rattle.machine.specs.Words.{Bytes, _and_, maybe, placeOf}
 use Rattle.machine.specs.State.{Setup, Start, Machine, machine, poolOf, alarmOf, fresh}
 use Rattle.machine.specs.State.Event.{Issue}
-
-abbrev pub lastTime : ℕ
-lastTime = 253402300799999
 
 abbrev pub lastSequence : ℕ
 lastSequence = 4294967295

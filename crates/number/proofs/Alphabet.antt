@@ -12,6 +12,7 @@ use lib.ListN.{length, drop, getD, drop-of-length-le}
 use lib.Seq.{drop-cons}
 use borrow.Author.Tests.{le-leb, ne-eqb}
 use Rattle.basis.specs.Pick.{both}
+use Rattle.basis.proofs.Both.{both-true}
 use Rattle.number.specs.Alphabet.{inAlphabet, allInAlphabet, isLabel}
 use Rattle.number.specs.Decimal.{digits, decimalOf}
 use Rattle.number.proofs.Digits.{by-digits, one-digit, more-digits}
@@ -42,13 +43,9 @@ label s h k e = rw (le-leb 1 (length s) h, le-leb (length s) 32 k, e)
 pub all-read : (s : List ℕ) (i : ℕ) → length s ≤ i → allInAlphabet (drop i s) ≡ true
 all-read s i h = ap allInAlphabet (drop-of-length-le s {i = i} h)
 
-pub both-parts : (a b : Bool) → both a b ≡ true → (a ≡ true) × (b ≡ true)
-both-parts true b e = (refl, e)
-both-parts false b e = absurd (let z : _≡_ {A = ℕ} 0 1 = cc in omega arith)
-
 all-snoc : (s : List ℕ) (b : ℕ) → allInAlphabet s ≡ true → inAlphabet b ≡ true → allInAlphabet (s ++ (b ∷ [])) ≡ true
 all-snoc [] b e h = rw h
-all-snoc (x ∷ s) b e h = let k = both-parts (inAlphabet x) (allInAlphabet s) e in rw (k .0) (all-snoc s b (k .1) h)
+all-snoc (x ∷ s) b e h = let k = both-true (inAlphabet x) (allInAlphabet s) e in rw (k .0) (all-snoc s b (k .1) h)
 
 digit-in : (d : ℕ) → d < 10 → inAlphabet (48 + d) ≡ true
 digit-in d h = simp (le-leb 0x20 (48 + d) (omega arith), le-leb (48 + d) 0x7E (omega arith), ne-eqb (48 + d) 34 (λ e. omega arith), ne-eqb (48 + d) 92 (λ e. omega arith))

@@ -9,15 +9,16 @@ use lib.Dec.{leb, eqb}
 use lib.ListN.{length, getD}
 use borrow.Author.Tests.{le-leb, leb-true, ne-eqb, eqb-false}
 use Rattle.basis.specs.Pick.{both}
+use Rattle.basis.proofs.Both.{both-true}
 use Rattle.number.specs.Alphabet.{inAlphabet, allInAlphabet, isLabel}
 use Rattle.number.specs.Claims.{OfAlphabet, Used, Claims}
-use Rattle.number.proofs.Alphabet.{both-parts, not-taken, label}
+use Rattle.number.proofs.Alphabet.{not-taken, label}
 
 byte-of : (b : ℕ) → inAlphabet b ≡ true → OfAlphabet b
 byte-of b e =
-    let low = both-parts (leb 0x20 b) _ e in
-    let high = both-parts (leb b 0x7E) _ (low .1) in
-    let marks = both-parts (not (eqb b 34)) _ (high .1) in
+    let low = both-true (leb 0x20 b) _ e in
+    let high = both-true (leb b 0x7E) _ (low .1) in
+    let marks = both-true (not (eqb b 34)) _ (high .1) in
     record {
       least = leb-true 0x20 b (low .0);
       most = leb-true b 0x7E (high .0);
@@ -31,8 +32,8 @@ byte-in b o =
 
 each-of : (s : List ℕ) → allInAlphabet s ≡ true → (i : ℕ) → i < length s → OfAlphabet (getD s i 0)
 each-of [] e i h = absurd (omega arith)
-each-of (b ∷ s) e zero h = byte-of b (both-parts (inAlphabet b) (allInAlphabet s) e .0)
-each-of (b ∷ s) e (suc i) h = each-of s (both-parts (inAlphabet b) (allInAlphabet s) e .1) i (omega arith)
+each-of (b ∷ s) e zero h = byte-of b (both-true (inAlphabet b) (allInAlphabet s) e .0)
+each-of (b ∷ s) e (suc i) h = each-of s (both-true (inAlphabet b) (allInAlphabet s) e .1) i (omega arith)
 
 all-in : (s : List ℕ) → ((i : ℕ) → i < length s → OfAlphabet (getD s i 0)) → allInAlphabet s ≡ true
 all-in [] f = refl
@@ -40,8 +41,8 @@ all-in (b ∷ s) f = rw (byte-in b (f 0 (omega arith))) (all-in s (λ i h. f (su
 
 used : (s : List ℕ) → isLabel s ≡ true → Used s
 used s e =
-    let some = both-parts (leb 1 (length s)) _ e in
-    let short = both-parts (leb (length s) 32) (allInAlphabet s) (some .1) in
+    let some = both-true (leb 1 (length s)) _ e in
+    let short = both-true (leb (length s) 32) (allInAlphabet s) (some .1) in
     record { some = leb-true 1 (length s) (some .0); short = leb-true (length s) 32 (short .0); each = each-of s (short .1) }
 
 pub kept : Claims

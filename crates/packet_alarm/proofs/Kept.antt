@@ -71,7 +71,7 @@ module _ (s : Site) (l time : ℕ) (id : Identity) (received : List ℕ) where
   unfolding requestTaken changeTaken
   secondary f e =
       let P : Taken → Type 0 = λ (t : Taken). AnAnswer received (t .plan .messages) in
-      cases P f (λ reason. not-acknowledged reason)
+      cases P f (λ reason. not-acknowledged _)
       (λ k. by-order P k (f .order)
       (subst (λ (x : Role). P (requestBy s l time id received k x)) (sym e) acknowledged)
       (λ order. acknowledged))

@@ -18,7 +18,7 @@ use Rattle.packet_alarm.specs.Orders.{alarmTaken}
 -- one answer, and nothing behind it
 pub data AnAnswer (received : List ℕ) : List Message → Type 0 where
   acknowledged : AnAnswer received (ack received ∷ [])
-  not-acknowledged : (reason : ℕ) → AnAnswer received (notAck received reason ∷ [])
+  not-acknowledged : (reason : List ℕ) → AnAnswer received (notAck received reason ∷ [])
 
 pub record Claims : Type 0 where
   -- a secondary is never sent the alarm it asked for

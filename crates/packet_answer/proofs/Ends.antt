@@ -8,6 +8,7 @@ use Rattle.answer.specs.declared.Refusal.{Refusal}
 use Rattle.answer.specs.declared.Refusal.the-variants.{IdentityAwaited, SequenceSpent, PoolFull}
 use Rattle.answer.specs.Given.{Hint}
 use Rattle.answer.specs.Given.Hint.{none, clock}
+use Rattle.names.specs.Names.{nameOf}
 use Rattle.identity.specs.declared.Identity.{Identity}
 use Rattle.entry.specs.declared.Entry.{Entry}
 use Rattle.awaited.specs.Awaited.{findOf, isAwaited}
@@ -37,20 +38,20 @@ two m n {xs} w = w .all ∙ ap (λ (x : List (List ℕ)). putAll (output xs 0) (
 
 -- answered with a reason
 pub not-acks : (s : Site) (time : ℕ) (received : List ℕ) (reason : ℕ) {xs ys : List ℕ} {end : ℕ} {r : Step}
-    → Wrote xs 0 (pieces (notAck received reason)) ys end
+    → Wrote xs 0 (pieces (notAck received (nameOf reason))) ys end
     → r ≡ doneAt s time end 0
     → Gives s time never (notAcked s received reason .plan) xs ys r
 not-acks s time received reason w e =
-    let o = one (notAck received reason) w in
+    let o = one (notAck received (nameOf reason)) w in
     record { step = e ∙ ap (λ (x : Out). doneAt s time (x .end) 0) o; out = rw e (ap (λ (x : Out). x .bytes) o) }
 
 -- answered with a reason, and the link is closed
 pub closes : (s : Site) (l time : ℕ) (received : List ℕ) (reason : ℕ) {xs ys : List ℕ} {end : ℕ} {r : Step}
-    → Wrote xs 0 (pieces (notAck received reason)) ys end
+    → Wrote xs 0 (pieces (notAck received (nameOf reason))) ys end
     → r ≡ doneAt (closeAt s l) time end (maskOf l)
     → Gives s time never (closing s l received reason .plan) xs ys r
 closes s l time received reason w e =
-    let o = one (notAck received reason) w in
+    let o = one (notAck received (nameOf reason)) w in
     record { step = e ∙ ap (λ (x : Out). doneAt (closeAt s l) time (x .end) (maskOf l)) o; out = rw e (ap (λ (x : Out). x .bytes) o) }
 
 -- a call without a condition of its own ends as its batch says

@@ -10,7 +10,7 @@ use Rattle.answer.specs.declared.Refusal.the-variants.{IdentityAwaited}
 use Rattle.answer.specs.Given.{Hint}
 use Rattle.answer.specs.Given.Hint.{none}
 use Rattle.identity.specs.declared.Identity.{Identity}
-use Rattle.names.specs.Names.{indexOf}
+use Rattle.names.specs.Names.{nameOf, indexOf}
 use Rattle.entry.specs.declared.Entry.{Entry}
 use Rattle.awaited.specs.declared.Purpose.the-variants.{Other}
 use Rattle.awaited.specs.Awaited.{findOf, isAwaited}
@@ -35,12 +35,12 @@ takenRefuses s l id t = when IdentityAwaited (both (t .replies) (isAwaited (find
 -- answered with a reason, and nothing is done
 abbrev pub notAcked : Site → List ℕ → ℕ → Taken
 notAcked s received reason =
-    record { plan = record { site = s; issued = []; messages = notAck received reason ∷ []; closed = 0; hint = none }; replies = false }
+    record { plan = record { site = s; issued = []; messages = notAck received (nameOf reason) ∷ []; closed = 0; hint = none }; replies = false }
 
 -- answered with a reason, and the link is closed
 abbrev pub closing : Site → ℕ → List ℕ → ℕ → Taken
 closing s l received reason =
-    record { plan = record { site = closeAt s l; issued = []; messages = notAck received reason ∷ []; closed = maskOf l; hint = none }; replies = false }
+    record { plan = record { site = closeAt s l; issued = []; messages = notAck received (nameOf reason) ∷ []; closed = maskOf l; hint = none }; replies = false }
 
 -- acknowledged: the next site, the records it issues, a clock hint
 abbrev pub acked : Site → List Entry → List ℕ → Hint → Taken

@@ -3,6 +3,7 @@ ghost use mathlib.Core.Path.{_≡_};
 ghost use Rattle.awaited.specs.Awaited.{findOf, isAwaited};
 ghost use Rattle.pool_batch.specs.Batch.{beginning};
 ghost use Rattle.link.specs.Steps.{fullOf};
+ghost use Rattle.names.specs.Names.{nameOf};
 ghost use Rattle.output.specs.Put.{Wrote};
 ghost use Rattle.write_message.specs.Message.Message.{ack as ackOf, notAck};
 ghost use Rattle.write_message.specs.Pieces.{pieces};
@@ -78,7 +79,7 @@ pub fn ack(received: Received, out: &mut [u8]) -> usize
 
 // MessageNotAck, at the beginning of the output.
 fn refusal(received: Received, reason: usize, out: &mut [u8]) -> usize
-    ensures { λ r. ⌜ Wrote (now (out .entry)) 0 (pieces (notAck (received .bytes) reason)) (now (out .exit)) r ⌝ }
+    ensures { λ r. ⌜ Wrote (now (out .entry)) 0 (pieces (notAck (received .bytes) (nameOf reason))) (now (out .exit)) r ⌝ }
 {
     let characters = received.bytes;
     write_message::answers::not_ack(out, 0, &characters, reason)

@@ -1,9 +1,10 @@
 -- The claims about the answers and about what greets are kept.
 -- Assumes nothing.
-use Prim.Native.Nat.{ℕ}
+use Prim.Native.Nat.{ℕ, _≤_, _<_}
 use mathlib.Core.Path.{_≡_, refl, sym, _∙_}
 use mathlib.Core.Bool.{Bool, true, false}
 use mathlib.Core.List.{List, map}
+use borrow.Author.Tests.{le-leb, lt-leb}
 use Rattle.basis.specs.Text.{text}
 use Rattle.number.specs.declared.Number.the-variants.{Is}
 use Rattle.number.specs.Decimal.{digits, digitsBelow}
@@ -14,6 +15,7 @@ use Rattle.awaited.specs.declared.Found.the-variants.{For}
 use Rattle.awaited.specs.Awaited.{findOf}
 use Rattle.pool.specs.Pool.{settleOf, numbered, withOf}
 use Rattle.pool.specs.declared.Spot.the-variants.{Nowhere}
+use Rattle.link.specs.declared.Role.{Role}
 use Rattle.link.specs.declared.Role.the-variants.{Primary, Secondary}
 use Rattle.link.specs.Steps.{closesOf}
 use Rattle.read_head.specs.declared.Verdict.{Verdict}
@@ -81,8 +83,19 @@ offers table = refl
 hints : (s : Site) (l : ℕ) (received : List ℕ) (f : GotTime)
     → roleOf s l ≡ Primary
     → f .verdict ≡ Good
+    → 3 ≤ f .decimals
     → watchdogTaken s l received f .plan .hint ≡ clock (f .time)
-hints s l received f e h = rw (h, e) refl
+hints s l received f e h d = rw (h, e, le-leb 3 (f .decimals) d) refl
+
+fewer : (s : Site) (l : ℕ) (received : List ℕ) (f : GotTime) (v : Verdict) (q : Role)
+    → f .verdict ≡ v
+    → roleOf s l ≡ q
+    → f .decimals < 3
+    → watchdogTaken s l received f .plan .hint ≡ none
+fewer s l received f Good Primary h e d = rw (h, e, lt-leb 3 (f .decimals) d) refl
+fewer s l received f Good Secondary h e d = rw (h, e) refl
+fewer s l received f Missing q h e d = rw h refl
+fewer s l received f Bad q h e d = rw h refl
 
 unhinted : (s : Site) (l : ℕ) (received : List ℕ) (f : GotTime) (v : Verdict)
     → f .verdict ≡ v
@@ -114,6 +127,7 @@ kept =
       older = older;
       newer = newer;
       hints = hints;
+      fewer = λ s l received f d. fewer s l received f (f .verdict) (roleOf s l) refl refl d;
       no-hint = λ s l received f e. unhinted s l received f (f .verdict) refl e;
       version-only-answered = λ s l received f. silent (f .verdict) s received _ (judged-silent s l received (judge (own s) (f .offer)));
       watchdog-only-answered = λ s l received f. silent (f .verdict) s received _ refl;

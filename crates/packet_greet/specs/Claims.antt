@@ -1,6 +1,6 @@
 -- What is claimed of the answers and of what greets. proofs/Kept.antt proves it.
 -- Assumes nothing.
-use Prim.Native.Nat.{ℕ}
+use Prim.Native.Nat.{ℕ, _≤_, _<_}
 use mathlib.Core.Path.{_≡_}
 use mathlib.Core.Bool.{Bool, false}
 use mathlib.Core.List.{List, map}
@@ -47,11 +47,13 @@ pub record Claims : Type 0 where
   pub offers : (table : SiteTable) → map versionOf offered ≡ map Is (versionsIn (ownOffer table))
   pub older : versionOf (text "3.1.5") ≡ Is (version 3 1 5)
   pub newer : versionOf (text "3.2") ≡ Is (version 3 2 0)
-  -- only the primary's Watchdog gives a hint, and its time is the hint
+  -- only the primary's Watchdog gives a hint, and only with three or more decimals; its time is the hint
   pub hints : (s : Site) (l : ℕ) (received : List ℕ) (f : GotTime)
       → roleOf s l ≡ Primary
       → f .verdict ≡ Good
+      → 3 ≤ f .decimals
       → watchdogTaken s l received f .plan .hint ≡ clock (f .time)
+  pub fewer : (s : Site) (l : ℕ) (received : List ℕ) (f : GotTime) → f .decimals < 3 → watchdogTaken s l received f .plan .hint ≡ none
   pub no-hint : (s : Site) (l : ℕ) (received : List ℕ) (f : GotTime) → roleOf s l ≡ Secondary → watchdogTaken s l received f .plan .hint ≡ none
   -- neither sends a message of its own
   pub version-only-answered : (s : Site) (l : ℕ) (received : List ℕ) (f : VersionFields) → versionTaken s l received f .replies ≡ false

@@ -173,21 +173,33 @@ pub fn version(
     version_by(s, l, time, received, read_lists::read_version(packet), out)
 }
 
-// Only the primary's watchdog time is a clock hint.
-fn hint(role: Role, time: u64) -> u64
-    ensures { λ r. ⌜ r ≡ hintTime (hintFrom role time) ⌝ }
+// Only the primary's watchdog time is a clock hint, and only with three or more decimals.
+fn hint(role: Role, f: GotTime) -> u64
+    ensures { λ r. ⌜ r ≡ hintTime (hintFrom role f) ⌝ }
 {
     match role {
-        Role::Primary => time,
+        Role::Primary => {
+            if 3 <= f.decimals {
+                f.time
+            } else {
+                0
+            }
+        }
         Role::Secondary => 0,
     }
 }
 
-fn hinted(role: Role, time: u64) -> u16
-    ensures { λ r. ⌜ r ≡ hintBit (hintFrom role time) ⌝ }
+fn hinted(role: Role, f: GotTime) -> u16
+    ensures { λ r. ⌜ r ≡ hintBit (hintFrom role f) ⌝ }
 {
     match role {
-        Role::Primary => 1,
+        Role::Primary => {
+            if 3 <= f.decimals {
+                1
+            } else {
+                0
+            }
+        }
         Role::Secondary => 0,
     }
 }
@@ -199,7 +211,7 @@ fn beaten(s: Site, l: u16) -> Site
     s.with_link(l, k.watchdog_taken())
 }
 
-fn beat(s: Site, l: u16, time: u64, received: Received, theirs: u64, out: &mut [u8]) -> Step
+fn beat(s: Site, l: u16, time: u64, received: Received, theirs: GotTime, out: &mut [u8]) -> Step
     ensures { λ r. ⌜ Gives s time never (beatOf s l (received .bytes) theirs .plan) (now (out .entry)) (now (out .exit)) r ⌝ }
 {
     let role = s.role(l);
@@ -213,7 +225,7 @@ fn watchdog_by(s: Site, l: u16, time: u64, received: Received, f: GotTime, out: 
 {
     let v = f.verdict;
     match v {
-        Verdict::Good => beat(s, l, time, received, f.time, out),
+        Verdict::Good => beat(s, l, time, received, f, out),
         Verdict::Missing => packet_answer::not_ack(
             s,
             time,

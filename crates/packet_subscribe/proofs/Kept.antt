@@ -7,7 +7,8 @@ use mathlib.Core.List.{List, [], _∷_, _++_}
 use native.Mathlib.Numerals.{add-one}
 use native.Mathlib.Omega.{arith}
 use lib.ListN.{length, length-append}
-use Rattle.basis.specs.Pick.{pick, both}
+use Rattle.basis.specs.Pick.{pick}
+use Rattle.basis.proofs.Both.{both-true}
 use Rattle.entry.specs.declared.Entry.{Entry}
 use Rattle.pool_batch.specs.Laws.{Owned}
 use Rattle.read_head.specs.declared.Verdict.{Verdict}
@@ -21,10 +22,6 @@ use Rattle.site.specs.declared.Site.{Site}
 use Rattle.packet_answer.specs.Taken.{Taken, byVerdict}
 use Rattle.packet_subscribe.specs.Subscribing.{recordOf, records, changed, judged, asked, subscribingTaken}
 use Rattle.packet_subscribe.specs.Claims.{Claims}
-
-both-true : (a b : Bool) → both a b ≡ true → (a ≡ true) × (b ≡ true)
-both-true true b e = (refl, e)
-both-true false b e = (e, absurd (let w : _≡_ {A = ℕ} 0 1 = cc in omega arith))
 
 one : (s : Site) (l time : ℕ) (x : Sought) → isSought x ≡ true → length (recordOf s l time x) ≡ 1
 one s l time (Is k) e = refl

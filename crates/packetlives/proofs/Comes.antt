@@ -4,9 +4,10 @@ use Prim.Native.Nat.{ℕ, _<_}
 use mathlib.Core.Path.{_≡_, refl, sym}
 use mathlib.Core.Bool.{Bool, true, false}
 use mathlib.Core.List.{List, [], _∷_}
-use native.Mathlib.Omega.{arith}
 use borrow.Author.Tests.{leb-false}
 use Rattle.basis.specs.Pick.{pick}
+use Rattle.basis.proofs.Both.{untrue}
+use Rattle.basis.proofs.Among.{among-none, among-one, among-two}
 use Rattle.answer.specs.declared.Refusal.the-variants.{IdentityAwaited}
 use Rattle.answer.specs.Given.{Hint}
 use Rattle.identity.specs.declared.Identity.{Identity}
@@ -23,7 +24,7 @@ use Rattle.link.specs.Acts.{Act, does}
 use Rattle.link.specs.Acts.Act.{OtherOut}
 use Rattle.link.specs.Careful.{Sendable}
 use Rattle.write_message.specs.Message.{Message}
-use Rattle.write_message.specs.Message.Message.{ack, notAck}
+use Rattle.write_message.specs.Message.Message.{ack}
 use Rattle.read_head.specs.declared.Verdict.{Verdict}
 use Rattle.read_head.specs.declared.Verdict.the-variants.{Good, Missing, Bad}
 use Rattle.site.specs.declared.Site.{Site}
@@ -32,16 +33,12 @@ use Rattle.packet_answer.specs.Taken.{Taken, takenRefuses, notAcked, acked, rep
 use Rattle.lives.specs.Moves.{onlyOn, Shaped, Moves, Heedful}
 use Rattle.lives.specs.Moves.Heedful.{none}
 use Rattle.lives.specs.Stock.{AlarmsFor, Stocked, Stocks}
-use Rattle.lives.specs.Messages.{isReport, isAlarm, isAnswer, Among}
+use Rattle.lives.specs.Messages.{isReport, isAlarm, isAnswer}
 use Rattle.lives.specs.Messages.AnswerTo.{acknowledged, refused}
 use Rattle.lives.specs.Messages.AnsweredOnce.{once}
 use Rattle.lives.proofs.Links.{Beside, moves-one, moves-none, moves-nothing}
 use Rattle.lives.proofs.Heeded.{other-out, heeds-one}
-use Rattle.lives.proofs.Messages.{among-none, among-one, among-two}
 use Rattle.packetlives.specs.Answering.{replyActs, Answering}
-
-pub no : {P : Type 0} → false ≡ true → P
-no q = absurd (let z : _≡_ {A = ℕ} 0 1 = cc in omega arith)
 
 module _ (s : Site) (l time : ℕ) (id : Identity) (received : List ℕ) where
   pub data Comes : Taken → Type 0 where
@@ -64,7 +61,7 @@ module _ (s : Site) (l time : ℕ) (id : Identity) (received : List ℕ) where
       by false f = f refl
 
   unawaited : (f : Found) → isAwaited f ≡ false → f ≡ Nothing
-  unawaited (For p) e = no (sym e)
+  unawaited (For p) e = untrue (sym e)
   unawaited Nothing e = refl
 
   sendable : fullOf (linkAt s l) ≡ false → isAwaited (findOf (linkAt s l .awaited) id) ≡ false → Sendable (linkAt s l) id
@@ -82,9 +79,9 @@ module _ (s : Site) (l time : ℕ) (id : Identity) (received : List ℕ) where
             (moves-none s sh (notAcked s received n .plan) refl (record { subscriptions = refl; alarms = refl; statuses = refl; primary = refl }));
         heeds = λ e. heeds-one s l [] none;
         answered = once refused (λ m r. among-none r);
-        reports = λ m r. among-one (λ (o : Message). isReport o ≡ true → false ≡ true) m (notAck received n) no r;
+        reports = λ m r. among-one (λ (o : Message). isReport o ≡ true → false ≡ true) m _ untrue r;
         stocks = record { pool = λ h. h; issued = tt };
-        no-alarm = λ e m r. among-one (λ (o : Message). isAlarm o ≡ false) m (notAck received n) refl r;
+        no-alarm = λ e m r. among-one (λ (o : Message). isAlarm o ≡ false) m _ refl r;
       }
 
   pub answering : {t : Taken} → Comes t → Answering s l id received t (replyActs t id time)
@@ -95,7 +92,7 @@ module _ (s : Site) (l time : ℕ) (id : Identity) (received : List ℕ) where
         moves = λ sh. moves-nothing s sh (acked after es received hint .plan) l (moves-none s sh (acked after es received hint .plan) e b);
         heeds = λ e. heeds-one s l [] none;
         answered = once acknowledged (λ m r. among-none r);
-        reports = λ m r. among-one (λ (o : Message). isReport o ≡ true → false ≡ true) m (ack received) no r;
+        reports = λ m r. among-one (λ (o : Message). isReport o ≡ true → false ≡ true) m (ack received) untrue r;
         stocks = record { pool = λ k. rw p k; issued = h };
         no-alarm = λ e m r. among-one (λ (o : Message). isAlarm o ≡ false) m (ack received) refl r;
       }

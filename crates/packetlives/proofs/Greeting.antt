@@ -5,6 +5,8 @@ use mathlib.Core.Path.{_≡_, refl, sym}
 use mathlib.Core.Bool.{Bool, true, false}
 use mathlib.Core.List.{List, [], _∷_}
 use Rattle.basis.specs.Pick.{pick}
+use Rattle.basis.proofs.Both.{untrue}
+use Rattle.basis.proofs.Among.{among-none, among-one}
 use Rattle.answer.specs.Given.{Hint}
 use Rattle.answer.specs.Given.Hint.{none as no-hint}
 use Rattle.identity.specs.declared.Identity.{Identity}
@@ -19,9 +21,10 @@ use Rattle.link.specs.Steps.{versionAcceptedOf, watchdogTakenOf, closesOf, answ
 use Rattle.link.specs.Acts.{Act, does}
 use Rattle.link.specs.Acts.Act.{Answered, VersionAccepted, WatchdogTaken, Close}
 use Rattle.write_message.specs.Message.{Message}
-use Rattle.write_message.specs.Message.Message.{ack, notAck}
+use Rattle.write_message.specs.Message.Message.{ack}
 use Rattle.read_versions.specs.declared.Judged.{Judged}
 use Rattle.read_versions.specs.declared.Judged.the-variants.{Chosen, RsmpVersion, SiteId, SxlVersion}
+use Rattle.read_head.specs.declared.GotTime.{GotTime}
 use Rattle.read_head.specs.declared.Verdict.{Verdict}
 use Rattle.read_head.specs.declared.Verdict.the-variants.{Good, Missing, Bad}
 use Rattle.site.specs.declared.Site.{Site}
@@ -40,10 +43,9 @@ use Rattle.lives.specs.Messages.AnswerTo.{acknowledged, refused}
 use Rattle.lives.specs.Messages.AnsweredOnce.{once}
 use Rattle.lives.proofs.Links.{moves-one}
 use Rattle.lives.proofs.Heeded.{isSilent, silent, heeds-one}
-use Rattle.lives.proofs.Messages.{among-none, among-one}
 use Rattle.packetlives.specs.Answering.{Answering}
 use Rattle.packetlives.specs.Packets.{whereGood, judgedActs, Answers, AllAnswers}
-use Rattle.packetlives.proofs.Comes.{no, reason, answering}
+use Rattle.packetlives.proofs.Comes.{reason, answering}
 
 module _ (s : Site) (l : ℕ) (id : Identity) (received : List ℕ) where
   -- acknowledged, the link goes on by an act that sends nothing
@@ -54,7 +56,7 @@ module _ (s : Site) (l : ℕ) (id : Identity) (received : List ℕ) where
             (record { subscriptions = refl; alarms = refl; statuses = refl; primary = refl });
         heeds = λ e. heeds-one s l (a ∷ []) (silent a q none);
         answered = once acknowledged (λ m r. among-none r);
-        reports = λ m r. among-one (λ (o : Message). isReport o ≡ true → false ≡ true) m (ack received) no r;
+        reports = λ m r. among-one (λ (o : Message). isReport o ≡ true → false ≡ true) m (ack received) untrue r;
         stocks = record { pool = λ h. h; issued = tt };
         no-alarm = λ e m r. among-one (λ (o : Message). isAlarm o ≡ false) m (ack received) refl r;
       }
@@ -67,9 +69,9 @@ module _ (s : Site) (l : ℕ) (id : Identity) (received : List ℕ) where
             (record { subscriptions = refl; alarms = refl; statuses = refl; primary = refl });
         heeds = λ e. heeds-one s l (Close ∷ []) (silent Close refl none);
         answered = once refused (λ m r. among-none r);
-        reports = λ m r. among-one (λ (o : Message). isReport o ≡ true → false ≡ true) m (notAck received n) no r;
+        reports = λ m r. among-one (λ (o : Message). isReport o ≡ true → false ≡ true) m _ untrue r;
         stocks = record { pool = λ h. then (Unmark l) h tt; issued = tt };
-        no-alarm = λ e m r. among-one (λ (o : Message). isAlarm o ≡ false) m (notAck received n) refl r;
+        no-alarm = λ e m r. among-one (λ (o : Message). isAlarm o ≡ false) m _ refl r;
       }
 
   pub good : (v : Verdict) (t : Taken) (xs : List Act) → Answering s l id received t xs → Answering s l id received (byVerdict v s received t) (whereGood v xs)
@@ -84,9 +86,9 @@ module _ (s : Site) (l : ℕ) (id : Identity) (received : List ℕ) where
   judged SiteId = closes siteId
   judged SxlVersion = closes sxlVersion
 
-  pub beaten : (t : ℕ) → Answering s l id received (beat s l received t) (WatchdogTaken ∷ [])
+  pub beaten : (f : GotTime) → Answering s l id received (beat s l received f) (WatchdogTaken ∷ [])
   unfolding does
-  beaten t = one-act WatchdogTaken (hintFrom (roleOf s l) t) refl
+  beaten f = one-act WatchdogTaken (hintFrom (roleOf s l) f) refl
 
   pub judged-alone : (j : Judged) → versionJudged s l received j .replies ≡ false
   judged-alone (Chosen v) = refl

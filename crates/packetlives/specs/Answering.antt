@@ -5,6 +5,7 @@ use mathlib.Core.Path.{_≡_}
 use mathlib.Core.Bool.{Bool, true, false}
 use mathlib.Core.List.{List, [], _∷_}
 use Rattle.basis.specs.Pick.{pick}
+use Rattle.basis.specs.Lists.{Among}
 use Rattle.answer.specs.declared.Refusal.the-variants.{IdentityAwaited}
 use Rattle.identity.specs.declared.Identity.{Identity}
 use Rattle.link.specs.declared.Role.the-variants.{Secondary}
@@ -16,7 +17,7 @@ use Rattle.site.specs.Site.{linkAt, roleOf}
 use Rattle.packet_answer.specs.Taken.{Taken, takenRefuses}
 use Rattle.lives.specs.Moves.{onlyOn, Shaped, Moves, Heedful}
 use Rattle.lives.specs.Stock.{Stocks}
-use Rattle.lives.specs.Messages.{isReport, isAlarm, Among, AnsweredOnce}
+use Rattle.lives.specs.Messages.{isReport, isAlarm, AnsweredOnce}
 
 -- a reply goes out, carrying no record; nothing else happens to the link
 abbrev pub replyActs : Taken → Identity → ℕ → List Act

@@ -7,6 +7,9 @@ use mathlib.Core.List.{List, [], _∷_}
 use native.Mathlib.Omega.{arith}
 use borrow.Author.Tests.{ltb-true}
 use Rattle.basis.specs.Pick.{pick, both}
+use Rattle.basis.specs.Lists.{Among}
+use Rattle.basis.specs.Lists.Among.{first, later}
+use Rattle.basis.proofs.Among.{among-none}
 use Rattle.answer.specs.Given.Hint.{none}
 use Rattle.identity.specs.declared.Identity.{Identity}
 use Rattle.entry.specs.declared.Entry.{Entry as Record}
@@ -23,8 +26,7 @@ use Rattle.pool.specs.declared.Sought.the-variants.{Found as FoundEntry, Nothin
 use Rattle.pool.specs.Pool.{oldestUnsent}
 use Rattle.pool_laws.specs.Acts.{Act}
 use Rattle.pool_laws.specs.Acts.Act.{Settle}
-use Rattle.pool_laws.specs.Leaves.{Among, NoSettle}
-use Rattle.pool_laws.specs.Leaves.Among.{first, later}
+use Rattle.pool_laws.specs.Leaves.{NoSettle}
 use Rattle.pool_batch.specs.Laws.{Owned}
 use Rattle.link.specs.declared.Role.{Role}
 use Rattle.link.specs.declared.Role.the-variants.{Primary, Secondary}
@@ -32,6 +34,7 @@ use Rattle.link.specs.declared.Due.{Due}
 use Rattle.link.specs.declared.Due.the-variants.{Nothing as NothingDue, Version as VersionDue, Watchdog as WatchdogDue, Aggregated as AggregatedDue, Alarm as AlarmDue, Entry as EntryDue}
 use Rattle.link.specs.Steps.{closesOf, answeredOf, fullOf}
 use Rattle.write_message.specs.Message.{Message}
+use Rattle.read_head.specs.declared.GotTime.{GotTime}
 use Rattle.read_head.specs.declared.Verdict.{Verdict}
 use Rattle.read_head.specs.declared.Verdict.the-variants.{Good, Missing, Bad}
 use Rattle.read_head.specs.declared.GotLabel.{GotLabel}
@@ -121,22 +124,19 @@ module _ (s : Site) (l : ℕ) (id : Identity) (acknowledged : Bool) where
   answer-touches true x = record { quiet = tt; pool = refl; next = refl; owned = tt; links = refl; primary = refl }
   answer-touches false x = goes-on x
 
-  none-among : {P : Type 0} (a : Act) → Among a [] → P
-  none-among a = elim [ ]
-
   one-settled : (j k m : ℕ) → Among (Settle m k) (Settle l j ∷ []) → (m ≡ l) × (j ≡ k)
   one-settled j k m first = (refl, refl)
-  one-settled j k m (later a) = none-among _ a
+  one-settled j k m (later a) = among-none a
 
   found-settles : (x : Found) (m k : ℕ) → Among (Settle m k) (foundActs l x) → (m ≡ l) × (x ≡ For (Entry k))
-  found-settles Nothing m k a = none-among _ a
-  found-settles (For Version) m k a = none-among _ a
-  found-settles (For Watchdog) m k a = none-among _ a
+  found-settles Nothing m k a = among-none a
+  found-settles (For Version) m k a = among-none a
+  found-settles (For Watchdog) m k a = among-none a
   found-settles (For (Entry q)) m k a = (one-settled q k m a .0, ap (λ (j : ℕ). For (Entry j)) (one-settled q k m a .1))
-  found-settles (For Other) m k a = none-among _ a
+  found-settles (For Other) m k a = among-none a
 
   closing-settles : (m k : ℕ) → Among (Settle m k) (closingActs l) → ⊥
-  closing-settles m k (later a) = none-among _ a
+  closing-settles m k (later a) = among-none a
 
   answer-settles : (b : Bool) (x : Found) (m k : ℕ) → Among (Settle m k) (pick b (closingActs l) (foundActs l x)) → (m ≡ l) × (x ≡ For (Entry k))
   answer-settles true x m k a = absurd (closing-settles m k a)
@@ -176,8 +176,8 @@ module _ (s : Site) (received : List ℕ) where
   version-judged l SiteId = closes l _
   version-judged l SxlVersion = closes l _
 
-  beats : (l t : ℕ) → Touches s (beat s l received t .plan) []
-  beats l t = record { quiet = tt; pool = refl; next = refl; owned = tt; links = refl; primary = refl }
+  beats : (l : ℕ) (f : GotTime) → Touches s (beat s l received f .plan) []
+  beats l f = record { quiet = tt; pool = refl; next = refl; owned = tt; links = refl; primary = refl }
 
 judged-settles : (l : ℕ) (j : Judged) → NoSettle (judgedActs l j)
 judged-settles l (Chosen v) = tt
@@ -297,7 +297,7 @@ touched =
       pump = λ s l time id. due-out (dueAt s l time) s l time id;
       answered = λ s l id a. answer-touches s l id a (closesOf (linkAt s l) id a) (findOf (linkAt s l .awaited) id);
       version = λ s l received f. by-verdict s received (f .verdict) (versionJudged s l received (judge (own s) (f .offer))) (judgedActs l (judge (own s) (f .offer))) (version-judged s received l (judge (own s) (f .offer)));
-      watchdog = λ s l received f. whatever-verdict s received (f .verdict) (beat s l received (f .time)) (beats s received l (f .time));
+      watchdog = λ s l received f. whatever-verdict s received (f .verdict) (beat s l received f) (beats s received l f);
       subscribing = λ b s l h time received f. subscribing-touches b s l h time received f;
       alarm = λ s g l time id received f. alarm-touches s l time id received g f;
       aggregated = aggregated-touches;

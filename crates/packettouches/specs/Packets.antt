@@ -5,6 +5,7 @@ use mathlib.Core.Path.{_≡_}
 use mathlib.Core.Bool.{Bool}
 use mathlib.Core.List.{List, [], _∷_}
 use Rattle.basis.specs.Pick.{pick}
+use Rattle.basis.specs.Lists.{Among}
 use Rattle.identity.specs.declared.Identity.{Identity}
 use Rattle.awaited.specs.declared.Purpose.{Purpose}
 use Rattle.awaited.specs.declared.Purpose.the-variants.{Version, Watchdog, Entry, Other}
@@ -16,7 +17,7 @@ use Rattle.pool.specs.declared.Sought.the-variants.{Found as FoundEntry, Nothin
 use Rattle.pool.specs.Pool.{oldestUnsent}
 use Rattle.pool_laws.specs.Acts.{Act}
 use Rattle.pool_laws.specs.Acts.Act.{Settle, Mark}
-use Rattle.pool_laws.specs.Leaves.{Among, NoSettle}
+use Rattle.pool_laws.specs.Leaves.{NoSettle}
 use Rattle.link.specs.declared.Due.{Due}
 use Rattle.link.specs.declared.Due.the-variants.{Nothing as NothingDue, Version as VersionDue, Watchdog as WatchdogDue, Aggregated as AggregatedDue, Alarm as AlarmDue, Entry as EntryDue}
 use Rattle.link.specs.Steps.{closesOf}

@@ -9,8 +9,9 @@ use lib.ListN.{length, length-replicate}
 use lib.Dec.{leb, ltb, eqb}
 use native.Mathlib.Omega.{arith}
 use borrow.Author.Tests.{ltb-true, ltb-false, leb-true, eqb-true, eqb-false, le-leb, lt-leb, lt-ltb, le-ltb, eq-eqb, ne-eqb}
-use Rattle.basis.specs.Pick.{pick, both}
+use Rattle.basis.specs.Pick.{pick}
 use Rattle.basis.proofs.Cases.{lt-or-ge, eq-or-ne}
+use Rattle.basis.proofs.Both.{both-first, both-second}
 use Rattle.pool.specs.declared.Loser.the-variants.{Nobody, Owner}
 use Rattle.pool.specs.Places.{noPlace}
 use Rattle.pool.specs.Shares.{fullest, loser, noOther, crowdedOf}
@@ -60,22 +61,14 @@ rule n held free l p =
     again h f (inl g) = rw (lt-leb 64 (held l) g, le-ltb 0 free (omega arith), le-ltb (held l) 16 h)
     again h f (inr g) = rw (le-leb 64 (held l) g)
 
-left-of : (a b : Bool) → both a b ≡ true → a ≡ true
-left-of true b e = refl
-left-of false b e = e
-
-right-of : (a b : Bool) → both a b ≡ true → b ≡ true
-right-of true b e = e
-right-of false b e = absurd (let z : _≡_ {A = ℕ} 0 1 = cc in omega arith)
-
 others-mean : (held : ℕ → ℕ) (l n : ℕ) → noOther held l n ≡ true → (j : ℕ) → j < n → (j ≡ l → ⊥) → held j ≤ 16
 unfolding noOther
 others-mean held l zero e j h d = absurd (omega arith)
-others-mean held l (suc k) e j h d = go (eq-or-ne j k) (others-mean held l k (left-of (noOther held l k) _ e) j)
+others-mean held l (suc k) e j h d = go (eq-or-ne j k) (others-mean held l k (both-first (noOther held l k) _ e) j)
   where
     go : (j ≡ k) ⊎ (j ≡ k → ⊥) → (j < k → (j ≡ l → ⊥) → held j ≤ 16) → held j ≤ 16
     go (inl s) r =
-        let t : pick (eqb k l) true (leb (held k) 16) ≡ true = right-of (noOther held l k) _ e in
+        let t : pick (eqb k l) true (leb (held k) 16) ≡ true = both-second (noOther held l k) _ e in
         let u : eqb k l ≡ false = ne-eqb k l (λ z. d (s ∙ z)) in
         rw s (leb-true (held k) 16 (rw u at t))
     go (inr s) r = r (omega arith) d
@@ -92,13 +85,13 @@ others-when held l (suc k) h = rw (others-when held l k (λ j g d. h j (omega ar
 pub crowded-means : (n : ℕ) (held : ℕ → ℕ) (free l : ℕ) → crowdedOf n held free l ≡ true → Crowded n held free l
 unfolding crowdedOf
 crowded-means n held free l e =
-    let a = right-of (ltb l n) _ e in
-    let b = right-of (eqb free 0) _ a in
+    let a = both-second (ltb l n) _ e in
+    let b = both-second (eqb free 0) _ a in
     record {
-      link = ltb-true l n (left-of (ltb l n) _ e);
-      full = eqb-true free 0 (left-of (eqb free 0) _ a);
-      few = ltb-true (held l) 16 (left-of (ltb (held l) 16) _ b);
-      others = others-mean held l n (right-of (ltb (held l) 16) _ b);
+      link = ltb-true l n (both-first (ltb l n) _ e);
+      full = eqb-true free 0 (both-first (eqb free 0) _ a);
+      few = ltb-true (held l) 16 (both-first (ltb (held l) 16) _ b);
+      others = others-mean held l n (both-second (ltb (held l) 16) _ b);
     }
 
 pub crowded-when : (n : ℕ) (held : ℕ → ℕ) (free l : ℕ) → Crowded n held free l → crowdedOf n held free l ≡ true

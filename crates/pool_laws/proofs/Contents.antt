@@ -7,6 +7,9 @@ use mathlib.Core.Bool.{Bool, true, false}
 use lib.ListN.{getD, set, replicate}
 use lib.Dec.{ltb, leb}
 use Rattle.basis.specs.Pick.{pick}
+use Rattle.basis.specs.Lists.{Among}
+use Rattle.basis.specs.Lists.Among.{first, later}
+use Rattle.basis.proofs.Both.{not-both, both-first}
 use Rattle.entry.specs.declared.Entry.{Entry}
 use Rattle.entry.proofs.RoundTrip.{round-trip}
 use Rattle.pool.specs.declared.Place.{Place}
@@ -19,11 +22,8 @@ use Rattle.pool.specs.Shares.{loser}
 use Rattle.pool.specs.Pool.{emptyOf, heldIn, freeIn, made, lossOf, roomOf, withOf, issueOf, settleOf, markOf, unsentFor, unmarkOf}
 use Rattle.pool_laws.specs.Acts.{Act, act, acts}
 use Rattle.pool_laws.specs.Acts.Act.{Issue, Settle, Mark, Unmark}
-use Rattle.pool_laws.specs.Leaves.{Among}
-use Rattle.pool_laws.specs.Leaves.Among.{first, later}
 use Rattle.pool_laws.specs.View.{insert, insertIf, recordsIn}
 use Rattle.pool_laws.specs.Contents.{Every, Same, ReadsBack, Readable}
-use Rattle.pool_laws.proofs.Counts.{and-left, not-both}
 use Rattle.pool_laws.proofs.Other.{Touched, settle-touches, mark-touches}
 use Rattle.pool_laws.proofs.Other.Touched.{absent, there}
 use Rattle.pool_laws.proofs.Inv.{of-used}
@@ -72,7 +72,7 @@ module _ (P : Entry → Type 0) where
   all-touched p r l k new h (absent z s) a = subst (λ (x : Pool). All (x .places)) (sym s) a
   all-touched p r l k new h (there at old i g t s) a =
       subst (λ (x : Pool). All (x .places)) (sym s)
-      (all-set (p .places) at (new old) (h old (of-used l old (and-left (of l old) _ t)) (subst At-place g (all-at (p .places) at a))) a)
+      (all-set (p .places) at (new old) (h old (of-used l old (both-first (of l old) _ t)) (subst At-place g (all-at (p .places) at a))) a)
 
   unsent-place : (l : ℕ) (x : Place) → At-place x → At-place (unsentFor l x)
   unsent-place l x h = go (of l x) refl

@@ -26,20 +26,6 @@ pub bit-pos : (b : Bool) → 0 < bit b → b ≡ true
 bit-pos true h = refl
 bit-pos false h = absurd (omega arith)
 
-pub not-both : {P : Type 0} {b : Bool} → b ≡ true → b ≡ false → P
-not-both p q = absurd (let z : _≡_ {A = ℕ} 0 1 = cc in omega arith)
-
-pub and-left : (a b : Bool) → both a b ≡ true → a ≡ true
-and-left true b h = refl
-and-left false b h = h
-
-pub and-right : (a b : Bool) → both a b ≡ true → b ≡ true
-and-right true b h = h
-and-right false b h = not-both h refl
-
-pub and-true : (a b : Bool) → a ≡ true → b ≡ true → both a b ≡ true
-and-true a b p q = rw (p, q)
-
 pub bit-and : (a b : Bool) → a ≡ true → bit (both a b) ≡ bit b
 bit-and a b e = rw e
 

@@ -12,9 +12,10 @@ use borrow.Author.Tests.{le-leb, lt-leb, eq-eqb}
 use Rattle.basis.specs.Pick.{pick, bit}
 use Rattle.basis.specs.Lists.{count}
 use Rattle.basis.proofs.Cases.{lt-or-ge}
+use Rattle.basis.proofs.Both.{not-both}
 use Rattle.pool.specs.declared.Place.{Place}
 use Rattle.pool_laws.specs.View.{insert, insertIf, without}
-use Rattle.pool_laws.proofs.Counts.{bit-lt, bit-ge, not-both, count-le}
+use Rattle.pool_laws.proofs.Counts.{bit-lt, bit-ge, count-le}
 
 abbrev pub number : Place → ℕ
 number x = x .entry .sequence

@@ -16,10 +16,11 @@ use Rattle.pool.specs.declared.Pool.{Pool}
 use Rattle.pool.specs.declared.Wanted.the-variants.{Older, Numbered}
 use Rattle.basis.specs.Pick.{bit}
 use Rattle.basis.specs.Lists.{count}
+use Rattle.basis.proofs.Both.{both-first, both-second}
 use Rattle.pool.specs.Places.{noPlace, of, fits}
 use Rattle.pool.specs.Pool.{emptyOf, heldIn, lostOf}
 use Rattle.pool_laws.specs.Acts.{newerThan}
-use Rattle.pool_laws.proofs.Counts.{bit-true, bit-false, bit-le, bit-lt, bit-ge, bit-eq, bit-ne, and-left, and-right, count-cons, count-nil, count-le, count-replicate}
+use Rattle.pool_laws.proofs.Counts.{bit-true, bit-false, bit-le, bit-lt, bit-ge, bit-eq, bit-ne, count-cons, count-nil, count-le, count-replicate}
 use Rattle.pool_laws.proofs.Fullest.{outside}
 
 -- it holds a record numbered q or later
@@ -63,10 +64,10 @@ starts n q h =
     }
 
 pub of-used : (l : ℕ) (x : Place) → of l x ≡ true → ltb 0 (x .mark) ≡ true
-of-used l x e = and-left (ltb 0 (x .mark)) (eqb (x .entry .link) l) e
+of-used l x e = both-first (ltb 0 (x .mark)) (eqb (x .entry .link) l) e
 
 pub of-link : (l : ℕ) (x : Place) → of l x ≡ true → x .entry .link ≡ l
-of-link l x e = eqb-true _ l (and-right (ltb 0 (x .mark)) (eqb (x .entry .link) l) e)
+of-link l x e = eqb-true _ l (both-second (ltb 0 (x .mark)) (eqb (x .entry .link) l) e)
 
 -- a record of a link is older than q, the one numbered q, or newer
 pub around : (l q : ℕ) (p : List Place) → heldIn p l ≡ count (fits (Older l q)) p + (count (fits (Numbered l q)) p + count (newerThan l q) p)

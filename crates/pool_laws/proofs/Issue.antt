@@ -13,6 +13,7 @@ use borrow.Author.Tests.{ltb-true, eqb-true, lt-ltb, le-leb, lt-leb, eq-eqb, ne-
 use Rattle.basis.specs.Pick.{both, bit}
 use Rattle.basis.specs.Lists.{count}
 use Rattle.basis.proofs.Cases.{lt-or-ge, eq-or-ne}
+use Rattle.basis.proofs.Both.{not-both, both-first, both-second, both-of}
 use Rattle.entry.specs.declared.Entry.{Entry}
 use Rattle.pool.specs.declared.Place.{Place}
 use Rattle.pool.specs.declared.Pool.{Pool}
@@ -22,7 +23,7 @@ use Rattle.pool.specs.declared.Loser.the-variants.{Nobody, Owner}
 use Rattle.pool.specs.Places.{noPlace, of, fits}
 use Rattle.pool.specs.Pool.{heldIn, lostOf, made, moreOf, lossOf, issueOf}
 use Rattle.pool_laws.specs.Acts.{newerThan}
-use Rattle.pool_laws.proofs.Counts.{bit-true, bit-false, bit-le, bit-lt, bit-ge, bit-eq, bit-ne, bit-and, and-left, and-right, and-true, not-both, count-set, count-at, count-pos}
+use Rattle.pool_laws.proofs.Counts.{bit-true, bit-false, bit-le, bit-lt, bit-ge, bit-eq, bit-ne, bit-and, count-set, count-at, count-pos}
 use Rattle.pool_laws.proofs.Oldest.{below-more}
 use Rattle.pool_laws.proofs.Fullest.{outside}
 use Rattle.pool_laws.proofs.Chosen.{Eldest, Why, Issued, issued}
@@ -51,10 +52,10 @@ unfolding lossOf
 loss-none lost l = refl
 
 numbered-is : (m k : ℕ) (x : Place) → fits (Numbered m k) x ≡ true → x .entry .sequence ≡ k
-numbered-is m k x e = eqb-true _ k (and-right (of m x) (eqb (x .entry .sequence) k) e)
+numbered-is m k x e = eqb-true _ k (both-second (of m x) (eqb (x .entry .sequence) k) e)
 
 newer-is : (m k : ℕ) (x : Place) → newerThan m k x ≡ true → k < x .entry .sequence
-newer-is m k x e = ltb-true k _ (and-right (of m x) (ltb k (x .entry .sequence)) e)
+newer-is m k x e = ltb-true k _ (both-second (of m x) (ltb k (x .entry .sequence)) e)
 
 pub free-not : (l : ℕ) (x : Place) → x .mark ≡ 0 → of l x ≡ false
 free-not l x e = rw e
@@ -83,7 +84,7 @@ module _ (n : ℕ) (small : 16 * n ≤ 128) (p : Pool) (q : ℕ) (inv : Inv n p 
       go : (it .old .entry .sequence < q) ⊎ (q ≤ it .old .entry .sequence) → it .old .entry .sequence < q
       go (inl a) = a
       go (inr a) =
-          let t : from q (it .old) ≡ true = and-true _ _ (of-used m (it .old) o) (le-leb q _ a) in
+          let t : from q (it .old) ≡ true = both-of (of-used m (it .old) o) (le-leb q _ a) in
           absurd (omega (arith, count-pos (from q) (p .places) (it .at) noPlace (it .inside) (rw (it .stands) t), inv .fresh))
 
   new-mine : of (e .link) (made e) ≡ true
@@ -147,7 +148,7 @@ module _ (n : ℕ) (small : 16 * n ≤ 128) (p : Pool) (q : ℕ) (inv : Inv n p 
     where
       go : (fits (Numbered m k) (it .old) ≡ true) ⊎ (fits (Numbered m k) (it .old) ≡ false)
           → (0 < count (fits (Numbered m k)) after) ⊎ ((count (fits (Older m k)) (p .places) ≡ 0) × (16 ≤ count (newerThan m k) after))
-      go (inl t) = inr (left m k (numbered-is m k (it .old) t) (it .who) (it .why) (and-left (of m (it .old)) _ t))
+      go (inl t) = inr (left m k (numbered-is m k (it .old) t) (it .who) (it .why) (both-first (of m (it .old)) _ t))
       go (inr t) = inl (omega (arith, change (fits (Numbered m k)), bit-false _ t))
 
   -- 16 that are newer stay 16
@@ -156,13 +157,13 @@ module _ (n : ℕ) (small : 16 * n ≤ 128) (p : Pool) (q : ℕ) (inv : Inv n p 
     where
       go : (who : Loser) → Why n (e .link) (p .places) (it .old) who → (newerThan m k (it .old) ≡ true) ⊎ (newerThan m k (it .old) ≡ false) → 16 ≤ count (newerThan m k) after
       go who y (inr t) = omega (arith, change (newerThan m k), bit-false _ t)
-      go Nobody (vacant a b) (inl t) = not-both (and-left (of m (it .old)) _ t) (free-not m (it .old) b)
+      go Nobody (vacant a b) (inl t) = not-both (both-first (of m (it .old)) _ t) (free-not m (it .old) b)
       go (Owner j) (own a v) (inl t) =
-          let same : m ≡ j = sym (of-link m (it .old) (and-left (of m (it .old)) _ t)) ∙ of-link j (it .old) (v .mine) in
+          let same : m ≡ j = sym (of-link m (it .old) (both-first (of m (it .old)) _ t)) ∙ of-link j (it .old) (v .mine) in
           let k-less = newer-is m k (it .old) t in
           rw same (omega (arith, (rw same at h), change (newerThan j k), new-newer k (omega (arith, old-below j (v .mine))), bit-le (newerThan j k (it .old))))
       go (Owner j) (steal x a b c d v) (inl t) =
-          let same : m ≡ j = sym (of-link m (it .old) (and-left (of m (it .old)) _ t)) ∙ of-link j (it .old) (v .mine) in
+          let same : m ≡ j = sym (of-link m (it .old) (both-first (of m (it .old)) _ t)) ∙ of-link j (it .old) (v .mine) in
           let k-less = newer-is m k (it .old) t in
           rw same (omega (arith, change (newerThan j k), all-newer j k v (omega arith), numbered-older j k (it .old .entry .sequence) k-less (p .places), v .none-older, bit-le (newerThan j k (it .old))))
 

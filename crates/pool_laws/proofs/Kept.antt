@@ -9,7 +9,8 @@ use lib.Dec.{ltb, leb, eqb}
 use native.Mathlib.Omega.{arith}
 use borrow.Author.Tests.{eqb-true, le-leb}
 use Rattle.basis.specs.Pick.{both, bit}
-use Rattle.basis.specs.Lists.{count}
+use Rattle.basis.specs.Lists.{count, Among}
+use Rattle.basis.specs.Lists.Among.{first, later}
 use Rattle.basis.proofs.Cases.{eq-or-ne}
 use Rattle.entry.specs.declared.Entry.{Entry}
 use Rattle.pool.specs.declared.Place.{Place}
@@ -21,8 +22,7 @@ use Rattle.pool.specs.Pool.{emptyOf, heldIn, freeIn, lostOf, crowdedIn, issueOf
 use Rattle.pool_laws.specs.Acts.{Act, act, acts, May, next, nexts, Rising, newerThan}
 use Rattle.pool_laws.specs.Acts.Act.{Issue, Settle, Mark, Unmark}
 use Rattle.pool_laws.specs.Acts.Rising.{then}
-use Rattle.pool_laws.specs.Leaves.{Held, leftOver, Among, NoSettle, SettlesFirst}
-use Rattle.pool_laws.specs.Leaves.Among.{first, later}
+use Rattle.pool_laws.specs.Leaves.{Held, leftOver, NoSettle, SettlesFirst}
 use Rattle.pool_laws.specs.Promises.{Reached, Superseded, Promises, Fourth}
 use Rattle.pool_laws.specs.Promises.Reached.{empty, after}
 use Rattle.pool_laws.proofs.Counts.{count-le, bit-le}

@@ -12,6 +12,7 @@ use borrow.Author.Tests.{eqb-true, eqb-false, le-leb, eq-eqb, ne-eqb}
 use Rattle.basis.specs.Pick.{both, bit}
 use Rattle.basis.specs.Lists.{count}
 use Rattle.basis.proofs.Cases.{lt-or-ge}
+use Rattle.basis.proofs.Both.{both-of}
 use Rattle.entry.specs.declared.Entry.{Entry}
 use Rattle.pool.specs.declared.Place.{Place}
 use Rattle.pool.specs.declared.Pool.{Pool}
@@ -19,7 +20,7 @@ use Rattle.pool.specs.declared.Wanted.the-variants.{Numbered}
 use Rattle.pool.specs.Places.{noPlace, of, fits}
 use Rattle.pool.specs.Pool.{lostOf, made, issueOf}
 use Rattle.pool_laws.specs.Leaves.{gone}
-use Rattle.pool_laws.proofs.Counts.{bit-true, bit-false, and-true, count-pos}
+use Rattle.pool_laws.proofs.Counts.{bit-true, bit-false, count-pos}
 use Rattle.pool_laws.proofs.Inv.{Inv, from, of-used}
 use Rattle.pool_laws.proofs.Issue.{it, after, places-after, lost-after, change, loses}
 use Rattle.pool_laws.proofs.Other.{Alike, alike-numbered}
@@ -51,7 +52,7 @@ module _ (n q : ℕ) (p : Pool) (inv : Inv n p q) (m i : ℕ) (inside : i < leng
   -- a record that stands at a place is held once, under a number below the next
   held-once : count (fits (Numbered m number)) (p .places) ≡ 1
   held-once =
-      let t : fits (Numbered m number) (getD (p .places) i noPlace) ≡ true = and-true (of m (getD (p .places) i noPlace)) _ o (eq-eqb number number refl) in
+      let t : fits (Numbered m number) (getD (p .places) i noPlace) ≡ true = both-of o (eq-eqb number number refl) in
       omega (arith, count-pos (fits (Numbered m number)) (p .places) i noPlace inside t, inv .once m number)
 
   below-next : number < q
@@ -60,7 +61,7 @@ module _ (n q : ℕ) (p : Pool) (inv : Inv n p q) (m i : ℕ) (inside : i < leng
       go : (number < q) ⊎ (q ≤ number) → number < q
       go (inl a) = a
       go (inr a) =
-          let t : from q (getD (p .places) i noPlace) ≡ true = and-true _ _ (of-used m (getD (p .places) i noPlace) o) (le-leb q number a) in
+          let t : from q (getD (p .places) i noPlace) ≡ true = both-of (of-used m (getD (p .places) i noPlace) o) (le-leb q number a) in
           absurd (omega (arith, count-pos (from q) (p .places) i noPlace inside t, inv .fresh))
 
 module _ (n : ℕ) (small : 16 * n ≤ 128) (p : Pool) (q : ℕ) (inv : Inv n p q) (e : Entry) (mine : e .link < n) (rises : q ≤ e .sequence) (fits32 : e .sequence < 4294967296) (m : ℕ) where

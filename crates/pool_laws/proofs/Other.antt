@@ -12,6 +12,7 @@ use borrow.Author.Tests.{eqb-true}
 use Rattle.basis.specs.Pick.{pick, both, bit}
 use Rattle.basis.specs.Lists.{count}
 use Rattle.basis.proofs.Cases.{lt-or-ge}
+use Rattle.basis.proofs.Both.{both-first, both-second}
 use Rattle.pool.specs.declared.Place.{Place}
 use Rattle.pool.specs.declared.Pool.{Pool}
 use Rattle.pool.specs.declared.Wanted.the-variants.{Numbered}
@@ -20,7 +21,7 @@ use Rattle.pool.specs.declared.Spot.the-variants.{At}
 use Rattle.pool.specs.Places.{noPlace, of, fits}
 use Rattle.pool.specs.Pool.{heldIn, lostOf, withOf, numbered, sent, markOf, settleOf, unsentFor, unmarkOf}
 use Rattle.pool_laws.specs.Acts.{newerThan}
-use Rattle.pool_laws.proofs.Counts.{bit-true, bit-false, and-left, and-right, count-set, count-map, count-same, count-le}
+use Rattle.pool_laws.proofs.Counts.{bit-true, bit-false, count-set, count-map, count-same, count-le}
 use Rattle.pool_laws.proofs.Oldest.{Oldest, the-oldest, no-oldest}
 use Rattle.pool_laws.proofs.Fullest.{outside}
 use Rattle.pool_laws.proofs.Inv.{Inv, from, mismarked, of-link}
@@ -103,8 +104,8 @@ settle-only p l k m j h = go (settleOf p l k) (settle-touches p l k)
     two x false e t = inl refl
     two x true e t =
         inr (
-          sym (of-link m x (and-left (of m x) _ e)) ∙ of-link l x (and-left (of l x) _ t),
-          sym (eqb-true _ j (and-right (of m x) (eqb (x .entry .sequence) j) e)) ∙ eqb-true _ k (and-right (of l x) (eqb (x .entry .sequence) k) t),
+          sym (of-link m x (both-first (of m x) _ e)) ∙ of-link l x (both-first (of l x) _ t),
+          sym (eqb-true _ j (both-second (of m x) (eqb (x .entry .sequence) j) e)) ∙ eqb-true _ k (both-second (of l x) (eqb (x .entry .sequence) k) t),
         )
 
     go : (r : Pool) → Touched p l k (λ (x : Place). noPlace) r → (0 < count (fits (Numbered m j)) (r .places)) ⊎ ((m ≡ l) × (j ≡ k))
@@ -137,7 +138,7 @@ mark-alike p l k = go (markOf p l k) (mark-touches p l k)
     go : (r : Pool) → Touched p l k (λ (x : Place). record { entry = x .entry; mark = 2 }) r → Alike p r
     go r (absent z s) = rw s (record { size = refl; lost = refl; same = λ g. refl; right = omega arith })
     go r (there at old i d t s) =
-        let u : ltb 0 (old .mark) ≡ true = and-left (ltb 0 (old .mark)) _ (and-left (of l old) _ t) in
+        let u : ltb 0 (old .mark) ≡ true = both-first (ltb 0 (old .mark)) _ (both-first (of l old) _ t) in
         rw s (record {
           size = length-set (p .places) at _;
           lost = refl;
@@ -149,7 +150,7 @@ unsent-used : (l : ℕ) (x : Place) → (ltb 0 (unsentFor l x .mark) ≡ ltb 0 (
 unsent-used l x = go (of l x) refl
   where
     go : (b : Bool) → of l x ≡ b → (ltb 0 (pick b (record { entry = x .entry; mark = 1 }) x .mark) ≡ ltb 0 (x .mark)) × (pick b (record { entry = x .entry; mark = 1 }) x .entry ≡ x .entry)
-    go true e = (sym (and-left (ltb 0 (x .mark)) _ e), refl)
+    go true e = (sym (both-first (ltb 0 (x .mark)) _ e), refl)
     go false e = (refl, refl)
 
 unsent-right : (l : ℕ) (x : Place) → bit (mismarked (unsentFor l x)) ≤ bit (mismarked x)

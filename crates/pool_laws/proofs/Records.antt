@@ -10,12 +10,13 @@ use native.Mathlib.Omega.{arith}
 use borrow.Author.Tests.{leb-true, leb-false, eq-eqb}
 use Rattle.basis.specs.Pick.{pick, both, bit}
 use Rattle.basis.specs.Lists.{count}
+use Rattle.basis.proofs.Both.{not-both, both-of}
 use Rattle.pool.specs.declared.Place.{Place}
 use Rattle.pool.specs.declared.Wanted.the-variants.{Numbered}
 use Rattle.pool.specs.Places.{noPlace, of, fits}
 use Rattle.pool.specs.Pool.{heldIn}
 use Rattle.pool_laws.specs.View.{insert, insertIf, recordsIn}
-use Rattle.pool_laws.proofs.Counts.{bit-true, bit-le, bit-ge, and-true, not-both, count-pos}
+use Rattle.pool_laws.proofs.Counts.{bit-true, bit-le, bit-ge, count-pos}
 use Rattle.pool_laws.proofs.Insert.{number, under, under-more, insert-count, insert-length, insert-map, insertIf-swap}
 
 -- counts over a link's records are counts over the places
@@ -45,12 +46,12 @@ module _ (m : ℕ) (x : Place) where
   differ y z p i h s o a b e =
       omega (
         arith,
-        bit-true (fits (Numbered m (number y)) y) (and-true (of m y) _ a (eq-eqb (number y) (number y) refl)),
-        count-pos (fits (Numbered m (number y))) p i noPlace h (rw s (and-true (of m z) _ b (eq-eqb (number z) (number y) e))),
+        bit-true (fits (Numbered m (number y)) y) (both-of a (eq-eqb (number y) (number y) refl)),
+        count-pos (fits (Numbered m (number y))) p i noPlace h (rw s (both-of b (eq-eqb (number z) (number y) e))),
       )
 
   apart : (y : Place) (p : List Place) → count (fits (Numbered m (number x))) (y ∷ p) ≡ 0 → of m y ≡ true → number y ≡ number x → ⊥
-  apart y p o a e = omega (arith, bit-true (fits (Numbered m (number x)) y) (and-true (of m y) _ a (eq-eqb (number y) (number x) e)))
+  apart y p o a e = omega (arith, bit-true (fits (Numbered m (number x)) y) (both-of a (eq-eqb (number y) (number x) e)))
 
   pub records-set : (p : List Place) (i : ℕ) → i < length p → ((k : ℕ) → count (fits (Numbered m k)) p ≤ 1) → (of m x ≡ true → count (fits (Numbered m (number x))) p ≡ 0)
       → insertIf (of m (getD p i noPlace)) (getD p i noPlace) (recordsIn (set p i x) m) ≡ insertIf (of m x) x (recordsIn p m)

@@ -11,6 +11,7 @@ use borrow.Author.Tests.{lt-ltb, le-ltb, le-leb, lt-leb}
 use Rattle.basis.specs.Pick.{pick}
 use Rattle.basis.specs.Lists.{count}
 use Rattle.basis.proofs.Cases.{lt-or-ge}
+use Rattle.basis.proofs.Both.{not-both}
 use Rattle.pool.specs.declared.Place.{Place}
 use Rattle.pool.specs.declared.Spot.{Spot}
 use Rattle.pool.specs.declared.Spot.the-variants.{At, Nowhere}
@@ -18,7 +19,7 @@ use Rattle.pool.specs.declared.Sought.{Sought}
 use Rattle.pool.specs.declared.Sought.the-variants.{Found, Nothing}
 use Rattle.pool.specs.Places.{of, lower, higher, older, newer, oldestFrom, newestFrom, soughtAt}
 use Rattle.pool_laws.specs.View.{insert, insertIf, recordsIn, firstWhere, orElse, lastWhere}
-use Rattle.pool_laws.proofs.Counts.{bit-lt, bit-ge, not-both}
+use Rattle.pool_laws.proofs.Counts.{bit-lt, bit-ge}
 use Rattle.pool_laws.proofs.Insert.{number, under, under-more, insert-before, insert-behind}
 use Rattle.pool_laws.proofs.Records.{Sorted, records-sorted}
 

@@ -10,13 +10,14 @@ use native.Mathlib.Omega.{arith}
 use borrow.Author.Tests.{eqb-true, eqb-false, eq-eqb, ne-eqb}
 use Rattle.basis.specs.Pick.{pick, both, bit}
 use Rattle.basis.specs.Lists.{count}
+use Rattle.basis.proofs.Both.{not-both, both-first, both-second}
 use Rattle.pool.specs.declared.Place.{Place}
 use Rattle.pool.specs.declared.Pool.{Pool}
 use Rattle.pool.specs.declared.Wanted.the-variants.{Numbered}
 use Rattle.pool.specs.Places.{noPlace, of, fits}
 use Rattle.pool.specs.Pool.{settleOf, markOf, unsentFor, unmarkOf}
 use Rattle.pool_laws.specs.View.{insert, insertIf, recordsIn, records, without, sentIf, unsent}
-use Rattle.pool_laws.proofs.Counts.{bit-true, and-left, and-right, not-both, count-pos}
+use Rattle.pool_laws.proofs.Counts.{bit-true, count-pos}
 use Rattle.pool_laws.proofs.Inv.{of-used, of-link}
 use Rattle.pool_laws.proofs.Other.{Touched, settle-touches, settle-gone, mark-touches}
 use Rattle.pool_laws.proofs.Other.Touched.{absent, there}
@@ -61,11 +62,11 @@ module _ (p : Pool) (l k : ℕ) (once : (m j : ℕ) → count (fits (Numbered m 
           by : (t : Bool) → eqb l m ≡ t → records r m ≡ pick t (without k (records p m)) (records p m)
           by false d =
               now ∙ subst (λ (b : Bool). insertIf b old (recordsIn (set (p .places) at noPlace) m) ≡ recordsIn (p .places) m)
-              (other-link l m old (and-left (of l old) _ o) d) key
+              (other-link l m old (both-first (of l old) _ o) d) key
           by true d =
               let e : l ≡ m = eqb-true l m d in
-              let a : of m old ≡ true = subst (λ (j : ℕ). of j old ≡ true) e (and-left (of l old) _ o) in
-              let n : number old ≡ k = eqb-true (number old) k (and-right (of l old) (eqb (number old) k) o) in
+              let a : of m old ≡ true = subst (λ (j : ℕ). of j old ≡ true) e (both-first (of l old) _ o) in
+              let n : number old ≡ k = eqb-true (number old) k (both-second (of l old) (eqb (number old) k) o) in
               let f : insert old (recordsIn (set (p .places) at noPlace) m) ≡ recordsIn (p .places) m =
               subst (λ (b : Bool). insertIf b old (recordsIn (set (p .places) at noPlace) m) ≡ recordsIn (p .places) m) a key in
               let z : count (fits (Numbered m k)) (set (p .places) at noPlace) ≡ 0 =
@@ -131,7 +132,7 @@ pub mark-view : (p : Pool) (l k m : ℕ) → count (fits (Numbered l k)) (p .pla
 mark-view p l k m c =
     ap (λ (q : List Place). recordsIn q m) (mark-is-map p l k c)
     ∙ records-map m (markAll l k) (λ (x : Place). pick (eqb l m) (sentIf k x) x)
-    (λ x. pick-of m (fits (Numbered l k) x) x 2 refl (λ t. of-used l x (and-left (of l x) _ t)))
+    (λ x. pick-of m (fits (Numbered l k) x) x 2 refl (λ t. of-used l x (both-first (of l x) _ t)))
     (λ x. pick-number (eqb l m) x (sentIf k x) (pick-number (eqb (number x) k) x (asSent x) refl))
     (λ x o. mark-on l k m x (eqb l m) refl o) (p .places)
     ∙ either (eqb l m) (sentIf k) (recordsIn (p .places) m)

@@ -8,6 +8,7 @@ use lib.ListN.{replicate}
 use lib.Dec.{eqb}
 use native.Mathlib.Omega.{arith}
 use Rattle.basis.specs.Lists.{count}
+use Rattle.basis.proofs.Both.{both-first}
 use Rattle.pool.specs.declared.Place.{Place}
 use Rattle.pool.specs.declared.Pool.{Pool}
 use Rattle.pool.specs.declared.Wanted.the-variants.{Unsent, Older, Alarm}
@@ -15,7 +16,6 @@ use Rattle.pool.specs.Places.{noPlace, of, fits}
 use Rattle.pool.specs.Pool.{emptyOf, heldIn, settleOf, markOf, unmarkOf, oldestUnsent, newestAlarm, rankIs, rankedOf}
 use Rattle.pool_laws.specs.View.{recordsIn, records, total, holds, firstWhere, lastWhere, nth, notSent, ofAlarm}
 use Rattle.pool_laws.specs.Views.{Views}
-use Rattle.pool_laws.proofs.Counts.{and-left}
 use Rattle.pool_laws.proofs.Fullest.{every-place, total-same}
 use Rattle.pool_laws.proofs.Inv.{Inv, starts}
 use Rattle.pool_laws.proofs.Other.{lost-same, settle-less, mark-alike, unmark-alike}
@@ -39,17 +39,17 @@ first-same f g e (x ∷ l) = rw (e x, first-same f g e l)
 
 asks-unsent : (p : Pool) (m : ℕ) → oldestUnsent p m ≡ firstWhere notSent (records p m)
 asks-unsent p m =
-    oldest-view (fits (Unsent m)) m (λ x t. and-left (of m x) (notSent x) t) 0 (p .places)
+    oldest-view (fits (Unsent m)) m (λ x t. both-first (of m x) (notSent x) t) 0 (p .places)
     ∙ first-mine m notSent (records p m) (records-mine (p .places) m)
 
 asks-alarm : (p : Pool) (m k : ℕ) → newestAlarm p m k ≡ lastWhere (ofAlarm k) (records p m)
 asks-alarm p m k =
-    newest-view (fits (Alarm m k)) m (λ x t. and-left (of m x) (ofAlarm k x) t) 0 (p .places)
+    newest-view (fits (Alarm m k)) m (λ x t. both-first (of m x) (ofAlarm k x) t) 0 (p .places)
     ∙ last-mine m (ofAlarm k) (records p m) (records-mine (p .places) m)
 
 asks-rank : (n q : ℕ) (p : Pool) → Inv n p q → (m r : ℕ) → rankedOf p m r ≡ nth r (records p m)
 asks-rank n q p i m r =
-    oldest-view (rankIs (p .places) m r) m (λ x t. and-left (of m x) _ t) 0 (p .places)
+    oldest-view (rankIs (p .places) m r) m (λ x t. both-first (of m x) _ t) 0 (p .places)
     ∙ first-mine m (λ (x : Place). eqb (count (fits (Older m (number x))) (p .places)) r) (records p m) (records-mine (p .places) m)
     ∙ first-same _ (λ (x : Place). eqb (count (fits (Older m (number x))) (p .places)) (0 + r)) (λ x. ap (eqb (count (fits (Older m (number x))) (p .places))) zero-first) (records p m)
     ∙ rank-nth m q 0 0 r (λ (j : ℕ). count (fits (Older m j)) (p .places)) (records p m) (records-order n q p i m)

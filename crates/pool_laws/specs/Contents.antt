@@ -4,6 +4,7 @@
 use Prim.Native.Nat.{ℕ}
 use mathlib.Core.Path.{_≡_}
 use mathlib.Core.List.{List, [], _∷_}
+use Rattle.basis.specs.Lists.{Among}
 use Rattle.entry.specs.declared.Entry.{Entry}
 use Rattle.entry.specs.declared.Unpacked.{Unpacked}
 use Rattle.entry.specs.declared.Unpacked.the-variants.{Accepted}
@@ -14,7 +15,6 @@ use Rattle.pool.specs.declared.Place.{Place}
 use Rattle.pool.specs.Pool.{emptyOf}
 use Rattle.pool_laws.specs.Acts.{Act, acts}
 use Rattle.pool_laws.specs.Acts.Act.{Issue}
-use Rattle.pool_laws.specs.Leaves.{Among}
 use Rattle.pool_laws.specs.View.{records}
 
 -- it holds of every record of the list

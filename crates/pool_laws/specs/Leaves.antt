@@ -29,10 +29,6 @@ leftOver n p (Settle l k ∷ xs) m = leftOver n (act n p (Settle l k)) xs m
 leftOver n p (Mark l k ∷ xs) m = count (gone (act n p (Mark l k)) m) (p .places) + leftOver n (act n p (Mark l k)) xs m
 leftOver n p (Unmark l ∷ xs) m = count (gone (act n p (Unmark l)) m) (p .places) + leftOver n (act n p (Unmark l)) xs m
 
-pub data Among (a : Act) : List Act → Type 0 where
-  first : {xs : List Act} → Among a (a ∷ xs)
-  later : {b : Act} {xs : List Act} → Among a xs → Among a (b ∷ xs)
-
 abbrev pub NoSettle : List Act → Type 0
 NoSettle [] = Unit {0}
 NoSettle (Issue e ∷ xs) = NoSettle xs

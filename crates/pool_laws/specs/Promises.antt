@@ -7,7 +7,7 @@ use mathlib.Core.Bool.{false}
 use mathlib.Core.Logic.{_⊎_}
 use lib.ListN.{length}
 use lib.Dec.{ltb}
-use Rattle.basis.specs.Lists.{count}
+use Rattle.basis.specs.Lists.{count, Among}
 use Rattle.entry.specs.declared.Entry.{Entry}
 use Rattle.pool.specs.declared.Place.{Place}
 use Rattle.pool.specs.declared.Pool.{Pool}
@@ -16,7 +16,7 @@ use Rattle.pool.specs.Places.{of, fits}
 use Rattle.pool.specs.Pool.{emptyOf, lostOf, crowdedIn}
 use Rattle.pool_laws.specs.Acts.{Act, act, acts, May, next, nexts, Rising, newerThan}
 use Rattle.pool_laws.specs.Acts.Act.{Issue, Settle, Mark, Unmark}
-use Rattle.pool_laws.specs.Leaves.{Held, leftOver, Among, SettlesFirst}
+use Rattle.pool_laws.specs.Leaves.{Held, leftOver, SettlesFirst}
 
 -- the pool p is what some acts leave of the empty pool of n links, the numbers rising, and q is the next number
 pub data Reached (n : ℕ) : Pool → ℕ → Type 0 where

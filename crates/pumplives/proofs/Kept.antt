@@ -8,7 +8,10 @@ use native.Mathlib.Omega.{arith}
 use lib.Dec.{eqb, ltb, leb}
 use borrow.Author.Tests.{le-ltb, eqb-true, eqb-false}
 use Rattle.basis.specs.Pick.{pick}
+use Rattle.basis.specs.Lists.{Among}
 use Rattle.basis.proofs.Cases.{bool-cases}
+use Rattle.basis.proofs.Both.{untrue}
+use Rattle.basis.proofs.Among.{among-none, among-one}
 use Rattle.answer.specs.Number.{isDone}
 use Rattle.identity.specs.declared.Identity.{Identity}
 use Rattle.entry.specs.declared.Entry.{Entry as Record}
@@ -32,16 +35,12 @@ use Rattle.send_message.specs.Sending.{entryMessage}
 use Rattle.call_pump.specs.Pump.{isHeld, dueAt, pumpRefuses, planFor, entryPlan, pumpPlan}
 use Rattle.lives.specs.Stock.{Stocked}
 use Rattle.lives.specs.Moves.{Heedful}
-use Rattle.lives.specs.Messages.{isReport, isAlarm, isAnswer, Among, NoAnswer}
+use Rattle.lives.specs.Messages.{isReport, isAlarm, isAnswer, NoAnswer}
 use Rattle.lives.proofs.Done.{Passed, passed}
 use Rattle.lives.proofs.Heeded.{heeds-one}
-use Rattle.lives.proofs.Messages.{among-none, among-one}
 use Rattle.lives.proofs.Stocked.{unalarming}
 use Rattle.pumplives.specs.Pumped.{dueActs, pumpActs, Pumped, PumpedAll}
 use Rattle.pumplives.proofs.Sent.{due-moves, sendable, due-heeds, due-stocks}
-
-no : {P : Type 0} → false ≡ true → P
-no q = absurd (let z : _≡_ {A = ℕ} 0 1 = cc in omega arith)
 
 picked-false : (f : Message → Bool) (b : Bool) (x y : Message) → f x ≡ false → f y ≡ false → f (pick b x y) ≡ false
 picked-false f true x y p q = p
@@ -74,12 +73,12 @@ module _ (s : Site) (l time : ℕ) (id : Identity) where
     where
       by : (b : Bool) → Among m (planFor (pick b Nothing Version) s l time id .messages) → Greeting ≡ Up
       by true r = among-none r
-      by false r = among-one (λ (o : Message). isReport o ≡ true → Greeting ≡ Up) m _ no r e
+      by false r = among-one (λ (o : Message). isReport o ≡ true → Greeting ≡ Up) m _ untrue r e
   reports-in k Beating up m r e = by (k .watchdogout) r
     where
       by : (b : Bool) → Among m (planFor (pick b Nothing Watchdog) s l time id .messages) → Beating ≡ Up
       by true r = among-none r
-      by false r = among-one (λ (o : Message). isReport o ≡ true → Beating ≡ Up) m _ no r e
+      by false r = among-one (λ (o : Message). isReport o ≡ true → Beating ≡ Up) m _ untrue r e
   reports-in k Up up m r e = refl
 
   reports : (m : Message) → Among m (pumpPlan s l time id .messages) → isReport m ≡ true → phaseOf (linkAt s l) ≡ Up
@@ -110,7 +109,7 @@ module _ (s : Site) (l time : ℕ) (id : Identity) where
         → Among m (planFor (pick a Watchdog (pick b (pick c (Alarm i) (pick d Entry Nothing)) Aggregated)) s l time id .messages) → isAlarm m ≡ false
     up-no-alarm true b c d i z m r = among-one (λ (o : Message). isAlarm o ≡ false) m _ refl r
     up-no-alarm false false c d i z m r = among-one (λ (o : Message). isAlarm o ≡ false) m _ refl r
-    up-no-alarm false true true d i z m r = no (sym z)
+    up-no-alarm false true true d i z m r = untrue (sym z)
     up-no-alarm false true false true i z m r = sought-no-alarm (oldestUnsent (s .pool) l) refl m r
     up-no-alarm false true false false i z m r = among-none r
 

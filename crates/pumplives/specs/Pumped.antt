@@ -4,6 +4,7 @@ use Prim.Native.Nat.{ℕ, _<_}
 use mathlib.Core.Path.{_≡_}
 use mathlib.Core.Bool.{true, false}
 use mathlib.Core.List.{List, [], _∷_}
+use Rattle.basis.specs.Lists.{Among}
 use Rattle.answer.specs.Number.{isDone}
 use Rattle.identity.specs.declared.Identity.{Identity}
 use Rattle.pool.specs.declared.Sought.{Sought}
@@ -26,7 +27,7 @@ use Rattle.send_after.specs.Outgoing.{carriedAt}
 use Rattle.call_pump.specs.Pump.{dueAt, pumpRefuses, pumpPlan}
 use Rattle.lives.specs.Moves.{onlyOn, Shaped, Moves, Heedful}
 use Rattle.lives.specs.Stock.{Stocked, Stocks}
-use Rattle.lives.specs.Messages.{isReport, isAlarm, Among, NoAnswer}
+use Rattle.lives.specs.Messages.{isReport, isAlarm, NoAnswer}
 
 -- a message that carries a record, or none
 abbrev pub sentAs : Carried → Identity → ℕ → Act

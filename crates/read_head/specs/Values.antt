@@ -44,12 +44,12 @@ gotLabel absent = noText Missing
 gotLabel other = noText Bad
 gotLabel (word d) = pick (isLabel d) (record { verdict = Good; label = labelOf d }) (noText Bad)
 
--- a time
+-- a time, and how many decimals stood there
 abbrev pub noTime : Verdict → GotTime
-noTime v = record { verdict = v; time = 0 }
+noTime v = record { verdict = v; time = 0; decimals = 0 }
 
 abbrev pub timed : Time → GotTime
-timed (Is t) = record { verdict = Good; time = t }
+timed (Is t k) = record { verdict = Good; time = t; decimals = k }
 timed No = noTime Bad
 
 abbrev pub gotTime : Word → GotTime

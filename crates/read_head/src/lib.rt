@@ -19,7 +19,7 @@ ghost use Rattle.json_text.specs.Ends.{Ends};
 ghost use Rattle.json_text.specs.Copied.{noCopy};
 ghost use Rattle.json_find.specs.Entries.{memberAt};
 ghost use Rattle.read_head.specs.Word.{word, wordHere, wordAt, elementOf, wordOf};
-ghost use Rattle.read_head.specs.Values.{worst as worstOf, verdictOf, noText, gotLabel, gotTime, anOrder, gotOrder, orderFor};
+ghost use Rattle.read_head.specs.Values.{worst as worstOf, verdictOf, noText, gotLabel, noTime, gotTime, anOrder, gotOrder, orderFor};
 ghost use Rattle.basis.specs.Pick.{pick};
 ghost use Rattle.identity.specs.Read.{notFound};
 ghost use Rattle.read_head.specs.Head.{identityOf, typeOf, kindFor, ignored as ignoredHead, answered as answeredBy, asked as askedBy, headFor, headBy, headAt};
@@ -77,9 +77,11 @@ pub struct GotLabel {
     pub label: Label,
 }
 
+// A time, and how many decimals stood there.
 pub struct GotTime {
     pub verdict: Verdict,
     pub time: u64,
+    pub decimals: usize,
 }
 
 pub struct GotOrder {
@@ -201,19 +203,27 @@ pub fn label_of(e: Element) -> GotLabel
     }
 }
 
+fn no_time(verdict: Verdict) -> GotTime
+    ensures { λ r. ⌜ r ≡ noTime verdict ⌝ }
+{
+    GotTime {
+        verdict,
+        time: 0,
+        decimals: 0,
+    }
+}
+
 fn time_text(d: &[u8]) -> GotTime
     ensures { λ r. ⌜ r ≡ gotTime (word (now (d .entry))) ⌝ }
 {
     let t = calendar::read_time(d);
     match t {
-        Time::Is(n) => GotTime {
+        Time::Is(time, decimals) => GotTime {
             verdict: Verdict::Good,
-            time: n,
+            time,
+            decimals,
         },
-        Time::No => GotTime {
-            verdict: Verdict::Bad,
-            time: 0,
-        },
+        Time::No => no_time(Verdict::Bad),
     }
 }
 
@@ -227,16 +237,10 @@ fn time_of(e: Element) -> GotTime
             let bytes = c.bytes;
             time_text(&bytes[0..n])
         } else {
-            GotTime {
-                verdict: Verdict::Bad,
-                time: 0,
-            }
+            no_time(Verdict::Bad)
         }
     } else {
-        GotTime {
-            verdict: Verdict::Missing,
-            time: 0,
-        }
+        no_time(Verdict::Missing)
     }
 }
 

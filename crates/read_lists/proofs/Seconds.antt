@@ -1,7 +1,7 @@
 -- uRt is good exactly where it is the decimal text of a number of seconds up to 86400.
 -- Assumes nothing.
 use mathlib.Core.Path.{_≡_, refl, sym, ap, _∙_}
-use mathlib.Core.Bool.{true, false}
+use mathlib.Core.Bool.{true}
 use mathlib.Core.List.{List, [], _∷_, _++_}
 use Prim.Native.Nat.{ℕ, _+_, _/_, _%_, _≤_, _<_}
 use native.Mathlib.Omega.{arith}
@@ -11,6 +11,7 @@ use borrow.Author.Tests.{lt-ltb, le-leb}
 use Rattle.basis.specs.Pick.{both}
 use Rattle.basis.specs.Text.{text}
 use Rattle.basis.proofs.Cases.{bool-cases}
+use Rattle.basis.proofs.Both.{untrue}
 use Rattle.number.specs.declared.Number.{Number}
 use Rattle.number.specs.declared.Number.the-variants.{Is, No}
 use Rattle.number.specs.Decimal.{digits}
@@ -38,7 +39,7 @@ use Rattle.read_lists.proofs.Worst.{not-missing, not-bad, both-good}
 ascii-snoc : (d : List ℕ) (c : ℕ) → ascii d ≡ true → c < 128 → ascii (d ++ (c ∷ [])) ≡ true
 unfolding ascii
 ascii-snoc [] c e h = rw (lt-ltb c 128 h)
-ascii-snoc (b ∷ d) c e h = bool-cases (ltb b 128) (λ t. rw t (ascii-snoc d c (rw t at e) h)) (λ f. absurd (let z : true ≡ false = sym (rw f at e) in let y : _≡_ {A = ℕ} 0 1 = cc in omega arith))
+ascii-snoc (b ∷ d) c e h = bool-cases (ltb b 128) (λ t. rw t (ascii-snoc d c (rw t at e) h)) (λ f. untrue (rw f at e))
 
 ascii-none : ascii [] ≡ true
 unfolding ascii

@@ -11,6 +11,7 @@ use borrow.Author.Tests.{eqb-true, eq-eqb, ltb-true, ltb-false}
 use Rattle.basis.specs.Pick.{pick}
 use Rattle.basis.specs.Lists.{sameBytes}
 use Rattle.basis.proofs.Same.{same-is, same-true, same-self}
+use Rattle.basis.proofs.Both.{untrue}
 use Rattle.number.specs.declared.Number.{Number}
 use Rattle.number.specs.declared.Number.the-variants.{Is, No}
 use Rattle.label.specs.declared.Label.{Label}
@@ -48,8 +49,8 @@ more-best v xs ys true f g (some w m n last) = go (ltb v w) (ltb-true v w) (ltb-
     go true h k = some w (List·Memᴰ·tail m) n (λ u a b. ⊎-elim (λ e. omega (arith, h refl)) (λ c. last u c b) (List·Memᴰ·cases-cons a))
     go false h k = some v (List·Memᴰ·head refl) (f refl) (λ u a b. ⊎-elim (λ e. omega arith) (λ c. omega (arith, last u c b, k refl)) (List·Memᴰ·cases-cons a))
 more-best v xs ys true f g (nothing none) = some v (List·Memᴰ·head refl) (f refl) (λ u a b. ⊎-elim (λ e. omega arith) (λ c. absurd (none u c b)) (List·Memᴰ·cases-cons a))
-more-best v xs ys false f g (some w m n last) = some w (List·Memᴰ·tail m) n (λ u a b. ⊎-elim (λ e. let z : false ≡ true = g (Memᴰ·cast (sym e) b) in let y : _≡_ {A = ℕ} 0 1 = cc in absurd (omega arith)) (λ c. last u c b) (List·Memᴰ·cases-cons a))
-more-best v xs ys false f g (nothing none) = nothing (λ u a b. ⊎-elim (λ e. let z : false ≡ true = g (Memᴰ·cast (sym e) b) in let y : _≡_ {A = ℕ} 0 1 = cc in omega arith) (λ c. none u c b) (List·Memᴰ·cases-cons a))
+more-best v xs ys false f g (some w m n last) = some w (List·Memᴰ·tail m) n (λ u a b. ⊎-elim (λ e. untrue (g (Memᴰ·cast (sym e) b))) (λ c. last u c b) (List·Memᴰ·cases-cons a))
+more-best v xs ys false f g (nothing none) = nothing (λ u a b. ⊎-elim (λ e. untrue (g (Memᴰ·cast (sym e) b))) (λ c. none u c b) (List·Memᴰ·cases-cons a))
 
 pub best : (xs ys : List ℕ) → Best xs ys (latest xs ys)
 unfolding latest

@@ -1,15 +1,15 @@
 -- `numberIn` is the answer that reading a decimal text gives.
 -- Assumes nothing.
-use mathlib.Core.Path.{_≡_, refl, sym, ap, _∙_}
+use mathlib.Core.Path.{_≡_, refl, ap}
 use mathlib.Core.Bool.{Bool, true, false}
 use mathlib.Core.List.{List}
 use Prim.Native.Nat.{ℕ, _≤_, _<_}
-use native.Mathlib.Omega.{arith}
 use lib.Dec.{leb}
 use borrow.Author.Tests.{leb-true, leb-false}
 use Rattle.basis.specs.Pick.{pick, both}
 use Rattle.basis.specs.Lists.{sameBytes}
 use Rattle.basis.proofs.Same.{same-true, same-self}
+use Rattle.basis.proofs.Both.{not-both}
 use Rattle.number.specs.declared.Number.{Number}
 use Rattle.number.specs.declared.Number.the-variants.{Is, No}
 use Rattle.number.specs.Decimal.{digits}
@@ -18,7 +18,7 @@ use Rattle.number.proofs.Reading.{reads-once, too-much, unlike, was}
 use Rattle.read_versions.specs.Numeral.{numberIn}
 
 differs : (s : List ℕ) → sameBytes s (digits (says 0 s)) ≡ false → s ≡ digits (says 0 s) → ⊥
-differs s e f = let z : true ≡ false = sym (same-self s) ∙ (rw (← f) at e) in let y : _≡_ {A = ℕ} 0 1 = cc in absurd (omega arith)
+differs s e f = not-both (same-self s) (rw (← f) at e)
 
 pub numeral : (limit : ℕ) (s : List ℕ) → Reads limit s (numberIn limit s)
 unfolding numberIn

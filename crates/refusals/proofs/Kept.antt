@@ -11,6 +11,7 @@ use lib.ListN.{length}
 use borrow.Author.Tests.{lt-ltb, ltb-true}
 use Rattle.basis.specs.Pick.{pick, both}
 use Rattle.basis.proofs.Cases.{bool-cases}
+use Rattle.basis.proofs.Both.{both-first, both-second}
 use Rattle.answer.specs.declared.Refusal.{Refusal}
 use Rattle.answer.specs.declared.Refusal.the-variants.{Ignored, NoSuchLink, NoSuchItem, ShortOutput, BadTime, WrongPhase, NothingDue, ManyAwaited, IdentityAwaited, SequenceSpent, LongPacket, PoolFull}
 use Rattle.answer.specs.declared.Report.{Report}
@@ -32,7 +33,7 @@ use Rattle.demands.proofs.Kept.{kept as demand3, configured-after}
 use Rattle.refusals.specs.Applies.{Applies}
 use Rattle.refusals.specs.Applies.Applies.{spent}
 use Rattle.refusals.specs.Claims.{Foremost, here, later, NoneOf, none, more, inThisOrder, Judged, Promises}
-use Rattle.refusals.proofs.So.{so, both-first, both-second}
+use Rattle.refusals.proofs.So.{so}
 use Rattle.refusals.proofs.OnlySo.{only}
 
 -- where, of each of a list of refusals, a test says what a statement says

@@ -15,6 +15,7 @@ use Rattle.basis.proofs.Cases.{bool-cases}
 use Rattle.answer.specs.declared.Refusal.{Refusal}
 use Rattle.answer.specs.declared.Refusal.the-variants.{Ignored, NoSuchLink, NoSuchItem, ShortOutput, BadTime, WrongPhase, NothingDue, ManyAwaited, IdentityAwaited, SequenceSpent, NotAccepted, LongPacket, PoolFull}
 use Rattle.answer.specs.Number.{refusalNumber}
+use Rattle.answer.specs.Times.{lastTime}
 use Rattle.identity.specs.declared.Identity.{Identity}
 use Rattle.awaited.specs.declared.Purpose.{Purpose}
 use Rattle.awaited.specs.declared.Found.{Found}
@@ -97,8 +98,8 @@ module _ (s : Site) where
   time-of (tick t) = refl
   time-of (pump l t random out) = refl
 
-  late-only : (t : ℕ) → 253402300799999 < t → badTimeAt s t ≡ true
-  late-only t h = bool-cases (ltb t (s .last)) (λ y. rw y refl) (λ n. rw (n, lt-ltb 253402300799999 t h) refl)
+  late-only : (t : ℕ) → lastTime < t → badTimeAt s t ≡ true
+  late-only t h = bool-cases (ltb t (s .last)) (λ y. rw y refl) (λ n. rw (n, lt-ltb lastTime t h) refl)
 
   pub only : (c : Call) (r : Refusal) → Applies s c r → (refusalNumber r ≡ 10 → ⊥) → refuses s c r ≡ true
   unfolding crowdedOf
@@ -107,7 +108,7 @@ module _ (s : Site) where
   only c r (no-such-status {k = k} h) n = le-leb (s .table .statuscount) k h
   only c r (short-output {out = out} o h) n = lent o ∙ lt-ltb (length out) 4096 h
   only c r (long-packet {p = p} h) n = lt-ltb 4096 (length p) h
-  only c r (before-the-last h) n = time-of c ∙ ap (λ (b : Bool). pick b true (ltb 253402300799999 (timeOf c))) (lt-ltb (timeOf c) (s .last) h)
+  only c r (before-the-last h) n = time-of c ∙ ap (λ (b : Bool). pick b true (ltb lastTime (timeOf c))) (lt-ltb (timeOf c) (s .last) h)
   only c r (after-9999 h) n = time-of c ∙ late-only (timeOf c) h
   only c r (not-down {l = l} h) n = not-down-so (phaseOf (linkAt s l)) h
   only c r (down {l = l} o h) n = on-open o ∙ ap isDown h

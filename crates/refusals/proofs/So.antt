@@ -10,10 +10,12 @@ use lib.Dec.{ltb, leb}
 use lib.IntN.{ℤ}
 use lib.ListN.{length}
 use borrow.Author.Tests.{ltb-true, ltb-false, leb-true, leb-false}
-use Rattle.basis.specs.Pick.{pick, both}
+use Rattle.basis.specs.Pick.{pick}
 use Rattle.basis.proofs.Cases.{bool-cases}
+use Rattle.basis.proofs.Both.{both-first, both-second}
 use Rattle.answer.specs.declared.Refusal.{Refusal}
 use Rattle.answer.specs.declared.Refusal.the-variants.{Ignored, NoSuchLink, NoSuchItem, ShortOutput, BadTime, WrongPhase, NothingDue, ManyAwaited, IdentityAwaited, SequenceSpent, NotAccepted, LongPacket, PoolFull}
+use Rattle.answer.specs.Times.{lastTime}
 use Rattle.identity.specs.declared.Identity.{Identity}
 use Rattle.identity.specs.Version.{identityOf}
 use Rattle.awaited.specs.declared.Purpose.{Purpose}
@@ -44,14 +46,6 @@ use Rattle.refusals.specs.Applies.OnOpenLink.{disconnecting as disconnec
 use Rattle.refusals.specs.Applies.Lent.{receiving as receiving-lent, pumping as pumping-lent}
 use Rattle.refusals.specs.Applies.IgnoredOn.{unreadable, stray-ack, stray-not-ack, early as greeting-early}
 use Rattle.refusals.specs.Applies.Applies.{no-such-link, no-such-alarm, no-such-status, short-output, long-packet, before-the-last, after-9999, not-down, down, ignored, nothing-due, many-awaited, awaited-of-pump, awaited-of-reply, spent}
-
-pub both-first : (a b : Bool) → both a b ≡ true → a ≡ true
-both-first true b e = refl
-both-first false b e = e
-
-pub both-second : (a b : Bool) → both a b ≡ true → b ≡ true
-both-second true b e = e
-both-second false b e = absurd (true≢false (sym e))
 
 flipped : (b : Bool) → pick b false true ≡ true → b ≡ false
 flipped true e = absurd (true≢false (sym e))
@@ -105,7 +99,7 @@ module _ (s : Site) (four : s .linkcount ≤ 4) where
   bad-time : (c : Call) (t : ℕ) → timeOf c ≡ t → badTimeAt s t ≡ true → Applies s c BadTime
   bad-time c t w e =
       bool-cases (ltb t (s .last)) (λ y. before-the-last (let h = ltb-true t (s .last) y in omega (arith, w)))
-      (λ n. after-9999 (let k : ltb 253402300799999 t ≡ true = rw n at e in let h = ltb-true 253402300799999 t k in omega (arith, w)))
+      (λ n. after-9999 (let k : ltb lastTime t ≡ true = rw n at e in let h = ltb-true lastTime t k in omega (arith, w)))
 
   up-so : (l : ℕ) → pick (downAt s l) false true ≡ true → phaseOf (linkAt s l) ≡ Down → ⊥
   up-so l e h = true≢false (sym (ap isDown h) ∙ flipped (downAt s l) e)

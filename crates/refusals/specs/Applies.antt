@@ -6,6 +6,7 @@ use mathlib.Core.Bool.{Bool, true}
 use mathlib.Core.List.{List}
 use lib.IntN.{ℤ}
 use lib.ListN.{length}
+use Rattle.answer.specs.Times.{lastTime}
 use Rattle.answer.specs.declared.Refusal.{Refusal}
 use Rattle.answer.specs.declared.Refusal.the-variants.{
   Ignored,
@@ -79,9 +80,9 @@ pub data Applies (s : Site) : Call → Refusal → Type 0 where
   short-output : {out : List ℕ} {c : Call} → Lent out c → length out < 4096 → Applies s c ShortOutput
   -- 12: packet longer than 4,096 bytes
   long-packet : {l t : ℕ} {random : Identity} {p out : List ℕ} → 4096 < length p → Applies s (packet l t random p out) LongPacket
-  -- 5: time before the last time of a call done, or above 253402300799999
+  -- 5: time before the last time of a call done, or above the last of 9999
   before-the-last : {c : Call} → timeOf c < s .last → Applies s c BadTime
-  after-9999 : {c : Call} → 253402300799999 < timeOf c → Applies s c BadTime
+  after-9999 : {c : Call} → lastTime < timeOf c → Applies s c BadTime
   -- 6: connect on a link not Down; disconnect, packet or pump on a Down link
   not-down : {l t : ℕ} → (phaseOf (linkAt s l) ≡ Down → ⊥) → Applies s (connect l t) WrongPhase
   down : {l : ℕ} {c : Call} → OnOpenLink l c → phaseOf (linkAt s l) ≡ Down → Applies s c WrongPhase

@@ -167,7 +167,10 @@ fn put_watchdog(line: &mut [u8], at: usize, t: GotTime) -> usize {
     let v = t.verdict;
     let end = put_letter(line, at, verdict_letter(v));
     match v {
-        Verdict::Good => put_number(line, end, t.time),
+        Verdict::Good => {
+            let end = put_number(line, end, t.time);
+            put_number(line, end, t.decimals as u64)
+        }
         Verdict::Missing => end,
         Verdict::Bad => end,
     }

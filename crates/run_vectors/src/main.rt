@@ -12,7 +12,11 @@ fn time_written(body: &[u8], line: &mut [u8]) -> usize {
 
 fn time_read(body: &[u8], line: &mut [u8]) -> usize {
     match calendar::read_time(body) {
-        calendar::Time::Is(ms) => number::put_decimal(line, 0, ms),
+        calendar::Time::Is(ms, decimals) => {
+            let end = number::put_decimal(line, 0, ms);
+            let end = output::put_bytes(line, end, b" ");
+            number::put_decimal(line, end, decimals as u64)
+        }
         calendar::Time::No => refused(line),
     }
 }

@@ -8,6 +8,7 @@ use lib.ListN.{getD, set, replicate}
 use lib.Dec.{ltb, lit<}
 use native.Mathlib.Nat.{mod-lt}
 use Rattle.basis.specs.Pick.{pick}
+use Rattle.basis.proofs.Both.{not-both, both-first}
 use Rattle.entry.specs.declared.Entry.{Entry}
 use Rattle.pool.specs.declared.Place.{Place}
 use Rattle.pool.specs.declared.Pool.{Pool}
@@ -19,7 +20,6 @@ use Rattle.pool.specs.declared.Sought.the-variants.{Found, Nothing}
 use Rattle.pool.specs.Places.{noPlace, of}
 use Rattle.pool.specs.Shares.{loser}
 use Rattle.pool.specs.Pool.{emptyOf, heldIn, freeIn, made, lossOf, roomOf, withOf, issueOf, settleOf, markOf, unsentFor, unmarkOf}
-use Rattle.pool_laws.proofs.Counts.{and-left, not-both}
 use Rattle.pool_laws.proofs.Other.{Touched, settle-touches, mark-touches}
 use Rattle.pool_laws.proofs.Other.Touched.{absent, there}
 use Rattle.pool_laws.proofs.Inv.{of-used}
@@ -71,7 +71,7 @@ module _ (P : Entry → Type 0) where
   held-touched p r l k new h (absent z s) a = subst (λ (x : Pool). EachHeld P (x .places)) (sym s) a
   held-touched p r l k new h (there at old i g t s) a =
       subst (λ (x : Pool). EachHeld P (x .places)) (sym s)
-      (held-set (p .places) at (new old) (h old (of-used l old (and-left (of l old) _ t)) (subst At-place g (held-at (p .places) at a))) a)
+      (held-set (p .places) at (new old) (h old (of-used l old (both-first (of l old) _ t)) (subst At-place g (held-at (p .places) at a))) a)
 
   pub held-settle : (p : Pool) (l k : ℕ) → EachHeld P (p .places) → EachHeld P (settleOf p l k .places)
   held-settle p l k a = held-touched p (settleOf p l k) l k (λ (x : Place). noPlace) (λ x t b u. not-both u refl) (settle-touches p l k) a

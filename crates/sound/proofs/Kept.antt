@@ -16,6 +16,7 @@ use Rattle.answer.specs.declared.Answer.{Answer}
 use Rattle.answer.specs.declared.Answer.the-variants.{Done, Refused}
 use Rattle.answer.specs.Order.{inOrder, None}
 use Rattle.answer.specs.Order.None.{none, more}
+use Rattle.answer.specs.Times.{lastTime}
 use Rattle.entry.specs.declared.Entry.{Entry}
 use Rattle.pool.specs.declared.Pool.{Pool}
 use Rattle.pool_batch.specs.Batch.{beginning, issuedAll}
@@ -51,16 +52,16 @@ module _ {c : Refusal → Bool} where
 pub not-before : (s : Site) (time : ℕ) → badTimeAt s time ≡ false → s .last ≤ time
 not-before s time h = by (ltb time (s .last)) refl h
   where
-    by : (t : Bool) → ltb time (s .last) ≡ t → pick t true (ltb 253402300799999 time) ≡ false → s .last ≤ time
+    by : (t : Bool) → ltb time (s .last) ≡ t → pick t true (ltb lastTime time) ≡ false → s .last ≤ time
     by true e g = absurd (true≢false g)
     by false e g = ltb-false time (s .last) e
 
-pub not-above : (s : Site) (time : ℕ) → badTimeAt s time ≡ false → time ≤ 253402300799999
+pub not-above : (s : Site) (time : ℕ) → badTimeAt s time ≡ false → time ≤ lastTime
 not-above s time h = by (ltb time (s .last)) h
   where
-    by : (t : Bool) → pick t true (ltb 253402300799999 time) ≡ false → time ≤ 253402300799999
+    by : (t : Bool) → pick t true (ltb lastTime time) ≡ false → time ≤ lastTime
     by true g = absurd (true≢false g)
-    by false g = ltb-false 253402300799999 time g
+    by false g = ltb-false lastTime time g
 
 -- a sound site is sound at the time of a call that is in time
 pub at-time : (s : Site) (time : ℕ) → Sound s → badTimeAt s time ≡ false → SoundAt time s

@@ -6,6 +6,7 @@ use mathlib.Core.List.{List, [], _∷_}
 use mathlib.Core.Logic.{_⊎_, inl, inr}
 use native.Mathlib.Omega.{arith}
 use lib.ListN.{length, getD, set, replicate, length-set}
+use Rattle.answer.specs.Times.{lastTime}
 use Rattle.entry.specs.declared.Entry.{Entry}
 use Rattle.pool.specs.declared.Pool.{Pool}
 use Rattle.pool.specs.Pool.{unmarkOf}
@@ -45,7 +46,7 @@ later-alarm now then h a s =
 
 module _ (now : ℕ) (s : Site) (h : SoundAt now s) where
   -- sound now, it is sound at a later time
-  pub later : (then : ℕ) → now ≤ then → then ≤ 253402300799999 → SoundAt then s
+  pub later : (then : ℕ) → now ≤ then → then ≤ lastTime → SoundAt then s
   later then g m =
       let before : s .aggregated .time ≤ now = h .aggregated .time in
       record {

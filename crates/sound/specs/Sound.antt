@@ -8,6 +8,7 @@ use mathlib.Core.Logic.{_⊎_}
 use lib.Dec.{eqb, ltb}
 use lib.ListN.{length, getD}
 use Rattle.basis.specs.Pick.{pick}
+use Rattle.answer.specs.Times.{lastTime}
 use Rattle.entry.specs.declared.Entry.{Entry}
 use Rattle.entry.specs.Valid.{Valid}
 use Rattle.pool.specs.declared.Place.{Place}
@@ -95,7 +96,7 @@ EntryOf s now = SoundEntry (s .linkcount) (s .primary) (s .table) now
 -- the site's parts are sound, where `now` is the last time
 pub record SoundAt (now : ℕ) (s : Site) : Type 0 where
   pub start : SoundStart (s .linkcount) (s .primary) (s .period) (s .table)
-  pub last : now ≤ 253402300799999
+  pub last : now ≤ lastTime
   pub next : s .next ≤ 4294967296
   pub links : length (s .links) ≡ 4
   pub subscriptions : SoundSubscriptions (s .linkcount) (s .table .statuscount) (s .subscriptions)

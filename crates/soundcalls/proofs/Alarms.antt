@@ -7,6 +7,7 @@ use native.Mathlib.Omega.{arith}
 use lib.Dec.{eqb, lit<, lit≤}
 use Rattle.basis.specs.Pick.{pick, bit}
 use Rattle.basis.proofs.Cases.{picked}
+use Rattle.entry.specs.Valid.{lastTime}
 use Rattle.entry.specs.Valid.OfKind.{an-alarm}
 use Rattle.entry.proofs.FlagLaws.{bit-le}
 use Rattle.alarm.specs.declared.Alarm.{Alarm}
@@ -62,7 +63,7 @@ module _ (links primary period : ℕ) (t : SiteTable) (s : SoundStart links prim
   few-statuses = rw (s .kept) (s .allowed .most-statuses)
 
   -- the record of a sound alarm for the primary
-  pub alarm-record : (now : ℕ) → now ≤ 253402300799999 → (a : Alarm) → SoundAlarm now a → (k : ℕ) → primary < links → k < t .alarmcount
+  pub alarm-record : (now : ℕ) → now ≤ lastTime → (a : Alarm) → SoundAlarm now a → (k : ℕ) → primary < links → k < t .alarmcount
       → SoundEntry links primary t now (issuedOf a primary k)
   alarm-record now m a h k p i =
       let few = few-alarms in

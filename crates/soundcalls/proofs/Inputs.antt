@@ -10,7 +10,7 @@ use lib.Dec.{eqb, ltb, lit<, lit≤}
 use lib.IntN.{ℤ}
 use Rattle.basis.specs.Pick.{both}
 use Rattle.basis.proofs.Cases.{picked}
-use Rattle.label.proofs.Both.{both-true}
+use Rattle.basis.proofs.Both.{both-true}
 use Rattle.number.specs.Signed.{Signed32, wordOf}
 use Rattle.number.proofs.RoundTrip.{word-lt}
 use Rattle.status.specs.Status.{holding}

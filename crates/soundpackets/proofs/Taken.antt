@@ -7,7 +7,7 @@ use mathlib.Core.List.{List}
 use borrow.Author.Tests.{ltb-true}
 use Rattle.basis.specs.Pick.{pick, both}
 use Rattle.basis.proofs.Cases.{picked}
-use Rattle.label.proofs.Both.{both-true}
+use Rattle.basis.proofs.Both.{both-true}
 use Rattle.identity.specs.declared.Identity.{Identity}
 use Rattle.awaited.specs.declared.Purpose.{Purpose}
 use Rattle.awaited.specs.declared.Purpose.the-variants.{Version, Watchdog, Entry, Other}
@@ -109,7 +109,7 @@ module _ (s : Site) (time : ℕ) (h : SoundAt time s) where
 
   pub watchdog-sound : (l : ℕ) (received : List ℕ) (f : GotTime) → SoundPlan time (watchdogTaken s l received f .plan)
   watchdog-sound l received f =
-      by-verdict (f .verdict) received (beat s l received (f .time)) (record { site = with-link time s h l (watchdogTakenOf (linkAt s l)); issued = tt })
+      by-verdict (f .verdict) received (beat s l received f) (record { site = with-link time s h l (watchdogTakenOf (linkAt s l)); issued = tt })
 
   -- ---- orders
   change-sound : (received : List ℕ) (k : ℕ) → k < s .table .alarmcount → (order : Change) → SoundPlan time (changeTaken s time received k order .plan)

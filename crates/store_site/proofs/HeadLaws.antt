@@ -7,6 +7,7 @@ use mathlib.Core.List.{List}
 use lib.Dec.{ltb, leb}
 use borrow.Author.Tests.{lt-ltb, le-ltb}
 use Rattle.basis.specs.Pick.{pick, both}
+use Rattle.answer.specs.Times.{lastTime}
 use Rattle.bits.specs.Fields.{fieldOf}
 use Rattle.link.specs.declared.Link.{Link}
 use Rattle.link.specs.declared.Phase.{Phase}
@@ -32,7 +33,7 @@ module _ (ws : List ℕ) (t : SiteTable) (l : ℕ) where
   unfolding siteOf
   time-early h = rw (lt-ltb l (word ws 1) h)
 
-  pub time-late : word ws 1 ≤ l → ltb 253402300799999 l ≡ badTimeAt (siteOf ws t) l
+  pub time-late : word ws 1 ≤ l → ltb lastTime l ≡ badTimeAt (siteOf ws t) l
   unfolding siteOf
   time-late h = rw (le-ltb l (word ws 1) h)
 

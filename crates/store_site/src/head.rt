@@ -70,7 +70,7 @@ pub fn bad_time(w: &[u64], time: u64) -> bool
     if time < w[1] {
         return true;
     }
-    253402300799999 < time
+    answer::LAST_TIME < time
 }
 
 pub fn aggregated(w: &[u64]) -> Aggregated

@@ -1,6 +1,6 @@
 -- What a search from the first place on finds; every place is found as itself exactly when no two are called the same.
 -- Assumes nothing.
-use mathlib.Core.Path.{_≡_, refl, sym, subst, _∙_}
+use mathlib.Core.Path.{_≡_, refl, sym, subst}
 use mathlib.Core.Bool.{Bool, true, false, true≢false}
 use mathlib.Core.Logic.{⊎-elim}
 use Prim.Native.Nat.{ℕ, zero, suc, _+_, _≤_, _<_}
@@ -9,13 +9,10 @@ use native.Mathlib.Omega.{arith}
 use borrow.Author.Tests.{eqb-true, eq-eqb}
 use Rattle.basis.specs.Pick.{pick}
 use Rattle.basis.proofs.Cases.{bool-cases, lt-or-ge}
-use Rattle.label.proofs.Both.{both-true, both-of}
+use Rattle.basis.proofs.Both.{both-true, both-of, not-both}
 use Rattle.table_item.specs.declared.Found.{Found}
 use Rattle.table_item.specs.declared.Found.the-variants.{At, Nothing}
 use Rattle.table_item.specs.Find.{firstFrom, each, foundAt}
-
-clash : {P : Type 0} {b : Bool} → b ≡ true → b ≡ false → P
-clash p q = absurd (true≢false (sym p ∙ q))
 
 -- the n places from i on were looked at
 pub data Looked (f : ℕ → Bool) (i n : ℕ) : Found → Type 0 where
@@ -57,7 +54,7 @@ module _ (same : ℕ → ℕ → Bool) (n : ℕ) where
   before : (i j : ℕ) (r : Found) → Looked (same i) 0 n r → foundAt i r ≡ true → same i j ≡ true → i ≤ j
   before i j (At k) (hit l h t none) e s =
       ⊎-elim
-      (λ (a : j < k). clash s (none j (omega arith) a))
+      (λ (a : j < k). not-both s (none j (omega arith) a))
       (λ (a : k ≤ j). let p : i ≡ k = eqb-true i k e in omega arith)
       (lt-or-ge j k)
   before i j Nothing (miss none) e s = absurd (true≢false (sym e))
@@ -70,7 +67,7 @@ module _ (same : ℕ → ℕ → Bool) (n : ℕ) where
 
   itself : (i : ℕ) (r : Found) → i < n → Looked (same i) 0 n r → ((j : ℕ) → j < n → same i j ≡ true → i ≡ j) → same i i ≡ true → foundAt i r ≡ true
   itself i (At k) h (hit l m t none) o s = eq-eqb i k (o k (omega arith) t)
-  itself i Nothing h (miss none) o s = clash s (none i (omega arith) (omega arith))
+  itself i Nothing h (miss none) o s = not-both s (none i (omega arith) (omega arith))
 
   pub once-own : ((i j : ℕ) → i < n → j < n → same i j ≡ true → i ≡ j) → ((i : ℕ) → i < n → same i i ≡ true) → each own n ≡ true
   once-own o r = each-of own n (λ i h. itself i (firstFrom (same i) 0 n) h (looked (same i) 0 n) (λ j l s. o i j h l s) (r i h))

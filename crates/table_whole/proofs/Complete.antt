@@ -6,10 +6,10 @@ use mathlib.Core.List.{List, [], _∷_, _++_}
 use Prim.Native.Nat.{ℕ, _+_, _*_, _≤_, _<_}
 use native.Mathlib.Omega.{arith}
 use lib.ListN.{length, length-append}
+use Rattle.basis.proofs.Both.{both-of}
 use Rattle.label.specs.declared.LabelRead.{LabelRead}
 use Rattle.label.specs.Label.{string, labelOf, noLabel}
 use Rattle.label.specs.Reading.{far, readAt}
-use Rattle.label.proofs.Both.{both-of}
 use Rattle.label.proofs.Stands.{Stands, first, second, itself}
 use Rattle.label.proofs.Reading.{labelled, read-complete, label-short}
 use Rattle.table_item.specs.Item.{noItem}

@@ -9,9 +9,9 @@ use lib.Dec.{eqb, leb, lit<}
 use lib.ListN.{length, getD, take, drop, replicate, take-append-drop}
 use lib.Seq.{length-take-le}
 use borrow.Author.Tests.{eqb-true, leb-true, eq-eqb, le-leb}
+use Rattle.basis.proofs.Both.{both-true, both-of}
 use Rattle.bits.specs.Fields.{fieldOf, total, joined, split, Within, bytesOf, numberOf}
 use Rattle.bits.specs.Fields.Within.{none, next}
-use Rattle.label.proofs.Both.{both-true, both-of}
 use Rattle.label.proofs.Stands.{Stands}
 use Rattle.table_row.specs.declared.Head.{Head}
 use Rattle.table_row.specs.Head.{goodHead, headOf}

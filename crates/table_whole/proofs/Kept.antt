@@ -10,11 +10,11 @@ use lib.ListN.{length, getD, replicate, length-map, List·getD-append, List·get
 use borrow.Author.Tests.{eqb-true, eq-eqb}
 use Rattle.basis.specs.Lists.{sameBytes}
 use Rattle.basis.proofs.Same.{same-true, same-self}
+use Rattle.basis.proofs.Both.{both-true, both-of}
 use Rattle.label.specs.Padded.{padded}
 use Rattle.label.specs.Label.{labelOf, noLabel, textOf}
 use Rattle.label.specs.declared.Label.{Label}
 use Rattle.label.proofs.Padded.{take-padded}
-use Rattle.label.proofs.Both.{both-true, both-of}
 use Rattle.table_item.specs.declared.Item.{Item}
 use Rattle.table_item.specs.Item.{noItem, isItem}
 use Rattle.table_item.specs.Find.{labelAt, itemAt, ownLabels, ownItems}

@@ -13,11 +13,11 @@ use lib.Seq.{drop-cons, getD-drop}
 use borrow.Author.Tests.{eqb-true, leb-true, ltb-true, eq-eqb, le-leb, lt-ltb}
 use Rattle.basis.specs.Pick.{both}
 use Rattle.basis.proofs.Cases.{bool-cases, le-or-lt}
+use Rattle.basis.proofs.Both.{both-true, both-of}
 use Rattle.bits.specs.Fields.{fieldOf}
 use Rattle.label.specs.declared.LabelRead.{LabelRead}
 use Rattle.label.specs.Label.{string, labelOf}
 use Rattle.label.specs.Reading.{far, readAt}
-use Rattle.label.proofs.Both.{both-true, both-of}
 use Rattle.label.proofs.Stands.{Stands, first, second, joined}
 use Rattle.label.proofs.Reading.{Got, labelled, read-sound, read-complete}
 use Rattle.table_item.specs.declared.Item.{Item}

@@ -8,11 +8,11 @@ use Prim.Native.Nat.{ℕ, _+_, _≤_, _<_}
 use native.Mathlib.Omega.{arith}
 use lib.ListN.{length, getD, take, length-append}
 use Rattle.basis.proofs.Cases.{bool-cases, le-or-lt}
+use Rattle.basis.proofs.Both.{both-true}
 use Rattle.bits.specs.Fields.{numberOf}
 use Rattle.label.specs.declared.LabelRead.{LabelRead}
 use Rattle.label.specs.Label.{string, labelOf, noLabel}
 use Rattle.label.specs.Reading.{far, readAt}
-use Rattle.label.proofs.Both.{both-true}
 use Rattle.label.proofs.Stands.{Stands, joined, whole}
 use Rattle.label.proofs.Reading.{Got, read-sound}
 use Rattle.table_item.specs.Item.{noItem}

@@ -10,10 +10,10 @@ use lib.Seq.{take-at}
 use borrow.Author.Tests.{ltb-true, eqb-true, lt-ltb, eq-eqb}
 use Rattle.basis.specs.Pick.{pick, both}
 use Rattle.basis.proofs.Cases.{bool-cases}
+use Rattle.basis.proofs.Both.{both-true, both-of}
 use Rattle.label.specs.Padded.{padded}
 use Rattle.label.specs.Label.{labelOf, noLabel, textOf}
 use Rattle.label.specs.Reading.{far}
-use Rattle.label.proofs.Both.{both-true, both-of}
 use Rattle.table_item.specs.Item.{noItem}
 use Rattle.table_whole.specs.declared.Laid.{Laid}
 use Rattle.table_whole.specs.declared.TableRead.{TableRead}

@@ -12,6 +12,7 @@ use lib.ListN.{length, length-append}
 use borrow.Author.Tests.{eq-eqb, ne-eqb}
 use Rattle.basis.specs.Pick.{pick, both, bit}
 use Rattle.basis.proofs.Cases.{lt-or-ge}
+use Rattle.basis.proofs.Both.{untrue}
 use Rattle.number.specs.Signed.{wordOf}
 use Rattle.entry.specs.declared.Entry.{Entry}
 use Rattle.alarm.specs.Alarm.{nothing, event, issued, inputOf}
@@ -33,9 +34,6 @@ use Rattle.told.specs.Issued.{alarmRecords, alarmsIssued, valueSet, valueRecord
 use Rattle.told.proofs.OneOf.{one-of}
 use Rattle.toldcalls.specs.Records.{RecordsAll}
 use Rattle.toldcalls.proofs.Inputs.{entryOf, others, own}
-
-no : {P : Type 0} → false ≡ true → P
-no q = absurd (let z : _≡_ {A = ℕ} 0 1 = cc in omega arith)
 
 -- ---- place by place
 one-at-most : (b : Bool) (e : Entry) → length (entryIf b e) ≤ 1
@@ -90,7 +88,7 @@ module _ (g : Setup) (h : List Told) (k : ℕ) (active : Bool) (t : ℕ) where
       (by (inputOf (alarmAfter g h k) active t .records) (alarmRecord (inputOf (alarmAfter g h k) active t .alarm) (g .primary) k) (hasPrimary g) e)
     where
       by : (a : Bool) (e : Entry) (b : Bool) → b ≡ false → entryIf (both a b) e ≡ []
-      by a e true q = no (sym q)
+      by a e true q = untrue (sym q)
       by true e false q = refl
       by false e false q = refl
 
@@ -113,7 +111,7 @@ module _ (g : Setup) (h : List Told) where
     where
       by : (b : Bool) → b ≡ true → entryIf (issuesOn (subscriptionAfter g h l k) (not b)) (statusRecord (holding value) l k t) ≡ []
       by true q = refl
-      by false q = no q
+      by false q = untrue q
 
   same-value : (k : ℕ) (value : ℤ) (t : ℕ) → statusAfter h k ≡ holding (wordOf value)
       → entriesTo (valueRecord g h k (valueSet h k (wordOf value)) t) (g .links) ≡ []

@@ -4,6 +4,7 @@ use Prim.Native.Nat.{ℕ}
 use mathlib.Core.Path.{_≡_, refl}
 use mathlib.Core.Bool.{Bool, true, false}
 use native.Mathlib.Omega.{arith}
+use Rattle.basis.proofs.Both.{untrue}
 use Rattle.answer.specs.declared.Refusal.{Refusal}
 use Rattle.answer.specs.declared.Refusal.the-variants.{NoSuchLink, NoSuchItem, SequenceSpent}
 use Rattle.answer.specs.declared.Answer.{Answer}
@@ -17,9 +18,6 @@ use Rattle.site.specs.Call.{batchOf}
 use Rattle.calls.specs.Calls.{Call, timeOf, planOf, stepBy}
 use Rattle.calls.specs.Claims.{conditionsOf}
 use Rattle.calls.proofs.Kept.{kept}
-
-no : {P : Type 0} → false ≡ true → P
-no q = absurd (let z : _≡_ {A = ℕ} 0 1 = cc in omega arith)
 
 -- those of the conditions that are asked for here
 pub record Passed (applies : Refusal → Bool) : Type 0 where
@@ -37,14 +35,14 @@ module _ (s : Site) (c : Call) where
     where
       by : (a : Answer) → stepBy s c .answer ≡ a → isDone a ≡ true → Passed (conditionsOf s c)
       by (Done r) e d = those (conditionsOf s c) (kept .numbered s c .done-only-so r e .0)
-      by (Refused x) e d = no d
+      by (Refused x) e d = untrue d
 
   pub done-site : isDone (stepBy s c .answer) ≡ true → stepBy s c .site ≡ withIssued (planOf s c .site) (batchOf (planOf s c)) (timeOf c)
   done-site d = by (stepBy s c .answer) refl d
     where
       by : (a : Answer) → stepBy s c .answer ≡ a → isDone a ≡ true → stepBy s c .site ≡ withIssued (planOf s c .site) (batchOf (planOf s c)) (timeOf c)
       by (Done r) e d = kept .numbered s c .next-site r e
-      by (Refused x) e d = no d
+      by (Refused x) e d = untrue d
 
   pub refused-site : isDone (stepBy s c .answer) ≡ false → stepBy s c .site ≡ s
   refused-site d = by (stepBy s c .answer) refl d

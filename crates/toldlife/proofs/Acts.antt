@@ -5,6 +5,7 @@ use mathlib.Core.Path.{_≡_, refl, _∙_}
 use mathlib.Core.Bool.{Bool, true, false}
 use native.Mathlib.Omega.{arith}
 use Rattle.basis.specs.Pick.{pick, both}
+use Rattle.basis.proofs.Both.{both-first, not-both}
 use Rattle.identity.specs.declared.Identity.{Identity}
 use Rattle.awaited.specs.declared.Awaited.{Awaited}
 use Rattle.awaited.specs.declared.Purpose.{Purpose}
@@ -20,7 +21,6 @@ use Rattle.link.specs.Careful.{Sendable}
 use Rattle.told.specs.Life.{Ours, isSent, isAcknowledged}
 use Rattle.told.specs.Life.Ours.{unsent, sent, acknowledged}
 use Rattle.toldlife.specs.Agree.{Awaits, Agrees}
-use Rattle.toldlife.proofs.Choices.{clash, left}
 use Rattle.toldlife.proofs.Ours.{unsent-unacked, awaits-own, awaits-kept}
 use Rattle.toldlife.proofs.Phases.{told-takes, told-beating}
 
@@ -65,8 +65,8 @@ connect-agrees k e = rw e fresh-agrees
 
 unsent-awaits : (o : Ours) (p : Purpose) (w : Awaited) → isSent o ≡ false → Awaits o p w → Awaits unsent p w
 unsent-awaits unsent p w e a = a
-unsent-awaits (sent i) p w e a = clash true refl e
-unsent-awaits acknowledged p w e a = clash true refl e
+unsent-awaits (sent i) p w e a = not-both refl e
+unsent-awaits acknowledged p w e a = not-both refl e
 
 module _ (k : Link) (c : Bool) (o : Ours) (t : Bool) (w : Ours) (u : Bool) (a : Agrees k c o t w u) where
   -- ---- our messages go out
@@ -90,7 +90,7 @@ module _ (k : Link) (c : Bool) (o : Ours) (t : Bool) (w : Ours) (u : Bool) (a : 
           version-awaited = awaits-own k id time s f Version (unsent-awaits o Version (k .awaited) e (a .version-awaited));
           watchdog-awaited = awaits-kept k id time s f Watchdog Version (λ q. let z : _≡_ {A = ℕ} 0 1 = cc in omega arith) w (a .watchdog-awaited);
           version-connected = λ q. g;
-          watchdog-begun = λ q. clash (isAcknowledged o) (left (isAcknowledged o) t (a .watchdog-begun q)) (unsent-unacked o e);
+          watchdog-begun = λ q. not-both (both-first (isAcknowledged o) t (a .watchdog-begun q)) (unsent-unacked o e);
         })
 
     may-beat : both (isAcknowledged o) t ≡ true → isSent w ≡ false → mayBeatOf k ≡ true
@@ -138,7 +138,7 @@ module _ (k : Link) (c : Bool) (o : Ours) (t : Bool) (w : Ours) (u : Bool) (a : 
         version-awaited = a .version-awaited;
         watchdog-awaited = a .watchdog-awaited;
         version-connected = a .version-connected;
-        watchdog-begun = λ q. rw (left (isAcknowledged o) t (a .watchdog-begun q)) refl;
+        watchdog-begun = λ q. rw (both-first (isAcknowledged o) t (a .watchdog-begun q)) refl;
       })
 
   pub taken-agrees : Agrees (watchdogTakenOf k) c o t w (pick (both (isAcknowledged o) t) true u)

@@ -5,6 +5,7 @@ use mathlib.Core.Path.{_≡_, refl, sym, ap, subst, _∙_}
 use mathlib.Core.Bool.{Bool, true, false}
 use native.Mathlib.Omega.{arith}
 use Rattle.basis.specs.Pick.{pick, both}
+use Rattle.basis.proofs.Both.{both-first, both-second, not-both}
 use Rattle.identity.specs.declared.Identity.{Identity}
 use Rattle.awaited.specs.declared.Purpose.{Purpose}
 use Rattle.awaited.specs.declared.Purpose.the-variants.{Version, Watchdog, Entry, Other}
@@ -19,7 +20,6 @@ use Rattle.link.specs.Steps.{removedOf, notedFor, noted, closesOf, answeredOf}
 use Rattle.told.specs.Life.{Ours, isSent, isAcknowledged, ackedBy}
 use Rattle.told.specs.Life.Ours.{unsent, sent, acknowledged}
 use Rattle.toldlife.specs.Agree.{Awaits, Agrees}
-use Rattle.toldlife.proofs.Choices.{clash, left, right}
 use Rattle.toldlife.proofs.Ours.{still-sent, still-acked, acked-own, acked-other, awaits-removed}
 use Rattle.toldlife.proofs.Phases.{told-beating}
 
@@ -31,7 +31,7 @@ module _ (k : Link) (c : Bool) (o : Ours) (t : Bool) (w : Ours) (u : Bool) (a : 
     begun-still : isSent (ackedBy id w) ≡ true → both (isAcknowledged (ackedBy id o)) t ≡ true
     begun-still q =
         let b : both (isAcknowledged o) t ≡ true = a .watchdog-begun (sym (still-sent id w) ∙ q) in
-        rw (still-acked id o (left (isAcknowledged o) t b)) (right (isAcknowledged o) t b)
+        rw (still-acked id o (both-first (isAcknowledged o) t b)) (both-second (isAcknowledged o) t b)
 
     -- with these two marks
     answered-with : (x y : Bool) → x ≡ isAcknowledged (ackedBy id o) → y ≡ isAcknowledged (ackedBy id w) → (m : Link)
@@ -91,7 +91,7 @@ module _ (k : Link) (c : Bool) (o : Ours) (t : Bool) (w : Ours) (u : Bool) (a : 
     -- a MessageNotAck that does not close: it is to neither
     not-version : closesOf k id false ≡ false → findOf (k .awaited) id ≡ For Version → ⊥
     unfolding closesOf
-    not-version n e = clash true refl (rw e at n)
+    not-version n e = not-both refl (rw e at n)
 
     refused-version : closesOf k id false ≡ false → ackedBy id o ≡ o
     refused-version n = acked-other (k .awaited) Version id o (a .version-awaited) (not-version n)
@@ -108,7 +108,7 @@ module _ (k : Link) (c : Bool) (o : Ours) (t : Bool) (u : Bool) (s : Sound (k .a
     where
       by : (b : Bool) → (b ≡ true → findOf (k .awaited) id ≡ For Watchdog) → pick b acknowledged (sent i) ≡ sent i
       by true f =
-          clash (isBeating (phaseOf k)) (ap isBeating (told-beating k c o t (sent i) u a (a .watchdog-begun refl) refl))
+          not-both (ap isBeating (told-beating k c o t (sent i) u a (a .watchdog-begun refl) refl))
           (not-watchdog k c o t (sent i) u a s id n (f refl))
       by false f = refl
 

@@ -6,6 +6,7 @@ use mathlib.Core.Bool.{Bool, true, false}
 use mathlib.Core.List.{List, [], _∷_}
 use lib.Dec.{ltb}
 use Rattle.basis.specs.Pick.{pick, both}
+use Rattle.basis.proofs.Both.{both-first, both-second, untrue}
 use Rattle.identity.specs.declared.Identity.{Identity}
 use Rattle.awaited.specs.declared.Awaited.{Awaited}
 use Rattle.awaited.specs.declared.Purpose.{Purpose}
@@ -22,7 +23,6 @@ use Rattle.lives.specs.Moves.{doesAll}
 use Rattle.told.specs.Life.{Ours, isAcknowledged}
 use Rattle.told.specs.Life.Ours.{unsent, sent, acknowledged}
 use Rattle.toldlife.specs.Agree.{Awaits, Agrees}
-use Rattle.toldlife.proofs.Choices.{clash, left, right}
 use Rattle.toldlife.proofs.Ours.{acked-sent}
 use Rattle.toldlife.proofs.Phases.{told-reports}
 
@@ -49,8 +49,8 @@ either k true m n x y = x
 either k false m n x y = y
 
 acked-awaits : (o : Ours) (p : Purpose) (w : Awaited) → isAcknowledged o ≡ true → Awaits o p w
-acked-awaits unsent p w e = clash false e refl
-acked-awaits (sent i) p w e = clash false e refl
+acked-awaits unsent p w e = untrue e
+acked-awaits (sent i) p w e = untrue e
 acked-awaits acknowledged p w e = tt
 
 module _ (c : Bool) (o : Ours) (t : Bool) (w : Ours) (u : Bool) where
@@ -80,8 +80,8 @@ module _ (c : Bool) (o : Ours) (t : Bool) (w : Ours) (u : Bool) where
           → Agrees (pick b (withAwaited k (addOf (k .awaited) id time Other)) k) c o t w u
       by true e =
           same-agrees k (withAwaited k (addOf (k .awaited) id time Other))
-          (left (isAcknowledged o) t (left (both (isAcknowledged o) t) (both (isAcknowledged w) u) e))
-          (left (isAcknowledged w) u (right (both (isAcknowledged o) t) (both (isAcknowledged w) u) e))
+          (both-first (isAcknowledged o) t (both-first (both (isAcknowledged o) t) (both (isAcknowledged w) u) e))
+          (both-first (isAcknowledged w) u (both-second (both (isAcknowledged o) t) (both (isAcknowledged w) u) e))
           (awaited-same k (addOf (k .awaited) id time Other)) a
       by false e = a
 
@@ -117,14 +117,14 @@ module _ (k : Link) (vo : k .versionout ≡ true) (wo : k .watchdogout ≡ true)
 
   does-same : (a : Act) → isQuiet a ≡ true → Same k (does k a)
   unfolding does watchdogOutOf messageOutOf aggregatedPassedOf alarmPassedOf
-  does-same Connect q = clash false q refl
+  does-same Connect q = untrue q
   does-same (VersionOut id time) q = version-same id time
   does-same (WatchdogOut id time) q = either k (mayBeatOf k) _ k (beat-same id time) (itself k)
   does-same (EntryOut id time n) q = either k (isUp (phaseOf k)) _ k (awaited-same k (addOf (k .awaited) id time (Entry n))) (itself k)
   does-same (OtherOut id time) q = either k (isUp (phaseOf k)) _ k (awaited-same k (addOf (k .awaited) id time Other)) (itself k)
-  does-same (Answered id ack) q = clash false q refl
-  does-same (VersionAccepted x y z) q = clash false q refl
-  does-same WatchdogTaken q = clash false q refl
+  does-same (Answered id ack) q = untrue q
+  does-same (VersionAccepted x y z) q = untrue q
+  does-same WatchdogTaken q = untrue q
   does-same AggregatedPassed q =
       either k (isUp (phaseOf k)) (mark OurAggregated k) k
       (record { connected = refl; versionout = refl; versionacked = refl; versiontaken = refl; watchdogout = refl; watchdogacked = refl; watchdogtaken = refl })
@@ -135,12 +135,12 @@ module _ (k : Link) (vo : k .versionout ≡ true) (wo : k .watchdogout ≡ true)
       (record { connected = refl; versionout = refl; versionacked = refl; versiontaken = refl; watchdogout = refl; watchdogacked = refl; watchdogtaken = refl })
       (itself k))
       (itself k)
-  does-same Close q = clash false q refl
+  does-same Close q = untrue q
 
 module _ (c : Bool) (o : Ours) (t : Bool) (w : Ours) (u : Bool) (x : isAcknowledged o ≡ true) (y : isAcknowledged w ≡ true) where
   pub quiet-agrees : (k : Link) (xs : List Act) → allQuiet xs ≡ true → Agrees k c o t w u → Agrees (doesAll k xs) c o t w u
   quiet-agrees k [] q a = a
   quiet-agrees k (b ∷ xs) q a =
-      quiet-agrees (does k b) xs (right (isQuiet b) (allQuiet xs) q)
+      quiet-agrees (does k b) xs (both-second (isQuiet b) (allQuiet xs) q)
       (same-agrees c o t w u k (does k b) x y
-      (does-same k (a .version-out ∙ acked-sent o x) (a .watchdog-out ∙ acked-sent w y) b (left (isQuiet b) (allQuiet xs) q)) a)
+      (does-same k (a .version-out ∙ acked-sent o x) (a .watchdog-out ∙ acked-sent w y) b (both-first (isQuiet b) (allQuiet xs) q)) a)

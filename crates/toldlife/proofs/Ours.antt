@@ -6,6 +6,7 @@ use mathlib.Core.Bool.{Bool, true, false}
 use native.Mathlib.Omega.{arith}
 use Rattle.basis.specs.Pick.{pick}
 use Rattle.basis.proofs.Cases.{bool-cases}
+use Rattle.basis.proofs.Both.{not-both, untrue}
 use Rattle.identity.specs.declared.Identity.{Identity}
 use Rattle.awaited.specs.declared.Awaited.{Awaited}
 use Rattle.awaited.specs.declared.Purpose.{Purpose}
@@ -20,7 +21,6 @@ use Rattle.link.specs.Careful.{Sendable}
 use Rattle.told.specs.Life.{Ours, isSent, isAcknowledged, ackedBy}
 use Rattle.told.specs.Life.Ours.{unsent, sent, acknowledged}
 use Rattle.toldlife.specs.Agree.{Awaits}
-use Rattle.toldlife.proofs.Choices.{clash}
 
 lost : {P : Type 0} (f : Found) (p : Purpose) → f ≡ Nothing → f ≡ For p → P
 lost f p a b = absurd (let z : _≡_ {A = ℕ} 0 1 = cc in omega arith)
@@ -28,7 +28,7 @@ lost f p a b = absurd (let z : _≡_ {A = ℕ} 0 1 = cc in omega arith)
 -- ---- a message of ours by itself
 pub unsent-unacked : (o : Ours) → isSent o ≡ false → isAcknowledged o ≡ false
 unsent-unacked unsent e = refl
-unsent-unacked (sent i) e = clash true refl e
+unsent-unacked (sent i) e = not-both refl e
 unsent-unacked acknowledged e = e
 
 pub acked-sent : (o : Ours) → isAcknowledged o ≡ true → isSent o ≡ true
@@ -47,7 +47,7 @@ still-sent id acknowledged = refl
 
 pub still-acked : (id : Identity) (o : Ours) → isAcknowledged o ≡ true → isAcknowledged (ackedBy id o) ≡ true
 still-acked id unsent e = e
-still-acked id (sent i) e = clash false e refl
+still-acked id (sent i) e = untrue e
 still-acked id acknowledged e = refl
 
 -- ---- among the awaited
@@ -82,7 +82,7 @@ module _ (w : Awaited) (p : Purpose) where
         stays n j t =
             remove-other w id j
             (bool-cases (sameIdentity id j)
-            (λ u. clash (sameIdentity i id) (subst (λ (x : Identity). sameIdentity i x ≡ true) (sym (same-is id j u)) t) n)
+            (λ u. not-both (subst (λ (x : Identity). sameIdentity i x ≡ true) (sym (same-is id j u)) t) n)
             (λ f. f))
             ∙ a j .1 t
 

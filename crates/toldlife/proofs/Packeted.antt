@@ -5,6 +5,7 @@ use mathlib.Core.Path.{_≡_, refl, sym, ap, subst, _∙_}
 use mathlib.Core.Bool.{Bool, true, false}
 use mathlib.Core.List.{List, [], _∷_}
 use Rattle.basis.specs.Pick.{pick, both}
+use Rattle.basis.proofs.Both.{both-first, both-second, both-false, not-both, untrue}
 use Rattle.identity.specs.declared.Identity.{Identity}
 use Rattle.awaited.proofs.Laws.{Sound}
 use Rattle.link.specs.declared.Link.{Link}
@@ -41,7 +42,7 @@ use Rattle.told.specs.Told.{Setup, isGood}
 use Rattle.told.specs.Life.{Life, down, isSent, isAcknowledged, isChosen, kindGot, classGot}
 use Rattle.toldlife.specs.Agree.{Agree}
 use Rattle.toldlife.specs.Shut.{shutsBy}
-use Rattle.toldlife.proofs.Choices.{clash, left, right, both-true, both-false, judged-new, judged-old, unjudged}
+use Rattle.toldlife.proofs.Choices.{both-true, judged-new, judged-old, unjudged}
 use Rattle.toldlife.proofs.Phases.{told-beats}
 use Rattle.toldlife.proofs.Acts.{shut-agrees, accepted-agrees, taken-agrees}
 use Rattle.toldlife.proofs.Answered.{acked-agrees, refused-agrees}
@@ -132,7 +133,7 @@ module _ (g : Setup) (s : Site) (l : ℕ) (v : Life) (a : Agree (linkAt s l) v) 
         subst (λ (t : Bool). Agree (linkAt s l) (withTheirs t))
         (sym (judged-old (isSent (v .version)) (v .theirVersion)
         (both (isGood (versionAt p .verdict)) (isChosen (judge (ownOffer (g .table)) (versionAt p .offer)))) (sym may-judge ∙ e))) a
-    unexpected-agrees Watchdog e = clash true refl e
+    unexpected-agrees Watchdog e = not-both refl e
     unexpected-agrees Alarm e = a
     unexpected-agrees AggregatedStatusRequest e = a
     unexpected-agrees StatusRequest e = a
@@ -141,15 +142,15 @@ module _ (g : Setup) (s : Site) (l : ℕ) (v : Life) (a : Agree (linkAt s l) v) 
     unexpected-agrees Unexpected e = a
 
     never-both : pick (v .theirVersion) false (isSent (v .version)) ≡ true → v .theirVersion ≡ true → ⊥
-    never-both e t = clash false (rw t at e) refl
+    never-both e t = untrue (rw t at e)
 
     unready-agrees : (kind : Kind) → expected (linkAt s l) kind ≡ true → unready (linkAt s l) kind ≡ true → Agree (linkAt s l) (kindGot g p kind v)
     unready-agrees Version e u =
         absurd (never-both (sym may-judge ∙ e)
-        (right (isAcknowledged (v .version)) (v .theirVersion)
+        (both-second (isAcknowledged (v .version)) (v .theirVersion)
         (told-beats (linkAt s l) (v .connected) (v .version) (v .theirVersion) (v .watchdog) (v .theirWatchdog) a
-        (left (isBeating (phaseOf (linkAt s l))) true u))))
-    unready-agrees Watchdog e u = clash false (right (isBeating (phaseOf (linkAt s l))) false u) refl
+        (both-first (isBeating (phaseOf (linkAt s l))) true u))))
+    unready-agrees Watchdog e u = not-both (both-second (isBeating (phaseOf (linkAt s l))) false u) refl
     unready-agrees Alarm e u = a
     unready-agrees AggregatedStatusRequest e u = a
     unready-agrees StatusRequest e u = a

@@ -3,6 +3,7 @@
 use mathlib.Core.Path.{_≡_, refl, sym, ap, _∙_}
 use mathlib.Core.Bool.{Bool, true, false}
 use Rattle.basis.specs.Pick.{pick, both}
+use Rattle.basis.proofs.Both.{both-first, untrue}
 use Rattle.link.specs.declared.Link.{Link}
 use Rattle.link.specs.declared.Phase.{Phase}
 use Rattle.link.specs.declared.Phase.the-variants.{Down, Greeting, Beating, Up}
@@ -11,7 +12,7 @@ use Rattle.told.specs.Life.{Ours, isSent, isAcknowledged}
 use Rattle.told.specs.Life.Ours.{unsent, sent, acknowledged}
 use Rattle.told.specs.Claims.{isUpPhase}
 use Rattle.toldlife.specs.Agree.{Agrees}
-use Rattle.toldlife.proofs.Choices.{clash, left, both-true, picked-true, picked-self}
+use Rattle.toldlife.proofs.Choices.{both-true, picked-true, picked-self}
 use Rattle.toldlife.proofs.Ours.{acked-sent}
 
 both-sent : (o : Ours) (t : Bool) → both (isSent o) (both (isAcknowledged o) t) ≡ both (isAcknowledged o) t
@@ -29,7 +30,7 @@ module _ (f : Phase → Bool) (down : f Down ≡ false) (greeting : f Greeting �
   by-phase true true true g = refl
   by-phase true true false g = refl
   by-phase true false d g = greeting
-  by-phase false true d g = clash false (g refl) refl
+  by-phase false true d g = untrue (g refl)
   by-phase false false d g = down
 
 module _ (k : Link) (c : Bool) (o : Ours) (t : Bool) (w : Ours) (u : Bool) (a : Agrees k c o t w u) where
@@ -40,7 +41,7 @@ module _ (k : Link) (c : Bool) (o : Ours) (t : Bool) (w : Ours) (u : Bool) (a : 
       (rw (a .watchdog-out, a .watchdog-acked, a .watchdog-taken, both-sent w u))
 
   pub begun-connected : both (isAcknowledged o) t ≡ true → c ≡ true
-  begun-connected e = a .version-connected (acked-sent o (left (isAcknowledged o) t e))
+  begun-connected e = a .version-connected (acked-sent o (both-first (isAcknowledged o) t e))
 
   pub told-up : isUpPhase (phaseOf k) ≡ both (both (isAcknowledged o) t) (both (isAcknowledged w) u)
   told-up =
@@ -63,7 +64,7 @@ module _ (k : Link) (c : Bool) (o : Ours) (t : Bool) (w : Ours) (u : Bool) (a : 
 
   pub told-beats : isBeating (phaseOf k) ≡ true → both (isAcknowledged o) t ≡ true
   told-beats e =
-      left (both (isAcknowledged o) t) (pick (both (isAcknowledged w) u) false true)
+      both-first (both (isAcknowledged o) t) (pick (both (isAcknowledged w) u) false true)
       (sym (ap isBeating told-phase ∙ by-phase isBeating refl refl c (both (isAcknowledged o) t) (both (isAcknowledged w) u) begun-connected) ∙ e)
 
   pub told-beating : both (isAcknowledged o) t ≡ true → isAcknowledged w ≡ false → phaseOf k ≡ Beating

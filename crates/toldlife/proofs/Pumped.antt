@@ -5,6 +5,7 @@ use mathlib.Core.Path.{_≡_, refl, sym}
 use mathlib.Core.Bool.{Bool, true, false}
 use mathlib.Core.List.{[], _∷_}
 use Rattle.basis.specs.Pick.{pick, both}
+use Rattle.basis.proofs.Both.{both-first, not-both}
 use Rattle.identity.specs.declared.Identity.{Identity}
 use Rattle.awaited.proofs.Laws.{Sound}
 use Rattle.pool.specs.declared.Sought.{Sought}
@@ -28,7 +29,6 @@ use Rattle.lives.specs.Moves.{doesAll}
 use Rattle.pumplives.specs.Pumped.{sentAs, recordActs, dueActs}
 use Rattle.told.specs.Life.{Life, isSent, isAcknowledged, pumped}
 use Rattle.toldlife.specs.Agree.{Agree}
-use Rattle.toldlife.proofs.Choices.{clash, left}
 use Rattle.toldlife.proofs.Ours.{acked-sent}
 use Rattle.toldlife.proofs.Phases.{told-cases}
 use Rattle.toldlife.proofs.Acts.{version-agrees, watchdog-agrees}
@@ -60,36 +60,36 @@ module _ (s : Site) (l time : ℕ) (id : Identity) where
     greeting c b = by (k .versionout) (sym (a .version-out))
       where
         by : (x : Bool) → isSent (v .version) ≡ x → Goes (pick x Nothing Version)
-        by true e n = clash true refl n
+        by true e n = not-both refl n
         by false e n =
             rw e (version-agrees k (v .connected) (v .version) (v .theirVersion) (v .watchdog) (v .theirWatchdog) a o id time f e c)
 
     begun-sent : both (isAcknowledged (v .version)) (v .theirVersion) ≡ true → isSent (v .version) ≡ true
-    begun-sent b = acked-sent (v .version) (left (isAcknowledged (v .version)) (v .theirVersion) b)
+    begun-sent b = acked-sent (v .version) (both-first (isAcknowledged (v .version)) (v .theirVersion) b)
 
     beating : both (isAcknowledged (v .version)) (v .theirVersion) ≡ true → Goes (pick (k .watchdogout) Nothing Watchdog)
     unfolding does
     beating b = by (k .watchdogout) (sym (a .watchdog-out))
       where
         by : (x : Bool) → isSent (v .watchdog) ≡ x → Goes (pick x Nothing Watchdog)
-        by true e n = clash true refl n
+        by true e n = not-both refl n
         by false e n =
             rw (begun-sent b, b, e)
             (watchdog-agrees k (v .connected) (v .version) (v .theirVersion) (v .watchdog) (v .theirWatchdog) a o id time f b e)
 
     stays : both (isAcknowledged (v .version)) (v .theirVersion) ≡ true → both (isAcknowledged (v .watchdog)) (v .theirWatchdog) ≡ true
         → pumped id v ≡ v
-    stays b e = rw (begun-sent b, b, acked-sent (v .watchdog) (left (isAcknowledged (v .watchdog)) (v .theirWatchdog) e)) refl
+    stays b e = rw (begun-sent b, b, acked-sent (v .watchdog) (both-first (isAcknowledged (v .watchdog)) (v .theirWatchdog) e)) refl
 
     in-up : both (isAcknowledged (v .version)) (v .theirVersion) ≡ true → both (isAcknowledged (v .watchdog)) (v .theirWatchdog) ≡ true → Goes up
     in-up b e n =
         rw (stays b e)
         (quiet-agrees (v .connected) (v .version) (v .theirVersion) (v .watchdog) (v .theirWatchdog)
-        (left (isAcknowledged (v .version)) (v .theirVersion) b) (left (isAcknowledged (v .watchdog)) (v .theirWatchdog) e)
+        (both-first (isAcknowledged (v .version)) (v .theirVersion) b) (both-first (isAcknowledged (v .watchdog)) (v .theirWatchdog) e)
         k (dueActs up s l time id) (due-quiet up) a)
 
     pub pump-agrees : isNothing (dueIn (phaseOf k) k up) ≡ false → Agree (doesAll k (dueActs (dueIn (phaseOf k) k up) s l time id)) (pumped id v)
     pump-agrees =
         told-cases k (v .connected) (v .version) (v .theirVersion) (v .watchdog) (v .theirWatchdog) a
         (λ (x : Phase). isNothing (dueIn x k up) ≡ false → Agree (doesAll k (dueActs (dueIn x k up) s l time id)) (pumped id v))
-        (λ c n. clash true refl n) greeting (λ b e. beating b) in-up
+        (λ c n. not-both refl n) greeting (λ b e. beating b) in-up

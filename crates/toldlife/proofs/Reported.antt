@@ -153,7 +153,7 @@ module _ (s : Site) (l time : ℕ) (id : Identity) where
     kind-closed VersionKind =
         good-closed (versionAt p .verdict) (versionJudged s l received (judge (own s) (versionAt p .offer))) (judgedActs (judge (own s) (versionAt p .offer)))
         (judged-closed (judge (own s) (versionAt p .offer)))
-    kind-closed WatchdogKind = good-closed (watchdogAt p .verdict) (beat s l received (watchdogAt p .time)) _ refl
+    kind-closed WatchdogKind = good-closed (watchdogAt p .verdict) (beat s l received (watchdogAt p)) _ refl
     kind-closed AlarmKind = reply-closed (alarmTaken s l time id received (alarmAt p)) (alarm-plain s received l time id (alarmAt p) .closed)
     kind-closed AggregatedStatusRequest =
         reply-closed (aggregatedTaken s l time id received (aggregatedAt p)) (aggregated-plain s received l time id (aggregatedAt p) .closed)

@@ -1,7 +1,7 @@
 -- Every done call leaves each link and its told life in agreement.
 -- Assumes nothing.
 use Prim.Native.Nat.{ℕ, _<_}
-use mathlib.Core.Path.{_≡_, refl, sym, subst}
+use mathlib.Core.Path.{_≡_, sym, subst}
 use mathlib.Core.Bool.{Bool, true, false}
 use mathlib.Core.Logic.{_⊎_, inl, inr}
 use mathlib.Core.List.{List, [], _∷_}
@@ -9,6 +9,7 @@ use lib.Dec.{eqb}
 use borrow.Author.Tests.{eq-eqb, ne-eqb}
 use Rattle.basis.specs.Pick.{pick}
 use Rattle.basis.proofs.Cases.{eq-or-ne}
+use Rattle.basis.proofs.Both.{untrue}
 use Rattle.answer.specs.Number.{isDone}
 use Rattle.identity.specs.declared.Identity.{Identity}
 use Rattle.identity.specs.Version.{identityOf}
@@ -42,7 +43,7 @@ use Rattle.told.specs.Told.{Setup}
 use Rattle.told.specs.Life.{Life, down, greeting, pumped, got, livesOn}
 use Rattle.toldlife.specs.Agree.{Agree}
 use Rattle.toldlife.specs.Shut.{shutsBy, hasBit}
-use Rattle.toldlife.proofs.Choices.{clash, not-false}
+use Rattle.toldlife.proofs.Choices.{not-false}
 use Rattle.toldlife.proofs.Acts.{shut-agrees, connect-agrees}
 use Rattle.toldlife.proofs.Reported.{by-none, due-shuts, reported}
 use Rattle.toldlife.proofs.Pumped.{pump-agrees}
@@ -64,7 +65,7 @@ module _ (k : Link) (m l : ℕ) (xs : List Act) (v w : Life) (a : Agree k v) whe
 down-unconnected : (k : Link) → isDown (phaseOf k) ≡ true → k .connected ≡ false
 down-unconnected k =
     phase-cases k (λ (f : Phase). isDown f ≡ true → k .connected ≡ false)
-    (λ c e. c) (λ c g e. clash false e refl) (λ c g b e. clash false e refl) (λ c g b e. clash false e refl)
+    (λ c e. c) (λ c g e. untrue e) (λ c g b e. untrue e) (λ c g b e. untrue e)
 
 moves : (s : Site) (c : Call) → Shaped s → Moves s (planOf s c) (actsOf s c)
 moves s (connect l t) sh = moved s sh .connect l

@@ -93,7 +93,7 @@ module _ (s : Site) (l time : ℕ) (id : Identity) where
 
     kind-table : (kind : Kind) → kindTaken s l time id received p kind .plan .site .table ≡ s .table
     kind-table VersionKind = verdict-table (versionAt p .verdict) _ (judged-table (judge (own s) (versionAt p .offer)))
-    kind-table WatchdogKind = verdict-table (watchdogAt p .verdict) (beat s l received (watchdogAt p .time)) refl
+    kind-table WatchdogKind = verdict-table (watchdogAt p .verdict) (beat s l received (watchdogAt p)) refl
     kind-table AlarmKind = alarm-plain s received l time id (alarmAt p) .table
     kind-table AggregatedStatusRequest = aggregated-plain s received l time id (aggregatedAt p) .table
     kind-table StatusRequest = status-plain s received l time id (statusAt false p) .table

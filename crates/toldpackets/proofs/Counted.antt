@@ -10,6 +10,7 @@ use native.Mathlib.Numerals.{add-one}
 use native.Mathlib.Omega.{arith}
 use borrow.Author.Tests.{ne-eqb}
 use Rattle.basis.specs.Pick.{pick, both}
+use Rattle.basis.proofs.Both.{untrue, both-true, both-false}
 use Rattle.identity.specs.declared.Identity.{Identity}
 use Rattle.entry.specs.declared.Entry.{Entry}
 use Rattle.alarm.specs.declared.Changed.{Changed}
@@ -43,19 +44,8 @@ use Rattle.toldpackets.proofs.Entries.{one-to}
 use Rattle.toldpackets.proofs.Below.{AlarmBelow, alarm-below}
 use Rattle.toldpackets.proofs.Alarms.{recordAt, no-record}
 
-no : {P : Type 0} → false ≡ true → P
-no q = absurd (let z : _≡_ {A = ℕ} 0 1 = cc in omega arith)
-
-both-true : (a b : Bool) → both a b ≡ true → (a ≡ true) × (b ≡ true)
-both-true true b e = (refl, e)
-both-true false b e = no e
-
-both-false : (b : Bool) → both b false ≡ false
-both-false true = refl
-both-false false = refl
-
 else-picked : {A : Type 0} (b : Bool) (x y : A) → b ≡ false → pick b x y ≡ y
-else-picked true x y e = no (sym e)
+else-picked true x y e = untrue (sym e)
 else-picked false x y e = refl
 
 -- ---- orders
@@ -96,7 +86,7 @@ module _ (g : Setup) (h : List Told) (t : ℕ) (p : List ℕ) where
 -- ---- subscriptions
 entry-one : (h : List Told) (l t : ℕ) (x : Sought) → isSought x ≡ true → length (entryRecord h l t x) ≡ 1
 entry-one h l t (Is k) e = refl
-entry-one h l t Nothing e = no e
+entry-one h l t Nothing e = untrue e
 
 entry-each : (table : SiteTable) (h : List Told) (l t c : ℕ) (es : List StatusEntry) (n : ℕ) → allStatuses table c es n ≡ true
     → length (entryRecords table h l t c es n) ≡ n
@@ -111,28 +101,28 @@ fields-each : (table : SiteTable) (h : List Told) (l t : ℕ) (f : StatusFields)
     → length (fieldsRecords table h l t f x) ≡ f .count
 fields-each table h l t f (Is c) e =
     entry-each table h l t c (f .entries) (f .count) (both-true (isGood (f .verdict)) (allStatuses table c (f .entries) (f .count)) e .1)
-fields-each table h l t f Nothing e = no e
+fields-each table h l t f Nothing e = untrue e
 
 -- one kind at a time
 ends-kind : (kind : Kind) → isSubscribing false kind ≡ true → (isSubscribing true kind ≡ false) × (isAlarmKind kind ≡ false)
-ends-kind Version e = no e
-ends-kind Watchdog e = no e
-ends-kind Alarm e = no e
-ends-kind AggregatedStatusRequest e = no e
-ends-kind StatusRequest e = no e
-ends-kind StatusSubscribe e = no e
+ends-kind Version e = untrue e
+ends-kind Watchdog e = untrue e
+ends-kind Alarm e = untrue e
+ends-kind AggregatedStatusRequest e = untrue e
+ends-kind StatusRequest e = untrue e
+ends-kind StatusSubscribe e = untrue e
 ends-kind StatusUnsubscribe e = (refl, refl)
-ends-kind Unexpected e = no e
+ends-kind Unexpected e = untrue e
 
 ends-alone : (up : Bool) (x : Class) → both up (asksFor (isSubscribing false) x) ≡ true
     → (both up (asksFor (isSubscribing true) x) ≡ false) × (both up (asksFor isAlarmKind x) ≡ false)
-ends-alone false x e = no e
-ends-alone true Ignored e = no e
-ends-alone true Acked e = no e
-ends-alone true NotAcked e = no e
+ends-alone false x e = untrue e
+ends-alone true Ignored e = untrue e
+ends-alone true Acked e = untrue e
+ends-alone true NotAcked e = untrue e
 ends-alone true (Asked Good kind) e = ends-kind kind e
-ends-alone true (Asked Missing kind) e = no e
-ends-alone true (Asked Bad kind) e = no e
+ends-alone true (Asked Missing kind) e = untrue e
+ends-alone true (Asked Bad kind) e = untrue e
 
 module _ (g : Setup) (h : List Told) (l t : ℕ) (p : List ℕ) where
   abbrev named : SoughtAlarm
@@ -143,14 +133,14 @@ module _ (g : Setup) (h : List Told) (l t : ℕ) (p : List ℕ) where
   records a b = pick b (subscribingRecords g h l t (statusAt true p)) (issued g h t p a named)
 
   neither : (a b : Bool) → b ≡ false → a ≡ false → records a b ≡ []
-  neither true b d e = no (sym e)
-  neither false true d e = no (sym d)
+  neither true b d e = untrue (sym e)
+  neither false true d e = untrue (sym d)
   neither false false d e = unordered g h t p named
 
   subscribed-each : (a b : Bool) → b ≡ true → passing (g .table) (statusAt true p) (componentOf (g .table) (statusAt true p)) ≡ true
       → length (records a b) ≡ statusAt true p .count
   subscribed-each a true d e = rw e (fields-each (g .table) h l t (statusAt true p) (componentOf (g .table) (statusAt true p)) e)
-  subscribed-each a false d e = no d
+  subscribed-each a false d e = untrue d
 
 pub counted : RecordsAll
 counted g h l t random p out =

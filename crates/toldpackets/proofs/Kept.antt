@@ -6,9 +6,9 @@ use mathlib.Core.Bool.{Bool, true, false}
 use mathlib.Core.List.{List}
 use lib.Dec.{ltb, leb}
 use lib.ListN.{length, getD}
-use native.Mathlib.Omega.{arith}
 use borrow.Author.Tests.{ltb-true}
 use Rattle.basis.specs.Pick.{pick, both}
+use Rattle.basis.proofs.Both.{untrue}
 use Rattle.answer.specs.Number.{isDone}
 use Rattle.identity.specs.declared.Identity.{Identity}
 use Rattle.identity.specs.Version.{identityOf}
@@ -49,9 +49,6 @@ use Rattle.toldpackets.specs.Packets.{PacketsStep}
 use Rattle.toldpackets.proofs.Quiet.{Quiet, answer-quiet, not-acked, version-quiet, watchdog-quiet, aggregated-quiet, status-quiet}
 use Rattle.toldpackets.proofs.Meets.{Meets, Known, MeetsHere, quiet-meets, alarm-meets, subscribe-meets, unsubscribe-meets}
 
-no : {P : Type 0} → false ≡ true → P
-no q = absurd (let z : _≡_ {A = ℕ} 0 1 = cc in omega arith)
-
 module _ (s : Site) (alarms : ℕ → Alarm) (subscriptions : ℕ → ℕ → Subscription) (h : List Told) (g : Known s alarms subscriptions h) (l time : ℕ) (p : List ℕ)
     (mine : l < 4) (id : Identity) (received : List ℕ) where
   abbrev Here : Bool → Bool → Bool → Plan → Type 0
@@ -68,8 +65,8 @@ module _ (s : Site) (alarms : ℕ → Alarm) (subscriptions : ℕ → ℕ → Su
   -- a kind that waits for Up: "Not ready" while Beating, ignored while Greeting
   waits : (a b c : Bool) (t : Taken) → Here a b c (t .plan) → (f : Phase) → isDown f ≡ false → both (isGreeting f) true ≡ false
       → Here (both (isUpPhase f) a) (both (isUpPhase f) b) (both (isUpPhase f) c) (pick (both (isBeating f) true) (notAcked s received notReady) t .plan)
-  waits a b c t m Down d e = no (sym d)
-  waits a b c t m Greeting d e = no (sym e)
+  waits a b c t m Down d e = untrue (sym d)
+  waits a b c t m Greeting d e = untrue (sym e)
   waits a b c t m Beating d e = quiet (notAcked s received notReady .plan) (not-acked s received notReady)
   waits a b c t m Up d e = m
 
@@ -117,7 +114,7 @@ module _ (s : Site) (alarms : ℕ → Alarm) (subscriptions : ℕ → ℕ → Su
   by-class : (answered : Identity) (x : Class) → isDown (phaseOf (linkAt s l)) ≡ false → ignoredBy (linkAt s l) answered x ≡ false
       → Here (both up (asksFor isAlarmKind x)) (both up (asksFor (isSubscribing true) x)) (both up (asksFor (isSubscribing false) x))
       (classTaken s l time id answered received p x .plan)
-  by-class answered Ignored d e = no (sym e)
+  by-class answered Ignored d e = untrue (sym e)
   by-class answered Acked d e = either-way up (answeredPlan s l answered true) (answer-quiet s l answered true)
   by-class answered NotAcked d e = either-way up (answeredPlan s l answered false) (answer-quiet s l answered false)
   by-class answered (Asked Good kind) d e = by-kind kind d e
@@ -131,11 +128,11 @@ linked l n e = by (ltb l 4) (ltb-true l 4) e
   where
     by : (b : Bool) → (b ≡ true → l < 4) → pick b (leb n l) true ≡ false → l < 4
     by true f e = f refl
-    by false f e = no (sym e)
+    by false f e = untrue (sym e)
 
 told-so : {A : Type 0} (b : Bool) (x y : A) → b ≡ true → x ≡ pick b x y
 told-so true x y e = refl
-told-so false x y e = no e
+told-so false x y e = untrue e
 
 module _ (l t : ℕ) (random : Identity) (p out : List ℕ) (g : Setup) (s : Site) (h : List Told) where
   abbrev call : Call

@@ -121,12 +121,12 @@ module _ (s : Site) (received : List ℕ) where
   pub version-quiet : (l : ℕ) (f : VersionFields) → Quiet s (versionTaken s l received f .plan)
   version-quiet l f = by-verdict (f .verdict) (versionJudged s l received (judge (own s) (f .offer))) (version-judged l (judge (own s) (f .offer)))
 
-  beats : (l t : ℕ) → Quiet s (beat s l received t .plan)
-  beats l t =
+  beats : (l : ℕ) (f : GotTime) → Quiet s (beat s l received f .plan)
+  beats l f =
       record { table = refl; links = refl; primary = refl; statuses = refl; aggregated = refl; alarms = refl; subscriptions = refl; issued = refl }
 
   pub watchdog-quiet : (l : ℕ) (f : GotTime) → Quiet s (watchdogTaken s l received f .plan)
-  watchdog-quiet l f = by-verdict (f .verdict) (beat s l received (f .time)) (beats l (f .time))
+  watchdog-quiet l f = by-verdict (f .verdict) (beat s l received f) (beats l f)
 
 -- ---- requests
 module _ (s : Site) (l time : ℕ) (id : Identity) (received : List ℕ) where

@@ -6,12 +6,12 @@ use mathlib.Core.Logic.{_⊎_, inl, inr}
 use native.Mathlib.Omega.{arith}
 use borrow.Author.Tests.{lt-ltb, le-ltb}
 use lib.ListN.{length}
+use Rattle.basis.proofs.Both.{not-both}
 use Rattle.entry.specs.declared.Entry.{Entry}
 use Rattle.pool.specs.Pool.{heldOf}
 use Rattle.pool_laws.specs.Contents.{Every}
 use Rattle.pool_laws.specs.Views.{Views}
 use Rattle.pool_laws.specs.Promises.Reached.{empty}
-use Rattle.pool_laws.proofs.Counts.{not-both}
 use Rattle.pool_laws.proofs.Viewed.{viewed}
 use Rattle.table_whole.specs.declared.SiteTable.{SiteTable}
 use Rattle.site.specs.declared.Site.{Site}

@@ -2,7 +2,7 @@
 -- Assumes nothing.
 use mathlib.Core.Path.{_≡_, refl, sym, ap, subst, _∙_}
 use mathlib.Core.Bool.{Bool, true, false}
-use mathlib.Core.List.{List, [], _∷_, _++_}
+use mathlib.Core.List.{List, [], _++_}
 use Prim.Native.Nat.{ℕ, _^_, _≤_, _<_}
 use native.Mathlib.Omega.{arith}
 use lib.Dec.{leb}
@@ -11,18 +11,15 @@ use borrow.Author.Tests.{leb-true}
 use Rattle.basis.specs.Pick.{pick}
 use Rattle.output.specs.Put.{Wrote}
 use Rattle.output.proofs.Laws.{same-length}
-use Rattle.week_entry.specs.declared.Entry.{Entry}
 use Rattle.week_tally.specs.Tally.{Tally}
 use Rattle.week_tally.specs.Tally.Tally.{within}
 use Rattle.week_tally.specs.Words.{tallyOf}
-use Rattle.week_tally.specs.Noted.{noted}
-use Rattle.week_note.specs.Noted.{notedAll}
+use Rattle.week_tally.specs.Noted.{notedAll}
 use Rattle.week_stream.specs.Packets.{entriesOf}
 use Rattle.week_stream.specs.Feed.{State, fed, fresh, stateOf}
 use Rattle.week_stream.proofs.Kept as Stream
 use Rattle.week_text.specs.Pieces.{reportPieces}
 use Rattle.week_report.specs.Report.{reportText}
-use Rattle.week_report.specs.Claims.{noteAll}
 use Rattle.week_report.proofs.Kept as Report
 use Rattle.weekc.specs.declared.Told.{Told}
 use Rattle.weekc.specs.Calls.{Begins, Feeds, Tells}
@@ -40,16 +37,8 @@ state (further {stream} {piece = piece} x l h f) =
     ∙ ap (λ (s : State). fed s piece) (state x)
     ∙ sym (Stream.kept .in-two (fresh (within [] [])) stream piece)
 
-one-name : (t : Tally) (es : List Entry) → notedAll t es ≡ noteAll t es
-unfolding notedAll noteAll
-one-name t [] = refl
-one-name t (e ∷ es) = one-name (noted t e) es
-
-tally : {stream w held : List ℕ} {used : ℕ} → Reading stream w held used → tallyOf w ≡ noteAll (within [] []) (entriesOf stream)
-tally {stream} x =
-    ap (λ (s : State). s .tally) (state x)
-    ∙ Stream.kept .whole (within [] []) stream
-    ∙ one-name (within [] []) (entriesOf stream)
+tally : {stream w held : List ℕ} {used : ℕ} → Reading stream w held used → tallyOf w ≡ notedAll (within [] []) (entriesOf stream)
+tally {stream} x = ap (λ (s : State). s .tally) (state x) ∙ Stream.kept .whole (within [] []) stream
 
 has-room : (a b : ℕ) → _≡_ {A = ℕ} (pick (leb a b) 0 2) 0 → a ≤ b
 has-room a b = by (leb a b) refl
@@ -62,7 +51,7 @@ report : {stream w held out after : List ℕ} {used : ℕ} {r : Told} → Readin
     → Tells w out after r → r .number ≡ 0 → take (r .written) after ≡ reportText (entriesOf stream)
 report {stream} {out = out} {after = after} {r = r} x n l t z =
     let d = t .done l in
-    let wrote : Wrote out 0 (reportPieces (noteAll (within [] []) (entriesOf stream))) after (r .written) = subst (λ (y : Tally). Wrote out 0 (reportPieces y) after (r .written)) (tally x) (d .0) in
+    let wrote : Wrote out 0 (reportPieces (notedAll (within [] []) (entriesOf stream))) after (r .written) = subst (λ (y : Tally). Wrote out 0 (reportPieces y) after (r .written)) (tally x) (d .0) in
     let room = has-room (r .written) (length out) (sym (d .1) ∙ z) in
     Report.kept .printed (entriesOf stream) n wrote (omega (arith, room, same-length wrote))
 

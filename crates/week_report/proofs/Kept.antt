@@ -13,12 +13,12 @@ use Rattle.week_entry.specs.declared.Entry.{Entry}
 use Rattle.week_count.specs.Values.{valuesOf}
 use Rattle.week_tally.specs.Tally.{Status as Kept, Tally}
 use Rattle.week_tally.specs.Tally.Tally.{too-many, within}
-use Rattle.week_tally.specs.Noted.{noted, limited}
+use Rattle.week_tally.specs.Noted.{noted, notedAll, limited}
 use Rattle.week_text.specs.Line.{header, tooManyLine}
 use Rattle.week_text.specs.Pieces.{reportPieces}
 use Rattle.week_report.specs.Tally.{Status, add, tallyFrom, total, fits}
 use Rattle.week_report.specs.Report.{linesOf, textOfTally, reportText}
-use Rattle.week_report.specs.Claims.{noteAll, Claims}
+use Rattle.week_report.specs.Claims.{Claims}
 use Rattle.week_report.proofs.Lines.{groupedFrom, lines-text}
 use Rattle.week_report.proofs.Groups.Most.{none}
 use Rattle.week_report.proofs.Room.{room}
@@ -30,8 +30,8 @@ unfolding tallyFrom
 fits-never [] ss h = h
 fits-never (e ∷ es) ss h = fits-never es (add ss e) (fits-not ss e h)
 
-over-stays : (es : List Entry) → noteAll too-many es ≡ too-many
-unfolding noteAll noted
+over-stays : (es : List Entry) → notedAll too-many es ≡ too-many
+unfolding notedAll noted
 over-stays [] = refl
 over-stays (e ∷ es) = over-stays es
 
@@ -45,18 +45,18 @@ within-text {fs} {vs} {ss} t h =
     rw h (ap (λ (l : List ℕ). header ++ l) (lines-text fs vs ∙ ap linesOf (t .groups)))
 
 run : (es : List Entry) {fs : List Kept} {vs : List ℕ} {ss : List Status} {n : ℕ} → Told fs vs ss n → fits ss ≡ true → n + length es < 2 ^ 64
-    → concat (reportPieces (noteAll (within fs vs) es)) ≡ textOfTally (tallyFrom ss es)
-unfolding noteAll tallyFrom reportPieces
+    → concat (reportPieces (notedAll (within fs vs) es)) ≡ textOfTally (tallyFrom ss es)
+unfolding notedAll tallyFrom reportPieces
 run [] t f h = within-text t f
 run (e ∷ es) {fs} {vs} {ss} {n} t f h =
     let x = next t e (omega arith) in
     let l : noted (within fs vs) e ≡ limited (x .statuses) (x .values) = x .is in
     bool-cases (fits (add ss e))
     (λ g.
-    ap (λ (y : Tally). concat (reportPieces (noteAll y es))) (l ∙ told-limited (x .told) ∙ rw g)
+    ap (λ (y : Tally). concat (reportPieces (notedAll y es))) (l ∙ told-limited (x .told) ∙ rw g)
     ∙ run es (x .told) g (omega arith))
     (λ g.
-    ap (λ (y : Tally). concat (reportPieces (noteAll y es))) (l ∙ told-limited (x .told) ∙ rw g)
+    ap (λ (y : Tally). concat (reportPieces (notedAll y es))) (l ∙ told-limited (x .told) ∙ rw g)
     ∙ ap (λ (y : Tally). concat (reportPieces y)) (over-stays es)
     ∙ sym (over-text (tallyFrom (add ss e) es) (fits-never es (add ss e) g)))
 
@@ -68,7 +68,7 @@ fits-begun : fits [] ≡ true
 unfolding fits total
 fits-begun = refl
 
-report : (es : List Entry) → length es < 2 ^ 64 → concat (reportPieces (noteAll (within [] []) es)) ≡ reportText es
+report : (es : List Entry) → length es < 2 ^ 64 → concat (reportPieces (notedAll (within [] []) es)) ≡ reportText es
 report es h = run es begun fits-begun (omega arith)
 
 pub kept : Claims

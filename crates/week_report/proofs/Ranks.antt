@@ -11,8 +11,9 @@ use lib.Dec.{ltb, leb}
 use lib.IntN.{ℤ, pos, negsuc}
 use lib.Signed.{ltZ}
 use lib.ListN.{length, length-map}
-use Rattle.basis.specs.Pick.{both, bit}
+use Rattle.basis.specs.Pick.{bit}
 use Rattle.basis.proofs.Cases.{lt-or-ge, le-or-lt}
+use Rattle.basis.proofs.Both.{both-true, untrue}
 use Rattle.week_count.specs.Values.{raised}
 use Rattle.week_count.specs.Middle.{middleOf, hasRank as hasRankOf, below as belowOf}
 use Rattle.week_count.proofs.Ranks.{Ranked, middle-is, ranked-is}
@@ -50,9 +51,6 @@ order (negsuc a) (negsuc b) =
     (lt-or-ge a b))
     (lt-or-ge b a)
 
-clash : true ≡ false → ⊥
-clash e = let z : _≡_ {A = ℕ} 0 1 = cc in omega arith
-
 -- on numbers: v not above m, and m below k
 nat-step : (m v k : ℕ) → ltb m k ≡ true → bit (not (ltb m v)) ≤ bit (ltb v k)
 nat-step m v k h =
@@ -76,7 +74,7 @@ bit-most false = omega arith
 step : (m v k : ℤ) → ltZ m k ≡ true → bit (not (ltZ m v)) ≤ bit (ltZ v k)
 step (pos m) (pos v) (pos k) h = nat-step m v k h
 step (pos m) (negsuc v) (pos k) h = omega arith
-step (pos m) v (negsuc k) h = absurd (clash (sym h))
+step (pos m) v (negsuc k) h = untrue h
 step (negsuc m) (pos v) k h = omega arith
 step (negsuc m) (negsuc v) (pos k) h = bit-most (not (ltb v m))
 step (negsuc m) (negsuc v) (negsuc k) h = neg-step m v k h
@@ -86,15 +84,10 @@ unfolding notAbove below
 above-below m k h [] = omega arith
 above-below m k h (v ∷ vs) = omega (arith, step m v k h, above-below m k h vs)
 
-both-was : (a b : Bool) → both a b ≡ true → (a ≡ true) × (b ≡ true)
-both-was true true e = (refl, refl)
-both-was true false e = (refl, e)
-both-was false b e = absurd (clash (sym e))
-
 apart : (rank : ℕ) (vs : List ℤ) (m k : ℤ) → hasRank rank vs m ≡ true → hasRank rank vs k ≡ true → ltZ m k ≡ true → ⊥
 apart rank vs m k a b h =
-    let p = both-was (ltb (below m vs) rank) (leb rank (notAbove m vs)) a in
-    let q = both-was (ltb (below k vs) rank) (leb rank (notAbove k vs)) b in
+    let p = both-true (ltb (below m vs) rank) (leb rank (notAbove m vs)) a in
+    let q = both-true (ltb (below k vs) rank) (leb rank (notAbove k vs)) b in
     omega (arith, leb-true rank (notAbove m vs) (p .1), ltb-true (below k vs) rank (q .0), above-below m k h vs)
 
 pub once : (rank : ℕ) (vs : List ℤ) (m k : ℤ) → hasRank rank vs m ≡ true → hasRank rank vs k ≡ true → m ≡ k

@@ -10,8 +10,9 @@ use native.Mathlib.Omega.{arith}
 use borrow.Author.Tests.{le-leb, lt-leb, lt-ltb, le-ltb}
 use lib.Dec.{leb}
 use lib.ListN.{length, length-append, length-set}
-use Rattle.basis.specs.Pick.{pick, both, bit}
+use Rattle.basis.specs.Pick.{pick, bit}
 use Rattle.basis.proofs.Cases.{bool-cases, lt-or-ge, le-or-lt}
+use Rattle.basis.proofs.Both.{both-no, not-both}
 use Rattle.label.specs.Label.{textOf}
 use Rattle.week_entry.specs.declared.Entry.{Entry}
 use Rattle.week_count.specs.Values.{valuesOf, valueWord}
@@ -164,13 +165,6 @@ told-limited {fs} {vs} {ss} t =
     let l : length ss ≡ length fs = sym (ap length (t .groups)) ∙ grouped-length 0 fs vs in
     rw (l, t .all)
 
-both-no : (a b : Bool) → b ≡ false → both a b ≡ false
-both-no true b e = e
-both-no false b e = refl
-
-clash : true ≡ false → ⊥
-clash e = let z : _≡_ {A = ℕ} 0 1 = cc in omega arith
-
 -- what does not fit will not fit
 pub fits-not : (ss : List Status) (e : Entry) → fits ss ≡ false → fits (add ss e) ≡ false
 unfolding fits
@@ -178,7 +172,7 @@ fits-not ss e h =
     ⊎-elim
     (λ (a : length ss ≤ 64).
     ⊎-elim
-    (λ (b : total ss ≤ 4000). absurd (clash (rw (le-leb (length ss) 64 a, le-leb (total ss) 4000 b) at h)))
+    (λ (b : total ss ≤ 4000). not-both refl (rw (le-leb (length ss) 64 a, le-leb (total ss) 4000 b) at h))
     (λ (b : 4000 < total ss). both-no (leb (length (add ss e)) 64) _ (lt-leb (total (add ss e)) 4000 (omega (arith, total-add ss e))))
     (le-or-lt (total ss) 4000))
     (λ (a : 64 < length ss). rw (lt-leb (length (add ss e)) 64 (omega (arith, add-length ss e))))

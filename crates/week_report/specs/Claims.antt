@@ -9,18 +9,12 @@ use lib.ListN.{length, getD, take}
 use Rattle.number.specs.Signed.{signedOf}
 use Rattle.output.specs.Put.{Wrote, concat}
 use Rattle.week_entry.specs.declared.Entry.{Entry}
-use Rattle.week_tally.specs.Tally.{Tally}
 use Rattle.week_tally.specs.Tally.Tally.{within}
 use Rattle.week_tally.specs.Words.{tallyOf}
-use Rattle.week_tally.specs.Noted.{noted}
+use Rattle.week_tally.specs.Noted.{notedAll}
 use Rattle.week_text.specs.Pieces.{reportPieces}
 use Rattle.week_report.specs.Figures.{hasRank, middle}
 use Rattle.week_report.specs.Report.{reportText}
-
--- entries noted one after the other
-unfoldable pub noteAll : Tally → List Entry → Tally
-noteAll t [] = t
-noteAll t (e ∷ es) = noteAll (noted t e) es
 
 -- the value of an entry's word
 abbrev pub wordValue : ℕ → ℤ
@@ -28,9 +22,9 @@ wordValue w = signedOf (w % 2 ^ 32)
 
 pub record Claims : Type 0 where
   -- what is written of a tally that began empty and noted these entries is their report (no status has more nulls than 64 bits count)
-  pub report : (es : List Entry) → length es < 2 ^ 64 → concat (reportPieces (noteAll (within [] []) es)) ≡ reportText es
+  pub report : (es : List Entry) → length es < 2 ^ 64 → concat (reportPieces (notedAll (within [] []) es)) ≡ reportText es
   -- so where it has room, the lent output begins with the report
-  pub printed : (es : List Entry) → length es < 2 ^ 64 → {xs ys : List ℕ} {r : ℕ} → Wrote xs 0 (reportPieces (noteAll (within [] []) es)) ys r → r ≤ length ys
+  pub printed : (es : List Entry) → length es < 2 ^ 64 → {xs ys : List ℕ} {r : ℕ} → Wrote xs 0 (reportPieces (notedAll (within [] []) es)) ys r → r ≤ length ys
       → take r ys ≡ reportText es
   -- 16,384 bytes are room enough, whatever the lent words hold
   pub room : (ws : List ℕ) → length ws ≡ 5027 → ((i : ℕ) → getD ws i 0 < 2 ^ 64) → length (concat (reportPieces (tallyOf ws))) ≤ 16384

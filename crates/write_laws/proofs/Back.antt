@@ -19,9 +19,6 @@ use Rattle.calendar.proofs.Reading as Times
 use Rattle.identity.specs.Read.{SixteenBytes, readIdentity}
 use Rattle.identity.specs.Text.{identityText}
 use Rattle.identity.proofs.Read as Identities
-use Rattle.names.specs.declared.Found.{Found as NameFound}
-use Rattle.names.specs.Names.{numberOf}
-use Rattle.names.proofs.Search.{reason-found}
 use Rattle.number.specs.Decimal.{digits, decimalOf}
 use Rattle.number.specs.Reading.{says}
 use Rattle.number.proofs.Digits.{says-digits, begins}
@@ -103,7 +100,7 @@ pub back : (m : Message) → Formed m → fieldsOf (jsonOf m) ≡ m
 back (version id site sxl) (formed-version i s x) = ap (λ (b : List ℕ). version b site sxl) (id-back id i)
 back (watchdog id time) (formed-watchdog i t) = ap₂ watchdog (id-back id i) (time-back time t)
 back (ack received) (formed-ack r) = refl
-back (notAck received reason) (formed-notAck r t) = ap (λ (f : NameFound). notAck received (numberOf f)) (reason-found reason t)
+back (notAck received reason) (formed-notAck r t) = refl
 back (alarm id component code s) (formed-alarm i c k f) = ap₂ (λ (b : List ℕ) (a : AlarmState). alarm b component code a) (id-back id i) (state-back s f)
 back (aggregated id component time value) (formed-aggregated i c t v) =
     ap₂ (λ (b : List ℕ) (n : ℕ). aggregated b component n (flagsIn 0 (flagsOf value))) (id-back id i) (time-back time t)

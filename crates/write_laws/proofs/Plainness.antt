@@ -3,7 +3,7 @@
 use Prim.Native.Nat.{ℕ, zero, suc, _+_, _/_, _%_, _≤_, _<_, min}
 use native.Mathlib.Omega.{arith}
 use mathlib.Core.Path.{_≡_, refl, sym, subst}
-use mathlib.Core.Bool.{Bool, true, false, true≢false}
+use mathlib.Core.Bool.{Bool, true}
 use mathlib.Core.Logic.{⊎-elim}
 use mathlib.Core.List.{List, [], _∷_, _++_}
 use lib.Dec.{T, leb}
@@ -12,6 +12,7 @@ use borrow.Author.Tests.{lt-ltb, le-ltb, leb-true, eqb-false}
 use Rattle.basis.specs.Pick.{both}
 use Rattle.basis.specs.Text.{text}
 use Rattle.basis.proofs.Cases.{lt-or-ge}
+use Rattle.basis.proofs.Both.{both-true}
 use Rattle.calendar.specs.Civil.{dateOf}
 use Rattle.calendar.specs.Text.{lastTime, decimals, dateText, clockText, secondText, milliText, timeText}
 use Rattle.identity.specs.Hex.{hexDigit, lowerHex, lowered}
@@ -25,10 +26,6 @@ use Rattle.json_write.specs.Plain.{PlainByte, PlainText}
 use Rattle.json_write.specs.Plain.PlainText.{none, more}
 use Rattle.write_member.specs.Member.{momentText}
 use Rattle.write_laws.specs.Formed.{Label, Received}
-
-pub both-true : (a b : Bool) → both a b ≡ true → (a ≡ true) × (b ≡ true)
-both-true true b e = (refl, e)
-both-true false b e = absurd (true≢false (sym e))
 
 -- a byte of the alphabet
 byte : (b : ℕ) → inAlphabet b ≡ true → PlainByte b

@@ -13,6 +13,7 @@ use Rattle.basis.specs.Pick.{pick}
 use Rattle.basis.specs.Text.{text}
 use Rattle.basis.proofs.Cases.{picked}
 use Rattle.basis.proofs.Table.{at}
+use Rattle.basis.proofs.Both.{both-true}
 use Rattle.calendar.specs.Text.{lastTime}
 use Rattle.calendar.proofs.Reading.{time-length}
 use Rattle.identity.specs.Hex.{lowerHex}
@@ -40,7 +41,6 @@ use Rattle.write_laws.specs.Formed.Formed.{formed-version, formed-watchd
 use Rattle.write_laws.specs.Formed.FormedValue.{recent, unknown, undefined}
 use Rattle.write_laws.specs.Formed.FormedStatuses.{none as no-more, more as one-more}
 use Rattle.write_laws.specs.Size.{most, mostStatuses, entriesIn}
-use Rattle.write_laws.proofs.Plainness.{both-true}
 
 abbrev mutual
   size : Json → ℕ
@@ -145,7 +145,7 @@ sized : (m : Message) → Formed m → size (jsonOf m) + 1 ≤ most m
 sized (version id site sxl) (formed-version i s x) = omega (arith, text-length id, label-size s, label-size x)
 sized (watchdog id time) (formed-watchdog i t) = omega (arith, text-length id, moment-size time)
 sized (ack received) (formed-ack r) = omega (arith, received-size r)
-sized (notAck received reason) (formed-notAck r t) = omega (arith, received-size r, reason-size reason t)
+sized (notAck received _) (formed-notAck {reason = reason} r t) = omega (arith, received-size r, reason-size reason t)
 sized (alarm id component code s) (formed-alarm i c k f) =
     omega (
       arith,

@@ -15,7 +15,6 @@ use Rattle.calendar.specs.declared.Time.{Time}
 use Rattle.calendar.specs.declared.Time.the-variants.{Is, No}
 use Rattle.calendar.specs.Read.{readTime}
 use Rattle.identity.specs.Read.{readIdentity}
-use Rattle.names.specs.Names.{findReason, numberOf}
 use Rattle.number.specs.Reading.{says}
 use Rattle.json_value.specs.Grammar.{Json, Jsons}
 use Rattle.json_value.specs.Grammar.Json.{null, bool, num, str, arr, obj}
@@ -51,7 +50,7 @@ abbrev pub saidIs : String → String → Json → Bool
 saidIs name value j = sameBytes (said name j) (text value)
 
 abbrev pub timeOf : Time → ℕ
-timeOf (Is ms) = ms
+timeOf (Is ms decimals) = ms
 timeOf No = 0
 
 abbrev pub timeIn : String → Json → ℕ
@@ -107,7 +106,7 @@ fieldsOf j =
     pick (saidIs "type" "Version" j) (version (identityIn j) (said "sId" (first "siteId" j)) (said "SXL" j))
     (pick (saidIs "type" "Watchdog" j) (watchdog (identityIn j) (timeIn "wTs" j))
     (pick (saidIs "type" "MessageAck" j) (ack (said "oMId" j))
-    (pick (saidIs "type" "MessageNotAck" j) (notAck (said "oMId" j) (numberOf (findReason (said "rea" j))))
+    (pick (saidIs "type" "MessageNotAck" j) (notAck (said "oMId" j) (said "rea" j))
     (pick (saidIs "type" "Alarm" j) (alarm (identityIn j) (said "cId" j) (said "aCId" j) (stateIn j))
     (pick (saidIs "type" "AggregatedStatus" j) (aggregated (identityIn j) (said "cId" j) (timeIn "aSTS" j) (flagsIn 0 (elementsIn (valueOf (member (text "se") j)))))
     (pick (saidIs "type" "StatusResponse" j) (toldIn Response j) (toldIn Update j)))))))

@@ -7,7 +7,6 @@ use lib.Dec.{eqb}
 use Rattle.basis.specs.Pick.{pick}
 use Rattle.basis.specs.Text.{text}
 use Rattle.identity.specs.Text.{identityText}
-use Rattle.names.specs.Names.{nameOf}
 use Rattle.number.specs.Decimal.{digits, decimalOf}
 use Rattle.write_member.specs.Member.{momentText}
 use Rattle.json_value.specs.Grammar.{Json, Jsons, Members}
@@ -100,7 +99,7 @@ jsonOf (version id site sxl) =
     (element "siteId" (arr (jcons (obj (said "sId" site mnil)) jnil)) (said "SXL" sxl mnil))))
 jsonOf (watchdog id time) = obj (headOf (text "Watchdog") "mId" (identityText id) (said "wTs" (momentText time) mnil))
 jsonOf (ack received) = obj (headOf (text "MessageAck") "oMId" received mnil)
-jsonOf (notAck received reason) = obj (headOf (text "MessageNotAck") "oMId" received (said "rea" (nameOf reason) mnil))
+jsonOf (notAck received reason) = obj (headOf (text "MessageNotAck") "oMId" received (said "rea" reason mnil))
 jsonOf (alarm id component code s) =
     obj (aboutOf (text "Alarm") id component
     (said "aCId" code (said "xACId" [] (said "xNACId" []

@@ -15,13 +15,13 @@ pub record Status : Type 0 where
 abbrev pub status : List ℕ → List ℕ → Value → Status
 status code name value = record { code = code; name = name; value = value }
 
--- an identity is sixteen bytes, a time milliseconds since 1970, a reason its number in the table of names;
+-- an identity is sixteen bytes, a time milliseconds since 1970, a reason its text;
 -- the two answers repeat the characters of the identity that was received
 pub data Message : Type 0 where
   version : (id site sxl : List ℕ) → Message
   watchdog : (id : List ℕ) (time : ℕ) → Message
   ack : (received : List ℕ) → Message
-  notAck : (received : List ℕ) (reason : ℕ) → Message
+  notAck : (received reason : List ℕ) → Message
   alarm : (id component code : List ℕ) (state : AlarmState) → Message
   aggregated : (id component : List ℕ) (time value : ℕ) → Message
   statuses : (kind : Told) (id component : List ℕ) (time : ℕ) (entries : List Status) → Message

@@ -8,7 +8,6 @@ use lib.IntN.{ℤ}
 use Rattle.basis.specs.Pick.{pick}
 use Rattle.basis.specs.Text.{text}
 use Rattle.identity.specs.Text.{identityText}
-use Rattle.names.specs.Names.{nameOf}
 use Rattle.number.specs.Decimal.{digits, decimalOf}
 use Rattle.write_member.specs.Member.{named, string, next, momentText}
 use Rattle.write_message.specs.declared.AlarmState.{AlarmState}
@@ -109,7 +108,7 @@ unfoldable pub pieces : Message → List (List ℕ)
 pieces (version id site sxl) = ownPieces (text "Version") id ++ offerPieces ++ sitePieces site ++ string next (text "SXL") sxl ++ closing
 pieces (watchdog id time) = ownPieces (text "Watchdog") id ++ string next (text "wTs") (momentText time) ++ closing
 pieces (ack received) = headPieces (text "MessageAck") (text "oMId") received ++ closing
-pieces (notAck received reason) = headPieces (text "MessageNotAck") (text "oMId") received ++ string next (text "rea") (nameOf reason) ++ closing
+pieces (notAck received reason) = headPieces (text "MessageNotAck") (text "oMId") received ++ string next (text "rea") reason ++ closing
 pieces (alarm id component code s) = aboutPieces (text "Alarm") id component ++ codePieces code ++ statePieces s ++ restPieces s
 pieces (aggregated id component time value) = aboutPieces (text "AggregatedStatus") id component ++ bodyPieces time ++ highPieces value ++ lowPieces value
 pieces (statuses kind id component time entries) = statusHead kind id component time ++ entriesPieces true entries ++ statusTail

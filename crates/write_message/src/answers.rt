@@ -1,4 +1,5 @@
 // The two answers, which repeat the characters of the identity that was received.
+ghost use Rattle.names.specs.Names.{nameOf};
 ghost use Rattle.output.specs.Put.{Wrote};
 ghost use Rattle.write_message.specs.Message.Message.{ack as ackOf, notAck};
 ghost use Rattle.write_message.specs.Pieces.{pieces};
@@ -14,7 +15,7 @@ pub fn ack(out: &mut [u8], at: usize, received: &[u8]) -> usize
 
 // The reason by its number in the table of names.
 pub fn not_ack(out: &mut [u8], at: usize, received: &[u8], reason: usize) -> usize
-    ensures { λ r. ⌜ Wrote (now (out .entry)) at (pieces (notAck (now (received .entry)) reason)) (now (out .exit)) r ⌝ }
+    ensures { λ r. ⌜ Wrote (now (out .entry)) at (pieces (notAck (now (received .entry)) (nameOf reason))) (now (out .exit)) r ⌝ }
 {
     let end = super::head(out, at, types::MESSAGE_NOT_ACK, elements::O_M_ID, received);
     let end = write_member::word(out, end, b",\"", elements::REA, reason);
