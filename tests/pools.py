@@ -73,9 +73,6 @@ class Run:
         item = self.source.randrange(32)
         self.say("a", struct.pack(">HH", link, item), self.shown(self.pool.newest_of_alarm(link, item)))
 
-    def crowded(self, link):
-        self.say("c", struct.pack(">H", link), "13" if self.pool.crowded(link) else "-")
-
     def look(self):
         """All that is held, in order, and one rank past it."""
         for link in range(LINKS):
@@ -84,7 +81,7 @@ class Run:
                 self.say("k", struct.pack(">HH", link, rank), self.shown(record))
 
     def run(self, count, weights):
-        acts = (self.issue, self.settle, self.mark, self.unmark, self.oldest, self.newest, self.crowded)
+        acts = (self.issue, self.settle, self.mark, self.unmark, self.oldest, self.newest)
         for _ in range(count):
             self.source.choices(acts, weights=weights)[0](self.link())
         self.look()
@@ -92,7 +89,7 @@ class Run:
 
 
 SHAPES = ((1, 1, 1, 1), (8, 8, 1, 1), (20, 20, 1, 0), (1, 0, 0, 0), (40, 40, 40, 1), (1, 1, 0, 0))
-FILLING, CHURNING = (40, 2, 3, 0.2, 1, 1, 1), (10, 8, 4, 0.5, 1, 1, 1)
+FILLING, CHURNING = (40, 2, 3, 0.2, 1, 1), (10, 8, 4, 0.5, 1, 1)
 
 
 def marked():

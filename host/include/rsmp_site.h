@@ -47,8 +47,7 @@ enum rsmp_number {
     RSMP_SAME_IDENTITY = 9,   /* the random bytes make an identity that is awaited: call again with fresh random bytes */
     RSMP_SEQUENCE_SPENT = 10, /* sequence numbers would pass 4294967295: start a new site */
     RSMP_NOT_ACCEPTED = 11,   /* start: a value or the site table is out of its limits */
-    RSMP_LONG_PACKET = 12,    /* packet: longer than RSMP_PACKET_BYTES. Drop it and go on */
-    RSMP_POOL_FULL = 13       /* no room for a record; cannot happen with four links or fewer */
+    RSMP_LONG_PACKET = 12     /* packet: longer than RSMP_PACKET_BYTES. Drop it and go on */
 };
 
 enum rsmp_phase_number { RSMP_DOWN = 0, RSMP_GREETING = 1, RSMP_BEATING = 2, RSMP_UP = 3 };

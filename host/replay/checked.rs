@@ -4,7 +4,7 @@
 use crate::script::Line;
 use rsmp_site::ffi::{self, Id, Site, Step, SITE_BYTES};
 
-const LAST_NUMBER: u32 = 13;
+const LAST_NUMBER: u32 = 12;
 const LINKS: u32 = 4;
 const GUARD: usize = 64;
 /// What stands before the site's bytes where they are stored: a name, the edition, the length.

@@ -15,12 +15,11 @@ pub enum Refusal {
     SequenceSpent = 10,
     NotAccepted = 11,
     LongPacket = 12,
-    PoolFull = 13,
 }
 
 use Refusal::*;
 
-const ALL: [Refusal; 13] = [
+const ALL: [Refusal; 12] = [
     Ignored,
     NoLink,
     NoItem,
@@ -33,7 +32,6 @@ const ALL: [Refusal; 13] = [
     SequenceSpent,
     NotAccepted,
     LongPacket,
-    PoolFull,
 ];
 
 impl Refusal {
@@ -65,7 +63,6 @@ impl fmt::Display for Refusal {
             SequenceSpent => "the sequence numbers are used up",
             NotAccepted => "the site table or a start value is not accepted",
             LongPacket => "the packet is longer than 4096 bytes",
-            PoolFull => "the pool has no room for a record",
         };
         write!(formatter, "{} (number {})", text, self.number())
     }

@@ -36,11 +36,6 @@ class Pool:
     def fullest(self):
         return max(range(len(self.lost)), key=lambda link: (self.held(link), -link))
 
-    def crowded(self, link):
-        """Number 13's condition."""
-        others = [self.held(other) for other in range(len(self.lost)) if other != link]
-        return len(self.records) == PLACES and self.held(link) < SHARE and all(count <= SHARE for count in others)
-
     def issue(self, record):
         own = self.of(record.link)
         if len(own) == MOST:

@@ -135,8 +135,7 @@ module _ (s : Site) (l t : ℕ) (random id : Identity) (p out : List ℕ) (ack :
         (more refl
         (more not-replying
         (more (ap (λ (x : Plan). batchOf x .spent) plan-is)
-        (more (ap (λ (x : Plan). batchOf x .crowded) plan-is)
-        none)))))))))))
+        none))))))))))
 
     pub done : stepBy s answer .answer ≡ Done (reportOf (planOf s answer) (endOf s answer))
     done = kept .numbered s answer .done nothing-against

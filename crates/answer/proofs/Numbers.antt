@@ -1,4 +1,4 @@
--- The numbers are 1 to 13, each of one refusal; 0 is exactly done; the order of the checks by its numbers.
+-- The numbers are 1 to 12, each of one refusal; 0 is exactly done; the order of the checks by its numbers.
 -- Assumes nothing.
 use mathlib.Core.Path.{_≡_, refl, sym, ap, _∙_}
 use mathlib.Core.List.{List, [], _∷_, map}
@@ -19,7 +19,6 @@ use Rattle.answer.specs.declared.Refusal.the-variants.{
   SequenceSpent,
   NotAccepted,
   LongPacket,
-  PoolFull,
 }
 use Rattle.answer.specs.declared.Report.{Report}
 use Rattle.answer.specs.declared.Answer.{Answer}
@@ -28,8 +27,8 @@ use Rattle.answer.specs.Number.{refusalNumber, numberOf}
 use Rattle.answer.specs.Given.{givenBy}
 use Rattle.answer.specs.Order.{inOrder}
 
--- document 01: checked in the order 2, 3, 4, 12, 5, 6, 1, 7, 8, 9, 10, 13
-pub order : map refusalNumber inOrder ≡ 2 ∷ 3 ∷ 4 ∷ 12 ∷ 5 ∷ 6 ∷ 1 ∷ 7 ∷ 8 ∷ 9 ∷ 10 ∷ 13 ∷ []
+-- document 01, without the number that nothing meets: checked in the order 2, 3, 4, 12, 5, 6, 1, 7, 8, 9, 10
+pub order : map refusalNumber inOrder ≡ 2 ∷ 3 ∷ 4 ∷ 12 ∷ 5 ∷ 6 ∷ 1 ∷ 7 ∷ 8 ∷ 9 ∷ 10 ∷ []
 order = refl
 
 byNumber : List Refusal
@@ -46,7 +45,6 @@ byNumber =
     ∷ SequenceSpent
     ∷ NotAccepted
     ∷ LongPacket
-    ∷ PoolFull
     ∷ []
 
 back : (r : Refusal) → getD byNumber (refusalNumber r - 1) Ignored ≡ r
@@ -63,13 +61,12 @@ back IdentityAwaited = refl
 back SequenceSpent = refl
 back NotAccepted = refl
 back LongPacket = refl
-back PoolFull = refl
 
 -- a number stands for one refusal
 pub distinct : (a b : Refusal) → refusalNumber a ≡ refusalNumber b → a ≡ b
 distinct a b e = sym (back a) ∙ ap (λ (n : ℕ). getD byNumber (n - 1) Ignored) e ∙ back b
 
-pub range : (r : Refusal) → (1 ≤ refusalNumber r) × (refusalNumber r ≤ 13)
+pub range : (r : Refusal) → (1 ≤ refusalNumber r) × (refusalNumber r ≤ 12)
 range Ignored = omega arith
 range NoSuchLink = omega arith
 range NoSuchItem = omega arith
@@ -82,7 +79,6 @@ range IdentityAwaited = omega arith
 range SequenceSpent = omega arith
 range NotAccepted = omega arith
 range LongPacket = omega arith
-range PoolFull = omega arith
 
 -- 0 is exactly done
 pub done-is-0 : (r : Report) → numberOf (Done r) ≡ 0

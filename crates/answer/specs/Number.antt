@@ -16,7 +16,6 @@ use Rattle.answer.specs.declared.Refusal.the-variants.{
   SequenceSpent,
   NotAccepted,
   LongPacket,
-  PoolFull,
 }
 use Rattle.answer.specs.declared.Answer.{Answer}
 use Rattle.answer.specs.declared.Answer.the-variants.{Done, Refused}
@@ -34,7 +33,6 @@ refusalNumber IdentityAwaited = 9  -- the identity to be sent is already awaited
 refusalNumber SequenceSpent = 10  -- the call would take sequence numbers past 4294967295
 refusalNumber NotAccepted = 11  -- start values, site table or (record reader) record not accepted
 refusalNumber LongPacket = 12  -- packet longer than 4,096 bytes
-refusalNumber PoolFull = 13  -- pool full, the link holds fewer than 16, no other link holds more than 16
 
 abbrev pub numberOf : Answer → ℕ
 numberOf (Done r) = 0  -- done

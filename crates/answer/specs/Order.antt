@@ -17,7 +17,6 @@ use Rattle.answer.specs.declared.Refusal.the-variants.{
   IdentityAwaited,
   SequenceSpent,
   LongPacket,
-  PoolFull,
 }
 use Rattle.answer.specs.declared.Answer.{Answer}
 use Rattle.answer.specs.declared.Answer.the-variants.{Refused}
@@ -35,7 +34,6 @@ inOrder =
     ∷ ManyAwaited
     ∷ IdentityAwaited
     ∷ SequenceSpent
-    ∷ PoolFull
     ∷ []
 
 -- the first refusal of the list that applies; where none does, a

@@ -18,7 +18,6 @@ pub enum Refusal {
     SequenceSpent,
     NotAccepted,
     LongPacket,
-    PoolFull,
 }
 
 // What a done call says: hint is a time in milliseconds where hinted is not 0; bit l of closed is set where link l was closed.
@@ -51,7 +50,6 @@ pub fn refusal_number(r: Refusal) -> u32
         Refusal::SequenceSpent => 10,
         Refusal::NotAccepted => 11,
         Refusal::LongPacket => 12,
-        Refusal::PoolFull => 13,
     }
 }
 

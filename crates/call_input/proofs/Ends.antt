@@ -5,7 +5,7 @@ use mathlib.Core.Path.{_≡_, refl}
 use mathlib.Core.Bool.{Bool, true, false}
 use borrow.Author.Tests.{le-leb, lt-leb}
 use Rattle.basis.specs.Pick.{pick}
-use Rattle.answer.specs.declared.Refusal.the-variants.{NoSuchItem, BadTime, SequenceSpent, PoolFull}
+use Rattle.answer.specs.declared.Refusal.the-variants.{NoSuchItem, BadTime, SequenceSpent}
 use Rattle.answer.specs.declared.Report.{Report}
 use Rattle.answer.specs.declared.Answer.the-variants.{Done, Refused}
 use Rattle.site.specs.declared.Site.{Site}
@@ -13,16 +13,14 @@ use Rattle.site.specs.Site.{badTimeAt}
 use Rattle.site.specs.Call.{Plan, never, stepped, refused, stepOf, batchOf}
 use Rattle.call_input.specs.Inputs.{planned, itemRefuses, aggregatedRefuses}
 
-ended : (s t : Site) (r : Report) (spent crowded : Bool)
-    → pick spent (refused s SequenceSpent) (pick crowded (refused s PoolFull) (record { site = t; answer = Done r }))
-    ≡ stepped s t (pick spent (Refused SequenceSpent) (pick crowded (Refused PoolFull) (Done r)))
-ended s t r true crowded = refl
-ended s t r false true = refl
-ended s t r false false = refl
+ended : (s t : Site) (r : Report) (spent : Bool)
+    → pick spent (refused s SequenceSpent) (record { site = t; answer = Done r }) ≡ stepped s t (pick spent (Refused SequenceSpent) (Done r))
+ended s t r true = refl
+ended s t r false = refl
 
 module _ (s : Site) (time : ℕ) (p : Plan) where
   done : planned s time p ≡ stepOf s time never p 0
-  done = ended s _ _ (batchOf p .spent) (batchOf p .crowded)
+  done = ended s _ _ (batchOf p .spent)
 
   pub late : badTimeAt s time ≡ true → refused s BadTime ≡ stepOf s time (aggregatedRefuses s time) p 0
   late h = rw h refl

@@ -11,7 +11,7 @@ use borrow.Author.Tests.{ltb-true}
 use Rattle.basis.specs.Pick.{pick}
 use Rattle.basis.proofs.Cases.{picked}
 use Rattle.answer.specs.declared.Refusal.{Refusal}
-use Rattle.answer.specs.declared.Refusal.the-variants.{NoSuchLink, ShortOutput, BadTime, WrongPhase, NothingDue, ManyAwaited, IdentityAwaited, SequenceSpent, PoolFull}
+use Rattle.answer.specs.declared.Refusal.the-variants.{NoSuchLink, ShortOutput, BadTime, WrongPhase, NothingDue, ManyAwaited, IdentityAwaited, SequenceSpent}
 use Rattle.answer.specs.declared.Report.{Report}
 use Rattle.answer.specs.declared.Answer.{Answer}
 use Rattle.answer.specs.declared.Answer.the-variants.{Done, Refused}
@@ -123,9 +123,9 @@ stays false false false false false true g w o x h = h
 stays false false false false false false true w o x h = h
 stays false false false false false false false w o x h = not-refused h
 
--- where none does, numbers 10 and 13 are left
+-- where none does, number 10 is left
 clear : (a b c d e f g : Bool) (w : Batch) (o : Answer) (q : Report) → first a b c d e f g ≡ Done q
-    → judged (issuing w (seven a b c d e f g)) inOrder o ≡ pick (w .spent) (Refused SequenceSpent) (pick (w .crowded) (Refused PoolFull) o)
+    → judged (issuing w (seven a b c d e f g)) inOrder o ≡ pick (w .spent) (Refused SequenceSpent) o
 clear true b c d e f g w o q h = not-done h
 clear false true c d e f g w o q h = not-done h
 clear false false true d e f g w o q h = not-done h
@@ -135,8 +135,8 @@ clear false false false false false true g w o q h = not-done h
 clear false false false false false false true w o q h = not-done h
 clear false false false false false false false w o q h = refl
 
-done-answer : (b : Batch) (p : Site) (o : Answer) → b ≡ beginning (p .pool) (p .next) → pick (b .spent) (Refused SequenceSpent) (pick (b .crowded) (Refused PoolFull) o) ≡ o
-done-answer b p o e = ap (λ (w : Batch). pick (w .spent) (Refused SequenceSpent) (pick (w .crowded) (Refused PoolFull) o)) e
+done-answer : (b : Batch) (p : Site) (o : Answer) → b ≡ beginning (p .pool) (p .next) → pick (b .spent) (Refused SequenceSpent) o ≡ o
+done-answer b p o e = ap (λ (w : Batch). pick (w .spent) (Refused SequenceSpent) o) e
 
 no-batch : (p : Plan) → p .issued ≡ [] → batchOf p ≡ beginning (p .site .pool) (p .site .next)
 no-batch p i = ap (λ (es : List HeldEntry). issuedAll 4 (p .site .pool) (p .site .next) es) i

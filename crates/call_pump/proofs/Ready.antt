@@ -112,8 +112,8 @@ module _ (s : Site) (l time : ℕ) (id : Identity) (room : ℕ) where
         enough = ltb-false room 4096 (h .room);
         later = ltb-false time (s .last) (times .0);
         years = ltb-false lastTime time (times .1);
-        not-down = λ (e : phaseOf (linkAt s l) ≡ Down). not-both (sym (ap isDown e)) (h .phase);
-        due = λ (e : dueAt s l time ≡ Nothing). not-both (sym (ap isNothing e)) (h .due);
+        not-down = λ (e : phaseOf (linkAt s l) ≡ Down). not-both (ap isDown e) (h .phase);
+        due = λ (e : dueAt s l time ≡ Nothing). not-both (ap isNothing e) (h .due);
         few = leb-false 8 (howManyOf (linkAt s l .awaited)) (sym (crowded-eight (linkAt s l)) ∙ h .few);
         fresh = is-fresh (findOf (linkAt s l .awaited) id) (h .fresh);
       }

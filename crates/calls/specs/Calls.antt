@@ -49,7 +49,7 @@ outputOf (aggregated value t) = []
 outputOf (tick t) = []
 outputOf (pump l t random out) = out
 
--- what refuses the call, numbers 10 and 13 apart
+-- what refuses the call, number 10 apart
 abbrev pub refuses : Site → Call → Refusal → Bool
 refuses s (connect l t) = connectRefuses s l t
 refuses s (disconnect l t) = disconnectRefuses s l t

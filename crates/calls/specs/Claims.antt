@@ -42,7 +42,7 @@ pub record Own (s : Site) : Type 0 where
       → Gives s t (packetRefuses s l t (identityOf random) (length xs) p) (packetTaken s l t (identityOf random) p .plan) xs ys r
       → (r ≡ stepBy s (packet l t random p xs)) × (ys ≡ outBy s (packet l t random p xs))
 
--- the conditions of the call, numbers 10 and 13 with them
+-- the conditions of the call, number 10 with them
 abbrev pub conditionsOf : Site → Call → Refusal → Bool
 conditionsOf s c = conditions (refuses s c) (planOf s c)
 
@@ -58,7 +58,7 @@ pub record Numbered (s : Site) (c : Call) : Type 0 where
   pub same-bytes : (r : Refusal) → stepBy s c .answer ≡ Refused r → outBy s c ≡ outputOf c
   -- a done call: the planned site with the records issued, and its time the last
   pub next-site : (d : Report) → stepBy s c .answer ≡ Done d → stepBy s c .site ≡ withIssued (planOf s c .site) (batchOf (planOf s c)) (timeOf c)
-  -- what numbers 10, 11 and 13 mean
+  -- what numbers 10 and 11 mean
   pub numbers : Numbers (refuses s c) (planOf s c) (endOf s c)
   -- "A done call writes only the counted first bytes of the output"
   pub written : Written (outputOf c) (planOf s c .messages)

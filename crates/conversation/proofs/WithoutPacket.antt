@@ -12,7 +12,7 @@ use Rattle.link.specs.Phase.{greeted, beaten, phaseOf}
 use Rattle.link.specs.Due.{dueUp, dueOf}
 use Rattle.link.specs.Steps.{connectOf, versionOutOf, mayJudgeOf, versionAcceptedOf, mayBeatOf, watchdogOutOf, watchdogTakenOf, messageOutOf, removedOf, notedFor, noted, closesOf, answeredOf, aggregatedPassedOf, alarmPassedOf, crowdedOf}
 use Rattle.pool.specs.Places.{oldestFrom, newestFrom}
-use Rattle.pool.specs.Shares.{loser, noOther, crowdedOf as crowdedFor}
+use Rattle.pool.specs.Shares.{loser}
 use Rattle.pool.specs.Pool.{emptyOf, lossOf, roomOf, withOf, issueOf, markOf, settleOf}
 use Rattle.pool_batch.specs.Batch.{added}
 use Rattle.alarm.specs.Alarm.{inputOf}
@@ -32,25 +32,25 @@ use Rattle.conversation.specs.Packets.{ourVersion, ourWatchdog, ourAggre
 use Rattle.conversation.specs.Conversation.{done, Writes, pump}
 
 pub connects : does started (Connect 0 now) ≡ done (talking connected) [] none
-unfolding fresh changeFirst sameIdentity purposeOf isTaken awaitsFor nothingAwaited addOf findIn findOf removeOf howManyOf greeted beaten phaseOf dueUp dueOf connectOf versionOutOf mayJudgeOf versionAcceptedOf mayBeatOf watchdogOutOf watchdogTakenOf messageOutOf removedOf notedFor noted closesOf answeredOf aggregatedPassedOf alarmPassedOf crowdedOf oldestFrom newestFrom loser noOther crowdedFor emptyOf lossOf roomOf withOf issueOf markOf settleOf added inputOf alarmFlags
+unfolding fresh changeFirst sameIdentity purposeOf isTaken awaitsFor nothingAwaited addOf findIn findOf removeOf howManyOf greeted beaten phaseOf dueUp dueOf connectOf versionOutOf mayJudgeOf versionAcceptedOf mayBeatOf watchdogOutOf watchdogTakenOf messageOutOf removedOf notedFor noted closesOf answeredOf aggregatedPassedOf alarmPassedOf crowdedOf oldestFrom newestFrom loser emptyOf lossOf roomOf withOf issueOf markOf settleOf added inputOf alarmFlags
 connects = refl
 
 pub issues : does (talking beatenLink) (Alarm 0 true now) ≡ done (alarmed (place 1) beatenLink) [] none
-unfolding fresh changeFirst sameIdentity purposeOf isTaken awaitsFor nothingAwaited addOf findIn findOf removeOf howManyOf greeted beaten phaseOf dueUp dueOf connectOf versionOutOf mayJudgeOf versionAcceptedOf mayBeatOf watchdogOutOf watchdogTakenOf messageOutOf removedOf notedFor noted closesOf answeredOf aggregatedPassedOf alarmPassedOf crowdedOf oldestFrom newestFrom loser noOther crowdedFor emptyOf lossOf roomOf withOf issueOf markOf settleOf added inputOf alarmFlags
+unfolding fresh changeFirst sameIdentity purposeOf isTaken awaitsFor nothingAwaited addOf findIn findOf removeOf howManyOf greeted beaten phaseOf dueUp dueOf connectOf versionOutOf mayJudgeOf versionAcceptedOf mayBeatOf watchdogOutOf watchdogTakenOf messageOutOf removedOf notedFor noted closesOf answeredOf aggregatedPassedOf alarmPassedOf crowdedOf oldestFrom newestFrom loser emptyOf lossOf roomOf withOf issueOf markOf settleOf added inputOf alarmFlags
 issues = refl
 
 pub greets : Writes (talking connected) (pump 1) (talking versionOut) ourVersion none
-unfolding fresh changeFirst sameIdentity purposeOf isTaken awaitsFor nothingAwaited addOf findIn findOf removeOf howManyOf greeted beaten phaseOf dueUp dueOf connectOf versionOutOf mayJudgeOf versionAcceptedOf mayBeatOf watchdogOutOf watchdogTakenOf messageOutOf removedOf notedFor noted closesOf answeredOf aggregatedPassedOf alarmPassedOf crowdedOf oldestFrom newestFrom loser noOther crowdedFor emptyOf lossOf roomOf withOf issueOf markOf settleOf added inputOf alarmFlags put putPiece headPieces ownPieces aboutPieces offerPieces sitePieces codePieces statePieces restPieces highPieces lowPieces bodyPieces pieces hexDigit identityText leapOf years months dayOf yearFrom monthFrom dateOf secondText milliText timeText digits digitsBelow
+unfolding fresh changeFirst sameIdentity purposeOf isTaken awaitsFor nothingAwaited addOf findIn findOf removeOf howManyOf greeted beaten phaseOf dueUp dueOf connectOf versionOutOf mayJudgeOf versionAcceptedOf mayBeatOf watchdogOutOf watchdogTakenOf messageOutOf removedOf notedFor noted closesOf answeredOf aggregatedPassedOf alarmPassedOf crowdedOf oldestFrom newestFrom loser emptyOf lossOf roomOf withOf issueOf markOf settleOf added inputOf alarmFlags put putPiece headPieces ownPieces aboutPieces offerPieces sitePieces codePieces statePieces restPieces highPieces lowPieces bodyPieces pieces hexDigit identityText leapOf years months dayOf yearFrom monthFrom dateOf secondText milliText timeText digits digitsBelow
 greets = record { step = refl; out = refl }
 
 pub beats : Writes (talking greetedLink) (pump 4) (talking watchdogOut) ourWatchdog none
-unfolding fresh changeFirst sameIdentity purposeOf isTaken awaitsFor nothingAwaited addOf findIn findOf removeOf howManyOf greeted beaten phaseOf dueUp dueOf connectOf versionOutOf mayJudgeOf versionAcceptedOf mayBeatOf watchdogOutOf watchdogTakenOf messageOutOf removedOf notedFor noted closesOf answeredOf aggregatedPassedOf alarmPassedOf crowdedOf oldestFrom newestFrom loser noOther crowdedFor emptyOf lossOf roomOf withOf issueOf markOf settleOf added inputOf alarmFlags put putPiece headPieces ownPieces aboutPieces offerPieces sitePieces codePieces statePieces restPieces highPieces lowPieces bodyPieces pieces hexDigit identityText leapOf years months dayOf yearFrom monthFrom dateOf secondText milliText timeText digits digitsBelow
+unfolding fresh changeFirst sameIdentity purposeOf isTaken awaitsFor nothingAwaited addOf findIn findOf removeOf howManyOf greeted beaten phaseOf dueUp dueOf connectOf versionOutOf mayJudgeOf versionAcceptedOf mayBeatOf watchdogOutOf watchdogTakenOf messageOutOf removedOf notedFor noted closesOf answeredOf aggregatedPassedOf alarmPassedOf crowdedOf oldestFrom newestFrom loser emptyOf lossOf roomOf withOf issueOf markOf settleOf added inputOf alarmFlags put putPiece headPieces ownPieces aboutPieces offerPieces sitePieces codePieces statePieces restPieces highPieces lowPieces bodyPieces pieces hexDigit identityText leapOf years months dayOf yearFrom monthFrom dateOf secondText milliText timeText digits digitsBelow
 beats = record { step = refl; out = refl }
 
 pub sends-aggregated : Writes (alarmed (place 1) beatenLink) (pump 7) (alarmed (place 1) aggregatedOut) ourAggregatedStatus none
-unfolding fresh changeFirst sameIdentity purposeOf isTaken awaitsFor nothingAwaited addOf findIn findOf removeOf howManyOf greeted beaten phaseOf dueUp dueOf connectOf versionOutOf mayJudgeOf versionAcceptedOf mayBeatOf watchdogOutOf watchdogTakenOf messageOutOf removedOf notedFor noted closesOf answeredOf aggregatedPassedOf alarmPassedOf crowdedOf oldestFrom newestFrom loser noOther crowdedFor emptyOf lossOf roomOf withOf issueOf markOf settleOf added inputOf alarmFlags put putPiece headPieces ownPieces aboutPieces offerPieces sitePieces codePieces statePieces restPieces highPieces lowPieces bodyPieces pieces hexDigit identityText leapOf years months dayOf yearFrom monthFrom dateOf secondText milliText timeText digits digitsBelow
+unfolding fresh changeFirst sameIdentity purposeOf isTaken awaitsFor nothingAwaited addOf findIn findOf removeOf howManyOf greeted beaten phaseOf dueUp dueOf connectOf versionOutOf mayJudgeOf versionAcceptedOf mayBeatOf watchdogOutOf watchdogTakenOf messageOutOf removedOf notedFor noted closesOf answeredOf aggregatedPassedOf alarmPassedOf crowdedOf oldestFrom newestFrom loser emptyOf lossOf roomOf withOf issueOf markOf settleOf added inputOf alarmFlags put putPiece headPieces ownPieces aboutPieces offerPieces sitePieces codePieces statePieces restPieces highPieces lowPieces bodyPieces pieces hexDigit identityText leapOf years months dayOf yearFrom monthFrom dateOf secondText milliText timeText digits digitsBelow
 sends-aggregated = record { step = refl; out = refl }
 
 pub sends-alarm : Writes (alarmed (place 1) aggregatedOut) (pump 8) (alarmed (place 2) alarmOut) ourAlarm none
-unfolding fresh changeFirst sameIdentity purposeOf isTaken awaitsFor nothingAwaited addOf findIn findOf removeOf howManyOf greeted beaten phaseOf dueUp dueOf connectOf versionOutOf mayJudgeOf versionAcceptedOf mayBeatOf watchdogOutOf watchdogTakenOf messageOutOf removedOf notedFor noted closesOf answeredOf aggregatedPassedOf alarmPassedOf crowdedOf oldestFrom newestFrom loser noOther crowdedFor emptyOf lossOf roomOf withOf issueOf markOf settleOf added inputOf alarmFlags put putPiece headPieces ownPieces aboutPieces offerPieces sitePieces codePieces statePieces restPieces highPieces lowPieces bodyPieces pieces hexDigit identityText leapOf years months dayOf yearFrom monthFrom dateOf secondText milliText timeText digits digitsBelow
+unfolding fresh changeFirst sameIdentity purposeOf isTaken awaitsFor nothingAwaited addOf findIn findOf removeOf howManyOf greeted beaten phaseOf dueUp dueOf connectOf versionOutOf mayJudgeOf versionAcceptedOf mayBeatOf watchdogOutOf watchdogTakenOf messageOutOf removedOf notedFor noted closesOf answeredOf aggregatedPassedOf alarmPassedOf crowdedOf oldestFrom newestFrom loser emptyOf lossOf roomOf withOf issueOf markOf settleOf added inputOf alarmFlags put putPiece headPieces ownPieces aboutPieces offerPieces sitePieces codePieces statePieces restPieces highPieces lowPieces bodyPieces pieces hexDigit identityText leapOf years months dayOf yearFrom monthFrom dateOf secondText milliText timeText digits digitsBelow
 sends-alarm = record { step = refl; out = refl }

@@ -2,8 +2,8 @@
 -- Assumes nothing.
 use Prim.Native.Nat.{ℕ, _+_, _≤_, _<_}
 use mathlib.Core.Path.{_≡_, refl, sym, _∙_, ap, subst}
-use mathlib.Core.Bool.{true, false}
-use mathlib.Core.List.{List, [], _∷_}
+use mathlib.Core.Bool.{Bool, true, false}
+use mathlib.Core.List.{List, [], _∷_, _++_}
 use mathlib.Core.Option.{Option, some, none}
 use mathlib.Core.Logic.{_⊎_, inl, inr}
 use lib.Dec.{ltb, leb, eqb}
@@ -13,12 +13,11 @@ use borrow.Author.Tests.{ltb-true, leb-true, eq-eqb}
 use Rattle.basis.specs.Pick.{pick}
 use Rattle.basis.proofs.Both.{both-first, both-second, not-both}
 use Rattle.machine.specs.Words.{maybe, isNumber}
-use Rattle.machine.specs.State.{Issued, Setup, Pool, Start, Machine, Act, Call, Outcome}
-use Rattle.machine.specs.State.Outcome.{refused}
+use Rattle.machine.specs.State.{Issued, Setup, Pool, Start, Machine, Act, Call}
 use Rattle.machine.specs.Table.{goodStart, first, Begins}
 use Rattle.machine.specs.Table.Begins.{begins}
 use Rattle.machine.specs.Pool.{issueAll}
-use Rattle.machine.specs.Step.{poolSticks, numberOf, after, step, leaves}
+use Rattle.machine.specs.Step.{numberOf, after, step, leaves}
 use Rattle.machine.specs.Run.{Past, Run}
 use Rattle.machine.specs.Run.Run.{begun, next}
 use Rattle.demand_held.specs.Held.{IsHeld, newer, IsDone, issuedBy, Answered, Kept, Fate, packetLink, Until, At}
@@ -26,6 +25,7 @@ use Rattle.demand_held.specs.Held.Answered.{answered}
 use Rattle.demand_held.specs.Held.Kept.{stays, pushed}
 use Rattle.demand_held.specs.Held.Fate.{kept, settled}
 use Rattle.demand_held.specs.Held.Until.{lasts, answered-now, pushed-now, later}
+use Rattle.demand_held.specs.Crowded.{Crowded}
 use Rattle.demand_held.specs.Demand.{Holding, Demand3}
 use Rattle.demand_held.proofs.Lists.{Each}
 use Rattle.demand_held.proofs.Lists.Each.{no-more, one-more}
@@ -33,9 +33,9 @@ use Rattle.demand_held.proofs.Good.{Good, Fits}
 use Rattle.demand_held.proofs.Good.Rising.{ends}
 use Rattle.demand_held.proofs.Rising.{rising-once, newer-older}
 use Rattle.demand_held.proofs.Room.{Over}
-use Rattle.demand_held.proofs.Issue.{For, held-below, all-good, all-every, all-lost, fate-of, issued-of, never-stuck}
+use Rattle.demand_held.proofs.Issue.{For, held-below, all-good, all-every, all-lost, fate-of, issued-of, never-crowded}
 use Rattle.demand_held.proofs.Lays.{Lays, lays}
-use Rattle.demand_held.proofs.Steps.{laid, step-done, step-refused, done-number, number-done, refused-number, there, no-thirteen}
+use Rattle.demand_held.proofs.Steps.{laid, step-done, step-refused, done-number, number-done, there}
 
 pub record Sound (m : Machine) : Type 0 where
   pub good : Good (m .pool)
@@ -135,13 +135,10 @@ module _ (m : Machine) (s : Sound m) (c : Call) where
   pub issued : IsDone m c → (k : ℕ) (i : Issued) → At i k (issuedBy m c) → Kept m c i (m .pool .next + k)
   issued d = issued-done (done-number m c d)
 
-  pub unstuck : ((l : ℕ) → packetLink (c .act) ≡ some l → l < m .setup .links) → poolSticks (laid m c) ≡ false
-  unstuck at = never-stuck (laid m c .issues) (laid m c .leaves .pool) (good-laid at) (for-laid at)
-
-  pub no-thirteenth : step m c .0 ≡ refused 13 → ⊥
-  no-thirteenth r =
-      let n : numberOf m c ≡ some 13 = refused-number m c 13 r in
-      no-thirteen m (c .time) (c .act) (unstuck (there m (c .time) (c .act) (λ q. let z : _≡_ {A = ℕ} 2 13 = cc in omega arith))) n
+  pub uncrowded : IsDone m c → (xs : List Issued) (i : Issued) (ys : List Issued) → issuedBy m c ≡ xs ++ i ∷ ys → Crowded (issueAll xs (laid m c .leaves .pool)) (i .link) → ⊥
+  uncrowded d xs i ys e =
+      let linked = here (done-number m c d) in
+      never-crowded xs i ys (laid m c .leaves .pool) (good-laid linked) (subst (Each (For (length (laid m c .leaves .pool .lost)))) e (for-laid linked))
 
 pub held-on : (m : Machine) → Sound m → (cs : List Call) (r : Issued) (n : ℕ) → IsHeld r n (m .pool .held) → Until r n m cs
 held-on m s [] r n h = lasts h
@@ -189,7 +186,6 @@ demand3 =
         all = run-sound r .good .all;
         given = held-below (m .pool) (run-sound r .good);
         once = λ n. rising-once n (m .pool .held) (run-sound r .good .rising);
-        unstuck = λ c. unstuck m (run-sound r) c;
-        never-thirteen = λ c. no-thirteenth m (run-sound r) c;
+        never-crowded = λ c. uncrowded m (run-sound r) c;
       };
     }

@@ -1,24 +1,25 @@
--- Pools as runs leave them: at most four links, 64 of a link and 128 held, numbers that rise. A full one holds 32 or more of its fullest
--- link, so that number 13's condition never holds.
+-- Pools as runs leave them: a least share of 16 for each link, 64 of a link and 128 held, numbers that rise. Where one is full and a link
+-- holds fewer than 16, its fullest link holds more than 16.
 -- Assumes nothing.
-use Prim.Native.Nat.{ℕ, zero, suc, _+_, _≤_, _<_}
-use mathlib.Core.Path.{_≡_, refl}
-use mathlib.Core.Bool.{Bool, true, false, not}
+use Prim.Native.Nat.{ℕ, zero, suc, _+_, _*_, _≤_, _<_}
+use mathlib.Core.Path.{_≡_, refl, ap}
+use mathlib.Core.Bool.{Bool, true}
 use mathlib.Core.List.{List, [], _∷_}
 use mathlib.Core.Logic.{_⊎_, inl, inr}
-use lib.Dec.{eqb, ltb, leb}
+use lib.Dec.{eqb, ltb}
 use lib.ListN.{length}
 use native.Mathlib.Omega.{arith}
-use borrow.Author.Tests.{ltb-true, ltb-false, leb-true, eqb-true, ne-eqb, not-true}
-use Rattle.basis.specs.Pick.{pick, both, bit}
+use borrow.Author.Tests.{ltb-true, ltb-false, lt-ltb, le-ltb, eq-eqb, ne-eqb}
+use Rattle.basis.specs.Pick.{bit}
 use Rattle.basis.specs.Lists.{count}
-use Rattle.basis.proofs.Cases.{bool-cases, picked, lt-or-ge, eq-or-ne}
 use Rattle.basis.proofs.Both.{not-both}
-use Rattle.machine.specs.Words.{isNumber, anyBelow}
+use Rattle.basis.proofs.Cases.{picked, lt-or-ge, eq-or-ne, bool-cases}
+use Rattle.machine.specs.Words.{isNumber}
 use Rattle.machine.specs.State.{Setup, Content, Held, Pool}
 use Rattle.machine.specs.State.Content.{ofAlarm, ofStatus, ofAggregated}
-use Rattle.machine.specs.Pool.{isFor, holds, isFull, fullestBelow, fullest, isStuck}
-use Rattle.demand_held.proofs.Lists.{bit-false, Each, none-below}
+use Rattle.machine.specs.Pool.{isFor, holds, fullestBelow, fullest}
+use Rattle.demand_held.specs.Crowded.{Crowded}
+use Rattle.demand_held.proofs.Lists.{bit-true, bit-false, Each}
 use Rattle.demand_held.proofs.Lists.Each.{no-more, one-more}
 
 -- the numbers of a list rise, from a on and below b
@@ -39,23 +40,51 @@ abbrev pub Fits : Setup → Held → Type 0
 Fits u h = fits u (h .link) (h .content) ≡ true
 
 pub record Good (p : Pool) : Type 0 where
-  pub few : length (p .lost) ≤ 4
+  pub few : 16 * length (p .lost) ≤ 128
   pub links : Each (Below (length (p .lost))) (p .held)
   pub most : (l : ℕ) → holds p l ≤ 64
   pub all : length (p .held) ≤ 128
   pub rising : Rising (p .next) 0 (p .held)
 
-one-of-four : (k : ℕ) → k < 4 → bit (eqb k 0) + bit (eqb k 1) + bit (eqb k 2) + bit (eqb k 3) ≡ 1
-one-of-four zero h = refl
-one-of-four (suc zero) h = refl
-one-of-four (suc (suc zero)) h = refl
-one-of-four (suc (suc (suc zero))) h = refl
-one-of-four (suc (suc (suc (suc k)))) h = absurd (omega arith)
+-- what the links below n hold together
+abbrev total : ℕ → List Held → ℕ
+total zero hs = 0
+total (suc n) hs = total n hs + count (isFor n) hs
 
-four : {n : ℕ} → n ≤ 4 → (hs : List Held) → Each (Below n) hs
-    → count (isFor 0) hs + count (isFor 1) hs + count (isFor 2) hs + count (isFor 3) hs ≡ length hs
-four f [] no-more = refl
-four f (h ∷ hs) (one-more b r) = omega (arith, one-of-four (h .link) (omega arith), four f hs r)
+total-none : (n : ℕ) → total n [] ≡ 0
+total-none zero = refl
+total-none (suc n) = omega (arith, total-none n)
+
+total-cons : (n : ℕ) (h : Held) (hs : List Held) → total n (h ∷ hs) ≡ bit (ltb (h .link) n) + total n hs
+total-cons zero h hs = omega (arith, bit-false (ltb (h .link) 0) (le-ltb (h .link) 0 (omega arith)))
+total-cons (suc n) h hs = go (lt-or-ge (h .link) n) (eq-or-ne (h .link) n) (total-cons n h hs)
+  where
+    go : (h .link < n) ⊎ (n ≤ h .link) → (h .link ≡ n) ⊎ (h .link ≡ n → ⊥) → total n (h ∷ hs) ≡ bit (ltb (h .link) n) + total n hs
+        → total (suc n) (h ∷ hs) ≡ bit (ltb (h .link) (suc n)) + total (suc n) hs
+    go (inl a) (inl e) r = absurd (omega arith)
+    go (inl a) (inr e) r =
+        omega (arith, bit-true (ltb (h .link) n) (lt-ltb (h .link) n a), bit-true (ltb (h .link) (suc n)) (lt-ltb (h .link) (suc n) (omega arith)), bit-false (eqb (h .link) n) (ne-eqb (h .link) n e))
+    go (inr a) (inl e) r =
+        omega (arith, bit-false (ltb (h .link) n) (le-ltb (h .link) n a), bit-true (ltb (h .link) (suc n)) (lt-ltb (h .link) (suc n) (omega arith)), bit-true (eqb (h .link) n) (eq-eqb (h .link) n e))
+    go (inr a) (inr e) r =
+        omega (arith, bit-false (ltb (h .link) n) (le-ltb (h .link) n a), bit-false (ltb (h .link) (suc n)) (le-ltb (h .link) (suc n) (omega arith)), bit-false (eqb (h .link) n) (ne-eqb (h .link) n e))
+
+every-one : {n : ℕ} (hs : List Held) → Each (Below n) hs → total n hs ≡ length hs
+every-one {n} [] no-more = total-none n
+every-one {n} (h ∷ hs) (one-more b r) = omega (arith, total-cons n h hs, bit-true (ltb (h .link) n) (lt-ltb (h .link) n b), every-one hs r)
+
+at-most : (n : ℕ) (hs : List Held) → ((j : ℕ) → j < n → count (isFor j) hs ≤ 16) → total n hs ≤ 16 * n
+at-most zero hs h = omega arith
+at-most (suc n) hs h = omega (arith, at-most n hs (λ j g. h j (omega arith)), h n (omega arith))
+
+-- n links of which none holds more than 16 and one fewer hold fewer than 16 n
+fewer : (n l : ℕ) (hs : List Held) → l < n → count (isFor l) hs < 16 → ((j : ℕ) → j < n → count (isFor j) hs ≤ 16) → total n hs < 16 * n
+fewer zero l hs g f h = absurd (omega arith)
+fewer (suc n) l hs g f h = go (eq-or-ne l n) (fewer n l hs)
+  where
+    go : (l ≡ n) ⊎ (l ≡ n → ⊥) → (l < n → count (isFor l) hs < 16 → ((j : ℕ) → j < n → count (isFor j) hs ≤ 16) → total n hs < 16 * n) → total (suc n) hs < 16 * suc n
+    go (inl e) r = omega (arith, at-most n hs (λ j i. h j (omega arith)), ap (λ (k : ℕ). count (isFor k) hs) e)
+    go (inr e) r = omega (arith, r (omega arith) f (λ j i. h j (omega arith)), h n (omega arith))
 
 beyond : {n : ℕ} (l : ℕ) → n ≤ l → (hs : List Held) → Each (Below n) hs → count (isFor l) hs ≡ 0
 beyond l f [] no-more = refl
@@ -84,32 +113,19 @@ module _ (p : Pool) (g : Good p) where
       go (inl a) = most-below (length (p .lost)) p l a
       go (inr a) = omega (arith, beyond l a (p .held) (g .links))
 
-  pub fullest-holds : 128 ≤ length (p .held) → 32 ≤ holds p (fullest p)
-  fullest-holds h = omega (arith, four (g .few) (p .held) (g .links), all-fewer 0, all-fewer 1, all-fewer 2, all-fewer 3)
+  shares : (l : ℕ) → l < length (p .lost) → holds p l < 16 → 128 ≤ length (p .held) → ((j : ℕ) → j < length (p .lost) → holds p j ≤ 16) → ⊥
+  shares l h few full each = omega (arith, fewer (length (p .lost)) l (p .held) h few each, every-one (p .held) (g .links), g .few)
 
-  few-each : (s : ℕ) → ltb (holds p s) 16 ≡ true → anyBelow (length (p .lost)) (λ l. both (not (eqb l s)) (ltb 16 (holds p l))) ≡ false → (l : ℕ) → holds p l ≤ 16
-  few-each s y z l = go (lt-or-ge l (length (p .lost))) (eq-or-ne l s)
+  pub fullest-holds : (l : ℕ) → l < length (p .lost) → holds p l < 16 → 128 ≤ length (p .held) → 16 < holds p (fullest p)
+  fullest-holds l h few full = go (lt-or-ge 16 (holds p (fullest p)))
     where
-      right-false : (a b : Bool) → both (not a) b ≡ false → a ≡ false → b ≡ false
-      right-false true b h e = not-both refl e
-      right-false false b h e = h
+      go : (16 < holds p (fullest p)) ⊎ (holds p (fullest p) ≤ 16) → 16 < holds p (fullest p)
+      go (inl a) = a
+      go (inr a) = absurd (shares l h few full (λ j k. omega (arith, all-fewer j)))
 
-      go : (l < length (p .lost)) ⊎ (length (p .lost) ≤ l) → (l ≡ s) ⊎ (l ≡ s → ⊥) → holds p l ≤ 16
-      go (inr a) d = omega (arith, beyond l a (p .held) (g .links))
-      go (inl a) (inl e) = rw e (omega (arith, ltb-true (holds p s) 16 y))
-      go (inl a) (inr ne) =
-          ltb-false 16 (holds p l)
-          (right-false (eqb l s) (ltb 16 (holds p l)) (none-below (length (p .lost)) (λ l. both (not (eqb l s)) (ltb 16 (holds p l))) z l a) (ne-eqb l s ne))
-
-  -- number 13's condition never holds
-  pub not-stuck : (s : ℕ) → isStuck s p ≡ false
-  unfolding isStuck
-  not-stuck s = bool-cases (isStuck s p) (λ e. absurd (no (isFull p) (ltb (holds p s) 16) _ refl refl refl e)) (λ e. e)
+  pub not-crowded : (l : ℕ) → Crowded p l → ⊥
+  not-crowded l c = shares l (c .link) (c .few) (c .full) (λ j h. each j h (eq-or-ne j l))
     where
-      no : (a b c : Bool) → isFull p ≡ a → ltb (holds p s) 16 ≡ b → anyBelow (length (p .lost)) (λ l. both (not (eqb l s)) (ltb 16 (holds p l))) ≡ c
-          → both a (both b (not c)) ≡ true → ⊥
-      no false b c x y z e = not-both e refl
-      no true false c x y z e = not-both e refl
-      no true true true x y z e = not-both e refl
-      no true true false x y z e =
-          omega (arith, four (g .few) (p .held) (g .links), leb-true 128 (length (p .held)) x, few-each s y z 0, few-each s y z 1, few-each s y z 2, few-each s y z 3)
+      each : (j : ℕ) → j < length (p .lost) → (j ≡ l) ⊎ (j ≡ l → ⊥) → holds p j ≤ 16
+      each j h (inl e) = rw e (omega (arith, c .few))
+      each j h (inr e) = c .others j h e

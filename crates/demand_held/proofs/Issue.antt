@@ -15,13 +15,14 @@ use Rattle.basis.proofs.Cases.{eq-or-ne}
 use Rattle.basis.proofs.Both.{both-no}
 use Rattle.basis.proofs.Among.{among-left}
 use Rattle.machine.specs.State.{Setup, Issued, Held, heldAs, Pool}
-use Rattle.machine.specs.Pool.{isFor, holds, makeRoom, added, issue, issueAll, isStuck, sticks}
+use Rattle.machine.specs.Pool.{isFor, holds, makeRoom, added, issue, issueAll}
 use Rattle.demand_held.specs.Held.{IsHeld, At}
+use Rattle.demand_held.specs.Crowded.{Crowded}
 use Rattle.demand_held.specs.Held.IsHeld.{held}
 use Rattle.demand_held.specs.Held.At.{first, behind}
 use Rattle.demand_held.proofs.Lists.{bit-false, bit-le, Each, each-append, among-last, count-last, length-last}
 use Rattle.demand_held.proofs.Lists.Each.{no-more, one-more}
-use Rattle.demand_held.proofs.Good.{Rising, Below, fits, Fits, Good, not-stuck}
+use Rattle.demand_held.proofs.Good.{Rising, Below, fits, Fits, Good, not-crowded}
 use Rattle.demand_held.proofs.Rising.{rising-last, rising-below, older}
 use Rattle.demand_held.proofs.Room.{Over, Room, holds-added, makes-room}
 
@@ -74,79 +75,84 @@ module _ (i : Issued) (p : Pool) (g : Good p) where
     has-added : IsHeld i (p .next) (added i q .held)
     has-added = held (among-last (q .held) (new q)) refl refl (r .next)
 
-  pub issue-good : i .link < length (p .lost) → Good (issue i p)
+module _ (i : Issued) (p : Pool) (g : Good p) (linked : i .link < length (p .lost)) where
+  room : Room i p (makeRoom (i .link) p)
+  room = makes-room i p g linked
+
+  pub issue-good : Good (issue i p)
   unfolding issue
-  issue-good = good-added (makeRoom (i .link) p) (makes-room i p g)
+  issue-good = good-added i p g (makeRoom (i .link) p) room linked
 
   pub issue-next : issue i p .next ≡ suc (p .next)
   unfolding issue
-  issue-next = ap suc (makes-room i p g .next)
+  issue-next = ap suc (room .next)
 
   pub issue-lost : length (issue i p .lost) ≡ length (p .lost)
   unfolding issue
-  issue-lost = makes-room i p g .lost
+  issue-lost = room .lost
 
   pub issue-fate : (x : Issued) (n : ℕ) → n < p .next → IsHeld x n (p .held) → IsHeld x n (issue i p .held) ⊎ Over (x .link) n (issue i p)
   unfolding issue
-  issue-fate = fate-added (makeRoom (i .link) p) (makes-room i p g)
+  issue-fate = fate-added i p g (makeRoom (i .link) p) room
 
   pub issue-every : (u : Setup) → FitsIssued u i → Each (Fits u) (p .held) → Each (Fits u) (issue i p .held)
   unfolding issue
-  issue-every u f h = each-append (makes-room i p g .every u h) (one-more f no-more)
+  issue-every u f h = each-append (room .every u h) (one-more f no-more)
 
   pub issue-over : (l n : ℕ) → n < p .next → Over l n p → Over l n (issue i p)
   unfolding issue
-  issue-over = over-added (makeRoom (i .link) p) (makes-room i p g)
+  issue-over = over-added i p g (makeRoom (i .link) p) room
 
   pub issue-has : IsHeld i (p .next) (issue i p .held)
   unfolding issue
-  issue-has = has-added (makeRoom (i .link) p) (makes-room i p g)
+  issue-has = has-added i p g (makeRoom (i .link) p) room
 
 -- ---- several, one by one
 pub held-below : (p : Pool) → Good p → (x : Issued) (n : ℕ) → IsHeld x n (p .held) → n < p .next
 held-below p g x n (held a e c f) = omega (arith, rising-below (g .rising) a)
 
-for-next : (i : Issued) (p : Pool) → Good p → {is : List Issued} → Each (For (length (p .lost))) is → Each (For (length (issue i p .lost))) is
-for-next i p g a = rw (issue-lost i p g) a
+for-next : (i : Issued) (p : Pool) → Good p → i .link < length (p .lost) → {is : List Issued} → Each (For (length (p .lost))) is
+    → Each (For (length (issue i p .lost))) is
+for-next i p g f a = rw (issue-lost i p g f) a
 
 pub all-good : (is : List Issued) (p : Pool) → Good p → Each (For (length (p .lost))) is → Good (issueAll is p)
 all-good [] p g a = g
-all-good (i ∷ is) p g (one-more f a) = all-good is (issue i p) (issue-good i p g f) (for-next i p g a)
+all-good (i ∷ is) p g (one-more f a) = all-good is (issue i p) (issue-good i p g f) (for-next i p g f a)
 
 pub all-lost : (is : List Issued) (p : Pool) → Good p → Each (For (length (p .lost))) is → length (issueAll is p .lost) ≡ length (p .lost)
 all-lost [] p g a = refl
-all-lost (i ∷ is) p g (one-more f a) = all-lost is (issue i p) (issue-good i p g f) (for-next i p g a) ∙ issue-lost i p g
+all-lost (i ∷ is) p g (one-more f a) = all-lost is (issue i p) (issue-good i p g f) (for-next i p g f a) ∙ issue-lost i p g f
 
 pub all-every : (is : List Issued) (p : Pool) → Good p → Each (For (length (p .lost))) is → (u : Setup) → Each (FitsIssued u) is → Each (Fits u) (p .held)
     → Each (Fits u) (issueAll is p .held)
 all-every [] p g a u b h = h
-all-every (i ∷ is) p g (one-more f a) u (one-more e b) h = all-every is (issue i p) (issue-good i p g f) (for-next i p g a) u b (issue-every i p g u e h)
+all-every (i ∷ is) p g (one-more f a) u (one-more e b) h = all-every is (issue i p) (issue-good i p g f) (for-next i p g f a) u b (issue-every i p g f u e h)
 
 all-over : (is : List Issued) (p : Pool) → Good p → Each (For (length (p .lost))) is → (l n : ℕ) → n < p .next → Over l n p → Over l n (issueAll is p)
 all-over [] p g a l n b o = o
 all-over (i ∷ is) p g (one-more f a) l n b o =
-    all-over is (issue i p) (issue-good i p g f) (for-next i p g a) l n (omega (arith, issue-next i p g)) (issue-over i p g l n b o)
+    all-over is (issue i p) (issue-good i p g f) (for-next i p g f a) l n (omega (arith, issue-next i p g f)) (issue-over i p g f l n b o)
 
 pub all-fate : (is : List Issued) (p : Pool) → Good p → Each (For (length (p .lost))) is → (x : Issued) (n : ℕ) → IsHeld x n (p .held)
     → IsHeld x n (issueAll is p .held) ⊎ Over (x .link) n (issueAll is p)
 all-fate [] p g a x n h = inl h
-all-fate (i ∷ is) p g (one-more f a) x n h = go (issue-fate i p g x n (held-below p g x n h) h) (all-fate is (issue i p) (issue-good i p g f) (for-next i p g a) x n)
+all-fate (i ∷ is) p g (one-more f a) x n h = go (issue-fate i p g f x n (held-below p g x n h) h) (all-fate is (issue i p) (issue-good i p g f) (for-next i p g f a) x n)
   where
     go : IsHeld x n (issue i p .held) ⊎ Over (x .link) n (issue i p) → (IsHeld x n (issue i p .held) → IsHeld x n (issueAll is (issue i p) .held) ⊎ Over (x .link) n (issueAll is (issue i p)))
         → IsHeld x n (issueAll is (issue i p) .held) ⊎ Over (x .link) n (issueAll is (issue i p))
     go (inl k) r = r k
     go (inr o) r =
-        inr (all-over is (issue i p) (issue-good i p g f) (for-next i p g a) (x .link) n (omega (arith, held-below p g x n h, issue-next i p g)) o)
+        inr (all-over is (issue i p) (issue-good i p g f) (for-next i p g f a) (x .link) n (omega (arith, held-below p g x n h, issue-next i p g f)) o)
 
 -- the k-th that is issued
 pub all-issued : {k : ℕ} {i : Issued} (is : List Issued) (p : Pool) → Good p → Each (For (length (p .lost))) is → At i k is
     → IsHeld i (p .next + k) (issueAll is p .held) ⊎ Over (i .link) (p .next + k) (issueAll is p)
 all-issued (i ∷ is) p g (one-more f a) first =
     let e : p .next + 0 ≡ p .next = omega arith in
-    rw e (all-fate is (issue i p) (issue-good i p g f) (for-next i p g a) i (p .next) (issue-has i p g))
+    rw e (all-fate is (issue i p) (issue-good i p g f) (for-next i p g f a) i (p .next) (issue-has i p g f))
 all-issued (j ∷ is) p g (one-more f a) (behind {k} r) =
-    let e : p .next + suc k ≡ issue j p .next + k = omega (arith, issue-next j p g) in
-    rw e (all-issued is (issue j p) (issue-good j p g f) (for-next j p g a) r)
+    let e : p .next + suc k ≡ issue j p .next + k = omega (arith, issue-next j p g f) in
+    rw e (all-issued is (issue j p) (issue-good j p g f) (for-next j p g f a) r)
 
 -- it is held, or records were issued and it is over
 some-issued : (is : List Issued) (p : Pool) (x : Issued) (n : ℕ) → (is ≡ [] → IsHeld x n (p .held)) → IsHeld x n (p .held) ⊎ Over (x .link) n p → IsHeld x n (p .held) ⊎ ((1 ≤ length is) × Over (x .link) n p)
@@ -165,6 +171,8 @@ issued-of {k} {i} is p g a r = some-issued is (issueAll is p) i (p .next + k) (�
     nothing : (is : List Issued) → At i k is → is ≡ [] → ⊥
     nothing (x ∷ is) r e = let z : _≡_ {A = ℕ} 0 1 = cc in omega arith
 
-pub never-stuck : (is : List Issued) (p : Pool) → Good p → Each (For (length (p .lost))) is → sticks is p ≡ false
-never-stuck [] p g a = refl
-never-stuck (i ∷ is) p g (one-more f a) = rw (not-stuck p g (i .link)) (never-stuck is (issue i p) (issue-good i p g f) (for-next i p g a))
+-- the pool is not crowded before the one behind xs
+pub never-crowded : (xs : List Issued) (i : Issued) (ys : List Issued) (p : Pool) → Good p → Each (For (length (p .lost))) (xs ++ i ∷ ys)
+    → Crowded (issueAll xs p) (i .link) → ⊥
+never-crowded [] i ys p g a c = not-crowded p g (i .link) c
+never-crowded (x ∷ xs) i ys p g (one-more f a) c = never-crowded xs i ys (issue x p) (issue-good x p g f) (for-next x p g f a) c

@@ -13,7 +13,7 @@ use Rattle.basis.specs.Lists.{count, Among}
 use Rattle.basis.specs.Lists.Among.{first, later}
 use Rattle.basis.proofs.Cases.{picked, lt-or-ge}
 use Rattle.basis.proofs.Both.{not-both}
-use Rattle.machine.specs.Words.{maybe, keep, butFirst, flat, changed, upTo, anyBelow}
+use Rattle.machine.specs.Words.{maybe, keep, butFirst, flat, changed, upTo}
 
 pub bit-true : (b : Bool) → b ≡ true → bit b ≡ 1
 bit-true b e = rw e
@@ -151,15 +151,3 @@ pub length-changed : {A : Type 0} (i : ℕ) (g : A → A) (xs : List A) → leng
 length-changed i g [] = refl
 length-changed zero g (x ∷ xs) = refl
 length-changed (suc i) g (x ∷ xs) = omega (arith, length-changed i g xs)
-
-pub neither : (a b : Bool) → pick a true b ≡ false → (a ≡ false) × (b ≡ false)
-neither true b e = not-both refl e
-neither false b e = (refl, e)
-
-pub none-below : (n : ℕ) (f : ℕ → Bool) → anyBelow n f ≡ false → (l : ℕ) → l < n → f l ≡ false
-none-below zero f e l h = absurd (omega arith)
-none-below (suc n) f e l h = go (lt-or-ge l n) (none-below n f (neither (f n) (anyBelow n f) e .1) l)
-  where
-    go : (l < n) ⊎ (n ≤ l) → (l < n → f l ≡ false) → f l ≡ false
-    go (inl a) r = r a
-    go (inr a) r = let q : l ≡ n = omega arith in rw q (neither (f n) (anyBelow n f) e .0)

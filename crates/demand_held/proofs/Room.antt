@@ -106,19 +106,19 @@ module _ (i : Issued) (p : Pool) (g : Good p) where
       loses (i .link) (omega arith) (omega (arith, g .most (i .link), loses-one (i .link) (omega arith)))
       (omega (arith, holds-added i (lose (i .link) p) (i .link), bit-true (eqb (i .link) (i .link)) (eq-eqb (i .link) (i .link) refl), loses-one (i .link) (omega arith)))
 
-  steals : holds p (i .link) < 16 → 128 ≤ length (p .held) → Room i p (lose (fullest p) p)
-  steals h full =
-      let most : 32 ≤ holds p (fullest p) = fullest-holds p g full in
+  steals : i .link < length (p .lost) → holds p (i .link) < 16 → 128 ≤ length (p .held) → Room i p (lose (fullest p) p)
+  steals linked h full =
+      let most : 16 < holds p (fullest p) = fullest-holds p g (i .link) linked h full in
       loses (fullest p) (omega arith) (omega (arith, loses-no-more (fullest p) (i .link)))
       (omega (arith, holds-added i (lose (fullest p) p) (fullest p), loses-one (fullest p) (omega arith)))
 
-  pub makes-room : Room i p (makeRoom (i .link) p)
+  pub makes-room : i .link < length (p .lost) → Room i p (makeRoom (i .link) p)
   unfolding makeRoom
-  makes-room =
+  makes-room linked =
       picked (Room i p) (leb 64 (holds p (i .link))) (lose (i .link) p) _
       (λ e. own (omega (arith, leb-true 64 (holds p (i .link)) e)))
       (λ e. picked (Room i p) (not (isFull p)) p _
       (λ f. free (leb-false 64 (holds p (i .link)) e) (leb-false 128 (length (p .held)) (not-true (isFull p) f)))
       (λ f. picked (Room i p) (ltb (holds p (i .link)) 16) (lose (fullest p) p) (lose (i .link) p)
-      (λ q. steals (ltb-true (holds p (i .link)) 16 q) (leb-true 128 (length (p .held)) (not-false (isFull p) f)))
+      (λ q. steals linked (ltb-true (holds p (i .link)) 16 q) (leb-true 128 (length (p .held)) (not-false (isFull p) f)))
       (λ q. own (ltb-false (holds p (i .link)) 16 q))))

@@ -4,19 +4,17 @@
 use Prim.Native.Nat.{ℕ, _+_, _≤_, _<_}
 use mathlib.Core.Path.{_≡_}
 use mathlib.Core.Bool.{false}
-use mathlib.Core.List.{List}
-use mathlib.Core.Option.{some}
+use mathlib.Core.List.{List, _∷_, _++_}
 use lib.Dec.{eqb}
 use lib.ListN.{length}
 use Rattle.basis.specs.Lists.{count}
 use Rattle.machine.specs.Words.{isNumber}
 use Rattle.machine.specs.State.{Issued, Held, Start, Machine, Call}
-use Rattle.machine.specs.State.Outcome.{refused}
-use Rattle.machine.specs.Pool.{holds}
+use Rattle.machine.specs.Pool.{holds, issueAll}
 use Rattle.machine.specs.Effects.{effectOf}
-use Rattle.machine.specs.Step.{poolSticks, step}
 use Rattle.machine.specs.Run.{Past, Run}
 use Rattle.demand_held.specs.Held.{IsHeld, IsDone, issuedBy, Kept, Fate, packetLink, Until, At}
+use Rattle.demand_held.specs.Crowded.{Crowded}
 
 module _ (s : Start) (h : List Past) (m : Machine) where
   pub record Holding : Type 0 where
@@ -33,9 +31,10 @@ module _ (s : Start) (h : List Past) (m : Machine) where
     -- a held number was given before, and stands once
     pub given : (r : Issued) (n : ℕ) → IsHeld r n (m .pool .held) → n < m .pool .next
     pub once : (n : ℕ) → count (λ (h : Held). eqb (h .sequence) n) (m .pool .held) ≤ 1
-    -- number 13's condition holds before no record that a call issues, so that the number is never given
-    pub unstuck : (c : Call) → ((l : ℕ) → packetLink (c .act) ≡ some l → l < m .setup .links) → poolSticks (effectOf m (c .time) (c .act)) ≡ false
-    pub never-thirteen : (c : Call) → step m c .0 ≡ refused 13 → ⊥
+    -- before no single record that a call issues, also after others of that call, is the pool full while the record's link holds fewer than 16
+    -- and no other more than 16
+    pub never-crowded : (c : Call) → IsDone m c → (xs : List Issued) (i : Issued) (ys : List Issued) → issuedBy m c ≡ xs ++ i ∷ ys
+        → Crowded (issueAll xs (effectOf m (c .time) (c .act) .leaves .pool)) (i .link) → ⊥
 
 pub record Demand3 : Type 0 where
   pub of-every-run : (s : Start) (h : List Past) (m : Machine) → Run s h m → Holding s h m

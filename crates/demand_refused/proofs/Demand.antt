@@ -104,18 +104,15 @@ is-10 = (later (later (later (later (later (later (later (later (later here)))))
 is-12 : Among 12 numbers
 is-12 = (later (later (later (later (later (later (later (later (later (later here))))))))))
 
-is-13 : Among 13 numbers
-is-13 = (later (later (later (later (later (later (later (later (later (later (later here)))))))))))
-
 all-known : (m : Machine) (t : ℕ) (act : Act) → Known (conditions m t act)
 unfolding conditions
 all-known m t (connect l) = one-more is-2 (one-more is-5 (one-more is-6 no-more))
 all-known m t (disconnect l) = one-more is-2 (one-more is-5 (one-more is-6 no-more))
-all-known m t (packet l random bytes room) = one-more is-2 (one-more is-4 (one-more is-12 (one-more is-5 (one-more is-6 (one-more is-1 (one-more is-9 (one-more is-10 (one-more is-13 no-more))))))))
-all-known m t (alarmInput i active) = one-more is-3 (one-more is-5 (one-more is-10 (one-more is-13 no-more)))
-all-known m t (statusValue i v) = one-more is-3 (one-more is-5 (one-more is-10 (one-more is-13 no-more)))
-all-known m t (aggregatedValue v) = one-more is-5 (one-more is-10 (one-more is-13 no-more))
-all-known m t tick = one-more is-5 (one-more is-10 (one-more is-13 no-more))
+all-known m t (packet l random bytes room) = one-more is-2 (one-more is-4 (one-more is-12 (one-more is-5 (one-more is-6 (one-more is-1 (one-more is-9 (one-more is-10 no-more)))))))
+all-known m t (alarmInput i active) = one-more is-3 (one-more is-5 (one-more is-10 no-more))
+all-known m t (statusValue i v) = one-more is-3 (one-more is-5 (one-more is-10 no-more))
+all-known m t (aggregatedValue v) = one-more is-5 (one-more is-10 no-more)
+all-known m t tick = one-more is-5 (one-more is-10 no-more)
 all-known m t (pump l random room) = one-more is-2 (one-more is-4 (one-more is-5 (one-more is-6 (one-more is-7 (one-more is-8 (one-more is-9 no-more))))))
 
 pub refusing : (m : Machine) (c : Call) → Refusing m c

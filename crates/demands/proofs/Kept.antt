@@ -14,7 +14,7 @@ use Rattle.pool_laws.specs.Contents.{Every}
 use Rattle.pool_laws.specs.View.{records}
 use Rattle.pool.specs.Pool.{heldOf, lostOf}
 use Rattle.site.specs.declared.Site.{Site}
-use Rattle.holding.specs.Touches.{Configured, Issues, Superseded, Genuine, settled}
+use Rattle.holding.specs.Touches.{Configured, Issues, Uncrowded, Superseded, Genuine, settled}
 use Rattle.holding.specs.Sequences as any
 use Rattle.holding.proofs.Kept.{same}
 use Rattle.touches.specs.Start.{Begun, FromStart}
@@ -101,7 +101,8 @@ kept =
       genuine = λ s b cs e i. subst (λ (t : Site). Genuine (t .pool) e) (same-after s cs) (any-calls s (begun s b) .promises .genuine cs e (issued-before s i));
       only-issued = λ s b. only s (begun s b);
       most = λ s b cs m. rw (same-after s cs) at (any-calls s (begun s b) .promises .most cs m);
-      never-full = λ s b cs c h. any-calls s (begun s b) .promises .never-full cs c (ap (λ (t : Site). stepBy t c .answer) (same-after s cs) ∙ h);
+      never-crowded = λ s b cs c.
+          subst (λ (t : Site). doneAt t c ≡ true → Uncrowded (planOf t c)) (same-after s cs) (any-calls s (begun s b) .promises .never-crowded cs c);
       conserved = λ s b. counted s (begun s b);
       answered-leaves = λ s b cs c m k d a. gone (siteAfter s cs) (reached s (begun s b) cs) c m k d a;
       settles = settles;

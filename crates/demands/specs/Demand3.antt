@@ -10,8 +10,6 @@ use lib.Dec.{eqb}
 use lib.ListN.{length}
 use Rattle.basis.specs.Pick.{pick}
 use Rattle.basis.specs.Lists.{count, Among}
-use Rattle.answer.specs.declared.Refusal.the-variants.{PoolFull}
-use Rattle.answer.specs.declared.Answer.the-variants.{Refused}
 use Rattle.answer.specs.Number.{isDone}
 use Rattle.entry.specs.declared.Entry.{Entry}
 use Rattle.awaited.specs.declared.Purpose.{Purpose}
@@ -35,7 +33,7 @@ use Rattle.site.specs.declared.Site.{Site}
 use Rattle.site.specs.declared.Step.{Step}
 use Rattle.site.specs.Site.{linkAt}
 use Rattle.call_start.specs.Starts.{Starts}
-use Rattle.holding.specs.Touches.{Issues, Genuine, issuedFor}
+use Rattle.holding.specs.Touches.{Issues, Uncrowded, Genuine, issuedFor}
 use Rattle.calls.specs.Calls.{Call, planOf, stepBy, siteAfter}
 use Rattle.calls.specs.Calls.Call.{connect, disconnect, packet, alarm, status, aggregated, tick, pump}
 use Rattle.demands.specs.Acts.{actsOf}
@@ -126,8 +124,8 @@ pub record Promises : Type 0 where
   pub only-issued : (s : Site) → Started s → (cs : List Call) (m : ℕ) → Every (λ (e : Entry). Issued s e cs) (records (siteAfter s cs .pool) m)
   -- "none ever has more than 64 held"
   pub most : (s : Site) → Started s → (cs : List Call) (m : ℕ) → heldOf (siteAfter s cs .pool) m ≤ 64
-  -- number 13 is never given
-  pub never-full : (s : Site) → Started s → (cs : List Call) (c : Call) → stepBy (siteAfter s cs) c .answer ≡ Refused PoolFull → ⊥
+  -- before no single record that a call issues is the pool full while the record's link holds fewer than 16 and no other more than 16
+  pub never-crowded : (s : Site) → Started s → (cs : List Call) (c : Call) → doneAt (siteAfter s cs) c ≡ true → Uncrowded (planOf (siteAfter s cs) c)
   -- "Lost counts are kept per link, from start": every record issued is held, was answered while held, or is counted lost
   pub conserved : (s : Site) → Started s → (cs : List Call) (m : ℕ)
       → heldOf (siteAfter s cs .pool) m + lostOf (siteAfter s cs .pool) m + answeredIn s cs m ≡ issuedIn s cs m

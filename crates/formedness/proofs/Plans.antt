@@ -96,7 +96,7 @@ an-ack : (received : List ℕ) → Received received → Sendable (ack received 
 an-ack received r = one-message (ack received) (formed-ack r) (lit≤ tt)
 
 a-reason : (received : List ℕ) → Received received → (reason : ℕ) → IsReason reason → Sendable (notAck received (nameOf reason) ∷ [])
-a-reason received r reason t = one-message (notAck received (nameOf reason)) (formed-notAck r t) (lit≤ tt)
+a-reason received r reason t = one-message (notAck received (nameOf reason)) (formed-notAck r reason t) (lit≤ tt)
 
 and-reply : (received : List ℕ) → Received received → (m : Message) → Formed m → entriesIn m ≤ 16 → Sendable (ack received ∷ m ∷ [])
 and-reply received r m f h =

@@ -29,7 +29,7 @@ use Rattle.calls.proofs.Kept.{kept}
 use Rattle.demands.specs.Demand3.{doneAt}
 use Rattle.greeting.proofs.Looks.{Looks}
 
--- none of the numbers applies, 10 and 13 apart
+-- none of the numbers applies, 10 apart
 pub record Fine (no : Refusal → Bool) : Type 0 where
   pub link : no NoSuchLink ≡ false
   pub item : no NoSuchItem ≡ false
@@ -87,8 +87,7 @@ module _ (no : Refusal → Bool) (p : Plan) where
       (more (f .due)
       (more (f .few)
       (more (f .fresh)
-      (more (ap (λ (es : List Entry). issuedAll 4 (p .site .pool) (p .site .next) es .spent) e)
-      (more (ap (λ (es : List Entry). issuedAll 4 (p .site .pool) (p .site .next) es .crowded) e) none)))))))))))
+      (more (ap (λ (es : List Entry). issuedAll 4 (p .site .pool) (p .site .next) es .spent) e) none))))))))))
 
 module _ (s t : Site) (l : ℕ) (h : Stands s t l) where
   pub a-link : noLinkAt t l ≡ false

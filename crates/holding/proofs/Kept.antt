@@ -1,7 +1,7 @@
 -- Over every sequence of calls.
 -- Assumes nothing.
 use Prim.Native.Nat.{ℕ, _+_}
-use mathlib.Core.Path.{_≡_, refl, sym, _∙_, ap, subst⁻¹}
+use mathlib.Core.Path.{_≡_, refl, ap, subst⁻¹}
 use mathlib.Core.Bool.{Bool, true, false}
 use mathlib.Core.List.{List, [], _∷_}
 use mathlib.Core.Logic.{_⊎_, inl, inr}
@@ -10,7 +10,7 @@ use Rattle.basis.specs.Pick.{pick}
 use Rattle.basis.specs.Lists.{Among}
 use Rattle.basis.proofs.Cases.{bool-cases}
 use Rattle.basis.proofs.Both.{not-both}
-use Rattle.answer.specs.declared.Refusal.the-variants.{NoSuchLink, PoolFull}
+use Rattle.answer.specs.declared.Refusal.the-variants.{NoSuchLink}
 use Rattle.answer.specs.declared.Answer.{Answer}
 use Rattle.answer.specs.declared.Answer.the-variants.{Done, Refused}
 use Rattle.answer.specs.Number.{isDone}
@@ -27,7 +27,7 @@ use Rattle.site.specs.Site.{withIssued}
 use Rattle.site.specs.Call.{batchOf, answerOf, reportOf, stepped}
 use Rattle.holding.specs.Touches.{Configured, Issues, Superseded, Known, issuedFor, settled, Does}
 use Rattle.holding.specs.Sequences.{Calls, Touching, stepBy, doneAt, after, Issued, now, before, Released, settles, supersedes, earlier, issuedIn, settledIn, Promises, Kept, Same}
-use Rattle.holding.proofs.Passed.{done-passed, full-passed, stepped-answer, stepped-same}
+use Rattle.holding.proofs.Passed.{done-passed, stepped-same}
 use Rattle.holding.proofs.One.{one, done-every}
 
 module _ (C : Calls) (touching : Touching C) where
@@ -45,12 +45,6 @@ module _ (C : Calls) (touching : Touching C) where
     undone : doneAt C s c ≡ false → stepBy C s c .site ≡ s
     undone h = stepped-same s (planned s c) (answered s c) h
 
-    full-is : stepBy C s c .answer ≡ Refused PoolFull → answered s c ≡ Refused PoolFull
-    full-is h = sym (stepped-answer s (planned s c) (answered s c)) ∙ h
-
-    full-link : stepBy C s c .answer ≡ Refused PoolFull → C .refuses s c NoSuchLink ≡ false
-    full-link h = full-passed (C .refuses s c) (batchOf (C .plan s c)) (reportOf (C .plan s c) (C .end s c)) (full-is h) .link
-
     module _ (g : Configured s) (r : Reached 4 (s .pool) (s .next)) where
       does : doneAt C s c ≡ true → Does s (C .plan s c) (C .acts s c) (stepBy C s c .site)
       does h =
@@ -61,9 +55,6 @@ module _ (C : Calls) (touching : Touching C) where
           → Every P (records (s .pool) m) → Every P (records (stepBy C s c .site .pool) m)
       every-held h =
           done-every s (C .plan s c) (C .acts s c) r (touching s c g (done-link (answered s c) refl h)) (C .time c) (C .refuses s c) (C .end s c) (answered s c) refl h
-
-      not-full : stepBy C s c .answer ≡ Refused PoolFull → ⊥
-      not-full h = one s (C .plan s c) (C .acts s c) r (touching s c g (full-link h)) .never-full (C .time c) (C .refuses s c) (C .end s c) h
 
       still-configured : Configured (stepBy C s c .site)
       still-configured = bool-cases (doneAt C s c) (λ h. does h .configured g) (λ h. subst⁻¹ Configured (undone h) g)
@@ -147,7 +138,7 @@ module _ (C : Calls) (touching : Touching C) where
           held = held;
           genuine = λ cs e i. known cs e i .genuine;
           most = λ cs m. promised 4 (omega arith) .most (after C s cs .pool) (after C s cs .next) (reached cs) m;
-          never-full = λ cs c. not-full (after C s cs) c (configured cs) (reached cs);
+          never-crowded = λ cs c h. does (after C s cs) c (configured cs) (reached cs) h .uncrowded;
           conserved = conserved;
         }
 

@@ -13,7 +13,6 @@ use Rattle.basis.specs.Pick.{both}
 use Rattle.basis.specs.Lists.{count, Among}
 use Rattle.basis.proofs.Both.{not-both}
 use Rattle.answer.specs.declared.Refusal.{Refusal}
-use Rattle.answer.specs.declared.Refusal.the-variants.{PoolFull}
 use Rattle.answer.specs.declared.Answer.{Answer}
 use Rattle.answer.specs.declared.Answer.the-variants.{Done, Refused}
 use Rattle.answer.specs.Number.{isDone}
@@ -35,7 +34,7 @@ use Rattle.site.specs.Call.{Plan, batchOf, answerOf, reportOf, stepped}
 use Rattle.holding.specs.Touches.{Configured, Touches, Issues, Superseded, Genuine, Known, issuedFor, settled, Does, EveryOne}
 use Rattle.holding.proofs.Lists.{Safe, quiet-reached, quiet-held, quiet-counts, issues-held, issues-new, issues-counts}
 use Rattle.holding.proofs.Genuine.{quiet-every, issues-all, quiet-genuine, issues-keep, issues-genuine}
-use Rattle.holding.proofs.Passed.{done-passed, full-passed, full-crowded, stepped-answer}
+use Rattle.holding.proofs.Passed.{done-passed}
 
 laws : Laws 4
 laws = batches 4 (omega arith)
@@ -52,9 +51,6 @@ module _ (s : Site) (p : Plan) (xs : List Act) (r : Reached 4 (s .pool) (s .next
   lasting e =
       lasts (p .site .next) (p .issued) (reached-keeps 4 (omega arith) (p .site .pool) (p .site .next) before .bound)
       (sym (laws .spent (p .site .pool) (p .site .next) (p .issued)) ∙ e)
-
-  not-crowded : batchOf p .spent ≡ false → batchOf p .crowded ≡ false
-  not-crowded e = laws .crowded (p .site .pool) (p .site .next) before (p .issued) (t .owned) (lasting e)
 
   module _ (time : ℕ) (unspent : batchOf p .spent ≡ false) where
     abbrev next-site : Site
@@ -144,6 +140,7 @@ module _ (s : Site) (p : Plan) (xs : List Act) (r : Reached 4 (s .pool) (s .next
           new = held-new;
           known-new = known-new;
           known = still-known;
+          uncrowded = laws .uncrowded (p .site .pool) (p .site .next) before (p .issued) (t .owned) (lasting unspent);
           conserved = counted;
         }
 
@@ -158,12 +155,5 @@ module _ (s : Site) (p : Plan) (xs : List Act) (r : Reached 4 (s .pool) (s .next
   done-every time f end (Done d) e h P = every-held time (done-passed f (batchOf p) (reportOf p end) d e .unspent) P
   done-every time f end (Refused x) e h P = not-both h refl
 
-  not-full : (f : Refusal → Bool) (end : ℕ) → answerOf f p end ≡ Refused PoolFull → ⊥
-  not-full f end e = not-both (full-crowded f (batchOf p) (reportOf p end) e) (not-crowded (full-passed f (batchOf p) (reportOf p end) e .unspent))
-
 pub one : EveryOne
-one s p xs r t =
-    record {
-      done = λ time f end h. done-does s p xs r t time f end (answerOf f p end) refl h;
-      never-full = λ time f end h. not-full s p xs r t f end (sym (stepped-answer s (withIssued (p .site) (batchOf p) time) (answerOf f p end)) ∙ h);
-    }
+one s p xs r t = record { done = λ time f end h. done-does s p xs r t time f end (answerOf f p end) refl h }

@@ -9,8 +9,7 @@ use mathlib.Core.Logic.{_⊎_}
 use Rattle.basis.specs.Pick.{pick}
 use Rattle.basis.specs.Lists.{Among}
 use Rattle.answer.specs.declared.Refusal.{Refusal}
-use Rattle.answer.specs.declared.Refusal.the-variants.{NoSuchLink, PoolFull}
-use Rattle.answer.specs.declared.Answer.the-variants.{Refused}
+use Rattle.answer.specs.declared.Refusal.the-variants.{NoSuchLink}
 use Rattle.answer.specs.Number.{isDone}
 use Rattle.entry.specs.declared.Entry.{Entry}
 use Rattle.pool.specs.Pool.{heldOf, lostOf}
@@ -23,7 +22,7 @@ use Rattle.pool_laws.specs.Contents.{Every}
 use Rattle.site.specs.declared.Site.{Site}
 use Rattle.site.specs.declared.Step.{Step}
 use Rattle.site.specs.Call.{Plan, stepOf}
-use Rattle.holding.specs.Touches.{Configured, Touches, Issues, Superseded, Genuine, issuedFor, settled}
+use Rattle.holding.specs.Touches.{Configured, Touches, Issues, Uncrowded, Superseded, Genuine, issuedFor, settled}
 
 -- the calls that may be made: what refuses each, what it lays down, and by which acts its plan touches the records
 pub record Calls : Type 1 where
@@ -82,8 +81,8 @@ module _ (C : Calls) where
     pub genuine : (cs : List (C .Call)) (e : Entry) → Issued s e cs → Genuine (after s cs .pool) e
     -- no link ever holds more than 64
     pub most : (cs : List (C .Call)) (m : ℕ) → heldOf (after s cs .pool) m ≤ 64
-    -- number 13 is never given
-    pub never-full : (cs : List (C .Call)) (c : C .Call) → stepBy (after s cs) c .answer ≡ Refused PoolFull → ⊥
+    -- before no record that a done call issues is the pool crowded for its link
+    pub never-crowded : (cs : List (C .Call)) (c : C .Call) → doneAt (after s cs) c ≡ true → Uncrowded (C .plan (after s cs) c)
     -- every record issued is held, was settled, or is counted lost
     pub conserved : (cs : List (C .Call)) (m : ℕ)
         → heldOf (after s cs .pool) m + lostOf (after s cs .pool) m + settledIn s cs m ≡ heldOf (s .pool) m + lostOf (s .pool) m + issuedIn s cs m

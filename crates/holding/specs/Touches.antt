@@ -3,15 +3,13 @@
 use Prim.Native.Nat.{ℕ, _+_, _≤_, _<_}
 use mathlib.Core.Path.{_≡_}
 use mathlib.Core.Bool.{Bool, true}
-use mathlib.Core.List.{List, [], _∷_}
+use mathlib.Core.List.{List, [], _∷_, _++_}
 use mathlib.Core.Logic.{_⊎_}
 use lib.Dec.{eqb}
 use lib.ListN.{length}
 use Rattle.basis.specs.Pick.{pick}
 use Rattle.basis.specs.Lists.{count, Among}
 use Rattle.answer.specs.declared.Refusal.{Refusal}
-use Rattle.answer.specs.declared.Refusal.the-variants.{PoolFull}
-use Rattle.answer.specs.declared.Answer.the-variants.{Refused}
 use Rattle.answer.specs.Number.{isDone}
 use Rattle.entry.specs.declared.Entry.{Entry}
 use Rattle.pool.specs.declared.Pool.{Pool}
@@ -22,8 +20,10 @@ use Rattle.pool_laws.specs.Acts.{Act, act, acts, newerThan}
 use Rattle.pool_laws.specs.Acts.Act.{Issue, Settle, Mark, Unmark}
 use Rattle.pool_laws.specs.Leaves.{Held}
 use Rattle.pool_laws.specs.Promises.{Reached}
+use Rattle.pool_laws.specs.Crowded.{Crowded}
 use Rattle.pool_laws.specs.View.{records}
 use Rattle.pool_laws.specs.Contents.{Every}
+use Rattle.pool_batch.specs.Batch.{issuedAll}
 use Rattle.pool_batch.specs.Laws.{numbered, issues, Owned}
 use Rattle.site.specs.declared.Site.{Site}
 use Rattle.site.specs.Call.{Plan, stepOf}
@@ -54,6 +54,14 @@ pub record Touches (s : Site) (p : Plan) (xs : List Act) : Type 0 where
 -- the record e is one of those that the plan issues, under its number
 abbrev pub Issues : Site → Plan → Entry → Type 0
 Issues s p e = Among (Issue e) (issues (numbered (s .next) (p .issued)))
+
+-- the pool that a record of the plan meets, where the records xs of the plan come before it
+abbrev pub poolBefore : Plan → List Entry → Pool
+poolBefore p xs = issuedAll 4 (p .site .pool) (p .site .next) xs .pool
+
+-- before no single record that the plan issues is the pool full while the record's link holds fewer than 16 and no other more than 16
+abbrev pub Uncrowded : Plan → Type 0
+Uncrowded p = (xs : List Entry) (e : Entry) (ys : List Entry) → p .issued ≡ xs ++ e ∷ ys → Crowded 4 (poolBefore p xs) (e .link) → ⊥
 
 -- the plan issues a record, for whichever link, and in the site after it at least 16 of link m newer than k are held
 pub record Superseded (p : Plan) (after : Site) (m k : ℕ) : Type 0 where
@@ -95,13 +103,13 @@ pub record Does (s : Site) (p : Plan) (xs : List Act) (after : Site) : Type 0 wh
   -- and under its number there is no other record
   pub known-new : (e : Entry) → Issues s p e → Known after e
   pub known : (e : Entry) → Known s e → Known after e
+  pub uncrowded : Uncrowded p
   -- what is not held any more was settled or is counted lost
   pub conserved : (m : ℕ) → heldOf (after .pool) m + lostOf (after .pool) m + settled (s .pool) xs m ≡ heldOf (s .pool) m + lostOf (s .pool) m + issuedFor m (p .issued)
 
--- whatever else refuses the call, and whenever it is made: done, it does this; and number 13 is not given
+-- whatever else refuses the call, and whenever it is made: done, it does this
 pub record One (s : Site) (p : Plan) (xs : List Act) : Type 0 where
   pub done : (time : ℕ) (refuses : Refusal → Bool) (end : ℕ) → isDone (stepOf s time refuses p end .answer) ≡ true → Does s p xs (stepOf s time refuses p end .site)
-  pub never-full : (time : ℕ) (refuses : Refusal → Bool) (end : ℕ) → stepOf s time refuses p end .answer ≡ Refused PoolFull → ⊥
 
 abbrev pub EveryOne : Type 0
 EveryOne = (s : Site) (p : Plan) (xs : List Act) → Reached 4 (s .pool) (s .next) → Touches s p xs → One s p xs

@@ -50,7 +50,7 @@ module _ (f : Refusal → Bool) (r : Report) where
   none-of (x ∷ xs) e = more (here (f x) x (judged f xs (Done r)) e) (none-of xs (there (f x) x (judged f xs (Done r)) e))
 
   those : None f inOrder → Passed f
-  those (more a (more b (more c (more d (more e (more g (more h (more i (more j (more k (more l (more m none)))))))))))) =
+  those (more a (more b (more c (more d (more e (more g (more h (more i (more j (more k (more l none))))))))))) =
       record { link = a; phase = g; taken = h; due = i; few = j; fresh = k }
 
   pub passed : (s t : Site) → isDone (stepped s t (judged f inOrder (Done r)) .answer) ≡ true → Passed f

@@ -7,7 +7,7 @@ use mathlib.Core.Option.{Option, some, none}
 use lib.Dec.{eqb, ltb, leb}
 use lib.ListN.{length}
 use Rattle.basis.specs.Lists.{count}
-use Rattle.machine.specs.Words.{if_then_else_, _and_, _or_, anyBelow, keep, butFirst, changed}
+use Rattle.machine.specs.Words.{if_then_else_, _and_, keep, butFirst, changed}
 use Rattle.machine.specs.State.{Issued, Held, heldAs, Pool, poolOf}
 
 abbrev pub isFor : ℕ → Held → Bool
@@ -51,14 +51,6 @@ issue i p = added i (makeRoom (i .link) p)
 abbrev pub issueAll : List Issued → Pool → Pool
 issueAll [] p = p
 issueAll (i ∷ rest) p = issueAll rest (issue i p)
-
--- "13: pool full, the link holds fewer than 16, no other link holds more than 16": before any one of the records of a call
-unfoldable pub isStuck : ℕ → Pool → Bool
-isStuck s p = isFull p and ltb (holds p s) 16 and not (anyBelow (length (p .lost)) (λ l. not (eqb l s) and ltb 16 (holds p l)))
-
-abbrev pub sticks : List Issued → Pool → Bool
-sticks [] p = false
-sticks (i ∷ rest) p = isStuck (i .link) p or sticks rest (issue i p)
 
 -- "Either answer settles a record." "A late answer for a lost record removes the awaited identity only."
 abbrev pub settled : ℕ → ℕ → List Held → List Held

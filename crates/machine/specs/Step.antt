@@ -16,7 +16,7 @@ use Rattle.machine.specs.Json.{readPacket}
 use Rattle.machine.specs.Table.{lastSequence}
 use Rattle.machine.specs.Life.{isDown, isAwaited, due}
 use Rattle.machine.specs.Answers.{isAnswer, isIgnored, wantsReply, reasonOf}
-use Rattle.machine.specs.Pool.{issueAll, sticks}
+use Rattle.machine.specs.Pool.{issueAll}
 use Rattle.machine.specs.Effects.{ownIdentity, effectOf}
 
 -- 2 no such configured link
@@ -46,11 +46,8 @@ isReplied m l j = not (isAnswer j) and not (isSome (reasonOf m l j)) and wantsRe
 abbrev pub sequenceEnds : Machine → Effect → Bool
 sequenceEnds m e = ltb (suc lastSequence) (m .pool .next + length (e .issues))
 
--- 13 pool full, the link holds fewer than 16, no other link holds more than 16
-abbrev pub poolSticks : Effect → Bool
-poolSticks e = sticks (e .issues) (e .leaves .pool)
-
--- "Given exactly when", "Checked in the order 2, 3, 4, 12, 5, 6, 1, 7, 8, 9, 10, 13, each where it applies."
+-- "Given exactly when", "Checked in the order 2, 3, 4, 12, 5, 6, 1, 7, 8, 9, 10, .., each where it applies." The last of document 01's numbers
+-- has no place here: its condition holds before no record that a call issues (demand_held `never-crowded`).
 unfoldable pub conditions : Machine → ℕ → Act → List (Case ℕ)
 conditions m t (connect l) = 2 when noSuchLink m l ∷ 5 when badTime m t ∷ 6 when not (isDownAt m l) ∷ []
 conditions m t (disconnect l) = 2 when noSuchLink m l ∷ 5 when badTime m t ∷ 6 when isDownAt m l ∷ []
@@ -63,29 +60,24 @@ conditions m t (packet l random s room) =
     ∷ 1 when isIgnored (lifeAt m l) (readPacket s)
     ∷ 9 when (maybe false (isReplied m l) (readPacket s) and identityAwaited m l random)
     ∷ 10 when sequenceEnds m (effectOf m t (packet l random s room))
-    ∷ 13 when poolSticks (effectOf m t (packet l random s room))
     ∷ []
 conditions m t (alarmInput i active) =
     3 when leb (length (m .setup .table .alarms)) i
     ∷ 5 when badTime m t
     ∷ 10 when sequenceEnds m (effectOf m t (alarmInput i active))
-    ∷ 13 when poolSticks (effectOf m t (alarmInput i active))
     ∷ []
 conditions m t (statusValue i v) =
     3 when leb (length (m .setup .table .statuses)) i
     ∷ 5 when badTime m t
     ∷ 10 when sequenceEnds m (effectOf m t (statusValue i v))
-    ∷ 13 when poolSticks (effectOf m t (statusValue i v))
     ∷ []
 conditions m t (aggregatedValue v) =
     5 when badTime m t
     ∷ 10 when sequenceEnds m (effectOf m t (aggregatedValue v))
-    ∷ 13 when poolSticks (effectOf m t (aggregatedValue v))
     ∷ []
 conditions m t tick =
     5 when badTime m t
     ∷ 10 when sequenceEnds m (effectOf m t tick)
-    ∷ 13 when poolSticks (effectOf m t tick)
     ∷ []
 conditions m t (pump l random room) =
     2 when noSuchLink m l

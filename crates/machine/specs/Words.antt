@@ -89,14 +89,10 @@ changed i f [] = []
 changed zero f (x ∷ xs) = f x ∷ xs
 changed (suc i) f (x ∷ xs) = x ∷ changed i f xs
 
--- the numbers below n, upwards; whether one of them passes
+-- the numbers below n, upwards
 abbrev pub upTo : ℕ → List ℕ
 upTo zero = []
 upTo (suc n) = upTo n ++ (n ∷ [])
-
-abbrev pub anyBelow : ℕ → (ℕ → Bool) → Bool
-anyBelow zero f = false
-anyBelow (suc n) f = f n or anyBelow n f
 
 -- ---- "first that applies"
 pub record Case (A : Type 0) : Type 0 where

@@ -1,7 +1,7 @@
 -- Which number a call gives, proved for every call at once.
 -- Assumes nothing.
 use Prim.Native.Nat.{ℕ}
-use mathlib.Core.Path.{_≡_, refl, sym, ap, _∙_}
+use mathlib.Core.Path.{_≡_, refl, sym, _∙_}
 use mathlib.Core.Bool.{Bool, true, false, true≢false}
 use mathlib.Core.List.{List, [], _∷_}
 use lib.Dec.{eqb}
@@ -10,15 +10,12 @@ use borrow.Author.Tests.{eq-eqb, ne-eqb}
 use Rattle.basis.specs.Pick.{pick}
 use Rattle.basis.proofs.Cases.{bool-cases}
 use Rattle.answer.specs.declared.Refusal.{Refusal}
-use Rattle.answer.specs.declared.Refusal.the-variants.{NotAccepted, PoolFull}
+use Rattle.answer.specs.declared.Refusal.the-variants.{NotAccepted}
 use Rattle.answer.specs.declared.Report.{Report}
 use Rattle.answer.specs.declared.Answer.the-variants.{Done}
 use Rattle.answer.specs.Number.{refusalNumber}
 use Rattle.answer.specs.Order.{inOrder, First, here, later, None}
 use Rattle.answer.proofs.Checks.{first-refuses, refused-first, none-refuses, done-none}
-use Rattle.entry.specs.declared.Entry.{Entry}
-use Rattle.pool.specs.Pool.{crowdedIn}
-use Rattle.pool_batch.specs.Batch.{added, issuedAll}
 use Rattle.pool_batch.proofs.Kept.{kept}
 use Rattle.site.specs.Call.{Plan, reportOf, answerOf}
 use Rattle.numbers.specs.Numbers.{conditions, Numbers}
@@ -41,10 +38,6 @@ module _ (refuses : Refusal → Bool) (p : Plan) (end : ℕ) where
   report : (d : Report) → answerOf refuses p end ≡ Done d → d ≡ reportOf p end
   report d e = let k : Done d ≡ Done (reportOf p end) = sym e ∙ none-refuses (Done (reportOf p end)) (done-none (conditions refuses p) inOrder (reportOf p end) d e) in cc
 
-  one-record : (e : Entry) → p .issued ≡ e ∷ [] → conditions refuses p PoolFull ≡ crowdedIn 4 (p .site .pool) (e .link)
-  unfolding added
-  one-record e h = ap (λ (es : List Entry). issuedAll 4 (p .site .pool) (p .site .next) es .crowded) h
-
   pub numbers : Numbers refuses p end
   numbers =
       record {
@@ -53,8 +46,6 @@ module _ (refuses : Refusal → Bool) (p : Plan) (end : ℕ) where
         done = λ n. none-refuses (Done (reportOf p end)) n;
         done-only-so = λ d e. (done-none (conditions refuses p) inOrder (reportOf p end) d e, report d e);
         ten = kept 4 (omega arith) .spent (p .site .pool) (p .site .next) (p .issued);
-        thirteen = one-record;
-        no-thirteen = λ r o h. kept 4 (omega arith) .crowded (p .site .pool) (p .site .next) r (p .issued) o h;
-        others = λ r h k. rw (ne-eqb (refusalNumber r) 10 h, ne-eqb (refusalNumber r) 13 k) refl;
+        others = λ r h. rw (ne-eqb (refusalNumber r) 10 h) refl;
         no-eleven = λ e. eleven (refused-first (conditions refuses p) inOrder (reportOf p end) NotAccepted e);
       }

@@ -3,28 +3,23 @@
 -- Assumes nothing.
 use Prim.Native.Nat.{ℕ, _+_}
 use mathlib.Core.Path.{_≡_}
-use mathlib.Core.Bool.{Bool, false}
-use mathlib.Core.List.{[], _∷_}
+use mathlib.Core.Bool.{Bool}
 use lib.Dec.{ltb}
 use lib.ListN.{length}
 use Rattle.basis.specs.Pick.{both}
 use Rattle.answer.specs.declared.Refusal.{Refusal}
-use Rattle.answer.specs.declared.Refusal.the-variants.{SequenceSpent, NotAccepted, PoolFull}
+use Rattle.answer.specs.declared.Refusal.the-variants.{SequenceSpent, NotAccepted}
 use Rattle.answer.specs.declared.Report.{Report}
 use Rattle.answer.specs.declared.Answer.the-variants.{Done, Refused}
 use Rattle.answer.specs.Number.{refusalNumber}
 use Rattle.answer.specs.Order.{inOrder, First, None}
-use Rattle.entry.specs.declared.Entry.{Entry}
-use Rattle.pool.specs.Pool.{crowdedIn}
-use Rattle.pool_laws.specs.Promises.{Reached}
-use Rattle.pool_batch.specs.Laws.{Owned, Lasting}
 use Rattle.site.specs.Call.{Plan, batchOf, issuing, reportOf, answerOf}
 
--- the conditions of a call: those of its definition, and numbers 10 and 13 of the records that it issues
+-- the conditions of a call: those of its definition, and number 10 of the records that it issues
 abbrev pub conditions : (Refusal → Bool) → Plan → Refusal → Bool
 conditions refuses p = issuing (batchOf p) refuses
 
--- inOrder is 2, 3, 4, 12, 5, 6, 1, 7, 8, 9, 10, 13: `order` of crate answer
+-- inOrder is 2, 3, 4, 12, 5, 6, 1, 7, 8, 9, 10: `order` of crate answer
 pub record Numbers (refuses : Refusal → Bool) (p : Plan) (end : ℕ) : Type 0 where
   -- a number is given exactly when its condition applies and none before it in the order does
   pub given : (r : Refusal) → First (conditions refuses p) r inOrder → answerOf refuses p end ≡ Refused r
@@ -34,10 +29,7 @@ pub record Numbers (refuses : Refusal → Bool) (p : Plan) (end : ℕ) : Type 0 
   pub done-only-so : (d : Report) → answerOf refuses p end ≡ Done d → None (conditions refuses p) inOrder × (d ≡ reportOf p end)
   -- 10: the call issues, and the last number that it takes is past 4294967295
   pub ten : conditions refuses p SequenceSpent ≡ both (ltb 0 (length (p .issued))) (ltb 4294967296 (p .site .next + length (p .issued)))
-  -- 13: of one record, that the pool is crowded for its link; of records for the four links of a pool that a site reaches, never
-  pub thirteen : (e : Entry) → p .issued ≡ e ∷ [] → conditions refuses p PoolFull ≡ crowdedIn 4 (p .site .pool) (e .link)
-  pub no-thirteen : Reached 4 (p .site .pool) (p .site .next) → Owned 4 (p .issued) → Lasting (p .site .next) (p .issued) → conditions refuses p PoolFull ≡ false
   -- every other number has the condition of the call's definition
-  pub others : (r : Refusal) → (refusalNumber r ≡ 10 → ⊥) → (refusalNumber r ≡ 13 → ⊥) → conditions refuses p r ≡ refuses r
+  pub others : (r : Refusal) → (refusalNumber r ≡ 10 → ⊥) → conditions refuses p r ≡ refuses r
   -- 11 is given by start alone
   pub no-eleven : answerOf refuses p end ≡ Refused NotAccepted → ⊥

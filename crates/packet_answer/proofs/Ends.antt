@@ -5,7 +5,7 @@ use mathlib.Core.Path.{_≡_, refl, sym, ap, _∙_}
 use mathlib.Core.Bool.{Bool, true, false}
 use mathlib.Core.List.{List, [], _∷_, _++_}
 use Rattle.answer.specs.declared.Refusal.{Refusal}
-use Rattle.answer.specs.declared.Refusal.the-variants.{IdentityAwaited, SequenceSpent, PoolFull}
+use Rattle.answer.specs.declared.Refusal.the-variants.{IdentityAwaited, SequenceSpent}
 use Rattle.answer.specs.Given.{Hint}
 use Rattle.answer.specs.Given.Hint.{none, clock}
 use Rattle.names.specs.Names.{nameOf}
@@ -55,18 +55,16 @@ closes s l time received reason w e =
     record { step = e ∙ ap (λ (x : Out). doneAt (closeAt s l) time (x .end) (maskOf l)) o; out = rw e (ap (λ (x : Out). x .bytes) o) }
 
 -- a call without a condition of its own ends as its batch says
-concluding : (s : Site) (time : ℕ) (p : Plan) (end : ℕ) (a b : Bool)
+concluding : (s : Site) (time : ℕ) (p : Plan) (end : ℕ) (a : Bool)
     → batchOf p .spent ≡ a
-    → batchOf p .crowded ≡ b
     → concluded s (p .site) (batchOf p) time (reportOf p end) ≡ stepOf s time never p end
-concluding s time p end true b e f = rw e refl
-concluding s time p end false true e f = rw (e, f) refl
-concluding s time p end false false e f = rw (e, f) refl
+concluding s time p end true e = rw e refl
+concluding s time p end false e = rw e refl
 
 pub concludes : (s : Site) (time : ℕ) (p : Plan) (end : ℕ) → concluded s (p .site) (batchOf p) time (reportOf p end) ≡ stepOf s time never p end
-concludes s time p end = concluding s time p end (batchOf p .spent) (batchOf p .crowded) refl refl
+concludes s time p end = concluding s time p end (batchOf p .spent) refl
 
--- the three ends of a call that acknowledges
+-- the two ends of a call that acknowledges
 pub refuses-spent : (s after : Site) (b : Batch) (time hint hinted : ℕ) (received : List ℕ) {xs ys : List ℕ} {r : Step}
     → b .spent ≡ true
     → r ≡ refused s SequenceSpent
@@ -74,25 +72,16 @@ pub refuses-spent : (s after : Site) (b : Batch) (time hint hinted : ℕ) (recei
     → Acks s after b time hint hinted received xs ys r
 refuses-spent s after b time hint hinted received h e f = record { step = rw h e; out = rw e f }
 
-pub refuses-full : (s after : Site) (b : Batch) (time hint hinted : ℕ) (received : List ℕ) {xs ys : List ℕ} {r : Step}
-    → b .spent ≡ false
-    → b .crowded ≡ true
-    → r ≡ refused s PoolFull
-    → ys ≡ xs
-    → Acks s after b time hint hinted received xs ys r
-refuses-full s after b time hint hinted received g h e f = record { step = rw (g, h) e; out = rw e f }
-
 pub writes-ack : (s after : Site) (b : Batch) (time hint hinted : ℕ) (received : List ℕ) {xs ys : List ℕ} {end : ℕ} {r : Step}
     → b .spent ≡ false
-    → b .crowded ≡ false
     → Wrote xs 0 (pieces (ack received)) ys end
     → r ≡ concluded s after b time (report hint hinted end 0)
     → Acks s after b time hint hinted received xs ys r
-writes-ack s after b time hint hinted received g h w e =
+writes-ack s after b time hint hinted received g w e =
     let o = one (ack received) w in
     record {
       step = e ∙ ap (λ (x : Out). concluded s after b time (report hint hinted (x .end) 0)) o;
-      out = rw (e, g, h) (ap (λ (x : Out). x .bytes) o);
+      out = rw (e, g) (ap (λ (x : Out). x .bytes) o);
     }
 
 -- the same, said of equal parts

@@ -117,9 +117,6 @@ pub fn acknowledge(
     if b.spent {
         return site::refused(s, Refusal::SequenceSpent);
     }
-    if b.crowded {
-        return site::refused(s, Refusal::PoolFull);
-    }
     let end = ack(received, out);
     site::conclude(s, after, b, time, report(hint, hinted, end, 0))
 }

@@ -1,22 +1,21 @@
--- The rule of document 01 holds of `loser`, and number 13's condition is `crowdedOf`: the numbers 16, 64 and 128 and the ties are
--- what the document says.
+-- The rule of document 01 holds of `loser`: the numbers 16, 64 and 128 and the ties are what the document says.
 -- Assumes nothing.
 use Prim.Native.Nat.{ℕ, suc, zero, _-_, _≤_, _<_}
-use mathlib.Core.Path.{_≡_, refl, _∙_}
+use mathlib.Core.Path.{_≡_, refl}
 use mathlib.Core.Bool.{Bool, true, false}
 use mathlib.Core.Logic.{_⊎_, inl, inr}
 use lib.ListN.{length, length-replicate}
-use lib.Dec.{leb, ltb, eqb}
+use lib.Dec.{leb, ltb}
 use native.Mathlib.Omega.{arith}
-use borrow.Author.Tests.{ltb-true, ltb-false, leb-true, eqb-true, eqb-false, le-leb, lt-leb, lt-ltb, le-ltb, eq-eqb, ne-eqb}
+use borrow.Author.Tests.{ltb-true, ltb-false, le-leb, lt-leb, lt-ltb, le-ltb}
 use Rattle.basis.specs.Pick.{pick}
 use Rattle.basis.proofs.Cases.{lt-or-ge, eq-or-ne}
 use Rattle.basis.proofs.Both.{both-first, both-second}
 use Rattle.pool.specs.declared.Loser.the-variants.{Nobody, Owner}
 use Rattle.pool.specs.Places.{noPlace}
-use Rattle.pool.specs.Shares.{fullest, loser, noOther, crowdedOf}
+use Rattle.pool.specs.Shares.{fullest, loser}
 use Rattle.pool.specs.Pool.{emptyOf}
-use Rattle.pool.specs.Rule.{Rule, Crowded}
+use Rattle.pool.specs.Rule.{Rule}
 use Rattle.pool.specs.Rule.HoldsMost.{lowest}
 
 -- the links 0 to k: the fullest is one of them, none holds more, and every lower one holds fewer
@@ -60,44 +59,6 @@ rule n held free l p =
         → pick (leb 64 (held l)) (Owner l) (pick (ltb 0 free) Nobody (pick (ltb (held l) 16) (Owner (fullest held (n - 1))) (Owner l))) ≡ Owner l
     again h f (inl g) = rw (lt-leb 64 (held l) g, le-ltb 0 free (omega arith), le-ltb (held l) 16 h)
     again h f (inr g) = rw (le-leb 64 (held l) g)
-
-others-mean : (held : ℕ → ℕ) (l n : ℕ) → noOther held l n ≡ true → (j : ℕ) → j < n → (j ≡ l → ⊥) → held j ≤ 16
-unfolding noOther
-others-mean held l zero e j h d = absurd (omega arith)
-others-mean held l (suc k) e j h d = go (eq-or-ne j k) (others-mean held l k (both-first (noOther held l k) _ e) j)
-  where
-    go : (j ≡ k) ⊎ (j ≡ k → ⊥) → (j < k → (j ≡ l → ⊥) → held j ≤ 16) → held j ≤ 16
-    go (inl s) r =
-        let t : pick (eqb k l) true (leb (held k) 16) ≡ true = both-second (noOther held l k) _ e in
-        let u : eqb k l ≡ false = ne-eqb k l (λ z. d (s ∙ z)) in
-        rw s (leb-true (held k) 16 (rw u at t))
-    go (inr s) r = r (omega arith) d
-
-others-when : (held : ℕ → ℕ) (l n : ℕ) → ((j : ℕ) → j < n → (j ≡ l → ⊥) → held j ≤ 16) → noOther held l n ≡ true
-unfolding noOther
-others-when held l zero h = refl
-others-when held l (suc k) h = rw (others-when held l k (λ j g d. h j (omega arith) d)) (go (eqb k l) refl)
-  where
-    go : (t : Bool) → eqb k l ≡ t → pick t true (leb (held k) 16) ≡ true
-    go true e = refl
-    go false e = le-leb (held k) 16 (h k (omega arith) (eqb-false k l e))
-
-pub crowded-means : (n : ℕ) (held : ℕ → ℕ) (free l : ℕ) → crowdedOf n held free l ≡ true → Crowded n held free l
-unfolding crowdedOf
-crowded-means n held free l e =
-    let a = both-second (ltb l n) _ e in
-    let b = both-second (eqb free 0) _ a in
-    record {
-      link = ltb-true l n (both-first (ltb l n) _ e);
-      full = eqb-true free 0 (both-first (eqb free 0) _ a);
-      few = ltb-true (held l) 16 (both-first (ltb (held l) 16) _ b);
-      others = others-mean held l n (both-second (ltb (held l) 16) _ b);
-    }
-
-pub crowded-when : (n : ℕ) (held : ℕ → ℕ) (free l : ℕ) → Crowded n held free l → crowdedOf n held free l ≡ true
-unfolding crowdedOf
-crowded-when n held free l c =
-    rw (lt-ltb l n (c .link), eq-eqb free 0 (c .full), lt-ltb (held l) 16 (c .few)) (others-when held l n (c .others))
 
 pub room-for : (n : ℕ) → length (emptyOf n .places) ≡ 128
 unfolding emptyOf

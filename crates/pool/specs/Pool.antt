@@ -21,7 +21,7 @@ use Rattle.pool.specs.declared.Sought.the-variants.{Found, Nothing}
 use Rattle.pool.specs.declared.Reading.{Reading}
 use Rattle.basis.specs.Lists.{count}
 use Rattle.pool.specs.Places.{noPlace, of, fits, oldest, newest, soughtAt}
-use Rattle.pool.specs.Shares.{loser, crowdedOf}
+use Rattle.pool.specs.Shares.{loser}
 
 -- 128 free places; n links have lost nothing
 unfoldable pub emptyOf : ℕ → Pool
@@ -39,9 +39,6 @@ heldOf p l = heldIn (p .places) l
 
 abbrev pub lostOf : Pool → ℕ → ℕ
 lostOf p l = getD (p .lost) l 0
-
-abbrev pub crowdedIn : ℕ → Pool → ℕ → Bool
-crowdedIn n p l = crowdedOf n (heldIn (p .places)) (freeIn (p .places)) l
 
 -- one more; a count that cannot grow stays
 abbrev pub moreOf : ℕ → ℕ

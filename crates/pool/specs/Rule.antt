@@ -1,5 +1,5 @@
 -- Document 01's rule of the pool in its own words: who loses a record, and when, said without the definitions that compute it.
--- Statements only: their proofs are `rule`, `crowded-means` and `crowded-when`.
+-- Statements only: their proof is `rule`.
 -- Assumes nothing.
 use Prim.Native.Nat.{ℕ, _≤_, _<_}
 use mathlib.Core.Path.{_≡_}
@@ -20,10 +20,3 @@ pub record Rule (n : ℕ) (held : ℕ → ℕ) (free l : ℕ) (who : Loser) : Ty
   pub least-share : held l < 16 → free ≡ 0 → HoldsMost n held who
   -- else the oldest of l is lost
   pub own-again : 16 ≤ held l → free ≡ 0 → who ≡ Owner l
-
--- number 13: the pool is full, link l holds fewer than 16, no other link holds more than 16
-pub record Crowded (n : ℕ) (held : ℕ → ℕ) (free l : ℕ) : Type 0 where
-  pub link : l < n
-  pub full : free ≡ 0
-  pub few : held l < 16
-  pub others : (j : ℕ) → j < n → (j ≡ l → ⊥) → held j ≤ 16

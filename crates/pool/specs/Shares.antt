@@ -1,9 +1,8 @@
 -- Who gives a record up when one is issued: document 01's rule, as a function of how many records each link holds and how many places are free.
 -- Assumes nothing.
 use Prim.Native.Nat.{ℕ, zero, suc, _-_}
-use mathlib.Core.Bool.{Bool, true}
-use lib.Dec.{leb, ltb, eqb}
-use Rattle.basis.specs.Pick.{pick, both}
+use lib.Dec.{leb, ltb}
+use Rattle.basis.specs.Pick.{pick}
 use Rattle.pool.specs.declared.Loser.{Loser}
 use Rattle.pool.specs.declared.Loser.the-variants.{Nobody, Owner}
 
@@ -22,12 +21,3 @@ loser n held free l =
     pick (leb 64 (held l)) (Owner l)
     (pick (ltb 0 free) Nobody
     (pick (ltb (held l) 16) (Owner (fullest held (n - 1))) (Owner l)))
-
--- of the links below n none but l holds more than 16
-unfoldable pub noOther : (ℕ → ℕ) → ℕ → ℕ → Bool
-noOther held l zero = true
-noOther held l (suc k) = both (noOther held l k) (pick (eqb k l) true (leb (held k) 16))
-
--- number 13: nothing is free, l is one of the n links and holds fewer than 16, and no other holds more than 16
-unfoldable pub crowdedOf : ℕ → (ℕ → ℕ) → ℕ → ℕ → Bool
-crowdedOf n held free l = both (ltb l n) (both (eqb free 0) (both (ltb (held l) 16) (noOther held l n)))

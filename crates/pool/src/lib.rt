@@ -6,7 +6,7 @@ mod places;
 mod shares;
 
 ghost use mathlib.Core.Path.{_≡_};
-ghost use Rattle.pool.specs.Pool.{emptyOf, heldOf, lostOf, crowdedIn, issueOf, markOf, settleOf, unmarkOf, oldestUnsent, newestAlarm, rankedOf, readingOf};
+ghost use Rattle.pool.specs.Pool.{emptyOf, heldOf, lostOf, issueOf, markOf, settleOf, unmarkOf, oldestUnsent, newestAlarm, rankedOf, readingOf};
 ghost use Rattle.pool.specs.Places.{soughtAt};
 
 // A place: 0 it is free, 1 its record is not sent, 2 it is sent.
@@ -105,14 +105,6 @@ impl Pool {
         let who = shares::loser_for(p, e.link);
         let made = Place { entry: e, mark: 1 };
         change::with(self, change::room(p, who), made, change::lose(lost, who))
-    }
-
-    // Number 13: the pool is full, the link holds fewer than 16, no other holds more than 16.
-    pub fn crowded(self, link: u16) -> bool
-        ensures { λ r. ⌜ r ≡ crowdedIn 4 self link ⌝ }
-    {
-        let p = self.places;
-        shares::crowded_for(p, link)
     }
 
     // How many records of the link are held.

@@ -10,7 +10,7 @@ ghost use Rattle.basis.specs.Lists.{count};
 ghost use Rattle.pool.specs.Places.{of, fits, lower, higher, older, newer, oldest, newest};
 ghost use Rattle.pool.specs.Pool.{rankIs};
 
-pub fn and(a: bool, b: bool) -> bool
+fn and(a: bool, b: bool) -> bool
     ensures { λ r. ⌜ r ≡ both a b ⌝ }
 {
     if a { b } else { false }

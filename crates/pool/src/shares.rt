@@ -2,13 +2,9 @@
 use super::Loser;
 use super::Place;
 use super::Wanted;
-use super::places::and;
 use super::places::number;
 ghost use mathlib.Core.Path.{_≡_};
-ghost use mathlib.Core.Bool.{true};
-ghost use lib.Dec.{eqb, leb};
-ghost use Rattle.basis.specs.Pick.{pick};
-ghost use Rattle.pool.specs.Shares.{fuller, fullest, loser, noOther, crowdedOf};
+ghost use Rattle.pool.specs.Shares.{fuller, fullest, loser};
 ghost use Rattle.pool.specs.Pool.{heldIn, freeIn};
 
 // How many records of the link are held.
@@ -47,35 +43,4 @@ pub fn loser_for(p: [Place; 128], l: u16) -> Loser
     } else {
         Loser::Owner(l)
     }
-}
-
-fn within(p: [Place; 128], l: u16, k: u16) -> bool
-    ensures { λ r. ⌜ r ≡ pick (eqb k l) true (leb (heldIn p k) 16) ⌝ }
-{
-    if k == l { true } else { holds(p, k) <= 16 }
-}
-
-fn others_within(p: [Place; 128], l: u16) -> bool
-    ensures { λ r. ⌜ r ≡ noOther (heldIn p) l 4 ⌝ }
-{
-    and(
-        and(and(within(p, l, 0), within(p, l, 1)), within(p, l, 2)),
-        within(p, l, 3),
-    )
-}
-
-// Nothing is free, the link holds fewer than 16, and no other holds more than 16.
-pub fn crowded_for(p: [Place; 128], l: u16) -> bool
-    ensures { λ r. ⌜ r ≡ crowdedOf 4 (heldIn p) (freeIn p) l ⌝ }
-{
-    if 4 <= l {
-        return false;
-    }
-    if 0 < number(p, Wanted::Free) {
-        return false;
-    }
-    if 16 <= holds(p, l) {
-        return false;
-    }
-    others_within(p, l)
 }

@@ -15,15 +15,16 @@ use Rattle.basis.proofs.Cases.{lt-or-ge}
 use Rattle.entry.specs.declared.Entry.{Entry}
 use Rattle.pool.specs.declared.Place.{Place}
 use Rattle.pool.specs.declared.Pool.{Pool}
-use Rattle.pool.specs.Pool.{lostOf, issueOf, crowdedIn, moreOf}
+use Rattle.pool.specs.Pool.{lostOf, issueOf, moreOf}
 use Rattle.pool_laws.specs.Acts.{Act, acts, May, Rising}
 use Rattle.pool_laws.specs.Acts.Act.{Issue}
 use Rattle.pool_laws.specs.Acts.Rising.{none, then}
-use Rattle.pool_laws.specs.Promises.{Promises, Reached}
+use Rattle.pool_laws.specs.Promises.{Reached}
 use Rattle.pool_laws.specs.Promises.Reached.{after}
+use Rattle.pool_laws.specs.Crowded.{Crowded}
 use Rattle.pool_laws.specs.View.{records, loserIn, issueView, losses}
 use Rattle.pool_laws.specs.Views.{Views}
-use Rattle.pool_laws.proofs.Kept.{kept as promised}
+use Rattle.pool_laws.proofs.Crowded.{never-crowded}
 use Rattle.pool_laws.proofs.Viewed.{viewed}
 use Rattle.pool_batch.specs.declared.Batch.{Batch}
 use Rattle.pool_batch.specs.Batch.{either, renumbered, under, beginning, added, addedAll, issuedAll}
@@ -97,12 +98,11 @@ module _ (n : ℕ) (small : 16 * n ≤ 128) where
   reached-all b [] r o h = r
   reached-all b (e ∷ es) r o h = reached-all (added n b e) es (step-reached b e r (o .0) (omega arith)) (o .1) (step-lasts b e es h)
 
-  crowded-all : (b : Batch) (es : List Entry) → Reached n (b .pool) (b .next) → Owned n es → Lasting (b .next) es → b .crowded ≡ false → addedAll n b es .crowded ≡ false
-  unfolding added
-  crowded-all b [] r o h k = k
-  crowded-all b (e ∷ es) r o h k =
-      crowded-all (added n b e) es (step-reached b e r (o .0) (omega arith)) (o .1) (step-lasts b e es h)
-      (rw k (promised n small .crowded (b .pool) (b .next) r (e .link)))
+  uncrowded-all : (b : Batch) (xs : List Entry) (e : Entry) (ys : List Entry) → Reached n (b .pool) (b .next) → Owned n (xs ++ e ∷ ys) → Lasting (b .next) (xs ++ e ∷ ys)
+      → Crowded n (addedAll n b xs .pool) (e .link) → ⊥
+  uncrowded-all b [] e ys r o h c = never-crowded n small (b .pool) (b .next) r (e .link) c
+  uncrowded-all b (x ∷ xs) e ys r o h c =
+      uncrowded-all (added n b x) xs e ys (step-reached b x r (o .0) (omega arith)) (o .1) (step-lasts b x (xs ++ e ∷ ys) h) c
 
   may : (b : Batch) (e : Entry) → e .link < n → b .next < 4294967296 → May n (b .next) (Issue (renumbered e (b .next)))
   may b e l h = (l, (omega arith, h))
@@ -146,7 +146,7 @@ module _ (n : ℕ) (small : 16 * n ≤ 128) where
         pool = λ p q es h. pool-all n (beginning p q) es h;
         rising = rising-all n;
         reached = λ p q r es o h. subst (Reached n (issuedAll n p q es .pool)) (next-all n (beginning p q) es h) (reached-all (beginning p q) es r o h);
-        crowded = λ p q r es o h. crowded-all (beginning p q) es r o h refl;
+        uncrowded = λ p q r es o h xs e ys k. uncrowded-all (beginning p q) xs e ys r (rw k at o) (rw k at h);
         view = λ p q r es o h m. view-all (beginning p q) es r o h m;
         lost = λ p q r es o h m. lost-all (beginning p q) es r o h m;
       }

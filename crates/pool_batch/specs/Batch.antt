@@ -7,7 +7,7 @@ use lib.Dec.{ltb}
 use Rattle.basis.specs.Pick.{pick}
 use Rattle.entry.specs.declared.Entry.{Entry}
 use Rattle.pool.specs.declared.Pool.{Pool}
-use Rattle.pool.specs.Pool.{issueOf, crowdedIn, moreOf}
+use Rattle.pool.specs.Pool.{issueOf, moreOf}
 use Rattle.pool_batch.specs.declared.Batch.{Batch}
 
 abbrev pub either : Bool → Bool → Bool
@@ -24,15 +24,14 @@ under e q = renumbered e (q % 4294967296)
 
 -- nothing issued yet; q is the next number
 abbrev pub beginning : Pool → ℕ → Batch
-beginning p q = record { pool = p; next = q; spent = false; crowded = false }
+beginning p q = record { pool = p; next = q; spent = false }
 
--- one record more; number 10 where it takes a number past 4294967295, number 13 where the pool is crowded for its link
+-- one record more; number 10 where it takes a number past 4294967295
 unfoldable pub added : ℕ → Batch → Entry → Batch
 added n b e = record {
   pool = issueOf n (b .pool) (under e (b .next));
   next = moreOf (b .next);
   spent = either (b .spent) (ltb 4294967295 (b .next));
-  crowded = either (b .crowded) (crowdedIn n (b .pool) (e .link));
 }
 
 abbrev pub addedAll : ℕ → Batch → List Entry → Batch

@@ -14,6 +14,7 @@ use Rattle.pool.specs.Pool.{lostOf}
 use Rattle.pool_laws.specs.Acts.{Act, acts, Rising}
 use Rattle.pool_laws.specs.Acts.Act.{Issue}
 use Rattle.pool_laws.specs.Promises.{Reached}
+use Rattle.pool_laws.specs.Crowded.{Crowded}
 use Rattle.pool_laws.specs.View.{records, loserIn, issueView, losses}
 use Rattle.pool_batch.specs.declared.Batch.{Batch}
 use Rattle.pool_batch.specs.Batch.{renumbered, addedAll, issuedAll}
@@ -57,9 +58,11 @@ pub record Laws (n : ℕ) : Type 0 where
   pub pool : (p : Pool) (q : ℕ) (es : List Entry) → Lasting q es → issuedAll n p q es .pool ≡ acts n p (issues (numbered q es))
   -- these numbers rise, so what holds of every list of acts holds of them
   pub rising : (q : ℕ) (es : List Entry) → Owned n es → Lasting q es → Rising n q (issues (numbered q es))
-  -- from a pool that the site reaches it reaches another, and number 13 is not given
+  -- from a pool that the site reaches it reaches another
   pub reached : (p : Pool) (q : ℕ) → Reached n p q → (es : List Entry) → Owned n es → Lasting q es → Reached n (issuedAll n p q es .pool) (q + length es)
-  pub crowded : (p : Pool) (q : ℕ) → Reached n p q → (es : List Entry) → Owned n es → Lasting q es → issuedAll n p q es .crowded ≡ false
+  -- before no record of the list is the pool crowded for its link
+  pub uncrowded : (p : Pool) (q : ℕ) → Reached n p q → (es : List Entry) → Owned n es → Lasting q es
+      → (xs : List Entry) (e : Entry) (ys : List Entry) → es ≡ xs ++ e ∷ ys → Crowded n (issuedAll n p q xs .pool) (e .link) → ⊥
   -- each link's records, and what each loses, are functions of the view
   pub view : (p : Pool) (q : ℕ) → Reached n p q → (es : List Entry) → Owned n es → Lasting q es → (m : ℕ)
       → records (issuedAll n p q es .pool) m ≡ viewAll n (records p) (numbered q es) m

@@ -5,13 +5,11 @@ ghost use Rattle.pool_batch.specs.Batch.{beginning, under, either, added
 use entry::Entry;
 use pool::Pool;
 
-// The pool and the next number after the records so far; whether one of them took a number past 4294967295 (number 10),
-// and whether one was to be issued where number 13's condition held.
+// The pool and the next number after the records so far; whether one of them took a number past 4294967295 (number 10).
 pub struct Batch {
     pub pool: Pool,
     pub next: u64,
     pub spent: bool,
-    pub crowded: bool,
 }
 
 // The record under a number, of which 32 bits are kept.
@@ -51,7 +49,6 @@ impl Batch {
             pool,
             next,
             spent: false,
-            crowded: false,
         }
     }
 
@@ -61,13 +58,11 @@ impl Batch {
     {
         let p = self.pool;
         let next = self.next;
-        let full = p.crowded(e.link);
         let pool = p.issue(numbered(e, next));
         Batch {
             pool,
             next: more(next),
             spent: or(self.spent, 4294967295 < next),
-            crowded: or(self.crowded, full),
         }
     }
 }

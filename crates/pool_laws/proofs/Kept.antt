@@ -1,7 +1,7 @@
 -- The promises of the pool are kept, for every number of links n with 16 n at most 128.
 -- Assumes nothing.
 use Prim.Native.Nat.{ℕ, suc, zero, _+_, _*_, _≤_, _<_}
-use mathlib.Core.Path.{_≡_, refl, ap}
+use mathlib.Core.Path.{_≡_, refl}
 use mathlib.Core.List.{List, [], _∷_}
 use mathlib.Core.Bool.{Bool, true, false}
 use mathlib.Core.Logic.{_⊎_, inl, inr}
@@ -9,16 +9,16 @@ use lib.Dec.{ltb, leb, eqb}
 use native.Mathlib.Omega.{arith}
 use borrow.Author.Tests.{eqb-true, le-leb}
 use Rattle.basis.specs.Pick.{both, bit}
-use Rattle.basis.specs.Lists.{count, Among}
 use Rattle.basis.specs.Lists.Among.{first, later}
 use Rattle.basis.proofs.Cases.{eq-or-ne}
+use Rattle.basis.specs.Lists.{count, Among}
 use Rattle.entry.specs.declared.Entry.{Entry}
 use Rattle.pool.specs.declared.Place.{Place}
 use Rattle.pool.specs.declared.Pool.{Pool}
 use Rattle.pool.specs.declared.Wanted.the-variants.{Free, Older, Numbered}
 use Rattle.pool.specs.Places.{of, fits}
 use Rattle.pool.specs.Shares.{fullest}
-use Rattle.pool.specs.Pool.{emptyOf, heldIn, freeIn, lostOf, crowdedIn, issueOf, settleOf, markOf, unmarkOf}
+use Rattle.pool.specs.Pool.{emptyOf, heldIn, lostOf, issueOf, settleOf, markOf, unmarkOf}
 use Rattle.pool_laws.specs.Acts.{Act, act, acts, May, next, nexts, Rising, newerThan}
 use Rattle.pool_laws.specs.Acts.Act.{Issue, Settle, Mark, Unmark}
 use Rattle.pool_laws.specs.Acts.Rising.{then}
@@ -26,10 +26,9 @@ use Rattle.pool_laws.specs.Leaves.{Held, leftOver, NoSettle, SettlesFirs
 use Rattle.pool_laws.specs.Promises.{Reached, Superseded, Promises, Fourth}
 use Rattle.pool_laws.specs.Promises.Reached.{empty, after}
 use Rattle.pool_laws.proofs.Counts.{count-le, bit-le}
-use Rattle.pool.specs.Rule.{Crowded}
-use Rattle.pool.proofs.Fixed.{fullest-is, crowded-means}
+use Rattle.pool.proofs.Fixed.{fullest-is}
 use Rattle.pool_laws.specs.View.{total}
-use Rattle.pool_laws.proofs.Fullest.{outside, every-place, fewer}
+use Rattle.pool_laws.proofs.Fullest.{outside, every-place}
 use Rattle.pool_laws.proofs.Inv.{Inv, starts, numbered-from}
 use Rattle.pool_laws.proofs.Issue.{places-after, stays, stays-past, held-new, issue-keeps}
 use Rattle.pool_laws.proofs.Other.{lost-same, settle-less, less-keeps, settle-only, settle-gone, mark-alike, unmark-alike, alike-numbered, alike-newer, alike-keeps}
@@ -168,23 +167,6 @@ module _ (n : ℕ) (small : 16 * n ≤ 128) where
           by false d = omega (arith, bit-le (leb n s))
           by true d = rw (le-leb n s (omega (arith, eqb-true s l d))) (omega arith)
 
-  not-all : (p : Pool) (q : ℕ) → Inv n p q → (l : ℕ) → Crowded n (heldIn (p .places)) (freeIn (p .places)) l → 0 < 0
-  not-all p q i l c = omega (arith, fewer (heldIn (p .places)) n l (c .link) (c .few) below, every-place n (p .places), i .size, i .owned, c .full)
-    where
-      by : (j : ℕ) → j < n → (j ≡ l) ⊎ (j ≡ l → ⊥) → heldIn (p .places) j ≤ 16
-      by j h (inl d) = omega (arith, ap (heldIn (p .places)) d, c .few)
-      by j h (inr d) = c .others j h d
-
-      below : (j : ℕ) → j < n → heldIn (p .places) j ≤ 16
-      below j h = by j h (eq-or-ne j l)
-
-  never-crowded : (p : Pool) (q : ℕ) → Inv n p q → (l : ℕ) → crowdedIn n p l ≡ false
-  never-crowded p q i l = go (crowdedIn n p l) refl
-    where
-      go : (t : Bool) → crowdedIn n p l ≡ t → t ≡ false
-      go true e = absurd (omega (arith, not-all p q i l (crowded-means n (heldIn (p .places)) (freeIn (p .places)) l e)))
-      go false e = refl
-
   pub kept : Promises n
   kept =
       record {
@@ -204,7 +186,6 @@ module _ (n : ℕ) (small : 16 * n ≤ 128) where
         whole = λ p q r xs y s m k h. whole-list p q xs (reached-keeps p q r) y s m k h;
         whole-new = λ p q r xs y s e a. whole-issued p q xs (reached-keeps p q r) y s e a;
         lost = λ f xs h r m. omega (arith, lost-acts (emptyOf n) f xs (starts n f h) r m, replicate-none m);
-        crowded = λ p q r l. never-crowded p q (reached-keeps p q r) l;
       }
 
 many : (held : ℕ → ℕ) (l : ℕ) → l < 4 → total held 4 ≡ 128 → held l < 16 → 38 ≤ held (fullest held 3)

@@ -7,6 +7,7 @@ pub mod Issue
 pub mod Other
 pub mod Lost
 pub mod Kept
+pub mod Crowded
 pub mod Insert
 pub mod Records
 pub mod ViewIssue

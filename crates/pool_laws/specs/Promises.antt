@@ -3,7 +3,6 @@
 use Prim.Native.Nat.{ℕ, _≤_, _<_}
 use mathlib.Core.Path.{_≡_}
 use mathlib.Core.List.{List}
-use mathlib.Core.Bool.{false}
 use mathlib.Core.Logic.{_⊎_}
 use lib.ListN.{length}
 use lib.Dec.{ltb}
@@ -13,7 +12,7 @@ use Rattle.pool.specs.declared.Place.{Place}
 use Rattle.pool.specs.declared.Pool.{Pool}
 use Rattle.pool.specs.declared.Wanted.the-variants.{Free, Older, Numbered}
 use Rattle.pool.specs.Places.{of, fits}
-use Rattle.pool.specs.Pool.{emptyOf, lostOf, crowdedIn}
+use Rattle.pool.specs.Pool.{emptyOf, lostOf}
 use Rattle.pool_laws.specs.Acts.{Act, act, acts, May, next, nexts, Rising, newerThan}
 use Rattle.pool_laws.specs.Acts.Act.{Issue, Settle, Mark, Unmark}
 use Rattle.pool_laws.specs.Leaves.{Held, leftOver, SettlesFirst}
@@ -59,8 +58,6 @@ pub record Promises (n : ℕ) : Type 0 where
       → Held (acts n p xs) (e .link) (e .sequence) ⊎ (16 ≤ count (newerThan (e .link) (e .sequence)) (acts n p xs .places))
   -- a lost count is exactly the number of the link's records that left without a settle
   pub lost : (first : ℕ) (xs : List Act) → first ≤ 4294967296 → Rising n first xs → (m : ℕ) → lostOf (acts n (emptyOf n) xs) m ≡ leftOver n (emptyOf n) xs m
-  -- number 13's condition never holds
-  pub crowded : (p : Pool) (q : ℕ) → Reached n p q → (l : ℕ) → crowdedIn n p l ≡ false
 
 -- four links: a full pool in which one holds fewer than 16 leaves another with 38
 pub record Fourth : Type 0 where

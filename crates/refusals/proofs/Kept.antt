@@ -3,8 +3,7 @@
 use Prim.Native.Nat.{ℕ, _+_, _≤_, _<_}
 use mathlib.Core.Path.{_≡_, refl, sym, ap, _∙_, subst}
 use mathlib.Core.Bool.{Bool, true, false, true≢false}
-use mathlib.Core.List.{List, [], _∷_, _++_}
-use mathlib.Core.Logic.{_⊎_, inl, inr, ⊎-elim}
+use mathlib.Core.List.{List, [], _∷_}
 use native.Mathlib.Omega.{arith}
 use lib.Dec.{ltb}
 use lib.ListN.{length}
@@ -13,7 +12,7 @@ use Rattle.basis.specs.Pick.{pick, both}
 use Rattle.basis.proofs.Cases.{bool-cases}
 use Rattle.basis.proofs.Both.{both-first, both-second}
 use Rattle.answer.specs.declared.Refusal.{Refusal}
-use Rattle.answer.specs.declared.Refusal.the-variants.{Ignored, NoSuchLink, NoSuchItem, ShortOutput, BadTime, WrongPhase, NothingDue, ManyAwaited, IdentityAwaited, SequenceSpent, LongPacket, PoolFull}
+use Rattle.answer.specs.declared.Refusal.the-variants.{Ignored, NoSuchLink, NoSuchItem, ShortOutput, BadTime, WrongPhase, NothingDue, ManyAwaited, IdentityAwaited, SequenceSpent, LongPacket}
 use Rattle.answer.specs.declared.Report.{Report}
 use Rattle.answer.specs.declared.Answer.{Answer}
 use Rattle.answer.specs.declared.Answer.the-variants.{Done, Refused}
@@ -29,11 +28,11 @@ use Rattle.calls.specs.Claims.{conditionsOf}
 use Rattle.calls.proofs.Kept.{kept as of-calls}
 use Rattle.demands.specs.Demand3.{Started}
 use Rattle.demands.proofs.Touching.{touching}
-use Rattle.demands.proofs.Kept.{kept as demand3, configured-after}
+use Rattle.demands.proofs.Kept.{configured-after}
 use Rattle.refusals.specs.Applies.{Applies}
 use Rattle.refusals.specs.Applies.Applies.{spent}
-use Rattle.refusals.specs.Claims.{Foremost, here, later, NoneOf, none, more, inThisOrder, Judged, Promises}
-use Rattle.refusals.proofs.So.{so}
+use Rattle.refusals.specs.Claims.{Foremost, here, later, NoneOf, none, more, Judged, Promises}
+use Rattle.refusals.proofs.So.{so, both-first, both-second}
 use Rattle.refusals.proofs.OnlySo.{only}
 
 -- where, of each of a list of refusals, a test says what a statement says
@@ -52,24 +51,23 @@ module _ (test : Refusal → Bool) (P : Refusal → Type 0) where
   not : {q : Refusal} → Agree q → test q ≡ false → P q → ⊥
   not a e x = true≢false (sym (a .only-so x) ∙ e)
 
-  first-of : {r : Refusal} (xs ys : List Refusal) → Agreeing xs → Foremost P r xs → First test r (xs ++ ys)
-  first-of (q ∷ xs) ys a (here x) = first-here (a .0 .only-so x)
-  first-of (q ∷ xs) ys a (later n f) = first-later (fails (a .0) n) (first-of xs ys (a .1) f)
+  first-of : {r : Refusal} (xs : List Refusal) → Agreeing xs → Foremost P r xs → First test r xs
+  first-of (q ∷ xs) a (here x) = first-here (a .0 .only-so x)
+  first-of (q ∷ xs) a (later n f) = first-later (fails (a .0) n) (first-of xs (a .1) f)
 
-  foremost-of : {r : Refusal} (xs ys : List Refusal) → Agreeing xs → First test r (xs ++ ys) → Foremost P r xs ⊎ First test r ys
-  foremost-of [] ys a f = inr f
-  foremost-of (q ∷ xs) ys a (first-here e) = inl (here (a .0 .so e))
-  foremost-of (q ∷ xs) ys a (first-later e f) = ⊎-elim (λ x. inl (later (not (a .0) e) x)) (λ y. inr y) (foremost-of xs ys (a .1) f)
+  foremost-of : {r : Refusal} (xs : List Refusal) → Agreeing xs → First test r xs → Foremost P r xs
+  foremost-of (q ∷ xs) a (first-here e) = here (a .0 .so e)
+  foremost-of (q ∷ xs) a (first-later e f) = later (not (a .0) e) (foremost-of xs (a .1) f)
 
-  none-all : (xs ys : List Refusal) → Agreeing xs → NoneOf P xs → None test ys → None test (xs ++ ys)
-  none-all [] ys a none k = k
-  none-all (q ∷ xs) ys a (more n ns) k = one-more (fails (a .0) n) (none-all xs ys (a .1) ns k)
+  none-all : (xs : List Refusal) → Agreeing xs → NoneOf P xs → None test xs
+  none-all [] a none = none-left
+  none-all (q ∷ xs) a (more n ns) = one-more (fails (a .0) n) (none-all xs (a .1) ns)
 
-  none-of : (xs ys : List Refusal) → Agreeing xs → None test (xs ++ ys) → NoneOf P xs
-  none-of [] ys a k = none
-  none-of (q ∷ xs) ys a (one-more e k) = more (not (a .0) e) (none-of xs ys (a .1) k)
+  none-of : (xs : List Refusal) → Agreeing xs → None test xs → NoneOf P xs
+  none-of [] a k = none
+  none-of (q ∷ xs) a (one-more e k) = more (not (a .0) e) (none-of xs (a .1) k)
 
-module _ (s : Site) (g : Configured s) (c : Call) (never-full : stepBy s c .answer ≡ Refused PoolFull → ⊥) where
+module _ (s : Site) (g : Configured s) (c : Call) where
   abbrev test : Refusal → Bool
   test = conditionsOf s c
 
@@ -99,7 +97,7 @@ module _ (s : Site) (g : Configured s) (c : Call) (never-full : stepBy s c .answ
     usual : (q : Refusal) → (refusalNumber q ≡ 10 → ⊥) → (refuses s c q ≡ true → test q ≡ true) → (test q ≡ true → refuses s c q ≡ true) → Agree test P q
     usual q n there back = record { so = λ e. so s (g .most) c q (back e); only-so = λ x. there (only s c q x n) }
 
-    agreeing : Agreeing test P inThisOrder
+    agreeing : Agreeing test P inOrder
     agreeing = (
       link,
       (
@@ -129,47 +127,31 @@ module _ (s : Site) (g : Configured s) (c : Call) (never-full : stepBy s c .answ
       ),
     )
 
-    full-last : (xs : List Refusal) → Agreeing test P xs → NoneOf P xs → test PoolFull ≡ true → First test PoolFull (xs ++ PoolFull ∷ [])
-    full-last [] a none y = first-here y
-    full-last (q ∷ xs) a (more n ns) y = first-later (fails test P (a .0) n) (full-last xs (a .1) ns y)
-
-    no-full : NoneOf P inThisOrder → test PoolFull ≡ false
-    no-full k =
-        bool-cases (test PoolFull) (λ y. absurd (never-full (of-calls .numbered s c .given PoolFull (full-last inThisOrder agreeing k y)))) (λ e. e)
-
-  given-so : (r : Refusal) → Foremost P r inThisOrder → stepBy s c .answer ≡ Refused r
+  given-so : (r : Refusal) → Foremost P r inOrder → stepBy s c .answer ≡ Refused r
   given-so r (here x) = of-calls .numbered s c .given NoSuchLink (first-here (link .only-so x))
-  given-so r (later n f) =
-      of-calls .numbered s c .given r (first-of test P inThisOrder (PoolFull ∷ []) (agreeing (fails test P link n)) (later n f))
+  given-so r (later n f) = of-calls .numbered s c .given r (first-of test P inOrder (agreeing (fails test P link n)) (later n f))
 
-  foremost : (r : Refusal) → stepBy s c .answer ≡ Refused r → First test r inOrder → Foremost P r inThisOrder
-  foremost r a (first-here e) = here (link .so e)
-  foremost r a (first-later e f) =
-      ⊎-elim (λ x. x) (λ y. absurd (full r a y)) (foremost-of test P inThisOrder (PoolFull ∷ []) (agreeing e) (first-later e f))
-    where
-      full : (r : Refusal) → stepBy s c .answer ≡ Refused r → First test r (PoolFull ∷ []) → ⊥
-      full r a (first-here y) = never-full a
+  foremost : (r : Refusal) → First test r inOrder → Foremost P r inOrder
+  foremost r (first-here e) = here (link .so e)
+  foremost r (first-later e f) = foremost-of test P inOrder (agreeing e) (first-later e f)
 
-  done-so : NoneOf P inThisOrder → (d : Report) × (stepBy s c .answer ≡ Done d)
-  done-so (more n ns) =
-      let h = fails test P link n in
-      (_, of-calls .numbered s c .done (none-all test P inThisOrder (PoolFull ∷ []) (agreeing h) (more n ns) (one-more (no-full h (more n ns)) none-left)))
+  done-so : NoneOf P inOrder → (d : Report) × (stepBy s c .answer ≡ Done d)
+  done-so (more n ns) = (_, of-calls .numbered s c .done (none-all test P inOrder (agreeing (fails test P link n)) (more n ns)))
 
-  none-applies : None test inOrder → NoneOf P inThisOrder
-  none-applies (one-more e k) = none-of test P inThisOrder (PoolFull ∷ []) (agreeing e) (one-more e k)
+  none-applies : None test inOrder → NoneOf P inOrder
+  none-applies (one-more e k) = none-of test P inOrder (agreeing e) (one-more e k)
 
   pub judged : Judged s c
   judged =
       record {
         given = given-so;
-        only-so = λ r a. foremost r a (of-calls .numbered s c .only-so r a);
+        only-so = λ r a. foremost r (of-calls .numbered s c .only-so r a);
         done = done-so;
         done-only-so = λ d a. none-applies (of-calls .numbered s c .done-only-so d a .0);
         no-eleven = λ e. of-calls .numbered s c .numbers .no-eleven (sym (steps s (timeOf c) (refuses s c) (planOf s c) (endOf s c) .answer) ∙ e);
-        no-thirteen = never-full;
         same-site = of-calls .numbered s c .same-site;
         same-bytes = of-calls .numbered s c .same-bytes;
       }
 
 pub kept : Promises
-kept = record { judged = λ s b cs c. judged (siteAfter s cs) (configured-after s b cs) c (demand3 .never-full s b cs c) }
+kept = record { judged = λ s b cs c. judged (siteAfter s cs) (configured-after s b cs) c }

@@ -13,7 +13,7 @@ use borrow.Author.Tests.{lt-ltb, le-ltb, le-leb, lt-leb}
 use Rattle.basis.specs.Pick.{pick, both}
 use Rattle.basis.proofs.Cases.{bool-cases}
 use Rattle.answer.specs.declared.Refusal.{Refusal}
-use Rattle.answer.specs.declared.Refusal.the-variants.{Ignored, NoSuchLink, NoSuchItem, ShortOutput, BadTime, WrongPhase, NothingDue, ManyAwaited, IdentityAwaited, SequenceSpent, NotAccepted, LongPacket, PoolFull}
+use Rattle.answer.specs.declared.Refusal.the-variants.{Ignored, NoSuchLink, NoSuchItem, ShortOutput, BadTime, WrongPhase, NothingDue, ManyAwaited, IdentityAwaited, SequenceSpent, NotAccepted, LongPacket}
 use Rattle.answer.specs.Number.{refusalNumber}
 use Rattle.answer.specs.Times.{lastTime}
 use Rattle.identity.specs.declared.Identity.{Identity}

@@ -14,8 +14,7 @@ use Rattle.basis.specs.Pick.{pick}
 use Rattle.basis.proofs.Cases.{bool-cases}
 use Rattle.basis.proofs.Both.{both-first, both-second}
 use Rattle.answer.specs.declared.Refusal.{Refusal}
-use Rattle.answer.specs.declared.Refusal.the-variants.{Ignored, NoSuchLink, NoSuchItem, ShortOutput, BadTime, WrongPhase, NothingDue, ManyAwaited, IdentityAwaited, SequenceSpent, NotAccepted, LongPacket, PoolFull}
-use Rattle.answer.specs.Times.{lastTime}
+use Rattle.answer.specs.declared.Refusal.the-variants.{Ignored, NoSuchLink, NoSuchItem, ShortOutput, BadTime, WrongPhase, NothingDue, ManyAwaited, IdentityAwaited, SequenceSpent, NotAccepted, LongPacket}
 use Rattle.identity.specs.declared.Identity.{Identity}
 use Rattle.identity.specs.Version.{identityOf}
 use Rattle.awaited.specs.declared.Purpose.{Purpose}
@@ -121,7 +120,6 @@ module _ (s : Site) (four : s .linkcount ≤ 4) where
   connect-so l t SequenceSpent e = absurd (true≢false (sym e))
   connect-so l t NotAccepted e = absurd (true≢false (sym e))
   connect-so l t LongPacket e = absurd (true≢false (sym e))
-  connect-so l t PoolFull e = absurd (true≢false (sym e))
 
   disconnect-so : (l t : ℕ) (r : Refusal) → refuses s (disconnect l t) r ≡ true → Applies s (disconnect l t) r
   disconnect-so l t Ignored e = absurd (true≢false (sym e))
@@ -136,7 +134,6 @@ module _ (s : Site) (four : s .linkcount ≤ 4) where
   disconnect-so l t SequenceSpent e = absurd (true≢false (sym e))
   disconnect-so l t NotAccepted e = absurd (true≢false (sym e))
   disconnect-so l t LongPacket e = absurd (true≢false (sym e))
-  disconnect-so l t PoolFull e = absurd (true≢false (sym e))
 
   alarm-so : (k : ℕ) (a : Bool) (t : ℕ) (r : Refusal) → refuses s (alarm k a t) r ≡ true → Applies s (alarm k a t) r
   alarm-so k a t Ignored e = absurd (true≢false (sym e))
@@ -151,7 +148,6 @@ module _ (s : Site) (four : s .linkcount ≤ 4) where
   alarm-so k a t SequenceSpent e = absurd (true≢false (sym e))
   alarm-so k a t NotAccepted e = absurd (true≢false (sym e))
   alarm-so k a t LongPacket e = absurd (true≢false (sym e))
-  alarm-so k a t PoolFull e = absurd (true≢false (sym e))
 
   status-so : (k : ℕ) (v : ℤ) (t : ℕ) (r : Refusal) → refuses s (status k v t) r ≡ true → Applies s (status k v t) r
   status-so k v t Ignored e = absurd (true≢false (sym e))
@@ -166,7 +162,6 @@ module _ (s : Site) (four : s .linkcount ≤ 4) where
   status-so k v t SequenceSpent e = absurd (true≢false (sym e))
   status-so k v t NotAccepted e = absurd (true≢false (sym e))
   status-so k v t LongPacket e = absurd (true≢false (sym e))
-  status-so k v t PoolFull e = absurd (true≢false (sym e))
 
   aggregated-so : (v t : ℕ) (r : Refusal) → refuses s (aggregated v t) r ≡ true → Applies s (aggregated v t) r
   aggregated-so v t Ignored e = absurd (true≢false (sym e))
@@ -181,7 +176,6 @@ module _ (s : Site) (four : s .linkcount ≤ 4) where
   aggregated-so v t SequenceSpent e = absurd (true≢false (sym e))
   aggregated-so v t NotAccepted e = absurd (true≢false (sym e))
   aggregated-so v t LongPacket e = absurd (true≢false (sym e))
-  aggregated-so v t PoolFull e = absurd (true≢false (sym e))
 
   tick-so : (t : ℕ) (r : Refusal) → refuses s (tick t) r ≡ true → Applies s (tick t) r
   tick-so t Ignored e = absurd (true≢false (sym e))
@@ -196,7 +190,6 @@ module _ (s : Site) (four : s .linkcount ≤ 4) where
   tick-so t SequenceSpent e = absurd (true≢false (sym e))
   tick-so t NotAccepted e = absurd (true≢false (sym e))
   tick-so t LongPacket e = absurd (true≢false (sym e))
-  tick-so t PoolFull e = absurd (true≢false (sym e))
 
   pump-so : (l t : ℕ) (random : Identity) (out : List ℕ) (r : Refusal) → refuses s (pump l t random out) r ≡ true → Applies s (pump l t random out) r
   pump-so l t random out Ignored e = absurd (true≢false (sym e))
@@ -211,7 +204,6 @@ module _ (s : Site) (four : s .linkcount ≤ 4) where
   pump-so l t random out SequenceSpent e = absurd (true≢false (sym e))
   pump-so l t random out NotAccepted e = absurd (true≢false (sym e))
   pump-so l t random out LongPacket e = absurd (true≢false (sym e))
-  pump-so l t random out PoolFull e = absurd (true≢false (sym e))
 
   packet-so : (l t : ℕ) (random : Identity) (p out : List ℕ) (r : Refusal) → refuses s (packet l t random p out) r ≡ true → Applies s (packet l t random p out) r
   packet-so l t random p out Ignored e = ignored (ignored-so (linkAt s l) p (headAt p .class) refl e)
@@ -226,7 +218,6 @@ module _ (s : Site) (four : s .linkcount ≤ 4) where
   packet-so l t random p out SequenceSpent e = absurd (true≢false (sym e))
   packet-so l t random p out NotAccepted e = absurd (true≢false (sym e))
   packet-so l t random p out LongPacket e = long-packet (ltb-true 4096 (length p) e)
-  packet-so l t random p out PoolFull e = absurd (true≢false (sym e))
 
   pub so : (c : Call) (r : Refusal) → refuses s c r ≡ true → Applies s c r
   so (connect l t) = connect-so l t

@@ -4,23 +4,10 @@
 use mathlib.Core.Path.{_≡_}
 use mathlib.Core.List.{List, [], _∷_}
 use Rattle.answer.specs.declared.Refusal.{Refusal}
-use Rattle.answer.specs.declared.Refusal.the-variants.{
-  Ignored,
-  NoSuchLink,
-  NoSuchItem,
-  ShortOutput,
-  BadTime,
-  WrongPhase,
-  NothingDue,
-  ManyAwaited,
-  IdentityAwaited,
-  SequenceSpent,
-  NotAccepted,
-  LongPacket,
-  PoolFull,
-}
+use Rattle.answer.specs.declared.Refusal.the-variants.{NotAccepted}
 use Rattle.answer.specs.declared.Report.{Report}
 use Rattle.answer.specs.declared.Answer.the-variants.{Done, Refused}
+use Rattle.answer.specs.Order.{inOrder}
 use Rattle.site.specs.declared.Site.{Site}
 use Rattle.calls.specs.Calls.{Call, outputOf, stepBy, outBy, siteAfter}
 use Rattle.demands.specs.Demand3.{Started}
@@ -36,32 +23,16 @@ pub data NoneOf (applies : Refusal → Type 0) : List Refusal → Type 0 where
   none : NoneOf applies []
   more : {q : Refusal} {rs : List Refusal} → (applies q → ⊥) → NoneOf applies rs → NoneOf applies (q ∷ rs)
 
--- 2, 3, 4, 12, 5, 6, 1, 7, 8, 9, 10; after them comes 13, which is never given
-abbrev pub inThisOrder : List Refusal
-inThisOrder =
-    NoSuchLink
-    ∷ NoSuchItem
-    ∷ ShortOutput
-    ∷ LongPacket
-    ∷ BadTime
-    ∷ WrongPhase
-    ∷ Ignored
-    ∷ NothingDue
-    ∷ ManyAwaited
-    ∷ IdentityAwaited
-    ∷ SequenceSpent
-    ∷ []
-
--- after every sequence of calls cs, LATEST FIRST, from a site that a done start makes: the next call c
+-- after every sequence of calls cs, LATEST FIRST, from a site that a done start makes: the next call c. inOrder is 2, 3, 4, 12, 5, 6, 1, 7, 8,
+-- 9, 10: `order` of crate answer
 pub record Judged (s : Site) (c : Call) : Type 0 where
-  pub given : (r : Refusal) → Foremost (Applies s c) r inThisOrder → stepBy s c .answer ≡ Refused r
-  pub only-so : (r : Refusal) → stepBy s c .answer ≡ Refused r → Foremost (Applies s c) r inThisOrder
+  pub given : (r : Refusal) → Foremost (Applies s c) r inOrder → stepBy s c .answer ≡ Refused r
+  pub only-so : (r : Refusal) → stepBy s c .answer ≡ Refused r → Foremost (Applies s c) r inOrder
   -- 0 is given exactly when none applies
-  pub done : NoneOf (Applies s c) inThisOrder → (d : Report) × (stepBy s c .answer ≡ Done d)
-  pub done-only-so : (d : Report) → stepBy s c .answer ≡ Done d → NoneOf (Applies s c) inThisOrder
-  -- 11 is given by start alone, and 13 never
+  pub done : NoneOf (Applies s c) inOrder → (d : Report) × (stepBy s c .answer ≡ Done d)
+  pub done-only-so : (d : Report) → stepBy s c .answer ≡ Done d → NoneOf (Applies s c) inOrder
+  -- 11 is given by start alone
   pub no-eleven : stepBy s c .answer ≡ Refused NotAccepted → ⊥
-  pub no-thirteen : stepBy s c .answer ≡ Refused PoolFull → ⊥
   -- "All but 0 change nothing: state, last time and lent bytes stay"
   pub same-site : (r : Refusal) → stepBy s c .answer ≡ Refused r → stepBy s c .site ≡ s
   pub same-bytes : (r : Refusal) → stepBy s c .answer ≡ Refused r → outBy s c ≡ outputOf c

@@ -63,14 +63,6 @@ fn put_sought(line: &mut [u8], s: Sought) -> usize {
     }
 }
 
-fn put_crowded(line: &mut [u8], crowded: bool) -> usize {
-    if crowded {
-        output::put_bytes(line, 0, b"13")
-    } else {
-        output::put_bytes(line, 0, b"-")
-    }
-}
-
 fn said(kind: u8, b: [u8; 40], pool: Pool, line: &mut [u8]) -> usize {
     match kind {
         b'o' => put_sought(line, pool.oldest_unsent(run_feed::short(b, 0))),
@@ -82,7 +74,6 @@ fn said(kind: u8, b: [u8; 40], pool: Pool, line: &mut [u8]) -> usize {
             line,
             pool.ranked(run_feed::short(b, 0), run_feed::short(b, 2) as usize),
         ),
-        b'c' => put_crowded(line, pool.crowded(run_feed::short(b, 0))),
         _ => put_counts(line, pool),
     }
 }

@@ -7,7 +7,7 @@ use mathlib.Core.List.{List, [], _∷_, _++_}
 use lib.Dec.{eqb}
 use Rattle.basis.specs.Pick.{pick}
 use Rattle.answer.specs.declared.Refusal.{Refusal}
-use Rattle.answer.specs.declared.Refusal.the-variants.{SequenceSpent, PoolFull}
+use Rattle.answer.specs.declared.Refusal.the-variants.{SequenceSpent}
 use Rattle.answer.specs.declared.Report.{Report}
 use Rattle.answer.specs.declared.Answer.{Answer}
 use Rattle.answer.specs.declared.Answer.the-variants.{Done, Refused}
@@ -51,9 +51,9 @@ never r = false
 abbrev pub when : Refusal → Bool → (Refusal → Bool) → Refusal → Bool
 when q b rest r = pick (eqb (refusalNumber r) (refusalNumber q)) b (rest r)
 
--- numbers 10 and 13 apply to every call that issues
+-- number 10 applies to every call that issues
 abbrev pub issuing : Batch → (Refusal → Bool) → Refusal → Bool
-issuing b rest = when SequenceSpent (b .spent) (when PoolFull (b .crowded) rest)
+issuing b rest = when SequenceSpent (b .spent) rest
 
 abbrev pub hintTime : Hint → ℕ
 hintTime none = 0
@@ -85,9 +85,7 @@ stepOf s time refuses p end = stepped s (withIssued (p .site) (batchOf p) time) 
 -- the end of every call, where none of its other conditions applies
 abbrev pub concluded : Site → Site → Batch → ℕ → Report → Step
 concluded s after b time r =
-    pick (b .spent) (refused s SequenceSpent)
-    (pick (b .crowded) (refused s PoolFull)
-    (record { site = withIssued after b time; answer = Done r }))
+    pick (b .spent) (refused s SequenceSpent) (record { site = withIssued after b time; answer = Done r })
 
 abbrev pub nothingOf : Report
 nothingOf = record { hint = 0; written = 0; closed = 0; hinted = 0 }

@@ -74,9 +74,6 @@ pub fn conclude(s: Site, after: Site, b: Batch, time: u64, report: Report) -> St
     if b.spent {
         return refused(s, Refusal::SequenceSpent);
     }
-    if b.crowded {
-        return refused(s, Refusal::PoolFull);
-    }
     let mut t = after;
     let pool = b.pool;
     t.pool = pool;

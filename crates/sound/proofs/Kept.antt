@@ -10,7 +10,7 @@ use lib.ListN.{length}
 use borrow.Author.Tests.{ltb-false, lt-ltb}
 use Rattle.basis.specs.Pick.{pick, both}
 use Rattle.answer.specs.declared.Refusal.{Refusal}
-use Rattle.answer.specs.declared.Refusal.the-variants.{NoSuchLink, NoSuchItem, ShortOutput, LongPacket, BadTime, WrongPhase, Ignored, NothingDue, ManyAwaited, IdentityAwaited, SequenceSpent, PoolFull}
+use Rattle.answer.specs.declared.Refusal.the-variants.{NoSuchLink, NoSuchItem, ShortOutput, LongPacket, BadTime, WrongPhase, Ignored, NothingDue, ManyAwaited, IdentityAwaited, SequenceSpent}
 use Rattle.answer.specs.declared.Report.{Report}
 use Rattle.answer.specs.declared.Answer.{Answer}
 use Rattle.answer.specs.declared.Answer.the-variants.{Done, Refused}

@@ -1,17 +1,13 @@
 // A record issued in place.
 ghost use mathlib.Core.Path.{_≡_};
-ghost use mathlib.Core.Bool.{true};
-ghost use lib.Dec.{eqb, leb};
 ghost use lib.ListN.{length};
-ghost use Rattle.basis.specs.Pick.{pick};
-ghost use Rattle.table_whole.specs.declared.SiteTable.{SiteTable};
 ghost use Rattle.pool.specs.declared.Loser.the-variants.{Owner};
-ghost use Rattle.pool.specs.Shares.{fuller, fullest, loser, noOther};
-ghost use Rattle.pool.specs.Pool.{heldIn, freeIn, moreOf, roomOf, issueOf, crowdedIn};
+ghost use Rattle.pool.specs.Shares.{fuller, fullest, loser};
+ghost use Rattle.pool.specs.Pool.{heldIn, freeIn, moreOf, roomOf, issueOf};
 ghost use Rattle.site.specs.declared.Site.{Site};
 ghost use Rattle.site.specs.Site.{withPool};
 ghost use Rattle.store_site.specs.Turns.{Turns};
-ghost use Rattle.store_site.specs.Layout.{placesIn, siteOf};
+ghost use Rattle.store_site.specs.Layout.{placesIn};
 ghost use Rattle.store_pool.specs.Best.{Stands};
 ghost use Rattle.store_pool.specs.Pools.{Loss};
 use super::places;
@@ -56,47 +52,6 @@ fn loser_for(w: &[u64], l: u16) -> Loser
     } else {
         Loser::Owner(l)
     }
-}
-
-fn within(w: &[u64], l: u16, k: u16) -> bool
-    requires { ⌜ length (now w) ≡ 1173 ⌝ }
-    ensures { λ r. ⌜ r ≡ pick (eqb k l) true (leb (heldIn (placesIn (now (w .entry))) k) 16) ⌝ }
-{
-    if k == l {
-        true
-    } else {
-        places::holds(w, k) <= 16
-    }
-}
-
-fn others_within(w: &[u64], l: u16) -> bool
-    requires { ⌜ length (now w) ≡ 1173 ⌝ }
-    ensures { λ r. ⌜ r ≡ noOther (heldIn (placesIn (now (w .entry)))) l 4 ⌝ }
-{
-    places::and(
-        places::and(
-            places::and(within(w, l, 0), within(w, l, 1)),
-            within(w, l, 2),
-        ),
-        within(w, l, 3),
-    )
-}
-
-// Number 13: nothing is free, the link holds fewer than 16, and no other holds more than 16.
-pub fn crowded(w: &[u64], l: u16) -> bool
-    requires { ⌜ length (now w) ≡ 1173 ⌝ }
-    ensures { λ r. ⌜ ((t : SiteTable) → r ≡ crowdedIn 4 (siteOf (now (w .entry)) t .pool) l) ⌝ }
-{
-    if 4 <= l {
-        return false;
-    }
-    if 0 < places::number(w, Wanted::Free) {
-        return false;
-    }
-    if 16 <= places::holds(w, l) {
-        return false;
-    }
-    others_within(w, l)
 }
 
 // The place that a new record takes.

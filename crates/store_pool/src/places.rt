@@ -59,7 +59,7 @@ pub fn put_place(w: &mut [u64], k: usize, x: Place)
     w[i + 3] = x.mark;
 }
 
-pub fn and(a: bool, b: bool) -> bool
+fn and(a: bool, b: bool) -> bool
     ensures { λ r. ⌜ r ≡ both a b ⌝ }
 {
     if a { b } else { false }

@@ -26,7 +26,7 @@ pub record Passed (applies : Refusal → Bool) : Type 0 where
   pub numbers : applies SequenceSpent ≡ false
 
 those : (f : Refusal → Bool) → None f inOrder → Passed f
-those f (more a (more b (more c (more d (more e (more g (more h (more i (more j (more k (more l (more m none)))))))))))) =
+those f (more a (more b (more c (more d (more e (more g (more h (more i (more j (more k (more l none))))))))))) =
     record { link = a; item = b; numbers = l }
 
 module _ (s : Site) (c : Call) where

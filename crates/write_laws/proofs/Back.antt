@@ -100,7 +100,7 @@ pub back : (m : Message) → Formed m → fieldsOf (jsonOf m) ≡ m
 back (version id site sxl) (formed-version i s x) = ap (λ (b : List ℕ). version b site sxl) (id-back id i)
 back (watchdog id time) (formed-watchdog i t) = ap₂ watchdog (id-back id i) (time-back time t)
 back (ack received) (formed-ack r) = refl
-back (notAck received reason) (formed-notAck r t) = refl
+back (notAck received _) (formed-notAck r reason t) = refl
 back (alarm id component code s) (formed-alarm i c k f) = ap₂ (λ (b : List ℕ) (a : AlarmState). alarm b component code a) (id-back id i) (state-back s f)
 back (aggregated id component time value) (formed-aggregated i c t v) =
     ap₂ (λ (b : List ℕ) (n : ℕ). aggregated b component n (flagsIn 0 (flagsOf value))) (id-back id i) (time-back time t)

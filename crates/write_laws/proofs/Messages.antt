@@ -84,7 +84,7 @@ plain-message (ack received) (formed-ack r) =
     pobj (member (word "mType" refl) (pstr (word "rSMsg" refl))
     (member (word "type" refl) (pstr (word "MessageAck" refl))
     (last-member (word "oMId" refl) (pstr (plain-received r)))))
-plain-message (notAck received _) (formed-notAck {reason = reason} r t) =
+plain-message (notAck received _) (formed-notAck r reason t) =
     pobj (member (word "mType" refl) (pstr (word "rSMsg" refl))
     (member (word "type" refl) (pstr (word "MessageNotAck" refl))
     (member (word "oMId" refl) (pstr (plain-received r))

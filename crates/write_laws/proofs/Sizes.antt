@@ -145,7 +145,7 @@ sized : (m : Message) → Formed m → size (jsonOf m) + 1 ≤ most m
 sized (version id site sxl) (formed-version i s x) = omega (arith, text-length id, label-size s, label-size x)
 sized (watchdog id time) (formed-watchdog i t) = omega (arith, text-length id, moment-size time)
 sized (ack received) (formed-ack r) = omega (arith, received-size r)
-sized (notAck received _) (formed-notAck {reason = reason} r t) = omega (arith, received-size r, reason-size reason t)
+sized (notAck received _) (formed-notAck r reason t) = omega (arith, received-size r, reason-size reason t)
 sized (alarm id component code s) (formed-alarm i c k f) =
     omega (
       arith,

@@ -50,7 +50,7 @@ pub data Formed : Message → Type 0 where
   formed-version : {id site sxl : List ℕ} → SixteenBytes id → Label site → Label sxl → Formed (version id site sxl)
   formed-watchdog : {id : List ℕ} {time : ℕ} → SixteenBytes id → time ≤ lastTime → Formed (watchdog id time)
   formed-ack : {received : List ℕ} → Received received → Formed (ack received)
-  formed-notAck : {received : List ℕ} {reason : ℕ} → Received received → IsReason reason → Formed (notAck received (nameOf reason))
+  formed-notAck : {received : List ℕ} → Received received → (reason : ℕ) → IsReason reason → Formed (notAck received (nameOf reason))
   formed-alarm : {id component code : List ℕ} {s : AlarmState} → SixteenBytes id → Label component → Label code → FormedState s → Formed (alarm id component code s)
   formed-aggregated : {id component : List ℕ} {time value : ℕ} → SixteenBytes id → Label component → time ≤ lastTime → value < 256 → Formed (aggregated id component time value)
   formed-statuses : {kind : Told} {id component : List ℕ} {time : ℕ} {entries : List Status} → SixteenBytes id → Label component → time ≤ lastTime → FormedStatuses entries → Formed (statuses kind id component time entries)

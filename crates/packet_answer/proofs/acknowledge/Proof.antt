@@ -1,5 +1,5 @@
 use mathlib.Core.Path.{refl}
-use Rattle.packet_answer.proofs.Ends.{refuses-spent, refuses-full, writes-ack}
+use Rattle.packet_answer.proofs.Ends.{refuses-spent, writes-ack}
 use borrow.Author.Needs.{needs}
 use Rattle.packet_answer.proofs.acknowledge.Statement.{statement}
 use Rattle.packet_answer.proofs.acknowledge.Tie as tie
@@ -19,15 +19,6 @@ returns : tie.Need-returns
 returns c =
     refuses-spent _ _ _ _ _ _ _ (c .before .if1 .taken) (c .refused .ensures) refl
 
--- src/lib.rt:126:9
-refused-requires-2 : tie.Need-refused-requires-2
-refused-requires-2 c κs = search needs
-
--- src/lib.rt:126:9
-returns-2 : tie.Need-returns-2
-returns-2 c =
-    refuses-full _ _ _ _ _ _ _ (c .before .before .if1 .left) (c .before .if2 .taken) (c .refused2 .ensures) refl
-
 -- src/lib.rt:128:9
 ack-requires : tie.Need-ack-requires
 ack-requires c κs = search needs
@@ -45,10 +36,10 @@ same-length : tie.Need-same-length
 same-length c = search needs
 
 -- src/lib.rt:110:1
-returns-3 : tie.Need-returns-3
-returns-3 c =
-    let a = c .before .before .before .before .before .before .before .before .before .args in
-    writes-ack (a .s) (a .after) (a .b) (a .time) (a .hint) (a .hinted) (a .received .bytes) (c .before .before .before .before .before .before .before .if1 .left) (c .before .before .before .before .before .before .if2 .left) (c .before .before .before .before .ack .ensures) (rw (← c .before .report .ensures) (c .conclude .ensures))
+returns-2 : tie.Need-returns-2
+returns-2 c =
+    let a = c .before .before .before .before .before .before .before .before .args in
+    writes-ack (a .s) (a .after) (a .b) (a .time) (a .hint) (a .hinted) (a .received .bytes) (c .before .before .before .before .before .before .if1 .left) (c .before .before .before .before .ack .ensures) (rw (← c .before .report .ensures) (c .conclude .ensures))
 
 pub acknowledge-spec : {M : Type 1} → statement M
 acknowledge-spec =
@@ -56,10 +47,8 @@ acknowledge-spec =
     (tie.spec
     refused-requires
     returns
-    refused-requires-2
-    returns-2
     ack-requires
     report-requires
     conclude-requires
     same-length
-    returns-3)
+    returns-2)

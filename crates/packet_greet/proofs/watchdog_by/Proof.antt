@@ -1,4 +1,5 @@
 use borrow.Author.Needs.{needs}
+use Rattle.packet_greet.proofs.Beats.{beats}
 use Rattle.packet_greet.proofs.watchdog_by.Statement.{statement}
 use Rattle.packet_greet.proofs.watchdog_by.Tie as tie
 use Rattle.packet_greet.proofs.watchdog_by.Reads as reads
@@ -36,7 +37,9 @@ same-length c = search needs
 
 -- src/lib.rt:176:1
 returns : tie.Need-returns
-returns c = rw (c .before .before .before .before .enum-told .given .1) (c .before .before .beat .ensures)
+returns c =
+    let a = c .before .before .before .before .before .before .before .args in
+    beats (a .s) (a .l) (a .time) (a .received .bytes) (a .f) (c .before .before .before .before .enum-told .given .1) (c .before .before .beat .ensures)
 
 -- src/lib.rt:176:1
 same-length-2 : tie.Need-same-length-2

@@ -14,18 +14,10 @@ refused-requires c κs = search needs
 returns : tie.Need-returns
 returns c = rw (c .before .if1 .taken) (c .refused .ensures)
 
--- src/lib.rt:76:9
-refused-requires-2 : tie.Need-refused-requires-2
-refused-requires-2 c κs = search needs
-
--- src/lib.rt:76:9
-returns-2 : tie.Need-returns-2
-returns-2 c = rw (c .before .before .if1 .left, c .before .if2 .taken) (c .refused2 .ensures)
-
 -- src/lib.rt:69:1
-returns-3 : tie.Need-returns-3
-returns-3 c = rw (c .before .before .if1 .left, c .before .if2 .left) refl
+returns-2 : tie.Need-returns-2
+returns-2 c = rw (c .before .if1 .left) refl
 
 pub conclude-spec : {M : Type 1} → statement M
 conclude-spec =
-    tie.close (tie.spec refused-requires returns refused-requires-2 returns-2 returns-3)
+    tie.close (tie.spec refused-requires returns returns-2)

@@ -1,0 +1,28 @@
+use mathlib.Core.Path.{sym, ap}
+use borrow.Author.Needs.{needs}
+use Rattle.site.specs.Call.{hintTime}
+use Rattle.packet_greet.proofs.Beats.{hints, withholds}
+use Rattle.packet_greet.proofs.hint.Statement.{statement}
+use Rattle.packet_greet.proofs.hint.Tie as tie
+
+enum-told : tie.Need-enum-told
+enum-told c = search needs
+
+enum-told-2 : tie.Need-enum-told-2
+enum-told-2 c = search needs
+
+returns : tie.Need-returns
+returns c =
+    let a = c .before .before .before .before .args in
+    sym (ap hintTime (hints (a .role) (a .f) (c .before .before .enum-told .given .1) (c .if1 .taken)))
+
+returns-2 : tie.Need-returns-2
+returns-2 c =
+    let a = c .before .before .before .before .args in
+    sym (ap hintTime (withholds (a .role) (a .f) (c .before .before .enum-told .given .1) (c .if1 .left)))
+
+returns-3 : tie.Need-returns-3
+returns-3 c = search needs
+
+pub hint-spec : {M : Type 1} → statement M
+hint-spec = tie.close (tie.spec enum-told enum-told-2 returns returns-2 returns-3)
