@@ -14,6 +14,7 @@ use Rattle.basis.specs.Pick.{pick, both}
 use Rattle.basis.specs.Lists.{sameBytes}
 use Rattle.basis.specs.Text.{text}
 use Rattle.basis.proofs.Cases.{bool-cases}
+use Rattle.basis.proofs.Both.{untrue, both-false}
 use Rattle.basis.proofs.Same.{same-true}
 use Rattle.number.specs.declared.Number.{Number}
 use Rattle.number.specs.declared.Number.the-variants.{Is, No}
@@ -87,7 +88,7 @@ good-object es good x e = by (isObject x) (or-parts (not (isObject x)) (spoils x
   where
     by : (b : Bool) → not b ≡ false → b ≡ true
     by true e = refl
-    by false e = absurd (let y : _≡_ {A = ℕ} 0 1 = cc in omega arith)
+    by false e = untrue (sym e)
 
 -- ---- uRt
 abbrev pub isSeconds : Bytes → Bool
@@ -102,8 +103,8 @@ number-usable limit d h e = by (leb (says 0 d) limit) (sameBytes d (digits (says
         let w : d ≡ digits (says 0 d) = same-true d (digits (says 0 d)) q in
         let n : length (digits (says 0 d)) ≤ 5 = digits-length 4 (says 0 d) (omega arith) in
         usable-of d (omega (arith, ap length w, n)) (alphabet-ascii d (rw w (digits-in (says 0 d))))
-    by true false p q e = absurd (let y : _≡_ {A = ℕ} 0 1 = cc in omega arith)
-    by false b p q e = absurd (let y : _≡_ {A = ℕ} 0 1 = cc in omega arith)
+    by true false p q e = untrue e
+    by false b p q e = untrue e
 
 seconds-sure : Sure isSeconds
 seconds-sure d e = number-usable 86400 d (omega arith) e
@@ -137,7 +138,7 @@ seconds-element : (x : Json) → secondsIn x .verdict ≡ elementVerdict x theSe
 seconds-element x = seconds-verdict (wordIn x (text "uRt")) ∙ element-judged isSeconds seconds-sure x "uRt"
 
 some-of : (o : Option ℕ) → isSome o ≡ true → o ≡ some (numbered (saidNumber o) .number)
-some-of none e = absurd (let y : _≡_ {A = ℕ} 0 1 = cc in omega arith)
+some-of none e = untrue e
 some-of (some n) e = refl
 
 seconds-said : (x : Json) → secondsIn x .verdict ≡ Good → interval x ≡ some (secondsIn x .number)
@@ -166,10 +167,6 @@ flag-set (some (obj ms)) = refl
 bad-anyway : (b : Bool) → Bad ≡ worst Bad (verdict false b)
 bad-anyway true = refl
 bad-anyway false = refl
-
-both-false : (b : Bool) → both b false ≡ false
-both-false true = refl
-both-false false = refl
 
 zero-swap : (n : ℕ) → eqb n 0 ≡ eqb 0 n
 zero-swap n = bool-cases (eqb n 0) (λ t. t ∙ sym (eq-eqb 0 n (sym (eqb-true n 0 t)))) (λ f. f ∙ sym (ne-eqb 0 n (λ z. eqb-false n 0 f (sym z))))

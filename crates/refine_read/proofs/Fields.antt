@@ -1,8 +1,6 @@
 -- The fields of Alarm and AggregatedStatusRequest are those that the machine reads.
 -- Assumes nothing.
-use Prim.Native.Nat.{ℕ}
 use Prim.Native.String.{String}
-use native.Mathlib.Omega.{arith}
 use mathlib.Core.Path.{_≡_, refl, sym, ap, ap₂, _∙_}
 use mathlib.Core.Bool.{Bool, true, false}
 use mathlib.Core.List.{List, [], _∷_}
@@ -11,6 +9,7 @@ use lib.Seq.{take-append-seam}
 use Rattle.basis.specs.Pick.{pick}
 use Rattle.basis.specs.Text.{text}
 use Rattle.basis.proofs.Cases.{bool-cases}
+use Rattle.basis.proofs.Both.{untrue}
 use Rattle.number.specs.Alphabet.{isLabel}
 use Rattle.label.specs.Label.{labelOf, textOf}
 use Rattle.json_text.specs.Copied.{ascii}
@@ -69,7 +68,7 @@ by-order P p q r s d e =
     at-text P d (text "Acknowledge") q (λ b.
     at-text P d (text "Suspend") r (λ c.
     at-text P d (text "Resume") s (λ f.
-    absurd (let z : false ≡ true = rw (a, b, c, f) at e in let y : _≡_ {A = ℕ} 0 1 = cc in omega arith)))))
+    untrue (rw (a, b, c, f) at e)))))
 
 order-sure : Sure (isWord orders)
 unfolding ascii

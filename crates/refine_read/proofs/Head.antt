@@ -11,6 +11,7 @@ use lib.ListN.{length, replicate}
 use Rattle.basis.specs.Pick.{pick, both}
 use Rattle.basis.specs.Text.{text}
 use Rattle.basis.proofs.Cases.{bool-cases}
+use Rattle.basis.proofs.Both.{untrue, not-both}
 use Rattle.basis.proofs.Same.{same-true}
 use Rattle.identity.specs.declared.ReadIdentity.{ReadIdentity}
 use Rattle.identity.specs.Text.{identityText}
@@ -71,7 +72,7 @@ identity-said d = by (usable d) refl
     by : (u : Bool) → usable d ≡ u → identityOf (pick u (word d) other) ≡ readIdentity d
     by true e = refl
     by false e = sym (answers d .refused (bool-cases (readIdentity d .found)
-        (λ t. absurd (let i = readable d ∙ t in let z : true ≡ false = sym (usable-of d (omega (arith, identity-long d i)) (identity-ascii d i)) ∙ e in let y : _≡_ {A = ℕ} 0 1 = cc in omega arith))
+        (λ t. let i = readable d ∙ t in not-both (usable-of d (omega (arith, identity-long d i)) (identity-ascii d i)) e)
         (λ f. f)) .0)
 
 nothing-read : readIdentity [] ≡ notFound
@@ -98,30 +99,30 @@ abbrev askedBy : Class → Bytes → Head
 askedBy c d = record { class = c; received = record { bytes = d }; identity = record { bytes = replicate 16 0 } }
 
 answered-of : (c : Class) (b m : Bool) (r : ReadIdentity) → (b ≡ true → m ≡ false) → answered c (verdict m (not b)) r ≡ pick (both b (r .found)) (answeredBy c r) ignored
-answered-of c true true r h = absurd (let z : true ≡ false = h refl in let y : _≡_ {A = ℕ} 0 1 = cc in omega arith)
+answered-of c true true r h = untrue (sym (h refl))
 answered-of c true false r h = refl
 answered-of c false true r h = refl
 answered-of c false false r h = refl
 
 there : (o : Option Json) → saysIn "rSMsg" o ≡ true → not (isSome o) ≡ false
-there none e = absurd (let y : _≡_ {A = ℕ} 0 1 = cc in omega arith)
+there none e = untrue e
 there (some j) e = refl
 
 long-enough : (d : Bytes) → length d ≡ 36 → d ++ replicate (36 - length d) 0 ≡ d
 long-enough d e = let z : 36 - length d ≡ 0 = omega arith in rw (z, append-nil)
 
 received-of : (o : Option Json) → identityOf (wordOf o) .found ≡ true → characters (wordOf o) ≡ orElse [] (stringIn o)
-received-of none e = absurd (let y : _≡_ {A = ℕ} 0 1 = cc in omega arith)
-received-of (some null) e = absurd (let y : _≡_ {A = ℕ} 0 1 = cc in omega arith)
-received-of (some (bool b)) e = absurd (let y : _≡_ {A = ℕ} 0 1 = cc in omega arith)
-received-of (some (num d)) e = absurd (let y : _≡_ {A = ℕ} 0 1 = cc in omega arith)
-received-of (some (arr js)) e = absurd (let y : _≡_ {A = ℕ} 0 1 = cc in omega arith)
-received-of (some (obj ms)) e = absurd (let y : _≡_ {A = ℕ} 0 1 = cc in omega arith)
+received-of none e = untrue e
+received-of (some null) e = untrue e
+received-of (some (bool b)) e = untrue e
+received-of (some (num d)) e = untrue e
+received-of (some (arr js)) e = untrue e
+received-of (some (obj ms)) e = untrue e
 received-of (some (str d)) e = by (usable d) e
   where
     by : (u : Bool) → identityOf (pick u (word d) other) .found ≡ true → characters (pick u (word d) other) ≡ d
     by true e = long-enough d (identity-long d (readable d ∙ e))
-    by false e = absurd (let y : _≡_ {A = ℕ} 0 1 = cc in omega arith)
+    by false e = untrue e
 
 readable-of : (o : Option Bytes) → maybe false isIdentity o ≡ readIdentity (orElse [] o) .found
 readable-of none = sym (ap (λ (r : ReadIdentity). r .found) nothing-read)

@@ -15,7 +15,7 @@ use Rattle.basis.specs.Text.{text}
 use Rattle.basis.proofs.Cases.{bool-cases}
 use Rattle.basis.proofs.Same.{same-is, same-true, same-self}
 use Rattle.basis.proofs.Table.{at, both-left, both-right}
-use Rattle.number.proofs.Alphabet.{both-parts}
+use Rattle.basis.proofs.Both.{untrue, both-true}
 use Rattle.identity.specs.Hex.{hexDigit, hexValue, lowerHex, lowered}
 use Rattle.identity.specs.Text.{identityText}
 use Rattle.identity.specs.Read.{SixteenBytes, Says, found, starts, byteAt, bytesOf, readIdentity}
@@ -42,9 +42,9 @@ hex-split : {P : Type 0} (b : ℕ) → isHex b ≡ true → (48 ≤ b → b ≤ 
 hex-split {P} b e f g h = by (both (leb 48 b) (leb b 57)) (both (leb 65 b) (leb b 70)) refl refl e
   where
     by : (x y : Bool) → both (leb 48 b) (leb b 57) ≡ x → both (leb 65 b) (leb b 70) ≡ y → pick x true (pick y true (both (leb 97 b) (leb b 102))) ≡ true → P
-    by true y p q r = let z = both-parts (leb 48 b) (leb b 57) p in f (leb-true 48 b (z .0)) (leb-true b 57 (z .1))
-    by false true p q r = let z = both-parts (leb 65 b) (leb b 70) q in g (leb-true 65 b (z .0)) (leb-true b 70 (z .1))
-    by false false p q r = let z = both-parts (leb 97 b) (leb b 102) r in h (leb-true 97 b (z .0)) (leb-true b 102 (z .1))
+    by true y p q r = let z = both-true (leb 48 b) (leb b 57) p in f (leb-true 48 b (z .0)) (leb-true b 57 (z .1))
+    by false true p q r = let z = both-true (leb 65 b) (leb b 70) q in g (leb-true 65 b (z .0)) (leb-true b 70 (z .1))
+    by false false p q r = let z = both-true (leb 97 b) (leb b 102) r in h (leb-true 97 b (z .0)) (leb-true b 102 (z .1))
 
 -- a digit in either case, made small, is the digit of its value
 valued : (b : ℕ) → isHex b ≡ true → hexDigit (hexValue (lowerHex b)) ≡ lowerHex b
@@ -186,9 +186,6 @@ marked-below b h = by (isHex b) (eqb b 45) refl refl h
     by false true p q h = omega (arith, eqb-true b 45 q)
     by false false p q h = absurd (omega arith)
 
-differ : false ≡ true → ⊥
-differ e = let z : _≡_ {A = ℕ} 0 1 = cc in omega arith
-
 dash-low : lowerHex 45 ≡ 45
 unfolding lowerHex
 dash-low = refl
@@ -251,19 +248,19 @@ identity-ascii d e = go d pattern e refl
   where
     go : (d p : List ℕ) → sameBytes (map mark d) p ≡ true → filled p ≡ true → ascii d ≡ true
     go [] p e f = refl
-    go (b ∷ d) [] e f = absurd (differ e)
+    go (b ∷ d) [] e f = untrue e
     go (b ∷ d) (x ∷ p) e f =
-        let q = both-parts (eqb (mark b) x) (sameBytes (map mark d) p) e in
-        let r = both-parts (ltb 0 x) (filled p) f in
+        let q = both-true (eqb (mark b) x) (sameBytes (map mark d) p) e in
+        let r = both-true (ltb 0 x) (filled p) f in
         rw (lt-ltb b 128 (marked-below b (omega (arith, eqb-true (mark b) x (q .0), ltb-true 0 x (r .0))))) (go d p (q .1) (r .1))
 
 -- an identity's text, and no other, says its bytes
 pub says-bytes : (a d : Bytes) → SixteenBytes a → isIdentityOf a d ≡ both (readIdentity d .found) (sameBytes a (readIdentity d .id .bytes))
 says-bytes a d v = sym (same-is (lowered d) (identityText a) _
     (λ t.
-    let p = both-parts (readIdentity d .found) _ t in
+    let p = both-true (readIdentity d .found) _ t in
     answers d .accepted (p .0) .said ∙ ap identityText (sym (same-true a (readIdentity d .id .bytes) (p .1))))
     (λ e.
     let s : Says d a = record { valid = v; said = e } in
-    let r : readIdentity d ≡ found a = one-answer d (readIdentity d) (found a) (answers d) (record { accepted = λ t. s; refused = λ f. absurd (differ (sym f)) }) in
+    let r : readIdentity d ≡ found a = one-answer d (readIdentity d) (found a) (answers d) (record { accepted = λ t. s; refused = λ f. untrue (sym f) }) in
     rw r (same-self a)))

@@ -20,6 +20,7 @@ use Rattle.refine_read.specs.Claims.{Claims}
 use Rattle.refine_read.proofs.Identity.{readable, says-bytes}
 use Rattle.refine_read.proofs.Head.{head-is}
 use Rattle.refine_read.proofs.Types.{typed}
+use Rattle.refine_read.proofs.Watchdog.{watchdog-reads}
 use Rattle.refine_read.proofs.Fields.{kept-text, alarm-reads, aggregated-reads}
 
 reads : {s : Bytes} {j : Json} → Packet s j → readPacket s ≡ some j
@@ -48,6 +49,7 @@ kept =
       typed = typed;
       identity = λ a s v. says-bytes a s v ∙ ap (λ (b : Bool). both b (sameBytes a (readIdentity s .id .bytes))) (sym (readable s));
       alarm = λ s j e. rw (Heads.kept .alarm (only e)) (alarm-reads j);
+      watchdog = λ s j e. rw (Heads.kept .watchdog (only e)) (watchdog-reads j);
       aggregated = λ s j e. rw (Heads.kept .aggregated (only e)) (aggregated-reads j);
       kept = kept-text;
     }

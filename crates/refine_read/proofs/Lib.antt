@@ -4,4 +4,5 @@ pub mod Identity
 pub mod Head
 pub mod Types
 pub mod Fields
+pub mod Watchdog
 pub mod Kept

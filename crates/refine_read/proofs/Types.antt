@@ -1,13 +1,12 @@
 -- What the type of a packet makes of the machine's tests.
 -- Assumes nothing.
-use Prim.Native.Nat.{ℕ}
 use Prim.Native.String.{String}
-use native.Mathlib.Omega.{arith}
 use mathlib.Core.Path.{_≡_, ap}
 use mathlib.Core.Bool.{true, false}
 use mathlib.Core.Option.{Option, some, none}
 use Rattle.basis.specs.Text.{text}
 use Rattle.basis.proofs.Cases.{bool-cases}
+use Rattle.basis.proofs.Both.{untrue}
 use Rattle.basis.proofs.Same.{same-true}
 use Rattle.json_value.specs.Grammar.{Json}
 use Rattle.read_head.specs.declared.Kind.the-variants.{Version, Watchdog, Alarm, AggregatedStatusRequest, StatusRequest, StatusSubscribe, StatusUnsubscribe}
@@ -16,7 +15,7 @@ use Rattle.machine.specs.Json.{stringAt, isType}
 use Rattle.refine_read.specs.Head.{kindOf, Typed, version, watchdog, alarm, aggregated-request, status-request, status-subscribe, status-unsubscribe, not-taken}
 
 says : (o : Option Bytes) (n : String) → maybe false (reads n) o ≡ true → o ≡ some (text n)
-says none n e = absurd (let z : _≡_ {A = ℕ} 0 1 = cc in omega arith)
+says none n e = untrue e
 says (some d) n e = ap some (same-true d (text n) e)
 
 pub type-is : (j : Json) (n : String) → isType n j ≡ true → stringAt "type" j ≡ some (text n)

@@ -8,11 +8,11 @@ use Rattle.label.specs.Label.{labelOf, textOf}
 use Rattle.json_value.specs.Grammar.{Json}
 use Rattle.json_packet.specs.Packet.{Packet}
 use Rattle.read_head.specs.Head.{ignored, headAt}
-use Rattle.read_head.specs.Small.{alarmAt, aggregatedAt}
+use Rattle.read_head.specs.Small.{alarmAt, watchdogAt, aggregatedAt}
 use Rattle.machine.specs.Words.{Bytes, _and_, maybe}
 use Rattle.machine.specs.Json.{readPacket, isIdentity, isIdentityOf}
 use Rattle.refine_read.specs.Head.{kindOf, headOf, Typed}
-use Rattle.refine_read.specs.Fields.{AlarmReads, AggregatedReads}
+use Rattle.refine_read.specs.Fields.{AlarmReads, WatchdogReads, AggregatedReads}
 
 pub record Claims : Type 0 where
   -- the machine reads j exactly from the bytes of the packet j
@@ -25,6 +25,7 @@ pub record Claims : Type 0 where
   pub identity : (a s : Bytes) → SixteenBytes a → isIdentityOf a s ≡ (isIdentity s and sameBytes a (readIdentity s .id .bytes))
   -- the elements that are needed
   pub alarm : (s : Bytes) (j : Json) → readPacket s ≡ some j → AlarmReads j (alarmAt s)
+  pub watchdog : (s : Bytes) (j : Json) → readPacket s ≡ some j → WatchdogReads j (watchdogAt s)
   pub aggregated : (s : Bytes) (j : Json) → readPacket s ≡ some j → AggregatedReads j (aggregatedAt s)
   -- a string that is kept is that string
   pub kept : (s : Bytes) → textOf (labelOf s) ≡ s

@@ -6,7 +6,7 @@ use mathlib.Core.Path.{_≡_, refl, ap, _∙_}
 use mathlib.Core.Bool.{Bool, true, false}
 use mathlib.Core.List.{List, [], _∷_, _++_}
 use mathlib.Core.Option.{Option, some, none}
-use lib.Dec.{eqb, leb, ltb}
+use lib.Dec.{eqb, leb}
 use lib.ListN.{length, length-append}
 use borrow.Author.Tests.{leb-true, lt-leb}
 use Rattle.basis.specs.Pick.{pick, both}
@@ -16,7 +16,7 @@ use Rattle.number.specs.declared.Number.{Number}
 use Rattle.number.specs.declared.Number.the-variants.{Is, No}
 use Rattle.number.specs.Decimal.{digits}
 use Rattle.number.specs.Reading.{says}
-use Rattle.number.proofs.Alphabet.{both-parts, digits-in}
+use Rattle.number.proofs.Alphabet.{digits-in}
 use Rattle.number.proofs.Digits.{digits-length}
 use Rattle.json_text.specs.Copied.{ascii}
 use Rattle.read_versions.specs.Version.{version, Writes, one, two, three, ReadsVersion, is, no, before, Behind, nothing, more, behind, restOf, joinParts, alone, onePart, twoParts, versionOf}
@@ -25,7 +25,7 @@ use Rattle.machine.specs.Words.{Bytes, _and_, isSome, orElse, each}
 use Rattle.machine.specs.Json as Json
 use Rattle.machine.specs.Json.{numberIn, grown, parts, versionIn}
 use Rattle.refine_read.proofs.Words.{usable, Sure}
-use Rattle.refine_read.proofs.Usable.{alphabet-ascii, usable-of}
+use Rattle.refine_read.proofs.Usable.{alphabet-ascii, ascii-append, usable-of}
 use Rattle.refine_lists.proofs.Entries.{saidNumber, number-is}
 use Rattle.refine_versions.specs.Versions.{numberOf, numbered}
 
@@ -123,11 +123,6 @@ text-is s = by (alike s)
     by no-version = refl
 
 -- ---- what is read can be used
-ascii-append : (d e : Bytes) → ascii d ≡ true → ascii e ≡ true → ascii (d ++ e) ≡ true
-unfolding ascii
-ascii-append [] e p q = q
-ascii-append (b ∷ d) e p q = let r = both-parts (ltb b 128) (ascii d) p in rw (r .0) (ascii-append d e (r .1) q)
-
 digits-ascii : (n : ℕ) → ascii (digits n) ≡ true
 digits-ascii n = alphabet-ascii (digits n) (digits-in n)
 
