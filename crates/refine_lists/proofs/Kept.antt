@@ -9,6 +9,7 @@ use lib.Dec.{ltb}
 use Rattle.basis.specs.Text.{text}
 use Rattle.basis.proofs.Cases.{bool-cases}
 use Rattle.json_value.specs.Grammar.{Json}
+use Rattle.json_value.specs.Grammar.Json.{null}
 use Rattle.read_head.specs.declared.Verdict.{Verdict}
 use Rattle.read_head.specs.declared.Verdict.the-variants.{Good, Missing, Bad}
 use Rattle.read_head.specs.Word.{wordIn}
@@ -16,8 +17,9 @@ use Rattle.read_head.specs.Values.{worst, gotLabel}
 use Rattle.read_lists.specs.declared.StatusEntry.{StatusEntry}
 use Rattle.read_lists.specs.declared.StatusList.{StatusList}
 use Rattle.read_lists.specs.Items.{Item, itemIn, listOf, listIn}
-use Rattle.read_lists.specs.Status.{entryOfItem, noStatuses, pushEntry, statusesOf, statusIn}
+use Rattle.read_lists.specs.Status.{noEntry, entryOfItem, noStatuses, pushEntry, statusesOf, statusIn}
 use Rattle.read_lists.proofs.Kept as Lists
+use Rattle.machine.specs.Json as Machine
 use Rattle.machine.specs.Json.{element, isType}
 use Rattle.machine.specs.Answers as Answers
 use Rattle.machine.specs.Answers.{Need, one, _is_, label, needs}
@@ -27,6 +29,7 @@ use Rattle.refine_read.proofs.Types.{type-is}
 use Rattle.refine_read.proofs.Fields.{label-judged, label-kept, last-judged}
 use Rattle.refine_read.proofs.Kept.{only}
 use Rattle.refine_lists.specs.Statuses.{isRead, entryOf, StatusReads, Claims}
+use Rattle.refine_lists.proofs.Indexed.{taken-at}
 use Rattle.refine_lists.proofs.Gathered.{Pushes, Holds, entriesOf, list-judged, list-holds}
 use Rattle.refine_lists.proofs.Entries.{isMissing, isBad, elementsOf, passes, item-judged, item-asks}
 
@@ -109,6 +112,9 @@ module _ (subscribing : Bool) (j : Json) where
             ∙ ap (judged j) (sym (status-needs subscribing j e));
         component = λ g. label-kept j "cId" (parts g .0);
         entries = λ g. entries-held subscribing j (parts g .1) .all;
+        at = λ g.
+            let h = entries-held subscribing j (parts g .1) in
+            taken-at (entryOf subscribing) null noEntry (theList .count) (theList .entries) (Machine.entriesOf "sS" j) (h .all) (h .counted);
         count = λ g. entries-held subscribing j (parts g .1) .counted;
         most = λ g. let h = entries-held subscribing j (parts g .1) in omega (arith, h .counted, h .most);
       }

@@ -16,9 +16,12 @@ use Rattle.read_head.proofs.Kept as Heads
 use Rattle.machine.specs.Words.{Bytes, maybe}
 use Rattle.machine.specs.Json.{readPacket}
 use Rattle.refine_read.specs.Head.{headOf}
+use Rattle.refine_read.specs.Ignored.{ignoredBy}
 use Rattle.refine_read.specs.Claims.{Claims}
 use Rattle.refine_read.proofs.Identity.{readable, says-bytes}
 use Rattle.refine_read.proofs.Head.{head-is}
+use Rattle.refine_read.proofs.Ignored.{awaited-is, answered-is, ignored-is}
+use Rattle.refine_read.proofs.Reasons.{reason-is}
 use Rattle.refine_read.proofs.Types.{typed}
 use Rattle.refine_read.proofs.Watchdog.{watchdog-reads}
 use Rattle.refine_read.proofs.Fields.{kept-text, alarm-reads, aggregated-reads}
@@ -48,6 +51,10 @@ kept =
       head = head;
       typed = typed;
       identity = λ a s v. says-bytes a s v ∙ ap (λ (b : Bool). both b (sameBytes a (readIdentity s .id .bytes))) (sym (readable s));
+      awaited = λ k s v. awaited-is k v s;
+      answered = λ k s v. answered-is k v s;
+      ignored = λ k s v. ignored-is k v (readPacket s) ∙ ap (ignoredBy k) (sym (head s));
+      reason = reason-is;
       alarm = λ s j e. rw (Heads.kept .alarm (only e)) (alarm-reads j);
       watchdog = λ s j e. rw (Heads.kept .watchdog (only e)) (watchdog-reads j);
       aggregated = λ s j e. rw (Heads.kept .aggregated (only e)) (aggregated-reads j);

@@ -5,4 +5,6 @@ pub mod Head
 pub mod Types
 pub mod Fields
 pub mod Watchdog
+pub mod Ignored
+pub mod Reasons
 pub mod Kept

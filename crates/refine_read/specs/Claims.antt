@@ -1,5 +1,6 @@
 -- What is claimed of packets without lists: from every list of bytes the code reads what the machine reads. proofs/Kept.antt proves it.
 -- Assumes nothing.
+use Prim.Native.Nat.{ℕ}
 use mathlib.Core.Path.{_≡_}
 use mathlib.Core.Option.{some}
 use Rattle.basis.specs.Lists.{sameBytes}
@@ -11,7 +12,12 @@ use Rattle.read_head.specs.Head.{ignored, headAt}
 use Rattle.read_head.specs.Small.{alarmAt, watchdogAt, aggregatedAt}
 use Rattle.machine.specs.Words.{Bytes, _and_, maybe}
 use Rattle.machine.specs.Json.{readPacket, isIdentity, isIdentityOf}
+use Rattle.machine.specs.State.{Life, Machine}
+use Rattle.machine.specs.Life.{awaitedBy, withAwaited, answeredTo}
+use Rattle.machine.specs.Answers.{isIgnored, reasonOf}
 use Rattle.refine_read.specs.Head.{kindOf, headOf, Typed}
+use Rattle.refine_read.specs.Ignored.{AllSixteen, foundBy, leftBy, ignoredBy}
+use Rattle.refine_read.specs.Reasons.{reasonBy}
 use Rattle.refine_read.specs.Fields.{AlarmReads, WatchdogReads, AggregatedReads}
 
 pub record Claims : Type 0 where
@@ -23,6 +29,12 @@ pub record Claims : Type 0 where
   pub typed : (j : Json) → Typed j (kindOf j)
   -- a text is an identity of ours exactly where its sixteen bytes are read from it
   pub identity : (a s : Bytes) → SixteenBytes a → isIdentityOf a s ≡ (isIdentity s and sameBytes a (readIdentity s .id .bytes))
+  pub awaited : (k : Life) (s : Bytes) → AllSixteen (k .awaited) → awaitedBy k s ≡ foundBy k s
+  pub answered : (k : Life) (s : Bytes) → AllSixteen (k .awaited) → answeredTo s k ≡ withAwaited (leftBy k s) k
+  -- "Ignored (1)"
+  pub ignored : (k : Life) (s : Bytes) → AllSixteen (k .awaited) → isIgnored k (readPacket s) ≡ ignoredBy k (headAt s)
+  -- "Reasons, first that applies"
+  pub reason : (m : Machine) (l : ℕ) (j : Json) → reasonOf m l j ≡ reasonBy m l j
   -- the elements that are needed
   pub alarm : (s : Bytes) (j : Json) → readPacket s ≡ some j → AlarmReads j (alarmAt s)
   pub watchdog : (s : Bytes) (j : Json) → readPacket s ≡ some j → WatchdogReads j (watchdogAt s)

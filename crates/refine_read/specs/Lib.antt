@@ -2,4 +2,6 @@
 pub mod Verdicts
 pub mod Head
 pub mod Fields
+pub mod Ignored
+pub mod Reasons
 pub mod Claims

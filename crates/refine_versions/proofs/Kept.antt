@@ -2,7 +2,7 @@
 -- Assumes nothing.
 use Prim.Native.Nat.{ℕ}
 use mathlib.Core.Path.{_≡_, refl, sym, ap, ap₂, _∙_}
-use mathlib.Core.Bool.{Bool, true}
+use mathlib.Core.Bool.{Bool, true, false, not}
 use mathlib.Core.List.{List, [], _∷_}
 use mathlib.Core.Option.{Option, some, none}
 use Rattle.basis.specs.Pick.{pick}
@@ -21,17 +21,18 @@ use Rattle.read_lists.specs.Items.{listIn}
 use Rattle.read_lists.specs.Version as Code
 use Rattle.read_lists.specs.Version.{versionsOf, sitesOf}
 use Rattle.read_lists.proofs.Kept as Lists
-use Rattle.machine.specs.Words.{Bytes, maybe, any}
+use Rattle.machine.specs.Words.{Bytes, maybe, isSome, any}
 use Rattle.machine.specs.State.{Machine}
 use Rattle.machine.specs.Json.{stringOf, entriesOf, isType}
 use Rattle.machine.specs.Life.{common, namesSite, equalSxl}
-use Rattle.machine.specs.Answers.{one, _is_, label, needs}
+use Rattle.machine.specs.Answers.{one, _is_, label, needs, componentAsked, reasons}
+use Rattle.refine_read.specs.Reasons.{furtherReason}
 use Rattle.refine_read.specs.Verdicts.{judged}
 use Rattle.refine_read.proofs.Words.{judged-more, both-good}
 use Rattle.refine_read.proofs.Types.{type-is}
 use Rattle.refine_read.proofs.Fields.{kept-text, label-judged, label-kept, last-judged}
 use Rattle.refine_read.proofs.Kept.{only}
-use Rattle.refine_versions.specs.Versions.{numberOf, numbered, checked, Ours, VersionReads, Claims}
+use Rattle.refine_versions.specs.Versions.{numberOf, numbered, failed, checked, Ours, VersionReads, Claims}
 use Rattle.refine_versions.proofs.Text.{text-is}
 use Rattle.refine_versions.proofs.Lists.{theVersions, theSites, versions-judged, versions-held, sites-judged, sites-held}
 use Rattle.refine_versions.proofs.Checks.{same-swap, choice, met}
@@ -79,6 +80,20 @@ module _ (j : Json) where
     unfolding judge
     judged-is = rw (version-check, site-check, sxl-check) (in-order (common j) (namesSite m j) (equalSxl m j))
 
+  -- of the further reasons only the three checks speak of a Version
+  first-failed : (o : Option (List ℕ)) (site sxl component : Bool)
+      → pick (not (isSome o)) (some "RSMP version") (pick (not site) (some "Site id") (pick (not sxl) (some "SXL version") (pick (pick component false false) (some "Unknown status") none)))
+      ≡ failed (maybe RsmpVersion (λ v. pick site (pick sxl (Chosen (numberOf v)) SxlVersion) SiteId) o)
+  first-failed none site sxl component = refl
+  first-failed (some v) false sxl component = refl
+  first-failed (some v) true false component = refl
+  first-failed (some v) true true true = refl
+  first-failed (some v) true true false = refl
+
+  reason-is : isType "Version" j ≡ true → (m : Machine) (l : ℕ) → furtherReason m l j ≡ failed (checked m j)
+  unfolding reasons
+  reason-is e m l = rw (type-is j "Version" e) (first-failed (common j) (namesSite m j) (equalSxl m j) (isSome (componentAsked m j)))
+
   version-reads : VersionReads j (Code.versionIn j)
   unfolding Code.versionIn
   version-reads =
@@ -88,6 +103,7 @@ module _ (j : Json) where
             ∙ sym (judged-more j theSites (one ("SXL" is label) ∷ [])))
             ∙ sym (judged-more j theVersions (theSites ∷ one ("SXL" is label) ∷ []))
             ∙ ap (judged j) (sym (version-needs j e));
+        reason = reason-is;
         judged = judged-is;
       }
 

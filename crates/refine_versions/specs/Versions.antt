@@ -1,6 +1,7 @@
 -- The fields of a Version, and the three checks, in the machine's words; proofs/Kept.antt proves it.
 -- Assumes nothing.
 use Prim.Native.Nat.{ℕ}
+use Prim.Native.String.{String}
 use mathlib.Core.Path.{_≡_}
 use mathlib.Core.Bool.{true}
 use mathlib.Core.List.{List, [], _∷_}
@@ -24,6 +25,7 @@ use Rattle.machine.specs.State.{Machine}
 use Rattle.machine.specs.Json.{readPacket, isType, versionIn}
 use Rattle.machine.specs.Life.{common, namesSite, equalSxl}
 use Rattle.refine_read.specs.Verdicts.{verdictIn}
+use Rattle.refine_read.specs.Reasons.{furtherReason}
 
 -- three parts as the code's one number, and a text's
 abbrev pub numberOf : List ℕ → ℕ
@@ -40,6 +42,13 @@ checked m j =
     (λ v. if namesSite m j then if equalSxl m j then Chosen (numberOf v) else SxlVersion else SiteId)
     (common j)
 
+-- the reason that a check gives
+abbrev pub failed : Judged → Option String
+failed (Chosen v) = none
+failed RsmpVersion = some "RSMP version"
+failed SiteId = some "Site id"
+failed SxlVersion = some "SXL version"
+
 -- what our Version offers: 3.1.5 and 3.2, the table's site id and SXL version
 pub record Ours (m : Machine) (own : Offer) : Type 0 where
   pub site : Label
@@ -51,6 +60,7 @@ pub record Ours (m : Machine) (own : Offer) : Type 0 where
 -- "Version RSMP (each entry vers), siteId (each sId), SXL"
 pub record VersionReads (j : Json) (f : VersionFields) : Type 0 where
   pub verdict : isType "Version" j ≡ true → f .verdict ≡ verdictIn j
+  pub reason : isType "Version" j ≡ true → (m : Machine) (l : ℕ) → furtherReason m l j ≡ failed (checked m j)
   pub judged : f .verdict ≡ Good → (m : Machine) (own : Offer) → Ours m own → judge own (f .offer) ≡ checked m j
 
 pub record Claims : Type 0 where
