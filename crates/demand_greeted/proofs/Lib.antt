@@ -1,0 +1,5 @@
+pub mod Lives
+pub mod Apart
+pub mod Kept
+pub mod Goes
+pub mod Demand
