@@ -1,0 +1,2 @@
+-- It happens: the machine is none that refuses everything, says nothing, or only pretends to send.
+pub mod Pumped
