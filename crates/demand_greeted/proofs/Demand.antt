@@ -30,7 +30,7 @@ use Rattle.demand_greeted.proofs.Kept.{Kept, kept-down, goes-on}
 use Rattle.demand_greeted.proofs.Goes.{goes}
 
 module _ (m : Machine) (c : Call) where
-  by-number : {P : Type 0} → (numberOf m c ≡ none → P) → ((n : ℕ) → numberOf m c ≡ some n → P) → P
+  pub by-number : {P : Type 0} → (numberOf m c ≡ none → P) → ((n : ℕ) → numberOf m c ≡ some n → P) → P
   by-number {P} f g = go (numberOf m c) refl
     where
       go : (o : Option ℕ) → numberOf m c ≡ o → P
@@ -38,7 +38,7 @@ module _ (m : Machine) (c : Call) where
       go (some n) e = g n e
 
 -- the setup stays
-same-setup : {s : Start} {h : List Past} {m : Machine} → Run s h m → (c : Call) → step m c .1 .setup ≡ m .setup
+pub same-setup : {s : Start} {h : List Past} {m : Machine} → Run s h m → (c : Call) → step m c .1 .setup ≡ m .setup
 same-setup {m = m} r c =
     by-number m c
     (λ e. rw (step-done m c e) (lays m (run-sound r .primary) (c .time) (c .act) (there m (c .time) (c .act) (λ q. let z : _≡_ {A = ℕ} 0 1 = cc in omega arith)) .frame .setup))
