@@ -46,6 +46,8 @@ use Rattle.demand_happens.proofs.Pumped.{pump-effect}
 use Rattle.demand_happens.proofs.Sized.{run-sized}
 use Rattle.demand_happens.proofs.Limits.{run-limit}
 use Rattle.demand_happens.proofs.Packets.{its-own, version-plain, version-reason, version-heard, version-carried, watchdog-plain, watchdog-reason, watchdog-heard, watchdog-carried}
+use Rattle.demand_happens.proofs.Example.{begun-example}
+use Rattle.demand_happens.proofs.Conversation.{greets-example, up-example}
 use Rattle.demand_happens.proofs.After.{set-at, is-there, life-after, meanwhile-life, answer-life, plain-life}
 
 -- ---- what a stage is in a life
@@ -227,4 +229,11 @@ is-down : (k : Life) → isDown k ≡ true → k .connected ≡ false
 is-down k e = not-true (k .connected) e
 
 pub greeting : Greeting
-greeting = record { comes-up = λ s h m r l here d cs g. greets-up s l r here (is-down (lifeAt m l) d) g }
+greeting =
+    record {
+      comes-up = λ s h m r l here d cs g. greets-up s l r here (is-down (lifeAt m l) d) g;
+      from-start = begun-example;
+      is-down = refl;
+      greets = greets-example;
+      is-up = up-example;
+    }

@@ -4,4 +4,6 @@ pub mod Sized
 pub mod Limits
 pub mod Packets
 pub mod After
+pub mod Example
+pub mod Conversation
 pub mod Greeting

@@ -17,9 +17,11 @@ use Rattle.machine.specs.Answers.{isReadable, needs, isMissing, isBad}
 use Rattle.machine.specs.Effects.{ownIdentity}
 use Rattle.machine.specs.Step.{step, leaves}
 use Rattle.machine.specs.Run.{Past, Run}
+use Rattle.machine.specs.Example.{started}
 use Rattle.demand_told.specs.Demand.{linkOf}
 use Rattle.demand_greeted.specs.Greeted.{IsGoodVersion, IsTheirWatchdog}
 use Rattle.demand_happens.specs.Pumped.{at, Timely}
+use Rattle.demand_happens.specs.Example.{start, conversation}
 
 -- a packet call as a host makes it, of a packet that is this JSON value
 pub record Arrives (m : Machine) (t : ℕ) (bytes : Bytes) (room : ℕ) (j : Json) : Type 0 where
@@ -95,3 +97,8 @@ pub data Greets (l : ℕ) : Machine → Stage → List Call → Type 0 where
 pub record Greeting : Type 0 where
   pub comes-up : (s : Start) (h : List Past) (m : Machine) → Run s h m → (l : ℕ) → l < m .setup .links → isDown (lifeAt m l) ≡ true
       → (cs : List Call) → Greets l m down cs → isUp (lifeAt (leaves m cs) l) ≡ true
+  -- such calls, computed
+  pub from-start : Run start [] (started 2)
+  pub is-down : isDown (lifeAt (started 2) 0) ≡ true
+  pub greets : Greets 0 (started 2) down conversation
+  pub is-up : isUp (lifeAt (leaves (started 2) conversation) 0) ≡ true
