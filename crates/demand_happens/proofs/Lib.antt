@@ -7,3 +7,6 @@ pub mod After
 pub mod Example
 pub mod Conversation
 pub mod Greeting
+pub mod Counts
+pub mod Round
+pub mod Records
