@@ -51,7 +51,7 @@ use Rattle.demand_happens.specs.Greeting.Greets.{
 }
 use Rattle.demand_happens.specs.Example.{conversation}
 
-timely : (m : Machine) (t : ℕ) → leb (m .last) t ≡ true → leb t lastTime ≡ true → Timely m t
+pub timely : (m : Machine) (t : ℕ) → leb (m .last) t ≡ true → leb t lastTime ≡ true → Timely m t
 timely m t a b = record { in-order = leb-true (m .last) t a; in-range = leb-true t lastTime b }
 
 value-no-tick : (i : ℕ) (v : ℤ) → statusValue i v ≡ tick → ⊥

@@ -1,4 +1,4 @@
--- The example's start is accepted.
+-- The example's start is accepted, and calls go on from it.
 -- Assumes nothing.
 use Prim.Native.Nat.{ℕ, zero, suc, _<_}
 use mathlib.Core.Path.{_≡_, refl, ap}
@@ -13,10 +13,12 @@ use Rattle.table_whole.specs.Allowed.Every.{none, more}
 use Rattle.machine.specs.Words.{Bytes}
 use Rattle.machine.specs.Table.{Begins}
 use Rattle.machine.specs.Table.Begins.{begins}
-use Rattle.machine.specs.Run.{Run}
-use Rattle.machine.specs.Run.Run.{begun}
+use Rattle.machine.specs.State.{Start, Machine, Call}
+use Rattle.machine.specs.Step.{leaves}
+use Rattle.machine.specs.Run.{Past, Run}
+use Rattle.machine.specs.Run.Run.{begun, next}
 use Rattle.machine.specs.Example.{table, started}
-use Rattle.demand_happens.specs.Example.{start}
+use Rattle.demand_happens.specs.Example.{start, pasts}
 
 -- of one place there are no two
 one-place : (i j : ℕ) → i < 1 → j < 1 → i ≡ j
@@ -50,3 +52,7 @@ allowed =
 
 pub begun-example : Run start [] (started 2)
 begun-example = begun (begins {t = table} allowed refl refl)
+
+pub goes-on : {s : Start} {h : List Past} {m : Machine} → Run s h m → (cs : List Call) → Run s (pasts h m cs) (leaves m cs)
+goes-on r [] = r
+goes-on r (c ∷ cs) = goes-on (next c r) cs

@@ -9,4 +9,5 @@ pub mod Conversation
 pub mod Greeting
 pub mod Counts
 pub mod Round
+pub mod Rounds
 pub mod Records

@@ -37,6 +37,9 @@ use Rattle.demand_happens.specs.Pumped.{at}
 use Rattle.demand_happens.specs.Records.{nextBeat, IsRound, Rounds, isBefore, ahead, GoesOut, Sending}
 use Rattle.demand_happens.specs.Records.Rounds.{over, round, beat}
 use Rattle.demand_happens.specs.Records.GoesOut.{at-once, later}
+use Rattle.demand_happens.specs.Example.{inputs}
+use Rattle.demand_happens.proofs.Example.{begun-example, goes-on}
+use Rattle.demand_happens.proofs.Rounds.{holds-three, three-rounds, counted-three, told-three}
 use Rattle.demand_happens.proofs.Counts.{gone, count-gone, count-one-gone, still-there, some-counted, one-number, Oldest, oldest, Newest, newest-of}
 use Rattle.demand_happens.proofs.Round.{
   up-connected,
@@ -306,4 +309,10 @@ sending =
     record {
       goes-out = λ s h m r l here up alone x among link unsent n cs rounds few.
           goes-out l x r (record { configured = here; up = up; alone = alone; among = among; link = link; unsent = unsent }) rounds few;
+      from-start = goes-on begun-example inputs;
+      holds-three = holds-three;
+      is-up = refl;
+      rounds = three-rounds;
+      counted = counted-three;
+      told = told-three;
     }

@@ -8,7 +8,9 @@ use mathlib.Core.List.{List, [], _∷_}
 use mathlib.Core.Option.{some, none}
 use lib.Dec.{leb}
 use Rattle.basis.specs.Lists.{count}
+use Rattle.basis.specs.Text.{text}
 use Rattle.json_value.specs.Grammar.{Json}
+use Rattle.write_message.specs.Message.Message.{aggregated}
 use Rattle.machine.specs.Words.{Bytes, _and_}
 use Rattle.machine.specs.State.{Held, Awaited, Start, Machine, lifeAt, Call}
 use Rattle.machine.specs.State.Sent.{theRecord}
@@ -19,10 +21,12 @@ use Rattle.machine.specs.Answers.{isAnswer}
 use Rattle.machine.specs.Pool.{isFor}
 use Rattle.machine.specs.Messages.{recordMessage}
 use Rattle.machine.specs.Effects.{ownIdentity}
-use Rattle.machine.specs.Step.{step}
+use Rattle.machine.specs.Step.{step, outcomes, leaves}
 use Rattle.machine.specs.Run.{Past, Run, Among}
+use Rattle.machine.specs.Example.{noon, started, own, quiet, says, alarmNow}
 use Rattle.demand_happens.specs.Pumped.{at, Timely}
 use Rattle.demand_happens.specs.Greeting.{Arrives, Answers}
+use Rattle.demand_happens.specs.Example.{start, pasts, inputs, theAggregatedRecord, holding, threeRounds}
 
 -- "Watchdog a period or more after the last"
 abbrev pub nextBeat : Machine → ℕ → ℕ
@@ -65,3 +69,13 @@ pub record Sending : Type 0 where
   pub goes-out : (s : Start) (h : List Past) (m : Machine) → Run s h m → (l : ℕ) → l < m .setup .links → isUp (lifeAt m l) ≡ true → lifeAt m l .awaited ≡ []
       → (x : Held) → Among x (m .pool .held) → x .link ≡ l → x .sent ≡ false
       → (n : ℕ) (cs : List Call) → Rounds l m n cs → ahead m l x ≤ n → GoesOut l x m cs
+  -- such calls, computed
+  pub from-start : Run start (pasts [] (started 2) inputs) (leaves (started 2) inputs)
+  pub holds-three : leaves (started 2) inputs ≡ holding
+  pub is-up : isUp (lifeAt holding 0) ≡ true
+  pub rounds : Rounds 0 holding 3 threeRounds
+  pub counted : ahead holding 0 theAggregatedRecord ≡ 3
+  pub told : outcomes holding threeRounds
+      ≡ says (aggregated (own 3) (text "C0") noon 1 ∷ []) ∷ quiet
+      ∷ says (alarmNow 4 0 noon false true false ∷ []) ∷ quiet
+      ∷ says (aggregated (own 5) (text "C0") noon 1 ∷ []) ∷ quiet ∷ []
