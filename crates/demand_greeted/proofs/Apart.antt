@@ -2,21 +2,20 @@
 -- Assumes nothing.
 use Prim.Native.Nat.{ℕ}
 use Prim.Native.String.{String}
-use mathlib.Core.Path.{_≡_, refl, sym, _∙_, ap}
-use mathlib.Core.Bool.{Bool, true, false}
-use mathlib.Core.List.{List, [], _∷_}
+use mathlib.Core.Path.{_≡_, refl, _∙_}
+use mathlib.Core.Bool.{Bool, false}
+use mathlib.Core.List.{List, []}
 use mathlib.Core.Option.{Option, some, none}
 use lib.Dec.{eqb}
 use native.Mathlib.Omega.{arith}
-use Rattle.basis.specs.Pick.{pick}
 use Rattle.basis.proofs.Cases.{picked}
 use Rattle.json_value.specs.Grammar.{Json}
 use Rattle.write_message.specs.Message.{Message}
-use Rattle.machine.specs.Words.{Bytes, maybe, isNumber, any}
+use Rattle.machine.specs.Words.{Bytes, isNumber, any}
 use Rattle.machine.specs.State.{Alarm, Sent, Awaited, Life, fresh, Machine, withLife, lifeAt, valueAt, Act, Effect, effect, only}
 use Rattle.machine.specs.State.Act.{connect, disconnect, packet, alarmInput, statusValue, aggregatedValue, tick, pump}
 use Rattle.machine.specs.Json.{readPacket, stringOf, isType}
-use Rattle.machine.specs.Life.{close, closeAll, awaitedBy, awaiting, answeredTo, Due, due}
+use Rattle.machine.specs.Life.{awaitedBy, awaiting, answeredTo, Due, due}
 use Rattle.machine.specs.Answers.{isAnswer, wantsReply, reasonOf, failsCheck}
 use Rattle.machine.specs.Items.{isNew, happens, subscribe, unsubscribe, intervals, becomes, aggregates}
 use Rattle.machine.specs.Effects.{
@@ -41,16 +40,16 @@ use Rattle.machine.specs.Effects.{
   receives,
   effectOf,
 }
-use Rattle.demand_held.proofs.Lists.{maybe-cases, clash}
+use Rattle.demand_held.proofs.Lists.{maybe-cases}
 use Rattle.demand_told.specs.Demand.{linkOf}
 use Rattle.demand_greeted.proofs.Lives.{set-other, not-named, apart-from, closed-other, all-other}
 
 -- what the pool's marks are does not show in a life
-pub mark-life : (message : Sent) (m : Machine) (l : ℕ) → lifeAt (markSent message m) l ≡ lifeAt m l
-mark-life message m l = maybe-cases (λ (k : Machine). lifeAt k l ≡ lifeAt m l) m _ (carried message) (λ e. refl) (λ n e. refl)
+pub mark-lives : (message : Sent) (m : Machine) → markSent message m .lives ≡ m .lives
+mark-lives message m = maybe-cases (λ (k : Machine). k .lives ≡ m .lives) m _ (carried message) (λ e. refl) (λ n e. refl)
 
-pub settle-life : (k : ℕ) (message : Sent) (m : Machine) (l : ℕ) → lifeAt (settle k message m) l ≡ lifeAt m l
-settle-life k message m l = maybe-cases (λ (k : Machine). lifeAt k l ≡ lifeAt m l) m _ (carried message) (λ e. refl) (λ n e. refl)
+pub settle-lives : (k : ℕ) (message : Sent) (m : Machine) → settle k message m .lives ≡ m .lives
+settle-lives k message m = maybe-cases (λ (k : Machine). k .lives ≡ m .lives) m _ (carried message) (λ e. refl) (λ n e. refl)
 
 module _ (m : Machine) (l : ℕ) where
   pub record Apart (e : Effect) : Type 0 where
@@ -79,7 +78,7 @@ module _ (m : Machine) (l : ℕ) where
     unfolding answers
     apart-answers s isAck a =
         picked Apart (answerCloses (lifeAt m k) isAck (a .message)) _ _ (λ e. apart-closes [])
-        (λ e. apart-sets (answeredTo s (acknowledges isAck (a .message) (lifeAt m k))) (settle k (a .message) m) [] none (settle-life k (a .message) m l))
+        (λ e. apart-sets (answeredTo s (acknowledges isAck (a .message) (lifeAt m k))) (settle k (a .message) m) [] none (rw (settle-lives k (a .message) m)))
 
     apart-answered : (j : Json) → Apart (answered k j m)
     unfolding answered
@@ -115,7 +114,7 @@ module _ (m : Machine) (l : ℕ) where
     apart-sends : (t : ℕ) (id : Bytes) (d : Due) → Apart (sends k t id m d)
     unfolding sends
     apart-sends t id d =
-        apart-sets (awaiting id t (sentAs m k d) (afterSending t d (lifeAt m k))) (markSent (sentAs m k d) m) _ none (mark-life (sentAs m k d) m l)
+        apart-sets (awaiting id t (sentAs m k d) (afterSending t d (lifeAt m k))) (markSent (sentAs m k d) m) _ none (rw (mark-lives (sentAs m k d) m))
 
 -- ---- every call
 pub apart : (m : Machine) (t : ℕ) (act : Act) (l : ℕ) → isNumber l (linkOf act) ≡ false → (act ≡ tick → any (eqb l) (late t m) ≡ false) → Apart m l (effectOf m t act)

@@ -1,30 +1,28 @@
 -- What is told is told to a link that was greeted in this life, over every run.
 -- Assumes nothing.
 use Prim.Native.Nat.{ℕ}
-use mathlib.Core.Path.{_≡_, refl, sym, _∙_, ap, subst}
-use mathlib.Core.Bool.{Bool, true, false}
+use mathlib.Core.Path.{_≡_, refl, _∙_}
+use mathlib.Core.Bool.{true, false}
 use mathlib.Core.List.{List, [], _∷_}
 use mathlib.Core.Option.{Option, some, none}
 use native.Mathlib.Omega.{arith}
-use Rattle.basis.specs.Pick.{both}
 use Rattle.write_message.specs.Message.{Message}
-use Rattle.machine.specs.State.{Life, fresh, Setup, Start, Machine, lifeAt, Call, Outcome}
+use Rattle.machine.specs.State.{Life, fresh, Start, Machine, lifeAt, Call}
 use Rattle.machine.specs.State.Outcome.{refused}
 use Rattle.machine.specs.Life.{isOver, isUp}
-use Rattle.machine.specs.Table.{Begins}
 use Rattle.machine.specs.Table.Begins.{begins}
 use Rattle.machine.specs.Step.{numberOf, step}
 use Rattle.machine.specs.Run.{Past, Run, Among}
 use Rattle.machine.specs.Run.Run.{begun, next}
-use Rattle.demand_held.proofs.Lists.{clash}
 use Rattle.demand_held.proofs.Lays.{lays}
-use Rattle.demand_held.proofs.Steps.{laid, step-done, step-refused, there}
+use Rattle.demand_held.proofs.Steps.{step-done, step-refused, there}
 use Rattle.demand_held.proofs.Demand.{run-sound}
 use Rattle.demand_told.specs.Demand.{messagesOf, linkOf, isTold}
 use Rattle.demand_told.proofs.Demand.{telling}
-use Rattle.demand_greeted.specs.Life.{thisLife, goingOn, lived}
+use Rattle.demand_greeted.specs.Life.{thisLife, lived}
 use Rattle.demand_greeted.specs.Greeted.{Greeted}
 use Rattle.demand_greeted.specs.Demand.{DemandGreeted}
+use Rattle.demand_greeted.proofs.Tests.{both-true}
 use Rattle.demand_greeted.proofs.Lives.{all-same}
 use Rattle.demand_greeted.proofs.Kept.{Kept, kept-down, goes-on}
 use Rattle.demand_greeted.proofs.Goes.{goes}
@@ -57,10 +55,6 @@ run-kept {s} (begun (begins {t} a e g)) u same l = all-same (fresh false) (λ k.
 run-kept (next {h} {m} c r) u same l = step-kept u m c l (thisLife l h) (same ∙ same-setup r c) (run-kept r u (same ∙ same-setup r c) l)
 
 -- ---- Up
-both-true : (a b : Bool) → both a b ≡ true → (a ≡ true) × (b ≡ true)
-both-true true b e = (refl, e)
-both-true false b e = clash e refl
-
 greeted : (u : Machine) (l : ℕ) (k : Life) (life : List Past) → Kept u l k life → isUp k ≡ true → Greeted u l life
 greeted u l k life kept up =
     record {

@@ -1,10 +1,10 @@
 -- A done call keeps a link's life true to the history.
 -- Assumes nothing.
-use Prim.Native.Nat.{ℕ, suc}
+use Prim.Native.Nat.{ℕ}
 use Prim.Native.String.{String}
-use mathlib.Core.Path.{_≡_, refl, sym, _∙_, ap}
+use mathlib.Core.Path.{_≡_, refl, sym}
 use mathlib.Core.Bool.{Bool, true, false, not}
-use mathlib.Core.List.{List, [], _∷_, _++_}
+use mathlib.Core.List.{List, [], _∷_}
 use mathlib.Core.Option.{Option, some, none}
 use mathlib.Core.Logic.{_⊎_, inl, inr}
 use lib.Dec.{eqb}
@@ -15,106 +15,38 @@ use Rattle.basis.specs.Pick.{pick, both}
 use Rattle.basis.proofs.Cases.{bool-cases, picked, eq-or-ne}
 use Rattle.json_value.specs.Grammar.{Json}
 use Rattle.write_message.specs.Message.{Message}
-use Rattle.write_message.specs.Message.Message.{version, watchdog, ack}
-use Rattle.machine.specs.Words.{Bytes, maybe, isSome, orElse, isNumber, any, firstThat, changed, firstOf}
-use Rattle.machine.specs.State.{Alarm, Held, Sent, Awaited, Life, fresh, Setup, Machine, withLife, lifeAt, alarmAt, valueAt, Act, Call, Effect, effect, only}
-use Rattle.machine.specs.State.Sent.{ourVersion, ourWatchdog, noRecord, theRecord}
+use Rattle.write_message.specs.Message.Message.{version, ack}
+use Rattle.machine.specs.Words.{Bytes, orElse, isNumber, any, changed, firstOf}
+use Rattle.machine.specs.State.{Alarm, Awaited, Life, fresh, Machine, withLife, lifeAt, Act, Effect, effect, only}
+use Rattle.machine.specs.State.Sent.{noRecord}
 use Rattle.machine.specs.State.Act.{connect, disconnect, packet, alarmInput, statusValue, aggregatedValue, tick, pump}
 use Rattle.machine.specs.Json.{readPacket, stringOf, elementIs, isType, isIdentityOf}
-use Rattle.machine.specs.Life.{
-  nowTaken,
-  withWatchdogs,
-  common,
-  namesSite,
-  equalSxl,
-  awaitedBy,
-  withAwaited,
-  awaiting,
-  answeredTo,
-  alarmIn,
-  sameAlarm,
-  newest,
-  carries,
-  carriedBy,
-  Due,
-  due,
-}
-use Rattle.machine.specs.Life.Due.{theVersion, theWatchdog, theAggregated, theAlarm, theHeld}
-use Rattle.machine.specs.Answers.{isAnswer, isReadable, awaitedHere, isIgnored, wantsReply, reasons, reasonOf, failsCheck}
+use Rattle.machine.specs.Life.{nowTaken, withWatchdogs, common, namesSite, equalSxl, awaitedBy, awaiting, answeredTo, Due, due}
+use Rattle.machine.specs.Answers.{isAnswer, awaitedHere, isIgnored, wantsReply, reasons, reasonOf, failsCheck}
 use Rattle.machine.specs.Items.{happens, subscribe, unsubscribe, intervals}
-use Rattle.machine.specs.Effects.{
-  connects,
-  closes,
-  late,
-  ticks,
-  ownIdentity,
-  dueMessage,
-  sentAs,
-  afterSending,
-  markSent,
-  sends,
-  answerCloses,
-  acknowledges,
-  settle,
-  answers,
-  answered,
-  refusal,
-  refuses,
-  agreed,
-  carriedOut,
-  replyMessage,
-  replying,
-  receives,
-  effectOf,
-}
+use Rattle.machine.specs.Effects.{connects, closes, late, ticks, ownIdentity, sentAs, afterSending, markSent, sends, answerCloses, acknowledges, settle, answers, answered, refusal, refuses, agreed, carriedOut, replyMessage, replying, receives, effectOf}
 use Rattle.machine.specs.Step.{conditions, outcome}
 use Rattle.machine.specs.Run.{Past, Among}
 use Rattle.machine.specs.Run.Among.{here, later}
-use Rattle.demand_held.proofs.Lists.{maybe-cases, clash, Each, each-append, each-butFirst}
-use Rattle.demand_held.proofs.Lists.Each.{no-more, one-more}
+use Rattle.demand_held.proofs.Lists.{maybe-cases, clash}
 use Rattle.demand_told.specs.Demand.{messagesOf, linkOf}
 use Rattle.demand_told.proofs.Replies.{none-at}
-use Rattle.demand_greeted.specs.Life.{connectedBy, opens, ends, goingOn, lived}
-use Rattle.demand_greeted.specs.Greeted.{Within, IsVersion, IsWatchdog, Wrote, Came, Acknowledged, Answered, IsGoodVersion, IsTheirWatchdog}
-use Rattle.demand_greeted.specs.Greeted.IsVersion.{is-version}
-use Rattle.demand_greeted.specs.Greeted.IsWatchdog.{is-watchdog}
-use Rattle.demand_greeted.specs.Greeted.Wrote.{wrote}
+use Rattle.demand_greeted.specs.Life.{connectedBy, goingOn, lived}
+use Rattle.demand_greeted.specs.Greeted.{Came, IsGoodVersion}
 use Rattle.demand_greeted.specs.Greeted.Came.{came}
-use Rattle.demand_greeted.specs.Greeted.Acknowledged.{acknowledged}
 use Rattle.demand_greeted.specs.Greeted.Answered.{answered as answered-by}
-use Rattle.demand_greeted.proofs.Lives.{set-there, closed-there, all-there, apart-from}
+use Rattle.demand_greeted.proofs.Tests.{must, no-not, both-true, found}
+use Rattle.demand_greeted.proofs.Lives.{set-there, closed-there, all-there}
 use Rattle.demand_greeted.proofs.Apart.{Apart, apart, apart-tick}
-use Rattle.demand_greeted.proofs.Kept.{Backed, BackedBy, Kept, kept-down, kept-opened, still, now, still-backed, goes-on}
-
--- ---- small tests
-must : (a b : Bool) → a ≡ true → both a (not b) ≡ false → b ≡ true
-must a true e f = refl
-must true false e f = clash refl f
-must false false e f = e
-
-no-not : (b : Bool) → not b ≡ false → b ≡ true
-no-not true e = refl
-no-not false e = clash refl e
-
-both-first : (a b : Bool) → both a b ≡ true → a ≡ true
-both-first true b e = refl
-both-first false b e = e
-
--- the first that passes passes, and is as all are
-found : {A : Type 0} {P : A → Type 0} (f : A → Bool) (xs : List A) (x : A) → Each P xs → firstThat f xs ≡ some x → P x × (f x ≡ true)
-found f [] x no-more e = absurd (let z : _≡_ {A = ℕ} 0 1 = cc in omega arith)
-found {A} {P} f (y ∷ xs) x (one-more p r) e = go (f y) refl e (found f xs x r)
-  where
-    go : (b : Bool) → f y ≡ b → pick b (some y) (firstThat f xs) ≡ some x → (firstThat f xs ≡ some x → P x × (f x ≡ true)) → P x × (f x ≡ true)
-    go true g q s = let same : y ≡ x = cc in (rw same at p, rw same at g)
-    go false g q s = s q
+use Rattle.demand_greeted.proofs.Turns.{acked, accepted, taken, sent, waits, awaits, unawaits}
+use Rattle.demand_greeted.proofs.Kept.{BackedBy, Kept, kept-down, kept-opened, goes-on}
 
 answer-marked : (k : Life) (j : Json) → isAnswer j ≡ true → isIgnored k (some j) ≡ false → elementIs "mType" "rSMsg" j ≡ true
 unfolding isIgnored
 answer-marked k j is e = go (isAnswer j) (elementIs "mType" "rSMsg" j) (awaitedHere k j) _ is e
   where
     go : (a b c d : Bool) → a ≡ true → pick a (not (both b c)) d ≡ false → b ≡ true
-    go true b c d is e = both-first b c (no-not (both b c) e)
+    go true b c d is e = both-true b c (no-not (both b c) e) .0
     go false b c d is e = clash is refl
 
 -- ---- what a packet says where no reason applies
@@ -161,120 +93,6 @@ module _ (u m : Machine) (same : u .setup ≡ m .setup) (t : ℕ) (act : Act) (l
       bool-cases (any (eqb l) (late t m))
       (λ e. falls (ticks t m) (λ P p. all-there P l (late t m) m e p))
       (λ e. stays (ticks t m) n (apart-tick m l t e))
-
--- ---- what a life of link l becomes in a call p of it
--- a life with the same flags and the same awaited
-alike : {u : Machine} {l : ℕ} {k : Life} {life : List Past} (x : Life) → Kept u l k life → x .connected ≡ k .connected
-    → x .versions .acknowledged ≡ k .versions .acknowledged → x .versions .taken ≡ k .versions .taken
-    → x .watchdogs .acknowledged ≡ k .watchdogs .acknowledged → x .watchdogs .taken ≡ k .watchdogs .taken → x .awaited ≡ k .awaited → Kept u l x life
-alike x kept c va vt wa wt ids =
-    record {
-      there = λ e. kept .there (sym c ∙ e);
-      our-version = λ e. kept .our-version (sym va ∙ e);
-      their-version = λ e. kept .their-version (sym vt ∙ e);
-      our-watchdog = λ e. kept .our-watchdog (sym wa ∙ e);
-      their-watchdog = λ e. kept .their-watchdog (sym wt ∙ e);
-      awaited = rw ids (kept .awaited);
-    }
-
-module _ (u : Machine) (l : ℕ) (k : Life) (life : List Past) (kept : Kept u l k life) (p : Past) (lives : life ≡ [] → ⊥) where
-  abbrev Goal : Life → Type 0
-  Goal x = Kept u l x (goingOn p life)
-
-  carried-backed : (m : Machine) (i : ℕ) (id : Bytes) → Backed l (goingOn p life) id (carriedBy m l i)
-  unfolding carriedBy
-  carried-backed m i id =
-      maybe-cases (Backed l (goingOn p life) id) noRecord (carries (alarmAt m i) i) (newest l i none (m .pool .held)) (λ e. tt)
-      (λ h e. picked (Backed l (goingOn p life) id) (maybe false (sameAlarm (alarmAt m i)) (alarmIn i (h .content))) (theRecord (h .sequence)) noRecord (λ f. tt) (λ f. tt))
-
-  same-life : Goal k
-  same-life = goes-on p kept
-
-  -- their MessageAck of one of ours, or any answer to another
-  acked : (id : Bytes) (j : Json) → Came l j p → elementIs "mType" "rSMsg" j ≡ true → isIdentityOf id (stringOf "oMId" j) ≡ true
-      → (message : Sent) → Backed l life id message → Goal (acknowledges (isType "MessageAck" j) message k)
-  acked id j c marked own ourVersion b =
-      picked Goal (isType "MessageAck" j) _ k
-      (λ e. record {
-        there = same-life .there;
-        our-version = λ f. now p life lives (acknowledged b c marked e own);
-        their-version = same-life .their-version;
-        our-watchdog = same-life .our-watchdog;
-        their-watchdog = same-life .their-watchdog;
-        awaited = same-life .awaited;
-      })
-      (λ e. same-life)
-  acked id j c marked own ourWatchdog b =
-      picked Goal (isType "MessageAck" j) _ k
-      (λ e. record {
-        there = same-life .there;
-        our-version = same-life .our-version;
-        their-version = same-life .their-version;
-        our-watchdog = λ f. now p life lives (acknowledged b c marked e own);
-        their-watchdog = same-life .their-watchdog;
-        awaited = same-life .awaited;
-      })
-      (λ e. same-life)
-  acked id j c marked own noRecord b = same-life
-  acked id j c marked own (theRecord n) b = same-life
-
-  -- theirs is accepted, or taken
-  accepted : (chosen : List ℕ) → Answered l (IsGoodVersion u) p life → Goal (agreed chosen k)
-  accepted chosen a =
-      record {
-        there = same-life .there;
-        our-version = same-life .our-version;
-        their-version = λ f. now p life lives a;
-        our-watchdog = same-life .our-watchdog;
-        their-watchdog = same-life .their-watchdog;
-        awaited = same-life .awaited;
-      }
-
-  taken : Answered l IsTheirWatchdog p life → Goal (withWatchdogs (nowTaken (k .watchdogs)) k)
-  taken a =
-      record {
-        there = same-life .there;
-        our-version = same-life .our-version;
-        their-version = same-life .their-version;
-        our-watchdog = same-life .our-watchdog;
-        their-watchdog = λ f. now p life lives a;
-        awaited = same-life .awaited;
-      }
-
-  -- ours goes out
-  sent : (t : ℕ) (d : Due) → Goal (afterSending t d k)
-  sent t theVersion = alike (afterSending t theVersion k) same-life refl refl refl refl refl refl
-  sent t theWatchdog = alike (afterSending t theWatchdog k) same-life refl refl refl refl refl refl
-  sent t theAggregated = alike (afterSending t theAggregated k) same-life refl refl refl refl refl refl
-  sent t (theAlarm i) = alike (afterSending t (theAlarm i) k) same-life refl refl refl refl refl refl
-  sent t (theHeld h) = same-life
-
-  waits : (id : Bytes) (m : Machine) (t : ℕ) (d : Due) → linkOf (p .call .act) ≡ some l → messagesOf (p .gave) ≡ dueMessage m t id d ∷ []
-      → Backed l (goingOn p life) id (sentAs m l d)
-  waits id m t theVersion f e = now p life lives (wrote {w = version id (m .setup .table .site) (m .setup .table .sxl)} f (rw e here) is-version)
-  waits id m t theWatchdog f e = now p life lives (wrote {w = watchdog id t} f (rw e here) is-watchdog)
-  waits id m t theAggregated f e = tt
-  waits id m t (theAlarm i) f e = carried-backed m i id
-  waits id m t (theHeld h) f e = tt
-
--- one more is awaited, or one fewer
-module _ {u : Machine} {l : ℕ} {k : Life} {life : List Past} (kept : Kept u l k life) where
-  with-ids : (ids : List Awaited) → Each (BackedBy l life) ids → Kept u l (withAwaited ids k) life
-  with-ids ids each =
-      record {
-        there = kept .there;
-        our-version = kept .our-version;
-        their-version = kept .their-version;
-        our-watchdog = kept .our-watchdog;
-        their-watchdog = kept .their-watchdog;
-        awaited = each;
-      }
-
-  awaits : (id : Bytes) (t : ℕ) (message : Sent) → Backed l life id message → Kept u l (awaiting id t message k) life
-  awaits id t message b = with-ids (awaiting id t message k .awaited) (each-append (kept .awaited) (one-more b no-more))
-
-  unawaits : (s : Bytes) → Kept u l (answeredTo s k) life
-  unawaits s = with-ids (answeredTo s k .awaited) (each-butFirst (λ a. isIdentityOf (a .identity) s) (kept .awaited))
 
 -- what is carried out closes nothing
 abbrev Open : Effect → Type 0

@@ -2,17 +2,15 @@
 -- Assumes nothing.
 use Prim.Native.Nat.{ℕ, zero, suc}
 use mathlib.Core.Path.{_≡_, refl, sym, _∙_, ap}
-use mathlib.Core.Bool.{Bool, true, false}
+use mathlib.Core.Bool.{true, false}
 use mathlib.Core.List.{List, [], _∷_}
-use mathlib.Core.Logic.{_⊎_, inl, inr}
 use lib.Dec.{eqb}
 use lib.ListN.{getD, replicate}
 use native.Mathlib.Omega.{arith}
-use borrow.Author.Tests.{eqb-true, eqb-false, ne-eqb, eq-eqb}
-use Rattle.basis.specs.Pick.{pick}
-use Rattle.basis.proofs.Cases.{bool-cases, eq-or-ne}
+use borrow.Author.Tests.{eqb-true, eqb-false, ne-eqb}
+use Rattle.basis.proofs.Cases.{bool-cases}
 use Rattle.machine.specs.Words.{any, changed}
-use Rattle.machine.specs.State.{Life, fresh, Machine, lifeAt, withLife}
+use Rattle.machine.specs.State.{Life, fresh, Machine, lifeAt}
 use Rattle.machine.specs.Life.{close, closeAll}
 use Rattle.demand_held.proofs.Lists.{clash, neither}
 

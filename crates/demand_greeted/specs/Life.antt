@@ -5,7 +5,6 @@ use mathlib.Core.Bool.{Bool, true, false}
 use mathlib.Core.List.{List, [], _∷_}
 use mathlib.Core.Option.{Option, some, none}
 use lib.Dec.{eqb}
-use Rattle.write_message.specs.Message.{Message}
 use Rattle.machine.specs.Words.{if_then_else_, _and_, isNumber, any}
 use Rattle.machine.specs.State.{Act, Outcome}
 use Rattle.machine.specs.State.Act.{connect, disconnect, packet, alarmInput, statusValue, aggregatedValue, tick, pump}

@@ -1,10 +1,10 @@
 -- The life of a link after a done call of it, and after a call in between.
 -- Assumes nothing.
 use Prim.Native.Nat.{ℕ, zero, suc, _≤_, _<_}
-use mathlib.Core.Path.{_≡_, refl, sym, _∙_, ap, subst}
+use mathlib.Core.Path.{_≡_, refl, _∙_, ap, subst}
 use mathlib.Core.Bool.{Bool, true, false}
 use mathlib.Core.List.{List, [], _∷_}
-use mathlib.Core.Option.{Option, some, none}
+use mathlib.Core.Option.{some, none}
 use lib.Dec.{eqb}
 use lib.ListN.{length, getD}
 use native.Mathlib.Omega.{arith}
@@ -13,19 +13,17 @@ use Rattle.basis.specs.Pick.{pick}
 use Rattle.basis.proofs.Cases.{bool-cases}
 use Rattle.json_value.specs.Grammar.{Json}
 use Rattle.write_message.specs.Message.Message.{ack}
-use Rattle.machine.specs.Words.{Bytes, keep, any, isNumber, changed, upTo}
-use Rattle.machine.specs.State.{Awaited, Life, fresh, Machine, lifeAt, withLife, Act, Call, Outcome, Effect, effect, only}
-use Rattle.machine.specs.State.Act.{packet, tick}
-use Rattle.machine.specs.State.Outcome.{refused}
+use Rattle.machine.specs.Words.{Bytes, keep, any, changed, upTo}
+use Rattle.machine.specs.State.{Awaited, Life, fresh, Machine, lifeAt, withLife, Act, Call, Effect, effect, only}
+use Rattle.machine.specs.State.Act.{packet}
 use Rattle.machine.specs.Json.{stringOf, isType}
 use Rattle.machine.specs.Table.{lastSequence}
 use Rattle.machine.specs.Life.{answeredTo, isLate}
 use Rattle.machine.specs.Answers.{isAnswer, isIgnored, reasonOf}
-use Rattle.machine.specs.Effects.{ownIdentity, late, answerCloses, acknowledges, settle, carriedOut, receives, effectOf}
+use Rattle.machine.specs.Effects.{ownIdentity, answerCloses, acknowledges, settle, carriedOut, receives, effectOf}
 use Rattle.machine.specs.Step.{numberOf, step}
 use Rattle.demand_held.proofs.Lists.{clash}
 use Rattle.demand_held.proofs.Steps.{step-done, step-refused, refused-number}
-use Rattle.demand_told.specs.Demand.{linkOf}
 use Rattle.demand_greeted.proofs.Apart.{apart}
 use Rattle.demand_greeted.proofs.Demand.{by-number}
 use Rattle.demand_happens.specs.Pumped.{at}

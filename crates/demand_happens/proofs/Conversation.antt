@@ -1,12 +1,10 @@
 -- The example follows the greeting.
 -- Assumes nothing.
-use Prim.Native.Nat.{ℕ, _+_, _≤_}
+use Prim.Native.Nat.{ℕ, _+_}
 use mathlib.Core.Path.{_≡_, refl}
-use mathlib.Core.Bool.{Bool, true, false}
-use mathlib.Core.List.{List, [], _∷_}
-use mathlib.Core.Option.{Option, some, none}
+use mathlib.Core.Bool.{true}
 use lib.Dec.{lit≤, leb}
-use lib.IntN.{ℤ, pos}
+use lib.IntN.{ℤ}
 use native.Mathlib.Omega.{arith}
 use borrow.Author.Tests.{leb-true}
 use Rattle.basis.specs.Text.{text}
@@ -22,8 +20,7 @@ use Rattle.calendar.specs.Days.{leapOf, years, months, dayOf}
 use Rattle.calendar.specs.Civil.{yearFrom, monthFrom, dateOf}
 use Rattle.calendar.specs.Text.{secondText, milliText, timeText}
 use Rattle.calendar.specs.Read.{readSecond, readMilli, readTime}
-use Rattle.machine.specs.Words.{Bytes, changed}
-use Rattle.machine.specs.State.{Machine, lifeAt, Act, Call}
+use Rattle.machine.specs.State.{Machine, lifeAt}
 use Rattle.machine.specs.State.Act.{connect, statusValue, tick}
 use Rattle.machine.specs.Json.{versionIn}
 use Rattle.machine.specs.Table.{lastTime}
@@ -32,9 +29,9 @@ use Rattle.machine.specs.Answers.{isIgnored, needs, reasons}
 use Rattle.machine.specs.Items.{intervals, becomes}
 use Rattle.machine.specs.Effects.{connects, closes, ticks, sends, answers, answered, refuses, carriedOut, replying, receives, effectOf}
 use Rattle.machine.specs.Step.{conditions, step, leaves}
-use Rattle.machine.specs.Example.{started, noon, later, random, own, gets}
-use Rattle.demand_happens.specs.Pumped.{at, Timely}
-use Rattle.demand_happens.specs.Greeting.{Arrives, Answers, WellFormed, Greets}
+use Rattle.machine.specs.Example.{started, noon}
+use Rattle.demand_happens.specs.Pumped.{Timely}
+use Rattle.demand_happens.specs.Greeting.{Greets}
 use Rattle.demand_happens.specs.Greeting.Ours.{acknowledged}
 use Rattle.demand_happens.specs.Greeting.Stage.{down}
 use Rattle.demand_happens.specs.Greeting.Meanwhile.{not-done, elsewhere}

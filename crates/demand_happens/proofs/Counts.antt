@@ -1,26 +1,27 @@
 -- What a round does to the list of held records: the one that a message carried is marked sent, and its answer settles it.
 -- Assumes nothing.
-use Prim.Native.Nat.{ℕ, suc, _+_, _≤_, _<_}
-use mathlib.Core.Path.{_≡_, refl, sym, _∙_, ap, subst}
+use Prim.Native.Nat.{ℕ, suc, _+_, _≤_}
+use mathlib.Core.Path.{_≡_, refl, subst}
 use mathlib.Core.Bool.{Bool, true, false, not}
 use mathlib.Core.List.{List, [], _∷_, map}
-use mathlib.Core.Option.{Option, some, none}
+use mathlib.Core.Option.{Option, some}
 use mathlib.Core.Logic.{_⊎_, inl, inr}
 use lib.Dec.{eqb, leb}
 use native.Mathlib.Omega.{arith}
-use borrow.Author.Tests.{eq-eqb, ne-eqb, eqb-true, le-leb}
+use borrow.Author.Tests.{eq-eqb, ne-eqb}
 use Rattle.basis.specs.Pick.{pick, both, bit}
 use Rattle.basis.specs.Lists.{count}
 use Rattle.basis.proofs.Cases.{bool-cases, picked}
-use Rattle.machine.specs.Words.{isSome, keep, firstThat}
+use Rattle.machine.specs.Words.{isSome, firstThat}
 use Rattle.machine.specs.State.{Held}
 use Rattle.machine.specs.Life.{alarmIn, newest}
 use Rattle.machine.specs.Pool.{isFor, settled, marked}
 use Rattle.machine.specs.Run.{Among}
 use Rattle.machine.specs.Run.Among.{here, later}
-use Rattle.demand_held.proofs.Lists.{clash, bit-true, bit-false, among-map, among-keep}
+use Rattle.demand_held.proofs.Lists.{clash, bit-true, among-map, among-keep}
 use Rattle.demand_held.proofs.Good.{Rising}
-use Rattle.demand_held.proofs.Good.Rising.{ends, rises}
+use Rattle.demand_held.proofs.Good.Rising.{rises}
+use Rattle.demand_greeted.proofs.Tests.{both-true}
 use Rattle.demand_happens.specs.Records.{isBefore}
 
 -- record n of link l, marked and settled
@@ -53,12 +54,8 @@ module _ (l n : ℕ) where
         → suc (count (isBefore l x) (gone l n hs)) ≤ count (isBefore l x) hs
     count-one-gone (h ∷ hs) here f e =
         picked (λ (r : List Held). suc (count (isBefore l x) r) ≤ bit (isBefore l x h) + count (isBefore l x) hs) (stays (marked n h)) (marked n h ∷ gone l n hs) (gone l n hs)
-        (λ g. clash g (rw (first (isFor l h) _ f, eq-eqb (h .sequence) n e)))
+        (λ g. clash g (rw (both-true (isFor l h) _ f .0, eq-eqb (h .sequence) n e)))
         (λ g. omega (arith, count-gone hs, bit-true (isBefore l x h) f))
-      where
-        first : (a b : Bool) → both a b ≡ true → a ≡ true
-        first true b e = refl
-        first false b e = e
     count-one-gone (y ∷ hs) (later a) f e =
         picked (λ (r : List Held). suc (count (isBefore l x) r) ≤ bit (isBefore l x y) + count (isBefore l x) hs) (stays (marked n y)) (marked n y ∷ gone l n hs) (gone l n hs)
         (λ g. omega (arith, marked-fewer y, count-one-gone hs a f e))
@@ -123,12 +120,8 @@ newest-of l i h found (y ∷ hs) e =
     on : Newest l i h hs → Newest l i h (y ∷ hs)
     on w = record { among = later (w .among); told = w .told }
 
-    second : (a b : Bool) → both a b ≡ true → b ≡ true
-    second true b e = e
-    second false b e = clash e refl
-
     is : both (eqb (y .link) l) (isSome (alarmIn i (y .content))) ≡ true → (some y ≡ some h) ⊎ Newest l i h hs → (found ≡ some h) ⊎ Newest l i h (y ∷ hs)
-    is g (inl q) = let same : y ≡ h = cc in inr (subst (λ (z : Held). Newest l i z (y ∷ hs)) same (record { among = here; told = second (eqb (y .link) l) _ g }))
+    is g (inl q) = let same : y ≡ h = cc in inr (subst (λ (z : Held). Newest l i z (y ∷ hs)) same (record { among = here; told = both-true (eqb (y .link) l) _ g .1 }))
     is g (inr w) = inr (on w)
 
     not-it : (found ≡ some h) ⊎ Newest l i h hs → (found ≡ some h) ⊎ Newest l i h (y ∷ hs)

@@ -1,24 +1,19 @@
 -- Calls that no number refuses.
 -- Assumes nothing.
-use Prim.Native.Nat.{ℕ, suc, _+_, _≤_, _<_}
-use mathlib.Core.Path.{_≡_, refl, sym, _∙_, ap}
-use mathlib.Core.Bool.{Bool, true, false, not}
-use mathlib.Core.List.{List, [], _∷_}
-use mathlib.Core.Option.{Option, some, none}
-use lib.Dec.{ltb, leb}
+use Prim.Native.Nat.{ℕ, _<_}
+use mathlib.Core.Path.{_≡_}
+use mathlib.Core.Bool.{true, false}
+use mathlib.Core.Option.{some, none}
 use lib.ListN.{length}
 use native.Mathlib.Omega.{arith}
 use borrow.Author.Tests.{le-ltb, lt-leb}
-use Rattle.basis.specs.Pick.{pick, both}
 use Rattle.basis.proofs.Cases.{bool-cases}
-use Rattle.machine.specs.Words.{Bytes, isSome}
-use Rattle.machine.specs.State.{Machine, lifeAt, Act, Call}
-use Rattle.machine.specs.State.Act.{connect, disconnect, packet, alarmInput, statusValue, aggregatedValue, tick, pump}
+use Rattle.machine.specs.Words.{Bytes}
+use Rattle.machine.specs.State.{Machine, lifeAt}
+use Rattle.machine.specs.State.Act.{pump}
 use Rattle.machine.specs.Table.{lastTime}
-use Rattle.machine.specs.Life.{isDown, Due, due}
-use Rattle.machine.specs.Effects.{effectOf}
-use Rattle.machine.specs.Step.{noSuchLink, badTime, isDownAt, manyAwaited, identityAwaited, conditions, numberOf}
-use Rattle.demand_held.proofs.Lists.{clash}
+use Rattle.machine.specs.Life.{Due, due}
+use Rattle.machine.specs.Step.{noSuchLink, badTime, isDownAt, conditions, numberOf}
 use Rattle.demand_happens.specs.Pumped.{at, Timely, CanPump}
 
 pub configured-link : (m : Machine) (l : ℕ) → l < m .setup .links → noSuchLink m l ≡ false

@@ -3,15 +3,12 @@
 use Prim.Native.Nat.{ℕ, zero, suc, _<_}
 use mathlib.Core.Path.{_≡_, refl, ap}
 use mathlib.Core.List.{List, [], _∷_}
-use mathlib.Core.Option.{some}
 use lib.Dec.{lit≤}
 use lib.ListN.{getD}
 use native.Mathlib.Omega.{arith}
-use Rattle.table_whole.specs.Bytes.{tableBytes}
 use Rattle.table_whole.specs.Allowed.{Allowed}
 use Rattle.table_whole.specs.Allowed.Every.{none, more}
 use Rattle.machine.specs.Words.{Bytes}
-use Rattle.machine.specs.Table.{Begins}
 use Rattle.machine.specs.Table.Begins.{begins}
 use Rattle.machine.specs.State.{Start, Machine, Call}
 use Rattle.machine.specs.Step.{leaves}

@@ -1,29 +1,28 @@
 -- Each call of a greeting brings it on, and the others leave it as it is.
 -- Assumes nothing.
 use Prim.Native.Nat.{ℕ, suc, _≤_, _<_}
-use mathlib.Core.Path.{_≡_, refl, sym, _∙_, ap, subst}
+use mathlib.Core.Path.{_≡_, refl, sym, _∙_, subst}
 use mathlib.Core.Bool.{Bool, true, false, not}
 use mathlib.Core.List.{List, [], _∷_, _++_}
-use mathlib.Core.Option.{Option, some, none}
+use mathlib.Core.Option.{some}
 use lib.ListN.{length}
 use native.Mathlib.Omega.{arith}
 use borrow.Author.Tests.{not-true}
-use Rattle.basis.specs.Pick.{pick, both}
+use Rattle.basis.specs.Pick.{both}
 use Rattle.json_value.specs.Grammar.{Json}
 use Rattle.machine.specs.Words.{Bytes, orElse}
-use Rattle.machine.specs.State.{Sent, Awaited, Exchange, exchange, Life, fresh, Setup, Start, Machine, lifeAt, withLife, Act, Call, Effect, only}
+use Rattle.machine.specs.State.{Sent, Awaited, exchange, Life, fresh, Start, Machine, lifeAt, withLife, Call, only}
 use Rattle.machine.specs.State.Sent.{ourVersion, ourWatchdog}
 use Rattle.machine.specs.State.Act.{connect, packet, pump}
 use Rattle.machine.specs.Table.{lastSequence}
 use Rattle.machine.specs.Json.{stringOf, isType}
-use Rattle.machine.specs.Life.{isOver, isDown, isBeating, isUp, isAwaited, nowTaken, withWatchdogs, common, awaiting, answeredTo, Due, due}
+use Rattle.machine.specs.Life.{isOver, isDown, isBeating, isUp, nowTaken, withWatchdogs, common, awaiting, answeredTo, Due, due}
 use Rattle.machine.specs.Life.Due.{theVersion, theWatchdog}
 use Rattle.machine.specs.Answers.{isAnswer}
-use Rattle.machine.specs.Effects.{connects, ownIdentity, sentAs, afterSending, markSent, sends, acknowledges, settle, agreed, versionAccepted, watchdogTaken, carriedOut, receives, effectOf}
-use Rattle.machine.specs.Step.{isDownAt, conditions, numberOf, step, leaves}
+use Rattle.machine.specs.Effects.{connects, ownIdentity, afterSending, sends, acknowledges, agreed, versionAccepted, watchdogTaken, effectOf}
+use Rattle.machine.specs.Step.{conditions, step, leaves}
 use Rattle.machine.specs.Run.{Past, Run}
 use Rattle.machine.specs.Run.Run.{next}
-use Rattle.demand_held.proofs.Lists.{clash}
 use Rattle.demand_greeted.specs.Greeted.{IsGoodVersion, IsTheirWatchdog}
 use Rattle.demand_greeted.proofs.Demand.{same-setup}
 use Rattle.demand_happens.specs.Pumped.{at, Timely, CanPump}

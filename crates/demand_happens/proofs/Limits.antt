@@ -1,27 +1,25 @@
 -- The next number never passes number 10's limit by more than one, over every run.
 -- Assumes nothing.
 use Prim.Native.Nat.{ℕ, suc, _+_, _≤_, _<_}
-use mathlib.Core.Path.{_≡_, refl, sym, _∙_, ap}
+use mathlib.Core.Path.{_≡_, refl, _∙_, ap}
 use mathlib.Core.Bool.{Bool, true, false}
 use mathlib.Core.List.{List, [], _∷_}
-use mathlib.Core.Option.{Option, some, none}
-use mathlib.Core.Logic.{_⊎_, inl, inr}
+use mathlib.Core.Option.{some, none}
 use lib.Dec.{ltb, leb}
 use lib.ListN.{length}
 use native.Mathlib.Omega.{arith}
 use borrow.Author.Tests.{ltb-false, leb-true}
-use Rattle.basis.specs.Pick.{pick, both}
-use Rattle.basis.proofs.Cases.{picked}
-use Rattle.machine.specs.Words.{Case, firstOf, maybe}
+use Rattle.basis.specs.Pick.{both}
+use Rattle.machine.specs.Words.{firstOf, maybe}
 use Rattle.machine.specs.State.{Issued, Pool, Start, Machine, Act, Call, Effect, only}
 use Rattle.machine.specs.State.Act.{connect, disconnect, packet, alarmInput, statusValue, aggregatedValue, tick, pump}
-use Rattle.machine.specs.Table.{lastSequence, goodStart, Begins}
+use Rattle.machine.specs.Table.{lastSequence, goodStart}
 use Rattle.machine.specs.Table.Begins.{begins}
-use Rattle.machine.specs.Life.{Due, due}
+use Rattle.machine.specs.Life.{due}
 use Rattle.machine.specs.Pool.{issue, issueAll}
 use Rattle.machine.specs.Effects.{connects, closes, sends, ownIdentity, effectOf}
 use Rattle.machine.specs.Step.{sequenceEnds, conditions, numberOf, step}
-use Rattle.machine.specs.Run.{Past, Run, Among}
+use Rattle.machine.specs.Run.{Past, Run}
 use Rattle.machine.specs.Run.Among.{here, later}
 use Rattle.machine.specs.Run.Run.{begun, next}
 use Rattle.demand_held.proofs.Lists.{maybe-cases, clash, Each}
@@ -33,6 +31,7 @@ use Rattle.demand_held.proofs.Lays.{Lays, lays}
 use Rattle.demand_held.proofs.Steps.{laid, step-done, step-refused, there}
 use Rattle.demand_held.proofs.Demand.{Sound, run-sound}
 use Rattle.demand_told.proofs.Replies.{none-at}
+use Rattle.demand_greeted.proofs.Tests.{both-true}
 use Rattle.demand_greeted.proofs.Demand.{by-number}
 
 all-next : (is : List Issued) (p : Pool) → Good p → Each (For (length (p .lost))) is → issueAll is p .next ≡ p .next + length is
@@ -79,22 +78,14 @@ step-limit : (m : Machine) → Sound m → (c : Call) → m .pool .next ≤ suc 
 step-limit m s c h = by-number m c (λ e. rw (step-done m c e) (done-limit m s c e h)) (λ n e. rw (step-refused m c n e) h)
 
 -- ---- from start
-left : (a b : Bool) → both a b ≡ true → a ≡ true
-left true b e = refl
-left false b e = e
-
-right : (a b : Bool) → both a b ≡ true → b ≡ true
-right true b e = e
-right false b e = clash e refl
-
 first-limit : (s : Start) → goodStart s ≡ true → s .first ≤ suc lastSequence
 first-limit s g =
-    omega (
-      arith,
-      leb-true (s .first) lastSequence (left (leb (s .first) lastSequence) _
-          (right (leb (s .period) 3600) _ (right (leb 1 (s .period)) _ (right (maybe true (λ (p : ℕ). ltb p (s .links)) (s .primary)) _
-          (right (leb (s .links) 4) _ (right (leb 1 (s .links)) _ g)))))),
-    )
+    let a = both-true (leb 1 (s .links)) _ g in
+    let b = both-true (leb (s .links) 4) _ (a .1) in
+    let c = both-true (maybe true (λ (p : ℕ). ltb p (s .links)) (s .primary)) _ (b .1) in
+    let d = both-true (leb 1 (s .period)) _ (c .1) in
+    let e = both-true (leb (s .period) 3600) _ (d .1) in
+    omega (arith, leb-true (s .first) lastSequence (both-true (leb (s .first) lastSequence) _ (e .1) .0))
 
 pub run-limit : {s : Start} {h : List Past} {m : Machine} → Run s h m → m .pool .next ≤ suc lastSequence
 run-limit {s} (begun (begins {t} a e g)) = first-limit s g

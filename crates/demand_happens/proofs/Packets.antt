@@ -1,48 +1,30 @@
 -- Packets that are taken: an answer to what is awaited alone, a Version, a Watchdog.
 -- Assumes nothing.
 use Prim.Native.Nat.{ℕ, suc, _+_, _≤_, _<_}
-use mathlib.Core.Path.{_≡_, refl, sym, _∙_, ap}
-use mathlib.Core.Bool.{Bool, true, false, not}
+use mathlib.Core.Path.{_≡_, refl}
+use mathlib.Core.Bool.{Bool, true, false}
 use mathlib.Core.List.{List, [], _∷_}
 use mathlib.Core.Option.{Option, some, none}
-use lib.Dec.{ltb, leb}
 use lib.ListN.{length}
 use native.Mathlib.Omega.{arith}
-use borrow.Author.Tests.{le-ltb, lt-leb}
+use borrow.Author.Tests.{le-ltb}
 use Rattle.basis.specs.Pick.{pick, both}
 use Rattle.json_value.specs.Grammar.{Json}
-use Rattle.write_message.specs.Message.{Message}
 use Rattle.write_message.specs.Message.Message.{ack}
-use Rattle.machine.specs.Words.{Bytes, maybe, isSome, orElse, reads, any, Case, firstOf}
-use Rattle.machine.specs.State.{Awaited, Exchange, Life, Machine, lifeAt, withLife, Act, Call, Effect, effect, only}
+use Rattle.machine.specs.Words.{Bytes, maybe, isSome, reads, Case, firstOf}
+use Rattle.machine.specs.State.{Awaited, Exchange, Machine, lifeAt, withLife, effect, only}
 use Rattle.machine.specs.State.Act.{packet}
-use Rattle.machine.specs.Json.{shape, element, stringAt, stringOf, elementIs, isType, isIdentityOf, readPacket}
+use Rattle.machine.specs.Json.{shape, element, stringOf, elementIs, isType, isIdentityOf}
 use Rattle.machine.specs.Table.{lastSequence}
-use Rattle.machine.specs.Life.{isOver, isGreeting, isBeating, common, namesSite, equalSxl, awaitedBy, answeredTo}
-use Rattle.machine.specs.Answers.{
-  isAnswer,
-  awaitedHere,
-  isReadable,
-  isIgnored,
-  needs,
-  isMissing,
-  isBad,
-  componentAsked,
-  unknownComponent,
-  unknownAlarm,
-  unknownStatus,
-  wantsReply,
-  isUnexpected,
-  reasons,
-  reasonOf,
-}
+use Rattle.machine.specs.Life.{isOver, isGreeting, isBeating, awaitedBy, answeredTo}
+use Rattle.machine.specs.Answers.{isAnswer, isIgnored, componentAsked, unknownComponent, unknownAlarm, unknownStatus, wantsReply, isUnexpected, reasons, reasonOf}
 use Rattle.machine.specs.Effects.{ownIdentity, answerCloses, acknowledges, settle, answers, answered, versionAccepted, watchdogTaken, carriedOut, replying, receives, effectOf}
 use Rattle.machine.specs.Step.{isReplied, conditions, numberOf}
-use Rattle.demand_held.proofs.Lists.{clash, Each}
+use Rattle.demand_held.proofs.Lists.{Each}
 use Rattle.demand_held.proofs.Lists.Each.{no-more, one-more}
 use Rattle.demand_told.proofs.Replies.{one-type}
 use Rattle.demand_greeted.specs.Greeted.{IsGoodVersion, IsTheirWatchdog}
-use Rattle.demand_happens.specs.Pumped.{at, Timely}
+use Rattle.demand_happens.specs.Pumped.{at}
 use Rattle.demand_happens.specs.Greeting.{Arrives, Answers, WellFormed}
 use Rattle.demand_happens.proofs.Done.{configured-link, good-time, not-down}
 

@@ -1,19 +1,19 @@
 -- Pump sends the first due.
 -- Assumes nothing.
 use Prim.Native.Nat.{ℕ}
-use mathlib.Core.Path.{_≡_, refl, _∙_, ap}
+use mathlib.Core.Path.{_≡_, refl}
 use mathlib.Core.List.{[], _∷_}
 use mathlib.Core.Option.{some, none}
 use native.Mathlib.Omega.{arith}
-use Rattle.machine.specs.Words.{Bytes, maybe}
-use Rattle.machine.specs.State.{Machine, Effect, only}
+use Rattle.machine.specs.Words.{Bytes}
+use Rattle.machine.specs.State.{Machine}
 use Rattle.machine.specs.State.Act.{pump}
 use Rattle.machine.specs.State.Outcome.{done}
 use Rattle.machine.specs.Life.{Due, carriedBy, dueUp, due}
 use Rattle.machine.specs.Effects.{ownIdentity, dueMessage, sends, effectOf}
 use Rattle.machine.specs.Step.{conditions, after, step}
 use Rattle.demand_held.proofs.Steps.{step-done}
-use Rattle.demand_happens.specs.Pumped.{at, Timely, CanPump, Pumping}
+use Rattle.demand_happens.specs.Pumped.{at, CanPump, Pumping}
 use Rattle.demand_happens.proofs.Done.{pump-unrefused}
 
 pub pump-effect : (m : Machine) (l t room : ℕ) (random : Bytes) (d : Due) → due m l t ≡ some d → effectOf m t (pump l random room) ≡ sends l t (ownIdentity random) m d

@@ -1,30 +1,28 @@
 -- Each round that counts sends the record or one that stood before it.
 -- Assumes nothing.
-use Prim.Native.Nat.{ℕ, suc, _+_, _-_, _*_, _≤_, _<_}
-use mathlib.Core.Path.{_≡_, refl, sym, _∙_, ap, subst}
+use Prim.Native.Nat.{ℕ, suc, _-_, _≤_, _<_}
+use mathlib.Core.Path.{_≡_, refl, sym, _∙_, ap}
 use mathlib.Core.Bool.{Bool, true, false, not}
 use mathlib.Core.List.{List, [], _∷_}
-use mathlib.Core.Option.{Option, some, none}
+use mathlib.Core.Option.{some, none}
 use mathlib.Core.Logic.{_⊎_, inl, inr}
-use lib.Dec.{eqb, ltb, leb}
+use lib.Dec.{eqb, ltb}
 use lib.ListN.{length}
 use native.Mathlib.Omega.{arith}
-use borrow.Author.Tests.{eq-eqb, eqb-true, eqb-false, le-leb, lt-leb, ltb-true, ltb-false}
+use borrow.Author.Tests.{eq-eqb, eqb-true, le-leb, lt-leb, ltb-true}
 use Rattle.basis.specs.Pick.{pick, both}
 use Rattle.basis.specs.Lists.{count}
 use Rattle.basis.proofs.Cases.{bool-cases, picked, eq-or-ne}
 use Rattle.json_value.specs.Grammar.{Json}
 use Rattle.table_whole.specs.Table.{Table}
-use Rattle.write_message.specs.Message.{Message}
 use Rattle.machine.specs.Words.{Bytes, maybe, alike}
-use Rattle.machine.specs.State.{Event, eventNumber, Alarm, alarmOf, Content, Held, Sent, Awaited, Setup, Start, Machine, lifeAt, alarmAt, Call, Outcome}
+use Rattle.machine.specs.State.{Event, eventNumber, Alarm, alarmOf, Content, Held, Sent, Start, Machine, lifeAt, alarmAt, Call}
 use Rattle.machine.specs.State.Event.{Issue, Acknowledge, Suspend}
 use Rattle.machine.specs.State.Content.{ofAlarm, ofStatus, ofAggregated}
-use Rattle.machine.specs.State.Sent.{ourVersion, ourWatchdog, noRecord, theRecord}
+use Rattle.machine.specs.State.Sent.{noRecord, theRecord}
 use Rattle.machine.specs.State.Act.{packet, pump}
-use Rattle.machine.specs.State.Outcome.{done}
 use Rattle.machine.specs.Life.{isUp, isPrimary, sameAlarm, alarmIn, newest, carries, carriedBy, passLength, oldestUnsent, Due, dueUp, due}
-use Rattle.machine.specs.Life.Due.{theVersion, theWatchdog, theAggregated, theAlarm, theHeld}
+use Rattle.machine.specs.Life.Due.{theWatchdog, theAggregated, theAlarm, theHeld}
 use Rattle.machine.specs.Messages.{alarmMessage, recordMessage}
 use Rattle.machine.specs.Effects.{ownIdentity, dueMessage, sentAs, afterSending}
 use Rattle.machine.specs.Step.{step}
@@ -33,6 +31,7 @@ use Rattle.machine.specs.Run.Among.{here}
 use Rattle.machine.specs.Run.Run.{next}
 use Rattle.demand_held.proofs.Lists.{maybe-cases, clash}
 use Rattle.demand_held.proofs.Demand.{run-sound}
+use Rattle.demand_greeted.proofs.Tests.{both-true}
 use Rattle.demand_happens.specs.Pumped.{at}
 use Rattle.demand_happens.specs.Records.{nextBeat, IsRound, Rounds, isBefore, ahead, GoesOut, Sending}
 use Rattle.demand_happens.specs.Records.Rounds.{over, round, beat}
@@ -74,10 +73,6 @@ same-event Acknowledge Suspend e = clash e refl
 same-event Suspend Issue e = clash e refl
 same-event Suspend Acknowledge e = clash e refl
 same-event Suspend Suspend e = refl
-
-both-true : (a b : Bool) → both a b ≡ true → (a ≡ true) × (b ≡ true)
-both-true true b e = (refl, e)
-both-true false b e = clash e refl
 
 same-alarm : (a b : Alarm) → sameAlarm a b ≡ true → a ≡ b
 same-alarm a b e =

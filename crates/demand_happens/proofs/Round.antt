@@ -1,17 +1,16 @@
 -- What a round of pump and answer leaves of an Up link with nothing awaited: again such a link, and of the pool all but what the message carried.
 -- Assumes nothing.
-use Prim.Native.Nat.{ℕ, suc, _+_, _≤_, _<_}
-use mathlib.Core.Path.{_≡_, refl, sym, _∙_, ap}
-use mathlib.Core.Bool.{Bool, true, false, not}
-use mathlib.Core.List.{List, [], _∷_, _++_, map}
-use mathlib.Core.Option.{Option, some, none}
-use lib.ListN.{length, getD}
+use Prim.Native.Nat.{ℕ, _<_}
+use mathlib.Core.Path.{_≡_, refl, _∙_, ap}
+use mathlib.Core.Bool.{Bool, true, false}
+use mathlib.Core.List.{List, [], _∷_, map}
+use mathlib.Core.Option.{some, none}
+use lib.ListN.{length}
 use native.Mathlib.Omega.{arith}
-use Rattle.basis.specs.Pick.{pick, both}
 use Rattle.basis.proofs.Cases.{picked}
 use Rattle.json_value.specs.Grammar.{Json}
-use Rattle.machine.specs.Words.{Bytes, maybe, changed}
-use Rattle.machine.specs.State.{Alarm, Held, Sent, Awaited, Life, fresh, Start, Machine, lifeAt, withLife, Outcome, Effect, only}
+use Rattle.machine.specs.Words.{Bytes, maybe}
+use Rattle.machine.specs.State.{Held, Sent, Awaited, Life, fresh, Start, Machine, lifeAt, withLife, Outcome, only}
 use Rattle.machine.specs.State.Sent.{ourVersion, ourWatchdog, noRecord, theRecord}
 use Rattle.machine.specs.State.Act.{packet, pump}
 use Rattle.machine.specs.State.Outcome.{done}
@@ -23,8 +22,9 @@ use Rattle.machine.specs.Effects.{ownIdentity, dueMessage, sentAs, carried, aft
 use Rattle.machine.specs.Step.{after, step}
 use Rattle.machine.specs.Run.{Past, past, Run}
 use Rattle.machine.specs.Run.Run.{next}
-use Rattle.demand_held.proofs.Lists.{clash}
 use Rattle.demand_held.proofs.Steps.{step-done}
+use Rattle.demand_greeted.proofs.Tests.{both-true}
+use Rattle.demand_greeted.proofs.Apart.{mark-lives, settle-lives}
 use Rattle.demand_greeted.proofs.Demand.{same-setup}
 use Rattle.demand_happens.specs.Pumped.{at, CanPump}
 use Rattle.demand_happens.specs.Records.{IsRound}
@@ -34,10 +34,6 @@ use Rattle.demand_happens.proofs.Packets.{its-own}
 use Rattle.demand_happens.proofs.After.{set-at, is-there, answer-number, answer-lays}
 
 -- ---- small laws of a life
-both-true : (a b : Bool) → both a b ≡ true → (a ≡ true) × (b ≡ true)
-both-true true b e = (refl, e)
-both-true false b e = clash e refl
-
 pub up-connected : (k : Life) → isUp k ≡ true → k .connected ≡ true
 up-connected k e = both-true (k .connected) _ e .0
 
@@ -107,12 +103,6 @@ abbrev pub settledBy : ℕ → Sent → List Held → List Held
 settledBy l s hs = maybe hs (λ n. settled l n hs) (carried s)
 
 module _ (m : Machine) where
-  mark-lives : (s : Sent) → markSent s m .lives ≡ m .lives
-  mark-lives ourVersion = refl
-  mark-lives ourWatchdog = refl
-  mark-lives noRecord = refl
-  mark-lives (theRecord n) = refl
-
   mark-held : (s : Sent) → markSent s m .pool .held ≡ markedBy s (m .pool .held)
   mark-held ourVersion = refl
   mark-held ourWatchdog = refl
@@ -124,12 +114,6 @@ module _ (m : Machine) where
   mark-alarms ourWatchdog = refl
   mark-alarms noRecord = refl
   mark-alarms (theRecord n) = refl
-
-  settle-lives : (l : ℕ) (s : Sent) → settle l s m .lives ≡ m .lives
-  settle-lives l ourVersion = refl
-  settle-lives l ourWatchdog = refl
-  settle-lives l noRecord = refl
-  settle-lives l (theRecord n) = refl
 
   settle-held : (l : ℕ) (s : Sent) → settle l s m .pool .held ≡ settledBy l s (m .pool .held)
   settle-held l ourVersion = refl
@@ -171,7 +155,7 @@ module _ {start : Start} {h : List Past} {m : Machine} (r : Run start h m) (l : 
   pumped-life : lifeAt pumped l ≡ sent-life
   unfolding sends
   pumped-life =
-      rw (pumped-is, mark-lives m (sentAs m l d)) (set-at l sent-life (fresh false) (m .lives) there)
+      rw (pumped-is, mark-lives (sentAs m l d) m) (set-at l sent-life (fresh false) (m .lives) there)
 
   pumped-held : pumped .pool .held ≡ markedBy (sentAs m l d) (m .pool .held)
   unfolding sends
@@ -214,7 +198,7 @@ module _ {start : Start} {h : List Past} {m : Machine} (r : Run start h m) (l : 
 
     answered-life : lifeAt answered l ≡ answeredTo (stringOf "oMId" j) acked-life
     answered-life =
-        rw (answered-is, settle-lives pumped l (sentAs m l d))
+        rw (answered-is, settle-lives l (sentAs m l d) pumped)
         (set-at l (answeredTo (stringOf "oMId" j) acked-life) (fresh false) (pumped .lives) (is-there l (pumped .lives) (up-connected (lifeAt pumped l) pumped-up)))
 
     pub answered-up : isUp (lifeAt answered l) ≡ true

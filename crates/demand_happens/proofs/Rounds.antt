@@ -1,12 +1,10 @@
 -- The example's rounds.
 -- Assumes nothing.
-use Prim.Native.Nat.{ℕ, _+_, _≤_}
+use Prim.Native.Nat.{ℕ}
 use mathlib.Core.Path.{_≡_, refl}
-use mathlib.Core.Bool.{Bool, true, false}
-use mathlib.Core.List.{List, [], _∷_}
-use mathlib.Core.Option.{Option, some, none}
-use lib.Dec.{lit≤, leb}
-use lib.IntN.{ℤ, pos}
+use mathlib.Core.Bool.{true, false}
+use mathlib.Core.List.{[], _∷_}
+use lib.Dec.{lit≤}
 use native.Mathlib.Omega.{arith}
 use borrow.Author.Tests.{leb-true, ltb-true}
 use Rattle.basis.specs.Text.{text}
@@ -23,21 +21,15 @@ use Rattle.calendar.specs.Civil.{yearFrom, monthFrom, dateOf}
 use Rattle.calendar.specs.Text.{secondText, milliText, timeText}
 use Rattle.calendar.specs.Read.{readSecond, readMilli, readTime}
 use Rattle.write_message.specs.Message.Message.{aggregated}
-use Rattle.machine.specs.Words.{Bytes, changed}
-use Rattle.machine.specs.State.{Machine, lifeAt, Act, Call}
-use Rattle.machine.specs.State.Act.{connect, statusValue, tick}
 use Rattle.machine.specs.Json.{versionIn}
-use Rattle.machine.specs.Table.{lastTime}
-use Rattle.machine.specs.Life.{isUp, close, carriedBy, dueUp, due}
+use Rattle.machine.specs.Life.{close, carriedBy, dueUp, due}
 use Rattle.machine.specs.Answers.{isIgnored, needs, reasons}
 use Rattle.machine.specs.Items.{intervals, becomes, aggregates, happens}
 use Rattle.machine.specs.Effects.{connects, closes, ticks, sends, answers, answered, refuses, carriedOut, replying, receives, effectOf}
 use Rattle.machine.specs.Pool.{lose, makeRoom, issue, isStuck}
 use Rattle.machine.specs.Step.{conditions, step, outcomes, leaves}
 use Rattle.machine.specs.Example.{noon, started, own, quiet, says, alarmNow}
-use Rattle.demand_happens.specs.Pumped.{at, Timely}
-use Rattle.demand_happens.specs.Greeting.{Arrives, Answers}
-use Rattle.demand_happens.specs.Records.{IsRound, Rounds, ahead}
+use Rattle.demand_happens.specs.Records.{Rounds, ahead}
 use Rattle.demand_happens.specs.Records.Rounds.{over, round}
 use Rattle.demand_happens.specs.Example.{inputs, theAggregatedRecord, holding, threeRounds}
 use Rattle.demand_happens.proofs.Conversation.{timely}

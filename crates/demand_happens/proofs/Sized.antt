@@ -12,7 +12,7 @@ use Rattle.basis.proofs.Cases.{picked}
 use Rattle.json_value.specs.Grammar.{Json}
 use Rattle.write_message.specs.Message.{Message}
 use Rattle.machine.specs.Words.{Bytes}
-use Rattle.machine.specs.State.{Alarm, Sent, Awaited, Life, fresh, Setup, Start, Machine, withLife, lifeAt, valueAt, Act, Call, Effect, effect, only}
+use Rattle.machine.specs.State.{Alarm, Awaited, Life, fresh, Setup, Start, Machine, withLife, lifeAt, valueAt, Act, Call, Effect, only}
 use Rattle.machine.specs.State.Act.{connect, disconnect, packet, alarmInput, statusValue, aggregatedValue, tick, pump}
 use Rattle.machine.specs.Json.{readPacket, stringOf, isType}
 use Rattle.machine.specs.Life.{close, closeAll, awaitedBy, Due, due}
@@ -38,7 +38,6 @@ use Rattle.machine.specs.Effects.{
   receives,
   effectOf,
 }
-use Rattle.machine.specs.Table.{Begins}
 use Rattle.machine.specs.Table.Begins.{begins}
 use Rattle.machine.specs.Step.{step}
 use Rattle.machine.specs.Run.{Past, Run}

@@ -5,14 +5,14 @@ use Prim.Native.Nat.{ℕ, suc, _+_, _-_, _*_, _≤_, _<_}
 use mathlib.Core.Path.{_≡_}
 use mathlib.Core.Bool.{Bool, true, false, not}
 use mathlib.Core.List.{List, [], _∷_}
-use mathlib.Core.Option.{some, none}
+use mathlib.Core.Option.{none}
 use lib.Dec.{leb}
 use Rattle.basis.specs.Lists.{count}
 use Rattle.basis.specs.Text.{text}
 use Rattle.json_value.specs.Grammar.{Json}
 use Rattle.write_message.specs.Message.Message.{aggregated}
 use Rattle.machine.specs.Words.{Bytes, _and_}
-use Rattle.machine.specs.State.{Held, Awaited, Start, Machine, lifeAt, Call}
+use Rattle.machine.specs.State.{Held, Start, Machine, lifeAt, Call}
 use Rattle.machine.specs.State.Sent.{theRecord}
 use Rattle.machine.specs.State.Act.{packet, pump}
 use Rattle.machine.specs.State.Outcome.{done}
