@@ -1,0 +1,99 @@
+-- The life of a link after a done call of it, and after a call in between.
+-- Assumes nothing.
+use Prim.Native.Nat.{ℕ, zero, suc, _≤_, _<_}
+use mathlib.Core.Path.{_≡_, refl, _∙_, ap, subst}
+use mathlib.Core.Bool.{Bool, true, false}
+use mathlib.Core.List.{List, [], _∷_}
+use mathlib.Core.Option.{some, none}
+use lib.Dec.{eqb}
+use lib.ListN.{length, getD}
+use native.Mathlib.Omega.{arith}
+use borrow.Author.Tests.{eqb-true}
+use Rattle.basis.specs.Pick.{pick}
+use Rattle.basis.proofs.Cases.{bool-cases}
+use Rattle.json_value.specs.Grammar.{Json}
+use Rattle.write_message.specs.Message.Message.{ack}
+use Rattle.machine.specs.Words.{Bytes, keep, any, changed, upTo}
+use Rattle.machine.specs.State.{Awaited, Life, fresh, Machine, lifeAt, withLife, Act, Call, Effect, effect, only}
+use Rattle.machine.specs.State.Act.{packet}
+use Rattle.machine.specs.Json.{stringOf, isType}
+use Rattle.machine.specs.Table.{lastSequence}
+use Rattle.machine.specs.Life.{answeredTo, isLate}
+use Rattle.machine.specs.Answers.{isAnswer, isIgnored, reasonOf}
+use Rattle.machine.specs.Effects.{ownIdentity, answerCloses, acknowledges, settle, carriedOut, receives, effectOf}
+use Rattle.machine.specs.Step.{numberOf, step}
+use Rattle.demand_held.proofs.Lists.{clash}
+use Rattle.demand_held.proofs.Steps.{step-done, step-refused, refused-number}
+use Rattle.demand_greeted.proofs.Apart.{apart}
+use Rattle.demand_greeted.proofs.Demand.{by-number}
+use Rattle.demand_happens.specs.Pumped.{at}
+use Rattle.demand_happens.specs.Greeting.{Arrives, Answers, Meanwhile}
+use Rattle.demand_happens.specs.Greeting.Meanwhile.{not-done, elsewhere}
+use Rattle.demand_happens.proofs.Packets.{packet-effect, packet-unrefused, answer-heard, answer-unreplied, answer-effect, Plain, plain-unreplied, plain-effect}
+
+-- what is set stands there
+pub set-at : {A : Type 0} (l : ℕ) (x d : A) (xs : List A) → l < length xs → getD (changed l (λ y. x) xs) l d ≡ x
+set-at l x d [] h = absurd (omega arith)
+set-at zero x d (y ∷ xs) h = refl
+set-at (suc l) x d (y ∷ xs) h = set-at l x d xs (omega arith)
+
+-- a connected link is one of the list
+pub is-there : (l : ℕ) (ks : List Life) → getD ks l (fresh false) .connected ≡ true → l < length ks
+is-there l [] e = clash e refl
+is-there zero (k ∷ ks) e = omega arith
+is-there (suc l) (k ∷ ks) e = omega (arith, is-there l ks e)
+
+pub life-after : (m : Machine) (t : ℕ) (act : Act) (e : Effect) (l : ℕ) → numberOf m (at t act) ≡ none → effectOf m t act ≡ e → lifeAt (step m (at t act) .1) l ≡ lifeAt (e .leaves) l
+life-after m t act e l n f = rw (step-done m (at t act) n, f)
+
+-- ---- in between
+unkept : (f : ℕ → Bool) (l : ℕ) (xs : List ℕ) → f l ≡ false → any (eqb l) (keep f xs) ≡ false
+unkept f l [] e = refl
+unkept f l (x ∷ xs) e = go (f x) refl (unkept f l xs e)
+  where
+    other : f x ≡ true → eqb l x ≡ false
+    other g = bool-cases (eqb l x) (λ s. clash g (rw (← eqb-true l x s) e)) (λ s. s)
+
+    go : (b : Bool) → f x ≡ b → any (eqb l) (keep f xs) ≡ false → any (eqb l) (pick b (x ∷ keep f xs) (keep f xs)) ≡ false
+    go true g r = rw (other g) r
+    go false g r = r
+
+pub meanwhile-life : (l : ℕ) (m : Machine) (c : Call) → Meanwhile l m c → lifeAt (step m c .1) l ≡ lifeAt m l
+meanwhile-life l m c (not-done {n} r) = rw (step-refused m c n (refused-number m c n r))
+meanwhile-life l m c (elsewhere o short) =
+    by-number m c
+    (λ e. rw (step-done m c e) (apart m (c .time) (c .act) l o (λ i. unkept (λ k. isLate (c .time) (lifeAt m k)) l (upTo (m .setup .links)) (short i)) .life))
+    (λ n e. rw (step-refused m c n e))
+
+-- ---- a packet that is taken
+module _ (m : Machine) (l t room : ℕ) (random bytes : Bytes) (j : Json) (arrives : Arrives m t bytes room j) (configured : l < m .setup .links) (connected : lifeAt m l .connected ≡ true) (limit : m .pool .next ≤ suc lastSequence) where
+  module _ (a : Awaited) (alone : lifeAt m l .awaited ≡ a ∷ []) (is : isAnswer j ≡ true) (says : Answers (a .identity) j)
+      (lasts : answerCloses (lifeAt m l) (isType "MessageAck" j) (a .message) ≡ false) where
+    abbrev pub answered-life : Life
+    answered-life = answeredTo (stringOf "oMId" j) (acknowledges (isType "MessageAck" j) (a .message) (lifeAt m l))
+
+    abbrev pub answer-laid : Effect
+    answer-laid = only (withLife l answered-life (settle l (a .message) m))
+
+    pub answer-lays : effectOf m t (packet l random bytes room) ≡ answer-laid
+    answer-lays = packet-effect m l t room random bytes j arrives ∙ answer-effect m l t (ownIdentity random) j a alone is says lasts
+
+    pub answer-number : numberOf m (at t (packet l random bytes room)) ≡ none
+    answer-number =
+        packet-unrefused m l t room random bytes j arrives configured connected limit (answer-heard m l t (ownIdentity random) j a alone is says)
+        (answer-unreplied m l t (ownIdentity random) j a alone is says)
+        (ap (λ (e : Effect). e .issues) (answer-effect m l t (ownIdentity random) j a alone is says lasts))
+
+    pub answer-life : lifeAt (step m (at t (packet l random bytes room)) .1) l ≡ lifeAt (answer-laid .leaves) l
+    answer-life = life-after m t (packet l random bytes room) answer-laid l answer-number answer-lays
+
+  module _ (plain : Plain j) (reason : reasonOf m l j ≡ none) (heard : isIgnored (lifeAt m l) (some j) ≡ false) (laid : Effect) (carried : carriedOut l t j m ≡ laid) (silent : laid .issues ≡ []) where
+    plain-lays : receives l t (ownIdentity random) m j ≡ effect (laid .leaves) (laid .issues) (ack (stringOf "mId" j) ∷ []) (laid .closed) (laid .hint)
+    plain-lays = subst (λ (e : Effect). receives l t (ownIdentity random) m j ≡ effect (e .leaves) (e .issues) (ack (stringOf "mId" j) ∷ []) (e .closed) (e .hint)) carried (plain-effect j plain m l t (ownIdentity random) reason)
+
+    pub plain-life : lifeAt (step m (at t (packet l random bytes room)) .1) l ≡ lifeAt (laid .leaves) l
+    plain-life =
+        life-after m t (packet l random bytes room) _ l
+        (packet-unrefused m l t room random bytes j arrives configured connected limit heard (plain-unreplied j plain m l t (ownIdentity random) reason)
+        (ap (λ (e : Effect). e .issues) plain-lays ∙ silent))
+        (packet-effect m l t room random bytes j arrives ∙ plain-lays)

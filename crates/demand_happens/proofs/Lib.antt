@@ -1,0 +1,13 @@
+pub mod Done
+pub mod Pumped
+pub mod Sized
+pub mod Limits
+pub mod Packets
+pub mod After
+pub mod Example
+pub mod Conversation
+pub mod Greeting
+pub mod Counts
+pub mod Round
+pub mod Rounds
+pub mod Records
