@@ -6,13 +6,15 @@ use mathlib.Core.Bool.{true, false}
 use mathlib.Core.List.{List, [], _∷_}
 use mathlib.Core.Option.{Option, some, none}
 use native.Mathlib.Omega.{arith}
+use Rattle.basis.specs.Lists.{Among}
+use Rattle.basis.proofs.Both.{both-true}
 use Rattle.write_message.specs.Message.{Message}
 use Rattle.machine.specs.State.{Life, fresh, Start, Machine, lifeAt, Call}
 use Rattle.machine.specs.State.Outcome.{refused}
 use Rattle.machine.specs.Life.{isOver, isUp}
 use Rattle.machine.specs.Table.Begins.{begins}
 use Rattle.machine.specs.Step.{numberOf, step}
-use Rattle.machine.specs.Run.{Past, Run, Among}
+use Rattle.machine.specs.Run.{Past, Run}
 use Rattle.machine.specs.Run.Run.{begun, next}
 use Rattle.demand_held.proofs.Lays.{lays}
 use Rattle.demand_held.proofs.Steps.{step-done, step-refused, there}
@@ -22,7 +24,6 @@ use Rattle.demand_told.proofs.Demand.{telling}
 use Rattle.demand_greeted.specs.Life.{thisLife, lived}
 use Rattle.demand_greeted.specs.Greeted.{Greeted}
 use Rattle.demand_greeted.specs.Demand.{DemandGreeted}
-use Rattle.demand_greeted.proofs.Tests.{both-true}
 use Rattle.demand_greeted.proofs.Lives.{all-same}
 use Rattle.demand_greeted.proofs.Kept.{Kept, kept-down, goes-on}
 use Rattle.demand_greeted.proofs.Goes.{goes}

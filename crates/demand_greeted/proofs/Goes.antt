@@ -12,7 +12,10 @@ use lib.ListN.{getD}
 use native.Mathlib.Omega.{arith}
 use borrow.Author.Tests.{eq-eqb, ne-eqb}
 use Rattle.basis.specs.Pick.{pick, both}
+use Rattle.basis.specs.Lists.{Among}
+use Rattle.basis.specs.Lists.Among.{first, later}
 use Rattle.basis.proofs.Cases.{bool-cases, picked, eq-or-ne}
+use Rattle.basis.proofs.Both.{not-both, both-true}
 use Rattle.json_value.specs.Grammar.{Json}
 use Rattle.write_message.specs.Message.{Message}
 use Rattle.write_message.specs.Message.Message.{version, ack}
@@ -26,16 +29,15 @@ use Rattle.machine.specs.Answers.{isAnswer, awaitedHere, isIgnored, wantsReply,
 use Rattle.machine.specs.Items.{happens, subscribe, unsubscribe, intervals}
 use Rattle.machine.specs.Effects.{connects, closes, late, ticks, ownIdentity, sentAs, afterSending, markSent, sends, answerCloses, acknowledges, settle, answers, answered, refusal, refuses, agreed, carriedOut, replyMessage, replying, receives, effectOf}
 use Rattle.machine.specs.Step.{conditions, outcome}
-use Rattle.machine.specs.Run.{Past, Among}
-use Rattle.machine.specs.Run.Among.{here, later}
-use Rattle.demand_held.proofs.Lists.{maybe-cases, clash}
+use Rattle.machine.specs.Run.{Past}
+use Rattle.demand_held.proofs.Lists.{maybe-cases}
 use Rattle.demand_told.specs.Demand.{messagesOf, linkOf}
 use Rattle.demand_told.proofs.Replies.{none-at}
 use Rattle.demand_greeted.specs.Life.{connectedBy, goingOn, lived}
 use Rattle.demand_greeted.specs.Greeted.{Came, IsGoodVersion}
 use Rattle.demand_greeted.specs.Greeted.Came.{came}
 use Rattle.demand_greeted.specs.Greeted.Answered.{answered as answered-by}
-use Rattle.demand_greeted.proofs.Tests.{must, no-not, both-true, found}
+use Rattle.demand_greeted.proofs.Tests.{must, no-not, found}
 use Rattle.demand_greeted.proofs.Lives.{set-there, closed-there, all-there}
 use Rattle.demand_greeted.proofs.Apart.{Apart, apart, apart-tick}
 use Rattle.demand_greeted.proofs.Turns.{acked, accepted, taken, sent, waits, awaits, unawaits}
@@ -47,22 +49,22 @@ answer-marked k j is e = go (isAnswer j) (elementIs "mType" "rSMsg" j) (awaitedH
   where
     go : (a b c d : Bool) → a ≡ true → pick a (not (both b c)) d ≡ false → b ≡ true
     go true b c d is e = both-true b c (no-not (both b c) e) .0
-    go false b c d is e = clash is refl
+    go false b c d is e = not-both is refl
 
 -- ---- what a packet says where no reason applies
 module _ (u m : Machine) (same : u .setup ≡ m .setup) (l : ℕ) (j : Json) (unrefused : reasonOf m l j ≡ none) where
   pub marked : elementIs "mType" "rSMsg" j ≡ true
   unfolding reasons
-  marked = no-not _ (none-at (reasons m l j) unrefused (later here))
+  marked = no-not _ (none-at (reasons m l j) unrefused (later first))
 
   pub checked : isType "Version" j ≡ true → IsGoodVersion u j
   unfolding reasons
   checked is =
       record {
         typed = is;
-        version = must _ _ is (none-at (reasons m l j) unrefused (later (later (later (later (later (later here)))))));
-        site = rw same (must _ (namesSite m j) is (none-at (reasons m l j) unrefused (later (later (later (later (later (later (later here)))))))));
-        sxl = rw same (must _ (equalSxl m j) is (none-at (reasons m l j) unrefused (later (later (later (later (later (later (later (later here))))))))));
+        version = must _ _ is (none-at (reasons m l j) unrefused (later (later (later (later (later (later first)))))));
+        site = rw same (must _ (namesSite m j) is (none-at (reasons m l j) unrefused (later (later (later (later (later (later (later first)))))))));
+        sxl = rw same (must _ (equalSxl m j) is (none-at (reasons m l j) unrefused (later (later (later (later (later (later (later (later first))))))))));
       }
 
 module _ (u m : Machine) (same : u .setup ≡ m .setup) (t : ℕ) (act : Act) (l : ℕ) (life : List Past) (kept : Kept u l (lifeAt m l) life) where
@@ -193,8 +195,8 @@ module _ (u m : Machine) (same : u .setup ≡ m .setup) (t l : ℕ) (life : List
         picked Received (wantsReply (done .leaves) l j) _ _
         (λ w. turns u m same t this l life kept replied refl (open-carried-out m l t j l)
         (sets (awaiting id t noRecord (lifeAt (done .leaves) l)) (done .leaves .lives) (this-past replied)
-        (awaits (on-carried-out unrefused (this-past replied) (came-by replied) here) id t noRecord tt)))
-        (λ w. turns u m same t this l life kept acked-only refl (open-carried-out m l t j l) (on-carried-out unrefused (this-past acked-only) (came-by acked-only) here))
+        (awaits (on-carried-out unrefused (this-past replied) (came-by replied) first) id t noRecord tt)))
+        (λ w. turns u m same t this l life kept acked-only refl (open-carried-out m l t j l) (on-carried-out unrefused (this-past acked-only) (came-by acked-only) first))
       where
         done : Effect
         done = carriedOut l t j m
@@ -264,17 +266,17 @@ module _ (u m : Machine) (same : u .setup ≡ m .setup) (t l : ℕ) (life : List
       (λ j e. goes-received u m same t l life kept (there (no-not _ down)) random bytes room j e (rw e at heard) (ownIdentity random))
     where
       down : not (lifeAt m l .connected) ≡ false
-      down = none-at (conditions m t (packet l random bytes room)) f (later (later (later (later here))))
+      down = none-at (conditions m t (packet l random bytes room)) f (later (later (later (later first))))
 
       heard : isIgnored (lifeAt m l) (readPacket bytes) ≡ false
-      heard = none-at (conditions m t (packet l random bytes room)) f (later (later (later (later (later here)))))
+      heard = none-at (conditions m t (packet l random bytes room)) f (later (later (later (later (later first)))))
 
   pumped : (random : Bytes) (room : ℕ) → After (pump l random room)
   unfolding effectOf conditions
   pumped random room f =
       maybe-cases (Goes u m same t (pump l random room) l life kept) (only m) _ (due m l t)
       (λ e. turns u m same t (pump l random room) l life kept (only m) refl refl (goes-on _ kept))
-      (λ d e. goes-sends u m same t l life kept (there (no-not _ (none-at (conditions m t (pump l random room)) f (later (later (later here)))))) random room (ownIdentity random) d)
+      (λ d e. goes-sends u m same t l life kept (there (no-not _ (none-at (conditions m t (pump l random room)) f (later (later (later first)))))) random room (ownIdentity random) d)
 
   pub goes : (act : Act) → After act
   unfolding effectOf

@@ -6,11 +6,12 @@ use mathlib.Core.Path.{_≡_, refl}
 use mathlib.Core.Bool.{true, false}
 use mathlib.Core.List.{List, [], _∷_}
 use native.Mathlib.Omega.{arith}
+use Rattle.basis.proofs.Both.{not-both}
 use Rattle.machine.specs.Words.{Bytes}
 use Rattle.machine.specs.State.{Sent, Awaited, Life, fresh, Machine}
 use Rattle.machine.specs.State.Sent.{ourVersion, ourWatchdog, noRecord, theRecord}
 use Rattle.machine.specs.Run.{Past}
-use Rattle.demand_held.proofs.Lists.{clash, Each}
+use Rattle.demand_held.proofs.Lists.{Each}
 use Rattle.demand_held.proofs.Lists.Each.{no-more, one-more}
 use Rattle.demand_greeted.specs.Life.{goingOn}
 use Rattle.demand_greeted.specs.Greeted.{Within, IsVersion, IsWatchdog, Wrote, Acknowledged, Answered, IsGoodVersion, IsTheirWatchdog}
@@ -37,11 +38,11 @@ pub record Kept (u : Machine) (l : ℕ) (k : Life) (life : List Past) : Type 0 w
 pub kept-down : (u : Machine) (l : ℕ) (life : List Past) → Kept u l (fresh false) life
 kept-down u l life =
     record {
-      there = λ e. clash e refl;
-      our-version = λ e. clash e refl;
-      their-version = λ e. clash e refl;
-      our-watchdog = λ e. clash e refl;
-      their-watchdog = λ e. clash e refl;
+      there = λ e. not-both e refl;
+      our-version = λ e. not-both e refl;
+      their-version = λ e. not-both e refl;
+      our-watchdog = λ e. not-both e refl;
+      their-watchdog = λ e. not-both e refl;
       awaited = no-more;
     }
 
@@ -52,10 +53,10 @@ pub kept-opened : (u : Machine) (l : ℕ) (p : Past) → Kept u l (fresh true) (
 kept-opened u l p =
     record {
       there = λ e. some-there;
-      our-version = λ e. clash e refl;
-      their-version = λ e. clash e refl;
-      our-watchdog = λ e. clash e refl;
-      their-watchdog = λ e. clash e refl;
+      our-version = λ e. not-both e refl;
+      their-version = λ e. not-both e refl;
+      our-watchdog = λ e. not-both e refl;
+      their-watchdog = λ e. not-both e refl;
       awaited = no-more;
     }
 

@@ -9,10 +9,11 @@ use lib.ListN.{getD, replicate}
 use native.Mathlib.Omega.{arith}
 use borrow.Author.Tests.{eqb-true, eqb-false, ne-eqb}
 use Rattle.basis.proofs.Cases.{bool-cases}
+use Rattle.basis.proofs.Both.{not-both}
 use Rattle.machine.specs.Words.{any, changed}
 use Rattle.machine.specs.State.{Life, fresh, Machine, lifeAt}
 use Rattle.machine.specs.Life.{close, closeAll}
-use Rattle.demand_held.proofs.Lists.{clash, neither}
+use Rattle.demand_greeted.proofs.Tests.{neither}
 
 module _ {A : Type 0} (d : A) where
   -- what is set stands there, or the list ends before
@@ -55,14 +56,14 @@ all-other l (k ∷ ks) m e =
     all-other l ks (close k m) (n .1) ∙ closed-other k l m (apart-from k l (n .0))
 
 pub all-there : (P : Life → Type 0) (l : ℕ) (ks : List ℕ) (m : Machine) → any (eqb l) ks ≡ true → P (fresh false) → P (lifeAt (closeAll ks m) l)
-all-there P l [] m e p = clash e refl
+all-there P l [] m e p = not-both e refl
 all-there P l (k ∷ ks) m e p =
     bool-cases (any (eqb l) ks)
     (λ f. all-there P l ks (close k m) f p)
     (λ f. rw (all-other l ks (close k m) f) (first f))
   where
     named : any (eqb l) ks ≡ false → eqb l k ≡ true
-    named f = bool-cases (eqb l k) (λ g. g) (λ g. clash e (rw (g, f)))
+    named f = bool-cases (eqb l k) (λ g. g) (λ g. not-both e (rw (g, f)))
 
     first : any (eqb l) ks ≡ false → P (lifeAt (close k m) l)
     first f = let same : l ≡ k = eqb-true l k (named f) in rw same (closed-there P k m p)

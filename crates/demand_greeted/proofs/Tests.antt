@@ -7,22 +7,23 @@ use mathlib.Core.List.{List, [], _∷_}
 use mathlib.Core.Option.{some}
 use native.Mathlib.Omega.{arith}
 use Rattle.basis.specs.Pick.{pick, both}
+use Rattle.basis.proofs.Both.{not-both}
 use Rattle.machine.specs.Words.{firstThat}
-use Rattle.demand_held.proofs.Lists.{clash, Each}
+use Rattle.demand_held.proofs.Lists.{Each}
 use Rattle.demand_held.proofs.Lists.Each.{no-more, one-more}
 
 pub must : (a b : Bool) → a ≡ true → both a (not b) ≡ false → b ≡ true
 must a true e f = refl
-must true false e f = clash refl f
+must true false e f = not-both refl f
 must false false e f = e
 
 pub no-not : (b : Bool) → not b ≡ false → b ≡ true
 no-not true e = refl
-no-not false e = clash refl e
+no-not false e = not-both refl e
 
-pub both-true : (a b : Bool) → both a b ≡ true → (a ≡ true) × (b ≡ true)
-both-true true b e = (refl, e)
-both-true false b e = clash e refl
+pub neither : (a b : Bool) → pick a true b ≡ false → (a ≡ false) × (b ≡ false)
+neither true b e = not-both refl e
+neither false b e = (refl, e)
 
 -- the first that passes passes, and is as all are
 pub found : {A : Type 0} {P : A → Type 0} (f : A → Bool) (xs : List A) (x : A) → Each P xs → firstThat f xs ≡ some x → P x × (f x ≡ true)

@@ -6,6 +6,7 @@ use mathlib.Core.Bool.{true, false}
 use mathlib.Core.List.{List, [], _∷_}
 use mathlib.Core.Option.{some, none}
 use native.Mathlib.Omega.{arith}
+use Rattle.basis.specs.Lists.Among.{first}
 use Rattle.basis.proofs.Cases.{picked}
 use Rattle.json_value.specs.Grammar.{Json}
 use Rattle.write_message.specs.Message.Message.{version, watchdog}
@@ -17,7 +18,6 @@ use Rattle.machine.specs.Life.{nowTaken, withWatchdogs, withAwaited, awaiting, 
 use Rattle.machine.specs.Life.Due.{theVersion, theWatchdog, theAggregated, theAlarm, theHeld}
 use Rattle.machine.specs.Effects.{dueMessage, sentAs, afterSending, acknowledges, agreed}
 use Rattle.machine.specs.Run.{Past}
-use Rattle.machine.specs.Run.Among.{here}
 use Rattle.demand_held.proofs.Lists.{maybe-cases, Each, each-append, each-butFirst}
 use Rattle.demand_held.proofs.Lists.Each.{no-more, one-more}
 use Rattle.demand_told.specs.Demand.{messagesOf, linkOf}
@@ -117,8 +117,8 @@ module _ (u : Machine) (l : ℕ) (k : Life) (life : List Past) (kept : Kept u l 
 
   pub waits : (id : Bytes) (m : Machine) (t : ℕ) (d : Due) → linkOf (p .call .act) ≡ some l → messagesOf (p .gave) ≡ dueMessage m t id d ∷ []
       → Backed l (goingOn p life) id (sentAs m l d)
-  waits id m t theVersion f e = now p life lives (wrote {w = version id (m .setup .table .site) (m .setup .table .sxl)} f (rw e here) is-version)
-  waits id m t theWatchdog f e = now p life lives (wrote {w = watchdog id t} f (rw e here) is-watchdog)
+  waits id m t theVersion f e = now p life lives (wrote {w = version id (m .setup .table .site) (m .setup .table .sxl)} f (rw e first) is-version)
+  waits id m t theWatchdog f e = now p life lives (wrote {w = watchdog id t} f (rw e first) is-watchdog)
   waits id m t theAggregated f e = tt
   waits id m t (theAlarm i) f e = carried-backed m i id
   waits id m t (theHeld h) f e = tt

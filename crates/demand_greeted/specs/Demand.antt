@@ -5,9 +5,10 @@ use mathlib.Core.Path.{_≡_}
 use mathlib.Core.Bool.{true}
 use mathlib.Core.List.{List, _∷_}
 use mathlib.Core.Option.{some}
+use Rattle.basis.specs.Lists.{Among}
 use Rattle.write_message.specs.Message.{Message}
 use Rattle.machine.specs.State.{Start, Machine}
-use Rattle.machine.specs.Run.{Past, Run, Among}
+use Rattle.machine.specs.Run.{Past, Run}
 use Rattle.demand_told.specs.Demand.{messagesOf, linkOf, isTold}
 use Rattle.demand_greeted.specs.Life.{thisLife}
 use Rattle.demand_greeted.specs.Greeted.{Greeted}

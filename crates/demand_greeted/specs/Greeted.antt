@@ -5,6 +5,7 @@ use mathlib.Core.Path.{_≡_}
 use mathlib.Core.Bool.{true}
 use mathlib.Core.List.{List, _∷_}
 use mathlib.Core.Option.{Option, some}
+use Rattle.basis.specs.Lists.{Among}
 use Rattle.json_value.specs.Grammar.{Json}
 use Rattle.write_message.specs.Message.{Message}
 use Rattle.write_message.specs.Message.Message.{version, watchdog, ack}
@@ -14,7 +15,7 @@ use Rattle.machine.specs.State.Act.{packet}
 use Rattle.machine.specs.State.Outcome.{done}
 use Rattle.machine.specs.Json.{readPacket, stringOf, elementIs, isType, isIdentityOf}
 use Rattle.machine.specs.Life.{common, namesSite, equalSxl}
-use Rattle.machine.specs.Run.{Past, Among}
+use Rattle.machine.specs.Run.{Past}
 use Rattle.demand_told.specs.Demand.{messagesOf, linkOf}
 
 -- a call of a life is this, after those before it in that life
