@@ -11,8 +11,10 @@ use lib.ListN.{length}
 use native.Mathlib.Omega.{arith}
 use borrow.Author.Tests.{eqb-true, eq-eqb, lt-ltb, le-ltb}
 use Rattle.basis.specs.Pick.{pick, both}
-use Rattle.basis.specs.Lists.{count}
+use Rattle.basis.specs.Lists.{count, Among}
+use Rattle.basis.specs.Lists.Among.{first, later}
 use Rattle.basis.proofs.Cases.{lt-or-ge}
+use Rattle.basis.proofs.Both.{both-first, both-second}
 use Rattle.pool.specs.declared.Place.{Place}
 use Rattle.pool.specs.declared.Pool.{Pool}
 use Rattle.pool.specs.declared.Sought.{Sought}
@@ -31,15 +33,13 @@ use Rattle.machine.specs.Pool.{isFor, holds}
 use Rattle.machine.specs.Life.{alarmIn, newest, carries, carriedBy, oldestUnsent as oldestUnsentOf}
 use Rattle.machine.specs.Readings.{recordBytes, reading}
 use Rattle.machine.specs.Step.{sequenceEnds}
-use Rattle.machine.specs.Run.{Among}
-use Rattle.machine.specs.Run.Among.{here, later}
 use Rattle.demand_held.proofs.Lists.{bit-true, Each, among-keep, length-map}
 use Rattle.demand_held.proofs.Lists.Each.{one-more}
 use Rattle.refine_pool.specs.Record.{placeFor, found, unnumbered, carriedLike, readingAt}
 use Rattle.refine_pool.specs.Same.{SamePool}
 use Rattle.refine_pool.specs.Claims.{batchOf, Stands}
 use Rattle.refine_pool.proofs.Lists.{first-kept}
-use Rattle.refine_pool.proofs.Entries.{alarm-entry, left-of, right-of, carried-entry}
+use Rattle.refine_pool.proofs.Entries.{alarm-entry, carried-entry}
 use Rattle.refine_pool.proofs.Room.{held-same}
 use Rattle.refine_pool.proofs.Others.{isNumbered, numbered-same}
 
@@ -97,7 +97,7 @@ first-among f [] h e = absurd (let z : _≡_ {A = ℕ} 0 1 = cc in omega arith)
 first-among f (x ∷ hs) h e = go (f x) refl e (first-among f hs h)
   where
     go : (t : Bool) → f x ≡ t → pick t (some x) (firstThat f hs) ≡ some h → (firstThat f hs ≡ some h → Among h hs × (f h ≡ true)) → Among h (x ∷ hs) × (f h ≡ true)
-    go true d e r = let s : x ≡ h = cc in rw (← s) (here, d)
+    go true d e r = let s : x ≡ h = cc in rw (← s) (first, d)
     go false d e r = (later (r e .0), r e .1)
 
 abbrev isAlarmOf : ℕ → ℕ → Held → Bool
@@ -109,15 +109,15 @@ newest-among l i o (x ∷ hs) h e = go (isAlarmOf l i x) refl (newest-among l i 
   where
     go : (t : Bool) → isAlarmOf l i x ≡ t → (pick t (some x) o ≡ some h) ⊎ (Among h hs × (isAlarmOf l i h ≡ true)) → (o ≡ some h) ⊎ (Among h (x ∷ hs) × (isAlarmOf l i h ≡ true))
     go t d (inr r) = inr (later (r .0), r .1)
-    go true d (inl e) = let s : x ≡ h = cc in inr (rw (← s) (here, d))
+    go true d (inl e) = let s : x ≡ h = cc in inr (rw (← s) (first, d))
     go false d (inl e) = inl e
 
 of-each : {A : Type 0} {P : A → Type 0} {x : A} {xs : List A} → Each P xs → Among x xs → P x
-of-each (one-more p r) here = p
+of-each (one-more p r) first = p
 of-each (one-more p r) (later a) = of-each r a
 
 counts : {A : Type 0} (f : A → Bool) {x : A} {xs : List A} → f x ≡ true → Among x xs → 1 ≤ count f xs
-counts f e (here {xs}) = omega (arith, bit-true _ e)
+counts f e (first {xs}) = omega (arith, bit-true _ e)
 counts f e (later a) = omega (arith, counts f e a)
 
 reached-next : {n q : ℕ} {p : Pool} → Reached n p q → q ≤ 4294967296
@@ -157,7 +157,7 @@ module _ {links q : ℕ} {p : Pool} (m : Machine) (same : SamePool links p q (m 
   pub unsent-stands : (l : ℕ) (h : Held) → oldestUnsentOf m l ≡ some h → Stands p l h
   unsent-stands l h e =
       let r = first-among (λ (h : Held). both (isFor l h) (not (h .sent))) hs h e in
-      stands l h (r .0) (left-of (isFor l h) (not (h .sent)) (r .1))
+      stands l h (r .0) (both-first (isFor l h) (not (h .sent)) (r .1))
 
   -- the newest record of an alarm, where there is one
   newest-is : (l i : ℕ) (h : Held) → newest l i none hs ≡ some h → Among h hs × (isAlarmOf l i h ≡ true)
@@ -168,7 +168,7 @@ module _ {links q : ℕ} {p : Pool} (m : Machine) (same : SamePool links p q (m 
       go (inr r) = r
 
   pub alarm-stands : (l i : ℕ) (h : Held) → newest l i none hs ≡ some h → Stands p l h
-  alarm-stands l i h e = let r = newest-is l i h e in stands l h (r .0) (left-of (isFor l h) _ (r .1))
+  alarm-stands l i h e = let r = newest-is l i h e in stands l h (r .0) (both-first (isFor l h) _ (r .1))
 
   pub carried-same : (l i : ℕ) → carriedBy m l i ≡ carriedLike (alarmAt m i) (newestAlarm p l i)
   unfolding carriedBy
@@ -176,7 +176,7 @@ module _ {links q : ℕ} {p : Pool} (m : Machine) (same : SamePool links p q (m 
     where
       go : (o : Option Held) → newest l i none hs ≡ o → maybe noRecord (carries (alarmAt m i) i) o ≡ carriedLike (alarmAt m i) (found o)
       go none e = refl
-      go (some h) e = carried-entry (alarmAt m i) i h (right-of (isFor l h) _ (newest-is l i h e .1))
+      go (some h) e = carried-entry (alarmAt m i) i h (both-second (isFor l h) _ (newest-is l i h e .1))
 
   holds-same : (l : ℕ) → heldOf p l ≡ holds (m .pool) l
   holds-same l = viewed 4 (omega arith) .held p l ∙ held-same same l

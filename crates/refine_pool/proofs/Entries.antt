@@ -10,10 +10,11 @@ use native.Mathlib.Nat.{mod-eq-of-lt}
 use native.Mathlib.Omega.{arith}
 use borrow.Author.Tests.{eq-eqb, eqb-true}
 use Rattle.basis.specs.Pick.{pick, both}
+use Rattle.basis.proofs.Both.{untrue, both-first, both-second, both-false}
 use Rattle.number.specs.Signed.{Signed32, wordOf, signedOf}
 use Rattle.number.proofs.RoundTrip.{signed-word}
 use Rattle.entry.specs.Flags.{eventOf, isAcknowledged, isActive, isSuspended}
-use Rattle.entry.proofs.FlagLaws.{event-back, acknowledged-back, active-back, suspended-back, known-back}
+use Rattle.entry.proofs.FlagLaws.{event-back, acknowledged-back, active-back, suspended-back, known-back, old-back}
 use Rattle.pool.specs.declared.Sought.the-variants.{Found}
 use Rattle.pool_laws.specs.View.{ofAlarm as isAlarm}
 use Rattle.pool_batch.specs.Batch.{renumbered, under}
@@ -30,14 +31,14 @@ use Rattle.refine_pool.specs.Claims.{Contents}
 module _ (l q : ℕ) where
   pub entry-link : (c : Content) → entryFor l q c .link ≡ l
   entry-link (ofAlarm i a) = refl
-  entry-link (ofStatus i none t) = refl
-  entry-link (ofStatus i (some v) t) = refl
+  entry-link (ofStatus i none old t) = refl
+  entry-link (ofStatus i (some v) old t) = refl
   entry-link (ofAggregated v t) = refl
 
   pub entry-sequence : (c : Content) → entryFor l q c .sequence ≡ q
   entry-sequence (ofAlarm i a) = refl
-  entry-sequence (ofStatus i none t) = refl
-  entry-sequence (ofStatus i (some v) t) = refl
+  entry-sequence (ofStatus i none old t) = refl
+  entry-sequence (ofStatus i (some v) old t) = refl
   entry-sequence (ofAggregated v t) = refl
 
 -- under its number
@@ -49,8 +50,8 @@ numbered-entry i q h = ap (renumbered (unnumbered i)) (mod-eq-of-lt (small q h))
 
     go : (c : Content) → renumbered (entryFor (i .link) 0 c) q ≡ entryFor (i .link) q c
     go (ofAlarm k a) = refl
-    go (ofStatus k none t) = refl
-    go (ofStatus k (some v) t) = refl
+    go (ofStatus k none old t) = refl
+    go (ofStatus k (some v) old t) = refl
     go (ofAggregated v t) = refl
 
 -- an alarm's record
@@ -63,8 +64,8 @@ alarm-entry k h = go (h .content)
 
     go : (c : Content) → both (eqb (entryFor (h .link) (h .sequence) c .kind) 0) (eqb (entryFor (h .link) (h .sequence) c .item) k) ≡ isSome (alarmOf k c)
     go (ofAlarm i a) = yes a (eqb i k)
-    go (ofStatus i none t) = refl
-    go (ofStatus i (some v) t) = refl
+    go (ofStatus i none old t) = refl
+    go (ofStatus i (some v) old t) = refl
     go (ofAggregated v t) = refl
 
 -- ---- what is told
@@ -83,11 +84,11 @@ alarm-told i a l q =
       event-again (a .event),
     )
 
-value-told : (i : ℕ) (v : ℤ) (t : ℕ) → Signed32 v → IsTold (ofStatus i (some v) t)
-value-told i v t h l q = rw (known-back true, signed-word v h)
+value-told : (i : ℕ) (v : ℤ) (old : Bool) (t : ℕ) → Signed32 v → IsTold (ofStatus i (some v) old t)
+value-told i v old t h l q = rw (known-back true old, old-back true old, signed-word v h)
 
-no-value-told : (i t : ℕ) → IsTold (ofStatus i none t)
-no-value-told i t l q = rw (known-back false)
+no-value-told : (i : ℕ) (old : Bool) (t : ℕ) → IsTold (ofStatus i none old t)
+no-value-told i old t l q = rw (known-back false old, old-back false old)
 
 aggregated-told : (v t : ℕ) → v < 256 → IsTold (ofAggregated v t)
 aggregated-told v t h l q = rw (mod-eq-of-lt h)
@@ -95,24 +96,21 @@ aggregated-told v t h l q = rw (mod-eq-of-lt h)
 -- the value of a content, and of what its entry tells
 abbrev valueOf : ℤ → Content → ℤ
 valueOf v (ofAlarm i a) = v
-valueOf v (ofStatus i none t) = v
-valueOf v (ofStatus i (some w) t) = w
+valueOf v (ofStatus i none old t) = v
+valueOf v (ofStatus i (some w) old t) = w
 valueOf v (ofAggregated w t) = v
 
 abbrev booleansOf : ℕ → Content → ℕ
 booleansOf v (ofAlarm i a) = v
-booleansOf v (ofStatus i w t) = v
+booleansOf v (ofStatus i w old t) = v
 booleansOf v (ofAggregated w t) = w
 
-value-read : (i : ℕ) (v : ℤ) (t : ℕ) → IsTold (ofStatus i (some v) t) → signedOf (wordOf v) ≡ v
-value-read i v t h =
-    ap (λ (b : Bool). valueOf (signedOf (wordOf v)) (ofStatus i (pick b (some (signedOf (wordOf v))) none) t)) (sym (known-back true)) ∙ ap (valueOf (signedOf (wordOf v))) (h 0 0)
+value-read : (i : ℕ) (v : ℤ) (old : Bool) (t : ℕ) → IsTold (ofStatus i (some v) old t) → signedOf (wordOf v) ≡ v
+value-read i v old t h =
+    ap (λ (b : Bool). valueOf (signedOf (wordOf v)) (ofStatus i (pick b (some (signedOf (wordOf v))) none) old t)) (sym (known-back true old)) ∙ ap (valueOf (signedOf (wordOf v))) (h 0 0)
 
 aggregated-read : (v t : ℕ) → IsTold (ofAggregated v t) → v % 256 ≡ v
 aggregated-read v t h = ap (booleansOf v) (h 0 0)
-
-no : {P : Type 0} → false ≡ true → P
-no e = absurd (let z : _≡_ {A = ℕ} 0 1 = cc in omega arith)
 
 -- ---- alarms are alike where their times and their flags are
 alike-is : (x y : Bool) → x ≡ y → alike y x ≡ true
@@ -127,24 +125,12 @@ is-alike false false e = refl
 is-alike true false e = sym e
 is-alike false true e = e
 
-pub left-of : (x y : Bool) → both x y ≡ true → x ≡ true
-left-of true y e = refl
-left-of false y e = e
-
-pub right-of : (x y : Bool) → both x y ≡ true → y ≡ true
-right-of true y e = e
-right-of false y e = no e
-
-both-true : (x : Bool) → both x true ≡ x
-both-true true = refl
-both-true false = refl
-
-both-false : (x : Bool) → both x false ≡ false
-both-false true = refl
-both-false false = refl
+both-yes : (x : Bool) → both x true ≡ x
+both-yes true = refl
+both-yes false = refl
 
 to-end : (t x y z w : Bool) → both t (both x (both y (both z w))) ≡ both x (both y (both z (both w t)))
-to-end true x y z w = rw (both-true w)
+to-end true x y z w = rw (both-yes w)
 to-end false x y z w = rw (both-false w, both-false z, both-false y, both-false x)
 
 same-test : (x y : Bool) → (x ≡ true → y ≡ true) → (y ≡ true → x ≡ true) → x ≡ y
@@ -184,13 +170,13 @@ module _ (a b : Alarm) where
 
   alike-flags : states ≡ true → flagsFor a ≡ flagsFor b
   alike-flags e =
-      let k = right-of (alike (b .active) (a .active)) _ e in
-      let s = right-of (alike (b .acknowledged) (a .acknowledged)) _ k in
+      let k = both-second (alike (b .active) (a .active)) _ e in
+      let s = both-second (alike (b .acknowledged) (a .acknowledged)) _ k in
       rw (
-        is-alike (a .active) (b .active) (left-of (alike (b .active) (a .active)) _ e),
-        is-alike (a .acknowledged) (b .acknowledged) (left-of (alike (b .acknowledged) (a .acknowledged)) _ k),
-        is-alike (a .suspended) (b .suspended) (left-of (alike (b .suspended) (a .suspended)) _ s),
-        eqb-true (eventNumber (b .event)) (eventNumber (a .event)) (right-of (alike (b .suspended) (a .suspended)) _ s),
+        is-alike (a .active) (b .active) (both-first (alike (b .active) (a .active)) _ e),
+        is-alike (a .acknowledged) (b .acknowledged) (both-first (alike (b .acknowledged) (a .acknowledged)) _ k),
+        is-alike (a .suspended) (b .suspended) (both-first (alike (b .suspended) (a .suspended)) _ s),
+        eqb-true (eventNumber (b .event)) (eventNumber (a .event)) (both-second (alike (b .suspended) (a .suspended)) _ s),
       )
 
   flags-same : eqb (flagsFor a) (flagsFor b) ≡ states
@@ -216,9 +202,9 @@ carried-entry b i h e = go (h .content) e
         → pick (maybe false (sameAlarm b) (alarmOf i c)) (theRecord (h .sequence)) noRecord
         ≡ pick (both (eqb (entryFor (h .link) (h .sequence) c .time) (b .time)) (eqb (entryFor (h .link) (h .sequence) c .flags) (flagsFor b))) (theRecord (entryFor (h .link) (h .sequence) c .sequence)) noRecord
     go (ofAlarm n a) e = rw (number a (eqb n i) e, same-alarm a b)
-    go (ofStatus n none t) e = no e
-    go (ofStatus n (some v) t) e = no e
-    go (ofAggregated v t) e = no e
+    go (ofStatus n none old t) e = untrue e
+    go (ofStatus n (some v) old t) e = untrue e
+    go (ofAggregated v t) e = untrue e
 
 pub contents : Contents
 contents =

@@ -2,6 +2,7 @@
 -- Assumes nothing.
 use Prim.Native.Nat.{ℕ, suc, _+_, _%_, _≤_, _<_}
 use mathlib.Core.Path.{_≡_}
+use mathlib.Core.Bool.{Bool}
 use mathlib.Core.List.{List, [], map}
 use mathlib.Core.Option.{some, none}
 use lib.Dec.{eqb}
@@ -28,10 +29,10 @@ use Rattle.refine_pool.specs.Same.{SamePool}
 -- which contents their entries tell, and what the code reads of such an entry
 pub record Contents : Type 0 where
   pub alarm : (i : ℕ) (a : Alarm) → IsTold (ofAlarm i a)
-  pub value : (i : ℕ) (v : ℤ) (t : ℕ) → Signed32 v → IsTold (ofStatus i (some v) t)
-  pub no-value : (i t : ℕ) → IsTold (ofStatus i none t)
+  pub value : (i : ℕ) (v : ℤ) (old : Bool) (t : ℕ) → Signed32 v → IsTold (ofStatus i (some v) old t)
+  pub no-value : (i : ℕ) (old : Bool) (t : ℕ) → IsTold (ofStatus i none old t)
   pub aggregated : (v t : ℕ) → v < 256 → IsTold (ofAggregated v t)
-  pub value-read : (i : ℕ) (v : ℤ) (t : ℕ) → IsTold (ofStatus i (some v) t) → signedOf (wordOf v) ≡ v
+  pub value-read : (i : ℕ) (v : ℤ) (old : Bool) (t : ℕ) → IsTold (ofStatus i (some v) old t) → signedOf (wordOf v) ≡ v
   pub aggregated-read : (v t : ℕ) → IsTold (ofAggregated v t) → v % 256 ≡ v
   -- "equals that alarm's last event, states and time": the code compares times and flags
   pub same-alarm : (a b : Alarm) → both (eqb (a .time) (b .time)) (eqb (flagsFor a) (flagsFor b)) ≡ sameAlarm b a

@@ -11,7 +11,7 @@ use lib.ListN.{length, getD, replicate}
 use Rattle.basis.specs.Pick.{pick, both}
 use Rattle.number.specs.Signed.{signedOf}
 use Rattle.entry.specs.declared.Entry.{Entry}
-use Rattle.entry.specs.Flags.{alarmFlags, eventOf, isAcknowledged, isActive, isSuspended, isKnown}
+use Rattle.entry.specs.Flags.{alarmFlags, eventOf, isAcknowledged, isActive, isSuspended, isKnown, isOld}
 use Rattle.pool.specs.declared.Place.{Place}
 use Rattle.pool.specs.declared.Reading.{Reading}
 use Rattle.pool.specs.declared.Sought.{Sought}
@@ -47,13 +47,13 @@ alarmIn e =
     (alarmOf (isActive (e .flags)) (isAcknowledged (e .flags)) (isSuspended (e .flags)) (eventIn (eventOf (e .flags))) (e .time))
 
 abbrev pub statusIn : Entry → Content
-statusIn e = ofStatus (e .item) (pick (isKnown (e .flags)) (some (signedOf (e .value))) none) (e .time)
+statusIn e = ofStatus (e .item) (pick (isKnown (e .flags)) (some (signedOf (e .value))) none) (isOld (e .flags)) (e .time)
 
 -- "the eight booleans, first highest, in the low byte"
 abbrev pub contentOf : Entry → Content
 contentOf e = pick (eqb (e .kind) 0) (alarmIn e) (pick (eqb (e .kind) 1) (statusIn e) (ofAggregated (e .value % 256) (e .time)))
 
--- a content that its entry tells: every alarm's, a status' without a value or with a signed one of 32 bits, eight booleans
+-- a content that its entry tells: every alarm's, a status' without a value or with a signed one of 32 bits, recent or old, eight booleans
 abbrev pub IsTold : Content → Type 0
 IsTold c = (link sequence : ℕ) → contentOf (entryFor link sequence c) ≡ c
 
