@@ -11,19 +11,19 @@ use native.Mathlib.Omega.{arith}
 use borrow.Author.Tests.{eqb-true}
 use Rattle.basis.specs.Pick.{pick}
 use Rattle.basis.proofs.Cases.{bool-cases}
+use Rattle.basis.proofs.Both.{not-both}
 use Rattle.json_value.specs.Grammar.{Json}
 use Rattle.write_message.specs.Message.Message.{ack}
 use Rattle.machine.specs.Words.{Bytes, keep, any, changed, upTo}
-use Rattle.machine.specs.State.{Awaited, Life, fresh, Machine, lifeAt, withLife, Act, Call, Effect, effect, only}
+use Rattle.machine.specs.State.{Awaited, Life, fresh, Machine, lifeAt, withLife, Act, Call, Outcome, Effect, effect, only}
 use Rattle.machine.specs.State.Act.{packet}
 use Rattle.machine.specs.Json.{stringOf, isType}
 use Rattle.machine.specs.Table.{lastSequence}
 use Rattle.machine.specs.Life.{answeredTo, isLate}
 use Rattle.machine.specs.Answers.{isAnswer, isIgnored, reasonOf}
 use Rattle.machine.specs.Effects.{ownIdentity, answerCloses, acknowledges, settle, carriedOut, receives, effectOf}
-use Rattle.machine.specs.Step.{numberOf, step}
-use Rattle.demand_held.proofs.Lists.{clash}
-use Rattle.demand_held.proofs.Steps.{step-done, step-refused, refused-number}
+use Rattle.machine.specs.Step.{numberOf, outcome, step}
+use Rattle.demand_held.proofs.Steps.{step-done, step-refused}
 use Rattle.demand_greeted.proofs.Apart.{apart}
 use Rattle.demand_greeted.proofs.Demand.{by-number}
 use Rattle.demand_happens.specs.Pumped.{at}
@@ -39,7 +39,7 @@ set-at (suc l) x d (y ∷ xs) h = set-at l x d xs (omega arith)
 
 -- a connected link is one of the list
 pub is-there : (l : ℕ) (ks : List Life) → getD ks l (fresh false) .connected ≡ true → l < length ks
-is-there l [] e = clash e refl
+is-there l [] e = not-both e refl
 is-there zero (k ∷ ks) e = omega arith
 is-there (suc l) (k ∷ ks) e = omega (arith, is-there l ks e)
 
@@ -52,14 +52,17 @@ unkept f l [] e = refl
 unkept f l (x ∷ xs) e = go (f x) refl (unkept f l xs e)
   where
     other : f x ≡ true → eqb l x ≡ false
-    other g = bool-cases (eqb l x) (λ s. clash g (rw (← eqb-true l x s) e)) (λ s. s)
+    other g = bool-cases (eqb l x) (λ s. not-both g (rw (← eqb-true l x s) e)) (λ s. s)
 
     go : (b : Bool) → f x ≡ b → any (eqb l) (keep f xs) ≡ false → any (eqb l) (pick b (x ∷ keep f xs) (keep f xs)) ≡ false
     go true g r = rw (other g) r
     go false g r = r
 
 pub meanwhile-life : (l : ℕ) (m : Machine) (c : Call) → Meanwhile l m c → lifeAt (step m c .1) l ≡ lifeAt m l
-meanwhile-life l m c (not-done {n} r) = rw (step-refused m c n (refused-number m c n r))
+meanwhile-life l m c (not-done {n} r) =
+    by-number m c
+    (λ e. let d : step m c .0 ≡ outcome (effectOf m (c .time) (c .act)) = ap (λ (r : Outcome × Machine). r .0) (step-done m c e) in absurd (let z : _≡_ {A = ℕ} 0 1 = cc in omega arith))
+    (λ k e. rw (step-refused m c k e))
 meanwhile-life l m c (elsewhere o short) =
     by-number m c
     (λ e. rw (step-done m c e) (apart m (c .time) (c .act) l o (λ i. unkept (λ k. isLate (c .time) (lifeAt m k)) l (upTo (m .setup .links)) (short i)) .life))

@@ -8,6 +8,7 @@ use lib.IntN.{ℤ}
 use native.Mathlib.Omega.{arith}
 use borrow.Author.Tests.{leb-true}
 use Rattle.basis.specs.Text.{text}
+use Rattle.answer.specs.Times.{lastTime}
 use Rattle.json_character.specs.Char.{rawOf, charOf}
 use Rattle.json_text.specs.Decoded.{readChars, decoded}
 use Rattle.json_value.specs.Reader.{skipWs, literal, readScalar, readName, readStart, readMark, readEntry, readItems, readInside, readValue}
@@ -19,11 +20,10 @@ use Rattle.number.specs.Decimal.{digits, digitsBelow}
 use Rattle.calendar.specs.Days.{leapOf, years, months, dayOf}
 use Rattle.calendar.specs.Civil.{yearFrom, monthFrom, dateOf}
 use Rattle.calendar.specs.Text.{secondText, milliText, timeText}
-use Rattle.calendar.specs.Read.{readSecond, readMilli, readTime}
+use Rattle.calendar.specs.Read.{readSecond, readDecimals, readRest, readTime}
 use Rattle.machine.specs.State.{Machine, lifeAt}
 use Rattle.machine.specs.State.Act.{connect, statusValue, tick}
 use Rattle.machine.specs.Json.{versionIn}
-use Rattle.machine.specs.Table.{lastTime}
 use Rattle.machine.specs.Life.{isUp, close, carriedBy, dueUp, due}
 use Rattle.machine.specs.Answers.{isIgnored, needs, reasons}
 use Rattle.machine.specs.Items.{intervals, becomes}
@@ -58,7 +58,7 @@ connect-no-tick : (l : ℕ) → connect l ≡ tick → ⊥
 connect-no-tick l e = let z : _≡_ {A = ℕ} 0 1 = cc in omega arith
 
 pub greets-example : Greets 0 (started 2) down conversation
-unfolding rawOf charOf readChars decoded skipWs literal readScalar readName readStart readMark readEntry readItems readInside readValue noTwice allOnce once isPacket meaningOf hexDigit lowerHex identityText digits digitsBelow leapOf years months dayOf yearFrom monthFrom dateOf secondText milliText timeText readSecond readMilli readTime versionIn close carriedBy dueUp due isIgnored needs reasons intervals becomes connects closes ticks sends answers answered refuses carriedOut replying receives effectOf conditions step
+unfolding rawOf charOf readChars decoded skipWs literal readScalar readName readStart readMark readEntry readItems readInside readValue noTwice allOnce once isPacket meaningOf hexDigit lowerHex identityText digits digitsBelow leapOf years months dayOf yearFrom monthFrom dateOf secondText milliText timeText readSecond readDecimals readRest readTime versionIn close carriedBy dueUp due isIgnored needs reasons intervals becomes connects closes ticks sends answers answered refuses carriedOut replying receives effectOf conditions step
 greets-example =
     meanwhile (elsewhere refl (λ e. absurd (value-no-tick _ _ e)))
     (connects-now (timely _ noon refl refl)
@@ -79,5 +79,5 @@ greets-example =
     greeted))))))))))
 
 pub up-example : isUp (lifeAt (leaves (started 2) conversation) 0) ≡ true
-unfolding rawOf charOf readChars decoded skipWs literal readScalar readName readStart readMark readEntry readItems readInside readValue noTwice allOnce once isPacket meaningOf hexDigit lowerHex identityText digits digitsBelow leapOf years months dayOf yearFrom monthFrom dateOf secondText milliText timeText readSecond readMilli readTime versionIn close carriedBy dueUp due isIgnored needs reasons intervals becomes connects closes ticks sends answers answered refuses carriedOut replying receives effectOf conditions step
+unfolding rawOf charOf readChars decoded skipWs literal readScalar readName readStart readMark readEntry readItems readInside readValue noTwice allOnce once isPacket meaningOf hexDigit lowerHex identityText digits digitsBelow leapOf years months dayOf yearFrom monthFrom dateOf secondText milliText timeText readSecond readDecimals readRest readTime versionIn close carriedBy dueUp due isIgnored needs reasons intervals becomes connects closes ticks sends answers answered refuses carriedOut replying receives effectOf conditions step
 up-example = refl

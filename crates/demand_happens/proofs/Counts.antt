@@ -10,18 +10,17 @@ use lib.Dec.{eqb, leb}
 use native.Mathlib.Omega.{arith}
 use borrow.Author.Tests.{eq-eqb, ne-eqb}
 use Rattle.basis.specs.Pick.{pick, both, bit}
-use Rattle.basis.specs.Lists.{count}
+use Rattle.basis.specs.Lists.{count, Among}
+use Rattle.basis.specs.Lists.Among.{first as here, later}
 use Rattle.basis.proofs.Cases.{bool-cases, picked}
+use Rattle.basis.proofs.Both.{not-both, both-true}
 use Rattle.machine.specs.Words.{isSome, firstThat}
 use Rattle.machine.specs.State.{Held}
 use Rattle.machine.specs.Life.{alarmIn, newest}
 use Rattle.machine.specs.Pool.{isFor, settled, marked}
-use Rattle.machine.specs.Run.{Among}
-use Rattle.machine.specs.Run.Among.{here, later}
-use Rattle.demand_held.proofs.Lists.{clash, bit-true, among-map, among-keep}
+use Rattle.demand_held.proofs.Lists.{bit-true, among-map, among-keep}
 use Rattle.demand_held.proofs.Good.{Rising}
 use Rattle.demand_held.proofs.Good.Rising.{rises}
-use Rattle.demand_greeted.proofs.Tests.{both-true}
 use Rattle.demand_happens.specs.Records.{isBefore}
 
 -- record n of link l, marked and settled
@@ -54,7 +53,7 @@ module _ (l n : ℕ) where
         → suc (count (isBefore l x) (gone l n hs)) ≤ count (isBefore l x) hs
     count-one-gone (h ∷ hs) here f e =
         picked (λ (r : List Held). suc (count (isBefore l x) r) ≤ bit (isBefore l x h) + count (isBefore l x) hs) (stays (marked n h)) (marked n h ∷ gone l n hs) (gone l n hs)
-        (λ g. clash g (rw (both-true (isFor l h) _ f .0, eq-eqb (h .sequence) n e)))
+        (λ g. not-both g (rw (both-true (isFor l h) _ f .0, eq-eqb (h .sequence) n e)))
         (λ g. omega (arith, count-gone hs, bit-true (isBefore l x h) f))
     count-one-gone (y ∷ hs) (later a) f e =
         picked (λ (r : List Held). suc (count (isBefore l x) r) ≤ bit (isBefore l x y) + count (isBefore l x) hs) (stays (marked n y)) (marked n y ∷ gone l n hs) (gone l n hs)

@@ -8,10 +8,10 @@ use lib.ListN.{length}
 use native.Mathlib.Omega.{arith}
 use borrow.Author.Tests.{le-ltb, lt-leb}
 use Rattle.basis.proofs.Cases.{bool-cases}
+use Rattle.answer.specs.Times.{lastTime}
 use Rattle.machine.specs.Words.{Bytes}
 use Rattle.machine.specs.State.{Machine, lifeAt}
 use Rattle.machine.specs.State.Act.{pump}
-use Rattle.machine.specs.Table.{lastTime}
 use Rattle.machine.specs.Life.{Due, due}
 use Rattle.machine.specs.Step.{noSuchLink, badTime, isDownAt, conditions, numberOf}
 use Rattle.demand_happens.specs.Pumped.{at, Timely, CanPump}

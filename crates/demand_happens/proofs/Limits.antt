@@ -1,15 +1,16 @@
 -- The next number never passes number 10's limit by more than one, over every run.
 -- Assumes nothing.
 use Prim.Native.Nat.{ℕ, suc, _+_, _≤_, _<_}
-use mathlib.Core.Path.{_≡_, refl, _∙_, ap}
-use mathlib.Core.Bool.{Bool, true, false}
+use mathlib.Core.Path.{_≡_, _∙_, ap}
+use mathlib.Core.Bool.{true, false}
 use mathlib.Core.List.{List, [], _∷_}
 use mathlib.Core.Option.{some, none}
 use lib.Dec.{ltb, leb}
 use lib.ListN.{length}
 use native.Mathlib.Omega.{arith}
 use borrow.Author.Tests.{ltb-false, leb-true}
-use Rattle.basis.specs.Pick.{both}
+use Rattle.basis.specs.Lists.Among.{first, later}
+use Rattle.basis.proofs.Both.{both-true}
 use Rattle.machine.specs.Words.{firstOf, maybe}
 use Rattle.machine.specs.State.{Issued, Pool, Start, Machine, Act, Call, Effect, only}
 use Rattle.machine.specs.State.Act.{connect, disconnect, packet, alarmInput, statusValue, aggregatedValue, tick, pump}
@@ -20,9 +21,8 @@ use Rattle.machine.specs.Pool.{issue, issueAll}
 use Rattle.machine.specs.Effects.{connects, closes, sends, ownIdentity, effectOf}
 use Rattle.machine.specs.Step.{sequenceEnds, conditions, numberOf, step}
 use Rattle.machine.specs.Run.{Past, Run}
-use Rattle.machine.specs.Run.Among.{here, later}
 use Rattle.machine.specs.Run.Run.{begun, next}
-use Rattle.demand_held.proofs.Lists.{maybe-cases, clash, Each}
+use Rattle.demand_held.proofs.Lists.{maybe-cases, Each}
 use Rattle.demand_held.proofs.Lists.Each.{no-more, one-more}
 use Rattle.demand_held.proofs.Good.{Good}
 use Rattle.demand_held.proofs.Issue.{For, issue-good, issue-next, issue-lost}
@@ -31,13 +31,12 @@ use Rattle.demand_held.proofs.Lays.{Lays, lays}
 use Rattle.demand_held.proofs.Steps.{laid, step-done, step-refused, there}
 use Rattle.demand_held.proofs.Demand.{Sound, run-sound}
 use Rattle.demand_told.proofs.Replies.{none-at}
-use Rattle.demand_greeted.proofs.Tests.{both-true}
 use Rattle.demand_greeted.proofs.Demand.{by-number}
 
 all-next : (is : List Issued) (p : Pool) → Good p → Each (For (length (p .lost))) is → issueAll is p .next ≡ p .next + length is
 all-next [] p g no-more = omega arith
 all-next (i ∷ is) p g (one-more f r) =
-    omega (arith, all-next is (issue i p) (issue-good i p g f) (rw (issue-lost i p g) r), issue-next i p g)
+    omega (arith, all-next is (issue i p) (issue-good i p g f) (rw (issue-lost i p g f) r), issue-next i p g f)
 
 -- ---- a done call
 unended : (m : Machine) (e : Effect) → sequenceEnds m e ≡ false → m .pool .next + length (e .issues) ≤ suc lastSequence
@@ -51,11 +50,11 @@ unfolding conditions effectOf connects closes sends
 within m t (connect l) f h = omega (arith, h)
 within m t (disconnect l) f h = omega (arith, h)
 within m t (packet l random bytes room) f h =
-    unended m (effectOf m t (packet l random bytes room)) (none-at (conditions m t (packet l random bytes room)) f (later (later (later (later (later (later (later here))))))))
-within m t (alarmInput i active) f h = unended m (effectOf m t (alarmInput i active)) (none-at (conditions m t (alarmInput i active)) f (later (later here)))
-within m t (statusValue i v) f h = unended m (effectOf m t (statusValue i v)) (none-at (conditions m t (statusValue i v)) f (later (later here)))
-within m t (aggregatedValue v) f h = unended m (effectOf m t (aggregatedValue v)) (none-at (conditions m t (aggregatedValue v)) f (later here))
-within m t tick f h = unended m (effectOf m t tick) (none-at (conditions m t tick) f (later here))
+    unended m (effectOf m t (packet l random bytes room)) (none-at (conditions m t (packet l random bytes room)) f (later (later (later (later (later (later (later first))))))))
+within m t (alarmInput i active) f h = unended m (effectOf m t (alarmInput i active)) (none-at (conditions m t (alarmInput i active)) f (later (later first)))
+within m t (statusValue i v) f h = unended m (effectOf m t (statusValue i v)) (none-at (conditions m t (statusValue i v)) f (later (later first)))
+within m t (aggregatedValue v) f h = unended m (effectOf m t (aggregatedValue v)) (none-at (conditions m t (aggregatedValue v)) f (later first))
+within m t tick f h = unended m (effectOf m t tick) (none-at (conditions m t tick) f (later first))
 within m t (pump l random room) f h =
     maybe-cases (Within m) (only m) (sends l t (ownIdentity random) m) (due m l t) (λ e. omega (arith, h)) (λ d e. omega (arith, h))
 

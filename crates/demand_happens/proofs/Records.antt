@@ -11,8 +11,10 @@ use lib.ListN.{length}
 use native.Mathlib.Omega.{arith}
 use borrow.Author.Tests.{eq-eqb, eqb-true, le-leb, lt-leb, ltb-true}
 use Rattle.basis.specs.Pick.{pick, both}
-use Rattle.basis.specs.Lists.{count}
+use Rattle.basis.specs.Lists.{count, Among}
+use Rattle.basis.specs.Lists.Among.{first as here}
 use Rattle.basis.proofs.Cases.{bool-cases, picked, eq-or-ne}
+use Rattle.basis.proofs.Both.{not-both, both-true}
 use Rattle.json_value.specs.Grammar.{Json}
 use Rattle.table_whole.specs.Table.{Table}
 use Rattle.machine.specs.Words.{Bytes, maybe, alike}
@@ -26,12 +28,10 @@ use Rattle.machine.specs.Life.Due.{theWatchdog, theAggregated, theAlarm, theHel
 use Rattle.machine.specs.Messages.{alarmMessage, recordMessage}
 use Rattle.machine.specs.Effects.{ownIdentity, dueMessage, sentAs, afterSending}
 use Rattle.machine.specs.Step.{step}
-use Rattle.machine.specs.Run.{Past, Run, Among}
-use Rattle.machine.specs.Run.Among.{here}
+use Rattle.machine.specs.Run.{Past, Run}
 use Rattle.machine.specs.Run.Run.{next}
-use Rattle.demand_held.proofs.Lists.{maybe-cases, clash}
+use Rattle.demand_held.proofs.Lists.{maybe-cases}
 use Rattle.demand_held.proofs.Demand.{run-sound}
-use Rattle.demand_greeted.proofs.Tests.{both-true}
 use Rattle.demand_happens.specs.Pumped.{at}
 use Rattle.demand_happens.specs.Records.{nextBeat, IsRound, Rounds, isBefore, ahead, GoesOut, Sending}
 use Rattle.demand_happens.specs.Records.Rounds.{over, round, beat}
@@ -59,19 +59,19 @@ use Rattle.demand_happens.proofs.Round.{
 -- ---- the message of a pass that carries a record is the record's own
 same-flag : (a b : Bool) → alike a b ≡ true → a ≡ b
 same-flag true true e = refl
-same-flag true false e = clash e refl
-same-flag false true e = clash e refl
+same-flag true false e = not-both e refl
+same-flag false true e = not-both e refl
 same-flag false false e = refl
 
 same-event : (a b : Event) → eqb (eventNumber a) (eventNumber b) ≡ true → a ≡ b
 same-event Issue Issue e = refl
-same-event Issue Acknowledge e = clash e refl
-same-event Issue Suspend e = clash e refl
-same-event Acknowledge Issue e = clash e refl
+same-event Issue Acknowledge e = not-both e refl
+same-event Issue Suspend e = not-both e refl
+same-event Acknowledge Issue e = not-both e refl
 same-event Acknowledge Acknowledge e = refl
-same-event Acknowledge Suspend e = clash e refl
-same-event Suspend Issue e = clash e refl
-same-event Suspend Acknowledge e = clash e refl
+same-event Acknowledge Suspend e = not-both e refl
+same-event Suspend Issue e = not-both e refl
+same-event Suspend Acknowledge e = not-both e refl
 same-event Suspend Suspend e = refl
 
 same-alarm : (a b : Alarm) → sameAlarm a b ≡ true → a ≡ b
@@ -92,9 +92,9 @@ own-message t id i a (ofAlarm n b) e = go (eqb n i) refl e
   where
     go : (q : Bool) → eqb n i ≡ q → maybe false (sameAlarm a) (pick q (some b) none) ≡ true → alarmMessage t id i a ≡ alarmMessage t id n b
     go true f g = rw (eqb-true n i f, same-alarm a b g)
-    go false f g = clash g refl
-own-message t id i a (ofStatus n v time) e = clash e refl
-own-message t id i a (ofAggregated v time) e = clash e refl
+    go false f g = not-both g refl
+own-message t id i a (ofStatus n v old time) e = not-both e refl
+own-message t id i a (ofAggregated v time) e = not-both e refl
 
 pub data Carries (m : Machine) (l i : ℕ) : Sent → Type 0 where
   nothing : Carries m l i noRecord

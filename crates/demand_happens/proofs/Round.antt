@@ -8,6 +8,7 @@ use mathlib.Core.Option.{some, none}
 use lib.ListN.{length}
 use native.Mathlib.Omega.{arith}
 use Rattle.basis.proofs.Cases.{picked}
+use Rattle.basis.proofs.Both.{both-true}
 use Rattle.json_value.specs.Grammar.{Json}
 use Rattle.machine.specs.Words.{Bytes, maybe}
 use Rattle.machine.specs.State.{Held, Sent, Awaited, Life, fresh, Start, Machine, lifeAt, withLife, Outcome, only}
@@ -23,7 +24,6 @@ use Rattle.machine.specs.Step.{after, step}
 use Rattle.machine.specs.Run.{Past, past, Run}
 use Rattle.machine.specs.Run.Run.{next}
 use Rattle.demand_held.proofs.Steps.{step-done}
-use Rattle.demand_greeted.proofs.Tests.{both-true}
 use Rattle.demand_greeted.proofs.Apart.{mark-lives, settle-lives}
 use Rattle.demand_greeted.proofs.Demand.{same-setup}
 use Rattle.demand_happens.specs.Pumped.{at, CanPump}

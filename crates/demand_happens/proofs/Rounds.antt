@@ -19,14 +19,14 @@ use Rattle.number.specs.Decimal.{digits, digitsBelow}
 use Rattle.calendar.specs.Days.{leapOf, years, months, dayOf}
 use Rattle.calendar.specs.Civil.{yearFrom, monthFrom, dateOf}
 use Rattle.calendar.specs.Text.{secondText, milliText, timeText}
-use Rattle.calendar.specs.Read.{readSecond, readMilli, readTime}
+use Rattle.calendar.specs.Read.{readSecond, readDecimals, readRest, readTime}
 use Rattle.write_message.specs.Message.Message.{aggregated}
 use Rattle.machine.specs.Json.{versionIn}
 use Rattle.machine.specs.Life.{close, carriedBy, dueUp, due}
 use Rattle.machine.specs.Answers.{isIgnored, needs, reasons}
 use Rattle.machine.specs.Items.{intervals, becomes, aggregates, happens}
 use Rattle.machine.specs.Effects.{connects, closes, ticks, sends, answers, answered, refuses, carriedOut, replying, receives, effectOf}
-use Rattle.machine.specs.Pool.{lose, makeRoom, issue, isStuck}
+use Rattle.machine.specs.Pool.{lose, makeRoom, issue}
 use Rattle.machine.specs.Step.{conditions, step, outcomes, leaves}
 use Rattle.machine.specs.Example.{noon, started, own, quiet, says, alarmNow}
 use Rattle.demand_happens.specs.Records.{Rounds, ahead}
@@ -35,11 +35,11 @@ use Rattle.demand_happens.specs.Example.{inputs, theAggregatedRecord, ho
 use Rattle.demand_happens.proofs.Conversation.{timely}
 
 pub holds-three : leaves (started 2) inputs ≡ holding
-unfolding rawOf charOf readChars decoded skipWs literal readScalar readName readStart readMark readEntry readItems readInside readValue noTwice allOnce once isPacket meaningOf hexDigit lowerHex identityText digits digitsBelow leapOf years months dayOf yearFrom monthFrom dateOf secondText milliText timeText readSecond readMilli readTime versionIn close carriedBy dueUp due isIgnored needs reasons intervals becomes aggregates happens lose makeRoom issue isStuck connects closes ticks sends answers answered refuses carriedOut replying receives effectOf conditions step
+unfolding rawOf charOf readChars decoded skipWs literal readScalar readName readStart readMark readEntry readItems readInside readValue noTwice allOnce once isPacket meaningOf hexDigit lowerHex identityText digits digitsBelow leapOf years months dayOf yearFrom monthFrom dateOf secondText milliText timeText readSecond readDecimals readRest readTime versionIn close carriedBy dueUp due isIgnored needs reasons intervals becomes aggregates happens lose makeRoom issue connects closes ticks sends answers answered refuses carriedOut replying receives effectOf conditions step
 holds-three = refl
 
 pub three-rounds : Rounds 0 holding 3 threeRounds
-unfolding rawOf charOf readChars decoded skipWs literal readScalar readName readStart readMark readEntry readItems readInside readValue noTwice allOnce once isPacket meaningOf hexDigit lowerHex identityText digits digitsBelow leapOf years months dayOf yearFrom monthFrom dateOf secondText milliText timeText readSecond readMilli readTime versionIn close carriedBy dueUp due isIgnored needs reasons intervals becomes connects closes ticks sends answers answered refuses carriedOut replying receives effectOf conditions step
+unfolding rawOf charOf readChars decoded skipWs literal readScalar readName readStart readMark readEntry readItems readInside readValue noTwice allOnce once isPacket meaningOf hexDigit lowerHex identityText digits digitsBelow leapOf years months dayOf yearFrom monthFrom dateOf secondText milliText timeText readSecond readDecimals readRest readTime versionIn close carriedBy dueUp due isIgnored needs reasons intervals becomes connects closes ticks sends answers answered refuses carriedOut replying receives effectOf conditions step
 three-rounds =
     round (record {
       timely = timely _ noon refl refl;
@@ -71,5 +71,5 @@ pub told-three : outcomes holding threeRounds
     ≡ says (aggregated (own 3) (text "C0") noon 1 ∷ []) ∷ quiet
     ∷ says (alarmNow 4 0 noon false true false ∷ []) ∷ quiet
     ∷ says (aggregated (own 5) (text "C0") noon 1 ∷ []) ∷ quiet ∷ []
-unfolding rawOf charOf readChars decoded skipWs literal readScalar readName readStart readMark readEntry readItems readInside readValue noTwice allOnce once isPacket meaningOf hexDigit lowerHex identityText digits digitsBelow leapOf years months dayOf yearFrom monthFrom dateOf secondText milliText timeText readSecond readMilli readTime versionIn close carriedBy dueUp due isIgnored needs reasons intervals becomes connects closes ticks sends answers answered refuses carriedOut replying receives effectOf conditions step
+unfolding rawOf charOf readChars decoded skipWs literal readScalar readName readStart readMark readEntry readItems readInside readValue noTwice allOnce once isPacket meaningOf hexDigit lowerHex identityText digits digitsBelow leapOf years months dayOf yearFrom monthFrom dateOf secondText milliText timeText readSecond readDecimals readRest readTime versionIn close carriedBy dueUp due isIgnored needs reasons intervals becomes connects closes ticks sends answers answered refuses carriedOut replying receives effectOf conditions step
 told-three = refl

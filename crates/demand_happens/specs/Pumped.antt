@@ -7,12 +7,12 @@ use mathlib.Core.List.{[], _∷_}
 use mathlib.Core.Option.{some, none}
 use lib.ListN.{length}
 use Rattle.basis.specs.Text.{text}
+use Rattle.answer.specs.Times.{lastTime}
 use Rattle.write_message.specs.Message.Message.{aggregated}
 use Rattle.machine.specs.Words.{Bytes}
 use Rattle.machine.specs.State.{Machine, lifeAt, Act, Call}
 use Rattle.machine.specs.State.Act.{pump}
 use Rattle.machine.specs.State.Outcome.{done}
-use Rattle.machine.specs.Table.{lastTime}
 use Rattle.machine.specs.Life.{isAwaited, Due, due}
 use Rattle.machine.specs.Life.Due.{theAggregated}
 use Rattle.machine.specs.Effects.{ownIdentity, dueMessage, sends}

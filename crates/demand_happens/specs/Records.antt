@@ -7,7 +7,7 @@ use mathlib.Core.Bool.{Bool, true, false, not}
 use mathlib.Core.List.{List, [], _∷_}
 use mathlib.Core.Option.{none}
 use lib.Dec.{leb}
-use Rattle.basis.specs.Lists.{count}
+use Rattle.basis.specs.Lists.{count, Among}
 use Rattle.basis.specs.Text.{text}
 use Rattle.json_value.specs.Grammar.{Json}
 use Rattle.write_message.specs.Message.Message.{aggregated}
@@ -22,7 +22,7 @@ use Rattle.machine.specs.Pool.{isFor}
 use Rattle.machine.specs.Messages.{recordMessage}
 use Rattle.machine.specs.Effects.{ownIdentity}
 use Rattle.machine.specs.Step.{step, outcomes, leaves}
-use Rattle.machine.specs.Run.{Past, Run, Among}
+use Rattle.machine.specs.Run.{Past, Run}
 use Rattle.machine.specs.Example.{noon, started, own, quiet, says, alarmNow}
 use Rattle.demand_happens.specs.Pumped.{at, Timely}
 use Rattle.demand_happens.specs.Greeting.{Arrives, Answers}
