@@ -1,7 +1,7 @@
 -- Numbers that a packet asks for and that no reason refuses are numbers of the table.
 -- Assumes nothing.
-use Prim.Native.Nat.{ℕ, suc, _+_, _≤_, _<_}
-use mathlib.Core.Path.{_≡_, refl, sym, _∙_, ap}
+use Prim.Native.Nat.{ℕ, suc, _+_, _<_}
+use mathlib.Core.Path.{_≡_, refl}
 use mathlib.Core.Bool.{Bool, true, false, not}
 use mathlib.Core.List.{List, [], _∷_}
 use mathlib.Core.Option.{Option, some, none}
@@ -9,18 +9,17 @@ use lib.ListN.{length}
 use native.Mathlib.Omega.{arith}
 use Rattle.basis.specs.Pick.{pick, both}
 use Rattle.json_value.specs.Grammar.{Json}
-use Rattle.table_whole.specs.Table.{Row, Table}
-use Rattle.machine.specs.Words.{Bytes, maybe, isSome, orElse, any, placeFrom, placeOf}
+use Rattle.machine.specs.Words.{maybe, isSome, orElse, any, placeFrom}
 use Rattle.machine.specs.State.{Machine}
 use Rattle.machine.specs.Json.{stringOf, entriesOf, isType}
 use Rattle.machine.specs.Table.{alarmNumber, statusNumber}
-use Rattle.machine.specs.Answers.{componentAsked, alarmAsked, statusAsked, isStatusType, unknownAlarm, unknownStatus, reasons, reasonOf}
+use Rattle.machine.specs.Answers.{componentAsked, alarmAsked, statusAsked, unknownStatus, reasons, reasonOf}
 use Rattle.machine.specs.Items.{numberAsked}
 use Rattle.machine.specs.Run.Among.{here, later}
 use Rattle.demand_held.proofs.Lists.{clash, Each, neither}
 use Rattle.demand_held.proofs.Lists.Each.{no-more, one-more}
 use Rattle.demand_told.proofs.Replies.{none-at}
-use Rattle.demand_greeted.proofs.Tests.{must, no-not}
+use Rattle.demand_greeted.proofs.Tests.{must}
 
 place-below : {A : Type 0} (k : ℕ) (f : A → Bool) (xs : List A) (i : ℕ) → placeFrom k f xs ≡ some i → i < k + length xs
 place-below k f [] i e = absurd (let z : _≡_ {A = ℕ} 0 1 = cc in omega arith)
@@ -49,7 +48,7 @@ status-there m j e f =
     found-below (λ c. statusNumber (m .setup .table) c (stringOf "sCI" e) (stringOf "n" e)) (length (m .setup .table .statuses))
     (λ c i g. omega (arith, place-below 0 _ (m .setup .table .statuses) i g)) (componentAsked m j) f
 
-none-of-any : {A : Type 0} (f : A → Bool) (xs : List A) → any f xs ≡ false → Each (λ (x : A). f x ≡ false) xs
+pub none-of-any : {A : Type 0} (f : A → Bool) (xs : List A) → any f xs ≡ false → Each (λ (x : A). f x ≡ false) xs
 none-of-any f [] e = no-more
 none-of-any f (x ∷ xs) e = let n : (f x ≡ false) × (any f xs ≡ false) = neither (f x) (any f xs) e in one-more (n .0) (none-of-any f xs (n .1))
 

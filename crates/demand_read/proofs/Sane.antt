@@ -1,42 +1,21 @@
 -- What the machine keeps can be told: times up to the last, values of 32 bits, numbers that the table has.
 -- Assumes nothing.
-use Prim.Native.Nat.{ℕ, zero, suc, _+_, _≤_, _<_}
-use mathlib.Core.Path.{_≡_, refl, sym, _∙_, ap, subst}
-use mathlib.Core.Bool.{Bool, true, false, not}
-use mathlib.Core.List.{List, [], _∷_, _++_, map}
+use Prim.Native.Nat.{ℕ, zero, suc, _≤_, _<_}
+use mathlib.Core.Path.{_≡_, _∙_}
+use mathlib.Core.Bool.{true, false, not}
+use mathlib.Core.List.{List, [], _∷_}
 use mathlib.Core.Option.{Option, some, none}
 use lib.Dec.{leb, ltb}
 use lib.IntN.{ℤ}
 use lib.ListN.{length, getD}
 use native.Mathlib.Omega.{arith}
-use Rattle.basis.specs.Pick.{pick}
 use Rattle.basis.proofs.Cases.{picked}
 use Rattle.table_whole.specs.Table.{Table}
 use Rattle.table_whole.specs.Allowed.{Allowed}
 use Rattle.write_laws.specs.Formed.{FormedValue}
-use Rattle.write_laws.specs.Formed.FormedValue.{recent, unknown}
-use Rattle.machine.specs.Words.{Bytes, changed, butFirst}
-use Rattle.machine.specs.State.{
-  Alarm,
-  alarmOf,
-  Subscription,
-  Content,
-  Issued,
-  Held,
-  heldAs,
-  Pool,
-  Life,
-  Machine,
-  withAlarm,
-  withStatus,
-  withAggregated,
-  withSubscriptions,
-  withLife,
-  withHeld,
-  alarmAt,
-  valueAt,
-  Effect,
-}
+use Rattle.write_laws.specs.Formed.FormedValue.{unknown}
+use Rattle.machine.specs.Words.{changed}
+use Rattle.machine.specs.State.{Alarm, alarmOf, Subscription, Content, Issued, Held, Pool, Life, Machine, withAlarm, withStatus, withAggregated, withSubscriptions, withLife, withHeld, alarmAt, valueAt, Effect}
 use Rattle.machine.specs.State.Event.{Issue}
 use Rattle.machine.specs.State.Content.{ofAlarm, ofStatus, ofAggregated}
 use Rattle.machine.specs.Table.{lastTime}
