@@ -82,6 +82,7 @@ pub record Sending : Type 0 where
       ≡ says (aggregated (own 3) (text "C0") noon 1 ∷ []) ∷ quiet
       ∷ says (alarmNow 4 0 noon false true false ∷ []) ∷ quiet
       ∷ says (aggregated (own 5) (text "C0") noon 1 ∷ []) ∷ quiet ∷ []
+  -- and on a secondary
   pub second-start : Run secondStart (pasts [] secondStarted subscribes) (leaves secondStarted subscribes)
   pub holds-one : leaves secondStarted subscribes ≡ updating
   pub second-up : isUp (lifeAt updating 0) ≡ true
