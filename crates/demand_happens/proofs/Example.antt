@@ -15,7 +15,7 @@ use Rattle.machine.specs.Step.{leaves}
 use Rattle.machine.specs.Run.{Past, Run}
 use Rattle.machine.specs.Run.Run.{begun, next}
 use Rattle.machine.specs.Example.{table, started}
-use Rattle.demand_happens.specs.Example.{start, pasts}
+use Rattle.demand_happens.specs.Example.{start, pasts, secondStart, secondStarted}
 
 -- of one place there are no two
 one-place : (i j : ℕ) → i < 1 → j < 1 → i ≡ j
@@ -49,6 +49,9 @@ allowed =
 
 pub begun-example : Run start [] (started 2)
 begun-example = begun (begins {t = table} allowed refl refl)
+
+pub begun-second : Run secondStart [] secondStarted
+begun-second = begun (begins {t = table} allowed refl refl)
 
 pub goes-on : {s : Start} {h : List Past} {m : Machine} → Run s h m → (cs : List Call) → Run s (pasts h m cs) (leaves m cs)
 goes-on r [] = r

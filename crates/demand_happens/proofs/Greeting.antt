@@ -190,15 +190,15 @@ module _ (m : Machine) (l t room : ℕ) (random bytes : Bytes) (j : Json) (arriv
         over = rw (k .versions)
 
 -- ---- the whole
-up-then : (k : Life) → Talks acknowledged true acknowledged true k → isUp k ≡ true
-up-then k a = rw (a .connected, a .versions, a .watchdogs)
+up-then : (k : Life) → Talks acknowledged true acknowledged true k → (isUp k ≡ true) × (k .awaited ≡ [])
+up-then k a = (rw (a .connected, a .versions, a .watchdogs), a .awaited)
 
 module _ (s : Start) (l : ℕ) where
   links-stay : {h : List Past} {m : Machine} (r : Run s h m) (c : Call) → l < m .setup .links → l < step m c .1 .setup .links
   links-stay r c h = rw (same-setup r c) h
 
   greets-up : {h : List Past} {m : Machine} {g : Stage} {cs : List Call} → Run s h m → l < m .setup .links → IsAt g (lifeAt m l) → Greets l m g cs
-      → isUp (lifeAt (leaves m cs) l) ≡ true
+      → (isUp (lifeAt (leaves m cs) l) ≡ true) × (lifeAt (leaves m cs) l .awaited ≡ [])
   greets-up r here k (greeted {m}) = up-then (lifeAt m l) k
   greets-up r here k (meanwhile {m} {g} {c} w rest) =
       greets-up (next c r) (links-stay r c here) (subst (IsAt g) (sym (meanwhile-life l m c w)) k) rest

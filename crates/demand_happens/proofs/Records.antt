@@ -36,9 +36,9 @@ use Rattle.demand_happens.specs.Pumped.{at}
 use Rattle.demand_happens.specs.Records.{nextBeat, IsRound, Rounds, isBefore, ahead, GoesOut, Sending}
 use Rattle.demand_happens.specs.Records.Rounds.{over, round, beat}
 use Rattle.demand_happens.specs.Records.GoesOut.{at-once, later}
-use Rattle.demand_happens.specs.Example.{inputs}
-use Rattle.demand_happens.proofs.Example.{begun-example, goes-on}
-use Rattle.demand_happens.proofs.Rounds.{holds-three, three-rounds, counted-three, told-three}
+use Rattle.demand_happens.specs.Example.{inputs, subscribes}
+use Rattle.demand_happens.proofs.Example.{begun-example, begun-second, goes-on}
+use Rattle.demand_happens.proofs.Rounds.{holds-three, three-rounds, counted-three, told-three, holds-one, two-rounds, counted-two, told-two}
 use Rattle.demand_happens.proofs.Counts.{gone, count-gone, count-one-gone, still-there, some-counted, one-number, Oldest, oldest, Newest, newest-of}
 use Rattle.demand_happens.proofs.Round.{
   up-connected,
@@ -310,4 +310,10 @@ sending =
       rounds = three-rounds;
       counted = counted-three;
       told = told-three;
+      second-start = goes-on begun-second subscribes;
+      holds-one = holds-one;
+      second-up = refl;
+      second-rounds = two-rounds;
+      second-counted = counted-two;
+      second-told = told-two;
     }

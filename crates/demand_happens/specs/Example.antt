@@ -8,11 +8,12 @@ use lib.IntN.{pos}
 use Rattle.table_whole.specs.Bytes.{tableBytes}
 use Rattle.machine.specs.State.{alarmOf, Held, heldAs, poolOf, Start, Machine, machine, Call}
 use Rattle.machine.specs.State.Event.{Issue}
-use Rattle.machine.specs.State.Content.{ofAlarm, ofAggregated}
+use Rattle.machine.specs.State.Content.{ofAlarm, ofStatus, ofAggregated}
 use Rattle.machine.specs.State.Act.{connect, alarmInput, statusValue, aggregatedValue, tick, pump}
+use Rattle.machine.specs.Table.{first}
 use Rattle.machine.specs.Step.{step}
 use Rattle.machine.specs.Run.{Past, past}
-use Rattle.machine.specs.Example.{table, noon, started, later, atNoon, random, pumped, gets, greeting, up}
+use Rattle.machine.specs.Example.{table, noon, started, later, atNoon, random, pumped, gets, asks, greeting, up}
 
 abbrev pub start : Start
 start = record { table = tableBytes table; links = 2; primary = some 0; period = 60; first = 0; time = noon }
@@ -58,4 +59,30 @@ threeRounds =
     pumped 3 ∷ atNoon (gets "MessageAck\",\"oMId\":\"03030303-0303-4303-8303-030303030303\"}")
     ∷ pumped 4 ∷ atNoon (gets "MessageNotAck\",\"oMId\":\"04040404-0404-4404-8404-040404040404\"}")
     ∷ pumped 5 ∷ atNoon (gets "MessageAck\",\"oMId\":\"05050505-0505-4505-8505-050505050505\"}")
+    ∷ []
+
+-- ---- link 0 as a secondary, and a subscription of it after the greeting: a record of the status, which has no value so far
+abbrev pub secondStart : Start
+secondStart = record { table = tableBytes table; links = 2; primary = some 1; period = 60; first = 0; time = noon }
+
+abbrev pub secondStarted : Machine
+secondStarted = first table secondStart
+
+abbrev pub subscribes : List Call
+subscribes = greeting ++ (atNoon (asks "StatusSubscribe" "C0\",\"sS\":[{\"sCI\":\"S1\",\"n\":\"release\",\"uRt\":\"5\",\"sOc\":true}]}") ∷ [])
+
+abbrev pub theStatusRecord : Held
+theStatusRecord = heldAs 0 (ofStatus 0 none false noon) 0 false
+
+abbrev pub updating : Machine
+updating =
+    machine (secondStarted .setup) noon (secondStarted .alarms) (none ∷ []) 0 noon
+    (record { link = 0; status = 0; interval = 5; onChange = true; since = noon } ∷ [])
+    (up .lives)
+    (poolOf 1 (theStatusRecord ∷ []) (0 ∷ 0 ∷ []))
+
+abbrev pub twoRounds : List Call
+twoRounds =
+    pumped 3 ∷ atNoon (gets "MessageAck\",\"oMId\":\"03030303-0303-4303-8303-030303030303\"}")
+    ∷ pumped 4 ∷ atNoon (gets "MessageAck\",\"oMId\":\"04040404-0404-4404-8404-040404040404\"}")
     ∷ []

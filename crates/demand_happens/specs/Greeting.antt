@@ -1,4 +1,4 @@
--- A supervisor that follows the greeting brings a Down link to Up, with any other calls in between.
+-- A supervisor that follows the greeting brings a Down link to Up with nothing awaited, with any other calls in between.
 -- Assumes nothing.
 use Prim.Native.Nat.{ℕ, _≤_, _<_}
 use mathlib.Core.Path.{_≡_}
@@ -96,7 +96,7 @@ pub data Greets (l : ℕ) : Machine → Stage → List Call → Type 0 where
 
 pub record Greeting : Type 0 where
   pub comes-up : (s : Start) (h : List Past) (m : Machine) → Run s h m → (l : ℕ) → l < m .setup .links → isDown (lifeAt m l) ≡ true
-      → (cs : List Call) → Greets l m down cs → isUp (lifeAt (leaves m cs) l) ≡ true
+      → (cs : List Call) → Greets l m down cs → (isUp (lifeAt (leaves m cs) l) ≡ true) × (lifeAt (leaves m cs) l .awaited ≡ [])
   -- such calls, computed
   pub from-start : Run start [] (started 2)
   pub is-down : isDown (lifeAt (started 2) 0) ≡ true

@@ -10,7 +10,10 @@ use lib.Dec.{leb}
 use Rattle.basis.specs.Lists.{count, Among}
 use Rattle.basis.specs.Text.{text}
 use Rattle.json_value.specs.Grammar.{Json}
-use Rattle.write_message.specs.Message.Message.{aggregated}
+use Rattle.write_message.specs.declared.Value.the-variants.{Unknown}
+use Rattle.write_message.specs.declared.Told.the-variants.{Update}
+use Rattle.write_message.specs.Message.{status}
+use Rattle.write_message.specs.Message.Message.{aggregated, statuses}
 use Rattle.machine.specs.Words.{Bytes, _and_}
 use Rattle.machine.specs.State.{Held, Start, Machine, lifeAt, Call}
 use Rattle.machine.specs.State.Sent.{theRecord}
@@ -26,7 +29,7 @@ use Rattle.machine.specs.Run.{Past, Run}
 use Rattle.machine.specs.Example.{noon, started, own, quiet, says, alarmNow}
 use Rattle.demand_happens.specs.Pumped.{at, Timely}
 use Rattle.demand_happens.specs.Greeting.{Arrives, Answers}
-use Rattle.demand_happens.specs.Example.{start, pasts, inputs, theAggregatedRecord, holding, threeRounds}
+use Rattle.demand_happens.specs.Example.{start, pasts, inputs, theAggregatedRecord, holding, threeRounds, secondStart, secondStarted, subscribes, theStatusRecord, updating, twoRounds}
 
 -- "Watchdog a period or more after the last"
 abbrev pub nextBeat : Machine → ℕ → ℕ
@@ -79,3 +82,12 @@ pub record Sending : Type 0 where
       ≡ says (aggregated (own 3) (text "C0") noon 1 ∷ []) ∷ quiet
       ∷ says (alarmNow 4 0 noon false true false ∷ []) ∷ quiet
       ∷ says (aggregated (own 5) (text "C0") noon 1 ∷ []) ∷ quiet ∷ []
+  -- and on a secondary
+  pub second-start : Run secondStart (pasts [] secondStarted subscribes) (leaves secondStarted subscribes)
+  pub holds-one : leaves secondStarted subscribes ≡ updating
+  pub second-up : isUp (lifeAt updating 0) ≡ true
+  pub second-rounds : Rounds 0 updating 2 twoRounds
+  pub second-counted : ahead updating 0 theStatusRecord ≡ 2
+  pub second-told : outcomes updating twoRounds
+      ≡ says (aggregated (own 3) (text "C0") noon 0 ∷ []) ∷ quiet
+      ∷ says (statuses Update (own 4) (text "C0") noon (status (text "S1") (text "release") Unknown ∷ []) ∷ []) ∷ quiet ∷ []

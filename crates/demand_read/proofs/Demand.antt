@@ -1,42 +1,47 @@
--- What pump writes reads back, over every run.
+-- What is written reads back, over every run.
 -- Assumes nothing.
 use Prim.Native.Nat.{ℕ, _≤_}
-use mathlib.Core.Path.{_≡_, refl, ap}
-use mathlib.Core.Bool.{Bool, true, false}
-use mathlib.Core.List.{List, [], _∷_, map}
+use mathlib.Core.Path.{_≡_, refl, subst}
+use mathlib.Core.Bool.{true, false}
+use mathlib.Core.List.{List, []}
 use mathlib.Core.Option.{Option, some, none}
 use lib.Dec.{leb, ltb}
 use lib.IntN.{ℤ}
 use lib.ListN.{length-map}
 use native.Mathlib.Omega.{arith}
 use borrow.Author.Tests.{leb-true, ltb-false}
-use Rattle.basis.specs.Pick.{pick, both}
+use Rattle.basis.specs.Lists.{Among}
+use Rattle.basis.specs.Lists.Among.{first as here, later}
+use Rattle.basis.proofs.Both.{both-true}
+use Rattle.answer.specs.Times.{lastTime}
 use Rattle.identity.specs.Read.{SixteenBytes}
+use Rattle.json_value.specs.Grammar.{Json}
 use Rattle.table_whole.specs.Table.{Row, Table}
 use Rattle.table_whole.specs.Allowed.{Allowed}
 use Rattle.write_message.specs.Message.{Message}
-use Rattle.write_laws.specs.Formed.{Formed, FormedValue}
+use Rattle.write_laws.specs.Formed.{Formed}
 use Rattle.write_laws.specs.Formed.FormedValue.{unknown}
 use Rattle.write_laws.proofs.Kept.{kept}
 use Rattle.machine.specs.Words.{Bytes, maybe, firstOf}
-use Rattle.machine.specs.State.{Alarm, alarmOf, Start, Machine, Act, Call, Effect, only}
+use Rattle.machine.specs.State.{alarmOf, Start, Machine, lifeAt, Act, Call, only}
 use Rattle.machine.specs.State.Event.{Issue}
 use Rattle.machine.specs.State.Act.{connect, disconnect, packet, alarmInput, statusValue, aggregatedValue, tick, pump}
-use Rattle.machine.specs.Table.{lastTime, lastSequence, goodStart, first, Begins}
+use Rattle.machine.specs.Table.{lastSequence, goodStart, first}
 use Rattle.machine.specs.Table.Begins.{begins}
 use Rattle.machine.specs.Life.{Due, due}
-use Rattle.machine.specs.Messages.{valueOf}
-use Rattle.machine.specs.Effects.{ownIdentity, sends, effectOf}
-use Rattle.machine.specs.Step.{badTime, conditions, numberOf, step}
-use Rattle.machine.specs.Run.{Past, Run, Among}
-use Rattle.machine.specs.Run.Among.{here, later}
+use Rattle.machine.specs.Json.{readPacket}
+use Rattle.machine.specs.Answers.{isIgnored}
+use Rattle.machine.specs.Effects.{connects, closes, ownIdentity, sends, effectOf}
+use Rattle.machine.specs.Step.{badTime, conditions, step}
+use Rattle.machine.specs.Run.{Past, Run}
 use Rattle.machine.specs.Run.Run.{begun, next}
-use Rattle.demand_held.proofs.Lists.{maybe-cases, Each, each-of, neither}
+use Rattle.demand_held.proofs.Lists.{maybe-cases, each-of}
 use Rattle.demand_held.proofs.Lists.Each.{no-more}
 use Rattle.demand_held.proofs.Steps.{step-done, step-refused}
-use Rattle.demand_told.specs.Demand.{messagesOf}
+use Rattle.demand_told.specs.Demand.{messagesOf, linkOf}
+use Rattle.demand_told.proofs.Demand.{telling}
 use Rattle.demand_told.proofs.Replies.{none-at, nobody}
-use Rattle.demand_greeted.proofs.Tests.{both-true}
+use Rattle.demand_greeted.proofs.Tests.{neither}
 use Rattle.demand_greeted.proofs.Demand.{by-number}
 use Rattle.demand_read.specs.Typed.{Typed, EachTyped}
 use Rattle.demand_read.specs.Typed.EachTyped.{none-yet, one-more as typed-too}
@@ -44,6 +49,7 @@ use Rattle.demand_read.specs.Demand.{ReadsBack, DemandRead}
 use Rattle.demand_read.proofs.Sane.{Sane, sane-after}
 use Rattle.demand_read.proofs.Lays.{lays}
 use Rattle.demand_read.proofs.Formed.{sixteen-still, due-formed}
+use Rattle.demand_read.proofs.Replies.{EachFormed, received-formed}
 
 -- ---- a done call's time
 good-time : (m : Machine) (t : ℕ) → badTime m t ≡ false → t ≤ lastTime
@@ -81,7 +87,7 @@ begun-sane s t allowed g =
       alarm-count = length-map (t .alarms) (λ (r : Row). alarmOf false true false Issue (s .time));
       status-count = length-map (t .statuses) unvalued;
       alarms = each-of (λ (r : Row). alarmOf false true false Issue (s .time)) (λ r. start-time s g) (t .alarms);
-      statuses = each-of unvalued (λ r. unknown) (t .statuses);
+      statuses = each-of unvalued (λ r isOld. unknown) (t .statuses);
       aggregated = omega arith;
       aggregated-time = start-time s g;
       held = no-more;
@@ -97,31 +103,58 @@ pub run-sane : {s : Start} {h : List Past} {m : Machine} → Run s h m → EachT
 run-sane {s} (begun (begins {t} allowed e g)) none-yet = begun-sane s t allowed g
 run-sane (next {m} c r) (typed-too typed rest) = step-sane m (run-sane r rest) c typed
 
--- ---- pump
+-- ---- what each call writes
+nothing-formed : (w : Message) → Among w [] → Formed w
+nothing-formed w a = absurd (nobody a)
+
+sent-formed : (m : Machine) → Sane m → (l t : ℕ) (random : Bytes) → SixteenBytes random → t ≤ lastTime → (d : Due) → due m l t ≡ some d → EachFormed (sends l t (ownIdentity random) m d)
+unfolding sends
+sent-formed m s l t random sixteen late d e w here = due-formed m s l t (ownIdentity random) (sixteen-still random sixteen) late d e
+
+pump-formed : (m : Machine) → Sane m → (l t room : ℕ) (random : Bytes) → SixteenBytes random → firstOf (conditions m t (pump l random room)) ≡ none
+    → EachFormed (effectOf m t (pump l random room))
+unfolding effectOf
+pump-formed m s l t room random sixteen f =
+    maybe-cases EachFormed (only m) _ (due m l t) (λ e. nothing-formed)
+    (λ d e. sent-formed m s l t random sixteen (timely m t (pump l random room) f) d e)
+
+packet-formed : (m : Machine) → Sane m → (l t room : ℕ) (random bytes : Bytes) → SixteenBytes random → firstOf (conditions m t (packet l random bytes room)) ≡ none
+    → EachFormed (effectOf m t (packet l random bytes room))
+unfolding effectOf conditions
+packet-formed m s l t room random bytes sixteen f =
+    maybe-cases EachFormed (only m) _ (readPacket bytes) (λ e. nothing-formed)
+    (λ j e. received-formed m s l t (timely m t (packet l random bytes room) f) (ownIdentity random) (sixteen-still random sixteen) j
+    (subst (λ (o : Option Json). isIgnored (lifeAt m l) o ≡ false) e (none-at (conditions m t (packet l random bytes room)) f (later (later (later (later (later here))))))))
+
+quiet-formed : (m : Machine) (l t : ℕ) → EachFormed (effectOf m t (connect l)) × EachFormed (effectOf m t (disconnect l))
+unfolding effectOf connects closes
+quiet-formed m l t = (nothing-formed, nothing-formed)
+
+module _ (m : Machine) (s : Sane m) (t : ℕ) where
+  abbrev Writes : Act → Type 0
+  Writes act = (w : Message) → Among w (messagesOf (step m (record { time = t; act = act }) .0)) → Formed w
+
+  by-effect : (act : Act) → (firstOf (conditions m t act) ≡ none → EachFormed (effectOf m t act)) → Writes act
+  by-effect act h w =
+      by-number m (record { time = t; act = act })
+      (λ e. rw (step-done m (record { time = t; act = act }) e) (h e w))
+      (λ n e. rw (step-refused m (record { time = t; act = act }) n e) (nothing-formed w))
+
+  unlinked : (act : Act) → linkOf act ≡ none → Writes act
+  unlinked act e w a = nothing-formed w (subst (λ (ms : List Message). Among w ms) (telling m (record { time = t; act = act }) .no-link e) a)
+
+  writes : (act : Act) → Typed act → Writes act
+  writes (connect l) typed = by-effect (connect l) (λ f. quiet-formed m l t .0)
+  writes (disconnect l) typed = by-effect (disconnect l) (λ f. quiet-formed m l t .1)
+  writes (packet l random bytes room) typed = by-effect (packet l random bytes room) (packet-formed m s l t room random bytes typed)
+  writes (alarmInput i active) typed = unlinked (alarmInput i active) refl
+  writes (statusValue i v) typed = unlinked (statusValue i v) refl
+  writes (aggregatedValue v) typed = unlinked (aggregatedValue v) refl
+  writes tick typed = unlinked tick refl
+  writes (pump l random room) typed = by-effect (pump l random room) (pump-formed m s l t room random typed)
+
 reads-back : (w : Message) → Formed w → ReadsBack w
 reads-back w f = record { packet = kept .packet w f; fields = kept .back w f }
 
-abbrev EachReads : Effect → Type 0
-EachReads e = (w : Message) → Among w (e .messages) → ReadsBack w
-
-sent-reads : (m : Machine) → Sane m → (l t : ℕ) (random : Bytes) → SixteenBytes random → t ≤ lastTime → (d : Due) → due m l t ≡ some d → EachReads (sends l t (ownIdentity random) m d)
-unfolding sends
-sent-reads m s l t random sixteen late d e w here = reads-back w (due-formed m s l t (ownIdentity random) (sixteen-still random sixteen) late d e)
-
-pump-reads : (m : Machine) → Sane m → (l t room : ℕ) (random : Bytes) → SixteenBytes random → t ≤ lastTime → EachReads (effectOf m t (pump l random room))
-unfolding effectOf
-pump-reads m s l t room random sixteen late =
-    maybe-cases EachReads (only m) _ (due m l t) (λ e w a. absurd (nobody a)) (λ d e. sent-reads m s l t random sixteen late d e)
-
-of-every-pump : (m : Machine) → Sane m → (t l room : ℕ) (random : Bytes) → SixteenBytes random
-    → (w : Message) → Among w (messagesOf (step m (record { time = t; act = pump l random room }) .0)) → ReadsBack w
-of-every-pump m s t l room random sixteen w =
-    by-number m c
-    (λ e. rw (step-done m c e) (pump-reads m s l t room random sixteen (timely m t (pump l random room) e) w))
-    (λ n e. rw (step-refused m c n e) (λ a. absurd (nobody a)))
-  where
-    c : Call
-    c = record { time = t; act = pump l random room }
-
 pub demand-read : DemandRead
-demand-read = record { of-every-pump = λ s h m r typed. of-every-pump m (run-sane r typed) }
+demand-read = record { of-every-run = λ s h m r each c typed w a. reads-back w (writes m (run-sane r each) (c .time) (c .act) typed w a) }

@@ -1,36 +1,35 @@
 -- What pump writes on a machine that can be told is well-formed.
 -- Assumes nothing.
 use Prim.Native.Nat.{ℕ, zero, suc, _+_, _-_, _*_, _%_, _≤_, _<_}
-use mathlib.Core.Path.{_≡_, refl, sym, _∙_, ap, subst}
+use mathlib.Core.Path.{_≡_, refl, _∙_, subst}
 use mathlib.Core.Bool.{Bool, true, false, not}
 use mathlib.Core.List.{List, [], _∷_}
 use mathlib.Core.Option.{Option, some, none}
 use lib.Dec.{eqb, ltb, leb}
 use lib.ListN.{length, getD, set, length-set}
 use native.Mathlib.Omega.{arith}
-use borrow.Author.Tests.{eqb-true, eqb-false, ltb-true}
+use borrow.Author.Tests.{eqb-false, ltb-true}
 use Rattle.basis.specs.Pick.{pick, both}
 use Rattle.basis.proofs.Cases.{picked}
+use Rattle.answer.specs.Times.{lastTime}
 use Rattle.identity.specs.Read.{SixteenBytes}
 use Rattle.identity.specs.Version.{version4Of}
-use Rattle.number.specs.Alphabet.{isLabel}
-use Rattle.table_whole.specs.Table.{Row, noRow, Table}
-use Rattle.table_whole.specs.Allowed.{Every, IsString, IsAlarm, IsStatus, Allowed}
+use Rattle.table_whole.specs.Table.{noRow, Table}
+use Rattle.table_whole.specs.Allowed.{Every, IsAlarm, IsStatus, Allowed}
 use Rattle.table_whole.specs.Allowed.Every.{none as end-of, more as and-more}
-use Rattle.write_message.specs.Message.{Message}
-use Rattle.write_laws.specs.Formed.{Label, FormedState, FormedStatuses, Formed}
+use Rattle.write_laws.specs.Formed.{Label, Formed}
 use Rattle.write_laws.specs.Formed.FormedStatuses.{none as no-status, more as one-status}
 use Rattle.write_laws.specs.Formed.Formed.{formed-version, formed-watchdog, formed-alarm, formed-aggregated, formed-statuses}
-use Rattle.machine.specs.Words.{Bytes, maybe, isNumber}
+use Rattle.machine.specs.Words.{Bytes}
 use Rattle.machine.specs.State.{Event, eventNumber, Alarm, Content, Held, Machine, lifeAt, alarmAt}
 use Rattle.machine.specs.State.Event.{Issue, Acknowledge, Suspend}
 use Rattle.machine.specs.State.Content.{ofAlarm, ofStatus, ofAggregated}
-use Rattle.machine.specs.Table.{lastTime, componentText, alarmRow, statusRow}
+use Rattle.machine.specs.Table.{componentText, alarmRow, statusRow}
 use Rattle.machine.specs.Life.{isGreeting, isBeating, isUp, isPrimary, passLength, oldestUnsent, Due, dueUp, due}
 use Rattle.machine.specs.Life.Due.{theVersion, theWatchdog, theAggregated, theAlarm, theHeld}
 use Rattle.machine.specs.Messages.{alarmMessage, aggregatedMessage, recordMessage}
 use Rattle.machine.specs.Effects.{dueMessage}
-use Rattle.demand_held.proofs.Lists.{maybe-cases, clash}
+use Rattle.demand_held.proofs.Lists.{maybe-cases}
 use Rattle.demand_greeted.proofs.Tests.{found}
 use Rattle.demand_read.proofs.Sane.{Tellable, HeldOf, Sane, alarm-time}
 
@@ -67,21 +66,21 @@ module _ (t : Table) (a : Allowed t) (id : Bytes) (sixteen : SixteenBytes id) wh
   component-label : (c : ℕ) → c < length (t .components) → Label (componentText t c)
   component-label c h = record { label = every-at [] c (a .components) h }
 
-  alarm-formed : (i : ℕ) (x : Alarm) → i < length (t .alarms) → x .time ≤ lastTime → Formed (alarmMessage t id i x)
+  pub alarm-formed : (i : ℕ) (x : Alarm) → i < length (t .alarms) → x .time ≤ lastTime → Formed (alarmMessage t id i x)
   alarm-formed i x h timely =
       let row : IsAlarm (length (t .components)) (alarmRow t i) = every-at noRow i (a .alarms) h in
       formed-alarm sixteen (component-label (alarmRow t i .component) (row .component)) (record { label = row .code })
       (record { time = timely; event = event-small (x .event); category = row .category; lowest = row .lowest; highest = row .highest })
 
-  aggregated-formed : (v time : ℕ) → v < 256 → time ≤ lastTime → Formed (aggregatedMessage t id v time)
+  pub aggregated-formed : (v time : ℕ) → v < 256 → time ≤ lastTime → Formed (aggregatedMessage t id v time)
   aggregated-formed v time h timely = formed-aggregated sixteen (component-label 0 (a .fewest-components)) timely h
 
   record-formed : (c : Content) → Tellable t c → Formed (recordMessage t id c)
   record-formed (ofAlarm i x) h = alarm-formed i x (h .0) (h .1)
-  record-formed (ofStatus i v time) h =
+  record-formed (ofStatus i v old time) h =
       let row : IsStatus (length (t .components)) (statusRow t i) = every-at noRow i (a .statuses) (h .0) in
       formed-statuses sixteen (component-label (statusRow t i .component) (row .component)) (h .1 .1)
-      (one-status (record { code = record { label = row .code }; name = record { label = row .name }; value = h .1 .0 }) no-status)
+      (one-status (record { code = record { label = row .code }; name = record { label = row .name }; value = h .1 .0 old }) no-status)
   record-formed (ofAggregated v time) h = aggregated-formed v time (h .0) (h .1)
 
 -- ---- what is due is in the table

@@ -2,41 +2,41 @@
 -- Assumes nothing.
 use Prim.Native.Nat.{ℕ, _≤_, _<_}
 use Prim.Native.String.{String}
-use mathlib.Core.Path.{_≡_, refl, sym, _∙_, ap, subst}
+use mathlib.Core.Path.{_≡_}
 use mathlib.Core.Bool.{Bool, true, false, not}
-use mathlib.Core.List.{List, [], _∷_, map}
+use mathlib.Core.List.{List, [], _∷_}
 use mathlib.Core.Option.{Option, some, none}
-use lib.Dec.{eqb, leb}
+use lib.Dec.{eqb}
 use lib.IntN.{ℤ}
 use lib.ListN.{length}
 use native.Mathlib.Omega.{arith}
 use borrow.Author.Tests.{eqb-true, leb-false}
 use Rattle.basis.specs.Pick.{pick, both}
+use Rattle.basis.specs.Lists.Among.{first}
 use Rattle.basis.proofs.Cases.{picked}
+use Rattle.basis.proofs.Both.{both-true}
+use Rattle.answer.specs.Times.{lastTime}
 use Rattle.json_value.specs.Grammar.{Json}
 use Rattle.number.specs.Signed.{Signed32}
 use Rattle.write_message.specs.Message.{Message}
-use Rattle.write_laws.specs.Formed.FormedValue.{recent}
-use Rattle.machine.specs.Words.{Bytes, alike, maybe, isSome, orElse, keep, flat, upTo, firstOf}
-use Rattle.machine.specs.State.{Alarm, alarmOf, Subscription, Issued, issuedFor, Sent, Awaited, fresh, Machine, withLife, lifeAt, alarmAt, valueAt, Act, Effect, effect, only}
+use Rattle.machine.specs.Words.{Bytes, alike, isSome, orElse, upTo, firstOf}
+use Rattle.machine.specs.State.{Alarm, alarmOf, Subscription, issuedFor, Sent, Awaited, fresh, Machine, lifeAt, alarmAt, valueAt, Act, Effect, effect, only}
 use Rattle.machine.specs.State.Event.{Issue}
-use Rattle.machine.specs.State.Content.{ofAlarm, ofStatus, ofAggregated}
+use Rattle.machine.specs.State.Content.{ofAlarm, ofAggregated}
 use Rattle.machine.specs.State.Act.{connect, disconnect, packet, alarmInput, statusValue, aggregatedValue, tick, pump}
 use Rattle.machine.specs.Json.{readPacket, stringOf, entriesOf, elementIs, isType}
-use Rattle.machine.specs.Table.{lastTime}
 use Rattle.machine.specs.Life.{unsent, close, closeAll, awaitedBy, Due, due}
-use Rattle.machine.specs.Pool.{marked, settled, isFor}
+use Rattle.machine.specs.Pool.{marked, isFor}
 use Rattle.machine.specs.Answers.{isAnswer, alarmAsked, statusAsked, wantsReply, reasonOf, failsCheck}
-use Rattle.machine.specs.Items.{withInput, acknowledgedAt, suspendedAt, resumedAt, ordered, isSilent, told, isOf, update, numberAsked, upwards, isTime, isNew, happens, subscribe, unsubscribe, intervals, becomes, aggregates}
+use Rattle.machine.specs.Items.{withInput, ordered, isSilent, told, isOf, statusFor, update, numberAsked, upwards, isTime, isNew, happens, subscribe, unsubscribe, intervals, becomes, aggregates}
 use Rattle.machine.specs.Effects.{connects, closes, late, ticks, ownIdentity, sentAs, carried, markSent, sends, answerCloses, settle, answers, answered, refuses, carriedOut, replying, receives, effectOf}
-use Rattle.machine.specs.Step.{badTime, conditions}
-use Rattle.machine.specs.Run.Among.{here, later}
-use Rattle.demand_held.proofs.Lists.{maybe-cases, clash, Each, each-map, each-of, each-keep, each-kept, each-flat, each-below}
+use Rattle.machine.specs.Step.{conditions}
+use Rattle.demand_held.proofs.Lists.{maybe-cases, Each, each-map, each-of, each-keep, each-kept, each-flat, each-below}
 use Rattle.demand_held.proofs.Lists.Each.{no-more, one-more}
 use Rattle.demand_told.proofs.Replies.{none-at}
-use Rattle.demand_greeted.proofs.Tests.{both-true, no-not}
+use Rattle.demand_greeted.proofs.Tests.{no-not}
 use Rattle.demand_read.specs.Typed.{Typed}
-use Rattle.demand_read.proofs.Sane.{HeldOf, IssuedOf, Sane, alarm-time, value-formed, sane-life, sane-subscriptions, sane-held, sane-alarm, sane-status, sane-aggregated, Lays}
+use Rattle.demand_read.proofs.Sane.{tells, IssuedOf, Sane, value-formed, sane-life, sane-subscriptions, sane-held, sane-alarm, sane-status, sane-aggregated, Lays}
 use Rattle.demand_read.proofs.Found.{alarm-there, status-there, alarm-known, statuses-known}
 
 silent : {m : Machine} {messages : List Message} {closed : List ℕ} {hint : Option ℕ} → Sane m → Lays (effect m [] messages closed hint)
@@ -139,8 +139,8 @@ module _ (t : ℕ) (timely : t ≤ lastTime) where
     lays-becomes i v h k =
         picked Lays (isNew v (valueAt m i)) _ _
         (λ e. record {
-          sane = sane-status s i v (recent h);
-          issues = each-of (λ (x : Subscription). issuedFor (x .link) (ofStatus i (some v) t)) (λ x. (k, (recent h, timely))) (upwards m (λ x. both (eqb (x .status) i) (x .onChange)));
+          sane = sane-status s i v (tells v h);
+          issues = each-of (λ (x : Subscription). statusFor m t (x .link) (some v) i) (λ x. (k, (tells v h, timely))) (upwards m (λ x. both (eqb (x .status) i) (x .onChange)));
         })
         (λ e. silent s)
 
@@ -154,7 +154,7 @@ module _ (t : ℕ) (timely : t ≤ lastTime) where
         })
 
     -- ---- packets
-    lays-carried-out : (l : ℕ) (j : Json) → reasonOf m l j ≡ none → Lays (carriedOut l t j m)
+    pub lays-carried-out : (l : ℕ) (j : Json) → reasonOf m l j ≡ none → Lays (carriedOut l t j m)
     unfolding carriedOut unsubscribe
     lays-carried-out l j unrefused =
         picked Lays (isType "Version" j) _ _ (λ e. silent (sane-life s l _))
@@ -190,9 +190,9 @@ lays m s t timely (disconnect l) typed f = lays-closes s l []
 lays m s t timely (packet l random bytes room) typed f =
     maybe-cases Lays (only m) _ (readPacket bytes) (λ e. silent s) (λ j e. lays-received t timely s l (ownIdentity random) j)
 lays m s t timely (alarmInput i active) typed f =
-    lays-happens t timely s i (leb-false (length (m .setup .table .alarms)) i (none-at (conditions m t (alarmInput i active)) f here)) _ (input-time t timely active (alarmAt m i))
+    lays-happens t timely s i (leb-false (length (m .setup .table .alarms)) i (none-at (conditions m t (alarmInput i active)) f first)) _ (input-time t timely active (alarmAt m i))
 lays m s t timely (statusValue i v) typed f =
-    lays-becomes t timely s i v typed (leb-false (length (m .setup .table .statuses)) i (none-at (conditions m t (statusValue i v)) f here))
+    lays-becomes t timely s i v typed (leb-false (length (m .setup .table .statuses)) i (none-at (conditions m t (statusValue i v)) f first))
 lays m s t timely (aggregatedValue v) typed f = lays-aggregates t timely s v typed
 lays m s t timely tick typed f = lays-ticks t timely s
 lays m s t timely (pump l random room) typed f =

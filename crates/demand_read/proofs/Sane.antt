@@ -1,45 +1,25 @@
 -- What the machine keeps can be told: times up to the last, values of 32 bits, numbers that the table has.
 -- Assumes nothing.
-use Prim.Native.Nat.{ℕ, zero, suc, _+_, _≤_, _<_}
-use mathlib.Core.Path.{_≡_, refl, sym, _∙_, ap, subst}
+use Prim.Native.Nat.{ℕ, zero, suc, _≤_, _<_}
+use mathlib.Core.Path.{_≡_, _∙_}
 use mathlib.Core.Bool.{Bool, true, false, not}
-use mathlib.Core.List.{List, [], _∷_, _++_, map}
+use mathlib.Core.List.{List, [], _∷_}
 use mathlib.Core.Option.{Option, some, none}
 use lib.Dec.{leb, ltb}
 use lib.IntN.{ℤ}
 use lib.ListN.{length, getD}
 use native.Mathlib.Omega.{arith}
-use Rattle.basis.specs.Pick.{pick}
 use Rattle.basis.proofs.Cases.{picked}
+use Rattle.answer.specs.Times.{lastTime}
+use Rattle.number.specs.Signed.{Signed32}
 use Rattle.table_whole.specs.Table.{Table}
 use Rattle.table_whole.specs.Allowed.{Allowed}
 use Rattle.write_laws.specs.Formed.{FormedValue}
-use Rattle.write_laws.specs.Formed.FormedValue.{recent, unknown}
-use Rattle.machine.specs.Words.{Bytes, changed, butFirst}
-use Rattle.machine.specs.State.{
-  Alarm,
-  alarmOf,
-  Subscription,
-  Content,
-  Issued,
-  Held,
-  heldAs,
-  Pool,
-  Life,
-  Machine,
-  withAlarm,
-  withStatus,
-  withAggregated,
-  withSubscriptions,
-  withLife,
-  withHeld,
-  alarmAt,
-  valueAt,
-  Effect,
-}
+use Rattle.write_laws.specs.Formed.FormedValue.{recent, old, unknown}
+use Rattle.machine.specs.Words.{changed}
+use Rattle.machine.specs.State.{Alarm, alarmOf, Subscription, Content, Issued, Held, Pool, Life, Machine, withAlarm, withStatus, withAggregated, withSubscriptions, withLife, withHeld, alarmAt, valueAt, Effect}
 use Rattle.machine.specs.State.Event.{Issue}
 use Rattle.machine.specs.State.Content.{ofAlarm, ofStatus, ofAggregated}
-use Rattle.machine.specs.Table.{lastTime}
 use Rattle.machine.specs.Messages.{valueOf}
 use Rattle.machine.specs.Pool.{isFor, lose, makeRoom, holds, isFull, fullest, issue, issueAll}
 use Rattle.machine.specs.Step.{after}
@@ -58,9 +38,17 @@ each-changed zero y p (one-more q r) = one-more p r
 each-changed (suc i) y p (one-more q r) = one-more q (each-changed i y p r)
 
 -- ---- what can be told
+-- a value of 32 bits or none, recent or old
+abbrev pub Tells : Option ℤ → Type 0
+Tells o = (isOld : Bool) → FormedValue (valueOf isOld o)
+
+pub tells : (v : ℤ) → Signed32 v → Tells (some v)
+tells v h true = old h
+tells v h false = recent h
+
 abbrev pub Tellable : Table → Content → Type 0
 Tellable t (ofAlarm i a) = (i < length (t .alarms)) × (a .time ≤ lastTime)
-Tellable t (ofStatus i v time) = (i < length (t .statuses)) × (FormedValue (valueOf v) × (time ≤ lastTime))
+Tellable t (ofStatus i v isOld time) = (i < length (t .statuses)) × (Tells v × (time ≤ lastTime))
 Tellable t (ofAggregated v time) = (v < 256) × (time ≤ lastTime)
 
 abbrev pub HeldOf : Table → Held → Type 0
@@ -74,7 +62,7 @@ pub record Sane (m : Machine) : Type 0 where
   pub alarm-count : length (m .alarms) ≡ length (m .setup .table .alarms)
   pub status-count : length (m .statuses) ≡ length (m .setup .table .statuses)
   pub alarms : Each (λ (a : Alarm). a .time ≤ lastTime) (m .alarms)
-  pub statuses : Each (λ (o : Option ℤ). FormedValue (valueOf o)) (m .statuses)
+  pub statuses : Each Tells (m .statuses)
   pub aggregated : m .aggregated < 256
   pub aggregated-time : m .aggregatedTime ≤ lastTime
   pub held : Each (HeldOf (m .setup .table)) (m .pool .held)
@@ -83,8 +71,8 @@ module _ {m : Machine} (s : Sane m) where
   pub alarm-time : (i : ℕ) → alarmAt m i .time ≤ lastTime
   alarm-time i = each-at (alarmOf false true false Issue 0) (s .alarms) (omega arith) i
 
-  pub value-formed : (i : ℕ) → FormedValue (valueOf (valueAt m i))
-  value-formed i = each-at none (s .statuses) unknown i
+  pub value-formed : (i : ℕ) → Tells (valueAt m i)
+  value-formed i = each-at none (s .statuses) (λ isOld. unknown) i
 
   pub sane-life : (l : ℕ) (k : Life) → Sane (withLife l k m)
   sane-life l k =
@@ -138,7 +126,7 @@ module _ {m : Machine} (s : Sane m) where
         held = s .held;
       }
 
-  pub sane-status : (i : ℕ) (v : ℤ) → FormedValue (valueOf (some v)) → Sane (withStatus i v m)
+  pub sane-status : (i : ℕ) (v : ℤ) → Tells (some v) → Sane (withStatus i v m)
   sane-status i v f =
       record {
         table = s .table;
