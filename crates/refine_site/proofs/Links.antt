@@ -1,32 +1,28 @@
 -- Connect and disconnect are the machine's.
 -- Assumes nothing.
-use Prim.Native.Nat.{ℕ, _+_, _<_}
+use Prim.Native.Nat.{ℕ}
 use mathlib.Core.Path.{_≡_, refl, sym, ap, _∙_}
 use mathlib.Core.Bool.{Bool, true, false, not}
-use mathlib.Core.List.{List, [], _∷_}
 use mathlib.Core.Option.{Option, some, none}
 use native.Mathlib.Omega.{arith}
-use lib.Dec.{ltb, leb}
+use lib.Dec.{ltb}
 use borrow.Author.Tests.{ltb-false, leb-false, le-leb}
-use Rattle.basis.specs.Pick.{pick, both}
+use Rattle.basis.specs.Pick.{pick}
 use Rattle.basis.proofs.Cases.{bool-cases}
-use Rattle.link.specs.declared.Phase.{Phase}
 use Rattle.link.specs.declared.Phase.the-variants.{Down, Greeting, Beating, Up}
 use Rattle.link.specs.Steps.{connectOf}
 use Rattle.site.specs.declared.Site.{Site}
-use Rattle.site.specs.Site.{noLinkAt, badTimeAt, linkAt, isDown, downAt, maskOf}
-use Rattle.calls.specs.Calls.{Call}
+use Rattle.site.specs.Site.{noLinkAt, badTimeAt, linkAt, isDown, downAt}
 use Rattle.calls.specs.Calls.Call.{connect, disconnect}
 use Rattle.machine.specs.State.{Machine, fresh, lifeAt}
 use Rattle.machine.specs.Life.{isGreeting, isBeating}
 use Rattle.machine.specs.Effects.{connects as connecting, closes as closing, effectOf}
-use Rattle.machine.specs.Step.{noSuchLink, badTime, isDownAt, conditions, numberOf}
+use Rattle.machine.specs.Step.{noSuchLink, badTime, isDownAt, conditions}
 use Rattle.demand_held.proofs.Lists.Each.{no-more}
-use Rattle.refine_life.specs.Questions.{phaseIn}
 use Rattle.refine_life.proofs.Questions.{same-phase}
 use Rattle.refine_life.proofs.Acts.{acts}
 use Rattle.refine_site.specs.Abstracts.{Abstracts}
-use Rattle.refine_site.specs.Calls.{callFor, SamePlan, SameCall}
+use Rattle.refine_site.specs.Calls.{SameCall}
 use Rattle.refine_site.specs.Links.{LinkCalls}
 use Rattle.refine_site.specs.Links.OfLink.{connects, disconnects}
 use Rattle.refine_site.proofs.Parts.{with-life, closed}

@@ -1,27 +1,25 @@
 -- What a call changes of a site and of its machine, part by part: a life, a closed link, the records and the time.
 -- Assumes nothing.
 use Prim.Native.Nat.{ℕ, _<_}
-use mathlib.Core.Path.{_≡_, refl, sym, _∙_}
-use mathlib.Core.Bool.{Bool, true, false}
-use mathlib.Core.List.{List, map}
+use mathlib.Core.Path.{_≡_, refl, _∙_}
+use mathlib.Core.Bool.{false}
+use mathlib.Core.List.{List}
 use mathlib.Core.Logic.{_⊎_, inl, inr}
 use native.Mathlib.Omega.{arith}
-use lib.ListN.{length, getD, set, length-set}
+use lib.ListN.{getD, set, length-set}
 use lib.Seq.{getD-set-same, getD-set-other}
 use Rattle.basis.proofs.Cases.{eq-or-ne}
 use Rattle.pool.specs.declared.Pool.{Pool}
-use Rattle.pool.specs.Pool.{unmarkOf}
 use Rattle.pool_batch.specs.declared.Batch.{Batch}
 use Rattle.link.specs.declared.Link.{Link}
 use Rattle.link.specs.Fields.{closedLink}
 use Rattle.site.specs.declared.Site.{Site}
-use Rattle.site.specs.Site.{site, withIssued, linkAt, withLink, closeAt}
+use Rattle.site.specs.Site.{site, withIssued, withLink, closeAt}
 use Rattle.machine.specs.Words.{changed}
-use Rattle.machine.specs.State.{Held, Pool as Listed, Life, fresh, Machine, machine, lifeAt, withLife, atEnd}
-use Rattle.machine.specs.Life.{unsent, close}
+use Rattle.machine.specs.State.{Pool as Listed, Life, fresh, Machine, machine, withLife, atEnd}
+use Rattle.machine.specs.Life.{close}
 use Rattle.demand_held.proofs.Lists.{length-changed}
 use Rattle.refine_pool.specs.Same.{SamePool}
-use Rattle.refine_pool.specs.Claims.{SameActs}
 use Rattle.refine_pool.proofs.Same.{same-acts}
 use Rattle.refine_life.specs.Life.{SameLife}
 use Rattle.refine_life.proofs.Acts.{no-life}

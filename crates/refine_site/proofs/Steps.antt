@@ -6,7 +6,6 @@ use mathlib.Core.Bool.{Bool, true, false}
 use mathlib.Core.List.{List, [], _∷_, map}
 use mathlib.Core.Option.{Option, some, none}
 use native.Mathlib.Omega.{arith}
-use lib.Dec.{ltb}
 use lib.ListN.{length}
 use borrow.Author.Tests.{ltb-false}
 use Rattle.basis.specs.Pick.{pick}
@@ -24,17 +23,16 @@ use Rattle.site.specs.declared.Site.{Site}
 use Rattle.site.specs.Site.{withIssued}
 use Rattle.site.specs.Call.{Plan, batchOf, issuing, reportOf, stepped}
 use Rattle.write_message.specs.Message.{Message}
-use Rattle.calls.specs.Calls.{Call, timeOf, refuses, planOf, endOf, stepBy}
+use Rattle.calls.specs.Calls.{Call, timeOf, refuses, planOf, endOf}
 use Rattle.calls.specs.Calls.Call.{connect, disconnect, packet, alarm, status, aggregated, tick, pump}
-use Rattle.machine.specs.Words.{maybe}
-use Rattle.machine.specs.State.{Issued, Machine, Call as MachineCall, Outcome, Effect}
+use Rattle.machine.specs.State.{Machine, Call as MachineCall, Outcome, Effect}
 use Rattle.machine.specs.State.Outcome.{refused, done}
 use Rattle.machine.specs.Effects.{effectOf}
 use Rattle.machine.specs.Pool.{issueAll}
 use Rattle.machine.specs.Table.{lastSequence}
 use Rattle.machine.specs.Run.{Among}
 use Rattle.machine.specs.Run.Among.{here, later}
-use Rattle.machine.specs.Step.{sequenceEnds, numberOf, after, outcome, step}
+use Rattle.machine.specs.Step.{numberOf, after, outcome, step}
 use Rattle.refine_pool.specs.Record.{unnumbered}
 use Rattle.refine_pool.specs.Same.{SamePool}
 use Rattle.refine_pool.proofs.Same.{same-acts, same-answers}
