@@ -64,7 +64,7 @@ def open_files(room):
     path, limit = pathlib.Path(room) / "control", 16
     limited = lambda: resource.setrlimit(resource.RLIMIT_NOFILE, (limit, limit))
     process = Process(room, ["127.0.0.1:1"], "--control", path, record=False, preexec_fn=limited)
-    wait(path.exists, "the control socket")
+    Control(path).close()  # it waits until the socket is served
     streams = []
     for _ in range(limit + 8):
         stream = socket.socket(socket.AF_UNIX)

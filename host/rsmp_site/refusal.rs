@@ -19,20 +19,8 @@ pub enum Refusal {
 
 use Refusal::*;
 
-const ALL: [Refusal; 12] = [
-    Ignored,
-    NoLink,
-    NoItem,
-    ShortOutput,
-    BadTime,
-    WrongPhase,
-    NothingDue,
-    Full,
-    SameIdentity,
-    SequenceSpent,
-    NotAccepted,
-    LongPacket,
-];
+const ALL: [Refusal; 12] =
+    [Ignored, NoLink, NoItem, ShortOutput, BadTime, WrongPhase, NothingDue, Full, SameIdentity, SequenceSpent, NotAccepted, LongPacket];
 
 impl Refusal {
     pub fn number(self) -> u32 {

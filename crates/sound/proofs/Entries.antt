@@ -40,7 +40,7 @@ of-kind-too e q (an-alarm a) =
       value = a .value;
     })
 of-kind-too e q (a-status a) =
-    a-status (record { kind = a .kind; item = a .item; known = a .known; flags = a .flags; value = a .value; unknown = a .unknown })
+    a-status (record { kind = a .kind; item = a .item; known = a .known; old = a .old; flags = a .flags; value = a .value; unknown = a .unknown })
 of-kind-too e q (an-aggregated a) = an-aggregated (record { kind = a .kind; item = a .item; flags = a .flags; value = a .value })
 
 module _ (links primary : ℕ) (t : SiteTable) where

@@ -1,14 +1,20 @@
 -- `call_tick::intervals::issue_all` meets its contract.
 -- Assumes nothing.
 use Rattle.call_tick.proofs.Records.{all-places}
-use Prim.Native.Nat.{_≤_, _-_}
-use mathlib.Core.Path.{_≡_, refl}
+use Prim.Native.Nat.{_≤_, _<_, _-_, _/_, _%_}
+use mathlib.Core.Path.{_≡_, refl, ap, _∙_}
 use native.Mathlib.Omega.{arith}
 use borrow.Author.Needs.{needs}
+use lib.ListN.{length, getD}
+use Rattle.table_item.proofs.First.{getD-any}
+use Rattle.link.specs.declared.Link.{Link}
+use Rattle.link.specs.Fields.{closedLink}
+use Rattle.status.specs.Status.{unknown}
+use Rattle.subscription.specs.Subscription.{none}
 use Rattle.pool_batch.specs.Batch.{addedAll}
 use Rattle.call_records.specs.Upwards.{entriesTo}
 use Rattle.call_records.proofs.Turns.{turn}
-use Rattle.call_tick.specs.Intervals.{recordAt}
+use Rattle.call_tick.specs.Intervals.{recordOf, recordAt}
 use Rattle.call_tick.proofs.intervals.issue_all.Statement.{statement}
 use Rattle.call_tick.proofs.intervals.issue_all.Tie as tie
 
@@ -61,7 +67,13 @@ loop-again : tie.Need-loop-again Inv-loop μ-loop
 loop-again c =
     let a = c .before .before .before .before .before .before .args in
     let l = c .before .before .before .before .before .loop in
-    (omega arith, rw (turn (recordAt (a .t2) (a .t3) (a .t4) (a .time)) (a .b) (l .i), ← l .inv .1) (c .issue-one .ensures))
+    let four : length (a .t4) ≡ 4 = search needs in
+    let below : l .i / 32 < length (a .t4) = omega arith in
+    (omega arith,
+    rw (turn (recordAt (a .t2) (a .t3) (a .t4) (a .time)) (a .b) (l .i), ← l .inv .1)
+    (c .issue-one .ensures
+    ∙ ap (λ (n : Link). addedAll 4 (l .c) (recordOf (getD (a .t2) (l .i) none) (getD (a .t3) (l .i % 32) unknown) n (a .time) (l .i)))
+    (getD-any (a .t4) (l .i / 32) _ closedLink below)))
 
 returns : tie.Need-returns Inv-loop μ-loop
 returns c =
