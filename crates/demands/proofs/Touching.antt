@@ -27,7 +27,7 @@ use Rattle.read_lists.specs.Version.{versionAt}
 use Rattle.read_lists.specs.Status.{statusAt}
 use Rattle.site.specs.declared.Site.{Site}
 use Rattle.site.specs.Site.{linkAt}
-use Rattle.packet_answer.specs.Taken.{Taken, notAcked, byVerdict, unexpected, notReady}
+use Rattle.packet_answer.specs.Taken.{Taken, notAcked, byVerdict, missingElement, badValue, unexpected, notReady}
 use Rattle.call_packet.specs.Packet.{expected, unready, kindTaken, expectedTaken, classTaken}
 use Rattle.site.proofs.Checks.{link-below}
 use Rattle.holding.specs.Touches.{Configured, Touches}
@@ -66,8 +66,8 @@ module _ (s : Site) (g : Configured s) (l : ℕ) (mine : l < 4) (time : ℕ) (id
 
   by-verdict : (v : Verdict) (t : Taken) (xs : List Act) → Touches s (t .plan) xs → Touches s (byVerdict v s received t .plan) (verdictActs v xs)
   by-verdict Good t xs h = h
-  by-verdict Missing t xs h = touched .not-acked s received _
-  by-verdict Bad t xs h = touched .not-acked s received _
+  by-verdict Missing t xs h = touched .not-acked s received missingElement
+  by-verdict Bad t xs h = touched .not-acked s received badValue
 
   class-touches : (answered : Identity) (x : Class) → Touches s (classTaken s l time id answered received p x .plan) (classActs s l answered p x)
   class-touches answered Ignored = record { quiet = tt; pool = refl; next = refl; owned = tt; links = refl; primary = refl }

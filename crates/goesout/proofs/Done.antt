@@ -23,10 +23,10 @@ use Rattle.pool_batch.specs.Laws.{numbered, issues}
 use Rattle.link.specs.declared.Link.{Link}
 use Rattle.site.specs.declared.Site.{Site}
 use Rattle.site.specs.Site.{linkAt, withIssued}
-use Rattle.site.specs.Call.{Plan, batchOf, reportOf, answerOf}
+use Rattle.site.specs.Call.{Plan, batchOf, reportOf, answerOf, stepped}
 use Rattle.lives.specs.Moves.{doesAll, Moves}
 use Rattle.holding.specs.Touches.{Touches}
-use Rattle.holding.proofs.Passed.{Passed, done-passed, stepped-answer}
+use Rattle.holding.proofs.Passed.{Passed, done-passed}
 use Rattle.holding.proofs.One.{before, pool-is, rising}
 use Rattle.calls.specs.Calls.{Call, timeOf, refuses as refusesOf, planOf, endOf, stepBy, siteAfter}
 use Rattle.calls.proofs.Kept.{kept as called}
@@ -43,6 +43,10 @@ use Rattle.goesout.proofs.Step.{call-keeps}
 pub answer-cases : {P : Type 0} (a : Answer) → ((d : Report) → a ≡ Done d → P) → ((x : Refusal) → a ≡ Refused x → P) → P
 answer-cases (Done d) f g = f d refl
 answer-cases (Refused x) f g = g x refl
+
+stepped-answer : (s after : Site) (a : Answer) → stepped s after a .answer ≡ a
+stepped-answer s after (Done r) = refl
+stepped-answer s after (Refused x) = refl
 
 -- ---- a done call
 module _ (s : Site) (f : Facts s) (c : Call) (d : Report) (e : stepBy s c .answer ≡ Done d) where

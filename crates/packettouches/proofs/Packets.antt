@@ -62,7 +62,7 @@ use Rattle.send_after.specs.declared.Carried.the-variants.{Held, NoRecord}
 use Rattle.send_after.specs.Outgoing.{carriedAt, alarmSentWith}
 use Rattle.send_message.specs.Sending.{alarmMessage}
 use Rattle.call_pump.specs.Pump.{dueAt, sends, entryPlan, planFor}
-use Rattle.packet_answer.specs.Taken.{Taken, notAcked, closing, replied, byVerdict, unlessBusy}
+use Rattle.packet_answer.specs.Taken.{Taken, notAcked, closing, replied, byVerdict, unlessBusy, missingElement, badValue, busy, rsmpVersion, siteId, sxlVersion, unknownComponent, unknownAlarm, unknownStatus}
 use Rattle.packet_greet.specs.Answered.{settled}
 use Rattle.packet_greet.specs.Version.{own, versionJudged}
 use Rattle.packet_greet.specs.Watchdog.{beat}
@@ -155,26 +155,26 @@ module _ (s : Site) (received : List ℕ) where
 
   by-verdict : (v : Verdict) (t : Taken) (xs : List Act) → Touches s (t .plan) xs → Touches s (byVerdict v s received t .plan) (verdictActs v xs)
   by-verdict Good t xs h = h
-  by-verdict Missing t xs h = not-acked _
-  by-verdict Bad t xs h = not-acked _
+  by-verdict Missing t xs h = not-acked missingElement
+  by-verdict Bad t xs h = not-acked badValue
 
   whatever-verdict : (v : Verdict) (t : Taken) → Touches s (t .plan) [] → Touches s (byVerdict v s received t .plan) []
   whatever-verdict Good t h = h
-  whatever-verdict Missing t h = not-acked _
-  whatever-verdict Bad t h = not-acked _
+  whatever-verdict Missing t h = not-acked missingElement
+  whatever-verdict Bad t h = not-acked badValue
 
   if-so : (b : Bool) (t u : Taken) → Touches s (t .plan) [] → Touches s (u .plan) [] → Touches s (pick b t u .plan) []
   if-so true t u h k = h
   if-so false t u h k = k
 
   unless-busy : (l : ℕ) (t : Taken) → Touches s (t .plan) [] → Touches s (unlessBusy s l received t .plan) []
-  unless-busy l t h = if-so (fullOf (linkAt s l)) (notAcked s received _) t (not-acked _) h
+  unless-busy l t h = if-so (fullOf (linkAt s l)) (notAcked s received busy) t (not-acked busy) h
 
   version-judged : (l : ℕ) (j : Judged) → Touches s (versionJudged s l received j .plan) (judgedActs l j)
   version-judged l (Chosen v) = record { quiet = tt; pool = refl; next = refl; owned = tt; links = refl; primary = refl }
-  version-judged l RsmpVersion = closes l _
-  version-judged l SiteId = closes l _
-  version-judged l SxlVersion = closes l _
+  version-judged l RsmpVersion = closes l rsmpVersion
+  version-judged l SiteId = closes l siteId
+  version-judged l SxlVersion = closes l sxlVersion
 
   beats : (l : ℕ) (f : GotTime) → Touches s (beat s l received f .plan) []
   beats l f = record { quiet = tt; pool = refl; next = refl; owned = tt; links = refl; primary = refl }
@@ -223,11 +223,11 @@ module _ (b : Bool) (s : Site) (l : ℕ) (mine : l < 4) (time : ℕ) where
     judged-touches : (c : ℕ) → Touches s (judged b s l time received f c .plan) []
     unfolding judged
     judged-touches c =
-        if-so s received (allStatuses (s .table) c (f .entries) (f .count)) (changed b s l time received f c) (notAcked s received _) (changed-touches c) (not-acked s received _)
+        if-so s received (allStatuses (s .table) c (f .entries) (f .count)) (changed b s l time received f c) (notAcked s received unknownStatus) (changed-touches c) (not-acked s received unknownStatus)
 
     asked-touches : (x : Named) → Touches s (asked b s l time received f x .plan) []
     asked-touches (Is c) = judged-touches c
-    asked-touches Unknown = not-acked s received _
+    asked-touches Unknown = not-acked s received unknownStatus
 
     subscribing-touches : Touches s (subscribingTaken b s l time received f .plan) []
     unfolding subscribingTaken
@@ -266,8 +266,8 @@ module _ (s : Site) (l time : ℕ) (id : Identity) (received : List ℕ) where
 
     ordered-touches : (o : Order) (x : SoughtAlarm) → Touches s (orderedOf s l time id received o x .plan) []
     ordered-touches o (Alarm k) = order-touches k o
-    ordered-touches o NoComponent = not-acked s received _
-    ordered-touches o NoAlarm = not-acked s received _
+    ordered-touches o NoComponent = not-acked s received unknownComponent
+    ordered-touches o NoAlarm = not-acked s received unknownAlarm
 
     alarm-touches : (f : AlarmFields) → Touches s (alarmTaken s l time id received f .plan) []
     unfolding alarmTaken foundTaken
@@ -276,7 +276,7 @@ module _ (s : Site) (l time : ℕ) (id : Identity) (received : List ℕ) where
         (ordered-touches (f .order) (alarmSought (s .table) (f .component) (f .code)))
 
   aggregated-of : (x : Named) → Touches s (aggregatedOf s l time id received x .plan) []
-  aggregated-of x = if-so s received (isZero x) (unlessBusy s l received _) (notAcked s received _) (unless-busy s received l _ (replies s received l time id _)) (not-acked s received _)
+  aggregated-of x = if-so s received (isZero x) (unlessBusy s l received _) (notAcked s received unknownComponent) (unless-busy s received l _ (replies s received l time id _)) (not-acked s received unknownComponent)
 
   aggregated-touches : (f : GotLabel) → Touches s (aggregatedTaken s l time id received f .plan) []
   unfolding aggregatedTaken
@@ -284,7 +284,7 @@ module _ (s : Site) (l time : ℕ) (id : Identity) (received : List ℕ) where
       whatever-verdict s received (f .verdict) (aggregatedOf s l time id received (componentSought (s .table) (f .label))) (aggregated-of (componentSought (s .table) (f .label)))
 
   requested-of : (f : StatusFields) (x : Named) → Touches s (requestedOf s l time id received f x .plan) []
-  requested-of f x = if-so s received (passes s f x) (unlessBusy s l received _) (notAcked s received _) (unless-busy s received l _ (replies s received l time id _)) (not-acked s received _)
+  requested-of f x = if-so s received (passes s f x) (unlessBusy s l received _) (notAcked s received unknownStatus) (unless-busy s received l _ (replies s received l time id _)) (not-acked s received unknownStatus)
 
   status-touches : (f : StatusFields) → Touches s (statusTaken s l time id received f .plan) []
   unfolding statusTaken

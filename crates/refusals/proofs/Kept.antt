@@ -32,7 +32,7 @@ use Rattle.demands.proofs.Kept.{configured-after}
 use Rattle.refusals.specs.Applies.{Applies}
 use Rattle.refusals.specs.Applies.Applies.{spent}
 use Rattle.refusals.specs.Claims.{Foremost, here, later, NoneOf, none, more, Judged, Promises}
-use Rattle.refusals.proofs.So.{so, both-first, both-second}
+use Rattle.refusals.proofs.So.{so}
 use Rattle.refusals.proofs.OnlySo.{only}
 
 -- where, of each of a list of refusals, a test says what a statement says

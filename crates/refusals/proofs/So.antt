@@ -13,6 +13,7 @@ use borrow.Author.Tests.{ltb-true, ltb-false, leb-true, leb-false}
 use Rattle.basis.specs.Pick.{pick}
 use Rattle.basis.proofs.Cases.{bool-cases}
 use Rattle.basis.proofs.Both.{both-first, both-second}
+use Rattle.answer.specs.Times.{lastTime}
 use Rattle.answer.specs.declared.Refusal.{Refusal}
 use Rattle.answer.specs.declared.Refusal.the-variants.{Ignored, NoSuchLink, NoSuchItem, ShortOutput, BadTime, WrongPhase, NothingDue, ManyAwaited, IdentityAwaited, SequenceSpent, NotAccepted, LongPacket}
 use Rattle.identity.specs.declared.Identity.{Identity}

@@ -38,7 +38,7 @@ use Rattle.packet_lookup.specs.declared.SoughtAlarm.the-variants.{Alarm as TheA
 use Rattle.packet_lookup.specs.Sought.{alarmSought}
 use Rattle.site.specs.declared.Site.{Site}
 use Rattle.site.specs.Site.{linkAt, roleOf}
-use Rattle.packet_answer.specs.Taken.{Taken, notAcked, byVerdict, unexpected, notReady}
+use Rattle.packet_answer.specs.Taken.{Taken, notAcked, byVerdict, busy, unexpected, notReady}
 use Rattle.packet_alarm.specs.Orders.{changeTaken, requestBy, requestTaken, ordered, orderedOf, foundTaken, alarmTaken}
 use Rattle.call_packet.specs.Packet.{expected, unready, kindTaken, expectedTaken, classTaken}
 use Rattle.site.proofs.Checks.{link-below}
@@ -73,7 +73,7 @@ module _ (s : Site) (l time : ℕ) (id : Identity) (received : List ℕ) where
   by-verdict Bad t h = refl
 
   request-by : (k : ℕ) (r : Role) → Keeps s (requestBy s l time id received k r)
-  request-by k Primary = if-so (fullOf (linkAt s l)) (notAcked s received _) _ refl refl
+  request-by k Primary = if-so (fullOf (linkAt s l)) (notAcked s received busy) _ refl refl
   request-by k Secondary = refl
 
   order-next : (k : ℕ) (o : Order) → Keeps s (ordered s l time id received k o)

@@ -32,7 +32,7 @@ use Rattle.table_whole.specs.declared.SiteTable.{SiteTable}
 use Rattle.site.specs.declared.Site.{Site}
 use Rattle.site.specs.Site.{isDown, linkAt}
 use Rattle.site.specs.Call.{Plan, issuing, batchOf, reportOf}
-use Rattle.packet_answer.specs.Taken.{Taken, notAcked, unexpected, notReady}
+use Rattle.packet_answer.specs.Taken.{Taken, notAcked, missingElement, badValue, unexpected, notReady}
 use Rattle.packet_greet.specs.Answered.{answeredPlan}
 use Rattle.packet_alarm.specs.Orders.{alarmTaken}
 use Rattle.packet_subscribe.specs.Subscribing.{subscribingTaken}
@@ -118,8 +118,8 @@ module _ (s : Site) (alarms : ℕ → Alarm) (subscriptions : ℕ → ℕ → Su
   by-class answered Acked d e = either-way up (answeredPlan s l answered true) (answer-quiet s l answered true)
   by-class answered NotAcked d e = either-way up (answeredPlan s l answered false) (answer-quiet s l answered false)
   by-class answered (Asked Good kind) d e = by-kind kind d e
-  by-class answered (Asked Missing kind) d e = either-way up _ (not-acked s received _)
-  by-class answered (Asked Bad kind) d e = either-way up _ (not-acked s received _)
+  by-class answered (Asked Missing kind) d e = either-way up _ (not-acked s received missingElement)
+  by-class answered (Asked Bad kind) d e = either-way up _ (not-acked s received badValue)
 
 -- ---- a packet that is done
 -- number 2 does not apply
