@@ -21,7 +21,7 @@ use Rattle.refine_read.specs.Claims.{Claims}
 use Rattle.refine_read.proofs.Identity.{readable, says-bytes}
 use Rattle.refine_read.proofs.Head.{head-is}
 use Rattle.refine_read.proofs.Ignored.{awaited-is, answered-is, ignored-is}
-use Rattle.refine_read.proofs.Reasons.{reason-is}
+use Rattle.refine_read.proofs.Reasons.{reason-is, further-is}
 use Rattle.refine_read.proofs.Types.{typed}
 use Rattle.refine_read.proofs.Watchdog.{watchdog-reads}
 use Rattle.refine_read.proofs.Fields.{kept-text, alarm-reads, aggregated-reads}
@@ -55,6 +55,7 @@ kept =
       answered = λ k s v. answered-is k v s;
       ignored = λ k s v. ignored-is k v (readPacket s) ∙ ap (ignoredBy k) (sym (head s));
       reason = reason-is;
+      further = further-is;
       alarm = λ s j e. rw (Heads.kept .alarm (only e)) (alarm-reads j);
       watchdog = λ s j e. rw (Heads.kept .watchdog (only e)) (watchdog-reads j);
       aggregated = λ s j e. rw (Heads.kept .aggregated (only e)) (aggregated-reads j);

@@ -17,7 +17,7 @@ use Rattle.machine.specs.Life.{awaitedBy, withAwaited, answeredTo}
 use Rattle.machine.specs.Answers.{isIgnored, reasonOf}
 use Rattle.refine_read.specs.Head.{kindOf, headOf, Typed}
 use Rattle.refine_read.specs.Ignored.{AllSixteen, foundBy, leftBy, ignoredBy}
-use Rattle.refine_read.specs.Reasons.{reasonBy}
+use Rattle.refine_read.specs.Reasons.{reasonBy, FurtherReasons}
 use Rattle.refine_read.specs.Fields.{AlarmReads, WatchdogReads, AggregatedReads}
 
 pub record Claims : Type 0 where
@@ -35,6 +35,7 @@ pub record Claims : Type 0 where
   pub ignored : (k : Life) (s : Bytes) → AllSixteen (k .awaited) → isIgnored k (readPacket s) ≡ ignoredBy k (headAt s)
   -- "Reasons, first that applies"
   pub reason : (m : Machine) (l : ℕ) (j : Json) → reasonOf m l j ≡ reasonBy m l j
+  pub further : (m : Machine) (l : ℕ) (j : Json) → FurtherReasons m l j
   -- the elements that are needed
   pub alarm : (s : Bytes) (j : Json) → readPacket s ≡ some j → AlarmReads j (alarmAt s)
   pub watchdog : (s : Bytes) (j : Json) → readPacket s ≡ some j → WatchdogReads j (watchdogAt s)

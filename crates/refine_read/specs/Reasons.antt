@@ -2,17 +2,19 @@
 -- Assumes nothing.
 use Prim.Native.Nat.{ℕ}
 use Prim.Native.String.{String}
-use mathlib.Core.Bool.{not}
-use mathlib.Core.Option.{Option, some}
-use lib.ListN.{drop}
+use mathlib.Core.Path.{_≡_}
+use mathlib.Core.Bool.{Bool, true, not}
+use mathlib.Core.Option.{Option, some, none}
+use lib.Dec.{leb}
+use lib.ListN.{length, drop}
 use Rattle.json_value.specs.Grammar.{Json}
 use Rattle.read_head.specs.declared.Verdict.{Verdict}
 use Rattle.read_head.specs.declared.Verdict.the-variants.{Good, Missing, Bad}
-use Rattle.machine.specs.Words.{if_then_else_, _and_, firstOf}
+use Rattle.machine.specs.Words.{if_then_else_, _and_, isSome, isNumber, any, firstOf}
 use Rattle.machine.specs.State.{Machine, lifeAt}
-use Rattle.machine.specs.Json.{isType}
-use Rattle.machine.specs.Life.{isBeating}
-use Rattle.machine.specs.Answers.{isUnexpected, reasons}
+use Rattle.machine.specs.Json.{entriesOf, elementIs, isType}
+use Rattle.machine.specs.Life.{isBeating, isPrimary}
+use Rattle.machine.specs.Answers.{componentAsked, alarmAsked, statusAsked, isUnexpected, reasons}
 use Rattle.refine_read.specs.Verdicts.{verdictIn}
 use Rattle.refine_read.specs.Head.{mTypeOf}
 
@@ -33,3 +35,26 @@ reasonBy m l j =
     (if isUnexpected (lifeAt m l) j then some "Unexpected"
     else if isBeating (lifeAt m l) and not (isType "Watchdog" j) then some "Not ready"
     else byVerdict (verdictIn j) (furtherReason m l j))
+
+-- "Busy" (a reply is due and 16 are awaited)
+abbrev pub busyIf : Machine → ℕ → Bool → Option String
+busyIf m l replies = if replies and leb 16 (length (lifeAt m l .awaited)) then some "Busy" else none
+
+abbrev pub anyUnknown : Machine → Json → Bool
+anyUnknown m j = any (λ e. not (isSome (statusAsked m j e))) (entriesOf "sS" j)
+
+-- what they come to for each type besides Version
+pub record FurtherReasons (m : Machine) (l : ℕ) (j : Json) : Type 0 where
+  pub watchdog : isType "Watchdog" j ≡ true → furtherReason m l j ≡ none
+  pub alarm : isType "Alarm" j ≡ true
+      → furtherReason m l j
+      ≡ (if isSome (componentAsked m j) then if isSome (alarmAsked m j) then busyIf m l (elementIs "aSp" "Request" j and isPrimary m l) else some "Unknown alarm"
+      else some "Unknown component")
+  pub aggregated : isType "AggregatedStatusRequest" j ≡ true
+      → furtherReason m l j ≡ (if isNumber 0 (componentAsked m j) then busyIf m l true else some "Unknown component")
+  pub status-request : isType "StatusRequest" j ≡ true
+      → furtherReason m l j ≡ (if isSome (componentAsked m j) and anyUnknown m j then some "Unknown status" else busyIf m l true)
+  pub status-subscribe : isType "StatusSubscribe" j ≡ true
+      → furtherReason m l j ≡ (if isSome (componentAsked m j) and not (anyUnknown m j) then none else some "Unknown status")
+  pub status-unsubscribe : isType "StatusUnsubscribe" j ≡ true
+      → furtherReason m l j ≡ (if isSome (componentAsked m j) and not (anyUnknown m j) then none else some "Unknown status")
