@@ -1,7 +1,5 @@
 -- What is done to the items of a site is done to those of its machine.
 -- Assumes nothing.
-use Rattle.site.specs.declared.Site.{Site}
-use Rattle.machine.specs.State.{Machine}
 use Rattle.refine_items.specs.Acts.{ItemActs}
 use Rattle.refine_items.proofs.Alarms.{same-alarm, same-orders}
 use Rattle.refine_items.proofs.Aggregated.{same-aggregated}
@@ -15,11 +13,11 @@ item-acts =
       acts = λ s m h. record {
         inputs = record {
           alarm = λ i active t b. same-alarm s m h i b active t;
-          status = λ i v t b r. same-status s m h i b v r t;
+          status = λ i v t b r up. same-status s m h i b v r t up;
           aggregated = λ v t b. same-aggregated s m h v t b;
         };
         orders = λ i t mId b. same-orders s m h i b t mId;
         subscribing = λ l i a b. same-subscribing s m h l i a b;
-        tick = λ t. same-tick s m h t;
+        tick = λ t up. same-tick s m h t up;
       };
     }

@@ -1,22 +1,20 @@
 -- The aggregated value, and its records.
 -- Assumes nothing.
-use Prim.Native.Nat.{ℕ, zero, suc, _%_, _<_}
+use Prim.Native.Nat.{ℕ, zero, suc, _<_}
 use mathlib.Core.Path.{_≡_, refl, sym, ap, ap₂, _∙_}
-use mathlib.Core.Bool.{Bool, true, false}
+use mathlib.Core.Bool.{true, false}
 use mathlib.Core.List.{List, [], _∷_, _++_, map}
 use native.Mathlib.Nat.{mod-eq-of-lt}
 use lib.Dec.{eqb}
 use borrow.Author.Tests.{eqb-true, eqb-false, eq-eqb, ne-eqb}
-use Rattle.basis.specs.Pick.{pick}
 use Rattle.basis.proofs.Cases.{bool-cases}
 use Rattle.entry.specs.declared.Entry.{Entry}
 use Rattle.aggregated.specs.declared.Aggregated.{Aggregated}
-use Rattle.aggregated.specs.declared.Set.{Set}
 use Rattle.aggregated.specs.Aggregated.{setOf}
 use Rattle.aggregated.specs.Issued.{issuedOf}
 use Rattle.call_records.specs.Upwards.{entriesTo, entryIf}
 use Rattle.call_records.proofs.Entries.{none-to}
-use Rattle.call_input.specs.Inputs.{aggregatedEntry, aggregatedPlan}
+use Rattle.call_input.specs.Inputs.{aggregatedPlan}
 use Rattle.site.specs.declared.Site.{Site}
 use Rattle.site.specs.Site.{withAggregated as withValue}
 use Rattle.machine.specs.Words.{upTo}
@@ -25,7 +23,7 @@ use Rattle.machine.specs.State.Content.{ofAggregated}
 use Rattle.machine.specs.Items.{aggregates}
 use Rattle.demand_held.proofs.Lists.{each-of}
 use Rattle.demand_held.proofs.Lists.Each.{no-more}
-use Rattle.refine_pool.specs.Record.{unnumbered, IsTold}
+use Rattle.refine_pool.specs.Record.{unnumbered}
 use Rattle.refine_pool.proofs.Entries.{contents}
 use Rattle.refine_items.specs.Items.{SameItems, SameEffect}
 use Rattle.refine_items.proofs.Setup.{moved}
@@ -88,6 +86,6 @@ module _ (s : Site) (m : Machine) (h : SameItems s m) (v t : ℕ) where
         items = value-set;
         records = record {
           issued = rw (h .setup .links) (all-records v t b (m .setup .links));
-          told = each-of (issuedTo v t) (λ l. contents .aggregated v t) (upTo (m .setup .links));
+          told = each-of (issuedTo v t) (λ l. contents .aggregated v t b) (upTo (m .setup .links));
         };
       }))

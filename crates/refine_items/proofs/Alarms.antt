@@ -1,35 +1,31 @@
 -- An event of an alarm, and its record.
 -- Assumes nothing.
-use Prim.Native.Nat.{ℕ, _≤_, _<_}
+use Prim.Native.Nat.{ℕ, _<_}
 use mathlib.Core.Path.{_≡_, refl, sym, ap, _∙_, subst}
 use mathlib.Core.Bool.{Bool, true, false, not}
 use mathlib.Core.List.{List, [], _∷_, map}
 use mathlib.Core.Option.{Option, some, none}
 use mathlib.Core.Logic.{_⊎_, inl, inr}
 use native.Mathlib.Omega.{arith}
-use lib.Dec.{eqb, ltb}
-use lib.ListN.{length, set, length-set}
+use lib.Dec.{eqb}
+use lib.ListN.{length, length-set}
 use lib.Seq.{getD-set-same, getD-set-other}
 use borrow.Author.Tests.{lt-ltb, le-ltb}
 use Rattle.basis.specs.Pick.{pick, both, bit}
-use Rattle.basis.proofs.Cases.{bool-cases, eq-or-ne}
-use Rattle.entry.specs.declared.Entry.{Entry}
-use Rattle.entry.specs.Flags.{alarmFlags}
+use Rattle.basis.proofs.Cases.{eq-or-ne}
 use Rattle.table_whole.specs.Allowed.{Allowed}
-use Rattle.alarm.specs.declared.Alarm.{Alarm as AlarmWord}
 use Rattle.alarm.specs.declared.Changed.{Changed}
-use Rattle.alarm.specs.Alarm.{beginning, nothing, event, inputOf, acknowledgeOf, suspendOf}
+use Rattle.alarm.specs.Alarm.{beginning, inputOf, acknowledgeOf, suspendOf}
 use Rattle.alarm.specs.Issued.{issuedOf}
-use Rattle.alarm.specs.declared.Order.the-variants.{Acknowledge as Acknowledging, Suspend as Suspending, Resume as Resuming}
 use Rattle.call_input.proofs.Lists.{set-same}
 use Rattle.site.specs.declared.Site.{Site}
 use Rattle.site.specs.Site.{hasPrimary}
 use Rattle.site.specs.Parts.{alarmAt as alarmIn, withAlarm as withAlarmIn}
 use Rattle.packet_alarm.specs.Orders.{recordsOf, changeTaken}
 use Rattle.call_input.specs.Inputs.{alarmPlan}
-use Rattle.machine.specs.Words.{alike, maybe, orElse}
-use Rattle.machine.specs.State.{Event, eventNumber, Alarm, alarmOf, Issued, issuedFor, Machine, withAlarm, alarmAt}
-use Rattle.machine.specs.State.Event.{Issue, Acknowledge, Suspend}
+use Rattle.machine.specs.Words.{maybe, orElse}
+use Rattle.machine.specs.State.{Alarm, alarmOf, Issued, issuedFor, Machine, withAlarm, alarmAt}
+use Rattle.machine.specs.State.Event.{Issue}
 use Rattle.machine.specs.State.Content.{ofAlarm}
 use Rattle.machine.specs.Readings.{entryFor}
 use Rattle.machine.specs.Items.{withInput, acknowledgedAt, suspendedAt, resumedAt, isSilent, told, happens}
@@ -37,8 +33,7 @@ use Rattle.demand_held.proofs.Lists.{Each, length-changed}
 use Rattle.demand_held.proofs.Lists.Each.{no-more, one-more}
 use Rattle.refine_pool.specs.Record.{unnumbered, IsTold}
 use Rattle.refine_pool.proofs.Entries.{contents}
-use Rattle.refine_items.specs.Setup.{SameSetup}
-use Rattle.refine_items.specs.Items.{alarmFor, SameItems, SameIssued, SameEffect}
+use Rattle.refine_items.specs.Items.{alarmFor, SameItems, SameEffect}
 use Rattle.refine_items.specs.Acts.{SameOrders}
 use Rattle.refine_items.proofs.Setup.{moved}
 use Rattle.refine_items.proofs.Lists.{getD-changed-same, getD-changed-other}

@@ -4,19 +4,19 @@ use Prim.Native.Nat.{ℕ, zero, suc, _+_, _*_, _≤_, _<_}
 use mathlib.Core.Path.{_≡_, refl, sym, ap, ap₂, _∙_}
 use mathlib.Core.Bool.{Bool, true, false, not}
 use mathlib.Core.List.{List, [], _∷_, _++_, map}
-use mathlib.Core.Option.{Option, some, none}
+use mathlib.Core.Option.{some, none}
 use mathlib.Core.Logic.{_⊎_, inl, inr}
 use native.Mathlib.Omega.{arith}
 use lib.ListN.{length, getD}
-use Rattle.basis.specs.Pick.{pick, both, bit}
-use Rattle.basis.specs.Lists.{count}
+use Rattle.basis.specs.Pick.{pick, both}
+use Rattle.basis.specs.Lists.{count, Among}
+use Rattle.basis.specs.Lists.Among.{first, later}
 use Rattle.basis.proofs.Cases.{bool-cases, le-or-lt}
+use Rattle.basis.proofs.Both.{not-both}
 use Rattle.entry.specs.declared.Entry.{Entry}
 use Rattle.call_records.specs.Upwards.{entriesTo}
 use Rattle.machine.specs.Words.{maybe, keep, firstThat, flat, changed, upTo}
-use Rattle.machine.specs.Run.{Among}
-use Rattle.machine.specs.Run.Among.{here, later}
-use Rattle.demand_held.proofs.Lists.{bit-true, bit-false, clash}
+use Rattle.demand_held.proofs.Lists.{bit-true, bit-false}
 
 module _ {A : Type 0} where
   pub getD-changed-same : (f : A → A) (d : A) (xs : List A) (i : ℕ) → i < length xs → getD (changed i f xs) i d ≡ f (getD xs i d)
@@ -59,7 +59,7 @@ module _ {A : Type 0} where
       same u v e = cc
 
       go : (b : Bool) → pick b (some x) (firstThat f xs) ≡ some w → (firstThat f xs ≡ some w → Among w xs) → Among w (x ∷ xs)
-      go true e r = rw (same x w e) here
+      go true e r = rw (same x w e) first
       go false e r = later (r e)
 
   pub first-last : (f : A → Bool) (xs : List A) (y : A) → firstThat f (xs ++ (y ∷ [])) ≡ maybe (pick (f y) (some y) none) some (firstThat f xs)
@@ -71,7 +71,7 @@ module _ {A : Type 0} where
   first-left f g h [] = refl
   first-left f g h (x ∷ xs) =
       bool-cases (g x)
-      (λ t. bool-cases (f x) (λ u. clash t (h x u)) (λ u. rw (t, u) (first-left f g h xs)))
+      (λ t. bool-cases (f x) (λ u. not-both t (h x u)) (λ u. rw (t, u) (first-left f g h xs)))
       (λ t. bool-cases (f x) (λ u. rw (t, u)) (λ u. rw (t, u) (first-left f g h xs)))
 
   pub first-out : (f : A → Bool) (xs : List A) → firstThat f (keep (λ x. not (f x)) xs) ≡ none
@@ -87,13 +87,13 @@ module _ {A : Type 0} where
   keep-among f (x ∷ xs) a = among-pick (f x) a (keep-among f xs)
     where
       among-pick : (b : Bool) {w x : A} {xs ys : List A} → Among w (pick b (x ∷ ys) ys) → (Among w ys → Among w xs) → Among w (x ∷ xs)
-      among-pick true here r = here
+      among-pick true first r = first
       among-pick true (later i) r = later (r i)
       among-pick false i r = later (r i)
 
   pub last-among : (P : A → Type 0) (xs : List A) (y : A) → ((w : A) → Among w xs → P w) → P y → (w : A) → Among w (xs ++ (y ∷ [])) → P w
-  last-among P [] y f p w here = p
-  last-among P (x ∷ xs) y f p w here = f x here
+  last-among P [] y f p w first = p
+  last-among P (x ∷ xs) y f p w first = f x first
   last-among P (x ∷ xs) y f p w (later a) = last-among P xs y (λ v i. f v (later i)) p w a
 
   pub keep-none : (f : A → Bool) → ((x : A) → f x ≡ false) → (xs : List A) → keep f xs ≡ []
@@ -127,7 +127,7 @@ count-map f g h [] = refl
 count-map f g h (x ∷ xs) = rw (h x, count-map f g h xs)
 
 pub map-among : {A B : Type 0} (P : B → Type 0) (g : A → B) (xs : List A) → ((w : A) → Among w xs → P (g w)) → (y : B) → Among y (map g xs) → P y
-map-among P g (x ∷ xs) h y here = h x here
+map-among P g (x ∷ xs) h y first = h x first
 map-among P g (x ∷ xs) h y (later a) = map-among P g xs (λ w i. h w (later i)) y a
 
 pub getD-map : {A B : Type 0} (f : A → B) (xs : List A) (i : ℕ) (d : A) → getD (map f xs) i (f d) ≡ f (getD xs i d)

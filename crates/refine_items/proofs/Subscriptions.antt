@@ -1,37 +1,40 @@
 -- Subscriptions: a new one, the end of one, a tick; and what each place issues.
 -- Assumes nothing.
-use Prim.Native.Nat.{ℕ, suc, _+_, _-_, _*_, _≤_, _<_}
-use mathlib.Core.Path.{_≡_, refl, sym, ap, _∙_, subst}
+use Prim.Native.Nat.{ℕ, _+_, _*_, _≤_, _<_}
+use mathlib.Core.Path.{_≡_, refl, sym, ap, _∙_}
 use mathlib.Core.Bool.{Bool, true, false, not}
 use mathlib.Core.List.{List, [], _∷_, _++_, map}
 use mathlib.Core.Option.{Option, some, none}
 use mathlib.Core.Logic.{_⊎_, inl, inr}
 use native.Mathlib.Omega.{arith}
-use lib.Dec.{eqb, ltb, leb}
+use lib.Dec.{eqb}
 use lib.IntN.{ℤ}
 use lib.ListN.{length, getD, length-set}
 use lib.Seq.{getD-set-same, getD-set-other}
-use borrow.Author.Tests.{eqb-true, eqb-false, eq-eqb, ne-eqb}
-use Rattle.basis.specs.Pick.{pick, both, bit}
-use Rattle.basis.specs.Lists.{count}
+use borrow.Author.Tests.{eqb-true, eq-eqb}
+use Rattle.basis.specs.Pick.{pick, both}
+use Rattle.basis.specs.Lists.{count, Among}
 use Rattle.basis.proofs.Cases.{bool-cases, eq-or-ne}
+use Rattle.basis.proofs.Both.{not-both, both-first, both-second}
 use Rattle.number.specs.Signed.{Signed32}
 use Rattle.entry.specs.declared.Entry.{Entry}
+use Rattle.link.specs.declared.Link.{Link}
+use Rattle.link.specs.Phase.{phaseOf, isUp as upIn}
+use Rattle.status.specs.declared.Status.{Status}
 use Rattle.status.specs.Issued.{issuedOf}
 use Rattle.subscription.specs.declared.Subscription.{Subscription as Slot}
 use Rattle.subscription.specs.Subscription.{none as noSubscription, subscribed}
 use Rattle.site.specs.declared.Site.{Site}
-use Rattle.site.specs.Site.{withSubscriptions as withSlots}
+use Rattle.site.specs.Site.{linkAt, withSubscriptions as withSlots}
 use Rattle.site.specs.Parts.{statusAt, subscriptionAt, withSubscription}
-use Rattle.packet_lookup.specs.declared.Sought.the-variants.{Is}
-use Rattle.packet_subscribe.specs.Subscribing.{recordOf}
+use Rattle.site.specs.Records.{statusRecord}
 use Rattle.machine.specs.Words.{maybe, keep, firstThat}
-use Rattle.machine.specs.State.{Subscription, Issued, Machine, withSubscriptions, valueAt}
+use Rattle.machine.specs.State.{Subscription, Issued, Machine, withSubscriptions, lifeAt, valueAt}
 use Rattle.machine.specs.State.Content.{ofStatus}
 use Rattle.machine.specs.Readings.{entryFor}
-use Rattle.machine.specs.Items.{isOf, without}
-use Rattle.machine.specs.Run.{Among}
-use Rattle.demand_held.proofs.Lists.{count-last, count-keep, bit-true, bit-false, clash}
+use Rattle.machine.specs.Life.{isUp}
+use Rattle.machine.specs.Items.{isOf, update, without}
+use Rattle.demand_held.proofs.Lists.{count-last, count-keep, bit-true, bit-false}
 use Rattle.demand_held.proofs.Lists.Each.{no-more, one-more}
 use Rattle.refine_pool.specs.Record.{unnumbered, IsTold}
 use Rattle.refine_pool.proofs.Entries.{contents}
@@ -40,20 +43,12 @@ use Rattle.refine_items.specs.Acts.{SameSubscribing}
 use Rattle.refine_items.proofs.Setup.{moved}
 use Rattle.refine_items.proofs.Lists.{first-passes, first-among, first-last, first-left, first-out, count-out, keep-among, last-among, keep-first}
 
-and-left : (a b : Bool) → both a b ≡ true → a ≡ true
-and-left true b e = refl
-and-left false b e = e
-
-and-right : (a b : Bool) → both a b ≡ true → b ≡ true
-and-right true b e = e
-and-right false b e = clash e refl
-
 -- whose a subscription is
 pub its-link : (l i : ℕ) (x : Subscription) → isOf l i x ≡ true → x .link ≡ l
-its-link l i x e = eqb-true (x .link) l (and-left (eqb (x .link) l) (eqb (x .status) i) e)
+its-link l i x e = eqb-true (x .link) l (both-first (eqb (x .link) l) (eqb (x .status) i) e)
 
 pub its-status : (l i : ℕ) (x : Subscription) → isOf l i x ≡ true → x .status ≡ i
-its-status l i x e = eqb-true (x .status) i (and-right (eqb (x .link) l) (eqb (x .status) i) e)
+its-status l i x e = eqb-true (x .status) i (both-second (eqb (x .link) l) (eqb (x .status) i) e)
 
 is-own : (x : Subscription) → isOf (x .link) (x .status) x ≡ true
 is-own x = rw (eq-eqb (x .link) (x .link) refl, eq-eqb (x .status) (x .status) refl)
@@ -65,13 +60,25 @@ others-not l i k j n x e =
     (λ t. absurd (n (sym (its-link k j x e) ∙ its-link l i x t, sym (its-status k j x e) ∙ its-status l i x t)))
     (λ t. t)
 
-pub status-record : (o : Option ℤ) (l i t : ℕ) → issuedOf (statusFor o) l i t ≡ entryFor l 0 (ofStatus i o t)
-status-record none l i t = refl
-status-record (some v) l i t = refl
+status-record : (o : Option ℤ) (l i t : ℕ) (old : Bool) → issuedOf (statusFor o) l i t old ≡ entryFor l 0 (ofStatus i o old t)
+status-record none l i t old = refl
+status-record (some v) l i t old = refl
+
+pub value-told : (i : ℕ) (o : Option ℤ) → ((v : ℤ) → o ≡ some v → Signed32 v) → (old : Bool) (t : ℕ) → IsTold (ofStatus i o old t)
+value-told i none f old t = contents .no-value i old t
+value-told i (some v) f old t = contents .value i v old t (f v refl)
 
 module _ (s : Site) (m : Machine) (h : SameItems s m) where
   few-statuses : length (m .statuses) ≤ 32
   few-statuses = omega (arith, h .status-count, h .setup .allowed .most-statuses)
+
+  -- the record of a status for link l, which k is
+  pub same-record : (k : Link) (l i t : ℕ) → upIn (phaseOf k) ≡ isUp (lifeAt m l) → i < length (m .statuses)
+      → statusRecord k (statusAt s i) l i t ≡ unnumbered (update m t l i)
+  same-record k l i t up b =
+      ap (λ (x : Status). statusRecord k x l i t) (h .statuses i b)
+      ∙ ap (λ (u : Bool). issuedOf (statusFor (valueAt m i)) l i t (not u)) up
+      ∙ status-record (valueAt m i) l i t (not (isUp (lifeAt m l)))
 
   -- the items with other subscriptions in both
   pub with-subscriptions : (xs : List Slot) (subs : List Subscription)
@@ -155,7 +162,7 @@ module _ (s : Site) (m : Machine) (h : SameItems s m) where
           ∙ rw (not-own, left-first k j n) (same (firstThat (isOf k j) (m .subscriptions)))
         where
           not-own : isOf k j new ≡ false
-          not-own = bool-cases (isOf k j new) (λ e. clash (is-own new) (others-not l i k j n new e)) (λ e. e)
+          not-own = bool-cases (isOf k j new) (λ e. not-both (is-own new) (others-not l i k j n new e)) (λ e. e)
 
           same : (o : Option Subscription) → maybe none some o ≡ o
           same none = refl
@@ -178,17 +185,13 @@ module _ (s : Site) (m : Machine) (h : SameItems s m) where
           (last-among (Within m) left new (λ x e. h .within x (keep-among (λ x. not (isOf l i x)) (m .subscriptions) e)) (record { link = lb; status = ib }))
           (length-set (s .subscriptions) (l * 32 + i) (subscribed interval onChange t) ∙ h .subscription-places)
 
-    value-told : (o : Option ℤ) → ((v : ℤ) → o ≡ some v → Signed32 v) → (t : ℕ) → IsTold (ofStatus i o t)
-    value-told none f t = contents .no-value i t
-    value-told (some v) f t = contents .value i v t (f v refl)
-
     pub same-subscribing : SameSubscribing s m l i
     same-subscribing =
         record {
           subscribe = subscribes;
-          at-once = λ t. record {
-            issued = rw (h .statuses i ib, status-record (valueAt m i) l i t);
-            told = one-more (value-told (valueAt m i) (h .values i) t) no-more;
+          at-once = λ t up. record {
+            issued = ap (λ (r : Entry). r ∷ []) (same-record (linkAt s l) l i t (up l) ib);
+            told = one-more (value-told i (valueAt m i) (h .values i) (not (isUp (lifeAt m l))) t) no-more;
           };
           end = ends;
         }

@@ -2,42 +2,38 @@
 -- Assumes nothing.
 use Prim.Native.Nat.{ℕ, _+_, _-_, _*_, _≤_, _<_}
 use mathlib.Core.Path.{_≡_, refl, sym, ap, _∙_, subst}
-use mathlib.Core.Bool.{Bool, true, false}
+use mathlib.Core.Bool.{Bool, true, false, not}
 use mathlib.Core.List.{List, [], _∷_, map}
 use mathlib.Core.Option.{Option, some, none}
 use mathlib.Core.Logic.{_⊎_, inl, inr}
 use native.Mathlib.Omega.{arith}
-use lib.Dec.{eqb, ltb, leb}
-use lib.IntN.{ℤ}
+use lib.Dec.{ltb, leb}
 use lib.ListN.{length, getD}
 use Rattle.basis.specs.Pick.{pick, both}
 use Rattle.basis.proofs.Cases.{bool-cases}
-use Rattle.number.specs.Signed.{Signed32}
 use Rattle.entry.specs.declared.Entry.{Entry}
-use Rattle.status.specs.declared.Status.{Status}
-use Rattle.status.specs.Issued.{issuedOf}
 use Rattle.subscription.specs.declared.Subscription.{Subscription as Slot}
 use Rattle.subscription.specs.declared.Ticked.{Ticked}
 use Rattle.subscription.specs.Subscription.{none as noSubscription, dueAt, tickOf}
 use Rattle.site.specs.declared.Site.{Site}
 use Rattle.site.specs.Call.{issues}
-use Rattle.site.specs.Site.{withSubscriptions as withSlots}
-use Rattle.site.specs.Parts.{statusAt, subscriptionAt}
-use Rattle.call_records.specs.Upwards.{entriesTo, entryIf}
-use Rattle.call_tick.specs.Intervals.{renewed, recordAt, issuedAt}
+use Rattle.site.specs.Site.{linkAt, withSubscriptions as withSlots}
+use Rattle.site.specs.Parts.{statusAt}
+use Rattle.site.specs.Records.{statusRecord}
+use Rattle.call_records.specs.Upwards.{entryIf}
+use Rattle.call_tick.specs.Intervals.{renewed, recordAt}
+use Rattle.call_tick.specs.Tick.{siteAfter, issuedAt}
 use Rattle.call_tick.proofs.Records.{all-places}
 use Rattle.call_tick.proofs.Kept.{kept}
 use Rattle.machine.specs.Words.{maybe, keep, firstThat, flat, upTo}
-use Rattle.machine.specs.State.{Subscription, Issued, issuedFor, Machine, withSubscriptions, valueAt}
-use Rattle.machine.specs.State.Content.{ofStatus}
+use Rattle.machine.specs.State.{Subscription, Issued, Machine, withSubscriptions, lifeAt, valueAt}
+use Rattle.machine.specs.Life.{isUp}
 use Rattle.machine.specs.Items.{isOf, update, upwards, isTime, anew, intervals}
-use Rattle.machine.specs.Run.{Among}
-use Rattle.demand_held.proofs.Lists.{Each, each-of}
-use Rattle.refine_pool.specs.Record.{unnumbered, IsTold}
-use Rattle.refine_pool.proofs.Entries.{contents}
-use Rattle.refine_items.specs.Items.{statusFor, slotFor, Within, SameItems, SameIssued, SameEffect}
+use Rattle.demand_held.proofs.Lists.{each-of}
+use Rattle.refine_pool.specs.Record.{unnumbered}
+use Rattle.refine_items.specs.Items.{slotFor, Within, SameItems, SameUp, SameEffect}
 use Rattle.refine_items.proofs.Lists.{first-map, count-map, map-among, getD-map, length-map, flat-same, flat-none, flat-beyond, map-flat, entries-rows}
-use Rattle.refine_items.proofs.Subscriptions.{its-link, its-status, status-record, with-subscriptions, at-place, no-place}
+use Rattle.refine_items.proofs.Subscriptions.{its-link, its-status, value-told, same-record, with-subscriptions, at-place, no-place}
 
 -- ---- one subscription
 is-due : (t : ℕ) (x : Subscription) → dueAt (slotFor (some x)) t ≡ isTime t x
@@ -60,7 +56,7 @@ renewed-slot : (t : ℕ) (o : Option Subscription) → renewed t (slotFor o) ≡
 renewed-slot t none = ap (λ (k : Ticked). k .subscription) (no-tick t)
 renewed-slot t (some x) = ap (λ (k : Ticked). k .subscription) (ticks t x)
 
-module _ (s : Site) (m : Machine) (h : SameItems s m) (t : ℕ) where
+module _ (s : Site) (m : Machine) (h : SameItems s m) (t : ℕ) (up : SameUp (siteAfter s t) m) where
   -- ---- the subscriptions
   renewed-at : (l i : ℕ) → l < 4 → i < 32
       → getD (map (renewed t) (s .subscriptions)) (l * 32 + i) noSubscription ≡ slotFor (firstThat (isOf l i) (map (anew t) (m .subscriptions)))
@@ -85,23 +81,25 @@ module _ (s : Site) (m : Machine) (h : SameItems s m) (t : ℕ) where
   abbrev place : ℕ → ℕ → List Subscription
   place l i = keep (λ x. both (isOf l i x) (isTime t x)) (m .subscriptions)
 
+  abbrev its-record : ℕ → ℕ → Entry
+  its-record l i = statusRecord (linkAt (siteAfter s t) l) (statusAt s i) l i t
+
   abbrev entries : ℕ → ℕ → List Entry
   entries l i = map unnumbered (map given (place l i))
 
-  of-place : (l : ℕ) → l < 4 → (i : ℕ) → i < 32 → recordAt (s .subscriptions) (s .statuses) t (l * 32 + i) ≡ entries l i
+  of-place : (l : ℕ) → l < 4 → (i : ℕ) → i < 32 → recordAt (s .subscriptions) (s .statuses) (siteAfter s t .links) t (l * 32 + i) ≡ entries l i
   of-place l lb i ib =
       kept s t .place l i ib
-      ∙ at-place s m h l i lb ib (isTime t) given (λ (k : Slot). entryIf (tickOf k t .issues) (issuedOf (statusAt s i) l i t))
-      (ap (λ (k : Ticked). entryIf (k .issues) (issuedOf (statusAt s i) l i t)) (no-tick t))
-      (λ x e a. ap (λ (k : Ticked). entryIf (k .issues) (issuedOf (statusAt s i) l i t)) (ticks t x) ∙ by x e (h .within x a) (isTime t x))
+      ∙ at-place s m h l i lb ib (isTime t) given (λ (k : Slot). entryIf (tickOf k t .issues) (its-record l i))
+      (ap (λ (k : Ticked). entryIf (k .issues) (its-record l i)) (no-tick t))
+      (λ x e a. ap (λ (k : Ticked). entryIf (k .issues) (its-record l i)) (ticks t x) ∙ by x e (h .within x a) (isTime t x))
     where
       by : (x : Subscription) → isOf l i x ≡ true → Within m x → (b : Bool)
-          → entryIf b (issuedOf (statusAt s i) l i t) ≡ map unnumbered (map given (pick b (x ∷ []) []))
+          → entryIf b (its-record l i) ≡ map unnumbered (map given (pick b (x ∷ []) []))
       by x e w false = refl
       by x e w true =
           rw (its-link l i x e, its-status l i x e)
-          (ap (λ (r : Entry). r ∷ []) (ap (λ (k : Status). issuedOf k l i t) (h .statuses i (subst (λ (n : ℕ). n < length (m .statuses)) (its-status l i x e) (w .status)))
-          ∙ status-record (valueAt m i) l i t))
+          (ap (λ (r : Entry). r ∷ []) (same-record s m h (linkAt (siteAfter s t) l) l i t (up l) (subst (λ (n : ℕ). n < length (m .statuses)) (its-status l i x e) (w .status))))
 
   abbrev rows : ℕ → ℕ → List Entry
   rows n l = flat (entries l) (upTo n)
@@ -135,17 +133,13 @@ module _ (s : Site) (m : Machine) (h : SameItems s m) (t : ℕ) where
 
   all-records : issuedAt s t ≡ map unnumbered (map given (upwards m (isTime t)))
   all-records =
-      sym (all-places (s .subscriptions) (s .statuses) t (4 * 32) refl)
-      ∙ entries-rows (recordAt (s .subscriptions) (s .statuses) t) 4
-      ∙ flat-same (λ l. flat (λ i. recordAt (s .subscriptions) (s .statuses) t (l * 32 + i)) (upTo 32)) (rows 32) 4
-      (λ l b. flat-same (λ i. recordAt (s .subscriptions) (s .statuses) t (l * 32 + i)) (entries l) 32 (of-place l b))
+      sym (all-places (s .subscriptions) (s .statuses) (siteAfter s t .links) t (4 * 32) refl)
+      ∙ entries-rows (recordAt (s .subscriptions) (s .statuses) (siteAfter s t .links) t) 4
+      ∙ flat-same (λ l. flat (λ i. recordAt (s .subscriptions) (s .statuses) (siteAfter s t .links) t (l * 32 + i)) (upTo 32)) (rows 32) 4
+      (λ l b. flat-same (λ i. recordAt (s .subscriptions) (s .statuses) (siteAfter s t .links) t (l * 32 + i)) (entries l) 32 (of-place l b))
       ∙ flat-same (rows 32) (rows (length (m .statuses))) 4 (λ l b. short-row l)
       ∙ few-rows
       ∙ machines
-
-  value-told : (i : ℕ) (o : Option ℤ) → ((v : ℤ) → o ≡ some v → Signed32 v) → IsTold (ofStatus i o t)
-  value-told i none f = contents .no-value i t
-  value-told i (some v) f = contents .value i v t (f v refl)
 
   pub same-tick : SameEffect (issues (withSlots s (map (renewed t) (s .subscriptions))) (issuedAt s t)) (intervals t m)
   unfolding intervals
@@ -154,6 +148,6 @@ module _ (s : Site) (m : Machine) (h : SameItems s m) (t : ℕ) where
         items = made-anew;
         records = record {
           issued = all-records;
-          told = each-of given (λ x. value-told (x .status) (valueAt m (x .status)) (h .values (x .status))) (upwards m (isTime t));
+          told = each-of given (λ x. value-told (x .status) (valueAt m (x .status)) (h .values (x .status)) (not (isUp (lifeAt m (x .link)))) t) (upwards m (isTime t));
         };
       }

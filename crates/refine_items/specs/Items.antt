@@ -8,21 +8,22 @@ use mathlib.Core.Option.{Option, some, none}
 use lib.IntN.{ℤ}
 use lib.ListN.{length}
 use Rattle.basis.specs.Pick.{bit}
-use Rattle.basis.specs.Lists.{count}
+use Rattle.basis.specs.Lists.{count, Among}
 use Rattle.number.specs.Signed.{Signed32, wordOf}
+use Rattle.link.specs.Phase.{phaseOf, isUp as upIn}
 use Rattle.alarm.specs.declared.Alarm.{Alarm as AlarmWord}
 use Rattle.status.specs.declared.Status.{Status}
 use Rattle.status.specs.Status.{unknown, holding}
 use Rattle.subscription.specs.declared.Subscription.{Subscription as Slot}
 use Rattle.subscription.specs.Subscription.{none as noSubscription, subscribed}
-use Rattle.aggregated.specs.declared.Aggregated.{Aggregated}
 use Rattle.site.specs.declared.Site.{Site}
+use Rattle.site.specs.Site.{linkAt}
 use Rattle.site.specs.Parts.{alarmAt as alarmIn, statusAt, subscriptionAt}
 use Rattle.site.specs.Call.{Plan}
 use Rattle.machine.specs.Words.{firstThat}
-use Rattle.machine.specs.State.{eventNumber, Alarm, Subscription, Issued, Machine, alarmAt, valueAt, Effect}
+use Rattle.machine.specs.State.{eventNumber, Alarm, Subscription, Issued, Machine, lifeAt, alarmAt, valueAt, Effect}
+use Rattle.machine.specs.Life.{isUp}
 use Rattle.machine.specs.Items.{isOf}
-use Rattle.machine.specs.Run.{Among}
 use Rattle.demand_held.proofs.Lists.{Each}
 use Rattle.refine_pool.specs.Record.{unnumbered, IsTold}
 use Rattle.refine_items.specs.Setup.{SameSetup}
@@ -66,6 +67,10 @@ pub record SameItems (s : Site) (m : Machine) : Type 0 where
   pub one-each : (l i : ℕ) → count (isOf l i) (m .subscriptions) ≤ 1
   pub within : (x : Subscription) → Among x (m .subscriptions) → Within m x
   pub subscription-places : length (s .subscriptions) ≡ 128
+
+-- each link is Up in both or in neither: what a status' record says of its link
+abbrev pub SameUp : Site → Machine → Type 0
+SameUp s m = (l : ℕ) → upIn (phaseOf (linkAt s l)) ≡ isUp (lifeAt m l)
 
 -- the records that a call issues are the machine's, and each entry tells its content
 pub record SameIssued (p : Plan) (is : List Issued) : Type 0 where
