@@ -9,6 +9,8 @@ use native.Mathlib.Omega.{arith}
 use lib.ListN.{length}
 use borrow.Author.Tests.{ltb-false}
 use Rattle.basis.specs.Pick.{pick}
+use Rattle.basis.specs.Lists.{Among}
+use Rattle.basis.specs.Lists.Among.{first, later}
 use Rattle.basis.proofs.Cases.{bool-cases}
 use Rattle.answer.specs.declared.Refusal.{Refusal}
 use Rattle.answer.specs.declared.Refusal.the-variants.{SequenceSpent}
@@ -30,8 +32,6 @@ use Rattle.machine.specs.State.Outcome.{refused, done}
 use Rattle.machine.specs.Effects.{effectOf}
 use Rattle.machine.specs.Pool.{issueAll}
 use Rattle.machine.specs.Table.{lastSequence}
-use Rattle.machine.specs.Run.{Among}
-use Rattle.machine.specs.Run.Among.{here, later}
 use Rattle.machine.specs.Step.{numberOf, after, outcome, step}
 use Rattle.refine_pool.specs.Record.{unnumbered}
 use Rattle.refine_pool.specs.Same.{SamePool}
@@ -72,7 +72,7 @@ does m c e = rw e
 
 -- where none applies the batch is not spent
 none-applies : (applies : Refusal → Bool) {r : Refusal} {rs : List Refusal} → Among r rs → firstRefused applies rs ≡ none → applies r ≡ false
-none-applies applies {r} (here {xs = rs}) e = bool-cases (applies r) (λ t. absurd (some-none (refusalNumber r) (ap (λ (b : Bool). pick b (some (refusalNumber r)) (firstRefused applies rs)) (sym t) ∙ e))) (λ t. t)
+none-applies applies {r} (first {xs = rs}) e = bool-cases (applies r) (λ t. absurd (some-none (refusalNumber r) (ap (λ (b : Bool). pick b (some (refusalNumber r)) (firstRefused applies rs)) (sym t) ∙ e))) (λ t. t)
   where
     some-none : (n : ℕ) → some n ≡ none → ⊥
     some-none n q = absurd (let z : _≡_ {A = ℕ} 0 1 = cc in omega arith)
@@ -83,7 +83,7 @@ none-applies applies (later {y = q} {xs = rs} i) e = none-applies applies i (go 
     go false f = f
 
 spent-in-order : Among SequenceSpent inOrder
-spent-in-order = later (later (later (later (later (later (later (later (later (later here)))))))))
+spent-in-order = later (later (later (later (later (later (later (later (later (later first)))))))))
 
 not-spent : (b : Batch) (rest : Refusal → Bool) → firstRefused (issuing b rest) inOrder ≡ none → b .spent ≡ false
 not-spent b rest e = none-applies (issuing b rest) spent-in-order e
