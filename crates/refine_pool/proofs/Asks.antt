@@ -10,7 +10,7 @@ use lib.Dec.{eqb, ltb}
 use lib.ListN.{length}
 use native.Mathlib.Omega.{arith}
 use borrow.Author.Tests.{eqb-true, eq-eqb, lt-ltb, le-ltb}
-use Rattle.basis.specs.Pick.{pick, both, bit}
+use Rattle.basis.specs.Pick.{pick, both}
 use Rattle.basis.specs.Lists.{count}
 use Rattle.basis.proofs.Cases.{lt-or-ge}
 use Rattle.pool.specs.declared.Place.{Place}
@@ -18,28 +18,28 @@ use Rattle.pool.specs.declared.Pool.{Pool}
 use Rattle.pool.specs.declared.Sought.{Sought}
 use Rattle.pool.specs.declared.Sought.the-variants.{Found, Nothing}
 use Rattle.pool.specs.Pool.{heldOf, lostOf, oldestUnsent, newestAlarm, rankedOf, readingOf}
-use Rattle.pool_laws.specs.Leaves.{Held as IsHeld}
 use Rattle.pool_laws.specs.Promises.{Reached}
 use Rattle.pool_laws.specs.Promises.Reached.{empty, after}
 use Rattle.pool_laws.specs.Acts.Act.{Issue, Settle, Mark, Unmark}
-use Rattle.pool_laws.specs.View.{records, firstWhere, orElse, lastWhere, nth, notSent, ofAlarm}
+use Rattle.pool_laws.specs.View.{firstWhere, orElse, lastWhere, nth, notSent, ofAlarm}
 use Rattle.pool_laws.proofs.Viewed.{viewed}
 use Rattle.pool_batch.proofs.Kept.{kept}
-use Rattle.machine.specs.Words.{isSome, keep, firstThat}
-use Rattle.machine.specs.State.{Issued, Held, Pool as Listed, Machine, Effect}
+use Rattle.machine.specs.Words.{maybe, isSome, keep, firstThat}
+use Rattle.machine.specs.State.{Held, Machine, alarmAt, Effect}
+use Rattle.machine.specs.State.Sent.{noRecord}
 use Rattle.machine.specs.Pool.{isFor, holds}
-use Rattle.machine.specs.Life.{alarmIn, newest, oldestUnsent as oldestUnsentOf}
+use Rattle.machine.specs.Life.{alarmIn, newest, carries, carriedBy, oldestUnsent as oldestUnsentOf}
 use Rattle.machine.specs.Readings.{recordBytes, reading}
 use Rattle.machine.specs.Step.{sequenceEnds}
 use Rattle.machine.specs.Run.{Among}
 use Rattle.machine.specs.Run.Among.{here, later}
-use Rattle.demand_held.proofs.Lists.{bit-true, clash, Each, among-keep, length-map}
-use Rattle.demand_held.proofs.Lists.Each.{no-more, one-more}
-use Rattle.refine_pool.specs.Record.{placeFor, found, unnumbered, readingAt}
+use Rattle.demand_held.proofs.Lists.{bit-true, Each, among-keep, length-map}
+use Rattle.demand_held.proofs.Lists.Each.{one-more}
+use Rattle.refine_pool.specs.Record.{placeFor, found, unnumbered, carriedLike, readingAt}
 use Rattle.refine_pool.specs.Same.{SamePool}
 use Rattle.refine_pool.specs.Claims.{batchOf, Stands}
 use Rattle.refine_pool.proofs.Lists.{first-kept}
-use Rattle.refine_pool.proofs.Entries.{alarm-entry}
+use Rattle.refine_pool.proofs.Entries.{alarm-entry, left-of, right-of, carried-entry}
 use Rattle.refine_pool.proofs.Room.{held-same}
 use Rattle.refine_pool.proofs.Others.{isNumbered, numbered-same}
 
@@ -100,15 +100,17 @@ first-among f (x ∷ hs) h e = go (f x) refl e (first-among f hs h)
     go true d e r = let s : x ≡ h = cc in rw (← s) (here, d)
     go false d e r = (later (r e .0), r e .1)
 
-newest-among : (l i : ℕ) (o : Option Held) (hs : List Held) (h : Held) → newest l i o hs ≡ some h → (o ≡ some h) ⊎ (Among h hs × (isFor l h ≡ true))
+abbrev isAlarmOf : ℕ → ℕ → Held → Bool
+isAlarmOf l i h = both (isFor l h) (isSome (alarmIn i (h .content)))
+
+newest-among : (l i : ℕ) (o : Option Held) (hs : List Held) (h : Held) → newest l i o hs ≡ some h → (o ≡ some h) ⊎ (Among h hs × (isAlarmOf l i h ≡ true))
 newest-among l i o [] h e = inl e
-newest-among l i o (x ∷ hs) h e = go (isFor l x) refl (isSome (alarmIn i (x .content))) (newest-among l i _ hs h e)
+newest-among l i o (x ∷ hs) h e = go (isAlarmOf l i x) refl (newest-among l i (pick (isAlarmOf l i x) (some x) o) hs h e)
   where
-    go : (a : Bool) → isFor l x ≡ a → (b : Bool) → (pick (both a b) (some x) o ≡ some h) ⊎ (Among h hs × (isFor l h ≡ true)) → (o ≡ some h) ⊎ (Among h (x ∷ hs) × (isFor l h ≡ true))
-    go a d b (inr r) = inr (later (r .0), r .1)
-    go true d true (inl e) = let s : x ≡ h = cc in inr (rw (← s) (here, d))
-    go true d false (inl e) = inl e
-    go false d b (inl e) = inl e
+    go : (t : Bool) → isAlarmOf l i x ≡ t → (pick t (some x) o ≡ some h) ⊎ (Among h hs × (isAlarmOf l i h ≡ true)) → (o ≡ some h) ⊎ (Among h (x ∷ hs) × (isAlarmOf l i h ≡ true))
+    go t d (inr r) = inr (later (r .0), r .1)
+    go true d (inl e) = let s : x ≡ h = cc in inr (rw (← s) (here, d))
+    go false d (inl e) = inl e
 
 of-each : {A : Type 0} {P : A → Type 0} {x : A} {xs : List A} → Each P xs → Among x xs → P x
 of-each (one-more p r) here = p
@@ -117,10 +119,6 @@ of-each (one-more p r) (later a) = of-each r a
 counts : {A : Type 0} (f : A → Bool) {x : A} {xs : List A} → f x ≡ true → Among x xs → 1 ≤ count f xs
 counts f e (here {xs}) = omega (arith, bit-true _ e)
 counts f e (later a) = omega (arith, counts f e a)
-
-both-parts : (a b : Bool) → both a b ≡ true → a ≡ true
-both-parts true b e = refl
-both-parts false b e = e
 
 reached-next : {n q : ℕ} {p : Pool} → Reached n p q → q ≤ 4294967296
 reached-next (empty h) = h
@@ -159,16 +157,28 @@ module _ {links q : ℕ} {p : Pool} (m : Machine) (same : SamePool links p q (m 
   pub unsent-stands : (l : ℕ) (h : Held) → oldestUnsentOf m l ≡ some h → Stands p l h
   unsent-stands l h e =
       let r = first-among (λ (h : Held). both (isFor l h) (not (h .sent))) hs h e in
-      stands l h (r .0) (both-parts (isFor l h) (not (h .sent)) (r .1))
+      stands l h (r .0) (left-of (isFor l h) (not (h .sent)) (r .1))
+
+  -- the newest record of an alarm, where there is one
+  newest-is : (l i : ℕ) (h : Held) → newest l i none hs ≡ some h → Among h hs × (isAlarmOf l i h ≡ true)
+  newest-is l i h e = go (newest-among l i none hs h e)
+    where
+      go : (none ≡ some h) ⊎ (Among h hs × (isAlarmOf l i h ≡ true)) → Among h hs × (isAlarmOf l i h ≡ true)
+      go (inl d) = absurd (let z : _≡_ {A = ℕ} 0 1 = cc in omega arith)
+      go (inr r) = r
 
   pub alarm-stands : (l i : ℕ) (h : Held) → newest l i none hs ≡ some h → Stands p l h
-  alarm-stands l i h e = go (newest-among l i none hs h e)
-    where
-      go : (none ≡ some h) ⊎ (Among h hs × (isFor l h ≡ true)) → Stands p l h
-      go (inl d) = absurd (let z : _≡_ {A = ℕ} 0 1 = cc in omega arith)
-      go (inr r) = stands l h (r .0) (r .1)
+  alarm-stands l i h e = let r = newest-is l i h e in stands l h (r .0) (left-of (isFor l h) _ (r .1))
 
-  pub holds-same : (l : ℕ) → heldOf p l ≡ holds (m .pool) l
+  pub carried-same : (l i : ℕ) → carriedBy m l i ≡ carriedLike (alarmAt m i) (newestAlarm p l i)
+  unfolding carriedBy
+  carried-same l i = rw (alarm-same l i) (go (newest l i none hs) refl)
+    where
+      go : (o : Option Held) → newest l i none hs ≡ o → maybe noRecord (carries (alarmAt m i) i) o ≡ carriedLike (alarmAt m i) (found o)
+      go none e = refl
+      go (some h) e = carried-entry (alarmAt m i) i h (right-of (isFor l h) _ (newest-is l i h e .1))
+
+  holds-same : (l : ℕ) → heldOf p l ≡ holds (m .pool) l
   holds-same l = viewed 4 (omega arith) .held p l ∙ held-same same l
 
   pub lost-read : (l : ℕ) → lostOf p l ≡ reading m l .lost

@@ -4,11 +4,11 @@ use Prim.Native.Nat.{ℕ, suc, _+_, _≤_, _<_}
 use mathlib.Core.Path.{_≡_, refl, sym, _∙_, ap, subst}
 use mathlib.Core.Bool.{Bool, true, false}
 use mathlib.Core.List.{List, [], _∷_, _++_, map, map-append}
-use lib.Dec.{eqb, ltb}
+use lib.Dec.{eqb}
 use lib.ListN.{length, getD, drop}
 use native.Mathlib.Omega.{arith}
 use borrow.Author.Tests.{eqb-true, eqb-false, ne-eqb, lt-ltb}
-use Rattle.basis.specs.Pick.{pick, bit}
+use Rattle.basis.specs.Pick.{pick}
 use Rattle.entry.specs.declared.Entry.{Entry}
 use Rattle.pool.specs.declared.Place.{Place}
 use Rattle.pool.specs.declared.Pool.{Pool}
@@ -19,22 +19,22 @@ use Rattle.pool_laws.specs.Acts.{May}
 use Rattle.pool_laws.specs.Acts.Act.{Issue}
 use Rattle.pool_laws.specs.Promises.{Reached}
 use Rattle.pool_laws.specs.Promises.Reached.{after}
-use Rattle.pool_laws.specs.View.{records, loserIn, shed, issueView, losses}
+use Rattle.pool_laws.specs.View.{records, loserIn, shed, losses}
 use Rattle.pool_laws.proofs.Viewed.{viewed}
 use Rattle.pool_batch.specs.declared.Batch.{Batch}
 use Rattle.pool_batch.specs.Batch.{added as addedTo, addedAll}
 use Rattle.machine.specs.Words.{keep, butFirst}
 use Rattle.machine.specs.State.{Issued, Held, heldAs, Pool as Listed}
-use Rattle.machine.specs.Pool.{isFor, lose, makeRoom, added, issue, issueAll}
+use Rattle.machine.specs.Pool.{isFor, lose, added, issue, issueAll}
 use Rattle.machine.specs.Readings.{entryFor}
-use Rattle.demand_held.proofs.Lists.{Each, each-append, each-butFirst}
+use Rattle.demand_held.proofs.Lists.{Each, each-append, each-butFirst, length-changed}
 use Rattle.demand_held.proofs.Lists.Each.{no-more, one-more}
-use Rattle.demand_held.proofs.Issue.{For, issue-good, issue-next, issue-lost}
+use Rattle.demand_held.proofs.Issue.{For, issue-good}
 use Rattle.refine_pool.specs.Record.{placeFor, unnumbered, IsTold}
 use Rattle.refine_pool.specs.Same.{SamePool}
 use Rattle.refine_pool.proofs.Lists.{keep-first, keep-other, keep-last, drop-map, getD-changed}
 use Rattle.refine_pool.proofs.Entries.{entry-link, entry-sequence, numbered-entry}
-use Rattle.refine_pool.proofs.Room.{Configured, losing, few-links, room-same, loser-configured}
+use Rattle.refine_pool.proofs.Room.{Configured, losing, room-same, loser-configured}
 
 abbrev ToldRecord : Held → Type 0
 ToldRecord h = IsTold (h .content)
@@ -45,6 +45,11 @@ module _ (m : Listed) where
   unfolding lose
   losing-next Nobody = refl
   losing-next (Owner w) = refl
+
+  losing-configured : (who : Loser) → length (losing who m .lost) ≡ length (m .lost)
+  unfolding lose
+  losing-configured Nobody = refl
+  losing-configured (Owner w) = length-changed w suc (m .lost)
 
   losing-told : (who : Loser) → Each ToldRecord (m .held) → Each ToldRecord (losing who m .held)
   unfolding lose
@@ -90,7 +95,7 @@ module _ {links q : ℕ} {p : Pool} {m : Listed} (same : SamePool links p q m) (
   of-number = entry-sequence (i .link) q (i .content)
 
   may : May 4 q (Issue entry)
-  may = (omega (arith, of-link, few-links same), (omega (arith, of-number), omega (arith, of-number)))
+  may = (omega (arith, of-link, same .few), (omega (arith, of-number), omega (arith, of-number)))
 
   after-reached : Reached 4 (issueOf 4 p entry) (suc q)
   after-reached = let e : entry .sequence + 1 ≡ suc q = omega (arith, of-number) in subst (Reached 4 (issueOf 4 p entry)) e (after (Issue entry) (same .reached) may)
@@ -137,11 +142,12 @@ module _ {links q : ℕ} {p : Pool} {m : Listed} (same : SamePool links p q m) (
   pub issue-same : SamePool links (issueOf 4 p entry) (suc q) (issue i m)
   issue-same =
       record {
-        next = issue-next i m (same .good) ∙ ap suc (same .next);
+        next = ap (λ (r : Listed). r .next) issue-is ∙ ap suc left-next;
         held = λ l. after-held l ∙ ap (λ (r : Listed). map placeFor (keep (isFor l) (r .held))) (sym issue-is);
         told = rw issue-is (each-append (losing-told m who (same .told)) (one-more told no-more));
         lost = λ l. after-lost l ∙ ap (λ (r : Listed). getD (r .lost) l 0) (sym issue-is);
-        configured = issue-lost i m (same .good) ∙ same .configured;
+        configured = ap (λ (r : Listed). length (r .lost)) issue-is ∙ losing-configured m who ∙ same .configured;
+        few = same .few;
         reached = after-reached;
         good = issue-good i m (same .good) (omega (arith, same .configured));
       }

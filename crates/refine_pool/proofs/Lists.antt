@@ -1,10 +1,10 @@
 -- What keeping does to the machine's lists, and what stands in a list whose one element is changed.
 -- Assumes nothing.
-use Prim.Native.Nat.{ℕ, zero, suc, _+_, _≤_, _<_}
+use Prim.Native.Nat.{ℕ, zero, suc, _+_, _<_}
 use mathlib.Core.Path.{_≡_, refl, sym, _∙_, ap}
 use mathlib.Core.Bool.{Bool, true, false, not}
 use mathlib.Core.List.{List, [], _∷_, _++_, map}
-use mathlib.Core.Option.{Option, some, none}
+use mathlib.Core.Option.{some}
 use mathlib.Core.Logic.{_⊎_, inl, inr}
 use lib.Dec.{eqb}
 use lib.ListN.{length, getD, drop}
@@ -15,7 +15,6 @@ use Rattle.basis.specs.Pick.{pick, both, bit}
 use Rattle.basis.specs.Lists.{count}
 use Rattle.basis.proofs.Cases.{eq-or-ne}
 use Rattle.machine.specs.Words.{keep, butFirst, firstThat, changed}
-use Rattle.demand_held.proofs.Lists.{clash}
 
 module _ {A : Type 0} where
   abbrev before : A → List A → List A

@@ -1,11 +1,11 @@
 -- The start, and what settles, marks and unmarks.
 -- Assumes nothing.
-use Prim.Native.Nat.{ℕ, zero, suc, _+_, _≤_, _<_}
+use Prim.Native.Nat.{ℕ, zero, suc, _+_, _≤_}
 use mathlib.Core.Path.{_≡_, refl, sym, _∙_, ap, ap₂}
 use mathlib.Core.Bool.{Bool, true, false, not}
 use mathlib.Core.List.{List, [], _∷_, map}
 use lib.Dec.{eqb}
-use lib.ListN.{length, getD, replicate, length-replicate}
+use lib.ListN.{getD, replicate, length-replicate}
 use native.Mathlib.Omega.{arith}
 use borrow.Author.Tests.{eqb-true, eqb-false, ne-eqb}
 use Rattle.basis.specs.Pick.{pick, both, bit}
@@ -19,10 +19,10 @@ use Rattle.pool_laws.specs.Promises.Reached.{empty, after}
 use Rattle.pool_laws.specs.View.{records, without, sentIf, unsent as unsentPlace}
 use Rattle.pool_laws.proofs.Viewed.{viewed}
 use Rattle.machine.specs.Words.{keep}
-use Rattle.machine.specs.State.{Held, Pool as Listed, poolOf, Machine, withHeld}
+use Rattle.machine.specs.State.{Held, poolOf, Machine, withHeld}
 use Rattle.machine.specs.Pool.{isFor, settled, marked}
 use Rattle.machine.specs.Life.{unsent}
-use Rattle.demand_held.proofs.Lists.{bit-false, each-map, each-keep, count-map}
+use Rattle.demand_held.proofs.Lists.{each-map, each-keep, count-map}
 use Rattle.demand_held.proofs.Lists.Each.{no-more}
 use Rattle.demand_held.proofs.Good.Rising.{ends}
 use Rattle.demand_held.proofs.Rising.{rising-once}
@@ -46,6 +46,7 @@ start-same links few first h =
       told = no-more;
       lost = λ l. viewed 4 (omega arith) .start-lost l ∙ sym (nothing-lost links l);
       configured = length-replicate links 0;
+      few = few;
       reached = empty {q = first} (omega arith);
       good = record {
         few = omega (arith, length-replicate {A = ℕ} links 0);
@@ -153,6 +154,7 @@ module _ {links q : ℕ} {p : Pool} (m : Machine) (same : SamePool links p q (m 
         told = each-keep (λ h. not (both (isFor l h) (isNumbered n h))) (same .told);
         lost = λ j. viewed 4 (omega arith) .settle-lost p l n j ∙ same .lost j;
         configured = same .configured;
+        few = same .few;
         reached = after (Settle l n) (same .reached) tt;
         good = settles {E = λ l n. Unit {0}} m l n tt .good (same .good);
       }
@@ -186,6 +188,7 @@ module _ {links q : ℕ} {p : Pool} (m : Machine) (same : SamePool links p q (m 
         told = each-map (marked n) (λ x t. t) (same .told);
         lost = λ j. viewed 4 (omega arith) .mark-lost p l n j ∙ same .lost j;
         configured = same .configured;
+        few = same .few;
         reached = after (Mark l n) (same .reached) tt;
         good = marks {E = λ l n. Unit {0}} m (marked n) (λ h. refl) (λ h. refl) (λ h. refl) .good (same .good);
       }
@@ -207,6 +210,7 @@ module _ {links q : ℕ} {p : Pool} (m : Machine) (same : SamePool links p q (m 
         told = each-map (unsent l) (λ x t. t) (same .told);
         lost = λ j. viewed 4 (omega arith) .unmark-lost p l j ∙ same .lost j;
         configured = same .configured;
+        few = same .few;
         reached = after (Unmark l) (same .reached) tt;
         good = marks {E = λ l n. Unit {0}} m (unsent l) (λ h. refl) (λ h. refl) (λ h. refl) .good (same .good);
       }

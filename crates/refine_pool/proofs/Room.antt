@@ -3,7 +3,7 @@
 use Prim.Native.Nat.{ℕ, zero, suc, _+_, _-_, _≤_, _<_}
 use mathlib.Core.Path.{_≡_, refl, sym, _∙_, ap}
 use mathlib.Core.Bool.{Bool, true, false, not}
-use mathlib.Core.List.{List, [], _∷_, map}
+use mathlib.Core.List.{List, [], _∷_}
 use mathlib.Core.Logic.{_⊎_, inl, inr}
 use lib.Dec.{eqb, ltb, leb}
 use lib.ListN.{length}
@@ -11,8 +11,7 @@ use native.Mathlib.Omega.{arith}
 use borrow.Author.Tests.{lt-ltb, le-ltb, lt-leb, le-leb, ne-eqb}
 use Rattle.basis.specs.Pick.{pick, bit}
 use Rattle.basis.specs.Lists.{count}
-use Rattle.basis.proofs.Cases.{picked, lt-or-ge, le-or-lt}
-use Rattle.pool.specs.declared.Place.{Place}
+use Rattle.basis.proofs.Cases.{picked, le-or-lt}
 use Rattle.pool.specs.declared.Pool.{Pool}
 use Rattle.pool.specs.declared.Loser.{Loser}
 use Rattle.pool.specs.declared.Loser.the-variants.{Nobody, Owner}
@@ -104,8 +103,8 @@ module _ {links q : ℕ} {p : Pool} {m : Listed} (same : SamePool links p q m) w
   pub held-same : (l : ℕ) → heldBy (records p) l ≡ holds m l
   held-same l = ap length (same .held l) ∙ length-map placeFor (keep (isFor l) (m .held)) ∙ keep-length (isFor l) (m .held)
 
-  pub few-links : links ≤ 4
-  few-links = omega (arith, same .good .few, same .configured)
+  few-links : length (m .lost) ≤ 4
+  few-links = omega (arith, same .configured, same .few)
 
   none-held : (l : ℕ) → length (m .lost) ≤ l → holds m l ≡ 0
   none-held l h = none-beyond l h (m .held) (same .good .links)
@@ -113,7 +112,7 @@ module _ {links q : ℕ} {p : Pool} {m : Listed} (same : SamePool links p q m) w
   total-same : total (heldBy (records p)) 4 ≡ length (m .held)
   unfolding total
   total-same =
-      omega (arith, held-same 0, held-same 1, held-same 2, held-same 3, all-of-four (same .good .few) (m .held) (same .good .links))
+      omega (arith, held-same 0, held-same 1, held-same 2, held-same 3, all-of-four few-links (m .held) (same .good .links))
 
   free-same : ltb 0 (128 - total (heldBy (records p)) 4) ≡ not (isFull m)
   free-same = ap (λ (k : ℕ). ltb 0 (128 - k)) total-same ∙ go (le-or-lt 128 (length (m .held)))
@@ -123,7 +122,7 @@ module _ {links q : ℕ} {p : Pool} {m : Listed} (same : SamePool links p q m) w
       go (inr h) = lt-ltb 0 (128 - length (m .held)) (omega arith) ∙ ap not (sym (lt-leb 128 (length (m .held)) h))
 
   fullest-same : fullestTo (heldBy (records p)) 3 ≡ fullest m
-  fullest-same = fullest-to (heldBy (records p)) m held-same 3 ∙ fullest-beyond m (length (m .lost)) none-held 4 (same .good .few)
+  fullest-same = fullest-to (heldBy (records p)) m held-same 3 ∙ fullest-beyond m (length (m .lost)) none-held 4 few-links
 
   loser-same : (s : ℕ) → loserIn 4 (records p) s ≡ loserOf s m
   unfolding loser

@@ -12,6 +12,7 @@ use Rattle.refine_pool.proofs.Asks.{
   unsent-same,
   unsent-stands,
   alarm-same,
+  carried-same,
   alarm-stands,
   held-read,
   lost-read,
@@ -36,6 +37,7 @@ same-answers m same =
       oldest-unsent = unsent-same m same;
       unsent-stands = unsent-stands m same;
       newest-alarm = alarm-same m same;
+      carried = carried-same m same;
       alarm-stands = alarm-stands m same;
       held = held-read m same;
       lost = lost-read m same;

@@ -1,8 +1,9 @@
--- The code's pool of 128 places, with the site's next sequence number, and the machine's pool, one list, hold and lost the same.
+-- When the code's pool, 128 places, with the site's next sequence number is the machine's, one list: a proof's device, nothing here need be
+-- believed.
 -- Assumes nothing.
-use Prim.Native.Nat.{ℕ}
+use Prim.Native.Nat.{ℕ, _≤_}
 use mathlib.Core.Path.{_≡_}
-use mathlib.Core.List.{List, map}
+use mathlib.Core.List.{map}
 use lib.ListN.{length, getD}
 use Rattle.pool.specs.declared.Pool.{Pool}
 use Rattle.pool.specs.Pool.{lostOf}
@@ -24,6 +25,7 @@ pub record SamePool (links : ℕ) (p : Pool) (q : ℕ) (m : Listed) : Type 0 whe
   -- the lost counts: the code has four, the machine one for each configured link
   pub lost : (l : ℕ) → lostOf p l ≡ getD (m .lost) l 0
   pub configured : length (m .lost) ≡ links
+  pub few : links ≤ 4
   -- pools as calls leave them
   pub reached : Reached 4 p q
   pub good : Good m
