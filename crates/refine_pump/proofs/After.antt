@@ -1,9 +1,9 @@
 -- The site after a message went out, and the machine.
 -- Assumes nothing.
 use Prim.Native.Nat.{ℕ, _<_}
-use mathlib.Core.Path.{_≡_, refl, sym, ap, ap₂, subst, _∙_}
+use mathlib.Core.Path.{_≡_, refl, sym, ap, subst, _∙_}
 use mathlib.Core.Bool.{Bool, true, false}
-use mathlib.Core.List.{List, map}
+use mathlib.Core.List.{map}
 use mathlib.Core.Option.{Option, some, none}
 use lib.ListN.{length}
 use Rattle.basis.specs.Pick.{pick}
@@ -22,7 +22,7 @@ use Rattle.site.specs.Parts.{alarmAt as alarmIn}
 use Rattle.send_after.specs.declared.Carried.{Carried}
 use Rattle.send_after.specs.declared.Carried.the-variants.{Held as Carries, NoRecord}
 use Rattle.send_after.specs.Outgoing.{purposeOf, marked, sameEvent, carriedOf, carriedAt}
-use Rattle.machine.specs.State.{Alarm, Held, Sent, Life, Machine, withLife, withHeld, alarmAt}
+use Rattle.machine.specs.State.{Held, Sent, Life, Machine, withLife, withHeld, alarmAt}
 use Rattle.machine.specs.State.Sent.{noRecord, theRecord}
 use Rattle.machine.specs.State.Content.{ofAlarm}
 use Rattle.machine.specs.Pool.{marked as nowMarked}

@@ -1,29 +1,24 @@
 -- What is due says of its link what it needs to be sent.
 -- Assumes nothing.
 use Prim.Native.Nat.{ℕ, zero, suc, _+_, _-_, _*_, _≤_, _<_}
-use mathlib.Core.Path.{_≡_, refl, sym, ap, subst, _∙_}
+use mathlib.Core.Path.{_≡_, refl, sym, subst}
 use mathlib.Core.Bool.{Bool, true, false, not}
 use mathlib.Core.Option.{Option, some, none}
 use native.Mathlib.Omega.{arith}
 use lib.Dec.{eqb, ltb, leb}
 use lib.ListN.{length}
-use borrow.Author.Tests.{ltb-true, ltb-false, eqb-true, eqb-false}
-use Rattle.basis.specs.Pick.{pick, both}
+use borrow.Author.Tests.{ltb-true, eqb-true, eqb-false}
+use Rattle.basis.specs.Pick.{pick}
 use Rattle.basis.proofs.Cases.{picked}
 use Rattle.machine.specs.Words.{_and_, _or_, maybe}
-use Rattle.machine.specs.State.{Held, Life, Machine, lifeAt}
+use Rattle.machine.specs.State.{Held, Machine, lifeAt}
 use Rattle.machine.specs.Life.{isGreeting, isBeating, isUp, isPrimary, passLength, oldestUnsent, Due, dueUp, due}
 use Rattle.machine.specs.Life.Due.{theVersion, theWatchdog, theAggregated, theAlarm, theHeld}
+use Rattle.refine_pool.proofs.Entries.{left-of, right-of}
 
-left-of : (x y : Bool) → both x y ≡ true → x ≡ true
-left-of true y e = refl
-left-of false y e = e
-
-right-not : (x y : Bool) → both x (not y) ≡ true → y ≡ false
-right-not true true e = sym e
-right-not true false e = refl
-right-not false true e = sym e
-right-not false false e = refl
+not-true : (b : Bool) → not b ≡ true → b ≡ false
+not-true true e = sym e
+not-true false e = refl
 
 or-left : (x y : Bool) → x ≡ true → (x or y) ≡ true
 or-left true y e = refl
@@ -85,7 +80,7 @@ module _ (m : Machine) (l t : ℕ) where
   unfolding due
   why-if =
       picked WhyIf (isGreeting (lifeAt m l) and not (lifeAt m l .versions .sent)) _ _
-      (λ e. (left-of (isGreeting (lifeAt m l)) _ e, right-not (isGreeting (lifeAt m l)) (lifeAt m l .versions .sent) e))
+      (λ e. (left-of (isGreeting (lifeAt m l)) _ e, not-true (lifeAt m l .versions .sent) (right-of (isGreeting (lifeAt m l)) _ e)))
       (λ e. picked WhyIf (isBeating (lifeAt m l) and not (lifeAt m l .watchdogs .sent)) _ _
       (λ b. or-left (isBeating (lifeAt m l) and not (lifeAt m l .watchdogs .sent)) (isUp (lifeAt m l)) b)
       (λ b. picked WhyIf (isUp (lifeAt m l)) _ _ why-up (λ u. tt)))

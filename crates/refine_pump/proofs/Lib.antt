@@ -3,6 +3,7 @@ pub mod Texts
 pub mod Messages
 pub mod Due
 pub mod After
+pub mod Identity
 pub mod Numbers
 pub mod Plans
 pub mod Pump

@@ -1,33 +1,28 @@
 -- The messages that tell a part of the site are the machine's.
 -- Assumes nothing.
-use Prim.Native.Nat.{ℕ, _%_, _<_}
+use Prim.Native.Nat.{ℕ, _%_}
 use mathlib.Core.Path.{_≡_, refl, ap, ap₂, _∙_}
 use mathlib.Core.Bool.{Bool, true, false}
 use mathlib.Core.List.{List, [], _∷_}
 use mathlib.Core.Option.{Option, some, none}
 use lib.Dec.{eqb}
 use lib.IntN.{ℤ}
-use lib.ListN.{length}
 use native.Mathlib.Nat.{mod-eq-of-lt}
 use Rattle.basis.specs.Pick.{bit}
-use Rattle.label.specs.Label.{textOf, labelOf}
-use Rattle.entry.specs.Flags.{eventOf}
 use Rattle.entry.proofs.FlagLaws.{event-back, acknowledged-back, active-back, suspended-back, known-back}
 use Rattle.table_item.specs.declared.Item.{Item}
 use Rattle.table_whole.specs.Table.{Row}
 use Rattle.table_whole.specs.Memory.{itemOf}
 use Rattle.table_whole.proofs.Kept.{text-label}
-use Rattle.alarm.specs.declared.Alarm.{Alarm as AlarmWord}
 use Rattle.aggregated.specs.declared.Aggregated.{Aggregated}
 use Rattle.write_message.specs.declared.AlarmState.{AlarmState}
 use Rattle.write_message.specs.declared.Value.{Value}
 use Rattle.write_message.specs.declared.Told.the-variants.{Update}
-use Rattle.write_message.specs.Message.{Message, status}
+use Rattle.write_message.specs.Message.{status}
 use Rattle.write_message.specs.Message.Message.{alarm, statuses}
 use Rattle.site.specs.declared.Site.{Site}
-use Rattle.site.specs.Parts.{componentAt}
 use Rattle.send_message.specs.Sending.{stateOf, heldState, alarmTold, aggregatedTold, statusTold, heldValue, entryMessage}
-use Rattle.machine.specs.State.{Event, eventNumber, Alarm, Content, Setup, Machine, alarmAt}
+use Rattle.machine.specs.State.{Event, eventNumber, Alarm, Content, Machine, alarmAt}
 use Rattle.machine.specs.State.Event.{Issue, Acknowledge, Suspend}
 use Rattle.machine.specs.State.Content.{ofAlarm, ofStatus, ofAggregated}
 use Rattle.machine.specs.Table.{componentText, alarmRow, statusRow}
@@ -35,7 +30,6 @@ use Rattle.machine.specs.Messages.{stateOf as stateIn, valueOf, recordMessage}
 use Rattle.machine.specs.Readings.{entryFor}
 use Rattle.refine_pool.specs.Record.{IsTold}
 use Rattle.refine_pool.proofs.Entries.{contents}
-use Rattle.refine_items.specs.Setup.{SameSetup}
 use Rattle.refine_items.specs.Items.{alarmFor, SameItems}
 use Rattle.refine_pump.specs.Messages.{SameTexts, SameMessages, Messages}
 use Rattle.refine_pump.proofs.Texts.{same-texts}

@@ -6,7 +6,7 @@ use mathlib.Core.Bool.{Bool, true, false, not}
 use mathlib.Core.List.{List}
 use mathlib.Core.Option.{Option, some, none}
 use native.Mathlib.Omega.{arith}
-use lib.Dec.{eqb, ltb, leb}
+use lib.Dec.{eqb}
 use lib.ListN.{length}
 use borrow.Author.Tests.{ne-eqb, leb-false}
 use Rattle.basis.specs.Pick.{pick}
@@ -15,7 +15,6 @@ use Rattle.answer.specs.Order.{inOrder}
 use Rattle.identity.specs.declared.Identity.{Identity}
 use Rattle.identity.specs.Version.{identityOf}
 use Rattle.pool.specs.declared.Pool.{Pool}
-use Rattle.pool.specs.Pool.{oldestUnsent}
 use Rattle.pool_batch.specs.Batch.{beginning}
 use Rattle.link.specs.declared.Link.{Link}
 use Rattle.link.specs.declared.Role.{Role}

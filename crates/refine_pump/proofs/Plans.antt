@@ -1,9 +1,9 @@
 -- What pump lays down is the machine's, whatever is due.
 -- Assumes nothing.
-use Prim.Native.Nat.{ℕ, suc, _≤_, _<_}
+use Prim.Native.Nat.{ℕ, _<_}
 use mathlib.Core.Path.{_≡_, refl, sym, ap, ap₂, subst, _∙_}
-use mathlib.Core.Bool.{true, false}
-use mathlib.Core.List.{List, [], _∷_}
+use mathlib.Core.Bool.{true}
+use mathlib.Core.List.{[], _∷_}
 use mathlib.Core.Option.{some, none}
 use native.Mathlib.Omega.{arith}
 use lib.ListN.{length}
@@ -11,19 +11,18 @@ use Rattle.identity.specs.declared.Identity.{Identity}
 use Rattle.awaited.specs.declared.Purpose.{Purpose}
 use Rattle.pool.specs.declared.Sought.{Sought}
 use Rattle.pool.specs.declared.Sought.the-variants.{Found}
-use Rattle.pool.specs.Pool.{oldestUnsent}
-use Rattle.link.specs.Steps.{versionOutOf, watchdogOutOf, messageOutOf, aggregatedPassedOf, alarmPassedOf}
+use Rattle.link.specs.Steps.{messageOutOf, alarmPassedOf}
 use Rattle.write_message.specs.Message.{Message}
 use Rattle.write_message.specs.Message.Message.{version}
 use Rattle.site.specs.declared.Site.{Site}
-use Rattle.site.specs.Site.{linkAt, withLink, withPool}
+use Rattle.site.specs.Site.{linkAt}
 use Rattle.send_after.specs.declared.Carried.{Carried}
 use Rattle.send_after.specs.declared.Carried.the-variants.{Held as Carries}
 use Rattle.send_after.specs.Outgoing.{purposeOf, entrySent, alarmSentWith, carriedAt}
 use Rattle.call_pump.specs.Pump.{sends, entryPlan, planFor}
-use Rattle.machine.specs.State.{Held, Sent, Life, Machine, effect, lifeAt, withLife}
+use Rattle.machine.specs.State.{Held, Sent, Machine, effect, lifeAt, withLife}
 use Rattle.machine.specs.State.Sent.{theRecord}
-use Rattle.machine.specs.Life.{isUp, awaiting, Due, due, oldestUnsent as oldestUnsentOf, carriedBy}
+use Rattle.machine.specs.Life.{isUp, awaiting, Due, due, carriedBy}
 use Rattle.machine.specs.Life.Due.{theVersion, theWatchdog, theAggregated, theAlarm, theHeld}
 use Rattle.machine.specs.Effects.{passed, markSent, sends as sending}
 use Rattle.demand_held.proofs.Lists.Each.{no-more}

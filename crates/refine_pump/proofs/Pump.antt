@@ -1,13 +1,13 @@
 -- Pump is the machine's.
 -- Assumes nothing.
-use Prim.Native.Nat.{ℕ, zero, suc, _+_, _%_, _<_}
+use Prim.Native.Nat.{ℕ, _<_}
 use mathlib.Core.Path.{_≡_, refl, sym, ap, subst, _∙_}
 use mathlib.Core.Bool.{true, false}
-use mathlib.Core.List.{List, [], _∷_}
+use mathlib.Core.List.{List}
 use mathlib.Core.Option.{Option, some, none}
 use native.Mathlib.Omega.{arith}
 use lib.Dec.{ltb}
-use lib.ListN.{length, getD, set, length-set}
+use lib.ListN.{length}
 use borrow.Author.Tests.{leb-false}
 use Rattle.answer.specs.Order.{inOrder}
 use Rattle.identity.specs.declared.Identity.{Identity}
@@ -18,8 +18,8 @@ use Rattle.pool_batch.specs.declared.Batch.{Batch}
 use Rattle.pool_batch.specs.Batch.{beginning, issuedAll}
 use Rattle.link.specs.declared.Due.{Due as DueKind}
 use Rattle.site.specs.declared.Site.{Site}
-use Rattle.site.specs.Call.{Plan, batchOf, issuing}
-use Rattle.call_pump.specs.Pump.{dueAt, planFor, pumpPlan, pumpRefuses}
+use Rattle.site.specs.Call.{batchOf, issuing}
+use Rattle.call_pump.specs.Pump.{planFor, pumpPlan, pumpRefuses}
 use Rattle.call_pump.proofs.Kept.{kept}
 use Rattle.calls.specs.Calls.Call.{pump}
 use Rattle.machine.specs.Words.{isSome, maybe}
@@ -33,24 +33,9 @@ use Rattle.refine_site.specs.Abstracts.{Abstracts}
 use Rattle.refine_site.specs.Calls.{callFor, firstRefused, SamePlan, SameCall}
 use Rattle.refine_pump.specs.Pump.{PumpCalls}
 use Rattle.refine_pump.specs.Pump.OfPump.{pumps}
+use Rattle.refine_pump.proofs.Identity.{own-sixteen}
 use Rattle.refine_pump.proofs.Numbers.{due-same, number-same, Passes, passes}
 use Rattle.refine_pump.proofs.Plans.{plan-same}
-
--- ---- sixteen random bytes as an identity are sixteen bytes
-byte-set : (xs : List ℕ) (i x : ℕ) → x < 256 → ((k : ℕ) → getD xs k 0 < 256) → (k : ℕ) → getD (set xs i x) k 0 < 256
-byte-set [] i x p h k = h k
-byte-set (y ∷ xs) zero x p h zero = p
-byte-set (y ∷ xs) zero x p h (suc k) = h (suc k)
-byte-set (y ∷ xs) (suc i) x p h zero = h zero
-byte-set (y ∷ xs) (suc i) x p h (suc k) = byte-set xs i x p (λ j. h (suc j)) k
-
-own-sixteen : (bs : List ℕ) → SixteenBytes bs → SixteenBytes (version4Of bs)
-own-sixteen bs h =
-    let first = set bs 6 (0x40 + getD bs 6 0 % 16) in
-    record {
-      sixteen = length-set first 8 (0x80 + getD bs 8 0 % 64) ∙ length-set bs 6 (0x40 + getD bs 6 0 % 16) ∙ h .sixteen;
-      bytes = byte-set first 8 (0x80 + getD bs 8 0 % 64) (omega arith) (byte-set bs 6 (0x40 + getD bs 6 0 % 16) (omega arith) (h .bytes));
-    }
 
 module _ (s : Site) (m : Machine) (h : Abstracts s m) (l t : ℕ) (random : Identity) (out : List ℕ) (u : SixteenBytes (random .bytes)) where
   -- nothing is issued

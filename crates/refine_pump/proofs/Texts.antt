@@ -1,16 +1,14 @@
 -- The site table as it is kept says what the table says.
 -- Assumes nothing.
 use Prim.Native.Nat.{ℕ, zero, suc, _-_}
-use mathlib.Core.Path.{_≡_, refl, sym, ap, _∙_}
+use mathlib.Core.Path.{_≡_, refl, ap, _∙_}
 use mathlib.Core.List.{List, [], _∷_, _++_, map}
 use lib.ListN.{length, getD, replicate}
-use Rattle.label.specs.declared.Label.{Label}
 use Rattle.label.specs.Label.{labelOf, noLabel, textOf}
-use Rattle.table_item.specs.declared.Item.{Item}
 use Rattle.table_item.specs.Item.{noItem}
 use Rattle.table_whole.specs.declared.SiteTable.{SiteTable}
-use Rattle.table_whole.specs.Table.{Row, noRow}
-use Rattle.table_whole.specs.Memory.{itemOf, memoryOf}
+use Rattle.table_whole.specs.Table.{noRow}
+use Rattle.table_whole.specs.Memory.{itemOf}
 use Rattle.table_whole.proofs.Kept.{text-label}
 use Rattle.site.specs.declared.Site.{Site}
 use Rattle.machine.specs.State.{Setup}
