@@ -16,9 +16,9 @@ use Rattle.call_start.specs.Making.{aLinkOrNone, valuesWithin, isWithin}
 use Rattle.call_start.proofs.Values.{within-all, all-within}
 use Rattle.machine.specs.Words.{maybe, orElse}
 use Rattle.machine.specs.Table.{goodStart}
-use Rattle.refine_start.specs.Start.{startFor}
+use Rattle.refine_start.specs.Start.{primaryFor, startFor}
 
-primary-same : (links primary : ℕ) → maybe true (λ p. ltb p links) (pick (eqb primary 4294967295) none (some primary)) ≡ aLinkOrNone links primary
+primary-same : (links primary : ℕ) → maybe true (λ p. ltb p links) (primaryFor primary) ≡ aLinkOrNone links primary
 primary-same links primary = by (eqb primary 4294967295) (ltb primary links) refl
   where
     by : (e b : Bool) → ltb primary links ≡ b → maybe true (λ p. ltb p links) (pick e none (some primary)) ≡ pick b true e
@@ -41,11 +41,11 @@ module _ (table : List ℕ) (links primary period first time : ℕ) where
 -- the primary, as the site keeps it
 module _ (links primary : ℕ) where
   pub primary-kept : (primary < links) ⊎ (primary ≡ 4294967295) → links ≤ 4
-      → primaryOf primary ≡ orElse 65535 (pick (eqb primary 4294967295) none (some primary))
+      → primaryOf primary ≡ orElse 65535 (primaryFor primary)
   primary-kept (inl b) few = rw (lt-ltb primary 4 (omega arith), ne-eqb primary 4294967295 (λ e. omega arith))
   primary-kept (inr e) few = rw e
 
-  pub its-link : (primary < links) ⊎ (primary ≡ 4294967295) → (p : ℕ) → pick (eqb primary 4294967295) none (some primary) ≡ some p → p < links
+  pub its-link : (primary < links) ⊎ (primary ≡ 4294967295) → (p : ℕ) → primaryFor primary ≡ some p → p < links
   its-link (inl b) p q = by (eqb primary 4294967295) q
     where
       by : (e : Bool) → pick e none (some primary) ≡ some p → p < links

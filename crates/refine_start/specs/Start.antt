@@ -15,23 +15,20 @@ use Rattle.machine.specs.State.{Start, Machine}
 use Rattle.machine.specs.Table.{Begins}
 use Rattle.refine_site.specs.Abstracts.{Abstracts}
 
--- the machine's start; 4294967295 is no primary
+-- 4294967295 is none
+abbrev pub primaryFor : ℕ → Option ℕ
+primaryFor primary = pick (eqb primary 4294967295) none (some primary)
+
+-- the machine's start
 abbrev pub startFor : List ℕ → ℕ → ℕ → ℕ → ℕ → ℕ → Start
 startFor table links primary period first time =
-    record {
-      table = table;
-      links = links;
-      primary = pick (eqb primary 4294967295) none (some primary);
-      period = period;
-      first = first;
-      time = time;
-    }
+    record { table = table; links = links; primary = primaryFor primary; period = period; first = first; time = time }
 
 pub data SameStart : Outcome → Option Machine → Type 0 where
   not-accepted : SameStart (outcome noSite 11 nothingOf) none
   accepted : {s : Site} {m : Machine} → Abstracts s m → SameStart (outcome s 0 nothingOf) (some m)
 
--- one machine begins, or none: no other, and what is handed out is so
+-- either one machine begins and no other, or none does; and what is handed out is so
 pub record SameBeginning (start : Start) (o : Outcome) : Type 0 where
   pub machine : Option Machine
   pub begins : Begins start machine
