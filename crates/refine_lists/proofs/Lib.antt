@@ -1,0 +1,4 @@
+pub mod Indexed
+pub mod Gathered
+pub mod Entries
+pub mod Kept

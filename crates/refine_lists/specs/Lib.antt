@@ -1,0 +1,2 @@
+-- The entries of a status packet in the machine's words.
+pub mod Statuses

@@ -1,0 +1,81 @@
+-- The first reason that applies, by the verdicts.
+-- Assumes nothing.
+use Prim.Native.Nat.{ℕ}
+use Prim.Native.String.{String}
+use mathlib.Core.Path.{_≡_, refl, ap, _∙_}
+use mathlib.Core.Bool.{Bool, true, false, not}
+use mathlib.Core.Option.{Option, some, none}
+use lib.Dec.{leb}
+use lib.ListN.{length}
+use Rattle.basis.specs.Pick.{pick, both}
+use Rattle.json_value.specs.Grammar.{Json}
+use Rattle.machine.specs.Words.{_and_, isSome, isNumber, any}
+use Rattle.machine.specs.State.{Machine, lifeAt}
+use Rattle.machine.specs.Json.{element, elementIs, isType}
+use Rattle.machine.specs.Life.{isBeating, isPrimary}
+use Rattle.machine.specs.Answers.{componentAsked, alarmAsked, needs, isMissing, isBad, isUnexpected, reasons, reasonOf}
+use Rattle.refine_read.specs.Verdicts.{verdict}
+use Rattle.refine_read.specs.Reasons.{byVerdict, furtherReason, reasonBy, anyUnknown, FurtherReasons}
+use Rattle.refine_read.proofs.Types.{type-is}
+
+two : (missing bad : Bool) (further : Option String)
+    → pick missing (some "Missing element") (pick bad (some "Bad value") further) ≡ byVerdict (verdict missing bad) further
+two true bad further = refl
+two false true further = refl
+two false false further = refl
+
+pub reason-is : (m : Machine) (l : ℕ) (j : Json) → reasonOf m l j ≡ reasonBy m l j
+unfolding reasons
+reason-is m l j =
+    ap (λ (r : Option String). pick (not (isSome (element "mType" j))) (some "Missing element") (pick (not (elementIs "mType" "rSMsg" j)) (some "Bad value")
+    (pick (isUnexpected (lifeAt m l) j) (some "Unexpected") (pick (isBeating (lifeAt m l) and not (isType "Watchdog" j)) (some "Not ready") r))))
+    (two (any (isMissing j) (needs j)) (any (isBad j) (needs j)) (furtherReason m l j))
+    ∙ two (not (isSome (element "mType" j))) (not (elementIs "mType" "rSMsg" j)) _
+
+-- ---- behind the needs, by the type
+module _ {A : Type 0} (noComponent noAlarm noStatus busy done : A) where
+  alarm-further : (component alarm replies full : Bool)
+      → pick (pick (not component) true false) noComponent (pick (not alarm) noAlarm (pick (pick component false false) noStatus (pick (both (pick replies true false) full) busy done)))
+      ≡ pick component (pick alarm (pick (both replies full) busy done) noAlarm) noComponent
+  alarm-further false alarm replies full = refl
+  alarm-further true false replies full = refl
+  alarm-further true true true full = refl
+  alarm-further true true false full = refl
+
+  aggregated-further : (first component full : Bool)
+      → pick (not first) noComponent (pick (pick component false false) noStatus (pick full busy done)) ≡ pick first (pick full busy done) noComponent
+  aggregated-further false component full = refl
+  aggregated-further true true full = refl
+  aggregated-further true false full = refl
+
+  request-further : (component unknown full : Bool)
+      → pick (pick component unknown false) noStatus (pick full busy done) ≡ pick (both component unknown) noStatus (pick full busy done)
+  request-further true unknown full = refl
+  request-further false unknown full = refl
+
+  subscribe-further : (component unknown : Bool) → pick (pick component unknown true) noStatus done ≡ pick (both component (not unknown)) done noStatus
+  subscribe-further true true = refl
+  subscribe-further true false = refl
+  subscribe-further false unknown = refl
+
+  nothing-further : (component : Bool) → pick (pick component false false) noStatus done ≡ done
+  nothing-further true = refl
+  nothing-further false = refl
+
+pub further-is : (m : Machine) (l : ℕ) (j : Json) → FurtherReasons m l j
+unfolding reasons
+further-is m l j =
+    record {
+      watchdog = λ e. rw (type-is j "Watchdog" e) (nothing-further (some "Unknown component") (some "Unknown alarm") (some "Unknown status") (some "Busy") none (isSome (componentAsked m j)));
+      alarm = λ e.
+          rw (type-is j "Alarm" e)
+          (alarm-further (some "Unknown component") (some "Unknown alarm") (some "Unknown status") (some "Busy") none (isSome (componentAsked m j)) (isSome (alarmAsked m j)) (elementIs "aSp" "Request" j and isPrimary m l) (leb 16 (length (lifeAt m l .awaited))));
+      aggregated = λ e.
+          rw (type-is j "AggregatedStatusRequest" e)
+          (aggregated-further (some "Unknown component") (some "Unknown alarm") (some "Unknown status") (some "Busy") none (isNumber 0 (componentAsked m j)) (isSome (componentAsked m j)) (leb 16 (length (lifeAt m l .awaited))));
+      status-request = λ e.
+          rw (type-is j "StatusRequest" e)
+          (request-further (some "Unknown component") (some "Unknown alarm") (some "Unknown status") (some "Busy") none (isSome (componentAsked m j)) (anyUnknown m j) (leb 16 (length (lifeAt m l .awaited))));
+      status-subscribe = λ e. rw (type-is j "StatusSubscribe" e) (subscribe-further (some "Unknown component") (some "Unknown alarm") (some "Unknown status") (some "Busy") none (isSome (componentAsked m j)) (anyUnknown m j));
+      status-unsubscribe = λ e. rw (type-is j "StatusUnsubscribe" e) (subscribe-further (some "Unknown component") (some "Unknown alarm") (some "Unknown status") (some "Busy") none (isSome (componentAsked m j)) (anyUnknown m j));
+    }

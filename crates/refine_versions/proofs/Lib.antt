@@ -1,0 +1,4 @@
+pub mod Text
+pub mod Lists
+pub mod Checks
+pub mod Kept
