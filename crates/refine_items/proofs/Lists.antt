@@ -14,8 +14,8 @@ use Rattle.basis.proofs.Cases.{bool-cases, le-or-lt}
 use Rattle.entry.specs.declared.Entry.{Entry}
 use Rattle.call_records.specs.Upwards.{entriesTo}
 use Rattle.machine.specs.Words.{maybe, keep, firstThat, flat, changed, upTo}
-use Rattle.machine.specs.Run.{Among}
-use Rattle.machine.specs.Run.Among.{here, later}
+use Rattle.basis.specs.Lists.{Among}
+use Rattle.basis.specs.Lists.Among.{first as here, later}
 use Rattle.demand_held.proofs.Lists.{bit-true, bit-false, clash}
 
 module _ {A : Type 0} where

@@ -30,7 +30,7 @@ use Rattle.machine.specs.State.{Subscription, Issued, Machine, withSubscription
 use Rattle.machine.specs.State.Content.{ofStatus}
 use Rattle.machine.specs.Readings.{entryFor}
 use Rattle.machine.specs.Items.{isOf, without}
-use Rattle.machine.specs.Run.{Among}
+use Rattle.basis.specs.Lists.{Among}
 use Rattle.demand_held.proofs.Lists.{count-last, count-keep, bit-true, bit-false, clash}
 use Rattle.demand_held.proofs.Lists.Each.{no-more, one-more}
 use Rattle.refine_pool.specs.Record.{unnumbered, IsTold}

@@ -31,7 +31,7 @@ use Rattle.machine.specs.Words.{maybe, keep, firstThat, flat, upTo}
 use Rattle.machine.specs.State.{Subscription, Issued, issuedFor, Machine, withSubscriptions, valueAt}
 use Rattle.machine.specs.State.Content.{ofStatus}
 use Rattle.machine.specs.Items.{isOf, update, upwards, isTime, anew, intervals}
-use Rattle.machine.specs.Run.{Among}
+use Rattle.basis.specs.Lists.{Among}
 use Rattle.demand_held.proofs.Lists.{Each, each-of}
 use Rattle.refine_pool.specs.Record.{unnumbered, IsTold}
 use Rattle.refine_pool.proofs.Entries.{contents}

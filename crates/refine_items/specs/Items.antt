@@ -22,7 +22,7 @@ use Rattle.site.specs.Call.{Plan}
 use Rattle.machine.specs.Words.{firstThat}
 use Rattle.machine.specs.State.{eventNumber, Alarm, Subscription, Issued, Machine, alarmAt, valueAt, Effect}
 use Rattle.machine.specs.Items.{isOf}
-use Rattle.machine.specs.Run.{Among}
+use Rattle.basis.specs.Lists.{Among}
 use Rattle.demand_held.proofs.Lists.{Each}
 use Rattle.refine_pool.specs.Record.{unnumbered, IsTold}
 use Rattle.refine_items.specs.Setup.{SameSetup}

@@ -30,7 +30,7 @@ use Rattle.machine.specs.Words.{Bytes, firstThat}
 use Rattle.machine.specs.Json.{isIdentityOf}
 use Rattle.machine.specs.State.{Sent, Awaited, Exchange, exchange, Life, fresh}
 use Rattle.machine.specs.State.Sent.{ourVersion, ourWatchdog, noRecord, theRecord}
-use Rattle.machine.specs.Run.{Among}
+use Rattle.basis.specs.Lists.{Among}
 use Rattle.machine.specs.Life.{isOver, isGreeting, isBeating, isUp, nowSent, nowAcknowledged, nowTaken, withVersions, withWatchdogs, isAwaited, awaitedBy, awaiting, answeredTo}
 use Rattle.machine.specs.Life.Due.{theVersion, theWatchdog, theAggregated}
 use Rattle.machine.specs.Effects.{passed, beaten, afterSending, answerCloses, acknowledges, agreed}

@@ -17,8 +17,8 @@ use Rattle.basis.proofs.Cases.{bool-cases, picked}
 use Rattle.awaited.proofs.Change.{bit-true, bit-false}
 use Rattle.awaited.proofs.Slots.{false-true}
 use Rattle.machine.specs.Words.{any, isSome, firstThat, butFirst}
-use Rattle.machine.specs.Run.{Among}
-use Rattle.machine.specs.Run.Among.{here, later}
+use Rattle.basis.specs.Lists.{Among}
+use Rattle.basis.specs.Lists.Among.{first as here, later}
 
 module _ {A : Type 0} where
   -- nothing is among none

@@ -16,7 +16,7 @@ use Rattle.identity.proofs.Text.{bytes-said}
 use Rattle.machine.specs.Words.{firstThat, butFirst}
 use Rattle.machine.specs.Json.{isIdentityOf}
 use Rattle.machine.specs.State.{Awaited}
-use Rattle.machine.specs.Run.{Among}
+use Rattle.basis.specs.Lists.{Among}
 use Rattle.refine_life.proofs.Lists.{first-same, first-never, butFirst-same}
 use Rattle.refine_life.proofs.Waits.{isOf}
 

@@ -29,7 +29,7 @@ use Rattle.awaited.proofs.Slots.{false-true, awaits-same, slot-purpose, not-fre
 use Rattle.awaited.proofs.Laws.{Sound, room, none-awaits, nothing-sound, add-sound, remove-sound}
 use Rattle.machine.specs.Words.{any, firstThat, butFirst}
 use Rattle.machine.specs.State.{Sent, Awaited}
-use Rattle.machine.specs.Run.{Among}
+use Rattle.basis.specs.Lists.{Among}
 use Rattle.refine_life.specs.Waits.{purposeFor, identityIn, waitFor, waitIn, holds, says, foundFor, SameAwaited}
 use Rattle.refine_life.proofs.Lists.{among-none, among-butFirst, among-last, any-count, count-last, count-every, count-others, first-none, first-both}
 

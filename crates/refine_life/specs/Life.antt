@@ -8,7 +8,7 @@ use Rattle.basis.specs.Pick.{pick}
 use Rattle.link.specs.declared.Link.{Link}
 use Rattle.machine.specs.State.{Sent, Awaited, Exchange, Life}
 use Rattle.machine.specs.State.Sent.{ourVersion, ourWatchdog, noRecord, theRecord}
-use Rattle.machine.specs.Run.{Among}
+use Rattle.basis.specs.Lists.{Among}
 use Rattle.refine_life.specs.Waits.{SameAwaited}
 
 -- none chosen reads as three zeros

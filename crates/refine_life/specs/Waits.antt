@@ -20,7 +20,7 @@ use Rattle.awaited.specs.Slot.{purposeOf, isFree, awaitsFor}
 use Rattle.awaited.specs.Promises.{Wait}
 use Rattle.machine.specs.State.{Sent, Awaited}
 use Rattle.machine.specs.State.Sent.{ourVersion, ourWatchdog, noRecord, theRecord}
-use Rattle.machine.specs.Run.{Among}
+use Rattle.basis.specs.Lists.{Among}
 
 -- what a message was sent for
 abbrev pub purposeFor : Sent → Purpose

@@ -31,8 +31,8 @@ use Rattle.machine.specs.Pool.{isFor, holds}
 use Rattle.machine.specs.Life.{alarmIn, newest, carries, carriedBy, oldestUnsent as oldestUnsentOf}
 use Rattle.machine.specs.Readings.{recordBytes, reading}
 use Rattle.machine.specs.Step.{sequenceEnds}
-use Rattle.machine.specs.Run.{Among}
-use Rattle.machine.specs.Run.Among.{here, later}
+use Rattle.basis.specs.Lists.{Among}
+use Rattle.basis.specs.Lists.Among.{first as here, later}
 use Rattle.demand_held.proofs.Lists.{bit-true, Each, among-keep, length-map}
 use Rattle.demand_held.proofs.Lists.Each.{one-more}
 use Rattle.refine_pool.specs.Record.{placeFor, found, unnumbered, carriedLike, readingAt}

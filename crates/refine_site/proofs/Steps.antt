@@ -30,8 +30,8 @@ use Rattle.machine.specs.State.Outcome.{refused, done}
 use Rattle.machine.specs.Effects.{effectOf}
 use Rattle.machine.specs.Pool.{issueAll}
 use Rattle.machine.specs.Table.{lastSequence}
-use Rattle.machine.specs.Run.{Among}
-use Rattle.machine.specs.Run.Among.{here, later}
+use Rattle.basis.specs.Lists.{Among}
+use Rattle.basis.specs.Lists.Among.{first as here, later}
 use Rattle.machine.specs.Step.{numberOf, after, outcome, step}
 use Rattle.refine_pool.specs.Record.{unnumbered}
 use Rattle.refine_pool.specs.Same.{SamePool}
