@@ -88,6 +88,6 @@ module _ (s : Site) (m : Machine) (h : SameItems s m) (v t : ℕ) where
         items = value-set;
         records = record {
           issued = rw (h .setup .links) (all-records v t b (m .setup .links));
-          told = each-of (issuedTo v t) (λ l. contents .aggregated v t) (upTo (m .setup .links));
+          told = each-of (issuedTo v t) (λ l. contents .aggregated v t b) (upTo (m .setup .links));
         };
       }))
