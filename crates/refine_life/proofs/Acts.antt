@@ -1,44 +1,40 @@
 -- What is done to a link is done to its life.
 -- Assumes nothing.
 use Prim.Native.Nat.{ℕ, suc, _+_, _≤_, _<_}
-use mathlib.Core.Path.{_≡_, refl, sym, ap, _∙_}
+use mathlib.Core.Path.{_≡_, refl, ap, _∙_}
 use mathlib.Core.Bool.{Bool, true, false, not}
-use mathlib.Core.List.{List, [], _∷_}
-use mathlib.Core.Option.{Option, some, none}
+use mathlib.Core.List.{[], _∷_}
+use mathlib.Core.Option.{some, none}
 use native.Mathlib.Omega.{arith}
-use lib.Dec.{ltb}
-use lib.ListN.{length}
 use borrow.Author.Tests.{lt-ltb}
 use Rattle.basis.specs.Pick.{pick, both}
 use Rattle.basis.proofs.Cases.{bool-cases, picked}
+use Rattle.basis.proofs.Both.{not-both, both-first, both-second}
 use Rattle.identity.specs.declared.Identity.{Identity}
-use Rattle.identity.specs.Read.{SixteenBytes, Says}
-use Rattle.awaited.specs.declared.Purpose.{Purpose}
-use Rattle.awaited.specs.declared.Purpose.the-variants.{Version, Watchdog, Entry, Other}
+use Rattle.identity.specs.Read.{Says}
+use Rattle.awaited.specs.declared.Purpose.the-variants.{Version, Other}
 use Rattle.awaited.specs.declared.Found.{Found}
 use Rattle.awaited.specs.declared.Found.the-variants.{For, Nothing}
 use Rattle.awaited.specs.Awaited.{addOf, findOf, isAwaited as isFound}
-use Rattle.awaited.proofs.Slots.{false-true}
 use Rattle.link.specs.declared.Link.{Link}
 use Rattle.link.specs.declared.Phase.{Phase}
 use Rattle.link.specs.declared.Phase.the-variants.{Down, Greeting, Beating, Up}
 use Rattle.link.specs.Deed.Deed.{Connected, OurVersion, OurVersionAcked, TheirVersion, OurWatchdog, OurWatchdogAcked, TheirWatchdog, OurAggregated}
 use Rattle.link.specs.Fields.{closedLink, withAwaited as withPlaces, withBeat, withAlarm, withVersion, mark}
-use Rattle.link.specs.Phase.{phaseOf, isUp as upIn, isBeating as beatingIn, beatsIn, takesIn, closesFor, closesOn}
+use Rattle.link.specs.Phase.{phaseOf, isUp as upIn, isBeating as beatingIn, beatsIn, closesFor}
 use Rattle.link.specs.Steps.{connectOf, versionOutOf, mayJudgeOf, versionAcceptedOf, mayBeatOf, watchdogOutOf, watchdogTakenOf, messageOutOf, removedOf, notedFor, noted, closesOf, answeredOf, aggregatedPassedOf, alarmPassedOf}
-use Rattle.machine.specs.Words.{Bytes, firstThat}
+use Rattle.machine.specs.Words.{Bytes}
 use Rattle.machine.specs.Json.{isIdentityOf}
 use Rattle.machine.specs.State.{Sent, Awaited, Exchange, exchange, Life, fresh}
 use Rattle.machine.specs.State.Sent.{ourVersion, ourWatchdog, noRecord, theRecord}
-use Rattle.basis.specs.Lists.{Among}
-use Rattle.machine.specs.Life.{isOver, isGreeting, isBeating, isUp, nowSent, nowAcknowledged, nowTaken, withVersions, withWatchdogs, isAwaited, awaitedBy, awaiting, answeredTo}
+use Rattle.machine.specs.Life.{isOver, isGreeting, isBeating, isUp, nowSent, nowAcknowledged, nowTaken, withVersions, withWatchdogs, awaitedBy, awaiting, answeredTo}
 use Rattle.machine.specs.Life.Due.{theVersion, theWatchdog, theAggregated}
 use Rattle.machine.specs.Effects.{passed, beaten, afterSending, answerCloses, acknowledges, agreed}
 use Rattle.refine_life.specs.Waits.{purposeFor, foundFor}
 use Rattle.refine_life.specs.Life.{passOf, SameExchange, wentOut, SameLife}
-use Rattle.refine_life.specs.Acts.{Sendable, answeredBy, SameSending, SameActs, Acts}
+use Rattle.refine_life.specs.Acts.{Sendable, answeredBy, SameActs, Acts}
 use Rattle.refine_life.proofs.Lists.{among-none, among-butFirst, among-last, first-among}
-use Rattle.refine_life.proofs.Waits.{isOf, nothing-same, added, removed}
+use Rattle.refine_life.proofs.Waits.{nothing-same, added, removed}
 use Rattle.refine_life.proofs.Text.{butFirst-by}
 use Rattle.refine_life.proofs.Questions.{same-phase, same-waits}
 
@@ -187,7 +183,7 @@ module _ (k : Link) (x : Life) (h : SameLife k x) where
         version = h .version;
         beat = h .beat;
         pass = omega (arith, first (k .aggregatedout) (k .alarm) (h .pass ∙ e) (h .no-alarm), e);
-        no-alarm = λ f. false-true true f refl;
+        no-alarm = λ f. not-both refl f;
         awaited = h .awaited;
         went-out = λ w a. still-out x (passed x) (λ e. e) (λ e. e) (w .message) (h .went-out w a);
       }
@@ -215,7 +211,7 @@ module _ (k : Link) (x : Life) (h : SameLife k x) where
       next false f = absurd (omega arith)
 
       none : (out : Bool) → out ≡ false → pick out (suc (k .alarm)) 0 ≡ x .pass → ⊥
-      none true g f = false-true true g refl
+      none true g f = not-both refl g
       none false g f = absurd (omega arith)
 
   -- ---- one more awaited, one less
@@ -238,7 +234,7 @@ module _ (k : Link) (x : Life) (h : SameLife k x) where
     where
       unfound : (f : Found) → isFound f ≡ false → f ≡ Nothing
       unfound Nothing e = refl
-      unfound (For p) e = false-true true e refl
+      unfound (For p) e = not-both refl e
 
   pub unawaits : (s : Bytes) (id : Identity) → Says s (id .bytes) → SameLife (removedOf k id) (answeredTo s x)
   unfolding removedOf
@@ -257,30 +253,22 @@ module _ (k : Link) (x : Life) (h : SameLife k x) where
       }
 
 -- ---- tests that a link makes itself, and that hold where the machine does the same
-and-left : (a b : Bool) → both a b ≡ true → a ≡ true
-and-left true b e = refl
-and-left false b e = e
-
 -- the first of a choice whose test passes
 taken : {A : Type 0} (P : A → Type 0) (b : Bool) (x y : A) → b ≡ true → P x → P (pick b x y)
-taken P b x y e p = picked P b x y (λ t. p) (λ t. false-true b t e)
-
-and-right : (a b : Bool) → both a b ≡ true → b ≡ true
-and-right true b e = e
-and-right false b e = false-true false refl e
+taken P b x y e p = picked P b x y (λ t. p) (λ t. not-both e t)
 
 -- in Up both of ours went out
 all-out : (k : Link) (x : Life) → SameLife k x → isUp x ≡ true → (message : Sent) → wentOut x message ≡ true
 all-out k x h u message = out message
   where
     exchanged : both (isOver (x .versions)) (isOver (x .watchdogs)) ≡ true
-    exchanged = and-right (x .connected) (both (isOver (x .versions)) (isOver (x .watchdogs))) u
+    exchanged = both-second (x .connected) (both (isOver (x .versions)) (isOver (x .watchdogs))) u
 
     out : (message : Sent) → wentOut x message ≡ true
     out ourVersion =
-        h .versions .first-sent (and-left (x .versions .acknowledged) (x .versions .taken) (and-left (isOver (x .versions)) (isOver (x .watchdogs)) exchanged))
+        h .versions .first-sent (both-first (x .versions .acknowledged) (x .versions .taken) (both-first (isOver (x .versions)) (isOver (x .watchdogs)) exchanged))
     out ourWatchdog =
-        h .watchdogs .first-sent (and-left (x .watchdogs .acknowledged) (x .watchdogs .taken) (and-right (isOver (x .versions)) (isOver (x .watchdogs)) exchanged))
+        h .watchdogs .first-sent (both-first (x .watchdogs .acknowledged) (x .watchdogs .taken) (both-second (isOver (x .versions)) (isOver (x .watchdogs)) exchanged))
     out noRecord = refl
     out (theRecord n) = refl
 
@@ -308,7 +296,7 @@ module _ (k : Link) (x : Life) (h : SameLife k x) where
     sends-version g n =
         taken (λ (j : Link). SameLife j (awaiting (id .bytes) t ourVersion (afterSending t theVersion x)))
         (pick (k .versionout) false (k .connected)) (mark OurVersion (withPlaces k (addOf (k .awaited) id t Version))) k
-        (rw (h .versions .is-sent, n, h .connected) (and-left (x .connected) (not (isOver (x .versions))) g))
+        (rw (h .versions .is-sent, n, h .connected) (both-first (x .connected) (not (isOver (x .versions))) g))
         (awaits (mark OurVersion k) (withVersions (nowSent (x .versions)) x) (version-sent k x h) id t ourVersion
         (record { bytes = s .bytes; unawaited = s .unawaited; room = s .room }) refl)
 

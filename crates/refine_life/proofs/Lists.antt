@@ -1,34 +1,31 @@
 -- Laws of the machine's lists: what is among them, counted and found first.
 -- Assumes nothing.
-use Prim.Native.Nat.{ℕ, suc, _+_, _≤_, _<_}
-use mathlib.Core.Path.{_≡_, refl, sym, ap, _∙_}
+use Prim.Native.Nat.{ℕ, _+_, _≤_, _<_}
+use mathlib.Core.Path.{_≡_, refl, sym}
 use mathlib.Core.Bool.{Bool, true, false}
 use mathlib.Core.List.{List, [], _∷_, _++_}
 use mathlib.Core.Option.{Option, some, none}
-use mathlib.Core.Logic.{_⊎_, inl, inr}
 use native.Mathlib.Omega.{arith}
 use lib.Dec.{ltb}
 use lib.ListN.{length}
 use borrow.Author.Tests.{lt-ltb}
 use native.Mathlib.Nat.{zero-add}
 use Rattle.basis.specs.Pick.{pick, both, bit}
-use Rattle.basis.specs.Lists.{count}
+use Rattle.basis.specs.Lists.{count, Among}
+use Rattle.basis.specs.Lists.Among.{first, later}
 use Rattle.basis.proofs.Cases.{bool-cases, picked}
 use Rattle.awaited.proofs.Change.{bit-true, bit-false}
-use Rattle.awaited.proofs.Slots.{false-true}
 use Rattle.machine.specs.Words.{any, isSome, firstThat, butFirst}
-use Rattle.basis.specs.Lists.{Among}
-use Rattle.basis.specs.Lists.Among.{first as here, later}
 
 module _ {A : Type 0} where
   -- nothing is among none
   pub among-none : {P : Type 0} {w : A} {xs : List A} → length xs ≡ 0 → Among w xs → P
-  among-none e here = absurd (omega arith)
+  among-none e first = absurd (omega arith)
   among-none e (later a) = absurd (omega arith)
 
   among-pick : (b : Bool) {w x : A} {xs ys : List A} → Among w (pick b xs (x ∷ ys)) → (Among w ys → Among w xs) → Among w (x ∷ xs)
   among-pick true i r = later i
-  among-pick false here r = here
+  among-pick false first r = first
   among-pick false (later i) r = later (r i)
 
   pub among-butFirst : (f : A → Bool) {w : A} (xs : List A) → Among w (butFirst f xs) → Among w xs
@@ -37,8 +34,8 @@ module _ {A : Type 0} where
 
   -- what holds of each and of one more holds of each of both
   pub among-last : (P : A → Type 0) (xs : List A) (y : A) → ((w : A) → Among w xs → P w) → P y → (w : A) → Among w (xs ++ (y ∷ [])) → P w
-  among-last P [] y f p w here = p
-  among-last P (x ∷ xs) y f p w here = f x here
+  among-last P [] y f p w first = p
+  among-last P (x ∷ xs) y f p w first = f x first
   among-last P (x ∷ xs) y f p w (later a) = among-last P xs y (λ v i. f v (later i)) p w a
 
   pub first-among : (f : A → Bool) (xs : List A) (w : A) → firstThat f xs ≡ some w → Among w xs
@@ -49,20 +46,20 @@ module _ {A : Type 0} where
       same u v e = cc
 
       go : (b : Bool) → pick b (some x) (firstThat f xs) ≡ some w → (firstThat f xs ≡ some w → Among w xs) → Among w (x ∷ xs)
-      go true e r = rw (same x w e) here
+      go true e r = rw (same x w e) first
       go false e r = later (r e)
 
   pub first-same : (f g : A → Bool) (xs : List A) → ((w : A) → Among w xs → f w ≡ g w) → firstThat f xs ≡ firstThat g xs
   first-same f g [] h = refl
-  first-same f g (x ∷ xs) h = rw (h x here, first-same f g xs (λ w a. h w (later a)))
+  first-same f g (x ∷ xs) h = rw (h x first, first-same f g xs (λ w a. h w (later a)))
 
   pub first-never : (f : A → Bool) (xs : List A) → ((w : A) → Among w xs → f w ≡ false) → firstThat f xs ≡ none
   first-never f [] h = refl
-  first-never f (x ∷ xs) h = rw (h x here, first-never f xs (λ w a. h w (later a)))
+  first-never f (x ∷ xs) h = rw (h x first, first-never f xs (λ w a. h w (later a)))
 
   pub butFirst-same : (f g : A → Bool) (xs : List A) → ((w : A) → Among w xs → f w ≡ g w) → butFirst f xs ≡ butFirst g xs
   butFirst-same f g [] h = refl
-  butFirst-same f g (x ∷ xs) h = rw (h x here, butFirst-same f g xs (λ w a. h w (later a)))
+  butFirst-same f g (x ∷ xs) h = rw (h x first, butFirst-same f g xs (λ w a. h w (later a)))
 
   pub any-first : (f : A → Bool) (xs : List A) → any f xs ≡ isSome (firstThat f xs)
   any-first f [] = refl

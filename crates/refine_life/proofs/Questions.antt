@@ -3,36 +3,30 @@
 use Prim.Native.Nat.{ℕ, suc, _+_, _-_, _*_}
 use mathlib.Core.Path.{_≡_, refl, sym, ap, _∙_}
 use mathlib.Core.Bool.{Bool, true, false, not}
-use mathlib.Core.List.{List, [], _∷_}
 use mathlib.Core.Option.{Option, some, none}
 use native.Mathlib.Omega.{arith}
 use lib.Dec.{eqb, ltb, leb}
 use lib.ListN.{length}
 use borrow.Author.Tests.{ltb-true, ltb-false, lt-ltb, le-ltb, ne-eqb}
 use Rattle.basis.specs.Pick.{pick, both}
-use Rattle.basis.proofs.Cases.{bool-cases, picked}
-use Rattle.identity.specs.declared.Identity.{Identity}
-use Rattle.identity.specs.Read.{Says}
-use Rattle.awaited.specs.declared.Found.{Found}
+use Rattle.basis.proofs.Cases.{bool-cases}
+use Rattle.basis.proofs.Both.{untrue}
 use Rattle.awaited.specs.Awaited.{isAwaited as isFound}
-use Rattle.awaited.specs.Promises.{longAgo}
-use Rattle.awaited.proofs.Slots.{false-true}
 use Rattle.link.specs.declared.Link.{Link}
 use Rattle.link.specs.declared.Phase.{Phase}
 use Rattle.link.specs.declared.Phase.the-variants.{Down, Greeting, Beating, Up}
 use Rattle.link.specs.declared.Role.the-variants.{Primary, Secondary}
-use Rattle.link.specs.declared.Due.{Due as DueKind}
-use Rattle.link.specs.declared.Due.the-variants.{Nothing, Version, Watchdog, Aggregated, Alarm, Entry}
+use Rattle.link.specs.declared.Due.the-variants.{Nothing, Watchdog, Aggregated, Alarm, Entry}
 use Rattle.link.specs.Phase.{greeted, beaten, phaseOf, isUp as upIn, isBeating as beatingIn, takesIn}
 use Rattle.link.specs.Steps.{crowdedOf, fullOf}
 use Rattle.link.specs.Due.{alarmsFor, dueUp as dueUpOf, dueIn, dueOf}
 use Rattle.machine.specs.Words.{maybe, isSome, firstThat}
 use Rattle.machine.specs.State.{Held, Awaited, Exchange, Life, Machine, lifeAt}
-use Rattle.machine.specs.Life.{isOver, isGreeting, isBeating, isUp, isPrimary, awaitedBy, Due, passLength, oldestUnsent, dueUp, due}
+use Rattle.machine.specs.Life.{isOver, isGreeting, isBeating, isUp, isPrimary, Due, passLength, oldestUnsent, dueUp, due}
 use Rattle.machine.specs.Life.Due.{theVersion, theWatchdog, theAggregated, theAlarm, theHeld}
 use Rattle.refine_life.specs.Waits.{says, foundFor}
-use Rattle.refine_life.specs.Life.{passOf, SameExchange, SameLife}
-use Rattle.refine_life.specs.Questions.{phaseIn, SamePhase, SameWaits, roleIn, kindOf, SameDue, Questions}
+use Rattle.refine_life.specs.Life.{SameExchange, SameLife}
+use Rattle.refine_life.specs.Questions.{SamePhase, SameWaits, roleIn, kindOf, Questions}
 use Rattle.refine_life.proofs.Lists.{any-first}
 use Rattle.refine_life.proofs.Waits.{isOf, found, how-many, late}
 use Rattle.refine_life.proofs.Text.{first-by, none-by}
@@ -43,7 +37,7 @@ over {x} h = rw (h .is-sent, h .is-acknowledged, h .is-taken) (by (x .sent) (x .
   where
     by : (a b c : Bool) → (b ≡ true → a ≡ true) → both a (both b c) ≡ both b c
     by true b c f = refl
-    by false true c f = false-true false refl (f refl)
+    by false true c f = untrue (f refl)
     by false false c f = refl
 
 abbrev phaseBy : Bool → Bool → Bool → Phase

@@ -2,10 +2,9 @@
 -- Assumes nothing.
 use Prim.Native.Nat.{ℕ}
 use mathlib.Core.Path.{_≡_, sym, ap, _∙_}
-use mathlib.Core.Bool.{Bool, true, false}
 use mathlib.Core.List.{List}
 use mathlib.Core.Option.{none}
-use Rattle.basis.specs.Lists.{sameBytes}
+use Rattle.basis.specs.Lists.{sameBytes, Among}
 use Rattle.basis.proofs.Cases.{bool-cases}
 use Rattle.basis.proofs.Same.{same-is, same-true, same-self}
 use Rattle.identity.specs.declared.Identity.{Identity}
@@ -16,7 +15,6 @@ use Rattle.identity.proofs.Text.{bytes-said}
 use Rattle.machine.specs.Words.{firstThat, butFirst}
 use Rattle.machine.specs.Json.{isIdentityOf}
 use Rattle.machine.specs.State.{Awaited}
-use Rattle.basis.specs.Lists.{Among}
 use Rattle.refine_life.proofs.Lists.{first-same, first-never, butFirst-same}
 use Rattle.refine_life.proofs.Waits.{isOf}
 

@@ -1,10 +1,10 @@
 -- The places of a link and the awaited identities of the machine: what is found, counted and late, and what one more and one less leave.
 -- Assumes nothing.
-use Prim.Native.Nat.{ℕ, _+_, _≤_, _<_}
+use Prim.Native.Nat.{ℕ, _≤_, _<_}
 use mathlib.Core.Path.{_≡_, refl, sym, ap, _∙_, subst}
 use mathlib.Core.Bool.{Bool, true, false}
 use mathlib.Core.List.{List, [], _∷_, _++_}
-use mathlib.Core.Option.{Option, some, none}
+use mathlib.Core.Option.{Option}
 use native.Mathlib.Omega.{arith}
 use lib.Dec.{eqb, ltb}
 use lib.ListN.{length}
@@ -12,6 +12,7 @@ use borrow.Author.Tests.{eqb-true, eq-eqb}
 use Rattle.basis.specs.Pick.{pick, both, bit}
 use Rattle.basis.specs.Lists.{count, sameBytes}
 use Rattle.basis.proofs.Cases.{bool-cases, picked}
+use Rattle.basis.proofs.Both.{untrue}
 use Rattle.identity.specs.declared.Identity.{Identity}
 use Rattle.identity.specs.Read.{SixteenBytes}
 use Rattle.awaited.specs.declared.Slot.{Slot}
@@ -20,17 +21,16 @@ use Rattle.awaited.specs.declared.Purpose.{Purpose}
 use Rattle.awaited.specs.declared.Purpose.the-variants.{Version, Watchdog, Entry, Other}
 use Rattle.awaited.specs.declared.Found.{Found}
 use Rattle.awaited.specs.declared.Found.the-variants.{For, Nothing}
-use Rattle.awaited.specs.Lists.{changeFirst, some as has}
+use Rattle.awaited.specs.Lists.{changeFirst}
 use Rattle.awaited.specs.Slot.{sameIdentity, freeSlot, slotOf, numberOf, sequenceOf, purposeOf, isFree, isTaken, awaitsFor, isLate}
 use Rattle.awaited.specs.Awaited.{nothingAwaited, addOf, findIn, findOf, removeOf, howManyOf, lateOf}
 use Rattle.awaited.specs.Promises.{Wait, longAgo}
 use Rattle.awaited.proofs.Change.{bit-true, bit-false, count-change, count-kept, count-where, count-replicate, some-count}
-use Rattle.awaited.proofs.Slots.{false-true, awaits-same, slot-purpose, not-free}
+use Rattle.awaited.proofs.Slots.{awaits-same, slot-purpose, not-free}
 use Rattle.awaited.proofs.Laws.{Sound, room, none-awaits, nothing-sound, add-sound, remove-sound}
 use Rattle.machine.specs.Words.{any, firstThat, butFirst}
 use Rattle.machine.specs.State.{Sent, Awaited}
-use Rattle.basis.specs.Lists.{Among}
-use Rattle.refine_life.specs.Waits.{purposeFor, identityIn, waitFor, waitIn, holds, says, foundFor, SameAwaited}
+use Rattle.refine_life.specs.Waits.{purposeFor, holds, says, foundFor, SameAwaited}
 use Rattle.refine_life.proofs.Lists.{among-none, among-butFirst, among-last, any-count, count-last, count-every, count-others, first-none, first-both}
 
 abbrev pub isOf : Identity → Awaited → Bool
@@ -48,20 +48,20 @@ purpose-self Other = refl
 
 purpose-is : (p q : Purpose) → same-purpose p q ≡ true → p ≡ q
 purpose-is Version Version e = refl
-purpose-is Version Watchdog e = false-true false refl e
-purpose-is Version (Entry q) e = false-true false refl e
-purpose-is Version Other e = false-true false refl e
-purpose-is Watchdog Version e = false-true false refl e
+purpose-is Version Watchdog e = untrue e
+purpose-is Version (Entry q) e = untrue e
+purpose-is Version Other e = untrue e
+purpose-is Watchdog Version e = untrue e
 purpose-is Watchdog Watchdog e = refl
-purpose-is Watchdog (Entry q) e = false-true false refl e
-purpose-is Watchdog Other e = false-true false refl e
-purpose-is (Entry p) Version e = false-true false refl e
-purpose-is (Entry p) Watchdog e = false-true false refl e
+purpose-is Watchdog (Entry q) e = untrue e
+purpose-is Watchdog Other e = untrue e
+purpose-is (Entry p) Version e = untrue e
+purpose-is (Entry p) Watchdog e = untrue e
 purpose-is (Entry p) (Entry q) e = ap Entry (eqb-true p q e)
-purpose-is (Entry p) Other e = false-true false refl e
-purpose-is Other Version e = false-true false refl e
-purpose-is Other Watchdog e = false-true false refl e
-purpose-is Other (Entry q) e = false-true false refl e
+purpose-is (Entry p) Other e = untrue e
+purpose-is Other Version e = untrue e
+purpose-is Other Watchdog e = untrue e
+purpose-is Other (Entry q) e = untrue e
 purpose-is Other Other e = refl
 
 abbrev under : Identity → Wait → Bool
@@ -92,7 +92,7 @@ unhidden f id x e = bool-cases (isFree x) (λ t. rw t) (λ t. rw t (rw (rw t at 
 for-itself : (id : Identity) (x : Slot) → awaitsFor id x ≡ true → holds (for id (purposeOf x)) x ≡ true
 unfolding holds awaitsFor
 for-itself id x t =
-    bool-cases (isFree x) (λ u. false-true false refl (rw u at t))
+    bool-cases (isFree x) (λ u. untrue (rw u at t))
     (λ u. rw (u, awaits-same id x t) (purpose-self (purposeOf x)))
 
 found-cases : (id : Identity) (xs : List Slot) (P : Found → Type 0) → (count (awaitsFor id) xs ≡ 0 → P Nothing)

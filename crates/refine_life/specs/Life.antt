@@ -5,10 +5,10 @@ use mathlib.Core.Path.{_≡_}
 use mathlib.Core.Bool.{Bool, true, false}
 use mathlib.Core.List.{List, [], _∷_}
 use Rattle.basis.specs.Pick.{pick}
+use Rattle.basis.specs.Lists.{Among}
 use Rattle.link.specs.declared.Link.{Link}
 use Rattle.machine.specs.State.{Sent, Awaited, Exchange, Life}
 use Rattle.machine.specs.State.Sent.{ourVersion, ourWatchdog, noRecord, theRecord}
-use Rattle.basis.specs.Lists.{Among}
 use Rattle.refine_life.specs.Waits.{SameAwaited}
 
 -- none chosen reads as three zeros

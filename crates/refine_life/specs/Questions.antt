@@ -2,8 +2,6 @@
 -- Assumes nothing.
 use Prim.Native.Nat.{ℕ}
 use mathlib.Core.Path.{_≡_}
-use mathlib.Core.Bool.{Bool, true, false}
-use mathlib.Core.List.{List}
 use mathlib.Core.Option.{Option, some, none}
 use lib.Dec.{leb}
 use lib.ListN.{length}
@@ -18,10 +16,10 @@ use Rattle.link.specs.declared.Role.{Role}
 use Rattle.link.specs.declared.Role.the-variants.{Primary, Secondary}
 use Rattle.link.specs.declared.Due.{Due as DueKind}
 use Rattle.link.specs.declared.Due.the-variants.{Nothing, Version, Watchdog, Aggregated, Alarm, Entry}
-use Rattle.link.specs.Phase.{phaseOf, isUp as upIn, isBeating as beatingIn, takesIn, beatsIn}
-use Rattle.link.specs.Steps.{crowdedOf, fullOf, mayJudgeOf, mayBeatOf}
+use Rattle.link.specs.Phase.{phaseOf, isUp as upIn, isBeating as beatingIn, takesIn}
+use Rattle.link.specs.Steps.{crowdedOf, fullOf}
 use Rattle.link.specs.Due.{dueOf}
-use Rattle.machine.specs.Words.{Bytes, if_then_else_, _and_, _or_, isSome, firstThat}
+use Rattle.machine.specs.Words.{Bytes, if_then_else_, _or_, isSome, firstThat}
 use Rattle.machine.specs.State.{Held, Life, Machine, lifeAt}
 use Rattle.machine.specs.Life.{isDown, isGreeting, isBeating, isUp, isPrimary, isAwaited, awaitedBy, isLate, Due, oldestUnsent, due}
 use Rattle.machine.specs.Life.Due.{theVersion, theWatchdog, theAggregated, theAlarm, theHeld}

@@ -2,12 +2,12 @@
 -- Assumes nothing.
 use Prim.Native.Nat.{ℕ, _≤_}
 use mathlib.Core.Path.{_≡_}
-use mathlib.Core.Bool.{Bool, true, false}
+use mathlib.Core.Bool.{Bool, false}
 use mathlib.Core.List.{List}
 use mathlib.Core.Option.{Option, some, none}
 use lib.ListN.{length}
 use Rattle.basis.specs.Pick.{pick}
-use Rattle.basis.specs.Lists.{count}
+use Rattle.basis.specs.Lists.{count, Among}
 use Rattle.identity.specs.declared.Identity.{Identity}
 use Rattle.identity.specs.Read.{SixteenBytes}
 use Rattle.awaited.specs.declared.Slot.{Slot}
@@ -20,7 +20,6 @@ use Rattle.awaited.specs.Slot.{purposeOf, isFree, awaitsFor}
 use Rattle.awaited.specs.Promises.{Wait}
 use Rattle.machine.specs.State.{Sent, Awaited}
 use Rattle.machine.specs.State.Sent.{ourVersion, ourWatchdog, noRecord, theRecord}
-use Rattle.basis.specs.Lists.{Among}
 
 -- what a message was sent for
 abbrev pub purposeFor : Sent → Purpose
