@@ -11,12 +11,13 @@ use lib.ListN.{length, getD}
 use Rattle.basis.specs.Pick.{pick, both, bit}
 use Rattle.basis.specs.Lists.{count}
 use Rattle.basis.proofs.Cases.{bool-cases, le-or-lt}
+use Rattle.basis.proofs.Both.{not-both}
 use Rattle.entry.specs.declared.Entry.{Entry}
 use Rattle.call_records.specs.Upwards.{entriesTo}
 use Rattle.machine.specs.Words.{maybe, keep, firstThat, flat, changed, upTo}
 use Rattle.basis.specs.Lists.{Among}
 use Rattle.basis.specs.Lists.Among.{first as here, later}
-use Rattle.demand_held.proofs.Lists.{bit-true, bit-false, clash}
+use Rattle.demand_held.proofs.Lists.{bit-true, bit-false}
 
 module _ {A : Type 0} where
   pub getD-changed-same : (f : A → A) (d : A) (xs : List A) (i : ℕ) → i < length xs → getD (changed i f xs) i d ≡ f (getD xs i d)
@@ -71,7 +72,7 @@ module _ {A : Type 0} where
   first-left f g h [] = refl
   first-left f g h (x ∷ xs) =
       bool-cases (g x)
-      (λ t. bool-cases (f x) (λ u. clash t (h x u)) (λ u. rw (t, u) (first-left f g h xs)))
+      (λ t. bool-cases (f x) (λ u. not-both t (h x u)) (λ u. rw (t, u) (first-left f g h xs)))
       (λ t. bool-cases (f x) (λ u. rw (t, u)) (λ u. rw (t, u) (first-left f g h xs)))
 
   pub first-out : (f : A → Bool) (xs : List A) → firstThat f (keep (λ x. not (f x)) xs) ≡ none

@@ -15,6 +15,7 @@ use borrow.Author.Tests.{eqb-true, eqb-false, eq-eqb, ne-eqb}
 use Rattle.basis.specs.Pick.{pick, both, bit}
 use Rattle.basis.specs.Lists.{count}
 use Rattle.basis.proofs.Cases.{bool-cases, eq-or-ne}
+use Rattle.basis.proofs.Both.{not-both}
 use Rattle.number.specs.Signed.{Signed32}
 use Rattle.entry.specs.declared.Entry.{Entry}
 use Rattle.status.specs.Issued.{issuedOf}
@@ -31,7 +32,7 @@ use Rattle.machine.specs.State.Content.{ofStatus}
 use Rattle.machine.specs.Readings.{entryFor}
 use Rattle.machine.specs.Items.{isOf, without}
 use Rattle.basis.specs.Lists.{Among}
-use Rattle.demand_held.proofs.Lists.{count-last, count-keep, bit-true, bit-false, clash}
+use Rattle.demand_held.proofs.Lists.{count-last, count-keep, bit-true, bit-false}
 use Rattle.demand_held.proofs.Lists.Each.{no-more, one-more}
 use Rattle.refine_pool.specs.Record.{unnumbered, IsTold}
 use Rattle.refine_pool.proofs.Entries.{contents}
@@ -46,7 +47,7 @@ and-left false b e = e
 
 and-right : (a b : Bool) → both a b ≡ true → b ≡ true
 and-right true b e = e
-and-right false b e = clash e refl
+and-right false b e = not-both e refl
 
 -- whose a subscription is
 pub its-link : (l i : ℕ) (x : Subscription) → isOf l i x ≡ true → x .link ≡ l
@@ -155,7 +156,7 @@ module _ (s : Site) (m : Machine) (h : SameItems s m) where
           ∙ rw (not-own, left-first k j n) (same (firstThat (isOf k j) (m .subscriptions)))
         where
           not-own : isOf k j new ≡ false
-          not-own = bool-cases (isOf k j new) (λ e. clash (is-own new) (others-not l i k j n new e)) (λ e. e)
+          not-own = bool-cases (isOf k j new) (λ e. not-both (is-own new) (others-not l i k j n new e)) (λ e. e)
 
           same : (o : Option Subscription) → maybe none some o ≡ o
           same none = refl
