@@ -1,0 +1,3 @@
+-- Both answers: the proofs.
+pub mod Plans
+pub mod Answered

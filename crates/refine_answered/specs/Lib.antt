@@ -1,0 +1,2 @@
+-- MessageAck and MessageNotAck to an awaited message of ours.
+pub mod Answered

@@ -1,0 +1,3 @@
+-- The host's three inputs: the proofs.
+pub mod Items
+pub mod Inputs

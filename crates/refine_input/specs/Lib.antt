@@ -1,0 +1,2 @@
+-- The host's three inputs: an alarm's, a status' value, the aggregated value.
+pub mod Inputs

@@ -1,0 +1,2 @@
+-- A packet with a reason: the proofs.
+pub mod Refused

@@ -1,0 +1,1 @@
+// A packet with a reason: the code's answer is the machine's; there is no code here.

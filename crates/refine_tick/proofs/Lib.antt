@@ -1,0 +1,3 @@
+-- A tick: the proofs.
+pub mod Closing
+pub mod Tick

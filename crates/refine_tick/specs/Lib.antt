@@ -1,0 +1,2 @@
+-- A tick.
+pub mod Tick
