@@ -9,7 +9,7 @@ use lib.Dec.{eqb}
 use lib.IntN.{ℤ}
 use native.Mathlib.Nat.{mod-eq-of-lt}
 use Rattle.basis.specs.Pick.{bit}
-use Rattle.entry.proofs.FlagLaws.{event-back, acknowledged-back, active-back, suspended-back, known-back}
+use Rattle.entry.proofs.FlagLaws.{event-back, acknowledged-back, active-back, suspended-back, known-back, old-back}
 use Rattle.table_item.specs.declared.Item.{Item}
 use Rattle.table_whole.specs.Table.{Row}
 use Rattle.table_whole.specs.Memory.{itemOf}
@@ -58,9 +58,9 @@ held-state-same l n i r a =
     )
 
 -- a status' value out of a record
-value-same : (l n i : ℕ) (v : Option ℤ) (t : ℕ) → IsTold (ofStatus i v t) → heldValue (entryFor l n (ofStatus i v t)) ≡ valueOf v
-value-same l n i none t h = rw (known-back false)
-value-same l n i (some v) t h = rw (known-back true, contents .value-read i v t h)
+value-same : (l n i : ℕ) (v : Option ℤ) (old : Bool) (t : ℕ) → IsTold (ofStatus i v old t) → heldValue (entryFor l n (ofStatus i v old t)) ≡ valueOf old v
+value-same l n i none old t h = rw (known-back false old)
+value-same l n i (some v) old t h = rw (known-back true old, old-back true old, contents .value-read i v old t h)
 
 module _ (s : Site) (m : Machine) (h : SameItems s m) (id : List ℕ) where
   texts : SameTexts s (m .setup)
@@ -80,8 +80,8 @@ module _ (s : Site) (m : Machine) (h : SameItems s m) (id : List ℕ) where
 
   held-same : (l n : ℕ) (c : Content) → IsTold c → entryMessage s id (entryFor l n c) ≡ recordMessage (m .setup .table) id c
   held-same l n (ofAlarm i a) k = alarm-by (alarmRow (m .setup .table) i) _ _ _ (texts .alarm i) (ap (heldState (entryFor l n (ofAlarm i a))) (texts .alarm i) ∙ held-state-same l n i (alarmRow (m .setup .table) i) a)
-  held-same l n (ofStatus i none t) k = status-by (statusRow (m .setup .table) i) _ t _ _ (texts .status i) (value-same l n i none t k)
-  held-same l n (ofStatus i (some v) t) k = status-by (statusRow (m .setup .table) i) _ t _ _ (texts .status i) (value-same l n i (some v) t k)
+  held-same l n (ofStatus i none old t) k = status-by (statusRow (m .setup .table) i) _ t _ _ (texts .status i) (value-same l n i none old t k)
+  held-same l n (ofStatus i (some v) old t) k = status-by (statusRow (m .setup .table) i) _ t _ _ (texts .status i) (value-same l n i (some v) old t k)
   held-same l n (ofAggregated v t) k = aggregated-by v t (contents .aggregated-read v t k)
 
   same-messages : SameMessages s m id

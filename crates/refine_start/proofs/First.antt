@@ -80,6 +80,7 @@ module _ (t : Table) (v : Allowed t) (table : List ℕ) (links primary period q 
         status-count = length-map noValue (t .statuses);
         status-places = length-replicate 32 unknown;
         aggregated = refl;
+        byte = omega arith;
         subscriptions = λ l i h k. all-alike 128 (l * 32 + i) noSubscription;
         one-each = λ l i. omega arith;
         within = λ x a. among-none refl a;
