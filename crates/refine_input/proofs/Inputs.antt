@@ -14,12 +14,12 @@ use Rattle.basis.proofs.Cases.{bool-cases}
 use Rattle.number.specs.Signed.{Signed32}
 use Rattle.table_whole.specs.declared.SiteTable.{SiteTable}
 use Rattle.site.specs.declared.Site.{Site}
-use Rattle.site.specs.Site.{badTimeAt}
+use Rattle.site.specs.Site.{badTimeAt, linkAt}
 use Rattle.site.specs.Call.{Plan, batchOf}
 use Rattle.call_input.specs.Inputs.{alarmPlan, statusPlan, aggregatedPlan}
 use Rattle.calls.specs.Calls.{Call}
 use Rattle.calls.specs.Calls.Call.{alarm, status, aggregated}
-use Rattle.machine.specs.State.{Machine, alarmAt, Act, Effect}
+use Rattle.machine.specs.State.{Machine, lifeAt, alarmAt, Act, Effect}
 use Rattle.machine.specs.State.Act.{alarmInput, statusValue, aggregatedValue}
 use Rattle.machine.specs.Items.{withInput, happens, becomes, aggregates}
 use Rattle.machine.specs.Effects.{effectOf}
@@ -28,7 +28,8 @@ use Rattle.demand_held.specs.Held.{packetLink}
 use Rattle.demand_held.proofs.Lists.{Each}
 use Rattle.demand_held.proofs.Issue.{For}
 use Rattle.demand_held.proofs.Lays.{lays}
-use Rattle.refine_items.specs.Items.{SameEffect}
+use Rattle.refine_life.proofs.Questions.{questions}
+use Rattle.refine_items.specs.Items.{SameUp, SameEffect}
 use Rattle.refine_items.specs.Acts.{SameInputs}
 use Rattle.refine_items.proofs.Acts.{item-acts}
 use Rattle.refine_site.specs.Abstracts.{Abstracts}
@@ -58,6 +59,9 @@ module _ (s : Site) (m : Machine) (h : Abstracts s m) where
 
   status-count : s .table .statuscount ≡ length (m .setup .table .statuses)
   status-count = ap (λ (t : SiteTable). t .statuscount) (h .items .setup .table)
+
+  pub same-up : SameUp s m
+  same-up l = questions .phases (linkAt s l) (lifeAt m l) (h .lives l) .up
 
   inputs : SameInputs s m
   inputs = item-acts .acts s m (h .items) .inputs
@@ -90,7 +94,7 @@ module _ (s : Site) (m : Machine) (h : Abstracts s m) where
   -- ---- a status' value
   module _ (i : ℕ) (v : ℤ) (r : Signed32 v) (t : ℕ) where
     status-effect : leb (length (m .setup .table .statuses)) i ≡ false → SameEffect (statusPlan s i v t) (becomes m i v t)
-    status-effect e = inputs .status i v t (omega (arith, leb-false (length (m .setup .table .statuses)) i e, h .items .status-count)) r
+    status-effect e = inputs .status i v t (omega (arith, leb-false (length (m .setup .table .statuses)) i e, h .items .status-count)) r same-up
 
     status-links : Each (For (m .setup .links)) (becomes m i v t .issues)
     unfolding effectOf

@@ -18,6 +18,6 @@ item-acts =
         };
         orders = λ i t mId b. same-orders s m h i b t mId;
         subscribing = λ l i a b. same-subscribing s m h l i a b;
-        tick = λ t up. same-tick s m h t up;
+        tick = λ t left up. same-tick s m h t left up;
       };
     }

@@ -1,6 +1,6 @@
 -- A tick: subscriptions made anew, and the records of those whose time it is, links upwards, statuses upwards.
 -- Assumes nothing.
-use Prim.Native.Nat.{ℕ, _+_, _-_, _*_, _≤_, _<_}
+use Prim.Native.Nat.{ℕ, _+_, _-_, _*_, _/_, _%_, _≤_, _<_}
 use mathlib.Core.Path.{_≡_, refl, sym, ap, _∙_, subst}
 use mathlib.Core.Bool.{Bool, true, false, not}
 use mathlib.Core.List.{List, [], _∷_, map}
@@ -12,26 +12,26 @@ use lib.ListN.{length, getD}
 use Rattle.basis.specs.Pick.{pick, both}
 use Rattle.basis.proofs.Cases.{bool-cases}
 use Rattle.entry.specs.declared.Entry.{Entry}
+use Rattle.link.specs.declared.Link.{Link}
+use Rattle.link.specs.Fields.{closedLink}
 use Rattle.subscription.specs.declared.Subscription.{Subscription as Slot}
 use Rattle.subscription.specs.declared.Ticked.{Ticked}
 use Rattle.subscription.specs.Subscription.{none as noSubscription, dueAt, tickOf}
 use Rattle.site.specs.declared.Site.{Site}
 use Rattle.site.specs.Call.{issues}
-use Rattle.site.specs.Site.{linkAt, withSubscriptions as withSlots}
-use Rattle.site.specs.Parts.{statusAt}
+use Rattle.site.specs.Site.{withSubscriptions as withSlots}
+use Rattle.site.specs.Parts.{statusAt, subscriptionAt}
 use Rattle.site.specs.Records.{statusRecord}
 use Rattle.call_records.specs.Upwards.{entryIf}
-use Rattle.call_tick.specs.Intervals.{renewed, recordAt}
-use Rattle.call_tick.specs.Tick.{siteAfter, issuedAt}
+use Rattle.call_tick.specs.Intervals.{renewed, recordAt, recordsOf}
 use Rattle.call_tick.proofs.Records.{all-places}
-use Rattle.call_tick.proofs.Kept.{kept}
 use Rattle.machine.specs.Words.{maybe, keep, firstThat, flat, upTo}
 use Rattle.machine.specs.State.{Subscription, Issued, Machine, withSubscriptions, lifeAt, valueAt}
 use Rattle.machine.specs.Life.{isUp}
 use Rattle.machine.specs.Items.{isOf, update, upwards, isTime, anew, intervals}
 use Rattle.demand_held.proofs.Lists.{each-of}
 use Rattle.refine_pool.specs.Record.{unnumbered}
-use Rattle.refine_items.specs.Items.{slotFor, Within, SameItems, SameUp, SameEffect}
+use Rattle.refine_items.specs.Items.{slotFor, Within, SameItems, UpIn, SameEffect}
 use Rattle.refine_items.proofs.Lists.{first-map, count-map, map-among, getD-map, length-map, flat-same, flat-none, flat-beyond, map-flat, entries-rows}
 use Rattle.refine_items.proofs.Subscriptions.{its-link, its-status, value-told, same-record, with-subscriptions, at-place, no-place}
 
@@ -56,7 +56,7 @@ renewed-slot : (t : ℕ) (o : Option Subscription) → renewed t (slotFor o) ≡
 renewed-slot t none = ap (λ (k : Ticked). k .subscription) (no-tick t)
 renewed-slot t (some x) = ap (λ (k : Ticked). k .subscription) (ticks t x)
 
-module _ (s : Site) (m : Machine) (h : SameItems s m) (t : ℕ) (up : SameUp (siteAfter s t) m) where
+module _ (s : Site) (m : Machine) (h : SameItems s m) (t : ℕ) (left : List Link) (up : UpIn left m) where
   -- ---- the subscriptions
   renewed-at : (l i : ℕ) → l < 4 → i < 32
       → getD (map (renewed t) (s .subscriptions)) (l * 32 + i) noSubscription ≡ slotFor (firstThat (isOf l i) (map (anew t) (m .subscriptions)))
@@ -82,14 +82,20 @@ module _ (s : Site) (m : Machine) (h : SameItems s m) (t : ℕ) (up : SameUp (si
   place l i = keep (λ x. both (isOf l i x) (isTime t x)) (m .subscriptions)
 
   abbrev its-record : ℕ → ℕ → Entry
-  its-record l i = statusRecord (linkAt (siteAfter s t) l) (statusAt s i) l i t
+  its-record l i = statusRecord (getD left l closedLink) (statusAt s i) l i t
 
   abbrev entries : ℕ → ℕ → List Entry
   entries l i = map unnumbered (map given (place l i))
 
-  of-place : (l : ℕ) → l < 4 → (i : ℕ) → i < 32 → recordAt (s .subscriptions) (s .statuses) (siteAfter s t .links) t (l * 32 + i) ≡ entries l i
+  placed : (l i : ℕ) → i < 32 → recordAt (s .subscriptions) (s .statuses) left t (l * 32 + i) ≡ entryIf (tickOf (subscriptionAt s (l * 32 + i)) t .issues) (its-record l i)
+  placed l i b =
+      let d : (l * 32 + i) / 32 ≡ l = omega arith in
+      let r : (l * 32 + i) % 32 ≡ i = omega arith in
+      rw (d, r) refl
+
+  of-place : (l : ℕ) → l < 4 → (i : ℕ) → i < 32 → recordAt (s .subscriptions) (s .statuses) left t (l * 32 + i) ≡ entries l i
   of-place l lb i ib =
-      kept s t .place l i ib
+      placed l i ib
       ∙ at-place s m h l i lb ib (isTime t) given (λ (k : Slot). entryIf (tickOf k t .issues) (its-record l i))
       (ap (λ (k : Ticked). entryIf (k .issues) (its-record l i)) (no-tick t))
       (λ x e a. ap (λ (k : Ticked). entryIf (k .issues) (its-record l i)) (ticks t x) ∙ by x e (h .within x a) (isTime t x))
@@ -99,7 +105,7 @@ module _ (s : Site) (m : Machine) (h : SameItems s m) (t : ℕ) (up : SameUp (si
       by x e w false = refl
       by x e w true =
           rw (its-link l i x e, its-status l i x e)
-          (ap (λ (r : Entry). r ∷ []) (same-record s m h (linkAt (siteAfter s t) l) l i t (up l) (subst (λ (n : ℕ). n < length (m .statuses)) (its-status l i x e) (w .status))))
+          (ap (λ (r : Entry). r ∷ []) (same-record s m h (getD left l closedLink) l i t (up l) (subst (λ (n : ℕ). n < length (m .statuses)) (its-status l i x e) (w .status))))
 
   abbrev rows : ℕ → ℕ → List Entry
   rows n l = flat (entries l) (upTo n)
@@ -131,17 +137,17 @@ module _ (s : Site) (m : Machine) (h : SameItems s m) (t : ℕ) (up : SameUp (si
       ∙ sym (ap (map unnumbered) (map-flat given (λ l. flat (place l) (upTo (length (m .statuses)))) (upTo (m .setup .links)))
       ∙ map-flat unnumbered (λ l. map given (flat (place l) (upTo (length (m .statuses))))) (upTo (m .setup .links)))
 
-  all-records : issuedAt s t ≡ map unnumbered (map given (upwards m (isTime t)))
+  all-records : recordsOf (s .subscriptions) (s .statuses) left t ≡ map unnumbered (map given (upwards m (isTime t)))
   all-records =
-      sym (all-places (s .subscriptions) (s .statuses) (siteAfter s t .links) t (4 * 32) refl)
-      ∙ entries-rows (recordAt (s .subscriptions) (s .statuses) (siteAfter s t .links) t) 4
-      ∙ flat-same (λ l. flat (λ i. recordAt (s .subscriptions) (s .statuses) (siteAfter s t .links) t (l * 32 + i)) (upTo 32)) (rows 32) 4
-      (λ l b. flat-same (λ i. recordAt (s .subscriptions) (s .statuses) (siteAfter s t .links) t (l * 32 + i)) (entries l) 32 (of-place l b))
+      sym (all-places (s .subscriptions) (s .statuses) left t (4 * 32) refl)
+      ∙ entries-rows (recordAt (s .subscriptions) (s .statuses) left t) 4
+      ∙ flat-same (λ l. flat (λ i. recordAt (s .subscriptions) (s .statuses) left t (l * 32 + i)) (upTo 32)) (rows 32) 4
+      (λ l b. flat-same (λ i. recordAt (s .subscriptions) (s .statuses) left t (l * 32 + i)) (entries l) 32 (of-place l b))
       ∙ flat-same (rows 32) (rows (length (m .statuses))) 4 (λ l b. short-row l)
       ∙ few-rows
       ∙ machines
 
-  pub same-tick : SameEffect (issues (withSlots s (map (renewed t) (s .subscriptions))) (issuedAt s t)) (intervals t m)
+  pub same-tick : SameEffect (issues (withSlots s (map (renewed t) (s .subscriptions))) (recordsOf (s .subscriptions) (s .statuses) left t)) (intervals t m)
   unfolding intervals
   same-tick =
       record {

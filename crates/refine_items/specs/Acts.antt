@@ -8,6 +8,7 @@ use lib.ListN.{length}
 use Rattle.number.specs.Signed.{Signed32}
 use Rattle.alarm.specs.declared.Order.the-variants.{Acknowledge, Suspend, Resume}
 use Rattle.subscription.specs.Subscription.{none as noSubscription, subscribed}
+use Rattle.link.specs.declared.Link.{Link}
 use Rattle.site.specs.declared.Site.{Site}
 use Rattle.site.specs.Call.{issues}
 use Rattle.site.specs.Site.{withSubscriptions as withSlots}
@@ -16,11 +17,10 @@ use Rattle.packet_lookup.specs.declared.Sought.the-variants.{Is}
 use Rattle.packet_alarm.specs.Orders.{changeTaken}
 use Rattle.packet_subscribe.specs.Subscribing.{recordOf}
 use Rattle.call_input.specs.Inputs.{alarmPlan, statusPlan, aggregatedPlan}
-use Rattle.call_tick.specs.Intervals.{renewed}
-use Rattle.call_tick.specs.Tick.{siteAfter, issuedAt}
+use Rattle.call_tick.specs.Intervals.{renewed, recordsOf}
 use Rattle.machine.specs.State.{Machine, withSubscriptions, alarmAt}
 use Rattle.machine.specs.Items.{withInput, acknowledgedAt, suspendedAt, resumedAt, happens, update, without, becomes, aggregates, intervals}
-use Rattle.refine_items.specs.Items.{SameItems, SameUp, SameIssued, SameEffect}
+use Rattle.refine_items.specs.Items.{SameItems, UpIn, SameUp, SameIssued, SameEffect}
 
 module _ (s : Site) (m : Machine) where
   pub record SameInputs : Type 0 where
@@ -49,7 +49,8 @@ module _ (s : Site) (m : Machine) where
     pub orders : (i t : ℕ) (mId : List ℕ) → i < length (m .alarms) → SameOrders i t mId
     pub subscribing : (l i : ℕ) → l < m .setup .links → i < length (m .statuses) → SameSubscribing l i
     -- a tick, but for the links that it closes: as it leaves them they are Up or not, and m is the machine that has closed them
-    pub tick : (t : ℕ) → SameUp (siteAfter s t) m → SameEffect (issues (withSlots s (map (renewed t) (s .subscriptions))) (issuedAt s t)) (intervals t m)
+    pub tick : (t : ℕ) (left : List Link) → UpIn left m
+        → SameEffect (issues (withSlots s (map (renewed t) (s .subscriptions))) (recordsOf (s .subscriptions) (s .statuses) left t)) (intervals t m)
 
 pub record ItemActs : Type 0 where
   pub acts : (s : Site) (m : Machine) → SameItems s m → SameItemActs s m

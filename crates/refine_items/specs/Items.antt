@@ -6,10 +6,12 @@ use mathlib.Core.Path.{_≡_}
 use mathlib.Core.List.{List, map}
 use mathlib.Core.Option.{Option, some, none}
 use lib.IntN.{ℤ}
-use lib.ListN.{length}
+use lib.ListN.{length, getD}
 use Rattle.basis.specs.Pick.{bit}
 use Rattle.basis.specs.Lists.{count, Among}
 use Rattle.number.specs.Signed.{Signed32, wordOf}
+use Rattle.link.specs.declared.Link.{Link}
+use Rattle.link.specs.Fields.{closedLink}
 use Rattle.link.specs.Phase.{phaseOf, isUp as upIn}
 use Rattle.alarm.specs.declared.Alarm.{Alarm as AlarmWord}
 use Rattle.status.specs.declared.Status.{Status}
@@ -17,7 +19,6 @@ use Rattle.status.specs.Status.{unknown, holding}
 use Rattle.subscription.specs.declared.Subscription.{Subscription as Slot}
 use Rattle.subscription.specs.Subscription.{none as noSubscription, subscribed}
 use Rattle.site.specs.declared.Site.{Site}
-use Rattle.site.specs.Site.{linkAt}
 use Rattle.site.specs.Parts.{alarmAt as alarmIn, statusAt, subscriptionAt}
 use Rattle.site.specs.Call.{Plan}
 use Rattle.machine.specs.Words.{firstThat}
@@ -70,8 +71,11 @@ pub record SameItems (s : Site) (m : Machine) : Type 0 where
   pub subscription-places : length (s .subscriptions) ≡ 128
 
 -- each link is Up in both or in neither: what a status' record says of its link
+abbrev pub UpIn : List Link → Machine → Type 0
+UpIn ns m = (l : ℕ) → upIn (phaseOf (getD ns l closedLink)) ≡ isUp (lifeAt m l)
+
 abbrev pub SameUp : Site → Machine → Type 0
-SameUp s m = (l : ℕ) → upIn (phaseOf (linkAt s l)) ≡ isUp (lifeAt m l)
+SameUp s m = UpIn (s .links) m
 
 -- the records that a call issues are the machine's, and each entry tells its content
 pub record SameIssued (p : Plan) (is : List Issued) : Type 0 where

@@ -6,14 +6,16 @@ use mathlib.Core.Bool.{Bool}
 use mathlib.Core.List.{List, map}
 use mathlib.Core.Option.{Option, some, none}
 use Rattle.basis.specs.Pick.{pick}
+use Rattle.entry.specs.declared.Entry.{Entry}
+use Rattle.link.specs.declared.Link.{Link}
 use Rattle.status.specs.declared.Status.{Status}
 use Rattle.subscription.specs.declared.Subscription.{Subscription as Slot}
 use Rattle.site.specs.declared.Site.{Site}
 use Rattle.site.specs.Site.{withSubscriptions as withSlots}
 use Rattle.site.specs.Call.{issues, batchOf}
 use Rattle.call_tick.specs.Closing.{closedTo}
-use Rattle.call_tick.specs.Intervals.{renewed, recordsOf, issuedAt}
-use Rattle.call_tick.specs.Tick.{siteAfter, tickPlan}
+use Rattle.call_tick.specs.Intervals.{renewed, recordsOf}
+use Rattle.call_tick.specs.Tick.{siteAfter, issuedAt, tickPlan}
 use Rattle.call_tick.proofs.Closed.{stays}
 use Rattle.calls.specs.Calls.Call.{tick}
 use Rattle.machine.specs.State.{Setup, Machine}
@@ -30,7 +32,7 @@ use Rattle.refine_site.specs.Abstracts.{Abstracts}
 use Rattle.refine_site.specs.Calls.{SameCall}
 use Rattle.refine_site.proofs.Links.{same-time}
 use Rattle.refine_input.proofs.Items.{same-spent, of-intervals, items-changed}
-use Rattle.refine_input.proofs.Inputs.{for-links}
+use Rattle.refine_input.proofs.Inputs.{for-links, same-up}
 use Rattle.refine_tick.specs.Tick.{TickCalls}
 use Rattle.refine_tick.specs.Tick.OfTick.{of-tick}
 use Rattle.refine_tick.proofs.Closing.{all-setup, all-closed, same-mask}
@@ -59,11 +61,21 @@ module _ (s : Site) (m : Machine) (h : Abstracts s m) (t : ℕ) where
   unfolding siteAfter
   site-left = ap (λ (xs : List Slot). withSlots left (map (renewed t) xs)) (sym same-slots)
 
-  issued-left : issuedAt s t ≡ issuedAt left t
-  issued-left = ap₂ (λ (xs : List Slot) (ks : List Status). recordsOf xs ks t) (sym same-slots) (sym same-values)
+  -- the links are as the tick leaves them
+  same-links : siteAfter s t .links ≡ left .links
+  unfolding siteAfter
+  same-links = refl
 
-  renewing : SameEffect (issues (withSlots left (map (renewed t) (left .subscriptions))) (issuedAt left t)) (intervals t leftOf)
-  renewing = item-acts .acts left leftOf (all-closed s m h t .items) .tick t
+  abbrev issuedLeft : List Entry
+  issuedLeft = recordsOf (left .subscriptions) (left .statuses) (left .links) t
+
+  issued-left : issuedAt s t ≡ issuedLeft
+  issued-left =
+      ap (λ (ns : List Link). recordsOf (s .subscriptions) (s .statuses) ns t) same-links
+      ∙ ap₂ (λ (xs : List Slot) (ks : List Status). recordsOf xs ks (left .links) t) (sym same-slots) (sym same-values)
+
+  renewing : SameEffect (issues (withSlots left (map (renewed t) (left .subscriptions))) issuedLeft) (intervals t leftOf)
+  renewing = item-acts .acts left leftOf (all-closed s m h t .items) .tick t (left .links) (same-up left leftOf (all-closed s m h t))
 
   same-records : SameIssued (tickPlan s t) (intervals t leftOf .issues)
   same-records = record { issued = issued-left ∙ renewing .records .issued; told = renewing .records .told }
