@@ -14,7 +14,7 @@ use Rattle.machine.specs.Words.{_and_, _or_, maybe}
 use Rattle.machine.specs.State.{Held, Machine, lifeAt}
 use Rattle.machine.specs.Life.{isGreeting, isBeating, isUp, isPrimary, passLength, oldestUnsent, Due, dueUp, due}
 use Rattle.machine.specs.Life.Due.{theVersion, theWatchdog, theAggregated, theAlarm, theHeld}
-use Rattle.refine_pool.proofs.Entries.{left-of, right-of}
+use Rattle.basis.proofs.Both.{both-first, both-second}
 
 not-true : (b : Bool) → not b ≡ true → b ≡ false
 not-true true e = sym e
@@ -80,7 +80,7 @@ module _ (m : Machine) (l t : ℕ) where
   unfolding due
   why-if =
       picked WhyIf (isGreeting (lifeAt m l) and not (lifeAt m l .versions .sent)) _ _
-      (λ e. (left-of (isGreeting (lifeAt m l)) _ e, not-true (lifeAt m l .versions .sent) (right-of (isGreeting (lifeAt m l)) _ e)))
+      (λ e. (both-first (isGreeting (lifeAt m l)) _ e, not-true (lifeAt m l .versions .sent) (both-second (isGreeting (lifeAt m l)) _ e)))
       (λ e. picked WhyIf (isBeating (lifeAt m l) and not (lifeAt m l .watchdogs .sent)) _ _
       (λ b. or-left (isBeating (lifeAt m l) and not (lifeAt m l .watchdogs .sent)) (isUp (lifeAt m l)) b)
       (λ b. picked WhyIf (isUp (lifeAt m l)) _ _ why-up (λ u. tt)))
