@@ -1,6 +1,6 @@
 -- The host's three inputs are the machine's.
 -- Assumes nothing.
-use Prim.Native.Nat.{ℕ, _≤_, _<_}
+use Prim.Native.Nat.{ℕ, _<_}
 use mathlib.Core.Path.{_≡_, refl, sym, ap, _∙_}
 use mathlib.Core.Bool.{Bool, true, false}
 use mathlib.Core.Option.{Option, some, none}
@@ -10,16 +10,13 @@ use lib.IntN.{ℤ}
 use lib.ListN.{length}
 use borrow.Author.Tests.{leb-false}
 use Rattle.basis.specs.Pick.{pick}
-use Rattle.basis.proofs.Cases.{bool-cases}
 use Rattle.number.specs.Signed.{Signed32}
 use Rattle.table_whole.specs.declared.SiteTable.{SiteTable}
 use Rattle.site.specs.declared.Site.{Site}
-use Rattle.site.specs.Site.{badTimeAt, linkAt}
-use Rattle.site.specs.Call.{Plan, batchOf}
+use Rattle.site.specs.Site.{linkAt}
 use Rattle.call_input.specs.Inputs.{alarmPlan, statusPlan, aggregatedPlan}
-use Rattle.calls.specs.Calls.{Call}
 use Rattle.calls.specs.Calls.Call.{alarm, status, aggregated}
-use Rattle.machine.specs.State.{Machine, lifeAt, alarmAt, Act, Effect}
+use Rattle.machine.specs.State.{Machine, lifeAt, alarmAt, Act}
 use Rattle.machine.specs.State.Act.{alarmInput, statusValue, aggregatedValue}
 use Rattle.machine.specs.Items.{withInput, happens, becomes, aggregates}
 use Rattle.machine.specs.Effects.{effectOf}
@@ -33,7 +30,7 @@ use Rattle.refine_items.specs.Items.{SameUp, SameEffect}
 use Rattle.refine_items.specs.Acts.{SameInputs}
 use Rattle.refine_items.proofs.Acts.{item-acts}
 use Rattle.refine_site.specs.Abstracts.{Abstracts}
-use Rattle.refine_site.specs.Calls.{SamePlan, SameCall}
+use Rattle.refine_site.specs.Calls.{SameCall}
 use Rattle.refine_site.proofs.Links.{same-time}
 use Rattle.refine_input.specs.Inputs.{InputCalls}
 use Rattle.refine_input.specs.Inputs.OfInput.{of-alarm, of-status, of-aggregated}

@@ -1,14 +1,12 @@
 -- A call that issues records and changes nothing else but items: what it leaves, what it lays down, and number 10.
 -- Assumes nothing.
-use Prim.Native.Nat.{ℕ, _<_}
-use mathlib.Core.Path.{_≡_, refl, sym, ap, _∙_, subst}
-use mathlib.Core.Bool.{Bool, true, false}
+use Prim.Native.Nat.{ℕ}
+use mathlib.Core.Path.{_≡_, refl, sym, ap, _∙_}
 use mathlib.Core.List.{List, []}
 use mathlib.Core.Option.{Option, some, none}
 use lib.Dec.{eqb}
 use lib.IntN.{ℤ}
 use lib.ListN.{length}
-use Rattle.basis.specs.Pick.{pick}
 use Rattle.basis.proofs.Cases.{picked}
 use Rattle.entry.specs.declared.Entry.{Entry}
 use Rattle.alarm.specs.declared.Alarm.{Alarm as AlarmWord}
@@ -18,7 +16,7 @@ use Rattle.aggregated.specs.declared.Aggregated.{Aggregated}
 use Rattle.site.specs.declared.Site.{Site}
 use Rattle.site.specs.Site.{site}
 use Rattle.site.specs.Call.{Plan, issues, batchOf}
-use Rattle.machine.specs.State.{Setup, Alarm, Issued, Life, lifeAt, Pool as Listed, Machine, valueAt, Effect}
+use Rattle.machine.specs.State.{Setup, Alarm, Issued, Life, Machine, valueAt, Effect, effect}
 use Rattle.machine.specs.Items.{isNew, happens, intervals, becomes, aggregates}
 use Rattle.machine.specs.Step.{sequenceEnds}
 use Rattle.demand_held.proofs.Lists.{Each}
@@ -43,28 +41,32 @@ pub record OfItems (m : Machine) (e : Effect) : Type 0 where
   pub closed : e .closed ≡ []
   pub hint : e .hint ≡ none
 
+with-items : (m n : Machine) (is : List Issued) → n .setup ≡ m .setup → n .last ≡ m .last → n .lives ≡ m .lives → n .pool ≡ m .pool
+    → OfItems m (effect n is [] [] none)
+with-items m n is u t ls p = record { setup = u; last = t; lives = ls; pool = p; messages = refl; closed = refl; hint = refl }
+
 pub of-happens : (m : Machine) (i : ℕ) (o : Option Alarm) → OfItems m (happens m i o)
 unfolding happens
-of-happens m i none = record { setup = refl; last = refl; lives = refl; pool = refl; messages = refl; closed = refl; hint = refl }
-of-happens m i (some a) = record { setup = refl; last = refl; lives = refl; pool = refl; messages = refl; closed = refl; hint = refl }
+of-happens m i none = with-items m _ _ refl refl refl refl
+of-happens m i (some a) = with-items m _ _ refl refl refl refl
 
 pub of-becomes : (m : Machine) (i : ℕ) (v : ℤ) (t : ℕ) → OfItems m (becomes m i v t)
 unfolding becomes
 of-becomes m i v t =
     picked (OfItems m) (isNew v (valueAt m i)) _ _
-    (λ e. record { setup = refl; last = refl; lives = refl; pool = refl; messages = refl; closed = refl; hint = refl })
-    (λ e. record { setup = refl; last = refl; lives = refl; pool = refl; messages = refl; closed = refl; hint = refl })
+    (λ e. with-items m _ _ refl refl refl refl)
+    (λ e. with-items m _ _ refl refl refl refl)
 
 pub of-aggregates : (m : Machine) (v t : ℕ) → OfItems m (aggregates m v t)
 unfolding aggregates
 of-aggregates m v t =
     picked (OfItems m) (eqb v (m .aggregated)) _ _
-    (λ e. record { setup = refl; last = refl; lives = refl; pool = refl; messages = refl; closed = refl; hint = refl })
-    (λ e. record { setup = refl; last = refl; lives = refl; pool = refl; messages = refl; closed = refl; hint = refl })
+    (λ e. with-items m _ _ refl refl refl refl)
+    (λ e. with-items m _ _ refl refl refl refl)
 
 pub of-intervals : (t : ℕ) (m : Machine) → OfItems m (intervals t m)
 unfolding intervals
-of-intervals t m = record { setup = refl; last = refl; lives = refl; pool = refl; messages = refl; closed = refl; hint = refl }
+of-intervals t m = with-items m _ _ refl refl refl refl
 
 module _ (s : Site) (m : Machine) (h : Abstracts s m) (xs : List Slot) (vs : List AlarmWord) (ks : List Status) (g : Aggregated) where
   abbrev changed : Site
