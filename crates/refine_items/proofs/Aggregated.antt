@@ -55,8 +55,8 @@ unfolding setOf
 changes a v t e = rw e
 
 module _ (s : Site) (m : Machine) (h : SameItems s m) (v t : ℕ) where
-  value-set : SameItems (withValue s (valued v t)) (withAggregated v t m)
-  value-set =
+  value-set : v < 256 → SameItems (withValue s (valued v t)) (withAggregated v t m)
+  value-set b =
       record {
         setup = moved (h .setup);
         alarms = h .alarms;
@@ -67,6 +67,7 @@ module _ (s : Site) (m : Machine) (h : SameItems s m) (v t : ℕ) where
         status-count = h .status-count;
         status-places = h .status-places;
         aggregated = refl;
+        byte = b;
         subscriptions = h .subscriptions;
         one-each = h .one-each;
         within = λ x e. record { link = h .within x e .link; status = h .within x e .status };
@@ -85,7 +86,7 @@ module _ (s : Site) (m : Machine) (h : SameItems s m) (v t : ℕ) where
       }))
       (λ e. rw (changes (s .aggregated) v t (ne-eqb (s .aggregated .value) v (λ z. eqb-false v (m .aggregated) e (sym z ∙ q))), e)
       (record {
-        items = value-set;
+        items = value-set b;
         records = record {
           issued = rw (h .setup .links) (all-records v t b (m .setup .links));
           told = each-of (issuedTo v t) (λ l. contents .aggregated v t b) (upTo (m .setup .links));

@@ -80,6 +80,7 @@ module _ (s : Site) (m : Machine) (h : SameItems s m) (i : ℕ) (b : i < length 
         status-count = length-changed i (λ x. some v) (m .statuses) ∙ h .status-count;
         status-places = length-set (s .statuses) i (holding (wordOf v)) ∙ h .status-places;
         aggregated = h .aggregated;
+        byte = h .byte;
         subscriptions = h .subscriptions;
         one-each = h .one-each;
         within = λ x e. record { link = h .within x e .link; status = subst (λ (n : ℕ). x .status < n) (sym (length-changed i (λ (o : Option ℤ). some v) (m .statuses))) (h .within x e .status) };

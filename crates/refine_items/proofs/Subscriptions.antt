@@ -90,6 +90,7 @@ module _ (s : Site) (m : Machine) (h : SameItems s m) where
         status-count = h .status-count;
         status-places = h .status-places;
         aggregated = h .aggregated;
+        byte = h .byte;
         subscriptions = f;
         one-each = o;
         within = λ x e. record { link = w x e .link; status = w x e .status };

@@ -61,6 +61,7 @@ pub record SameItems (s : Site) (m : Machine) : Type 0 where
   pub status-count : length (m .statuses) ≡ length (m .setup .table .statuses)
   pub status-places : length (s .statuses) ≡ 32
   pub aggregated : s .aggregated ≡ record { time = m .aggregatedTime; value = m .aggregated }
+  pub byte : m .aggregated < 256
   -- "A link has one subscription per status": place l * 32 + i is that of link l to status i
   pub subscriptions : (l i : ℕ) → l < 4 → i < 32 → subscriptionAt s (l * 32 + i) ≡ slotFor (firstThat (isOf l i) (m .subscriptions))
   pub one-each : (l i : ℕ) → count (isOf l i) (m .subscriptions) ≤ 1
