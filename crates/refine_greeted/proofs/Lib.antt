@@ -1,0 +1,4 @@
+-- Their Version and Watchdog: the proofs.
+pub mod Acked
+pub mod Version
+pub mod Watchdog

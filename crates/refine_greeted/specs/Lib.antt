@@ -1,0 +1,2 @@
+-- Their Version and Watchdog.
+pub mod Greeted

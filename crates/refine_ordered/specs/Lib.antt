@@ -1,0 +1,2 @@
+-- Alarm and AggregatedStatusRequest.
+pub mod Ordered

@@ -1,0 +1,3 @@
+-- Lookups in the site table: the proofs.
+pub mod Places
+pub mod Lookups
