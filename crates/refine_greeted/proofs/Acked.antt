@@ -2,7 +2,7 @@
 -- Assumes nothing.
 use Prim.Native.Nat.{ℕ, _<_}
 use mathlib.Core.Path.{_≡_, refl, sym, ap, subst, _∙_}
-use mathlib.Core.Bool.{Bool, true, false}
+use mathlib.Core.Bool.{Bool, false}
 use mathlib.Core.List.{List, [], _∷_}
 use mathlib.Core.Option.{Option, some, none}
 use native.Mathlib.Omega.{arith}
@@ -12,7 +12,6 @@ use Rattle.basis.specs.Pick.{pick}
 use Rattle.answer.specs.Given.{Hint}
 use Rattle.identity.specs.declared.Identity.{Identity}
 use Rattle.entry.specs.declared.Entry.{Entry}
-use Rattle.link.specs.declared.Role.{Role}
 use Rattle.link.specs.declared.Role.the-variants.{Primary, Secondary}
 use Rattle.json_value.specs.Grammar.{Json}
 use Rattle.write_message.specs.Message.Message.{ack}
@@ -23,7 +22,7 @@ use Rattle.machine.specs.Words.{Bytes, orElse, isNumber}
 use Rattle.machine.specs.State.{Machine, Effect, effect, withLife, lifeAt}
 use Rattle.machine.specs.State.Sent.{noRecord}
 use Rattle.machine.specs.Json.{stringOf}
-use Rattle.machine.specs.Life.{isPrimary, awaiting}
+use Rattle.machine.specs.Life.{awaiting}
 use Rattle.machine.specs.Answers.{wantsReply}
 use Rattle.machine.specs.Effects.{carriedOut, replyMessage, replying}
 use Rattle.refine_life.specs.Questions.{roleIn}

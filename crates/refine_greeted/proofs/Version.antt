@@ -121,6 +121,7 @@ module _ (s : Site) (m : Machine) (h : Abstracts s m) (l : ℕ) (b : l < m .setu
     where
       f : VersionFields
       f = versionAt p
+
       reads : VersionReads j (versionAt p)
       reads = Versions.kept .version p j read
 

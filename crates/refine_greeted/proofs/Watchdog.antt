@@ -4,16 +4,13 @@ use Prim.Native.Nat.{ℕ, _<_}
 use Prim.Native.String.{String}
 use mathlib.Core.Path.{_≡_, refl, sym, subst}
 use mathlib.Core.Bool.{Bool, true, false}
-use mathlib.Core.List.{[], _∷_}
+use mathlib.Core.List.{[]}
 use mathlib.Core.Option.{Option, some, none}
 use lib.Dec.{leb}
 use Rattle.basis.specs.Pick.{pick}
 use Rattle.basis.specs.Text.{text}
 use Rattle.answer.specs.Given.Hint.{none as noHint, clock}
 use Rattle.identity.specs.declared.Identity.{Identity}
-use Rattle.calendar.specs.declared.Time.the-variants.{Is}
-use Rattle.calendar.specs.Read.{readTime}
-use Rattle.link.specs.declared.Role.{Role}
 use Rattle.link.specs.declared.Role.the-variants.{Primary, Secondary}
 use Rattle.link.specs.Steps.{watchdogTakenOf}
 use Rattle.json_value.specs.Grammar.{Json}
@@ -23,11 +20,10 @@ use Rattle.read_head.specs.declared.Verdict.the-variants.{Good}
 use Rattle.read_head.specs.Small.{watchdogAt}
 use Rattle.site.specs.declared.Site.{Site}
 use Rattle.site.specs.Site.{linkAt, roleOf}
-use Rattle.packet_answer.specs.Taken.{byVerdict}
 use Rattle.packet_greet.specs.Watchdog.{hintFrom, beaten, beat, watchdogTaken}
 use Rattle.machine.specs.Words.{Bytes}
-use Rattle.machine.specs.State.{Machine, lifeAt, withLife, Effect, effect}
-use Rattle.machine.specs.Json.{readPacket, stringAt, stringOf, isType, hinted, hintIn}
+use Rattle.machine.specs.State.{Machine, lifeAt}
+use Rattle.machine.specs.Json.{readPacket, stringAt, stringOf, isType, hintIn}
 use Rattle.machine.specs.Life.{isPrimary, nowTaken, withWatchdogs}
 use Rattle.machine.specs.Answers.{wantsReply}
 use Rattle.machine.specs.Effects.{carriedOut, watchdogTaken as watchdogIn}
@@ -35,7 +31,6 @@ use Rattle.demand_held.proofs.Lists.Each.{no-more}
 use Rattle.refine_read.specs.Verdicts.{verdictIn}
 use Rattle.refine_read.specs.Reasons.{byVerdict as reasonBy, furtherReason}
 use Rattle.refine_read.proofs.Kept as Reads
-use Rattle.refine_life.specs.Questions.{roleIn}
 use Rattle.refine_life.proofs.Acts.{acts}
 use Rattle.refine_site.specs.Abstracts.{Abstracts}
 use Rattle.refine_site.specs.Calls.{hintFor}
@@ -66,6 +61,7 @@ module _ (s : Site) (m : Machine) (h : Abstracts s m) (l : ℕ) (b : l < m .setu
       given : (y : Bool) → pick y (clock (f .time)) noHint ≡ hintFor (pick y (some (f .time)) none)
       given true = refl
       given false = refl
+
       by : (x : Bool) → hintFrom (pick x Primary Secondary) f ≡ hintFor (pick x (pick (leb 3 (f .decimals)) (some (f .time)) none) none)
       by true = given (leb 3 (f .decimals))
       by false = refl

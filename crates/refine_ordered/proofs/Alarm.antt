@@ -34,7 +34,7 @@ use Rattle.send_message.specs.Sending.{alarmMessage}
 use Rattle.site.specs.declared.Site.{Site}
 use Rattle.packet_alarm.specs.Orders.{requestBy, requestTaken, ordered, orderedOf, foundTaken, alarmTaken}
 use Rattle.machine.specs.Words.{Bytes, maybe, isSome, orElse}
-use Rattle.machine.specs.State.{Alarm, Machine, lifeAt, alarmAt, Effect, only}
+use Rattle.machine.specs.State.{Alarm, Machine, lifeAt, alarmAt, only}
 use Rattle.machine.specs.Json.{readPacket, stringAt, stringOf, elementIs, isType}
 use Rattle.machine.specs.Life.{isPrimary}
 use Rattle.machine.specs.Table.{alarmNumber}
@@ -42,12 +42,10 @@ use Rattle.machine.specs.Messages.{alarmMessage as alarmTold}
 use Rattle.machine.specs.Answers.{componentAsked, alarmAsked, wantsReply}
 use Rattle.machine.specs.Items.{acknowledgedAt, suspendedAt, resumedAt, happens, ordered as orderedIn}
 use Rattle.machine.specs.Effects.{alarmOrdered, carriedOut, replyMessage}
-use Rattle.demand_held.proofs.Lists.Each.{no-more}
 use Rattle.refine_read.specs.Verdicts.{verdictIn}
 use Rattle.refine_read.specs.Reasons.{byVerdict as reasonBy, furtherReason, busyIf}
 use Rattle.refine_read.specs.Fields.{orderWord}
 use Rattle.refine_read.proofs.Kept as Reads
-use Rattle.refine_life.specs.Questions.{roleIn}
 use Rattle.refine_items.proofs.Acts.{item-acts}
 use Rattle.refine_site.specs.Abstracts.{Abstracts}
 use Rattle.refine_pump.proofs.Messages.{messages}

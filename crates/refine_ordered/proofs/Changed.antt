@@ -3,7 +3,7 @@
 use Prim.Native.Nat.{ℕ, _<_}
 use mathlib.Core.Path.{_≡_, refl}
 use mathlib.Core.Bool.{Bool, true, false}
-use mathlib.Core.List.{List, [], _∷_}
+use mathlib.Core.List.{[], _∷_}
 use mathlib.Core.Option.{Option, some, none}
 use Rattle.basis.specs.Pick.{pick}
 use Rattle.answer.specs.Given.Hint.{none as noHint}
@@ -15,7 +15,7 @@ use Rattle.site.specs.declared.Site.{Site}
 use Rattle.site.specs.Parts.{alarmAt as alarmIn, withAlarm as withAlarmIn}
 use Rattle.packet_alarm.specs.Orders.{recordsOf, changeTaken}
 use Rattle.machine.specs.Words.{maybe}
-use Rattle.machine.specs.State.{Alarm, Issued, issuedFor, Machine, withAlarm, Effect, effect, only}
+use Rattle.machine.specs.State.{Alarm, issuedFor, Machine, withAlarm, effect, only}
 use Rattle.machine.specs.State.Content.{ofAlarm}
 use Rattle.machine.specs.Json.{stringOf}
 use Rattle.machine.specs.Answers.{wantsReply}

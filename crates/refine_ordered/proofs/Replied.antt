@@ -1,11 +1,10 @@
 -- A packet that is acknowledged and replied to, or "Busy".
 -- Assumes nothing.
 use Prim.Native.Nat.{ℕ, _<_}
-use Prim.Native.String.{String}
 use mathlib.Core.Path.{_≡_, refl, sym, ap, subst, _∙_}
 use mathlib.Core.Bool.{Bool, true, false}
 use mathlib.Core.List.{List, [], _∷_}
-use mathlib.Core.Option.{Option, some, none}
+use mathlib.Core.Option.{some, none}
 use lib.Dec.{leb}
 use lib.ListN.{length}
 use borrow.Author.Tests.{leb-false}
@@ -13,17 +12,17 @@ use Rattle.basis.specs.Pick.{pick}
 use Rattle.identity.specs.declared.Identity.{Identity}
 use Rattle.identity.specs.Read.{SixteenBytes}
 use Rattle.awaited.specs.declared.Purpose.the-variants.{Other}
-use Rattle.link.specs.Steps.{messageOutOf, fullOf}
+use Rattle.link.specs.Steps.{messageOutOf}
 use Rattle.json_value.specs.Grammar.{Json}
 use Rattle.write_message.specs.Message.{Message}
 use Rattle.write_message.specs.Message.Message.{ack}
 use Rattle.site.specs.declared.Site.{Site}
 use Rattle.site.specs.Site.{linkAt}
-use Rattle.packet_answer.specs.Taken.{Taken, notAcked, replied, unlessBusy, busy}
-use Rattle.machine.specs.State.{Machine, lifeAt, withLife, Effect, effect, only}
+use Rattle.packet_answer.specs.Taken.{notAcked, replied, unlessBusy, busy}
+use Rattle.machine.specs.State.{Machine, lifeAt, withLife, effect, only}
 use Rattle.machine.specs.State.Sent.{noRecord}
 use Rattle.machine.specs.Json.{stringOf}
-use Rattle.machine.specs.Life.{isUp, isAwaited, awaiting}
+use Rattle.machine.specs.Life.{isUp, awaiting}
 use Rattle.machine.specs.Answers.{wantsReply}
 use Rattle.machine.specs.Effects.{carriedOut, replyMessage, replying}
 use Rattle.demand_held.proofs.Lists.Each.{no-more}

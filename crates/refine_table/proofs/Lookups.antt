@@ -15,18 +15,15 @@ use Rattle.basis.proofs.Both.{both-true, both-of}
 use Rattle.basis.proofs.Same.{same-true, same-self}
 use Rattle.label.specs.Label.{labelOf, textOf}
 use Rattle.table_whole.specs.Table.{Row, noRow, Table}
-use Rattle.table_whole.specs.Allowed.{Every, IsAlarm, Allowed}
+use Rattle.table_whole.specs.Allowed.{Every, Allowed}
 use Rattle.table_whole.specs.Allowed.Every.{more}
 use Rattle.table_whole.specs.Memory.{memoryOf}
 use Rattle.table_whole.specs.Lookup.{findComponent, findAlarm, findStatus, ComponentIs, AlarmIs, StatusIs}
 use Rattle.table_whole.proofs.Kept.{text-label}
 use Rattle.table_whole.proofs.Lookups.{component-found, alarm-found, status-found}
-use Rattle.read_lists.specs.declared.StatusEntry.{StatusEntry}
-use Rattle.packet_lookup.specs.declared.Sought.{Sought}
-use Rattle.packet_lookup.specs.declared.SoughtAlarm.{SoughtAlarm}
 use Rattle.packet_lookup.specs.declared.SoughtAlarm.the-variants.{Alarm, NoComponent, NoAlarm}
-use Rattle.packet_lookup.specs.Sought.{numbered, componentSought, alarmIn, orNoAlarm, alarmOf, alarmSought, statusSought}
-use Rattle.machine.specs.Words.{Bytes, maybe, placeOf}
+use Rattle.packet_lookup.specs.Sought.{numbered, componentSought, orNoAlarm, alarmOf, alarmSought}
+use Rattle.machine.specs.Words.{Bytes, maybe}
 use Rattle.machine.specs.Table.{componentOf, alarmNumber, statusNumber}
 use Rattle.refine_table.specs.Lookups.{soughtFor, Lookups, SameLookups}
 use Rattle.refine_table.proofs.Places.{placed, within, same-place}
