@@ -178,13 +178,7 @@ fn hint(role: Role, f: GotTime) -> u64
     ensures { λ r. ⌜ r ≡ hintTime (hintFrom role f) ⌝ }
 {
     match role {
-        Role::Primary => {
-            if 3 <= f.decimals {
-                f.time
-            } else {
-                0
-            }
-        }
+        Role::Primary => { if 3 <= f.decimals { f.time } else { 0 } }
         Role::Secondary => 0,
     }
 }
@@ -193,13 +187,7 @@ fn hinted(role: Role, f: GotTime) -> u16
     ensures { λ r. ⌜ r ≡ hintBit (hintFrom role f) ⌝ }
 {
     match role {
-        Role::Primary => {
-            if 3 <= f.decimals {
-                1
-            } else {
-                0
-            }
-        }
+        Role::Primary => { if 3 <= f.decimals { 1 } else { 0 } }
         Role::Secondary => 0,
     }
 }

@@ -68,12 +68,13 @@ loop-again c =
     let a = c .before .before .before .before .before .before .args in
     let l = c .before .before .before .before .before .loop in
     let four : length (a .t4) ≡ 4 = search needs in
-    let below : l .i / 32 < length (a .t4) = omega arith in
-    (omega arith,
-    rw (turn (recordAt (a .t2) (a .t3) (a .t4) (a .time)) (a .b) (l .i), ← l .inv .1)
-    (c .issue-one .ensures
-    ∙ ap (λ (n : Link). addedAll 4 (l .c) (recordOf (getD (a .t2) (l .i) none) (getD (a .t3) (l .i % 32) unknown) n (a .time) (l .i)))
-    (getD-any (a .t4) (l .i / 32) _ closedLink below)))
+    let below : l .i / 32 < length (a .t4) = omega arith in (
+      omega arith,
+      rw (turn (recordAt (a .t2) (a .t3) (a .t4) (a .time)) (a .b) (l .i), ← l .inv .1)
+          (c .issue-one .ensures
+          ∙ ap (λ (n : Link). addedAll 4 (l .c) (recordOf (getD (a .t2) (l .i) none) (getD (a .t3) (l .i % 32) unknown) n (a .time) (l .i)))
+          (getD-any (a .t4) (l .i / 32) _ closedLink below)),
+    )
 
 returns : tie.Need-returns Inv-loop μ-loop
 returns c =
