@@ -10,7 +10,7 @@ use Rattle.sitec.specs.Outcome.Started.{started}
 use Rattle.machine.specs.State.{Machine}
 use Rattle.machine.specs.Table.{goodStart, first as firstOf, Begins}
 use Rattle.machine.specs.Table.Begins.{begins, not-good, no-table}
-use Rattle.demand_held.proofs.Lists.{clash}
+use Rattle.basis.proofs.Both.{not-both}
 use Rattle.refine_start.specs.Start.{startFor, Starting}
 use Rattle.refine_start.specs.Start.SameStart.{not-accepted, accepted}
 use Rattle.refine_start.proofs.Values.{within, good}
@@ -27,7 +27,7 @@ starting table links primary period first time o (started (starts {t = t} v p w)
   where
     only : (m : Option Machine) → Begins (startFor table links primary period first time) m → m ≡ some (firstOf t (startFor table links primary period first time))
     only m (begins {t = u} a q g) = ap (λ (x : Table). some (firstOf x (startFor table links primary period first time))) (same-table u t a v (q ∙ sym p))
-    only m (not-good g) = clash (good table links primary period first time w) g
+    only m (not-good g) = not-both (good table links primary period first time w) g
     only m (no-table n) = absurd (n t v p)
 starting table links primary period first time o (started (refuses n)) =
     record {
