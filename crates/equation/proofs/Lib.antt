@@ -1,0 +1,4 @@
+-- What a host of the exported functions sees is what the machine says: the proofs.
+pub mod Told
+pub mod Asked
+pub mod Equation
