@@ -29,7 +29,7 @@ use Rattle.equation.specs.Contracts.{Starts, Allows, Run}
 use Rattle.equation.specs.Contracts.Starts.{starts}
 use Rattle.equation.specs.Contracts.Allows.{reads-held, reads-lost, reads-phase, reads-version, reads-record}
 use Rattle.equation.specs.Contracts.Run.{ends, asks}
-use Rattle.equation.specs.Equation.{Sees, FromStart, AllCalls, FromCalls}
+use Rattle.equation.specs.Equation.{Sees, FromStart, Equation, AllCalls}
 use Rattle.equation.proofs.Told.{told-same}
 use Rattle.equation.proofs.Asked.{Opened, opened, unchanged}
 
@@ -85,5 +85,5 @@ module _ (all : AllCalls) where
       → FromStart (startFor table links primary period first time) o
   of-contract table links primary period first time o (starts κs a b c d f g q e p) = begun table links primary period first time o p
 
-pub from-calls : FromCalls
+pub from-calls : AllCalls → Equation
 from-calls all = record { from-start = of-contract all; refused = unchanged }

@@ -2,3 +2,4 @@
 pub mod Told
 pub mod Asked
 pub mod Equation
+pub mod Calls
