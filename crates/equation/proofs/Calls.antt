@@ -1,4 +1,4 @@
--- Every call but packet is the machine's, so that packet alone is left.
+-- Every call is the machine's, and so is what a host sees.
 -- Assumes nothing.
 use Rattle.calls.specs.Calls.Call.{connect, disconnect, packet, alarm, status, aggregated, tick, pump}
 use Rattle.refine_site.specs.Links.OfLink.{connects, disconnects}
@@ -9,19 +9,20 @@ use Rattle.refine_tick.specs.Tick.OfTick.{of-tick}
 use Rattle.refine_tick.proofs.Tick.{tick-calls}
 use Rattle.refine_pump.specs.Pump.OfPump.{pumps}
 use Rattle.refine_pump.proofs.Pump.{pump-calls}
-use Rattle.equation.specs.Equation.{AllCalls, PacketCalls, FromPackets}
-use Rattle.equation.specs.Equation.OfPacket.{packets}
+use Rattle.refine_packet.specs.Packet.OfPacket.{packets}
+use Rattle.refine_packet.proofs.Packet.{packet-calls}
+use Rattle.equation.specs.Equation.{Equation, AllCalls}
 use Rattle.equation.proofs.Equation.{from-calls}
 
-all-calls : PacketCalls → AllCalls
-all-calls p s m h (connect l t) b u = link-calls s m h (connect l t) (connects l t) u
-all-calls p s m h (disconnect l t) b u = link-calls s m h (disconnect l t) (disconnects l t) u
-all-calls p s m h (packet l t random received out) b u = p s m h (packet l t random received out) (packets l t random received out) u
-all-calls p s m h (alarm i active t) b u = input-calls s m h (alarm i active t) (of-alarm i active t) u
-all-calls p s m h (status i v t) b u = input-calls s m h (status i v t) (of-status i v t) u
-all-calls p s m h (aggregated v t) b u = input-calls s m h (aggregated v t) (of-aggregated v t) u
-all-calls p s m h (tick t) b u = tick-calls s m h (tick t) (of-tick t) u
-all-calls p s m h (pump l t random out) b u = pump-calls s m h (pump l t random out) (pumps l t random out) u
+all-calls : AllCalls
+all-calls s m h (connect l t) b u = link-calls s m h (connect l t) (connects l t) u
+all-calls s m h (disconnect l t) b u = link-calls s m h (disconnect l t) (disconnects l t) u
+all-calls s m h (packet l t random received out) b u = packet-calls s m h (packet l t random received out) (packets l t random received out) u
+all-calls s m h (alarm i active t) b u = input-calls s m h (alarm i active t) (of-alarm i active t) u
+all-calls s m h (status i v t) b u = input-calls s m h (status i v t) (of-status i v t) u
+all-calls s m h (aggregated v t) b u = input-calls s m h (aggregated v t) (of-aggregated v t) u
+all-calls s m h (tick t) b u = tick-calls s m h (tick t) (of-tick t) u
+all-calls s m h (pump l t random out) b u = pump-calls s m h (pump l t random out) (pumps l t random out) u
 
-pub from-packets : FromPackets
-from-packets p = from-calls (all-calls p)
+pub equation : Equation
+equation = from-calls all-calls

@@ -1,5 +1,5 @@
 -- THE EQUATION: whatever the exported functions' contracts allow a host to see, from start on, is what the machine shows; a refused call changes nothing.
--- It stands under `PacketCalls`: of packet alone it is not proved yet that the code's and the machine's are the same.
+-- Statement only: its proof is `equation`.
 -- Assumes nothing.
 use Prim.Native.Nat.{ℕ}
 use mathlib.Core.Path.{_≡_}
@@ -7,9 +7,7 @@ use mathlib.Core.List.{List, []}
 use mathlib.Core.Option.{Option, some, none}
 use Rattle.site.specs.declared.Site.{Site}
 use Rattle.sitec.specs.declared.Outcome.{Outcome}
-use Rattle.identity.specs.declared.Identity.{Identity}
 use Rattle.calls.specs.Calls.{Call, outputOf}
-use Rattle.calls.specs.Calls.Call.{packet}
 use Rattle.machine.specs.State.{Start, Machine}
 use Rattle.machine.specs.Table.{Begins}
 use Rattle.refine_site.specs.Calls.{SameFor}
@@ -36,15 +34,6 @@ pub record Equation : Type 0 where
   -- "All but 0 change nothing: state, last time and lent bytes stay", of any site
   pub refused : (s : Site) (c : Call) (seen : Seen) (after : Site) → Allows s (call c) seen after → (numberIn seen ≡ 0 → ⊥) → (after ≡ s) × (outputIn seen ≡ outputOf c)
 
+-- of every call the code's and the machine's are the same: what the proof goes by
 abbrev pub AllCalls : Type 0
 AllCalls = SameFor BytesIn
-
--- ---- what is still asked: that packet is the machine's; of every other call it is proved
-pub data OfPacket : Call → Type 0 where
-  packets : (l t : ℕ) (random : Identity) (received out : List ℕ) → OfPacket (packet l t random received out)
-
-abbrev pub PacketCalls : Type 0
-PacketCalls = SameFor OfPacket
-
-abbrev pub FromPackets : Type 0
-FromPackets = PacketCalls → Equation

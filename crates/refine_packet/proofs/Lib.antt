@@ -1,0 +1,6 @@
+-- Packet: the proofs.
+pub mod Ignored
+pub mod Numbers
+pub mod Answers
+pub mod Asked
+pub mod Packet

@@ -1,0 +1,3 @@
+-- Packet.
+pub mod Heard
+pub mod Packet

@@ -1,0 +1,2 @@
+-- StatusRequest, StatusSubscribe and StatusUnsubscribe.
+pub mod Statuses
