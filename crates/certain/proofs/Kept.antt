@@ -29,7 +29,16 @@ use Rattle.demandstold.proofs.Kept.{kept as told}
 use Rattle.goesout.proofs.Kept.{kept as going-out}
 use Rattle.carried.proofs.Kept.{kept as carrying}
 use Rattle.marked.proofs.Kept.{kept as marked}
-use Rattle.certain.specs.Certain.{Pumps, Certain}
+use Rattle.equation.proofs.Calls.{equation}
+use Rattle.demand_refused.proofs.Demand.{demand1}
+use Rattle.demand_told.proofs.Demand.{demand2}
+use Rattle.demand_greeted.proofs.Demand.{demand-greeted}
+use Rattle.demand_read.proofs.Demand.{demand-read}
+use Rattle.demand_held.proofs.Demand.{demand3}
+use Rattle.demand_happens.proofs.Pumped.{pumping}
+use Rattle.demand_happens.proofs.Greeting.{greeting}
+use Rattle.demand_happens.proofs.Records.{sending}
+use Rattle.certain.specs.Certain.{Pumps, OnTheMachine, Certain}
 
 pumps : (s : Site) → Started s → (cs : List Call) → EachTyped cs → (l t : ℕ) (random : Identity) (out : List ℕ) → SixteenBytes (random .bytes)
     → Ready (siteAfter s cs) l t (identityOf random) (length out) → Pumps s cs l t random out
@@ -47,9 +56,24 @@ pumps s b cs typed l t random out bytes ready =
       text = subst (λ (ms : List Message). Wrote ms out (outBy now c) (d .0)) same (conduct .sends s b cs .writes c (d .0) (bytes, typed) (d .1));
     }
 
+machine : OnTheMachine
+machine =
+    record {
+      equation = equation;
+      refusing = demand1;
+      telling = demand2;
+      greeted = demand-greeted;
+      reads-back = demand-read;
+      keeping = demand3;
+      pumping = pumping;
+      greeting = greeting;
+      sending = sending;
+    }
+
 pub kept : Certain
 kept =
     record {
+      machine = machine;
       demand1 = record { numbers = numbers; sound = sound };
       demand2 = record { histories = histories; conduct = conduct; reasons = reasons; issuing = told; pumps = pumps; greets = greets; alarms-go-out = alarms };
       demand3 = record { holding = holding; told = told; carrying = carrying; going-out = going-out; marked = marked };

@@ -31,6 +31,15 @@ use Rattle.demandstold.specs.Told3.{Promises as Issuing}
 use Rattle.goesout.specs.Goesout.{Promises as GoingOut}
 use Rattle.carried.specs.Carried.{Claims as Carrying}
 use Rattle.marked.specs.Marked.{Marked}
+use Rattle.equation.specs.Equation.{Equation}
+use Rattle.demand_refused.specs.Demand.{Demand1 as Refusing}
+use Rattle.demand_told.specs.Demand.{Demand2 as Telling}
+use Rattle.demand_greeted.specs.Demand.{DemandGreeted}
+use Rattle.demand_read.specs.Demand.{DemandRead}
+use Rattle.demand_held.specs.Demand.{Demand3 as Keeping}
+use Rattle.demand_happens.specs.Pumped.{Pumping}
+use Rattle.demand_happens.specs.Greeting.{Greeting}
+use Rattle.demand_happens.specs.Records.{Sending}
 
 -- That no call crashes, hangs or leaves the memory it was lent is what the checker gives of every function; besides:
 pub record Demand1 : Type 0 where
@@ -80,7 +89,21 @@ pub record Demand3 : Type 0 where
   -- the cases that document 01 marks
   pub marked : Marked
 
+-- Document 01 as one machine: a host of the exported functions sees what it shows and nothing else, and over its runs the demands hold
+pub record OnTheMachine : Type 0 where
+  pub equation : Equation
+  pub refusing : Refusing
+  pub telling : Telling
+  pub greeted : DemandGreeted
+  pub reads-back : DemandRead
+  pub keeping : Keeping
+  -- it happens
+  pub pumping : Pumping
+  pub greeting : Greeting
+  pub sending : Sending
+
 pub record Certain : Type 0 where
+  pub machine : OnTheMachine
   pub demand1 : Demand1
   pub demand2 : Demand2
   pub demand3 : Demand3

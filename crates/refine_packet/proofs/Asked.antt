@@ -157,7 +157,7 @@ module _ (s : Site) (m : Machine) (h : Abstracts s m) (l : ℕ) (b : l < m .setu
         staged StatusUnsubscribe (rw ty) (λ e. rw (same-beating, ty)) (λ e n. same-statuses .status-unsubscribe s m h l b (is-up (rw ty) (rw ty) n) t id v p j read ty)
     by-type k (not-taken f) =
         let u : isUnexpected (lifeAt m l) j ≡ true =
-            ap (λ (c : Bool). pick (not c) true (both (isType "Version" j) (pick (not (lifeAt m l .versions .sent)) true (lifeAt m l .versions .taken)))) f in
+        ap (λ (c : Bool). pick (not c) true (both (isType "Version" j) (pick (not (lifeAt m l .versions .sent)) true (lifeAt m l .versions .taken)))) f in
         staged Unexpected (ap not (sym u)) (λ e. not-both u e) (λ e n. not-both u e)
 
     pub asked : SameTaken s m l t id j (askedTaken s l t id (stringOf "mId" j) p (mTypeOf j) (kindOf j)) (reasonBy m l j)

@@ -115,7 +115,7 @@ module _ (s : Site) (m : Machine) (h : Abstracts s m) (l t : ℕ) (random : Iden
             (λ a e i. let x = hears (leb-false (m .setup .links) l a) e i in (awaited-same x, spent-same x)));
         plan = λ e.
             let q =
-                passes (noSuchLink m l) (ltb (length out) 4096) (ltb 4096 (length p)) (badTime m t) (isDownAt m l) (isIgnored (lifeAt m l) (readPacket p)) (both replies awaits)
-                (sequenceEnds m effects) e in
+            passes (noSuchLink m l) (ltb (length out) 4096) (ltb 4096 (length p)) (badTime m t) (isDownAt m l) (isIgnored (lifeAt m l) (readPacket p)) (both replies awaits)
+            (sequenceEnds m effects) e in
             plan-same (hears (leb-false (m .setup .links) l (q .configured)) (q .connected) (q .heard)) (q .unawaited);
       }

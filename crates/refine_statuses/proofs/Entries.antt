@@ -81,7 +81,7 @@ module _ (s : Site) (m : Machine) (h : Abstracts s m) (subscribing : Bool) (j : 
         omega (
           arith,
           same-lookups (m .setup .table) (h .items .setup .allowed) .status-there c (stringOf "sCI" e) (stringOf "n" e) k
-          (sym (ap (maybe none (λ (x : ℕ). statusNumber (m .setup .table) x (stringOf "sCI" e) (stringOf "n" e))) asked) ∙ q),
+              (sym (ap (maybe none (λ (x : ℕ). statusNumber (m .setup .table) x (stringOf "sCI" e) (stringOf "n" e))) asked) ∙ q),
           h .items .status-count,
         )
 
