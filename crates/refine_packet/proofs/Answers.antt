@@ -4,7 +4,7 @@ use Prim.Native.Nat.{ℕ, _<_}
 use mathlib.Core.Path.{_≡_, refl, sym, ap, subst, _∙_}
 use mathlib.Core.Bool.{Bool, true, false, not}
 use mathlib.Core.List.{[]}
-use mathlib.Core.Option.{Option, some, none}
+use mathlib.Core.Option.{some}
 use lib.ListN.{replicate}
 use Rattle.basis.specs.Pick.{pick, both}
 use Rattle.basis.proofs.Both.{both-of}
@@ -23,7 +23,7 @@ use Rattle.read_head.specs.declared.Head.{Head}
 use Rattle.read_head.specs.Head.{ignored}
 use Rattle.site.specs.declared.Site.{Site}
 use Rattle.site.specs.Site.{linkAt, withLink, closeAt, maskOf}
-use Rattle.site.specs.Call.{Plan, only}
+use Rattle.site.specs.Call.{only}
 use Rattle.packet_answer.specs.Taken.{Taken}
 use Rattle.packet_greet.specs.Answered.{settled, answeredPlan}
 use Rattle.call_packet.specs.Packet.{classTaken, headTaken}

@@ -2,9 +2,9 @@
 -- Assumes nothing.
 use Prim.Native.Nat.{ℕ, _<_}
 use Prim.Native.String.{String}
-use mathlib.Core.Path.{_≡_, refl, sym, ap, subst, _∙_}
+use mathlib.Core.Path.{_≡_, refl, sym, ap, _∙_}
 use mathlib.Core.Bool.{Bool, true, false, not}
-use mathlib.Core.Option.{Option, some, none}
+use mathlib.Core.Option.{Option, some}
 use Rattle.basis.specs.Pick.{pick, both}
 use Rattle.basis.specs.Text.{text}
 use Rattle.basis.proofs.Both.{untrue, not-both}
@@ -22,8 +22,8 @@ use Rattle.call_packet.specs.Packet.{expected, unready, kindTaken, expectedTake
 use Rattle.machine.specs.Words.{Bytes}
 use Rattle.machine.specs.State.{Machine, lifeAt}
 use Rattle.machine.specs.Json.{readPacket, stringAt, stringOf, isType}
-use Rattle.machine.specs.Life.{isOver, isGreeting, isBeating, isUp}
-use Rattle.machine.specs.Answers.{isUnexpected, isTaken}
+use Rattle.machine.specs.Life.{isOver, isGreeting, isBeating}
+use Rattle.machine.specs.Answers.{isUnexpected}
 use Rattle.refine_read.specs.Verdicts.{verdictIn}
 use Rattle.refine_read.specs.Head.{kindOf, mTypeOf, Typed, version, watchdog, alarm, aggregated-request, status-request, status-subscribe, status-unsubscribe, not-taken}
 use Rattle.refine_read.specs.Reasons.{byVerdict, furtherReason, reasonBy}
@@ -128,7 +128,7 @@ module _ (s : Site) (m : Machine) (h : Abstracts s m) (l : ℕ) (b : l < m .setu
     of-version : Same Version
     of-version = staged Version judged-if (λ e. rw (same-beating, ty)) (λ e n. same-version s m h l b (judges e) t id v p j read ty)
 
-  -- on a link that Number 1 does not ignore it on
+  -- number 1 ignores in Greeting all but type Version
   module _ (heard : both (isGreeting (lifeAt m l)) (not (isType "Version" j)) ≡ false) where
     of-watchdog : stringAt "type" j ≡ some (text "Watchdog") → Same Watchdog
     of-watchdog ty =

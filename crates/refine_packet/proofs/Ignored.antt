@@ -1,6 +1,5 @@
 -- Number 1: the code ignores the packets that the machine ignores.
 -- Assumes nothing.
-use Prim.Native.Nat.{ℕ}
 use mathlib.Core.Path.{_≡_, refl, sym, ap, _∙_}
 use mathlib.Core.Bool.{Bool, true, false, not}
 use mathlib.Core.List.{List, [], _∷_}
@@ -18,7 +17,7 @@ use Rattle.read_head.specs.declared.Kind.the-variants.{Version, Watchdog, Alarm
 use Rattle.read_head.specs.declared.Class.{Class}
 use Rattle.read_head.specs.declared.Class.the-variants.{Ignored, Acked, NotAcked, Asked}
 use Rattle.read_head.specs.Head.{headAt}
-use Rattle.call_packet.specs.Packet.{isVersion, isGreeting, unawaited, early, ignoredBy}
+use Rattle.call_packet.specs.Packet.{isVersion, isGreeting, unawaited, ignoredBy}
 use Rattle.machine.specs.Words.{Bytes}
 use Rattle.machine.specs.State.{Awaited, Life}
 use Rattle.machine.specs.Json.{readPacket}

@@ -1,7 +1,7 @@
 -- The numbers of packet are the machine's, where what it comes to is.
 -- Assumes nothing.
 use Prim.Native.Nat.{ℕ, _<_}
-use mathlib.Core.Path.{_≡_, refl, sym, ap, _∙_}
+use mathlib.Core.Path.{_≡_, refl, sym, _∙_}
 use mathlib.Core.Bool.{Bool, true, false}
 use mathlib.Core.List.{List}
 use mathlib.Core.Option.{Option, some, none}
@@ -10,26 +10,24 @@ use lib.Dec.{ltb}
 use lib.ListN.{length}
 use borrow.Author.Tests.{leb-false}
 use Rattle.basis.specs.Pick.{pick, both}
-use Rattle.answer.specs.Order.{inOrder}
 use Rattle.identity.specs.declared.Identity.{Identity}
 use Rattle.identity.specs.Version.{version4Of, identityOf}
 use Rattle.awaited.specs.Awaited.{findOf, isAwaited as isFound}
 use Rattle.site.specs.declared.Site.{Site}
 use Rattle.site.specs.Site.{linkAt}
-use Rattle.site.specs.Call.{Plan, batchOf, issuing}
-use Rattle.call_packet.specs.Packet.{packetTaken, packetRefuses}
+use Rattle.site.specs.Call.{batchOf}
+use Rattle.call_packet.specs.Packet.{packetTaken}
 use Rattle.calls.specs.Calls.Call.{packet}
-use Rattle.machine.specs.Words.{Bytes, maybe}
+use Rattle.machine.specs.Words.{maybe}
 use Rattle.machine.specs.State.{Machine, lifeAt, Effect, only}
 use Rattle.machine.specs.Json.{readPacket}
 use Rattle.machine.specs.Answers.{isIgnored}
 use Rattle.machine.specs.Effects.{receives, effectOf}
-use Rattle.machine.specs.Step.{noSuchLink, badTime, isDownAt, isReplied, identityAwaited, sequenceEnds, conditions, numberOf}
+use Rattle.machine.specs.Step.{noSuchLink, badTime, isDownAt, isReplied, identityAwaited, sequenceEnds, conditions}
 use Rattle.refine_life.proofs.Questions.{questions}
 use Rattle.refine_pool.proofs.Same.{same-answers}
-use Rattle.refine_items.specs.Items.{SameIssued}
 use Rattle.refine_site.specs.Abstracts.{Abstracts}
-use Rattle.refine_site.specs.Calls.{callFor, firstRefused, SameCall, SamePlan}
+use Rattle.refine_site.specs.Calls.{SameCall, SamePlan}
 use Rattle.refine_site.proofs.Links.{same-link, same-time, same-down}
 use Rattle.refine_packet.specs.Heard.{SameHeard}
 use Rattle.refine_packet.proofs.Ignored.{same-ignored}

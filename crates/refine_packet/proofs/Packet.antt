@@ -3,7 +3,7 @@
 use Prim.Native.Nat.{ℕ, _<_}
 use mathlib.Core.Path.{_≡_, refl, sym, ap, subst, _∙_}
 use mathlib.Core.Bool.{Bool, true, false, not}
-use mathlib.Core.List.{List, []}
+use mathlib.Core.List.{[]}
 use mathlib.Core.Option.{Option, some, none}
 use lib.ListN.{replicate}
 use Rattle.basis.specs.Pick.{pick, both}
@@ -15,7 +15,7 @@ use Rattle.identity.specs.Version.{identityOf}
 use Rattle.json_value.specs.Grammar.{Json}
 use Rattle.read_head.specs.declared.Class.the-variants.{Asked}
 use Rattle.read_head.specs.declared.Head.{Head}
-use Rattle.read_head.specs.Head.{ignored, headAt}
+use Rattle.read_head.specs.Head.{ignored}
 use Rattle.site.specs.declared.Site.{Site}
 use Rattle.packet_answer.specs.Taken.{Taken}
 use Rattle.call_packet.specs.Packet.{askedTaken, headTaken, packetTaken}
@@ -27,8 +27,7 @@ use Rattle.machine.specs.Answers.{isAnswer, awaitedHere, isReadable, isIgnored,
 use Rattle.machine.specs.Effects.{answered, receives}
 use Rattle.machine.specs.Step.{isDownAt}
 use Rattle.refine_read.specs.Head.{kindOf, mTypeOf, answerOf, requestOf, headOf}
-use Rattle.refine_read.specs.Ignored.{isOf, foundBy}
-use Rattle.refine_read.specs.Reasons.{reasonBy}
+use Rattle.refine_read.specs.Ignored.{isOf}
 use Rattle.refine_read.proofs.Kept as Reads
 use Rattle.refine_site.specs.Abstracts.{Abstracts}
 use Rattle.refine_site.specs.Calls.{SamePlan}
