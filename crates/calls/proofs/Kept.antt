@@ -8,10 +8,10 @@ use Rattle.answer.specs.declared.Refusal.{Refusal}
 use Rattle.site.specs.declared.Site.{Site}
 use Rattle.site.specs.declared.Step.{Step}
 use Rattle.site.specs.Call.{Plan, stepOf, writtenTo, outAfter, Gives}
-use Rattle.numbers.specs.Numbers.{Numbers}
-use Rattle.numbers.specs.Steps.{Steps, Written}
-use Rattle.numbers.proofs.Given.{numbers}
-use Rattle.numbers.proofs.Stepped.{steps, written}
+use Rattle.calls.specs.Numbers.{Numbers}
+use Rattle.calls.specs.Steps.{Steps, Written}
+use Rattle.calls.proofs.Given.{numbers}
+use Rattle.calls.proofs.Stepped.{steps, written}
 use Rattle.calls.specs.Calls.{Call, timeOf, outputOf, refuses, planOf, endOf, stepBy}
 use Rattle.calls.specs.Claims.{Own, Numbered, Claims}
 

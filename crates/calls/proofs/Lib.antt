@@ -1,1 +1,4 @@
+-- The laws over all calls: the proofs.
+pub mod Given
+pub mod Stepped
 pub mod Kept

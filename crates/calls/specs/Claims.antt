@@ -21,8 +21,8 @@ use Rattle.call_input.specs.Inputs.{alarmStep, statusStep, aggregatedStep}
 use Rattle.call_tick.specs.Tick.{tickStep}
 use Rattle.call_pump.specs.Pump.{pumpRefuses, pumpPlan}
 use Rattle.call_packet.specs.Packet.{packetRefuses, packetTaken}
-use Rattle.numbers.specs.Numbers.{conditions, Numbers}
-use Rattle.numbers.specs.Steps.{Written}
+use Rattle.calls.specs.Numbers.{conditions, Numbers}
+use Rattle.calls.specs.Steps.{Written}
 use Rattle.calls.specs.Calls.{Call, timeOf, outputOf, refuses, planOf, endOf, stepBy, outBy}
 use Rattle.calls.specs.Calls.Call.{connect, disconnect, packet, alarm, status, aggregated, tick, pump}
 

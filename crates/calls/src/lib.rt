@@ -1,1 +1,1 @@
-// Every call as one definition, with what holds of each: the numbers, the next site and the output; there is no code here.
+// The calls after start as one type, what each does, and the laws over all of them: which number is given, and that a refused call changes nothing.

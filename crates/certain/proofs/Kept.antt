@@ -1,35 +1,18 @@
--- The three demands are kept.
+-- What is certain is proved.
 -- Assumes nothing.
-use Prim.Native.Nat.{ℕ}
-use mathlib.Core.Path.{_≡_, refl, sym, subst, _∙_}
-use mathlib.Core.List.{List, [], _∷_}
-use lib.ListN.{length}
-use Rattle.identity.specs.declared.Identity.{Identity}
-use Rattle.identity.specs.Read.{SixteenBytes}
-use Rattle.write_message.specs.Message.{Message}
-use Rattle.formedness.specs.Formedness.{Wrote}
-use Rattle.site.specs.declared.Site.{Site}
-use Rattle.identity.specs.Version.{identityOf}
-use Rattle.call_pump.specs.Claims.{Ready}
-use Rattle.call_pump.proofs.Kept.{kept as of-pump}
-use Rattle.calls.specs.Calls.{Call, stepBy, outBy, siteAfter}
-use Rattle.calls.specs.Calls.Call.{pump}
-use Rattle.sequences.specs.Typed.{EachTyped}
-use Rattle.demands.specs.Demand3.{Started}
-use Rattle.conduct.specs.Sends.{sentBy}
-use Rattle.refusals.proofs.Kept.{kept as numbers}
-use Rattle.sequences.proofs.Kept.{kept as sound}
-use Rattle.history.proofs.Kept.{kept as histories}
-use Rattle.conduct.proofs.Kept.{kept as conduct}
-use Rattle.reasons.proofs.Kept.{kept as reasons}
-use Rattle.greeting.proofs.Kept.{kept as greets}
-use Rattle.alarmout.proofs.Kept.{kept as alarms}
-use Rattle.demands.proofs.Kept.{kept as holding}
-use Rattle.demandstold.proofs.Kept.{kept as told}
-use Rattle.goesout.proofs.Kept.{kept as going-out}
-use Rattle.carried.proofs.Kept.{kept as carrying}
-use Rattle.marked.proofs.Kept.{kept as marked}
-use Rattle.equation.proofs.Calls.{equation}
+use Rattle.number.proofs.Kept.{kept as alphabet}
+use Rattle.number.proofs.RoundTrip.{signed-word}
+use Rattle.identity.proofs.Read.{answers as identity-read, read-written as identity-written}
+use Rattle.calendar.proofs.Reading.{answers as time-read, read-written as time-written}
+use Rattle.entry.proofs.RoundTrip.{round-trip}
+use Rattle.json_character.proofs.Kept.{kept as characters}
+use Rattle.json_text.proofs.Kept.{kept as strings}
+use Rattle.json_number.proofs.Kept.{kept as numbers}
+use Rattle.json_value.proofs.Kept.{kept as values}
+use Rattle.json_packet.proofs.Kept.{kept as packets}
+use Rattle.table_whole.proofs.Whole.{same-table}
+use Rattle.write_laws.proofs.Kept.{kept as messages}
+use Rattle.machine.proofs.Computed.{marked, conversation}
 use Rattle.demand_refused.proofs.Demand.{demand1}
 use Rattle.demand_told.proofs.Demand.{demand2}
 use Rattle.demand_greeted.proofs.Demand.{demand-greeted}
@@ -38,28 +21,12 @@ use Rattle.demand_held.proofs.Demand.{demand3}
 use Rattle.demand_happens.proofs.Pumped.{pumping}
 use Rattle.demand_happens.proofs.Greeting.{greeting}
 use Rattle.demand_happens.proofs.Records.{sending}
-use Rattle.certain.specs.Certain.{Pumps, OnTheMachine, Certain}
+use Rattle.equation.proofs.Calls.{equation}
+use Rattle.certain.specs.Certain.{Demands, Grammar, Codecs, Certain}
 
-pumps : (s : Site) → Started s → (cs : List Call) → EachTyped cs → (l t : ℕ) (random : Identity) (out : List ℕ) → SixteenBytes (random .bytes)
-    → Ready (siteAfter s cs) l t (identityOf random) (length out) → Pumps s cs l t random out
-pumps s b cs typed l t random out bytes ready =
-    let now = siteAfter s cs in
-    let c = pump l t random out in
-    let d = of-pump .done now l t (identityOf random) out (outBy now c) (stepBy now c) (record { step = refl; out = refl }) ready in
-    let one = conduct .sends s b cs .one l t random out (d .0) (d .1) in
-    let same : sentBy s cs c ≡ one .0 ∷ [] = sym (conduct .sends s b cs .sends c (d .0) (d .1)) ∙ one .1 in
+demands : Demands
+demands =
     record {
-      report = d .0;
-      done = d .1;
-      message = one .0;
-      first-due = same;
-      text = subst (λ (ms : List Message). Wrote ms out (outBy now c) (d .0)) same (conduct .sends s b cs .writes c (d .0) (bytes, typed) (d .1));
-    }
-
-machine : OnTheMachine
-machine =
-    record {
-      equation = equation;
       refusing = demand1;
       telling = demand2;
       greeted = demand-greeted;
@@ -70,11 +37,22 @@ machine =
       sending = sending;
     }
 
-pub kept : Certain
-kept =
+grammar : Grammar
+grammar = record { characters = characters; strings = strings; numbers = numbers; values = values; packets = packets }
+
+codecs : Codecs
+codecs =
     record {
-      machine = machine;
-      demand1 = record { numbers = numbers; sound = sound };
-      demand2 = record { histories = histories; conduct = conduct; reasons = reasons; issuing = told; pumps = pumps; greets = greets; alarms-go-out = alarms };
-      demand3 = record { holding = holding; told = told; carrying = carrying; going-out = going-out; marked = marked };
+      alphabet = alphabet;
+      time-read = time-read;
+      time-written = time-written;
+      identity-read = identity-read;
+      identity-written = identity-written;
+      record-back = λ e r v q. round-trip v q;
+      value-back = signed-word;
+      table-back = same-table;
+      messages = messages;
     }
+
+pub kept : Certain
+kept = record { equation = equation; demands = demands; grammar = grammar; codecs = codecs; marked = marked; conversation = conversation }

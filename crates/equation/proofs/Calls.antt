@@ -1,18 +1,18 @@
 -- Every call is the machine's, and so is what a host sees.
 -- Assumes nothing.
 use Rattle.calls.specs.Calls.Call.{connect, disconnect, packet, alarm, status, aggregated, tick, pump}
-use Rattle.refine_site.specs.Links.OfLink.{connects, disconnects}
-use Rattle.refine_site.proofs.Links.{link-calls}
-use Rattle.refine_input.specs.Inputs.OfInput.{of-alarm, of-status, of-aggregated}
-use Rattle.refine_input.proofs.Inputs.{input-calls}
-use Rattle.refine_tick.specs.Tick.OfTick.{of-tick}
-use Rattle.refine_tick.proofs.Tick.{tick-calls}
-use Rattle.refine_pump.specs.Pump.OfPump.{pumps}
-use Rattle.refine_pump.proofs.Pump.{pump-calls}
+use Rattle.refine_calls.specs.Links.OfLink.{connects, disconnects}
+use Rattle.refine_calls.proofs.Links.{link-calls}
+use Rattle.refine_calls.specs.Inputs.OfInput.{of-alarm, of-status, of-aggregated}
+use Rattle.refine_calls.proofs.Inputs.{input-calls}
+use Rattle.refine_calls.specs.Tick.OfTick.{of-tick}
+use Rattle.refine_calls.proofs.Tick.{tick-calls}
+use Rattle.refine_calls.specs.Pump.OfPump.{pumps}
+use Rattle.refine_calls.proofs.Pump.{pump-calls}
 use Rattle.refine_packet.specs.Packet.OfPacket.{packets}
 use Rattle.refine_packet.proofs.Packet.{packet-calls}
-use Rattle.equation.specs.Equation.{Equation, AllCalls}
-use Rattle.equation.proofs.Equation.{from-calls}
+use Rattle.equation.specs.Equation.{Equation}
+use Rattle.equation.proofs.Equation.{AllCalls, from-calls}
 
 all-calls : AllCalls
 all-calls s m h (connect l t) b u = link-calls s m h (connect l t) (connects l t) u

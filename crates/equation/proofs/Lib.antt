@@ -1,4 +1,5 @@
 -- What a host of the exported functions sees is what the machine says: the proofs.
+pub mod Closed
 pub mod Told
 pub mod Asked
 pub mod Equation

@@ -15,16 +15,21 @@ use Rattle.site.specs.declared.Site.{Site}
 use Rattle.site.specs.Call.{hintTime, hintBit, reportOf}
 use Rattle.sitec.specs.Outcome.{reportIn, outcomeOf}
 use Rattle.sound.specs.Sound.{Sound}
-use Rattle.formedness.specs.Formedness.{allBytes, Wrote}
+use Rattle.sequences.specs.Formedness.{allBytes, Wrote}
 use Rattle.calls.specs.Calls.{Call, outputOf, planOf, endOf, stepBy, outBy}
 use Rattle.calls.proofs.Kept.{kept as calls-kept}
 use Rattle.sequences.specs.Typed.{Typed}
 use Rattle.sequences.proofs.Kept.{kept as sequences-kept}
+use Rattle.write_message.specs.Message.{Message}
+use Rattle.write_message.specs.Listing.{bytesOf}
 use Rattle.machine.specs.State.{Outcome as MachineOutcome}
-use Rattle.refine_site.specs.Calls.{SameOutcome, maskFor, hintFor}
-use Rattle.refine_site.specs.Calls.SameOutcome.{refuses-both, does-both}
-use Rattle.equation.specs.Seen.{Seen, outcomeSeen, machineTold}
+use Rattle.demand_greeted.specs.Life.{closedBy}
+use Rattle.refine_calls.specs.Calls.{SameOutcome, maskFor, hintFor}
+use Rattle.refine_calls.specs.Calls.SameOutcome.{refuses-both, does-both}
+use Rattle.equation.specs.Seen.{Seen, written, tells}
 use Rattle.equation.specs.Seen.Seen.{told}
+use Rattle.equation.specs.Contracts.{linksIn, outcomeSeen}
+use Rattle.equation.proofs.Closed.{Same}
 
 abbrev hinted : Hint → Option ℕ
 hinted h = pick (eqb (hintBit h) 0) none (some (hintTime h))
@@ -34,20 +39,24 @@ same-hint none = refl
 same-hint (some t) = refl
 
 abbrev answerSeen : List ℕ → Answer → Seen
-answerSeen ys a = told (numberOf a) ys (reportIn a .written) (reportIn a .closed) (pick (eqb (reportIn a .hinted) 0) none (some (reportIn a .hint)))
+answerSeen ys a = told (numberOf a) ys (reportIn a .written) (linksIn (reportIn a .closed)) (pick (eqb (reportIn a .hinted) 0) none (some (reportIn a .hint)))
 
-pub told-same : (s : Site) → Sound s → (c : Call) → Typed c → (a : Answer) (x : MachineOutcome) → stepBy s c .answer ≡ a → SameOutcome s c a x
-    → outcomeSeen (outBy s c) (outcomeOf (stepBy s c)) ≡ machineTold (outputOf c) x
-told-same s sound c typed a x e (refuses-both r) = ap₂ answerSeen (calls-kept .numbered s c .same-bytes r e) e
-told-same s sound c typed a x e (does-both closed hint ec eh) =
-    let w : Wrote (planOf s c .messages) (outputOf c) (outBy s c) (reportOf (planOf s c) (endOf s c)) =
-    sequences-kept .writes s sound c typed (reportOf (planOf s c) (endOf s c)) e in
-    let bytes : outBy s c ≡ allBytes (planOf s c .messages) ++ drop (length (allBytes (planOf s c .messages))) (outputOf c) =
+all-written : (ms : List Message) → allBytes ms ≡ written ms
+all-written [] = refl
+all-written (m ∷ ms) = ap (λ (xs : List ℕ). bytesOf m ++ xs) (all-written ms)
+
+pub told-same : (s : Site) → Sound s → (c : Call) → Typed c → (a : Answer) (x : MachineOutcome) → Same (closedBy x) → stepBy s c .answer ≡ a → SameOutcome s c a x
+    → outcomeSeen (outBy s c) (outcomeOf (stepBy s c)) ≡ tells (outputOf c) x
+told-same s sound c typed a x links e (refuses-both r) = ap₂ answerSeen (calls-kept .numbered s c .same-bytes r e) e
+told-same s sound c typed a x links e (does-both closed hint ec eh) =
+    let ms : List Message = planOf s c .messages in
+    let w : Wrote ms (outputOf c) (outBy s c) (reportOf (planOf s c) (endOf s c)) = sequences-kept .writes s sound c typed (reportOf (planOf s c) (endOf s c)) e in
+    let counted : reportOf (planOf s c) (endOf s c) .written ≡ length (written ms) = w .counted ∙ ap (λ (xs : List ℕ). length xs) (all-written ms) in
+    let bytes : outBy s c ≡ written ms ++ drop (length (written ms)) (outputOf c) =
     sym (take-append-drop (reportOf (planOf s c) (endOf s c) .written) (outBy s c))
-    ∙ ap₂ (λ (p q : List ℕ). p ++ q) (w .first) (w .behind)
-    ∙ ap (λ (n : ℕ). allBytes (planOf s c .messages) ++ drop n (outputOf c)) (w .counted) in
+    ∙ ap₂ (λ (p q : List ℕ). p ++ q) (w .first ∙ all-written ms) (w .behind)
+    ∙ ap (λ (n : ℕ). written ms ++ drop n (outputOf c)) counted in
     ap (answerSeen (outBy s c)) e
-    ∙ ap (λ (ys : List ℕ). told 0 ys (reportOf (planOf s c) (endOf s c) .written) (planOf s c .closed) (hinted (planOf s c .hint))) bytes
-    ∙ ap (λ (n : ℕ). told 0 (allBytes (planOf s c .messages) ++ drop (length (allBytes (planOf s c .messages))) (outputOf c)) n (planOf s c .closed) (hinted (planOf s c .hint))) (w .counted)
-    ∙ ap₂ (λ (k : ℕ) (h : Option ℕ). told 0 (allBytes (planOf s c .messages) ++ drop (length (allBytes (planOf s c .messages))) (outputOf c)) (length (allBytes (planOf s c .messages))) k h)
-    ec (ap hinted eh ∙ same-hint hint)
+    ∙ ap₂ (λ (ys : List ℕ) (n : ℕ). told 0 ys n (linksIn (planOf s c .closed)) (hinted (planOf s c .hint))) bytes counted
+    ∙ ap₂ (λ (k : List ℕ) (h : Option ℕ). told 0 (written ms ++ drop (length (written ms)) (outputOf c)) (length (written ms)) k h)
+    (ap linksIn ec ∙ links) (ap hinted eh ∙ same-hint hint)

@@ -1,8 +1,10 @@
 -- What the exported functions' own contracts allow: each constructor cites the contract of the function of its name.
 -- Assumes nothing.
-use Prim.Native.Nat.{ℕ}
+use Prim.Native.Nat.{ℕ, _/_, _%_, _^_}
 use mathlib.Core.List.{List, [], _∷_}
-use lib.Dec.{ltb}
+use mathlib.Core.Option.{some, none}
+use lib.Dec.{eqb, ltb}
+use lib.ListN.{length}
 use lib.IntN.{ℤ}
 use contract.Lifetimes.{Lfts}
 use denote.Ref.{RefT, now}
@@ -41,10 +43,28 @@ use Rattle.sitec.proofs.rsmp_version_of.Reads as rsmp-version-of
 use Rattle.sitec.proofs.rsmp_version_of.Kinds as version-of-kinds
 use Rattle.sitec.proofs.rsmp_record.Reads as rsmp-record
 use Rattle.sitec.proofs.rsmp_record.Kinds as record-kinds
-use Rattle.calls.specs.Calls.Call.{connect, disconnect, packet, alarm, status, aggregated, tick, pump}
-use Rattle.equation.specs.Seen.{Ask, Seen, outcomeSeen, versionSeen}
+use Rattle.machine.specs.Words.{Bytes, if_then_else_, keep, upTo}
+use Rattle.machine.specs.State.{Act}
+use Rattle.machine.specs.State.Act.{connect, disconnect, packet, alarmInput, statusValue, aggregatedValue, tick, pump}
+use Rattle.equation.specs.Seen.{Ask, Seen}
 use Rattle.equation.specs.Seen.Ask.{call, held, lost, phase, version, record-of}
-use Rattle.equation.specs.Seen.Seen.{count, entry}
+use Rattle.equation.specs.Seen.Seen.{told, count, numbers, entry}
+
+-- the links of a word in which link l is bit l
+abbrev pub linksIn : ℕ → List ℕ
+linksIn word = keep (λ l. eqb (word / 2 ^ l % 2) 1) (upTo 4)
+
+-- what is seen of an outcome, and of the output afterwards
+abbrev pub outcomeSeen : Bytes → Outcome → Seen
+outcomeSeen output o = told (o .number) output (o .written) (linksIn (o .closed)) (if eqb (o .hinted) 0 then none else some (o .hint))
+
+-- a call that lends no output
+abbrev pub calls : ℕ → Act → Ask
+calls t act = call (record { time = t; act = act }) []
+
+-- one that does: its length is the room
+abbrev pub lends : ℕ → (ℕ → Act) → Bytes → Ask
+lends t act output = call (record { time = t; act = act (length output) }) output
 
 -- the table's bytes and the start values, and what is handed out
 pub data Starts : List ℕ → ℕ → ℕ → ℕ → ℕ → ℕ → Outcome → Type 0 where
@@ -53,24 +73,24 @@ pub data Starts : List ℕ → ℕ → ℕ → ℕ → ℕ → ℕ → Outcome �
 
 -- what a host sees of an ask, and the site afterwards
 pub data Allows (s : Site) : Ask → Seen → Site → Type 0 where
-  connects : (l t : ℕ) (o : Outcome) (e : AtExit (endedOf 0 connect-kinds.ps connect-kinds.r) tt) → rsmp-connect.Learnt tt (s, (l, (t, tt))) o e → Allows s (call (connect l t)) (outcomeSeen [] o) (o .site)
-  disconnects : (l t : ℕ) (o : Outcome) (e : AtExit (endedOf 0 disconnect-kinds.ps disconnect-kinds.r) tt) → rsmp-disconnect.Learnt tt (s, (l, (t, tt))) o e → Allows s (call (disconnect l t)) (outcomeSeen [] o) (o .site)
+  connects : (l t : ℕ) (o : Outcome) (e : AtExit (endedOf 0 connect-kinds.ps connect-kinds.r) tt) → rsmp-connect.Learnt tt (s, (l, (t, tt))) o e → Allows s (calls t (connect l)) (outcomeSeen [] o) (o .site)
+  disconnects : (l t : ℕ) (o : Outcome) (e : AtExit (endedOf 0 disconnect-kinds.ps disconnect-kinds.r) tt) → rsmp-disconnect.Learnt tt (s, (l, (t, tt))) o e → Allows s (calls t (disconnect l)) (outcomeSeen [] o) (o .site)
   packets : (κs : Lfts 2) (l t : ℕ) (random : Identity) (received out : RefT (List ℕ)) (o : Outcome) (e : AtExit (endedOf 2 packet-kinds.ps packet-kinds.r) κs)
       → rsmp-packet.Learnt κs (s, (l, (t, (random, (received, (out, tt)))))) o e
-      → Allows s (call (packet l t random (now received) (now out))) (outcomeSeen (now (e .1 .1 .1 .1 .1 .0)) o) (o .site)
+      → Allows s (lends t (packet l (random .bytes) (now received)) (now out)) (outcomeSeen (now (e .1 .1 .1 .1 .1 .0)) o) (o .site)
   -- active where it is not 0
-  alarms : (i active t : ℕ) (o : Outcome) (e : AtExit (endedOf 0 alarm-kinds.ps alarm-kinds.r) tt) → rsmp-alarm.Learnt tt (s, (i, (active, (t, tt)))) o e → Allows s (call (alarm i (ltb 0 active) t)) (outcomeSeen [] o) (o .site)
-  statuses : (i : ℕ) (v : ℤ) (t : ℕ) (o : Outcome) (e : AtExit (endedOf 0 status-kinds.ps status-kinds.r) tt) → rsmp-status.Learnt tt (s, (i, (v, (t, tt)))) o e → Allows s (call (status i v t)) (outcomeSeen [] o) (o .site)
-  aggregates : (v t : ℕ) (o : Outcome) (e : AtExit (endedOf 0 aggregated-kinds.ps aggregated-kinds.r) tt) → rsmp-aggregated.Learnt tt (s, (v, (t, tt))) o e → Allows s (call (aggregated v t)) (outcomeSeen [] o) (o .site)
-  ticks : (t : ℕ) (o : Outcome) (e : AtExit (endedOf 0 tick-kinds.ps tick-kinds.r) tt) → rsmp-tick.Learnt tt (s, (t, tt)) o e → Allows s (call (tick t)) (outcomeSeen [] o) (o .site)
+  alarms : (i active t : ℕ) (o : Outcome) (e : AtExit (endedOf 0 alarm-kinds.ps alarm-kinds.r) tt) → rsmp-alarm.Learnt tt (s, (i, (active, (t, tt)))) o e → Allows s (calls t (alarmInput i (ltb 0 active))) (outcomeSeen [] o) (o .site)
+  statuses : (i : ℕ) (v : ℤ) (t : ℕ) (o : Outcome) (e : AtExit (endedOf 0 status-kinds.ps status-kinds.r) tt) → rsmp-status.Learnt tt (s, (i, (v, (t, tt)))) o e → Allows s (calls t (statusValue i v)) (outcomeSeen [] o) (o .site)
+  aggregates : (v t : ℕ) (o : Outcome) (e : AtExit (endedOf 0 aggregated-kinds.ps aggregated-kinds.r) tt) → rsmp-aggregated.Learnt tt (s, (v, (t, tt))) o e → Allows s (calls t (aggregatedValue v)) (outcomeSeen [] o) (o .site)
+  ticks : (t : ℕ) (o : Outcome) (e : AtExit (endedOf 0 tick-kinds.ps tick-kinds.r) tt) → rsmp-tick.Learnt tt (s, (t, tt)) o e → Allows s (calls t tick) (outcomeSeen [] o) (o .site)
   pumps : (κs : Lfts 1) (l t : ℕ) (random : Identity) (out : RefT (List ℕ)) (o : Outcome) (e : AtExit (endedOf 1 pump-kinds.ps pump-kinds.r) κs)
       → rsmp-pump.Learnt κs (s, (l, (t, (random, (out, tt))))) o e
-      → Allows s (call (pump l t random (now out))) (outcomeSeen (now (e .1 .1 .1 .1 .0)) o) (o .site)
+      → Allows s (lends t (pump l (random .bytes)) (now out)) (outcomeSeen (now (e .1 .1 .1 .1 .0)) o) (o .site)
   reads-held : (l n : ℕ) (e : AtExit (endedOf 0 held-kinds.ps held-kinds.r) tt) → rsmp-held.Learnt tt (s, (l, tt)) n e → Allows s (held l) (count n) s
   reads-lost : (l n : ℕ) (e : AtExit (endedOf 0 lost-kinds.ps lost-kinds.r) tt) → rsmp-lost.Learnt tt (s, (l, tt)) n e → Allows s (lost l) (count n) s
   reads-phase : (l n : ℕ) (e : AtExit (endedOf 0 phase-kinds.ps phase-kinds.r) tt) → rsmp-phase.Learnt tt (s, (l, tt)) n e → Allows s (phase l) (count n) s
-  reads-version : (l : ℕ) (v : ChosenVersion) (e : AtExit (endedOf 0 version-of-kinds.ps version-of-kinds.r) tt) → rsmp-version-of.Learnt tt (s, (l, tt)) v e → Allows s (version l) (versionSeen v) s
-  reads-record : (l r : ℕ) (x : Reading) (e : AtExit (endedOf 0 record-kinds.ps record-kinds.r) tt) → rsmp-record.Learnt tt (s, (l, (r, tt))) x e → Allows s (record-of l r) (entry x) s
+  reads-version : (l : ℕ) (v : ChosenVersion) (e : AtExit (endedOf 0 version-of-kinds.ps version-of-kinds.r) tt) → rsmp-version-of.Learnt tt (s, (l, tt)) v e → Allows s (version l) (numbers (v .major ∷ v .minor ∷ v .patch ∷ [])) s
+  reads-record : (l r : ℕ) (x : Reading) (e : AtExit (endedOf 0 record-kinds.ps record-kinds.r) tt) → rsmp-record.Learnt tt (s, (l, (r, tt))) x e → Allows s (record-of l r) (entry (x .found) (x .bytes)) s
 
 -- ask after ask, each on the site that the one before left
 pub data Run : Site → List Ask → List Seen → Type 0 where

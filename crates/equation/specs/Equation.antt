@@ -5,22 +5,33 @@ use Prim.Native.Nat.{ℕ}
 use mathlib.Core.Path.{_≡_}
 use mathlib.Core.List.{List, []}
 use mathlib.Core.Option.{Option, some, none}
+use lib.Dec.{eqb}
 use Rattle.site.specs.declared.Site.{Site}
 use Rattle.sitec.specs.declared.Outcome.{Outcome}
-use Rattle.calls.specs.Calls.{Call, outputOf}
-use Rattle.machine.specs.State.{Start, Machine}
+use Rattle.machine.specs.Words.{Bytes, if_then_else_}
+use Rattle.machine.specs.State.{Start, Machine, Call}
 use Rattle.machine.specs.Table.{Begins}
-use Rattle.refine_site.specs.Calls.{SameFor}
-use Rattle.refine_start.specs.Start.{startFor}
-use Rattle.equation.specs.Seen.{Ask, Seen, numberIn, outputIn, outcomeSeen, machineSeen, BytesIn, AllTyped}
+use Rattle.equation.specs.Seen.{Ask, Seen, showsAll, AllTyped}
 use Rattle.equation.specs.Seen.Ask.{call}
 use Rattle.equation.specs.Seen.Seen.{told}
-use Rattle.equation.specs.Contracts.{Starts, Allows, Run}
+use Rattle.equation.specs.Contracts.{Starts, Allows, Run, outcomeSeen}
+
+-- the machine's start; no primary where it is 4294967295
+abbrev pub startFor : Bytes → ℕ → ℕ → ℕ → ℕ → ℕ → Start
+startFor table links primary period first time =
+    record {
+      table = table;
+      links = links;
+      primary = if eqb primary 4294967295 then none else some primary;
+      period = period;
+      first = first;
+      time = time;
+    }
 
 -- number 11 where no machine begins, else 0 and then what that machine shows
 abbrev pub Sees : Outcome → Option Machine → Type 0
-Sees o none = outcomeSeen [] o ≡ told 11 [] 0 0 none
-Sees o (some m) = (outcomeSeen [] o ≡ told 0 [] 0 0 none) × ((more : List Ask) → AllTyped more → (seen : List Seen) → Run (o .site) more seen → seen ≡ machineSeen m more)
+Sees o none = outcomeSeen [] o ≡ told 11 [] 0 [] none
+Sees o (some m) = (outcomeSeen [] o ≡ told 0 [] 0 [] none) × ((more : List Ask) → AllTyped more → (seen : List Seen) → Run (o .site) more seen → seen ≡ showsAll m more)
 
 pub record FromStart (start : Start) (o : Outcome) : Type 0 where
   pub machine : Option Machine
@@ -29,11 +40,8 @@ pub record FromStart (start : Start) (o : Outcome) : Type 0 where
   pub sees : Sees o machine
 
 pub record Equation : Type 0 where
-  pub from-start : (table : List ℕ) (links primary period first time : ℕ) (o : Outcome) → Starts table links primary period first time o
+  pub from-start : (table : Bytes) (links primary period first time : ℕ) (o : Outcome) → Starts table links primary period first time o
       → FromStart (startFor table links primary period first time) o
   -- "All but 0 change nothing: state, last time and lent bytes stay", of any site
-  pub refused : (s : Site) (c : Call) (seen : Seen) (after : Site) → Allows s (call c) seen after → (numberIn seen ≡ 0 → ⊥) → (after ≡ s) × (outputIn seen ≡ outputOf c)
-
--- of every call the code's and the machine's are the same: what the proof goes by
-abbrev pub AllCalls : Type 0
-AllCalls = SameFor BytesIn
+  pub refused : (s : Site) (c : Call) (output : Bytes) (number counted : ℕ) (after-bytes : Bytes) (closed : List ℕ) (hint : Option ℕ) (after : Site)
+      → Allows s (call c output) (told number after-bytes counted closed hint) after → (number ≡ 0 → ⊥) → (after ≡ s) × (after-bytes ≡ output)

@@ -1,6 +1,11 @@
 -- The claims of specs/Computed, computed.
 -- Assumes nothing.
-use mathlib.Core.Path.{refl}
+use Prim.Native.Nat.{ℕ}
+use mathlib.Core.Path.{_≡_, refl, ap, _∙_}
+use mathlib.Core.List.{List, [], _∷_, _++_}
+use lib.ListN.{take, replicate}
+use Rattle.bits.specs.Fields.{joined, split}
+use Rattle.bits.proofs.Fields.{before as first-fields, split-append}
 use Rattle.entry.specs.Flags.{alarmFlags, statusFlags}
 use Rattle.entry.specs.Layout.{bytesOf}
 use Rattle.json_character.specs.Char.{rawOf, charOf}
@@ -23,24 +28,31 @@ use Rattle.machine.specs.Items.{happens, subscribe, unsubscribe, interva
 use Rattle.machine.specs.Pool.{lose, makeRoom, issue}
 use Rattle.machine.specs.Effects.{connects, closes, ticks, sends, answers, answered, refuses, carriedOut, replying, receives, effectOf}
 use Rattle.machine.specs.Step.{conditions, step}
-use Rattle.machine.specs.Computed.{bothFull, Marked, Conversation}
+use Rattle.machine.specs.Computed.{bothFull, alarmBytes, table, EachComputes, Marked, Conversation}
+
+each : EachComputes table
+unfolding leapOf yearFrom monthFrom dateOf secondText milliText timeText alarmFlags statusFlags bytesOf bothFull lose makeRoom issue digits digitsBelow versionIn
+each = (refl, (refl, (refl, (refl, (refl, (refl, (refl, (refl, (refl, (refl, (refl, (refl, (refl, (refl, (refl, tt)))))))))))))))
+
+-- what stands behind the first sixteen bits: time 48, value 32, sequence 32
+abbrev behindFlags : List ℕ
+behindFlags = 48 ∷ 32 ∷ 32 ∷ []
+
+-- the first sixteen bits, and these behind them
+abbrev whole : ℕ → ℕ → ℕ
+whole time sequence = joined 0xC4 behindFlags (time ∷ 0 ∷ sequence ∷ [])
+
+bytes-are : (time sequence : ℕ) → alarmBytes time sequence ≡ split (replicate 2 8 ++ replicate 14 8) (whole time sequence)
+unfolding alarmFlags bytesOf
+bytes-are time sequence = refl
+
+begins : (time sequence : ℕ) → take 2 (alarmBytes time sequence) ≡ 0x00 ∷ 0xC4 ∷ []
+begins time sequence =
+    ap (take 2) (bytes-are time sequence ∙ split-append (replicate 2 8) (replicate 14 8) (whole time sequence))
+    ∙ ap (split (replicate 2 8)) (first-fields behindFlags (time ∷ 0 ∷ sequence ∷ []) refl 0xC4)
 
 pub marked : Marked
-unfolding leapOf yearFrom monthFrom dateOf secondText milliText timeText alarmFlags statusFlags bytesOf bothFull lose makeRoom issue digits digitsBelow versionIn
-marked =
-    record {
-      leap-day = refl;
-      a-time = refl;
-      last-time = refl;
-      status-record = refl;
-      alarm-record = refl;
-      both-full = refl;
-      first-of-link-2 = refl;
-      sixteenth = refl;
-      seventeenth = refl;
-      seventeenth-lost = refl;
-      same-version = refl;
-    }
+marked = record { all = each; begins = begins }
 
 pub conversation : Conversation
 unfolding rawOf charOf readChars decoded skipWs literal readScalar readName readStart readMark readEntry readItems readInside readValue noTwice allOnce once isPacket meaningOf hexDigit lowerHex identityText digits digitsBelow leapOf years months dayOf yearFrom monthFrom dateOf secondText milliText timeText readSecond readDecimals readRest readTime apart readNum readNumber versionIn close carriedBy dueUp due isIgnored needs reasons happens subscribe unsubscribe intervals becomes aggregates lose makeRoom issue connects closes ticks sends answers answered refuses carriedOut replying receives effectOf conditions step

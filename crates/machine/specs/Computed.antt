@@ -3,7 +3,7 @@
 use Prim.Native.Nat.{ℕ, _+_}
 use mathlib.Core.Path.{_≡_}
 use mathlib.Core.Bool.{Bool, true, false}
-use mathlib.Core.List.{List, [], _∷_, _++_}
+use mathlib.Core.List.{List, [], _∷_, _++_, map}
 use mathlib.Core.Option.{Option, some, none}
 use lib.IntN.{negsuc}
 use lib.ListN.{take}
@@ -14,13 +14,14 @@ use Rattle.write_message.specs.declared.Value.the-variants.{Undefined}
 use Rattle.write_message.specs.declared.Told.the-variants.{Response}
 use Rattle.write_message.specs.Message.{status}
 use Rattle.write_message.specs.Message.Message.{version, watchdog, ack, notAck, aggregated, statuses}
+use Rattle.machine.specs.Words.{Bytes, orElse, keep}
 use Rattle.machine.specs.State.{alarmOf, heldAs, Pool, poolOf}
 use Rattle.machine.specs.State.Event.{Issue}
 use Rattle.machine.specs.State.Content.{ofAlarm, ofStatus}
 use Rattle.machine.specs.State.Act.{connect, alarmInput, statusValue, tick, pump}
 use Rattle.machine.specs.State.Outcome.{refused, done}
 use Rattle.machine.specs.Json.{versionIn}
-use Rattle.machine.specs.Pool.{holds, issueAll}
+use Rattle.machine.specs.Pool.{isFor, holds, issueAll}
 use Rattle.machine.specs.Step.{outcomes, leaves}
 use Rattle.machine.specs.Readings.{recordBytes}
 use Rattle.machine.specs.Example.{
@@ -51,21 +52,52 @@ bothFull = issueAll (records 64 0 ++ records 64 1) (started 3 .pool)
 abbrev pub counts : Pool → List ℕ
 counts p = holds p 0 ∷ holds p 1 ∷ holds p 2 ∷ []
 
+-- the numbers of link 2's held records, oldest first
+abbrev pub numbersOf2 : Pool → List ℕ
+numbersOf2 p = map (λ h. h .sequence) (keep (isFor 2) (p .held))
+
+abbrev pub versionNumbers : Bytes → List ℕ
+versionNumbers s = orElse [] (versionIn s)
+
+-- alarm 3, link 0, Issue, unacknowledged, active, not suspended
+abbrev pub alarmBytes : ℕ → ℕ → Bytes
+alarmBytes time sequence = recordBytes (heldAs 0 (ofAlarm 3 (alarmOf true false false Issue time)) sequence false)
+
+-- ---- the cases that document 01 marks M, as one table: what is computed, and what the document says
+pub record Row : Type 0 where
+  pub computed : List ℕ
+  pub said : List ℕ
+
+abbrev pub row : List ℕ → List ℕ → Row
+row computed said = record { computed = computed; said = said }
+
+abbrev pub table : List Row
+table =
+    row (timeText 951782400000) (text "2000-02-29T00:00:00.000Z")
+    ∷ row (timeText 1254398371571) (text "2009-10-01T11:59:31.571Z")
+    ∷ row (timeText lastTime) (text "9999-12-31T23:59:59.999Z")
+    ∷ row (recordBytes (heldAs 1 (ofStatus 5 (some (negsuc 1)) false 1254398371571) 7 false)) (0x51 ∷ 0x60 ∷ 0x01 ∷ 0x24 ∷ 0x0F ∷ 0xF8 ∷ 0x26 ∷ 0xF3 ∷ 0xFF ∷ 0xFF ∷ 0xFF ∷ 0xFE ∷ 0x00 ∷ 0x00 ∷ 0x00 ∷ 0x07 ∷ [])
+    ∷ row (take 2 (alarmBytes 1254398371571 7)) (0x00 ∷ 0xC4 ∷ [])
+    ∷ row (counts bothFull) (64 ∷ 64 ∷ 0 ∷ [])
+    ∷ row (counts (issueAll (records 1 2) bothFull)) (63 ∷ 64 ∷ 1 ∷ [])
+    ∷ row (counts (issueAll (records 16 2) bothFull)) (56 ∷ 56 ∷ 16 ∷ [])
+    ∷ row (issueAll (records 16 2) bothFull .lost) (8 ∷ 8 ∷ 0 ∷ [])
+    ∷ row (take 1 (numbersOf2 (issueAll (records 16 2) bothFull))) (128 ∷ [])
+    ∷ row (counts (issueAll (records 17 2) bothFull)) (56 ∷ 56 ∷ 16 ∷ [])
+    ∷ row (issueAll (records 17 2) bothFull .lost) (8 ∷ 8 ∷ 1 ∷ [])
+    ∷ row (take 1 (numbersOf2 (issueAll (records 17 2) bothFull))) (129 ∷ [])
+    ∷ row (versionNumbers (text "3.2")) (versionNumbers (text "3.2.0"))
+    ∷ row (versionNumbers (text "3.2.0")) (3 ∷ 2 ∷ 0 ∷ [])
+    ∷ []
+
+abbrev pub EachComputes : List Row → Type 0
+EachComputes [] = Unit {0}
+EachComputes (r ∷ rs) = (r .computed ≡ r .said) × EachComputes rs
+
 pub record Marked : Type 0 where
-  pub leap-day : timeText 951782400000 ≡ text "2000-02-29T00:00:00.000Z"
-  pub a-time : timeText 1254398371571 ≡ text "2009-10-01T11:59:31.571Z"
-  pub last-time : timeText lastTime ≡ text "9999-12-31T23:59:59.999Z"
-  pub status-record : recordBytes (heldAs 1 (ofStatus 5 (some (negsuc 1)) false 1254398371571) 7 false)
-      ≡ 0x51 ∷ 0x60 ∷ 0x01 ∷ 0x24 ∷ 0x0F ∷ 0xF8 ∷ 0x26 ∷ 0xF3 ∷ 0xFF ∷ 0xFF ∷ 0xFF ∷ 0xFE ∷ 0x00 ∷ 0x00 ∷ 0x00 ∷ 0x07 ∷ []
-  pub alarm-record : take 2 (recordBytes (heldAs 0 (ofAlarm 3 (alarmOf true false false Issue 1254398371571)) 7 false)) ≡ 0x00 ∷ 0xC4 ∷ []
-  -- "held 64, 64, 0: a record for link 2 gives 63, 64, 1; the 16th gives 56, 56, 16; the 17th leaves these counts, link 2 losing its
-  -- own oldest"
-  pub both-full : counts bothFull ≡ 64 ∷ 64 ∷ 0 ∷ []
-  pub first-of-link-2 : counts (issueAll (records 1 2) bothFull) ≡ 63 ∷ 64 ∷ 1 ∷ []
-  pub sixteenth : counts (issueAll (records 16 2) bothFull) ≡ 56 ∷ 56 ∷ 16 ∷ []
-  pub seventeenth : counts (issueAll (records 17 2) bothFull) ≡ 56 ∷ 56 ∷ 16 ∷ []
-  pub seventeenth-lost : issueAll (records 17 2) bothFull .lost ≡ 8 ∷ 8 ∷ 1 ∷ []
-  pub same-version : versionIn (text "3.2") ≡ versionIn (text "3.2.0")
+  pub all : EachComputes table
+  -- the alarm's record begins so whatever its time and its number
+  pub begins : (time sequence : ℕ) → take 2 (alarmBytes time sequence) ≡ 0x00 ∷ 0xC4 ∷ []
 
 pub record Conversation : Type 0 where
   -- our Version, theirs acknowledged, our Watchdog, theirs acknowledged with its time as a hint

@@ -35,9 +35,9 @@ use Rattle.machine.specs.Answers.{isAnswer, wantsReply, reasonOf}
 use Rattle.machine.specs.Effects.{answered, refuses, carriedOut, replying, receives}
 use Rattle.refine_read.specs.Head.{answerClass, answerOf, requestOf, headOf}
 use Rattle.refine_read.proofs.Identity.{readable}
-use Rattle.refine_site.specs.Abstracts.{Abstracts}
-use Rattle.refine_site.specs.Calls.{SamePlan}
-use Rattle.refine_answered.proofs.Answered.{same-answered}
+use Rattle.refine_calls.specs.Abstracts.{Abstracts}
+use Rattle.refine_calls.specs.Calls.{SamePlan}
+use Rattle.refine_packet.proofs.Answered.{same-answered}
 use Rattle.refine_packet.specs.Heard.{SameHeard}
 
 -- an answer issues no records

@@ -28,17 +28,17 @@ use Rattle.refine_read.specs.Verdicts.{verdictIn}
 use Rattle.refine_read.specs.Head.{kindOf, mTypeOf, Typed, version, watchdog, alarm, aggregated-request, status-request, status-subscribe, status-unsubscribe, not-taken}
 use Rattle.refine_read.specs.Reasons.{byVerdict, furtherReason, reasonBy}
 use Rattle.refine_read.proofs.Kept as Reads
-use Rattle.refine_life.proofs.Questions.{questions}
-use Rattle.refine_site.specs.Abstracts.{Abstracts}
-use Rattle.refine_refused.specs.Taken.{SameTaken}
-use Rattle.refine_refused.proofs.Refused.{reasons, by-verdict}
-use Rattle.refine_greeted.specs.Greeted.{Judges, Beats}
-use Rattle.refine_greeted.proofs.Version.{same-version}
-use Rattle.refine_greeted.proofs.Watchdog.{same-watchdog}
-use Rattle.refine_ordered.specs.Ordered.{IsUp}
-use Rattle.refine_ordered.proofs.Alarm.{same-alarm}
-use Rattle.refine_ordered.proofs.Aggregated.{same-aggregated}
-use Rattle.refine_statuses.proofs.Statuses.{same-statuses}
+use Rattle.refine_parts.proofs.Questions.{questions}
+use Rattle.refine_calls.specs.Abstracts.{Abstracts}
+use Rattle.refine_packet.specs.Taken.{SameTaken}
+use Rattle.refine_packet.proofs.Refused.{reasons, by-verdict}
+use Rattle.refine_packet.specs.Greeted.{Judges, Beats}
+use Rattle.refine_packet.proofs.Version.{same-version}
+use Rattle.refine_packet.proofs.Watchdog.{same-watchdog}
+use Rattle.refine_packet.specs.Ordered.{IsUp}
+use Rattle.refine_packet.proofs.Alarm.{same-alarm}
+use Rattle.refine_packet.proofs.Aggregated.{same-aggregated}
+use Rattle.refine_packet.proofs.Statuses.{same-statuses}
 
 -- ---- the phases: connected, not Greeting, not Beating
 beats-is : (c v w : Bool) → not c ≡ false → both c (not v) ≡ false → pick (both c (both v (not w))) true (both c (both v w)) ≡ true

@@ -25,8 +25,8 @@ use Rattle.machine.specs.Life.{isGreeting as greetsIn, isBeating as beatsIn, is
 use Rattle.machine.specs.Answers.{isIgnored}
 use Rattle.refine_read.specs.Ignored.{AllSixteen, isVersion as versionIn, ignoredAs}
 use Rattle.refine_read.proofs.Kept as Reads
-use Rattle.refine_life.specs.Life.{SameLife}
-use Rattle.refine_life.proofs.Questions.{questions}
+use Rattle.refine_parts.specs.Life.{SameLife}
+use Rattle.refine_parts.proofs.Questions.{questions}
 
 pub all-sixteen : (xs : List Awaited) → ((w : Awaited) → Among w xs → SixteenBytes (w .identity)) → AllSixteen xs
 all-sixteen [] f = tt

@@ -1,4 +1,21 @@
--- Packet: the proofs.
+-- What a packet comes to is what it comes to in the machine: the proofs.
+pub mod Places
+pub mod Lookups
+pub mod Plans
+pub mod Answered
+pub mod Refused
+pub mod Acked
+pub mod Version
+pub mod Watchdog
+pub mod Replied
+pub mod Aggregated
+pub mod Changed
+pub mod Alarm
+pub mod Entries
+pub mod Changes
+pub mod Subscribing
+pub mod Request
+pub mod Statuses
 pub mod Ignored
 pub mod Numbers
 pub mod Answers

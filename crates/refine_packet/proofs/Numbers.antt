@@ -24,11 +24,11 @@ use Rattle.machine.specs.Json.{readPacket}
 use Rattle.machine.specs.Answers.{isIgnored}
 use Rattle.machine.specs.Effects.{receives, effectOf}
 use Rattle.machine.specs.Step.{noSuchLink, badTime, isDownAt, isReplied, identityAwaited, sequenceEnds, conditions}
-use Rattle.refine_life.proofs.Questions.{questions}
-use Rattle.refine_pool.proofs.Same.{same-answers}
-use Rattle.refine_site.specs.Abstracts.{Abstracts}
-use Rattle.refine_site.specs.Calls.{SameCall, SamePlan}
-use Rattle.refine_site.proofs.Links.{same-link, same-time, same-down}
+use Rattle.refine_parts.proofs.Questions.{questions}
+use Rattle.refine_parts.proofs.Same.{same-answers}
+use Rattle.refine_calls.specs.Abstracts.{Abstracts}
+use Rattle.refine_calls.specs.Calls.{SameCall, SamePlan}
+use Rattle.refine_calls.proofs.Links.{same-link, same-time, same-down}
 use Rattle.refine_packet.specs.Heard.{SameHeard}
 use Rattle.refine_packet.proofs.Ignored.{same-ignored}
 

@@ -29,10 +29,10 @@ use Rattle.machine.specs.Step.{isDownAt}
 use Rattle.refine_read.specs.Head.{kindOf, mTypeOf, answerOf, requestOf, headOf}
 use Rattle.refine_read.specs.Ignored.{isOf}
 use Rattle.refine_read.proofs.Kept as Reads
-use Rattle.refine_site.specs.Abstracts.{Abstracts}
-use Rattle.refine_site.specs.Calls.{SamePlan}
-use Rattle.refine_pump.proofs.Identity.{own-sixteen}
-use Rattle.refine_refused.specs.Taken.{SameTaken, effectBy}
+use Rattle.refine_calls.specs.Abstracts.{Abstracts}
+use Rattle.refine_calls.specs.Calls.{SamePlan}
+use Rattle.refine_calls.proofs.Identity.{own-sixteen}
+use Rattle.refine_packet.specs.Taken.{SameTaken, effectBy}
 use Rattle.refine_packet.specs.Heard.{SameHeard}
 use Rattle.refine_packet.specs.Packet.{PacketCalls}
 use Rattle.refine_packet.specs.Packet.OfPacket.{packets}

@@ -13,7 +13,7 @@ use Rattle.machine.specs.State.{Machine, lifeAt, only}
 use Rattle.machine.specs.Life.{isAwaited}
 use Rattle.machine.specs.Effects.{receives}
 use Rattle.machine.specs.Step.{isReplied}
-use Rattle.refine_site.specs.Calls.{SamePlan}
+use Rattle.refine_calls.specs.Calls.{SamePlan}
 
 -- on link l, at time t, the reply under the identity id; o is the packet's value
 pub record SameHeard (s : Site) (m : Machine) (l t : ℕ) (id : Identity) (x : Taken) (o : Option Json) : Type 0 where

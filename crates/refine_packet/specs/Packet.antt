@@ -5,7 +5,7 @@ use mathlib.Core.List.{List}
 use Rattle.identity.specs.declared.Identity.{Identity}
 use Rattle.calls.specs.Calls.{Call}
 use Rattle.calls.specs.Calls.Call.{packet}
-use Rattle.refine_site.specs.Calls.{SameFor}
+use Rattle.refine_calls.specs.Calls.{SameFor}
 
 pub data OfPacket : Call → Type 0 where
   packets : (l t : ℕ) (random : Identity) (received out : List ℕ) → OfPacket (packet l t random received out)

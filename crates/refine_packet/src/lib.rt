@@ -1,1 +1,1 @@
-// Packet: the code's call is the machine's; there is no code here.
+// What a packet comes to, by the code and by the machine.

@@ -1,3 +1,4 @@
+-- What is read of a packet is what the machine reads: the proofs.
 pub mod Words
 pub mod Usable
 pub mod Identity
@@ -8,3 +9,11 @@ pub mod Watchdog
 pub mod Ignored
 pub mod Reasons
 pub mod Kept
+pub mod Indexed
+pub mod Gathered
+pub mod Entries
+pub mod ListsKept
+pub mod Text
+pub mod Lists
+pub mod Checks
+pub mod VersionsKept

@@ -1,7 +1,9 @@
--- The code's readings of a packet in the machine's words.
+-- What is read of a packet, by the code and by the machine: head, needs and reasons, the lists of statuses, Version and its three checks.
 pub mod Verdicts
 pub mod Head
 pub mod Fields
 pub mod Ignored
 pub mod Reasons
 pub mod Claims
+pub mod Statuses
+pub mod Versions

@@ -1,1 +1,1 @@
-// What the code reads of a packet is what the machine reads of the same bytes: kind, identities, elements without lists. No code.
+// What is read of a packet, by the code and by the machine: head, needs and reasons, the lists of statuses, Version and its three checks.

@@ -13,15 +13,15 @@ use Rattle.identity.specs.Version.{identityOf}
 use Rattle.site.specs.declared.Site.{Site}
 use Rattle.site.specs.Call.{Plan, reportOf, stepOf, writtenTo, outAfter}
 use Rattle.write_message.specs.Message.{Message}
-use Rattle.numbers.proofs.Given.{numbers}
-use Rattle.numbers.proofs.Stepped.{steps}
+use Rattle.calls.proofs.Given.{numbers}
+use Rattle.calls.proofs.Stepped.{steps}
 use Rattle.sound.specs.Sound.{Sound}
 use Rattle.sound.proofs.Started.{started}
-use Rattle.soundcalls.proofs.Kept.{kept as each}
-use Rattle.soundpackets.proofs.Kept.{kept as parts}
-use Rattle.formedness.specs.Formedness.{Wrote}
-use Rattle.formedness.proofs.Plans.{plans}
-use Rattle.packetlaws.proofs.Kept.{kept as whole}
+use Rattle.sound.proofs.CallsKept.{kept as each}
+use Rattle.sound.proofs.PacketsKept.{kept as parts}
+use Rattle.sequences.specs.Formedness.{Wrote}
+use Rattle.sequences.proofs.Plans.{plans}
+use Rattle.sequences.proofs.PacketsKept.{kept as whole}
 use Rattle.calls.specs.Calls.{Call, refuses as refusesOf, planOf, outputOf, stepBy, outBy, siteAfter}
 use Rattle.calls.specs.Calls.Call.{connect, disconnect, packet, alarm, status, aggregated, tick, pump}
 use Rattle.sequences.specs.Typed.{Typed, EachTyped}

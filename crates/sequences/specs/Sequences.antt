@@ -10,7 +10,7 @@ use Rattle.site.specs.declared.Site.{Site}
 use Rattle.site.specs.declared.Step.{Step}
 use Rattle.call_start.specs.Starts.{Starts}
 use Rattle.sound.specs.Sound.{Sound}
-use Rattle.formedness.specs.Formedness.{Wrote}
+use Rattle.sequences.specs.Formedness.{Wrote}
 use Rattle.calls.specs.Calls.{Call, planOf, outputOf, stepBy, outBy, siteAfter}
 use Rattle.sequences.specs.Typed.{Typed, EachTyped}
 

@@ -1,1 +1,1 @@
-// The calls as one type, and what holds of a sound site over every sequence of them; there is no code here.
+// What a done call writes: every message of a sound site is well-formed; over every sequence of calls from every done start.

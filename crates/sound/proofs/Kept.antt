@@ -25,9 +25,9 @@ use Rattle.pool_batch.proofs.Kept.{kept as batched}
 use Rattle.site.specs.declared.Site.{Site}
 use Rattle.site.specs.Site.{badTimeAt, withIssued}
 use Rattle.site.specs.Call.{Plan, batchOf, answerOf, stepOf}
-use Rattle.numbers.specs.Numbers.{conditions}
-use Rattle.numbers.proofs.Given.{numbers}
-use Rattle.numbers.proofs.Stepped.{steps}
+use Rattle.calls.specs.Numbers.{conditions}
+use Rattle.calls.proofs.Given.{numbers}
+use Rattle.calls.proofs.Stepped.{steps}
 use Rattle.sound.specs.Sound.{EntryOf, SoundAt, Sound}
 use Rattle.sound.specs.Claims.{SoundPlan, Keeps}
 use Rattle.sound.proofs.Held.{held-added}

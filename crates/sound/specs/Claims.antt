@@ -12,7 +12,7 @@ use Rattle.site.specs.declared.Site.{Site}
 use Rattle.site.specs.declared.Step.{Step}
 use Rattle.site.specs.Call.{Plan, stepOf}
 use Rattle.call_start.specs.Starts.{Starts}
-use Rattle.numbers.specs.Numbers.{conditions}
+use Rattle.calls.specs.Numbers.{conditions}
 use Rattle.sound.specs.Sound.{Each, EntryOf, SoundAt, Sound}
 
 -- what a call lays down at this time: a site that is sound but for its records and its time, and sound records

@@ -1,1 +1,1 @@
-// What every site that start made keeps, whatever is called; there is no code here.
+// The invariants of a reachable site: start makes a sound site, and every call leaves one.

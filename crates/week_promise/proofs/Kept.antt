@@ -19,8 +19,8 @@ use Rattle.week_stream.specs.Packets.{entriesOf}
 use Rattle.week_stream.specs.Feed.{State, fed, fresh, stateOf}
 use Rattle.week_stream.proofs.Kept as Stream
 use Rattle.week_text.specs.Pieces.{reportPieces}
-use Rattle.week_report.specs.Report.{reportText}
-use Rattle.week_report.proofs.Kept as Report
+use Rattle.week_promise.specs.Report.{reportText}
+use Rattle.week_promise.proofs.ReportKept as Report
 use Rattle.weekc.specs.declared.Told.{Told}
 use Rattle.weekc.specs.Calls.{Begins, Feeds, Tells}
 use Rattle.week_promise.specs.Reading.{Reading, begun, further}

@@ -7,7 +7,7 @@ use lib.ListN.{length, take}
 use Rattle.week_stream.specs.Packets.{entriesOf}
 use Rattle.week_stream.specs.Feed.{fed, fresh, stateOf}
 use Rattle.week_tally.specs.Tally.Tally.{within}
-use Rattle.week_report.specs.Report.{reportText}
+use Rattle.week_promise.specs.Report.{reportText}
 use Rattle.weekc.specs.declared.Told.{Told}
 use Rattle.weekc.specs.Calls.{Tells}
 use Rattle.week_promise.specs.Reading.{Reading}

@@ -1,1 +1,1 @@
-// What is promised of a stream that is read from its beginning to its report; there is no code here.
+// What the report of a list of entries is, and that a stream read in any pieces prints it.

@@ -1,9 +1,0 @@
-pub mod History
-pub mod Answers
-pub mod Closes
-pub mod Due
-pub mod Reasons
-pub mod Sends
-pub mod Hints
-pub mod Acts
-pub mod Promises

@@ -1,6 +1,0 @@
-pub mod Received
-pub mod WithoutPacket
-pub mod Answered
-pub mod Started
-pub mod Typed
-pub mod Kept

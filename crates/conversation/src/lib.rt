@@ -1,1 +1,0 @@
-// A conversation, computed call by call; there is no code here.

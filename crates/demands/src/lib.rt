@@ -1,1 +1,0 @@
-// The demands over every sequence of calls from every accepted start; there is no code here.

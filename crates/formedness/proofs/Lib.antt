@@ -1,6 +1,0 @@
-pub mod Rows
-pub mod Tells
-pub mod Outputs
-pub mod Heads
-pub mod Entries
-pub mod Plans

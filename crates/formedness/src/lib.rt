@@ -1,1 +1,0 @@
-// Every message that a sound site writes is well-formed; there is no code here.

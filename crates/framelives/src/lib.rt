@@ -1,1 +1,0 @@
-// What the call packet does to the links and how it answers; there is no code here.

@@ -1,1 +1,0 @@
-// What is held goes out, over every sequence of calls; there is no code here.

@@ -1,9 +1,0 @@
-pub mod Links
-pub mod Moved
-pub mod Done
-pub mod Lived
-pub mod Born
-pub mod Stocked
-pub mod Stocking
-pub mod Heeded
-pub mod Spoken

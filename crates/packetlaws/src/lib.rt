@@ -1,1 +1,0 @@
-// What the calls packet and pump keep and write in a sound site; there is no code here.

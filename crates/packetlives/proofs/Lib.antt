@@ -1,4 +1,0 @@
-pub mod Comes
-pub mod Greeting
-pub mod Subscribing
-pub mod Kept

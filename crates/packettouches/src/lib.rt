@@ -1,1 +1,0 @@
-// By which acts pump and the packets touch the records held; there is no code here.

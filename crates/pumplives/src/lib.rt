@@ -1,1 +1,0 @@
-// What pump does to the links and which messages it may send; there is no code here.

@@ -1,3 +1,0 @@
--- Both answers: the proofs.
-pub mod Plans
-pub mod Answered

@@ -1,2 +1,0 @@
--- MessageAck and MessageNotAck to an awaited message of ours.
-pub mod Answered

@@ -1,0 +1,20 @@
+-- Every call but packet is the machine's: the proofs.
+pub mod Parts
+pub mod Steps
+pub mod Links
+pub mod Values
+pub mod First
+pub mod Start
+pub mod Readings
+pub mod Items
+pub mod Inputs
+pub mod Closing
+pub mod Tick
+pub mod Texts
+pub mod Messages
+pub mod Due
+pub mod After
+pub mod Identity
+pub mod Numbers
+pub mod Plans
+pub mod Pump

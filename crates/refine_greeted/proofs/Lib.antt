@@ -1,4 +1,0 @@
--- Their Version and Watchdog: the proofs.
-pub mod Acked
-pub mod Version
-pub mod Watchdog

@@ -1,2 +1,0 @@
--- Their Version and Watchdog.
-pub mod Greeted

@@ -1,1 +1,0 @@
-// Their Version and Watchdog: what the code does of one is what the machine does; there is no code here.

@@ -1,4 +1,0 @@
-pub mod Indexed
-pub mod Gathered
-pub mod Entries
-pub mod Kept

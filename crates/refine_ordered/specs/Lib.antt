@@ -1,2 +1,0 @@
--- Alarm and AggregatedStatusRequest.
-pub mod Ordered

@@ -1,0 +1,62 @@
+-- A packet that is acknowledged and not replied to.
+-- Assumes nothing.
+use Prim.Native.Nat.{ℕ, _<_}
+use mathlib.Core.Path.{_≡_, refl, sym, ap, subst, _∙_}
+use mathlib.Core.Bool.{Bool, false}
+use mathlib.Core.List.{List, [], _∷_}
+use mathlib.Core.Option.{Option, some, none}
+use native.Mathlib.Omega.{arith}
+use lib.Dec.{eqb}
+use borrow.Author.Tests.{ne-eqb}
+use Rattle.basis.specs.Pick.{pick}
+use Rattle.answer.specs.Given.{Hint}
+use Rattle.identity.specs.declared.Identity.{Identity}
+use Rattle.entry.specs.declared.Entry.{Entry}
+use Rattle.link.specs.declared.Role.the-variants.{Primary, Secondary}
+use Rattle.json_value.specs.Grammar.{Json}
+use Rattle.write_message.specs.Message.Message.{ack}
+use Rattle.site.specs.declared.Site.{Site}
+use Rattle.site.specs.Site.{roleOf}
+use Rattle.packet_answer.specs.Taken.{acked}
+use Rattle.machine.specs.Words.{Bytes, orElse, isNumber}
+use Rattle.machine.specs.State.{Machine, Effect, effect, withLife, lifeAt}
+use Rattle.machine.specs.State.Sent.{noRecord}
+use Rattle.machine.specs.Json.{stringOf}
+use Rattle.machine.specs.Life.{awaiting}
+use Rattle.machine.specs.Answers.{wantsReply}
+use Rattle.machine.specs.Effects.{carriedOut, replyMessage, replying}
+use Rattle.refine_parts.specs.Questions.{roleIn}
+use Rattle.refine_calls.specs.Abstracts.{Abstracts}
+use Rattle.refine_calls.specs.Calls.{SamePlan}
+use Rattle.refine_packet.specs.Taken.{SameTaken}
+
+-- the link's role
+pub same-role : (s : Site) (m : Machine) → Abstracts s m → (l : ℕ) → l < m .setup .links → roleOf s l ≡ roleIn m l
+same-role s m h l b = ap (λ (q : ℕ). pick (eqb l q) Primary Secondary) (h .items .setup .primary) ∙ by (m .setup .primary)
+  where
+    by : (o : Option ℕ) → pick (eqb l (orElse 65535 o)) Primary Secondary ≡ pick (isNumber l o) Primary Secondary
+    by none = ap (λ (c : Bool). pick c Primary Secondary) (ne-eqb l 65535 (λ e. omega (arith, h .items .setup .few, b, e)))
+    by (some q) = refl
+
+module _ (m : Machine) (l t : ℕ) (id : Bytes) (j : Json) where
+  unreplied : (e : Effect) → wantsReply (e .leaves) l j ≡ false
+      → replying l t id j e ≡ effect (e .leaves) (e .issues) (ack (stringOf "mId" j) ∷ []) (e .closed) (e .hint)
+  unfolding replying
+  unreplied e w =
+      ap (λ (b : Bool). pick b
+      (effect (withLife l (awaiting id t noRecord (lifeAt (e .leaves) l)) (e .leaves)) (e .issues)
+      (ack (stringOf "mId" j) ∷ replyMessage (e .leaves) t id j ∷ []) (e .closed) (e .hint))
+      (effect (e .leaves) (e .issues) (ack (stringOf "mId" j) ∷ []) (e .closed) (e .hint))) w
+
+module _ (s : Site) (m : Machine) (l t : ℕ) (id : Identity) (j : Json) where
+  -- e is what it does besides
+  pub only-acked : (after : Site) (es : List Entry) (hint : Hint) (e : Effect) → carriedOut l t j m ≡ e
+      → wantsReply m l j ≡ false → wantsReply (e .leaves) l j ≡ false → after .next ≡ s .next
+      → SamePlan (acked after es (stringOf "mId" j) hint .plan) (effect (e .leaves) (e .issues) (ack (stringOf "mId" j) ∷ []) (e .closed) (e .hint))
+      → SameTaken s m l t id j (acked after es (stringOf "mId" j) hint) none
+  only-acked after es hint e c w v n p =
+      record {
+        replies = sym w;
+        next = n;
+        plan = λ u. subst (SamePlan (acked after es (stringOf "mId" j) hint .plan)) (sym (ap (replying l t (id .bytes) j) c ∙ unreplied m l t (id .bytes) j e v)) p;
+      }

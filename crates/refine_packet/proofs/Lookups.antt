@@ -1,0 +1,101 @@
+-- Lookups are the machine's.
+-- Assumes nothing.
+use Prim.Native.Nat.{ℕ, zero, suc, _<_}
+use native.Mathlib.Omega.{arith}
+use mathlib.Core.Path.{_≡_, refl, sym, ap, _∙_}
+use mathlib.Core.Bool.{Bool}
+use mathlib.Core.List.{List, [], _∷_}
+use mathlib.Core.Option.{Option, some, none}
+use lib.Dec.{eqb}
+use lib.ListN.{length, getD}
+use borrow.Author.Tests.{eqb-true, eq-eqb}
+use Rattle.basis.specs.Pick.{both}
+use Rattle.basis.specs.Lists.{sameBytes}
+use Rattle.basis.proofs.Both.{both-true, both-of}
+use Rattle.basis.proofs.Same.{same-true, same-self}
+use Rattle.label.specs.Label.{labelOf, textOf}
+use Rattle.table_whole.specs.Table.{Row, noRow, Table}
+use Rattle.table_whole.specs.Allowed.{Every, Allowed}
+use Rattle.table_whole.specs.Allowed.Every.{more}
+use Rattle.table_whole.specs.Memory.{memoryOf}
+use Rattle.table_whole.specs.Lookup.{findComponent, findAlarm, findStatus, ComponentIs, AlarmIs, StatusIs}
+use Rattle.table_whole.proofs.Kept.{text-label}
+use Rattle.table_whole.proofs.Lookups.{component-found, alarm-found, status-found}
+use Rattle.packet_lookup.specs.declared.SoughtAlarm.the-variants.{Alarm, NoComponent, NoAlarm}
+use Rattle.packet_lookup.specs.Sought.{numbered, componentSought, orNoAlarm, alarmOf, alarmSought}
+use Rattle.machine.specs.Words.{Bytes, maybe}
+use Rattle.machine.specs.Table.{componentOf, alarmNumber, statusNumber}
+use Rattle.refine_packet.specs.Lookups.{soughtFor, Lookups, SameLookups}
+use Rattle.refine_packet.proofs.Places.{placed, within, same-place}
+
+every-at : {A : Type 0} {P : A → Type 0} (d : A) (xs : List A) → Every P xs → (i : ℕ) → i < length xs → P (getD xs i d)
+every-at d [] e i h = absurd (omega arith)
+every-at d (x ∷ xs) (more p e) zero h = p
+every-at d (x ∷ xs) (more p e) (suc i) h = every-at d xs e i (omega arith)
+
+abbrev isRow : ℕ → Bytes → Row → Bool
+isRow c code r = both (eqb (r .component) c) (sameBytes (r .code) code)
+
+abbrev isNamed : ℕ → Bytes → Bytes → Row → Bool
+isNamed c code name r = both (eqb (r .component) c) (both (sameBytes (r .code) code) (sameBytes (r .name) name))
+
+module _ (t : Table) (ok : Allowed t) where
+  component-same : (id : Bytes) → numbered (findComponent (memoryOf t) id) ≡ soughtFor (componentOf t id)
+  component-same id =
+      same-place (sameBytes id) [] (t .components) (omega (arith, ok .most-components)) (ComponentIs t id)
+      (λ i h e. sym (same-true id (getD (t .components) i []) e))
+      (λ i h p. ap (sameBytes id) p ∙ same-self id)
+      (findComponent (memoryOf t) id) (component-found t ok id) (componentOf t id) (placed (sameBytes id) [] (t .components) 0)
+
+  alarm-same : (c : ℕ) (code : Bytes) → numbered (findAlarm (memoryOf t) c code) ≡ soughtFor (alarmNumber t c code)
+  alarm-same c code =
+      same-place (isRow c code) noRow (t .alarms) (ok .most-alarms) (AlarmIs t c code)
+      (λ i h e.
+      let r : Row = getD (t .alarms) i noRow in
+      let q = both-true (eqb (r .component) c) (sameBytes (r .code) code) e in
+      record { component-is = eqb-true (r .component) c (q .0); code-is = same-true (r .code) code (q .1); name-is = every-at noRow (t .alarms) (ok .alarms) i h .name })
+      (λ i h p.
+      let r : Row = getD (t .alarms) i noRow in
+      both-of (eq-eqb (r .component) c (p .component-is)) (ap (λ (x : Bytes). sameBytes x code) (p .code-is) ∙ same-self code))
+      (findAlarm (memoryOf t) c code) (alarm-found t ok c code) (alarmNumber t c code) (placed (isRow c code) noRow (t .alarms) 0)
+
+  status-same : (c : ℕ) (code name : Bytes) → numbered (findStatus (memoryOf t) c code name) ≡ soughtFor (statusNumber t c code name)
+  status-same c code name =
+      same-place (isNamed c code name) noRow (t .statuses) (ok .most-statuses) (StatusIs t c code name)
+      (λ i h e.
+      let r : Row = getD (t .statuses) i noRow in
+      let q = both-true (eqb (r .component) c) (both (sameBytes (r .code) code) (sameBytes (r .name) name)) e in
+      let u = both-true (sameBytes (r .code) code) (sameBytes (r .name) name) (q .1) in
+      record { component-is = eqb-true (r .component) c (q .0); code-is = same-true (r .code) code (u .0); name-is = same-true (r .name) name (u .1) })
+      (λ i h p.
+      let r : Row = getD (t .statuses) i noRow in
+      both-of (eq-eqb (r .component) c (p .component-is))
+      (both-of (ap (λ (x : Bytes). sameBytes x code) (p .code-is) ∙ same-self code) (ap (λ (x : Bytes). sameBytes x name) (p .name-is) ∙ same-self name)))
+      (findStatus (memoryOf t) c code name) (status-found t ok c code name) (statusNumber t c code name) (placed (isNamed c code name) noRow (t .statuses) 0)
+
+  sought-component : (id : Bytes) → componentSought (memoryOf t) (labelOf id) ≡ soughtFor (componentOf t id)
+  sought-component id = ap (λ (x : Bytes). numbered (findComponent (memoryOf t) x)) (text-label id) ∙ component-same id
+
+  no-alarm : (o : Option ℕ) → orNoAlarm (soughtFor o) ≡ maybe NoAlarm Alarm o
+  no-alarm none = refl
+  no-alarm (some i) = refl
+
+  sought-alarm : (id code : Bytes) → alarmSought (memoryOf t) (labelOf id) (labelOf code) ≡ maybe NoComponent (λ (c : ℕ). maybe NoAlarm Alarm (alarmNumber t c code)) (componentOf t id)
+  sought-alarm id code = ap (alarmOf (memoryOf t) (labelOf code)) (sought-component id) ∙ by (componentOf t id)
+    where
+      by : (o : Option ℕ) → alarmOf (memoryOf t) (labelOf code) (soughtFor o) ≡ maybe NoComponent (λ (c : ℕ). maybe NoAlarm Alarm (alarmNumber t c code)) o
+      by none = refl
+      by (some c) = ap orNoAlarm (ap (λ (x : Bytes). numbered (findAlarm (memoryOf t) c x)) (text-label code) ∙ alarm-same c code) ∙ no-alarm (alarmNumber t c code)
+
+  lookups : Lookups t
+  lookups =
+      record {
+        component = sought-component;
+        alarm = sought-alarm;
+        status = λ c e. status-same c (textOf (e .code)) (textOf (e .name));
+        alarm-there = λ c code. within (isRow c code) noRow (t .alarms) (alarmNumber t c code) (placed (isRow c code) noRow (t .alarms) 0);
+        status-there = λ c code name. within (isNamed c code name) noRow (t .statuses) (statusNumber t c code name) (placed (isNamed c code name) noRow (t .statuses) 0);
+      }
+
+pub same-lookups : SameLookups
+same-lookups = lookups

@@ -1,0 +1,35 @@
+-- Plans that issue nothing and give no hint: what is left is the same, or the link is closed.
+-- Assumes nothing.
+use Prim.Native.Nat.{ℕ, _<_}
+use mathlib.Core.Path.{_≡_, refl}
+use mathlib.Core.List.{List, []}
+use mathlib.Core.Option.{none}
+use native.Mathlib.Omega.{arith}
+use Rattle.answer.specs.Given.Hint.{none as noHint}
+use Rattle.write_message.specs.Message.{Message}
+use Rattle.site.specs.declared.Site.{Site}
+use Rattle.site.specs.Site.{closeAt, maskOf}
+use Rattle.machine.specs.State.{Machine, effect}
+use Rattle.machine.specs.Effects.{closes}
+use Rattle.demand_held.proofs.Lists.Each.{no-more}
+use Rattle.refine_calls.specs.Abstracts.{Abstracts}
+use Rattle.refine_calls.specs.Calls.{SamePlan}
+use Rattle.refine_calls.proofs.Parts.{closed}
+
+pub left : (s : Site) (m : Machine) → Abstracts s m → (messages : List Message)
+    → SamePlan (record { site = s; issued = []; messages = messages; closed = 0; hint = noHint }) (effect m [] messages [] none)
+left s m h messages =
+    record { leaves = h; issued = record { issued = refl; told = no-more }; for-links = no-more; messages = refl; closed = refl; hint = refl }
+
+pub shut : (s : Site) (m : Machine) → Abstracts s m → (l : ℕ) → l < m .setup .links → (messages : List Message)
+    → SamePlan (record { site = closeAt s l; issued = []; messages = messages; closed = maskOf l; hint = noHint }) (closes l messages m)
+unfolding closes
+shut s m h l b messages =
+    record {
+      leaves = closed s m h l b;
+      issued = record { issued = refl; told = no-more };
+      for-links = no-more;
+      messages = refl;
+      closed = omega arith;
+      hint = refl;
+    }

@@ -1,0 +1,191 @@
+-- Their StatusRequest is the machine's.
+-- Assumes nothing.
+use Prim.Native.Nat.{ℕ, _<_}
+use Prim.Native.String.{String}
+use mathlib.Core.Path.{_≡_, refl, sym, ap, ap₂, subst, _∙_}
+use mathlib.Core.Bool.{Bool, true, false, not}
+use mathlib.Core.List.{List, [], _∷_, _++_, map}
+use mathlib.Core.Option.{Option, some, none}
+use lib.IntN.{ℤ}
+use lib.ListN.{length, getD}
+use native.Mathlib.Omega.{arith}
+use Rattle.basis.specs.Pick.{pick, both}
+use Rattle.basis.specs.Text.{text}
+use Rattle.basis.proofs.Both.{untrue}
+use Rattle.number.specs.Signed.{Signed32}
+use Rattle.number.proofs.RoundTrip.{signed-word}
+use Rattle.identity.specs.declared.Identity.{Identity}
+use Rattle.identity.specs.Read.{SixteenBytes}
+use Rattle.label.specs.declared.Label.{Label}
+use Rattle.label.specs.Label.{textOf}
+use Rattle.status.specs.declared.Status.{Status as Word}
+use Rattle.json_value.specs.Grammar.{Json}
+use Rattle.json_value.specs.Grammar.Json.{null}
+use Rattle.write_message.specs.declared.Value.{Value}
+use Rattle.write_message.specs.declared.Value.the-variants.{Recent, Undefined}
+use Rattle.write_message.specs.declared.Told.the-variants.{Response}
+use Rattle.write_message.specs.Message.{Message, Status, status}
+use Rattle.write_message.specs.Message.Message.{statuses}
+use Rattle.read_head.specs.declared.Verdict.{Verdict}
+use Rattle.read_head.specs.declared.Verdict.the-variants.{Good}
+use Rattle.read_lists.specs.declared.StatusEntry.{StatusEntry}
+use Rattle.read_lists.specs.declared.StatusFields.{StatusFields}
+use Rattle.read_lists.specs.Status.{statusAt}
+use Rattle.packet_lookup.specs.declared.Sought.{Sought}
+use Rattle.packet_lookup.specs.declared.Sought.the-variants.{Is}
+use Rattle.packet_lookup.specs.Sought.{componentSought, entryAt}
+use Rattle.send_message.specs.Sending.{statusValue}
+use Rattle.site.specs.declared.Site.{Site}
+use Rattle.packet_answer.specs.Taken.{Taken, notAcked, replied, unlessBusy, unknownStatus}
+use Rattle.packet_status.specs.StatusReply.{valueOf, toldOf, toldTo, response, passes, requestedOf, statusTaken}
+use Rattle.machine.specs.Words.{Bytes, maybe, isSome, orElse, any}
+use Rattle.machine.specs.State.{Machine, lifeAt, valueAt, only}
+use Rattle.machine.specs.Json.{stringAt, stringOf, entriesOf, isType}
+use Rattle.machine.specs.Messages.{valueOf as valueIn, answerEntry, responseMessage}
+use Rattle.machine.specs.Answers.{componentAsked, statusAsked, wantsReply}
+use Rattle.machine.specs.Items.{numberAsked}
+use Rattle.machine.specs.Effects.{carriedOut, replyMessage}
+use Rattle.refine_read.specs.Verdicts.{verdictIn}
+use Rattle.refine_read.specs.Reasons.{byVerdict as reasonBy, furtherReason, busyIf, anyUnknown}
+use Rattle.refine_read.proofs.Kept as Reads
+use Rattle.refine_read.specs.Statuses.{isRead, entryOf, StatusReads}
+use Rattle.refine_read.proofs.ListsKept as Lists
+use Rattle.refine_read.proofs.Indexed.{done, by-places}
+use Rattle.refine_parts.specs.Items.{statusFor}
+use Rattle.refine_parts.proofs.ItemLists.{append-nil, append-assoc}
+use Rattle.refine_calls.specs.Abstracts.{Abstracts}
+use Rattle.refine_packet.specs.Lookups.{soughtFor}
+use Rattle.refine_packet.specs.Taken.{SameTaken}
+use Rattle.refine_packet.proofs.Refused.{reasons, by-verdict}
+use Rattle.refine_packet.specs.Ordered.{IsUp}
+use Rattle.refine_packet.proofs.Replied.{reply}
+use Rattle.refine_packet.specs.Statuses.{SameStatusRequest}
+use Rattle.refine_packet.proofs.Entries.{component-sought, sought-at, all-known, there, first-known}
+
+module _ (j : Json) (ty : stringAt "type" j ≡ some (text "StatusRequest")) where
+  is-request : isType "StatusRequest" j ≡ true
+  is-request = rw ty
+
+  is-list : isRead false j ≡ true
+  is-list = rw ty
+
+  replies : (m : Machine) (l : ℕ) → wantsReply m l j ≡ true
+  replies m l = rw ty
+
+  does : (l t : ℕ) (m : Machine) → carriedOut l t j m ≡ only m
+  unfolding carriedOut
+  does l t m = rw ty
+
+  told-so : (m : Machine) (t : ℕ) (id : Bytes) → replyMessage m t id j ≡ responseMessage m t id j
+  told-so m t id = rw ty
+
+-- a status' value as it is
+value-same : (o : Option ℤ) → ((v : ℤ) → o ≡ some v → Signed32 v) → statusValue (statusFor o) ≡ valueIn false o
+value-same none f = refl
+value-same (some v) f = ap Recent (signed-word v (f v refl))
+
+-- entry after entry, each behind the ones before
+each-behind : {A B : Type 0} (k : A → B) (ys : List B) (xs : List A) → done (λ zs a. zs ++ (k a ∷ [])) ys xs ≡ ys ++ map k xs
+each-behind k ys [] = sym (append-nil ys)
+each-behind k ys (x ∷ xs) = each-behind k (ys ++ (k x ∷ [])) xs ∙ append-assoc ys (k x ∷ []) (map k xs)
+
+map-known : {A B : Type 0} (q : A → Bool) (k n : A → B) → ((a : A) → q a ≡ true → k a ≡ n a) → (xs : List A) → any (λ a. not (q a)) xs ≡ false → map k xs ≡ map n xs
+map-known q k n e [] u = refl
+map-known {B = B} q k n e (x ∷ xs) u =
+    ap₂ (λ (y : B) (ys : List B). y ∷ ys) (e x (first-known q x xs u .0)) (map-known q k n e xs (first-known q x xs u .1))
+
+module _ (s : Site) (m : Machine) (h : Abstracts s m) (l : ℕ) (b : l < m .setup .links) (up : IsUp (lifeAt m l)) (t : ℕ) (id : Identity) (v : SixteenBytes (id .bytes)) (j : Json) (ty : stringAt "type" j ≡ some (text "StatusRequest")) (f : StatusFields) (r : StatusReads false j f) where
+  -- an entry with a value
+  abbrev entryWith : (Json → Value) → Json → Status
+  entryWith value e = status (stringOf "sCI" e) (stringOf "n" e) (value e)
+
+  module _ (g : f .verdict ≡ Good) where
+    texts-so : (i : ℕ) → i < length (entriesOf "sS" j) → (x y : Value) → x ≡ y
+        → status (textOf (entryAt (f .entries) i .code)) (textOf (entryAt (f .entries) i .name)) x
+        ≡ status (stringOf "sCI" (getD (entriesOf "sS" j) i null)) (stringOf "n" (getD (entriesOf "sS" j) i null)) y
+    texts-so i a x y e =
+        ap (λ (w : StatusEntry). status (textOf (w .code)) (textOf (w .name)) x) (r .at g i (omega (arith, r .count g, a)))
+        ∙ ap₂ (λ (c n : Bytes). status c n x) (Reads.kept .kept (stringOf "sCI" (getD (entriesOf "sS" j) i null))) (Reads.kept .kept (stringOf "n" (getD (entriesOf "sS" j) i null)))
+        ∙ ap (status (stringOf "sCI" (getD (entriesOf "sS" j) i null)) (stringOf "n" (getD (entriesOf "sS" j) i null))) e
+
+    -- the values of the entries, as the code looks them up
+    abbrev valueFor : Option ℕ → Json → Value
+    valueFor none e = Undefined
+    valueFor (some c) e = valueOf s (soughtFor (statusAsked m j e))
+
+    told-at : (o : Option ℕ) → componentAsked m j ≡ o → (i : ℕ) → i < length (entriesOf "sS" j)
+        → toldOf s (soughtFor o) (entryAt (f .entries) i) ≡ entryWith (valueFor o) (getD (entriesOf "sS" j) i null)
+    unfolding toldOf
+    told-at none a i e = texts-so i e _ _ refl
+    told-at (some c) a i e = texts-so i e _ _ (ap (valueOf s) (sought-at s m h false j f r g c a i e))
+
+    told-all : (o : Option ℕ) → componentAsked m j ≡ o → toldTo s (soughtFor o) (f .entries) (f .count) ≡ map (entryWith (valueFor o)) (entriesOf "sS" j)
+    told-all o a =
+        ap (toldTo s (soughtFor o) (f .entries)) (r .count g)
+        ∙ by-places (λ (zs : List Status) (e : Json). zs ++ (entryWith (valueFor o) e ∷ [])) null (entriesOf "sS" j) (toldTo s (soughtFor o) (f .entries))
+        (λ i e. ap (λ (x : Status). toldTo s (soughtFor o) (f .entries) i ++ (x ∷ [])) (told-at o a i e))
+        ∙ each-behind (entryWith (valueFor o)) [] (entriesOf "sS" j)
+
+    value-so : (c : ℕ) → componentAsked m j ≡ some c → (e : Json) (o : Option ℕ) → statusAsked m j e ≡ o → isSome o ≡ true
+        → valueOf s (soughtFor o) ≡ valueIn false (valueAt m (orElse 0 o))
+    value-so c a e (some k) q y =
+        ap statusValue (h .items .statuses k (there s m h false j f r g c a e k q)) ∙ value-same (valueAt m k) (h .items .values k)
+    value-so c a e none q y = untrue y
+
+    abbrev answerBy : Option ℕ → Json → Status
+    answerBy o e = entryWith (λ x. maybe Undefined (λ (c : ℕ). valueIn false (valueAt m (numberAsked m j x))) o) e
+
+    entries-so : (o : Option ℕ) → componentAsked m j ≡ o → both (isSome o) (anyUnknown m j) ≡ false
+        → map (entryWith (valueFor o)) (entriesOf "sS" j) ≡ map (answerBy o) (entriesOf "sS" j)
+    entries-so none a u = refl
+    entries-so (some c) a u =
+        map-known (λ (e : Json). isSome (statusAsked m j e)) (entryWith (valueFor (some c))) (answerBy (some c))
+        (λ e y. ap (status (stringOf "sCI" e) (stringOf "n" e)) (value-so c a e (statusAsked m j e) refl y))
+        (entriesOf "sS" j) u
+
+    response-so : (o : Option ℕ) → componentAsked m j ≡ o → both (isSome o) (anyUnknown m j) ≡ false
+        → response s t (id .bytes) (soughtFor o) f ≡ replyMessage m t (id .bytes) j
+    unfolding response
+    response-so o a u =
+        ap₂ (λ (c : Bytes) (xs : List Status). statuses Response (id .bytes) c t xs)
+        (ap textOf (r .component g) ∙ Reads.kept .kept (stringOf "cId" j))
+        (told-all o a ∙ entries-so o a u ∙ ap (λ (q : Option ℕ). map (answerBy q) (entriesOf "sS" j)) (sym a))
+        ∙ sym (told-so j ty m t (id .bytes))
+
+    passes-so : (o : Option ℕ) → componentAsked m j ≡ o → passes s f (soughtFor o) ≡ not (both (isSome o) (anyUnknown m j))
+    passes-so none a = refl
+    passes-so (some c) a = all-known s m h false j f r g c a
+
+    abbrev answer : Option ℕ → Taken
+    answer o = unlessBusy s l (stringOf "mId" j) (replied s l t id (stringOf "mId" j) (response s t (id .bytes) (soughtFor o) f))
+
+    by-known : (o : Option ℕ) → componentAsked m j ≡ o → (z : Bool) → both (isSome o) (anyUnknown m j) ≡ z
+        → SameTaken s m l t id j (pick (not z) (answer o) (notAcked s (stringOf "mId" j) unknownStatus)) (pick z (some "Unknown status") (busyIf m l true))
+    by-known o a true u = reasons s m h l b t id j .unknown-status
+    by-known o a false u =
+        reply s m h l b up t id v j (response s t (id .bytes) (soughtFor o) f) (does j ty l t m) (replies j ty m l) (response-so o a u)
+
+    by-component : (o : Option ℕ) → componentAsked m j ≡ o
+        → SameTaken s m l t id j (requestedOf s l t id (stringOf "mId" j) f (soughtFor o)) (pick (both (isSome o) (anyUnknown m j)) (some "Unknown status") (busyIf m l true))
+    by-component o a =
+        subst (λ (x : Bool). SameTaken s m l t id j (pick x (answer o) (notAcked s (stringOf "mId" j) unknownStatus)) (pick (both (isSome o) (anyUnknown m j)) (some "Unknown status") (busyIf m l true)))
+        (sym (passes-so o a)) (by-known o a (both (isSome o) (anyUnknown m j)) refl)
+
+  abbrev reason : Option String
+  reason = pick (both (isSome (componentAsked m j)) (anyUnknown m j)) (some "Unknown status") (busyIf m l true)
+
+  good : f .verdict ≡ Good → SameTaken s m l t id j (requestedOf s l t id (stringOf "mId" j) f (componentSought (s .table) (f .component))) reason
+  good g =
+      subst (λ (x : Sought). SameTaken s m l t id j (requestedOf s l t id (stringOf "mId" j) f x) reason) (sym (component-sought s m h false j f r g))
+      (by-component g (componentAsked m j) refl)
+
+  taken : SameTaken s m l t id j (statusTaken s l t id (stringOf "mId" j) f) (reasonBy (verdictIn j) (furtherReason m l j))
+  unfolding statusTaken
+  taken =
+      subst (λ (x : Verdict). SameTaken s m l t id j (statusTaken s l t id (stringOf "mId" j) f) (reasonBy x (furtherReason m l j))) (r .verdict (is-list j ty))
+      (subst (λ (x : Option String). SameTaken s m l t id j (statusTaken s l t id (stringOf "mId" j) f) (reasonBy (f .verdict) x))
+      (sym (Reads.kept .further m l j .status-request (is-request j ty)))
+      (by-verdict s m h l b t id j (f .verdict) (requestedOf s l t id (stringOf "mId" j) f (componentSought (s .table) (f .component))) reason good))
+
+pub same-request : SameStatusRequest
+same-request s m h l b up t id v p j read ty = taken s m h l b up t id v j ty (statusAt false p) (Lists.kept .statuses false p j read)

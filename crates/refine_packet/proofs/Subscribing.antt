@@ -1,0 +1,155 @@
+-- Their StatusSubscribe and StatusUnsubscribe are the machine's.
+-- Assumes nothing.
+use Prim.Native.Nat.{ℕ, _<_}
+use Prim.Native.String.{String}
+use mathlib.Core.Path.{_≡_, refl, sym, ap, subst, _∙_}
+use mathlib.Core.Bool.{Bool, true, false, not}
+use mathlib.Core.List.{List, [], _∷_, map}
+use mathlib.Core.Option.{Option, some, none}
+use Rattle.basis.specs.Pick.{pick, both}
+use Rattle.basis.specs.Text.{text}
+use Rattle.answer.specs.Given.Hint.{none as noHint}
+use Rattle.identity.specs.declared.Identity.{Identity}
+use Rattle.entry.specs.declared.Entry.{Entry}
+use Rattle.json_value.specs.Grammar.{Json}
+use Rattle.write_message.specs.Message.Message.{ack}
+use Rattle.read_head.specs.declared.Verdict.{Verdict}
+use Rattle.read_head.specs.declared.Verdict.the-variants.{Good}
+use Rattle.read_lists.specs.declared.StatusFields.{StatusFields}
+use Rattle.read_lists.specs.Status.{statusAt}
+use Rattle.packet_lookup.specs.declared.Sought.{Sought}
+use Rattle.packet_lookup.specs.Sought.{componentSought, allStatuses}
+use Rattle.site.specs.declared.Site.{Site}
+use Rattle.packet_answer.specs.Taken.{notAcked, unknownStatus}
+use Rattle.packet_subscribe.specs.Subscribing.{replaced, records, changed, judged, asked, subscribingTaken}
+use Rattle.machine.specs.Words.{isSome}
+use Rattle.machine.specs.State.{Issued, Machine, withSubscriptions, Effect, effect}
+use Rattle.machine.specs.Json.{stringAt, stringOf, entriesOf, isType}
+use Rattle.machine.specs.Answers.{componentAsked, wantsReply}
+use Rattle.machine.specs.Items.{subscribe, unsubscribe}
+use Rattle.machine.specs.Effects.{carriedOut}
+use Rattle.demand_held.proofs.Lists.{Each, each-of}
+use Rattle.demand_held.proofs.Lists.Each.{no-more}
+use Rattle.demand_held.proofs.Issue.{For}
+use Rattle.refine_read.specs.Verdicts.{verdictIn}
+use Rattle.refine_read.specs.Reasons.{byVerdict as reasonBy, furtherReason, anyUnknown}
+use Rattle.refine_read.proofs.Kept as Reads
+use Rattle.refine_read.specs.Statuses.{isRead, StatusReads}
+use Rattle.refine_read.proofs.ListsKept as Lists
+use Rattle.refine_parts.specs.Items.{SameIssued}
+use Rattle.refine_calls.specs.Abstracts.{Abstracts}
+use Rattle.refine_calls.specs.Calls.{SamePlan}
+use Rattle.refine_packet.specs.Lookups.{soughtFor}
+use Rattle.refine_packet.specs.Taken.{SameTaken}
+use Rattle.refine_packet.proofs.Refused.{reasons, by-verdict}
+use Rattle.refine_packet.proofs.Acked.{only-acked}
+use Rattle.refine_packet.specs.Statuses.{SameStatusSubscribe, SameStatusUnsubscribe}
+use Rattle.refine_packet.proofs.Entries.{component-sought, all-known}
+use Rattle.refine_packet.proofs.Changes.{allBy, toldOf, subscriptions-so, all-told, records-so}
+
+-- the effect of either
+abbrev effectFor : Bool → Machine → ℕ → ℕ → Json → Effect
+effectFor true m l t j = subscribe m t l j
+effectFor false m l t j = unsubscribe m l j
+
+abbrev reasonFor : Machine → Json → Option String
+reasonFor m j = pick (both (isSome (componentAsked m j)) (not (anyUnknown m j))) none (some "Unknown status")
+
+module _ (s : Site) (m : Machine) (h : Abstracts s m) (l : ℕ) (b : l < m .setup .links) (t : ℕ) (id : Identity) (subscribing : Bool) (j : Json) (f : StatusFields) (r : StatusReads subscribing j f) (does : carriedOut l t j m ≡ effectFor subscribing m l t j) (silent : (n : Machine) → wantsReply n l j ≡ false) where
+  module _ (g : f .verdict ≡ Good) (c : ℕ) (a : componentAsked m j ≡ some c) (k : anyUnknown m j ≡ false) where
+    abbrev issuedBy : Bool → List Issued
+    issuedBy true = map (toldOf s m h l b t subscribing j f r g c a) (entriesOf "sS" j)
+    issuedBy false = []
+
+    abbrev leftBy : Bool → Machine
+    leftBy z = withSubscriptions (allBy s m h l b t subscribing j f r g c a z (entriesOf "sS" j) (m .subscriptions)) m
+
+    effect-so : (z : Bool) → effectFor z m l t j ≡ effect (leftBy z) (issuedBy z) [] [] none
+    unfolding subscribe unsubscribe
+    effect-so true = refl
+    effect-so false = refl
+
+    issued-so : (z : Bool) (after : Site)
+        → SameIssued (record { site = after; issued = pick z (records s l t c (f .entries) (f .count)) []; messages = ack (stringOf "mId" j) ∷ []; closed = 0; hint = noHint }) (issuedBy z)
+    issued-so true after = record { issued = records-so s m h l b t subscribing j f r g c a k; told = all-told s m h l b t subscribing j f r g c a (entriesOf "sS" j) k }
+    issued-so false after = record { issued = refl; told = no-more }
+
+    for-links : (z : Bool) → Each (For (m .setup .links)) (issuedBy z)
+    for-links true = each-of (toldOf s m h l b t subscribing j f r g c a) (λ e. b) (entriesOf "sS" j)
+    for-links false = no-more
+
+    done-so : SameTaken s m l t id j (changed subscribing s l t (stringOf "mId" j) f c) none
+    unfolding changed
+    done-so =
+        let now = subscriptions-so s m h l b t subscribing j f r g c a k in
+        only-acked s m l t id j (replaced subscribing s l t c (f .entries) (f .count)) (pick subscribing (records s l t c (f .entries) (f .count)) []) noHint
+        (effect (leftBy subscribing) (issuedBy subscribing) [] [] none) (does ∙ effect-so subscribing) (silent m) (silent (leftBy subscribing)) (now .next)
+        (record {
+          leaves = now .same;
+          issued = issued-so subscribing (replaced subscribing s l t c (f .entries) (f .count));
+          for-links = for-links subscribing;
+          messages = refl;
+          closed = refl;
+          hint = refl;
+        })
+
+  by-known : (g : f .verdict ≡ Good) (c : ℕ) → componentAsked m j ≡ some c → (z : Bool) → anyUnknown m j ≡ z
+      → SameTaken s m l t id j (pick (not z) (changed subscribing s l t (stringOf "mId" j) f c) (notAcked s (stringOf "mId" j) unknownStatus)) (pick (not z) none (some "Unknown status"))
+  by-known g c a false k = done-so g c a k
+  by-known g c a true k = reasons s m h l b t id j .unknown-status
+
+  by-component : (g : f .verdict ≡ Good) (o : Option ℕ) → componentAsked m j ≡ o
+      → SameTaken s m l t id j (asked subscribing s l t (stringOf "mId" j) f (soughtFor o)) (pick (both (isSome o) (not (anyUnknown m j))) none (some "Unknown status"))
+  unfolding judged
+  by-component g none a = reasons s m h l b t id j .unknown-status
+  by-component g (some c) a =
+      subst (λ (x : Bool). SameTaken s m l t id j (pick x (changed subscribing s l t (stringOf "mId" j) f c) (notAcked s (stringOf "mId" j) unknownStatus)) (pick (not (anyUnknown m j)) none (some "Unknown status")))
+      (sym (all-known s m h subscribing j f r g c a)) (by-known g c a (anyUnknown m j) refl)
+
+  good : f .verdict ≡ Good → SameTaken s m l t id j (asked subscribing s l t (stringOf "mId" j) f (componentSought (s .table) (f .component))) (reasonFor m j)
+  good g =
+      subst (λ (x : Sought). SameTaken s m l t id j (asked subscribing s l t (stringOf "mId" j) f x) (reasonFor m j)) (sym (component-sought s m h subscribing j f r g))
+      (by-component g (componentAsked m j) refl)
+
+  taken : isRead subscribing j ≡ true → furtherReason m l j ≡ reasonFor m j
+      → SameTaken s m l t id j (subscribingTaken subscribing s l t (stringOf "mId" j) f) (reasonBy (verdictIn j) (furtherReason m l j))
+  unfolding subscribingTaken
+  taken is further =
+      subst (λ (x : Verdict). SameTaken s m l t id j (subscribingTaken subscribing s l t (stringOf "mId" j) f) (reasonBy x (furtherReason m l j))) (r .verdict is)
+      (subst (λ (x : Option String). SameTaken s m l t id j (subscribingTaken subscribing s l t (stringOf "mId" j) f) (reasonBy (f .verdict) x)) (sym further)
+      (by-verdict s m h l b t id j (f .verdict) (asked subscribing s l t (stringOf "mId" j) f (componentSought (s .table) (f .component))) (reasonFor m j) good))
+
+module _ (j : Json) (ty : stringAt "type" j ≡ some (text "StatusSubscribe")) where
+  is-subscribe : isType "StatusSubscribe" j ≡ true
+  is-subscribe = rw ty
+
+  subscribe-silent : (l : ℕ) (m : Machine) → wantsReply m l j ≡ false
+  subscribe-silent l m = rw ty
+
+  subscribe-does : (l t : ℕ) (m : Machine) → carriedOut l t j m ≡ subscribe m t l j
+  unfolding carriedOut
+  subscribe-does l t m = rw ty
+
+module _ (j : Json) (ty : stringAt "type" j ≡ some (text "StatusUnsubscribe")) where
+  is-unsubscribe : isType "StatusUnsubscribe" j ≡ true
+  is-unsubscribe = rw ty
+
+  is-list : isRead false j ≡ true
+  is-list = rw ty
+
+  unsubscribe-silent : (l : ℕ) (m : Machine) → wantsReply m l j ≡ false
+  unsubscribe-silent l m = rw ty
+
+  unsubscribe-does : (l t : ℕ) (m : Machine) → carriedOut l t j m ≡ unsubscribe m l j
+  unfolding carriedOut
+  unsubscribe-does l t m = rw ty
+
+pub same-subscribe : SameStatusSubscribe
+same-subscribe s m h l b up t id v p j read ty =
+    taken s m h l b t id true j (statusAt true p) (Lists.kept .statuses true p j read) (subscribe-does j ty l t m) (subscribe-silent j ty l) (is-subscribe j ty)
+    (Reads.kept .further m l j .status-subscribe (is-subscribe j ty))
+
+pub same-unsubscribe : SameStatusUnsubscribe
+same-unsubscribe s m h l b up t id v p j read ty =
+    taken s m h l b t id false j (statusAt false p) (Lists.kept .statuses false p j read) (unsubscribe-does j ty l t m) (unsubscribe-silent j ty l) (is-list j ty)
+    (Reads.kept .further m l j .status-unsubscribe (is-unsubscribe j ty))

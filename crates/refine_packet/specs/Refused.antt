@@ -1,0 +1,49 @@
+-- Each reason of the code is the machine's: the same text, and the link closed by the same three. proofs/Refused.antt proves it.
+-- Assumes nothing.
+use Prim.Native.Nat.{ℕ, _<_}
+use Prim.Native.String.{String}
+use mathlib.Core.Option.{some}
+use Rattle.identity.specs.declared.Identity.{Identity}
+use Rattle.json_value.specs.Grammar.{Json}
+use Rattle.site.specs.declared.Site.{Site}
+use Rattle.packet_answer.specs.Taken.{
+  Taken,
+  notAcked,
+  closing,
+  missingElement,
+  badValue,
+  unexpected,
+  notReady,
+  rsmpVersion,
+  siteId,
+  sxlVersion,
+  unknownComponent,
+  unknownAlarm,
+  unknownStatus,
+  busy,
+}
+use Rattle.machine.specs.State.{Machine}
+use Rattle.machine.specs.Json.{stringOf}
+use Rattle.refine_calls.specs.Abstracts.{Abstracts}
+use Rattle.refine_packet.specs.Taken.{SameTaken}
+
+module _ (s : Site) (m : Machine) (l t : ℕ) (id : Identity) (j : Json) where
+  abbrev Same : Taken → String → Type 0
+  Same x reason = SameTaken s m l t id j x (some reason)
+
+  pub record SameReasons : Type 0 where
+    pub missing-element : Same (notAcked s (stringOf "mId" j) missingElement) "Missing element"
+    pub bad-value : Same (notAcked s (stringOf "mId" j) badValue) "Bad value"
+    pub is-unexpected : Same (notAcked s (stringOf "mId" j) unexpected) "Unexpected"
+    pub not-ready : Same (notAcked s (stringOf "mId" j) notReady) "Not ready"
+    -- "A failure of these three sends MessageNotAck and closes the link."
+    pub rsmp-version : Same (closing s l (stringOf "mId" j) rsmpVersion) "RSMP version"
+    pub site-id : Same (closing s l (stringOf "mId" j) siteId) "Site id"
+    pub sxl-version : Same (closing s l (stringOf "mId" j) sxlVersion) "SXL version"
+    pub unknown-component : Same (notAcked s (stringOf "mId" j) unknownComponent) "Unknown component"
+    pub unknown-alarm : Same (notAcked s (stringOf "mId" j) unknownAlarm) "Unknown alarm"
+    pub unknown-status : Same (notAcked s (stringOf "mId" j) unknownStatus) "Unknown status"
+    pub is-busy : Same (notAcked s (stringOf "mId" j) busy) "Busy"
+
+abbrev pub SameRefused : Type 0
+SameRefused = (s : Site) (m : Machine) → Abstracts s m → (l : ℕ) → l < m .setup .links → (t : ℕ) (id : Identity) (j : Json) → SameReasons s m l t id j

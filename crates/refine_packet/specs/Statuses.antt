@@ -1,0 +1,22 @@
+-- What they ask of statuses comes to what it comes to in the machine. proofs/ proves it.
+-- Assumes nothing.
+use mathlib.Core.Bool.{true, false}
+use Rattle.read_lists.specs.Status.{statusAt}
+use Rattle.packet_status.specs.StatusReply.{statusTaken}
+use Rattle.packet_subscribe.specs.Subscribing.{subscribingTaken}
+use Rattle.refine_packet.specs.Taken.{SameAsked}
+use Rattle.refine_packet.specs.Ordered.{IsUp}
+
+abbrev pub SameStatusRequest : Type 0
+SameStatusRequest = SameAsked "StatusRequest" IsUp (λ s l t id received p. statusTaken s l t id received (statusAt false p))
+
+abbrev pub SameStatusSubscribe : Type 0
+SameStatusSubscribe = SameAsked "StatusSubscribe" IsUp (λ s l t id received p. subscribingTaken true s l t received (statusAt true p))
+
+abbrev pub SameStatusUnsubscribe : Type 0
+SameStatusUnsubscribe = SameAsked "StatusUnsubscribe" IsUp (λ s l t id received p. subscribingTaken false s l t received (statusAt false p))
+
+pub record SameStatuses : Type 0 where
+  pub status-request : SameStatusRequest
+  pub status-subscribe : SameStatusSubscribe
+  pub status-unsubscribe : SameStatusUnsubscribe

@@ -1,0 +1,21 @@
+-- The parts of a site are the machine's: the proofs.
+pub mod LifeLists
+pub mod Waits
+pub mod Text
+pub mod Questions
+pub mod LifeActs
+pub mod PoolLists
+pub mod Entries
+pub mod Room
+pub mod Issue
+pub mod Others
+pub mod Asks
+pub mod Same
+pub mod ItemLists
+pub mod Setup
+pub mod Alarms
+pub mod Aggregated
+pub mod Subscriptions
+pub mod Statuses
+pub mod Tick
+pub mod ItemActs

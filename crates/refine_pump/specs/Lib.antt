@@ -1,3 +1,0 @@
--- Pump of the code and of the machine.
-pub mod Messages
-pub mod Pump

@@ -1,0 +1,123 @@
+-- The claims about the status types are kept.
+-- Assumes nothing.
+use Prim.Native.Nat.{ℕ}
+use native.Mathlib.Omega.{arith}
+use mathlib.Core.Path.{_≡_, refl, sym, ap, ap₂, _∙_}
+use mathlib.Core.Bool.{Bool, true, false}
+use mathlib.Core.List.{List, [], _∷_}
+use lib.Dec.{ltb}
+use Rattle.basis.specs.Text.{text}
+use Rattle.basis.proofs.Cases.{bool-cases}
+use Rattle.json_value.specs.Grammar.{Json}
+use Rattle.json_value.specs.Grammar.Json.{null}
+use Rattle.read_head.specs.declared.Verdict.{Verdict}
+use Rattle.read_head.specs.declared.Verdict.the-variants.{Good, Missing, Bad}
+use Rattle.read_head.specs.Word.{wordIn}
+use Rattle.read_head.specs.Values.{worst, gotLabel}
+use Rattle.read_lists.specs.declared.StatusEntry.{StatusEntry}
+use Rattle.read_lists.specs.declared.StatusList.{StatusList}
+use Rattle.read_lists.specs.Items.{Item, itemIn, listOf, listIn}
+use Rattle.read_lists.specs.Status.{noEntry, entryOfItem, noStatuses, pushEntry, statusesOf, statusIn}
+use Rattle.read_lists.proofs.Kept as Lists
+use Rattle.machine.specs.Json as Machine
+use Rattle.machine.specs.Json.{element, isType}
+use Rattle.machine.specs.Answers as Answers
+use Rattle.machine.specs.Answers.{Need, one, _is_, label, needs}
+use Rattle.refine_read.specs.Verdicts.{verdict, judged}
+use Rattle.refine_read.proofs.Words.{foundOf, element-found, judged-more, both-good}
+use Rattle.refine_read.proofs.Types.{type-is}
+use Rattle.refine_read.proofs.Fields.{label-judged, label-kept, last-judged}
+use Rattle.refine_read.proofs.Kept.{only}
+use Rattle.refine_read.specs.Statuses.{isRead, entryOf, StatusReads, Claims}
+use Rattle.refine_read.proofs.Indexed.{taken-at}
+use Rattle.refine_read.proofs.Gathered.{Pushes, Holds, entriesOf, list-judged, list-holds}
+use Rattle.refine_read.proofs.Entries.{isMissing, isBad, elementsOf, passes, item-judged, item-asks}
+
+module _ (subscribing : Bool) where
+  abbrev said : StatusList → Verdict
+  said l = l .verdict
+
+  abbrev one-said : Json → Verdict
+  one-said x = entryOfItem subscribing (itemIn x) .verdict
+
+  abbrev value : Json → StatusEntry
+  value x = entryOfItem subscribing (itemIn x) .entry
+
+  abbrev push : StatusList → Item → StatusList
+  push l x = pushEntry l (entryOfItem subscribing x)
+
+  abbrev count : StatusList → ℕ
+  count l = l .count
+
+  abbrev list : StatusList → List StatusEntry
+  list l = l .entries
+
+  pushes : (l : StatusList) (x : Json) → Pushes said count list one-said value l (push l (itemIn x)) x
+  unfolding pushEntry
+  pushes l x = bool-cases (ltb (l .count) 16)
+      (λ t. record { judged = rw t; counted = rw t; holds = rw t })
+      (λ f. record { judged = rw f; counted = rw f; holds = rw f })
+
+  abbrev theEntries : Need
+  theEntries = Answers.entries "sS" (elementsOf subscribing) (passes subscribing)
+
+  module _ (j : Json) where
+    list-in : listIn j (text "sS") ≡ listOf (foundOf (element "sS" j))
+    unfolding listIn
+    list-in = ap listOf (element-found j "sS")
+
+    entries-judged : statusesOf subscribing (listIn j (text "sS")) .verdict ≡ verdict (Answers.isMissing j theEntries) (Answers.isBad j theEntries)
+    entries-judged =
+        ap (λ i. statusesOf subscribing i .verdict) list-in
+        ∙ list-judged said count list one-said value push pushes (isMissing (elementsOf subscribing)) (isBad (elementsOf subscribing) (passes subscribing)) (item-judged subscribing)
+        (noStatuses Good) (noStatuses Missing) (noStatuses Bad) refl refl refl refl (element "sS" j)
+
+    entries-held : statusesOf subscribing (listIn j (text "sS")) .verdict ≡ Good → Holds (statusesOf subscribing (listIn j (text "sS"))) count list (entryOf subscribing) (entriesOf (element "sS" j))
+    entries-held g =
+        rw list-in
+        (list-holds said count list one-said value push pushes (isMissing (elementsOf subscribing)) (isBad (elementsOf subscribing) (passes subscribing)) (item-judged subscribing)
+        (noStatuses Good) (noStatuses Missing) (noStatuses Bad) refl refl refl refl (entryOf subscribing) (item-asks subscribing) refl (element "sS" j) (rw list-in at g))
+
+subscribe-needs : (j : Json) → isType "StatusSubscribe" j ≡ true → needs j ≡ one ("cId" is label) ∷ theEntries true ∷ []
+unfolding needs
+subscribe-needs j e = rw (type-is j "StatusSubscribe" e)
+
+request-needs : (j : Json) → isType "StatusRequest" j ≡ true → needs j ≡ one ("cId" is label) ∷ theEntries false ∷ []
+unfolding needs
+request-needs j e = rw (type-is j "StatusRequest" e)
+
+unsubscribe-needs : (j : Json) → isType "StatusUnsubscribe" j ≡ true → needs j ≡ one ("cId" is label) ∷ theEntries false ∷ []
+unfolding needs
+unsubscribe-needs j e = rw (type-is j "StatusUnsubscribe" e)
+
+status-needs : (subscribing : Bool) (j : Json) → isRead subscribing j ≡ true → needs j ≡ one ("cId" is label) ∷ theEntries subscribing ∷ []
+status-needs true j e = subscribe-needs j e
+status-needs false j e = bool-cases (isType "StatusRequest" j) (λ t. request-needs j t) (λ f. unsubscribe-needs j (rw f at e))
+
+module _ (subscribing : Bool) (j : Json) where
+  abbrev theList : StatusList
+  theList = statusesOf subscribing (listIn j (text "sS"))
+
+  parts : statusIn subscribing j .verdict ≡ Good → (gotLabel (wordIn j (text "cId")) .verdict ≡ Good) × (theList .verdict ≡ Good)
+  unfolding statusIn
+  parts g = both-good (gotLabel (wordIn j (text "cId")) .verdict) (theList .verdict) g
+
+  status-reads : StatusReads subscribing j (statusIn subscribing j)
+  unfolding statusIn
+  status-reads =
+      record {
+        verdict = λ e.
+            ap₂ worst (label-judged j "cId") (entries-judged subscribing j ∙ sym (last-judged j (theEntries subscribing)))
+            ∙ sym (judged-more j (one ("cId" is label)) (theEntries subscribing ∷ []))
+            ∙ ap (judged j) (sym (status-needs subscribing j e));
+        component = λ g. label-kept j "cId" (parts g .0);
+        entries = λ g. entries-held subscribing j (parts g .1) .all;
+        at = λ g.
+            let h = entries-held subscribing j (parts g .1) in
+            taken-at (entryOf subscribing) null noEntry (theList .count) (theList .entries) (Machine.entriesOf "sS" j) (h .all) (h .counted);
+        count = λ g. entries-held subscribing j (parts g .1) .counted;
+        most = λ g. let h = entries-held subscribing j (parts g .1) in omega (arith, h .counted, h .most);
+      }
+
+pub kept : Claims
+kept = record { statuses = λ subscribing s j e. rw (Lists.kept .status subscribing (only e)) (status-reads subscribing j) }

@@ -1,2 +1,0 @@
--- A packet with a reason: the proofs.
-pub mod Refused

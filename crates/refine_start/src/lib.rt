@@ -1,1 +1,0 @@
-// Start and the readings of the code and of the machine; there is no code here.

@@ -1,2 +1,0 @@
--- StatusRequest, StatusSubscribe and StatusUnsubscribe.
-pub mod Statuses

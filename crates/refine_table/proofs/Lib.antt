@@ -1,3 +1,0 @@
--- Lookups in the site table: the proofs.
-pub mod Places
-pub mod Lookups

@@ -1,3 +1,0 @@
--- A tick: the proofs.
-pub mod Closing
-pub mod Tick

@@ -1,2 +1,0 @@
--- A tick.
-pub mod Tick

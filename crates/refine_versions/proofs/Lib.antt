@@ -1,4 +1,0 @@
-pub mod Text
-pub mod Lists
-pub mod Checks
-pub mod Kept

@@ -1,3 +1,0 @@
-pub mod So
-pub mod OnlySo
-pub mod Kept

@@ -1,0 +1,26 @@
+-- Pump and what every kind of packet comes to keep a site sound.
+-- Assumes nothing.
+use Prim.Native.Nat.{ℕ}
+use mathlib.Core.Path.{_≡_}
+use Rattle.call_pump.specs.Pump.{pumpRefuses, pumpPlan}
+use Rattle.sound.proofs.Kept.{in-time, at-time}
+use Rattle.sound.proofs.Kept.{kept as keeps}
+use Rattle.sound.specs.Packets.{Packets}
+use Rattle.sound.proofs.Sends.{pump-plan}
+use Rattle.sound.proofs.Taken.{not-acked, answered-plan, version-sound, watchdog-sound, alarm-sound, aggregated-sound, status-sound}
+use Rattle.sound.proofs.Subscribed.{subscribing-sound}
+
+pub kept : Packets
+kept =
+    record {
+      pump = λ s h l time id room end.
+          keeps s time (pumpRefuses s l time id room) (pumpPlan s l time id) end h (λ n. pump-plan s time (at-time s time h (in-time n)) l id);
+      answered = answered-plan;
+      refused = not-acked;
+      version = version-sound;
+      watchdog = watchdog-sound;
+      alarm = alarm-sound;
+      aggregated = aggregated-sound;
+      status = status-sound;
+      subscribing = subscribing-sound;
+    }

@@ -1,0 +1,111 @@
+-- What StatusSubscribe and StatusUnsubscribe come to is a sound plan.
+-- Assumes nothing.
+use Prim.Native.Nat.{ℕ, zero, suc, _+_, _*_, _≤_, _<_}
+use mathlib.Core.Path.{_≡_, refl, sym, _∙_}
+use mathlib.Core.Bool.{Bool, true, false}
+use mathlib.Core.List.{List, [], _∷_, _++_}
+use mathlib.Core.Logic.{_⊎_, inl, inr}
+use native.Mathlib.Omega.{arith}
+use lib.ListN.{length, getD, set, length-set}
+use lib.Seq.{getD-set-other}
+use Rattle.basis.specs.Pick.{pick}
+use Rattle.basis.proofs.Cases.{picked}
+use Rattle.entry.specs.declared.Entry.{Entry}
+use Rattle.subscription.specs.declared.Subscription.{Subscription}
+use Rattle.subscription.specs.Subscription.{none}
+use Rattle.read_lists.specs.declared.StatusEntry.{StatusEntry}
+use Rattle.read_lists.specs.declared.StatusFields.{StatusFields}
+use Rattle.packet_lookup.specs.declared.Sought.{Sought}
+use Rattle.packet_lookup.specs.declared.Sought.the-variants.{Is, Nothing}
+use Rattle.packet_lookup.specs.Sought.{componentSought, statusSought, entryAt, allStatuses}
+use Rattle.site.specs.declared.Site.{Site}
+use Rattle.site.specs.Site.{linkAt}
+use Rattle.site.specs.Parts.{statusAt, withSubscription}
+use Rattle.packet_answer.specs.Taken.{Taken, notAcked, unknownStatus}
+use Rattle.packet_subscribe.specs.Subscribing.{wanted, replacedAt, replaced, recordOf, records, changed, judged, asked, subscribingTaken}
+use Rattle.sound.specs.Sound.{SoundSubscriptions, Each, EntryOf, SoundAt}
+use Rattle.sound.specs.Claims.{SoundPlan}
+use Rattle.sound.proofs.Parts.{with-subscriptions}
+use Rattle.sound.proofs.Entries.{each-append}
+use Rattle.sound.proofs.Alarms.{few-statuses}
+use Rattle.sound.proofs.Inputs.{status-entry}
+use Rattle.sound.proofs.Found.{Below, status-below}
+use Rattle.sound.proofs.Taken.{not-acked, by-verdict}
+
+-- a place of a configured link and a status of the table is none of the others
+elsewhere : (links statuses l k m j : ℕ) → l < links → k < statuses → statuses ≤ 32 → j < 32 → (links ≤ m) ⊎ (statuses ≤ j) → m * 32 + j ≡ l * 32 + k → ⊥
+elsewhere links statuses l k m j a b c d (inl h) e = omega arith
+elsewhere links statuses l k m j a b c d (inr h) e = omega arith
+
+store-sound : (links statuses : ℕ) (xs : List Subscription) → SoundSubscriptions links statuses xs → (l k : ℕ) (x : Subscription) → l < links → k < statuses → statuses ≤ 32
+    → SoundSubscriptions links statuses (set xs (l * 32 + k) x)
+store-sound links statuses xs h l k x a b c =
+    record {
+      many = length-set xs (l * 32 + k) x ∙ h .many;
+      others = λ m j d o. getD-set-other xs (l * 32 + k) (m * 32 + j) x none (elsewhere links statuses l k m j a b c d o) ∙ h .others m j d o;
+    }
+
+module _ (s : Site) (time : ℕ) (h : SoundAt time s) (l : ℕ) (configured : l < s .linkcount) where
+  few : s .table .statuscount ≤ 32
+  few = few-statuses (s .linkcount) (s .primary) (s .period) (s .table) (h .start)
+
+  -- the site with other subscriptions
+  record So (t : Site) : Type 0 where
+    site : SoundAt time t
+    links : t .linkcount ≡ s .linkcount
+    table : t .table .statuscount ≡ s .table .statuscount
+    entries : (es : List Entry) → Each (EntryOf s time) es → Each (EntryOf t time) es
+
+  replaced-at : (t : Site) → So t → (x : Subscription) (k : Sought) → Below (s .table .statuscount) k → So (replacedAt t l x k)
+  replaced-at t h x (Is k) i =
+      record {
+        site = with-subscriptions time t (h .site) (set (t .subscriptions) (l * 32 + k) x)
+            (store-sound (t .linkcount) (t .table .statuscount) (t .subscriptions) (h .site .subscriptions) l k x (rw (h .links) configured) (rw (h .table) i) (rw (h .table) few));
+        links = h .links;
+        table = h .table;
+        entries = h .entries;
+      }
+  replaced-at t h x Nothing i = h
+
+  replaced-sound : (subscribing : Bool) (c : ℕ) (es : List StatusEntry) (n : ℕ) → So (replaced subscribing s l time c es n)
+  replaced-sound subscribing c es zero = record { site = h; links = refl; table = refl; entries = λ xs a. a }
+  replaced-sound subscribing c es (suc n) =
+      replaced-at (replaced subscribing s l time c es n) (replaced-sound subscribing c es n) (wanted subscribing (entryAt es n) time) (statusSought (s .table) c (entryAt es n))
+      (status-below (s .linkcount) (s .primary) (s .period) (s .table) (h .start) c (entryAt es n))
+
+  record-sound : (k : Sought) → Below (s .table .statuscount) k → Each (EntryOf s time) (recordOf s l time k)
+  record-sound (Is k) i = (status-entry s time h (linkAt s l) l k (statusAt s k .value) (statusAt s k .known) (h .statuses .each k .value) configured i, tt)
+  record-sound Nothing i = tt
+
+  records-sound : (c : ℕ) (es : List StatusEntry) (n : ℕ) → Each (EntryOf s time) (records s l time c es n)
+  records-sound c es zero = tt
+  records-sound c es (suc n) =
+      each-append (EntryOf s time) (records s l time c es n) (recordOf s l time (statusSought (s .table) c (entryAt es n))) (records-sound c es n)
+      (record-sound (statusSought (s .table) c (entryAt es n)) (status-below (s .linkcount) (s .primary) (s .period) (s .table) (h .start) c (entryAt es n)))
+
+  module _ (subscribing : Bool) (received : List ℕ) (f : StatusFields) where
+    changed-sound : (c : ℕ) → SoundPlan time (changed subscribing s l time received f c .plan)
+    unfolding changed
+    changed-sound c =
+        let so = replaced-sound subscribing c (f .entries) (f .count) in
+        record {
+          site = so .site;
+          issued = so .entries (pick subscribing (records s l time c (f .entries) (f .count)) [])
+              (picked (Each (EntryOf s time)) subscribing (records s l time c (f .entries) (f .count)) [] (λ e. records-sound c (f .entries) (f .count)) (λ e. tt));
+        }
+
+    judged-sound : (c : ℕ) → SoundPlan time (judged subscribing s l time received f c .plan)
+    unfolding judged
+    judged-sound c =
+        picked (λ (t : Taken). SoundPlan time (t .plan)) (allStatuses (s .table) c (f .entries) (f .count)) (changed subscribing s l time received f c) (notAcked s received unknownStatus)
+        (λ e. changed-sound c) (λ e. not-acked s time h received unknownStatus)
+
+    asked-sound : (x : Sought) → SoundPlan time (asked subscribing s l time received f x .plan)
+    asked-sound (Is c) = judged-sound c
+    asked-sound Nothing = not-acked s time h received unknownStatus
+
+    pub subscribing-sound : SoundPlan time (subscribingTaken subscribing s l time received f .plan)
+    unfolding subscribingTaken
+    subscribing-sound =
+        by-verdict s time h (f .verdict) received (asked subscribing s l time received f (componentSought (s .table) (f .component)))
+        (asked-sound (componentSought (s .table) (f .component)))

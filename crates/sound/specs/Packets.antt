@@ -1,0 +1,39 @@
+-- Pump leaves a sound site sound, and what every kind of packet comes to is a sound plan, whatever the packet says.
+-- Statements only: their proof is `kept`.
+-- Assumes nothing.
+use Prim.Native.Nat.{ℕ, _<_}
+use mathlib.Core.Bool.{Bool}
+use mathlib.Core.List.{List}
+use Rattle.identity.specs.declared.Identity.{Identity}
+use Rattle.read_head.specs.declared.GotTime.{GotTime}
+use Rattle.read_head.specs.declared.GotLabel.{GotLabel}
+use Rattle.read_head.specs.declared.AlarmFields.{AlarmFields}
+use Rattle.read_lists.specs.declared.VersionFields.{VersionFields}
+use Rattle.read_lists.specs.declared.StatusFields.{StatusFields}
+use Rattle.site.specs.declared.Site.{Site}
+use Rattle.site.specs.Call.{stepOf}
+use Rattle.call_pump.specs.Pump.{pumpRefuses, pumpPlan}
+use Rattle.packet_answer.specs.Taken.{notAcked}
+use Rattle.packet_greet.specs.Answered.{answeredPlan}
+use Rattle.packet_greet.specs.Version.{versionTaken}
+use Rattle.packet_greet.specs.Watchdog.{watchdogTaken}
+use Rattle.packet_subscribe.specs.Subscribing.{subscribingTaken}
+use Rattle.packet_alarm.specs.Orders.{alarmTaken, aggregatedTaken}
+use Rattle.packet_status.specs.StatusReply.{statusTaken}
+use Rattle.sound.specs.Sound.{SoundAt, Sound}
+use Rattle.sound.specs.Claims.{SoundPlan}
+
+pub record Packets : Type 0 where
+  pub pump : (s : Site) → Sound s → (l time : ℕ) (id : Identity) (room end : ℕ) → Sound (stepOf s time (pumpRefuses s l time id room) (pumpPlan s l time id) end .site)
+  -- an answer to a message of ours
+  pub answered : (s : Site) (time : ℕ) → SoundAt time s → (l : ℕ) (id : Identity) (acknowledged : Bool) → SoundPlan time (answeredPlan s l id acknowledged)
+  -- a reason alone
+  pub refused : (s : Site) (time : ℕ) → SoundAt time s → (received : List ℕ) (reason : ℕ) → SoundPlan time (notAcked s received reason .plan)
+  pub version : (s : Site) (time : ℕ) → SoundAt time s → (l : ℕ) (received : List ℕ) (f : VersionFields) → SoundPlan time (versionTaken s l received f .plan)
+  pub watchdog : (s : Site) (time : ℕ) → SoundAt time s → (l : ℕ) (received : List ℕ) (f : GotTime) → SoundPlan time (watchdogTaken s l received f .plan)
+  pub alarm : (s : Site) (time : ℕ) → SoundAt time s → (l : ℕ) (id : Identity) (received : List ℕ) (f : AlarmFields) → SoundPlan time (alarmTaken s l time id received f .plan)
+  pub aggregated : (s : Site) (time : ℕ) → SoundAt time s → (l : ℕ) (id : Identity) (received : List ℕ) (f : GotLabel) → SoundPlan time (aggregatedTaken s l time id received f .plan)
+  pub status : (s : Site) (time : ℕ) → SoundAt time s → (l : ℕ) (id : Identity) (received : List ℕ) (f : StatusFields) → SoundPlan time (statusTaken s l time id received f .plan)
+  -- on a configured link
+  pub subscribing : (s : Site) (time : ℕ) → SoundAt time s → (l : ℕ) → l < s .linkcount → (subscribing : Bool) (received : List ℕ) (f : StatusFields)
+      → SoundPlan time (subscribingTaken subscribing s l time received f .plan)

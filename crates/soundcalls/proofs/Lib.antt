@@ -1,4 +1,0 @@
-pub mod Alarms
-pub mod Inputs
-pub mod Ticks
-pub mod Kept

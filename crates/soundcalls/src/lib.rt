@@ -1,1 +1,0 @@
-// Connect, disconnect, the inputs and tick keep a site sound; there is no code here.

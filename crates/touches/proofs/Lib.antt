@@ -1,2 +1,0 @@
-pub mod Touched
-pub mod Start

@@ -1,1 +1,0 @@
-// By which acts each call touches the records held; there is no code here.

@@ -1,4 +1,0 @@
-pub mod Tally
-pub mod Figures
-pub mod Report
-pub mod Claims
