@@ -69,8 +69,8 @@ module _ (all : AllCalls) where
       let st : SameStep s m (q .code) = steps s m h (q .code) (all s m h (q .code) (ok .1) (ok .0)) in
       record {
         seen = q .seen
-        ∙ told-same s sound (q .code) (ok .0) _ _ (closed-links m (h .items .setup .few) (callFor (q .code))) refl (st .outcome)
-        ∙ ap₂ (λ (c : MachineCall) (ys : List ℕ). tells ys (step m c .0)) (q .same-call) (q .same-output);
+            ∙ told-same s sound (q .code) (ok .0) _ _ (closed-links m (h .items .setup .few) (callFor (q .code))) refl (st .outcome)
+            ∙ ap₂ (λ (c : MachineCall) (ys : List ℕ). tells ys (step m c .0)) (q .same-call) (q .same-output);
         leaves = subst (λ (t : Site). Abstracts t (step m k .1)) (sym (q .after-it)) (subst (λ (c : MachineCall). Abstracts (stepBy s (q .code) .site) (step m c .1)) (q .same-call) (st .leaves));
         sound = subst Sound (sym (q .after-it)) (sequences-kept .sound s sound (q .code ∷ []) (ok .0, tt));
       }
