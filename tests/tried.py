@@ -1,8 +1,9 @@
 """Wrong programs and wrong promises that the prover must refuse, kept out of the gate for their time.
 
 tests/tried/CRATE/NAME.edit has the form of the gate's own edits (crates/CRATE/must-fail): `file:`, then pairs of `old:` and `new:`, the old
-text standing once in that file. Where a line `refused by: OTHER` comes first, CRATE is still proved with the edit, since definition and
-code were changed alike, and it is the crate OTHER that must refuse it.
+text standing once in that file; several files, each with its pairs, make one edit. A file is one of CRATE, or of any crate where it
+begins with `crates/`. Where a line `refused by: OTHER` comes first, CRATE is still proved with the edit, since definition and code were
+changed alike, or since it is a rule of the machine, and it is the crate OTHER that must refuse it.
 
   tried.py --applies         every edit, these and the gate's, still applies; proves nothing, takes a second
   tried.py CRATE ..          tries the edits of these crates
@@ -29,6 +30,7 @@ class Edit:
                 self.refuser = line[len(REFUSER):].strip()
             elif line.startswith("file: "):
                 place = line[len("file: "):]
+                place = place if place.startswith("crates/") else f"crates/{crate}/{place}"
             elif line.startswith("old: "):
                 old = line[len("old: "):]
             elif line.startswith("new:"):
@@ -39,7 +41,7 @@ class Edit:
         if not self.changes:
             return "it changes nothing"
         for place, old, _ in self.changes:
-            path = ROOT / "crates" / self.crate / place
+            path = ROOT / place
             if not path.is_file():
                 return f"no file {place}"
             stands = path.read_text().count(old)
@@ -50,9 +52,12 @@ class Edit:
         return None
 
     def apply(self, root):
+        """Gives the files as they were."""
+        before = {root / place: (root / place).read_text() for place, _, _ in self.changes}
         for place, old, new in self.changes:
-            path = root / "crates" / self.crate / place
+            path = root / place
             path.write_text(path.read_text().replace(old, new))
+        return before
 
 
 def edits(folder, pattern):
@@ -76,13 +81,10 @@ def applies():
 
 def refused(edit, root):
     """Whether the crate that must refuse the edit does, everything below it proved."""
-    crate = root / "crates" / edit.crate
-    kept = pathlib.Path(tempfile.mkdtemp()) / "kept"
-    shutil.copytree(crate, kept)
-    edit.apply(root)
+    before = edit.apply(root)
     done = subprocess.run(["rt", "check", edit.refuser], cwd=root, stdout=subprocess.PIPE, stderr=subprocess.STDOUT, text=True)
-    shutil.rmtree(crate)
-    shutil.move(kept, crate)
+    for path, text in before.items():
+        path.write_text(text)
     said = [line for line in done.stdout.split("\n") if line.startswith("rt: ") and "NOT PROVED" in line]
     return done.returncode == 1 and len(said) == 1 and said[0].startswith(f"rt: {edit.refuser} NOT PROVED (exit 1")
 

@@ -10,7 +10,10 @@ use Rattle.answer.specs.declared.Report.{Report}
 use Rattle.answer.specs.declared.Answer.the-variants.{Done, Refused}
 use Rattle.site.specs.declared.Site.{Site}
 use Rattle.site.specs.Site.{badTimeAt}
-use Rattle.site.specs.Call.{Plan, never, stepped, refused, stepOf, batchOf}
+use Rattle.site.specs.Call.{Plan, never, stepped, refused, reportOf, stepOf, batchOf}
+use Rattle.store_site.specs.Layout.{withLast}
+use Rattle.store_call.specs.Issued.{issuedIn}
+use Rattle.store_call.proofs.IssuedLaws.{issued-end}
 use Rattle.call_input.specs.Inputs.{planned, itemRefuses, aggregatedRefuses}
 
 ended : (s t : Site) (r : Report) (spent : Bool)
@@ -21,6 +24,13 @@ ended s t r false = refl
 module _ (s : Site) (time : ℕ) (p : Plan) where
   done : planned s time p ≡ stepOf s time never p 0
   done = ended s _ _ (batchOf p .spent)
+
+  -- its records are judged, and then issued in place
+  pub planned-spent : batchOf p .spent ≡ true → refused s SequenceSpent ≡ planned s time p
+  planned-spent h = rw h refl
+
+  pub planned-done : batchOf p .spent ≡ false → record { site = withLast (issuedIn (p .site) (p .issued)) time; answer = Done (reportOf p 0) } ≡ planned s time p
+  planned-done h = rw (h, issued-end (p .site) (p .issued) time) refl
 
   pub late : badTimeAt s time ≡ true → refused s BadTime ≡ stepOf s time (aggregatedRefuses s time) p 0
   late h = rw h refl

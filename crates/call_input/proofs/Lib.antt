@@ -1,4 +1,5 @@
 pub mod Ends
+pub mod InPlace
 pub mod Lists
 pub mod Alarms
 pub mod Statuses

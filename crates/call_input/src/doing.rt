@@ -1,39 +1,82 @@
-// What an input does where nothing refuses it but its records.
+// What an input does where nothing refuses it but its records: they are counted, and only then is something changed.
 ghost use mathlib.Core.Path.{_≡_};
-ghost use Rattle.call_input.specs.Inputs.{planned, alarmPlan, statusPlan, aggregatedPlan};
+ghost use lib.ListN.{length};
+ghost use Rattle.table_whole.specs.declared.SiteTable.{SiteTable};
+ghost use Rattle.site.specs.declared.Site.{Site};
+ghost use Rattle.site.specs.Site.{withAggregated};
+ghost use Rattle.site.specs.Parts.{withAlarm, withStatus};
+ghost use Rattle.store_site.specs.Layout.{siteOf, withLast};
+ghost use Rattle.store_site.specs.Turns.{Turns};
+ghost use Rattle.store_call.specs.Called.{StepsIn};
+ghost use Rattle.store_call.specs.Issued.{issuedIn};
+ghost use Rattle.call_input.specs.Inputs.{planned, alarmEntries, alarmPlan, statusEntries, statusPlan, aggregatedEntries, aggregatedPlan};
 use super::records;
-use site::Site;
-use site::Step;
-use site::parts;
+use alarm::Changed;
+use answer::Answer;
+use answer::Refusal;
 
-pub fn alarm(s: Site, number: u16, active: bool, time: u64) -> Step
-    ensures { λ r. ⌜ r ≡ planned s time (alarmPlan s number active time) ⌝ }
+fn change_alarm(w: &mut [u64], c: Changed, number: u16, time: u64)
+    requires { ⌜ length (now w) ≡ 1173 ⌝ }
+    ensures { λ _. ⌜ Turns (λ (s : Site). withLast (issuedIn (withAlarm s number (c .alarm)) (alarmEntries s number c)) time) (now (w .entry)) (now (w .exit)) ⌝ }
 {
-    let before = parts::alarm(s, number as usize);
+    store_site::items::put_alarm(w, number as usize, c.alarm);
+    store_call::records::add_alarm(w, c, number);
+    store_site::parts::put_last(w, time);
+}
+
+pub fn alarm(w: &mut [u64], number: u16, active: bool, time: u64) -> Answer
+    requires { ⌜ length (now w) ≡ 1173 ⌝ }
+    ensures { λ r. ⌜ ((t : SiteTable) → StepsIn t (planned (siteOf (now (w .entry)) t) time (alarmPlan (siteOf (now (w .entry)) t) number active time)) (now (w .entry)) (now (w .exit)) r) ⌝ }
+{
+    let before = store_site::items::alarm(w, number as usize);
     let c = before.input(active, time);
-    let after = parts::with_alarm(s, number as usize, c.alarm);
-    let b = records::alarm(s, c, number);
-    site::conclude(s, after, b, time, site::nothing())
+    if store_call::spent(w, store_call::records::of_alarm(w, c)) {
+        return Answer::Refused(Refusal::SequenceSpent);
+    }
+    change_alarm(w, c, number, time);
+    Answer::Done(site::nothing())
 }
 
-pub fn status(s: Site, number: u16, value: i32, time: u64) -> Step
-    ensures { λ r. ⌜ r ≡ planned s time (statusPlan s number value time) ⌝ }
+fn change_status(w: &mut [u64], x: status::Set, number: u16, time: u64)
+    requires { ⌜ length (now w) ≡ 1173 ⌝ }
+    ensures { λ _. ⌜ Turns (λ (s : Site). withLast (issuedIn (withStatus s number (x .status)) (statusEntries s number x time)) time) (now (w .entry)) (now (w .exit)) ⌝ }
 {
-    let before = parts::status(s, number as usize);
+    store_site::items::put_status(w, number as usize, x.status);
+    records::add_statuses(w, x, number, time);
+    store_site::parts::put_last(w, time);
+}
+
+pub fn status(w: &mut [u64], number: u16, value: i32, time: u64) -> Answer
+    requires { ⌜ length (now w) ≡ 1173 ⌝ }
+    ensures { λ r. ⌜ ((t : SiteTable) → StepsIn t (planned (siteOf (now (w .entry)) t) time (statusPlan (siteOf (now (w .entry)) t) number value time)) (now (w .entry)) (now (w .exit)) r) ⌝ }
+{
+    let before = store_site::items::status(w, number as usize);
     let x = before.set(value);
-    let after = parts::with_status(s, number as usize, x.status);
-    let b = records::statuses(s, x, number, time);
-    site::conclude(s, after, b, time, site::nothing())
+    if store_call::spent(w, records::of_status(w, x, number)) {
+        return Answer::Refused(Refusal::SequenceSpent);
+    }
+    change_status(w, x, number, time);
+    Answer::Done(site::nothing())
 }
 
-pub fn aggregated(s: Site, value: u8, time: u64) -> Step
-    ensures { λ r. ⌜ r ≡ planned s time (aggregatedPlan s value time) ⌝ }
+fn change_aggregated(w: &mut [u64], x: aggregated::Set, time: u64)
+    requires { ⌜ length (now w) ≡ 1173 ⌝ }
+    ensures { λ _. ⌜ Turns (λ (s : Site). withLast (issuedIn (withAggregated s (x .aggregated)) (aggregatedEntries s x)) time) (now (w .entry)) (now (w .exit)) ⌝ }
 {
-    let before = s.aggregated;
+    store_site::head::put_aggregated(w, x.aggregated);
+    records::add_aggregated(w, x);
+    store_site::parts::put_last(w, time);
+}
+
+pub fn aggregated(w: &mut [u64], value: u8, time: u64) -> Answer
+    requires { ⌜ length (now w) ≡ 1173 ⌝ }
+    ensures { λ r. ⌜ ((t : SiteTable) → StepsIn t (planned (siteOf (now (w .entry)) t) time (aggregatedPlan (siteOf (now (w .entry)) t) value time)) (now (w .entry)) (now (w .exit)) r) ⌝ }
+{
+    let before = store_site::head::aggregated(w);
     let x = before.set(value, time);
-    let a = x.aggregated;
-    let mut after = s;
-    after.aggregated = a;
-    let b = records::aggregated(s, x);
-    site::conclude(s, after, b, time, site::nothing())
+    if store_call::spent(w, records::of_aggregated(w, x)) {
+        return Answer::Refused(Refusal::SequenceSpent);
+    }
+    change_aggregated(w, x, time);
+    Answer::Done(site::nothing())
 }

@@ -1,47 +1,52 @@
-// The host's three inputs: an alarm's, a status' value, the aggregated value.
+// The host's three inputs, in place: an alarm's, a status' value, the aggregated value.
 ghost use mathlib.Core.Path.{_≡_};
+ghost use lib.ListN.{length};
+ghost use Rattle.table_whole.specs.declared.SiteTable.{SiteTable};
+ghost use Rattle.store_table.specs.Layout.{tableOf};
+ghost use Rattle.store_site.specs.Layout.{siteOf};
+ghost use Rattle.store_call.specs.Called.{StepsIn};
 ghost use Rattle.call_input.specs.Inputs.{alarmStep, statusStep, aggregatedStep};
+use answer::Answer;
 use answer::Refusal;
-use site::Site;
-use site::Step;
 
-mod doing; // doing.rt: what an input does where nothing refuses it
-mod records; // records.rt: the records that an input issues
+mod doing; // doing.rt: what an input does where nothing refuses it but its records
+mod records; // records.rt: the records that a value issues
 
 // An alarm is active or not.
-pub fn alarm(s: Site, number: u32, active: bool, time: u64) -> Step
-    ensures { λ r. ⌜ r ≡ alarmStep s number active time ⌝ }
+pub fn alarm(w: &mut [u64], t: &[u8], number: u32, active: bool, time: u64) -> Answer
+    requires { ⌜ (length (now w) ≡ 1173) × (length (now t) ≡ 4752) ⌝ }
+    ensures { λ r. ⌜ StepsIn (tableOf (now (t .entry))) (alarmStep (siteOf (now (w .entry)) (tableOf (now (t .entry)))) number active time) (now (w .entry)) (now (w .exit)) r ⌝ }
 {
-    let table = s.table;
-    if (table.alarmcount as u32) <= number {
-        return site::refused(s, Refusal::NoSuchItem);
+    if (store_table::alarm_count(t) as u32) <= number {
+        return Answer::Refused(Refusal::NoSuchItem);
     }
-    if s.bad_time(time) {
-        return site::refused(s, Refusal::BadTime);
+    if store_site::head::bad_time(w, time) {
+        return Answer::Refused(Refusal::BadTime);
     }
-    doing::alarm(s, number as u16, active, time)
+    doing::alarm(w, number as u16, active, time)
 }
 
 // A status has a value.
-pub fn status(s: Site, number: u32, value: i32, time: u64) -> Step
-    ensures { λ r. ⌜ r ≡ statusStep s number value time ⌝ }
+pub fn status(w: &mut [u64], t: &[u8], number: u32, value: i32, time: u64) -> Answer
+    requires { ⌜ (length (now w) ≡ 1173) × (length (now t) ≡ 4752) ⌝ }
+    ensures { λ r. ⌜ StepsIn (tableOf (now (t .entry))) (statusStep (siteOf (now (w .entry)) (tableOf (now (t .entry)))) number value time) (now (w .entry)) (now (w .exit)) r ⌝ }
 {
-    let table = s.table;
-    if (table.statuscount as u32) <= number {
-        return site::refused(s, Refusal::NoSuchItem);
+    if (store_table::status_count(t) as u32) <= number {
+        return Answer::Refused(Refusal::NoSuchItem);
     }
-    if s.bad_time(time) {
-        return site::refused(s, Refusal::BadTime);
+    if store_site::head::bad_time(w, time) {
+        return Answer::Refused(Refusal::BadTime);
     }
-    doing::status(s, number as u16, value, time)
+    doing::status(w, number as u16, value, time)
 }
 
 // The aggregated status is these eight booleans, the first highest.
-pub fn aggregated(s: Site, value: u8, time: u64) -> Step
-    ensures { λ r. ⌜ r ≡ aggregatedStep s value time ⌝ }
+pub fn aggregated(w: &mut [u64], value: u8, time: u64) -> Answer
+    requires { ⌜ length (now w) ≡ 1173 ⌝ }
+    ensures { λ r. ⌜ ((t : SiteTable) → StepsIn t (aggregatedStep (siteOf (now (w .entry)) t) value time) (now (w .entry)) (now (w .exit)) r) ⌝ }
 {
-    if s.bad_time(time) {
-        return site::refused(s, Refusal::BadTime);
+    if store_site::head::bad_time(w, time) {
+        return Answer::Refused(Refusal::BadTime);
     }
-    doing::aggregated(s, value, time)
+    doing::aggregated(w, value, time)
 }

@@ -1,78 +1,91 @@
-// The records that an input issues.
+// The records that a value issues, link by link upwards: counted, and issued in place.
 ghost use mathlib.Core.Path.{_≡_};
-ghost use Rattle.pool_batch.specs.Batch.{beginning, addedAll, issuedAll};
-ghost use Rattle.call_input.specs.Inputs.{alarmEntries, statusEntry, statusEntries, aggregatedEntry, aggregatedEntries};
-use alarm::Changed;
-use pool_batch::Batch;
-use site::Site;
-use site::parts;
-use site::records;
+ghost use Prim.Native.Nat.{ℕ, _+_, _*_};
+ghost use lib.ListN.{length};
+ghost use Rattle.subscription.specs.Subscription.{issuesOn};
+ghost use Rattle.table_whole.specs.declared.SiteTable.{SiteTable};
+ghost use Rattle.site.specs.declared.Site.{Site};
+ghost use Rattle.site.specs.Parts.{subscriptionAt};
+ghost use Rattle.store_site.specs.Layout.{siteOf};
+ghost use Rattle.store_site.specs.Turns.{Turns};
+ghost use Rattle.store_call.specs.Issued.{issuedIn};
+ghost use Rattle.call_input.specs.Inputs.{statusEntry, statusEntries, aggregatedEntry, aggregatedEntries};
 
-fn begin(s: Site) -> Batch
-    ensures { λ r. ⌜ r ≡ beginning (s .pool) (s .next) ⌝ }
+// Whether the subscription of link l issues one.
+fn issues(w: &[u64], x: status::Set, number: u16, l: u16) -> bool
+    requires { ⌜ length (now w) ≡ 1173 ⌝ }
+    ensures { λ r. ⌜ ((t : SiteTable) → r ≡ issuesOn (subscriptionAt (siteOf (now (w .entry)) t) (l * 32 + number)) (x .changed)) ⌝ }
 {
-    let pool = s.pool;
-    Batch::begin(pool, s.next)
+    let u = store_site::items::subscription(w, (l as usize) * 32 + (number as usize));
+    u.on_value(x.changed)
 }
 
-// For the primary alone.
-pub fn alarm(s: Site, c: Changed, number: u16) -> Batch
-    ensures { λ r. ⌜ r ≡ issuedAll 4 (s .pool) (s .next) (alarmEntries s number c) ⌝ }
+pub fn of_status(w: &[u64], x: status::Set, number: u16) -> u64
+    requires { ⌜ length (now w) ≡ 1173 ⌝ }
+    ensures { λ r. ⌜ ((t : SiteTable) (time : ℕ) → r ≡ length (statusEntries (siteOf (now (w .entry)) t) number x time)) ⌝ }
 {
-    let b = begin(s);
-    if c.records {
-        if s.primary < s.linkcount {
-            let a = c.alarm;
-            return b.add(a.issued(s.primary, number));
-        }
-    }
-    b
-}
-
-// One link's.
-fn with_status(b: Batch, s: Site, x: status::Set, number: u16, time: u64, l: u16) -> Batch
-    ensures { λ r. ⌜ r ≡ addedAll 4 b (statusEntry s number x time l) ⌝ }
-{
-    let u = parts::subscription(s, (l as usize) * 32 + (number as usize));
-    if u.on_value(x.changed) {
-        let v = x.status;
-        let n = s.link(l);
-        return b.add(records::status(n, v, l, number, time));
-    }
-    b
-}
-
-pub fn statuses(s: Site, x: status::Set, number: u16, time: u64) -> Batch
-    ensures { λ r. ⌜ r ≡ issuedAll 4 (s .pool) (s .next) (statusEntries s number x time) ⌝ }
-{
-    let mut b = begin(s);
+    let count = store_site::head::link_count(w);
+    let mut n: u64 = 0;
     let mut l: u16 = 0;
-    while l < s.linkcount {
-        b = with_status(b, s, x, number, time, l);
+    while l < count {
+        n = store_call::records::more_if(n, issues(w, x, number, l));
         l += 1;
     }
-    b
+    n
 }
 
-// One link's.
-fn with_aggregated(b: Batch, x: aggregated::Set, l: u16) -> Batch
-    ensures { λ r. ⌜ r ≡ addedAll 4 b (aggregatedEntry x l) ⌝ }
+fn add_status(w: &mut [u64], x: status::Set, number: u16, time: u64, l: u16)
+    requires { ⌜ length (now w) ≡ 1173 ⌝ }
+    ensures { λ _. ⌜ Turns (λ (s : Site). issuedIn s (statusEntry s number x time l)) (now (w .entry)) (now (w .exit)) ⌝ }
+{
+    if issues(w, x, number, l) {
+        let e = store_call::records::status(w, x.status, l, number, time);
+        store_call::add(w, e);
+        return;
+    }
+}
+
+pub fn add_statuses(w: &mut [u64], x: status::Set, number: u16, time: u64)
+    requires { ⌜ length (now w) ≡ 1173 ⌝ }
+    ensures { λ _. ⌜ Turns (λ (s : Site). issuedIn s (statusEntries s number x time)) (now (w .entry)) (now (w .exit)) ⌝ }
+{
+    let count = store_site::head::link_count(w);
+    let mut l: u16 = 0;
+    while l < count {
+        add_status(w, x, number, time, l);
+        l += 1;
+    }
+}
+
+pub fn of_aggregated(w: &[u64], x: aggregated::Set) -> u64
+    requires { ⌜ length (now w) ≡ 1173 ⌝ }
+    ensures { λ r. ⌜ ((t : SiteTable) → r ≡ length (aggregatedEntries (siteOf (now (w .entry)) t) x)) ⌝ }
+{
+    if x.changed {
+        return store_site::head::link_count(w) as u64;
+    }
+    0
+}
+
+fn add_one(w: &mut [u64], x: aggregated::Set, l: u16)
+    requires { ⌜ length (now w) ≡ 1173 ⌝ }
+    ensures { λ _. ⌜ Turns (λ (s : Site). issuedIn s (aggregatedEntry x l)) (now (w .entry)) (now (w .exit)) ⌝ }
 {
     if x.changed {
         let a = x.aggregated;
-        return b.add(a.issued(l));
+        store_call::add(w, a.issued(l));
+        return;
     }
-    b
 }
 
-pub fn aggregated(s: Site, x: aggregated::Set) -> Batch
-    ensures { λ r. ⌜ r ≡ issuedAll 4 (s .pool) (s .next) (aggregatedEntries s x) ⌝ }
+pub fn add_aggregated(w: &mut [u64], x: aggregated::Set)
+    requires { ⌜ length (now w) ≡ 1173 ⌝ }
+    ensures { λ _. ⌜ Turns (λ (s : Site). issuedIn s (aggregatedEntries s x)) (now (w .entry)) (now (w .exit)) ⌝ }
 {
-    let mut b = begin(s);
+    let count = store_site::head::link_count(w);
     let mut l: u16 = 0;
-    while l < s.linkcount {
-        b = with_aggregated(b, x, l);
+    while l < count {
+        add_one(w, x, l);
         l += 1;
     }
-    b
 }

@@ -1,57 +1,76 @@
-// Connect and disconnect.
+// Connect and disconnect, in place.
 ghost use mathlib.Core.Path.{_≡_};
+ghost use Prim.Native.Nat.{_<_};
+ghost use lib.ListN.{length};
+ghost use Rattle.table_whole.specs.declared.SiteTable.{SiteTable};
+ghost use Rattle.site.specs.declared.Site.{Site};
+ghost use Rattle.site.specs.Site.{linkAt, withLink, closeAt};
+ghost use Rattle.link.specs.Steps.{connectOf};
+ghost use Rattle.store_site.specs.Layout.{siteOf, withLast};
+ghost use Rattle.store_site.specs.Turns.{Turns};
+ghost use Rattle.store_call.specs.Called.{StepsIn};
 ghost use Rattle.call_link.specs.Connect.{connectStep, disconnectStep};
+use answer::Answer;
 use answer::Refusal;
 use answer::Report;
-use pool_batch::Batch;
-use site::Site;
-use site::Step;
-use site::conclude;
-use site::refused;
 
-pub fn connect(s: Site, link: u32, time: u64) -> Step
-    ensures { λ r. ⌜ r ≡ connectStep s link time ⌝ }
+// The link is connected and the time kept.
+fn joined(w: &mut [u64], l: usize, time: u64)
+    requires { ⌜ (length (now w) ≡ 1173) × (l < 4) ⌝ }
+    ensures { λ _. ⌜ Turns (λ (s : Site). withLast (withLink s l (connectOf (linkAt s l))) time) (now (w .entry)) (now (w .exit)) ⌝ }
 {
-    if s.no_link(link) {
-        return refused(s, Refusal::NoSuchLink);
-    }
-    if s.bad_time(time) {
-        return refused(s, Refusal::BadTime);
-    }
-    let l = link as u16;
-    if s.down(l) {
-        let k = s.link(l);
-        let after = s.with_link(l, k.connect());
-        return conclude(
-            s,
-            after,
-            Batch::begin(s.pool, s.next),
-            time,
-            site::nothing(),
-        );
-    }
-    refused(s, Refusal::WrongPhase)
+    let k = store_site::parts::link(w, l);
+    store_site::parts::put_link(w, l, k.connect());
+    store_site::parts::put_last(w, time);
 }
 
-pub fn disconnect(s: Site, link: u32, time: u64) -> Step
-    ensures { λ r. ⌜ r ≡ disconnectStep s link time ⌝ }
+pub fn connect(w: &mut [u64], link: u32, time: u64) -> Answer
+    requires { ⌜ length (now w) ≡ 1173 ⌝ }
+    ensures { λ r. ⌜ ((t : SiteTable) → StepsIn t (connectStep (siteOf (now (w .entry)) t) link time) (now (w .entry)) (now (w .exit)) r) ⌝ }
 {
-    if s.no_link(link) {
-        return refused(s, Refusal::NoSuchLink);
+    if store_site::head::no_link(w, link) {
+        return Answer::Refused(Refusal::NoSuchLink);
     }
-    if s.bad_time(time) {
-        return refused(s, Refusal::BadTime);
+    if store_site::head::bad_time(w, time) {
+        return Answer::Refused(Refusal::BadTime);
+    }
+    let l = link as usize;
+    if store_site::phases::down(w, l) {
+        joined(w, l, time);
+        return Answer::Done(site::nothing());
+    }
+    Answer::Refused(Refusal::WrongPhase)
+}
+
+// The link is closed and the time kept.
+fn left(w: &mut [u64], l: u16, time: u64)
+    requires { ⌜ (length (now w) ≡ 1173) × (l < 4) ⌝ }
+    ensures { λ _. ⌜ Turns (λ (s : Site). withLast (closeAt s l) time) (now (w .entry)) (now (w .exit)) ⌝ }
+{
+    store_call::close(w, l);
+    store_site::parts::put_last(w, time);
+}
+
+pub fn disconnect(w: &mut [u64], link: u32, time: u64) -> Answer
+    requires { ⌜ length (now w) ≡ 1173 ⌝ }
+    ensures { λ r. ⌜ ((t : SiteTable) → StepsIn t (disconnectStep (siteOf (now (w .entry)) t) link time) (now (w .entry)) (now (w .exit)) r) ⌝ }
+{
+    if store_site::head::no_link(w, link) {
+        return Answer::Refused(Refusal::NoSuchLink);
+    }
+    if store_site::head::bad_time(w, time) {
+        return Answer::Refused(Refusal::BadTime);
+    }
+    if store_site::phases::down(w, link as usize) {
+        return Answer::Refused(Refusal::WrongPhase);
     }
     let l = link as u16;
-    if s.down(l) {
-        return refused(s, Refusal::WrongPhase);
-    }
-    let after = s.close(l);
+    left(w, l, time);
     let report = Report {
         hint: 0,
         written: 0,
         closed: site::bit_of(l),
         hinted: 0,
     };
-    conclude(s, after, Batch::begin(after.pool, after.next), time, report)
+    Answer::Done(report)
 }

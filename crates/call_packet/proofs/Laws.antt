@@ -1,9 +1,10 @@
--- From what one part of the call gives to what the packet comes to.
+-- From what one part of the call gives to what the packet comes to: the words are ws, the site's table is t.
 -- Assumes nothing.
 use Prim.Native.Nat.{ℕ}
 use mathlib.Core.Path.{_≡_, refl}
 use mathlib.Core.Bool.{Bool, true, false}
 use mathlib.Core.List.{List, []}
+use Rattle.basis.specs.Pick.{pick}
 use Rattle.basis.proofs.Cases.{picked}
 use Rattle.answer.specs.declared.Refusal.{Refusal}
 use Rattle.answer.specs.declared.Refusal.the-variants.{NoSuchLink, ShortOutput, LongPacket, BadTime, WrongPhase, Ignored}
@@ -11,59 +12,112 @@ use Rattle.answer.specs.declared.Answer.{Answer}
 use Rattle.answer.specs.declared.Answer.the-variants.{Done, Refused}
 use Rattle.identity.specs.declared.Identity.{Identity}
 use Rattle.link.specs.Steps.{closesOf}
+use Rattle.table_whole.specs.declared.SiteTable.{SiteTable}
+use Rattle.read_head.specs.declared.Kind.{Kind}
 use Rattle.site.specs.declared.Site.{Site}
-use Rattle.site.specs.declared.Step.{Step}
 use Rattle.site.specs.Site.{linkAt}
-use Rattle.site.specs.Call.{Plan, never, when, refused, stepOf, outAfter, Gives}
-use Rattle.packet_answer.specs.Taken.{Taken, takenRefuses}
+use Rattle.site.specs.Call.{Plan, never, only, when, stepOf, outAfter}
+use Rattle.store_site.specs.Layout.{siteOf, withLast}
+use Rattle.store_site.specs.Turns.{Turns}
+use Rattle.store_call.specs.Called.{StepsIn, GivesIn}
+use Rattle.packet_answer.specs.Taken.{Taken, takenRefuses, notAcked, unexpected, notReady}
+use Rattle.packet_answer.specs.Takes.{TakesIn}
+use Rattle.packet_answer.specs.Ending.{report}
+use Rattle.packet_answer.proofs.Ends.{ends, unreplied}
+use Rattle.packet_answer.proofs.Choices.{not-acked, picked-first, picked-second, like}
 use Rattle.packet_greet.specs.Answered.{answeredPlan}
-use Rattle.packet_answer.specs.Takes.{Takes}
+use Rattle.call_packet.specs.Packet.{expected, unready, kindTaken, expectedTaken}
 
 -- no message leaves the output as it was
 untouched : (xs : List ℕ) (a : Answer) → xs ≡ outAfter xs [] a
 untouched xs (Done r) = refl
 untouched xs (Refused x) = refl
 
--- a call that writes nothing and replies nothing
-pub quiet : (s : Site) (l time : ℕ) (id : Identity) (p : Plan) {xs : List ℕ} {r : Step}
-    → p .messages ≡ []
-    → r ≡ stepOf s time never p 0
-    → Takes s l time id (record { plan = p; replies = false }) xs xs r
-quiet s l time id p {xs} {r} m e = record { step = rw m e; out = rw m (untouched xs (r .answer)) }
+module _ (t : SiteTable) (l time : ℕ) (id : Identity) {ws vs xs : List ℕ} {r : Answer} where
+  -- a call that writes nothing and replies nothing
+  pub quiet : (p : Plan)
+      → p .messages ≡ []
+      → StepsIn t (stepOf (siteOf ws t) time never p 0) ws vs r
+      → TakesIn t l time id (record { plan = p; replies = false }) ws vs xs xs r
+  quiet p m e = record { gives = record { step = rw m (e .step); out = rw m (untouched xs r) }; plain = e .plain; kept = e .kept }
+
+  -- a call that does nothing but keep its time
+  pub keeps-time : r ≡ Done (report 0 0 0 0)
+      → Turns (λ (s : Site). withLast s time) ws vs
+      → TakesIn t l time id (record { plan = only (siteOf ws t); replies = false }) ws vs xs xs r
+  keeps-time e u = unreplied t time l id (record { plan = only (siteOf ws t); replies = false }) refl (ends t time (only (siteOf ws t)) refl refl e (u .site t) (u .plain))
 
 pub answers-quietly : (s : Site) (l : ℕ) (id : Identity) (acknowledged : Bool) → answeredPlan s l id acknowledged .messages ≡ []
 answers-quietly s l id acknowledged = picked (λ (p : Plan). p .messages ≡ []) (closesOf (linkAt s l) id acknowledged) _ _ (λ e. refl) (λ e. refl)
 
-module _ (s : Site) (l time : ℕ) (id : Identity) (t : Taken) where
+-- "Unexpected", "Not ready", then what the kind comes to
+module _ (t : SiteTable) (ws : List ℕ) (l time : ℕ) (id : Identity) (received p : List ℕ) (kind : Kind) where
+  abbrev expects : Bool
+  expects = expected (linkAt (siteOf ws t) l) kind
+
+  abbrev waits : Bool
+  waits = unready (linkAt (siteOf ws t) l) kind
+
+  abbrev passed : Bool → Taken
+  passed u = pick u (notAcked (siteOf ws t) received notReady) (kindTaken (siteOf ws t) l time id received p kind)
+
+  pub not-expected : {vs xs ys : List ℕ} {r : Answer}
+      → expects ≡ false
+      → GivesIn t time never (notAcked (siteOf ws t) received unexpected .plan) ws vs xs ys r
+      → TakesIn t l time id (expectedTaken (siteOf ws t) l time id received p kind) ws vs xs ys r
+  not-expected e g =
+      picked-second t ws l time id received expects (passed waits) (notAcked (siteOf ws t) received unexpected) e (not-acked t ws l time id received unexpected g)
+
+  pub not-ready : {vs xs ys : List ℕ} {r : Answer}
+      → expects ≡ true
+      → waits ≡ true
+      → GivesIn t time never (notAcked (siteOf ws t) received notReady .plan) ws vs xs ys r
+      → TakesIn t l time id (expectedTaken (siteOf ws t) l time id received p kind) ws vs xs ys r
+  not-ready e u g =
+      picked-first t ws l time id received expects (passed waits) (notAcked (siteOf ws t) received unexpected) e
+      (like t ws l time id received passed u (not-acked t ws l time id received notReady g))
+
+  pub ready : {vs xs ys : List ℕ} {r : Answer}
+      → expects ≡ true
+      → waits ≡ false
+      → TakesIn t l time id (kindTaken (siteOf ws t) l time id received p kind) ws vs xs ys r
+      → TakesIn t l time id (expectedTaken (siteOf ws t) l time id received p kind) ws vs xs ys r
+  ready e u g =
+      picked-first t ws l time id received expects (passed waits) (notAcked (siteOf ws t) received unexpected) e (like t ws l time id received passed u g)
+
+module _ (t : SiteTable) (ws : List ℕ) (l time : ℕ) (id : Identity) (x : Taken) where
   abbrev pub heeded : Bool → Refusal → Bool
-  heeded i = when Ignored i (takenRefuses s l id t)
+  heeded i = when Ignored i (takenRefuses (siteOf ws t) l id x)
 
-  pub is-ignored : (i : Bool) {xs : List ℕ} {r : Step} → i ≡ true → r ≡ refused s Ignored → Gives s time (heeded i) (t .plan) xs xs r
-  is-ignored i e f = record { step = rw e f; out = rw f refl }
+  -- a condition refuses: no word and no byte is changed
+  pub is-ignored : (i : Bool) {xs : List ℕ} → i ≡ true → GivesIn t time (heeded i) (x .plan) ws ws xs xs (Refused Ignored)
+  is-ignored i e = record { gives = record { step = rw e refl; out = refl }; plain = λ p. p; kept = λ why q. refl }
 
-  pub is-heeded : (i : Bool) {xs ys : List ℕ} {r : Step} → i ≡ false → Takes s l time id t xs ys r → Gives s time (heeded i) (t .plan) xs ys r
-  is-heeded i e g = record { step = rw e (g .step); out = g .out }
+  pub is-heeded : (i : Bool) {vs xs ys : List ℕ} {r : Answer} → i ≡ false → TakesIn t l time id x ws vs xs ys r → GivesIn t time (heeded i) (x .plan) ws vs xs ys r
+  is-heeded i e g = record { gives = record { step = rw e (g .gives .step); out = g .gives .out }; plain = g .plain; kept = g .kept }
 
   module _ (a b c d w i : Bool) where
     abbrev pub guarded : Refusal → Bool
     guarded = when NoSuchLink a (when ShortOutput b (when LongPacket c (when BadTime d (when WrongPhase w (heeded i)))))
 
-    pub no-link : {xs : List ℕ} {r : Step} → a ≡ true → r ≡ refused s NoSuchLink → Gives s time guarded (t .plan) xs xs r
-    no-link e f = record { step = rw e f; out = rw f refl }
+    pub no-link : {xs : List ℕ} → a ≡ true → GivesIn t time guarded (x .plan) ws ws xs xs (Refused NoSuchLink)
+    no-link e = record { gives = record { step = rw e refl; out = refl }; plain = λ p. p; kept = λ why q. refl }
 
-    pub short : {xs : List ℕ} {r : Step} → a ≡ false → b ≡ true → r ≡ refused s ShortOutput → Gives s time guarded (t .plan) xs xs r
-    short e1 e f = record { step = rw (e1, e) f; out = rw f refl }
+    pub short : {xs : List ℕ} → a ≡ false → b ≡ true → GivesIn t time guarded (x .plan) ws ws xs xs (Refused ShortOutput)
+    short e1 e = record { gives = record { step = rw (e1, e) refl; out = refl }; plain = λ p. p; kept = λ why q. refl }
 
-    pub long : {xs : List ℕ} {r : Step} → a ≡ false → b ≡ false → c ≡ true → r ≡ refused s LongPacket → Gives s time guarded (t .plan) xs xs r
-    long e1 e2 e f = record { step = rw (e1, e2, e) f; out = rw f refl }
+    pub long : {xs : List ℕ} → a ≡ false → b ≡ false → c ≡ true → GivesIn t time guarded (x .plan) ws ws xs xs (Refused LongPacket)
+    long e1 e2 e = record { gives = record { step = rw (e1, e2, e) refl; out = refl }; plain = λ p. p; kept = λ why q. refl }
 
-    pub late : {xs : List ℕ} {r : Step} → a ≡ false → b ≡ false → c ≡ false → d ≡ true → r ≡ refused s BadTime → Gives s time guarded (t .plan) xs xs r
-    late e1 e2 e3 e f = record { step = rw (e1, e2, e3, e) f; out = rw f refl }
+    pub late : {xs : List ℕ} → a ≡ false → b ≡ false → c ≡ false → d ≡ true → GivesIn t time guarded (x .plan) ws ws xs xs (Refused BadTime)
+    late e1 e2 e3 e = record { gives = record { step = rw (e1, e2, e3, e) refl; out = refl }; plain = λ p. p; kept = λ why q. refl }
 
-    pub closed : {xs : List ℕ} {r : Step}
-        → a ≡ false → b ≡ false → c ≡ false → d ≡ false → w ≡ true → r ≡ refused s WrongPhase → Gives s time guarded (t .plan) xs xs r
-    closed e1 e2 e3 e4 e f = record { step = rw (e1, e2, e3, e4, e) f; out = rw f refl }
+    pub closed : {xs : List ℕ} → a ≡ false → b ≡ false → c ≡ false → d ≡ false → w ≡ true → GivesIn t time guarded (x .plan) ws ws xs xs (Refused WrongPhase)
+    closed e1 e2 e3 e4 e = record { gives = record { step = rw (e1, e2, e3, e4, e) refl; out = refl }; plain = λ p. p; kept = λ why q. refl }
 
-    pub through : {xs ys : List ℕ} {r : Step}
-        → a ≡ false → b ≡ false → c ≡ false → d ≡ false → w ≡ false → Gives s time (heeded i) (t .plan) xs ys r → Gives s time guarded (t .plan) xs ys r
-    through e1 e2 e3 e4 e5 g = record { step = rw (e1, e2, e3, e4, e5) (g .step); out = g .out }
+    pub through : {vs xs ys : List ℕ} {r : Answer}
+        → a ≡ false → b ≡ false → c ≡ false → d ≡ false → w ≡ false
+        → GivesIn t time (heeded i) (x .plan) ws vs xs ys r
+        → GivesIn t time guarded (x .plan) ws vs xs ys r
+    through e1 e2 e3 e4 e5 g =
+        record { gives = record { step = rw (e1, e2, e3, e4, e5) (g .gives .step); out = g .gives .out }; plain = g .plain; kept = g .kept }

@@ -1,43 +1,34 @@
-// Packet: the call that strangers reach.
+// Packet, in place: the call that strangers reach.
 ghost use mathlib.Core.Path.{_≡_};
 ghost use mathlib.Core.Bool.{true, false};
+ghost use Prim.Native.Nat.{_<_};
 ghost use lib.ListN.{length};
 ghost use Rattle.basis.specs.Pick.{pick};
 ghost use Rattle.identity.specs.Version.{identityOf};
-ghost use Rattle.awaited.specs.Awaited.{isAwaited};
-ghost use Rattle.site.specs.Call.{Gives};
-ghost use Rattle.packet_answer.specs.Taken.{takenRefuses};
-ghost use Rattle.call_packet.specs.Packet.{isVersion, isWatchdog, isGreeting, expected as expectedOf, unready as unreadyOf, early as earlyOf, unawaited as unawaitedOf, ignoredBy, kindTaken, expectedTaken, askedTaken, classTaken, headTaken, headRefuses, packetTaken, packetRefuses};
 ghost use Rattle.link.specs.Phase.{isBeating};
+ghost use Rattle.link.specs.Steps.{mayJudgeOf};
+ghost use Rattle.table_whole.specs.declared.SiteTable.{SiteTable};
+ghost use Rattle.site.specs.Site.{linkAt};
+ghost use Rattle.store_site.specs.Layout.{siteOf};
+ghost use Rattle.store_table.specs.Layout.{tableOf};
+ghost use Rattle.store_call.specs.Called.{GivesIn};
+ghost use Rattle.packet_answer.specs.Takes.{TakesIn};
+ghost use Rattle.call_packet.specs.Packet.{isVersion, isWatchdog, isGreeting, expected as expectedOf, unready as unreadyOf, early as earlyOf, unawaited as unawaitedOf, ignoredBy, kindTaken, expectedTaken, askedTaken, classTaken, headTaken, headRefuses, packetTaken, packetRefuses};
+use answer::Answer;
 use answer::Refusal;
-use awaited::Found;
 use identity::Identity;
-use link::Link;
 use link::Phase;
 use names::reasons;
-use pool_batch::Batch;
 use read_head::Class;
 use read_head::Head;
 use read_head::Kind;
 use read_head::Received;
 use read_head::Verdict;
-use site::Site;
-use site::Step;
-use site::refused;
 
 fn not(b: bool) -> bool
     ensures { λ r. ⌜ r ≡ pick b false true ⌝ }
 {
     if b { false } else { true }
-}
-
-fn is_found(f: Found) -> bool
-    ensures { λ r. ⌜ r ≡ isAwaited f ⌝ }
-{
-    match f {
-        Found::For(_) => true,
-        Found::Nothing => false,
-    }
 }
 
 fn is_version(k: Kind) -> bool
@@ -92,11 +83,22 @@ fn is_beating(p: Phase) -> bool
     }
 }
 
-fn expected(k: Link, kind: Kind) -> bool
-    ensures { λ r. ⌜ r ≡ expectedOf k kind ⌝ }
+fn may_judge(w: &[u64], l: u16) -> bool
+    requires { ⌜ (length (now w) ≡ 1173) × (l < 4) ⌝ }
+    ensures { λ r. ⌜ ((t : SiteTable) → r ≡ mayJudgeOf (linkAt (siteOf (now (w .entry)) t) l)) ⌝ }
+{
+    if store_site::phases::version_taken(w, l as usize) {
+        return false;
+    }
+    store_site::phases::version_out(w, l as usize)
+}
+
+fn expected(w: &[u64], l: u16, kind: Kind) -> bool
+    requires { ⌜ (length (now w) ≡ 1173) × (l < 4) ⌝ }
+    ensures { λ r. ⌜ ((t : SiteTable) → r ≡ expectedOf (linkAt (siteOf (now (w .entry)) t) l) kind) ⌝ }
 {
     match kind {
-        Kind::Version => k.may_judge_version(),
+        Kind::Version => may_judge(w, l),
         Kind::Watchdog => true,
         Kind::Alarm => true,
         Kind::AggregatedStatusRequest => true,
@@ -107,44 +109,49 @@ fn expected(k: Link, kind: Kind) -> bool
     }
 }
 
-fn unready(k: Link, kind: Kind) -> bool
-    ensures { λ r. ⌜ r ≡ unreadyOf k kind ⌝ }
+fn unready(w: &[u64], l: u16, kind: Kind) -> bool
+    requires { ⌜ (length (now w) ≡ 1173) × (l < 4) ⌝ }
+    ensures { λ r. ⌜ ((t : SiteTable) → r ≡ unreadyOf (linkAt (siteOf (now (w .entry)) t) l) kind) ⌝ }
 {
-    if is_beating(k.phase()) {
+    if is_beating(store_site::phases::phase(w, l as usize)) {
         return not(is_watchdog(kind));
     }
     false
 }
 
-fn early(k: Link, kind: Kind) -> bool
-    ensures { λ r. ⌜ r ≡ earlyOf k kind ⌝ }
+fn early(w: &[u64], l: u16, kind: Kind) -> bool
+    requires { ⌜ (length (now w) ≡ 1173) × (l < 4) ⌝ }
+    ensures { λ r. ⌜ ((t : SiteTable) → r ≡ earlyOf (linkAt (siteOf (now (w .entry)) t) l) kind) ⌝ }
 {
-    if is_greeting(k.phase()) {
+    if is_greeting(store_site::phases::phase(w, l as usize)) {
         return not(is_version(kind));
     }
     false
 }
 
-fn unawaited(k: Link, id: Identity) -> bool
-    ensures { λ r. ⌜ r ≡ unawaitedOf k id ⌝ }
+fn unawaited(w: &[u64], l: u16, id: Identity) -> bool
+    requires { ⌜ (length (now w) ≡ 1173) × (l < 4) ⌝ }
+    ensures { λ r. ⌜ ((t : SiteTable) → r ≡ unawaitedOf (linkAt (siteOf (now (w .entry)) t) l) id) ⌝ }
 {
-    not(is_found(k.awaits(id)))
+    not(packet_answer::is_awaited(w, l, id))
 }
 
-fn ignored(k: Link, id: Identity, class: Class) -> bool
-    ensures { λ r. ⌜ r ≡ ignoredBy k id class ⌝ }
+fn ignored(w: &[u64], l: u16, id: Identity, class: Class) -> bool
+    requires { ⌜ (length (now w) ≡ 1173) × (l < 4) ⌝ }
+    ensures { λ r. ⌜ ((t : SiteTable) → r ≡ ignoredBy (linkAt (siteOf (now (w .entry)) t) l) id class) ⌝ }
 {
     match class {
         Class::Ignored => true,
-        Class::Acked => unawaited(k, id),
-        Class::NotAcked => unawaited(k, id),
-        Class::Asked(_, kind) => early(k, kind),
+        Class::Acked => unawaited(w, l, id),
+        Class::NotAcked => unawaited(w, l, id),
+        Class::Asked(_, kind) => early(w, l, kind),
     }
 }
 
 // A request of a kind that is taken now.
 fn by_kind(
-    s: Site,
+    w: &mut [u64],
+    t: &[u8],
     l: u16,
     time: u64,
     id: Identity,
@@ -152,24 +159,35 @@ fn by_kind(
     p: &[u8],
     kind: Kind,
     out: &mut [u8],
-) -> Step
-    ensures { λ r. ⌜ Gives s time (takenRefuses s l id (kindTaken s l time id (received .bytes) (now (p .entry)) kind)) (kindTaken s l time id (received .bytes) (now (p .entry)) kind .plan) (now (out .entry)) (now (out .exit)) r ⌝ }
+) -> Answer
+    requires { ⌜ (length (now w) ≡ 1173) × (length (now t) ≡ 4752) × (l < 4) ⌝ }
+    ensures { λ r. ⌜ TakesIn (tableOf (now (t .entry))) l time id (kindTaken (siteOf (now (w .entry)) (tableOf (now (t .entry)))) l time id (received .bytes) (now (p .entry)) kind) (now (w .entry)) (now (w .exit)) (now (out .entry)) (now (out .exit)) r ⌝ }
 {
     match kind {
-        Kind::Version => packet_greet::version(s, l, time, received, p, out),
-        Kind::Watchdog => packet_greet::watchdog(s, l, time, received, p, out),
-        Kind::Alarm => packet_alarm::alarm(s, l, time, id, received, p, out),
-        Kind::AggregatedStatusRequest => packet_alarm::aggregated(s, l, time, id, received, p, out),
-        Kind::StatusRequest => packet_status::status_request(s, l, time, id, received, p, out),
-        Kind::StatusSubscribe => packet_subscribe::subscribe(s, l, time, received, p, out),
-        Kind::StatusUnsubscribe => packet_subscribe::unsubscribe(s, l, time, received, p, out),
-        Kind::Unexpected => packet_answer::not_ack(s, time, received, reasons::UNEXPECTED, out),
+        Kind::Version => packet_greet::version(w, t, l, time, received, p, out),
+        Kind::Watchdog => packet_greet::watchdog(w, l, time, received, p, out),
+        Kind::Alarm => packet_alarm::alarm(w, t, l, time, id, received, p, out),
+        Kind::AggregatedStatusRequest => packet_alarm::aggregated(
+            w,
+            t,
+            l,
+            time,
+            id,
+            received,
+            p,
+            out,
+        ),
+        Kind::StatusRequest => packet_status::status_request(w, t, l, time, id, received, p, out),
+        Kind::StatusSubscribe => packet_subscribe::subscribe(w, t, l, time, received, p, out),
+        Kind::StatusUnsubscribe => packet_subscribe::unsubscribe(w, t, l, time, received, p, out),
+        Kind::Unexpected => packet_answer::not_ack(w, time, received, reasons::UNEXPECTED, out),
     }
 }
 
 // "Unexpected", "Not ready", then the reasons of the kind.
 fn expect(
-    s: Site,
+    w: &mut [u64],
+    t: &[u8],
     l: u16,
     time: u64,
     id: Identity,
@@ -177,22 +195,23 @@ fn expect(
     p: &[u8],
     kind: Kind,
     out: &mut [u8],
-) -> Step
-    ensures { λ r. ⌜ Gives s time (takenRefuses s l id (expectedTaken s l time id (received .bytes) (now (p .entry)) kind)) (expectedTaken s l time id (received .bytes) (now (p .entry)) kind .plan) (now (out .entry)) (now (out .exit)) r ⌝ }
+) -> Answer
+    requires { ⌜ (length (now w) ≡ 1173) × (length (now t) ≡ 4752) × (l < 4) ⌝ }
+    ensures { λ r. ⌜ TakesIn (tableOf (now (t .entry))) l time id (expectedTaken (siteOf (now (w .entry)) (tableOf (now (t .entry)))) l time id (received .bytes) (now (p .entry)) kind) (now (w .entry)) (now (w .exit)) (now (out .entry)) (now (out .exit)) r ⌝ }
 {
-    let k = s.link(l);
-    if expected(k, kind) {
-        if unready(k, kind) {
-            return packet_answer::not_ack(s, time, received, reasons::NOT_READY, out);
+    if expected(w, l, kind) {
+        if unready(w, l, kind) {
+            return packet_answer::not_ack(w, time, received, reasons::NOT_READY, out);
         }
-        return by_kind(s, l, time, id, received, p, kind, out);
+        return by_kind(w, t, l, time, id, received, p, kind, out);
     }
-    packet_answer::not_ack(s, time, received, reasons::UNEXPECTED, out)
+    packet_answer::not_ack(w, time, received, reasons::UNEXPECTED, out)
 }
 
 // mType, then the rest.
 fn asked(
-    s: Site,
+    w: &mut [u64],
+    t: &[u8],
     l: u16,
     time: u64,
     id: Identity,
@@ -201,25 +220,27 @@ fn asked(
     v: Verdict,
     kind: Kind,
     out: &mut [u8],
-) -> Step
-    ensures { λ r. ⌜ Gives s time (takenRefuses s l id (askedTaken s l time id (received .bytes) (now (p .entry)) v kind)) (askedTaken s l time id (received .bytes) (now (p .entry)) v kind .plan) (now (out .entry)) (now (out .exit)) r ⌝ }
+) -> Answer
+    requires { ⌜ (length (now w) ≡ 1173) × (length (now t) ≡ 4752) × (l < 4) ⌝ }
+    ensures { λ r. ⌜ TakesIn (tableOf (now (t .entry))) l time id (askedTaken (siteOf (now (w .entry)) (tableOf (now (t .entry)))) l time id (received .bytes) (now (p .entry)) v kind) (now (w .entry)) (now (w .exit)) (now (out .entry)) (now (out .exit)) r ⌝ }
 {
     match v {
-        Verdict::Good => expect(s, l, time, id, received, p, kind, out),
+        Verdict::Good => expect(w, t, l, time, id, received, p, kind, out),
         Verdict::Missing => packet_answer::not_ack(
-            s,
+            w,
             time,
             received,
             reasons::MISSING_ELEMENT,
             out,
         ),
-        Verdict::Bad => packet_answer::not_ack(s, time, received, reasons::BAD_VALUE, out),
+        Verdict::Bad => packet_answer::not_ack(w, time, received, reasons::BAD_VALUE, out),
     }
 }
 
 // An answer, or a request.
 fn by_class(
-    s: Site,
+    w: &mut [u64],
+    t: &[u8],
     l: u16,
     time: u64,
     id: Identity,
@@ -228,28 +249,38 @@ fn by_class(
     p: &[u8],
     class: Class,
     out: &mut [u8],
-) -> Step
-    ensures { λ r. ⌜ Gives s time (takenRefuses s l id (classTaken s l time id answered (received .bytes) (now (p .entry)) class)) (classTaken s l time id answered (received .bytes) (now (p .entry)) class .plan) (now (out .entry)) (now (out .exit)) r ⌝ }
+) -> Answer
+    requires { ⌜ (length (now w) ≡ 1173) × (length (now t) ≡ 4752) × (l < 4) ⌝ }
+    ensures { λ r. ⌜ TakesIn (tableOf (now (t .entry))) l time id (classTaken (siteOf (now (w .entry)) (tableOf (now (t .entry)))) l time id answered (received .bytes) (now (p .entry)) class) (now (w .entry)) (now (w .exit)) (now (out .entry)) (now (out .exit)) r ⌝ }
 {
     match class {
-        Class::Ignored => site::conclude(s, s, Batch::begin(s.pool, s.next), time, site::nothing()),
-        Class::Acked => packet_greet::answered(s, l, time, answered, true),
-        Class::NotAcked => packet_greet::answered(s, l, time, answered, false),
-        Class::Asked(v, kind) => asked(s, l, time, id, received, p, v, kind, out),
+        Class::Ignored => packet_answer::done(w, time, 0, 0, 0, 0),
+        Class::Acked => packet_greet::answered(w, l, time, answered, true),
+        Class::NotAcked => packet_greet::answered(w, l, time, answered, false),
+        Class::Asked(v, kind) => asked(w, t, l, time, id, received, p, v, kind, out),
     }
 }
 
-fn heed(s: Site, l: u16, time: u64, id: Identity, p: &[u8], h: Head, out: &mut [u8]) -> Step
-    ensures { λ r. ⌜ Gives s time (headRefuses s l time id (now (p .entry)) h) (headTaken s l time id (now (p .entry)) h .plan) (now (out .entry)) (now (out .exit)) r ⌝ }
+fn heed(
+    w: &mut [u64],
+    t: &[u8],
+    l: u16,
+    time: u64,
+    id: Identity,
+    p: &[u8],
+    h: Head,
+    out: &mut [u8],
+) -> Answer
+    requires { ⌜ (length (now w) ≡ 1173) × (length (now t) ≡ 4752) × (l < 4) ⌝ }
+    ensures { λ r. ⌜ GivesIn (tableOf (now (t .entry))) time (headRefuses (siteOf (now (w .entry)) (tableOf (now (t .entry)))) l time id (now (p .entry)) h) (headTaken (siteOf (now (w .entry)) (tableOf (now (t .entry)))) l time id (now (p .entry)) h .plan) (now (w .entry)) (now (w .exit)) (now (out .entry)) (now (out .exit)) r ⌝ }
 {
     let class = h.class;
     let answered = h.identity;
     let received = h.received;
-    let k = s.link(l);
-    if ignored(k, answered, class) {
-        return refused(s, Refusal::Ignored);
+    if ignored(w, l, answered, class) {
+        return Answer::Refused(Refusal::Ignored);
     }
-    by_class(s, l, time, id, answered, received, p, class, out)
+    by_class(w, t, l, time, id, answered, received, p, class, out)
 }
 
 // Sixteen random bytes as an identity of version 4.
@@ -260,26 +291,35 @@ fn own_identity(random: Identity) -> Identity
 }
 
 // One message without its form feed, received on a link; `random` is sixteen random bytes.
-pub fn packet(s: Site, link: u32, time: u64, random: Identity, p: &[u8], out: &mut [u8]) -> Step
-    ensures { λ r. ⌜ Gives s time (packetRefuses s link time (identityOf random) (length (now (out .entry))) (now (p .entry))) (packetTaken s link time (identityOf random) (now (p .entry)) .plan) (now (out .entry)) (now (out .exit)) r ⌝ }
+pub fn packet(
+    w: &mut [u64],
+    t: &[u8],
+    link: u32,
+    time: u64,
+    random: Identity,
+    p: &[u8],
+    out: &mut [u8],
+) -> Answer
+    requires { ⌜ (length (now w) ≡ 1173) × (length (now t) ≡ 4752) ⌝ }
+    ensures { λ r. ⌜ GivesIn (tableOf (now (t .entry))) time (packetRefuses (siteOf (now (w .entry)) (tableOf (now (t .entry)))) link time (identityOf random) (length (now (out .entry))) (now (p .entry))) (packetTaken (siteOf (now (w .entry)) (tableOf (now (t .entry)))) link time (identityOf random) (now (p .entry)) .plan) (now (w .entry)) (now (w .exit)) (now (out .entry)) (now (out .exit)) r ⌝ }
 {
-    if s.no_link(link) {
-        return refused(s, Refusal::NoSuchLink);
+    if store_site::head::no_link(w, link) {
+        return Answer::Refused(Refusal::NoSuchLink);
     }
     if out.len() < 4096 {
-        return refused(s, Refusal::ShortOutput);
+        return Answer::Refused(Refusal::ShortOutput);
     }
     if 4096 < p.len() {
-        return refused(s, Refusal::LongPacket);
+        return Answer::Refused(Refusal::LongPacket);
     }
-    if s.bad_time(time) {
-        return refused(s, Refusal::BadTime);
+    if store_site::head::bad_time(w, time) {
+        return Answer::Refused(Refusal::BadTime);
     }
     let l = link as u16;
-    if s.down(l) {
-        return refused(s, Refusal::WrongPhase);
+    if store_site::phases::down(w, l as usize) {
+        return Answer::Refused(Refusal::WrongPhase);
     }
     let h = read_head::read_head(p);
     let id = own_identity(random);
-    heed(s, l, time, id, p, h, out)
+    heed(w, t, l, time, id, p, h, out)
 }

@@ -1,6 +1,6 @@
 -- What the proofs of the code cite.
 -- Assumes nothing.
-use Prim.Native.Nat.{ℕ, _+_, _*_, _≤_, _<_}
+use Prim.Native.Nat.{ℕ, _+_, _*_, _%_, _≤_, _<_}
 use mathlib.Core.Path.{_≡_, refl, sym, ap, subst, _∙_}
 use mathlib.Core.Bool.{Bool, true, false}
 use mathlib.Core.List.{List, [], append-nil}
@@ -35,14 +35,20 @@ use Rattle.link.specs.Due.{alarmsFor, dueUp, dueIn, dueOf}
 use Rattle.output.specs.Put.{Out, output, putAll, Wrote}
 use Rattle.write_message.specs.Message.{Message}
 use Rattle.write_message.specs.Pieces.{pieces}
+use Rattle.table_whole.specs.declared.SiteTable.{SiteTable}
 use Rattle.site.specs.declared.Site.{Site}
 use Rattle.site.specs.declared.Step.{Step}
 use Rattle.site.specs.Site.{noLinkAt, badTimeAt, linkAt, downAt, withIssued}
-use Rattle.site.specs.Call.{Plan, only, batchOf, never, when, issuing, reportOf, stepped, refused, answerOf, stepOf, concluded, nothingOf, writtenTo, outAfter, Gives}
+use Rattle.site.specs.Call.{Plan, only, batchOf, never, when, issuing, reportOf, stepped, refused, answerOf, stepOf, nothingOf, writtenTo, outAfter, Gives}
 use Rattle.site.proofs.Checks.{link-below}
 use Rattle.awaited.specs.Awaited.{findOf, isAwaited}
 use Rattle.link.specs.Steps.{crowdedOf}
-use Rattle.call_pump.specs.Pump.{dueAt, isNothing, pumpRefuses, sends, entryPlan, planFor, pumpPlan, verdictOf, finished, Sends, Below}
+use Rattle.store_site.specs.Layout.{siteOf, withLast}
+use Rattle.store_site.specs.Turns.{Turns}
+use Rattle.store_site.proofs.TurnsLaws.{turns-then}
+use Rattle.store_call.specs.Called.{GivesIn}
+use Rattle.store_call.proofs.CallLaws.{gives-refused, gives-done}
+use Rattle.call_pump.specs.Pump.{dueAt, isNothing, pumpRefuses, sends, entryPlan, planFor, pumpPlan, verdictOf, finished, Below}
 
 abbrev doneNumber : Answer → ℕ
 doneNumber (Done r) = 0
@@ -58,8 +64,8 @@ unless : (b : Bool) (x : Refusal) (a : Answer) {r : Report} → pick b (Refused 
 unless true x a e = not-done e
 unless false x a e = refl
 
-pub verdict-below : (s : Site) (l time : ℕ) (id : Identity) (room : ℕ) {r : Report} → verdictOf s l time id room ≡ Done r → l < 4
-verdict-below s l time id room e = link-below s l (unless (noLinkAt s l) NoSuchLink _ e)
+pub verdict-below : (s : Site) (l time : ℕ) (id : Identity) (room : ℕ) {v : Answer} {r : Report} → v ≡ verdictOf s l time id room → v ≡ Done r → l < 4
+verdict-below s l time id room e d = link-below s l (unless (noLinkAt s l) NoSuchLink _ (sym e ∙ d))
 
 -- an alarm that is due has a number below the number of alarms
 few-for : (role : Role) (n : ℕ) → alarmsFor role n ≤ n
@@ -91,18 +97,6 @@ due-below l time period role n unsent m h = in-below (phaseOf l) l _ m (up-below
 
 pub alarm-below : {d : Due} {m k : ℕ} → Below m d → d ≡ Alarm k → k < m
 alarm-below {d} {m} b e = subst (Below m) e b
-
--- the end of a call that issues nothing
-pub ended : (s after : Site) {b : Batch} (time : ℕ) (report : Report) → b ≡ beginning (after .pool) (after .next)
-    → concluded s after b time report ≡ record { site = withIssued after (beginning (after .pool) (after .next)) time; answer = Done report }
-ended s after time report e = ap (λ (x : Batch). concluded s after x time report) e
-
--- a message that was written from the beginning on
-pub sent : {time : ℕ} {after : Site} {m : Message} {xs ys : List ℕ} {end : ℕ} {r : Step}
-    → Wrote xs 0 (pieces m) ys end → r ≡ finished (only after) time end → Sends time (sends after m) xs ys r
-sent {time} {after} {m} {xs} w e =
-    let a = w .all ∙ ap (λ (ps : List (List ℕ)). putAll (output xs 0) ps) (sym (append-nil (pieces m))) in
-    record { step = e ∙ ap (λ (o : Out). finished (only after) time (o .end)) a; out = ap (λ (o : Out). o .bytes) a }
 
 -- the seven conditions
 abbrev pub seven : Bool → Bool → Bool → Bool → Bool → Bool → Bool → Refusal → Bool
@@ -175,11 +169,46 @@ refused-gives s l time id {xs} {x} {r} p e d =
       out = sym (ap (λ (z : Step). outAfter xs (p .messages) (z .answer)) d);
     }
 
-pub sent-gives : (s : Site) (l time : ℕ) (id : Identity) {xs ys : List ℕ} {q : Report} {r : Step} → verdictOf s l time id (length xs) ≡ Done q → Sends time (pumpPlan s l time id) xs ys r
-    → Gives s time (pumpRefuses s l time id (length xs)) (pumpPlan s l time id) xs ys r
-sent-gives s l time id {xs} {ys} e w =
-    let p = pumpPlan s l time id in
-    record {
-      step = w .step ∙ sym (steps s l time id (length xs) p (writtenTo xs (p .messages) .end) (plan-issues (dueAt s l time) s l time id) e);
-      out = w .out ∙ sym (ap (λ (z : Step). outAfter xs (p .messages) (z .answer)) (w .step));
-    }
+-- In place. The end of a call that issues nothing, written up to `end`
+abbrev pub Ends : ℕ → ℕ → List ℕ → List ℕ → Answer → Type 0
+Ends time end us vs r = (r ≡ Done (record { hint = 0; written = end % 4294967296; closed = 0; hinted = 0 })) × Turns (λ (s : Site). withLast s time) us vs
+
+-- nothing written
+pub quiet : {t : SiteTable} {time : ℕ} {ws vs xs : List ℕ} {r : Answer} → Ends time 0 ws vs r → GivesIn t time never (only (siteOf ws t)) ws vs xs xs r
+quiet {t} {ws = ws} e = rw (e .0) (gives-done t ws _ (e .1) (record { step = refl; out = refl }))
+
+-- a message that was written from the beginning on, then the change
+pub sent : {t : SiteTable} {f : Site → Site} {m : Message} {time end : ℕ} {ws us vs xs ys : List ℕ} {r : Answer}
+    → Wrote xs 0 (pieces m) ys end → Turns f ws us → Ends time end us vs r → GivesIn t time never (sends (f (siteOf ws t)) m) ws vs xs ys r
+sent {t} {f} {m} {time} {end} {ws} {us} {vs} {xs} w c e =
+    let a = w .all ∙ ap (λ (ps : List (List ℕ)). putAll (output xs 0) ps) (sym (append-nil (pieces m))) in
+    rw (e .0) (gives-done t ws _ (turns-then c (e .1)) (record { step = ap (λ (o : Out). finished (only (f (siteOf ws t))) time (o .end)) a; out = ap (λ (o : Out). o .bytes) a }))
+
+never-clear : (w : Batch) (o : Answer) → judged (issuing w never) inOrder o ≡ pick (w .spent) (Refused SequenceSpent) o
+never-clear w o = refl
+
+never-steps : (s : Site) (time : ℕ) (p : Plan) (end : ℕ) → p .issued ≡ [] → stepOf s time never p end ≡ finished p time end
+never-steps s time p end i =
+    ap (stepped s (withIssued (p .site) (batchOf p) time)) (never-clear (batchOf p) _ ∙ done-answer (batchOf p) (p .site) _ (no-batch p i))
+    ∙ ap (λ (b : Batch). stepped s (withIssued (p .site) b time) (Done (reportOf p end))) (no-batch p i)
+
+module _ (t : SiteTable) (ws : List ℕ) (l time : ℕ) (id : Identity) where
+  abbrev pub Pumped : List ℕ → List ℕ → List ℕ → Answer → Type 0
+  Pumped xs vs ys r = GivesIn t time (pumpRefuses (siteOf ws t) l time id (length xs)) (pumpPlan (siteOf ws t) l time id) ws vs xs ys r
+
+  pub refused-in : {xs : List ℕ} {v : Answer} {x : Refusal} → v ≡ verdictOf (siteOf ws t) l time id (length xs) → v ≡ Refused x → Pumped xs ws xs (Refused x)
+  refused-in {x = x} e d = gives-refused t ws x (refused-gives (siteOf ws t) l time id (pumpPlan (siteOf ws t) l time id) (sym e ∙ d) refl)
+
+  -- where none of the checks refuses, what is due is all
+  pub done-in : {xs vs ys : List ℕ} {v : Answer} {q : Report} {r : Answer} → v ≡ verdictOf (siteOf ws t) l time id (length xs) → v ≡ Done q
+      → GivesIn t time never (pumpPlan (siteOf ws t) l time id) ws vs xs ys r → Pumped xs vs ys r
+  done-in {xs = xs} e d g =
+      let s = siteOf ws t in
+      let p = pumpPlan s l time id in
+      let end = writtenTo xs (p .messages) .end in
+      let i = plan-issues (dueAt s l time) s l time id in
+      record {
+        gives = record { step = g .gives .step ∙ never-steps s time p end i ∙ sym (steps s l time id (length xs) p end i (sym e ∙ d)); out = g .gives .out };
+        plain = g .plain;
+        kept = g .kept;
+      }

@@ -1,23 +1,31 @@
-// The call pump: sends the next due message of a link, one at most.
+// The call pump, in place: sends the next due message of a link, one at most. The site lies in the words w, its table in the bytes t.
 ghost use mathlib.Core.Path.{_≡_};
 ghost use lib.ListN.{length};
 ghost use Rattle.identity.specs.Version.{identityOf};
-ghost use Rattle.site.specs.Call.{Gives};
+ghost use Rattle.store_site.specs.Layout.{siteOf};
+ghost use Rattle.store_table.specs.Layout.{tableOf};
+ghost use Rattle.store_call.specs.Called.{GivesIn};
 ghost use Rattle.call_pump.specs.Pump.{pumpRefuses, pumpPlan};
 use answer::Answer;
 use identity::Identity;
-use site::Site;
-use site::Step;
 
 mod checks; // checks.rt: what is due, and what refuses the call
-mod send; // send.rt: the due message written, and the next site
+mod send; // send.rt: the due message written, and the change
 
-pub fn pump(s: Site, link: u32, time: u64, random: Identity, out: &mut [u8]) -> Step
-    ensures { λ r. ⌜ Gives s time (pumpRefuses s link time (identityOf random) (length (now (out .entry)))) (pumpPlan s link time (identityOf random)) (now (out .entry)) (now (out .exit)) r ⌝ }
+pub fn pump(
+    w: &mut [u64],
+    t: &[u8],
+    link: u32,
+    time: u64,
+    random: Identity,
+    out: &mut [u8],
+) -> Answer
+    requires { ⌜ (length (now w) ≡ 1173) × (length (now t) ≡ 4752) ⌝ }
+    ensures { λ r. ⌜ GivesIn (tableOf (now (t .entry))) time (pumpRefuses (siteOf (now (w .entry)) (tableOf (now (t .entry)))) link time (identityOf random) (length (now (out .entry)))) (pumpPlan (siteOf (now (w .entry)) (tableOf (now (t .entry)))) link time (identityOf random)) (now (w .entry)) (now (w .exit)) (now (out .entry)) (now (out .exit)) r ⌝ }
 {
     let id = checks::own_identity(random);
-    match checks::verdict(s, link, time, id, out.len()) {
-        Answer::Refused(why) => site::refused(s, why),
-        Answer::Done(_) => send::due(s, link as u16, time, id, out),
+    match checks::verdict(w, t, link, time, id, out.len()) {
+        Answer::Refused(why) => Answer::Refused(why),
+        Answer::Done(_) => send::due(w, t, link as u16, time, id, out),
     }
 }

@@ -1,101 +1,143 @@
-// The due message written, and the next site.
+// The due message written, then the change, then the time.
 ghost use mathlib.Core.Path.{_≡_};
-ghost use Rattle.site.specs.Call.{only};
+ghost use Prim.Native.Nat.{_%_, _<_};
+ghost use lib.ListN.{length};
+ghost use Rattle.answer.specs.declared.Answer.the-variants.{Done as doneWith};
+ghost use Rattle.pool.specs.Pool.{oldestUnsent};
+ghost use Rattle.table_whole.specs.declared.SiteTable.{SiteTable};
+ghost use Rattle.site.specs.declared.Site.{Site};
+ghost use Rattle.site.specs.Call.{never};
 ghost use Rattle.send_after.specs.Outgoing.{entrySent};
 ghost use Rattle.send_message.specs.Sending.{entryMessage};
-ghost use Rattle.call_pump.specs.Pump.{sends, versionPlan, watchdogPlan, aggregatedPlan, alarmPlan, entryPlan, pumpPlan, finished, Sends};
-ghost use Rattle.pool.specs.Pool.{oldestUnsent};
+ghost use Rattle.store_site.specs.Layout.{siteOf, withLast};
+ghost use Rattle.store_site.specs.Turns.{Turns};
+ghost use Rattle.store_table.specs.Layout.{tableOf};
+ghost use Rattle.store_call.specs.Called.{GivesIn};
+ghost use Rattle.call_pump.specs.Pump.{sends, versionPlan, watchdogPlan, aggregatedPlan, alarmPlan, entryPlan, pumpPlan};
 use super::checks;
+use answer::Answer;
 use answer::Report;
 use entry::Entry;
 use identity::Identity;
 use link::Due;
 use pool::Sought;
-use pool_batch::Batch;
-use site::Site;
-use site::Step;
 
 // The call is done: nothing issued, nothing closed, written up to `end`.
-fn finish(after: Site, time: u64, end: usize) -> Step
-    ensures { λ r. ⌜ r ≡ finished (only after) time end ⌝ }
+fn finish(w: &mut [u64], time: u64, end: usize) -> Answer
+    requires { ⌜ length (now w) ≡ 1173 ⌝ }
+    ensures report { λ r. ⌜ r ≡ doneWith (record { hint = 0; written = end % 4294967296; closed = 0; hinted = 0 }) ⌝ }
+    ensures turns { λ _. ⌜ Turns (λ (s : Site). withLast s time) (now (w .entry)) (now (w .exit)) ⌝ }
 {
-    let pool = after.pool;
-    let b = Batch::begin(pool, after.next);
-    let report = Report {
+    store_site::parts::put_last(w, time);
+    Answer::Done(Report {
         hint: 0,
         written: (end % 4294967296) as u32,
         closed: 0,
         hinted: 0,
-    };
-    site::conclude(after, after, b, time, report)
+    })
 }
 
-fn version(s: Site, l: u16, time: u64, id: Identity, out: &mut [u8]) -> Step
-    ensures { λ r. ⌜ Sends time (versionPlan s l time id) (now (out .entry)) (now (out .exit)) r ⌝ }
+fn version(w: &mut [u64], t: &[u8], l: u16, time: u64, id: Identity, out: &mut [u8]) -> Answer
+    requires { ⌜ (length (now w) ≡ 1173) × ((length (now t) ≡ 4752) × (l < 4)) ⌝ }
+    ensures { λ r. ⌜ GivesIn (tableOf (now (t .entry))) time never (versionPlan (siteOf (now (w .entry)) (tableOf (now (t .entry)))) l time id) (now (w .entry)) (now (w .exit)) (now (out .entry)) (now (out .exit)) r ⌝ }
 {
-    let table = s.table;
-    let own = table.site;
-    let sxl = table.sxl;
+    let own = store_table::site_id(t);
+    let sxl = store_table::sxl(t);
     let end = write_message::greeting::version(out, 0, id, own, sxl);
-    finish(send_after::version(s, l, time, id), time, end)
+    send_after::version(w, l, time, id);
+    finish(w, time, end)
 }
 
-fn watchdog(s: Site, l: u16, time: u64, id: Identity, out: &mut [u8]) -> Step
-    ensures { λ r. ⌜ Sends time (watchdogPlan s l time id) (now (out .entry)) (now (out .exit)) r ⌝ }
+fn watchdog(w: &mut [u64], l: u16, time: u64, id: Identity, out: &mut [u8]) -> Answer
+    requires { ⌜ (length (now w) ≡ 1173) × (l < 4) ⌝ }
+    ensures { λ r. ⌜ ((x : SiteTable) → GivesIn x time never (watchdogPlan (siteOf (now (w .entry)) x) l time id) (now (w .entry)) (now (w .exit)) (now (out .entry)) (now (out .exit)) r) ⌝ }
 {
     let end = write_message::greeting::watchdog(out, 0, id, time);
-    finish(send_after::watchdog(s, l, time, id), time, end)
+    send_after::watchdog(w, l, time, id);
+    finish(w, time, end)
 }
 
-fn aggregated(s: Site, l: u16, time: u64, id: Identity, out: &mut [u8]) -> Step
-    ensures { λ r. ⌜ Sends time (aggregatedPlan s l time id) (now (out .entry)) (now (out .exit)) r ⌝ }
+fn aggregated(w: &mut [u64], t: &[u8], l: u16, time: u64, id: Identity, out: &mut [u8]) -> Answer
+    requires { ⌜ (length (now w) ≡ 1173) × ((length (now t) ≡ 4752) × (l < 4)) ⌝ }
+    ensures { λ r. ⌜ GivesIn (tableOf (now (t .entry))) time never (aggregatedPlan (siteOf (now (w .entry)) (tableOf (now (t .entry)))) l time id) (now (w .entry)) (now (w .exit)) (now (out .entry)) (now (out .exit)) r ⌝ }
 {
-    let end = send_message::write_aggregated(out, 0, s, id);
-    finish(send_after::aggregated(s, l, time, id), time, end)
+    let end = send_message::write_aggregated(out, 0, w, t, id);
+    send_after::aggregated(w, l, time, id);
+    finish(w, time, end)
 }
 
-fn alarm(s: Site, l: u16, time: u64, id: Identity, k: u16, out: &mut [u8]) -> Step
-    ensures { λ r. ⌜ Sends time (alarmPlan s l time id k) (now (out .entry)) (now (out .exit)) r ⌝ }
+fn alarm(w: &mut [u64], t: &[u8], l: u16, time: u64, id: Identity, k: u16, out: &mut [u8]) -> Answer
+    requires { ⌜ (length (now w) ≡ 1173) × ((length (now t) ≡ 4752) × (l < 4)) ⌝ }
+    ensures { λ r. ⌜ GivesIn (tableOf (now (t .entry))) time never (alarmPlan (siteOf (now (w .entry)) (tableOf (now (t .entry)))) l time id k) (now (w .entry)) (now (w .exit)) (now (out .entry)) (now (out .exit)) r ⌝ }
 {
-    let end = send_message::write_alarm(out, 0, s, id, k as usize);
-    finish(send_after::alarm(s, l, time, id, k), time, end)
+    let end = send_message::write_alarm(out, 0, w, t, id, k as usize);
+    send_after::alarm(w, l, time, id, k);
+    finish(w, time, end)
 }
 
-fn entry(s: Site, l: u16, time: u64, id: Identity, e: Entry, out: &mut [u8]) -> Step
-    ensures { λ r. ⌜ Sends time (sends (entrySent s l time id (e .sequence)) (entryMessage s (id .bytes) e)) (now (out .entry)) (now (out .exit)) r ⌝ }
+fn entry(
+    w: &mut [u64],
+    t: &[u8],
+    l: u16,
+    time: u64,
+    id: Identity,
+    e: Entry,
+    out: &mut [u8],
+) -> Answer
+    requires { ⌜ (length (now w) ≡ 1173) × ((length (now t) ≡ 4752) × (l < 4)) ⌝ }
+    ensures { λ r. ⌜ GivesIn (tableOf (now (t .entry))) time never (sends (entrySent (siteOf (now (w .entry)) (tableOf (now (t .entry)))) l time id (e .sequence)) (entryMessage (siteOf (now (w .entry)) (tableOf (now (t .entry)))) (id .bytes) e)) (now (w .entry)) (now (w .exit)) (now (out .entry)) (now (out .exit)) r ⌝ }
 {
-    let end = send_message::write_entry(out, 0, s, id, e);
-    finish(send_after::entry(s, l, time, id, e.sequence), time, end)
+    let end = send_message::write_entry(out, 0, t, id, e);
+    send_after::entry(w, l, time, id, e.sequence);
+    finish(w, time, end)
 }
 
-fn found(x: Sought, s: Site, l: u16, time: u64, id: Identity, out: &mut [u8]) -> Step
-    ensures { λ r. ⌜ Sends time (entryPlan x s l time id) (now (out .entry)) (now (out .exit)) r ⌝ }
+fn found(
+    x: Sought,
+    w: &mut [u64],
+    t: &[u8],
+    l: u16,
+    time: u64,
+    id: Identity,
+    out: &mut [u8],
+) -> Answer
+    requires { ⌜ (length (now w) ≡ 1173) × ((length (now t) ≡ 4752) × (l < 4)) ⌝ }
+    ensures { λ r. ⌜ GivesIn (tableOf (now (t .entry))) time never (entryPlan x (siteOf (now (w .entry)) (tableOf (now (t .entry)))) l time id) (now (w .entry)) (now (w .exit)) (now (out .entry)) (now (out .exit)) r ⌝ }
 {
     match x {
-        Sought::Nothing => finish(s, time, 0),
+        Sought::Nothing => finish(w, time, 0),
         Sought::Found(place) => {
             let e = place.entry;
-            entry(s, l, time, id, e, out)
+            entry(w, t, l, time, id, e, out)
         }
     }
 }
 
-fn oldest(s: Site, l: u16, time: u64, id: Identity, out: &mut [u8]) -> Step
-    ensures { λ r. ⌜ Sends time (entryPlan (oldestUnsent (s .pool) l) s l time id) (now (out .entry)) (now (out .exit)) r ⌝ }
+fn oldest(w: &mut [u64], t: &[u8], l: u16, time: u64, id: Identity, out: &mut [u8]) -> Answer
+    requires { ⌜ (length (now w) ≡ 1173) × ((length (now t) ≡ 4752) × (l < 4)) ⌝ }
+    ensures { λ r. ⌜ GivesIn (tableOf (now (t .entry))) time never (entryPlan (oldestUnsent ((siteOf (now (w .entry)) (tableOf (now (t .entry)))) .pool) l) (siteOf (now (w .entry)) (tableOf (now (t .entry)))) l time id) (now (w .entry)) (now (w .exit)) (now (out .entry)) (now (out .exit)) r ⌝ }
 {
-    let pool = s.pool;
-    found(pool.oldest_unsent(l), s, l, time, id, out)
+    found(
+        store_pool::read::oldest_unsent(w, l),
+        w,
+        t,
+        l,
+        time,
+        id,
+        out,
+    )
 }
 
-pub fn due(s: Site, l: u16, time: u64, id: Identity, out: &mut [u8]) -> Step
-    ensures { λ r. ⌜ Sends time (pumpPlan s l time id) (now (out .entry)) (now (out .exit)) r ⌝ }
+pub fn due(w: &mut [u64], t: &[u8], l: u16, time: u64, id: Identity, out: &mut [u8]) -> Answer
+    requires { ⌜ (length (now w) ≡ 1173) × ((length (now t) ≡ 4752) × (l < 4)) ⌝ }
+    ensures { λ r. ⌜ GivesIn (tableOf (now (t .entry))) time never (pumpPlan (siteOf (now (w .entry)) (tableOf (now (t .entry)))) l time id) (now (w .entry)) (now (w .exit)) (now (out .entry)) (now (out .exit)) r ⌝ }
 {
-    match checks::due_at(s, l, time) {
-        Due::Nothing => finish(s, time, 0),
-        Due::Version => version(s, l, time, id, out),
-        Due::Watchdog => watchdog(s, l, time, id, out),
-        Due::Aggregated => aggregated(s, l, time, id, out),
-        Due::Alarm(k) => alarm(s, l, time, id, k as u16, out),
-        Due::Entry => oldest(s, l, time, id, out),
+    match checks::due_at(w, t, l, time) {
+        Due::Nothing => finish(w, time, 0),
+        Due::Version => version(w, t, l, time, id, out),
+        Due::Watchdog => watchdog(w, l, time, id, out),
+        Due::Aggregated => aggregated(w, t, l, time, id, out),
+        Due::Alarm(k) => alarm(w, t, l, time, id, k as u16, out),
+        Due::Entry => oldest(w, t, l, time, id, out),
     }
 }

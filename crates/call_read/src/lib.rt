@@ -1,9 +1,13 @@
-// What a host reads of a site. Of a link that is not configured: Down, and zeros.
+// What a host reads of a site, for every site table. Of a link that is not configured: Down, and zeros.
 ghost use mathlib.Core.Path.{_≡_};
+ghost use lib.ListN.{length};
+ghost use Rattle.pool.specs.Pool.{readingOf};
+ghost use Rattle.table_whole.specs.declared.SiteTable.{SiteTable};
+ghost use Rattle.store_site.specs.Layout.{siteOf};
 ghost use Rattle.call_read.specs.Readings.{heldAt, lostAt, phaseNumber, phaseAt, versionAt, recordAt};
 use link::Phase;
 use pool::Reading;
-use site::Site;
+use pool::Sought;
 
 // The version that both ends chose; zeros before.
 #[repr(C)]
@@ -14,25 +18,25 @@ pub struct ChosenVersion {
 }
 
 // How many records of the link are held.
-pub fn held(s: Site, link: u32) -> u64
-    ensures { λ r. ⌜ r ≡ heldAt s link ⌝ }
+pub fn held(w: &[u64], link: u32) -> u64
+    requires { ⌜ length (now w) ≡ 1173 ⌝ }
+    ensures { λ r. ⌜ ((t : SiteTable) → r ≡ heldAt (siteOf (now (w .entry)) t) link) ⌝ }
 {
-    if s.no_link(link) {
+    if store_site::head::no_link(w, link) {
         return 0;
     }
-    let pool = s.pool;
-    pool.held(link as u16) as u64
+    store_pool::read::held(w, link as u16) as u64
 }
 
 // How many records the link lost since start.
-pub fn lost(s: Site, link: u32) -> u64
-    ensures { λ r. ⌜ r ≡ lostAt s link ⌝ }
+pub fn lost(w: &[u64], link: u32) -> u64
+    requires { ⌜ length (now w) ≡ 1173 ⌝ }
+    ensures { λ r. ⌜ ((t : SiteTable) → r ≡ lostAt (siteOf (now (w .entry)) t) link) ⌝ }
 {
-    if s.no_link(link) {
+    if store_site::head::no_link(w, link) {
         return 0;
     }
-    let pool = s.pool;
-    pool.lost(link as u16)
+    store_pool::read::lost(w, link as u16)
 }
 
 fn phase_number(p: Phase) -> u32
@@ -47,44 +51,58 @@ fn phase_number(p: Phase) -> u32
 }
 
 // 0 Down, 1 Greeting, 2 Beating, 3 Up.
-pub fn phase(s: Site, link: u32) -> u32
-    ensures { λ r. ⌜ r ≡ phaseAt s link ⌝ }
+pub fn phase(w: &[u64], link: u32) -> u32
+    requires { ⌜ length (now w) ≡ 1173 ⌝ }
+    ensures { λ r. ⌜ ((t : SiteTable) → r ≡ phaseAt (siteOf (now (w .entry)) t) link) ⌝ }
 {
-    if s.no_link(link) {
+    if store_site::head::no_link(w, link) {
         return 0;
     }
-    let k = s.link(link as u16);
-    phase_number(k.phase())
+    phase_number(store_site::phases::phase(w, link as usize))
 }
 
-pub fn version_of(s: Site, link: u32) -> ChosenVersion
-    ensures { λ r. ⌜ r ≡ versionAt s link ⌝ }
+pub fn version_of(w: &[u64], link: u32) -> ChosenVersion
+    requires { ⌜ length (now w) ≡ 1173 ⌝ }
+    ensures { λ r. ⌜ ((t : SiteTable) → r ≡ versionAt (siteOf (now (w .entry)) t) link) ⌝ }
 {
-    if s.no_link(link) {
+    if store_site::head::no_link(w, link) {
         return ChosenVersion {
             major: 0,
             minor: 0,
             patch: 0,
         };
     }
-    let k = s.link(link as u16);
+    let l = link as usize;
     ChosenVersion {
-        major: k.major,
-        minor: k.minor,
-        patch: k.patch,
+        major: store_site::phases::major(w, l),
+        minor: store_site::phases::minor(w, l),
+        patch: store_site::phases::patch(w, l),
+    }
+}
+
+fn reading(s: Sought) -> Reading
+    ensures { λ r. ⌜ r ≡ readingOf s ⌝ }
+{
+    match s {
+        Sought::Nothing => Reading {
+            found: false,
+            bytes: [0; 16],
+        },
+        Sought::Found(x) => {
+            let packed = entry::pack(x.entry);
+            let bytes = packed.bytes;
+            Reading { found: true, bytes }
+        }
     }
 }
 
 // The sixteen bytes of the link's held record than which so many of the link are older.
-pub fn record_at(s: Site, link: u32, rank: u64) -> Reading
-    ensures { λ r. ⌜ r ≡ recordAt s link rank ⌝ }
+pub fn record_at(w: &[u64], link: u32, rank: u64) -> Reading
+    requires { ⌜ length (now w) ≡ 1173 ⌝ }
+    ensures { λ r. ⌜ ((t : SiteTable) → r ≡ recordAt (siteOf (now (w .entry)) t) link rank) ⌝ }
 {
-    if s.no_link(link) {
-        return Reading {
-            found: false,
-            bytes: [0; 16],
-        };
+    if store_site::head::no_link(w, link) {
+        return reading(Sought::Nothing);
     }
-    let pool = s.pool;
-    pool.read(link as u16, rank as usize)
+    reading(store_pool::read::ranked(w, link as u16, rank as usize))
 }

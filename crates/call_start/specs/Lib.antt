@@ -1,3 +1,4 @@
 pub mod Fresh
 pub mod Starts
 pub mod Making
+pub mod Begun

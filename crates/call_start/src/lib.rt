@@ -1,19 +1,26 @@
-// Start: the first site, from the site table's bytes and the values of the host.
+// Start: the first site, from the site table's bytes and the values of the host, in words and bytes that the host lends.
 ghost use mathlib.Core.Path.{_≡_};
-ghost use Rattle.call_start.specs.Fresh.{fresh as freshOf, primaryOf};
-ghost use Rattle.call_start.specs.Making.{aLinkOrNone, valuesWithin, isWithin, notAccepted, makeOf, judgedBy};
-ghost use Rattle.call_start.specs.Starts.{Starts};
+ghost use lib.ListN.{length, replicate};
+ghost use Rattle.pool.specs.Pool.{emptyOf};
+ghost use Rattle.subscription.specs.Subscription.{none};
+ghost use Rattle.alarm.specs.Alarm.{beginning};
+ghost use Rattle.status.specs.Status.{unknown};
+ghost use Rattle.table_whole.specs.declared.SiteTable.{SiteTable};
+ghost use Rattle.site.specs.declared.Site.{Site};
+ghost use Rattle.site.specs.Site.{withPool, withSubscriptions, withAlarms, withStatuses};
+ghost use Rattle.store_site.specs.Turns.{Turns};
+ghost use Rattle.store_image.specs.Image.{wordsOf};
+ghost use Rattle.call_start.specs.Fresh.{fresh, primaryOf};
+ghost use Rattle.call_start.specs.Making.{aLinkOrNone, valuesWithin, isWithin, judgedBy};
+ghost use Rattle.call_start.specs.Begun.{Begun, StartsIn};
 use aggregated::Aggregated;
 use alarm::Alarm;
 use answer::Answer;
 use answer::Refusal;
 use link::Link;
 use pool::Pool;
-use site::Site;
-use site::Step;
 use status::Status;
 use subscription::Subscription;
-use table_whole::SiteTable;
 use table_whole::TableRead;
 use table_whole::Verdict;
 
@@ -63,83 +70,91 @@ fn within(links: u32, primary: u32, period: u32, first: u64, time: u64) -> bool
     false
 }
 
-// Every link Down, nothing held, nothing known.
-fn fresh(table: SiteTable, links: u16, primary: u16, period: u32, first: u64, time: u64) -> Site
-    ensures { λ r. ⌜ r ≡ freshOf table links primary period first time ⌝ }
+// Nothing held, nothing lost.
+fn empty_pool(w: &mut [u64])
+    requires { ⌜ length (now w) ≡ 1173 ⌝ }
+    ensures { λ _. ⌜ Turns (λ (s : Site). withPool s (emptyOf 4)) (now (w .entry)) (now (w .exit)) ⌝ }
 {
-    let link = Link::closed();
-    let subscription = Subscription::none();
-    let alarm = Alarm::begin(time);
-    let status = Status::unknown();
-    Site {
-        pool: Pool::empty(),
-        links: [link; 4],
-        subscriptions: [subscription; 128],
-        alarms: [alarm; 32],
-        statuses: [status; 32],
-        aggregated: Aggregated::begin(time),
-        next: first,
-        last: time,
-        period,
-        linkcount: links,
-        primary,
-        table,
-    }
+    let pool = Pool::empty();
+    let places = pool.places;
+    let lost = pool.lost;
+    store_whole::lists::put_places(w, places);
+    store_whole::lists::put_lost(w, lost);
 }
 
-// There is no site.
-fn not_accepted() -> Step
-    ensures { λ r. ⌜ r ≡ notAccepted ⌝ }
+// Nothing subscribed, nothing known, every alarm as at the start time.
+fn begin_items(w: &mut [u64], time: u64)
+    requires { ⌜ length (now w) ≡ 1173 ⌝ }
+    ensures { λ _. ⌜ Turns (λ (s : Site). withStatuses (withAlarms (withSubscriptions s (replicate 128 none)) (replicate 32 (beginning time))) (replicate 32 unknown)) (now (w .entry)) (now (w .exit)) ⌝ }
 {
-    site::refused(
-        fresh(table_whole::none(), 0, 65535, 0, 0, 0),
-        Refusal::NotAccepted,
-    )
+    store_whole::lists::fill_subscriptions(w, Subscription::none());
+    store_whole::lists::fill_alarms(w, Alarm::begin(time));
+    store_whole::lists::fill_statuses(w, Status::unknown());
 }
 
-fn judge(verdict: Verdict, made: Site) -> Step
-    ensures { λ r. ⌜ r ≡ judgedBy verdict made ⌝ }
+// Every word is stored: what it was does not matter.
+fn put_fresh(w: &mut [u64], links: u16, primary: u16, period: u32, first: u64, time: u64)
+    requires { ⌜ length (now w) ≡ 1173 ⌝ }
+    ensures { λ _. ⌜ ((t : SiteTable) → now (w .exit) ≡ wordsOf (fresh t links primary period first time)) ⌝ }
 {
+    let changed = Aggregated::begin(time);
+    store_whole::put_head(w, first, time, period, links, primary, changed);
+    empty_pool(w);
+    begin_items(w, time);
+    store_whole::lists::fill_links(w, Link::closed());
+}
+
+// The table is stored, and the site that it begins with, where the table is accepted.
+fn begin(
+    w: &mut [u64],
+    t: &mut [u8],
+    read: TableRead,
+    links: u16,
+    primary: u16,
+    period: u32,
+    first: u64,
+    time: u64,
+) -> Answer
+    requires { ⌜ (length (now w) ≡ 1173) × (length (now t) ≡ 4752) ⌝ }
+    ensures { λ r. ⌜ Begun (judgedBy (read .verdict) (fresh (read .table) links primary period first time)) (now (w .entry)) (now (w .exit)) (now (t .entry)) (now (t .exit)) r ⌝ }
+{
+    let table = read.table;
+    let verdict = read.verdict;
     match verdict {
-        Verdict::Refused(_) => not_accepted(),
-        Verdict::Accepted => Step {
-            site: made,
-            answer: Answer::Done(site::nothing()),
-        },
+        Verdict::Refused(_) => Answer::Refused(Refusal::NotAccepted),
+        Verdict::Accepted => {
+            store_table::put(t, table);
+            put_fresh(w, links, primary, period, first, time);
+            Answer::Done(site::nothing())
+        }
     }
-}
-
-fn make(read: TableRead, links: u32, primary: u32, period: u32, first: u64, time: u64) -> Step
-    ensures { λ r. ⌜ r ≡ makeOf read links primary period first time ⌝ }
-{
-    if within(links, primary, period, first, time) {
-        let table = read.table;
-        let verdict = read.verdict;
-        return judge(
-            verdict,
-            fresh(
-                table,
-                links as u16,
-                primary_of(primary),
-                period,
-                first,
-                time,
-            ),
-        );
-    }
-    not_accepted()
 }
 
 // Accepts exactly values within their limits with the bytes of a table that is allowed.
-pub fn start(table: &[u8], links: u32, primary: u32, period: u32, first: u64, time: u64) -> Step
-    ensures { λ r. ⌜ Starts (now (table .entry)) links primary period first time r ⌝ }
+pub fn start(
+    w: &mut [u64],
+    t: &mut [u8],
+    table: &[u8],
+    links: u32,
+    primary: u32,
+    period: u32,
+    first: u64,
+    time: u64,
+) -> Answer
+    requires { ⌜ (length (now w) ≡ 1173) × (length (now t) ≡ 4752) ⌝ }
+    ensures { λ r. ⌜ StartsIn (now (table .entry)) links primary period first time (now (w .entry)) (now (w .exit)) (now (t .entry)) (now (t .exit)) r ⌝ }
 {
-    make(
-        table_whole::read(table),
-        links,
-        primary,
-        period,
-        first,
-        time,
-    )
+    if within(links, primary, period, first, time) {
+        return begin(
+            w,
+            t,
+            table_whole::read(table),
+            links as u16,
+            primary_of(primary),
+            period,
+            first,
+            time,
+        );
+    }
+    Answer::Refused(Refusal::NotAccepted)
 }

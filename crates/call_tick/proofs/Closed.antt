@@ -72,7 +72,8 @@ module _ (time : ℕ) {A : Type 0} (f : Site → ℕ → A) (other : (t : Site) 
   above s zero m h = refl
   above s (suc n) m h = other (closedTo s time n) n m (λ e. omega arith) ∙ above s n m (omega arith)
 
-late-before : (s : Site) (time n : ℕ) → lateAt (closedTo s time n) n time ≡ lateAt s n time
+-- the links below n being closed, n is late where it was
+pub late-before : (s : Site) (time n : ℕ) → lateAt (closedTo s time n) n time ≡ lateAt s n time
 late-before s time n = rw (above time linkAt (λ t. other-link t time) s n n (omega arith)) refl
 
 module _ (time : ℕ) {A : Type 0} (f : Site → ℕ → A) (g : A → A)

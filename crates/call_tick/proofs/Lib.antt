@@ -2,4 +2,5 @@ pub mod Masks
 pub mod Records
 pub mod Judged
 pub mod Closed
+pub mod InPlace
 pub mod Kept

@@ -1,49 +1,41 @@
 // Each link with one awaited 30,000 ms or longer is closed.
 ghost use mathlib.Core.Path.{_≡_};
+ghost use Prim.Native.Nat.{_<_};
+ghost use lib.ListN.{length};
+ghost use Rattle.table_whole.specs.declared.SiteTable.{SiteTable};
+ghost use Rattle.site.specs.declared.Site.{Site};
+ghost use Rattle.store_site.specs.Layout.{siteOf};
+ghost use Rattle.store_site.specs.Turns.{Turns};
 ghost use Rattle.call_tick.specs.Closing.{lateAt, closeLate, closedTo, lateMask, maskTo};
-use site::Site;
 
-fn late(s: Site, l: u16, time: u64) -> bool
-    ensures { λ r. ⌜ r ≡ lateAt s l time ⌝ }
+fn late(w: &[u64], l: u16, time: u64) -> bool
+    requires { ⌜ (length (now w) ≡ 1173) × (l < 4) ⌝ }
+    ensures { λ r. ⌜ ((t : SiteTable) → r ≡ lateAt (siteOf (now (w .entry)) t) l time) ⌝ }
 {
-    let k = s.link(l);
+    let k = store_site::parts::link(w, l as usize);
     k.late(time)
 }
 
-fn close_late(s: Site, l: u16, time: u64) -> Site
-    ensures { λ r. ⌜ r ≡ closeLate s l time ⌝ }
+// Its bit where it is closed.
+fn close_late(w: &mut [u64], l: u16, time: u64) -> u16
+    requires { ⌜ (length (now w) ≡ 1173) × (l < 4) ⌝ }
+    ensures { λ r. ⌜ Turns (λ (s : Site). closeLate s l time) (now (w .entry)) (now (w .exit)) × ((t : SiteTable) → r ≡ lateMask (siteOf (now (w .entry)) t) l time) ⌝ }
 {
-    if late(s, l, time) {
-        return s.close(l);
-    }
-    s
-}
-
-pub fn close_all(s: Site, time: u64) -> Site
-    ensures { λ r. ⌜ r ≡ closedTo s time 4 ⌝ }
-{
-    let a = close_late(s, 0, time);
-    let b = close_late(a, 1, time);
-    let c = close_late(b, 2, time);
-    close_late(c, 3, time)
-}
-
-fn late_bit(s: Site, l: u16, time: u64) -> u16
-    ensures { λ r. ⌜ r ≡ lateMask s l time ⌝ }
-{
-    if late(s, l, time) {
+    if late(w, l, time) {
+        store_call::close(w, l);
         return site::bit_of(l);
     }
     0
 }
 
 // The links that are closed.
-pub fn closed_bits(s: Site, time: u64) -> u16
-    ensures { λ r. ⌜ r ≡ maskTo s time 4 ⌝ }
+pub fn close_all(w: &mut [u64], time: u64) -> u16
+    requires { ⌜ length (now w) ≡ 1173 ⌝ }
+    ensures { λ r. ⌜ Turns (λ (s : Site). closedTo s time 4) (now (w .entry)) (now (w .exit)) × ((t : SiteTable) → r ≡ maskTo (siteOf (now (w .entry)) t) time 4) ⌝ }
 {
-    let a = late_bit(s, 0, time);
-    let b = late_bit(s, 1, time);
-    let c = late_bit(s, 2, time);
-    let d = late_bit(s, 3, time);
+    let a = close_late(w, 0, time);
+    let b = close_late(w, 1, time);
+    let c = close_late(w, 2, time);
+    let d = close_late(w, 3, time);
     a + b + c + d
 }

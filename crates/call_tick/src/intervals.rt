@@ -1,65 +1,82 @@
 // What the subscriptions issue at a tick, and the subscriptions after it.
 ghost use mathlib.Core.Path.{_≡_};
-ghost use mathlib.Core.List.{map};
-ghost use Rattle.pool_batch.specs.Batch.{addedAll};
-ghost use Rattle.call_tick.specs.Intervals.{renewed as renewedOf, recordOf, recordsOf};
-use link::Link;
-use pool_batch::Batch;
-use site::records;
-use status::Status;
-use subscription::Subscription;
+ghost use mathlib.Core.List.{List, map};
+ghost use Prim.Native.Nat.{_<_};
+ghost use lib.ListN.{length};
+ghost use Rattle.link.specs.declared.Link.{Link};
+ghost use Rattle.subscription.specs.Subscription.{tickOf};
+ghost use Rattle.table_whole.specs.declared.SiteTable.{SiteTable};
+ghost use Rattle.site.specs.declared.Site.{Site};
+ghost use Rattle.site.specs.Site.{withSubscriptions};
+ghost use Rattle.site.specs.Parts.{subscriptionAt, withSubscription};
+ghost use Rattle.store_site.specs.Layout.{siteOf};
+ghost use Rattle.store_site.specs.Turns.{Turns};
+ghost use Rattle.store_call.specs.Issued.{issuedIn};
+ghost use Rattle.call_tick.specs.Intervals.{renewed, recordAt, recordsOf};
 
-fn renewed(x: Subscription, time: u64) -> Subscription
-    ensures { λ r. ⌜ r ≡ renewedOf time x ⌝ }
+fn issues(w: &[u64], i: u16, time: u64) -> bool
+    requires { ⌜ (length (now w) ≡ 1173) × (i < 128) ⌝ }
+    ensures { λ r. ⌜ ((t : SiteTable) → r ≡ tickOf (subscriptionAt (siteOf (now (w .entry)) t) i) time .issues) ⌝ }
 {
+    let x = store_site::parts::subscription(w, i as usize);
     let t = x.on_tick(time);
-    t.subscription
+    t.issues
 }
 
-pub fn all_renewed(list: [Subscription; 128], time: u64) -> [Subscription; 128]
-    ensures { λ r. ⌜ r ≡ map (renewedOf time) list ⌝ }
+// How many records are issued, whatever the links ns are.
+pub fn how_many(w: &[u64], time: u64) -> u64
+    requires { ⌜ length (now w) ≡ 1173 ⌝ }
+    ensures { λ r. ⌜ ((t : SiteTable) (ns : List Link) → r ≡ length (recordsOf (siteOf (now (w .entry)) t .subscriptions) (siteOf (now (w .entry)) t .statuses) ns time)) ⌝ }
 {
-    let mut changed = list;
-    let mut i: usize = 0;
-    while i < 128 {
-        changed[i] = renewed(list[i], time);
-        i += 1;
-    }
-    changed
-}
-
-// The record of the place i, where its subscription x issues one; k is its status and n its link.
-fn issue_one(b: Batch, x: Subscription, k: Status, n: Link, time: u64, i: u16) -> Batch
-    ensures { λ r. ⌜ r ≡ addedAll 4 b (recordOf x k n time i) ⌝ }
-{
-    let t = x.on_tick(time);
-    if t.issues {
-        return b.add(records::status(n, k, i / 32, i % 32, time));
-    }
-    b
-}
-
-pub fn issue_all(
-    b: Batch,
-    list: [Subscription; 128],
-    statuses: [Status; 32],
-    links: [Link; 4],
-    time: u64,
-) -> Batch
-    ensures { λ r. ⌜ r ≡ addedAll 4 b (recordsOf list statuses links time) ⌝ }
-{
-    let mut c = b;
+    let mut n: u64 = 0;
     let mut i: u16 = 0;
     while i < 128 {
-        c = issue_one(
-            c,
-            list[i as usize],
-            statuses[(i % 32) as usize],
-            links[(i / 32) as usize],
-            time,
-            i,
-        );
+        n = store_call::records::more_if(n, issues(w, i, time));
         i += 1;
     }
-    c
+    n
+}
+
+// The record of the place i, where its subscription issues one.
+fn issue_one(w: &mut [u64], i: u16, time: u64)
+    requires { ⌜ (length (now w) ≡ 1173) × (i < 128) ⌝ }
+    ensures { λ _. ⌜ Turns (λ (s : Site). issuedIn s (recordAt (s .subscriptions) (s .statuses) (s .links) time i)) (now (w .entry)) (now (w .exit)) ⌝ }
+{
+    if issues(w, i, time) {
+        let k = store_site::parts::status(w, (i % 32) as usize);
+        let e = store_call::records::status(w, k, i / 32, i % 32, time);
+        store_call::add(w, e);
+        return;
+    }
+}
+
+pub fn issue_all(w: &mut [u64], time: u64)
+    requires { ⌜ length (now w) ≡ 1173 ⌝ }
+    ensures { λ _. ⌜ Turns (λ (s : Site). issuedIn s (recordsOf (s .subscriptions) (s .statuses) (s .links) time)) (now (w .entry)) (now (w .exit)) ⌝ }
+{
+    let mut i: u16 = 0;
+    while i < 128 {
+        issue_one(w, i, time);
+        i += 1;
+    }
+}
+
+fn renew(w: &mut [u64], i: usize, time: u64)
+    requires { ⌜ (length (now w) ≡ 1173) × (i < 128) ⌝ }
+    ensures { λ _. ⌜ Turns (λ (s : Site). withSubscription s i (renewed time (subscriptionAt s i))) (now (w .entry)) (now (w .exit)) ⌝ }
+{
+    let x = store_site::parts::subscription(w, i);
+    let t = x.on_tick(time);
+    store_site::parts::put_subscription(w, i, t.subscription);
+}
+
+pub fn renew_all(w: &mut [u64], time: u64)
+    requires { ⌜ length (now w) ≡ 1173 ⌝ }
+    ensures { λ _. ⌜ Turns (λ (s : Site). withSubscriptions s (map (renewed time) (s .subscriptions))) (now (w .entry)) (now (w .exit)) ⌝ }
+{
+    let mut i: usize = 0;
+    while i < 128 {
+        renew(w, i, time);
+        i += 1;
+    }
 }

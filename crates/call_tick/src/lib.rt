@@ -1,56 +1,49 @@
-// The passing of time: links that waited too long for an answer are closed, and subscriptions issue at their intervals.
+// The passing of time, in place: links that waited too long for an answer are closed, and subscriptions issue at their intervals.
 ghost use mathlib.Core.Path.{_≡_};
-ghost use Rattle.pool_batch.specs.Batch.{issuedAll};
-ghost use Rattle.call_tick.specs.Intervals.{recordsOf};
-ghost use Rattle.call_tick.specs.Tick.{siteAfter, reportAfter, tickStep};
+ghost use lib.ListN.{length};
+ghost use Rattle.table_whole.specs.declared.SiteTable.{SiteTable};
+ghost use Rattle.site.specs.declared.Site.{Site};
+ghost use Rattle.site.specs.Site.{withIssued};
+ghost use Rattle.site.specs.Call.{batchOf};
+ghost use Rattle.store_site.specs.Layout.{siteOf};
+ghost use Rattle.store_site.specs.Turns.{Turns};
+ghost use Rattle.store_call.specs.Called.{StepsIn};
+ghost use Rattle.call_tick.specs.Closing.{maskTo};
+ghost use Rattle.call_tick.specs.Tick.{siteAfter, tickPlan, tickStep};
+use answer::Answer;
 use answer::Refusal;
 use answer::Report;
-use pool_batch::Batch;
-use site::Site;
-use site::Step;
 
 mod closing; // closing.rt: each link with one awaited 30,000 ms or longer is closed
 mod intervals; // intervals.rt: what the subscriptions issue, and the subscriptions after it
 
-// The site but for the records issued and the time.
-fn after(s: Site, time: u64) -> Site
-    ensures { λ r. ⌜ r ≡ siteAfter s time ⌝ }
+// All that a tick does; the links that it closes.
+fn pass(w: &mut [u64], time: u64) -> u16
+    requires { ⌜ length (now w) ≡ 1173 ⌝ }
+    ensures { λ r. ⌜ Turns (λ (s : Site). withIssued (siteAfter s time) (batchOf (tickPlan s time)) time) (now (w .entry)) (now (w .exit)) × ((t : SiteTable) → r ≡ maskTo (siteOf (now (w .entry)) t) time 4) ⌝ }
 {
-    let list = s.subscriptions;
-    let renewed = intervals::all_renewed(list, time);
-    let mut t = closing::close_all(s, time);
-    t.subscriptions = renewed;
-    t
+    let closed = closing::close_all(w, time);
+    intervals::issue_all(w, time);
+    intervals::renew_all(w, time);
+    store_site::parts::put_last(w, time);
+    closed
 }
 
-// What the subscriptions of s issue while the links are as in t, from the pool and the next number of t.
-fn issued(s: Site, t: Site, time: u64) -> Batch
-    ensures { λ r. ⌜ r ≡ issuedAll 4 (t .pool) (t .next) (recordsOf (s .subscriptions) (s .statuses) (t .links) time) ⌝ }
+pub fn tick(w: &mut [u64], time: u64) -> Answer
+    requires { ⌜ length (now w) ≡ 1173 ⌝ }
+    ensures { λ r. ⌜ ((t : SiteTable) → StepsIn t (tickStep (siteOf (now (w .entry)) t) time) (now (w .entry)) (now (w .exit)) r) ⌝ }
 {
-    let pool = t.pool;
-    let list = s.subscriptions;
-    let statuses = s.statuses;
-    let links = t.links;
-    intervals::issue_all(Batch::begin(pool, t.next), list, statuses, links, time)
-}
-
-fn report(s: Site, time: u64) -> Report
-    ensures { λ r. ⌜ r ≡ reportAfter s time ⌝ }
-{
-    Report {
+    if store_site::head::bad_time(w, time) {
+        return Answer::Refused(Refusal::BadTime);
+    }
+    if store_call::spent(w, intervals::how_many(w, time)) {
+        return Answer::Refused(Refusal::SequenceSpent);
+    }
+    let closed = pass(w, time);
+    Answer::Done(Report {
         hint: 0,
         written: 0,
-        closed: closing::closed_bits(s, time),
+        closed,
         hinted: 0,
-    }
-}
-
-pub fn tick(s: Site, time: u64) -> Step
-    ensures { λ r. ⌜ r ≡ tickStep s time ⌝ }
-{
-    if s.bad_time(time) {
-        return site::refused(s, Refusal::BadTime);
-    }
-    let t = after(s, time);
-    site::conclude(s, t, issued(s, t, time), time, report(s, time))
+    })
 }

@@ -15,9 +15,10 @@ use Rattle.write_laws.proofs.Kept.{kept as messages}
 use Rattle.machine.proofs.Computed.{marked, conversation}
 use Rattle.demand_refused.proofs.Demand.{demand1}
 use Rattle.demand_told.proofs.Demand.{demand2}
-use Rattle.demand_greeted.proofs.Demand.{demand-greeted}
-use Rattle.demand_read.proofs.Demand.{demand-read}
+use Rattle.demand_told.proofs.GreetedDemand.{demand-greeted}
+use Rattle.demand_told.proofs.ReadDemand.{demand-read}
 use Rattle.demand_held.proofs.Demand.{demand3}
+use Rattle.demand_carried.proofs.Demand.{demand-carried}
 use Rattle.demand_happens.proofs.Pumped.{pumping}
 use Rattle.demand_happens.proofs.Greeting.{greeting}
 use Rattle.demand_happens.proofs.Records.{sending}
@@ -32,6 +33,7 @@ demands =
       greeted = demand-greeted;
       reads-back = demand-read;
       keeping = demand3;
+      carrying = demand-carried;
       pumping = pumping;
       greeting = greeting;
       sending = sending;

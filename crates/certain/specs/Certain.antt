@@ -33,9 +33,10 @@ use Rattle.write_laws.specs.Claims.{Claims as Messages}
 use Rattle.machine.specs.Computed.{Marked, Conversation}
 use Rattle.demand_refused.specs.Demand.{Demand1}
 use Rattle.demand_told.specs.Demand.{Demand2}
-use Rattle.demand_greeted.specs.Demand.{DemandGreeted}
-use Rattle.demand_read.specs.Demand.{DemandRead}
+use Rattle.demand_told.specs.GreetedDemand.{DemandGreeted}
+use Rattle.demand_told.specs.ReadDemand.{DemandRead}
 use Rattle.demand_held.specs.Demand.{Demand3}
+use Rattle.demand_carried.specs.Demand.{DemandCarried}
 use Rattle.demand_happens.specs.Pumped.{Pumping}
 use Rattle.demand_happens.specs.Greeting.{Greeting}
 use Rattle.demand_happens.specs.Records.{Sending}
@@ -55,6 +56,8 @@ pub record Demands : Type 0 where
   -- 3. "a record issued for a supervisor stays held until that supervisor answers a message carrying it, or until a call issues a record after
   -- which at least 16 newer records for the same supervisor are held. None ever has more than 64 held."
   pub keeping : Demand3
+  -- "a message carrying it": one that told the record, went out on its link in this life of it, and was not answered since
+  pub carrying : DemandCarried
   -- "greets properly and then only pretends to issue or send": what is due goes out, a greeting leads to Up, every held record is sent
   pub pumping : Pumping
   pub greeting : Greeting

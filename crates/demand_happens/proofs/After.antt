@@ -24,8 +24,8 @@ use Rattle.machine.specs.Answers.{isAnswer, isIgnored, reasonOf}
 use Rattle.machine.specs.Effects.{ownIdentity, answerCloses, acknowledges, settle, carriedOut, receives, effectOf}
 use Rattle.machine.specs.Step.{numberOf, outcome, step}
 use Rattle.demand_held.proofs.Steps.{step-done, step-refused}
-use Rattle.demand_greeted.proofs.Apart.{apart}
-use Rattle.demand_greeted.proofs.Demand.{by-number}
+use Rattle.demand_told.proofs.Apart.{apart}
+use Rattle.demand_told.proofs.GreetedDemand.{by-number}
 use Rattle.demand_happens.specs.Pumped.{at}
 use Rattle.demand_happens.specs.Greeting.{Arrives, Answers, Meanwhile}
 use Rattle.demand_happens.specs.Greeting.Meanwhile.{not-done, elsewhere}

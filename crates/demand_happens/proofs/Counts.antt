@@ -8,7 +8,7 @@ use mathlib.Core.Option.{Option, some}
 use mathlib.Core.Logic.{_⊎_, inl, inr}
 use lib.Dec.{eqb, leb}
 use native.Mathlib.Omega.{arith}
-use borrow.Author.Tests.{eq-eqb, ne-eqb}
+use borrow.Author.Tests.{eq-eqb, eqb-true, ne-eqb}
 use Rattle.basis.specs.Pick.{pick, both, bit}
 use Rattle.basis.specs.Lists.{count, Among}
 use Rattle.basis.specs.Lists.Among.{first as here, later}
@@ -107,6 +107,7 @@ oldest f {x} (y ∷ hs) (rises le r) (later i) e = bool-cases (f y) (λ g. first
 -- ---- the newest record of an alarm
 pub record Newest (l i : ℕ) (h : Held) (hs : List Held) : Type 0 where
   pub among : Among h hs
+  pub own : h .link ≡ l
   pub told : isSome (alarmIn i (h .content)) ≡ true
 
 pub newest-of : (l i : ℕ) (h : Held) (found : Option Held) (hs : List Held) → newest l i found hs ≡ some h → (found ≡ some h) ⊎ Newest l i h hs
@@ -117,10 +118,10 @@ newest-of l i h found (y ∷ hs) e =
     (λ g. not-it (newest-of l i h found hs (rw g at e)))
   where
     on : Newest l i h hs → Newest l i h (y ∷ hs)
-    on w = record { among = later (w .among); told = w .told }
+    on w = record { among = later (w .among); own = w .own; told = w .told }
 
     is : both (eqb (y .link) l) (isSome (alarmIn i (y .content))) ≡ true → (some y ≡ some h) ⊎ Newest l i h hs → (found ≡ some h) ⊎ Newest l i h (y ∷ hs)
-    is g (inl q) = let same : y ≡ h = cc in inr (subst (λ (z : Held). Newest l i z (y ∷ hs)) same (record { among = here; told = both-true (eqb (y .link) l) _ g .1 }))
+    is g (inl q) = let same : y ≡ h = cc in inr (subst (λ (z : Held). Newest l i z (y ∷ hs)) same (record { among = here; own = eqb-true (y .link) l (both-true (eqb (y .link) l) _ g .0); told = both-true (eqb (y .link) l) _ g .1 }))
     is g (inr w) = inr (on w)
 
     not-it : (found ≡ some h) ⊎ Newest l i h hs → (found ≡ some h) ⊎ Newest l i h (y ∷ hs)

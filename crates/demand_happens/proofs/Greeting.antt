@@ -23,8 +23,8 @@ use Rattle.machine.specs.Effects.{connects, ownIdentity, afterSending, sends, a
 use Rattle.machine.specs.Step.{conditions, step, leaves}
 use Rattle.machine.specs.Run.{Past, Run}
 use Rattle.machine.specs.Run.Run.{next}
-use Rattle.demand_greeted.specs.Greeted.{IsGoodVersion, IsTheirWatchdog}
-use Rattle.demand_greeted.proofs.Demand.{same-setup}
+use Rattle.demand_told.specs.Greeted.{IsGoodVersion, IsTheirWatchdog}
+use Rattle.demand_told.proofs.GreetedDemand.{same-setup}
 use Rattle.demand_happens.specs.Pumped.{at, Timely, CanPump}
 use Rattle.demand_happens.specs.Greeting.{Arrives, Answers, WellFormed, Ours, isSent, Stage, Greets, Greeting}
 use Rattle.demand_happens.specs.Greeting.Ours.{unsent, sent, acknowledged}

@@ -23,7 +23,7 @@ use Rattle.machine.specs.Step.{isReplied, conditions, numberOf}
 use Rattle.demand_held.proofs.Lists.{Each}
 use Rattle.demand_held.proofs.Lists.Each.{no-more, one-more}
 use Rattle.demand_told.proofs.Replies.{one-type}
-use Rattle.demand_greeted.specs.Greeted.{IsGoodVersion, IsTheirWatchdog}
+use Rattle.demand_told.specs.Greeted.{IsGoodVersion, IsTheirWatchdog}
 use Rattle.demand_happens.specs.Pumped.{at}
 use Rattle.demand_happens.specs.Greeting.{Arrives, Answers, WellFormed}
 use Rattle.demand_happens.proofs.Done.{configured-link, good-time, not-down}

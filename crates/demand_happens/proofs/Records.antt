@@ -87,7 +87,7 @@ same-alarm a b e =
         → alarmOf (a .active) (a .acknowledged) (a .suspended) (a .event) (a .time) ≡ alarmOf (b .active) (b .acknowledged) (b .suspended) (b .event) (b .time)
     fields v w x y z = rw (v, w, x, y, z)
 
-own-message : (t : Table) (id : Bytes) (i : ℕ) (a : Alarm) (c : Content) → maybe false (sameAlarm a) (alarmIn i c) ≡ true → alarmMessage t id i a ≡ recordMessage t id c
+pub own-message : (t : Table) (id : Bytes) (i : ℕ) (a : Alarm) (c : Content) → maybe false (sameAlarm a) (alarmIn i c) ≡ true → alarmMessage t id i a ≡ recordMessage t id c
 own-message t id i a (ofAlarm n b) e = go (eqb n i) refl e
   where
     go : (q : Bool) → eqb n i ≡ q → maybe false (sameAlarm a) (pick q (some b) none) ≡ true → alarmMessage t id i a ≡ alarmMessage t id n b

@@ -24,8 +24,8 @@ use Rattle.machine.specs.Step.{after, step}
 use Rattle.machine.specs.Run.{Past, past, Run}
 use Rattle.machine.specs.Run.Run.{next}
 use Rattle.demand_held.proofs.Steps.{step-done}
-use Rattle.demand_greeted.proofs.Apart.{mark-lives, settle-lives}
-use Rattle.demand_greeted.proofs.Demand.{same-setup}
+use Rattle.demand_told.proofs.Apart.{mark-lives, settle-lives}
+use Rattle.demand_told.proofs.GreetedDemand.{same-setup}
 use Rattle.demand_happens.specs.Pumped.{at, CanPump}
 use Rattle.demand_happens.specs.Records.{IsRound}
 use Rattle.demand_happens.proofs.Pumped.{sends-first-due}

@@ -44,7 +44,7 @@ use Rattle.machine.specs.Run.{Past, Run}
 use Rattle.machine.specs.Run.Run.{begun, next}
 use Rattle.demand_held.proofs.Lists.{maybe-cases, length-changed}
 use Rattle.demand_held.proofs.Steps.{step-done, step-refused}
-use Rattle.demand_greeted.proofs.Demand.{by-number, same-setup}
+use Rattle.demand_told.proofs.GreetedDemand.{by-number, same-setup}
 
 module _ (m : Machine) where
   abbrev Sized : Machine → Type 0

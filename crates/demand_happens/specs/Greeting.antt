@@ -19,7 +19,7 @@ use Rattle.machine.specs.Step.{step, leaves}
 use Rattle.machine.specs.Run.{Past, Run}
 use Rattle.machine.specs.Example.{started}
 use Rattle.demand_told.specs.Demand.{linkOf}
-use Rattle.demand_greeted.specs.Greeted.{IsGoodVersion, IsTheirWatchdog}
+use Rattle.demand_told.specs.Greeted.{IsGoodVersion, IsTheirWatchdog}
 use Rattle.demand_happens.specs.Pumped.{at, Timely}
 use Rattle.demand_happens.specs.Example.{start, conversation}
 

@@ -1,4 +1,19 @@
+-- Demand 2 holds of the machine: the proofs.
 pub mod Written
 pub mod Replies
 pub mod Primary
 pub mod Demand
+pub mod Tests
+pub mod Lives
+pub mod Apart
+pub mod Kept
+pub mod Turns
+pub mod Goes
+pub mod GreetedDemand
+pub mod Sane
+pub mod Found
+pub mod Lays
+pub mod Formed
+pub mod Received
+pub mod ReadReplies
+pub mod ReadDemand

@@ -1,1 +1,1 @@
-// Demand 2, of every call of the machine: what is written to whom and when; there is no code here.
+// Demand 2, as theorems about the machine: one answer for each request, no alarm to a secondary, no report before the greeting is through, every message reads back.

@@ -1,26 +1,25 @@
 -- What a contract allows is what the call's definition gives.
 -- Assumes nothing.
-use Prim.Native.Nat.{ℕ, suc, _<_}
+use Prim.Native.Nat.{ℕ, zero, suc, _<_}
 use mathlib.Core.Path.{_≡_, refl, sym, ap, ap₂, _∙_}
+use mathlib.Core.Bool.{Bool}
 use mathlib.Core.List.{List, [], _∷_}
-use mathlib.Core.Option.{Option}
 use native.Mathlib.Omega.{arith}
 use lib.Dec.{ltb}
-use lib.IntN.{ℤ}
 use lib.ListN.{length, getD}
 use denote.Ref.{now}
-use Rattle.identity.specs.declared.Identity.{Identity}
-use Rattle.identity.specs.Version.{identityOf}
-use Rattle.answer.specs.declared.Answer.{Answer}
-use Rattle.answer.specs.declared.Answer.the-variants.{Done, Refused}
-use Rattle.answer.specs.Number.{numberOf}
+use Rattle.answer.specs.declared.Refusal.{Refusal}
+use Rattle.table_whole.specs.declared.SiteTable.{SiteTable}
+use Rattle.table_whole.specs.Memory.{noTable}
 use Rattle.site.specs.declared.Site.{Site}
-use Rattle.call_pump.specs.Pump.{pumpRefuses, pumpPlan}
-use Rattle.call_packet.specs.Packet.{packetRefuses, packetTaken}
+use Rattle.site.specs.declared.Step.{Step}
+use Rattle.site.specs.Call.{Plan}
+use Rattle.store_site.specs.Layout.{siteOf}
+use Rattle.store_table.specs.Layout.{tableOf}
 use Rattle.sitec.specs.declared.Outcome.{Outcome}
-use Rattle.sitec.specs.Outcome.{outcomeOf, Told}
-use Rattle.sitec.specs.Outcome.Told.{told as told-so}
-use Rattle.calls.specs.Calls.{Call, outputOf, stepBy, outBy}
+use Rattle.sitec.specs.Outcome.{outcomeOf}
+use Rattle.sitec.specs.Lent.{Called, Told}
+use Rattle.calls.specs.Calls.{Call, timeOf, outputOf, refuses, planOf, stepBy, outBy}
 use Rattle.calls.specs.Calls.Call.{connect, disconnect, packet, alarm, status, aggregated, tick, pump}
 use Rattle.calls.proofs.Kept.{kept as calls-kept}
 use Rattle.sequences.specs.Typed.{Typed}
@@ -43,68 +42,61 @@ BytesIn (aggregated v t) = Unit {0}
 BytesIn (tick t) = Unit {0}
 BytesIn (pump l t random out) = Unit {0}
 
--- the call of the code that an ask is, and what its definition gives
-pub record Opened (s : Site) (k : MachineCall) (output : List ℕ) (x : Seen) (after : Site) : Type 0 where
+-- the call of the code that an ask is, and what its definition gives on the site s; the words go from ws to vs, its table stands in ts
+pub record Opened (ts ws : List ℕ) (k : MachineCall) (output : List ℕ) (x : Seen) (vs : List ℕ) : Type 0 where
   pub code : Call
   pub same-call : callFor code ≡ k
   pub same-output : outputOf code ≡ output
   pub typed : TypedAct (k .act) → Typed code × BytesIn code
-  pub seen : x ≡ outcomeSeen (outBy s code) (outcomeOf (stepBy s code))
-  pub after-it : after ≡ stepBy s code .site
+  pub seen : x ≡ outcomeSeen (outBy (siteOf ws (tableOf ts)) code) (outcomeOf (stepBy (siteOf ws (tableOf ts)) code .answer))
+  pub after-it : siteOf vs (tableOf ts) ≡ stepBy (siteOf ws (tableOf ts)) code .site
+  pub sized : length vs ≡ 1173
 
 nil : (xs : List ℕ) → length xs ≡ 0 → xs ≡ []
 nil [] e = refl
 nil (x ∷ xs) e = absurd (omega arith)
 
--- a call without an output
-plain : (s : Site) (c : Call) (o : Outcome) → length (outputOf c) ≡ 0 → (TypedAct (callFor c .act) → Typed c × BytesIn c) → o ≡ outcomeOf (stepBy s c)
-    → Opened s (callFor c) [] (outcomeSeen [] o) (o .site)
-plain s c o n typed e =
-    record {
-      code = c;
-      same-call = refl;
-      same-output = nil (outputOf c) n;
-      typed = typed;
-      seen = ap₂ outcomeSeen (sym (nil (outBy s c) (calls-kept .numbered s c .same-length ∙ n))) e;
-      after-it = ap (λ (x : Outcome). x .site) e;
-    }
+module _ (ts ws : List ℕ) (words : length ws ≡ 1173) (table : length ts ≡ 4752) where
+  abbrev s : Site
+  s = siteOf ws (tableOf ts)
 
-pumped : (s : Site) (l t : ℕ) (random : Identity) (xs ys : List ℕ) (o : Outcome) → Told s t (pumpRefuses s l t (identityOf random) (length xs)) (pumpPlan s l t (identityOf random)) xs ys o
-    → Opened s (callFor (pump l t random xs)) xs (outcomeSeen ys o) (o .site)
-pumped s l t random xs ys o (told-so {t = r} g) =
-    let own = calls-kept .own s .pumps l t random xs ys r g in
-    record {
-      code = pump l t random xs;
-      same-call = refl;
-      same-output = refl;
-      typed = λ u. (u, tt);
-      seen = ap₂ outcomeSeen (own .1) (ap outcomeOf (own .0));
-      after-it = ap (λ x. outcomeOf x .site) (own .0);
-    }
+  -- a call without an output
+  plain : {F : Type 0} (c : Call) (vs : List ℕ) (o : Outcome) → F → length (outputOf c) ≡ 0 → (TypedAct (callFor c .act) → Typed c × BytesIn c)
+      → Called F (tableOf ts) (stepBy s c) ws vs o → Opened ts ws (callFor c) [] (outcomeSeen [] o) vs
+  plain c vs o f n typed p =
+      record {
+        code = c;
+        same-call = refl;
+        same-output = nil (outputOf c) n;
+        typed = typed;
+        seen = ap₂ outcomeSeen (sym (nil (outBy s c) (calls-kept .numbered s c .same-length ∙ n))) (p .outcome f);
+        after-it = p .site f;
+        sized = p .sized ∙ words;
+      }
 
-received : (s : Site) (l t : ℕ) (random : Identity) (p xs ys : List ℕ) (o : Outcome)
-    → Told s t (packetRefuses s l t (identityOf random) (length xs) p) (packetTaken s l t (identityOf random) p .plan) xs ys o
-    → Opened s (callFor (packet l t random p xs)) xs (outcomeSeen ys o) (o .site)
-received s l t random p xs ys o (told-so {t = r} g) =
-    let own = calls-kept .own s .packets l t random p xs ys r g in
-    record {
-      code = packet l t random p xs;
-      same-call = refl;
-      same-output = refl;
-      typed = λ u. u;
-      seen = ap₂ outcomeSeen (own .1) (ap outcomeOf (own .0));
-      after-it = ap (λ x. outcomeOf x .site) (own .0);
-    }
+  -- one with an output
+  lent : {F : Type 0} (c : Call) (vs ys : List ℕ) (o : Outcome) → F → (TypedAct (callFor c .act) → Typed c × BytesIn c)
+      → Told F (tableOf ts) (timeOf c) (refuses s c) (planOf s c) ws vs (outputOf c) ys o → Opened ts ws (callFor c) (outputOf c) (outcomeSeen ys o) vs
+  lent c vs ys o f typed p =
+      record {
+        code = c;
+        same-call = refl;
+        same-output = refl;
+        typed = typed;
+        seen = ap₂ outcomeSeen (p .out f) (p .called .outcome f);
+        after-it = p .called .site f;
+        sized = p .called .sized ∙ words;
+      }
 
-pub opened : (s : Site) (k : MachineCall) (output : List ℕ) (x : Seen) (after : Site) → Allows s (call k output) x after → Opened s k output x after
-opened s k output x after (connects l t o e p) = plain s (connect l t) o refl (λ u. (u, tt)) p
-opened s k output x after (disconnects l t o e p) = plain s (disconnect l t) o refl (λ u. (u, tt)) p
-opened s k output x after (packets κs l t random rc xs o e p) = received s l t random (now rc) (now xs) (now (e .1 .1 .1 .1 .1 .0)) o p
-opened s k output x after (alarms i active t o e p) = plain s (alarm i (ltb 0 active) t) o refl (λ u. (u, tt)) p
-opened s k output x after (statuses i v t o e p) = plain s (status i v t) o refl (λ u. (u, tt)) p
-opened s k output x after (aggregates v t o e p) = plain s (aggregated v t) o refl (λ u. (u, tt)) p
-opened s k output x after (ticks t o e p) = plain s (tick t) o refl (λ u. (u, tt)) p
-opened s k output x after (pumps κs l t random xs o e p) = pumped s l t random (now xs) (now (e .1 .1 .1 .1 .0)) o p
+pub opened : (ts ws : List ℕ) → length ws ≡ 1173 → length ts ≡ 4752 → (k : MachineCall) (output : List ℕ) (x : Seen) (vs : List ℕ) → Allows ts ws (call k output) x vs → Opened ts ws k output x vs
+opened ts ws h g k output x vs (connects κs w l t o e p) = plain ts ws h g (connect l t) vs o h refl (λ u. (u, tt)) (p (tableOf ts))
+opened ts ws h g k output x vs (disconnects κs w l t o e p) = plain ts ws h g (disconnect l t) vs o h refl (λ u. (u, tt)) (p (tableOf ts))
+opened ts ws h g k output x vs (packets κs w table l t random rc xs o e p) = lent ts ws h g (packet l t random (now rc) (now xs)) vs (now (e .1 .1 .1 .1 .1 .1 .0)) o (h, g) (λ u. u) p
+opened ts ws h g k output x vs (alarms κs w table i active t o e p) = plain ts ws h g (alarm i (ltb 0 active) t) vs o (h, g) refl (λ u. (u, tt)) p
+opened ts ws h g k output x vs (statuses κs w table i v t o e p) = plain ts ws h g (status i v t) vs o (h, g) refl (λ u. (u, tt)) p
+opened ts ws h g k output x vs (aggregates κs w v t o e p) = plain ts ws h g (aggregated v t) vs o h refl (λ u. (u, tt)) (p (tableOf ts))
+opened ts ws h g k output x vs (ticks κs w t o e p) = plain ts ws h g (tick t) vs o h refl (λ u. (u, tt)) (p (tableOf ts))
+opened ts ws h g k output x vs (pumps κs w table l t random xs o e p) = lent ts ws h g (pump l t random (now xs)) vs (now (e .1 .1 .1 .1 .1 .0)) o (h, g) (λ u. (u, tt)) p
 
 -- of what is told
 abbrev numberIn : Seen → ℕ
@@ -119,18 +111,39 @@ outputIn (count n) = []
 outputIn (numbers ns) = []
 outputIn (entry found bytes) = []
 
--- a refused call changes nothing
-unchanged-by : (s : Site) (k : MachineCall) (output : List ℕ) (x : Seen) (after : Site) → Allows s (call k output) x after → (numberIn x ≡ 0 → ⊥) → (after ≡ s) × (outputIn x ≡ output)
-unchanged-by s k output x after p wrong = go (stepBy s (o .code) .answer) refl
-  where
-    o : Opened s k output x after
-    o = opened s k output x after p
+-- ---- of any memory: a refused call changes nothing, and other words than a site's are number 14
+pub record Lawful (ws : List ℕ) (output : List ℕ) (x : Seen) (vs : List ℕ) : Type 0 where
+  pub same-words : (numberIn x ≡ 0 → ⊥) → vs ≡ ws
+  pub same-bytes : (numberIn x ≡ 0 → ⊥) → outputIn x ≡ output
+  pub no-site : (length ws ≡ 1173 → ⊥) → numberIn x ≡ 14
 
-    go : (a : Answer) → stepBy s (o .code) .answer ≡ a → (after ≡ s) × (outputIn x ≡ output)
-    go (Done d) e = absurd (wrong (ap numberIn (o .seen) ∙ ap (λ (a : Answer). numberOf a) e))
-    go (Refused r) e =
-        (o .after-it ∙ calls-kept .numbered s (o .code) .same-site r e, ap outputIn (o .seen) ∙ calls-kept .numbered s (o .code) .same-bytes r e ∙ o .same-output)
+above : (n : ℕ) → (n ≡ 0 → ⊥) → 0 < n
+above zero h = absurd (h refl)
+above (suc n) h = omega arith
 
-pub unchanged : (s : Site) (k : MachineCall) (output : List ℕ) (number counted : ℕ) (ys : List ℕ) (closed : List ℕ) (hint : Option ℕ) (after : Site)
-    → Allows s (call k output) (told number ys counted closed hint) after → (number ≡ 0 → ⊥) → (after ≡ s) × (ys ≡ output)
-unchanged s k output number counted ys closed hint after p wrong = unchanged-by s k output (told number ys counted closed hint) after p wrong
+lawful-plain : {F : Type 0} (t : SiteTable) (y : Step) (ws vs : List ℕ) (o : Outcome) → (F → length ws ≡ 1173) → Called F t y ws vs o → Lawful ws [] (outcomeSeen [] o) vs
+lawful-plain t y ws vs o f p =
+    record {
+      same-words = λ h. p .kept (above (o .number) h);
+      same-bytes = λ h. refl;
+      no-site = λ h. ap (λ (q : Outcome). q .number) (p .other (λ z. h (f z)));
+    }
+
+lawful-lent : {F : Type 0} (t : SiteTable) (time : ℕ) (refuses : Refusal → Bool) (q : Plan) (ws vs xs ys : List ℕ) (o : Outcome) → (F → length ws ≡ 1173) → Told F t time refuses q ws vs xs ys o
+    → Lawful ws xs (outcomeSeen ys o) vs
+lawful-lent t time refuses q ws vs xs ys o f p =
+    record {
+      same-words = λ h. p .called .kept (above (o .number) h);
+      same-bytes = λ h. p .unwritten (above (o .number) h);
+      no-site = λ h. ap (λ (q : Outcome). q .number) (p .called .other (λ z. h (f z)));
+    }
+
+pub lawful : (ts ws : List ℕ) (k : MachineCall) (output : List ℕ) (x : Seen) (vs : List ℕ) → Allows ts ws (call k output) x vs → Lawful ws output x vs
+lawful ts ws k output x vs (connects κs w l t o e p) = lawful-plain noTable _ ws vs o (λ z. z) (p noTable)
+lawful ts ws k output x vs (disconnects κs w l t o e p) = lawful-plain noTable _ ws vs o (λ z. z) (p noTable)
+lawful ts ws k output x vs (packets κs w table l t random rc xs o e p) = lawful-lent _ _ _ _ ws vs (now xs) (now (e .1 .1 .1 .1 .1 .1 .0)) o (λ z. z .0) p
+lawful ts ws k output x vs (alarms κs w table i active t o e p) = lawful-plain _ _ ws vs o (λ z. z .0) p
+lawful ts ws k output x vs (statuses κs w table i v t o e p) = lawful-plain _ _ ws vs o (λ z. z .0) p
+lawful ts ws k output x vs (aggregates κs w v t o e p) = lawful-plain noTable _ ws vs o (λ z. z) (p noTable)
+lawful ts ws k output x vs (ticks κs w t o e p) = lawful-plain noTable _ ws vs o (λ z. z) (p noTable)
+lawful ts ws k output x vs (pumps κs w table l t random xs o e p) = lawful-lent _ _ _ _ ws vs (now xs) (now (e .1 .1 .1 .1 .1 .0)) o (λ z. z .0) p

@@ -39,8 +39,8 @@ use Rattle.machine.specs.Effects.{
 use Rattle.machine.specs.Step.{noSuchLink, conditions, numberOf, step}
 use Rattle.demand_held.proofs.Lists.{maybe-cases}
 use Rattle.demand_held.proofs.Steps.{step-done, step-refused}
-use Rattle.demand_greeted.specs.Life.{closedBy}
-use Rattle.demand_greeted.proofs.Demand.{by-number}
+use Rattle.demand_told.specs.Life.{closedBy}
+use Rattle.demand_told.proofs.GreetedDemand.{by-number}
 use Rattle.refine_calls.specs.Calls.{maskFor}
 use Rattle.equation.specs.Contracts.{linksIn}
 

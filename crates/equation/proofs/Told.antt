@@ -23,7 +23,7 @@ use Rattle.sequences.proofs.Kept.{kept as sequences-kept}
 use Rattle.write_message.specs.Message.{Message}
 use Rattle.write_message.specs.Listing.{bytesOf}
 use Rattle.machine.specs.State.{Outcome as MachineOutcome}
-use Rattle.demand_greeted.specs.Life.{closedBy}
+use Rattle.demand_told.specs.Life.{closedBy}
 use Rattle.refine_calls.specs.Calls.{SameOutcome, maskFor, hintFor}
 use Rattle.refine_calls.specs.Calls.SameOutcome.{refuses-both, does-both}
 use Rattle.equation.specs.Seen.{Seen, written, tells}
@@ -46,7 +46,7 @@ all-written [] = refl
 all-written (m ∷ ms) = ap (λ (xs : List ℕ). bytesOf m ++ xs) (all-written ms)
 
 pub told-same : (s : Site) → Sound s → (c : Call) → Typed c → (a : Answer) (x : MachineOutcome) → Same (closedBy x) → stepBy s c .answer ≡ a → SameOutcome s c a x
-    → outcomeSeen (outBy s c) (outcomeOf (stepBy s c)) ≡ tells (outputOf c) x
+    → outcomeSeen (outBy s c) (outcomeOf (stepBy s c .answer)) ≡ tells (outputOf c) x
 told-same s sound c typed a x links e (refuses-both r) = ap₂ answerSeen (calls-kept .numbered s c .same-bytes r e) e
 told-same s sound c typed a x links e (does-both closed hint ec eh) =
     let ms : List Message = planOf s c .messages in

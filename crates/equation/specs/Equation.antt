@@ -6,7 +6,7 @@ use mathlib.Core.Path.{_≡_}
 use mathlib.Core.List.{List, []}
 use mathlib.Core.Option.{Option, some, none}
 use lib.Dec.{eqb}
-use Rattle.site.specs.declared.Site.{Site}
+use lib.ListN.{length}
 use Rattle.sitec.specs.declared.Outcome.{Outcome}
 use Rattle.machine.specs.Words.{Bytes, if_then_else_}
 use Rattle.machine.specs.State.{Start, Machine, Call}
@@ -28,20 +28,30 @@ startFor table links primary period first time =
       time = time;
     }
 
--- number 11 where no machine begins, else 0 and then what that machine shows
-abbrev pub Sees : Outcome → Option Machine → Type 0
-Sees o none = outcomeSeen [] o ≡ told 11 [] 0 [] none
-Sees o (some m) = (outcomeSeen [] o ≡ told 0 [] 0 [] none) × ((more : List Ask) → AllTyped more → (seen : List Seen) → Run (o .site) more seen → seen ≡ showsAll m more)
+-- number 11 where no machine begins, else 0 and then, on the memory that start leaves, what that machine shows
+abbrev pub Sees : Outcome → List ℕ → Bytes → Option Machine → Type 0
+Sees o vs us none = outcomeSeen [] o ≡ told 11 [] 0 [] none
+Sees o vs us (some m) = (outcomeSeen [] o ≡ told 0 [] 0 [] none) × ((more : List Ask) → AllTyped more → (seen : List Seen) → Run us vs more seen → seen ≡ showsAll m more)
 
-pub record FromStart (start : Start) (o : Outcome) : Type 0 where
+pub record FromStart (start : Start) (o : Outcome) (vs : List ℕ) (us : Bytes) : Type 0 where
   pub machine : Option Machine
   pub begins : Begins start machine
   pub only : (m : Option Machine) → Begins start m → m ≡ machine
-  pub sees : Sees o machine
+  pub sees : Sees o vs us machine
+
+-- a site is lent 1,173 words, and 4,752 bytes for its table
+pub record Fits (ws : List ℕ) (ts : Bytes) : Type 0 where
+  pub words : length ws ≡ 1173
+  pub table : length ts ≡ 4752
 
 pub record Equation : Type 0 where
-  pub from-start : (table : Bytes) (links primary period first time : ℕ) (o : Outcome) → Starts table links primary period first time o
-      → FromStart (startFor table links primary period first time) o
-  -- "All but 0 change nothing: state, last time and lent bytes stay", of any site
-  pub refused : (s : Site) (c : Call) (output : Bytes) (number counted : ℕ) (after-bytes : Bytes) (closed : List ℕ) (hint : Option ℕ) (after : Site)
-      → Allows s (call c output) (told number after-bytes counted closed hint) after → (number ≡ 0 → ⊥) → (after ≡ s) × (after-bytes ≡ output)
+  pub from-start : (ws : List ℕ) (ts : Bytes) → Fits ws ts → (table : Bytes) (links primary period first time : ℕ) (o : Outcome) (vs : List ℕ) (us : Bytes)
+      → Starts ws ts table links primary period first time o vs us → FromStart (startFor table links primary period first time) o vs us
+  -- "All but 0 change nothing: state, last time and lent bytes stay", whatever the memory holds and however long it is
+  pub refused : (ts : Bytes) (ws : List ℕ) (c : Call) (output : Bytes) (number counted : ℕ) (after-bytes : Bytes) (closed : List ℕ) (hint : Option ℕ) (vs : List ℕ)
+      → Allows ts ws (call c output) (told number after-bytes counted closed hint) vs → (number ≡ 0 → ⊥) → (vs ≡ ws) × (after-bytes ≡ output)
+  pub not-started : (ws : List ℕ) (ts table : Bytes) (links primary period first time : ℕ) (o : Outcome) (vs : List ℕ) (us : Bytes)
+      → Starts ws ts table links primary period first time o vs us → (o .number ≡ 0 → ⊥) → (vs ≡ ws) × (us ≡ ts)
+  -- words of another length: number 14, beyond document 01's
+  pub misfit : (ts : Bytes) (ws : List ℕ) (c : Call) (output : Bytes) (number counted : ℕ) (after-bytes : Bytes) (closed : List ℕ) (hint : Option ℕ) (vs : List ℕ)
+      → Allows ts ws (call c output) (told number after-bytes counted closed hint) vs → (length ws ≡ 1173 → ⊥) → number ≡ 14

@@ -64,9 +64,12 @@ conversation =
       alarm-told = refl;
       alarm-settled = refl;
       numbers = refl;
+      last-numbers = refl;
       suspends = refl;
       requested = refl;
       awaited-long = refl;
       statuses-told = refl;
       old-issued = refl;
+      free-place = refl;
+      most-loses = refl;
     }

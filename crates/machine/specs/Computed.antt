@@ -15,10 +15,10 @@ use Rattle.write_message.specs.declared.Told.the-variants.{Response}
 use Rattle.write_message.specs.Message.{status}
 use Rattle.write_message.specs.Message.Message.{version, watchdog, ack, notAck, aggregated, statuses}
 use Rattle.machine.specs.Words.{Bytes, orElse, keep}
-use Rattle.machine.specs.State.{alarmOf, heldAs, Pool, poolOf}
+use Rattle.machine.specs.State.{alarmOf, issuedFor, heldAs, Pool, poolOf, atEnd}
 use Rattle.machine.specs.State.Event.{Issue}
 use Rattle.machine.specs.State.Content.{ofAlarm, ofStatus}
-use Rattle.machine.specs.State.Act.{connect, alarmInput, statusValue, tick, pump}
+use Rattle.machine.specs.State.Act.{connect, alarmInput, statusValue, aggregatedValue, tick, pump}
 use Rattle.machine.specs.State.Outcome.{refused, done}
 use Rattle.machine.specs.Json.{versionIn}
 use Rattle.machine.specs.Pool.{isFor, holds, issueAll}
@@ -115,20 +115,26 @@ pub record Conversation : Type 0 where
   -- the last three are dropped
   pub decimals-told : outcomes up (atNoon (beats "2009-10-01T11:59:31Z") ∷ atNoon (beats "2009-10-01T11:59:31.57Z") ∷ atNoon (beats "2009-10-01T11:59:31.571999Z") ∷ [])
       ≡ says (ack theirId ∷ []) ∷ says (ack theirId ∷ []) ∷ done (ack theirId ∷ []) [] (some noon) ∷ []
-  -- an alarm becomes active: the first pass sends the AggregatedStatus, then the alarm with its record; either answer settles it
-  pub alarm-told : outcomes up (atNoon (alarmInput 0 true) ∷ pumped 3 ∷ pumped 4 ∷ atNoon (gets "MessageAck\",\"oMId\":\"04040404-0404-4404-8404-040404040404\"}") ∷ pumped 5 ∷ [])
-      ≡ quiet ∷ says (aggregated (own 3) (text "C0") noon 0 ∷ []) ∷ says (alarmNow 4 0 noon false true false ∷ []) ∷ quiet ∷ refused 7 ∷ []
+  -- an alarm becomes active: the first pass sends the AggregatedStatus, then the alarm with its record, once; either answer settles it
+  pub alarm-told : outcomes up (atNoon (alarmInput 0 true) ∷ pumped 3 ∷ pumped 4 ∷ atNoon tick ∷ pumped 5 ∷ atNoon (gets "MessageAck\",\"oMId\":\"04040404-0404-4404-8404-040404040404\"}") ∷ pumped 5 ∷ [])
+      ≡ quiet ∷ says (aggregated (own 3) (text "C0") noon 0 ∷ []) ∷ says (alarmNow 4 0 noon false true false ∷ []) ∷ quiet ∷ refused 7 ∷ quiet ∷ refused 7 ∷ []
   pub alarm-settled : leaves up (atNoon (alarmInput 0 true) ∷ pumped 3 ∷ pumped 4 ∷ atNoon (gets "MessageNotAck\",\"oMId\":\"04040404-0404-4404-8404-040404040404\"}") ∷ []) .pool
       ≡ poolOf 1 [] (0 ∷ 0 ∷ [])
-  pub numbers : outcomes up (atNoon (connect 0) ∷ record { time = 0; act = connect 2 } ∷ record { time = 5; act = tick } ∷ record { time = 0; act = alarmInput 1 true } ∷ atNoon (pump 1 (random 1) 4096) ∷ record { time = 0; act = pump 0 (random 1) 4095 } ∷ pumped 2 ∷ atNoon (gets "Alarm\"") ∷ [])
-      ≡ refused 6 ∷ refused 2 ∷ refused 5 ∷ refused 3 ∷ refused 6 ∷ refused 4 ∷ says (aggregated (own 2) (text "C0") noon 0 ∷ []) ∷ refused 1 ∷ []
+  -- the last of these has an mId in an object of its own alone
+  pub numbers : outcomes up (atNoon (connect 0) ∷ record { time = 0; act = connect 2 } ∷ record { time = 5; act = tick } ∷ record { time = 0; act = alarmInput 1 true } ∷ atNoon (pump 1 (random 1) 4096) ∷ record { time = 0; act = pump 0 (random 1) 4095 } ∷ pumped 2 ∷ atNoon (gets "Alarm\"") ∷ atNoon (gets "Alarm\",\"x\":{\"mId\":\"CD613E30-d8f1-6adf-91b7-584a2265b1f5\"}}") ∷ [])
+      ≡ refused 6 ∷ refused 2 ∷ refused 5 ∷ refused 3 ∷ refused 6 ∷ refused 4 ∷ says (aggregated (own 2) (text "C0") noon 0 ∷ []) ∷ refused 1 ∷ refused 1 ∷ []
+  -- "the call would take sequence numbers past 4294967295": two records take the last two, the next call that issues is refused, one that issues
+  -- none is not
+  pub last-numbers : outcomes (atEnd noon (poolOf 4294967294 [] (0 ∷ 0 ∷ [])) up) (atNoon (aggregatedValue 1) ∷ atNoon (aggregatedValue 2) ∷ atNoon tick ∷ [])
+      ≡ quiet ∷ refused 10 ∷ quiet ∷ []
   -- "Issue events while suspended make no record but are the last event": after Suspend and an input a Request tells the input
   pub suspends : leaves up (later 1 (orders "Suspend") ∷ later 2 (alarmInput 0 true) ∷ []) ≡ suspended
-  pub requested : outcomes suspended (later 3 (orders "Request") ∷ later 4 (orders "Request") ∷ [])
-      ≡ says (ack theirId ∷ alarmNow 15 0 (noon + 2) false true true ∷ []) ∷ refused 9 ∷ []
-  -- "Awaited 30,000 ms closes, 29,999 not"
-  pub awaited-long : outcomes up (pumped 3 ∷ later 29999 tick ∷ later 30000 tick ∷ [])
-      ≡ says (aggregated (own 3) (text "C0") noon 0 ∷ []) ∷ quiet ∷ done [] (0 ∷ []) none ∷ []
+  -- .. and number 9 is of a packet that would get a reply, not of one that is refused
+  pub requested : outcomes suspended (later 3 (orders "Request") ∷ later 4 (orders "Request") ∷ later 5 (asks "StatusRequest" "C0\",\"sS\":[{\"sCI\":\"S1\",\"n\":\"other\"}]}") ∷ [])
+      ≡ says (ack theirId ∷ alarmNow 15 0 (noon + 2) false true true ∷ []) ∷ refused 9 ∷ says (notAck theirId (text "Unknown status") ∷ []) ∷ []
+  -- "Awaited 30,000 ms closes, 29,999 not"; and a tick's time is the last
+  pub awaited-long : outcomes up (pumped 3 ∷ later 29999 tick ∷ later 30000 tick ∷ later 29999 tick ∷ [])
+      ≡ says (aggregated (own 3) (text "C0") noon 0 ∷ []) ∷ quiet ∷ done [] (0 ∷ []) none ∷ refused 5 ∷ []
   -- statuses: unknown component, unknown status, "Missing element" before "Bad value", 0 with false, a subscription, a first value
   pub statuses-told : outcomes up (atNoon (asks "StatusRequest" "C9\",\"sS\":[{\"sCI\":\"S1\",\"n\":\"release\"}]}")
       ∷ atNoon (asks "StatusRequest" "C0\",\"sS\":[{\"sCI\":\"S1\",\"n\":\"other\"}]}")
@@ -154,3 +160,6 @@ pub record Conversation : Type 0 where
       ∷ heldAs 0 (ofStatus 0 (some (negsuc 1)) false noon) 1 false
       ∷ heldAs 0 (ofStatus 0 (some (negsuc 1)) true (noon + 30000)) 2 false
       ∷ []
+  -- "else a free place is taken", by a status' record too; "the oldest of the link holding most is lost"
+  pub free-place : issueAll (records 17 0 ++ (issuedFor 1 (ofStatus 0 none false noon) ∷ [])) (started 2 .pool) .lost ≡ 0 ∷ 0 ∷ []
+  pub most-loses : issueAll (records 40 0 ++ records 48 1 ++ records 40 2 ++ records 1 3) (started 4 .pool) .lost ≡ 0 ∷ 1 ∷ 0 ∷ 0 ∷ []

@@ -1,20 +1,31 @@
 -- Each relation allows one result.
 -- Assumes nothing.
-use Prim.Native.Nat.{ℕ}
-use mathlib.Core.Path.{_≡_, refl, sym, ap, _∙_}
+use Prim.Native.Nat.{ℕ, _<_}
+use mathlib.Core.Path.{_≡_, refl, sym, ap, _∙_, subst}
 use mathlib.Core.Bool.{Bool, true, false, true≢false}
 use mathlib.Core.List.{List, [], _∷_}
+use native.Mathlib.Omega.{arith}
+use lib.ListN.{length}
 use Rattle.answer.specs.declared.Refusal.{Refusal}
 use Rattle.answer.specs.declared.Answer.{Answer}
+use Rattle.answer.specs.declared.Answer.the-variants.{Done, Refused}
+use Rattle.answer.specs.Number.{isDone}
+use Rattle.answer.proofs.Numbers.{range as refusal-range}
 use Rattle.output.specs.Put.{Out}
 use Rattle.output.proofs.Laws.{puts-once}
 use Rattle.number.proofs.Reading.{reads-once, reads-int-once}
 use Rattle.entry.specs.Valid.{Decides}
 use Rattle.entry.proofs.RoundTrip.{one-result}
+use Rattle.table_whole.specs.declared.SiteTable.{SiteTable}
+use Rattle.table_whole.specs.Memory.{noTable}
 use Rattle.table_whole.proofs.Whole.{once as one-table}
 use Rattle.site.specs.declared.Site.{Site}
 use Rattle.site.specs.declared.Step.{Step}
 use Rattle.site.specs.Call.{Plan, Gives, outAfter}
+use Rattle.store_site.specs.Layout.{siteOf}
+use Rattle.store_site.specs.Turns.{Plain}
+use Rattle.store_image.specs.Image.{wordsOf, Wide}
+use Rattle.store_image.proofs.Back.{words-back}
 use Rattle.call_start.specs.Starts.{Starts}
 use Rattle.call_start.proofs.Whole.{once as one-start}
 use Rattle.packet_answer.specs.Ending.{Acks}
@@ -22,7 +33,8 @@ use Rattle.write_message.specs.Message.{Message}
 use Rattle.write_message.specs.Message.Message.{ack}
 use Rattle.call_pump.specs.Pump.{Sends}
 use Rattle.sitec.specs.declared.Outcome.{Outcome}
-use Rattle.sitec.specs.Outcome.{outcomeOf, Started, started, Told, told}
+use Rattle.sitec.specs.Outcome.{outcomeOf}
+use Rattle.sitec.specs.Lent.{Words, WordsAndTable, Called, Told, Made, Started}
 use Rattle.oneresult.specs.Once.{Once}
 use Rattle.oneresult.proofs.Readers.{ends-once, marks-once, judges-once, skipped-once}
 
@@ -34,13 +46,45 @@ gives-once : {s : Site} {time : ℕ} {refuses : Refusal → Bool} {p : Plan} {xs
     → Gives s time refuses p xs ys r → Gives s time refuses p xs zs q → (r ≡ q) × (ys ≡ zs)
 gives-once {p = p} {xs = xs} a b = let e = a .step ∙ sym (b .step) in (e, by-answer xs (p .messages) e (a .out) (b .out))
 
-started-once : {b : List ℕ} {links primary period first time : ℕ} {r q : Outcome}
-    → Started b links primary period first time r → Started b links primary period first time q → r ≡ q
-started-once {links = l} {primary = m} {period = n} {first = f} {time = t} (started a) (started b) = ap outcomeOf (one-start l m n f t a b)
+-- words that stand for one site are the same
+same-words : (t : SiteTable) (vs us : List ℕ) → length vs ≡ 1173 → length us ≡ 1173 → Plain vs → Plain us → Wide vs → Wide us → siteOf vs t ≡ siteOf us t → vs ≡ us
+same-words t vs us a b p q v u e = sym (words-back vs v t a p) ∙ ap wordsOf e ∙ words-back us u t b q
 
-told-once : {s : Site} {time : ℕ} {refuses : Refusal → Bool} {p : Plan} {xs ys zs : List ℕ} {r q : Outcome}
-    → Told s time refuses p xs ys r → Told s time refuses p xs zs q → (r ≡ q) × (ys ≡ zs)
-told-once {s = s} {time = time} {refuses = refuses} {p = p} (told a) (told b) = let e = gives-once {s = s} {time = time} {refuses = refuses} {p = p} a b in (ap outcomeOf (e .0), e .1)
+called-once : {Fits : Type 0} {t : SiteTable} {x : Step} {ws vs us : List ℕ} {r q : Outcome} → Fits → length ws ≡ 1173 → Plain ws → Wide vs → Wide us
+    → Called Fits t x ws vs r → Called Fits t x ws us q → (r ≡ q) × (vs ≡ us)
+called-once {t = t} {vs = vs} {us = us} f n p v u a b =
+    (a .outcome f ∙ sym (b .outcome f), same-words t vs us (a .sized ∙ n) (b .sized ∙ n) (a .plain p) (b .plain p) v u (a .site f ∙ sym (b .site f)))
+
+told-once : {Fits : Type 0} {t : SiteTable} {time : ℕ} {refuses : Refusal → Bool} {p : Plan} {ws vs us xs ys zs : List ℕ} {r q : Outcome} → Fits → length ws ≡ 1173 → Plain ws → Wide vs → Wide us
+    → Told Fits t time refuses p ws vs xs ys r → Told Fits t time refuses p ws us xs zs q → (r ≡ q) × (vs ≡ us) × (ys ≡ zs)
+told-once f n p v u a b = let e = called-once f n p v u (a .called) (b .called) in (e .0, e .1, a .out f ∙ sym (b .out f))
+
+module _ {b : List ℕ} {links primary period first time : ℕ} {ws vs us xs ys zs : List ℕ} {r q : Outcome} where
+  by-step : (x : Step) → Made x vs ys r → Made x us zs q → Started b links primary period first time ws vs xs ys r → Started b links primary period first time ws us xs zs q
+      → (a : Answer) → x .answer ≡ a → (0 < r .number → 0 < q .number) → (isDone a ≡ false → 0 < r .number) → (vs ≡ us) × (ys ≡ zs)
+  by-step x m n s t (Done d) e f g = (
+    m .words (ap isDone e) ∙ sym (n .words (ap isDone e)),
+    m .bytes (ap isDone e) ∙ sym (n .bytes (ap isDone e)),
+  )
+  by-step x m n s t (Refused d) e f g = (
+    s .kept (g refl) ∙ sym (t .kept (f (g refl))),
+    s .table-kept (g refl) ∙ sym (t .table-kept (f (g refl))),
+  )
+
+refused-number : (a : Answer) (r : Outcome) → r ≡ outcomeOf a → isDone a ≡ false → 0 < r .number
+refused-number (Done d) r e h = absurd (let z : _≡_ {A = ℕ} 0 1 = cc in omega arith)
+refused-number (Refused x) r e h = rw e (refusal-range x .0)
+
+started-once : {b : List ℕ} {links primary period first time : ℕ} {ws vs us xs ys zs : List ℕ} {r q : Outcome} → WordsAndTable ws xs
+    → Started b links primary period first time ws vs xs ys r → Started b links primary period first time ws us xs zs q → (r ≡ q) × (vs ≡ us) × (ys ≡ zs)
+started-once {links = l} {primary = m} {period = n} {first = f} {time = t} {vs = vs} {us = us} {ys = ys} {zs = zs} {r = r} {q = q} fits a c =
+    let x = a .made fits in
+    let y = c .made fits in
+    let same : x .0 ≡ y .0 = one-start l m n f t (x .1) (y .1) in
+    let mine : Made (x .0) us zs q = subst (λ (z : Step). Made z us zs q) (sym same) (y .2) in
+    let out : r ≡ q = x .2 .outcome ∙ sym (mine .outcome) in
+    let rest = by-step (x .0) (x .2) mine a c (x .0 .answer) refl (λ h. subst (λ (o : Outcome). 0 < o .number) out h) (refused-number (x .0 .answer) r (x .2 .outcome)) in
+    (out, rest .0, rest .1)
 
 decides-once : {P : Type 0} (r q : Bool) → Decides r P → Decides q P → r ≡ q
 decides-once true q a b = sym (b .only (a .yes refl))
@@ -50,8 +94,10 @@ decides-once false false a b = refl
 pub kept : Once
 kept =
     record {
-      started = started-once;
-      told = λ {s} {time} {refuses} {p} {xs} {ys} {zs} {r} {q} a b. told-once {s = s} {time = time} {refuses = refuses} {p = p} a b;
+      called = λ {Fits} {t} {x} {ws} {vs} {us} {r} {q} f n p v u a b. called-once f n p v u a b;
+      told = λ {Fits} {t} {time} {refuses} {p} {ws} {vs} {us} {xs} {ys} {zs} {r} {q} f n h v u a b. told-once f n h v u a b;
+      started = λ {b} {links} {primary} {period} {first} {time} {ws} {vs} {us} {xs} {ys} {zs} {r} {q} f a c. started-once f a c;
+      read = λ {A} {f} {none} {ws} {r} {q} h a b. a .reads h noTable ∙ sym (b .reads h noTable);
       starts = λ {b} {links} {primary} {period} {first} {time} {r} {q} x y. one-start links primary period first time x y;
       gives = λ {s} {time} {refuses} {p} {xs} {ys} {zs} {r} {q} a b. gives-once {s = s} {time = time} {refuses = refuses} {p = p} a b;
       acks = λ {s} {after} {b} {time} {hint} {hinted} {received} {xs} {ys} {zs} {r} {q} x y. let e = x .step ∙ sym (y .step) in (e, by-answer xs (ack received ∷ []) e (x .out) (y .out));

@@ -39,14 +39,21 @@ use Rattle.call_start.specs.Starts.{Starts}
 use Rattle.packet_answer.specs.Ending.{Acks}
 use Rattle.call_pump.specs.Pump.{Sends}
 use Rattle.sitec.specs.declared.Outcome.{Outcome}
-use Rattle.sitec.specs.Outcome.{Started, Told}
+use Rattle.sitec.specs.Lent.{Words, WordsAndTable, Called, Told, Started, Read as ReadOut}
+use Rattle.table_whole.specs.declared.SiteTable.{SiteTable}
+use Rattle.store_site.specs.Turns.{Plain}
+use Rattle.store_image.specs.Image.{Wide}
 
 pub record Once : Type 1 where
-  -- ---- what is exported: the outcome, and the bytes of a lent output
-  pub started : {b : List ℕ} {links primary period first time : ℕ} {r q : Outcome}
-      → Started b links primary period first time r → Started b links primary period first time q → r ≡ q
-  pub told : {s : Site} {time : ℕ} {refuses : Refusal → Bool} {p : Plan} {xs ys zs : List ℕ} {r q : Outcome}
-      → Told s time refuses p xs ys r → Told s time refuses p xs zs q → (r ≡ q) × (ys ≡ zs)
+  -- ---- what is exported: the outcome, the words and the bytes of a lent output. Words in which what has happened on a link is 0 or 1 (start leaves such, and every
+  -- call keeps them so) are told to the last bit; a word has 64
+  pub called : {Fits : Type 0} {t : SiteTable} {x : Step} {ws vs us : List ℕ} {r q : Outcome} → Fits → length ws ≡ 1173 → Plain ws → Wide vs → Wide us
+      → Called Fits t x ws vs r → Called Fits t x ws us q → (r ≡ q) × (vs ≡ us)
+  pub told : {Fits : Type 0} {t : SiteTable} {time : ℕ} {refuses : Refusal → Bool} {p : Plan} {ws vs us xs ys zs : List ℕ} {r q : Outcome} → Fits → length ws ≡ 1173 → Plain ws → Wide vs → Wide us
+      → Told Fits t time refuses p ws vs xs ys r → Told Fits t time refuses p ws us xs zs q → (r ≡ q) × (vs ≡ us) × (ys ≡ zs)
+  pub started : {b : List ℕ} {links primary period first time : ℕ} {ws vs us xs ys zs : List ℕ} {r q : Outcome} → WordsAndTable ws xs
+      → Started b links primary period first time ws vs xs ys r → Started b links primary period first time ws us xs zs q → (r ≡ q) × (vs ≡ us) × (ys ≡ zs)
+  pub read : {A : Type 0} {f : Site → A} {none : A} {ws : List ℕ} {r q : A} → Words ws → ReadOut f none ws r → ReadOut f none ws q → r ≡ q
   -- ---- the calls
   pub starts : {b : List ℕ} {links primary period first time : ℕ} {r q : Step}
       → Starts b links primary period first time r → Starts b links primary period first time q → r ≡ q

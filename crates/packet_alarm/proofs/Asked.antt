@@ -1,60 +1,68 @@
--- The parts of an Alarm and of an AggregatedStatusRequest together.
+-- The parts of an Alarm and of an AggregatedStatusRequest together: the words are ws, the site's table is t.
 -- Assumes nothing.
 use Prim.Native.Nat.{ℕ}
-use mathlib.Core.Path.{_≡_, refl}
+use mathlib.Core.Path.{_≡_, refl, ap, _∙_}
 use mathlib.Core.List.{List, []}
+use Rattle.answer.specs.declared.Answer.{Answer}
 use Rattle.answer.specs.Given.Hint.{none}
 use Rattle.identity.specs.declared.Identity.{Identity}
 use Rattle.link.specs.declared.Role.{Role}
 use Rattle.link.specs.declared.Role.the-variants.{Primary, Secondary}
-use Rattle.pool_batch.specs.Batch.{beginning}
+use Rattle.table_whole.specs.declared.SiteTable.{SiteTable}
 use Rattle.read_head.specs.declared.AlarmFields.{AlarmFields}
 use Rattle.read_head.specs.declared.GotLabel.{GotLabel}
 use Rattle.packet_lookup.specs.declared.SoughtAlarm.{SoughtAlarm}
 use Rattle.packet_lookup.specs.Sought.{componentSought, alarmSought}
 use Rattle.send_message.specs.Sending.{alarmMessage}
-use Rattle.site.specs.declared.Site.{Site}
-use Rattle.site.specs.declared.Step.{Step}
 use Rattle.site.specs.Site.{roleOf}
+use Rattle.site.specs.Call.{never}
+use Rattle.store_site.specs.Layout.{siteOf}
+use Rattle.store_site.proofs.SiteLaws.{table-of}
+use Rattle.store_call.specs.Called.{GivesIn}
 use Rattle.packet_answer.specs.Taken.{acked, replied, byVerdict, unlessBusy}
-use Rattle.packet_answer.specs.Ending.{Acks}
-use Rattle.packet_answer.proofs.Ends.{acks, unreplied}
-use Rattle.packet_answer.specs.Takes.{Takes}
-use Rattle.packet_alarm.specs.Orders.{requestBy, requestTaken, orderedOf, foundTaken, alarmTaken, aggregatedOf, aggregatedTaken}
+use Rattle.packet_answer.specs.Takes.{TakesIn}
+use Rattle.packet_answer.proofs.Ends.{unreplied}
 use Rattle.packet_answer.proofs.Choices.{like}
+use Rattle.packet_alarm.specs.Orders.{requestBy, requestTaken, orderedOf, foundTaken, alarmTaken, aggregatedOf, aggregatedTaken}
 
-module _ (s : Site) (l time : ℕ) (id : Identity) (received : List ℕ) {xs ys : List ℕ} {r : Step} where
+module _ (t : SiteTable) (ws : List ℕ) (l time : ℕ) (id : Identity) (received : List ℕ) {vs xs ys : List ℕ} {r : Answer} where
   pub from-primary : (k : ℕ)
-      → roleOf s l ≡ Primary
-      → Takes s l time id (unlessBusy s l received (replied s l time id received (alarmMessage s (id .bytes) k))) xs ys r
-      → Takes s l time id (requestTaken s l time id received k) xs ys r
+      → roleOf (siteOf ws t) l ≡ Primary
+      → TakesIn t l time id (unlessBusy (siteOf ws t) l received (replied (siteOf ws t) l time id received (alarmMessage (siteOf ws t) (id .bytes) k))) ws vs xs ys r
+      → TakesIn t l time id (requestTaken (siteOf ws t) l time id received k) ws vs xs ys r
   unfolding requestTaken
-  from-primary k e g = like s l time id received (λ (x : Role). requestBy s l time id received k x) e g
+  from-primary k e g = like t ws l time id received (λ (x : Role). requestBy (siteOf ws t) l time id received k x) e g
 
   pub from-secondary : (k : ℕ)
-      → roleOf s l ≡ Secondary
-      → Acks s s (beginning (s .pool) (s .next)) time 0 0 received xs ys r
-      → Takes s l time id (requestTaken s l time id received k) xs ys r
+      → roleOf (siteOf ws t) l ≡ Secondary
+      → GivesIn t time never (acked (siteOf ws t) [] received none .plan) ws vs xs ys r
+      → TakesIn t l time id (requestTaken (siteOf ws t) l time id received k) ws vs xs ys r
   unfolding requestTaken
-  from-secondary k e a =
-      like s l time id received (λ (x : Role). requestBy s l time id received k x) e
-      (unreplied s l time id (acked s [] received none) refl (acks s s [] time none received a))
+  from-secondary k e g =
+      like t ws l time id received (λ (x : Role). requestBy (siteOf ws t) l time id received k x) e
+      (unreplied t time l id (acked (siteOf ws t) [] received none) refl g)
 
   pub found : (f : AlarmFields) {x : SoughtAlarm}
-      → alarmSought (s .table) (f .component) (f .code) ≡ x
-      → Takes s l time id (orderedOf s l time id received (f .order) x) xs ys r
-      → Takes s l time id (foundTaken s l time id received f) xs ys r
+      → alarmSought t (f .component) (f .code) ≡ x
+      → TakesIn t l time id (orderedOf (siteOf ws t) l time id received (f .order) x) ws vs xs ys r
+      → TakesIn t l time id (foundTaken (siteOf ws t) l time id received f) ws vs xs ys r
   unfolding foundTaken
-  found f e g = like s l time id received (λ (x : SoughtAlarm). orderedOf s l time id received (f .order) x) e g
+  found f e g =
+      like t ws l time id received (λ (x : SoughtAlarm). orderedOf (siteOf ws t) l time id received (f .order) x)
+      (ap (λ (u : SiteTable). alarmSought u (f .component) (f .code)) (table-of ws t) ∙ e)
+      g
 
   pub alarm-judged : (f : AlarmFields)
-      → Takes s l time id (byVerdict (f .verdict) s received (foundTaken s l time id received f)) xs ys r
-      → Takes s l time id (alarmTaken s l time id received f) xs ys r
+      → TakesIn t l time id (byVerdict (f .verdict) (siteOf ws t) received (foundTaken (siteOf ws t) l time id received f)) ws vs xs ys r
+      → TakesIn t l time id (alarmTaken (siteOf ws t) l time id received f) ws vs xs ys r
   unfolding alarmTaken
   alarm-judged f g = g
 
   pub aggregated-judged : (f : GotLabel)
-      → Takes s l time id (byVerdict (f .verdict) s received (aggregatedOf s l time id received (componentSought (s .table) (f .label)))) xs ys r
-      → Takes s l time id (aggregatedTaken s l time id received f) xs ys r
+      → TakesIn t l time id (byVerdict (f .verdict) (siteOf ws t) received (aggregatedOf (siteOf ws t) l time id received (componentSought t (f .label)))) ws vs xs ys r
+      → TakesIn t l time id (aggregatedTaken (siteOf ws t) l time id received f) ws vs xs ys r
   unfolding aggregatedTaken
-  aggregated-judged f g = g
+  aggregated-judged f g =
+      like t ws l time id received (λ (u : SiteTable). byVerdict (f .verdict) (siteOf ws t) received (aggregatedOf (siteOf ws t) l time id received (componentSought u (f .label))))
+      (table-of ws t)
+      g

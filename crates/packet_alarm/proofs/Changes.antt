@@ -1,70 +1,70 @@
--- An alarm's change and the record of it.
+-- An alarm's change in place, and the record of it: the words are ws, the site's table is t.
 -- Assumes nothing.
 use Prim.Native.Nat.{ℕ}
-use mathlib.Core.Path.{_≡_, refl, sym, ap, ap₂, subst, _∙_}
+use mathlib.Core.Path.{_≡_, refl, sym, ap, subst, _∙_}
 use mathlib.Core.Bool.{Bool, true, false}
-use mathlib.Core.List.{List, [], _∷_}
-use Rattle.basis.specs.Pick.{pick, both}
+use mathlib.Core.List.{List}
+use lib.ListN.{length}
+use Rattle.answer.specs.declared.Refusal.the-variants.{SequenceSpent}
+use Rattle.answer.specs.declared.Report.{Report}
+use Rattle.answer.specs.declared.Answer.{Answer}
+use Rattle.answer.specs.declared.Answer.the-variants.{Done, Refused}
 use Rattle.answer.specs.Given.Hint.{none}
 use Rattle.identity.specs.declared.Identity.{Identity}
 use Rattle.entry.specs.declared.Entry.{Entry}
-use Rattle.pool_batch.specs.declared.Batch.{Batch}
-use Rattle.pool_batch.specs.Batch.{beginning, added, issuedAll}
 use Rattle.alarm.specs.declared.Changed.{Changed}
 use Rattle.alarm.specs.declared.Order.{Order}
 use Rattle.alarm.specs.Alarm.{orderOf}
-use Rattle.alarm.specs.Issued.{issuedOf}
+use Rattle.table_whole.specs.declared.SiteTable.{SiteTable}
+use Rattle.output.specs.Put.{Wrote}
+use Rattle.write_message.specs.Message.Message.{ack}
+use Rattle.write_message.specs.Pieces.{pieces}
 use Rattle.site.specs.declared.Site.{Site}
-use Rattle.site.specs.declared.Step.{Step}
 use Rattle.site.specs.Parts.{alarmAt, withAlarm}
-use Rattle.site.specs.Call.{never, Gives}
-use Rattle.site.specs.Site.{hasPrimary}
-use Rattle.packet_answer.specs.Ending.{Acks}
-use Rattle.packet_answer.proofs.Ends.{acks, with-batch, unreplied}
-use Rattle.packet_answer.specs.Takes.{Takes}
+use Rattle.site.specs.Call.{never}
+use Rattle.store_site.specs.Layout.{siteOf, withLast}
+use Rattle.store_site.specs.Turns.{Turns}
+use Rattle.store_call.specs.Called.{GivesIn}
+use Rattle.store_call.specs.Issued.{batchIn, issuedIn}
+use Rattle.store_call.proofs.IssuedLaws.{issued-end}
+use Rattle.packet_answer.specs.Ending.{report}
+use Rattle.packet_answer.specs.Takes.{TakesIn}
+use Rattle.packet_answer.proofs.Ends.{acks, refuses-spent, unreplied}
 use Rattle.packet_alarm.specs.Orders.{recordsOf, changedTo, changeTaken}
 
-module _ (s : Site) (k : ℕ) (c : Changed) where
-  recorded : (h : Bool) → h ≡ both (c .records) (hasPrimary s) → (x : Bool) → h ≡ x
-      → issuedAll 4 (s .pool) (s .next) (pick x (issuedOf (c .alarm) (s .primary) k ∷ []) []) ≡ issuedAll 4 (s .pool) (s .next) (recordsOf s k c)
-  recorded h e x f = ap (λ (b : Bool). issuedAll 4 (s .pool) (s .next) (pick b (issuedOf (c .alarm) (s .primary) k ∷ []) [])) (sym f ∙ e)
+module _ (t : SiteTable) (ws : List ℕ) (time : ℕ) (received : List ℕ) (k : ℕ) where
+  module _ (c : Changed) {n : ℕ} {b : Bool}
+      (many : (u : SiteTable) (j : ℕ) → n ≡ length (recordsOf (siteOf ws u) j c))
+      (judged : (u : SiteTable) (es : List Entry) → length es ≡ n → b ≡ batchIn (siteOf ws u) es .spent) where
+    is-judged : b ≡ batchIn (siteOf ws t) (recordsOf (siteOf ws t) k c) .spent
+    is-judged = judged t (recordsOf (siteOf ws t) k c) (sym (many t k))
 
-  pub one-record : {h : Bool} {b r : Batch} {e : Entry}
-      → h ≡ both (c .records) (hasPrimary s)
-      → h ≡ true
-      → b ≡ beginning (s .pool) (s .next)
-      → e ≡ issuedOf (c .alarm) (s .primary) k
-      → r ≡ added 4 b e
-      → r ≡ issuedAll 4 (s .pool) (s .next) (recordsOf s k c)
-  one-record {h} f t eb ee er = er ∙ ap₂ (added 4) eb ee ∙ recorded h f true t
+    -- number 10: nothing is written, and no word changed
+    pub refuses : {xs : List ℕ} → b ≡ true → GivesIn t time never (changedTo (siteOf ws t) received k c .plan) ws ws xs xs (Refused SequenceSpent)
+    refuses e = refuses-spent t time received (withAlarm (siteOf ws t) k (c .alarm)) (recordsOf (siteOf ws t) k c) none (sym is-judged ∙ e) refl
 
-  pub no-record : {h : Bool} {b : Batch}
-      → h ≡ both (c .records) (hasPrimary s)
-      → h ≡ false
-      → b ≡ beginning (s .pool) (s .next)
-      → b ≡ issuedAll 4 (s .pool) (s .next) (recordsOf s k c)
-  no-record {h} f t eb = eb ∙ recorded h f false t
+    pub makes : {vs xs ys : List ℕ} {end : ℕ} {x : Report}
+        → b ≡ false
+        → Wrote xs 0 (pieces (ack received)) ys end
+        → Turns (λ (s : Site). withLast (issuedIn (withAlarm s k (c .alarm)) (recordsOf s k c)) time) ws vs
+        → x ≡ report 0 0 end 0
+        → GivesIn t time never (changedTo (siteOf ws t) received k c .plan) ws vs xs ys (Done x)
+    makes e w u f =
+        acks t time received (withAlarm (siteOf ws t) k (c .alarm)) (recordsOf (siteOf ws t) k c) none (sym is-judged ∙ e) w (ap Done f)
+        (u .site t ∙ issued-end (withAlarm (siteOf ws t) k (c .alarm)) (recordsOf (siteOf ws t) k c) time)
+        (u .plain)
 
-  pub makes : (time : ℕ) (received : List ℕ) {after : Site} {b : Batch} {xs ys : List ℕ} {r : Step}
-      → after ≡ withAlarm s k (c .alarm)
-      → b ≡ issuedAll 4 (s .pool) (s .next) (recordsOf s k c)
-      → Acks s after b time 0 0 received xs ys r
-      → Gives s time never (changedTo s received k c .plan) xs ys r
-  makes time received {after} {b} {xs} {ys} {r} e f a =
-      acks s (withAlarm s k (c .alarm)) (recordsOf s k c) time none received
-      (subst (λ (x : Site). Acks s x (issuedAll 4 (s .pool) (s .next) (recordsOf s k c)) time 0 0 received xs ys r) e (with-batch s after _ _ time 0 0 received f a))
+  module _ (order : Order) {vs xs ys : List ℕ} {r : Answer} where
+    -- the change that an order makes of the alarm
+    pub orders-it : {c : Changed}
+        → c ≡ orderOf (alarmAt (siteOf ws t) k) order time
+        → GivesIn t time never (changedTo (siteOf ws t) received k c .plan) ws vs xs ys r
+        → GivesIn t time never (changeTaken (siteOf ws t) time received k order .plan) ws vs xs ys r
+    unfolding changeTaken
+    orders-it e g = subst (λ (x : Changed). GivesIn t time never (changedTo (siteOf ws t) received k x .plan) ws vs xs ys r) e g
 
-module _ (s : Site) (time : ℕ) (received : List ℕ) (k : ℕ) (order : Order) where
-  -- the change that an order makes of the alarm
-  pub orders-it : {c : Changed} {xs ys : List ℕ} {r : Step}
-      → c ≡ orderOf (alarmAt s k) order time
-      → Gives s time never (changedTo s received k c .plan) xs ys r
-      → Gives s time never (changeTaken s time received k order .plan) xs ys r
-  unfolding changeTaken
-  orders-it {c} {xs} {ys} {r} e g = subst (λ (x : Changed). Gives s time never (changedTo s received k x .plan) xs ys r) e g
-
-  pub taken-so : (l : ℕ) (id : Identity) {xs ys : List ℕ} {r : Step}
-      → Gives s time never (changeTaken s time received k order .plan) xs ys r
-      → Takes s l time id (changeTaken s time received k order) xs ys r
-  unfolding changeTaken
-  taken-so l id g = unreplied s l time id (changedTo s received k (orderOf (alarmAt s k) order time)) refl g
+    pub taken-so : (l : ℕ) (id : Identity)
+        → GivesIn t time never (changeTaken (siteOf ws t) time received k order .plan) ws vs xs ys r
+        → TakesIn t l time id (changeTaken (siteOf ws t) time received k order) ws vs xs ys r
+    unfolding changeTaken
+    taken-so l id g = unreplied t time l id (changedTo (siteOf ws t) received k (orderOf (alarmAt (siteOf ws t) k) order time)) refl g

@@ -1,20 +1,29 @@
-// What a supervisor orders of an alarm, and its request for the aggregated status.
+// What a supervisor orders of an alarm, and its request for the aggregated status, in place.
 ghost use mathlib.Core.Path.{_≡_};
-ghost use mathlib.Core.List.{_++_};
+ghost use mathlib.Core.List.{[], _++_};
+ghost use Prim.Native.Nat.{_<_};
+ghost use lib.ListN.{length};
+ghost use Rattle.answer.specs.Given.Hint.{none};
+ghost use Rattle.table_whole.specs.declared.SiteTable.{SiteTable};
+ghost use Rattle.store_table.specs.Layout.{tableOf};
 ghost use Rattle.packet_lookup.specs.Sought.{alarmSought, componentSought};
-ghost use Rattle.basis.specs.Pick.{both};
-ghost use Rattle.pool_batch.specs.Batch.{issuedAll};
 ghost use Rattle.output.specs.Put.{Wrote};
 ghost use Rattle.read_head.specs.Small.{alarmAt, aggregatedAt};
 ghost use Rattle.write_message.specs.Message.Message.{ack};
 ghost use Rattle.write_message.specs.Pieces.{pieces};
 ghost use Rattle.send_message.specs.Sending.{alarmMessage, aggregatedMessage};
-ghost use Rattle.packet_answer.specs.Taken.{replied, unlessBusy};
-ghost use Rattle.site.specs.Call.{never, Gives};
-ghost use Rattle.site.specs.Site.{hasPrimary};
-ghost use Rattle.packet_answer.specs.Takes.{Takes};
+ghost use Rattle.site.specs.declared.Site.{Site};
+ghost use Rattle.site.specs.Call.{never};
+ghost use Rattle.site.specs.Parts.{withAlarm};
+ghost use Rattle.store_site.specs.Layout.{siteOf, withLast};
+ghost use Rattle.store_site.specs.Turns.{Turns};
+ghost use Rattle.store_call.specs.Called.{GivesIn};
+ghost use Rattle.store_call.specs.Issued.{issuedIn};
+ghost use Rattle.packet_answer.specs.Taken.{acked, replied, unlessBusy};
+ghost use Rattle.packet_answer.specs.Takes.{TakesIn};
 ghost use Rattle.packet_alarm.specs.Orders.{recordsOf, changedTo, changeTaken, requestTaken, ordered as orderedBy, foundTaken, alarmTaken, isZero, aggregatedOf, aggregatedTaken};
 use alarm::Changed;
+use answer::Answer;
 use answer::Refusal;
 use identity::Identity;
 use label::Label;
@@ -22,117 +31,137 @@ use link::Role;
 use names::reasons;
 use packet_lookup::Sought;
 use packet_lookup::SoughtAlarm;
-use pool_batch::Batch;
 use read_head::AlarmFields;
 use read_head::GotLabel;
 use read_head::Order;
 use read_head::Received;
 use read_head::Verdict;
-use site::Site;
-use site::Step;
-use site::parts;
 
-fn records(changed: bool, s: Site) -> bool
-    ensures { λ r. ⌜ r ≡ both changed (hasPrimary s) ⌝ }
+// The alarm afterwards, the record of its change or none, and the time.
+fn keep(w: &mut [u64], time: u64, k: u8, c: Changed)
+    requires { ⌜ length (now w) ≡ 1173 ⌝ }
+    ensures { λ _. ⌜ Turns (λ (s : Site). withLast (issuedIn (withAlarm s k (c .alarm)) (recordsOf s k c)) time) (now (w .entry)) (now (w .exit)) ⌝ }
 {
-    if changed {
-        return s.primary < s.linkcount;
-    }
-    false
-}
-
-// The record of a change, for the primary alone.
-fn issued(s: Site, k: u8, c: Changed) -> Batch
-    ensures { λ r. ⌜ r ≡ issuedAll 4 (s .pool) (s .next) (recordsOf s k c) ⌝ }
-{
-    let pool = s.pool;
-    let b = Batch::begin(pool, s.next);
-    if records(c.records, s) {
-        let a = c.alarm;
-        return b.add(a.issued(s.primary, k as u16));
-    }
-    b
+    let a = c.alarm;
+    store_site::items::put_alarm(w, k as usize, a);
+    store_call::records::add_alarm(w, c, k as u16);
+    store_site::parts::put_last(w, time);
 }
 
 // An alarm was changed, or not.
-fn changed(s: Site, time: u64, received: Received, k: u8, c: Changed, out: &mut [u8]) -> Step
-    ensures { λ r. ⌜ Gives s time never (changedTo s (received .bytes) k c .plan) (now (out .entry)) (now (out .exit)) r ⌝ }
+fn changed(
+    w: &mut [u64],
+    time: u64,
+    received: Received,
+    k: u8,
+    c: Changed,
+    out: &mut [u8],
+) -> Answer
+    requires { ⌜ length (now w) ≡ 1173 ⌝ }
+    ensures { λ r. ⌜ ((t : SiteTable) → GivesIn t time never (changedTo (siteOf (now (w .entry)) t) (received .bytes) k c .plan) (now (w .entry)) (now (w .exit)) (now (out .entry)) (now (out .exit)) r) ⌝ }
 {
-    let a = c.alarm;
-    let after = parts::with_alarm(s, k as usize, a);
-    packet_answer::acknowledge(s, after, issued(s, k, c), time, received, 0, 0, out)
+    let n = store_call::records::of_alarm(w, c);
+    if store_call::spent(w, n) {
+        return Answer::Refused(Refusal::SequenceSpent);
+    }
+    let end = packet_answer::ack(received, out);
+    keep(w, time, k, c);
+    Answer::Done(packet_answer::report(0, 0, end, 0))
 }
 
 // Acknowledge, Suspend or Resume of alarm k, from any link.
 fn change(
-    s: Site,
+    w: &mut [u64],
     time: u64,
     received: Received,
     k: u8,
     order: alarm::Order,
     out: &mut [u8],
-) -> Step
-    ensures { λ r. ⌜ Gives s time never (changeTaken s time (received .bytes) k order .plan) (now (out .entry)) (now (out .exit)) r ⌝ }
+) -> Answer
+    requires { ⌜ length (now w) ≡ 1173 ⌝ }
+    ensures { λ r. ⌜ ((t : SiteTable) → GivesIn t time never (changeTaken (siteOf (now (w .entry)) t) time (received .bytes) k order .plan) (now (w .entry)) (now (w .exit)) (now (out .entry)) (now (out .exit)) r) ⌝ }
 {
-    let a = parts::alarm(s, k as usize);
-    changed(s, time, received, k, a.order(order, time), out)
+    let a = store_site::items::alarm(w, k as usize);
+    changed(w, time, received, k, a.order(order, time), out)
 }
 
 // The acknowledgement, and the alarm in the rest of the output, lent from where it ends. Where it found no room, nothing follows.
-fn answer_and_alarm(s: Site, id: Identity, received: Received, k: u8, out: &mut [u8]) -> usize
-    ensures { λ r. ⌜ Wrote (now (out .entry)) 0 (pieces (ack (received .bytes)) ++ pieces (alarmMessage s (id .bytes) k)) (now (out .exit)) r ⌝ }
+fn answer_and_alarm(
+    w: &[u64],
+    t: &[u8],
+    id: Identity,
+    received: Received,
+    k: u8,
+    out: &mut [u8],
+) -> usize
+    requires { ⌜ (length (now w) ≡ 1173) × (length (now t) ≡ 4752) ⌝ }
+    ensures { λ r. ⌜ Wrote (now (out .entry)) 0 (pieces (ack (received .bytes)) ++ pieces (alarmMessage (siteOf (now (w .entry)) (tableOf (now (t .entry)))) (id .bytes) k)) (now (out .exit)) r ⌝ }
 {
     let end = packet_answer::ack(received, out);
     if out.len() < end {
         return end;
     }
-    let more = send_message::write_alarm(&mut out[end..], 0, s, id, k as usize);
+    let more = send_message::write_alarm(&mut out[end..], 0, w, t, id, k as usize);
     end + more
 }
 
 // The alarm as it is, behind the acknowledgement.
 fn reply_alarm(
-    s: Site,
+    w: &mut [u64],
+    t: &[u8],
     l: u16,
     time: u64,
     id: Identity,
     received: Received,
     k: u8,
     out: &mut [u8],
-) -> Step
-    ensures { λ r. ⌜ Takes s l time id (unlessBusy s l (received .bytes) (replied s l time id (received .bytes) (alarmMessage s (id .bytes) k))) (now (out .entry)) (now (out .exit)) r ⌝ }
+) -> Answer
+    requires { ⌜ (length (now w) ≡ 1173) × ((length (now t) ≡ 4752) × (l < 4)) ⌝ }
+    ensures { λ r. ⌜ TakesIn (tableOf (now (t .entry))) l time id (unlessBusy (siteOf (now (w .entry)) (tableOf (now (t .entry)))) l (received .bytes) (replied (siteOf (now (w .entry)) (tableOf (now (t .entry)))) l time id (received .bytes) (alarmMessage (siteOf (now (w .entry)) (tableOf (now (t .entry)))) (id .bytes) k))) (now (w .entry)) (now (w .exit)) (now (out .entry)) (now (out .exit)) r ⌝ }
 {
-    if packet_answer::is_busy(s, l) {
-        return packet_answer::not_ack(s, time, received, reasons::BUSY, out);
+    if packet_answer::is_busy(w, l) {
+        return packet_answer::not_ack(w, time, received, reasons::BUSY, out);
     }
-    if packet_answer::is_awaited(s, l, id) {
-        return site::refused(s, Refusal::IdentityAwaited);
+    if packet_answer::is_awaited(w, l, id) {
+        return Answer::Refused(Refusal::IdentityAwaited);
     }
-    let end = answer_and_alarm(s, id, received, k, out);
-    packet_answer::reply_done(s, l, time, id, end)
+    let end = answer_and_alarm(w, t, id, received, k, out);
+    packet_answer::reply_done(w, l, time, id, end)
+}
+
+// Acknowledged, and nothing else.
+fn accept(w: &mut [u64], time: u64, received: Received, out: &mut [u8]) -> Answer
+    requires { ⌜ length (now w) ≡ 1173 ⌝ }
+    ensures { λ r. ⌜ ((t : SiteTable) → GivesIn t time never (acked (siteOf (now (w .entry)) t) [] (received .bytes) none .plan) (now (w .entry)) (now (w .exit)) (now (out .entry)) (now (out .exit)) r) ⌝ }
+{
+    let end = packet_answer::ack(received, out);
+    packet_answer::done(w, time, 0, 0, end, 0)
 }
 
 // Request of alarm k: a secondary's is acknowledged only.
 fn request(
-    s: Site,
+    w: &mut [u64],
+    t: &[u8],
     l: u16,
     time: u64,
     id: Identity,
     received: Received,
     k: u8,
     out: &mut [u8],
-) -> Step
-    ensures { λ r. ⌜ Takes s l time id (requestTaken s l time id (received .bytes) k) (now (out .entry)) (now (out .exit)) r ⌝ }
+) -> Answer
+    requires { ⌜ (length (now w) ≡ 1173) × ((length (now t) ≡ 4752) × (l < 4)) ⌝ }
+    ensures { λ r. ⌜ TakesIn (tableOf (now (t .entry))) l time id (requestTaken (siteOf (now (w .entry)) (tableOf (now (t .entry)))) l time id (received .bytes) k) (now (w .entry)) (now (w .exit)) (now (out .entry)) (now (out .exit)) r ⌝ }
 {
-    let role = s.role(l);
+    let role = store_site::head::role(w, l);
     match role {
-        Role::Primary => reply_alarm(s, l, time, id, received, k, out),
-        Role::Secondary => packet_answer::accept(s, s, time, received, 0, 0, out),
+        Role::Primary => reply_alarm(w, t, l, time, id, received, k, out),
+        Role::Secondary => accept(w, time, received, out),
     }
 }
 
 fn ordered(
-    s: Site,
+    w: &mut [u64],
+    t: &[u8],
     l: u16,
     time: u64,
     id: Identity,
@@ -140,122 +169,138 @@ fn ordered(
     k: u8,
     order: Order,
     out: &mut [u8],
-) -> Step
-    ensures { λ r. ⌜ Takes s l time id (orderedBy s l time id (received .bytes) k order) (now (out .entry)) (now (out .exit)) r ⌝ }
+) -> Answer
+    requires { ⌜ (length (now w) ≡ 1173) × ((length (now t) ≡ 4752) × (l < 4)) ⌝ }
+    ensures { λ r. ⌜ TakesIn (tableOf (now (t .entry))) l time id (orderedBy (siteOf (now (w .entry)) (tableOf (now (t .entry)))) l time id (received .bytes) k order) (now (w .entry)) (now (w .exit)) (now (out .entry)) (now (out .exit)) r ⌝ }
 {
     match order {
-        Order::Request => request(s, l, time, id, received, k, out),
-        Order::Acknowledge => change(s, time, received, k, alarm::Order::Acknowledge, out),
-        Order::Suspend => change(s, time, received, k, alarm::Order::Suspend, out),
-        Order::Resume => change(s, time, received, k, alarm::Order::Resume, out),
+        Order::Request => request(w, t, l, time, id, received, k, out),
+        Order::Acknowledge => change(w, time, received, k, alarm::Order::Acknowledge, out),
+        Order::Suspend => change(w, time, received, k, alarm::Order::Suspend, out),
+        Order::Resume => change(w, time, received, k, alarm::Order::Resume, out),
     }
 }
 
-fn alarm_of(s: Site, f: AlarmFields) -> SoughtAlarm
-    ensures { λ r. ⌜ r ≡ alarmSought (s .table) (f .component) (f .code) ⌝ }
+fn alarm_of(t: &[u8], f: AlarmFields) -> SoughtAlarm
+    requires { ⌜ length (now t) ≡ 4752 ⌝ }
+    ensures { λ r. ⌜ r ≡ alarmSought (tableOf (now (t .entry))) (f .component) (f .code) ⌝ }
 {
-    let table = s.table;
     let component = f.component;
     let code = f.code;
-    packet_lookup::alarm(table, component, code)
+    packet_lookup::alarm(t, component, code)
 }
 
 fn find(
-    s: Site,
+    w: &mut [u64],
+    t: &[u8],
     l: u16,
     time: u64,
     id: Identity,
     received: Received,
     f: AlarmFields,
     out: &mut [u8],
-) -> Step
-    ensures { λ r. ⌜ Takes s l time id (foundTaken s l time id (received .bytes) f) (now (out .entry)) (now (out .exit)) r ⌝ }
+) -> Answer
+    requires { ⌜ (length (now w) ≡ 1173) × ((length (now t) ≡ 4752) × (l < 4)) ⌝ }
+    ensures { λ r. ⌜ TakesIn (tableOf (now (t .entry))) l time id (foundTaken (siteOf (now (w .entry)) (tableOf (now (t .entry)))) l time id (received .bytes) f) (now (w .entry)) (now (w .exit)) (now (out .entry)) (now (out .exit)) r ⌝ }
 {
-    let a = alarm_of(s, f);
+    let a = alarm_of(t, f);
     let order = f.order;
     match a {
-        SoughtAlarm::Alarm(k) => ordered(s, l, time, id, received, k, order, out),
+        SoughtAlarm::Alarm(k) => ordered(w, t, l, time, id, received, k, order, out),
         SoughtAlarm::NoComponent => {
-            packet_answer::not_ack(s, time, received, reasons::UNKNOWN_COMPONENT, out)
+            packet_answer::not_ack(w, time, received, reasons::UNKNOWN_COMPONENT, out)
         }
         SoughtAlarm::NoAlarm => {
-            packet_answer::not_ack(s, time, received, reasons::UNKNOWN_ALARM, out)
+            packet_answer::not_ack(w, time, received, reasons::UNKNOWN_ALARM, out)
         }
     }
 }
 
 fn judge(
-    s: Site,
+    w: &mut [u64],
+    t: &[u8],
     l: u16,
     time: u64,
     id: Identity,
     received: Received,
     f: AlarmFields,
     out: &mut [u8],
-) -> Step
-    ensures { λ r. ⌜ Takes s l time id (alarmTaken s l time id (received .bytes) f) (now (out .entry)) (now (out .exit)) r ⌝ }
+) -> Answer
+    requires { ⌜ (length (now w) ≡ 1173) × ((length (now t) ≡ 4752) × (l < 4)) ⌝ }
+    ensures { λ r. ⌜ TakesIn (tableOf (now (t .entry))) l time id (alarmTaken (siteOf (now (w .entry)) (tableOf (now (t .entry)))) l time id (received .bytes) f) (now (w .entry)) (now (w .exit)) (now (out .entry)) (now (out .exit)) r ⌝ }
 {
     let v = f.verdict;
     match v {
-        Verdict::Good => find(s, l, time, id, received, f, out),
+        Verdict::Good => find(w, t, l, time, id, received, f, out),
         Verdict::Missing => packet_answer::not_ack(
-            s,
+            w,
             time,
             received,
             reasons::MISSING_ELEMENT,
             out,
         ),
-        Verdict::Bad => packet_answer::not_ack(s, time, received, reasons::BAD_VALUE, out),
+        Verdict::Bad => packet_answer::not_ack(w, time, received, reasons::BAD_VALUE, out),
     }
 }
 
 // An Alarm of theirs.
 pub fn alarm(
-    s: Site,
+    w: &mut [u64],
+    t: &[u8],
     l: u16,
     time: u64,
     id: Identity,
     received: Received,
     packet: &[u8],
     out: &mut [u8],
-) -> Step
-    ensures { λ r. ⌜ Takes s l time id (alarmTaken s l time id (received .bytes) (alarmAt (now (packet .entry)))) (now (out .entry)) (now (out .exit)) r ⌝ }
+) -> Answer
+    requires { ⌜ (length (now w) ≡ 1173) × ((length (now t) ≡ 4752) × (l < 4)) ⌝ }
+    ensures { λ r. ⌜ TakesIn (tableOf (now (t .entry))) l time id (alarmTaken (siteOf (now (w .entry)) (tableOf (now (t .entry)))) l time id (received .bytes) (alarmAt (now (packet .entry)))) (now (w .entry)) (now (w .exit)) (now (out .entry)) (now (out .exit)) r ⌝ }
 {
     let f = read_head::read_alarm(packet);
-    judge(s, l, time, id, received, f, out)
+    judge(w, t, l, time, id, received, f, out)
 }
 
 // The acknowledgement, and the aggregated status in the rest of the output, lent from where it ends. Where it found no room, nothing follows.
-fn answer_and_aggregated(s: Site, id: Identity, received: Received, out: &mut [u8]) -> usize
-    ensures { λ r. ⌜ Wrote (now (out .entry)) 0 (pieces (ack (received .bytes)) ++ pieces (aggregatedMessage s (id .bytes))) (now (out .exit)) r ⌝ }
+fn answer_and_aggregated(
+    w: &[u64],
+    t: &[u8],
+    id: Identity,
+    received: Received,
+    out: &mut [u8],
+) -> usize
+    requires { ⌜ (length (now w) ≡ 1173) × (length (now t) ≡ 4752) ⌝ }
+    ensures { λ r. ⌜ Wrote (now (out .entry)) 0 (pieces (ack (received .bytes)) ++ pieces (aggregatedMessage (siteOf (now (w .entry)) (tableOf (now (t .entry)))) (id .bytes))) (now (out .exit)) r ⌝ }
 {
     let end = packet_answer::ack(received, out);
     if out.len() < end {
         return end;
     }
-    let more = send_message::write_aggregated(&mut out[end..], 0, s, id);
+    let more = send_message::write_aggregated(&mut out[end..], 0, w, t, id);
     end + more
 }
 
 // The aggregated status as it is, behind the acknowledgement.
 fn reply_aggregated(
-    s: Site,
+    w: &mut [u64],
+    t: &[u8],
     l: u16,
     time: u64,
     id: Identity,
     received: Received,
     out: &mut [u8],
-) -> Step
-    ensures { λ r. ⌜ Takes s l time id (unlessBusy s l (received .bytes) (replied s l time id (received .bytes) (aggregatedMessage s (id .bytes)))) (now (out .entry)) (now (out .exit)) r ⌝ }
+) -> Answer
+    requires { ⌜ (length (now w) ≡ 1173) × ((length (now t) ≡ 4752) × (l < 4)) ⌝ }
+    ensures { λ r. ⌜ TakesIn (tableOf (now (t .entry))) l time id (unlessBusy (siteOf (now (w .entry)) (tableOf (now (t .entry)))) l (received .bytes) (replied (siteOf (now (w .entry)) (tableOf (now (t .entry)))) l time id (received .bytes) (aggregatedMessage (siteOf (now (w .entry)) (tableOf (now (t .entry)))) (id .bytes)))) (now (w .entry)) (now (w .exit)) (now (out .entry)) (now (out .exit)) r ⌝ }
 {
-    if packet_answer::is_busy(s, l) {
-        return packet_answer::not_ack(s, time, received, reasons::BUSY, out);
+    if packet_answer::is_busy(w, l) {
+        return packet_answer::not_ack(w, time, received, reasons::BUSY, out);
     }
-    if packet_answer::is_awaited(s, l, id) {
-        return site::refused(s, Refusal::IdentityAwaited);
+    if packet_answer::is_awaited(w, l, id) {
+        return Answer::Refused(Refusal::IdentityAwaited);
     }
-    let end = answer_and_aggregated(s, id, received, out);
-    packet_answer::reply_done(s, l, time, id, end)
+    let end = answer_and_aggregated(w, t, id, received, out);
+    packet_answer::reply_done(w, l, time, id, end)
 }
 
 fn is_zero(c: Sought) -> bool
@@ -267,67 +312,73 @@ fn is_zero(c: Sought) -> bool
     }
 }
 
-fn carries(s: Site, id: Label) -> bool
-    ensures { λ r. ⌜ r ≡ isZero (componentSought (s .table) id) ⌝ }
+fn carries(t: &[u8], id: Label) -> bool
+    requires { ⌜ length (now t) ≡ 4752 ⌝ }
+    ensures { λ r. ⌜ r ≡ isZero (componentSought (tableOf (now (t .entry))) id) ⌝ }
 {
-    let table = s.table;
-    is_zero(packet_lookup::component(table, id))
+    is_zero(packet_lookup::component(t, id))
 }
 
 fn aggregated_for(
-    s: Site,
+    w: &mut [u64],
+    t: &[u8],
     l: u16,
     time: u64,
     id: Identity,
     received: Received,
     component: Label,
     out: &mut [u8],
-) -> Step
-    ensures { λ r. ⌜ Takes s l time id (aggregatedOf s l time id (received .bytes) (componentSought (s .table) component)) (now (out .entry)) (now (out .exit)) r ⌝ }
+) -> Answer
+    requires { ⌜ (length (now w) ≡ 1173) × ((length (now t) ≡ 4752) × (l < 4)) ⌝ }
+    ensures { λ r. ⌜ TakesIn (tableOf (now (t .entry))) l time id (aggregatedOf (siteOf (now (w .entry)) (tableOf (now (t .entry)))) l time id (received .bytes) (componentSought (tableOf (now (t .entry))) component)) (now (w .entry)) (now (w .exit)) (now (out .entry)) (now (out .exit)) r ⌝ }
 {
-    if carries(s, component) {
-        return reply_aggregated(s, l, time, id, received, out);
+    if carries(t, component) {
+        return reply_aggregated(w, t, l, time, id, received, out);
     }
-    packet_answer::not_ack(s, time, received, reasons::UNKNOWN_COMPONENT, out)
+    packet_answer::not_ack(w, time, received, reasons::UNKNOWN_COMPONENT, out)
 }
 
 fn judge_aggregated(
-    s: Site,
+    w: &mut [u64],
+    t: &[u8],
     l: u16,
     time: u64,
     id: Identity,
     received: Received,
     f: GotLabel,
     out: &mut [u8],
-) -> Step
-    ensures { λ r. ⌜ Takes s l time id (aggregatedTaken s l time id (received .bytes) f) (now (out .entry)) (now (out .exit)) r ⌝ }
+) -> Answer
+    requires { ⌜ (length (now w) ≡ 1173) × ((length (now t) ≡ 4752) × (l < 4)) ⌝ }
+    ensures { λ r. ⌜ TakesIn (tableOf (now (t .entry))) l time id (aggregatedTaken (siteOf (now (w .entry)) (tableOf (now (t .entry)))) l time id (received .bytes) f) (now (w .entry)) (now (w .exit)) (now (out .entry)) (now (out .exit)) r ⌝ }
 {
     let v = f.verdict;
     match v {
-        Verdict::Good => aggregated_for(s, l, time, id, received, f.label, out),
+        Verdict::Good => aggregated_for(w, t, l, time, id, received, f.label, out),
         Verdict::Missing => packet_answer::not_ack(
-            s,
+            w,
             time,
             received,
             reasons::MISSING_ELEMENT,
             out,
         ),
-        Verdict::Bad => packet_answer::not_ack(s, time, received, reasons::BAD_VALUE, out),
+        Verdict::Bad => packet_answer::not_ack(w, time, received, reasons::BAD_VALUE, out),
     }
 }
 
 // An AggregatedStatusRequest.
 pub fn aggregated(
-    s: Site,
+    w: &mut [u64],
+    t: &[u8],
     l: u16,
     time: u64,
     id: Identity,
     received: Received,
     packet: &[u8],
     out: &mut [u8],
-) -> Step
-    ensures { λ r. ⌜ Takes s l time id (aggregatedTaken s l time id (received .bytes) (aggregatedAt (now (packet .entry)))) (now (out .entry)) (now (out .exit)) r ⌝ }
+) -> Answer
+    requires { ⌜ (length (now w) ≡ 1173) × ((length (now t) ≡ 4752) × (l < 4)) ⌝ }
+    ensures { λ r. ⌜ TakesIn (tableOf (now (t .entry))) l time id (aggregatedTaken (siteOf (now (w .entry)) (tableOf (now (t .entry)))) l time id (received .bytes) (aggregatedAt (now (packet .entry)))) (now (w .entry)) (now (w .exit)) (now (out .entry)) (now (out .exit)) r ⌝ }
 {
     let f = read_head::read_aggregated(packet);
-    judge_aggregated(s, l, time, id, received, f, out)
+    judge_aggregated(w, t, l, time, id, received, f, out)
 }

@@ -1,4 +1,4 @@
--- From what one part of a call gives to what the packet comes to.
+-- From what one part of a call gives to what the packet comes to: the words are ws, the site's table is t.
 -- Assumes nothing.
 use Prim.Native.Nat.{ℕ}
 use mathlib.Core.Path.{_≡_, refl, sym, subst}
@@ -6,77 +6,91 @@ use mathlib.Core.Bool.{Bool, true, false}
 use mathlib.Core.List.{List, _++_}
 use Rattle.basis.specs.Pick.{pick}
 use Rattle.answer.specs.declared.Refusal.the-variants.{IdentityAwaited}
+use Rattle.answer.specs.declared.Answer.{Answer}
+use Rattle.answer.specs.declared.Answer.the-variants.{Done, Refused}
 use Rattle.identity.specs.declared.Identity.{Identity}
 use Rattle.awaited.specs.Awaited.{findOf, isAwaited}
 use Rattle.link.specs.Steps.{fullOf}
 use Rattle.output.specs.Put.{Wrote}
+use Rattle.table_whole.specs.declared.SiteTable.{SiteTable}
 use Rattle.write_message.specs.Message.{Message}
 use Rattle.write_message.specs.Message.Message.{ack}
 use Rattle.write_message.specs.Pieces.{pieces}
 use Rattle.read_head.specs.declared.Verdict.{Verdict}
 use Rattle.read_head.specs.declared.Verdict.the-variants.{Good, Missing, Bad}
 use Rattle.site.specs.declared.Site.{Site}
-use Rattle.site.specs.declared.Step.{Step}
 use Rattle.site.specs.Site.{linkAt}
-use Rattle.site.specs.Call.{never, refused, Gives}
+use Rattle.site.specs.Call.{never}
+use Rattle.store_site.specs.Layout.{siteOf}
+use Rattle.store_site.specs.Turns.{Turns}
+use Rattle.store_call.specs.Called.{GivesIn}
 use Rattle.packet_answer.specs.Taken.{Taken, notAcked, replied, byVerdict, unlessBusy, missingElement, badValue, busy}
-use Rattle.packet_answer.specs.Ending.{repliedAt}
+use Rattle.packet_answer.specs.Ending.{report, repliedAt}
 use Rattle.packet_answer.proofs.Ends.{unreplied, replies, replies-refused}
-use Rattle.packet_answer.specs.Takes.{Takes}
+use Rattle.packet_answer.specs.Takes.{TakesIn}
 
-module _ (s : Site) (l time : ℕ) (id : Identity) (received : List ℕ) where
-  pub not-acked : (reason : ℕ) {xs ys : List ℕ} {r : Step} → Gives s time never (notAcked s received reason .plan) xs ys r → Takes s l time id (notAcked s received reason) xs ys r
-  not-acked reason g = unreplied s l time id (notAcked s received reason) refl g
+module _ (t : SiteTable) (ws : List ℕ) (l time : ℕ) (id : Identity) (received : List ℕ) where
+  pub not-acked : (reason : ℕ) {vs xs ys : List ℕ} {r : Answer}
+      → GivesIn t time never (notAcked (siteOf ws t) received reason .plan) ws vs xs ys r
+      → TakesIn t l time id (notAcked (siteOf ws t) received reason) ws vs xs ys r
+  not-acked reason g = unreplied t time l id (notAcked (siteOf ws t) received reason) refl g
 
-  -- a choice that a test made
-  pub picked-first : (b : Bool) (t u : Taken) {xs ys : List ℕ} {r : Step} → b ≡ true → Takes s l time id t xs ys r → Takes s l time id (pick b t u) xs ys r
-  picked-first b t u {xs} {ys} {r} e g = subst (λ (x : Bool). Takes s l time id (pick x t u) xs ys r) (sym e) g
+  module _ {vs xs ys : List ℕ} {r : Answer} where
+    -- a choice that a test made
+    pub picked-first : (b : Bool) (x y : Taken) → b ≡ true → TakesIn t l time id x ws vs xs ys r → TakesIn t l time id (pick b x y) ws vs xs ys r
+    picked-first b x y e g = subst (λ (z : Bool). TakesIn t l time id (pick z x y) ws vs xs ys r) (sym e) g
 
-  pub picked-second : (b : Bool) (t u : Taken) {xs ys : List ℕ} {r : Step} → b ≡ false → Takes s l time id u xs ys r → Takes s l time id (pick b t u) xs ys r
-  picked-second b t u {xs} {ys} {r} e g = subst (λ (x : Bool). Takes s l time id (pick x t u) xs ys r) (sym e) g
+    pub picked-second : (b : Bool) (x y : Taken) → b ≡ false → TakesIn t l time id y ws vs xs ys r → TakesIn t l time id (pick b x y) ws vs xs ys r
+    picked-second b x y e g = subst (λ (z : Bool). TakesIn t l time id (pick z x y) ws vs xs ys r) (sym e) g
 
-  -- by the verdict
-  pub good : (v : Verdict) (t : Taken) {xs ys : List ℕ} {r : Step} → v ≡ Good → Takes s l time id t xs ys r → Takes s l time id (byVerdict v s received t) xs ys r
-  good v t {xs} {ys} {r} e g = subst (λ (x : Verdict). Takes s l time id (byVerdict x s received t) xs ys r) (sym e) g
+    -- by the verdict
+    pub good : (v : Verdict) (x : Taken) → v ≡ Good → TakesIn t l time id x ws vs xs ys r → TakesIn t l time id (byVerdict v (siteOf ws t) received x) ws vs xs ys r
+    good v x e g = subst (λ (z : Verdict). TakesIn t l time id (byVerdict z (siteOf ws t) received x) ws vs xs ys r) (sym e) g
 
-  pub missing : (v : Verdict) (t : Taken) {xs ys : List ℕ} {r : Step}
-      → v ≡ Missing
-      → Gives s time never (notAcked s received missingElement .plan) xs ys r
-      → Takes s l time id (byVerdict v s received t) xs ys r
-  missing v t {xs} {ys} {r} e g = subst (λ (x : Verdict). Takes s l time id (byVerdict x s received t) xs ys r) (sym e) (not-acked missingElement g)
+    pub missing : (v : Verdict) (x : Taken)
+        → v ≡ Missing
+        → GivesIn t time never (notAcked (siteOf ws t) received missingElement .plan) ws vs xs ys r
+        → TakesIn t l time id (byVerdict v (siteOf ws t) received x) ws vs xs ys r
+    missing v x e g = subst (λ (z : Verdict). TakesIn t l time id (byVerdict z (siteOf ws t) received x) ws vs xs ys r) (sym e) (not-acked missingElement g)
 
-  pub bad : (v : Verdict) (t : Taken) {xs ys : List ℕ} {r : Step}
-      → v ≡ Bad
-      → Gives s time never (notAcked s received badValue .plan) xs ys r
-      → Takes s l time id (byVerdict v s received t) xs ys r
-  bad v t {xs} {ys} {r} e g = subst (λ (x : Verdict). Takes s l time id (byVerdict x s received t) xs ys r) (sym e) (not-acked badValue g)
+    pub bad : (v : Verdict) (x : Taken)
+        → v ≡ Bad
+        → GivesIn t time never (notAcked (siteOf ws t) received badValue .plan) ws vs xs ys r
+        → TakesIn t l time id (byVerdict v (siteOf ws t) received x) ws vs xs ys r
+    bad v x e g = subst (λ (z : Verdict). TakesIn t l time id (byVerdict z (siteOf ws t) received x) ws vs xs ys r) (sym e) (not-acked badValue g)
+
+    -- what is chosen by a value that a function gave
+    pub like : {A : Type 0} (f : A → Taken) {x y : A} → x ≡ y → TakesIn t l time id (f y) ws vs xs ys r → TakesIn t l time id (f x) ws vs xs ys r
+    like {A} f e g = subst (λ (z : A). TakesIn t l time id (f z) ws vs xs ys r) (sym e) g
 
   -- a reply is due: "Busy"; the identity is awaited already; the answer and the reply behind it
   module _ (m : Message) where
     abbrev pub due : Taken
-    due = unlessBusy s l received (replied s l time id received m)
+    due = unlessBusy (siteOf ws t) l received (replied (siteOf ws t) l time id received m)
 
-    pub is-busy : {xs ys : List ℕ} {r : Step} → fullOf (linkAt s l) ≡ true → Gives s time never (notAcked s received busy .plan) xs ys r → Takes s l time id due xs ys r
-    is-busy e g = picked-first (fullOf (linkAt s l)) (notAcked s received busy) (replied s l time id received m) e (not-acked busy g)
+    pub is-busy : {vs xs ys : List ℕ} {r : Answer}
+        → fullOf (linkAt (siteOf ws t) l) ≡ true
+        → GivesIn t time never (notAcked (siteOf ws t) received busy .plan) ws vs xs ys r
+        → TakesIn t l time id due ws vs xs ys r
+    is-busy e g =
+        picked-first (fullOf (linkAt (siteOf ws t) l)) (notAcked (siteOf ws t) received busy) (replied (siteOf ws t) l time id received m) e (not-acked busy g)
 
-    pub is-awaited : {xs ys : List ℕ} {r : Step}
-        → fullOf (linkAt s l) ≡ false
-        → isAwaited (findOf (linkAt s l .awaited) id) ≡ true
-        → r ≡ refused s IdentityAwaited
-        → ys ≡ xs
-        → Takes s l time id due xs ys r
-    is-awaited e h f o =
-        picked-second (fullOf (linkAt s l)) (notAcked s received busy) (replied s l time id received m) e (replies-refused s l time id received m h f o)
+    pub is-awaited : {xs : List ℕ} {r : Answer}
+        → fullOf (linkAt (siteOf ws t) l) ≡ false
+        → isAwaited (findOf (linkAt (siteOf ws t) l .awaited) id) ≡ true
+        → r ≡ Refused IdentityAwaited
+        → TakesIn t l time id due ws ws xs xs r
+    is-awaited e h f =
+        picked-second (fullOf (linkAt (siteOf ws t) l)) (notAcked (siteOf ws t) received busy) (replied (siteOf ws t) l time id received m) e
+        (replies-refused t time l id received m h f)
 
-    pub is-sent : {xs ys : List ℕ} {end : ℕ} {r : Step}
-        → fullOf (linkAt s l) ≡ false
-        → isAwaited (findOf (linkAt s l .awaited) id) ≡ false
+    pub is-sent : {vs xs ys : List ℕ} {end : ℕ} {r : Answer}
+        → fullOf (linkAt (siteOf ws t) l) ≡ false
+        → isAwaited (findOf (linkAt (siteOf ws t) l .awaited) id) ≡ false
         → Wrote xs 0 (pieces (ack received) ++ pieces m) ys end
-        → r ≡ repliedAt s l time id end
-        → Takes s l time id due xs ys r
-    is-sent e h w f =
-        picked-second (fullOf (linkAt s l)) (notAcked s received busy) (replied s l time id received m) e (replies s l time id received m h w f)
-
-  -- what is chosen by a value that a function gave
-  pub like : {A : Type 0} (f : A → Taken) {x y : A} {xs ys : List ℕ} {r : Step} → x ≡ y → Takes s l time id (f y) xs ys r → Takes s l time id (f x) xs ys r
-  like {A} f {xs = xs} {ys = ys} {r = r} e g = subst (λ (z : A). Takes s l time id (f z) xs ys r) (sym e) g
+        → r ≡ Done (report 0 0 end 0)
+        → Turns (λ (s : Site). repliedAt s l time id end .site) ws vs
+        → TakesIn t l time id due ws vs xs ys r
+    is-sent e h w f u =
+        picked-second (fullOf (linkAt (siteOf ws t) l)) (notAcked (siteOf ws t) received busy) (replied (siteOf ws t) l time id received m) e
+        (replies t time l id received m h w f u)

@@ -1,29 +1,36 @@
--- From what was written and how the call ended to what the call gives.
+-- From what was written and how the words changed to what the call gives, the site's table being t.
 -- Assumes nothing.
 use Prim.Native.Nat.{ℕ}
-use mathlib.Core.Path.{_≡_, refl, sym, ap, _∙_}
-use mathlib.Core.Bool.{Bool, true, false}
+use mathlib.Core.Path.{_≡_, refl, sym, ap, ap₂, _∙_}
+use mathlib.Core.Bool.{true, false}
 use mathlib.Core.List.{List, [], _∷_, _++_}
+use native.Mathlib.Omega.{arith}
 use Rattle.answer.specs.declared.Refusal.{Refusal}
 use Rattle.answer.specs.declared.Refusal.the-variants.{IdentityAwaited, SequenceSpent}
+use Rattle.answer.specs.declared.Report.{Report}
+use Rattle.answer.specs.declared.Answer.{Answer}
+use Rattle.answer.specs.declared.Answer.the-variants.{Done, Refused}
 use Rattle.answer.specs.Given.{Hint}
-use Rattle.answer.specs.Given.Hint.{none, clock}
 use Rattle.names.specs.Names.{nameOf}
 use Rattle.identity.specs.declared.Identity.{Identity}
 use Rattle.entry.specs.declared.Entry.{Entry}
 use Rattle.awaited.specs.Awaited.{findOf, isAwaited}
-use Rattle.pool_batch.specs.declared.Batch.{Batch}
-use Rattle.pool_batch.specs.Batch.{beginning, issuedAll}
+use Rattle.pool_batch.specs.Batch.{issuedAll}
 use Rattle.output.specs.Put.{Out, output, putAll, Wrote}
+use Rattle.table_whole.specs.declared.SiteTable.{SiteTable}
 use Rattle.write_message.specs.Message.{Message}
 use Rattle.write_message.specs.Message.Message.{ack, notAck}
 use Rattle.write_message.specs.Pieces.{pieces}
 use Rattle.site.specs.declared.Site.{Site}
 use Rattle.site.specs.declared.Step.{Step}
-use Rattle.site.specs.Site.{linkAt, closeAt, maskOf}
-use Rattle.site.specs.Call.{Plan, never, stepOf, concluded, refused, piecesOf, writtenTo, outAfter, Gives, reportOf, batchOf, hintTime, hintBit}
-use Rattle.packet_answer.specs.Taken.{Taken, takenRefuses, notAcked, closing, acked, replied}
-use Rattle.packet_answer.specs.Ending.{report, doneAt, repliedAt, Acks}
+use Rattle.site.specs.Site.{linkAt, closeAt, maskOf, withIssued}
+use Rattle.site.specs.Call.{Plan, never, writtenTo, reportOf, batchOf, hintTime, hintBit}
+use Rattle.store_site.specs.Layout.{siteOf, withLast}
+use Rattle.store_site.specs.Turns.{Plain, Turns}
+use Rattle.store_call.specs.Called.{GivesIn}
+use Rattle.packet_answer.specs.Taken.{Taken, notAcked, closing, acked, replied}
+use Rattle.packet_answer.specs.Ending.{report, repliedAt}
+use Rattle.packet_answer.specs.Takes.{TakesIn}
 
 ++-nil : (bs : List (List ℕ)) → bs ++ [] ≡ bs
 ++-nil [] = refl
@@ -36,117 +43,96 @@ one m {xs} w = w .all ∙ ap (λ (x : List (List ℕ)). putAll (output xs 0) x) 
 pub two : (m n : Message) {xs ys : List ℕ} {end : ℕ} → Wrote xs 0 (pieces m ++ pieces n) ys end → output ys end ≡ writtenTo xs (m ∷ n ∷ [])
 two m n {xs} w = w .all ∙ ap (λ (x : List (List ℕ)). putAll (output xs 0) (pieces m ++ x)) (sym (++-nil (pieces n)))
 
--- answered with a reason
-pub not-acks : (s : Site) (time : ℕ) (received : List ℕ) (reason : ℕ) {xs ys : List ℕ} {end : ℕ} {r : Step}
-    → Wrote xs 0 (pieces (notAck received (nameOf reason))) ys end
-    → r ≡ doneAt s time end 0
-    → Gives s time never (notAcked s received reason .plan) xs ys r
-not-acks s time received reason w e =
-    let o = one (notAck received (nameOf reason)) w in
-    record { step = e ∙ ap (λ (x : Out). doneAt s time (x .end) 0) o; out = rw e (ap (λ (x : Out). x .bytes) o) }
+-- a call that is done is not refused
+pub not-refused : {A : Type 0} {x : Report} {r : Answer} → r ≡ Done x → (why : Refusal) → r ≡ Refused why → A
+not-refused e why f = absurd (let z : _≡_ {A = ℕ} 0 1 = cc in omega arith)
 
--- answered with a reason, and the link is closed
-pub closes : (s : Site) (l time : ℕ) (received : List ℕ) (reason : ℕ) {xs ys : List ℕ} {end : ℕ} {r : Step}
-    → Wrote xs 0 (pieces (notAck received (nameOf reason))) ys end
-    → r ≡ doneAt (closeAt s l) time end (maskOf l)
-    → Gives s time never (closing s l received reason .plan) xs ys r
-closes s l time received reason w e =
-    let o = one (notAck received (nameOf reason)) w in
-    record { step = e ∙ ap (λ (x : Out). doneAt (closeAt s l) time (x .end) (maskOf l)) o; out = rw e (ap (λ (x : Out). x .bytes) o) }
+abbrev stepTo : Site → Answer → Step
+stepTo s r = record { site = s; answer = r }
 
--- a call without a condition of its own ends as its batch says
-concluding : (s : Site) (time : ℕ) (p : Plan) (end : ℕ) (a : Bool)
-    → batchOf p .spent ≡ a
-    → concluded s (p .site) (batchOf p) time (reportOf p end) ≡ stepOf s time never p end
-concluding s time p end true e = rw e refl
-concluding s time p end false e = rw e refl
+module _ (t : SiteTable) (time : ℕ) where
+  -- a call without a condition of its own, done: its messages end at `end`, and the words hold the next site
+  pub ends : (p : Plan) {ws vs xs ys : List ℕ} {end : ℕ} {r : Answer}
+      → batchOf p .spent ≡ false
+      → output ys end ≡ writtenTo xs (p .messages)
+      → r ≡ Done (reportOf p end)
+      → siteOf vs t ≡ withIssued (p .site) (batchOf p) time
+      → (Plain ws → Plain vs)
+      → GivesIn t time never p ws vs xs ys r
+  ends p {ws} {vs} {xs} {ys} h o e site plain =
+      record {
+        gives = record {
+          step = rw (e, h) (ap₂ (λ (s : Site) (x : Out). stepTo s (Done (reportOf p (x .end)))) site o);
+          out = rw e (ap (λ (x : Out). x .bytes) o);
+        };
+        plain = plain;
+        kept = not-refused e;
+      }
 
-pub concludes : (s : Site) (time : ℕ) (p : Plan) (end : ℕ) → concluded s (p .site) (batchOf p) time (reportOf p end) ≡ stepOf s time never p end
-concludes s time p end = concluding s time p end (batchOf p .spent) refl
+  -- number 10: nothing is written, and no word changed
+  pub spends : (p : Plan) {ws xs : List ℕ} {r : Answer} → batchOf p .spent ≡ true → r ≡ Refused SequenceSpent → GivesIn t time never p ws ws xs xs r
+  spends p h e = record { gives = record { step = rw (e, h) refl; out = rw e refl }; plain = λ x. x; kept = λ why q. refl }
 
--- the two ends of a call that acknowledges
-pub refuses-spent : (s after : Site) (b : Batch) (time hint hinted : ℕ) (received : List ℕ) {xs ys : List ℕ} {r : Step}
-    → b .spent ≡ true
-    → r ≡ refused s SequenceSpent
-    → ys ≡ xs
-    → Acks s after b time hint hinted received xs ys r
-refuses-spent s after b time hint hinted received h e f = record { step = rw h e; out = rw e f }
+  module _ (received : List ℕ) {ws vs xs ys : List ℕ} {end : ℕ} {r : Answer} where
+    -- answered with a reason
+    pub not-acks : (reason : ℕ)
+        → Wrote xs 0 (pieces (notAck received (nameOf reason))) ys end
+        → r ≡ Done (report 0 0 end 0)
+        → Turns (λ (s : Site). withLast s time) ws vs
+        → GivesIn t time never (notAcked (siteOf ws t) received reason .plan) ws vs xs ys r
+    not-acks reason w e u = ends (notAcked (siteOf ws t) received reason .plan) refl (one (notAck received (nameOf reason)) w) e (u .site t) (u .plain)
 
-pub writes-ack : (s after : Site) (b : Batch) (time hint hinted : ℕ) (received : List ℕ) {xs ys : List ℕ} {end : ℕ} {r : Step}
-    → b .spent ≡ false
-    → Wrote xs 0 (pieces (ack received)) ys end
-    → r ≡ concluded s after b time (report hint hinted end 0)
-    → Acks s after b time hint hinted received xs ys r
-writes-ack s after b time hint hinted received g w e =
-    let o = one (ack received) w in
-    record {
-      step = e ∙ ap (λ (x : Out). concluded s after b time (report hint hinted (x .end) 0)) o;
-      out = rw (e, g) (ap (λ (x : Out). x .bytes) o);
-    }
+    -- answered with a reason, and the link is closed
+    pub closes : (l reason : ℕ)
+        → Wrote xs 0 (pieces (notAck received (nameOf reason))) ys end
+        → r ≡ Done (report 0 0 end (maskOf l))
+        → Turns (λ (s : Site). withLast (closeAt s l) time) ws vs
+        → GivesIn t time never (closing (siteOf ws t) l received reason .plan) ws vs xs ys r
+    closes l reason w e u = ends (closing (siteOf ws t) l received reason .plan) refl (one (notAck received (nameOf reason)) w) e (u .site t) (u .plain)
 
--- the same, said of equal parts
-pub like : (s a c : Site) (b d : Batch) (time h i k m : ℕ) (received : List ℕ) {xs ys : List ℕ} {r : Step}
-    → a ≡ c
-    → b ≡ d
-    → h ≡ i
-    → k ≡ m
-    → Acks s a b time h k received xs ys r
-    → Acks s c d time i m received xs ys r
-like s a c b d time h i k m received e f g n x = rw (← e, ← f, ← g, ← n) x
+    -- acknowledged, with the records es; the site `after` them is that of the plan
+    pub acks : (after : Site) (es : List Entry) (hint : Hint)
+        → issuedAll 4 (after .pool) (after .next) es .spent ≡ false
+        → Wrote xs 0 (pieces (ack received)) ys end
+        → r ≡ Done (report (hintTime hint) (hintBit hint) end 0)
+        → siteOf vs t ≡ withIssued after (issuedAll 4 (after .pool) (after .next) es) time
+        → (Plain ws → Plain vs)
+        → GivesIn t time never (acked after es received hint .plan) ws vs xs ys r
+    acks after es hint h w e = ends (acked after es received hint .plan) h (one (ack received) w) e
 
-pub with-batch : (s after : Site) (b c : Batch) (time hint hinted : ℕ) (received : List ℕ) {xs ys : List ℕ} {r : Step}
-    → b ≡ c
-    → Acks s after b time hint hinted received xs ys r
-    → Acks s after c time hint hinted received xs ys r
-with-batch s after b c time hint hinted received e a = like s after after b c time hint hint hinted hinted received refl e refl refl a
+    -- acknowledged, and no record is issued: the words are changed by f, then the time is kept
+    pub accepts : (f : Site → Site) (hint : Hint)
+        → Wrote xs 0 (pieces (ack received)) ys end
+        → r ≡ Done (report (hintTime hint) (hintBit hint) end 0)
+        → Turns (λ (s : Site). withLast (f s) time) ws vs
+        → GivesIn t time never (acked (f (siteOf ws t)) [] received hint .plan) ws vs xs ys r
+    accepts f hint w e u = acks (f (siteOf ws t)) [] hint refl w e (u .site t) (u .plain)
 
--- acknowledged
-pub acks : (s after : Site) (es : List Entry) (time : ℕ) (hint : Hint) (received : List ℕ) {xs ys : List ℕ} {r : Step}
-    → Acks s after (issuedAll 4 (after .pool) (after .next) es) time (hintTime hint) (hintBit hint) received xs ys r
-    → Gives s time never (acked after es received hint .plan) xs ys r
-acks s after es time hint received {xs} a =
-    record {
-      step = a .step ∙ concludes s time (acked after es received hint .plan) (writtenTo xs (ack received ∷ []) .end);
-      out = a .out;
-    }
+  -- number 10 of a call that acknowledges
+  pub refuses-spent : (received : List ℕ) (after : Site) (es : List Entry) (hint : Hint) {ws xs : List ℕ} {r : Answer}
+      → issuedAll 4 (after .pool) (after .next) es .spent ≡ true
+      → r ≡ Refused SequenceSpent
+      → GivesIn t time never (acked after es received hint .plan) ws ws xs xs r
+  refuses-spent received after es hint h e = spends (acked after es received hint .plan) h e
 
-pub acknowledges : (s after next : Site) (b : Batch) (es : List Entry) (time : ℕ) (received : List ℕ) {xs ys : List ℕ} {r : Step}
-    → after ≡ next
-    → b ≡ issuedAll 4 (next .pool) (next .next) es
-    → Acks s after b time 0 0 received xs ys r
-    → Gives s time never (acked next es received none .plan) xs ys r
-acknowledges s after next b es time received e f a = acks s next es time none received (like s after next b _ time 0 0 0 0 received e f refl refl a)
+  module _ (l : ℕ) (id : Identity) where
+    -- what sends no message of its own has no condition of its own
+    pub unreplied : (x : Taken) {ws vs xs ys : List ℕ} {r : Answer} → x .replies ≡ false → GivesIn t time never (x .plan) ws vs xs ys r → TakesIn t l time id x ws vs xs ys r
+    unreplied x e g = record { gives = record { step = rw e (g .gives .step); out = g .gives .out }; plain = g .plain; kept = g .kept }
 
-pub accepts : (s after next : Site) (time : ℕ) (hint : Hint) (h k : ℕ) (received : List ℕ) {xs ys : List ℕ} {r : Step}
-    → after ≡ next
-    → h ≡ hintTime hint
-    → k ≡ hintBit hint
-    → Acks s after (beginning (after .pool) (after .next)) time h k received xs ys r
-    → Gives s time never (acked next [] received hint .plan) xs ys r
-accepts s after next time hint h k received e f g a =
-    acks s next [] time hint received
-    (like s after next _ (beginning (next .pool) (next .next)) time h _ k _ received e (ap (λ (x : Site). beginning (x .pool) (x .next)) e) f g a)
+    -- replied: refused where the identity is awaited already, and else the answer and the reply are written
+    pub replies-refused : (received : List ℕ) (m : Message) {ws xs : List ℕ} {r : Answer}
+        → isAwaited (findOf (linkAt (siteOf ws t) l .awaited) id) ≡ true
+        → r ≡ Refused IdentityAwaited
+        → TakesIn t l time id (replied (siteOf ws t) l time id received m) ws ws xs xs r
+    replies-refused received m h e = record { gives = record { step = rw (e, h) refl; out = rw e refl }; plain = λ x. x; kept = λ why q. refl }
 
--- what sends no message of its own has no condition of its own
-pub unreplied : (s : Site) (l time : ℕ) (id : Identity) (t : Taken) {xs ys : List ℕ} {r : Step}
-    → t .replies ≡ false
-    → Gives s time never (t .plan) xs ys r
-    → Gives s time (takenRefuses s l id t) (t .plan) xs ys r
-unreplied s l time id t e g = record { step = rw e (g .step); out = g .out }
-
--- replied: refused where the identity is awaited already, and else the answer and the reply are written
-pub replies-refused : (s : Site) (l time : ℕ) (id : Identity) (received : List ℕ) (m : Message) {xs ys : List ℕ} {r : Step}
-    → isAwaited (findOf (linkAt s l .awaited) id) ≡ true
-    → r ≡ refused s IdentityAwaited
-    → ys ≡ xs
-    → Gives s time (takenRefuses s l id (replied s l time id received m)) (replied s l time id received m .plan) xs ys r
-replies-refused s l time id received m h e f = record { step = rw h e; out = rw e f }
-
-pub replies : (s : Site) (l time : ℕ) (id : Identity) (received : List ℕ) (m : Message) {xs ys : List ℕ} {end : ℕ} {r : Step}
-    → isAwaited (findOf (linkAt s l .awaited) id) ≡ false
-    → Wrote xs 0 (pieces (ack received) ++ pieces m) ys end
-    → r ≡ repliedAt s l time id end
-    → Gives s time (takenRefuses s l id (replied s l time id received m)) (replied s l time id received m .plan) xs ys r
-replies s l time id received m h w e =
-    let o = two (ack received) m w in
-    record { step = rw h (e ∙ ap (λ (x : Out). repliedAt s l time id (x .end)) o); out = rw e (ap (λ (x : Out). x .bytes) o) }
+    pub replies : (received : List ℕ) (m : Message) {ws vs xs ys : List ℕ} {end : ℕ} {r : Answer}
+        → isAwaited (findOf (linkAt (siteOf ws t) l .awaited) id) ≡ false
+        → Wrote xs 0 (pieces (ack received) ++ pieces m) ys end
+        → r ≡ Done (report 0 0 end 0)
+        → Turns (λ (s : Site). repliedAt s l time id end .site) ws vs
+        → TakesIn t l time id (replied (siteOf ws t) l time id received m) ws vs xs ys r
+    replies received m {ws} h w e u =
+        let g = ends (replied (siteOf ws t) l time id received m .plan) refl (two (ack received) m w) e (u .site t) (u .plain) in
+        record { gives = record { step = rw h (g .gives .step); out = g .gives .out }; plain = g .plain; kept = g .kept }

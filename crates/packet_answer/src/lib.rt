@@ -1,25 +1,28 @@
-// The answer to a packet that is not ignored, and the end of its call.
+// The answer to a packet that is not ignored, and the end of its call, in place.
 ghost use mathlib.Core.Path.{_≡_};
+ghost use Prim.Native.Nat.{_<_};
+ghost use lib.ListN.{length};
+ghost use Rattle.answer.specs.declared.Answer.the-variants.{Done};
 ghost use Rattle.awaited.specs.Awaited.{findOf, isAwaited};
-ghost use Rattle.pool_batch.specs.Batch.{beginning};
 ghost use Rattle.link.specs.Steps.{fullOf};
 ghost use Rattle.names.specs.Names.{nameOf};
 ghost use Rattle.output.specs.Put.{Wrote};
+ghost use Rattle.table_whole.specs.declared.SiteTable.{SiteTable};
 ghost use Rattle.write_message.specs.Message.Message.{ack as ackOf, notAck};
 ghost use Rattle.write_message.specs.Pieces.{pieces};
+ghost use Rattle.site.specs.declared.Site.{Site};
 ghost use Rattle.site.specs.Site.{linkAt};
-ghost use Rattle.site.specs.Call.{never, Gives};
+ghost use Rattle.site.specs.Call.{never};
+ghost use Rattle.store_site.specs.Layout.{siteOf, withLast};
+ghost use Rattle.store_site.specs.Turns.{Turns};
+ghost use Rattle.store_call.specs.Called.{GivesIn};
 ghost use Rattle.packet_answer.specs.Taken.{notAcked, closing};
-ghost use Rattle.packet_answer.specs.Ending.{report as reportOf, doneAt, repliedAt, Acks};
+ghost use Rattle.packet_answer.specs.Ending.{report as reportOf, repliedAt};
 use answer::Answer;
-use answer::Refusal;
 use answer::Report;
 use awaited::Found;
 use identity::Identity;
-use pool_batch::Batch;
 use read_head::Received;
-use site::Site;
-use site::Step;
 
 fn found(f: Found) -> bool
     ensures { λ r. ⌜ r ≡ isAwaited f ⌝ }
@@ -31,22 +34,24 @@ fn found(f: Found) -> bool
 }
 
 // Number 9's condition, where something is to be sent.
-pub fn is_awaited(s: Site, l: u16, id: Identity) -> bool
-    ensures { λ r. ⌜ r ≡ isAwaited (findOf (linkAt s l .awaited) id) ⌝ }
+pub fn is_awaited(w: &[u64], l: u16, id: Identity) -> bool
+    requires { ⌜ (length (now w) ≡ 1173) × (l < 4) ⌝ }
+    ensures { λ r. ⌜ ((t : SiteTable) → r ≡ isAwaited (findOf (linkAt (siteOf (now (w .entry)) t) l .awaited) id)) ⌝ }
 {
-    let k = s.link(l);
+    let k = store_site::parts::link(w, l as usize);
     found(k.awaits(id))
 }
 
 // "Busy", where a reply is due.
-pub fn is_busy(s: Site, l: u16) -> bool
-    ensures { λ r. ⌜ r ≡ fullOf (linkAt s l) ⌝ }
+pub fn is_busy(w: &[u64], l: u16) -> bool
+    requires { ⌜ (length (now w) ≡ 1173) × (l < 4) ⌝ }
+    ensures { λ r. ⌜ ((t : SiteTable) → r ≡ fullOf (linkAt (siteOf (now (w .entry)) t) l)) ⌝ }
 {
-    let k = s.link(l);
+    let k = store_site::parts::link(w, l as usize);
     k.full()
 }
 
-fn report(hint: u64, hinted: u16, end: usize, closed: u16) -> Report
+pub fn report(hint: u64, hinted: u16, end: usize, closed: u16) -> Report
     ensures { λ r. ⌜ r ≡ reportOf hint hinted end closed ⌝ }
 {
     Report {
@@ -57,16 +62,13 @@ fn report(hint: u64, hinted: u16, end: usize, closed: u16) -> Report
     }
 }
 
-// The end of a call that issues nothing, gives no hint and wrote up to an end.
-pub fn done(after: Site, time: u64, end: usize, closed: u16) -> Step
-    ensures { λ r. ⌜ r ≡ doneAt after time end closed ⌝ }
+// The end of a call that wrote up to an end: its time is kept.
+pub fn done(w: &mut [u64], time: u64, hint: u64, hinted: u16, end: usize, closed: u16) -> Answer
+    requires { ⌜ length (now w) ≡ 1173 ⌝ }
+    ensures { λ r. ⌜ (r ≡ Done (reportOf hint hinted end closed)) × Turns (λ (s : Site). withLast s time) (now (w .entry)) (now (w .exit)) ⌝ }
 {
-    let mut t = after;
-    t.last = time;
-    Step {
-        site: t,
-        answer: Answer::Done(report(0, 0, end, closed)),
-    }
+    store_site::parts::put_last(w, time);
+    Answer::Done(report(hint, hinted, end, closed))
 }
 
 // MessageAck, at the beginning of the output.
@@ -86,62 +88,43 @@ fn refusal(received: Received, reason: usize, out: &mut [u8]) -> usize
 }
 
 // Answered with a reason, and nothing is done.
-pub fn not_ack(s: Site, time: u64, received: Received, reason: usize, out: &mut [u8]) -> Step
-    ensures { λ r. ⌜ Gives s time never (notAcked s (received .bytes) reason .plan) (now (out .entry)) (now (out .exit)) r ⌝ }
+pub fn not_ack(
+    w: &mut [u64],
+    time: u64,
+    received: Received,
+    reason: usize,
+    out: &mut [u8],
+) -> Answer
+    requires { ⌜ length (now w) ≡ 1173 ⌝ }
+    ensures { λ r. ⌜ ((t : SiteTable) → GivesIn t time never (notAcked (siteOf (now (w .entry)) t) (received .bytes) reason .plan) (now (w .entry)) (now (w .exit)) (now (out .entry)) (now (out .exit)) r) ⌝ }
 {
     let end = refusal(received, reason, out);
-    done(s, time, end, 0)
+    done(w, time, 0, 0, end, 0)
 }
 
 // Answered with a reason, and the link is closed.
-pub fn close(s: Site, l: u16, time: u64, received: Received, reason: usize, out: &mut [u8]) -> Step
-    ensures { λ r. ⌜ Gives s time never (closing s l (received .bytes) reason .plan) (now (out .entry)) (now (out .exit)) r ⌝ }
+pub fn close(
+    w: &mut [u64],
+    l: u16,
+    time: u64,
+    received: Received,
+    reason: usize,
+    out: &mut [u8],
+) -> Answer
+    requires { ⌜ (length (now w) ≡ 1173) × (l < 4) ⌝ }
+    ensures { λ r. ⌜ ((t : SiteTable) → GivesIn t time never (closing (siteOf (now (w .entry)) t) l (received .bytes) reason .plan) (now (w .entry)) (now (w .exit)) (now (out .entry)) (now (out .exit)) r) ⌝ }
 {
     let end = refusal(received, reason, out);
-    done(s.close(l), time, end, site::bit_of(l))
-}
-
-// Acknowledged, and the records of a batch are issued. Where the batch is refused nothing is written.
-pub fn acknowledge(
-    s: Site,
-    after: Site,
-    b: Batch,
-    time: u64,
-    received: Received,
-    hint: u64,
-    hinted: u16,
-    out: &mut [u8],
-) -> Step
-    ensures { λ r. ⌜ Acks s after b time hint hinted (received .bytes) (now (out .entry)) (now (out .exit)) r ⌝ }
-{
-    if b.spent {
-        return site::refused(s, Refusal::SequenceSpent);
-    }
-    let end = ack(received, out);
-    site::conclude(s, after, b, time, report(hint, hinted, end, 0))
-}
-
-// Acknowledged, and no record is issued.
-pub fn accept(
-    s: Site,
-    after: Site,
-    time: u64,
-    received: Received,
-    hint: u64,
-    hinted: u16,
-    out: &mut [u8],
-) -> Step
-    ensures { λ r. ⌜ Acks s after (beginning (after .pool) (after .next)) time hint hinted (received .bytes) (now (out .entry)) (now (out .exit)) r ⌝ }
-{
-    let b = Batch::begin(after.pool, after.next);
-    acknowledge(s, after, b, time, received, hint, hinted, out)
+    store_call::close(w, l);
+    done(w, time, 0, 0, end, site::bit_of(l))
 }
 
 // The end of a call that wrote MessageAck and a reply up to an end.
-pub fn reply_done(s: Site, l: u16, time: u64, id: Identity, end: usize) -> Step
-    ensures { λ r. ⌜ r ≡ repliedAt s l time id end ⌝ }
+pub fn reply_done(w: &mut [u64], l: u16, time: u64, id: Identity, end: usize) -> Answer
+    requires { ⌜ (length (now w) ≡ 1173) × (l < 4) ⌝ }
+    ensures { λ r. ⌜ (r ≡ Done (reportOf 0 0 end 0)) × Turns (λ (s : Site). repliedAt s l time id end .site) (now (w .entry)) (now (w .exit)) ⌝ }
 {
-    let k = s.link(l);
-    let after = s.with_link(l, k.other_out(id, time));
-    done(after, time, end, 0)
+    let k = store_site::parts::link(w, l as usize);
+    store_site::parts::put_link(w, l as usize, k.other_out(id, time));
+    done(w, time, 0, 0, end, 0)
 }

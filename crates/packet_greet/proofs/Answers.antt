@@ -1,33 +1,45 @@
--- The two ends of an answer to a message of ours.
+-- The two ends of an answer to a message of ours, in place, the site's table being t.
 -- Assumes nothing.
 use Prim.Native.Nat.{ℕ}
-use mathlib.Core.Path.{_≡_, refl, ap, ap₂, _∙_}
+use mathlib.Core.Path.{_≡_, ap}
 use mathlib.Core.Bool.{Bool, true, false}
+use mathlib.Core.List.{List}
+use Rattle.answer.specs.declared.Answer.{Answer}
+use Rattle.answer.specs.declared.Answer.the-variants.{Done}
 use Rattle.identity.specs.declared.Identity.{Identity}
+use Rattle.awaited.specs.declared.Found.{Found}
 use Rattle.awaited.specs.Awaited.{findOf}
 use Rattle.link.specs.declared.Link.{Link}
 use Rattle.link.specs.Steps.{closesOf, answeredOf}
+use Rattle.table_whole.specs.declared.SiteTable.{SiteTable}
 use Rattle.site.specs.declared.Site.{Site}
 use Rattle.site.specs.declared.Step.{Step}
 use Rattle.site.specs.Site.{linkAt, withLink, closeAt, maskOf}
 use Rattle.site.specs.Call.{never, stepOf}
-use Rattle.packet_answer.specs.Ending.{doneAt}
+use Rattle.store_site.specs.Layout.{siteOf, withLast}
+use Rattle.store_site.specs.Turns.{Turns}
+use Rattle.store_call.specs.Called.{StepsIn}
+use Rattle.packet_answer.specs.Ending.{report}
+use Rattle.packet_answer.proofs.Ends.{not-refused}
 use Rattle.packet_greet.specs.Answered.{settled, answeredPlan}
 
-pub answer-closes : (s : Site) (l time : ℕ) (id : Identity) (acknowledged : Bool) {after : Site} {mask : ℕ} {r : Step}
-    → closesOf (linkAt s l) id acknowledged ≡ true
-    → after ≡ closeAt s l
-    → mask ≡ maskOf l
-    → r ≡ doneAt after time 0 mask
-    → r ≡ stepOf s time never (answeredPlan s l id acknowledged) 0
-answer-closes s l time id acknowledged h e f g = rw h (g ∙ ap₂ (λ (x : Site) (m : ℕ). doneAt x time 0 m) e f)
+abbrev stepTo : ℕ → Site → Step
+stepTo mask s = record { site = s; answer = Done (report 0 0 0 mask) }
 
-pub answer-goes-on : (s : Site) (l time : ℕ) (id : Identity) (acknowledged : Bool) {rest after : Site} {k : Link} {r : Step}
-    → closesOf (linkAt s l) id acknowledged ≡ false
-    → rest ≡ settled s l (findOf (linkAt s l .awaited) id)
-    → k ≡ answeredOf (linkAt s l) id acknowledged
-    → after ≡ withLink rest l k
-    → r ≡ doneAt after time 0 0
-    → r ≡ stepOf s time never (answeredPlan s l id acknowledged) 0
-answer-goes-on s l time id acknowledged h t e f g =
-    rw h (g ∙ ap (λ (x : Site). doneAt x time 0 0) (f ∙ ap₂ (λ (x : Site) (y : Link). withLink x l y) t e))
+module _ (t : SiteTable) (l time : ℕ) (id : Identity) (acknowledged : Bool) {ws vs : List ℕ} {r : Answer} where
+  pub answer-closes : {mask : ℕ}
+      → closesOf (linkAt (siteOf ws t) l) id acknowledged ≡ true
+      → mask ≡ maskOf l
+      → r ≡ Done (report 0 0 0 mask)
+      → Turns (λ (s : Site). withLast (closeAt s l) time) ws vs
+      → StepsIn t (stepOf (siteOf ws t) time never (answeredPlan (siteOf ws t) l id acknowledged) 0) ws vs r
+  answer-closes h f e u = record { step = rw (h, e, f) (ap (stepTo (maskOf l)) (u .site t)); plain = u .plain; kept = not-refused e }
+
+  pub answer-goes-on : {found : Found} {k : Link}
+      → closesOf (linkAt (siteOf ws t) l) id acknowledged ≡ false
+      → found ≡ findOf (linkAt (siteOf ws t) l .awaited) id
+      → k ≡ answeredOf (linkAt (siteOf ws t) l) id acknowledged
+      → r ≡ Done (report 0 0 0 0)
+      → Turns (λ (s : Site). withLast (withLink (settled s l found) l k) time) ws vs
+      → StepsIn t (stepOf (siteOf ws t) time never (answeredPlan (siteOf ws t) l id acknowledged) 0) ws vs r
+  answer-goes-on h f g e u = record { step = rw (h, e, ← f, ← g) (ap (stepTo 0) (u .site t)); plain = u .plain; kept = not-refused e }

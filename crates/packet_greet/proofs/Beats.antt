@@ -4,15 +4,17 @@ use Prim.Native.Nat.{ℕ, _≤_, _<_}
 use mathlib.Core.Path.{_≡_, refl, sym, subst}
 use mathlib.Core.List.{List}
 use borrow.Author.Tests.{le-leb, lt-leb}
+use Rattle.answer.specs.declared.Answer.{Answer}
 use Rattle.answer.specs.Given.Hint.{none, clock}
 use Rattle.link.specs.declared.Role.{Role}
 use Rattle.link.specs.declared.Role.the-variants.{Primary}
 use Rattle.read_head.specs.declared.Verdict.{Verdict}
 use Rattle.read_head.specs.declared.Verdict.the-variants.{Good}
 use Rattle.read_head.specs.declared.GotTime.{GotTime}
-use Rattle.site.specs.declared.Site.{Site}
-use Rattle.site.specs.declared.Step.{Step}
-use Rattle.site.specs.Call.{never, Gives}
+use Rattle.table_whole.specs.declared.SiteTable.{SiteTable}
+use Rattle.site.specs.Call.{never}
+use Rattle.store_site.specs.Layout.{siteOf}
+use Rattle.store_call.specs.Called.{GivesIn}
 use Rattle.packet_answer.specs.Taken.{byVerdict}
 use Rattle.packet_greet.specs.Watchdog.{hintFrom, beat, watchdogTaken}
 
@@ -22,9 +24,9 @@ hints role f e h = rw (e, le-leb 3 (f .decimals) h) refl
 pub withholds : (role : Role) (f : GotTime) → role ≡ Primary → f .decimals < 3 → hintFrom role f ≡ none
 withholds role f e h = rw (e, lt-leb 3 (f .decimals) h) refl
 
-pub beats : (s : Site) (l time : ℕ) (received : List ℕ) (f : GotTime) {xs ys : List ℕ} {r : Step}
+pub beats : (t : SiteTable) (l time : ℕ) (received : List ℕ) (f : GotTime) {ws vs xs ys : List ℕ} {r : Answer}
     → f .verdict ≡ Good
-    → Gives s time never (beat s l received f .plan) xs ys r
-    → Gives s time never (watchdogTaken s l received f .plan) xs ys r
-beats s l time received f {xs} {ys} {r} e h =
-    subst (λ (v : Verdict). Gives s time never (byVerdict v s received (beat s l received f) .plan) xs ys r) (sym e) h
+    → GivesIn t time never (beat (siteOf ws t) l received f .plan) ws vs xs ys r
+    → GivesIn t time never (watchdogTaken (siteOf ws t) l received f .plan) ws vs xs ys r
+beats t l time received f {ws} {vs} {xs} {ys} {r} e h =
+    subst (λ (v : Verdict). GivesIn t time never (byVerdict v (siteOf ws t) received (beat (siteOf ws t) l received f) .plan) ws vs xs ys r) (sym e) h

@@ -1,3 +1,4 @@
 pub mod Answers
 pub mod Beats
+pub mod Judges
 pub mod Kept

@@ -1,11 +1,20 @@
-// What comes while a link greets and beats: the answers to messages of ours, their Version and their Watchdog.
+// What comes while a link greets and beats, in place: the answers to messages of ours, their Version and their Watchdog.
 ghost use mathlib.Core.Path.{_≡_};
-ghost use Rattle.site.specs.Call.{never, stepOf, hintTime, hintBit, Gives};
+ghost use Prim.Native.Nat.{_<_};
+ghost use lib.ListN.{length};
+ghost use Rattle.table_whole.specs.declared.SiteTable.{SiteTable};
+ghost use Rattle.site.specs.declared.Site.{Site};
+ghost use Rattle.site.specs.Call.{never, stepOf, hintTime, hintBit};
 ghost use Rattle.read_head.specs.Small.{watchdogAt};
 ghost use Rattle.read_lists.specs.Version.{versionAt};
+ghost use Rattle.store_site.specs.Layout.{siteOf};
+ghost use Rattle.store_site.specs.Turns.{Turns};
+ghost use Rattle.store_table.specs.Layout.{tableOf};
+ghost use Rattle.store_call.specs.Called.{StepsIn, GivesIn};
 ghost use Rattle.packet_greet.specs.Answered.{settledFor, settled as settledOf, answeredPlan};
-ghost use Rattle.packet_greet.specs.Version.{ownVersions, ownSites, own as ownOf, accepted as acceptedOf, versionJudged, versionTaken};
+ghost use Rattle.packet_greet.specs.Version.{ownVersions, ownSites, ownOffer, accepted as acceptedOf, versionJudged, versionTaken};
 ghost use Rattle.packet_greet.specs.Watchdog.{hintFrom, beaten as beatenOf, beat as beatOf, watchdogTaken};
+use answer::Answer;
 use awaited::Found;
 use awaited::Purpose;
 use identity::Identity;
@@ -20,50 +29,42 @@ use read_versions::Judged;
 use read_versions::Offer;
 use read_versions::Sites;
 use read_versions::Versions;
-use site::Site;
-use site::Step;
 
-fn settle(s: Site, l: u16, sequence: u32) -> Site
-    ensures { λ r. ⌜ r ≡ settledFor s l (Purpose.Entry sequence) ⌝ }
-{
-    let before = s.pool;
-    let after = before.settle(l, sequence);
-    let mut t = s;
-    t.pool = after;
-    t
-}
-
-fn settled_for(s: Site, l: u16, sent: Purpose) -> Site
-    ensures { λ r. ⌜ r ≡ settledFor s l sent ⌝ }
+fn settled_for(w: &mut [u64], l: u16, sent: Purpose)
+    requires { ⌜ length (now w) ≡ 1173 ⌝ }
+    ensures { λ _. ⌜ Turns (λ (s : Site). settledFor s l sent) (now (w .entry)) (now (w .exit)) ⌝ }
 {
     match sent {
-        Purpose::Version => s,
-        Purpose::Watchdog => s,
-        Purpose::Entry(sequence) => settle(s, l, sequence),
-        Purpose::Other => s,
+        Purpose::Version => {}
+        Purpose::Watchdog => {}
+        Purpose::Entry(sequence) => store_pool::change::settle(w, l, sequence),
+        Purpose::Other => {}
     }
 }
 
-fn settled(s: Site, l: u16, found: Found) -> Site
-    ensures { λ r. ⌜ r ≡ settledOf s l found ⌝ }
+fn settled(w: &mut [u64], l: u16, found: Found)
+    requires { ⌜ length (now w) ≡ 1173 ⌝ }
+    ensures { λ _. ⌜ Turns (λ (s : Site). settledOf s l found) (now (w .entry)) (now (w .exit)) ⌝ }
 {
     match found {
-        Found::Nothing => s,
-        Found::For(sent) => settled_for(s, l, sent),
+        Found::Nothing => {}
+        Found::For(sent) => settled_for(w, l, sent),
     }
 }
 
 // MessageAck or MessageNotAck to an awaited identity.
-pub fn answered(s: Site, l: u16, time: u64, id: Identity, acknowledged: bool) -> Step
-    ensures { λ r. ⌜ r ≡ stepOf s time never (answeredPlan s l id acknowledged) 0 ⌝ }
+pub fn answered(w: &mut [u64], l: u16, time: u64, id: Identity, acknowledged: bool) -> Answer
+    requires { ⌜ (length (now w) ≡ 1173) × (l < 4) ⌝ }
+    ensures { λ r. ⌜ ((t : SiteTable) → StepsIn t (stepOf (siteOf (now (w .entry)) t) time never (answeredPlan (siteOf (now (w .entry)) t) l id acknowledged) 0) (now (w .entry)) (now (w .exit)) r) ⌝ }
 {
-    let k = s.link(l);
+    let k = store_site::parts::link(w, l as usize);
     if k.closes(id, acknowledged) {
-        return packet_answer::done(s.close(l), time, 0, site::bit_of(l));
+        store_call::close(w, l);
+        return packet_answer::done(w, time, 0, 0, 0, site::bit_of(l));
     }
-    let rest = settled(s, l, k.awaits(id));
-    let after = rest.with_link(l, k.answered(id, acknowledged));
-    packet_answer::done(after, time, 0, 0)
+    settled(w, l, k.awaits(id));
+    store_site::parts::put_link(w, l as usize, k.answered(id, acknowledged));
+    packet_answer::done(w, time, 0, 0, 0, 0)
 }
 
 fn versions() -> Versions
@@ -84,14 +85,13 @@ fn sites(id: Label) -> Sites
 }
 
 // What our Version offers.
-fn own(s: Site) -> Offer
-    ensures { λ r. ⌜ r ≡ ownOf s ⌝ }
+fn own(t: &[u8]) -> Offer
+    requires { ⌜ length (now t) ≡ 4752 ⌝ }
+    ensures { λ r. ⌜ r ≡ ownOffer (tableOf (now (t .entry))) ⌝ }
 {
-    let table = s.table;
-    let id = table.site;
-    let sxl = table.sxl;
     let versions = versions();
-    let sites = sites(id);
+    let sites = sites(store_table::site_id(t));
+    let sxl = store_table::sxl(t);
     Offer {
         versions,
         sites,
@@ -99,78 +99,119 @@ fn own(s: Site) -> Offer
     }
 }
 
-// The link with the chosen version.
-fn accepted(s: Site, l: u16, v: u32) -> Site
-    ensures { λ r. ⌜ r ≡ acceptedOf s l v ⌝ }
+// The link goes on with the chosen version.
+fn accepted(w: &mut [u64], l: u16, v: u32)
+    requires { ⌜ (length (now w) ≡ 1173) × (l < 4) ⌝ }
+    ensures { λ _. ⌜ Turns (λ (s : Site). acceptedOf s l v) (now (w .entry)) (now (w .exit)) ⌝ }
 {
-    let k = s.link(l);
-    s.with_link(l, k.version_accepted(v / 65536, v / 256 % 256, v % 256))
+    let k = store_site::parts::link(w, l as usize);
+    store_site::parts::put_link(
+        w,
+        l as usize,
+        k.version_accepted(v / 65536, v / 256 % 256, v % 256),
+    );
 }
 
-fn version_judged(s: Site, l: u16, time: u64, received: Received, j: Judged, out: &mut [u8]) -> Step
-    ensures { λ r. ⌜ Gives s time never (versionJudged s l (received .bytes) j .plan) (now (out .entry)) (now (out .exit)) r ⌝ }
+fn version_chosen(
+    w: &mut [u64],
+    l: u16,
+    time: u64,
+    received: Received,
+    v: u32,
+    out: &mut [u8],
+) -> Answer
+    requires { ⌜ (length (now w) ≡ 1173) × (l < 4) ⌝ }
+    ensures { λ r. ⌜ ((t : SiteTable) → GivesIn t time never (versionJudged (siteOf (now (w .entry)) t) l (received .bytes) (Judged.Chosen v) .plan) (now (w .entry)) (now (w .exit)) (now (out .entry)) (now (out .exit)) r) ⌝ }
+{
+    let end = packet_answer::ack(received, out);
+    accepted(w, l, v);
+    packet_answer::done(w, time, 0, 0, end, 0)
+}
+
+fn version_judged(
+    w: &mut [u64],
+    l: u16,
+    time: u64,
+    received: Received,
+    j: Judged,
+    out: &mut [u8],
+) -> Answer
+    requires { ⌜ (length (now w) ≡ 1173) × (l < 4) ⌝ }
+    ensures { λ r. ⌜ ((t : SiteTable) → GivesIn t time never (versionJudged (siteOf (now (w .entry)) t) l (received .bytes) j .plan) (now (w .entry)) (now (w .exit)) (now (out .entry)) (now (out .exit)) r) ⌝ }
 {
     match j {
-        Judged::Chosen(v) => packet_answer::accept(s, accepted(s, l, v), time, received, 0, 0, out),
+        Judged::Chosen(v) => version_chosen(w, l, time, received, v, out),
         Judged::RsmpVersion => packet_answer::close(
-            s,
+            w,
             l,
             time,
             received,
             reasons::RSMP_VERSION,
             out,
         ),
-        Judged::SiteId => packet_answer::close(s, l, time, received, reasons::SITE_ID, out),
-        Judged::SxlVersion => packet_answer::close(s, l, time, received, reasons::SXL_VERSION, out),
+        Judged::SiteId => packet_answer::close(w, l, time, received, reasons::SITE_ID, out),
+        Judged::SxlVersion => packet_answer::close(w, l, time, received, reasons::SXL_VERSION, out),
     }
 }
 
 fn version_by(
-    s: Site,
+    w: &mut [u64],
+    t: &[u8],
     l: u16,
     time: u64,
     received: Received,
     f: VersionFields,
     out: &mut [u8],
-) -> Step
-    ensures { λ r. ⌜ Gives s time never (versionTaken s l (received .bytes) f .plan) (now (out .entry)) (now (out .exit)) r ⌝ }
+) -> Answer
+    requires { ⌜ (length (now w) ≡ 1173) × (length (now t) ≡ 4752) × (l < 4) ⌝ }
+    ensures { λ r. ⌜ GivesIn (tableOf (now (t .entry))) time never (versionTaken (siteOf (now (w .entry)) (tableOf (now (t .entry)))) l (received .bytes) f .plan) (now (w .entry)) (now (w .exit)) (now (out .entry)) (now (out .exit)) r ⌝ }
 {
     let v = f.verdict;
     match v {
         Verdict::Good => {
             let theirs = f.offer;
             version_judged(
-                s,
+                w,
                 l,
                 time,
                 received,
-                read_versions::judge(own(s), theirs),
+                read_versions::judge(own(t), theirs),
                 out,
             )
         }
         Verdict::Missing => packet_answer::not_ack(
-            s,
+            w,
             time,
             received,
             reasons::MISSING_ELEMENT,
             out,
         ),
-        Verdict::Bad => packet_answer::not_ack(s, time, received, reasons::BAD_VALUE, out),
+        Verdict::Bad => packet_answer::not_ack(w, time, received, reasons::BAD_VALUE, out),
     }
 }
 
 // Version.
 pub fn version(
-    s: Site,
+    w: &mut [u64],
+    t: &[u8],
     l: u16,
     time: u64,
     received: Received,
     packet: &[u8],
     out: &mut [u8],
-) -> Step
-    ensures { λ r. ⌜ Gives s time never (versionTaken s l (received .bytes) (versionAt (now (packet .entry))) .plan) (now (out .entry)) (now (out .exit)) r ⌝ }
+) -> Answer
+    requires { ⌜ (length (now w) ≡ 1173) × (length (now t) ≡ 4752) × (l < 4) ⌝ }
+    ensures { λ r. ⌜ GivesIn (tableOf (now (t .entry))) time never (versionTaken (siteOf (now (w .entry)) (tableOf (now (t .entry)))) l (received .bytes) (versionAt (now (packet .entry))) .plan) (now (w .entry)) (now (w .exit)) (now (out .entry)) (now (out .exit)) r ⌝ }
 {
-    version_by(s, l, time, received, read_lists::read_version(packet), out)
+    version_by(
+        w,
+        t,
+        l,
+        time,
+        received,
+        read_lists::read_version(packet),
+        out,
+    )
 }
 
 // Only the primary's watchdog time is a clock hint, and only with three or more decimals.
@@ -192,49 +233,69 @@ fn hinted(role: Role, f: GotTime) -> u16
     }
 }
 
-fn beaten(s: Site, l: u16) -> Site
-    ensures { λ r. ⌜ r ≡ beatenOf s l ⌝ }
+fn beaten(w: &mut [u64], l: u16)
+    requires { ⌜ (length (now w) ≡ 1173) × (l < 4) ⌝ }
+    ensures { λ _. ⌜ Turns (λ (s : Site). beatenOf s l) (now (w .entry)) (now (w .exit)) ⌝ }
 {
-    let k = s.link(l);
-    s.with_link(l, k.watchdog_taken())
+    let k = store_site::parts::link(w, l as usize);
+    store_site::parts::put_link(w, l as usize, k.watchdog_taken());
 }
 
-fn beat(s: Site, l: u16, time: u64, received: Received, theirs: GotTime, out: &mut [u8]) -> Step
-    ensures { λ r. ⌜ Gives s time never (beatOf s l (received .bytes) theirs .plan) (now (out .entry)) (now (out .exit)) r ⌝ }
+fn beat(
+    w: &mut [u64],
+    l: u16,
+    time: u64,
+    received: Received,
+    theirs: GotTime,
+    out: &mut [u8],
+) -> Answer
+    requires { ⌜ (length (now w) ≡ 1173) × (l < 4) ⌝ }
+    ensures { λ r. ⌜ ((t : SiteTable) → GivesIn t time never (beatOf (siteOf (now (w .entry)) t) l (received .bytes) theirs .plan) (now (w .entry)) (now (w .exit)) (now (out .entry)) (now (out .exit)) r) ⌝ }
 {
-    let role = s.role(l);
+    let role = store_site::head::role(w, l);
     let at = hint(role, theirs);
     let bit = hinted(role, theirs);
-    packet_answer::accept(s, beaten(s, l), time, received, at, bit, out)
+    let end = packet_answer::ack(received, out);
+    beaten(w, l);
+    packet_answer::done(w, time, at, bit, end, 0)
 }
 
-fn watchdog_by(s: Site, l: u16, time: u64, received: Received, f: GotTime, out: &mut [u8]) -> Step
-    ensures { λ r. ⌜ Gives s time never (watchdogTaken s l (received .bytes) f .plan) (now (out .entry)) (now (out .exit)) r ⌝ }
+fn watchdog_by(
+    w: &mut [u64],
+    l: u16,
+    time: u64,
+    received: Received,
+    f: GotTime,
+    out: &mut [u8],
+) -> Answer
+    requires { ⌜ (length (now w) ≡ 1173) × (l < 4) ⌝ }
+    ensures { λ r. ⌜ ((t : SiteTable) → GivesIn t time never (watchdogTaken (siteOf (now (w .entry)) t) l (received .bytes) f .plan) (now (w .entry)) (now (w .exit)) (now (out .entry)) (now (out .exit)) r) ⌝ }
 {
     let v = f.verdict;
     match v {
-        Verdict::Good => beat(s, l, time, received, f, out),
+        Verdict::Good => beat(w, l, time, received, f, out),
         Verdict::Missing => packet_answer::not_ack(
-            s,
+            w,
             time,
             received,
             reasons::MISSING_ELEMENT,
             out,
         ),
-        Verdict::Bad => packet_answer::not_ack(s, time, received, reasons::BAD_VALUE, out),
+        Verdict::Bad => packet_answer::not_ack(w, time, received, reasons::BAD_VALUE, out),
     }
 }
 
 // Watchdog.
 pub fn watchdog(
-    s: Site,
+    w: &mut [u64],
     l: u16,
     time: u64,
     received: Received,
     packet: &[u8],
     out: &mut [u8],
-) -> Step
-    ensures { λ r. ⌜ Gives s time never (watchdogTaken s l (received .bytes) (watchdogAt (now (packet .entry))) .plan) (now (out .entry)) (now (out .exit)) r ⌝ }
+) -> Answer
+    requires { ⌜ (length (now w) ≡ 1173) × (l < 4) ⌝ }
+    ensures { λ r. ⌜ ((t : SiteTable) → GivesIn t time never (watchdogTaken (siteOf (now (w .entry)) t) l (received .bytes) (watchdogAt (now (packet .entry))) .plan) (now (w .entry)) (now (w .exit)) (now (out .entry)) (now (out .exit)) r) ⌝ }
 {
-    watchdog_by(s, l, time, received, read_head::read_watchdog(packet), out)
+    watchdog_by(w, l, time, received, read_head::read_watchdog(packet), out)
 }

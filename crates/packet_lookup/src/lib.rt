@@ -1,14 +1,15 @@
 // What a packet names, looked up in the site table.
 ghost use mathlib.Core.Path.{_≡_};
+ghost use lib.ListN.{length};
 ghost use Rattle.basis.specs.Pick.{both};
 ghost use Rattle.label.specs.Label.{textOf};
 ghost use Rattle.table_whole.specs.Lookup.{findStatus};
+ghost use Rattle.store_table.specs.Layout.{tableOf};
 ghost use Rattle.read_lists.specs.Status.{noEntry};
 ghost use Rattle.packet_lookup.specs.Sought.{numbered, componentSought, alarmIn, orNoAlarm, alarmSought, statusSought, isSought, entryAt, allStatuses};
 use label::Label;
 use read_lists::StatusEntry;
 use table_item::Found;
-use table_whole::SiteTable;
 
 // The number of a component, an alarm or a status.
 pub enum Sought {
@@ -38,20 +39,22 @@ fn number(f: Found) -> Sought
 }
 
 // A component by its id.
-pub fn component(t: SiteTable, id: Label) -> Sought
-    ensures { λ r. ⌜ r ≡ componentSought t id ⌝ }
+pub fn component(t: &[u8], id: Label) -> Sought
+    requires { ⌜ length (now t) ≡ 4752 ⌝ }
+    ensures { λ r. ⌜ r ≡ componentSought (tableOf (now (t .entry))) id ⌝ }
 {
     let n = label::size(id);
     let bytes = id.bytes;
-    number(t.find_component(&bytes[0..n]))
+    number(store_table::find_component(t, &bytes[0..n]))
 }
 
-fn alarm_in(t: SiteTable, component: u8, code: Label) -> Sought
-    ensures { λ r. ⌜ r ≡ alarmIn t component code ⌝ }
+fn alarm_in(t: &[u8], component: u8, code: Label) -> Sought
+    requires { ⌜ length (now t) ≡ 4752 ⌝ }
+    ensures { λ r. ⌜ r ≡ alarmIn (tableOf (now (t .entry))) component code ⌝ }
 {
     let n = label::size(code);
     let bytes = code.bytes;
-    number(t.find_alarm(component, &bytes[0..n]))
+    number(store_table::find_alarm(t, component, &bytes[0..n]))
 }
 
 fn or_no_alarm(a: Sought) -> SoughtAlarm
@@ -64,8 +67,9 @@ fn or_no_alarm(a: Sought) -> SoughtAlarm
 }
 
 // An alarm by its component's id and its code.
-pub fn alarm(t: SiteTable, id: Label, code: Label) -> SoughtAlarm
-    ensures { λ r. ⌜ r ≡ alarmSought t id code ⌝ }
+pub fn alarm(t: &[u8], id: Label, code: Label) -> SoughtAlarm
+    requires { ⌜ length (now t) ≡ 4752 ⌝ }
+    ensures { λ r. ⌜ r ≡ alarmSought (tableOf (now (t .entry))) id code ⌝ }
 {
     let c = component(t, id);
     match c {
@@ -74,16 +78,18 @@ pub fn alarm(t: SiteTable, id: Label, code: Label) -> SoughtAlarm
     }
 }
 
-fn named(t: SiteTable, component: u8, code: &[u8], name: Label) -> Found
-    ensures { λ r. ⌜ r ≡ findStatus t component (now (code .entry)) (textOf name) ⌝ }
+fn named(t: &[u8], component: u8, code: &[u8], name: Label) -> Found
+    requires { ⌜ length (now t) ≡ 4752 ⌝ }
+    ensures { λ r. ⌜ r ≡ findStatus (tableOf (now (t .entry))) component (now (code .entry)) (textOf name) ⌝ }
 {
     let n = label::size(name);
     let bytes = name.bytes;
-    t.find_status(component, code, &bytes[0..n])
+    store_table::find_status(t, component, code, &bytes[0..n])
 }
 
-fn called(t: SiteTable, component: u8, code: Label, name: Label) -> Found
-    ensures { λ r. ⌜ r ≡ findStatus t component (textOf code) (textOf name) ⌝ }
+fn called(t: &[u8], component: u8, code: Label, name: Label) -> Found
+    requires { ⌜ length (now t) ≡ 4752 ⌝ }
+    ensures { λ r. ⌜ r ≡ findStatus (tableOf (now (t .entry))) component (textOf code) (textOf name) ⌝ }
 {
     let n = label::size(code);
     let bytes = code.bytes;
@@ -91,8 +97,9 @@ fn called(t: SiteTable, component: u8, code: Label, name: Label) -> Found
 }
 
 // A status of a component, as an entry names it.
-pub fn status(t: SiteTable, component: u8, e: StatusEntry) -> Sought
-    ensures { λ r. ⌜ r ≡ statusSought t component e ⌝ }
+pub fn status(t: &[u8], component: u8, e: StatusEntry) -> Sought
+    requires { ⌜ length (now t) ≡ 4752 ⌝ }
+    ensures { λ r. ⌜ r ≡ statusSought (tableOf (now (t .entry))) component e ⌝ }
 {
     let code = e.code;
     let name = e.name;
@@ -128,8 +135,9 @@ pub fn entry_in(entries: [StatusEntry; 16], i: usize) -> StatusEntry
     none()
 }
 
-fn is_status(t: SiteTable, component: u8, e: StatusEntry) -> bool
-    ensures { λ r. ⌜ r ≡ isSought (statusSought t component e) ⌝ }
+fn is_status(t: &[u8], component: u8, e: StatusEntry) -> bool
+    requires { ⌜ length (now t) ≡ 4752 ⌝ }
+    ensures { λ r. ⌜ r ≡ isSought (statusSought (tableOf (now (t .entry))) component e) ⌝ }
 {
     is_sought(status(t, component, e))
 }
@@ -141,8 +149,9 @@ fn and(a: bool, b: bool) -> bool
 }
 
 // Whether each of the first count entries is a status of the component.
-pub fn all_statuses(t: SiteTable, component: u8, entries: [StatusEntry; 16], count: usize) -> bool
-    ensures { λ r. ⌜ r ≡ allStatuses t component entries count ⌝ }
+pub fn all_statuses(t: &[u8], component: u8, entries: [StatusEntry; 16], count: usize) -> bool
+    requires { ⌜ length (now t) ≡ 4752 ⌝ }
+    ensures { λ r. ⌜ r ≡ allStatuses (tableOf (now (t .entry))) component entries count ⌝ }
 {
     let mut ok = true;
     let mut i: usize = 0;

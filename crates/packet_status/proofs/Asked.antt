@@ -1,19 +1,72 @@
--- The parts of a StatusRequest together.
+-- The parts of a StatusRequest together: the words are ws, the site's table is t.
 -- Assumes nothing.
 use Prim.Native.Nat.{ℕ}
-use mathlib.Core.Path.{_≡_}
+use mathlib.Core.Path.{_≡_, sym, ap, _∙_}
+use mathlib.Core.Bool.{Bool, true, false}
 use mathlib.Core.List.{List}
+use Rattle.answer.specs.declared.Answer.{Answer}
 use Rattle.identity.specs.declared.Identity.{Identity}
+use Rattle.table_whole.specs.declared.SiteTable.{SiteTable}
+use Rattle.read_lists.specs.declared.StatusEntry.{StatusEntry}
 use Rattle.read_lists.specs.declared.StatusFields.{StatusFields}
-use Rattle.packet_lookup.specs.Sought.{componentSought}
+use Rattle.packet_lookup.specs.declared.Sought.{Sought}
+use Rattle.packet_lookup.specs.declared.Sought.the-variants.{Is}
+use Rattle.packet_lookup.specs.Sought.{componentSought, statusSought, allStatuses}
+use Rattle.write_message.specs.declared.Value.{Value}
 use Rattle.site.specs.declared.Site.{Site}
-use Rattle.site.specs.declared.Step.{Step}
-use Rattle.packet_answer.specs.Taken.{byVerdict}
-use Rattle.packet_answer.specs.Takes.{Takes}
-use Rattle.packet_status.specs.StatusReply.{requestedOf, statusTaken}
+use Rattle.site.specs.Call.{never}
+use Rattle.store_site.specs.Layout.{siteOf}
+use Rattle.store_site.proofs.SiteLaws.{table-of}
+use Rattle.store_call.specs.Called.{GivesIn}
+use Rattle.packet_answer.specs.Taken.{notAcked, byVerdict, unknownStatus}
+use Rattle.packet_answer.specs.Takes.{TakesIn}
+use Rattle.packet_answer.proofs.Choices.{not-acked, picked-first, picked-second, due, like}
+use Rattle.packet_status.specs.StatusReply.{valueOf, valueIn, response, passes, requestedOf, statusTaken}
 
-pub status-judged : (s : Site) (l time : ℕ) (id : Identity) (received : List ℕ) (f : StatusFields) {xs ys : List ℕ} {r : Step}
-    → Takes s l time id (byVerdict (f .verdict) s received (requestedOf s l time id received f (componentSought (s .table) (f .component)))) xs ys r
-    → Takes s l time id (statusTaken s l time id received f) xs ys r
-unfolding statusTaken
-status-judged s l time id received f g = g
+-- the value of an entry of a known component
+pub known-value : (ws : List ℕ) (t : SiteTable) (component : ℕ) (e : StatusEntry) {k : Sought} {v : Value}
+    → k ≡ Is component
+    → v ≡ valueOf (siteOf ws t) (statusSought t component e)
+    → v ≡ valueIn (siteOf ws t) k e
+known-value ws t component e f g =
+    g
+    ∙ ap (λ (u : SiteTable). valueOf (siteOf ws t) (statusSought u component e)) (sym (table-of ws t))
+    ∙ ap (λ (x : Sought). valueIn (siteOf ws t) x e) (sym f)
+
+-- all entries of a known component
+pub known-passes : (t : SiteTable) (component : ℕ) (f : StatusFields) {k : Sought} {b : Bool} (s : Site)
+    → k ≡ Is component
+    → b ≡ allStatuses t component (f .entries) (f .count)
+    → s .table ≡ t
+    → b ≡ passes s f k
+known-passes t component f s g h e =
+    h
+    ∙ ap (λ (u : SiteTable). allStatuses u component (f .entries) (f .count)) (sym e)
+    ∙ ap (λ (x : Sought). passes s f x) (sym g)
+
+module _ (t : SiteTable) (ws : List ℕ) (l time : ℕ) (id : Identity) (received : List ℕ) (f : StatusFields) {vs xs ys : List ℕ} {r : Answer} where
+  pub status-judged : {g : StatusFields}
+      → g ≡ f
+      → TakesIn t l time id (byVerdict (g .verdict) (siteOf ws t) received (requestedOf (siteOf ws t) l time id received g (componentSought t (g .component)))) ws vs xs ys r
+      → TakesIn t l time id (statusTaken (siteOf ws t) l time id received f) ws vs xs ys r
+  unfolding statusTaken
+  status-judged {g} e x =
+      like t ws l time id received (λ (y : StatusFields). statusTaken (siteOf ws t) l time id received y) (sym e)
+      (like t ws l time id received (λ (u : SiteTable). byVerdict (g .verdict) (siteOf ws t) received (requestedOf (siteOf ws t) l time id received g (componentSought u (g .component)))) (table-of ws t) x)
+
+  -- by whether all entries pass
+  module _ {k : Sought} (h : k ≡ componentSought t (f .component)) where
+    pub all-pass : passes (siteOf ws t) f k ≡ true
+        → TakesIn t l time id (due t ws l time id received (response (siteOf ws t) time (id .bytes) k f)) ws vs xs ys r
+        → TakesIn t l time id (requestedOf (siteOf ws t) l time id received f (componentSought t (f .component))) ws vs xs ys r
+    all-pass e g =
+        like t ws l time id received (λ (x : Sought). requestedOf (siteOf ws t) l time id received f x) (sym h)
+        (picked-first t ws l time id received (passes (siteOf ws t) f k) (due t ws l time id received (response (siteOf ws t) time (id .bytes) k f)) (notAcked (siteOf ws t) received unknownStatus) e g)
+
+    pub one-fails : passes (siteOf ws t) f k ≡ false
+        → GivesIn t time never (notAcked (siteOf ws t) received unknownStatus .plan) ws vs xs ys r
+        → TakesIn t l time id (requestedOf (siteOf ws t) l time id received f (componentSought t (f .component))) ws vs xs ys r
+    one-fails e g =
+        like t ws l time id received (λ (x : Sought). requestedOf (siteOf ws t) l time id received f x) (sym h)
+        (picked-second t ws l time id received (passes (siteOf ws t) f k) (due t ws l time id received (response (siteOf ws t) time (id .bytes) k f)) (notAcked (siteOf ws t) received unknownStatus) e
+        (not-acked t ws l time id received unknownStatus g))

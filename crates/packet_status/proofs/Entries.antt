@@ -13,7 +13,7 @@ use Rattle.output.specs.Put.{Wrote}
 use Rattle.output.proofs.Laws.{then}
 use Rattle.write_message.specs.declared.Value.{Value}
 use Rattle.write_message.specs.declared.Told.the-variants.{Response}
-use Rattle.write_message.specs.Message.{Status, status}
+use Rattle.write_message.specs.Message.{status}
 use Rattle.write_message.specs.Pieces.{statusHead, entryPieces, entriesPieces, statusTail, pieces}
 use Rattle.write_message.proofs.Kept.{kept}
 use Rattle.read_lists.specs.declared.StatusEntry.{StatusEntry}
@@ -41,11 +41,13 @@ module _ (s : Site) (component : Sought) where
     told-length (suc n) =
         omega (arith, length-append (toldTo s component entries n) (toldOf s component (entryAt entries n) ∷ []), told-length n)
 
-    pub one-more-told : (i : ℕ) {xs ys zs : List ℕ} {at m r : ℕ}
+    pub one-more-told : (i : ℕ) {e : StatusEntry} {xs ys zs : List ℕ} {at m r : ℕ}
         → Wrote xs at (entriesPieces true (toldTo s component entries i)) ys m
-        → Wrote ys m (entryPieces (eqb i 0) (toldOf s component (entryAt entries i))) zs r
+        → e ≡ entryAt entries i
+        → Wrote ys m (entryPieces (eqb i 0) (toldOf s component e)) zs r
         → Wrote xs at (entriesPieces true (toldTo s component entries (i + 1))) zs r
-    one-more-told i {xs} {ys} {zs} {at} {m} {r} a b =
+    one-more-told i {xs = xs} {ys = ys} {zs = zs} {at = at} {m = m} {r = r} a h w =
+        let b = subst (λ (e : StatusEntry). Wrote ys m (entryPieces (eqb i 0) (toldOf s component e)) zs r) h w in
         let x = toldOf s component (entryAt entries i) in
         let first : entryPieces (eqb (length (toldTo s component entries i)) 0) x ≡ entryPieces (eqb i 0) x = ap (λ (n : ℕ). entryPieces (eqb n 0) x) (told-length i) in
         let all : entriesPieces true (toldTo s component entries i ++ (x ∷ [])) ≡ entriesPieces true (toldTo s component entries i) ++ entryPieces (eqb i 0) x =

@@ -1,67 +1,178 @@
--- From the parts of a change to what the call gives.
+-- From the parts of a change to what the call gives, the site's table being t.
 -- Assumes nothing.
-use Prim.Native.Nat.{ℕ}
-use mathlib.Core.Path.{_≡_, refl, ap, _∙_}
+use Prim.Native.Nat.{ℕ, zero, suc}
+use mathlib.Core.Path.{_≡_, refl, sym, ap, ap₂, subst, _∙_}
 use mathlib.Core.Bool.{Bool, true, false}
-use mathlib.Core.List.{List, []}
+use mathlib.Core.List.{List, [], _++_}
+use lib.ListN.{length}
 use Rattle.basis.specs.Pick.{pick}
-use Rattle.pool_batch.specs.declared.Batch.{Batch}
-use Rattle.pool_batch.specs.Batch.{beginning, addedAll}
+use Rattle.answer.specs.declared.Refusal.the-variants.{SequenceSpent}
+use Rattle.answer.specs.declared.Answer.{Answer}
+use Rattle.answer.specs.declared.Answer.the-variants.{Done, Refused}
+use Rattle.answer.specs.Given.Hint.{none}
+use Rattle.entry.specs.declared.Entry.{Entry}
+use Rattle.output.specs.Put.{Wrote}
+use Rattle.write_message.specs.Message.Message.{ack}
+use Rattle.write_message.specs.Pieces.{pieces}
+use Rattle.table_whole.specs.declared.SiteTable.{SiteTable}
 use Rattle.read_head.specs.declared.Verdict.{Verdict}
 use Rattle.read_head.specs.declared.Verdict.the-variants.{Good}
+use Rattle.read_lists.specs.declared.StatusEntry.{StatusEntry}
 use Rattle.read_lists.specs.declared.StatusFields.{StatusFields}
 use Rattle.packet_lookup.specs.declared.Sought.{Sought}
-use Rattle.packet_lookup.specs.Sought.{componentSought, allStatuses}
+use Rattle.packet_lookup.specs.declared.Sought.the-variants.{Is, Nothing}
+use Rattle.packet_lookup.specs.Sought.{componentSought, statusSought, entryAt, allStatuses}
+use Rattle.subscription.specs.declared.Subscription.{Subscription}
 use Rattle.site.specs.declared.Site.{Site}
-use Rattle.site.specs.declared.Step.{Step}
-use Rattle.site.specs.Call.{never, Gives}
+use Rattle.site.specs.Site.{withSubscriptions}
+use Rattle.site.specs.Call.{never}
+use Rattle.store_site.specs.Layout.{siteOf, withLast}
+use Rattle.store_site.specs.Turns.{Turns}
+use Rattle.store_call.specs.Called.{GivesIn}
+use Rattle.store_call.specs.Issued.{batchIn, issuedIn}
+use Rattle.store_call.proofs.IssuedLaws.{issued-none, issued-end}
 use Rattle.packet_answer.specs.Taken.{Taken, notAcked, byVerdict, unknownStatus}
-use Rattle.packet_answer.specs.Ending.{Acks}
-use Rattle.packet_answer.proofs.Ends.{acknowledges}
-use Rattle.packet_subscribe.specs.Subscribing.{replaced, records, changed, judged, asked, subscribingTaken}
+use Rattle.packet_answer.specs.Ending.{report}
+use Rattle.packet_answer.proofs.Ends.{acks, refuses-spent}
+use Rattle.packet_subscribe.specs.Subscribing.{wanted, replacedAt, replaced, recordOf, records, changed, judged, asked, subscribingTaken}
+use Rattle.packet_subscribe.specs.InPlace.{TurnsIn}
+use Rattle.packet_subscribe.proofs.Kept.{kept}
+use Rattle.packet_subscribe.proofs.Loops.{table-is}
 
-pub changes : (subscribing : Bool) (s : Site) (l time : ℕ) (received : List ℕ) (f : StatusFields) (c : ℕ) {after : Site} {begun b : Batch} {xs ys : List ℕ} {r : Step}
-    → after ≡ replaced subscribing s l time c (f .entries) (f .count)
-    → begun ≡ beginning (after .pool) (after .next)
-    → b ≡ addedAll 4 begun (pick subscribing (records s l time c (f .entries) (f .count)) [])
-    → Acks s after b time 0 0 received xs ys r
-    → Gives s time never (changed subscribing s l time received f c .plan) xs ys r
-unfolding changed
-changes subscribing s l time received f c {after} {begun} {b} e g h a =
-    let es = pick subscribing (records s l time c (f .entries) (f .count)) [] in
-    acknowledges s after (replaced subscribing s l time c (f .entries) (f .count)) b es time received e
-    (h ∙ ap (λ (x : Batch). addedAll 4 x es) (g ∙ ap (λ (x : Site). beginning (x .pool) (x .next)) e))
-    a
+-- replacing changes subscriptions alone
+only-at : (s : Site) (l : ℕ) (x : Subscription) (q : Sought) → replacedAt s l x q ≡ withSubscriptions s (replacedAt s l x q .subscriptions)
+only-at s l x (Is k) = refl
+only-at s l x Nothing = refl
 
-pub passes : (subscribing : Bool) (s : Site) (l time : ℕ) (received : List ℕ) (f : StatusFields) (c : ℕ) {xs ys : List ℕ} {r : Step}
-    → allStatuses (s .table) c (f .entries) (f .count) ≡ true
-    → Gives s time never (changed subscribing s l time received f c .plan) xs ys r
-    → Gives s time never (judged subscribing s l time received f c .plan) xs ys r
-unfolding judged
-passes subscribing s l time received f c e g = rw e g
+pub only-subscriptions : (subscribing : Bool) (s : Site) (l time c : ℕ) (es : List StatusEntry) (n : ℕ)
+    → replaced subscribing s l time c es n ≡ withSubscriptions s (replaced subscribing s l time c es n .subscriptions)
+only-subscriptions subscribing s l time c es zero = refl
+only-subscriptions subscribing s l time c es (suc n) =
+    let x = wanted subscribing (entryAt es n) time in
+    let q = statusSought (s .table) c (entryAt es n) in
+    let r = replaced subscribing s l time c es n in
+    only-at r l x q ∙ ap (λ (u : Site). withSubscriptions u (replacedAt r l x q .subscriptions)) (only-subscriptions subscribing s l time c es n)
 
-pub fails : (subscribing : Bool) (s : Site) (l time : ℕ) (received : List ℕ) (f : StatusFields) (c : ℕ) {xs ys : List ℕ} {r : Step}
-    → allStatuses (s .table) c (f .entries) (f .count) ≡ false
-    → Gives s time never (notAcked s received unknownStatus .plan) xs ys r
-    → Gives s time never (judged subscribing s l time received f c .plan) xs ys r
-unfolding judged
-fails subscribing s l time received f c e g = rw e g
+record-same : (s : Site) (x : List Subscription) (l time : ℕ) (q : Sought) → recordOf (withSubscriptions s x) l time q ≡ recordOf s l time q
+record-same s x l time (Is k) = refl
+record-same s x l time Nothing = refl
 
-pub asks : (subscribing : Bool) (s : Site) (l time : ℕ) (received : List ℕ) (f : StatusFields) {c d : Sought} {xs ys : List ℕ} {r : Step}
-    → c ≡ d
-    → Gives s time never (asked subscribing s l time received f c .plan) xs ys r
-    → Gives s time never (asked subscribing s l time received f d .plan) xs ys r
-asks subscribing s l time received f e g = rw (← e) g
+records-same : (s : Site) (x : List Subscription) (l time c : ℕ) (es : List StatusEntry) (n : ℕ)
+    → records (withSubscriptions s x) l time c es n ≡ records s l time c es n
+records-same s x l time c es zero = refl
+records-same s x l time c es (suc n) =
+    ap₂ (λ (a b : List Entry). a ++ b) (records-same s x l time c es n) (record-same s x l time (statusSought (s .table) c (entryAt es n)))
 
-good : {v : Verdict} (s : Site) (time : ℕ) (received : List ℕ) (t : Taken) {xs ys : List ℕ} {r : Step}
-    → v ≡ Good
-    → Gives s time never (t .plan) xs ys r
-    → Gives s time never (byVerdict v s received t .plan) xs ys r
-good s time received t e g = rw e g
+module _ (subscribing : Bool) (s : Site) (l time c : ℕ) (es : List StatusEntry) (n : ℕ) where
+  -- so the records are the same after it, and the pool and the next number are
+  pub records-after : records (replaced subscribing s l time c es n) l time c es n ≡ records s l time c es n
+  records-after =
+      ap (λ (u : Site). records u l time c es n) (only-subscriptions subscribing s l time c es n)
+      ∙ records-same s (replaced subscribing s l time c es n .subscriptions) l time c es n
 
-pub takes : (subscribing : Bool) (s : Site) (l time : ℕ) (received : List ℕ) (f : StatusFields) {xs ys : List ℕ} {r : Step}
-    → f .verdict ≡ Good
-    → Gives s time never (asked subscribing s l time received f (componentSought (s .table) (f .component)) .plan) xs ys r
-    → Gives s time never (subscribingTaken subscribing s l time received f .plan) xs ys r
-unfolding subscribingTaken
-takes subscribing s l time received f e g = good s time received (asked subscribing s l time received f (componentSought (s .table) (f .component))) e g
+  pub spent-after : (xs : List Entry) → batchIn (replaced subscribing s l time c es n) xs .spent ≡ batchIn s xs .spent
+  spent-after xs = ap (λ (u : Site). batchIn u xs .spent) (only-subscriptions subscribing s l time c es n)
+
+-- both loops
+module _ (t : SiteTable) (l time c : ℕ) (es : List StatusEntry) (n : ℕ) {ws us vs : List ℕ} where
+  pub turned-on : (subscribing : Bool) → subscribing ≡ true
+      → TurnsIn t (λ (s : Site). replaced subscribing s l time c es n) ws us
+      → TurnsIn t (λ (s : Site). issuedIn s (records s l time c es n)) us vs
+      → TurnsIn t (λ (s : Site). issuedIn (replaced subscribing s l time c es n) (pick subscribing (records s l time c es n) [])) ws vs
+  turned-on subscribing e a b =
+      record {
+        site =
+            rw e
+            (b .site
+            ∙ ap (λ (u : Site). issuedIn u (records u l time c es n)) (rw e at (a .site))
+            ∙ ap (λ (xs : List Entry). issuedIn (replaced true (siteOf ws t) l time c es n) xs) (records-after true (siteOf ws t) l time c es n));
+        plain = λ p. b .plain (a .plain p);
+      }
+
+module _ (t : SiteTable) (l time c : ℕ) (es : List StatusEntry) (n : ℕ) {ws vs : List ℕ} where
+  pub turned-off : (subscribing : Bool) → subscribing ≡ false
+      → TurnsIn t (λ (s : Site). replaced subscribing s l time c es n) ws vs
+      → TurnsIn t (λ (s : Site). issuedIn (replaced subscribing s l time c es n) (pick subscribing (records s l time c es n) [])) ws vs
+  turned-off subscribing e a =
+      record { site = rw e (rw e at (a .site) ∙ sym (issued-none (replaced false (siteOf ws t) l time c es n))); plain = a .plain }
+
+module _ (subscribing : Bool) (s : Site) (l time : ℕ) (received : List ℕ) (f : StatusFields) (c : ℕ) where
+  judged-all : allStatuses (s .table) c (f .entries) (f .count) ≡ true → judged subscribing s l time received f c ≡ changed subscribing s l time received f c
+  unfolding judged
+  judged-all e = rw e refl
+
+  judged-not : allStatuses (s .table) c (f .entries) (f .count) ≡ false → judged subscribing s l time received f c ≡ notAcked s received unknownStatus
+  unfolding judged
+  judged-not e = rw e refl
+
+module _ (subscribing : Bool) (t : SiteTable) (l time : ℕ) (received : List ℕ) (f : StatusFields) (c : ℕ) (ws : List ℕ) where
+  abbrev issued : List Entry
+  issued = pick subscribing (records (siteOf ws t) l time c (f .entries) (f .count)) []
+
+  -- where every entry is a status there is a record for each
+  numbers : (b : Bool) → allStatuses t c (f .entries) (f .count) ≡ true
+      → length (pick b (records (siteOf ws t) l time c (f .entries) (f .count)) []) ≡ pick b (f .count) 0
+  numbers true a = kept .one-each (siteOf ws t) l time c (f .entries) (f .count) (rw (table-is ws t) a)
+  numbers false a = refl
+
+  -- number 10 is judged by how many records there are
+  module _ {n : ℕ} {b : Bool} (a : allStatuses t c (f .entries) (f .count) ≡ true) (e : n ≡ pick subscribing (f .count) 0)
+      (h : (u : SiteTable) (es : List Entry) → length es ≡ n → b ≡ batchIn (siteOf ws u) es .spent) where
+    spent-is : {d : Bool} → b ≡ d → batchIn (replaced subscribing (siteOf ws t) l time c (f .entries) (f .count)) issued .spent ≡ d
+    spent-is g = spent-after subscribing (siteOf ws t) l time c (f .entries) (f .count) issued ∙ sym (h t issued (numbers subscribing a ∙ sym e)) ∙ g
+
+    pub change-refused : {xs : List ℕ} → b ≡ true
+        → GivesIn t time never (changed subscribing (siteOf ws t) l time received f c .plan) ws ws xs xs (Refused SequenceSpent)
+    unfolding changed
+    change-refused g = refuses-spent t time received (replaced subscribing (siteOf ws t) l time c (f .entries) (f .count)) issued none (spent-is g) refl
+
+    pub change-done : {us vs xs ys : List ℕ} {end : ℕ} {r : Answer}
+        → b ≡ false
+        → Wrote xs 0 (pieces (ack received)) ys end
+        → TurnsIn t (λ (s : Site). issuedIn (replaced subscribing s l time c (f .entries) (f .count)) (pick subscribing (records s l time c (f .entries) (f .count)) [])) ws us
+        → r ≡ Done (report 0 0 end 0)
+        → Turns (λ (s : Site). withLast s time) us vs
+        → GivesIn t time never (changed subscribing (siteOf ws t) l time received f c .plan) ws vs xs ys r
+    unfolding changed
+    change-done g w p q m =
+        let after = replaced subscribing (siteOf ws t) l time c (f .entries) (f .count) in
+        acks t time received after issued none (spent-is g) w q
+        (m .site t ∙ ap (λ (s : Site). withLast s time) (p .site) ∙ issued-end after issued time) (λ x. m .plain (p .plain x))
+
+  pub passes : {vs xs ys : List ℕ} {r : Answer}
+      → allStatuses t c (f .entries) (f .count) ≡ true
+      → GivesIn t time never (changed subscribing (siteOf ws t) l time received f c .plan) ws vs xs ys r
+      → GivesIn t time never (judged subscribing (siteOf ws t) l time received f c .plan) ws vs xs ys r
+  passes {vs} {xs} {ys} {r} e g =
+      subst (λ (x : Taken). GivesIn t time never (x .plan) ws vs xs ys r)
+      (sym (judged-all subscribing (siteOf ws t) l time received f c (rw (table-is ws t) e))) g
+
+  pub fails : {vs xs ys : List ℕ} {r : Answer}
+      → allStatuses t c (f .entries) (f .count) ≡ false
+      → GivesIn t time never (notAcked (siteOf ws t) received unknownStatus .plan) ws vs xs ys r
+      → GivesIn t time never (judged subscribing (siteOf ws t) l time received f c .plan) ws vs xs ys r
+  fails {vs} {xs} {ys} {r} e g =
+      subst (λ (x : Taken). GivesIn t time never (x .plan) ws vs xs ys r)
+      (sym (judged-not subscribing (siteOf ws t) l time received f c (rw (table-is ws t) e))) g
+
+module _ (subscribing : Bool) (t : SiteTable) (l time : ℕ) (received : List ℕ) (f : StatusFields) (ws : List ℕ) where
+  pub asks : {b d : Sought} {vs xs ys : List ℕ} {r : Answer}
+      → b ≡ d
+      → GivesIn t time never (asked subscribing (siteOf ws t) l time received f b .plan) ws vs xs ys r
+      → GivesIn t time never (asked subscribing (siteOf ws t) l time received f d .plan) ws vs xs ys r
+  asks e g = rw (← e) g
+
+  good : {v : Verdict} (x : Taken) {vs xs ys : List ℕ} {r : Answer}
+      → v ≡ Good
+      → GivesIn t time never (x .plan) ws vs xs ys r
+      → GivesIn t time never (byVerdict v (siteOf ws t) received x .plan) ws vs xs ys r
+  good x e g = rw e g
+
+  pub takes : {vs xs ys : List ℕ} {r : Answer}
+      → f .verdict ≡ Good
+      → GivesIn t time never (asked subscribing (siteOf ws t) l time received f (componentSought t (f .component)) .plan) ws vs xs ys r
+      → GivesIn t time never (subscribingTaken subscribing (siteOf ws t) l time received f .plan) ws vs xs ys r
+  unfolding subscribingTaken
+  takes e g =
+      good (asked subscribing (siteOf ws t) l time received f (componentSought (siteOf ws t .table) (f .component))) e
+      (asks (ap (λ (u : SiteTable). componentSought u (f .component)) (sym (table-is ws t))) g)

@@ -1,3 +1,3 @@
+pub mod Kept
 pub mod Loops
 pub mod Changes
-pub mod Kept

@@ -1,2 +1,3 @@
 pub mod Subscribing
+pub mod InPlace
 pub mod Claims

@@ -1,25 +1,30 @@
-// StatusSubscribe and StatusUnsubscribe.
+// StatusSubscribe and StatusUnsubscribe, in place.
 ghost use mathlib.Core.Path.{_≡_};
 ghost use mathlib.Core.Bool.{true, false};
 ghost use mathlib.Core.List.{[]};
 ghost use Prim.Native.Nat.{_+_, _*_};
+ghost use lib.ListN.{length};
 ghost use Rattle.basis.specs.Pick.{pick};
-ghost use Rattle.pool_batch.specs.Batch.{addedAll, beginning};
-ghost use Rattle.site.specs.Call.{never, Gives};
+ghost use Rattle.site.specs.declared.Site.{Site};
+ghost use Rattle.site.specs.Call.{never};
+ghost use Rattle.store_site.specs.Layout.{siteOf};
+ghost use Rattle.store_site.specs.Turns.{Turns};
+ghost use Rattle.store_table.specs.Layout.{tableOf};
+ghost use Rattle.store_call.specs.Called.{GivesIn};
+ghost use Rattle.store_call.specs.Issued.{issuedIn};
 ghost use Rattle.read_lists.specs.Status.{statusAt as fieldsAt};
-ghost use Rattle.packet_lookup.specs.Sought.{componentSought, statusSought};
+ghost use Rattle.packet_lookup.specs.Sought.{componentSought, statusSought, allStatuses};
 ghost use Rattle.packet_subscribe.specs.Subscribing.{wanted as wantedOf, replacedAt, replaced as replacedOf, recordOf, records as recordsOf, changed, judged, asked, subscribingTaken};
+ghost use Rattle.packet_subscribe.specs.InPlace.{TurnsIn};
+use answer::Answer;
+use answer::Refusal;
 use names::reasons;
 use packet_lookup::Sought;
-use pool_batch::Batch;
 use read_head::Received;
 use read_head::Verdict;
 use read_lists::StatusEntry;
 use read_lists::StatusFields;
-use site::Site;
-use site::Step;
 use subscription::Subscription;
-use table_whole::SiteTable;
 
 // What an entry asks for, or no subscription.
 fn wanted(subscribing: bool, e: StatusEntry, time: u64) -> Subscription
@@ -38,121 +43,119 @@ fn place(l: u16, k: u8) -> usize
     (l as usize) * 32 + (k as usize)
 }
 
-fn replace(s: Site, l: u16, x: Subscription, status: Sought) -> Site
-    ensures { λ r. ⌜ r ≡ replacedAt s l x status ⌝ }
-{
-    match status {
-        Sought::Is(k) => site::parts::with_subscription(s, place(l, k), x),
-        Sought::Nothing => s,
-    }
-}
-
-fn replace_by(
-    s: Site,
-    table: SiteTable,
+fn replace(
+    w: &mut [u64],
+    t: &[u8],
     subscribing: bool,
     l: u16,
     time: u64,
     component: u8,
     e: StatusEntry,
-) -> Site
-    ensures { λ r. ⌜ r ≡ replacedAt s l (wantedOf subscribing e time) (statusSought table component e) ⌝ }
+)
+    requires { ⌜ (length (now w) ≡ 1173) × (length (now t) ≡ 4752) ⌝ }
+    ensures { λ _. ⌜ Turns (λ (s : Site). replacedAt s l (wantedOf subscribing e time) (statusSought (tableOf (now (t .entry))) component e)) (now (w .entry)) (now (w .exit)) ⌝ }
 {
-    let status = packet_lookup::status(table, component, e);
-    replace(s, l, wanted(subscribing, e, time), status)
+    let x = wanted(subscribing, e, time);
+    let status = packet_lookup::status(t, component, e);
+    match status {
+        Sought::Is(k) => store_site::items::put_subscription(w, place(l, k), x),
+        Sought::Nothing => {}
+    }
 }
 
 // A link has one subscription per status: a new one replaces it.
 fn replaced(
-    s: Site,
+    w: &mut [u64],
+    t: &[u8],
     subscribing: bool,
     l: u16,
     time: u64,
     component: u8,
     entries: [StatusEntry; 16],
     count: usize,
-) -> Site
-    ensures { λ r. ⌜ r ≡ replacedOf subscribing s l time component entries count ⌝ }
+)
+    requires { ⌜ (length (now w) ≡ 1173) × (length (now t) ≡ 4752) ⌝ }
+    ensures { λ _. ⌜ TurnsIn (tableOf (now (t .entry))) (λ (s : Site). replacedOf subscribing s l time component entries count) (now (w .entry)) (now (w .exit)) ⌝ }
 {
-    let table = s.table;
-    let mut t = s;
     let mut i: usize = 0;
     while i < count {
         let e = packet_lookup::entry_in(entries, i);
-        t = replace_by(t, table, subscribing, l, time, component, e);
+        replace(w, t, subscribing, l, time, component, e);
         i += 1;
     }
-    t
 }
 
-fn issue_of(b: Batch, s: Site, l: u16, time: u64, k: u8) -> Batch
-    ensures { λ r. ⌜ r ≡ addedAll 4 b (recordOf s l time (Sought.Is k)) ⌝ }
+fn issue_of(w: &mut [u64], l: u16, time: u64, k: u8)
+    requires { ⌜ length (now w) ≡ 1173 ⌝ }
+    ensures { λ _. ⌜ Turns (λ (s : Site). issuedIn s (recordOf s l time (Sought.Is k))) (now (w .entry)) (now (w .exit)) ⌝ }
 {
-    let v = site::parts::status(s, k as usize);
-    let n = s.link(l);
-    b.add(site::records::status(n, v, l, k as u16, time))
+    let v = store_site::items::status(w, k as usize);
+    store_call::add(w, store_call::records::status(w, v, l, k as u16, time));
 }
 
-fn issue(b: Batch, s: Site, l: u16, time: u64, status: Sought) -> Batch
-    ensures { λ r. ⌜ r ≡ addedAll 4 b (recordOf s l time status) ⌝ }
+fn issue(w: &mut [u64], t: &[u8], l: u16, time: u64, component: u8, e: StatusEntry)
+    requires { ⌜ (length (now w) ≡ 1173) × (length (now t) ≡ 4752) ⌝ }
+    ensures { λ _. ⌜ Turns (λ (s : Site). issuedIn s (recordOf s l time (statusSought (tableOf (now (t .entry))) component e))) (now (w .entry)) (now (w .exit)) ⌝ }
 {
+    let status = packet_lookup::status(t, component, e);
     match status {
-        Sought::Is(k) => issue_of(b, s, l, time, k),
-        Sought::Nothing => b,
+        Sought::Is(k) => issue_of(w, l, time, k),
+        Sought::Nothing => {}
     }
-}
-
-fn issue_by(b: Batch, s: Site, l: u16, time: u64, component: u8, e: StatusEntry) -> Batch
-    ensures { λ r. ⌜ r ≡ addedAll 4 b (recordOf s l time (statusSought (s .table) component e)) ⌝ }
-{
-    let table = s.table;
-    let status = packet_lookup::status(table, component, e);
-    issue(b, s, l, time, status)
 }
 
 // A subscription issues a record at once, entries in order.
 fn records(
-    begun: Batch,
-    s: Site,
+    w: &mut [u64],
+    t: &[u8],
     l: u16,
     time: u64,
     component: u8,
     entries: [StatusEntry; 16],
     count: usize,
-) -> Batch
-    ensures { λ r. ⌜ r ≡ addedAll 4 begun (recordsOf s l time component entries count) ⌝ }
+)
+    requires { ⌜ (length (now w) ≡ 1173) × (length (now t) ≡ 4752) ⌝ }
+    ensures { λ _. ⌜ TurnsIn (tableOf (now (t .entry))) (λ (s : Site). issuedIn s (recordsOf s l time component entries count)) (now (w .entry)) (now (w .exit)) ⌝ }
 {
-    let mut b = begun;
     let mut i: usize = 0;
     while i < count {
         let e = packet_lookup::entry_in(entries, i);
-        b = issue_by(b, s, l, time, component, e);
+        issue(w, t, l, time, component, e);
         i += 1;
     }
-    b
 }
 
-fn issued(
+// Every entry is done. Replacing changes nothing that a record tells.
+fn turn(
+    w: &mut [u64],
+    t: &[u8],
     subscribing: bool,
-    begun: Batch,
-    s: Site,
     l: u16,
     time: u64,
     component: u8,
-    f: StatusFields,
-) -> Batch
-    ensures { λ r. ⌜ r ≡ addedAll 4 begun (pick subscribing (recordsOf s l time component (f .entries) (f .count)) []) ⌝ }
+    entries: [StatusEntry; 16],
+    count: usize,
+)
+    requires { ⌜ (length (now w) ≡ 1173) × (length (now t) ≡ 4752) ⌝ }
+    ensures { λ _. ⌜ TurnsIn (tableOf (now (t .entry))) (λ (s : Site). issuedIn (replacedOf subscribing s l time component entries count) (pick subscribing (recordsOf s l time component entries count) [])) (now (w .entry)) (now (w .exit)) ⌝ }
 {
+    replaced(w, t, subscribing, l, time, component, entries, count);
     if subscribing {
-        let entries = f.entries;
-        return records(begun, s, l, time, component, entries, f.count);
+        records(w, t, l, time, component, entries, count);
     }
-    begun
+}
+
+// How many records are issued where every entry is a status.
+fn number(subscribing: bool, count: usize) -> u64
+    ensures { λ r. ⌜ r ≡ pick subscribing count 0 ⌝ }
+{
+    if subscribing { count as u64 } else { 0 }
 }
 
 // All entries are statuses of the component.
 fn change(
-    s: Site,
+    w: &mut [u64],
+    t: &[u8],
     subscribing: bool,
     l: u16,
     time: u64,
@@ -160,18 +163,22 @@ fn change(
     f: StatusFields,
     received: Received,
     out: &mut [u8],
-) -> Step
-    ensures { λ r. ⌜ Gives s time never (changed subscribing s l time (received .bytes) f component .plan) (now (out .entry)) (now (out .exit)) r ⌝ }
+) -> Answer
+    requires { ⌜ (length (now w) ≡ 1173) × (length (now t) ≡ 4752) × (allStatuses (tableOf (now t)) component (f .entries) (f .count) ≡ true) ⌝ }
+    ensures { λ r. ⌜ GivesIn (tableOf (now (t .entry))) time never (changed subscribing (siteOf (now (w .entry)) (tableOf (now (t .entry)))) l time (received .bytes) f component .plan) (now (w .entry)) (now (w .exit)) (now (out .entry)) (now (out .exit)) r ⌝ }
 {
+    if store_call::spent(w, number(subscribing, f.count)) {
+        return Answer::Refused(Refusal::SequenceSpent);
+    }
+    let end = packet_answer::ack(received, out);
     let entries = f.entries;
-    let after = replaced(s, subscribing, l, time, component, entries, f.count);
-    let begun = Batch::begin(after.pool, after.next);
-    let b = issued(subscribing, begun, s, l, time, component, f);
-    packet_answer::acknowledge(s, after, b, time, received, 0, 0, out)
+    turn(w, t, subscribing, l, time, component, entries, f.count);
+    packet_answer::done(w, time, 0, 0, end, 0)
 }
 
 fn judge(
-    s: Site,
+    w: &mut [u64],
+    t: &[u8],
     subscribing: bool,
     l: u16,
     time: u64,
@@ -179,111 +186,95 @@ fn judge(
     f: StatusFields,
     received: Received,
     out: &mut [u8],
-) -> Step
-    ensures { λ r. ⌜ Gives s time never (judged subscribing s l time (received .bytes) f component .plan) (now (out .entry)) (now (out .exit)) r ⌝ }
+) -> Answer
+    requires { ⌜ (length (now w) ≡ 1173) × (length (now t) ≡ 4752) ⌝ }
+    ensures { λ r. ⌜ GivesIn (tableOf (now (t .entry))) time never (judged subscribing (siteOf (now (w .entry)) (tableOf (now (t .entry)))) l time (received .bytes) f component .plan) (now (w .entry)) (now (w .exit)) (now (out .entry)) (now (out .exit)) r ⌝ }
 {
-    let table = s.table;
     let entries = f.entries;
-    if packet_lookup::all_statuses(table, component, entries, f.count) {
-        return change(s, subscribing, l, time, component, f, received, out);
+    if packet_lookup::all_statuses(t, component, entries, f.count) {
+        return change(w, t, subscribing, l, time, component, f, received, out);
     }
-    packet_answer::not_ack(s, time, received, reasons::UNKNOWN_STATUS, out)
+    packet_answer::not_ack(w, time, received, reasons::UNKNOWN_STATUS, out)
 }
 
 fn ask(
-    s: Site,
+    w: &mut [u64],
+    t: &[u8],
     subscribing: bool,
     l: u16,
     time: u64,
-    component: Sought,
     f: StatusFields,
     received: Received,
     out: &mut [u8],
-) -> Step
-    ensures { λ r. ⌜ Gives s time never (asked subscribing s l time (received .bytes) f component .plan) (now (out .entry)) (now (out .exit)) r ⌝ }
+) -> Answer
+    requires { ⌜ (length (now w) ≡ 1173) × (length (now t) ≡ 4752) ⌝ }
+    ensures { λ r. ⌜ GivesIn (tableOf (now (t .entry))) time never (asked subscribing (siteOf (now (w .entry)) (tableOf (now (t .entry)))) l time (received .bytes) f (componentSought (tableOf (now (t .entry))) (f .component)) .plan) (now (w .entry)) (now (w .exit)) (now (out .entry)) (now (out .exit)) r ⌝ }
 {
+    let id = f.component;
+    let component = packet_lookup::component(t, id);
     match component {
-        Sought::Is(c) => judge(s, subscribing, l, time, c, f, received, out),
-        Sought::Nothing => packet_answer::not_ack(s, time, received, reasons::UNKNOWN_STATUS, out),
+        Sought::Is(c) => judge(w, t, subscribing, l, time, c, f, received, out),
+        Sought::Nothing => packet_answer::not_ack(w, time, received, reasons::UNKNOWN_STATUS, out),
     }
 }
 
-fn ask_of(
-    s: Site,
-    subscribing: bool,
-    l: u16,
-    time: u64,
-    f: StatusFields,
-    received: Received,
-    out: &mut [u8],
-) -> Step
-    ensures { λ r. ⌜ Gives s time never (asked subscribing s l time (received .bytes) f (componentSought (s .table) (f .component)) .plan) (now (out .entry)) (now (out .exit)) r ⌝ }
-{
-    let table = s.table;
-    let id = f.component;
-    ask(
-        s,
-        subscribing,
-        l,
-        time,
-        packet_lookup::component(table, id),
-        f,
-        received,
-        out,
-    )
-}
-
 fn take(
-    s: Site,
+    w: &mut [u64],
+    t: &[u8],
     subscribing: bool,
     l: u16,
     time: u64,
     f: StatusFields,
     received: Received,
     out: &mut [u8],
-) -> Step
-    ensures { λ r. ⌜ Gives s time never (subscribingTaken subscribing s l time (received .bytes) f .plan) (now (out .entry)) (now (out .exit)) r ⌝ }
+) -> Answer
+    requires { ⌜ (length (now w) ≡ 1173) × (length (now t) ≡ 4752) ⌝ }
+    ensures { λ r. ⌜ GivesIn (tableOf (now (t .entry))) time never (subscribingTaken subscribing (siteOf (now (w .entry)) (tableOf (now (t .entry)))) l time (received .bytes) f .plan) (now (w .entry)) (now (w .exit)) (now (out .entry)) (now (out .exit)) r ⌝ }
 {
     let v = f.verdict;
     match v {
-        Verdict::Good => ask_of(s, subscribing, l, time, f, received, out),
+        Verdict::Good => ask(w, t, subscribing, l, time, f, received, out),
         Verdict::Missing => packet_answer::not_ack(
-            s,
+            w,
             time,
             received,
             reasons::MISSING_ELEMENT,
             out,
         ),
-        Verdict::Bad => packet_answer::not_ack(s, time, received, reasons::BAD_VALUE, out),
+        Verdict::Bad => packet_answer::not_ack(w, time, received, reasons::BAD_VALUE, out),
     }
 }
 
 // StatusSubscribe.
 pub fn subscribe(
-    s: Site,
+    w: &mut [u64],
+    t: &[u8],
     l: u16,
     time: u64,
     received: Received,
     packet: &[u8],
     out: &mut [u8],
-) -> Step
-    ensures { λ r. ⌜ Gives s time never (subscribingTaken true s l time (received .bytes) (fieldsAt true (now (packet .entry))) .plan) (now (out .entry)) (now (out .exit)) r ⌝ }
+) -> Answer
+    requires { ⌜ (length (now w) ≡ 1173) × (length (now t) ≡ 4752) ⌝ }
+    ensures { λ r. ⌜ GivesIn (tableOf (now (t .entry))) time never (subscribingTaken true (siteOf (now (w .entry)) (tableOf (now (t .entry)))) l time (received .bytes) (fieldsAt true (now (packet .entry))) .plan) (now (w .entry)) (now (w .exit)) (now (out .entry)) (now (out .exit)) r ⌝ }
 {
     let f = read_lists::read_status(packet, true);
-    take(s, true, l, time, f, received, out)
+    take(w, t, true, l, time, f, received, out)
 }
 
 // StatusUnsubscribe.
 pub fn unsubscribe(
-    s: Site,
+    w: &mut [u64],
+    t: &[u8],
     l: u16,
     time: u64,
     received: Received,
     packet: &[u8],
     out: &mut [u8],
-) -> Step
-    ensures { λ r. ⌜ Gives s time never (subscribingTaken false s l time (received .bytes) (fieldsAt false (now (packet .entry))) .plan) (now (out .entry)) (now (out .exit)) r ⌝ }
+) -> Answer
+    requires { ⌜ (length (now w) ≡ 1173) × (length (now t) ≡ 4752) ⌝ }
+    ensures { λ r. ⌜ GivesIn (tableOf (now (t .entry))) time never (subscribingTaken false (siteOf (now (w .entry)) (tableOf (now (t .entry)))) l time (received .bytes) (fieldsAt false (now (packet .entry))) .plan) (now (w .entry)) (now (w .exit)) (now (out .entry)) (now (out .exit)) r ⌝ }
 {
     let f = read_lists::read_status(packet, false);
-    take(s, false, l, time, f, received, out)
+    take(w, t, false, l, time, f, received, out)
 }

@@ -1,14 +1,17 @@
-// The site after a message went out.
+// The site after a message went out, in place.
 ghost use mathlib.Core.Path.{_≡_};
-ghost use Rattle.pool.specs.Pool.{markOf};
+ghost use Prim.Native.Nat.{_<_};
+ghost use lib.ListN.{length};
+ghost use Rattle.table_whole.specs.declared.SiteTable.{SiteTable};
+ghost use Rattle.site.specs.declared.Site.{Site};
+ghost use Rattle.site.specs.Site.{withPool};
+ghost use Rattle.store_site.specs.Layout.{siteOf};
+ghost use Rattle.store_site.specs.Turns.{Turns};
 ghost use Rattle.send_after.specs.Outgoing.{marked, sameEvent, carriedOf, carriedAt, messageOut, versionSent, watchdogSent, aggregatedSent, alarmSentWith, alarmSent, entrySent};
 use entry::Entry;
 use identity::Identity;
 use link::Link;
-use pool::Pool;
 use pool::Sought;
-use site::Site;
-use site::parts;
 
 // What a message carries: the held record of this number, or none.
 pub enum Carried {
@@ -42,12 +45,12 @@ fn carried_of(e: Entry, newest: Sought) -> Carried
 }
 
 // What the message of alarm k carries in the first pass of link l.
-fn first_pass(s: Site, l: u16, k: u16) -> Carried
-    ensures { λ r. ⌜ r ≡ carriedAt s l k ⌝ }
+fn first_pass(w: &[u64], l: u16, k: u16) -> Carried
+    requires { ⌜ length (now w) ≡ 1173 ⌝ }
+    ensures { λ r. ⌜ ((t : SiteTable) → r ≡ carriedAt (siteOf (now (w .entry)) t) l k) ⌝ }
 {
-    let pool = s.pool;
-    let a = parts::alarm(s, k as usize);
-    carried_of(a.issued(l, k), pool.newest_alarm(l, k))
+    let a = store_site::items::alarm(w, k as usize);
+    carried_of(a.issued(l, k), store_pool::read::newest_alarm(w, l, k))
 }
 
 fn message_out(k: Link, id: Identity, time: u64, c: Carried) -> Link
@@ -60,71 +63,67 @@ fn message_out(k: Link, id: Identity, time: u64, c: Carried) -> Link
 }
 
 // A record that is sent stays held.
-fn mark_sent(p: Pool, l: u16, q: u32) -> Pool
-    ensures { λ r. ⌜ r ≡ markOf p l q ⌝ }
-{
-    p.mark_sent(l, q)
-}
-
-fn mark(p: Pool, l: u16, c: Carried) -> Pool
-    ensures { λ r. ⌜ r ≡ marked p l c ⌝ }
+fn mark(w: &mut [u64], l: u16, c: Carried)
+    requires { ⌜ length (now w) ≡ 1173 ⌝ }
+    ensures { λ _. ⌜ Turns (λ (s : Site). withPool s (marked (s .pool) l c)) (now (w .entry)) (now (w .exit)) ⌝ }
 {
     match c {
-        Carried::Held(q) => mark_sent(p, l, q),
-        Carried::NoRecord => p,
+        Carried::Held(q) => store_pool::change::mark_sent(w, l, q),
+        Carried::NoRecord => {}
     }
 }
 
-pub fn version(s: Site, l: u16, time: u64, id: Identity) -> Site
-    ensures { λ r. ⌜ r ≡ versionSent s l time id ⌝ }
+pub fn version(w: &mut [u64], l: u16, time: u64, id: Identity)
+    requires { ⌜ (length (now w) ≡ 1173) × (l < 4) ⌝ }
+    ensures { λ _. ⌜ Turns (λ (s : Site). versionSent s l time id) (now (w .entry)) (now (w .exit)) ⌝ }
 {
-    let k = s.link(l);
-    s.with_link(l, k.version_out(id, time))
+    let k = store_site::parts::link(w, l as usize);
+    store_site::parts::put_link(w, l as usize, k.version_out(id, time));
 }
 
-pub fn watchdog(s: Site, l: u16, time: u64, id: Identity) -> Site
-    ensures { λ r. ⌜ r ≡ watchdogSent s l time id ⌝ }
+pub fn watchdog(w: &mut [u64], l: u16, time: u64, id: Identity)
+    requires { ⌜ (length (now w) ≡ 1173) × (l < 4) ⌝ }
+    ensures { λ _. ⌜ Turns (λ (s : Site). watchdogSent s l time id) (now (w .entry)) (now (w .exit)) ⌝ }
 {
-    let k = s.link(l);
-    s.with_link(l, k.watchdog_out(id, time))
+    let k = store_site::parts::link(w, l as usize);
+    store_site::parts::put_link(w, l as usize, k.watchdog_out(id, time));
 }
 
 // The first pass: its AggregatedStatus.
-pub fn aggregated(s: Site, l: u16, time: u64, id: Identity) -> Site
-    ensures { λ r. ⌜ r ≡ aggregatedSent s l time id ⌝ }
+pub fn aggregated(w: &mut [u64], l: u16, time: u64, id: Identity)
+    requires { ⌜ (length (now w) ≡ 1173) × (l < 4) ⌝ }
+    ensures { λ _. ⌜ Turns (λ (s : Site). aggregatedSent s l time id) (now (w .entry)) (now (w .exit)) ⌝ }
 {
-    let k = s.link(l);
+    let k = store_site::parts::link(w, l as usize);
     let next = k.other_out(id, time);
-    s.with_link(l, next.aggregated_passed())
+    store_site::parts::put_link(w, l as usize, next.aggregated_passed());
 }
 
-fn alarm_with(c: Carried, s: Site, l: u16, time: u64, id: Identity) -> Site
-    ensures { λ r. ⌜ r ≡ alarmSentWith c s l time id ⌝ }
+fn alarm_with(c: Carried, w: &mut [u64], l: u16, time: u64, id: Identity)
+    requires { ⌜ (length (now w) ≡ 1173) × (l < 4) ⌝ }
+    ensures { λ _. ⌜ Turns (λ (s : Site). alarmSentWith c s l time id) (now (w .entry)) (now (w .exit)) ⌝ }
 {
-    let k = s.link(l);
+    let k = store_site::parts::link(w, l as usize);
     let next = message_out(k, id, time, c);
-    let mut t = s.with_link(l, next.alarm_passed());
-    let before = s.pool;
-    let after = mark(before, l, c);
-    t.pool = after;
-    t
+    store_site::parts::put_link(w, l as usize, next.alarm_passed());
+    mark(w, l, c);
 }
 
 // The first pass: alarm k.
-pub fn alarm(s: Site, l: u16, time: u64, id: Identity, k: u16) -> Site
-    ensures { λ r. ⌜ r ≡ alarmSent s l time id k ⌝ }
+pub fn alarm(w: &mut [u64], l: u16, time: u64, id: Identity, k: u16)
+    requires { ⌜ (length (now w) ≡ 1173) × (l < 4) ⌝ }
+    ensures { λ _. ⌜ Turns (λ (s : Site). alarmSent s l time id k) (now (w .entry)) (now (w .exit)) ⌝ }
 {
-    alarm_with(first_pass(s, l, k), s, l, time, id)
+    let c = first_pass(w, l, k);
+    alarm_with(c, w, l, time, id);
 }
 
 // The held record of this number.
-pub fn entry(s: Site, l: u16, time: u64, id: Identity, sequence: u32) -> Site
-    ensures { λ r. ⌜ r ≡ entrySent s l time id sequence ⌝ }
+pub fn entry(w: &mut [u64], l: u16, time: u64, id: Identity, sequence: u32)
+    requires { ⌜ (length (now w) ≡ 1173) × (l < 4) ⌝ }
+    ensures { λ _. ⌜ Turns (λ (s : Site). entrySent s l time id sequence) (now (w .entry)) (now (w .exit)) ⌝ }
 {
-    let k = s.link(l);
-    let mut t = s.with_link(l, k.entry_out(id, time, sequence));
-    let before = s.pool;
-    let after = mark_sent(before, l, sequence);
-    t.pool = after;
-    t
+    let k = store_site::parts::link(w, l as usize);
+    store_site::parts::put_link(w, l as usize, k.entry_out(id, time, sequence));
+    store_pool::change::mark_sent(w, l, sequence);
 }

@@ -1,17 +1,19 @@
-// The messages that tell a part of the site, put into a lent output.
+// The messages that tell a part of the site, put into a lent output. The site lies in the words w, its table in the bytes t.
 ghost use mathlib.Core.Path.{_≡_};
 ghost use mathlib.Core.Bool.{true, false};
 ghost use Prim.Native.Nat.{_%_};
+ghost use lib.ListN.{length};
 ghost use Rattle.output.specs.Put.{Wrote};
 ghost use Rattle.write_message.specs.Pieces.{pieces};
+ghost use Rattle.site.specs.declared.Site.{Site};
 ghost use Rattle.site.specs.Parts.{alarmRowAt, statusRowAt};
+ghost use Rattle.store_site.specs.Layout.{siteOf};
+ghost use Rattle.store_table.specs.Layout.{tableOf};
 ghost use Rattle.send_message.specs.Sending.{stateOf, heldState, alarmTold, alarmMessage, aggregatedTold, aggregatedMessage, knownValue, statusValue, heldValue, statusTold, entryMessage};
 use alarm::Alarm;
 use entry::Entry;
 use entry::flags;
 use identity::Identity;
-use site::Site;
-use site::parts;
 use status::Status;
 use table_item::Item;
 use write_message::AlarmState;
@@ -88,28 +90,31 @@ fn held_value(e: Entry) -> Value
     Value::Unknown
 }
 
+// What follows that takes no words says it of every site with this table.
 fn tell_alarm(
     out: &mut [u8],
     at: usize,
-    s: Site,
+    t: &[u8],
     id: Identity,
     row: Item,
     state: AlarmState,
 ) -> usize
-    ensures { λ r. ⌜ Wrote (now (out .entry)) at (pieces (alarmTold s (id .bytes) row state)) (now (out .exit)) r ⌝ }
+    requires { ⌜ length (now t) ≡ 4752 ⌝ }
+    ensures { λ r. ⌜ ((s : Site) → s .table ≡ tableOf (now (t .entry)) → Wrote (now (out .entry)) at (pieces (alarmTold s (id .bytes) row state)) (now (out .exit)) r) ⌝ }
 {
-    let component = parts::component(s, row.component as usize);
+    let component = store_table::component(t, row.component as usize);
     let code = row.code;
     write_report::alarms::alarm(out, at, id, component, code, state)
 }
 
 // Alarm k as it is.
-pub fn write_alarm(out: &mut [u8], at: usize, s: Site, id: Identity, k: usize) -> usize
-    ensures { λ r. ⌜ Wrote (now (out .entry)) at (pieces (alarmMessage s (id .bytes) k)) (now (out .exit)) r ⌝ }
+pub fn write_alarm(out: &mut [u8], at: usize, w: &[u64], t: &[u8], id: Identity, k: usize) -> usize
+    requires { ⌜ (length (now w) ≡ 1173) × (length (now t) ≡ 4752) ⌝ }
+    ensures { λ r. ⌜ Wrote (now (out .entry)) at (pieces (alarmMessage (siteOf (now (w .entry)) (tableOf (now (t .entry)))) (id .bytes) k)) (now (out .exit)) r ⌝ }
 {
-    let row = parts::alarm_row(s, k);
-    let state = state_of(parts::alarm(s, k), row);
-    tell_alarm(out, at, s, id, row, state)
+    let row = store_table::alarm_row(t, k);
+    let state = state_of(store_site::items::alarm(w, k), row);
+    tell_alarm(out, at, t, id, row, state)
 }
 
 fn low_byte(value: u64) -> u8
@@ -118,62 +123,75 @@ fn low_byte(value: u64) -> u8
     bits::low(value, 8) as u8
 }
 
-fn tell_aggregated(out: &mut [u8], at: usize, s: Site, id: Identity, time: u64, value: u64) -> usize
-    ensures { λ r. ⌜ Wrote (now (out .entry)) at (pieces (aggregatedTold s (id .bytes) time value)) (now (out .exit)) r ⌝ }
+fn tell_aggregated(
+    out: &mut [u8],
+    at: usize,
+    t: &[u8],
+    id: Identity,
+    time: u64,
+    value: u64,
+) -> usize
+    requires { ⌜ length (now t) ≡ 4752 ⌝ }
+    ensures { λ r. ⌜ ((s : Site) → s .table ≡ tableOf (now (t .entry)) → Wrote (now (out .entry)) at (pieces (aggregatedTold s (id .bytes) time value)) (now (out .exit)) r) ⌝ }
 {
-    let component = parts::component(s, 0);
+    let component = store_table::component(t, 0);
     let byte = low_byte(value);
     write_report::aggregate::aggregated(out, at, id, component, time, byte)
 }
 
 // The aggregated status as it is, with the time of its last change.
-pub fn write_aggregated(out: &mut [u8], at: usize, s: Site, id: Identity) -> usize
-    ensures { λ r. ⌜ Wrote (now (out .entry)) at (pieces (aggregatedMessage s (id .bytes))) (now (out .exit)) r ⌝ }
+pub fn write_aggregated(out: &mut [u8], at: usize, w: &[u64], t: &[u8], id: Identity) -> usize
+    requires { ⌜ (length (now w) ≡ 1173) × (length (now t) ≡ 4752) ⌝ }
+    ensures { λ r. ⌜ Wrote (now (out .entry)) at (pieces (aggregatedMessage (siteOf (now (w .entry)) (tableOf (now (t .entry)))) (id .bytes))) (now (out .exit)) r ⌝ }
 {
-    let a = s.aggregated;
-    tell_aggregated(out, at, s, id, a.time, a.value)
+    let a = store_site::head::aggregated(w);
+    tell_aggregated(out, at, t, id, a.time, a.value)
 }
 
 fn tell_status(
     out: &mut [u8],
     at: usize,
-    s: Site,
+    t: &[u8],
     id: Identity,
     row: Item,
     time: u64,
     v: Value,
 ) -> usize
-    ensures { λ r. ⌜ Wrote (now (out .entry)) at (pieces (statusTold s (id .bytes) row time v)) (now (out .exit)) r ⌝ }
+    requires { ⌜ length (now t) ≡ 4752 ⌝ }
+    ensures { λ r. ⌜ ((s : Site) → s .table ≡ tableOf (now (t .entry)) → Wrote (now (out .entry)) at (pieces (statusTold s (id .bytes) row time v)) (now (out .exit)) r) ⌝ }
 {
-    let component = parts::component(s, row.component as usize);
+    let component = store_table::component(t, row.component as usize);
     let code = row.code;
     let name = row.name;
     write_report::status::update(out, at, id, component, time, code, name, v)
 }
 
-fn write_held_alarm(out: &mut [u8], at: usize, s: Site, id: Identity, e: Entry) -> usize
-    ensures { λ r. ⌜ Wrote (now (out .entry)) at (pieces (alarmTold s (id .bytes) (alarmRowAt s (e .item)) (heldState e (alarmRowAt s (e .item))))) (now (out .exit)) r ⌝ }
+fn write_held_alarm(out: &mut [u8], at: usize, t: &[u8], id: Identity, e: Entry) -> usize
+    requires { ⌜ length (now t) ≡ 4752 ⌝ }
+    ensures { λ r. ⌜ ((s : Site) → s .table ≡ tableOf (now (t .entry)) → Wrote (now (out .entry)) at (pieces (alarmTold s (id .bytes) (alarmRowAt s (e .item)) (heldState e (alarmRowAt s (e .item))))) (now (out .exit)) r) ⌝ }
 {
-    let row = parts::alarm_row(s, e.item as usize);
-    tell_alarm(out, at, s, id, row, held_state(e, row))
+    let row = store_table::alarm_row(t, e.item as usize);
+    tell_alarm(out, at, t, id, row, held_state(e, row))
 }
 
-fn write_held_status(out: &mut [u8], at: usize, s: Site, id: Identity, e: Entry) -> usize
-    ensures { λ r. ⌜ Wrote (now (out .entry)) at (pieces (statusTold s (id .bytes) (statusRowAt s (e .item)) (e .time) (heldValue e))) (now (out .exit)) r ⌝ }
+fn write_held_status(out: &mut [u8], at: usize, t: &[u8], id: Identity, e: Entry) -> usize
+    requires { ⌜ length (now t) ≡ 4752 ⌝ }
+    ensures { λ r. ⌜ ((s : Site) → s .table ≡ tableOf (now (t .entry)) → Wrote (now (out .entry)) at (pieces (statusTold s (id .bytes) (statusRowAt s (e .item)) (e .time) (heldValue e))) (now (out .exit)) r) ⌝ }
 {
-    let row = parts::status_row(s, e.item as usize);
-    tell_status(out, at, s, id, row, e.time, held_value(e))
+    let row = store_table::status_row(t, e.item as usize);
+    tell_status(out, at, t, id, row, e.time, held_value(e))
 }
 
 // A held record.
-pub fn write_entry(out: &mut [u8], at: usize, s: Site, id: Identity, e: Entry) -> usize
-    ensures { λ r. ⌜ Wrote (now (out .entry)) at (pieces (entryMessage s (id .bytes) e)) (now (out .exit)) r ⌝ }
+pub fn write_entry(out: &mut [u8], at: usize, t: &[u8], id: Identity, e: Entry) -> usize
+    requires { ⌜ length (now t) ≡ 4752 ⌝ }
+    ensures { λ r. ⌜ ((s : Site) → s .table ≡ tableOf (now (t .entry)) → Wrote (now (out .entry)) at (pieces (entryMessage s (id .bytes) e)) (now (out .exit)) r) ⌝ }
 {
     if e.kind == entry::ALARM {
-        return write_held_alarm(out, at, s, id, e);
+        return write_held_alarm(out, at, t, id, e);
     }
     if e.kind == entry::STATUS {
-        return write_held_status(out, at, s, id, e);
+        return write_held_status(out, at, t, id, e);
     }
-    tell_aggregated(out, at, s, id, e.time, e.value as u64)
+    tell_aggregated(out, at, t, id, e.time, e.value as u64)
 }

@@ -1,24 +1,17 @@
-// The site: its state by value, and what every call shares.
+// The site as definitions speak of it: its words and its table stand for one (store_site, store_table). No function takes or gives one.
 ghost use mathlib.Core.Path.{_≡_};
-ghost use Rattle.site.specs.Site.{badTimeAt, noLinkAt, roleOf, linkAt, withLink, isDown, downAt, closeAt, maskOf};
-ghost use Rattle.site.specs.Call.{refused as refusedOf, concluded, nothingOf};
+ghost use Rattle.site.specs.Site.{isDown, maskOf};
+ghost use Rattle.site.specs.Call.{nothingOf};
 use aggregated::Aggregated;
 use alarm::Alarm;
 use answer::Answer;
-use answer::Refusal;
 use answer::Report;
 use link::Link;
 use link::Phase;
-use link::Role;
 use pool::Pool;
-use pool_batch::Batch;
 use status::Status;
 use subscription::Subscription;
 use table_whole::SiteTable;
-
-mod lists; // lists.rt: one element of a list
-pub mod parts; // parts.rt: one element of a list of the site, read and replaced
-pub mod records; // records.rt: the record of a status for a link
 
 // The subscription of link l to status k stands at l * 32 + k. There is no primary where primary is 65535.
 #[repr(C)]
@@ -58,34 +51,6 @@ pub fn nothing() -> Report
     }
 }
 
-// The site as it was.
-pub fn refused(s: Site, why: Refusal) -> Step
-    ensures { λ r. ⌜ r ≡ refusedOf s why ⌝ }
-{
-    Step {
-        site: s,
-        answer: Answer::Refused(why),
-    }
-}
-
-// The end of every call: its records are issued and its time kept, or nothing is done.
-pub fn conclude(s: Site, after: Site, b: Batch, time: u64, report: Report) -> Step
-    ensures { λ r. ⌜ r ≡ concluded s after b time report ⌝ }
-{
-    if b.spent {
-        return refused(s, Refusal::SequenceSpent);
-    }
-    let mut t = after;
-    let pool = b.pool;
-    t.pool = pool;
-    t.next = b.next;
-    t.last = time;
-    Step {
-        site: t,
-        answer: Answer::Done(report),
-    }
-}
-
 pub fn is_down(p: Phase) -> bool
     ensures { λ r. ⌜ r ≡ isDown p ⌝ }
 {
@@ -114,71 +79,4 @@ pub fn bit_of(l: u16) -> u16
         return 8;
     }
     0
-}
-
-impl Site {
-    // Number 2.
-    pub fn no_link(self, link: u32) -> bool
-        ensures { λ r. ⌜ r ≡ noLinkAt self link ⌝ }
-    {
-        if link < 4 {
-            return (self.linkcount as u32) <= link;
-        }
-        true
-    }
-
-    // Number 5.
-    pub fn bad_time(self, time: u64) -> bool
-        ensures { λ r. ⌜ r ≡ badTimeAt self time ⌝ }
-    {
-        if time < self.last {
-            return true;
-        }
-        answer::LAST_TIME < time
-    }
-
-    pub fn role(self, l: u16) -> Role
-        ensures { λ r. ⌜ r ≡ roleOf self l ⌝ }
-    {
-        if l == self.primary {
-            return Role::Primary;
-        }
-        Role::Secondary
-    }
-
-    // A link; Down where there is none.
-    pub fn link(self, l: u16) -> Link
-        ensures { λ r. ⌜ r ≡ linkAt self l ⌝ }
-    {
-        let links = self.links;
-        lists::link_in(links, l as usize)
-    }
-
-    pub fn with_link(self, l: u16, k: Link) -> Site
-        ensures { λ r. ⌜ r ≡ withLink self l k ⌝ }
-    {
-        let links = self.links;
-        let changed = lists::put_link(links, l as usize, k);
-        let mut s = self;
-        s.links = changed;
-        s
-    }
-
-    pub fn down(self, l: u16) -> bool
-        ensures { λ r. ⌜ r ≡ downAt self l ⌝ }
-    {
-        let k = self.link(l);
-        is_down(k.phase())
-    }
-
-    // The link is Down, nothing is awaited on it, and no record of it is marked sent.
-    pub fn close(self, l: u16) -> Site
-        ensures { λ r. ⌜ r ≡ closeAt self l ⌝ }
-    {
-        let mut s = self.with_link(l, Link::closed());
-        let before = self.pool;
-        let after = before.unmark(l);
-        s.pool = after;
-        s
-    }
 }

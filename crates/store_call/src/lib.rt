@@ -1,98 +1,66 @@
-// Connect and disconnect, in place.
+// What the calls in place share: their records issued one by one, a link closed.
 ghost use mathlib.Core.Path.{_≡_};
+ghost use mathlib.Core.List.{List, [], _∷_};
 ghost use Prim.Native.Nat.{_<_};
 ghost use lib.ListN.{length};
+ghost use Rattle.entry.specs.declared.Entry.{Entry};
+ghost use Rattle.pool_batch.specs.Batch.{under};
+ghost use Rattle.table_whole.specs.declared.SiteTable.{SiteTable};
 ghost use Rattle.site.specs.declared.Site.{Site};
-ghost use Rattle.site.specs.Site.{linkAt, withLink, closeAt};
-ghost use Rattle.link.specs.Steps.{connectOf};
-ghost use Rattle.call_link.specs.Connect.{connectStep, disconnectStep};
-ghost use Rattle.store_site.specs.Layout.{withLast};
+ghost use Rattle.site.specs.Site.{closeAt};
+ghost use Rattle.store_site.specs.Layout.{siteOf};
 ghost use Rattle.store_site.specs.Turns.{Turns};
-ghost use Rattle.store_call.specs.Called.{Called, Exported};
-use answer::Answer;
-use answer::Refusal;
-use answer::Report;
+ghost use Rattle.store_call.specs.Issued.{batchIn, issuedIn};
+use entry::Entry;
 use link::Link;
 
-// The link is connected and the time kept.
-fn joined(w: &mut [u64], l: usize, time: u64)
-    requires { ⌜ (length (now w) ≡ 1173) × (l < 4) ⌝ }
-    ensures { λ _. ⌜ Turns (λ (s : Site). withLast (withLink s l (connectOf (linkAt s l))) time) (now (w .entry)) (now (w .exit)) ⌝ }
-{
-    let k = store_site::parts::link(w, l);
-    store_site::parts::put_link(w, l, k.connect());
-    store_site::parts::put_last(w, time);
-}
+pub mod records; // records.rt: the record of a status, the record of an alarm's change
 
-pub fn connect(w: &mut [u64], link: u32, time: u64) -> Answer
+// Number 10: whether one of so many records takes a number past 4294967295.
+pub fn spent(w: &[u64], n: u64) -> bool
     requires { ⌜ length (now w) ≡ 1173 ⌝ }
-    ensures { λ r. ⌜ Called (λ (s : Site). connectStep s link time) (now (w .entry)) (now (w .exit)) r ⌝ }
+    ensures { λ r. ⌜ ((t : SiteTable) (es : List Entry) → length es ≡ n → r ≡ batchIn (siteOf (now (w .entry)) t) es .spent) ⌝ }
 {
-    if store_site::head::no_link(w, link) {
-        return Answer::Refused(Refusal::NoSuchLink);
+    if n == 0 {
+        return false;
     }
-    if store_site::head::bad_time(w, time) {
-        return Answer::Refused(Refusal::BadTime);
+    let next = store_site::parts::next(w);
+    if 4294967296 < next {
+        return true;
     }
-    let l = link as usize;
-    if store_site::phases::down(w, l) {
-        joined(w, l, time);
-        return Answer::Done(site::nothing());
-    }
-    Answer::Refused(Refusal::WrongPhase)
+    4294967296 - next < n
 }
 
-// The link is closed and the time kept.
-fn left(w: &mut [u64], l: usize, time: u64)
-    requires { ⌜ (length (now w) ≡ 1173) × (l < 4) ⌝ }
-    ensures { λ _. ⌜ Turns (λ (s : Site). withLast (closeAt s l) time) (now (w .entry)) (now (w .exit)) ⌝ }
+// The record under a number, of which 32 bits are kept.
+fn numbered(e: Entry, next: u64) -> Entry
+    ensures { λ r. ⌜ r ≡ under e next ⌝ }
 {
-    store_site::parts::put_link(w, l, Link::closed());
-    store_pool::change::unmark(w, l as u16);
-    store_site::parts::put_last(w, time);
+    Entry {
+        time: e.time,
+        value: e.value,
+        sequence: (next % 4294967296) as u32,
+        link: e.link,
+        kind: e.kind,
+        item: e.item,
+        flags: e.flags,
+    }
 }
 
-pub fn disconnect(w: &mut [u64], link: u32, time: u64) -> Answer
+// A record is issued under the next number, whatever number it has.
+pub fn add(w: &mut [u64], e: Entry)
     requires { ⌜ length (now w) ≡ 1173 ⌝ }
-    ensures { λ r. ⌜ Called (λ (s : Site). disconnectStep s link time) (now (w .entry)) (now (w .exit)) r ⌝ }
+    ensures { λ _. ⌜ Turns (λ (s : Site). issuedIn s (e ∷ [])) (now (w .entry)) (now (w .exit)) ⌝ }
 {
-    if store_site::head::no_link(w, link) {
-        return Answer::Refused(Refusal::NoSuchLink);
-    }
-    if store_site::head::bad_time(w, time) {
-        return Answer::Refused(Refusal::BadTime);
-    }
-    let l = link as usize;
-    if store_site::phases::down(w, l) {
-        return Answer::Refused(Refusal::WrongPhase);
-    }
-    left(w, l, time);
-    let report = Report {
-        hint: 0,
-        written: 0,
-        closed: site::bit_of(link as u16),
-        hinted: 0,
-    };
-    Answer::Done(report)
+    let next = store_site::parts::next(w);
+    store_pool::issue::issue(w, numbered(e, next));
+    store_site::parts::put_next(w, store_pool::issue::more(next));
 }
 
-// What C calls: no precondition. The numbers of a call; 14 where the words are not those of a site, and nothing is changed.
-#[no_mangle]
-pub extern "C" fn store_connect(w: &mut [u64], link: u32, time: u64) -> u32
-    ensures { λ r. ⌜ Exported (λ (s : Site). connectStep s link time) (now (w .entry)) (now (w .exit)) r ⌝ }
+// The link is Down, nothing is awaited on it, and no record of it is marked sent.
+pub fn close(w: &mut [u64], l: u16)
+    requires { ⌜ (length (now w) ≡ 1173) × (l < 4) ⌝ }
+    ensures { λ _. ⌜ Turns (λ (s : Site). closeAt s l) (now (w .entry)) (now (w .exit)) ⌝ }
 {
-    if w.len() != 1173 {
-        return 14;
-    }
-    answer::number_of(connect(w, link, time))
-}
-
-#[no_mangle]
-pub extern "C" fn store_disconnect(w: &mut [u64], link: u32, time: u64) -> u32
-    ensures { λ r. ⌜ Exported (λ (s : Site). disconnectStep s link time) (now (w .entry)) (now (w .exit)) r ⌝ }
-{
-    if w.len() != 1173 {
-        return 14;
-    }
-    answer::number_of(disconnect(w, link, time))
+    store_site::parts::put_link(w, l as usize, Link::closed());
+    store_pool::change::unmark(w, l);
 }

@@ -170,7 +170,7 @@ pool-turns f ws vs s =
     }
 
 -- what stands behind the part that was changed
-part-rest : {A : Type 0} (f : A → A) (i j : ℕ) (p : List A) (d : A) → i ≤ j → getD (part f i p) j d ≡ getD p j d
+pub part-rest : {A : Type 0} (f : A → A) (i j : ℕ) (p : List A) (d : A) → i ≤ j → getD (part f i p) j d ≡ getD p j d
 unfolding part
 part-rest f zero j p d h = refl
 part-rest f (suc i) j [] d h = refl

@@ -66,7 +66,7 @@ fn room(w: &[u64], who: Loser) -> usize
 }
 
 // One more; a count that cannot grow stays.
-fn more(k: u64) -> u64
+pub fn more(k: u64) -> u64
     ensures { λ r. ⌜ r ≡ moreOf k ⌝ }
 {
     if k < 18446744073709551615 { k + 1 } else { k }

@@ -1,6 +1,6 @@
 -- A store in one part of the site leaves the others, and one element of a part is replaced.
 -- Assumes nothing.
-use mathlib.Core.Path.{_≡_, sym, ap, _∙_}
+use mathlib.Core.Path.{_≡_, refl, sym, ap, _∙_}
 use mathlib.Core.Logic.{_⊎_, inl, inr}
 use Rattle.basis.proofs.Cases.{eq-or-ne, lt-or-ge}
 use Prim.Native.Nat.{ℕ, _+_, _*_, _<_, _≤_}
@@ -270,6 +270,11 @@ last-turns ws n h =
           );
       plain = plain-before (stored ws 1 n [] (omega arith)) (omega arith);
     }
+
+-- the table is the one given
+pub table-of : (ws : List ℕ) (t : SiteTable) → siteOf ws t .table ≡ t
+unfolding siteOf
+table-of ws t = refl
 
 pub places-length : (ws : List ℕ) → length (placesIn ws) ≡ 128
 unfolding placesIn

@@ -3,7 +3,7 @@ ghost use mathlib.Core.Path.{_≡_};
 ghost use Prim.Native.Nat.{_<_};
 ghost use lib.ListN.{length};
 ghost use Rattle.basis.specs.Pick.{both};
-ghost use Rattle.link.specs.Phase.{phaseOf};
+ghost use Rattle.link.specs.Phase.{phaseOf, isUp};
 ghost use Rattle.table_whole.specs.declared.SiteTable.{SiteTable};
 ghost use Rattle.site.specs.Site.{linkAt, downAt};
 ghost use Rattle.store_words.specs.Words.{flag};
@@ -43,6 +43,19 @@ pub fn down(w: &[u64], l: usize) -> bool
     ensures { λ r. ⌜ ((t : SiteTable) → r ≡ downAt (siteOf (now (w .entry)) t) l) ⌝ }
 {
     site::is_down(phase(w, l))
+}
+
+pub fn up(w: &[u64], l: usize) -> bool
+    requires { ⌜ (length (now w) ≡ 1173) × (l < 4) ⌝ }
+    ensures { λ r. ⌜ ((t : SiteTable) → r ≡ isUp (phaseOf (linkAt (siteOf (now (w .entry)) t) l))) ⌝ }
+{
+    let p = phase(w, l);
+    match p {
+        Phase::Down => false,
+        Phase::Greeting => false,
+        Phase::Beating => false,
+        Phase::Up => true,
+    }
 }
 
 // The time of the last Watchdog.

@@ -13,27 +13,20 @@ use Rattle.bits.specs.Fields.{fieldOf, joined, split}
 use Rattle.bits.specs.Fields.Within.{none as none·field, next as next·field}
 use Rattle.bits.proofs.Fields.{split-joined}
 use Rattle.pool.specs.declared.Place.{Place}
-use Rattle.pool.specs.declared.Pool.{Pool}
 use Rattle.link.specs.declared.Link.{Link}
-use Rattle.subscription.specs.declared.Subscription.{Subscription}
-use Rattle.alarm.specs.declared.Alarm.{Alarm}
-use Rattle.status.specs.declared.Status.{Status}
 use Rattle.aggregated.specs.declared.Aggregated.{Aggregated}
-use Rattle.table_whole.specs.declared.SiteTable.{SiteTable}
 use Rattle.site.specs.declared.Site.{Site}
 use Rattle.site.specs.Site.{withPool, withLinks, withSubscriptions, withAlarms, withStatuses}
 use Rattle.store_words.specs.Words.{word, elements, Put}
 use Rattle.store_words.specs.Narrow.{upper}
 use Rattle.store_words.proofs.Elements.{list-length}
-use Rattle.store_words.proofs.Stores.{stored, first, next, wider, below, above}
+use Rattle.store_words.proofs.Stores.{stored, first, next, below, above}
 use Rattle.store_link.specs.Rows.{linkIn, PlainAt, PutLink}
 use Rattle.store_site.specs.Rows.{placeIn, subscriptionIn, alarmIn, statusIn}
-use Rattle.store_site.specs.Layout.{lostIn, placesIn, poolIn, linksIn, subscriptionsIn, alarmsIn, statusesIn, siteOf}
+use Rattle.store_site.specs.Layout.{lostIn, placesIn, linksIn, subscriptionsIn, alarmsIn, statusesIn, siteOf}
 use Rattle.store_site.specs.Turns.{Turns}
 use Rattle.store_site.proofs.SiteLaws.{places-length, places-put, places-same, lost-same, links-same, subscriptions-same, alarms-same, statuses-same, only-pool, plain-before}
-use Rattle.store_image.specs.Image.{wordsOf, Wide}
-use Rattle.store_image.proofs.Back.{words-back}
-use Rattle.store_whole.specs.Filled.{withPlaces, withLost, withHead, PutLinks}
+use Rattle.store_whole.specs.Filled.{withPlaces, withLost, withHead}
 use Rattle.store_whole.proofs.FillLaws.{Part}
 
 pub links-length : (ws : List ℕ) → length (linksIn ws) ≡ 4
@@ -113,32 +106,6 @@ lost-turns ws a b c d h =
       plain = plain-before s (omega arith);
     }
 
-pub lost-is : (ws : List ℕ) → word ws 5 ∷ word ws 6 ∷ word ws 7 ∷ word ws 8 ∷ [] ≡ lostIn ws
-unfolding lostIn elements
-lost-is ws = refl
-
--- a site of its parts
-module _ (ws : List ℕ) (t : SiteTable) {places : List Place} {lost : List ℕ} {links : List Link} {subscriptions : List Subscription} {alarms : List Alarm} {statuses : List Status}
-    {aggregated : Aggregated} {a b c d e : ℕ} where
-  pub site-is : places ≡ placesIn ws → lost ≡ lostIn ws → links ≡ linksIn ws → subscriptions ≡ subscriptionsIn ws → alarms ≡ alarmsIn ws → statuses ≡ statusesIn ws
-      → aggregated ≡ siteOf ws t .aggregated → a ≡ siteOf ws t .next → b ≡ siteOf ws t .last → c ≡ siteOf ws t .period → d ≡ siteOf ws t .linkcount → e ≡ siteOf ws t .primary
-      → _≡_ {A = Site} (record {
-        pool = record { places = places; lost = lost };
-        links = links;
-        subscriptions = subscriptions;
-        alarms = alarms;
-        statuses = statuses;
-        aggregated = aggregated;
-        next = a;
-        last = b;
-        period = c;
-        linkcount = d;
-        primary = e;
-        table = t;
-      }) (siteOf ws t)
-  unfolding siteOf
-  site-is p1 p2 p3 p4 p5 p6 p7 p8 p9 p10 p11 p12 = rw (p1, p2, p3, p4, p5, p6, p7, p8, p9, p10, p11, p12)
-
 pub four-of : (l : List ℕ) → length l ≡ 4 → getD l 0 0 ∷ getD l 1 0 ∷ getD l 2 0 ∷ getD l 3 0 ∷ [] ≡ l
 four-of l e = ext-getD 0 (getD l 0 0 ∷ getD l 1 0 ∷ getD l 2 0 ∷ getD l 3 0 ∷ []) l (sym e) by
   where
@@ -196,38 +163,3 @@ module _ (ws : List ℕ) (a b c d e : ℕ) (x : Aggregated) {n : ℕ} (h : lengt
             );
         plain = plain-before s (omega arith);
       }
-
--- every part stored, one behind the other
-module _ (s : Site) (ws v1 v2 v3 v4 v5 v6 vs : List ℕ)
-    (h1 : Turns (λ (y : Site). withHead y (s .next) (s .last) (s .period) (s .linkcount) (s .primary) (s .aggregated)) ws v1)
-    (h2 : Turns (λ (y : Site). withLost y (s .pool .lost)) v1 v2)
-    (h3 : Turns (λ (y : Site). withPlaces y (s .pool .places)) v2 v3)
-    (h4 : Turns (λ (y : Site). withSubscriptions y (s .subscriptions)) v3 v4)
-    (h5 : Turns (λ (y : Site). withAlarms y (s .alarms)) v4 v5)
-    (h6 : Turns (λ (y : Site). withStatuses y (s .statuses)) v5 v6)
-    (h7 : PutLinks v6 vs (s .links)) where
-  abbrev headed : Site → Site
-  headed y = withHead y (s .next) (s .last) (s .period) (s .linkcount) (s .primary) (s .aggregated)
-
-  last-of : siteOf ws (s .table) .table ≡ s .table
-  unfolding siteOf
-  last-of = refl
-
-  all-put : siteOf vs (s .table) ≡ s
-  all-put =
-      h7 .site (s .table)
-      ∙ ap (λ (y : Site). withLinks y (s .links))
-      (h6 .site (s .table)
-      ∙ ap (λ (y : Site). withStatuses y (s .statuses))
-      (h5 .site (s .table)
-      ∙ ap (λ (y : Site). withAlarms y (s .alarms))
-      (h4 .site (s .table)
-      ∙ ap (λ (y : Site). withSubscriptions y (s .subscriptions))
-      (h3 .site (s .table)
-      ∙ ap (λ (y : Site). withPlaces y (s .pool .places))
-      (h2 .site (s .table)
-      ∙ ap (λ (y : Site). withLost y (s .pool .lost)) (h1 .site (s .table)))))))
-      ∙ rw last-of refl
-
-  pub whole-put : length vs ≡ 1173 → Wide vs → vs ≡ wordsOf s
-  whole-put e w = sym (words-back vs w (s .table) e (h7 .plain)) ∙ ap wordsOf all-put

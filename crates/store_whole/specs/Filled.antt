@@ -1,9 +1,8 @@
 -- The site with all of one part of it replaced.
 -- Assumes nothing.
-use Prim.Native.Nat.{ℕ, _+_, _*_, _<_}
+use Prim.Native.Nat.{ℕ}
 use mathlib.Core.Path.{_≡_}
 use mathlib.Core.List.{List}
-use Rattle.pool.specs.declared.Pool.{Pool}
 use Rattle.pool.specs.declared.Place.{Place}
 use Rattle.link.specs.declared.Link.{Link}
 use Rattle.aggregated.specs.declared.Aggregated.{Aggregated}

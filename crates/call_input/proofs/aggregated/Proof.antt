@@ -1,6 +1,9 @@
 -- `call_input::aggregated` meets its contract.
 -- Assumes nothing.
 use mathlib.Core.Path.{sym, _∙_}
+use Rattle.answer.specs.declared.Refusal.the-variants.{BadTime}
+use Rattle.store_site.specs.Layout.{siteOf}
+use Rattle.store_call.proofs.CallLaws.{steps-refused, steps-as}
 use Rattle.call_input.specs.Inputs.{aggregatedPlan}
 use Rattle.call_input.proofs.Ends.{late, on-time}
 use borrow.Author.Needs.{needs}
@@ -10,22 +13,30 @@ use Rattle.call_input.proofs.aggregated.Tie as tie
 bad-time-requires : tie.Need-bad-time-requires
 bad-time-requires c κs = search needs
 
-refused-requires : tie.Need-refused-requires
-refused-requires c κs = search needs
+same-length : tie.Need-same-length
+same-length c = search needs
 
 returns : tie.Need-returns
 returns c =
-    let a = c .before .before .before .args in
-    c .refused .ensures ∙ late (a .s) (a .time) (aggregatedPlan (a .s) (a .value) (a .time)) (sym (c .before .before .bad-time .ensures) ∙ c .before .if1 .taken)
+    let a = c .before .before .before .before .args in
+    λ t.
+    let s = siteOf (a .w .now) t in
+    steps-refused t (a .w .now) BadTime (late s (a .time) (aggregatedPlan s (a .value) (a .time)) (sym (c .before .bad-time .ensures t) ∙ c .if1 .taken))
 
 aggregated-requires : tie.Need-aggregated-requires
 aggregated-requires c κs = search needs
 
+same-length-2 : tie.Need-same-length-2
+same-length-2 c = search needs
+
 returns-2 : tie.Need-returns-2
 returns-2 c =
-    let a = c .before .before .before .args in
-    c .aggregated .ensures ∙ on-time (a .s) (a .time) (aggregatedPlan (a .s) (a .value) (a .time)) (sym (c .before .before .bad-time .ensures) ∙ c .before .if1 .left)
+    let a = c .before .before .before .before .before .before .before .before .args in
+    λ t.
+    let s = siteOf (a .w .now) t in
+    steps-as t (a .w .now) (c .before .before .aggregated .ensures t) (on-time s (a .time) (aggregatedPlan s (a .value) (a .time)) (sym (c .before .before .before .before .before .bad-time .ensures t) ∙ c .before .before .before .before .if1 .left))
 
 pub aggregated-spec : {M : Type 1} → statement M
 aggregated-spec =
-    tie.close (tie.spec bad-time-requires refused-requires returns aggregated-requires returns-2)
+    tie.close
+    (tie.spec bad-time-requires same-length returns aggregated-requires same-length-2 returns-2)

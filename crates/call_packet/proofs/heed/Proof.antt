@@ -1,59 +1,52 @@
-use Rattle.call_packet.specs.Packet.{ignoredBy, headTaken}
-use Rattle.site.specs.Site.{linkAt}
-use Rattle.call_packet.proofs.Laws.{is-ignored, is-heeded}
+-- `call_packet::heed` meets its contract.
+-- Assumes nothing.
 use mathlib.Core.Path.{sym, _∙_}
+use Rattle.store_table.specs.Layout.{tableOf}
+use Rattle.store_site.specs.Layout.{siteOf}
+use Rattle.site.specs.Site.{linkAt}
+use Rattle.call_packet.specs.Packet.{ignoredBy, headTaken}
+use Rattle.call_packet.proofs.Laws.{is-ignored, is-heeded}
 use borrow.Author.Needs.{needs}
 use Rattle.call_packet.proofs.heed.Statement.{statement}
 use Rattle.call_packet.proofs.heed.Tie as tie
-use Rattle.call_packet.proofs.heed.Reads as reads
-use Rattle.call_packet.proofs.heed.Lts as lts
-use Rattle.call_packet.proofs.by_class.Reads as by-class-reads
-use Rattle.call_packet.proofs.ignored.Reads as ignored-reads
-use Rattle.site.proofs.Site.link.Reads as link-reads
-use Rattle.site.proofs.refused.Reads as refused-reads
 
--- src/lib.rt:249:9
-link-requires : tie.Need-link-requires
-link-requires c κs = search needs
-
--- src/lib.rt:250:8
 ignored-requires : tie.Need-ignored-requires
 ignored-requires c κs = search needs
 
--- src/lib.rt:251:9
-refused-requires : tie.Need-refused-requires
-refused-requires c κs = search needs
-
--- src/lib.rt:251:9
-returns : tie.Need-returns
-returns c =
-    let a = c .before .before .before .before .before .before .before .before .args in
-    let i = rw (c .before .before .before .link .ensures) at (c .before .before .ignored .ensures) in
-    is-ignored (a .s) (a .l) (a .time) (a .id) (headTaken (a .s) (a .l) (a .time) (a .id) (a .p .now) (a .h)) (ignoredBy (linkAt (a .s) (a .l)) (a .h .identity) (a .h .class)) (sym i ∙ c .before .if1 .taken) (c .refused .ensures)
-
--- src/lib.rt:253:5
-by-class-requires : tie.Need-by-class-requires
-by-class-requires c κs = search needs
-
--- src/lib.rt:235:1
 same-length : tie.Need-same-length
 same-length c = search needs
 
--- src/lib.rt:235:1
+returns : tie.Need-returns
+returns c =
+    let a = c .before .before .before .before .before .before .before .before .before .args in
+    let t = tableOf (a .t .now) in
+    let s = siteOf (a .w .now) t in
+    is-ignored t (a .w .now) (a .l) (a .time) (a .id) (headTaken s (a .l) (a .time) (a .id) (a .p .now) (a .h)) (ignoredBy (linkAt s (a .l)) (a .h .identity) (a .h .class)) (sym (c .before .ignored .ensures t) ∙ c .if1 .taken)
+
+by-class-requires : tie.Need-by-class-requires
+by-class-requires c κs = search needs
+
+same-length-2 : tie.Need-same-length-2
+same-length-2 c = search needs
+
+same-length-3 : tie.Need-same-length-3
+same-length-3 c = search needs
+
 returns-2 : tie.Need-returns-2
 returns-2 c =
-    let a = c .before .before .before .before .before .before .before .before .before .before .before .args in
-    let i = rw (c .before .before .before .before .before .before .link .ensures) at (c .before .before .before .before .before .ignored .ensures) in
-    is-heeded (a .s) (a .l) (a .time) (a .id) (headTaken (a .s) (a .l) (a .time) (a .id) (a .p .now) (a .h)) (ignoredBy (linkAt (a .s) (a .l)) (a .h .identity) (a .h .class)) (sym i ∙ c .before .before .before .before .if1 .left) (c .before .before .by-class .ensures)
+    let a = c .before .before .before .before .before .before .before .before .before .before .before .before .before .before .before .before .args in
+    let t = tableOf (a .t .now) in
+    let s = siteOf (a .w .now) t in
+    is-heeded t (a .w .now) (a .l) (a .time) (a .id) (headTaken s (a .l) (a .time) (a .id) (a .p .now) (a .h)) (ignoredBy (linkAt s (a .l)) (a .h .identity) (a .h .class)) (sym (c .before .before .before .before .before .before .before .before .ignored .ensures t) ∙ c .before .before .before .before .before .before .before .if1 .left) (c .before .before .before .before .by-class .ensures)
 
 pub heed-spec : {M : Type 1} → statement M
 heed-spec =
     tie.close
     (tie.spec
-    link-requires
     ignored-requires
-    refused-requires
+    same-length
     returns
     by-class-requires
-    same-length
+    same-length-2
+    same-length-3
     returns-2)

@@ -1,13 +1,12 @@
-use Rattle.identity.specs.declared.Identity.{Identity}
+-- `call_packet::own_identity` meets its contract.
+-- Assumes nothing.
 use Prim.Native.Nat.{ℕ}
 use mathlib.Core.List.{List}
 use mathlib.Core.Path.{ap}
+use Rattle.identity.specs.declared.Identity.{Identity}
 use borrow.Author.Needs.{needs}
 use Rattle.call_packet.proofs.own_identity.Statement.{statement}
 use Rattle.call_packet.proofs.own_identity.Tie as tie
-use Rattle.call_packet.proofs.own_identity.Reads as reads
-use Rattle.call_packet.proofs.own_identity.Lts as lts
-use Rattle.identity.proofs.version4.Reads as version4-reads
 
 version4-requires : tie.Need-version4-requires
 version4-requires c κs = search needs

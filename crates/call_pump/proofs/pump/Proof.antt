@@ -1,56 +1,58 @@
-use Rattle.call_pump.proofs.Laws.{verdict-below, refused-gives, sent-gives}
-use Prim.Native.Nat.{_<_}
+-- `call_pump::pump` meets its contract.
+-- Assumes nothing.
 use lib.ListN.{length}
-use mathlib.Core.Path.{sym, _∙_}
+use Prim.Native.Nat.{_<_}
+use Rattle.call_pump.proofs.Laws.{verdict-below, refused-in, done-in}
+use Rattle.store_table.specs.Layout.{tableOf}
+use Rattle.store_site.specs.Layout.{siteOf}
 use borrow.Author.Needs.{needs}
 use Rattle.call_pump.proofs.pump.Statement.{statement}
 use Rattle.call_pump.proofs.pump.Tie as tie
-use Rattle.call_pump.proofs.pump.Reads as reads
-use Rattle.call_pump.proofs.pump.Lts as lts
-use Rattle.call_pump.proofs.checks.own_identity.Reads as own-identity-reads
-use Rattle.call_pump.proofs.checks.verdict.Reads as verdict-reads
-use Rattle.call_pump.proofs.send.due.Reads as due-reads
-use Rattle.site.proofs.refused.Reads as refused-reads
 
--- src/lib.rt:17:9
 own-identity-requires : tie.Need-own-identity-requires
 own-identity-requires c κs = search needs
 
--- src/lib.rt:18:11
 verdict-requires : tie.Need-verdict-requires
 verdict-requires c κs = search needs
 
--- src/lib.rt:19:25
 enum-known-why : tie.Need-enum-known-why
 enum-known-why c = search needs
 
--- src/lib.rt:19:33
-refused-requires : tie.Need-refused-requires
-refused-requires c κs = search needs
-
--- src/lib.rt:20:41
 enum-told : tie.Need-enum-told
 enum-told c = search needs
 
--- src/lib.rt:20:41
 cast-due : tie.Need-cast-due
-cast-due c = let a = c .before .before .before .before .before .args in let h : a .link < 4 = verdict-below (a .s) (a .link) (a .time) (c .before .before .before .own-identity .result) (length (a .out .now)) (sym (c .before .before .verdict .ensures) ∙ c .enum-told .given .1) in search needs
+cast-due c =
+    let a = c .before .before .before .before .before .before .before .before .before .args in
+    let x = tableOf (a .t .now) in
+    let h : a .link < 4 = verdict-below (siteOf (a .w .now) x) (a .link) (a .time) (c .before .before .before .before .before .own-identity .result) (length (a .out .now)) (c .before .before .before .verdict .ensures) (c .before .enum-told .given .1) in search needs
 
--- src/lib.rt:20:28
 due-requires : tie.Need-due-requires
-due-requires c κs = search needs
+due-requires c κs =
+    let a = c .before .before .before .before .before .before .before .before .before .before .args in
+    let x = tableOf (a .t .now) in
+    let h : a .link < 4 = verdict-below (siteOf (a .w .now) x) (a .link) (a .time) (c .before .before .before .before .before .before .own-identity .result) (length (a .out .now)) (c .before .before .before .before .verdict .ensures) (c .before .before .enum-told .given .1) in (search needs, (search needs, h))
 
--- src/lib.rt:14:1
-returns : tie.Need-returns
-returns c = rw (← c .before .before .before .before .before .own-identity .ensures) (let a = c .before .before .before .before .before .before .before .args in refused-gives (a .s) (a .link) (a .time) _ _ (sym (c .before .before .before .before .verdict .ensures) ∙ c .before .before .why .given .1) (c .refused .ensures))
-
--- src/lib.rt:14:1
 same-length : tie.Need-same-length
 same-length c = search needs
 
--- src/lib.rt:14:1
+returns : tie.Need-returns
+returns c =
+    let a = c .before .before .before .before .before .before .before .before .before .args in
+    let x = tableOf (a .t .now) in
+    rw (← c .before .before .before .before .before .own-identity .ensures) (refused-in x (a .w .now) (a .link) (a .time) (c .before .before .before .before .before .own-identity .result) (c .before .before .before .verdict .ensures) (c .before .why .given .1))
+
+same-length-2 : tie.Need-same-length-2
+same-length-2 c = search needs
+
+same-length-3 : tie.Need-same-length-3
+same-length-3 c = search needs
+
 returns-2 : tie.Need-returns-2
-returns-2 c = rw (← c .before .before .before .before .before .before .before .own-identity .ensures) (let a = c .before .before .before .before .before .before .before .before .before .args in sent-gives (a .s) (a .link) (a .time) _ (sym (c .before .before .before .before .before .before .verdict .ensures) ∙ c .before .before .before .before .enum-told .given .1) (c .before .before .due .ensures))
+returns-2 c =
+    let a = c .before .before .before .before .before .before .before .before .before .before .before .before .before .before .before .args in
+    let x = tableOf (a .t .now) in
+    rw (← c .before .before .before .before .before .before .before .before .before .before .before .own-identity .ensures) (done-in x (a .w .now) (a .link) (a .time) (c .before .before .before .before .before .before .before .before .before .before .before .own-identity .result) (c .before .before .before .before .before .before .before .before .before .verdict .ensures) (c .before .before .before .before .before .before .before .enum-told .given .1) (c .before .before .before .before .due .ensures))
 
 pub pump-spec : {M : Type 1} → statement M
 pump-spec =
@@ -59,10 +61,11 @@ pump-spec =
     own-identity-requires
     verdict-requires
     enum-known-why
-    refused-requires
     enum-told
     cast-due
     due-requires
-    returns
     same-length
+    returns
+    same-length-2
+    same-length-3
     returns-2)

@@ -1,30 +1,28 @@
+-- `call_read::held` meets its contract.
+-- Assumes nothing.
 use mathlib.Core.Path.{_≡_, refl, sym, _∙_}
 use mathlib.Core.Bool.{true, false}
 use native.Mathlib.Omega.{arith}
 use Rattle.site.specs.Site.{noLinkAt}
+use Rattle.store_site.specs.Layout.{siteOf}
+use Rattle.table_whole.specs.Memory.{noTable}
 use Rattle.site.proofs.Checks.{link-below}
 use borrow.Author.Needs.{needs}
 use Rattle.call_read.proofs.held.Statement.{statement}
 use Rattle.call_read.proofs.held.Tie as tie
-use Rattle.call_read.proofs.held.Reads as reads
-use Rattle.call_read.proofs.held.Lts as lts
-use Rattle.pool.proofs.Pool.held.Reads as held-reads
-use Rattle.site.proofs.Site.no_link.Reads as no-link-reads
 
 no-link-requires : tie.Need-no-link-requires
 no-link-requires c κs = search needs
 
 returns : tie.Need-returns
 returns c =
-    let a = c .before .before .args in
-    let e : noLinkAt (a .s) (a .link) ≡ true = sym (c .before .no-link .ensures) ∙ c .if1 .taken in
+    let a = c .before .before .before .args in
+    λ t.
+    let e : noLinkAt (siteOf (a .w .now) t) (a .link) ≡ true = sym (c .before .no-link .ensures t) ∙ c .if1 .taken in
     rw e refl
 
 cast-held : tie.Need-cast-held
-cast-held c =
-    let a = c .before .before .before .args in
-    let e : noLinkAt (a .s) (a .link) ≡ false = sym (c .before .before .no-link .ensures) ∙ c .before .if1 .left in
-    omega (arith, link-below (a .s) (a .link) e)
+cast-held c = omega (arith, link-below (siteOf (c .before .before .before .args .w .now) noTable) (c .before .before .before .args .link) (sym (c .before .no-link .ensures noTable) ∙ c .if1 .left))
 
 held-requires : tie.Need-held-requires
 held-requires c κs = search needs
@@ -32,8 +30,9 @@ held-requires c κs = search needs
 returns-2 : tie.Need-returns-2
 returns-2 c =
     let a = c .before .before .before .before .args in
-    let e : noLinkAt (a .s) (a .link) ≡ false = sym (c .before .before .before .no-link .ensures) ∙ c .before .before .if1 .left in
-    rw e (c .held .ensures)
+    λ t.
+    let e : noLinkAt (siteOf (a .w .now) t) (a .link) ≡ false = sym (c .before .before .no-link .ensures t) ∙ c .before .if1 .left in
+    rw e (c .held .ensures t)
 
 pub held-spec : {M : Type 1} → statement M
 held-spec = tie.close (tie.spec no-link-requires returns cast-held held-requires returns-2)

@@ -1,30 +1,28 @@
+-- `call_read::lost` meets its contract.
+-- Assumes nothing.
 use mathlib.Core.Path.{_≡_, refl, sym, _∙_}
 use mathlib.Core.Bool.{true, false}
 use native.Mathlib.Omega.{arith}
 use Rattle.site.specs.Site.{noLinkAt}
+use Rattle.store_site.specs.Layout.{siteOf}
+use Rattle.table_whole.specs.Memory.{noTable}
 use Rattle.site.proofs.Checks.{link-below}
 use borrow.Author.Needs.{needs}
 use Rattle.call_read.proofs.lost.Statement.{statement}
 use Rattle.call_read.proofs.lost.Tie as tie
-use Rattle.call_read.proofs.lost.Reads as reads
-use Rattle.call_read.proofs.lost.Lts as lts
-use Rattle.pool.proofs.Pool.lost.Reads as lost-reads
-use Rattle.site.proofs.Site.no_link.Reads as no-link-reads
 
 no-link-requires : tie.Need-no-link-requires
 no-link-requires c κs = search needs
 
 returns : tie.Need-returns
 returns c =
-    let a = c .before .before .args in
-    let e : noLinkAt (a .s) (a .link) ≡ true = sym (c .before .no-link .ensures) ∙ c .if1 .taken in
+    let a = c .before .before .before .args in
+    λ t.
+    let e : noLinkAt (siteOf (a .w .now) t) (a .link) ≡ true = sym (c .before .no-link .ensures t) ∙ c .if1 .taken in
     rw e refl
 
 cast-lost : tie.Need-cast-lost
-cast-lost c =
-    let a = c .before .before .before .args in
-    let e : noLinkAt (a .s) (a .link) ≡ false = sym (c .before .before .no-link .ensures) ∙ c .before .if1 .left in
-    omega (arith, link-below (a .s) (a .link) e)
+cast-lost c = omega (arith, link-below (siteOf (c .before .before .before .args .w .now) noTable) (c .before .before .before .args .link) (sym (c .before .no-link .ensures noTable) ∙ c .if1 .left))
 
 lost-requires : tie.Need-lost-requires
 lost-requires c κs = search needs
@@ -32,8 +30,9 @@ lost-requires c κs = search needs
 returns-2 : tie.Need-returns-2
 returns-2 c =
     let a = c .before .before .before .before .args in
-    let e : noLinkAt (a .s) (a .link) ≡ false = sym (c .before .before .before .no-link .ensures) ∙ c .before .before .if1 .left in
-    rw e (c .lost .ensures)
+    λ t.
+    let e : noLinkAt (siteOf (a .w .now) t) (a .link) ≡ false = sym (c .before .before .no-link .ensures t) ∙ c .before .if1 .left in
+    rw e (c .lost .ensures t)
 
 pub lost-spec : {M : Type 1} → statement M
 lost-spec = tie.close (tie.spec no-link-requires returns cast-lost lost-requires returns-2)

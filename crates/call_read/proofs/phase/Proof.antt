@@ -1,38 +1,28 @@
-use mathlib.Core.Path.{_≡_, refl, sym, _∙_}
+-- `call_read::phase` meets its contract.
+-- Assumes nothing.
+use mathlib.Core.Path.{_≡_, refl, sym, ap, _∙_}
 use mathlib.Core.Bool.{true, false}
-use native.Mathlib.Omega.{arith}
 use Rattle.site.specs.Site.{noLinkAt}
+use Rattle.store_site.specs.Layout.{siteOf}
+use Rattle.table_whole.specs.Memory.{noTable}
 use Rattle.site.proofs.Checks.{link-below}
+use Rattle.call_read.specs.Readings.{phaseNumber}
 use borrow.Author.Needs.{needs}
 use Rattle.call_read.proofs.phase.Statement.{statement}
 use Rattle.call_read.proofs.phase.Tie as tie
-use Rattle.call_read.proofs.phase.Reads as reads
-use Rattle.call_read.proofs.phase.Lts as lts
-use Rattle.link.proofs.Link.phase.Reads as phase-reads
-use Rattle.site.proofs.Site.link.Reads as link-reads
-use Rattle.site.proofs.Site.no_link.Reads as no-link-reads
-use Rattle.call_read.proofs.phase_number.Reads as phase-number-reads
 
 no-link-requires : tie.Need-no-link-requires
 no-link-requires c κs = search needs
 
 returns : tie.Need-returns
 returns c =
-    let a = c .before .before .args in
-    let e : noLinkAt (a .s) (a .link) ≡ true = sym (c .before .no-link .ensures) ∙ c .if1 .taken in
+    let a = c .before .before .before .args in
+    λ t.
+    let e : noLinkAt (siteOf (a .w .now) t) (a .link) ≡ true = sym (c .before .no-link .ensures t) ∙ c .if1 .taken in
     rw e refl
 
-cast-link : tie.Need-cast-link
-cast-link c =
-    let a = c .before .before .args in
-    let e : noLinkAt (a .s) (a .link) ≡ false = sym (c .before .no-link .ensures) ∙ c .if1 .left in
-    omega (arith, link-below (a .s) (a .link) e)
-
-link-requires : tie.Need-link-requires
-link-requires c κs = search needs
-
 phase-requires : tie.Need-phase-requires
-phase-requires c κs = search needs
+phase-requires c κs = (search needs, link-below (siteOf (c .before .before .before .args .w .now) noTable) (c .before .before .before .args .link) (sym (c .before .no-link .ensures noTable) ∙ c .if1 .left))
 
 phase-number-requires : tie.Need-phase-number-requires
 phase-number-requires c κs = search needs
@@ -40,17 +30,10 @@ phase-number-requires c κs = search needs
 returns-2 : tie.Need-returns-2
 returns-2 c =
     let a = c .before .before .before .before .before .args in
-    let e : noLinkAt (a .s) (a .link) ≡ false = sym (c .before .before .before .before .no-link .ensures) ∙ c .before .before .before .if1 .left in
-    rw e (rw (c .before .phase .ensures, c .before .before .link .ensures) at (c .phase-number .ensures))
+    λ t.
+    let e : noLinkAt (siteOf (a .w .now) t) (a .link) ≡ false = sym (c .before .before .before .no-link .ensures t) ∙ c .before .before .if1 .left in
+    rw e (c .phase-number .ensures ∙ ap phaseNumber (c .before .phase .ensures t))
 
 pub phase-spec : {M : Type 1} → statement M
 phase-spec =
-    tie.close
-    (tie.spec
-    no-link-requires
-    returns
-    cast-link
-    link-requires
-    phase-requires
-    phase-number-requires
-    returns-2)
+    tie.close (tie.spec no-link-requires returns phase-requires phase-number-requires returns-2)

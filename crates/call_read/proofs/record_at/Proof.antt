@@ -1,39 +1,54 @@
-use mathlib.Core.Path.{_≡_, refl, sym, _∙_}
+-- `call_read::record_at` meets its contract.
+-- Assumes nothing.
+use mathlib.Core.Path.{_≡_, sym, ap, _∙_}
 use mathlib.Core.Bool.{true, false}
 use native.Mathlib.Omega.{arith}
 use Rattle.site.specs.Site.{noLinkAt}
+use Rattle.store_site.specs.Layout.{siteOf}
+use Rattle.table_whole.specs.Memory.{noTable}
 use Rattle.site.proofs.Checks.{link-below}
+use Rattle.pool.specs.Pool.{readingOf}
 use borrow.Author.Needs.{needs}
 use Rattle.call_read.proofs.record_at.Statement.{statement}
 use Rattle.call_read.proofs.record_at.Tie as tie
-use Rattle.call_read.proofs.record_at.Reads as reads
-use Rattle.call_read.proofs.record_at.Lts as lts
-use Rattle.pool.proofs.Pool.read.Reads as read-reads
-use Rattle.site.proofs.Site.no_link.Reads as no-link-reads
 
 no-link-requires : tie.Need-no-link-requires
 no-link-requires c κs = search needs
 
+reading-requires : tie.Need-reading-requires
+reading-requires c κs = search needs
+
 returns : tie.Need-returns
 returns c =
-    let a = c .before .before .args in
-    let e : noLinkAt (a .s) (a .link) ≡ true = sym (c .before .no-link .ensures) ∙ c .if1 .taken in
-    rw e refl
+    let a = c .before .before .before .before .args in
+    λ t.
+    let e : noLinkAt (siteOf (a .w .now) t) (a .link) ≡ true = sym (c .before .before .no-link .ensures t) ∙ c .before .if1 .taken in
+    rw e (c .reading .ensures)
 
-cast-read : tie.Need-cast-read
-cast-read c =
-    let a = c .before .before .before .args in
-    let e : noLinkAt (a .s) (a .link) ≡ false = sym (c .before .before .no-link .ensures) ∙ c .before .if1 .left in
-    omega (arith, link-below (a .s) (a .link) e)
+cast-ranked : tie.Need-cast-ranked
+cast-ranked c = omega (arith, link-below (siteOf (c .before .before .before .args .w .now) noTable) (c .before .before .before .args .link) (sym (c .before .no-link .ensures noTable) ∙ c .if1 .left))
 
-read-requires : tie.Need-read-requires
-read-requires c κs = search needs
+ranked-requires : tie.Need-ranked-requires
+ranked-requires c κs = search needs
+
+reading-requires-2 : tie.Need-reading-requires-2
+reading-requires-2 c κs = search needs
 
 returns-2 : tie.Need-returns-2
 returns-2 c =
-    let a = c .before .before .before .before .args in
-    let e : noLinkAt (a .s) (a .link) ≡ false = sym (c .before .before .before .no-link .ensures) ∙ c .before .before .if1 .left in
-    rw e (c .read .ensures)
+    let a = c .before .before .before .before .before .args in
+    λ t.
+    let e : noLinkAt (siteOf (a .w .now) t) (a .link) ≡ false = sym (c .before .before .before .no-link .ensures t) ∙ c .before .before .if1 .left in
+    rw e (c .reading2 .ensures ∙ ap readingOf (c .before .ranked .ensures t))
 
 pub record-at-spec : {M : Type 1} → statement M
-record-at-spec = tie.close (tie.spec no-link-requires returns cast-read read-requires returns-2)
+record-at-spec =
+    tie.close
+    (tie.spec
+    no-link-requires
+    reading-requires
+    returns
+    cast-ranked
+    ranked-requires
+    reading-requires-2
+    returns-2)

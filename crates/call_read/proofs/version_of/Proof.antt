@@ -1,39 +1,42 @@
+-- `call_read::version_of` meets its contract.
+-- Assumes nothing.
 use mathlib.Core.Path.{_≡_, refl, sym, _∙_}
 use mathlib.Core.Bool.{true, false}
-use native.Mathlib.Omega.{arith}
 use Rattle.site.specs.Site.{noLinkAt}
+use Rattle.store_site.specs.Layout.{siteOf}
+use Rattle.table_whole.specs.Memory.{noTable}
 use Rattle.site.proofs.Checks.{link-below}
 use borrow.Author.Needs.{needs}
 use Rattle.call_read.proofs.version_of.Statement.{statement}
 use Rattle.call_read.proofs.version_of.Tie as tie
-use Rattle.call_read.proofs.version_of.Reads as reads
-use Rattle.call_read.proofs.version_of.Lts as lts
-use Rattle.site.proofs.Site.link.Reads as link-reads
-use Rattle.site.proofs.Site.no_link.Reads as no-link-reads
 
 no-link-requires : tie.Need-no-link-requires
 no-link-requires c κs = search needs
 
 returns : tie.Need-returns
 returns c =
-    let a = c .before .before .args in
-    let e : noLinkAt (a .s) (a .link) ≡ true = sym (c .before .no-link .ensures) ∙ c .if1 .taken in
+    let a = c .before .before .before .args in
+    λ t.
+    let e : noLinkAt (siteOf (a .w .now) t) (a .link) ≡ true = sym (c .before .no-link .ensures t) ∙ c .if1 .taken in
     rw e refl
 
-cast-link : tie.Need-cast-link
-cast-link c =
-    let a = c .before .before .args in
-    let e : noLinkAt (a .s) (a .link) ≡ false = sym (c .before .no-link .ensures) ∙ c .if1 .left in
-    omega (arith, link-below (a .s) (a .link) e)
+major-requires : tie.Need-major-requires
+major-requires c κs = (search needs, link-below (siteOf (c .before .before .before .args .w .now) noTable) (c .before .before .before .args .link) (sym (c .before .no-link .ensures noTable) ∙ c .if1 .left))
 
-link-requires : tie.Need-link-requires
-link-requires c κs = search needs
+minor-requires : tie.Need-minor-requires
+minor-requires c κs = (search needs, link-below (siteOf (c .before .before .before .before .args .w .now) noTable) (c .before .before .before .before .args .link) (sym (c .before .before .no-link .ensures noTable) ∙ c .before .if1 .left))
+
+patch-requires : tie.Need-patch-requires
+patch-requires c κs = (search needs, link-below (siteOf (c .before .before .before .before .before .args .w .now) noTable) (c .before .before .before .before .before .args .link) (sym (c .before .before .before .no-link .ensures noTable) ∙ c .before .before .if1 .left))
 
 returns-2 : tie.Need-returns-2
 returns-2 c =
-    let a = c .before .before .before .args in
-    let e : noLinkAt (a .s) (a .link) ≡ false = sym (c .before .before .no-link .ensures) ∙ c .before .if1 .left in
-    rw (e, c .link .ensures) refl
+    let a = c .before .before .before .before .before .before .args in
+    λ t.
+    let e : noLinkAt (siteOf (a .w .now) t) (a .link) ≡ false = sym (c .before .before .before .before .no-link .ensures t) ∙ c .before .before .before .if1 .left in
+    rw (e, c .before .before .major .ensures t, c .before .minor .ensures t, c .patch .ensures t) refl
 
 pub version-of-spec : {M : Type 1} → statement M
-version-of-spec = tie.close (tie.spec no-link-requires returns cast-link link-requires returns-2)
+version-of-spec =
+    tie.close
+    (tie.spec no-link-requires returns major-requires minor-requires patch-requires returns-2)

@@ -1,26 +1,55 @@
-use mathlib.Core.Path.{sym, subst}
-use Rattle.call_start.specs.Starts.{Starts}
-use Rattle.call_start.proofs.Whole.{starts-so}
+-- `call_start::start` meets its contract.
+-- Assumes nothing.
+use mathlib.Core.Path.{sym, _∙_}
+use native.Mathlib.Omega.{arith}
+use Rattle.call_start.proofs.BegunLaws.{starts-in, starts-not}
+use Rattle.call_start.proofs.Values.{within-all}
 use borrow.Author.Needs.{needs}
 use Rattle.call_start.proofs.start.Statement.{statement}
 use Rattle.call_start.proofs.start.Tie as tie
-use Rattle.call_start.proofs.start.Reads as reads
-use Rattle.call_start.proofs.start.Lts as lts
-use Rattle.table_whole.proofs.read.Reads as read-reads
-use Rattle.call_start.proofs.make.Reads as make-reads
+
+within-requires : tie.Need-within-requires
+within-requires c κs = search needs
 
 read-requires : tie.Need-read-requires
 read-requires c κs = search needs
 
-make-requires : tie.Need-make-requires
-make-requires c κs = search needs
+cast-begin : tie.Need-cast-begin
+cast-begin c = omega (arith, within-all (c .before .before .before .before .before .before .before .before .args .links) (c .before .before .before .before .before .before .before .before .args .primary) (c .before .before .before .before .before .before .before .before .args .period) (c .before .before .before .before .before .before .before .before .args .first) (c .before .before .before .before .before .before .before .before .args .time) (sym (c .before .before .before .before .within .ensures) ∙ c .before .before .before .if1 .taken) .most-links)
+
+primary-of-requires : tie.Need-primary-of-requires
+primary-of-requires c κs = search needs
+
+begin-requires : tie.Need-begin-requires
+begin-requires c κs = search needs
+
+same-length : tie.Need-same-length
+same-length c = search needs
+
+same-length-2 : tie.Need-same-length-2
+same-length-2 c = search needs
 
 returns : tie.Need-returns
 returns c =
-    let a = c .before .before .before .args in
-    let s = a .table .now in
-    subst (Starts s (a .links) (a .primary) (a .period) (a .first) (a .time)) (sym (c .make .ensures))
-    (starts-so (a .links) (a .primary) (a .period) (a .first) (a .time) s _ (c .before .read .ensures))
+    let a = c .before .before .before .before .before .before .before .before .before .before .before .before .before .before .args in
+    starts-in (a .table .now) (a .links) (a .primary) (a .period) (a .first) (a .time) (c .before .before .before .before .before .before .read .result) (a .w .now) (c .before .before .before .before .begin .last .0) (a .t .now) (c .before .before .before .before .begin .last .1 .0) (c .before .before .before .before .before .primary-of .result) (c .before .before .before .before .begin .result)
+    (c .before .before .before .before .before .before .read .ensures) (sym (c .before .before .before .before .before .before .before .before .before .before .within .ensures) ∙ c .before .before .before .before .before .before .before .before .before .if1 .taken) (c .before .before .before .before .before .primary-of .ensures) (c .before .before .before .before .begin .ensures)
+
+returns-2 : tie.Need-returns-2
+returns-2 c =
+    let a = c .before .before .before .before .before .args in
+    starts-not (a .table .now) (a .links) (a .primary) (a .period) (a .first) (a .time) (a .w .now) (a .t .now) (sym (c .before .within .ensures) ∙ c .if1 .left)
 
 pub start-spec : {M : Type 1} → statement M
-start-spec = tie.close (tie.spec read-requires make-requires returns)
+start-spec =
+    tie.close
+    (tie.spec
+    within-requires
+    read-requires
+    cast-begin
+    primary-of-requires
+    begin-requires
+    same-length
+    same-length-2
+    returns
+    returns-2)

@@ -1,8 +1,15 @@
 -- `call_tick::tick` meets its contract.
 -- Assumes nothing.
+use mathlib.Core.Path.{_≡_, sym, _∙_}
+use mathlib.Core.Bool.{true, false}
+use Rattle.answer.specs.declared.Refusal.the-variants.{BadTime, SequenceSpent}
 use Rattle.site.specs.Site.{badTimeAt}
-use Rattle.call_tick.specs.Tick.{tickPlan}
-use Rattle.call_tick.proofs.Judged.{judge}
+use Rattle.site.specs.Call.{batchOf}
+use Rattle.store_site.specs.Layout.{siteOf}
+use Rattle.store_call.proofs.CallLaws.{steps-refused, steps-done}
+use Rattle.call_tick.specs.Tick.{siteAfter, issuedAt, tickPlan}
+use Rattle.call_tick.proofs.Judged.{tick-late, tick-spent, tick-done}
+use Rattle.call_tick.proofs.InPlace.{spent-before}
 use borrow.Author.Needs.{needs}
 use Rattle.call_tick.proofs.tick.Statement.{statement}
 use Rattle.call_tick.proofs.tick.Tie as tie
@@ -10,44 +17,61 @@ use Rattle.call_tick.proofs.tick.Tie as tie
 bad-time-requires : tie.Need-bad-time-requires
 bad-time-requires c κs = search needs
 
-refused-requires : tie.Need-refused-requires
-refused-requires c κs = search needs
+same-length : tie.Need-same-length
+same-length c = search needs
 
 returns : tie.Need-returns
 returns c =
-    let a = c .before .before .before .args in
-    rw (judge (a .s) (a .time) 0 (tickPlan (a .s) (a .time)) (badTimeAt (a .s) (a .time)), ← c .before .before .bad-time .ensures, c .before .if1 .taken)
-    (c .refused .ensures)
+    let a = c .before .before .before .before .args in
+    λ t. steps-refused t (a .w .now) BadTime (tick-late (siteOf (a .w .now) t) (a .time) (sym (c .before .bad-time .ensures t) ∙ c .if1 .taken))
 
-after-requires : tie.Need-after-requires
-after-requires c κs = search needs
+how-many-requires : tie.Need-how-many-requires
+how-many-requires c κs = search needs
 
-issued-requires : tie.Need-issued-requires
-issued-requires c κs = search needs
+spent-requires : tie.Need-spent-requires
+spent-requires c κs = search needs
 
-report-requires : tie.Need-report-requires
-report-requires c κs = search needs
-
-conclude-requires : tie.Need-conclude-requires
-conclude-requires c κs = search needs
+same-length-2 : tie.Need-same-length-2
+same-length-2 c = search needs
 
 returns-2 : tie.Need-returns-2
 returns-2 c =
-    let a = c .before .before .before .before .before .before .args in
-    let b = rw (c .before .before .before .after .ensures) at (c .before .before .issued .ensures) in
-    rw
-    (judge (a .s) (a .time) 0 (tickPlan (a .s) (a .time)) (badTimeAt (a .s) (a .time)), ← c .before .before .before .before .before .bad-time .ensures, c .before .before .before .before .if1 .left)
-    (rw (b, c .before .before .before .after .ensures, c .before .report .ensures) at (c .conclude .ensures))
+    let a = c .before .before .before .before .before .before .before .before .args in
+    λ t.
+    let s = siteOf (a .w .now) t in
+    let on-time : badTimeAt s (a .time) ≡ false = sym (c .before .before .before .before .before .bad-time .ensures t) ∙ c .before .before .before .before .if1 .left in
+    let spent : batchOf (tickPlan s (a .time)) .spent ≡ true =
+    sym (spent-before s (a .time)) ∙ sym (c .before .spent .ensures t (issuedAt s (a .time)) (sym (c .before .before .how-many .ensures t (siteAfter s (a .time) .links)))) ∙ c .if2 .taken in
+    steps-refused t (a .w .now) SequenceSpent (tick-spent s (a .time) on-time spent)
+
+pass-requires : tie.Need-pass-requires
+pass-requires c κs = search needs
+
+same-length-3 : tie.Need-same-length-3
+same-length-3 c = search needs
+
+returns-3 : tie.Need-returns-3
+returns-3 c =
+    let a = c .before .before .before .before .before .before .before .before .before .before .before .before .args in
+    let pass = c .before .before .pass in
+    λ t.
+    let s = siteOf (a .w .now) t in
+    let on-time : badTimeAt s (a .time) ≡ false = sym (c .before .before .before .before .before .before .before .before .before .bad-time .ensures t) ∙ c .before .before .before .before .before .before .before .before .if1 .left in
+    let lasts : batchOf (tickPlan s (a .time)) .spent ≡ false =
+    sym (spent-before s (a .time)) ∙ sym (c .before .before .before .before .before .spent .ensures t (issuedAt s (a .time)) (sym (c .before .before .before .before .before .before .how-many .ensures t (siteAfter s (a .time) .links)))) ∙ c .before .before .before .before .if2 .left in
+    steps-done t (a .w .now) _ (pass .ensures .0) (rw (pass .ensures .1 t) (tick-done s (a .time) on-time lasts))
 
 pub tick-spec : {M : Type 1} → statement M
 tick-spec =
     tie.close
     (tie.spec
     bad-time-requires
-    refused-requires
+    same-length
     returns
-    after-requires
-    issued-requires
-    report-requires
-    conclude-requires
-    returns-2)
+    how-many-requires
+    spent-requires
+    same-length-2
+    returns-2
+    pass-requires
+    same-length-3
+    returns-3)

@@ -1,14 +1,12 @@
 use native.Mathlib.Omega.{arith}
 use Rattle.output.proofs.Laws.{most, stopped, lent}
 use Rattle.write_message.specs.Pieces.{pieces}
+use Rattle.store_table.specs.Layout.{tableOf}
+use Rattle.store_site.specs.Layout.{siteOf}
 use Rattle.send_message.specs.Sending.{aggregatedMessage}
 use borrow.Author.Needs.{needs}
 use Rattle.packet_alarm.proofs.answer_and_aggregated.Statement.{statement}
 use Rattle.packet_alarm.proofs.answer_and_aggregated.Tie as tie
-use Rattle.packet_alarm.proofs.answer_and_aggregated.Reads as reads
-use Rattle.packet_alarm.proofs.answer_and_aggregated.Lts as lts
-use Rattle.packet_answer.proofs.ack.Reads as ack-reads
-use Rattle.send_message.proofs.write_aggregated.Reads as write-aggregated-reads
 
 ack-requires : tie.Need-ack-requires
 ack-requires c κs = search needs
@@ -18,8 +16,8 @@ same-length c = search needs
 
 returns : tie.Need-returns
 returns c =
-    let a = c .before .before .before .before .before .before .args in
-    stopped (pieces (aggregatedMessage (a .s) (a .id .bytes))) (omega arith) (c .before .before .before .ack .ensures) (c .if1 .taken)
+    let a = c .before .before .before .before .before .before .before .before .args in
+    stopped (pieces (aggregatedMessage (siteOf (a .w .now) (tableOf (a .t .now))) (a .id .bytes))) (omega arith) (c .before .before .before .ack .ensures) (c .if1 .taken)
 
 sub-write-aggregated : tie.Need-sub-write-aggregated
 sub-write-aggregated c = search needs
@@ -34,13 +32,15 @@ write-aggregated-requires : tie.Need-write-aggregated-requires
 write-aggregated-requires c κs = search needs
 
 add-result : tie.Need-add-result
-add-result c = omega (arith, most (c .before .before .write-aggregated .ensures) (omega arith))
+add-result c =
+    omega (arith, most (c .before .before .write-aggregated .ensures) (omega arith))
 
 same-length-2 : tie.Need-same-length-2
 same-length-2 c = search needs
 
 returns-2 : tie.Need-returns-2
-returns-2 c = lent (c .before .before .before .before .before .before .before .ack .ensures) (c .before .before .before .before .if1 .left) (c .before .before .write-aggregated .ensures)
+returns-2 c =
+    lent (c .before .before .before .before .before .before .before .ack .ensures) (c .before .before .before .before .if1 .left) (c .before .before .write-aggregated .ensures)
 
 pub answer-and-aggregated-spec : {M : Type 1} → statement M
 answer-and-aggregated-spec =

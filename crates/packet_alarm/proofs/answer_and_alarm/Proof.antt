@@ -1,14 +1,12 @@
 use native.Mathlib.Omega.{arith}
 use Rattle.output.proofs.Laws.{most, stopped, lent}
 use Rattle.write_message.specs.Pieces.{pieces}
+use Rattle.store_table.specs.Layout.{tableOf}
+use Rattle.store_site.specs.Layout.{siteOf}
 use Rattle.send_message.specs.Sending.{alarmMessage}
 use borrow.Author.Needs.{needs}
 use Rattle.packet_alarm.proofs.answer_and_alarm.Statement.{statement}
 use Rattle.packet_alarm.proofs.answer_and_alarm.Tie as tie
-use Rattle.packet_alarm.proofs.answer_and_alarm.Reads as reads
-use Rattle.packet_alarm.proofs.answer_and_alarm.Lts as lts
-use Rattle.packet_answer.proofs.ack.Reads as ack-reads
-use Rattle.send_message.proofs.write_alarm.Reads as write-alarm-reads
 
 ack-requires : tie.Need-ack-requires
 ack-requires c κs = search needs
@@ -18,8 +16,8 @@ same-length c = search needs
 
 returns : tie.Need-returns
 returns c =
-    let a = c .before .before .before .before .before .before .args in
-    stopped (pieces (alarmMessage (a .s) (a .id .bytes) (a .k))) (omega arith) (c .before .before .before .ack .ensures) (c .if1 .taken)
+    let a = c .before .before .before .before .before .before .before .before .args in
+    stopped (pieces (alarmMessage (siteOf (a .w .now) (tableOf (a .t .now))) (a .id .bytes) (a .k))) (omega arith) (c .before .before .before .ack .ensures) (c .if1 .taken)
 
 sub-write-alarm : tie.Need-sub-write-alarm
 sub-write-alarm c = search needs
@@ -34,13 +32,15 @@ write-alarm-requires : tie.Need-write-alarm-requires
 write-alarm-requires c κs = search needs
 
 add-result : tie.Need-add-result
-add-result c = omega (arith, most (c .before .before .write-alarm .ensures) (omega arith))
+add-result c =
+    omega (arith, most (c .before .before .write-alarm .ensures) (omega arith))
 
 same-length-2 : tie.Need-same-length-2
 same-length-2 c = search needs
 
 returns-2 : tie.Need-returns-2
-returns-2 c = lent (c .before .before .before .before .before .before .before .ack .ensures) (c .before .before .before .before .if1 .left) (c .before .before .write-alarm .ensures)
+returns-2 c =
+    lent (c .before .before .before .before .before .before .before .ack .ensures) (c .before .before .before .before .if1 .left) (c .before .before .write-alarm .ensures)
 
 pub answer-and-alarm-spec : {M : Type 1} → statement M
 answer-and-alarm-spec =

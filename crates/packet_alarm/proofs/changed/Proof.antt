@@ -1,36 +1,53 @@
-use Rattle.packet_alarm.proofs.Changes.{makes}
+use Rattle.packet_alarm.proofs.Changes.{refuses, makes}
 use borrow.Author.Needs.{needs}
 use Rattle.packet_alarm.proofs.changed.Statement.{statement}
 use Rattle.packet_alarm.proofs.changed.Tie as tie
-use Rattle.packet_alarm.proofs.changed.Reads as reads
-use Rattle.packet_alarm.proofs.changed.Lts as lts
-use Rattle.packet_answer.proofs.acknowledge.Reads as acknowledge-reads
-use Rattle.packet_alarm.proofs.issued.Reads as issued-reads
-use Rattle.site.proofs.parts.with_alarm.Reads as with-alarm-reads
 
--- src/lib.rt:58:9
-with-alarm-requires : tie.Need-with-alarm-requires
-with-alarm-requires c κs = search needs
+of-alarm-requires : tie.Need-of-alarm-requires
+of-alarm-requires c κs = search needs
 
--- src/lib.rt:59:38
-issued-requires : tie.Need-issued-requires
-issued-requires c κs = search needs
+spent-requires : tie.Need-spent-requires
+spent-requires c κs = search needs
 
--- src/lib.rt:59:5
-acknowledge-requires : tie.Need-acknowledge-requires
-acknowledge-requires c κs = search needs
-
--- src/lib.rt:54:1
 same-length : tie.Need-same-length
 same-length c = search needs
 
--- src/lib.rt:54:1
 returns : tie.Need-returns
 returns c =
-    let a = c .before .before .before .before .before .before .before .before .args in
-    makes (a .s) (a .k) (a .c) (a .time) (a .received .bytes) (c .before .before .before .before .before .with-alarm .ensures) (c .before .before .before .before .issued .ensures) (c .before .before .acknowledge .ensures)
+    let a = c .before .before .before .before .before .before .before .args in
+    λ t. refuses t (a .w .now) (a .time) (a .received .bytes) (a .k) (a .c) (c .before .before .before .of-alarm .ensures) (c .before .spent .ensures) (c .if1 .taken)
+
+ack-requires : tie.Need-ack-requires
+ack-requires c κs = search needs
+
+keep-requires : tie.Need-keep-requires
+keep-requires c κs = search needs
+
+report-requires : tie.Need-report-requires
+report-requires c κs = search needs
+
+same-length-2 : tie.Need-same-length-2
+same-length-2 c = search needs
+
+same-length-3 : tie.Need-same-length-3
+same-length-3 c = search needs
+
+returns-2 : tie.Need-returns-2
+returns-2 c =
+    let a = c .before .before .before .before .before .before .before .before .before .before .before .before .before .before .before .before .args in
+    λ t. makes t (a .w .now) (a .time) (a .received .bytes) (a .k) (a .c) (c .before .before .before .before .before .before .before .before .before .before .before .before .of-alarm .ensures) (c .before .before .before .before .before .before .before .before .before .before .spent .ensures) (c .before .before .before .before .before .before .before .before .before .if1 .left) (c .before .before .before .before .before .before .before .ack .ensures) (c .before .before .before .keep .ensures) (c .report .ensures)
 
 pub changed-spec : {M : Type 1} → statement M
 changed-spec =
     tie.close
-    (tie.spec with-alarm-requires issued-requires acknowledge-requires same-length returns)
+    (tie.spec
+    of-alarm-requires
+    spent-requires
+    same-length
+    returns
+    ack-requires
+    keep-requires
+    report-requires
+    same-length-2
+    same-length-3
+    returns-2)

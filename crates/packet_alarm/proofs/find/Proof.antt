@@ -1,73 +1,73 @@
-use mathlib.Core.Path.{_≡_, sym, _∙_}
+use mathlib.Core.Path.{sym, _∙_}
+use Rattle.store_table.specs.Layout.{tableOf}
 use Rattle.packet_answer.specs.Taken.{unknownComponent, unknownAlarm}
 use Rattle.packet_answer.proofs.Choices.{not-acked}
 use Rattle.packet_alarm.proofs.Asked.{found}
 use borrow.Author.Needs.{needs}
 use Rattle.packet_alarm.proofs.find.Statement.{statement}
 use Rattle.packet_alarm.proofs.find.Tie as tie
-use Rattle.packet_alarm.proofs.find.Reads as reads
-use Rattle.packet_alarm.proofs.find.Lts as lts
-use Rattle.packet_answer.proofs.not_ack.Reads as not-ack-reads
-use Rattle.packet_alarm.proofs.alarm_of.Reads as alarm-of-reads
-use Rattle.packet_alarm.proofs.ordered.Reads as ordered-reads
 
--- src/lib.rt:167:9
 alarm-of-requires : tie.Need-alarm-of-requires
 alarm-of-requires c κs = search needs
 
--- src/lib.rt:170:28
 enum-known-a : tie.Need-enum-known-a
 enum-known-a c = search needs
 
--- src/lib.rt:170:34
 ordered-requires : tie.Need-ordered-requires
 ordered-requires c κs = search needs
 
--- src/lib.rt:172:79
 enum-told : tie.Need-enum-told
 enum-told c = search needs
 
--- src/lib.rt:172:13
 not-ack-requires : tie.Need-not-ack-requires
 not-ack-requires c κs = search needs
 
--- src/lib.rt:175:75
 enum-told-2 : tie.Need-enum-told-2
 enum-told-2 c = search needs
 
--- src/lib.rt:175:13
 not-ack-requires-2 : tie.Need-not-ack-requires-2
 not-ack-requires-2 c κs = search needs
 
--- src/lib.rt:156:1
 same-length : tie.Need-same-length
 same-length c = search needs
 
--- src/lib.rt:156:1
-returns : tie.Need-returns
-returns c =
-    let a = c .before .before .before .before .before .before .before .before .before .args in
-    found (a .s) (a .l) (a .time) (a .id) (a .received .bytes) (a .f) (sym (c .before .before .before .before .before .before .before .alarm-of .ensures) ∙ c .before .before .before .before .before .a .given .1) (c .before .before .ordered .ensures)
-
--- src/lib.rt:156:1
 same-length-2 : tie.Need-same-length-2
 same-length-2 c = search needs
 
--- src/lib.rt:156:1
-returns-2 : tie.Need-returns-2
-returns-2 c =
-    let a = c .before .before .before .before .before .before .before .before .args in
-    found (a .s) (a .l) (a .time) (a .id) (a .received .bytes) (a .f) (sym (c .before .before .before .before .before .before .alarm-of .ensures) ∙ c .before .before .before .before .enum-told .given .1) (not-acked (a .s) (a .l) (a .time) (a .id) (a .received .bytes) unknownComponent (c .before .before .not-ack .ensures))
+returns : tie.Need-returns
+returns c =
+    let a = c .before .before .before .before .before .before .before .before .before .before .before .before .before .before .args in
+    let t = tableOf (a .t .now) in
+    let ws = a .w .now in
+    found t ws (a .l) (a .time) (a .id) (a .received .bytes) (a .f) (sym (c .before .before .before .before .before .before .before .before .before .before .alarm-of .ensures) ∙ c .before .before .before .before .before .before .before .before .a .given .1) (c .before .before .before .before .ordered .ensures)
 
--- src/lib.rt:156:1
 same-length-3 : tie.Need-same-length-3
 same-length-3 c = search needs
 
--- src/lib.rt:156:1
+same-length-4 : tie.Need-same-length-4
+same-length-4 c = search needs
+
+returns-2 : tie.Need-returns-2
+returns-2 c =
+    let a = c .before .before .before .before .before .before .before .before .before .before .before .before .before .args in
+    let t = tableOf (a .t .now) in
+    let ws = a .w .now in
+    found t ws (a .l) (a .time) (a .id) (a .received .bytes) (a .f) (sym (c .before .before .before .before .before .before .before .before .before .alarm-of .ensures) ∙ c .before .before .before .before .before .before .before .enum-told .given .1)
+    (not-acked t ws (a .l) (a .time) (a .id) (a .received .bytes) unknownComponent (c .before .before .before .before .not-ack .ensures t))
+
+same-length-5 : tie.Need-same-length-5
+same-length-5 c = search needs
+
+same-length-6 : tie.Need-same-length-6
+same-length-6 c = search needs
+
 returns-3 : tie.Need-returns-3
 returns-3 c =
-    let a = c .before .before .before .before .before .before .before .before .args in
-    found (a .s) (a .l) (a .time) (a .id) (a .received .bytes) (a .f) (sym (c .before .before .before .before .before .before .alarm-of .ensures) ∙ c .before .before .before .before .enum-told2 .given .1) (not-acked (a .s) (a .l) (a .time) (a .id) (a .received .bytes) unknownAlarm (c .before .before .not-ack2 .ensures))
+    let a = c .before .before .before .before .before .before .before .before .before .before .before .before .before .args in
+    let t = tableOf (a .t .now) in
+    let ws = a .w .now in
+    found t ws (a .l) (a .time) (a .id) (a .received .bytes) (a .f) (sym (c .before .before .before .before .before .before .before .before .before .alarm-of .ensures) ∙ c .before .before .before .before .before .before .before .enum-told2 .given .1)
+    (not-acked t ws (a .l) (a .time) (a .id) (a .received .bytes) unknownAlarm (c .before .before .before .before .not-ack2 .ensures t))
 
 pub find-spec : {M : Type 1} → statement M
 find-spec =
@@ -81,8 +81,11 @@ find-spec =
     enum-told-2
     not-ack-requires-2
     same-length
-    returns
     same-length-2
-    returns-2
+    returns
     same-length-3
+    same-length-4
+    returns-2
+    same-length-5
+    same-length-6
     returns-3)

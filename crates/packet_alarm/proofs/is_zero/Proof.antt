@@ -1,22 +1,16 @@
 use borrow.Author.Needs.{needs}
 use Rattle.packet_alarm.proofs.is_zero.Statement.{statement}
 use Rattle.packet_alarm.proofs.is_zero.Tie as tie
-use Rattle.packet_alarm.proofs.is_zero.Reads as reads
-use Rattle.packet_alarm.proofs.is_zero.Lts as lts
 
--- src/lib.rt:241:20
 enum-known-c : tie.Need-enum-known-c
 enum-known-c c = search needs
 
--- src/lib.rt:242:28
 enum-told : tie.Need-enum-told
 enum-told c = search needs
 
--- src/lib.rt:237:1
 returns : tie.Need-returns
 returns c = rw (c .before .c .given .1)
 
--- src/lib.rt:237:1
 returns-2 : tie.Need-returns-2
 returns-2 c = search needs
 

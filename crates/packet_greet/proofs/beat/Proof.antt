@@ -1,53 +1,57 @@
-use mathlib.Core.Path.{ap, _∙_}
+-- `packet_greet::beat` meets its contract.
+-- Assumes nothing.
+use Prim.Native.Nat.{ℕ}
+use mathlib.Core.Path.{ap, ap₂, _∙_}
+use Rattle.answer.specs.declared.Answer.the-variants.{Done}
 use Rattle.link.specs.declared.Role.{Role}
+use Rattle.site.specs.declared.Site.{Site}
 use Rattle.site.specs.Site.{roleOf}
 use Rattle.site.specs.Call.{hintTime, hintBit}
+use Rattle.store_site.specs.Layout.{siteOf}
+use Rattle.packet_answer.specs.Ending.{report}
+use Rattle.store_site.proofs.TurnsLaws.{turns-then}
 use Rattle.packet_answer.proofs.Ends.{accepts}
 use Rattle.packet_greet.specs.Watchdog.{hintFrom, beaten as beatenOf}
 use borrow.Author.Needs.{needs}
 use Rattle.packet_greet.proofs.beat.Statement.{statement}
 use Rattle.packet_greet.proofs.beat.Tie as tie
-use Rattle.packet_greet.proofs.beat.Reads as reads
-use Rattle.packet_greet.proofs.beat.Lts as lts
-use Rattle.packet_answer.proofs.accept.Reads as accept-reads
-use Rattle.packet_greet.proofs.beaten.Reads as beaten-reads
-use Rattle.packet_greet.proofs.hint.Reads as hint-reads
-use Rattle.packet_greet.proofs.hinted.Reads as hinted-reads
-use Rattle.site.proofs.Site.role.Reads as role-reads
 
--- src/lib.rt:170:9
 role-requires : tie.Need-role-requires
 role-requires c κs = search needs
 
--- src/lib.rt:171:9
 hint-requires : tie.Need-hint-requires
 hint-requires c κs = search needs
 
--- src/lib.rt:172:9
 hinted-requires : tie.Need-hinted-requires
 hinted-requires c κs = search needs
 
--- src/lib.rt:173:26
+ack-requires : tie.Need-ack-requires
+ack-requires c κs = search needs
+
 beaten-requires : tie.Need-beaten-requires
 beaten-requires c κs = search needs
 
--- src/lib.rt:173:5
-accept-requires : tie.Need-accept-requires
-accept-requires c κs = search needs
+done-requires : tie.Need-done-requires
+done-requires c κs = search needs
 
--- src/lib.rt:167:1
 same-length : tie.Need-same-length
 same-length c = search needs
 
--- src/lib.rt:167:1
+same-length-2 : tie.Need-same-length-2
+same-length-2 c = search needs
+
 returns : tie.Need-returns
 returns c =
-    let a = c .before .before .before .before .before .before .before .before .before .args in
-    let role = c .before .before .before .before .before .before .before .role .ensures in
-    accepts (a .s) _ (beatenOf (a .s) (a .l)) (a .time) (hintFrom (roleOf (a .s) (a .l)) (a .theirs)) _ _ (a .received .bytes) (c .before .before .before .before .beaten .ensures)
-    (c .before .before .before .before .before .before .hint .ensures ∙ ap (λ (x : Role). hintTime (hintFrom x (a .theirs))) role)
-    (c .before .before .before .before .before .hinted .ensures ∙ ap (λ (x : Role). hintBit (hintFrom x (a .theirs))) role)
-    (c .before .before .accept .ensures)
+    let a = c .before .before .before .before .before .before .before .before .before .before .before .before .before .before .before .before .before .before .args in
+    let role = c .before .before .before .before .before .before .before .before .before .before .before .before .before .before .role .ensures in
+    let wrote = c .before .before .before .before .before .before .before .before .before .before .ack in
+    let done = c .before .before .done .ensures in
+    λ t. accepts t (a .time) (a .received .bytes) (λ (s : Site). beatenOf s (a .l)) (hintFrom (roleOf (siteOf (a .w .now) t) (a .l)) (a .theirs)) (wrote .ensures)
+    (done .0
+    ∙ ap₂ (λ (x y : ℕ). Done (report x y (wrote .result) 0))
+    (c .before .before .before .before .before .before .before .before .before .before .before .before .before .hint .ensures ∙ ap (λ (x : Role). hintTime (hintFrom x (a .theirs))) (role t))
+    (c .before .before .before .before .before .before .before .before .before .before .before .before .hinted .ensures ∙ ap (λ (x : Role). hintBit (hintFrom x (a .theirs))) (role t)))
+    (turns-then (c .before .before .before .before .before .before .beaten .ensures) (done .1))
 
 pub beat-spec : {M : Type 1} → statement M
 beat-spec =
@@ -56,7 +60,9 @@ beat-spec =
     role-requires
     hint-requires
     hinted-requires
+    ack-requires
     beaten-requires
-    accept-requires
+    done-requires
     same-length
+    same-length-2
     returns)

@@ -1,68 +1,63 @@
+-- `packet_greet::version_by` meets its contract.
+-- Assumes nothing.
+use Rattle.store_table.specs.Layout.{tableOf}
+use Rattle.packet_greet.proofs.Judges.{judges}
 use borrow.Author.Needs.{needs}
 use Rattle.packet_greet.proofs.version_by.Statement.{statement}
 use Rattle.packet_greet.proofs.version_by.Tie as tie
-use Rattle.packet_greet.proofs.version_by.Reads as reads
-use Rattle.packet_greet.proofs.version_by.Lts as lts
-use Rattle.packet_answer.proofs.not_ack.Reads as not-ack-reads
-use Rattle.packet_greet.proofs.own.Reads as own-reads
-use Rattle.packet_greet.proofs.version_judged.Reads as version-judged-reads
-use Rattle.read_versions.proofs.judge.Reads as judge-reads
 
--- src/lib.rt:126:17
 enum-told : tie.Need-enum-told
 enum-told c = search needs
 
--- src/lib.rt:127:66
 own-requires : tie.Need-own-requires
 own-requires c κs = search needs
 
--- src/lib.rt:127:50
 judge-requires : tie.Need-judge-requires
 judge-requires c κs = search needs
 
--- src/lib.rt:127:13
 version-judged-requires : tie.Need-version-judged-requires
 version-judged-requires c κs = search needs
 
--- src/lib.rt:129:71
 enum-told-2 : tie.Need-enum-told-2
 enum-told-2 c = search needs
 
--- src/lib.rt:129:29
 not-ack-requires : tie.Need-not-ack-requires
 not-ack-requires c κs = search needs
 
--- src/lib.rt:130:67
 enum-told-3 : tie.Need-enum-told-3
 enum-told-3 c = search needs
 
--- src/lib.rt:130:25
 not-ack-requires-2 : tie.Need-not-ack-requires-2
 not-ack-requires-2 c κs = search needs
 
--- src/lib.rt:120:1
 same-length : tie.Need-same-length
 same-length c = search needs
 
--- src/lib.rt:120:1
-returns : tie.Need-returns
-returns c = rw (c .before .before .before .before .before .before .before .enum-told .given .1, ← c .before .before .before .before .before .own .ensures, ← c .before .before .before .before .judge .ensures) (c .before .before .version-judged .ensures)
-
--- src/lib.rt:120:1
 same-length-2 : tie.Need-same-length-2
 same-length-2 c = search needs
 
--- src/lib.rt:120:1
-returns-2 : tie.Need-returns-2
-returns-2 c = rw (c .before .before .before .before .enum-told2 .given .1) (c .before .before .not-ack .ensures)
+returns : tie.Need-returns
+returns c =
+    let a = c .before .before .before .before .before .before .before .before .before .before .before .before .before .before .before .args in
+    judges (tableOf (a .t .now)) (a .l) (a .time) (a .received .bytes) (a .f) (c .before .before .before .before .before .before .before .before .before .before .enum-told .given .1) (c .before .before .before .before .before .before .before .own .ensures) (c .before .before .before .before .before .before .judge .ensures) (c .before .before .before .before .version-judged .ensures (tableOf (a .t .now)))
 
--- src/lib.rt:120:1
 same-length-3 : tie.Need-same-length-3
 same-length-3 c = search needs
 
--- src/lib.rt:120:1
+same-length-4 : tie.Need-same-length-4
+same-length-4 c = search needs
+
+returns-2 : tie.Need-returns-2
+returns-2 c = rw (c .before .before .before .before .before .before .before .enum-told2 .given .1) (c .before .before .before .before .not-ack .ensures (tableOf (c .before .before .before .before .before .before .before .before .before .before .before .before .args .t .now)))
+
+same-length-5 : tie.Need-same-length-5
+same-length-5 c = search needs
+
+same-length-6 : tie.Need-same-length-6
+same-length-6 c = search needs
+
 returns-3 : tie.Need-returns-3
-returns-3 c = rw (c .before .before .before .before .enum-told3 .given .1) (c .before .before .not-ack2 .ensures)
+returns-3 c = rw (c .before .before .before .before .before .before .before .enum-told3 .given .1) (c .before .before .before .before .not-ack2 .ensures (tableOf (c .before .before .before .before .before .before .before .before .before .before .before .before .args .t .now)))
 
 pub version-by-spec : {M : Type 1} → statement M
 version-by-spec =
@@ -77,8 +72,11 @@ version-by-spec =
     enum-told-3
     not-ack-requires-2
     same-length
-    returns
     same-length-2
-    returns-2
+    returns
     same-length-3
+    same-length-4
+    returns-2
+    same-length-5
+    same-length-6
     returns-3)

@@ -1,3 +1,6 @@
+-- `packet_lookup::alarm_in` meets its contract.
+-- Assumes nothing.
+use Rattle.store_table.specs.Layout.{tableOf}
 use Rattle.table_whole.specs.Lookup.{findAlarm}
 use Rattle.packet_lookup.specs.Sought.{numbered}
 use mathlib.Core.Path.{_≡_, ap, _∙_}
@@ -6,44 +9,32 @@ use Rattle.label.proofs.Text.{text-part}
 use borrow.Author.Needs.{needs}
 use Rattle.packet_lookup.proofs.alarm_in.Statement.{statement}
 use Rattle.packet_lookup.proofs.alarm_in.Tie as tie
-use Rattle.packet_lookup.proofs.alarm_in.Reads as reads
-use Rattle.packet_lookup.proofs.alarm_in.Lts as lts
-use Rattle.label.proofs.size.Reads as size-reads
-use Rattle.table_whole.proofs.SiteTable.find_alarm.Reads as find-alarm-reads
-use Rattle.packet_lookup.proofs.number.Reads as number-reads
 
--- src/lib.rt:50:9
 size-requires : tie.Need-size-requires
 size-requires c κs = search needs
 
--- src/lib.rt:52:36
 sub-find-alarm : tie.Need-sub-find-alarm
 sub-find-alarm c = search needs
 
--- src/lib.rt:52:36
 part-find-alarm-start : tie.Need-part-find-alarm-start
 part-find-alarm-start c = search needs
 
--- src/lib.rt:52:36
 part-find-alarm-end : tie.Need-part-find-alarm-end
 part-find-alarm-end c =
-    let e : length (c .before .before .before .args .code .bytes) ≡ 32 = search needs in
+    let e : length (c .before .before .before .before .args .code .bytes) ≡ 32 = search needs in
     search needs
 
--- src/lib.rt:52:12
 find-alarm-requires : tie.Need-find-alarm-requires
 find-alarm-requires c κs = search needs
 
--- src/lib.rt:52:5
 number-requires : tie.Need-number-requires
 number-requires c κs = search needs
 
--- src/lib.rt:47:1
 returns : tie.Need-returns
 returns c =
-    let a = c .before .before .before .before .before .before .args in
+    let a = c .before .before .before .before .before .before .before .args in
     let k = text-part (a .code) (search needs) _ (c .before .before .before .before .before .size .ensures) in
-    c .number .ensures ∙ ap numbered (c .before .find-alarm .ensures ∙ ap (findAlarm (a .t) (a .component)) k)
+    c .number .ensures ∙ ap numbered (c .before .find-alarm .ensures ∙ ap (findAlarm (tableOf (a .t .now)) (a .component)) k)
 
 pub alarm-in-spec : {M : Type 1} → statement M
 alarm-in-spec =

@@ -1,56 +1,57 @@
-use Prim.Native.Nat.{ℕ, _≤_, _-_}
-use mathlib.Core.Path.{_≡_, refl, ap, _∙_}
+-- `packet_subscribe::records` meets its contract.
+-- Assumes nothing.
+use Prim.Native.Nat.{_≤_, _-_}
+use mathlib.Core.Path.{_≡_}
+use lib.ListN.{length}
 use borrow.Author.Needs.{needs}
-use Rattle.pool_batch.specs.Batch.{addedAll}
+use Rattle.site.specs.declared.Site.{Site}
+use Rattle.store_call.specs.Issued.{issuedIn}
+use Rattle.store_table.specs.Layout.{tableOf}
 use Rattle.packet_subscribe.specs.Subscribing.{records as recordsOf}
-use Rattle.packet_subscribe.proofs.Loops.{one-more-record}
+use Rattle.packet_subscribe.specs.InPlace.{TurnsIn}
+use Rattle.packet_subscribe.proofs.Loops.{no-record, one-more-record}
 use Rattle.packet_subscribe.proofs.records.Statement.{statement}
 use Rattle.packet_subscribe.proofs.records.Tie as tie
-use Rattle.packet_subscribe.proofs.records.Reads as reads
-use Rattle.packet_subscribe.proofs.records.Lts as lts
-use Rattle.packet_lookup.proofs.entry_in.Reads as entry-in-reads
-use Rattle.packet_subscribe.proofs.issue_by.Reads as issue-by-reads
 
 abbrev Inv-loop : tie.InvT-loop
-Inv-loop s l time component entries count b₀ i₀ b i = (i ≤ count) × (b ≡ addedAll 4 b₀ (recordsOf s l time component entries i))
+Inv-loop w₀ t l time component entries count i₀ w i =
+    (i ≤ count) × ((length w ≡ 1173) × ((length t ≡ 4752) × TurnsIn (tableOf t) (λ (s : Site). issuedIn s (recordsOf s l time component entries i)) w₀ w))
 
 abbrev μ-loop : tie.MeasureT-loop
-μ-loop s l time component entries count b₀ i₀ b i = count - i
+μ-loop w₀ t l time component entries count i₀ w i = count - i
 
--- src/lib.rt:121:5
 loop-holds : tie.Need-loop-holds Inv-loop μ-loop
-loop-holds c = (search needs, refl)
+loop-holds c =
+    let a = c .before .before .args in
+    (search needs, (search needs, (search needs, no-record (tableOf (a .t .now)) (a .l) (a .time) (a .component) (a .entries))))
 
--- src/lib.rt:122:13
 entry-in-requires : tie.Need-entry-in-requires Inv-loop μ-loop
 entry-in-requires c κs = search needs
 
--- src/lib.rt:123:9
-issue-by-requires : tie.Need-issue-by-requires Inv-loop μ-loop
-issue-by-requires c κs = search needs
+issue-requires : tie.Need-issue-requires Inv-loop μ-loop
+issue-requires c κs = search needs
 
--- src/lib.rt:124:9
 add-i : tie.Need-add-i Inv-loop μ-loop
 add-i c = search needs
 
--- src/lib.rt:121:5
 loop-less : tie.Need-loop-less Inv-loop μ-loop
 loop-less c = search needs
 
--- src/lib.rt:121:5
 loop-again : tie.Need-loop-again Inv-loop μ-loop
 loop-again c =
-    let a = c .before .before .before .before .args in
-    let n = c .before .before .before .loop in
-    (search needs, one-more-record (a .s) (a .l) (a .time) (a .component) (a .entries) (n .i) (a .begun) (n .inv .1) (c .before .entry-in .ensures) (c .issue-by .ensures))
+    let a = c .before .before .before .before .before .before .before .before .before .args in
+    let n = c .before .before .before .before .before .before .loop in
+    (search needs, (search needs, (search needs, one-more-record (tableOf (a .t .now)) (a .l) (a .time) (a .component) (a .entries) (n .i) (n .inv .1 .1 .1) (c .before .before .before .before .entry-in .ensures) (c .before .before .issue .ensures))))
 
--- src/lib.rt:108:1
+same-length : tie.Need-same-length Inv-loop μ-loop
+same-length c = search needs
+
 returns : tie.Need-returns Inv-loop μ-loop
 returns c =
-    let a = c .before .before .args in
+    let a = c .before .before .before .before .args in
     let n = c .before .loop in
     let e : n .i ≡ a .count = search needs in
-    n .inv .1 ∙ ap (λ (i : ℕ). addedAll 4 (a .begun) (recordsOf (a .s) (a .l) (a .time) (a .component) (a .entries) i)) e
+    rw (← e) (n .inv .1 .1 .1)
 
 pub records-spec : {M : Type 1} → statement M
 records-spec =
@@ -60,8 +61,9 @@ records-spec =
     μ-loop
     loop-holds
     entry-in-requires
-    issue-by-requires
+    issue-requires
     add-i
     loop-less
     loop-again
+    same-length
     returns)

@@ -1,47 +1,54 @@
-use Prim.Native.Nat.{ℕ}
-use mathlib.Core.Path.{refl, ap, _∙_}
-use Rattle.site.specs.Parts.{withSubscription}
+-- `packet_subscribe::replace` meets its contract.
+-- Assumes nothing.
+use mathlib.Core.Path.{sym, _∙_}
+use Rattle.packet_subscribe.specs.Subscribing.{wanted as wantedOf}
+use Rattle.packet_subscribe.proofs.Loops.{replaced-like, replaced-one, not-replaced}
 use borrow.Author.Needs.{needs}
 use Rattle.packet_subscribe.proofs.replace.Statement.{statement}
 use Rattle.packet_subscribe.proofs.replace.Tie as tie
-use Rattle.packet_subscribe.proofs.replace.Reads as reads
-use Rattle.packet_subscribe.proofs.replace.Lts as lts
-use Rattle.site.proofs.parts.with_subscription.Reads as with-subscription-reads
-use Rattle.packet_subscribe.proofs.place.Reads as place-reads
 
--- src/lib.rt:44:20
+wanted-requires : tie.Need-wanted-requires
+wanted-requires c κs = search needs
+
+status-requires : tie.Need-status-requires
+status-requires c κs = search needs
+
 enum-known-status : tie.Need-enum-known-status
 enum-known-status c = search needs
 
--- src/lib.rt:44:60
 place-requires : tie.Need-place-requires
 place-requires c κs = search needs
 
--- src/lib.rt:44:26
-with-subscription-requires : tie.Need-with-subscription-requires
-with-subscription-requires c κs = search needs
+put-subscription-requires : tie.Need-put-subscription-requires
+put-subscription-requires c κs = search needs
 
--- src/lib.rt:45:28
 enum-told : tie.Need-enum-told
 enum-told c = search needs
 
--- src/lib.rt:40:1
+same-length : tie.Need-same-length
+same-length c = search needs
+
 returns : tie.Need-returns
 returns c =
-    let a = c .before .before .before .before .before .args in
-    rw (c .before .before .before .status .given .1) (c .with-subscription .ensures ∙ ap (λ (i : ℕ). withSubscription (a .s) i (a .x)) (c .before .place .ensures))
+    let a = c .before .before .before .before .before .before .before .before .before .before .before .before .args in
+    replaced-one (a .w .now) (a .l) (sym (c .before .before .before .before .before .before .status2 .given .1) ∙ c .before .before .before .before .before .before .before .before .status .ensures) (c .before .before .before .place .ensures) (c .before .before .before .before .before .before .before .before .before .wanted .ensures) (c .before .before .put-subscription .ensures)
 
--- src/lib.rt:40:1
 returns-2 : tie.Need-returns-2
-returns-2 c = rw (c .enum-told .given .1) refl
+returns-2 c =
+    let a = c .before .before .before .before .before .before .args in
+    let x = wantedOf (a .subscribing) (a .e) (a .time) in
+    replaced-like (a .w .now) (a .l) x (sym (c .enum-told .given .1) ∙ c .before .before .status .ensures) (not-replaced (a .w .now) (a .l) x)
 
 pub replace-spec : {M : Type 1} → statement M
 replace-spec =
     tie.close
     (tie.spec
+    wanted-requires
+    status-requires
     enum-known-status
     place-requires
-    with-subscription-requires
+    put-subscription-requires
     enum-told
+    same-length
     returns
     returns-2)

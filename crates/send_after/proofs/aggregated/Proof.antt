@@ -1,32 +1,28 @@
+-- `send_after::aggregated` meets its contract.
+-- Assumes nothing.
+use mathlib.Core.Path.{refl}
+use Rattle.store_site.proofs.TurnsLaws.{turns-as}
 use borrow.Author.Needs.{needs}
 use Rattle.send_after.proofs.aggregated.Statement.{statement}
 use Rattle.send_after.proofs.aggregated.Tie as tie
-use Rattle.send_after.proofs.aggregated.Reads as reads
-use Rattle.send_after.proofs.aggregated.Lts as lts
-use Rattle.link.proofs.Link.aggregated_passed.Reads as aggregated-passed-reads
-use Rattle.link.proofs.Link.other_out.Reads as other-out-reads
-use Rattle.site.proofs.Site.link.Reads as link-reads
-use Rattle.site.proofs.Site.with_link.Reads as with-link-reads
 
--- src/lib.rt:88:9
 link-requires : tie.Need-link-requires
 link-requires c κs = search needs
 
--- src/lib.rt:89:9
 other-out-requires : tie.Need-other-out-requires
 other-out-requires c κs = search needs
 
--- src/lib.rt:90:20
 aggregated-passed-requires : tie.Need-aggregated-passed-requires
 aggregated-passed-requires c κs = search needs
 
--- src/lib.rt:90:5
-with-link-requires : tie.Need-with-link-requires
-with-link-requires c κs = search needs
+put-link-requires : tie.Need-put-link-requires
+put-link-requires c κs = search needs
 
--- src/lib.rt:85:1
+same-length : tie.Need-same-length
+same-length c = search needs
+
 returns : tie.Need-returns
-returns c = rw (← c .before .before .before .link .ensures, ← c .before .before .other-out .ensures, ← c .before .aggregated-passed .ensures) (c .with-link .ensures)
+returns c = turns-as (c .before .before .put-link .ensures) (λ t. rw (c .before .before .before .aggregated-passed .ensures, c .before .before .before .before .before .other-out .ensures, c .before .before .before .before .before .before .link .ensures t) refl)
 
 pub aggregated-spec : {M : Type 1} → statement M
 aggregated-spec =
@@ -35,5 +31,6 @@ aggregated-spec =
     link-requires
     other-out-requires
     aggregated-passed-requires
-    with-link-requires
+    put-link-requires
+    same-length
     returns)

@@ -6,9 +6,6 @@ use Rattle.store_whole.proofs.ListLaws.{head-turns}
 use borrow.Author.Needs.{needs}
 use Rattle.store_whole.proofs.put_head.Statement.{statement}
 use Rattle.store_whole.proofs.put_head.Tie as tie
-use Rattle.store_whole.proofs.put_head.Reads as reads
-use Rattle.store_whole.proofs.put_head.Lts as lts
-use Rattle.store_whole.proofs.numbers.Reads as numbers-reads
 
 numbers-requires : tie.Need-numbers-requires
 numbers-requires c κs = search needs

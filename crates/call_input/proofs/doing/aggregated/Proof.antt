@@ -1,27 +1,83 @@
 -- `call_input::doing::aggregated` meets its contract.
 -- Assumes nothing.
+use mathlib.Core.Path.{_≡_, sym, ap, _∙_}
+use mathlib.Core.Bool.{true, false}
+use Rattle.answer.specs.declared.Refusal.the-variants.{SequenceSpent}
+use Rattle.aggregated.specs.declared.Aggregated.{Aggregated}
+use Rattle.aggregated.specs.declared.Set.{Set}
+use Rattle.aggregated.specs.Aggregated.{setOf}
+use Rattle.site.specs.Call.{batchOf}
+use Rattle.store_site.specs.Layout.{siteOf}
+use Rattle.store_call.specs.Issued.{batchIn}
+use Rattle.store_call.proofs.CallLaws.{steps-refused, steps-done}
+use Rattle.call_input.specs.Inputs.{aggregatedEntries, aggregatedChange, aggregatedPlan}
+use Rattle.call_input.proofs.Ends.{planned-spent, planned-done}
 use borrow.Author.Needs.{needs}
 use Rattle.call_input.proofs.doing.aggregated.Statement.{statement}
 use Rattle.call_input.proofs.doing.aggregated.Tie as tie
 
+aggregated-requires : tie.Need-aggregated-requires
+aggregated-requires c κs = search needs
+
 set-requires : tie.Need-set-requires
 set-requires c κs = search needs
 
-aggregated-requires : tie.Need-aggregated-requires
-aggregated-requires c κs = search needs
+of-aggregated-requires : tie.Need-of-aggregated-requires
+of-aggregated-requires c κs = search needs
+
+spent-requires : tie.Need-spent-requires
+spent-requires c κs = search needs
+
+same-length : tie.Need-same-length
+same-length c = search needs
+
+returns : tie.Need-returns
+returns c =
+    let a = c .before .before .before .before .before .before .before .before .args in
+    λ t.
+    let s = siteOf (a .w .now) t in
+    let e : c .before .before .before .before .set .result ≡ aggregatedChange s (a .value) (a .time) =
+    c .before .before .before .before .set .ensures ∙ ap (λ (x : Aggregated). setOf x (a .value) (a .time)) (c .before .before .before .before .before .aggregated .ensures t) in
+    let spent : batchOf (aggregatedPlan s (a .value) (a .time)) .spent ≡ true =
+    ap (λ (x : Set). batchIn s (aggregatedEntries s x) .spent) (sym e)
+    ∙ sym (c .before .spent .ensures t (aggregatedEntries s (c .before .before .before .before .set .result)) (sym (c .before .before .of-aggregated .ensures t)))
+    ∙ c .if1 .taken in
+    steps-refused t (a .w .now) SequenceSpent (planned-spent s (a .time) (aggregatedPlan s (a .value) (a .time)) spent)
+
+change-aggregated-requires : tie.Need-change-aggregated-requires
+change-aggregated-requires c κs = search needs
 
 nothing-requires : tie.Need-nothing-requires
 nothing-requires c κs = search needs
 
-conclude-requires : tie.Need-conclude-requires
-conclude-requires c κs = search needs
+same-length-2 : tie.Need-same-length-2
+same-length-2 c = search needs
 
-returns : tie.Need-returns
-returns c =
-    let w = c .before .before .before .before in
-    rw (c .before .nothing .ensures, c .before .before .aggregated .ensures, w .set .ensures) at (c .conclude .ensures)
+returns-2 : tie.Need-returns-2
+returns-2 c =
+    let a = c .before .before .before .before .before .before .before .before .before .before .before .before .before .args in
+    λ t.
+    let s = siteOf (a .w .now) t in
+    let e : c .before .before .before .before .before .before .before .before .before .set .result ≡ aggregatedChange s (a .value) (a .time) =
+    c .before .before .before .before .before .before .before .before .before .set .ensures ∙ ap (λ (x : Aggregated). setOf x (a .value) (a .time)) (c .before .before .before .before .before .before .before .before .before .before .aggregated .ensures t) in
+    let lasts : batchOf (aggregatedPlan s (a .value) (a .time)) .spent ≡ false =
+    ap (λ (x : Set). batchIn s (aggregatedEntries s x) .spent) (sym e)
+    ∙ sym (c .before .before .before .before .before .before .spent .ensures t (aggregatedEntries s (c .before .before .before .before .before .before .before .before .before .set .result)) (sym (c .before .before .before .before .before .before .before .of-aggregated .ensures t)))
+    ∙ c .before .before .before .before .before .if1 .left in
+    steps-done t (a .w .now) _ (c .before .before .before .change-aggregated .ensures)
+    (rw (c .nothing .ensures, e) (planned-done s (a .time) (aggregatedPlan s (a .value) (a .time)) lasts))
 
 pub aggregated-spec : {M : Type 1} → statement M
 aggregated-spec =
     tie.close
-    (tie.spec set-requires aggregated-requires nothing-requires conclude-requires returns)
+    (tie.spec
+    aggregated-requires
+    set-requires
+    of-aggregated-requires
+    spent-requires
+    same-length
+    returns
+    change-aggregated-requires
+    nothing-requires
+    same-length-2
+    returns-2)

@@ -1,5 +1,17 @@
 -- `call_input::doing::alarm` meets its contract.
 -- Assumes nothing.
+use mathlib.Core.Path.{_≡_, sym, ap, _∙_}
+use mathlib.Core.Bool.{true, false}
+use Rattle.answer.specs.declared.Refusal.the-variants.{SequenceSpent}
+use Rattle.alarm.specs.declared.Alarm.{Alarm}
+use Rattle.alarm.specs.declared.Changed.{Changed}
+use Rattle.alarm.specs.Alarm.{inputOf}
+use Rattle.site.specs.Call.{batchOf}
+use Rattle.store_site.specs.Layout.{siteOf}
+use Rattle.store_call.specs.Issued.{batchIn}
+use Rattle.store_call.proofs.CallLaws.{steps-refused, steps-done}
+use Rattle.call_input.specs.Inputs.{alarmEntries, alarmChange, alarmPlan}
+use Rattle.call_input.proofs.Ends.{planned-spent, planned-done}
 use borrow.Author.Needs.{needs}
 use Rattle.call_input.proofs.doing.alarm.Statement.{statement}
 use Rattle.call_input.proofs.doing.alarm.Tie as tie
@@ -10,23 +22,50 @@ alarm-requires c κs = search needs
 input-requires : tie.Need-input-requires
 input-requires c κs = search needs
 
-with-alarm-requires : tie.Need-with-alarm-requires
-with-alarm-requires c κs = search needs
+of-alarm-requires : tie.Need-of-alarm-requires
+of-alarm-requires c κs = search needs
 
-alarm-requires-2 : tie.Need-alarm-requires-2
-alarm-requires-2 c κs = search needs
+spent-requires : tie.Need-spent-requires
+spent-requires c κs = search needs
+
+same-length : tie.Need-same-length
+same-length c = search needs
+
+returns : tie.Need-returns
+returns c =
+    let a = c .before .before .before .before .before .before .before .before .args in
+    λ t.
+    let s = siteOf (a .w .now) t in
+    let e : c .before .before .before .before .input .result ≡ alarmChange s (a .number) (a .active) (a .time) =
+    c .before .before .before .before .input .ensures ∙ ap (λ (x : Alarm). inputOf x (a .active) (a .time)) (c .before .before .before .before .before .alarm .ensures t) in
+    let spent : batchOf (alarmPlan s (a .number) (a .active) (a .time)) .spent ≡ true =
+    ap (λ (x : Changed). batchIn s (alarmEntries s (a .number) x) .spent) (sym e)
+    ∙ sym (c .before .spent .ensures t (alarmEntries s (a .number) (c .before .before .before .before .input .result)) (sym (c .before .before .of-alarm .ensures t (a .number))))
+    ∙ c .if1 .taken in
+    steps-refused t (a .w .now) SequenceSpent (planned-spent s (a .time) (alarmPlan s (a .number) (a .active) (a .time)) spent)
+
+change-alarm-requires : tie.Need-change-alarm-requires
+change-alarm-requires c κs = search needs
 
 nothing-requires : tie.Need-nothing-requires
 nothing-requires c κs = search needs
 
-conclude-requires : tie.Need-conclude-requires
-conclude-requires c κs = search needs
+same-length-2 : tie.Need-same-length-2
+same-length-2 c = search needs
 
-returns : tie.Need-returns
-returns c =
-    let w = c .before .before .before in
-    rw (c .before .nothing .ensures, c .before .before .alarm2 .ensures, w .with-alarm .ensures, w .before .input .ensures, w .before .before .alarm .ensures) at
-    (c .conclude .ensures)
+returns-2 : tie.Need-returns-2
+returns-2 c =
+    let a = c .before .before .before .before .before .before .before .before .before .before .before .before .before .args in
+    λ t.
+    let s = siteOf (a .w .now) t in
+    let e : c .before .before .before .before .before .before .before .before .before .input .result ≡ alarmChange s (a .number) (a .active) (a .time) =
+    c .before .before .before .before .before .before .before .before .before .input .ensures ∙ ap (λ (x : Alarm). inputOf x (a .active) (a .time)) (c .before .before .before .before .before .before .before .before .before .before .alarm .ensures t) in
+    let lasts : batchOf (alarmPlan s (a .number) (a .active) (a .time)) .spent ≡ false =
+    ap (λ (x : Changed). batchIn s (alarmEntries s (a .number) x) .spent) (sym e)
+    ∙ sym (c .before .before .before .before .before .before .spent .ensures t (alarmEntries s (a .number) (c .before .before .before .before .before .before .before .before .before .input .result)) (sym (c .before .before .before .before .before .before .before .of-alarm .ensures t (a .number))))
+    ∙ c .before .before .before .before .before .if1 .left in
+    steps-done t (a .w .now) _ (c .before .before .before .change-alarm .ensures)
+    (rw (c .nothing .ensures, e) (planned-done s (a .time) (alarmPlan s (a .number) (a .active) (a .time)) lasts))
 
 pub alarm-spec : {M : Type 1} → statement M
 alarm-spec =
@@ -34,8 +73,11 @@ alarm-spec =
     (tie.spec
     alarm-requires
     input-requires
-    with-alarm-requires
-    alarm-requires-2
+    of-alarm-requires
+    spent-requires
+    same-length
+    returns
+    change-alarm-requires
     nothing-requires
-    conclude-requires
-    returns)
+    same-length-2
+    returns-2)

@@ -1,6 +1,16 @@
 -- `call_input::doing::status` meets its contract.
 -- Assumes nothing.
+use mathlib.Core.Path.{_≡_, sym, ap, _∙_}
+use mathlib.Core.Bool.{true, false}
+use Rattle.answer.specs.declared.Refusal.the-variants.{SequenceSpent}
 use mir.Facts.{toZ-ofZ}
+use Rattle.status.specs.declared.Set.{Set}
+use Rattle.site.specs.Call.{batchOf}
+use Rattle.store_site.specs.Layout.{siteOf}
+use Rattle.store_call.specs.Issued.{batchIn}
+use Rattle.store_call.proofs.CallLaws.{steps-refused, steps-done}
+use Rattle.call_input.specs.Inputs.{statusEntries, statusChange, statusPlan}
+use Rattle.call_input.proofs.Ends.{planned-spent, planned-done}
 use borrow.Author.Needs.{needs}
 use Rattle.call_input.proofs.doing.status.Statement.{statement}
 use Rattle.call_input.proofs.doing.status.Tie as tie
@@ -11,23 +21,48 @@ status-requires c κs = search needs
 set-requires : tie.Need-set-requires
 set-requires c κs = search needs
 
-with-status-requires : tie.Need-with-status-requires
-with-status-requires c κs = search needs
+of-status-requires : tie.Need-of-status-requires
+of-status-requires c κs = search needs
 
-statuses-requires : tie.Need-statuses-requires
-statuses-requires c κs = search needs
+spent-requires : tie.Need-spent-requires
+spent-requires c κs = search needs
+
+same-length : tie.Need-same-length
+same-length c = search needs
+
+returns : tie.Need-returns
+returns c =
+    let a = c .before .before .before .before .before .before .before .before .args in
+    λ t.
+    let s = siteOf (a .w .now) t in
+    let e : c .before .before .before .before .set .result ≡ statusChange s (a .number) (a .value) = rw (c .before .before .before .before .before .status .ensures t, toZ-ofZ (c .before .before .before .before .before .before .before .before .fits .value)) at (c .before .before .before .before .set .ensures) in
+    let spent : batchOf (statusPlan s (a .number) (a .value) (a .time)) .spent ≡ true =
+    ap (λ (x : Set). batchIn s (statusEntries s (a .number) x (a .time)) .spent) (sym e)
+    ∙ sym (c .before .spent .ensures t (statusEntries s (a .number) (c .before .before .before .before .set .result) (a .time)) (sym (c .before .before .of-status .ensures t (a .time))))
+    ∙ c .if1 .taken in
+    steps-refused t (a .w .now) SequenceSpent (planned-spent s (a .time) (statusPlan s (a .number) (a .value) (a .time)) spent)
+
+change-status-requires : tie.Need-change-status-requires
+change-status-requires c κs = search needs
 
 nothing-requires : tie.Need-nothing-requires
 nothing-requires c κs = search needs
 
-conclude-requires : tie.Need-conclude-requires
-conclude-requires c κs = search needs
+same-length-2 : tie.Need-same-length-2
+same-length-2 c = search needs
 
-returns : tie.Need-returns
-returns c =
-    let w = c .before .before .before in
-    rw (c .before .nothing .ensures, c .before .before .statuses .ensures, w .with-status .ensures, w .before .set .ensures, w .before .before .status .ensures, toZ-ofZ (w .before .before .before .fits .value)) at
-    (c .conclude .ensures)
+returns-2 : tie.Need-returns-2
+returns-2 c =
+    let a = c .before .before .before .before .before .before .before .before .before .before .before .before .before .args in
+    λ t.
+    let s = siteOf (a .w .now) t in
+    let e : c .before .before .before .before .before .before .before .before .before .set .result ≡ statusChange s (a .number) (a .value) = rw (c .before .before .before .before .before .before .before .before .before .before .status .ensures t, toZ-ofZ (c .before .before .before .before .before .before .before .before .before .before .before .before .before .fits .value)) at (c .before .before .before .before .before .before .before .before .before .set .ensures) in
+    let lasts : batchOf (statusPlan s (a .number) (a .value) (a .time)) .spent ≡ false =
+    ap (λ (x : Set). batchIn s (statusEntries s (a .number) x (a .time)) .spent) (sym e)
+    ∙ sym (c .before .before .before .before .before .before .spent .ensures t (statusEntries s (a .number) (c .before .before .before .before .before .before .before .before .before .set .result) (a .time)) (sym (c .before .before .before .before .before .before .before .of-status .ensures t (a .time))))
+    ∙ c .before .before .before .before .before .if1 .left in
+    steps-done t (a .w .now) _ (c .before .before .before .change-status .ensures)
+    (rw (c .nothing .ensures, e) (planned-done s (a .time) (statusPlan s (a .number) (a .value) (a .time)) lasts))
 
 pub status-spec : {M : Type 1} → statement M
 status-spec =
@@ -35,8 +70,11 @@ status-spec =
     (tie.spec
     status-requires
     set-requires
-    with-status-requires
-    statuses-requires
+    of-status-requires
+    spent-requires
+    same-length
+    returns
+    change-status-requires
     nothing-requires
-    conclude-requires
-    returns)
+    same-length-2
+    returns-2)

@@ -1,57 +1,86 @@
-use Rattle.call_pump.proofs.Laws.{due-below}
-use Prim.Native.Nat.{_≤_}
+-- `call_pump::checks::due_at` meets its contract.
+-- Assumes nothing.
+use Rattle.link.specs.Due.{dueOf}
+use mathlib.Core.Path.{refl}
+use Rattle.store_table.specs.Layout.{tableOf}
+use Rattle.store_site.specs.Layout.{siteOf}
 use borrow.Author.Needs.{needs}
 use Rattle.call_pump.proofs.checks.due_at.Statement.{statement}
 use Rattle.call_pump.proofs.checks.due_at.Tie as tie
-use Rattle.call_pump.proofs.checks.due_at.Reads as reads
-use Rattle.call_pump.proofs.checks.due_at.Lts as lts
-use Rattle.link.proofs.Link.due.Reads as due-reads
-use Rattle.pool.proofs.Pool.oldest_unsent.Reads as oldest-unsent-reads
-use Rattle.call_pump.proofs.checks.is_held.Reads as is-held-reads
-use Rattle.site.proofs.Site.link.Reads as link-reads
-use Rattle.site.proofs.Site.role.Reads as role-reads
 
--- src/checks.rt:32:26
-oldest-unsent-requires : tie.Need-oldest-unsent-requires
-oldest-unsent-requires c κs = search needs
+phase-requires : tie.Need-phase-requires
+phase-requires c κs = search needs
 
--- src/checks.rt:32:9
-is-held-requires : tie.Need-is-held-requires
-is-held-requires c κs = search needs
+enum-told : tie.Need-enum-told
+enum-told c = search needs
 
--- src/checks.rt:33:9
-link-requires : tie.Need-link-requires
-link-requires c κs = search needs
+enum-told-2 : tie.Need-enum-told-2
+enum-told-2 c = search needs
 
--- src/checks.rt:35:27
-role-requires : tie.Need-role-requires
-role-requires c κs = search needs
+version-out-requires : tie.Need-version-out-requires
+version-out-requires c κs = search needs
 
--- src/checks.rt:35:38
-cast-due : tie.Need-cast-due
-cast-due c = search needs
+due-greeting-requires : tie.Need-due-greeting-requires
+due-greeting-requires c κs = search needs
 
--- src/checks.rt:35:5
-due-requires : tie.Need-due-requires
-due-requires c κs = search needs
+enum-told-3 : tie.Need-enum-told-3
+enum-told-3 c = search needs
 
--- src/checks.rt:27:1
+watchdog-out-requires : tie.Need-watchdog-out-requires
+watchdog-out-requires c κs = search needs
+
+due-beating-requires : tie.Need-due-beating-requires
+due-beating-requires c κs = search needs
+
+enum-told-4 : tie.Need-enum-told-4
+enum-told-4 c = search needs
+
+due-up-requires : tie.Need-due-up-requires
+due-up-requires c κs = search needs
+
 returns : tie.Need-returns
+unfolding dueOf
 returns c =
-    let a = c .before .before .before .before .before .before .before .before .args in
-    let h : a .s .table .alarmcount ≤ 65536 = search needs in (
-      rw (← c .before .before .before .before .before .before .oldest-unsent .ensures, ← c .before .before .before .before .before .is-held .ensures, ← c .before .before .before .before .link .ensures, ← c .before .before .role .ensures) (c .due .ensures),
-      rw (c .due .ensures) (due-below _ _ _ _ _ _ 65536 h),
-    )
+    let a = c .before .before .before .before .before .args in
+    let x = tableOf (a .t .now) in
+    (rw (← c .before .before .phase .ensures x, c .enum-told .given .1) refl, tt)
+
+returns-2 : tie.Need-returns-2
+unfolding dueOf
+returns-2 c =
+    let a = c .before .before .before .before .before .before .before .args in
+    let x = tableOf (a .t .now) in
+    (rw (← c .before .before .before .before .phase .ensures x, c .before .before .enum-told2 .given .1, ← c .before .version-out .ensures x) (c .due-greeting .ensures .0), c .due-greeting .ensures .1)
+
+returns-3 : tie.Need-returns-3
+unfolding dueOf
+returns-3 c =
+    let a = c .before .before .before .before .before .before .before .args in
+    let x = tableOf (a .t .now) in
+    (rw (← c .before .before .before .before .phase .ensures x, c .before .before .enum-told3 .given .1, ← c .before .watchdog-out .ensures x) (c .due-beating .ensures .0), c .due-beating .ensures .1)
+
+returns-4 : tie.Need-returns-4
+unfolding dueOf
+returns-4 c =
+    let a = c .before .before .before .before .before .before .args in
+    let x = tableOf (a .t .now) in
+    (rw (← c .before .before .before .phase .ensures x, c .before .enum-told4 .given .1) (c .due-up .ensures .0 (siteOf (a .w .now) x) refl), c .due-up .ensures .1)
 
 pub due-at-spec : {M : Type 1} → statement M
 due-at-spec =
     tie.close
     (tie.spec
-    oldest-unsent-requires
-    is-held-requires
-    link-requires
-    role-requires
-    cast-due
-    due-requires
-    returns)
+    phase-requires
+    enum-told
+    enum-told-2
+    version-out-requires
+    due-greeting-requires
+    enum-told-3
+    watchdog-out-requires
+    due-beating-requires
+    enum-told-4
+    due-up-requires
+    returns
+    returns-2
+    returns-3
+    returns-4)

@@ -1,33 +1,44 @@
+-- `call_pump::send::entry` meets its contract.
+-- Assumes nothing.
+use Rattle.send_after.specs.Outgoing.{entrySent}
+use Rattle.site.specs.declared.Site.{Site}
+use Rattle.send_message.proofs.Read.{table-of}
+use Rattle.store_table.specs.Layout.{tableOf}
+use Rattle.store_site.specs.Layout.{siteOf}
 use Rattle.call_pump.proofs.Laws.{sent}
 use borrow.Author.Needs.{needs}
 use Rattle.call_pump.proofs.send.entry.Statement.{statement}
 use Rattle.call_pump.proofs.send.entry.Tie as tie
-use Rattle.call_pump.proofs.send.entry.Reads as reads
-use Rattle.call_pump.proofs.send.entry.Lts as lts
-use Rattle.send_after.proofs.entry.Reads as entry-reads
-use Rattle.call_pump.proofs.send.finish.Reads as finish-reads
-use Rattle.send_message.proofs.write_entry.Reads as write-entry-reads
 
--- src/send.rt:67:9
 write-entry-requires : tie.Need-write-entry-requires
 write-entry-requires c κs = search needs
 
--- src/send.rt:68:12
 entry-requires : tie.Need-entry-requires
 entry-requires c κs = search needs
 
--- src/send.rt:68:5
 finish-requires : tie.Need-finish-requires
 finish-requires c κs = search needs
 
--- src/send.rt:64:1
 same-length : tie.Need-same-length
 same-length c = search needs
 
--- src/send.rt:64:1
+same-length-2 : tie.Need-same-length-2
+same-length-2 c = search needs
+
 returns : tie.Need-returns
-returns c = rw (← c .before .entry .ensures) (sent (c .before .before .before .before .write-entry .ensures) (c .finish .ensures))
+returns c =
+    let a = c .before .before .before .before .before .before .before .before .before .before .before .before .before .before .before .args in
+    let x = tableOf (a .t .now) in
+    let s = siteOf (a .w .now) x in
+    sent {f = λ (s : Site). entrySent s (a .l) (a .time) (a .id) (a .e .sequence)} (c .before .before .before .before .before .before .before .before .before .before .write-entry .ensures s (table-of (a .w .now) x)) (c .before .before .before .before .before .before .entry .ensures) (c .before .before .finish .ensures)
 
 pub entry-spec : {M : Type 1} → statement M
 entry-spec =
-    tie.close (tie.spec write-entry-requires entry-requires finish-requires same-length returns)
+    tie.close
+    (tie.spec
+    write-entry-requires
+    entry-requires
+    finish-requires
+    same-length
+    same-length-2
+    returns)

@@ -1,5 +1,14 @@
 -- `call_tick::closing::close_all` meets its contract.
 -- Assumes nothing.
+use mathlib.Core.Path.{ap, _∙_}
+use native.Mathlib.Omega.{arith}
+use Rattle.table_whole.specs.Memory.{noTable}
+use Rattle.site.specs.declared.Site.{Site}
+use Rattle.store_site.specs.Layout.{siteOf}
+use Rattle.store_site.proofs.TurnsLaws.{turns-then}
+use Rattle.call_tick.specs.Closing.{lateMask}
+use Rattle.call_tick.proofs.Masks.{late-most}
+use Rattle.call_tick.proofs.InPlace.{bits-closed}
 use borrow.Author.Needs.{needs}
 use Rattle.call_tick.proofs.closing.close_all.Statement.{statement}
 use Rattle.call_tick.proofs.closing.close_all.Tie as tie
@@ -16,8 +25,76 @@ close-late-requires-3 c κs = search needs
 close-late-requires-4 : tie.Need-close-late-requires-4
 close-late-requires-4 c κs = search needs
 
+add-result : tie.Need-add-result
+add-result c =
+    let a = c .before .before .before .before .before .before .before .before .before .before .before .before .before .before .before .before .before .args in
+    let one = c .before .before .before .before .before .before .before .before .before .before .before .before .before .before .close-late in
+    let two = c .before .before .before .before .before .before .before .before .before .before .close-late2 in
+    let three = c .before .before .before .before .before .before .close-late3 in
+    let four = c .before .before .close-late4 in
+    omega (
+      arith,
+      one .ensures .1 noTable,
+      late-most (siteOf (a .w .now) noTable) 0 (a .time),
+      two .ensures .1 noTable,
+      late-most (siteOf (one .last .0) noTable) 1 (a .time),
+    )
+
+add-result-2 : tie.Need-add-result-2
+add-result-2 c =
+    let a = c .before .before .before .before .before .before .before .before .before .before .before .before .before .before .before .before .before .args in
+    let one = c .before .before .before .before .before .before .before .before .before .before .before .before .before .before .close-late in
+    let two = c .before .before .before .before .before .before .before .before .before .before .close-late2 in
+    let three = c .before .before .before .before .before .before .close-late3 in
+    let four = c .before .before .close-late4 in
+    omega (
+      arith,
+      one .ensures .1 noTable,
+      late-most (siteOf (a .w .now) noTable) 0 (a .time),
+      two .ensures .1 noTable,
+      late-most (siteOf (one .last .0) noTable) 1 (a .time),
+      three .ensures .1 noTable,
+      late-most (siteOf (two .last .0) noTable) 2 (a .time),
+    )
+
+add-result-3 : tie.Need-add-result-3
+add-result-3 c =
+    let a = c .before .before .before .before .before .before .before .before .before .before .before .before .before .before .before .before .before .args in
+    let one = c .before .before .before .before .before .before .before .before .before .before .before .before .before .before .close-late in
+    let two = c .before .before .before .before .before .before .before .before .before .before .close-late2 in
+    let three = c .before .before .before .before .before .before .close-late3 in
+    let four = c .before .before .close-late4 in
+    omega (
+      arith,
+      one .ensures .1 noTable,
+      late-most (siteOf (a .w .now) noTable) 0 (a .time),
+      two .ensures .1 noTable,
+      late-most (siteOf (one .last .0) noTable) 1 (a .time),
+      three .ensures .1 noTable,
+      late-most (siteOf (two .last .0) noTable) 2 (a .time),
+      four .ensures .1 noTable,
+      late-most (siteOf (three .last .0) noTable) 3 (a .time),
+    )
+
+same-length : tie.Need-same-length
+same-length c = search needs
+
 returns : tie.Need-returns
-returns c = rw (← c .before .before .before .close-late .ensures, ← c .before .before .close-late2 .ensures, ← c .before .close-late3 .ensures) (c .close-late4 .ensures)
+returns c =
+    let a = c .before .before .before .before .before .before .before .before .before .before .before .before .before .before .before .before .before .args in
+    let one = c .before .before .before .before .before .before .before .before .before .before .before .before .before .before .close-late in
+    let two = c .before .before .before .before .before .before .before .before .before .before .close-late2 in
+    let three = c .before .before .before .before .before .before .close-late3 in
+    let four = c .before .before .close-late4 in
+    let upto1 = one .ensures .0 in
+    let upto2 = turns-then upto1 (two .ensures .0) in
+    let upto3 = turns-then upto2 (three .ensures .0) in (
+      turns-then upto3 (four .ensures .0),
+      λ t. bits-closed (siteOf (a .w .now) t) (a .time) (one .ensures .1 t)
+          (two .ensures .1 t ∙ ap (λ (s : Site). lateMask s 1 (a .time)) (upto1 .site t))
+          (three .ensures .1 t ∙ ap (λ (s : Site). lateMask s 2 (a .time)) (upto2 .site t))
+          (four .ensures .1 t ∙ ap (λ (s : Site). lateMask s 3 (a .time)) (upto3 .site t)),
+    )
 
 pub close-all-spec : {M : Type 1} → statement M
 close-all-spec =
@@ -27,4 +104,8 @@ close-all-spec =
     close-late-requires-2
     close-late-requires-3
     close-late-requires-4
+    add-result
+    add-result-2
+    add-result-3
+    same-length
     returns)

@@ -1,7 +1,12 @@
 -- `call_tick::closing::close_late` meets its contract.
 -- Assumes nothing.
-use mathlib.Core.Path.{refl}
-use Rattle.call_tick.specs.Closing.{closeLate}
+use mathlib.Core.Path.{_≡_, sym, _∙_}
+use mathlib.Core.Bool.{true, false}
+use Rattle.table_whole.specs.declared.SiteTable.{SiteTable}
+use Rattle.call_tick.specs.Closing.{lateAt}
+use Rattle.store_site.specs.Layout.{siteOf}
+use Rattle.store_site.proofs.TurnsLaws.{turns-none, turns-as}
+use Rattle.call_tick.proofs.InPlace.{late-closed, not-late, late-bit, no-bit}
 use borrow.Author.Needs.{needs}
 use Rattle.call_tick.proofs.closing.close_late.Statement.{statement}
 use Rattle.call_tick.proofs.closing.close_late.Tie as tie
@@ -12,13 +17,37 @@ late-requires c κs = search needs
 close-requires : tie.Need-close-requires
 close-requires c κs = search needs
 
+bit-of-requires : tie.Need-bit-of-requires
+bit-of-requires c κs = search needs
+
+same-length : tie.Need-same-length
+same-length c = search needs
+
 returns : tie.Need-returns
-unfolding closeLate
-returns c = rw (← c .before .before .late .ensures, c .before .if1 .taken) (c .close .ensures)
+returns c =
+    let a = c .before .before .before .before .before .before .before .before .before .args in
+    let late : (t : SiteTable) → lateAt (siteOf (a .w .now) t) (a .l) (a .time) ≡ true = λ t. sym (c .before .before .before .before .before .before .late .ensures t) ∙ c .before .before .before .before .before .if1 .taken in (
+      turns-as (c .before .before .before .close .ensures) (λ t. late-closed (siteOf (a .w .now) t) (a .l) (a .time) (late t)),
+      λ t. c .bit-of .ensures ∙ late-bit (siteOf (a .w .now) t) (a .l) (a .time) (late t),
+    )
+
+same-length-2 : tie.Need-same-length-2
+same-length-2 c = search needs
 
 returns-2 : tie.Need-returns-2
-unfolding closeLate
-returns-2 c = rw (← c .before .late .ensures, c .if1 .left) refl
+returns-2 c =
+    let a = c .before .before .before .before .args in
+    let early : (t : SiteTable) → lateAt (siteOf (a .w .now) t) (a .l) (a .time) ≡ false = λ t. sym (c .before .late .ensures t) ∙ c .if1 .left in
+    (turns-none (a .w .now) (λ t. not-late (siteOf (a .w .now) t) (a .l) (a .time) (early t)), λ t. no-bit (siteOf (a .w .now) t) (a .l) (a .time) (early t))
 
 pub close-late-spec : {M : Type 1} → statement M
-close-late-spec = tie.close (tie.spec late-requires close-requires returns returns-2)
+close-late-spec =
+    tie.close
+    (tie.spec
+    late-requires
+    close-requires
+    bit-of-requires
+    same-length
+    returns
+    same-length-2
+    returns-2)

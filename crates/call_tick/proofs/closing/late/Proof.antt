@@ -11,7 +11,7 @@ late-requires : tie.Need-late-requires
 late-requires c κs = search needs
 
 returns : tie.Need-returns
-returns c = rw (← c .before .link .ensures) (c .late .ensures)
+returns c = λ t. rw (← c .before .link .ensures t) (c .late .ensures)
 
 pub late-spec : {M : Type 1} → statement M
 late-spec = tie.close (tie.spec link-requires late-requires returns)

@@ -1,27 +1,55 @@
 -- `call_tick::intervals::issue_one` meets its contract.
 -- Assumes nothing.
-use mathlib.Core.Path.{refl}
+use mathlib.Core.Path.{sym, _∙_}
+use Rattle.store_site.specs.Layout.{siteOf}
+use Rattle.store_site.proofs.TurnsLaws.{turns-none, turns-as}
+use Rattle.call_tick.proofs.InPlace.{place-issues, place-silent}
 use borrow.Author.Needs.{needs}
 use Rattle.call_tick.proofs.intervals.issue_one.Statement.{statement}
 use Rattle.call_tick.proofs.intervals.issue_one.Tie as tie
 
-on-tick-requires : tie.Need-on-tick-requires
-on-tick-requires c κs = search needs
+issues-requires : tie.Need-issues-requires
+issues-requires c κs = search needs
+
+cast-status : tie.Need-cast-status
+cast-status c = search needs
 
 status-requires : tie.Need-status-requires
 status-requires c κs = search needs
 
+status-requires-2 : tie.Need-status-requires-2
+status-requires-2 c κs = search needs
+
 add-requires : tie.Need-add-requires
 add-requires c κs = search needs
 
+same-length : tie.Need-same-length
+same-length c = search needs
+
 returns : tie.Need-returns
 returns c =
-    rw (← c .before .before .before .on-tick .ensures, c .before .before .if1 .taken, ← c .before .status .ensures)
-    (c .add .ensures)
+    let a = c .before .before .before .before .before .before .before .before .before .before .before .before .args in
+    turns-as (c .before .before .add .ensures)
+    (λ t. rw (c .before .before .before .before .status2 .ensures t, c .before .before .before .before .before .before .status .ensures t) (place-issues (siteOf (a .w .now) t) (a .time) (a .i) (sym (c .before .before .before .before .before .before .before .before .before .issues .ensures t) ∙ c .before .before .before .before .before .before .before .before .if1 .taken)))
+
+same-length-2 : tie.Need-same-length-2
+same-length-2 c = search needs
 
 returns-2 : tie.Need-returns-2
-returns-2 c = rw (← c .before .on-tick .ensures, c .if1 .left) refl
+returns-2 c =
+    let a = c .before .before .before .before .args in
+    turns-none (a .w .now) (λ t. place-silent (siteOf (a .w .now) t) (a .time) (a .i) (sym (c .before .issues .ensures t) ∙ c .if1 .left))
 
 pub issue-one-spec : {M : Type 1} → statement M
 issue-one-spec =
-    tie.close (tie.spec on-tick-requires status-requires add-requires returns returns-2)
+    tie.close
+    (tie.spec
+    issues-requires
+    cast-status
+    status-requires
+    status-requires-2
+    add-requires
+    same-length
+    returns
+    same-length-2
+    returns-2)

@@ -4,8 +4,6 @@ use Rattle.store_whole.proofs.ListLaws.{lost-turns}
 use borrow.Author.Needs.{needs}
 use Rattle.store_whole.proofs.lists.put_four.Statement.{statement}
 use Rattle.store_whole.proofs.lists.put_four.Tie as tie
-use Rattle.store_whole.proofs.lists.put_four.Reads as reads
-use Rattle.store_whole.proofs.lists.put_four.Lts as lts
 
 slice-write-w : tie.Need-slice-write-w
 slice-write-w c = search needs

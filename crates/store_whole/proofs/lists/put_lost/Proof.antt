@@ -6,9 +6,6 @@ use Rattle.store_whole.proofs.ListLaws.{four-of}
 use borrow.Author.Needs.{needs}
 use Rattle.store_whole.proofs.lists.put_lost.Statement.{statement}
 use Rattle.store_whole.proofs.lists.put_lost.Tie as tie
-use Rattle.store_whole.proofs.lists.put_lost.Reads as reads
-use Rattle.store_whole.proofs.lists.put_lost.Lts as lts
-use Rattle.store_whole.proofs.lists.put_four.Reads as put-four-reads
 
 array-read-put-four : tie.Need-array-read-put-four
 array-read-put-four c = search needs

@@ -1,0 +1,90 @@
+-- The records of a value in place, link by link: how many there are, and the site with them.
+-- Assumes nothing.
+use Prim.Native.Nat.{ℕ, zero, suc, _+_, _*_}
+use mathlib.Core.Path.{_≡_, refl, sym, ap}
+use mathlib.Core.Bool.{true, false}
+use mathlib.Core.List.{List, [], _∷_}
+use native.Mathlib.Omega.{arith}
+use lib.ListN.{length, length-append}
+use Rattle.basis.specs.Pick.{bit}
+use Rattle.entry.specs.declared.Entry.{Entry}
+use Rattle.status.specs.declared.Set.{Set as StatusSet}
+use Rattle.subscription.specs.Subscription.{issuesOn}
+use Rattle.aggregated.specs.declared.Set.{Set as AggregatedSet}
+use Rattle.aggregated.specs.Issued.{issuedOf as aggregatedRecord}
+use Rattle.call_records.specs.Upwards.{entriesTo}
+use Rattle.call_records.proofs.Entries.{none-to}
+use Rattle.table_whole.specs.declared.SiteTable.{SiteTable}
+use Rattle.site.specs.declared.Site.{Site}
+use Rattle.site.specs.Site.{linkAt}
+use Rattle.site.specs.Parts.{subscriptionAt}
+use Rattle.site.specs.Records.{statusRecord}
+use Rattle.store_site.specs.Layout.{siteOf}
+use Rattle.store_site.specs.Turns.{Turns}
+use Rattle.store_site.proofs.TurnsLaws.{turns-as}
+use Rattle.store_call.specs.Issued.{issuedIn}
+use Rattle.store_call.proofs.IssuedLaws.{issued-none, places-none, places-next, count-if, count-one}
+use Rattle.call_input.specs.Inputs.{statusEntry, aggregatedEntry}
+
+-- of the links below l
+pub record Issued (f : Site → ℕ → List Entry) (l : ℕ) (ws vs : List ℕ) : Type 0 where
+  pub turns : Turns (λ (s : Site). issuedIn s (entriesTo (f s) l)) ws vs
+
+-- of all that are configured
+pub issued-all : {f : Site → ℕ → List Entry} {l : ℕ} {ws vs : List ℕ} → ((t : SiteTable) → l ≡ siteOf ws t .linkcount) → Issued f l ws vs
+    → Turns (λ (s : Site). issuedIn s (entriesTo (f s) (s .linkcount))) ws vs
+issued-all {f} {l} {ws} e a = turns-as (a .turns) (λ t. ap (λ (n : ℕ). issuedIn (siteOf ws t) (entriesTo (f (siteOf ws t)) n)) (e t))
+
+module _ (k : ℕ) (x : StatusSet) (time : ℕ) where
+  -- link l's record, or none
+  abbrev pub entryOf : Site → ℕ → List Entry
+  entryOf s l = statusEntry s k x time l
+
+  module _ (s : Site) (l : ℕ) where
+    pub status-issues : issuesOn (subscriptionAt s (l * 32 + k)) (x .changed) ≡ true → issuedIn s (statusRecord (linkAt s l) (x .status) l k time ∷ []) ≡ issuedIn s (entryOf s l)
+    status-issues h = rw h refl
+
+    pub status-silent : issuesOn (subscriptionAt s (l * 32 + k)) (x .changed) ≡ false → s ≡ issuedIn s (entryOf s l)
+    status-silent h = rw h (sym (issued-none s))
+
+    pub count-status : {n m : ℕ} → n ≡ length (entriesTo (entryOf s) l) → m ≡ n + bit (issuesOn (subscriptionAt s (l * 32 + k)) (x .changed))
+        → m ≡ length (entriesTo (entryOf s) (l + 1))
+    count-status p q =
+        let b = issuesOn (subscriptionAt s (l * 32 + k)) (x .changed) in
+        count-one (entryOf s) l b p (count-if b (statusRecord (linkAt s l) (x .status) l k time)) q
+
+  steady : (s : Site) (es : List Entry) (l : ℕ) → entryOf (issuedIn s es) l ≡ entryOf s l
+  unfolding issuedIn
+  steady s es l = refl
+
+  pub statuses-none : (ws : List ℕ) → Issued entryOf 0 ws ws
+  statuses-none ws = record { turns = places-none entryOf steady ws }
+
+  pub statuses-next : (l : ℕ) {ws us vs : List ℕ} → Issued entryOf l ws us → Turns (λ (s : Site). issuedIn s (entryOf s l)) us vs → Issued entryOf (l + 1) ws vs
+  statuses-next l a b = record { turns = places-next entryOf steady l (a .turns) b }
+
+module _ (x : AggregatedSet) where
+  abbrev pub each : Site → ℕ → List Entry
+  each s l = aggregatedEntry x l
+
+  module _ (s : Site) (l : ℕ) where
+    pub aggregated-issues : x .changed ≡ true → issuedIn s (aggregatedRecord (x .aggregated) l ∷ []) ≡ issuedIn s (each s l)
+    aggregated-issues h = rw h refl
+
+    pub aggregated-silent : x .changed ≡ false → s ≡ issuedIn s (each s l)
+    aggregated-silent h = rw h (sym (issued-none s))
+
+  pub aggregated-none : (ws : List ℕ) → Issued each 0 ws ws
+  aggregated-none ws = record { turns = places-none each (λ s es l. refl) ws }
+
+  pub aggregated-next : (l : ℕ) {ws us vs : List ℕ} → Issued each l ws us → Turns (λ (s : Site). issuedIn s (each s l)) us vs → Issued each (l + 1) ws vs
+  aggregated-next l a b = record { turns = places-next each (λ s es l. refl) l (a .turns) b }
+
+  pub one-each : x .changed ≡ true → (n : ℕ) → n ≡ length (entriesTo (aggregatedEntry x) n)
+  one-each h zero = refl
+  one-each h (suc n) =
+      let one : length (aggregatedEntry x n) ≡ 1 = rw h refl in
+      omega (arith, one-each h n, one, length-append (entriesTo (aggregatedEntry x) n) (aggregatedEntry x n))
+
+  pub none-at-all : x .changed ≡ false → (n : ℕ) → 0 ≡ length (entriesTo (aggregatedEntry x) n)
+  none-at-all h n = sym (ap length (none-to (aggregatedEntry x) n (λ i g. rw h refl)))

@@ -1,0 +1,65 @@
+-- `call_input::records::add_aggregated` meets its contract.
+-- Assumes nothing.
+use Prim.Native.Nat.{_≤_, _-_}
+use mathlib.Core.Path.{_≡_, _∙_}
+use native.Mathlib.Omega.{arith}
+use lib.ListN.{length}
+use borrow.Author.Needs.{needs}
+use Rattle.call_input.proofs.InPlace.{Issued, issued-all, each, aggregated-none, aggregated-next}
+use Rattle.call_input.proofs.records.add_aggregated.Statement.{statement}
+use Rattle.call_input.proofs.records.add_aggregated.Tie as tie
+
+abbrev Inv-loop : tie.InvT-loop
+Inv-loop w₀ x count l₀ w l = (l ≤ count) × ((length w ≡ 1173) × ((length w₀ ≡ 1173) × Issued (each x) l w₀ w))
+
+abbrev μ-loop : tie.MeasureT-loop
+μ-loop w₀ x count l₀ w l = count - l
+
+link-count-requires : tie.Need-link-count-requires Inv-loop μ-loop
+link-count-requires c κs = search needs
+
+loop-holds : tie.Need-loop-holds Inv-loop μ-loop
+loop-holds c =
+    let a = c .before .before .before .args in
+    (omega arith, (search needs, (search needs, aggregated-none (a .x) (a .w .now))))
+
+add-one-requires : tie.Need-add-one-requires Inv-loop μ-loop
+add-one-requires c κs = search needs
+
+add-l : tie.Need-add-l Inv-loop μ-loop
+add-l c = omega arith
+
+loop-less : tie.Need-loop-less Inv-loop μ-loop
+loop-less c = omega arith
+
+loop-again : tie.Need-loop-again Inv-loop μ-loop
+loop-again c =
+    let l = c .before .before .before .before .before .loop in
+    let a = c .before .before .before .before .before .before .before .before .before .args in
+    let put = c .before .before .add-one in
+    let n : length (put .last .0) ≡ 1173 = search needs in
+    (omega arith, (n, (l .inv .1 .1 .0, aggregated-next (a .x) (l .l) (l .inv .1 .1 .1) (put .ensures))))
+
+same-length : tie.Need-same-length Inv-loop μ-loop
+same-length c = search needs
+
+returns : tie.Need-returns Inv-loop μ-loop
+returns c =
+    let l = c .before .loop in
+    let all : l .l ≡ c .before .before .link-count .result = omega arith in
+    issued-all (λ t. all ∙ c .before .before .link-count .ensures t) (l .inv .1 .1 .1)
+
+pub add-aggregated-spec : {M : Type 1} → statement M
+add-aggregated-spec =
+    tie.close
+    (tie.spec
+    Inv-loop
+    μ-loop
+    link-count-requires
+    loop-holds
+    add-one-requires
+    add-l
+    loop-less
+    loop-again
+    same-length
+    returns)

@@ -1,0 +1,30 @@
+-- `call_input::records::add_one` meets its contract.
+-- Assumes nothing.
+use Rattle.store_site.specs.Layout.{siteOf}
+use Rattle.store_site.proofs.TurnsLaws.{turns-none, turns-as}
+use Rattle.call_input.proofs.InPlace.{aggregated-issues, aggregated-silent}
+use borrow.Author.Needs.{needs}
+use Rattle.call_input.proofs.records.add_one.Statement.{statement}
+use Rattle.call_input.proofs.records.add_one.Tie as tie
+
+issued-requires : tie.Need-issued-requires
+issued-requires c κs = search needs
+
+add-requires : tie.Need-add-requires
+add-requires c κs = search needs
+
+same-length : tie.Need-same-length
+same-length c = search needs
+
+returns : tie.Need-returns
+returns c =
+    let a = c .before .before .before .before .before .before .before .before .args in
+    turns-as (c .before .before .add .ensures) (λ t. rw (c .before .before .before .issued .ensures) (aggregated-issues (a .x) (siteOf (a .w .now) t) (a .l) (c .before .before .before .before .before .before .if1 .taken)))
+
+returns-2 : tie.Need-returns-2
+returns-2 c =
+    let a = c .before .before .args in
+    turns-none (a .w .now) (λ t. aggregated-silent (a .x) (siteOf (a .w .now) t) (a .l) (c .if1 .left))
+
+pub add-one-spec : {M : Type 1} → statement M
+add-one-spec = tie.close (tie.spec issued-requires add-requires same-length returns returns-2)

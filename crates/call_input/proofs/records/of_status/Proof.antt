@@ -1,0 +1,75 @@
+-- `call_input::records::of_status` meets its contract.
+-- Assumes nothing.
+use Prim.Native.Nat.{ℕ, _+_, _-_, _≤_}
+use mathlib.Core.Path.{_≡_, refl, ap, _∙_}
+use mathlib.Core.Bool.{Bool}
+use native.Mathlib.Omega.{arith}
+use lib.ListN.{length}
+use borrow.Author.Needs.{needs}
+use Rattle.basis.specs.Pick.{bit}
+use Rattle.table_whole.specs.declared.SiteTable.{SiteTable}
+use Rattle.call_records.specs.Upwards.{entriesTo}
+use Rattle.store_site.specs.Layout.{siteOf}
+use Rattle.store_call.proofs.IssuedLaws.{bit-most}
+use Rattle.call_input.proofs.InPlace.{entryOf, count-status}
+use Rattle.call_input.proofs.records.of_status.Statement.{statement}
+use Rattle.call_input.proofs.records.of_status.Tie as tie
+
+abbrev Inv-loop : tie.InvT-loop
+Inv-loop w x number count n₀ l₀ n l = (l ≤ count) × ((n ≤ l) × ((t : SiteTable) (time : ℕ) → n ≡ length (entriesTo (entryOf number x time (siteOf w t)) l)))
+
+abbrev μ-loop : tie.MeasureT-loop
+μ-loop w x number count n₀ l₀ n l = count - l
+
+link-count-requires : tie.Need-link-count-requires Inv-loop μ-loop
+link-count-requires c κs = search needs
+
+loop-holds : tie.Need-loop-holds Inv-loop μ-loop
+loop-holds c = (omega arith, (omega arith, λ t time. refl))
+
+issues-requires : tie.Need-issues-requires Inv-loop μ-loop
+issues-requires c κs = search needs
+
+more-if-requires : tie.Need-more-if-requires Inv-loop μ-loop
+more-if-requires c κs = omega arith
+
+add-l : tie.Need-add-l Inv-loop μ-loop
+add-l c = omega arith
+
+loop-less : tie.Need-loop-less Inv-loop μ-loop
+loop-less c = omega arith
+
+loop-again : tie.Need-loop-again Inv-loop μ-loop
+loop-again c =
+    let a = c .before .before .before .before .before .before .args in
+    let l = c .before .before .before .loop in (
+      omega arith,
+      (
+        omega (arith, c .more-if .ensures, bit-most (c .before .issues .result)),
+        λ t time.
+            count-status (a .number) (a .x) time (siteOf (a .w .now) t) (l .l) (l .inv .1 .1 t time)
+            (c .more-if .ensures ∙ ap (λ (b : Bool). l .n + bit b) (c .before .issues .ensures t)),
+      ),
+    )
+
+returns : tie.Need-returns Inv-loop μ-loop
+returns c =
+    let a = c .before .before .before .before .args in
+    let l = c .before .loop in
+    let all : l .l ≡ c .before .before .link-count .result = omega arith in
+    λ t time. l .inv .1 .1 t time ∙ ap (λ (n : ℕ). length (entriesTo (entryOf (a .number) (a .x) time (siteOf (a .w .now) t)) n)) (all ∙ c .before .before .link-count .ensures t)
+
+pub of-status-spec : {M : Type 1} → statement M
+of-status-spec =
+    tie.close
+    (tie.spec
+    Inv-loop
+    μ-loop
+    link-count-requires
+    loop-holds
+    issues-requires
+    more-if-requires
+    add-l
+    loop-less
+    loop-again
+    returns)

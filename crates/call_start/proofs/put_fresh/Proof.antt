@@ -1,0 +1,51 @@
+-- `call_start::put_fresh` meets its contract.
+-- Assumes nothing.
+use mathlib.Core.Path.{_≡_}
+use lib.ListN.{length}
+use Rattle.call_start.proofs.BegunLaws.{fresh-put}
+use borrow.Author.Needs.{needs}
+use Rattle.call_start.proofs.put_fresh.Statement.{statement}
+use Rattle.call_start.proofs.put_fresh.Tie as tie
+
+begin-requires : tie.Need-begin-requires
+begin-requires c κs = search needs
+
+put-head-requires : tie.Need-put-head-requires
+put-head-requires c κs = search needs
+
+empty-pool-requires : tie.Need-empty-pool-requires
+empty-pool-requires c κs = search needs
+
+begin-items-requires : tie.Need-begin-items-requires
+begin-items-requires c κs = search needs
+
+closed-requires : tie.Need-closed-requires
+closed-requires c κs = search needs
+
+fill-links-requires : tie.Need-fill-links-requires
+fill-links-requires c κs = search needs
+
+same-length : tie.Need-same-length
+same-length c = search needs
+
+returns : tie.Need-returns
+returns c =
+    let a = c .before .before .before .before .before .before .before .before .before .before .before .before .before .before .before .before .before .before .before .args in
+    let vs = c .before .before .fill-links .last .0 in
+    let e : length vs ≡ 1173 = search needs in
+    λ t.
+    fresh-put (a .w .now) (c .before .before .before .before .before .before .before .before .before .before .before .before .before .before .before .put-head .last .0) (c .before .before .before .before .before .before .before .before .before .before .before .empty-pool .last .0) (c .before .before .before .before .before .before .before .begin-items .last .0) vs (a .links) (a .primary) (a .period) (a .first) (a .time)
+    (rw (c .before .before .before .before .before .before .before .before .before .before .before .before .before .before .before .before .before .begin .ensures) at (c .before .before .before .before .before .before .before .before .before .before .before .before .before .before .before .put-head .ensures)) (c .before .before .before .before .before .before .before .before .before .before .before .empty-pool .ensures) (c .before .before .before .before .before .before .before .begin-items .ensures) (rw (c .before .before .before .closed .ensures) at (c .before .before .fill-links .ensures)) t e (λ j. c .slice-known5 .given j .fits)
+
+pub put-fresh-spec : {M : Type 1} → statement M
+put-fresh-spec =
+    tie.close
+    (tie.spec
+    begin-requires
+    put-head-requires
+    empty-pool-requires
+    begin-items-requires
+    closed-requires
+    fill-links-requires
+    same-length
+    returns)

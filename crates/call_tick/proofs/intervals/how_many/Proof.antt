@@ -1,0 +1,76 @@
+-- `call_tick::intervals::how_many` meets its contract.
+-- Assumes nothing.
+use Prim.Native.Nat.{_+_, _-_, _≤_}
+use mathlib.Core.Path.{_≡_, refl, ap, _∙_}
+use mathlib.Core.Bool.{Bool}
+use mathlib.Core.List.{List}
+use native.Mathlib.Omega.{arith}
+use lib.ListN.{length}
+use borrow.Author.Needs.{needs}
+use Rattle.basis.specs.Pick.{bit}
+use Rattle.link.specs.declared.Link.{Link}
+use Rattle.table_whole.specs.declared.SiteTable.{SiteTable}
+use Rattle.call_records.specs.Upwards.{entriesTo}
+use Rattle.store_site.specs.Layout.{siteOf}
+use Rattle.store_call.proofs.IssuedLaws.{bit-most}
+use Rattle.call_tick.specs.Intervals.{recordAt}
+use Rattle.call_tick.proofs.Records.{all-places}
+use Rattle.call_tick.proofs.InPlace.{count-place}
+use Rattle.call_tick.proofs.intervals.how_many.Statement.{statement}
+use Rattle.call_tick.proofs.intervals.how_many.Tie as tie
+
+abbrev Inv-loop : tie.InvT-loop
+Inv-loop w time n₀ i₀ n i = (i ≤ 128) × ((n ≤ i) × ((t : SiteTable) (ns : List Link) → n ≡ length (entriesTo (recordAt (siteOf w t .subscriptions) (siteOf w t .statuses) ns time) i)))
+
+abbrev μ-loop : tie.MeasureT-loop
+μ-loop w time n₀ i₀ n i = 128 - i
+
+loop-holds : tie.Need-loop-holds Inv-loop μ-loop
+loop-holds c = (omega arith, (omega arith, λ t ns. refl))
+
+issues-requires : tie.Need-issues-requires Inv-loop μ-loop
+issues-requires c κs = search needs
+
+more-if-requires : tie.Need-more-if-requires Inv-loop μ-loop
+more-if-requires c κs = omega arith
+
+add-i : tie.Need-add-i Inv-loop μ-loop
+add-i c = omega arith
+
+loop-less : tie.Need-loop-less Inv-loop μ-loop
+loop-less c = omega arith
+
+loop-again : tie.Need-loop-again Inv-loop μ-loop
+loop-again c =
+    let a = c .before .before .before .before .before .args in
+    let l = c .before .before .before .loop in (
+      omega arith,
+      (
+        omega (arith, c .more-if .ensures, bit-most (c .before .issues .result)),
+        λ t ns.
+            let s = siteOf (a .w .now) t in
+            count-place (s .subscriptions) (s .statuses) ns (a .time) (l .i) (l .inv .1 .1 t ns) (c .more-if .ensures ∙ ap (λ (b : Bool). l .n + bit b) (c .before .issues .ensures t)),
+      ),
+    )
+
+returns : tie.Need-returns Inv-loop μ-loop
+returns c =
+    let a = c .before .before .before .args in
+    let l = c .before .loop in
+    λ t ns.
+    let s = siteOf (a .w .now) t in
+    l .inv .1 .1 t ns ∙ ap length (all-places (s .subscriptions) (s .statuses) ns (a .time) (l .i) (omega arith))
+
+pub how-many-spec : {M : Type 1} → statement M
+how-many-spec =
+    tie.close
+    (tie.spec
+    Inv-loop
+    μ-loop
+    loop-holds
+    issues-requires
+    more-if-requires
+    add-i
+    loop-less
+    loop-again
+    returns)

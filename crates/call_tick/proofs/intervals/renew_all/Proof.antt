@@ -1,0 +1,58 @@
+-- `call_tick::intervals::renew_all` meets its contract.
+-- Assumes nothing.
+use Prim.Native.Nat.{_≤_, _-_}
+use mathlib.Core.Path.{_≡_}
+use native.Mathlib.Omega.{arith}
+use lib.ListN.{length}
+use borrow.Author.Needs.{needs}
+use Rattle.call_tick.proofs.InPlace.{Renewed, renewed-0, renewed-next, renewed-all}
+use Rattle.call_tick.proofs.intervals.renew_all.Statement.{statement}
+use Rattle.call_tick.proofs.intervals.renew_all.Tie as tie
+
+abbrev Inv-loop : tie.InvT-loop
+Inv-loop w₀ time i₀ w i = (i ≤ 128) × ((length w ≡ 1173) × ((length w₀ ≡ 1173) × Renewed time i w₀ w))
+
+abbrev μ-loop : tie.MeasureT-loop
+μ-loop w₀ time i₀ w i = 128 - i
+
+loop-holds : tie.Need-loop-holds Inv-loop μ-loop
+loop-holds c = (omega arith, (search needs, (search needs, renewed-0 (c .before .args .time) (c .before .args .w .now))))
+
+renew-requires : tie.Need-renew-requires Inv-loop μ-loop
+renew-requires c κs = search needs
+
+add-i : tie.Need-add-i Inv-loop μ-loop
+add-i c = omega arith
+
+loop-less : tie.Need-loop-less Inv-loop μ-loop
+loop-less c = omega arith
+
+loop-again : tie.Need-loop-again Inv-loop μ-loop
+loop-again c =
+    let l = c .before .before .before .before .before .loop in
+    let a = c .before .before .before .before .before .before .before .args in
+    let put = c .before .before .renew in
+    let n : length (put .last .0) ≡ 1173 = search needs in
+    (omega arith, (n, (l .inv .1 .1 .0, renewed-next (a .time) (l .i) (omega arith) (l .inv .1 .1 .1) (put .ensures))))
+
+same-length : tie.Need-same-length Inv-loop μ-loop
+same-length c = search needs
+
+returns : tie.Need-returns Inv-loop μ-loop
+returns c =
+    let l = c .before .loop in
+    renewed-all (c .before .before .before .args .time) (l .i) (omega arith) (l .inv .1 .1 .1)
+
+pub renew-all-spec : {M : Type 1} → statement M
+renew-all-spec =
+    tie.close
+    (tie.spec
+    Inv-loop
+    μ-loop
+    loop-holds
+    renew-requires
+    add-i
+    loop-less
+    loop-again
+    same-length
+    returns)

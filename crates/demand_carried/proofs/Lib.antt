@@ -1,0 +1,5 @@
+pub mod Lists
+pub mod Backed
+pub mod Sent
+pub mod Goes
+pub mod Demand

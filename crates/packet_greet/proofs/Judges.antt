@@ -1,0 +1,36 @@
+-- A Version with good fields is judged by what the table offers.
+-- Assumes nothing.
+use Prim.Native.Nat.{ℕ}
+use mathlib.Core.Path.{_≡_, refl, sym, ap, subst, _∙_}
+use mathlib.Core.List.{List}
+use Rattle.answer.specs.declared.Answer.{Answer}
+use Rattle.table_whole.specs.declared.SiteTable.{SiteTable}
+use Rattle.read_head.specs.declared.Verdict.{Verdict}
+use Rattle.read_head.specs.declared.Verdict.the-variants.{Good}
+use Rattle.read_lists.specs.declared.VersionFields.{VersionFields}
+use Rattle.read_versions.specs.declared.Offer.{Offer}
+use Rattle.read_versions.specs.declared.Judged.{Judged}
+use Rattle.read_versions.specs.Judge.{judge}
+use Rattle.site.specs.Call.{never}
+use Rattle.store_site.specs.Layout.{siteOf}
+use Rattle.store_call.specs.Called.{GivesIn}
+use Rattle.packet_answer.specs.Taken.{byVerdict}
+use Rattle.packet_greet.specs.Version.{ownOffer, own, versionJudged, versionTaken}
+
+own-table : (ws : List ℕ) (t : SiteTable) → own (siteOf ws t) ≡ ownOffer t
+unfolding siteOf
+own-table ws t = refl
+
+module _ (t : SiteTable) (l time : ℕ) (received : List ℕ) (f : VersionFields) {ws vs xs ys : List ℕ} {r : Answer} where
+  pub judges : {o : Offer} {j : Judged}
+      → f .verdict ≡ Good
+      → o ≡ ownOffer t
+      → j ≡ judge o (f .offer)
+      → GivesIn t time never (versionJudged (siteOf ws t) l received j .plan) ws vs xs ys r
+      → GivesIn t time never (versionTaken (siteOf ws t) l received f .plan) ws vs xs ys r
+  judges e q h g =
+      subst
+      (λ (v : Verdict). GivesIn t time never (byVerdict v (siteOf ws t) received (versionJudged (siteOf ws t) l received (judge (own (siteOf ws t)) (f .offer))) .plan) ws vs xs ys r)
+      (sym e)
+      (subst (λ (x : Judged). GivesIn t time never (versionJudged (siteOf ws t) l received x .plan) ws vs xs ys r)
+      (h ∙ ap (λ (x : Offer). judge x (f .offer)) (q ∙ sym (own-table ws t))) g)

@@ -1,0 +1,32 @@
+-- `store_call::spent` meets its contract.
+-- Assumes nothing.
+use Prim.Native.Nat.{_<_}
+use mathlib.Core.Path.{_∙_}
+use native.Mathlib.Omega.{arith}
+use lib.ListN.{length}
+use Rattle.store_site.specs.Layout.{siteOf}
+use Rattle.store_call.proofs.IssuedLaws.{spent-none, spent-past, spent-here}
+use borrow.Author.Needs.{needs}
+use Rattle.store_call.proofs.spent.Statement.{statement}
+use Rattle.store_call.proofs.spent.Tie as tie
+
+returns : tie.Need-returns
+returns c = λ t es e. spent-none (siteOf (c .before .before .args .w .now) t) es (e ∙ c .if1 .taken)
+
+next-requires : tie.Need-next-requires
+next-requires c κs = search needs
+
+returns-2 : tie.Need-returns-2
+returns-2 c =
+    λ t es e.
+    let h : 0 < length es = omega (arith, c .before .before .if1 .left) in
+    spent-past (siteOf (c .before .before .before .before .args .w .now) t) es h (omega (arith, c .before .next .ensures t))
+
+returns-3 : tie.Need-returns-3
+returns-3 c =
+    λ t es e.
+    let h : 0 < length es = omega (arith, c .before .before .if1 .left) in
+    rw (c .before .next .ensures t, ← e) (spent-here (siteOf (c .before .before .before .before .args .w .now) t) es h (omega (arith, c .before .next .ensures t)))
+
+pub spent-spec : {M : Type 1} → statement M
+spent-spec = tie.close (tie.spec returns next-requires returns-2 returns-3)

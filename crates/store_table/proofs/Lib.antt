@@ -1,0 +1,4 @@
+pub mod RowLaws
+pub mod LayLaws
+pub mod Forth
+pub mod Kept

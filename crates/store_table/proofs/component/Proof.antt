@@ -1,0 +1,37 @@
+-- `store_table::component` meets its contract.
+-- Assumes nothing.
+use Rattle.store_table.proofs.RowLaws.{label-at, label-behind}
+use Rattle.store_table.specs.Layout.{tableOf}
+use mathlib.Core.Path.{_∙_}
+use borrow.Author.Needs.{needs}
+use Rattle.store_table.proofs.component.Statement.{statement}
+use Rattle.store_table.proofs.component.Tie as tie
+
+mul-label-at : tie.Need-mul-label-at
+mul-label-at c = search needs
+
+add-label-at : tie.Need-add-label-at
+add-label-at c = search needs
+
+label-at-requires : tie.Need-label-at-requires
+label-at-requires c κs = search needs
+
+returns : tie.Need-returns
+unfolding tableOf
+returns c =
+    let a = c .before .before .before .args in
+    c .label-at .ensures ∙ label-at (a .t .now) 72 (a .k) (search needs)
+
+none-requires : tie.Need-none-requires
+none-requires c κs = search needs
+
+returns-2 : tie.Need-returns-2
+unfolding tableOf
+returns-2 c =
+    let a = c .before .before .before .args in
+    c .none .ensures ∙ label-behind (a .t .now) 72 (a .k) (search needs)
+
+pub component-spec : {M : Type 1} → statement M
+component-spec =
+    tie.close
+    (tie.spec mul-label-at add-label-at label-at-requires returns none-requires returns-2)

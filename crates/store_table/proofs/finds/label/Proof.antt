@@ -1,0 +1,62 @@
+-- `store_table::finds::label` meets its contract.
+-- Assumes nothing.
+use Prim.Native.Nat.{_≤_, _-_, _+_}
+use mathlib.Core.Path.{_≡_, sym, _∙_}
+use native.Mathlib.Nat.{sub-zero}
+use lib.ListN.{length}
+use Rattle.table_item.specs.Find.{firstFrom, labelAt}
+use Rattle.table_item.proofs.First.{stops, goes-on, ends}
+use Rattle.store_table.specs.Layout.{labelsIn}
+use borrow.Author.Needs.{needs}
+use Rattle.store_table.proofs.finds.label.Statement.{statement}
+use Rattle.store_table.proofs.finds.label.Tie as tie
+
+abbrev Inv-loop : tie.InvT-loop
+Inv-loop t i count text k₀ k = (k ≤ count) × ((i + 264 ≤ length t) × (firstFrom (labelAt (labelsIn t i) text) 0 count ≡ firstFrom (labelAt (labelsIn t i) text) k (count - k)))
+
+abbrev μ-loop : tie.MeasureT-loop
+μ-loop t i count text k₀ k = count - k
+
+loop-holds : tie.Need-loop-holds Inv-loop μ-loop
+loop-holds c = (search needs, (search needs, rw sub-zero))
+
+is-label-requires : tie.Need-is-label-requires Inv-loop μ-loop
+is-label-requires c κs = search needs
+
+returns : tie.Need-returns Inv-loop μ-loop
+returns c =
+    let a = c .before .before .before .before .before .before .args in
+    let l = c .before .before .before .loop in
+    sym (stops (labelAt (labelsIn (a .t .now) (a .i)) (a .text .now)) (a .count) (l .k) _ (l .inv .1 .1) (search needs) (sym (c .before .is-label .ensures) ∙ c .if1 .taken))
+
+add-k : tie.Need-add-k Inv-loop μ-loop
+add-k c = search needs
+
+loop-less : tie.Need-loop-less Inv-loop μ-loop
+loop-less c = search needs
+
+loop-again : tie.Need-loop-again Inv-loop μ-loop
+loop-again c =
+    let a = c .before .before .before .before .before .before .args in
+    let l = c .before .before .before .loop in
+    (search needs, (search needs, goes-on (labelAt (labelsIn (a .t .now) (a .i)) (a .text .now)) (a .count) (l .k) _ (l .inv .1 .1) (search needs) (sym (c .before .is-label .ensures) ∙ c .if1 .left)))
+
+returns-2 : tie.Need-returns-2 Inv-loop μ-loop
+returns-2 c =
+    let a = c .before .before .before .before .args in
+    let l = c .before .loop in
+    sym (ends (labelAt (labelsIn (a .t .now) (a .i)) (a .text .now)) (a .count) (l .k) _ (l .inv .1 .1) (search needs))
+
+pub label-spec : {M : Type 1} → statement M
+label-spec =
+    tie.close
+    (tie.spec
+    Inv-loop
+    μ-loop
+    loop-holds
+    is-label-requires
+    returns
+    add-k
+    loop-less
+    loop-again
+    returns-2)

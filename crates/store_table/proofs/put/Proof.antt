@@ -1,0 +1,37 @@
+-- `store_table::put` meets its contract.
+-- Assumes nothing.
+use mathlib.Core.Path.{_≡_, refl}
+use lib.ListN.{length}
+use Rattle.store_table.specs.Layout.{headBytes}
+use Rattle.store_table.proofs.LayLaws.{then, laid-whole}
+use borrow.Author.Needs.{needs}
+use Rattle.store_table.proofs.put.Statement.{statement}
+use Rattle.store_table.proofs.put.Tie as tie
+
+head-requires : tie.Need-head-requires
+head-requires c κs = search needs
+
+labels-requires : tie.Need-labels-requires
+labels-requires c κs = search needs
+
+items-requires : tie.Need-items-requires
+items-requires c κs = search needs
+
+items-requires-2 : tie.Need-items-requires-2
+items-requires-2 c κs = search needs
+
+same-length : tie.Need-same-length
+same-length c = search needs
+
+returns : tie.Need-returns
+unfolding headBytes
+returns c =
+    let a = c .before .before .before .before .before .before .before .before .before .before .before .before .before .before .before .before .before .before .before .before .before .before .args in
+    let v = c .before .before .items2 .last .0 in
+    let e : length v ≡ 4752 = search needs in
+    laid-whole (a .t .now) v (a .x) e (then 4752 (c .before .before .before .before .before .before .before .before .before .before .before .before .before .before .head .ensures) (then 4680 (c .before .before .before .before .before .before .before .before .before .before .labels .ensures) (then 4416 (c .before .before .before .before .before .before .items .ensures) (c .before .before .items2 .ensures) refl refl) refl refl) refl refl)
+
+pub put-spec : {M : Type 1} → statement M
+put-spec =
+    tie.close
+    (tie.spec head-requires labels-requires items-requires items-requires-2 same-length returns)
