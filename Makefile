@@ -54,7 +54,7 @@ always: ;
 # The proved archive, and what ties it to the header's version.
 $(LIBRARY): $(PROVED) host/include/version.S VERSION build/tools/ready
 	mkdir -p $(OUT)
-	build/tools/cc -c '-DVERSION="$(RSMP_VERSION)"' -DVERSIONED_START=rsmp_start_$(RSMP_SYMBOL) -o $(OUT)/version.o host/include/version.S
+	build/tools/cc -c '-DVERSION="$(RSMP_VERSION)"' -DVERSIONED_START=rsmp_lent_start_$(RSMP_SYMBOL) -o $(OUT)/version.o host/include/version.S
 	cp $(PROVED) $@
 	build/tools/ar rs $@ $(OUT)/version.o
 

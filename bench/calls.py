@@ -4,8 +4,8 @@ packet that the call was given or that it wrote, and for a call without one an o
   calls.py [TIMES]     after `make build`; runs bench/calls.c
 
 It is compiled for x86-64 by the compiler in CC (default: cc; on another processor a cross compiler), with the flags in CJSON
-(default: -lcjson). Under an emulator only the ratios say something, and copying memory is dearer there than on a processor: each
-call's time is also given in copies of a site.
+(default: -lcjson). Under an emulator only the ratios say something. Each call is made on a copy of the site that stands before it, whose time
+is taken off.
 """
 import os
 import pathlib
@@ -145,11 +145,11 @@ def main(words):
         packet = pathlib.Path(room) / "packet"
         for case in (Case(*row) for row in CASES):
             packet.write_bytes(case.packet)
-            number, ours, theirs, copy = map(int, output([*cases.wrapped(made), packet, times, case.call], case.script).split())
+            number, both, theirs, copy = map(int, output([*cases.wrapped(made), packet, times, case.call], case.script).split())
+            ours = max(0, both - copy)
             if case.number not in (None, number):
                 sys.exit(f"{case.name}: number {number} where {case.number} was expected")
-            print(f"{case.name:31} {ours / 1e3:8.1f} us, libcjson {len(case.packet):4} bytes {theirs / 1e3:7.1f} us, ratio {ours / theirs:6.2f}, "
-                  f"copies of a site {ours / copy:5.1f}")
+            print(f"{case.name:31} {ours / 1e3:8.1f} us, libcjson {len(case.packet):4} bytes {theirs / 1e3:7.1f} us, ratio {ours / theirs:6.2f}")
     return 0
 
 

@@ -1,5 +1,6 @@
 /* The most stack that each call of a script takes: the call is made on a stack of its own that was painted before, and the lowest
- * byte that is no longer as painted tells how deep it went. The caller's copies of the site and of the step are counted with it.
+ * byte that is no longer as painted tells how deep it went. Counted is what lies below the stack pointer from which the library is
+ * called: the return address and all that the library takes.
  *
  *   stack <SCRIPT     prints a line for each name: how many calls, the most bytes
  */
@@ -11,13 +12,20 @@
 #define MOST_NAMES 16
 
 static uint8_t stack[STACK_BYTES] __attribute__((aligned(4096)));
+static uint8_t *from;
 static ucontext_t here, there;
 static struct line line;
 
 static struct { char name[16]; unsigned long calls; size_t most; } names[MOST_NAMES];
 static size_t count;
 
-static void perform(void) { call(&line, line.bytes, output); }
+/* Everything down to the library's functions is a part of this one, and with -maccumulate-outgoing-args the stack pointer stays where it
+ * is throughout. */
+__attribute__((noinline, flatten)) static void perform(void)
+{
+    __asm__ volatile("mov %%rsp, %0" : "=m"(from) : : "memory");
+    call(&line, line.bytes, output);
+}
 
 static size_t depth(void)
 {
@@ -30,8 +38,8 @@ static size_t depth(void)
     makecontext(&there, perform, 0);
     swapcontext(&here, &there);
     for (touched = 0; touched < STACK_BYTES && stack[touched] == PAINT;) touched++;
-    if (!touched) give_up("the stack is too short");
-    return STACK_BYTES - touched;
+    if (!touched || from < stack || from > stack + STACK_BYTES) give_up("the stack is too short");
+    return stack + touched < from ? (size_t)(from - (stack + touched)) : 0;
 }
 
 static void note(const char *name, size_t bytes)
@@ -48,10 +56,7 @@ static void note(const char *name, size_t bytes)
 
 int main(void)
 {
-    while (next_line(&line)) {
-        note(line.words[0], depth());
-        keep();
-    }
-    for (size_t i = 0; i < count; i++) printf("%-12s %7lu calls, at most %6zu bytes\n", names[i].name, names[i].calls, names[i].most);
+    while (next_line(&line)) note(line.words[0], depth());
+    for (size_t i = 0; i < count; i++) printf("%s %lu %zu\n", names[i].name, names[i].calls, names[i].most);
     return 0;
 }

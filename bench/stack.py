@@ -1,5 +1,5 @@
 """How much stack each call takes at most, found by painting the stack (bench/stack.c), over the stored scripts of calls and random
-ones.
+ones. tests/stackbound.py computes what no call can exceed.
 
   stack.py [SEED [LINES]]     after `make build`
 """
@@ -15,19 +15,27 @@ import lives
 LINES = 5000
 
 
-def scripts(seed, lines):
-    for path in sorted((ROOT / "tests" / "scripts").glob("*.txt")):
-        yield path.read_text()
-    for player in lives.lives(random.Random(seed), lines):
-        yield "".join(f"{line}\n" for line, _ in player.pairs)
+def stored_scripts():
+    return [path.read_text() for path in sorted((ROOT / "tests" / "scripts").glob("*.txt"))]
+
+
+def random_scripts(seed, lines=LINES):
+    return ["".join(f"{line}\n" for line, _ in player.pairs) for player in lives.lives(random.Random(seed), lines)]
+
+
+def painted(scripts):
+    """The calls and the most bytes, by the name of the line."""
+    with tempfile.TemporaryDirectory() as room:
+        said = output([TOOLS / "run", program("stack", room, more=["-maccumulate-outgoing-args"])], "".join(scripts))
+    return {name: (int(calls), int(most)) for name, calls, most in map(str.split, said.splitlines())}
 
 
 def main(words):
     seed = int(words[0]) if words else time.time_ns() % 10**9
     print(f"stack: seed {seed}")
-    given = "".join(scripts(seed, int(words[1]) if len(words) > 1 else LINES))
-    with tempfile.TemporaryDirectory() as room:
-        print(output([TOOLS / "run", program("stack", room)], given), end="")
+    scripts = stored_scripts() + random_scripts(seed, int(words[1]) if len(words) > 1 else LINES)
+    for name, (calls, most) in painted(scripts).items():
+        print(f"{name:12} {calls:7} calls, at most {most:6} bytes")
     return 0
 
 

@@ -3,6 +3,7 @@ docs/EMBEDDING.md compiled and run, and a site's bytes out and in.
 
   embedding.py --stored
 """
+import contextlib
 import pathlib
 import re
 import subprocess
@@ -36,10 +37,12 @@ def judge_symbols():
     writable = [name for kind, name in symbols() if kind in "dDbBC"]
     hold(not writable, f"the archive has writable data: {writable}")
     header = re.sub(r"/\*.*?\*/", "", HEADER.read_text(), flags=re.DOTALL)
-    header = re.sub(r"^static inline .*?^}", "", header, flags=re.DOTALL | re.MULTILINE)
-    declared = set(re.findall(r"\b(rsmp_[a-z_]+)\(", header))
-    exported = {name for kind, name in symbols() if kind == "T" and not re.search(r"\d", name)}  # not rsmp_start_0_2_0
+    inline = r"^static inline .*?(?:^}| })$"
+    declared = set(re.findall(r"\b(rsmp_[a-z_]+)\(", re.sub(inline, "", header, flags=re.DOTALL | re.MULTILINE)))
+    exported = {name for kind, name in symbols() if kind == "T" and not re.search(r"\d", name)}  # not rsmp_lent_start_0_3_0
     hold(declared == {name for name in exported if name.startswith("rsmp_")}, f"header and archive differ: {sorted(declared ^ exported)}")
+    called = {re.search(r"\b(rsmp_[a-z_]+)\(", body)[1] for body in re.findall(inline, header, re.DOTALL | re.MULTILINE)}
+    hold({name.replace("lent_", "") for name in declared} <= called, f"not to be called: {sorted(declared - called)}")
     return len(declared)
 
 
@@ -52,20 +55,35 @@ def judge_example():
         subprocess.run([CC, *STRICT, "-I", HEADER.parent, "-o", program, source, LIBRARY], check=True)
         said = subprocess.run([RUN, program, ROOT / "examples" / "barrier.bits"], capture_output=True, text=True, check=True).stdout
     wanted = ['"type":"Version"', '"type":"MessageAck","oMId":"6f968141-4de5-42ff-8032-45f8093762c5"', "the packet gave 0",
-              "phase 1, held 1, lost 0", "close links 1", "back: phase 0, held 1"]
+              "phase 1, held 1, lost 0", "back: phase 0, held 1"]
     for words in wanted:
         hold(words in said, f"the example does not say {words!r}: {said}")
 
 
-def judge_stored():
-    """What C stores is what stored.py reads; other bytes are not taken back."""
+@contextlib.contextmanager
+def compiled(name):
+    """tests/NAME.c as a function that runs it and gives what it says."""
     with tempfile.TemporaryDirectory() as room:
-        program = pathlib.Path(room) / "stored"
-        subprocess.run([CC, *STRICT, "-I", HEADER.parent, "-o", program, ROOT / "tests" / "stored.c", LIBRARY], check=True)
+        program = pathlib.Path(room) / name
+        subprocess.run([CC, *STRICT, "-I", HEADER.parent, "-o", program, ROOT / "tests" / f"{name}.c", LIBRARY], check=True)
 
         def run(*words, given=b""):
-            return subprocess.run([RUN, program, *words], input=given, capture_output=True, check=True).stdout
+            done = subprocess.run([RUN, program, *words], input=given, capture_output=True)
+            hold(done.returncode == 0, f"tests/{name}.c: status {done.returncode}: {done.stdout}{done.stderr}")
+            return done.stdout
 
+        yield run
+
+
+def judge_lengths():
+    """What is lent with a wrong length is refused by the exported functions themselves."""
+    with compiled("lengths") as run:
+        return int(run(ROOT / "examples" / "barrier.bits"))
+
+
+def judge_stored():
+    """What C stores is what stored.py reads; other bytes are not taken back."""
+    with compiled("stored") as run:
         good = run("out", ROOT / "examples" / "barrier.bits")
         hold(stored.fault(good) is None, f"what C stores is not what it should be: {stored.fault(good)}")
         hold(run("in", given=good) == b"0 1\n", "C does not take back what it stores")
@@ -80,7 +98,7 @@ def main(words):
     count = judge_symbols()
     judge_example()
     judge_stored()
-    print(f"embedding: {count} functions, the header and the example of docs/EMBEDDING.md hold")
+    print(f"embedding: {count} functions, the header and the example of docs/EMBEDDING.md hold; {judge_lengths()} calls with wrong lengths are refused")
     return 0
 
 

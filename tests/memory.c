@@ -1,7 +1,8 @@
 /* Plays a script of calls under valgrind's memcheck, without a C library, so that whatever memcheck finds is of the proved library.
  *
- * The packet and the table are lent with nothing readable around them, the output with nothing writable around it and undefined
- * inside. A step must be defined to its last byte, and so must what was written; what was not written must be as undefined as before.
+ * The packet, the table and the site are lent with nothing readable around them, the output with nothing writable around it and undefined
+ * inside, and a start is lent a site that is undefined. What a call reports must be defined, and so must the site after it and what was
+ * written; what was not written must be as undefined as before.
  *
  *   memory <SCRIPT     prints the number of calls; status 1 where memcheck found something, 2 where the script cannot be played
  */
@@ -84,16 +85,26 @@ int memcmp(const void *one, const void *other, size_t count)
 static void judge_output(const uint8_t *output)
 {
     static uint8_t bits[MOST_ROOM];
-    VALGRIND_CHECK_MEM_IS_DEFINED(&step, sizeof step);
+    VALGRIND_CHECK_MEM_IS_DEFINED(&report, sizeof report);
     if (!line.room) return;
-    VALGRIND_CHECK_MEM_IS_DEFINED(output, step.written);
+    VALGRIND_CHECK_MEM_IS_DEFINED(output, report.written);
     if (VALGRIND_GET_VBITS(output, bits, line.room) != 1) give_up("memcheck does not know the output");
-    for (size_t place = step.written; place < line.room; place++)
+    for (size_t place = report.written; place < line.room; place++)
         if (bits[place] != 0xFF) give_up("a byte behind the written ones was written");
+}
+
+/* A refused start leaves the site as it was, undefined where there was none. */
+static void judge_site(int starts)
+{
+    static int started;
+    if (starts && report.number != RSMP_DONE && started) VALGRIND_MAKE_MEM_DEFINED(site, sizeof *site);
+    started |= starts && report.number == RSMP_DONE;
+    if (started) VALGRIND_CHECK_MEM_IS_DEFINED(site, sizeof *site);
 }
 
 static void play_line(void)
 {
+    int starts = is(&line, "start");
     uint8_t *bytes = given + GUARD, *output = lent + GUARD;
     VALGRIND_MAKE_MEM_UNDEFINED(given, sizeof given);
     memcpy(bytes, line.bytes, line.length);
@@ -101,9 +112,10 @@ static void play_line(void)
     VALGRIND_MAKE_MEM_NOACCESS(bytes + line.length, sizeof given - GUARD - line.length);
     VALGRIND_MAKE_MEM_NOACCESS(lent, sizeof lent);
     VALGRIND_MAKE_MEM_UNDEFINED(output, line.room);
+    if (starts) VALGRIND_MAKE_MEM_UNDEFINED(site, sizeof *site);
     call(&line, bytes, output);
     judge_output(output);
-    keep();
+    judge_site(starts);
 }
 
 static void say_number(unsigned long number)
@@ -120,6 +132,8 @@ __attribute__((used)) void play(void)
     long length = 0, more;
     while ((more = system_call(READ, 0, text + length, SCRIPT_BYTES - 1 - length)) > 0) length += more;
     if (!RUNNING_ON_VALGRIND || length == SCRIPT_BYTES - 1) give_up("not under valgrind, or the script is too long");
+    VALGRIND_MAKE_MEM_NOACCESS(guarded.before, SITE_GUARD);
+    VALGRIND_MAKE_MEM_NOACCESS(guarded.behind, SITE_GUARD);
     unsigned long calls = 0;
     for (const char *next = text; *next; calls++) {
         next = read_line(next, &line);

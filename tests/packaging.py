@@ -18,7 +18,8 @@ PROGRAMS = ["rsmp-site", "rsmp-replay", "rsmp-table", "rsmp-week"]
 TREE = {*(f"bin/{name}" for name in PROGRAMS), *(f"share/man/man1/{name}.1" for name in PROGRAMS), "include/rsmp_site.h",
         "include/rsmp_week.h", "lib/librsmp_site.a", "lib/librsmp_week.a", "lib/pkgconfig/rsmp_site.pc", "lib/systemd/system/rsmp-site.service"}
 ENDS = """#include <rsmp_site.h>
-int main(void) { return (int)rsmp_start((const uint8_t *)"", 0, 1, 0, 60, 0, 0).number; }
+static rsmp_site site;
+int main(void) { return (int)rsmp_start(&site, (const uint8_t *)"", 0, 1, 0, 60, 0, 0); }
 """
 
 

@@ -1,5 +1,5 @@
-/* A script of calls, as rsmp-replay reads it, called from C on one site. Wants nothing of a C library but memcpy and memset, and
- * `give_up` of the program that includes it, which ends the program. */
+/* A script of calls, as rsmp-replay reads it, called from C on one site; and a line `damage SEED COUNT`. Wants nothing of a C library but
+ * memcpy and memset, and `give_up` of the program that includes it, which ends the program. */
 #ifndef SCRIPT_H
 #define SCRIPT_H
 
@@ -17,8 +17,15 @@ struct line {
     rsmp_id random;
 };
 
-static rsmp_site site;
-static rsmp_step step;
+#define SITE_GUARD 256
+
+static struct {
+    uint8_t before[SITE_GUARD];
+    rsmp_site site;
+    uint8_t behind[SITE_GUARD];
+} guarded;
+static rsmp_site *const site = &guarded.site;
+static rsmp_report report; /* of the last call; of one that has none its number alone */
 
 static void give_up(const char *what);
 
@@ -75,43 +82,59 @@ static const char *read_line(const char *text, struct line *line)
     return text + (*text == '\n');
 }
 
-/* The call of a line, into `step`, with these bytes for its table or packet and this output; `site` stays as it is. A reading
- * leaves no step. */
+/* So many bytes of the site become others, or all of them where it is 0: no call makes such a site, and every call must do with it. Where they
+ * are many, the first 24 stay, the next number, the last time and the counts, by which most calls would be refused. */
+static void damage(uint64_t seed, uint64_t count)
+{
+    uint64_t first = count && count < 20 ? 0 : 24, all = RSMP_SITE_BYTES - first;
+    for (uint64_t i = 0; i < (count ? count : all); i++) {
+        seed = seed * 6364136223846793005u + 1442695040888963407u;
+        ((uint8_t *)site)[first + (count ? (seed >> 17) % all : i)] = (uint8_t)(seed >> 53);
+    }
+}
+
+static void only(uint32_t number)
+{
+    report.hint = report.written = report.closed = report.hinted = 0;
+    report.number = number;
+}
+
+/* The call of a line on the site, with these bytes for its table or packet and this output. */
 static void call(const struct line *line, const uint8_t *bytes, uint8_t *output)
 {
     const uint64_t *n = line->numbers;
     if (is(line, "start"))
-        step = rsmp_start(bytes, line->length, (uint32_t)n[2], (uint32_t)n[3], (uint32_t)n[4], n[5], n[6]);
+        only(rsmp_start(site, bytes, line->length, (uint32_t)n[2], (uint32_t)n[3], (uint32_t)n[4], n[5], n[6]));
     else if (is(line, "connect"))
-        step = rsmp_connect(site, (uint32_t)n[1], n[2]);
+        only(rsmp_connect(site, (uint32_t)n[1], n[2]));
     else if (is(line, "disconnect"))
-        step = rsmp_disconnect(site, (uint32_t)n[1], n[2]);
+        only(rsmp_disconnect(site, (uint32_t)n[1], n[2]));
     else if (is(line, "packet"))
-        step = rsmp_packet(site, (uint32_t)n[1], n[2], line->random, bytes, line->length, output, line->room);
+        rsmp_packet(site, (uint32_t)n[1], n[2], &line->random, bytes, line->length, output, line->room, &report);
     else if (is(line, "alarm"))
-        step = rsmp_alarm(site, (uint32_t)n[1], (uint32_t)n[2], n[3]);
+        only(rsmp_alarm(site, (uint32_t)n[1], (uint32_t)n[2], n[3]));
     else if (is(line, "status"))
-        step = rsmp_status(site, (uint32_t)n[1], (int32_t)(int64_t)n[2], n[3]);
+        only(rsmp_status(site, (uint32_t)n[1], (int32_t)(int64_t)n[2], n[3]));
     else if (is(line, "aggregated"))
-        step = rsmp_aggregated(site, (uint8_t)n[1], n[2]);
+        only(rsmp_aggregated(site, (uint8_t)n[1], n[2]));
     else if (is(line, "tick"))
-        step = rsmp_tick(site, n[1]);
+        rsmp_tick(site, n[1], &report);
     else if (is(line, "pump"))
-        step = rsmp_pump(site, (uint32_t)n[1], n[2], line->random, output, line->room);
-    else if (is(line, "counts")) {
-        rsmp_held(site, 0);
-        rsmp_lost(site, 0);
-    } else if (is(line, "readings")) {
-        rsmp_phase(site, 0);
-        rsmp_version_of(site, 0);
-        rsmp_record(site, 0, 63);
-    } else
-        give_up("no such call");
-}
-
-static void keep(void)
-{
-    if (step.number == RSMP_DONE) site = step.site;
+        rsmp_pump(site, (uint32_t)n[1], n[2], &line->random, output, line->room, &report);
+    else {
+        only(RSMP_DONE);
+        if (is(line, "counts")) {
+            rsmp_held(site, 0);
+            rsmp_lost(site, 0);
+        } else if (is(line, "readings")) {
+            rsmp_phase(site, 0);
+            rsmp_version_of(site, 0);
+            rsmp_record(site, 0, 63);
+        } else if (is(line, "damage"))
+            damage(n[1], n[2]);
+        else
+            give_up("no such call");
+    }
 }
 
 #endif

@@ -12,18 +12,17 @@ static int out(const char *name) {
     if (!file) return 2;
     size_t length = fread(table, 1, sizeof table, file);
     fclose(file);
-    rsmp_step step = rsmp_start(table, length, 4, 0, 60, 0, 1254398371571u);
-    step = rsmp_alarm(step.site, 2, 1, 1254398371571u);
-    if (step.number != RSMP_DONE) return 1;
-    rsmp_to_bytes(&step.site, bytes);
+    if (rsmp_start(&site, table, length, 4, 0, 60, 0, 1254398371571u) != RSMP_DONE) return 1;
+    if (rsmp_alarm(&site, 2, 1, 1254398371571u) != RSMP_DONE) return 1;
+    rsmp_to_stored(&site, bytes);
     return fwrite(bytes, 1, RSMP_STORED_BYTES, stdout) != RSMP_STORED_BYTES;
 }
 
 static int in(void) {
     rsmp_site before = site;
-    uint32_t number = rsmp_from_bytes(bytes, fread(bytes, 1, sizeof bytes, stdin), &site);
+    uint32_t number = rsmp_from_stored(bytes, fread(bytes, 1, sizeof bytes, stdin), &site);
     if (number != RSMP_DONE && memcmp(&site, &before, sizeof site) != 0) return 1;
-    printf("%u %u\n", (unsigned)number, number == RSMP_DONE ? (unsigned)rsmp_held(site, 0) : 0u);
+    printf("%u %u\n", (unsigned)number, number == RSMP_DONE ? (unsigned)rsmp_held(&site, 0) : 0u);
     return 0;
 }
 

@@ -1,9 +1,7 @@
 """The bytes of a stored site, read on their own: what C, Rust and `rsmp-site` write must be of this form."""
-SITE_BYTES = 13912
-EDITION = 1
+SITE_BYTES = 8 * 1173 + 4752
+EDITION, STATE_EDITION = 2, 1
 HEAD, SUM = 16, 8
-BOOLEANS = [4128 + 544 * link + 536 + place for link in range(4) for place in range(8)]
-LINK_COUNT = 9156
 
 
 def check_sum(bytes_):
@@ -25,8 +23,6 @@ def fault(bytes_):
         return f"begins with {bytes_[:HEAD]}"
     if check_sum(bytes_[:-SUM]) != bytes_[-SUM:]:
         return "the check sum"
-    if any(bytes_[HEAD + place] > 1 for place in BOOLEANS):
-        return "a boolean"
     return None
 
 
@@ -41,16 +37,18 @@ def spoiled(good):
     for place in (0, 7, 8, 12, HEAD, HEAD + 5000, len(good) - SUM - 1, len(good) - 1):
         yield f"another byte {place}", with_byte(place, good[place] ^ 1)
     body = good[:-SUM]
-    yield "an older edition", summed(body[:8] + (EDITION - 1).to_bytes(4, "little") + body[12:])
+    for edition in (EDITION - 1, EDITION + 1):
+        yield f"edition {edition}", summed(body[:8] + edition.to_bytes(4, "little") + body[12:])
     yield "another length", summed(body[:12] + (SITE_BYTES - 8).to_bytes(4, "little") + body[HEAD:])
-    for place in BOOLEANS:
-        yield f"2 for the boolean at {place}", summed(with_byte(HEAD + place, 2)[:-SUM])
-    for links in (0, 5, 256):
-        at = HEAD + LINK_COUNT
-        yield f"{links} links", summed(body[:at] + links.to_bytes(2, "little") + body[at + 2:])
 
 
 def of_state(file):
     """The stored site within a state file of `rsmp-site`."""
-    assert file[:12] == b"RSMPHOST" + EDITION.to_bytes(4, "little") and check_sum(file[:-SUM]) == file[-SUM:]
+    assert file[:12] == b"RSMPHOST" + STATE_EDITION.to_bytes(4, "little") and check_sum(file[:-SUM]) == file[-SUM:]
     return file[40:-SUM]
+
+
+def state_of_edition_1(file):
+    """A state file as 0.2.0 wrote it, whose site had 13,912 bytes, of the same setup and time."""
+    head = b"RSMPSITE" + (1).to_bytes(4, "little") + (13912).to_bytes(4, "little")
+    return summed(file[:40] + summed(head + bytes(13912)))

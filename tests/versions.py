@@ -16,9 +16,10 @@ CC, RUN = ROOT / "build" / "tools" / "cc", ROOT / "build" / "tools" / "run"
 PROGRAMS = ("rsmp-site", "rsmp-replay", "rsmp-table", "rsmp-week")
 STARTS = """#include "rsmp_site.h"
 #include <stdio.h>
+static rsmp_site site;
 int main(void) {
-    rsmp_step step = rsmp_start((const uint8_t *)"", 0, 1, 0, 60, 0, 0);
-    printf("%s %s %u\\n", RSMP_VERSION, rsmp_library_version, (unsigned)step.number);
+    unsigned number = rsmp_start(&site, (const uint8_t *)"", 0, 1, 0, 60, 0, 0);
+    printf("%s %s %u\\n", RSMP_VERSION, rsmp_library_version, number);
     return 0;
 }
 """
@@ -30,8 +31,8 @@ def hold(good, what):
 
 
 def versioned(version):
-    """The name by which a header of this version calls rsmp_start."""
-    return "rsmp_start_" + version.replace(".", "_")
+    """The name by which a header of this version starts a site."""
+    return "rsmp_lent_start_" + version.replace(".", "_")
 
 
 def names(archive):

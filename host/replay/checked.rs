@@ -1,48 +1,62 @@
-//! The calls on one site, each held to what may not change: the site and every lent byte where it is refused, the bytes behind
-//! the written ones and around the lent ones always.
+//! The calls on one site, each held to what may not change: the site and every lent byte where it is refused, the site's table where it
+//! is not started, the bytes behind the written ones and around the lent ones always.
 
 use crate::script::Line;
-use rsmp_site::ffi::{self, Id, Site, Step, SITE_BYTES};
+use rsmp_site::ffi::{self, Block, Id, Outcome, TABLE_BYTES, WORDS};
+use rsmp_site::Site;
 
 const LAST_NUMBER: u32 = 12;
 const LINKS: u32 = 4;
 const GUARD: usize = 64;
-/// What stands before the site's bytes where they are stored: a name, the edition, the length.
-const STORED_HEAD: usize = 16;
 
 pub struct Violation(pub String);
 
 pub struct Player {
-    site: Option<(Site, u32)>,
-    lent: Lent,
+    lent: Box<Guarded>,
+    /// How many the site has; none before there is one.
+    links: Option<u32>,
+    output: Lent,
     written: usize,
 }
+
+/// A site between two guards, filled with a pattern before there is a site.
+#[repr(C)]
+#[derive(Clone)]
+struct Guarded {
+    before: [u64; GUARD / 8],
+    site: Block,
+    behind: [u64; GUARD / 8],
+}
+
+const PATTERN: u64 = 0xA5C3_F00F_9669_3C5A;
+const PATTERNED: Guarded = Guarded {
+    before: [PATTERN; GUARD / 8],
+    site: Block { words: [PATTERN; WORDS], table: [0xA5; TABLE_BYTES] },
+    behind: [PATTERN; GUARD / 8],
+};
 
 /// What a line is answered with; the outer error is a line that cannot be played.
 type Played = Result<Result<String, Violation>, String>;
 
 impl Player {
     pub fn new() -> Player {
-        Player { site: None, lent: Lent::new(), written: 0 }
+        Player { lent: Box::new(PATTERNED), links: None, output: Lent::new(), written: 0 }
     }
 
     pub fn play(&mut self, line: &Line) -> Played {
         self.written = 0;
-        if let Line::Start { table, links, primary, period, first, time } = line {
-            return Ok(self.start(table, *links, *primary, *period, *first, *time));
+        match line {
+            Line::Restore { bytes } => return self.restore(bytes).map(Ok),
+            Line::Start { .. } => {}
+            _ if self.links.is_none() => return Err("a call before any start that was done".to_string()),
+            _ => {}
         }
-        if let Line::Restore { bytes } = line {
-            return self.restore(bytes).map(Ok);
-        }
-        let (site, links) = self.site.take().ok_or("a call before any start that was done")?;
-        let answer = self.call(&site, links, line);
-        match answer {
-            Ok((next, text)) => {
-                self.site = Some((next.unwrap_or(site), links));
-                Ok(Ok(text))
-            }
-            Err(violation) => Ok(Err(violation)),
-        }
+        let before = self.lent.clone();
+        let (outcome, text) = match self.answer(line) {
+            Ok(answer) => answer,
+            Err(violation) => return Ok(Err(violation)),
+        };
+        Ok(self.judge_site(&before, line, outcome).map(|()| text))
     }
 
     /// What the last call wrote.
@@ -50,102 +64,126 @@ impl Player {
         if self.written == 0 {
             &[]
         } else {
-            self.lent.first(self.written)
+            self.output.first(self.written)
         }
     }
 
     /// How many links the site has; 0 before there is one.
     pub fn links(&self) -> u32 {
-        self.site.as_ref().map_or(0, |(_, links)| *links)
+        self.links.unwrap_or(0)
     }
 
     /// A link's phase and how many records it holds and has lost.
     pub fn state(&self, link: u32) -> (u32, u64, u64) {
-        // SAFETY: everything goes by value, and every value is allowed.
-        let read = |(site, _): &(Site, u32)| unsafe {
-            (ffi::rsmp_phase(site.clone(), link), ffi::rsmp_held(site.clone(), link), ffi::rsmp_lost(site.clone(), link))
+        let words = self.lent.site.words.as_ptr();
+        // SAFETY: the words are lent for their length, and every content and value is allowed.
+        let read = || unsafe {
+            (ffi::rsmp_lent_phase(words, WORDS, link), ffi::rsmp_lent_held(words, WORDS, link), ffi::rsmp_lent_lost(words, WORDS, link))
         };
-        self.site.as_ref().map_or((0, 0, 0), read)
+        self.links.map_or((0, 0, 0), |_| read())
     }
 
     /// The records held for a link, oldest first.
     pub fn records(&self, link: u32) -> Vec<[u8; 16]> {
-        self.site.as_ref().map_or(Vec::new(), |(site, _)| records(site, link))
-    }
-
-    fn start(&mut self, table: &[u8], links: u32, primary: u32, period: u32, first: u64, time: u64) -> Result<String, Violation> {
-        let given = table.to_vec();
-        // SAFETY: the table is lent for its length, and nothing of it is kept.
-        let step = unsafe { ffi::rsmp_start(given.as_ptr(), given.len(), links, primary, period, first, time) };
-        if given != table {
-            return Err(Violation("the table's bytes changed".to_string()));
-        }
-        judge_report(&step, 0)?;
-        if step.number == 0 {
-            if !(1..=LINKS).contains(&links) {
-                return Err(Violation(format!("start was done with {} links", links)));
-            }
-            self.site = Some((step.site.clone(), links));
-        }
-        Ok(answer(&step, &[]))
+        self.links.map_or(Vec::new(), |_| records(&self.lent.site, link))
     }
 
     /// A site as `rsmp-site` stores it; what was played before does not matter from here on.
     fn restore(&mut self, bytes: &[u8]) -> Result<String, String> {
-        let links = rsmp_site::Site::from_bytes(bytes).map_err(|fault| fault.to_string())?.links();
-        let mut site = Site { bytes: [0; SITE_BYTES] };
-        site.bytes.copy_from_slice(&bytes[STORED_HEAD..STORED_HEAD + SITE_BYTES]);
-        self.site = Some((site, links));
+        let site = Site::from_stored(bytes).map_err(|fault| fault.to_string())?;
+        self.links = Some(site.links());
+        self.lent.site = site.into();
         Ok("0 0 - -".to_string())
     }
 
-    /// The next site where there is one, and the line.
-    fn call(&mut self, site: &Site, links: u32, line: &Line) -> Result<(Option<Site>, String), Violation> {
-        let step = match line {
-            Line::Counts => return Ok((None, counts(site, links))),
-            Line::Readings => return Ok((None, readings(site, links))),
+    /// What a call gives and the line, both judged but for the site; a reading gives the line alone.
+    fn answer(&mut self, line: &Line) -> Result<(Option<Outcome>, String), Violation> {
+        let (outcome, room) = match line {
+            Line::Counts => return Ok((None, counts(&self.lent.site, self.links()))),
+            Line::Readings => return Ok((None, readings(&self.lent.site, self.links()))),
+            Line::Start { table, links, primary, period, first, time } => {
+                let (given, Block { words, table: kept }) = (table.clone(), &mut self.lent.site);
+                let (bits, length) = (given.as_ptr(), given.len());
+                // SAFETY: all three are lent for their lengths and lie apart, and nothing of them is kept.
+                let outcome = unsafe {
+                    let (words, kept) = (words.as_mut_ptr(), kept.as_mut_ptr());
+                    ffi::rsmp_lent_start(words, WORDS, kept, TABLE_BYTES, bits, length, *links, *primary, *period, *first, *time)
+                };
+                if given != *table {
+                    return Err(Violation("the table's bytes changed".to_string()));
+                }
+                if outcome.number == 0 && !(1..=LINKS).contains(links) {
+                    return Err(Violation(format!("start was done with {} links", links)));
+                }
+                if outcome.number == 0 {
+                    self.links = Some(*links);
+                }
+                (outcome, 0)
+            }
             Line::Packet { link, time, random, room, packet } => {
-                let (given, room) = (packet.clone(), *room);
-                let out = self.lent.lend(room);
-                let id = Id { bytes: *random };
-                // SAFETY: both are lent for their lengths and lie apart.
-                let step = unsafe { ffi::rsmp_packet(site.clone(), *link, *time, id, given.as_ptr(), given.len(), out, room) };
+                let (given, room, id) = (packet.clone(), *room, Id { bytes: *random });
+                let (out, Block { words, table }) = (self.output.lend(room), &mut self.lent.site);
+                let (packet_at, length) = (given.as_ptr(), given.len());
+                // SAFETY: all four are lent for their lengths and lie apart.
+                let outcome = unsafe {
+                    let (words, table) = (words.as_mut_ptr(), table.as_ptr());
+                    ffi::rsmp_lent_packet(words, WORDS, table, TABLE_BYTES, *link, *time, id, packet_at, length, out, room)
+                };
                 if given != *packet {
                     return Err(Violation("the packet's bytes changed".to_string()));
                 }
-                return self.lending(site, room, step);
+                (outcome, room)
             }
             Line::Pump { link, time, random, room } => {
-                let room = *room;
-                let out = self.lent.lend(room);
-                // SAFETY: the output is lent for its length.
-                let step = unsafe { ffi::rsmp_pump(site.clone(), *link, *time, Id { bytes: *random }, out, room) };
-                return self.lending(site, room, step);
+                let (room, id) = (*room, Id { bytes: *random });
+                let (out, Block { words, table }) = (self.output.lend(room), &mut self.lent.site);
+                // SAFETY: all three are lent for their lengths and lie apart.
+                let outcome =
+                    unsafe { ffi::rsmp_lent_pump(words.as_mut_ptr(), WORDS, table.as_ptr(), TABLE_BYTES, *link, *time, id, out, room) };
+                (outcome, room)
             }
-            lending_nothing => by_value(site.clone(), lending_nothing),
+            lending_nothing_more => (in_place(&mut self.lent.site, lending_nothing_more), 0),
         };
-        judge_report(&step, 0)?;
-        next(site, step, &[])
+        judge_report(&outcome, room)?;
+        if matches!(line, Line::Packet { .. } | Line::Pump { .. }) {
+            self.written = outcome.written as usize;
+            self.output.judge(self.written)?;
+        }
+        Ok((Some(outcome), answer(&outcome, self.written())))
     }
 
-    fn lending(&mut self, site: &Site, room: usize, step: Step) -> Result<(Option<Site>, String), Violation> {
-        judge_report(&step, room)?;
-        self.written = step.written as usize;
-        self.lent.judge(self.written)?;
-        next(site, step, self.written())
+    /// What may not have changed of the site and around it.
+    fn judge_site(&self, before: &Guarded, line: &Line, outcome: Option<Outcome>) -> Result<(), Violation> {
+        let now = &self.lent;
+        if (now.before, now.behind) != (PATTERNED.before, PATTERNED.behind) {
+            return Err(Violation("bytes around the site changed".to_string()));
+        }
+        let number = outcome.map_or("a reading".to_string(), |outcome| format!("number {}", outcome.number));
+        let done = outcome.map_or(false, |outcome| outcome.number == 0);
+        let words = now.site.words.iter().zip(before.site.words.iter()).position(|(now, before)| now != before);
+        if let Some(place) = words.filter(|_| !done) {
+            return Err(Violation(format!("{}, and word {} of the site changed", number, place)));
+        }
+        let table = now.site.table.iter().zip(before.site.table.iter()).position(|(now, before)| now != before);
+        match table.filter(|_| !(done && matches!(line, Line::Start { .. }))) {
+            Some(place) => Err(Violation(format!("{}, and byte {} of the site's table changed", number, place))),
+            None => Ok(()),
+        }
     }
 }
 
-fn by_value(site: Site, line: &Line) -> Step {
-    // SAFETY: everything goes by value, and every value is allowed.
+/// The calls that are lent nothing but the site.
+fn in_place(site: &mut Block, line: &Line) -> Outcome {
+    let (words, table) = (site.words.as_mut_ptr(), site.table.as_ptr());
+    // SAFETY: words and table are lent for their lengths, and every content and value is allowed.
     unsafe {
         match *line {
-            Line::Connect { link, time } => ffi::rsmp_connect(site, link, time),
-            Line::Disconnect { link, time } => ffi::rsmp_disconnect(site, link, time),
-            Line::Alarm { number, active, time } => ffi::rsmp_alarm(site, number, active, time),
-            Line::Status { number, value, time } => ffi::rsmp_status(site, number, value, time),
-            Line::Aggregated { value, time } => ffi::rsmp_aggregated(site, value, time),
-            Line::Tick { time } => ffi::rsmp_tick(site, time),
+            Line::Connect { link, time } => ffi::rsmp_lent_connect(words, WORDS, link, time),
+            Line::Disconnect { link, time } => ffi::rsmp_lent_disconnect(words, WORDS, link, time),
+            Line::Alarm { number, active, time } => ffi::rsmp_lent_alarm(words, WORDS, table, TABLE_BYTES, number, active, time),
+            Line::Status { number, value, time } => ffi::rsmp_lent_status(words, WORDS, table, TABLE_BYTES, number, value, time),
+            Line::Aggregated { value, time } => ffi::rsmp_lent_aggregated(words, WORDS, value, time),
+            Line::Tick { time } => ffi::rsmp_lent_tick(words, WORDS, time),
             Line::Start { .. } | Line::Restore { .. } | Line::Packet { .. } | Line::Pump { .. } | Line::Counts | Line::Readings => {
                 unreachable!()
             }
@@ -153,40 +191,29 @@ fn by_value(site: Site, line: &Line) -> Step {
     }
 }
 
-fn next(site: &Site, step: Step, out: &[u8]) -> Result<(Option<Site>, String), Violation> {
-    let text = answer(&step, out);
-    if step.number == 0 {
-        return Ok((Some(step.site), text));
-    }
-    match site.bytes.iter().zip(step.site.bytes.iter()).position(|(before, after)| before != after) {
-        Some(place) => Err(Violation(format!("refused with {}, and byte {} of the site changed", step.number, place))),
-        None => Ok((None, text)),
-    }
-}
-
-/// What the step says is what a call can say.
-fn judge_report(step: &Step, room: usize) -> Result<(), Violation> {
-    let nothing = (step.written, step.closed, step.hinted, step.hint) == (0, 0, 0, 0);
-    let wrong = if step.number > LAST_NUMBER {
-        format!("no such number: {}", step.number)
-    } else if step.number != 0 && !nothing {
-        format!("refused with {}, and something is reported", step.number)
-    } else if step.written as usize > room {
-        format!("{} bytes written where {} were lent", step.written, room)
-    } else if step.closed >= 1 << LINKS || step.hinted > 1 {
-        format!("closed {}, hinted {}", step.closed, step.hinted)
+/// What a call reports is what it can report.
+fn judge_report(told: &Outcome, room: usize) -> Result<(), Violation> {
+    let nothing = (told.written, told.closed, told.hinted, told.hint) == (0, 0, 0, 0);
+    let wrong = if told.number > LAST_NUMBER {
+        format!("no such number: {}", told.number)
+    } else if told.number != 0 && !nothing {
+        format!("refused with {}, and something is reported", told.number)
+    } else if told.written as usize > room {
+        format!("{} bytes written where {} were lent", told.written, room)
+    } else if told.closed >= 1 << LINKS || told.hinted > 1 {
+        format!("closed {}, hinted {}", told.closed, told.hinted)
     } else {
         return Ok(());
     };
     Err(Violation(wrong))
 }
 
-fn answer(step: &Step, out: &[u8]) -> String {
-    if step.number != 0 {
-        return step.number.to_string();
+fn answer(told: &Outcome, out: &[u8]) -> String {
+    if told.number != 0 {
+        return told.number.to_string();
     }
-    let hint = if step.hinted == 1 { step.hint.to_string() } else { "-".to_string() };
-    format!("0 {} {} {}", step.closed, hint, hex(out))
+    let hint = if told.hinted == 1 { told.hint.to_string() } else { "-".to_string() };
+    format!("0 {} {} {}", told.closed, hint, hex(out))
 }
 
 fn hex(bytes: &[u8]) -> String {
@@ -202,25 +229,27 @@ fn each_link(links: u32, text: impl Fn(u32) -> String) -> String {
     (0..links).map(text).collect::<Vec<_>>().join(" ")
 }
 
-fn counts(site: &Site, links: u32) -> String {
-    // SAFETY: everything goes by value, and every value is allowed.
-    each_link(links, |link| unsafe { format!("{}/{}", ffi::rsmp_held(site.clone(), link), ffi::rsmp_lost(site.clone(), link)) })
+fn counts(site: &Block, links: u32) -> String {
+    let words = site.words.as_ptr();
+    // SAFETY: the words are lent for their length, and every content and value is allowed.
+    each_link(links, |link| unsafe { format!("{}/{}", ffi::rsmp_lent_held(words, WORDS, link), ffi::rsmp_lent_lost(words, WORDS, link)) })
 }
 
-fn readings(site: &Site, links: u32) -> String {
+fn readings(site: &Block, links: u32) -> String {
+    let words = site.words.as_ptr();
     each_link(links, |link| {
-        // SAFETY: everything goes by value, and every value is allowed.
-        let (phase, version) = unsafe { (ffi::rsmp_phase(site.clone(), link), ffi::rsmp_version_of(site.clone(), link)) };
+        // SAFETY: the words are lent for their length, and every content and value is allowed.
+        let (phase, version) = unsafe { (ffi::rsmp_lent_phase(words, WORDS, link), ffi::rsmp_lent_version_of(words, WORDS, link)) };
         let records: Vec<String> = records(site, link).iter().map(|record| hex(record)).collect();
         let records = if records.is_empty() { "-".to_string() } else { records.join(",") };
         format!("{}/{}.{}.{}/{}", phase, version.major, version.minor, version.patch, records)
     })
 }
 
-fn records(site: &Site, link: u32) -> Vec<[u8; 16]> {
+fn records(site: &Block, link: u32) -> Vec<[u8; 16]> {
     (0u64..)
-        // SAFETY: everything goes by value, and every value is allowed.
-        .map(|rank| unsafe { ffi::rsmp_record(site.clone(), link, rank) })
+        // SAFETY: the words are lent for their length, and every content and value is allowed.
+        .map(|rank| unsafe { ffi::rsmp_lent_record(site.words.as_ptr(), WORDS, link, rank) })
         .take_while(|reading| reading.found != 0)
         .map(|reading| reading.bytes)
         .collect()

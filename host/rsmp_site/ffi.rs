@@ -1,26 +1,24 @@
 //! The proved library's exported functions, as `rsmp_site.h` declares them. Nothing else in the host calls them.
 //!
-//! Safe to call with any values, as the library has no precondition, if every pointer is valid for the length beside it and the output
-//! overlaps nothing else that is lent.
+//! Safe to call with any values, as the library has no precondition, if every pointer is valid for the length beside it and nothing that is
+//! lent to be changed overlaps anything else that is lent.
 
-use core::fmt;
-
+/// The words of a site, in which everything lies that changes.
+pub const WORDS: usize = 1173;
+/// The bytes of its table, as start leaves them.
+pub const TABLE_BYTES: usize = 4752;
 /// The bytes of a site.
-pub const SITE_BYTES: usize = 13_912;
+pub const SITE_BYTES: usize = 8 * WORDS + TABLE_BYTES;
 
 /// The start value for "no primary".
 pub const NO_PRIMARY: u32 = u32::MAX;
 
-#[repr(C, align(8))]
+/// A site as the library is lent it. Every content is allowed.
+#[repr(C)]
 #[derive(Clone, PartialEq, Eq)]
-pub struct Site {
-    pub bytes: [u8; SITE_BYTES],
-}
-
-impl fmt::Debug for Site {
-    fn fmt(&self, formatter: &mut fmt::Formatter) -> fmt::Result {
-        formatter.debug_struct("Site").finish_non_exhaustive()
-    }
+pub struct Block {
+    pub words: [u64; WORDS],
+    pub table: [u8; TABLE_BYTES],
 }
 
 /// The 16 random bytes of which an identity is made.
@@ -30,11 +28,11 @@ pub struct Id {
     pub bytes: [u8; 16],
 }
 
-/// What a call gives: its number, and where it is 0 the next site, the written bytes, the closed links and the clock hint.
+/// What a call gives: its number, and where it is 0 the written bytes, the closed links and the clock hint. 14 is given where words or table
+/// are of another length than a site's.
 #[repr(C)]
-#[derive(Clone, Debug)]
-pub struct Step {
-    pub site: Site,
+#[derive(Clone, Copy, Debug)]
+pub struct Outcome {
     pub hint: u64,
     pub number: u32,
     pub written: u32,
@@ -60,12 +58,27 @@ pub struct Reading {
 
 #[link(name = "rsmp_site", kind = "static")]
 extern "C" {
-    #[link_name = concat!("rsmp_start_", env!("RSMP_SYMBOL"))]
-    pub fn rsmp_start(table: *const u8, table_len: usize, links: u32, primary: u32, period: u32, first: u64, time: u64) -> Step;
-    pub fn rsmp_connect(site: Site, link: u32, time: u64) -> Step;
-    pub fn rsmp_disconnect(site: Site, link: u32, time: u64) -> Step;
-    pub fn rsmp_packet(
-        site: Site,
+    #[link_name = concat!("rsmp_lent_start_", env!("RSMP_SYMBOL"))]
+    pub fn rsmp_lent_start(
+        words: *mut u64,
+        words_len: usize,
+        table: *mut u8,
+        table_len: usize,
+        bits: *const u8,
+        bits_len: usize,
+        links: u32,
+        primary: u32,
+        period: u32,
+        first: u64,
+        time: u64,
+    ) -> Outcome;
+    pub fn rsmp_lent_connect(words: *mut u64, words_len: usize, link: u32, time: u64) -> Outcome;
+    pub fn rsmp_lent_disconnect(words: *mut u64, words_len: usize, link: u32, time: u64) -> Outcome;
+    pub fn rsmp_lent_packet(
+        words: *mut u64,
+        words_len: usize,
+        table: *const u8,
+        table_len: usize,
         link: u32,
         time: u64,
         random: Id,
@@ -73,15 +86,41 @@ extern "C" {
         packet_len: usize,
         out: *mut u8,
         out_len: usize,
-    ) -> Step;
-    pub fn rsmp_alarm(site: Site, number: u32, active: u32, time: u64) -> Step;
-    pub fn rsmp_status(site: Site, number: u32, value: i32, time: u64) -> Step;
-    pub fn rsmp_aggregated(site: Site, value: u8, time: u64) -> Step;
-    pub fn rsmp_tick(site: Site, time: u64) -> Step;
-    pub fn rsmp_pump(site: Site, link: u32, time: u64, random: Id, out: *mut u8, out_len: usize) -> Step;
-    pub fn rsmp_held(site: Site, link: u32) -> u64;
-    pub fn rsmp_lost(site: Site, link: u32) -> u64;
-    pub fn rsmp_phase(site: Site, link: u32) -> u32;
-    pub fn rsmp_version_of(site: Site, link: u32) -> Version;
-    pub fn rsmp_record(site: Site, link: u32, rank: u64) -> Reading;
+    ) -> Outcome;
+    pub fn rsmp_lent_alarm(
+        words: *mut u64,
+        words_len: usize,
+        table: *const u8,
+        table_len: usize,
+        number: u32,
+        active: u32,
+        time: u64,
+    ) -> Outcome;
+    pub fn rsmp_lent_status(
+        words: *mut u64,
+        words_len: usize,
+        table: *const u8,
+        table_len: usize,
+        number: u32,
+        value: i32,
+        time: u64,
+    ) -> Outcome;
+    pub fn rsmp_lent_aggregated(words: *mut u64, words_len: usize, value: u8, time: u64) -> Outcome;
+    pub fn rsmp_lent_tick(words: *mut u64, words_len: usize, time: u64) -> Outcome;
+    pub fn rsmp_lent_pump(
+        words: *mut u64,
+        words_len: usize,
+        table: *const u8,
+        table_len: usize,
+        link: u32,
+        time: u64,
+        random: Id,
+        out: *mut u8,
+        out_len: usize,
+    ) -> Outcome;
+    pub fn rsmp_lent_held(words: *const u64, words_len: usize, link: u32) -> u64;
+    pub fn rsmp_lent_lost(words: *const u64, words_len: usize, link: u32) -> u64;
+    pub fn rsmp_lent_phase(words: *const u64, words_len: usize, link: u32) -> u32;
+    pub fn rsmp_lent_version_of(words: *const u64, words_len: usize, link: u32) -> Version;
+    pub fn rsmp_lent_record(words: *const u64, words_len: usize, link: u32, rank: u64) -> Reading;
 }

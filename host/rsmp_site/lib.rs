@@ -1,7 +1,7 @@
 //! The site end of RSMP 3.2, over the proved library: its calls without `unsafe`, each refusal a typed error.
 //!
-//! A call that is refused changes nothing. Links, alarms and statuses are numbered from 0; times are milliseconds since 1970 UTC and
-//! never go back from one call to the next. What the host brings is said in docs/EMBEDDING.md.
+//! A call changes its site in place; one that is refused changes nothing. Links, alarms and statuses are numbered from 0; times are
+//! milliseconds since 1970 UTC and never go back from one call to the next. What the host brings is said in docs/EMBEDDING.md.
 
 #![no_std]
 
@@ -13,8 +13,10 @@ mod refusal;
 mod stored;
 
 use core::fmt;
+pub use ffi::SITE_BYTES;
+use ffi::{Block, TABLE_BYTES, WORDS};
 pub use refusal::Refusal;
-pub use stored::{check_sum, NotStored, STORED_BYTES, STORED_EDITION};
+pub use stored::{check_sum, NotStored, SITE_EDITION, STORED_BYTES};
 
 /// The version of this crate, which is that of the library, of the header and of the programs.
 pub const VERSION: &str = env!("RSMP_VERSION");
@@ -26,12 +28,13 @@ pub const PACKET_BYTES: usize = 4096;
 pub const LINKS: u32 = 4;
 /// 9999-12-31T23:59:59.999Z
 pub const LAST_TIME: u64 = 253_402_300_799_999;
+/// The word of a site that has its count of links, and the lowest of its sixteen bits there.
+const LINK_COUNT: (usize, u32) = (2, 16);
 
-/// A site: plain bytes, no heap, no global state.
-#[derive(Clone)]
+/// A site: 14,136 plain bytes, no heap, no global state. Keep it where you like: in a static, in a box, on a stack.
+#[derive(Clone, PartialEq, Eq)]
 pub struct Site {
-    state: ffi::Site,
-    links: u32,
+    lent: Block,
 }
 
 /// What a site starts with beside its table.
@@ -92,105 +95,106 @@ pub enum Phase {
 pub type Called = Result<Report, Refusal>;
 
 impl Site {
+    /// A site without links: what a place for a site holds before `begin` makes one there.
+    pub const NONE: Site = Site { lent: Block { words: [0; WORDS], table: [0; TABLE_BYTES] } };
+
     /// A new site of a table's bits.
     pub fn start(table: &[u8], start: &Start) -> Result<Site, Refusal> {
+        let mut site = Site::NONE;
+        site.begin(table, start).map(|_| site)
+    }
+
+    /// A new site of a table's bits, in the place of this one.
+    pub fn begin(&mut self, table: &[u8], start: &Start) -> Called {
         let primary = match start.primary {
             None => ffi::NO_PRIMARY,
             Some(ffi::NO_PRIMARY) => return Err(Refusal::NotAccepted),
             Some(link) => link,
         };
-        // SAFETY: the table is lent for its length, is only read, and nothing of it is kept.
-        let step = unsafe { ffi::rsmp_start(table.as_ptr(), table.len(), start.links, primary, start.period, start.first, start.time) };
-        let mut site = Site { state: step.site.clone(), links: start.links };
-        site.keep(step).map(|_| site)
+        let Start { links, period, first, time, .. } = *start;
+        let Block { words, table: kept } = &mut self.lent;
+        // SAFETY: all three are lent for their lengths, lie apart, and nothing of them is kept.
+        called(unsafe {
+            let (words, kept, bits) = (words.as_mut_ptr(), kept.as_mut_ptr(), table.as_ptr());
+            ffi::rsmp_lent_start(words, WORDS, kept, TABLE_BYTES, bits, table.len(), links, primary, period, first, time)
+        })
     }
 
     pub fn connect(&mut self, link: u32, time: u64) -> Called {
-        // SAFETY: everything goes by value, and every value is allowed.
-        let step = unsafe { ffi::rsmp_connect(self.state.clone(), link, time) };
-        self.keep(step)
+        // SAFETY: the words are lent for their length, and every content and value is allowed.
+        called(unsafe { ffi::rsmp_lent_connect(self.lent.words.as_mut_ptr(), WORDS, link, time) })
     }
 
     pub fn disconnect(&mut self, link: u32, time: u64) -> Called {
-        // SAFETY: everything goes by value, and every value is allowed.
-        let step = unsafe { ffi::rsmp_disconnect(self.state.clone(), link, time) };
-        self.keep(step)
+        // SAFETY: the words are lent for their length, and every content and value is allowed.
+        called(unsafe { ffi::rsmp_lent_disconnect(self.lent.words.as_mut_ptr(), WORDS, link, time) })
     }
 
     /// A packet that came, without form feeds; the answer is written to `output`.
     pub fn packet(&mut self, link: u32, time: u64, random: [u8; 16], packet: &[u8], output: &mut [u8]) -> Called {
-        // SAFETY: both are lent for their lengths; the output is borrowed alone, so it cannot overlap the packet.
-        let step = unsafe {
-            let random = ffi::Id { bytes: random };
-            ffi::rsmp_packet(self.state.clone(), link, time, random, packet.as_ptr(), packet.len(), output.as_mut_ptr(), output.len())
-        };
-        self.keep(step)
+        let Block { words, table } = &mut self.lent;
+        let (random, room) = (ffi::Id { bytes: random }, output.len());
+        // SAFETY: all four are lent for their lengths; the words and the output are borrowed alone, so they overlap nothing.
+        called(unsafe {
+            let (words, table, output) = (words.as_mut_ptr(), table.as_ptr(), output.as_mut_ptr());
+            ffi::rsmp_lent_packet(words, WORDS, table, TABLE_BYTES, link, time, random, packet.as_ptr(), packet.len(), output, room)
+        })
     }
 
     pub fn alarm(&mut self, number: u32, active: bool, time: u64) -> Called {
-        // SAFETY: everything goes by value, and every value is allowed.
-        let step = unsafe { ffi::rsmp_alarm(self.state.clone(), number, u32::from(active), time) };
-        self.keep(step)
+        let Block { words, table } = &mut self.lent;
+        // SAFETY: words and table are lent for their lengths, and every content and value is allowed.
+        called(unsafe { ffi::rsmp_lent_alarm(words.as_mut_ptr(), WORDS, table.as_ptr(), TABLE_BYTES, number, u32::from(active), time) })
     }
 
     pub fn status(&mut self, number: u32, value: i32, time: u64) -> Called {
-        // SAFETY: everything goes by value, and every value is allowed.
-        let step = unsafe { ffi::rsmp_status(self.state.clone(), number, value, time) };
-        self.keep(step)
+        let Block { words, table } = &mut self.lent;
+        // SAFETY: words and table are lent for their lengths, and every content and value is allowed.
+        called(unsafe { ffi::rsmp_lent_status(words.as_mut_ptr(), WORDS, table.as_ptr(), TABLE_BYTES, number, value, time) })
     }
 
     /// The eight booleans, the first in the highest bit.
     pub fn aggregated(&mut self, value: u8, time: u64) -> Called {
-        // SAFETY: everything goes by value, and every value is allowed.
-        let step = unsafe { ffi::rsmp_aggregated(self.state.clone(), value, time) };
-        self.keep(step)
+        // SAFETY: the words are lent for their length, and every content and value is allowed.
+        called(unsafe { ffi::rsmp_lent_aggregated(self.lent.words.as_mut_ptr(), WORDS, value, time) })
     }
 
     pub fn tick(&mut self, time: u64) -> Called {
-        // SAFETY: everything goes by value, and every value is allowed.
-        let step = unsafe { ffi::rsmp_tick(self.state.clone(), time) };
-        self.keep(step)
+        // SAFETY: the words are lent for their length, and every content and value is allowed.
+        called(unsafe { ffi::rsmp_lent_tick(self.lent.words.as_mut_ptr(), WORDS, time) })
     }
 
     /// Writes the next message that is due on a link, one at most.
     pub fn pump(&mut self, link: u32, time: u64, random: [u8; 16], output: &mut [u8]) -> Called {
-        // SAFETY: the output is lent for its length, and nothing of it is kept.
-        let step = unsafe {
-            let random = ffi::Id { bytes: random };
-            ffi::rsmp_pump(self.state.clone(), link, time, random, output.as_mut_ptr(), output.len())
-        };
-        self.keep(step)
-    }
-
-    fn keep(&mut self, step: ffi::Step) -> Called {
-        if let Some(refusal) = Refusal::of_number(step.number) {
-            return Err(refusal);
-        }
-        let hint = if step.hinted == 1 { Some(step.hint) } else { None };
-        self.state = step.site;
-        Ok(Report { written: step.written as usize, closed: Links(step.closed), hint })
+        let Block { words, table } = &mut self.lent;
+        let (random, room) = (ffi::Id { bytes: random }, output.len());
+        // SAFETY: all three are lent for their lengths; the words and the output are borrowed alone, so they overlap nothing.
+        called(unsafe {
+            let (words, table, output) = (words.as_mut_ptr(), table.as_ptr(), output.as_mut_ptr());
+            ffi::rsmp_lent_pump(words, WORDS, table, TABLE_BYTES, link, time, random, output, room)
+        })
     }
 
     /// How many links the site has.
     pub fn links(&self) -> u32 {
-        self.links
+        LINKS.min((self.lent.words[LINK_COUNT.0] >> LINK_COUNT.1 & 0xFFFF) as u32)
     }
 
     /// The records that wait for a link's answer.
     pub fn held(&self, link: u32) -> u64 {
-        // SAFETY: everything goes by value, and every value is allowed.
-        self.reading(link, 0, || unsafe { ffi::rsmp_held(self.state.clone(), link) })
+        // SAFETY: the words are lent for their length, and every content and value is allowed.
+        unsafe { ffi::rsmp_lent_held(self.lent.words.as_ptr(), WORDS, link) }
     }
 
     /// The records of a link that were pushed out of the pool, since start.
     pub fn lost(&self, link: u32) -> u64 {
-        // SAFETY: everything goes by value, and every value is allowed.
-        self.reading(link, 0, || unsafe { ffi::rsmp_lost(self.state.clone(), link) })
+        // SAFETY: the words are lent for their length, and every content and value is allowed.
+        unsafe { ffi::rsmp_lent_lost(self.lent.words.as_ptr(), WORDS, link) }
     }
 
     pub fn phase(&self, link: u32) -> Phase {
-        // SAFETY: everything goes by value, and every value is allowed.
-        match self.reading(link, 0, || unsafe { ffi::rsmp_phase(self.state.clone(), link) }) {
+        // SAFETY: the words are lent for their length, and every content and value is allowed.
+        match unsafe { ffi::rsmp_lent_phase(self.lent.words.as_ptr(), WORDS, link) } {
             1 => Phase::Greeting,
             2 => Phase::Beating,
             3 => Phase::Up,
@@ -200,18 +204,17 @@ impl Site {
 
     /// The chosen version, where the link's greeting has come so far.
     pub fn version(&self, link: u32) -> Option<(u32, u32, u32)> {
-        let none = ffi::Version { major: 0, minor: 0, patch: 0 };
-        // SAFETY: everything goes by value, and every value is allowed.
-        let found = self.reading(link, none, || unsafe { ffi::rsmp_version_of(self.state.clone(), link) });
-        Some((found.major, found.minor, found.patch)).filter(|_| found != none)
+        // SAFETY: the words are lent for their length, and every content and value is allowed.
+        let found = unsafe { ffi::rsmp_lent_version_of(self.lent.words.as_ptr(), WORDS, link) };
+        Some((found.major, found.minor, found.patch)).filter(|chosen| *chosen != (0, 0, 0))
     }
 
     /// The records held for a link, oldest first.
     pub fn records(&self, link: u32) -> impl Iterator<Item = [u8; 16]> + '_ {
         let ranks = 0..self.held(link);
         ranks.map_while(move |rank| {
-            // SAFETY: everything goes by value, and every value is allowed.
-            let reading = unsafe { ffi::rsmp_record(self.state.clone(), link, rank) };
+            // SAFETY: the words are lent for their length, and every content and value is allowed.
+            let reading = unsafe { ffi::rsmp_lent_record(self.lent.words.as_ptr(), WORDS, link, rank) };
             Some(reading.bytes).filter(|_| reading.found != 0)
         })
     }
@@ -219,14 +222,20 @@ impl Site {
     fn seen(&self, link: u32) -> Seen {
         Seen { phase: self.phase(link), version: self.version(link), held: self.held(link), lost: self.lost(link) }
     }
+}
 
-    fn reading<T>(&self, link: u32, otherwise: T, read: impl FnOnce() -> T) -> T {
-        if link < self.links {
-            read()
-        } else {
-            otherwise
-        }
+impl From<Site> for Block {
+    fn from(site: Site) -> Block {
+        site.lent
     }
+}
+
+fn called(outcome: ffi::Outcome) -> Called {
+    if let Some(refusal) = Refusal::of_number(outcome.number) {
+        return Err(refusal);
+    }
+    let hint = Some(outcome.hint).filter(|_| outcome.hinted == 1);
+    Ok(Report { written: outcome.written as usize, closed: Links(outcome.closed), hint })
 }
 
 /// What is shown of a link where a site is printed.
@@ -241,6 +250,6 @@ struct Seen {
 
 impl fmt::Debug for Site {
     fn fmt(&self, formatter: &mut fmt::Formatter) -> fmt::Result {
-        formatter.debug_list().entries((0..self.links).map(|link| self.seen(link))).finish()
+        formatter.debug_list().entries((0..self.links()).map(|link| self.seen(link))).finish()
     }
 }

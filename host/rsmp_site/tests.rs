@@ -1,6 +1,6 @@
 //! The safe crate over the library, run on x86-64: sizes on this side of the calling convention, typed refusals, clones.
 
-use rsmp_site::{ffi, Phase, Refusal, Site, Start, LAST_TIME, OUTPUT_BYTES};
+use rsmp_site::{ffi, NotStored, Phase, Refusal, Site, Start, LAST_TIME, OUTPUT_BYTES, SITE_BYTES, STORED_BYTES};
 use std::mem::{align_of, size_of};
 
 const TABLE: &[u8] = include_bytes!("../../examples/barrier.bits");
@@ -13,9 +13,29 @@ fn site() -> Site {
 
 #[test]
 fn sizes() {
-    assert_eq!((size_of::<ffi::Site>(), align_of::<ffi::Site>()), (ffi::SITE_BYTES, 8));
-    assert_eq!((size_of::<ffi::Step>(), align_of::<ffi::Step>()), (ffi::SITE_BYTES + 24, 8));
+    assert_eq!((size_of::<ffi::Block>(), align_of::<ffi::Block>(), SITE_BYTES), (14_136, 8, 14_136));
+    assert_eq!((size_of::<ffi::Outcome>(), align_of::<ffi::Outcome>()), (24, 8));
     assert_eq!((size_of::<ffi::Id>(), size_of::<ffi::Version>(), size_of::<ffi::Reading>()), (16, 12, 17));
+}
+
+/// Where fields stand in a struct.
+macro_rules! places {
+    ($of:expr, $($field:ident)*) => {{
+        let (of, start) = (&$of, &$of as *const _ as usize);
+        [$(&of.$field as *const _ as usize - start),*]
+    }};
+}
+
+#[test]
+fn offsets() {
+    let block: ffi::Block = Site::NONE.into();
+    assert_eq!(places!(block, words table), [0, 9384]);
+    let outcome = ffi::Outcome { hint: 0, number: 0, written: 0, closed: 0, hinted: 0 };
+    assert_eq!(places!(outcome, hint number written closed hinted), [0, 8, 12, 16, 20]);
+    let version = ffi::Version { major: 0, minor: 0, patch: 0 };
+    assert_eq!(places!(version, major minor patch), [0, 4, 8]);
+    let reading = ffi::Reading { found: 0, bytes: [0; 16] };
+    assert_eq!(places!(reading, found bytes), [0, 1]);
 }
 
 #[test]
@@ -81,4 +101,64 @@ fn readings() {
     assert_eq!(records.len(), 2);
     assert_eq!(records[0][..2], [0x00, 0xC4]);
     assert_eq!((site.version(0), site.phase(9), site.records(1).count()), (None, Phase::Down, 1));
+}
+
+#[test]
+fn a_refused_start_leaves_the_site() {
+    let mut site = site();
+    assert!(site.alarm(0, true, NOON).is_ok());
+    let before = site.clone();
+    assert_eq!(site.begin(&[], &GOOD), Err(Refusal::NotAccepted));
+    assert_eq!(site.begin(TABLE, &Start { period: 0, ..GOOD }), Err(Refusal::NotAccepted));
+    assert!(site == before);
+    assert!(site.begin(TABLE, &GOOD).is_ok() && site == self::site());
+}
+
+#[test]
+fn links_are_those_of_the_start() {
+    assert_eq!(Site::NONE.links(), 0);
+    for links in 1..=4 {
+        let mut site = Site::start(TABLE, &Start { links, ..GOOD }).expect("a good start");
+        assert_eq!(site.links(), links);
+        assert!((0..links).all(|link| site.connect(link, NOON).is_ok()));
+        assert_eq!(site.connect(links, NOON), Err(Refusal::NoLink));
+    }
+}
+
+#[test]
+fn every_content_is_a_site() {
+    let mut output = [0; OUTPUT_BYTES];
+    for byte in [0, 1, 2, 0x55, 0x7F, 0x80, 0xFF] {
+        let bytes = [byte; SITE_BYTES];
+        let mut site = Site::from_bytes(&bytes);
+        assert!(site.as_bytes() == &bytes && site.links() <= 4);
+        for link in 0..5 {
+            let _ = (site.phase(link), site.version(link), site.lost(link), site.records(link).count() as u64 <= site.held(link));
+            let _ = (site.connect(link, NOON), site.pump(link, NOON, [byte; 16], &mut output), site.disconnect(link, NOON));
+            let _ = site.packet(link, NOON, [byte; 16], b"{}", &mut output);
+        }
+        let _ = (site.alarm(0, true, NOON), site.status(0, 1, NOON), site.aggregated(1, NOON), site.tick(NOON));
+        assert!(site.begin(TABLE, &GOOD).is_ok() && site == self::site());
+    }
+}
+
+#[test]
+fn bytes_and_back() {
+    let mut site = site();
+    assert!(site.connect(1, NOON).is_ok() && site.alarm(2, true, NOON).is_ok());
+    assert!(Site::from_bytes(site.as_bytes()) == site);
+    let stored = site.to_stored();
+    assert!(Site::from_stored(&stored).as_ref() == Ok(&site));
+    assert_eq!((stored.len(), stored[8]), (STORED_BYTES, 2));
+    let fault = |change: &dyn Fn(&mut Vec<u8>)| {
+        let mut bytes = stored.to_vec();
+        change(&mut bytes);
+        Site::from_stored(&bytes).err()
+    };
+    assert_eq!(fault(&|bytes| bytes[16] ^= 1), Some(NotStored::Damaged));
+    assert_eq!(fault(&|bytes| bytes[STORED_BYTES - 1] ^= 1), Some(NotStored::Damaged));
+    assert_eq!(fault(&|bytes| bytes[8] = 1), Some(NotStored::Edition(1)));
+    assert_eq!(fault(&|bytes| bytes[0] = 0), Some(NotStored::Foreign));
+    assert_eq!(fault(&|bytes| bytes[12] ^= 8), Some(NotStored::Length));
+    assert_eq!((fault(&|bytes| bytes.truncate(23)), fault(&|bytes| bytes.push(0))), (Some(NotStored::Length), Some(NotStored::Length)));
 }

@@ -73,7 +73,7 @@ impl Calls {
     pub fn start_anew(&mut self) -> Result<(), Refusal> {
         self.start.first = 0;
         self.start.time = self.now();
-        self.site = Site::start(&self.table, &self.start)?;
+        self.site.begin(&self.table, &self.start)?;
         self.record_start();
         self.changed();
         Ok(())
@@ -112,7 +112,7 @@ impl Calls {
     /// So that what follows can be played without what came before.
     fn record_site(&mut self) {
         if let Some(record) = &mut self.record {
-            let line = format!("restore {}", hex(&self.site.to_bytes()));
+            let line = format!("restore {}", hex(&self.site.to_stored()));
             if let Err(error) = record.begin(&line) {
                 self.end_record(error);
             }

@@ -36,7 +36,7 @@ fn written(setup: &[u8; 20], site: &Site, time: u64) -> Vec<u8> {
     bytes.extend_from_slice(&EDITION.to_le_bytes());
     bytes.extend_from_slice(setup);
     bytes.extend_from_slice(&time.to_le_bytes());
-    bytes.extend_from_slice(&site.to_bytes());
+    bytes.extend_from_slice(&site.to_stored());
     let sum = check_sum(&bytes);
     bytes.extend_from_slice(&sum.to_le_bytes());
     bytes
@@ -61,9 +61,9 @@ fn read(setup: &[u8; 20], bytes: &[u8]) -> Result<Stored, String> {
     let mut time = [0; 8];
     time.copy_from_slice(&told[32..40]);
     let time = u64::from_le_bytes(time);
-    let site = Site::from_bytes(&told[HEAD_BYTES..]).map_err(|fault| format!("it is {}", fault))?;
-    if !goes_on(site.clone(), time) {
-        return Err("its site does not go on at its time".to_string());
+    let site = Site::from_stored(&told[HEAD_BYTES..]).map_err(|fault| format!("it is {}", fault))?;
+    if site.links().to_le_bytes() != setup[..4] || !goes_on(site.clone(), time) {
+        return Err("its site does not go on with its links at its time".to_string());
     }
     Ok(Stored { site, time })
 }
@@ -203,7 +203,7 @@ mod tests {
         let bytes = written(&setup, &site, START.time + 77);
         let stored = read(&setup, &bytes).unwrap_or_else(|why| panic!("{}", why));
         assert_eq!(stored.time, START.time + 77);
-        assert_eq!(stored.site.to_bytes()[..], site.to_bytes()[..]);
+        assert!(stored.site == site);
         assert_eq!((stored.site.links(), stored.site.held(0)), (2, 1));
     }
 
@@ -237,51 +237,23 @@ mod tests {
         assert!(read(&setup(TABLE, &first), &good).is_ok());
     }
 
+    const DOES_NOT_GO_ON: Option<&str> = Some("its site does not go on with its links at its time");
+
     #[test]
     fn a_site_of_a_later_time_is_refused() {
         let (setup, mut site) = (setup(TABLE, &START), site());
         site.connect(1, START.time + 9).unwrap();
         let why = |time: u64| read(&setup, &written(&setup, &site, time)).err();
         assert_eq!(why(START.time + 9), None);
-        assert_eq!(why(START.time + 8).as_deref(), Some("its site does not go on at its time"));
-        assert_eq!(why(u64::MAX).as_deref(), Some("its site does not go on at its time"));
-    }
-
-    /// The site within the stored bytes, one byte of it changed, the check sum right.
-    fn with_byte(good: &[u8], at: usize, value: u8) -> Vec<u8> {
-        let mut bytes = good[..good.len() - 8].to_vec();
-        bytes[16 + at] = value;
-        let sum = check_sum(&bytes);
-        bytes.extend_from_slice(&sum.to_le_bytes());
-        bytes
+        assert_eq!(why(START.time + 8).as_deref(), DOES_NOT_GO_ON);
+        assert_eq!(why(u64::MAX).as_deref(), DOES_NOT_GO_ON);
     }
 
     #[test]
-    fn booleans_are_0_or_1() {
-        let good = site().to_bytes().to_vec();
-        let every_link = (0..4).flat_map(|link| 4128 + 544 * link + 530..4128 + 544 * link + 548);
-        let some = (0..4000).chain(6400..9140).chain(9160..good.len() - 24);
-        let refused: Vec<usize> = every_link
-            .chain(9150..9160)
-            .chain(some.step_by(31))
-            .filter(|at| Site::from_bytes(&with_byte(&good, *at, 0xff)).is_err())
-            .collect();
-        let booleans = (0..4).flat_map(|link| (0..8).map(move |place| 4128 + 544 * link + 536 + place));
-        let wanted: Vec<usize> = booleans.chain([9156, 9157]).collect();
-        assert_eq!(refused, wanted);
-    }
-
-    #[test]
-    fn booleans_stand_where_they_are_judged() {
-        let start = Start { links: 4, ..START };
-        for link in 0..4 {
-            let mut site = Site::start(TABLE, &start).unwrap();
-            let before = site.to_bytes();
-            site.connect(link, START.time).unwrap();
-            let after = site.to_bytes();
-            let changed = |at: &usize| before[16 + at] != after[16 + at];
-            let changed: Vec<usize> = (0..before.len() - 24).filter(changed).collect();
-            assert_eq!(changed, [4128 + 544 * link as usize + 536]);
-        }
+    fn a_site_of_other_links_is_refused() {
+        let setup = setup(TABLE, &START);
+        let why = |site: &Site| read(&setup, &written(&setup, site, START.time)).err();
+        let other = Site::start(TABLE, &Start { links: 3, ..START }).unwrap();
+        assert_eq!((why(&other).as_deref(), why(&Site::NONE).as_deref()), (DOES_NOT_GO_ON, DOES_NOT_GO_ON));
     }
 }

@@ -80,11 +80,18 @@ class Reader:
             return "function", names, self.expression()
         return self.application()
 
+    def implicit(self):
+        """An argument in braces says nothing of what is computed."""
+        while self.next() != "}":
+            pass
+
     def application(self):
         function, arguments = self.atom(), []
         while self.peek() not in ENDS and self.peek() not in INFIX:
             token = self.peek()
-            if token[0] == "." and len(token) > 1:
+            if token == "{":
+                self.implicit()
+            elif token[0] == "." and len(token) > 1:
                 self.next()
                 function = "field", ("apply", function, arguments) if arguments else function, token[1:]
                 arguments = []
