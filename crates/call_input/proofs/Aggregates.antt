@@ -11,8 +11,8 @@ use Rattle.entry.specs.declared.Entry.{Entry}
 use Rattle.aggregated.specs.declared.Aggregated.{Aggregated}
 use Rattle.aggregated.specs.Aggregated.{setOf as aggregatedSet}
 use Rattle.aggregated.specs.Issued.{issuedOf as aggregatedRecord}
-use Rattle.call_records.specs.Upwards.{entriesTo, entryIf}
-use Rattle.call_records.proofs.Entries.{none-to}
+use Rattle.pool_laws.specs.Upwards.{entriesTo, entryIf}
+use Rattle.pool_laws.proofs.Entries.{none-to}
 use Rattle.site.specs.declared.Site.{Site}
 use Rattle.site.specs.Call.{only}
 use Rattle.call_input.specs.Inputs.{aggregatedEntry, aggregatedPlan}

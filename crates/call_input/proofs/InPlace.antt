@@ -12,8 +12,8 @@ use Rattle.status.specs.declared.Set.{Set as StatusSet}
 use Rattle.subscription.specs.Subscription.{issuesOn}
 use Rattle.aggregated.specs.declared.Set.{Set as AggregatedSet}
 use Rattle.aggregated.specs.Issued.{issuedOf as aggregatedRecord}
-use Rattle.call_records.specs.Upwards.{entriesTo}
-use Rattle.call_records.proofs.Entries.{none-to}
+use Rattle.pool_laws.specs.Upwards.{entriesTo}
+use Rattle.pool_laws.proofs.Entries.{none-to}
 use Rattle.table_whole.specs.declared.SiteTable.{SiteTable}
 use Rattle.site.specs.declared.Site.{Site}
 use Rattle.site.specs.Site.{linkAt}

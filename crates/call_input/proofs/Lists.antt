@@ -12,8 +12,8 @@ use borrow.Author.Tests.{lt-ltb, le-ltb, eq-eqb, ne-eqb}
 use Rattle.basis.specs.Pick.{pick}
 use Rattle.basis.proofs.Cases.{lt-or-ge}
 use Rattle.entry.specs.declared.Entry.{Entry}
-use Rattle.pool_batch.specs.Laws.{Owned}
-use Rattle.call_records.specs.Upwards.{entriesTo, entryIf}
+use Rattle.pool_laws.specs.BatchLaws.{Owned}
+use Rattle.pool_laws.specs.Upwards.{entriesTo, entryIf}
 use Rattle.call_input.specs.Claims.{Every, forLink, Upwards}
 
 -- what stands there is put there

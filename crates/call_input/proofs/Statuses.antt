@@ -12,8 +12,8 @@ use Rattle.status.specs.declared.Status.{Status}
 use Rattle.status.specs.declared.Set.{Set as StatusSet}
 use Rattle.status.specs.Status.{holding, news, setOf as statusSet}
 use Rattle.subscription.specs.Subscription.{issuesOn}
-use Rattle.call_records.specs.Upwards.{entriesTo}
-use Rattle.call_records.proofs.Entries.{none-to}
+use Rattle.pool_laws.specs.Upwards.{entriesTo}
+use Rattle.pool_laws.proofs.Entries.{none-to}
 use Rattle.site.specs.declared.Site.{Site}
 use Rattle.site.specs.Site.{linkAt}
 use Rattle.site.specs.Parts.{statusAt, subscriptionAt}

@@ -16,8 +16,8 @@ use Rattle.alarm.specs.Alarm.{issued as issueOf}
 use Rattle.alarm.specs.Issued.{issuedOf as alarmRecord}
 use Rattle.status.specs.Status.{holding, news}
 use Rattle.aggregated.specs.Issued.{issuedOf as aggregatedRecord}
-use Rattle.pool_batch.specs.Laws.{Owned}
-use Rattle.call_records.specs.Upwards.{entryIf}
+use Rattle.pool_laws.specs.BatchLaws.{Owned}
+use Rattle.pool_laws.specs.Upwards.{entryIf}
 use Rattle.site.specs.declared.Site.{Site}
 use Rattle.site.specs.declared.Step.{Step}
 use Rattle.site.specs.Site.{site, badTimeAt, linkAt}

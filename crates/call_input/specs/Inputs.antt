@@ -19,7 +19,7 @@ use Rattle.subscription.specs.Subscription.{issuesOn}
 use Rattle.aggregated.specs.declared.Set.{Set as AggregatedSet}
 use Rattle.aggregated.specs.Aggregated.{setOf as aggregatedSet}
 use Rattle.aggregated.specs.Issued.{issuedOf as aggregatedRecord}
-use Rattle.call_records.specs.Upwards.{entriesTo, entryIf}
+use Rattle.pool_laws.specs.Upwards.{entriesTo, entryIf}
 use Rattle.site.specs.declared.Site.{Site}
 use Rattle.site.specs.declared.Step.{Step}
 use Rattle.site.specs.Site.{badTimeAt, linkAt, withAggregated, hasPrimary}

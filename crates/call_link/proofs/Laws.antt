@@ -3,7 +3,7 @@
 use Prim.Native.Nat.{ℕ}
 use mathlib.Core.Path.{_≡_, refl}
 use mathlib.Core.Bool.{true, false}
-use Rattle.pool_batch.specs.Batch.{beginning}
+use Rattle.pool_laws.specs.Batch.{beginning}
 use Rattle.answer.specs.declared.Refusal.the-variants.{NoSuchLink, BadTime, WrongPhase}
 use Rattle.link.specs.Steps.{connectOf}
 use Rattle.site.specs.declared.Site.{Site}

@@ -16,7 +16,7 @@ use Rattle.identity.specs.declared.Identity.{Identity}
 use Rattle.awaited.specs.declared.Found.{Found}
 use Rattle.awaited.specs.declared.Found.the-variants.{For, Nothing as NotAwaited}
 use Rattle.awaited.specs.Awaited.{findOf, howManyOf, isAwaited}
-use Rattle.pool_batch.specs.declared.Batch.{Batch}
+use Rattle.pool_laws.specs.declared.Batch.{Batch}
 use Rattle.link.specs.declared.Link.{Link}
 use Rattle.link.specs.declared.Phase.{Phase}
 use Rattle.link.specs.declared.Phase.the-variants.{Down, Greeting, Beating, Up}

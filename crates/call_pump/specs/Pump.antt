@@ -18,7 +18,7 @@ use Rattle.awaited.specs.Awaited.{findOf, isAwaited}
 use Rattle.pool.specs.declared.Sought.{Sought}
 use Rattle.pool.specs.declared.Sought.the-variants.{Found as FoundEntry, Nothing as NoEntry}
 use Rattle.pool.specs.Pool.{oldestUnsent}
-use Rattle.pool_batch.specs.Batch.{beginning}
+use Rattle.pool_laws.specs.Batch.{beginning}
 use Rattle.link.specs.declared.Due.{Due}
 use Rattle.link.specs.declared.Due.the-variants.{Nothing, Version, Watchdog, Aggregated, Alarm, Entry}
 use Rattle.link.specs.Steps.{crowdedOf}

@@ -26,8 +26,8 @@ use Rattle.store_site.specs.Layout.{siteOf}
 use Rattle.store_site.specs.Turns.{Plain}
 use Rattle.store_table.specs.Layout.{tableOf, layoutOf}
 use Rattle.store_table.proofs.Kept.{kept-table}
-use Rattle.store_image.specs.Range.{SlotFits, LinkFits, PlaceFits, SubscriptionFits, AlarmFits, StatusFits, InRange}
-use Rattle.store_image.proofs.Forth.{site-forth, plain-forth}
+use Rattle.store_whole.specs.Range.{SlotFits, LinkFits, PlaceFits, SubscriptionFits, AlarmFits, StatusFits, InRange}
+use Rattle.store_whole.proofs.Forth.{site-forth, plain-forth}
 use Rattle.call_start.specs.Fresh.{fresh, primaryOf}
 use Rattle.call_start.specs.Starts.{Starts}
 use Rattle.call_start.specs.Starts.Starts.{starts, refuses}

@@ -29,8 +29,8 @@ use Rattle.site.specs.Call.{nothingOf}
 use Rattle.store_site.specs.Layout.{siteOf}
 use Rattle.store_site.specs.Turns.{Turns}
 use Rattle.store_table.specs.Layout.{layoutOf}
-use Rattle.store_image.specs.Image.{wordsOf, Wide}
-use Rattle.store_image.proofs.Back.{words-back}
+use Rattle.store_whole.specs.Image.{wordsOf, Wide}
+use Rattle.store_whole.proofs.Back.{words-back}
 use Rattle.store_whole.specs.Filled.{withHead, PutLinks}
 use Rattle.call_start.specs.Fresh.{fresh, primaryOf}
 use Rattle.call_start.specs.Starts.Starts.{refuses}

@@ -8,7 +8,7 @@ use Rattle.answer.specs.declared.Answer.{Answer}
 use Rattle.answer.specs.Number.{isDone}
 use Rattle.site.specs.declared.Step.{Step}
 use Rattle.store_table.specs.Layout.{layoutOf}
-use Rattle.store_image.specs.Image.{wordsOf}
+use Rattle.store_whole.specs.Image.{wordsOf}
 use Rattle.call_start.specs.Starts.{Starts}
 
 -- the step x, the words going from ws to vs and the bytes from xs to ys: where it is done they are exactly those of its site and of

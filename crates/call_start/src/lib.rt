@@ -9,7 +9,7 @@ ghost use Rattle.table_whole.specs.declared.SiteTable.{SiteTable};
 ghost use Rattle.site.specs.declared.Site.{Site};
 ghost use Rattle.site.specs.Site.{withPool, withSubscriptions, withAlarms, withStatuses};
 ghost use Rattle.store_site.specs.Turns.{Turns};
-ghost use Rattle.store_image.specs.Image.{wordsOf};
+ghost use Rattle.store_whole.specs.Image.{wordsOf};
 ghost use Rattle.call_start.specs.Fresh.{fresh, primaryOf};
 ghost use Rattle.call_start.specs.Making.{aLinkOrNone, valuesWithin, isWithin, judgedBy};
 ghost use Rattle.call_start.specs.Begun.{Begun, StartsIn};

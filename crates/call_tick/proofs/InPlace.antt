@@ -11,12 +11,12 @@ use Rattle.entry.specs.declared.Entry.{Entry}
 use Rattle.link.specs.declared.Link.{Link}
 use Rattle.link.specs.Fields.{closedLink}
 use Rattle.pool.proofs.Part.{part, part-next, part-none, part-all}
-use Rattle.pool_batch.specs.Batch.{issuedAll}
+use Rattle.pool_laws.specs.Batch.{issuedAll}
 use Rattle.status.specs.declared.Status.{Status}
 use Rattle.status.specs.Status.{unknown}
 use Rattle.subscription.specs.declared.Subscription.{Subscription}
 use Rattle.subscription.specs.Subscription.{none, tickOf}
-use Rattle.call_records.specs.Upwards.{entriesTo}
+use Rattle.pool_laws.specs.Upwards.{entriesTo}
 use Rattle.site.specs.declared.Site.{Site}
 use Rattle.site.specs.Site.{linkAt, withSubscriptions, withIssued, closeAt, maskOf}
 use Rattle.site.specs.Parts.{statusAt, subscriptionAt, withSubscription}

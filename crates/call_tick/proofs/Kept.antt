@@ -27,9 +27,9 @@ use Rattle.subscription.specs.Subscription.{none, dueAt, tickOf}
 use Rattle.subscription.specs.History.{Act as Deed, after as kept-after, standing, atTick}
 use Rattle.subscription.specs.History.Act.{Ticked}
 use Rattle.subscription.proofs.History.{issues-told}
-use Rattle.pool_batch.specs.Laws.{Owned}
-use Rattle.call_records.specs.Upwards.{entryIf}
-use Rattle.call_records.proofs.Entries.{owned-to, owned-if}
+use Rattle.pool_laws.specs.BatchLaws.{Owned}
+use Rattle.pool_laws.specs.Upwards.{entryIf}
+use Rattle.pool_laws.proofs.Entries.{owned-to, owned-if}
 use Rattle.site.specs.declared.Site.{Site}
 use Rattle.site.specs.Site.{badTimeAt, linkAt, maskOf}
 use Rattle.site.specs.Parts.{statusAt, subscriptionAt}

@@ -6,7 +6,7 @@ use mathlib.Core.List.{List}
 use Rattle.link.specs.declared.Link.{Link}
 use Rattle.status.specs.declared.Status.{Status}
 use Rattle.subscription.specs.declared.Subscription.{Subscription}
-use Rattle.call_records.specs.Upwards.{entriesTo}
+use Rattle.pool_laws.specs.Upwards.{entriesTo}
 use Rattle.call_tick.specs.Intervals.{recordAt, recordsOf}
 
 pub all-places : (xs : List Subscription) (ks : List Status) (ns : List Link) (time n : ℕ) → n ≡ 128 → entriesTo (recordAt xs ks ns time) n ≡ recordsOf xs ks ns time

@@ -19,8 +19,8 @@ use Rattle.pool_laws.specs.View.{records, unsent}
 use Rattle.subscription.specs.declared.Subscription.{Subscription}
 use Rattle.subscription.specs.Subscription.{tickOf}
 use Rattle.subscription.specs.History.{Act as Deed, after as kept-after, standing, atTick}
-use Rattle.pool_batch.specs.Laws.{Owned}
-use Rattle.call_records.specs.Upwards.{entryIf}
+use Rattle.pool_laws.specs.BatchLaws.{Owned}
+use Rattle.pool_laws.specs.Upwards.{entryIf}
 use Rattle.site.specs.declared.Site.{Site}
 use Rattle.site.specs.Site.{badTimeAt, linkAt, withPool, withLinks, withSubscriptions}
 use Rattle.site.specs.Parts.{statusAt, subscriptionAt}

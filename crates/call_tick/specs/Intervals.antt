@@ -11,7 +11,7 @@ use Rattle.status.specs.declared.Status.{Status}
 use Rattle.status.specs.Status.{unknown}
 use Rattle.subscription.specs.declared.Subscription.{Subscription}
 use Rattle.subscription.specs.Subscription.{none, tickOf}
-use Rattle.call_records.specs.Upwards.{entriesTo, entryIf}
+use Rattle.pool_laws.specs.Upwards.{entriesTo, entryIf}
 use Rattle.site.specs.Records.{statusRecord}
 
 -- one that issues has issued at this time

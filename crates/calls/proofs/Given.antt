@@ -16,7 +16,7 @@ use Rattle.answer.specs.declared.Answer.the-variants.{Done}
 use Rattle.answer.specs.Number.{refusalNumber}
 use Rattle.answer.specs.Order.{inOrder, First, here, later, None}
 use Rattle.answer.proofs.Checks.{first-refuses, refused-first, none-refuses, done-none}
-use Rattle.pool_batch.proofs.Kept.{kept}
+use Rattle.pool_laws.proofs.BatchKept.{kept}
 use Rattle.site.specs.Call.{Plan, reportOf, answerOf}
 use Rattle.calls.specs.Numbers.{conditions, Numbers}
 

@@ -24,8 +24,8 @@ use Rattle.site.specs.declared.Step.{Step}
 use Rattle.site.specs.Call.{Plan, Gives, outAfter}
 use Rattle.store_site.specs.Layout.{siteOf}
 use Rattle.store_site.specs.Turns.{Plain}
-use Rattle.store_image.specs.Image.{wordsOf, Wide}
-use Rattle.store_image.proofs.Back.{words-back}
+use Rattle.store_whole.specs.Image.{wordsOf, Wide}
+use Rattle.store_whole.proofs.Back.{words-back}
 use Rattle.call_start.specs.Starts.{Starts}
 use Rattle.call_start.proofs.Whole.{once as one-start}
 use Rattle.packet_answer.specs.Ending.{Acks}

@@ -31,7 +31,7 @@ use Rattle.json_sure.specs.declared.Judged.{Judged}
 use Rattle.json_sure.specs.Judges.{Judges}
 use Rattle.table_whole.specs.declared.TableRead.{TableRead}
 use Rattle.table_whole.specs.Reads.{Reads as ReadsTable}
-use Rattle.pool_batch.specs.declared.Batch.{Batch}
+use Rattle.pool_laws.specs.declared.Batch.{Batch}
 use Rattle.site.specs.declared.Site.{Site}
 use Rattle.site.specs.declared.Step.{Step}
 use Rattle.site.specs.Call.{Plan, Gives}
@@ -42,7 +42,7 @@ use Rattle.sitec.specs.declared.Outcome.{Outcome}
 use Rattle.sitec.specs.Lent.{Words, WordsAndTable, Called, Told, Started, Read as ReadOut}
 use Rattle.table_whole.specs.declared.SiteTable.{SiteTable}
 use Rattle.store_site.specs.Turns.{Plain}
-use Rattle.store_image.specs.Image.{Wide}
+use Rattle.store_whole.specs.Image.{Wide}
 
 pub record Once : Type 1 where
   -- ---- what is exported: the outcome, the words and the bytes of a lent output. Words in which what has happened on a link is 0 or 1 (start leaves such, and every

@@ -15,7 +15,7 @@ use Rattle.names.specs.Names.{nameOf}
 use Rattle.identity.specs.declared.Identity.{Identity}
 use Rattle.entry.specs.declared.Entry.{Entry}
 use Rattle.awaited.specs.Awaited.{findOf, isAwaited}
-use Rattle.pool_batch.specs.Batch.{issuedAll}
+use Rattle.pool_laws.specs.Batch.{issuedAll}
 use Rattle.output.specs.Put.{Out, output, putAll, Wrote}
 use Rattle.table_whole.specs.declared.SiteTable.{SiteTable}
 use Rattle.write_message.specs.Message.{Message}

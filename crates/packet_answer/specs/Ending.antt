@@ -8,7 +8,7 @@ use Rattle.answer.specs.declared.Report.{Report}
 use Rattle.answer.specs.declared.Answer.the-variants.{Done}
 use Rattle.identity.specs.declared.Identity.{Identity}
 use Rattle.awaited.specs.declared.Purpose.the-variants.{Other}
-use Rattle.pool_batch.specs.declared.Batch.{Batch}
+use Rattle.pool_laws.specs.declared.Batch.{Batch}
 use Rattle.link.specs.Steps.{messageOutOf}
 use Rattle.write_message.specs.Message.{Message}
 use Rattle.write_message.specs.Message.Message.{ack}

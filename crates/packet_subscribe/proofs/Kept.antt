@@ -10,7 +10,7 @@ use lib.ListN.{length, length-append}
 use Rattle.basis.specs.Pick.{pick}
 use Rattle.basis.proofs.Both.{both-true}
 use Rattle.entry.specs.declared.Entry.{Entry}
-use Rattle.pool_batch.specs.Laws.{Owned}
+use Rattle.pool_laws.specs.BatchLaws.{Owned}
 use Rattle.read_head.specs.declared.Verdict.{Verdict}
 use Rattle.read_head.specs.declared.Verdict.the-variants.{Good, Missing, Bad}
 use Rattle.read_lists.specs.declared.StatusEntry.{StatusEntry}

@@ -5,7 +5,7 @@ use mathlib.Core.Path.{_≡_}
 use mathlib.Core.Bool.{Bool, true, false}
 use mathlib.Core.List.{List, []}
 use lib.ListN.{length}
-use Rattle.pool_batch.specs.Laws.{Owned}
+use Rattle.pool_laws.specs.BatchLaws.{Owned}
 use Rattle.read_lists.specs.declared.StatusEntry.{StatusEntry}
 use Rattle.read_lists.specs.declared.StatusFields.{StatusFields}
 use Rattle.packet_lookup.specs.Sought.{allStatuses}

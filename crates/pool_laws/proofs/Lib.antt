@@ -1,3 +1,4 @@
+-- What holds of the pool: the proofs.
 pub mod Counts
 pub mod Oldest
 pub mod Fullest
@@ -16,3 +17,5 @@ pub mod ViewAsk
 pub mod Order
 pub mod Viewed
 pub mod Contents
+pub mod BatchKept
+pub mod Entries

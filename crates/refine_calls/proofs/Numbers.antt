@@ -15,7 +15,7 @@ use Rattle.answer.specs.Order.{inOrder}
 use Rattle.identity.specs.declared.Identity.{Identity}
 use Rattle.identity.specs.Version.{identityOf}
 use Rattle.pool.specs.declared.Pool.{Pool}
-use Rattle.pool_batch.specs.Batch.{beginning}
+use Rattle.pool_laws.specs.Batch.{beginning}
 use Rattle.link.specs.declared.Link.{Link}
 use Rattle.link.specs.declared.Role.{Role}
 use Rattle.link.specs.declared.Role.the-variants.{Primary, Secondary}

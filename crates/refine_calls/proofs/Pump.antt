@@ -14,8 +14,8 @@ use Rattle.identity.specs.declared.Identity.{Identity}
 use Rattle.identity.specs.Read.{SixteenBytes}
 use Rattle.identity.specs.Version.{version4Of, identityOf}
 use Rattle.entry.specs.declared.Entry.{Entry}
-use Rattle.pool_batch.specs.declared.Batch.{Batch}
-use Rattle.pool_batch.specs.Batch.{beginning, issuedAll}
+use Rattle.pool_laws.specs.declared.Batch.{Batch}
+use Rattle.pool_laws.specs.Batch.{beginning, issuedAll}
 use Rattle.link.specs.declared.Due.{Due as DueKind}
 use Rattle.site.specs.declared.Site.{Site}
 use Rattle.site.specs.Call.{batchOf, issuing}

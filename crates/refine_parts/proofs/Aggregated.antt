@@ -12,8 +12,8 @@ use Rattle.entry.specs.declared.Entry.{Entry}
 use Rattle.aggregated.specs.declared.Aggregated.{Aggregated}
 use Rattle.aggregated.specs.Aggregated.{setOf}
 use Rattle.aggregated.specs.Issued.{issuedOf}
-use Rattle.call_records.specs.Upwards.{entriesTo, entryIf}
-use Rattle.call_records.proofs.Entries.{none-to}
+use Rattle.pool_laws.specs.Upwards.{entriesTo, entryIf}
+use Rattle.pool_laws.proofs.Entries.{none-to}
 use Rattle.call_input.specs.Inputs.{aggregatedPlan}
 use Rattle.site.specs.declared.Site.{Site}
 use Rattle.site.specs.Site.{withAggregated as withValue}

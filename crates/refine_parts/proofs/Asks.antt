@@ -25,7 +25,7 @@ use Rattle.pool_laws.specs.Promises.Reached.{empty, after}
 use Rattle.pool_laws.specs.Acts.Act.{Issue, Settle, Mark, Unmark}
 use Rattle.pool_laws.specs.View.{firstWhere, orElse, lastWhere, nth, notSent, ofAlarm}
 use Rattle.pool_laws.proofs.Viewed.{viewed}
-use Rattle.pool_batch.proofs.Kept.{kept}
+use Rattle.pool_laws.proofs.BatchKept.{kept}
 use Rattle.machine.specs.Words.{maybe, isSome, keep, firstThat}
 use Rattle.machine.specs.State.{Held, Machine, alarmAt, Effect}
 use Rattle.machine.specs.State.Sent.{noRecord}

@@ -17,7 +17,7 @@ use Rattle.entry.specs.Flags.{eventOf, isAcknowledged, isActive, isSuspended}
 use Rattle.entry.proofs.FlagLaws.{event-back, acknowledged-back, active-back, suspended-back, known-back, old-back}
 use Rattle.pool.specs.declared.Sought.the-variants.{Found}
 use Rattle.pool_laws.specs.View.{ofAlarm as isAlarm}
-use Rattle.pool_batch.specs.Batch.{renumbered, under}
+use Rattle.pool_laws.specs.Batch.{renumbered, under}
 use Rattle.machine.specs.Words.{isSome, maybe, alike}
 use Rattle.machine.specs.State.{Event, eventNumber, Alarm, Content, Issued, Held}
 use Rattle.machine.specs.State.Event.{Issue, Acknowledge, Suspend}

@@ -21,8 +21,8 @@ use Rattle.pool_laws.specs.Promises.{Reached}
 use Rattle.pool_laws.specs.Promises.Reached.{after}
 use Rattle.pool_laws.specs.View.{records, loserIn, shed, losses}
 use Rattle.pool_laws.proofs.Viewed.{viewed}
-use Rattle.pool_batch.specs.declared.Batch.{Batch}
-use Rattle.pool_batch.specs.Batch.{added as addedTo, addedAll}
+use Rattle.pool_laws.specs.declared.Batch.{Batch}
+use Rattle.pool_laws.specs.Batch.{added as addedTo, addedAll}
 use Rattle.machine.specs.Words.{keep, butFirst}
 use Rattle.machine.specs.State.{Issued, Held, heldAs, Pool as Listed}
 use Rattle.machine.specs.Pool.{isFor, lose, added, issue, issueAll}

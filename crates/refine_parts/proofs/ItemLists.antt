@@ -14,7 +14,7 @@ use Rattle.basis.specs.Lists.Among.{first, later}
 use Rattle.basis.proofs.Cases.{bool-cases, le-or-lt}
 use Rattle.basis.proofs.Both.{not-both}
 use Rattle.entry.specs.declared.Entry.{Entry}
-use Rattle.call_records.specs.Upwards.{entriesTo}
+use Rattle.pool_laws.specs.Upwards.{entriesTo}
 use Rattle.machine.specs.Words.{maybe, keep, firstThat, flat, changed, upTo}
 use Rattle.demand_held.proofs.Lists.{bit-true, bit-false}
 

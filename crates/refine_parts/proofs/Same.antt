@@ -2,7 +2,7 @@
 -- Assumes nothing.
 use Prim.Native.Nat.{ℕ, _≤_}
 use Rattle.pool.specs.declared.Pool.{Pool}
-use Rattle.pool_batch.specs.Batch.{beginning}
+use Rattle.pool_laws.specs.Batch.{beginning}
 use Rattle.machine.specs.State.{Machine}
 use Rattle.refine_parts.specs.Same.{SamePool}
 use Rattle.refine_parts.specs.Claims.{SameActs, SameAnswers}

@@ -25,8 +25,8 @@ use Rattle.site.specs.declared.Site.{Site}
 use Rattle.site.specs.Site.{linkAt}
 use Rattle.site.specs.Parts.{statusAt, subscriptionAt, withStatus as withValue}
 use Rattle.site.specs.Records.{statusRecord}
-use Rattle.call_records.specs.Upwards.{entriesTo, entryIf}
-use Rattle.call_records.proofs.Entries.{none-to}
+use Rattle.pool_laws.specs.Upwards.{entriesTo, entryIf}
+use Rattle.pool_laws.proofs.Entries.{none-to}
 use Rattle.call_input.proofs.Lists.{set-same}
 use Rattle.call_input.specs.Inputs.{statusPlan}
 use Rattle.machine.specs.Words.{keep, flat, upTo}

@@ -22,7 +22,7 @@ use Rattle.site.specs.Call.{issues}
 use Rattle.site.specs.Site.{withSubscriptions as withSlots}
 use Rattle.site.specs.Parts.{statusAt, subscriptionAt}
 use Rattle.site.specs.Records.{statusRecord}
-use Rattle.call_records.specs.Upwards.{entryIf}
+use Rattle.pool_laws.specs.Upwards.{entryIf}
 use Rattle.call_tick.specs.Intervals.{renewed, recordAt, recordsOf}
 use Rattle.call_tick.proofs.Records.{all-places}
 use Rattle.machine.specs.Words.{maybe, keep, firstThat, flat, upTo}

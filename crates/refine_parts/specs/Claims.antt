@@ -13,8 +13,8 @@ use Rattle.number.specs.Signed.{Signed32, wordOf, signedOf}
 use Rattle.pool.specs.declared.Pool.{Pool}
 use Rattle.pool.specs.Pool.{emptyOf, issueOf, settleOf, markOf, unmarkOf, heldOf, lostOf, oldestUnsent, newestAlarm, rankedOf, readingOf}
 use Rattle.pool_laws.specs.Leaves.{Held as IsHeld}
-use Rattle.pool_batch.specs.declared.Batch.{Batch}
-use Rattle.pool_batch.specs.Batch.{issuedAll}
+use Rattle.pool_laws.specs.declared.Batch.{Batch}
+use Rattle.pool_laws.specs.Batch.{issuedAll}
 use Rattle.machine.specs.State.{Alarm, Issued, Held, Pool as Listed, poolOf, Machine, alarmAt, withHeld, Effect}
 use Rattle.machine.specs.State.Content.{ofAlarm, ofStatus, ofAggregated}
 use Rattle.machine.specs.Pool.{issue, issueAll, settled, marked}

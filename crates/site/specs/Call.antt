@@ -16,8 +16,8 @@ use Rattle.answer.specs.Order.{inOrder, judged}
 use Rattle.answer.specs.Given.{Hint}
 use Rattle.answer.specs.Given.Hint.{none, clock}
 use Rattle.entry.specs.declared.Entry.{Entry}
-use Rattle.pool_batch.specs.declared.Batch.{Batch}
-use Rattle.pool_batch.specs.Batch.{issuedAll}
+use Rattle.pool_laws.specs.declared.Batch.{Batch}
+use Rattle.pool_laws.specs.Batch.{issuedAll}
 use Rattle.output.specs.Put.{Out, output, putAll}
 use Rattle.write_message.specs.Message.{Message}
 use Rattle.write_message.specs.Pieces.{pieces}

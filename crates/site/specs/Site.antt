@@ -20,7 +20,7 @@ use Rattle.subscription.specs.declared.Subscription.{Subscription}
 use Rattle.alarm.specs.declared.Alarm.{Alarm}
 use Rattle.status.specs.declared.Status.{Status}
 use Rattle.aggregated.specs.declared.Aggregated.{Aggregated}
-use Rattle.pool_batch.specs.declared.Batch.{Batch}
+use Rattle.pool_laws.specs.declared.Batch.{Batch}
 use Rattle.site.specs.declared.Site.{Site}
 
 -- every part of the site that a call may change; what start was given stays

@@ -14,7 +14,7 @@ use Rattle.site.specs.declared.Step.{Step}
 use Rattle.site.specs.Call.{Plan, stepOf, writtenTo, outAfter}
 use Rattle.store_site.specs.Layout.{siteOf}
 use Rattle.store_site.specs.Turns.{Plain}
-use Rattle.store_image.specs.Image.{wordsOf}
+use Rattle.store_whole.specs.Image.{wordsOf}
 use Rattle.store_table.specs.Layout.{layoutOf}
 use Rattle.call_start.specs.Starts.{Starts}
 use Rattle.sitec.specs.declared.Outcome.{Outcome}

@@ -8,8 +8,8 @@ use native.Mathlib.Omega.{arith}
 use Rattle.entry.specs.declared.Entry.{Entry}
 use Rattle.entry.specs.Valid.{OfKind}
 use Rattle.entry.specs.Valid.OfKind.{an-alarm, a-status, an-aggregated}
-use Rattle.pool_batch.specs.Batch.{renumbered}
-use Rattle.call_records.specs.Upwards.{entriesTo, entryIf}
+use Rattle.pool_laws.specs.Batch.{renumbered}
+use Rattle.pool_laws.specs.Upwards.{entriesTo, entryIf}
 use Rattle.table_whole.specs.declared.SiteTable.{SiteTable}
 use Rattle.sound.specs.Sound.{Each, SoundEntry}
 

@@ -23,8 +23,8 @@ use Rattle.pool.specs.Pool.{emptyOf, heldIn, freeIn, made, lossOf, roomOf, with
 use Rattle.pool_laws.proofs.Other.{Touched, settle-touches, mark-touches}
 use Rattle.pool_laws.proofs.Other.Touched.{absent, there}
 use Rattle.pool_laws.proofs.Inv.{of-used}
-use Rattle.pool_batch.specs.declared.Batch.{Batch}
-use Rattle.pool_batch.specs.Batch.{renumbered, under, added, addedAll}
+use Rattle.pool_laws.specs.declared.Batch.{Batch}
+use Rattle.pool_laws.specs.Batch.{renumbered, under, added, addedAll}
 use Rattle.sound.specs.Sound.{EachHeld, Each}
 
 module _ (P : Entry → Type 0) where

@@ -19,9 +19,9 @@ use Rattle.answer.specs.Order.None.{none, more}
 use Rattle.answer.specs.Times.{lastTime}
 use Rattle.entry.specs.declared.Entry.{Entry}
 use Rattle.pool.specs.declared.Pool.{Pool}
-use Rattle.pool_batch.specs.Batch.{beginning, issuedAll}
-use Rattle.pool_batch.specs.Laws.{Lasting}
-use Rattle.pool_batch.proofs.Kept.{kept as batched}
+use Rattle.pool_laws.specs.Batch.{beginning, issuedAll}
+use Rattle.pool_laws.specs.BatchLaws.{Lasting}
+use Rattle.pool_laws.proofs.BatchKept.{kept as batched}
 use Rattle.site.specs.declared.Site.{Site}
 use Rattle.site.specs.Site.{badTimeAt, withIssued}
 use Rattle.site.specs.Call.{Plan, batchOf, answerOf, stepOf}

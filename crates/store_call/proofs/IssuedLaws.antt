@@ -16,10 +16,10 @@ use Rattle.alarm.specs.declared.Changed.{Changed}
 use Rattle.alarm.specs.Issued.{issuedOf}
 use Rattle.pool.specs.declared.Pool.{Pool}
 use Rattle.pool.specs.Pool.{issueOf, moreOf}
-use Rattle.pool_batch.specs.declared.Batch.{Batch}
-use Rattle.pool_batch.specs.Batch.{under, beginning, added, addedAll, issuedAll}
-use Rattle.pool_batch.proofs.Kept.{kept}
-use Rattle.call_records.specs.Upwards.{entriesTo, entryIf}
+use Rattle.pool_laws.specs.declared.Batch.{Batch}
+use Rattle.pool_laws.specs.Batch.{under, beginning, added, addedAll, issuedAll}
+use Rattle.pool_laws.proofs.BatchKept.{kept}
+use Rattle.pool_laws.specs.Upwards.{entriesTo, entryIf}
 use Rattle.site.specs.declared.Site.{Site}
 use Rattle.site.specs.Site.{withPool, withIssued, hasPrimary}
 use Rattle.store_site.specs.Layout.{siteOf, withNext, withLast}

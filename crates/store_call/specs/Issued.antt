@@ -6,8 +6,8 @@ use Rattle.basis.specs.Pick.{pick, both}
 use Rattle.entry.specs.declared.Entry.{Entry}
 use Rattle.alarm.specs.declared.Changed.{Changed}
 use Rattle.alarm.specs.Issued.{issuedOf}
-use Rattle.pool_batch.specs.declared.Batch.{Batch}
-use Rattle.pool_batch.specs.Batch.{issuedAll}
+use Rattle.pool_laws.specs.declared.Batch.{Batch}
+use Rattle.pool_laws.specs.Batch.{issuedAll}
 use Rattle.site.specs.declared.Site.{Site}
 use Rattle.site.specs.Site.{site, hasPrimary}
 

@@ -4,7 +4,7 @@ ghost use mathlib.Core.List.{List, [], _∷_};
 ghost use Prim.Native.Nat.{_<_};
 ghost use lib.ListN.{length};
 ghost use Rattle.entry.specs.declared.Entry.{Entry};
-ghost use Rattle.pool_batch.specs.Batch.{under};
+ghost use Rattle.pool_laws.specs.Batch.{under};
 ghost use Rattle.table_whole.specs.declared.SiteTable.{SiteTable};
 ghost use Rattle.site.specs.declared.Site.{Site};
 ghost use Rattle.site.specs.Site.{closeAt};

@@ -1,2 +1,6 @@
+pub mod Spans
+pub mod Back
+pub mod Forth
+pub mod Kept
 pub mod FillLaws
 pub mod ListLaws

@@ -1,1 +1,3 @@
+pub mod Image
+pub mod Range
 pub mod Filled

@@ -8,7 +8,7 @@ use lib.ListN.{length}
 use borrow.Author.Needs.{needs}
 use Rattle.basis.specs.Pick.{bit}
 use Rattle.table_whole.specs.declared.SiteTable.{SiteTable}
-use Rattle.call_records.specs.Upwards.{entriesTo}
+use Rattle.pool_laws.specs.Upwards.{entriesTo}
 use Rattle.store_site.specs.Layout.{siteOf}
 use Rattle.store_call.proofs.IssuedLaws.{bit-most}
 use Rattle.call_input.proofs.InPlace.{entryOf, count-status}

@@ -10,7 +10,7 @@ use borrow.Author.Needs.{needs}
 use Rattle.basis.specs.Pick.{bit}
 use Rattle.link.specs.declared.Link.{Link}
 use Rattle.table_whole.specs.declared.SiteTable.{SiteTable}
-use Rattle.call_records.specs.Upwards.{entriesTo}
+use Rattle.pool_laws.specs.Upwards.{entriesTo}
 use Rattle.store_site.specs.Layout.{siteOf}
 use Rattle.store_call.proofs.IssuedLaws.{bit-most}
 use Rattle.call_tick.specs.Intervals.{recordAt}

@@ -6,8 +6,8 @@ use mathlib.Core.Bool.{Bool, true, false}
 use mathlib.Core.List.{List, [], _∷_, _++_}
 use native.Mathlib.Omega.{arith}
 use Rattle.entry.specs.declared.Entry.{Entry}
-use Rattle.pool_batch.specs.Laws.{Owned}
-use Rattle.call_records.specs.Upwards.{entriesTo, entryIf}
+use Rattle.pool_laws.specs.BatchLaws.{Owned}
+use Rattle.pool_laws.specs.Upwards.{entriesTo, entryIf}
 
 pub owned-append : (n : ℕ) (xs ys : List Entry) → Owned n xs → Owned n ys → Owned n (xs ++ ys)
 owned-append n [] ys a b = b

@@ -11,13 +11,13 @@ use Rattle.entry.specs.declared.Entry.{Entry}
 use Rattle.pool.specs.declared.Place.{Place}
 use Rattle.pool.specs.declared.Pool.{Pool}
 use Rattle.pool.specs.Pool.{lostOf}
 use Rattle.pool_laws.specs.Acts.{Act, acts, Rising}
 use Rattle.pool_laws.specs.Acts.Act.{Issue}
 use Rattle.pool_laws.specs.Promises.{Reached}
 use Rattle.pool_laws.specs.Crowded.{Crowded}
 use Rattle.pool_laws.specs.View.{records, loserIn, issueView, losses}
-use Rattle.pool_batch.specs.declared.Batch.{Batch}
-use Rattle.pool_batch.specs.Batch.{renumbered, addedAll, issuedAll}
+use Rattle.pool_laws.specs.declared.Batch.{Batch}
+use Rattle.pool_laws.specs.Batch.{renumbered, addedAll, issuedAll}
 
 -- the records under the numbers q, q + 1, ..
 abbrev pub numbered : ℕ → List Entry → List Entry

@@ -35,9 +35,9 @@ use Rattle.store_link.specs.Rows.{slotFrom, slotIn, awaitedIn, linkIn, PlainAt}
 use Rattle.store_site.specs.Rows.{placeFrom, placeIn, subscriptionFrom, subscriptionIn, alarmFrom, alarmIn, statusFrom, statusIn}
 use Rattle.store_site.specs.Layout.{lostIn, placesIn, linksIn, subscriptionsIn, alarmsIn, statusesIn, siteOf}
 use Rattle.store_site.specs.Turns.{Plain}
-use Rattle.store_image.specs.Image.{flat, slotWords, linkHead, linkWords, placeWords, subscriptionWords, alarmWords, statusWords, headWords, wordsOf}
-use Rattle.store_image.specs.Range.{SlotFits, LinkFits, PlaceFits, SubscriptionFits, AlarmFits, StatusFits, InRange}
-use Rattle.store_image.proofs.Spans.{skip, keep}
+use Rattle.store_whole.specs.Image.{flat, slotWords, linkHead, linkWords, placeWords, subscriptionWords, alarmWords, statusWords, headWords, wordsOf}
+use Rattle.store_whole.specs.Range.{SlotFits, LinkFits, PlaceFits, SubscriptionFits, AlarmFits, StatusFits, InRange}
+use Rattle.store_whole.proofs.Spans.{skip, keep}
 
 -- element k of elements whose words stand one behind the other, at `at k`
 module _ {A : Type 0} (f : A → List ℕ) (at : ℕ → ℕ) (w : ℕ) (start : at 0 ≡ 0) (grow : (n : ℕ) → at (suc n) ≡ w + at n) (d : A) where

@@ -17,8 +17,8 @@ use Rattle.store_link.specs.Rows.{slotFrom, slotIn, awaitedIn, linkIn, PlainAt}
 use Rattle.store_site.specs.Rows.{placeFrom, placeIn, subscriptionFrom, subscriptionIn, alarmFrom, alarmIn, statusFrom, statusIn}
 use Rattle.store_site.specs.Layout.{lostIn, placesIn, linksIn, subscriptionsIn, alarmsIn, statusesIn, siteOf}
 use Rattle.store_site.specs.Turns.{Plain}
-use Rattle.store_image.specs.Image.{flat, slotWords, linkHead, linkWords, placeWords, subscriptionWords, alarmWords, statusWords, headWords, wordsOf, Wide}
-use Rattle.store_image.proofs.Spans.{span, span-append, span-whole, flat-span}
+use Rattle.store_whole.specs.Image.{flat, slotWords, linkHead, linkWords, placeWords, subscriptionWords, alarmWords, statusWords, headWords, wordsOf, Wide}
+use Rattle.store_whole.proofs.Spans.{span, span-append, span-whole, flat-span}
 
 -- a word is the one that its fields are joined to
 joined-back : (ks : List ℕ) (x : ℕ) → x < 2 ^ total ks → joined 0 ks (split ks x) ≡ x

@@ -8,7 +8,7 @@ use Rattle.basis.specs.Pick.{pick}
 use Rattle.entry.specs.declared.Entry.{Entry}
 use Rattle.pool.specs.declared.Pool.{Pool}
 use Rattle.pool.specs.Pool.{issueOf, moreOf}
-use Rattle.pool_batch.specs.declared.Batch.{Batch}
+use Rattle.pool_laws.specs.declared.Batch.{Batch}
 
 abbrev pub either : Bool → Bool → Bool
 either true b = true

@@ -6,10 +6,10 @@ use mathlib.Core.List.{List}
 use lib.ListN.{length}
 use Rattle.site.specs.declared.Site.{Site}
 use Rattle.store_site.specs.Turns.{Turns}
-use Rattle.store_image.specs.Image.{wordsOf, Wide}
-use Rattle.store_image.specs.Range.{InRange}
-use Rattle.store_image.proofs.Back.{words-back}
-use Rattle.store_image.proofs.Forth.{site-forth, plain-forth}
+use Rattle.store_whole.specs.Image.{wordsOf, Wide}
+use Rattle.store_whole.specs.Range.{InRange}
+use Rattle.store_whole.proofs.Back.{words-back}
+use Rattle.store_whole.proofs.Forth.{site-forth, plain-forth}
 
 pub words-kept : (f : Site → Site) (s : Site) (vs : List ℕ) → InRange s → length vs ≡ 1173 → Wide vs → Turns f (wordsOf s) vs → vs ≡ wordsOf (f s)
 words-kept f s vs r e w t =

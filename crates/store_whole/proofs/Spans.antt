@@ -11,7 +11,7 @@ use lib.Seq.{getD-append-add}
 use Rattle.basis.proofs.Cases.{lt-or-ge}
 use Rattle.store_words.specs.Words.{word, elements, listOf}
 use Rattle.store_words.proofs.Elements.{list-at, list-is, list-length}
-use Rattle.store_image.specs.Image.{flat}
+use Rattle.store_whole.specs.Image.{flat}
 
 -- n words from i on
 abbrev pub span : List ℕ → ℕ → ℕ → List ℕ

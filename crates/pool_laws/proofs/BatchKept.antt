@@ -16,19 +16,19 @@ use Rattle.entry.specs.declared.Entry.{Entry}
 use Rattle.pool.specs.declared.Place.{Place}
 use Rattle.pool.specs.declared.Pool.{Pool}
 use Rattle.pool.specs.Pool.{lostOf, issueOf, moreOf}
 use Rattle.pool_laws.specs.Acts.{Act, acts, May, Rising}
 use Rattle.pool_laws.specs.Acts.Act.{Issue}
 use Rattle.pool_laws.specs.Acts.Rising.{none, then}
 use Rattle.pool_laws.specs.Promises.{Reached}
 use Rattle.pool_laws.specs.Promises.Reached.{after}
 use Rattle.pool_laws.specs.Crowded.{Crowded}
 use Rattle.pool_laws.specs.View.{records, loserIn, issueView, losses}
 use Rattle.pool_laws.specs.Views.{Views}
 use Rattle.pool_laws.proofs.Crowded.{never-crowded}
 use Rattle.pool_laws.proofs.Viewed.{viewed}
-use Rattle.pool_batch.specs.declared.Batch.{Batch}
-use Rattle.pool_batch.specs.Batch.{either, renumbered, under, beginning, added, addedAll, issuedAll}
-use Rattle.pool_batch.specs.Laws.{numbered, issues, Owned, viewAll, lossesAll, Lasting, Laws}
+use Rattle.pool_laws.specs.declared.Batch.{Batch}
+use Rattle.pool_laws.specs.Batch.{either, renumbered, under, beginning, added, addedAll, issuedAll}
+use Rattle.pool_laws.specs.BatchLaws.{numbered, issues, Owned, viewAll, lossesAll, Lasting, Laws}
 
 added-append : (n : ℕ) (b : Batch) (xs ys : List Entry) → addedAll n b (xs ++ ys) ≡ addedAll n (addedAll n b xs) ys
 added-append n b [] ys = refl

@@ -1,1 +1,0 @@
-// The records of one call over the links, or over the places, upwards. There is no code here.

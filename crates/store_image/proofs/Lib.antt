@@ -1,4 +1,0 @@
-pub mod Spans
-pub mod Back
-pub mod Forth
-pub mod Kept

@@ -1,1 +1,0 @@
-// The words of a site, and the site by value.
