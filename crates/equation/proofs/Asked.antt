@@ -18,7 +18,7 @@ use Rattle.store_site.specs.Layout.{siteOf}
 use Rattle.store_table.specs.Layout.{tableOf}
 use Rattle.sitec.specs.declared.Outcome.{Outcome}
 use Rattle.sitec.specs.Outcome.{outcomeOf}
-use Rattle.sitec.specs.Lent.{Called, Told}
+use Rattle.sitec.specs.Lent.{WordsAndTable, Called, Told}
 use Rattle.calls.specs.Calls.{Call, timeOf, outputOf, refuses, planOf, stepBy, outBy}
 use Rattle.calls.specs.Calls.Call.{connect, disconnect, packet, alarm, status, aggregated, tick, pump}
 use Rattle.calls.proofs.Kept.{kept as calls-kept}
@@ -29,6 +29,7 @@ use Rattle.equation.specs.Seen.{Seen, TypedAct}
 use Rattle.equation.specs.Seen.Ask.{call}
 use Rattle.equation.specs.Seen.Seen.{told, count, numbers, entry}
 use Rattle.equation.specs.Contracts.{Allows, outcomeSeen}
+use Rattle.equation.specs.Equation.{Fits, Serves}
 use Rattle.equation.specs.Contracts.Allows.{connects, disconnects, packets, alarms, statuses, aggregates, ticks, pumps}
 
 -- a packet is bytes
@@ -111,17 +112,17 @@ outputIn (count n) = []
 outputIn (numbers ns) = []
 outputIn (entry found bytes) = []
 
--- ---- of any memory: a refused call changes nothing, and other words than a site's are number 14
-pub record Lawful (ws : List ℕ) (output : List ℕ) (x : Seen) (vs : List ℕ) : Type 0 where
+-- ---- of any memory: a refused call changes nothing, and other memory than the call needs is number 14
+pub record Lawful (Needs : Type 0) (ws : List ℕ) (output : List ℕ) (x : Seen) (vs : List ℕ) : Type 0 where
   pub same-words : (numberIn x ≡ 0 → ⊥) → vs ≡ ws
   pub same-bytes : (numberIn x ≡ 0 → ⊥) → outputIn x ≡ output
-  pub no-site : (length ws ≡ 1173 → ⊥) → numberIn x ≡ 14
+  pub no-site : (Needs → ⊥) → numberIn x ≡ 14
 
 above : (n : ℕ) → (n ≡ 0 → ⊥) → 0 < n
 above zero h = absurd (h refl)
 above (suc n) h = omega arith
 
-lawful-plain : {F : Type 0} (t : SiteTable) (y : Step) (ws vs : List ℕ) (o : Outcome) → (F → length ws ≡ 1173) → Called F t y ws vs o → Lawful ws [] (outcomeSeen [] o) vs
+lawful-plain : {F N : Type 0} (t : SiteTable) (y : Step) (ws vs : List ℕ) (o : Outcome) → (F → N) → Called F t y ws vs o → Lawful N ws [] (outcomeSeen [] o) vs
 lawful-plain t y ws vs o f p =
     record {
       same-words = λ h. p .kept (above (o .number) h);
@@ -129,8 +130,8 @@ lawful-plain t y ws vs o f p =
       no-site = λ h. ap (λ (q : Outcome). q .number) (p .other (λ z. h (f z)));
     }
 
-lawful-lent : {F : Type 0} (t : SiteTable) (time : ℕ) (refuses : Refusal → Bool) (q : Plan) (ws vs xs ys : List ℕ) (o : Outcome) → (F → length ws ≡ 1173) → Told F t time refuses q ws vs xs ys o
-    → Lawful ws xs (outcomeSeen ys o) vs
+lawful-lent : {F N : Type 0} (t : SiteTable) (time : ℕ) (refuses : Refusal → Bool) (q : Plan) (ws vs xs ys : List ℕ) (o : Outcome) → (F → N) → Told F t time refuses q ws vs xs ys o
+    → Lawful N ws xs (outcomeSeen ys o) vs
 lawful-lent t time refuses q ws vs xs ys o f p =
     record {
       same-words = λ h. p .called .kept (above (o .number) h);
@@ -138,12 +139,15 @@ lawful-lent t time refuses q ws vs xs ys o f p =
       no-site = λ h. ap (λ (q : Outcome). q .number) (p .called .other (λ z. h (f z)));
     }
 
-pub lawful : (ts ws : List ℕ) (k : MachineCall) (output : List ℕ) (x : Seen) (vs : List ℕ) → Allows ts ws (call k output) x vs → Lawful ws output x vs
+pub fitting : (ws ts : List ℕ) → WordsAndTable ws ts → Fits ws ts
+fitting ws ts z = record { words = z .0; table = z .1 }
+
+pub lawful : (ts ws : List ℕ) (k : MachineCall) (output : List ℕ) (x : Seen) (vs : List ℕ) → Allows ts ws (call k output) x vs → Lawful (Serves (k .act) ws ts) ws output x vs
 lawful ts ws k output x vs (connects κs w l t o e p) = lawful-plain noTable _ ws vs o (λ z. z) (p noTable)
 lawful ts ws k output x vs (disconnects κs w l t o e p) = lawful-plain noTable _ ws vs o (λ z. z) (p noTable)
-lawful ts ws k output x vs (packets κs w table l t random rc xs o e p) = lawful-lent _ _ _ _ ws vs (now xs) (now (e .1 .1 .1 .1 .1 .1 .0)) o (λ z. z .0) p
-lawful ts ws k output x vs (alarms κs w table i active t o e p) = lawful-plain _ _ ws vs o (λ z. z .0) p
-lawful ts ws k output x vs (statuses κs w table i v t o e p) = lawful-plain _ _ ws vs o (λ z. z .0) p
+lawful ts ws k output x vs (packets κs w table l t random rc xs o e p) = lawful-lent _ _ _ _ ws vs (now xs) (now (e .1 .1 .1 .1 .1 .1 .0)) o (fitting ws ts) p
+lawful ts ws k output x vs (alarms κs w table i active t o e p) = lawful-plain _ _ ws vs o (fitting ws ts) p
+lawful ts ws k output x vs (statuses κs w table i v t o e p) = lawful-plain _ _ ws vs o (fitting ws ts) p
 lawful ts ws k output x vs (aggregates κs w v t o e p) = lawful-plain noTable _ ws vs o (λ z. z) (p noTable)
 lawful ts ws k output x vs (ticks κs w t o e p) = lawful-plain noTable _ ws vs o (λ z. z) (p noTable)
-lawful ts ws k output x vs (pumps κs w table l t random xs o e p) = lawful-lent _ _ _ _ ws vs (now xs) (now (e .1 .1 .1 .1 .1 .0)) o (λ z. z .0) p
+lawful ts ws k output x vs (pumps κs w table l t random xs o e p) = lawful-lent _ _ _ _ ws vs (now xs) (now (e .1 .1 .1 .1 .1 .0)) o (fitting ws ts) p

@@ -43,7 +43,7 @@ use Rattle.equation.specs.Contracts.Allows.{reads-held, reads-lost, read
 use Rattle.equation.specs.Contracts.Run.{ends, asks}
 use Rattle.equation.specs.Equation.{startFor, Sees, FromStart, Fits, Equation}
 use Rattle.equation.proofs.Told.{told-same}
-use Rattle.equation.proofs.Asked.{BytesIn, Opened, opened, lawful}
+use Rattle.equation.proofs.Asked.{BytesIn, Opened, opened, fitting, lawful}
 use Rattle.equation.proofs.Closed.{closed-links}
 
 -- of every call the code's and the machine's are the same
@@ -153,6 +153,10 @@ not-started : (ws ts table : List ℕ) (links primary period first time : ℕ) (
     → (o .number ≡ 0 → ⊥) → (vs ≡ ws) × (us ≡ ts)
 not-started ws ts table links primary period first time o vs us (starts κs w t b c d f g q oo e p) wrong = (p .kept (above (o .number) wrong), p .table-kept (above (o .number) wrong))
 
+start-misfit : (ws ts table : List ℕ) (links primary period first time : ℕ) (o : Outcome) (vs us : List ℕ) → Starts ws ts table links primary period first time o vs us
+    → (Fits ws ts → ⊥) → o .number ≡ 14
+start-misfit ws ts table links primary period first time o vs us (starts κs w t b c d f g q oo e p) wrong = ap (λ (y : Outcome). y .number) (p .other (λ z. wrong (fitting ws ts z)))
+
 pub from-calls : AllCalls → Equation
 from-calls all =
     record {
@@ -161,4 +165,5 @@ from-calls all =
           let l = lawful ts ws c output (told number ys counted closed hint) vs p in (l .same-words wrong, l .same-bytes wrong);
       not-started = not-started;
       misfit = λ ts ws c output number counted ys closed hint vs p wrong. lawful ts ws c output (told number ys counted closed hint) vs p .no-site wrong;
+      start-misfit = start-misfit;
     }

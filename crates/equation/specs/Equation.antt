@@ -9,7 +9,8 @@ use lib.Dec.{eqb}
 use lib.ListN.{length}
 use Rattle.sitec.specs.declared.Outcome.{Outcome}
 use Rattle.machine.specs.Words.{Bytes, if_then_else_}
-use Rattle.machine.specs.State.{Start, Machine, Call}
+use Rattle.machine.specs.State.{Start, Machine, Act, Call}
+use Rattle.machine.specs.State.Act.{connect, disconnect, packet, alarmInput, statusValue, aggregatedValue, tick, pump}
 use Rattle.machine.specs.Table.{Begins}
 use Rattle.equation.specs.Seen.{Ask, Seen, showsAll, AllTyped}
 use Rattle.equation.specs.Seen.Ask.{call}
@@ -44,6 +45,17 @@ pub record Fits (ws : List ℕ) (ts : Bytes) : Type 0 where
   pub words : length ws ≡ 1173
   pub table : length ts ≡ 4752
 
+-- the memory that a call needs: its words, and the table where it reads it
+abbrev pub Serves : Act → List ℕ → Bytes → Type 0
+Serves (connect l) ws ts = length ws ≡ 1173
+Serves (disconnect l) ws ts = length ws ≡ 1173
+Serves (packet l random received room) ws ts = Fits ws ts
+Serves (alarmInput i active) ws ts = Fits ws ts
+Serves (statusValue i v) ws ts = Fits ws ts
+Serves (aggregatedValue v) ws ts = length ws ≡ 1173
+Serves tick ws ts = length ws ≡ 1173
+Serves (pump l random room) ws ts = Fits ws ts
+
 pub record Equation : Type 0 where
   pub from-start : (ws : List ℕ) (ts : Bytes) → Fits ws ts → (table : Bytes) (links primary period first time : ℕ) (o : Outcome) (vs : List ℕ) (us : Bytes)
       → Starts ws ts table links primary period first time o vs us → FromStart (startFor table links primary period first time) o vs us
@@ -52,6 +64,8 @@ pub record Equation : Type 0 where
       → Allows ts ws (call c output) (told number after-bytes counted closed hint) vs → (number ≡ 0 → ⊥) → (vs ≡ ws) × (after-bytes ≡ output)
   pub not-started : (ws : List ℕ) (ts table : Bytes) (links primary period first time : ℕ) (o : Outcome) (vs : List ℕ) (us : Bytes)
       → Starts ws ts table links primary period first time o vs us → (o .number ≡ 0 → ⊥) → (vs ≡ ws) × (us ≡ ts)
-  -- words of another length: number 14, beyond document 01's
+  -- words, or a table that the call reads, of another length: number 14, beyond document 01's
   pub misfit : (ts : Bytes) (ws : List ℕ) (c : Call) (output : Bytes) (number counted : ℕ) (after-bytes : Bytes) (closed : List ℕ) (hint : Option ℕ) (vs : List ℕ)
-      → Allows ts ws (call c output) (told number after-bytes counted closed hint) vs → (length ws ≡ 1173 → ⊥) → number ≡ 14
+      → Allows ts ws (call c output) (told number after-bytes counted closed hint) vs → (Serves (c .act) ws ts → ⊥) → number ≡ 14
+  pub start-misfit : (ws : List ℕ) (ts table : Bytes) (links primary period first time : ℕ) (o : Outcome) (vs : List ℕ) (us : Bytes)
+      → Starts ws ts table links primary period first time o vs us → (Fits ws ts → ⊥) → o .number ≡ 14
