@@ -3,114 +3,123 @@
 use Prim.Native.Nat.{ℕ, _+_, _*_, _%_, _<_}
 use mathlib.Core.Path.{_≡_, refl, sym, ap, _∙_}
 use mathlib.Core.Bool.{Bool, true, false}
-use mathlib.Core.List.{List, [], _∷_}
-use mathlib.Core.Logic.{⊎-elim}
+use mathlib.Core.List.{List, [], _∷_, _++_}
+use native.Mathlib.Nat.{mod-lt}
 use native.Mathlib.Omega.{arith}
-use lib.ListN.{length, getD, set, length-set, length-replicate}
-use lib.Seq.{getD-set-same, getD-set-other}
-use borrow.Author.Tests.{lt-ltb}
+use lib.Dec.{eqb, ltb}
+use lib.ListN.{length}
+use borrow.Author.Tests.{lt-ltb, eq-eqb}
 use Rattle.basis.specs.Lists.{sameBytes}
-use Rattle.basis.proofs.Cases.{bool-cases, eq-or-ne}
+use Rattle.basis.specs.Pick.{pick}
+use Rattle.basis.proofs.Cases.{bool-cases}
 use Rattle.basis.proofs.Same.{same-true}
 use Rattle.basis.proofs.Both.{untrue}
 use Rattle.json_value.specs.Grammar.{Json, Jsons, Members}
 use Rattle.json_value.specs.Grammar.Json.{null, bool, num, str, arr, obj}
 use Rattle.json_value.specs.Grammar.Jsons.{jnil, jcons}
 use Rattle.json_value.specs.Grammar.Members.{mnil, mcons}
-use Rattle.json_sure.specs.declared.Seen.{Seen}
-use Rattle.json_sure.specs.Sure.{next, mark, markFrom, noneSeen, allOf, noteOf, sure, sureAll, sureOnce}
+use Rattle.json_sure.specs.Sure.{next, mark, markFrom, Noted, noneNoted, isNew, allOf, noteOf, left, sureIn, sureAll, sureOnce}
 use Rattle.json_packet.specs.Names.{called, noTwice, allOnce, once}
 
-low : (h : ℕ) (d : List ℕ) → h < 128 → markFrom h d < 128
+low : (h : ℕ) (d : List ℕ) → h < 4294967296 → markFrom h d < 4294967296
 unfolding markFrom
 low h [] l = l
-low h (c ∷ d) l = low (next h c) d (below (h * 41 + c % 128))
-  where
-    below : (n : ℕ) → n % 128 < 128
-    below n = omega arith
+low h (c ∷ d) l = low (next h c) d (mod-lt (h * 2654435761 + c) (omega arith))
 
--- what is sure after a name was before, the value is, and the mark is new
-record New (t : Seen) (m : ℕ) (value : Bool) : Type 0 where
+-- what is sure after a name was before, the value is, and the mark is new and stands behind the others
+record New (room : ℕ) (t : Noted) (m : ℕ) (value : Bool) : Type 0 where
   before : t .sure ≡ true
   inside : value ≡ true
-  fresh : getD (t .marks) m false ≡ false
+  fresh : isNew m (t .marks) ≡ true
+  stands : noteOf room t m value .marks ≡ t .marks ++ (m ∷ [])
 
-all-true : (a v o : Bool) → allOf a v o ≡ true → (a ≡ true) × (v ≡ true) × (o ≡ false)
-all-true a v true h = untrue h
-all-true true v false h = (refl, h, refl)
-all-true false v false h = untrue h
+all-true : (a v n : Bool) → allOf a v n ≡ true → (a ≡ true) × (v ≡ true) × (n ≡ true)
+all-true a v false h = untrue h
+all-true true v true h = (refl, h, refl)
+all-true false v true h = untrue h
 
-noted : (t : Seen) (m : ℕ) (v : Bool) → m < 128 → noteOf t m v ≡ record { marks = set (t .marks) m true; sure = allOf (t .sure) v (getD (t .marks) m false) }
+new : (room : ℕ) (t : Noted) (m : ℕ) (v : Bool) → m < 4294967296 → noteOf room t m v .sure ≡ true → New room t m v
 unfolding noteOf
-noted t m v l = rw (lt-ltb _ _ l)
-
-new : (t : Seen) (m : ℕ) (v : Bool) → m < 128 → noteOf t m v .sure ≡ true → New t m v
-new t m v l h =
-    let a = all-true (t .sure) v (getD (t .marks) m false) (sym (ap (λ (z : Seen). z .sure) (noted t m v l)) ∙ h) in
-    record { before = a .0; inside = a .1; fresh = a .2 }
-
-marks-noted : (t : Seen) (m : ℕ) (v : Bool) → m < 128 → noteOf t m v .marks ≡ set (t .marks) m true
-marks-noted t m v l = ap (λ (z : Seen). z .marks) (noted t m v l)
+new room t m v l h = bool-cases (ltb (length (t .marks)) room) (λ e. fits e) (λ e. untrue (rw (lt-ltb _ _ l, e) at h))
+  where
+    fits : ltb (length (t .marks)) room ≡ true → New room t m v
+    fits e =
+        let a = all-true (t .sure) v (isNew m (t .marks)) (rw (lt-ltb _ _ l, e) at h) in
+        record { before = a .0; inside = a .1; fresh = a .2; stands = rw (lt-ltb _ _ l, e) }
 
 -- an array's entry has no mark
-value-sure : (t : Seen) (v : Bool) → noteOf t 128 v .sure ≡ true → (t .sure ≡ true) × (v ≡ true)
+value-sure : (room : ℕ) (t : Noted) (v : Bool) → noteOf room t 4294967296 v .sure ≡ true → (t .sure ≡ true) × (v ≡ true)
 unfolding noteOf
-value-sure t v h = let a = all-true (t .sure) v false h in (a .0, a .1)
+value-sure room t v h = let a = all-true (t .sure) v true h in (a .0, a .1)
 
-sticky : (t : Seen) (ms : Members) → sureOnce t ms ≡ true → t .sure ≡ true
-unfolding sureOnce
-sticky t mnil h = h
-sticky t (mcons d j ms) h = new t (mark d) (sure j) (low 0 d (omega arith)) (sticky (noteOf t (mark d) (sure j)) ms h) .before
-
-sticky-all : (t : Seen) (js : Jsons) → sureAll t js ≡ true → t .sure ≡ true
-unfolding sureAll
-sticky-all t jnil h = h
-sticky-all t (jcons j js) h = value-sure t (sure j) (sticky-all (noteOf t 128 (sure j)) js h) .0
-
--- a mark that was seen stays seen
-kept : (xs : List Bool) (m k : ℕ) → k < length xs → getD xs k false ≡ true → getD (set xs m true) k false ≡ true
-kept xs m k l h = ⊎-elim (λ e. same-place e) (λ n. getD-set-other xs m k true false n ∙ h) (eq-or-ne k m)
+-- a mark that was seen stays seen, and so does the last
+kept : (m k : ℕ) (ms : List ℕ) → isNew m ms ≡ false → isNew m (ms ++ (k ∷ [])) ≡ false
+unfolding isNew
+kept m k [] h = untrue (sym h)
+kept m k (n ∷ ms) h = go (eqb n m) (λ g. kept m k ms g) h
   where
-    same-place : k ≡ m → getD (set xs m true) k false ≡ true
-    same-place e = rw e (getD-set-same xs m true false (omega arith))
+    go : (e : Bool) → (isNew m ms ≡ false → isNew m (ms ++ (k ∷ [])) ≡ false) → pick e false (isNew m ms) ≡ false → pick e false (isNew m (ms ++ (k ∷ []))) ≡ false
+    go true f h = refl
+    go false f h = f h
+
+last : (m : ℕ) (ms : List ℕ) → isNew m (ms ++ (m ∷ [])) ≡ false
+unfolding isNew
+last m [] = rw (eq-eqb m m refl)
+last m (n ∷ ms) = go (eqb n m) (last m ms)
+  where
+    go : (e : Bool) → isNew m (ms ++ (m ∷ [])) ≡ false → pick e false (isNew m (ms ++ (m ∷ []))) ≡ false
+    go true h = refl
+    go false h = h
+
+abbrev noted : ℕ → Noted → List ℕ → Json → Noted
+noted room t d j = noteOf room t (mark d) (sureIn (left room t) j)
+
+abbrev passed : ℕ → Noted → Json → Noted
+passed room t j = noteOf room t 4294967296 (sureIn (left room t) j)
+
+sticky : (room : ℕ) (t : Noted) (ms : Members) → sureOnce room t ms ≡ true → t .sure ≡ true
+unfolding sureOnce
+sticky room t mnil h = h
+sticky room t (mcons d j ms) h = new room t (mark d) (sureIn (left room t) j) (low 0 d (omega arith)) (sticky room (noted room t d j) ms h) .before
+
+sticky-all : (room : ℕ) (t : Noted) (js : Jsons) → sureAll room t js ≡ true → t .sure ≡ true
+unfolding sureAll
+sticky-all room t jnil h = h
+sticky-all room t (jcons j js) h = value-sure room t (sureIn (left room t) j) (sticky-all room (passed room t j) js h) .0
+
+-- what is known of a member where all are sure
+member-new : (room : ℕ) (t : Noted) (d : List ℕ) (j : Json) (ms : Members) → sureOnce room (noted room t d j) ms ≡ true → New room t (mark d) (sureIn (left room t) j)
+member-new room t d j ms h = new room t (mark d) (sureIn (left room t) j) (low 0 d (omega arith)) (sticky room (noted room t d j) ms h)
 
 -- no later member has a name whose mark was seen
-uncalled : (d : List ℕ) (t : Seen) (ms : Members) → length (t .marks) ≡ 128 → getD (t .marks) (mark d) false ≡ true → sureOnce t ms ≡ true → called d ms ≡ false
+uncalled : (room : ℕ) (d : List ℕ) (t : Noted) (ms : Members) → isNew (mark d) (t .marks) ≡ false → sureOnce room t ms ≡ true → called d ms ≡ false
 unfolding sureOnce
-uncalled d t mnil l k h = refl
-uncalled d t (mcons e j ms) l k h =
-    let n = new t (mark e) (sure j) (low 0 e (omega arith)) (sticky (noteOf t (mark e) (sure j)) ms h) in
-    let f = marks-noted t (mark e) (sure j) (low 0 e (omega arith)) in
-    let g = uncalled d (noteOf t (mark e) (sure j)) ms (ap length f ∙ length-set (t .marks) (mark e) true ∙ l) (ap (λ (xs : List Bool). getD xs (mark d) false) f ∙ kept (t .marks) (mark e) (mark d) (omega (arith, low 0 d (omega arith))) k) h in
-    bool-cases (sameBytes e d) (λ q. untrue (sym (n .fresh) ∙ ap (λ (x : List ℕ). getD (t .marks) (mark x) false) (same-true e d q) ∙ k)) (λ q. rw (q, g))
-
-start : length (noneSeen .marks) ≡ 128
-unfolding noneSeen
-start = length-replicate 128 false
+uncalled room d t mnil k h = refl
+uncalled room d t (mcons e j ms) k h =
+    let n = member-new room t e j ms h in
+    let g = uncalled room d (noted room t e j) ms (ap (isNew (mark d)) (n .stands) ∙ kept (mark d) (mark e) (t .marks) k) h in
+    bool-cases (sameBytes e d) (λ q. untrue (sym k ∙ ap (λ (x : List ℕ). isNew (mark x) (t .marks)) (sym (same-true e d q)) ∙ n .fresh)) (λ q. rw (q, g))
 
 mutual
-  unfolding noTwice allOnce once sure sureAll sureOnce
+  unfolding noTwice allOnce once sureIn sureAll sureOnce
 
-  pub sure-once : (j : Json) → sure j ≡ true → noTwice j ≡ true
-  sure-once null h = refl
-  sure-once (bool b) h = refl
-  sure-once (num d) h = refl
-  sure-once (str d) h = refl
-  sure-once (arr js) h = all-sure noneSeen js h
-  sure-once (obj ms) h = members-sure noneSeen ms start h
+  pub sure-once : (room : ℕ) (j : Json) → sureIn room j ≡ true → noTwice j ≡ true
+  sure-once room null h = refl
+  sure-once room (bool b) h = refl
+  sure-once room (num d) h = refl
+  sure-once room (str d) h = refl
+  sure-once room (arr js) h = all-sure room noneNoted js h
+  sure-once room (obj ms) h = members-sure room noneNoted ms h
 
-  all-sure : (t : Seen) (js : Jsons) → sureAll t js ≡ true → allOnce js ≡ true
-  all-sure t jnil h = refl
-  all-sure t (jcons j js) h =
-      let v = value-sure t (sure j) (sticky-all (noteOf t 128 (sure j)) js h) in
-      rw (sure-once j (v .1), all-sure (noteOf t 128 (sure j)) js h)
+  all-sure : (room : ℕ) (t : Noted) (js : Jsons) → sureAll room t js ≡ true → allOnce js ≡ true
+  all-sure room t jnil h = refl
+  all-sure room t (jcons j js) h =
+      let v = value-sure room t (sureIn (left room t) j) (sticky-all room (passed room t j) js h) in
+      rw (sure-once (left room t) j (v .1), all-sure room (passed room t j) js h)
 
-  members-sure : (t : Seen) (ms : Members) → length (t .marks) ≡ 128 → sureOnce t ms ≡ true → once ms ≡ true
-  members-sure t mnil l h = refl
-  members-sure t (mcons d j ms) l h =
-      let b = low 0 d (omega arith) in
-      let n = new t (mark d) (sure j) b (sticky (noteOf t (mark d) (sure j)) ms h) in
-      let f = marks-noted t (mark d) (sure j) b in
-      let g : length (noteOf t (mark d) (sure j) .marks) ≡ 128 = ap length f ∙ length-set (t .marks) (mark d) true ∙ l in
-      let k : getD (noteOf t (mark d) (sure j) .marks) (mark d) false ≡ true = ap (λ (xs : List Bool). getD xs (mark d) false) f ∙ getD-set-same (t .marks) (mark d) true false (omega arith) in
-      rw (uncalled d (noteOf t (mark d) (sure j)) ms g k h, sure-once j (n .inside), members-sure (noteOf t (mark d) (sure j)) ms g h)
+  members-sure : (room : ℕ) (t : Noted) (ms : Members) → sureOnce room t ms ≡ true → once ms ≡ true
+  members-sure room t mnil h = refl
+  members-sure room t (mcons d j ms) h =
+      let n = member-new room t d j ms h in
+      let k : isNew (mark d) (noted room t d j .marks) ≡ false = ap (isNew (mark d)) (n .stands) ∙ last (mark d) (t .marks) in
+      rw (uncalled room d (noted room t d j) ms k h, sure-once (left room t) j (n .inside), members-sure room (noted room t d j) ms h)

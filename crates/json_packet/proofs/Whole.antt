@@ -97,7 +97,7 @@ module _ (s : List ℕ) (i : ℕ) (ws : Skipped s 0 i) where
 
     pub by-marks : length s ≤ k → ((j : Json) (u : List ℕ) → readValue depth (drop i s) ≡ ok j u → sure j ≡ true) → true ≡ isPacket s
     unfolding meaning
-    by-marks g f = sym (judged ∙ ap (λ (u : List ℕ). both (isEmpty u) (noTwice (ended x .what))) (past s k g) ∙ sure-once (ended x .what) (f (ended x .what) (drop e s) (ended x .reads)))
+    by-marks g f = sym (judged ∙ ap (λ (u : List ℕ). both (isEmpty u) (noTwice (ended x .what))) (past s k g) ∙ sure-once 820 (ended x .what) (f (ended x .what) (drop e s) (ended x .reads)))
 
     pub by-names : length s ≤ k → (q : Bool) → q ≡ scan s → q ≡ isPacket s
     by-names g q n = n ∙ scanned ∙ sym (judged ∙ ap (λ (u : List ℕ). both (isEmpty u) (noTwice meaning)) (past s k g))

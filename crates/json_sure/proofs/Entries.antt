@@ -21,15 +21,15 @@ use Rattle.json_value.proofs.Places.{ended}
 use Rattle.json_value.proofs.Nesting as Nesting
 use Rattle.json_sure.specs.declared.Judged.the-variants as Judged
 use Rattle.json_sure.specs.declared.Entered.the-variants as Entered
-use Rattle.json_sure.specs.Sure.{mark, markFrom, markRead, nameMark, markAt, sure, sureEntry}
-use Rattle.json_sure.specs.Judges.{followedOf, markOf, SaysEntry, Judges, Enters}
+use Rattle.json_sure.specs.Sure.{mark, markFrom, markRead, nameMark, markAt, sureIn, sureEntry}
+use Rattle.json_sure.specs.Judges.{followedOf, markOf, SaysEntry, JudgesIn, EntersIn}
 
 pub no-parsed : {A : Type 0} {a : A} {r : List ℕ} → none ≡ ok a r → ⊥
 no-parsed h = let z : _≡_ {A = ℕ} 0 1 = cc in omega arith
 
 -- the mark of a name, and of an array's entry
 abbrev pub markFor : Bool → List ℕ → ℕ
-markFor b d = pick b (mark d) 128
+markFor b d = pick b (mark d) 4294967296
 
 module _ (d r : List ℕ) where
   colon-at : (e u : List ℕ) → colonAt e u ≡ ok d r → e ≡ d
@@ -57,7 +57,7 @@ module _ (d r : List ℕ) where
   unfolding readStart markAt
   start-mark close t h = go (eqb close 0x7d) h
     where
-      go : (b : Bool) → pick b (readName (skipWs t)) (unnamed (skipWs t)) ≡ ok d r → pick b (nameMark (skipWs t)) 128 ≡ markFor b d
+      go : (b : Bool) → pick b (readName (skipWs t)) (unnamed (skipWs t)) ≡ ok d r → pick b (nameMark (skipWs t)) 4294967296 ≡ markFor b d
       go true h = name-mark (skipWs t) h
       go false h = refl
 
@@ -102,21 +102,21 @@ say q b (Mark.Close n) h = h
 say q b (Mark.Comma n) h = h
 say q b Mark.Neither h = tt
 
-module _ (s : List ℕ) (close : ℕ) (value : List ℕ → Parsed Json) (i : ℕ) where
-  pub enters-none : Ends s i (readStart close (drop i s)) Read.Bad → Enters s i (readEntry close value (drop i s)) Entered.Neither
+module _ (room : ℕ) (s : List ℕ) (close : ℕ) (value : List ℕ → Parsed Json) (i : ℕ) where
+  pub enters-none : Ends s i (readStart close (drop i s)) Read.Bad → EntersIn room s i (readEntry close value (drop i s)) Entered.Neither
   enters-none x = record { place = Nesting.entry-none s close value i x; says = λ e u h. tt }
 
   module _ (v : ℕ) (x : Ends s i (readStart close (drop i s)) (Read.End v)) where
-    pub enters-bad : Judges s v (value (drop v s)) Judged.Bad → Enters s i (readEntry close value (drop i s)) Entered.Neither
+    pub enters-bad : JudgesIn room s v (value (drop v s)) Judged.Bad → EntersIn room s i (readEntry close value (drop i s)) Entered.Neither
     enters-bad y = record { place = Nesting.entry-bad s close value i v x (y .place); says = λ e u h. tt }
 
-    pub enters : (e : ℕ) (q : Bool) → Judges s v (value (drop v s)) (Judged.End e q) → (m : Mark) → Marks s e (readMark close (drop e s)) m → Enters s i (readEntry close value (drop i s)) (followedOf m q)
-    enters e q y m z = record { place = follow q m (Nesting.entry-mark s close value i v x e (y .place) m z); says = λ n u h. say q (sureEntry n) m (told n u h) }
+    pub enters : (e : ℕ) (q : Bool) → JudgesIn room s v (value (drop v s)) (Judged.End e q) → (m : Mark) → Marks s e (readMark close (drop e s)) m → EntersIn room s i (readEntry close value (drop i s)) (followedOf m q)
+    enters e q y m z = record { place = follow q m (Nesting.entry-mark s close value i v x e (y .place) m z); says = λ n u h. say q (sureEntry room n) m (told n u h) }
       where
-        told : (n : Entry) (u : List ℕ) → readEntry close value (drop i s) ≡ ok n u → q ≡ sureEntry n
+        told : (n : Entry) (u : List ℕ) → readEntry close value (drop i s) ≡ ok n u → q ≡ sureEntry room n
         told n u h =
             let p = parts close value (drop i s) n u h in
             let a : ok (p .called) (p .rest) ≡ ok (ended x .what) (drop v s) = sym (p .starts) ∙ ended x .reads in
             let b : p .rest ≡ drop v s = cc in
             y .says (p .meant) (p .after) (subst (λ (t : List ℕ). value t ≡ ok (p .meant) (p .after)) b (p .means))
-            ∙ ap (λ (w : Named). sure (w .value)) (sym (p .is))
+            ∙ ap (λ (w : Named). sureIn room (w .value)) (sym (p .is))

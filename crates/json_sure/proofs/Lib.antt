@@ -1,4 +1,6 @@
 -- Laws of the definitions.
 mod Marks
+mod New
+mod Notes
 mod Entries
 mod Saying

@@ -29,12 +29,12 @@ module _ (s : List ℕ) (i h : ℕ) where
   unfolding markFrom
   mark-close e = ap (markRead h) (close s i e)
 
-  pub mark-bad : Bad ≡ charOf (drop i s) → markRead h (decoded (drop i s)) ≡ 128
+  pub mark-bad : Bad ≡ charOf (drop i s) → markRead h (decoded (drop i s)) ≡ 4294967296
   mark-bad e = ap (markRead h) (no-char s i e)
 
 -- the mark at a place, white space going on to k
 module _ (s : List ℕ) (at k close : ℕ) where
-  pub mark-none : ¬ (close ≡ 0x7d) → 128 ≡ markAt (eqb close 0x7d) (drop at s)
+  pub mark-none : ¬ (close ≡ 0x7d) → 4294967296 ≡ markAt (eqb close 0x7d) (drop at s)
   unfolding markAt
   mark-none e = rw (ne-eqb _ _ e)
 
@@ -43,7 +43,7 @@ module _ (s : List ℕ) (at k close : ℕ) where
     unfolding markAt
     named = rw (eq-eqb _ _ e, ws .rest)
 
-    pub mark-past : length s ≤ k → 128 ≡ markAt (eqb close 0x7d) (drop at s)
+    pub mark-past : length s ≤ k → 4294967296 ≡ markAt (eqb close 0x7d) (drop at s)
     mark-past h = sym (named ∙ ap nameMark (past s k h))
 
     pub mark-there : k < length s → markRead 0 (decoded (drop (k + 1) s)) ≡ markAt (eqb close 0x7d) (drop at s)

@@ -18,7 +18,7 @@ use Rattle.json_sure.specs.declared.Judged.{Judged}
 use Rattle.json_sure.specs.declared.Judged.the-variants as Judged
 use Rattle.json_sure.specs.declared.Entered.{Entered}
 use Rattle.json_sure.specs.declared.Entered.the-variants as Entered
-use Rattle.json_sure.specs.Sure.{sure, sureEntry}
+use Rattle.json_sure.specs.Sure.{sure, sureIn, sureEntry}
 
 abbrev pub endedOf : Read → Judged
 endedOf (Read.End e) = Judged.End e true
@@ -52,6 +52,11 @@ pub record Judges (s : List ℕ) (at : ℕ) (p : Parsed Json) (r : Judged) : Typ
   pub place : Ends s at p (placeOf r)
   pub says : (j : Json) (u : List ℕ) → p ≡ ok j u → Says r (sure j)
 
-pub record Enters (s : List ℕ) (at : ℕ) (p : Parsed Entry) (r : Entered) : Type 0 where
+-- with room for so many marks
+pub record JudgesIn (room : ℕ) (s : List ℕ) (at : ℕ) (p : Parsed Json) (r : Judged) : Type 0 where
+  pub place : Ends s at p (placeOf r)
+  pub says : (j : Json) (u : List ℕ) → p ≡ ok j u → Says r (sureIn room j)
+
+pub record EntersIn (room : ℕ) (s : List ℕ) (at : ℕ) (p : Parsed Entry) (r : Entered) : Type 0 where
   pub place : Marks s at (lastOf p) (markOf r)
-  pub says : (e : Entry) (u : List ℕ) → p ≡ ok e u → SaysEntry r (sureEntry e)
+  pub says : (e : Entry) (u : List ℕ) → p ≡ ok e u → SaysEntry r (sureEntry room e)

@@ -1,11 +1,12 @@
 -- Marks of names, and when they show that no name is twice in an object: where no mark comes twice. Names that are the same have the
 -- same mark, so that a value is sure only where no name is twice in it; other names can have the same mark too, and then more is to be read.
+-- The marks of the objects that are open stand one behind the other, and where there is no room for one more the value is not sure.
 -- Assumes nothing.
-use Prim.Native.Nat.{ℕ, _+_, _*_, _%_}
+use Prim.Native.Nat.{ℕ, _+_, _-_, _*_, _%_}
 use mathlib.Core.Bool.{Bool, true, false}
-use mathlib.Core.List.{List, [], _∷_}
-use lib.Dec.{ltb}
-use lib.ListN.{set, getD, replicate}
+use mathlib.Core.List.{List, [], _∷_, _++_}
+use lib.Dec.{ltb, eqb}
+use lib.ListN.{length, take}
 use Rattle.basis.specs.Pick.{pick}
 use Rattle.json_text.specs.Decoded.{Parsed, decoded}
 use Rattle.json_text.specs.Decoded.Parsed.{ok, none}
@@ -17,57 +18,81 @@ use Rattle.json_value.specs.Reader.{skipWs, Entry}
 use Rattle.json_sure.specs.declared.Seen.{Seen}
 
 abbrev pub next : ℕ → ℕ → ℕ
-next h c = (h * 41 + c % 128) % 128
+next h c = (h * 2654435761 + c) % 4294967296
 
 unfoldable pub markFrom : ℕ → List ℕ → ℕ
 markFrom h [] = h
 markFrom h (c ∷ d) = markFrom (next h c) d
 
--- the mark of a name: below 128, and all names of the messages have different ones
+-- the mark of a name: a number of 32 bits
 abbrev pub mark : List ℕ → ℕ
 mark d = markFrom 0 d
 
 abbrev pub markRead : ℕ → Parsed (List ℕ) → ℕ
 markRead h (ok d r) = markFrom h d
-markRead h none = 128
+markRead h none = 4294967296
 
--- of the name of the entry that a text begins with; 128 where there is none
+-- of the name of the entry that a text begins with; one that no name has where there is none
 abbrev pub nameMark : List ℕ → ℕ
-nameMark [] = 128
+nameMark [] = 4294967296
 nameMark (b ∷ t) = markRead 0 (decoded t)
 
 unfoldable pub markAt : Bool → List ℕ → ℕ
-markAt named t = pick named (nameMark (skipWs t)) 128
+markAt named t = pick named (nameMark (skipWs t)) 4294967296
 
-unfoldable pub noneSeen : Seen
-noneSeen = record { marks = replicate 128 false; sure = true }
+-- the marks of an object's names so far, and whether all is sure so far
+pub record Noted : Type 0 where
+  pub marks : List ℕ
+  pub sure : Bool
+
+unfoldable pub noneNoted : Noted
+noneNoted = record { marks = []; sure = true }
+
+-- those that stand at the start of the lent marks
+unfoldable pub notedIn : List ℕ → Seen → Noted
+notedIn xs t = record { marks = take (t .count) xs; sure = t .sure }
+
+-- none of the marks is m
+unfoldable pub isNew : ℕ → List ℕ → Bool
+isNew m [] = true
+isNew m (k ∷ ks) = pick (eqb k m) false (isNew m ks)
 
 abbrev pub allOf : Bool → Bool → Bool → Bool
-allOf before value old = pick old false (pick before value false)
+allOf before value new = pick new (pick before value false) false
 
--- one more name, and whether its value is sure
-unfoldable pub noteOf : Seen → ℕ → Bool → Seen
-noteOf t m value =
-    pick (ltb m 128)
-    (record { marks = set (t .marks) m true; sure = allOf (t .sure) value (getD (t .marks) m false) })
-    (record { marks = t .marks; sure = allOf (t .sure) value false })
+-- one more name, with room for so many marks, and whether its value is sure
+unfoldable pub noteOf : ℕ → Noted → ℕ → Bool → Noted
+noteOf room t m value =
+    pick (ltb m 4294967296)
+    (pick (ltb (length (t .marks)) room)
+    (record { marks = t .marks ++ (m ∷ []); sure = allOf (t .sure) value (isNew m (t .marks)) })
+    (record { marks = t .marks; sure = false }))
+    (record { marks = t .marks; sure = allOf (t .sure) value true })
+
+-- what is left for the marks of a value behind those
+abbrev pub left : ℕ → Noted → ℕ
+left room t = room - length (t .marks)
 
 unfoldable mutual
-  pub sure : Json → Bool
-  sure null = true
-  sure (bool b) = true
-  sure (num d) = true
-  sure (str d) = true
-  sure (arr js) = sureAll noneSeen js
-  sure (obj ms) = sureOnce noneSeen ms
+  pub sureIn : ℕ → Json → Bool
+  sureIn room null = true
+  sureIn room (bool b) = true
+  sureIn room (num d) = true
+  sureIn room (str d) = true
+  sureIn room (arr js) = sureAll room noneNoted js
+  sureIn room (obj ms) = sureOnce room noneNoted ms
 
-  pub sureAll : Seen → Jsons → Bool
-  sureAll t jnil = t .sure
-  sureAll t (jcons j js) = sureAll (noteOf t 128 (sure j)) js
+  pub sureAll : ℕ → Noted → Jsons → Bool
+  sureAll room t jnil = t .sure
+  sureAll room t (jcons j js) = sureAll room (noteOf room t 4294967296 (sureIn (left room t) j)) js
 
-  pub sureOnce : Seen → Members → Bool
-  sureOnce t mnil = t .sure
-  sureOnce t (mcons d j ms) = sureOnce (noteOf t (mark d) (sure j)) ms
+  pub sureOnce : ℕ → Noted → Members → Bool
+  sureOnce room t mnil = t .sure
+  sureOnce room t (mcons d j ms) = sureOnce room (noteOf room t (mark d) (sureIn (left room t) j)) ms
 
-abbrev pub sureEntry : Entry → Bool
-sureEntry e = sure (e .item .value)
+-- with room for 820 marks
+abbrev pub sure : Json → Bool
+sure j = sureIn 820 j
+
+abbrev pub sureEntry : ℕ → Entry → Bool
+sureEntry room e = sureIn room (e .item .value)

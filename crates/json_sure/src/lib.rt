@@ -3,12 +3,17 @@ use json_character::Char;
 use json_text::Read;
 use json_value::Mark;
 ghost use mathlib.Core.Path.{_≡_};
+ghost use mathlib.Core.Bool.{false};
 ghost use lib.Dec.{eqb};
-ghost use lib.ListN.{drop};
+ghost use Prim.Native.Nat.{_≤_};
+ghost use lib.ListN.{length, drop};
+ghost use Rattle.basis.specs.Pick.{pick};
 ghost use Rattle.json_text.specs.Decoded.{decoded};
 ghost use Rattle.json_value.specs.Reader.{readEntry, readValue, insideOf};
-ghost use Rattle.json_sure.specs.Sure.{markRead, markAt, noneSeen, allOf, noteOf};
-ghost use Rattle.json_sure.specs.Judges.{endedOf, followedOf, Judges, Enters};
+ghost use Rattle.json_sure.specs.Sure.{markRead, markAt, isNew, allOf, notedIn, noteOf};
+ghost use Rattle.json_sure.specs.Judges.{endedOf, followedOf, Judges, JudgesIn, EntersIn};
+
+const NO_MARK: u64 = 4294967296;
 
 // The end of a value, and whether its marks show that no name is twice in an object; or that there is no value.
 pub enum Judged {
@@ -23,84 +28,100 @@ pub enum Entered {
     Neither,
 }
 
-// The marks of the names so far, and whether all is sure so far.
+// How many marks of an object's names stand in the lent marks, and whether all is sure so far.
 pub struct Seen {
-    pub marks: [bool; 128],
+    pub count: usize,
     pub sure: bool,
 }
 
 // The mark of the string whose characters begin at a place.
-fn mark(s: &[u8], at: usize) -> u32
+fn mark(s: &[u8], at: usize) -> u64
     ensures { λ r. ⌜ r ≡ markRead 0 (decoded (drop at (now (s .entry)))) ⌝ }
 {
     let mut i = at;
-    let mut h: u32 = 0;
+    let mut h: u64 = 0;
     loop {
         let c = json_character::step(s, i);
         match c {
             Char::One(x, w) => {
-                h = (h * 41 + x % 128) % 128;
+                h = (h * 2654435761 + x as u64) % 4294967296;
                 i += 1 + w;
             }
             Char::Close => return h,
-            Char::Bad => return 128,
+            Char::Bad => return NO_MARK,
         }
     }
 }
 
 // The mark of the name of the entry at a place; an array's entries have none.
-fn mark_at(s: &[u8], at: usize, close: u8) -> u32
+fn mark_at(s: &[u8], at: usize, close: u8) -> u64
     ensures { λ r. ⌜ r ≡ markAt (eqb close 0x7d) (drop at (now (s .entry))) ⌝ }
 {
     if close == b'}' {
         let k = json_value::space(s, at);
         if s.len() <= k {
-            return 128;
+            return NO_MARK;
         }
         return mark(s, k + 1);
     }
-    128
+    NO_MARK
 }
 
-fn none_seen() -> Seen
-    ensures { λ r. ⌜ r ≡ noneSeen ⌝ }
+fn all(before: bool, value: bool, new: bool) -> bool
+    ensures { λ r. ⌜ r ≡ allOf before value new ⌝ }
 {
-    Seen {
-        marks: [false; 128],
-        sure: true,
-    }
-}
-
-fn all(before: bool, value: bool, old: bool) -> bool
-    ensures { λ r. ⌜ r ≡ allOf before value old ⌝ }
-{
-    if old {
-        return false;
-    }
-    if before {
-        return value;
+    if new {
+        if before {
+            return value;
+        }
     }
     false
 }
 
-// One more name, and whether its value is sure.
-fn note(t: Seen, m: u32, value: bool) -> Seen
-    ensures { λ r. ⌜ r ≡ noteOf t m value ⌝ }
+fn still_new(new: bool, k: u32, m: u32) -> bool
+    ensures { λ r. ⌜ r ≡ pick (eqb k m) false new ⌝ }
 {
-    let mut marks = t.marks;
+    if k == m {
+        return false;
+    }
+    new
+}
+
+// Whether a mark is none of the others. All are looked at, so that the compiler takes several at a time.
+fn is_new(marks: &[u32], m: u32) -> bool
+    ensures { λ r. ⌜ r ≡ isNew m (now (marks .entry)) ⌝ }
+{
+    let mut new = true;
+    let mut i = 0;
+    while i < marks.len() {
+        new = still_new(new, marks[i], m);
+        i += 1;
+    }
+    new
+}
+
+// One more name, and whether its value is sure. Its mark is put behind the others where there is room.
+fn note(marks: &mut [u32], t: Seen, m: u64, value: bool) -> Seen
+    requires { ⌜ t .count ≤ length (now marks) ⌝ }
+    ensures { λ r. ⌜ (r .count ≤ length (now (marks .exit))) × (notedIn (now (marks .exit)) r ≡ noteOf (length (now (marks .entry))) (notedIn (now (marks .entry)) t) m value) ⌝ }
+{
+    let count = t.count;
     let before = t.sure;
-    if m < 128 {
-        let k = m as usize;
-        let old = marks[k];
-        marks[k] = true;
+    if NO_MARK <= m {
         return Seen {
-            marks,
-            sure: all(before, value, old),
+            count,
+            sure: all(before, value, true),
         };
     }
+    if marks.len() <= count {
+        return Seen { count, sure: false };
+    }
+    let k = m as u32;
+    let new = is_new(&marks[0..count], k);
+    marks[count] = k;
     Seen {
-        marks,
-        sure: all(before, value, false),
+        count: count + 1,
+        sure: all(before, value, new),
     }
 }
 
@@ -123,26 +144,34 @@ fn followed(m: Mark, value: bool) -> Entered
     }
 }
 
-// The value at a place, with at most so many levels of arrays and objects.
+// The value at a place, with at most so many levels of arrays and objects, and room for the marks of 820 names at a time: a text of 4,096
+// bytes has no more.
 pub fn value(s: &[u8], at: usize, levels: u8) -> Judged
     ensures { λ r. ⌜ Judges (now (s .entry)) at (readValue levels (drop at (now (s .entry)))) r ⌝ }
+{
+    let mut marks = [0u32; 820];
+    value_in(s, at, levels, &mut marks)
+}
+
+fn value_in(s: &[u8], at: usize, levels: u8, marks: &mut [u32]) -> Judged
+    ensures { λ r. ⌜ JudgesIn (length (now (marks .entry))) (now (s .entry)) at (readValue levels (drop at (now (s .entry)))) r ⌝ }
 {
     if s.len() <= at {
         return Judged::Bad;
     }
     let b = s[at];
     if b == b'[' {
-        return items(s, at + 1, levels, b']');
+        return items(s, at + 1, levels, b']', marks);
     }
     if b == b'{' {
-        return items(s, at + 1, levels, b'}');
+        return items(s, at + 1, levels, b'}', marks);
     }
     ended(json_value::value(s, at, levels))
 }
 
 // What follows an opening bracket or brace.
-fn items(s: &[u8], at: usize, levels: u8, close: u8) -> Judged
-    ensures { λ r. ⌜ Judges (now (s .entry)) at (insideOf close levels (drop at (now (s .entry)))) r ⌝ }
+fn items(s: &[u8], at: usize, levels: u8, close: u8, marks: &mut [u32]) -> Judged
+    ensures { λ r. ⌜ JudgesIn (length (now (marks .entry))) (now (s .entry)) at (insideOf close levels (drop at (now (s .entry)))) r ⌝ }
 {
     if levels == 0 {
         return Judged::Bad;
@@ -155,16 +184,20 @@ fn items(s: &[u8], at: usize, levels: u8, close: u8) -> Judged
         return Judged::End(k + 1, true);
     }
     let mut i = k;
-    let mut seen = none_seen();
+    let mut seen = Seen {
+        count: 0,
+        sure: true,
+    };
     loop {
-        let m = entry(s, i, levels - 1, close);
+        let count = seen.count;
+        let m = entry(s, i, levels - 1, close, &mut marks[count..]);
         match m {
             Entered::Close(n, q) => {
-                let t = note(seen, mark_at(s, i, close), q);
+                let t = note(marks, seen, mark_at(s, i, close), q);
                 return Judged::End(n, t.sure);
             }
             Entered::Comma(n, q) => {
-                seen = note(seen, mark_at(s, i, close), q);
+                seen = note(marks, seen, mark_at(s, i, close), q);
                 i = n;
             }
             Entered::Neither => return Judged::Bad,
@@ -173,14 +206,14 @@ fn items(s: &[u8], at: usize, levels: u8, close: u8) -> Judged
 }
 
 // One value between brackets, with its name between braces, and what follows it.
-fn entry(s: &[u8], at: usize, levels: u8, close: u8) -> Entered
-    ensures { λ r. ⌜ Enters (now (s .entry)) at (readEntry close (λ v. readValue levels v) (drop at (now (s .entry)))) r ⌝ }
+fn entry(s: &[u8], at: usize, levels: u8, close: u8, marks: &mut [u32]) -> Entered
+    ensures { λ r. ⌜ EntersIn (length (now (marks .entry))) (now (s .entry)) at (readEntry close (λ v. readValue levels v) (drop at (now (s .entry)))) r ⌝ }
 {
     let p = json_value::start(s, at, close);
     match p {
         Read::Bad => Entered::Neither,
         Read::End(v) => {
-            let q = value(s, v, levels);
+            let q = value_in(s, v, levels, marks);
             match q {
                 Judged::Bad => Entered::Neither,
                 Judged::End(e, sure) => followed(json_value::after(s, e, close), sure),

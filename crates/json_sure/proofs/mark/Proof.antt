@@ -2,6 +2,7 @@
 -- Assumes nothing.
 use Prim.Native.Nat.{_<_, _-_}
 use mathlib.Core.Path.{_≡_, refl, _∙_, sym}
+use native.Mathlib.Nat.{mod-lt}
 use native.Mathlib.Omega.{arith}
 use borrow.Author.Needs.{needs}
 use lib.ListN.{length, drop}
@@ -14,7 +15,7 @@ use Rattle.json_sure.proofs.mark.Statement.{statement}
 use Rattle.json_sure.proofs.mark.Tie as tie
 
 abbrev Inv-loop : tie.InvT-loop
-Inv-loop s at i₀ h₀ i h = (h < 128) × (markRead 0 (decoded (drop at s)) ≡ markRead h (decoded (drop i s)))
+Inv-loop s at i₀ h₀ i h = (h < 4294967296) × (markRead 0 (decoded (drop at s)) ≡ markRead h (decoded (drop i s)))
 
 abbrev μ-loop : tie.MeasureT-loop
 μ-loop s at i₀ h₀ i h = length s - i
@@ -30,6 +31,9 @@ enum-known-c c = search needs
 
 mul-h : tie.Need-mul-h Inv-loop μ-loop
 mul-h c = omega arith
+
+cast-h : tie.Need-cast-h Inv-loop μ-loop
+cast-h c = search needs
 
 add-h : tie.Need-add-h Inv-loop μ-loop
 add-h c = omega arith
@@ -60,7 +64,7 @@ loop-again c =
     let l = c .before .before .before .before in
     let s = now (l .before .before .args .s) in
     let e = sym (c .before .c .given .1) ∙ c .before .before .before .step .ensures in
-    (omega arith, l .loop .inv .1 ∙ mark-one s (l .loop .i) (l .loop .h) _ _ e)
+    (mod-lt _ (omega arith), l .loop .inv .1 ∙ mark-one s (l .loop .i) (l .loop .h) _ _ e)
 
 enum-told : tie.Need-enum-told Inv-loop μ-loop
 enum-told c = search needs
@@ -92,6 +96,7 @@ mark-spec =
     step-requires
     enum-known-c
     mul-h
+    cast-h
     add-h
     add-i
     add-i-2

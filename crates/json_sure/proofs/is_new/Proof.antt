@@ -1,0 +1,65 @@
+-- `json_sure::is_new` meets its contract.
+-- Assumes nothing.
+use Prim.Native.Nat.{_-_, _<_, _≤_}
+use mathlib.Core.Path.{_≡_, refl, sym, _∙_}
+use native.Mathlib.Omega.{arith}
+use borrow.Author.Needs.{needs}
+use lib.ListN.{length, drop}
+use Rattle.basis.specs.Pick.{both}
+use Rattle.json_sure.specs.Sure.{isNew}
+use Rattle.json_sure.proofs.New.{new-step, new-end}
+use Rattle.json_sure.proofs.is_new.Statement.{statement}
+use Rattle.json_sure.proofs.is_new.Tie as tie
+
+abbrev Inv-loop : tie.InvT-loop
+Inv-loop marks m new₀ i₀ new i = (i ≤ length marks) × (isNew m marks ≡ both new (isNew m (drop i marks)))
+
+abbrev μ-loop : tie.MeasureT-loop
+μ-loop marks m new₀ i₀ new i = length marks - i
+
+loop-holds : tie.Need-loop-holds Inv-loop μ-loop
+loop-holds c = (omega arith, refl)
+
+mul-still-new : tie.Need-mul-still-new Inv-loop μ-loop
+mul-still-new c = search needs
+
+shared-slice-read-still-new : tie.Need-shared-slice-read-still-new Inv-loop μ-loop
+shared-slice-read-still-new c = search needs
+
+still-new-requires : tie.Need-still-new-requires Inv-loop μ-loop
+still-new-requires c κs = search needs
+
+add-i : tie.Need-add-i Inv-loop μ-loop
+add-i c = omega arith
+
+loop-less : tie.Need-loop-less Inv-loop μ-loop
+loop-less c = omega arith
+
+loop-again : tie.Need-loop-again Inv-loop μ-loop
+loop-again c =
+    let l = c .before .before .before in
+    let a = l .before .before .args in
+    let h : l .loop .i < length (a .marks .now) = omega arith in
+    (omega arith, l .loop .inv .1 ∙ rw (c .still-new .ensures) (new-step (a .m) (l .loop .i) (a .marks .now) h (l .loop .new)))
+
+returns : tie.Need-returns Inv-loop μ-loop
+returns c =
+    let l = c .before in
+    let a = l .before .before .args in
+    let h : length (a .marks .now) ≤ l .loop .i = omega arith in
+    sym (l .loop .inv .1 ∙ new-end (a .m) (l .loop .i) (a .marks .now) h (l .loop .new))
+
+pub is-new-spec : {M : Type 1} → statement M
+is-new-spec =
+    tie.close
+    (tie.spec
+    Inv-loop
+    μ-loop
+    loop-holds
+    mul-still-new
+    shared-slice-read-still-new
+    still-new-requires
+    add-i
+    loop-less
+    loop-again
+    returns)
