@@ -17,7 +17,8 @@ use Rattle.identity.proofs.Fill.{mapped, mapped-below}
 use Rattle.basis.proofs.Same.{same-true, same-self}
 use Rattle.basis.proofs.Both.{not-both, untrue}
 use Rattle.identity.proofs.Hex.{value-below}
-use Rattle.identity.proofs.Text.{bytes-said, text-lowered}
+use Rattle.identity.proofs.Text.{text-length, bytes-said, text-lowered}
+use Rattle.identity.proofs.Lowered.{lowered-length}
 
 byte-below : (l : List ℕ) (p : ℕ) → byteAt l p < 256
 byte-below l p = omega (arith, value-below (getD l p 0), value-below (getD l (p + 1) 0))
@@ -81,3 +82,8 @@ read-written bs v =
 -- what equals the function is the answer
 pub read-as : (s : List ℕ) (r : ReadIdentity) → r ≡ readIdentity s → IdentityRead s r
 read-as s r e = record { answers = subst (Answers s) (sym e) (answers s); equals = e }
+
+-- a text of another length is none
+pub short : (s : List ℕ) → (length s ≡ 36 → ⊥) → notFound ≡ readIdentity s
+unfolding readIdentity
+short s n = rw (← (lowered-length s (identityText (bytesOf (lowered s))) (λ e. n (e ∙ text-length (bytesOf (lowered s))))))

@@ -2,7 +2,7 @@
 -- Assumes nothing.
 use mathlib.Core.Path.{_≡_, refl, sym, ap, ap₂, _∙_}
 use mathlib.Core.Bool.{Bool}
-use mathlib.Core.List.{List, _∷_, _++_, map, map-append}
+use mathlib.Core.List.{List, [], _∷_, _++_, map, map-append}
 use Prim.Native.Nat.{ℕ, zero, suc, _+_, _-_, _*_, _/_, _%_, _<_}
 use native.Mathlib.Omega.{arith}
 use lib.Dec.{T, ltb, eqb, ltb→lt, eqb→eq}
@@ -29,19 +29,27 @@ by-places : (bs : List ℕ) → identityText bs ≡ map (charOf bs) shape
 unfolding identityText
 by-places bs = refl
 
+-- the text out of the digits of four bytes at a time
+abbrev pub joined : List ℕ → List ℕ → List ℕ → List ℕ → List ℕ
+joined x y z w =
+    getD x 0 0 ∷ getD x 1 0 ∷ getD x 2 0 ∷ getD x 3 0 ∷ getD x 4 0 ∷ getD x 5 0 ∷ getD x 6 0 ∷ getD x 7 0 ∷ 45
+    ∷ getD y 0 0 ∷ getD y 1 0 ∷ getD y 2 0 ∷ getD y 3 0 ∷ 45 ∷ getD y 4 0 ∷ getD y 5 0 ∷ getD y 6 0 ∷ getD y 7 0 ∷ 45
+    ∷ getD z 0 0 ∷ getD z 1 0 ∷ getD z 2 0 ∷ getD z 3 0 ∷ 45 ∷ getD z 4 0 ∷ getD z 5 0 ∷ getD z 6 0 ∷ getD z 7 0
+    ∷ getD w 0 0 ∷ getD w 1 0 ∷ getD w 2 0 ∷ getD w 3 0 ∷ getD w 4 0 ∷ getD w 5 0 ∷ getD w 6 0 ∷ getD w 7 0 ∷ []
+
+abbrev four : List ℕ → ℕ → List ℕ
+four bs i = hexBytes (getD bs i 0 ∷ getD bs (i + 1) 0 ∷ getD bs (i + 2) 0 ∷ getD bs (i + 3) 0 ∷ []) 0 4
+
+pub by-fours : (bs x y z w : List ℕ) → x ≡ four bs 0 → y ≡ four bs 4 → z ≡ four bs 8 → w ≡ four bs 12 → joined x y z w ≡ identityText bs
+unfolding identityText
+by-fours bs x y z w p q r t = λ i. joined (p i) (q i) (r i) (t i)
+
 pub text-length : (bs : List ℕ) → length (identityText bs) ≡ 36
 unfolding identityText
 text-length bs = refl
 
 pub text-at : (bs : List ℕ) (k : ℕ) → k < 36 → getD (identityText bs) k 0 ≡ charOf bs (getD shape k 0)
 text-at bs k h = ap (λ (l : List ℕ). getD l k 0) (by-places bs) ∙ mapped (charOf bs) shape k h
-
-in-shape : ℕ → ℕ → Bool
-in-shape k c = ltb c 80
-
-pub shape-below : (k : ℕ) → k < 36 → getD shape k 0 < 80
-unfolding in-shape
-shape-below k h = ltb→lt (getD shape k 0) 80 (at in-shape shape tt k h)
 
 -- the digits of byte i have the numbers 2 * i and 2 * i + 1
 placed : ℕ → ℕ → Bool

@@ -1,25 +1,21 @@
 // Message identities: sixteen bytes, their text of 36 characters, and version 4 out of random bytes.
 ghost use mathlib.Core.Path.{_≡_};
-ghost use Prim.Native.Nat.{_<_, _≤_, _/_, _%_};
+ghost use mathlib.Core.Bool.{false};
+ghost use mathlib.Core.List.{[], _∷_};
+ghost use Prim.Native.Nat.{_<_, _≤_, _+_, _/_, _%_};
 ghost use lib.Dec.{eqb};
-ghost use lib.ListN.{getD};
+ghost use lib.ListN.{length};
 ghost use Rattle.basis.specs.Pick.{pick};
 ghost use Rattle.identity.specs.Hex.{hexDigit, hexValue, lowerHex, lowered};
-ghost use Rattle.identity.specs.Text.{identityText};
+ghost use Rattle.identity.specs.Text.{hexBytes, identityText};
 ghost use Rattle.identity.specs.Version.{version4Of};
 ghost use Rattle.basis.specs.Lists.{sameBytes};
-ghost use Rattle.identity.specs.Read.{bytesOf, IdentityRead};
+ghost use Rattle.identity.specs.Read.{notFound, byteAt, bytesOf, IdentityRead};
 
 #[repr(C)]
 pub struct Identity {
     pub bytes: [u8; 16],
 }
-
-// The shape of the text: at each place the number of its digit, counted from the character 0 on; the dashes as they are.
-const SHAPE: [u8; 36] = *b"01234567-89:;-<=>?-@ABC-DEFGHIJKLMNO";
-
-// Where the two digits of each byte start in the text.
-const STARTS: [usize; 16] = [0, 2, 4, 6, 9, 11, 14, 16, 19, 21, 24, 26, 28, 30, 32, 34];
 
 fn hex_digit(n: u8) -> u8
     requires { ⌜ n < 16 ⌝ }
@@ -28,43 +24,80 @@ fn hex_digit(n: u8) -> u8
     if n < 10 { 48 + n } else { 87 + n }
 }
 
-// The first or the second digit of a byte, as p is even or odd.
-fn digit_of(b: u8, p: usize) -> u8
-    ensures { λ r. ⌜ r ≡ pick (eqb (p % 2) 0) (hexDigit (b / 16)) (hexDigit (b % 16)) ⌝ }
+fn first_digit(b: u8) -> u8
+    ensures { λ r. ⌜ r ≡ hexDigit (b / 16) ⌝ }
 {
-    if p % 2 == 0 {
-        hex_digit(b / 16)
-    } else {
-        hex_digit(b % 16)
-    }
+    hex_digit(b / 16)
 }
 
-// The character at a place of the text; 0 past it.
-fn char_at(id: Identity, k: usize) -> u8
-    ensures { λ r. ⌜ r ≡ getD (identityText (id .bytes)) k 0 ⌝ }
+fn second_digit(b: u8) -> u8
+    ensures { λ r. ⌜ r ≡ hexDigit (b % 16) ⌝ }
 {
-    if 36 <= k {
-        return 0;
-    }
-    let c = SHAPE[k];
-    if c < 48 {
-        return c;
-    }
-    let p = (c - 48) as usize;
-    let bytes = id.bytes;
-    digit_of(bytes[p / 2], p)
+    hex_digit(b % 16)
+}
+
+// The digits of four bytes.
+fn digits(a: u8, b: u8, c: u8, d: u8) -> [u8; 8]
+    ensures { λ r. ⌜ r ≡ hexBytes (a ∷ b ∷ c ∷ d ∷ []) 0 4 ⌝ }
+{
+    [
+        first_digit(a),
+        second_digit(a),
+        first_digit(b),
+        second_digit(b),
+        first_digit(c),
+        second_digit(c),
+        first_digit(d),
+        second_digit(d),
+    ]
 }
 
 pub fn identity_text(id: Identity) -> [u8; 36]
     ensures { λ r. ⌜ r ≡ identityText (id .bytes) ⌝ }
 {
-    let mut t = [0u8; 36];
-    let mut k = 0;
-    while k < 36 {
-        t[k] = char_at(id, k);
-        k += 1;
-    }
-    t
+    let b = id.bytes;
+    let x = digits(b[0], b[1], b[2], b[3]);
+    let y = digits(b[4], b[5], b[6], b[7]);
+    let z = digits(b[8], b[9], b[10], b[11]);
+    let w = digits(b[12], b[13], b[14], b[15]);
+    [
+        x[0],
+        x[1],
+        x[2],
+        x[3],
+        x[4],
+        x[5],
+        x[6],
+        x[7],
+        b'-',
+        y[0],
+        y[1],
+        y[2],
+        y[3],
+        b'-',
+        y[4],
+        y[5],
+        y[6],
+        y[7],
+        b'-',
+        z[0],
+        z[1],
+        z[2],
+        z[3],
+        b'-',
+        z[4],
+        z[5],
+        z[6],
+        z[7],
+        w[0],
+        w[1],
+        w[2],
+        w[3],
+        w[4],
+        w[5],
+        w[6],
+        w[7],
+    ]
 }
 
 // Sixteen random bytes as an identity of version 4.
@@ -116,56 +149,69 @@ fn hex_value(c: u8) -> u8
     0
 }
 
-// The value of the digit at a place, in either case.
-fn value_at(s: &[u8], at: usize) -> u8
-    ensures { λ r. ⌜ (r ≡ hexValue (getD (lowered (now (s .entry))) at 0)) × (r ≤ 15) ⌝ }
+// The value of a digit, in either case.
+fn value(c: u8) -> u8
+    ensures { λ r. ⌜ (r ≡ hexValue (lowerHex c)) × (r ≤ 15) ⌝ }
 {
-    if at < s.len() {
-        hex_value(lower_hex(s[at]))
-    } else {
-        0
-    }
+    hex_value(lower_hex(c))
 }
 
-// The byte that the digits for byte i say; 0 past the sixteenth.
-fn byte_at(s: &[u8], i: usize) -> u8
-    ensures { λ r. ⌜ r ≡ getD (bytesOf (lowered (now (s .entry)))) i 0 ⌝ }
+// The byte that the two digits at a place say.
+fn byte_at(s: &[u8], at: usize) -> u8
+    requires { ⌜ at + 1 < length (now s) ⌝ }
+    ensures { λ r. ⌜ r ≡ byteAt (lowered (now (s .entry))) at ⌝ }
 {
-    if 16 <= i {
-        return 0;
-    }
-    let p = STARTS[i];
-    value_at(s, p) * 16 + value_at(s, p + 1)
+    value(s[at]) * 16 + value(s[at + 1])
 }
 
-// The bytes that the digits of a text say, whether or not it is the text of an identity.
+// The bytes that the digits of 36 characters say, whether or not they are the text of an identity.
 fn bytes_of(s: &[u8]) -> [u8; 16]
+    requires { ⌜ length (now s) ≡ 36 ⌝ }
     ensures { λ r. ⌜ r ≡ bytesOf (lowered (now (s .entry))) ⌝ }
 {
-    let mut b = [0u8; 16];
-    let mut i = 0;
-    while i < 16 {
-        b[i] = byte_at(s, i);
-        i += 1;
-    }
-    b
+    [
+        byte_at(s, 0),
+        byte_at(s, 2),
+        byte_at(s, 4),
+        byte_at(s, 6),
+        byte_at(s, 9),
+        byte_at(s, 11),
+        byte_at(s, 14),
+        byte_at(s, 16),
+        byte_at(s, 19),
+        byte_at(s, 21),
+        byte_at(s, 24),
+        byte_at(s, 26),
+        byte_at(s, 28),
+        byte_at(s, 30),
+        byte_at(s, 32),
+        byte_at(s, 34),
+    ]
 }
 
-// Whether s with its letters A to F made small is t.
+fn still_same(same: bool, c: u8, d: u8) -> bool
+    ensures { λ r. ⌜ r ≡ pick (eqb (lowerHex c) d) same false ⌝ }
+{
+    if lower_hex(c) == d {
+        return same;
+    }
+    false
+}
+
+// Whether s with its letters A to F made small is t. All bytes are looked at, so that the compiler takes several at a time.
 fn same_lowered(s: &[u8], t: &[u8]) -> bool
     ensures { λ r. ⌜ r ≡ sameBytes (lowered (now (s .entry))) (now (t .entry)) ⌝ }
 {
     if s.len() != t.len() {
         return false;
     }
+    let mut same = true;
     let mut i = 0;
     while i < s.len() {
-        if lower_hex(s[i]) != t[i] {
-            return false;
-        }
+        same = still_same(same, s[i], t[i]);
         i += 1;
     }
-    true
+    same
 }
 
 pub struct ReadIdentity {
@@ -173,18 +219,27 @@ pub struct ReadIdentity {
     pub id: Identity,
 }
 
+fn not_found() -> ReadIdentity
+    ensures { λ r. ⌜ r ≡ notFound ⌝ }
+{
+    ReadIdentity {
+        found: false,
+        id: Identity { bytes: [0u8; 16] },
+    }
+}
+
 // The identity whose text s is, in either case: its digits are taken for bytes, and the text of these is compared.
 pub fn read_identity(s: &[u8]) -> ReadIdentity
     ensures { λ r. ⌜ IdentityRead (now (s .entry)) r ⌝ }
 {
+    if s.len() != 36 {
+        return not_found();
+    }
     let id = Identity { bytes: bytes_of(s) };
     let t = identity_text(id);
     if same_lowered(s, &t) {
         ReadIdentity { found: true, id }
     } else {
-        ReadIdentity {
-            found: false,
-            id: Identity { bytes: [0u8; 16] },
-        }
+        not_found()
     }
 }

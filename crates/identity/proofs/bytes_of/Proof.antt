@@ -1,59 +1,78 @@
-use mathlib.Core.Path.{_≡_, refl, _∙_}
-use Prim.Native.Nat.{_-_, _≤_}
-use native.Mathlib.Omega.{arith}
-use borrow.Author.Needs.{needs}
-use lib.ListN.{length, take, length-set}
-use Rattle.identity.specs.Hex.{lowered}
 use Rattle.identity.specs.Read.{bytesOf}
-use Rattle.identity.proofs.Read.{said-length}
-use Rattle.identity.proofs.Fill.{filled-more, filled}
+use borrow.Author.Needs.{needs}
 use Rattle.identity.proofs.bytes_of.Statement.{statement}
 use Rattle.identity.proofs.bytes_of.Tie as tie
 
-abbrev Inv-loop : tie.InvT-loop
-Inv-loop s b₀ i₀ b i = (i ≤ 16) × (length b ≡ 16) × (take i b ≡ take i (bytesOf (lowered s)))
-
-abbrev μ-loop : tie.MeasureT-loop
-μ-loop s b₀ i₀ b i = 16 - i
-
-loop-holds : tie.Need-loop-holds Inv-loop μ-loop
-loop-holds c = (search needs, refl, refl)
-
-byte-at-requires : tie.Need-byte-at-requires Inv-loop μ-loop
+byte-at-requires : tie.Need-byte-at-requires
 byte-at-requires c κs = search needs
 
-array-write-b : tie.Need-array-write-b Inv-loop μ-loop
-array-write-b c = search needs
+byte-at-requires-2 : tie.Need-byte-at-requires-2
+byte-at-requires-2 c κs = search needs
 
-add-i : tie.Need-add-i Inv-loop μ-loop
-add-i c = search needs
+byte-at-requires-3 : tie.Need-byte-at-requires-3
+byte-at-requires-3 c κs = search needs
 
-loop-less : tie.Need-loop-less Inv-loop μ-loop
-loop-less c = search needs
+byte-at-requires-4 : tie.Need-byte-at-requires-4
+byte-at-requires-4 c κs = search needs
 
-loop-again : tie.Need-loop-again Inv-loop μ-loop
-loop-again c =
-    let l = c .before .before .loop in
-    let s = lowered (c .before .before .before .before .args .s .now) in
-    let m = filled-more (l .b) (bytesOf s) (l .i) (omega (arith, l .inv .1)) (omega (arith, said-length s)) (l .inv .2) in
-    (search needs, length-set (l .b) (l .i) _ ∙ l .inv .1, rw (c .byte-at .ensures) m)
+byte-at-requires-5 : tie.Need-byte-at-requires-5
+byte-at-requires-5 c κs = search needs
 
-returns : tie.Need-returns Inv-loop μ-loop
-returns c =
-    let l = c .before .loop in
-    let s = lowered (c .before .before .before .args .s .now) in
-    filled (l .b) (bytesOf s) (l .i) (omega (arith, l .inv .1)) (omega (arith, said-length s)) (l .inv .2)
+byte-at-requires-6 : tie.Need-byte-at-requires-6
+byte-at-requires-6 c κs = search needs
+
+byte-at-requires-7 : tie.Need-byte-at-requires-7
+byte-at-requires-7 c κs = search needs
+
+byte-at-requires-8 : tie.Need-byte-at-requires-8
+byte-at-requires-8 c κs = search needs
+
+byte-at-requires-9 : tie.Need-byte-at-requires-9
+byte-at-requires-9 c κs = search needs
+
+byte-at-requires-10 : tie.Need-byte-at-requires-10
+byte-at-requires-10 c κs = search needs
+
+byte-at-requires-11 : tie.Need-byte-at-requires-11
+byte-at-requires-11 c κs = search needs
+
+byte-at-requires-12 : tie.Need-byte-at-requires-12
+byte-at-requires-12 c κs = search needs
+
+byte-at-requires-13 : tie.Need-byte-at-requires-13
+byte-at-requires-13 c κs = search needs
+
+byte-at-requires-14 : tie.Need-byte-at-requires-14
+byte-at-requires-14 c κs = search needs
+
+byte-at-requires-15 : tie.Need-byte-at-requires-15
+byte-at-requires-15 c κs = search needs
+
+byte-at-requires-16 : tie.Need-byte-at-requires-16
+byte-at-requires-16 c κs = search needs
+
+returns : tie.Need-returns
+unfolding bytesOf
+returns c = cc
 
 pub bytes-of-spec : {M : Type 1} → statement M
 bytes-of-spec =
     tie.close
     (tie.spec
-    Inv-loop
-    μ-loop
-    loop-holds
     byte-at-requires
-    array-write-b
-    add-i
-    loop-less
-    loop-again
+    byte-at-requires-2
+    byte-at-requires-3
+    byte-at-requires-4
+    byte-at-requires-5
+    byte-at-requires-6
+    byte-at-requires-7
+    byte-at-requires-8
+    byte-at-requires-9
+    byte-at-requires-10
+    byte-at-requires-11
+    byte-at-requires-12
+    byte-at-requires-13
+    byte-at-requires-14
+    byte-at-requires-15
+    byte-at-requires-16
     returns)

@@ -1,19 +1,20 @@
-use borrow.Author.Count.{below-more}
-use mathlib.Core.Path.{_≡_, sym, _∙_}
-use Prim.Native.Nat.{ℕ, _-_, _≤_, _<_}
+use mathlib.Core.Path.{_≡_, refl, sym, _∙_}
+use Prim.Native.Nat.{_-_, _≤_, _<_}
 use native.Mathlib.Omega.{arith}
 use borrow.Author.Needs.{needs}
-use lib.ListN.{length, getD}
-use Rattle.identity.specs.Hex.{lowerHex}
-use Rattle.identity.proofs.Lowered.{lowered-same, lowered-length, lowered-differs}
+use lib.ListN.{length, drop}
+use Rattle.basis.specs.Lists.{sameBytes}
+use Rattle.basis.specs.Pick.{both}
+use Rattle.identity.specs.Hex.{lowered}
+use Rattle.identity.proofs.Lowered.{lowered-length, lowered-step, lowered-end}
 use Rattle.identity.proofs.same_lowered.Statement.{statement}
 use Rattle.identity.proofs.same_lowered.Tie as tie
 
 abbrev Inv-loop : tie.InvT-loop
-Inv-loop s t i₀ i = (length s ≡ length t) × (i ≤ length s) × ((k : ℕ) → k < i → lowerHex (getD s k 0) ≡ getD t k 0)
+Inv-loop s t same₀ i₀ same i = (length s ≡ length t) × (i ≤ length s) × (sameBytes (lowered s) t ≡ both same (sameBytes (lowered (drop i s)) (drop i t)))
 
 abbrev μ-loop : tie.MeasureT-loop
-μ-loop s t i₀ i = length s - i
+μ-loop s t same₀ i₀ same i = length s - i
 
 returns : tie.Need-returns Inv-loop μ-loop
 returns c =
@@ -21,22 +22,16 @@ returns c =
     lowered-length (a .s .now) (a .t .now) (c .if1 .taken)
 
 loop-holds : tie.Need-loop-holds Inv-loop μ-loop
-loop-holds c = (search needs, search needs, λ k h. absurd (omega arith))
+loop-holds c = (search needs, search needs, refl)
 
-shared-slice-read-lower-hex : tie.Need-shared-slice-read-lower-hex Inv-loop μ-loop
-shared-slice-read-lower-hex c = search needs
+shared-slice-read-still-same : tie.Need-shared-slice-read-still-same Inv-loop μ-loop
+shared-slice-read-still-same c = search needs
 
-lower-hex-requires : tie.Need-lower-hex-requires Inv-loop μ-loop
-lower-hex-requires c κs = search needs
+shared-slice-read-still-same-2 : tie.Need-shared-slice-read-still-same-2 Inv-loop μ-loop
+shared-slice-read-still-same-2 c = search needs
 
-shared-slice-read-if2 : tie.Need-shared-slice-read-if2 Inv-loop μ-loop
-shared-slice-read-if2 c = search needs
-
-returns-2 : tie.Need-returns-2 Inv-loop μ-loop
-returns-2 c =
-    let l = c .before .before .before .before .before .loop in
-    let a = c .before .before .before .before .before .before .before .before .before .args in
-    lowered-differs (a .s .now) (a .t .now) (l .i) (c .before .before .before .before .loop-test .taken) (λ e. c .if2 .taken (c .before .before .lower-hex .ensures ∙ e))
+still-same-requires : tie.Need-still-same-requires Inv-loop μ-loop
+still-same-requires c κs = search needs
 
 add-i : tie.Need-add-i Inv-loop μ-loop
 add-i c = search needs
@@ -46,14 +41,19 @@ loop-less c = search needs
 
 loop-again : tie.Need-loop-again Inv-loop μ-loop
 loop-again c =
-    let l = c .before .before .before .before .before .loop in
-    (l .inv .0, search needs, below-more _ _ (l .inv .2) (sym (c .before .before .lower-hex .ensures) ∙ c .if2 .left))
+    let l = c .before .before .before .before .loop in
+    let a = c .before .before .before .before .before .before .before .before .args in
+    let h : l .i < length (a .s .now) = omega arith in
+    let g : l .i < length (a .t .now) = omega arith in
+    (l .inv .0, search needs, l .inv .2 ∙ rw (c .still-same .ensures) (lowered-step (a .s .now) (a .t .now) (l .i) h g (l .same)))
 
-returns-3 : tie.Need-returns-3 Inv-loop μ-loop
-returns-3 c =
+returns-2 : tie.Need-returns-2 Inv-loop μ-loop
+returns-2 c =
     let l = c .before .loop in
     let a = c .before .before .before .before .before .args in
-    lowered-same (a .s .now) (a .t .now) (l .inv .0) (λ k h. l .inv .2 k (omega arith))
+    let h : length (a .s .now) ≤ l .i = omega arith in
+    let g : length (a .t .now) ≤ l .i = omega arith in
+    sym (l .inv .2 ∙ lowered-end (a .s .now) (a .t .now) (l .i) h g (l .same))
 
 pub same-lowered-spec : {M : Type 1} → statement M
 same-lowered-spec =
@@ -63,11 +63,10 @@ same-lowered-spec =
     μ-loop
     returns
     loop-holds
-    shared-slice-read-lower-hex
-    lower-hex-requires
-    shared-slice-read-if2
-    returns-2
+    shared-slice-read-still-same
+    shared-slice-read-still-same-2
+    still-same-requires
     add-i
     loop-less
     loop-again
-    returns-3)
+    returns-2)
