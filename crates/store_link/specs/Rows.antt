@@ -3,8 +3,9 @@
 use Prim.Native.Nat.{ℕ, _+_, _*_, _<_}
 use mathlib.Core.Path.{_≡_}
 use mathlib.Core.Bool.{Bool}
-use mathlib.Core.List.{List}
+use mathlib.Core.List.{List, [], _∷_, _++_}
 use Rattle.basis.specs.Pick.{bit}
+use Rattle.identity.specs.declared.Identity.{Identity}
 use Rattle.awaited.specs.declared.Slot.{Slot}
 use Rattle.awaited.specs.declared.Awaited.{Awaited}
 use Rattle.link.specs.declared.Link.{Link}
@@ -14,11 +15,26 @@ use Rattle.store_words.specs.Narrow.{upper, lower, identityFrom}
 unfoldable pub slotFrom : ℕ → ℕ → ℕ → ℕ → Slot
 slotFrom a b c d = record { time = a; sequence = upper b; purpose = lower b; id = identityFrom c d }
 
+-- a slot whose identity stands elsewhere
+abbrev pub slotWith : List ℕ → ℕ → Identity → Slot
+slotWith ws i id = record { time = word ws i; sequence = upper (word ws (i + 1)); purpose = lower (word ws (i + 1)); id = id }
+
+-- eight bytes from a place on, and the identity of sixteen
+abbrev pub eightIn : List ℕ → ℕ → List ℕ
+eightIn bs i = word bs i ∷ word bs (i + 1) ∷ word bs (i + 2) ∷ word bs (i + 3) ∷ word bs (i + 4) ∷ word bs (i + 5) ∷ word bs (i + 6) ∷ word bs (i + 7) ∷ []
+
+abbrev pub idIn : List ℕ → ℕ → Identity
+idIn bs i = record { bytes = eightIn bs i ++ eightIn bs (i + 8) }
+
 abbrev pub slotIn : List ℕ → ℕ → Slot
 slotIn ws i = slotFrom (word ws i) (word ws (i + 1)) (word ws (i + 2)) (word ws (i + 3))
 
 unfoldable pub awaitedIn : List ℕ → ℕ → Awaited
 awaitedIn ws i = record { slots = listOf (λ (k : ℕ). slotIn ws (i + 4 * k)) 16 }
+
+-- the identities of the first n of the places from i on, one behind the other
+abbrev pub IdsIn : List ℕ → ℕ → List ℕ → ℕ → Type 0
+IdsIn ws i bs n = (j : ℕ) → j < n → idIn bs (16 * j) ≡ identityFrom (word ws (i + 4 * j + 2)) (word ws (i + 4 * j + 2 + 1))
 
 -- 3 words of times and numbers, 8 of what has happened, 64 of what is awaited
 unfoldable pub linkIn : List ℕ → ℕ → Link

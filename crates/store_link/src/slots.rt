@@ -2,18 +2,51 @@
 ghost use mathlib.Core.Path.{_≡_};
 ghost use Prim.Native.Nat.{_+_, _≤_};
 ghost use lib.ListN.{length};
-ghost use Rattle.store_link.specs.Rows.{slotIn, awaitedIn};
-ghost use Rattle.store_words.specs.Words.{Put};
+ghost use Rattle.bits.specs.Fields.{bytesOf};
+ghost use Rattle.awaited.specs.Slot.{freeSlot};
+ghost use Rattle.store_words.specs.Words.{word, Put};
+ghost use Rattle.store_words.specs.Narrow.{identityFrom};
+ghost use Rattle.store_link.specs.Rows.{slotWith, eightIn, idIn, slotIn, IdsIn, awaitedIn};
 use awaited::Awaited;
 use awaited::Slot;
+use identity::Identity;
 
-pub fn slot_at(w: &[u64], i: usize) -> Slot
-    requires { ⌜ i + 4 ≤ length (now w) ⌝ }
-    ensures { λ r. ⌜ r ≡ slotIn (now (w .entry)) i ⌝ }
+// The identity of sixteen bytes from a place on.
+fn id_at(b: &[u8], at: usize) -> Identity
+    requires { ⌜ at + 16 ≤ length (now b) ⌝ }
+    ensures { λ r. ⌜ r ≡ idIn (now (b .entry)) at ⌝ }
+{
+    let m = at + 8;
+    Identity {
+        bytes: [
+            b[at],
+            b[at + 1],
+            b[at + 2],
+            b[at + 3],
+            b[at + 4],
+            b[at + 5],
+            b[at + 6],
+            b[at + 7],
+            b[m],
+            b[m + 1],
+            b[m + 2],
+            b[m + 3],
+            b[m + 4],
+            b[m + 5],
+            b[m + 6],
+            b[m + 7],
+        ],
+    }
+}
+
+// The place at i of w, its identity at `at` of b.
+fn slot_at(w: &[u64], i: usize, b: &[u8], at: usize) -> Slot
+    requires { ⌜ (i + 4 ≤ length (now w)) × (at + 16 ≤ length (now b)) ⌝ }
+    ensures { λ r. ⌜ r ≡ slotWith (now (w .entry)) i (idIn (now (b .entry)) at) ⌝ }
 {
     let time = w[i];
     let numbers = w[i + 1];
-    let id = store_words::identity(w[i + 2], w[i + 3]);
+    let id = id_at(b, at);
     Slot {
         time,
         sequence: store_words::upper(numbers),
@@ -36,15 +69,66 @@ pub fn put_slot(w: &mut [u64], i: usize, x: Slot)
     w[i + 3] = b;
 }
 
+// The bytes of a word, from a place on.
+fn put_eight(b: &mut [u8], at: usize, x: u64)
+    requires { ⌜ at + 8 ≤ length (now b) ⌝ }
+    ensures { λ _. ⌜ Put eightIn 8 (now (b .entry)) (now (b .exit)) at (bytesOf 8 x) ⌝ }
+{
+    b[at] = bits::byte(x, 56);
+    b[at + 1] = bits::byte(x, 48);
+    b[at + 2] = bits::byte(x, 40);
+    b[at + 3] = bits::byte(x, 32);
+    b[at + 4] = bits::byte(x, 24);
+    b[at + 5] = bits::byte(x, 16);
+    b[at + 6] = bits::byte(x, 8);
+    b[at + 7] = bits::byte(x, 0);
+}
+
+// The identity that the two words at i of w are, from a place on.
+fn put_id(b: &mut [u8], at: usize, w: &[u64], i: usize)
+    requires { ⌜ (at + 16 ≤ length (now b)) × (i + 2 ≤ length (now w)) ⌝ }
+    ensures { λ _. ⌜ Put idIn 16 (now (b .entry)) (now (b .exit)) at (identityFrom (word (now (w .entry)) i) (word (now (w .entry)) (i + 1))) ⌝ }
+{
+    put_eight(b, at, w[i]);
+    put_eight(b, at + 8, w[i + 1]);
+}
+
+// The identities of the sixteen from i on, one behind the other: the compiler makes whole moves of this, where bytes that are taken out of
+// two words into a struct stay single ones.
+fn ids_at(w: &[u64], i: usize) -> [u8; 256]
+    requires { ⌜ i + 64 ≤ length (now w) ⌝ }
+    ensures { λ r. ⌜ IdsIn (now (w .entry)) i r 16 ⌝ }
+{
+    let mut b = [0u8; 256];
+    let mut k: usize = 0;
+    while k < 16 {
+        put_id(&mut b, 16 * k, w, i + 4 * k + 2);
+        k += 1;
+    }
+    b
+}
+
+fn no_slot() -> Slot
+    ensures { λ r. ⌜ r ≡ freeSlot ⌝ }
+{
+    Slot {
+        time: 0,
+        sequence: 0,
+        purpose: 0,
+        id: Identity { bytes: [0u8; 16] },
+    }
+}
+
 // The sixteen from i on.
 pub fn awaited_at(w: &[u64], i: usize) -> Awaited
     requires { ⌜ i + 64 ≤ length (now w) ⌝ }
     ensures { λ r. ⌜ r ≡ awaitedIn (now (w .entry)) i ⌝ }
 {
-    let mut slots = [slot_at(w, i); 16];
+    let b = ids_at(w, i);
+    let mut slots = [no_slot(); 16];
     let mut k: usize = 0;
     while k < 16 {
-        slots[k] = slot_at(w, i + 4 * k);
+        slots[k] = slot_at(w, i + 4 * k, &b, 16 * k);
         k += 1;
     }
     Awaited { slots }

@@ -8,18 +8,22 @@ use lib.ListN.{length, getD, length-set}
 use Rattle.awaited.specs.Slot.{freeSlot}
 use Rattle.store_link.specs.Rows.{slotIn}
 use Rattle.store_words.proofs.Elements.{fill-next}
+use Rattle.store_link.proofs.Ids.{slot-whole}
 use Rattle.store_link.proofs.RowLaws.{awaited-get}
 use Rattle.store_link.proofs.slots.awaited_at.Statement.{statement}
 use Rattle.store_link.proofs.slots.awaited_at.Tie as tie
 
 abbrev Inv-loop : tie.InvT-loop
-Inv-loop w i slots₀ k₀ slots k = (k ≤ 16) × ((length slots ≡ 16) × ((j : ℕ) → j < k → getD slots j freeSlot ≡ slotIn w (i + 4 * j)))
+Inv-loop w i b slots₀ k₀ slots k = (k ≤ 16) × ((length slots ≡ 16) × ((j : ℕ) → j < k → getD slots j freeSlot ≡ slotIn w (i + 4 * j)))
 
 abbrev μ-loop : tie.MeasureT-loop
-μ-loop w i slots₀ k₀ slots k = 16 - k
+μ-loop w i b slots₀ k₀ slots k = 16 - k
 
-slot-at-requires : tie.Need-slot-at-requires Inv-loop μ-loop
-slot-at-requires c κs = search needs
+ids-at-requires : tie.Need-ids-at-requires Inv-loop μ-loop
+ids-at-requires c κs = search needs
+
+no-slot-requires : tie.Need-no-slot-requires Inv-loop μ-loop
+no-slot-requires c κs = search needs
 
 loop-holds : tie.Need-loop-holds Inv-loop μ-loop
 loop-holds c = (omega arith, (search needs, λ j h. absurd (omega arith)))
@@ -30,8 +34,16 @@ mul-slot-at c = omega arith
 add-slot-at : tie.Need-add-slot-at Inv-loop μ-loop
 add-slot-at c = omega arith
 
-slot-at-requires-2 : tie.Need-slot-at-requires-2 Inv-loop μ-loop
-slot-at-requires-2 c κs = omega arith
+slice-aggregate-slot-at : tie.Need-slice-aggregate-slot-at Inv-loop μ-loop
+slice-aggregate-slot-at c = search needs
+
+mul-slot-at-2 : tie.Need-mul-slot-at-2 Inv-loop μ-loop
+mul-slot-at-2 c = omega arith
+
+slot-at-requires : tie.Need-slot-at-requires Inv-loop μ-loop
+slot-at-requires c κs =
+    let e : length (c .before .before .before .before .ids-at .result) ≡ 256 = search needs in
+    (omega arith, omega arith)
 
 mul-slots : tie.Need-mul-slots Inv-loop μ-loop
 mul-slots c = omega arith
@@ -47,13 +59,16 @@ loop-less c = omega arith
 
 loop-again : tie.Need-loop-again Inv-loop μ-loop
 loop-again c =
-    let l = c .before .before .loop in
-    (omega arith, (length-set (l .slots) (l .k) (c .slot-at2 .result) ∙ l .inv .1 .0, fill-next _ (l .slots) (l .k) freeSlot (c .slot-at2 .result) (omega arith) (l .inv .1 .1) (c .slot-at2 .ensures)))
+    let l = c .before .before .before .loop in
+    let a = c .before .before .before .before .before .before .before .args in
+    let e = c .slot-at .ensures ∙ slot-whole (a .w .now) (c .before .before .before .before .before .ids-at .result) (a .i) (l .k) (c .before .before .before .before .before .ids-at .ensures) (omega arith) in
+    (omega arith, (length-set (l .slots) (l .k) (c .slot-at .result) ∙ l .inv .1 .0, fill-next _ (l .slots) (l .k) freeSlot (c .slot-at .result) (omega arith) (l .inv .1 .1) e))
 
 returns : tie.Need-returns Inv-loop μ-loop
 returns c =
     let l = c .before .loop in
-    awaited-get (c .before .before .before .before .args .w .now) (c .before .before .before .before .args .i) (l .slots) (l .k) (omega arith) (l .inv .1 .0) (l .inv .1 .1)
+    let a = c .before .before .before .before .before .args in
+    awaited-get (a .w .now) (a .i) (l .slots) (l .k) (omega arith) (l .inv .1 .0) (l .inv .1 .1)
 
 pub awaited-at-spec : {M : Type 1} → statement M
 awaited-at-spec =
@@ -61,11 +76,14 @@ awaited-at-spec =
     (tie.spec
     Inv-loop
     μ-loop
-    slot-at-requires
+    ids-at-requires
+    no-slot-requires
     loop-holds
     mul-slot-at
     add-slot-at
-    slot-at-requires-2
+    slice-aggregate-slot-at
+    mul-slot-at-2
+    slot-at-requires
     mul-slots
     array-set-from-slots
     add-k
