@@ -107,7 +107,7 @@ module _ (b : List ℕ) (links primary period first time : ℕ) where
   starts-not ws xs e =
       record {
         step = notAccepted;
-        starts = refuses (λ t v p w. true≢false (sym (all-within links primary period first time w) ∙ e));
+        starts = refuses (λ edition t v p w. true≢false (sym (all-within links primary period first time w) ∙ e));
         begun = nothing-begun notAccepted ws xs refl;
       }
 

@@ -36,18 +36,18 @@ module _ (links primary period first time : ℕ) where
       (λ e. subst (Starts b links primary period first time) (sym (taken r e)) (made r q e))
       (λ e.
       subst (Starts b links primary period first time) (sym (not-taken r e))
-      (refuses (λ t v p w. true≢false (sym (all-within links primary period first time w) ∙ e))))
+      (refuses (λ edition t v p w. true≢false (sym (all-within links primary period first time w) ∙ e))))
     where
       made : (r : TableRead) → Reads b r → isWithin links primary period first time ≡ true
           → Starts b links primary period first time (judgedBy (r .verdict) (fresh (r .table) links (primaryOf primary) period first time))
       made r (reads v p) e = starts v p (within-all links primary period first time e)
-      made r (no-table n) e = refuses (λ t v p w. n t v p)
+      made r (no-table n) e = refuses (λ edition t v p w. n edition t v p)
 
   -- one result for each input
   pub once : {b : List ℕ} {r q : Step} → Starts b links primary period first time r → Starts b links primary period first time q → r ≡ q
   once (starts v p w) (starts x y z) =
       ap (λ (d : TableRead). record { site = fresh (d .table) links (primaryOf primary) period first time; answer = Done nothingOf })
       (one-table (reads v p) (reads x y))
-  once (starts {t = t} v p w) (refuses n) = absurd (n t v p w)
-  once (refuses n) (starts {t = t} v p w) = absurd (n t v p w)
+  once (starts {edition = m} {t = t} v p w) (refuses n) = absurd (n m t v p w)
+  once (refuses n) (starts {edition = m} {t = t} v p w) = absurd (n m t v p w)
   once (refuses n) (refuses m) = refl

@@ -26,7 +26,7 @@ pub record Within (links primary period first time : ℕ) : Type 0 where
   pub latest : time ≤ lastTime
 
 pub data Starts (b : List ℕ) (links primary period first time : ℕ) : Step → Type 0 where
-  starts : {t : Table} → Allowed t → tableBytes t ≡ b → Within links primary period first time
+  starts : {edition : ℕ} {t : Table} → Allowed edition t → tableBytes edition t ≡ b → Within links primary period first time
       → Starts b links primary period first time (record { site = fresh (memoryOf t) links (primaryOf primary) period first time; answer = Done nothingOf })
-  refuses : ((t : Table) → Allowed t → tableBytes t ≡ b → Within links primary period first time → ⊥)
+  refuses : ((edition : ℕ) (t : Table) → Allowed edition t → tableBytes edition t ≡ b → Within links primary period first time → ⊥)
       → Starts b links primary period first time (record { site = noSite; answer = Refused NotAccepted })

@@ -115,7 +115,7 @@ fn begin(
     first: u64,
     time: u64,
 ) -> Answer
-    requires { ⌜ (length (now w) ≡ 1173) × (length (now t) ≡ 4752) ⌝ }
+    requires { ⌜ (length (now w) ≡ 1173) × (length (now t) ≡ 6178) ⌝ }
     ensures { λ r. ⌜ Begun (judgedBy (read .verdict) (fresh (read .table) links primary period first time)) (now (w .entry)) (now (w .exit)) (now (t .entry)) (now (t .exit)) r ⌝ }
 {
     let table = read.table;
@@ -141,7 +141,7 @@ pub fn start(
     first: u64,
     time: u64,
 ) -> Answer
-    requires { ⌜ (length (now w) ≡ 1173) × (length (now t) ≡ 4752) ⌝ }
+    requires { ⌜ (length (now w) ≡ 1173) × (length (now t) ≡ 6178) ⌝ }
     ensures { λ r. ⌜ StartsIn (now (table .entry)) links primary period first time (now (w .entry)) (now (w .exit)) (now (t .entry)) (now (t .exit)) r ⌝ }
 {
     if within(links, primary, period, first, time) {

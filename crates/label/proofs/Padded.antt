@@ -26,9 +26,9 @@ length-padded n z xs h = length-append xs _ ∙ ap (λ (m : ℕ). length xs + m)
 pub take-padded : {A : Type 0} (n : ℕ) (z : A) (xs : List A) → take (length xs) (padded n z xs) ≡ xs
 take-padded n z xs = take-at xs _ (length xs) refl
 
--- one byte more of a text
-pub copy-one : (n : ℕ) (s : List ℕ) (i : ℕ) → i < n → i < length s → set (padded n 0 (take i s)) i (getD s i 0) ≡ padded n 0 (take (i + 1) s)
-copy-one n s i h l = set-padded n 0 (take i s) i (getD s i 0) (length-take-le i s (omega arith)) h ∙ ap (padded n 0) (sym (take-suc s i 0 l) ∙ ap (λ (m : ℕ). take m s) (sym (add-one i)))
+-- one element more
+pub copy-one : {A : Type 0} (n : ℕ) (z d : A) (s : List A) (i : ℕ) → i < n → i < length s → set (padded n z (take i s)) i (getD s i d) ≡ padded n z (take (i + 1) s)
+copy-one n z d s i h l = set-padded n z (take i s) i (getD s i d) (length-take-le i s (omega arith)) h ∙ ap (padded n z) (sym (take-suc s i d l) ∙ ap (λ (m : ℕ). take m s) (sym (add-one i)))
 
 -- the first n bytes of a text, or all of them
 pub take-min : (n : ℕ) (s : List ℕ) → take (min (length s) n) s ≡ take n s

@@ -11,7 +11,7 @@ use Rattle.label.specs.declared.LabelRead.{LabelRead}
 use Rattle.label.specs.Label.{labelOf, noLabel}
 
 abbrev pub far : ℕ
-far = 4096
+far = 8192
 
 -- what would be the string at a place
 abbrev pub textAt : List ℕ → ℕ → List ℕ

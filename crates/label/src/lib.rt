@@ -20,7 +20,7 @@ pub struct LabelRead {
 }
 
 // A place behind every table's end: nothing is read there.
-pub const FAR: usize = 4096;
+pub const FAR: usize = 8192;
 
 fn wide(b: u8) -> usize
     ensures { λ r. ⌜ r ≡ b ⌝ }

@@ -1,18 +1,20 @@
--- A signed value to its 32 bits or its four bytes and back, both ways.
+-- A signed value to its 32 bits, its four bytes or its 16 bits and back, both ways.
 -- Assumes nothing.
-use mathlib.Core.Path.{_≡_, sym, ap, subst, _∙_}
+use mathlib.Core.Path.{_≡_, refl, sym, ap, subst, _∙_}
 use mathlib.Core.List.{List}
-use Prim.Native.Nat.{ℕ, suc, _-_, _^_, _<_}
+use Prim.Native.Nat.{ℕ, suc, _-_, _^_, _≤_, _<_}
 use native.Mathlib.Omega.{arith}
 use lib.IntN.{ℤ, pos, negsuc, _+ℤ_}
 use lib.ListN.{length, replicate}
-use borrow.Author.Tests.{le-ltb}
+use lib.Dec.{ltb}
+use borrow.Author.Tests.{lt-ltb, le-ltb, ltb-true, ltb-false}
 use mir.Syntax.{w32}
 use mir.Val.{toZ, ofZ}
 use mir.Facts.{toZ-ofZ, ofZ-toZ, sfits-toZ}
+use Rattle.basis.proofs.Cases.{picked}
 use Rattle.bits.specs.Fields.{Within, total, numberOf, bytesOf}
 use Rattle.bits.proofs.Bytes.{number-bytes, bytes-number, number-lt}
-use Rattle.number.specs.Signed.{Signed32, wordOf, signedOf, fourOf, signedIn}
+use Rattle.number.specs.Signed.{Signed32, wordOf, signedOf, Signed16, word16Of, signed16Of, fourOf, signedIn}
 use Rattle.number.proofs.Sign.{word-is, signed-is, signed-fits, fits-signed}
 
 pub signed-word : (v : ℤ) → Signed32 v → signedOf (wordOf v) ≡ v
@@ -47,3 +49,31 @@ four-signed bs l w =
 -- a value as a signed function hands it on
 pub passed-on : (w : ℕ) → w < 2 ^ 32 → toZ w32 (ofZ w32 (signedOf w)) ≡ signedOf w
 passed-on w h = toZ-ofZ (fits-signed (signedOf w) (signed-range w h))
+
+pub signed-word-16 : (v : ℤ) → Signed16 v → signed16Of (word16Of v) ≡ v
+signed-word-16 (pos n) h = simp (lt-ltb n (2 ^ 15) h)
+signed-word-16 (negsuc n) h =
+    let l : 2 ^ 15 ≤ 2 ^ 16 - suc n = omega arith in
+    let e : 2 ^ 16 - suc (2 ^ 16 - suc n) ≡ n = omega arith in
+    simp (le-ltb (2 ^ 16 - suc n) (2 ^ 15) l, e)
+
+pub word-lt-16 : (v : ℤ) → Signed16 v → word16Of v < 2 ^ 16
+word-lt-16 (pos n) h = omega arith
+word-lt-16 (negsuc n) h = omega arith
+
+module _ (w : ℕ) (h : w < 2 ^ 16) where
+  pub word-signed-16 : word16Of (signed16Of w) ≡ w
+  word-signed-16 = picked (λ (z : ℤ). word16Of z ≡ w) (ltb w (2 ^ 15)) (pos w) (negsuc (2 ^ 16 - suc w)) (λ e. refl) (λ e. omega arith)
+
+  pub signed-range-16 : Signed16 (signed16Of w)
+  signed-range-16 =
+      picked Signed16 (ltb w (2 ^ 15)) (pos w) (negsuc (2 ^ 16 - suc w))
+      (λ e. ltb-true w (2 ^ 15) e)
+      (λ e. let l = ltb-false w (2 ^ 15) e in omega arith)
+
+pub signed-wide : (v : ℤ) → Signed16 v → Signed32 v
+signed-wide (pos n) h = omega arith
+signed-wide (negsuc n) h = omega arith
+
+pub passed-on-16 : (w : ℕ) → w < 2 ^ 16 → toZ w32 (ofZ w32 (signed16Of w)) ≡ signed16Of w
+passed-on-16 w h = toZ-ofZ (fits-signed (signed16Of w) (signed-wide (signed16Of w) (signed-range-16 w h)))

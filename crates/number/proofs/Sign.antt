@@ -3,7 +3,7 @@
 use mathlib.Core.Path.{_≡_, refl, sym, ap, subst, _∙_}
 use mathlib.Core.Bool.{Bool, true, false}
 use mathlib.Core.Logic.{_⊎_, ⊎-elim}
-use Prim.Native.Nat.{ℕ, suc, _-_, _%_, _^_, _≤_, _<_}
+use Prim.Native.Nat.{ℕ, suc, _+_, _-_, _%_, _^_, _≤_, _<_}
 use native.Mathlib.Nat.{mod-lt}
 use native.Mathlib.Omega.{arith}
 use lib.Dec.{T, ltb, leb·suc-zero}
@@ -11,13 +11,13 @@ use lib.IntN.{ℤ, pos, negsuc, natAbs}
 use lib.Signed.{ltZ, nonNeg}
 use lib.Pow.{pow-pos}
 use lib.Bits.{bitAnd, bitOr, and-mask, mask-lt, or-shifted-r}
-use borrow.Author.Tests.{le-ltb}
+use borrow.Author.Tests.{lt-ltb, le-ltb}
 use mir.Syntax.{w32}
 use mir.Val.{SFits, Fits, toZ, ofZ, sel}
 use mir.Facts.{toZ-pos, fits-mask}
 use Rattle.basis.specs.Pick.{pick}
 use Rattle.basis.proofs.Cases.{le-or-lt}
-use Rattle.number.specs.Signed.{Signed32, wordOf, signedOf}
+use Rattle.number.specs.Signed.{Signed32, wordOf, signedOf, signed16Of}
 
 -- the machine's reading of bits is that of the definitions
 pub word-is : (v : ℤ) → ofZ w32 v ≡ wordOf v
@@ -63,3 +63,15 @@ low31-asks a = subst (λ (z : ℤ). T (nonNeg z) × Fits w32 (natAbs z)) (sym (t
 -- a number of 32 bits with the top bit set
 pub with-top : (a : ℕ) → 2 ^ 31 ≤ a → a < 2 ^ 32 → bitOr (a % 2 ^ 31) (2 ^ 31) ≡ a
 with-top a h l = or-shifted-r 1 31 (a % 2 ^ 31) (mod-lt a (pow-pos 31)) ∙ omega arith
+
+-- 16 bits, and the same value in 32
+pub small-16 : (w : ℕ) → w < 2 ^ 15 → toZ w32 w ≡ signed16Of w
+small-16 w h =
+    let l : w < 2 ^ 31 = omega arith in
+    toZ-pos w32 l ∙ sym (simp (lt-ltb w (2 ^ 15) h))
+
+pub large-16 : (w : ℕ) → 2 ^ 15 ≤ w → w < 2 ^ 16 → signedOf (4294901760 + w) ≡ signed16Of w
+large-16 w h l =
+    let n : 2 ^ 31 ≤ 4294901760 + w = omega arith in
+    let e : 2 ^ 32 - suc (4294901760 + w) ≡ 2 ^ 16 - suc w = omega arith in
+    simp (le-ltb (4294901760 + w) (2 ^ 31) n, le-ltb w (2 ^ 15) h, e)

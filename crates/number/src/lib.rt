@@ -4,7 +4,7 @@ ghost use mathlib.Core.List.{[], _∷_};
 ghost use Prim.Native.Nat.{_+_, _-_, _*_, _%_, _≤_, _<_};
 ghost use lib.ListN.{length, drop};
 ghost use Rattle.output.specs.Put.{Wrote};
-ghost use Rattle.number.specs.Signed.{wordOf, signedOf, fourOf, signedIn};
+ghost use Rattle.number.specs.Signed.{wordOf, signedOf, signed16Of, atMost, fourOf, signedIn};
 ghost use Rattle.number.specs.Decimal.{digits, decimalOf};
 ghost use Rattle.number.specs.Reading.{Reads, ReadsInt, says};
 ghost use Rattle.number.specs.Alphabet.{inAlphabet, isLabel};
@@ -32,6 +32,24 @@ pub fn signed_of(w: u32) -> i32
     } else {
         ((w & 0x7fff_ffff) as i32) | -2147483648
     }
+}
+
+// The value whose two's complement in 16 bits is w.
+pub fn signed16_of(w: u16) -> i32
+    ensures { λ r. ⌜ r ≡ signed16Of w ⌝ }
+{
+    if w < 0x8000 {
+        w as i32
+    } else {
+        signed_of(0xffff_0000 + (w as u32))
+    }
+}
+
+// Whether a is not above b.
+pub fn at_most(a: i32, b: i32) -> bool
+    ensures { λ r. ⌜ r ≡ atMost a b ⌝ }
+{
+    a <= b
 }
 
 pub fn four_of(v: i32) -> Four

@@ -76,6 +76,32 @@ fn put_rows(line: &mut [u8], at: usize, rows: [Item; 32], count: usize) -> usize
     end
 }
 
+// A command, with its lowest and its highest value as they stand in the bits.
+fn put_command(line: &mut [u8], at: usize, row: Item) -> usize {
+    let end = put_number(line, at, row.component as u64);
+    let end = put_called(line, end, row);
+    let end = put_number(line, end, row.lowest as u64);
+    put_number(line, end, row.highest as u64)
+}
+
+fn put_command_of(line: &mut [u8], at: usize, rows: [Item; 16], i: usize) -> usize {
+    if i < 16 {
+        put_command(line, at, rows[i])
+    } else {
+        at
+    }
+}
+
+fn put_commands(line: &mut [u8], at: usize, rows: [Item; 16], count: usize) -> usize {
+    let mut end = at;
+    let mut i = 0;
+    while i < count {
+        end = put_command_of(line, end, rows, i);
+        i += 1;
+    }
+    end
+}
+
 fn put_counts(line: &mut [u8], at: usize, t: SiteTable) -> usize {
     let end = put_number(line, at, t.componentcount as u64);
     let end = put_number(line, end, t.alarmcount as u64);
@@ -94,10 +120,12 @@ fn put_labels(line: &mut [u8], at: usize, t: SiteTable) -> usize {
 fn put_table(line: &mut [u8], t: SiteTable) -> usize {
     let alarms = t.alarms;
     let statuses = t.statuses;
+    let commands = t.commands;
     let end = put_counts(line, 0, t);
     let end = put_labels(line, end, t);
     let end = put_rows(line, end, alarms, t.alarmcount as usize);
-    put_rows(line, end, statuses, t.statuscount as usize)
+    let end = put_rows(line, end, statuses, t.statuscount as usize);
+    put_commands(line, end, commands, t.commandcount as usize)
 }
 
 fn put_read(line: &mut [u8], read: TableRead) -> usize {
@@ -161,7 +189,7 @@ fn said(kind: u8, body: &[u8], read: TableRead, line: &mut [u8]) -> usize {
 
 fn taken(read: TableRead) -> Turn {
     let mut body = [0u8; 8192];
-    let mut line = [0u8; 8192];
+    let mut line = [0u8; 12288];
     match run_feed::next(&mut body) {
         Case::Body(kind, n) => {
             if body.len() < n {

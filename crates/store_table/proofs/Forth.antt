@@ -51,30 +51,35 @@ label-forth bs i l e h =
     let c = list-is (λ (j : ℕ). word bs (i + j)) 32 (l .bytes) 0 e (λ j g. sym (a j (omega arith))) in
     ap₂ (λ (m : List ℕ) (n : ℕ). record { bytes = m; length = n }) (sym c) b
 
-item-long : (x : Item) → ItemFits x → length (itemBytes x) ≡ 69
+item-long : (x : Item) → ItemFits x → length (itemBytes x) ≡ 73
 unfolding itemBytes
 item-long x f =
     let p = label-long (x .code) (f .code) in
     let q = label-long (x .name) (f .name) in
-    let rest = x .component ∷ x .priority ∷ x .category ∷ [] in
+    let rest = x .component ∷ x .priority ∷ x .category ∷ (countBytes (x .lowest) ++ countBytes (x .highest)) in
     length-append (labelBytes (x .code)) (labelBytes (x .name) ++ rest)
-    ∙ ap₂ (λ (m n : ℕ). m + n) p (length-append (labelBytes (x .name)) rest ∙ ap (λ (n : ℕ). n + 3) q)
+    ∙ ap₂ (λ (m n : ℕ). m + n) p (length-append (labelBytes (x .name)) rest ∙ ap (λ (n : ℕ). n + 7) q)
 
 item-forth : (bs : List ℕ) (i : ℕ) (x : Item) → ItemFits x → Holds bs i (itemBytes x) → itemIn bs i ≡ x
 unfolding itemBytes itemIn
 item-forth bs i x f h =
-    let rest = x .component ∷ x .priority ∷ x .category ∷ [] in
+    let rest = x .component ∷ x .priority ∷ x .category ∷ (countBytes (x .lowest) ++ countBytes (x .highest)) in
     let p = second bs i 33 (i + 33) (labelBytes (x .code)) (labelBytes (x .name) ++ rest) (label-long (x .code) (f .code)) refl h in
     let q = second bs (i + 33) 33 (i + 66) (labelBytes (x .name)) rest (label-long (x .name) (f .name)) (omega arith) p in
-    let c : word bs (i + 66) ≡ x .component = head bs (i + 66) (x .component) (x .priority ∷ x .category ∷ []) q in
+    let c : word bs (i + 66) ≡ x .component = head bs (i + 66) (x .component) (x .priority ∷ x .category ∷ (countBytes (x .lowest) ++ countBytes (x .highest))) q in
     let d : word bs (i + 67) ≡ x .priority = let z : i + 67 ≡ i + 66 + 1 = omega arith in ap (word bs) z ∙ q 1 (omega arith) in
     let e : word bs (i + 68) ≡ x .category = let z : i + 68 ≡ i + 66 + 2 = omega arith in ap (word bs) z ∙ q 2 (omega arith) in
+    let r = second bs (i + 66) 3 (i + 69) (x .component ∷ x .priority ∷ x .category ∷ []) (countBytes (x .lowest) ++ countBytes (x .highest)) refl (omega arith) q in
+    let low = count-forth bs (i + 69) (x .lowest) (first bs (i + 69) (countBytes (x .lowest)) (countBytes (x .highest)) r) in
+    let high = count-forth bs (i + 71) (x .highest) (second bs (i + 69) 2 (i + 71) (countBytes (x .lowest)) (countBytes (x .highest)) refl (omega arith) r) in
     rw (
       label-forth bs i (x .code) (f .code) (first bs i (labelBytes (x .code)) (labelBytes (x .name) ++ rest) h),
       label-forth bs (i + 33) (x .name) (f .name) (first bs (i + 33) (labelBytes (x .name)) rest p),
       c,
       d,
       e,
+      low,
+      high,
     )
 
 -- elements of n bytes each, element k at `at k`
@@ -100,7 +105,7 @@ abbrev labels-at : ℕ → ℕ
 labels-at k = 33 * k
 
 abbrev items-at : ℕ → ℕ
-items-at k = 69 * k
+items-at k = 73 * k
 
 module _ (bs : List ℕ) (i : ℕ) where
   labels-forth : (l : List Label) → length l ≡ 8 → ((k : ℕ) → k < 8 → LabelFits (getD l k noLabel)) → Holds bs i (inTurn labelBytes l) → labelsIn bs i ≡ l
@@ -111,21 +116,21 @@ module _ (bs : List ℕ) (i : ℕ) where
       (λ k g. sym (label-forth bs (i + 33 * k) (getD l k noLabel) (f k g)
       (turn-at labelBytes 33 labels-at refl (λ m. omega arith) noLabel bs i l long h k (omega arith)))))
 
-  items-forth : (l : List Item) → length l ≡ 32 → ((k : ℕ) → k < 32 → ItemFits (getD l k noItem)) → Holds bs i (inTurn itemBytes l) → itemsIn bs i ≡ l
+  items-forth : (n : ℕ) (l : List Item) → length l ≡ n → ((k : ℕ) → k < n → ItemFits (getD l k noItem)) → Holds bs i (inTurn itemBytes l) → itemsIn bs i n ≡ l
   unfolding itemsIn
-  items-forth l e f h =
-      let long : (k : ℕ) → k < length l → length (itemBytes (getD l k noItem)) ≡ 69 = λ k g. item-long (getD l k noItem) (f k (omega arith)) in
-      sym (list-is (λ (k : ℕ). itemIn bs (i + 69 * k)) 32 l noItem e
-      (λ k g. sym (item-forth bs (i + 69 * k) (getD l k noItem) (f k g)
-      (turn-at itemBytes 69 items-at refl (λ m. omega arith) noItem bs i l long h k (omega arith)))))
+  items-forth n l e f h =
+      let long : (k : ℕ) → k < length l → length (itemBytes (getD l k noItem)) ≡ 73 = λ k g. item-long (getD l k noItem) (f k (omega arith)) in
+      sym (list-is (λ (k : ℕ). itemIn bs (i + 73 * k)) n l noItem e
+      (λ k g. sym (item-forth bs (i + 73 * k) (getD l k noItem) (f k g)
+      (turn-at itemBytes 73 items-at refl (λ m. omega arith) noItem bs i l long h k (omega arith)))))
 
 labels-long : (l : List Label) → length l ≡ 8 → ((k : ℕ) → k < 8 → LabelFits (getD l k noLabel)) → length (inTurn labelBytes l) ≡ 264
 labels-long l e f =
     turn-long labelBytes 33 labels-at refl (λ m. omega arith) noLabel l (λ k g. label-long (getD l k noLabel) (f k (omega arith))) ∙ ap labels-at e
 
-items-long : (l : List Item) → length l ≡ 32 → ((k : ℕ) → k < 32 → ItemFits (getD l k noItem)) → length (inTurn itemBytes l) ≡ 2208
-items-long l e f =
-    turn-long itemBytes 69 items-at refl (λ m. omega arith) noItem l (λ k g. item-long (getD l k noItem) (f k (omega arith))) ∙ ap items-at e
+items-long : (n : ℕ) (l : List Item) → length l ≡ n → ((k : ℕ) → k < n → ItemFits (getD l k noItem)) → length (inTurn itemBytes l) ≡ 73 * n
+items-long n l e f =
+    turn-long itemBytes 73 items-at refl (λ m. omega arith) noItem l (λ k g. item-long (getD l k noItem) (f k (omega arith))) ∙ ap items-at e
 
 module _ (x : SiteTable) (f : TableFits x) where
   abbrev c : List ℕ
@@ -137,57 +142,75 @@ module _ (x : SiteTable) (f : TableFits x) where
   abbrev s : List ℕ
   s = countBytes (x .statuscount)
 
+  abbrev k : List ℕ
+  k = countBytes (x .commandcount)
+
   abbrev names : List ℕ
   names = labelBytes (x .site) ++ labelBytes (x .sxl)
 
-  head-long : length (headBytes x) ≡ 72
+  head-long : length (headBytes x) ≡ 74
   unfolding headBytes
   head-long =
       let n : length names ≡ 66 = length-append (labelBytes (x .site)) (labelBytes (x .sxl)) ∙ ap₂ (λ (p q : ℕ). p + q) (label-long (x .site) (f .site)) (label-long (x .sxl) (f .sxl)) in
       omega (arith, n)
 
+  abbrev ls : List ℕ
+  ls = inTurn itemBytes (x .alarms)
+
+  abbrev ss : List ℕ
+  ss = inTurn itemBytes (x .statuses)
+
+  abbrev ks : List ℕ
+  ks = inTurn itemBytes (x .commands)
+
   abbrev lists : List ℕ
-  lists = inTurn labelBytes (x .components) ++ (inTurn itemBytes (x .alarms) ++ inTurn itemBytes (x .statuses))
+  lists = inTurn labelBytes (x .components) ++ (ls ++ (ss ++ ks))
 
   module _ (bs : List ℕ) (h : Holds bs 0 (headBytes x)) where
-    from-2 : Holds bs 2 (a ++ (s ++ names))
+    from-2 : Holds bs 2 (a ++ (s ++ (k ++ names)))
     unfolding headBytes
-    from-2 = second bs 0 2 2 c (a ++ (s ++ names)) refl refl h
+    from-2 = second bs 0 2 2 c (a ++ (s ++ (k ++ names))) refl refl h
 
-    from-4 : Holds bs 4 (s ++ names)
-    from-4 = second bs 2 2 4 a (s ++ names) refl refl from-2
+    from-4 : Holds bs 4 (s ++ (k ++ names))
+    from-4 = second bs 2 2 4 a (s ++ (k ++ names)) refl refl from-2
 
-    from-6 : Holds bs 6 names
-    from-6 = second bs 4 2 6 s names refl refl from-4
+    from-6 : Holds bs 6 (k ++ names)
+    from-6 = second bs 4 2 6 s (k ++ names) refl refl from-4
+
+    from-8 : Holds bs 8 names
+    from-8 = second bs 6 2 8 k names refl refl from-6
 
     components-forth : countIn bs 0 ≡ x .componentcount
     unfolding headBytes
-    components-forth = count-forth bs 0 (x .componentcount) (first bs 0 c (a ++ (s ++ names)) h)
+    components-forth = count-forth bs 0 (x .componentcount) (first bs 0 c (a ++ (s ++ (k ++ names))) h)
 
     alarms-forth : countIn bs 2 ≡ x .alarmcount
-    alarms-forth = count-forth bs 2 (x .alarmcount) (first bs 2 a (s ++ names) from-2)
+    alarms-forth = count-forth bs 2 (x .alarmcount) (first bs 2 a (s ++ (k ++ names)) from-2)
 
     statuses-forth : countIn bs 4 ≡ x .statuscount
-    statuses-forth = count-forth bs 4 (x .statuscount) (first bs 4 s names from-4)
+    statuses-forth = count-forth bs 4 (x .statuscount) (first bs 4 s (k ++ names) from-4)
 
-    site-forth : labelIn bs 6 ≡ x .site
-    site-forth = label-forth bs 6 (x .site) (f .site) (first bs 6 (labelBytes (x .site)) (labelBytes (x .sxl)) from-6)
+    commands-forth : countIn bs 6 ≡ x .commandcount
+    commands-forth = count-forth bs 6 (x .commandcount) (first bs 6 k names from-6)
 
-    sxl-forth : labelIn bs 39 ≡ x .sxl
-    sxl-forth = label-forth bs 39 (x .sxl) (f .sxl) (second bs 6 33 39 (labelBytes (x .site)) (labelBytes (x .sxl)) (label-long (x .site) (f .site)) refl from-6)
+    site-forth : labelIn bs 8 ≡ x .site
+    site-forth = label-forth bs 8 (x .site) (f .site) (first bs 8 (labelBytes (x .site)) (labelBytes (x .sxl)) from-8)
+
+    sxl-forth : labelIn bs 41 ≡ x .sxl
+    sxl-forth = label-forth bs 41 (x .sxl) (f .sxl) (second bs 8 33 41 (labelBytes (x .site)) (labelBytes (x .sxl)) (label-long (x .site) (f .site)) refl from-8)
 
   module _ (bs : List ℕ) (h : Holds bs 0 (headBytes x ++ lists)) where
-    rows-72 : Holds bs 72 lists
-    rows-72 = second bs 0 72 72 (headBytes x) lists head-long refl h
+    rows-74 : Holds bs 74 lists
+    rows-74 = second bs 0 74 74 (headBytes x) lists head-long refl h
 
-    rows-336 : Holds bs 336 (inTurn itemBytes (x .alarms) ++ inTurn itemBytes (x .statuses))
-    rows-336 =
-        second bs 72 264 336 (inTurn labelBytes (x .components)) (inTurn itemBytes (x .alarms) ++ inTurn itemBytes (x .statuses))
-        (labels-long (x .components) (f .components) (f .component)) refl rows-72
+    rows-338 : Holds bs 338 (ls ++ (ss ++ ks))
+    rows-338 = second bs 74 264 338 (inTurn labelBytes (x .components)) (ls ++ (ss ++ ks)) (labels-long (x .components) (f .components) (f .component)) refl rows-74
 
-    rows-2544 : Holds bs 2544 (inTurn itemBytes (x .statuses))
-    rows-2544 =
-        second bs 336 2208 2544 (inTurn itemBytes (x .alarms)) (inTurn itemBytes (x .statuses)) (items-long (x .alarms) (f .alarms) (f .alarm)) refl rows-336
+    rows-2674 : Holds bs 2674 (ss ++ ks)
+    rows-2674 = second bs 338 2336 2674 ls (ss ++ ks) (items-long 32 (x .alarms) (f .alarms) (f .alarm)) refl rows-338
+
+    rows-5010 : Holds bs 5010 ks
+    rows-5010 = second bs 2674 2336 5010 ss ks (items-long 32 (x .statuses) (f .statuses) (f .status)) refl rows-2674
 
     all-forth : tableOf bs ≡ x
     unfolding tableOf
@@ -197,24 +220,27 @@ module _ (x : SiteTable) (f : TableFits x) where
           components-forth bs g,
           alarms-forth bs g,
           statuses-forth bs g,
+          commands-forth bs g,
           site-forth bs g,
           sxl-forth bs g,
-          labels-forth bs 72 (x .components) (f .components) (f .component)
-              (first bs 72 (inTurn labelBytes (x .components)) (inTurn itemBytes (x .alarms) ++ inTurn itemBytes (x .statuses)) rows-72),
-          items-forth bs 336 (x .alarms) (f .alarms) (f .alarm) (first bs 336 (inTurn itemBytes (x .alarms)) (inTurn itemBytes (x .statuses)) rows-336),
-          items-forth bs 2544 (x .statuses) (f .statuses) (f .status) rows-2544,
+          labels-forth bs 74 (x .components) (f .components) (f .component) (first bs 74 (inTurn labelBytes (x .components)) (ls ++ (ss ++ ks)) rows-74),
+          items-forth bs 338 32 (x .alarms) (f .alarms) (f .alarm) (first bs 338 ls (ss ++ ks) rows-338),
+          items-forth bs 2674 32 (x .statuses) (f .statuses) (f .status) (first bs 2674 ss ks rows-2674),
+          items-forth bs 5010 16 (x .commands) (f .commands) (f .command) rows-5010,
         )
 
   pub table-forth : tableOf (layoutOf x) ≡ x
   unfolding layoutOf
   table-forth = all-forth (headBytes x ++ lists) (λ j g. ap (word (headBytes x ++ lists)) (zero-add j))
 
-  pub layout-length : length (layoutOf x) ≡ 4752
+  pub layout-length : length (layoutOf x) ≡ 6178
   unfolding layoutOf
   layout-length =
       length-append (headBytes x) lists
       ∙ ap₂ (λ (m n : ℕ). m + n) head-long
-      (length-append (inTurn labelBytes (x .components)) (inTurn itemBytes (x .alarms) ++ inTurn itemBytes (x .statuses))
+      (length-append (inTurn labelBytes (x .components)) (ls ++ (ss ++ ks))
       ∙ ap₂ (λ (m n : ℕ). m + n) (labels-long (x .components) (f .components) (f .component))
-      (length-append (inTurn itemBytes (x .alarms)) (inTurn itemBytes (x .statuses))
-      ∙ ap₂ (λ (m n : ℕ). m + n) (items-long (x .alarms) (f .alarms) (f .alarm)) (items-long (x .statuses) (f .statuses) (f .status))))
+      (length-append ls (ss ++ ks)
+      ∙ ap₂ (λ (m n : ℕ). m + n) (items-long 32 (x .alarms) (f .alarms) (f .alarm))
+      (length-append ss ks
+      ∙ ap₂ (λ (m n : ℕ). m + n) (items-long 32 (x .statuses) (f .statuses) (f .status)) (items-long 16 (x .commands) (f .commands) (f .command)))))

@@ -5,8 +5,7 @@ use mathlib.Core.Logic.{⊎-elim}
 use mathlib.Core.List.{List, [], _∷_, map}
 use Prim.Native.Nat.{ℕ, zero, suc, _+_, _-_, _<_, _≤_}
 use native.Mathlib.Omega.{arith}
-use lib.ListN.{length, getD, replicate, length-map}
-use lib.Seq.{getD-append-add}
+use lib.ListN.{length, getD, length-map, List·getD-eq-default}
 use Rattle.basis.proofs.Cases.{lt-or-ge}
 use Rattle.label.specs.Padded.{padded}
 use Rattle.label.specs.Label.{labelOf}
@@ -14,10 +13,10 @@ use Rattle.label.proofs.Padded.{length-padded}
 use Rattle.label.proofs.Reading.{label-short}
 use Rattle.table_item.specs.Item.{noItem}
 use Rattle.table_whole.specs.Table.{Row, noRow, Table}
-use Rattle.table_whole.specs.Allowed.{Every, IsString, IsAlarm, IsStatus, Allowed}
+use Rattle.table_whole.specs.Allowed.{Every, IsString, IsAlarm, IsStatus, IsCommand, Allowed}
 use Rattle.table_whole.specs.Allowed.Every.{none, more}
 use Rattle.table_whole.specs.Memory.{itemOf, memoryOf}
-use Rattle.table_whole.proofs.Kept.{kept}
+use Rattle.table_whole.proofs.Kept.{kept, behind-read}
 use Rattle.store_table.specs.Layout.{tableOf, layoutOf}
 use Rattle.store_table.specs.Laid.{LabelFits, ItemFits, TableFits}
 use Rattle.store_table.proofs.Forth.{table-forth}
@@ -30,12 +29,6 @@ every-at d (x ∷ l) (more p e) (suc k) h = every-at d l e k (omega arith)
 label-fits : (s : List ℕ) → IsString s → LabelFits (labelOf s)
 label-fits s h = length-padded 32 0 s (label-short s h)
 
--- behind a list there are the empty ones
-behind : {A : Type 0} (m n : ℕ) (z : A) → getD (replicate m z) n z ≡ z
-behind zero n z = refl
-behind (suc m) zero z = refl
-behind (suc m) (suc n) z = behind m n z
-
 -- each element of a list in its place, and the empty ones behind it
 module _ {A X : Type 0} (f : A → X) (P : X → Type 0) (d : A) (n : ℕ) (l : List A) (most : length l ≤ n) (each : (k : ℕ) → k < length l → P (f (getD l k d))) (empty : P (f d)) where
   padded-long : length (padded n (f d) (map f l)) ≡ n
@@ -45,11 +38,8 @@ module _ {A X : Type 0} (f : A → X) (P : X → Type 0) (d : A) (n : ℕ) (l : 
   padded-fits k h = ⊎-elim
       (λ (g : k < length l). subst P (sym (kept f d n l k g)) (each k g))
       (λ (g : length l ≤ k).
-      let e : k ≡ length (map f l) + (k - length l) = omega (arith, length-map l f) in
       let q : getD (padded n (f d) (map f l)) k (f d) ≡ f d =
-      ap (λ (m : ℕ). getD (padded n (f d) (map f l)) m (f d)) e
-      ∙ getD-append-add (map f l) (replicate (n - length (map f l)) (f d)) (k - length l) (f d)
-      ∙ behind (n - length (map f l)) (k - length l) (f d) in
+      behind-read (n - length (map f l)) (f d) (map f l) k ∙ List·getD-eq-default (map f l) (f d) {n = k} (omega (arith, length-map l f)) in
       subst P (sym q) empty)
       (lt-or-ge k (length l))
 
@@ -62,7 +52,10 @@ alarm-fits n r a = record { code = label-fits (r .code) (a .code); name = ap (λ
 status-fits : (n : ℕ) (r : Row) → IsStatus n r → ItemFits (itemOf r)
 status-fits n r a = record { code = label-fits (r .code) (a .code); name = label-fits (r .name) (a .name) }
 
-pub kept-fits : (t : Table) → Allowed t → TableFits (memoryOf t)
+command-fits : (n : ℕ) (r : Row) → IsCommand n r → ItemFits (itemOf r)
+command-fits n r a = record { code = label-fits (r .code) (a .code); name = label-fits (r .name) (a .name) }
+
+pub kept-fits : {edition : ℕ} (t : Table) → Allowed edition t → TableFits (memoryOf t)
 kept-fits t a =
     let n = length (t .components) in
     let cs : (k : ℕ) → k < length (t .components) → LabelFits (labelOf (getD (t .components) k [])) =
@@ -71,17 +64,21 @@ kept-fits t a =
     λ k h. alarm-fits n (getD (t .alarms) k noRow) (every-at noRow (t .alarms) (a .alarms) k h) in
     let ss : (k : ℕ) → k < length (t .statuses) → ItemFits (itemOf (getD (t .statuses) k noRow)) =
     λ k h. status-fits n (getD (t .statuses) k noRow) (every-at noRow (t .statuses) (a .statuses) k h) in
+    let ks : (k : ℕ) → k < length (t .commands) → ItemFits (itemOf (getD (t .commands) k noRow)) =
+    λ k h. command-fits n (getD (t .commands) k noRow) (every-at noRow (t .commands) (a .commands) k h) in
     record {
       site = label-fits (t .site) (a .site);
       sxl = label-fits (t .sxl) (a .sxl);
       components = padded-long labelOf LabelFits [] 8 (t .components) (a .most-components) cs refl;
       alarms = padded-long itemOf ItemFits noRow 32 (t .alarms) (a .most-alarms) rs no-item-fits;
       statuses = padded-long itemOf ItemFits noRow 32 (t .statuses) (a .most-statuses) ss no-item-fits;
+      commands = padded-long itemOf ItemFits noRow 16 (t .commands) (a .most-commands) ks no-item-fits;
       component = padded-fits labelOf LabelFits [] 8 (t .components) (a .most-components) cs refl;
       alarm = padded-fits itemOf ItemFits noRow 32 (t .alarms) (a .most-alarms) rs no-item-fits;
       status = padded-fits itemOf ItemFits noRow 32 (t .statuses) (a .most-statuses) ss no-item-fits;
+      command = padded-fits itemOf ItemFits noRow 16 (t .commands) (a .most-commands) ks no-item-fits;
     }
 
 -- what start lays out is what is read
-pub kept-table : (t : Table) → Allowed t → tableOf (layoutOf (memoryOf t)) ≡ memoryOf t
+pub kept-table : {edition : ℕ} (t : Table) → Allowed edition t → tableOf (layoutOf (memoryOf t)) ≡ memoryOf t
 kept-table t a = table-forth (memoryOf t) (kept-fits t a)

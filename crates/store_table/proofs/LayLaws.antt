@@ -9,7 +9,6 @@ use native.Mathlib.Omega.{arith}
 use lib.ListN.{length, getD, set, take, length-set}
 use lib.Seq.{take-all, take-suc, take-suc-set}
 use Rattle.label.specs.declared.Label.{Label}
-use Rattle.table_item.specs.declared.Item.{Item}
 use Rattle.table_whole.specs.declared.SiteTable.{SiteTable}
 use Rattle.table_whole.specs.Bytes.{inTurn}
 use Rattle.store_table.specs.Layout.{labelBytes, itemBytes, headBytes, layoutOf}
@@ -60,11 +59,11 @@ label-laid xs ws at k x e n h a =
     then 33 (said a (take-all k (x .bytes) (omega arith))) (one ws (at + k) (x .length) (omega arith)) refl (omega arith)
 
 -- every byte
-pub laid-whole : (xs ys : List ℕ) (x : SiteTable) → length ys ≡ 4752
-    → Laid xs 0 4752 (headBytes x ++ (inTurn labelBytes (x .components) ++ (inTurn itemBytes (x .alarms) ++ inTurn itemBytes (x .statuses)))) ys
+pub laid-whole : (xs ys : List ℕ) (x : SiteTable) → length ys ≡ 6178
+    → Laid xs 0 6178 (headBytes x ++ (inTurn labelBytes (x .components) ++ (inTurn itemBytes (x .alarms) ++ (inTurn itemBytes (x .statuses) ++ inTurn itemBytes (x .commands))))) ys
     → ys ≡ layoutOf x
 unfolding layoutOf
-laid-whole xs ys x e a = sym (take-all 4752 ys (omega arith)) ∙ a .upto
+laid-whole xs ys x e a = sym (take-all 6178 ys (omega arith)) ∙ a .upto
 
 -- all rows, of n bytes together
 pub all-laid : {A : Type 0} (f : A → List ℕ) (l : List A) {xs ys : List ℕ} {at n : ℕ} (k m : ℕ) → length l ≤ k → n ≡ m → Laid xs at n (inTurn f (take k l)) ys → Laid xs at m (inTurn f l) ys
@@ -84,12 +83,3 @@ three xs at a b c h =
     then 3
     (then 2 (one xs at a (omega arith)) (one (set xs at a) (at + 1) b (omega (arith, p))) refl refl)
     (one (set (set xs at a) (at + 1) b) (at + 2) c (omega (arith, p, q))) refl refl
-
-pub item-laid : (xs ys zs : List ℕ) (at : ℕ) (x : Item) → at + 69 ≤ length zs → Laid xs at 33 (labelBytes (x .code)) ys → Laid ys (at + 33) 33 (labelBytes (x .name)) zs
-    → Laid xs at 69 (itemBytes x) (set (set (set zs (at + 66) (x .component)) (at + 67) (x .priority)) (at + 68) (x .category))
-unfolding itemBytes
-item-laid xs ys zs at x h a b =
-    let e : at + 66 + 1 ≡ at + 67 = omega arith in
-    let f : at + 66 + 2 ≡ at + 68 = omega arith in
-    let t = three zs (at + 66) (x .component) (x .priority) (x .category) (omega arith) in
-    then 69 a (then 36 b (rw (e, f) at t) (omega arith) refl) refl refl

@@ -1,32 +1,27 @@
 -- Labels and rows, read from the bytes where they stand.
 -- Assumes nothing.
 use mathlib.Core.Path.{_≡_, refl, sym, ap, ap₂, _∙_}
-use mathlib.Core.List.{List, _++_, append-nil}
+use mathlib.Core.List.{List}
 use Prim.Native.Nat.{ℕ, _+_, _-_, _*_, _<_, _≤_, min}
 use native.Mathlib.Nat.{sub-zero}
 use native.Mathlib.Omega.{arith}
-use lib.ListN.{length, getD, take, drop, replicate, length-drop, List·getD-eq-default}
+use lib.ListN.{length, getD, take, drop, length-drop, List·getD-eq-default}
 use lib.Seq.{length-take-le, take-take, getD-take, getD-drop}
 use Rattle.label.specs.declared.Label.{Label}
-use Rattle.label.specs.Padded.{padded}
 use Rattle.label.specs.Label.{labelOf, noLabel, textOf}
 use Rattle.label.proofs.Text.{text-part}
 use Rattle.table_item.specs.declared.Item.{Item}
 use Rattle.table_item.specs.Item.{noItem}
+use Rattle.table_whole.proofs.Kept.{full}
 use Rattle.store_words.specs.Words.{word, listOf}
 use Rattle.store_words.proofs.Elements.{list-at, list-is, list-length}
-use Rattle.store_table.specs.Layout.{labelIn, itemIn, labelsIn, itemsIn, tableOf}
+use Rattle.store_table.specs.Layout.{countIn, labelIn, itemIn, labelsIn, itemsIn, tableOf}
 
 -- a part of the bytes
 part-is : (bs : List ℕ) (i n : ℕ) → i + n ≤ length bs → take n (drop i bs) ≡ listOf (λ (j : ℕ). word bs (i + j)) n
 part-is bs i n h =
     list-is (λ (j : ℕ). word bs (i + j)) n (take n (drop i bs)) 0 (length-take-le n (drop i bs) (omega (arith, length-drop i bs)))
     (λ j g. getD-take n (drop i bs) j 0 g ∙ getD-drop i bs j 0)
-
-full : (xs : List ℕ) → length xs ≡ 32 → padded 32 0 xs ≡ xs
-full xs e =
-    let n : 32 - length xs ≡ 0 = omega arith in
-    ap (λ (m : ℕ). xs ++ replicate m 0) n ∙ append-nil xs
 
 module _ (bs : List ℕ) (i : ℕ) where
   pub label-get : (p : Label) → i + 33 ≤ length bs → p ≡ labelOf (take 32 (take (i + 32 - i) (drop i bs)))
@@ -37,7 +32,7 @@ module _ (bs : List ℕ) (i : ℕ) where
       let s : take 32 (take (i + 32 - i) (drop i bs)) ≡ listOf (λ (j : ℕ). word bs (i + j)) 32 =
       ap (λ (m : ℕ). take 32 (take m (drop i bs))) n ∙ take-take 32 32 (drop i bs) (omega arith) ∙ part-is bs i 32 (omega arith) in
       let l : length (take 32 (take (i + 32 - i) (drop i bs))) ≡ 32 = ap length s ∙ list-length (λ (j : ℕ). word bs (i + j)) 32 in
-      ap (λ (m : List ℕ). record { bytes = m; length = word bs (i + 32) }) (ap (λ (q : Label). q .bytes) e ∙ full _ l ∙ s)
+      ap (λ (m : List ℕ). record { bytes = m; length = word bs (i + 32) }) (ap (λ (q : Label). q .bytes) e ∙ full 32 0 _ l ∙ s)
 
   bytes-32 : length (labelIn bs i .bytes) ≡ 32
   unfolding labelIn
@@ -62,17 +57,20 @@ module _ (bs : List ℕ) (i : ℕ) where
       ∙ text-part (labelIn bs i) bytes-32 n (e ∙ ap (λ (q : ℕ). min q 32) length-is)
 
   pub item-get : {c n : Label} → c ≡ labelIn bs i → n ≡ labelIn bs (i + 33)
-      → _≡_ {A = Item} (record { code = c; name = n; component = word bs (i + 66); priority = word bs (i + 67); category = word bs (i + 68) }) (itemIn bs i)
+      → {low high : ℕ} → low ≡ countIn bs (i + 69) → high ≡ countIn bs (i + 71)
+      → _≡_ {A = Item}
+      (record { code = c; name = n; component = word bs (i + 66); priority = word bs (i + 67); category = word bs (i + 68); lowest = low; highest = high })
+      (itemIn bs i)
   unfolding itemIn
-  item-get e f = rw (e, f)
+  item-get e f g h = rw (e, f, g, h)
 
   pub labels-length : length (labelsIn bs i) ≡ 8
   unfolding labelsIn
   labels-length = list-length (λ (k : ℕ). labelIn bs (i + 33 * k)) 8
 
-  pub items-length : length (itemsIn bs i) ≡ 32
+  pub items-length : (n : ℕ) → length (itemsIn bs i n) ≡ n
   unfolding itemsIn
-  items-length = list-length (λ (k : ℕ). itemIn bs (i + 69 * k)) 32
+  items-length n = list-length (λ (k : ℕ). itemIn bs (i + 73 * k)) n
 
   module _ (k : ℕ) where
     pub label-at : k < 8 → labelIn bs (i + 33 * k) ≡ getD (labelsIn bs i) k noLabel
@@ -82,21 +80,26 @@ module _ (bs : List ℕ) (i : ℕ) where
     pub label-behind : 8 ≤ k → noLabel ≡ getD (labelsIn bs i) k noLabel
     label-behind h = sym (List·getD-eq-default (labelsIn bs i) noLabel {n = k} (omega (arith, labels-length)))
 
-    pub item-at : k < 32 → itemIn bs (i + 69 * k) ≡ getD (itemsIn bs i) k noItem
-    unfolding itemsIn
-    item-at h = sym (list-at (λ (j : ℕ). itemIn bs (i + 69 * j)) 32 k noItem h)
+    module _ (n : ℕ) where
+      pub item-at : k < n → itemIn bs (i + 73 * k) ≡ getD (itemsIn bs i n) k noItem
+      unfolding itemsIn
+      item-at h = sym (list-at (λ (j : ℕ). itemIn bs (i + 73 * j)) n k noItem h)
 
-    pub item-behind : 32 ≤ k → noItem ≡ getD (itemsIn bs i) k noItem
-    item-behind h = sym (List·getD-eq-default (itemsIn bs i) noItem {n = k} (omega (arith, items-length)))
+      pub item-behind : n ≤ k → noItem ≡ getD (itemsIn bs i n) k noItem
+      item-behind h = sym (List·getD-eq-default (itemsIn bs i n) noItem {n = k} (omega (arith, items-length n)))
 
-pub components-are : (bs : List ℕ) → tableOf bs .components ≡ labelsIn bs 72
+pub components-are : (bs : List ℕ) → tableOf bs .components ≡ labelsIn bs 74
 unfolding tableOf
 components-are bs = refl
 
-pub alarms-are : (bs : List ℕ) → tableOf bs .alarms ≡ itemsIn bs 336
+pub alarms-are : (bs : List ℕ) → tableOf bs .alarms ≡ itemsIn bs 338 32
 unfolding tableOf
 alarms-are bs = refl
 
-pub statuses-are : (bs : List ℕ) → tableOf bs .statuses ≡ itemsIn bs 2544
+pub statuses-are : (bs : List ℕ) → tableOf bs .statuses ≡ itemsIn bs 2674 32
 unfolding tableOf
 statuses-are bs = refl
+
+pub commands-are : (bs : List ℕ) → tableOf bs .commands ≡ itemsIn bs 5010 16
+unfolding tableOf
+commands-are bs = refl

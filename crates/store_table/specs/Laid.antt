@@ -27,6 +27,8 @@ pub record TableFits (x : SiteTable) : Type 0 where
   pub components : length (x .components) ≡ 8
   pub alarms : length (x .alarms) ≡ 32
   pub statuses : length (x .statuses) ≡ 32
+  pub commands : length (x .commands) ≡ 16
   pub component : (k : ℕ) → k < 8 → LabelFits (getD (x .components) k noLabel)
   pub alarm : (k : ℕ) → k < 32 → ItemFits (getD (x .alarms) k noItem)
   pub status : (k : ℕ) → k < 32 → ItemFits (getD (x .statuses) k noItem)
+  pub command : (k : ℕ) → k < 16 → ItemFits (getD (x .commands) k noItem)

@@ -1,6 +1,6 @@
--- Where each part of the site table stands in 4752 bytes, the table that they are, and the bytes that a table is.
--- 0 components, 2 alarms, 4 statuses: how many, in 2 bytes each, the high one first; 6 site, 39 sxl, 72 component ids: labels of 33 bytes;
--- 336 alarms, 2544 statuses: rows of 69 bytes.
+-- Where each part of the site table stands in 6178 bytes, the table that they are, and the bytes that a table is.
+-- 0 components, 2 alarms, 4 statuses, 6 commands: how many, in 2 bytes each, the high one first; 8 site, 41 sxl, 74 component ids: labels of 33 bytes;
+-- 338 alarms, 2674 statuses, 5010 commands: rows of 73 bytes.
 -- Assumes nothing.
 use Prim.Native.Nat.{ℕ, _+_, _*_, _/_, _%_}
 use mathlib.Core.List.{List, [], _∷_, _++_}
@@ -25,13 +25,15 @@ itemIn bs i =
       component = word bs (i + 66);
       priority = word bs (i + 67);
       category = word bs (i + 68);
+      lowest = countIn bs (i + 69);
+      highest = countIn bs (i + 71);
     }
 
 unfoldable pub labelsIn : List ℕ → ℕ → List Label
 labelsIn bs i = listOf (λ (k : ℕ). labelIn bs (i + 33 * k)) 8
 
-unfoldable pub itemsIn : List ℕ → ℕ → List Item
-itemsIn bs i = listOf (λ (k : ℕ). itemIn bs (i + 69 * k)) 32
+unfoldable pub itemsIn : List ℕ → ℕ → ℕ → List Item
+itemsIn bs i n = listOf (λ (k : ℕ). itemIn bs (i + 73 * k)) n
 
 unfoldable pub tableOf : List ℕ → SiteTable
 tableOf bs =
@@ -39,11 +41,13 @@ tableOf bs =
       componentcount = countIn bs 0;
       alarmcount = countIn bs 2;
       statuscount = countIn bs 4;
-      site = labelIn bs 6;
-      sxl = labelIn bs 39;
-      components = labelsIn bs 72;
-      alarms = itemsIn bs 336;
-      statuses = itemsIn bs 2544;
+      commandcount = countIn bs 6;
+      site = labelIn bs 8;
+      sxl = labelIn bs 41;
+      components = labelsIn bs 74;
+      alarms = itemsIn bs 338 32;
+      statuses = itemsIn bs 2674 32;
+      commands = itemsIn bs 5010 16;
     }
 
 abbrev pub countBytes : ℕ → List ℕ
@@ -53,7 +57,10 @@ unfoldable pub labelBytes : Label → List ℕ
 labelBytes l = l .bytes ++ (l .length ∷ [])
 
 unfoldable pub itemBytes : Item → List ℕ
-itemBytes x = labelBytes (x .code) ++ (labelBytes (x .name) ++ (x .component ∷ x .priority ∷ x .category ∷ []))
+itemBytes x =
+    labelBytes (x .code)
+    ++ (labelBytes (x .name)
+    ++ (x .component ∷ x .priority ∷ x .category ∷ (countBytes (x .lowest) ++ countBytes (x .highest))))
 
 -- how many of each, and what the site is called
 unfoldable pub headBytes : SiteTable → List ℕ
@@ -61,12 +68,14 @@ headBytes x =
     countBytes (x .componentcount)
     ++ (countBytes (x .alarmcount)
     ++ (countBytes (x .statuscount)
+    ++ (countBytes (x .commandcount)
     ++ (labelBytes (x .site)
-    ++ labelBytes (x .sxl))))
+    ++ labelBytes (x .sxl)))))
 
 unfoldable pub layoutOf : SiteTable → List ℕ
 layoutOf x =
     headBytes x
     ++ (inTurn labelBytes (x .components)
     ++ (inTurn itemBytes (x .alarms)
-    ++ inTurn itemBytes (x .statuses)))
+    ++ (inTurn itemBytes (x .statuses)
+    ++ inTurn itemBytes (x .commands))))

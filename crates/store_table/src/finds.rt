@@ -1,6 +1,6 @@
 // The first row that is called so. Behind the last row there are labels and rows without a text.
 ghost use mathlib.Core.Path.{_≡_};
-ghost use Prim.Native.Nat.{_+_, _≤_};
+ghost use Prim.Native.Nat.{_+_, _*_, _≤_};
 ghost use lib.ListN.{length};
 ghost use Rattle.table_item.specs.Find.{labelAt, itemAt, findLabel, findItem};
 ghost use Rattle.store_table.specs.Layout.{labelsIn, itemsIn};
@@ -31,23 +31,32 @@ pub fn label(t: &[u8], i: usize, count: usize, text: &[u8]) -> Found
     Found::Nothing
 }
 
-fn is_item(t: &[u8], i: usize, k: usize, component: u8, code: &[u8], name: &[u8]) -> bool
-    requires { ⌜ i + 2208 ≤ length (now t) ⌝ }
-    ensures { λ r. ⌜ r ≡ itemAt (itemsIn (now (t .entry)) i) component (now (code .entry)) (now (name .entry)) k ⌝ }
+fn is_item(t: &[u8], i: usize, n: usize, k: usize, component: u8, code: &[u8], name: &[u8]) -> bool
+    requires { ⌜ i + 73 * n ≤ length (now t) ⌝ }
+    ensures { λ r. ⌜ r ≡ itemAt (itemsIn (now (t .entry)) i n) component (now (code .entry)) (now (name .entry)) k ⌝ }
 {
-    if k < 32 {
-        return rows::item_is(t, i + 69 * k, component, code, name);
+    if k < n {
+        return rows::item_is(t, i + 73 * k, component, code, name);
     }
     table_item::is(table_item::none(), component, code, name)
 }
 
-pub fn item(t: &[u8], i: usize, count: usize, component: u8, code: &[u8], name: &[u8]) -> Found
-    requires { ⌜ i + 2208 ≤ length (now t) ⌝ }
-    ensures { λ r. ⌜ r ≡ findItem (itemsIn (now (t .entry)) i) count component (now (code .entry)) (now (name .entry)) ⌝ }
+// Among n rows from i on.
+pub fn item(
+    t: &[u8],
+    i: usize,
+    n: usize,
+    count: usize,
+    component: u8,
+    code: &[u8],
+    name: &[u8],
+) -> Found
+    requires { ⌜ i + 73 * n ≤ length (now t) ⌝ }
+    ensures { λ r. ⌜ r ≡ findItem (itemsIn (now (t .entry)) i n) count component (now (code .entry)) (now (name .entry)) ⌝ }
 {
     let mut k: usize = 0;
     while k < count {
-        if is_item(t, i, k, component, code, name) {
+        if is_item(t, i, n, k, component, code, name) {
             return Found::At(k);
         }
         k += 1;

@@ -1,6 +1,6 @@
 // A count, a label, a row of the table at a place.
 ghost use mathlib.Core.Path.{_≡_};
-ghost use Prim.Native.Nat.{_+_, _≤_, min};
+ghost use Prim.Native.Nat.{_+_, _*_, _≤_, min};
 ghost use lib.ListN.{length, getD};
 ghost use Rattle.basis.specs.Lists.{sameBytes};
 ghost use Rattle.label.specs.Label.{textOf};
@@ -42,7 +42,7 @@ pub fn label_at(t: &[u8], i: usize) -> Label
 }
 
 pub fn item_at(t: &[u8], i: usize) -> Item
-    requires { ⌜ i + 69 ≤ length (now t) ⌝ }
+    requires { ⌜ i + 73 ≤ length (now t) ⌝ }
     ensures { λ r. ⌜ r ≡ itemIn (now (t .entry)) i ⌝ }
 {
     let code = label_at(t, i);
@@ -53,16 +53,18 @@ pub fn item_at(t: &[u8], i: usize) -> Item
         component: t[i + 66],
         priority: t[i + 67],
         category: t[i + 68],
+        lowest: count_at(t, i + 69),
+        highest: count_at(t, i + 71),
     }
 }
 
-// The row of number k, from i on; none behind the last.
-pub fn row(t: &[u8], i: usize, k: usize) -> Item
-    requires { ⌜ i + 2208 ≤ length (now t) ⌝ }
-    ensures { λ r. ⌜ r ≡ getD (itemsIn (now (t .entry)) i) k noItem ⌝ }
+// The row of number k of the n rows from i on; none behind the last.
+pub fn row(t: &[u8], i: usize, n: usize, k: usize) -> Item
+    requires { ⌜ i + 73 * n ≤ length (now t) ⌝ }
+    ensures { λ r. ⌜ r ≡ getD (itemsIn (now (t .entry)) i n) k noItem ⌝ }
 {
-    if k < 32 {
-        return item_at(t, i + 69 * k);
+    if k < n {
+        return item_at(t, i + 73 * k);
     }
     table_item::none()
 }
@@ -84,7 +86,7 @@ pub fn label_is(t: &[u8], i: usize, s: &[u8]) -> bool
 
 // Whether the row there is called so.
 pub fn item_is(t: &[u8], i: usize, component: u8, code: &[u8], name: &[u8]) -> bool
-    requires { ⌜ i + 69 ≤ length (now t) ⌝ }
+    requires { ⌜ i + 73 ≤ length (now t) ⌝ }
     ensures { λ r. ⌜ r ≡ isItem component (now (code .entry)) (now (name .entry)) (itemIn (now (t .entry)) i) ⌝ }
 {
     if t[i + 66] != component {

@@ -7,7 +7,8 @@ ghost use Rattle.table_item.specs.Item.{noItem, isItem};
 ghost use Rattle.table_item.specs.Find.{findLabel, findItem, ownLabel, ownItem, ownLabels, ownItems, foundAt, itemLike};
 use label::Label;
 
-// A row of the alarms or of the statuses: an alarm has no name, a status neither priority nor category.
+// A row of the alarms, the statuses or the commands: an alarm has no name, only an alarm has priority and category, only a command a lowest and a
+// highest value, as 16 bits in two's complement.
 #[repr(C)]
 pub struct Item {
     pub code: Label,
@@ -15,6 +16,8 @@ pub struct Item {
     pub component: u8,
     pub priority: u8,
     pub category: u8,
+    pub lowest: u16,
+    pub highest: u16,
 }
 
 pub enum Found {
@@ -31,6 +34,8 @@ pub fn none() -> Item
         component: 0,
         priority: 0,
         category: 0,
+        lowest: 0,
+        highest: 0,
     }
 }
 

@@ -2,10 +2,12 @@
 -- Assumes nothing.
 use mathlib.Core.Path.{_≡_, refl, sym, ap, subst, _∙_}
 use mathlib.Core.List.{List, [], _∷_}
-use Prim.Native.Nat.{ℕ, suc, _^_, _<_}
+use Prim.Native.Nat.{ℕ, zero, suc, _^_, _≤_, _<_}
 use native.Mathlib.Nat.{div-eq-of-lt}
 use native.Mathlib.Omega.{arith}
-use lib.ListN.{length, getD, replicate}
+use lib.Dec.{lit<}
+use lib.ListN.{length, getD, take, replicate}
+use lib.Seq.{length-take-le}
 use Rattle.bits.specs.Fields.{total, joined, split, Within, bytesOf, numberOf}
 use Rattle.bits.specs.Fields.Within.{none, next}
 use Rattle.bits.proofs.Fields.{joined-split, split-joined, joined-lt}
@@ -23,12 +25,30 @@ fields-sound ks bs b e =
     ap (bytesOf (length bs)) (ap (λ (m : ℕ). joined m ks (split ks (numberOf bs))) (sym (div-eq-of-lt lt)) ∙ joined-split ks (numberOf bs))
     ∙ bytes-number bs (bytes-within bs b)
 
+take-bytes : (n : ℕ) (s : List ℕ) → ((i : ℕ) → getD s i 0 < 256) → (i : ℕ) → getD (take n s) i 0 < 256
+take-bytes zero s h i = lit< tt
+take-bytes (suc n) [] h i = lit< tt
+take-bytes (suc n) (x ∷ s) h zero = h 0
+take-bytes (suc n) (x ∷ s) h (suc i) = take-bytes n s (λ j. h (suc j)) i
+
 -- fields that fit come back
 pub fields-complete : (ks vs : List ℕ) → Within ks vs → (n : ℕ) → total ks ≡ total (replicate n 8)
     → split ks (numberOf (bytesOf n (joined 0 ks vs))) ≡ vs
 fields-complete ks vs w n e =
     let lt : joined 0 ks vs < 2 ^ total (replicate n 8) = subst (λ (k : ℕ). joined 0 ks vs < 2 ^ k) e (joined-lt ks vs (same-length w)) in
     ap (split ks) (number-bytes n (joined 0 ks vs) lt) ∙ split-joined w 0
+
+-- the fields in the first k bytes
+module _ (k : ℕ) (ks : List ℕ) (e : total ks ≡ total (replicate k 8)) (s : List ℕ) where
+  pub first-sound : ((i : ℕ) → getD s i 0 < 256) → k ≤ length s → bytesOf k (joined 0 ks (split ks (numberOf (take k s)))) ≡ take k s
+  first-sound b h =
+      let n = numberOf (take k s) in
+      let l : length (take k s) ≡ k = length-take-le k s h in
+      let w : total ks ≡ total (replicate (length (take k s)) 8) = e ∙ ap (λ (m : ℕ). total (replicate m 8)) (sym l) in
+      ap (λ (m : ℕ). bytesOf m (joined 0 ks (split ks n))) (sym l) ∙ fields-sound ks (take k s) (take-bytes k s b) w
+
+  pub first-complete : (vs : List ℕ) → Within ks vs → take k s ≡ bytesOf k (joined 0 ks vs) → split ks (numberOf (take k s)) ≡ vs
+  first-complete vs w t = ap (λ (x : List ℕ). split ks (numberOf x)) t ∙ fields-complete ks vs w k e
 
 -- a number of one byte is that byte
 pub one-byte : (b : ℕ) → b < 256 → numberOf (b ∷ []) ≡ b

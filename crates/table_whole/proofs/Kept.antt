@@ -2,11 +2,12 @@
 -- Assumes nothing.
 use mathlib.Core.Path.{_≡_, refl, sym, ap, ap₂, subst, _∙_}
 use mathlib.Core.Bool.{Bool, true}
-use mathlib.Core.List.{List, [], map}
-use Prim.Native.Nat.{ℕ, _-_, _<_}
+use mathlib.Core.List.{List, [], _∷_, _++_, map, append-assoc, append-nil}
+use Prim.Native.Nat.{ℕ, zero, suc, _+_, _-_, _≤_, _<_}
 use native.Mathlib.Omega.{arith}
 use lib.Dec.{eqb}
-use lib.ListN.{length, getD, replicate, length-map, List·getD-append, List·getD-map}
+use lib.ListN.{length, getD, take, replicate, length-append, length-map, length-replicate, replicate-append-replicate, List·getD-append, List·getD-map}
+use lib.Seq.{take-at}
 use borrow.Author.Tests.{eqb-true, eq-eqb}
 use Rattle.basis.specs.Lists.{sameBytes}
 use Rattle.basis.proofs.Same.{same-true, same-self}
@@ -17,7 +18,7 @@ use Rattle.label.specs.declared.Label.{Label}
 use Rattle.label.proofs.Padded.{take-padded}
 use Rattle.table_item.specs.declared.Item.{Item}
 use Rattle.table_item.specs.Item.{noItem, isItem}
-use Rattle.table_item.specs.Find.{labelAt, itemAt, ownLabels, ownItems}
+use Rattle.table_item.specs.Find.{firstFrom, each, foundAt, labelAt, itemAt, ownLabels, ownItems}
 use Rattle.table_item.proofs.Own.{own-once, once-own}
 use Rattle.table_whole.specs.Table.{Row, noRow}
 use Rattle.table_whole.specs.Allowed.{SameRow, NoneTwice}
@@ -25,6 +26,38 @@ use Rattle.table_whole.specs.Memory.{itemOf}
 
 pub text-label : (x : List ℕ) → textOf (labelOf x) ≡ x
 text-label x = take-padded 32 0 x
+
+-- the first half of a place
+pub narrow : {X : Type 0} (z : X) (xs : List X) → length xs ≤ 16 → take 16 (padded 32 z xs) ≡ padded 16 z xs
+narrow {X} z xs h =
+    let n = length xs in
+    let e : 32 - n ≡ (16 - n) + 16 = omega arith in
+    let l : length (padded 16 z xs) ≡ 16 = length-append xs (replicate (16 - n) z) ∙ simp length-replicate (omega arith) in
+    ap (take 16) (ap (λ (m : ℕ). xs ++ replicate m z) e ∙ ap (λ (r : List X). xs ++ r) (sym (replicate-append-replicate (16 - n) 16 z)) ∙ sym (append-assoc xs (replicate (16 - n) z) (replicate 16 z)))
+    ∙ take-at (padded 16 z xs) (replicate 16 z) 16 l
+
+-- where there are as many as places
+pub full : {X : Type 0} (n : ℕ) (z : X) (xs : List X) → length xs ≡ n → padded n z xs ≡ xs
+full n z xs e =
+    let k : n - length xs ≡ 0 = omega arith in
+    ap (λ (m : ℕ). xs ++ replicate m z) k ∙ append-nil xs
+
+-- what is read behind a list that is kept
+zeros-read : {X : Type 0} (m : ℕ) (z : X) (i : ℕ) → getD (replicate m z) i z ≡ z
+zeros-read zero z i = refl
+zeros-read (suc m) z zero = refl
+zeros-read (suc m) z (suc i) = zeros-read m z i
+
+pub behind-read : {X : Type 0} (m : ℕ) (z : X) (xs : List X) (i : ℕ) → getD (xs ++ replicate m z) i z ≡ getD xs i z
+behind-read m z [] i = zeros-read m z i
+behind-read m z (x ∷ xs) zero = refl
+behind-read m z (x ∷ xs) (suc i) = behind-read m z xs i
+
+-- rows in a wider place are called as before
+pub own-padded : (most : ℕ) (rows : List Item) (n : ℕ) → ownItems (padded most noItem rows) n ≡ ownItems rows n
+own-padded most rows n =
+    let p : (i : ℕ) → getD (padded most noItem rows) i noItem ≡ getD rows i noItem = behind-read (most - length rows) noItem rows in
+    (λ t. each (λ (i : ℕ). foundAt i (firstFrom (λ (j : ℕ). isItem (p i t .component) (textOf (p i t .code)) (textOf (p i t .name)) (p j t)) 0 n)) n)
 
 -- an element that is kept
 pub kept : {A X : Type 0} (f : A → X) (d : A) (n : ℕ) (xs : List A) (i : ℕ) → i < length xs → getD (padded n (f d) (map f xs)) i (f d) ≡ f (getD xs i d)
@@ -77,12 +110,12 @@ unfolding isItem
 is-row r c code name p q t =
     both-of (eq-eqb (r .component) c p) (both-of (same-bytes (text-label (r .code) ∙ q)) (same-bytes (text-label (r .name) ∙ t)))
 
-module _ (rows : List Row) where
+module _ (most : ℕ) (rows : List Row) where
   abbrev pub keptItems : List Item
-  keptItems = padded 32 noItem (map itemOf rows)
+  keptItems = padded most noItem (map itemOf rows)
 
   pub kept-item : (i : ℕ) → i < length rows → getD keptItems i noItem ≡ itemOf (getD rows i noRow)
-  kept-item i h = kept itemOf noRow 32 rows i h
+  kept-item i h = kept itemOf noRow most rows i h
 
   likeItem : ℕ → ℕ → Bool
   likeItem i j = itemAt keptItems (getD keptItems i noItem .component) (textOf (getD keptItems i noItem .code)) (textOf (getD keptItems i noItem .name)) j

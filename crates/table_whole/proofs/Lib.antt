@@ -2,6 +2,7 @@ pub mod Fields
 pub mod Turns
 pub mod Prefix
 pub mod RowLaws
+pub mod CommandLaws
 pub mod HeadLaws
 pub mod Kept
 pub mod Parts

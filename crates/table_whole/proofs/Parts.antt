@@ -1,7 +1,6 @@
 -- The lists of a table as things read in turn.
 -- Assumes nothing.
 use mathlib.Core.Path.{_≡_, refl, ap}
-use mathlib.Core.Bool.{true, false}
 use mathlib.Core.List.{List}
 use Prim.Native.Nat.{ℕ, zero, suc, _+_, _≤_, _<_}
 use lib.ListN.{length}
@@ -12,12 +11,13 @@ use Rattle.label.specs.Reading.{far, readAt}
 use Rattle.label.proofs.Stands.{Stands}
 use Rattle.label.proofs.Reading.{read-sound, read-complete}
 use Rattle.table_item.specs.Item.{noItem}
+use Rattle.table_row.specs.declared.Kind.{Kind}
 use Rattle.table_row.specs.declared.LabelsRead.{LabelsRead}
 use Rattle.table_row.specs.declared.ItemsRead.{ItemsRead}
-use Rattle.table_row.specs.Rows.{labelsTo, itemsTo, moreLabels, moreItems}
+use Rattle.table_row.specs.Rows.{itemAt, labelsTo, itemsTo, moreLabels, moreItems}
 use Rattle.table_whole.specs.Allowed.{IsString}
 use Rattle.table_whole.proofs.Turns.{One, placeTo, keptTo}
-use Rattle.table_whole.proofs.RowLaws.{starts, alarmItem, alarmNext, statusItem, statusNext}
+use Rattle.table_whole.proofs.RowLaws.{starts}
 
 module _ (s : List ℕ) where
   abbrev pub labelValue : ℕ → Label
@@ -51,19 +51,15 @@ module _ (s : List ℕ) where
   labels-turns at zero = refl
   labels-turns at (suc i) = ap (moreLabels s i) (labels-turns at i)
 
-  module _ (n : ℕ) where
-    abbrev pub alarmsIn : ℕ → ℕ → ItemsRead
-    alarmsIn at i = record { items = keptTo 32 noItem (alarmItem s n) (alarmNext s n) at i; next = placeTo (alarmNext s n) at i }
+  module _ (kind : Kind) (n : ℕ) where
+    abbrev pub itemsIn : ℕ → ℕ → ItemsRead
+    itemsIn at i =
+        record {
+          items = keptTo 32 noItem (λ (p : ℕ). itemAt s kind n p .item) (λ (p : ℕ). itemAt s kind n p .next) at i;
+          next = placeTo (λ (p : ℕ). itemAt s kind n p .next) at i;
+        }
 
-    pub alarms-turns : (at i : ℕ) → itemsTo s false n at i ≡ alarmsIn at i
+    pub items-turns : (at i : ℕ) → itemsTo s kind n at i ≡ itemsIn at i
     unfolding itemsTo
-    alarms-turns at zero = refl
-    alarms-turns at (suc i) = ap (moreItems s false n i) (alarms-turns at i)
-
-    abbrev pub statusesIn : ℕ → ℕ → ItemsRead
-    statusesIn at i = record { items = keptTo 32 noItem (statusItem s n) (statusNext s n) at i; next = placeTo (statusNext s n) at i }
-
-    pub statuses-turns : (at i : ℕ) → itemsTo s true n at i ≡ statusesIn at i
-    unfolding itemsTo
-    statuses-turns at zero = refl
-    statuses-turns at (suc i) = ap (moreItems s true n i) (statuses-turns at i)
+    items-turns at zero = refl
+    items-turns at (suc i) = ap (moreItems s kind n i) (items-turns at i)

@@ -8,6 +8,7 @@ use Prim.Native.Nat.{ℕ, suc, _+_, _-_, _≤_, _<_}
 use native.Mathlib.Nat.{add-zero}
 use native.Mathlib.Omega.{arith}
 use lib.Dec.{eqb, leb}
+use lib.IntN.{pos}
 use lib.ListN.{length, getD, drop, length-drop, length-append}
 use lib.Seq.{drop-cons, getD-drop}
 use borrow.Author.Tests.{eqb-true, leb-true, ltb-true, eq-eqb, le-leb, lt-ltb}
@@ -15,6 +16,7 @@ use Rattle.basis.specs.Pick.{both}
 use Rattle.basis.proofs.Cases.{bool-cases, le-or-lt}
 use Rattle.basis.proofs.Both.{both-true, both-of}
 use Rattle.bits.specs.Fields.{fieldOf}
+use Rattle.number.specs.Signed.{word16Of}
 use Rattle.label.specs.declared.LabelRead.{LabelRead}
 use Rattle.label.specs.Label.{string, labelOf}
 use Rattle.label.specs.Reading.{far, readAt}
@@ -70,7 +72,7 @@ module _ (s : List ℕ) where
       let n : length s - at ≡ suc (length (text ++ h .rest)) = sym (length-drop at s) ∙ ap length (h .parts) in
       omega arith
 
-  not-missed : {P : Type 0} (r : ItemRead) → length s < far → r .next ≤ length s → r ≡ missedItem → P
+  pub not-missed : {P : Type 0} (r : ItemRead) → length s < far → r .next ≤ length s → r ≡ missedItem → P
   not-missed r f h e = absurd (let z : r .next ≡ far = ap (λ (q : ItemRead). q .next) e in omega arith)
 
   module _ (n : ℕ) where
@@ -91,7 +93,7 @@ module _ (s : List ℕ) where
           let text = code .text in
           let e : alarmAt s n at ≡ alarmWith b (labelled (at + 1) text) = alarm-good s n at h g ∙ ap (alarmWith b) (code .is) in
           record {
-            thing = record { component = fieldOf b 5 3; priority = fieldOf b 3 2; category = fieldOf b 2 1; code = text; name = [] };
+            thing = record { component = fieldOf b 5 3; priority = fieldOf b 3 2; category = fieldOf b 2 1; code = text; name = []; lowest = pos 0; highest = pos 0 };
             valid = record {
               component = ok .1 .1;
               lowest = ok .1 .0;
@@ -99,6 +101,7 @@ module _ (s : List ℕ) where
               category = omega arith;
               code = code .label;
               name = refl;
+              no-range = record { lowest = refl; highest = refl };
             };
             stands =
                 subst (λ (p : List ℕ). Stands s at (p ++ string text)) (sym (alarm-prefix b (bytes at) (ok .0)))
@@ -139,6 +142,8 @@ module _ (s : List ℕ) where
                 component = ab .component-is i;
                 priority = ab .priority-is i;
                 category = ab .category-is i;
+                lowest = word16Of (sym (v .no-range .lowest) i);
+                highest = word16Of (sym (v .no-range .highest) i);
               }),
           ap (λ (q : ItemRead). q .next) e ∙ omega arith,
         )
@@ -164,8 +169,15 @@ module _ (s : List ℕ) where
           let e : statusAt s n at ≡ statusWith b (labelled (at + 1) text) (labelled (at + 1 + length (string text)) (name .text)) =
           status-good s n at h g ∙ ap₂ (statusWith b) (code .is) second-is in
           record {
-            thing = record { component = fieldOf b 5 3; priority = 0; category = 0; code = text; name = name .text };
-            valid = record { component = ok .1; priority = refl; category = refl; code = code .label; name = name .label };
+            thing = record { component = fieldOf b 5 3; priority = 0; category = 0; code = text; name = name .text; lowest = pos 0; highest = pos 0 };
+            valid = record {
+              component = ok .1;
+              priority = refl;
+              category = refl;
+              code = code .label;
+              name = name .label;
+              no-range = record { lowest = refl; highest = refl };
+            };
             stands =
                 subst (λ (p : List ℕ). Stands s at (p ++ (string text ++ string (name .text)))) (sym (status-prefix b (bytes at) (ok .0)))
                 (joined s at (b ∷ []) (string text ++ string (name .text)) (byte-stands at h)
@@ -217,6 +229,8 @@ module _ (s : List ℕ) where
                 component = sb .component-is i;
                 priority = sym (v .priority) i;
                 category = sym (v .category) i;
+                lowest = word16Of (sym (v .no-range .lowest) i);
+                highest = word16Of (sym (v .no-range .highest) i);
               }),
           ap (λ (q : ItemRead). q .next) e ∙ omega (arith, length-append (r .code) (string (r .name))),
         )

@@ -1,4 +1,4 @@
--- Finding a component, an alarm or a status by what it is called: at most one hit.
+-- Finding a component, an alarm, a status or a command by what it is called: at most one hit.
 -- Assumes nothing.
 use Prim.Native.Nat.{ℕ, _<_}
 use mathlib.Core.Path.{_≡_}
@@ -19,6 +19,9 @@ findAlarm m component code = findItem (m .alarms) (m .alarmcount) component code
 abbrev pub findStatus : SiteTable → ℕ → List ℕ → List ℕ → Found
 findStatus m component code name = findItem (m .statuses) (m .statuscount) component code name
 
+abbrev pub findCommand : SiteTable → ℕ → List ℕ → List ℕ → Found
+findCommand m component code name = findItem (m .commands) (m .commandcount) component code name
+
 -- the only one of n places that is so, or none is
 pub data Finds (n : ℕ) (P : ℕ → Type 0) : Found → Type 0 where
   only : {i : ℕ} → i < n → P i → ((j : ℕ) → j < n → P j → j ≡ i) → Finds n P (At i)
@@ -38,3 +41,6 @@ AlarmIs t component code i = RowIs component code [] (getD (t .alarms) i noRow)
 
 abbrev pub StatusIs : Table → ℕ → List ℕ → List ℕ → ℕ → Type 0
 StatusIs t component code name i = RowIs component code name (getD (t .statuses) i noRow)
+
+abbrev pub CommandIs : Table → ℕ → List ℕ → List ℕ → ℕ → Type 0
+CommandIs t component code name i = RowIs component code name (getD (t .commands) i noRow)

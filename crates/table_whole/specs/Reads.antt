@@ -12,5 +12,5 @@ use Rattle.table_whole.specs.Allowed.{Allowed}
 use Rattle.table_whole.specs.Memory.{memoryOf, noTable}
 
 pub data Reads (b : List ℕ) : TableRead → Type 0 where
-  reads : {t : Table} → Allowed t → tableBytes t ≡ b → Reads b (record { table = memoryOf t; verdict = Accepted })
-  refuses : ((t : Table) → Allowed t → tableBytes t ≡ b → ⊥) → Reads b (record { table = noTable; verdict = Refused NotAccepted })
+  reads : {edition : ℕ} {t : Table} → Allowed edition t → tableBytes edition t ≡ b → Reads b (record { table = memoryOf t; verdict = Accepted })
+  refuses : ((edition : ℕ) (t : Table) → Allowed edition t → tableBytes edition t ≡ b → ⊥) → Reads b (record { table = noTable; verdict = Refused NotAccepted })

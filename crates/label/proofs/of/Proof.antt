@@ -35,7 +35,7 @@ loop-less c = search needs
 loop-again : tie.Need-loop-again Inv-loop μ-loop
 loop-again c =
     let l = c .before .before .loop in
-    (search needs, rw (l .inv .1) (copy-one 32 _ (l .i) (search needs) (search needs)))
+    (search needs, rw (l .inv .1) (copy-one 32 0 0 _ (l .i) (search needs) (search needs)))
 
 cast-t12 : tie.Need-cast-t12 Inv-loop μ-loop
 cast-t12 c = search needs

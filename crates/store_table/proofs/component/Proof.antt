@@ -20,7 +20,7 @@ returns : tie.Need-returns
 unfolding tableOf
 returns c =
     let a = c .before .before .before .args in
-    c .label-at .ensures ∙ label-at (a .t .now) 72 (a .k) (search needs)
+    c .label-at .ensures ∙ label-at (a .t .now) 74 (a .k) (search needs)
 
 none-requires : tie.Need-none-requires
 none-requires c κs = search needs
@@ -29,7 +29,7 @@ returns-2 : tie.Need-returns-2
 unfolding tableOf
 returns-2 c =
     let a = c .before .before .before .args in
-    c .none .ensures ∙ label-behind (a .t .now) 72 (a .k) (search needs)
+    c .none .ensures ∙ label-behind (a .t .now) 74 (a .k) (search needs)
 
 pub component-spec : {M : Type 1} → statement M
 component-spec =

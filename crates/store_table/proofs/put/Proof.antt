@@ -20,18 +20,33 @@ items-requires c κs = search needs
 items-requires-2 : tie.Need-items-requires-2
 items-requires-2 c κs = search needs
 
+commands-requires : tie.Need-commands-requires
+commands-requires c κs = search needs
+
 same-length : tie.Need-same-length
 same-length c = search needs
 
 returns : tie.Need-returns
 unfolding headBytes
 returns c =
-    let a = c .before .before .before .before .before .before .before .before .before .before .before .before .before .before .before .before .before .before .before .before .before .before .args in
-    let v = c .before .before .items2 .last .0 in
-    let e : length v ≡ 4752 = search needs in
-    laid-whole (a .t .now) v (a .x) e (then 4752 (c .before .before .before .before .before .before .before .before .before .before .before .before .before .before .head .ensures) (then 4680 (c .before .before .before .before .before .before .before .before .before .before .labels .ensures) (then 4416 (c .before .before .before .before .before .before .items .ensures) (c .before .before .items2 .ensures) refl refl) refl refl) refl refl)
+    let rows = c .before .before .before .before .before .before .before .before .before .before .before .before .before .before in
+    let a = rows .before .before .before .before .before .before .before .before .before .before .before .before .before .args in
+    let v = c .before .before .commands2 .last .0 in
+    let e : length v ≡ 6178 = search needs in
+    laid-whole (a .t .now) v (a .x) e
+    (then 6178 (rows .before .before .before .before .head .ensures)
+    (then 6104 (rows .labels .ensures)
+    (then 5840 (c .before .before .before .before .before .before .before .before .before .before .items .ensures)
+    (then 3504 (c .before .before .before .before .before .before .items2 .ensures) (c .before .before .commands2 .ensures) refl refl) refl refl) refl refl) refl refl)
 
 pub put-spec : {M : Type 1} → statement M
 put-spec =
     tie.close
-    (tie.spec head-requires labels-requires items-requires items-requires-2 same-length returns)
+    (tie.spec
+    head-requires
+    labels-requires
+    items-requires
+    items-requires-2
+    commands-requires
+    same-length
+    returns)

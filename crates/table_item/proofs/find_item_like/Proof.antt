@@ -40,6 +40,7 @@ returns : tie.Need-returns
 returns c =
     let p = c .before .before .before .before .before .before .before in
     let a = p .before .before .before .before .args in
+    let g = p .before .before .before .before .good in
     let k = text-part (a .row .code) (search needs) _ (p .before .size .ensures) in
     let m = text-part (a .row .name) (search needs) _ (p .size2 .ensures) in
     rw (k, m) at (c .find-item .ensures)

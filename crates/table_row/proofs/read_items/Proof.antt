@@ -1,26 +1,40 @@
-use Prim.Native.Nat.{_≤_, _-_}
-use mathlib.Core.Path.{_≡_, ap, _∙_}
+use Prim.Native.Nat.{ℕ, _≤_, _-_}
+use mathlib.Core.Path.{_≡_, refl, sym, ap, ap₂, _∙_}
+use mathlib.Core.List.{List}
+use mathlib.Core.Logic.{⊎-elim}
+use native.Mathlib.Omega.{arith}
+use lib.ListN.{length, set, length-set}
+use lib.Seq.{set-out}
+use Rattle.table_item.specs.declared.Item.{Item}
+use Rattle.table_row.specs.declared.ItemRead.{ItemRead}
+use Rattle.table_row.specs.Rows.{itemAt, itemsTo}
 use native.Mathlib.Numerals.{add-one}
 use borrow.Author.Needs.{needs}
-use Rattle.table_row.specs.Rows.{itemsTo}
 use Rattle.table_row.proofs.read_items.Statement.{statement}
 use Rattle.table_row.proofs.read_items.Tie as tie
 
 abbrev Inv-loop : tie.InvT-loop
-Inv-loop s at named components count r₀ i₀ r i = (i ≤ count) × (r ≡ itemsTo s named components at i)
+Inv-loop s at kind components count items₀ next₀ i₀ items next i =
+    (i ≤ count) × ((length items ≡ 32) × ((items ≡ itemsTo s kind components at i .items) × (next ≡ itemsTo s kind components at i .next)))
 
 abbrev μ-loop : tie.MeasureT-loop
-μ-loop s at named components count r₀ i₀ r i = count - i
+μ-loop s at kind components count items₀ next₀ i₀ items next i = count - i
 
 none-requires : tie.Need-none-requires Inv-loop μ-loop
 none-requires c κs = search needs
 
 loop-holds : tie.Need-loop-holds Inv-loop μ-loop
 unfolding itemsTo
-loop-holds c = (search needs, rw (c .none .ensures))
+loop-holds c = (search needs, (refl, (rw (c .none .ensures), refl)))
 
-one-more-item-requires : tie.Need-one-more-item-requires Inv-loop μ-loop
-one-more-item-requires c κs = search needs
+item-at-requires : tie.Need-item-at-requires Inv-loop μ-loop
+item-at-requires c κs = search needs
+
+mul-items : tie.Need-mul-items Inv-loop μ-loop
+mul-items c = search needs
+
+array-set-from-items : tie.Need-array-set-from-items Inv-loop μ-loop
+array-set-from-items c = search needs
 
 add-i : tie.Need-add-i Inv-loop μ-loop
 add-i c = search needs
@@ -30,14 +44,33 @@ loop-less c = search needs
 
 loop-again : tie.Need-loop-again Inv-loop μ-loop
 unfolding itemsTo
-loop-again c = (search needs, rw (add-one, ← (c .before .before .loop .inv .1)) (c .one-more-item .ensures))
+loop-again c =
+    let l = c .before .before .before .before .loop in
+    let a = c .before .before .before .before .before .before .before .args in
+    let read = c .before .before .item-at .ensures in
+    let row = c .before .before .item-at .result .item in
+    let n = l .inv .1 .0 in
+    let stored : c .if1 .items ≡ set (l .items) (l .i) row =
+    ⊎-elim (λ h. h .1) (λ h. h .1 ∙ sym (set-out (l .items) (l .i) row (omega (arith, n, h .0 .left)))) (c .if1 .came) in
+    let next-is = l .inv .1 .1 .1 in
+    let item-is : row ≡ itemAt (a .s .now) (a .kind) (a .components) (itemsTo (a .s .now) (a .kind) (a .components) (a .at) (l .i) .next) .item =
+    ap (λ (r : ItemRead). r .item) read ∙ ap (λ (p : ℕ). itemAt (a .s .now) (a .kind) (a .components) p .item) next-is in (
+      search needs,
+      (
+        ap length stored ∙ length-set (l .items) (l .i) row ∙ n,
+        (
+          rw add-one (stored ∙ ap₂ (λ (x : List Item) (y : Item). set x (l .i) y) (l .inv .1 .1 .0) item-is),
+          rw add-one (ap (λ (r : ItemRead). r .next) read ∙ ap (λ (p : ℕ). itemAt (a .s .now) (a .kind) (a .components) p .next) next-is),
+        ),
+      ),
+    )
 
 returns : tie.Need-returns Inv-loop μ-loop
 returns c =
     let l = c .before .loop in
     let a = c .before .before .before .before .args in
     let e : l .i ≡ a .count = search needs in
-    l .inv .1 ∙ ap (itemsTo (a .s .now) (a .named) (a .components) (a .at)) e
+    (λ i. record { items = l .inv .1 .1 .0 i; next = l .inv .1 .1 .1 i }) ∙ ap (itemsTo (a .s .now) (a .kind) (a .components) (a .at)) e
 
 pub read-items-spec : {M : Type 1} → statement M
 read-items-spec =
@@ -47,7 +80,9 @@ read-items-spec =
     μ-loop
     none-requires
     loop-holds
-    one-more-item-requires
+    item-at-requires
+    mul-items
+    array-set-from-items
     add-i
     loop-less
     loop-again

@@ -17,7 +17,7 @@ item-is-requires c κs = search needs
 returns : tie.Need-returns
 returns c =
     let a = c .before .before .before .before .before .args in
-    rw (← (item-at (a .t .now) (a .i) (a .k) (search needs))) (c .item-is .ensures)
+    rw (← (item-at (a .t .now) (a .i) (a .k) (a .n) (search needs))) (c .item-is .ensures)
 
 none-requires : tie.Need-none-requires
 none-requires c κs = search needs
@@ -28,7 +28,7 @@ is-requires c κs = search needs
 returns-2 : tie.Need-returns-2
 returns-2 c =
     let a = c .before .before .before .before .before .before .args in
-    rw (← (item-behind (a .t .now) (a .i) (a .k) (search needs)), ← (c .before .none .ensures)) (c .is .ensures)
+    rw (← (item-behind (a .t .now) (a .i) (a .k) (a .n) (search needs)), ← (c .before .none .ensures)) (c .is .ensures)
 
 pub is-item-spec : {M : Type 1} → statement M
 is-item-spec =

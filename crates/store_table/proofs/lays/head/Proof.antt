@@ -15,6 +15,9 @@ count-requires-2 c κs = search needs
 count-requires-3 : tie.Need-count-requires-3
 count-requires-3 c κs = search needs
 
+count-requires-4 : tie.Need-count-requires-4
+count-requires-4 c κs = search needs
+
 label-requires : tie.Need-label-requires
 label-requires c κs = search needs
 
@@ -25,7 +28,12 @@ same-length : tie.Need-same-length
 same-length c = search needs
 
 returns : tie.Need-returns
-returns c = then 72 (c .before .before .before .before .before .before .before .before .before .before .before .before .before .before .before .before .before .before .count .ensures) (then 70 (c .before .before .before .before .before .before .before .before .before .before .before .before .before .before .count2 .ensures) (then 68 (c .before .before .before .before .before .before .before .before .before .before .count3 .ensures) (then 66 (c .before .before .before .before .before .before .label .ensures) (c .before .before .label2 .ensures) refl refl) refl refl) refl refl) refl refl
+returns c =
+    let counts = c .before .before .before .before .before .before .before .before .before .before in
+    then 74 (counts .before .before .before .before .before .before .before .before .before .before .before .before .count .ensures)
+    (then 72 (counts .before .before .before .before .before .before .before .before .count2 .ensures)
+    (then 70 (counts .before .before .before .before .count3 .ensures)
+    (then 68 (counts .count4 .ensures) (then 66 (c .before .before .before .before .before .before .label .ensures) (c .before .before .label2 .ensures) refl refl) refl refl) refl refl) refl refl) refl refl
 
 pub head-spec : {M : Type 1} → statement M
 head-spec =
@@ -34,6 +42,7 @@ head-spec =
     count-requires
     count-requires-2
     count-requires-3
+    count-requires-4
     label-requires
     label-requires-2
     same-length

@@ -1,8 +1,9 @@
 -- `store_table::lays::item` meets its contract.
 -- Assumes nothing.
+use mathlib.Core.Path.{refl}
 use native.Mathlib.Omega.{arith}
-use lib.ListN.{length-set}
-use Rattle.store_table.proofs.LayLaws.{item-laid}
+use Rattle.store_table.specs.Layout.{itemBytes}
+use Rattle.store_table.proofs.LayLaws.{then}
 use borrow.Author.Needs.{needs}
 use Rattle.store_table.proofs.lays.item.Statement.{statement}
 use Rattle.store_table.proofs.lays.item.Tie as tie
@@ -16,31 +17,33 @@ add-label c = search needs
 label-requires-2 : tie.Need-label-requires-2
 label-requires-2 c κs = search needs
 
-add-t : tie.Need-add-t
-add-t c = search needs
+add-three : tie.Need-add-three
+add-three c = search needs
 
-slice-write-t : tie.Need-slice-write-t
-slice-write-t c = search needs
+three-requires : tie.Need-three-requires
+three-requires c κs = search needs
 
-add-t-2 : tie.Need-add-t-2
-add-t-2 c = search needs
+add-count : tie.Need-add-count
+add-count c = search needs
 
-slice-write-t-2 : tie.Need-slice-write-t-2
-slice-write-t-2 c = simp length-set (omega arith)
+count-requires : tie.Need-count-requires
+count-requires c κs = search needs
 
-add-t-3 : tie.Need-add-t-3
-add-t-3 c = search needs
+add-count-2 : tie.Need-add-count-2
+add-count-2 c = search needs
 
-slice-write-t-3 : tie.Need-slice-write-t-3
-slice-write-t-3 c = simp length-set (omega arith)
+count-requires-2 : tie.Need-count-requires-2
+count-requires-2 c κs = search needs
 
 same-length : tie.Need-same-length
-same-length c = simp length-set (search needs)
+same-length c = search needs
 
 returns : tie.Need-returns
+unfolding itemBytes
 returns c =
-    let a = c .before .before .before .before .before .before .before .before .before .before .before .args in
-    item-laid (a .t .now) (c .before .before .before .before .before .before .label .last .0) (c .before .before .label2 .last .0) (a .at) (a .x) (search needs) (c .before .before .before .before .before .before .label .ensures) (c .before .before .label2 .ensures)
+    then 73 (c .before .before .before .before .before .before .before .before .before .before .before .before .before .before .before .before .before .before .label .ensures)
+    (then 40 (c .before .before .before .before .before .before .before .before .before .before .before .before .before .before .label2 .ensures)
+    (then 7 (c .before .before .before .before .before .before .before .before .before .before .three .ensures) (then 4 (c .before .before .before .before .before .before .count .ensures) (c .before .before .count2 .ensures) (omega arith) refl) (omega arith) refl) (omega arith) refl) refl refl
 
 pub item-spec : {M : Type 1} → statement M
 item-spec =
@@ -49,11 +52,11 @@ item-spec =
     label-requires
     add-label
     label-requires-2
-    add-t
-    slice-write-t
-    add-t-2
-    slice-write-t-2
-    add-t-3
-    slice-write-t-3
+    add-three
+    three-requires
+    add-count
+    count-requires
+    add-count-2
+    count-requires-2
     same-length
     returns)

@@ -13,7 +13,7 @@ use Rattle.store_table.proofs.lays.items.Statement.{statement}
 use Rattle.store_table.proofs.lays.items.Tie as tie
 
 abbrev Inv-loop : tie.InvT-loop
-Inv-loop t₀ at rows k₀ t k = (k ≤ 32) × ((length t ≡ length t₀) × ((at + 2208 ≤ length t₀) × Laid t₀ at (69 * k) (inTurn itemBytes (take k rows)) t))
+Inv-loop t₀ at rows k₀ t k = (k ≤ 32) × ((length t ≡ length t₀) × ((at + 2336 ≤ length t₀) × Laid t₀ at (73 * k) (inTurn itemBytes (take k rows)) t))
 
 abbrev μ-loop : tie.MeasureT-loop
 μ-loop t₀ at rows k₀ t k = 32 - k
@@ -50,7 +50,7 @@ loop-again c =
     let put = c .before .before .item in
     let n : length (put .last .0) ≡ length (a .t .now) = search needs in
     let m : length (a .t3) ≡ 32 = search (s, needs) in
-    (omega arith, (n, (l .inv .1 .1 .0, said (then (69 * (l .k + 1)) (l .inv .1 .1 .1) (put .ensures) refl (omega arith)) (in-turn-next itemBytes (a .t3) (l .k) _ (omega arith)))))
+    (omega arith, (n, (l .inv .1 .1 .0, said (then (73 * (l .k + 1)) (l .inv .1 .1 .1) (put .ensures) refl (omega arith)) (in-turn-next itemBytes (a .t3) (l .k) _ (omega arith)))))
 
 same-length : tie.Need-same-length Inv-loop μ-loop
 same-length c = search needs
@@ -61,7 +61,7 @@ returns c =
     let s = c .before .before .before in
     let a = s .args in
     let m : length (a .t3) ≡ 32 = search (s, needs) in
-    all-laid itemBytes (a .t3) (l .k) 2208 (omega arith) (omega arith) (l .inv .1 .1 .1)
+    all-laid itemBytes (a .t3) (l .k) 2336 (omega arith) (omega arith) (l .inv .1 .1 .1)
 
 pub items-spec : {M : Type 1} → statement M
 items-spec =

@@ -32,10 +32,22 @@ add-t11 c = search needs
 shared-slice-read-t13 : tie.Need-shared-slice-read-t13
 shared-slice-read-t13 c = search needs
 
+add-count-at : tie.Need-add-count-at
+add-count-at c = search needs
+
+count-at-requires : tie.Need-count-at-requires
+count-at-requires c κs = search needs
+
+add-count-at-2 : tie.Need-add-count-at-2
+add-count-at-2 c = search needs
+
+count-at-requires-2 : tie.Need-count-at-requires-2
+count-at-requires-2 c κs = search needs
+
 returns : tie.Need-returns
 returns c =
-    let a = c .before .before .before .before .before .before .args in
-    item-get (a .t .now) (a .i) (c .before .before .before .before .label-at .ensures) (c .before .before .before .label-at2 .ensures)
+    let a = c .before .before .before .before .before .before .before .before .args in
+    item-get (a .t .now) (a .i) (c .before .before .before .before .before .before .label-at .ensures) (c .before .before .before .before .before .label-at2 .ensures) (c .before .count-at .ensures) (c .count-at2 .ensures)
 
 pub item-at-spec : {M : Type 1} → statement M
 item-at-spec =
@@ -50,4 +62,8 @@ item-at-spec =
     shared-slice-read-t10
     add-t11
     shared-slice-read-t13
+    add-count-at
+    count-at-requires
+    add-count-at-2
+    count-at-requires-2
     returns)

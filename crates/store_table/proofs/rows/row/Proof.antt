@@ -18,7 +18,7 @@ item-at-requires c κs = search needs
 returns : tie.Need-returns
 returns c =
     let a = c .before .before .before .args in
-    c .item-at .ensures ∙ item-at (a .t .now) (a .i) (a .k) (search needs)
+    c .item-at .ensures ∙ item-at (a .t .now) (a .i) (a .k) (a .n) (search needs)
 
 none-requires : tie.Need-none-requires
 none-requires c κs = search needs
@@ -26,7 +26,7 @@ none-requires c κs = search needs
 returns-2 : tie.Need-returns-2
 returns-2 c =
     let a = c .before .before .before .args in
-    c .none .ensures ∙ item-behind (a .t .now) (a .i) (a .k) (search needs)
+    c .none .ensures ∙ item-behind (a .t .now) (a .i) (a .k) (a .n) (search needs)
 
 pub row-spec : {M : Type 1} → statement M
 row-spec =

@@ -1,6 +1,7 @@
 use mathlib.Core.Path.{sym, _∙_}
 use borrow.Author.Tests.{not-true, not-false}
 use Rattle.table_whole.specs.Reading.{ownNames}
+use Rattle.table_whole.proofs.Kept.{own-padded}
 use borrow.Author.Needs.{needs}
 use Rattle.table_whole.proofs.SiteTable.own_names.Statement.{statement}
 use Rattle.table_whole.proofs.SiteTable.own_names.Tie as tie
@@ -38,11 +39,34 @@ own-items-requires-2 c κs = search needs
 returns-3 : tie.Need-returns-3
 unfolding ownNames
 returns-3 c =
-    let q = c .before .before .before in
+    let q = c .before .before .before .before in
     let p = q .before .before .before .before in
     let labels = sym (rw (p .before .before .wide .ensures) at (p .before .own-labels .ensures)) ∙ not-false _ (p .if1 .left) in
     let alarms = sym (rw (q .before .before .wide2 .ensures) at (q .before .own-items .ensures)) ∙ not-false _ (q .if2 .left) in
-    simp (labels, alarms) (rw (c .before .wide3 .ensures) at (c .own-items2 .ensures))
+    let statuses = sym (rw (c .before .before .wide3 .ensures) at (c .before .own-items2 .ensures)) ∙ not-true _ (c .if3 .taken) in
+    sym (simp (labels, alarms, statuses))
+
+widened-requires : tie.Need-widened-requires
+widened-requires c κs = search needs
+
+wide-requires-4 : tie.Need-wide-requires-4
+wide-requires-4 c κs = search needs
+
+own-items-requires-3 : tie.Need-own-items-requires-3
+own-items-requires-3 c κs = search needs
+
+returns-4 : tie.Need-returns-4
+unfolding ownNames
+returns-4 c =
+    let o = c .before .before .before .before in
+    let q = o .before .before .before .before in
+    let p = q .before .before .before .before in
+    let m = p .before .before .before .before .args .self in
+    let labels = sym (rw (p .before .before .wide .ensures) at (p .before .own-labels .ensures)) ∙ not-false _ (p .if1 .left) in
+    let alarms = sym (rw (q .before .before .wide2 .ensures) at (q .before .own-items .ensures)) ∙ not-false _ (q .if2 .left) in
+    let statuses = sym (rw (o .before .before .wide3 .ensures) at (o .before .own-items2 .ensures)) ∙ not-false _ (o .if3 .left) in
+    let commands = rw (c .before .before .widened .ensures, c .before .wide4 .ensures) at (c .own-items3 .ensures) in
+    simp (labels, alarms, statuses) (commands ∙ own-padded 32 (m .commands) (m .commandcount))
 
 pub own-names-spec : {M : Type 1} → statement M
 own-names-spec =
@@ -56,4 +80,8 @@ own-names-spec =
     returns-2
     wide-requires-3
     own-items-requires-2
-    returns-3)
+    returns-3
+    widened-requires
+    wide-requires-4
+    own-items-requires-3
+    returns-4)

@@ -1,0 +1,82 @@
+-- `store_table::lays::commands` meets its contract.
+-- Assumes nothing.
+use Prim.Native.Nat.{_≤_, _-_, _+_, _*_}
+use mathlib.Core.Path.{_≡_, refl}
+use native.Mathlib.Omega.{arith}
+use borrow.Author.Needs.{needs}
+use lib.ListN.{length, take}
+use Rattle.table_whole.specs.Bytes.{inTurn}
+use Rattle.store_table.specs.Layout.{itemBytes}
+use Rattle.store_table.specs.Laid.{Laid}
+use Rattle.store_table.proofs.LayLaws.{none, then, said, in-turn-next, all-laid}
+use Rattle.store_table.proofs.lays.commands.Statement.{statement}
+use Rattle.store_table.proofs.lays.commands.Tie as tie
+
+abbrev Inv-loop : tie.InvT-loop
+Inv-loop t₀ at rows k₀ t k = (k ≤ 16) × ((length t ≡ length t₀) × ((at + 1168 ≤ length t₀) × Laid t₀ at (73 * k) (inTurn itemBytes (take k rows)) t))
+
+abbrev μ-loop : tie.MeasureT-loop
+μ-loop t₀ at rows k₀ t k = 16 - k
+
+loop-holds : tie.Need-loop-holds Inv-loop μ-loop
+loop-holds c = (omega arith, (refl, (search needs, none _ _)))
+
+mul-item : tie.Need-mul-item Inv-loop μ-loop
+mul-item c = omega arith
+
+add-item : tie.Need-add-item Inv-loop μ-loop
+add-item c = omega arith
+
+mul-item-2 : tie.Need-mul-item-2 Inv-loop μ-loop
+mul-item-2 c = omega arith
+
+array-copy-out-item : tie.Need-array-copy-out-item Inv-loop μ-loop
+array-copy-out-item c = omega arith
+
+item-requires : tie.Need-item-requires Inv-loop μ-loop
+item-requires c κs = omega arith
+
+add-k : tie.Need-add-k Inv-loop μ-loop
+add-k c = omega arith
+
+loop-less : tie.Need-loop-less Inv-loop μ-loop
+loop-less c = omega arith
+
+loop-again : tie.Need-loop-again Inv-loop μ-loop
+loop-again c =
+    let l = c .before .before .before .before .before .before .loop in
+    let s = c .before .before .before .before .before .before .before .before in
+    let a = s .args in
+    let put = c .before .before .item in
+    let n : length (put .last .0) ≡ length (a .t .now) = search needs in
+    let m : length (a .t3) ≡ 16 = search (s, needs) in
+    (omega arith, (n, (l .inv .1 .1 .0, said (then (73 * (l .k + 1)) (l .inv .1 .1 .1) (put .ensures) refl (omega arith)) (in-turn-next itemBytes (a .t3) (l .k) _ (omega arith)))))
+
+same-length : tie.Need-same-length Inv-loop μ-loop
+same-length c = search needs
+
+returns : tie.Need-returns Inv-loop μ-loop
+returns c =
+    let l = c .before .loop in
+    let s = c .before .before .before in
+    let a = s .args in
+    let m : length (a .t3) ≡ 16 = search (s, needs) in
+    all-laid itemBytes (a .t3) (l .k) 1168 (omega arith) (omega arith) (l .inv .1 .1 .1)
+
+pub commands-spec : {M : Type 1} → statement M
+commands-spec =
+    tie.close
+    (tie.spec
+    Inv-loop
+    μ-loop
+    loop-holds
+    mul-item
+    add-item
+    mul-item-2
+    array-copy-out-item
+    item-requires
+    add-k
+    loop-less
+    loop-again
+    same-length
+    returns)

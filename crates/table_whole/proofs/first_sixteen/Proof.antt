@@ -1,0 +1,80 @@
+use mathlib.Core.Path.{_≡_, ap, _∙_}
+use mathlib.Core.List.{List}
+use Prim.Native.Nat.{ℕ, _-_, _≤_, _<_}
+use native.Mathlib.Omega.{arith}
+use lib.ListN.{length, getD, take, set}
+use lib.Seq.{length-take-le}
+use Rattle.label.specs.Padded.{padded}
+use Rattle.table_item.specs.declared.Item.{Item}
+use Rattle.table_item.specs.Item.{noItem}
+use Rattle.label.proofs.Padded.{copy-one}
+use Rattle.table_whole.proofs.Kept.{full}
+use mathlib.Core.Path.{_≡_}
+use Prim.Native.Nat.{ℕ, _-_, _≤_}
+use lib.ListN.{length, take}
+use borrow.Author.Needs.{needs}
+use Rattle.table_whole.proofs.first_sixteen.Statement.{statement}
+use Rattle.table_whole.proofs.first_sixteen.Tie as tie
+
+abbrev Inv-loop : tie.InvT-loop
+Inv-loop rows first₀ i₀ first i = (i ≤ 16) × (first ≡ padded 16 noItem (take i rows))
+
+abbrev μ-loop : tie.MeasureT-loop
+μ-loop rows first₀ i₀ first i = 16 - i
+
+none-requires : tie.Need-none-requires Inv-loop μ-loop
+none-requires c κs = search needs
+
+loop-holds : tie.Need-loop-holds Inv-loop μ-loop
+loop-holds c = (search needs, rw (c .none .ensures))
+
+mul-first : tie.Need-mul-first Inv-loop μ-loop
+mul-first c = search needs
+
+array-copy-out-first : tie.Need-array-copy-out-first Inv-loop μ-loop
+array-copy-out-first c = search needs
+
+mul-first-2 : tie.Need-mul-first-2 Inv-loop μ-loop
+mul-first-2 c = search needs
+
+array-set-from-first : tie.Need-array-set-from-first Inv-loop μ-loop
+array-set-from-first c = search needs
+
+add-i : tie.Need-add-i Inv-loop μ-loop
+add-i c = search needs
+
+loop-less : tie.Need-loop-less Inv-loop μ-loop
+loop-less c = search needs
+
+loop-again : tie.Need-loop-again Inv-loop μ-loop
+loop-again c =
+    let l = c .before .before .loop in
+    let rows = c .before .before .before .before .args .t1 in
+    let n : length rows ≡ 32 = search needs in
+    let h : l .i < 16 = search needs in
+    (search needs, ap (λ (x : List Item). set x (l .i) (getD rows (l .i) _)) (l .inv .1) ∙ copy-one 16 noItem _ rows (l .i) (omega arith) (omega arith))
+
+returns : tie.Need-returns Inv-loop μ-loop
+returns c =
+    let l = c .before .loop in
+    let rows = c .before .before .before .args .t1 in
+    let n : length rows ≡ 32 = search needs in
+    let e : l .i ≡ 16 = search needs in
+    l .inv .1 ∙ ap (λ (m : ℕ). padded 16 noItem (take m rows)) e ∙ full 16 noItem (take 16 rows) (length-take-le 16 rows (omega arith))
+
+pub first-sixteen-spec : {M : Type 1} → statement M
+first-sixteen-spec =
+    tie.close
+    (tie.spec
+    Inv-loop
+    μ-loop
+    none-requires
+    loop-holds
+    mul-first
+    array-copy-out-first
+    mul-first-2
+    array-set-from-first
+    add-i
+    loop-less
+    loop-again
+    returns)
