@@ -57,6 +57,11 @@ fn entries_said(s: &[u8], subscribing: bool) -> u64 {
     f.count as u64
 }
 
+fn commands_said(s: &[u8]) -> u64 {
+    let f = read_commands::read_command(s);
+    f.count as u64
+}
+
 fn said_by(s: &[u8], k: Kind) -> u64 {
     match k {
         Kind::Version => versions_said(s),
@@ -66,6 +71,7 @@ fn said_by(s: &[u8], k: Kind) -> u64 {
         Kind::StatusRequest => entries_said(s, false),
         Kind::StatusSubscribe => entries_said(s, true),
         Kind::StatusUnsubscribe => entries_said(s, false),
+        Kind::CommandRequest => commands_said(s),
         Kind::Unexpected => 0,
     }
 }
@@ -118,7 +124,7 @@ fn greet(out: &mut [u8], message: u8, n: u32) -> usize {
             out,
             0,
             b"d6d97f8b-e9db-4572-8084-70b55e312584",
-            14 + (n % 11) as usize,
+            14 + (n % 12) as usize,
         ),
     }
 }

@@ -18,12 +18,12 @@ typeNames =
     ∷ text "StatusSubscribe" ∷ text "StatusUnsubscribe" ∷ text "StatusUpdate" ∷ text "CommandRequest"
     ∷ text "CommandResponse" ∷ []
 
--- the eleven reasons of a MessageNotAck
+-- the twelve reasons of a MessageNotAck
 abbrev pub reasons : List (List ℕ)
 reasons =
     text "Missing element" ∷ text "Bad value" ∷ text "Unexpected" ∷ text "Not ready" ∷ text "RSMP version"
     ∷ text "Site id" ∷ text "SXL version" ∷ text "Unknown component" ∷ text "Unknown alarm"
-    ∷ text "Unknown status" ∷ text "Busy" ∷ []
+    ∷ text "Unknown status" ∷ text "Unknown command" ∷ text "Busy" ∷ []
 
 -- the elements that we read or write
 abbrev pub elements : List (List ℕ)
@@ -32,7 +32,8 @@ elements =
     ∷ text "cId" ∷ text "RSMP" ∷ text "vers" ∷ text "siteId" ∷ text "sId" ∷ text "SXL" ∷ text "wTs"
     ∷ text "aCId" ∷ text "xACId" ∷ text "xNACId" ∷ text "aSp" ∷ text "ack" ∷ text "aS" ∷ text "sS"
     ∷ text "aTs" ∷ text "cat" ∷ text "pri" ∷ text "rvs" ∷ text "aSTS" ∷ text "fP" ∷ text "fS" ∷ text "se"
-    ∷ text "sTs" ∷ text "sCI" ∷ text "n" ∷ text "s" ∷ text "q" ∷ text "uRt" ∷ text "sOc" ∷ []
+    ∷ text "sTs" ∷ text "sCI" ∷ text "n" ∷ text "s" ∷ text "q" ∷ text "uRt" ∷ text "sOc"
+    ∷ text "arg" ∷ text "cCI" ∷ text "cO" ∷ text "v" ∷ text "cTS" ∷ text "age" ∷ []
 
 -- the values that we read or write
 abbrev pub words : List (List ℕ)

@@ -73,4 +73,16 @@ pub const U_RT: usize = reasons::END + 34;
 
 pub const S_OC: usize = reasons::END + 35;
 
-pub const END: usize = reasons::END + 36;
+pub const ARG: usize = reasons::END + 36;
+
+pub const C_C_I: usize = reasons::END + 37;
+
+pub const C_O: usize = reasons::END + 38;
+
+pub const V: usize = reasons::END + 39;
+
+pub const C_TS: usize = reasons::END + 40;
+
+pub const AGE: usize = reasons::END + 41;
+
+pub const END: usize = reasons::END + 42;

@@ -9,7 +9,7 @@ ghost use Rattle.names.specs.Held.{Held};
 
 mod table; // table.rt: the bytes of all names, and where each stands
 pub mod types; // types.rt: the fourteen types of messages
-pub mod reasons; // reasons.rt: the eleven reasons of a MessageNotAck
+pub mod reasons; // reasons.rt: the twelve reasons of a MessageNotAck
 pub mod elements; // elements.rt: the elements that we read or write
 pub mod words; // words.rt: the values that we read or write
 

@@ -21,6 +21,8 @@ pub const UNKNOWN_ALARM: usize = types::END + 8;
 
 pub const UNKNOWN_STATUS: usize = types::END + 9;
 
-pub const BUSY: usize = types::END + 10;
+pub const UNKNOWN_COMMAND: usize = types::END + 10;
 
-pub const END: usize = types::END + 11;
+pub const BUSY: usize = types::END + 11;
+
+pub const END: usize = types::END + 12;

@@ -23,17 +23,17 @@ use Rattle.packet_lookup.specs.Sought.{entryAt}
 use Rattle.site.specs.declared.Site.{Site}
 use Rattle.packet_status.specs.StatusReply.{valueIn, toldOf, toldTo, response}
 
-pub none-told : (xs : List ℕ) (at : ℕ) → Wrote xs at (entriesPieces true []) xs at
-none-told xs at = subst (λ (x : List (List ℕ)). Wrote xs at x xs at) (sym (kept .no-entry)) (record { all = refl })
+pub none-told : (xs : List ℕ) (at : ℕ) → Wrote xs at (entriesPieces Response true []) xs at
+none-told xs at = subst (λ (x : List (List ℕ)). Wrote xs at x xs at) (sym (kept .no-entry Response)) (record { all = refl })
 
 module _ (s : Site) (component : Sought) where
   pub one-told : (e : StatusEntry) (first : Bool) {v : Value} {xs ys : List ℕ} {at r : ℕ}
       → v ≡ valueIn s component e
-      → Wrote xs at (entryPieces first (status (textOf (e .code)) (textOf (e .name)) v)) ys r
-      → Wrote xs at (entryPieces first (toldOf s component e)) ys r
+      → Wrote xs at (entryPieces Response first (status (textOf (e .code)) (textOf (e .name)) v)) ys r
+      → Wrote xs at (entryPieces Response first (toldOf s component e)) ys r
   unfolding toldOf
   one-told e first {xs = xs} {ys = ys} {at = at} {r = r} f w =
-      subst (λ (x : Value). Wrote xs at (entryPieces first (status (textOf (e .code)) (textOf (e .name)) x)) ys r) f w
+      subst (λ (x : Value). Wrote xs at (entryPieces Response first (status (textOf (e .code)) (textOf (e .name)) x)) ys r) f w
 
   module _ (entries : List StatusEntry) where
     told-length : (n : ℕ) → length (toldTo s component entries n) ≡ n
@@ -42,21 +42,21 @@ module _ (s : Site) (component : Sought) where
         omega (arith, length-append (toldTo s component entries n) (toldOf s component (entryAt entries n) ∷ []), told-length n)
 
     pub one-more-told : (i : ℕ) {e : StatusEntry} {xs ys zs : List ℕ} {at m r : ℕ}
-        → Wrote xs at (entriesPieces true (toldTo s component entries i)) ys m
+        → Wrote xs at (entriesPieces Response true (toldTo s component entries i)) ys m
         → e ≡ entryAt entries i
-        → Wrote ys m (entryPieces (eqb i 0) (toldOf s component e)) zs r
-        → Wrote xs at (entriesPieces true (toldTo s component entries (i + 1))) zs r
+        → Wrote ys m (entryPieces Response (eqb i 0) (toldOf s component e)) zs r
+        → Wrote xs at (entriesPieces Response true (toldTo s component entries (i + 1))) zs r
     one-more-told i {xs = xs} {ys = ys} {zs = zs} {at = at} {m = m} {r = r} a h w =
-        let b = subst (λ (e : StatusEntry). Wrote ys m (entryPieces (eqb i 0) (toldOf s component e)) zs r) h w in
+        let b = subst (λ (e : StatusEntry). Wrote ys m (entryPieces Response (eqb i 0) (toldOf s component e)) zs r) h w in
         let x = toldOf s component (entryAt entries i) in
-        let first : entryPieces (eqb (length (toldTo s component entries i)) 0) x ≡ entryPieces (eqb i 0) x = ap (λ (n : ℕ). entryPieces (eqb n 0) x) (told-length i) in
-        let all : entriesPieces true (toldTo s component entries i ++ (x ∷ [])) ≡ entriesPieces true (toldTo s component entries i) ++ entryPieces (eqb i 0) x =
-        kept .one-more (toldTo s component entries i) x ∙ ap (λ (p : List (List ℕ)). entriesPieces true (toldTo s component entries i) ++ p) first in
+        let first : entryPieces Response (eqb (length (toldTo s component entries i)) 0) x ≡ entryPieces Response (eqb i 0) x = ap (λ (n : ℕ). entryPieces Response (eqb n 0) x) (told-length i) in
+        let all : entriesPieces Response true (toldTo s component entries i ++ (x ∷ [])) ≡ entriesPieces Response true (toldTo s component entries i) ++ entryPieces Response (eqb i 0) x =
+        kept .one-more Response (toldTo s component entries i) x ∙ ap (λ (p : List (List ℕ)). entriesPieces Response true (toldTo s component entries i) ++ p) first in
         rw add-one (subst (λ (p : List (List ℕ)). Wrote xs at p zs r) (sym all) (then a b))
 
   pub whole-told : (time : ℕ) (id : List ℕ) (f : StatusFields) {xs ys zs ws : List ℕ} {at m n r : ℕ}
       → Wrote xs at (statusHead Response id (textOf (f .component)) time) ys m
-      → Wrote ys m (entriesPieces true (toldTo s component (f .entries) (f .count))) zs n
+      → Wrote ys m (entriesPieces Response true (toldTo s component (f .entries) (f .count))) zs n
       → Wrote zs n statusTail ws r
       → Wrote xs at (pieces (response s time id component f)) ws r
   unfolding response

@@ -127,20 +127,27 @@ fn put_update(line: &mut [u8], id: Identity, s: &[u8]) -> usize {
     write_report::status::update(line, 0, id, component, time_in(s), code, name, value)
 }
 
-fn put_status(line: &mut [u8], at: usize, first: bool, e: Status) -> usize {
+fn put_status(line: &mut [u8], at: usize, kind: Told, first: bool, e: Status) -> usize {
     let code = e.code;
     let name = e.name;
     let value = e.value;
-    write_report::status::entry(line, at, first, code, name, value)
+    write_report::status::entry(line, at, kind, first, code, name, value)
 }
 
-fn put_entries(line: &mut [u8], at: usize, s: &[u8], from: usize, count: usize) -> usize {
+fn put_entries(
+    line: &mut [u8],
+    at: usize,
+    kind: Told,
+    s: &[u8],
+    from: usize,
+    count: usize,
+) -> usize {
     let mut end = at;
     let mut next = from;
     let mut i = 0;
     while i < count {
         let e = status_in(s, next);
-        end = put_status(line, end, i == 0, e);
+        end = put_status(line, end, kind, i == 0, e);
         next = e.next;
         i += 1;
     }
@@ -151,7 +158,7 @@ fn put_statuses(line: &mut [u8], kind: Told, id: Identity, s: &[u8]) -> usize {
     let a = label::read(s, LABELS);
     let component = a.label;
     let end = write_report::status::begin(line, 0, kind, id, component, time_in(s));
-    let end = put_entries(line, end, s, a.next, byte_in(s, 24) as usize);
+    let end = put_entries(line, end, kind, s, a.next, byte_in(s, 24) as usize);
     write_report::status::finish(line, end)
 }
 
@@ -159,6 +166,7 @@ fn put_told(line: &mut [u8], kind: u8, id: Identity, s: &[u8]) -> usize {
     match kind {
         b'R' => put_statuses(line, Told::Response, id, s),
         b'U' => put_statuses(line, Told::Update, id, s),
+        b'C' => put_statuses(line, Told::Command, id, s),
         _ => put_update(line, id, s),
     }
 }

@@ -28,13 +28,14 @@ use Rattle.json_value.specs.Grammar.Members.{mnil}
 use Rattle.write_message.specs.declared.AlarmState.{AlarmState}
 use Rattle.write_message.specs.declared.Value.{Value}
 use Rattle.write_message.specs.declared.Value.the-variants.{Recent, Old, Unknown, Undefined}
-use Rattle.write_message.specs.declared.Told.the-variants.{Response, Update}
+use Rattle.write_message.specs.declared.Told.{Told}
+use Rattle.write_message.specs.declared.Told.the-variants.{Response, Update, Command}
 use Rattle.write_message.specs.Message.{Message, Status}
 use Rattle.write_message.specs.Message.Message.{version, watchdog, ack, notAck, alarm, aggregated, statuses}
-use Rattle.write_message.specs.Listing.{jsonOf, said, statesOf, flagsOf, eventText, categoryText, valueJson, qualityText, statusesJson}
+use Rattle.write_message.specs.Listing.{jsonOf, said, statesOf, flagsOf, eventText, categoryText, valueJson, qualityText, statusJson, statusesJson}
 use Rattle.write_laws.specs.Formed.{Formed, FormedState}
 use Rattle.write_laws.specs.Formed.Formed.{formed-version, formed-watchdog, formed-ack, formed-notAck, formed-alarm, formed-aggregated, formed-statuses}
-use Rattle.write_laws.specs.Fields.{stateIn, flagsIn, timeOf, eventOf, categoryOf, integerOf, valueIn, statusesIn, fieldsOf}
+use Rattle.write_laws.specs.Fields.{stateIn, flagsIn, timeOf, eventOf, categoryOf, integerOf, valueIn, statusIn, statusesIn, fieldsOf}
 
 id-back : (bs : List ℕ) → SixteenBytes bs → readIdentity (identityText bs) .id .bytes ≡ bs
 id-back bs v = ap (λ r. r .id .bytes) (Identities.read-written bs v)
@@ -75,9 +76,18 @@ value-back (Old v) = ap Old (integer-back v)
 value-back Unknown = refl
 value-back Undefined = refl
 
-statuses-back : (ss : List Status) → statusesIn (statusesJson ss) ≡ ss
-statuses-back [] = refl
-statuses-back (s ∷ ss) = ap₂ (λ (v : Value) (l : List Status). record { code = s .code; name = s .name; value = v } ∷ l) (value-back (s .value)) (statuses-back ss)
+with-value : Status → Value → Status
+with-value s v = record { code = s .code; name = s .name; value = v }
+
+status-back : (kind : Told) (s : Status) → statusIn kind (statusJson kind s) ≡ s
+unfolding with-value
+status-back Response s = ap (with-value s) (value-back (s .value))
+status-back Update s = ap (with-value s) (value-back (s .value))
+status-back Command s = ap (with-value s) (value-back (s .value))
+
+statuses-back : (kind : Told) (ss : List Status) → statusesIn kind (statusesJson kind ss) ≡ ss
+statuses-back kind [] = refl
+statuses-back kind (s ∷ ss) = ap₂ (λ (x : Status) (l : List Status). x ∷ l) (status-back kind s) (statuses-back kind ss)
 
 right-value : ℕ → ℕ → Bool
 right-value v x = eqb (flagsIn 0 (flagsOf v)) v
@@ -107,8 +117,11 @@ back (aggregated id component time value) (formed-aggregated i c t v) =
     ap₂ (λ (b : List ℕ) (n : ℕ). aggregated b component n (flagsIn 0 (flagsOf value))) (id-back id i) (time-back time t)
     ∙ ap (aggregated id component time) (flags-back value v)
 back (statuses Response id component time entries) (formed-statuses i c t f) =
-    ap₂ (λ (b : List ℕ) (n : ℕ). statuses Response b component n (statusesIn (statusesJson entries))) (id-back id i) (time-back time t)
-    ∙ ap (statuses Response id component time) (statuses-back entries)
+    ap₂ (λ (b : List ℕ) (n : ℕ). statuses Response b component n (statusesIn Response (statusesJson Response entries))) (id-back id i) (time-back time t)
+    ∙ ap (statuses Response id component time) (statuses-back Response entries)
 back (statuses Update id component time entries) (formed-statuses i c t f) =
-    ap₂ (λ (b : List ℕ) (n : ℕ). statuses Update b component n (statusesIn (statusesJson entries))) (id-back id i) (time-back time t)
-    ∙ ap (statuses Update id component time) (statuses-back entries)
+    ap₂ (λ (b : List ℕ) (n : ℕ). statuses Update b component n (statusesIn Update (statusesJson Update entries))) (id-back id i) (time-back time t)
+    ∙ ap (statuses Update id component time) (statuses-back Update entries)
+back (statuses Command id component time entries) (formed-statuses i c t f) =
+    ap₂ (λ (b : List ℕ) (n : ℕ). statuses Command b component n (statusesIn Command (statusesJson Command entries))) (id-back id i) (time-back time t)
+    ∙ ap (statuses Command id component time) (statuses-back Command entries)

@@ -20,10 +20,10 @@ use Rattle.json_write.specs.Plain.PlainMembers.{last-member, member}
 use Rattle.write_message.specs.declared.Value.{Value}
 use Rattle.write_message.specs.declared.Value.the-variants.{Recent, Old, Unknown, Undefined}
 use Rattle.write_message.specs.declared.Told.{Told}
-use Rattle.write_message.specs.declared.Told.the-variants.{Response, Update}
+use Rattle.write_message.specs.declared.Told.the-variants.{Response, Update, Command}
 use Rattle.write_message.specs.Message.{Message, Status}
 use Rattle.write_message.specs.Message.Message.{version, watchdog, ack, notAck, alarm, aggregated, statuses}
-use Rattle.write_message.specs.Listing.{jsonOf, eventText, typeText, valueJson, qualityText, statusJson, statusesJson}
+use Rattle.write_message.specs.Listing.{jsonOf, eventText, typeText, timeName, listName, codeName, valueName, qualityName, valueJson, qualityText, statusJson, statusesJson}
 use Rattle.write_laws.specs.Formed.{Formed, FormedStatus, FormedStatuses}
 use Rattle.write_laws.specs.Formed.Formed.{formed-version, formed-watchdog, formed-ack, formed-notAck, formed-alarm, formed-aggregated, formed-statuses}
 use Rattle.write_laws.specs.Formed.FormedStatuses.{none as no-more, more as one-more}
@@ -38,9 +38,16 @@ choice b x y p q = picked PlainText b (text x) (text y) (λ e. word x p) (λ e. 
 event : (e : ℕ) → PlainText (eventText e)
 event e = picked PlainText (eqb e 0) (text "Issue") _ (λ h. word "Issue" refl) (λ h. choice (eqb e 1) "Acknowledge" "Suspend" refl refl)
 
-kind-word : (k : Told) → PlainText (typeText k)
-kind-word Response = word "StatusResponse" refl
-kind-word Update = word "StatusUpdate" refl
+of-kind : (name : Told → String) → allInAlphabet (text (name Response)) ≡ true → allInAlphabet (text (name Update)) ≡ true → allInAlphabet (text (name Command)) ≡ true
+    → (kind : Told) → PlainText (text (name kind))
+of-kind name r u c Response = word (name Response) r
+of-kind name r u c Update = word (name Update) u
+of-kind name r u c Command = word (name Command) c
+
+type-word : (kind : Told) → PlainText (typeText kind)
+type-word Response = word "StatusResponse" refl
+type-word Update = word "StatusUpdate" refl
+type-word Command = word "CommandResponse" refl
 
 value : {l : ℕ} (v : Value) → Plain l (valueJson v)
 value (Recent v) = pstr (plain-decimal v)
@@ -54,20 +61,21 @@ quality (Old v) = word "old" refl
 quality Unknown = word "unknown" refl
 quality Undefined = word "undefined" refl
 
-status : {l : ℕ} {s : Status} → FormedStatus s → Plain (suc l) (statusJson s)
-status {s = s} f =
-    pobj (member (word "sCI" refl) (pstr (plain-label (f .code)))
+status : {l : ℕ} (kind : Told) {s : Status} → FormedStatus s → Plain (suc l) (statusJson kind s)
+status kind {s} f =
+    pobj (member (of-kind codeName refl refl refl kind) (pstr (plain-label (f .code)))
     (member (word "n" refl) (pstr (plain-label (f .name)))
-    (member (word "s" refl) (value (s .value))
-    (last-member (word "q" refl) (pstr (quality (s .value)))))))
+    (member (of-kind valueName refl refl refl kind) (value (s .value))
+    (last-member (of-kind qualityName refl refl refl kind) (pstr (quality (s .value)))))))
 
-some-statuses : {l : ℕ} {s : Status} {ss : List Status} → FormedStatus s → FormedStatuses ss → PlainElements (suc l) (jcons (statusJson s) (statusesJson ss))
-some-statuses f no-more = last-element (status f)
-some-statuses f (one-more g gs) = element (status f) (some-statuses g gs)
+some-statuses : {l : ℕ} (kind : Told) {s : Status} {ss : List Status} → FormedStatus s → FormedStatuses ss
+    → PlainElements (suc l) (jcons (statusJson kind s) (statusesJson kind ss))
+some-statuses kind f no-more = last-element (status kind f)
+some-statuses kind f (one-more g gs) = element (status kind f) (some-statuses kind g gs)
 
-all-statuses : {l : ℕ} {ss : List Status} → FormedStatuses ss → Plain (suc (suc l)) (Json.arr (statusesJson ss))
-all-statuses no-more = parr₀
-all-statuses (one-more f fs) = parr (some-statuses f fs)
+all-statuses : {l : ℕ} (kind : Told) {ss : List Status} → FormedStatuses ss → Plain (suc (suc l)) (Json.arr (statusesJson kind ss))
+all-statuses kind no-more = parr₀
+all-statuses kind (one-more f fs) = parr (some-statuses kind f fs)
 
 pub plain-message : (m : Message) → Formed m → Plain 8 (jsonOf m)
 plain-message (version id site sxl) (formed-version i s x) =
@@ -122,10 +130,10 @@ plain-message (aggregated id component time value) (formed-aggregated i c t v) =
     (last-member (word "se" refl) (parr (element pbool (element pbool (element pbool (element pbool (element pbool (element pbool (element pbool (last-element pbool)))))))))))))))))))
 plain-message (statuses kind id component time entries) (formed-statuses i c t f) =
     pobj (member (word "mType" refl) (pstr (word "rSMsg" refl))
-    (member (word "type" refl) (pstr (kind-word kind))
+    (member (word "type" refl) (pstr (type-word kind))
     (member (word "mId" refl) (pstr (plain-identity i))
     (member (word "ntsOId" refl) (pstr none)
     (member (word "xNId" refl) (pstr none)
     (member (word "cId" refl) (pstr (plain-label c))
-    (member (word "sTs" refl) (pstr (plain-moment time))
-    (last-member (word "sS" refl) (all-statuses f)))))))))
+    (member (of-kind timeName refl refl refl kind) (pstr (plain-moment time))
+    (last-member (of-kind listName refl refl refl kind) (all-statuses kind f)))))))))

@@ -32,15 +32,15 @@ use Rattle.write_member.specs.Member.{momentText}
 use Rattle.write_message.specs.declared.Value.{Value}
 use Rattle.write_message.specs.declared.Value.the-variants.{Recent, Old, Unknown, Undefined}
 use Rattle.write_message.specs.declared.Told.{Told}
-use Rattle.write_message.specs.declared.Told.the-variants.{Response, Update}
+use Rattle.write_message.specs.declared.Told.the-variants.{Response, Update, Command}
 use Rattle.write_message.specs.Message.{Message, Status}
 use Rattle.write_message.specs.Message.Message.{version, watchdog, ack, notAck, alarm, aggregated, statuses}
-use Rattle.write_message.specs.Listing.{jsonOf, bytesOf, flag, flagsOf, eventText, typeText, valueJson, qualityText, statusJson, statusesJson}
+use Rattle.write_message.specs.Listing.{jsonOf, bytesOf, flag, flagsOf, eventText, valueJson, qualityText, statusJson, statusesJson}
 use Rattle.write_laws.specs.Formed.{Label, Received, Formed, FormedValue, FormedStatus, FormedStatuses}
 use Rattle.write_laws.specs.Formed.Formed.{formed-version, formed-watchdog, formed-ack, formed-notAck, formed-alarm, formed-aggregated, formed-statuses}
 use Rattle.write_laws.specs.Formed.FormedValue.{recent, old, unknown, undefined}
 use Rattle.write_laws.specs.Formed.FormedStatuses.{none as no-more, more as one-more}
-use Rattle.write_laws.specs.Size.{most, mostStatuses, entriesIn}
+use Rattle.write_laws.specs.Size.{most, mostEntry, mostEntries, entriesIn}
 
 abbrev mutual
   size : Json → ℕ
@@ -111,10 +111,6 @@ choice-size b x y n p q = picked (λ (s : List ℕ). length s ≤ n) b x y (λ e
 event-size : (e : ℕ) → length (eventText e) ≤ 11
 event-size e = choice-size (eqb e 0) (text "Issue") _ 11 (omega arith) (choice-size (eqb e 1) (text "Acknowledge") (text "Suspend") 11 (omega arith) (omega arith))
 
-kind-size : (k : Told) → length (typeText k) ≤ 14
-kind-size Response = omega arith
-kind-size Update = omega arith
-
 bool-size : (b : Bool) → size (bool b) ≤ 5
 bool-size true = omega arith
 bool-size false = omega arith
@@ -131,16 +127,19 @@ value-size (Old v) (old h) = omega (arith, decimal-size v h)
 value-size Unknown unknown = omega arith
 value-size Undefined undefined = omega arith
 
-status-size : {s : Status} → FormedStatus s → size (statusJson s) ≤ 112
-status-size {s} f = omega (arith, label-size (f .code), label-size (f .name), value-size (s .value) (f .value))
+status-size : (kind : Told) {s : Status} → FormedStatus s → size (statusJson kind s) ≤ mostEntry kind
+status-size Response {s} f = omega (arith, label-size (f .code), label-size (f .name), value-size (s .value) (f .value))
+status-size Update {s} f = omega (arith, label-size (f .code), label-size (f .name), value-size (s .value) (f .value))
+status-size Command {s} f = omega (arith, label-size (f .code), label-size (f .name), value-size (s .value) (f .value))
 
-some-size : {s : Status} {ss : List Status} → FormedStatus s → FormedStatuses ss → elementsSize (jcons (statusJson s) (statusesJson ss)) ≤ 112 + 113 * length ss
-some-size f no-more = omega (arith, status-size f)
-some-size f (one-more g gs) = omega (arith, status-size f, some-size g gs)
+some-size : (kind : Told) {s : Status} {ss : List Status} → FormedStatus s → FormedStatuses ss
+    → elementsSize (jcons (statusJson kind s) (statusesJson kind ss)) ≤ mostEntries kind (s ∷ ss)
+some-size kind f no-more = omega (arith, status-size kind f)
+some-size kind f (one-more g gs) = omega (arith, status-size kind f, some-size kind g gs)
 
-statuses-size : {ss : List Status} → FormedStatuses ss → elementsSize (statusesJson ss) + 191 ≤ mostStatuses ss
-statuses-size no-more = omega arith
-statuses-size (one-more f fs) = omega (arith, some-size f fs)
+statuses-size : (kind : Told) {ss : List Status} → FormedStatuses ss → elementsSize (statusesJson kind ss) ≤ mostEntries kind ss
+statuses-size kind no-more = omega arith
+statuses-size kind (one-more f fs) = some-size kind f fs
 
 sized : (m : Message) → Formed m → size (jsonOf m) + 1 ≤ most m
 sized (version id site sxl) (formed-version i s x) = omega (arith, text-length id, label-size s, label-size x)
@@ -162,21 +161,29 @@ sized (alarm id component code s) (formed-alarm i c k f) =
       digits-length 0 (s .priority) (omega (arith, f .highest)),
     )
 sized (aggregated id component time value) (formed-aggregated i c t v) = omega (arith, text-length id, label-size c, moment-size time, flags-size value)
-sized (statuses kind id component time entries) (formed-statuses i c t f) =
-    omega (arith, text-length id, label-size c, moment-size time, kind-size kind, statuses-size f)
+sized (statuses Response id component time entries) (formed-statuses i c t f) =
+    omega (arith, text-length id, label-size c, moment-size time, statuses-size Response f)
+sized (statuses Update id component time entries) (formed-statuses i c t f) =
+    omega (arith, text-length id, label-size c, moment-size time, statuses-size Update f)
+sized (statuses Command id component time entries) (formed-statuses i c t f) =
+    omega (arith, text-length id, label-size c, moment-size time, statuses-size Command f)
 
 pub long : (m : Message) → Formed m → length (bytesOf m) ≤ most m
 long m f = omega (arith, length-append (textOf (jsonOf m)) (0x0c ∷ []), size-is (jsonOf m) [], sized m f)
 
-most-sixteen : (m : Message) → entriesIn m ≤ 16 → most m ≤ 1998
+most-sixteen : (m : Message) → entriesIn m ≤ 16 → most m ≤ 2032
 most-sixteen (version id site sxl) h = omega arith
 most-sixteen (watchdog id time) h = omega arith
 most-sixteen (ack received) h = omega arith
 most-sixteen (notAck received reason) h = omega arith
 most-sixteen (alarm id component code s) h = omega arith
 most-sixteen (aggregated id component time value) h = omega arith
-most-sixteen (statuses kind id component time []) h = omega arith
-most-sixteen (statuses kind id component time (e ∷ es)) h = omega arith
+most-sixteen (statuses Response id component time []) h = omega arith
+most-sixteen (statuses Response id component time (e ∷ es)) h = omega arith
+most-sixteen (statuses Update id component time []) h = omega arith
+most-sixteen (statuses Update id component time (e ∷ es)) h = omega arith
+most-sixteen (statuses Command id component time []) h = omega arith
+most-sixteen (statuses Command id component time (e ∷ es)) h = omega arith
 
 pub room : (received : List ℕ) (m : Message) → Received received → Formed m → entriesIn m ≤ 16 → length (bytesOf (ack received) ++ bytesOf m) ≤ 4096
 room received m r f h =

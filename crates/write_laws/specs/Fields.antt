@@ -26,8 +26,9 @@ use Rattle.write_message.specs.declared.AlarmState.{AlarmState}
 use Rattle.write_message.specs.declared.Value.{Value}
 use Rattle.write_message.specs.declared.Value.the-variants.{Recent, Old, Unknown, Undefined}
 use Rattle.write_message.specs.declared.Told.{Told}
-use Rattle.write_message.specs.declared.Told.the-variants.{Response, Update}
+use Rattle.write_message.specs.declared.Told.the-variants.{Response, Update, Command}
 use Rattle.write_message.specs.Message.{Message, Status}
+use Rattle.write_message.specs.Listing.{timeName, listName, codeName, valueName, qualityName}
 use Rattle.write_message.specs.Message.Message.{version, watchdog, ack, notAck, alarm, aggregated, statuses}
 
 abbrev pub valueOf : Found → Json
@@ -93,15 +94,17 @@ valueIn quality s =
     pick (sameBytes quality (text "recent")) (Recent (integerOf (charactersOf s)))
     (pick (sameBytes quality (text "old")) (Old (integerOf (charactersOf s))) (pick (sameBytes quality (text "unknown")) Unknown Undefined))
 
-abbrev pub statusIn : Json → Status
-statusIn j = record { code = said "sCI" j; name = said "n" j; value = valueIn (said "q" j) (valueOf (member (text "s") j)) }
+abbrev pub statusIn : Told → Json → Status
+statusIn kind j =
+    record { code = said (codeName kind) j; name = said "n" j; value = valueIn (said (qualityName kind) j) (valueOf (member (text (valueName kind)) j)) }
 
-abbrev pub statusesIn : Jsons → List Status
-statusesIn jnil = []
-statusesIn (jcons j js) = statusIn j ∷ statusesIn js
+abbrev pub statusesIn : Told → Jsons → List Status
+statusesIn kind jnil = []
+statusesIn kind (jcons j js) = statusIn kind j ∷ statusesIn kind js
 
 abbrev pub toldIn : Told → Json → Message
-toldIn kind j = statuses kind (identityIn j) (said "cId" j) (timeIn "sTs" j) (statusesIn (elementsIn (valueOf (member (text "sS") j))))
+toldIn kind j =
+    statuses kind (identityIn j) (said "cId" j) (timeIn (timeName kind) j) (statusesIn kind (elementsIn (valueOf (member (text (listName kind)) j))))
 
 abbrev pub fieldsOf : Json → Message
 fieldsOf j =
@@ -111,4 +114,5 @@ fieldsOf j =
     (pick (saidIs "type" "MessageNotAck" j) (notAck (said "oMId" j) (said "rea" j))
     (pick (saidIs "type" "Alarm" j) (alarm (identityIn j) (said "cId" j) (said "aCId" j) (stateIn j))
     (pick (saidIs "type" "AggregatedStatus" j) (aggregated (identityIn j) (said "cId" j) (timeIn "aSTS" j) (flagsIn 0 (elementsIn (valueOf (member (text "se") j)))))
-    (pick (saidIs "type" "StatusResponse" j) (toldIn Response j) (toldIn Update j)))))))
+    (pick (saidIs "type" "StatusResponse" j) (toldIn Response j)
+    (pick (saidIs "type" "StatusUpdate" j) (toldIn Update j) (toldIn Command j))))))))

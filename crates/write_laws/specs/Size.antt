@@ -3,12 +3,26 @@
 use Prim.Native.Nat.{ℕ, _+_, _*_}
 use mathlib.Core.List.{List, [], _∷_}
 use lib.ListN.{length}
+use Rattle.write_message.specs.declared.Told.{Told}
+use Rattle.write_message.specs.declared.Told.the-variants.{Response, Update, Command}
 use Rattle.write_message.specs.Message.{Message, Status}
 use Rattle.write_message.specs.Message.Message.{version, watchdog, ack, notAck, alarm, aggregated, statuses}
 
-abbrev pub mostStatuses : List Status → ℕ
-mostStatuses [] = 191
-mostStatuses (s ∷ ss) = 303 + 113 * length ss
+-- without entries
+abbrev pub mostAround : Told → ℕ
+mostAround Response = 191
+mostAround Update = 189
+mostAround Command = 193
+
+-- an entry; a comma stands before each but the first
+abbrev pub mostEntry : Told → ℕ
+mostEntry Response = 112
+mostEntry Update = 112
+mostEntry Command = 114
+
+abbrev pub mostEntries : Told → List Status → ℕ
+mostEntries kind [] = 0
+mostEntries kind (s ∷ ss) = mostEntry kind + (1 + mostEntry kind) * length ss
 
 abbrev pub most : Message → ℕ
 most (version id site sxl) = 216
@@ -17,7 +31,7 @@ most (ack received) = 84
 most (notAck received reason) = 113
 most (alarm id component code s) = 348
 most (aggregated id component time value) = 257
-most (statuses kind id component time entries) = mostStatuses entries
+most (statuses kind id component time entries) = mostAround kind + mostEntries kind entries
 
 -- how many entries it has
 abbrev pub entriesIn : Message → ℕ

@@ -8,19 +8,20 @@ use mathlib.Core.List.{List, [], _∷_, _++_, append-assoc, append-nil}
 use lib.Dec.{eqb}
 use lib.ListN.{length}
 use borrow.Author.Tests.{ne-eqb}
+use Rattle.write_message.specs.declared.Told.{Told}
 use Rattle.write_message.specs.Message.{Status}
 use Rattle.write_message.specs.Pieces.{entryPieces, entriesPieces}
 
-another : (ss : List Status) (s : Status) → entriesPieces false (ss ++ (s ∷ [])) ≡ entriesPieces false ss ++ entryPieces false s
+another : (kind : Told) (ss : List Status) (s : Status) → entriesPieces kind false (ss ++ (s ∷ [])) ≡ entriesPieces kind false ss ++ entryPieces kind false s
 unfolding entriesPieces
-another [] s = append-nil (entryPieces false s)
-another (r ∷ ss) s = ap (λ l. entryPieces false r ++ l) (another ss s) ∙ sym (append-assoc (entryPieces false r) (entriesPieces false ss) (entryPieces false s))
+another kind [] s = append-nil (entryPieces kind false s)
+another kind (r ∷ ss) s = ap (λ l. entryPieces kind false r ++ l) (another kind ss s) ∙ sym (append-assoc (entryPieces kind false r) (entriesPieces kind false ss) (entryPieces kind false s))
 
-pub one-more : (ss : List Status) (s : Status) → entriesPieces true (ss ++ (s ∷ [])) ≡ entriesPieces true ss ++ entryPieces (eqb (length ss) 0) s
+pub one-more : (kind : Told) (ss : List Status) (s : Status) → entriesPieces kind true (ss ++ (s ∷ [])) ≡ entriesPieces kind true ss ++ entryPieces kind (eqb (length ss) 0) s
 unfolding entriesPieces
-one-more [] s = append-nil (entryPieces true s)
-one-more (r ∷ ss) s =
+one-more kind [] s = append-nil (entryPieces kind true s)
+one-more kind (r ∷ ss) s =
     let e : eqb (suc (length ss)) 0 ≡ false = ne-eqb (suc (length ss)) 0 (λ h. omega arith) in
-    ap (λ l. entryPieces true r ++ l) (another ss s)
-    ∙ sym (append-assoc (entryPieces true r) (entriesPieces false ss) (entryPieces false s))
-    ∙ ap (λ b. entryPieces true r ++ entriesPieces false ss ++ entryPieces b s) (sym e)
+    ap (λ l. entryPieces kind true r ++ l) (another kind ss s)
+    ∙ sym (append-assoc (entryPieces kind true r) (entriesPieces kind false ss) (entryPieces kind false s))
+    ∙ ap (λ b. entryPieces kind true r ++ entriesPieces kind false ss ++ entryPieces kind b s) (sym e)

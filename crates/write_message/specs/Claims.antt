@@ -18,6 +18,7 @@ pub record Claims : Type 0 where
   pub whole : (m : Message) → concat (pieces m) ≡ bytesOf m
   -- entries that are put one by one between a head and a tail make the message
   pub told : (kind : Told) (id component : List ℕ) (time : ℕ) (ss : List Status)
-      → pieces (statuses kind id component time ss) ≡ statusHead kind id component time ++ entriesPieces true ss ++ statusTail
-  pub no-entry : entriesPieces true [] ≡ []
-  pub one-more : (ss : List Status) (s : Status) → entriesPieces true (ss ++ (s ∷ [])) ≡ entriesPieces true ss ++ entryPieces (eqb (length ss) 0) s
+      → pieces (statuses kind id component time ss) ≡ statusHead kind id component time ++ entriesPieces kind true ss ++ statusTail
+  pub no-entry : (kind : Told) → entriesPieces kind true [] ≡ []
+  pub one-more : (kind : Told) (ss : List Status) (s : Status)
+      → entriesPieces kind true (ss ++ (s ∷ [])) ≡ entriesPieces kind true ss ++ entryPieces kind (eqb (length ss) 0) s

@@ -18,7 +18,7 @@ use Rattle.write_message.specs.declared.AlarmState.{AlarmState}
 use Rattle.write_message.specs.declared.Value.{Value}
 use Rattle.write_message.specs.declared.Value.the-variants.{Recent, Old, Unknown, Undefined}
 use Rattle.write_message.specs.declared.Told.{Told}
-use Rattle.write_message.specs.declared.Told.the-variants.{Response, Update}
+use Rattle.write_message.specs.declared.Told.the-variants.{Response, Update, Command}
 use Rattle.write_message.specs.Message.{Message, Status}
 use Rattle.write_message.specs.Message.Message.{version, watchdog, ack, notAck, alarm, aggregated, statuses}
 
@@ -72,8 +72,35 @@ flagsOf v =
 abbrev pub typeText : Told → List ℕ
 typeText Response = text "StatusResponse"
 typeText Update = text "StatusUpdate"
+typeText Command = text "CommandResponse"
 
--- "`s` is the shortest decimal text, `q` recent", or old; else `s` null
+-- what the elements of the three are called: the time, the list; in an entry the code, the value and how good it is
+abbrev pub timeName : Told → String
+timeName Response = "sTs"
+timeName Update = "sTs"
+timeName Command = "cTS"
+
+abbrev pub listName : Told → String
+listName Response = "sS"
+listName Update = "sS"
+listName Command = "rvs"
+
+abbrev pub codeName : Told → String
+codeName Response = "sCI"
+codeName Update = "sCI"
+codeName Command = "cCI"
+
+abbrev pub valueName : Told → String
+valueName Response = "s"
+valueName Update = "s"
+valueName Command = "v"
+
+abbrev pub qualityName : Told → String
+qualityName Response = "q"
+qualityName Update = "q"
+qualityName Command = "age"
+
+-- "`s` is the shortest decimal text, `q` recent", or old; else `s` null; of a command v and age
 abbrev pub valueJson : Value → Json
 valueJson (Recent v) = str (decimalOf v)
 valueJson (Old v) = str (decimalOf v)
@@ -86,13 +113,14 @@ qualityText (Old v) = text "old"
 qualityText Unknown = text "unknown"
 qualityText Undefined = text "undefined"
 
-abbrev pub statusJson : Status → Json
-statusJson s =
-    obj (said "sCI" (s .code) (said "n" (s .name) (element "s" (valueJson (s .value)) (said "q" (qualityText (s .value)) mnil))))
+abbrev pub statusJson : Told → Status → Json
+statusJson kind s =
+    obj (said (codeName kind) (s .code)
+    (said "n" (s .name) (element (valueName kind) (valueJson (s .value)) (said (qualityName kind) (qualityText (s .value)) mnil))))
 
-abbrev pub statusesJson : List Status → Jsons
-statusesJson [] = jnil
-statusesJson (s ∷ ss) = jcons (statusJson s) (statusesJson ss)
+abbrev pub statusesJson : Told → List Status → Jsons
+statusesJson kind [] = jnil
+statusesJson kind (s ∷ ss) = jcons (statusJson kind s) (statusesJson kind ss)
 
 abbrev pub jsonOf : Message → Json
 jsonOf (version id site sxl) =
@@ -111,7 +139,7 @@ jsonOf (aggregated id component time value) =
     obj (aboutOf (text "AggregatedStatus") id component
     (said "aSTS" (momentText time) (said "fP" [] (said "fS" [] (element "se" (arr (flagsOf value)) mnil)))))
 jsonOf (statuses kind id component time entries) =
-    obj (aboutOf (typeText kind) id component (said "sTs" (momentText time) (element "sS" (arr (statusesJson entries)) mnil)))
+    obj (aboutOf (typeText kind) id component (said (timeName kind) (momentText time) (element (listName kind) (arr (statusesJson kind entries)) mnil)))
 
 -- the message's bytes: its text and the form feed
 abbrev pub bytesOf : Message → List ℕ

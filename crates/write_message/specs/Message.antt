@@ -1,4 +1,4 @@
--- What the site writes: the eight written types by their fields.
+-- What the site writes: the nine written types by their fields.
 -- Assumes nothing.
 use Prim.Native.Nat.{ℕ}
 use mathlib.Core.List.{List}
@@ -6,7 +6,7 @@ use Rattle.write_message.specs.declared.AlarmState.{AlarmState}
 use Rattle.write_message.specs.declared.Value.{Value}
 use Rattle.write_message.specs.declared.Told.{Told}
 
--- one entry of a StatusResponse or a StatusUpdate
+-- one entry of a StatusResponse, a StatusUpdate or a CommandResponse
 pub record Status : Type 0 where
   pub code : List ℕ
   pub name : List ℕ

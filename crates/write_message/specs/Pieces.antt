@@ -16,7 +16,7 @@ use Rattle.write_message.specs.declared.Value.the-variants.{Recent, Old,
 use Rattle.write_message.specs.declared.Told.{Told}
 use Rattle.write_message.specs.Message.{Message, Status}
 use Rattle.write_message.specs.Message.Message.{version, watchdog, ack, notAck, alarm, aggregated, statuses}
-use Rattle.write_message.specs.Listing.{eventText, categoryText, typeText}
+use Rattle.write_message.specs.Listing.{eventText, categoryText, typeText, timeName, listName, codeName, valueName, qualityName}
 
 abbrev pub empty : List ℕ → List (List ℕ)
 empty name = named next name (text "\":\"\"")
@@ -69,35 +69,35 @@ lowPieces v = flagPieces v 8 (text ",") ++ flagPieces v 4 (text ",") ++ flagPiec
 unfoldable pub bodyPieces : ℕ → List (List ℕ)
 bodyPieces time = string next (text "aSTS") (momentText time) ++ empty (text "fP") ++ empty (text "fS") ++ array (text "se")
 
--- a StatusResponse or StatusUpdate: up to its entries, an entry, what follows them
+-- a StatusResponse, StatusUpdate or CommandResponse: up to its entries, an entry, what follows them
 unfoldable pub statusHead : Told → List ℕ → List ℕ → ℕ → List (List ℕ)
-statusHead kind id component time = aboutPieces (typeText kind) id component ++ string next (text "sTs") (momentText time) ++ array (text "sS")
+statusHead kind id component time = aboutPieces (typeText kind) id component ++ string next (text (timeName kind)) (momentText time) ++ array (text (listName kind))
 
-abbrev pub nullPieces : List ℕ → List (List ℕ)
-nullPieces quality = named next (text "s") (text "\":null") ++ string next (text "q") quality
+abbrev pub nullPieces : Told → List ℕ → List (List ℕ)
+nullPieces kind quality = named next (text (valueName kind)) (text "\":null") ++ string next (text (qualityName kind)) quality
 
-abbrev pub knownPieces : List ℕ → ℤ → List (List ℕ)
-knownPieces quality v = string next (text "s") (decimalOf v) ++ string next (text "q") quality
+abbrev pub knownPieces : Told → List ℕ → ℤ → List (List ℕ)
+knownPieces kind quality v = string next (text (valueName kind)) (decimalOf v) ++ string next (text (qualityName kind)) quality
 
-unfoldable pub valuePieces : Value → List (List ℕ)
-valuePieces (Recent v) = knownPieces (text "recent") v
-valuePieces (Old v) = knownPieces (text "old") v
-valuePieces Unknown = nullPieces (text "unknown")
-valuePieces Undefined = nullPieces (text "undefined")
+unfoldable pub valuePieces : Told → Value → List (List ℕ)
+valuePieces kind (Recent v) = knownPieces kind (text "recent") v
+valuePieces kind (Old v) = knownPieces kind (text "old") v
+valuePieces kind Unknown = nullPieces kind (text "unknown")
+valuePieces kind Undefined = nullPieces kind (text "undefined")
 
-abbrev pub codeOf : Bool → List ℕ → List (List ℕ)
-codeOf first code = string (pick first (text "{\"") (text ",{\"")) (text "sCI") code
+abbrev pub codeOf : Told → Bool → List ℕ → List (List ℕ)
+codeOf kind first code = string (pick first (text "{\"") (text ",{\"")) (text (codeName kind)) code
 
-unfoldable pub entryPieces : Bool → Status → List (List ℕ)
-entryPieces first s =
-    codeOf first (s .code)
+unfoldable pub entryPieces : Told → Bool → Status → List (List ℕ)
+entryPieces kind first s =
+    codeOf kind first (s .code)
     ++ string next (text "n") (s .name)
-    ++ valuePieces (s .value)
+    ++ valuePieces kind (s .value)
     ++ text "}" ∷ []
 
-unfoldable pub entriesPieces : Bool → List Status → List (List ℕ)
-entriesPieces first [] = []
-entriesPieces first (s ∷ ss) = entryPieces first s ++ entriesPieces false ss
+unfoldable pub entriesPieces : Told → Bool → List Status → List (List ℕ)
+entriesPieces kind first [] = []
+entriesPieces kind first (s ∷ ss) = entryPieces kind first s ++ entriesPieces kind false ss
 
 abbrev pub statusTail : List (List ℕ)
 statusTail = text "]}\u{c}" ∷ []
@@ -112,4 +112,4 @@ pieces (ack received) = headPieces (text "MessageAck") (text "oMId") received ++
 pieces (notAck received reason) = headPieces (text "MessageNotAck") (text "oMId") received ++ string next (text "rea") reason ++ closing
 pieces (alarm id component code s) = aboutPieces (text "Alarm") id component ++ codePieces code ++ statePieces s ++ restPieces s
 pieces (aggregated id component time value) = aboutPieces (text "AggregatedStatus") id component ++ bodyPieces time ++ highPieces value ++ lowPieces value
-pieces (statuses kind id component time entries) = statusHead kind id component time ++ entriesPieces true entries ++ statusTail
+pieces (statuses kind id component time entries) = statusHead kind id component time ++ entriesPieces kind true entries ++ statusTail

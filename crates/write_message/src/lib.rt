@@ -22,7 +22,7 @@ pub struct AlarmState {
     pub suspended: bool,
 }
 
-// What is told of a status: a value that is up to date or not, none so far, or of no known component.
+// What is told of a status or of a command: a value that is up to date or not, none so far, or of no known component.
 pub enum Value {
     Recent(i32),
     Old(i32),
@@ -30,10 +30,11 @@ pub enum Value {
     Undefined,
 }
 
-// The two types that tell statuses.
+// The types that tell statuses, and the one that answers commands.
 pub enum Told {
     Response,
     Update,
+    Command,
 }
 
 // How every message begins: mType, type (name `kind`) and the identity in element `element`.

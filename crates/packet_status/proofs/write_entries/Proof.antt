@@ -4,6 +4,7 @@ use mathlib.Core.Bool.{true}
 use borrow.Author.Needs.{needs}
 use Rattle.output.specs.Put.{Wrote}
 use Rattle.output.proofs.Laws.{same-length as kept-length}
+use Rattle.write_message.specs.declared.Told.the-variants.{Response}
 use Rattle.write_message.specs.Pieces.{entriesPieces}
 use Rattle.store_table.specs.Layout.{tableOf}
 use Rattle.store_site.specs.Layout.{siteOf}
@@ -14,7 +15,7 @@ use Rattle.packet_status.proofs.write_entries.Tie as tie
 
 abbrev Inv-loop : tie.InvT-loop
 Inv-loop out₀ at w t component entries count end₀ i₀ out end i =
-    (i ≤ count) × Wrote out₀ at (entriesPieces true (toldTo (siteOf w (tableOf t)) component entries i)) out end
+    (i ≤ count) × Wrote out₀ at (entriesPieces Response true (toldTo (siteOf w (tableOf t)) component entries i)) out end
 
 abbrev μ-loop : tie.MeasureT-loop
 μ-loop out₀ at w t component entries count end₀ i₀ out end i = count - i

@@ -10,10 +10,10 @@ use Rattle.run_writes.proofs.put_status.Reads as put-status-reads
 use Rattle.run_writes.proofs.status_in.Reads as status-in-reads
 
 abbrev Inv-loop : tie.InvT-loop
-Inv-loop line₀ at s from count end₀ next₀ i₀ line end next i = (i ≤ count) × (length line ≡ length line₀)
+Inv-loop line₀ at kind s from count end₀ next₀ i₀ line end next i = (i ≤ count) × (length line ≡ length line₀)
 
 abbrev μ-loop : tie.MeasureT-loop
-μ-loop line₀ at s from count end₀ next₀ i₀ line end next i = count - i
+μ-loop line₀ at kind s from count end₀ next₀ i₀ line end next i = count - i
 
 loop-holds : tie.Need-loop-holds Inv-loop μ-loop
 loop-holds c = search needs

@@ -10,8 +10,14 @@ type-of-requires c κs = search needs
 about-requires : tie.Need-about-requires
 about-requires c κs = search needs
 
+time-of-requires : tie.Need-time-of-requires
+time-of-requires c κs = search needs
+
 moment-requires : tie.Need-moment-requires
 moment-requires c κs = search needs
+
+list-of-requires : tie.Need-list-of-requires
+list-of-requires c κs = search needs
 
 array-requires : tie.Need-array-requires
 array-requires c κs = search needs
@@ -21,9 +27,19 @@ same-length c = search needs
 
 returns : tie.Need-returns
 unfolding statusHead
-returns c = rw (← (c .before .before .before .before .before .before .before .before .before .before .before .before .type-of .ensures)) (then (then (c .before .before .before .before .before .before .before .before .before .before .about .ensures) (c .before .before .before .before .before .before .moment .ensures)) (c .before .before .array .ensures))
+returns c =
+    rw (← (c .before .before .before .before .before .before .before .before .before .before .before .before .before .before .type-of .ensures), ← (c .before .before .before .before .before .before .before .before .time-of .ensures), ← (c .before .before .before .list-of .ensures))
+    (then (then (c .before .before .before .before .before .before .before .before .before .before .before .before .about .ensures) (c .before .before .before .before .before .before .before .moment .ensures)) (c .before .before .array .ensures))
 
 pub begin-spec : {M : Type 1} → statement M
 begin-spec =
     tie.close
-    (tie.spec type-of-requires about-requires moment-requires array-requires same-length returns)
+    (tie.spec
+    type-of-requires
+    about-requires
+    time-of-requires
+    moment-requires
+    list-of-requires
+    array-requires
+    same-length
+    returns)

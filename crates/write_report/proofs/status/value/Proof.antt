@@ -34,14 +34,14 @@ same-length c = search needs
 
 returns : tie.Need-returns
 unfolding valuePieces
-returns c = rw (c .before .before .before .before .before .v .given .1) (passed (knownPieces (text "recent")) (search needs) (c .before .before .known .ensures))
+returns c = rw (c .before .before .before .before .before .v .given .1) (passed (knownPieces (c .before .before .before .before .before .before .before .before .args .kind) (text "recent")) (search needs) (c .before .before .known .ensures))
 
 same-length-2 : tie.Need-same-length-2
 same-length-2 c = search needs
 
 returns-2 : tie.Need-returns-2
 unfolding valuePieces
-returns-2 c = rw (c .before .before .before .before .before .v2 .given .1) (passed (knownPieces (text "old")) (search needs) (c .before .before .known2 .ensures))
+returns-2 c = rw (c .before .before .before .before .before .v2 .given .1) (passed (knownPieces (c .before .before .before .before .before .before .before .before .args .kind) (text "old")) (search needs) (c .before .before .known2 .ensures))
 
 same-length-3 : tie.Need-same-length-3
 same-length-3 c = search needs
