@@ -18,7 +18,7 @@ use Rattle.json_value.specs.Grammar.{Json}
 use Rattle.read_head.specs.declared.Verdict.{Verdict}
 use Rattle.read_head.specs.declared.Verdict.the-variants.{Good, Missing, Bad}
 use Rattle.read_head.specs.declared.Kind.{Kind}
-use Rattle.read_head.specs.declared.Kind.the-variants.{Version, Watchdog, Alarm, AggregatedStatusRequest, StatusRequest, StatusSubscribe, StatusUnsubscribe, Unexpected}
+use Rattle.read_head.specs.declared.Kind.the-variants.{Version, Watchdog, Alarm, AggregatedStatusRequest, StatusRequest, StatusSubscribe, StatusUnsubscribe, CommandRequest, Unexpected}
 use Rattle.read_head.specs.declared.Class.{Class}
 use Rattle.read_head.specs.declared.Class.the-variants.{Acked, NotAcked}
 use Rattle.read_head.specs.declared.GotOrder.{GotOrder}
@@ -63,10 +63,10 @@ types =
       status-request = asks (word (text "StatusRequest")) StatusRequest (λ v f. refl);
       status-subscribe = asks (word (text "StatusSubscribe")) StatusSubscribe (λ v f. refl);
       status-unsubscribe = asks (word (text "StatusUnsubscribe")) StatusUnsubscribe (λ v f. refl);
+      command-request = asks (word (text "CommandRequest")) CommandRequest (λ v f. refl);
       aggregated-status = asks (word (text "AggregatedStatus")) Unexpected (λ v f. refl);
       status-response = asks (word (text "StatusResponse")) Unexpected (λ v f. refl);
       status-update = asks (word (text "StatusUpdate")) Unexpected (λ v f. refl);
-      command-request = asks (word (text "CommandRequest")) Unexpected (λ v f. refl);
       command-response = asks (word (text "CommandResponse")) Unexpected (λ v f. refl);
       others = λ d n. asks (word d) Unexpected (λ v f. ap (λ (x : Found). headOf x v f) (no-type d n));
       no-string = asks other Unexpected (λ v f. refl);

@@ -20,7 +20,7 @@ use Rattle.json_packet.specs.Packet.{isPacket}
 use Rattle.read_head.specs.declared.Verdict.{Verdict}
 use Rattle.read_head.specs.declared.Verdict.the-variants.{Good, Missing, Bad}
 use Rattle.read_head.specs.declared.Kind.{Kind}
-use Rattle.read_head.specs.declared.Kind.the-variants.{Version, Watchdog, Alarm, AggregatedStatusRequest, StatusRequest, StatusSubscribe, StatusUnsubscribe, Unexpected}
+use Rattle.read_head.specs.declared.Kind.the-variants.{Version, Watchdog, Alarm, AggregatedStatusRequest, StatusRequest, StatusSubscribe, StatusUnsubscribe, CommandRequest, Unexpected}
 use Rattle.read_head.specs.declared.Class.{Class}
 use Rattle.read_head.specs.declared.Class.the-variants.{Ignored, Acked, NotAcked, Asked}
 use Rattle.read_head.specs.declared.Head.{Head}
@@ -57,7 +57,21 @@ kindFor i =
     (pick (isType "Alarm" i) Alarm
     (pick (isType "AggregatedStatusRequest" i) AggregatedStatusRequest
     (pick (isType "StatusRequest" i) StatusRequest
-    (pick (isType "StatusSubscribe" i) StatusSubscribe (pick (isType "StatusUnsubscribe" i) StatusUnsubscribe Unexpected))))))
+    (pick (isType "StatusSubscribe" i) StatusSubscribe
+    (pick (isType "StatusUnsubscribe" i) StatusUnsubscribe
+    (pick (isType "CommandRequest" i) CommandRequest Unexpected)))))))
+
+-- the kinds as numbers, so that a question about a kind is one test: 0 is none that is taken
+abbrev pub kindNumber : Kind → ℕ
+kindNumber Unexpected = 0
+kindNumber Version = 1
+kindNumber Watchdog = 2
+kindNumber Alarm = 3
+kindNumber AggregatedStatusRequest = 4
+kindNumber StatusRequest = 5
+kindNumber StatusSubscribe = 6
+kindNumber StatusUnsubscribe = 7
+kindNumber CommandRequest = 8
 
 abbrev pub ignored : Head
 ignored = record { class = Ignored; received = record { bytes = replicate 36 0 }; identity = record { bytes = replicate 16 0 } }

@@ -12,7 +12,7 @@ use Rattle.json_value.specs.Grammar.{Json}
 use Rattle.read_head.specs.declared.Verdict.{Verdict}
 use Rattle.read_head.specs.declared.Verdict.the-variants.{Good, Missing, Bad}
 use Rattle.read_head.specs.declared.Kind.{Kind}
-use Rattle.read_head.specs.declared.Kind.the-variants.{Version, Watchdog, Alarm, AggregatedStatusRequest, StatusRequest, StatusSubscribe, StatusUnsubscribe, Unexpected}
+use Rattle.read_head.specs.declared.Kind.the-variants.{Version, Watchdog, Alarm, AggregatedStatusRequest, StatusRequest, StatusSubscribe, StatusUnsubscribe, CommandRequest, Unexpected}
 use Rattle.read_head.specs.declared.Class.{Class}
 use Rattle.read_head.specs.declared.Class.the-variants.{Acked, NotAcked}
 use Rattle.read_head.specs.declared.GotOrder.{GotOrder}
@@ -48,11 +48,11 @@ pub record Types : Type 0 where
   pub status-request : Asks (word (text "StatusRequest")) StatusRequest
   pub status-subscribe : Asks (word (text "StatusSubscribe")) StatusSubscribe
   pub status-unsubscribe : Asks (word (text "StatusUnsubscribe")) StatusUnsubscribe
+  pub command-request : Asks (word (text "CommandRequest")) CommandRequest
   -- names of types that are not taken
   pub aggregated-status : Asks (word (text "AggregatedStatus")) Unexpected
   pub status-response : Asks (word (text "StatusResponse")) Unexpected
   pub status-update : Asks (word (text "StatusUpdate")) Unexpected
-  pub command-request : Asks (word (text "CommandRequest")) Unexpected
   pub command-response : Asks (word (text "CommandResponse")) Unexpected
   -- "type missing, no string or not taken"
   pub others : (d : List ℕ) → ((i : ℕ) → i < length typeNames → d ≡ nameOf i → ⊥) → Asks (word d) Unexpected

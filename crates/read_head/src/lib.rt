@@ -22,7 +22,7 @@ ghost use Rattle.read_head.specs.Word.{word, wordHere, wordAt, elementOf
 ghost use Rattle.read_head.specs.Values.{worst as worstOf, verdictOf, noText, gotLabel, noTime, gotTime, anOrder, gotOrder, orderFor};
 ghost use Rattle.basis.specs.Pick.{pick};
 ghost use Rattle.identity.specs.Read.{notFound};
-ghost use Rattle.read_head.specs.Head.{identityOf, typeOf, kindFor, ignored as ignoredHead, answered as answeredBy, asked as askedBy, headFor, headBy, headAt};
+ghost use Rattle.read_head.specs.Head.{identityOf, typeOf, kindFor, kindNumber, ignored as ignoredHead, answered as answeredBy, asked as askedBy, headFor, headBy, headAt};
 ghost use Rattle.read_head.specs.Small.{watchdogAt, aggregatedAt, alarmFrom, alarmAt};
 
 // Whether an element is as it must be, and else the reason.
@@ -49,6 +49,7 @@ pub enum Kind {
     StatusRequest,
     StatusSubscribe,
     StatusUnsubscribe,
+    CommandRequest,
     Unexpected,
 }
 
@@ -158,7 +159,7 @@ pub fn element_in(s: &[u8], at: usize, i: usize) -> Element
     }
 }
 
-fn at_most_36(n: usize) -> usize
+pub fn at_most_36(n: usize) -> usize
     ensures { λ r. ⌜ r ≡ min n 36 ⌝ }
 {
     if n <= 36 { n } else { 36 }
@@ -452,7 +453,27 @@ fn kind_for(i: usize) -> Kind
     if i == types::STATUS_UNSUBSCRIBE {
         return Kind::StatusUnsubscribe;
     }
+    if i == types::COMMAND_REQUEST {
+        return Kind::CommandRequest;
+    }
     Kind::Unexpected
+}
+
+// The kinds as numbers: 0 is none that is taken.
+pub fn kind_number(k: Kind) -> u8
+    ensures { λ r. ⌜ r ≡ kindNumber k ⌝ }
+{
+    match k {
+        Kind::Unexpected => 0,
+        Kind::Version => 1,
+        Kind::Watchdog => 2,
+        Kind::Alarm => 3,
+        Kind::AggregatedStatusRequest => 4,
+        Kind::StatusRequest => 5,
+        Kind::StatusSubscribe => 6,
+        Kind::StatusUnsubscribe => 7,
+        Kind::CommandRequest => 8,
+    }
 }
 
 fn ignored() -> Head

@@ -37,10 +37,10 @@ items-long jnil = refl
 items-long (jcons j js) = ap suc (items-long js)
 
 -- what a good list says of the one before its last entry
-record Pushed (before : Verdict) (count next : ℕ) : Type 0 where
-  good : before ≡ Good
-  room : count < 16
-  more : next ≡ count + 1
+pub record Pushed (before : Verdict) (count next : ℕ) : Type 0 where
+  pub good : before ≡ Good
+  pub room : count < 16
+  pub more : next ≡ count + 1
 
 module _ {A : Type 0} (verdict : A → Verdict) (count : A → ℕ) (push : A → Item → A)
     (one : (a : A) (x : Item) → verdict (push a x) ≡ Good → Pushed (verdict a) (count a) (count (push a x)))
@@ -60,7 +60,7 @@ module _ {A : Type 0} (verdict : A → Verdict) (count : A → ℕ) (push : A �
         (omega (arith, w .0, p .more), w .1)
 
     module _ (start none bad : A) (empty : count start ≡ 0) (no : verdict none ≡ Good → ⊥) (wrong : verdict bad ≡ Good → ⊥) where
-      counted : (f : Found) → verdict (gathered push start none bad (listOf f)) ≡ Good → Counted f (count (gathered push start none bad (listOf f)))
+      pub counted : (f : Found) → verdict (gathered push start none bad (listOf f)) ≡ Good → Counted f (count (gathered push start none bad (listOf f)))
       counted missing g = absurd (no g)
       counted (found null) g = absurd (wrong g)
       counted (found (bool b)) g = absurd (wrong g)

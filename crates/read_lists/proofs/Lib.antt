@@ -1,6 +1,6 @@
 pub mod Walk
 pub mod Listed
-mod Worst
+pub mod Worst
 mod Seconds
-mod Counts
+pub mod Counts
 pub mod Kept

@@ -1,4 +1,4 @@
--- The claims about versions are kept; the marked case holds.
+-- The claims about decimal texts and versions are kept; the marked case holds.
 -- Assumes nothing.
 use mathlib.Core.Path.{_≡_, refl}
 use mathlib.Core.Bool.{true}
@@ -7,7 +7,7 @@ use Rattle.read_versions.specs.Claims.{Claims}
 use Rattle.read_versions.specs.Numeral.{numberIn}
 use Rattle.read_versions.specs.Version.{before, behind, onePart, twoParts, versionOf}
 use Rattle.read_versions.specs.Marked.{versionRows, versionRowHolds}
-use Rattle.read_versions.proofs.Numerals.{numeral, numeral-once}
+use Rattle.read_versions.proofs.Numerals.{numeral, numeral-once, integer, integer-once}
 use Rattle.read_versions.proofs.Exact.{reads, reads-once}
 use Rattle.read_versions.proofs.Best.{chosen, none-common, symmetric, alike}
 use Rattle.number.specs.Decimal.{digits, digitsBelow}
@@ -17,6 +17,8 @@ kept =
     record {
       numeral = numeral;
       numeral-once = numeral-once;
+      integer = integer;
+      integer-once = integer-once;
       reads = reads;
       reads-once = reads-once;
       common = λ own theirs v e. let c = chosen own theirs v e in (c .0, c .1);

@@ -1,21 +1,25 @@
--- `numberIn` is the answer that reading a decimal text gives.
+-- `numberIn` and `intIn` are the answers that reading a decimal text gives.
 -- Assumes nothing.
 use mathlib.Core.Path.{_≡_, refl, ap}
 use mathlib.Core.Bool.{Bool, true, false}
-use mathlib.Core.List.{List}
-use Prim.Native.Nat.{ℕ, _≤_, _<_}
-use lib.Dec.{leb}
-use borrow.Author.Tests.{leb-true, leb-false}
+use mathlib.Core.List.{List, [], _∷_}
+use Prim.Native.Nat.{ℕ, zero, suc, _-_, _^_, _≤_, _<_}
+use native.Mathlib.Omega.{arith}
+use lib.Dec.{leb, eqb}
+use lib.IntN.{pos, negsuc}
+use lib.ListN.{getD}
+use borrow.Author.Tests.{leb-true, leb-false, eqb-true, eqb-false}
 use Rattle.basis.specs.Pick.{pick, both}
 use Rattle.basis.specs.Lists.{sameBytes}
 use Rattle.basis.proofs.Same.{same-true, same-self}
 use Rattle.basis.proofs.Both.{not-both}
 use Rattle.number.specs.declared.Number.{Number}
 use Rattle.number.specs.declared.Number.the-variants.{Is, No}
-use Rattle.number.specs.Decimal.{digits}
-use Rattle.number.specs.Reading.{Reads, is, no, says}
-use Rattle.number.proofs.Reading.{reads-once, too-much, unlike, was}
-use Rattle.read_versions.specs.Numeral.{numberIn}
+use Rattle.number.specs.declared.Int.{Int}
+use Rattle.number.specs.Decimal.{digits, decimalOf}
+use Rattle.number.specs.Reading.{Reads, is, no, says, ReadsInt, is-int}
+use Rattle.number.proofs.Reading.{reads-once, reads-int-once, too-much, unlike, was, was-none, no-minus-zero, no-digits, no-plain, no-text}
+use Rattle.read_versions.specs.Numeral.{numberIn, negated, plain, intIn}
 
 differs : (s : List ℕ) → sameBytes s (digits (says 0 s)) ≡ false → s ≡ digits (says 0 s) → ⊥
 differs s e f = not-both (same-self s) (rw (← f) at e)
@@ -34,3 +38,28 @@ numeral-once limit s r h = reads-once h (numeral limit s)
 
 pub number-most : (limit : ℕ) (s : List ℕ) (n : ℕ) → numberIn limit s ≡ Is n → (n ≤ limit) × (s ≡ digits n)
 number-most limit s n e = was (numeral limit s) e
+
+-- a signed value: behind a minus, or plain
+
+minus-reads : (s : List ℕ) (n : Number) → Reads (2 ^ 31) s n → ReadsInt (45 ∷ s) (negated n)
+unfolding decimalOf
+minus-reads s (Is zero) r = no-minus-zero (was r refl .1)
+minus-reads s (Is (suc n)) r = let h = was r refl in is-int (negsuc n) (omega (arith, h .0)) (ap (λ (l : List ℕ). 45 ∷ l) (h .1))
+minus-reads s No r = no-digits (was-none r refl)
+
+plain-reads : (s : List ℕ) → (getD s 0 0 ≡ 45 → ⊥) → (n : Number) → Reads (2 ^ 31 - 1) s n → ReadsInt s (plain n)
+unfolding decimalOf
+plain-reads s g (Is n) r = let h = was r refl in is-int (pos n) (omega (arith, h .0)) (h .1)
+plain-reads s g No r = no-plain (λ n h e. was-none r refl n (omega arith) e) g
+
+pub integer : (d : List ℕ) → ReadsInt d (intIn d)
+unfolding intIn
+integer [] = no-text [] refl
+integer (b ∷ s) = by (eqb b 45) refl
+  where
+    by : (q : Bool) → eqb b 45 ≡ q → ReadsInt (b ∷ s) (pick q (negated (numberIn (2 ^ 31) s)) (plain (numberIn (2 ^ 31 - 1) (b ∷ s))))
+    by true e = rw (eqb-true b 45 e) (minus-reads s (numberIn (2 ^ 31) s) (numeral (2 ^ 31) s))
+    by false e = plain-reads (b ∷ s) (eqb-false b 45 e) (numberIn (2 ^ 31 - 1) (b ∷ s)) (numeral (2 ^ 31 - 1) (b ∷ s))
+
+pub integer-once : (d : List ℕ) (r : Int) → ReadsInt d r → r ≡ intIn d
+integer-once d r h = reads-int-once h (integer d)

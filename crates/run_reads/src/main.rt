@@ -2,6 +2,8 @@
 // lines with a reader of its own.
 use identity::Identity;
 use label::Label;
+use read_commands::CommandEntry;
+use read_commands::CommandFields;
 use read_head::AlarmFields;
 use read_head::Class;
 use read_head::GotLabel;
@@ -36,6 +38,7 @@ fn kind_letter(k: Kind) -> u8 {
         Kind::StatusRequest => b'R',
         Kind::StatusSubscribe => b'S',
         Kind::StatusUnsubscribe => b'U',
+        Kind::CommandRequest => b'C',
         Kind::Unexpected => b'X',
     }
 }
@@ -59,6 +62,11 @@ fn put_letter(line: &mut [u8], at: usize, letter: u8) -> usize {
 
 fn put_number(line: &mut [u8], at: usize, n: u64) -> usize {
     let end = number::put_decimal(line, at, n);
+    output::put_bytes(line, end, b" ")
+}
+
+fn put_integer(line: &mut [u8], at: usize, v: i32) -> usize {
+    let end = number::put_i32(line, at, v);
     output::put_bytes(line, end, b" ")
 }
 
@@ -259,12 +267,62 @@ fn put_statuses(line: &mut [u8], at: usize, s: &[u8], kind: Kind) -> usize {
     }
 }
 
+fn put_command_entry(line: &mut [u8], at: usize, e: CommandEntry) -> usize {
+    let code = e.code;
+    let name = e.name;
+    let end = put_label(line, at, code);
+    let end = put_label(line, end, name);
+    put_integer(line, end, e.value)
+}
+
+fn put_command_of(line: &mut [u8], at: usize, entries: [CommandEntry; 16], i: usize) -> usize {
+    if i < 16 {
+        put_command_entry(line, at, entries[i])
+    } else {
+        at
+    }
+}
+
+fn put_command_list(
+    line: &mut [u8],
+    at: usize,
+    entries: [CommandEntry; 16],
+    count: usize,
+) -> usize {
+    let mut end = at;
+    let mut i = 0;
+    while i < count {
+        end = put_command_of(line, end, entries, i);
+        i += 1;
+    }
+    end
+}
+
+fn put_ordered(line: &mut [u8], at: usize, f: CommandFields) -> usize {
+    let component = f.component;
+    let entries = f.entries;
+    let end = put_label(line, at, component);
+    let end = put_number(line, end, f.count as u64);
+    put_command_list(line, end, entries, f.count)
+}
+
+fn put_command(line: &mut [u8], at: usize, f: CommandFields) -> usize {
+    let v = f.verdict;
+    let end = put_letter(line, at, verdict_letter(v));
+    match v {
+        Verdict::Good => put_ordered(line, end, f),
+        Verdict::Missing => end,
+        Verdict::Bad => end,
+    }
+}
+
 fn put_fields(line: &mut [u8], at: usize, s: &[u8], kind: Kind) -> usize {
     match kind {
         Kind::Version => put_version(line, at, read_lists::read_version(s)),
         Kind::Watchdog => put_watchdog(line, at, read_head::read_watchdog(s)),
         Kind::Alarm => put_alarm(line, at, read_head::read_alarm(s)),
         Kind::AggregatedStatusRequest => put_aggregated(line, at, read_head::read_aggregated(s)),
+        Kind::CommandRequest => put_command(line, at, read_commands::read_command(s)),
         _ => put_statuses(line, at, s, kind),
     }
 }

@@ -32,11 +32,15 @@ returns-6 c = search tests
 returns-7 : tie.Need-returns-7
 returns-7 c = search tests
 
--- src/lib.rt:426:1
+-- src/lib.rt:457:9
 returns-8 : tie.Need-returns-8
 returns-8 c = search tests
+
+-- src/lib.rt:426:1
+returns-9 : tie.Need-returns-9
+returns-9 c = search tests
 
 pub kind-for-spec : {M : Type 1} → statement M
 kind-for-spec =
     tie.close
-    (tie.spec returns returns-2 returns-3 returns-4 returns-5 returns-6 returns-7 returns-8)
+    (tie.spec returns returns-2 returns-3 returns-4 returns-5 returns-6 returns-7 returns-8 returns-9)

@@ -1,0 +1,58 @@
+use borrow.Author.Needs.{needs}
+use mathlib.Core.Path.{_≡_, refl, sym, ap, ap₂, _∙_}
+use Rattle.read_head.specs.declared.Verdict.the-variants.{Good, Missing, Bad}
+use Rattle.read_commands.specs.Command.{pushCommand, commandOfItem, noCommands, commandsOf}
+use Rattle.read_lists.proofs.Walk.{list-missing, list-there, a-list, no-list}
+use Rattle.read_commands.proofs.commands_of.Statement.{statement}
+use Rattle.read_commands.proofs.commands_of.Tie as tie
+use Rattle.read_commands.proofs.commands_of.Reads as reads
+use Rattle.read_commands.proofs.commands_of.Lts as lts
+use Rattle.read_head.proofs.lookup.Reads as lookup-reads
+use Rattle.read_lists.proofs.begins.Reads as begins-reads
+use Rattle.read_commands.proofs.no_commands.Reads as no-commands-reads
+use Rattle.read_commands.proofs.commands_in.Reads as commands-in-reads
+
+lookup-requires : tie.Need-lookup-requires
+lookup-requires c κs = search needs
+
+enum-told : tie.Need-enum-told
+enum-told c = search needs
+
+no-commands-requires : tie.Need-no-commands-requires
+no-commands-requires c κs = search needs
+
+enum-known-p : tie.Need-enum-known-p
+enum-known-p c = search needs
+
+begins-requires : tie.Need-begins-requires
+begins-requires c κs = search needs
+
+commands-in-requires : tie.Need-commands-in-requires
+commands-in-requires c κs = search needs
+
+no-commands-requires-2 : tie.Need-no-commands-requires-2
+no-commands-requires-2 c κs = search needs
+
+returns : tie.Need-returns
+returns c = c .no-commands .ensures ∙ ap commandsOf (sym (list-missing _ _ _ (rw (c .before .enum-told .given .1) at (c .before .before .before .lookup .ensures))))
+
+returns-2 : tie.Need-returns-2
+returns-2 c = c .commands-in .ensures ∙ a-list (λ l x. pushCommand l (commandOfItem x)) (noCommands Good) (noCommands Missing) (noCommands Bad) _ (c .before .before .begins .ensures) (c .before .if1 .taken) ∙ ap commandsOf (sym (list-there _ _ _ _ (rw (c .before .before .before .before .p .given .1) at (c .before .before .before .before .before .before .lookup .ensures))))
+
+returns-3 : tie.Need-returns-3
+returns-3 c = c .no-commands2 .ensures ∙ no-list (λ l x. pushCommand l (commandOfItem x)) (noCommands Good) (noCommands Missing) (noCommands Bad) _ (c .before .before .begins .ensures) (c .before .if1 .left) ∙ ap commandsOf (sym (list-there _ _ _ _ (rw (c .before .before .before .before .p .given .1) at (c .before .before .before .before .before .before .lookup .ensures))))
+
+pub commands-of-spec : {M : Type 1} → statement M
+commands-of-spec =
+    tie.close
+    (tie.spec
+    lookup-requires
+    enum-told
+    no-commands-requires
+    enum-known-p
+    begins-requires
+    commands-in-requires
+    no-commands-requires-2
+    returns
+    returns-2
+    returns-3)

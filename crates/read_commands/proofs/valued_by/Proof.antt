@@ -1,0 +1,30 @@
+use borrow.Author.Needs.{needs}
+use mir.Syntax.{w32}
+use mir.Val.{SFits}
+use mir.Facts.{toZ-ofZ}
+use mathlib.Core.Path.{_≡_, refl, sym, ap, ap₂, _∙_}
+use Rattle.read_commands.proofs.valued_by.Statement.{statement}
+use Rattle.read_commands.proofs.valued_by.Tie as tie
+use Rattle.read_commands.proofs.valued_by.Reads as reads
+use Rattle.read_commands.proofs.valued_by.Lts as lts
+use Rattle.read_commands.proofs.no_value.Reads as no-value-reads
+
+enum-known-n : tie.Need-enum-known-n
+enum-known-n c = search needs
+
+enum-told : tie.Need-enum-told
+enum-told c = search needs
+
+no-value-requires : tie.Need-no-value-requires
+no-value-requires c κs = search needs
+
+returns : tie.Need-returns
+returns c =
+    let fits : SFits w32 (c .before .n .given .0 .0) = record { sfits = c .known-told .given .0 .1 } in
+    sym (rw (c .before .n .given .1, toZ-ofZ fits))
+
+returns-2 : tie.Need-returns-2
+returns-2 c = c .no-value .ensures ∙ sym (rw (c .before .enum-told .given .1))
+
+pub valued-by-spec : {M : Type 1} → statement M
+valued-by-spec = tie.close (tie.spec enum-known-n enum-told no-value-requires returns returns-2)
