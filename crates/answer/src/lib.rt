@@ -20,13 +20,15 @@ pub enum Refusal {
     LongPacket,
 }
 
-// What a done call says: hint is a time in milliseconds where hinted is not 0; bit l of closed is set where link l was closed.
+// What a done call says: hint is a time in milliseconds where hinted is not 0; bit l of closed is set where link l was closed; commands is how
+// many are handed over.
 #[repr(C)]
 pub struct Report {
     pub hint: u64,
     pub written: u32,
     pub closed: u16,
     pub hinted: u16,
+    pub commands: u64,
 }
 
 pub enum Answer {

@@ -14,7 +14,7 @@ mod records; // records.rt: the records that a value issues
 
 // An alarm is active or not.
 pub fn alarm(w: &mut [u64], t: &[u8], number: u32, active: bool, time: u64) -> Answer
-    requires { ⌜ (length (now w) ≡ 1173) × (length (now t) ≡ 4752) ⌝ }
+    requires { ⌜ (length (now w) ≡ 1173) × (length (now t) ≡ 6178) ⌝ }
     ensures { λ r. ⌜ StepsIn (tableOf (now (t .entry))) (alarmStep (siteOf (now (w .entry)) (tableOf (now (t .entry)))) number active time) (now (w .entry)) (now (w .exit)) r ⌝ }
 {
     if (store_table::alarm_count(t) as u32) <= number {
@@ -28,7 +28,7 @@ pub fn alarm(w: &mut [u64], t: &[u8], number: u32, active: bool, time: u64) -> A
 
 // A status has a value.
 pub fn status(w: &mut [u64], t: &[u8], number: u32, value: i32, time: u64) -> Answer
-    requires { ⌜ (length (now w) ≡ 1173) × (length (now t) ≡ 4752) ⌝ }
+    requires { ⌜ (length (now w) ≡ 1173) × (length (now t) ≡ 6178) ⌝ }
     ensures { λ r. ⌜ StepsIn (tableOf (now (t .entry))) (statusStep (siteOf (now (w .entry)) (tableOf (now (t .entry)))) number value time) (now (w .entry)) (now (w .exit)) r ⌝ }
 {
     if (store_table::status_count(t) as u32) <= number {

@@ -35,6 +35,6 @@ module _ (s : Site) (l time : ℕ) where
   connects e f g = rw (e, f, g) refl
 
   pub disconnects : noLinkAt s l ≡ false → badTimeAt s time ≡ false → downAt s l ≡ false
-      → concluded s (closeAt s l) (beginning (closeAt s l .pool) (s .next)) time (record { hint = 0; written = 0; closed = maskOf l; hinted = 0 })
+      → concluded s (closeAt s l) (beginning (closeAt s l .pool) (s .next)) time (record { hint = 0; written = 0; closed = maskOf l; hinted = 0; commands = 0 })
       ≡ disconnectStep s l time
   disconnects e f g = rw (e, f, g) refl

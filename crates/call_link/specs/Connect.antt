@@ -28,7 +28,7 @@ abbrev pub disconnectRefuses : Site → ℕ → ℕ → Refusal → Bool
 disconnectRefuses s l time = when NoSuchLink (noLinkAt s l) (when BadTime (badTimeAt s time) (when WrongPhase (downAt s l) never))
 
 abbrev pub disconnectPlan : Site → ℕ → Plan
-disconnectPlan s l = record { site = closeAt s l; issued = []; messages = []; closed = maskOf l; hint = none }
+disconnectPlan s l = record { site = closeAt s l; issued = []; messages = []; closed = maskOf l; hint = none; commands = [] }
 
 abbrev pub disconnectStep : Site → ℕ → ℕ → Step
 disconnectStep s l time = stepOf s time (disconnectRefuses s l time) (disconnectPlan s l) 0

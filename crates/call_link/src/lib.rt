@@ -71,6 +71,7 @@ pub fn disconnect(w: &mut [u64], link: u32, time: u64) -> Answer
         written: 0,
         closed: site::bit_of(l),
         hinted: 0,
+        commands: 0,
     };
     Answer::Done(report)
 }

@@ -3,7 +3,7 @@
 use Prim.Native.Nat.{ℕ}
 use mathlib.Core.Bool.{Bool, true, false}
 use mathlib.Core.List.{List}
-use lib.Dec.{ltb}
+use lib.Dec.{eqb, ltb}
 use lib.ListN.{length}
 use Rattle.basis.specs.Pick.{pick, both}
 use Rattle.answer.specs.declared.Refusal.{Refusal}
@@ -17,14 +17,15 @@ use Rattle.link.specs.Phase.{phaseOf, isBeating}
 use Rattle.link.specs.Steps.{mayJudgeOf}
 use Rattle.read_head.specs.declared.Verdict.{Verdict}
 use Rattle.read_head.specs.declared.Kind.{Kind}
-use Rattle.read_head.specs.declared.Kind.the-variants.{Version, Watchdog, Alarm, AggregatedStatusRequest, StatusRequest, StatusSubscribe, StatusUnsubscribe, Unexpected}
+use Rattle.read_head.specs.declared.Kind.the-variants.{Version, Watchdog, Alarm, AggregatedStatusRequest, StatusRequest, StatusSubscribe, StatusUnsubscribe, CommandRequest, Unexpected}
 use Rattle.read_head.specs.declared.Class.{Class}
 use Rattle.read_head.specs.declared.Class.the-variants.{Ignored as NoClass, Acked, NotAcked, Asked}
 use Rattle.read_head.specs.declared.Head.{Head}
-use Rattle.read_head.specs.Head.{headAt}
+use Rattle.read_head.specs.Head.{kindNumber, headAt}
 use Rattle.read_head.specs.Small.{watchdogAt, aggregatedAt, alarmAt}
 use Rattle.read_lists.specs.Version.{versionAt}
 use Rattle.read_lists.specs.Status.{statusAt}
+use Rattle.read_commands.specs.Command.{commandAt}
 use Rattle.site.specs.declared.Site.{Site}
 use Rattle.site.specs.Site.{noLinkAt, badTimeAt, downAt, linkAt}
 use Rattle.site.specs.Call.{Plan, only, when}
@@ -35,26 +36,13 @@ use Rattle.packet_greet.specs.Watchdog.{watchdogTaken}
 use Rattle.packet_alarm.specs.Orders.{alarmTaken, aggregatedTaken}
 use Rattle.packet_status.specs.StatusReply.{statusTaken}
 use Rattle.packet_subscribe.specs.Subscribing.{subscribingTaken}
+use Rattle.packet_command.specs.Commanding.{commandTaken}
 
 abbrev pub isVersion : Kind → Bool
-isVersion Version = true
-isVersion Watchdog = false
-isVersion Alarm = false
-isVersion AggregatedStatusRequest = false
-isVersion StatusRequest = false
-isVersion StatusSubscribe = false
-isVersion StatusUnsubscribe = false
-isVersion Unexpected = false
+isVersion kind = eqb (kindNumber kind) 1
 
 abbrev pub isWatchdog : Kind → Bool
-isWatchdog Version = false
-isWatchdog Watchdog = true
-isWatchdog Alarm = false
-isWatchdog AggregatedStatusRequest = false
-isWatchdog StatusRequest = false
-isWatchdog StatusSubscribe = false
-isWatchdog StatusUnsubscribe = false
-isWatchdog Unexpected = false
+isWatchdog kind = eqb (kindNumber kind) 2
 
 abbrev pub isGreeting : Phase → Bool
 isGreeting Down = false
@@ -64,14 +52,7 @@ isGreeting Up = false
 
 -- "Unexpected": a type that is not taken, and Version before ours went out or after theirs was accepted
 abbrev pub expected : Link → Kind → Bool
-expected k Version = mayJudgeOf k
-expected k Watchdog = true
-expected k Alarm = true
-expected k AggregatedStatusRequest = true
-expected k StatusRequest = true
-expected k StatusSubscribe = true
-expected k StatusUnsubscribe = true
-expected k Unexpected = false
+expected k kind = pick (isVersion kind) (mayJudgeOf k) (ltb 0 (kindNumber kind))
 
 -- "Not ready": Beating, not Watchdog
 abbrev pub unready : Link → Kind → Bool
@@ -101,6 +82,7 @@ kindTaken s l time id received p AggregatedStatusRequest = aggregatedTaken s l t
 kindTaken s l time id received p StatusRequest = statusTaken s l time id received (statusAt false p)
 kindTaken s l time id received p StatusSubscribe = subscribingTaken true s l time received (statusAt true p)
 kindTaken s l time id received p StatusUnsubscribe = subscribingTaken false s l time received (statusAt false p)
+kindTaken s l time id received p CommandRequest = commandTaken s l time id received (commandAt p)
 kindTaken s l time id received p Unexpected = notAcked s received unexpected
 
 -- the reasons in their order: mType, "Unexpected", "Not ready", then those of the kind

@@ -34,31 +34,13 @@ fn not(b: bool) -> bool
 fn is_version(k: Kind) -> bool
     ensures { λ r. ⌜ r ≡ isVersion k ⌝ }
 {
-    match k {
-        Kind::Version => true,
-        Kind::Watchdog => false,
-        Kind::Alarm => false,
-        Kind::AggregatedStatusRequest => false,
-        Kind::StatusRequest => false,
-        Kind::StatusSubscribe => false,
-        Kind::StatusUnsubscribe => false,
-        Kind::Unexpected => false,
-    }
+    read_head::kind_number(k) == 1
 }
 
 fn is_watchdog(k: Kind) -> bool
     ensures { λ r. ⌜ r ≡ isWatchdog k ⌝ }
 {
-    match k {
-        Kind::Version => false,
-        Kind::Watchdog => true,
-        Kind::Alarm => false,
-        Kind::AggregatedStatusRequest => false,
-        Kind::StatusRequest => false,
-        Kind::StatusSubscribe => false,
-        Kind::StatusUnsubscribe => false,
-        Kind::Unexpected => false,
-    }
+    read_head::kind_number(k) == 2
 }
 
 fn is_greeting(p: Phase) -> bool
@@ -97,16 +79,10 @@ fn expected(w: &[u64], l: u16, kind: Kind) -> bool
     requires { ⌜ (length (now w) ≡ 1173) × (l < 4) ⌝ }
     ensures { λ r. ⌜ ((t : SiteTable) → r ≡ expectedOf (linkAt (siteOf (now (w .entry)) t) l) kind) ⌝ }
 {
-    match kind {
-        Kind::Version => may_judge(w, l),
-        Kind::Watchdog => true,
-        Kind::Alarm => true,
-        Kind::AggregatedStatusRequest => true,
-        Kind::StatusRequest => true,
-        Kind::StatusSubscribe => true,
-        Kind::StatusUnsubscribe => true,
-        Kind::Unexpected => false,
+    if is_version(kind) {
+        return may_judge(w, l);
     }
+    0 < read_head::kind_number(kind)
 }
 
 fn unready(w: &[u64], l: u16, kind: Kind) -> bool
@@ -160,7 +136,7 @@ fn by_kind(
     kind: Kind,
     out: &mut [u8],
 ) -> Answer
-    requires { ⌜ (length (now w) ≡ 1173) × (length (now t) ≡ 4752) × (l < 4) ⌝ }
+    requires { ⌜ (length (now w) ≡ 1173) × (length (now t) ≡ 6178) × (l < 4) ⌝ }
     ensures { λ r. ⌜ TakesIn (tableOf (now (t .entry))) l time id (kindTaken (siteOf (now (w .entry)) (tableOf (now (t .entry)))) l time id (received .bytes) (now (p .entry)) kind) (now (w .entry)) (now (w .exit)) (now (out .entry)) (now (out .exit)) r ⌝ }
 {
     match kind {
@@ -180,6 +156,7 @@ fn by_kind(
         Kind::StatusRequest => packet_status::status_request(w, t, l, time, id, received, p, out),
         Kind::StatusSubscribe => packet_subscribe::subscribe(w, t, l, time, received, p, out),
         Kind::StatusUnsubscribe => packet_subscribe::unsubscribe(w, t, l, time, received, p, out),
+        Kind::CommandRequest => packet_command::command(w, t, l, time, id, received, p, out),
         Kind::Unexpected => packet_answer::not_ack(w, time, received, reasons::UNEXPECTED, out),
     }
 }
@@ -196,7 +173,7 @@ fn expect(
     kind: Kind,
     out: &mut [u8],
 ) -> Answer
-    requires { ⌜ (length (now w) ≡ 1173) × (length (now t) ≡ 4752) × (l < 4) ⌝ }
+    requires { ⌜ (length (now w) ≡ 1173) × (length (now t) ≡ 6178) × (l < 4) ⌝ }
     ensures { λ r. ⌜ TakesIn (tableOf (now (t .entry))) l time id (expectedTaken (siteOf (now (w .entry)) (tableOf (now (t .entry)))) l time id (received .bytes) (now (p .entry)) kind) (now (w .entry)) (now (w .exit)) (now (out .entry)) (now (out .exit)) r ⌝ }
 {
     if expected(w, l, kind) {
@@ -221,7 +198,7 @@ fn asked(
     kind: Kind,
     out: &mut [u8],
 ) -> Answer
-    requires { ⌜ (length (now w) ≡ 1173) × (length (now t) ≡ 4752) × (l < 4) ⌝ }
+    requires { ⌜ (length (now w) ≡ 1173) × (length (now t) ≡ 6178) × (l < 4) ⌝ }
     ensures { λ r. ⌜ TakesIn (tableOf (now (t .entry))) l time id (askedTaken (siteOf (now (w .entry)) (tableOf (now (t .entry)))) l time id (received .bytes) (now (p .entry)) v kind) (now (w .entry)) (now (w .exit)) (now (out .entry)) (now (out .exit)) r ⌝ }
 {
     match v {
@@ -250,7 +227,7 @@ fn by_class(
     class: Class,
     out: &mut [u8],
 ) -> Answer
-    requires { ⌜ (length (now w) ≡ 1173) × (length (now t) ≡ 4752) × (l < 4) ⌝ }
+    requires { ⌜ (length (now w) ≡ 1173) × (length (now t) ≡ 6178) × (l < 4) ⌝ }
     ensures { λ r. ⌜ TakesIn (tableOf (now (t .entry))) l time id (classTaken (siteOf (now (w .entry)) (tableOf (now (t .entry)))) l time id answered (received .bytes) (now (p .entry)) class) (now (w .entry)) (now (w .exit)) (now (out .entry)) (now (out .exit)) r ⌝ }
 {
     match class {
@@ -271,7 +248,7 @@ fn heed(
     h: Head,
     out: &mut [u8],
 ) -> Answer
-    requires { ⌜ (length (now w) ≡ 1173) × (length (now t) ≡ 4752) × (l < 4) ⌝ }
+    requires { ⌜ (length (now w) ≡ 1173) × (length (now t) ≡ 6178) × (l < 4) ⌝ }
     ensures { λ r. ⌜ GivesIn (tableOf (now (t .entry))) time (headRefuses (siteOf (now (w .entry)) (tableOf (now (t .entry)))) l time id (now (p .entry)) h) (headTaken (siteOf (now (w .entry)) (tableOf (now (t .entry)))) l time id (now (p .entry)) h .plan) (now (w .entry)) (now (w .exit)) (now (out .entry)) (now (out .exit)) r ⌝ }
 {
     let class = h.class;
@@ -300,7 +277,7 @@ pub fn packet(
     p: &[u8],
     out: &mut [u8],
 ) -> Answer
-    requires { ⌜ (length (now w) ≡ 1173) × (length (now t) ≡ 4752) ⌝ }
+    requires { ⌜ (length (now w) ≡ 1173) × (length (now t) ≡ 6178) ⌝ }
     ensures { λ r. ⌜ GivesIn (tableOf (now (t .entry))) time (packetRefuses (siteOf (now (w .entry)) (tableOf (now (t .entry)))) link time (identityOf random) (length (now (out .entry))) (now (p .entry))) (packetTaken (siteOf (now (w .entry)) (tableOf (now (t .entry)))) link time (identityOf random) (now (p .entry)) .plan) (now (w .entry)) (now (w .exit)) (now (out .entry)) (now (out .exit)) r ⌝ }
 {
     if store_site::head::no_link(w, link) {

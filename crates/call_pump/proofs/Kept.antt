@@ -68,10 +68,10 @@ module _ (s : Site) (l time : ℕ) (id : Identity) (xs ys : List ℕ) (r : Step)
   pub left : Ready s l time id (length xs) → ys ≡ out .bytes
   left h = g .out ∙ ap (outAfter xs (plan .messages)) (done-with h)
 
-report-small : (p : Plan) (n : ℕ) → p .closed ≡ 0 → p .hint ≡ none → n ≤ 4096 → reportOf p n ≡ record { hint = 0; written = n; closed = 0; hinted = 0 }
-report-small p n c h k =
+report-small : (p : Plan) (n : ℕ) → p .closed ≡ 0 → p .hint ≡ none → p .commands ≡ [] → n ≤ 4096 → reportOf p n ≡ record { hint = 0; written = n; closed = 0; hinted = 0; commands = 0 }
+report-small p n c h m k =
     let e : n % 4294967296 ≡ n = omega arith in
-    rw (c, h, e) refl
+    rw (c, h, m, e) refl
 
 -- one message that fits
 writes : (m : Message) (xs : List ℕ) → length (bytesOf m) ≤ length xs → Written m xs (writtenTo xs (m ∷ []) .bytes) × (writtenTo xs (m ∷ []) .end ≡ length (bytesOf m))
@@ -86,7 +86,7 @@ writes m xs h =
 
 text : (s : Site) (l time : ℕ) (id : Identity) (xs ys : List ℕ) (r : Step) (m : Message) → Gave s l time id xs ys r → Ready s l time id (length xs)
     → pumpPlan s l time id .messages ≡ m ∷ [] → length (bytesOf m) ≤ 4096
-    → Written m xs ys × (r .answer ≡ Done (record { hint = 0; written = length (bytesOf m); closed = 0; hinted = 0 }))
+    → Written m xs ys × (r .answer ≡ Done (record { hint = 0; written = length (bytesOf m); closed = 0; hinted = 0; commands = 0 }))
 text s l time id xs ys r m g h e k =
     let p : Plan = pumpPlan s l time id in
     let w = writes m xs (omega (arith, k, h .enough)) in
@@ -94,7 +94,7 @@ text s l time id xs ys r m g h e k =
     let bytes : ys ≡ writtenTo xs (m ∷ []) .bytes = left s l time id xs ys r g h ∙ ap (λ (ms : List Message). writtenTo xs ms .bytes) e in
     let count : writtenTo xs (p .messages) .end ≡ length (bytesOf m) = ap (λ (ms : List Message). writtenTo xs ms .end) e ∙ w .1 in (
       subst (Written m xs) (sym bytes) (w .0),
-      done-with s l time id xs ys r g h ∙ ap (λ (n : ℕ). Done (reportOf p n)) count ∙ ap Done (report-small p (length (bytesOf m)) (q .0) (q .1) k),
+      done-with s l time id xs ys r g h ∙ ap (λ (n : ℕ). Done (reportOf p n)) count ∙ ap Done (report-small p (length (bytesOf m)) (q .0) (q .1) (q .2) k),
     )
 
 with-carried : (s : Site) (l time : ℕ) (id : Identity) (k : ℕ) (c : Carried) → dueAt s l time ≡ Alarm k → carriedAt s l k ≡ c

@@ -171,7 +171,7 @@ refused-gives s l time id {xs} {x} {r} p e d =
 
 -- In place. The end of a call that issues nothing, written up to `end`
 abbrev pub Ends : ℕ → ℕ → List ℕ → List ℕ → Answer → Type 0
-Ends time end us vs r = (r ≡ Done (record { hint = 0; written = end % 4294967296; closed = 0; hinted = 0 })) × Turns (λ (s : Site). withLast s time) us vs
+Ends time end us vs r = (r ≡ Done (record { hint = 0; written = end % 4294967296; closed = 0; hinted = 0; commands = 0 })) × Turns (λ (s : Site). withLast s time) us vs
 
 -- nothing written
 pub quiet : {t : SiteTable} {time : ℕ} {ws vs xs : List ℕ} {r : Answer} → Ends time 0 ws vs r → GivesIn t time never (only (siteOf ws t)) ws vs xs xs r

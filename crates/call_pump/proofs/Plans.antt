@@ -101,16 +101,16 @@ module _ (s : Site) (l time : ℕ) (id : Identity) where
   most-for Entry = most-entry (oldestUnsent (s .pool) l)
 
   -- nothing is closed, and there is no hint
-  quiet-entry : (x : Sought) → (entryPlan x s l time id .closed ≡ 0) × (entryPlan x s l time id .hint ≡ none)
-  quiet-entry NoEntry = (refl, refl)
-  quiet-entry (Found x) = (refl, refl)
+  quiet-entry : (x : Sought) → (entryPlan x s l time id .closed ≡ 0) × (entryPlan x s l time id .hint ≡ none) × (entryPlan x s l time id .commands ≡ [])
+  quiet-entry NoEntry = (refl, refl, refl)
+  quiet-entry (Found x) = (refl, refl, refl)
 
-  pub quiet-for : (d : Due) → (planFor d s l time id .closed ≡ 0) × (planFor d s l time id .hint ≡ none)
-  quiet-for Nothing = (refl, refl)
-  quiet-for Version = (refl, refl)
-  quiet-for Watchdog = (refl, refl)
-  quiet-for Aggregated = (refl, refl)
-  quiet-for (Alarm k) = (refl, refl)
+  pub quiet-for : (d : Due) → (planFor d s l time id .closed ≡ 0) × (planFor d s l time id .hint ≡ none) × (planFor d s l time id .commands ≡ [])
+  quiet-for Nothing = (refl, refl, refl)
+  quiet-for Version = (refl, refl, refl)
+  quiet-for Watchdog = (refl, refl, refl)
+  quiet-for Aggregated = (refl, refl, refl)
+  quiet-for (Alarm k) = (refl, refl, refl)
   quiet-for Entry = quiet-entry (oldestUnsent (s .pool) l)
 
   -- the pool's records stay

@@ -93,7 +93,7 @@ pub record Claims : Type 0 where
   -- and writes exactly its text, which it counts
   pub text : (s : Site) (l time : ℕ) (id : Identity) (xs ys : List ℕ) (r : Step) (m : Message) → Gave s l time id xs ys r → Ready s l time id (length xs)
       → pumpPlan s l time id .messages ≡ m ∷ [] → length (bytesOf m) ≤ 4096
-      → Written m xs ys × (r .answer ≡ Done (record { hint = 0; written = length (bytesOf m); closed = 0; hinted = 0 }))
+      → Written m xs ys × (r .answer ≡ Done (record { hint = 0; written = length (bytesOf m); closed = 0; hinted = 0; commands = 0 }))
   -- one at most, whatever is due, and no record is issued
   pub most : (s : Site) (l time : ℕ) (id : Identity) → length (pumpPlan s l time id .messages) ≤ 1
   pub issues-none : (s : Site) (l time : ℕ) (id : Identity) → pumpPlan s l time id .issued ≡ []

@@ -71,7 +71,7 @@ pumpRefuses s l time id room =
 
 -- a plan that sends one message and issues nothing
 abbrev pub sends : Site → Message → Plan
-sends after m = record { site = after; issued = []; messages = m ∷ []; closed = 0; hint = none }
+sends after m = record { site = after; issued = []; messages = m ∷ []; closed = 0; hint = none; commands = [] }
 
 abbrev pub versionPlan : Site → ℕ → ℕ → Identity → Plan
 versionPlan s l time id = sends (versionSent s l time id) (version (id .bytes) (textOf (s .table .site)) (textOf (s .table .sxl)))

@@ -20,7 +20,7 @@ pub fn pump(
     random: Identity,
     out: &mut [u8],
 ) -> Answer
-    requires { ⌜ (length (now w) ≡ 1173) × (length (now t) ≡ 4752) ⌝ }
+    requires { ⌜ (length (now w) ≡ 1173) × (length (now t) ≡ 6178) ⌝ }
     ensures { λ r. ⌜ GivesIn (tableOf (now (t .entry))) time (pumpRefuses (siteOf (now (w .entry)) (tableOf (now (t .entry)))) link time (identityOf random) (length (now (out .entry)))) (pumpPlan (siteOf (now (w .entry)) (tableOf (now (t .entry)))) link time (identityOf random)) (now (w .entry)) (now (w .exit)) (now (out .entry)) (now (out .exit)) r ⌝ }
 {
     let id = checks::own_identity(random);

@@ -25,7 +25,7 @@ use pool::Sought;
 // The call is done: nothing issued, nothing closed, written up to `end`.
 fn finish(w: &mut [u64], time: u64, end: usize) -> Answer
     requires { ⌜ length (now w) ≡ 1173 ⌝ }
-    ensures report { λ r. ⌜ r ≡ doneWith (record { hint = 0; written = end % 4294967296; closed = 0; hinted = 0 }) ⌝ }
+    ensures report { λ r. ⌜ r ≡ doneWith (record { hint = 0; written = end % 4294967296; closed = 0; hinted = 0; commands = 0 }) ⌝ }
     ensures turns { λ _. ⌜ Turns (λ (s : Site). withLast s time) (now (w .entry)) (now (w .exit)) ⌝ }
 {
     store_site::parts::put_last(w, time);
@@ -34,11 +34,12 @@ fn finish(w: &mut [u64], time: u64, end: usize) -> Answer
         written: (end % 4294967296) as u32,
         closed: 0,
         hinted: 0,
+        commands: 0,
     })
 }
 
 fn version(w: &mut [u64], t: &[u8], l: u16, time: u64, id: Identity, out: &mut [u8]) -> Answer
-    requires { ⌜ (length (now w) ≡ 1173) × ((length (now t) ≡ 4752) × (l < 4)) ⌝ }
+    requires { ⌜ (length (now w) ≡ 1173) × ((length (now t) ≡ 6178) × (l < 4)) ⌝ }
     ensures { λ r. ⌜ GivesIn (tableOf (now (t .entry))) time never (versionPlan (siteOf (now (w .entry)) (tableOf (now (t .entry)))) l time id) (now (w .entry)) (now (w .exit)) (now (out .entry)) (now (out .exit)) r ⌝ }
 {
     let own = store_table::site_id(t);
@@ -58,7 +59,7 @@ fn watchdog(w: &mut [u64], l: u16, time: u64, id: Identity, out: &mut [u8]) -> A
 }
 
 fn aggregated(w: &mut [u64], t: &[u8], l: u16, time: u64, id: Identity, out: &mut [u8]) -> Answer
-    requires { ⌜ (length (now w) ≡ 1173) × ((length (now t) ≡ 4752) × (l < 4)) ⌝ }
+    requires { ⌜ (length (now w) ≡ 1173) × ((length (now t) ≡ 6178) × (l < 4)) ⌝ }
     ensures { λ r. ⌜ GivesIn (tableOf (now (t .entry))) time never (aggregatedPlan (siteOf (now (w .entry)) (tableOf (now (t .entry)))) l time id) (now (w .entry)) (now (w .exit)) (now (out .entry)) (now (out .exit)) r ⌝ }
 {
     let end = send_message::write_aggregated(out, 0, w, t, id);
@@ -67,7 +68,7 @@ fn aggregated(w: &mut [u64], t: &[u8], l: u16, time: u64, id: Identity, out: &mu
 }
 
 fn alarm(w: &mut [u64], t: &[u8], l: u16, time: u64, id: Identity, k: u16, out: &mut [u8]) -> Answer
-    requires { ⌜ (length (now w) ≡ 1173) × ((length (now t) ≡ 4752) × (l < 4)) ⌝ }
+    requires { ⌜ (length (now w) ≡ 1173) × ((length (now t) ≡ 6178) × (l < 4)) ⌝ }
     ensures { λ r. ⌜ GivesIn (tableOf (now (t .entry))) time never (alarmPlan (siteOf (now (w .entry)) (tableOf (now (t .entry)))) l time id k) (now (w .entry)) (now (w .exit)) (now (out .entry)) (now (out .exit)) r ⌝ }
 {
     let end = send_message::write_alarm(out, 0, w, t, id, k as usize);
@@ -84,7 +85,7 @@ fn entry(
     e: Entry,
     out: &mut [u8],
 ) -> Answer
-    requires { ⌜ (length (now w) ≡ 1173) × ((length (now t) ≡ 4752) × (l < 4)) ⌝ }
+    requires { ⌜ (length (now w) ≡ 1173) × ((length (now t) ≡ 6178) × (l < 4)) ⌝ }
     ensures { λ r. ⌜ GivesIn (tableOf (now (t .entry))) time never (sends (entrySent (siteOf (now (w .entry)) (tableOf (now (t .entry)))) l time id (e .sequence)) (entryMessage (siteOf (now (w .entry)) (tableOf (now (t .entry)))) (id .bytes) e)) (now (w .entry)) (now (w .exit)) (now (out .entry)) (now (out .exit)) r ⌝ }
 {
     let end = send_message::write_entry(out, 0, t, id, e);
@@ -101,7 +102,7 @@ fn found(
     id: Identity,
     out: &mut [u8],
 ) -> Answer
-    requires { ⌜ (length (now w) ≡ 1173) × ((length (now t) ≡ 4752) × (l < 4)) ⌝ }
+    requires { ⌜ (length (now w) ≡ 1173) × ((length (now t) ≡ 6178) × (l < 4)) ⌝ }
     ensures { λ r. ⌜ GivesIn (tableOf (now (t .entry))) time never (entryPlan x (siteOf (now (w .entry)) (tableOf (now (t .entry)))) l time id) (now (w .entry)) (now (w .exit)) (now (out .entry)) (now (out .exit)) r ⌝ }
 {
     match x {
@@ -114,7 +115,7 @@ fn found(
 }
 
 fn oldest(w: &mut [u64], t: &[u8], l: u16, time: u64, id: Identity, out: &mut [u8]) -> Answer
-    requires { ⌜ (length (now w) ≡ 1173) × ((length (now t) ≡ 4752) × (l < 4)) ⌝ }
+    requires { ⌜ (length (now w) ≡ 1173) × ((length (now t) ≡ 6178) × (l < 4)) ⌝ }
     ensures { λ r. ⌜ GivesIn (tableOf (now (t .entry))) time never (entryPlan (oldestUnsent ((siteOf (now (w .entry)) (tableOf (now (t .entry)))) .pool) l) (siteOf (now (w .entry)) (tableOf (now (t .entry)))) l time id) (now (w .entry)) (now (w .exit)) (now (out .entry)) (now (out .exit)) r ⌝ }
 {
     found(
@@ -129,7 +130,7 @@ fn oldest(w: &mut [u64], t: &[u8], l: u16, time: u64, id: Identity, out: &mut [u
 }
 
 pub fn due(w: &mut [u64], t: &[u8], l: u16, time: u64, id: Identity, out: &mut [u8]) -> Answer
-    requires { ⌜ (length (now w) ≡ 1173) × ((length (now t) ≡ 4752) × (l < 4)) ⌝ }
+    requires { ⌜ (length (now w) ≡ 1173) × ((length (now t) ≡ 6178) × (l < 4)) ⌝ }
     ensures { λ r. ⌜ GivesIn (tableOf (now (t .entry))) time never (pumpPlan (siteOf (now (w .entry)) (tableOf (now (t .entry)))) l time id) (now (w .entry)) (now (w .exit)) (now (out .entry)) (now (out .exit)) r ⌝ }
 {
     match checks::due_at(w, t, l, time) {

@@ -26,7 +26,7 @@ abbrev pub issuedAt : Site → ℕ → List Entry
 issuedAt s time = recordsOf (s .subscriptions) (s .statuses) (siteAfter s time .links) time
 
 abbrev pub tickPlan : Site → ℕ → Plan
-tickPlan s time = record { site = siteAfter s time; issued = issuedAt s time; messages = []; closed = maskTo s time 4; hint = none }
+tickPlan s time = record { site = siteAfter s time; issued = issuedAt s time; messages = []; closed = maskTo s time 4; hint = none; commands = [] }
 
 abbrev pub reportAfter : Site → ℕ → Report
 reportAfter s time = reportOf (tickPlan s time) 0

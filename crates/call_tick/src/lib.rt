@@ -45,5 +45,6 @@ pub fn tick(w: &mut [u64], time: u64) -> Answer
         written: 0,
         closed,
         hinted: 0,
+        commands: 0,
     })
 }

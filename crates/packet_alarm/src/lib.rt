@@ -94,7 +94,7 @@ fn answer_and_alarm(
     k: u8,
     out: &mut [u8],
 ) -> usize
-    requires { ⌜ (length (now w) ≡ 1173) × (length (now t) ≡ 4752) ⌝ }
+    requires { ⌜ (length (now w) ≡ 1173) × (length (now t) ≡ 6178) ⌝ }
     ensures { λ r. ⌜ Wrote (now (out .entry)) 0 (pieces (ack (received .bytes)) ++ pieces (alarmMessage (siteOf (now (w .entry)) (tableOf (now (t .entry)))) (id .bytes) k)) (now (out .exit)) r ⌝ }
 {
     let end = packet_answer::ack(received, out);
@@ -116,7 +116,7 @@ fn reply_alarm(
     k: u8,
     out: &mut [u8],
 ) -> Answer
-    requires { ⌜ (length (now w) ≡ 1173) × ((length (now t) ≡ 4752) × (l < 4)) ⌝ }
+    requires { ⌜ (length (now w) ≡ 1173) × ((length (now t) ≡ 6178) × (l < 4)) ⌝ }
     ensures { λ r. ⌜ TakesIn (tableOf (now (t .entry))) l time id (unlessBusy (siteOf (now (w .entry)) (tableOf (now (t .entry)))) l (received .bytes) (replied (siteOf (now (w .entry)) (tableOf (now (t .entry)))) l time id (received .bytes) (alarmMessage (siteOf (now (w .entry)) (tableOf (now (t .entry)))) (id .bytes) k))) (now (w .entry)) (now (w .exit)) (now (out .entry)) (now (out .exit)) r ⌝ }
 {
     if packet_answer::is_busy(w, l) {
@@ -149,7 +149,7 @@ fn request(
     k: u8,
     out: &mut [u8],
 ) -> Answer
-    requires { ⌜ (length (now w) ≡ 1173) × ((length (now t) ≡ 4752) × (l < 4)) ⌝ }
+    requires { ⌜ (length (now w) ≡ 1173) × ((length (now t) ≡ 6178) × (l < 4)) ⌝ }
     ensures { λ r. ⌜ TakesIn (tableOf (now (t .entry))) l time id (requestTaken (siteOf (now (w .entry)) (tableOf (now (t .entry)))) l time id (received .bytes) k) (now (w .entry)) (now (w .exit)) (now (out .entry)) (now (out .exit)) r ⌝ }
 {
     let role = store_site::head::role(w, l);
@@ -170,7 +170,7 @@ fn ordered(
     order: Order,
     out: &mut [u8],
 ) -> Answer
-    requires { ⌜ (length (now w) ≡ 1173) × ((length (now t) ≡ 4752) × (l < 4)) ⌝ }
+    requires { ⌜ (length (now w) ≡ 1173) × ((length (now t) ≡ 6178) × (l < 4)) ⌝ }
     ensures { λ r. ⌜ TakesIn (tableOf (now (t .entry))) l time id (orderedBy (siteOf (now (w .entry)) (tableOf (now (t .entry)))) l time id (received .bytes) k order) (now (w .entry)) (now (w .exit)) (now (out .entry)) (now (out .exit)) r ⌝ }
 {
     match order {
@@ -182,7 +182,7 @@ fn ordered(
 }
 
 fn alarm_of(t: &[u8], f: AlarmFields) -> SoughtAlarm
-    requires { ⌜ length (now t) ≡ 4752 ⌝ }
+    requires { ⌜ length (now t) ≡ 6178 ⌝ }
     ensures { λ r. ⌜ r ≡ alarmSought (tableOf (now (t .entry))) (f .component) (f .code) ⌝ }
 {
     let component = f.component;
@@ -200,7 +200,7 @@ fn find(
     f: AlarmFields,
     out: &mut [u8],
 ) -> Answer
-    requires { ⌜ (length (now w) ≡ 1173) × ((length (now t) ≡ 4752) × (l < 4)) ⌝ }
+    requires { ⌜ (length (now w) ≡ 1173) × ((length (now t) ≡ 6178) × (l < 4)) ⌝ }
     ensures { λ r. ⌜ TakesIn (tableOf (now (t .entry))) l time id (foundTaken (siteOf (now (w .entry)) (tableOf (now (t .entry)))) l time id (received .bytes) f) (now (w .entry)) (now (w .exit)) (now (out .entry)) (now (out .exit)) r ⌝ }
 {
     let a = alarm_of(t, f);
@@ -226,7 +226,7 @@ fn judge(
     f: AlarmFields,
     out: &mut [u8],
 ) -> Answer
-    requires { ⌜ (length (now w) ≡ 1173) × ((length (now t) ≡ 4752) × (l < 4)) ⌝ }
+    requires { ⌜ (length (now w) ≡ 1173) × ((length (now t) ≡ 6178) × (l < 4)) ⌝ }
     ensures { λ r. ⌜ TakesIn (tableOf (now (t .entry))) l time id (alarmTaken (siteOf (now (w .entry)) (tableOf (now (t .entry)))) l time id (received .bytes) f) (now (w .entry)) (now (w .exit)) (now (out .entry)) (now (out .exit)) r ⌝ }
 {
     let v = f.verdict;
@@ -254,7 +254,7 @@ pub fn alarm(
     packet: &[u8],
     out: &mut [u8],
 ) -> Answer
-    requires { ⌜ (length (now w) ≡ 1173) × ((length (now t) ≡ 4752) × (l < 4)) ⌝ }
+    requires { ⌜ (length (now w) ≡ 1173) × ((length (now t) ≡ 6178) × (l < 4)) ⌝ }
     ensures { λ r. ⌜ TakesIn (tableOf (now (t .entry))) l time id (alarmTaken (siteOf (now (w .entry)) (tableOf (now (t .entry)))) l time id (received .bytes) (alarmAt (now (packet .entry)))) (now (w .entry)) (now (w .exit)) (now (out .entry)) (now (out .exit)) r ⌝ }
 {
     let f = read_head::read_alarm(packet);
@@ -269,7 +269,7 @@ fn answer_and_aggregated(
     received: Received,
     out: &mut [u8],
 ) -> usize
-    requires { ⌜ (length (now w) ≡ 1173) × (length (now t) ≡ 4752) ⌝ }
+    requires { ⌜ (length (now w) ≡ 1173) × (length (now t) ≡ 6178) ⌝ }
     ensures { λ r. ⌜ Wrote (now (out .entry)) 0 (pieces (ack (received .bytes)) ++ pieces (aggregatedMessage (siteOf (now (w .entry)) (tableOf (now (t .entry)))) (id .bytes))) (now (out .exit)) r ⌝ }
 {
     let end = packet_answer::ack(received, out);
@@ -290,7 +290,7 @@ fn reply_aggregated(
     received: Received,
     out: &mut [u8],
 ) -> Answer
-    requires { ⌜ (length (now w) ≡ 1173) × ((length (now t) ≡ 4752) × (l < 4)) ⌝ }
+    requires { ⌜ (length (now w) ≡ 1173) × ((length (now t) ≡ 6178) × (l < 4)) ⌝ }
     ensures { λ r. ⌜ TakesIn (tableOf (now (t .entry))) l time id (unlessBusy (siteOf (now (w .entry)) (tableOf (now (t .entry)))) l (received .bytes) (replied (siteOf (now (w .entry)) (tableOf (now (t .entry)))) l time id (received .bytes) (aggregatedMessage (siteOf (now (w .entry)) (tableOf (now (t .entry)))) (id .bytes)))) (now (w .entry)) (now (w .exit)) (now (out .entry)) (now (out .exit)) r ⌝ }
 {
     if packet_answer::is_busy(w, l) {
@@ -313,7 +313,7 @@ fn is_zero(c: Sought) -> bool
 }
 
 fn carries(t: &[u8], id: Label) -> bool
-    requires { ⌜ length (now t) ≡ 4752 ⌝ }
+    requires { ⌜ length (now t) ≡ 6178 ⌝ }
     ensures { λ r. ⌜ r ≡ isZero (componentSought (tableOf (now (t .entry))) id) ⌝ }
 {
     is_zero(packet_lookup::component(t, id))
@@ -329,7 +329,7 @@ fn aggregated_for(
     component: Label,
     out: &mut [u8],
 ) -> Answer
-    requires { ⌜ (length (now w) ≡ 1173) × ((length (now t) ≡ 4752) × (l < 4)) ⌝ }
+    requires { ⌜ (length (now w) ≡ 1173) × ((length (now t) ≡ 6178) × (l < 4)) ⌝ }
     ensures { λ r. ⌜ TakesIn (tableOf (now (t .entry))) l time id (aggregatedOf (siteOf (now (w .entry)) (tableOf (now (t .entry)))) l time id (received .bytes) (componentSought (tableOf (now (t .entry))) component)) (now (w .entry)) (now (w .exit)) (now (out .entry)) (now (out .exit)) r ⌝ }
 {
     if carries(t, component) {
@@ -348,7 +348,7 @@ fn judge_aggregated(
     f: GotLabel,
     out: &mut [u8],
 ) -> Answer
-    requires { ⌜ (length (now w) ≡ 1173) × ((length (now t) ≡ 4752) × (l < 4)) ⌝ }
+    requires { ⌜ (length (now w) ≡ 1173) × ((length (now t) ≡ 6178) × (l < 4)) ⌝ }
     ensures { λ r. ⌜ TakesIn (tableOf (now (t .entry))) l time id (aggregatedTaken (siteOf (now (w .entry)) (tableOf (now (t .entry)))) l time id (received .bytes) f) (now (w .entry)) (now (w .exit)) (now (out .entry)) (now (out .exit)) r ⌝ }
 {
     let v = f.verdict;
@@ -376,7 +376,7 @@ pub fn aggregated(
     packet: &[u8],
     out: &mut [u8],
 ) -> Answer
-    requires { ⌜ (length (now w) ≡ 1173) × ((length (now t) ≡ 4752) × (l < 4)) ⌝ }
+    requires { ⌜ (length (now w) ≡ 1173) × ((length (now t) ≡ 6178) × (l < 4)) ⌝ }
     ensures { λ r. ⌜ TakesIn (tableOf (now (t .entry))) l time id (aggregatedTaken (siteOf (now (w .entry)) (tableOf (now (t .entry)))) l time id (received .bytes) (aggregatedAt (now (packet .entry)))) (now (w .entry)) (now (w .exit)) (now (out .entry)) (now (out .exit)) r ⌝ }
 {
     let f = read_head::read_aggregated(packet);

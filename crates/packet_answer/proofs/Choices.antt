@@ -3,7 +3,8 @@
 use Prim.Native.Nat.{ℕ}
 use mathlib.Core.Path.{_≡_, refl, sym, subst}
 use mathlib.Core.Bool.{Bool, true, false}
-use mathlib.Core.List.{List, _++_}
+use mathlib.Core.List.{List, [], _++_}
+use lib.ListN.{length}
 use Rattle.basis.specs.Pick.{pick}
 use Rattle.answer.specs.declared.Refusal.the-variants.{IdentityAwaited}
 use Rattle.answer.specs.declared.Answer.{Answer}
@@ -20,13 +21,13 @@ use Rattle.read_head.specs.declared.Verdict.{Verdict}
 use Rattle.read_head.specs.declared.Verdict.the-variants.{Good, Missing, Bad}
 use Rattle.site.specs.declared.Site.{Site}
 use Rattle.site.specs.Site.{linkAt}
-use Rattle.site.specs.Call.{never}
+use Rattle.site.specs.Call.{Command, never}
 use Rattle.store_site.specs.Layout.{siteOf}
 use Rattle.store_site.specs.Turns.{Turns}
 use Rattle.store_call.specs.Called.{GivesIn}
-use Rattle.packet_answer.specs.Taken.{Taken, notAcked, replied, byVerdict, unlessBusy, missingElement, badValue, busy}
-use Rattle.packet_answer.specs.Ending.{report, repliedAt}
-use Rattle.packet_answer.proofs.Ends.{unreplied, replies, replies-refused}
+use Rattle.packet_answer.specs.Taken.{Taken, notAcked, handing, byVerdict, unlessBusy, missingElement, badValue, busy}
+use Rattle.packet_answer.specs.Ending.{report, handed, repliedAt}
+use Rattle.packet_answer.proofs.Ends.{unreplied, hands, hands-refused}
 use Rattle.packet_answer.specs.Takes.{TakesIn}
 
 module _ (t : SiteTable) (ws : List ℕ) (l time : ℕ) (id : Identity) (received : List ℕ) where
@@ -63,26 +64,55 @@ module _ (t : SiteTable) (ws : List ℕ) (l time : ℕ) (id : Identity) (receive
     pub like : {A : Type 0} (f : A → Taken) {x y : A} → x ≡ y → TakesIn t l time id (f y) ws vs xs ys r → TakesIn t l time id (f x) ws vs xs ys r
     like {A} f e g = subst (λ (z : A). TakesIn t l time id (f z) ws vs xs ys r) (sym e) g
 
-  -- a reply is due: "Busy"; the identity is awaited already; the answer and the reply behind it
+  -- a reply is due, and commands are handed over: "Busy"; the identity is awaited already; the answer and the reply behind it
+  module _ (m : Message) (commands : List Command) where
+    abbrev pub handed-due : Taken
+    handed-due = unlessBusy (siteOf ws t) l received (handing (siteOf ws t) l time id received m commands)
+
+    pub hand-busy : {vs xs ys : List ℕ} {r : Answer}
+        → fullOf (linkAt (siteOf ws t) l) ≡ true
+        → GivesIn t time never (notAcked (siteOf ws t) received busy .plan) ws vs xs ys r
+        → TakesIn t l time id handed-due ws vs xs ys r
+    hand-busy e g =
+        picked-first (fullOf (linkAt (siteOf ws t) l)) (notAcked (siteOf ws t) received busy) (handing (siteOf ws t) l time id received m commands) e (not-acked busy g)
+
+    pub hand-awaited : {xs : List ℕ} {r : Answer}
+        → fullOf (linkAt (siteOf ws t) l) ≡ false
+        → isAwaited (findOf (linkAt (siteOf ws t) l .awaited) id) ≡ true
+        → r ≡ Refused IdentityAwaited
+        → TakesIn t l time id handed-due ws ws xs xs r
+    hand-awaited e h f =
+        picked-second (fullOf (linkAt (siteOf ws t) l)) (notAcked (siteOf ws t) received busy) (handing (siteOf ws t) l time id received m commands) e
+        (hands-refused t time l id received m commands h f)
+
+    pub hand-sent : {vs xs ys : List ℕ} {end : ℕ} {r : Answer}
+        → fullOf (linkAt (siteOf ws t) l) ≡ false
+        → isAwaited (findOf (linkAt (siteOf ws t) l .awaited) id) ≡ false
+        → Wrote xs 0 (pieces (ack received) ++ pieces m) ys end
+        → r ≡ Done (handed end (length commands))
+        → Turns (λ (s : Site). repliedAt s l time id end .site) ws vs
+        → TakesIn t l time id handed-due ws vs xs ys r
+    hand-sent e h w f u =
+        picked-second (fullOf (linkAt (siteOf ws t) l)) (notAcked (siteOf ws t) received busy) (handing (siteOf ws t) l time id received m commands) e
+        (hands t time l id received m commands h w f u)
+
+  -- and none is handed over
   module _ (m : Message) where
     abbrev pub due : Taken
-    due = unlessBusy (siteOf ws t) l received (replied (siteOf ws t) l time id received m)
+    due = handed-due m []
 
     pub is-busy : {vs xs ys : List ℕ} {r : Answer}
         → fullOf (linkAt (siteOf ws t) l) ≡ true
         → GivesIn t time never (notAcked (siteOf ws t) received busy .plan) ws vs xs ys r
         → TakesIn t l time id due ws vs xs ys r
-    is-busy e g =
-        picked-first (fullOf (linkAt (siteOf ws t) l)) (notAcked (siteOf ws t) received busy) (replied (siteOf ws t) l time id received m) e (not-acked busy g)
+    is-busy = hand-busy m []
 
     pub is-awaited : {xs : List ℕ} {r : Answer}
         → fullOf (linkAt (siteOf ws t) l) ≡ false
         → isAwaited (findOf (linkAt (siteOf ws t) l .awaited) id) ≡ true
         → r ≡ Refused IdentityAwaited
         → TakesIn t l time id due ws ws xs xs r
-    is-awaited e h f =
-        picked-second (fullOf (linkAt (siteOf ws t) l)) (notAcked (siteOf ws t) received busy) (replied (siteOf ws t) l time id received m) e
-        (replies-refused t time l id received m h f)
+    is-awaited = hand-awaited m []
 
     pub is-sent : {vs xs ys : List ℕ} {end : ℕ} {r : Answer}
         → fullOf (linkAt (siteOf ws t) l) ≡ false
@@ -91,6 +121,4 @@ module _ (t : SiteTable) (ws : List ℕ) (l time : ℕ) (id : Identity) (receive
         → r ≡ Done (report 0 0 end 0)
         → Turns (λ (s : Site). repliedAt s l time id end .site) ws vs
         → TakesIn t l time id due ws vs xs ys r
-    is-sent e h w f u =
-        picked-second (fullOf (linkAt (siteOf ws t) l)) (notAcked (siteOf ws t) received busy) (replied (siteOf ws t) l time id received m) e
-        (replies t time l id received m h w f u)
+    is-sent = hand-sent m []

@@ -5,6 +5,7 @@ use mathlib.Core.Path.{_≡_, refl, sym, ap, ap₂, _∙_}
 use mathlib.Core.Bool.{true, false}
 use mathlib.Core.List.{List, [], _∷_, _++_}
 use native.Mathlib.Omega.{arith}
+use lib.ListN.{length}
 use Rattle.answer.specs.declared.Refusal.{Refusal}
 use Rattle.answer.specs.declared.Refusal.the-variants.{IdentityAwaited, SequenceSpent}
 use Rattle.answer.specs.declared.Report.{Report}
@@ -24,12 +25,12 @@ use Rattle.write_message.specs.Pieces.{pieces}
 use Rattle.site.specs.declared.Site.{Site}
 use Rattle.site.specs.declared.Step.{Step}
 use Rattle.site.specs.Site.{linkAt, closeAt, maskOf, withIssued}
-use Rattle.site.specs.Call.{Plan, never, writtenTo, reportOf, batchOf, hintTime, hintBit}
+use Rattle.site.specs.Call.{Command, Plan, never, writtenTo, reportOf, batchOf, hintTime, hintBit}
 use Rattle.store_site.specs.Layout.{siteOf, withLast}
 use Rattle.store_site.specs.Turns.{Plain, Turns}
 use Rattle.store_call.specs.Called.{GivesIn}
-use Rattle.packet_answer.specs.Taken.{Taken, notAcked, closing, acked, replied}
-use Rattle.packet_answer.specs.Ending.{report, repliedAt}
+use Rattle.packet_answer.specs.Taken.{Taken, notAcked, closing, acked, handing}
+use Rattle.packet_answer.specs.Ending.{report, handed, repliedAt}
 use Rattle.packet_answer.specs.Takes.{TakesIn}
 
 ++-nil : (bs : List (List ℕ)) → bs ++ [] ≡ bs
@@ -120,19 +121,20 @@ module _ (t : SiteTable) (time : ℕ) where
     pub unreplied : (x : Taken) {ws vs xs ys : List ℕ} {r : Answer} → x .replies ≡ false → GivesIn t time never (x .plan) ws vs xs ys r → TakesIn t l time id x ws vs xs ys r
     unreplied x e g = record { gives = record { step = rw e (g .gives .step); out = g .gives .out }; plain = g .plain; kept = g .kept }
 
-    -- replied: refused where the identity is awaited already, and else the answer and the reply are written
-    pub replies-refused : (received : List ℕ) (m : Message) {ws xs : List ℕ} {r : Answer}
+    -- replied, with commands handed over: refused where the identity is awaited already, and else the answer and the reply are written
+    pub hands-refused : (received : List ℕ) (m : Message) (commands : List Command) {ws xs : List ℕ} {r : Answer}
         → isAwaited (findOf (linkAt (siteOf ws t) l .awaited) id) ≡ true
         → r ≡ Refused IdentityAwaited
-        → TakesIn t l time id (replied (siteOf ws t) l time id received m) ws ws xs xs r
-    replies-refused received m h e = record { gives = record { step = rw (e, h) refl; out = rw e refl }; plain = λ x. x; kept = λ why q. refl }
+        → TakesIn t l time id (handing (siteOf ws t) l time id received m commands) ws ws xs xs r
+    hands-refused received m commands h e =
+        record { gives = record { step = rw (e, h) refl; out = rw e refl }; plain = λ x. x; kept = λ why q. refl }
 
-    pub replies : (received : List ℕ) (m : Message) {ws vs xs ys : List ℕ} {end : ℕ} {r : Answer}
+    pub hands : (received : List ℕ) (m : Message) (commands : List Command) {ws vs xs ys : List ℕ} {end : ℕ} {r : Answer}
         → isAwaited (findOf (linkAt (siteOf ws t) l .awaited) id) ≡ false
         → Wrote xs 0 (pieces (ack received) ++ pieces m) ys end
-        → r ≡ Done (report 0 0 end 0)
+        → r ≡ Done (handed end (length commands))
         → Turns (λ (s : Site). repliedAt s l time id end .site) ws vs
-        → TakesIn t l time id (replied (siteOf ws t) l time id received m) ws vs xs ys r
-    replies received m {ws} h w e u =
-        let g = ends (replied (siteOf ws t) l time id received m .plan) refl (two (ack received) m w) e (u .site t) (u .plain) in
+        → TakesIn t l time id (handing (siteOf ws t) l time id received m commands) ws vs xs ys r
+    hands received m commands {ws} h w e u =
+        let g = ends (handing (siteOf ws t) l time id received m commands .plan) refl (two (ack received) m w) e (u .site t) (u .plain) in
         record { gives = record { step = rw h (g .gives .step); out = g .gives .out }; plain = g .plain; kept = g .kept }

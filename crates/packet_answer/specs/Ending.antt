@@ -18,7 +18,11 @@ use Rattle.site.specs.Site.{linkAt, withLink, withIssued}
 use Rattle.site.specs.Call.{only, batchOf, concluded, writtenTo, outAfter}
 
 abbrev pub report : ℕ → ℕ → ℕ → ℕ → Report
-report hint hinted end closed = record { hint = hint; written = end % 4294967296; closed = closed; hinted = hinted }
+report hint hinted end closed = record { hint = hint; written = end % 4294967296; closed = closed; hinted = hinted; commands = 0 }
+
+-- of a call that hands over so many commands
+abbrev pub handed : ℕ → ℕ → Report
+handed end commands = record { hint = 0; written = end % 4294967296; closed = 0; hinted = 0; commands = commands }
 
 -- the end of a call that issues nothing and gives no hint
 abbrev pub doneAt : Site → ℕ → ℕ → ℕ → Step

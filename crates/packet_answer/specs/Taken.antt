@@ -21,7 +21,7 @@ use Rattle.read_head.specs.declared.Verdict.{Verdict}
 use Rattle.read_head.specs.declared.Verdict.the-variants.{Good, Missing, Bad}
 use Rattle.site.specs.declared.Site.{Site}
 use Rattle.site.specs.Site.{linkAt, withLink, closeAt, maskOf}
-use Rattle.site.specs.Call.{Plan, never, when}
+use Rattle.site.specs.Call.{Command, Plan, never, when}
 
 -- a plan, and whether a reply goes out under the identity of the call
 pub record Taken : Type 0 where
@@ -35,25 +35,35 @@ takenRefuses s l id t = when IdentityAwaited (both (t .replies) (isAwaited (find
 -- answered with a reason, and nothing is done
 abbrev pub notAcked : Site → List ℕ → ℕ → Taken
 notAcked s received reason =
-    record { plan = record { site = s; issued = []; messages = notAck received (nameOf reason) ∷ []; closed = 0; hint = none }; replies = false }
+    record { plan = record { site = s; issued = []; messages = notAck received (nameOf reason) ∷ []; closed = 0; hint = none; commands = [] }; replies = false }
 
 -- answered with a reason, and the link is closed
 abbrev pub closing : Site → ℕ → List ℕ → ℕ → Taken
 closing s l received reason =
-    record { plan = record { site = closeAt s l; issued = []; messages = notAck received (nameOf reason) ∷ []; closed = maskOf l; hint = none }; replies = false }
+    record { plan = record { site = closeAt s l; issued = []; messages = notAck received (nameOf reason) ∷ []; closed = maskOf l; hint = none; commands = [] }; replies = false }
 
 -- acknowledged: the next site, the records it issues, a clock hint
 abbrev pub acked : Site → List Entry → List ℕ → Hint → Taken
 acked after entries received hint =
-    record { plan = record { site = after; issued = entries; messages = ack received ∷ []; closed = 0; hint = hint }; replies = false }
+    record { plan = record { site = after; issued = entries; messages = ack received ∷ []; closed = 0; hint = hint; commands = [] }; replies = false }
 
--- acknowledged, and a reply behind it, which is awaited and carries no record
-abbrev pub replied : Site → ℕ → ℕ → Identity → List ℕ → Message → Taken
-replied s l time id received m =
+-- acknowledged, and a reply behind it, which is awaited and carries no record; with commands that are handed over, and without
+abbrev pub handing : Site → ℕ → ℕ → Identity → List ℕ → Message → List Command → Taken
+handing s l time id received m commands =
     record {
-      plan = record { site = withLink s l (messageOutOf (linkAt s l) id time Other); issued = []; messages = ack received ∷ m ∷ []; closed = 0; hint = none };
+      plan = record {
+        site = withLink s l (messageOutOf (linkAt s l) id time Other);
+        issued = [];
+        messages = ack received ∷ m ∷ [];
+        closed = 0;
+        hint = none;
+        commands = commands;
+      };
       replies = true;
     }
+
+abbrev pub replied : Site → ℕ → ℕ → Identity → List ℕ → Message → Taken
+replied s l time id received m = handing s l time id received m []
 
 -- The reasons by their numbers in the table of names.
 abbrev pub missingElement : ℕ
@@ -85,6 +95,9 @@ unknownAlarm = indexOf (text "Unknown alarm")
 
 abbrev pub unknownStatus : ℕ
 unknownStatus = indexOf (text "Unknown status")
+
+abbrev pub unknownCommand : ℕ
+unknownCommand = indexOf (text "Unknown command")
 
 abbrev pub busy : ℕ
 busy = indexOf (text "Busy")

@@ -17,7 +17,7 @@ ghost use Rattle.store_site.specs.Layout.{siteOf, withLast};
 ghost use Rattle.store_site.specs.Turns.{Turns};
 ghost use Rattle.store_call.specs.Called.{GivesIn};
 ghost use Rattle.packet_answer.specs.Taken.{notAcked, closing};
-ghost use Rattle.packet_answer.specs.Ending.{report as reportOf, repliedAt};
+ghost use Rattle.packet_answer.specs.Ending.{report as reportOf, handed, repliedAt};
 use answer::Answer;
 use answer::Report;
 use awaited::Found;
@@ -59,6 +59,7 @@ pub fn report(hint: u64, hinted: u16, end: usize, closed: u16) -> Report
         written: (end % 4294967296) as u32,
         closed,
         hinted,
+        commands: 0,
     }
 }
 
@@ -119,12 +120,43 @@ pub fn close(
     done(w, time, 0, 0, end, site::bit_of(l))
 }
 
+// The reply is awaited, and the call's time is kept.
+fn replied(w: &mut [u64], l: u16, time: u64, id: Identity)
+    requires { ⌜ (length (now w) ≡ 1173) × (l < 4) ⌝ }
+    ensures { λ _. ⌜ Turns (λ (s : Site). repliedAt s l time id 0 .site) (now (w .entry)) (now (w .exit)) ⌝ }
+{
+    let k = store_site::parts::link(w, l as usize);
+    store_site::parts::put_link(w, l as usize, k.other_out(id, time));
+    store_site::parts::put_last(w, time);
+}
+
 // The end of a call that wrote MessageAck and a reply up to an end.
 pub fn reply_done(w: &mut [u64], l: u16, time: u64, id: Identity, end: usize) -> Answer
     requires { ⌜ (length (now w) ≡ 1173) × (l < 4) ⌝ }
     ensures { λ r. ⌜ (r ≡ Done (reportOf 0 0 end 0)) × Turns (λ (s : Site). repliedAt s l time id end .site) (now (w .entry)) (now (w .exit)) ⌝ }
 {
-    let k = store_site::parts::link(w, l as usize);
-    store_site::parts::put_link(w, l as usize, k.other_out(id, time));
-    done(w, time, 0, 0, end, 0)
+    replied(w, l, time, id);
+    Answer::Done(report(0, 0, end, 0))
+}
+
+// The end of such a call that hands over so many commands.
+pub fn hand_done(
+    w: &mut [u64],
+    l: u16,
+    time: u64,
+    id: Identity,
+    end: usize,
+    commands: usize,
+) -> Answer
+    requires { ⌜ (length (now w) ≡ 1173) × (l < 4) ⌝ }
+    ensures { λ r. ⌜ (r ≡ Done (handed end commands)) × Turns (λ (s : Site). repliedAt s l time id end .site) (now (w .entry)) (now (w .exit)) ⌝ }
+{
+    replied(w, l, time, id);
+    Answer::Done(Report {
+        hint: 0,
+        written: (end % 4294967296) as u32,
+        closed: 0,
+        hinted: 0,
+        commands: commands as u64,
+    })
 }

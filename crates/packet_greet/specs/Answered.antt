@@ -32,5 +32,5 @@ settled s l (For p) = settledFor s l p
 abbrev pub answeredPlan : Site → ℕ → Identity → Bool → Plan
 answeredPlan s l id acknowledged =
     pick (closesOf (linkAt s l) id acknowledged)
-    (record { site = closeAt s l; issued = []; messages = []; closed = maskOf l; hint = none })
+    (record { site = closeAt s l; issued = []; messages = []; closed = maskOf l; hint = none; commands = [] })
     (only (withLink (settled s l (findOf (linkAt s l .awaited) id)) l (answeredOf (linkAt s l) id acknowledged)))

@@ -86,7 +86,7 @@ fn sites(id: Label) -> Sites
 
 // What our Version offers.
 fn own(t: &[u8]) -> Offer
-    requires { ⌜ length (now t) ≡ 4752 ⌝ }
+    requires { ⌜ length (now t) ≡ 6178 ⌝ }
     ensures { λ r. ⌜ r ≡ ownOffer (tableOf (now (t .entry))) ⌝ }
 {
     let versions = versions();
@@ -163,7 +163,7 @@ fn version_by(
     f: VersionFields,
     out: &mut [u8],
 ) -> Answer
-    requires { ⌜ (length (now w) ≡ 1173) × (length (now t) ≡ 4752) × (l < 4) ⌝ }
+    requires { ⌜ (length (now w) ≡ 1173) × (length (now t) ≡ 6178) × (l < 4) ⌝ }
     ensures { λ r. ⌜ GivesIn (tableOf (now (t .entry))) time never (versionTaken (siteOf (now (w .entry)) (tableOf (now (t .entry)))) l (received .bytes) f .plan) (now (w .entry)) (now (w .exit)) (now (out .entry)) (now (out .exit)) r ⌝ }
 {
     let v = f.verdict;
@@ -200,7 +200,7 @@ pub fn version(
     packet: &[u8],
     out: &mut [u8],
 ) -> Answer
-    requires { ⌜ (length (now w) ≡ 1173) × (length (now t) ≡ 4752) × (l < 4) ⌝ }
+    requires { ⌜ (length (now w) ≡ 1173) × (length (now t) ≡ 6178) × (l < 4) ⌝ }
     ensures { λ r. ⌜ GivesIn (tableOf (now (t .entry))) time never (versionTaken (siteOf (now (w .entry)) (tableOf (now (t .entry)))) l (received .bytes) (versionAt (now (packet .entry))) .plan) (now (w .entry)) (now (w .exit)) (now (out .entry)) (now (out .exit)) r ⌝ }
 {
     version_by(

@@ -12,15 +12,16 @@ use Rattle.table_item.specs.declared.Found.{Found}
 use Rattle.table_item.specs.declared.Found.the-variants.{At, Nothing as Missing}
 use Rattle.table_item.specs.Find.{each}
 use Rattle.table_whole.specs.declared.SiteTable.{SiteTable}
-use Rattle.table_whole.specs.Lookup.{findComponent, findAlarm, findStatus}
+use Rattle.table_whole.specs.Lookup.{findComponent, findAlarm, findStatus, findCommand}
 use Rattle.read_lists.specs.declared.StatusEntry.{StatusEntry}
 use Rattle.read_lists.specs.Status.{noEntry}
+use Rattle.read_commands.specs.declared.CommandEntry.{CommandEntry}
 use Rattle.packet_lookup.specs.declared.Sought.{Sought}
 use Rattle.packet_lookup.specs.declared.Sought.the-variants.{Is, Nothing}
 use Rattle.packet_lookup.specs.declared.SoughtAlarm.{SoughtAlarm}
 use Rattle.packet_lookup.specs.declared.SoughtAlarm.the-variants.{Alarm, NoComponent, NoAlarm}
 
--- no table has more than 32 components, alarms or statuses
+-- no table has more than 32 components, alarms, statuses or commands
 abbrev pub numbered : Found → Sought
 numbered (At i) = pick (ltb i 32) (Is i) Nothing
 numbered Missing = Nothing
@@ -47,6 +48,10 @@ alarmSought t id code = alarmOf t code (componentSought t id)
 -- a status of a component, as an entry of a packet names it
 abbrev pub statusSought : SiteTable → ℕ → StatusEntry → Sought
 statusSought t component e = numbered (findStatus t component (textOf (e .code)) (textOf (e .name)))
+
+-- a command of a component, as an entry of a packet names it
+abbrev pub commandSought : SiteTable → ℕ → CommandEntry → Sought
+commandSought t component e = numbered (findCommand t component (textOf (e .code)) (textOf (e .name)))
 
 abbrev pub isSought : Sought → Bool
 isSought (Is k) = true

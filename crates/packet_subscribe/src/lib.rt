@@ -52,7 +52,7 @@ fn replace(
     component: u8,
     e: StatusEntry,
 )
-    requires { ⌜ (length (now w) ≡ 1173) × (length (now t) ≡ 4752) ⌝ }
+    requires { ⌜ (length (now w) ≡ 1173) × (length (now t) ≡ 6178) ⌝ }
     ensures { λ _. ⌜ Turns (λ (s : Site). replacedAt s l (wantedOf subscribing e time) (statusSought (tableOf (now (t .entry))) component e)) (now (w .entry)) (now (w .exit)) ⌝ }
 {
     let x = wanted(subscribing, e, time);
@@ -74,7 +74,7 @@ fn replaced(
     entries: [StatusEntry; 16],
     count: usize,
 )
-    requires { ⌜ (length (now w) ≡ 1173) × (length (now t) ≡ 4752) ⌝ }
+    requires { ⌜ (length (now w) ≡ 1173) × (length (now t) ≡ 6178) ⌝ }
     ensures { λ _. ⌜ TurnsIn (tableOf (now (t .entry))) (λ (s : Site). replacedOf subscribing s l time component entries count) (now (w .entry)) (now (w .exit)) ⌝ }
 {
     let mut i: usize = 0;
@@ -94,7 +94,7 @@ fn issue_of(w: &mut [u64], l: u16, time: u64, k: u8)
 }
 
 fn issue(w: &mut [u64], t: &[u8], l: u16, time: u64, component: u8, e: StatusEntry)
-    requires { ⌜ (length (now w) ≡ 1173) × (length (now t) ≡ 4752) ⌝ }
+    requires { ⌜ (length (now w) ≡ 1173) × (length (now t) ≡ 6178) ⌝ }
     ensures { λ _. ⌜ Turns (λ (s : Site). issuedIn s (recordOf s l time (statusSought (tableOf (now (t .entry))) component e))) (now (w .entry)) (now (w .exit)) ⌝ }
 {
     let status = packet_lookup::status(t, component, e);
@@ -114,7 +114,7 @@ fn records(
     entries: [StatusEntry; 16],
     count: usize,
 )
-    requires { ⌜ (length (now w) ≡ 1173) × (length (now t) ≡ 4752) ⌝ }
+    requires { ⌜ (length (now w) ≡ 1173) × (length (now t) ≡ 6178) ⌝ }
     ensures { λ _. ⌜ TurnsIn (tableOf (now (t .entry))) (λ (s : Site). issuedIn s (recordsOf s l time component entries count)) (now (w .entry)) (now (w .exit)) ⌝ }
 {
     let mut i: usize = 0;
@@ -136,7 +136,7 @@ fn turn(
     entries: [StatusEntry; 16],
     count: usize,
 )
-    requires { ⌜ (length (now w) ≡ 1173) × (length (now t) ≡ 4752) ⌝ }
+    requires { ⌜ (length (now w) ≡ 1173) × (length (now t) ≡ 6178) ⌝ }
     ensures { λ _. ⌜ TurnsIn (tableOf (now (t .entry))) (λ (s : Site). issuedIn (replacedOf subscribing s l time component entries count) (pick subscribing (recordsOf s l time component entries count) [])) (now (w .entry)) (now (w .exit)) ⌝ }
 {
     replaced(w, t, subscribing, l, time, component, entries, count);
@@ -164,7 +164,7 @@ fn change(
     received: Received,
     out: &mut [u8],
 ) -> Answer
-    requires { ⌜ (length (now w) ≡ 1173) × (length (now t) ≡ 4752) × (allStatuses (tableOf (now t)) component (f .entries) (f .count) ≡ true) ⌝ }
+    requires { ⌜ (length (now w) ≡ 1173) × (length (now t) ≡ 6178) × (allStatuses (tableOf (now t)) component (f .entries) (f .count) ≡ true) ⌝ }
     ensures { λ r. ⌜ GivesIn (tableOf (now (t .entry))) time never (changed subscribing (siteOf (now (w .entry)) (tableOf (now (t .entry)))) l time (received .bytes) f component .plan) (now (w .entry)) (now (w .exit)) (now (out .entry)) (now (out .exit)) r ⌝ }
 {
     if store_call::spent(w, number(subscribing, f.count)) {
@@ -187,7 +187,7 @@ fn judge(
     received: Received,
     out: &mut [u8],
 ) -> Answer
-    requires { ⌜ (length (now w) ≡ 1173) × (length (now t) ≡ 4752) ⌝ }
+    requires { ⌜ (length (now w) ≡ 1173) × (length (now t) ≡ 6178) ⌝ }
     ensures { λ r. ⌜ GivesIn (tableOf (now (t .entry))) time never (judged subscribing (siteOf (now (w .entry)) (tableOf (now (t .entry)))) l time (received .bytes) f component .plan) (now (w .entry)) (now (w .exit)) (now (out .entry)) (now (out .exit)) r ⌝ }
 {
     let entries = f.entries;
@@ -207,7 +207,7 @@ fn ask(
     received: Received,
     out: &mut [u8],
 ) -> Answer
-    requires { ⌜ (length (now w) ≡ 1173) × (length (now t) ≡ 4752) ⌝ }
+    requires { ⌜ (length (now w) ≡ 1173) × (length (now t) ≡ 6178) ⌝ }
     ensures { λ r. ⌜ GivesIn (tableOf (now (t .entry))) time never (asked subscribing (siteOf (now (w .entry)) (tableOf (now (t .entry)))) l time (received .bytes) f (componentSought (tableOf (now (t .entry))) (f .component)) .plan) (now (w .entry)) (now (w .exit)) (now (out .entry)) (now (out .exit)) r ⌝ }
 {
     let id = f.component;
@@ -228,7 +228,7 @@ fn take(
     received: Received,
     out: &mut [u8],
 ) -> Answer
-    requires { ⌜ (length (now w) ≡ 1173) × (length (now t) ≡ 4752) ⌝ }
+    requires { ⌜ (length (now w) ≡ 1173) × (length (now t) ≡ 6178) ⌝ }
     ensures { λ r. ⌜ GivesIn (tableOf (now (t .entry))) time never (subscribingTaken subscribing (siteOf (now (w .entry)) (tableOf (now (t .entry)))) l time (received .bytes) f .plan) (now (w .entry)) (now (w .exit)) (now (out .entry)) (now (out .exit)) r ⌝ }
 {
     let v = f.verdict;
@@ -255,7 +255,7 @@ pub fn subscribe(
     packet: &[u8],
     out: &mut [u8],
 ) -> Answer
-    requires { ⌜ (length (now w) ≡ 1173) × (length (now t) ≡ 4752) ⌝ }
+    requires { ⌜ (length (now w) ≡ 1173) × (length (now t) ≡ 6178) ⌝ }
     ensures { λ r. ⌜ GivesIn (tableOf (now (t .entry))) time never (subscribingTaken true (siteOf (now (w .entry)) (tableOf (now (t .entry)))) l time (received .bytes) (fieldsAt true (now (packet .entry))) .plan) (now (w .entry)) (now (w .exit)) (now (out .entry)) (now (out .exit)) r ⌝ }
 {
     let f = read_lists::read_status(packet, true);
@@ -272,7 +272,7 @@ pub fn unsubscribe(
     packet: &[u8],
     out: &mut [u8],
 ) -> Answer
-    requires { ⌜ (length (now w) ≡ 1173) × (length (now t) ≡ 4752) ⌝ }
+    requires { ⌜ (length (now w) ≡ 1173) × (length (now t) ≡ 6178) ⌝ }
     ensures { λ r. ⌜ GivesIn (tableOf (now (t .entry))) time never (subscribingTaken false (siteOf (now (w .entry)) (tableOf (now (t .entry)))) l time (received .bytes) (fieldsAt false (now (packet .entry))) .plan) (now (w .entry)) (now (w .exit)) (now (out .entry)) (now (out .exit)) r ⌝ }
 {
     let f = read_lists::read_status(packet, false);

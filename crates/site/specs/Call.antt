@@ -5,6 +5,8 @@ use mathlib.Core.Path.{_≡_}
 use mathlib.Core.Bool.{Bool, false}
 use mathlib.Core.List.{List, [], _∷_, _++_}
 use lib.Dec.{eqb}
+use lib.IntN.{ℤ}
+use lib.ListN.{length}
 use Rattle.basis.specs.Pick.{pick}
 use Rattle.answer.specs.declared.Refusal.{Refusal}
 use Rattle.answer.specs.declared.Refusal.the-variants.{SequenceSpent}
@@ -25,18 +27,24 @@ use Rattle.site.specs.declared.Site.{Site}
 use Rattle.site.specs.declared.Step.{Step}
 use Rattle.site.specs.Site.{withIssued}
 
+-- A command that is handed to the host: its number in the site table, and the value asked for.
+pub record Command : Type 0 where
+  pub number : ℕ
+  pub value : ℤ
+
 -- What a call lays down where nothing refuses it: the next site but for its records and its time, the records it issues, the messages
--- it writes, the links it closes (link 0 is bit 0), and the clock hint.
+-- it writes, the links it closes (link 0 is bit 0), the clock hint, and the commands that it hands over, in their order.
 pub record Plan : Type 0 where
   pub site : Site
   pub issued : List Entry
   pub messages : List Message
   pub closed : ℕ
   pub hint : Hint
+  pub commands : List Command
 
--- a plan that writes nothing, closes nothing and gives no hint; one that does not issue either
+-- a plan that writes nothing, closes nothing, gives no hint and hands nothing over; one that does not issue either
 abbrev pub issues : Site → List Entry → Plan
-issues s es = record { site = s; issued = es; messages = []; closed = 0; hint = none }
+issues s es = record { site = s; issued = es; messages = []; closed = 0; hint = none; commands = [] }
 
 abbrev pub only : Site → Plan
 only s = issues s []
@@ -63,9 +71,10 @@ abbrev pub hintBit : Hint → ℕ
 hintBit none = 0
 hintBit (clock t) = 1
 
--- where the written messages end is counted in 32 bits; a site that start made writes 4,096 bytes at most
+-- where the written messages end is counted in 32 bits; a site that start made writes 4,096 bytes at most; of the commands their number
 abbrev pub reportOf : Plan → ℕ → Report
-reportOf p end = record { hint = hintTime (p .hint); written = end % 4294967296; closed = p .closed; hinted = hintBit (p .hint) }
+reportOf p end =
+    record { hint = hintTime (p .hint); written = end % 4294967296; closed = p .closed; hinted = hintBit (p .hint); commands = length (p .commands) }
 
 -- "All but 0 change nothing"
 abbrev pub stepped : Site → Site → Answer → Step
@@ -88,7 +97,7 @@ concluded s after b time r =
     pick (b .spent) (refused s SequenceSpent) (record { site = withIssued after b time; answer = Done r })
 
 abbrev pub nothingOf : Report
-nothingOf = record { hint = 0; written = 0; closed = 0; hinted = 0 }
+nothingOf = record { hint = 0; written = 0; closed = 0; hinted = 0; commands = 0 }
 
 -- messages go into the output one behind the other, from its beginning
 abbrev pub piecesOf : List Message → List (List ℕ)

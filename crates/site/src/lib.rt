@@ -39,7 +39,7 @@ pub struct Step {
     pub answer: Answer,
 }
 
-// A report of a call that closes nothing, writes nothing and gives no hint.
+// A report of a call that closes nothing, writes nothing, gives no hint and hands nothing over.
 pub fn nothing() -> Report
     ensures { λ r. ⌜ r ≡ nothingOf ⌝ }
 {
@@ -48,6 +48,7 @@ pub fn nothing() -> Report
         written: 0,
         closed: 0,
         hinted: 0,
+        commands: 0,
     }
 }
 

@@ -11,11 +11,12 @@ use Rattle.answer.specs.Number.{isDone}
 use Rattle.table_whole.specs.declared.SiteTable.{SiteTable}
 use Rattle.site.specs.declared.Site.{Site}
 use Rattle.site.specs.declared.Step.{Step}
-use Rattle.site.specs.Call.{Plan, stepOf, writtenTo, outAfter}
+use Rattle.site.specs.Call.{Command, Plan, stepOf, writtenTo, outAfter}
 use Rattle.store_site.specs.Layout.{siteOf}
 use Rattle.store_site.specs.Turns.{Plain}
 use Rattle.store_whole.specs.Image.{wordsOf}
 use Rattle.store_table.specs.Layout.{layoutOf}
+use Rattle.packet_command.specs.Handing.{handedOver}
 use Rattle.call_start.specs.Starts.{Starts}
 use Rattle.sitec.specs.declared.Outcome.{Outcome}
 use Rattle.sitec.specs.Outcome.{outcomeOf, misfit}
@@ -25,7 +26,11 @@ abbrev pub Words : List ℕ → Type 0
 Words ws = length ws ≡ 1173
 
 abbrev pub WordsAndTable : List ℕ → List ℕ → Type 0
-WordsAndTable ws ts = (length ws ≡ 1173) × (length ts ≡ 4752)
+WordsAndTable ws ts = (length ws ≡ 1173) × (length ts ≡ 6178)
+
+-- and sixteen words for commands
+abbrev pub WithCommands : List ℕ → List ℕ → List ℕ → Type 0
+WithCommands ws ts cs = (length ws ≡ 1173) × (length ts ≡ 6178) × (length cs ≡ 16)
 
 -- a call whose step, by its definition, is x
 pub record Called (Fits : Type 0) (t : SiteTable) (x : Step) (ws vs : List ℕ) (r : Outcome) : Type 0 where
@@ -42,6 +47,12 @@ pub record Told (Fits : Type 0) (t : SiteTable) (time : ℕ) (refuses : Refusal 
   pub called : Called Fits t (stepOf (siteOf ws t) time refuses p (writtenTo xs (p .messages) .end)) ws vs r
   pub out : Fits → ys ≡ outAfter xs (p .messages) (stepOf (siteOf ws t) time refuses p (writtenTo xs (p .messages) .end) .answer)
   pub unwritten : 0 < r .number → ys ≡ xs
+
+-- a packet call, lent words for its commands, which go from cs to ds
+pub record Handed (Fits : Type 0) (commands : List Command) (cs ds : List ℕ) (r : Outcome) : Type 0 where
+  pub handed : Fits → r .number ≡ 0 → ds ≡ handedOver commands cs
+  -- "All but 0 change nothing"
+  pub unhanded : 0 < r .number → ds ≡ cs
 
 -- what a start leaves whose step is x: where it is done, exactly the words of its site and the bytes of its table
 pub record Made (x : Step) (vs ys : List ℕ) (r : Outcome) : Type 0 where

@@ -1,6 +1,8 @@
 -- What is handed out of a call: the answer's number and what a done call reports.
 -- Assumes nothing.
 use Prim.Native.Nat.{ℕ}
+use mathlib.Core.Bool.{Bool, false}
+use lib.Dec.{ltb}
 use Rattle.answer.specs.declared.Report.{Report}
 use Rattle.answer.specs.declared.Answer.{Answer}
 use Rattle.answer.specs.declared.Answer.the-variants.{Done, Refused}
@@ -13,8 +15,13 @@ abbrev pub reportIn : Answer → Report
 reportIn (Done r) = r
 reportIn (Refused x) = nothingOf
 
+-- whether a done call hands commands over
+abbrev pub handsOf : Answer → Bool
+handsOf (Done r) = ltb 0 (r .commands)
+handsOf (Refused x) = false
+
 abbrev pub outcome : ℕ → Report → Outcome
-outcome number r = record { hint = r .hint; number = number; written = r .written; closed = r .closed; hinted = r .hinted }
+outcome number r = record { hint = r .hint; number = number; written = r .written; closed = r .closed; hinted = r .hinted; commands = r .commands }
 
 abbrev pub outcomeOf : Answer → Outcome
 outcomeOf a = outcome (numberOf a) (reportIn a)

@@ -22,7 +22,7 @@ pub extern "C" fn rsmp_lent_alarm(
     if w.len() != 1173 {
         return super::misfit();
     }
-    if t.len() != 4752 {
+    if t.len() != 6178 {
         return super::misfit();
     }
     super::outcome_of(call_input::alarm(w, t, number, 0 < active, time))
@@ -41,7 +41,7 @@ pub extern "C" fn rsmp_lent_status(
     if w.len() != 1173 {
         return super::misfit();
     }
-    if t.len() != 4752 {
+    if t.len() != 6178 {
         return super::misfit();
     }
     super::outcome_of(call_input::status(w, t, number, value, time))

@@ -1,4 +1,4 @@
-// What C and Rust call, over memory that the host lends: the site in 1,173 words, its table in 4,752 bytes, one function a call, each the
+// What C and Rust call, over memory that the host lends: the site in 1,173 words, its table in 6,178 bytes, one function a call, each the
 // call's own definition with its number. Where a length is another: number 14, and nothing is changed.
 ghost use mathlib.Core.Path.{_≡_};
 ghost use Rattle.sitec.specs.Outcome.{reportIn, outcomeOf, misfit as misfitOf};
@@ -19,6 +19,7 @@ pub struct Outcome {
     pub written: u32,
     pub closed: u32,
     pub hinted: u32,
+    pub commands: u64,
 }
 
 fn report_in(a: Answer) -> Report
@@ -40,6 +41,7 @@ pub fn outcome_of(a: Answer) -> Outcome
         written: r.written,
         closed: r.closed as u32,
         hinted: r.hinted as u32,
+        commands: r.commands,
     }
 }
 
@@ -53,5 +55,6 @@ pub fn misfit() -> Outcome
         written: 0,
         closed: 0,
         hinted: 0,
+        commands: 0,
     }
 }

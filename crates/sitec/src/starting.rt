@@ -19,7 +19,7 @@ pub extern "C" fn rsmp_lent_start(
     if w.len() != 1173 {
         return super::misfit();
     }
-    if t.len() != 4752 {
+    if t.len() != 6178 {
         return super::misfit();
     }
     super::outcome_of(call_start::start(w, t, table, links, primary, period, first, time))

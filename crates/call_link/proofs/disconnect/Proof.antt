@@ -59,7 +59,7 @@ same-length-4 c = search needs
 returns-4 : tie.Need-returns-4
 returns-4 c =
     let a = c .before .before .before .before .before .before .before .before .before .before .before .before .before .before .before .args in
-    λ t. rw (c .bit-of .ensures) (steps-done t (a .w .now) (record { hint = 0; written = 0; closed = maskOf (a .link); hinted = 0 }) (c .before .before .before .left .ensures) (disconnects (siteOf (a .w .now) t) (a .link) (a .time) (sym (c .before .before .before .before .before .before .before .before .before .before .before .before .no-link .ensures t) ∙ c .before .before .before .before .before .before .before .before .before .before .before .if1 .left) (sym (c .before .before .before .before .before .before .before .before .before .bad-time .ensures t) ∙ c .before .before .before .before .before .before .before .before .if2 .left) (sym (c .before .before .before .before .before .before .down .ensures t) ∙ c .before .before .before .before .before .if3 .left)))
+    λ t. rw (c .bit-of .ensures) (steps-done t (a .w .now) (record { hint = 0; written = 0; closed = maskOf (a .link); hinted = 0; commands = 0 }) (c .before .before .before .left .ensures) (disconnects (siteOf (a .w .now) t) (a .link) (a .time) (sym (c .before .before .before .before .before .before .before .before .before .before .before .before .no-link .ensures t) ∙ c .before .before .before .before .before .before .before .before .before .before .before .if1 .left) (sym (c .before .before .before .before .before .before .before .before .before .bad-time .ensures t) ∙ c .before .before .before .before .before .before .before .before .if2 .left) (sym (c .before .before .before .before .before .before .down .ensures t) ∙ c .before .before .before .before .before .if3 .left)))
 
 pub disconnect-spec : {M : Type 1} → statement M
 disconnect-spec =

@@ -63,6 +63,12 @@ unsubscribe-requires c κs = search needs
 enum-told-8 : tie.Need-enum-told-8
 enum-told-8 c = search needs
 
+command-requires : tie.Need-command-requires
+command-requires c κs = search needs
+
+enum-told-9 : tie.Need-enum-told-9
+enum-told-9 c = search needs
+
 not-ack-requires : tie.Need-not-ack-requires
 not-ack-requires c κs = search needs
 
@@ -176,6 +182,20 @@ returns-8 c =
     let t = tableOf (a .t .now) in
     let s = siteOf (a .w .now) t in
     like t (a .w .now) (a .l) (a .time) (a .id) (a .received .bytes) (λ (x : Kind). kindTaken s (a .l) (a .time) (a .id) (a .received .bytes) (a .p .now) x) (c .before .before .before .before .before .before .before .enum-told8 .given .1)
+    (c .before .before .before .before .command .ensures)
+
+same-length-17 : tie.Need-same-length-17
+same-length-17 c = search needs
+
+same-length-18 : tie.Need-same-length-18
+same-length-18 c = search needs
+
+returns-9 : tie.Need-returns-9
+returns-9 c =
+    let a = c .before .before .before .before .before .before .before .before .before .before .before .before .before .args in
+    let t = tableOf (a .t .now) in
+    let s = siteOf (a .w .now) t in
+    like t (a .w .now) (a .l) (a .time) (a .id) (a .received .bytes) (λ (x : Kind). kindTaken s (a .l) (a .time) (a .id) (a .received .bytes) (a .p .now) x) (c .before .before .before .before .before .before .before .enum-told9 .given .1)
     (not-acked t (a .w .now) (a .l) (a .time) (a .id) (a .received .bytes) unexpected (c .before .before .before .before .not-ack .ensures t))
 
 pub by-kind-spec : {M : Type 1} → statement M
@@ -197,6 +217,8 @@ by-kind-spec =
     enum-told-7
     unsubscribe-requires
     enum-told-8
+    command-requires
+    enum-told-9
     not-ack-requires
     same-length
     same-length-2
@@ -221,4 +243,7 @@ by-kind-spec =
     returns-7
     same-length-15
     same-length-16
-    returns-8)
+    returns-8
+    same-length-17
+    same-length-18
+    returns-9)

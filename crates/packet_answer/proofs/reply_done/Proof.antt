@@ -1,40 +1,22 @@
 -- `packet_answer::reply_done` meets its contract.
 -- Assumes nothing.
-use mathlib.Core.Path.{ap, _∙_}
-use Rattle.store_site.specs.Layout.{withLast}
-use Rattle.site.specs.declared.Site.{Site}
+use mathlib.Core.Path.{ap}
+use Rattle.answer.specs.declared.Answer.the-variants.{Done}
 use borrow.Author.Needs.{needs}
 use Rattle.packet_answer.proofs.reply_done.Statement.{statement}
 use Rattle.packet_answer.proofs.reply_done.Tie as tie
 
-link-requires : tie.Need-link-requires
-link-requires c κs = search needs
+replied-requires : tie.Need-replied-requires
+replied-requires c κs = search needs
 
-other-out-requires : tie.Need-other-out-requires
-other-out-requires c κs = search needs
-
-put-link-requires : tie.Need-put-link-requires
-put-link-requires c κs = search needs
-
-done-requires : tie.Need-done-requires
-done-requires c κs = search needs
+report-requires : tie.Need-report-requires
+report-requires c κs = search needs
 
 same-length : tie.Need-same-length
 same-length c = search needs
 
 returns : tie.Need-returns
-returns c =
-    let a = c .before .before .before .before .before .before .before .before .before .before .before .before .args in
-    let put = c .before .before .before .before .before .before .put-link .ensures in
-    let done = c .before .before .done .ensures in (
-      done .0,
-      record {
-        site = λ t. done .1 .site t ∙ rw (← c .before .before .before .before .before .before .before .before .before .link .ensures t, ← c .before .before .before .before .before .before .before .other-out .ensures) (ap (λ (s : Site). withLast s (a .time)) (put .site t));
-        plain = λ p. done .1 .plain (put .plain p);
-      },
-    )
+returns c = (ap Done (c .report .ensures), c .before .before .before .replied .ensures)
 
 pub reply-done-spec : {M : Type 1} → statement M
-reply-done-spec =
-    tie.close
-    (tie.spec link-requires other-out-requires put-link-requires done-requires same-length returns)
+reply-done-spec = tie.close (tie.spec replied-requires report-requires same-length returns)

@@ -11,7 +11,7 @@ use Rattle.packet_lookup.proofs.all_statuses.Statement.{statement}
 use Rattle.packet_lookup.proofs.all_statuses.Tie as tie
 
 abbrev Inv-loop : tie.InvT-loop
-Inv-loop t component entries count ok₀ i₀ ok i = (i ≤ count) × ((length t ≡ 4752) × (ok ≡ allStatuses (tableOf t) component entries i))
+Inv-loop t component entries count ok₀ i₀ ok i = (i ≤ count) × ((length t ≡ 6178) × (ok ≡ allStatuses (tableOf t) component entries i))
 
 abbrev μ-loop : tie.MeasureT-loop
 μ-loop t component entries count ok₀ i₀ ok i = count - i

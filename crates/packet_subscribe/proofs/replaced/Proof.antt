@@ -14,7 +14,7 @@ use Rattle.packet_subscribe.proofs.replaced.Tie as tie
 
 abbrev Inv-loop : tie.InvT-loop
 Inv-loop w₀ t subscribing l time component entries count i₀ w i =
-    (i ≤ count) × ((length w ≡ 1173) × ((length t ≡ 4752) × TurnsIn (tableOf t) (λ (s : Site). replacedOf subscribing s l time component entries i) w₀ w))
+    (i ≤ count) × ((length w ≡ 1173) × ((length t ≡ 6178) × TurnsIn (tableOf t) (λ (s : Site). replacedOf subscribing s l time component entries i) w₀ w))
 
 abbrev μ-loop : tie.MeasureT-loop
 μ-loop w₀ t subscribing l time component entries count i₀ w i = count - i

@@ -1,6 +1,9 @@
 -- `sitec::messages::rsmp_lent_packet` meets its contract.
 -- Assumes nothing.
-use Rattle.sitec.proofs.Laws.{told-misfits, tells}
+use Rattle.identity.specs.Version.{identityOf}
+use Rattle.store_table.specs.Layout.{tableOf}
+use Rattle.packet_command.specs.Handing.{commandsIn}
+use Rattle.sitec.proofs.Laws.{told-misfits, tells, hand-misfits, hands-over, named-only}
 use borrow.Author.Needs.{needs}
 use Rattle.sitec.proofs.messages.rsmp_lent_packet.Statement.{statement}
 use Rattle.sitec.proofs.messages.rsmp_lent_packet.Tie as tie
@@ -9,16 +12,28 @@ misfit-requires : tie.Need-misfit-requires
 misfit-requires c κs = search needs
 
 returns : tie.Need-returns
-returns c = told-misfits (λ f. c .before .if1 .taken (f .0)) (c .misfit .ensures)
+returns c =
+    (told-misfits (λ f. c .before .if1 .taken (f .0)) (c .misfit .ensures), hand-misfits (λ f. c .before .if1 .taken (f .0)))
 
 misfit-requires-2 : tie.Need-misfit-requires-2
 misfit-requires-2 c κs = search needs
 
 returns-2 : tie.Need-returns-2
-returns-2 c = told-misfits (λ f. c .before .if2 .taken (f .1)) (c .misfit2 .ensures)
+returns-2 c =
+    (told-misfits (λ f. c .before .if2 .taken (f .1)) (c .misfit2 .ensures), hand-misfits (λ f. c .before .if2 .taken (f .1)))
+
+misfit-requires-3 : tie.Need-misfit-requires-3
+misfit-requires-3 c κs = search needs
+
+returns-3 : tie.Need-returns-3
+returns-3 c =
+    (told-misfits (λ f. c .before .if3 .taken (f .2)) (c .misfit3 .ensures), hand-misfits (λ f. c .before .if3 .taken (f .2)))
 
 packet-requires : tie.Need-packet-requires
 packet-requires c κs = search needs
+
+hand-requires : tie.Need-hand-requires
+hand-requires c κs = search needs
 
 outcome-of-requires : tie.Need-outcome-of-requires
 outcome-of-requires c κs = search needs
@@ -29,8 +44,18 @@ same-length c = search needs
 same-length-2 : tie.Need-same-length-2
 same-length-2 c = search needs
 
-returns-3 : tie.Need-returns-3
-returns-3 c = tells (c .before .before .before .before .before .before .before .before .before .if1 .left, c .before .before .before .before .before .before .before .before .if2 .left) (same-length c) (c .before .before .before .before .before .packet .ensures) (c .outcome-of .ensures)
+same-length-3 : tie.Need-same-length-3
+same-length-3 c = search needs
+
+returns-4 : tie.Need-returns-4
+returns-4 c =
+    let a = c .before .before .before .before .before .before .before .before .before .before .before .before .before .before .before .before .before .before .before .before .args in
+    let t = tableOf (a .t .now) in
+    let gives = c .before .before .before .before .before .before .before .before .before .packet .ensures in
+    let only = named-only t (a .w .now) (a .link) (a .time) (identityOf (a .random)) (a .received .now) in (
+      tells (c .before .before .before .before .before .before .before .before .before .before .before .before .before .before .if1 .left, c .before .before .before .before .before .before .before .before .before .before .before .before .before .if2 .left, c .before .before .before .before .before .before .before .before .before .before .before .before .if3 .left) (same-length c) gives (c .outcome-of .ensures),
+      hands-over (commandsIn t (a .received .now)) only gives (c .outcome-of .ensures) (c .before .before .before .hand .ensures),
+    )
 
 pub rsmp-lent-packet-spec : {M : Type 1} → statement M
 rsmp-lent-packet-spec =
@@ -40,8 +65,12 @@ rsmp-lent-packet-spec =
     returns
     misfit-requires-2
     returns-2
+    misfit-requires-3
+    returns-3
     packet-requires
+    hand-requires
     outcome-of-requires
     same-length
     same-length-2
-    returns-3)
+    same-length-3
+    returns-4)

@@ -1,0 +1,152 @@
+-- Which packets hand commands over: of a CommandRequest those that it names, of every other packet none.
+-- Assumes nothing.
+use Prim.Native.Nat.{ℕ}
+use mathlib.Core.Bool.{Bool, true, false}
+use mathlib.Core.List.{List, []}
+use Rattle.basis.specs.Pick.{pick}
+use Rattle.basis.proofs.Cases.{picked}
+use Rattle.identity.specs.declared.Identity.{Identity}
+use Rattle.link.specs.Steps.{closesOf, fullOf}
+use Rattle.read_head.specs.declared.Verdict.{Verdict}
+use Rattle.read_head.specs.declared.Verdict.the-variants.{Good, Missing, Bad}
+use Rattle.read_head.specs.declared.Kind.{Kind}
+use Rattle.read_head.specs.declared.Kind.the-variants.{Version, Watchdog, Alarm, AggregatedStatusRequest, StatusRequest, StatusSubscribe, StatusUnsubscribe, CommandRequest, Unexpected}
+use Rattle.read_head.specs.declared.Class.{Class}
+use Rattle.read_head.specs.declared.Class.the-variants.{Ignored, Acked, NotAcked, Asked}
+use Rattle.read_head.specs.declared.Order.{Order}
+use Rattle.read_head.specs.declared.Order.the-variants.{Request, Acknowledge, Suspend, Resume}
+use Rattle.read_head.specs.declared.AlarmFields.{AlarmFields}
+use Rattle.read_head.specs.declared.GotLabel.{GotLabel}
+use Rattle.read_head.specs.Head.{headAt}
+use Rattle.read_head.specs.Small.{watchdogAt, aggregatedAt, alarmAt}
+use Rattle.read_lists.specs.declared.StatusFields.{StatusFields}
+use Rattle.read_lists.specs.declared.VersionFields.{VersionFields}
+use Rattle.read_lists.specs.Version.{versionAt}
+use Rattle.read_lists.specs.Status.{statusAt}
+use Rattle.read_versions.specs.declared.Judged.{Judged}
+use Rattle.read_versions.specs.declared.Judged.the-variants.{Chosen, RsmpVersion, SiteId, SxlVersion}
+use Rattle.read_versions.specs.Judge.{judge}
+use Rattle.read_commands.specs.Command.{commandAt}
+use Rattle.site.specs.declared.Site.{Site}
+use Rattle.link.specs.declared.Role.{Role}
+use Rattle.link.specs.declared.Role.the-variants.{Primary, Secondary}
+use Rattle.site.specs.Site.{linkAt, roleOf}
+use Rattle.site.specs.Call.{Command, Plan}
+use Rattle.packet_answer.specs.Taken.{Taken, notAcked, byVerdict, unlessBusy, unexpected, notReady, busy}
+use Rattle.packet_lookup.specs.declared.Sought.{Sought}
+use Rattle.packet_lookup.specs.declared.Sought.the-variants.{Is, Nothing}
+use Rattle.packet_lookup.specs.declared.SoughtAlarm.{SoughtAlarm}
+use Rattle.packet_lookup.specs.declared.SoughtAlarm.the-variants.{Alarm as TheAlarm, NoComponent, NoAlarm}
+use Rattle.packet_lookup.specs.Sought.{componentSought, alarmSought, allStatuses}
+use Rattle.packet_greet.specs.Answered.{answeredPlan}
+use Rattle.packet_greet.specs.Version.{own, versionJudged, versionTaken}
+use Rattle.packet_greet.specs.Watchdog.{beat}
+use Rattle.packet_alarm.specs.Orders.{isZero, changeTaken, requestBy, requestTaken, ordered, orderedOf, foundTaken, alarmTaken, aggregatedOf, aggregatedTaken}
+use Rattle.packet_status.specs.StatusReply.{passes, statusTaken}
+use Rattle.packet_subscribe.specs.Subscribing.{changed, judged, asked, subscribingTaken}
+use Rattle.packet_command.specs.Commanding.{keepsRanges, passes as allPass, orderedOf as commandOrdered, commandTaken}
+use Rattle.packet_command.specs.Handing.{commandsIn}
+use Rattle.call_packet.specs.Packet.{expected, unready, kindTaken, expectedTaken, classTaken, packetTaken}
+
+-- P of what is handed over
+module _ (P : List Command → Type 0) (nothing : P []) where
+  abbrev Hands : Taken → Type 0
+  Hands x = P (x .plan .commands)
+
+  by-verdict : (v : Verdict) (s : Site) (received : List ℕ) (x : Taken) → Hands x → Hands (byVerdict v s received x)
+  by-verdict Good s received x h = h
+  by-verdict Missing s received x h = nothing
+  by-verdict Bad s received x h = nothing
+
+  unless-busy : (s : Site) (l : ℕ) (received : List ℕ) (x : Taken) → Hands x → Hands (unlessBusy s l received x)
+  unless-busy s l received x h = picked Hands (fullOf (linkAt s l)) (notAcked s received busy) x (λ e. nothing) (λ e. h)
+
+  version : (s : Site) (l : ℕ) (received : List ℕ) (j : Judged) → Hands (versionJudged s l received j)
+  version s l received (Chosen v) = nothing
+  version s l received RsmpVersion = nothing
+  version s l received SiteId = nothing
+  version s l received SxlVersion = nothing
+
+  module _ (s : Site) (l time : ℕ) (id : Identity) (received : List ℕ) where
+    request : (k : ℕ) (r : Role) → Hands (requestBy s l time id received k r)
+    request k Primary = unless-busy s l received _ nothing
+    request k Secondary = nothing
+
+    order : (k : ℕ) (o : Order) → Hands (ordered s l time id received k o)
+    unfolding requestTaken changeTaken
+    order k Request = request k (roleOf s l)
+    order k Acknowledge = nothing
+    order k Suspend = nothing
+    order k Resume = nothing
+
+    alarm : (o : Order) (a : SoughtAlarm) → Hands (orderedOf s l time id received o a)
+    alarm o (TheAlarm k) = order k o
+    alarm o NoComponent = nothing
+    alarm o NoAlarm = nothing
+
+    alarm-taken : (f : AlarmFields) → Hands (alarmTaken s l time id received f)
+    unfolding alarmTaken foundTaken
+    alarm-taken f = by-verdict (f .verdict) s received _ (alarm (f .order) (alarmSought (s .table) (f .component) (f .code)))
+
+    aggregated : (k : Sought) → Hands (aggregatedOf s l time id received k)
+    aggregated k = picked Hands (isZero k) _ _ (λ e. unless-busy s l received _ nothing) (λ e. nothing)
+
+    aggregated-taken : (f : GotLabel) → Hands (aggregatedTaken s l time id received f)
+    unfolding aggregatedTaken
+    aggregated-taken f = by-verdict (f .verdict) s received _ (aggregated (componentSought (s .table) (f .label)))
+
+    status-taken : (f : StatusFields) → Hands (statusTaken s l time id received f)
+    unfolding statusTaken
+    status-taken f =
+        by-verdict (f .verdict) s received _
+        (picked Hands (passes s f (componentSought (s .table) (f .component))) _ _ (λ e. unless-busy s l received _ nothing) (λ e. nothing))
+
+    subscribing : (b : Bool) (f : StatusFields) (k : Sought) → Hands (asked b s l time received f k)
+    unfolding judged changed
+    subscribing b f (Is c) = picked Hands (allStatuses (s .table) c (f .entries) (f .count)) _ _ (λ e. nothing) (λ e. nothing)
+    subscribing b f Nothing = nothing
+
+    subscribing-taken : (b : Bool) (f : StatusFields) → Hands (subscribingTaken b s l time received f)
+    unfolding subscribingTaken
+    subscribing-taken b f = by-verdict (f .verdict) s received _ (subscribing b f (componentSought (s .table) (f .component)))
+
+    module _ (p : List ℕ) (some : P (commandsIn (s .table) p)) where
+      command-taken : Hands (commandTaken s l time id received (commandAt p))
+      unfolding commandTaken commandsIn
+      command-taken =
+          let f = commandAt p in
+          let k = componentSought (s .table) (f .component) in
+          by-verdict (f .verdict) s received _
+          (picked Hands (keepsRanges (s .table) f k) _ _
+          (λ e. picked Hands (allPass (s .table) f k) _ _ (λ d. unless-busy s l received _ some) (λ d. nothing))
+          (λ e. nothing))
+
+      kind-taken : (k : Kind) → Hands (kindTaken s l time id received p k)
+      kind-taken Version = by-verdict (versionAt p .verdict) s received _ (version s l received (judge (own s) (versionAt p .offer)))
+      kind-taken Watchdog = by-verdict (watchdogAt p .verdict) s received (beat s l received (watchdogAt p)) nothing
+      kind-taken Alarm = alarm-taken (alarmAt p)
+      kind-taken AggregatedStatusRequest = aggregated-taken (aggregatedAt p)
+      kind-taken StatusRequest = status-taken (statusAt false p)
+      kind-taken StatusSubscribe = subscribing-taken true (statusAt true p)
+      kind-taken StatusUnsubscribe = subscribing-taken false (statusAt false p)
+      kind-taken CommandRequest = command-taken
+      kind-taken Unexpected = nothing
+
+      expected-taken : (k : Kind) → Hands (expectedTaken s l time id received p k)
+      expected-taken k =
+          picked Hands (expected (linkAt s l) k) _ _
+          (λ e. picked Hands (unready (linkAt s l) k) (notAcked s received notReady) (kindTaken s l time id received p k) (λ d. nothing) (λ d. kind-taken k))
+          (λ e. nothing)
+
+      class-taken : (answered : Identity) (c : Class) → Hands (classTaken s l time id answered received p c)
+      class-taken answered Ignored = nothing
+      class-taken answered Acked = picked (λ (x : Plan). P (x .commands)) (closesOf (linkAt s l) answered true) _ _ (λ e. nothing) (λ e. nothing)
+      class-taken answered NotAcked = picked (λ (x : Plan). P (x .commands)) (closesOf (linkAt s l) answered false) _ _ (λ e. nothing) (λ e. nothing)
+      class-taken answered (Asked v k) = by-verdict v s received _ (expected-taken k)
+
+-- so what holds of none and of those that the packet names holds of what a packet hands over
+pub packet-hands : (P : List Command → Type 0) (s : Site) (l time : ℕ) (id : Identity) (p : List ℕ)
+    → P []
+    → P (commandsIn (s .table) p)
+    → P (packetTaken s l time id p .plan .commands)
+packet-hands P s l time id p none some = class-taken P none s l time id (headAt p .received .bytes) p some (headAt p .identity) (headAt p .class)

@@ -1,0 +1,75 @@
+-- The parts of a CommandRequest together: the words are ws, the site's table is t.
+-- Assumes nothing.
+use Prim.Native.Nat.{ℕ}
+use mathlib.Core.Path.{_≡_, sym}
+use mathlib.Core.Bool.{true, false}
+use mathlib.Core.List.{List}
+use Rattle.basis.specs.Pick.{pick}
+use Rattle.answer.specs.declared.Answer.{Answer}
+use Rattle.identity.specs.declared.Identity.{Identity}
+use Rattle.table_whole.specs.declared.SiteTable.{SiteTable}
+use Rattle.read_commands.specs.declared.CommandFields.{CommandFields}
+use Rattle.packet_lookup.specs.declared.Sought.{Sought}
+use Rattle.packet_lookup.specs.Sought.{componentSought}
+use Rattle.site.specs.Call.{never}
+use Rattle.store_site.specs.Layout.{siteOf}
+use Rattle.store_site.proofs.SiteLaws.{table-of}
+use Rattle.store_call.specs.Called.{GivesIn}
+use Rattle.packet_answer.specs.Taken.{Taken, notAcked, byVerdict, badValue, unknownCommand}
+use Rattle.packet_answer.specs.Takes.{TakesIn}
+use Rattle.packet_answer.proofs.Choices.{not-acked, picked-first, picked-second, handed-due, like}
+use Rattle.packet_command.specs.Commanding.{keepsRanges, passes, response, commandsOf, orderedOf, commandTaken}
+
+module _ (t : SiteTable) (ws : List ℕ) (l time : ℕ) (id : Identity) (received : List ℕ) (f : CommandFields) where
+  -- the choices by a table u
+  abbrev replyBy : SiteTable → Sought → Taken
+  replyBy u k = handed-due t ws l time id received (response time (id .bytes) k f) (commandsOf u f k)
+
+  abbrev passedBy : SiteTable → Sought → Taken
+  passedBy u k = pick (passes u f k) (replyBy u k) (notAcked (siteOf ws t) received unknownCommand)
+
+  abbrev orderedBy : SiteTable → Sought → Taken
+  orderedBy u k = pick (keepsRanges u f k) (passedBy u k) (notAcked (siteOf ws t) received badValue)
+
+module _ (t : SiteTable) (ws : List ℕ) (l time : ℕ) (id : Identity) (received : List ℕ) (f : CommandFields) {vs xs ys : List ℕ} {r : Answer} where
+  pub command-judged : {g : CommandFields}
+      → g ≡ f
+      → TakesIn t l time id (byVerdict (g .verdict) (siteOf ws t) received (orderedOf (siteOf ws t) l time id received g (componentSought t (g .component)))) ws vs xs ys r
+      → TakesIn t l time id (commandTaken (siteOf ws t) l time id received f) ws vs xs ys r
+  unfolding commandTaken
+  command-judged {g} e x =
+      like t ws l time id received (λ (y : CommandFields). commandTaken (siteOf ws t) l time id received y) (sym e)
+      (like t ws l time id received (λ (u : SiteTable). byVerdict (g .verdict) (siteOf ws t) received (orderedOf (siteOf ws t) l time id received g (componentSought u (g .component)))) (table-of ws t) x)
+
+  module _ {k : Sought} (h : k ≡ componentSought t (f .component)) where
+    chosen : TakesIn t l time id (orderedBy t ws l time id received f t k) ws vs xs ys r
+        → TakesIn t l time id (orderedOf (siteOf ws t) l time id received f (componentSought t (f .component))) ws vs xs ys r
+    chosen g =
+        like t ws l time id received (λ (x : Sought). orderedOf (siteOf ws t) l time id received f x) (sym h)
+        (like t ws l time id received (λ (u : SiteTable). orderedBy t ws l time id received f u k) (table-of ws t) g)
+
+    pub outside : keepsRanges t f k ≡ false
+        → GivesIn t time never (notAcked (siteOf ws t) received badValue .plan) ws vs xs ys r
+        → TakesIn t l time id (orderedOf (siteOf ws t) l time id received f (componentSought t (f .component))) ws vs xs ys r
+    outside e g =
+        chosen
+        (picked-second t ws l time id received (keepsRanges t f k) (passedBy t ws l time id received f t k) (notAcked (siteOf ws t) received badValue) e
+        (not-acked t ws l time id received badValue g))
+
+    module _ (e : keepsRanges t f k ≡ true) where
+      inside : TakesIn t l time id (passedBy t ws l time id received f t k) ws vs xs ys r
+          → TakesIn t l time id (orderedOf (siteOf ws t) l time id received f (componentSought t (f .component))) ws vs xs ys r
+      inside g = chosen (picked-first t ws l time id received (keepsRanges t f k) (passedBy t ws l time id received f t k) (notAcked (siteOf ws t) received badValue) e g)
+
+      pub all-pass : passes t f k ≡ true
+          → TakesIn t l time id (replyBy t ws l time id received f t k) ws vs xs ys r
+          → TakesIn t l time id (orderedOf (siteOf ws t) l time id received f (componentSought t (f .component))) ws vs xs ys r
+      all-pass p g = inside (picked-first t ws l time id received (passes t f k) (replyBy t ws l time id received f t k) (notAcked (siteOf ws t) received unknownCommand) p g)
+
+      pub one-fails : passes t f k ≡ false
+          → GivesIn t time never (notAcked (siteOf ws t) received unknownCommand .plan) ws vs xs ys r
+          → TakesIn t l time id (orderedOf (siteOf ws t) l time id received f (componentSought t (f .component))) ws vs xs ys r
+      one-fails p g =
+          inside
+          (picked-second t ws l time id received (passes t f k) (replyBy t ws l time id received f t k) (notAcked (siteOf ws t) received unknownCommand) p
+          (not-acked t ws l time id received unknownCommand g))

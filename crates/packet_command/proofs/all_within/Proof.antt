@@ -1,0 +1,62 @@
+-- `packet_command::all_within` meets its contract.
+-- Assumes nothing.
+use lib.ListN.{length}
+use Rattle.store_table.specs.Layout.{tableOf}
+use Prim.Native.Nat.{_≤_, _-_}
+use mathlib.Core.Path.{_≡_, refl, ap, _∙_}
+use native.Mathlib.Numerals.{add-one}
+use borrow.Author.Needs.{needs}
+use Rattle.packet_command.specs.Commanding.{allWithin}
+use Rattle.packet_command.proofs.all_within.Statement.{statement}
+use Rattle.packet_command.proofs.all_within.Tie as tie
+
+abbrev Inv-loop : tie.InvT-loop
+Inv-loop t component entries count ok₀ i₀ ok i = (i ≤ count) × ((length t ≡ 6178) × (ok ≡ allWithin (tableOf t) component entries i))
+
+abbrev μ-loop : tie.MeasureT-loop
+μ-loop t component entries count ok₀ i₀ ok i = count - i
+
+loop-holds : tie.Need-loop-holds Inv-loop μ-loop
+loop-holds c = (search needs, (search needs, refl))
+
+entry-in-requires : tie.Need-entry-in-requires Inv-loop μ-loop
+entry-in-requires c κs = search needs
+
+entry-within-requires : tie.Need-entry-within-requires Inv-loop μ-loop
+entry-within-requires c κs = search needs
+
+and-requires : tie.Need-and-requires Inv-loop μ-loop
+and-requires c κs = search needs
+
+add-i : tie.Need-add-i Inv-loop μ-loop
+add-i c = search needs
+
+loop-less : tie.Need-loop-less Inv-loop μ-loop
+loop-less c = search needs
+
+loop-again : tie.Need-loop-again Inv-loop μ-loop
+loop-again c =
+    let l = c .before .before .before .before .loop in
+    (search needs, (search needs, rw (add-one, ← (l .inv .1 .1), ← (c .before .before .entry-in .ensures), ← (c .before .entry-within .ensures)) (c .and .ensures)))
+
+returns : tie.Need-returns Inv-loop μ-loop
+returns c =
+    let l = c .before .loop in
+    let a = c .before .before .before .args in
+    let e : l .i ≡ a .count = search needs in
+    l .inv .1 .1 ∙ ap (allWithin (tableOf (a .t .now)) (a .component) (a .entries)) e
+
+pub all-within-spec : {M : Type 1} → statement M
+all-within-spec =
+    tie.close
+    (tie.spec
+    Inv-loop
+    μ-loop
+    loop-holds
+    entry-in-requires
+    entry-within-requires
+    and-requires
+    add-i
+    loop-less
+    loop-again
+    returns)

@@ -1,0 +1,41 @@
+-- `packet_lookup::called_command` meets its contract.
+-- Assumes nothing.
+use Rattle.store_table.specs.Layout.{tableOf}
+use mathlib.Core.Path.{_≡_, ap, _∙_}
+use lib.ListN.{length}
+use Prim.Native.Nat.{ℕ}
+use mathlib.Core.List.{List}
+use Rattle.label.specs.Label.{textOf}
+use Rattle.label.proofs.Text.{text-part}
+use Rattle.table_whole.specs.Lookup.{findCommand}
+use borrow.Author.Needs.{needs}
+use Rattle.packet_lookup.proofs.called_command.Statement.{statement}
+use Rattle.packet_lookup.proofs.called_command.Tie as tie
+
+size-requires : tie.Need-size-requires
+size-requires c κs = search needs
+
+sub-named-command : tie.Need-sub-named-command
+sub-named-command c = search needs
+
+part-named-command-start : tie.Need-part-named-command-start
+part-named-command-start c = search needs
+
+part-named-command-end : tie.Need-part-named-command-end
+part-named-command-end c =
+    let e : length (c .before .before .before .before .args .code .bytes) ≡ 32 = search needs in
+    search needs
+
+named-command-requires : tie.Need-named-command-requires
+named-command-requires c κs = search needs
+
+returns : tie.Need-returns
+returns c =
+    let a = c .before .before .before .before .before .before .args in
+    let k = text-part (a .code) (search needs) _ (c .before .before .before .before .size .ensures) in
+    c .named-command .ensures ∙ ap (λ (x : List ℕ). findCommand (tableOf (a .t .now)) (a .component) x (textOf (a .name))) k
+
+pub called-command-spec : {M : Type 1} → statement M
+called-command-spec =
+    tie.close
+    (tie.spec size-requires sub-named-command part-named-command-start part-named-command-end named-command-requires returns)

@@ -1,0 +1,44 @@
+-- `packet_lookup::named_command` meets its contract.
+-- Assumes nothing.
+use Rattle.store_table.specs.Layout.{tableOf}
+use mathlib.Core.Path.{_≡_, ap, _∙_}
+use lib.ListN.{length}
+use Rattle.label.proofs.Text.{text-part}
+use Rattle.table_whole.specs.Lookup.{findCommand}
+use borrow.Author.Needs.{needs}
+use Rattle.packet_lookup.proofs.named_command.Statement.{statement}
+use Rattle.packet_lookup.proofs.named_command.Tie as tie
+
+size-requires : tie.Need-size-requires
+size-requires c κs = search needs
+
+sub-find-command : tie.Need-sub-find-command
+sub-find-command c = search needs
+
+part-find-command-start : tie.Need-part-find-command-start
+part-find-command-start c = search needs
+
+part-find-command-end : tie.Need-part-find-command-end
+part-find-command-end c =
+    let e : length (c .before .before .before .before .before .args .name .bytes) ≡ 32 = search needs in
+    search needs
+
+find-command-requires : tie.Need-find-command-requires
+find-command-requires c κs = search needs
+
+returns : tie.Need-returns
+returns c =
+    let a = c .before .before .before .before .before .before .before .args in
+    let k = text-part (a .name) (search needs) _ (c .before .before .before .before .size .ensures) in
+    c .find-command .ensures ∙ ap (findCommand (tableOf (a .t .now)) (a .component) _) k
+
+pub named-command-spec : {M : Type 1} → statement M
+named-command-spec =
+    tie.close
+    (tie.spec
+    size-requires
+    sub-find-command
+    part-find-command-start
+    part-find-command-end
+    find-command-requires
+    returns)

@@ -1,0 +1,25 @@
+-- `sitec::messages::hand` meets its contract.
+-- Assumes nothing.
+use mathlib.Core.Path.{refl, sym, _∙_}
+use borrow.Author.Needs.{needs}
+use Rattle.sitec.proofs.messages.hand.Statement.{statement}
+use Rattle.sitec.proofs.messages.hand.Tie as tie
+
+hands-requires : tie.Need-hands-requires
+hands-requires c κs = search needs
+
+hand-over-requires : tie.Need-hand-over-requires
+hand-over-requires c κs = search needs
+
+same-length : tie.Need-same-length
+same-length c = search needs
+
+returns : tie.Need-returns
+returns c = rw (sym (c .before .before .before .before .before .hands .ensures) ∙ c .before .before .before .before .if1 .taken) (c .before .before .hand-over .ensures)
+
+returns-2 : tie.Need-returns-2
+returns-2 c = rw (sym (c .before .hands .ensures) ∙ c .if1 .left) refl
+
+pub hand-spec : {M : Type 1} → statement M
+hand-spec =
+    tie.close (tie.spec hands-requires hand-over-requires same-length returns returns-2)
