@@ -17,12 +17,14 @@ use Rattle.demand_refused.proofs.Demand.{demand1}
 use Rattle.demand_told.proofs.Demand.{demand2}
 use Rattle.demand_told.proofs.GreetedDemand.{demand-greeted}
 use Rattle.demand_told.proofs.ReadDemand.{demand-read}
+use Rattle.demand_told.proofs.HandedDemand.{demand-handed}
 use Rattle.demand_held.proofs.Demand.{demand3}
 use Rattle.demand_carried.proofs.Demand.{demand-carried}
 use Rattle.demand_happens.proofs.Pumped.{pumping}
 use Rattle.demand_happens.proofs.Greeting.{greeting}
 use Rattle.demand_happens.proofs.Records.{sending}
 use Rattle.equation.proofs.Calls.{equation}
+use Rattle.certain.proofs.Editions.{same-edition}
 use Rattle.certain.specs.Certain.{Demands, Grammar, Codecs, Certain}
 
 demands : Demands
@@ -32,6 +34,7 @@ demands =
       telling = demand2;
       greeted = demand-greeted;
       reads-back = demand-read;
+      handing = demand-handed;
       keeping = demand3;
       carrying = demand-carried;
       pumping = pumping;
@@ -52,7 +55,7 @@ codecs =
       identity-written = identity-written;
       record-back = λ e r v q. round-trip v q;
       value-back = signed-word;
-      table-back = same-table;
+      table-back = λ d e t u v w p. (same-edition t u v w p, same-table t u v w p);
       messages = messages;
     }
 

@@ -35,6 +35,7 @@ use Rattle.demand_refused.specs.Demand.{Demand1}
 use Rattle.demand_told.specs.Demand.{Demand2}
 use Rattle.demand_told.specs.GreetedDemand.{DemandGreeted}
 use Rattle.demand_told.specs.ReadDemand.{DemandRead}
+use Rattle.demand_told.specs.HandedDemand.{DemandHanded}
 use Rattle.demand_held.specs.Demand.{Demand3}
 use Rattle.demand_carried.specs.Demand.{DemandCarried}
 use Rattle.demand_happens.specs.Pumped.{Pumping}
@@ -53,6 +54,8 @@ pub record Demands : Type 0 where
   pub greeted : DemandGreeted
   -- "every message written reads back to the same fields"
   pub reads-back : DemandRead
+  -- request 01: "A value in its range is handed to the host", in the order of the entries, and nothing else is
+  pub handing : DemandHanded
   -- 3. "a record issued for a supervisor stays held until that supervisor answers a message carrying it, or until a call issues a record after
   -- which at least 16 newer records for the same supervisor are held. None ever has more than 64 held."
   pub keeping : Demand3
@@ -84,8 +87,8 @@ pub record Codecs : Type 0 where
   -- "Record, 128 bits": what the record reader accepts of a record's bytes is the record
   pub record-back : (e : Entry) (r : Unpacked) → Valid e → ReadsRecord (bytesOf e) r → r ≡ Accepted e
   pub value-back : (v : ℤ) → Signed32 v → signedOf (wordOf v) ≡ v
-  -- "Site table": its bytes are those of one table
-  pub table-back : (t u : Table) → Allowed t → Allowed u → tableBytes t ≡ tableBytes u → t ≡ u
+  -- "Site table": its bytes are those of one table in one edition
+  pub table-back : (d e : ℕ) (t u : Table) → Allowed d t → Allowed e u → tableBytes d t ≡ tableBytes e u → (d ≡ e) × (t ≡ u)
   -- a message's text is one packet, whose fields are the message's
   pub messages : Messages
 

@@ -21,14 +21,14 @@ use Rattle.json_value.specs.Grammar.{Json}
 use Rattle.write_message.specs.Message.{Message}
 use Rattle.write_message.specs.Message.Message.{ack}
 use Rattle.machine.specs.Words.{Bytes, maybe, isNumber, any, butFirst, changed, firstOf}
-use Rattle.machine.specs.State.{Alarm, Sent, Awaited, Life, fresh, Start, Machine, withLife, lifeAt, Act, Call, Outcome, Effect, effect, only}
+use Rattle.machine.specs.State.{Alarm, Sent, Awaited, Life, fresh, Start, Machine, withLife, lifeAt, Act, Call, Outcome, Effect, handing, effect, only}
 use Rattle.machine.specs.State.Sent.{ourVersion, ourWatchdog, noRecord, theRecord}
 use Rattle.machine.specs.State.Act.{connect, disconnect, packet, alarmInput, statusValue, aggregatedValue, tick, pump}
 use Rattle.machine.specs.Json.{readPacket, stringOf, isType, isIdentityOf}
 use Rattle.machine.specs.Life.{isAwaited, awaitedBy, awaiting, answeredTo, Due, due}
 use Rattle.machine.specs.Life.Due.{theVersion, theWatchdog, theAggregated, theAlarm, theHeld}
 use Rattle.machine.specs.Answers.{isAnswer, wantsReply, reasonOf, failsCheck}
-use Rattle.machine.specs.Items.{happens, subscribe, unsubscribe, intervals}
+use Rattle.machine.specs.Items.{happens, subscribe, unsubscribe, intervals, commands}
 use Rattle.machine.specs.Effects.{connects, closes, late, ticks, ownIdentity, dueMessage, sentAs, afterSending, markSent, sends, answerCloses, acknowledges, settle, answers, answered, refusal, refuses, carriedOut, replyMessage, replying, receives, effectOf}
 use Rattle.machine.specs.Step.{identityAwaited, isReplied, conditions, outcome, step}
 use Rattle.machine.specs.Run.{Past, Run}
@@ -86,13 +86,14 @@ module _ (l : ℕ) (P : List Awaited → Type 0) where
     happens-awaited i (some a) = (p, refl)
 
     carried-out-awaited : (t : ℕ) (j : Json) → Leaves (carriedOut l t j m)
-    unfolding carriedOut subscribe unsubscribe
+    unfolding carriedOut subscribe unsubscribe commands
     carried-out-awaited t j =
         picked Leaves (isType "Version" j) _ _ (λ e. (sets _ (m .lives) p q, refl))
         (λ e. picked Leaves (isType "Watchdog" j) _ _ (λ e. (sets _ (m .lives) p q, refl))
         (λ e. picked Leaves (isType "Alarm" j) _ _ (λ e. happens-awaited _ _)
         (λ e. picked Leaves (isType "StatusSubscribe" j) _ _ (λ e. (p, refl))
-        (λ e. picked Leaves (isType "StatusUnsubscribe" j) _ _ (λ e. (p, refl)) (λ e. (p, refl))))))
+        (λ e. picked Leaves (isType "StatusUnsubscribe" j) _ _ (λ e. (p, refl))
+        (λ e. picked Leaves (isType "CommandRequest" j) _ _ (λ e. (p, refl)) (λ e. (p, refl)))))))
 
 -- ---- which calls bring no answer
 module _ (l : ℕ) (p : Past) where
@@ -206,11 +207,11 @@ module _ (s : Start) (h : List Past) (m : Machine) (run : Run s h m) (t l : ℕ)
 
           abbrev replied : Effect
           replied =
-              effect (withLife l (awaiting id t noRecord (lifeAt (out .leaves) l)) (out .leaves)) (out .issues)
+              handing (out .commands) (withLife l (awaiting id t noRecord (lifeAt (out .leaves) l)) (out .leaves)) (out .issues)
               (ack (stringOf "mId" j) ∷ replyMessage (out .leaves) t id j ∷ []) (out .closed) (out .hint)
 
           abbrev acked-only : Effect
-          acked-only = effect (out .leaves) (out .issues) (ack (stringOf "mId" j) ∷ []) (out .closed) (out .hint)
+          acked-only = handing (out .commands) (out .leaves) (out .issues) (ack (stringOf "mId" j) ∷ []) (out .closed) (out .hint)
 
           unclosed : any (eqb l) (out .closed) ≡ false
           unclosed = carried-out-awaited l (λ (ids : List Awaited). Unit {0}) m tt tt t j .1

@@ -42,7 +42,7 @@ pub record Carried (s : Start) (h : List Past) (l n : ℕ) (id : Bytes) : Type 0
   -- was done and wrote one message: that of the record which was held under number n
   pub content : Content
   pub held : IsHeld (issuedFor l content) n (machine .pool .held)
-  pub sent : step machine call .0 ≡ done (recordMessage (machine .setup .table) id content ∷ []) [] none
+  pub sent : step machine call .0 ≡ done (recordMessage (machine .setup .table) id content ∷ []) [] none []
   -- and since then
   pub since : Unanswered l id (past machine call ∷ before) h
   pub life : Among (past machine call) (thisLife l h)

@@ -15,7 +15,7 @@ use Rattle.basis.proofs.Both.{not-both}
 use Rattle.json_value.specs.Grammar.{Json}
 use Rattle.write_message.specs.Message.Message.{ack}
 use Rattle.machine.specs.Words.{Bytes, keep, any, changed, upTo}
-use Rattle.machine.specs.State.{Awaited, Life, fresh, Machine, lifeAt, withLife, Act, Call, Outcome, Effect, effect, only}
+use Rattle.machine.specs.State.{Awaited, Life, fresh, Machine, lifeAt, withLife, Act, Call, Outcome, Effect, handing, only}
 use Rattle.machine.specs.State.Act.{packet}
 use Rattle.machine.specs.Json.{stringOf, isType}
 use Rattle.machine.specs.Table.{lastSequence}
@@ -91,8 +91,8 @@ module _ (m : Machine) (l t room : ℕ) (random bytes : Bytes) (j : Json) (arriv
     answer-life = life-after m t (packet l random bytes room) answer-laid l answer-number answer-lays
 
   module _ (plain : Plain j) (reason : reasonOf m l j ≡ none) (heard : isIgnored (lifeAt m l) (some j) ≡ false) (laid : Effect) (carried : carriedOut l t j m ≡ laid) (silent : laid .issues ≡ []) where
-    plain-lays : receives l t (ownIdentity random) m j ≡ effect (laid .leaves) (laid .issues) (ack (stringOf "mId" j) ∷ []) (laid .closed) (laid .hint)
-    plain-lays = subst (λ (e : Effect). receives l t (ownIdentity random) m j ≡ effect (e .leaves) (e .issues) (ack (stringOf "mId" j) ∷ []) (e .closed) (e .hint)) carried (plain-effect j plain m l t (ownIdentity random) reason)
+    plain-lays : receives l t (ownIdentity random) m j ≡ handing (laid .commands) (laid .leaves) (laid .issues) (ack (stringOf "mId" j) ∷ []) (laid .closed) (laid .hint)
+    plain-lays = subst (λ (e : Effect). receives l t (ownIdentity random) m j ≡ handing (e .commands) (e .leaves) (e .issues) (ack (stringOf "mId" j) ∷ []) (e .closed) (e .hint)) carried (plain-effect j plain m l t (ownIdentity random) reason)
 
     pub plain-life : lifeAt (step m (at t (packet l random bytes room)) .1) l ≡ lifeAt (laid .leaves) l
     plain-life =

@@ -8,6 +8,7 @@ use lib.ListN.{getD}
 use native.Mathlib.Omega.{arith}
 use Rattle.table_whole.specs.Allowed.{Allowed}
 use Rattle.table_whole.specs.Allowed.Every.{none, more}
+use Rattle.table_whole.specs.Allowed.EditionOf.{second}
 use Rattle.machine.specs.Words.{Bytes}
 use Rattle.machine.specs.Table.Begins.{begins}
 use Rattle.machine.specs.State.{Start, Machine, Call}
@@ -30,28 +31,33 @@ two-ids (suc zero) (suc zero) p q e = refl
 two-ids (suc zero) (suc (suc j)) p q e = absurd (omega arith)
 two-ids (suc (suc i)) j p q e = absurd (omega arith)
 
-allowed : Allowed table
+allowed : Allowed 2 table
 allowed =
     record {
+      edition-of = second;
       fewest-components = lit≤ tt;
       most-components = lit≤ tt;
       most-alarms = lit≤ tt;
       most-statuses = lit≤ tt;
+      most-commands = lit≤ tt;
       site = refl;
       sxl = refl;
       components = more refl (more refl none);
-      alarms = more (record { component = lit≤ tt; lowest = lit≤ tt; highest = lit≤ tt; category = lit≤ tt; code = refl; name = refl }) none;
-      statuses = more (record { component = lit≤ tt; priority = refl; category = refl; code = refl; name = refl }) none;
+      alarms = more (record { component = lit≤ tt; lowest = lit≤ tt; highest = lit≤ tt; category = lit≤ tt; code = refl; name = refl; no-range = record { lowest = refl; highest = refl } }) none;
+      statuses = more (record { component = lit≤ tt; priority = refl; category = refl; code = refl; name = refl; no-range = record { lowest = refl; highest = refl } }) none;
+      commands =
+          more (record { component = lit≤ tt; priority = refl; category = refl; code = refl; name = refl; lowest = lit≤ tt; highest = lit≤ tt; range = refl }) none;
       no-component-twice = two-ids;
       no-alarm-twice = λ i j p q same. one-place i j p q;
       no-status-twice = λ i j p q same. one-place i j p q;
+      no-command-twice = λ i j p q same. one-place i j p q;
     }
 
 pub begun-example : Run start [] (started 2)
-begun-example = begun (begins {t = table} allowed refl refl)
+begun-example = begun (begins {edition = 2} {t = table} allowed refl refl)
 
 pub begun-second : Run secondStart [] secondStarted
-begun-second = begun (begins {t = table} allowed refl refl)
+begun-second = begun (begins {edition = 2} {t = table} allowed refl refl)
 
 pub goes-on : {s : Start} {h : List Past} {m : Machine} → Run s h m → (cs : List Call) → Run s (pasts h m cs) (leaves m cs)
 goes-on r [] = r

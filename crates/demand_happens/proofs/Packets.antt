@@ -12,12 +12,12 @@ use Rattle.basis.specs.Pick.{pick, both}
 use Rattle.json_value.specs.Grammar.{Json}
 use Rattle.write_message.specs.Message.Message.{ack}
 use Rattle.machine.specs.Words.{Bytes, maybe, isSome, reads, Case, firstOf}
-use Rattle.machine.specs.State.{Awaited, Exchange, Machine, lifeAt, withLife, effect, only}
+use Rattle.machine.specs.State.{Awaited, Exchange, Machine, lifeAt, withLife, handing, only}
 use Rattle.machine.specs.State.Act.{packet}
 use Rattle.machine.specs.Json.{shape, element, stringOf, elementIs, isType, isIdentityOf}
 use Rattle.machine.specs.Table.{lastSequence}
 use Rattle.machine.specs.Life.{isOver, isGreeting, isBeating, awaitedBy, answeredTo}
-use Rattle.machine.specs.Answers.{isAnswer, isIgnored, componentAsked, unknownComponent, unknownAlarm, unknownStatus, wantsReply, isUnexpected, reasons, reasonOf}
+use Rattle.machine.specs.Answers.{isAnswer, isIgnored, componentAsked, unknownComponent, unknownAlarm, unknownStatus, outOfRange, unknownCommand, wantsReply, isUnexpected, reasons, reasonOf}
 use Rattle.machine.specs.Effects.{ownIdentity, answerCloses, acknowledges, settle, answers, answered, versionAccepted, watchdogTaken, carriedOut, replying, receives, effectOf}
 use Rattle.machine.specs.Step.{isReplied, conditions, numberOf}
 use Rattle.demand_held.proofs.Lists.{Each}
@@ -105,6 +105,7 @@ pub record Plain (j : Json) : Type 0 where
   pub no-request : isType "StatusRequest" j ≡ false
   pub no-subscribe : isType "StatusSubscribe" j ≡ false
   pub no-unsubscribe : isType "StatusUnsubscribe" j ≡ false
+  pub no-order : isType "CommandRequest" j ≡ false
 
 plain-version : (j : Json) → isType "Version" j ≡ true → Plain j
 plain-version j e =
@@ -116,6 +117,7 @@ plain-version j e =
       no-request = one-type "Version" "StatusRequest" refl j e;
       no-subscribe = one-type "Version" "StatusSubscribe" refl j e;
       no-unsubscribe = one-type "Version" "StatusUnsubscribe" refl j e;
+      no-order = one-type "Version" "CommandRequest" refl j e;
     }
 
 plain-watchdog : (j : Json) → isType "Watchdog" j ≡ true → Plain j
@@ -128,6 +130,7 @@ plain-watchdog j e =
       no-request = one-type "Watchdog" "StatusRequest" refl j e;
       no-subscribe = one-type "Watchdog" "StatusSubscribe" refl j e;
       no-unsubscribe = one-type "Watchdog" "StatusUnsubscribe" refl j e;
+      no-order = one-type "Watchdog" "CommandRequest" refl j e;
     }
 
 module _ (j : Json) (plain : Plain j) where
@@ -135,7 +138,7 @@ module _ (j : Json) (plain : Plain j) where
   no-answer = rw (plain .no-ack, plain .no-not-ack)
 
   no-reply : (m : Machine) (l : ℕ) → wantsReply m l j ≡ false
-  no-reply m l = rw (plain .no-alarm, plain .no-aggregated, plain .no-request)
+  no-reply m l = rw (plain .no-alarm, plain .no-aggregated, plain .no-request, plain .no-order)
 
   no-component : (m : Machine) → unknownComponent m j ≡ false
   no-component m = rw (plain .no-alarm, plain .no-aggregated)
@@ -146,12 +149,18 @@ module _ (j : Json) (plain : Plain j) where
   no-status : (m : Machine) → unknownStatus m j ≡ false
   no-status m = rw (plain .no-request, plain .no-subscribe, plain .no-unsubscribe) (pick-same (isSome (componentAsked m j)) false)
 
+  no-range : (m : Machine) → outOfRange m j ≡ false
+  no-range m = rw (plain .no-order)
+
+  no-command : (m : Machine) → unknownCommand m j ≡ false
+  no-command m = rw (plain .no-order)
+
   module _ (m : Machine) (l t : ℕ) (id : Bytes) (reason : reasonOf m l j ≡ none) where
     pub plain-unreplied : isReplied m l j ≡ false
     plain-unreplied = rw (no-answer, reason, no-reply m l)
 
     pub plain-effect : receives l t id m j
-        ≡ effect (carriedOut l t j m .leaves) (carriedOut l t j m .issues) (ack (stringOf "mId" j) ∷ []) (carriedOut l t j m .closed) (carriedOut l t j m .hint)
+        ≡ handing (carriedOut l t j m .commands) (carriedOut l t j m .leaves) (carriedOut l t j m .issues) (ack (stringOf "mId" j) ∷ []) (carriedOut l t j m .closed) (carriedOut l t j m .hint)
     unfolding receives replying
     plain-effect = rw (no-answer, reason, no-reply (carriedOut l t j m .leaves) l)
 
@@ -172,9 +181,9 @@ module _ (m : Machine) (l t : ℕ) (j : Json) (formed : WellFormed j) (good : Is
   version-reason =
       first-none (reasons m l j)
       (one-more (rw (mtype-there j (formed .marked))) (one-more (rw (formed .marked)) (one-more expected (one-more (rw not-beating)
-      (one-more (formed .complete) (one-more (formed .good) (one-more (rw (good .typed, good .version)) (one-more (rw (good .typed, good .site))
+      (one-more (formed .complete) (one-more (formed .good) (one-more (no-range j version-plain m) (one-more (rw (good .typed, good .version)) (one-more (rw (good .typed, good .site))
       (one-more (rw (good .typed, good .sxl)) (one-more (no-component j version-plain m) (one-more (no-alarm-number j version-plain m)
-      (one-more (no-status j version-plain m) (one-more (rw (no-reply j version-plain m l)) no-more)))))))))))))
+      (one-more (no-status j version-plain m) (one-more (no-command j version-plain m) (one-more (rw (no-reply j version-plain m l)) no-more)))))))))))))))
 
   pub version-heard : isIgnored (lifeAt m l) (some j) ≡ false
   unfolding isIgnored
@@ -198,9 +207,9 @@ module _ (m : Machine) (l t : ℕ) (j : Json) (formed : WellFormed j) (typed : I
   watchdog-reason =
       first-none (reasons m l j)
       (one-more (rw (mtype-there j (formed .marked))) (one-more (rw (formed .marked)) (one-more (rw (no-version, typed)) (one-more (rw typed (both-no (isBeating (lifeAt m l))))
-      (one-more (formed .complete) (one-more (formed .good) (one-more (rw no-version) (one-more (rw no-version)
+      (one-more (formed .complete) (one-more (formed .good) (one-more (no-range j watchdog-plain m) (one-more (rw no-version) (one-more (rw no-version)
       (one-more (rw no-version) (one-more (no-component j watchdog-plain m) (one-more (no-alarm-number j watchdog-plain m)
-      (one-more (no-status j watchdog-plain m) (one-more (rw (no-reply j watchdog-plain m l)) no-more)))))))))))))
+      (one-more (no-status j watchdog-plain m) (one-more (no-command j watchdog-plain m) (one-more (rw (no-reply j watchdog-plain m l)) no-more)))))))))))))))
 
   pub watchdog-heard : isIgnored (lifeAt m l) (some j) ≡ false
   unfolding isIgnored

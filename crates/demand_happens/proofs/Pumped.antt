@@ -21,7 +21,7 @@ unfolding effectOf
 pump-effect m l t room random d f = rw f
 
 pub sends-first-due : (m : Machine) (l t room : ℕ) (random : Bytes) (d : Due) → CanPump m l t random room → due m l t ≡ some d
-    → step m (at t (pump l random room)) ≡ (done (dueMessage m t (ownIdentity random) d ∷ []) [] none, after t (sends l t (ownIdentity random) m d))
+    → step m (at t (pump l random room)) ≡ (done (dueMessage m t (ownIdentity random) d ∷ []) [] none [], after t (sends l t (ownIdentity random) m d))
 unfolding sends
 sends-first-due m l t room random d can f =
     rw (step-done m (at t (pump l random room)) (pump-unrefused m l t room random d can f), pump-effect m l t room random d f)

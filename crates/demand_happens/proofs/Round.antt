@@ -137,10 +137,10 @@ module _ {start : Start} {h : List Past} {m : Machine} (r : Run start h m) (l : 
   can : CanPump m l t random room
   can = record { configured = configured; roomy = round .roomy; timely = round .timely; few = rw alone (omega arith); unawaited = rw alone }
 
-  both-parts : step m (at t (pump l random room)) ≡ (done (dueMessage m t (ownIdentity random) d ∷ []) [] none, after t (sends l t (ownIdentity random) m d))
+  both-parts : step m (at t (pump l random room)) ≡ (done (dueMessage m t (ownIdentity random) d ∷ []) [] none [], after t (sends l t (ownIdentity random) m d))
   both-parts = sends-first-due m l t room random d can is
 
-  pub pumped-gave : step m (at t (pump l random room)) .0 ≡ done (dueMessage m t (ownIdentity random) d ∷ []) [] none
+  pub pumped-gave : step m (at t (pump l random room)) .0 ≡ done (dueMessage m t (ownIdentity random) d ∷ []) [] none []
   pumped-gave = ap (λ (x : Outcome × Machine). x .0) both-parts
 
   pumped-is : pumped ≡ after t (sends l t (ownIdentity random) m d)

@@ -17,7 +17,7 @@ use Rattle.machine.specs.State.Act.{connect, disconnect, packet, alarmInput, st
 use Rattle.machine.specs.Json.{readPacket, stringOf, isType}
 use Rattle.machine.specs.Life.{close, closeAll, awaitedBy, Due, due}
 use Rattle.machine.specs.Answers.{isAnswer, wantsReply, reasonOf, failsCheck}
-use Rattle.machine.specs.Items.{isNew, happens, subscribe, unsubscribe, intervals, becomes, aggregates}
+use Rattle.machine.specs.Items.{isNew, happens, subscribe, unsubscribe, intervals, becomes, commands, aggregates}
 use Rattle.machine.specs.Effects.{
   connects,
   closes,
@@ -96,13 +96,14 @@ module _ (m : Machine) where
   sized-refuses l j reason = picked Leaves (failsCheck reason) _ _ (λ e. sized-closes l _) (λ e. refl)
 
   sized-carried-out : (l t : ℕ) (j : Json) → Leaves (carriedOut l t j m)
-  unfolding carriedOut subscribe unsubscribe
+  unfolding carriedOut subscribe unsubscribe commands
   sized-carried-out l t j =
       picked Leaves (isType "Version" j) _ _ (λ e. sets l _ m refl)
       (λ e. picked Leaves (isType "Watchdog" j) _ _ (λ e. sets l _ m refl)
       (λ e. picked Leaves (isType "Alarm" j) _ _ (λ e. sized-happens _ _)
       (λ e. picked Leaves (isType "StatusSubscribe" j) _ _ (λ e. refl)
-      (λ e. picked Leaves (isType "StatusUnsubscribe" j) _ _ (λ e. refl) (λ e. refl)))))
+      (λ e. picked Leaves (isType "StatusUnsubscribe" j) _ _ (λ e. refl)
+      (λ e. picked Leaves (isType "CommandRequest" j) _ _ (λ e. refl) (λ e. refl))))))
 
   sized-replying : (l t : ℕ) (id : Bytes) (j : Json) (e : Effect) → Leaves e → Leaves (replying l t id j e)
   unfolding replying

@@ -37,7 +37,7 @@ pub record CanPump (m : Machine) (l t : ℕ) (random : Bytes) (room : ℕ) : Typ
 
 pub record Pumping : Type 0 where
   pub sends-first-due : (m : Machine) (l t room : ℕ) (random : Bytes) (d : Due) → CanPump m l t random room → due m l t ≡ some d
-      → step m (at t (pump l random room)) ≡ (done (dueMessage m t (ownIdentity random) d ∷ []) [] none, after t (sends l t (ownIdentity random) m d))
+      → step m (at t (pump l random room)) ≡ (done (dueMessage m t (ownIdentity random) d ∷ []) [] none [], after t (sends l t (ownIdentity random) m d))
   -- such a pump, computed
   pub can : CanPump up 0 noon (random 3) 4096
   pub is-due : due up 0 noon ≡ some theAggregated

@@ -63,7 +63,7 @@ ahead m l x = (passLength m l - lifeAt m l .pass) + count (isBefore l (x .sequen
 -- one of the calls is a pump that writes the message of the record, and an answer to it is awaited for that record
 pub data GoesOut (l : ℕ) (x : Held) : Machine → List Call → Type 0 where
   at-once : {m : Machine} {t room : ℕ} {random : Bytes} {cs : List Call}
-      → step m (at t (pump l random room)) .0 ≡ done (recordMessage (m .setup .table) (ownIdentity random) (x .content) ∷ []) [] none
+      → step m (at t (pump l random room)) .0 ≡ done (recordMessage (m .setup .table) (ownIdentity random) (x .content) ∷ []) [] none []
       → Among (record { identity = ownIdentity random; time = t; message = theRecord (x .sequence) }) (lifeAt (step m (at t (pump l random room)) .1) l .awaited)
       → GoesOut l x m (at t (pump l random room) ∷ cs)
   later : {m : Machine} {c : Call} {cs : List Call} → GoesOut l x (step m c .1) cs → GoesOut l x m (c ∷ cs)

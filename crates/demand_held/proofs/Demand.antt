@@ -1,31 +1,35 @@
 -- Demand 3 holds of every run.
 -- Assumes nothing.
-use Prim.Native.Nat.{ℕ, _+_, _≤_, _<_}
+use Prim.Native.Nat.{ℕ, zero, suc, _+_, _≤_, _<_}
 use mathlib.Core.Path.{_≡_, refl, sym, _∙_, ap, subst}
 use mathlib.Core.Bool.{Bool, true, false}
 use mathlib.Core.List.{List, [], _∷_, _++_}
 use mathlib.Core.Option.{Option, some, none}
 use mathlib.Core.Logic.{_⊎_, inl, inr}
 use lib.Dec.{ltb, leb, eqb}
-use lib.ListN.{length, length-replicate}
+use lib.ListN.{length, getD, replicate, length-replicate}
 use native.Mathlib.Omega.{arith}
 use borrow.Author.Tests.{ltb-true, leb-true, eq-eqb}
 use Rattle.basis.specs.Pick.{pick}
+use Rattle.basis.proofs.Among.{among-none}
 use Rattle.basis.proofs.Both.{both-first, both-second, not-both}
 use Rattle.machine.specs.Words.{maybe, isNumber}
 use Rattle.machine.specs.State.{Issued, Setup, Pool, Start, Machine, Act, Call}
 use Rattle.machine.specs.Table.{goodStart, first, Begins}
 use Rattle.machine.specs.Table.Begins.{begins}
-use Rattle.machine.specs.Pool.{issueAll}
+use Rattle.machine.specs.Pool.{holds, issueAll}
 use Rattle.machine.specs.Step.{numberOf, after, step, leaves}
-use Rattle.machine.specs.Run.{Past, Run}
+use Rattle.machine.specs.Run.{Past, past, Run}
 use Rattle.machine.specs.Run.Run.{begun, next}
 use Rattle.demand_held.specs.Held.{IsHeld, newer, IsDone, issuedBy, Answered, Kept, Fate, packetLink, Until, At}
 use Rattle.demand_held.specs.Held.Answered.{answered}
 use Rattle.demand_held.specs.Held.Kept.{stays, pushed}
 use Rattle.demand_held.specs.Held.Fate.{kept, settled}
 use Rattle.demand_held.specs.Held.Until.{lasts, answered-now, pushed-now, later}
+use Rattle.demand_held.specs.Held.IsHeld.{held as is-held}
 use Rattle.demand_held.specs.Crowded.{Crowded}
+use Rattle.demand_held.specs.Counted.{IssuedIn, answersOf, issuesOf, ifDone, issuedCount, answeredCount}
+use Rattle.demand_held.specs.Counted.IssuedIn.{issued-now, issued-before}
 use Rattle.demand_held.specs.Demand.{Holding, Demand3}
 use Rattle.demand_held.proofs.Lists.{Each}
 use Rattle.demand_held.proofs.Lists.Each.{no-more, one-more}
@@ -33,8 +37,9 @@ use Rattle.demand_held.proofs.Good.{Good, Fits}
 use Rattle.demand_held.proofs.Good.Rising.{ends}
 use Rattle.demand_held.proofs.Rising.{rising-once, newer-older}
 use Rattle.demand_held.proofs.Room.{Over}
-use Rattle.demand_held.proofs.Issue.{For, held-below, all-good, all-every, all-lost, fate-of, issued-of, never-crowded}
+use Rattle.demand_held.proofs.Issue.{For, held-below, all-good, all-every, all-lost, Placed, all-origin, all-counts, fate-of, issued-of, never-crowded}
 use Rattle.demand_held.proofs.Lays.{Lays, lays}
+use Rattle.demand_held.proofs.Counts.{exact}
 use Rattle.demand_held.proofs.Steps.{laid, step-done, step-refused, done-number, number-done, there}
 
 pub record Sound (m : Machine) : Type 0 where
@@ -174,6 +179,57 @@ pub run-sound : {s : Start} {h : List Past} {m : Machine} → Run s h m → Soun
 run-sound (begun b) = begun-sound _ _ b
 run-sound (next c r) = step-sound _ (run-sound r) c
 
+-- ---- each held record was issued, and what was issued is held, lost or answered
+module _ {s : Start} {h : List Past} {m : Machine} (run : Run s h m) (c : Call) where
+  from-done : numberOf m c ≡ none → (r : Issued) (n : ℕ) → (IsHeld r n (m .pool .held) → IssuedIn s r n h) → IsHeld r n (after (c .time) (laid m c) .pool .held)
+      → IssuedIn s r n (past m c ∷ h)
+  from-done e r n before k = go (all-origin (laid m c .issues) (laid m c .leaves .pool) (good-laid m (run-sound run) c linked) (for-laid m (run-sound run) c linked) r n k)
+    where
+      linked : (l : ℕ) → packetLink (c .act) ≡ some l → l < m .setup .links
+      linked = here m (run-sound run) c e
+
+      go : IsHeld r n (laid m c .leaves .pool .held) ⊎ Placed r n (laid m c .leaves .pool .next) (laid m c .issues) → IssuedIn s r n (past m c ∷ h)
+      go (inl x) = issued-before (before (lay m (run-sound run) c linked .frame .origin r n x))
+      go (inr x) = issued-now run (number-done m c e) (x .at) (omega (arith, x .number, lay m (run-sound run) c linked .frame .next))
+
+  from-call : (r : Issued) (n : ℕ) → (IsHeld r n (m .pool .held) → IssuedIn s r n h) → IsHeld r n (step m c .1 .pool .held) → IssuedIn s r n (past m c ∷ h)
+  from-call r n before k =
+      by-number m (run-sound run) c (λ e. from-done e r n before (rw (step-done m c e) at k)) (λ i e. issued-before (before (rw (step-refused m c i e) at k)))
+
+issued-in : {s : Start} {h : List Past} {m : Machine} → Run s h m → (r : Issued) (n : ℕ) → IsHeld r n (m .pool .held) → IssuedIn s r n h
+issued-in (begun (begins allowed e g)) r n (is-held a x y z) = among-none a
+issued-in (next c run) r n k = from-call run c r n (λ x. issued-in run r n x) k
+
+zeros : (n l : ℕ) → getD {A = ℕ} (replicate n 0) l 0 ≡ 0
+zeros zero l = refl
+zeros (suc n) zero = refl
+zeros (suc n) (suc l) = zeros n l
+
+module _ {s : Start} {h : List Past} {m : Machine} (run : Run s h m) (c : Call) (l : ℕ) where
+  abbrev Counted : Pool → ℕ → ℕ → Type 0
+  Counted p a i = getD (p .lost) l 0 + holds p l + a ≡ i
+
+  count-done : numberOf m c ≡ none → Counted (m .pool) (answeredCount l run) (issuedCount l run)
+      → Counted (after (c .time) (laid m c) .pool) (answeredCount l run + answersOf m l (c .act)) (issuedCount l run + issuesOf m l c)
+  count-done e before =
+      let linked = here m (run-sound run) c e in
+      omega (
+        arith,
+        before,
+        all-counts (laid m c .issues) (laid m c .leaves .pool) (good-laid m (run-sound run) c linked) (for-laid m (run-sound run) c linked) l,
+        ap (λ (xs : List ℕ). getD xs l 0) (lay m (run-sound run) c linked .frame .lost),
+        exact m l (run-sound run .primary) (c .time) (c .act) linked,
+      )
+
+  count-call : Counted (m .pool) (answeredCount l run) (issuedCount l run)
+      → Counted (step m c .1 .pool) (answeredCount l run + ifDone (step m c .0) (answersOf m l (c .act))) (issuedCount l run + ifDone (step m c .0) (issuesOf m l c))
+  count-call before =
+      by-number m (run-sound run) c (λ e. rw (step-done m c e) (count-done e before)) (λ i e. rw (step-refused m c i e) (omega (arith, before)))
+
+lost-count : {s : Start} {h : List Past} {m : Machine} (run : Run s h m) (l : ℕ) → getD (m .pool .lost) l 0 + holds (m .pool) l + answeredCount l run ≡ issuedCount l run
+lost-count {s} (begun (begins allowed e g)) l = omega (arith, zeros (s .links) l)
+lost-count (next c run) l = count-call run c l (lost-count run l)
+
 pub demand3 : Demand3
 demand3 =
     record {
@@ -188,4 +244,6 @@ demand3 =
         once = λ n. rising-once n (m .pool .held) (run-sound r .good .rising);
         never-crowded = λ c. uncrowded m (run-sound r) c;
       };
+      issued-by-a-call = λ s h m r. issued-in r;
+      lost-count = λ s h m r. lost-count r;
     }

@@ -14,7 +14,7 @@ use native.Mathlib.Omega.{arith}
 use borrow.Author.Tests.{eqb-true, leb-false, ne-eqb, eq-eqb}
 use Rattle.basis.specs.Pick.{pick, both, bit}
 use Rattle.basis.specs.Lists.{count, Among}
-use Rattle.basis.proofs.Cases.{bool-cases, picked}
+use Rattle.basis.proofs.Cases.{bool-cases, picked, eq-or-ne}
 use Rattle.json_value.specs.Grammar.{Json}
 use Rattle.write_message.specs.Message.{Message}
 use Rattle.machine.specs.Words.{Bytes, maybe, keep, flat, upTo, isNumber}
@@ -23,13 +23,17 @@ use Rattle.machine.specs.Pool.{isFor, holds, settled, marked}
 use Rattle.machine.specs.Life.{unsent, close, closeAll}
 use Rattle.demand_held.specs.Held.{IsHeld, Answered}
 use Rattle.demand_held.specs.Held.IsHeld.{held}
-use Rattle.demand_held.proofs.Lists.{maybe-cases, Each, each-map, each-keep, among-map, among-keep, count-map, count-keep, length-map, length-keep}
+use Rattle.demand_held.proofs.Lists.{maybe-cases, Each, each-map, each-keep, among-map, among-mapped, among-keep, among-kept, count-map, count-keep, count-kept, length-map, length-keep}
 use Rattle.demand_held.proofs.Lists.Each.{no-more, one-more}
 use Rattle.demand_held.proofs.Good.{Good, Below, Fits}
 use Rattle.demand_held.proofs.Rising.{rising-map, rising-keep}
 use Rattle.demand_held.proofs.Issue.{For}
 
 -- what a call leaves before it issues; E ends a record otherwise
+pub record Ended (E : ℕ → ℕ → Type 0) (l : ℕ) : Type 0 where
+  pub number : ℕ
+  pub ends : E l number
+
 pub record Frame (E : ℕ → ℕ → Type 0) (m k : Machine) : Type 0 where
   pub setup : k .setup ≡ m .setup
   pub next : k .pool .next ≡ m .pool .next
@@ -37,6 +41,8 @@ pub record Frame (E : ℕ → ℕ → Type 0) (m k : Machine) : Type 0 where
   pub good : Good (m .pool) → Good (k .pool)
   pub every : (u : Setup) → Each (Fits u) (m .pool .held) → Each (Fits u) (k .pool .held)
   pub spared : (r : Issued) (n : ℕ) → IsHeld r n (m .pool .held) → IsHeld r n (k .pool .held) ⊎ E (r .link) n
+  pub origin : (r : Issued) (n : ℕ) → IsHeld r n (k .pool .held) → IsHeld r n (m .pool .held)
+  pub as-many : (l : ℕ) → (holds (k .pool) l ≡ holds (m .pool) l) ⊎ Ended E l
 
 -- the pool is the same
 pub still : {E : ℕ → ℕ → Type 0} {m : Machine} (k : Machine) → k .setup ≡ m .setup → k .pool ≡ m .pool → Frame E m k
@@ -48,6 +54,8 @@ still k s e =
       good = λ g. rw e g;
       every = λ u h. rw e h;
       spared = λ r n h. inl (rw e h);
+      origin = λ r n h. rw e at h;
+      as-many = λ l. inl (rw e);
     }
 
 pub then : {E : ℕ → ℕ → Type 0} {m k j : Machine} → Frame E m k → Frame (λ l n. ⊥) k j → Frame E m j
@@ -59,11 +67,19 @@ then {E} {m} {k} {j} a b =
       good = λ g. b .good (a .good g);
       every = λ u h. b .every u (a .every u h);
       spared = λ r n h. go r n (a .spared r n h);
+      origin = λ r n h. a .origin r n (b .origin r n h);
+      as-many = λ l. many l (a .as-many l) (b .as-many l);
     }
   where
     on : (r : Issued) (n : ℕ) → IsHeld r n (j .pool .held) ⊎ ⊥ → IsHeld r n (j .pool .held) ⊎ E (r .link) n
     on r n (inl h) = inl h
     on r n (inr e) = absurd e
+
+    many : (l : ℕ) → (holds (k .pool) l ≡ holds (m .pool) l) ⊎ Ended E l → (holds (j .pool) l ≡ holds (k .pool) l) ⊎ Ended (λ l n. ⊥) l
+        → (holds (j .pool) l ≡ holds (m .pool) l) ⊎ Ended E l
+    many l (inl p) (inl q) = inl (q ∙ p)
+    many l (inr x) q = inr x
+    many l (inl p) (inr y) = absurd (y .ends)
 
     go : (r : Issued) (n : ℕ) → IsHeld r n (k .pool .held) ⊎ E (r .link) n → IsHeld r n (j .pool .held) ⊎ E (r .link) n
     go r n (inl h) = on r n (b .spared r n h)
@@ -86,10 +102,18 @@ module _ {E : ℕ → ℕ → Type 0} (m : Machine) (g : Held → Held) (same-li
         };
         every = λ u h. each-map g (λ x f. rw (same-link x, same-content x) f) h;
         spared = λ r n h. inl (again r n h);
+        origin = unmarked;
+        as-many = λ l. inl (count-map (isFor l) (isFor l) g (λ h. ap (λ (k : ℕ). eqb k l) (same-link h)) (m .pool .held));
       }
     where
       again : (r : Issued) (n : ℕ) → IsHeld r n (m .pool .held) → IsHeld r n (map g (m .pool .held))
       again r n (held {h} a e c f) = held (among-map g a) (same-link h ∙ e) (same-content h ∙ c) (same-number h ∙ f)
+
+      unmarked : (r : Issued) (n : ℕ) → IsHeld r n (map g (m .pool .held)) → IsHeld r n (m .pool .held)
+      unmarked r n (held {h} a e c f) =
+          let x = among-mapped g (m .pool .held) a in
+          held (x .among) (sym (same-link (x .of)) ∙ ap (λ (y : Held). y .link) (x .is) ∙ e) (sym (same-content (x .of)) ∙ ap (λ (y : Held). y .content) (x .is) ∙ c)
+          (sym (same-number (x .of)) ∙ ap (λ (y : Held). y .sequence) (x .is) ∙ f)
 
 -- a record is settled
 module _ {E : ℕ → ℕ → Type 0} (m : Machine) (k i : ℕ) (ends : E k i) where
@@ -108,10 +132,22 @@ module _ {E : ℕ → ℕ → Type 0} (m : Machine) (k i : ℕ) (ends : E k i) w
         };
         every = λ u h. each-keep other h;
         spared = keeps;
+        origin = λ r n h. was r n h;
+        as-many = λ l. by-link l (eq-or-ne k l);
       }
     where
       other : Held → Bool
       other h = not (both (isFor k h) (eqb (h .sequence) i))
+
+      was : (r : Issued) (n : ℕ) → IsHeld r n (settled k i (m .pool .held)) → IsHeld r n (m .pool .held)
+      was r n (held a e c f) = held (among-kept other (m .pool .held) a) e c f
+
+      not-its : (l : ℕ) → (k ≡ l → ⊥) → (h : Held) → isFor l h ≡ true → other h ≡ true
+      not-its l n h t = rw (ne-eqb (h .link) k (λ e. n (sym e ∙ eqb-true (h .link) l t)))
+
+      by-link : (l : ℕ) → (k ≡ l) ⊎ (k ≡ l → ⊥) → (holds (withHeld (settled k i (m .pool .held)) m .pool) l ≡ holds (m .pool) l) ⊎ Ended E l
+      by-link l (inl e) = inr (record { number = i; ends = rw (← e) ends })
+      by-link l (inr n) = inl (count-kept other (isFor l) (not-its l n) (m .pool .held))
 
       by : (r : Issued) (n : ℕ) (h : Held) → Among h (m .pool .held) → h .link ≡ r .link → h .content ≡ r .content → h .sequence ≡ n
           → (x y : Bool) → eqb (h .link) k ≡ x → eqb (h .sequence) i ≡ y → IsHeld r n (settled k i (m .pool .held)) ⊎ E (r .link) n

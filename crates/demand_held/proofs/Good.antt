@@ -86,7 +86,7 @@ fewer (suc n) l hs g f h = go (eq-or-ne l n) (fewer n l hs)
     go (inl e) r = omega (arith, at-most n hs (λ j i. h j (omega arith)), ap (λ (k : ℕ). count (isFor k) hs) e)
     go (inr e) r = omega (arith, r (omega arith) f (λ j i. h j (omega arith)), h n (omega arith))
 
-beyond : {n : ℕ} (l : ℕ) → n ≤ l → (hs : List Held) → Each (Below n) hs → count (isFor l) hs ≡ 0
+pub beyond : {n : ℕ} (l : ℕ) → n ≤ l → (hs : List Held) → Each (Below n) hs → count (isFor l) hs ≡ 0
 beyond l f [] no-more = refl
 beyond l f (h ∷ hs) (one-more b r) = omega (arith, bit-false (isFor l h) (ne-eqb (h .link) l (λ e. omega arith)), beyond l f hs r)
 

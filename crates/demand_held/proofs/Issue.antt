@@ -1,19 +1,19 @@
 -- Issuing keeps a pool good; what becomes of a record while others are issued, and of one that is issued.
 -- Assumes nothing.
 use Prim.Native.Nat.{ℕ, suc, _+_, _≤_, _<_}
-use mathlib.Core.Path.{_≡_, refl, sym, _∙_, ap}
+use mathlib.Core.Path.{_≡_, refl, sym, _∙_, ap, subst}
 use mathlib.Core.Bool.{Bool, true, false}
 use mathlib.Core.List.{List, [], _∷_, _++_}
 use mathlib.Core.Logic.{_⊎_, inl, inr}
 use lib.Dec.{eqb, leb}
-use lib.ListN.{length}
+use lib.ListN.{length, getD}
 use native.Mathlib.Omega.{arith}
 use borrow.Author.Tests.{lt-leb, ne-eqb}
 use Rattle.basis.specs.Pick.{both, bit}
-use Rattle.basis.specs.Lists.{count}
+use Rattle.basis.specs.Lists.{count, Among}
 use Rattle.basis.proofs.Cases.{eq-or-ne}
 use Rattle.basis.proofs.Both.{both-no}
-use Rattle.basis.proofs.Among.{among-left}
+use Rattle.basis.proofs.Among.{among-left, among-one, among-either}
 use Rattle.machine.specs.State.{Setup, Issued, Held, heldAs, Pool}
 use Rattle.machine.specs.Pool.{isFor, holds, makeRoom, added, issue, issueAll}
 use Rattle.demand_held.specs.Held.{IsHeld, At}
@@ -72,6 +72,23 @@ module _ (i : Issued) (p : Pool) (g : Good p) where
     over-added : (l n : ℕ) → n < p .next → Over l n p → Over l n (added i q)
     over-added l n b o = record { none = omega (arith, o .none, older-added l n b, r .fewer (older l n)); many = r .sixteen l (o .many) }
 
+    origin-added : (x : Issued) (n : ℕ) → IsHeld x n (added i q .held) → IsHeld x n (p .held) ⊎ ((i ≡ x) × (n ≡ p .next))
+    origin-added x n (held {h} a e c f) = go (among-either (q .held) (new q ∷ []) a)
+      where
+        is-new : Among h (new q ∷ []) → h ≡ new q
+        is-new = among-one (λ (y : Held). y ≡ new q) h (new q) refl
+
+        go : Among h (q .held) ⊎ Among h (new q ∷ []) → IsHeld x n (p .held) ⊎ ((i ≡ x) × (n ≡ p .next))
+        go (inl b) = inl (r .origin x n (held b e c f))
+        go (inr b) =
+            let same = is-new b in
+            let link : i .link ≡ x .link = sym (ap (λ (y : Held). y .link) same) ∙ e in
+            let content : i .content ≡ x .content = sym (ap (λ (y : Held). y .content) same) ∙ c in
+            inr ((λ k. record { link = link k; content = content k }), sym f ∙ ap (λ (y : Held). y .sequence) same ∙ r .next)
+
+    counts-added : (l : ℕ) → getD (added i q .lost) l 0 + holds (added i q) l ≡ getD (p .lost) l 0 + holds p l + bit (eqb (i .link) l)
+    counts-added l = omega (arith, holds-added i q l, r .counts l)
+
     has-added : IsHeld i (p .next) (added i q .held)
     has-added = held (among-last (q .held) (new q)) refl refl (r .next)
 
@@ -102,6 +119,14 @@ module _ (i : Issued) (p : Pool) (g : Good p) (linked : i .link < length (p .los
   pub issue-over : (l n : ℕ) → n < p .next → Over l n p → Over l n (issue i p)
   unfolding issue
   issue-over = over-added i p g (makeRoom (i .link) p) room
+
+  pub issue-origin : (x : Issued) (n : ℕ) → IsHeld x n (issue i p .held) → IsHeld x n (p .held) ⊎ ((i ≡ x) × (n ≡ p .next))
+  unfolding issue
+  issue-origin = origin-added i p g (makeRoom (i .link) p) room
+
+  pub issue-counts : (l : ℕ) → getD (issue i p .lost) l 0 + holds (issue i p) l ≡ getD (p .lost) l 0 + holds p l + bit (eqb (i .link) l)
+  unfolding issue
+  issue-counts = counts-added i p g (makeRoom (i .link) p) room
 
   pub issue-has : IsHeld i (p .next) (issue i p .held)
   unfolding issue
@@ -143,6 +168,31 @@ all-fate (i ∷ is) p g (one-more f a) x n h = go (issue-fate i p g f x n (held-
     go (inl k) r = r k
     go (inr o) r =
         inr (all-over is (issue i p) (issue-good i p g f) (for-next i p g f a) (x .link) n (omega (arith, held-below p g x n h, issue-next i p g f)) o)
+
+-- what is held after was held before, or is one of those issued
+pub record Placed (x : Issued) (n start : ℕ) (is : List Issued) : Type 0 where
+  pub place : ℕ
+  pub at : At x place is
+  pub number : n ≡ start + place
+
+pub all-origin : (is : List Issued) (p : Pool) → Good p → Each (For (length (p .lost))) is → (x : Issued) (n : ℕ) → IsHeld x n (issueAll is p .held)
+    → IsHeld x n (p .held) ⊎ Placed x n (p .next) is
+all-origin [] p g a x n h = inl h
+all-origin (i ∷ is) p g (one-more f a) x n h = go (all-origin is (issue i p) (issue-good i p g f) (for-next i p g f a) x n h)
+  where
+    now : IsHeld x n (p .held) ⊎ ((i ≡ x) × (n ≡ p .next)) → IsHeld x n (p .held) ⊎ Placed x n (p .next) (i ∷ is)
+    now (inl k) = inl k
+    now (inr e) = inr (record { place = 0; at = subst (λ (y : Issued). At y 0 (i ∷ is)) (e .0) first; number = omega (arith, e .1) })
+
+    go : IsHeld x n (issue i p .held) ⊎ Placed x n (issue i p .next) is → IsHeld x n (p .held) ⊎ Placed x n (p .next) (i ∷ is)
+    go (inl k) = now (issue-origin i p g f x n k)
+    go (inr q) = inr (record { place = suc (q .place); at = behind (q .at); number = omega (arith, q .number, issue-next i p g f) })
+
+-- each that is issued for a link is held or lost, or pushes out one that is lost
+pub all-counts : (is : List Issued) (p : Pool) → Good p → Each (For (length (p .lost))) is → (l : ℕ)
+    → getD (issueAll is p .lost) l 0 + holds (issueAll is p) l ≡ getD (p .lost) l 0 + holds p l + count (λ (i : Issued). eqb (i .link) l) is
+all-counts [] p g a l = omega arith
+all-counts (i ∷ is) p g (one-more f a) l = omega (arith, all-counts is (issue i p) (issue-good i p g f) (for-next i p g f a) l, issue-counts i p g f l)
 
 -- the k-th that is issued
 pub all-issued : {k : ℕ} {i : Issued} (is : List Issued) (p : Pool) → Good p → Each (For (length (p .lost))) is → At i k is

@@ -42,7 +42,7 @@ use Rattle.machine.specs.State.Act.{connect, disconnect, packet, alarmInput, st
 use Rattle.machine.specs.Json.{readPacket, stringOf, entriesOf, isType}
 use Rattle.machine.specs.Life.{unsent, close, closeAll, awaitedBy, Due, due}
 use Rattle.machine.specs.Answers.{isAnswer, alarmAsked, wantsReply, reasonOf, failsCheck}
-use Rattle.machine.specs.Items.{isSilent, isOf, statusFor, update, numberAsked, upwards, isTime, isNew, told, happens, subscribe, unsubscribe, intervals, becomes, aggregates}
+use Rattle.machine.specs.Items.{isSilent, isOf, statusFor, update, numberAsked, upwards, isTime, isNew, told, happens, subscribe, unsubscribe, intervals, becomes, commands, aggregates}
 use Rattle.machine.specs.Pool.{marked, settled}
 use Rattle.machine.specs.Effects.{
   connects,
@@ -181,6 +181,10 @@ module _ (E : ℕ → ℕ → Type 0) (m : Machine) where
       (λ w. record { frame = then (a .frame) (still _ refl refl); issued = a .issued; told = a .told })
       (λ w. record { frame = a .frame; issued = a .issued; told = a .told })
 
+  lays-commands : (j : Json) → Lays (commands m j)
+  unfolding commands
+  lays-commands j = record { frame = still m refl refl; issued = no-more; told = no-more }
+
   module _ (primary : (p : ℕ) → m .setup .primary ≡ some p → p < m .setup .links) (l : ℕ) (there : l < m .setup .links) where
     lays-subscribe : (t : ℕ) (j : Json) → Lays (subscribe m t l j)
     unfolding subscribe
@@ -201,7 +205,8 @@ module _ (E : ℕ → ℕ → Type 0) (m : Machine) where
         (λ e. picked Lays (isType "Watchdog" j) _ _ (λ e. calm _ [] [] _ refl refl)
         (λ e. picked Lays (isType "Alarm" j) _ _ (λ e. lays-happens primary _ _)
         (λ e. picked Lays (isType "StatusSubscribe" j) _ _ (λ e. lays-subscribe t j)
-        (λ e. picked Lays (isType "StatusUnsubscribe" j) _ _ (λ e. lays-unsubscribe j) (λ e. calm m [] [] none refl refl)))))
+        (λ e. picked Lays (isType "StatusUnsubscribe" j) _ _ (λ e. lays-unsubscribe j)
+        (λ e. picked Lays (isType "CommandRequest" j) _ _ (λ e. lays-commands j) (λ e. calm m [] [] none refl refl))))))
 
 -- ---- an answer
 module _ (m : Machine) (l : ℕ) (random bytes : Bytes) (room : ℕ) (j : Json) (is : readPacket bytes ≡ some j) (answer : isAnswer j ≡ true) where

@@ -5,5 +5,6 @@ pub mod Room
 pub mod Issue
 pub mod Frame
 pub mod Lays
+pub mod Counts
 pub mod Steps
 pub mod Demand

@@ -6,12 +6,13 @@ use mathlib.Core.Bool.{Bool, true, false, not}
 use mathlib.Core.List.{List, [], _∷_, _++_, map}
 use mathlib.Core.Option.{Option, some, none}
 use mathlib.Core.Logic.{_⊎_, inl, inr}
-use lib.ListN.{length}
+use lib.ListN.{length, getD}
 use native.Mathlib.Omega.{arith}
 use Rattle.basis.specs.Pick.{pick, both, bit}
 use Rattle.basis.specs.Lists.{count, Among}
 use Rattle.basis.specs.Lists.Among.{first, later}
 use Rattle.basis.proofs.Cases.{picked, lt-or-ge}
+use Rattle.basis.proofs.Among.{among-none}
 use Rattle.basis.proofs.Both.{not-both}
 use Rattle.machine.specs.Words.{maybe, keep, butFirst, flat, changed, upTo}
 
@@ -83,9 +84,35 @@ module _ {A : Type 0} where
   among-keep f {x} e (later {y} {xs} a) =
       picked (Among x) (f y) (y ∷ keep f xs) (keep f xs) (λ g. later (among-keep f e a)) (λ g. among-keep f e a)
 
+  among-behind : {x y : A} {xs ys : List A} → (Among x xs → Among x ys) → Among x (y ∷ xs) → Among x (y ∷ ys)
+  among-behind h first = first
+  among-behind h (later a) = later (h a)
+
+  pub among-butFirst : (f : A → Bool) {x : A} (xs : List A) → Among x (butFirst f xs) → Among x xs
+  among-butFirst f [] = λ a. a
+  among-butFirst f {x} (y ∷ xs) = picked (λ (r : List A). Among x r → Among x (y ∷ xs)) (f y) xs (y ∷ butFirst f xs) (λ e a. later a) (λ e. among-behind (among-butFirst f xs))
+
+  pub among-kept : (f : A → Bool) {x : A} (xs : List A) → Among x (keep f xs) → Among x xs
+  among-kept f [] = λ a. a
+  among-kept f {x} (y ∷ xs) =
+      picked (λ (r : List A). Among x r → Among x (y ∷ xs)) (f y) (y ∷ keep f xs) (keep f xs) (λ e. among-behind (among-kept f xs)) (λ e a. later (among-kept f xs a))
+
 pub among-map : {A B : Type 0} (g : A → B) {x : A} {xs : List A} → Among x xs → Among (g x) (map g xs)
 among-map g first = first
 among-map g (later a) = later (among-map g a)
+
+-- what stands in a mapped list comes from one of the list
+pub record MapOf {A B : Type 0} (g : A → B) (y : B) (xs : List A) : Type 0 where
+  pub of : A
+  pub among : Among of xs
+  pub is : g of ≡ y
+
+pub among-mapped : {A B : Type 0} (g : A → B) {y : B} (xs : List A) → Among y (map g xs) → MapOf g y xs
+among-mapped g {y} [] a = among-none a
+among-mapped g {y} (x ∷ xs) first = record { of = x; among = first; is = refl }
+among-mapped g {y} (x ∷ xs) (later a) =
+    let r = among-mapped g xs a in
+    record { of = r .of; among = later (r .among); is = r .is }
 
 module _ {A : Type 0} (f : A → Bool) where
   pub count-last : (xs : List A) (y : A) → count f (xs ++ (y ∷ [])) ≡ count f xs + bit (f y)
@@ -127,6 +154,30 @@ module _ {A : Type 0} (f g : A → Bool) where
       (λ e. omega (arith, count-keep xs))
       (λ e. omega (arith, count-keep xs))
 
+  -- where all that it counts are kept
+  pub count-kept : ((x : A) → g x ≡ true → f x ≡ true) → (xs : List A) → count g (keep f xs) ≡ count g xs
+  count-kept h [] = refl
+  count-kept h (x ∷ xs) =
+      picked (λ (r : List A). count g r ≡ bit (g x) + count g xs) (f x) (x ∷ keep f xs) (keep f xs)
+      (λ e. omega (arith, count-kept h xs))
+      (λ e. omega (arith, bit-false (g x) (untaken e (g x) refl), count-kept h xs))
+    where
+      untaken : f x ≡ false → (b : Bool) → g x ≡ b → g x ≡ false
+      untaken e true t = not-both (h x t) e
+      untaken e false t = t
+
+  -- of those that it counts, the kept and the others
+  pub count-parted : (xs : List A) → count g (keep (λ (x : A). not (both (g x) (f x))) xs) + count (λ (x : A). both (g x) (f x)) xs ≡ count g xs
+  count-parted [] = refl
+  count-parted (x ∷ xs) = go (g x) (f x) refl refl (count-parted xs)
+    where
+      go : (a b : Bool) → g x ≡ a → f x ≡ b
+          → count g (keep (λ (x : A). not (both (g x) (f x))) xs) + count (λ (x : A). both (g x) (f x)) xs ≡ count g xs
+          → count g (keep (λ (x : A). not (both (g x) (f x))) (x ∷ xs)) + count (λ (x : A). both (g x) (f x)) (x ∷ xs) ≡ count g (x ∷ xs)
+      go true true p q r = rw (p, q) (omega (arith, r))
+      go true false p q r = rw (p, q) (rw p (omega (arith, r)))
+      go false b p q r = rw p (rw p (omega (arith, r)))
+
   -- one that another test does not take counts on
   pub count-other : ((x : A) → f x ≡ true → g x ≡ false) → (xs : List A) → count g (butFirst f xs) ≡ count g xs
   count-other h [] = refl
@@ -151,3 +202,15 @@ pub length-changed : {A : Type 0} (i : ℕ) (g : A → A) (xs : List A) → leng
 length-changed i g [] = refl
 length-changed zero g (x ∷ xs) = refl
 length-changed (suc i) g (x ∷ xs) = omega (arith, length-changed i g xs)
+
+pub got-changed : (i : ℕ) (g : ℕ → ℕ) (xs : List ℕ) → i < length xs → getD (changed i g xs) i 0 ≡ g (getD xs i 0)
+got-changed i g [] h = absurd (omega arith)
+got-changed zero g (x ∷ xs) h = refl
+got-changed (suc i) g (x ∷ xs) h = got-changed i g xs (omega arith)
+
+pub got-other : (i k : ℕ) (g : ℕ → ℕ) (xs : List ℕ) → (i ≡ k → ⊥) → getD (changed i g xs) k 0 ≡ getD xs k 0
+got-other i k g [] n = refl
+got-other zero zero g (x ∷ xs) n = absurd (n refl)
+got-other zero (suc k) g (x ∷ xs) n = refl
+got-other (suc i) zero g (x ∷ xs) n = refl
+got-other (suc i) (suc k) g (x ∷ xs) n = got-other i k g xs (λ e. n (ap suc e))

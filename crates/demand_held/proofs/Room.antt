@@ -6,19 +6,19 @@ use mathlib.Core.Bool.{Bool, true, false, not}
 use mathlib.Core.List.{List, [], _∷_, _++_}
 use mathlib.Core.Logic.{_⊎_, inl, inr}
 use lib.Dec.{eqb, ltb, leb}
-use lib.ListN.{length}
+use lib.ListN.{length, getD}
 use native.Mathlib.Omega.{arith}
 use borrow.Author.Tests.{ltb-true, ltb-false, leb-true, leb-false, eq-eqb, ne-eqb, eqb-true, not-true, not-false}
 use Rattle.basis.specs.Pick.{pick, both, bit}
 use Rattle.basis.specs.Lists.{count, Among}
-use Rattle.basis.proofs.Cases.{picked, eq-or-ne}
-use Rattle.machine.specs.Words.{butFirst}
+use Rattle.basis.proofs.Cases.{picked, eq-or-ne, lt-or-ge}
+use Rattle.machine.specs.Words.{butFirst, changed}
 use Rattle.machine.specs.State.{Setup, Issued, Held, heldAs, Pool}
 use Rattle.machine.specs.Pool.{isFor, holds, isFull, fullest, lose, makeRoom, added}
 use Rattle.demand_held.specs.Held.{IsHeld}
 use Rattle.demand_held.specs.Held.IsHeld.{held}
-use Rattle.demand_held.proofs.Lists.{bit-true, bit-false, Each, each-butFirst, count-last, count-butFirst, length-butFirst, count-left, count-other, length-changed}
-use Rattle.demand_held.proofs.Good.{Rising, Below, Fits, Good, fullest-holds}
+use Rattle.demand_held.proofs.Lists.{bit-true, bit-false, Each, each-butFirst, count-last, count-butFirst, length-butFirst, count-left, count-other, length-changed, among-butFirst, got-changed, got-other}
+use Rattle.demand_held.proofs.Good.{Rising, Below, Fits, Good, beyond, fullest-holds}
 use Rattle.demand_held.proofs.Rising.{rising-butFirst, older, left-or-oldest}
 
 -- record n of link l, and all as old, are gone, and 16 of its link are held
@@ -38,6 +38,8 @@ pub record Room (i : Issued) (p q : Pool) : Type 0 where
   pub rising : Rising (p .next) 0 (q .held)
   pub spared : (r : Issued) (n : ℕ) → IsHeld r n (p .held) → IsHeld r n (q .held) ⊎ ((count (older (r .link) n) (q .held) ≡ 0) × (16 ≤ holds (added i q) (r .link)))
   pub sixteen : (l : ℕ) → 16 ≤ holds p l → 16 ≤ holds (added i q) l
+  pub origin : (r : Issued) (n : ℕ) → IsHeld r n (q .held) → IsHeld r n (p .held)
+  pub counts : (l : ℕ) → getD (q .lost) l 0 + holds q l ≡ getD (p .lost) l 0 + holds p l
 
 pub holds-added : (i : Issued) (q : Pool) (l : ℕ) → holds (added i q) l ≡ holds q l + bit (eqb (i .link) l)
 holds-added i q l = count-last (isFor l) (q .held) (heldAs (i .link) (i .content) (q .next) false)
@@ -56,6 +58,8 @@ module _ (i : Issued) (p : Pool) (g : Good p) where
         rising = g .rising;
         spared = λ r n h. inl h;
         sixteen = λ l h. omega (arith, holds-added i p l);
+        origin = λ r n h. h;
+        counts = λ l. refl;
       }
 
   -- link k loses its oldest and has 16 after
@@ -74,6 +78,8 @@ module _ (i : Issued) (p : Pool) (g : Good p) where
           rising = rising-butFirst (isFor k) (g .rising);
           spared = spare;
           sixteen = λ l h. other l h (eq-or-ne k l);
+          origin = was;
+          counts = λ l. counted l (eq-or-ne k l);
         }
       where
         after : (r : Issued) (n : ℕ) (h : Held) → h .link ≡ r .link → h .content ≡ r .content → h .sequence ≡ n
@@ -87,6 +93,20 @@ module _ (i : Issued) (p : Pool) (g : Good p) where
         spare : (r : Issued) (n : ℕ) → IsHeld r n (p .held)
             → IsHeld r n (butFirst (isFor k) (p .held)) ⊎ ((count (older (r .link) n) (butFirst (isFor k) (p .held)) ≡ 0) × (16 ≤ holds (added i (lose k p)) (r .link)))
         spare r n (held {h} a e c f) = after r n h e c f (left-or-oldest k (g .rising) a)
+
+        was : (r : Issued) (n : ℕ) → IsHeld r n (butFirst (isFor k) (p .held)) → IsHeld r n (p .held)
+        was r n (held a e c f) = held (among-butFirst (isFor k) (p .held) a) e c f
+
+        there : (k < length (p .lost)) ⊎ (length (p .lost) ≤ k) → k < length (p .lost)
+        there (inl h) = h
+        there (inr h) = absurd (omega (arith, one, beyond k h (p .held) (g .links)))
+
+        counted : (l : ℕ) → (k ≡ l) ⊎ (k ≡ l → ⊥)
+            → getD (changed k suc (p .lost)) l 0 + count (isFor l) (butFirst (isFor k) (p .held)) ≡ getD (p .lost) l 0 + holds p l
+        counted l (inl e) =
+            rw (← e) (omega (arith, got-changed k suc (p .lost) (there (lt-or-ge k (length (p .lost)))), count-butFirst (isFor k) (p .held) one))
+        counted l (inr n) =
+            omega (arith, got-other k l suc (p .lost) n, count-other (isFor k) (isFor l) (λ x t. ne-eqb (x .link) l (λ q. n (sym (eqb-true (x .link) k t) ∙ q))) (p .held))
 
         other : (l : ℕ) → 16 ≤ holds p l → (k ≡ l) ⊎ (k ≡ l → ⊥) → 16 ≤ holds (added i (lose k p)) l
         other l h (inl e) = rw (← e) many

@@ -6,7 +6,7 @@ use mathlib.Core.Path.{_≡_}
 use mathlib.Core.Bool.{false}
 use mathlib.Core.List.{List, _∷_, _++_}
 use lib.Dec.{eqb}
-use lib.ListN.{length}
+use lib.ListN.{length, getD}
 use Rattle.basis.specs.Lists.{count}
 use Rattle.machine.specs.Words.{isNumber}
 use Rattle.machine.specs.State.{Issued, Held, Start, Machine, Call}
@@ -15,6 +15,7 @@ use Rattle.machine.specs.Effects.{effectOf}
 use Rattle.machine.specs.Run.{Past, Run}
 use Rattle.demand_held.specs.Held.{IsHeld, IsDone, issuedBy, Kept, Fate, packetLink, Until, At}
 use Rattle.demand_held.specs.Crowded.{Crowded}
+use Rattle.demand_held.specs.Counted.{IssuedIn, answeredCount, issuedCount}
 
 module _ (s : Start) (h : List Past) (m : Machine) where
   pub record Holding : Type 0 where
@@ -38,3 +39,9 @@ module _ (s : Start) (h : List Past) (m : Machine) where
 
 pub record Demand3 : Type 0 where
   pub of-every-run : (s : Start) (h : List Past) (m : Machine) → Run s h m → Holding s h m
+  -- every held record was issued by a done call of the run
+  pub issued-by-a-call : (s : Start) (h : List Past) (m : Machine) → Run s h m → (r : Issued) (n : ℕ) → IsHeld r n (m .pool .held) → IssuedIn s r n h
+  -- a link's lost count is the number of records issued for it that left without being answered: of those issued, all that neither are held nor
+  -- were answered
+  pub lost-count : (s : Start) (h : List Past) (m : Machine) (run : Run s h m) (l : ℕ)
+      → getD (m .pool .lost) l 0 + holds (m .pool) l + answeredCount l run ≡ issuedCount l run

@@ -11,7 +11,7 @@ use Rattle.basis.specs.Lists.{count, Among}
 use Rattle.json_value.specs.Grammar.{Json}
 use Rattle.write_message.specs.Message.{Message}
 use Rattle.machine.specs.Words.{Bytes, _and_}
-use Rattle.machine.specs.State.{Issued, Held, Awaited, Machine, Act, Call, lifeAt}
+use Rattle.machine.specs.State.{Issued, Held, Command, Awaited, Machine, Act, Call, lifeAt}
 use Rattle.machine.specs.State.Act.{connect, disconnect, packet, alarmInput, statusValue, aggregatedValue, tick, pump}
 use Rattle.machine.specs.State.Outcome.{done}
 use Rattle.machine.specs.Json.{readPacket, stringOf}
@@ -30,7 +30,7 @@ abbrev pub newer : ℕ → ℕ → List Held → ℕ
 newer l n hs = count (λ (h : Held). isFor l h and ltb n (h .sequence)) hs
 
 pub data IsDone (m : Machine) (c : Call) : Type 0 where
-  is-done : {messages : List Message} {closed : List ℕ} {hint : Option ℕ} → step m c .0 ≡ done messages closed hint → IsDone m c
+  is-done : {messages : List Message} {closed : List ℕ} {hint : Option ℕ} {commands : List Command} → step m c .0 ≡ done messages closed hint commands → IsDone m c
 
 abbrev pub issuedBy : Machine → Call → List Issued
 issuedBy m c = effectOf m (c .time) (c .act) .issues

@@ -127,13 +127,13 @@ refusing m c =
     }
 
 one-start : (s : Start) (p q : Option Machine) → Begins s p → Begins s q → p ≡ q
-one-start s p q (begins {t} a e g) (begins {t = u} b f h) = rw (same-table t u a b (e ∙ sym f))
-one-start s p q (begins {t} a e g) (not-good h) = absurd (let z : _≡_ {A = ℕ} 0 1 = cc in omega arith)
-one-start s p q (begins {t} a e g) (no-table h) = absurd (h t a e)
-one-start s p q (not-good g) (begins {t} b f h) = absurd (let z : _≡_ {A = ℕ} 0 1 = cc in omega arith)
+one-start s p q (begins {edition = d} {t} a e g) (begins {edition = k} {t = u} b f h) = rw (same-table t u a b (e ∙ sym f))
+one-start s p q (begins {edition = d} {t} a e g) (not-good h) = absurd (let z : _≡_ {A = ℕ} 0 1 = cc in omega arith)
+one-start s p q (begins {edition = d} {t} a e g) (no-table h) = absurd (h d t a e)
+one-start s p q (not-good g) (begins {edition = k} {t} b f h) = absurd (let z : _≡_ {A = ℕ} 0 1 = cc in omega arith)
 one-start s p q (not-good g) (not-good h) = refl
 one-start s p q (not-good g) (no-table h) = refl
-one-start s p q (no-table g) (begins {t} b f h) = absurd (g t b f)
+one-start s p q (no-table g) (begins {edition = k} {t} b f h) = absurd (g k t b f)
 one-start s p q (no-table g) (not-good h) = refl
 one-start s p q (no-table g) (no-table h) = refl
 

@@ -17,7 +17,7 @@ use Rattle.machine.specs.State.Act.{connect, disconnect, packet, alarmInput, st
 use Rattle.machine.specs.Json.{readPacket, stringOf, isType}
 use Rattle.machine.specs.Life.{awaitedBy, awaiting, answeredTo, Due, due}
 use Rattle.machine.specs.Answers.{isAnswer, wantsReply, reasonOf, failsCheck}
-use Rattle.machine.specs.Items.{isNew, happens, subscribe, unsubscribe, intervals, becomes, aggregates}
+use Rattle.machine.specs.Items.{isNew, happens, subscribe, unsubscribe, intervals, becomes, commands, aggregates}
 use Rattle.machine.specs.Effects.{
   connects,
   closes,
@@ -90,13 +90,14 @@ module _ (m : Machine) (l : ℕ) where
     apart-refuses j reason = picked Apart (failsCheck reason) _ _ (λ e. apart-closes _) (λ e. record { life = refl; unnamed = refl })
 
     apart-carried-out : (t : ℕ) (j : Json) → Apart (carriedOut k t j m)
-    unfolding carriedOut subscribe unsubscribe
+    unfolding carriedOut subscribe unsubscribe commands
     apart-carried-out t j =
         picked Apart (isType "Version" j) _ _ (λ e. apart-sets _ m [] none refl)
         (λ e. picked Apart (isType "Watchdog" j) _ _ (λ e. apart-sets _ m [] _ refl)
         (λ e. picked Apart (isType "Alarm" j) _ _ (λ e. apart-happens _ _)
         (λ e. picked Apart (isType "StatusSubscribe" j) _ _ (λ e. record { life = refl; unnamed = refl })
-        (λ e. picked Apart (isType "StatusUnsubscribe" j) _ _ (λ e. record { life = refl; unnamed = refl }) (λ e. record { life = refl; unnamed = refl })))))
+        (λ e. picked Apart (isType "StatusUnsubscribe" j) _ _ (λ e. record { life = refl; unnamed = refl })
+        (λ e. picked Apart (isType "CommandRequest" j) _ _ (λ e. record { life = refl; unnamed = refl }) (λ e. record { life = refl; unnamed = refl }))))))
 
     apart-replying : (t : ℕ) (id : Bytes) (j : Json) (e : Effect) → Apart e → Apart (replying k t id j e)
     unfolding replying

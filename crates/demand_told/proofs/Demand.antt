@@ -15,7 +15,7 @@ use Rattle.basis.proofs.Both.{not-both}
 use Rattle.json_value.specs.Grammar.{Json}
 use Rattle.write_message.specs.Message.{Message}
 use Rattle.machine.specs.Words.{Bytes, maybe, firstOf}
-use Rattle.machine.specs.State.{Alarm, Start, Machine, Act, Call, Outcome, Effect, lifeAt, valueAt, only}
+use Rattle.machine.specs.State.{Alarm, Start, Command, Machine, Act, Call, Outcome, Effect, lifeAt, valueAt, only}
 use Rattle.machine.specs.State.Act.{connect, disconnect, packet, alarmInput, statusValue, aggregatedValue, tick, pump}
 use Rattle.machine.specs.State.Outcome.{refused, done}
 use Rattle.machine.specs.Json.{readPacket, stringOf}
@@ -30,7 +30,7 @@ use Rattle.demand_held.proofs.Lists.{Each}
 use Rattle.demand_held.proofs.Good.{Fits}
 use Rattle.demand_held.proofs.Demand.{run-sound}
 use Rattle.demand_held.proofs.Steps.{laid, step-done, step-refused}
-use Rattle.demand_told.specs.Demand.{messagesOf, linkOf, isTold, isAlarm, isAnAnswer, OneAnswer, isPacketCall, Telling, Demand2}
+use Rattle.demand_told.specs.Demand.{messagesOf, linkOf, isTold, isAlarm, isAnAnswer, OneAnswer, Telling, Demand2}
 use Rattle.demand_told.proofs.Written.{due-no-answer, due-up, once-received, quiet-received}
 use Rattle.demand_told.proofs.Primary.{is-number, due-primary, alarm-received}
 use Rattle.demand_told.proofs.Replies.{nobody, none-at, Replied, tells-received, replied-up}
@@ -98,11 +98,11 @@ unanswered m t l room random bytes j r is = rw r (quiet-received l t (ownIdentit
 abbrev NoAnswer : Effect → Type 0
 NoAnswer e = count isAnAnswer (e .messages) ≡ 0
 
-unasked : (m : Machine) (t : ℕ) (act : Act) → isPacketCall act ≡ false → NoAnswer (effectOf m t act)
+unasked : (m : Machine) (t : ℕ) (act : Act) → ((l room : ℕ) (random bytes : Bytes) → act ≡ packet l random bytes room → ⊥) → NoAnswer (effectOf m t act)
 unfolding effectOf connects closes becomes aggregates ticks sends
 unasked m t (connect l) e = refl
 unasked m t (disconnect l) e = refl
-unasked m t (packet l random bytes room) e = not-both refl e
+unasked m t (packet l random bytes room) e = absurd (e l room random bytes refl)
 unasked m t (alarmInput i active) e = rw (quiet-happens m i _)
 unasked m t (statusValue i v) e = picked NoAnswer (isNew v (valueAt m i)) _ _ (λ f. refl) (λ f. refl)
 unasked m t (aggregatedValue v) e = picked NoAnswer (eqb v (m .aggregated)) _ _ (λ f. refl) (λ f. refl)
@@ -119,8 +119,8 @@ module _ (m : Machine) (c : Call) where
       go none e = rw (step-done m c e) (something e)
       go (some n) e = rw (step-refused m c n e) nothing
 
-  done-messages : {ms : List Message} {closed : List ℕ} {hint : Option ℕ} → step m c .0 ≡ done ms closed hint → laid m c .messages ≡ ms
-  done-messages {ms} {closed} {hint} d = go (numberOf m c) refl
+  done-messages : {ms : List Message} {closed : List ℕ} {hint : Option ℕ} {commands : List Command} → step m c .0 ≡ done ms closed hint commands → laid m c .messages ≡ ms
+  done-messages {ms} {closed} {hint} {commands} d = go (numberOf m c) refl
     where
       go : (o : Option ℕ) → numberOf m c ≡ o → laid m c .messages ≡ ms
       go none e = ap messagesOf (sym (ap (λ (r : Outcome × Machine). r .0) (step-done m c e)) ∙ d)
@@ -133,7 +133,7 @@ module _ (m : Machine) (c : Call) where
       record {
         up-first = λ w a u l e. by-number (λ (ms : List Message). Among w ms → isUp (lifeAt m l) ≡ true) (λ b. absurd (nobody b)) (λ n b. told-up m (c .time) (c .act) l e n w b u) a;
         no-link = λ e. by-number (λ (ms : List Message). ms ≡ []) refl (λ n. quiet m (c .time) (c .act) e);
-        answered = λ l room random bytes j ms closed hint e r d other.
+        answered = λ l room random bytes j ms closed hint commands e r d other.
             rw (← done-messages d) (subst (λ (x : Act). OneAnswer (stringOf "mId" j) (effectOf m (c .time) x .messages)) (sym e) (answered m (c .time) l room random bytes j r other));
         unanswered = λ l room random bytes j e r is.
             by-number (λ (ms : List Message). ms ≡ []) refl

@@ -62,7 +62,7 @@ event-small Issue = omega arith
 event-small Acknowledge = omega arith
 event-small Suspend = omega arith
 
-module _ (t : Table) (a : Allowed t) (id : Bytes) (sixteen : SixteenBytes id) where
+module _ {edition : ℕ} (t : Table) (a : Allowed edition t) (id : Bytes) (sixteen : SixteenBytes id) where
   component-label : (c : ℕ) → c < length (t .components) → Label (componentText t c)
   component-label c h = record { label = every-at [] c (a .components) h }
 

@@ -58,11 +58,11 @@ module _ (m : Machine) (l : ℕ) (j : Json) (unrefused : reasonOf m l j ≡ none
   unfolding reasons
   alarm-known is =
       must (isType "Alarm" j) (isSome (alarmAsked m j)) is
-      (none-at (reasons m l j) unrefused (later (later (later (later (later (later (later (later (later (later first)))))))))))
+      (none-at (reasons m l j) unrefused (later (later (later (later (later (later (later (later (later (later (later first))))))))))))
 
   status-refusal : unknownStatus m j ≡ false
   unfolding reasons
-  status-refusal = none-at (reasons m l j) unrefused (later (later (later (later (later (later (later (later (later (later (later first)))))))))))
+  status-refusal = none-at (reasons m l j) unrefused (later (later (later (later (later (later (later (later (later (later (later (later first))))))))))))
 
   pub statuses-known : isType "StatusSubscribe" j ≡ true → Each (λ (e : Json). not (isSome (statusAsked m j e)) ≡ false) (entriesOf "sS" j)
   statuses-known is =

@@ -20,13 +20,13 @@ use Rattle.json_value.specs.Grammar.{Json}
 use Rattle.write_message.specs.Message.{Message}
 use Rattle.write_message.specs.Message.Message.{version, ack}
 use Rattle.machine.specs.Words.{Bytes, orElse, isNumber, any, changed, firstOf}
-use Rattle.machine.specs.State.{Alarm, Awaited, Life, fresh, Machine, withLife, lifeAt, Act, Effect, effect, only}
+use Rattle.machine.specs.State.{Alarm, Awaited, Life, fresh, Machine, withLife, lifeAt, Act, Effect, handing, effect, only}
 use Rattle.machine.specs.State.Sent.{noRecord}
 use Rattle.machine.specs.State.Act.{connect, disconnect, packet, alarmInput, statusValue, aggregatedValue, tick, pump}
 use Rattle.machine.specs.Json.{readPacket, stringOf, elementIs, isType, isIdentityOf}
 use Rattle.machine.specs.Life.{nowTaken, withWatchdogs, common, namesSite, equalSxl, awaitedBy, awaiting, answeredTo, Due, due}
 use Rattle.machine.specs.Answers.{isAnswer, awaitedHere, isIgnored, wantsReply, reasons, reasonOf, failsCheck}
-use Rattle.machine.specs.Items.{happens, subscribe, unsubscribe, intervals}
+use Rattle.machine.specs.Items.{happens, subscribe, unsubscribe, intervals, commands}
 use Rattle.machine.specs.Effects.{connects, closes, late, ticks, ownIdentity, sentAs, afterSending, markSent, sends, answerCloses, acknowledges, settle, answers, answered, refusal, refuses, agreed, carriedOut, replyMessage, replying, receives, effectOf}
 use Rattle.machine.specs.Step.{conditions, outcome}
 use Rattle.machine.specs.Run.{Past}
@@ -62,9 +62,9 @@ module _ (u m : Machine) (same : u .setup ≡ m .setup) (l : ℕ) (j : Json) (un
   checked is =
       record {
         typed = is;
-        version = must _ _ is (none-at (reasons m l j) unrefused (later (later (later (later (later (later first)))))));
-        site = rw same (must _ (namesSite m j) is (none-at (reasons m l j) unrefused (later (later (later (later (later (later (later first)))))))));
-        sxl = rw same (must _ (equalSxl m j) is (none-at (reasons m l j) unrefused (later (later (later (later (later (later (later (later first))))))))));
+        version = must _ _ is (none-at (reasons m l j) unrefused (later (later (later (later (later (later (later first))))))));
+        site = rw same (must _ (namesSite m j) is (none-at (reasons m l j) unrefused (later (later (later (later (later (later (later (later first))))))))));
+        sxl = rw same (must _ (equalSxl m j) is (none-at (reasons m l j) unrefused (later (later (later (later (later (later (later (later (later first)))))))))));
       }
 
 module _ (u m : Machine) (same : u .setup ≡ m .setup) (t : ℕ) (act : Act) (l : ℕ) (life : List Past) (kept : Kept u l (lifeAt m l) life) where
@@ -106,13 +106,14 @@ open-happens m i none = λ n. refl
 open-happens m i (some a) = λ n. refl
 
 open-carried-out : (m : Machine) (l t : ℕ) (j : Json) → Open (carriedOut l t j m)
-unfolding carriedOut subscribe unsubscribe
+unfolding carriedOut subscribe unsubscribe commands
 open-carried-out m l t j =
     picked Open (isType "Version" j) _ _ (λ e n. refl)
     (λ e. picked Open (isType "Watchdog" j) _ _ (λ e n. refl)
     (λ e. picked Open (isType "Alarm" j) _ _ (λ e. open-happens m _ _)
     (λ e. picked Open (isType "StatusSubscribe" j) _ _ (λ e n. refl)
-    (λ e. picked Open (isType "StatusUnsubscribe" j) _ _ (λ e n. refl) (λ e n. refl)))))
+    (λ e. picked Open (isType "StatusUnsubscribe" j) _ _ (λ e n. refl)
+    (λ e. picked Open (isType "CommandRequest" j) _ _ (λ e n. refl) (λ e n. refl))))))
 
 -- ---- calls of link l
 module _ (u m : Machine) (same : u .setup ≡ m .setup) (t l : ℕ) (life : List Past) (kept : Kept u l (lifeAt m l) life) (lives : life ≡ [] → ⊥) where
@@ -177,7 +178,7 @@ module _ (u m : Machine) (same : u .setup ≡ m .setup) (t l : ℕ) (life : List
       on-happens i (some a) = goes-on p kept
 
       on-carried-out : On (carriedOut l t j m)
-      unfolding carriedOut subscribe unsubscribe
+      unfolding carriedOut subscribe unsubscribe commands
       on-carried-out =
           picked On (isType "Version" j) _ _
           (λ e. sets (agreed (orElse [] (common j)) (lifeAt m l)) (m .lives) p
@@ -187,7 +188,8 @@ module _ (u m : Machine) (same : u .setup ≡ m .setup) (t l : ℕ) (life : List
           (taken u l (lifeAt m l) life kept p lives (answered-by e c (marked u m same l j unrefused) acks)))
           (λ e. picked On (isType "Alarm" j) _ _ (λ e. on-happens _ _)
           (λ e. picked On (isType "StatusSubscribe" j) _ _ (λ e. goes-on p kept)
-          (λ e. picked On (isType "StatusUnsubscribe" j) _ _ (λ e. goes-on p kept) (λ e. goes-on p kept)))))
+          (λ e. picked On (isType "StatusUnsubscribe" j) _ _ (λ e. goes-on p kept)
+          (λ e. picked On (isType "CommandRequest" j) _ _ (λ e. goes-on p kept) (λ e. goes-on p kept))))))
 
     goes-replying : reasonOf m l j ≡ none → (id : Bytes) → Received (replying l t id j (carriedOut l t j m))
     unfolding replying
@@ -203,11 +205,11 @@ module _ (u m : Machine) (same : u .setup ≡ m .setup) (t l : ℕ) (life : List
 
         replied : Effect
         replied =
-            effect (withLife l (awaiting id t noRecord (lifeAt (done .leaves) l)) (done .leaves)) (done .issues)
+            handing (done .commands) (withLife l (awaiting id t noRecord (lifeAt (done .leaves) l)) (done .leaves)) (done .issues)
             (ack (stringOf "mId" j) ∷ replyMessage (done .leaves) t id j ∷ []) (done .closed) (done .hint)
 
         acked-only : Effect
-        acked-only = effect (done .leaves) (done .issues) (ack (stringOf "mId" j) ∷ []) (done .closed) (done .hint)
+        acked-only = handing (done .commands) (done .leaves) (done .issues) (ack (stringOf "mId" j) ∷ []) (done .closed) (done .hint)
 
     goes-received : isIgnored (lifeAt m l) (some j) ≡ false → (id : Bytes) → Received (receives l t id m j)
     unfolding receives

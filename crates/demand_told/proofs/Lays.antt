@@ -28,7 +28,7 @@ use Rattle.machine.specs.Json.{readPacket, stringOf, entriesOf, elementIs, isTy
 use Rattle.machine.specs.Life.{unsent, close, closeAll, awaitedBy, Due, due}
 use Rattle.machine.specs.Pool.{marked, isFor}
 use Rattle.machine.specs.Answers.{isAnswer, alarmAsked, statusAsked, wantsReply, reasonOf, failsCheck}
-use Rattle.machine.specs.Items.{withInput, ordered, isSilent, told, isOf, statusFor, update, numberAsked, upwards, isTime, isNew, happens, subscribe, unsubscribe, intervals, becomes, aggregates}
+use Rattle.machine.specs.Items.{withInput, ordered, isSilent, told, isOf, statusFor, update, numberAsked, upwards, isTime, isNew, happens, subscribe, unsubscribe, intervals, becomes, commands, aggregates}
 use Rattle.machine.specs.Effects.{connects, closes, late, ticks, ownIdentity, sentAs, carried, markSent, sends, answerCloses, settle, answers, answered, refuses, carriedOut, replying, receives, effectOf}
 use Rattle.machine.specs.Step.{conditions}
 use Rattle.demand_held.proofs.Lists.{maybe-cases, Each, each-map, each-of, each-keep, each-kept, each-flat, each-below}
@@ -155,13 +155,14 @@ module _ (t : ℕ) (timely : t ≤ lastTime) where
 
     -- ---- packets
     pub lays-carried-out : (l : ℕ) (j : Json) → reasonOf m l j ≡ none → Lays (carriedOut l t j m)
-    unfolding carriedOut unsubscribe
+    unfolding carriedOut unsubscribe commands
     lays-carried-out l j unrefused =
         picked Lays (isType "Version" j) _ _ (λ e. silent (sane-life s l _))
         (λ e. picked Lays (isType "Watchdog" j) _ _ (λ e. silent (sane-life s l _))
         (λ e. picked Lays (isType "Alarm" j) _ _ (λ e. lays-happens _ (alarm-there m j (alarm-known m l j unrefused e)) _ (order-time j (alarmAt m (orElse 0 (alarmAsked m j)))))
         (λ e. picked Lays (isType "StatusSubscribe" j) _ _ (λ e. lays-subscribe l j (statuses-known m l j unrefused e))
-        (λ e. picked Lays (isType "StatusUnsubscribe" j) _ _ (λ e. silent (sane-subscriptions s _)) (λ e. silent s)))))
+        (λ e. picked Lays (isType "StatusUnsubscribe" j) _ _ (λ e. silent (sane-subscriptions s _))
+        (λ e. picked Lays (isType "CommandRequest" j) _ _ (λ e. record { sane = s; issues = no-more }) (λ e. silent s))))))
 
     lays-replying : (l : ℕ) (id : Bytes) (j : Json) (e : Effect) → Lays e → Lays (replying l t id j e)
     unfolding replying

@@ -12,8 +12,10 @@ pub mod Goes
 pub mod GreetedDemand
 pub mod Sane
 pub mod Found
+pub mod Entries
 pub mod Lays
 pub mod Formed
 pub mod Received
 pub mod ReadReplies
 pub mod ReadDemand
+pub mod HandedDemand

@@ -26,7 +26,7 @@ use Rattle.machine.specs.Json.{stringOf, isType, elementIs}
 use Rattle.machine.specs.Life.{isGreeting, isBeating, isUp, isPrimary, oldestUnsent, passLength, Due, dueUp, due}
 use Rattle.machine.specs.Life.Due.{theVersion, theWatchdog, theAggregated, theAlarm, theHeld}
 use Rattle.machine.specs.Answers.{isAnswer, wantsReply, reasonOf, failsCheck}
-use Rattle.machine.specs.Items.{happens, subscribe, unsubscribe}
+use Rattle.machine.specs.Items.{happens, subscribe, unsubscribe, commands}
 use Rattle.machine.specs.Messages.{recordMessage}
 use Rattle.machine.specs.Effects.{closes, dueMessage, refuses, carriedOut, replyMessage, replying, receives}
 use Rattle.demand_held.proofs.Lists.{maybe-cases, Each}
@@ -100,23 +100,23 @@ ToPrimary m l w e = Among w (e .messages) → isAlarm w ≡ true → isPrimary m
 
 asks-alarm : (m : Machine) (l : ℕ) (j : Json) → isType "Alarm" j ≡ true → wantsReply m l j ≡ true → isPrimary m l ≡ true
 asks-alarm m l j a e =
-    go (isType "Alarm" j) (elementIs "aSp" "Request" j) (isPrimary m l) (isType "AggregatedStatusRequest" j) (isType "StatusRequest" j) a
-    (one-type "Alarm" "AggregatedStatusRequest" refl j a) (one-type "Alarm" "StatusRequest" refl j a) e
+    go (isType "Alarm" j) (elementIs "aSp" "Request" j) (isPrimary m l) (isType "AggregatedStatusRequest" j) (isType "StatusRequest" j) (isType "CommandRequest" j)
+    a (one-type "Alarm" "AggregatedStatusRequest" refl j a) (one-type "Alarm" "StatusRequest" refl j a) (one-type "Alarm" "CommandRequest" refl j a) e
   where
-    go : (a b p c d : Bool) → a ≡ true → c ≡ false → d ≡ false → pick (both a (both b p)) true (pick c true d) ≡ true → p ≡ true
-    go a b true c d x y z e = refl
-    go true true false true d x y z e = not-both refl y
-    go true true false false true x y z e = not-both refl z
-    go true true false false false x y z e = e
-    go true false false true d x y z e = not-both refl y
-    go true false false false true x y z e = not-both refl z
-    go true false false false false x y z e = e
-    go false b false c d x y z e = not-both x refl
+    go : (a b p c d f : Bool) → a ≡ true → c ≡ false → d ≡ false → f ≡ false → pick (both a (both b p)) true (pick c true (pick d true f)) ≡ true → p ≡ true
+    go a b true c d f x y z w e = refl
+    go a b false true d f x y z w e = not-both refl y
+    go a b false false true f x y z w e = not-both refl z
+    go a b false false false true x y z w e = not-both refl w
+    go true true false false false false x y z w e = e
+    go true false false false false false x y z w e = e
+    go false b false false false false x y z w e = not-both x refl
 
 reply-alarm : (m : Machine) (t : ℕ) (id : Bytes) (j : Json) → isAlarm (replyMessage m t id j) ≡ true → isType "Alarm" j ≡ true
 reply-alarm m t id j =
     picked (λ (w : Message). isAlarm w ≡ true → isType "Alarm" j ≡ true) (isType "Alarm" j) _ _ (λ e w. e)
-    (λ e. picked (λ (w : Message). isAlarm w ≡ true → isType "Alarm" j ≡ true) (isType "AggregatedStatusRequest" j) _ _ (λ f w. not-both w refl) (λ f w. not-both w refl))
+    (λ e. picked (λ (w : Message). isAlarm w ≡ true → isType "Alarm" j ≡ true) (isType "AggregatedStatusRequest" j) _ _ (λ f w. not-both w refl)
+    (λ f. picked (λ (w : Message). isAlarm w ≡ true → isType "Alarm" j ≡ true) (isType "CommandRequest" j) _ _ (λ g w. not-both w refl) (λ g w. not-both w refl)))
 
 two : (w : Message) (a : Bytes) (v : Message) → Among w (ack a ∷ v ∷ []) → isAlarm w ≡ true → w ≡ v
 two w a v first u = not-both u refl
@@ -150,13 +150,14 @@ happens-setup m i none = refl
 happens-setup m i (some a) = refl
 
 carried-out-setup : (l t : ℕ) (j : Json) (m : Machine) → SameSetup m (carriedOut l t j m)
-unfolding carriedOut subscribe unsubscribe
+unfolding carriedOut subscribe unsubscribe commands
 carried-out-setup l t j m =
     picked (SameSetup m) (isType "Version" j) _ _ (λ e. refl)
     (λ e. picked (SameSetup m) (isType "Watchdog" j) _ _ (λ e. refl)
     (λ e. picked (SameSetup m) (isType "Alarm" j) _ _ (λ e. happens-setup m _ _)
     (λ e. picked (SameSetup m) (isType "StatusSubscribe" j) _ _ (λ e. refl)
-    (λ e. picked (SameSetup m) (isType "StatusUnsubscribe" j) _ _ (λ e. refl) (λ e. refl)))))
+    (λ e. picked (SameSetup m) (isType "StatusUnsubscribe" j) _ _ (λ e. refl)
+    (λ e. picked (SameSetup m) (isType "CommandRequest" j) _ _ (λ e. refl) (λ e. refl))))))
 
 pub alarm-received : (l t : ℕ) (id : Bytes) (m : Machine) (j : Json) (w : Message) → ToPrimary m l w (receives l t id m j)
 unfolding receives

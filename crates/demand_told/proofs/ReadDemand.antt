@@ -80,9 +80,10 @@ start-time s g =
 abbrev unvalued : Row → Option ℤ
 unvalued r = none
 
-begun-sane : (s : Start) (t : Table) → Allowed t → goodStart s ≡ true → Sane (first t s)
-begun-sane s t allowed g =
+begun-sane : (s : Start) (edition : ℕ) (t : Table) → Allowed edition t → goodStart s ≡ true → Sane (first t s)
+begun-sane s edition t allowed g =
     record {
+      edition = edition;
       table = allowed;
       alarm-count = length-map (t .alarms) (λ (r : Row). alarmOf false true false Issue (s .time));
       status-count = length-map (t .statuses) unvalued;
@@ -100,7 +101,7 @@ step-sane m s c typed =
     (λ n e. rw (step-refused m c n e) s)
 
 pub run-sane : {s : Start} {h : List Past} {m : Machine} → Run s h m → EachTyped h → Sane m
-run-sane {s} (begun (begins {t} allowed e g)) none-yet = begun-sane s t allowed g
+run-sane {s} (begun (begins {edition} {t} allowed e g)) none-yet = begun-sane s edition t allowed g
 run-sane (next {m} c r) (typed-too typed rest) = step-sane m (run-sane r rest) c typed
 
 -- ---- what each call writes

@@ -6,8 +6,6 @@ use mathlib.Core.Path.{_≡_, refl, subst}
 use mathlib.Core.Bool.{Bool, true, false, not}
 use mathlib.Core.List.{List, [], _∷_, map}
 use mathlib.Core.Option.{Option, some, none}
-use lib.Dec.{ltb}
-use lib.ListN.{length}
 use native.Mathlib.Omega.{arith}
 use Rattle.basis.specs.Pick.{pick, both}
 use Rattle.basis.specs.Lists.{sameBytes, Among}
@@ -16,59 +14,52 @@ use Rattle.basis.specs.Lists.Among.{first, later}
 use Rattle.basis.proofs.Cases.{picked}
 use Rattle.basis.proofs.Both.{not-both}
 use Rattle.answer.specs.Times.{lastTime}
-use Rattle.number.specs.Alphabet.{isLabel}
 use Rattle.identity.specs.Read.{SixteenBytes}
 use Rattle.names.specs.Names.{names, nameOf, IsReason}
 use Rattle.json_value.specs.Grammar.{Json}
-use Rattle.write_message.specs.declared.Value.the-variants.{Undefined}
+use Rattle.write_message.specs.declared.Value.the-variants.{Recent, Undefined}
 use Rattle.write_message.specs.Message.{Message}
 use Rattle.write_message.specs.Message.Message.{ack, notAck}
 use Rattle.write_laws.specs.Formed.{FormedValue, FormedStatuses, Formed}
-use Rattle.write_laws.specs.Formed.FormedValue.{undefined}
+use Rattle.write_laws.specs.Formed.FormedValue.{recent, undefined}
 use Rattle.write_laws.specs.Formed.FormedStatuses.{none as no-status, more as one-status}
 use Rattle.write_laws.specs.Formed.Formed.{formed-ack, formed-notAck, formed-statuses}
 use Rattle.machine.specs.Words.{Bytes, maybe, isSome, orElse, any, placeOf, Case, firstOf}
 use Rattle.machine.specs.State.{Alarm, Life, Machine, lifeAt, alarmAt, valueAt, Effect}
-use Rattle.machine.specs.Json.{shape, element, stringOf, entriesOf, isType}
+use Rattle.machine.specs.Json.{stringOf, isType}
 use Rattle.machine.specs.Answers.{
   isAnswer,
   isReadable,
   isIgnored,
-  Need,
-  _is_,
-  label,
-  anyEntry,
   asked,
+  commanded,
   needs,
-  isObject,
-  lacks,
-  spoils,
   isMissing,
-  badEntries,
   isBad,
   componentAsked,
   alarmAsked,
+  valueAsked,
   wantsReply,
   reasons,
   reasonOf,
   failsCheck,
 }
-use Rattle.machine.specs.Answers.Need.{one, entries}
-use Rattle.machine.specs.Items.{numberAsked, happens, subscribe, unsubscribe}
-use Rattle.machine.specs.Messages.{valueOf, answerEntry, responseMessage}
+use Rattle.machine.specs.Items.{numberAsked, happens, subscribe, unsubscribe, commands}
+use Rattle.machine.specs.Messages.{valueOf, answerEntry, responseMessage, commandEntry, commandMessage}
 use Rattle.machine.specs.Effects.{closes, refusal, refuses, carriedOut, replyMessage, replying, receives}
 use Rattle.demand_held.proofs.Lists.{maybe-cases, Each}
 use Rattle.demand_held.proofs.Lists.Each.{no-more, one-more}
 use Rattle.demand_told.proofs.Written.{quiet-answered}
-use Rattle.demand_told.proofs.Replies.{none-at, nobody, one-type}
+use Rattle.demand_told.proofs.Replies.{none-at, nobody}
 use Rattle.demand_told.proofs.Tests.{no-not, neither}
 use Rattle.demand_told.proofs.Sane.{Sane, alarm-time, value-formed}
 use Rattle.demand_told.proofs.Lays.{lays-carried-out}
-use Rattle.demand_told.proofs.Found.{none-of-any, alarm-there, alarm-known}
+use Rattle.demand_told.proofs.Found.{alarm-there, alarm-known}
+use Rattle.demand_told.proofs.Entries.{Whole, component-label, whole-entries, status-needs, status-entry, command-needs, command-entry, value-signed}
 use Rattle.demand_told.proofs.Formed.{alarm-formed, aggregated-formed}
 use Rattle.demand_told.proofs.Received.{received-id}
 
--- ---- a reason is one of the eleven
+-- ---- a reason is one of the twelve
 abbrev number : String → ℕ
 number reason = orElse 0 (placeOf (sameBytes (text reason)) names)
 
@@ -87,101 +78,38 @@ reason-named : (m : Machine) (l : ℕ) (j : Json) (reason : String) → reasonOf
 unfolding reasons
 reason-named m l j reason e =
     first-so Named (reasons m l j) reason
-    (one-more (tt, refl) (one-more (tt, refl) (one-more (tt, refl) (one-more (tt, refl) (one-more (tt, refl) (one-more (tt, refl) (one-more (tt, refl) (one-more (tt, refl) (one-more (tt, refl) (one-more (tt, refl) (one-more (tt, refl) (one-more (tt, refl) (one-more (tt, refl) no-more)))))))))))))
+    (one-more (tt, refl) (one-more (tt, refl) (one-more (tt, refl) (one-more (tt, refl) (one-more (tt, refl) (one-more (tt, refl) (one-more (tt, refl) (one-more (tt, refl) (one-more (tt, refl) (one-more (tt, refl) (one-more (tt, refl) (one-more (tt, refl) (one-more (tt, refl) (one-more (tt, refl) (one-more (tt, refl) no-more)))))))))))))))
     e
 
--- ---- strings that are labels
-label-of : (name : String) (j : Json) → isSome (element name j) ≡ true → maybe false (λ v. not (maybe false isLabel (shape v .string))) (element name j) ≡ false
-    → isLabel (stringOf name j) ≡ true
-label-of name j there good = go (element name j) there good
-  where
-    inner : (o : Option Bytes) → not (maybe false isLabel o) ≡ false → isLabel (orElse [] o) ≡ true
-    inner none g = not-both refl g
-    inner (some s) g = no-not (isLabel s) g
+-- ---- what answers a StatusRequest or a CommandRequest
+module _ (j : Json) (complete : any (isMissing j) (needs j) ≡ false) (good : any (isBad j) (needs j) ≡ false) (m : Machine) (s : Sane m) where
+  status-formed : (e : Json) → FormedValue (maybe Undefined (λ (c : ℕ). valueOf false (valueAt m (numberAsked m j e))) (componentAsked m j))
+  status-formed e = maybe-cases FormedValue Undefined _ (componentAsked m j) (λ f. undefined) (λ c f. value-formed s (numberAsked m j e) false)
 
-    go : (o : Option Json) → isSome o ≡ true → maybe false (λ (v : Json). not (maybe false isLabel (shape v .string))) o ≡ false
-        → isLabel (orElse [] (maybe none (λ (v : Json). shape v .string) o)) ≡ true
-    go none f g = not-both f refl
-    go (some v) f g = inner (shape v .string) g
+  statuses-formed : {xs : List Json} → Each (Whole asked) xs → FormedStatuses (map (answerEntry m j) xs)
+  statuses-formed no-more = no-status
+  statuses-formed (one-more {x} w r) =
+      let p = status-entry x w in
+      one-status (record { code = record { label = p .0 }; name = record { label = p .1 }; value = status-formed x }) (statuses-formed r)
 
--- ---- a StatusRequest
-abbrev SoundEntry : Json → Type 0
-SoundEntry x = (isLabel (stringOf "sCI" x) ≡ true) × (isLabel (stringOf "n" x) ≡ true)
+  response-formed : isType "StatusRequest" j ≡ true → (t : ℕ) (id : Bytes) → SixteenBytes id → t ≤ lastTime → Formed (responseMessage m t id j)
+  response-formed typed t id sixteen timely =
+      formed-statuses sixteen (record { label = component-label "sS" asked j (status-needs j typed) complete good }) timely
+      (statuses-formed (whole-entries "sS" asked j (status-needs j typed) complete good))
 
-sound-entry : (x : Json) → pick (not (isObject x)) true (pick (spoils x asked) true (not (anyEntry x))) ≡ false → both (isObject x) (lacks x asked) ≡ false → SoundEntry x
-sound-entry x bad missing =
-    let p = neither (not (isObject x)) (pick (spoils x asked) true (not (anyEntry x))) bad in
-    let q : spoils x asked ≡ false = neither (spoils x asked) (not (anyEntry x)) (p .1) .0 in
-    let r : lacks x asked ≡ false = subst (λ (b : Bool). both b (lacks x asked) ≡ false) (no-not (isObject x) (p .0)) missing in
-    let u = neither (not (isSome (element "sCI" x))) _ r in
-    let v = neither (not (isSome (element "n" x))) false (u .1) in
-    let y = neither (maybe false (λ (v : Json). not (maybe false isLabel (shape v .string))) (element "sCI" x)) _ q in
-    let z = neither (maybe false (λ (v : Json). not (maybe false isLabel (shape v .string))) (element "n" x)) false (y .1) in
-    (label-of "sCI" x (no-not (isSome (element "sCI" x)) (u .0)) (y .0), label-of "n" x (no-not (isSome (element "n" x)) (v .0)) (z .0))
+  order-formed : (e : Json) → FormedValue (maybe Undefined (λ (c : ℕ). Recent (valueAsked e)) (componentAsked m j))
+  order-formed e = maybe-cases FormedValue Undefined (λ (c : ℕ). Recent (valueAsked e)) (componentAsked m j) (λ f. undefined) (λ c f. recent (value-signed e))
 
-both-each : {A : Type 0} {P Q R : A → Type 0} → ((x : A) → P x → Q x → R x) → {xs : List A} → Each P xs → Each Q xs → Each R xs
-both-each f no-more no-more = no-more
-both-each f (one-more p r) (one-more q t) = one-more (f _ p q) (both-each f r t)
+  orders-formed : {xs : List Json} → Each (Whole commanded) xs → FormedStatuses (map (commandEntry m j) xs)
+  orders-formed no-more = no-status
+  orders-formed (one-more {x} w r) =
+      let p = command-entry x w .0 in
+      one-status (record { code = record { label = p .0 }; name = record { label = p .1 }; value = order-formed x }) (orders-formed r)
 
-module _ (j : Json) (typed : isType "StatusRequest" j ≡ true) (complete : any (isMissing j) (needs j) ≡ false) (good : any (isBad j) (needs j) ≡ false) where
-  needed : needs j ≡ one ("cId" is label) ∷ entries "sS" asked anyEntry ∷ []
-  unfolding needs
-  needed =
-      rw (
-        one-type "StatusRequest" "Version" refl j typed,
-        one-type "StatusRequest" "Watchdog" refl j typed,
-        one-type "StatusRequest" "Alarm" refl j typed,
-        one-type "StatusRequest" "AggregatedStatusRequest" refl j typed,
-        one-type "StatusRequest" "StatusSubscribe" refl j typed,
-      )
-
-  missing-none : (isMissing j (one ("cId" is label)) ≡ false) × (isMissing j (entries "sS" asked anyEntry) ≡ false)
-  missing-none =
-      let a = neither (isMissing j (one ("cId" is label))) _ (subst (λ (ns : List Need). any (isMissing j) ns ≡ false) needed complete) in
-      (a .0, neither (isMissing j (entries "sS" asked anyEntry)) false (a .1) .0)
-
-  bad-none : (isBad j (one ("cId" is label)) ≡ false) × (isBad j (entries "sS" asked anyEntry) ≡ false)
-  bad-none =
-      let a = neither (isBad j (one ("cId" is label))) _ (subst (λ (ns : List Need). any (isBad j) ns ≡ false) needed good) in
-      (a .0, neither (isBad j (entries "sS" asked anyEntry)) false (a .1) .0)
-
-  component-label : isLabel (stringOf "cId" j) ≡ true
-  component-label =
-      label-of "cId" j (no-not (isSome (element "cId" j)) (neither (not (isSome (element "cId" j))) false (missing-none .0) .0))
-      (neither (maybe false (λ (v : Json). not (maybe false isLabel (shape v .string))) (element "cId" j)) false (bad-none .0) .0)
-
-  abbrev NotBad : Json → Type 0
-  NotBad x = pick (not (isObject x)) true (pick (spoils x asked) true (not (anyEntry x))) ≡ false
-
-  none-bad : Each NotBad (entriesOf "sS" j)
-  none-bad = go (element "sS" j) (bad-none .1)
-    where
-      inner : (o : Option (List Json)) → maybe true (badEntries asked anyEntry) o ≡ false → Each NotBad (orElse [] o)
-      inner none e = not-both refl e
-      inner (some xs) e =
-          none-of-any (λ (x : Json). pick (not (isObject x)) true (pick (spoils x asked) true (not (anyEntry x)))) xs (neither (ltb 16 (length xs)) _ e .1)
-
-      go : (o : Option Json) → maybe false (λ (v : Json). maybe true (badEntries asked anyEntry) (shape v .entries)) o ≡ false
-          → Each NotBad (orElse [] (maybe none (λ (v : Json). shape v .entries) o))
-      go none e = no-more
-      go (some v) e = inner (shape v .entries) e
-
-  sound-entries : Each SoundEntry (entriesOf "sS" j)
-  sound-entries =
-      both-each sound-entry none-bad
-      (none-of-any (λ (x : Json). both (isObject x) (lacks x asked)) (entriesOf "sS" j) (neither (not (isSome (element "sS" j))) _ (missing-none .1) .1))
-
-  module _ (m : Machine) (s : Sane m) where
-    entry-formed : (e : Json) → FormedValue (maybe Undefined (λ (c : ℕ). valueOf false (valueAt m (numberAsked m j e))) (componentAsked m j))
-    entry-formed e = maybe-cases FormedValue Undefined _ (componentAsked m j) (λ f. undefined) (λ c f. value-formed s (numberAsked m j e) false)
-
-    entries-formed : {xs : List Json} → Each SoundEntry xs → FormedStatuses (map (answerEntry m j) xs)
-    entries-formed no-more = no-status
-    entries-formed (one-more {x} p r) =
-        one-status (record { code = record { label = p .0 }; name = record { label = p .1 }; value = entry-formed x }) (entries-formed r)
-
-    response-formed : (t : ℕ) (id : Bytes) → SixteenBytes id → t ≤ lastTime → Formed (responseMessage m t id j)
-    response-formed t id sixteen timely = formed-statuses sixteen (record { label = component-label }) timely (entries-formed sound-entries)
+  commands-formed : isType "CommandRequest" j ≡ true → (t : ℕ) (id : Bytes) → SixteenBytes id → t ≤ lastTime → Formed (commandMessage m t id j)
+  commands-formed typed t id sixteen timely =
+      formed-statuses sixteen (record { label = component-label "arg" commanded j (command-needs j typed) complete good }) timely
+      (orders-formed (whole-entries "arg" commanded j (command-needs j typed) complete good))
 
 -- ---- a reply
 abbrev SameSetup : Machine → Effect → Type 0
@@ -193,21 +121,24 @@ same-happens m i none = refl
 same-happens m i (some a) = refl
 
 pub same-carried-out : (l t : ℕ) (j : Json) (m : Machine) → SameSetup m (carriedOut l t j m)
-unfolding carriedOut subscribe unsubscribe
+unfolding carriedOut subscribe unsubscribe commands
 same-carried-out l t j m =
     picked (SameSetup m) (isType "Version" j) _ _ (λ e. refl)
     (λ e. picked (SameSetup m) (isType "Watchdog" j) _ _ (λ e. refl)
     (λ e. picked (SameSetup m) (isType "Alarm" j) _ _ (λ e. same-happens m _ _)
     (λ e. picked (SameSetup m) (isType "StatusSubscribe" j) _ _ (λ e. refl)
-    (λ e. picked (SameSetup m) (isType "StatusUnsubscribe" j) _ _ (λ e. refl) (λ e. refl)))))
+    (λ e. picked (SameSetup m) (isType "StatusUnsubscribe" j) _ _ (λ e. refl)
+    (λ e. picked (SameSetup m) (isType "CommandRequest" j) _ _ (λ e. refl) (λ e. refl))))))
 
-asks-status : (m : Machine) (l : ℕ) (j : Json) → wantsReply m l j ≡ true → isType "Alarm" j ≡ false → isType "AggregatedStatusRequest" j ≡ false → isType "StatusRequest" j ≡ true
-asks-status m l j w a b = go (isType "Alarm" j) _ (isType "AggregatedStatusRequest" j) (isType "StatusRequest" j) w a b
+asks-status : (m : Machine) (l : ℕ) (j : Json) → wantsReply m l j ≡ true → isType "Alarm" j ≡ false → isType "AggregatedStatusRequest" j ≡ false → isType "CommandRequest" j ≡ false
+    → isType "StatusRequest" j ≡ true
+asks-status m l j w a b d = go (isType "Alarm" j) _ (isType "AggregatedStatusRequest" j) (isType "StatusRequest" j) (isType "CommandRequest" j) w a b d
   where
-    go : (a x b c : Bool) → pick (both a x) true (pick b true c) ≡ true → a ≡ false → b ≡ false → c ≡ true
-    go true x b c w p q = not-both refl p
-    go false x true c w p q = not-both refl q
-    go false x false c w p q = w
+    go : (a x b c d : Bool) → pick (both a x) true (pick b true (pick c true d)) ≡ true → a ≡ false → b ≡ false → d ≡ false → c ≡ true
+    go true x b c d w p q r = not-both refl p
+    go false x true c d w p q r = not-both refl q
+    go false x false true d w p q r = refl
+    go false x false false d w p q r = not-both w r
 
 module _ (m : Machine) (s : Sane m) (l t : ℕ) (timely : t ≤ lastTime) (id : Bytes) (sixteen : SixteenBytes id) (j : Json) (unrefused : reasonOf m l j ≡ none) where
   abbrev Then : Machine
@@ -234,7 +165,9 @@ module _ (m : Machine) (s : Sane m) (l t : ℕ) (timely : t ≤ lastTime) (id : 
       (alarm-there Then j (known e)) (alarm-time then-sane (orElse 0 (alarmAsked Then j))))
       (λ e. picked Formed (isType "AggregatedStatusRequest" j) _ _
       (λ f. aggregated-formed (Then .setup .table) (then-sane .table) id sixteen (Then .aggregated) (Then .aggregatedTime) (then-sane .aggregated) (then-sane .aggregated-time))
-      (λ f. response-formed j (asks-status Then l j w e f) complete good Then then-sane t id sixteen timely))
+      (λ f. picked Formed (isType "CommandRequest" j) _ _
+      (λ g. commands-formed j complete good Then then-sane g t id sixteen timely)
+      (λ g. response-formed j complete good Then then-sane (asks-status Then l j w e f g) t id sixteen timely)))
 
 -- ---- all that a packet call writes
 abbrev pub EachFormed : Effect → Type 0

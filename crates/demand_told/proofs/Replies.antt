@@ -55,14 +55,19 @@ one-type a b other j e = go (stringAt "type" j) e
 abbrev NoGreeting : Json → Type 0
 NoGreeting j = (isType "Version" j ≡ false) × (isType "Watchdog" j ≡ false)
 
+pub no-greeting : (a : String) → sameBytes (text a) (text "Version") ≡ false → sameBytes (text a) (text "Watchdog") ≡ false → (j : Json) → isType a j ≡ true → NoGreeting j
+no-greeting a v w j e = (one-type a "Version" v j e, one-type a "Watchdog" w j e)
+
 asks : (m : Machine) (l : ℕ) (j : Json) → wantsReply m l j ≡ true → NoGreeting j
-asks m l j e = go (isType "Alarm" j) _ (isType "AggregatedStatusRequest" j) (isType "StatusRequest" j) refl refl refl e
+asks m l j e = go (isType "Alarm" j) _ (isType "AggregatedStatusRequest" j) (isType "StatusRequest" j) (isType "CommandRequest" j) refl refl refl refl e
   where
-    go : (a b c d : Bool) → isType "Alarm" j ≡ a → isType "AggregatedStatusRequest" j ≡ c → isType "StatusRequest" j ≡ d → pick (both a b) true (pick c true d) ≡ true → NoGreeting j
-    go true b c d x y z e = (one-type "Alarm" "Version" refl j x, one-type "Alarm" "Watchdog" refl j x)
-    go false b true d x y z e = (one-type "AggregatedStatusRequest" "Version" refl j y, one-type "AggregatedStatusRequest" "Watchdog" refl j y)
-    go false b false true x y z e = (one-type "StatusRequest" "Version" refl j z, one-type "StatusRequest" "Watchdog" refl j z)
-    go false b false false x y z e = not-both e refl
+    go : (a b c d f : Bool) → isType "Alarm" j ≡ a → isType "AggregatedStatusRequest" j ≡ c → isType "StatusRequest" j ≡ d → isType "CommandRequest" j ≡ f
+        → pick (both a b) true (pick c true (pick d true f)) ≡ true → NoGreeting j
+    go true b c d f x y z w e = no-greeting "Alarm" refl refl j x
+    go false b true d f x y z w e = no-greeting "AggregatedStatusRequest" refl refl j y
+    go false b false true f x y z w e = no-greeting "StatusRequest" refl refl j z
+    go false b false false true x y z w e = no-greeting "CommandRequest" refl refl j w
+    go false b false false false x y z w e = not-both e refl
 
 -- ---- what is told is a reply
 only-ack : (w : Message) (a : Bytes) → Among w (ack a ∷ []) → isTold w ≡ true → ⊥

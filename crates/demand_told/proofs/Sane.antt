@@ -58,7 +58,8 @@ abbrev pub IssuedOf : Table → Issued → Type 0
 IssuedOf t i = Tellable t (i .content)
 
 pub record Sane (m : Machine) : Type 0 where
-  pub table : Allowed (m .setup .table)
+  pub edition : ℕ
+  pub table : Allowed edition (m .setup .table)
   pub alarm-count : length (m .alarms) ≡ length (m .setup .table .alarms)
   pub status-count : length (m .statuses) ≡ length (m .setup .table .statuses)
   pub alarms : Each (λ (a : Alarm). a .time ≤ lastTime) (m .alarms)
@@ -77,6 +78,7 @@ module _ {m : Machine} (s : Sane m) where
   pub sane-life : (l : ℕ) (k : Life) → Sane (withLife l k m)
   sane-life l k =
       record {
+        edition = s .edition;
         table = s .table;
         alarm-count = s .alarm-count;
         status-count = s .status-count;
@@ -90,6 +92,7 @@ module _ {m : Machine} (s : Sane m) where
   pub sane-subscriptions : (subs : List Subscription) → Sane (withSubscriptions subs m)
   sane-subscriptions subs =
       record {
+        edition = s .edition;
         table = s .table;
         alarm-count = s .alarm-count;
         status-count = s .status-count;
@@ -103,6 +106,7 @@ module _ {m : Machine} (s : Sane m) where
   pub sane-held : (hs : List Held) → Each (HeldOf (m .setup .table)) hs → Sane (withHeld hs m)
   sane-held hs e =
       record {
+        edition = s .edition;
         table = s .table;
         alarm-count = s .alarm-count;
         status-count = s .status-count;
@@ -116,6 +120,7 @@ module _ {m : Machine} (s : Sane m) where
   pub sane-alarm : (i : ℕ) (a : Alarm) → a .time ≤ lastTime → Sane (withAlarm i a m)
   sane-alarm i a t =
       record {
+        edition = s .edition;
         table = s .table;
         alarm-count = length-changed i (λ x. a) (m .alarms) ∙ s .alarm-count;
         status-count = s .status-count;
@@ -129,6 +134,7 @@ module _ {m : Machine} (s : Sane m) where
   pub sane-status : (i : ℕ) (v : ℤ) → Tells (some v) → Sane (withStatus i v m)
   sane-status i v f =
       record {
+        edition = s .edition;
         table = s .table;
         alarm-count = s .alarm-count;
         status-count = length-changed i (λ x. some v) (m .statuses) ∙ s .status-count;
@@ -142,6 +148,7 @@ module _ {m : Machine} (s : Sane m) where
   pub sane-aggregated : (v t : ℕ) → v < 256 → t ≤ lastTime → Sane (withAggregated v t m)
   sane-aggregated v t f g =
       record {
+        edition = s .edition;
         table = s .table;
         alarm-count = s .alarm-count;
         status-count = s .status-count;
@@ -180,6 +187,7 @@ pub record Lays (e : Effect) : Type 0 where
 pub sane-after : (t : ℕ) (e : Effect) → Lays e → Sane (after t e)
 sane-after t e s =
     record {
+      edition = s .sane .edition;
       table = s .sane .table;
       alarm-count = s .sane .alarm-count;
       status-count = s .sane .status-count;

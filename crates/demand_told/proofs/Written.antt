@@ -96,7 +96,8 @@ once-refuses l j m reason = picked (Once j) (failsCheck reason) _ _ (λ e. not-a
 reply-told : (m : Machine) (t : ℕ) (id : Bytes) (j : Json) → isAnAnswer (replyMessage m t id j) ≡ false
 reply-told m t id j =
     picked (λ (w : Message). isAnAnswer w ≡ false) (isType "Alarm" j) _ _ (λ e. refl)
-    (λ e. picked (λ (w : Message). isAnAnswer w ≡ false) (isType "AggregatedStatusRequest" j) _ _ (λ f. refl) (λ f. refl))
+    (λ e. picked (λ (w : Message). isAnAnswer w ≡ false) (isType "AggregatedStatusRequest" j) _ _ (λ f. refl)
+    (λ f. picked (λ (w : Message). isAnAnswer w ≡ false) (isType "CommandRequest" j) _ _ (λ g. refl) (λ g. refl)))
 
 once-replying : (l t : ℕ) (id : Bytes) (j : Json) (e : Effect) → Once j (replying l t id j e)
 unfolding replying

@@ -6,12 +6,13 @@ use mathlib.Core.Path.{_≡_}
 use mathlib.Core.Bool.{Bool, true, false}
 use mathlib.Core.List.{List, [], _∷_}
 use mathlib.Core.Option.{Option, some, none}
+use lib.Dec.{eqb, leb}
 use Rattle.basis.specs.Lists.{count, Among}
 use Rattle.json_value.specs.Grammar.{Json}
 use Rattle.write_message.specs.Message.{Message}
 use Rattle.write_message.specs.Message.Message.{version, watchdog, ack, notAck, alarm, aggregated, statuses}
 use Rattle.machine.specs.Words.{Bytes}
-use Rattle.machine.specs.State.{Start, Machine, Act, Call, Outcome, lifeAt}
+use Rattle.machine.specs.State.{Start, Command, Machine, Act, Call, Outcome, lifeAt}
 use Rattle.machine.specs.State.Act.{connect, disconnect, packet, alarmInput, statusValue, aggregatedValue, tick, pump}
 use Rattle.machine.specs.State.Outcome.{refused, done}
 use Rattle.machine.specs.Json.{readPacket, stringOf}
@@ -22,7 +23,7 @@ use Rattle.machine.specs.Run.{Past, Run}
 
 abbrev pub messagesOf : Outcome → List Message
 messagesOf (refused n) = []
-messagesOf (done messages closed hint) = messages
+messagesOf (done messages closed hint commands) = messages
 
 -- the link that a call's messages go to
 abbrev pub linkOf : Act → Option ℕ
@@ -35,49 +36,30 @@ linkOf (aggregatedValue v) = none
 linkOf tick = none
 linkOf (pump l random room) = some l
 
--- Alarm, AggregatedStatus, StatusResponse, StatusUpdate
+-- of what sort a message is: 0 of the greeting, 1 an answer, 2 Alarm, 3 AggregatedStatus, StatusResponse, StatusUpdate, CommandResponse
+abbrev pub sortOf : Message → ℕ
+sortOf (version id site sxl) = 0
+sortOf (watchdog id t) = 0
+sortOf (ack id) = 1
+sortOf (notAck id reason) = 1
+sortOf (alarm id component code state) = 2
+sortOf (aggregated id component t v) = 3
+sortOf (statuses kind id component t entries) = 3
+
 abbrev pub isTold : Message → Bool
-isTold (version id site sxl) = false
-isTold (watchdog id t) = false
-isTold (ack id) = false
-isTold (notAck id reason) = false
-isTold (alarm id component code state) = true
-isTold (aggregated id component t v) = true
-isTold (statuses kind id component t entries) = true
+isTold w = leb 2 (sortOf w)
 
 abbrev pub isAlarm : Message → Bool
-isAlarm (version id site sxl) = false
-isAlarm (watchdog id t) = false
-isAlarm (ack id) = false
-isAlarm (notAck id reason) = false
-isAlarm (alarm id component code state) = true
-isAlarm (aggregated id component t v) = false
-isAlarm (statuses kind id component t entries) = false
+isAlarm w = eqb (sortOf w) 2
 
 -- MessageAck, MessageNotAck
 abbrev pub isAnAnswer : Message → Bool
-isAnAnswer (version id site sxl) = false
-isAnAnswer (watchdog id t) = false
-isAnAnswer (ack id) = true
-isAnAnswer (notAck id reason) = true
-isAnAnswer (alarm id component code state) = false
-isAnAnswer (aggregated id component t v) = false
-isAnAnswer (statuses kind id component t entries) = false
+isAnAnswer w = eqb (sortOf w) 1
 
 -- one answer, first, that repeats the mId, and none behind it
 pub data OneAnswer (mId : Bytes) : List Message → Type 0 where
   acked : {ms : List Message} → count isAnAnswer ms ≡ 0 → OneAnswer mId (ack mId ∷ ms)
   not-acked : {ms : List Message} {reason : Bytes} → count isAnAnswer ms ≡ 0 → OneAnswer mId (notAck mId reason ∷ ms)
-
-abbrev pub isPacketCall : Act → Bool
-isPacketCall (connect l) = false
-isPacketCall (disconnect l) = false
-isPacketCall (packet l random bytes room) = true
-isPacketCall (alarmInput i active) = false
-isPacketCall (statusValue i v) = false
-isPacketCall (aggregatedValue v) = false
-isPacketCall tick = false
-isPacketCall (pump l random room) = false
 
 module _ (m : Machine) (c : Call) where
   pub record Telling : Type 0 where
@@ -86,11 +68,11 @@ module _ (m : Machine) (c : Call) where
     -- a call of no link writes nothing
     pub no-link : linkOf (c .act) ≡ none → messagesOf (step m c .0) ≡ []
     -- a done packet call answers any packet but an answer once, an answer not at all; no other call answers
-    pub answered : (l room : ℕ) (random bytes : Bytes) (j : Json) (ms : List Message) (closed : List ℕ) (hint : Option ℕ)
-        → c .act ≡ packet l random bytes room → readPacket bytes ≡ some j → step m c .0 ≡ done ms closed hint → isAnswer j ≡ false → OneAnswer (stringOf "mId" j) ms
+    pub answered : (l room : ℕ) (random bytes : Bytes) (j : Json) (ms : List Message) (closed : List ℕ) (hint : Option ℕ) (commands : List Command)
+        → c .act ≡ packet l random bytes room → readPacket bytes ≡ some j → step m c .0 ≡ done ms closed hint commands → isAnswer j ≡ false → OneAnswer (stringOf "mId" j) ms
     pub unanswered : (l room : ℕ) (random bytes : Bytes) (j : Json) → c .act ≡ packet l random bytes room → readPacket bytes ≡ some j → isAnswer j ≡ true
         → messagesOf (step m c .0) ≡ []
-    pub unasked : isPacketCall (c .act) ≡ false → count isAnAnswer (messagesOf (step m c .0)) ≡ 0
+    pub unasked : ((l room : ℕ) (random bytes : Bytes) → c .act ≡ packet l random bytes room → ⊥) → count isAnAnswer (messagesOf (step m c .0)) ≡ 0
 
 pub record Demand2 : Type 0 where
   pub of-every-call : (m : Machine) (c : Call) → Telling m c

@@ -10,7 +10,7 @@ use Rattle.json_value.specs.Grammar.{Json}
 use Rattle.write_message.specs.Message.{Message}
 use Rattle.write_message.specs.Message.Message.{version, watchdog, ack}
 use Rattle.machine.specs.Words.{Bytes, isSome}
-use Rattle.machine.specs.State.{Machine}
+use Rattle.machine.specs.State.{Command, Machine}
 use Rattle.machine.specs.State.Act.{packet}
 use Rattle.machine.specs.State.Outcome.{done}
 use Rattle.machine.specs.Json.{readPacket, stringOf, elementIs, isType, isIdentityOf}
@@ -36,8 +36,8 @@ pub data Wrote (l : ℕ) (Is : Message → Type 0) (p : Past) (before : List Pas
 
 -- a packet of this JSON value came on link l, and its call was done
 pub data Came (l : ℕ) (j : Json) (p : Past) : Type 0 where
-  came : {random bytes : Bytes} {room : ℕ} {messages : List Message} {closed : List ℕ} {hint : Option ℕ}
-      → p .call .act ≡ packet l random bytes room → readPacket bytes ≡ some j → p .gave ≡ done messages closed hint → Came l j p
+  came : {random bytes : Bytes} {room : ℕ} {messages : List Message} {closed : List ℕ} {hint : Option ℕ} {commands : List Command}
+      → p .call .act ≡ packet l random bytes room → readPacket bytes ≡ some j → p .gave ≡ done messages closed hint commands → Came l j p
 
 -- their MessageAck of a message of ours: its oMId is the identity under which that one was written before, in this life
 pub data Acknowledged (l : ℕ) (Ours : Bytes → Message → Type 0) (p : Past) (before : List Past) : Type 0 where

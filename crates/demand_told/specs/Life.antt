@@ -13,11 +13,11 @@ use Rattle.machine.specs.Run.{Past}
 
 abbrev pub isDone : Outcome → Bool
 isDone (refused n) = false
-isDone (done messages closed hint) = true
+isDone (done messages closed hint commands) = true
 
 abbrev pub closedBy : Outcome → List ℕ
 closedBy (refused n) = []
-closedBy (done messages closed hint) = closed
+closedBy (done messages closed hint commands) = closed
 
 abbrev pub connectedBy : Act → Option ℕ
 connectedBy (connect l) = some l

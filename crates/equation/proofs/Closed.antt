@@ -20,7 +20,7 @@ use Rattle.machine.specs.State.Outcome.{refused, done}
 use Rattle.machine.specs.Json.{readPacket, stringOf, isType}
 use Rattle.machine.specs.Life.{isLate, awaitedBy, Due, due}
 use Rattle.machine.specs.Answers.{isAnswer, wantsReply, reasonOf, failsCheck}
-use Rattle.machine.specs.Items.{isNew, happens, subscribe, unsubscribe, becomes, aggregates}
+use Rattle.machine.specs.Items.{isNew, happens, subscribe, unsubscribe, becomes, commands, aggregates}
 use Rattle.machine.specs.Effects.{
   connects,
   closes,
@@ -129,13 +129,14 @@ module _ (m : Machine) (few : m .setup .links ≤ 4) where
     of-refuses j reason = picked Lays (failsCheck reason) _ _ (λ e. of-closes l h _) (λ e. refl)
 
     of-carried-out : (t : ℕ) (j : Json) → Lays (carriedOut l t j m)
-    unfolding carriedOut subscribe unsubscribe
+    unfolding carriedOut subscribe unsubscribe commands
     of-carried-out t j =
         picked Lays (isType "Version" j) _ _ (λ e. refl)
         (λ e. picked Lays (isType "Watchdog" j) _ _ (λ e. refl)
         (λ e. picked Lays (isType "Alarm" j) _ _ (λ e. of-happens _ _)
         (λ e. picked Lays (isType "StatusSubscribe" j) _ _ (λ e. refl)
-        (λ e. picked Lays (isType "StatusUnsubscribe" j) _ _ (λ e. refl) (λ e. refl)))))
+        (λ e. picked Lays (isType "StatusUnsubscribe" j) _ _ (λ e. refl)
+        (λ e. picked Lays (isType "CommandRequest" j) _ _ (λ e. refl) (λ e. refl))))))
 
     of-replying : (t : ℕ) (id : Bytes) (j : Json) (e : Effect) → Lays e → Lays (replying l t id j e)
     unfolding replying

@@ -45,6 +45,7 @@ use Rattle.equation.specs.Equation.{startFor, Sees, FromStart, Fits, Equ
 use Rattle.equation.proofs.Told.{told-same}
 use Rattle.equation.proofs.Asked.{BytesIn, Opened, opened, fitting, lawful}
 use Rattle.equation.proofs.Closed.{closed-links}
+use Rattle.equation.proofs.Handed.{unhanded, behind, commands-misfit}
 
 -- of every call the code's and the machine's are the same
 abbrev pub AllCalls : Type 0
@@ -75,7 +76,7 @@ stands b links primary period first time x vs us o p m d =
       begun = record { answer = refl; words = m .words; bytes = m .bytes; words-kept = λ h. refl; bytes-kept = λ h. refl };
     }) d
 
-module _ (all : AllCalls) (ts : List ℕ) (table : length ts ≡ 4752) where
+module _ (all : AllCalls) (ts : List ℕ) (table : length ts ≡ 6178) where
   abbrev at : List ℕ → Site
   at ws = siteOf ws (tableOf ts)
 
@@ -87,7 +88,7 @@ module _ (all : AllCalls) (ts : List ℕ) (table : length ts ≡ 4752) where
       let st : SameStep (at ws) m (q .code) = steps (at ws) m h (q .code) (all (at ws) m h (q .code) (ok .1) (ok .0)) in
       record {
         seen = q .seen
-            ∙ told-same (at ws) sound (q .code) (ok .0) _ _ (closed-links m (h .items .setup .few) (callFor (q .code))) refl (st .outcome)
+            ∙ told-same (at ws) sound (q .code) (ok .0) (q .words) (q .handed) _ _ (closed-links m (h .items .setup .few) (callFor (q .code))) refl (st .outcome)
             ∙ ap₂ (λ (c : MachineCall) (ys : List ℕ). tells ys (step m c .0)) (q .same-call) (q .same-output);
         leaves = subst (λ (t : Site). Abstracts t (step m k .1)) (sym (q .after-it)) (subst (λ (c : MachineCall). Abstracts (stepBy (at ws) (q .code) .site) (step m c .1)) (q .same-call) (st .leaves));
         sound = subst Sound (sym (q .after-it)) (sequences-kept .sound (at ws) sound (q .code ∷ []) (ok .0, tt));
@@ -119,7 +120,7 @@ module _ (all : AllCalls) (ts : List ℕ) (table : length ts ≡ 4752) where
       ap₂ (λ (y : Seen) (ys : List Seen). y ∷ ys) (o .seen) (same vs (next m a) (o .sized) (o .leaves) (o .sound) more (typed .1) xs r)
 
 module _ (all : AllCalls) where
-  sees : (x : Step) (m : Option Machine) (vs us : List ℕ) → length vs ≡ 1173 → length us ≡ 4752 → (isDone (x .answer) ≡ true → siteOf vs (tableOf us) ≡ x .site)
+  sees : (x : Step) (m : Option Machine) (vs us : List ℕ) → length vs ≡ 1173 → length us ≡ 6178 → (isDone (x .answer) ≡ true → siteOf vs (tableOf us) ≡ x .site)
       → (isDone (x .answer) ≡ true → Sound (x .site)) → SameStart x m → Sees (outcomeOf (x .answer)) vs us m
   sees x m vs us g k st f not-accepted = refl
   sees x m vs us g k st f (accepted {s = s} {m = n} h) =
@@ -161,9 +162,12 @@ pub from-calls : AllCalls → Equation
 from-calls all =
     record {
       from-start = of-contract all;
-      refused = λ ts ws c output number counted ys closed hint vs p wrong.
-          let l = lawful ts ws c output (told number ys counted closed hint) vs p in (l .same-words wrong, l .same-bytes wrong);
+      refused = λ ts ws c output number counted ys closed hint commands vs p wrong.
+          let l = lawful ts ws c output (told number ys counted closed hint commands) vs p in (l .same-words wrong, l .same-bytes wrong);
       not-started = not-started;
-      misfit = λ ts ws c output number counted ys closed hint vs p wrong. lawful ts ws c output (told number ys counted closed hint) vs p .no-site wrong;
+      misfit = λ ts ws c output number counted ys closed hint commands vs p wrong. lawful ts ws c output (told number ys counted closed hint commands) vs p .no-site wrong;
+      unhanded = unhanded;
+      behind = behind;
+      commands-misfit = commands-misfit;
       start-misfit = start-misfit;
     }

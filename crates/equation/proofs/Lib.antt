@@ -1,6 +1,7 @@
 -- What a host of the exported functions sees is what the machine says: the proofs.
 pub mod Closed
 pub mod Told
+pub mod Handed
 pub mod Asked
 pub mod Equation
 pub mod Calls

@@ -2,15 +2,17 @@
 -- ws to vs, and the bytes ts of its table.
 -- Assumes nothing.
 use Prim.Native.Nat.{ℕ, _/_, _%_, _^_}
-use mathlib.Core.List.{List, [], _∷_}
+use mathlib.Core.Path.{_≡_}
+use mathlib.Core.List.{List, [], _∷_, map}
 use mathlib.Core.Option.{some, none}
 use lib.Dec.{eqb, ltb}
 use lib.IntN.{ℤ}
-use lib.ListN.{length}
+use lib.ListN.{length, take}
 use contract.Lifetimes.{Lfts}
 use denote.Ref.{RefT, now}
 use denote.Triple.Clauses.{AtExit}
 use borrow.Fn.Kinds.{endedOf}
+use Rattle.number.specs.Signed.{signedOf}
 use Rattle.identity.specs.declared.Identity.{Identity}
 use Rattle.pool.specs.declared.Reading.{Reading}
 use Rattle.call_read.specs.declared.ChosenVersion.{ChosenVersion}
@@ -44,7 +46,7 @@ use Rattle.sitec.proofs.readings.rsmp_lent_version_of.Kinds as version-of-kinds
 use Rattle.sitec.proofs.readings.rsmp_lent_record.Reads as rsmp-record
 use Rattle.sitec.proofs.readings.rsmp_lent_record.Kinds as record-kinds
 use Rattle.machine.specs.Words.{Bytes, if_then_else_, keep, upTo}
-use Rattle.machine.specs.State.{Act}
+use Rattle.machine.specs.State.{Command, commandOf, Act}
 use Rattle.machine.specs.State.Act.{connect, disconnect, packet, alarmInput, statusValue, aggregatedValue, tick, pump}
 use Rattle.equation.specs.Seen.{Ask, Seen}
 use Rattle.equation.specs.Seen.Ask.{call, held, lost, phase, version, record-of}
@@ -54,9 +56,17 @@ use Rattle.equation.specs.Seen.Seen.{told, count, numbers, entry}
 abbrev pub linksIn : ℕ → List ℕ
 linksIn word = keep (λ l. eqb (word / 2 ^ l % 2) 1) (upTo 4)
 
--- what is seen of an outcome, and of the output afterwards
+-- the command of a word: its number is the high half, its value the low one
+abbrev pub commandIn : ℕ → Command
+commandIn word = commandOf (word / 2 ^ 32) (signedOf (word % 2 ^ 32))
+
+-- what is seen of an outcome, of the output afterwards, and of the words lent for commands, of which so many are counted
+abbrev pub packetSeen : Bytes → List ℕ → Outcome → Seen
+packetSeen output words o =
+    told (o .number) output (o .written) (linksIn (o .closed)) (if eqb (o .hinted) 0 then none else some (o .hint)) (map commandIn (take (o .commands) words))
+
 abbrev pub outcomeSeen : Bytes → Outcome → Seen
-outcomeSeen output o = told (o .number) output (o .written) (linksIn (o .closed)) (if eqb (o .hinted) 0 then none else some (o .hint))
+outcomeSeen output o = packetSeen output [] o
 
 -- a call that lends no output
 abbrev pub calls : ℕ → Act → Ask
@@ -65,6 +75,12 @@ calls t act = call (record { time = t; act = act }) []
 -- one that does: its length is the room
 abbrev pub lends : ℕ → (ℕ → Act) → Bytes → Ask
 lends t act output = call (record { time = t; act = act (length output) }) output
+
+-- a packet call, whatever the lengths of what is lent: the words lent for commands, the output, and all three afterwards
+pub data Packets : Bytes → List ℕ → List ℕ → Bytes → Outcome → List ℕ → List ℕ → Bytes → Type 0 where
+  packet-call : (κs : Lfts 5) (w table : RefT (List ℕ)) (l t : ℕ) (random : Identity) (received commands out : RefT (List ℕ)) (o : Outcome) (e : AtExit (endedOf 5 packet-kinds.ps packet-kinds.r) κs)
+      → rsmp-packet.Learnt κs (w, (table, (l, (t, (random, (received, (commands, (out, tt)))))))) o e
+      → Packets (now table) (now w) (now commands) (now out) o (now (e .0)) (now (e .1 .1 .1 .1 .1 .1 .0)) (now (e .1 .1 .1 .1 .1 .1 .1 .0))
 
 -- words and table before; the bytes of a site table and the start values; what is handed out; words and table afterwards
 pub data Starts : List ℕ → Bytes → Bytes → ℕ → ℕ → ℕ → ℕ → ℕ → Outcome → List ℕ → Bytes → Type 0 where
@@ -78,9 +94,10 @@ pub data Allows : Bytes → List ℕ → Ask → Seen → List ℕ → Type 0 wh
       → rsmp-connect.Learnt κs (w, (l, (t, tt))) o e → Allows ts (now w) (calls t (connect l)) (outcomeSeen [] o) (now (e .0))
   disconnects : {ts : Bytes} (κs : Lfts 1) (w : RefT (List ℕ)) (l t : ℕ) (o : Outcome) (e : AtExit (endedOf 1 disconnect-kinds.ps disconnect-kinds.r) κs)
       → rsmp-disconnect.Learnt κs (w, (l, (t, tt))) o e → Allows ts (now w) (calls t (disconnect l)) (outcomeSeen [] o) (now (e .0))
-  packets : (κs : Lfts 4) (w table : RefT (List ℕ)) (l t : ℕ) (random : Identity) (received out : RefT (List ℕ)) (o : Outcome) (e : AtExit (endedOf 4 packet-kinds.ps packet-kinds.r) κs)
-      → rsmp-packet.Learnt κs (w, (table, (l, (t, (random, (received, (out, tt))))))) o e
-      → Allows (now table) (now w) (lends t (packet l (random .bytes) (now received)) (now out)) (outcomeSeen (now (e .1 .1 .1 .1 .1 .1 .0)) o) (now (e .0))
+  -- sixteen words are lent for its commands
+  packets : (κs : Lfts 5) (w table : RefT (List ℕ)) (l t : ℕ) (random : Identity) (received commands out : RefT (List ℕ)) (o : Outcome) (e : AtExit (endedOf 5 packet-kinds.ps packet-kinds.r) κs)
+      → rsmp-packet.Learnt κs (w, (table, (l, (t, (random, (received, (commands, (out, tt)))))))) o e → length (now commands) ≡ 16
+      → Allows (now table) (now w) (lends t (packet l (random .bytes) (now received)) (now out)) (packetSeen (now (e .1 .1 .1 .1 .1 .1 .1 .0)) (now (e .1 .1 .1 .1 .1 .1 .0)) o) (now (e .0))
   -- active where it is not 0
   alarms : (κs : Lfts 2) (w table : RefT (List ℕ)) (i active t : ℕ) (o : Outcome) (e : AtExit (endedOf 2 alarm-kinds.ps alarm-kinds.r) κs)
       → rsmp-alarm.Learnt κs (w, (table, (i, (active, (t, tt))))) o e → Allows (now table) (now w) (calls t (alarmInput i (ltb 0 active))) (outcomeSeen [] o) (now (e .0))

@@ -11,7 +11,7 @@ use Rattle.identity.specs.Read.{SixteenBytes}
 use Rattle.write_message.specs.Message.{Message}
 use Rattle.write_message.specs.Listing.{bytesOf}
 use Rattle.machine.specs.Words.{Bytes, flat}
-use Rattle.machine.specs.State.{Machine, Act, Call, Outcome}
+use Rattle.machine.specs.State.{Command, Machine, Act, Call, Outcome}
 use Rattle.machine.specs.State.Act.{connect, disconnect, packet, alarmInput, statusValue, aggregatedValue, tick, pump}
 use Rattle.machine.specs.State.Outcome.{refused, done}
 use Rattle.machine.specs.Step.{step}
@@ -23,10 +23,10 @@ pub data Ask : Type 0 where
   held lost phase version : (link : ℕ) → Ask
   record-of : (link rank : ℕ) → Ask
 
--- the number, the whole output afterwards, how many of its bytes are counted, the links closed and the clock hint; or what is read: a number,
--- the three of a version, whether there is such a record and its bytes
+-- the number, the whole output afterwards, how many of its bytes are counted, the links closed, the clock hint and the commands handed over; or what is
+-- read: a number, the three of a version, whether there is such a record and its bytes
 pub data Seen : Type 0 where
-  told : (number : ℕ) (output : Bytes) (counted : ℕ) (closed : List ℕ) (hint : Option ℕ) → Seen
+  told : (number : ℕ) (output : Bytes) (counted : ℕ) (closed : List ℕ) (hint : Option ℕ) (commands : List Command) → Seen
   count : ℕ → Seen
   numbers : List ℕ → Seen
   entry : (found : Bool) (bytes : Bytes) → Seen
@@ -37,8 +37,8 @@ abbrev pub written : List Message → Bytes
 written ms = flat bytesOf ms
 
 abbrev pub tells : Bytes → Outcome → Seen
-tells output (refused n) = told n output 0 [] none
-tells output (done ms closed hint) = told 0 (written ms ++ drop (length (written ms)) output) (length (written ms)) closed hint
+tells output (refused n) = told n output 0 [] none []
+tells output (done ms closed hint commands) = told 0 (written ms ++ drop (length (written ms)) output) (length (written ms)) closed hint commands
 
 -- zeros where no version is chosen
 abbrev pub shown : List ℕ → List ℕ

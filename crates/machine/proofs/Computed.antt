@@ -24,7 +24,7 @@ use Rattle.calendar.specs.Read.{readSecond, readDecimals, readRest, readTime}
 use Rattle.machine.specs.Json.{versionIn}
 use Rattle.machine.specs.Life.{close, carriedBy, dueUp, due}
 use Rattle.machine.specs.Answers.{isIgnored, needs, reasons}
-use Rattle.machine.specs.Items.{happens, subscribe, unsubscribe, intervals, becomes, aggregates}
+use Rattle.machine.specs.Items.{happens, subscribe, unsubscribe, intervals, becomes, commands, aggregates}
 use Rattle.machine.specs.Pool.{lose, makeRoom, issue}
 use Rattle.machine.specs.Effects.{connects, closes, ticks, sends, answers, answered, refuses, carriedOut, replying, receives, effectOf}
 use Rattle.machine.specs.Step.{conditions, step}
@@ -55,7 +55,7 @@ pub marked : Marked
 marked = record { all = each; begins = begins }
 
 pub conversation : Conversation
-unfolding rawOf charOf readChars decoded skipWs literal readScalar readName readStart readMark readEntry readItems readInside readValue noTwice allOnce once isPacket meaningOf hexDigit lowerHex identityText digits digitsBelow leapOf years months dayOf yearFrom monthFrom dateOf secondText milliText timeText readSecond readDecimals readRest readTime apart readNum readNumber versionIn close carriedBy dueUp due isIgnored needs reasons happens subscribe unsubscribe intervals becomes aggregates lose makeRoom issue connects closes ticks sends answers answered refuses carriedOut replying receives effectOf conditions step
+unfolding rawOf charOf readChars decoded skipWs literal readScalar readName readStart readMark readEntry readItems readInside readValue noTwice allOnce once isPacket meaningOf hexDigit lowerHex identityText digits digitsBelow leapOf years months dayOf yearFrom monthFrom dateOf secondText milliText timeText readSecond readDecimals readRest readTime apart readNum readNumber versionIn close carriedBy dueUp due isIgnored needs reasons happens subscribe unsubscribe intervals becomes commands aggregates lose makeRoom issue connects closes ticks sends answers answered refuses carriedOut replying receives effectOf conditions step
 conversation =
     record {
       greets = refl;
@@ -69,6 +69,8 @@ conversation =
       requested = refl;
       awaited-long = refl;
       statuses-told = refl;
+      commands-handed = refl;
+      commands-kept = refl;
       old-issued = refl;
       free-place = refl;
       most-loses = refl;

@@ -5,16 +5,18 @@ use Prim.Native.String.{String}
 use mathlib.Core.Bool.{Bool, true, false, not}
 use mathlib.Core.List.{List, [], _∷_}
 use mathlib.Core.Option.{Option, some, none}
-use lib.Dec.{eqb, ltb, leb}
+use lib.Dec.{ltb, leb}
+use lib.IntN.{ℤ, pos}
 use lib.ListN.{length}
 use Rattle.basis.specs.Text.{text}
+use Rattle.number.specs.Signed.{atMost}
 use Rattle.number.specs.Alphabet.{isLabel}
 use Rattle.json_value.specs.Grammar.{Json}
-use Rattle.table_whole.specs.Table.{Table}
-use Rattle.machine.specs.Words.{Bytes, if_then_else_, _and_, _or_, reads, maybe, isSome, isNumber, any, Case, _when_, firstOf}
+use Rattle.table_whole.specs.Table.{Row}
+use Rattle.machine.specs.Words.{Bytes, if_then_else_, _and_, _or_, reads, maybe, isSome, orElse, isNumber, any, Case, _when_, firstOf}
 use Rattle.machine.specs.State.{Life, Machine, lifeAt}
-use Rattle.machine.specs.Json.{shape, element, stringAt, stringOf, booleanOf, entriesOf, elementIs, isType, isIdentity, numberIn, versionIn, timeIn}
-use Rattle.machine.specs.Table.{componentOf, alarmNumber, statusNumber}
+use Rattle.machine.specs.Json.{shape, element, stringAt, stringOf, booleanOf, entriesOf, elementIs, isType, isIdentity, numberIn, integerIn, versionIn, timeIn}
+use Rattle.machine.specs.Table.{componentOf, alarmNumber, statusNumber, commandNumber, commandRow}
 use Rattle.machine.specs.Life.{isGreeting, isBeating, isPrimary, common, namesSite, equalSxl, awaitedBy}
 
 -- ---- "Ignored (1)"
@@ -73,6 +75,10 @@ asked = "sCI" is label ∷ "n" is label ∷ []
 abbrev pub subscribed : List Element
 subscribed = "sCI" is label ∷ "n" is label ∷ "uRt" is aString (λ s. isSome (numberIn 86400 s)) ∷ "sOc" is aBoolean ∷ []
 
+-- request 01: "each entry needs cCI, n, cO (any used string) and v, shortest decimal text"
+abbrev pub commanded : List Element
+commanded = "cCI" is label ∷ "n" is label ∷ "cO" is label ∷ "v" is aString (λ s. isSome (integerIn s)) ∷ []
+
 abbrev pub anyEntry : Json → Bool
 anyEntry e = true
 
@@ -88,6 +94,7 @@ needs j =
     ∷ one ("aSp" is aString (isWord ("Request" ∷ "Acknowledge" ∷ "Suspend" ∷ "Resume" ∷ []))) ∷ []
     else if isType "AggregatedStatusRequest" j then one ("cId" is label) ∷ []
     else if isType "StatusSubscribe" j then one ("cId" is label) ∷ entries "sS" subscribed (λ e. not (asksNever e)) ∷ []
+    else if isType "CommandRequest" j then one ("cId" is label) ∷ entries "arg" commanded anyEntry ∷ []
     else one ("cId" is label) ∷ entries "sS" asked anyEntry ∷ []
 
 abbrev pub isObject : Json → Bool
@@ -108,7 +115,7 @@ abbrev pub isMissing : Json → Need → Bool
 isMissing j (one e) = lacks j (e ∷ [])
 isMissing j (entries name es good) = not (isSome (element name j)) or any (λ x. isObject x and lacks x es) (entriesOf name j)
 
--- "At most 16 entries in `sS`, 16 in Version's lists"
+-- "At most 16 entries in `sS`, 16 in Version's lists"; "`arg` keeps the limits of `sS`"
 abbrev pub badEntries : List Element → (Json → Bool) → List Json → Bool
 badEntries es good xs = ltb 16 (length xs) or any (λ x. not (isObject x) or spoils x es or not (good x)) xs
 
@@ -125,6 +132,12 @@ alarmAsked m j = maybe none (λ c. alarmNumber (m .setup .table) c (stringOf "aC
 
 abbrev pub statusAsked : Machine → Json → Json → Option ℕ
 statusAsked m j e = maybe none (λ c. statusNumber (m .setup .table) c (stringOf "sCI" e) (stringOf "n" e)) (componentAsked m j)
+
+abbrev pub commandAsked : Machine → Json → Json → Option ℕ
+commandAsked m j e = maybe none (λ c. commandNumber (m .setup .table) c (stringOf "cCI" e) (stringOf "n" e)) (componentAsked m j)
+
+abbrev pub valueAsked : Json → ℤ
+valueAsked e = orElse (pos 0) (integerIn (stringOf "v" e))
 
 abbrev pub isStatusType : Json → Bool
 isStatusType j = isType "StatusRequest" j or isType "StatusSubscribe" j or isType "StatusUnsubscribe" j
@@ -145,15 +158,31 @@ unknownStatus m j =
     if isSome (componentAsked m j) then isStatusType j and any (λ e. not (isSome (statusAsked m j e))) (entriesOf "sS" j)
     else isType "StatusSubscribe" j or isType "StatusUnsubscribe" j
 
--- "Request from the primary is answered"; AggregatedStatusRequest and StatusRequest are, on every link
+-- "a value outside its range is "Bad value"", of a command that is there
+abbrev pub inRange : Row → ℤ → Bool
+inRange r v = atMost (r .lowest) v and atMost v (r .highest)
+
+abbrev pub outOfRange : Machine → Json → Bool
+outOfRange m j =
+    isType "CommandRequest" j
+    and any (λ e. maybe false (λ i. not (inRange (commandRow (m .setup .table) i) (valueAsked e))) (commandAsked m j e)) (entriesOf "arg" j)
+
+-- "an unknown component is answered with age undefined and v null"; of a known one every entry is a command
+abbrev pub unknownCommand : Machine → Json → Bool
+unknownCommand m j =
+    isType "CommandRequest" j and isSome (componentAsked m j) and any (λ e. not (isSome (commandAsked m j e))) (entriesOf "arg" j)
+
+-- "Request from the primary is answered"; AggregatedStatusRequest, StatusRequest and CommandRequest are, on every link
 abbrev pub wantsReply : Machine → ℕ → Json → Bool
 wantsReply m l j =
     (isType "Alarm" j and elementIs "aSp" "Request" j and isPrimary m l)
-    or isType "AggregatedStatusRequest" j or isType "StatusRequest" j
+    or isType "AggregatedStatusRequest" j or isType "StatusRequest" j or isType "CommandRequest" j
 
--- "Taken: Version, Watchdog, both answers, Alarm, AggregatedStatusRequest, StatusRequest, StatusSubscribe, StatusUnsubscribe."
+-- "Taken: Version, Watchdog, both answers, Alarm, AggregatedStatusRequest, StatusRequest, StatusSubscribe, StatusUnsubscribe." And CommandRequest
 abbrev pub isTaken : Json → Bool
-isTaken j = isType "Version" j or isType "Watchdog" j or isType "Alarm" j or isType "AggregatedStatusRequest" j or isStatusType j
+isTaken j =
+    isType "Version" j or isType "Watchdog" j or isType "Alarm" j or isType "AggregatedStatusRequest" j or isStatusType j
+    or isType "CommandRequest" j
 
 -- "type missing, no string or not taken, Version before ours went out or after theirs was accepted"
 abbrev pub isUnexpected : Life → Json → Bool
@@ -170,12 +199,14 @@ reasons m l j =
     ∷ "Not ready" when (isBeating k and not (isType "Watchdog" j))
     ∷ "Missing element" when any (isMissing j) (needs j)
     ∷ "Bad value" when any (isBad j) (needs j)
+    ∷ "Bad value" when outOfRange m j
     ∷ "RSMP version" when (isType "Version" j and not (isSome (common j)))
     ∷ "Site id" when (isType "Version" j and not (namesSite m j))
     ∷ "SXL version" when (isType "Version" j and not (equalSxl m j))
     ∷ "Unknown component" when unknownComponent m j
     ∷ "Unknown alarm" when unknownAlarm m j
     ∷ "Unknown status" when unknownStatus m j
+    ∷ "Unknown command" when unknownCommand m j
     ∷ "Busy" when (wantsReply m l j and leb 16 (length (k .awaited)))
     ∷ []
 

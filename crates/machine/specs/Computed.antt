@@ -5,17 +5,17 @@ use mathlib.Core.Path.{_≡_}
 use mathlib.Core.Bool.{Bool, true, false}
 use mathlib.Core.List.{List, [], _∷_, _++_, map}
 use mathlib.Core.Option.{Option, some, none}
-use lib.IntN.{negsuc}
+use lib.IntN.{pos, negsuc}
 use lib.ListN.{take}
 use Rattle.basis.specs.Text.{text}
 use Rattle.answer.specs.Times.{lastTime}
 use Rattle.calendar.specs.Text.{timeText}
-use Rattle.write_message.specs.declared.Value.the-variants.{Undefined}
-use Rattle.write_message.specs.declared.Told.the-variants.{Response}
+use Rattle.write_message.specs.declared.Value.the-variants.{Recent, Undefined}
+use Rattle.write_message.specs.declared.Told.the-variants.{Response, Command}
 use Rattle.write_message.specs.Message.{status}
 use Rattle.write_message.specs.Message.Message.{version, watchdog, ack, notAck, aggregated, statuses}
 use Rattle.machine.specs.Words.{Bytes, orElse, keep}
-use Rattle.machine.specs.State.{alarmOf, issuedFor, heldAs, Pool, poolOf, atEnd}
+use Rattle.machine.specs.State.{alarmOf, issuedFor, heldAs, Pool, poolOf, commandOf, atEnd}
 use Rattle.machine.specs.State.Event.{Issue}
 use Rattle.machine.specs.State.Content.{ofAlarm, ofStatus}
 use Rattle.machine.specs.State.Act.{connect, alarmInput, statusValue, aggregatedValue, tick, pump}
@@ -108,13 +108,13 @@ pub record Conversation : Type 0 where
       ∷ says (ack theirId ∷ [])
       ∷ says (watchdog (own 2) noon ∷ [])
       ∷ quiet
-      ∷ done (ack theirId ∷ []) [] (some noon)
+      ∷ done (ack theirId ∷ []) [] (some noon) []
       ∷ []
   pub comes-up : leaves (started 2) greeting ≡ up
   -- request 05: "The clock hint is given only where three or more stood; with fewer the watchdog is acknowledged and no hint given." Of six
   -- the last three are dropped
   pub decimals-told : outcomes up (atNoon (beats "2009-10-01T11:59:31Z") ∷ atNoon (beats "2009-10-01T11:59:31.57Z") ∷ atNoon (beats "2009-10-01T11:59:31.571999Z") ∷ [])
-      ≡ says (ack theirId ∷ []) ∷ says (ack theirId ∷ []) ∷ done (ack theirId ∷ []) [] (some noon) ∷ []
+      ≡ says (ack theirId ∷ []) ∷ says (ack theirId ∷ []) ∷ done (ack theirId ∷ []) [] (some noon) [] ∷ []
   -- an alarm becomes active: the first pass sends the AggregatedStatus, then the alarm with its record, once; either answer settles it
   pub alarm-told : outcomes up (atNoon (alarmInput 0 true) ∷ pumped 3 ∷ pumped 4 ∷ atNoon tick ∷ pumped 5 ∷ atNoon (gets "MessageAck\",\"oMId\":\"04040404-0404-4404-8404-040404040404\"}") ∷ pumped 5 ∷ [])
       ≡ quiet ∷ says (aggregated (own 3) (text "C0") noon 0 ∷ []) ∷ says (alarmNow 4 0 noon false true false ∷ []) ∷ quiet ∷ refused 7 ∷ quiet ∷ refused 7 ∷ []
@@ -134,7 +134,7 @@ pub record Conversation : Type 0 where
       ≡ says (ack theirId ∷ alarmNow 15 0 (noon + 2) false true true ∷ []) ∷ refused 9 ∷ says (notAck theirId (text "Unknown status") ∷ []) ∷ []
   -- "Awaited 30,000 ms closes, 29,999 not"; and a tick's time is the last
   pub awaited-long : outcomes up (pumped 3 ∷ later 29999 tick ∷ later 30000 tick ∷ later 29999 tick ∷ [])
-      ≡ says (aggregated (own 3) (text "C0") noon 0 ∷ []) ∷ quiet ∷ done [] (0 ∷ []) none ∷ refused 5 ∷ []
+      ≡ says (aggregated (own 3) (text "C0") noon 0 ∷ []) ∷ quiet ∷ done [] (0 ∷ []) none [] ∷ refused 5 ∷ []
   -- statuses: unknown component, unknown status, "Missing element" before "Bad value", 0 with false, a subscription, a first value
   pub statuses-told : outcomes up (atNoon (asks "StatusRequest" "C9\",\"sS\":[{\"sCI\":\"S1\",\"n\":\"release\"}]}")
       ∷ atNoon (asks "StatusRequest" "C0\",\"sS\":[{\"sCI\":\"S1\",\"n\":\"other\"}]}")
@@ -150,6 +150,22 @@ pub record Conversation : Type 0 where
       ∷ says (notAck theirId (text "Bad value") ∷ [])
       ∷ says (ack theirId ∷ [])
       ∷ quiet ∷ quiet ∷ quiet ∷ []
+  -- request 01: the lowest and the highest value are handed over in the order of the entries and answered; nothing is handed over where an entry
+  -- fails, "Bad value" of a range before "Unknown command", or where no component is called so
+  pub commands-handed : outcomes up (atNoon (asks "CommandRequest" "C1\",\"arg\":[{\"cCI\":\"M1\",\"n\":\"boom\",\"cO\":\"x\",\"v\":\"5\"},{\"cCI\":\"M1\",\"n\":\"boom\",\"cO\":\"x\",\"v\":\"-2\"}]}") ∷ [])
+      ≡ done (ack theirId ∷ statuses Command (own 15) (text "C1") noon (status (text "M1") (text "boom") (Recent (pos 5)) ∷ status (text "M1") (text "boom") (Recent (negsuc 1)) ∷ []) ∷ [])
+      [] none (commandOf 0 (pos 5) ∷ commandOf 0 (negsuc 1) ∷ [])
+      ∷ []
+  pub commands-kept : outcomes up (atNoon (asks "CommandRequest" "C1\",\"arg\":[{\"cCI\":\"M2\",\"n\":\"boom\",\"cO\":\"x\",\"v\":\"5\"},{\"cCI\":\"M1\",\"n\":\"boom\",\"cO\":\"x\",\"v\":\"6\"}]}")
+      ∷ atNoon (asks "CommandRequest" "C1\",\"arg\":[{\"cCI\":\"M1\",\"n\":\"boom\",\"cO\":\"x\",\"v\":\"5\"},{\"cCI\":\"M2\",\"n\":\"boom\",\"cO\":\"x\",\"v\":\"6\"}]}")
+      ∷ atNoon (asks "CommandRequest" "C1\",\"arg\":[{\"cCI\":\"M1\",\"n\":\"boom\",\"cO\":\"x\",\"v\":\"05\"}]}")
+      ∷ atNoon (asks "CommandRequest" "C9\",\"arg\":[{\"cCI\":\"M1\",\"n\":\"boom\",\"cO\":\"x\",\"v\":\"5\"}]}")
+      ∷ [])
+      ≡ says (notAck theirId (text "Bad value") ∷ [])
+      ∷ says (notAck theirId (text "Unknown command") ∷ [])
+      ∷ says (notAck theirId (text "Bad value") ∷ [])
+      ∷ says (ack theirId ∷ statuses Command (own 15) (text "C9") noon (status (text "M1") (text "boom") Undefined ∷ []) ∷ [])
+      ∷ []
   -- issued while Up, and issued by a tick for a link that it closes: the first stays as it was issued, the second is old
   pub old-issued : leaves up (atNoon (asks "StatusSubscribe" "C0\",\"sS\":[{\"sCI\":\"S1\",\"n\":\"release\",\"uRt\":\"30\",\"sOc\":true}]}")
       ∷ atNoon (statusValue 0 (negsuc 1))

@@ -24,6 +24,7 @@ use Rattle.machine.specs.State.{
   alarmAt,
   Act,
   Effect,
+  handing,
   effect,
   only,
 }
@@ -51,8 +52,8 @@ use Rattle.machine.specs.Life.{
 }
 use Rattle.machine.specs.Life.Due.{theVersion, theWatchdog, theAggregated, theAlarm, theHeld}
 use Rattle.machine.specs.Answers.{isAnswer, alarmAsked, wantsReply, reasonOf, failsCheck}
-use Rattle.machine.specs.Items.{withInput, ordered, happens, subscribe, unsubscribe, intervals, becomes, aggregates}
-use Rattle.machine.specs.Messages.{alarmMessage, aggregatedMessage, recordMessage, responseMessage}
+use Rattle.machine.specs.Items.{withInput, ordered, happens, subscribe, unsubscribe, intervals, becomes, commands, aggregates}
+use Rattle.machine.specs.Messages.{alarmMessage, aggregatedMessage, recordMessage, responseMessage, commandMessage}
 use Rattle.machine.specs.Pool.{settled, marked}
 
 -- ---- connect, disconnect, tick
@@ -176,6 +177,7 @@ carriedOut l t j m =
     else if isType "Alarm" j then alarmOrdered t j m (orElse 0 (alarmAsked m j))
     else if isType "StatusSubscribe" j then subscribe m t l j
     else if isType "StatusUnsubscribe" j then unsubscribe m l j
+    else if isType "CommandRequest" j then commands m j
     else only m
 
 -- "Request from the primary is answered, suspended or not, with states, last event and its time, carrying no record"
@@ -183,15 +185,16 @@ abbrev pub replyMessage : Machine → ℕ → Bytes → Json → Message
 replyMessage m t id j =
     if isType "Alarm" j then alarmMessage (m .setup .table) id (orElse 0 (alarmAsked m j)) (alarmAt m (orElse 0 (alarmAsked m j)))
     else if isType "AggregatedStatusRequest" j then aggregatedMessage (m .setup .table) id (m .aggregated) (m .aggregatedTime)
+    else if isType "CommandRequest" j then commandMessage m t id j
     else responseMessage m t id j
 
 -- "the answer first, behind the one before": MessageAck, and the reply where one is due
 unfoldable pub replying : ℕ → ℕ → Bytes → Json → Effect → Effect
 replying l t id j e =
     if wantsReply (e .leaves) l j then
-    effect (withLife l (awaiting id t noRecord (lifeAt (e .leaves) l)) (e .leaves)) (e .issues)
+    handing (e .commands) (withLife l (awaiting id t noRecord (lifeAt (e .leaves) l)) (e .leaves)) (e .issues)
     (ack (stringOf "mId" j) ∷ replyMessage (e .leaves) t id j ∷ []) (e .closed) (e .hint)
-    else effect (e .leaves) (e .issues) (ack (stringOf "mId" j) ∷ []) (e .closed) (e .hint)
+    else handing (e .commands) (e .leaves) (e .issues) (ack (stringOf "mId" j) ∷ []) (e .closed) (e .hint)
 
 unfoldable pub receives : ℕ → ℕ → Bytes → Machine → Json → Effect
 receives l t id m j =

@@ -5,6 +5,7 @@ use Prim.Native.String.{String}
 use mathlib.Core.Bool.{Bool, true, false}
 use mathlib.Core.List.{List, [], _∷_, _++_}
 use mathlib.Core.Option.{Option, some, none}
+use lib.IntN.{pos, negsuc}
 use lib.ListN.{replicate}
 use Rattle.basis.specs.Text.{text}
 use Rattle.table_whole.specs.Table.{Table}
@@ -38,8 +39,9 @@ table =
       site = text "BD1";
       sxl = text "1.0";
       components = text "C0" ∷ text "C1" ∷ [];
-      alarms = record { component = 1; priority = 2; category = 0; code = text "A1"; name = [] } ∷ [];
-      statuses = record { component = 0; priority = 0; category = 0; code = text "S1"; name = text "release" } ∷ [];
+      alarms = record { component = 1; priority = 2; category = 0; code = text "A1"; name = []; lowest = pos 0; highest = pos 0 } ∷ [];
+      statuses = record { component = 0; priority = 0; category = 0; code = text "S1"; name = text "release"; lowest = pos 0; highest = pos 0 } ∷ [];
+      commands = record { component = 1; priority = 0; category = 0; code = text "M1"; name = text "boom"; lowest = negsuc 1; highest = pos 5 } ∷ [];
     }
 
 abbrev pub noon : ℕ
@@ -102,10 +104,10 @@ greeting =
 
 -- ---- what a call gives
 abbrev pub quiet : Outcome
-quiet = done [] [] none
+quiet = done [] [] none []
 
 abbrev pub says : List Message → Outcome
-says ms = done ms [] none
+says ms = done ms [] none []
 
 -- alarm 0 as an Alarm tells it
 abbrev pub alarmNow : ℕ → ℕ → ℕ → Bool → Bool → Bool → Message

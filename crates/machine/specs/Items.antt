@@ -24,7 +24,10 @@ use Rattle.machine.specs.State.{
   withSubscriptions,
   lifeAt,
   valueAt,
+  Command,
+  commandOf,
   Effect,
+  handing,
   effect,
   only,
 }
@@ -32,7 +35,7 @@ use Rattle.machine.specs.State.Event.{Issue, Acknowledge, Suspend}
 use Rattle.machine.specs.State.Content.{ofAlarm, ofStatus, ofAggregated}
 use Rattle.machine.specs.Json.{booleanOf, entriesOf, elementIs}
 use Rattle.machine.specs.Life.{isUp}
-use Rattle.machine.specs.Answers.{interval, statusAsked}
+use Rattle.machine.specs.Answers.{interval, componentAsked, statusAsked, commandAsked, valueAsked}
 
 -- ---- alarms
 -- "An input equal to the state does nothing. Becoming active clears the acknowledgement."
@@ -148,6 +151,16 @@ becomes m i v t =
     if isNew v (valueAt m i) then
     effect (withStatus i v m) (map (λ s. statusFor m t (s .link) (some v) i) (upwards m (λ s. eqb (s .status) i and s .onChange))) [] [] none
     else only m
+
+-- ---- request 01: "A value in its range is handed to the host": the entries of a packet in order; of an unknown component nothing
+abbrev pub commandOfEntry : Machine → Json → Json → Command
+commandOfEntry m j e = commandOf (orElse 0 (commandAsked m j e)) (valueAsked e)
+
+abbrev pub commandsAsked : Machine → Json → List Command
+commandsAsked m j = if isSome (componentAsked m j) then map (commandOfEntry m j) (entriesOf "arg" j) else []
+
+unfoldable pub commands : Machine → Json → Effect
+commands m j = handing (commandsAsked m j) m [] [] [] none
 
 -- ---- "The aggregated value starts all false at the start time; a changed one issues a record for every link."
 unfoldable pub aggregates : Machine → ℕ → ℕ → Effect

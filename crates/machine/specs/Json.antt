@@ -6,6 +6,7 @@ use mathlib.Core.Bool.{Bool, true, false, not}
 use mathlib.Core.List.{List, [], _∷_, _++_, map}
 use mathlib.Core.Option.{Option, some, none}
 use lib.Dec.{eqb, leb}
+use lib.IntN.{ℤ, pos, negsuc}
 use lib.ListN.{length, take, replicate}
 use Rattle.basis.specs.Lists.{sameBytes}
 use Rattle.basis.specs.Text.{text}
@@ -92,6 +93,16 @@ isIdentityOf bytes s = sameBytes (lowered s) (identityText bytes)
 -- "decimal text without leading zeros", up to a limit
 abbrev pub numberIn : ℕ → Bytes → Option ℕ
 numberIn limit s = if leb (says 0 s) limit and sameBytes s (digits (says 0 s)) then some (says 0 s) else none
+
+-- request 01, "v, shortest decimal text": of a signed 32-bit number
+abbrev pub below : Option ℕ → Option ℤ
+below none = none
+below (some zero) = none
+below (some (suc n)) = some (negsuc n)
+
+abbrev pub integerIn : Bytes → Option ℤ
+integerIn [] = none
+integerIn (b ∷ s) = if eqb b 45 then below (numberIn 2147483648 s) else maybe none (λ n. some (pos n)) (numberIn 2147483647 (b ∷ s))
 
 -- "one to three dotted numbers, each 0 to 255 without leading zeros": the parts between dots
 abbrev pub grown : ℕ → List Bytes → List Bytes

@@ -1,4 +1,4 @@
--- Document 01: the messages that tell an alarm, the aggregated status, a record, and the answer to a StatusRequest.
+-- Document 01: the messages that tell an alarm, the aggregated status, a record, and the answers to a StatusRequest and a CommandRequest.
 -- Assumes nothing.
 use Prim.Native.Nat.{ℕ}
 use mathlib.Core.Bool.{Bool, false}
@@ -10,7 +10,7 @@ use Rattle.table_whole.specs.Table.{Row, Table}
 use Rattle.write_message.specs.declared.AlarmState.{AlarmState}
 use Rattle.write_message.specs.declared.Value.{Value}
 use Rattle.write_message.specs.declared.Value.the-variants.{Recent, Old, Unknown, Undefined}
-use Rattle.write_message.specs.declared.Told.the-variants.{Response, Update}
+use Rattle.write_message.specs.declared.Told.the-variants.{Response, Update, Command}
 use Rattle.write_message.specs.Message.{Message, Status, status}
 use Rattle.write_message.specs.Message.Message.{alarm, aggregated, statuses}
 use Rattle.machine.specs.Words.{Bytes, if_then_else_, maybe}
@@ -18,7 +18,7 @@ use Rattle.machine.specs.State.{eventNumber, Alarm, Content, Machine, va
 use Rattle.machine.specs.State.Content.{ofAlarm, ofStatus, ofAggregated}
 use Rattle.machine.specs.Json.{stringOf, entriesOf}
 use Rattle.machine.specs.Table.{componentText, alarmRow, statusRow}
-use Rattle.machine.specs.Answers.{componentAsked}
+use Rattle.machine.specs.Answers.{componentAsked, valueAsked}
 use Rattle.machine.specs.Items.{numberAsked}
 
 -- "Messages carry their record's time, else AggregatedStatus that of the last change, StatusResponse the call's."
@@ -60,3 +60,10 @@ answerEntry m j e =
 
 abbrev pub responseMessage : Machine → ℕ → Bytes → Json → Message
 responseMessage m t id j = statuses Response id (stringOf "cId" j) t (map (answerEntry m j) (entriesOf "sS" j))
+
+-- request 01: "A value in its range is .. answered with age recent; an unknown component is answered with age undefined and v null"
+abbrev pub commandEntry : Machine → Json → Json → Status
+commandEntry m j e = status (stringOf "cCI" e) (stringOf "n" e) (maybe Undefined (λ c. Recent (valueAsked e)) (componentAsked m j))
+
+abbrev pub commandMessage : Machine → ℕ → Bytes → Json → Message
+commandMessage m t id j = statuses Command id (stringOf "cId" j) t (map (commandEntry m j) (entriesOf "arg" j))

@@ -76,6 +76,14 @@ pub record Pool : Type 0 where
 abbrev pub poolOf : ℕ → List Held → List ℕ → Pool
 poolOf next held lost = record { next = next; held = held; lost = lost }
 
+-- ---- request 01, "A value in its range is handed to the host": a command's number in the table, and its value
+pub record Command : Type 0 where
+  pub number : ℕ
+  pub value : ℤ
+
+abbrev pub commandOf : ℕ → ℤ → Command
+commandOf number value = record { number = number; value = value }
+
 -- ---- a link's life
 -- what an awaited message was: our Version, a Watchdog of ours, one that carried the record of a number, any other
 pub data Sent : Type 0 where
@@ -184,22 +192,29 @@ pub record Call : Type 0 where
   pub time : ℕ
   pub act : Act
 
--- ---- "0: done; says how many output bytes were written, the links closed, and a clock hint": the messages tell the bytes
+-- ---- "0: done; says how many output bytes were written, the links closed, and a clock hint": the messages tell the bytes; and the
+-- commands that it hands over, in their order
 pub data Outcome : Type 0 where
   refused : (number : ℕ) → Outcome
-  done : (messages : List Message) (closed : List ℕ) (hint : Option ℕ) → Outcome
+  done : (messages : List Message) (closed : List ℕ) (hint : Option ℕ) (commands : List Command) → Outcome
 
 -- what a call lays down if nothing refuses it: the machine but for the records issued and the last time, those records in
--- order, the messages written, the links closed, the hint
+-- order, the messages written, the links closed, the hint, the commands handed over
 pub record Effect : Type 0 where
   pub leaves : Machine
   pub issues : List Issued
   pub messages : List Message
   pub closed : List ℕ
   pub hint : Option ℕ
+  pub commands : List Command
 
+abbrev pub handing : List Command → Machine → List Issued → List Message → List ℕ → Option ℕ → Effect
+handing commands m issues messages closed hint =
+    record { leaves = m; issues = issues; messages = messages; closed = closed; hint = hint; commands = commands }
+
+-- one that hands nothing over
 abbrev pub effect : Machine → List Issued → List Message → List ℕ → Option ℕ → Effect
-effect m issues messages closed hint = record { leaves = m; issues = issues; messages = messages; closed = closed; hint = hint }
+effect m issues messages closed hint = handing [] m issues messages closed hint
 
 abbrev pub only : Machine → Effect
 only m = effect m [] [] [] none

@@ -98,7 +98,7 @@ abbrev pub after : ℕ → Effect → Machine
 after t e = atEnd t (issueAll (e .issues) (e .leaves .pool)) (e .leaves)
 
 abbrev pub outcome : Effect → Outcome
-outcome e = done (e .messages) (e .closed) (e .hint)
+outcome e = done (e .messages) (e .closed) (e .hint) (e .commands)
 
 -- "All but 0 change nothing: state, last time and lent bytes stay."
 unfoldable pub step : Machine → Call → Outcome × Machine

@@ -28,15 +28,24 @@ alarmRow t i = getD (t .alarms) i noRow
 abbrev pub statusRow : Table → ℕ → Row
 statusRow t i = getD (t .statuses) i noRow
 
--- the number of a component by its id, of an alarm by component and code, of a status by component, code and name
+abbrev pub commandRow : Table → ℕ → Row
+commandRow t i = getD (t .commands) i noRow
+
+-- the number of a component by its id, of an alarm by component and code, of a status or a command by component, code and name
 abbrev pub componentOf : Table → Bytes → Option ℕ
 componentOf t id = placeOf (sameBytes id) (t .components)
 
 abbrev pub alarmNumber : Table → ℕ → Bytes → Option ℕ
 alarmNumber t c code = placeOf (λ r. eqb (r .component) c and sameBytes (r .code) code) (t .alarms)
 
+abbrev pub isCalled : ℕ → Bytes → Bytes → Row → Bool
+isCalled c code name r = eqb (r .component) c and sameBytes (r .code) code and sameBytes (r .name) name
+
 abbrev pub statusNumber : Table → ℕ → Bytes → Bytes → Option ℕ
-statusNumber t c code name = placeOf (λ r. eqb (r .component) c and sameBytes (r .code) code and sameBytes (r .name) name) (t .statuses)
+statusNumber t c code name = placeOf (isCalled c code name) (t .statuses)
+
+abbrev pub commandNumber : Table → ℕ → Bytes → Bytes → Option ℕ
+commandNumber t c code name = placeOf (isCalled c code name) (t .commands)
 
 -- "link count [1 to 4], primary (or none), watchdog period (1 to 3,600 seconds), first sequence number (0 to number 10's limit)
 -- and time (0 to 253402300799999)"
@@ -62,8 +71,8 @@ first t s =
     (replicate (s .links) (fresh false))
     (poolOf (s .first) [] (replicate (s .links) 0))
 
--- "11: start values, site table .. not accepted": the machine that a start makes, or none
+-- "11: start values, site table .. not accepted": the machine that a start makes, or none; "edition 1 tables are still read"
 pub data Begins (s : Start) : Option Machine → Type 0 where
-  begins : {t : Table} → Allowed t → tableBytes t ≡ s .table → goodStart s ≡ true → Begins s (some (first t s))
+  begins : {edition : ℕ} {t : Table} → Allowed edition t → tableBytes edition t ≡ s .table → goodStart s ≡ true → Begins s (some (first t s))
   not-good : goodStart s ≡ false → Begins s none
-  no-table : ((t : Table) → Allowed t → tableBytes t ≡ s .table → ⊥) → Begins s none
+  no-table : ((edition : ℕ) (t : Table) → Allowed edition t → tableBytes edition t ≡ s .table → ⊥) → Begins s none

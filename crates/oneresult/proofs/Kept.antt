@@ -4,8 +4,10 @@ use Prim.Native.Nat.{ℕ, _<_}
 use mathlib.Core.Path.{_≡_, refl, sym, ap, _∙_, subst}
 use mathlib.Core.Bool.{Bool, true, false, true≢false}
 use mathlib.Core.List.{List, [], _∷_}
+use mathlib.Core.Logic.{_⊎_, inl, inr}
 use native.Mathlib.Omega.{arith}
 use lib.ListN.{length}
+use Rattle.basis.proofs.Cases.{eq-or-ne}
 use Rattle.answer.specs.declared.Refusal.{Refusal}
 use Rattle.answer.specs.declared.Answer.{Answer}
 use Rattle.answer.specs.declared.Answer.the-variants.{Done, Refused}
@@ -21,7 +23,7 @@ use Rattle.table_whole.specs.Memory.{noTable}
 use Rattle.table_whole.proofs.Whole.{once as one-table}
 use Rattle.site.specs.declared.Site.{Site}
 use Rattle.site.specs.declared.Step.{Step}
-use Rattle.site.specs.Call.{Plan, Gives, outAfter}
+use Rattle.site.specs.Call.{Command, Plan, Gives, outAfter}
 use Rattle.store_site.specs.Layout.{siteOf}
 use Rattle.store_site.specs.Turns.{Plain}
 use Rattle.store_whole.specs.Image.{wordsOf, Wide}
@@ -34,7 +36,7 @@ use Rattle.write_message.specs.Message.Message.{ack}
 use Rattle.call_pump.specs.Pump.{Sends}
 use Rattle.sitec.specs.declared.Outcome.{Outcome}
 use Rattle.sitec.specs.Outcome.{outcomeOf}
-use Rattle.sitec.specs.Lent.{Words, WordsAndTable, Called, Told, Made, Started}
+use Rattle.sitec.specs.Lent.{Words, WordsAndTable, Called, Told, Handed, Made, Started}
 use Rattle.oneresult.specs.Once.{Once}
 use Rattle.oneresult.proofs.Readers.{ends-once, marks-once, judges-once, skipped-once}
 
@@ -58,6 +60,22 @@ called-once {t = t} {vs = vs} {us = us} f n p v u a b =
 told-once : {Fits : Type 0} {t : SiteTable} {time : ℕ} {refuses : Refusal → Bool} {p : Plan} {ws vs us xs ys zs : List ℕ} {r q : Outcome} → Fits → length ws ≡ 1173 → Plain ws → Wide vs → Wide us
     → Told Fits t time refuses p ws vs xs ys r → Told Fits t time refuses p ws us xs zs q → (r ≡ q) × (vs ≡ us) × (ys ≡ zs)
 told-once f n p v u a b = let e = called-once f n p v u (a .called) (b .called) in (e .0, e .1, a .out f ∙ sym (b .out f))
+
+-- the words lent for commands are told by the outcome
+words-handed : {Fits : Type 0} {commands : List Command} {cs ds es : List ℕ} {r q : Outcome} → Fits → r ≡ q → Handed Fits commands cs ds r → Handed Fits commands cs es q → ds ≡ es
+words-handed {ds = ds} {es = es} {r = r} {q = q} f e a b = by (eq-or-ne (r .number) 0)
+  where
+    also : r .number ≡ q .number
+    also = ap (λ (o : Outcome). o .number) e
+
+    by : (r .number ≡ 0) ⊎ (r .number ≡ 0 → ⊥) → ds ≡ es
+    by (inl z) = a .handed f z ∙ sym (b .handed f (sym also ∙ z))
+    by (inr n) = a .unhanded (omega (arith, n)) ∙ sym (b .unhanded (omega (arith, n, also)))
+
+handed-once : {Fits : Type 0} {t : SiteTable} {time : ℕ} {refuses : Refusal → Bool} {p : Plan} {ws vs us xs ys zs cs ds es : List ℕ} {r q : Outcome} → Fits → length ws ≡ 1173 → Plain ws → Wide vs → Wide us
+    → Told Fits t time refuses p ws vs xs ys r × Handed Fits (p .commands) cs ds r → Told Fits t time refuses p ws us xs zs q × Handed Fits (p .commands) cs es q
+    → (r ≡ q) × (vs ≡ us) × (ys ≡ zs) × (ds ≡ es)
+handed-once f n p v u a b = let e = told-once f n p v u (a .0) (b .0) in (e .0, e .1, e .2, words-handed f (e .0) (a .1) (b .1))
 
 module _ {b : List ℕ} {links primary period first time : ℕ} {ws vs us xs ys zs : List ℕ} {r q : Outcome} where
   by-step : (x : Step) → Made x vs ys r → Made x us zs q → Started b links primary period first time ws vs xs ys r → Started b links primary period first time ws us xs zs q
@@ -96,6 +114,7 @@ kept =
     record {
       called = λ {Fits} {t} {x} {ws} {vs} {us} {r} {q} f n p v u a b. called-once f n p v u a b;
       told = λ {Fits} {t} {time} {refuses} {p} {ws} {vs} {us} {xs} {ys} {zs} {r} {q} f n h v u a b. told-once f n h v u a b;
+      handed = λ {Fits} {t} {time} {refuses} {p} {ws} {vs} {us} {xs} {ys} {zs} {cs} {ds} {es} {r} {q} f n h v u a b. handed-once {p = p} f n h v u a b;
       started = λ {b} {links} {primary} {period} {first} {time} {ws} {vs} {us} {xs} {ys} {zs} {r} {q} f a c. started-once f a c;
       read = λ {A} {f} {none} {ws} {r} {q} h a b. a .reads h noTable ∙ sym (b .reads h noTable);
       starts = λ {b} {links} {primary} {period} {first} {time} {r} {q} x y. one-start links primary period first time x y;

@@ -39,7 +39,7 @@ use Rattle.call_start.specs.Starts.{Starts}
 use Rattle.packet_answer.specs.Ending.{Acks}
 use Rattle.call_pump.specs.Pump.{Sends}
 use Rattle.sitec.specs.declared.Outcome.{Outcome}
-use Rattle.sitec.specs.Lent.{Words, WordsAndTable, Called, Told, Started, Read as ReadOut}
+use Rattle.sitec.specs.Lent.{Words, WordsAndTable, Called, Told, Handed, Started, Read as ReadOut}
 use Rattle.table_whole.specs.declared.SiteTable.{SiteTable}
 use Rattle.store_site.specs.Turns.{Plain}
 use Rattle.store_whole.specs.Image.{Wide}
@@ -51,6 +51,10 @@ pub record Once : Type 1 where
       → Called Fits t x ws vs r → Called Fits t x ws us q → (r ≡ q) × (vs ≡ us)
   pub told : {Fits : Type 0} {t : SiteTable} {time : ℕ} {refuses : Refusal → Bool} {p : Plan} {ws vs us xs ys zs : List ℕ} {r q : Outcome} → Fits → length ws ≡ 1173 → Plain ws → Wide vs → Wide us
       → Told Fits t time refuses p ws vs xs ys r → Told Fits t time refuses p ws us xs zs q → (r ≡ q) × (vs ≡ us) × (ys ≡ zs)
+  -- a packet call, with the words lent for its commands
+  pub handed : {Fits : Type 0} {t : SiteTable} {time : ℕ} {refuses : Refusal → Bool} {p : Plan} {ws vs us xs ys zs cs ds es : List ℕ} {r q : Outcome} → Fits → length ws ≡ 1173 → Plain ws → Wide vs → Wide us
+      → Told Fits t time refuses p ws vs xs ys r × Handed Fits (p .commands) cs ds r → Told Fits t time refuses p ws us xs zs q × Handed Fits (p .commands) cs es q
+      → (r ≡ q) × (vs ≡ us) × (ys ≡ zs) × (ds ≡ es)
   pub started : {b : List ℕ} {links primary period first time : ℕ} {ws vs us xs ys zs : List ℕ} {r q : Outcome} → WordsAndTable ws xs
       → Started b links primary period first time ws vs xs ys r → Started b links primary period first time ws us xs zs q → (r ≡ q) × (vs ≡ us) × (ys ≡ zs)
   pub read : {A : Type 0} {f : Site → A} {none : A} {ws : List ℕ} {r q : A} → Words ws → ReadOut f none ws r → ReadOut f none ws q → r ≡ q

@@ -55,12 +55,13 @@ no-value rows i = List·getD-map noValue rows i noRow
 all-down : (n k l : ℕ) → SameLife (getD (replicate n closedLink) l closedLink) (getD (replicate k (fresh false)) l (fresh false))
 all-down n k l = rw (all-alike n l closedLink, all-alike k l (fresh false)) no-life
 
-module _ (t : Table) (v : Allowed t) (table : List ℕ) (links primary period q time : ℕ) (w : Within links primary period q time) where
+module _ (edition : ℕ) (t : Table) (v : Allowed edition t) (table : List ℕ) (links primary period q time : ℕ) (w : Within links primary period q time) where
   first-items : SameItems (freshSite (memoryOf t) links (primaryOf primary) period q time) (first t (startFor table links primary period q time))
   unfolding freshSite
   first-items =
       record {
         setup = record {
+          edition = edition;
           allowed = v;
           table = refl;
           links = refl;

@@ -25,6 +25,7 @@ use Rattle.refine_parts.proofs.Same.{same-answers}
 use Rattle.refine_parts.specs.Items.{SameItems, SameIssued, SameEffect}
 use Rattle.refine_calls.specs.Abstracts.{Abstracts}
 use Rattle.refine_calls.specs.Calls.{SamePlan}
+use Rattle.refine_calls.specs.Calls.SameCommands.{no-command}
 
 -- number 10: the records are counted on from the number that the call finds
 pub same-spent : (s : Site) (m : Machine) → Abstracts s m → (p : Plan) (e : Effect) → p .site .next ≡ s .next → SameIssued p (e .issues)
@@ -40,10 +41,11 @@ pub record OfItems (m : Machine) (e : Effect) : Type 0 where
   pub messages : e .messages ≡ []
   pub closed : e .closed ≡ []
   pub hint : e .hint ≡ none
+  pub commands : e .commands ≡ []
 
 with-items : (m n : Machine) (is : List Issued) → n .setup ≡ m .setup → n .last ≡ m .last → n .lives ≡ m .lives → n .pool ≡ m .pool
     → OfItems m (effect n is [] [] none)
-with-items m n is u t ls p = record { setup = u; last = t; lives = ls; pool = p; messages = refl; closed = refl; hint = refl }
+with-items m n is u t ls p = record { setup = u; last = t; lives = ls; pool = p; messages = refl; closed = refl; hint = refl; commands = refl }
 
 pub of-happens : (m : Machine) (i : ℕ) (o : Option Alarm) → OfItems m (happens m i o)
 unfolding happens
@@ -92,4 +94,5 @@ module _ (s : Site) (m : Machine) (h : Abstracts s m) (xs : List Slot) (vs : Lis
         messages = sym (o .messages);
         closed = rw (o .closed);
         hint = rw (o .hint);
+        commands = rw (o .commands) no-command;
       }

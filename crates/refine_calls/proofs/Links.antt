@@ -23,6 +23,7 @@ use Rattle.refine_parts.proofs.Questions.{same-phase}
 use Rattle.refine_parts.proofs.LifeActs.{acts}
 use Rattle.refine_calls.specs.Abstracts.{Abstracts}
 use Rattle.refine_calls.specs.Calls.{SameCall}
+use Rattle.refine_calls.specs.Calls.SameCommands.{no-command}
 use Rattle.refine_calls.specs.Links.{LinkCalls}
 use Rattle.refine_calls.specs.Links.OfLink.{connects, disconnects}
 use Rattle.refine_calls.proofs.Parts.{with-life, closed}
@@ -74,6 +75,7 @@ module _ (s : Site) (m : Machine) (h : Abstracts s m) (l t : ℕ) where
               messages = refl;
               closed = refl;
               hint = refl;
+              commands = no-command;
             };
       }
     where
@@ -95,6 +97,7 @@ module _ (s : Site) (m : Machine) (h : Abstracts s m) (l t : ℕ) where
               messages = refl;
               closed = omega arith;
               hint = refl;
+              commands = no-command;
             };
       }
 

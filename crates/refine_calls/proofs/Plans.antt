@@ -36,6 +36,7 @@ use Rattle.refine_parts.proofs.Entries.{entry-sequence}
 use Rattle.refine_parts.proofs.Same.{same-answers}
 use Rattle.refine_calls.specs.Abstracts.{Abstracts}
 use Rattle.refine_calls.specs.Calls.{SamePlan}
+use Rattle.refine_calls.specs.Calls.SameCommands.{no-command}
 use Rattle.refine_calls.proofs.Parts.{with-life}
 use Rattle.refine_calls.specs.Messages.{SameTexts, SameMessages}
 use Rattle.refine_calls.proofs.Messages.{messages}
@@ -52,6 +53,7 @@ sent-plan s m x y h e =
       messages = ap (λ (z : Message). z ∷ []) e;
       closed = refl;
       hint = refl;
+      commands = no-command;
     }
 
 module _ (s : Site) (m : Machine) (h : Abstracts s m) (l : ℕ) (b : l < m .setup .links) (t : ℕ) (id : Identity) (ok : Sendable (lifeAt m l) id) where

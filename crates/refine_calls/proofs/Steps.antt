@@ -114,22 +114,25 @@ module _ (s : Site) (m : Machine) (h : Abstracts s m) (c : Call) (same : SameCal
   abbrev Both : Answer → Outcome × Machine → Type 0
   Both x o = SameOutcome s c (stepped s next x .answer) (o .0) × Abstracts (stepped s next x .site) (o .1)
 
+  abbrev laid : Effect
+  laid = effectOf m (callFor c .time) (callFor c .act)
+
   done-both : numberOf m (callFor c) ≡ none
       → Both (Done (reportOf (planOf s c) (endOf s c)))
-      (outcome (effectOf m (callFor c .time) (callFor c .act)), after (callFor c .time) (effectOf m (callFor c .time) (callFor c .act)))
+      (outcome laid, after (callFor c .time) laid)
   done-both e = (
     subst (λ (ms : List Message). SameOutcome s c (Done (reportOf (planOf s c) (endOf s c)))
-        (done ms (effectOf m (callFor c .time) (callFor c .act) .closed) (effectOf m (callFor c .time) (callFor c .act) .hint)))
+        (done ms (laid .closed) (laid .hint) (laid .commands)))
         (q .messages)
-        (does-both (effectOf m (callFor c .time) (callFor c .act) .closed) (effectOf m (callFor c .time) (callFor c .act) .hint) (q .closed) (q .hint)),
-    subst (λ (t : ℕ). Abstracts (withIssued (planOf s c .site) (batchOf (planOf s c)) t) (after (callFor c .time) (effectOf m (callFor c .time) (callFor c .act))))
+        (does-both (laid .closed) (laid .hint) (laid .commands) (q .closed) (q .hint) (q .commands)),
+    subst (λ (t : ℕ). Abstracts (withIssued (planOf s c .site) (batchOf (planOf s c)) t) (after (callFor c .time) laid))
         (sym (same-time c))
-        (ended (planOf s c .site) (effectOf m (callFor c .time) (callFor c .act) .leaves) (q .leaves) (batchOf (planOf s c))
-        (issueAll (effectOf m (callFor c .time) (callFor c .act) .issues) (effectOf m (callFor c .time) (callFor c .act) .leaves .pool)) (callFor c .time)
-        (issued-all (planOf s c) (effectOf m (callFor c .time) (callFor c .act)) q (not-spent (batchOf (planOf s c)) (refuses s c) (same .number ∙ e)))),
+        (ended (planOf s c .site) (laid .leaves) (q .leaves) (batchOf (planOf s c))
+        (issueAll (laid .issues) (laid .leaves .pool)) (callFor c .time)
+        (issued-all (planOf s c) laid q (not-spent (batchOf (planOf s c)) (refuses s c) (same .number ∙ e)))),
   )
     where
-      q : SamePlan (planOf s c) (effectOf m (callFor c .time) (callFor c .act))
+      q : SamePlan (planOf s c) laid
       q = same .plan e
 
   both : Both (judged (issuing (batchOf (planOf s c)) (refuses s c)) inOrder (Done (reportOf (planOf s c) (endOf s c)))) (step m (callFor c))

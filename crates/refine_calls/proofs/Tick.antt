@@ -30,6 +30,7 @@ use Rattle.refine_parts.specs.Items.{SameIssued, SameEffect}
 use Rattle.refine_parts.proofs.ItemActs.{item-acts}
 use Rattle.refine_calls.specs.Abstracts.{Abstracts}
 use Rattle.refine_calls.specs.Calls.{SameCall}
+use Rattle.refine_calls.specs.Calls.SameCommands.{no-command}
 use Rattle.refine_calls.proofs.Links.{same-time}
 use Rattle.refine_calls.proofs.Items.{same-spent, of-intervals, items-changed}
 use Rattle.refine_calls.proofs.Inputs.{for-links, same-up}
@@ -114,6 +115,7 @@ module _ (s : Site) (m : Machine) (h : Abstracts s m) (t : ℕ) where
               messages = refl;
               closed = same-mask s m h t;
               hint = refl;
+              commands = no-command;
             };
       }
 

@@ -1,10 +1,11 @@
 -- What each call of the code must have in common with the machine's, and what follows of it for every call alike.
 -- Assumes nothing.
-use Prim.Native.Nat.{ℕ, _+_}
+use Prim.Native.Nat.{ℕ, _+_, _^_, _<_}
 use mathlib.Core.Path.{_≡_}
 use mathlib.Core.Bool.{Bool}
 use mathlib.Core.List.{List, [], _∷_}
 use mathlib.Core.Option.{Option, some, none}
+use lib.IntN.{ℤ}
 use lib.ListN.{length}
 use Rattle.basis.specs.Pick.{pick}
 use Rattle.answer.specs.declared.Refusal.{Refusal}
@@ -14,14 +15,15 @@ use Rattle.answer.specs.Number.{refusalNumber}
 use Rattle.answer.specs.Given.{Hint}
 use Rattle.answer.specs.Given.Hint.{none as noHint, clock}
 use Rattle.answer.specs.Order.{inOrder}
+use Rattle.number.specs.Signed.{Signed32}
 use Rattle.site.specs.declared.Site.{Site}
 use Rattle.site.specs.Site.{maskOf}
-use Rattle.site.specs.Call.{Plan, batchOf, issuing, reportOf}
+use Rattle.site.specs.Call.{Command, Plan, batchOf, issuing, reportOf}
 use Rattle.calls.specs.Calls.{Call, refuses, planOf, endOf, stepBy}
 use Rattle.calls.specs.Calls.Call.{connect, disconnect, packet, alarm, status, aggregated, tick, pump}
 use Rattle.sequences.specs.Typed.{Typed}
 use Rattle.machine.specs.Words.{maybe}
-use Rattle.machine.specs.State.{Machine, Call as MachineCall, Outcome, Effect}
+use Rattle.machine.specs.State.{Command as MachineCommand, commandOf, Machine, Call as MachineCall, Outcome, Effect}
 use Rattle.machine.specs.State.Act.{connect as connects, disconnect as disconnects, packet as receives, alarmInput, statusValue, aggregatedValue, tick as ticks, pump as pumps}
 use Rattle.machine.specs.State.Outcome.{refused, done}
 use Rattle.machine.specs.Effects.{effectOf}
@@ -55,6 +57,12 @@ maskFor (l ∷ ls) = maskOf l + maskFor ls
 abbrev pub hintFor : Option ℕ → Hint
 hintFor t = maybe noHint clock t
 
+-- the same commands are handed over, each a number and a value of 32 bits
+pub data SameCommands : List Command → List MachineCommand → Type 0 where
+  no-command : SameCommands [] []
+  one-command : {number : ℕ} {value : ℤ} {cs : List Command} {ds : List MachineCommand} → number < 2 ^ 32 → Signed32 value → SameCommands cs ds
+      → SameCommands (record { number = number; value = value } ∷ cs) (commandOf number value ∷ ds)
+
 -- what a call lays down, but for its records and its time
 pub record SamePlan (p : Plan) (e : Effect) : Type 0 where
   pub leaves : Abstracts (p .site) (e .leaves)
@@ -63,6 +71,7 @@ pub record SamePlan (p : Plan) (e : Effect) : Type 0 where
   pub messages : p .messages ≡ e .messages
   pub closed : p .closed ≡ maskFor (e .closed)
   pub hint : p .hint ≡ hintFor (e .hint)
+  pub commands : SameCommands (p .commands) (e .commands)
 
 pub record SameCall (s : Site) (m : Machine) (c : Call) : Type 0 where
   pub number : firstRefused (issuing (batchOf (planOf s c)) (refuses s c)) inOrder ≡ numberOf m (callFor c)
@@ -72,11 +81,12 @@ pub record SameCall (s : Site) (m : Machine) (c : Call) : Type 0 where
 abbrev pub SameFor : (Call → Type 0) → Type 0
 SameFor P = (s : Site) (m : Machine) → Abstracts s m → (c : Call) → P c → Typed c → SameCall s m c
 
--- what the host is told: the number, or the messages, the links closed and the hint
+-- what the host is told: the number, or the messages, the links closed, the hint and the commands
 pub data SameOutcome (s : Site) (c : Call) : Answer → Outcome → Type 0 where
   refuses-both : (r : Refusal) → SameOutcome s c (Refused r) (refused (refusalNumber r))
-  does-both : (closed : List ℕ) (hint : Option ℕ) → planOf s c .closed ≡ maskFor closed → planOf s c .hint ≡ hintFor hint
-      → SameOutcome s c (Done (reportOf (planOf s c) (endOf s c))) (done (planOf s c .messages) closed hint)
+  does-both : (closed : List ℕ) (hint : Option ℕ) (commands : List MachineCommand) → planOf s c .closed ≡ maskFor closed → planOf s c .hint ≡ hintFor hint
+      → SameCommands (planOf s c .commands) commands
+      → SameOutcome s c (Done (reportOf (planOf s c) (endOf s c))) (done (planOf s c .messages) closed hint commands)
 
 -- then the next site is the next machine
 pub record SameStep (s : Site) (m : Machine) (c : Call) : Type 0 where

@@ -19,7 +19,7 @@ use Rattle.site.specs.declared.Site.{Site}
 use Rattle.site.specs.Site.{roleOf}
 use Rattle.packet_answer.specs.Taken.{acked}
 use Rattle.machine.specs.Words.{Bytes, orElse, isNumber}
-use Rattle.machine.specs.State.{Machine, Effect, effect, withLife, lifeAt}
+use Rattle.machine.specs.State.{Machine, Effect, handing, withLife, lifeAt}
 use Rattle.machine.specs.State.Sent.{noRecord}
 use Rattle.machine.specs.Json.{stringOf}
 use Rattle.machine.specs.Life.{awaiting}
@@ -40,19 +40,19 @@ same-role s m h l b = ap (λ (q : ℕ). pick (eqb l q) Primary Secondary) (h .it
 
 module _ (m : Machine) (l t : ℕ) (id : Bytes) (j : Json) where
   unreplied : (e : Effect) → wantsReply (e .leaves) l j ≡ false
-      → replying l t id j e ≡ effect (e .leaves) (e .issues) (ack (stringOf "mId" j) ∷ []) (e .closed) (e .hint)
+      → replying l t id j e ≡ handing (e .commands) (e .leaves) (e .issues) (ack (stringOf "mId" j) ∷ []) (e .closed) (e .hint)
   unfolding replying
   unreplied e w =
       ap (λ (b : Bool). pick b
-      (effect (withLife l (awaiting id t noRecord (lifeAt (e .leaves) l)) (e .leaves)) (e .issues)
+      (handing (e .commands) (withLife l (awaiting id t noRecord (lifeAt (e .leaves) l)) (e .leaves)) (e .issues)
       (ack (stringOf "mId" j) ∷ replyMessage (e .leaves) t id j ∷ []) (e .closed) (e .hint))
-      (effect (e .leaves) (e .issues) (ack (stringOf "mId" j) ∷ []) (e .closed) (e .hint))) w
+      (handing (e .commands) (e .leaves) (e .issues) (ack (stringOf "mId" j) ∷ []) (e .closed) (e .hint))) w
 
 module _ (s : Site) (m : Machine) (l t : ℕ) (id : Identity) (j : Json) where
   -- e is what it does besides
   pub only-acked : (after : Site) (es : List Entry) (hint : Hint) (e : Effect) → carriedOut l t j m ≡ e
       → wantsReply m l j ≡ false → wantsReply (e .leaves) l j ≡ false → after .next ≡ s .next
-      → SamePlan (acked after es (stringOf "mId" j) hint .plan) (effect (e .leaves) (e .issues) (ack (stringOf "mId" j) ∷ []) (e .closed) (e .hint))
+      → SamePlan (acked after es (stringOf "mId" j) hint .plan) (handing (e .commands) (e .leaves) (e .issues) (ack (stringOf "mId" j) ∷ []) (e .closed) (e .hint))
       → SameTaken s m l t id j (acked after es (stringOf "mId" j) hint) none
   only-acked after es hint e c w v n p =
       record {

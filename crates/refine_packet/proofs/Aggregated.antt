@@ -68,7 +68,7 @@ module _ (s : Site) (m : Machine) (h : Abstracts s m) (l : ℕ) (b : l < m .setu
   sought g =
       ap (λ (x : SiteTable). componentSought x (f .label)) (h .items .setup .table)
       ∙ ap (componentSought (memoryOf (m .setup .table))) (Reads.kept .aggregated p j read .component g)
-      ∙ same-lookups (m .setup .table) (h .items .setup .allowed) .component (stringOf "cId" j)
+      ∙ same-lookups (h .items .setup .edition) (m .setup .table) (h .items .setup .allowed) .component (stringOf "cId" j)
 
   by-component : (z : Bool)
       → SameTaken s m l t id j

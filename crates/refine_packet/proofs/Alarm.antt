@@ -158,7 +158,7 @@ module _ (s : Site) (m : Machine) (h : Abstracts s m) (l : ℕ) (b : l < m .setu
         ap (λ (x : SiteTable). alarmSought x (f .component) (f .code)) (h .items .setup .table)
         ∙ ap (λ (x : Label). alarmSought (memoryOf (m .setup .table)) x (f .code)) (Reads.kept .alarm p j read .component g)
         ∙ ap (alarmSought (memoryOf (m .setup .table)) (labelOf (stringOf "cId" j))) (Reads.kept .alarm p j read .code g)
-        ∙ same-lookups (m .setup .table) (h .items .setup .allowed) .alarm (stringOf "cId" j) (stringOf "aCId" j)
+        ∙ same-lookups (h .items .setup .edition) (m .setup .table) (h .items .setup .allowed) .alarm (stringOf "cId" j) (stringOf "aCId" j)
 
     by-alarm : f .verdict ≡ Good → (c : ℕ) → componentAsked m j ≡ some c → (o : Option ℕ) → alarmNumber (m .setup .table) c (stringOf "aCId" j) ≡ o
         → SameTaken s m l t id j (orderedOf s l t id (stringOf "mId" j) (f .order) (maybe NoAlarm Found o)) (pick (isSome o) (busyIf m l asks) (some "Unknown alarm"))
@@ -167,7 +167,7 @@ module _ (s : Site) (m : Machine) (h : Abstracts s m) (l : ℕ) (b : l < m .setu
         subst (λ (x : Bool). SameTaken s m l t id j (ordered s l t id (stringOf "mId" j) k (f .order)) (busyIf m l (both x (isPrimary m l))))
         (sym (request-so j ty (f .order) (Reads.kept .alarm p j read .order g)))
         (by-order k
-        (omega (arith, same-lookups (m .setup .table) (h .items .setup .allowed) .alarm-there c (stringOf "aCId" j) k q, h .items .alarm-count))
+        (omega (arith, same-lookups (h .items .setup .edition) (m .setup .table) (h .items .setup .allowed) .alarm-there c (stringOf "aCId" j) k q, h .items .alarm-count))
         (ap foundIn e ∙ q) (f .order) (Reads.kept .alarm p j read .order g))
 
     by-component : f .verdict ≡ Good → (o : Option ℕ) → componentAsked m j ≡ o

@@ -45,7 +45,7 @@ next-is : (s : Site) (l : ℕ) (k : Identity) (a : Bool) → answeredPlan s l k 
 next-is s l k a = by (closesOf (linkAt s l) k a) (findOf (linkAt s l .awaited) k)
   where
     by : (c : Bool) (o : Found)
-        → pick c (record { site = closeAt s l; issued = []; messages = []; closed = maskOf l; hint = noHint }) (only (withLink (settled s l o) l (answeredOf (linkAt s l) k a))) .site .next ≡ s .next
+        → pick c (record { site = closeAt s l; issued = []; messages = []; closed = maskOf l; hint = noHint; commands = [] }) (only (withLink (settled s l o) l (answeredOf (linkAt s l) k a))) .site .next ≡ s .next
     by true o = refl
     by false Nothing = refl
     by false (For Version) = refl

@@ -14,7 +14,7 @@ use Rattle.json_value.specs.Grammar.{Json}
 use Rattle.link.specs.Phase.{phaseOf, isBeating as isBeatingIn}
 use Rattle.link.specs.Steps.{mayJudgeOf}
 use Rattle.read_head.specs.declared.Kind.{Kind}
-use Rattle.read_head.specs.declared.Kind.the-variants.{Version, Watchdog, Alarm, AggregatedStatusRequest, StatusRequest, StatusSubscribe, StatusUnsubscribe, Unexpected}
+use Rattle.read_head.specs.declared.Kind.the-variants.{Version, Watchdog, Alarm, AggregatedStatusRequest, StatusRequest, StatusSubscribe, StatusUnsubscribe, CommandRequest, Unexpected}
 use Rattle.site.specs.declared.Site.{Site}
 use Rattle.site.specs.Site.{linkAt}
 use Rattle.packet_answer.specs.Taken.{Taken, notAcked, unexpected, notReady}
@@ -25,7 +25,7 @@ use Rattle.machine.specs.Json.{readPacket, stringAt, stringOf, isType}
 use Rattle.machine.specs.Life.{isOver, isGreeting, isBeating}
 use Rattle.machine.specs.Answers.{isUnexpected}
 use Rattle.refine_read.specs.Verdicts.{verdictIn}
-use Rattle.refine_read.specs.Head.{kindOf, mTypeOf, Typed, version, watchdog, alarm, aggregated-request, status-request, status-subscribe, status-unsubscribe, not-taken}
+use Rattle.refine_read.specs.Head.{kindOf, mTypeOf, Typed, version, watchdog, alarm, aggregated-request, status-request, status-subscribe, status-unsubscribe, command-request, not-taken}
 use Rattle.refine_read.specs.Reasons.{byVerdict, furtherReason, reasonBy}
 use Rattle.refine_read.proofs.Kept as Reads
 use Rattle.refine_parts.proofs.Questions.{questions}
@@ -39,6 +39,7 @@ use Rattle.refine_packet.specs.Ordered.{IsUp}
 use Rattle.refine_packet.proofs.Alarm.{same-alarm}
 use Rattle.refine_packet.proofs.Aggregated.{same-aggregated}
 use Rattle.refine_packet.proofs.Statuses.{same-statuses}
+use Rattle.refine_packet.proofs.Commands.{same-command}
 
 -- ---- the phases: connected, not Greeting, not Beating
 beats-is : (c v w : Bool) → not c ≡ false → both c (not v) ≡ false → pick (both c (both v (not w))) true (both c (both v w)) ≡ true
@@ -155,6 +156,8 @@ module _ (s : Site) (m : Machine) (h : Abstracts s m) (l : ℕ) (b : l < m .setu
         staged StatusSubscribe (rw ty) (λ e. rw (same-beating, ty)) (λ e n. same-statuses .status-subscribe s m h l b (is-up (rw ty) (rw ty) n) t id v p j read ty)
     by-type k (status-unsubscribe ty) =
         staged StatusUnsubscribe (rw ty) (λ e. rw (same-beating, ty)) (λ e n. same-statuses .status-unsubscribe s m h l b (is-up (rw ty) (rw ty) n) t id v p j read ty)
+    by-type k (command-request ty) =
+        staged CommandRequest (rw ty) (λ e. rw (same-beating, ty)) (λ e n. same-command s m h l b (is-up (rw ty) (rw ty) n) t id v p j read ty)
     by-type k (not-taken f) =
         let u : isUnexpected (lifeAt m l) j ≡ true =
         ap (λ (c : Bool). pick (not c) true (both (isType "Version" j) (pick (not (lifeAt m l .versions .sent)) true (lifeAt m l .versions .taken)))) f in

@@ -26,6 +26,7 @@ use Rattle.demand_held.proofs.Lists.Each.{no-more, one-more}
 use Rattle.demand_held.proofs.Issue.{For}
 use Rattle.refine_parts.specs.Items.{SameEffect}
 use Rattle.refine_calls.specs.Abstracts.{Abstracts}
+use Rattle.refine_calls.specs.Calls.SameCommands.{no-command}
 use Rattle.refine_packet.specs.Taken.{SameTaken}
 use Rattle.refine_packet.proofs.Acked.{only-acked}
 
@@ -53,6 +54,7 @@ module _ (s : Site) (m : Machine) (h : Abstracts s m) where
           messages = refl;
           closed = refl;
           hint = refl;
+          commands = no-command;
         })
     changed (some a) c w e =
         only-acked s m l t id j (withAlarmIn s k (orderOf (alarmIn s k) order t .alarm)) (recordsOf s k (orderOf (alarmIn s k) order t)) noHint
@@ -64,4 +66,5 @@ module _ (s : Site) (m : Machine) (h : Abstracts s m) where
           messages = refl;
           closed = refl;
           hint = refl;
+          commands = no-command;
         })

@@ -3,13 +3,14 @@
 use Prim.Native.Nat.{ℕ, _<_}
 use mathlib.Core.Path.{_≡_, refl, sym, ap, ap₂, _∙_}
 use mathlib.Core.Bool.{Bool, true, false, not}
-use mathlib.Core.List.{List, [], _∷_}
+use mathlib.Core.List.{List, [], _∷_, _++_, map}
 use mathlib.Core.Option.{Option, some, none}
 use lib.ListN.{length, getD}
 use native.Mathlib.Omega.{arith}
 use Rattle.basis.specs.Pick.{pick, both}
 use Rattle.basis.proofs.Both.{untrue}
-use Rattle.label.specs.Label.{textOf}
+use Rattle.label.specs.declared.Label.{Label}
+use Rattle.label.specs.Label.{labelOf, textOf}
 use Rattle.table_whole.specs.declared.SiteTable.{SiteTable}
 use Rattle.table_whole.specs.Memory.{memoryOf}
 use Rattle.json_value.specs.Grammar.{Json}
@@ -28,16 +29,17 @@ use Rattle.refine_read.specs.Reasons.{anyUnknown}
 use Rattle.refine_read.proofs.Kept as Reads
 use Rattle.refine_read.specs.Statuses.{entryOf, StatusReads}
 use Rattle.refine_read.proofs.Indexed.{done, by-places}
+use Rattle.refine_parts.proofs.ItemLists.{append-nil, append-assoc}
 use Rattle.refine_calls.specs.Abstracts.{Abstracts}
 use Rattle.refine_packet.specs.Lookups.{soughtFor}
 use Rattle.refine_packet.proofs.Lookups.{same-lookups}
 
-is-sought : (o : Option ℕ) → isSought (soughtFor o) ≡ isSome o
+pub is-sought : (o : Option ℕ) → isSought (soughtFor o) ≡ isSome o
 is-sought none = refl
 is-sought (some k) = refl
 
 -- all pass where none fails
-all-pass : {A : Type 0} (q : A → Bool) (x : Bool) (xs : List A) → done (λ y a. both y (q a)) x xs ≡ both x (not (any (λ a. not (q a)) xs))
+pub all-pass : {A : Type 0} (q : A → Bool) (x : Bool) (xs : List A) → done (λ y a. both y (q a)) x xs ≡ both x (not (any (λ a. not (q a)) xs))
 all-pass q true [] = refl
 all-pass q false [] = refl
 all-pass q x (a ∷ xs) = all-pass q (both x (q a)) xs ∙ by x (q a)
@@ -47,17 +49,26 @@ all-pass q x (a ∷ xs) = all-pass q (both x (q a)) xs ∙ by x (q a)
     by true false = refl
     by false z = refl
 
+-- entry after entry, each behind the ones before
+pub each-behind : {A B : Type 0} (k : A → B) (ys : List B) (xs : List A) → done (λ zs a. zs ++ (k a ∷ [])) ys xs ≡ ys ++ map k xs
+each-behind k ys [] = sym (append-nil ys)
+each-behind k ys (x ∷ xs) = each-behind k (ys ++ (k x ∷ [])) xs ∙ append-assoc ys (k x ∷ []) (map k xs)
+
+-- the component that a packet names
+pub named-component : (s : Site) (m : Machine) → Abstracts s m → (j : Json) (id : Label) → id ≡ labelOf (stringOf "cId" j) → componentSought (s .table) id ≡ soughtFor (componentAsked m j)
+named-component s m h j id e =
+    ap (λ (x : SiteTable). componentSought x id) (h .items .setup .table)
+    ∙ ap (componentSought (memoryOf (m .setup .table))) e
+    ∙ same-lookups (h .items .setup .edition) (m .setup .table) (h .items .setup .allowed) .component (stringOf "cId" j)
+
 module _ (s : Site) (m : Machine) (h : Abstracts s m) (subscribing : Bool) (j : Json) (f : StatusFields) (r : StatusReads subscribing j f) (g : f .verdict ≡ Good) where
   pub component-sought : componentSought (s .table) (f .component) ≡ soughtFor (componentAsked m j)
-  component-sought =
-      ap (λ (x : SiteTable). componentSought x (f .component)) (h .items .setup .table)
-      ∙ ap (componentSought (memoryOf (m .setup .table))) (r .component g)
-      ∙ same-lookups (m .setup .table) (h .items .setup .allowed) .component (stringOf "cId" j)
+  component-sought = named-component s m h j (f .component) (r .component g)
 
   module _ (c : ℕ) (asked : componentAsked m j ≡ some c) where
     pub entry-sought : (e : Json) → statusSought (memoryOf (m .setup .table)) c (entryOf subscribing e) ≡ soughtFor (statusAsked m j e)
     entry-sought e =
-        same-lookups (m .setup .table) (h .items .setup .allowed) .status c (entryOf subscribing e)
+        same-lookups (h .items .setup .edition) (m .setup .table) (h .items .setup .allowed) .status c (entryOf subscribing e)
         ∙ ap₂ (λ (x y : Bytes). soughtFor (statusNumber (m .setup .table) c x y)) (Reads.kept .kept (stringOf "sCI" e)) (Reads.kept .kept (stringOf "n" e))
         ∙ sym (ap (λ (o : Option ℕ). soughtFor (maybe none (λ (x : ℕ). statusNumber (m .setup .table) x (stringOf "sCI" e) (stringOf "n" e)) o)) asked)
 
@@ -80,7 +91,7 @@ module _ (s : Site) (m : Machine) (h : Abstracts s m) (subscribing : Bool) (j : 
     there e k q =
         omega (
           arith,
-          same-lookups (m .setup .table) (h .items .setup .allowed) .status-there c (stringOf "sCI" e) (stringOf "n" e) k
+          same-lookups (h .items .setup .edition) (m .setup .table) (h .items .setup .allowed) .status-there c (stringOf "sCI" e) (stringOf "n" e) k
               (sym (ap (maybe none (λ (x : ℕ). statusNumber (m .setup .table) x (stringOf "sCI" e) (stringOf "n" e))) asked) ∙ q),
           h .items .status-count,
         )

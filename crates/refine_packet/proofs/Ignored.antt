@@ -13,7 +13,7 @@ use Rattle.link.specs.declared.Link.{Link}
 use Rattle.link.specs.declared.Phase.the-variants.{Down, Greeting, Beating, Up}
 use Rattle.link.specs.Phase.{phaseOf}
 use Rattle.read_head.specs.declared.Kind.{Kind}
-use Rattle.read_head.specs.declared.Kind.the-variants.{Version, Watchdog, Alarm, AggregatedStatusRequest, StatusRequest, StatusSubscribe, StatusUnsubscribe, Unexpected}
+use Rattle.read_head.specs.declared.Kind.the-variants.{Version, Watchdog, Alarm, AggregatedStatusRequest, StatusRequest, StatusSubscribe, StatusUnsubscribe, CommandRequest, Unexpected}
 use Rattle.read_head.specs.declared.Class.{Class}
 use Rattle.read_head.specs.declared.Class.the-variants.{Ignored, Acked, NotAcked, Asked}
 use Rattle.read_head.specs.Head.{headAt}
@@ -44,6 +44,7 @@ not-version AggregatedStatusRequest = refl
 not-version StatusRequest = refl
 not-version StatusSubscribe = refl
 not-version StatusUnsubscribe = refl
+not-version CommandRequest = refl
 not-version Unexpected = refl
 
 module _ (k : Link) (x : Life) (h : SameLife k x) where

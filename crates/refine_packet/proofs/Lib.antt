@@ -16,6 +16,7 @@ pub mod Changes
 pub mod Subscribing
 pub mod Request
 pub mod Statuses
+pub mod Commands
 pub mod Ignored
 pub mod Numbers
 pub mod Answers

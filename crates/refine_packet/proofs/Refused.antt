@@ -17,7 +17,7 @@ use Rattle.read_head.specs.declared.Verdict.{Verdict}
 use Rattle.read_head.specs.declared.Verdict.the-variants.{Good, Missing, Bad}
 use Rattle.site.specs.declared.Site.{Site}
 use Rattle.site.specs.Site.{closeAt, maskOf}
-use Rattle.packet_answer.specs.Taken.{Taken, notAcked, closing, byVerdict, missingElement, badValue, unexpected, notReady, rsmpVersion, siteId, sxlVersion, unknownComponent, unknownAlarm, unknownStatus, busy}
+use Rattle.packet_answer.specs.Taken.{Taken, notAcked, closing, byVerdict, missingElement, badValue, unexpected, notReady, rsmpVersion, siteId, sxlVersion, unknownComponent, unknownAlarm, unknownStatus, unknownCommand, busy}
 use Rattle.machine.specs.State.{Machine, Effect, effect}
 use Rattle.machine.specs.Json.{stringOf}
 use Rattle.machine.specs.Answers.{failsCheck}
@@ -44,8 +44,8 @@ module _ (s : Site) (m : Machine) (h : Abstracts s m) (l : ℕ) (b : l < m .setu
         replies = refl;
         next = refl;
         plan = λ u.
-            subst (λ (bs : List ℕ). SamePlan (record { site = s; issued = []; messages = notAck (stringOf "mId" j) bs ∷ []; closed = 0; hint = noHint }) (refuses l j m r)) (sym e)
-            (subst (SamePlan (record { site = s; issued = []; messages = refusal j r ∷ []; closed = 0; hint = noHint })) (sym (stays l j m r f)) (left s m h (refusal j r ∷ [])));
+            subst (λ (bs : List ℕ). SamePlan (record { site = s; issued = []; messages = notAck (stringOf "mId" j) bs ∷ []; closed = 0; hint = noHint; commands = [] }) (refuses l j m r)) (sym e)
+            (subst (SamePlan (record { site = s; issued = []; messages = refusal j r ∷ []; closed = 0; hint = noHint; commands = [] })) (sym (stays l j m r f)) (left s m h (refusal j r ∷ [])));
       }
 
   closed-for : (n : ℕ) (r : String) → nameOf n ≡ text r → failsCheck r ≡ true → SameTaken s m l t id j (closing s l (stringOf "mId" j) n) (some r)
@@ -54,8 +54,8 @@ module _ (s : Site) (m : Machine) (h : Abstracts s m) (l : ℕ) (b : l < m .setu
         replies = refl;
         next = refl;
         plan = λ u.
-            subst (λ (bs : List ℕ). SamePlan (record { site = closeAt s l; issued = []; messages = notAck (stringOf "mId" j) bs ∷ []; closed = maskOf l; hint = noHint }) (refuses l j m r)) (sym e)
-            (subst (SamePlan (record { site = closeAt s l; issued = []; messages = refusal j r ∷ []; closed = maskOf l; hint = noHint })) (sym (goes l j m r f)) (shut s m h l b (refusal j r ∷ [])));
+            subst (λ (bs : List ℕ). SamePlan (record { site = closeAt s l; issued = []; messages = notAck (stringOf "mId" j) bs ∷ []; closed = maskOf l; hint = noHint; commands = [] }) (refuses l j m r)) (sym e)
+            (subst (SamePlan (record { site = closeAt s l; issued = []; messages = refusal j r ∷ []; closed = maskOf l; hint = noHint; commands = [] })) (sym (goes l j m r f)) (shut s m h l b (refusal j r ∷ [])));
       }
 
   pub reasons : SameReasons s m l t id j
@@ -71,6 +71,7 @@ module _ (s : Site) (m : Machine) (h : Abstracts s m) (l : ℕ) (b : l < m .setu
         unknown-component = noted unknownComponent "Unknown component" refl refl;
         unknown-alarm = noted unknownAlarm "Unknown alarm" refl refl;
         unknown-status = noted unknownStatus "Unknown status" refl refl;
+        unknown-command = noted unknownCommand "Unknown command" refl refl;
         is-busy = noted busy "Busy" refl refl;
       }
 

@@ -50,9 +50,8 @@ use Rattle.refine_read.specs.Reasons.{byVerdict as reasonBy, furtherReason, bus
 use Rattle.refine_read.proofs.Kept as Reads
 use Rattle.refine_read.specs.Statuses.{isRead, entryOf, StatusReads}
 use Rattle.refine_read.proofs.ListsKept as Lists
-use Rattle.refine_read.proofs.Indexed.{done, by-places}
+use Rattle.refine_read.proofs.Indexed.{by-places}
 use Rattle.refine_parts.specs.Items.{statusFor}
-use Rattle.refine_parts.proofs.ItemLists.{append-nil, append-assoc}
 use Rattle.refine_calls.specs.Abstracts.{Abstracts}
 use Rattle.refine_packet.specs.Lookups.{soughtFor}
 use Rattle.refine_packet.specs.Taken.{SameTaken}
@@ -60,7 +59,7 @@ use Rattle.refine_packet.proofs.Refused.{reasons, by-verdict}
 use Rattle.refine_packet.specs.Ordered.{IsUp}
 use Rattle.refine_packet.proofs.Replied.{reply}
 use Rattle.refine_packet.specs.Statuses.{SameStatusRequest}
-use Rattle.refine_packet.proofs.Entries.{component-sought, sought-at, all-known, there, first-known}
+use Rattle.refine_packet.proofs.Entries.{each-behind, component-sought, sought-at, all-known, there, first-known}
 
 module _ (j : Json) (ty : stringAt "type" j ≡ some (text "StatusRequest")) where
   is-request : isType "StatusRequest" j ≡ true
@@ -83,11 +82,6 @@ module _ (j : Json) (ty : stringAt "type" j ≡ some (text "StatusRequest")) whe
 value-same : (o : Option ℤ) → ((v : ℤ) → o ≡ some v → Signed32 v) → statusValue (statusFor o) ≡ valueIn false o
 value-same none f = refl
 value-same (some v) f = ap Recent (signed-word v (f v refl))
-
--- entry after entry, each behind the ones before
-each-behind : {A B : Type 0} (k : A → B) (ys : List B) (xs : List A) → done (λ zs a. zs ++ (k a ∷ [])) ys xs ≡ ys ++ map k xs
-each-behind k ys [] = sym (append-nil ys)
-each-behind k ys (x ∷ xs) = each-behind k (ys ++ (k x ∷ [])) xs ∙ append-assoc ys (k x ∷ []) (map k xs)
 
 map-known : {A B : Type 0} (q : A → Bool) (k n : A → B) → ((a : A) → q a ≡ true → k a ≡ n a) → (xs : List A) → any (λ a. not (q a)) xs ≡ false → map k xs ≡ map n xs
 map-known q k n e [] u = refl

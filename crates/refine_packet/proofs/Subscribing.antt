@@ -39,6 +39,7 @@ use Rattle.refine_read.proofs.ListsKept as Lists
 use Rattle.refine_parts.specs.Items.{SameIssued}
 use Rattle.refine_calls.specs.Abstracts.{Abstracts}
 use Rattle.refine_calls.specs.Calls.{SamePlan}
+use Rattle.refine_calls.specs.Calls.SameCommands.{no-command}
 use Rattle.refine_packet.specs.Lookups.{soughtFor}
 use Rattle.refine_packet.specs.Taken.{SameTaken}
 use Rattle.refine_packet.proofs.Refused.{reasons, by-verdict}
@@ -70,7 +71,7 @@ module _ (s : Site) (m : Machine) (h : Abstracts s m) (l : ℕ) (b : l < m .setu
     effect-so false = refl
 
     issued-so : (z : Bool) (after : Site)
-        → SameIssued (record { site = after; issued = pick z (records s l t c (f .entries) (f .count)) []; messages = ack (stringOf "mId" j) ∷ []; closed = 0; hint = noHint }) (issuedBy z)
+        → SameIssued (record { site = after; issued = pick z (records s l t c (f .entries) (f .count)) []; messages = ack (stringOf "mId" j) ∷ []; closed = 0; hint = noHint; commands = [] }) (issuedBy z)
     issued-so true after = record { issued = records-so s m h l b t subscribing j f r g c a k; told = all-told s m h l b t subscribing j f r g c a (entriesOf "sS" j) k }
     issued-so false after = record { issued = refl; told = no-more }
 
@@ -91,6 +92,7 @@ module _ (s : Site) (m : Machine) (h : Abstracts s m) (l : ℕ) (b : l < m .setu
           messages = refl;
           closed = refl;
           hint = refl;
+          commands = no-command;
         })
 
   by-known : (g : f .verdict ≡ Good) (c : ℕ) → componentAsked m j ≡ some c → (z : Bool) → anyUnknown m j ≡ z

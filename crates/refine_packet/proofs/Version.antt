@@ -39,6 +39,7 @@ use Rattle.refine_read.specs.Versions.{numberOf, checked, failed, Ours, Version
 use Rattle.refine_read.proofs.VersionsKept as Versions
 use Rattle.refine_parts.proofs.LifeActs.{acts}
 use Rattle.refine_calls.specs.Abstracts.{Abstracts}
+use Rattle.refine_calls.specs.Calls.SameCommands.{no-command}
 use Rattle.refine_calls.proofs.Parts.{with-life}
 use Rattle.refine_packet.specs.Taken.{SameTaken}
 use Rattle.refine_packet.proofs.Refused.{reasons, by-verdict}
@@ -87,6 +88,7 @@ module _ (s : Site) (m : Machine) (h : Abstracts s m) (l : ℕ) (b : l < m .setu
         messages = refl;
         closed = refl;
         hint = refl;
+        commands = no-command;
       })
 
   -- it is one of ours

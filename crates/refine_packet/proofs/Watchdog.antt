@@ -34,6 +34,7 @@ use Rattle.refine_read.proofs.Kept as Reads
 use Rattle.refine_parts.proofs.LifeActs.{acts}
 use Rattle.refine_calls.specs.Abstracts.{Abstracts}
 use Rattle.refine_calls.specs.Calls.{hintFor}
+use Rattle.refine_calls.specs.Calls.SameCommands.{no-command}
 use Rattle.refine_calls.proofs.Parts.{with-life}
 use Rattle.refine_packet.specs.Taken.{SameTaken}
 use Rattle.refine_packet.proofs.Refused.{by-verdict}
@@ -78,6 +79,7 @@ module _ (s : Site) (m : Machine) (h : Abstracts s m) (l : ℕ) (b : l < m .setu
         messages = refl;
         closed = refl;
         hint = same-hint g;
+        commands = no-command;
       })
 
   taken : SameTaken s m l t id j (watchdogTaken s l (stringOf "mId" j) f) (reasonBy (verdictIn j) (furtherReason m l j))

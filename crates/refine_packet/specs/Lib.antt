@@ -6,5 +6,6 @@ pub mod Refused
 pub mod Greeted
 pub mod Ordered
 pub mod Statuses
+pub mod Commands
 pub mod Heard
 pub mod Packet

@@ -20,6 +20,7 @@ use Rattle.packet_answer.specs.Taken.{
   unknownComponent,
   unknownAlarm,
   unknownStatus,
+  unknownCommand,
   busy,
 }
 use Rattle.machine.specs.State.{Machine}
@@ -43,6 +44,7 @@ module _ (s : Site) (m : Machine) (l t : ℕ) (id : Identity) (j : Json) where
     pub unknown-component : Same (notAcked s (stringOf "mId" j) unknownComponent) "Unknown component"
     pub unknown-alarm : Same (notAcked s (stringOf "mId" j) unknownAlarm) "Unknown alarm"
     pub unknown-status : Same (notAcked s (stringOf "mId" j) unknownStatus) "Unknown status"
+    pub unknown-command : Same (notAcked s (stringOf "mId" j) unknownCommand) "Unknown command"
     pub is-busy : Same (notAcked s (stringOf "mId" j) busy) "Busy"
 
 abbrev pub SameRefused : Type 0

@@ -13,7 +13,6 @@ use lib.Seq.{getD-set-same, getD-set-other}
 use borrow.Author.Tests.{lt-ltb, le-ltb}
 use Rattle.basis.specs.Pick.{pick, both, bit}
 use Rattle.basis.proofs.Cases.{eq-or-ne}
-use Rattle.table_whole.specs.Allowed.{Allowed}
 use Rattle.alarm.specs.declared.Changed.{Changed}
 use Rattle.alarm.specs.Alarm.{beginning, inputOf, acknowledgeOf, suspendOf}
 use Rattle.alarm.specs.Issued.{issuedOf}
@@ -122,8 +121,8 @@ module _ (s : Site) (m : Machine) (h : SameItems s m) where
 
   module _ (i : ℕ) (b : i < length (m .alarms)) where
     -- i is one of the places
-    placed : Allowed (m .setup .table) → i < length (s .alarms)
-    placed a = omega (arith, h .alarm-places, h .alarm-count, b, a .most-alarms)
+    placed : i < length (s .alarms)
+    placed = omega (arith, h .alarm-places, h .alarm-count, b, h .setup .allowed .most-alarms)
 
     pub alarm-set : (a : Alarm) → SameItems (withAlarmIn s i (alarmFor a)) (withAlarm i a m)
     alarm-set a =
@@ -147,7 +146,7 @@ module _ (s : Site) (m : Machine) (h : SameItems s m) where
         at : (j : ℕ) → j < length (withAlarm i a m .alarms) → (j ≡ i) ⊎ (j ≡ i → ⊥)
             → alarmIn (withAlarmIn s i (alarmFor a)) j ≡ alarmFor (alarmAt (withAlarm i a m) j)
         at j e (inl q) =
-            rw q (getD-set-same (s .alarms) i (alarmFor a) (beginning 0) (placed (h .setup .allowed))
+            rw q (getD-set-same (s .alarms) i (alarmFor a) (beginning 0) placed
             ∙ sym (ap alarmFor (getD-changed-same (λ (x : Alarm). a) (alarmOf false true false Issue 0) (m .alarms) i b)))
         at j e (inr q) =
             getD-set-other (s .alarms) i j (alarmFor a) (beginning 0) q

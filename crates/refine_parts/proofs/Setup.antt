@@ -17,6 +17,7 @@ pub moved : {s : Site} {u : Setup} {p : Pool} {ls : List Link} {xs : List Subscr
     → SameSetup s u → SameSetup (site s p ls xs vs ks g n t) u
 moved h =
     record {
+      edition = h .edition;
       allowed = h .allowed;
       table = h .table;
       links = h .links;

@@ -10,7 +10,8 @@ use Rattle.machine.specs.Words.{orElse}
 use Rattle.machine.specs.State.{Setup}
 
 pub record SameSetup (s : Site) (u : Setup) : Type 0 where
-  pub allowed : Allowed (u .table)
+  pub edition : ℕ
+  pub allowed : Allowed edition (u .table)
   pub table : s .table ≡ memoryOf (u .table)
   pub links : s .linkcount ≡ u .links
   pub few : u .links ≤ 4

@@ -23,6 +23,7 @@ use Rattle.number.specs.Reading.{says}
 use Rattle.number.specs.Alphabet.{isLabel}
 use Rattle.number.proofs.Alphabet.{digits-in}
 use Rattle.number.proofs.Digits.{digits-length}
+use Rattle.json_text.specs.Copied.{ascii}
 use Rattle.json_value.specs.Grammar.{Json}
 use Rattle.json_value.specs.Grammar.Json.{null, bool, num, str, arr, obj}
 use Rattle.json_packet.specs.Packet as Packet
@@ -94,17 +95,20 @@ good-object es good x e = by (isObject x) (or-parts (not (isObject x)) (spoils x
 abbrev pub isSeconds : Bytes → Bool
 isSeconds s = isSome (numberIn 86400 s)
 
-pub number-usable : (limit : ℕ) (d : Bytes) → limit < 100000 → isSome (numberIn limit d) ≡ true → usable d ≡ true
-number-usable limit d h e = by (leb (says 0 d) limit) (sameBytes d (digits (says 0 d))) refl refl e
+pub number-short : (limit : ℕ) (d : Bytes) → limit < 10000000000 → isSome (numberIn limit d) ≡ true → (length d ≤ 10) × (ascii d ≡ true)
+number-short limit d h e = by (leb (says 0 d) limit) (sameBytes d (digits (says 0 d))) refl refl e
   where
-    by : (a b : Bool) → leb (says 0 d) limit ≡ a → sameBytes d (digits (says 0 d)) ≡ b → isSome (pick (both a b) (some (says 0 d)) none) ≡ true → usable d ≡ true
+    by : (a b : Bool) → leb (says 0 d) limit ≡ a → sameBytes d (digits (says 0 d)) ≡ b → isSome (pick (both a b) (some (says 0 d)) none) ≡ true → (length d ≤ 10) × (ascii d ≡ true)
     by true true p q e =
         let l : says 0 d ≤ limit = leb-true (says 0 d) limit p in
         let w : d ≡ digits (says 0 d) = same-true d (digits (says 0 d)) q in
-        let n : length (digits (says 0 d)) ≤ 5 = digits-length 4 (says 0 d) (omega arith) in
-        usable-of d (omega (arith, ap length w, n)) (alphabet-ascii d (rw w (digits-in (says 0 d))))
+        let n : length (digits (says 0 d)) ≤ 10 = digits-length 9 (says 0 d) (omega arith) in
+        (omega (arith, ap length w, n), alphabet-ascii d (rw w (digits-in (says 0 d))))
     by true false p q e = untrue e
     by false b p q e = untrue e
+
+pub number-usable : (limit : ℕ) (d : Bytes) → limit < 10000000000 → isSome (numberIn limit d) ≡ true → usable d ≡ true
+number-usable limit d h e = let p = number-short limit d h e in usable-of d (omega (arith, p .0)) (p .1)
 
 seconds-sure : Sure isSeconds
 seconds-sure d e = number-usable 86400 d (omega arith) e

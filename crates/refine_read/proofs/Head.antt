@@ -23,7 +23,7 @@ use Rattle.json_value.specs.Grammar.Json.{null, bool, num, str, arr, obj}
 use Rattle.read_head.specs.declared.Verdict.{Verdict}
 use Rattle.read_head.specs.declared.Verdict.the-variants.{Bad}
 use Rattle.read_head.specs.declared.Kind.{Kind}
-use Rattle.read_head.specs.declared.Kind.the-variants.{Version, Watchdog, Alarm, AggregatedStatusRequest, StatusRequest, StatusSubscribe, StatusUnsubscribe, Unexpected}
+use Rattle.read_head.specs.declared.Kind.the-variants.{Version, Watchdog, Alarm, AggregatedStatusRequest, StatusRequest, StatusSubscribe, StatusUnsubscribe, CommandRequest, Unexpected}
 use Rattle.read_head.specs.declared.Class.{Class}
 use Rattle.read_head.specs.declared.Class.the-variants.{Acked, NotAcked, Asked}
 use Rattle.read_head.specs.declared.Head.{Head}
@@ -147,6 +147,7 @@ kindSaid is =
     else if is "StatusRequest" then StatusRequest
     else if is "StatusSubscribe" then StatusSubscribe
     else if is "StatusUnsubscribe" then StatusUnsubscribe
+    else if is "CommandRequest" then CommandRequest
     else Unexpected
 
 abbrev headSaid : (String → Bool) → Verdict → (List ℕ → Word) → Head
@@ -177,7 +178,7 @@ module _ (v : Verdict) (f : List ℕ → Word) where
       at-text Said d (text "CommandResponse") refl (λ q.
       bool-cases (usable d)
       (λ t. rw (t, a, b, c, e, g, h, i, k, l, m, n, o, p, q))
-      (λ t. rw (t, a, b, c, e, g, i, k, m, n))))))))))))))))
+      (λ t. rw (t, a, b, c, e, g, i, k, m, n, p))))))))))))))))
 
   type-of : (o : Option Json) → Code.headOf (typeOf (wordOf o)) v f ≡ headSaid (λ n. saysIn n o) v f
   type-of none = refl

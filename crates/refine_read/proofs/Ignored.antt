@@ -8,7 +8,7 @@ use lib.ListN.{replicate}
 use Rattle.basis.specs.Pick.{pick, both}
 use Rattle.identity.specs.Read.{SixteenBytes, readIdentity}
 use Rattle.json_value.specs.Grammar.{Json}
-use Rattle.read_head.specs.declared.Kind.the-variants.{Version, Watchdog, Alarm, AggregatedStatusRequest, StatusRequest, StatusSubscribe, StatusUnsubscribe, Unexpected}
+use Rattle.read_head.specs.declared.Kind.the-variants.{Version, Watchdog, Alarm, AggregatedStatusRequest, StatusRequest, StatusSubscribe, StatusUnsubscribe, CommandRequest, Unexpected}
 use Rattle.read_head.specs.declared.Class.{Class}
 use Rattle.read_head.specs.declared.Class.the-variants.{Ignored, Acked, NotAcked, Asked}
 use Rattle.read_head.specs.Head.{ignored}
@@ -86,18 +86,19 @@ module _ (k : Life) (v : AllSixteen (k .awaited)) where
         by false b = refl
 
     version-kind : isVersion (kindOf j) ≡ isType "Version" j
-    version-kind = by (isType "Version" j) (isType "Watchdog" j) (isType "Alarm" j) (isType "AggregatedStatusRequest" j) (isType "StatusRequest" j) (isType "StatusSubscribe" j) (isType "StatusUnsubscribe" j)
+    version-kind = by (isType "Version" j) (isType "Watchdog" j) (isType "Alarm" j) (isType "AggregatedStatusRequest" j) (isType "StatusRequest" j) (isType "StatusSubscribe" j) (isType "StatusUnsubscribe" j) (isType "CommandRequest" j)
       where
-        by : (a b c d e f g : Bool)
-            → isVersion (pick a Version (pick b Watchdog (pick c Alarm (pick d AggregatedStatusRequest (pick e StatusRequest (pick f StatusSubscribe (pick g StatusUnsubscribe Unexpected))))))) ≡ a
-        by true b c d e f g = refl
-        by false true c d e f g = refl
-        by false false true d e f g = refl
-        by false false false true e f g = refl
-        by false false false false true f g = refl
-        by false false false false false true g = refl
-        by false false false false false false true = refl
-        by false false false false false false false = refl
+        by : (a b c d e f g h : Bool)
+            → isVersion (pick a Version (pick b Watchdog (pick c Alarm (pick d AggregatedStatusRequest (pick e StatusRequest (pick f StatusSubscribe (pick g StatusUnsubscribe (pick h CommandRequest Unexpected)))))))) ≡ a
+        by true b c d e f g h = refl
+        by false true c d e f g h = refl
+        by false false true d e f g h = refl
+        by false false false true e f g h = refl
+        by false false false false true f g h = refl
+        by false false false false false true g h = refl
+        by false false false false false false true h = refl
+        by false false false false false false false true = refl
+        by false false false false false false false false = refl
 
     request-ignored : (not (isReadable j) or (isGreeting k and not (isType "Version" j))) ≡ ignoredBy k (requestOf j)
     request-ignored = by (isReadable j)

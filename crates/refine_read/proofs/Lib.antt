@@ -13,6 +13,8 @@ pub mod Indexed
 pub mod Gathered
 pub mod Entries
 pub mod ListsKept
+pub mod Commands
+pub mod CommandsKept
 pub mod Text
 pub mod Lists
 pub mod Checks

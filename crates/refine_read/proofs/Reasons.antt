@@ -2,20 +2,23 @@
 -- Assumes nothing.
 use Prim.Native.Nat.{ℕ}
 use Prim.Native.String.{String}
-use mathlib.Core.Path.{_≡_, refl, ap, _∙_}
+use mathlib.Core.Path.{_≡_, refl, sym, ap, _∙_}
 use mathlib.Core.Bool.{Bool, true, false, not}
+use mathlib.Core.List.{List, [], _∷_}
 use mathlib.Core.Option.{Option, some, none}
 use lib.Dec.{leb}
 use lib.ListN.{length}
 use Rattle.basis.specs.Pick.{pick, both}
+use Rattle.basis.proofs.Both.{untrue}
 use Rattle.json_value.specs.Grammar.{Json}
-use Rattle.machine.specs.Words.{_and_, isSome, isNumber, any}
+use Rattle.machine.specs.Words.{_and_, maybe, isSome, isNumber, any}
 use Rattle.machine.specs.State.{Machine, lifeAt}
-use Rattle.machine.specs.Json.{element, elementIs, isType}
+use Rattle.machine.specs.Json.{element, stringOf, entriesOf, elementIs, isType}
+use Rattle.machine.specs.Table.{commandNumber, commandRow}
 use Rattle.machine.specs.Life.{isBeating, isPrimary}
-use Rattle.machine.specs.Answers.{componentAsked, alarmAsked, needs, isMissing, isBad, isUnexpected, reasons, reasonOf}
+use Rattle.machine.specs.Answers.{componentAsked, alarmAsked, valueAsked, inRange, needs, isMissing, isBad, isUnexpected, reasons, reasonOf}
 use Rattle.refine_read.specs.Verdicts.{verdict}
-use Rattle.refine_read.specs.Reasons.{byVerdict, furtherReason, reasonBy, anyUnknown, FurtherReasons}
+use Rattle.refine_read.specs.Reasons.{byVerdict, furtherReason, reasonBy, anyUnknown, anyUnknownCommand, anyOutOfRange, FurtherReasons}
 use Rattle.refine_read.proofs.Types.{type-is}
 
 two : (missing bad : Bool) (further : Option String)
@@ -62,6 +65,18 @@ module _ {A : Type 0} (noComponent noAlarm noStatus busy done : A) where
   nothing-further true = refl
   nothing-further false = refl
 
+-- an unknown component has no command, so no range
+no-range : (c : Option ℕ) (command : Json → ℕ → Option ℕ) (out : Json → ℕ → Bool) (xs : List Json) → isSome c ≡ false → any (λ e. maybe false (out e) (maybe none (command e) c)) xs ≡ false
+no-range (some n) command out xs e = untrue (sym e)
+no-range none command out [] e = refl
+no-range none command out (x ∷ xs) e = no-range none command out xs e
+
+command-further : {A : Type 0} (bad noStatus noCommand busy done : A) (component out unknown full : Bool) → (component ≡ false → out ≡ false)
+    → pick out bad (pick (pick component false false) noStatus (pick (both component unknown) noCommand (pick full busy done)))
+    ≡ pick component (pick out bad (pick unknown noCommand (pick full busy done))) (pick full busy done)
+command-further bad noStatus noCommand busy done true out unknown full h = refl
+command-further bad noStatus noCommand busy done false out unknown full h = rw (h refl)
+
 pub further-is : (m : Machine) (l : ℕ) (j : Json) → FurtherReasons m l j
 unfolding reasons
 further-is m l j =
@@ -78,4 +93,8 @@ further-is m l j =
           (request-further (some "Unknown component") (some "Unknown alarm") (some "Unknown status") (some "Busy") none (isSome (componentAsked m j)) (anyUnknown m j) (leb 16 (length (lifeAt m l .awaited))));
       status-subscribe = λ e. rw (type-is j "StatusSubscribe" e) (subscribe-further (some "Unknown component") (some "Unknown alarm") (some "Unknown status") (some "Busy") none (isSome (componentAsked m j)) (anyUnknown m j));
       status-unsubscribe = λ e. rw (type-is j "StatusUnsubscribe" e) (subscribe-further (some "Unknown component") (some "Unknown alarm") (some "Unknown status") (some "Busy") none (isSome (componentAsked m j)) (anyUnknown m j));
+      command-request = λ e.
+          rw (type-is j "CommandRequest" e)
+          (command-further (some "Bad value") (some "Unknown status") (some "Unknown command") (some "Busy") none (isSome (componentAsked m j)) (anyOutOfRange m j) (anyUnknownCommand m j) (leb 16 (length (lifeAt m l .awaited)))
+          (no-range (componentAsked m j) (λ x c. commandNumber (m .setup .table) c (stringOf "cCI" x) (stringOf "n" x)) (λ x i. not (inRange (commandRow (m .setup .table) i) (valueAsked x))) (entriesOf "arg" j)));
     }

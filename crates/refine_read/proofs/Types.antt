@@ -9,10 +9,10 @@ use Rattle.basis.proofs.Cases.{bool-cases}
 use Rattle.basis.proofs.Both.{untrue}
 use Rattle.basis.proofs.Same.{same-true}
 use Rattle.json_value.specs.Grammar.{Json}
-use Rattle.read_head.specs.declared.Kind.the-variants.{Version, Watchdog, Alarm, AggregatedStatusRequest, StatusRequest, StatusSubscribe, StatusUnsubscribe}
+use Rattle.read_head.specs.declared.Kind.the-variants.{Version, Watchdog, Alarm, AggregatedStatusRequest, StatusRequest, StatusSubscribe, StatusUnsubscribe, CommandRequest}
 use Rattle.machine.specs.Words.{Bytes, reads, maybe}
 use Rattle.machine.specs.Json.{stringAt, isType}
-use Rattle.refine_read.specs.Head.{kindOf, Typed, version, watchdog, alarm, aggregated-request, status-request, status-subscribe, status-unsubscribe, not-taken}
+use Rattle.refine_read.specs.Head.{kindOf, Typed, version, watchdog, alarm, aggregated-request, status-request, status-subscribe, status-unsubscribe, command-request, not-taken}
 
 says : (o : Option Bytes) (n : String) → maybe false (reads n) o ≡ true → o ≡ some (text n)
 says none n e = untrue e
@@ -29,4 +29,5 @@ typed j = bool-cases (isType "Version" j) (λ t. rw t (version (type-is j "Versi
     bool-cases (isType "StatusRequest" j) (λ t. rw (a, b, c, d, t) (status-request (type-is j "StatusRequest" t))) (λ e.
     bool-cases (isType "StatusSubscribe" j) (λ t. rw (a, b, c, d, e, t) (status-subscribe (type-is j "StatusSubscribe" t))) (λ f.
     bool-cases (isType "StatusUnsubscribe" j) (λ t. rw (a, b, c, d, e, f, t) (status-unsubscribe (type-is j "StatusUnsubscribe" t))) (λ g.
-    rw (a, b, c, d, e, f, g) (not-taken (rw (a, b, c, d, e, f, g))))))))))
+    bool-cases (isType "CommandRequest" j) (λ t. rw (a, b, c, d, e, f, g, t) (command-request (type-is j "CommandRequest" t))) (λ h.
+    rw (a, b, c, d, e, f, g, h) (not-taken (rw (a, b, c, d, e, f, g, h)))))))))))

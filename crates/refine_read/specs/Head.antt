@@ -9,7 +9,7 @@ use Rattle.identity.specs.Read.{readIdentity}
 use Rattle.json_value.specs.Grammar.{Json}
 use Rattle.read_head.specs.declared.Verdict.{Verdict}
 use Rattle.read_head.specs.declared.Kind.{Kind}
-use Rattle.read_head.specs.declared.Kind.the-variants.{Version, Watchdog, Alarm, AggregatedStatusRequest, StatusRequest, StatusSubscribe, StatusUnsubscribe, Unexpected}
+use Rattle.read_head.specs.declared.Kind.the-variants.{Version, Watchdog, Alarm, AggregatedStatusRequest, StatusRequest, StatusSubscribe, StatusUnsubscribe, CommandRequest, Unexpected}
 use Rattle.read_head.specs.declared.Class.{Class}
 use Rattle.read_head.specs.declared.Class.the-variants.{Acked, NotAcked, Asked}
 use Rattle.read_head.specs.declared.Head.{Head}
@@ -28,6 +28,7 @@ kindOf j =
     else if isType "StatusRequest" j then StatusRequest
     else if isType "StatusSubscribe" j then StatusSubscribe
     else if isType "StatusUnsubscribe" j then StatusUnsubscribe
+    else if isType "CommandRequest" j then CommandRequest
     else Unexpected
 
 -- type is the kind's name; or it is "missing, no string or not taken"
@@ -39,6 +40,7 @@ pub data Typed (j : Json) : Kind → Type 0 where
   status-request : stringAt "type" j ≡ some (text "StatusRequest") → Typed j StatusRequest
   status-subscribe : stringAt "type" j ≡ some (text "StatusSubscribe") → Typed j StatusSubscribe
   status-unsubscribe : stringAt "type" j ≡ some (text "StatusUnsubscribe") → Typed j StatusUnsubscribe
+  command-request : stringAt "type" j ≡ some (text "CommandRequest") → Typed j CommandRequest
   not-taken : isTaken j ≡ false → Typed j Unexpected
 
 -- "mType "Missing element" or "Bad value""

@@ -6,7 +6,7 @@ use mathlib.Core.Option.{Option, none}
 use Rattle.basis.specs.Lists.{sameBytes}
 use Rattle.identity.specs.Read.{SixteenBytes, readIdentity}
 use Rattle.read_head.specs.declared.Kind.{Kind}
-use Rattle.read_head.specs.declared.Kind.the-variants.{Version, Watchdog, Alarm, AggregatedStatusRequest, StatusRequest, StatusSubscribe, StatusUnsubscribe, Unexpected}
+use Rattle.read_head.specs.declared.Kind.the-variants.{Version, Watchdog, Alarm, AggregatedStatusRequest, StatusRequest, StatusSubscribe, StatusUnsubscribe, CommandRequest, Unexpected}
 use Rattle.read_head.specs.declared.Class.{Class}
 use Rattle.read_head.specs.declared.Class.the-variants.{Ignored, Acked, NotAcked, Asked}
 use Rattle.read_head.specs.declared.Head.{Head}
@@ -38,6 +38,7 @@ isVersion AggregatedStatusRequest = false
 isVersion StatusRequest = false
 isVersion StatusSubscribe = false
 isVersion StatusUnsubscribe = false
+isVersion CommandRequest = false
 isVersion Unexpected = false
 
 -- "whose oMId is not awaited on this link"; "in Greeting, all but type Version and the two answers"

@@ -3,18 +3,19 @@
 use Prim.Native.Nat.{ℕ}
 use Prim.Native.String.{String}
 use mathlib.Core.Path.{_≡_}
-use mathlib.Core.Bool.{Bool, true, not}
+use mathlib.Core.Bool.{Bool, true, false, not}
 use mathlib.Core.Option.{Option, some, none}
 use lib.Dec.{leb}
 use lib.ListN.{length, drop}
 use Rattle.json_value.specs.Grammar.{Json}
 use Rattle.read_head.specs.declared.Verdict.{Verdict}
 use Rattle.read_head.specs.declared.Verdict.the-variants.{Good, Missing, Bad}
-use Rattle.machine.specs.Words.{if_then_else_, _and_, isSome, isNumber, any, firstOf}
+use Rattle.machine.specs.Words.{if_then_else_, _and_, maybe, isSome, isNumber, any, firstOf}
 use Rattle.machine.specs.State.{Machine, lifeAt}
 use Rattle.machine.specs.Json.{entriesOf, elementIs, isType}
+use Rattle.machine.specs.Table.{commandRow}
 use Rattle.machine.specs.Life.{isBeating, isPrimary}
-use Rattle.machine.specs.Answers.{componentAsked, alarmAsked, statusAsked, isUnexpected, reasons}
+use Rattle.machine.specs.Answers.{componentAsked, alarmAsked, statusAsked, commandAsked, valueAsked, inRange, isUnexpected, reasons}
 use Rattle.refine_read.specs.Verdicts.{verdictIn}
 use Rattle.refine_read.specs.Head.{mTypeOf}
 
@@ -24,7 +25,7 @@ byVerdict Good further = further
 byVerdict Missing further = some "Missing element"
 byVerdict Bad further = some "Bad value"
 
--- behind the first six: the three checks, what is unknown, "Busy"
+-- behind the first six: a command's range, the three checks, what is unknown, "Busy"
 abbrev pub furtherReason : Machine → ℕ → Json → Option String
 furtherReason m l j = firstOf (drop 6 (reasons m l j))
 
@@ -43,6 +44,13 @@ busyIf m l replies = if replies and leb 16 (length (lifeAt m l .awaited)) then s
 abbrev pub anyUnknown : Machine → Json → Bool
 anyUnknown m j = any (λ e. not (isSome (statusAsked m j e))) (entriesOf "sS" j)
 
+abbrev pub anyUnknownCommand : Machine → Json → Bool
+anyUnknownCommand m j = any (λ e. not (isSome (commandAsked m j e))) (entriesOf "arg" j)
+
+abbrev pub anyOutOfRange : Machine → Json → Bool
+anyOutOfRange m j =
+    any (λ e. maybe false (λ i. not (inRange (commandRow (m .setup .table) i) (valueAsked e))) (commandAsked m j e)) (entriesOf "arg" j)
+
 -- what they come to for each type besides Version
 pub record FurtherReasons (m : Machine) (l : ℕ) (j : Json) : Type 0 where
   pub watchdog : isType "Watchdog" j ≡ true → furtherReason m l j ≡ none
@@ -58,3 +66,7 @@ pub record FurtherReasons (m : Machine) (l : ℕ) (j : Json) : Type 0 where
       → furtherReason m l j ≡ (if isSome (componentAsked m j) and not (anyUnknown m j) then none else some "Unknown status")
   pub status-unsubscribe : isType "StatusUnsubscribe" j ≡ true
       → furtherReason m l j ≡ (if isSome (componentAsked m j) and not (anyUnknown m j) then none else some "Unknown status")
+  pub command-request : isType "CommandRequest" j ≡ true
+      → furtherReason m l j
+      ≡ (if isSome (componentAsked m j) then if anyOutOfRange m j then some "Bad value" else if anyUnknownCommand m j then some "Unknown command" else busyIf m l true
+      else busyIf m l true)

@@ -46,20 +46,20 @@ use Rattle.sound.specs.Sound.{SoundAt}
 use Rattle.sequences.proofs.Rows.{label-text}
 use Rattle.sequences.proofs.Tells.{value-formed}
 
-abbrev which : Verdict → ℕ
+abbrev pub which : Verdict → ℕ
 which Good = 0
 which Missing = 1
 which Bad = 2
 
 -- of two verdicts the worse one is good where both are
-worst-left : (a b : Verdict) → worst a b ≡ Good → a ≡ Good
+pub worst-left : (a b : Verdict) → worst a b ≡ Good → a ≡ Good
 worst-left Good b e = refl
 worst-left Missing b e = absurd (omega (arith, ap which e))
 worst-left Bad Missing e = absurd (omega (arith, ap which e))
 worst-left Bad Bad e = absurd (omega (arith, ap which e))
 worst-left Bad Good e = absurd (omega (arith, ap which e))
 
-worst-right : (a b : Verdict) → worst a b ≡ Good → b ≡ Good
+pub worst-right : (a b : Verdict) → worst a b ≡ Good → b ≡ Good
 worst-right Good b e = e
 worst-right Missing b e = absurd (omega (arith, ap which e))
 worst-right Bad Missing e = absurd (omega (arith, ap which e))
@@ -67,10 +67,10 @@ worst-right Bad Bad e = absurd (omega (arith, ap which e))
 worst-right Bad Good e = refl
 
 -- a good string is a label
-abbrev GoodLabel : GotLabel → Type 0
+abbrev pub GoodLabel : GotLabel → Type 0
 GoodLabel g = g .verdict ≡ Good → Label (textOf (g .label))
 
-got-label : (w : Word) → GoodLabel (gotLabel w)
+pub got-label : (w : Word) → GoodLabel (gotLabel w)
 got-label absent = λ e. absurd (omega (arith, ap which e))
 got-label other = λ e. absurd (omega (arith, ap which e))
 got-label (word d) =
@@ -162,7 +162,7 @@ fields-good subscribing packet =
     (got-label (wordAt (skipWs packet) (text "cId"))) (statuses-listed subscribing (listAt (skipWs packet) (text "sS")))
 
 -- ---- the entries told
-formed-behind : (xs : List Status) (x : Status) → FormedStatuses xs → FormedStatus x → FormedStatuses (xs ++ (x ∷ []))
+pub formed-behind : (xs : List Status) (x : Status) → FormedStatuses xs → FormedStatus x → FormedStatuses (xs ++ (x ∷ []))
 formed-behind [] x f g = more g none
 formed-behind (y ∷ xs) x (more a f) g = more a (formed-behind xs x f g)
 

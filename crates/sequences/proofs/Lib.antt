@@ -4,6 +4,7 @@ pub mod Tells
 pub mod Outputs
 pub mod Heads
 pub mod Entries
+pub mod Commands
 pub mod Plans
 pub mod PacketsKept
 pub mod Kept

@@ -20,13 +20,14 @@ use Rattle.identity.specs.Read.{SixteenBytes}
 use Rattle.read_head.specs.declared.Verdict.{Verdict}
 use Rattle.read_head.specs.declared.Verdict.the-variants.{Good, Missing, Bad}
 use Rattle.read_head.specs.declared.Kind.{Kind}
-use Rattle.read_head.specs.declared.Kind.the-variants.{Version, Watchdog, Alarm, AggregatedStatusRequest, StatusRequest, StatusSubscribe, StatusUnsubscribe, Unexpected}
+use Rattle.read_head.specs.declared.Kind.the-variants.{Version, Watchdog, Alarm, AggregatedStatusRequest, StatusRequest, StatusSubscribe, StatusUnsubscribe, CommandRequest, Unexpected}
 use Rattle.read_head.specs.declared.Class.{Class}
 use Rattle.read_head.specs.declared.Class.the-variants.{Ignored as NoClass, Acked, NotAcked, Asked}
 use Rattle.read_head.specs.Head.{headAt}
 use Rattle.read_head.specs.Small.{watchdogAt, aggregatedAt, alarmAt}
 use Rattle.read_lists.specs.Version.{versionAt}
 use Rattle.read_lists.specs.Status.{statusAt}
+use Rattle.read_commands.specs.Command.{commandAt}
 use Rattle.write_message.specs.Message.{Message}
 use Rattle.write_laws.specs.Formed.{Received}
 use Rattle.site.specs.declared.Site.{Site}
@@ -74,6 +75,7 @@ module _ (s : Site) (time : ℕ) (h : SoundAt time s) (l : ℕ) (linked : l < s 
   kind-keeps StatusRequest = parts .status s time h l id chars (statusAt false p)
   kind-keeps StatusSubscribe = parts .subscribing s time h l linked true chars (statusAt true p)
   kind-keeps StatusUnsubscribe = parts .subscribing s time h l linked false chars (statusAt false p)
+  kind-keeps CommandRequest = parts .command s time h l id chars (commandAt p)
   kind-keeps Unexpected = parts .refused s time h chars unexpected
 
   expected-keeps : (k : Kind) → Keeps (expectedTaken s l time id chars p k)
@@ -84,8 +86,8 @@ module _ (s : Site) (time : ℕ) (h : SoundAt time s) (l : ℕ) (linked : l < s 
 
   asked-keeps : (v : Verdict) (k : Kind) → Keeps (askedTaken s l time id chars p v k)
   asked-keeps Good k = expected-keeps k
-  asked-keeps Missing k = parts .refused s time h chars 14
-  asked-keeps Bad k = parts .refused s time h chars 15
+  asked-keeps Missing k = parts .refused s time h chars missingElement
+  asked-keeps Bad k = parts .refused s time h chars badValue
 
   class-keeps : (answered : Identity) (c : Class) → Keeps (classTaken s l time id answered chars p c)
   class-keeps answered NoClass = record { site = h; issued = tt }
@@ -107,6 +109,7 @@ module _ (time : ℕ) (s : Site) (h : SoundAt time s) (l : ℕ) (id : Identity) 
     kind-sends StatusRequest = plans .status time s h l id sixteen chars r p
     kind-sends StatusSubscribe = plans .subscribing true s l time chars r (statusAt true p)
     kind-sends StatusUnsubscribe = plans .subscribing false s l time chars r (statusAt false p)
+    kind-sends CommandRequest = plans .command time s h l id sixteen chars r p
     kind-sends Unexpected = plans .refused s chars r unexpected tt
 
     expected-sends : (k : Kind) → Sends (expectedTaken s l time id chars p k)

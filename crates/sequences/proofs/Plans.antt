@@ -51,6 +51,8 @@ use Rattle.read_head.specs.declared.GotTime.{GotTime}
 use Rattle.read_lists.specs.declared.VersionFields.{VersionFields}
 use Rattle.read_lists.specs.declared.StatusFields.{StatusFields}
 use Rattle.read_lists.specs.Status.{statusAt}
+use Rattle.read_commands.specs.declared.CommandFields.{CommandFields}
+use Rattle.read_commands.specs.Command.{commandAt}
 use Rattle.read_versions.specs.declared.Judged.{Judged}
 use Rattle.read_versions.specs.declared.Judged.the-variants.{Chosen, RsmpVersion, SiteId, SxlVersion}
 use Rattle.read_versions.specs.Judge.{judge}
@@ -63,16 +65,18 @@ use Rattle.send_message.specs.Sending.{alarmMessage, aggregatedMessage, heldSta
 use Rattle.site.specs.declared.Site.{Site}
 use Rattle.site.specs.Site.{roleOf, linkAt}
 use Rattle.site.specs.Parts.{alarmRowAt, statusRowAt}
-use Rattle.site.specs.Call.{Plan}
+use Rattle.site.specs.Call.{Command, Plan}
 use Rattle.call_pump.specs.Pump.{isHeld, Below, dueAt, entryPlan, planFor, pumpPlan}
 use Rattle.call_pump.proofs.Laws.{due-below}
-use Rattle.packet_answer.specs.Taken.{Taken, notAcked, acked, replied, byVerdict, unlessBusy, missingElement, badValue, rsmpVersion, siteId, sxlVersion, busy, unknownComponent, unknownAlarm, unknownStatus}
+use Rattle.packet_answer.specs.Taken.{Taken, notAcked, acked, handing, replied, byVerdict, unlessBusy, missingElement, badValue, rsmpVersion, siteId, sxlVersion, busy, unknownComponent, unknownAlarm, unknownStatus, unknownCommand}
 use Rattle.packet_greet.specs.Answered.{answeredPlan}
 use Rattle.packet_greet.specs.Version.{own, versionJudged, versionTaken}
 use Rattle.packet_greet.specs.Watchdog.{beat, watchdogTaken}
 use Rattle.packet_subscribe.specs.Subscribing.{changed, judged, asked, subscribingTaken}
 use Rattle.packet_alarm.specs.Orders.{changeTaken, isZero, requestBy, requestTaken, ordered, orderedOf, foundTaken, alarmTaken, aggregatedOf, aggregatedTaken}
 use Rattle.packet_status.specs.StatusReply.{toldTo, passes, response, requestedOf, statusTaken}
+use Rattle.packet_command.specs.Commanding.{keepsRanges, commandsOf, orderedOf as commandedOf, commandTaken}
+use Rattle.packet_command.specs.Commanding.{passes as allThere, response as commandResponse}
 use Rattle.sound.specs.Sound.{EachHeld, EntryOf, SoundAt}
 use Rattle.sound.proofs.Held.{held-at}
 use Rattle.sound.proofs.Parts.{each-set}
@@ -80,6 +84,7 @@ use Rattle.sound.proofs.Found.{AlarmBelow, alarm-below}
 use Rattle.sequences.specs.Formedness.{allBytes, Sendable, Plans}
 use Rattle.sequences.proofs.Tells.{version-formed, alarm-formed, aggregated-formed, entry-formed}
 use Rattle.sequences.proofs.Entries.{GoodFields, fields-good, told-to, told-length}
+use Rattle.sequences.proofs.Commands.{GoodCommands, commands-good, told-commands, commands-length}
 
 -- ---- how much room messages take
 append-nil : (d : List ℕ) → d ++ [] ≡ d
@@ -201,8 +206,11 @@ module _ (s : Site) (l : ℕ) (received : List ℕ) (r : Received received) wher
         by-verdict (f .verdict) (asked subscribing s l time received f (componentSought (s .table) (f .component))) (λ e. asked-sends (componentSought (s .table) (f .component)))
 
   module _ (time : ℕ) (h : SoundAt time s) (id : Identity) (sixteen : SixteenBytes (id .bytes)) where
+    handing-sends : (m : Message) (commands : List Command) → Formed m → entriesIn m ≤ 16 → Sends (unlessBusy s l received (handing s l time id received m commands))
+    handing-sends m commands f e = unless-busy (handing s l time id received m commands) (and-reply received r m f e)
+
     replied-sends : (m : Message) → Formed m → entriesIn m ≤ 16 → Sends (unlessBusy s l received (replied s l time id received m))
-    replied-sends m f e = unless-busy (replied s l time id received m) (and-reply received r m f e)
+    replied-sends m f e = handing-sends m [] f e
 
     request-sends : (k : ℕ) → k < s .table .alarmcount → (w : Role) → Sends (requestBy s l time id received k w)
     request-sends k i Primary = replied-sends (alarmMessage s (id .bytes) k) (alarm-formed time s h (id .bytes) sixteen k i) (lit≤ tt)
@@ -256,6 +264,29 @@ module _ (s : Site) (l : ℕ) (received : List ℕ) (r : Received received) wher
     status-sends : (packet : List ℕ) → Sends (statusTaken s l time id received (statusAt false packet))
     status-sends packet = fields-send (statusAt false packet) (fields-good false packet)
 
+    command-formed : (x : Sought) (f : CommandFields) → GoodCommands f → f .verdict ≡ Good → Formed (commandResponse time (id .bytes) x f)
+    unfolding commandResponse
+    command-formed x f g e = formed-statuses sixteen (g .component e) (h .last) (told-commands x (f .entries) (f .count) (g .entries e))
+
+    command-few : (x : Sought) (f : CommandFields) → GoodCommands f → entriesIn (commandResponse time (id .bytes) x f) ≤ 16
+    unfolding commandResponse
+    command-few x f g = let most = g .few in omega (arith, commands-length x (f .entries) (f .count), most)
+
+    commands-send : (f : CommandFields) → GoodCommands f → Sends (commandTaken s l time id received f)
+    unfolding commandTaken
+    commands-send f g =
+        let x = componentSought (s .table) (f .component) in
+        let m = commandResponse time (id .bytes) x f in
+        let t = unlessBusy s l received (handing s l time id received m (commandsOf (s .table) f x)) in
+        by-verdict (f .verdict) (commandedOf s l time id received f x)
+        (λ e. picked Sends (keepsRanges (s .table) f x) (pick (allThere (s .table) f x) t (notAcked s received unknownCommand)) (notAcked s received badValue)
+        (λ i. picked Sends (allThere (s .table) f x) t (notAcked s received unknownCommand)
+        (λ j. handing-sends m (commandsOf (s .table) f x) (command-formed x f g e) (command-few x f g)) (λ j. a-reason received r unknownCommand tt))
+        (λ i. a-reason received r badValue tt))
+
+    command-sends : (packet : List ℕ) → Sends (commandTaken s l time id received (commandAt packet))
+    command-sends packet = commands-send (commandAt packet) (commands-good packet)
+
 pub plans : Plans
 plans =
     record {
@@ -269,4 +300,5 @@ plans =
       alarm = λ time s h l id sixteen received r f. alarm-sends s l received r time h id sixteen f;
       aggregated = λ time s h l id sixteen received r f. aggregated-sends s l received r time h id sixteen f;
       status = λ time s h l id sixteen received r packet. status-sends s l received r time h id sixteen packet;
+      command = λ time s h l id sixteen received r packet. command-sends s l received r time h id sixteen packet;
     }

@@ -47,14 +47,14 @@ module _ (links primary period : ℕ) (t : SiteTable) (s : SoundStart links prim
 
   pub alarm-row : (k : ℕ) → k < t .alarmcount → itemOf (getD (s .read .alarms) k noRow) ≡ getD (t .alarms) k noItem
   alarm-row k h =
-      subst (λ (m : SiteTable). itemOf (getD (s .read .alarms) k noRow) ≡ getD (m .alarms) k noItem) (sym (s .kept)) (sym (kept-item (s .read .alarms) k (in-alarms k h)))
+      subst (λ (m : SiteTable). itemOf (getD (s .read .alarms) k noRow) ≡ getD (m .alarms) k noItem) (sym (s .kept)) (sym (kept-item 32 (s .read .alarms) k (in-alarms k h)))
 
   pub alarm-allowed : (k : ℕ) → k < t .alarmcount → IsAlarm (length (s .read .components)) (getD (s .read .alarms) k noRow)
   alarm-allowed k h = every-at noRow (s .read .alarms) (s .allowed .alarms) k (in-alarms k h)
 
   pub status-row : (k : ℕ) → k < t .statuscount → itemOf (getD (s .read .statuses) k noRow) ≡ getD (t .statuses) k noItem
   status-row k h =
-      subst (λ (m : SiteTable). itemOf (getD (s .read .statuses) k noRow) ≡ getD (m .statuses) k noItem) (sym (s .kept)) (sym (kept-item (s .read .statuses) k (in-statuses k h)))
+      subst (λ (m : SiteTable). itemOf (getD (s .read .statuses) k noRow) ≡ getD (m .statuses) k noItem) (sym (s .kept)) (sym (kept-item 32 (s .read .statuses) k (in-statuses k h)))
 
   pub status-allowed : (k : ℕ) → k < t .statuscount → IsStatus (length (s .read .components)) (getD (s .read .statuses) k noRow)
   status-allowed k h = every-at noRow (s .read .statuses) (s .allowed .statuses) k (in-statuses k h)

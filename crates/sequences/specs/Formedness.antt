@@ -32,6 +32,7 @@ use Rattle.read_head.specs.Head.{headAt}
 use Rattle.read_lists.specs.declared.VersionFields.{VersionFields}
 use Rattle.read_lists.specs.declared.StatusFields.{StatusFields}
 use Rattle.read_lists.specs.Status.{statusAt}
+use Rattle.read_commands.specs.Command.{commandAt}
 use Rattle.site.specs.declared.Site.{Site}
 use Rattle.site.specs.declared.Step.{Step}
 use Rattle.site.specs.Call.{Plan, Gives}
@@ -44,6 +45,7 @@ use Rattle.packet_greet.specs.Watchdog.{watchdogTaken}
 use Rattle.packet_subscribe.specs.Subscribing.{subscribingTaken}
 use Rattle.packet_alarm.specs.Orders.{alarmTaken, aggregatedTaken}
 use Rattle.packet_status.specs.StatusReply.{statusTaken}
+use Rattle.packet_command.specs.Commanding.{commandTaken}
 use Rattle.sound.specs.Sound.{EntryOf, SoundAt}
 
 -- each is well-formed
@@ -83,9 +85,11 @@ pub record Plans : Type 0 where
       → Sendable (alarmTaken s l time id received f .plan .messages)
   pub aggregated : (time : ℕ) (s : Site) → SoundAt time s → (l : ℕ) (id : Identity) → SixteenBytes (id .bytes) → (received : List ℕ) → Received received → (f : GotLabel)
       → Sendable (aggregatedTaken s l time id received f .plan .messages)
-  -- a StatusRequest, its fields read from the packet's bytes
+  -- a StatusRequest and a CommandRequest, their fields read from the packet's bytes
   pub status : (time : ℕ) (s : Site) → SoundAt time s → (l : ℕ) (id : Identity) → SixteenBytes (id .bytes) → (received : List ℕ) → Received received → (packet : List ℕ)
       → Sendable (statusTaken s l time id received (statusAt false packet) .plan .messages)
+  pub command : (time : ℕ) (s : Site) → SoundAt time s → (l : ℕ) (id : Identity) → SixteenBytes (id .bytes) → (received : List ℕ) → Received received → (packet : List ℕ)
+      → Sendable (commandTaken s l time id received (commandAt packet) .plan .messages)
 
 -- the mId of a packet that is a request, as it was received
 abbrev pub ReceivedIn : Type 0

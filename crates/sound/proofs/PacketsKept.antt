@@ -7,7 +7,7 @@ use Rattle.sound.proofs.Kept.{in-time, at-time}
 use Rattle.sound.proofs.Kept.{kept as keeps}
 use Rattle.sound.specs.Packets.{Packets}
 use Rattle.sound.proofs.Sends.{pump-plan}
-use Rattle.sound.proofs.Taken.{not-acked, answered-plan, version-sound, watchdog-sound, alarm-sound, aggregated-sound, status-sound}
+use Rattle.sound.proofs.Taken.{not-acked, answered-plan, version-sound, watchdog-sound, alarm-sound, aggregated-sound, status-sound, command-sound}
 use Rattle.sound.proofs.Subscribed.{subscribing-sound}
 
 pub kept : Packets
@@ -22,5 +22,6 @@ kept =
       alarm = alarm-sound;
       aggregated = aggregated-sound;
       status = status-sound;
+      command = command-sound;
       subscribing = subscribing-sound;
     }

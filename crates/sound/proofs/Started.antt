@@ -36,7 +36,7 @@ primary-kept : (links primary : ℕ) → links ≤ 4 → (primary < links) ⊎ (
 primary-kept links primary m (inl h) = rw (lt-ltb primary 4 (omega (arith, h, m))) (inl h)
 primary-kept links primary m (inr h) = rw h (inr refl)
 
-module _ (t : Table) (a : Allowed t) (links primary period first time : ℕ) (w : Within links primary period first time) where
+module _ (edition : ℕ) (t : Table) (a : Allowed edition t) (links primary period first time : ℕ) (w : Within links primary period first time) where
   fresh-sound : Sound (fresh (memoryOf t) links (primaryOf primary) period first time)
   unfolding fresh
   fresh-sound =
@@ -47,6 +47,7 @@ module _ (t : Table) (a : Allowed t) (links primary period first time : ℕ) (w 
           a-link-or-none = primary-kept links primary (w .most-links) (w .a-link-or-none);
           shortest-period = w .shortest-period;
           longest-period = w .longest-period;
+          edition = edition;
           read = t;
           allowed = a;
           kept = refl;
@@ -72,5 +73,5 @@ which (Done d) = 0
 which (Refused x) = 1
 
 pub started : Started
-started b links primary period first time r d (starts {t = t} a e w) done = fresh-sound t a links primary period first time w
+started b links primary period first time r d (starts {edition = edition} {t = t} a e w) done = fresh-sound edition t a links primary period first time w
 started b links primary period first time r d (refuses n) done = absurd (omega (arith, ap which done))

@@ -3,7 +3,7 @@
 use Prim.Native.Nat.{ℕ, _/_, _%_, _<_}
 use mathlib.Core.Path.{_≡_, refl}
 use mathlib.Core.Bool.{Bool, true, false}
-use mathlib.Core.List.{List}
+use mathlib.Core.List.{List, []}
 use borrow.Author.Tests.{ltb-true}
 use Rattle.basis.specs.Pick.{pick, both}
 use Rattle.basis.proofs.Cases.{picked}
@@ -31,6 +31,7 @@ use Rattle.read_head.specs.declared.GotLabel.{GotLabel}
 use Rattle.read_head.specs.declared.GotTime.{GotTime}
 use Rattle.read_lists.specs.declared.VersionFields.{VersionFields}
 use Rattle.read_lists.specs.declared.StatusFields.{StatusFields}
+use Rattle.read_commands.specs.declared.CommandFields.{CommandFields}
 use Rattle.read_versions.specs.declared.Judged.{Judged}
 use Rattle.read_versions.specs.declared.Judged.the-variants.{Chosen, RsmpVersion, SiteId, SxlVersion}
 use Rattle.read_versions.specs.Judge.{judge}
@@ -42,13 +43,15 @@ use Rattle.send_message.specs.Sending.{alarmMessage, aggregatedMessage}
 use Rattle.site.specs.declared.Site.{Site}
 use Rattle.site.specs.Site.{roleOf, linkAt, withLink, closeAt, maskOf, hasPrimary}
 use Rattle.site.specs.Parts.{alarmAt}
-use Rattle.site.specs.Call.{Plan, only}
-use Rattle.packet_answer.specs.Taken.{Taken, notAcked, closing, acked, replied, byVerdict, unlessBusy, rsmpVersion, siteId, sxlVersion, unknownComponent, unknownAlarm, unknownStatus, busy}
+use Rattle.site.specs.Call.{Command, Plan, only}
+use Rattle.packet_answer.specs.Taken.{Taken, notAcked, closing, acked, handing, replied, byVerdict, unlessBusy, badValue, rsmpVersion, siteId, sxlVersion, unknownComponent, unknownAlarm, unknownStatus, unknownCommand, busy}
 use Rattle.packet_greet.specs.Answered.{settledFor, settled, answeredPlan}
 use Rattle.packet_greet.specs.Version.{own, versionJudged, versionTaken}
 use Rattle.packet_greet.specs.Watchdog.{beat, watchdogTaken}
 use Rattle.packet_alarm.specs.Orders.{changeTaken, isZero, requestBy, requestTaken, ordered, orderedOf, foundTaken, alarmTaken, aggregatedOf, aggregatedTaken}
 use Rattle.packet_status.specs.StatusReply.{passes, response, requestedOf, statusTaken}
+use Rattle.packet_command.specs.Commanding.{keepsRanges, commandsOf, orderedOf as commandedOf, commandTaken}
+use Rattle.packet_command.specs.Commanding.{passes as allThere, response as commandResponse}
 use Rattle.sound.specs.Sound.{EntryOf, SoundAt}
 use Rattle.sound.specs.Claims.{SoundPlan}
 use Rattle.sound.proofs.Held.{held-settle}
@@ -67,8 +70,11 @@ module _ (s : Site) (time : ℕ) (h : SoundAt time s) where
   closing-sound : (l : ℕ) (received : List ℕ) (reason : ℕ) → SoundPlan time (closing s l received reason .plan)
   closing-sound l received reason = record { site = close time s l h; issued = tt }
 
+  handing-sound : (l : ℕ) (id : Identity) (received : List ℕ) (m : Message) (commands : List Command) → SoundPlan time (handing s l time id received m commands .plan)
+  handing-sound l id received m commands = record { site = with-link time s h l (messageOutOf (linkAt s l) id time Other); issued = tt }
+
   replied-sound : (l : ℕ) (id : Identity) (received : List ℕ) (m : Message) → SoundPlan time (replied s l time id received m .plan)
-  replied-sound l id received m = record { site = with-link time s h l (messageOutOf (linkAt s l) id time Other); issued = tt }
+  replied-sound l id received m = handing-sound l id received m []
 
   pub by-verdict : (v : Verdict) (received : List ℕ) (t : Taken) → Good-plan t → SoundPlan time (byVerdict v s received t .plan)
   by-verdict Good received t g = g
@@ -167,3 +173,15 @@ module _ (s : Site) (time : ℕ) (h : SoundAt time s) where
         by-verdict (f .verdict) received (requestedOf s l time id received f x)
         (picked Good-plan (passes s f x) (unlessBusy s l received (replied s l time id received m)) (notAcked s received unknownStatus)
         (λ e. unless-busy l received (replied s l time id received m) (replied-sound l id received m)) (λ e. not-acked received unknownStatus))
+
+    pub command-sound : (f : CommandFields) → SoundPlan time (commandTaken s l time id received f .plan)
+    unfolding commandTaken
+    command-sound f =
+        let x = componentSought (s .table) (f .component) in
+        let t = handing s l time id received (commandResponse time (id .bytes) x f) (commandsOf (s .table) f x) in
+        by-verdict (f .verdict) received (commandedOf s l time id received f x)
+        (picked Good-plan (keepsRanges (s .table) f x) (pick (allThere (s .table) f x) (unlessBusy s l received t) (notAcked s received unknownCommand)) (notAcked s received badValue)
+        (λ e. picked Good-plan (allThere (s .table) f x) (unlessBusy s l received t) (notAcked s received unknownCommand)
+        (λ e. unless-busy l received t (handing-sound l id received (commandResponse time (id .bytes) x f) (commandsOf (s .table) f x)))
+        (λ e. not-acked received unknownCommand))
+        (λ e. not-acked received badValue))

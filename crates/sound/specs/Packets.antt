@@ -10,6 +10,7 @@ use Rattle.read_head.specs.declared.GotLabel.{GotLabel}
 use Rattle.read_head.specs.declared.AlarmFields.{AlarmFields}
 use Rattle.read_lists.specs.declared.VersionFields.{VersionFields}
 use Rattle.read_lists.specs.declared.StatusFields.{StatusFields}
+use Rattle.read_commands.specs.declared.CommandFields.{CommandFields}
 use Rattle.site.specs.declared.Site.{Site}
 use Rattle.site.specs.Call.{stepOf}
 use Rattle.call_pump.specs.Pump.{pumpRefuses, pumpPlan}
@@ -20,6 +21,7 @@ use Rattle.packet_greet.specs.Watchdog.{watchdogTaken}
 use Rattle.packet_subscribe.specs.Subscribing.{subscribingTaken}
 use Rattle.packet_alarm.specs.Orders.{alarmTaken, aggregatedTaken}
 use Rattle.packet_status.specs.StatusReply.{statusTaken}
+use Rattle.packet_command.specs.Commanding.{commandTaken}
 use Rattle.sound.specs.Sound.{SoundAt, Sound}
 use Rattle.sound.specs.Claims.{SoundPlan}
 
@@ -34,6 +36,7 @@ pub record Packets : Type 0 where
   pub alarm : (s : Site) (time : ℕ) → SoundAt time s → (l : ℕ) (id : Identity) (received : List ℕ) (f : AlarmFields) → SoundPlan time (alarmTaken s l time id received f .plan)
   pub aggregated : (s : Site) (time : ℕ) → SoundAt time s → (l : ℕ) (id : Identity) (received : List ℕ) (f : GotLabel) → SoundPlan time (aggregatedTaken s l time id received f .plan)
   pub status : (s : Site) (time : ℕ) → SoundAt time s → (l : ℕ) (id : Identity) (received : List ℕ) (f : StatusFields) → SoundPlan time (statusTaken s l time id received f .plan)
+  pub command : (s : Site) (time : ℕ) → SoundAt time s → (l : ℕ) (id : Identity) (received : List ℕ) (f : CommandFields) → SoundPlan time (commandTaken s l time id received f .plan)
   -- on a configured link
   pub subscribing : (s : Site) (time : ℕ) → SoundAt time s → (l : ℕ) → l < s .linkcount → (subscribing : Bool) (received : List ℕ) (f : StatusFields)
       → SoundPlan time (subscribingTaken subscribing s l time received f .plan)

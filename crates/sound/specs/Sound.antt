@@ -32,8 +32,9 @@ pub record SoundStart (links primary period : ℕ) (table : SiteTable) : Type 0 
   pub a-link-or-none : (primary < links) ⊎ (primary ≡ 65535)
   pub shortest-period : 1 ≤ period
   pub longest-period : period ≤ 3600
+  pub edition : ℕ
   pub read : Table
-  pub allowed : Allowed read
+  pub allowed : Allowed edition read
   pub kept : table ≡ memoryOf read
 
 -- an alarm's states are 0 or 1, its event is Issue, Acknowledge or Suspend, and happened by now

@@ -1,0 +1,100 @@
+-- The words of the commands that a packet call hands over.
+-- Assumes nothing.
+use Prim.Native.Nat.{ℕ, zero, suc, _+_, _*_, _/_, _%_, _^_, _<_}
+use mathlib.Core.Path.{_≡_, refl, sym, ap, ap₂, _∙_, subst}
+use mathlib.Core.List.{List, [], _∷_, _++_, map}
+use mathlib.Core.Logic.{_⊎_, inl, inr}
+use native.Mathlib.Omega.{arith}
+use lib.IntN.{ℤ}
+use lib.ListN.{length, take, drop, length-map}
+use lib.Seq.{take-at, drop-at}
+use denote.Ref.{now}
+use Rattle.basis.proofs.Cases.{eq-or-ne}
+use Rattle.answer.specs.declared.Report.{Report}
+use Rattle.answer.specs.declared.Answer.{Answer}
+use Rattle.answer.specs.declared.Answer.the-variants.{Done}
+use Rattle.answer.specs.Number.{numberOf}
+use Rattle.answer.proofs.Numbers.{0-is-done}
+use Rattle.number.specs.Signed.{Signed32, wordOf, signedOf}
+use Rattle.number.proofs.RoundTrip.{signed-word, word-lt}
+use Rattle.site.specs.declared.Site.{Site}
+use Rattle.site.specs.Call.{Command}
+use Rattle.store_site.specs.Layout.{siteOf}
+use Rattle.store_table.specs.Layout.{tableOf}
+use Rattle.packet_command.specs.Handing.{commandWord, handedOver}
+use Rattle.calls.specs.Calls.{Call, planOf, stepBy}
+use Rattle.calls.specs.Calls.Call.{packet}
+use Rattle.calls.proofs.Kept.{kept as calls-kept}
+use Rattle.sitec.specs.declared.Outcome.{Outcome}
+use Rattle.sitec.specs.Outcome.{reportIn, outcomeOf, misfit}
+use Rattle.sitec.specs.Lent.{WithCommands}
+use Rattle.machine.specs.State.{Command as MachineCommand, commandOf}
+use Rattle.refine_calls.specs.Calls.{SameCommands}
+use Rattle.refine_calls.specs.Calls.SameCommands.{no-command, one-command}
+use Rattle.equation.specs.Contracts.{commandIn, Packets}
+use Rattle.equation.specs.Contracts.Packets.{packet-call}
+
+-- a command out of its word
+word-back : (number : ℕ) (value : ℤ) → Signed32 value → commandIn (commandWord (record { number = number; value = value })) ≡ commandOf number value
+word-back number value s =
+    let word = number * 2 ^ 32 + wordOf value in
+    let small = word-lt value s in
+    let high : word / 2 ^ 32 ≡ number = omega (arith, small) in
+    let low : word % 2 ^ 32 ≡ wordOf value = omega (arith, small) in
+    ap₂ commandOf high (ap signedOf low ∙ signed-word value s)
+
+pub words-back : {cs : List Command} {ds : List MachineCommand} → SameCommands cs ds → map commandIn (map commandWord cs) ≡ ds
+words-back no-command = refl
+words-back (one-command {number = n} {value = v} h s same) = ap₂ (λ (d : MachineCommand) (ds : List MachineCommand). d ∷ ds) (word-back n v s) (words-back same)
+
+pub first-words : (cs : List Command) (ws : List ℕ) → take (length cs) (handedOver cs ws) ≡ map commandWord cs
+first-words cs ws = take-at (map commandWord cs) (drop (length cs) ws) (length cs) (length-map cs commandWord)
+
+rest-words : (cs : List Command) (ws : List ℕ) → drop (length cs) (handedOver cs ws) ≡ drop (length cs) ws
+rest-words cs ws = drop-at (map commandWord cs) (drop (length cs) ws) (length cs) (length-map cs commandWord)
+
+rest-so : (cs : List Command) (ws vs : List ℕ) (n : ℕ) → n ≡ length cs → vs ≡ handedOver cs ws → drop n vs ≡ drop n ws
+rest-so cs ws vs n e h = rw (e, h) (rest-words cs ws)
+
+-- a done call counts its commands
+counts : (s : Site) (c : Call) → numberOf (stepBy s c .answer) ≡ 0 → reportIn (stepBy s c .answer) .commands ≡ length (planOf s c .commands)
+counts s c z =
+    let d = 0-is-done (stepBy s c .answer) z in
+    ap (λ (a : Answer). reportIn a .commands) (d .1) ∙ ap (λ (r : Report). r .commands) (calls-kept .numbered s c .done-only-so (d .0) (d .1) .1)
+
+above : (n : ℕ) → (n ≡ 0 → ⊥) → 0 < n
+above zero h = absurd (h refl)
+above (suc n) h = omega arith
+
+-- ---- of any memory
+pub unhanded : (ts ws cs output : List ℕ) (o : Outcome) (vs ds ys : List ℕ) → Packets ts ws cs output o vs ds ys → (o .number ≡ 0 → ⊥) → ds ≡ cs
+unhanded ts ws cs output o vs ds ys (packet-call κs w table l t random received commands out q e p) wrong = p .1 .unhanded (above (o .number) wrong)
+
+pub commands-misfit : (ts ws cs output : List ℕ) (o : Outcome) (vs ds ys : List ℕ) → Packets ts ws cs output o vs ds ys → (length cs ≡ 16 → ⊥)
+    → (o .number ≡ 14) × (vs ≡ ws) × (ys ≡ output)
+commands-misfit ts ws cs output o vs ds ys (packet-call κs w table l t random received commands out q e p) wrong =
+    let number : o .number ≡ 14 = ap (λ (x : Outcome). x .number) (p .0 .called .other (λ z. wrong (z .2))) in
+    (number, p .0 .called .kept (omega (arith, number)), p .0 .unwritten (omega (arith, number)))
+
+-- it fits, or its number is 14
+fits-or : (ws ts cs : List ℕ) → WithCommands ws ts cs ⊎ (WithCommands ws ts cs → ⊥)
+fits-or ws ts cs = by (eq-or-ne (length ws) 1173) (eq-or-ne (length ts) 6178) (eq-or-ne (length cs) 16)
+  where
+    by : (length ws ≡ 1173) ⊎ (length ws ≡ 1173 → ⊥) → (length ts ≡ 6178) ⊎ (length ts ≡ 6178 → ⊥) → (length cs ≡ 16) ⊎ (length cs ≡ 16 → ⊥)
+        → WithCommands ws ts cs ⊎ (WithCommands ws ts cs → ⊥)
+    by (inl a) (inl b) (inl c) = inl (a, b, c)
+    by (inl a) (inl b) (inr c) = inr (λ z. c (z .2))
+    by (inl a) (inr b) c = inr (λ z. b (z .1))
+    by (inr a) b c = inr (λ z. a (z .0))
+
+pub behind : (ts ws cs output : List ℕ) (o : Outcome) (vs ds ys : List ℕ) → Packets ts ws cs output o vs ds ys → drop (o .commands) ds ≡ drop (o .commands) cs
+behind ts ws cs output o vs ds ys (packet-call κs w table l t random received commands out q e p) = by (eq-or-ne (o .number) 0) (fits-or ws ts cs)
+  where
+    by : (o .number ≡ 0) ⊎ (o .number ≡ 0 → ⊥) → WithCommands ws ts cs ⊎ (WithCommands ws ts cs → ⊥) → drop (o .commands) ds ≡ drop (o .commands) cs
+    by (inr n) f = ap (drop (o .commands)) (p .1 .unhanded (above (o .number) n))
+    by (inl z) (inr f) = absurd (let number : o .number ≡ 14 = ap (λ (x : Outcome). x .number) (p .0 .called .other f) in omega (arith, z, number))
+    by (inl z) (inl f) =
+        let c : Call = packet l t random (now received) output in
+        let done = p .0 .called .outcome f in
+        let count = ap (λ (x : Outcome). x .commands) done ∙ counts (siteOf ws (tableOf ts)) c (sym (ap (λ (x : Outcome). x .number) done) ∙ z) in
+        rest-so (planOf (siteOf ws (tableOf ts)) c .commands) cs ds (o .commands) count (p .1 .handed f z)

@@ -1,0 +1,9 @@
+-- Their CommandRequest comes to what it comes to in the machine. proofs/Commands.antt proves it.
+-- Assumes nothing.
+use Rattle.read_commands.specs.Command.{commandAt}
+use Rattle.packet_command.specs.Commanding.{commandTaken}
+use Rattle.refine_packet.specs.Taken.{SameAsked}
+use Rattle.refine_packet.specs.Ordered.{IsUp}
+
+abbrev pub SameCommandRequest : Type 0
+SameCommandRequest = SameAsked "CommandRequest" IsUp (λ s l t id received p. commandTaken s l t id received (commandAt p))
