@@ -15,7 +15,7 @@ import tempfile
 from built import output, program
 
 import cases
-from replays import Hand
+from replays import COMMANDED, Hand
 
 TIMES = 2000
 
@@ -23,8 +23,8 @@ TIMES = 2000
 class Case:
     """A hand whose last act is measured."""
 
-    def __init__(self, name, lead, act):
-        hand = Hand()
+    def __init__(self, name, lead, act, site=None):
+        hand = Hand() if site is None else Hand(site=site)
         lead(hand)
         answer = act(hand)
         *lines, self.call = (line for line, _ in hand.player.pairs)
@@ -101,6 +101,11 @@ def told_statuses(kind):
     return told(lambda supervisor: of_statuses(supervisor, kind))
 
 
+def commanded(hand):
+    """Four entries, of the second component."""
+    return hand.command(0, (0, 1), (1, 250), (2, -1), (0, 0))
+
+
 def later(act):
     def done(hand):
         hand.time += 1000
@@ -133,6 +138,9 @@ CASES = (
     ("packet StatusRequest", both_up, told_statuses("StatusRequest")),
     ("packet StatusSubscribe", both_up, told_statuses("StatusSubscribe")),
     ("packet StatusUnsubscribe", subscribed, told_statuses("StatusUnsubscribe")),
+    ("packet CommandRequest", both_up, commanded, COMMANDED),
+    ("packet CommandRequest, refused", both_up, lambda hand: hand.command(0, (0, 1), (1, 250), (2, -1), (0, 2)), COMMANDED),
+    ("start, edition 2", nothing, nothing, COMMANDED),
     ("held and lost", both_up, lambda hand: hand.player.counts()),
     ("phase, version and record", both_up, lambda hand: hand.player.readings()),
 )

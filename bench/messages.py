@@ -42,6 +42,7 @@ READ = {
     "StatusRequest": request("StatusRequest", sS=entries(4)),
     "StatusSubscribe": request("StatusSubscribe", sS=entries(4, uRt="60", sOc=True)),
     "StatusUnsubscribe": request("StatusUnsubscribe", sS=entries(4)),
+    "CommandRequest": request("CommandRequest", arg=[{"cCI": "M0001", "n": f"limit{place}", "cO": "setValue", "v": str(250 - place)} for place in range(4)]),
 }
 WRITTEN = {
     "Version": ("V", message.version(IDENTITY, COMPONENT, "1.0.13")),

@@ -23,9 +23,10 @@ static void judge(void)
 {
     int done = report.number == RSMP_DONE;
     if (report.number >= NUMBERS) give_up("no such number");
-    if (!done && (report.written || report.closed || report.hinted || report.hint)) give_up("refused, and something is reported");
+    if (!done && (report.written || report.closed || report.hinted || report.hint || report.commands)) give_up("refused, and something is reported");
     if (report.written > line.room || report.closed >= 1 << RSMP_LINKS || report.hinted > 1) give_up("no such report");
-    if (!done && memcmp(site, &before, sizeof before) != 0) give_up("refused, and the site changed");
+    if (report.commands > RSMP_COMMANDS || (report.commands && !is(&line, "packet"))) give_up("no such commands");
+    if (!done && memcmp(site, &before, RSMP_SITE_BYTES) != 0) give_up("refused, and the site changed");
     if (!is(&line, "start") && memcmp(site->table, before.table, sizeof before.table) != 0) give_up("the site's table changed");
     if (!is_pattern(guarded.before, SITE_GUARD) || !is_pattern(guarded.behind, SITE_GUARD)) give_up("bytes around the site changed");
     if (!is_pattern(output + report.written, sizeof output - report.written)) give_up("a byte behind the written ones changed");

@@ -1,4 +1,5 @@
 """`make run`: a barrier's site talks to two supervisors over TCP on this machine."""
+import pathlib
 import re
 import subprocess
 import sys
@@ -7,7 +8,7 @@ import time
 
 import weeks
 from model import message
-from process import NORTH, SITE, SXL, Process, subscription
+from process import NORTH, SITE, SOUTH, SXL, WITH_COMMANDS, Process, boom, subscription
 from supervisors import Supervisor
 
 RELEASE, TOO_LATE = 1, 2
@@ -37,7 +38,34 @@ def alarms(supervisor):
     return sum(said["aS"] == "Active" for said in supervisor.of("Alarm"))
 
 
-def show(process, centre, workshop):
+class Motor:
+    """What moves the booms: a program that notes each movement when it has ended."""
+
+    def __init__(self, room):
+        self.program, self.notes = pathlib.Path(room) / "move", pathlib.Path(room) / "movements"
+        self.program.write_text(f'#!/bin/sh\nsleep 0.5\necho "$1 $3 $4" >>{self.notes}\n')
+        self.program.chmod(0o755)
+
+    def moved(self):
+        return self.notes.read_text().splitlines() if self.notes.exists() else []
+
+
+def test_booms(process, centre, workshop, motor):
+    say("An operator at the centre tests the north boom from the desk, the workshop the south one:")
+    orders = [(centre, NORTH, 1), (workshop, SOUTH, 1), (centre, NORTH, 0), (workshop, SOUTH, 0)]
+    for one, component, value in orders:
+        one.ask("CommandRequest", **boom(value, component))
+    answered = [entry["age"] for said in centre.of("CommandResponse") for entry in said["rvs"]]
+    say(f"  the site has answered ({', '.join(answered)}) and runs a program for each, in the order in which they came; now {process.order('commands')}")
+    centre.wait(lambda: len(motor.moved()) == len(orders), "the booms")
+    if motor.moved() != [f"{component} boom {value}" for _, component, value in orders]:
+        sys.exit(f"the booms moved in another order: {motor.moved()}")
+    say("  the booms moved: " + ", ".join(f"{line.split()[0][-5:]} {'up' if line.endswith('1') else 'down'}" for line in motor.moved()))
+    say(f"  and a value that the boom does not have is refused: {centre.ask('CommandRequest', **boom(2))}.")
+    say()
+
+
+def show(process, centre, workshop, motor):
     say(f"The site of a road barrier starts and calls its two supervisors: the traffic centre (primary) on {centre.address},")
     say(f"the workshop (secondary) on {workshop.address}.")
     centre.wait_up()
@@ -68,6 +96,7 @@ def show(process, centre, workshop):
     say("The connection is back, greeted anew, and what waited arrives, marked as what it is: "
         + ", ".join(f"{value} ms ({quality})" for value, quality in updates(centre)[-3:]))
     say()
+    test_booms(process, centre, workshop, motor)
     say("The workshop floods the site: it subscribes 640 times and answers nothing.")
     workshop.answers = False
     for _ in range(40):
@@ -100,9 +129,10 @@ def report(centre):
 def main():
     centre, workshop = Supervisor(SITE, SXL), Supervisor(SITE, SXL, offer="3.1.5")
     with tempfile.TemporaryDirectory() as room:
-        process = Process(room, [centre, workshop])
+        motor = Motor(room)
+        process = Process(room, [centre, workshop], "--on-command", motor.program, table=WITH_COMMANDS)
         try:
-            show(process, centre, workshop)
+            show(process, centre, workshop, motor)
             process.quit()
         finally:
             process.process.kill()

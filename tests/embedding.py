@@ -1,5 +1,5 @@
 """The library as a C program gets it: nothing undefined but four functions of memory, the header without a warning, the example of
-docs/EMBEDDING.md compiled and run, and a site's bytes out and in.
+docs/EMBEDDING.md compiled and run, commands handed over, and a site's bytes out and in.
 
   embedding.py --stored
 """
@@ -16,6 +16,7 @@ from cases import ROOT
 LIBRARY, HEADER = ROOT / "build" / "librsmp_site.a", ROOT / "build" / "rsmp_site.h"
 CC, RUN = ROOT / "build" / "tools" / "cc", ROOT / "build" / "tools" / "run"
 STRICT = ["-std=c11", "-Wall", "-Wextra", "-Wpedantic", "-Werror", "-O2"]
+SCRIPTS = ROOT / "tests" / "scripts"
 ALLOWED = {"memcpy", "memmove", "memset", "memcmp"}
 NM = r"^\s*([0-9a-f]*)\s+([A-Za-z])\s+(\S+)$"
 
@@ -39,7 +40,7 @@ def judge_symbols():
     header = re.sub(r"/\*.*?\*/", "", HEADER.read_text(), flags=re.DOTALL)
     inline = r"^static inline .*?(?:^}| })$"
     declared = set(re.findall(r"\b(rsmp_[a-z_]+)\(", re.sub(inline, "", header, flags=re.DOTALL | re.MULTILINE)))
-    exported = {name for kind, name in symbols() if kind == "T" and not re.search(r"\d", name)}  # not rsmp_lent_start_0_3_0
+    exported = {name for kind, name in symbols() if kind == "T" and not re.search(r"\d", name)}  # not rsmp_lent_start_0_4_0
     hold(declared == {name for name in exported if name.startswith("rsmp_")}, f"header and archive differ: {sorted(declared ^ exported)}")
     called = {re.search(r"\b(rsmp_[a-z_]+)\(", body)[1] for body in re.findall(inline, header, re.DOTALL | re.MULTILINE)}
     hold({name.replace("lent_", "") for name in declared} <= called, f"not to be called: {sorted(declared - called)}")
@@ -91,6 +92,20 @@ def judge_stored():
             hold(run("in", given=bytes_) == b"11 0\n", f"C takes {what}")
 
 
+def judge_commands():
+    """What C gets of a packet's commands is what the stored answers say."""
+    handed = 0
+    with compiled("commands") as run:
+        for script in ("commands", "commands_refused", "commands_of_edition_1", "alarm_orders"):
+            answers = [line.split() for line in (SCRIPTS / f"{script}.answers").read_text().splitlines()]
+            given = (SCRIPTS / f"{script}.txt").read_bytes()
+            reads = [line.split()[0] in (b"counts", b"readings") for line in given.splitlines()]
+            wanted = ["0" if read else " ".join([answer[0], *answer[4:]]) for read, answer in zip(reads, answers)]
+            hold(run(given=given).decode().splitlines() == wanted, f"C gets other commands of the script {script}")
+            handed += sum(line.count("=") for line in wanted)
+    return handed
+
+
 def main(words):
     if words != ["--stored"]:
         print(__doc__)
@@ -98,7 +113,8 @@ def main(words):
     count = judge_symbols()
     judge_example()
     judge_stored()
-    print(f"embedding: {count} functions, the header and the example of docs/EMBEDDING.md hold; {judge_lengths()} calls with wrong lengths are refused")
+    print(f"embedding: {count} functions, the header and the example of docs/EMBEDDING.md hold; {judge_lengths()} calls with wrong lengths are refused; "
+          f"{judge_commands()} commands handed over to C")
     return 0
 
 

@@ -3,7 +3,7 @@
   interop.py --stored
 
 A conversation is a block that begins with ```rsmp. It starts with link 0, the primary, and link 1 Up, everything that was due sent and
-answered, on the site of examples/barrier.txt. Link 1 counts where a line names it. The
+answered, on the site of examples/barrier.txt; behind ```rsmp commands on that of examples/commands.txt. Link 1 counts where a line names it. The
 lines, in which a 1 in front is said of link 1:
   > {..}           the supervisor sends this; mType and mId are put in where they are missing
   < {..}           the next message of the site, which has these elements and perhaps others
@@ -11,6 +11,7 @@ lines, in which a 1 in front is said of link 1:
   < nothing        the site sends nothing
   < closed         the site closes the link
   ! NUMBER         the call gave this number: the packet was not taken
+  = N=V,N=V..      the commands handed over since the last such line, by number and value; = nothing
   * connected      from here on link 0 is new: connected, our Version sent and acknowledged
   * cut, * up again, * SECONDS s, * alarm NUMBER on|off, * status NUMBER VALUE     what happens at the site
   * silent         from here on the supervisor answers nothing by itself; else it acknowledges every message
@@ -26,7 +27,7 @@ from model import link as links_
 from model import table
 
 PAGE = ROOT / "docs" / "INTEROP.md"
-EXAMPLE = ROOT / "examples" / "barrier.bits"
+EXAMPLES = {"": ROOT / "examples" / "barrier.bits", " commands": ROOT / "examples" / "commands.bits"}
 
 
 class Wrong(Exception):
@@ -43,10 +44,10 @@ def has(message, wanted):
 
 
 class Talk:
-    def __init__(self, named):
+    def __init__(self, named, example):
         self.named = named
-        self.hand = replays.Hand(site=table.read(EXAMPLE.read_bytes()))
-        self.count, self.silent = 0, False
+        self.hand = replays.Hand(site=table.read(example.read_bytes()))
+        self.count, self.silent, self.commands = 0, False, []
         self.new_site()
 
     def new_site(self):
@@ -60,6 +61,7 @@ class Talk:
         if not answer.number:
             self.sent[link] += [json.loads(text) for text in answer.written.split(b"\f")[:-1]]
             self.closed |= set(answer.closed)
+            self.commands += answer.commands
 
     def pump(self, link):
         """Until nothing is due; what is sent is acknowledged."""
@@ -142,7 +144,7 @@ class Talk:
             raise Wrong(f"before it links {self.closed} are closed")
 
     def line(self, text):
-        link, mark, rest = re.fullmatch(r"(1?)([<>!*]) (.*)", text).groups()
+        link, mark, rest = re.fullmatch(r"(1?)([<>!*=]) (.*)", text).groups()
         link = int(link or 0)
         if mark == ">":
             self.say(link, rest)
@@ -150,6 +152,10 @@ class Talk:
             self.expect(link, rest)
         elif mark == "*":
             self.happen(rest.split())
+        elif mark == "=":
+            handed, self.commands = ",".join(f"{number}={value}" for number, value in self.commands) or "nothing", []
+            if handed != rest:
+                raise Wrong(f"the site hands over {handed}")
         elif self.number != int(rest):
             raise Wrong(f"the number is {self.number}")
 
@@ -159,23 +165,23 @@ def main(words):
         print(__doc__)
         return 2
     text = PAGE.read_text()
-    blocks = list(re.finditer(r"^```rsmp\n(.*?)^```$", text, re.DOTALL | re.MULTILINE))
+    blocks = list(re.finditer(r"^```rsmp(| commands)\n(.*?)^```$", text, re.DOTALL | re.MULTILINE))
     players, lines = [], 0
     for block in blocks:
-        talk, at = Talk({0, 1} if re.search(r"^1", block[1], re.MULTILINE) else {0}), text[:block.start(1)].count("\n")
-        for line in block[1].splitlines():
+        talk, at = Talk({0, 1} if re.search(r"^1", block[2], re.MULTILINE) else {0}, EXAMPLES[block[1]]), text[:block.start(2)].count("\n")
+        for line in block[2].splitlines():
             at += 1
             try:
                 talk.line(line)
             except (Wrong, AttributeError, ValueError) as wrong:
                 sys.exit(f"docs/INTEROP.md:{at}: {line}\n  {wrong}")
-        lines += len(block[1].splitlines())
+        lines += len(block[2].splitlines())
         try:
             talk.settled()
         except Wrong as wrong:
             sys.exit(f"docs/INTEROP.md:{at}: at the end: {wrong}")
         players.append(talk.hand.done())
-    if len(blocks) < 15:
+    if len(blocks) < 20:
         sys.exit(f"docs/INTEROP.md has {len(blocks)} conversations only")
     print(f"interop: {len(blocks)} conversations of docs/INTEROP.md, {lines} lines, hold in the model")
     replays.compare(players, "the conversations of docs/INTEROP.md")

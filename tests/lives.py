@@ -11,13 +11,14 @@ BAD_NUMBERS = (4, 5, 32, 33, 255, 256, 2**31, LAST_SEQUENCE)
 
 # How often each act comes, by the kind of life. What is not named comes with the weight of "ordinary".
 ORDINARY = {"rise": 30, "pump": 25, "pump_out": 4, "answer": 25, "answer_all": 6, "refuse": 2, "alarm": 8, "status": 8, "aggregated": 3,
-            "tick": 4, "late_tick": 0.5, "due_tick": 3, "good": 12, "subscribe": 2, "spoiled": 3, "damaged": 3, "disconnect": 0.6, "connect": 1,
+            "tick": 4, "late_tick": 0.5, "due_tick": 3, "good": 12, "command": 4, "subscribe": 2, "spoiled": 3, "damaged": 3, "disconnect": 0.6, "connect": 1,
             "failing": 0.2, "bad_link": 0.6, "bad_number": 0.6, "bad_room": 0.6, "bad_length": 0.3, "bad_time": 1, "same_identity": 3,
             "stranger": 2, "restart": 0.2, "counts": 4, "readings": 1}
 LIVES = {
     "ordinary": {},
     "deaf": {"answer": 3, "answer_all": 0.3, "pump": 40, "good": 60, "tick": 1, "same_identity": 10, "due_tick": 0.2},
     "flood": {"answer": 1, "answer_all": 0.2, "subscribe": 8, "status": 60, "alarm": 15, "aggregated": 15, "pump": 8, "due_tick": 10},
+    "desk": {"command": 60, "answer": 60, "pump": 30, "spoiled": 10},
     "busy": {"answer": 40, "status": 30, "alarm": 10, "pump": 40, "subscribe": 5, "due_tick": 10},
     "greeting": {"rise": 25, "connect": 8, "disconnect": 8, "failing": 8, "refuse": 8, "good": 10, "spoiled": 8, "stranger": 5},
     "crumbling": {"late_tick": 4, "disconnect": 4, "connect": 4, "alarm": 15, "status": 15, "subscribe": 4, "pump": 30},
@@ -46,8 +47,16 @@ def some_table(source, full=False):
     code = lambda: source.choice(codes) if source.random() < 0.5 else label(source)
     alarms = distinct(rows, lambda: (one(), code()))
     statuses = distinct(32 if full else source.choice((0, 1, 2, 3, 5, 8, 32)), lambda: (one(), code(), code()))
+    commands = distinct(16 if full else source.choice((0, 0, 1, 2, 5, 16)), lambda: (one(), code(), code()))
     return table.Table(label(source), label(source), components,
-                       [(component, source.randint(1, 3), source.randrange(2), code_) for component, code_ in alarms], statuses)
+                       [(component, source.randint(1, 3), source.randrange(2), code_) for component, code_ in alarms], statuses,
+                       [(*row, *limits(source)) for row in commands], source.choice((None, 2)))
+
+
+def limits(source):
+    """The lowest and the highest value of a command."""
+    ends = (-2**15, -1, 0, 1, 2**15 - 1, source.randrange(-2**15, 2**15), source.randrange(-2**15, 2**15))
+    return sorted((source.choice(ends), source.choice(ends)))
 
 
 class Life:
@@ -230,6 +239,9 @@ class Life:
     def good(self):
         self.tell(self.connected(), self.supervisor.good())
 
+    def command(self):
+        self.tell(self.link_in(links_.UP), self.supervisor.commands())
+
     def subscribe(self):
         rate = self.source.choice((None, None, ("0", True)))
         for _ in range(self.source.choice((1, 1, 1, 4))):
@@ -271,7 +283,7 @@ class Life:
                 self.player.pump(link, self.later(), bytes(random))
             else:
                 asking = self.source.choice((self.supervisor.aggregated_request, lambda: self.supervisor.order("Request"),
-                                             lambda: self.supervisor.of_statuses("StatusRequest")))
+                                             lambda: self.supervisor.of_statuses("StatusRequest"), self.supervisor.commands))
                 self.player.packet(link, self.later(), bytes(random), self.supervisor.written(asking()))
 
     def counts(self):

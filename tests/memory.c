@@ -99,7 +99,7 @@ static void judge_site(int starts)
     static int started;
     if (starts && report.number != RSMP_DONE && started) VALGRIND_MAKE_MEM_DEFINED(site, sizeof *site);
     started |= starts && report.number == RSMP_DONE;
-    if (started) VALGRIND_CHECK_MEM_IS_DEFINED(site, sizeof *site);
+    if (started) VALGRIND_CHECK_MEM_IS_DEFINED(site, RSMP_SITE_BYTES);
 }
 
 static void play_line(void)

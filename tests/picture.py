@@ -1,4 +1,4 @@
-"""Pictures by `rsmp-replay --picture`: well-formed, and with the numbers that the model in tests/model counts.
+"""Pictures by `rsmp-replay --picture`: well-formed, and with the numbers of records and commands that the model in tests/model counts.
 
   picture.py --stored        pictures of the stored scripts
   picture.py --fresh [SEED]  .. of random ones
@@ -18,7 +18,7 @@ from model import pool, site
 PROGRAM = ROOT / "build" / "rsmp-replay"
 NAME = "{http://www.w3.org/2000/svg}"
 PHASES = ("Down", "Greeting", "Beating", "Up")
-WHAT = ("issued", "sent", "answered", "lost")
+WHAT = ("issued", "sent", "answered", "lost", "commands")
 LINES = 4000
 
 
@@ -27,8 +27,8 @@ class Counting:
 
     def __enter__(self):
         self.count = collections.Counter()
-        self.kept = pool.Pool.issue, pool.Pool.lose, pool.Pool.settle, site.Site.pump
-        issue, lose, settle, pump = self.kept
+        self.kept = pool.Pool.issue, pool.Pool.lose, pool.Pool.settle, site.Site.pump, site.Site.packet
+        issue, lose, settle, pump, packet = self.kept
         count = self.count
 
         def issuing(one, record):
@@ -48,11 +48,16 @@ class Counting:
             count["sent", link] += list(one.links[link].awaited.values())[-1][0] == links_.RECORD
             return done
 
-        pool.Pool.issue, pool.Pool.lose, pool.Pool.settle, site.Site.pump = issuing, losing, settling, pumping
+        def packeting(one, link, *more):
+            done = packet(one, link, *more)
+            count["commands", link] += len(done.commands)
+            return done
+
+        pool.Pool.issue, pool.Pool.lose, pool.Pool.settle, site.Site.pump, site.Site.packet = issuing, losing, settling, pumping, packeting
         return self
 
     def __exit__(self, *_):
-        pool.Pool.issue, pool.Pool.lose, pool.Pool.settle, site.Site.pump = self.kept
+        pool.Pool.issue, pool.Pool.lose, pool.Pool.settle, site.Site.pump, site.Site.packet = self.kept
 
 
 def hold(good, what):
@@ -82,6 +87,7 @@ def judge(what, player, count):
         hold(group.get("data-phase") == PHASES[one.phase], f"{what}, link {number}: {group.get('data-phase')}")
         words = " ".join("".join(text.itertext()) for text in group.iter(NAME + "text"))
         hold(f"{wanted['answered']} answered, {wanted['held']} held at the end, {wanted['lost']} lost" in words, f"{what}: {words}")
+        hold((f"{wanted['commands']} command" in words) == (wanted["commands"] > 0), f"{what}: {words}")
     return len(root.findall(".//*"))
 
 

@@ -21,7 +21,8 @@ def shown(answer):
         return str(answer.number)
     mask = sum(1 << link for link in answer.closed)
     hint = "-" if answer.hint is None else answer.hint
-    return f"0 {mask} {hint} {hexed(answer.written)}"
+    commands = " " + ",".join(f"{number}={value}" for number, value in answer.commands) if answer.commands else ""
+    return f"0 {mask} {hint} {hexed(answer.written)}{commands}"
 
 
 class Player:
@@ -50,6 +51,7 @@ class Player:
         if not answer.number:
             self.came["hint"] += answer.hint is not None
             self.came["closed by", name] += len(answer.closed)
+            self.came["command"] += len(answer.commands)
         return answer
 
     def connect(self, link, time):

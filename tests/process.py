@@ -11,14 +11,14 @@ import tabletexts
 from cases import ROOT
 
 PROGRAM = ROOT / "build" / "rsmp-site"
-TABLE = ROOT / "examples" / "barrier.txt"
+TABLE, WITH_COMMANDS = ROOT / "examples" / "barrier.txt", ROOT / "examples" / "commands.txt"
 BARRIER = tabletexts.table_of(TABLE.read_text())
 SITE, SXL = BARRIER.site.decode(), BARRIER.sxl.decode()
-NORTH = BARRIER.components[1].decode()
+NORTH, SOUTH = (BARRIER.components[number].decode() for number in (1, 2))
 RELEASE = 1
 LOGGED = re.compile(r"\d{4}-\d\d-\d\d \d\d:\d\d:\d\d\.\d{3}Z (error  |warning|info   |message|debug  ) (site  |link \d)  ")
 
-NO_REPLY = re.compile(r"summary|  link |\(\d+ lines")
+NO_REPLY = re.compile(r"summary|  link |  commands |\(\d+ lines")
 
 
 class Failed(Exception):
@@ -43,6 +43,15 @@ def wait(test, what, seconds=20):
 
 def subscription(name="release", code="S0101", rate="0", change=True):
     return {"cId": NORTH, "sS": [{"sCI": code, "n": name, "uRt": rate, "sOc": change}]}
+
+
+def commanding(*entries, component=NORTH):
+    """The fields of a CommandRequest: code, name and value of each command."""
+    return {"cId": component, "arg": [{"cCI": code, "n": name, "cO": "setValue", "v": str(value)} for code, name, value in entries]}
+
+
+def boom(value, component=NORTH):
+    return commanding(("M0101", "boom", value), component=component)
 
 
 class Process:

@@ -7,7 +7,7 @@
 The program answers `-` for a packet that is ignored whatever the site's state; A or N and an identity's 32 digits for an answer;
 else the received mId, mType's verdict (G good, M "Missing element", B "Bad value"), the type's letter (X where it is not taken),
 and, where mType is good and the type taken, the verdict of its fields and, where that is good, the fields: labels in hexadecimal,
-times and seconds in decimal, a version as one number, lists behind their length. An entry of a StatusRequest or StatusUnsubscribe
+times, seconds and values in decimal, a version as one number, lists behind their length. An entry of a StatusRequest or StatusUnsubscribe
 has 0 and t for uRt and sOc. A Version's last word is what comes of it against OFFERED, SITE and SXL: the version that is chosen,
 or R, I or X for the check that fails.
 """
@@ -25,7 +25,7 @@ from packets import damaged
 
 SITE, SXL = "O+14439=481WA001", "1.0.13"
 LETTERS = {"Version": "V", "Watchdog": "W", "Alarm": "A", "AggregatedStatusRequest": "G", "StatusRequest": "R",
-           "StatusSubscribe": "S", "StatusUnsubscribe": "U"}
+           "StatusSubscribe": "S", "StatusUnsubscribe": "U", "CommandRequest": "C"}
 ORDERS = {"Request": "Q", "Acknowledge": "A", "Suspend": "S", "Resume": "R"}
 FAILED = {"RSMP version": "R", "Site id": "I", "SXL version": "X"}
 LONGEST = 8191
@@ -58,6 +58,10 @@ def words_of(kind, said):
     if kind == "AggregatedStatusRequest":
         return [hexed(said["component"])]
     words = [hexed(said["component"]), len(said["entries"])]
+    if kind == "CommandRequest":
+        for code, name, value in said["entries"]:
+            words += [hexed(code), hexed(name), value]
+        return words
     for code, name, rate, change in said["entries"]:
         words += [hexed(code), hexed(name), rate or 0, "f" if change is False else "t"]
     return words
@@ -119,11 +123,12 @@ AGGREGATED = head("AggregatedStatusRequest") + [("cId", SITE)]
 REQUEST = head("StatusRequest") + [("cId", SITE), ("sS", [{"sCI": "S0003", "n": "inputstatus"}])]
 SUBSCRIBE = head("StatusSubscribe") + [("cId", SITE), ("sS", [{"sCI": "S0001", "n": "cyclecounter", "uRt": "5", "sOc": False}])]
 UNSUBSCRIBE = head("StatusUnsubscribe") + [("cId", SITE), ("sS", [{"sCI": "S0001", "n": "cyclecounter"}])]
+COMMAND = head("CommandRequest") + [("cId", SITE), ("arg", [{"cCI": "M0001", "n": "boom", "cO": "setValue", "v": "-1"}])]
 ACK = [("mType", "rSMsg"), ("type", "MessageAck"), ("oMId", MID)]
 NOT_ACK = [("mType", "rSMsg"), ("type", "MessageNotAck"), ("oMId", MID), ("rea", "Unknown packet type: Watchdddog")]
-REQUESTS = (VERSION, WATCHDOG, ALARM, AGGREGATED, REQUEST, SUBSCRIBE, UNSUBSCRIBE)
+REQUESTS = (VERSION, WATCHDOG, ALARM, AGGREGATED, REQUEST, SUBSCRIBE, UNSUBSCRIBE, COMMAND)
 EVERY = (*REQUESTS, ACK, NOT_ACK)
-LISTED = {"RSMP": VERSION, "siteId": VERSION, "sS": SUBSCRIBE}
+LISTED = {"RSMP": VERSION, "siteId": VERSION, "sS": SUBSCRIBE, "arg": COMMAND}
 
 
 def put(members, name, value):
@@ -151,7 +156,8 @@ def places(members):
 
 
 # Source document 000, chapter 4.4: the listings of the taken types. Repaired: a brace inside listing 4 and a comma at the end of
-# listing 12 are gone, `oMid` of listings 22 and 23 is `oMId`, and the digit that listing 23's identity lacks is there.
+# listing 12 are gone, and the page's end inside listing 20; `oMid` of listings 22 and 23 is `oMId`, and the digit that listing 23's
+# identity lacks is there.
 
 def listing(kind, identity, elements):
     return b'{\n  "mType": "rSMsg",\n  "type": "' + kind + b'",\n  "mId": "' + identity + b'",\n' + elements + b"\n}\n"
@@ -169,6 +175,11 @@ def alarm_listing(identity, order):
 def status_listing(kind, identity, entries, outer=b"0+14439=481WA001"):
     shown = b", ".join(b"{\n" + b",\n".join(b'      "%s": %s' % member for member in entry) + b"\n    }" for entry in entries)
     return listing(kind, identity, about(b"0+14439=481WA001", b',\n  "sS": [\n    ' + shown + b"\n  ]", outer))
+
+
+def command_listing(identity, values):
+    entries = b",".join(b'{\n      "cCI": "M0001",\n      "n": "%s",\n      "cO": "setValue",\n      "v": "%s"\n    }' % named for named in values)
+    return listing(b"CommandRequest", identity, about(b"0+14439=481WA001", b',\n  "arg": [\n    ' + entries + b"\n  ]", b"0+14439=481WA001"))
 
 
 def asked(code, name, *more):
@@ -194,6 +205,9 @@ def listings():
     yield status_listing(b"StatusSubscribe", b"6bbcb26e-78fe-4517-9e3d-8bb4f972c076",
                          [rated(b"S0096", b"hour", b"120"), rated(b"S0096", b"minute", b"60")], b"")
     yield status_listing(b"StatusUnsubscribe", b"5ff528c5-f2f0-4bc4-a335-280c52b6e6d8", [asked(b"S0001", name) for name in names])
+    values = (b"status", b"YellowFlash"), (b"securityCode", b"123"), (b"timeout", b"30"), (b"intersection", b"1")
+    yield command_listing(b"cf76365e-9c7b-44a4-86bd-d107cdfc3fcf", values)
+    yield command_listing(b"cf76365e-9c7b-44a4-86bd-d107cdfc3fcf", values[1:])
     yield b'{\n  "mType": "rSMsg",\n  "type": "MessageAck",\n  "oMId": "49c6c824-d593-4c16-b335-f04feda16986"\n}\n'
     yield (b'{\n  "mType": "rSMsg",\n  "type": "MessageNotAck",\n  "oMId": "0554dff0-9cc5-4232-97a9-018d5796e86a",\n'
            b'  "rea": "Unknown packet type: Watchdddog"\n}\n')
@@ -224,6 +238,11 @@ STRINGS = (b"", b"a", b"a" * 31, b"a" * 32, b"a" * 33, b"a" * 36, b"a" * 37, b"a
 SECONDS = (b"0", b"1", b"9", b"10", b"59", b"86399", b"86400", b"86401", b"99999", b"100000", b"4294967296",
            b"18446744073709551616", b"00", b"01", b"005", b"-1", b"-0", b"+1", b"1.0", b"1e1", b"", b" 1", b"1 ", b"0x1", b"a",
            b"\\u0031", b"\\u00300", b"\xd9\xa1", b"1" * 36, b"0" * 37)
+INTEGERS = (b"0", b"1", b"-1", b"9", b"-9", b"10", b"-10", b"32767", b"32768", b"-32768", b"-32769", b"65536", b"2147483646", b"2147483647",
+            b"2147483648", b"-2147483647", b"-2147483648", b"-2147483649", b"4294967295", b"4294967296", b"-4294967296", b"9999999999",
+            b"18446744073709551616", b"-18446744073709551616", b"00", b"-0", b"-00", b"01", b"-01", b"+1", b"--1", b"-", b"", b" 1", b"1 ",
+            b"- 1", b"1-", b"1.0", b"1e1", b"0x1", b"a", b"-a", b"\\u0031", b"\\u002d1", b"-\\u0031", b"\\u002d\\u0030", b"\xd9\xa1", b"1" * 36,
+            b"-" + b"1" * 35, b"0" * 37)
 VERSIONS = (b"3", b"3.2", b"3.2.0", b"3.1.5", b"3.1.4", b"3.1", b"3.2.1", b"0", b"0.0.0", b"255.255.255", b"256", b"3.256",
             b"3.2.256", b"999", b"3.2.0.0", b"03.2", b"3.02", b"3.2.00", b"3.", b".3", b".", b"..", b"3..2", b"3.2.", b"",
             b" 3.2", b"3.2 ", b"3,2", b"+3.2", b"-3.2", b"3.2a", b"v3.2", b"3\\u002e2", b"\\u0033.2", b"3.2\\u0000",
@@ -277,18 +296,22 @@ def spoiled():
         for members in (VERSION, ALARM, ACK, [*SUBSCRIBE, ("oMId", MID)]):
             yield raw(put(members, "type", quoted(body)))
     for body in MTYPES:
-        for members in (WATCHDOG, ACK, put(NOT_ACK, "type", "CommandRequest") + [("mId", MID)]):
+        for members in (WATCHDOG, ACK, put(NOT_ACK, "type", "CommandResponse") + [("mId", MID)]):
             yield raw(put(members, "mType", quoted(body)))
 
 
 def strings():
-    for members, name in ((VERSION, "SXL"), (ALARM, "cId"), (ALARM, "aCId"), (AGGREGATED, "cId"), (SUBSCRIBE, "cId")):
+    for members, name in ((VERSION, "SXL"), (ALARM, "cId"), (ALARM, "aCId"), (AGGREGATED, "cId"), (SUBSCRIBE, "cId"), (COMMAND, "cId")):
         for body in STRINGS:
             yield raw(put(members, name, quoted(body)))
     for body in STRINGS:
         yield raw(put(VERSION, "siteId", b'[{"sId":' + quoted(body) + b"}]"))
         yield raw(put(REQUEST, "sS", b'[{"n":"a","sCI":' + quoted(body) + b"}]"))
         yield raw(put(UNSUBSCRIBE, "sS", b'[{"sCI":"a","n":' + quoted(body) + b"}]"))
+        for name in ("cCI", "n", "cO"):
+            yield raw(put(COMMAND, "arg", b"[" + raw(put(value_in(COMMAND, "arg")[0].items(), name, quoted(body))) + b"]"))
+    for body in INTEGERS:
+        yield raw(put(COMMAND, "arg", b'[{"cCI":"M","n":"n","cO":"o","v":' + quoted(body) + b"}]"))
     for body in VERSIONS:
         yield raw(put(VERSION, "RSMP", b'[{"vers":' + quoted(body) + b"}]"))
     for body in TIMES:
@@ -329,6 +352,8 @@ def lists():
             yield raw(put(members, "type", kind))
     longest = {"sCI": ALPHABETIC[:32], "n": ALPHABETIC[-32:], "uRt": "86400", "sOc": True}
     yield raw(put(put(SUBSCRIBE, "sS", [longest] * 16), "cId", ALPHABETIC[30:62]))
+    longest = {"cCI": ALPHABETIC[:32], "n": ALPHABETIC[-32:], "cO": ALPHABETIC[20:52], "v": "-2147483648"}
+    yield raw(put(put(COMMAND, "arg", [longest] * 16), "cId", ALPHABETIC[30:62]))
     yield raw([*VERSION[:3], ("RSMP", [{"vers": "255.255.255"}] * 16), ("siteId", [{"sId": ALPHABETIC[:32]}] * 16),
                ("SXL", ALPHABETIC[-32:])])
 
@@ -356,13 +381,14 @@ def orders():
         for bad, gone in itertools.permutations([name for name, _ in members], 2):
             yield raw(without(put(members, bad, 7), gone))
             yield raw(without(put(members, bad, 7), gone)[::-1])
-    for gone, bad in itertools.permutations(("sCI", "n", "uRt", "sOc"), 2):
-        entry = value_in(SUBSCRIBE, "sS")[0]
-        one, two = {n: v for n, v in entry.items() if n != gone}, {**entry, bad: 7}
-        yield raw(put(SUBSCRIBE, "sS", [one, two]))
-        yield raw(put(SUBSCRIBE, "sS", [two, one]))
-        yield raw(put(put(SUBSCRIBE, "cId", 7), "sS", [one]))
-        yield raw(put(SUBSCRIBE, "sS", [{n: v for n, v in two.items() if n != gone}]))
+    for name, members in (("sS", SUBSCRIBE), ("arg", COMMAND)):
+        entry = value_in(members, name)[0]
+        for gone, bad in itertools.permutations(entry, 2):
+            one, two = {n: v for n, v in entry.items() if n != gone}, {**entry, bad: 7}
+            yield raw(put(members, name, [one, two]))
+            yield raw(put(members, name, [two, one]))
+            yield raw(put(put(members, "cId", 7), name, [one]))
+            yield raw(put(members, name, [{n: v for n, v in two.items() if n != gone}]))
 
 
 def written_otherwise():
@@ -440,6 +466,12 @@ def some_entry(source, subscribing):
     return calm(source, members)
 
 
+def some_command(source):
+    value = source.choice((0, 1, -1, source.randint(-32768, 32767), source.randint(-2**31, 2**31 - 1)))
+    return calm(source, [("cCI", some_label(source)), ("n", some_label(source)), ("cO", some_label(source)),
+                         ("v", some_text(source, (str(value),), INTEGERS))])
+
+
 def calm(source, members):
     """As `shuffled`, rarely: entries are many."""
     return shuffled(source, members) if source.random() < 0.1 else raw(members)
@@ -462,6 +494,8 @@ def some_fields(source, kind):
         fields += [("aCId", some_label(source)), ("aSp", some_text(source, tuple(ORDERS), ORDER_WORDS))]
     if kind in message.STATUS_TYPES:
         fields += [("sS", some_list(source, lambda: some_entry(source, kind == "StatusSubscribe")))]
+    if kind == "CommandRequest":
+        fields += [("arg", some_list(source, lambda: some_command(source)))]
     return fields
 
 

@@ -33,6 +33,12 @@ BARRIER = table.Table(b"O+14439=481WA001", b"1.0.13", [b"O+14439=481WA001", b"O+
                       [(0, b"S0001", b"uptime"), (1, b"S0001", b"release"), (1, b"S0002", b"release")])
 
 
+# The same with commands: the last two are of other components, with the code and the name of the first.
+COMMANDED = table.Table(BARRIER.site, BARRIER.sxl, [*BARRIER.components, b"O+14439=481BR002"], BARRIER.alarms, BARRIER.statuses,
+                        [(1, b"M0101", b"boom", 0, 1), (1, b"M0102", b"limit", -2, 500), (1, b"M0102", b"brake", -2**15, 2**15 - 1),
+                         (2, b"M0101", b"boom", 1, 1), (0, b"M0101", b"boom", -5, -5)])
+
+
 class Hand:
     """A player with a counter for random bytes, so that every identity is another one."""
 
@@ -81,6 +87,10 @@ class Hand:
 
     def subscribe(self, link, count=1, rate=("0", True)):
         return self.tell(link, self.supervisor.of_statuses("StatusSubscribe", count, rate))
+
+    def command(self, link, *entries, **more):
+        """Commands of one component, by their numbers and values."""
+        return self.tell(link, self.supervisor.commands(entries=entries), **more)
 
     def done(self):
         self.player.counts()
@@ -460,8 +470,127 @@ def old_is_old():
     return hand.done()
 
 
+def editions():
+    """Starts with tables of both editions: heads of the other's length, commands at their limits, the longest table."""
+    player = Player()
+    first, second = BARRIER.bytes(), COMMANDED.bytes()
+    none = table.Table(**{**vars(BARRIER), "edition": 2}).bytes()
+    longest = table.Table(b"s" * 32, b"x" * 32, [b"%032d" % i for i in range(8)], [(i % 8, 1, 0, b"%032d" % i) for i in range(32)],
+                          [(i % 8, b"%032d" % i, b"n" * 32) for i in range(32)],
+                          [(i % 8, b"%032d" % i, b"n" * 32, -i, i) for i in range(16)]).bytes()
+    for data in (first, second, none, longest, longest + b"\0", longest + bytes(8191 - len(longest)), longest + bytes(8192 - len(longest)),
+                 longest[:-1], second + b"\0", second[:-1], second[:4], second[:3],
+                 bytes([first[0] + 16]) + first[1:], bytes([second[0] - 16]) + second[1:], second[:3] + second[4:], first[:3] + b"\0" + first[3:],
+                 first + second[-20:], bytes([second[0] + 16]) + second[1:], bytes([second[0] - 32]) + second[1:]):
+        player.start(data, 1, 0, 60, 0, NOON)
+    row = 2, b"M0101", b"boom"
+    for rows in ([(*row, 0, 0)], [(*row, 1, 0)], [(*row, -2**15, 2**15 - 1)], [(*row, 2**15 - 1, -2**15)], [(*row, -1, -2)], [(*row, -2, -1)],
+                 [(*row, 0, 1), (*row, 2, 3)], [(*row, 0, 1), (1, *row[1:], 0, 1)], [(*row, 0, 1), (*row[:2], b"Boom", 0, 1)],
+                 [(*row, 0, 1), (2, b"M0102", b"boom", 0, 1)], [(3, *row[1:], 0, 1)], [(7, *row[1:], 0, 1)],
+                 [(2, b"M%d" % i, b"boom", 0, i) for i in range(16)], [(2, b"M%d" % i, b"boom", 0, i) for i in range(17)],
+                 [(2, b"M%d" % i, b"boom", 0, i) for i in range(31)]):
+        player.start(table.Table(**{**vars(COMMANDED), "commands": rows}).bytes(), 1, 0, 60, 0, NOON)
+    data = table.Table(**{**vars(COMMANDED), "commands": [(*row, 258, 259)]}).bytes()
+    for bit in [*range(32), *range(8 * (len(data) - 16), 8 * len(data))]:
+        player.start(data[:bit // 8] + bytes([data[bit // 8] ^ 0x80 >> bit % 8]) + data[bit // 8 + 1:], 1, 0, 60, 0, NOON)
+    player.counts()
+    return player
+
+
+def commands():
+    """Request 01: what is handed over, in the order of the entries and of the links, and what is not."""
+    hand = Hand(site=COMMANDED)
+    tell, command, ask = hand.tell, hand.command, hand.supervisor.command_request
+    hand.connect(0)
+    command(0, (0, 1))
+    hand.pump(0)
+    command(0, (0, 1))
+    hand.answer(0)
+    tell(0, hand.supervisor.version())
+    command(0, (0, 1))
+    hand.pump(0)
+    hand.answer(0)
+    tell(0, hand.supervisor.watchdog(hand.time))
+    hand.sent_out(0)
+    hand.up(1)
+    hand.sent_out(1)
+    north, south = (hand.supervisor.component(number) for number in (1, 2))
+    for number, (_, _, _, lowest, highest) in enumerate(COMMANDED.commands):
+        for value in (lowest, highest, lowest - 1, highest + 1, lowest - 2**16, highest + 2**16):
+            hand.time += 1
+            command(number % 2, (number, value))
+            if hand.awaited(number % 2):
+                hand.answer(number % 2)
+    command(0, (0, 1), (1, -2), (0, 0), (0, 1), (2, 2**15 - 1), (1, 500))
+    command(1, (0, 0), (0, 0))
+    command(0, *[(1, value) for value in range(16)])
+    command(0, *[(1, value) for value in range(17)])
+    tell(0, ask(north, []))
+    tell(1, ask("no such", []))
+    # One entry that fails: none is handed over; a value out of its range before a command that is not there.
+    command(0, (0, 1), (1, 501))
+    command(0, (1, 501), (0, 1))
+    for entries in ([("M0101", "boom", 1), ("M0101", "beam", 1)], [("M0101", "beam", 1), ("M0101", "boom", 1)],
+                    [("M0101", "beam", 1), ("M0101", "boom", 2)], [("M0101", "boom", 2), ("M0101", "beam", 1)],
+                    [("M0102", "boom", 1)], [("M0101", "limit", 1)], [("M0101", "boo", 1)], [("M0101", "boomx", 1)], [("m0101", "boom", 1)]):
+        tell(0, ask(north, entries))
+    tell(0, ask(south, [("M0102", "limit", 1)]))
+    tell(0, ask(south, [("M0101", "boom", 1)]))
+    tell(0, ask(south, [("M0101", "boom", 0)]))
+    # An unknown component: its values must be numbers all the same, and are in no range.
+    for value in (1, 2, 2**31 - 1, -2**31, 2**31, "x", "01"):
+        tell(1, ask("no such", [("M0101", "boom", value), ("M0999", "x", 1)]))
+    for name, value in (("v", 1), ("v", None), ("v", "1.0"), ("v", "-0"), ("v", " 1"), ("cO", ""), ("cO", "x" * 33), ("cO", 7), ("cCI", ""), ("n", None)):
+        one = {"cCI": "M0101", "n": "boom", "cO": "setValue", "v": "1"}
+        tell(0, hand.supervisor.head("CommandRequest") + [("cId", north), ("arg", [one, {**one, name: value}])])
+        tell(0, hand.supervisor.head("CommandRequest") + [("cId", north), ("arg", [one, {n: v for n, v in one.items() if n != name}])])
+    for members in (lacking(ask(north, []), "arg"), lacking(ask(north, []), "cId"), changed(ask(north, []), "arg", {}), changed(ask(north, []), "arg", [1])):
+        tell(0, members)
+    while not command(0, (0, 1)).written.count(b"Busy"):
+        pass
+    command(0, (0, 2))
+    hand.answer(0)
+    command(0, (0, 1))
+    return hand.done()
+
+
+def commands_refused():
+    """A call that gives another number than 0 hands nothing over; called again it does."""
+    hand = Hand(site=COMMANDED)
+    hand.up(0)
+    hand.pump(0)
+    packet = hand.supervisor.written(hand.supervisor.commands(entries=[(0, 1), (1, 5)]))
+    awaited = bytes.fromhex(hand.awaited(0)[0].replace("-", ""))
+    fresh_ = hand.random()
+    for link, time_, random_, room in ((2, hand.time, fresh_, 4096), (0, hand.time, fresh_, 4095), (0, hand.time - 1, fresh_, 4096),
+                                       (0, message.LAST + 1, fresh_, 4096), (1, hand.time, fresh_, 4096), (0, hand.time, awaited, 4096),
+                                       (0, hand.time, fresh_, 4096), (0, hand.time, fresh_, 4096)):
+        hand.player.packet(link, time_, random_, packet, room)
+    hand.player.packet(0, hand.time, hand.random(), packet + b" " * (4097 - len(packet)))
+    hand.player.packet(0, hand.time, hand.random(), packet + b" " * (4096 - len(packet)))
+    hand.player.packet(0, hand.time, hand.random(), packet[:-1])
+    return hand.done()
+
+
+def commands_of_edition_1():
+    """A site without commands knows none; and a site of edition 2 without commands does no better."""
+    hand = Hand()
+    for site in (BARRIER, table.Table(**{**vars(BARRIER), "edition": 2})):
+        hand.player.start(site.bytes(), 2, 0, 60, 0, hand.time)
+        hand.up(0)
+        hand.sent_out(0)
+        ask = hand.supervisor.command_request
+        for component in (*map(bytes.decode, site.components), "no such"):
+            hand.tell(0, ask(component, [("M0101", "boom", 1)]))
+            hand.tell(0, ask(component, []))
+            hand.tell(0, ask(component, [("M0101", "boom", 2**31)]))
+        hand.player.readings()
+    return hand.done()
+
+
 STORED = (start_limits, checks_in_order, without_packets, sequence_end, time_end, whole_life, decimals_of_a_watchdog, awaited_too_long,
-          lengths, every_reason, numbers_of_a_link, closing_answers, alarm_orders, errors_met, filled_pool, late_answer, old_is_old)
+          lengths, every_reason, numbers_of_a_link, closing_answers, alarm_orders, errors_met, filled_pool, late_answer, old_is_old,
+          editions, commands, commands_refused, commands_of_edition_1)
 
 
 def texts(player):
@@ -535,7 +664,8 @@ def print_coverage(came):
         rows = sorted((key[0], count) for (row, *key), count in keyed(came) if row == kind and count)
         if rows:
             print(f"  {kind:12}  " + ", ".join(f"{name} {count}" for name, count in rows))
-    print(f"  clock hints {came['hint']}, records lost {came['lost']}, of them at a full pool {came['lost at a full pool']}")
+    print(f"  clock hints {came['hint']}, records lost {came['lost']}, of them at a full pool {came['lost at a full pool']}, "
+          f"commands handed over {came['command']}")
 
 
 def keyed(came):

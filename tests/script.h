@@ -95,7 +95,7 @@ static void damage(uint64_t seed, uint64_t count)
 
 static void only(uint32_t number)
 {
-    report.hint = report.written = report.closed = report.hinted = 0;
+    memset(&report, 0, sizeof report);
     report.number = number;
 }
 

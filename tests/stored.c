@@ -21,7 +21,7 @@ static int out(const char *name) {
 static int in(void) {
     rsmp_site before = site;
     uint32_t number = rsmp_from_stored(bytes, fread(bytes, 1, sizeof bytes, stdin), &site);
-    if (number != RSMP_DONE && memcmp(&site, &before, sizeof site) != 0) return 1;
+    if (number != RSMP_DONE && memcmp(&site, &before, RSMP_SITE_BYTES) != 0) return 1;
     printf("%u %u\n", (unsigned)number, number == RSMP_DONE ? (unsigned)rsmp_held(&site, 0) : 0u);
     return 0;
 }

@@ -1,6 +1,7 @@
 """The bytes of a stored site, read on their own: what C, Rust and `rsmp-site` write must be of this form."""
-SITE_BYTES = 8 * 1173 + 4752
-EDITION, STATE_EDITION = 2, 1
+SITE_BYTES = 8 * 1173 + 6178
+EDITION, STATE_EDITION = 3, 1
+FORMER = {1: 13912, 2: 14136}  # the bytes of a site as 0.2.0 and 0.3.0 wrote it
 HEAD, SUM = 16, 8
 
 
@@ -48,7 +49,7 @@ def of_state(file):
     return file[40:-SUM]
 
 
-def state_of_edition_1(file):
-    """A state file as 0.2.0 wrote it, whose site had 13,912 bytes, of the same setup and time."""
-    head = b"RSMPSITE" + (1).to_bytes(4, "little") + (13912).to_bytes(4, "little")
-    return summed(file[:40] + summed(head + bytes(13912)))
+def state_of_edition(edition, file):
+    """A state file of a former edition, of the same setup and time."""
+    head = b"RSMPSITE" + edition.to_bytes(4, "little") + FORMER[edition].to_bytes(4, "little")
+    return summed(file[:40] + summed(head + bytes(FORMER[edition])))

@@ -100,9 +100,43 @@ class Supervisor:
         seconds, change = rate or self.source.choice(RATES)
         return {"sCI": code, "n": name, "uRt": seconds, "sOc": change}
 
+    def value_for(self, row):
+        """A value in a command's range, at its ends or, now and then, just or far outside."""
+        lowest, highest = row[3:]
+        if self.source.random() < 0.04:
+            return self.source.choice((lowest - 1, highest + 1, -2**31, 2**31 - 1, lowest - 65536, highest + 65536))
+        return self.source.choice((lowest, highest, self.source.randint(lowest, highest)))
+
+    def commands(self, component=None, entries=None):
+        """A CommandRequest; entries are pairs of a command's number in the table and a value."""
+        rows = self.site.table.commands
+        if entries is not None:
+            rows_of = [(rows[number], value) for number, value in entries]
+            named = self.component(rows_of[0][0][0]) if component is None else component
+            return self.command_request(named, [(row[1].decode(), row[2].decode(), value) for row, value in rows_of])
+        many = self.source.choice((1, 1, 2, 3, 8, 16))
+        if not rows or self.source.random() < 0.05:
+            named = self.source.choice(("no such", self.some_component()))
+            return self.command_request(named, [("no such", "name", self.source.choice((0, -1, 2**31 - 1)))] * many)
+        number = self.source.choice(rows)[0]
+        own = [self.source.choice([row for row in rows if row[0] == number]) for _ in range(many)]
+        asked = [(row[1].decode(), row[2].decode(), self.value_for(row)) for row in own]
+        if self.source.random() < 0.05:
+            asked[self.source.randrange(many)] = ("no such", "name", self.source.randrange(-2**31, 2**31))
+        if self.source.random() < 0.02:
+            asked = []
+        return self.command_request("no such" if self.source.random() < 0.05 else self.component(number), asked)
+
+    def command_request(self, component, entries):
+        order = self.source.choice(("setValue", "x", "~" * 32))
+        return self.head("CommandRequest") + [
+            ("cId", component), ("arg", [{"cCI": code, "n": name, "cO": order, "v": str(value)} for code, name, value in entries])]
+
     def good(self):
         """A packet that an Up link may get."""
-        way = self.source.randrange(10)
+        way = self.source.randrange(12)
+        if way > 9:
+            return self.commands()
         if way < 2:
             return self.watchdog()
         if way < 4:
@@ -132,7 +166,7 @@ class Supervisor:
         changed, left_out = self.source.choice(list(reads.places(members)))
         if self.source.random() < 0.3:
             return reads.raw(left_out)
-        bodies = self.source.choice((reads.STRINGS, reads.SECONDS, reads.VERSIONS, reads.TIMES, reads.IDENTITIES, reads.TYPES, reads.MTYPES,
+        bodies = self.source.choice((reads.STRINGS, reads.SECONDS, reads.INTEGERS, reads.VERSIONS, reads.TIMES, reads.IDENTITIES, reads.TYPES, reads.MTYPES,
                                      reads.ORDER_WORDS))
         wrong = self.source.choice(reads.WRONG) if self.source.random() < 0.5 else reads.quoted(self.source.choice(bodies))
         return reads.raw(changed(wrong))

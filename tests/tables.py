@@ -12,14 +12,15 @@ from cases import case
 from model.table import ALPHABET, Refused, Table, read
 
 LETTERS = bytes(sorted(ALPHABET))
-MOST_COMPONENTS, MOST_ROWS, LONGEST = 8, 32, 32
+MOST_COMPONENTS, MOST_ROWS, MOST_COMMANDS, LONGEST = 8, 32, 16, 32
 PARTS = ("components", "alarms", "statuses")
+EVERY_PART = (*PARTS, "commands")
 
 
 # A table's texts in the order of its bytes.
 
 def texts(t):
-    return [t.site, t.sxl, *t.components, *(row[3] for row in t.alarms), *(text for row in t.statuses for text in row[1:])]
+    return [t.site, t.sxl, *t.components, *(row[3] for row in t.alarms), *(text for row in (*t.statuses, *t.commands) for text in row[1:3])]
 
 
 def with_texts(t, given):
@@ -27,7 +28,8 @@ def with_texts(t, given):
     site, sxl = next(given), next(given)
     components = [next(given) for _ in t.components]
     alarms = [(*row[:3], next(given)) for row in t.alarms]
-    return Table(site, sxl, components, alarms, [(row[0], next(given), next(given)) for row in t.statuses])
+    statuses = [(row[0], next(given), next(given)) for row in t.statuses]
+    return Table(site, sxl, components, alarms, statuses, [(row[0], next(given), next(given), *row[3:]) for row in t.commands], t.edition)
 
 
 def with_text(t, number, text):
@@ -38,7 +40,8 @@ def with_text(t, number, text):
 
 def length_places(t):
     """Where each text's length byte stands."""
-    at, rows = 3, [0] * (2 + len(t.components)) + [1] * len(t.alarms) + [1, 0] * len(t.statuses)
+    at = 2 + t.edition
+    rows = [0] * (2 + len(t.components)) + [1] * len(t.alarms) + [1, 0] * len(t.statuses) + [1, 0, 5, 0] * len(t.commands)
     for row, text in zip(rows, texts(t)):
         yield at + row
         at += row + 1 + len(text)
@@ -82,6 +85,10 @@ class Run:
         self.any(t.bytes())
         assert self.table is not None and vars(self.table) == vars(t), "the reader refused or changed a good table"
 
+    def good_bytes(self, data):
+        self.any(data)
+        assert self.table is not None, "the reader refused a good table"
+
     def bad(self, t):
         self.any(t if isinstance(t, bytes) else t.bytes())
         assert self.table is None, "the reader accepted a bad table"
@@ -93,6 +100,7 @@ class Run:
         rows = [(row[0], row[1], row[2], row[3].hex(), "") for row in t.alarms]
         rows += [(row[0], 0, 0, row[1].hex(), row[2].hex()) for row in t.statuses]
         words = [*(len(getattr(t, part)) for part in PARTS), *(text.hex() for text in (t.site, t.sxl, *t.components))]
+        rows += [(row[0], row[1].hex(), row[2].hex(), row[3] % 2**16, row[4] % 2**16) for row in t.commands]
         return "".join(f"{word} " for word in words + [word for row in rows for word in row])
 
     def place(self, rows, row):
@@ -150,12 +158,13 @@ def text_of(number, size):
     return bytes([LETTERS[number % 93], LETTERS[number // 93 % 93]] + [LETTERS[(number + i) % 93] for i in range(size)])[:size]
 
 
-def of_size(components, alarms, statuses, size):
+def of_size(components, alarms, statuses, size, commands=0, edition=None):
     """So many of each, no two texts the same where there are two bytes for it."""
     numbers = max(1, min(MOST_COMPONENTS, components))
     return Table(text_of(90, size), text_of(91, size), [text_of(i, size) for i in range(components)],
                  [(i % numbers, i % 3 + 1, i // 3 % 2, text_of(100 + i, size)) for i in range(alarms)],
-                 [(i % numbers, text_of(200 + i, size), text_of(300 + i, size)) for i in range(statuses)])
+                 [(i % numbers, text_of(200 + i, size), text_of(300 + i, size)) for i in range(statuses)],
+                 [(i % numbers, text_of(400 + i, size), text_of(500 + i, size), -2**15 + i, 2**15 - 1 - i) for i in range(commands)], edition)
 
 
 SMALLEST = Table(b"s", b"1", [b"c"], [], [])
@@ -168,6 +177,13 @@ BARRIER = Table(b"AB+84001=860BA000", b"1.0.13", [b"AB+84001=860BA001", b"AB+840
 MANY = of_size(MOST_COMPONENTS, MOST_ROWS, MOST_ROWS, 2)
 SURPLUS = changed(of_size(1, 63, 63, 2), "components", of_size(15, 0, 0, 2).components)
 LARGEST = of_size(MOST_COMPONENTS, MOST_ROWS, MOST_ROWS, LONGEST)
+
+# Of edition 2.
+SMALLEST_2 = Table(b"s", b"1", [b"c"], [], [], edition=2)
+SMALL_2 = Table(b"S1", b"1.0", [b"A", b"Bc"], [(1, 3, 1, b"y2")], [(0, b"p", b"q")], [(1, b"m", b"n", -2, 258), (0, b"m2", b"n", 0, 0)])
+LARGEST_2 = of_size(MOST_COMPONENTS, MOST_ROWS, MOST_ROWS, LONGEST, MOST_COMMANDS)
+MANY_2 = of_size(MOST_COMPONENTS, MOST_ROWS, MOST_ROWS, 2, MOST_COMMANDS)
+COMMAND = 0, b"m", b"n"
 
 
 def longer_lookups(run, t):
@@ -196,6 +212,53 @@ def whole(run):
         run.good(t)
         run.look_beside(t)
         run.look(LARGEST if t is SMALL else SMALL)
+
+
+def second(run):
+    """Edition 2: good tables, its head, cuts, each row and each limit, and what either edition's bytes are under the other's head."""
+    for t in (SMALLEST_2, SMALL_2, LARGEST_2, MANY_2):
+        run.good(t)
+        run.look(t)
+    data = LARGEST_2.bytes()
+    assert len(data) == 4702
+    for spoilt in (data[:-1], data + b"\0", with_byte(data, len(data) - 38, 33) + b"x", with_byte(data, len(data) - 38, 31)):
+        run.bad(spoilt)
+    for t in (SMALLEST_2, SMALL_2, MANY_2):
+        for bit in range(32):
+            run.any(with_bit(t.bytes(), bit))
+    for edition in range(16):
+        (run.good_bytes if edition == 2 else run.bad)(with_byte(SMALL_2.bytes(), 0, 16 * edition + len(SMALL_2.components)))
+    for count in range(32):
+        (run.good if count <= MOST_COMMANDS else run.bad)(of_size(2, 1, 1, 2, count, 2))
+        if count:
+            run.bad(of_size(2, 1, 1, 2, count, 1))
+    for t in (SMALL, BARRIER, SMALL_2):
+        other, first = Table(**{**vars(t), "edition": 3 - t.edition, "commands": []}).bytes(), t.bytes()
+        run.good_bytes(other)
+        for spoilt in (first[:1] + other[1:], other[:1] + first[1:], first[:3] + other[4:], other[:4] + first[3:], first + SMALL_2.bytes()[-10:]):
+            run.any(spoilt)
+    for bit in range(8 * len(SMALL_2.bytes())):
+        run.any(with_bit(SMALL_2.bytes(), bit))
+    all_cuts(run, SMALL_2.bytes())
+    for number, _ in enumerate(length_places(SMALL_2)):
+        for length in (0, 1, 32, 33, 255):
+            (run.good if 1 <= length <= LONGEST else run.bad)(with_text(SMALL_2, number, text_of(600 + number, length)))
+    one = Table(b"s", b"1", [b"c"], [], [], [(*COMMAND, 0, 0)])
+    for byte in range(256):
+        run.any(with_byte(one.bytes(), len(one.bytes()) - 9, byte))
+    for count in range(1, MOST_COMPONENTS + 1):
+        for component in range(8):
+            ids = [text_of(i, 1) for i in range(count)]
+            (run.good if component < count else run.bad)(Table(b"s", b"1", ids, [], [], [(component, b"m", b"n", 0, 1)]))
+    ends = (-2**15, -2**15 + 1, -257, -256, -2, -1, 0, 1, 2, 255, 256, 257, 2**15 - 2, 2**15 - 1)
+    for lowest in ends:
+        for highest in ends:
+            (run.good if lowest <= highest else run.bad)(Table(b"s", b"1", [b"c"], [], [], [(*COMMAND, lowest, highest)]))
+    last = MOST_COMMANDS - 1
+    for at, source in [(at, 0) for at in range(1, last + 1)] + [(last, source) for source in range(1, last)]:
+        run.bad(replaced(MANY_2, "commands", at, (*MANY_2.commands[source][:3], -1, 1)))
+    for other in ((1, b"m", b"n", 0, 0), (0, b"m", b"N", 0, 0), (0, b"M", b"n", 0, 0), (0, b"n", b"m", 0, 0), (0, b"mn", b"n", 0, 0), (0, b"m", b"nn", 0, 0)):
+        run.good(Table(b"s", b"1", [b"c", b"d"], [(0, 1, 0, b"m")], [COMMAND], [(*COMMAND, 0, 0), other]))
 
 
 def heads(run):
@@ -234,7 +297,8 @@ def cuts(run, t):
 
 def past(run):
     """Tables with so many zeros left over, and zeros alone, about the length that no table has."""
-    for data, length in ((b"", 4096), (SMALL.bytes(), 4096), (SMALL.bytes(), 4097), (LARGEST.bytes(), 4095)):
+    for data, length in ((b"", 4096), (SMALL.bytes(), 4096), (SMALL.bytes(), 4097), (LARGEST.bytes(), 4095), (LARGEST_2.bytes(), 4703),
+                         (SMALL_2.bytes(), 4702), (LARGEST_2.bytes(), 8191)):
         run.bad(data + bytes(length - len(data)))
 
 
@@ -327,11 +391,20 @@ def random_table(source, most_rows=MOST_ROWS):
     alarms, statuses = range(few(source, 0, most_rows)), range(few(source, 0, most_rows))
     alarms = [(source.randrange(count), source.randint(1, 3), source.randrange(2), text()) for _ in alarms]
     statuses = [(source.randrange(count), text(), text()) for _ in statuses]
+    edition = source.choice((1, 2))
+    commands = range(few(source, 0, min(most_rows, MOST_COMMANDS)) if edition == 2 else 0)
+    commands = [(source.randrange(count), text(), text(), *random_limits(source)) for _ in commands]
     if source.random() < 0.9:
         ids = list(dict.fromkeys(ids))
         alarms = [row for row in {(row[0], row[3]): row for row in alarms}.values() if row[0] < len(ids)]
         statuses = [row for row in dict.fromkeys(statuses) if row[0] < len(ids)]
-    return Table(text(), text(), ids, alarms, statuses)
+        commands = [row for row in {row[:3]: row for row in commands}.values() if row[0] < len(ids)]
+    return Table(text(), text(), ids, alarms, statuses, commands, edition)
+
+
+def random_limits(source):
+    one, other = (source.choice((-2**15, -1, 0, 1, 2**15 - 1, source.randrange(-2**15, 2**15))) for _ in range(2))
+    return (one, other) if source.random() < 0.02 else (min(one, other), max(one, other))
 
 
 BYTES = (0, 1, 31, 32, 33, 34, 92, 126, 127, 128, 255)
@@ -353,7 +426,7 @@ def bruised(source, data):
         elif way == 4:
             data = data[:at]
         else:
-            data = data[:3] + data[max(3, at):] + data[3:at]
+            data = data[:4] + data[max(4, at):] + data[4:at]
         if not data:
             break
     return data
@@ -366,7 +439,7 @@ def wrong_text(source, t):
 
 
 def wrong_double(source, t):
-    part = source.choice([part for part in PARTS if getattr(t, part)])
+    part = source.choice([part for part in EVERY_PART if getattr(t, part)])
     count = len(getattr(t, part))
     return doubled(t, part, source.randrange(count), source.randrange(count))
 
@@ -391,9 +464,23 @@ def wrong_status(source, t):
     return replaced(t, "statuses", at, (source.randrange(8), *t.statuses[at][1:]))
 
 
+def wrong_command(source, t):
+    if not t.commands:
+        return t
+    at = source.randrange(len(t.commands))
+    row = t.commands[at]
+    limits = source.choice((row[3:], row[:2:-1], random_limits(source)))
+    return replaced(t, "commands", at, (source.choice((row[0], source.randrange(8))), *row[1:3], *limits))
+
+
+def wrong_edition(source, t):
+    return Table(**{**vars(t), "edition": source.choice((3 - t.edition, 3, 15))})
+
+
 def wronged(source, t):
     """The table with one thing that is not allowed, or only just."""
-    return source.choice((wrong_text, wrong_double, wrong_count, wrong_alarm, wrong_status))(source, t)
+    ways = wrong_text, wrong_double, wrong_count, wrong_alarm, wrong_status, wrong_command, wrong_command, wrong_edition
+    return source.choice(ways)(source, t)
 
 
 def some_lookups(run, source, t):
@@ -420,10 +507,10 @@ def at_random(run, source, count, most_rows=MOST_ROWS):
 
 def every_byte(run):
     """Every byte of a small table at every value."""
-    data = SMALL.bytes()
-    for at in range(len(data)):
-        for byte in range(256):
-            run.any(with_byte(data, at, byte))
+    for data in (SMALL.bytes(), SMALL_2.bytes()):
+        for at in range(len(data)):
+            for byte in range(256):
+                run.any(with_byte(data, at, byte))
 
 
 def some_doubles(run, source, count):
@@ -447,6 +534,7 @@ def stored_pairs():
     doubles(run)
     near_doubles(run)
     at_random(run, random.Random(6), 50, 4)
+    second(run)
     return run.pairs
 
 

@@ -308,7 +308,7 @@ def records(source, count):
 TYPES = ("Version Watchdog MessageAck MessageNotAck Alarm AggregatedStatus AggregatedStatusRequest StatusRequest StatusResponse "
          "StatusSubscribe StatusUnsubscribe StatusUpdate CommandRequest CommandResponse").split()
 REASONS = ["Missing element", "Bad value", "Unexpected", "Not ready", "RSMP version", "Site id", "SXL version",
-           "Unknown component", "Unknown alarm", "Unknown status", "Busy"]
+           "Unknown component", "Unknown alarm", "Unknown status", "Unknown command", "Busy"]
 
 
 def names(source, count):

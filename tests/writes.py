@@ -8,8 +8,8 @@ An answer is the message, its form feed and a line feed, compared byte for byte:
 of spaces. Each message is also read by Python's json, and what it says is compared with the fields that the case gives.
 
 Fields are hexadecimal digits of: the identity (16 bytes), the time (8), six bytes by type, and labels with their length before
-them; a status is a byte (0 a value, 1 unknown, 2 undefined, 3 an old value), the value (4), its code and its name. Of an answer
-it is the received identity as it stands, behind two digits of the reason's number in the table of names.
+them; a status or a command is a byte (0 a value, 1 unknown, 2 undefined, 3 an old value), the value (4), its code and its name. Of
+an answer it is the received identity as it stands, behind two digits of the reason's number in the table of names.
 """
 import itertools
 import json
@@ -31,7 +31,7 @@ LETTERS = "".join(sorted(map(chr, ALPHABET)))
 UNKNOWN, UNDEFINED, OLD = "unknown", "undefined", "old"
 OLD_VALUES = tuple((OLD, value) for value in VALUES)
 REASONS = ("Missing element", "Bad value", "Unexpected", "Not ready", "RSMP version", "Site id", "SXL version",
-           "Unknown component", "Unknown alarm", "Unknown status", "Busy")
+           "Unknown component", "Unknown alarm", "Unknown status", "Unknown command", "Busy")
 FIRST_REASON = 14
 RECEIVED = ("e68a0010-c336-41ac-bd58-5c80a72c7092", "E68A0010-C336-41AC-BD58-5C80A72C7092", "e68A0010-c336-41AC-BD58-5c80a72C7092")
 STRING, SPACE = re.compile(rb'"[^"]*"'), re.compile(rb"\s")
@@ -115,14 +115,32 @@ def status_entry(code, name, value):
     return code, name, value, quality
 
 
+def told_fields(identity, component, time, given):
+    return fields(identity, time, (len(given),), labelled(component) + b"".join(status_bytes(*entry) for entry in given))
+
+
 def statuses(kind, identity, component, time, given):
-    body = fields(identity, time, (len(given),), labelled(component) + b"".join(status_bytes(*entry) for entry in given))
+    body = told_fields(identity, component, time, given)
     type_name = "StatusResponse" if kind == "R" else "StatusUpdate"
     entries = [status_entry(*entry) for entry in given]
     said = [{"sCI": code, "n": name, "s": None if value is None else f"{value:d}", "q": quality}
             for code, name, value, quality in entries]
     return pair(kind, body.hex(), message.statuses(type_name, str(identity), component, time, entries),
                 {**about(type_name, identity, component), "sTs": message.time_text(time), "sS": said})
+
+
+def commands(identity, component, time, given):
+    body = told_fields(identity, component, time, given)
+    entries = [status_entry(*entry) for entry in given]
+    said = [{"cCI": code, "n": name, "v": None if value is None else f"{value:d}", "age": age} for code, name, value, age in entries]
+    return pair("C", body.hex(), message.commands(str(identity), component, time, entries),
+                {**about("CommandResponse", identity, component), "cTS": message.time_text(time), "rvs": said})
+
+
+def told(kind, identity, component, time, given):
+    if kind == "C":
+        return commands(identity, component, time, given)
+    return statuses(kind, identity, component, time, given)
 
 
 # Limits, and what document 01 lists, each once.
@@ -165,16 +183,16 @@ def aggregates():
         yield aggregated(OURS, label, time, 128)
 
 
-def status_limits():
+def told_limits():
     longest = (LETTERS[:32], LETTERS[-32:])
-    told = (*VALUES, *OLD_VALUES, UNKNOWN, UNDEFINED)
-    for kind in "RU":
-        for value in told:
-            yield statuses(kind, OURS, "C", 1254398371571, [("S0001", "plan", value)])
+    values = (*VALUES, *OLD_VALUES, UNKNOWN, UNDEFINED)
+    for kind in "RUC":
+        for value in values:
+            yield told(kind, OURS, "C", 1254398371571, [("S0001", "plan", value)])
         for count in (0, 1, 2, 15, 16):
-            yield statuses(kind, OURS, LETTERS[:32], LAST, [(*longest, -2**31)] * count)
-            yield statuses(kind, OURS, "C", 0, [("S", "n", told[place % len(told)]) for place in range(count)])
-    for value in told:
+            yield told(kind, OURS, LETTERS[:32], LAST, [(*longest, -2**31)] * count)
+            yield told(kind, OURS, "C", 0, [("S", "n", values[place % len(values)]) for place in range(count)])
+    for value in values:
         yield statuses("1", OURS, "C", 1254398371571, [("S0001", "plan", value)])
     for label, time in zip(limit_labels(), TIMES):
         yield statuses("1", OURS, label, time, [(label, label, 7)])
@@ -199,15 +217,15 @@ def some_received(source):
     return "".join(source.choice((c, c.upper())) for c in str(uuid.UUID(int=source.getrandbits(128))))
 
 
-def some_statuses(source, kind):
+def some_told(source, kind):
     count = 1 if kind == "1" else source.choice((0, 1, 2, 16, source.randint(0, 16)))
     given = [(some_label(source), some_label(source), some_value(source)) for _ in range(count)]
-    return statuses(kind, uuid.UUID(int=source.getrandbits(128)), some_label(source), some_time(source), given)
+    return told(kind, uuid.UUID(int=source.getrandbits(128)), some_label(source), some_time(source), given)
 
 
 def some_message(source):
     identity, time = uuid.UUID(int=source.getrandbits(128)), some_time(source)
-    kind = source.choice("VWKNAGRU1")
+    kind = source.choice("VWKNAGRUC1")
     if kind == "V":
         return version(identity, some_label(source), some_label(source))
     if kind == "W":
@@ -222,7 +240,7 @@ def some_message(source):
                      source.randrange(256))
     if kind == "G":
         return aggregated(identity, some_label(source), time, source.randrange(256))
-    return some_statuses(source, kind)
+    return some_told(source, kind)
 
 
 def stored_pairs():
@@ -230,7 +248,7 @@ def stored_pairs():
     yield from answers()
     yield from alarms()
     yield from aggregates()
-    yield from status_limits()
+    yield from told_limits()
     source = random.Random(7)
     for _ in range(60):
         yield some_message(source)

@@ -2,7 +2,8 @@
  *
  * A site is one rsmp_site, a struct that you own; there may be several. Each call takes a pointer to it, changes it in place and gives a
  * number. Number 0 says that the call is done. Any other number says that nothing was done: the site and all lent bytes are as they were.
- * The three calls that have more to tell, rsmp_packet, rsmp_pump and rsmp_tick, fill a report.
+ * The three calls that have more to tell, rsmp_packet, rsmp_pump and rsmp_tick, fill a report. A packet's report may hand commands over:
+ * carry them out, one after the other.
  *
  * You bring: TCP connections, the form feed (0x0C) between packets, a clock, random bytes, and stack for a call: see
  * docs/EMBEDDING.md. One call at a time on a site. All pointers must be valid for their lengths, also where a length is 0, and the
@@ -21,15 +22,16 @@ extern "C" {
 
 /* The version of the library, of this header, of the Rust crate and of the programs. A site is started by a function that has the
  * version in its name, so that the linker refuses a library of another one ("undefined reference to rsmp_lent_start_.."). */
-#define RSMP_VERSION "0.3.0"
-#define rsmp_lent_start rsmp_lent_start_0_3_0
+#define RSMP_VERSION "0.4.0"
+#define rsmp_lent_start rsmp_lent_start_0_4_0
 extern const char rsmp_library_version[];
 
 #define RSMP_SITE_WORDS 1173
-#define RSMP_SITE_TABLE 4752
-#define RSMP_SITE_BYTES 14136            /* of a site */
-#define RSMP_SITE_EDITION 2u             /* another layout of the site has another: store it beside a site's bytes */
+#define RSMP_SITE_TABLE 6178
+#define RSMP_SITE_BYTES 15562            /* of a site; a compiler may add some behind them for alignment */
+#define RSMP_SITE_EDITION 3u             /* another layout of the site has another: store it beside a site's bytes */
 #define RSMP_LINKS 4                     /* links are numbered from 0 */
+#define RSMP_COMMANDS 16                 /* the most commands that a packet hands over */
 #define RSMP_OUTPUT_BYTES 4096           /* the least output to lend: no call writes more */
 #define RSMP_PACKET_BYTES 4096           /* the longest packet that is read */
 #define RSMP_LAST_TIME 253402300799999u  /* 9999-12-31T23:59:59.999Z */
@@ -37,7 +39,7 @@ extern const char rsmp_library_version[];
 
 /* The numbers a call can give, and what to do on each. */
 enum rsmp_number {
-    RSMP_DONE = 0,            /* where there is a report: send the written bytes, then close the connections of the closed links */
+    RSMP_DONE = 0,            /* where there is a report: send the written bytes, close the connections of the closed links, carry out the commands */
     RSMP_IGNORED = 1,         /* packet: it is not answered. Drop it and go on */
     RSMP_NO_LINK = 2,         /* no such configured link: a fault of yours */
     RSMP_NO_ITEM = 3,         /* no such alarm or status in the site table: a fault of yours, or the wrong table */
@@ -65,14 +67,29 @@ typedef struct rsmp_id {
     uint8_t bytes[16];
 } rsmp_id;
 
+/* What a supervisor commands: the command's number, from 0 as the site table lists them, and its value, which is in the command's range. */
+typedef struct rsmp_command {
+    uint32_t number;
+    int32_t value;
+} rsmp_command;
+
 /* What a done call did. All but the number is 0 where the call is refused. */
 typedef struct rsmp_report {
-    uint64_t hint;    /* the primary's clock, milliseconds since 1970 UTC, where hinted is 1 */
-    uint32_t number;  /* the one that the call gives */
-    uint32_t written; /* bytes written to the start of the output: whole messages, each with its form feed */
-    uint32_t closed;  /* links that are Down now, link 0 being bit 0: close their connections, after sending what was written */
+    uint64_t hint;     /* the primary's clock, milliseconds since 1970 UTC, where hinted is 1 */
+    uint32_t number;   /* the one that the call gives */
+    uint32_t written;  /* bytes written to the start of the output: whole messages, each with its form feed */
+    uint32_t closed;   /* links that are Down now, link 0 being bit 0: close their connections, after sending what was written */
     uint32_t hinted;
+    uint64_t commands; /* how many are handed over; only rsmp_packet hands any over */
+    rsmp_command command[RSMP_COMMANDS]; /* the first of these, in the order in which to carry them out; the rest is 0 */
 } rsmp_report;
+
+/* What the exported functions below give: a report without its commands, which rsmp_lent_packet writes to lent words. */
+typedef struct rsmp_outcome {
+    uint64_t hint;
+    uint32_t number, written, closed, hinted;
+    uint64_t commands;
+} rsmp_outcome;
 
 typedef struct rsmp_version {
     uint32_t major, minor, patch;
@@ -84,26 +101,43 @@ typedef struct rsmp_reading {
 } rsmp_reading;
 
 /* What the library exports; call the functions below, which hand it a site's two parts with their lengths. Parts of other lengths give the
- * number 14 (a reading: 0), which the functions below cannot. */
-rsmp_report rsmp_lent_start(uint64_t *words, size_t words_length, uint8_t *table, size_t table_length, const uint8_t *bits, size_t bits_length,
-                            uint32_t links, uint32_t primary, uint32_t period, uint64_t first, uint64_t time);
-rsmp_report rsmp_lent_connect(uint64_t *words, size_t words_length, uint32_t link, uint64_t time);
-rsmp_report rsmp_lent_disconnect(uint64_t *words, size_t words_length, uint32_t link, uint64_t time);
-rsmp_report rsmp_lent_packet(uint64_t *words, size_t words_length, const uint8_t *table, size_t table_length, uint32_t link, uint64_t time,
-                             rsmp_id random, const uint8_t *packet, size_t packet_length, uint8_t *output, size_t output_length);
-rsmp_report rsmp_lent_alarm(uint64_t *words, size_t words_length, const uint8_t *table, size_t table_length, uint32_t number,
-                            uint32_t active, uint64_t time);
-rsmp_report rsmp_lent_status(uint64_t *words, size_t words_length, const uint8_t *table, size_t table_length, uint32_t number,
-                             int32_t value, uint64_t time);
-rsmp_report rsmp_lent_aggregated(uint64_t *words, size_t words_length, uint8_t value, uint64_t time);
-rsmp_report rsmp_lent_tick(uint64_t *words, size_t words_length, uint64_t time);
-rsmp_report rsmp_lent_pump(uint64_t *words, size_t words_length, const uint8_t *table, size_t table_length, uint32_t link, uint64_t time,
-                           rsmp_id random, uint8_t *output, size_t output_length);
+ * number 14 (a reading: 0), which the functions below cannot. Of the commands' sixteen words the first outcome.commands are written, each a
+ * command's number times 2^32 and its value's 32 bits; the others stay. */
+rsmp_outcome rsmp_lent_start(uint64_t *words, size_t words_length, uint8_t *table, size_t table_length, const uint8_t *bits, size_t bits_length,
+                             uint32_t links, uint32_t primary, uint32_t period, uint64_t first, uint64_t time);
+rsmp_outcome rsmp_lent_connect(uint64_t *words, size_t words_length, uint32_t link, uint64_t time);
+rsmp_outcome rsmp_lent_disconnect(uint64_t *words, size_t words_length, uint32_t link, uint64_t time);
+rsmp_outcome rsmp_lent_packet(uint64_t *words, size_t words_length, const uint8_t *table, size_t table_length, uint32_t link, uint64_t time,
+                              rsmp_id random, const uint8_t *packet, size_t packet_length, uint64_t *commands, size_t commands_length,
+                              uint8_t *output, size_t output_length);
+rsmp_outcome rsmp_lent_alarm(uint64_t *words, size_t words_length, const uint8_t *table, size_t table_length, uint32_t number,
+                             uint32_t active, uint64_t time);
+rsmp_outcome rsmp_lent_status(uint64_t *words, size_t words_length, const uint8_t *table, size_t table_length, uint32_t number,
+                              int32_t value, uint64_t time);
+rsmp_outcome rsmp_lent_aggregated(uint64_t *words, size_t words_length, uint8_t value, uint64_t time);
+rsmp_outcome rsmp_lent_tick(uint64_t *words, size_t words_length, uint64_t time);
+rsmp_outcome rsmp_lent_pump(uint64_t *words, size_t words_length, const uint8_t *table, size_t table_length, uint32_t link, uint64_t time,
+                            rsmp_id random, uint8_t *output, size_t output_length);
 uint64_t rsmp_lent_held(const uint64_t *words, size_t words_length, uint32_t link);
 uint64_t rsmp_lent_lost(const uint64_t *words, size_t words_length, uint32_t link);
 uint32_t rsmp_lent_phase(const uint64_t *words, size_t words_length, uint32_t link);
 rsmp_version rsmp_lent_version_of(const uint64_t *words, size_t words_length, uint32_t link);
 rsmp_reading rsmp_lent_record(const uint64_t *words, size_t words_length, uint32_t link, uint64_t rank);
+
+static inline uint32_t rsmp_put_report(rsmp_outcome outcome, const uint64_t *commands, rsmp_report *report) {
+    memset(report, 0, sizeof *report);
+    report->hint = outcome.hint;
+    report->number = outcome.number;
+    report->written = outcome.written;
+    report->closed = outcome.closed;
+    report->hinted = outcome.hinted;
+    report->commands = outcome.commands;
+    for (size_t i = 0; i < outcome.commands && i < RSMP_COMMANDS; i++) {
+        report->command[i].number = (uint32_t)(commands[i] >> 32);
+        report->command[i].value = (int32_t)(uint32_t)commands[i];
+    }
+    return outcome.number;
+}
 
 /* The calls. Time is in milliseconds since 1970 UTC in every call, and never before that of an earlier call on the site. */
 
@@ -125,12 +159,14 @@ static inline uint32_t rsmp_disconnect(rsmp_site *site, uint32_t link, uint64_t 
     return rsmp_lent_disconnect(site->words, RSMP_SITE_WORDS, link, time).number;
 }
 
-/* A packet came: the bytes between two form feeds, without them. Leave out empty ones. The written bytes are the answer.
- * Numbers: 2, 4, 12, 5, 6, 1, 9, 10. */
+/* A packet came: the bytes between two form feeds, without them. Leave out empty ones. The written bytes are the answer. The report's
+ * commands are handed over: they are answered as taken, and nobody but you has them from here on. Numbers: 2, 4, 12, 5, 6, 1, 9, 10. */
 static inline uint32_t rsmp_packet(rsmp_site *site, uint32_t link, uint64_t time, const rsmp_id *random, const uint8_t *packet, size_t length,
                                    uint8_t *output, size_t room, rsmp_report *report) {
-    *report = rsmp_lent_packet(site->words, RSMP_SITE_WORDS, site->table, RSMP_SITE_TABLE, link, time, *random, packet, length, output, room);
-    return report->number;
+    uint64_t commands[RSMP_COMMANDS];
+    return rsmp_put_report(rsmp_lent_packet(site->words, RSMP_SITE_WORDS, site->table, RSMP_SITE_TABLE, link, time, *random, packet, length,
+                                            commands, RSMP_COMMANDS, output, room),
+                           commands, report);
 }
 
 /* An alarm's input: active 1 or inactive 0. An input that is as before does nothing. Numbers: 3, 5, 10. */
@@ -151,16 +187,15 @@ static inline uint32_t rsmp_aggregated(rsmp_site *site, uint8_t value, uint64_t 
 /* Time passes: call it once a second or more often. Subscriptions at intervals become due, and links are closed whose supervisor has
  * not answered for 30 seconds. Numbers: 5, 10. */
 static inline uint32_t rsmp_tick(rsmp_site *site, uint64_t time, rsmp_report *report) {
-    *report = rsmp_lent_tick(site->words, RSMP_SITE_WORDS, time);
-    return report->number;
+    return rsmp_put_report(rsmp_lent_tick(site->words, RSMP_SITE_WORDS, time), NULL, report);
 }
 
 /* Writes the next message that is due on a link, one at most: call it after every other call, for every connected link, until it
  * gives 7 or 8. Numbers: 2, 4, 5, 6, 7, 8, 9. */
 static inline uint32_t rsmp_pump(rsmp_site *site, uint32_t link, uint64_t time, const rsmp_id *random, uint8_t *output, size_t room,
                                  rsmp_report *report) {
-    *report = rsmp_lent_pump(site->words, RSMP_SITE_WORDS, site->table, RSMP_SITE_TABLE, link, time, *random, output, room);
-    return report->number;
+    return rsmp_put_report(rsmp_lent_pump(site->words, RSMP_SITE_WORDS, site->table, RSMP_SITE_TABLE, link, time, *random, output, room),
+                           NULL, report);
 }
 
 /* Readings. They change nothing; for a link that is not configured they are 0. */
@@ -226,9 +261,12 @@ static inline uint32_t rsmp_from_stored(const uint8_t *bytes, size_t length, rsm
 #else
 #define RSMP_ASSERT _Static_assert
 #endif
-RSMP_ASSERT(offsetof(rsmp_site, words) == 0 && offsetof(rsmp_site, table) == 9384 && sizeof(rsmp_site) == RSMP_SITE_BYTES, "rsmp_site");
-RSMP_ASSERT(offsetof(rsmp_report, hint) == 0 && offsetof(rsmp_report, number) == 8 && offsetof(rsmp_report, written) == 12, "rsmp_report");
-RSMP_ASSERT(offsetof(rsmp_report, closed) == 16 && offsetof(rsmp_report, hinted) == 20 && sizeof(rsmp_report) == 24, "rsmp_report");
+RSMP_ASSERT(offsetof(rsmp_site, words) == 0 && offsetof(rsmp_site, table) == 9384 && sizeof(rsmp_site) == 15568, "rsmp_site");
+RSMP_ASSERT(8 * RSMP_SITE_WORDS == 9384 && 9384 + RSMP_SITE_TABLE == RSMP_SITE_BYTES, "rsmp_site");
+RSMP_ASSERT(offsetof(rsmp_outcome, hint) == 0 && offsetof(rsmp_outcome, number) == 8 && offsetof(rsmp_outcome, written) == 12, "rsmp_outcome");
+RSMP_ASSERT(offsetof(rsmp_outcome, closed) == 16 && offsetof(rsmp_outcome, hinted) == 20 && offsetof(rsmp_outcome, commands) == 24, "rsmp_outcome");
+RSMP_ASSERT(sizeof(rsmp_outcome) == 32 && offsetof(rsmp_report, command) == 32 && sizeof(rsmp_report) == 160, "rsmp_outcome, rsmp_report");
+RSMP_ASSERT(offsetof(rsmp_command, number) == 0 && offsetof(rsmp_command, value) == 4 && sizeof(rsmp_command) == 8, "rsmp_command");
 RSMP_ASSERT(offsetof(rsmp_version, major) == 0 && offsetof(rsmp_version, minor) == 4 && offsetof(rsmp_version, patch) == 8, "rsmp_version");
 RSMP_ASSERT(offsetof(rsmp_reading, found) == 0 && offsetof(rsmp_reading, bytes) == 1 && sizeof(rsmp_reading) == 17, "rsmp_reading");
 RSMP_ASSERT(sizeof(rsmp_version) == 12 && sizeof(rsmp_id) == 16 && offsetof(rsmp_id, bytes) == 0, "rsmp_version, rsmp_id");

@@ -2,7 +2,7 @@
 //! is not started, the bytes behind the written ones and around the lent ones always.
 
 use crate::script::Line;
-use rsmp_site::ffi::{self, Block, Id, Outcome, TABLE_BYTES, WORDS};
+use rsmp_site::ffi::{self, Block, Id, Outcome, COMMAND_WORDS, TABLE_BYTES, WORDS};
 use rsmp_site::Site;
 
 const LAST_NUMBER: u32 = 12;
@@ -17,7 +17,20 @@ pub struct Player {
     links: Option<u32>,
     output: Lent,
     written: usize,
+    commands: Box<Handed>,
+    handed: usize,
 }
+
+/// The words that commands are handed over in, between two guards, all filled with a pattern before each call.
+#[repr(C)]
+#[derive(PartialEq, Eq)]
+struct Handed {
+    before: [u64; GUARD / 8],
+    words: [u64; COMMAND_WORDS],
+    behind: [u64; GUARD / 8],
+}
+
+const EMPTY_HANDED: Handed = Handed { before: [PATTERN; GUARD / 8], words: [PATTERN; COMMAND_WORDS], behind: [PATTERN; GUARD / 8] };
 
 /// A site between two guards, filled with a pattern before there is a site.
 #[repr(C)]
@@ -40,11 +53,12 @@ type Played = Result<Result<String, Violation>, String>;
 
 impl Player {
     pub fn new() -> Player {
-        Player { lent: Box::new(PATTERNED), links: None, output: Lent::new(), written: 0 }
+        Player { lent: Box::new(PATTERNED), links: None, output: Lent::new(), written: 0, commands: Box::new(EMPTY_HANDED), handed: 0 }
     }
 
     pub fn play(&mut self, line: &Line) -> Played {
         self.written = 0;
+        self.handed = 0;
         match line {
             Line::Restore { bytes } => return self.restore(bytes).map(Ok),
             Line::Start { .. } => {}
@@ -66,6 +80,11 @@ impl Player {
         } else {
             self.output.first(self.written)
         }
+    }
+
+    /// The commands that the last call handed over: their numbers and values.
+    pub fn handed(&self) -> impl Iterator<Item = (u32, i32)> + '_ {
+        self.commands.words[..self.handed].iter().map(|word| ((word >> 32) as u32, *word as u32 as i32))
     }
 
     /// How many links the site has; 0 before there is one.
@@ -124,14 +143,30 @@ impl Player {
                 let (given, room, id) = (packet.clone(), *room, Id { bytes: *random });
                 let (out, Block { words, table }) = (self.output.lend(room), &mut self.lent.site);
                 let (packet_at, length) = (given.as_ptr(), given.len());
-                // SAFETY: all four are lent for their lengths and lie apart.
+                *self.commands = EMPTY_HANDED;
+                // SAFETY: all five are lent for their lengths and lie apart.
                 let outcome = unsafe {
-                    let (words, table) = (words.as_mut_ptr(), table.as_ptr());
-                    ffi::rsmp_lent_packet(words, WORDS, table, TABLE_BYTES, *link, *time, id, packet_at, length, out, room)
+                    let (words, table, to) = (words.as_mut_ptr(), table.as_ptr(), self.commands.words.as_mut_ptr());
+                    ffi::rsmp_lent_packet(
+                        words,
+                        WORDS,
+                        table,
+                        TABLE_BYTES,
+                        *link,
+                        *time,
+                        id,
+                        packet_at,
+                        length,
+                        to,
+                        COMMAND_WORDS,
+                        out,
+                        room,
+                    )
                 };
                 if given != *packet {
                     return Err(Violation("the packet's bytes changed".to_string()));
                 }
+                self.handed = judge_handed(&self.commands, &outcome)?;
                 (outcome, room)
             }
             Line::Pump { link, time, random, room } => {
@@ -149,7 +184,10 @@ impl Player {
             self.written = outcome.written as usize;
             self.output.judge(self.written)?;
         }
-        Ok((Some(outcome), answer(&outcome, self.written())))
+        if self.handed as u64 != outcome.commands {
+            return Err(Violation(format!("{} commands handed over by a call that is no packet", outcome.commands)));
+        }
+        Ok((Some(outcome), format!("{}{}", answer(&outcome, self.written()), commands(self.handed()))))
     }
 
     /// What may not have changed of the site and around it.
@@ -191,9 +229,23 @@ fn in_place(site: &mut Block, line: &Line) -> Outcome {
     }
 }
 
+/// How many commands were handed over: the first words, and nothing else changed.
+fn judge_handed(lent: &Handed, told: &Outcome) -> Result<usize, Violation> {
+    let count = told.commands as usize;
+    if count > COMMAND_WORDS {
+        return Err(Violation(format!("{} commands handed over", count)));
+    }
+    let mut rest = EMPTY_HANDED;
+    rest.words[..count].copy_from_slice(&lent.words[..count]);
+    if *lent != rest {
+        return Err(Violation(format!("{} commands handed over, and words behind or around them changed", count)));
+    }
+    Ok(count)
+}
+
 /// What a call reports is what it can report.
 fn judge_report(told: &Outcome, room: usize) -> Result<(), Violation> {
-    let nothing = (told.written, told.closed, told.hinted, told.hint) == (0, 0, 0, 0);
+    let nothing = (told.written, told.closed, told.hinted, told.hint, told.commands) == (0, 0, 0, 0, 0);
     let wrong = if told.number > LAST_NUMBER {
         format!("no such number: {}", told.number)
     } else if told.number != 0 && !nothing {
@@ -214,6 +266,16 @@ fn answer(told: &Outcome, out: &[u8]) -> String {
     }
     let hint = if told.hinted == 1 { told.hint.to_string() } else { "-".to_string() };
     format!("0 {} {} {}", told.closed, hint, hex(out))
+}
+
+/// A word more where commands were handed over.
+fn commands(handed: impl Iterator<Item = (u32, i32)>) -> String {
+    let each: Vec<String> = handed.map(|(number, value)| format!("{}={}", number, value)).collect();
+    if each.is_empty() {
+        String::new()
+    } else {
+        format!(" {}", each.join(","))
+    }
 }
 
 fn hex(bytes: &[u8]) -> String {

@@ -27,6 +27,8 @@ pub struct Link {
     pub sent: Vec<u64>,
     pub answered: Vec<u64>,
     pub lost: Vec<u64>,
+    /// Commands that its packets handed over, a time each.
+    pub commands: Vec<u64>,
     /// What was held when another site was started.
     pub dropped: Vec<u64>,
     /// What a stored site held already.
@@ -72,6 +74,7 @@ impl Day {
         match line {
             Line::Start { table, primary, .. } => self.start(table, *primary, player.links() as usize, time),
             Line::Pump { link, .. } => self.send(*link, time, player),
+            Line::Packet { link, .. } => self.links[*link as usize].commands.extend(player.handed().map(|_| time)),
             _ => {}
         }
         for link in 0..player.links() {
@@ -80,8 +83,9 @@ impl Day {
     }
 
     fn start(&mut self, table: &[u8], primary: u32, links: usize, time: u64) {
-        let length = usize::from(table[3]);
-        self.site = table[4..4 + length].iter().map(|byte| char::from(*byte)).collect();
+        let head = if table[0] >> 4 == 1 { 3 } else { 4 };
+        let length = usize::from(table[head]);
+        self.site = table[head + 1..head + 1 + length].iter().map(|byte| char::from(*byte)).collect();
         self.primary = Some(primary).filter(|primary| *primary != NO_PRIMARY);
         self.starts.push(time);
         for link in &mut self.links {

@@ -16,7 +16,8 @@ use std::process::ExitCode;
 const USAGE: &str = "rsmp-replay: plays a script of calls on a site
 
   rsmp-replay <SCRIPT                plays it and prints one line per call
-  rsmp-replay --picture [SCRIPT]     plays it and prints a picture of it (SVG): phases, records issued, sent, answered, held and lost
+  rsmp-replay --picture [SCRIPT]     plays it and prints a picture of it (SVG): phases, records issued, sent, answered, held and lost,
+                                     commands handed over
   rsmp-replay --version | --help
 
 Lines, - standing for empty bytes or no primary:
@@ -24,7 +25,8 @@ Lines, - standing for empty bytes or no primary:
 
 const ANSWERS: &str = "
 Printed: the number alone where a call is refused, else `0 CLOSED HINT OUTHEX`: the closed links as a bit mask (link 0 is bit 0), the
-clock hint in milliseconds or -, the written bytes or -. `counts` prints HELD/LOST for each link, `readings` for each link
+clock hint in milliseconds or -, the written bytes or -. A packet that hands commands over has a word more, NUMBER=VALUE,NUMBER=VALUE..
+with their numbers in the table, in their order. `counts` prints HELD/LOST for each link, `readings` for each link
 PHASE/VERSION/RECORD,RECORD.. (phase 0 Down, 1 Greeting, 2 Beating, 3 Up; the held records oldest first).
 
 After each call the site and all bytes that may not change are compared with those before it.

@@ -31,6 +31,7 @@ const ISSUED_COLOUR: &str = "#0072b2";
 const SENT_COLOUR: &str = "#b6bfc8";
 const ANSWERED_COLOUR: &str = "#3fa9e0";
 const LOST_COLOUR: &str = "#d5400e";
+const COMMAND_COLOUR: &str = "#1d2733";
 
 const STEPS: [u64; 27] = [
     1, 2, 5, 10, 20, 50, 100, 200, 500, 1_000, 2_000, 5_000, 10_000, 20_000, 30_000, 60_000, 120_000, 300_000, 600_000, 1_200_000,
@@ -147,6 +148,7 @@ fn head(page: &mut String, day_: &Day) {
         ("answered", ANSWERED_COLOUR),
         ("lost", LOST_COLOUR),
     ]);
+    let swatches = swatches.chain(Some(("commands", COMMAND_COLOUR)).filter(|_| day_.links.iter().any(|link| !link.commands.is_empty())));
     for (name, colour) in swatches {
         bar(page, (x, 66.0), (12.0, 12.0), colour, "");
         text(page, x + 17.0, 76.5, "", name);
@@ -164,8 +166,14 @@ fn longest(link: &Link) -> Option<&Stay> {
 }
 
 fn panel(page: &mut String, day_: &Day, scale: &Scale, number: usize, link: &Link, top: u64) {
-    let counts =
-        [("issued", &link.issued), ("sent", &link.sent), ("answered", &link.answered), ("lost", &link.lost), ("dropped", &link.dropped)];
+    let counts = [
+        ("issued", &link.issued),
+        ("sent", &link.sent),
+        ("answered", &link.answered),
+        ("lost", &link.lost),
+        ("dropped", &link.dropped),
+        ("commands", &link.commands),
+    ];
     let said: String = counts.iter().map(|(name, times)| format!(" data-{}=\"{}\"", name, times.len())).collect();
     let phase = link.phases.last().map_or("", |(_, phase)| PHASES[*phase as usize]);
     let _ = writeln!(
@@ -192,6 +200,7 @@ fn panel(page: &mut String, day_: &Day, scale: &Scale, number: usize, link: &Lin
         line(page, (scale.x(time), strip), (scale.x(time), flow + FLOW as f64), &format!("stroke=\"{}\"", RULE));
     }
     phases(page, scale, link, strip);
+    commanding(page, scale, link, strip);
     holding(page, scale, link, held);
     flowing(page, scale, link, flow);
     for start in day_.starts.iter().skip(1) {
@@ -217,6 +226,9 @@ fn summary(page: &mut String, scale: &Scale, link: &Link, y: f64) {
     }
     if !link.dropped.is_empty() {
         let _ = write!(page, ", {} left behind by a new start", link.dropped.len());
+    }
+    if !link.commands.is_empty() {
+        let _ = write!(page, ", {} handed over", plural(link.commands.len(), "command"));
     }
     if let Some(stay) = longest(link).filter(|stay| stay.length() > 0) {
         let (from, to) = (scale.said(stay.from), scale.said(stay.to));
@@ -244,6 +256,22 @@ fn phases(page: &mut String, scale: &Scale, link: &Link, top: f64) {
             bar(page, ((LEFT + column) as f64, y), (1.0, height), PHASE_COLOURS[phase], "");
             y += height;
         }
+    }
+}
+
+/// A mark on the phases where commands were handed over.
+fn commanding(page: &mut String, scale: &Scale, link: &Link, top: f64) {
+    for (from, count) in grouped(&link.commands, scale.step(180)) {
+        let x = scale.x(from.max(scale.first).min(scale.last()));
+        let said = format!("{} handed over from {} on", plural(count, "command"), scale.said(from));
+        let _ = writeln!(
+            page,
+            "<path d=\"M{:.1} {:.1}l4 4l-4 4l-4 -4z\" fill=\"{}\"><title>{}</title></path>",
+            x,
+            top + 3.0,
+            COMMAND_COLOUR,
+            escaped(&said)
+        );
     }
 }
 

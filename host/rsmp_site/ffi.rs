@@ -6,9 +6,12 @@
 /// The words of a site, in which everything lies that changes.
 pub const WORDS: usize = 1173;
 /// The bytes of its table, as start leaves them.
-pub const TABLE_BYTES: usize = 4752;
-/// The bytes of a site.
+pub const TABLE_BYTES: usize = 6178;
+/// The bytes of a site; its block has six behind them, which nothing reads.
 pub const SITE_BYTES: usize = 8 * WORDS + TABLE_BYTES;
+
+/// The words that a packet's commands are handed over in.
+pub const COMMAND_WORDS: usize = 16;
 
 /// The start value for "no primary".
 pub const NO_PRIMARY: u32 = u32::MAX;
@@ -28,8 +31,8 @@ pub struct Id {
     pub bytes: [u8; 16],
 }
 
-/// What a call gives: its number, and where it is 0 the written bytes, the closed links and the clock hint. 14 is given where words or table
-/// are of another length than a site's.
+/// What a call gives: its number, and where it is 0 the written bytes, the closed links, the clock hint and how many commands were handed over.
+/// 14 is given where words, table or the commands' words are of another length than they are to be.
 #[repr(C)]
 #[derive(Clone, Copy, Debug)]
 pub struct Outcome {
@@ -38,6 +41,7 @@ pub struct Outcome {
     pub written: u32,
     pub closed: u32,
     pub hinted: u32,
+    pub commands: u64,
 }
 
 #[repr(C)]
@@ -84,6 +88,8 @@ extern "C" {
         random: Id,
         packet: *const u8,
         packet_len: usize,
+        commands: *mut u64,
+        commands_len: usize,
         out: *mut u8,
         out_len: usize,
     ) -> Outcome;

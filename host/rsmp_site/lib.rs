@@ -8,13 +8,15 @@
 #[cfg(feature = "std")]
 extern crate std;
 
+mod commands;
 pub mod ffi;
 mod refusal;
 mod stored;
 
+pub use commands::{Command, Commands};
 use core::fmt;
 pub use ffi::SITE_BYTES;
-use ffi::{Block, TABLE_BYTES, WORDS};
+use ffi::{Block, COMMAND_WORDS, TABLE_BYTES, WORDS};
 pub use refusal::Refusal;
 pub use stored::{check_sum, NotStored, SITE_EDITION, STORED_BYTES};
 
@@ -26,12 +28,14 @@ pub const OUTPUT_BYTES: usize = 4096;
 pub const PACKET_BYTES: usize = 4096;
 /// The most links a site has.
 pub const LINKS: u32 = 4;
+/// The most commands that a packet hands over.
+pub const COMMANDS: usize = COMMAND_WORDS;
 /// 9999-12-31T23:59:59.999Z
 pub const LAST_TIME: u64 = 253_402_300_799_999;
 /// The word of a site that has its count of links, and the lowest of its sixteen bits there.
 const LINK_COUNT: (usize, u32) = (2, 16);
 
-/// A site: 14,136 plain bytes, no heap, no global state. Keep it where you like: in a static, in a box, on a stack.
+/// A site: 15,562 plain bytes, no heap, no global state. Keep it where you like: in a static, in a box, on a stack.
 #[derive(Clone, PartialEq, Eq)]
 pub struct Site {
     lent: Block,
@@ -59,6 +63,8 @@ pub struct Report {
     pub closed: Links,
     /// The primary's clock.
     pub hint: Option<u64>,
+    /// What a packet commands: to be carried out in this order, one after the other. Nobody else has them from here on.
+    pub commands: Commands,
 }
 
 /// A set of links.
@@ -130,15 +136,19 @@ impl Site {
         called(unsafe { ffi::rsmp_lent_disconnect(self.lent.words.as_mut_ptr(), WORDS, link, time) })
     }
 
-    /// A packet that came, without form feeds; the answer is written to `output`.
+    /// A packet that came, without form feeds; the answer is written to `output`, and what it commands is in the report.
     pub fn packet(&mut self, link: u32, time: u64, random: [u8; 16], packet: &[u8], output: &mut [u8]) -> Called {
         let Block { words, table } = &mut self.lent;
         let (random, room) = (ffi::Id { bytes: random }, output.len());
-        // SAFETY: all four are lent for their lengths; the words and the output are borrowed alone, so they overlap nothing.
-        called(unsafe {
-            let (words, table, output) = (words.as_mut_ptr(), table.as_ptr(), output.as_mut_ptr());
-            ffi::rsmp_lent_packet(words, WORDS, table, TABLE_BYTES, link, time, random, packet.as_ptr(), packet.len(), output, room)
-        })
+        let (given, length) = (packet.as_ptr(), packet.len());
+        let mut handed = [0; COMMAND_WORDS];
+        // SAFETY: all five are lent for their lengths; those that are changed are borrowed alone, so they overlap nothing.
+        let outcome = unsafe {
+            let (words, table, handed, output) = (words.as_mut_ptr(), table.as_ptr(), handed.as_mut_ptr(), output.as_mut_ptr());
+            ffi::rsmp_lent_packet(words, WORDS, table, TABLE_BYTES, link, time, random, given, length, handed, COMMAND_WORDS, output, room)
+        };
+        let commands = Commands::of_words(&handed, outcome.commands as usize);
+        called(outcome).map(|report| Report { commands, ..report })
     }
 
     pub fn alarm(&mut self, number: u32, active: bool, time: u64) -> Called {
@@ -235,7 +245,7 @@ fn called(outcome: ffi::Outcome) -> Called {
         return Err(refusal);
     }
     let hint = Some(outcome.hint).filter(|_| outcome.hinted == 1);
-    Ok(Report { written: outcome.written as usize, closed: Links(outcome.closed), hint })
+    Ok(Report { written: outcome.written as usize, closed: Links(outcome.closed), hint, commands: Commands::default() })
 }
 
 /// What is shown of a link where a site is printed.

@@ -4,18 +4,18 @@
 use crate::ffi::{Block, SITE_BYTES, WORDS};
 use crate::Site;
 use core::fmt;
-use core::mem::size_of;
+use core::mem::{align_of, size_of};
 
 /// Another layout of the site has another edition.
-pub const SITE_EDITION: u32 = 2;
+pub const SITE_EDITION: u32 = 3;
 /// A name, the edition, the length, the site, the check sum of all before.
 pub const STORED_BYTES: usize = HEAD_BYTES + SITE_BYTES + SUM_BYTES;
 
 const NAME: &[u8; 8] = b"RSMPSITE";
 const HEAD_BYTES: usize = 16;
 const SUM_BYTES: usize = 8;
-// No byte of it is padding.
-const _: () = assert!(size_of::<Block>() == SITE_BYTES && size_of::<Site>() == SITE_BYTES);
+// No byte of it is padding: what a block has for its alignment stands behind them.
+const _: () = assert!(size_of::<Site>() == size_of::<Block>() && size_of::<Block>() - SITE_BYTES < align_of::<Block>());
 
 /// Why bytes are no stored site.
 #[derive(Clone, Copy, Debug, PartialEq, Eq)]
@@ -50,7 +50,7 @@ fn word(bytes: &[u8], at: usize) -> u32 {
 
 impl Site {
     pub fn as_bytes(&self) -> &[u8; SITE_BYTES] {
-        // SAFETY: a block is words and bytes of that length together, without padding.
+        // SAFETY: a block begins with words and bytes of that length together, without padding between them.
         unsafe { &*(&self.lent as *const Block as *const [u8; SITE_BYTES]) }
     }
 

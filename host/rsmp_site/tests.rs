@@ -1,9 +1,10 @@
 //! The safe crate over the library, run on x86-64: sizes on this side of the calling convention, typed refusals, clones.
 
-use rsmp_site::{ffi, NotStored, Phase, Refusal, Site, Start, LAST_TIME, OUTPUT_BYTES, SITE_BYTES, STORED_BYTES};
+use rsmp_site::{ffi, Command, NotStored, Phase, Refusal, Report, Site, Start, LAST_TIME, OUTPUT_BYTES, SITE_BYTES, STORED_BYTES};
 use std::mem::{align_of, size_of};
 
 const TABLE: &[u8] = include_bytes!("../../examples/barrier.bits");
+const COMMANDS: &[u8] = include_bytes!("../../examples/commands.bits");
 const NOON: u64 = 1_254_398_371_571;
 const GOOD: Start = Start { links: 2, primary: Some(0), period: 60, first: 0, time: NOON };
 
@@ -13,8 +14,8 @@ fn site() -> Site {
 
 #[test]
 fn sizes() {
-    assert_eq!((size_of::<ffi::Block>(), align_of::<ffi::Block>(), SITE_BYTES), (14_136, 8, 14_136));
-    assert_eq!((size_of::<ffi::Outcome>(), align_of::<ffi::Outcome>()), (24, 8));
+    assert_eq!((size_of::<ffi::Block>(), align_of::<ffi::Block>(), SITE_BYTES), (15_568, 8, 15_562));
+    assert_eq!((size_of::<ffi::Outcome>(), align_of::<ffi::Outcome>()), (32, 8));
     assert_eq!((size_of::<ffi::Id>(), size_of::<ffi::Version>(), size_of::<ffi::Reading>()), (16, 12, 17));
 }
 
@@ -30,8 +31,8 @@ macro_rules! places {
 fn offsets() {
     let block: ffi::Block = Site::NONE.into();
     assert_eq!(places!(block, words table), [0, 9384]);
-    let outcome = ffi::Outcome { hint: 0, number: 0, written: 0, closed: 0, hinted: 0 };
-    assert_eq!(places!(outcome, hint number written closed hinted), [0, 8, 12, 16, 20]);
+    let outcome = ffi::Outcome { hint: 0, number: 0, written: 0, closed: 0, hinted: 0, commands: 0 };
+    assert_eq!(places!(outcome, hint number written closed hinted commands), [0, 8, 12, 16, 20, 24]);
     let version = ffi::Version { major: 0, minor: 0, patch: 0 };
     assert_eq!(places!(version, major minor patch), [0, 4, 8]);
     let reading = ffi::Reading { found: 0, bytes: [0; 16] };
@@ -149,7 +150,7 @@ fn bytes_and_back() {
     assert!(Site::from_bytes(site.as_bytes()) == site);
     let stored = site.to_stored();
     assert!(Site::from_stored(&stored).as_ref() == Ok(&site));
-    assert_eq!((stored.len(), stored[8]), (STORED_BYTES, 2));
+    assert_eq!((stored.len(), stored[8]), (STORED_BYTES, 3));
     let fault = |change: &dyn Fn(&mut Vec<u8>)| {
         let mut bytes = stored.to_vec();
         change(&mut bytes);
@@ -161,4 +162,62 @@ fn bytes_and_back() {
     assert_eq!(fault(&|bytes| bytes[0] = 0), Some(NotStored::Foreign));
     assert_eq!(fault(&|bytes| bytes[12] ^= 8), Some(NotStored::Length));
     assert_eq!((fault(&|bytes| bytes.truncate(23)), fault(&|bytes| bytes.push(0))), (Some(NotStored::Length), Some(NotStored::Length)));
+}
+
+const THEIRS: &str = "6f968141-4de5-42ff-8032-45f8093762c5";
+
+/// A supervisor's message, `more` being what stands behind its identity.
+fn told(site: &mut Site, kind: &str, more: &str) -> Report {
+    let packet = format!("{{\"mType\":\"rSMsg\",\"type\":\"{}\",\"mId\":\"{}\",{}}}", kind, THEIRS, more);
+    site.packet(0, NOON, [9; 16], packet.as_bytes(), &mut [0; OUTPUT_BYTES]).expect("it is taken")
+}
+
+/// A site whose link 0 is Up.
+fn up(table: &[u8]) -> Site {
+    let mut site = Site::start(table, &GOOD).expect("the example table is good");
+    let mut output = [0; OUTPUT_BYTES];
+    assert!(site.connect(0, NOON).is_ok());
+    for (byte, theirs) in [
+        (1, "\"type\":\"Version\",\"RSMP\":[{\"vers\":\"3.2\"}],\"siteId\":[{\"sId\":\"O+14439=481BA001\"}],\"SXL\":\"1.0.13\""),
+        (2, "\"type\":\"Watchdog\",\"wTs\":\"2009-10-01T11:59:31.571Z\""),
+    ] {
+        site.pump(0, NOON, [byte; 16], &mut output).expect("ours is due");
+        let ack = format!(
+            "{{\"mType\":\"rSMsg\",\"type\":\"MessageAck\",\"oMId\":\"{0}{0}{0}{0}-{0}{0}-4{1}{0}-8{1}{0}-{0}{0}{0}{0}{0}{0}\"}}",
+            format_args!("0{}", byte),
+            byte
+        );
+        site.packet(0, NOON, [7; 16], ack.as_bytes(), &mut output).expect("ours is acknowledged");
+        let theirs = format!("{{\"mType\":\"rSMsg\",\"mId\":\"{}\",{}}}", THEIRS, theirs);
+        site.packet(0, NOON, [7; 16], theirs.as_bytes(), &mut output).expect("theirs is taken");
+    }
+    assert_eq!(site.phase(0), Phase::Up);
+    site
+}
+
+#[test]
+fn commands_are_handed_over() {
+    let mut site = up(COMMANDS);
+    let asked = |entries: &str| format!("\"cId\":\"O+14439=481BR001\",\"arg\":[{}]", entries);
+    let entry = |code: &str, name: &str, value: &str| {
+        format!("{{\"cCI\":\"{}\",\"n\":\"{}\",\"cO\":\"setValue\",\"v\":\"{}\"}}", code, name, value)
+    };
+    let (raise, limit) = (entry("M0101", "boom", "1"), entry("M0102", "release limit", "250"));
+    let before = site.clone();
+    let report = told(&mut site, "CommandRequest", &asked(&format!("{},{},{}", limit, raise, limit)));
+    let handed = [Command { number: 2, value: 250 }, Command { number: 1, value: 1 }, Command { number: 2, value: 250 }];
+    assert_eq!(report.commands[..], handed);
+    assert_eq!((report.commands.len(), report.commands.iter().count(), report.hint), (3, 3, None));
+    assert_eq!(format!("{:?}", report.commands), format!("{:?}", handed));
+    assert!(site != before);
+    for entries in
+        [entry("M0101", "boom", "2"), entry("M0103", "boom", "1"), format!("{},{}", raise, entry("M0102", "release limit", "99"))]
+    {
+        assert!(told(&mut site, "CommandRequest", &asked(&entries)).commands.is_empty(), "{}", entries);
+    }
+    let heater = asked(&entry("M0001", "heater offset", "-20")).replace("481BR001", "481BA001");
+    assert_eq!(told(&mut up(COMMANDS), "CommandRequest", &heater).commands[..], [Command { number: 0, value: -20 }]);
+    let unknown = asked(&raise).replace("481BR001", "481BR009");
+    assert!(told(&mut up(COMMANDS), "CommandRequest", &unknown).commands.is_empty());
+    assert!(told(&mut up(TABLE), "CommandRequest", &asked(&raise)).commands.is_empty());
 }

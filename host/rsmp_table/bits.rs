@@ -1,19 +1,28 @@
-//! A table's bits, most significant first (document 01, "Site table").
+//! A table's bits, most significant first (document 01, "Site table"; request 01 for edition 2).
 
-use crate::{string_fault, Alarm, Category, Status, Table, MOST_COMPONENTS, MOST_ROWS};
+use crate::{string_fault, Alarm, Category, Command, Edition, Status, Table, MOST_COMMANDS, MOST_COMPONENTS, MOST_ROWS};
 
-const EDITION: u8 = 1;
-
-/// Whether bytes are a table's bits and not its text: bits begin with the edition, which no text begins with.
+/// Whether bytes are a table's bits and not its text. Bits begin with the edition: no text begins as edition 1 does. Edition 2 begins with a
+/// sign that a text may begin with, as # for three components; but then its fourth byte is 0x00, which no text has there, or 0x80, which
+/// is a part of a letter at most: then they are bits if they read as a table, or have a byte that no text has.
 pub fn looks_like_bits(bytes: &[u8]) -> bool {
-    bytes.first().map_or(false, |first| first >> 4 == EDITION)
+    match *bytes {
+        [first, ..] if first >> 4 == Edition::One as u8 => true,
+        [0x21..=0x28, _, _, 0x00, ..] => true,
+        [0x21..=0x28, _, _, 0x80, ..] => bytes.iter().any(never_in_text) || read(bytes).is_ok(),
+        _ => false,
+    }
+}
+
+fn never_in_text(byte: &u8) -> bool {
+    *byte < 0x20 && !matches!(byte, b'\t' | b'\n' | b'\r' | 0x0C)
 }
 
 /// The bits of a table that keeps the rules, as every table that `text::read` or `read` gives does.
 pub fn write(table: &Table) -> Vec<u8> {
-    let (alarms, statuses) = (table.alarms.len() as u32, table.statuses.len() as u32);
-    let head = u32::from(EDITION) << 20 | (table.components.len() as u32) << 16 | alarms << 10 | statuses << 4;
-    let mut bytes = head.to_be_bytes()[1..].to_vec();
+    let (alarms, statuses, commands) = (table.alarms.len() as u32, table.statuses.len() as u32, table.commands.len() as u32);
+    let head = (table.edition as u32) << 28 | (table.components.len() as u32) << 24 | alarms << 18 | statuses << 12 | commands << 7;
+    let mut bytes = head.to_be_bytes()[..head_bytes(table.edition)].to_vec();
     for string in [&table.site, &table.sxl].into_iter().chain(&table.components) {
         put_string(&mut bytes, string);
     }
@@ -26,7 +35,22 @@ pub fn write(table: &Table) -> Vec<u8> {
         put_string(&mut bytes, &status.code);
         put_string(&mut bytes, &status.name);
     }
+    for command in &table.commands {
+        bytes.push((command.component as u8) << 5);
+        put_string(&mut bytes, &command.code);
+        put_string(&mut bytes, &command.name);
+        bytes.extend_from_slice(&command.lowest.to_be_bytes());
+        bytes.extend_from_slice(&command.highest.to_be_bytes());
+    }
     bytes
+}
+
+/// Edition 2 has a byte more, with the count of commands and zeros.
+fn head_bytes(edition: Edition) -> usize {
+    match edition {
+        Edition::One => 3,
+        Edition::Two => 4,
+    }
 }
 
 fn put_string(bytes: &mut Vec<u8>, string: &str) {
@@ -43,21 +67,35 @@ pub struct BitsError {
 
 pub fn read(bytes: &[u8]) -> Result<Table, BitsError> {
     let mut reader = Reader { bytes, at: 0 };
-    let head = reader.take(3, "the head")?;
-    let head = u32::from(head[0]) << 16 | u32::from(head[1]) << 8 | u32::from(head[2]);
-    let edition = head >> 20;
-    let (components, alarms, statuses) = ((head >> 16 & 15) as usize, (head >> 10 & 63) as usize, (head >> 4 & 63) as usize);
-    check(edition == u32::from(EDITION), 0, || format!("edition {}, only 1 is known", edition))?;
+    let edition = reader.edition()?;
+    let mut head = [0; 4];
+    let length = head_bytes(edition);
+    head[..length].copy_from_slice(reader.take(length, "the head")?);
+    let head = u32::from_be_bytes(head);
+    let (components, alarms, statuses) = ((head >> 24 & 15) as usize, (head >> 18 & 63) as usize, (head >> 12 & 63) as usize);
     check((1..=MOST_COMPONENTS).contains(&components), 0, || format!("{} components, 1 to 8 are allowed", components))?;
     check(alarms <= MOST_ROWS, 1, || format!("{} alarms, at most 32 are allowed", alarms))?;
     check(statuses <= MOST_ROWS, 1, || format!("{} statuses, at most 32 are allowed", statuses))?;
-    check(head & 15 == 0, 2, || "the head's last four bits are not zero".to_string())?;
+    let commands = match edition {
+        Edition::One => {
+            check(head >> 8 & 15 == 0, 2, || "the head's last four bits are not zero".to_string())?;
+            0
+        }
+        Edition::Two => {
+            let commands = (head >> 7 & 31) as usize;
+            check(commands <= MOST_COMMANDS, 2, || format!("{} commands, at most 16 are allowed", commands))?;
+            check(head & 127 == 0, 3, || "the head's last seven bits are not zero".to_string())?;
+            commands
+        }
+    };
     let mut table = Table {
+        edition,
         site: reader.string("the site id")?,
         sxl: reader.string("the SXL version")?,
         components: Vec::new(),
         alarms: Vec::new(),
         statuses: Vec::new(),
+        commands: Vec::new(),
     };
     for number in 0..components {
         let at = reader.at;
@@ -78,6 +116,12 @@ pub fn read(bytes: &[u8]) -> Result<Table, BitsError> {
         check(!table.statuses.contains(&status), at, || format!("status {} is there already", number))?;
         table.statuses.push(status);
     }
+    for number in 0..commands {
+        let at = reader.at;
+        let command = reader.command(number, components)?;
+        check(!table.commands.iter().any(|other| other.key() == command.key()), at, || format!("command {} is there already", number))?;
+        table.commands.push(command);
+    }
     check(reader.at == bytes.len(), reader.at, || format!("{} bytes behind the table", bytes.len() - reader.at))?;
     Ok(table)
 }
@@ -96,6 +140,16 @@ struct Reader<'a> {
 }
 
 impl<'a> Reader<'a> {
+    /// By the first byte, which is not taken: it has the count of components too.
+    fn edition(&self) -> Result<Edition, BitsError> {
+        let first = self.bytes.first().ok_or_else(|| BitsError { byte: 0, message: "the bytes end inside the head".to_string() })?;
+        match first >> 4 {
+            1 => Ok(Edition::One),
+            2 => Ok(Edition::Two),
+            other => Err(BitsError { byte: 0, message: format!("edition {}, only 1 and 2 are known", other) }),
+        }
+    }
+
     fn take(&mut self, count: usize, what: &str) -> Result<&'a [u8], BitsError> {
         let rest = &self.bytes[self.at..];
         check(count <= rest.len(), self.bytes.len(), || format!("the bytes end inside {}", what))?;
@@ -141,5 +195,24 @@ impl<'a> Reader<'a> {
         check(row & 31 == 0, at, || format!("{} has bits that are not zero behind its component", what))?;
         let code = self.string(&format!("the code of {}", what))?;
         Ok(Status { component, code, name: self.string(&format!("the name of {}", what))? })
+    }
+    fn signed(&mut self, what: &str) -> Result<i16, BitsError> {
+        let bytes = self.take(2, what)?;
+        Ok(i16::from_be_bytes([bytes[0], bytes[1]]))
+    }
+
+    fn command(&mut self, number: usize, components: usize) -> Result<Command, BitsError> {
+        let what = format!("command {}", number);
+        let at = self.at;
+        let row = self.take(1, &what)?[0];
+        let component = self.component(row, &what, components)?;
+        check(row & 31 == 0, at, || format!("{} has bits that are not zero behind its component", what))?;
+        let code = self.string(&format!("the code of {}", what))?;
+        let name = self.string(&format!("the name of {}", what))?;
+        let at = self.at;
+        let (lowest, highest) =
+            (self.signed(&format!("the lowest value of {}", what))?, self.signed(&format!("the highest value of {}", what))?);
+        check(lowest <= highest, at, || format!("{} has {} as its lowest value, above its highest, {}", what, lowest, highest))?;
+        Ok(Command { component, code, name, lowest, highest })
     }
 }

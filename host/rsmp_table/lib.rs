@@ -5,16 +5,27 @@ pub mod text;
 
 pub const MOST_COMPONENTS: usize = 8;
 pub const MOST_ROWS: usize = 32;
+pub const MOST_COMMANDS: usize = 16;
 pub const LONGEST: usize = 32;
 
-/// A table that document 01 allows. Strings are 1 to 32 printable ASCII characters without `"` and `\`.
+/// Edition 2 has commands (request 01).
+#[derive(Clone, Copy, Debug, PartialEq, Eq)]
+pub enum Edition {
+    One = 1,
+    Two = 2,
+}
+
+/// A table that document 01 allows, or request 01. Strings are 1 to 32 printable ASCII characters without `"` and `\`.
 #[derive(Clone, Debug, PartialEq, Eq)]
 pub struct Table {
+    pub edition: Edition,
     pub site: String,
     pub sxl: String,
     pub components: Vec<String>,
     pub alarms: Vec<Alarm>,
     pub statuses: Vec<Status>,
+    /// Of edition 2 alone.
+    pub commands: Vec<Command>,
 }
 
 #[derive(Clone, Debug, PartialEq, Eq)]
@@ -46,6 +57,23 @@ pub struct Status {
     pub component: usize,
     pub code: String,
     pub name: String,
+}
+
+/// An order of a supervisor, with the values that it may have.
+#[derive(Clone, Debug, PartialEq, Eq)]
+pub struct Command {
+    pub component: usize,
+    pub code: String,
+    pub name: String,
+    pub lowest: i16,
+    pub highest: i16,
+}
+
+impl Command {
+    /// No two commands of a table have the same.
+    pub(crate) fn key(&self) -> (usize, &str, &str) {
+        (self.component, &self.code, &self.name)
+    }
 }
 
 /// What is wrong with a string of a table, or nothing.

@@ -1,11 +1,18 @@
-//! A table's text: one line for the site id, the SXL version, and each component, alarm and status; `#` begins a comment.
-//! A string with a space or a `#` stands in double quotes.
+//! A table's text: one line for the site id, the SXL version, and each component, alarm, status and command; `#` begins a comment.
+//! A string with a space or a `#` stands in double quotes. The edition is 2 where there are commands, else 1, unless a line says 2.
 
-use crate::{string_fault, twice, Alarm, Category, Status, Table, MOST_COMPONENTS, MOST_ROWS};
+use crate::{string_fault, twice, Alarm, Category, Command, Edition, Status, Table, MOST_COMMANDS, MOST_COMPONENTS, MOST_ROWS};
 use std::fmt::Write;
 
-pub const FORMS: [&str; 5] =
-    ["site SITEID", "sxl VERSION", "component ID", "alarm COMPONENT CODE T|D PRIORITY", "status COMPONENT CODE NAME"];
+pub const FORMS: [&str; 7] = [
+    "site SITEID",
+    "sxl VERSION",
+    "component ID",
+    "alarm COMPONENT CODE T|D PRIORITY",
+    "status COMPONENT CODE NAME",
+    "command COMPONENT CODE NAME LOWEST HIGHEST",
+    "edition 1|2",
+];
 
 /// What is wrong with a line, counted from 1.
 #[derive(Debug, PartialEq, Eq)]
@@ -14,12 +21,15 @@ pub struct LineError {
     pub message: String,
 }
 
-/// The text of a table, with the number of each component, alarm and status behind it.
+/// The text of a table, with the number of each component, alarm, status and command behind it.
 pub fn write(table: &Table) -> String {
     let mut text = String::new();
     let mut line = |words: String, comment: String| {
         let _ = writeln!(text, "{}", if comment.is_empty() { words } else { format!("{:<60} # {}", words, comment) });
     };
+    if table.edition == Edition::Two {
+        line("edition 2".to_string(), String::new());
+    }
     line(format!("site {}", word(&table.site)), String::new());
     line(format!("sxl {}", word(&table.sxl)), String::new());
     for (number, id) in table.components.iter().enumerate() {
@@ -32,6 +42,10 @@ pub fn write(table: &Table) -> String {
     for (number, status) in table.statuses.iter().enumerate() {
         let id = word(&table.components[status.component]);
         line(format!("status {} {} {}", id, word(&status.code), word(&status.name)), format!("status {}", number));
+    }
+    for (number, command) in table.commands.iter().enumerate() {
+        let called = format!("{} {} {}", word(&table.components[command.component]), word(&command.code), word(&command.name));
+        line(format!("command {} {} {}", called, command.lowest, command.highest), format!("command {}", number));
     }
     text
 }
@@ -62,10 +76,17 @@ pub fn read(text: &str) -> Result<Table, Vec<LineError>> {
     missing(reader.site.is_some(), FORMS[0]);
     missing(reader.sxl.is_some(), FORMS[1]);
     missing(!reader.components.is_empty(), FORMS[2]);
+    let edition = reader.edition.unwrap_or(if reader.commands.is_empty() { Edition::One } else { Edition::Two });
     match (reader.site, reader.sxl) {
-        (Some(site), Some(sxl)) if faults.is_empty() => {
-            Ok(Table { site, sxl, components: reader.components, alarms: reader.alarms, statuses: reader.statuses })
-        }
+        (Some(site), Some(sxl)) if faults.is_empty() => Ok(Table {
+            edition,
+            site,
+            sxl,
+            components: reader.components,
+            alarms: reader.alarms,
+            statuses: reader.statuses,
+            commands: reader.commands,
+        }),
         _ => Err(faults),
     }
 }
@@ -106,12 +127,16 @@ fn blank(c: char) -> bool {
 
 #[derive(Default)]
 struct Reader {
+    edition: Option<Edition>,
     site: Option<String>,
     sxl: Option<String>,
     components: Vec<String>,
     alarms: Vec<Alarm>,
     statuses: Vec<Status>,
+    commands: Vec<Command>,
 }
+
+const COMMANDS_IN_EDITION_1: &str = "commands stand in edition 2, and a line says edition 1";
 
 impl Reader {
     fn take(&mut self, words: &[String]) -> Result<(), Faults> {
@@ -119,7 +144,8 @@ impl Reader {
             Some(name) => name.as_str(),
             None => return Ok(()),
         };
-        let known = || one(format!("a line begins with site, sxl, component, alarm or status, not '{}'", name.escape_default()));
+        let known =
+            || one(format!("a line begins with site, sxl, component, alarm, status, command or edition, not '{}'", name.escape_default()));
         let form = *FORMS.iter().find(|form| form.split(' ').next() == Some(name)).ok_or_else(known)?;
         let wanted = form.split(' ').count();
         if words.len() != wanted {
@@ -131,8 +157,18 @@ impl Reader {
             "sxl" => string("the SXL version", &words[1]).and_then(|version| once(&mut self.sxl, version, name)).map_err(one),
             "component" => string("a component id", &words[1]).and_then(|id| self.component(id)).map_err(one),
             "alarm" => self.alarm(words),
-            _ => self.status(words),
+            "status" => self.status(words),
+            "command" => self.command(words),
+            _ => edition(&words[1]).and_then(|edition| self.say_edition(edition)).map_err(one),
         }
+    }
+
+    fn say_edition(&mut self, edition: Edition) -> Result<(), String> {
+        once(&mut self.edition, edition, "edition")?;
+        if edition == Edition::One && !self.commands.is_empty() {
+            return Err(COMMANDS_IN_EDITION_1.to_string());
+        }
+        Ok(())
     }
 
     fn component(&mut self, id: String) -> Result<(), String> {
@@ -182,10 +218,53 @@ impl Reader {
         Ok(())
     }
 
+    fn command(&mut self, words: &[String]) -> Result<(), Faults> {
+        let component = self.number_of(&words[1]);
+        let (code, name) = (string("a command code", &words[2]), string("a command name", &words[3]));
+        match (component, code, name, limits(&words[4], &words[5])) {
+            (Ok(component), Ok(code), Ok(name), Ok((lowest, highest))) => {
+                self.add_command(Command { component, code, name, lowest, highest }, &words[1]).map_err(one)
+            }
+            (component, code, name, limits) => Err(all([component.err(), code.err(), name.err(), limits.err()])),
+        }
+    }
+
+    fn add_command(&mut self, command: Command, id: &str) -> Result<(), String> {
+        if self.edition == Some(Edition::One) {
+            return Err(COMMANDS_IN_EDITION_1.to_string());
+        }
+        if let Some(number) = self.commands.iter().position(|other| other.key() == command.key()) {
+            return Err(format!("component '{}' has this code and name already, command {}", id, number));
+        }
+        room(&self.commands, MOST_COMMANDS, "commands")?;
+        self.commands.push(command);
+        Ok(())
+    }
+
     fn number_of(&self, id: &str) -> Result<usize, String> {
         let unknown = || format!("no line above names the component '{}'", id.escape_default());
         self.components.iter().position(|component| component == id).ok_or_else(unknown)
     }
+}
+
+fn edition(word: &str) -> Result<Edition, String> {
+    match word {
+        "1" => Ok(Edition::One),
+        "2" => Ok(Edition::Two),
+        other => Err(format!("the edition is '{}', wanted 1 or 2", other.escape_default())),
+    }
+}
+
+fn limits(lowest: &str, highest: &str) -> Result<(i16, i16), String> {
+    match (limit("lowest", lowest)?, limit("highest", highest)?) {
+        (lowest, highest) if lowest > highest => Err(format!("the lowest value, {}, is above the highest, {}", lowest, highest)),
+        limits => Ok(limits),
+    }
+}
+
+fn limit(which: &str, word: &str) -> Result<i16, String> {
+    let bad = || format!("the {} value is '{}', wanted -32768 to 32767", which, word.escape_default());
+    word.parse().ok().filter(|_| !word.starts_with('+')).ok_or_else(bad)
 }
 
 fn category(word: &str) -> Result<Category, String> {
@@ -212,7 +291,7 @@ fn string(what: &str, word: &str) -> Result<String, String> {
     }
 }
 
-fn once(place: &mut Option<String>, given: String, name: &str) -> Result<(), String> {
+fn once<T>(place: &mut Option<T>, given: T, name: &str) -> Result<(), String> {
     match place.replace(given) {
         None => Ok(()),
         Some(_) => Err(format!("a second line `{}`", name)),

@@ -262,6 +262,17 @@ impl Calls {
         Err(Refusal::SameIdentity)
     }
 
+    /// For `take_back`.
+    pub fn kept(&self) -> Site {
+        self.site.clone()
+    }
+
+    /// The site as it was before the last call, as though that had not been made.
+    pub fn take_back(&mut self, kept: Site) {
+        self.site = kept;
+        self.record_site();
+    }
+
     /// What pump sends is sent again after a restart: only where every call is stored is it worth a write.
     pub fn pump(&mut self, link: u32) -> Called {
         for _ in 0..DRAWS {

@@ -1,17 +1,20 @@
 //! What the process does with each event: calls on the site, bytes to the supervisors, lines to the log.
 
 use crate::calls::Calls;
+use crate::commands::{Commands, MOST_WAITING};
 use crate::framing::{Frame, FORM_FEED};
 use crate::journal::{Journal, Level};
 use crate::options::Options;
 use crate::readable::{kind, value_of};
 use crate::wires::{Closing, Event, Wire, NOT_READ};
-use rsmp_site::{Called, Phase, Refusal, Report};
+use rsmp_site::{Called, Phase, Refusal, Report, COMMANDS};
 use std::fmt::Display;
 use std::sync::mpsc::Receiver;
 use std::time::{Duration, Instant};
 
 const GOODBYE: Duration = Duration::from_secs(2);
+/// At the end commands that run or wait get so long.
+const LAST_COMMANDS: Duration = Duration::from_secs(5);
 /// Clocks that differ by less are not worth a line.
 const CLOCKS_DIFFER: u64 = 1000;
 /// Nor is more than one line in so long a time.
@@ -36,6 +39,7 @@ pub struct Host {
     pub calls: Calls,
     journal: Journal,
     pub links: Vec<Link>,
+    pub commands: Commands,
     greeting_limit: Duration,
     closing: Vec<Closing>,
     system_behind: u64,
@@ -44,7 +48,7 @@ pub struct Host {
 }
 
 impl Host {
-    pub fn new(calls: Calls, journal: Journal, options: &Options) -> Host {
+    pub fn new(calls: Calls, commands: Commands, journal: Journal, options: &Options) -> Host {
         let link = |address: &String| Link {
             address: address.clone(),
             wire: None,
@@ -61,6 +65,7 @@ impl Host {
             calls,
             journal,
             links: options.supervisors.iter().map(link).collect(),
+            commands,
             greeting_limit: options.greeting_limit,
             closing: Vec::new(),
             system_behind: 0,
@@ -176,7 +181,7 @@ impl Host {
             return;
         }
         self.links[link as usize].received += 1;
-        let called = self.calls.packet(link, packet);
+        let called = self.packet_with_room(link, packet);
         let now = self.calls.now();
         let mark = if called.is_ok() { '<' } else { '!' };
         self.journal.message(now, link, mark, packet);
@@ -184,12 +189,37 @@ impl Host {
             Ok(report) => {
                 let why = self.why_closed(link, packet, report);
                 self.done(link, report, &why);
+                self.commands.take(link, &report.commands);
+                self.say_of_commands();
                 self.look_whether_up(link);
             }
             Err(refusal) => {
                 self.links[link as usize].unanswered += 1;
                 self.refused(link, refusal);
             }
+        }
+    }
+
+    /// A packet for whose commands there is no room is not taken: nothing is answered that would not be carried out.
+    fn packet_with_room(&mut self, link: u32, packet: &[u8]) -> Called {
+        let room = self.commands.room();
+        let kept = if room < COMMANDS { Some(self.calls.kept()) } else { None };
+        let called = self.calls.packet(link, packet);
+        match (called, kept) {
+            (Ok(report), Some(kept)) if report.commands.len() > room => {
+                self.calls.take_back(kept);
+                self.commands.not_taken(report.commands.len());
+                let text = format!("a packet with {} commands is not taken: {} wait already", report.commands.len(), MOST_WAITING - room);
+                self.say(Level::Error, link, text);
+                Err(Refusal::Ignored)
+            }
+            (called, _) => called,
+        }
+    }
+
+    fn say_of_commands(&mut self) {
+        for said in self.commands.take_said() {
+            self.say(said.level, said.link, said.text);
         }
     }
 
@@ -318,6 +348,7 @@ impl Host {
     /// At the end of every turn.
     pub fn go_on(&mut self) {
         self.calls.save_where_due();
+        self.say_of_commands();
         for text in self.calls.take_trouble() {
             self.say_of_site(Level::Error, text);
         }
@@ -358,6 +389,8 @@ impl Host {
                 self.closing.push(wire.close());
             }
         }
+        self.commands.end(Instant::now() + LAST_COMMANDS);
+        self.say_of_commands();
         self.calls.flush();
         self.calls.save();
         for text in self.calls.take_trouble() {
@@ -371,6 +404,9 @@ impl Host {
             std::thread::sleep(Duration::from_millis(10));
         }
         self.journal.outlet.line("summary");
+        if let Some(counts) = self.commands.counts() {
+            self.journal.outlet.line(&format!("  commands {}", counts));
+        }
         for (number, link) in self.links.iter().enumerate() {
             let site = &self.calls.site;
             let (held, lost) = (site.held(number as u32), site.lost(number as u32));

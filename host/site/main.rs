@@ -2,6 +2,7 @@
 
 mod calls;
 mod clock;
+mod commands;
 mod control;
 mod framing;
 mod host;
@@ -22,6 +23,7 @@ mod wires;
 
 use calls::{Calls, Kit};
 use clock::Clock;
+use commands::Commands;
 use host::Host;
 use journal::{Journal, Level};
 use notify::Notifier;
@@ -31,7 +33,7 @@ use pauses::Pauses;
 use random::Random;
 use record::Record;
 use rsmp_site::Start;
-use rsmp_table::{bits, text};
+use rsmp_table::{bits, text, Table};
 use state::{Found, Store};
 use std::fs;
 use std::io::{self, Write};
@@ -49,23 +51,27 @@ const LAST_LINES: Duration = Duration::from_secs(2);
 /// So many events wait at most; then reading stands still, and with it the supervisor.
 const EVENTS: usize = 64;
 
-fn table_of(name: &str) -> Result<Vec<u8>, String> {
+fn table_of(name: &str) -> Result<Table, String> {
     let bytes = fs::read(name).map_err(|error| format!("{}: {}", name, error))?;
     if bits::looks_like_bits(&bytes) {
-        return match bits::read(&bytes) {
-            Ok(_) => Ok(bytes),
-            Err(fault) => Err(format!("{}: byte {}: {}", name, fault.byte, fault.message)),
-        };
+        return bits::read(&bytes).map_err(|fault| format!("{}: byte {}: {}", name, fault.byte, fault.message));
     }
     let line = |fault: text::LineError| format!("{}:{}: {}", name, fault.line, fault.message);
     let lines = |faults: Vec<text::LineError>| faults.into_iter().map(line).collect::<Vec<_>>().join("\n");
-    text::read(&String::from_utf8_lossy(&bytes)).map(|table| bits::write(&table)).map_err(lines)
+    text::read(&String::from_utf8_lossy(&bytes)).map_err(lines)
+}
+
+/// What is done with commands. A program that is named by its path must be there.
+fn commands_of(options: &Options, table: &Table) -> Result<Commands, String> {
+    if let Some(program) = options.on_command.as_ref().filter(|program| program.contains('/')) {
+        fs::metadata(program).map_err(|error| format!("{}: {}", program, error))?;
+    }
+    Commands::new(table, options.on_command.clone(), options.command_limit).map_err(|error| error.to_string())
 }
 
 /// The calls, and what is to be said of the state that was found.
-fn calls_of(options: &Options) -> Result<(Calls, Option<(Level, String)>), String> {
+fn calls_of(options: &Options, table: Vec<u8>) -> Result<(Calls, Option<(Level, String)>), String> {
     let named = |name: &str, error: io::Error| format!("{}: {}", name, error);
-    let table = table_of(&options.table)?;
     let start =
         Start { links: options.supervisors.len() as u32, primary: options.primary, period: options.period, first: options.first, time: 0 };
     let (mut store, mut stored, mut said) = (None, None, None);
@@ -103,7 +109,9 @@ fn calls_of(options: &Options) -> Result<(Calls, Option<(Level, String)>), Strin
 }
 
 fn run(options: Options) -> Result<(), String> {
-    let (calls, said) = calls_of(&options)?;
+    let table = table_of(&options.table)?;
+    let commands = commands_of(&options, &table)?;
+    let (calls, said) = calls_of(&options, bits::write(&table))?;
     let replies = Outlet::standard_output();
     let log = match &options.log {
         Some(name) => Outlet::file(name.into()).map_err(|error| format!("{}: {}", name, error))?,
@@ -123,7 +131,7 @@ fn run(options: Options) -> Result<(), String> {
         }
     };
     signals::listen();
-    let mut host = Host::new(calls, journal, &options);
+    let mut host = Host::new(calls, commands, journal, &options);
     host.say_beginning(VERSION, said);
     for (number, address) in options.supervisors.iter().enumerate() {
         let pauses = Pauses::new(options.reconnect, options.reconnect_limit);

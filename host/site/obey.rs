@@ -25,6 +25,7 @@ impl Host {
         let mut called = match order {
             Order::Counts => return self.counts(),
             Order::Links => return self.phases(),
+            Order::Commands => return self.commands.counts().unwrap_or_else(|| "the table has no commands".to_string()),
             Order::Help | Order::Quit => return orders::HELP.to_string(),
             Order::Save if self.calls.save() => return "done".to_string(),
             Order::Save => return "refused: there is no state, or it cannot be written".to_string(),

@@ -21,6 +21,10 @@ pub const HELP: &str = "rsmp-site: the site end of RSMP 3.2 for a road-barrier d
   --reconnect-limit SECONDS  and no longer than this (default 60)
   --greeting-limit SECONDS   a connection that is not Up by then is closed (default 60)
 
+  --on-command PROGRAM       run this for each command of a supervisor, one after the other in the order in which they came, with four
+                             words: component, code, name, value; without it, commands are told of in the log alone
+  --command-limit SECONDS    one that runs longer is ended (default 60)
+
   --state FILE               keep the site in this file over a restart or a power loss
   --state-interval SECONDS   write it so often at most (default 10); 0: before anything that depends on it is sent
   --control PATH             take orders on a Unix socket; without it, on standard input
@@ -45,6 +49,7 @@ Orders, a line each:
   aggregated 0..255          the eight booleans of the aggregated status, the first being 128
   counts                     the records held and lost of each link
   links                      the state of each link
+  commands                   how many were handed over, done, failed, wait
   save                       write the state now
   quit                       say goodbye and end
 
@@ -60,6 +65,8 @@ pub struct Options {
     pub reconnect: Duration,
     pub reconnect_limit: Duration,
     pub greeting_limit: Duration,
+    pub on_command: Option<String>,
+    pub command_limit: Duration,
     pub state: Option<String>,
     pub state_interval: Duration,
     pub control: Option<String>,
@@ -88,6 +95,8 @@ pub fn read(words: impl Iterator<Item = OsString>) -> Result<Wanted, String> {
         reconnect: Duration::from_secs(2),
         reconnect_limit: Duration::from_secs(60),
         greeting_limit: Duration::from_secs(60),
+        on_command: None,
+        command_limit: Duration::from_secs(60),
         state: None,
         state_interval: Duration::from_secs(10),
         control: None,
@@ -177,6 +186,8 @@ impl Options {
             "reconnect",
             "reconnect-limit",
             "greeting-limit",
+            "on-command",
+            "command-limit",
             "state",
             "state-interval",
             "control",
@@ -220,6 +231,9 @@ impl Options {
             "reconnect" => self.reconnect = seconds(0.01)?,
             "reconnect-limit" => self.reconnect_limit = seconds(0.01)?,
             "greeting-limit" => self.greeting_limit = seconds(0.1)?,
+            "on-command" if value.is_empty() => return Err(bad("a program")),
+            "on-command" => self.on_command = Some(value),
+            "command-limit" => self.command_limit = seconds(0.1)?,
             "state" => self.state = Some(value),
             "state-interval" => self.state_interval = seconds(0.0)?,
             "control" => self.control = Some(value),

@@ -2,7 +2,7 @@
 
 use crate::readable::clean;
 
-pub const HELP: &str = "alarm NUMBER on|off, status NUMBER VALUE, aggregated 0..255, counts, links, save, help, quit";
+pub const HELP: &str = "alarm NUMBER on|off, status NUMBER VALUE, aggregated 0..255, counts, links, commands, save, help, quit";
 
 pub enum Order {
     Alarm(u32, bool),
@@ -10,6 +10,7 @@ pub enum Order {
     Aggregated(u8),
     Counts,
     Links,
+    Commands,
     Save,
     Help,
     Quit,
@@ -38,6 +39,7 @@ pub fn read(line: &str) -> Result<Order, String> {
         }
         ["counts"] => Ok(Order::Counts),
         ["links"] => Ok(Order::Links),
+        ["commands"] => Ok(Order::Commands),
         ["save"] => Ok(Order::Save),
         ["help"] => Ok(Order::Help),
         ["quit"] => Ok(Order::Quit),

@@ -6,11 +6,14 @@ use std::net::TcpStream;
 use std::os::raw::{c_int, c_uint, c_void};
 use std::os::unix::io::AsRawFd;
 use std::os::unix::net::UnixDatagram;
+use std::os::unix::process::CommandExt;
+use std::process::{Child, Command};
 use std::time::Duration;
 
 pub const SIGHUP: i32 = 1;
 pub const SIGINT: i32 = 2;
 pub const SIGTERM: i32 = 15;
+const SIGKILL: c_int = 9;
 
 const SOL_SOCKET: c_int = 1;
 const SO_KEEPALIVE: c_int = 9;
@@ -28,6 +31,8 @@ extern "C" {
     fn signal(number: c_int, handler: extern "C" fn(c_int)) -> usize;
     fn umask(mask: c_uint) -> c_uint;
     fn flock(file: c_int, operation: c_int) -> c_int;
+    fn setpgid(process: c_int, group: c_int) -> c_int;
+    fn kill(process: c_int, number: c_int) -> c_int;
     fn setsockopt(socket: c_int, level: c_int, name: c_int, value: *const c_void, length: c_uint) -> c_int;
     fn sendto(
         socket: c_int,
@@ -71,6 +76,23 @@ pub fn lock(file: &File) -> io::Result<()> {
     } else {
         Err(io::Error::last_os_error())
     }
+}
+
+/// The program that is run, and all that it runs, make a group of their own: a signal from the terminal is not theirs.
+pub fn in_own_group(command: &mut Command) {
+    // SAFETY: between fork and exec the closure makes one system call and nothing else.
+    let before_exec = || match unsafe { setpgid(0, 0) } {
+        0 => Ok(()),
+        _ => Err(io::Error::last_os_error()),
+    };
+    // SAFETY: as above, and what it gives allocates nothing.
+    unsafe { command.pre_exec(before_exec) };
+}
+
+/// Ends a child that was run in a group of its own and has not been waited for, with all that it runs.
+pub fn kill_group(child: &Child) {
+    // SAFETY: kill has no precondition; until it is waited for, no other process has the child's number.
+    unsafe { kill(-(child.id() as c_int), SIGKILL) };
 }
 
 fn set_option(stream: &TcpStream, level: c_int, name: c_int, value: c_int) -> io::Result<()> {

@@ -1,6 +1,6 @@
 //! Turns the readable text of a site table into its bits and back.
 
-use rsmp_table::{bits, text, Table};
+use rsmp_table::{bits, text, Edition, Table};
 use std::fs;
 use std::io::{self, Read, Write};
 use std::process::ExitCode;
@@ -10,19 +10,21 @@ const USAGE: &str = "rsmp-table: the text of a site table and its bits
   rsmp-table pack [TEXT [BITS]]      text to bits
   rsmp-table unpack [BITS [TEXT]]    bits to text
   rsmp-table hex FILE ..             each file's bits as hexadecimal digits, as rsmp-replay's start takes them
-  rsmp-table check FILE ..           lists each file's components, alarms and statuses with their numbers, or all that is wrong with it
+  rsmp-table check FILE ..           lists each file's components, alarms, statuses and commands with their numbers, or all that is wrong
+                                     with it
   rsmp-table --version | --help
 
 hex and check take texts and bits, and go on behind a file that is no table.
 A missing file name or - is standard input or output. Status: 0, 1 where a file is no table, 2 otherwise.
 
-The lines of a text, in this order of words; alarms and statuses are numbered from 0 as they stand:
+The lines of a text, in this order of words; alarms, statuses and commands are numbered from 0 as they stand:
 ";
 
 const NOTES: &str = "
 A # begins a comment. A string has 1 to 32 printable ASCII characters without \" and \\, and stands in quotes where it has a space or
 a #. 1 to 8 components, the first of which carries the aggregated status; up to 32 alarms, T traffic or D technical, priority 1 to
-3; up to 32 statuses. A component's line stands above those that name it.
+3; up to 32 statuses; up to 16 commands, each with the lowest and the highest value it may have, -32768 to 32767. A component's line
+stands above those that name it. A table with commands is of edition 2, one without is of edition 1 unless a line says edition 2.
 ";
 
 enum Failed {
@@ -75,15 +77,21 @@ fn either(name: &str) -> Done<Table> {
 /// What a table has, and its rows as they are numbered in calls and orders.
 fn listing(name: &str, table: &Table) -> String {
     let count = |count: usize, one: &str, more: &str| format!("{} {}", count, if count == 1 { one } else { more });
+    let commands = match table.edition {
+        Edition::One => String::new(),
+        Edition::Two => format!(", {}", count(table.commands.len(), "command", "commands")),
+    };
     let mut lines = vec![format!(
-        "{}: site {}, SXL {}: {}, {}, {}, {} bytes as bits",
+        "{}: site {}, SXL {}: {}, {}, {}{}, {} bytes as bits of edition {}",
         shown(name),
         table.site,
         table.sxl,
         count(table.components.len(), "component", "components"),
         count(table.alarms.len(), "alarm", "alarms"),
         count(table.statuses.len(), "status", "statuses"),
-        bits::write(table).len()
+        commands,
+        bits::write(table).len(),
+        table.edition as u8
     )];
     let width = table.components.iter().map(String::len).max().unwrap_or(0);
     let component = |number: usize| format!("{:width$}", table.components[number], width = width);
@@ -96,6 +104,10 @@ fn listing(name: &str, table: &Table) -> String {
     }
     for (number, status) in table.statuses.iter().enumerate() {
         lines.push(format!("  status    {:2}  {}  {}  {}", number, component(status.component), status.code, status.name));
+    }
+    for (number, command) in table.commands.iter().enumerate() {
+        let (id, limits) = (component(command.component), format!("from {} to {}", command.lowest, command.highest));
+        lines.push(format!("  command   {:2}  {}  {}  {}  {}", number, id, command.code, command.name, limits));
     }
     lines.join("\n")
 }

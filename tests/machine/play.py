@@ -10,6 +10,7 @@ from .translate import Translation
 SPECS = ROOT / "crates" / "machine" / "specs"
 QUALITY = {"Recent": "recent", "Old": "old", "Unknown": "unknown", "Undefined": "undefined"}
 KIND = {"Response": "StatusResponse", "Update": "StatusUpdate"}
+COMMAND = "Command"
 
 
 def played(lines, specs=SPECS):
@@ -55,11 +56,13 @@ def started(machine, data, links, primary, period, first, time):
 def table_of(rows):
     return dict(site=tuple(rows.site), sxl=tuple(rows.sxl), components=tuple(map(tuple, rows.components)),
                 alarms=tuple(row(c, code, b"", priority, category) for c, priority, category, code in rows.alarms),
-                statuses=tuple(row(c, code, name) for c, code, name in rows.statuses))
+                statuses=tuple(row(c, code, name) for c, code, name in rows.statuses),
+                commands=tuple(row(c, code, name, 0, 0, *limits) for c, code, name, *limits in rows.commands))
 
 
-def row(component, code, name, priority=0, category=0):
-    return dict(component=component, priority=priority, category=category, code=tuple(code), name=tuple(name))
+def row(component, code, name, priority=0, category=0, lowest=0, highest=0):
+    return dict(component=component, priority=priority, category=category, code=tuple(code), name=tuple(name),
+                lowest=whole(lowest), highest=whole(highest))
 
 
 def call(name, words):
@@ -95,9 +98,10 @@ def read(reading):
 def shown(outcome):
     if outcome[0] == "refused":
         return str(outcome[1])
-    _, messages, closed, hint = outcome
+    _, messages, closed, hint, commands = outcome
     written = b"".join(text(*said) + b"\x0c" for said in messages)
-    return f"0 {sum(1 << link for link in closed)} {'-' if hint == NONE else hint[1]} {written.hex() or '-'}"
+    handed = ",".join(f"{one['number']}={signed(one['value'])}" for one in commands)
+    return f"0 {sum(1 << link for link in closed)} {'-' if hint == NONE else hint[1]} {written.hex() or '-'}{' ' + handed if handed else ''}"
 
 
 def text(kind, *parts):
@@ -117,6 +121,8 @@ def text(kind, *parts):
     if kind == "aggregated":
         return message.aggregated(*head(parts), *parts[2:])
     told, *rest = parts
+    if told[0] == COMMAND:
+        return message.commands(*head(rest), rest[2], list(map(entry, rest[3])))
     return message.statuses(KIND[told[0]], *head(rest), rest[2], list(map(entry, rest[3])))
 
 

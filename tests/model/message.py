@@ -12,9 +12,10 @@ MILLISECOND = datetime.timedelta(milliseconds=1)
 IDENTITY = re.compile(r"[0-9a-fA-F]{8}(-[0-9a-fA-F]{4}){3}-[0-9a-fA-F]{12}")
 TIME = re.compile(r"([0-9]{4})-([0-9]{2})-([0-9]{2})T([0-9]{2}):([0-9]{2}):([0-9]{2})(?:\.([0-9]{1,6}))?Z")
 DECIMAL = re.compile(r"0|[1-9][0-9]*")
+INTEGER = re.compile(r"0|-?[1-9][0-9]*")
 ANSWERS = ("MessageAck", "MessageNotAck")
 STATUS_TYPES = ("StatusRequest", "StatusSubscribe", "StatusUnsubscribe")
-TAKEN = ("Version", "Watchdog", "Alarm", "AggregatedStatusRequest") + STATUS_TYPES
+TAKEN = ("Version", "Watchdog", "Alarm", "AggregatedStatusRequest") + STATUS_TYPES + ("CommandRequest",)
 OFFERED = ("3.1.5", "3.2")
 
 
@@ -100,6 +101,12 @@ def read_seconds(value):
     return int(value) if isinstance(value, str) and DECIMAL.fullmatch(value) and int(value) <= SECONDS else None
 
 
+def read_integer(value):
+    """The signed 32-bit number whose shortest decimal text this is, or None (request 01)."""
+    whole = int(value) if isinstance(value, str) and len(value) <= 11 and INTEGER.fullmatch(value) else None
+    return whole if whole is not None and -2**31 <= whole < 2**31 else None
+
+
 class Reason(Exception):
     pass
 
@@ -178,6 +185,20 @@ def status_fields(fields, subscribing):
     return {"component": fields["cId"], "entries": entries}
 
 
+def command_fields(fields):
+    need(fields, "cId", "arg")
+    need_entries(fields["arg"], "cCI", "n", "cO", "v")
+    good(is_label(fields["cId"]))
+    good_list(fields["arg"])
+    entries = []
+    for entry in fields["arg"]:
+        good(is_label(entry["cCI"]) and is_label(entry["n"]) and is_label(entry["cO"]))
+        value = read_integer(entry["v"])
+        good(value is not None)
+        entries.append((entry["cCI"], entry["n"], value))
+    return {"component": fields["cId"], "entries": entries}
+
+
 def fields_of(kind, fields):
     """The fields of a packet of a taken type; Reason where one is missing or bad."""
     if kind == "Version":
@@ -188,6 +209,8 @@ def fields_of(kind, fields):
         return alarm_fields(fields)
     if kind == "AggregatedStatusRequest":
         return aggregated_fields(fields)
+    if kind == "CommandRequest":
+        return command_fields(fields)
     return status_fields(fields, kind == "StatusSubscribe")
 
 
@@ -280,3 +303,10 @@ def statuses(kind, identity_, component, time, entries):
     return text({**about(kind, identity_, component), "sTs": time_text(time),
                  "sS": [{"sCI": code, "n": name, "s": None if value is None else str(value), "q": quality}
                         for code, name, value, quality in entries]})
+
+
+def commands(identity_, component, time, entries):
+    """Entries: code, name, value or None, age."""
+    return text({**about("CommandResponse", identity_, component), "cTS": time_text(time),
+                 "rvs": [{"cCI": code, "n": name, "v": None if value is None else str(value), "age": age}
+                         for code, name, value, age in entries]})

@@ -1,5 +1,5 @@
-"""Document 01 whole: the nine calls of a site. A call answers its number, and where it is done also the closed links, the hint
-and the written bytes."""
+"""Document 01 whole, with the commands of request 01: the nine calls of a site. A call answers its number, and where it is done also the
+closed links, the hint, the written bytes and the commands that it hands over."""
 import uuid
 
 from . import link as links_
@@ -20,8 +20,9 @@ class Refused(Exception):
 class Done:
     number = 0
 
-    def __init__(self, closed=(), hint=None, written=b""):
+    def __init__(self, closed=(), hint=None, written=b"", commands=()):
         self.closed, self.hint, self.written = sorted(closed), hint, written
+        self.commands = list(commands)     # (number, value)
 
 
 def start(data, links, primary, period, first, time):
@@ -288,7 +289,7 @@ class Site:
         answer = message.ack(received) + FORM_FEED
         return getattr(self, "take_" + kind)(link, time, random, said, answer)
 
-    def reply(self, link, time, random, answer, text_of):
+    def reply(self, link, time, random, answer, text_of, commands=()):
         """The acknowledgement and a message of our own behind it."""
         one = self.links[link]
         if len(one.awaited) >= links_.AWAITED:
@@ -298,7 +299,7 @@ class Site:
             raise Refused(9)
         self.last = time
         one.sent(links_.OTHER, identity, time)
-        return Done(written=answer + text_of(identity) + FORM_FEED)
+        return Done(written=answer + text_of(identity) + FORM_FEED, commands=commands)
 
     def take_Version(self, link, time, random, said, answer):
         common = {message.read_version(offered) for offered in message.OFFERED} & set(said["versions"])
@@ -394,3 +395,25 @@ class Site:
         for number in numbers:
             self.subscriptions[link].pop(number, None)
         return Done(written=answer)
+
+    def take_CommandRequest(self, link, time, random, said, answer):
+        component = self.component(said)
+        if component is None:
+            told, handed = [(code, name, None, "undefined") for code, name, _ in said["entries"]], []
+        else:
+            told, handed = [(*entry, "recent") for entry in said["entries"]], self.commanded(component, said["entries"])
+        return self.reply(link, time, random, answer, lambda identity: message.commands(identity, said["component"], time, told), handed)
+
+    def commanded(self, component, entries):
+        """The commands of a known component, in order. A value outside its range is found before a command that is not there, whichever
+        stands first: reasons are looked for over the whole message, one after the other."""
+        rows = [row[:3] for row in self.table.commands]
+        numbers = [rows.index(key) if key in rows else None for key in ((component, code.encode(), name.encode()) for code, name, _ in entries)]
+        values = [value for _, _, value in entries]
+        for number, value in zip(numbers, values):
+            if number is not None:
+                _, _, _, lowest, highest = self.table.commands[number]
+                message.good(lowest <= value <= highest)
+        if None in numbers:
+            raise message.Reason("Unknown command")
+        return list(zip(numbers, values))
