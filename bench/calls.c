@@ -2,13 +2,14 @@
  * copied to where it is called.
  *
  *   calls PACKETFILE TIMES CALL <SCRIPT     CALL is a line of a script; prints the call's number, its nanoseconds with those of the copy,
- *                                           those of the parsing and those of the copy alone, each the least of three rounds
+ *                                           those of the parsing and those of the copy alone, each the least of its rounds, which take
+ *                                           turns, so that a slow moment of the machine is no one's
  */
 #include "input.h"
 #include <cjson/cJSON.h>
 #include <time.h>
 
-#define ROUNDS 3
+#define ROUNDS 20
 
 static char packet[MOST_BYTES];
 static size_t length;
@@ -56,14 +57,13 @@ int main(int count, char **words)
     perform();
     printf("%u", (unsigned)report.number);
     void (*acts[])(void) = {perform, parse, copy};
-    for (int act = 0; act < 3; act++) {
-        double least = each(acts[act], atol(words[2]));
-        for (int round = 1; round < ROUNDS; round++) {
+    double least[3];
+    for (int round = 0; round < ROUNDS; round++)
+        for (int act = 0; act < 3; act++) {
             double taken = each(acts[act], atol(words[2]));
-            if (taken < least) least = taken;
+            if (round == 0 || taken < least[act]) least[act] = taken;
         }
-        printf(" %.0f", least);
-    }
+    for (int act = 0; act < 3; act++) printf(" %.0f", least[act]);
     putchar('\n');
     return 0;
 }

@@ -17,7 +17,7 @@ from built import output, program
 import cases
 from replays import COMMANDED, Hand
 
-TIMES = 2000
+TIMES = 500
 
 
 class Case:

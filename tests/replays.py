@@ -470,6 +470,26 @@ def old_is_old():
     return hand.done()
 
 
+def many_members():
+    """Unknown members before, behind and between those that are looked for, around as many as the library notes the places of."""
+    hand = Hand()
+    supervisor = hand.supervisor
+    for link in (0, 1):
+        hand.up(link)
+        hand.sent_out(link)
+    packets = (lambda: supervisor.watchdog(hand.time), lambda: supervisor.order("Suspend", 1), lambda: supervisor.order("Resume", 1),
+               supervisor.aggregated_request, lambda: supervisor.of_statuses("StatusRequest", 2),
+               lambda: supervisor.of_statuses("StatusSubscribe", 2, ("60", True)), lambda: supervisor.of_statuses("StatusUnsubscribe", 2))
+    for packet in packets:
+        for all_of_them in (31, 32, 33, 64):
+            members = packet()
+            others = [(f"x{number}", number) for number in range(all_of_them - len(members))]
+            for told in (others + members, members + others, supervisor.among_others(members, len(others))):
+                hand.tell(0, told)
+                hand.sent_out(0)
+    return hand.done()
+
+
 def editions():
     """Starts with tables of both editions: heads of the other's length, commands at their limits, the longest table."""
     player = Player()
@@ -590,7 +610,7 @@ def commands_of_edition_1():
 
 STORED = (start_limits, checks_in_order, without_packets, sequence_end, time_end, whole_life, decimals_of_a_watchdog, awaited_too_long,
           lengths, every_reason, numbers_of_a_link, closing_answers, alarm_orders, errors_met, filled_pool, late_answer, old_is_old,
-          editions, commands, commands_refused, commands_of_edition_1)
+          many_members, editions, commands, commands_refused, commands_of_edition_1)
 
 
 def texts(player):

@@ -27,7 +27,8 @@ SITE, WEEK = ROOT / "build" / "librsmp_site.a", ROOT / "build" / "librsmp_week.a
 # What the archive is linked with; those of the usual C libraries take less.
 OUTSIDE = dict.fromkeys(("memcpy", "memmove", "memset", "memcmp"), 256)
 # A value of so many levels is read by one activation more: `levels` falls to 0 from what a packet may have.
-LEVELS = int(re.search(r"^const LEVELS: u8 = (\d+);$", (ROOT / "crates" / "json_packet" / "src" / "lib.rt").read_text(), re.MULTILINE)[1])
+# A packet's object is one level more than its values have; it is read outside the recursion, and counted with it.
+LEVELS = 1 + int(re.search(r"^const LEVELS_INSIDE: u8 = (\d+);$", (ROOT / "crates" / "json_sure" / "src" / "lib.rt").read_text(), re.MULTILINE)[1])
 ACTIVATIONS = dict.fromkeys(("json_value", "json_sure"), LEVELS + 1)
 
 

@@ -149,8 +149,18 @@ class Supervisor:
 
     # Bytes.
 
+    def among_others(self, members, many):
+        """The members with unknown ones between them."""
+        among = list(members)
+        for number in range(many):
+            value = self.source.choice((0, None, [], {"cId": "x"}, "mType", [{"sCI": "x"}]))
+            among.insert(self.source.randrange(len(among) + 1), (f"x{number}", value))
+        return among
+
     def written(self, members):
-        """The packet, now and then with other spaces, its members in another order, or filled up to the limit."""
+        """The packet, now and then among unknown members, with other spaces, its members in another order, or filled up to the limit."""
+        if self.source.random() < 0.05:
+            members = self.among_others(members, self.source.choice((1, 5, 25, 28, 30, 60)))
         if self.source.random() < 0.1:
             members = list(members)
             self.source.shuffle(members)

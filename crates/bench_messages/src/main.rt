@@ -29,36 +29,36 @@ fn order_number(o: read_head::Order) -> u64 {
 }
 
 fn versions_said(s: &[u8]) -> u64 {
-    let f = read_lists::read_version(s);
+    let f = read_lists::read_version(s, &[]);
     let o = f.offer;
     let v = o.versions;
     v.count as u64
 }
 
 fn time_said(s: &[u8]) -> u64 {
-    let f = read_head::read_watchdog(s);
+    let f = read_head::read_watchdog(s, &[]);
     f.time % 1000
 }
 
 fn order_said(s: &[u8]) -> u64 {
-    let f = read_head::read_alarm(s);
+    let f = read_head::read_alarm(s, &[]);
     let o = f.order;
     order_number(o)
 }
 
 fn component_said(s: &[u8]) -> u64 {
-    let f = read_head::read_aggregated(s);
+    let f = read_head::read_aggregated(s, &[]);
     let l = f.label;
     l.length as u64
 }
 
 fn entries_said(s: &[u8], subscribing: bool) -> u64 {
-    let f = read_lists::read_status(s, subscribing);
+    let f = read_lists::read_status(s, &[], subscribing);
     f.count as u64
 }
 
 fn commands_said(s: &[u8]) -> u64 {
-    let f = read_commands::read_command(s);
+    let f = read_commands::read_command(s, &[]);
     f.count as u64
 }
 
@@ -77,7 +77,7 @@ fn said_by(s: &[u8], k: Kind) -> u64 {
 }
 
 fn read_once(s: &[u8]) -> u64 {
-    let h = read_head::read_head(s);
+    let h = read_head::read_head(s, &[], json_packet::is_packet(s));
     let c = h.class;
     match c {
         Class::Ignored => 0,

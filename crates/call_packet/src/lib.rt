@@ -5,6 +5,8 @@ ghost use Prim.Native.Nat.{_<_};
 ghost use lib.ListN.{length};
 ghost use Rattle.basis.specs.Pick.{pick};
 ghost use Rattle.identity.specs.Version.{identityOf};
+ghost use Rattle.json_find.specs.Index.{Indexed};
+ghost use Rattle.read_head.specs.Head.{headAt};
 ghost use Rattle.link.specs.Phase.{isBeating};
 ghost use Rattle.link.specs.Steps.{mayJudgeOf};
 ghost use Rattle.table_whole.specs.declared.SiteTable.{SiteTable};
@@ -133,16 +135,17 @@ fn by_kind(
     id: Identity,
     received: Received,
     p: &[u8],
+    places: &[usize],
     kind: Kind,
     out: &mut [u8],
 ) -> Answer
-    requires { ⌜ (length (now w) ≡ 1173) × (length (now t) ≡ 6178) × (l < 4) ⌝ }
+    requires { ⌜ (length (now w) ≡ 1173) × (length (now t) ≡ 6178) × (l < 4) × Indexed (now p) (now places) ⌝ }
     ensures { λ r. ⌜ TakesIn (tableOf (now (t .entry))) l time id (kindTaken (siteOf (now (w .entry)) (tableOf (now (t .entry)))) l time id (received .bytes) (now (p .entry)) kind) (now (w .entry)) (now (w .exit)) (now (out .entry)) (now (out .exit)) r ⌝ }
 {
     match kind {
-        Kind::Version => packet_greet::version(w, t, l, time, received, p, out),
-        Kind::Watchdog => packet_greet::watchdog(w, l, time, received, p, out),
-        Kind::Alarm => packet_alarm::alarm(w, t, l, time, id, received, p, out),
+        Kind::Version => packet_greet::version(w, t, l, time, received, p, places, out),
+        Kind::Watchdog => packet_greet::watchdog(w, l, time, received, p, places, out),
+        Kind::Alarm => packet_alarm::alarm(w, t, l, time, id, received, p, places, out),
         Kind::AggregatedStatusRequest => packet_alarm::aggregated(
             w,
             t,
@@ -151,12 +154,51 @@ fn by_kind(
             id,
             received,
             p,
+            places,
             out,
         ),
-        Kind::StatusRequest => packet_status::status_request(w, t, l, time, id, received, p, out),
-        Kind::StatusSubscribe => packet_subscribe::subscribe(w, t, l, time, received, p, out),
-        Kind::StatusUnsubscribe => packet_subscribe::unsubscribe(w, t, l, time, received, p, out),
-        Kind::CommandRequest => packet_command::command(w, t, l, time, id, received, p, out),
+        Kind::StatusRequest => packet_status::status_request(
+            w,
+            t,
+            l,
+            time,
+            id,
+            received,
+            p,
+            places,
+            out,
+        ),
+        Kind::StatusSubscribe => packet_subscribe::subscribe(
+            w,
+            t,
+            l,
+            time,
+            received,
+            p,
+            places,
+            out,
+        ),
+        Kind::StatusUnsubscribe => packet_subscribe::unsubscribe(
+            w,
+            t,
+            l,
+            time,
+            received,
+            p,
+            places,
+            out,
+        ),
+        Kind::CommandRequest => packet_command::command(
+            w,
+            t,
+            l,
+            time,
+            id,
+            received,
+            p,
+            places,
+            out,
+        ),
         Kind::Unexpected => packet_answer::not_ack(w, time, received, reasons::UNEXPECTED, out),
     }
 }
@@ -170,17 +212,18 @@ fn expect(
     id: Identity,
     received: Received,
     p: &[u8],
+    places: &[usize],
     kind: Kind,
     out: &mut [u8],
 ) -> Answer
-    requires { ⌜ (length (now w) ≡ 1173) × (length (now t) ≡ 6178) × (l < 4) ⌝ }
+    requires { ⌜ (length (now w) ≡ 1173) × (length (now t) ≡ 6178) × (l < 4) × Indexed (now p) (now places) ⌝ }
     ensures { λ r. ⌜ TakesIn (tableOf (now (t .entry))) l time id (expectedTaken (siteOf (now (w .entry)) (tableOf (now (t .entry)))) l time id (received .bytes) (now (p .entry)) kind) (now (w .entry)) (now (w .exit)) (now (out .entry)) (now (out .exit)) r ⌝ }
 {
     if expected(w, l, kind) {
         if unready(w, l, kind) {
             return packet_answer::not_ack(w, time, received, reasons::NOT_READY, out);
         }
-        return by_kind(w, t, l, time, id, received, p, kind, out);
+        return by_kind(w, t, l, time, id, received, p, places, kind, out);
     }
     packet_answer::not_ack(w, time, received, reasons::UNEXPECTED, out)
 }
@@ -194,15 +237,16 @@ fn asked(
     id: Identity,
     received: Received,
     p: &[u8],
+    places: &[usize],
     v: Verdict,
     kind: Kind,
     out: &mut [u8],
 ) -> Answer
-    requires { ⌜ (length (now w) ≡ 1173) × (length (now t) ≡ 6178) × (l < 4) ⌝ }
+    requires { ⌜ (length (now w) ≡ 1173) × (length (now t) ≡ 6178) × (l < 4) × Indexed (now p) (now places) ⌝ }
     ensures { λ r. ⌜ TakesIn (tableOf (now (t .entry))) l time id (askedTaken (siteOf (now (w .entry)) (tableOf (now (t .entry)))) l time id (received .bytes) (now (p .entry)) v kind) (now (w .entry)) (now (w .exit)) (now (out .entry)) (now (out .exit)) r ⌝ }
 {
     match v {
-        Verdict::Good => expect(w, t, l, time, id, received, p, kind, out),
+        Verdict::Good => expect(w, t, l, time, id, received, p, places, kind, out),
         Verdict::Missing => packet_answer::not_ack(
             w,
             time,
@@ -224,17 +268,18 @@ fn by_class(
     answered: Identity,
     received: Received,
     p: &[u8],
+    places: &[usize],
     class: Class,
     out: &mut [u8],
 ) -> Answer
-    requires { ⌜ (length (now w) ≡ 1173) × (length (now t) ≡ 6178) × (l < 4) ⌝ }
+    requires { ⌜ (length (now w) ≡ 1173) × (length (now t) ≡ 6178) × (l < 4) × Indexed (now p) (now places) ⌝ }
     ensures { λ r. ⌜ TakesIn (tableOf (now (t .entry))) l time id (classTaken (siteOf (now (w .entry)) (tableOf (now (t .entry)))) l time id answered (received .bytes) (now (p .entry)) class) (now (w .entry)) (now (w .exit)) (now (out .entry)) (now (out .exit)) r ⌝ }
 {
     match class {
         Class::Ignored => packet_answer::done(w, time, 0, 0, 0, 0),
         Class::Acked => packet_greet::answered(w, l, time, answered, true),
         Class::NotAcked => packet_greet::answered(w, l, time, answered, false),
-        Class::Asked(v, kind) => asked(w, t, l, time, id, received, p, v, kind, out),
+        Class::Asked(v, kind) => asked(w, t, l, time, id, received, p, places, v, kind, out),
     }
 }
 
@@ -245,10 +290,11 @@ fn heed(
     time: u64,
     id: Identity,
     p: &[u8],
+    places: &[usize],
     h: Head,
     out: &mut [u8],
 ) -> Answer
-    requires { ⌜ (length (now w) ≡ 1173) × (length (now t) ≡ 6178) × (l < 4) ⌝ }
+    requires { ⌜ (length (now w) ≡ 1173) × (length (now t) ≡ 6178) × (l < 4) × Indexed (now p) (now places) ⌝ }
     ensures { λ r. ⌜ GivesIn (tableOf (now (t .entry))) time (headRefuses (siteOf (now (w .entry)) (tableOf (now (t .entry)))) l time id (now (p .entry)) h) (headTaken (siteOf (now (w .entry)) (tableOf (now (t .entry)))) l time id (now (p .entry)) h .plan) (now (w .entry)) (now (w .exit)) (now (out .entry)) (now (out .exit)) r ⌝ }
 {
     let class = h.class;
@@ -257,7 +303,27 @@ fn heed(
     if ignored(w, l, answered, class) {
         return Answer::Refused(Refusal::Ignored);
     }
-    by_class(w, t, l, time, id, answered, received, p, class, out)
+    by_class(w, t, l, time, id, answered, received, p, places, class, out)
+}
+
+// A packet is judged once, and where the entries of its object begin is noted for all who read it.
+fn judged(
+    w: &mut [u64],
+    t: &[u8],
+    l: u16,
+    time: u64,
+    id: Identity,
+    p: &[u8],
+    out: &mut [u8],
+) -> Answer
+    requires { ⌜ (length (now w) ≡ 1173) × (length (now t) ≡ 6178) × (l < 4) ⌝ }
+    ensures { λ r. ⌜ GivesIn (tableOf (now (t .entry))) time (headRefuses (siteOf (now (w .entry)) (tableOf (now (t .entry)))) l time id (now (p .entry)) (headAt (now (p .entry)))) (packetTaken (siteOf (now (w .entry)) (tableOf (now (t .entry)))) l time id (now (p .entry)) .plan) (now (w .entry)) (now (w .exit)) (now (out .entry)) (now (out .exit)) r ⌝ }
+{
+    let mut places = [0usize; 32];
+    let j = json_packet::judge(p, &mut places);
+    let n = j.count;
+    let h = read_head::read_head(p, &places[0..n], j.packet);
+    heed(w, t, l, time, id, p, &places[0..n], h, out)
 }
 
 // Sixteen random bytes as an identity of version 4.
@@ -296,7 +362,6 @@ pub fn packet(
     if store_site::phases::down(w, l as usize) {
         return Answer::Refused(Refusal::WrongPhase);
     }
-    let h = read_head::read_head(p);
     let id = own_identity(random);
-    heed(w, t, l, time, id, p, h, out)
+    judged(w, t, l, time, id, p, out)
 }

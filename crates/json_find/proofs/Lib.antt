@@ -1,5 +1,6 @@
 -- Laws of the loops over entries, and the theorems about what they find.
 pub mod Walks
 mod Steps
+mod Noted
 pub mod Meaning
 pub mod Kept

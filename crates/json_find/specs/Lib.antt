@@ -1,4 +1,5 @@
 pub mod Kinds
 pub mod Entries
 pub mod Lookup
+pub mod Index
 pub mod Claims

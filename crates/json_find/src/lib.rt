@@ -5,7 +5,9 @@ ghost use mathlib.Core.Path.{_≡_};
 ghost use lib.ListN.{drop};
 ghost use Rattle.json_text.specs.Ends.{Ends};
 ghost use Rattle.json_find.specs.Kinds.{stringAt};
+ghost use Rattle.json_value.specs.Reader.{skipWs};
 ghost use Rattle.json_find.specs.Entries.{nextEntry, entries, insideAt, firstNamed, memberAt};
+ghost use Rattle.json_find.specs.Index.{textsAt, Indexed};
 
 // Whether the value at a place is a string that is `fixed` after decoding.
 fn is_string(s: &[u8], at: usize, fixed: &[u8]) -> bool
@@ -78,4 +80,30 @@ pub fn member(s: &[u8], at: usize, name: &[u8]) -> Read
         Read::Bad => Read::Bad,
         Read::End(i) => seek(s, i, name),
     }
+}
+
+// The value's place of the first of the entries at noted places that has a name.
+fn among(s: &[u8], places: &[usize], name: &[u8]) -> Read
+    ensures { λ r. ⌜ Ends (now (s .entry)) 0 (firstNamed (now (name .entry)) (textsAt (now (s .entry)) (now (places .entry)))) r ⌝ }
+{
+    let mut k = 0;
+    while k < places.len() {
+        let at = places[k];
+        if is_string(s, json_value::space(s, at), name) {
+            return json_value::start(s, at, b'}');
+        }
+        k += 1;
+    }
+    Read::Bad
+}
+
+// The place of the value of the member with a name, of the packet's object, whose entries' places may be noted.
+pub fn member_of(s: &[u8], places: &[usize], name: &[u8]) -> Read
+    requires { ⌜ Indexed (now s) (now places) ⌝ }
+    ensures { λ r. ⌜ Ends (now (s .entry)) 0 (memberAt (now (name .entry)) (skipWs (now (s .entry)))) r ⌝ }
+{
+    if places.len() == 0 {
+        return member(s, json_value::space(s, 0), name);
+    }
+    among(s, places, name)
 }

@@ -4,4 +4,5 @@ mod Twice
 mod Sures
 mod Once
 pub mod Whole
+mod Judging
 pub mod Kept

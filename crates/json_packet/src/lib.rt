@@ -1,5 +1,5 @@
 // Whether a slice is a packet: one JSON object of at most eight levels with no name twice in an object.
-use json_sure::Judged;
+use json_sure::Listed;
 use json_text::Read;
 ghost use mathlib.Core.Path.{_≡_};
 ghost use Prim.Native.Nat.{_+_, _<_};
@@ -8,8 +8,18 @@ ghost use Rattle.json_text.specs.Decoded.{decoded};
 ghost use Rattle.json_text.specs.Ends.{Ends};
 ghost use Rattle.json_packet.specs.Scan.{sameString, again, readToken, scan};
 ghost use Rattle.json_packet.specs.Packet.{isPacket};
+ghost use Rattle.json_packet.specs.Notes.{Notes};
 
-const LEVELS: u8 = 8;
+// Whether a slice is a packet, and how many places of its object's entries were noted: all of them, or none.
+pub struct Judgement {
+    pub packet: bool,
+    pub count: usize,
+}
+
+const NO_PACKET: Judgement = Judgement {
+    packet: false,
+    count: 0,
+};
 
 // Whether at q stands a string with the characters that begin at p.
 fn same_string(s: &[u8], p: usize, q: usize) -> bool
@@ -73,27 +83,44 @@ fn names_once(s: &[u8]) -> bool
     true
 }
 
-pub fn is_packet(s: &[u8]) -> bool
-    ensures { λ r. ⌜ r ≡ isPacket (now (s .entry)) ⌝ }
+// Judges a slice, and notes where the entries of its object begin.
+pub fn judge(s: &[u8], places: &mut [usize]) -> Judgement
+    ensures { λ r. ⌜ Notes (now (s .entry)) (now (places .exit)) r ⌝ }
 {
     let i = json_value::space(s, 0);
     if s.len() <= i {
-        return false;
+        return NO_PACKET;
     }
     if s[i] != b'{' {
-        return false;
+        return NO_PACKET;
     }
-    let v = json_sure::value(s, i, LEVELS);
-    match v {
-        Judged::Bad => false,
-        Judged::End(e, sure) => {
+    let o = json_sure::object(s, i + 1, places);
+    match o {
+        Listed::Bad => NO_PACKET,
+        Listed::End(e, sure, count) => {
             if json_value::space(s, e) < s.len() {
-                return false;
+                return NO_PACKET;
             }
             if sure {
-                return true;
+                return Judgement {
+                    packet: true,
+                    count,
+                };
             }
-            names_once(s)
+            if names_once(s) {
+                return Judgement {
+                    packet: true,
+                    count,
+                };
+            }
+            NO_PACKET
         }
     }
+}
+
+pub fn is_packet(s: &[u8]) -> bool
+    ensures { λ r. ⌜ r ≡ isPacket (now (s .entry)) ⌝ }
+{
+    let mut places = [0usize; 1];
+    judge(s, &mut places).packet
 }

@@ -4,3 +4,5 @@ mod New
 mod Notes
 mod Entries
 mod Saying
+mod Room
+mod Listing

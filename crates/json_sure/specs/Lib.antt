@@ -1,2 +1,3 @@
 pub mod Sure
 pub mod Judges
+pub mod Lists

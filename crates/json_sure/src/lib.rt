@@ -12,8 +12,12 @@ ghost use Rattle.json_text.specs.Decoded.{decoded};
 ghost use Rattle.json_value.specs.Reader.{readEntry, readValue, insideOf};
 ghost use Rattle.json_sure.specs.Sure.{markRead, markAt, isNew, allOf, notedIn, noteOf};
 ghost use Rattle.json_sure.specs.Judges.{endedOf, followedOf, Judges, JudgesIn, EntersIn};
+ghost use Rattle.json_sure.specs.Lists.{judgedOf, countOf, Placed, allOrNone, Finds};
 
 const NO_MARK: u64 = 4294967296;
+
+// Levels of the values in a packet's object, which is itself the first of eight.
+const LEVELS_INSIDE: u8 = 7;
 
 // The end of a value, and whether its marks show that no name is twice in an object; or that there is no value.
 pub enum Judged {
@@ -26,6 +30,12 @@ pub enum Entered {
     Close(usize, bool),
     Comma(usize, bool),
     Neither,
+}
+
+// The end of an object, whether its marks show that no name is twice, and how many places of its entries were noted: all, or none.
+pub enum Listed {
+    End(usize, bool, usize),
+    Bad,
 }
 
 // How many marks of an object's names stand in the lent marks, and whether all is sure so far.
@@ -41,7 +51,15 @@ fn mark(s: &[u8], at: usize) -> u64
     let mut i = at;
     let mut h: u64 = 0;
     loop {
-        let c = json_character::step(s, i);
+        if i < s.len() {
+            let b = s[i];
+            if json_character::is_plain(b) {
+                h = (h * 2654435761 + b as u64) % 4294967296;
+                i += 1;
+                continue;
+            }
+        }
+        let c = json_character::any(s, i);
         match c {
             Char::One(x, w) => {
                 h = (h * 2654435761 + x as u64) % 4294967296;
@@ -144,15 +162,7 @@ fn followed(m: Mark, value: bool) -> Entered
     }
 }
 
-// The value at a place, with at most so many levels of arrays and objects, and room for the marks of 820 names at a time: a text of 4,096
-// bytes has no more.
-pub fn value(s: &[u8], at: usize, levels: u8) -> Judged
-    ensures { λ r. ⌜ Judges (now (s .entry)) at (readValue levels (drop at (now (s .entry)))) r ⌝ }
-{
-    let mut marks = [0u32; 820];
-    value_in(s, at, levels, &mut marks)
-}
-
+// The value at a place, with at most so many levels of arrays and objects.
 fn value_in(s: &[u8], at: usize, levels: u8, marks: &mut [u32]) -> Judged
     ensures { λ r. ⌜ JudgesIn (length (now (marks .entry))) (now (s .entry)) at (readValue levels (drop at (now (s .entry)))) r ⌝ }
 {
@@ -218,6 +228,79 @@ fn entry(s: &[u8], at: usize, levels: u8, close: u8, marks: &mut [u32]) -> Enter
                 Judged::Bad => Entered::Neither,
                 Judged::End(e, sure) => followed(json_value::after(s, e, close), sure),
             }
+        }
+    }
+}
+
+// Notes the place of one more entry, where there is room.
+fn note_place(places: &mut [usize], n: usize, at: usize)
+    ensures { λ _. ⌜ Placed (now (places .entry)) n at (now (places .exit)) ⌝ }
+{
+    if n < places.len() {
+        places[n] = at;
+    }
+}
+
+fn all_or_none(n: usize, room: usize) -> usize
+    ensures { λ r. ⌜ r ≡ allOrNone n room ⌝ }
+{
+    if room < n {
+        return 0;
+    }
+    n
+}
+
+// What follows the opening brace of a packet's object, and the places where its entries begin. There is room for the marks of 820 names at
+// a time: a text of 4,096 bytes has no more.
+pub fn object(s: &[u8], at: usize, places: &mut [usize]) -> Listed
+    ensures { λ r. ⌜ Judges (now (s .entry)) at (insideOf 0x7d 8 (drop at (now (s .entry)))) (judgedOf r) × Finds (now (s .entry)) at (now (places .exit)) (countOf r) ⌝ }
+{
+    if s.len() <= 640 {
+        return object_short(s, at, places);
+    }
+    let mut marks = [0u32; 820];
+    object_in(s, at, &mut marks, places)
+}
+
+// The same where there are fewer marks to clear: a text of 640 bytes has no more than 128 names.
+fn object_short(s: &[u8], at: usize, places: &mut [usize]) -> Listed
+    ensures { λ r. ⌜ JudgesIn 128 (now (s .entry)) at (insideOf 0x7d 8 (drop at (now (s .entry)))) (judgedOf r) × Finds (now (s .entry)) at (now (places .exit)) (countOf r) ⌝ }
+{
+    let mut marks = [0u32; 128];
+    object_in(s, at, &mut marks, places)
+}
+
+fn object_in(s: &[u8], at: usize, marks: &mut [u32], places: &mut [usize]) -> Listed
+    ensures { λ r. ⌜ JudgesIn (length (now (marks .entry))) (now (s .entry)) at (insideOf 0x7d 8 (drop at (now (s .entry)))) (judgedOf r) × Finds (now (s .entry)) at (now (places .exit)) (countOf r) ⌝ }
+{
+    let k = json_value::space(s, at);
+    if s.len() <= k {
+        return Listed::Bad;
+    }
+    if s[k] == b'}' {
+        return Listed::End(k + 1, true, 0);
+    }
+    let mut i = k;
+    let mut n = 0;
+    let mut seen = Seen {
+        count: 0,
+        sure: true,
+    };
+    loop {
+        let count = seen.count;
+        let m = entry(s, i, LEVELS_INSIDE, b'}', &mut marks[count..]);
+        note_place(places, n, i);
+        n += 1;
+        match m {
+            Entered::Close(e, q) => {
+                let t = note(marks, seen, mark_at(s, i, b'}'), q);
+                return Listed::End(e, t.sure, all_or_none(n, places.len()));
+            }
+            Entered::Comma(e, q) => {
+                seen = note(marks, seen, mark_at(s, i, b'}'), q);
+                i = e;
+            }
+            Entered::Neither => return Listed::Bad,
         }
     }
 }

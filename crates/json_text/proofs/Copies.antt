@@ -9,9 +9,9 @@ use native.Mathlib.Omega.{arith}
 use lib.Dec.{ltb}
 use lib.ListN.{length, drop, set, replicate, length-append}
 use lib.Seq.{set-append-seam}
-use borrow.Author.Tests.{lt-ltb, le-ltb, le-leb, lt-leb}
+use borrow.Author.Tests.{lt-ltb, le-ltb, le-leb, lt-leb, ltb-true, ltb-false}
 use Rattle.basis.specs.Pick.{pick, both}
-use Rattle.basis.proofs.Cases.{lt-or-ge}
+use Rattle.basis.proofs.Cases.{lt-or-ge, picked}
 use Rattle.basis.proofs.Both.{both-false}
 use Rattle.json_character.specs.declared.Char.the-variants.{One, Close, Bad}
 use Rattle.json_text.specs.declared.Copied.{Copied}
@@ -51,26 +51,46 @@ module _ (n : ℕ) (b : List ℕ) (k : ℕ) where
   other (ok d r) c h g f = simp (lt-ltb _ _ h, lt-ltb _ _ g, le-ltb _ _ f)
   other none c h g f = refl
 
+-- m is the room that there is for n code points
+abbrev pub roomFor : ℕ → ℕ
+roomFor n = pick (ltb n 36) n 36
+
+module _ (n m : ℕ) (e : m ≡ roomFor n) where
+  pub room-36 : m ≤ 36
+  room-36 = rw e (picked (λ (j : ℕ). j ≤ 36) (ltb n 36) n 36 (λ h. omega (arith, ltb-true n 36 h)) (λ h. omega arith))
+
+  room-most : m ≤ n
+  room-most = rw e (picked (λ (j : ℕ). j ≤ n) (ltb n 36) n 36 (λ h. omega arith) (λ h. ltb-false n 36 h))
+
+  room-all : (k : ℕ) → m ≤ k → k < n → 36 ≤ k
+  room-all k = rw e (picked (λ (j : ℕ). j ≤ k → k < n → 36 ≤ k) (ltb n 36) n 36 (λ h x y. omega arith) (λ h x y. x))
+
   -- the same at a place of a slice
-  module _ (s : List ℕ) (i : ℕ) where
-    pub copy-one : (c w : ℕ) → One c w ≡ charOf (drop i s) → k < n → k < 36 → c < 128 → fillOf n (set b k c) (k + 1) (decoded (drop (i + (1 + w)) s)) ≡ fillOf n b k (decoded (drop i s))
-    copy-one c w e h g f = sym (rw (one s i c w e) (room (decoded (drop (i + (1 + w)) s)) c h g f))
+  module _ (b : List ℕ) (k : ℕ) (s : List ℕ) (i : ℕ) where
+    pub copy-one : (c w : ℕ) → One c w ≡ charOf (drop i s) → k < m → c < 128 → fillOf n (set b k c) (k + 1) (decoded (drop (i + (1 + w)) s)) ≡ fillOf n b k (decoded (drop i s))
+    copy-one c w q h f =
+        let g = room-36 in
+        let l = room-most in
+        sym (rw (one s i c w q) (room n b k (decoded (drop (i + (1 + w)) s)) c (omega arith) (omega arith) f))
 
-    pub copy-long : (c w : ℕ) → One c w ≡ charOf (drop i s) → n ≤ k → noCopy ≡ fillOf n b k (decoded (drop i s))
-    copy-long c w e h = sym (rw (one s i c w e) (long (decoded (drop (i + (1 + w)) s)) c h))
+    pub copy-full : (c w : ℕ) → One c w ≡ charOf (drop i s) → m ≤ k → noCopy ≡ fillOf n b k (decoded (drop i s))
+    copy-full c w q h =
+        let p = decoded (drop (i + (1 + w)) s) in
+        sym (rw (one s i c w q) (⊎-elim (λ x. full n b k p c x (room-all k h x)) (λ x. long n b k p c x) (lt-or-ge k n)))
 
-    pub copy-full : (c w : ℕ) → One c w ≡ charOf (drop i s) → k < n → 36 ≤ k → noCopy ≡ fillOf n b k (decoded (drop i s))
-    copy-full c w e h g = sym (rw (one s i c w e) (full (decoded (drop (i + (1 + w)) s)) c h g))
+    pub copy-other : (c w : ℕ) → One c w ≡ charOf (drop i s) → k < m → 128 ≤ c → noCopy ≡ fillOf n b k (decoded (drop i s))
+    copy-other c w q h f =
+        let g = room-36 in
+        let l = room-most in
+        sym (rw (one s i c w q) (other n b k (decoded (drop (i + (1 + w)) s)) c (omega arith) (omega arith) f))
 
-    pub copy-other : (c w : ℕ) → One c w ≡ charOf (drop i s) → k < n → k < 36 → 128 ≤ c → noCopy ≡ fillOf n b k (decoded (drop i s))
-    copy-other c w e h g f = sym (rw (one s i c w e) (other (decoded (drop (i + (1 + w)) s)) c h g f))
+module _ (n : ℕ) (b : List ℕ) (k : ℕ) (s : List ℕ) (i : ℕ) where
+  pub copy-close : Close ≡ charOf (drop i s) → fillOf n b k (decoded (drop i s)) ≡ record { length = k; bytes = b; ok = true }
+  unfolding fill
+  copy-close e = rw (close s i e)
 
-    pub copy-close : Close ≡ charOf (drop i s) → fillOf n b k (decoded (drop i s)) ≡ record { length = k; bytes = b; ok = true }
-    unfolding fill
-    copy-close e = rw (close s i e)
-
-    pub copy-bad : Bad ≡ charOf (drop i s) → noCopy ≡ fillOf n b k (decoded (drop i s))
-    copy-bad e = sym (rw (no-char s i e))
+  pub copy-bad : Bad ≡ charOf (drop i s) → noCopy ≡ fillOf n b k (decoded (drop i s))
+  copy-bad e = sym (rw (no-char s i e))
 
 -- what is too long, or has a code point above 127, is not copied
 module _ (n : ℕ) (d : List ℕ) where

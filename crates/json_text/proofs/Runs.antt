@@ -2,12 +2,15 @@
 -- Assumes nothing.
 use Prim.Native.Nat.{ℕ, zero, suc, _+_, _<_, _≤_}
 use mathlib.Core.Path.{_≡_, refl, sym}
-use mathlib.Core.Bool.{true, false}
+use mathlib.Core.Bool.{Bool, true, false}
 use mathlib.Core.List.{List}
 use native.Mathlib.Omega.{arith}
 use native.Mathlib.Nat.{add-zero}
 use mathlib.Core.Logic.{⊎-elim}
-use Rattle.basis.proofs.Cases.{bool-cases, lt-or-ge}
+use Rattle.basis.proofs.Cases.{bool-cases, picked, lt-or-ge}
+use Rattle.basis.proofs.Both.{untrue}
+use lib.Dec.{ltb, leb}
+use borrow.Author.Tests.{leb-false}
 use lib.ListN.{length, getD, drop}
 use Rattle.json_character.specs.Char.{isPlain}
 use Rattle.json_character.proofs.Lists.{next, past}
@@ -19,6 +22,13 @@ use Rattle.json_text.specs.Ends.{Ends}
 use Rattle.json_text.specs.Ends.Ends.{ends}
 use Rattle.json_text.specs.Run.{run}
 use Rattle.json_text.proofs.Texts.{one, close, close-in, pushed}
+
+pub plain-ascii : (b : ℕ) → isPlain b ≡ true → b < 128
+unfolding isPlain
+plain-ascii b = picked P (ltb b 0x20) _ _ (λ _ f. untrue f) λ _. picked P (leb 0x80 b) _ _ (λ _ f. untrue f) λ g _. leb-false _ _ g
+  where
+    P : Bool → Type 0
+    P q = q ≡ true → b < 128
 
 module _ (s : List ℕ) (i : ℕ) where
   pub run-past : length s ≤ i → run (drop i s) ≡ 0

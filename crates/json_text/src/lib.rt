@@ -1,8 +1,9 @@
 // The strings of a JSON text: where they end, what they are compared with, and a copy. A character is one step.
 ghost use mathlib.Core.Path.{_≡_};
 ghost use Prim.Native.Nat.{_+_};
-ghost use lib.Dec.{eqb};
+ghost use lib.Dec.{eqb, ltb};
 ghost use lib.ListN.{getD, drop};
+ghost use Rattle.basis.specs.Pick.{pick};
 ghost use Rattle.json_text.specs.Decoded.{decoded, isText, sameText};
 ghost use Rattle.json_text.specs.Run.{run};
 ghost use Rattle.json_text.specs.Ends.{Ends};
@@ -62,7 +63,21 @@ pub fn is_name(s: &[u8], at: usize, name: &[u8]) -> bool
     let mut i = at;
     let mut k = 0;
     loop {
-        let c = json_character::step(s, i);
+        if i < s.len() {
+            let b = s[i];
+            if json_character::is_plain(b) {
+                if name.len() <= k {
+                    return false;
+                }
+                if b != name[k] {
+                    return false;
+                }
+                i += 1;
+                k += 1;
+                continue;
+            }
+        }
+        let c = json_character::any(s, i);
         match c {
             Char::One(x, w) => {
                 if name.len() <= k {
@@ -129,21 +144,38 @@ fn no_copy() -> Copied
     }
 }
 
+// How many bytes are copied at most.
+fn room_for(most: usize) -> usize
+    ensures { λ r. ⌜ r ≡ pick (ltb most 36) most 36 ⌝ }
+{
+    if most < 36 { most } else { 36 }
+}
+
 // The string whose characters begin at `at`, where there are at most `most` of them, and at most 36, all of them ASCII.
 pub fn copy_text(s: &[u8], at: usize, most: usize) -> Copied
     ensures { λ r. ⌜ r ≡ copyOf most (decoded (drop at (now (s .entry)))) ⌝ }
 {
+    let room = room_for(most);
     let mut bytes = [0u8; 36];
     let mut k = 0;
     let mut i = at;
     loop {
-        let c = json_character::step(s, i);
-        match c {
-            Char::One(x, w) => {
-                if most <= k {
+        if i < s.len() {
+            let b = s[i];
+            if json_character::is_plain(b) {
+                if room <= k {
                     return no_copy();
                 }
-                if 36 <= k {
+                bytes[k] = b;
+                k += 1;
+                i += 1;
+                continue;
+            }
+        }
+        let c = json_character::any(s, i);
+        match c {
+            Char::One(x, w) => {
+                if room <= k {
                     return no_copy();
                 }
                 if 128 <= x {

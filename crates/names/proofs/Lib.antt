@@ -1,3 +1,3 @@
 pub mod Spans
 pub mod Search
-pub mod ByValue
+mod Lending

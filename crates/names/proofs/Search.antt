@@ -17,7 +17,7 @@ use Rattle.basis.proofs.Table.{every, at, both-left, both-right}
 use Rattle.names.specs.Names.{typeNames, reasons, names, nameOf, findIn, findReason, numberOf, indexOf, IsReason}
 use Rattle.names.specs.declared.Found.{Found}
 use Rattle.names.specs.declared.Found.the-variants.{At, Nothing}
-use Rattle.names.proofs.Spans.{starts}
+use Rattle.names.specs.Table.{starts}
 
 -- one turn of the search
 pub turn : (s : List ℕ) (i end : ℕ) → i < end → findIn s i (end - i) ≡ pick (sameBytes s (nameOf i)) (At i) (findIn s (i + 1) (end - (i + 1)))

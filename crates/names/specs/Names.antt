@@ -51,10 +51,6 @@ names = typeNames ++ (reasons ++ (elements ++ words))
 abbrev pub nameOf : ℕ → List ℕ
 nameOf i = getD names i []
 
--- how long a name by value may be
-abbrev pub longest : ℕ
-longest = 26
-
 -- the first of the n names from i on that s is
 abbrev pub findIn : List ℕ → ℕ → ℕ → Found
 findIn s i zero = Nothing

@@ -1,19 +1,35 @@
 -- Where the names stand in the table of bytes.
 -- Assumes nothing.
-use mathlib.Core.List.{List}
+use mathlib.Core.List.{List, [], _∷_, map}
 use mathlib.Core.Path.{_≡_}
-use Prim.Native.Nat.{ℕ, _-_, _≤_}
+use Prim.Native.Nat.{ℕ, _+_, _-_, _≤_}
 use lib.ListN.{length, take, drop}
 use Rattle.output.specs.Put.{concat}
-use Rattle.names.specs.Names.{names, nameOf, longest}
+use Rattle.names.specs.Names.{names, nameOf}
 
 -- all names, one after the other
 abbrev pub table : List ℕ
 table = concat names
 
--- name i stands in the table from a to e, and a name by value holds it
+-- where each name starts, the first at n
+abbrev startsFrom : ℕ → List (List ℕ) → List ℕ
+startsFrom n [] = []
+startsFrom n (b ∷ bs) = n ∷ startsFrom (n + length b) bs
+
+abbrev pub starts : List ℕ
+starts = startsFrom 0 names
+
+abbrev pub lens : List ℕ
+lens = map length names
+
+-- a table of bytes, its starts and its lengths, as lent
+pub record Lent (bytes firsts lengths : List ℕ) : Type 0 where
+  pub bytes-are : bytes ≡ table
+  pub firsts-are : firsts ≡ starts
+  pub lengths-are : lengths ≡ lens
+
+-- name i stands in the table from a to e
 pub record Spans (i a e : ℕ) : Type 0 where
   pub ordered : a ≤ e
   pub within : e ≤ length table
-  pub short : e - a ≤ longest
   pub named : take (e - a) (drop a table) ≡ nameOf i

@@ -5,7 +5,7 @@ ghost use Prim.Native.Nat.{ℕ, _+_, _-_, _≤_, _<_};
 ghost use Rattle.basis.specs.Lists.{sameBytes};
 ghost use Rattle.output.specs.Put.{Wrote};
 ghost use Rattle.names.specs.Names.{nameOf, findIn, findType};
-ghost use Rattle.names.specs.Held.{Held};
+ghost use Rattle.names.specs.Table.{Lent};
 
 mod table; // table.rt: the bytes of all names, and where each stands
 pub mod types; // types.rt: the fourteen types of messages
@@ -13,18 +13,9 @@ pub mod reasons; // reasons.rt: the twelve reasons of a MessageNotAck
 pub mod elements; // elements.rt: the elements that we read or write
 pub mod words; // words.rt: the values that we read or write
 
-// How long a name by value may be.
-const LONGEST: usize = 26;
-
 pub enum Found {
     At(usize),
     Nothing,
-}
-
-// A name by value, to be lent as &bytes[0..length].
-pub struct Name {
-    pub length: usize,
-    pub bytes: [u8; LONGEST],
 }
 
 // Writes name i.
@@ -37,43 +28,56 @@ pub fn put(out: &mut [u8], at: usize, i: usize) -> usize
     output::put_bytes(out, at, &table::TABLE[start..end])
 }
 
-// Name i by value.
-pub fn named(i: usize) -> Name
-    ensures { λ r. ⌜ Held i r ⌝ }
+// Whether s is name i, where the table is lent: a constant is made anew wherever it is named, so that who tries many names lends it once.
+fn is_name_in(s: &[u8], i: usize, bytes: &[u8], starts: &[u16], lengths: &[u8]) -> bool
+    requires { ⌜ Lent (now bytes) (now starts) (now lengths) ⌝ }
+    ensures { λ r. ⌜ r ≡ sameBytes (now (s .entry)) (nameOf i) ⌝ }
 {
-    let s = table::span_of(i);
-    let start = s.start;
-    let end = s.end;
-    let mut bytes = [0u8; LONGEST];
-    output::put_bytes(&mut bytes, 0, &table::TABLE[start..end]);
-    Name {
-        length: end - start,
-        bytes,
+    if lengths.len() <= i {
+        return s.len() == 0;
     }
+    let length = lengths[i] as usize;
+    if s.len() != length {
+        return false;
+    }
+    let start = starts[i] as usize;
+    let end = start + length;
+    check::same(s, &bytes[start..end])
 }
 
 // Whether s is name i.
 pub fn is_name(s: &[u8], i: usize) -> bool
     ensures { λ r. ⌜ r ≡ sameBytes (now (s .entry)) (nameOf i) ⌝ }
 {
-    let t = table::span_of(i);
-    let start = t.start;
-    let end = t.end;
-    check::same(s, &table::TABLE[start..end])
+    is_name_in(s, i, &table::TABLE, &table::STARTS, &table::LENS)
+}
+
+fn find_in(
+    s: &[u8],
+    first: usize,
+    end: usize,
+    bytes: &[u8],
+    starts: &[u16],
+    lengths: &[u8],
+) -> Found
+    requires { ⌜ Lent (now bytes) (now starts) (now lengths) ⌝ }
+    ensures { λ r. ⌜ r ≡ findIn (now (s .entry)) first (end - first) ⌝ }
+{
+    let mut i = first;
+    while i < end {
+        if is_name_in(s, i, bytes, starts, lengths) {
+            return Found::At(i);
+        }
+        i += 1;
+    }
+    Found::Nothing
 }
 
 // The first of the names from first to before end that s is.
 pub fn find(s: &[u8], first: usize, end: usize) -> Found
     ensures { λ r. ⌜ r ≡ findIn (now (s .entry)) first (end - first) ⌝ }
 {
-    let mut i = first;
-    while i < end {
-        if is_name(s, i) {
-            return Found::At(i);
-        }
-        i += 1;
-    }
-    Found::Nothing
+    find_in(s, first, end, &table::TABLE, &table::STARTS, &table::LENS)
 }
 
 // The type that s names.

@@ -12,7 +12,7 @@ pub const TABLE: [u8; 580] =
       mTypetypemIdoMIdreantsOIdxNIdcIdRSMPverssiteIdsIdSXLwTsaCIdxACIdxNACIdaSpackaSsSaTscatprirvsaSTSfPfSsesTssCInsquRtsOcargcCIcOvcTSage\
       rSMsgIssueRequestAcknowledgeSuspendResumeAcknowledgednotAcknowledgedActiveinActiveSuspendednotSuspendedTDrecentunknownundefinedold";
 
-const STARTS: [u16; COUNT] = [
+pub const STARTS: [u16; COUNT] = [
     0,
     7,
     15,
@@ -101,7 +101,7 @@ const STARTS: [u16; COUNT] = [
     577,
 ];
 
-const LENS: [u8; COUNT] =
+pub const LENS: [u8; COUNT] =
     *b"\x07\x08\x0a\x0d\x05\x10\x17\x0d\x0e\x0f\x11\x0c\x0e\x0f\x0f\x09\x0a\x09\x0c\x07\x0b\x11\x0d\x0e\x0f\x04\x05\x04\x03\x04\x03\x06\x04\x03\x04\x04\x06\x03\x03\x03\x04\x05\x06\x03\x03\x02\x02\x03\x03\x03\x03\x04\x02\x02\x02\x03\x03\x01\x01\x01\x03\x03\x03\x03\x02\x01\x03\x03\x05\x05\x07\x0b\x07\x06\x0c\x0f\x06\x08\x09\x0c\x01\x01\x06\x07\x09\x03";
 
 pub struct Span {

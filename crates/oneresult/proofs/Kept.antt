@@ -123,7 +123,6 @@ kept =
       sends = λ a b. (a .step ∙ sym (b .step), a .out ∙ sym (b .out));
       wrote = puts-once;
       wrote-time = λ a b. let e = a .all ∙ sym (b .all) in (ap (λ (o : Out). o .bytes) e, ap (λ (o : Out). o .end) e);
-      name = λ a b. a .whole ∙ sym (b .whole);
       decimal = reads-once;
       integer = reads-int-once;
       identity = λ a b. a .equals ∙ sym (b .equals);

@@ -16,8 +16,6 @@ use Rattle.identity.specs.Read.{IdentityRead}
 use Rattle.calendar.specs.declared.Time.{Time}
 use Rattle.calendar.specs.Put.{WroteTime}
 use Rattle.calendar.specs.Read.{TimeRead}
-use Rattle.names.specs.declared.Name.{Name}
-use Rattle.names.specs.Held.{Held}
 use Rattle.entry.specs.declared.Unpacked.{Unpacked}
 use Rattle.entry.specs.Reading.{Reads as ReadsEntry}
 use Rattle.entry.specs.Valid.{Decides}
@@ -70,7 +68,6 @@ pub record Once : Type 1 where
   pub wrote : {xs : List ℕ} {at : ℕ} {pieces : List (List ℕ)} {ys zs : List ℕ} {r q : ℕ}
       → Wrote xs at pieces ys r → Wrote xs at pieces zs q → (ys ≡ zs) × (r ≡ q)
   pub wrote-time : {xs : List ℕ} {at ms : ℕ} {ys zs : List ℕ} {r q : ℕ} → WroteTime xs at ms ys r → WroteTime xs at ms zs q → (ys ≡ zs) × (r ≡ q)
-  pub name : {i : ℕ} {r q : Name} → Held i r → Held i q → r ≡ q
   -- ---- what is read
   pub decimal : {limit : ℕ} {s : List ℕ} {r q : Number} → Reads limit s r → Reads limit s q → r ≡ q
   pub integer : {s : List ℕ} {r q : Int} → ReadsInt s r → ReadsInt s q → r ≡ q

@@ -8,6 +8,7 @@ ghost use Rattle.table_whole.specs.declared.SiteTable.{SiteTable};
 ghost use Rattle.store_table.specs.Layout.{tableOf};
 ghost use Rattle.packet_lookup.specs.Sought.{alarmSought, componentSought};
 ghost use Rattle.output.specs.Put.{Wrote};
+ghost use Rattle.json_find.specs.Index.{Indexed};
 ghost use Rattle.read_head.specs.Small.{alarmAt, aggregatedAt};
 ghost use Rattle.write_message.specs.Message.Message.{ack};
 ghost use Rattle.write_message.specs.Pieces.{pieces};
@@ -252,12 +253,13 @@ pub fn alarm(
     id: Identity,
     received: Received,
     packet: &[u8],
+    places: &[usize],
     out: &mut [u8],
 ) -> Answer
-    requires { ⌜ (length (now w) ≡ 1173) × ((length (now t) ≡ 6178) × (l < 4)) ⌝ }
+    requires { ⌜ (length (now w) ≡ 1173) × ((length (now t) ≡ 6178) × ((l < 4) × Indexed (now packet) (now places))) ⌝ }
     ensures { λ r. ⌜ TakesIn (tableOf (now (t .entry))) l time id (alarmTaken (siteOf (now (w .entry)) (tableOf (now (t .entry)))) l time id (received .bytes) (alarmAt (now (packet .entry)))) (now (w .entry)) (now (w .exit)) (now (out .entry)) (now (out .exit)) r ⌝ }
 {
-    let f = read_head::read_alarm(packet);
+    let f = read_head::read_alarm(packet, places);
     judge(w, t, l, time, id, received, f, out)
 }
 
@@ -374,11 +376,12 @@ pub fn aggregated(
     id: Identity,
     received: Received,
     packet: &[u8],
+    places: &[usize],
     out: &mut [u8],
 ) -> Answer
-    requires { ⌜ (length (now w) ≡ 1173) × ((length (now t) ≡ 6178) × (l < 4)) ⌝ }
+    requires { ⌜ (length (now w) ≡ 1173) × ((length (now t) ≡ 6178) × ((l < 4) × Indexed (now packet) (now places))) ⌝ }
     ensures { λ r. ⌜ TakesIn (tableOf (now (t .entry))) l time id (aggregatedTaken (siteOf (now (w .entry)) (tableOf (now (t .entry)))) l time id (received .bytes) (aggregatedAt (now (packet .entry)))) (now (w .entry)) (now (w .exit)) (now (out .entry)) (now (out .exit)) r ⌝ }
 {
-    let f = read_head::read_aggregated(packet);
+    let f = read_head::read_aggregated(packet, places);
     judge_aggregated(w, t, l, time, id, received, f, out)
 }

@@ -20,26 +20,15 @@ ghost use Rattle.packet_answer.specs.Taken.{notAcked, closing};
 ghost use Rattle.packet_answer.specs.Ending.{report as reportOf, handed, repliedAt};
 use answer::Answer;
 use answer::Report;
-use awaited::Found;
 use identity::Identity;
 use read_head::Received;
-
-fn found(f: Found) -> bool
-    ensures { λ r. ⌜ r ≡ isAwaited f ⌝ }
-{
-    match f {
-        Found::For(_) => true,
-        Found::Nothing => false,
-    }
-}
 
 // Number 9's condition, where something is to be sent.
 pub fn is_awaited(w: &[u64], l: u16, id: Identity) -> bool
     requires { ⌜ (length (now w) ≡ 1173) × (l < 4) ⌝ }
     ensures { λ r. ⌜ ((t : SiteTable) → r ≡ isAwaited (findOf (linkAt (siteOf (now (w .entry)) t) l .awaited) id)) ⌝ }
 {
-    let k = store_site::parts::link(w, l as usize);
-    found(k.awaits(id))
+    store_site::phases::awaits(w, l as usize, id)
 }
 
 // "Busy", where a reply is due.
@@ -47,8 +36,7 @@ pub fn is_busy(w: &[u64], l: u16) -> bool
     requires { ⌜ (length (now w) ≡ 1173) × (l < 4) ⌝ }
     ensures { λ r. ⌜ ((t : SiteTable) → r ≡ fullOf (linkAt (siteOf (now (w .entry)) t) l)) ⌝ }
 {
-    let k = store_site::parts::link(w, l as usize);
-    k.full()
+    store_site::phases::full(w, l as usize)
 }
 
 pub fn report(hint: u64, hinted: u16, end: usize, closed: u16) -> Report

@@ -10,6 +10,7 @@ ghost use Rattle.output.specs.Put.{Wrote};
 ghost use Rattle.write_message.specs.declared.Told.the-variants.{Command as commandKind};
 ghost use Rattle.write_message.specs.Message.Message.{ack};
 ghost use Rattle.write_message.specs.Pieces.{pieces, entryPieces, entriesPieces};
+ghost use Rattle.json_find.specs.Index.{Indexed};
 ghost use Rattle.read_commands.specs.Command.{noCommand, commandAt};
 ghost use Rattle.table_whole.specs.declared.SiteTable.{SiteTable};
 ghost use Rattle.store_table.specs.Layout.{tableOf};
@@ -284,12 +285,13 @@ pub fn command(
     id: Identity,
     received: Received,
     packet: &[u8],
+    places: &[usize],
     out: &mut [u8],
 ) -> Answer
-    requires { ⌜ (length (now w) ≡ 1173) × ((length (now t) ≡ 6178) × (l < 4)) ⌝ }
+    requires { ⌜ (length (now w) ≡ 1173) × ((length (now t) ≡ 6178) × ((l < 4) × Indexed (now packet) (now places))) ⌝ }
     ensures { λ r. ⌜ TakesIn (tableOf (now (t .entry))) l time id (commandTaken (siteOf (now (w .entry)) (tableOf (now (t .entry)))) l time id (received .bytes) (commandAt (now (packet .entry)))) (now (w .entry)) (now (w .exit)) (now (out .entry)) (now (out .exit)) r ⌝ }
 {
-    let f = read_commands::read_command(packet);
+    let f = read_commands::read_command(packet, places);
     let v = f.verdict;
     match v {
         Verdict::Good => ordered(w, t, l, time, id, received, f, out),
@@ -339,7 +341,7 @@ pub fn hand_over(t: &[u8], packet: &[u8], commands: &mut [u64])
     requires { ⌜ (length (now t) ≡ 6178) × (length (now commands) ≡ 16) ⌝ }
     ensures { λ _. ⌜ now (commands .exit) ≡ handedOver (commandsIn (tableOf (now (t .entry))) (now (packet .entry))) (now (commands .entry)) ⌝ }
 {
-    let f = read_commands::read_command(packet);
+    let f = read_commands::read_command(packet, &[]);
     let named = f.component;
     let entries = f.entries;
     let component = packet_lookup::component(t, named);

@@ -5,6 +5,7 @@ ghost use lib.ListN.{length};
 ghost use Rattle.table_whole.specs.declared.SiteTable.{SiteTable};
 ghost use Rattle.site.specs.declared.Site.{Site};
 ghost use Rattle.site.specs.Call.{never, stepOf, hintTime, hintBit};
+ghost use Rattle.json_find.specs.Index.{Indexed};
 ghost use Rattle.read_head.specs.Small.{watchdogAt};
 ghost use Rattle.read_lists.specs.Version.{versionAt};
 ghost use Rattle.store_site.specs.Layout.{siteOf};
@@ -198,9 +199,10 @@ pub fn version(
     time: u64,
     received: Received,
     packet: &[u8],
+    places: &[usize],
     out: &mut [u8],
 ) -> Answer
-    requires { ⌜ (length (now w) ≡ 1173) × (length (now t) ≡ 6178) × (l < 4) ⌝ }
+    requires { ⌜ (length (now w) ≡ 1173) × (length (now t) ≡ 6178) × (l < 4) × Indexed (now packet) (now places) ⌝ }
     ensures { λ r. ⌜ GivesIn (tableOf (now (t .entry))) time never (versionTaken (siteOf (now (w .entry)) (tableOf (now (t .entry)))) l (received .bytes) (versionAt (now (packet .entry))) .plan) (now (w .entry)) (now (w .exit)) (now (out .entry)) (now (out .exit)) r ⌝ }
 {
     version_by(
@@ -209,7 +211,7 @@ pub fn version(
         l,
         time,
         received,
-        read_lists::read_version(packet),
+        read_lists::read_version(packet, places),
         out,
     )
 }
@@ -292,10 +294,18 @@ pub fn watchdog(
     time: u64,
     received: Received,
     packet: &[u8],
+    places: &[usize],
     out: &mut [u8],
 ) -> Answer
-    requires { ⌜ (length (now w) ≡ 1173) × (l < 4) ⌝ }
+    requires { ⌜ (length (now w) ≡ 1173) × (l < 4) × Indexed (now packet) (now places) ⌝ }
     ensures { λ r. ⌜ ((t : SiteTable) → GivesIn t time never (watchdogTaken (siteOf (now (w .entry)) t) l (received .bytes) (watchdogAt (now (packet .entry))) .plan) (now (w .entry)) (now (w .exit)) (now (out .entry)) (now (out .exit)) r) ⌝ }
 {
-    watchdog_by(w, l, time, received, read_head::read_watchdog(packet), out)
+    watchdog_by(
+        w,
+        l,
+        time,
+        received,
+        read_head::read_watchdog(packet, places),
+        out,
+    )
 }

@@ -8,6 +8,7 @@ ghost use Rattle.output.specs.Put.{Wrote};
 ghost use Rattle.write_message.specs.Message.Message.{ack};
 ghost use Rattle.write_message.specs.Pieces.{pieces, entryPieces, entriesPieces};
 ghost use Rattle.write_message.specs.declared.Told.the-variants.{Response as responseOf};
+ghost use Rattle.json_find.specs.Index.{Indexed};
 ghost use Rattle.read_lists.specs.Status.{statusAt};
 ghost use Rattle.store_table.specs.Layout.{tableOf};
 ghost use Rattle.packet_lookup.specs.Sought.{componentSought, statusSought};
@@ -201,12 +202,13 @@ pub fn status_request(
     id: Identity,
     received: Received,
     packet: &[u8],
+    places: &[usize],
     out: &mut [u8],
 ) -> Answer
-    requires { ⌜ (length (now w) ≡ 1173) × ((length (now t) ≡ 6178) × (l < 4)) ⌝ }
+    requires { ⌜ (length (now w) ≡ 1173) × ((length (now t) ≡ 6178) × ((l < 4) × Indexed (now packet) (now places))) ⌝ }
     ensures { λ r. ⌜ TakesIn (tableOf (now (t .entry))) l time id (statusTaken (siteOf (now (w .entry)) (tableOf (now (t .entry)))) l time id (received .bytes) (statusAt false (now (packet .entry)))) (now (w .entry)) (now (w .exit)) (now (out .entry)) (now (out .exit)) r ⌝ }
 {
-    let f = read_lists::read_status(packet, false);
+    let f = read_lists::read_status(packet, places, false);
     let v = f.verdict;
     match v {
         Verdict::Good => requested(w, t, l, time, id, received, f, out),

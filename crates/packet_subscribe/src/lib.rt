@@ -12,6 +12,7 @@ ghost use Rattle.store_site.specs.Turns.{Turns};
 ghost use Rattle.store_table.specs.Layout.{tableOf};
 ghost use Rattle.store_call.specs.Called.{GivesIn};
 ghost use Rattle.store_call.specs.Issued.{issuedIn};
+ghost use Rattle.json_find.specs.Index.{Indexed};
 ghost use Rattle.read_lists.specs.Status.{statusAt as fieldsAt};
 ghost use Rattle.packet_lookup.specs.Sought.{componentSought, statusSought, allStatuses};
 ghost use Rattle.packet_subscribe.specs.Subscribing.{wanted as wantedOf, replacedAt, replaced as replacedOf, recordOf, records as recordsOf, changed, judged, asked, subscribingTaken};
@@ -253,12 +254,13 @@ pub fn subscribe(
     time: u64,
     received: Received,
     packet: &[u8],
+    places: &[usize],
     out: &mut [u8],
 ) -> Answer
-    requires { ⌜ (length (now w) ≡ 1173) × (length (now t) ≡ 6178) ⌝ }
+    requires { ⌜ (length (now w) ≡ 1173) × (length (now t) ≡ 6178) × Indexed (now packet) (now places) ⌝ }
     ensures { λ r. ⌜ GivesIn (tableOf (now (t .entry))) time never (subscribingTaken true (siteOf (now (w .entry)) (tableOf (now (t .entry)))) l time (received .bytes) (fieldsAt true (now (packet .entry))) .plan) (now (w .entry)) (now (w .exit)) (now (out .entry)) (now (out .exit)) r ⌝ }
 {
-    let f = read_lists::read_status(packet, true);
+    let f = read_lists::read_status(packet, places, true);
     take(w, t, true, l, time, f, received, out)
 }
 
@@ -270,11 +272,12 @@ pub fn unsubscribe(
     time: u64,
     received: Received,
     packet: &[u8],
+    places: &[usize],
     out: &mut [u8],
 ) -> Answer
-    requires { ⌜ (length (now w) ≡ 1173) × (length (now t) ≡ 6178) ⌝ }
+    requires { ⌜ (length (now w) ≡ 1173) × (length (now t) ≡ 6178) × Indexed (now packet) (now places) ⌝ }
     ensures { λ r. ⌜ GivesIn (tableOf (now (t .entry))) time never (subscribingTaken false (siteOf (now (w .entry)) (tableOf (now (t .entry)))) l time (received .bytes) (fieldsAt false (now (packet .entry))) .plan) (now (w .entry)) (now (w .exit)) (now (out .entry)) (now (out .exit)) r ⌝ }
 {
-    let f = read_lists::read_status(packet, false);
+    let f = read_lists::read_status(packet, places, false);
     take(w, t, false, l, time, f, received, out)
 }

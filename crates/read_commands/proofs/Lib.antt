@@ -1,2 +1,3 @@
+mod Pushes
 mod Counts
 pub mod Kept

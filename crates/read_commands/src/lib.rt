@@ -1,14 +1,15 @@
 // What a CommandRequest says.
 use json_text::Read;
 use label::Label;
-use names::elements;
 use number::Int;
 use read_head::GotLabel;
 use read_head::Verdict;
 ghost use mathlib.Core.Path.{_≡_};
-ghost use lib.ListN.{drop, set};
+ghost use lib.ListN.{drop};
 ghost use Rattle.basis.specs.Text.{text};
+ghost use Rattle.json_value.specs.Reader.{skipWs};
 ghost use Rattle.json_find.specs.Entries.{entriesAt};
+ghost use Rattle.json_find.specs.Index.{Indexed};
 ghost use Rattle.read_versions.specs.Numeral.{intIn};
 ghost use Rattle.read_head.specs.Word.{word, wordAt, wordOf};
 ghost use Rattle.read_lists.specs.Gather.{gather};
@@ -89,7 +90,7 @@ fn value_of(e: read_head::Element) -> GotValue
 fn value_in(s: &[u8], at: usize) -> GotValue
     ensures { λ r. ⌜ r ≡ gotValue (wordAt (drop at (now (s .entry))) (text "v")) ⌝ }
 {
-    value_of(read_head::element_in(s, at, elements::V))
+    value_of(read_head::element_in(s, at, b"v"))
 }
 
 fn command_of(c: GotLabel, n: GotLabel, o: GotLabel, v: GotValue) -> GotCommand
@@ -115,9 +116,9 @@ fn command_of(c: GotLabel, n: GotLabel, o: GotLabel, v: GotValue) -> GotCommand
 fn command_by(s: &[u8], at: usize) -> GotCommand
     ensures { λ r. ⌜ r ≡ commandBy (wordAt (drop at (now (s .entry)))) ⌝ }
 {
-    let c = read_head::label_in(s, at, elements::C_C_I);
-    let n = read_head::label_in(s, at, elements::N);
-    let o = read_head::label_in(s, at, elements::C_O);
+    let c = read_head::label_in(s, at, b"cCI");
+    let n = read_head::label_in(s, at, b"n");
+    let o = read_head::label_in(s, at, b"cO");
     command_of(c, n, o, value_in(s, at))
 }
 
@@ -154,65 +155,50 @@ fn no_commands(verdict: Verdict) -> CommandList
     }
 }
 
-fn put_command(list: [CommandEntry; 16], n: usize, x: CommandEntry) -> [CommandEntry; 16]
-    ensures { λ r. ⌜ r ≡ set list n x ⌝ }
-{
-    if n < 16 {
-        let mut t = list;
-        t[n] = x;
-        return t;
-    }
-    list
-}
-
-fn push_command(l: CommandList, g: GotCommand) -> CommandList
-    ensures { λ r. ⌜ r ≡ pushCommand l g ⌝ }
-{
-    let v = l.verdict;
-    let w = g.verdict;
-    let x = read_head::worst(v, w);
-    let n = l.count;
-    let old = l.entries;
-    if n < 16 {
-        let entry = g.entry;
-        let entries = put_command(old, n, entry);
-        return CommandList {
-            verdict: x,
-            count: n + 1,
-            entries,
-        };
-    }
-    CommandList {
-        verdict: read_head::worst(x, Verdict::Bad),
-        count: n,
-        entries: old,
-    }
-}
-
 // The commands of the array at a place.
 fn commands_in(s: &[u8], at: usize) -> CommandList
     ensures { λ r. ⌜ r ≡ gather (λ l x. pushCommand l (commandOfItem x)) (noCommands Verdict.Good) (itemsAt (entriesAt 0x5b 0x5d (drop at (now (s .entry))))) ⌝ }
 {
-    let mut list = no_commands(Verdict::Good);
+    let mut verdict = Verdict::Good;
+    let mut count: usize = 0;
+    let mut entries = [no_command(); 16];
     let p = json_find::inside(s, at, b'[', b']');
     let Read::End(start) = p else {
-        return list;
+        return CommandList {
+            verdict,
+            count,
+            entries,
+        };
     };
     let mut i = start;
     loop {
-        list = push_command(list, command_entry(s, json_value::space(s, i)));
+        let g = command_entry(s, json_value::space(s, i));
+        let v = g.verdict;
+        let entry = g.entry;
+        verdict = read_head::worst(verdict, v);
+        if count < 16 {
+            entries[count] = entry;
+            count += 1;
+        } else {
+            verdict = read_head::worst(verdict, Verdict::Bad);
+        }
         let m = json_find::step(s, i, b']');
         match m {
-            Read::Bad => return list,
+            Read::Bad => return CommandList {
+                verdict,
+                count,
+                entries,
+            },
             Read::End(e) => i = e,
         }
     }
 }
 
-fn commands_of(s: &[u8], at: usize) -> CommandList
-    ensures { λ r. ⌜ r ≡ commandsOf (listAt (drop at (now (s .entry))) (text "arg")) ⌝ }
+fn commands_of(s: &[u8], places: &[usize]) -> CommandList
+    requires { ⌜ Indexed (now s) (now places) ⌝ }
+    ensures { λ r. ⌜ r ≡ commandsOf (listAt (skipWs (now (s .entry))) (text "arg")) ⌝ }
 {
-    let p = read_head::lookup(s, at, elements::ARG);
+    let p = json_find::member_of(s, places, b"arg");
     match p {
         Read::Bad => no_commands(Verdict::Missing),
         Read::End(v) => {
@@ -241,12 +227,12 @@ fn command_from(c: GotLabel, l: CommandList) -> CommandFields
 }
 
 // CommandRequest.
-pub fn read_command(s: &[u8]) -> CommandFields
+pub fn read_command(s: &[u8], places: &[usize]) -> CommandFields
+    requires { ⌜ Indexed (now s) (now places) ⌝ }
     ensures { λ r. ⌜ r ≡ commandAt (now (s .entry)) ⌝ }
 {
-    let at = json_value::space(s, 0);
     command_from(
-        read_head::label_in(s, at, elements::C_ID),
-        commands_of(s, at),
+        read_head::own_label(s, places, b"cId"),
+        commands_of(s, places),
     )
 }

@@ -34,11 +34,12 @@ module _ (s : List ℕ) (i : ℕ) where
     unfolding wordHere
     value-string e = copied-read (decoded (drop (i + 1) s)) ∙ sym (rw (next s i h, eq-eqb (getD s i 0) 0x22 e))
 
-  module _ (name : List ℕ) where
-    pub missing : Ends s i (memberAt name (drop i s)) Bad → record { there = false; copy = noCopy } ≡ elementOf (wordAt (drop i s) name)
-    unfolding wordAt
-    missing x = sym (rw (ends-bad x))
+-- what is found of a name in a text that stands behind place i
+module _ (s t : List ℕ) (i : ℕ) (name : List ℕ) where
+  pub missing : Ends s i (memberAt name t) Bad → record { there = false; copy = noCopy } ≡ elementOf (wordAt t name)
+  unfolding wordAt
+  missing x = sym (rw (ends-bad x))
 
-    pub there : (v : ℕ) → Ends s i (memberAt name (drop i s)) (End v) → elementOf (wordHere (drop v s)) ≡ elementOf (wordAt (drop i s) name)
-    unfolding wordAt
-    there v x = sym (rw (ended x .reads))
+  pub there : (v : ℕ) → Ends s i (memberAt name t) (End v) → elementOf (wordHere (drop v s)) ≡ elementOf (wordAt t name)
+  unfolding wordAt
+  there v x = sym (rw (ended x .reads))

@@ -6,7 +6,6 @@ use json_text::Copied;
 use json_text::Read;
 use label::Label;
 use names::Found;
-use names::elements;
 use names::types;
 use names::words;
 ghost use mathlib.Core.Path.{_≡_};
@@ -15,9 +14,10 @@ ghost use lib.ListN.{drop};
 ghost use Rattle.basis.specs.Lists.{sameBytes};
 ghost use Rattle.names.specs.Names.{nameOf};
 ghost use Rattle.basis.specs.Text.{text};
-ghost use Rattle.json_text.specs.Ends.{Ends};
 ghost use Rattle.json_text.specs.Copied.{noCopy};
-ghost use Rattle.json_find.specs.Entries.{memberAt};
+ghost use Rattle.json_value.specs.Reader.{skipWs};
+ghost use Rattle.json_find.specs.Index.{Indexed};
+ghost use Rattle.json_packet.specs.Packet.{isPacket};
 ghost use Rattle.read_head.specs.Word.{word, wordHere, wordAt, elementOf, wordOf};
 ghost use Rattle.read_head.specs.Values.{worst as worstOf, verdictOf, noText, gotLabel, noTime, gotTime, anOrder, gotOrder, orderFor};
 ghost use Rattle.basis.specs.Pick.{pick};
@@ -138,21 +138,23 @@ fn value_at(s: &[u8], at: usize) -> Element
     }
 }
 
-// The place of the element with name i of the object at a place.
-pub fn lookup(s: &[u8], at: usize, i: usize) -> Read
-    ensures { λ r. ⌜ Ends (now (s .entry)) at (memberAt (nameOf i) (drop at (now (s .entry)))) r ⌝ }
+// The element with a name of the object at a place.
+pub fn element_in(s: &[u8], at: usize, name: &[u8]) -> Element
+    ensures { λ r. ⌜ r ≡ elementOf (wordAt (drop at (now (s .entry))) (now (name .entry))) ⌝ }
 {
-    let name = names::named(i);
-    let n = name.length;
-    let bytes = name.bytes;
-    json_find::member(s, at, &bytes[0..n])
+    let p = json_find::member(s, at, name);
+    match p {
+        Read::Bad => unusable(false),
+        Read::End(v) => value_at(s, v),
+    }
 }
 
-// The element with name i of the object at a place.
-pub fn element_in(s: &[u8], at: usize, i: usize) -> Element
-    ensures { λ r. ⌜ r ≡ elementOf (wordAt (drop at (now (s .entry))) (nameOf i)) ⌝ }
+// The element with a name of the packet's object, whose entries' places may be noted.
+pub fn element_of(s: &[u8], places: &[usize], name: &[u8]) -> Element
+    requires { ⌜ Indexed (now s) (now places) ⌝ }
+    ensures { λ r. ⌜ r ≡ elementOf (wordAt (skipWs (now (s .entry))) (now (name .entry))) ⌝ }
 {
-    let p = lookup(s, at, i);
+    let p = json_find::member_of(s, places, name);
     match p {
         Read::Bad => unusable(false),
         Read::End(v) => value_at(s, v),
@@ -300,43 +302,52 @@ pub fn worst(a: Verdict, b: Verdict) -> Verdict
     }
 }
 
-// The used string that is the element with name i of the object at a place.
-pub fn label_in(s: &[u8], at: usize, i: usize) -> GotLabel
-    ensures { λ r. ⌜ r ≡ gotLabel (wordAt (drop at (now (s .entry))) (nameOf i)) ⌝ }
+// The used string that is the element with a name of the object at a place.
+pub fn label_in(s: &[u8], at: usize, name: &[u8]) -> GotLabel
+    ensures { λ r. ⌜ r ≡ gotLabel (wordAt (drop at (now (s .entry))) (now (name .entry))) ⌝ }
 {
-    label_of(element_in(s, at, i))
+    label_of(element_in(s, at, name))
+}
+
+// The used string that is the packet's own element with a name.
+pub fn own_label(s: &[u8], places: &[usize], name: &[u8]) -> GotLabel
+    requires { ⌜ Indexed (now s) (now places) ⌝ }
+    ensures { λ r. ⌜ r ≡ gotLabel (wordAt (skipWs (now (s .entry))) (now (name .entry))) ⌝ }
+{
+    label_of(element_of(s, places, name))
 }
 
 // Watchdog.
-pub fn read_watchdog(s: &[u8]) -> GotTime
+pub fn read_watchdog(s: &[u8], places: &[usize]) -> GotTime
+    requires { ⌜ Indexed (now s) (now places) ⌝ }
     ensures { λ r. ⌜ r ≡ watchdogAt (now (s .entry)) ⌝ }
 {
-    let at = json_value::space(s, 0);
-    time_of(element_in(s, at, elements::W_TS))
+    time_of(element_of(s, places, b"wTs"))
 }
 
 // AggregatedStatusRequest.
-pub fn read_aggregated(s: &[u8]) -> GotLabel
+pub fn read_aggregated(s: &[u8], places: &[usize]) -> GotLabel
+    requires { ⌜ Indexed (now s) (now places) ⌝ }
     ensures { λ r. ⌜ r ≡ aggregatedAt (now (s .entry)) ⌝ }
 {
-    let at = json_value::space(s, 0);
-    label_in(s, at, elements::C_ID)
+    own_label(s, places, b"cId")
 }
 
-fn order_in(s: &[u8], at: usize) -> GotOrder
-    ensures { λ r. ⌜ r ≡ gotOrder (wordAt (drop at (now (s .entry))) (text "aSp")) ⌝ }
+fn own_order(s: &[u8], places: &[usize]) -> GotOrder
+    requires { ⌜ Indexed (now s) (now places) ⌝ }
+    ensures { λ r. ⌜ r ≡ gotOrder (wordAt (skipWs (now (s .entry))) (text "aSp")) ⌝ }
 {
-    order_of(element_in(s, at, elements::A_SP))
+    order_of(element_of(s, places, b"aSp"))
 }
 
 // Alarm.
-pub fn read_alarm(s: &[u8]) -> AlarmFields
+pub fn read_alarm(s: &[u8], places: &[usize]) -> AlarmFields
+    requires { ⌜ Indexed (now s) (now places) ⌝ }
     ensures { λ r. ⌜ r ≡ alarmAt (now (s .entry)) ⌝ }
 {
-    let at = json_value::space(s, 0);
-    let component = label_in(s, at, elements::C_ID);
-    let code = label_in(s, at, elements::A_C_ID);
-    let order = order_in(s, at);
+    let component = own_label(s, places, b"cId");
+    let code = own_label(s, places, b"aCId");
+    let order = own_order(s, places);
     alarm_of(component, code, order)
 }
 
@@ -501,20 +512,22 @@ fn answered_with(class: Class, o: ReadIdentity) -> Head
     }
 }
 
-fn answered(s: &[u8], at: usize, class: Class, v: Verdict) -> Head
-    ensures { λ r. ⌜ r ≡ answeredBy class v (identityOf (wordAt (drop at (now (s .entry))) (text "oMId"))) ⌝ }
+fn answered(s: &[u8], places: &[usize], class: Class, v: Verdict) -> Head
+    requires { ⌜ Indexed (now s) (now places) ⌝ }
+    ensures { λ r. ⌜ r ≡ answeredBy class v (identityOf (wordAt (skipWs (now (s .entry))) (text "oMId"))) ⌝ }
 {
     match v {
-        Verdict::Good => answered_with(class, identity_of(element_in(s, at, elements::O_M_ID))),
+        Verdict::Good => answered_with(class, identity_of(element_of(s, places, b"oMId"))),
         Verdict::Missing => ignored(),
         Verdict::Bad => ignored(),
     }
 }
 
-fn asked(s: &[u8], at: usize, kind: Kind, v: Verdict) -> Head
-    ensures { λ r. ⌜ r ≡ askedBy kind v (wordAt (drop at (now (s .entry))) (text "mId")) ⌝ }
+fn asked(s: &[u8], places: &[usize], kind: Kind, v: Verdict) -> Head
+    requires { ⌜ Indexed (now s) (now places) ⌝ }
+    ensures { λ r. ⌜ r ≡ askedBy kind v (wordAt (skipWs (now (s .entry))) (text "mId")) ⌝ }
 {
-    let e = element_in(s, at, elements::M_ID);
+    let e = element_of(s, places, b"mId");
     let o = identity_of(e);
     if o.found {
         let c = e.copy;
@@ -529,36 +542,38 @@ fn asked(s: &[u8], at: usize, kind: Kind, v: Verdict) -> Head
     }
 }
 
-fn head_for(s: &[u8], at: usize, i: usize, v: Verdict) -> Head
-    ensures { λ r. ⌜ r ≡ headFor i v (wordAt (drop at (now (s .entry)))) ⌝ }
+fn head_for(s: &[u8], places: &[usize], i: usize, v: Verdict) -> Head
+    requires { ⌜ Indexed (now s) (now places) ⌝ }
+    ensures { λ r. ⌜ r ≡ headFor i v (wordAt (skipWs (now (s .entry)))) ⌝ }
 {
     if i == types::MESSAGE_ACK {
-        return answered(s, at, Class::Acked, v);
+        return answered(s, places, Class::Acked, v);
     }
     if i == types::MESSAGE_NOT_ACK {
-        return answered(s, at, Class::NotAcked, v);
+        return answered(s, places, Class::NotAcked, v);
     }
-    asked(s, at, kind_for(i), v)
+    asked(s, places, kind_for(i), v)
 }
 
-fn head_at(s: &[u8], at: usize) -> Head
-    ensures { λ r. ⌜ r ≡ headBy (wordAt (drop at (now (s .entry)))) ⌝ }
+fn head_by(s: &[u8], places: &[usize]) -> Head
+    requires { ⌜ Indexed (now s) (now places) ⌝ }
+    ensures { λ r. ⌜ r ≡ headBy (wordAt (skipWs (now (s .entry)))) ⌝ }
 {
-    let v = verdict_of(element_in(s, at, elements::M_TYPE), words::R_S_MSG);
-    let t = type_of(element_in(s, at, elements::TYPE));
+    let v = verdict_of(element_of(s, places, b"mType"), words::R_S_MSG);
+    let t = type_of(element_of(s, places, b"type"));
     match t {
-        Found::At(i) => head_for(s, at, i, v),
-        Found::Nothing => asked(s, at, Kind::Unexpected, v),
+        Found::At(i) => head_for(s, places, i, v),
+        Found::Nothing => asked(s, places, Kind::Unexpected, v),
     }
 }
 
 // What kind of packet it is: nothing but a packet is taken.
-pub fn read_head(s: &[u8]) -> Head
+pub fn read_head(s: &[u8], places: &[usize], packet: bool) -> Head
+    requires { ⌜ (packet ≡ isPacket (now s)) × Indexed (now s) (now places) ⌝ }
     ensures { λ r. ⌜ r ≡ headAt (now (s .entry)) ⌝ }
 {
-    if json_packet::is_packet(s) {
-        let at = json_value::space(s, 0);
-        head_at(s, at)
+    if packet {
+        head_by(s, places)
     } else {
         ignored()
     }

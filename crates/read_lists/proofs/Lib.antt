@@ -4,3 +4,4 @@ pub mod Worst
 mod Seconds
 pub mod Counts
 pub mod Kept
+mod Pushes

@@ -50,21 +50,21 @@ module _ {A : Type 0} (push : A → Item → A) (s : List ℕ) where
     unfolding gather
     and-more e x = rw p (sym (rw (Walks.goes-on s i 0x5d e x, w .rest)))
 
--- an element that is looked up
-module _ (s : List ℕ) (i : ℕ) (name : List ℕ) where
-  pub list-missing : Ends s i (memberAt name (drop i s)) Bad → listAt (drop i s) name ≡ absent
+-- an element that is looked up in a text that stands behind place i
+module _ (s t : List ℕ) (i : ℕ) (name : List ℕ) where
+  pub list-missing : Ends s i (memberAt name t) Bad → listAt t name ≡ absent
   unfolding listAt
   list-missing x = rw (ends-bad x)
 
-  pub list-there : (v : ℕ) → Ends s i (memberAt name (drop i s)) (End v) → listAt (drop i s) name ≡ listHere (drop v s)
+  pub list-there : (v : ℕ) → Ends s i (memberAt name t) (End v) → listAt t name ≡ listHere (drop v s)
   unfolding listAt
   list-there v x = rw (ended x .reads)
 
-  pub flag-missing : Ends s i (memberAt name (drop i s)) Bad → Absent ≡ flagAt (drop i s) name
+  pub flag-missing : Ends s i (memberAt name t) Bad → Absent ≡ flagAt t name
   unfolding flagAt
   flag-missing x = sym (rw (ends-bad x))
 
-  pub flag-there : (v : ℕ) → Ends s i (memberAt name (drop i s)) (End v) → flagHere (drop v s) ≡ flagAt (drop i s) name
+  pub flag-there : (v : ℕ) → Ends s i (memberAt name t) (End v) → flagHere (drop v s) ≡ flagAt t name
   unfolding flagAt
   flag-there v x = sym (rw (ended x .reads))
 

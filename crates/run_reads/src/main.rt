@@ -260,9 +260,9 @@ fn put_status(line: &mut [u8], at: usize, f: StatusFields) -> usize {
 
 fn put_statuses(line: &mut [u8], at: usize, s: &[u8], kind: Kind) -> usize {
     match kind {
-        Kind::StatusRequest => put_status(line, at, read_lists::read_status(s, false)),
-        Kind::StatusSubscribe => put_status(line, at, read_lists::read_status(s, true)),
-        Kind::StatusUnsubscribe => put_status(line, at, read_lists::read_status(s, false)),
+        Kind::StatusRequest => put_status(line, at, read_lists::read_status(s, &[], false)),
+        Kind::StatusSubscribe => put_status(line, at, read_lists::read_status(s, &[], true)),
+        Kind::StatusUnsubscribe => put_status(line, at, read_lists::read_status(s, &[], false)),
         _ => at,
     }
 }
@@ -318,11 +318,15 @@ fn put_command(line: &mut [u8], at: usize, f: CommandFields) -> usize {
 
 fn put_fields(line: &mut [u8], at: usize, s: &[u8], kind: Kind) -> usize {
     match kind {
-        Kind::Version => put_version(line, at, read_lists::read_version(s)),
-        Kind::Watchdog => put_watchdog(line, at, read_head::read_watchdog(s)),
-        Kind::Alarm => put_alarm(line, at, read_head::read_alarm(s)),
-        Kind::AggregatedStatusRequest => put_aggregated(line, at, read_head::read_aggregated(s)),
-        Kind::CommandRequest => put_command(line, at, read_commands::read_command(s)),
+        Kind::Version => put_version(line, at, read_lists::read_version(s, &[])),
+        Kind::Watchdog => put_watchdog(line, at, read_head::read_watchdog(s, &[])),
+        Kind::Alarm => put_alarm(line, at, read_head::read_alarm(s, &[])),
+        Kind::AggregatedStatusRequest => put_aggregated(
+            line,
+            at,
+            read_head::read_aggregated(s, &[]),
+        ),
+        Kind::CommandRequest => put_command(line, at, read_commands::read_command(s, &[])),
         _ => put_statuses(line, at, s, kind),
     }
 }
@@ -352,7 +356,7 @@ fn put_answer(line: &mut [u8], letter: u8, id: Identity) -> usize {
 
 // A dash of what is ignored, the awaited identity of an answer, the received one of a request with what it says.
 fn said(line: &mut [u8], s: &[u8]) -> usize {
-    let head = read_head::read_head(s);
+    let head = read_head::read_head(s, &[], json_packet::is_packet(s));
     let class = head.class;
     match class {
         Class::Ignored => output::put_bytes(line, 0, b"-"),

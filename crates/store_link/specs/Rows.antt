@@ -2,12 +2,14 @@
 -- Assumes nothing.
 use Prim.Native.Nat.{ℕ, _+_, _*_, _<_}
 use mathlib.Core.Path.{_≡_}
-use mathlib.Core.Bool.{Bool}
+use mathlib.Core.Bool.{Bool, false}
 use mathlib.Core.List.{List, [], _∷_, _++_}
-use Rattle.basis.specs.Pick.{bit}
+use lib.Dec.{eqb}
+use Rattle.basis.specs.Pick.{pick, both, bit}
 use Rattle.identity.specs.declared.Identity.{Identity}
 use Rattle.awaited.specs.declared.Slot.{Slot}
 use Rattle.awaited.specs.declared.Awaited.{Awaited}
+use Rattle.awaited.specs.Slot.{isFree}
 use Rattle.link.specs.declared.Link.{Link}
 use Rattle.store_words.specs.Words.{word, flag, listOf, Stored, Put}
 use Rattle.store_words.specs.Narrow.{upper, lower, identityFrom}
@@ -28,6 +30,10 @@ idIn bs i = record { bytes = eightIn bs i ++ eightIn bs (i + 8) }
 
 abbrev pub slotIn : List ℕ → ℕ → Slot
 slotIn ws i = slotFrom (word ws i) (word ws (i + 1)) (word ws (i + 2)) (word ws (i + 3))
+
+-- it is taken, and its identity is in these two words
+abbrev pub answersTo : List ℕ → ℕ → ℕ → ℕ → Bool
+answersTo ws i a b = pick (isFree (slotIn ws i)) false (both (eqb (word ws (i + 2)) a) (eqb (word ws (i + 3)) b))
 
 unfoldable pub awaitedIn : List ℕ → ℕ → Awaited
 awaitedIn ws i = record { slots = listOf (λ (k : ℕ). slotIn ws (i + 4 * k)) 16 }

@@ -1,12 +1,14 @@
 // What a link awaits: sixteen places of four words.
 ghost use mathlib.Core.Path.{_≡_};
 ghost use Prim.Native.Nat.{_+_, _≤_};
+ghost use lib.Dec.{leb};
 ghost use lib.ListN.{length};
 ghost use Rattle.bits.specs.Fields.{bytesOf};
-ghost use Rattle.awaited.specs.Slot.{freeSlot};
+ghost use Rattle.awaited.specs.Slot.{freeSlot, isFree};
+ghost use Rattle.awaited.specs.Awaited.{findOf, isAwaited, howManyOf};
 ghost use Rattle.store_words.specs.Words.{word, Put};
 ghost use Rattle.store_words.specs.Narrow.{identityFrom};
-ghost use Rattle.store_link.specs.Rows.{slotWith, eightIn, idIn, slotIn, IdsIn, awaitedIn};
+ghost use Rattle.store_link.specs.Rows.{slotWith, eightIn, idIn, slotIn, answersTo, IdsIn, awaitedIn};
 use awaited::Awaited;
 use awaited::Slot;
 use identity::Identity;
@@ -132,6 +134,60 @@ pub fn awaited_at(w: &[u64], i: usize) -> Awaited
         k += 1;
     }
     Awaited { slots }
+}
+
+fn is_free(w: &[u64], i: usize) -> bool
+    requires { ⌜ i + 4 ≤ length (now w) ⌝ }
+    ensures { λ r. ⌜ r ≡ isFree (slotIn (now (w .entry)) i) ⌝ }
+{
+    let numbers = w[i + 1];
+    store_words::lower(numbers) == 0
+}
+
+// Whether the place at i awaits an answer to the identity of these two words.
+fn answers_to(w: &[u64], i: usize, a: u64, b: u64) -> bool
+    requires { ⌜ i + 4 ≤ length (now w) ⌝ }
+    ensures { λ r. ⌜ r ≡ answersTo (now (w .entry)) i a b ⌝ }
+{
+    if is_free(w, i) {
+        return false;
+    }
+    if w[i + 2] == a {
+        return w[i + 3] == b;
+    }
+    false
+}
+
+// Whether one of the sixteen from i on awaits an answer to the identity.
+pub fn awaits_at(w: &[u64], i: usize, id: Identity) -> bool
+    requires { ⌜ i + 64 ≤ length (now w) ⌝ }
+    ensures { λ r. ⌜ r ≡ isAwaited (findOf (awaitedIn (now (w .entry)) i) id) ⌝ }
+{
+    let a = store_words::first_half(id);
+    let b = store_words::second_half(id);
+    let mut k: usize = 0;
+    while k < 16 {
+        if answers_to(w, i + 4 * k, a, b) {
+            return true;
+        }
+        k += 1;
+    }
+    false
+}
+
+// Whether none of the sixteen from i on is free.
+pub fn full_at(w: &[u64], i: usize) -> bool
+    requires { ⌜ i + 64 ≤ length (now w) ⌝ }
+    ensures { λ r. ⌜ r ≡ leb 16 (howManyOf (awaitedIn (now (w .entry)) i)) ⌝ }
+{
+    let mut k: usize = 0;
+    while k < 16 {
+        if is_free(w, i + 4 * k) {
+            return false;
+        }
+        k += 1;
+    }
+    true
 }
 
 fn put_slots(w: &mut [u64], i: usize, slots: [Slot; 16])

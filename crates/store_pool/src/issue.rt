@@ -2,6 +2,8 @@
 ghost use mathlib.Core.Path.{_≡_};
 ghost use lib.ListN.{length};
 ghost use Rattle.pool.specs.declared.Loser.the-variants.{Owner};
+ghost use Rattle.pool.specs.declared.Wanted.the-variants.{Free};
+ghost use Rattle.pool.specs.Places.{fits, oldest};
 ghost use Rattle.pool.specs.Shares.{fuller, fullest, loser};
 ghost use Rattle.pool.specs.Pool.{heldIn, freeIn, moreOf, roomOf, issueOf};
 ghost use Rattle.site.specs.declared.Site.{Site};
@@ -35,16 +37,16 @@ fn fullest_of(w: &[u64]) -> u16
     fuller_of(w, fuller_of(w, fuller_of(w, 0, 1), 2), 3)
 }
 
-// Whose oldest record is lost when one is issued for the link.
-fn loser_for(w: &[u64], l: u16) -> Loser
-    requires { ⌜ length (now w) ≡ 1173 ⌝ }
+// Whose oldest record is lost when one is issued for the link, the oldest free place being known.
+fn loser_for(w: &[u64], l: u16, free: usize) -> Loser
+    requires { ⌜ (length (now w) ≡ 1173) × Stands (placesIn (now w)) free (oldest (fits Free) (placesIn (now w))) ⌝ }
     ensures { λ r. ⌜ r ≡ loser 4 (heldIn (placesIn (now (w .entry)))) (freeIn (placesIn (now (w .entry)))) l ⌝ }
 {
     let held = places::holds(w, l);
     if 64 <= held {
         return Loser::Owner(l);
     }
-    if 0 < places::number(w, Wanted::Free) {
+    if free < 128 {
         return Loser::Nobody;
     }
     if held < 16 {
@@ -54,13 +56,13 @@ fn loser_for(w: &[u64], l: u16) -> Loser
     }
 }
 
-// The place that a new record takes.
-fn room(w: &[u64], who: Loser) -> usize
-    requires { ⌜ length (now w) ≡ 1173 ⌝ }
+// The place that a new record takes, the oldest free place being known.
+fn room(w: &[u64], who: Loser, free: usize) -> usize
+    requires { ⌜ (length (now w) ≡ 1173) × Stands (placesIn (now w)) free (oldest (fits Free) (placesIn (now w))) ⌝ }
     ensures { λ r. ⌜ Stands (placesIn (now (w .entry))) r (roomOf (placesIn (now (w .entry))) who) ⌝ }
 {
     match who {
-        Loser::Nobody => places::first(w, Wanted::Free),
+        Loser::Nobody => free,
         Loser::Owner(m) => places::first(w, Wanted::Of(m)),
     }
 }
@@ -101,8 +103,9 @@ pub fn issue(w: &mut [u64], e: Entry)
     if 4 <= e.link {
         return;
     }
-    let who = loser_for(w, e.link);
-    let i = room(w, who);
+    let free = places::free(w);
+    let who = loser_for(w, e.link, free);
+    let i = room(w, who, free);
     if 128 <= i {
         return;
     }

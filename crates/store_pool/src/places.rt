@@ -7,12 +7,13 @@ ghost use Rattle.basis.specs.Pick.{both, bit};
 ghost use Rattle.basis.specs.Lists.{count};
 ghost use Rattle.pool.specs.declared.Place.{Place};
 ghost use Rattle.pool.specs.declared.Spot.{Spot};
+ghost use Rattle.pool.specs.declared.Wanted.the-variants.{Free};
 ghost use Rattle.pool.specs.Places.{noPlace, of, fits, older, newer, oldest, newest};
 ghost use Rattle.pool.specs.Pool.{heldIn, rankIs};
 ghost use Rattle.store_site.specs.Rows.{placeIn};
 ghost use Rattle.store_words.specs.Words.{Put};
 ghost use Rattle.store_site.specs.Layout.{placesIn};
-ghost use Rattle.store_pool.specs.Best.{Is, Stands};
+ghost use Rattle.store_pool.specs.Best.{Is, Stands, Vacant};
 use entry::Entry;
 use pool::Place;
 use pool::Wanted;
@@ -107,12 +108,30 @@ pub fn number(w: &[u64], q: Wanted) -> usize
     n
 }
 
+// Whether place k holds a record of the link; of a free place only the mark is read.
+fn is_mine(w: &[u64], k: usize, l: u16) -> bool
+    requires { ⌜ (length (now w) ≡ 1173) × (k < 128) ⌝ }
+    ensures { λ r. ⌜ r ≡ of l (getD (placesIn (now (w .entry))) k noPlace) ⌝ }
+{
+    let i = 9 + 4 * k;
+    if w[i + 3] == 0 {
+        return false;
+    }
+    store_words::quarter(w[i + 2], 48) == l
+}
+
 // How many records of the link are held.
 pub fn holds(w: &[u64], l: u16) -> usize
     requires { ⌜ length (now w) ≡ 1173 ⌝ }
     ensures { λ r. ⌜ r ≡ heldIn (placesIn (now (w .entry))) l ⌝ }
 {
-    number(w, Wanted::Of(l))
+    let mut n: usize = 0;
+    let mut i: usize = 128;
+    while 0 < i {
+        i -= 1;
+        n = add(n, is_mine(w, i, l));
+    }
+    n
 }
 
 // The place i, whose record has the number q, or what was found behind it.
@@ -181,6 +200,45 @@ pub fn last(w: &[u64], q: Wanted) -> usize
         b = later(asked(x, q), i, x.entry.sequence, b);
     }
     b.at
+}
+
+// Whether a place is free.
+fn is_free(w: &[u64], k: usize) -> bool
+    requires { ⌜ (length (now w) ≡ 1173) × (k < 128) ⌝ }
+    ensures { λ r. ⌜ r ≡ fits Free (getD (placesIn (now (w .entry))) k noPlace) ⌝ }
+{
+    let i = 9 + 4 * k;
+    w[i + 3] == 0
+}
+
+// The lowest free place; 128 where there is none.
+fn vacant(w: &[u64]) -> usize
+    requires { ⌜ length (now w) ≡ 1173 ⌝ }
+    ensures { λ r. ⌜ Vacant (placesIn (now (w .entry))) r ⌝ }
+{
+    let mut i: usize = 0;
+    while i < 128 {
+        if is_free(w, i) {
+            return i;
+        }
+        i += 1;
+    }
+    128
+}
+
+// What `first` answers for a free place. A place that a record left is all zero, and no number is below 0: the lowest free place.
+pub fn free(w: &[u64]) -> usize
+    requires { ⌜ length (now w) ≡ 1173 ⌝ }
+    ensures { λ r. ⌜ Stands (placesIn (now (w .entry))) r (oldest (fits Free) (placesIn (now (w .entry)))) ⌝ }
+{
+    let i = vacant(w);
+    if 128 <= i {
+        return 128;
+    }
+    if place(w, i).entry.sequence == 0 {
+        return i;
+    }
+    first(w, Wanted::Free)
 }
 
 fn has_rank(w: &[u64], l: u16, rank: usize, x: Place) -> bool

@@ -3,11 +3,14 @@ ghost use mathlib.Core.Path.{_≡_};
 ghost use Prim.Native.Nat.{_<_};
 ghost use lib.ListN.{length};
 ghost use Rattle.basis.specs.Pick.{both};
+ghost use Rattle.awaited.specs.Awaited.{findOf, isAwaited};
 ghost use Rattle.link.specs.Phase.{phaseOf, isUp};
+ghost use Rattle.link.specs.Steps.{fullOf};
 ghost use Rattle.table_whole.specs.declared.SiteTable.{SiteTable};
 ghost use Rattle.site.specs.Site.{linkAt, downAt};
 ghost use Rattle.store_words.specs.Words.{flag};
 ghost use Rattle.store_site.specs.Layout.{siteOf};
+use identity::Identity;
 use link::Phase;
 
 fn all_three(a: u64, b: u64, c: u64) -> bool
@@ -129,4 +132,22 @@ pub fn aggregated_out(w: &[u64], l: usize) -> bool
 {
     let i = 521 + 75 * l;
     0 < w[i + 10]
+}
+
+// Whether it awaits an answer to the identity.
+pub fn awaits(w: &[u64], l: usize, id: Identity) -> bool
+    requires { ⌜ (length (now w) ≡ 1173) × (l < 4) ⌝ }
+    ensures { λ r. ⌜ ((t : SiteTable) → r ≡ isAwaited (findOf (linkAt (siteOf (now (w .entry)) t) l .awaited) id)) ⌝ }
+{
+    let i = 521 + 75 * l;
+    store_link::slots::awaits_at(w, i + 11, id)
+}
+
+// Whether it awaits sixteen.
+pub fn full(w: &[u64], l: usize) -> bool
+    requires { ⌜ (length (now w) ≡ 1173) × (l < 4) ⌝ }
+    ensures { λ r. ⌜ ((t : SiteTable) → r ≡ fullOf (linkAt (siteOf (now (w .entry)) t) l)) ⌝ }
+{
+    let i = 521 + 75 * l;
+    store_link::slots::full_at(w, i + 11)
 }

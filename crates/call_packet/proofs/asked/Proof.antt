@@ -34,7 +34,7 @@ same-length-2 c = search needs
 
 returns : tie.Need-returns
 returns c =
-    let a = c .before .before .before .before .before .before .before .before .before .before .before .before .before .args in
+    let a = c .before .before .before .before .before .before .before .before .before .before .before .before .before .before .args in
     let t = tableOf (a .t .now) in
     good t (a .w .now) (a .l) (a .time) (a .id) (a .received .bytes) (a .v) (expectedTaken (siteOf (a .w .now) t) (a .l) (a .time) (a .id) (a .received .bytes) (a .p .now) (a .kind)) (c .before .before .before .before .before .before .before .enum-told .given .1) (c .before .before .before .before .expect .ensures)
 
@@ -46,7 +46,7 @@ same-length-4 c = search needs
 
 returns-2 : tie.Need-returns-2
 returns-2 c =
-    let a = c .before .before .before .before .before .before .before .before .before .before .before .before .before .args in
+    let a = c .before .before .before .before .before .before .before .before .before .before .before .before .before .before .args in
     let t = tableOf (a .t .now) in
     missing t (a .w .now) (a .l) (a .time) (a .id) (a .received .bytes) (a .v) (expectedTaken (siteOf (a .w .now) t) (a .l) (a .time) (a .id) (a .received .bytes) (a .p .now) (a .kind)) (c .before .before .before .before .before .before .before .enum-told2 .given .1) (c .before .before .before .before .not-ack .ensures t)
 
@@ -58,7 +58,7 @@ same-length-6 c = search needs
 
 returns-3 : tie.Need-returns-3
 returns-3 c =
-    let a = c .before .before .before .before .before .before .before .before .before .before .before .before .before .args in
+    let a = c .before .before .before .before .before .before .before .before .before .before .before .before .before .before .args in
     let t = tableOf (a .t .now) in
     bad t (a .w .now) (a .l) (a .time) (a .id) (a .received .bytes) (a .v) (expectedTaken (siteOf (a .w .now) t) (a .l) (a .time) (a .id) (a .received .bytes) (a .p .now) (a .kind)) (c .before .before .before .before .before .before .before .enum-told3 .given .1) (c .before .before .before .before .not-ack2 .ensures t)
 

@@ -41,7 +41,7 @@ same-length c = search needs
 
 returns : tie.Need-returns
 returns c =
-    let a = c .before .before .before .before .before .before .before .before .before .before .args in
+    let a = c .before .before .before .before .before .before .before .before .before .before .before .args in
     let t = tableOf (a .t .now) in
     let s = siteOf (a .w .now) t in
     like t (a .w .now) (a .l) (a .time) (a .id) (a .received .bytes) (λ (x : Class). classTaken s (a .l) (a .time) (a .id) (a .answered) (a .received .bytes) (a .p .now) x) (c .before .before .before .before .enum-told .given .1)
@@ -52,7 +52,7 @@ same-length-2 c = search needs
 
 returns-2 : tie.Need-returns-2
 returns-2 c =
-    let a = c .before .before .before .before .before .before .before .before .before .before .args in
+    let a = c .before .before .before .before .before .before .before .before .before .before .before .args in
     let t = tableOf (a .t .now) in
     let s = siteOf (a .w .now) t in
     like t (a .w .now) (a .l) (a .time) (a .id) (a .received .bytes) (λ (x : Class). classTaken s (a .l) (a .time) (a .id) (a .answered) (a .received .bytes) (a .p .now) x) (c .before .before .before .before .enum-told2 .given .1)
@@ -63,7 +63,7 @@ same-length-3 c = search needs
 
 returns-3 : tie.Need-returns-3
 returns-3 c =
-    let a = c .before .before .before .before .before .before .before .before .before .before .args in
+    let a = c .before .before .before .before .before .before .before .before .before .before .before .args in
     let t = tableOf (a .t .now) in
     let s = siteOf (a .w .now) t in
     like t (a .w .now) (a .l) (a .time) (a .id) (a .received .bytes) (λ (x : Class). classTaken s (a .l) (a .time) (a .id) (a .answered) (a .received .bytes) (a .p .now) x) (c .before .before .before .before .enum-told3 .given .1)
@@ -77,7 +77,7 @@ same-length-5 c = search needs
 
 returns-4 : tie.Need-returns-4
 returns-4 c =
-    let a = c .before .before .before .before .before .before .before .before .before .before .before .before .before .before .args in
+    let a = c .before .before .before .before .before .before .before .before .before .before .before .before .before .before .before .args in
     let t = tableOf (a .t .now) in
     let s = siteOf (a .w .now) t in
     like t (a .w .now) (a .l) (a .time) (a .id) (a .received .bytes) (λ (x : Class). classTaken s (a .l) (a .time) (a .id) (a .answered) (a .received .bytes) (a .p .now) x) (c .before .before .before .before .before .before .before .before .class .given .1)

@@ -80,7 +80,7 @@ same-length-2 c = search needs
 
 returns : tie.Need-returns
 returns c =
-    let a = c .before .before .before .before .before .before .before .before .before .before .before .before .before .args in
+    let a = c .before .before .before .before .before .before .before .before .before .before .before .before .before .before .args in
     let t = tableOf (a .t .now) in
     let s = siteOf (a .w .now) t in
     like t (a .w .now) (a .l) (a .time) (a .id) (a .received .bytes) (λ (x : Kind). kindTaken s (a .l) (a .time) (a .id) (a .received .bytes) (a .p .now) x) (c .before .before .before .before .before .before .before .enum-told .given .1)
@@ -94,7 +94,7 @@ same-length-4 c = search needs
 
 returns-2 : tie.Need-returns-2
 returns-2 c =
-    let a = c .before .before .before .before .before .before .before .before .before .before .before .before .before .args in
+    let a = c .before .before .before .before .before .before .before .before .before .before .before .before .before .before .args in
     let t = tableOf (a .t .now) in
     let s = siteOf (a .w .now) t in
     like t (a .w .now) (a .l) (a .time) (a .id) (a .received .bytes) (λ (x : Kind). kindTaken s (a .l) (a .time) (a .id) (a .received .bytes) (a .p .now) x) (c .before .before .before .before .before .before .before .enum-told2 .given .1)
@@ -108,7 +108,7 @@ same-length-6 c = search needs
 
 returns-3 : tie.Need-returns-3
 returns-3 c =
-    let a = c .before .before .before .before .before .before .before .before .before .before .before .before .before .args in
+    let a = c .before .before .before .before .before .before .before .before .before .before .before .before .before .before .args in
     let t = tableOf (a .t .now) in
     let s = siteOf (a .w .now) t in
     like t (a .w .now) (a .l) (a .time) (a .id) (a .received .bytes) (λ (x : Kind). kindTaken s (a .l) (a .time) (a .id) (a .received .bytes) (a .p .now) x) (c .before .before .before .before .before .before .before .enum-told3 .given .1)
@@ -122,7 +122,7 @@ same-length-8 c = search needs
 
 returns-4 : tie.Need-returns-4
 returns-4 c =
-    let a = c .before .before .before .before .before .before .before .before .before .before .before .before .before .args in
+    let a = c .before .before .before .before .before .before .before .before .before .before .before .before .before .before .args in
     let t = tableOf (a .t .now) in
     let s = siteOf (a .w .now) t in
     like t (a .w .now) (a .l) (a .time) (a .id) (a .received .bytes) (λ (x : Kind). kindTaken s (a .l) (a .time) (a .id) (a .received .bytes) (a .p .now) x) (c .before .before .before .before .before .before .before .enum-told4 .given .1)
@@ -136,7 +136,7 @@ same-length-10 c = search needs
 
 returns-5 : tie.Need-returns-5
 returns-5 c =
-    let a = c .before .before .before .before .before .before .before .before .before .before .before .before .before .args in
+    let a = c .before .before .before .before .before .before .before .before .before .before .before .before .before .before .args in
     let t = tableOf (a .t .now) in
     let s = siteOf (a .w .now) t in
     like t (a .w .now) (a .l) (a .time) (a .id) (a .received .bytes) (λ (x : Kind). kindTaken s (a .l) (a .time) (a .id) (a .received .bytes) (a .p .now) x) (c .before .before .before .before .before .before .before .enum-told5 .given .1)
@@ -150,7 +150,7 @@ same-length-12 c = search needs
 
 returns-6 : tie.Need-returns-6
 returns-6 c =
-    let a = c .before .before .before .before .before .before .before .before .before .before .before .before .before .args in
+    let a = c .before .before .before .before .before .before .before .before .before .before .before .before .before .before .args in
     let t = tableOf (a .t .now) in
     let s = siteOf (a .w .now) t in
     like t (a .w .now) (a .l) (a .time) (a .id) (a .received .bytes) (λ (x : Kind). kindTaken s (a .l) (a .time) (a .id) (a .received .bytes) (a .p .now) x) (c .before .before .before .before .before .before .before .enum-told6 .given .1)
@@ -164,7 +164,7 @@ same-length-14 c = search needs
 
 returns-7 : tie.Need-returns-7
 returns-7 c =
-    let a = c .before .before .before .before .before .before .before .before .before .before .before .before .before .args in
+    let a = c .before .before .before .before .before .before .before .before .before .before .before .before .before .before .args in
     let t = tableOf (a .t .now) in
     let s = siteOf (a .w .now) t in
     like t (a .w .now) (a .l) (a .time) (a .id) (a .received .bytes) (λ (x : Kind). kindTaken s (a .l) (a .time) (a .id) (a .received .bytes) (a .p .now) x) (c .before .before .before .before .before .before .before .enum-told7 .given .1)
@@ -178,7 +178,7 @@ same-length-16 c = search needs
 
 returns-8 : tie.Need-returns-8
 returns-8 c =
-    let a = c .before .before .before .before .before .before .before .before .before .before .before .before .before .args in
+    let a = c .before .before .before .before .before .before .before .before .before .before .before .before .before .before .args in
     let t = tableOf (a .t .now) in
     let s = siteOf (a .w .now) t in
     like t (a .w .now) (a .l) (a .time) (a .id) (a .received .bytes) (λ (x : Kind). kindTaken s (a .l) (a .time) (a .id) (a .received .bytes) (a .p .now) x) (c .before .before .before .before .before .before .before .enum-told8 .given .1)
@@ -192,7 +192,7 @@ same-length-18 c = search needs
 
 returns-9 : tie.Need-returns-9
 returns-9 c =
-    let a = c .before .before .before .before .before .before .before .before .before .before .before .before .before .args in
+    let a = c .before .before .before .before .before .before .before .before .before .before .before .before .before .before .args in
     let t = tableOf (a .t .now) in
     let s = siteOf (a .w .now) t in
     like t (a .w .now) (a .l) (a .time) (a .id) (a .received .bytes) (λ (x : Kind). kindTaken s (a .l) (a .time) (a .id) (a .received .bytes) (a .p .now) x) (c .before .before .before .before .before .before .before .enum-told9 .given .1)

@@ -24,7 +24,7 @@ same-length-2 c = search needs
 
 returns : tie.Need-returns
 returns c =
-    let a = c .before .before .before .before .before .before .before .before .before .before .before .before .before .before .before .before .before .args in
+    let a = c .before .before .before .before .before .before .before .before .before .before .before .before .before .before .before .before .before .before .args in
     let t = tableOf (a .t .now) in
     not-ready t (a .w .now) (a .l) (a .time) (a .id) (a .received .bytes) (a .p .now) (a .kind) (sym (c .before .before .before .before .before .before .before .before .before .before .before .expected .ensures t) ∙ c .before .before .before .before .before .before .before .before .before .before .if1 .taken) (sym (c .before .before .before .before .before .before .before .before .unready .ensures t) ∙ c .before .before .before .before .before .before .before .if2 .taken) (c .before .before .before .before .not-ack .ensures t)
 
@@ -39,7 +39,7 @@ same-length-4 c = search needs
 
 returns-2 : tie.Need-returns-2
 returns-2 c =
-    let a = c .before .before .before .before .before .before .before .before .before .before .before .before .before .before .before .before .before .args in
+    let a = c .before .before .before .before .before .before .before .before .before .before .before .before .before .before .before .before .before .before .args in
     let t = tableOf (a .t .now) in
     ready t (a .w .now) (a .l) (a .time) (a .id) (a .received .bytes) (a .p .now) (a .kind) (sym (c .before .before .before .before .before .before .before .before .before .before .before .expected .ensures t) ∙ c .before .before .before .before .before .before .before .before .before .before .if1 .taken) (sym (c .before .before .before .before .before .before .before .before .unready .ensures t) ∙ c .before .before .before .before .before .before .before .if2 .left) (c .before .before .before .before .by-kind .ensures)
 
@@ -54,7 +54,7 @@ same-length-6 c = search needs
 
 returns-3 : tie.Need-returns-3
 returns-3 c =
-    let a = c .before .before .before .before .before .before .before .before .before .before .before .before .before .before .args in
+    let a = c .before .before .before .before .before .before .before .before .before .before .before .before .before .before .before .args in
     let t = tableOf (a .t .now) in
     not-expected t (a .w .now) (a .l) (a .time) (a .id) (a .received .bytes) (a .p .now) (a .kind) (sym (c .before .before .before .before .before .before .before .before .expected .ensures t) ∙ c .before .before .before .before .before .before .before .if1 .left) (c .before .before .before .before .not-ack2 .ensures t)
 

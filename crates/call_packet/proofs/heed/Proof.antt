@@ -18,7 +18,7 @@ same-length c = search needs
 
 returns : tie.Need-returns
 returns c =
-    let a = c .before .before .before .before .before .before .before .before .before .args in
+    let a = c .before .before .before .before .before .before .before .before .before .before .args in
     let t = tableOf (a .t .now) in
     let s = siteOf (a .w .now) t in
     is-ignored t (a .w .now) (a .l) (a .time) (a .id) (headTaken s (a .l) (a .time) (a .id) (a .p .now) (a .h)) (ignoredBy (linkAt s (a .l)) (a .h .identity) (a .h .class)) (sym (c .before .ignored .ensures t) ∙ c .if1 .taken)
@@ -34,7 +34,7 @@ same-length-3 c = search needs
 
 returns-2 : tie.Need-returns-2
 returns-2 c =
-    let a = c .before .before .before .before .before .before .before .before .before .before .before .before .before .before .before .before .args in
+    let a = c .before .before .before .before .before .before .before .before .before .before .before .before .before .before .before .before .before .args in
     let t = tableOf (a .t .now) in
     let s = siteOf (a .w .now) t in
     is-heeded t (a .w .now) (a .l) (a .time) (a .id) (headTaken s (a .l) (a .time) (a .id) (a .p .now) (a .h)) (ignoredBy (linkAt s (a .l)) (a .h .identity) (a .h .class)) (sym (c .before .before .before .before .before .before .before .before .ignored .ensures t) ∙ c .before .before .before .before .before .before .before .if1 .left) (c .before .before .before .before .by-class .ensures)

@@ -102,14 +102,11 @@ returns-5 c =
     (ignoredBy (linkAt s (a .link)) (headAt (a .p .now) .identity) (headAt (a .p .now) .class))
     (sym (c .before .before .before .before .before .before .before .before .before .no-link .ensures t) ∙ c .before .before .before .before .before .before .before .before .if1 .left) (le-ltb _ _ (c .before .before .before .before .before .before .before .if2 .left)) (le-ltb _ _ (c .before .before .before .before .before .before .if3 .left)) (sym (c .before .before .before .before .bad-time .ensures t) ∙ c .before .before .before .if4 .left) (sym (c .before .down .ensures t) ∙ c .if5 .taken)
 
-read-head-requires : tie.Need-read-head-requires
-read-head-requires c κs = search needs
-
 own-identity-requires : tie.Need-own-identity-requires
 own-identity-requires c κs = search needs
 
-heed-requires : tie.Need-heed-requires
-heed-requires c κs = (search needs, search needs, link-below (siteOf (c .before .before .before .before .before .before .before .before .before .before .before .before .before .before .before .before .before .before .before .args .w .now) (tableOf (c .before .before .before .before .before .before .before .before .before .before .before .before .before .before .before .before .before .before .before .args .t .now))) (c .before .before .before .before .before .before .before .before .before .before .before .before .before .before .before .before .before .before .before .args .link) (sym (c .before .before .before .before .before .before .before .before .before .before .before .before .before .no-link .ensures (tableOf (c .before .before .before .before .before .before .before .before .before .before .before .before .before .before .before .before .before .before .before .args .t .now))) ∙ c .before .before .before .before .before .before .before .before .before .before .before .before .if1 .left))
+judged-requires : tie.Need-judged-requires
+judged-requires c κs = (search needs, search needs, link-below (siteOf (c .before .before .before .before .before .before .before .before .before .before .before .before .before .before .before .before .before .before .args .w .now) (tableOf (c .before .before .before .before .before .before .before .before .before .before .before .before .before .before .before .before .before .before .args .t .now))) (c .before .before .before .before .before .before .before .before .before .before .before .before .before .before .before .before .before .before .args .link) (sym (c .before .before .before .before .before .before .before .before .before .before .before .before .no-link .ensures (tableOf (c .before .before .before .before .before .before .before .before .before .before .before .before .before .before .before .before .before .before .args .t .now))) ∙ c .before .before .before .before .before .before .before .before .before .before .before .if1 .left))
 
 same-length-6 : tie.Need-same-length-6
 same-length-6 c = search needs
@@ -119,15 +116,15 @@ same-length-7 c = search needs
 
 returns-6 : tie.Need-returns-6
 returns-6 c =
-    let a = c .before .before .before .before .before .before .before .before .before .before .before .before .before .before .before .before .before .before .before .before .before .before .before .before .args in
+    let a = c .before .before .before .before .before .before .before .before .before .before .before .before .before .before .before .before .before .before .before .before .before .before .before .args in
     let t = tableOf (a .t .now) in
     let s = siteOf (a .w .now) t in
     let id = identityOf (a .random) in
     through t (a .w .now) (a .link) (a .time) id (packetTaken s (a .link) (a .time) id (a .p .now))
     (noLinkAt s (a .link)) (ltb (length (a .out .now)) 4096) (ltb 4096 (length (a .p .now))) (badTimeAt s (a .time)) (downAt s (a .link))
     (ignoredBy (linkAt s (a .link)) (headAt (a .p .now) .identity) (headAt (a .p .now) .class))
-    (sym (c .before .before .before .before .before .before .before .before .before .before .before .before .before .before .before .before .before .before .no-link .ensures t) ∙ c .before .before .before .before .before .before .before .before .before .before .before .before .before .before .before .before .before .if1 .left) (le-ltb _ _ (c .before .before .before .before .before .before .before .before .before .before .before .before .before .before .before .before .if2 .left)) (le-ltb _ _ (c .before .before .before .before .before .before .before .before .before .before .before .before .before .before .before .if3 .left)) (sym (c .before .before .before .before .before .before .before .before .before .before .before .before .before .bad-time .ensures t) ∙ c .before .before .before .before .before .before .before .before .before .before .before .before .if4 .left) (sym (c .before .before .before .before .before .before .before .before .before .before .down .ensures t) ∙ c .before .before .before .before .before .before .before .before .before .if5 .left)
-    (rw (c .before .before .before .before .before .before .before .own-identity .ensures, c .before .before .before .before .before .before .before .before .read-head .ensures) at (c .before .before .before .before .heed .ensures))
+    (sym (c .before .before .before .before .before .before .before .before .before .before .before .before .before .before .before .before .before .no-link .ensures t) ∙ c .before .before .before .before .before .before .before .before .before .before .before .before .before .before .before .before .if1 .left) (le-ltb _ _ (c .before .before .before .before .before .before .before .before .before .before .before .before .before .before .before .if2 .left)) (le-ltb _ _ (c .before .before .before .before .before .before .before .before .before .before .before .before .before .before .if3 .left)) (sym (c .before .before .before .before .before .before .before .before .before .before .before .before .bad-time .ensures t) ∙ c .before .before .before .before .before .before .before .before .before .before .before .if4 .left) (sym (c .before .before .before .before .before .before .before .before .before .down .ensures t) ∙ c .before .before .before .before .before .before .before .before .if5 .left)
+    (rw (c .before .before .before .before .before .before .before .own-identity .ensures) at (c .before .before .before .before .judged .ensures))
 
 pub packet-spec : {M : Type 1} → statement M
 packet-spec =
@@ -148,9 +145,8 @@ packet-spec =
     down-requires
     same-length-5
     returns-5
-    read-head-requires
     own-identity-requires
-    heed-requires
+    judged-requires
     same-length-6
     same-length-7
     returns-6)

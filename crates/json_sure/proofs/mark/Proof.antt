@@ -7,6 +7,7 @@ use native.Mathlib.Omega.{arith}
 use borrow.Author.Needs.{needs}
 use lib.ListN.{length, drop}
 use denote.Ref.{now}
+use Rattle.json_character.proofs.Laws.{at-plain}
 use Rattle.json_text.specs.Decoded.{decoded}
 use Rattle.json_text.proofs.Texts.{one-in}
 use Rattle.json_sure.specs.Sure.{markRead}
@@ -23,47 +24,75 @@ abbrev μ-loop : tie.MeasureT-loop
 loop-holds : tie.Need-loop-holds Inv-loop μ-loop
 loop-holds c = (omega arith, refl)
 
-step-requires : tie.Need-step-requires Inv-loop μ-loop
-step-requires c κs = search needs
+shared-slice-read-b : tie.Need-shared-slice-read-b Inv-loop μ-loop
+shared-slice-read-b c = search needs
 
-enum-known-c : tie.Need-enum-known-c Inv-loop μ-loop
-enum-known-c c = search needs
+is-plain-requires : tie.Need-is-plain-requires Inv-loop μ-loop
+is-plain-requires c κs = search needs
 
 mul-h : tie.Need-mul-h Inv-loop μ-loop
 mul-h c = omega arith
 
 cast-h : tie.Need-cast-h Inv-loop μ-loop
-cast-h c = search needs
+cast-h c = omega (arith, c .before .before .shared-slice-known2 .given (c .before .before .before .before .loop .i))
 
 add-h : tie.Need-add-h Inv-loop μ-loop
-add-h c = omega arith
+add-h c = omega (arith, c .before .before .shared-slice-known2 .given (c .before .before .before .before .loop .i))
 
 add-i : tie.Need-add-i Inv-loop μ-loop
-add-i c =
-    let l = c .before .before .before .before in
-    let s = now (l .before .before .args .s) in
-    let e = sym (c .before .c .given .1) ∙ c .before .before .before .step .ensures in
-    omega (arith, one-in s (l .loop .i) _ _ e)
-
-add-i-2 : tie.Need-add-i-2 Inv-loop μ-loop
-add-i-2 c =
-    let l = c .before .before .before .before in
-    let s = now (l .before .before .args .s) in
-    let e = sym (c .before .c .given .1) ∙ c .before .before .before .step .ensures in
-    omega (arith, one-in s (l .loop .i) _ _ e)
+add-i c = omega arith
 
 loop-less : tie.Need-loop-less Inv-loop μ-loop
-loop-less c =
-    let l = c .before .before .before .before in
-    let s = now (l .before .before .args .s) in
-    let e = sym (c .before .c .given .1) ∙ c .before .before .before .step .ensures in
-    omega (arith, one-in s (l .loop .i) _ _ e)
+loop-less c = omega arith
 
 loop-again : tie.Need-loop-again Inv-loop μ-loop
 loop-again c =
     let l = c .before .before .before .before in
     let s = now (l .before .before .args .s) in
-    let e = sym (c .before .c .given .1) ∙ c .before .before .before .step .ensures in
+    let e = sym (at-plain s (l .loop .i) (sym (c .before .is-plain .ensures) ∙ c .if2 .taken)) in
+    (mod-lt _ (omega arith), l .loop .inv .1 ∙ mark-one s (l .loop .i) (l .loop .h) _ _ e)
+
+any-requires : tie.Need-any-requires Inv-loop μ-loop
+any-requires c κs = search needs
+
+enum-known-c : tie.Need-enum-known-c Inv-loop μ-loop
+enum-known-c c = search needs
+
+mul-h-2 : tie.Need-mul-h-2 Inv-loop μ-loop
+mul-h-2 c = omega arith
+
+cast-h-2 : tie.Need-cast-h-2 Inv-loop μ-loop
+cast-h-2 c = search needs
+
+add-h-2 : tie.Need-add-h-2 Inv-loop μ-loop
+add-h-2 c = omega arith
+
+add-i-2 : tie.Need-add-i-2 Inv-loop μ-loop
+add-i-2 c =
+    let l = c .before .before .before .before .before in
+    let s = now (l .before .before .args .s) in
+    let e = sym (c .before .c .given .1) ∙ c .before .before .before .any .ensures in
+    omega (arith, one-in s (l .loop .i) _ _ e)
+
+add-i-3 : tie.Need-add-i-3 Inv-loop μ-loop
+add-i-3 c =
+    let l = c .before .before .before .before .before in
+    let s = now (l .before .before .args .s) in
+    let e = sym (c .before .c .given .1) ∙ c .before .before .before .any .ensures in
+    omega (arith, one-in s (l .loop .i) _ _ e)
+
+loop-less-2 : tie.Need-loop-less-2 Inv-loop μ-loop
+loop-less-2 c =
+    let l = c .before .before .before .before .before in
+    let s = now (l .before .before .args .s) in
+    let e = sym (c .before .c .given .1) ∙ c .before .before .before .any .ensures in
+    omega (arith, one-in s (l .loop .i) _ _ e)
+
+loop-again-2 : tie.Need-loop-again-2 Inv-loop μ-loop
+loop-again-2 c =
+    let l = c .before .before .before .before .before in
+    let s = now (l .before .before .args .s) in
+    let e = sym (c .before .c .given .1) ∙ c .before .before .before .any .ensures in
     (mod-lt _ (omega arith), l .loop .inv .1 ∙ mark-one s (l .loop .i) (l .loop .h) _ _ e)
 
 enum-told : tie.Need-enum-told Inv-loop μ-loop
@@ -71,9 +100,9 @@ enum-told c = search needs
 
 returns : tie.Need-returns Inv-loop μ-loop
 returns c =
-    let l = c .before .before .before in
+    let l = c .before .before .before .before in
     let s = now (l .before .before .args .s) in
-    let e = sym (c .enum-told .given .1) ∙ c .before .before .step .ensures in
+    let e = sym (c .enum-told .given .1) ∙ c .before .before .any .ensures in
     sym (l .loop .inv .1 ∙ mark-close s (l .loop .i) (l .loop .h) e)
 
 enum-told-2 : tie.Need-enum-told-2 Inv-loop μ-loop
@@ -81,9 +110,9 @@ enum-told-2 c = search needs
 
 returns-2 : tie.Need-returns-2 Inv-loop μ-loop
 returns-2 c =
-    let l = c .before .before .before in
+    let l = c .before .before .before .before in
     let s = now (l .before .before .args .s) in
-    let e = sym (c .enum-told2 .given .1) ∙ c .before .before .step .ensures in
+    let e = sym (c .enum-told2 .given .1) ∙ c .before .before .any .ensures in
     sym (l .loop .inv .1 ∙ mark-bad s (l .loop .i) (l .loop .h) e)
 
 pub mark-spec : {M : Type 1} → statement M
@@ -93,15 +122,23 @@ mark-spec =
     Inv-loop
     μ-loop
     loop-holds
-    step-requires
-    enum-known-c
+    shared-slice-read-b
+    is-plain-requires
     mul-h
     cast-h
     add-h
     add-i
-    add-i-2
     loop-less
     loop-again
+    any-requires
+    enum-known-c
+    mul-h-2
+    cast-h-2
+    add-h-2
+    add-i-2
+    add-i-3
+    loop-less-2
+    loop-again-2
     enum-told
     returns
     enum-told-2

@@ -22,7 +22,7 @@ same-length-2 c = search needs
 
 returns : tie.Need-returns
 returns c =
-    let a = c .before .before .before .before .before .before .before .before .before .before .before .before .args in
+    let a = c .before .before .before .before .before .before .before .before .before .before .before .before .before .args in
     let t = tableOf (a .t .now) in
     let ws = a .w .now in
     like t ws (a .l) (a .time) (a .id) (a .received .bytes) (λ (x : AlarmFields). alarmTaken (siteOf ws t) (a .l) (a .time) (a .id) (a .received .bytes) x) (sym (c .before .before .before .before .before .before .before .read-alarm .ensures)) (c .before .before .before .before .judge .ensures)

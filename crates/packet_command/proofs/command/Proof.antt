@@ -38,7 +38,7 @@ same-length-2 c = search needs
 
 returns : tie.Need-returns
 returns c =
-    let a = c .before .before .before .before .before .before .before .before .before .before .before .before .before .before .args in
+    let a = c .before .before .before .before .before .before .before .before .before .before .before .before .before .before .before .args in
     let t = tableOf (a .t .now) in
     let ws = a .w .now in
     let f = c .before .before .before .before .before .before .before .before .before .read-command .result in
@@ -54,7 +54,7 @@ same-length-4 c = search needs
 
 returns-2 : tie.Need-returns-2
 returns-2 c =
-    let a = c .before .before .before .before .before .before .before .before .before .before .before .before .before .before .args in
+    let a = c .before .before .before .before .before .before .before .before .before .before .before .before .before .before .before .args in
     let t = tableOf (a .t .now) in
     let ws = a .w .now in
     let f = c .before .before .before .before .before .before .before .before .before .read-command .result in
@@ -70,7 +70,7 @@ same-length-6 c = search needs
 
 returns-3 : tie.Need-returns-3
 returns-3 c =
-    let a = c .before .before .before .before .before .before .before .before .before .before .before .before .before .before .args in
+    let a = c .before .before .before .before .before .before .before .before .before .before .before .before .before .before .before .args in
     let t = tableOf (a .t .now) in
     let ws = a .w .now in
     let f = c .before .before .before .before .before .before .before .before .before .read-command .result in

@@ -1,5 +1,5 @@
 use Prim.Native.Nat.{_≤_}
-use mathlib.Core.Path.{sym, subst}
+use mathlib.Core.Path.{refl, sym, subst}
 use native.Mathlib.Omega.{arith}
 use Rattle.read_commands.specs.declared.CommandFields.{CommandFields}
 use Rattle.read_commands.proofs.Kept.{kept}
@@ -9,8 +9,11 @@ use borrow.Author.Needs.{needs}
 use Rattle.packet_command.proofs.hand_over.Statement.{statement}
 use Rattle.packet_command.proofs.hand_over.Tie as tie
 
+slice-aggregate-read-command : tie.Need-slice-aggregate-read-command
+slice-aggregate-read-command c = refl
+
 read-command-requires : tie.Need-read-command-requires
-read-command-requires c κs = search needs
+read-command-requires c κs = record { finds = λ h. absurd (h refl) }
 
 component-requires : tie.Need-component-requires
 component-requires c κs = search needs
@@ -20,7 +23,7 @@ enum-known-component c = search needs
 
 hand-requires : tie.Need-hand-requires
 hand-requires c κs =
-    let a = c .before .before .before .before .before .before .before .before .before .before .before .args in
+    let a = c .before .before .before .before .before .before .before .before .before .before .before .before .args in
     let f = c .before .before .before .before .before .before .before .read-command in
     let m = subst (λ (x : CommandFields). x .count ≤ 16) (sym (f .ensures)) (kept .most (a .packet .now)) in
     (search needs, (search needs, omega (arith, m)))
@@ -33,18 +36,19 @@ same-length c = search needs
 
 returns : tie.Need-returns
 returns c =
-    let a = c .before .before .before .before .before .before .before .before .before .before .before .before .before .before .args in
+    let a = c .before .before .before .before .before .before .before .before .before .before .before .before .before .before .before .args in
     known-handed (tableOf (a .t .now)) (a .packet .now) (c .before .before .before .before .before .before .before .before .before .before .read-command .ensures) (c .before .before .before .before .before .before .before .component .ensures) _ (a .commands .now) (c .before .before .before .before .before .component2 .given .1) (c .before .before .hand .ensures)
 
 returns-2 : tie.Need-returns-2
 returns-2 c =
-    let a = c .before .before .before .before .before .before .before .before .before .args in
+    let a = c .before .before .before .before .before .before .before .before .before .before .args in
     unknown-handed (tableOf (a .t .now)) (a .packet .now) (c .before .before .before .before .before .read-command .ensures) (c .before .before .component .ensures) (a .commands .now) (c .enum-told .given .1)
 
 pub hand-over-spec : {M : Type 1} → statement M
 hand-over-spec =
     tie.close
     (tie.spec
+    slice-aggregate-read-command
     read-command-requires
     component-requires
     enum-known-component

@@ -7,13 +7,16 @@ use Rattle.read_commands.proofs.commands_of.Statement.{statement}
 use Rattle.read_commands.proofs.commands_of.Tie as tie
 use Rattle.read_commands.proofs.commands_of.Reads as reads
 use Rattle.read_commands.proofs.commands_of.Lts as lts
-use Rattle.read_head.proofs.lookup.Reads as lookup-reads
+use Rattle.json_find.proofs.member_of.Reads as member-of-reads
 use Rattle.read_lists.proofs.begins.Reads as begins-reads
 use Rattle.read_commands.proofs.no_commands.Reads as no-commands-reads
 use Rattle.read_commands.proofs.commands_in.Reads as commands-in-reads
 
-lookup-requires : tie.Need-lookup-requires
-lookup-requires c κs = search needs
+slice-aggregate-member-of : tie.Need-slice-aggregate-member-of
+slice-aggregate-member-of c = search needs
+
+member-of-requires : tie.Need-member-of-requires
+member-of-requires c κs = search needs
 
 enum-told : tie.Need-enum-told
 enum-told c = search needs
@@ -34,19 +37,20 @@ no-commands-requires-2 : tie.Need-no-commands-requires-2
 no-commands-requires-2 c κs = search needs
 
 returns : tie.Need-returns
-returns c = c .no-commands .ensures ∙ ap commandsOf (sym (list-missing _ _ _ (rw (c .before .enum-told .given .1) at (c .before .before .before .lookup .ensures))))
+returns c = c .no-commands .ensures ∙ ap commandsOf (sym (list-missing _ _ _ _ (rw (c .before .enum-told .given .1) at (c .before .before .before .member-of .ensures))))
 
 returns-2 : tie.Need-returns-2
-returns-2 c = c .commands-in .ensures ∙ a-list (λ l x. pushCommand l (commandOfItem x)) (noCommands Good) (noCommands Missing) (noCommands Bad) _ (c .before .before .begins .ensures) (c .before .if1 .taken) ∙ ap commandsOf (sym (list-there _ _ _ _ (rw (c .before .before .before .before .p .given .1) at (c .before .before .before .before .before .before .lookup .ensures))))
+returns-2 c = c .commands-in .ensures ∙ a-list (λ l x. pushCommand l (commandOfItem x)) (noCommands Good) (noCommands Missing) (noCommands Bad) _ (c .before .before .begins .ensures) (c .before .if1 .taken) ∙ ap commandsOf (sym (list-there _ _ _ _ _ (rw (c .before .before .before .before .p .given .1) at (c .before .before .before .before .before .before .member-of .ensures))))
 
 returns-3 : tie.Need-returns-3
-returns-3 c = c .no-commands2 .ensures ∙ no-list (λ l x. pushCommand l (commandOfItem x)) (noCommands Good) (noCommands Missing) (noCommands Bad) _ (c .before .before .begins .ensures) (c .before .if1 .left) ∙ ap commandsOf (sym (list-there _ _ _ _ (rw (c .before .before .before .before .p .given .1) at (c .before .before .before .before .before .before .lookup .ensures))))
+returns-3 c = c .no-commands2 .ensures ∙ no-list (λ l x. pushCommand l (commandOfItem x)) (noCommands Good) (noCommands Missing) (noCommands Bad) _ (c .before .before .begins .ensures) (c .before .if1 .left) ∙ ap commandsOf (sym (list-there _ _ _ _ _ (rw (c .before .before .before .before .p .given .1) at (c .before .before .before .before .before .before .member-of .ensures))))
 
 pub commands-of-spec : {M : Type 1} → statement M
 commands-of-spec =
     tie.close
     (tie.spec
-    lookup-requires
+    slice-aggregate-member-of
+    member-of-requires
     enum-told
     no-commands-requires
     enum-known-p

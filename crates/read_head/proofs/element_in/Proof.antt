@@ -5,43 +5,36 @@ use Rattle.read_head.proofs.element_in.Statement.{statement}
 use Rattle.read_head.proofs.element_in.Tie as tie
 use Rattle.read_head.proofs.element_in.Reads as reads
 use Rattle.read_head.proofs.element_in.Lts as lts
-use Rattle.read_head.proofs.lookup.Reads as lookup-reads
+use Rattle.json_find.proofs.member.Reads as member-reads
 use Rattle.read_head.proofs.unusable.Reads as unusable-reads
 use Rattle.read_head.proofs.value_at.Reads as value-at-reads
 
--- src/lib.rt:148:9
-lookup-requires : tie.Need-lookup-requires
-lookup-requires c κs = search needs
+member-requires : tie.Need-member-requires
+member-requires c κs = search needs
 
--- src/lib.rt:150:22
 enum-told : tie.Need-enum-told
 enum-told c = search needs
 
--- src/lib.rt:150:22
 unusable-requires : tie.Need-unusable-requires
 unusable-requires c κs = search needs
 
--- src/lib.rt:151:19
 enum-known-p : tie.Need-enum-known-p
 enum-known-p c = search needs
 
--- src/lib.rt:151:25
 value-at-requires : tie.Need-value-at-requires
 value-at-requires c κs = search needs
 
--- src/lib.rt:145:1
 returns : tie.Need-returns
-returns c = c .unusable .ensures ∙ missing _ _ _ (rw (c .before .enum-told .given .1) at (c .before .before .before .lookup .ensures))
+returns c = c .unusable .ensures ∙ missing _ _ _ _ (rw (c .before .enum-told .given .1) at (c .before .before .before .member .ensures))
 
--- src/lib.rt:145:1
 returns-2 : tie.Need-returns-2
-returns-2 c = c .value-at .ensures ∙ there _ _ _ _ (rw (c .before .before .p .given .1) at (c .before .before .before .before .lookup .ensures))
+returns-2 c = c .value-at .ensures ∙ there _ _ _ _ _ (rw (c .before .before .p .given .1) at (c .before .before .before .before .member .ensures))
 
 pub element-in-spec : {M : Type 1} → statement M
 element-in-spec =
     tie.close
     (tie.spec
-    lookup-requires
+    member-requires
     enum-told
     unusable-requires
     enum-known-p

@@ -10,15 +10,12 @@ use Rattle.read_head.proofs.label_in.Lts as lts
 use Rattle.read_head.proofs.element_in.Reads as element-in-reads
 use Rattle.read_head.proofs.label_of.Reads as label-of-reads
 
--- src/lib.rt:298:14
 element-in-requires : tie.Need-element-in-requires
 element-in-requires c κs = search needs
 
--- src/lib.rt:298:5
 label-of-requires : tie.Need-label-of-requires
 label-of-requires c κs = search needs
 
--- src/lib.rt:295:1
 returns : tie.Need-returns
 returns c = c .label-of .ensures ∙ ap gotLabel (ap wordOf (c .before .element-in .ensures) ∙ says (found-at _ _))
 

@@ -9,35 +9,37 @@ use Rattle.read_lists.proofs.entry_of.Reads as entry-of-reads
 use Rattle.read_lists.proofs.flag_in.Reads as flag-in-reads
 use Rattle.read_lists.proofs.seconds_in.Reads as seconds-in-reads
 
--- src/lib.rt:474:9
+slice-aggregate-label-in : tie.Need-slice-aggregate-label-in
+slice-aggregate-label-in c = search needs
+
 label-in-requires : tie.Need-label-in-requires
 label-in-requires c κs = search needs
 
--- src/lib.rt:475:9
+slice-aggregate-label-in-2 : tie.Need-slice-aggregate-label-in-2
+slice-aggregate-label-in-2 c = search needs
+
 label-in-requires-2 : tie.Need-label-in-requires-2
 label-in-requires-2 c κs = search needs
 
--- src/lib.rt:476:9
 seconds-in-requires : tie.Need-seconds-in-requires
 seconds-in-requires c κs = search needs
 
--- src/lib.rt:477:23
 flag-in-requires : tie.Need-flag-in-requires
 flag-in-requires c κs = search needs
 
--- src/lib.rt:477:5
 entry-of-requires : tie.Need-entry-of-requires
 entry-of-requires c κs = search needs
 
--- src/lib.rt:471:1
 returns : tie.Need-returns
-returns c = c .entry-of .ensures ∙ rw (c .before .before .before .before .label-in .ensures, c .before .before .before .label-in2 .ensures, c .before .before .seconds-in .ensures, c .before .flag-in .ensures)
+returns c = c .entry-of .ensures ∙ rw (c .before .before .before .before .before .label-in .ensures, c .before .before .before .label-in2 .ensures, c .before .before .seconds-in .ensures, c .before .flag-in .ensures)
 
 pub full-entry-spec : {M : Type 1} → statement M
 full-entry-spec =
     tie.close
     (tie.spec
+    slice-aggregate-label-in
     label-in-requires
+    slice-aggregate-label-in-2
     label-in-requires-2
     seconds-in-requires
     flag-in-requires

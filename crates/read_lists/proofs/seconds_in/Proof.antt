@@ -10,17 +10,17 @@ use Rattle.read_lists.proofs.seconds_in.Lts as lts
 use Rattle.read_head.proofs.element_in.Reads as element-in-reads
 use Rattle.read_lists.proofs.seconds_of.Reads as seconds-of-reads
 
--- src/lib.rt:401:16
+slice-aggregate-element-in : tie.Need-slice-aggregate-element-in
+slice-aggregate-element-in c = search needs
+
 element-in-requires : tie.Need-element-in-requires
 element-in-requires c κs = search needs
 
--- src/lib.rt:401:5
 seconds-of-requires : tie.Need-seconds-of-requires
 seconds-of-requires c κs = search needs
 
--- src/lib.rt:398:1
 returns : tie.Need-returns
 returns c = c .seconds-of .ensures ∙ ap gotSeconds (ap wordOf (c .before .element-in .ensures) ∙ says (found-at _ _))
 
 pub seconds-in-spec : {M : Type 1} → statement M
-seconds-in-spec = tie.close (tie.spec element-in-requires seconds-of-requires returns)
+seconds-in-spec = tie.close (tie.spec slice-aggregate-element-in element-in-requires seconds-of-requires returns)

@@ -7,56 +7,50 @@ use Rattle.read_lists.proofs.versions_of.Statement.{statement}
 use Rattle.read_lists.proofs.versions_of.Tie as tie
 use Rattle.read_lists.proofs.versions_of.Reads as reads
 use Rattle.read_lists.proofs.versions_of.Lts as lts
-use Rattle.read_head.proofs.lookup.Reads as lookup-reads
+use Rattle.json_find.proofs.member_of.Reads as member-of-reads
 use Rattle.read_lists.proofs.begins.Reads as begins-reads
 use Rattle.read_lists.proofs.no_versions.Reads as no-versions-reads
 use Rattle.read_lists.proofs.versions_in.Reads as versions-in-reads
 
--- src/lib.rt:237:9
-lookup-requires : tie.Need-lookup-requires
-lookup-requires c κs = search needs
+slice-aggregate-member-of : tie.Need-slice-aggregate-member-of
+slice-aggregate-member-of c = search needs
 
--- src/lib.rt:239:34
+member-of-requires : tie.Need-member-of-requires
+member-of-requires c κs = search needs
+
 enum-told : tie.Need-enum-told
 enum-told c = search needs
 
--- src/lib.rt:239:22
 no-versions-requires : tie.Need-no-versions-requires
 no-versions-requires c κs = search needs
 
--- src/lib.rt:240:19
 enum-known-p : tie.Need-enum-known-p
 enum-known-p c = search needs
 
--- src/lib.rt:241:16
 begins-requires : tie.Need-begins-requires
 begins-requires c κs = search needs
 
--- src/lib.rt:242:17
 versions-in-requires : tie.Need-versions-in-requires
 versions-in-requires c κs = search needs
 
--- src/lib.rt:244:17
 no-versions-requires-2 : tie.Need-no-versions-requires-2
 no-versions-requires-2 c κs = search needs
 
--- src/lib.rt:234:1
 returns : tie.Need-returns
-returns c = c .no-versions .ensures ∙ ap versionsOf (sym (list-missing _ _ _ (rw (c .before .enum-told .given .1) at (c .before .before .before .lookup .ensures))))
+returns c = c .no-versions .ensures ∙ ap versionsOf (sym (list-missing _ _ _ _ (rw (c .before .enum-told .given .1) at (c .before .before .before .member-of .ensures))))
 
--- src/lib.rt:234:1
 returns-2 : tie.Need-returns-2
-returns-2 c = c .versions-in .ensures ∙ a-list (λ l x. pushVersion l (versionOfItem x)) (noVersions Good) (noVersions Missing) (noVersions Bad) _ (c .before .before .begins .ensures) (c .before .if1 .taken) ∙ ap versionsOf (sym (list-there _ _ _ _ (rw (c .before .before .before .before .p .given .1) at (c .before .before .before .before .before .before .lookup .ensures))))
+returns-2 c = c .versions-in .ensures ∙ a-list (λ l x. pushVersion l (versionOfItem x)) (noVersions Good) (noVersions Missing) (noVersions Bad) _ (c .before .before .begins .ensures) (c .before .if1 .taken) ∙ ap versionsOf (sym (list-there _ _ _ _ _ (rw (c .before .before .before .before .p .given .1) at (c .before .before .before .before .before .before .member-of .ensures))))
 
--- src/lib.rt:234:1
 returns-3 : tie.Need-returns-3
-returns-3 c = c .no-versions2 .ensures ∙ no-list (λ l x. pushVersion l (versionOfItem x)) (noVersions Good) (noVersions Missing) (noVersions Bad) _ (c .before .before .begins .ensures) (c .before .if1 .left) ∙ ap versionsOf (sym (list-there _ _ _ _ (rw (c .before .before .before .before .p .given .1) at (c .before .before .before .before .before .before .lookup .ensures))))
+returns-3 c = c .no-versions2 .ensures ∙ no-list (λ l x. pushVersion l (versionOfItem x)) (noVersions Good) (noVersions Missing) (noVersions Bad) _ (c .before .before .begins .ensures) (c .before .if1 .left) ∙ ap versionsOf (sym (list-there _ _ _ _ _ (rw (c .before .before .before .before .p .given .1) at (c .before .before .before .before .before .before .member-of .ensures))))
 
 pub versions-of-spec : {M : Type 1} → statement M
 versions-of-spec =
     tie.close
     (tie.spec
-    lookup-requires
+    slice-aggregate-member-of
+    member-of-requires
     enum-told
     no-versions-requires
     enum-known-p

@@ -8,6 +8,9 @@ use Rattle.store_pool.proofs.issue.issue.Tie as tie
 returns : tie.Need-returns
 returns c = pool-turns _ _ _ (issue-none (c .before .before .before .args .w .now) (c .before .before .before .args .e) (c .if1 .taken))
 
+free-requires : tie.Need-free-requires
+free-requires c κs = search needs
+
 loser-for-requires : tie.Need-loser-for-requires
 loser-for-requires c κs = search needs
 
@@ -18,7 +21,11 @@ same-length : tie.Need-same-length
 same-length c = search needs
 
 returns-2 : tie.Need-returns-2
-returns-2 c = pool-turns _ _ _ (issue-full (c .before .before .before .before .before .before .before .before .args .w .now) (c .before .before .before .before .before .before .before .before .args .e) (c .before .before .before .loser-for .result) (c .before .room .result) (c .before .before .before .before .before .if1 .left) (c .before .before .before .loser-for .ensures) (c .before .room .ensures) (c .if2 .taken))
+returns-2 c =
+    let loser = c .before .before .before in
+    let test = loser .before .before .before .before in
+    let a = test .before .before .before .args in
+    pool-turns _ _ _ (issue-full (a .w .now) (a .e) (loser .loser-for .result) (c .before .room .result) (test .if1 .left) (loser .loser-for .ensures) (c .before .room .ensures) (c .if2 .taken))
 
 put-place-requires : tie.Need-put-place-requires
 put-place-requires c κs = search needs
@@ -31,14 +38,20 @@ same-length-2 c = search needs
 
 returns-3 : tie.Need-returns-3
 returns-3 c =
-    let a = c .before .before .before .before .before .before .before .before .before .before .before .before .before .before .before .before .args in
-    pool-turns _ _ _ (issue-one (a .w .now) (a .e) (c .before .before .before .before .before .before .before .before .before .before .before .loser-for .result) (c .before .before .before .before .before .before .before .before .before .room .result) (c .before .before .before .before .before .before .before .before .before .before .before .before .before .if1 .left) (c .before .before .before .before .before .before .before .before .before .before .before .loser-for .ensures) (c .before .before .before .before .before .before .before .before .before .room .ensures) (c .before .before .before .before .before .before .put-place .last .0) (c .before .before .lose .last .0) (c .before .before .before .before .before .before .before .before .if2 .left) (c .before .before .before .before .before .before .put-place .ensures) (c .before .before .lose .ensures))
+    let lose = c .before .before in
+    let put = lose .before .before .before .before in
+    let room = put .before .before .before in
+    let loser = room .before .before in
+    let test = loser .before .before .before .before in
+    let a = test .before .before .before .args in
+    pool-turns _ _ _ (issue-one (a .w .now) (a .e) (loser .loser-for .result) (room .room .result) (test .if1 .left) (loser .loser-for .ensures) (room .room .ensures) (put .put-place .last .0) (lose .lose .last .0) (put .before .before .if2 .left) (put .put-place .ensures) (lose .lose .ensures))
 
 pub issue-spec : {M : Type 1} → statement M
 issue-spec =
     tie.close
     (tie.spec
     returns
+    free-requires
     loser-for-requires
     room-requires
     same-length

@@ -5,6 +5,7 @@ use mathlib.Core.Path.{ap}
 use Rattle.pool.specs.Shares.{loser}
 use Rattle.pool.specs.declared.Loser.the-variants.{Owner}
 use borrow.Author.Needs.{needs}
+use Rattle.store_pool.proofs.PlaceLaws.{some-free, none-free}
 use Rattle.store_pool.proofs.issue.loser_for.Statement.{statement}
 use Rattle.store_pool.proofs.issue.loser_for.Tie as tie
 
@@ -15,14 +16,12 @@ returns : tie.Need-returns
 unfolding loser
 returns c = rw (le-leb _ _ (rw (c .before .holds .ensures) at (c .if1 .taken)))
 
-number-requires : tie.Need-number-requires
-number-requires c κs = search needs
-
 returns-2 : tie.Need-returns-2
 unfolding loser
 returns-2 c =
-    let a = lt-leb _ _ (rw (c .before .before .before .holds .ensures) at (c .before .before .if1 .left)) in
-    rw (a, lt-ltb _ _ (rw (c .before .number .ensures) at (c .if2 .taken)))
+    let held = c .before .before in
+    let a = lt-leb _ _ (rw (held .holds .ensures) at (c .before .if1 .left)) in
+    rw (a, some-free (held .before .before .pre .1) (c .if2 .taken))
 
 fullest-of-requires : tie.Need-fullest-of-requires
 fullest-of-requires c κs = search needs
@@ -30,27 +29,19 @@ fullest-of-requires c κs = search needs
 returns-3 : tie.Need-returns-3
 unfolding loser
 returns-3 c =
-    let held = c .before .before .before .before .before .holds .ensures in
-    let a = lt-leb _ _ (rw held at (c .before .before .before .before .if1 .left)) in
-    let b = le-ltb _ _ (rw (c .before .before .before .number .ensures) at (c .before .before .if2 .left)) in
-    rw (a, b, lt-ltb _ _ (rw held at (c .before .if3 .taken))) (ap Owner (c .fullest-of .ensures))
+    let held = c .before .before .before .before in
+    let a = lt-leb _ _ (rw (held .holds .ensures) at (c .before .before .before .if1 .left)) in
+    let b = none-free (held .before .before .pre .1) (c .before .before .if2 .left) in
+    rw (a, b, lt-ltb _ _ (rw (held .holds .ensures) at (c .before .if3 .taken))) (ap Owner (c .fullest-of .ensures))
 
 returns-4 : tie.Need-returns-4
 unfolding loser
 returns-4 c =
-    let held = c .before .before .before .before .holds .ensures in
-    let a = lt-leb _ _ (rw held at (c .before .before .before .if1 .left)) in
-    let b = le-ltb _ _ (rw (c .before .before .number .ensures) at (c .before .if2 .left)) in
-    rw (a, b, le-ltb _ _ (rw held at (c .if3 .left)))
+    let held = c .before .before .before in
+    let a = lt-leb _ _ (rw (held .holds .ensures) at (c .before .before .if1 .left)) in
+    let b = none-free (held .before .before .pre .1) (c .before .if2 .left) in
+    rw (a, b, le-ltb _ _ (rw (held .holds .ensures) at (c .if3 .left)))
 
 pub loser-for-spec : {M : Type 1} → statement M
 loser-for-spec =
-    tie.close
-    (tie.spec
-    holds-requires
-    returns
-    number-requires
-    returns-2
-    fullest-of-requires
-    returns-3
-    returns-4)
+    tie.close (tie.spec holds-requires returns returns-2 fullest-of-requires returns-3 returns-4)

@@ -8,23 +8,19 @@ use Rattle.store_pool.proofs.issue.room.Tie as tie
 enum-told : tie.Need-enum-told
 enum-told c = search needs
 
-first-requires : tie.Need-first-requires
-first-requires c κs = search needs
-
 enum-known-who : tie.Need-enum-known-who
 enum-known-who c = search needs
 
-first-requires-2 : tie.Need-first-requires-2
-first-requires-2 c κs = search needs
+first-requires : tie.Need-first-requires
+first-requires c κs = search needs
 
 returns : tie.Need-returns
 unfolding roomOf
-returns c = rw (c .before .enum-told .given .1) (c .first .ensures)
+returns c = rw (c .enum-told .given .1) (c .before .before .before .pre .1)
 
 returns-2 : tie.Need-returns-2
 unfolding roomOf
-returns-2 c = rw (c .before .before .who .given .1) (c .first2 .ensures)
+returns-2 c = rw (c .before .before .who .given .1) (c .first .ensures)
 
 pub room-spec : {M : Type 1} → statement M
-room-spec =
-    tie.close (tie.spec enum-told first-requires enum-known-who first-requires-2 returns returns-2)
+room-spec = tie.close (tie.spec enum-told enum-known-who first-requires returns returns-2)

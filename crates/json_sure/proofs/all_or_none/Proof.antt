@@ -1,0 +1,14 @@
+-- `json_sure::all_or_none` meets its contract.
+-- Assumes nothing.
+use Rattle.basis.proofs.Tests.{tests}
+use Rattle.json_sure.proofs.all_or_none.Statement.{statement}
+use Rattle.json_sure.proofs.all_or_none.Tie as tie
+
+returns : tie.Need-returns
+returns c = search tests
+
+returns-2 : tie.Need-returns-2
+returns-2 c = search tests
+
+pub all-or-none-spec : {M : Type 1} → statement M
+all-or-none-spec = tie.close (tie.spec returns returns-2)

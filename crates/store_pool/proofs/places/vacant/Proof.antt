@@ -1,0 +1,56 @@
+-- `store_pool::places::vacant` meets its contract.
+-- Assumes nothing.
+use Prim.Native.Nat.{_≤_, _-_}
+use mathlib.Core.Path.{sym, _∙_}
+use native.Mathlib.Omega.{arith}
+use borrow.Author.Needs.{needs}
+use Rattle.store_site.specs.Layout.{placesIn}
+use Rattle.store_pool.proofs.PlaceLaws.{Taken, taken-next}
+use Rattle.store_pool.proofs.places.vacant.Statement.{statement}
+use Rattle.store_pool.proofs.places.vacant.Tie as tie
+
+abbrev Inv-loop : tie.InvT-loop
+Inv-loop w i₀ i = (i ≤ 128) × Taken (placesIn w) i
+
+abbrev μ-loop : tie.MeasureT-loop
+μ-loop w i₀ i = 128 - i
+
+loop-holds : tie.Need-loop-holds Inv-loop μ-loop
+loop-holds c = (omega arith, λ j g. absurd (omega arith))
+
+is-free-requires : tie.Need-is-free-requires Inv-loop μ-loop
+is-free-requires c κs = search needs
+
+returns : tie.Need-returns Inv-loop μ-loop
+returns c =
+    let l = c .before .before .before .loop in
+    record { most = l .inv .0; taken = l .inv .1; free = λ h. sym (c .before .is-free .ensures) ∙ c .if1 .taken }
+
+add-i : tie.Need-add-i Inv-loop μ-loop
+add-i c = omega arith
+
+loop-less : tie.Need-loop-less Inv-loop μ-loop
+loop-less c = omega arith
+
+loop-again : tie.Need-loop-again Inv-loop μ-loop
+loop-again c =
+    let l = c .before .before .before in
+    (omega arith, taken-next (placesIn (l .before .before .args .w .now)) (l .loop .i) (l .loop .inv .1) (sym (c .before .is-free .ensures) ∙ c .if1 .left))
+
+returns-2 : tie.Need-returns-2 Inv-loop μ-loop
+returns-2 c =
+    record { most = omega arith; taken = λ j g. c .before .loop .inv .1 j (omega arith); free = λ h. absurd (omega arith) }
+
+pub vacant-spec : {M : Type 1} → statement M
+vacant-spec =
+    tie.close
+    (tie.spec
+    Inv-loop
+    μ-loop
+    loop-holds
+    is-free-requires
+    returns
+    add-i
+    loop-less
+    loop-again
+    returns-2)
