@@ -7,7 +7,7 @@ use mathlib.Core.List.{List, [], _∷_, _++_, append-assoc, append-nil}
 use mathlib.Core.Logic.{⊎-elim}
 use native.Mathlib.Omega.{arith}
 use lib.Dec.{ltb}
-use lib.ListN.{length, drop, set, replicate, length-append}
+use lib.ListN.{length, getD, drop, set, replicate, length-append}
 use lib.Seq.{set-append-seam}
 use borrow.Author.Tests.{lt-ltb, le-ltb, le-leb, lt-leb, ltb-true, ltb-false}
 use Rattle.basis.specs.Pick.{pick, both}
@@ -15,11 +15,13 @@ use Rattle.basis.proofs.Cases.{lt-or-ge, picked}
 use Rattle.basis.proofs.Both.{both-false}
 use Rattle.json_character.specs.declared.Char.the-variants.{One, Close, Bad}
 use Rattle.json_text.specs.declared.Copied.{Copied}
-use Rattle.json_character.specs.Char.{charOf}
+use Rattle.json_character.specs.Char.{charOf, isPlain}
+use Rattle.json_character.proofs.Laws.{at-plain}
 use Rattle.json_text.specs.Decoded.{Parsed, push, decoded}
 use Rattle.json_text.specs.Decoded.Parsed.{ok, none}
 use Rattle.json_text.specs.Copied.{ascii, noCopy, copied, copyOf}
 use Rattle.json_text.proofs.Texts.{one, close, no-char}
+use Rattle.json_text.proofs.Runs.{plain-ascii}
 
 -- b holds k bytes, and the code points d follow
 unfoldable pub fill : ℕ → List ℕ → ℕ → List ℕ → Copied
@@ -59,7 +61,7 @@ module _ (n m : ℕ) (e : m ≡ roomFor n) where
   pub room-36 : m ≤ 36
   room-36 = rw e (picked (λ (j : ℕ). j ≤ 36) (ltb n 36) n 36 (λ h. omega (arith, ltb-true n 36 h)) (λ h. omega arith))
 
-  room-most : m ≤ n
+  pub room-most : m ≤ n
   room-most = rw e (picked (λ (j : ℕ). j ≤ n) (ltb n 36) n 36 (λ h. omega arith) (λ h. ltb-false n 36 h))
 
   room-all : (k : ℕ) → m ≤ k → k < n → 36 ≤ k
@@ -85,6 +87,9 @@ module _ (n m : ℕ) (e : m ≡ roomFor n) where
         sym (rw (one s i c w q) (other n b k (decoded (drop (i + (1 + w)) s)) c (omega arith) (omega arith) f))
 
 module _ (n : ℕ) (b : List ℕ) (k : ℕ) (s : List ℕ) (i : ℕ) where
+  pub copy-plain : isPlain (getD s i 0) ≡ true → k < n → k < 36 → fillOf n (set b k (getD s i 0)) (k + 1) (decoded (drop (i + 1) s)) ≡ fillOf n b k (decoded (drop i s))
+  copy-plain p h g = sym (rw (one s i (getD s i 0) 0 (sym (at-plain s i p))) (room n b k (decoded (drop (i + 1) s)) (getD s i 0) h g (plain-ascii _ p)))
+
   pub copy-close : Close ≡ charOf (drop i s) → fillOf n b k (decoded (drop i s)) ≡ record { length = k; bytes = b; ok = true }
   unfolding fill
   copy-close e = rw (close s i e)

@@ -66,6 +66,18 @@ run-ends s (suc n) i e r x = ⊎-elim (λ h. bool-cases (isPlain (getD s i 0)) (
     beyond : length s ≤ i → Ends s i (decoded (drop i s)) r
     beyond h = absurd (omega (arith, run-past s i h))
 
+-- each byte of a run is plain
+module _ (s : List ℕ) (i : ℕ) where
+  run-first : (n : ℕ) → n < run (drop i s) → (i < length s) × (isPlain (getD s i 0) ≡ true)
+  run-first n h = ⊎-elim (λ g. bool-cases (isPlain (getD s i 0)) (λ p. (g, p)) (λ p. absurd (omega (arith, run-stop s i g p)))) (λ g. absurd (omega (arith, run-past s i g))) (lt-or-ge i (length s))
+
+pub run-plain : (s : List ℕ) (n i : ℕ) → n < run (drop i s) → isPlain (getD s (i + n) 0) ≡ true
+run-plain s zero i h = rw (add-zero i) (run-first s i 0 h .1)
+run-plain s (suc n) i h =
+    let f = run-first s i (suc n) h in
+    let shift : i + suc n ≡ i + 1 + n = omega arith in
+    rw shift (run-plain s n (i + 1) (omega (arith, run-on s i (f .0) (f .1))))
+
 -- k is the place after the run at i
 module _ (s : List ℕ) (i k : ℕ) (p : k ≡ i + run (drop i s)) where
   pub run-to : (r : Read) → Ends s k (decoded (drop k s)) r → Ends s i (decoded (drop i s)) r

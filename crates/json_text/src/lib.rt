@@ -1,6 +1,6 @@
 // The strings of a JSON text: where they end, what they are compared with, and a copy. A character is one step.
 ghost use mathlib.Core.Path.{_≡_};
-ghost use Prim.Native.Nat.{_+_};
+ghost use Prim.Native.Nat.{ℕ, _+_, _≤_};
 ghost use lib.Dec.{eqb, ltb};
 ghost use lib.ListN.{getD, drop};
 ghost use Rattle.basis.specs.Pick.{pick};
@@ -151,8 +151,27 @@ fn room_for(most: usize) -> usize
     if most < 36 { most } else { 36 }
 }
 
-// The string whose characters begin at `at`, where there are at most `most` of them, and at most 36, all of them ASCII.
-pub fn copy_text(s: &[u8], at: usize, most: usize) -> Copied
+// The plain characters from `at` to before `end`, where the string closes.
+fn copy_plain(s: &[u8], at: usize, end: usize) -> Copied
+    requires { ⌜ (end ≡ at + run (drop at (now s))) × (getD (now s) end 0 ≡ 0x22) × (end ≤ at + 36) ⌝ }
+    ensures { λ r. ⌜ ((most : ℕ) → end ≤ at + most → r ≡ copyOf most (decoded (drop at (now (s .entry))))) ⌝ }
+{
+    let mut bytes = [0u8; 36];
+    let mut k = 0;
+    let mut i = at;
+    while i < end {
+        bytes[k] = s[i];
+        k += 1;
+        i += 1;
+    }
+    Copied {
+        length: k,
+        bytes,
+        ok: true,
+    }
+}
+
+fn copy_one_by_one(s: &[u8], at: usize, most: usize) -> Copied
     ensures { λ r. ⌜ r ≡ copyOf most (decoded (drop at (now (s .entry)))) ⌝ }
 {
     let room = room_for(most);
@@ -193,4 +212,17 @@ pub fn copy_text(s: &[u8], at: usize, most: usize) -> Copied
             Char::Bad => return no_copy(),
         }
     }
+}
+
+// The string whose characters begin at `at`, where there are at most `most` of them, and at most 36, all of them ASCII.
+pub fn copy_text(s: &[u8], at: usize, most: usize) -> Copied
+    ensures { λ r. ⌜ r ≡ copyOf most (decoded (drop at (now (s .entry)))) ⌝ }
+{
+    let end = plain(s, at);
+    if is_quote(s, end) {
+        if end - at <= room_for(most) {
+            return copy_plain(s, at, end);
+        }
+    }
+    copy_one_by_one(s, at, most)
 }
