@@ -1,5 +1,8 @@
 // Reads each packet from standard input (kind r) or writes a message (kind w, by the letter in its body) as often as the first
 // digit of the body says, and writes a number that depends on every turn. bench/messages.py measures it.
+ghost use mathlib.Core.Path.{_≡_};
+ghost use Rattle.json_find.specs.Index.{Indexed};
+ghost use Rattle.json_packet.specs.Packet.{isPacket};
 use identity::Identity;
 use label::Label;
 use read_head::Class;
@@ -28,63 +31,86 @@ fn order_number(o: read_head::Order) -> u64 {
     }
 }
 
-fn versions_said(s: &[u8]) -> u64 {
-    let f = read_lists::read_version(s, &[]);
+fn versions_said(s: &[u8], places: &[usize]) -> u64
+    requires { ⌜ Indexed (now s) (now places) ⌝ }
+{
+    let f = read_lists::read_version(s, places);
     let o = f.offer;
     let v = o.versions;
     v.count as u64
 }
 
-fn time_said(s: &[u8]) -> u64 {
-    let f = read_head::read_watchdog(s, &[]);
+fn time_said(s: &[u8], places: &[usize]) -> u64
+    requires { ⌜ Indexed (now s) (now places) ⌝ }
+{
+    let f = read_head::read_watchdog(s, places);
     f.time % 1000
 }
 
-fn order_said(s: &[u8]) -> u64 {
-    let f = read_head::read_alarm(s, &[]);
+fn order_said(s: &[u8], places: &[usize]) -> u64
+    requires { ⌜ Indexed (now s) (now places) ⌝ }
+{
+    let f = read_head::read_alarm(s, places);
     let o = f.order;
     order_number(o)
 }
 
-fn component_said(s: &[u8]) -> u64 {
-    let f = read_head::read_aggregated(s, &[]);
+fn component_said(s: &[u8], places: &[usize]) -> u64
+    requires { ⌜ Indexed (now s) (now places) ⌝ }
+{
+    let f = read_head::read_aggregated(s, places);
     let l = f.label;
     l.length as u64
 }
 
-fn entries_said(s: &[u8], subscribing: bool) -> u64 {
-    let f = read_lists::read_status(s, &[], subscribing);
+fn entries_said(s: &[u8], places: &[usize], subscribing: bool) -> u64
+    requires { ⌜ Indexed (now s) (now places) ⌝ }
+{
+    let f = read_lists::read_status(s, places, subscribing);
     f.count as u64
 }
 
-fn commands_said(s: &[u8]) -> u64 {
-    let f = read_commands::read_command(s, &[]);
+fn commands_said(s: &[u8], places: &[usize]) -> u64
+    requires { ⌜ Indexed (now s) (now places) ⌝ }
+{
+    let f = read_commands::read_command(s, places);
     f.count as u64
 }
 
-fn said_by(s: &[u8], k: Kind) -> u64 {
+fn said_by(s: &[u8], places: &[usize], k: Kind) -> u64
+    requires { ⌜ Indexed (now s) (now places) ⌝ }
+{
     match k {
-        Kind::Version => versions_said(s),
-        Kind::Watchdog => time_said(s),
-        Kind::Alarm => order_said(s),
-        Kind::AggregatedStatusRequest => component_said(s),
-        Kind::StatusRequest => entries_said(s, false),
-        Kind::StatusSubscribe => entries_said(s, true),
-        Kind::StatusUnsubscribe => entries_said(s, false),
-        Kind::CommandRequest => commands_said(s),
+        Kind::Version => versions_said(s, places),
+        Kind::Watchdog => time_said(s, places),
+        Kind::Alarm => order_said(s, places),
+        Kind::AggregatedStatusRequest => component_said(s, places),
+        Kind::StatusRequest => entries_said(s, places, false),
+        Kind::StatusSubscribe => entries_said(s, places, true),
+        Kind::StatusUnsubscribe => entries_said(s, places, false),
+        Kind::CommandRequest => commands_said(s, places),
         Kind::Unexpected => 0,
     }
 }
 
-fn read_once(s: &[u8]) -> u64 {
-    let h = read_head::read_head(s, &[], json_packet::is_packet(s));
+fn judged(s: &[u8], places: &[usize], packet: bool) -> u64
+    requires { ⌜ (packet ≡ isPacket (now s)) × Indexed (now s) (now places) ⌝ }
+{
+    let h = read_head::read_head(s, places, packet);
     let c = h.class;
     match c {
         Class::Ignored => 0,
         Class::Acked => 1,
         Class::NotAcked => 2,
-        Class::Asked(_, k) => said_by(s, k),
+        Class::Asked(_, k) => said_by(s, places, k),
     }
+}
+
+fn read_once(s: &[u8]) -> u64 {
+    let mut places = [0usize; 32];
+    let j = json_packet::judge(s, &mut places);
+    let n = j.count;
+    judged(s, &places[0..n], j.packet)
 }
 
 fn id_of(n: u32) -> Identity {

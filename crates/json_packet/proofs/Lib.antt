@@ -5,4 +5,5 @@ mod Sures
 mod Once
 pub mod Whole
 mod Judging
+pub mod Noted
 pub mod Kept

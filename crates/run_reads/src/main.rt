@@ -1,5 +1,8 @@
 // Reads packets case by case from standard input, and writes a line of what each says; tests/reads.py makes the packets, and the
 // lines with a reader of its own.
+ghost use mathlib.Core.Path.{_≡_};
+ghost use Rattle.json_find.specs.Index.{Indexed};
+ghost use Rattle.json_packet.specs.Packet.{isPacket};
 use identity::Identity;
 use label::Label;
 use read_commands::CommandEntry;
@@ -258,11 +261,13 @@ fn put_status(line: &mut [u8], at: usize, f: StatusFields) -> usize {
     }
 }
 
-fn put_statuses(line: &mut [u8], at: usize, s: &[u8], kind: Kind) -> usize {
+fn put_statuses(line: &mut [u8], at: usize, s: &[u8], places: &[usize], kind: Kind) -> usize
+    requires { ⌜ Indexed (now s) (now places) ⌝ }
+{
     match kind {
-        Kind::StatusRequest => put_status(line, at, read_lists::read_status(s, &[], false)),
-        Kind::StatusSubscribe => put_status(line, at, read_lists::read_status(s, &[], true)),
-        Kind::StatusUnsubscribe => put_status(line, at, read_lists::read_status(s, &[], false)),
+        Kind::StatusRequest => put_status(line, at, read_lists::read_status(s, places, false)),
+        Kind::StatusSubscribe => put_status(line, at, read_lists::read_status(s, places, true)),
+        Kind::StatusUnsubscribe => put_status(line, at, read_lists::read_status(s, places, false)),
         _ => at,
     }
 }
@@ -316,18 +321,20 @@ fn put_command(line: &mut [u8], at: usize, f: CommandFields) -> usize {
     }
 }
 
-fn put_fields(line: &mut [u8], at: usize, s: &[u8], kind: Kind) -> usize {
+fn put_fields(line: &mut [u8], at: usize, s: &[u8], places: &[usize], kind: Kind) -> usize
+    requires { ⌜ Indexed (now s) (now places) ⌝ }
+{
     match kind {
-        Kind::Version => put_version(line, at, read_lists::read_version(s, &[])),
-        Kind::Watchdog => put_watchdog(line, at, read_head::read_watchdog(s, &[])),
-        Kind::Alarm => put_alarm(line, at, read_head::read_alarm(s, &[])),
+        Kind::Version => put_version(line, at, read_lists::read_version(s, places)),
+        Kind::Watchdog => put_watchdog(line, at, read_head::read_watchdog(s, places)),
+        Kind::Alarm => put_alarm(line, at, read_head::read_alarm(s, places)),
         Kind::AggregatedStatusRequest => put_aggregated(
             line,
             at,
-            read_head::read_aggregated(s, &[]),
+            read_head::read_aggregated(s, places),
         ),
-        Kind::CommandRequest => put_command(line, at, read_commands::read_command(s, &[])),
-        _ => put_statuses(line, at, s, kind),
+        Kind::CommandRequest => put_command(line, at, read_commands::read_command(s, places)),
+        _ => put_statuses(line, at, s, places, kind),
     }
 }
 
@@ -339,10 +346,19 @@ fn put_kind(line: &mut [u8], received: Received, v: Verdict, kind: Kind) -> usiz
     put_letter(line, end, kind_letter(kind))
 }
 
-fn put_request(line: &mut [u8], s: &[u8], received: Received, v: Verdict, kind: Kind) -> usize {
+fn put_request(
+    line: &mut [u8],
+    s: &[u8],
+    places: &[usize],
+    received: Received,
+    v: Verdict,
+    kind: Kind,
+) -> usize
+    requires { ⌜ Indexed (now s) (now places) ⌝ }
+{
     let end = put_kind(line, received, v, kind);
     match v {
-        Verdict::Good => put_fields(line, end, s, kind),
+        Verdict::Good => put_fields(line, end, s, places, kind),
         Verdict::Missing => end,
         Verdict::Bad => end,
     }
@@ -355,15 +371,25 @@ fn put_answer(line: &mut [u8], letter: u8, id: Identity) -> usize {
 }
 
 // A dash of what is ignored, the awaited identity of an answer, the received one of a request with what it says.
-fn said(line: &mut [u8], s: &[u8]) -> usize {
-    let head = read_head::read_head(s, &[], json_packet::is_packet(s));
+fn said_by(line: &mut [u8], s: &[u8], places: &[usize], packet: bool) -> usize
+    requires { ⌜ (packet ≡ isPacket (now s)) × Indexed (now s) (now places) ⌝ }
+{
+    let head = read_head::read_head(s, places, packet);
     let class = head.class;
     match class {
         Class::Ignored => output::put_bytes(line, 0, b"-"),
         Class::Acked => put_answer(line, b'A', head.identity),
         Class::NotAcked => put_answer(line, b'N', head.identity),
-        Class::Asked(v, kind) => put_request(line, s, head.received, v, kind),
+        Class::Asked(v, kind) => put_request(line, s, places, head.received, v, kind),
     }
+}
+
+// As a call does: the packet is judged, and its members are found where they were noted.
+fn said(line: &mut [u8], s: &[u8]) -> usize {
+    let mut places = [0usize; 32];
+    let j = json_packet::judge(s, &mut places);
+    let n = j.count;
+    said_by(line, s, &places[0..n], j.packet)
 }
 
 fn turn() -> bool {

@@ -1,18 +1,9 @@
 -- `call_packet::judged` meets its contract.
 -- Assumes nothing.
-use Prim.Native.Nat.{ℕ, _-_}
-use mathlib.Core.List.{List}
-use native.Mathlib.Nat.{sub-zero}
-use lib.ListN.{take}
-use Rattle.json_find.specs.Index.{Indexed}
-use Rattle.json_packet.specs.declared.Judgement.{Judgement}
-use Rattle.json_packet.specs.Notes.{Notes}
+use Rattle.json_packet.proofs.Noted.{lent}
 use borrow.Author.Needs.{needs}
 use Rattle.call_packet.proofs.judged.Statement.{statement}
 use Rattle.call_packet.proofs.judged.Tie as tie
-
-part-indexed : (s places : List ℕ) (j : Judgement) → Notes s places j → Indexed s (take (j .count - 0) places)
-part-indexed s places j n = rw (sub-zero (j .count)) (n .indexed)
 
 slice-aggregate-judge : tie.Need-slice-aggregate-judge
 slice-aggregate-judge c = search needs
@@ -32,7 +23,7 @@ part-read-head-end c = search needs
 read-head-requires : tie.Need-read-head-requires
 read-head-requires c κs =
     let n = c .before .before .before .judge .ensures in
-    (n .packet, part-indexed _ _ _ n)
+    (n .packet, lent _ _ _ n)
 
 sub-heed : tie.Need-sub-heed
 sub-heed c = search needs
@@ -44,7 +35,7 @@ part-heed-end : tie.Need-part-heed-end
 part-heed-end c = search needs
 
 heed-requires : tie.Need-heed-requires
-heed-requires c κs = (search needs, search needs, search needs, part-indexed _ _ _ (c .before .before .before .before .before .before .before .before .judge .ensures))
+heed-requires c κs = (search needs, search needs, search needs, lent _ _ _ (c .before .before .before .before .before .before .before .before .judge .ensures))
 
 same-length : tie.Need-same-length
 same-length c = search needs
