@@ -5,8 +5,6 @@ ghost use Rattle.output.specs.Put.{Wrote};
 ghost use Rattle.write_message.specs.Pieces.{headPieces, ownPieces, aboutPieces};
 use identity::Identity;
 use label::Label;
-use names::elements;
-use names::words;
 
 pub mod answers; // answers.rt: MessageAck and MessageNotAck
 pub mod greeting; // greeting.rt: Version and Watchdog
@@ -37,13 +35,13 @@ pub enum Told {
     Command,
 }
 
-// How every message begins: mType, type (name `kind`) and the identity in element `element`.
-pub fn head(out: &mut [u8], at: usize, kind: usize, element: usize, id: &[u8]) -> usize
-    ensures { λ r. ⌜ Wrote (now (out .entry)) at (headPieces (nameOf kind) (nameOf element) (now (id .entry))) (now (out .exit)) r ⌝ }
+// How every message begins: mType, type (name `kind`), what goes before the identity, and the identity.
+pub fn head(out: &mut [u8], at: usize, kind: usize, before: &[u8], id: &[u8]) -> usize
+    ensures { λ r. ⌜ Wrote (now (out .entry)) at (headPieces (nameOf kind) (now (before .entry)) (now (id .entry))) (now (out .exit)) r ⌝ }
 {
-    let end = write_member::word(out, at, b"{\"", elements::M_TYPE, words::R_S_MSG);
-    let end = write_member::word(out, end, b",\"", elements::TYPE, kind);
-    write_member::string(out, end, b",\"", element, id)
+    let end = output::put_bytes(out, at, b"{\"mType\":\"rSMsg\",\"type\":\"");
+    let end = names::put(out, end, kind);
+    output::put2(out, end, before, id)
 }
 
 // How a message with an identity of ours begins.
@@ -51,7 +49,7 @@ pub fn own_head(out: &mut [u8], at: usize, kind: usize, id: Identity) -> usize
     ensures { λ r. ⌜ Wrote (now (out .entry)) at (ownPieces (nameOf kind) (id .bytes)) (now (out .exit)) r ⌝ }
 {
     let t = identity::identity_text(id);
-    head(out, at, kind, elements::M_ID, &t)
+    head(out, at, kind, b"\",\"mId\":\"", &t)
 }
 
 // How a message about a component begins.
@@ -59,7 +57,10 @@ pub fn about(out: &mut [u8], at: usize, kind: usize, id: Identity, component: La
     ensures { λ r. ⌜ Wrote (now (out .entry)) at (aboutPieces (nameOf kind) (id .bytes) (textOf component)) (now (out .exit)) r ⌝ }
 {
     let end = own_head(out, at, kind, id);
-    let end = write_member::empty(out, end, elements::NTS_O_ID);
-    let end = write_member::empty(out, end, elements::X_N_ID);
-    write_member::label(out, end, b",\"", elements::C_ID, component)
+    write_member::label_behind(
+        out,
+        end,
+        b"\",\"ntsOId\":\"\",\"xNId\":\"\",\"cId\":\"",
+        component,
+    )
 }

@@ -1,9 +1,10 @@
-// The types that tell statuses and the one that answers commands, and what their elements are called.
+// The types that tell statuses and the one that answers commands, and what is put by them.
 ghost use mathlib.Core.Path.{_≡_};
-ghost use Rattle.basis.specs.Text.{text};
+ghost use mathlib.Core.List.{[], _∷_};
 ghost use Rattle.names.specs.Names.{nameOf};
-ghost use Rattle.write_message.specs.Listing.{typeText, timeName, listName, codeName, valueName, qualityName};
-use names::elements;
+ghost use Rattle.output.specs.Put.{Wrote};
+ghost use Rattle.write_message.specs.Listing.{typeText};
+ghost use Rattle.write_message.specs.Pieces.{byKind};
 use names::types;
 use write_message::Told;
 
@@ -17,52 +18,13 @@ pub fn type_of(kind: Told) -> usize
     }
 }
 
-pub fn time_of(kind: Told) -> usize
-    ensures { λ r. ⌜ nameOf r ≡ text (timeName kind) ⌝ }
+// What stands there where statuses are told, or where a command is answered.
+pub fn put_by(out: &mut [u8], at: usize, kind: Told, status: &[u8], command: &[u8]) -> usize
+    ensures { λ r. ⌜ Wrote (now (out .entry)) at (byKind kind (now (status .entry)) (now (command .entry)) ∷ []) (now (out .exit)) r ⌝ }
 {
     match kind {
-        Told::Response => elements::S_TS,
-        Told::Update => elements::S_TS,
-        Told::Command => elements::C_TS,
-    }
-}
-
-pub fn list_of(kind: Told) -> usize
-    ensures { λ r. ⌜ nameOf r ≡ text (listName kind) ⌝ }
-{
-    match kind {
-        Told::Response => elements::S_S,
-        Told::Update => elements::S_S,
-        Told::Command => elements::RVS,
-    }
-}
-
-pub fn code_of(kind: Told) -> usize
-    ensures { λ r. ⌜ nameOf r ≡ text (codeName kind) ⌝ }
-{
-    match kind {
-        Told::Response => elements::S_C_I,
-        Told::Update => elements::S_C_I,
-        Told::Command => elements::C_C_I,
-    }
-}
-
-pub fn value_of(kind: Told) -> usize
-    ensures { λ r. ⌜ nameOf r ≡ text (valueName kind) ⌝ }
-{
-    match kind {
-        Told::Response => elements::S,
-        Told::Update => elements::S,
-        Told::Command => elements::V,
-    }
-}
-
-pub fn quality_of(kind: Told) -> usize
-    ensures { λ r. ⌜ nameOf r ≡ text (qualityName kind) ⌝ }
-{
-    match kind {
-        Told::Response => elements::Q,
-        Told::Update => elements::Q,
-        Told::Command => elements::AGE,
+        Told::Response => output::put_bytes(out, at, status),
+        Told::Update => output::put_bytes(out, at, status),
+        Told::Command => output::put_bytes(out, at, command),
     }
 }

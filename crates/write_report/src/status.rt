@@ -1,18 +1,14 @@
 // Statuses told, and commands answered: a head, entries one by one, and a tail.
-ghost use mathlib.Core.Path.{_≡_};
 ghost use mathlib.Core.List.{[], _∷_};
 ghost use Rattle.label.specs.Label.{textOf};
-ghost use Rattle.names.specs.Names.{nameOf};
 ghost use Rattle.output.specs.Put.{Wrote};
 ghost use Rattle.write_message.specs.Message.{status};
 ghost use Rattle.write_message.specs.Message.Message.{statuses};
-ghost use Rattle.write_message.specs.Pieces.{statusHead, codeOf, nullPieces, knownPieces, valuePieces, entryPieces, statusTail, pieces};
+ghost use Rattle.write_message.specs.Pieces.{statusHead, entryStart, knownPieces, valuePieces, entryPieces, statusTail, pieces};
 ghost use Rattle.write_message.specs.declared.Told.the-variants.{Update as updateOf};
 use super::kinds;
 use identity::Identity;
 use label::Label;
-use names::elements;
-use names::words;
 use write_message::Told;
 use write_message::Value;
 
@@ -29,43 +25,64 @@ pub fn begin(
 {
     let t = kinds::type_of(kind);
     let end = write_message::about(out, at, t, id, component);
-    let end = write_member::moment(out, end, kinds::time_of(kind), time);
-    write_member::array(out, end, kinds::list_of(kind))
+    let end = kinds::put_by(out, end, kind, b"\",\"sTs\":\"", b"\",\"cTS\":\"");
+    let end = write_member::moment(out, end, time);
+    kinds::put_by(out, end, kind, b"\",\"sS\":[", b"\",\"rvs\":[")
 }
 
-fn coded(out: &mut [u8], at: usize, kind: Told, first: bool, l: Label) -> usize
-    ensures { λ r. ⌜ Wrote (now (out .entry)) at (codeOf kind first (textOf l)) (now (out .exit)) r ⌝ }
+fn start(out: &mut [u8], at: usize, kind: Told, first: bool) -> usize
+    ensures { λ r. ⌜ Wrote (now (out .entry)) at (entryStart kind first ∷ []) (now (out .exit)) r ⌝ }
 {
-    let element = kinds::code_of(kind);
     if first {
-        write_member::label(out, at, b"{\"", element, l)
+        kinds::put_by(out, at, kind, b"{\"sCI\":\"", b"{\"cCI\":\"")
     } else {
-        write_member::label(out, at, b",{\"", element, l)
+        kinds::put_by(out, at, kind, b",{\"sCI\":\"", b",{\"cCI\":\"")
     }
 }
 
-fn known(out: &mut [u8], at: usize, kind: Told, v: i32, quality: usize) -> usize
-    ensures { λ r. ⌜ Wrote (now (out .entry)) at (knownPieces kind (nameOf quality) v) (now (out .exit)) r ⌝ }
+// A value and how good it is, in the words for a status or for a command.
+fn known(out: &mut [u8], at: usize, kind: Told, v: i32, status: &[u8], command: &[u8]) -> usize
+    ensures { λ r. ⌜ Wrote (now (out .entry)) at (knownPieces kind v (now (status .entry)) (now (command .entry))) (now (out .exit)) r ⌝ }
 {
-    let end = write_member::signed(out, at, kinds::value_of(kind), v);
-    write_member::word(out, end, b",\"", kinds::quality_of(kind), quality)
-}
-
-fn not_known(out: &mut [u8], at: usize, kind: Told, quality: usize) -> usize
-    ensures { λ r. ⌜ Wrote (now (out .entry)) at (nullPieces kind (nameOf quality)) (now (out .exit)) r ⌝ }
-{
-    let end = write_member::null(out, at, kinds::value_of(kind));
-    write_member::word(out, end, b",\"", kinds::quality_of(kind), quality)
+    let end = kinds::put_by(out, at, kind, b"\",\"s\":\"", b"\",\"v\":\"");
+    let end = number::put_i32(out, end, v);
+    kinds::put_by(out, end, kind, status, command)
 }
 
 fn value(out: &mut [u8], at: usize, kind: Told, v: Value) -> usize
     ensures { λ r. ⌜ Wrote (now (out .entry)) at (valuePieces kind v) (now (out .exit)) r ⌝ }
 {
     match v {
-        Value::Recent(n) => known(out, at, kind, n, words::RECENT),
-        Value::Old(n) => known(out, at, kind, n, words::OLD),
-        Value::Unknown => not_known(out, at, kind, words::UNKNOWN),
-        Value::Undefined => not_known(out, at, kind, words::UNDEFINED),
+        Value::Recent(n) => known(
+            out,
+            at,
+            kind,
+            n,
+            b"\",\"q\":\"recent\"}",
+            b"\",\"age\":\"recent\"}",
+        ),
+        Value::Old(n) => known(
+            out,
+            at,
+            kind,
+            n,
+            b"\",\"q\":\"old\"}",
+            b"\",\"age\":\"old\"}",
+        ),
+        Value::Unknown => kinds::put_by(
+            out,
+            at,
+            kind,
+            b"\",\"s\":null,\"q\":\"unknown\"}",
+            b"\",\"v\":null,\"age\":\"unknown\"}",
+        ),
+        Value::Undefined => kinds::put_by(
+            out,
+            at,
+            kind,
+            b"\",\"s\":null,\"q\":\"undefined\"}",
+            b"\",\"v\":null,\"age\":\"undefined\"}",
+        ),
     }
 }
 
@@ -81,10 +98,10 @@ pub fn entry(
 ) -> usize
     ensures { λ r. ⌜ Wrote (now (out .entry)) at (entryPieces kind first (status (textOf code) (textOf name) v)) (now (out .exit)) r ⌝ }
 {
-    let end = coded(out, at, kind, first, code);
-    let end = write_member::label(out, end, b",\"", elements::N, name);
-    let end = value(out, end, kind, v);
-    output::put_bytes(out, end, b"}")
+    let end = start(out, at, kind, first);
+    let end = write_member::label(out, end, code);
+    let end = write_member::label_behind(out, end, b"\",\"n\":\"", name);
+    value(out, end, kind, v)
 }
 
 // What follows the entries.

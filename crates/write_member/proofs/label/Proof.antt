@@ -8,36 +8,36 @@ use Rattle.write_member.proofs.label.Tie as tie
 size-requires : tie.Need-size-requires
 size-requires c κs = search needs
 
-sub-string : tie.Need-sub-string
-sub-string c = search needs
+sub-put-bytes : tie.Need-sub-put-bytes
+sub-put-bytes c = search needs
 
-part-string-start : tie.Need-part-string-start
-part-string-start c = search needs
+part-put-bytes-start : tie.Need-part-put-bytes-start
+part-put-bytes-start c = search needs
 
-part-string-end : tie.Need-part-string-end
-part-string-end c =
-    let e : length (c .before .before .before .before .before .before .args .l .bytes) ≡ 32 = search needs in
+part-put-bytes-end : tie.Need-part-put-bytes-end
+part-put-bytes-end c =
+    let e : length (c .before .before .before .before .before .args .l .bytes) ≡ 32 = search needs in
     search needs
 
-string-requires : tie.Need-string-requires
-string-requires c κs = search needs
+put-bytes-requires : tie.Need-put-bytes-requires
+put-bytes-requires c κs = search needs
 
 same-length : tie.Need-same-length
 same-length c = search needs
 
 returns : tie.Need-returns
 returns c =
-    let l = c .before .before .before .before .before .before .before .before .before .before .args .l in
-    rw (← (text-part l (search needs) _ (c .before .before .before .before .before .before .before .size .ensures))) (c .before .before .string .ensures)
+    let l = c .before .before .before .before .before .before .before .before .before .args .l in
+    rw (← (text-part l (search needs) _ (c .before .before .before .before .before .before .before .size .ensures))) (c .before .before .put-bytes .ensures)
 
 pub label-spec : {M : Type 1} → statement M
 label-spec =
     tie.close
     (tie.spec
     size-requires
-    sub-string
-    part-string-start
-    part-string-end
-    string-requires
+    sub-put-bytes
+    part-put-bytes-start
+    part-put-bytes-end
+    put-bytes-requires
     same-length
     returns)

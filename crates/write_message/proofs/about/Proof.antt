@@ -7,33 +7,25 @@ use Rattle.write_message.proofs.about.Tie as tie
 own-head-requires : tie.Need-own-head-requires
 own-head-requires c κs = search needs
 
-empty-requires : tie.Need-empty-requires
-empty-requires c κs = search needs
+slice-aggregate-label-behind : tie.Need-slice-aggregate-label-behind
+slice-aggregate-label-behind c = search needs
 
-empty-requires-2 : tie.Need-empty-requires-2
-empty-requires-2 c κs = search needs
-
-slice-aggregate-label : tie.Need-slice-aggregate-label
-slice-aggregate-label c = search needs
-
-label-requires : tie.Need-label-requires
-label-requires c κs = search needs
+label-behind-requires : tie.Need-label-behind-requires
+label-behind-requires c κs = search needs
 
 same-length : tie.Need-same-length
 same-length c = search needs
 
 returns : tie.Need-returns
 unfolding aboutPieces
-returns c = then (then (then (c .before .before .before .before .before .before .before .before .before .before .before .before .before .before .before .own-head .ensures) (c .before .before .before .before .before .before .before .before .before .before .before .empty .ensures)) (c .before .before .before .before .before .before .before .empty2 .ensures)) (c .before .before .label .ensures)
+returns c = then (c .before .before .before .before .before .before .before .own-head .ensures) (c .before .before .label-behind .ensures)
 
 pub about-spec : {M : Type 1} → statement M
 about-spec =
     tie.close
     (tie.spec
     own-head-requires
-    empty-requires
-    empty-requires-2
-    slice-aggregate-label
-    label-requires
+    slice-aggregate-label-behind
+    label-behind-requires
     same-length
     returns)

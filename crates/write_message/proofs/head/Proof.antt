@@ -4,40 +4,32 @@ use borrow.Author.Needs.{needs}
 use Rattle.write_message.proofs.head.Statement.{statement}
 use Rattle.write_message.proofs.head.Tie as tie
 
-slice-aggregate-word : tie.Need-slice-aggregate-word
-slice-aggregate-word c = search needs
+slice-aggregate-put-bytes : tie.Need-slice-aggregate-put-bytes
+slice-aggregate-put-bytes c = search needs
 
-word-requires : tie.Need-word-requires
-word-requires c κs = search needs
+put-bytes-requires : tie.Need-put-bytes-requires
+put-bytes-requires c κs = search needs
 
-slice-aggregate-word-2 : tie.Need-slice-aggregate-word-2
-slice-aggregate-word-2 c = search needs
+put-requires : tie.Need-put-requires
+put-requires c κs = search needs
 
-word-requires-2 : tie.Need-word-requires-2
-word-requires-2 c κs = search needs
-
-slice-aggregate-string : tie.Need-slice-aggregate-string
-slice-aggregate-string c = search needs
-
-string-requires : tie.Need-string-requires
-string-requires c κs = search needs
+put2-requires : tie.Need-put2-requires
+put2-requires c κs = search needs
 
 same-length : tie.Need-same-length
 same-length c = search needs
 
 returns : tie.Need-returns
 unfolding headPieces
-returns c = then (then (c .before .before .before .before .before .before .before .before .before .before .before .before .word .ensures) (c .before .before .before .before .before .before .before .word2 .ensures)) (c .before .before .string .ensures)
+returns c = then (then (c .before .before .before .before .before .before .before .before .before .before .put-bytes .ensures) (c .before .before .before .before .before .before .put .ensures)) (c .before .before .put2 .ensures)
 
 pub head-spec : {M : Type 1} → statement M
 head-spec =
     tie.close
     (tie.spec
-    slice-aggregate-word
-    word-requires
-    slice-aggregate-word-2
-    word-requires-2
-    slice-aggregate-string
-    string-requires
+    slice-aggregate-put-bytes
+    put-bytes-requires
+    put-requires
+    put2-requires
     same-length
     returns)

@@ -9,6 +9,9 @@ identity-text-requires c κs = search needs
 slice-aggregate-head : tie.Need-slice-aggregate-head
 slice-aggregate-head c = search needs
 
+slice-aggregate-head-2 : tie.Need-slice-aggregate-head-2
+slice-aggregate-head-2 c = search needs
+
 head-requires : tie.Need-head-requires
 head-requires c κs = search needs
 
@@ -17,9 +20,15 @@ same-length c = search needs
 
 returns : tie.Need-returns
 unfolding ownPieces
-returns c = rw (← (c .before .before .before .before .before .identity-text .ensures)) (c .before .before .head .ensures)
+returns c = rw (← (c .before .before .before .before .before .before .identity-text .ensures)) (c .before .before .head .ensures)
 
 pub own-head-spec : {M : Type 1} → statement M
 own-head-spec =
     tie.close
-    (tie.spec identity-text-requires slice-aggregate-head head-requires same-length returns)
+    (tie.spec
+    identity-text-requires
+    slice-aggregate-head
+    slice-aggregate-head-2
+    head-requires
+    same-length
+    returns)

@@ -4,6 +4,9 @@ use borrow.Author.Needs.{needs}
 use Rattle.write_message.proofs.answers.ack.Statement.{statement}
 use Rattle.write_message.proofs.answers.ack.Tie as tie
 
+slice-aggregate-head : tie.Need-slice-aggregate-head
+slice-aggregate-head c = search needs
+
 head-requires : tie.Need-head-requires
 head-requires c κs = search needs
 
@@ -23,4 +26,10 @@ returns c = then (c .before .before .before .before .before .before .before .hea
 pub ack-spec : {M : Type 1} → statement M
 ack-spec =
     tie.close
-    (tie.spec head-requires slice-aggregate-put-bytes put-bytes-requires same-length returns)
+    (tie.spec
+    slice-aggregate-head
+    head-requires
+    slice-aggregate-put-bytes
+    put-bytes-requires
+    same-length
+    returns)

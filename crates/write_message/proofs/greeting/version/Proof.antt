@@ -7,17 +7,17 @@ use Rattle.write_message.proofs.greeting.version.Tie as tie
 own-head-requires : tie.Need-own-head-requires
 own-head-requires c κs = search needs
 
-offers-requires : tie.Need-offers-requires
-offers-requires c κs = search needs
+slice-aggregate-label-behind : tie.Need-slice-aggregate-label-behind
+slice-aggregate-label-behind c = search needs
 
-sites-requires : tie.Need-sites-requires
-sites-requires c κs = search needs
+label-behind-requires : tie.Need-label-behind-requires
+label-behind-requires c κs = search needs
 
-slice-aggregate-label : tie.Need-slice-aggregate-label
-slice-aggregate-label c = search needs
+slice-aggregate-label-behind-2 : tie.Need-slice-aggregate-label-behind-2
+slice-aggregate-label-behind-2 c = search needs
 
-label-requires : tie.Need-label-requires
-label-requires c κs = search needs
+label-behind-requires-2 : tie.Need-label-behind-requires-2
+label-behind-requires-2 c κs = search needs
 
 slice-aggregate-put-bytes : tie.Need-slice-aggregate-put-bytes
 slice-aggregate-put-bytes c = search needs
@@ -30,17 +30,17 @@ same-length c = search needs
 
 returns : tie.Need-returns
 unfolding pieces
-returns c = then (then (then (then (c .before .before .before .before .before .before .before .before .before .before .before .before .before .before .before .before .before .before .before .before .own-head .ensures) (c .before .before .before .before .before .before .before .before .before .before .before .before .before .before .before .before .offers .ensures)) (c .before .before .before .before .before .before .before .before .before .before .before .before .sites .ensures)) (c .before .before .before .before .before .before .before .label .ensures)) (c .before .before .put-bytes .ensures)
+returns c = then (then (c .before .before .before .before .before .before .before .before .before .before .before .before .before .before .before .before .before .own-head .ensures) (then (c .before .before .before .before .before .before .before .before .before .before .before .before .label-behind .ensures) (c .before .before .before .before .before .before .before .label-behind2 .ensures))) (c .before .before .put-bytes .ensures)
 
 pub version-spec : {M : Type 1} → statement M
 version-spec =
     tie.close
     (tie.spec
     own-head-requires
-    offers-requires
-    sites-requires
-    slice-aggregate-label
-    label-requires
+    slice-aggregate-label-behind
+    label-behind-requires
+    slice-aggregate-label-behind-2
+    label-behind-requires-2
     slice-aggregate-put-bytes
     put-bytes-requires
     same-length

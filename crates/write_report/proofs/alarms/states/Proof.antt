@@ -4,20 +4,32 @@ use borrow.Author.Needs.{needs}
 use Rattle.write_report.proofs.alarms.states.Statement.{statement}
 use Rattle.write_report.proofs.alarms.states.Tie as tie
 
-event-word-requires : tie.Need-event-word-requires
-event-word-requires c κs = search needs
+event-requires : tie.Need-event-requires
+event-requires c κs = search needs
 
-slice-aggregate-word : tie.Need-slice-aggregate-word
-slice-aggregate-word c = search needs
+slice-aggregate-choice : tie.Need-slice-aggregate-choice
+slice-aggregate-choice c = search needs
 
-word-requires : tie.Need-word-requires
-word-requires c κs = search needs
+slice-aggregate-choice-2 : tie.Need-slice-aggregate-choice-2
+slice-aggregate-choice-2 c = search needs
 
 choice-requires : tie.Need-choice-requires
 choice-requires c κs = search needs
 
+slice-aggregate-choice-3 : tie.Need-slice-aggregate-choice-3
+slice-aggregate-choice-3 c = search needs
+
+slice-aggregate-choice-4 : tie.Need-slice-aggregate-choice-4
+slice-aggregate-choice-4 c = search needs
+
 choice-requires-2 : tie.Need-choice-requires-2
 choice-requires-2 c κs = search needs
+
+slice-aggregate-choice-5 : tie.Need-slice-aggregate-choice-5
+slice-aggregate-choice-5 c = search needs
+
+slice-aggregate-choice-6 : tie.Need-slice-aggregate-choice-6
+slice-aggregate-choice-6 c = search needs
 
 choice-requires-3 : tie.Need-choice-requires-3
 choice-requires-3 c κs = search needs
@@ -27,17 +39,21 @@ same-length c = search needs
 
 returns : tie.Need-returns
 unfolding statePieces
-returns c = rw (← (c .before .before .before .before .before .before .before .before .before .before .before .before .before .before .before .before .before .event-word .ensures)) (then (then (then (c .before .before .before .before .before .before .before .before .before .before .before .before .before .before .word .ensures) (c .before .before .before .before .before .before .before .before .before .before .choice .ensures)) (c .before .before .before .before .before .before .choice2 .ensures)) (c .before .before .choice3 .ensures))
+returns c = then (then (then (c .before .before .before .before .before .before .before .before .before .before .before .before .before .before .before .before .before .before .before .before .event .ensures) (c .before .before .before .before .before .before .before .before .before .before .before .before .before .before .choice .ensures)) (c .before .before .before .before .before .before .before .before .choice2 .ensures)) (c .before .before .choice3 .ensures)
 
 pub states-spec : {M : Type 1} → statement M
 states-spec =
     tie.close
     (tie.spec
-    event-word-requires
-    slice-aggregate-word
-    word-requires
+    event-requires
+    slice-aggregate-choice
+    slice-aggregate-choice-2
     choice-requires
+    slice-aggregate-choice-3
+    slice-aggregate-choice-4
     choice-requires-2
+    slice-aggregate-choice-5
+    slice-aggregate-choice-6
     choice-requires-3
     same-length
     returns)
