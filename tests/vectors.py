@@ -303,7 +303,7 @@ def records(source, count):
         yield write_record([source.randrange(65536) for _ in range(4)] + [source.randrange(2**64), source.randrange(2**32), source.randrange(2**32)])
 
 
-# Names: the four tables as document 01 and source document 000 print them.
+# Names: the two tables as document 01 prints them.
 
 TYPES = ("Version Watchdog MessageAck MessageNotAck Alarm AggregatedStatus AggregatedStatusRequest StatusRequest StatusResponse "
          "StatusSubscribe StatusUnsubscribe StatusUpdate CommandRequest CommandResponse").split()

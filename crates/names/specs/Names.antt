@@ -25,27 +25,9 @@ reasons =
     ∷ text "Site id" ∷ text "SXL version" ∷ text "Unknown component" ∷ text "Unknown alarm"
     ∷ text "Unknown status" ∷ text "Unknown command" ∷ text "Busy" ∷ []
 
--- the elements that we read or write
-abbrev pub elements : List (List ℕ)
-elements =
-    text "mType" ∷ text "type" ∷ text "mId" ∷ text "oMId" ∷ text "rea" ∷ text "ntsOId" ∷ text "xNId"
-    ∷ text "cId" ∷ text "RSMP" ∷ text "vers" ∷ text "siteId" ∷ text "sId" ∷ text "SXL" ∷ text "wTs"
-    ∷ text "aCId" ∷ text "xACId" ∷ text "xNACId" ∷ text "aSp" ∷ text "ack" ∷ text "aS" ∷ text "sS"
-    ∷ text "aTs" ∷ text "cat" ∷ text "pri" ∷ text "rvs" ∷ text "aSTS" ∷ text "fP" ∷ text "fS" ∷ text "se"
-    ∷ text "sTs" ∷ text "sCI" ∷ text "n" ∷ text "s" ∷ text "q" ∷ text "uRt" ∷ text "sOc"
-    ∷ text "arg" ∷ text "cCI" ∷ text "cO" ∷ text "v" ∷ text "cTS" ∷ text "age" ∷ []
-
--- the values that we read or write
-abbrev pub words : List (List ℕ)
-words =
-    text "rSMsg" ∷ text "Issue" ∷ text "Request" ∷ text "Acknowledge" ∷ text "Suspend" ∷ text "Resume"
-    ∷ text "Acknowledged" ∷ text "notAcknowledged" ∷ text "Active" ∷ text "inActive" ∷ text "Suspended"
-    ∷ text "notSuspended" ∷ text "T" ∷ text "D" ∷ text "recent" ∷ text "unknown" ∷ text "undefined" ∷ text "old"
-    ∷ []
-
--- all of them: types, reasons, elements, words
+-- all of them: types, reasons
 abbrev pub names : List (List ℕ)
-names = typeNames ++ (reasons ++ (elements ++ words))
+names = typeNames ++ reasons
 
 -- name i; past the last one the empty text
 abbrev pub nameOf : ℕ → List ℕ

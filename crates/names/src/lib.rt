@@ -1,4 +1,4 @@
-// The names of types, reasons, elements and values: one table of bytes with starts and lengths, which readers and writers cite.
+// The names of types and reasons: one table of bytes with starts and lengths, which readers and writers cite.
 ghost use mathlib.Core.Path.{_≡_};
 ghost use mathlib.Core.List.{[], _∷_};
 ghost use Prim.Native.Nat.{ℕ, _+_, _-_, _≤_, _<_};
@@ -10,8 +10,6 @@ ghost use Rattle.names.specs.Table.{Lent};
 mod table; // table.rt: the bytes of all names, and where each stands
 pub mod types; // types.rt: the fourteen types of messages
 pub mod reasons; // reasons.rt: the twelve reasons of a MessageNotAck
-pub mod elements; // elements.rt: the elements that we read or write
-pub mod words; // words.rt: the values that we read or write
 
 pub enum Found {
     At(usize),
@@ -43,13 +41,6 @@ fn is_name_in(s: &[u8], i: usize, bytes: &[u8], starts: &[u16], lengths: &[u8]) 
     let start = starts[i] as usize;
     let end = start + length;
     check::same(s, &bytes[start..end])
-}
-
-// Whether s is name i.
-pub fn is_name(s: &[u8], i: usize) -> bool
-    ensures { λ r. ⌜ r ≡ sameBytes (now (s .entry)) (nameOf i) ⌝ }
-{
-    is_name_in(s, i, &table::TABLE, &table::STARTS, &table::LENS)
 }
 
 fn find_in(

@@ -7,12 +7,10 @@ use json_text::Read;
 use label::Label;
 use names::Found;
 use names::types;
-use names::words;
 ghost use mathlib.Core.Path.{_≡_};
 ghost use Prim.Native.Nat.{min};
 ghost use lib.ListN.{drop};
 ghost use Rattle.basis.specs.Lists.{sameBytes};
-ghost use Rattle.names.specs.Names.{nameOf};
 ghost use Rattle.basis.specs.Text.{text};
 ghost use Rattle.json_text.specs.Copied.{noCopy};
 ghost use Rattle.json_value.specs.Reader.{skipWs};
@@ -253,19 +251,25 @@ fn an_order(verdict: Verdict, order: Order) -> GotOrder
     GotOrder { verdict, order }
 }
 
+pub fn is_word(d: &[u8], fixed: &[u8]) -> bool
+    ensures { λ r. ⌜ r ≡ sameBytes (now (d .entry)) (now (fixed .entry)) ⌝ }
+{
+    check::same(d, fixed)
+}
+
 fn order_text(d: &[u8]) -> GotOrder
     ensures { λ r. ⌜ r ≡ orderFor (now (d .entry)) ⌝ }
 {
-    if names::is_name(d, words::REQUEST) {
+    if is_word(d, b"Request") {
         return an_order(Verdict::Good, Order::Request);
     }
-    if names::is_name(d, words::ACKNOWLEDGE) {
+    if is_word(d, b"Acknowledge") {
         return an_order(Verdict::Good, Order::Acknowledge);
     }
-    if names::is_name(d, words::SUSPEND) {
+    if is_word(d, b"Suspend") {
         return an_order(Verdict::Good, Order::Suspend);
     }
-    if names::is_name(d, words::RESUME) {
+    if is_word(d, b"Resume") {
         return an_order(Verdict::Good, Order::Resume);
     }
     an_order(Verdict::Bad, Order::Request)
@@ -412,26 +416,26 @@ fn type_of(e: Element) -> Found
     }
 }
 
-fn name_verdict(d: &[u8], i: usize) -> Verdict
-    ensures { λ r. ⌜ r ≡ pick (sameBytes (now (d .entry)) (nameOf i)) Verdict.Good Verdict.Bad ⌝ }
+fn word_verdict(d: &[u8], fixed: &[u8]) -> Verdict
+    ensures { λ r. ⌜ r ≡ pick (sameBytes (now (d .entry)) (now (fixed .entry))) Verdict.Good Verdict.Bad ⌝ }
 {
-    if names::is_name(d, i) {
+    if is_word(d, fixed) {
         Verdict::Good
     } else {
         Verdict::Bad
     }
 }
 
-// Whether an element is name i.
-fn verdict_of(e: Element, i: usize) -> Verdict
-    ensures { λ r. ⌜ r ≡ verdictOf (λ d. sameBytes d (nameOf i)) (wordOf e) ⌝ }
+// Whether an element is a word.
+fn verdict_of(e: Element, fixed: &[u8]) -> Verdict
+    ensures { λ r. ⌜ r ≡ verdictOf (λ d. sameBytes d (now (fixed .entry))) (wordOf e) ⌝ }
 {
     if e.there {
         let c = e.copy;
         if c.ok {
             let n = at_most_36(c.length);
             let bytes = c.bytes;
-            name_verdict(&bytes[0..n], i)
+            word_verdict(&bytes[0..n], fixed)
         } else {
             Verdict::Bad
         }
@@ -559,7 +563,7 @@ fn head_by(s: &[u8], places: &[usize]) -> Head
     requires { ⌜ Indexed (now s) (now places) ⌝ }
     ensures { λ r. ⌜ r ≡ headBy (wordAt (skipWs (now (s .entry)))) ⌝ }
 {
-    let v = verdict_of(element_of(s, places, b"mType"), words::R_S_MSG);
+    let v = verdict_of(element_of(s, places, b"mType"), b"rSMsg");
     let t = type_of(element_of(s, places, b"type"));
     match t {
         Found::At(i) => head_for(s, places, i, v),

@@ -1,29 +1,25 @@
-use borrow.Author.Needs.{needs}
-use mathlib.Core.Path.{_≡_, refl, sym, ap, ap₂, _∙_}
-use Rattle.read_head.specs.Word.{wordOf, wordAt}
-use Rattle.read_head.proofs.Copies.{says, found-at}
-use Rattle.read_head.specs.Head.{typeOf, headOf, headBy}
+use mathlib.Core.Path.{sym, ap, ap₂, _∙_}
 use Rattle.basis.specs.Lists.{sameBytes}
 use Rattle.basis.specs.Text.{text}
 use Rattle.names.specs.declared.Found.{Found}
 use Rattle.json_value.specs.Reader.{skipWs}
-use Rattle.read_head.specs.declared.Verdict.{Verdict}
+use Rattle.read_head.specs.Word.{wordOf, wordAt}
+use Rattle.read_head.specs.Head.{typeOf, headOf, headBy}
 use Rattle.read_head.specs.Values.{verdictOf}
+use Rattle.read_head.specs.declared.Verdict.{Verdict}
+use Rattle.read_head.proofs.Copies.{says, found-at}
+use borrow.Author.Needs.{needs}
 use Rattle.read_head.proofs.head_by.Statement.{statement}
 use Rattle.read_head.proofs.head_by.Tie as tie
-use Rattle.read_head.proofs.head_by.Reads as reads
-use Rattle.read_head.proofs.head_by.Lts as lts
-use Rattle.read_head.proofs.asked.Reads as asked-reads
-use Rattle.read_head.proofs.element_of.Reads as element-of-reads
-use Rattle.read_head.proofs.head_for.Reads as head-for-reads
-use Rattle.read_head.proofs.type_of.Reads as type-of-reads
-use Rattle.read_head.proofs.verdict_of.Reads as verdict-of-reads
 
 slice-aggregate-element-of : tie.Need-slice-aggregate-element-of
 slice-aggregate-element-of c = search needs
 
 element-of-requires : tie.Need-element-of-requires
 element-of-requires c κs = search needs
+
+slice-aggregate-verdict-of : tie.Need-slice-aggregate-verdict-of
+slice-aggregate-verdict-of c = search needs
 
 verdict-of-requires : tie.Need-verdict-of-requires
 verdict-of-requires c κs = search needs
@@ -53,15 +49,15 @@ returns : tie.Need-returns
 unfolding headBy
 returns c =
     let ty = sym (c .before .before .before .before .type-of .ensures ∙ ap typeOf (ap wordOf (c .before .before .before .before .before .element-of2 .ensures) ∙ says (found-at _ _))) ∙ c .before .before .t .given .1 in
-    let ve = c .before .before .before .before .before .before .before .verdict-of .ensures ∙ ap (verdictOf (λ d. sameBytes d (text "rSMsg"))) (ap wordOf (c .before .before .before .before .before .before .before .before .element-of .ensures) ∙ says (found-at _ _)) in
-    c .head-for .ensures ∙ ap₂ (λ (t : Found) (v : Verdict). headOf t v (wordAt (skipWs (c .before .before .before .before .before .before .before .before .before .before .before .before .args .s .now)))) (sym ty) ve
+    let ve = c .before .before .before .before .before .before .before .verdict-of .ensures ∙ ap (verdictOf (λ d. sameBytes d (text "rSMsg"))) (ap wordOf (c .before .before .before .before .before .before .before .before .before .element-of .ensures) ∙ says (found-at _ _)) in
+    c .head-for .ensures ∙ ap₂ (λ (t : Found) (v : Verdict). headOf t v (wordAt (skipWs (c .before .before .before .before .before .before .before .before .before .before .before .before .before .args .s .now)))) (sym ty) ve
 
 returns-2 : tie.Need-returns-2
 unfolding headBy
 returns-2 c =
     let ty = sym (c .before .before .before .type-of .ensures ∙ ap typeOf (ap wordOf (c .before .before .before .before .element-of2 .ensures) ∙ says (found-at _ _))) ∙ c .before .enum-told .given .1 in
-    let ve = c .before .before .before .before .before .before .verdict-of .ensures ∙ ap (verdictOf (λ d. sameBytes d (text "rSMsg"))) (ap wordOf (c .before .before .before .before .before .before .before .element-of .ensures) ∙ says (found-at _ _)) in
-    c .asked .ensures ∙ ap₂ (λ (t : Found) (v : Verdict). headOf t v (wordAt (skipWs (c .before .before .before .before .before .before .before .before .before .before .before .args .s .now)))) (sym ty) ve
+    let ve = c .before .before .before .before .before .before .verdict-of .ensures ∙ ap (verdictOf (λ d. sameBytes d (text "rSMsg"))) (ap wordOf (c .before .before .before .before .before .before .before .before .element-of .ensures) ∙ says (found-at _ _)) in
+    c .asked .ensures ∙ ap₂ (λ (t : Found) (v : Verdict). headOf t v (wordAt (skipWs (c .before .before .before .before .before .before .before .before .before .before .before .before .args .s .now)))) (sym ty) ve
 
 pub head-by-spec : {M : Type 1} → statement M
 head-by-spec =
@@ -69,6 +65,7 @@ head-by-spec =
     (tie.spec
     slice-aggregate-element-of
     element-of-requires
+    slice-aggregate-verdict-of
     verdict-of-requires
     slice-aggregate-element-of-2
     element-of-requires-2
