@@ -8,6 +8,7 @@ use Rattle.basis.specs.Pick.{pick}
 use Rattle.identity.specs.declared.Identity.{Identity}
 use Rattle.awaited.specs.declared.Slot.{Slot}
 use Rattle.awaited.specs.declared.Awaited.{Awaited}
+use Rattle.awaited.specs.declared.Taken.{Taken}
 use Rattle.awaited.specs.declared.Purpose.{Purpose}
 use Rattle.awaited.specs.declared.Found.{Found}
 use Rattle.awaited.specs.declared.Found.the-variants.{For, Nothing}
@@ -37,6 +38,10 @@ isAwaited Nothing = false
 -- the identity's first place becomes free; where there is none nothing changes
 unfoldable pub removeOf : Awaited → Identity → Awaited
 removeOf a id = record { slots = changeFirst (awaitsFor id) freeSlot (a .slots) }
+
+-- what an answer to the identity takes
+abbrev pub takeOf : Awaited → Identity → Taken
+takeOf a id = record { awaited = removeOf a id; found = findOf a id }
 
 unfoldable pub howManyOf : Awaited → ℕ
 howManyOf a = count isTaken (a .slots)

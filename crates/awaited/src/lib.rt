@@ -8,7 +8,7 @@ ghost use Rattle.basis.specs.Pick.{pick, bit};
 ghost use Rattle.awaited.specs.Lists.{firstOf, some};
 ghost use Rattle.basis.specs.Lists.{count};
 ghost use Rattle.awaited.specs.Slot.{numberOf, sequenceOf, slotOf, purposeOf, isFree, isTaken, awaitsFor, isLate, freeSlot};
-ghost use Rattle.awaited.specs.Awaited.{nothingAwaited, addOf, findOf, removeOf, howManyOf, lateOf};
+ghost use Rattle.awaited.specs.Awaited.{nothingAwaited, addOf, findOf, takeOf, howManyOf, lateOf};
 use identity::Identity;
 use identity::same_identity;
 
@@ -37,6 +37,11 @@ pub struct Slot {
 #[repr(C)]
 pub struct Awaited {
     pub slots: [Slot; 16],
+}
+
+pub struct Taken {
+    pub awaited: Awaited,
+    pub found: Found,
 }
 
 fn free_slot() -> Slot
@@ -234,16 +239,23 @@ impl Awaited {
         Found::Nothing
     }
 
-    // An answer removes its one.
-    pub fn remove(self, id: Identity) -> Awaited
-        ensures { λ r. ⌜ r ≡ removeOf self id ⌝ }
+    // An answer takes its one: what is awaited still, and what that one was sent for.
+    pub fn take(self, id: Identity) -> Taken
+        ensures { λ r. ⌜ r ≡ takeOf self id ⌝ }
     {
         let mut slots = self.slots;
         let at = place_of(slots, id);
         if at < 16 {
+            let w = slots[at];
+            let found = Found::For(sent_for(w));
             slots[at] = free_slot();
+            let awaited = Awaited { slots };
+            return Taken { awaited, found };
         }
-        Awaited { slots }
+        Taken {
+            awaited: self,
+            found: Found::Nothing,
+        }
     }
 
     pub fn how_many(self) -> usize

@@ -11,6 +11,7 @@ use Rattle.awaited.specs.declared.Found.{Found}
 use Rattle.awaited.specs.declared.Found.the-variants.{For, Nothing}
 use Rattle.awaited.specs.Awaited.{addOf, findOf, removeOf, howManyOf}
 use Rattle.link.specs.declared.Link.{Link}
+use Rattle.link.specs.declared.Answered.{Answered}
 use Rattle.link.specs.Deed.Deed.{Connected, OurVersion, OurVersionAcked, TheirVersion, OurWatchdog, OurWatchdogAcked, TheirWatchdog, OurAggregated}
 use Rattle.link.specs.Fields.{closedLink, withAwaited, withBeat, withAlarm, withVersion, mark}
 use Rattle.link.specs.Phase.{phaseOf, isUp, beatsIn, takesIn, closesOn}
@@ -66,6 +67,10 @@ unfoldable pub answeredOf : Link → Identity → Bool → Link
 answeredOf l id ack =
     pick (closesOf l id ack) closedLink
     (pick ack (noted (findOf (l .awaited) id) (removedOf l id)) (removedOf l id))
+
+-- what an answer comes to
+abbrev pub answeredBy : Link → Identity → Bool → Answered
+answeredBy l id ack = record { link = answeredOf l id ack; found = findOf (l .awaited) id; closes = closesOf l id ack }
 
 -- the first pass goes on: the AggregatedStatus is out, the next alarm is out
 unfoldable pub aggregatedPassedOf : Link → Link

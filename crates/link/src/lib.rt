@@ -5,7 +5,7 @@ ghost use Rattle.awaited.specs.declared.Purpose.the-variants.{Entry, Other};
 ghost use Rattle.awaited.specs.Awaited.{findOf, lateOf};
 ghost use Rattle.link.specs.Phase.{greeted, beaten, phaseOf, isUp, isBeating, beatsIn, takesIn, closesFor, closesOn};
 ghost use Rattle.link.specs.Fields.{closedLink};
-ghost use Rattle.link.specs.Steps.{connectOf, versionOutOf, mayJudgeOf, versionAcceptedOf, mayBeatOf, watchdogOutOf, watchdogTakenOf, messageOutOf, removedOf, notedFor, noted, closesOf, answeredOf, aggregatedPassedOf, alarmPassedOf, crowdedOf, fullOf};
+ghost use Rattle.link.specs.Steps.{connectOf, versionOutOf, mayJudgeOf, versionAcceptedOf, mayBeatOf, watchdogOutOf, watchdogTakenOf, messageOutOf, answeredBy, aggregatedPassedOf, alarmPassedOf, crowdedOf, fullOf};
 ghost use Rattle.link.specs.Due.{alarmsFor, dueUp, dueOf};
 use awaited::Awaited;
 use awaited::Found;
@@ -55,6 +55,14 @@ pub struct Link {
     pub watchdogacked: bool,
     pub watchdogtaken: bool,
     pub aggregatedout: bool,
+}
+
+// What an answer comes to: the next link, what its identity was awaited for, and whether it closes: a MessageNotAck to our Version, or to
+// our Watchdog while Beating.
+pub struct Answered {
+    pub link: Link,
+    pub found: Found,
+    pub closes: bool,
 }
 
 fn is_up(p: Phase) -> bool
@@ -350,65 +358,36 @@ impl Link {
         16 <= a.how_many()
     }
 
-    fn removed(self, id: Identity) -> Link
-        ensures { λ r. ⌜ r ≡ removedOf self id ⌝ }
+    // The answer MessageAck or MessageNotAck to an identity.
+    pub fn answered(self, id: Identity, acknowledged: bool) -> Answered
+        ensures { λ r. ⌜ r ≡ answeredBy self id acknowledged ⌝ }
     {
         let before = self.awaited;
-        let after = before.remove(id);
-        let mut l = self;
-        l.awaited = after;
-        l
-    }
-
-    fn noted_for(self, sent: Purpose) -> Link
-        ensures { λ r. ⌜ r ≡ notedFor sent self ⌝ }
-    {
-        let mut l = self;
-        match sent {
-            Purpose::Version => {
-                l.versionacked = true;
-                l
-            }
-            Purpose::Watchdog => {
-                l.watchdogacked = true;
-                l
-            }
-            Purpose::Entry(_) => l,
-            Purpose::Other => l,
-        }
-    }
-
-    fn note(self, found: Found) -> Link
-        ensures { λ r. ⌜ r ≡ noted found self ⌝ }
-    {
-        match found {
-            Found::Nothing => self,
-            Found::For(sent) => self.noted_for(sent),
-        }
-    }
-
-    // Whether this answer closes the link: a MessageNotAck to our Version, or to our Watchdog while Beating.
-    pub fn closes(self, id: Identity, acknowledged: bool) -> bool
-        ensures { λ r. ⌜ r ≡ closesOf self id acknowledged ⌝ }
-    {
+        let taken = before.take(id);
+        let found = taken.found;
+        let after = taken.awaited;
+        let mut link = self;
+        let mut closes = false;
+        link.awaited = after;
         if acknowledged {
-            return false;
+            match found {
+                Found::Nothing => {}
+                Found::For(sent) => match sent {
+                    Purpose::Version => link.versionacked = true,
+                    Purpose::Watchdog => link.watchdogacked = true,
+                    Purpose::Entry(_) => {}
+                    Purpose::Other => {}
+                },
+            }
+        } else if closes_on(self.phase(), found) {
+            link = Link::closed();
+            closes = true;
         }
-        closes_on(self.phase(), self.awaits(id))
-    }
-
-    // The answer MessageAck or MessageNotAck to an identity.
-    pub fn answered(self, id: Identity, acknowledged: bool) -> Link
-        ensures { λ r. ⌜ r ≡ answeredOf self id acknowledged ⌝ }
-    {
-        if self.closes(id, acknowledged) {
-            return Link::closed();
+        Answered {
+            link,
+            found,
+            closes,
         }
-        let rest = self.removed(id);
-        if acknowledged {
-            return rest.note(self.awaits(id));
-        }
-        rest
     }
 
     // The first pass goes on: its AggregatedStatus went out.

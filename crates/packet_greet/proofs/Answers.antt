@@ -1,16 +1,14 @@
 -- The two ends of an answer to a message of ours, in place, the site's table being t.
 -- Assumes nothing.
 use Prim.Native.Nat.{ℕ}
-use mathlib.Core.Path.{_≡_, ap}
+use mathlib.Core.Path.{_≡_, ap, sym, _∙_}
 use mathlib.Core.Bool.{Bool, true, false}
 use mathlib.Core.List.{List}
 use Rattle.answer.specs.declared.Answer.{Answer}
 use Rattle.answer.specs.declared.Answer.the-variants.{Done}
 use Rattle.identity.specs.declared.Identity.{Identity}
-use Rattle.awaited.specs.declared.Found.{Found}
-use Rattle.awaited.specs.Awaited.{findOf}
-use Rattle.link.specs.declared.Link.{Link}
-use Rattle.link.specs.Steps.{closesOf, answeredOf}
+use Rattle.link.specs.declared.Answered.{Answered}
+use Rattle.link.specs.Steps.{answeredBy}
 use Rattle.table_whole.specs.declared.SiteTable.{SiteTable}
 use Rattle.site.specs.declared.Site.{Site}
 use Rattle.site.specs.declared.Step.{Step}
@@ -26,20 +24,24 @@ use Rattle.packet_greet.specs.Answered.{settled, answeredPlan}
 abbrev stepTo : ℕ → Site → Step
 stepTo mask s = record { site = s; answer = Done (report 0 0 0 mask) }
 
-module _ (t : SiteTable) (l time : ℕ) (id : Identity) (acknowledged : Bool) {ws vs : List ℕ} {r : Answer} where
+module _ (t : SiteTable) (l time : ℕ) (id : Identity) (acknowledged : Bool) {ws vs : List ℕ} {a : Answered} {r : Answer}
+    (comes : a ≡ answeredBy (linkAt (siteOf ws t) l) id acknowledged) where
   pub answer-closes : {mask : ℕ}
-      → closesOf (linkAt (siteOf ws t) l) id acknowledged ≡ true
+      → a .closes ≡ true
       → mask ≡ maskOf l
       → r ≡ Done (report 0 0 0 mask)
       → Turns (λ (s : Site). withLast (closeAt s l) time) ws vs
       → StepsIn t (stepOf (siteOf ws t) time never (answeredPlan (siteOf ws t) l id acknowledged) 0) ws vs r
-  answer-closes h f e u = record { step = rw (h, e, f) (ap (stepTo (maskOf l)) (u .site t)); plain = u .plain; kept = not-refused e }
+  answer-closes h f e u =
+      let closes = ap (λ (x : Answered). x .closes) comes in
+      record { step = rw (sym closes ∙ h, e, f) (ap (stepTo (maskOf l)) (u .site t)); plain = u .plain; kept = not-refused e }
 
-  pub answer-goes-on : {found : Found} {k : Link}
-      → closesOf (linkAt (siteOf ws t) l) id acknowledged ≡ false
-      → found ≡ findOf (linkAt (siteOf ws t) l .awaited) id
-      → k ≡ answeredOf (linkAt (siteOf ws t) l) id acknowledged
+  pub answer-goes-on : a .closes ≡ false
       → r ≡ Done (report 0 0 0 0)
-      → Turns (λ (s : Site). withLast (withLink (settled s l found) l k) time) ws vs
+      → Turns (λ (s : Site). withLast (withLink (settled s l (a .found)) l (a .link)) time) ws vs
       → StepsIn t (stepOf (siteOf ws t) time never (answeredPlan (siteOf ws t) l id acknowledged) 0) ws vs r
-  answer-goes-on h f g e u = record { step = rw (h, e, ← f, ← g) (ap (stepTo 0) (u .site t)); plain = u .plain; kept = not-refused e }
+  answer-goes-on h e u =
+      let closes = ap (λ (x : Answered). x .closes) comes in
+      let found = ap (λ (x : Answered). x .found) comes in
+      let next = ap (λ (x : Answered). x .link) comes in
+      record { step = rw (sym closes ∙ h, e, ← found, ← next) (ap (stepTo 0) (u .site t)); plain = u .plain; kept = not-refused e }

@@ -59,12 +59,15 @@ pub fn answered(w: &mut [u64], l: u16, time: u64, id: Identity, acknowledged: bo
     ensures { λ r. ⌜ ((t : SiteTable) → StepsIn t (stepOf (siteOf (now (w .entry)) t) time never (answeredPlan (siteOf (now (w .entry)) t) l id acknowledged) 0) (now (w .entry)) (now (w .exit)) r) ⌝ }
 {
     let k = store_site::parts::link(w, l as usize);
-    if k.closes(id, acknowledged) {
+    let a = k.answered(id, acknowledged);
+    if a.closes {
         store_call::close(w, l);
         return packet_answer::done(w, time, 0, 0, 0, site::bit_of(l));
     }
-    settled(w, l, k.awaits(id));
-    store_site::parts::put_link(w, l as usize, k.answered(id, acknowledged));
+    let found = a.found;
+    let next = a.link;
+    settled(w, l, found);
+    store_site::parts::put_link(w, l as usize, next);
     packet_answer::done(w, time, 0, 0, 0, 0)
 }
 

@@ -63,14 +63,19 @@ fn ours_out(kind: u8, g: Given, link: Link) -> Link {
     }
 }
 
+fn answered(g: Given, link: Link, acknowledged: bool) -> Link {
+    let a = link.answered(g.id, acknowledged);
+    a.link
+}
+
 fn acted(kind: u8, g: Given, link: Link) -> Link {
     match kind {
         b'0' => Link::closed(),
         b'c' => link.connect(),
         b'V' => link.version_accepted(g.major, g.minor, g.patch),
         b'W' => link.watchdog_taken(),
-        b'y' => link.answered(g.id, true),
-        b'n' => link.answered(g.id, false),
+        b'y' => answered(g, link, true),
+        b'n' => answered(g, link, false),
         _ => ours_out(kind, g, link),
     }
 }
@@ -158,8 +163,10 @@ fn put_link(line: &mut [u8], g: Given, link: Link) -> usize {
 
 // The link before an act: what an answer to the identity is for, and whether it closes.
 fn put_answer(line: &mut [u8], at: usize, kind: u8, g: Given, link: Link) -> usize {
-    let end = put_number(line, at, found_number(link.awaits(g.id)));
-    put_bool(line, end, link.closes(g.id, kind == b'y'))
+    let a = link.answered(g.id, kind == b'y');
+    let found = a.found;
+    let end = put_number(line, at, found_number(found));
+    put_bool(line, end, a.closes)
 }
 
 fn taken(link: Link) -> Turn {

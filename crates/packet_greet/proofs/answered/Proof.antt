@@ -1,9 +1,8 @@
 -- `packet_greet::answered` meets its contract.
 -- Assumes nothing.
-use mathlib.Core.Path.{ap, sym, _∙_}
-use Rattle.awaited.specs.Awaited.{findOf}
+use mathlib.Core.Path.{ap, _∙_}
 use Rattle.link.specs.declared.Link.{Link}
-use Rattle.link.specs.Steps.{closesOf, answeredOf}
+use Rattle.link.specs.Steps.{answeredBy}
 use Rattle.store_site.proofs.TurnsLaws.{turns-then}
 use Rattle.packet_greet.proofs.Answers.{answer-closes, answer-goes-on}
 use borrow.Author.Needs.{needs}
@@ -13,8 +12,8 @@ use Rattle.packet_greet.proofs.answered.Tie as tie
 link-requires : tie.Need-link-requires
 link-requires c κs = search needs
 
-closes-requires : tie.Need-closes-requires
-closes-requires c κs = search needs
+answered-requires : tie.Need-answered-requires
+answered-requires c κs = search needs
 
 close-requires : tie.Need-close-requires
 close-requires c κs = search needs
@@ -31,19 +30,15 @@ same-length c = search needs
 returns : tie.Need-returns
 returns c =
     let a = c .before .before .before .before .before .before .before .before .before .before .before .before .before .before .args in
+    let k = c .before .before .before .before .before .before .before .before .before .before .before .link .ensures in
     let done = c .before .before .done .ensures in
     λ t. answer-closes t (a .l) (a .time) (a .id) (a .acknowledged)
-    (sym (c .before .before .before .before .before .before .before .before .before .before .closes .ensures ∙ ap (λ (x : Link). closesOf x (a .id) (a .acknowledged)) (c .before .before .before .before .before .before .before .before .before .before .before .link .ensures t)) ∙ c .before .before .before .before .before .before .before .before .before .if1 .taken)
-    (c .before .before .before .bit-of .ensures) (done .0) (turns-then (c .before .before .before .before .before .before .before .close .ensures) (done .1))
-
-awaits-requires : tie.Need-awaits-requires
-awaits-requires c κs = search needs
+    (c .before .before .before .before .before .before .before .before .before .before .answered .ensures ∙ ap (λ (x : Link). answeredBy x (a .id) (a .acknowledged)) (k t))
+    (c .before .before .before .before .before .before .before .before .before .if1 .taken) (c .before .before .before .bit-of .ensures) (done .0)
+    (turns-then (c .before .before .before .before .before .before .before .close .ensures) (done .1))
 
 settled-requires : tie.Need-settled-requires
 settled-requires c κs = search needs
-
-answered-requires : tie.Need-answered-requires
-answered-requires c κs = search needs
 
 put-link-requires : tie.Need-put-link-requires
 put-link-requires c κs = search needs
@@ -56,30 +51,26 @@ same-length-2 c = search needs
 
 returns-2 : tie.Need-returns-2
 returns-2 c =
-    let a = c .before .before .before .before .before .before .before .before .before .before .before .before .before .before .before .before .before .before .before .args in
+    let a = c .before .before .before .before .before .before .before .before .before .before .before .before .before .before .before .before .before .before .args in
+    let k = c .before .before .before .before .before .before .before .before .before .before .before .before .before .before .before .link .ensures in
     let done = c .before .before .done2 .ensures in
-    let k = c .before .before .before .before .before .before .before .before .before .before .before .before .before .before .before .before .link .ensures in
     λ t. answer-goes-on t (a .l) (a .time) (a .id) (a .acknowledged)
-    (sym (c .before .before .before .before .before .before .before .before .before .before .before .before .before .before .before .closes .ensures ∙ ap (λ (x : Link). closesOf x (a .id) (a .acknowledged)) (k t)) ∙ c .before .before .before .before .before .before .before .before .before .before .before .before .before .before .if1 .left)
-    (c .before .before .before .before .before .before .before .before .before .before .before .before .awaits .ensures ∙ ap (λ (x : Link). findOf (x .awaited) (a .id)) (k t))
-    (c .before .before .before .before .before .before .before .answered .ensures ∙ ap (λ (x : Link). answeredOf x (a .id) (a .acknowledged)) (k t))
-    (done .0)
-    (turns-then (turns-then (c .before .before .before .before .before .before .before .before .before .before .before .settled .ensures) (c .before .before .before .before .before .before .put-link .ensures)) (done .1))
+    (c .before .before .before .before .before .before .before .before .before .before .before .before .before .before .answered .ensures ∙ ap (λ (x : Link). answeredBy x (a .id) (a .acknowledged)) (k t))
+    (c .before .before .before .before .before .before .before .before .before .before .before .before .before .if1 .left) (done .0)
+    (turns-then (turns-then (c .before .before .before .before .before .before .before .before .before .before .settled .ensures) (c .before .before .before .before .before .before .put-link .ensures)) (done .1))
 
 pub answered-spec : {M : Type 1} → statement M
 answered-spec =
     tie.close
     (tie.spec
     link-requires
-    closes-requires
+    answered-requires
     close-requires
     bit-of-requires
     done-requires
     same-length
     returns
-    awaits-requires
     settled-requires
-    answered-requires
     put-link-requires
     done-requires-2
     same-length-2

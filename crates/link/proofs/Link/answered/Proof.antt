@@ -1,45 +1,113 @@
-use mathlib.Core.Path.{sym, _∙_}
-use Rattle.link.specs.Steps.{answeredOf}
+use mathlib.Core.Path.{_≡_, ap, sym, _∙_}
+use Rattle.awaited.specs.declared.Taken.{Taken}
+use Rattle.awaited.specs.declared.Purpose.{Purpose}
+use Rattle.awaited.specs.declared.Purpose.the-variants.{Version, Watchdog, Entry, Other}
+use Rattle.awaited.specs.declared.Found.the-variants.{For}
+use Rattle.link.specs.Steps.{removedOf, notedFor, noted, closesOf, answeredOf}
 use borrow.Author.Needs.{needs}
 use Rattle.link.proofs.Link.answered.Statement.{statement}
 use Rattle.link.proofs.Link.answered.Tie as tie
 
-closes-requires : tie.Need-closes-requires
-closes-requires c κs = search needs
+found-for : {t u : Taken} {p : Purpose} (q : Purpose) → t ≡ u → t .found ≡ For p → p ≡ q → u .found ≡ For q
+found-for q take known told = sym (ap (λ (x : Taken). x .found) take) ∙ known ∙ ap For told
+
+take-requires : tie.Need-take-requires
+take-requires c κs = search needs
+
+enum-told : tie.Need-enum-told
+enum-told c = search needs
+
+enum-known-found : tie.Need-enum-known-found
+enum-known-found c = search needs
+
+enum-told-2 : tie.Need-enum-told-2
+enum-told-2 c = search needs
+
+enum-told-3 : tie.Need-enum-told-3
+enum-told-3 c = search needs
+
+enum-told-4 : tie.Need-enum-told-4
+enum-told-4 c = search needs
+
+enum-told-5 : tie.Need-enum-told-5
+enum-told-5 c = search needs
+
+phase-requires : tie.Need-phase-requires
+phase-requires c κs = search needs
+
+closes-on-requires : tie.Need-closes-on-requires
+closes-on-requires c κs = search needs
 
 closed-requires : tie.Need-closed-requires
 closed-requires c κs = search needs
 
 returns : tie.Need-returns
-unfolding answeredOf
-returns c = rw (c .closed .ensures, sym (c .before .before .closes .ensures) ∙ c .before .if1 .taken)
-
-removed-requires : tie.Need-removed-requires
-removed-requires c κs = search needs
-
-awaits-requires : tie.Need-awaits-requires
-awaits-requires c κs = search needs
-
-note-requires : tie.Need-note-requires
-note-requires c κs = search needs
+unfolding answeredOf closesOf noted removedOf
+returns c =
+    let take = c .before .before .before .before .take .ensures in
+    let none = sym (ap (λ (t : Taken). t .found) take) ∙ c .enum-told .given .1 in
+    rw (take, none, c .before .before .if1 .taken)
 
 returns-2 : tie.Need-returns-2
-unfolding answeredOf
-returns-2 c = rw (sym (c .before .before .before .before .before .closes .ensures) ∙ c .before .before .before .before .if1 .left, c .before .before .if2 .taken, ← c .before .before .before .removed .ensures, ← c .before .awaits .ensures) (c .note .ensures)
+unfolding answeredOf closesOf noted notedFor removedOf
+returns-2 c =
+    let take = c .before .before .before .before .before .before .before .take .ensures in
+    let told = c .enum-told2 .given .1 in
+    rw (take, found-for Version take (c .before .before .before .found .given .1) told, told, c .before .before .before .before .before .if1 .taken)
 
 returns-3 : tie.Need-returns-3
-unfolding answeredOf
-returns-3 c = rw (sym (c .before .before .before .closes .ensures) ∙ c .before .before .if1 .left, c .if2 .left) (c .before .removed .ensures)
+unfolding answeredOf closesOf noted notedFor removedOf
+returns-3 c =
+    let take = c .before .before .before .before .before .before .before .take .ensures in
+    let told = c .enum-told3 .given .1 in
+    rw (take, found-for Watchdog take (c .before .before .before .found .given .1) told, told, c .before .before .before .before .before .if1 .taken)
+
+returns-4 : tie.Need-returns-4
+unfolding answeredOf closesOf noted notedFor removedOf
+returns-4 c =
+    let take = c .before .before .before .before .before .before .before .take .ensures in
+    let told = c .enum-told4 .given .1 in
+    rw (take, found-for (Entry _) take (c .before .before .before .found .given .1) told, told, c .before .before .before .before .before .if1 .taken)
+
+returns-5 : tie.Need-returns-5
+unfolding answeredOf closesOf noted notedFor removedOf
+returns-5 c =
+    let take = c .before .before .before .before .before .before .before .take .ensures in
+    let told = c .enum-told5 .given .1 in
+    rw (take, found-for Other take (c .before .before .before .found .given .1) told, told, c .before .before .before .before .before .if1 .taken)
+
+returns-6 : tie.Need-returns-6
+unfolding answeredOf closesOf
+returns-6 c =
+    let take = c .before .before .before .before .before .before .take .ensures in
+    let found = ap (λ (t : Taken). t .found) take in
+    rw (take, c .closed .ensures, c .before .before .before .before .if1 .left, ← c .before .before .before .phase .ensures, ← found, sym (c .before .before .closes-on .ensures) ∙ c .before .if2 .taken)
+
+returns-7 : tie.Need-returns-7
+unfolding answeredOf closesOf removedOf
+returns-7 c =
+    let take = c .before .before .before .before .before .take .ensures in
+    let found = ap (λ (t : Taken). t .found) take in
+    rw (take, c .before .before .before .if1 .left, ← c .before .before .phase .ensures, ← found, sym (c .before .closes-on .ensures) ∙ c .if2 .left)
 
 pub answered-spec : {M : Type 1} → statement M
 answered-spec =
     tie.close
     (tie.spec
-    closes-requires
+    take-requires
+    enum-told
+    enum-known-found
+    enum-told-2
+    enum-told-3
+    enum-told-4
+    enum-told-5
+    phase-requires
+    closes-on-requires
     closed-requires
     returns
-    removed-requires
-    awaits-requires
-    note-requires
     returns-2
-    returns-3)
+    returns-3
+    returns-4
+    returns-5
+    returns-6
+    returns-7)
