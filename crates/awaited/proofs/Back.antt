@@ -37,6 +37,23 @@ module _ {A : Type 0} (f : A → Bool) where
       (λ t. rw t (omega arith))
       (λ t. rw t (omega arith)))
 
+  pub first-here : (l : List A) (i : ℕ) (d : A) → i < length l → f (getD l i d) ≡ true → firstOf f l ≡ i + firstOf f (drop i l) → i ≡ firstOf f l
+  unfolding firstOf
+  first-here l i d h t e =
+      let z : firstOf f (drop i l) ≡ 0 = rw (drop-cons l i d h, t) in
+      omega arith
+
+  pub first-next : (l : List A) (i : ℕ) (d : A) → i < length l → f (getD l i d) ≡ false → firstOf f l ≡ i + firstOf f (drop i l)
+      → firstOf f l ≡ i + 1 + firstOf f (drop (i + 1) l)
+  unfolding firstOf
+  first-next l i d h t e =
+      let n : suc i ≡ i + 1 = omega arith in
+      let z : firstOf f (drop i l) ≡ suc (firstOf f (drop (i + 1) l)) = rw (drop-cons l i d h, t) (ap (λ (k : ℕ). suc (firstOf f (drop k l))) n) in
+      omega arith
+
+  pub first-none : (l : List A) (n i : ℕ) → length l ≡ n → n ≡ i → firstOf f l ≡ i + firstOf f (drop i l) → n ≡ firstOf f l
+  first-none l n i h p e = omega (arith, first-end l i (h ∙ p))
+
   pub count-end : (l : List A) (n : ℕ) → length l ≡ n → 0 ≡ count f (drop n l)
   count-end l n h = rw (drop-end l n h)
 

@@ -160,13 +160,14 @@ fn place_of(slots: [Slot; 16], id: Identity) -> usize
     ensures first { λ r. ⌜ r ≡ firstOf (awaitsFor id) slots ⌝ }
     ensures sixteen { λ r. ⌜ length slots ≡ 16 ⌝ }
 {
-    let mut at: usize = 16;
-    let mut i: usize = 16;
-    while 0 < i {
-        i -= 1;
-        at = nearer(at, i, answers_to(slots[i], id));
+    let mut i: usize = 0;
+    while i < 16 {
+        if answers_to(slots[i], id) {
+            return i;
+        }
+        i += 1;
     }
-    at
+    16
 }
 
 fn counted(n: usize, w: Slot) -> usize
@@ -244,18 +245,15 @@ impl Awaited {
         ensures { λ r. ⌜ r ≡ takeOf self id ⌝ }
     {
         let mut slots = self.slots;
+        let mut found = Found::Nothing;
         let at = place_of(slots, id);
         if at < 16 {
             let w = slots[at];
-            let found = Found::For(sent_for(w));
+            found = Found::For(sent_for(w));
             slots[at] = free_slot();
-            let awaited = Awaited { slots };
-            return Taken { awaited, found };
         }
-        Taken {
-            awaited: self,
-            found: Found::Nothing,
-        }
+        let awaited = Awaited { slots };
+        Taken { awaited, found }
     }
 
     pub fn how_many(self) -> usize

@@ -1,28 +1,23 @@
 use Prim.Native.Nat.{_≤_, _-_, _+_}
-use mathlib.Core.Path.{_≡_, _∙_}
+use mathlib.Core.Path.{_≡_, sym, _∙_}
 use native.Mathlib.Omega.{arith}
 use native.Mathlib.Nat.{zero-add}
 use borrow.Author.Needs.{needs}
 use lib.ListN.{length, drop}
 use Rattle.awaited.specs.Lists.{firstOf}
 use Rattle.awaited.specs.Slot.{awaitsFor}
-use Rattle.awaited.proofs.Back.{first-end, first-back}
+use Rattle.awaited.proofs.Back.{first-here, first-next, first-none}
 use Rattle.awaited.proofs.place_of.Statement.{statement}
 use Rattle.awaited.proofs.place_of.Tie as tie
 
 abbrev Inv-loop : tie.InvT-loop
-Inv-loop id slots at₀ i₀ at i = (i ≤ 16) × (at ≡ i + firstOf (awaitsFor id) (drop i slots))
+Inv-loop id slots i₀ i = (i ≤ 16) × (firstOf (awaitsFor id) slots ≡ i + firstOf (awaitsFor id) (drop i slots))
 
 abbrev μ-loop : tie.MeasureT-loop
-μ-loop id slots at₀ i₀ at i = i
+μ-loop id slots i₀ i = 16 - i
 
 loop-holds : tie.Need-loop-holds Inv-loop μ-loop
-loop-holds c =
-    let h : length (c .args .t1) ≡ 16 = search needs in
-    (omega arith, first-end (awaitsFor (c .args .id)) (c .args .t1) 16 h)
-
-sub-i : tie.Need-sub-i Inv-loop μ-loop
-sub-i c = omega arith
+loop-holds c = (omega arith, sym (zero-add _))
 
 mul-answers-to : tie.Need-mul-answers-to Inv-loop μ-loop
 mul-answers-to c = omega arith
@@ -33,8 +28,15 @@ array-copy-out-answers-to c = omega arith
 answers-to-requires : tie.Need-answers-to-requires Inv-loop μ-loop
 answers-to-requires c κs = search needs
 
-nearer-requires : tie.Need-nearer-requires Inv-loop μ-loop
-nearer-requires c κs = search needs
+returns : tie.Need-returns Inv-loop μ-loop
+returns c =
+    let l = c .before .before .before .before .before .args .t1 in
+    let at = c .before .before .before .before .loop in
+    let h : length l ≡ 16 = search needs in
+    (first-here (awaitsFor _) l (at .i) _ (omega arith) (sym (c .before .answers-to .ensures) ∙ c .if1 .taken) (at .inv .1), h)
+
+add-i : tie.Need-add-i Inv-loop μ-loop
+add-i c = omega arith
 
 loop-less : tie.Need-loop-less Inv-loop μ-loop
 loop-less c = omega arith
@@ -42,15 +44,16 @@ loop-less c = omega arith
 loop-again : tie.Need-loop-again Inv-loop μ-loop
 loop-again c =
     let l = c .before .before .before .before .before .args .t1 in
-    let i = c .before .before .before .before .loop .i in
+    let at = c .before .before .before .before .loop in
     let h : length l ≡ 16 = search needs in
-    (omega arith, rw (c .nearer .ensures, c .before .answers-to .ensures) (first-back (awaitsFor _) l i _ _ (omega arith) (omega arith) (c .before .before .before .before .loop .inv .1)))
+    (omega arith, first-next (awaitsFor _) l (at .i) _ (omega arith) (sym (c .before .answers-to .ensures) ∙ c .if1 .left) (at .inv .1))
 
-returns : tie.Need-returns Inv-loop μ-loop
-returns c =
-    let e : c .before .loop .i ≡ 0 = omega arith in
-    let h : length (c .before .before .args .t1) ≡ 16 = search needs in
-    ((rw e at (c .before .loop .inv .1)) ∙ zero-add _, h)
+returns-2 : tie.Need-returns-2 Inv-loop μ-loop
+returns-2 c =
+    let l = c .before .before .args .t1 in
+    let at = c .before .loop in
+    let h : length l ≡ 16 = search needs in
+    (first-none (awaitsFor _) l 16 (at .i) h (omega arith) (at .inv .1), h)
 
 pub place-of-spec : {M : Type 1} → statement M
 place-of-spec =
@@ -59,11 +62,11 @@ place-of-spec =
     Inv-loop
     μ-loop
     loop-holds
-    sub-i
     mul-answers-to
     array-copy-out-answers-to
     answers-to-requires
-    nearer-requires
+    returns
+    add-i
     loop-less
     loop-again
-    returns)
+    returns-2)
