@@ -2,5 +2,6 @@
 pub mod Walks
 mod Steps
 mod Noted
+pub mod Once
 pub mod Meaning
 pub mod Kept

@@ -2,4 +2,5 @@ pub mod Kinds
 pub mod Entries
 pub mod Lookup
 pub mod Index
+pub mod Four
 pub mod Claims

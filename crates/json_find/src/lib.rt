@@ -8,6 +8,24 @@ ghost use Rattle.json_find.specs.Kinds.{stringAt};
 ghost use Rattle.json_value.specs.Reader.{skipWs};
 ghost use Rattle.json_find.specs.Entries.{nextEntry, entries, insideAt, firstNamed, memberAt};
 ghost use Rattle.json_find.specs.Index.{textsAt, Indexed};
+ghost use Rattle.basis.specs.Pick.{pick};
+ghost use Rattle.json_find.specs.Four.{orElse, withEntry, nothing, Follows, TurnAt, FindsFour};
+
+// The places of the values of four names in an object, and where the object ends.
+pub struct FourFound {
+    pub first: Read,
+    pub second: Read,
+    pub third: Read,
+    pub fourth: Read,
+    pub end: Read,
+}
+
+// The value's place of an object's entry, with where the object ends or where the next entry begins.
+pub enum Turn {
+    Last(usize, usize),
+    Next(usize, usize),
+    Stop,
+}
 
 // Whether the value at a place is a string that is `fixed` after decoding.
 fn is_string(s: &[u8], at: usize, fixed: &[u8]) -> bool
@@ -47,6 +65,21 @@ pub fn step(s: &[u8], at: usize, close: u8) -> Read
     ensures { λ r. ⌜ Ends (now (s .entry)) at (nextEntry close (drop at (now (s .entry)))) r ⌝ }
 {
     let m = json_value::entry(s, at, 7, close);
+    match m {
+        Mark::Comma(n) => Read::End(n),
+        Mark::Close(_) => Read::Bad,
+        Mark::Neither => Read::Bad,
+    }
+}
+
+// The same where the end of the entry's value is known.
+pub fn step_from(s: &[u8], end: Read, close: u8) -> Read
+    ensures { λ r. ⌜ Follows (now (s .entry)) close end r ⌝ }
+{
+    let Read::End(e) = end else {
+        return Read::Bad;
+    };
+    let m = json_value::after(s, e, close);
     match m {
         Mark::Comma(n) => Read::End(n),
         Mark::Close(_) => Read::Bad,
@@ -106,4 +139,139 @@ pub fn member_of(s: &[u8], places: &[usize], name: &[u8]) -> Read
         return member(s, json_value::space(s, 0), name);
     }
     among(s, places, name)
+}
+
+// Each of four names looked up for itself, and the end read for itself.
+fn each_alone(
+    s: &[u8],
+    at: usize,
+    first: &[u8],
+    second: &[u8],
+    third: &[u8],
+    fourth: &[u8],
+) -> FourFound
+    ensures { λ r. ⌜ FindsFour (now (s .entry)) at (now (first .entry)) (now (second .entry)) (now (third .entry)) (now (fourth .entry)) r ⌝ }
+{
+    FourFound {
+        first: member(s, at, first),
+        second: member(s, at, second),
+        third: member(s, at, third),
+        fourth: member(s, at, fourth),
+        end: json_value::value(s, at, 7),
+    }
+}
+
+// The entry at a place of an object that has seven levels.
+fn take_turn(s: &[u8], at: usize) -> Turn
+    ensures { λ r. ⌜ TurnAt (now (s .entry)) at r ⌝ }
+{
+    let p = json_value::start(s, at, b'}');
+    let Read::End(v) = p else {
+        return Turn::Stop;
+    };
+    let q = json_value::value(s, v, 6);
+    let Read::End(e) = q else {
+        return Turn::Stop;
+    };
+    let m = json_value::after(s, e, b'}');
+    match m {
+        Mark::Close(n) => Turn::Last(v, n),
+        Mark::Comma(n) => Turn::Next(v, n),
+        Mark::Neither => Turn::Stop,
+    }
+}
+
+// What was found before, or else the value's place of an entry that has the name.
+fn or_else(found: Read, s: &[u8], at: usize, v: usize, name: &[u8]) -> Read
+    ensures { λ r. ⌜ r ≡ orElse found (pick (stringAt (now (name .entry)) (drop at (now (s .entry)))) (Read.End v) Read.Bad) ⌝ }
+{
+    match found {
+        Read::End(e) => Read::End(e),
+        Read::Bad => {
+            if is_string(s, at, name) {
+                return Read::End(v);
+            }
+            Read::Bad
+        }
+    }
+}
+
+// What is found with the entry at a place, whose value begins at v.
+fn with_entry(
+    found: FourFound,
+    s: &[u8],
+    at: usize,
+    v: usize,
+    first: &[u8],
+    second: &[u8],
+    third: &[u8],
+    fourth: &[u8],
+    end: Read,
+) -> FourFound
+    ensures { λ r. ⌜ r ≡ withEntry found (drop at (now (s .entry))) v (now (first .entry)) (now (second .entry)) (now (third .entry)) (now (fourth .entry)) end ⌝ }
+{
+    let k = json_value::space(s, at);
+    let a = found.first;
+    let b = found.second;
+    let c = found.third;
+    let d = found.fourth;
+    FourFound {
+        first: or_else(a, s, k, v, first),
+        second: or_else(b, s, k, v, second),
+        third: or_else(c, s, k, v, third),
+        fourth: or_else(d, s, k, v, fourth),
+        end,
+    }
+}
+
+fn nothing_yet() -> FourFound
+    ensures { λ r. ⌜ r ≡ nothing ⌝ }
+{
+    FourFound {
+        first: Read::Bad,
+        second: Read::Bad,
+        third: Read::Bad,
+        fourth: Read::Bad,
+        end: Read::Bad,
+    }
+}
+
+// The places of the values of four names in the object at a place, and its end, in one walk.
+pub fn four(
+    s: &[u8],
+    at: usize,
+    first: &[u8],
+    second: &[u8],
+    third: &[u8],
+    fourth: &[u8],
+) -> FourFound
+    ensures { λ r. ⌜ FindsFour (now (s .entry)) at (now (first .entry)) (now (second .entry)) (now (third .entry)) (now (fourth .entry)) r ⌝ }
+{
+    let p = inside(s, at, b'{', b'}');
+    let Read::End(start) = p else {
+        return each_alone(s, at, first, second, third, fourth);
+    };
+    let mut found = nothing_yet();
+    let mut i = start;
+    loop {
+        let t = take_turn(s, i);
+        match t {
+            Turn::Last(v, e) => return with_entry(
+                found,
+                s,
+                i,
+                v,
+                first,
+                second,
+                third,
+                fourth,
+                Read::End(e),
+            ),
+            Turn::Next(v, n) => {
+                found = with_entry(found, s, i, v, first, second, third, fourth, Read::Bad);
+                i = n;
+            }
+            Turn::Stop => return each_alone(s, at, first, second, third, fourth),
+        }
+    }
 }
