@@ -12,13 +12,15 @@ use lib.Seq.{take-at}
 use borrow.Author.Tests.{leb-true}
 use Rattle.basis.specs.Pick.{pick, both}
 use Rattle.json_text.specs.declared.Copied.{Copied}
+use Rattle.json_text.specs.declared.Read.{Read}
+use Rattle.json_text.specs.declared.Read.the-variants.{End, Bad}
 use Rattle.json_text.specs.Decoded.{Parsed, decoded}
 use Rattle.json_text.specs.Decoded.Parsed.{ok, none}
 use Rattle.json_text.specs.Copied.{ascii, noCopy, copied, copyOf}
 use Rattle.json_find.specs.Entries.{memberAt}
 use Rattle.label.proofs.Padded.{take-short}
 use Rattle.read_head.specs.declared.Element.{Element}
-use Rattle.read_head.specs.Word.{Word, absent, other, word, wordFor, readWord, wordHere, wordBehind, wordAt, elementOf, wordOf}
+use Rattle.read_head.specs.Word.{Word, absent, other, word, wordFor, readWord, wordHere, wordBehind, wordFound, wordAt, elementOf, wordOf}
 use Rattle.read_head.specs.Head.{characters}
 
 abbrev usable : List ℕ → Bool
@@ -53,6 +55,11 @@ found-here (b ∷ t) = by (eqb b 0x22)
 found-behind : (p : Parsed (List ℕ)) → Found (wordBehind p)
 found-behind (ok x t) = found-here t
 found-behind none = nowhere
+
+pub found-from : (s : List ℕ) (r : Read) → Found (wordFound s r)
+unfolding wordFound
+found-from s (End v) = found-here (drop v s)
+found-from s Bad = nowhere
 
 pub found-at : (t name : List ℕ) → Found (wordAt t name)
 unfolding wordAt

@@ -7,17 +7,14 @@ use Prim.Native.Nat.{ℕ, _+_, _≤_, _<_}
 use lib.ListN.{length, drop, getD}
 use borrow.Author.Tests.{eq-eqb, ne-eqb}
 use Rattle.json_text.specs.declared.Read.{Read}
-use Rattle.json_text.specs.declared.Read.the-variants.{End, Bad}
 use Rattle.json_text.specs.Decoded.{Parsed, decoded}
-use Rattle.json_text.specs.Decoded.Parsed.{ok, none}
 use Rattle.json_text.specs.Ends.{Ends}
+use Rattle.json_text.specs.Ends.Ends.{ends, fails}
 use Rattle.json_text.specs.Copied.{noCopy, copyOf}
 use Rattle.json_character.proofs.Lists.{next, past}
-use Rattle.json_text.proofs.Endings.{failed as ends-bad}
-use Rattle.json_value.proofs.Places.{ended}
 use Rattle.json_find.specs.Entries.{memberAt}
 use Rattle.read_head.specs.declared.Element.{Element}
-use Rattle.read_head.specs.Word.{Word, wordHere, wordBehind, wordAt, elementOf}
+use Rattle.read_head.specs.Word.{Word, wordHere, wordBehind, wordFound, wordAt, elementOf}
 use Rattle.read_head.proofs.Copies.{copied-read}
 
 module _ (s : List ℕ) (i : ℕ) where
@@ -35,11 +32,12 @@ module _ (s : List ℕ) (i : ℕ) where
     value-string e = copied-read (decoded (drop (i + 1) s)) ∙ sym (rw (next s i h, eq-eqb (getD s i 0) 0x22 e))
 
 -- what is found of a name in a text that stands behind place i
-module _ (s t : List ℕ) (i : ℕ) (name : List ℕ) where
-  pub missing : Ends s i (memberAt name t) Bad → record { there = false; copy = noCopy } ≡ elementOf (wordAt t name)
-  unfolding wordAt
-  missing x = sym (rw (ends-bad x))
 
-  pub there : (v : ℕ) → Ends s i (memberAt name t) (End v) → elementOf (wordHere (drop v s)) ≡ elementOf (wordAt t name)
-  unfolding wordAt
-  there v x = sym (rw (ended x .reads))
+found-behind : {s : List ℕ} {i : ℕ} {p : Parsed (List ℕ)} {r : Read} → Ends s i p r → wordFound s r ≡ wordBehind p
+unfolding wordFound
+found-behind (ends e a b) = refl
+found-behind fails = refl
+
+pub found-word : (s t : List ℕ) (i : ℕ) (name : List ℕ) (r : Read) → Ends s i (memberAt name t) r → wordFound s r ≡ wordAt t name
+unfolding wordAt
+found-word s t i name r x = found-behind x

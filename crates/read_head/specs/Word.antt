@@ -4,8 +4,10 @@ use mathlib.Core.Bool.{Bool, true, false}
 use mathlib.Core.List.{List, [], _∷_}
 use Prim.Native.Nat.{ℕ}
 use lib.Dec.{leb, eqb}
-use lib.ListN.{length, take}
+use lib.ListN.{length, take, drop}
 use Rattle.basis.specs.Pick.{pick, both}
+use Rattle.json_text.specs.declared.Read.{Read}
+use Rattle.json_text.specs.declared.Read.the-variants.{End, Bad}
 use Rattle.json_text.specs.Decoded.{Parsed, decoded}
 use Rattle.json_text.specs.Decoded.Parsed.{ok, none}
 use Rattle.json_text.specs.Copied.{ascii, noCopy, copied}
@@ -57,6 +59,11 @@ wordBehind none = absent
 
 unfoldable pub wordAt : List ℕ → List ℕ → Word
 wordAt t name = wordBehind (memberAt name t)
+
+-- the element whose value a lookup in s found
+unfoldable pub wordFound : List ℕ → Read → Word
+wordFound s (End v) = wordHere (drop v s)
+wordFound s Bad = absent
 
 -- an element as it is copied, and what the copy says
 abbrev pub elementOf : Word → Element

@@ -16,7 +16,7 @@ ghost use Rattle.json_text.specs.Copied.{noCopy};
 ghost use Rattle.json_value.specs.Reader.{skipWs};
 ghost use Rattle.json_find.specs.Index.{Indexed};
 ghost use Rattle.json_packet.specs.Packet.{isPacket};
-ghost use Rattle.read_head.specs.Word.{word, wordHere, wordAt, elementOf, wordOf};
+ghost use Rattle.read_head.specs.Word.{word, wordHere, wordFound, wordAt, elementOf, wordOf};
 ghost use Rattle.read_head.specs.Values.{worst as worstOf, verdictOf, noText, gotLabel, noTime, gotTime, anOrder, gotOrder, orderFor};
 ghost use Rattle.basis.specs.Pick.{pick};
 ghost use Rattle.identity.specs.Read.{notFound};
@@ -136,15 +136,21 @@ fn value_at(s: &[u8], at: usize) -> Element
     }
 }
 
+// The element whose value a lookup found.
+pub fn element_at(s: &[u8], found: Read) -> Element
+    ensures { λ r. ⌜ r ≡ elementOf (wordFound (now (s .entry)) found) ⌝ }
+{
+    match found {
+        Read::Bad => unusable(false),
+        Read::End(v) => value_at(s, v),
+    }
+}
+
 // The element with a name of the object at a place.
 pub fn element_in(s: &[u8], at: usize, name: &[u8]) -> Element
     ensures { λ r. ⌜ r ≡ elementOf (wordAt (drop at (now (s .entry))) (now (name .entry))) ⌝ }
 {
-    let p = json_find::member(s, at, name);
-    match p {
-        Read::Bad => unusable(false),
-        Read::End(v) => value_at(s, v),
-    }
+    element_at(s, json_find::member(s, at, name))
 }
 
 // The element with a name of the packet's object, whose entries' places may be noted.
@@ -152,11 +158,7 @@ pub fn element_of(s: &[u8], places: &[usize], name: &[u8]) -> Element
     requires { ⌜ Indexed (now s) (now places) ⌝ }
     ensures { λ r. ⌜ r ≡ elementOf (wordAt (skipWs (now (s .entry))) (now (name .entry))) ⌝ }
 {
-    let p = json_find::member_of(s, places, name);
-    match p {
-        Read::Bad => unusable(false),
-        Read::End(v) => value_at(s, v),
-    }
+    element_at(s, json_find::member_of(s, places, name))
 }
 
 pub fn at_most_36(n: usize) -> usize
@@ -304,6 +306,13 @@ pub fn worst(a: Verdict, b: Verdict) -> Verdict
         },
         Verdict::Good => b,
     }
+}
+
+// The used string that is the element whose value a lookup found.
+pub fn label_at(s: &[u8], found: Read) -> GotLabel
+    ensures { λ r. ⌜ r ≡ gotLabel (wordFound (now (s .entry)) found) ⌝ }
+{
+    label_of(element_at(s, found))
 }
 
 // The used string that is the element with a name of the object at a place.

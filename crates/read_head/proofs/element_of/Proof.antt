@@ -1,43 +1,20 @@
+-- `read_head::element_of` meets its contract.
+-- Assumes nothing.
 use borrow.Author.Needs.{needs}
-use mathlib.Core.Path.{_≡_, refl, sym, ap, ap₂, _∙_}
-use Rattle.read_head.proofs.Places.{missing, there}
+use mathlib.Core.Path.{ap, _∙_}
+use Rattle.read_head.specs.Word.{elementOf}
+use Rattle.read_head.proofs.Places.{found-word}
 use Rattle.read_head.proofs.element_of.Statement.{statement}
 use Rattle.read_head.proofs.element_of.Tie as tie
-use Rattle.read_head.proofs.element_of.Reads as reads
-use Rattle.read_head.proofs.element_of.Lts as lts
-use Rattle.json_find.proofs.member_of.Reads as member-of-reads
-use Rattle.read_head.proofs.unusable.Reads as unusable-reads
-use Rattle.read_head.proofs.value_at.Reads as value-at-reads
 
 member-of-requires : tie.Need-member-of-requires
 member-of-requires c κs = search needs
 
-enum-told : tie.Need-enum-told
-enum-told c = search needs
-
-unusable-requires : tie.Need-unusable-requires
-unusable-requires c κs = search needs
-
-enum-known-p : tie.Need-enum-known-p
-enum-known-p c = search needs
-
-value-at-requires : tie.Need-value-at-requires
-value-at-requires c κs = search needs
+element-at-requires : tie.Need-element-at-requires
+element-at-requires c κs = search needs
 
 returns : tie.Need-returns
-returns c = c .unusable .ensures ∙ missing _ _ _ _ (rw (c .before .enum-told .given .1) at (c .before .before .before .member-of .ensures))
-
-returns-2 : tie.Need-returns-2
-returns-2 c = c .value-at .ensures ∙ there _ _ _ _ _ (rw (c .before .before .p .given .1) at (c .before .before .before .before .member-of .ensures))
+returns c = c .element-at .ensures ∙ ap elementOf (found-word _ _ _ _ _ (c .before .member-of .ensures))
 
 pub element-of-spec : {M : Type 1} → statement M
-element-of-spec =
-    tie.close
-    (tie.spec
-    member-of-requires
-    enum-told
-    unusable-requires
-    enum-known-p
-    value-at-requires
-    returns
-    returns-2)
+element-of-spec = tie.close (tie.spec member-of-requires element-at-requires returns)
