@@ -1,4 +1,5 @@
 pub mod Walk
+mod Once
 pub mod Listed
 pub mod Worst
 mod Seconds

@@ -5,19 +5,22 @@ use mathlib.Core.Bool.{Bool, true, false}
 use mathlib.Core.List.{List, [], _∷_}
 use Prim.Native.Nat.{ℕ, _≤_, _<_}
 use lib.Dec.{eqb}
-use lib.ListN.{length, drop, getD}
+use lib.ListN.{length, drop, length-drop, getD}
+use native.Mathlib.Omega.{arith}
+use Rattle.json_text.specs.declared.Read.{Read}
 use Rattle.json_text.specs.declared.Read.the-variants.{End, Bad}
+use Rattle.json_text.specs.Decoded.{Parsed}
 use Rattle.json_text.specs.Decoded.Parsed.{ok, none}
 use Rattle.json_text.specs.Ends.{Ends}
-use Rattle.json_value.specs.Reader.{skipWs}
+use Rattle.json_text.specs.Ends.Ends.{ends, fails}
+use Rattle.json_value.specs.Reader.{skipWs, unnamed, readStart}
 use Rattle.json_value.specs.Answers.{Skipped}
 use Rattle.json_character.proofs.Lists.{next, past}
 use Rattle.json_text.proofs.Endings.{failed as ends-bad}
 use Rattle.json_value.proofs.Places.{ended}
 use Rattle.json_find.specs.Entries.{nextEntry, entries, insideAt, entriesAt, memberAt}
 use Rattle.json_find.proofs.Walks as Walks
-use Rattle.read_lists.specs.declared.Flag.the-variants.{Absent}
-use Rattle.read_lists.specs.Items.{Item, Items, absent, begins, flagHere, flagAt, itemAt, itemsAt, listHere, listAt}
+use Rattle.read_lists.specs.Items.{Item, absent, begins, flagBehind, flagFound, flagAt, itemAt, itemsAt, listHere, listAt}
 use Rattle.read_lists.specs.Gather.{gather, gathered}
 
 module _ (s : List ℕ) (i : ℕ) (first : ℕ) where
@@ -41,14 +44,36 @@ module _ {A : Type 0} (push : A → Item → A) (s : List ℕ) where
   some-in a i e x = sym (rw (ended x .reads))
 
   -- one entry, and those after it
-  module _ (a : A) (i k : ℕ) (w : Skipped s i k) {b : A} (p : b ≡ push a (itemAt (drop k s))) where
-    pub last-one : Ends s i (nextEntry 0x5d (drop i s)) Bad → b ≡ gather push a (itemsAt (entries 0x5d (drop i s)))
+  module _ (a : A) (i : ℕ) {b : A} (p : b ≡ push a (itemAt (skipWs (drop i s)))) where
+    pub last-item : Ends s i (nextEntry 0x5d (drop i s)) Bad → b ≡ gather push a (itemsAt (entries 0x5d (drop i s)))
     unfolding gather
-    last-one x = p ∙ sym (rw (Walks.ends-here s i 0x5d x, w .rest))
+    last-item x = p ∙ sym (rw (Walks.ends-here s i 0x5d x))
+
+    pub more-items : (e : ℕ) → Ends s i (nextEntry 0x5d (drop i s)) (End e) → gather push b (itemsAt (entries 0x5d (drop e s))) ≡ gather push a (itemsAt (entries 0x5d (drop i s)))
+    unfolding gather
+    more-items e x = rw p (sym (rw (Walks.goes-on s i 0x5d e x)))
+
+  module _ (a : A) (i k : ℕ) (w : Skipped s i k) {b : A} (p : b ≡ push a (itemAt (drop k s))) where
+    skipped : b ≡ push a (itemAt (skipWs (drop i s)))
+    skipped = p ∙ ap (λ (t : List ℕ). push a (itemAt t)) (sym (w .rest))
+
+    pub last-one : Ends s i (nextEntry 0x5d (drop i s)) Bad → b ≡ gather push a (itemsAt (entries 0x5d (drop i s)))
+    last-one x = last-item a i skipped x
 
     pub and-more : (e : ℕ) → Ends s i (nextEntry 0x5d (drop i s)) (End e) → gather push b (itemsAt (entries 0x5d (drop e s))) ≡ gather push a (itemsAt (entries 0x5d (drop i s)))
-    unfolding gather
-    and-more e x = rw p (sym (rw (Walks.goes-on s i 0x5d e x, w .rest)))
+    and-more e x = more-items a i skipped e x
+
+-- an item that begins with a byte is a value that begins there
+begun : (first : ℕ) (t : List ℕ) → begins first t ≡ true → (unnamed t ≡ ok [] t) × (0 < length t)
+unfolding begins
+begun first [] h = let z : _≡_ {A = ℕ} 0 1 = cc in absurd (omega arith)
+begun first (b ∷ t) h = (refl, omega arith)
+
+pub begun-start : (s : List ℕ) (i k first : ℕ) → Skipped s i k → begins first (drop k s) ≡ true → Ends s i (readStart 0x5d (drop i s)) (End k)
+unfolding readStart
+begun-start s i k first w h =
+    let b = begun first (drop k s) h in
+    rw (w .rest, b .0) (ends k (w .from) (omega (arith, b .1, length-drop k s)))
 
 -- an element that is looked up in a text that stands behind place i
 module _ (s t : List ℕ) (i : ℕ) (name : List ℕ) where
@@ -60,13 +85,14 @@ module _ (s t : List ℕ) (i : ℕ) (name : List ℕ) where
   unfolding listAt
   list-there v x = rw (ended x .reads)
 
-  pub flag-missing : Ends s i (memberAt name t) Bad → Absent ≡ flagAt t name
-  unfolding flagAt
-  flag-missing x = sym (rw (ends-bad x))
+flag-behind : {s : List ℕ} {i : ℕ} {p : Parsed (List ℕ)} {r : Read} → Ends s i p r → flagFound s r ≡ flagBehind p
+unfolding flagFound
+flag-behind (ends e a b) = refl
+flag-behind fails = refl
 
-  pub flag-there : (v : ℕ) → Ends s i (memberAt name t) (End v) → flagHere (drop v s) ≡ flagAt t name
-  unfolding flagAt
-  flag-there v x = sym (rw (ended x .reads))
+pub found-flag : (s t : List ℕ) (i : ℕ) (name : List ℕ) (r : Read) → Ends s i (memberAt name t) r → flagFound s r ≡ flagAt t name
+unfolding flagAt
+found-flag s t i name r x = flag-behind x
 
 -- a list that is there, or is none
 module _ {A : Type 0} (push : A → Item → A) (start none bad : A) (t : List ℕ) {b : Bool} (e : b ≡ begins 0x5b t) where

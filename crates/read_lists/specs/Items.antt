@@ -1,10 +1,13 @@
 -- The lists among the elements of a message. An item is seen by whether it is an object, and by its strings and booleans.
 -- Assumes nothing.
 use mathlib.Core.Bool.{Bool, true, false}
-use mathlib.Core.List.{List, [], _∷_, map}
+use mathlib.Core.List.{List, [], _∷_}
 use Prim.Native.Nat.{ℕ}
 use lib.Dec.{eqb}
+use lib.ListN.{drop}
 use Rattle.basis.specs.Pick.{pick}
+use Rattle.json_text.specs.declared.Read.{Read}
+use Rattle.json_text.specs.declared.Read.the-variants.{End, Bad}
 use Rattle.json_text.specs.Decoded.{Parsed}
 use Rattle.json_text.specs.Decoded.Parsed.{ok, none}
 use Rattle.json_value.specs.Grammar.{Json, Jsons}
@@ -82,6 +85,11 @@ flagHere t = pick (begins 0x74 t) (Is true) (pick (begins 0x66 t) (Is false) Oth
 abbrev pub flagBehind : Parsed (List ℕ) → Flag
 flagBehind (ok x t) = flagHere t
 flagBehind none = Absent
+
+-- the element whose value a lookup in s found
+unfoldable pub flagFound : List ℕ → Read → Flag
+flagFound s (End v) = flagHere (drop v s)
+flagFound s Bad = Absent
 
 unfoldable pub flagAt : List ℕ → List ℕ → Flag
 flagAt t name = flagBehind (memberAt name t)

@@ -1,31 +1,36 @@
 -- The fields of the three status types, or the first reason that applies: cId and sS (each entry sCI, n; to subscribe also uRt, sOc).
 -- Assumes nothing.
+use mathlib.Core.Path.{_≡_}
 use mathlib.Core.Bool.{Bool, true, false}
 use mathlib.Core.List.{List}
 use Prim.Native.Nat.{ℕ, _+_}
 use lib.Dec.{ltb, eqb}
-use lib.ListN.{set, replicate}
+use lib.ListN.{drop, set, replicate}
 use Rattle.basis.specs.Pick.{pick}
 use Rattle.basis.specs.Text.{text}
 use Rattle.label.specs.Label.{noLabel}
+use Rattle.json_text.specs.Ends.{Ends}
 use Rattle.json_value.specs.Grammar.{Json}
 use Rattle.json_value.specs.Reader.{skipWs}
+use Rattle.json_find.specs.declared.FourFound.{FourFound}
+use Rattle.json_find.specs.Entries.{nextEntry}
 use Rattle.read_versions.specs.Numeral.{numberIn}
 use Rattle.read_head.specs.declared.Verdict.{Verdict}
 use Rattle.read_head.specs.declared.Verdict.the-variants.{Good, Missing, Bad}
 use Rattle.read_head.specs.declared.GotLabel.{GotLabel}
-use Rattle.read_head.specs.Word.{Word, absent, other, word, wordIn, wordAt}
+use Rattle.read_head.specs.Word.{Word, absent, other, word, wordFound, wordIn, wordAt}
 use Rattle.read_head.specs.Values.{worst, gotLabel}
 use Rattle.read_lists.specs.declared.Flag.{Flag}
 use Rattle.read_lists.specs.declared.Flag.the-variants.{Absent, Other, Is}
 use Rattle.read_lists.specs.declared.GotNumber.{GotNumber}
 use Rattle.read_lists.specs.declared.StatusEntry.{StatusEntry}
 use Rattle.read_lists.specs.declared.GotEntry.{GotEntry}
+use Rattle.read_lists.specs.declared.StatusStep.{StatusStep}
 use Rattle.read_lists.specs.declared.StatusList.{StatusList}
 use Rattle.read_lists.specs.declared.StatusFields.{StatusFields}
-use Rattle.read_lists.specs.Items.{Item, Items, listIn, listAt}
+use Rattle.read_lists.specs.Items.{Item, Items, flagFound, itemAt, listIn, listAt}
 use Rattle.read_lists.specs.Gather.{gathered}
-use Rattle.read_lists.specs.Version.{oneMore, noNumber, numbered}
+use Rattle.read_lists.specs.Version.{noNumber, numbered}
 
 -- uRt: decimal text, seconds 0 to 86400 without leading zeros
 abbrev pub gotSeconds : Word → GotNumber
@@ -69,6 +74,19 @@ fullEntry f g = entryOf (gotLabel (f (text "sCI"))) (gotLabel (f (text "n"))) (g
 abbrev pub entryOfItem : Bool → Item → GotEntry
 entryOfItem subscribing x =
     pick (x .object) (pick subscribing (fullEntry (x .words) (x .flags)) (plainEntry (x .words))) (record { verdict = Bad; entry = noEntry })
+
+-- an entry of the elements that were found in s of sCI, n, uRt and sOc
+abbrev pub plainFound : List ℕ → FourFound → GotEntry
+plainFound s f = entryOf (gotLabel (wordFound s (f .first))) (gotLabel (wordFound s (f .second))) (record { verdict = Good; number = 0 }) (Is true)
+
+abbrev pub fullFound : List ℕ → FourFound → GotEntry
+fullFound s f =
+    entryOf (gotLabel (wordFound s (f .first))) (gotLabel (wordFound s (f .second))) (gotSeconds (wordFound s (f .third))) (flagFound s (f .fourth))
+
+-- the entry at a place, and the place of the next
+pub record Steps (s : List ℕ) (at : ℕ) (subscribing : Bool) (r : StatusStep) : Type 0 where
+  pub here : r .got ≡ entryOfItem subscribing (itemAt (skipWs (drop at s)))
+  pub on : Ends s at (nextEntry 0x5d (drop at s)) (r .next)
 
 abbrev pub noStatuses : Verdict → StatusList
 noStatuses v = record { verdict = v; count = 0; entries = replicate 16 noEntry }

@@ -1,30 +1,22 @@
+-- `read_lists::plain_entry` meets its contract.
+-- Assumes nothing.
 use borrow.Author.Needs.{needs}
-use mathlib.Core.Path.{_≡_, refl, sym, ap, ap₂, _∙_}
+use mathlib.Core.Path.{_∙_}
 use Rattle.read_lists.proofs.plain_entry.Statement.{statement}
 use Rattle.read_lists.proofs.plain_entry.Tie as tie
-use Rattle.read_lists.proofs.plain_entry.Reads as reads
-use Rattle.read_lists.proofs.plain_entry.Lts as lts
-use Rattle.read_head.proofs.label_in.Reads as label-in-reads
-use Rattle.read_lists.proofs.entry_of.Reads as entry-of-reads
 
-slice-aggregate-label-in : tie.Need-slice-aggregate-label-in
-slice-aggregate-label-in c = search needs
+label-at-requires : tie.Need-label-at-requires
+label-at-requires c κs = search needs
 
-label-in-requires : tie.Need-label-in-requires
-label-in-requires c κs = search needs
-
-slice-aggregate-label-in-2 : tie.Need-slice-aggregate-label-in-2
-slice-aggregate-label-in-2 c = search needs
-
-label-in-requires-2 : tie.Need-label-in-requires-2
-label-in-requires-2 c κs = search needs
+label-at-requires-2 : tie.Need-label-at-requires-2
+label-at-requires-2 c κs = search needs
 
 entry-of-requires : tie.Need-entry-of-requires
 entry-of-requires c κs = search needs
 
 returns : tie.Need-returns
-returns c = c .entry-of .ensures ∙ rw (c .before .before .before .label-in .ensures, c .before .label-in2 .ensures)
+returns c = c .entry-of .ensures ∙ rw (c .before .before .label-at .ensures, c .before .label-at2 .ensures)
 
 pub plain-entry-spec : {M : Type 1} → statement M
 plain-entry-spec =
-    tie.close (tie.spec slice-aggregate-label-in label-in-requires slice-aggregate-label-in-2 label-in-requires-2 entry-of-requires returns)
+    tie.close (tie.spec label-at-requires label-at-requires-2 entry-of-requires returns)

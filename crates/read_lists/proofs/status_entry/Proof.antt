@@ -1,50 +1,64 @@
+-- `read_lists::status_entry` meets its contract.
+-- Assumes nothing.
 use borrow.Author.Needs.{needs}
-use mathlib.Core.Path.{_≡_, refl, sym, ap, ap₂, _∙_}
+use mathlib.Core.Path.{sym, _∙_}
+use Rattle.read_lists.proofs.Once.{object-steps, other-steps}
 use Rattle.read_lists.proofs.status_entry.Statement.{statement}
 use Rattle.read_lists.proofs.status_entry.Tie as tie
-use Rattle.read_lists.proofs.status_entry.Reads as reads
-use Rattle.read_lists.proofs.status_entry.Lts as lts
-use Rattle.read_lists.proofs.begins.Reads as begins-reads
-use Rattle.read_lists.proofs.full_entry.Reads as full-entry-reads
-use Rattle.read_lists.proofs.no_entry.Reads as no-entry-reads
-use Rattle.read_lists.proofs.plain_entry.Reads as plain-entry-reads
 
--- src/lib.rt:495:8
+space-requires : tie.Need-space-requires
+space-requires c κs = search needs
+
 begins-requires : tie.Need-begins-requires
 begins-requires c κs = search needs
 
--- src/lib.rt:497:13
-full-entry-requires : tie.Need-full-entry-requires
-full-entry-requires c κs = search needs
+slice-aggregate-four : tie.Need-slice-aggregate-four
+slice-aggregate-four c = search needs
 
--- src/lib.rt:497:13
+slice-aggregate-four-2 : tie.Need-slice-aggregate-four-2
+slice-aggregate-four-2 c = search needs
+
+slice-aggregate-four-3 : tie.Need-slice-aggregate-four-3
+slice-aggregate-four-3 c = search needs
+
+slice-aggregate-four-4 : tie.Need-slice-aggregate-four-4
+slice-aggregate-four-4 c = search needs
+
+four-requires : tie.Need-four-requires
+four-requires c κs = search needs
+
+entry-found-requires : tie.Need-entry-found-requires
+entry-found-requires c κs = search needs
+
+step-from-requires : tie.Need-step-from-requires
+step-from-requires c κs = search needs
+
 returns : tie.Need-returns
-returns c = c .full-entry .ensures ∙ sym (rw (sym (c .before .before .before .begins .ensures) ∙ c .before .before .if1 .taken, c .before .if2 .taken))
+returns c = object-steps _ _ _ _ (c .before .before .before .before .before .before .before .before .before .space .ensures) _ _ (sym (c .before .before .before .before .before .before .before .if1 .taken) ∙ c .before .before .before .before .before .before .before .before .begins .ensures) _ (c .before .before .four .ensures) (c .before .entry-found .ensures) (c .step-from .ensures)
 
--- src/lib.rt:499:9
-plain-entry-requires : tie.Need-plain-entry-requires
-plain-entry-requires c κs = search needs
-
--- src/lib.rt:499:9
-returns-2 : tie.Need-returns-2
-returns-2 c = c .plain-entry .ensures ∙ sym (rw (sym (c .before .before .before .begins .ensures) ∙ c .before .before .if1 .taken, c .before .if2 .left))
-
--- src/lib.rt:503:16
 no-entry-requires : tie.Need-no-entry-requires
 no-entry-requires c κs = search needs
 
--- src/lib.rt:492:1
-returns-3 : tie.Need-returns-3
-returns-3 c = rw (c .no-entry .ensures) (sym (rw (sym (c .before .before .begins .ensures) ∙ c .before .if1 .left)))
+step-requires : tie.Need-step-requires
+step-requires c κs = search needs
+
+returns-2 : tie.Need-returns-2
+returns-2 c = other-steps _ _ _ _ (c .before .before .before .before .space .ensures) _ _ (sym (c .before .before .if1 .left) ∙ c .before .before .before .begins .ensures) (rw (c .before .no-entry .ensures)) (c .step .ensures)
 
 pub status-entry-spec : {M : Type 1} → statement M
 status-entry-spec =
     tie.close
     (tie.spec
+    space-requires
     begins-requires
-    full-entry-requires
+    slice-aggregate-four
+    slice-aggregate-four-2
+    slice-aggregate-four-3
+    slice-aggregate-four-4
+    four-requires
+    entry-found-requires
+    step-from-requires
     returns
-    plain-entry-requires
-    returns-2
     no-entry-requires
-    returns-3)
+    step-requires
+    returns-2)

@@ -1,4 +1,4 @@
-use mathlib.Core.Path.{_≡_, refl, sym, ap, ap₂, _∙_}
+use mathlib.Core.Path.{_≡_, ap, _∙_}
 use mathlib.Core.Logic.{⊎-elim}
 use Prim.Native.Nat.{_-_}
 use native.Mathlib.Omega.{arith}
@@ -13,7 +13,7 @@ use Rattle.read_lists.specs.declared.StatusList.{StatusList}
 use Rattle.read_lists.specs.Items.{itemsAt}
 use Rattle.read_lists.specs.Gather.{gather}
 use Rattle.read_lists.specs.Status.{pushEntry, entryOfItem, noStatuses}
-use Rattle.read_lists.proofs.Walk.{none-in, some-in, last-one, and-more}
+use Rattle.read_lists.proofs.Walk.{none-in, some-in, last-item, more-items}
 use Rattle.read_lists.proofs.Pushes.{entry-taken, entry-left}
 use Rattle.read_lists.proofs.statuses_in.Statement.{statement}
 use Rattle.read_lists.proofs.statuses_in.Tie as tie
@@ -42,9 +42,6 @@ returns c = rw (c .before .before .before .no-entry .ensures) (none-in (λ l x. 
 loop-holds : tie.Need-loop-holds Inv-loop μ-loop
 loop-holds c = rw (c .before .before .before .before .no-entry .ensures) (some-in (λ l x. pushEntry l (entryOfItem (c .before .before .before .before .before .before .args .subscribing) x)) _ _ _ _ (rw (c .before .p .given .1) at (c .before .before .before .inside .ensures)))
 
-space-requires : tie.Need-space-requires Inv-loop μ-loop
-space-requires c κs = search needs
-
 status-entry-requires : tie.Need-status-entry-requires Inv-loop μ-loop
 status-entry-requires c κs = search needs
 
@@ -63,37 +60,34 @@ add-count c = search needs
 worst-requires-2 : tie.Need-worst-requires-2 Inv-loop μ-loop
 worst-requires-2 c κs = search needs
 
-step-requires : tie.Need-step-requires Inv-loop μ-loop
-step-requires c κs = search needs
-
 enum-told-2 : tie.Need-enum-told-2 Inv-loop μ-loop
 enum-told-2 c = search needs
 
 returns-2 : tie.Need-returns-2 Inv-loop μ-loop
 returns-2 c =
-    let j = c .before .before .before in
-    let g = j .before .before .before in
-    let l = g .before .before .loop in
-    let pushed : _≡_ {A = StatusList} (record { verdict = j .if1 .verdict; count = j .if1 .count; entries = j .if1 .entries }) (pushEntry (record { verdict = l .verdict; count = l .count; entries = l .entries }) (g .status-entry .result)) =
+    let j = c .before .before in
+    let g = j .before .before .before .before in
+    let l = g .before .loop in
+    let pushed : _≡_ {A = StatusList} (record { verdict = j .if1 .verdict; count = j .if1 .count; entries = j .if1 .entries }) (pushEntry (record { verdict = l .verdict; count = l .count; entries = l .entries }) (g .status-entry .result .got)) =
     ⊎-elim (λ x. entry-taken _ _ _ _ (x .0 .taken) (x .1 ∙ j .before .worst .ensures) (x .2) (x .3)) (λ x. entry-left _ _ _ _ (x .0 .left) (x .2 ∙ x .1 .ensures ∙ ap (λ (a : Verdict). worst a Bad) (j .before .worst .ensures)) (x .3) (x .4)) (j .if1 .came) in
-    last-one (λ l x. pushEntry l (entryOfItem (g .before .before .before .before .before .before .before .before .before .args .subscribing) x)) _ _ _ _ (g .before .space .ensures) (pushed ∙ ap (pushEntry (record { verdict = l .verdict; count = l .count; entries = l .entries })) (g .status-entry .ensures)) (rw (c .enum-told2 .given .1) at (c .before .before .step .ensures)) ∙ l .inv
+    last-item (λ l x. pushEntry l (entryOfItem (g .before .before .before .before .before .before .before .before .args .subscribing) x)) _ _ _ (pushed ∙ ap (pushEntry (record { verdict = l .verdict; count = l .count; entries = l .entries })) (g .status-entry .ensures .here)) (rw (c .enum-told2 .given .1) at (g .status-entry .ensures .on)) ∙ l .inv
 
 enum-known-m : tie.Need-enum-known-m Inv-loop μ-loop
 enum-known-m c = search needs
 
 loop-less : tie.Need-loop-less Inv-loop μ-loop
 loop-less c =
-    let x = rw (c .before .m .given .1) at (c .before .before .before .step .ensures) in
+    let x = rw (c .before .m .given .1) at (c .before .before .before .before .before .before .before .status-entry .ensures .on) in
     omega (arith, step-on _ _ 0x5d _ x, step-in _ _ 0x5d _ x)
 
 loop-again : tie.Need-loop-again Inv-loop μ-loop
 loop-again c =
-    let j = c .before .before .before .before in
-    let g = j .before .before .before in
-    let l = g .before .before .loop in
-    let pushed : _≡_ {A = StatusList} (record { verdict = j .if1 .verdict; count = j .if1 .count; entries = j .if1 .entries }) (pushEntry (record { verdict = l .verdict; count = l .count; entries = l .entries }) (g .status-entry .result)) =
+    let j = c .before .before .before in
+    let g = j .before .before .before .before in
+    let l = g .before .loop in
+    let pushed : _≡_ {A = StatusList} (record { verdict = j .if1 .verdict; count = j .if1 .count; entries = j .if1 .entries }) (pushEntry (record { verdict = l .verdict; count = l .count; entries = l .entries }) (g .status-entry .result .got)) =
     ⊎-elim (λ x. entry-taken _ _ _ _ (x .0 .taken) (x .1 ∙ j .before .worst .ensures) (x .2) (x .3)) (λ x. entry-left _ _ _ _ (x .0 .left) (x .2 ∙ x .1 .ensures ∙ ap (λ (a : Verdict). worst a Bad) (j .before .worst .ensures)) (x .3) (x .4)) (j .if1 .came) in
-    and-more (λ l x. pushEntry l (entryOfItem (g .before .before .before .before .before .before .before .before .before .args .subscribing) x)) _ _ _ _ (g .before .space .ensures) (pushed ∙ ap (pushEntry (record { verdict = l .verdict; count = l .count; entries = l .entries })) (g .status-entry .ensures)) _ (rw (c .before .m .given .1) at (c .before .before .before .step .ensures)) ∙ l .inv
+    more-items (λ l x. pushEntry l (entryOfItem (g .before .before .before .before .before .before .before .before .args .subscribing) x)) _ _ _ (pushed ∙ ap (pushEntry (record { verdict = l .verdict; count = l .count; entries = l .entries })) (g .status-entry .ensures .here)) _ (rw (c .before .m .given .1) at (g .status-entry .ensures .on)) ∙ l .inv
 
 pub statuses-in-spec : {M : Type 1} → statement M
 statuses-in-spec =
@@ -107,14 +101,12 @@ statuses-in-spec =
     enum-told
     returns
     loop-holds
-    space-requires
     status-entry-requires
     worst-requires
     mul-entries
     array-set-from-entries
     add-count
     worst-requires-2
-    step-requires
     enum-told-2
     returns-2
     enum-known-m
