@@ -1,3 +1,4 @@
 mod Pushes
+mod Once
 mod Counts
 pub mod Kept

@@ -1,4 +1,5 @@
 // What a CommandRequest says.
+use json_find::FourFound;
 use json_text::Read;
 use label::Label;
 use number::Int;
@@ -11,10 +12,10 @@ ghost use Rattle.json_value.specs.Reader.{skipWs};
 ghost use Rattle.json_find.specs.Entries.{entriesAt};
 ghost use Rattle.json_find.specs.Index.{Indexed};
 ghost use Rattle.read_versions.specs.Numeral.{intIn};
-ghost use Rattle.read_head.specs.Word.{word, wordAt, wordOf};
+ghost use Rattle.read_head.specs.Word.{wordFound, wordOf};
 ghost use Rattle.read_lists.specs.Gather.{gather};
-ghost use Rattle.read_lists.specs.Items.{itemAt, itemsAt, listAt};
-ghost use Rattle.read_commands.specs.Command.{noValue, valued, gotValue, commandOf, noCommand, commandBy, commandOfItem, noCommands, pushCommand, commandsOf, commandFrom, commandAt};
+ghost use Rattle.read_lists.specs.Items.{itemsAt, listAt};
+ghost use Rattle.read_commands.specs.Command.{noValue, valued, gotValue, commandOf, noCommand, commandFound, Steps, commandOfItem, noCommands, pushCommand, commandsOf, commandFrom, commandAt};
 
 pub struct GotValue {
     pub verdict: Verdict,
@@ -31,6 +32,12 @@ pub struct CommandEntry {
 pub struct GotCommand {
     pub verdict: Verdict,
     pub entry: CommandEntry,
+}
+
+// An entry, and the place of the next.
+pub struct CommandStep {
+    pub got: GotCommand,
+    pub next: Read,
 }
 
 pub struct CommandList {
@@ -87,10 +94,10 @@ fn value_of(e: read_head::Element) -> GotValue
     }
 }
 
-fn value_in(s: &[u8], at: usize) -> GotValue
-    ensures { λ r. ⌜ r ≡ gotValue (wordAt (drop at (now (s .entry))) (text "v")) ⌝ }
+fn value_at(s: &[u8], found: Read) -> GotValue
+    ensures { λ r. ⌜ r ≡ gotValue (wordFound (now (s .entry)) found) ⌝ }
 {
-    value_of(read_head::element_in(s, at, b"v"))
+    value_of(read_head::element_at(s, found))
 }
 
 fn command_of(c: GotLabel, n: GotLabel, o: GotLabel, v: GotValue) -> GotCommand
@@ -113,13 +120,17 @@ fn command_of(c: GotLabel, n: GotLabel, o: GotLabel, v: GotValue) -> GotCommand
     }
 }
 
-fn command_by(s: &[u8], at: usize) -> GotCommand
-    ensures { λ r. ⌜ r ≡ commandBy (wordAt (drop at (now (s .entry)))) ⌝ }
+fn command_found(s: &[u8], f: FourFound) -> GotCommand
+    ensures { λ r. ⌜ r ≡ commandFound (now (s .entry)) f ⌝ }
 {
-    let c = read_head::label_in(s, at, b"cCI");
-    let n = read_head::label_in(s, at, b"n");
-    let o = read_head::label_in(s, at, b"cO");
-    command_of(c, n, o, value_in(s, at))
+    let code = f.first;
+    let name = f.second;
+    let order = f.third;
+    let value = f.fourth;
+    let c = read_head::label_at(s, code);
+    let n = read_head::label_at(s, name);
+    let o = read_head::label_at(s, order);
+    command_of(c, n, o, value_at(s, value))
 }
 
 fn no_command() -> CommandEntry
@@ -132,16 +143,25 @@ fn no_command() -> CommandEntry
     }
 }
 
-// An entry of arg.
-fn command_entry(s: &[u8], at: usize) -> GotCommand
-    ensures { λ r. ⌜ r ≡ commandOfItem (itemAt (drop at (now (s .entry)))) ⌝ }
+// The entry of arg at a place, and the place of the next.
+fn command_entry(s: &[u8], at: usize) -> CommandStep
+    ensures { λ r. ⌜ Steps (now (s .entry)) at r ⌝ }
 {
-    if read_lists::begins(s, at, b'{') {
-        return command_by(s, at);
+    let k = json_value::space(s, at);
+    if read_lists::begins(s, k, b'{') {
+        let f = json_find::four(s, k, b"cCI", b"n", b"cO", b"v");
+        let end = f.end;
+        return CommandStep {
+            got: command_found(s, f),
+            next: json_find::step_from(s, end, b']'),
+        };
     }
-    GotCommand {
-        verdict: Verdict::Bad,
-        entry: no_command(),
+    CommandStep {
+        got: GotCommand {
+            verdict: Verdict::Bad,
+            entry: no_command(),
+        },
+        next: json_find::step(s, at, b']'),
     }
 }
 
@@ -172,7 +192,8 @@ fn commands_in(s: &[u8], at: usize) -> CommandList
     };
     let mut i = start;
     loop {
-        let g = command_entry(s, json_value::space(s, i));
+        let t = command_entry(s, i);
+        let g = t.got;
         let v = g.verdict;
         let entry = g.entry;
         verdict = read_head::worst(verdict, v);
@@ -182,7 +203,7 @@ fn commands_in(s: &[u8], at: usize) -> CommandList
         } else {
             verdict = read_head::worst(verdict, Verdict::Bad);
         }
-        let m = json_find::step(s, i, b']');
+        let m = t.next;
         match m {
             Read::Bad => return CommandList {
                 verdict,

@@ -1,0 +1,21 @@
+-- `read_commands::value_at` meets its contract.
+-- Assumes nothing.
+use borrow.Author.Needs.{needs}
+use mathlib.Core.Path.{ap, _∙_}
+use Rattle.read_head.specs.Word.{wordOf}
+use Rattle.read_head.proofs.Copies.{says, found-from}
+use Rattle.read_commands.specs.Command.{gotValue}
+use Rattle.read_commands.proofs.value_at.Statement.{statement}
+use Rattle.read_commands.proofs.value_at.Tie as tie
+
+element-at-requires : tie.Need-element-at-requires
+element-at-requires c κs = search needs
+
+value-of-requires : tie.Need-value-of-requires
+value-of-requires c κs = search needs
+
+returns : tie.Need-returns
+returns c = c .value-of .ensures ∙ ap gotValue (ap wordOf (c .before .element-at .ensures) ∙ says (found-from _ _))
+
+pub value-at-spec : {M : Type 1} → statement M
+value-at-spec = tie.close (tie.spec element-at-requires value-of-requires returns)
