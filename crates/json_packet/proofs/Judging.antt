@@ -24,7 +24,7 @@ pub refused : (s places : List ℕ) → false ≡ isPacket s → Notes s places 
 refused s places h = record { packet = h; within = omega arith; indexed = record { finds = λ g. absurd (g refl) } }
 
 module _ (s : List ℕ) (i : ℕ) (h : i < length s) (b : getD s i 0 ≡ 0x7b) where
-  pub value-judged : (r : Judged) → Judges s (i + 1) (insideOf 0x7d depth (drop (i + 1) s)) r → Judges s i (readValue depth (drop i s)) r
+  pub value-judged : {key : ℕ} (r : Judged) → Judges key s (i + 1) (insideOf 0x7d depth (drop (i + 1) s)) r → Judges key s i (readValue depth (drop i s)) r
   value-judged r x = record { place = Nesting.value-object s depth i h (placeOf r) b (x .place); says = λ j u k. x .says j u (rw (next s i h, Nesting.value-cons depth (getD s i 0) (drop (i + 1) s), b) at k) }
 
   module _ (ws : Skipped s 0 i) where

@@ -21,10 +21,10 @@ use Rattle.json_value.specs.Grammar.Members.{mnil, mcons}
 use Rattle.json_sure.specs.Sure.{next, mark, markFrom, Noted, noneNoted, isNew, allOf, noteOf, left, sureIn, sureAll, sureOnce}
 use Rattle.json_packet.specs.Names.{called, noTwice, allOnce, once}
 
-low : (h : ℕ) (d : List ℕ) → h < 4294967296 → markFrom h d < 4294967296
+low : (key h : ℕ) (d : List ℕ) → h < 4294967296 → markFrom key h d < 4294967296
 unfolding markFrom
-low h [] l = l
-low h (c ∷ d) l = low (next h c) d (mod-lt (h * 2654435761 + c) (omega arith))
+low key h [] l = l
+low key h (c ∷ d) l = low key (next key h c) d (mod-lt (h * key + c) (omega arith))
 
 -- what is sure after a name was before, the value is, and the mark is new and stands behind the others
 record New (room : ℕ) (t : Noted) (m : ℕ) (value : Bool) : Type 0 where
@@ -71,55 +71,55 @@ last m (n ∷ ms) = go (eqb n m) (last m ms)
     go true h = refl
     go false h = h
 
-abbrev noted : ℕ → Noted → List ℕ → Json → Noted
-noted room t d j = noteOf room t (mark d) (sureIn (left room t) j)
+abbrev noted : ℕ → ℕ → Noted → List ℕ → Json → Noted
+noted key room t d j = noteOf room t (mark key d) (sureIn key (left room t) j)
 
-abbrev passed : ℕ → Noted → Json → Noted
-passed room t j = noteOf room t 4294967296 (sureIn (left room t) j)
+abbrev passed : ℕ → ℕ → Noted → Json → Noted
+passed key room t j = noteOf room t 4294967296 (sureIn key (left room t) j)
 
-sticky : (room : ℕ) (t : Noted) (ms : Members) → sureOnce room t ms ≡ true → t .sure ≡ true
+sticky : (key room : ℕ) (t : Noted) (ms : Members) → sureOnce key room t ms ≡ true → t .sure ≡ true
 unfolding sureOnce
-sticky room t mnil h = h
-sticky room t (mcons d j ms) h = new room t (mark d) (sureIn (left room t) j) (low 0 d (omega arith)) (sticky room (noted room t d j) ms h) .before
+sticky key room t mnil h = h
+sticky key room t (mcons d j ms) h = new room t (mark key d) (sureIn key (left room t) j) (low key 0 d (omega arith)) (sticky key room (noted key room t d j) ms h) .before
 
-sticky-all : (room : ℕ) (t : Noted) (js : Jsons) → sureAll room t js ≡ true → t .sure ≡ true
+sticky-all : (key room : ℕ) (t : Noted) (js : Jsons) → sureAll key room t js ≡ true → t .sure ≡ true
 unfolding sureAll
-sticky-all room t jnil h = h
-sticky-all room t (jcons j js) h = value-sure room t (sureIn (left room t) j) (sticky-all room (passed room t j) js h) .0
+sticky-all key room t jnil h = h
+sticky-all key room t (jcons j js) h = value-sure room t (sureIn key (left room t) j) (sticky-all key room (passed key room t j) js h) .0
 
 -- what is known of a member where all are sure
-member-new : (room : ℕ) (t : Noted) (d : List ℕ) (j : Json) (ms : Members) → sureOnce room (noted room t d j) ms ≡ true → New room t (mark d) (sureIn (left room t) j)
-member-new room t d j ms h = new room t (mark d) (sureIn (left room t) j) (low 0 d (omega arith)) (sticky room (noted room t d j) ms h)
+member-new : (key room : ℕ) (t : Noted) (d : List ℕ) (j : Json) (ms : Members) → sureOnce key room (noted key room t d j) ms ≡ true → New room t (mark key d) (sureIn key (left room t) j)
+member-new key room t d j ms h = new room t (mark key d) (sureIn key (left room t) j) (low key 0 d (omega arith)) (sticky key room (noted key room t d j) ms h)
 
 -- no later member has a name whose mark was seen
-uncalled : (room : ℕ) (d : List ℕ) (t : Noted) (ms : Members) → isNew (mark d) (t .marks) ≡ false → sureOnce room t ms ≡ true → called d ms ≡ false
+uncalled : (key room : ℕ) (d : List ℕ) (t : Noted) (ms : Members) → isNew (mark key d) (t .marks) ≡ false → sureOnce key room t ms ≡ true → called d ms ≡ false
 unfolding sureOnce
-uncalled room d t mnil k h = refl
-uncalled room d t (mcons e j ms) k h =
-    let n = member-new room t e j ms h in
-    let g = uncalled room d (noted room t e j) ms (ap (isNew (mark d)) (n .stands) ∙ kept (mark d) (mark e) (t .marks) k) h in
-    bool-cases (sameBytes e d) (λ q. untrue (sym k ∙ ap (λ (x : List ℕ). isNew (mark x) (t .marks)) (sym (same-true e d q)) ∙ n .fresh)) (λ q. rw (q, g))
+uncalled key room d t mnil k h = refl
+uncalled key room d t (mcons e j ms) k h =
+    let n = member-new key room t e j ms h in
+    let g = uncalled key room d (noted key room t e j) ms (ap (isNew (mark key d)) (n .stands) ∙ kept (mark key d) (mark key e) (t .marks) k) h in
+    bool-cases (sameBytes e d) (λ q. untrue (sym k ∙ ap (λ (x : List ℕ). isNew (mark key x) (t .marks)) (sym (same-true e d q)) ∙ n .fresh)) (λ q. rw (q, g))
 
 mutual
   unfolding noTwice allOnce once sureIn sureAll sureOnce
 
-  pub sure-once : (room : ℕ) (j : Json) → sureIn room j ≡ true → noTwice j ≡ true
-  sure-once room null h = refl
-  sure-once room (bool b) h = refl
-  sure-once room (num d) h = refl
-  sure-once room (str d) h = refl
-  sure-once room (arr js) h = all-sure room noneNoted js h
-  sure-once room (obj ms) h = members-sure room noneNoted ms h
+  pub sure-once : (key room : ℕ) (j : Json) → sureIn key room j ≡ true → noTwice j ≡ true
+  sure-once key room null h = refl
+  sure-once key room (bool b) h = refl
+  sure-once key room (num d) h = refl
+  sure-once key room (str d) h = refl
+  sure-once key room (arr js) h = all-sure key room noneNoted js h
+  sure-once key room (obj ms) h = members-sure key room noneNoted ms h
 
-  all-sure : (room : ℕ) (t : Noted) (js : Jsons) → sureAll room t js ≡ true → allOnce js ≡ true
-  all-sure room t jnil h = refl
-  all-sure room t (jcons j js) h =
-      let v = value-sure room t (sureIn (left room t) j) (sticky-all room (passed room t j) js h) in
-      rw (sure-once (left room t) j (v .1), all-sure room (passed room t j) js h)
+  all-sure : (key room : ℕ) (t : Noted) (js : Jsons) → sureAll key room t js ≡ true → allOnce js ≡ true
+  all-sure key room t jnil h = refl
+  all-sure key room t (jcons j js) h =
+      let v = value-sure room t (sureIn key (left room t) j) (sticky-all key room (passed key room t j) js h) in
+      rw (sure-once key (left room t) j (v .1), all-sure key room (passed key room t j) js h)
 
-  members-sure : (room : ℕ) (t : Noted) (ms : Members) → sureOnce room t ms ≡ true → once ms ≡ true
-  members-sure room t mnil h = refl
-  members-sure room t (mcons d j ms) h =
-      let n = member-new room t d j ms h in
-      let k : isNew (mark d) (noted room t d j .marks) ≡ false = ap (isNew (mark d)) (n .stands) ∙ last (mark d) (t .marks) in
-      rw (uncalled room d (noted room t d j) ms k h, sure-once (left room t) j (n .inside), members-sure room (noted room t d j) ms h)
+  members-sure : (key room : ℕ) (t : Noted) (ms : Members) → sureOnce key room t ms ≡ true → once ms ≡ true
+  members-sure key room t mnil h = refl
+  members-sure key room t (mcons d j ms) h =
+      let n = member-new key room t d j ms h in
+      let k : isNew (mark key d) (noted key room t d j .marks) ≡ false = ap (isNew (mark key d)) (n .stands) ∙ last (mark key d) (t .marks) in
+      rw (uncalled key room d (noted key room t d j) ms k h, sure-once key (left room t) j (n .inside), members-sure key room (noted key room t d j) ms h)

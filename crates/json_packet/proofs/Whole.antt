@@ -95,9 +95,9 @@ module _ (s : List ℕ) (i : ℕ) (ws : Skipped s 0 i) where
     pub more-follows : k < length s → false ≡ isPacket s
     more-follows g = sym (judged ∙ ap (λ (u : List ℕ). both (isEmpty u) (noTwice meaning)) (next s k g))
 
-    pub by-marks : length s ≤ k → ((j : Json) (u : List ℕ) → readValue depth (drop i s) ≡ ok j u → sure j ≡ true) → true ≡ isPacket s
+    pub by-marks : (key : ℕ) → length s ≤ k → ((j : Json) (u : List ℕ) → readValue depth (drop i s) ≡ ok j u → sure key j ≡ true) → true ≡ isPacket s
     unfolding meaning
-    by-marks g f = sym (judged ∙ ap (λ (u : List ℕ). both (isEmpty u) (noTwice (ended x .what))) (past s k g) ∙ sure-once 820 (ended x .what) (f (ended x .what) (drop e s) (ended x .reads)))
+    by-marks key g f = sym (judged ∙ ap (λ (u : List ℕ). both (isEmpty u) (noTwice (ended x .what))) (past s k g) ∙ sure-once key 820 (ended x .what) (f (ended x .what) (drop e s) (ended x .reads)))
 
     pub by-names : length s ≤ k → (q : Bool) → q ≡ scan s → q ≡ isPacket s
     by-names g q n = n ∙ scanned ∙ sym (judged ∙ ap (λ (u : List ℕ). both (isEmpty u) (noTwice meaning)) (past s k g))

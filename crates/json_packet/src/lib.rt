@@ -16,6 +16,9 @@ pub struct Judgement {
     pub count: usize,
 }
 
+// A key of marks for readers to whom nobody lends random bytes.
+pub const FIXED_KEY: u32 = 2654435761;
+
 const NO_PACKET: Judgement = Judgement {
     packet: false,
     count: 0,
@@ -83,8 +86,8 @@ fn names_once(s: &[u8]) -> bool
     true
 }
 
-// Judges a slice, and notes where the entries of its object begin.
-pub fn judge(s: &[u8], places: &mut [usize]) -> Judgement
+// Judges a slice, and notes where the entries of its object begin. Whatever the key of its names' marks is, the judgement is the same.
+pub fn judge(s: &[u8], key: u32, places: &mut [usize]) -> Judgement
     ensures { λ r. ⌜ Notes (now (s .entry)) (now (places .exit)) r ⌝ }
 {
     let i = json_value::space(s, 0);
@@ -94,7 +97,7 @@ pub fn judge(s: &[u8], places: &mut [usize]) -> Judgement
     if s[i] != b'{' {
         return NO_PACKET;
     }
-    let o = json_sure::object(s, i + 1, places);
+    let o = json_sure::object(key, s, i + 1, places);
     match o {
         Listed::Bad => NO_PACKET,
         Listed::End(e, sure, count) => {
@@ -122,5 +125,5 @@ pub fn is_packet(s: &[u8]) -> bool
     ensures { λ r. ⌜ r ≡ isPacket (now (s .entry)) ⌝ }
 {
     let mut places = [0usize; 1];
-    judge(s, &mut places).packet
+    judge(s, FIXED_KEY, &mut places).packet
 }

@@ -58,8 +58,8 @@ module _ (room : ℕ) (xs ys : List ℕ) (t : Seen) (same : length xs ≡ room) 
   unfolding notedIn
   rest-room = mid-len (t .count) (length xs) xs (omega arith) ∙ ap₂ (λ (n k : ℕ). n - k) same (sym (length-take-le (t .count) xs h))
 
-  pub enters-rest : {s : List ℕ} {i : ℕ} {p : Parsed Entry} {r : Entered} → EntersIn (length (midOf (t .count) (length xs - t .count) xs)) s i p r → EntersIn (left room (notedIn xs t)) s i p r
-  enters-rest {s} {i} {p} {r} e = subst (λ (n : ℕ). EntersIn n s i p r) rest-room e
+  pub enters-rest : {key : ℕ} {s : List ℕ} {i : ℕ} {p : Parsed Entry} {r : Entered} → EntersIn key (length (midOf (t .count) (length xs - t .count) xs)) s i p r → EntersIn key (left room (notedIn xs t)) s i p r
+  enters-rest {key} {s} {i} {p} {r} e = subst (λ (n : ℕ). EntersIn key n s i p r) rest-room e
 
   kept : notedIn back t ≡ notedIn xs t
   unfolding notedIn

@@ -62,29 +62,29 @@ module _ (a b : ℕ) (t : Noted) (v : Bool) where
 mutual
   unfolding names namesAll namesOnce sureIn sureAll sureOnce noneNoted
 
-  enough : (a b : ℕ) (j : Json) → names j ≤ a → names j ≤ b → sureIn a j ≡ sureIn b j
-  enough a b null h g = refl
-  enough a b (bool x) h g = refl
-  enough a b (num d) h g = refl
-  enough a b (str d) h g = refl
-  enough a b (arr js) h g = enough-all a b noneNoted js (omega arith) (omega arith)
-  enough a b (obj ms) h g = enough-once a b noneNoted ms (omega arith) (omega arith)
+  enough : (key a b : ℕ) (j : Json) → names j ≤ a → names j ≤ b → sureIn key a j ≡ sureIn key b j
+  enough key a b null h g = refl
+  enough key a b (bool x) h g = refl
+  enough key a b (num d) h g = refl
+  enough key a b (str d) h g = refl
+  enough key a b (arr js) h g = enough-all key a b noneNoted js (omega arith) (omega arith)
+  enough key a b (obj ms) h g = enough-once key a b noneNoted ms (omega arith) (omega arith)
 
-  enough-all : (a b : ℕ) (t : Noted) (js : Jsons) → length (t .marks) + namesAll js ≤ a → length (t .marks) + namesAll js ≤ b → sureAll a t js ≡ sureAll b t js
-  enough-all a b t jnil h g = refl
-  enough-all a b t (jcons j js) h g =
-      let v = sureIn (left a t) j in
+  enough-all : (key a b : ℕ) (t : Noted) (js : Jsons) → length (t .marks) + namesAll js ≤ a → length (t .marks) + namesAll js ≤ b → sureAll key a t js ≡ sureAll key b t js
+  enough-all key a b t jnil h g = refl
+  enough-all key a b t (jcons j js) h g =
+      let v = sureIn key (left a t) j in
       let l = none-more a t v in
-      enough-all a b (noteOf a t 4294967296 v) js (omega arith) (omega arith)
-      ∙ ap (λ (n : Noted). sureAll b n js) (passed a b t v ∙ ap (noteOf b t 4294967296) (enough (left a t) (left b t) j (omega arith) (omega arith)))
+      enough-all key a b (noteOf a t 4294967296 v) js (omega arith) (omega arith)
+      ∙ ap (λ (n : Noted). sureAll key b n js) (passed a b t v ∙ ap (noteOf b t 4294967296) (enough key (left a t) (left b t) j (omega arith) (omega arith)))
 
-  enough-once : (a b : ℕ) (t : Noted) (ms : Members) → length (t .marks) + namesOnce ms ≤ a → length (t .marks) + namesOnce ms ≤ b → sureOnce a t ms ≡ sureOnce b t ms
-  enough-once a b t mnil h g = refl
-  enough-once a b t (mcons d j ms) h g =
-      let v = sureIn (left a t) j in
-      let l = one-more a t v (mark d) in
-      enough-once a b (noteOf a t (mark d) v) ms (omega arith) (omega arith)
-      ∙ ap (λ (n : Noted). sureOnce b n ms) (noted a b t v (mark d) (omega arith) (omega arith) ∙ ap (noteOf b t (mark d)) (enough (left a t) (left b t) j (omega arith) (omega arith)))
+  enough-once : (key a b : ℕ) (t : Noted) (ms : Members) → length (t .marks) + namesOnce ms ≤ a → length (t .marks) + namesOnce ms ≤ b → sureOnce key a t ms ≡ sureOnce key b t ms
+  enough-once key a b t mnil h g = refl
+  enough-once key a b t (mcons d j ms) h g =
+      let v = sureIn key (left a t) j in
+      let l = one-more a t v (mark key d) in
+      enough-once key a b (noteOf a t (mark key d) v) ms (omega arith) (omega arith)
+      ∙ ap (λ (n : Noted). sureOnce key b n ms) (noted a b t v (mark key d) (omega arith) (omega arith) ∙ ap (noteOf b t (mark key d)) (enough key (left a t) (left b t) j (omega arith) (omega arith)))
 
 ws : {t r : List ℕ} → Ws t r → length r ≤ length t
 ws Ws.none = omega arith
@@ -119,10 +119,10 @@ opened : (l : ℕ) (t : List ℕ) → readValue (suc l) (0x7b ∷ t) ≡ insideO
 unfolding readValue insideOf
 opened l t = refl
 
-pub judged-short : (s : List ℕ) (l i : ℕ) (r : Judged) → length s ≤ 640 → JudgesIn 128 s i (insideOf 0x7d (suc l) (drop i s)) r → Judges s i (insideOf 0x7d (suc l) (drop i s)) r
-judged-short s l i r h x = record { place = x .place; says = λ j u e. subst (Says r) (same j u e) (x .says j u e) }
+pub judged-short : (key : ℕ) (s : List ℕ) (l i : ℕ) (r : Judged) → length s ≤ 640 → JudgesIn key 128 s i (insideOf 0x7d (suc l) (drop i s)) r → Judges key s i (insideOf 0x7d (suc l) (drop i s)) r
+judged-short key s l i r h x = record { place = x .place; says = λ j u e. subst (Says r) (same j u e) (x .says j u e) }
   where
-    same : (j : Json) (u : List ℕ) → insideOf 0x7d (suc l) (drop i s) ≡ ok j u → sureIn 128 j ≡ sureIn 820 j
+    same : (j : Json) (u : List ℕ) → insideOf 0x7d (suc l) (drop i s) ≡ ok j u → sureIn key 128 j ≡ sureIn key 820 j
     same j u e =
         let w = value (subst (Sound.ValueIf (suc l) (0x7b ∷ drop i s)) (opened l (drop i s) ∙ e) (Sound.value (suc l) (0x7b ∷ drop i s))) in
-        enough 128 820 j (omega (arith, length-drop i s)) (omega (arith, length-drop i s))
+        enough key 128 820 j (omega (arith, length-drop i s)) (omega (arith, length-drop i s))

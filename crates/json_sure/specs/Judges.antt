@@ -48,15 +48,15 @@ SaysEntry (Entered.Close n q) b = q ≡ b
 SaysEntry (Entered.Comma n q) b = q ≡ b
 SaysEntry Entered.Neither b = Unit {0}
 
-pub record Judges (s : List ℕ) (at : ℕ) (p : Parsed Json) (r : Judged) : Type 0 where
+pub record Judges (key : ℕ) (s : List ℕ) (at : ℕ) (p : Parsed Json) (r : Judged) : Type 0 where
   pub place : Ends s at p (placeOf r)
-  pub says : (j : Json) (u : List ℕ) → p ≡ ok j u → Says r (sure j)
+  pub says : (j : Json) (u : List ℕ) → p ≡ ok j u → Says r (sure key j)
 
 -- with room for so many marks
-pub record JudgesIn (room : ℕ) (s : List ℕ) (at : ℕ) (p : Parsed Json) (r : Judged) : Type 0 where
+pub record JudgesIn (key room : ℕ) (s : List ℕ) (at : ℕ) (p : Parsed Json) (r : Judged) : Type 0 where
   pub place : Ends s at p (placeOf r)
-  pub says : (j : Json) (u : List ℕ) → p ≡ ok j u → Says r (sureIn room j)
+  pub says : (j : Json) (u : List ℕ) → p ≡ ok j u → Says r (sureIn key room j)
 
-pub record EntersIn (room : ℕ) (s : List ℕ) (at : ℕ) (p : Parsed Entry) (r : Entered) : Type 0 where
+pub record EntersIn (key room : ℕ) (s : List ℕ) (at : ℕ) (p : Parsed Entry) (r : Entered) : Type 0 where
   pub place : Marks s at (lastOf p) (markOf r)
-  pub says : (e : Entry) (u : List ℕ) → p ≡ ok e u → SaysEntry r (sureEntry room e)
+  pub says : (e : Entry) (u : List ℕ) → p ≡ ok e u → SaysEntry r (sureEntry key room e)

@@ -1,5 +1,6 @@
 -- Marks of names, and when they show that no name is twice in an object: where no mark comes twice. Names that are the same have the
 -- same mark, so that a value is sure only where no name is twice in it; other names can have the same mark too, and then more is to be read.
+-- All this holds with every key, and which other names have the same mark depends on it.
 -- The marks of the objects that are open stand one behind the other, and where there is no room for one more the value is not sure.
 -- Assumes nothing.
 use Prim.Native.Nat.{ℕ, _+_, _-_, _*_, _%_}
@@ -17,28 +18,28 @@ use Rattle.json_value.specs.Grammar.Members.{mnil, mcons}
 use Rattle.json_value.specs.Reader.{skipWs, Entry}
 use Rattle.json_sure.specs.declared.Seen.{Seen}
 
-abbrev pub next : ℕ → ℕ → ℕ
-next h c = (h * 2654435761 + c) % 4294967296
+abbrev pub next : ℕ → ℕ → ℕ → ℕ
+next key h c = (h * key + c) % 4294967296
 
-unfoldable pub markFrom : ℕ → List ℕ → ℕ
-markFrom h [] = h
-markFrom h (c ∷ d) = markFrom (next h c) d
+unfoldable pub markFrom : ℕ → ℕ → List ℕ → ℕ
+markFrom key h [] = h
+markFrom key h (c ∷ d) = markFrom key (next key h c) d
 
 -- the mark of a name: a number of 32 bits
-abbrev pub mark : List ℕ → ℕ
-mark d = markFrom 0 d
+abbrev pub mark : ℕ → List ℕ → ℕ
+mark key d = markFrom key 0 d
 
-abbrev pub markRead : ℕ → Parsed (List ℕ) → ℕ
-markRead h (ok d r) = markFrom h d
-markRead h none = 4294967296
+abbrev pub markRead : ℕ → ℕ → Parsed (List ℕ) → ℕ
+markRead key h (ok d r) = markFrom key h d
+markRead key h none = 4294967296
 
 -- of the name of the entry that a text begins with; one that no name has where there is none
-abbrev pub nameMark : List ℕ → ℕ
-nameMark [] = 4294967296
-nameMark (b ∷ t) = markRead 0 (decoded t)
+abbrev pub nameMark : ℕ → List ℕ → ℕ
+nameMark key [] = 4294967296
+nameMark key (b ∷ t) = markRead key 0 (decoded t)
 
-unfoldable pub markAt : Bool → List ℕ → ℕ
-markAt named t = pick named (nameMark (skipWs t)) 4294967296
+unfoldable pub markAt : ℕ → Bool → List ℕ → ℕ
+markAt key named t = pick named (nameMark key (skipWs t)) 4294967296
 
 -- the marks of an object's names so far, and whether all is sure so far
 pub record Noted : Type 0 where
@@ -74,25 +75,25 @@ abbrev pub left : ℕ → Noted → ℕ
 left room t = room - length (t .marks)
 
 unfoldable mutual
-  pub sureIn : ℕ → Json → Bool
-  sureIn room null = true
-  sureIn room (bool b) = true
-  sureIn room (num d) = true
-  sureIn room (str d) = true
-  sureIn room (arr js) = sureAll room noneNoted js
-  sureIn room (obj ms) = sureOnce room noneNoted ms
+  pub sureIn : ℕ → ℕ → Json → Bool
+  sureIn key room null = true
+  sureIn key room (bool b) = true
+  sureIn key room (num d) = true
+  sureIn key room (str d) = true
+  sureIn key room (arr js) = sureAll key room noneNoted js
+  sureIn key room (obj ms) = sureOnce key room noneNoted ms
 
-  pub sureAll : ℕ → Noted → Jsons → Bool
-  sureAll room t jnil = t .sure
-  sureAll room t (jcons j js) = sureAll room (noteOf room t 4294967296 (sureIn (left room t) j)) js
+  pub sureAll : ℕ → ℕ → Noted → Jsons → Bool
+  sureAll key room t jnil = t .sure
+  sureAll key room t (jcons j js) = sureAll key room (noteOf room t 4294967296 (sureIn key (left room t) j)) js
 
-  pub sureOnce : ℕ → Noted → Members → Bool
-  sureOnce room t mnil = t .sure
-  sureOnce room t (mcons d j ms) = sureOnce room (noteOf room t (mark d) (sureIn (left room t) j)) ms
+  pub sureOnce : ℕ → ℕ → Noted → Members → Bool
+  sureOnce key room t mnil = t .sure
+  sureOnce key room t (mcons d j ms) = sureOnce key room (noteOf room t (mark key d) (sureIn key (left room t) j)) ms
 
 -- with room for 820 marks
-abbrev pub sure : Json → Bool
-sure j = sureIn 820 j
+abbrev pub sure : ℕ → Json → Bool
+sure key j = sureIn key 820 j
 
-abbrev pub sureEntry : ℕ → Entry → Bool
-sureEntry room e = sureIn room (e .item .value)
+abbrev pub sureEntry : ℕ → ℕ → Entry → Bool
+sureEntry key room e = sureIn key room (e .item .value)

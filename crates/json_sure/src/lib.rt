@@ -45,16 +45,17 @@ pub struct Seen {
 }
 
 // The mark of the string whose characters begin at a place.
-fn mark(s: &[u8], at: usize) -> u64
-    ensures { λ r. ⌜ r ≡ markRead 0 (decoded (drop at (now (s .entry)))) ⌝ }
+fn mark(key: u32, s: &[u8], at: usize) -> u64
+    ensures { λ r. ⌜ r ≡ markRead key 0 (decoded (drop at (now (s .entry)))) ⌝ }
 {
+    let factor = key as u64;
     let mut i = at;
     let mut h: u64 = 0;
     loop {
         if i < s.len() {
             let b = s[i];
             if json_character::is_plain(b) {
-                h = (h * 2654435761 + b as u64) % 4294967296;
+                h = (h * factor + b as u64) % 4294967296;
                 i += 1;
                 continue;
             }
@@ -62,7 +63,7 @@ fn mark(s: &[u8], at: usize) -> u64
         let c = json_character::any(s, i);
         match c {
             Char::One(x, w) => {
-                h = (h * 2654435761 + x as u64) % 4294967296;
+                h = (h * factor + x as u64) % 4294967296;
                 i += 1 + w;
             }
             Char::Close => return h,
@@ -72,15 +73,15 @@ fn mark(s: &[u8], at: usize) -> u64
 }
 
 // The mark of the name of the entry at a place; an array's entries have none.
-fn mark_at(s: &[u8], at: usize, close: u8) -> u64
-    ensures { λ r. ⌜ r ≡ markAt (eqb close 0x7d) (drop at (now (s .entry))) ⌝ }
+fn mark_at(key: u32, s: &[u8], at: usize, close: u8) -> u64
+    ensures { λ r. ⌜ r ≡ markAt key (eqb close 0x7d) (drop at (now (s .entry))) ⌝ }
 {
     if close == b'}' {
         let k = json_value::space(s, at);
         if s.len() <= k {
             return NO_MARK;
         }
-        return mark(s, k + 1);
+        return mark(key, s, k + 1);
     }
     NO_MARK
 }
@@ -163,25 +164,25 @@ fn followed(m: Mark, value: bool) -> Entered
 }
 
 // The value at a place, with at most so many levels of arrays and objects.
-fn value_in(s: &[u8], at: usize, levels: u8, marks: &mut [u32]) -> Judged
-    ensures { λ r. ⌜ JudgesIn (length (now (marks .entry))) (now (s .entry)) at (readValue levels (drop at (now (s .entry)))) r ⌝ }
+fn value_in(key: u32, s: &[u8], at: usize, levels: u8, marks: &mut [u32]) -> Judged
+    ensures { λ r. ⌜ JudgesIn key (length (now (marks .entry))) (now (s .entry)) at (readValue levels (drop at (now (s .entry)))) r ⌝ }
 {
     if s.len() <= at {
         return Judged::Bad;
     }
     let b = s[at];
     if b == b'[' {
-        return items(s, at + 1, levels, b']', marks);
+        return items(key, s, at + 1, levels, b']', marks);
     }
     if b == b'{' {
-        return items(s, at + 1, levels, b'}', marks);
+        return items(key, s, at + 1, levels, b'}', marks);
     }
     ended(json_value::value(s, at, levels))
 }
 
 // What follows an opening bracket or brace.
-fn items(s: &[u8], at: usize, levels: u8, close: u8, marks: &mut [u32]) -> Judged
-    ensures { λ r. ⌜ JudgesIn (length (now (marks .entry))) (now (s .entry)) at (insideOf close levels (drop at (now (s .entry)))) r ⌝ }
+fn items(key: u32, s: &[u8], at: usize, levels: u8, close: u8, marks: &mut [u32]) -> Judged
+    ensures { λ r. ⌜ JudgesIn key (length (now (marks .entry))) (now (s .entry)) at (insideOf close levels (drop at (now (s .entry)))) r ⌝ }
 {
     if levels == 0 {
         return Judged::Bad;
@@ -200,14 +201,14 @@ fn items(s: &[u8], at: usize, levels: u8, close: u8, marks: &mut [u32]) -> Judge
     };
     loop {
         let count = seen.count;
-        let m = entry(s, i, levels - 1, close, &mut marks[count..]);
+        let m = entry(key, s, i, levels - 1, close, &mut marks[count..]);
         match m {
             Entered::Close(n, q) => {
-                let t = note(marks, seen, mark_at(s, i, close), q);
+                let t = note(marks, seen, mark_at(key, s, i, close), q);
                 return Judged::End(n, t.sure);
             }
             Entered::Comma(n, q) => {
-                seen = note(marks, seen, mark_at(s, i, close), q);
+                seen = note(marks, seen, mark_at(key, s, i, close), q);
                 i = n;
             }
             Entered::Neither => return Judged::Bad,
@@ -216,14 +217,14 @@ fn items(s: &[u8], at: usize, levels: u8, close: u8, marks: &mut [u32]) -> Judge
 }
 
 // One value between brackets, with its name between braces, and what follows it.
-fn entry(s: &[u8], at: usize, levels: u8, close: u8, marks: &mut [u32]) -> Entered
-    ensures { λ r. ⌜ EntersIn (length (now (marks .entry))) (now (s .entry)) at (readEntry close (λ v. readValue levels v) (drop at (now (s .entry)))) r ⌝ }
+fn entry(key: u32, s: &[u8], at: usize, levels: u8, close: u8, marks: &mut [u32]) -> Entered
+    ensures { λ r. ⌜ EntersIn key (length (now (marks .entry))) (now (s .entry)) at (readEntry close (λ v. readValue levels v) (drop at (now (s .entry)))) r ⌝ }
 {
     let p = json_value::start(s, at, close);
     match p {
         Read::Bad => Entered::Neither,
         Read::End(v) => {
-            let q = value_in(s, v, levels, marks);
+            let q = value_in(key, s, v, levels, marks);
             match q {
                 Judged::Bad => Entered::Neither,
                 Judged::End(e, sure) => followed(json_value::after(s, e, close), sure),
@@ -252,26 +253,26 @@ fn all_or_none(n: usize, room: usize) -> usize
 
 // What follows the opening brace of a packet's object, and the places where its entries begin. There is room for the marks of 820 names at
 // a time: a text of 4,096 bytes has no more.
-pub fn object(s: &[u8], at: usize, places: &mut [usize]) -> Listed
-    ensures { λ r. ⌜ Judges (now (s .entry)) at (insideOf 0x7d 8 (drop at (now (s .entry)))) (judgedOf r) × Finds (now (s .entry)) at (now (places .exit)) (countOf r) ⌝ }
+pub fn object(key: u32, s: &[u8], at: usize, places: &mut [usize]) -> Listed
+    ensures { λ r. ⌜ Judges key (now (s .entry)) at (insideOf 0x7d 8 (drop at (now (s .entry)))) (judgedOf r) × Finds (now (s .entry)) at (now (places .exit)) (countOf r) ⌝ }
 {
     if s.len() <= 640 {
-        return object_short(s, at, places);
+        return object_short(key, s, at, places);
     }
     let mut marks = [0u32; 820];
-    object_in(s, at, &mut marks, places)
+    object_in(key, s, at, &mut marks, places)
 }
 
 // The same where there are fewer marks to clear: a text of 640 bytes has no more than 128 names.
-fn object_short(s: &[u8], at: usize, places: &mut [usize]) -> Listed
-    ensures { λ r. ⌜ JudgesIn 128 (now (s .entry)) at (insideOf 0x7d 8 (drop at (now (s .entry)))) (judgedOf r) × Finds (now (s .entry)) at (now (places .exit)) (countOf r) ⌝ }
+fn object_short(key: u32, s: &[u8], at: usize, places: &mut [usize]) -> Listed
+    ensures { λ r. ⌜ JudgesIn key 128 (now (s .entry)) at (insideOf 0x7d 8 (drop at (now (s .entry)))) (judgedOf r) × Finds (now (s .entry)) at (now (places .exit)) (countOf r) ⌝ }
 {
     let mut marks = [0u32; 128];
-    object_in(s, at, &mut marks, places)
+    object_in(key, s, at, &mut marks, places)
 }
 
-fn object_in(s: &[u8], at: usize, marks: &mut [u32], places: &mut [usize]) -> Listed
-    ensures { λ r. ⌜ JudgesIn (length (now (marks .entry))) (now (s .entry)) at (insideOf 0x7d 8 (drop at (now (s .entry)))) (judgedOf r) × Finds (now (s .entry)) at (now (places .exit)) (countOf r) ⌝ }
+fn object_in(key: u32, s: &[u8], at: usize, marks: &mut [u32], places: &mut [usize]) -> Listed
+    ensures { λ r. ⌜ JudgesIn key (length (now (marks .entry))) (now (s .entry)) at (insideOf 0x7d 8 (drop at (now (s .entry)))) (judgedOf r) × Finds (now (s .entry)) at (now (places .exit)) (countOf r) ⌝ }
 {
     let k = json_value::space(s, at);
     if s.len() <= k {
@@ -288,16 +289,16 @@ fn object_in(s: &[u8], at: usize, marks: &mut [u32], places: &mut [usize]) -> Li
     };
     loop {
         let count = seen.count;
-        let m = entry(s, i, LEVELS_INSIDE, b'}', &mut marks[count..]);
+        let m = entry(key, s, i, LEVELS_INSIDE, b'}', &mut marks[count..]);
         note_place(places, n, i);
         n += 1;
         match m {
             Entered::Close(e, q) => {
-                let t = note(marks, seen, mark_at(s, i, b'}'), q);
+                let t = note(marks, seen, mark_at(key, s, i, b'}'), q);
                 return Listed::End(e, t.sure, all_or_none(n, places.len()));
             }
             Entered::Comma(e, q) => {
-                seen = note(marks, seen, mark_at(s, i, b'}'), q);
+                seen = note(marks, seen, mark_at(key, s, i, b'}'), q);
                 i = e;
             }
             Entered::Neither => return Listed::Bad,

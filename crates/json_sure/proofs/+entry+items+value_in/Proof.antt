@@ -42,13 +42,13 @@ use Rattle.json_sure.proofs.+entry+items+value_in.{statement}
 use Rattle.json_sure.proofs.+entry+items+value_in.Tie.{close}
 
 abbrev μ-entry : Measures 2 entry-kinds.ps ℕ
-μ-entry κs a = 3 * a .1 .1 .0 + 3
+μ-entry κs a = 3 * a .1 .1 .1 .0 + 3
 
 abbrev μ-items : Measures 2 items-kinds.ps ℕ
-μ-items κs a = 3 * a .1 .1 .0 + 1
+μ-items κs a = 3 * a .1 .1 .1 .0 + 1
 
 abbrev μ-value-in : Measures 2 value-in-kinds.ps ℕ
-μ-value-in κs a = 3 * a .1 .1 .0 + 2
+μ-value-in κs a = 3 * a .1 .1 .1 .0 + 2
 
 abbrev entry-at : ℕ → In 2 entry-kinds.ps
 entry-at t = and 2 entry-kinds.ps (is 2 entry-kinds.ps μ-entry t) entry.Pre
@@ -175,7 +175,7 @@ entry-returns : (t : ℕ) → entry-lts.Need-returns (
   followed-reads.Asked,
   followed-reads.Learnt,
 ) (entry-at t) entry.Post
-entry-returns t c = enters-none _ _ _ _ _ (rw (c .enum-told .given .1) at (c .before .before .start .ensures))
+entry-returns t c = enters-none _ _ _ _ _ _ (rw (c .enum-told .given .1) at (c .before .before .start .ensures))
 
 entry-same-length : (t : ℕ) → entry-lts.Need-same-length (
   start-reads.Asked,
@@ -199,7 +199,7 @@ entry-returns-2 : (t : ℕ) → entry-lts.Need-returns-2 (
   followed-reads.Asked,
   followed-reads.Learnt,
 ) (entry-at t) entry.Post
-entry-returns-2 t c = enters-bad _ _ _ _ _ _ (rw (c .before .before .before .before .before .before .before .p .given .1) at (c .before .before .before .before .before .before .before .before .before .start .ensures)) (rw (c .enum-told2 .given .1) at (c .before .before .before .before .value-in .ensures))
+entry-returns-2 t c = enters-bad _ _ _ _ _ _ _ (rw (c .before .before .before .before .before .before .before .p .given .1) at (c .before .before .before .before .before .before .before .before .before .start .ensures)) (rw (c .enum-told2 .given .1) at (c .before .before .before .before .value-in .ensures))
 
 entry-same-length-2 : (t : ℕ) → entry-lts.Need-same-length-2 (
   start-reads.Asked,
@@ -223,18 +223,18 @@ entry-returns-3 : (t : ℕ) → entry-lts.Need-returns-3 (
   followed-reads.Asked,
   followed-reads.Learnt,
 ) (entry-at t) entry.Post
-entry-returns-3 t c = rw (c .followed .ensures) (enters _ _ _ _ _ _ (rw (c .before .before .before .before .before .before .before .before .before .before .p .given .1) at (c .before .before .before .before .before .before .before .before .before .before .before .before .start .ensures)) _ _ (rw (c .before .before .before .q .given .1) at (c .before .before .before .before .before .before .before .value-in .ensures)) _ (c .before .after .ensures))
+entry-returns-3 t c = rw (c .followed .ensures) (enters _ _ _ _ _ _ _ (rw (c .before .before .before .before .before .before .before .before .before .before .p .given .1) at (c .before .before .before .before .before .before .before .before .before .before .before .before .start .ensures)) _ _ (rw (c .before .before .before .q .given .1) at (c .before .before .before .before .before .before .before .value-in .ensures)) _ (c .before .after .ensures))
 
 abbrev items-Inv-loop : items-lts.InvT-loop
-items-Inv-loop s at levels close marks₀ k i₀ seen₀ marks i seen =
+items-Inv-loop key s at levels close marks₀ k i₀ seen₀ marks i seen =
     (i ≤ length s)
     × (length marks ≡ length marks₀)
     × (seen .count ≤ length marks)
     × ((r : Read) → ItemsAt s close (levels - 1) i r → Ends s at (insideOf close levels (drop at s)) r)
-    × ((q : Bool) → ItemsSay (length marks₀) s close (levels - 1) i (notedIn marks seen) q → (j : Json) (u : List ℕ) → insideOf close levels (drop at s) ≡ ok j u → q ≡ sureIn (length marks₀) j)
+    × ((q : Bool) → ItemsSay key (length marks₀) s close (levels - 1) i (notedIn marks seen) q → (j : Json) (u : List ℕ) → insideOf close levels (drop at s) ≡ ok j u → q ≡ sureIn key (length marks₀) j)
 
 abbrev items-μ-loop : items-lts.MeasureT-loop
-items-μ-loop s at levels close marks₀ k i₀ seen₀ marks i seen = length s - i
+items-μ-loop key s at levels close marks₀ k i₀ seen₀ marks i seen = length s - i
 
 items-returns : (t : ℕ) → items-lts.Need-returns (
   space-reads.Asked,
@@ -246,7 +246,7 @@ items-returns : (t : ℕ) → items-lts.Need-returns (
   note-reads.Asked,
   note-reads.Learnt,
 ) (items-at t) items.Post items-Inv-loop items-μ-loop
-items-returns t c = judged-none _ _ _ _ _ (c .if1 .taken)
+items-returns t c = judged-none _ _ _ _ _ _ (c .if1 .taken)
 
 items-space-requires : (t : ℕ) → items-lts.Need-space-requires (
   space-reads.Asked,
@@ -270,7 +270,7 @@ items-returns-2 : (t : ℕ) → items-lts.Need-returns-2 (
   note-reads.Asked,
   note-reads.Learnt,
 ) (items-at t) items.Post items-Inv-loop items-μ-loop
-items-returns-2 t c = judged-past _ _ _ _ _ _ (c .before .before .if1 .left) (c .before .space .ensures) (c .if2 .taken)
+items-returns-2 t c = judged-past _ _ _ _ _ _ _ (c .before .before .if1 .left) (c .before .space .ensures) (c .if2 .taken)
 
 items-shared-slice-read-if3 : (t : ℕ) → items-lts.Need-shared-slice-read-if3 (
   space-reads.Asked,
@@ -284,7 +284,7 @@ items-shared-slice-read-if3 : (t : ℕ) → items-lts.Need-shared-slice-read-if3
 ) (items-at t) items.Post items-Inv-loop items-μ-loop
 items-shared-slice-read-if3 t c = omega arith
 
-items-add-t20 : (t : ℕ) → items-lts.Need-add-t20 (
+items-add-t21 : (t : ℕ) → items-lts.Need-add-t21 (
   space-reads.Asked,
   space-reads.Learnt,
   entry-below t,
@@ -294,7 +294,7 @@ items-add-t20 : (t : ℕ) → items-lts.Need-add-t20 (
   note-reads.Asked,
   note-reads.Learnt,
 ) (items-at t) items.Post items-Inv-loop items-μ-loop
-items-add-t20 t c = omega arith
+items-add-t21 t c = omega arith
 
 items-returns-3 : (t : ℕ) → items-lts.Need-returns-3 (
   space-reads.Asked,
@@ -306,7 +306,7 @@ items-returns-3 : (t : ℕ) → items-lts.Need-returns-3 (
   note-reads.Asked,
   note-reads.Learnt,
 ) (items-at t) items.Post items-Inv-loop items-μ-loop
-items-returns-3 t c = judged-empty _ _ _ _ _ _ (c .before .before .before .before .if1 .left) (c .before .before .before .space .ensures) (c .before .before .if2 .left) (c .if3 .taken)
+items-returns-3 t c = judged-empty _ _ _ _ _ _ _ (c .before .before .before .before .if1 .left) (c .before .before .before .space .ensures) (c .before .before .if2 .left) (c .if3 .taken)
 
 items-loop-holds : (t : ℕ) → items-lts.Need-loop-holds (
   space-reads.Asked,
@@ -323,7 +323,7 @@ items-loop-holds t c =
     let pos = c .before .before .before .before .if1 .left in
     let ws = c .before .before .before .space .ensures in
     let there = c .before .before .if2 .left in
-    (omega arith, refl, omega arith, inside-items _ _ _ _ _ pos ws there (c .if3 .left), λ q y. inside-say _ _ _ _ _ _ pos ws there (c .if3 .left) q (rw (none-noted (a .marks .now)) at y))
+    (omega arith, refl, omega arith, inside-items _ _ _ _ _ pos ws there (c .if3 .left), λ q y. inside-say _ _ _ _ _ _ _ pos ws there (c .if3 .left) q (rw (none-noted (a .marks .now)) at y))
 
 items-sub-entry : (t : ℕ) → items-lts.Need-sub-entry (
   space-reads.Asked,
@@ -464,8 +464,8 @@ items-returns-4 t c =
     let q = c .before .before .before .before .before .before .m .given .0 .1 .0 in
     let e = rw (c .before .before .before .before .before .before .m .given .1) at (c .before .before .before .before .before .before .before .before .before .before .entry .ensures) in
     let f = enters-rest _ xs [] u (l .loop .inv .1) (l .loop .inv .2) e in
-    let n = sure-rest _ xs (c .before .before .before .before .before .before .before .before .before .before .entry .last .1 .1 .1 .1 .0) u (l .loop .inv .1) (l .loop .inv .2) (c .before .before .before .before .before .before .before .before .before .marks .given .1) m q (c .before .before .note .last .0) (c .before .before .note .result) (c .before .before .note .ensures) in
-    record { place = l .loop .inv .3 _ (items-last _ _ _ _ _ (e .place)); says = l .loop .inv .4 _ (subst (λ (z : Bool). ItemsSay (length (a .marks .now)) (a .s .now) (a .close) (a .levels - 1) (l .loop .i) (notedIn xs u) z) n (say-last _ _ _ _ _ _ (notedIn xs u) (c .before .before .before .mark-at .ensures) _ _ f)) }
+    let n = sure-rest _ xs (c .before .before .before .before .before .before .before .before .before .before .entry .last .1 .1 .1 .1 .1 .0) u (l .loop .inv .1) (l .loop .inv .2) (c .before .before .before .before .before .before .before .before .before .marks .given .1) m q (c .before .before .note .last .0) (c .before .before .note .result) (c .before .before .note .ensures) in
+    record { place = l .loop .inv .3 _ (items-last _ _ _ _ _ (e .place)); says = l .loop .inv .4 _ (subst (λ (z : Bool). ItemsSay (a .key) (length (a .marks .now)) (a .s .now) (a .close) (a .levels - 1) (l .loop .i) (notedIn xs u) z) n (say-last _ _ _ _ _ _ _ (notedIn xs u) (c .before .before .before .mark-at .ensures) _ _ f)) }
 
 items-enum-known-m-2 : (t : ℕ) → items-lts.Need-enum-known-m-2 (
   space-reads.Asked,
@@ -536,8 +536,8 @@ items-loop-again t c =
     let q = c .before .before .before .before .before .before .m2 .given .0 .1 .0 in
     let e = rw (c .before .before .before .before .before .before .m2 .given .1) at (c .before .before .before .before .before .before .before .before .before .before .entry .ensures) in
     let f = enters-rest _ xs [] u (l .loop .inv .1) (l .loop .inv .2) e in
-    let n = noted-rest _ xs (c .before .before .before .before .before .before .before .before .before .before .entry .last .1 .1 .1 .1 .0) u (l .loop .inv .1) (l .loop .inv .2) (c .before .before .before .before .before .before .before .before .before .marks .given .1) m q (c .before .before .note2 .last .0) (c .before .before .note2 .result) (c .before .before .note2 .ensures) in
-    (comma-in (e .place), c .before .marks3 .given ∙ c .before .before .before .before .before .before .before .before .before .marks .given .1 ∙ l .loop .inv .1, c .before .before .note2 .ensures .0, λ r y. l .loop .inv .3 r (items-next _ _ _ _ _ (e .place) r y), λ o y. l .loop .inv .4 o (say-next _ _ _ _ _ _ (notedIn xs u) (c .before .before .before .mark-at2 .ensures) _ _ f o (subst (λ (z : Noted). ItemsSay (length (a .marks .now)) (a .s .now) (a .close) (a .levels - 1) (c .before .before .before .before .before .before .m2 .given .0 .0) z o) n y)))
+    let n = noted-rest _ xs (c .before .before .before .before .before .before .before .before .before .before .entry .last .1 .1 .1 .1 .1 .0) u (l .loop .inv .1) (l .loop .inv .2) (c .before .before .before .before .before .before .before .before .before .marks .given .1) m q (c .before .before .note2 .last .0) (c .before .before .note2 .result) (c .before .before .note2 .ensures) in
+    (comma-in (e .place), c .before .marks3 .given ∙ c .before .before .before .before .before .before .before .before .before .marks .given .1 ∙ l .loop .inv .1, c .before .before .note2 .ensures .0, λ r y. l .loop .inv .3 r (items-next _ _ _ _ _ (e .place) r y), λ o y. l .loop .inv .4 o (say-next _ _ _ _ _ _ _ (notedIn xs u) (c .before .before .before .mark-at2 .ensures) _ _ f o (subst (λ (z : Noted). ItemsSay (a .key) (length (a .marks .now)) (a .s .now) (a .close) (a .levels - 1) (c .before .before .before .before .before .before .m2 .given .0 .0) z o) n y)))
 
 items-enum-told : (t : ℕ) → items-lts.Need-enum-told (
   space-reads.Asked,
@@ -586,7 +586,7 @@ value-in-returns : (t : ℕ) → value-in-lts.Need-returns (
   ended-reads.Asked,
   ended-reads.Learnt,
 ) (value-in-at t) value-in.Post
-value-in-returns t c = value-past _ _ _ _ (c .if1 .taken)
+value-in-returns t c = value-past _ _ _ _ _ (c .if1 .taken)
 
 value-in-shared-slice-read-b : (t : ℕ) → value-in-lts.Need-shared-slice-read-b (
   items-below t,
@@ -636,7 +636,7 @@ value-in-returns-2 : (t : ℕ) → value-in-lts.Need-returns-2 (
   ended-reads.Asked,
   ended-reads.Learnt,
 ) (value-in-at t) value-in.Post
-value-in-returns-2 t c = value-array _ _ _ _ (c .before .before .before .before .before .before .if1 .left) _ (c .before .before .before .before .if2 .taken) (c .before .before .items .ensures)
+value-in-returns-2 t c = value-array _ _ _ _ _ (c .before .before .before .before .before .before .if1 .left) _ (c .before .before .before .before .if2 .taken) (c .before .before .items .ensures)
 
 value-in-add-items-2 : (t : ℕ) → value-in-lts.Need-add-items-2 (
   items-below t,
@@ -676,7 +676,7 @@ value-in-returns-3 : (t : ℕ) → value-in-lts.Need-returns-3 (
   ended-reads.Asked,
   ended-reads.Learnt,
 ) (value-in-at t) value-in.Post
-value-in-returns-3 t c = value-object _ _ _ _ (c .before .before .before .before .before .before .before .if1 .left) _ (c .before .before .before .before .if3 .taken) (c .before .before .items2 .ensures)
+value-in-returns-3 t c = value-object _ _ _ _ _ (c .before .before .before .before .before .before .before .if1 .left) _ (c .before .before .before .before .if3 .taken) (c .before .before .items2 .ensures)
 
 value-in-value-requires : (t : ℕ) → value-in-lts.Need-value-requires (
   items-below t,
@@ -706,7 +706,7 @@ value-in-returns-4 : (t : ℕ) → value-in-lts.Need-returns-4 (
   ended-reads.Asked,
   ended-reads.Learnt,
 ) (value-in-at t) value-in.Post
-value-in-returns-4 t c = rw (c .ended .ensures) (value-scalar _ _ _ _ (c .before .before .before .before .before .if1 .left) _ (c .before .before .before .if2 .left) (c .before .before .if3 .left) (c .before .value .ensures))
+value-in-returns-4 t c = rw (c .ended .ensures) (value-scalar _ _ _ _ _ (c .before .before .before .before .before .if1 .left) _ (c .before .before .before .if2 .left) (c .before .before .if3 .left) (c .before .value .ensures))
 
 pub +entry+items+value-in-spec : {M : Type 1} → statement M
 +entry+items+value-in-spec = close μ-entry μ-items μ-value-in (λ t. entry-lts.spec (
@@ -752,7 +752,7 @@ pub +entry+items+value-in-spec : {M : Type 1} → statement M
     (items-space-requires t)
     (items-returns-2 t)
     (items-shared-slice-read-if3 t)
-    (items-add-t20 t)
+    (items-add-t21 t)
     (items-returns-3 t)
     (items-loop-holds t)
     (items-sub-entry t)

@@ -11,15 +11,15 @@ use Rattle.json_character.proofs.Laws.{at-plain}
 use Rattle.json_text.specs.Decoded.{decoded}
 use Rattle.json_text.proofs.Texts.{one-in}
 use Rattle.json_sure.specs.Sure.{markRead}
-use Rattle.json_sure.proofs.Marks.{mark-one, mark-close, mark-bad}
+use Rattle.json_sure.proofs.Marks.{product-low, mark-one, mark-close, mark-bad}
 use Rattle.json_sure.proofs.mark.Statement.{statement}
 use Rattle.json_sure.proofs.mark.Tie as tie
 
 abbrev Inv-loop : tie.InvT-loop
-Inv-loop s at i₀ h₀ i h = (h < 4294967296) × (markRead 0 (decoded (drop at s)) ≡ markRead h (decoded (drop i s)))
+Inv-loop key s at factor i₀ h₀ i h = (h < 4294967296) × (markRead key 0 (decoded (drop at s)) ≡ markRead key h (decoded (drop i s)))
 
 abbrev μ-loop : tie.MeasureT-loop
-μ-loop s at i₀ h₀ i h = length s - i
+μ-loop key s at factor i₀ h₀ i h = length s - i
 
 loop-holds : tie.Need-loop-holds Inv-loop μ-loop
 loop-holds c = (omega arith, refl)
@@ -31,13 +31,17 @@ is-plain-requires : tie.Need-is-plain-requires Inv-loop μ-loop
 is-plain-requires c κs = search needs
 
 mul-h : tie.Need-mul-h Inv-loop μ-loop
-mul-h c = omega arith
+mul-h c =
+    let l = c .before .before .before .before in
+    omega (arith, product-low (l .loop .h) (l .before .before .args .key) (l .loop .inv .0) (l .before .before .fits .key .fits))
 
 cast-h : tie.Need-cast-h Inv-loop μ-loop
 cast-h c = omega (arith, c .before .before .shared-slice-known2 .given (c .before .before .before .before .loop .i))
 
 add-h : tie.Need-add-h Inv-loop μ-loop
-add-h c = omega (arith, c .before .before .shared-slice-known2 .given (c .before .before .before .before .loop .i))
+add-h c =
+    let l = c .before .before .before .before in
+    omega (arith, product-low (l .loop .h) (l .before .before .args .key) (l .loop .inv .0) (l .before .before .fits .key .fits), c .before .before .shared-slice-known2 .given (l .loop .i))
 
 add-i : tie.Need-add-i Inv-loop μ-loop
 add-i c = omega arith
@@ -50,7 +54,7 @@ loop-again c =
     let l = c .before .before .before .before in
     let s = now (l .before .before .args .s) in
     let e = sym (at-plain s (l .loop .i) (sym (c .before .is-plain .ensures) ∙ c .if2 .taken)) in
-    (mod-lt _ (omega arith), l .loop .inv .1 ∙ mark-one s (l .loop .i) (l .loop .h) _ _ e)
+    (mod-lt _ (omega arith), l .loop .inv .1 ∙ mark-one _ s (l .loop .i) (l .loop .h) _ _ e)
 
 any-requires : tie.Need-any-requires Inv-loop μ-loop
 any-requires c κs = search needs
@@ -59,13 +63,17 @@ enum-known-c : tie.Need-enum-known-c Inv-loop μ-loop
 enum-known-c c = search needs
 
 mul-h-2 : tie.Need-mul-h-2 Inv-loop μ-loop
-mul-h-2 c = omega arith
+mul-h-2 c =
+    let l = c .before .before .before .before .before in
+    omega (arith, product-low (l .loop .h) (l .before .before .args .key) (l .loop .inv .0) (l .before .before .fits .key .fits))
 
 cast-h-2 : tie.Need-cast-h-2 Inv-loop μ-loop
 cast-h-2 c = search needs
 
 add-h-2 : tie.Need-add-h-2 Inv-loop μ-loop
-add-h-2 c = omega arith
+add-h-2 c =
+    let l = c .before .before .before .before .before in
+    omega (arith, product-low (l .loop .h) (l .before .before .args .key) (l .loop .inv .0) (l .before .before .fits .key .fits))
 
 add-i-2 : tie.Need-add-i-2 Inv-loop μ-loop
 add-i-2 c =
@@ -93,7 +101,7 @@ loop-again-2 c =
     let l = c .before .before .before .before .before in
     let s = now (l .before .before .args .s) in
     let e = sym (c .before .c .given .1) ∙ c .before .before .before .any .ensures in
-    (mod-lt _ (omega arith), l .loop .inv .1 ∙ mark-one s (l .loop .i) (l .loop .h) _ _ e)
+    (mod-lt _ (omega arith), l .loop .inv .1 ∙ mark-one _ s (l .loop .i) (l .loop .h) _ _ e)
 
 enum-told : tie.Need-enum-told Inv-loop μ-loop
 enum-told c = search needs
@@ -103,7 +111,7 @@ returns c =
     let l = c .before .before .before .before in
     let s = now (l .before .before .args .s) in
     let e = sym (c .enum-told .given .1) ∙ c .before .before .any .ensures in
-    sym (l .loop .inv .1 ∙ mark-close s (l .loop .i) (l .loop .h) e)
+    sym (l .loop .inv .1 ∙ mark-close _ s (l .loop .i) (l .loop .h) e)
 
 enum-told-2 : tie.Need-enum-told-2 Inv-loop μ-loop
 enum-told-2 c = search needs
@@ -113,7 +121,7 @@ returns-2 c =
     let l = c .before .before .before .before in
     let s = now (l .before .before .args .s) in
     let e = sym (c .enum-told2 .given .1) ∙ c .before .before .any .ensures in
-    sym (l .loop .inv .1 ∙ mark-bad s (l .loop .i) (l .loop .h) e)
+    sym (l .loop .inv .1 ∙ mark-bad _ s (l .loop .i) (l .loop .h) e)
 
 pub mark-spec : {M : Type 1} → statement M
 mark-spec =

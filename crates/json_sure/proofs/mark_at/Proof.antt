@@ -11,7 +11,7 @@ space-requires : tie.Need-space-requires
 space-requires c κs = search needs
 
 returns : tie.Need-returns
-returns c = mark-past _ _ _ _ (c .before .before .if1 .taken) (c .before .space .ensures) (c .if2 .taken)
+returns c = mark-past _ _ _ _ _ (c .before .before .if1 .taken) (c .before .space .ensures) (c .if2 .taken)
 
 add-mark : tie.Need-add-mark
 add-mark c = search needs
@@ -20,10 +20,10 @@ mark-requires : tie.Need-mark-requires
 mark-requires c κs = search needs
 
 returns-2 : tie.Need-returns-2
-returns-2 c = c .mark .ensures ∙ mark-there _ _ _ _ (c .before .before .before .if1 .taken) (c .before .before .space .ensures) (c .before .if2 .left)
+returns-2 c = c .mark .ensures ∙ mark-there _ _ _ _ _ (c .before .before .before .if1 .taken) (c .before .before .space .ensures) (c .before .if2 .left)
 
 returns-3 : tie.Need-returns-3
-returns-3 c = mark-none (now (c .before .before .args .s)) (c .before .before .args .at) 0 _ (c .if1 .left)
+returns-3 c = mark-none (c .before .before .args .key) (now (c .before .before .args .s)) (c .before .before .args .at) 0 _ (c .if1 .left)
 
 pub mark-at-spec : {M : Type 1} → statement M
 mark-at-spec =

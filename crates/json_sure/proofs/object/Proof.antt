@@ -15,7 +15,7 @@ same-length c = search needs
 returns : tie.Need-returns
 returns c =
     let a = c .before .before .before .before .before .before .before .args in
-    (judged-short (now (a .s)) 7 (a .at) _ (c .before .before .before .before .if1 .taken) (c .before .before .object-short .ensures .0), c .before .before .object-short .ensures .1)
+    (judged-short (a .key) (now (a .s)) 7 (a .at) _ (c .before .before .before .before .if1 .taken) (c .before .before .object-short .ensures .0), c .before .before .object-short .ensures .1)
 
 slice-aggregate-object-in : tie.Need-slice-aggregate-object-in
 slice-aggregate-object-in c = search needs

@@ -21,40 +21,40 @@ use Rattle.json_sure.proofs.object_in.Statement.{statement}
 use Rattle.json_sure.proofs.object_in.Tie as tie
 
 abbrev Inv-loop : tie.InvT-loop
-Inv-loop s at marks₀ places₀ k i₀ n₀ seen₀ marks places i n seen =
+Inv-loop key s at marks₀ places₀ k i₀ n₀ seen₀ marks places i n seen =
     (i ≤ length s)
     × (length marks ≡ length marks₀)
     × (seen .count ≤ length marks)
     × ((r : Read) → ItemsAt s 0x7d 7 i r → Ends s at (insideOf 0x7d 8 (drop at s)) r)
-    × ((q : Bool) → ItemsSay (length marks₀) s 0x7d 7 i (notedIn marks seen) q → (j : Json) (u : List ℕ) → insideOf 0x7d 8 (drop at s) ≡ ok j u → q ≡ sureIn (length marks₀) j)
+    × ((q : Bool) → ItemsSay key (length marks₀) s 0x7d 7 i (notedIn marks seen) q → (j : Json) (u : List ℕ) → insideOf 0x7d 8 (drop at s) ≡ ok j u → q ≡ sureIn key (length marks₀) j)
     × (length places ≡ length places₀)
     × (n ≤ i)
     × FoundFrom s at places n i
 
 abbrev μ-loop : tie.MeasureT-loop
-μ-loop s at marks₀ places₀ k i₀ n₀ seen₀ marks places i n seen = length s - i
+μ-loop key s at marks₀ places₀ k i₀ n₀ seen₀ marks places i n seen = length s - i
 
 space-requires : tie.Need-space-requires Inv-loop μ-loop
 space-requires c κs = search needs
 
 returns : tie.Need-returns Inv-loop μ-loop
-returns c = (judged-past _ _ _ 8 _ _ eight (c .before .space .ensures) (c .if1 .taken), finds-none _ _ _)
+returns c = (judged-past _ _ _ _ 8 _ _ eight (c .before .space .ensures) (c .if1 .taken), finds-none _ _ _)
 
 shared-slice-read-if2 : tie.Need-shared-slice-read-if2 Inv-loop μ-loop
 shared-slice-read-if2 c = search needs
 
-add-t20 : tie.Need-add-t20 Inv-loop μ-loop
-add-t20 c = search needs
+add-t21 : tie.Need-add-t21 Inv-loop μ-loop
+add-t21 c = search needs
 
 returns-2 : tie.Need-returns-2 Inv-loop μ-loop
-returns-2 c = (judged-empty _ _ _ 8 _ _ eight (c .before .before .before .space .ensures) (c .before .before .if1 .left) (c .if2 .taken), finds-none _ _ _)
+returns-2 c = (judged-empty _ _ _ _ 8 _ _ eight (c .before .before .before .space .ensures) (c .before .before .if1 .left) (c .if2 .taken), finds-none _ _ _)
 
 loop-holds : tie.Need-loop-holds Inv-loop μ-loop
 loop-holds c =
     let a = c .before .before .before .before .before .before .before .args in
     let ws = c .before .before .before .space .ensures in
     let there = c .before .before .if1 .left in
-    (omega arith, refl, omega arith, inside-items _ _ 8 _ _ eight ws there (c .if2 .left), λ q y. inside-say _ _ _ 8 _ _ eight ws there (c .if2 .left) q (rw (none-noted (a .marks .now)) at y), refl, omega arith, found-first _ _ _ ws there (c .if2 .left) (a .places .now))
+    (omega arith, refl, omega arith, inside-items _ _ 8 _ _ eight ws there (c .if2 .left), λ q y. inside-say _ _ _ _ 8 _ _ eight ws there (c .if2 .left) q (rw (none-noted (a .marks .now)) at y), refl, omega arith, found-first _ _ _ ws there (c .if2 .left) (a .places .now))
 
 mul-entry : tie.Need-mul-entry Inv-loop μ-loop
 mul-entry c = omega (arith, c .loop .inv .1, c .loop .inv .2)
@@ -105,8 +105,8 @@ returns-3 c =
     let q = c .before .before .before .before .before .before .before .m .given .0 .1 .0 in
     let e = rw (c .before .before .before .before .before .before .before .m .given .1) at (c .before .before .before .before .before .before .before .before .before .before .before .before .before .before .before .entry .ensures) in
     let f = enters-rest _ xs [] u (l .loop .inv .1) (l .loop .inv .2) e in
-    let n = sure-rest _ xs (c .before .before .before .before .before .before .before .before .before .before .before .before .before .before .before .entry .last .1 .1 .1 .1 .0) u (l .loop .inv .1) (l .loop .inv .2) (c .before .before .before .before .before .before .before .before .before .before .before .before .before .before .marks .given .1) m q (c .before .before .before .note .last .0) (c .before .before .before .note .result) (c .before .before .before .note .ensures) in (
-      record { place = l .loop .inv .3 _ (items-last _ _ _ _ _ (e .place)); says = l .loop .inv .4 _ (subst (λ (z : Bool). ItemsSay (length (a .marks .now)) (a .s .now) 0x7d 7 (l .loop .i) (notedIn xs u) z) n (say-last _ _ _ _ _ _ (notedIn xs u) (c .before .before .before .before .mark-at .ensures) _ _ f)) },
+    let n = sure-rest _ xs (c .before .before .before .before .before .before .before .before .before .before .before .before .before .before .before .entry .last .1 .1 .1 .1 .1 .0) u (l .loop .inv .1) (l .loop .inv .2) (c .before .before .before .before .before .before .before .before .before .before .before .before .before .before .marks .given .1) m q (c .before .before .before .note .last .0) (c .before .before .before .note .result) (c .before .before .before .note .ensures) in (
+      record { place = l .loop .inv .3 _ (items-last _ _ _ _ _ (e .place)); says = l .loop .inv .4 _ (subst (λ (z : Bool). ItemsSay (a .key) (length (a .marks .now)) (a .s .now) 0x7d 7 (l .loop .i) (notedIn xs u) z) n (say-last _ _ _ _ _ _ _ (notedIn xs u) (c .before .before .before .before .mark-at .ensures) _ _ f)) },
       finds-all (a .s .now) (a .at) _ _ (found-last (a .s .now) (a .at) _ _ _ _ (c .before .before .before .before .before .before .before .before .before .before .places .given) (c .before .before .before .before .before .before .before .before .before .before .before .note-place .ensures) (l .loop .inv .7) _ (e .place)) _ (c .all-or-none .ensures),
     )
 
@@ -134,12 +134,12 @@ loop-again c =
     let q = c .before .before .before .before .before .before .m2 .given .0 .1 .0 in
     let e = rw (c .before .before .before .before .before .before .m2 .given .1) at (c .before .before .before .before .before .before .before .before .before .before .before .before .before .before .entry .ensures) in
     let f = enters-rest _ xs [] u (l .loop .inv .1) (l .loop .inv .2) e in
-    let n = noted-rest _ xs (c .before .before .before .before .before .before .before .before .before .before .before .before .before .before .entry .last .1 .1 .1 .1 .0) u (l .loop .inv .1) (l .loop .inv .2) (c .before .before .before .before .before .before .before .before .before .before .before .before .before .marks .given .1) m q (c .before .before .note2 .last .0) (c .before .before .note2 .result) (c .before .before .note2 .ensures) in (
+    let n = noted-rest _ xs (c .before .before .before .before .before .before .before .before .before .before .before .before .before .before .entry .last .1 .1 .1 .1 .1 .0) u (l .loop .inv .1) (l .loop .inv .2) (c .before .before .before .before .before .before .before .before .before .before .before .before .before .marks .given .1) m q (c .before .before .note2 .last .0) (c .before .before .note2 .result) (c .before .before .note2 .ensures) in (
       comma-in (e .place),
       c .before .marks3 .given ∙ c .before .before .before .before .before .before .before .before .before .before .before .before .before .marks .given .1 ∙ l .loop .inv .1,
       c .before .before .note2 .ensures .0,
       λ r y. l .loop .inv .3 r (items-next _ _ _ _ _ (e .place) r y),
-      λ o y. l .loop .inv .4 o (say-next _ _ _ _ _ _ (notedIn xs u) (c .before .before .before .mark-at2 .ensures) _ _ f o (subst (λ (z : Noted). ItemsSay (length (a .marks .now)) (a .s .now) 0x7d 7 (c .before .before .before .before .before .before .m2 .given .0 .0) z o) n y)),
+      λ o y. l .loop .inv .4 o (say-next _ _ _ _ _ _ _ (notedIn xs u) (c .before .before .before .mark-at2 .ensures) _ _ f o (subst (λ (z : Noted). ItemsSay (a .key) (length (a .marks .now)) (a .s .now) 0x7d 7 (c .before .before .before .before .before .before .m2 .given .0 .0) z o) n y)),
       c .before .before .before .before .before .before .before .before .before .places .given ∙ l .loop .inv .5,
       omega (arith, comma-after (e .place), l .loop .inv .6),
       found-next (a .s .now) (a .at) _ _ _ _ (c .before .before .before .before .before .before .before .before .before .places .given) (c .before .before .before .before .before .before .before .before .before .before .note-place .ensures) (l .loop .inv .7) _ (e .place),
@@ -169,7 +169,7 @@ object-in-spec =
     space-requires
     returns
     shared-slice-read-if2
-    add-t20
+    add-t21
     returns-2
     loop-holds
     mul-entry
