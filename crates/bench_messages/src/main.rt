@@ -108,7 +108,7 @@ fn judged(s: &[u8], places: &[usize], packet: bool) -> u64
 
 fn read_once(s: &[u8]) -> u64 {
     let mut places = [0usize; 32];
-    let j = json_packet::judge(s, &mut places);
+    let j = json_packet::judge(s, json_packet::FIXED_KEY, &mut places);
     let n = j.count;
     judged(s, &places[0..n], j.packet)
 }

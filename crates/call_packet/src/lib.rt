@@ -1,8 +1,8 @@
 // Packet, in place: the call that strangers reach.
 ghost use mathlib.Core.Path.{_≡_};
 ghost use mathlib.Core.Bool.{true, false};
-ghost use Prim.Native.Nat.{_<_};
-ghost use lib.ListN.{length};
+ghost use Prim.Native.Nat.{_<_, _+_, _*_, _/_};
+ghost use lib.ListN.{length, getD};
 ghost use Rattle.basis.specs.Pick.{pick};
 ghost use Rattle.identity.specs.Version.{identityOf};
 ghost use Rattle.json_find.specs.Index.{Indexed};
@@ -306,6 +306,20 @@ fn heed(
     by_class(w, t, l, time, id, answered, received, p, places, class, out)
 }
 
+fn odd_number(a: u8, b: u8, c: u8, d: u8) -> u32
+    ensures { λ r. ⌜ r ≡ a * 16777216 + b * 65536 + c * 256 + d / 2 * 2 + 1 ⌝ }
+{
+    a as u32 * 16777216 + b as u32 * 65536 + c as u32 * 256 + d as u32 / 2 * 2 + 1
+}
+
+// A key for the marks of a packet's names, of four random bytes. An even one would leave the first characters of long names without effect.
+fn key_of(id: Identity) -> u32
+    ensures { λ r. ⌜ r ≡ getD (id .bytes) 0 0 * 16777216 + getD (id .bytes) 1 0 * 65536 + getD (id .bytes) 2 0 * 256 + getD (id .bytes) 3 0 / 2 * 2 + 1 ⌝ }
+{
+    let b = id.bytes;
+    odd_number(b[0], b[1], b[2], b[3])
+}
+
 // A packet is judged once, and where the entries of its object begin is noted for all who read it.
 fn judged(
     w: &mut [u64],
@@ -320,7 +334,7 @@ fn judged(
     ensures { λ r. ⌜ GivesIn (tableOf (now (t .entry))) time (headRefuses (siteOf (now (w .entry)) (tableOf (now (t .entry)))) l time id (now (p .entry)) (headAt (now (p .entry)))) (packetTaken (siteOf (now (w .entry)) (tableOf (now (t .entry)))) l time id (now (p .entry)) .plan) (now (w .entry)) (now (w .exit)) (now (out .entry)) (now (out .exit)) r ⌝ }
 {
     let mut places = [0usize; 32];
-    let j = json_packet::judge(p, &mut places);
+    let j = json_packet::judge(p, key_of(id), &mut places);
     let n = j.count;
     let h = read_head::read_head(p, &places[0..n], j.packet);
     heed(w, t, l, time, id, p, &places[0..n], h, out)

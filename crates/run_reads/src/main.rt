@@ -387,7 +387,7 @@ fn said_by(line: &mut [u8], s: &[u8], places: &[usize], packet: bool) -> usize
 // As a call does: the packet is judged, and its members are found where they were noted.
 fn said(line: &mut [u8], s: &[u8]) -> usize {
     let mut places = [0usize; 32];
-    let j = json_packet::judge(s, &mut places);
+    let j = json_packet::judge(s, json_packet::FIXED_KEY, &mut places);
     let n = j.count;
     said_by(line, s, &places[0..n], j.packet)
 }

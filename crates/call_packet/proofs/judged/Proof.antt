@@ -5,6 +5,9 @@ use borrow.Author.Needs.{needs}
 use Rattle.call_packet.proofs.judged.Statement.{statement}
 use Rattle.call_packet.proofs.judged.Tie as tie
 
+key-of-requires : tie.Need-key-of-requires
+key-of-requires c κs = search needs
+
 slice-aggregate-judge : tie.Need-slice-aggregate-judge
 slice-aggregate-judge c = search needs
 
@@ -50,6 +53,7 @@ pub judged-spec : {M : Type 1} → statement M
 judged-spec =
     tie.close
     (tie.spec
+    key-of-requires
     slice-aggregate-judge
     judge-requires
     sub-read-head
