@@ -76,7 +76,7 @@ endOf (Read.End e) = e
 endOf Read.Bad = 0
 
 -- a place with what it says
-judged-of : {s : List ℕ} {at : ℕ} {p : Parsed Json} (r q : Judged) → Judges s at p r → Judges s at p q → r ≡ q
+judged-of : {key : ℕ} {s : List ℕ} {at : ℕ} {p : Parsed Json} (r q : Judged) → Judges key s at p r → Judges key s at p q → r ≡ q
 judged-of (Judged.End e b) (Judged.End f c) x y =
     let w = was-read (x .place) in
     ap₂ (λ (n : ℕ) (d : Bool). Judged.End n d) (ap endOf (ends-once (x .place) (y .place))) (x .says (w .0) _ (w .1) ∙ sym (y .says (w .0) _ (w .1)))
@@ -84,5 +84,5 @@ judged-of (Judged.End e b) Judged.Bad x y = absurd (true≢false (ap isEnd (ends
 judged-of Judged.Bad (Judged.End f c) x y = absurd (true≢false (sym (ap isEnd (ends-once (x .place) (y .place)))))
 judged-of Judged.Bad Judged.Bad x y = refl
 
-pub judges-once : {s : List ℕ} {at : ℕ} {p : Parsed Json} {r q : Judged} → Judges s at p r → Judges s at p q → r ≡ q
+pub judges-once : {key : ℕ} {s : List ℕ} {at : ℕ} {p : Parsed Json} {r q : Judged} → Judges key s at p r → Judges key s at p q → r ≡ q
 judges-once {r} {q} a b = judged-of r q a b

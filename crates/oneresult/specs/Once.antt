@@ -79,6 +79,6 @@ pub record Once : Type 1 where
   -- ---- where a reading of the text s from `at` ends
   pub ends : {A : Type 0} {s : List ℕ} {at : ℕ} {p : Parsed A} {r q : Read} → Ends s at p r → Ends s at p q → r ≡ q
   pub marks : {s : List ℕ} {at : ℕ} {p : Parsed Bool} {r q : Mark} → Marks s at p r → Marks s at p q → r ≡ q
-  pub judges : {s : List ℕ} {at : ℕ} {p : Parsed Json} {r q : Judged} → Judges s at p r → Judges s at p q → r ≡ q
+  pub judges : {key : ℕ} {s : List ℕ} {at : ℕ} {p : Parsed Json} {r q : Judged} → Judges key s at p r → Judges key s at p q → r ≡ q
   -- of a place in the text; past its end there is nothing to pass over
   pub skipped : {s : List ℕ} {at r q : ℕ} → at ≤ length s → Skipped s at r → Skipped s at q → r ≡ q
