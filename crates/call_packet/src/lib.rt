@@ -1,7 +1,7 @@
 // Packet, in place: the call that strangers reach.
 ghost use mathlib.Core.Path.{_≡_};
 ghost use mathlib.Core.Bool.{true, false};
-ghost use Prim.Native.Nat.{_<_, _+_, _*_, _/_};
+ghost use Prim.Native.Nat.{_<_, _+_, _*_};
 ghost use lib.ListN.{length, getD};
 ghost use Rattle.basis.specs.Pick.{pick};
 ghost use Rattle.identity.specs.Version.{identityOf};
@@ -306,18 +306,18 @@ fn heed(
     by_class(w, t, l, time, id, answered, received, p, places, class, out)
 }
 
-fn odd_number(a: u8, b: u8, c: u8, d: u8) -> u32
-    ensures { λ r. ⌜ r ≡ a * 16777216 + b * 65536 + c * 256 + d / 2 * 2 + 1 ⌝ }
+fn word_of(a: u8, b: u8, c: u8, d: u8) -> u32
+    ensures { λ r. ⌜ r ≡ a * 16777216 + b * 65536 + c * 256 + d ⌝ }
 {
-    a as u32 * 16777216 + b as u32 * 65536 + c as u32 * 256 + d as u32 / 2 * 2 + 1
+    a as u32 * 16777216 + b as u32 * 65536 + c as u32 * 256 + d as u32
 }
 
-// A key for the marks of a packet's names, of four random bytes. An even one would leave the first characters of long names without effect.
+// A key for the marks of a packet's names, of four random bytes.
 fn key_of(id: Identity) -> u32
-    ensures { λ r. ⌜ r ≡ getD (id .bytes) 0 0 * 16777216 + getD (id .bytes) 1 0 * 65536 + getD (id .bytes) 2 0 * 256 + getD (id .bytes) 3 0 / 2 * 2 + 1 ⌝ }
+    ensures { λ r. ⌜ r ≡ getD (id .bytes) 0 0 * 16777216 + getD (id .bytes) 1 0 * 65536 + getD (id .bytes) 2 0 * 256 + getD (id .bytes) 3 0 ⌝ }
 {
     let b = id.bytes;
-    odd_number(b[0], b[1], b[2], b[3])
+    word_of(b[0], b[1], b[2], b[3])
 }
 
 // A packet is judged once, and where the entries of its object begin is noted for all who read it.

@@ -40,8 +40,8 @@ module _ (key : ℕ) (d r : List ℕ) where
       go true h = cc
       go false h = absurd (no-parsed h)
 
-  colon-mark : (p : Parsed (List ℕ)) → colon p ≡ ok d r → markRead key 0 p ≡ mark key d
-  colon-mark (ok e u) h = ap (markFrom key 0) (colon-at e (skipWs u) h)
+  colon-mark : (p : Parsed (List ℕ)) → colon p ≡ ok d r → markRead key 1 p ≡ mark key d
+  colon-mark (ok e u) h = ap (markFrom key 1) (colon-at e (skipWs u) h)
   colon-mark none h = absurd (no-parsed h)
 
   name-mark : (u : List ℕ) → readName u ≡ ok d r → nameMark key u ≡ mark key d
@@ -49,7 +49,7 @@ module _ (key : ℕ) (d r : List ℕ) where
   name-mark [] h = absurd (no-parsed h)
   name-mark (b ∷ t) h = go (eqb b 0x22) h
     where
-      go : (q : Bool) → pick q (colon (decoded t)) none ≡ ok d r → markRead key 0 (decoded t) ≡ mark key d
+      go : (q : Bool) → pick q (colon (decoded t)) none ≡ ok d r → markRead key 1 (decoded t) ≡ mark key d
       go true h = colon-mark (decoded t) h
       go false h = absurd (no-parsed h)
 

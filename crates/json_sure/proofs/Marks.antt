@@ -52,5 +52,5 @@ module _ (key : ℕ) (s : List ℕ) (at k close : ℕ) where
     pub mark-past : length s ≤ k → 4294967296 ≡ markAt key (eqb close 0x7d) (drop at s)
     mark-past h = sym (named ∙ ap (nameMark key) (past s k h))
 
-    pub mark-there : k < length s → markRead key 0 (decoded (drop (k + 1) s)) ≡ markAt key (eqb close 0x7d) (drop at s)
+    pub mark-there : k < length s → markRead key 1 (decoded (drop (k + 1) s)) ≡ markAt key (eqb close 0x7d) (drop at s)
     mark-there h = sym (named ∙ ap (nameMark key) (Lists.next s k h))

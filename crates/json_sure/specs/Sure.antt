@@ -19,7 +19,7 @@ use Rattle.json_value.specs.Reader.{skipWs, Entry}
 use Rattle.json_sure.specs.declared.Seen.{Seen}
 
 abbrev pub next : ℕ → ℕ → ℕ → ℕ
-next key h c = (h * key + c) % 4294967296
+next key h c = (h * key + c) % 4294967291
 
 unfoldable pub markFrom : ℕ → ℕ → List ℕ → ℕ
 markFrom key h [] = h
@@ -27,7 +27,7 @@ markFrom key h (c ∷ d) = markFrom key (next key h c) d
 
 -- the mark of a name: a number of 32 bits
 abbrev pub mark : ℕ → List ℕ → ℕ
-mark key d = markFrom key 0 d
+mark key d = markFrom key 1 d
 
 abbrev pub markRead : ℕ → ℕ → Parsed (List ℕ) → ℕ
 markRead key h (ok d r) = markFrom key h d
@@ -36,7 +36,7 @@ markRead key h none = 4294967296
 -- of the name of the entry that a text begins with; one that no name has where there is none
 abbrev pub nameMark : ℕ → List ℕ → ℕ
 nameMark key [] = 4294967296
-nameMark key (b ∷ t) = markRead key 0 (decoded t)
+nameMark key (b ∷ t) = markRead key 1 (decoded t)
 
 unfoldable pub markAt : ℕ → Bool → List ℕ → ℕ
 markAt key named t = pick named (nameMark key (skipWs t)) 4294967296

@@ -16,6 +16,9 @@ ghost use Rattle.json_sure.specs.Lists.{judgedOf, countOf, Placed, allOr
 
 const NO_MARK: u64 = 4294967296;
 
+// The greatest of 32 bits: modulo a power of two some names would have equal marks with every key.
+const PRIME: u64 = 4294967291;
+
 // Levels of the values in a packet's object, which is itself the first of eight.
 const LEVELS_INSIDE: u8 = 7;
 
@@ -46,16 +49,16 @@ pub struct Seen {
 
 // The mark of the string whose characters begin at a place.
 fn mark(key: u32, s: &[u8], at: usize) -> u64
-    ensures { λ r. ⌜ r ≡ markRead key 0 (decoded (drop at (now (s .entry)))) ⌝ }
+    ensures { λ r. ⌜ r ≡ markRead key 1 (decoded (drop at (now (s .entry)))) ⌝ }
 {
     let factor = key as u64;
     let mut i = at;
-    let mut h: u64 = 0;
+    let mut h: u64 = 1;
     loop {
         if i < s.len() {
             let b = s[i];
             if json_character::is_plain(b) {
-                h = (h * factor + b as u64) % 4294967296;
+                h = (h * factor + b as u64) % PRIME;
                 i += 1;
                 continue;
             }
@@ -63,7 +66,7 @@ fn mark(key: u32, s: &[u8], at: usize) -> u64
         let c = json_character::any(s, i);
         match c {
             Char::One(x, w) => {
-                h = (h * factor + x as u64) % 4294967296;
+                h = (h * factor + x as u64) % PRIME;
                 i += 1 + w;
             }
             Char::Close => return h,
