@@ -162,6 +162,25 @@ def limits():
     yield b'{"a":[' + b"1," * 1500 + b"1]}"
 
 
+def equal_marks():
+    """Two names that json_sure cannot tell apart by their marks with json_packet's fixed key, so that they are compared themselves."""
+    one, other = "\u9af4A".encode(), "A\u6f10".encode()
+    assert mark(one) == mark(other)
+    for names in ((one, other), (one, b"b", other), (one, other, one), (one, other, b"b", b"b"), (b"b", one, other, b"\\u0041\\u6f10")):
+        members = b",".join(b'"%s":0' % name for name in names)
+        yield b"{" + members + b"}"
+        yield b'{"a":[{' + members + b'}]}'
+    yield b'{"%s":{"%s":0}}' % (one, other)
+
+
+def mark(name, key=2654435761):
+    """As json_sure/specs/Sure.antt has it."""
+    number = 1
+    for character in name.decode():
+        number = (number * key + ord(character)) % 4294967291
+    return number
+
+
 def utf8_rows():
     """Every first byte with the neighbours of every bound of its second, third and fourth."""
     tails = (0x7F, 0x80, 0x8F, 0x90, 0x9F, 0xA0, 0xBF, 0xC0)
@@ -184,6 +203,7 @@ def fixed():
         yield from shapes(value)
     yield from WHOLE
     yield from limits()
+    yield from equal_marks()
     for text in utf8_rows():
         yield b'{"a":"' + text + b'"}'
     for byte in range(256):
