@@ -62,7 +62,8 @@ typedef struct rsmp_site {
     uint8_t table[RSMP_SITE_TABLE];  /* the site table, as start leaves it */
 } rsmp_site;
 
-/* 16 random bytes, fresh for each call, of which the identity of a message is made. They need not be secret, but no two may be equal. */
+/* 16 random bytes, fresh for each call, of which the identity of a message is made. They need not be secret, but no two may be equal; and a
+ * sender who can foresee them can make a packet of 4 KB that takes milliseconds to read. */
 typedef struct rsmp_id {
     uint8_t bytes[16];
 } rsmp_id;
