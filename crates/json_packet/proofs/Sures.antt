@@ -4,7 +4,6 @@ use Prim.Native.Nat.{ℕ, _+_, _*_, _%_, _<_}
 use mathlib.Core.Path.{_≡_, refl, sym, ap, _∙_}
 use mathlib.Core.Bool.{Bool, true, false}
 use mathlib.Core.List.{List, [], _∷_, _++_}
-use native.Mathlib.Nat.{mod-lt}
 use native.Mathlib.Omega.{arith}
 use lib.Dec.{eqb, ltb}
 use lib.ListN.{length}
@@ -19,12 +18,13 @@ use Rattle.json_value.specs.Grammar.Json.{null, bool, num, str, arr, obj}
 use Rattle.json_value.specs.Grammar.Jsons.{jnil, jcons}
 use Rattle.json_value.specs.Grammar.Members.{mnil, mcons}
 use Rattle.json_sure.specs.Sure.{next, mark, markFrom, Noted, noneNoted, isNew, allOf, noteOf, left, sureIn, sureAll, sureOnce}
+use Rattle.json_sure.proofs.Marks.{next-low}
 use Rattle.json_packet.specs.Names.{called, noTwice, allOnce, once}
 
 low : (key h : ℕ) (d : List ℕ) → h < 4294967296 → markFrom key h d < 4294967296
 unfolding markFrom
 low key h [] l = l
-low key h (c ∷ d) l = low key (next key h c) d (mod-lt (h * key + c) (omega arith))
+low key h (c ∷ d) l = low key (next key h c) d (next-low key h c)
 
 -- what is sure after a name was before, the value is, and the mark is new and stands behind the others
 record New (room : ℕ) (t : Noted) (m : ℕ) (value : Bool) : Type 0 where
@@ -80,7 +80,7 @@ passed key room t j = noteOf room t 4294967296 (sureIn key (left room t) j)
 sticky : (key room : ℕ) (t : Noted) (ms : Members) → sureOnce key room t ms ≡ true → t .sure ≡ true
 unfolding sureOnce
 sticky key room t mnil h = h
-sticky key room t (mcons d j ms) h = new room t (mark key d) (sureIn key (left room t) j) (low key 0 d (omega arith)) (sticky key room (noted key room t d j) ms h) .before
+sticky key room t (mcons d j ms) h = new room t (mark key d) (sureIn key (left room t) j) (low key 1 d (omega arith)) (sticky key room (noted key room t d j) ms h) .before
 
 sticky-all : (key room : ℕ) (t : Noted) (js : Jsons) → sureAll key room t js ≡ true → t .sure ≡ true
 unfolding sureAll
@@ -89,7 +89,7 @@ sticky-all key room t (jcons j js) h = value-sure room t (sureIn key (left room 
 
 -- what is known of a member where all are sure
 member-new : (key room : ℕ) (t : Noted) (d : List ℕ) (j : Json) (ms : Members) → sureOnce key room (noted key room t d j) ms ≡ true → New room t (mark key d) (sureIn key (left room t) j)
-member-new key room t d j ms h = new room t (mark key d) (sureIn key (left room t) j) (low key 0 d (omega arith)) (sticky key room (noted key room t d j) ms h)
+member-new key room t d j ms h = new room t (mark key d) (sureIn key (left room t) j) (low key 1 d (omega arith)) (sticky key room (noted key room t d j) ms h)
 
 -- no later member has a name whose mark was seen
 uncalled : (key room : ℕ) (d : List ℕ) (t : Noted) (ms : Members) → isNew (mark key d) (t .marks) ≡ false → sureOnce key room t ms ≡ true → called d ms ≡ false

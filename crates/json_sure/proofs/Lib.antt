@@ -1,5 +1,5 @@
 -- Laws of the definitions.
-mod Marks
+pub mod Marks
 mod New
 mod Notes
 mod Entries

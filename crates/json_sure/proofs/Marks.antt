@@ -3,7 +3,7 @@
 use Prim.Native.Nat.{ℕ, _+_, _*_, _<_, _≤_}
 use mathlib.Core.Path.{_≡_, refl, sym, ap, _∙_}
 use mathlib.Core.List.{List}
-use native.Mathlib.Nat.{mul-le-mul}
+use native.Mathlib.Nat.{mul-le-mul, mod-lt}
 use native.Mathlib.Omega.{arith}
 use lib.Dec.{eqb}
 use lib.ListN.{length, drop}
@@ -21,6 +21,11 @@ use Rattle.json_sure.specs.Sure.{next, markFrom, markRead, nameMark, mar
 -- the product of two numbers of 32 bits leaves room for a character in 64
 pub product-low : (h key : ℕ) → h < 4294967296 → key < 4294967296 → h * key ≤ 18446744065119617025
 product-low h key a b = mul-le-mul {n₁ = h} {m₁ = key} {n₂ = 4294967295} {m₂ = 4294967295} (omega arith) (omega arith)
+
+pub next-low : (key h c : ℕ) → next key h c < 4294967296
+next-low key h c =
+    let l : next key h c < 4294967291 = mod-lt (h * key + c) (omega arith) in
+    omega arith
 
 pushed : (key h c : ℕ) (p : Parsed (List ℕ)) → markRead key h (push c p) ≡ markRead key (next key h c) p
 unfolding markFrom

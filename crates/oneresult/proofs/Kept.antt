@@ -38,7 +38,7 @@ use Rattle.sitec.specs.declared.Outcome.{Outcome}
 use Rattle.sitec.specs.Outcome.{outcomeOf}
 use Rattle.sitec.specs.Lent.{Words, WordsAndTable, Called, Told, Handed, Made, Started}
 use Rattle.oneresult.specs.Once.{Once}
-use Rattle.oneresult.proofs.Readers.{ends-once, marks-once, judges-once, skipped-once}
+use Rattle.oneresult.proofs.Readers.{ends-once, marks-once, judges-once, skipped-once, finds-four-once, follows-once}
 
 -- an output that is told by an answer
 by-answer : (xs : List ℕ) (ms : List Message) {ys zs : List ℕ} {r q : Step} → r ≡ q → ys ≡ outAfter xs ms (r .answer) → zs ≡ outAfter xs ms (q .answer) → ys ≡ zs
@@ -133,5 +133,7 @@ kept =
       ends = ends-once;
       marks = marks-once;
       judges = judges-once;
+      finds-four = finds-four-once;
+      follows = follows-once;
       skipped = skipped-once;
     }

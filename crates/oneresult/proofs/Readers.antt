@@ -1,7 +1,7 @@
 -- Two ends of one reading are one.
 -- Assumes nothing.
 use Prim.Native.Nat.{ℕ, _≤_, _-_}
-use mathlib.Core.Path.{_≡_, refl, sym, ap, ap₂, _∙_}
+use mathlib.Core.Path.{_≡_, refl, sym, ap, ap₂, _∙_, subst}
 use mathlib.Core.Bool.{Bool, true, false, true≢false}
 use mathlib.Core.List.{List, []}
 use native.Mathlib.Omega.{arith}
@@ -15,6 +15,9 @@ use Rattle.json_value.specs.Grammar.{Json}
 use Rattle.json_value.specs.declared.Mark.{Mark}
 use Rattle.json_value.specs.declared.Mark.the-variants as Mark
 use Rattle.json_value.specs.Answers.{Skipped, Marks, closes, commas, neither}
+use Rattle.json_value.specs.Reader.{readMark}
+use Rattle.json_find.specs.declared.FourFound.{FourFound}
+use Rattle.json_find.specs.Four.{FindsFour, Follows, after-none, after-end, nextBy}
 use Rattle.json_sure.specs.declared.Judged.{Judged}
 use Rattle.json_sure.specs.declared.Judged.the-variants as Judged
 use Rattle.json_sure.specs.Sure.{sure}
@@ -86,3 +89,23 @@ judged-of Judged.Bad Judged.Bad x y = refl
 
 pub judges-once : {key : ℕ} {s : List ℕ} {at : ℕ} {p : Parsed Json} {r q : Judged} → Judges key s at p r → Judges key s at p q → r ≡ q
 judges-once {r} {q} a b = judged-of r q a b
+
+abbrev fourFound : Read → Read → Read → Read → Read → FourFound
+fourFound a b c d e = record { first = a; second = b; third = c; fourth = d; end = e }
+
+pub finds-four-once : {s : List ℕ} {at : ℕ} {a b c d : List ℕ} {r q : FourFound} → FindsFour s at a b c d r → FindsFour s at a b c d q → r ≡ q
+finds-four-once {r} {q} x y =
+    ap (λ (p : Read). fourFound p (r .second) (r .third) (r .fourth) (r .end)) (ends-once (x .one) (y .one))
+    ∙ ap (λ (p : Read). fourFound (q .first) p (r .third) (r .fourth) (r .end)) (ends-once (x .two) (y .two))
+    ∙ ap (λ (p : Read). fourFound (q .first) (q .second) p (r .fourth) (r .end)) (ends-once (x .three) (y .three))
+    ∙ ap (λ (p : Read). fourFound (q .first) (q .second) (q .third) p (r .end)) (ends-once (x .four) (y .four))
+    ∙ ap (λ (p : Read). fourFound (q .first) (q .second) (q .third) (q .fourth) p) (ends-once (x .whole) (y .whole))
+
+follows-of : {s : List ℕ} {close : ℕ} {d e r q : Read} → d ≡ e → Follows s close d r → Follows s close e q → r ≡ q
+follows-of w after-none after-none = refl
+follows-of w after-none (after-end e m h) = absurd (true≢false (sym (ap isEnd w)))
+follows-of w (after-end e m h) after-none = absurd (true≢false (ap isEnd w))
+follows-of {s} {close} w (after-end e m h) (after-end f n k) = ap nextBy (marks-once h (subst (λ (z : ℕ). Marks s z (readMark close (drop z s)) n) (sym (ap endOf w)) k))
+
+pub follows-once : {s : List ℕ} {close : ℕ} {end r q : Read} → Follows s close end r → Follows s close end q → r ≡ q
+follows-once a b = follows-of refl a b

@@ -25,6 +25,8 @@ use Rattle.json_text.specs.Ends.{Ends}
 use Rattle.json_value.specs.Grammar.{Json}
 use Rattle.json_value.specs.declared.Mark.{Mark}
 use Rattle.json_value.specs.Answers.{Skipped, Marks}
+use Rattle.json_find.specs.declared.FourFound.{FourFound}
+use Rattle.json_find.specs.Four.{FindsFour, Follows}
 use Rattle.json_sure.specs.declared.Judged.{Judged}
 use Rattle.json_sure.specs.Judges.{Judges}
 use Rattle.table_whole.specs.declared.TableRead.{TableRead}
@@ -80,5 +82,8 @@ pub record Once : Type 1 where
   pub ends : {A : Type 0} {s : List ℕ} {at : ℕ} {p : Parsed A} {r q : Read} → Ends s at p r → Ends s at p q → r ≡ q
   pub marks : {s : List ℕ} {at : ℕ} {p : Parsed Bool} {r q : Mark} → Marks s at p r → Marks s at p q → r ≡ q
   pub judges : {key : ℕ} {s : List ℕ} {at : ℕ} {p : Parsed Json} {r q : Judged} → Judges key s at p r → Judges key s at p q → r ≡ q
+  -- of four names and the end of an object; of what follows a value's end
+  pub finds-four : {s : List ℕ} {at : ℕ} {a b c d : List ℕ} {r q : FourFound} → FindsFour s at a b c d r → FindsFour s at a b c d q → r ≡ q
+  pub follows : {s : List ℕ} {close : ℕ} {end r q : Read} → Follows s close end r → Follows s close end q → r ≡ q
   -- of a place in the text; past its end there is nothing to pass over
   pub skipped : {s : List ℕ} {at r q : ℕ} → at ≤ length s → Skipped s at r → Skipped s at q → r ≡ q

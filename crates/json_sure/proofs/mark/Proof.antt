@@ -1,8 +1,7 @@
 -- `json_sure::mark` meets its contract.
 -- Assumes nothing.
-use Prim.Native.Nat.{ℕ, _<_, _-_, _%_}
+use Prim.Native.Nat.{_<_, _-_}
 use mathlib.Core.Path.{_≡_, refl, _∙_, sym}
-use native.Mathlib.Nat.{mod-lt}
 use native.Mathlib.Omega.{arith}
 use borrow.Author.Needs.{needs}
 use lib.ListN.{length, drop}
@@ -11,14 +10,9 @@ use Rattle.json_character.proofs.Laws.{at-plain}
 use Rattle.json_text.specs.Decoded.{decoded}
 use Rattle.json_text.proofs.Texts.{one-in}
 use Rattle.json_sure.specs.Sure.{markRead}
-use Rattle.json_sure.proofs.Marks.{product-low, mark-one, mark-close, mark-bad}
+use Rattle.json_sure.proofs.Marks.{product-low, next-low, mark-one, mark-close, mark-bad}
 use Rattle.json_sure.proofs.mark.Statement.{statement}
 use Rattle.json_sure.proofs.mark.Tie as tie
-
-below : (n : ℕ) → n % 4294967291 < 4294967296
-below n =
-    let h : n % 4294967291 < 4294967291 = mod-lt n (omega arith) in
-    omega arith
 
 abbrev Inv-loop : tie.InvT-loop
 Inv-loop key s at factor i₀ h₀ i h = (h < 4294967296) × (markRead key 1 (decoded (drop at s)) ≡ markRead key h (decoded (drop i s)))
@@ -59,7 +53,7 @@ loop-again c =
     let l = c .before .before .before .before in
     let s = now (l .before .before .args .s) in
     let e = sym (at-plain s (l .loop .i) (sym (c .before .is-plain .ensures) ∙ c .if2 .taken)) in
-    (below _, l .loop .inv .1 ∙ mark-one _ s (l .loop .i) (l .loop .h) _ _ e)
+    (next-low _ _ _, l .loop .inv .1 ∙ mark-one _ s (l .loop .i) (l .loop .h) _ _ e)
 
 any-requires : tie.Need-any-requires Inv-loop μ-loop
 any-requires c κs = search needs
@@ -106,7 +100,7 @@ loop-again-2 c =
     let l = c .before .before .before .before .before in
     let s = now (l .before .before .args .s) in
     let e = sym (c .before .c .given .1) ∙ c .before .before .before .any .ensures in
-    (below _, l .loop .inv .1 ∙ mark-one _ s (l .loop .i) (l .loop .h) _ _ e)
+    (next-low _ _ _, l .loop .inv .1 ∙ mark-one _ s (l .loop .i) (l .loop .h) _ _ e)
 
 enum-told : tie.Need-enum-told Inv-loop μ-loop
 enum-told c = search needs
