@@ -20,7 +20,7 @@ part-said-by-end c = search needs
 
 said-by-requires : tie.Need-said-by-requires
 said-by-requires c κs =
-    let n = c .before .before .before .judge .ensures in
+    let n = c .before .before .before .before .judge .ensures in
     (n .packet, lent _ _ _ n)
 
 same-length : tie.Need-same-length
