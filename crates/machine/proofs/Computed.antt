@@ -16,7 +16,7 @@ use Rattle.json_packet.specs.Names.{noTwice, allOnce, once}
 use Rattle.json_packet.specs.Packet.{isPacket, meaningOf}
 use Rattle.identity.specs.Hex.{hexDigit, lowerHex}
 use Rattle.identity.specs.Text.{identityText}
-use Rattle.number.specs.Decimal.{digits, digitsBelow}
+use Rattle.number.specs.Decimal.{digits, digitsBelow, decimalOf}
 use Rattle.calendar.specs.Days.{leapOf, years, months, dayOf}
 use Rattle.calendar.specs.Civil.{yearFrom, monthFrom, dateOf}
 use Rattle.calendar.specs.Text.{secondText, milliText, timeText}
@@ -55,7 +55,7 @@ pub marked : Marked
 marked = record { all = each; begins = begins }
 
 pub conversation : Conversation
-unfolding rawOf charOf readChars decoded skipWs literal readScalar readName readStart readMark readEntry readItems readInside readValue noTwice allOnce once isPacket meaningOf hexDigit lowerHex identityText digits digitsBelow leapOf years months dayOf yearFrom monthFrom dateOf secondText milliText timeText readSecond readDecimals readRest readTime apart readNum readNumber versionIn close carriedBy dueUp due isIgnored needs reasons happens subscribe unsubscribe intervals becomes commands aggregates lose makeRoom issue connects closes ticks sends answers answered refuses carriedOut replying receives effectOf conditions step
+unfolding rawOf charOf readChars decoded skipWs literal readScalar readName readStart readMark readEntry readItems readInside readValue noTwice allOnce once isPacket meaningOf hexDigit lowerHex identityText digits digitsBelow decimalOf leapOf years months dayOf yearFrom monthFrom dateOf secondText milliText timeText readSecond readDecimals readRest readTime apart readNum readNumber versionIn close carriedBy dueUp due isIgnored needs reasons happens subscribe unsubscribe intervals becomes commands aggregates lose makeRoom issue connects closes ticks sends answers answered refuses carriedOut replying receives effectOf conditions step
 conversation =
     record {
       greets = refl;

@@ -1,6 +1,7 @@
 -- What the machine computes: the cases marked M, and a conversation from bytes to bytes. Claims; the proofs are `refl`.
 -- Assumes nothing.
 use Prim.Native.Nat.{ℕ, _+_}
+use Prim.Native.String.{String}
 use mathlib.Core.Path.{_≡_}
 use mathlib.Core.Bool.{Bool, true, false}
 use mathlib.Core.List.{List, [], _∷_, _++_, map}
@@ -10,12 +11,9 @@ use lib.ListN.{take}
 use Rattle.basis.specs.Text.{text}
 use Rattle.answer.specs.Times.{lastTime}
 use Rattle.calendar.specs.Text.{timeText}
-use Rattle.write_message.specs.declared.Value.the-variants.{Recent, Undefined}
-use Rattle.write_message.specs.declared.Told.the-variants.{Response, Command}
-use Rattle.write_message.specs.Message.{status}
-use Rattle.write_message.specs.Message.Message.{version, watchdog, ack, notAck, aggregated, statuses}
-use Rattle.machine.specs.Words.{Bytes, orElse, keep}
-use Rattle.machine.specs.State.{alarmOf, issuedFor, heldAs, Pool, poolOf, commandOf, atEnd}
+use Rattle.write_message.specs.Listing.{bytesOf}
+use Rattle.machine.specs.Words.{Bytes, orElse, keep, flat}
+use Rattle.machine.specs.State.{alarmOf, issuedFor, heldAs, Pool, poolOf, Command, commandOf, Machine, atEnd, Call, Outcome}
 use Rattle.machine.specs.State.Event.{Issue}
 use Rattle.machine.specs.State.Content.{ofAlarm, ofStatus}
 use Rattle.machine.specs.State.Act.{connect, alarmInput, statusValue, aggregatedValue, tick, pump}
@@ -31,17 +29,12 @@ use Rattle.machine.specs.Example.{
   later,
   atNoon,
   random,
-  own,
   pumped,
   gets,
-  theirId,
   asks,
   orders,
   beats,
   greeting,
-  quiet,
-  says,
-  alarmNow,
   up,
   suspended,
 }
@@ -99,44 +92,108 @@ pub record Marked : Type 0 where
   -- the alarm's record begins so whatever its time and its number
   pub begins : (time sequence : ℕ) → take 2 (alarmBytes time sequence) ≡ 0x00 ∷ 0xC4 ∷ []
 
+-- ---- what a host hears of a call: the number, the bytes that it writes, the links closed, the hint, the commands handed over
+pub record Heard : Type 0 where
+  pub number : ℕ
+  pub output : Bytes
+  pub closed : List ℕ
+  pub hint : Option ℕ
+  pub commands : List Command
+
+abbrev pub heard : ℕ → Bytes → List ℕ → Option ℕ → List Command → Heard
+heard number output closed hint commands = record { number = number; output = output; closed = closed; hint = hint; commands = commands }
+
+abbrev pub hearing : Outcome → Heard
+hearing (refused n) = heard n [] [] none []
+hearing (done ms closed hint commands) = heard 0 (flat bytesOf ms) closed hint commands
+
+abbrev pub hears : Machine → List Call → List Heard
+hears m cs = map hearing (outcomes m cs)
+
+-- a number alone; done, with these bytes
+abbrev pub gives : ℕ → Heard
+gives n = heard n [] [] none []
+
+abbrev pub writes : Bytes → Heard
+writes bs = heard 0 bs [] none []
+
+abbrev pub silent : Heard
+silent = writes []
+
+-- ---- its packets, each with its form feed
+abbrev pub packet : String → Bytes
+packet s = text s ++ (0x0C ∷ [])
+
+abbrev pub acks : Bytes
+acks = packet "{\"mType\":\"rSMsg\",\"type\":\"MessageAck\",\"oMId\":\"CD613E30-d8f1-6adf-91b7-584a2265b1f5\"}"
+
+abbrev pub refusesFor : String → Bytes
+refusesFor reason =
+    text "{\"mType\":\"rSMsg\",\"type\":\"MessageNotAck\",\"oMId\":\"CD613E30-d8f1-6adf-91b7-584a2265b1f5\",\"rea\":\"" ++ text reason ++ packet "\"}"
+
+-- one about a component: its type, its identity and the rest
+abbrev pub tells : String → String → Bytes → Bytes
+tells type id more =
+    text "{\"mType\":\"rSMsg\",\"type\":\"" ++ text type ++ text "\",\"mId\":\"" ++ text id ++ text "\",\"ntsOId\":\"\",\"xNId\":\"\",\"cId\":\"" ++ more
+
+abbrev pub aggregatedAs : String → Bytes
+aggregatedAs id =
+    tells "AggregatedStatus" id
+    (packet "C0\",\"aSTS\":\"2009-10-01T11:59:31.571Z\",\"fP\":\"\",\"fS\":\"\",\"se\":[false,false,false,false,false,false,false,false]}")
+
+abbrev pub alarmAs : String → String → String → Bytes
+alarmAs id sS aTs =
+    tells "Alarm" id
+    (text "C1\",\"aCId\":\"A1\",\"xACId\":\"\",\"xNACId\":\"\",\"aSp\":\"Issue\",\"ack\":\"notAcknowledged\",\"aS\":\"Active\",\"sS\":\""
+    ++ text sS ++ text "\",\"aTs\":\"" ++ text aTs ++ packet "\",\"cat\":\"T\",\"pri\":\"2\",\"rvs\":[]}")
+
+-- an answer, and a reply of random bytes 15
+abbrev pub replies : String → String → Bytes
+replies type more = acks ++ tells type "0f0f0f0f-0f0f-4f0f-8f0f-0f0f0f0f0f0f" (packet more)
+
 pub record Conversation : Type 0 where
   -- our Version, theirs acknowledged, our Watchdog, theirs acknowledged with its time as a hint
-  pub greets : outcomes (started 2) greeting
-      ≡ quiet
-      ∷ says (version (own 1) (text "BD1") (text "1.0") ∷ [])
-      ∷ quiet
-      ∷ says (ack theirId ∷ [])
-      ∷ says (watchdog (own 2) noon ∷ [])
-      ∷ quiet
-      ∷ done (ack theirId ∷ []) [] (some noon) []
+  pub greets : hears (started 2) greeting
+      ≡ silent
+      ∷ writes (text "{\"mType\":\"rSMsg\",\"type\":\"Version\",\"mId\":\"01010101-0101-4101-8101-010101010101\","
+      ++ packet "\"RSMP\":[{\"vers\":\"3.1.5\"},{\"vers\":\"3.2\"}],\"siteId\":[{\"sId\":\"BD1\"}],\"SXL\":\"1.0\"}")
+      ∷ silent
+      ∷ writes acks
+      ∷ writes (packet "{\"mType\":\"rSMsg\",\"type\":\"Watchdog\",\"mId\":\"02020202-0202-4202-8202-020202020202\",\"wTs\":\"2009-10-01T11:59:31.571Z\"}")
+      ∷ silent
+      ∷ heard 0 acks [] (some noon) []
       ∷ []
   pub comes-up : leaves (started 2) greeting ≡ up
   -- request 05: "The clock hint is given only where three or more stood; with fewer the watchdog is acknowledged and no hint given." Of six
   -- the last three are dropped
-  pub decimals-told : outcomes up (atNoon (beats "2009-10-01T11:59:31Z") ∷ atNoon (beats "2009-10-01T11:59:31.57Z") ∷ atNoon (beats "2009-10-01T11:59:31.571999Z") ∷ [])
-      ≡ says (ack theirId ∷ []) ∷ says (ack theirId ∷ []) ∷ done (ack theirId ∷ []) [] (some noon) [] ∷ []
+  pub decimals-told : hears up (atNoon (beats "2009-10-01T11:59:31Z") ∷ atNoon (beats "2009-10-01T11:59:31.57Z") ∷ atNoon (beats "2009-10-01T11:59:31.571999Z") ∷ [])
+      ≡ writes acks ∷ writes acks ∷ heard 0 acks [] (some noon) [] ∷ []
   -- an alarm becomes active: the first pass sends the AggregatedStatus, then the alarm with its record, once; either answer settles it
-  pub alarm-told : outcomes up (atNoon (alarmInput 0 true) ∷ pumped 3 ∷ pumped 4 ∷ atNoon tick ∷ pumped 5 ∷ atNoon (gets "MessageAck\",\"oMId\":\"04040404-0404-4404-8404-040404040404\"}") ∷ pumped 5 ∷ [])
-      ≡ quiet ∷ says (aggregated (own 3) (text "C0") noon 0 ∷ []) ∷ says (alarmNow 4 0 noon false true false ∷ []) ∷ quiet ∷ refused 7 ∷ quiet ∷ refused 7 ∷ []
+  pub alarm-told : hears up (atNoon (alarmInput 0 true) ∷ pumped 3 ∷ pumped 4 ∷ atNoon tick ∷ pumped 5 ∷ atNoon (gets "MessageAck\",\"oMId\":\"04040404-0404-4404-8404-040404040404\"}") ∷ pumped 5 ∷ [])
+      ≡ silent
+      ∷ writes (aggregatedAs "03030303-0303-4303-8303-030303030303")
+      ∷ writes (alarmAs "04040404-0404-4404-8404-040404040404" "notSuspended" "2009-10-01T11:59:31.571Z")
+      ∷ silent ∷ gives 7 ∷ silent ∷ gives 7 ∷ []
   pub alarm-settled : leaves up (atNoon (alarmInput 0 true) ∷ pumped 3 ∷ pumped 4 ∷ atNoon (gets "MessageNotAck\",\"oMId\":\"04040404-0404-4404-8404-040404040404\"}") ∷ []) .pool
       ≡ poolOf 1 [] (0 ∷ 0 ∷ [])
   -- the last of these has an mId in an object of its own alone
-  pub numbers : outcomes up (atNoon (connect 0) ∷ record { time = 0; act = connect 2 } ∷ record { time = 5; act = tick } ∷ record { time = 0; act = alarmInput 1 true } ∷ atNoon (pump 1 (random 1) 4096) ∷ record { time = 0; act = pump 0 (random 1) 4095 } ∷ pumped 2 ∷ atNoon (gets "Alarm\"") ∷ atNoon (gets "Alarm\",\"x\":{\"mId\":\"CD613E30-d8f1-6adf-91b7-584a2265b1f5\"}}") ∷ [])
-      ≡ refused 6 ∷ refused 2 ∷ refused 5 ∷ refused 3 ∷ refused 6 ∷ refused 4 ∷ says (aggregated (own 2) (text "C0") noon 0 ∷ []) ∷ refused 1 ∷ refused 1 ∷ []
+  pub numbers : hears up (atNoon (connect 0) ∷ record { time = 0; act = connect 2 } ∷ record { time = 5; act = tick } ∷ record { time = 0; act = alarmInput 1 true } ∷ atNoon (pump 1 (random 1) 4096) ∷ record { time = 0; act = pump 0 (random 1) 4095 } ∷ pumped 2 ∷ atNoon (gets "Alarm\"") ∷ atNoon (gets "Alarm\",\"x\":{\"mId\":\"CD613E30-d8f1-6adf-91b7-584a2265b1f5\"}}") ∷ [])
+      ≡ gives 6 ∷ gives 2 ∷ gives 5 ∷ gives 3 ∷ gives 6 ∷ gives 4 ∷ writes (aggregatedAs "02020202-0202-4202-8202-020202020202") ∷ gives 1 ∷ gives 1 ∷ []
   -- "the call would take sequence numbers past 4294967295": two records take the last two, the next call that issues is refused, one that issues
   -- none is not
-  pub last-numbers : outcomes (atEnd noon (poolOf 4294967294 [] (0 ∷ 0 ∷ [])) up) (atNoon (aggregatedValue 1) ∷ atNoon (aggregatedValue 2) ∷ atNoon tick ∷ [])
-      ≡ quiet ∷ refused 10 ∷ quiet ∷ []
+  pub last-numbers : hears (atEnd noon (poolOf 4294967294 [] (0 ∷ 0 ∷ [])) up) (atNoon (aggregatedValue 1) ∷ atNoon (aggregatedValue 2) ∷ atNoon tick ∷ [])
+      ≡ silent ∷ gives 10 ∷ silent ∷ []
   -- "Issue events while suspended make no record but are the last event": after Suspend and an input a Request tells the input
   pub suspends : leaves up (later 1 (orders "Suspend") ∷ later 2 (alarmInput 0 true) ∷ []) ≡ suspended
   -- .. and number 9 is of a packet that would get a reply, not of one that is refused
-  pub requested : outcomes suspended (later 3 (orders "Request") ∷ later 4 (orders "Request") ∷ later 5 (asks "StatusRequest" "C0\",\"sS\":[{\"sCI\":\"S1\",\"n\":\"other\"}]}") ∷ [])
-      ≡ says (ack theirId ∷ alarmNow 15 0 (noon + 2) false true true ∷ []) ∷ refused 9 ∷ says (notAck theirId (text "Unknown status") ∷ []) ∷ []
+  pub requested : hears suspended (later 3 (orders "Request") ∷ later 4 (orders "Request") ∷ later 5 (asks "StatusRequest" "C0\",\"sS\":[{\"sCI\":\"S1\",\"n\":\"other\"}]}") ∷ [])
+      ≡ writes (acks ++ alarmAs "0f0f0f0f-0f0f-4f0f-8f0f-0f0f0f0f0f0f" "Suspended" "2009-10-01T11:59:31.573Z")
+      ∷ gives 9 ∷ writes (refusesFor "Unknown status") ∷ []
   -- "Awaited 30,000 ms closes, 29,999 not"; and a tick's time is the last
-  pub awaited-long : outcomes up (pumped 3 ∷ later 29999 tick ∷ later 30000 tick ∷ later 29999 tick ∷ [])
-      ≡ says (aggregated (own 3) (text "C0") noon 0 ∷ []) ∷ quiet ∷ done [] (0 ∷ []) none [] ∷ refused 5 ∷ []
+  pub awaited-long : hears up (pumped 3 ∷ later 29999 tick ∷ later 30000 tick ∷ later 29999 tick ∷ [])
+      ≡ writes (aggregatedAs "03030303-0303-4303-8303-030303030303") ∷ silent ∷ heard 0 [] (0 ∷ []) none [] ∷ gives 5 ∷ []
   -- statuses: unknown component, unknown status, "Missing element" before "Bad value", 0 with false, a subscription, a first value
-  pub statuses-told : outcomes up (atNoon (asks "StatusRequest" "C9\",\"sS\":[{\"sCI\":\"S1\",\"n\":\"release\"}]}")
+  pub statuses-told : hears up (atNoon (asks "StatusRequest" "C9\",\"sS\":[{\"sCI\":\"S1\",\"n\":\"release\"}]}")
       ∷ atNoon (asks "StatusRequest" "C0\",\"sS\":[{\"sCI\":\"S1\",\"n\":\"other\"}]}")
       ∷ atNoon (asks "StatusRequest" "\",\"sS\":[{\"sCI\":\"S1\"}]}")
       ∷ atNoon (asks "StatusSubscribe" "C0\",\"sS\":[{\"sCI\":\"S1\",\"n\":\"release\",\"uRt\":\"0\",\"sOc\":false}]}")
@@ -144,27 +201,27 @@ pub record Conversation : Type 0 where
       ∷ atNoon (statusValue 0 (negsuc 1))
       ∷ later 4999 tick ∷ later 5000 tick
       ∷ [])
-      ≡ says (ack theirId ∷ statuses Response (own 15) (text "C9") noon (status (text "S1") (text "release") Undefined ∷ []) ∷ [])
-      ∷ says (notAck theirId (text "Unknown status") ∷ [])
-      ∷ says (notAck theirId (text "Missing element") ∷ [])
-      ∷ says (notAck theirId (text "Bad value") ∷ [])
-      ∷ says (ack theirId ∷ [])
-      ∷ quiet ∷ quiet ∷ quiet ∷ []
+      ≡ writes (replies "StatusResponse" "C9\",\"sTs\":\"2009-10-01T11:59:31.571Z\",\"sS\":[{\"sCI\":\"S1\",\"n\":\"release\",\"s\":null,\"q\":\"undefined\"}]}")
+      ∷ writes (refusesFor "Unknown status")
+      ∷ writes (refusesFor "Missing element")
+      ∷ writes (refusesFor "Bad value")
+      ∷ writes acks
+      ∷ silent ∷ silent ∷ silent ∷ []
   -- request 01: the lowest and the highest value are handed over in the order of the entries and answered; nothing is handed over where an entry
   -- fails, "Bad value" of a range before "Unknown command", or where no component is called so
-  pub commands-handed : outcomes up (atNoon (asks "CommandRequest" "C1\",\"arg\":[{\"cCI\":\"M1\",\"n\":\"boom\",\"cO\":\"x\",\"v\":\"5\"},{\"cCI\":\"M1\",\"n\":\"boom\",\"cO\":\"x\",\"v\":\"-2\"}]}") ∷ [])
-      ≡ done (ack theirId ∷ statuses Command (own 15) (text "C1") noon (status (text "M1") (text "boom") (Recent (pos 5)) ∷ status (text "M1") (text "boom") (Recent (negsuc 1)) ∷ []) ∷ [])
+  pub commands-handed : hears up (atNoon (asks "CommandRequest" "C1\",\"arg\":[{\"cCI\":\"M1\",\"n\":\"boom\",\"cO\":\"x\",\"v\":\"5\"},{\"cCI\":\"M1\",\"n\":\"boom\",\"cO\":\"x\",\"v\":\"-2\"}]}") ∷ [])
+      ≡ heard 0 (replies "CommandResponse" "C1\",\"cTS\":\"2009-10-01T11:59:31.571Z\",\"rvs\":[{\"cCI\":\"M1\",\"n\":\"boom\",\"v\":\"5\",\"age\":\"recent\"},{\"cCI\":\"M1\",\"n\":\"boom\",\"v\":\"-2\",\"age\":\"recent\"}]}")
       [] none (commandOf 0 (pos 5) ∷ commandOf 0 (negsuc 1) ∷ [])
       ∷ []
-  pub commands-kept : outcomes up (atNoon (asks "CommandRequest" "C1\",\"arg\":[{\"cCI\":\"M2\",\"n\":\"boom\",\"cO\":\"x\",\"v\":\"5\"},{\"cCI\":\"M1\",\"n\":\"boom\",\"cO\":\"x\",\"v\":\"6\"}]}")
+  pub commands-kept : hears up (atNoon (asks "CommandRequest" "C1\",\"arg\":[{\"cCI\":\"M2\",\"n\":\"boom\",\"cO\":\"x\",\"v\":\"5\"},{\"cCI\":\"M1\",\"n\":\"boom\",\"cO\":\"x\",\"v\":\"6\"}]}")
       ∷ atNoon (asks "CommandRequest" "C1\",\"arg\":[{\"cCI\":\"M1\",\"n\":\"boom\",\"cO\":\"x\",\"v\":\"5\"},{\"cCI\":\"M2\",\"n\":\"boom\",\"cO\":\"x\",\"v\":\"6\"}]}")
       ∷ atNoon (asks "CommandRequest" "C1\",\"arg\":[{\"cCI\":\"M1\",\"n\":\"boom\",\"cO\":\"x\",\"v\":\"05\"}]}")
       ∷ atNoon (asks "CommandRequest" "C9\",\"arg\":[{\"cCI\":\"M1\",\"n\":\"boom\",\"cO\":\"x\",\"v\":\"5\"}]}")
       ∷ [])
-      ≡ says (notAck theirId (text "Bad value") ∷ [])
-      ∷ says (notAck theirId (text "Unknown command") ∷ [])
-      ∷ says (notAck theirId (text "Bad value") ∷ [])
-      ∷ says (ack theirId ∷ statuses Command (own 15) (text "C9") noon (status (text "M1") (text "boom") Undefined ∷ []) ∷ [])
+      ≡ writes (refusesFor "Bad value")
+      ∷ writes (refusesFor "Unknown command")
+      ∷ writes (refusesFor "Bad value")
+      ∷ writes (replies "CommandResponse" "C9\",\"cTS\":\"2009-10-01T11:59:31.571Z\",\"rvs\":[{\"cCI\":\"M1\",\"n\":\"boom\",\"v\":null,\"age\":\"undefined\"}]}")
       ∷ []
   -- issued while Up, and issued by a tick for a link that it closes: the first stays as it was issued, the second is old
   pub old-issued : leaves up (atNoon (asks "StatusSubscribe" "C0\",\"sS\":[{\"sCI\":\"S1\",\"n\":\"release\",\"uRt\":\"30\",\"sOc\":true}]}")

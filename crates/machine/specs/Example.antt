@@ -75,9 +75,6 @@ abbrev pub gets : String → Act
 gets s = packet 0 (random 15) (text "{\"mType\":\"rSMsg\",\"type\":\"" ++ text s) 4096
 
 -- a request of that head and this mId
-abbrev pub theirId : Bytes
-theirId = text "CD613E30-d8f1-6adf-91b7-584a2265b1f5"
-
 abbrev pub asks : String → String → Act
 asks type s =
     packet 0 (random 15)

@@ -23,6 +23,7 @@ use Rattle.number.specs.Decimal.{digits, decimalOf}
 use Rattle.number.specs.Reading.{says}
 use Rattle.number.proofs.Digits.{says-digits, begins}
 use Rattle.write_member.specs.Member.{momentText}
+use Rattle.json_value.specs.Grammar.{Json}
 use Rattle.json_value.specs.Grammar.Json.{obj}
 use Rattle.json_value.specs.Grammar.Members.{mnil}
 use Rattle.write_message.specs.declared.AlarmState.{AlarmState}
@@ -79,15 +80,14 @@ value-back Undefined = refl
 with-value : Status → Value → Status
 with-value s v = record { code = s .code; name = s .name; value = v }
 
-status-back : (kind : Told) (s : Status) → statusIn kind (statusJson kind s) ≡ s
+-- of the names that the reader gives them
+status-back : (s : Status) → (statusIn "sCI" "s" "q" (statusJson Response s) ≡ s) × (statusIn "sCI" "s" "q" (statusJson Update s) ≡ s) × (statusIn "cCI" "v" "age" (statusJson Command s) ≡ s)
 unfolding with-value
-status-back Response s = ap (with-value s) (value-back (s .value))
-status-back Update s = ap (with-value s) (value-back (s .value))
-status-back Command s = ap (with-value s) (value-back (s .value))
+status-back s = let v = ap (with-value s) (value-back (s .value)) in (v, v, v)
 
-statuses-back : (kind : Told) (ss : List Status) → statusesIn kind (statusesJson kind ss) ≡ ss
-statuses-back kind [] = refl
-statuses-back kind (s ∷ ss) = ap₂ (λ (x : Status) (l : List Status). x ∷ l) (status-back kind s) (statuses-back kind ss)
+statuses-back : (kind : Told) (read : Json → Status) → ((s : Status) → read (statusJson kind s) ≡ s) → (ss : List Status) → statusesIn read (statusesJson kind ss) ≡ ss
+statuses-back kind read h [] = refl
+statuses-back kind read h (s ∷ ss) = ap₂ (λ (x : Status) (l : List Status). x ∷ l) (h s) (statuses-back kind read h ss)
 
 right-value : ℕ → ℕ → Bool
 right-value v x = eqb (flagsIn 0 (flagsOf v)) v
@@ -117,11 +117,11 @@ back (aggregated id component time value) (formed-aggregated i c t v) =
     ap₂ (λ (b : List ℕ) (n : ℕ). aggregated b component n (flagsIn 0 (flagsOf value))) (id-back id i) (time-back time t)
     ∙ ap (aggregated id component time) (flags-back value v)
 back (statuses Response id component time entries) (formed-statuses i c t f) =
-    ap₂ (λ (b : List ℕ) (n : ℕ). statuses Response b component n (statusesIn Response (statusesJson Response entries))) (id-back id i) (time-back time t)
-    ∙ ap (statuses Response id component time) (statuses-back Response entries)
+    ap₂ (λ (b : List ℕ) (n : ℕ). statuses Response b component n (statusesIn (statusIn "sCI" "s" "q") (statusesJson Response entries))) (id-back id i) (time-back time t)
+    ∙ ap (statuses Response id component time) (statuses-back Response (statusIn "sCI" "s" "q") (λ s. status-back s .0) entries)
 back (statuses Update id component time entries) (formed-statuses i c t f) =
-    ap₂ (λ (b : List ℕ) (n : ℕ). statuses Update b component n (statusesIn Update (statusesJson Update entries))) (id-back id i) (time-back time t)
-    ∙ ap (statuses Update id component time) (statuses-back Update entries)
+    ap₂ (λ (b : List ℕ) (n : ℕ). statuses Update b component n (statusesIn (statusIn "sCI" "s" "q") (statusesJson Update entries))) (id-back id i) (time-back time t)
+    ∙ ap (statuses Update id component time) (statuses-back Update (statusIn "sCI" "s" "q") (λ s. status-back s .1) entries)
 back (statuses Command id component time entries) (formed-statuses i c t f) =
-    ap₂ (λ (b : List ℕ) (n : ℕ). statuses Command b component n (statusesIn Command (statusesJson Command entries))) (id-back id i) (time-back time t)
-    ∙ ap (statuses Command id component time) (statuses-back Command entries)
+    ap₂ (λ (b : List ℕ) (n : ℕ). statuses Command b component n (statusesIn (statusIn "cCI" "v" "age") (statusesJson Command entries))) (id-back id i) (time-back time t)
+    ∙ ap (statuses Command id component time) (statuses-back Command (statusIn "cCI" "v" "age") (λ s. status-back s .2) entries)

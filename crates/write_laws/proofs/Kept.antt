@@ -23,6 +23,7 @@ use Rattle.write_laws.proofs.Messages.{plain-message}
 use Rattle.write_laws.proofs.Twice.{no-name-twice}
 use Rattle.write_laws.proofs.Back.{back}
 use Rattle.write_laws.proofs.Sizes.{long, room}
+use Rattle.write_laws.proofs.Spelled.{spelled}
 
 one-packet : {ms : Members} → Value depth (textOf (Json.obj ms)) [] (Json.obj ms) → noTwice (Json.obj ms) ≡ true → Packet (textOf (Json.obj ms)) (Json.obj ms)
 one-packet v n = packet no-space v no-space n
@@ -43,4 +44,4 @@ once m n f g e =
     ∙ back n g
 
 pub kept : Claims
-kept = record { packet = said; back = back; once = once; long = long; room = room }
+kept = record { packet = said; back = back; once = once; spelled = spelled; long = long; room = room }

@@ -12,6 +12,7 @@ use Rattle.write_message.specs.Listing.{jsonOf, bytesOf}
 use Rattle.write_laws.specs.Formed.{Formed, Received}
 use Rattle.write_laws.specs.Fields.{fieldsOf}
 use Rattle.write_laws.specs.Size.{most, entriesIn}
+use Rattle.write_laws.specs.Spelled.{Spelled}
 
 pub record Claims : Type 0 where
   -- the text of a well-formed message is one packet, which means its listing
@@ -20,6 +21,8 @@ pub record Claims : Type 0 where
   pub back : (m : Message) → Formed m → fieldsOf (jsonOf m) ≡ m
   -- equal texts mean equal messages
   pub once : (m n : Message) → Formed m → Formed n → textOf (jsonOf m) ≡ textOf (jsonOf n) → m ≡ n
+  -- its bytes, by an example of each type
+  pub spelled : Spelled
   -- how long it can be, its form feed included
   pub long : (m : Message) → Formed m → length (bytesOf m) ≤ most m
   -- an acknowledgement and any message of at most 16 entries have room in 4,096 bytes

@@ -28,7 +28,6 @@ use Rattle.write_message.specs.declared.Value.the-variants.{Recent, Old, Unknow
 use Rattle.write_message.specs.declared.Told.{Told}
 use Rattle.write_message.specs.declared.Told.the-variants.{Response, Update, Command}
 use Rattle.write_message.specs.Message.{Message, Status}
-use Rattle.write_message.specs.Listing.{timeName, listName, codeName, valueName, qualityName}
 use Rattle.write_message.specs.Message.Message.{version, watchdog, ack, notAck, alarm, aggregated, statuses}
 
 abbrev pub valueOf : Found → Json
@@ -94,17 +93,17 @@ valueIn quality s =
     pick (sameBytes quality (text "recent")) (Recent (integerOf (charactersOf s)))
     (pick (sameBytes quality (text "old")) (Old (integerOf (charactersOf s))) (pick (sameBytes quality (text "unknown")) Unknown Undefined))
 
-abbrev pub statusIn : Told → Json → Status
-statusIn kind j =
-    record { code = said (codeName kind) j; name = said "n" j; value = valueIn (said (qualityName kind) j) (valueOf (member (text (valueName kind)) j)) }
+-- what an entry's code, its value and how good it is are called
+abbrev pub statusIn : String → String → String → Json → Status
+statusIn code value quality j = record { code = said code j; name = said "n" j; value = valueIn (said quality j) (valueOf (member (text value) j)) }
 
-abbrev pub statusesIn : Told → Jsons → List Status
-statusesIn kind jnil = []
-statusesIn kind (jcons j js) = statusIn kind j ∷ statusesIn kind js
+abbrev pub statusesIn : (Json → Status) → Jsons → List Status
+statusesIn read jnil = []
+statusesIn read (jcons j js) = read j ∷ statusesIn read js
 
-abbrev pub toldIn : Told → Json → Message
-toldIn kind j =
-    statuses kind (identityIn j) (said "cId" j) (timeIn (timeName kind) j) (statusesIn kind (elementsIn (valueOf (member (text (listName kind)) j))))
+-- and what the time and the list
+abbrev pub toldIn : Told → String → String → (Json → Status) → Json → Message
+toldIn kind time list read j = statuses kind (identityIn j) (said "cId" j) (timeIn time j) (statusesIn read (elementsIn (valueOf (member (text list) j))))
 
 abbrev pub fieldsOf : Json → Message
 fieldsOf j =
@@ -114,5 +113,5 @@ fieldsOf j =
     (pick (saidIs "type" "MessageNotAck" j) (notAck (said "oMId" j) (said "rea" j))
     (pick (saidIs "type" "Alarm" j) (alarm (identityIn j) (said "cId" j) (said "aCId" j) (stateIn j))
     (pick (saidIs "type" "AggregatedStatus" j) (aggregated (identityIn j) (said "cId" j) (timeIn "aSTS" j) (flagsIn 0 (elementsIn (valueOf (member (text "se") j)))))
-    (pick (saidIs "type" "StatusResponse" j) (toldIn Response j)
-    (pick (saidIs "type" "StatusUpdate" j) (toldIn Update j) (toldIn Command j))))))))
+    (pick (saidIs "type" "StatusResponse" j) (toldIn Response "sTs" "sS" (statusIn "sCI" "s" "q") j)
+    (pick (saidIs "type" "StatusUpdate" j) (toldIn Update "sTs" "sS" (statusIn "sCI" "s" "q") j) (toldIn Command "cTS" "rvs" (statusIn "cCI" "v" "age") j))))))))

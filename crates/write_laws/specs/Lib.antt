@@ -1,4 +1,5 @@
 pub mod Formed
 pub mod Fields
 pub mod Size
+pub mod Spelled
 pub mod Claims
