@@ -20,6 +20,7 @@ use Rattle.demand_told.proofs.ReadDemand.{demand-read}
 use Rattle.demand_told.proofs.HandedDemand.{demand-handed}
 use Rattle.demand_held.proofs.Demand.{demand3}
 use Rattle.demand_carried.proofs.Demand.{demand-carried}
+use Rattle.demand_carried.proofs.Marked.{demand-marked}
 use Rattle.demand_happens.proofs.Pumped.{pumping}
 use Rattle.demand_happens.proofs.Greeting.{greeting}
 use Rattle.demand_happens.proofs.Records.{sending}
@@ -37,6 +38,7 @@ demands =
       handing = demand-handed;
       keeping = demand3;
       carrying = demand-carried;
+      marking = demand-marked;
       pumping = pumping;
       greeting = greeting;
       sending = sending;

@@ -38,6 +38,7 @@ use Rattle.demand_told.specs.ReadDemand.{DemandRead}
 use Rattle.demand_told.specs.HandedDemand.{DemandHanded}
 use Rattle.demand_held.specs.Demand.{Demand3}
 use Rattle.demand_carried.specs.Demand.{DemandCarried}
+use Rattle.demand_carried.specs.Marked.{DemandMarked}
 use Rattle.demand_happens.specs.Pumped.{Pumping}
 use Rattle.demand_happens.specs.Greeting.{Greeting}
 use Rattle.demand_happens.specs.Records.{Sending}
@@ -61,6 +62,8 @@ pub record Demands : Type 0 where
   pub keeping : Demand3
   -- "a message carrying it": one that told the record, went out on its link in this life of it, and was not answered since
   pub carrying : DemandCarried
+  -- "the oldest held record not sent": a record is marked sent exactly while its link awaits an answer to a message that carries it
+  pub marking : DemandMarked
   -- "greets properly and then only pretends to issue or send": what is due goes out, a greeting leads to Up, every held record is sent
   pub pumping : Pumping
   pub greeting : Greeting

@@ -55,7 +55,7 @@ use Rattle.demand_carried.proofs.Backed.{Backed, none-backed, on, more,
 use Rattle.demand_carried.proofs.Sent.{Tells, due-tells}
 
 -- ---- what leaves the awaited identities
-ack-awaited : (isAck : Bool) (message : Sent) (k : Life) → acknowledges isAck message k .awaited ≡ k .awaited
+pub ack-awaited : (isAck : Bool) (message : Sent) (k : Life) → acknowledges isAck message k .awaited ≡ k .awaited
 ack-awaited true ourVersion k = refl
 ack-awaited false ourVersion k = refl
 ack-awaited true ourWatchdog k = refl
@@ -63,7 +63,7 @@ ack-awaited false ourWatchdog k = refl
 ack-awaited isAck noRecord k = refl
 ack-awaited isAck (theRecord n) k = refl
 
-sending-awaited : (t : ℕ) (d : Due) (k : Life) → afterSending t d k .awaited ≡ k .awaited
+pub sending-awaited : (t : ℕ) (d : Due) (k : Life) → afterSending t d k .awaited ≡ k .awaited
 sending-awaited t theVersion k = refl
 sending-awaited t theWatchdog k = refl
 sending-awaited t theAggregated k = refl

@@ -3,3 +3,5 @@ pub mod Backed
 pub mod Sent
 pub mod Goes
 pub mod Demand
+pub mod Marks
+pub mod Marked

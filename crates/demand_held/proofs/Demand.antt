@@ -21,14 +21,15 @@ use Rattle.machine.specs.Pool.{holds, issueAll}
 use Rattle.machine.specs.Step.{numberOf, after, step, leaves}
 use Rattle.machine.specs.Run.{Past, past, Run}
 use Rattle.machine.specs.Run.Run.{begun, next}
-use Rattle.demand_held.specs.Held.{IsHeld, newer, IsDone, issuedBy, Answered, Kept, Fate, packetLink, Until, At}
+use Rattle.demand_held.specs.Held.{IsHeld, newer, IsDone, issuedBy, issuesOf, Answered, NoRoom, Kept, Fate, packetLink, Until, At}
 use Rattle.demand_held.specs.Held.Answered.{answered}
+use Rattle.demand_held.specs.Held.NoRoom.{link-full, pool-full}
 use Rattle.demand_held.specs.Held.Kept.{stays, pushed}
 use Rattle.demand_held.specs.Held.Fate.{kept, settled}
 use Rattle.demand_held.specs.Held.Until.{lasts, answered-now, pushed-now, later}
 use Rattle.demand_held.specs.Held.IsHeld.{held as is-held}
 use Rattle.demand_held.specs.Crowded.{Crowded}
-use Rattle.demand_held.specs.Counted.{IssuedIn, answersOf, issuesOf, ifDone, issuedCount, answeredCount}
+use Rattle.demand_held.specs.Counted.{IssuedIn, answersOf, ifDone, issuedCount, answeredCount}
 use Rattle.demand_held.specs.Counted.IssuedIn.{issued-now, issued-before}
 use Rattle.demand_held.specs.Demand.{Holding, Demand3}
 use Rattle.demand_held.proofs.Lists.{Each}
@@ -37,7 +38,7 @@ use Rattle.demand_held.proofs.Good.{Good, Fits}
 use Rattle.demand_held.proofs.Good.Rising.{ends}
 use Rattle.demand_held.proofs.Rising.{rising-once, newer-older}
 use Rattle.demand_held.proofs.Room.{Over}
-use Rattle.demand_held.proofs.Issue.{For, held-below, all-good, all-every, all-lost, Placed, all-origin, all-counts, fate-of, issued-of, never-crowded}
+use Rattle.demand_held.proofs.Issue.{For, held-below, all-good, all-every, all-lost, Placed, all-origin, all-counts, Short, all-fate, all-issued, never-crowded}
 use Rattle.demand_held.proofs.Lays.{Lays, lays}
 use Rattle.demand_held.proofs.Counts.{exact}
 use Rattle.demand_held.proofs.Steps.{laid, step-done, step-refused, done-number, number-done, there}
@@ -85,22 +86,29 @@ module _ (m : Machine) (s : Sound m) (c : Call) where
     abbrev End : Pool
     End = issueAll (laid m c .issues) (laid m c .leaves .pool)
 
-    after-all : (r : Issued) (n : ℕ) → IsHeld r n (End .held) ⊎ ((1 ≤ length (issuedBy m c)) × Over (r .link) n End) → Kept m c r n
+    abbrev Pushed : ℕ → ℕ → Type 0
+    Pushed l n = Over l n End × Short (laid m c .issues) (laid m c .leaves .pool) l
+
+    no-room : (l : ℕ) → Short (laid m c .issues) (laid m c .leaves .pool) l → NoRoom m c l
+    no-room l (inl s) = link-full (omega (arith, lay here .frame .fewer l))
+    no-room l (inr s) = pool-full (omega (arith, lay here .frame .shorter))
+
+    after-all : (r : Issued) (n : ℕ) → IsHeld r n (End .held) ⊎ Pushed (r .link) n → Kept m c r n
     after-all r n (inl h) = stays (rw (step-done m c e) h)
-    after-all r n (inr o) = pushed (number-done m c e) (o .0) (rw (step-done m c e) (over-newer (r .link) n End (o .1)))
+    after-all r n (inr o) = pushed (number-done m c e) (no-room (r .link) (o .1)) (rw (step-done m c e) (over-newer (r .link) n End (o .0)))
 
     fate-done : (r : Issued) (n : ℕ) → IsHeld r n (m .pool .held) → Kept m c r n ⊎ Answered m (r .link) n (c .act)
     fate-done r n h = go (lay here .frame .spared r n h)
       where
         go : IsHeld r n (laid m c .leaves .pool .held) ⊎ Answered m (r .link) n (c .act) → Kept m c r n ⊎ Answered m (r .link) n (c .act)
-        go (inl k) = inl (after-all r n (fate-of (laid m c .issues) (laid m c .leaves .pool) (good-laid here) (for-laid here) r n k))
+        go (inl k) = inl (after-all r n (all-fate (laid m c .issues) (laid m c .leaves .pool) (good-laid here) (for-laid here) r n k))
         go (inr a) = inr a
 
     issued-done : (k : ℕ) (i : Issued) → At i k (issuedBy m c) → Kept m c i (m .pool .next + k)
     issued-done k i a =
         after-all i (m .pool .next + k)
-        (subst (λ (n : ℕ). IsHeld i (n + k) (End .held) ⊎ ((1 ≤ length (issuedBy m c)) × Over (i .link) (n + k) End)) (lay here .frame .next)
-        (issued-of (laid m c .issues) (laid m c .leaves .pool) (good-laid here) (for-laid here) a))
+        (subst (λ (n : ℕ). IsHeld i (n + k) (End .held) ⊎ Pushed (i .link) (n + k)) (lay here .frame .next)
+        (all-issued (laid m c .issues) (laid m c .leaves .pool) (good-laid here) (for-laid here) a))
 
   -- ---- refused or done
   by-number : {P : Type 0} → (numberOf m c ≡ none → P) → ((n : ℕ) → numberOf m c ≡ some n → P) → P

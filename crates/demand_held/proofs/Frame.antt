@@ -42,6 +42,8 @@ pub record Frame (E : ℕ → ℕ → Type 0) (m k : Machine) : Type 0 where
   pub every : (u : Setup) → Each (Fits u) (m .pool .held) → Each (Fits u) (k .pool .held)
   pub spared : (r : Issued) (n : ℕ) → IsHeld r n (m .pool .held) → IsHeld r n (k .pool .held) ⊎ E (r .link) n
   pub origin : (r : Issued) (n : ℕ) → IsHeld r n (k .pool .held) → IsHeld r n (m .pool .held)
+  pub fewer : (l : ℕ) → holds (k .pool) l ≤ holds (m .pool) l
+  pub shorter : length (k .pool .held) ≤ length (m .pool .held)
   pub as-many : (l : ℕ) → (holds (k .pool) l ≡ holds (m .pool) l) ⊎ Ended E l
 
 -- the pool is the same
@@ -55,6 +57,8 @@ still k s e =
       every = λ u h. rw e h;
       spared = λ r n h. inl (rw e h);
       origin = λ r n h. rw e at h;
+      fewer = λ l. rw e (omega arith);
+      shorter = rw e (omega arith);
       as-many = λ l. inl (rw e);
     }
 
@@ -68,6 +72,8 @@ then {E} {m} {k} {j} a b =
       every = λ u h. b .every u (a .every u h);
       spared = λ r n h. go r n (a .spared r n h);
       origin = λ r n h. a .origin r n (b .origin r n h);
+      fewer = λ l. omega (arith, a .fewer l, b .fewer l);
+      shorter = omega (arith, a .shorter, b .shorter);
       as-many = λ l. many l (a .as-many l) (b .as-many l);
     }
   where
@@ -96,16 +102,21 @@ module _ {E : ℕ → ℕ → Type 0} (m : Machine) (g : Held → Held) (same-li
         good = λ p. record {
           few = p .few;
           links = each-map g (λ h b. rw (same-link h) b) (p .links);
-          most = λ l. omega (arith, p .most l, count-map (isFor l) (isFor l) g (λ h. ap (λ (k : ℕ). eqb k l) (same-link h)) (m .pool .held));
+          most = λ l. omega (arith, p .most l, as-before l);
           all = omega (arith, p .all, length-map g (m .pool .held));
           rising = rising-map g same-number (p .rising);
         };
         every = λ u h. each-map g (λ x f. rw (same-link x, same-content x) f) h;
         spared = λ r n h. inl (again r n h);
         origin = unmarked;
-        as-many = λ l. inl (count-map (isFor l) (isFor l) g (λ h. ap (λ (k : ℕ). eqb k l) (same-link h)) (m .pool .held));
+        fewer = λ l. omega (arith, as-before l);
+        shorter = omega (arith, length-map g (m .pool .held));
+        as-many = λ l. inl (as-before l);
       }
     where
+      as-before : (l : ℕ) → count (isFor l) (map g (m .pool .held)) ≡ holds (m .pool) l
+      as-before l = count-map (isFor l) (isFor l) g (λ h. ap (λ (k : ℕ). eqb k l) (same-link h)) (m .pool .held)
+
       again : (r : Issued) (n : ℕ) → IsHeld r n (m .pool .held) → IsHeld r n (map g (m .pool .held))
       again r n (held {h} a e c f) = held (among-map g a) (same-link h ∙ e) (same-content h ∙ c) (same-number h ∙ f)
 
@@ -133,6 +144,8 @@ module _ {E : ℕ → ℕ → Type 0} (m : Machine) (k i : ℕ) (ends : E k i) w
         every = λ u h. each-keep other h;
         spared = keeps;
         origin = λ r n h. was r n h;
+        fewer = λ l. count-keep other (isFor l) (m .pool .held);
+        shorter = length-keep other (m .pool .held);
         as-many = λ l. by-link l (eq-or-ne k l);
       }
     where

@@ -8,7 +8,7 @@ use mathlib.Core.Logic.{_⊎_, inl, inr}
 use lib.Dec.{eqb, leb}
 use lib.ListN.{length, getD}
 use native.Mathlib.Omega.{arith}
-use borrow.Author.Tests.{lt-leb, ne-eqb}
+use borrow.Author.Tests.{lt-leb, eq-eqb, ne-eqb}
 use Rattle.basis.specs.Pick.{both, bit}
 use Rattle.basis.specs.Lists.{count, Among}
 use Rattle.basis.proofs.Cases.{eq-or-ne}
@@ -20,11 +20,12 @@ use Rattle.demand_held.specs.Held.{IsHeld, At}
 use Rattle.demand_held.specs.Crowded.{Crowded}
 use Rattle.demand_held.specs.Held.IsHeld.{held}
 use Rattle.demand_held.specs.Held.At.{first, behind}
-use Rattle.demand_held.proofs.Lists.{bit-false, bit-le, Each, each-append, among-last, count-last, length-last}
+use Rattle.demand_held.proofs.Lists.{bit-true, bit-false, bit-le, Each, each-append, among-last, count-last, length-last}
 use Rattle.demand_held.proofs.Lists.Each.{no-more, one-more}
 use Rattle.demand_held.proofs.Good.{Rising, Below, fits, Fits, Good, not-crowded}
 use Rattle.demand_held.proofs.Rising.{rising-last, rising-below, older}
-use Rattle.demand_held.proofs.Room.{Over, Room, holds-added, makes-room}
+use Rattle.demand_held.proofs.Room.{Over, Full, Room, holds-added, makes-room}
+use Rattle.demand_held.proofs.Room.Full.{of-link, of-pool}
 
 abbrev pub FitsIssued : Setup → Issued → Type 0
 FitsIssued u i = fits u (i .link) (i .content) ≡ true
@@ -62,12 +63,13 @@ module _ (i : Issued) (p : Pool) (g : Good p) where
           bit-false (older l n (new q)) (both-no (isFor l (new q)) (leb (q .next) n) (lt-leb (q .next) n (omega (arith, r .next)))),
         )
 
-    fate-added : (x : Issued) (n : ℕ) → n < p .next → IsHeld x n (p .held) → IsHeld x n (added i q .held) ⊎ Over (x .link) n (added i q)
+    fate-added : (x : Issued) (n : ℕ) → n < p .next → IsHeld x n (p .held) → IsHeld x n (added i q .held) ⊎ (Over (x .link) n (added i q) × Full i p (x .link))
     fate-added x n b h = go (r .spared x n h)
       where
-        go : IsHeld x n (q .held) ⊎ ((count (older (x .link) n) (q .held) ≡ 0) × (16 ≤ holds (added i q) (x .link))) → IsHeld x n (added i q .held) ⊎ Over (x .link) n (added i q)
+        go : IsHeld x n (q .held) ⊎ ((count (older (x .link) n) (q .held) ≡ 0) × ((16 ≤ holds (added i q) (x .link)) × Full i p (x .link)))
+            → IsHeld x n (added i q .held) ⊎ (Over (x .link) n (added i q) × Full i p (x .link))
         go (inl (held a e c f)) = inl (held (among-left (new q ∷ []) a) e c f)
-        go (inr o) = inr (record { none = omega (arith, o .0, older-added (x .link) n b); many = o .1 })
+        go (inr o) = inr (record { none = omega (arith, o .0, older-added (x .link) n b); many = o .1 .0 }, o .1 .1)
 
     over-added : (l n : ℕ) → n < p .next → Over l n p → Over l n (added i q)
     over-added l n b o = record { none = omega (arith, o .none, older-added l n b, r .fewer (older l n)); many = r .sixteen l (o .many) }
@@ -108,7 +110,7 @@ module _ (i : Issued) (p : Pool) (g : Good p) (linked : i .link < length (p .los
   unfolding issue
   issue-lost = room .lost
 
-  pub issue-fate : (x : Issued) (n : ℕ) → n < p .next → IsHeld x n (p .held) → IsHeld x n (issue i p .held) ⊎ Over (x .link) n (issue i p)
+  pub issue-fate : (x : Issued) (n : ℕ) → n < p .next → IsHeld x n (p .held) → IsHeld x n (issue i p .held) ⊎ (Over (x .link) n (issue i p) × Full i p (x .link))
   unfolding issue
   issue-fate = fate-added i p g (makeRoom (i .link) p) room
 
@@ -128,11 +130,31 @@ module _ (i : Issued) (p : Pool) (g : Good p) (linked : i .link < length (p .los
   unfolding issue
   issue-counts = counts-added i p g (makeRoom (i .link) p) room
 
+  issue-holds : (l : ℕ) → holds (issue i p) l ≤ holds p l + bit (eqb (i .link) l)
+  unfolding issue
+  issue-holds l = omega (arith, holds-added i (makeRoom (i .link) p) l, room .fewer (isFor l))
+
+  issue-length : length (issue i p .held) ≤ length (p .held) + 1
+  unfolding issue
+  issue-length = omega (arith, length-last (makeRoom (i .link) p .held) (new i p g (makeRoom (i .link) p)), room .shorter)
+
   pub issue-has : IsHeld i (p .next) (issue i p .held)
   unfolding issue
   issue-has = has-added i p g (makeRoom (i .link) p) room
 
 -- ---- several, one by one
+-- there is no room for all of them without one of link l
+abbrev pub Short : List Issued → Pool → ℕ → Type 0
+Short is p l = (64 < holds p l + count (λ (i : Issued). eqb (i .link) l) is) ⊎ (128 < length (p .held) + length is)
+
+short-now : (i : Issued) (p : Pool) (is : List Issued) (l : ℕ) → Full i p l → Short (i ∷ is) p l
+short-now i p is l (of-link e f) = inl (omega (arith, bit-true (eqb (i .link) l) (eq-eqb (i .link) l e)))
+short-now i p is l (of-pool f) = inr (omega arith)
+
+short-later : (i : Issued) (p : Pool) → Good p → i .link < length (p .lost) → (is : List Issued) (l : ℕ) → Short is (issue i p) l → Short (i ∷ is) p l
+short-later i p g f is l (inl s) = inl (omega (arith, issue-holds i p g f l))
+short-later i p g f is l (inr s) = inr (omega (arith, issue-length i p g f))
+
 pub held-below : (p : Pool) → Good p → (x : Issued) (n : ℕ) → IsHeld x n (p .held) → n < p .next
 held-below p g x n (held a e c f) = omega (arith, rising-below (g .rising) a)
 
@@ -158,16 +180,23 @@ all-over [] p g a l n b o = o
 all-over (i ∷ is) p g (one-more f a) l n b o =
     all-over is (issue i p) (issue-good i p g f) (for-next i p g f a) l n (omega (arith, issue-next i p g f)) (issue-over i p g f l n b o)
 
+or-later : (i : Issued) (is : List Issued) (p : Pool) → Good p → i .link < length (p .lost) → (x : Issued) (n : ℕ)
+    → IsHeld x n (issueAll is (issue i p) .held) ⊎ (Over (x .link) n (issueAll is (issue i p)) × Short is (issue i p) (x .link))
+    → IsHeld x n (issueAll is (issue i p) .held) ⊎ (Over (x .link) n (issueAll is (issue i p)) × Short (i ∷ is) p (x .link))
+or-later i is p g f x n (inl k) = inl k
+or-later i is p g f x n (inr o) = inr (o .0, short-later i p g f is (x .link) (o .1))
+
 pub all-fate : (is : List Issued) (p : Pool) → Good p → Each (For (length (p .lost))) is → (x : Issued) (n : ℕ) → IsHeld x n (p .held)
-    → IsHeld x n (issueAll is p .held) ⊎ Over (x .link) n (issueAll is p)
+    → IsHeld x n (issueAll is p .held) ⊎ (Over (x .link) n (issueAll is p) × Short is p (x .link))
 all-fate [] p g a x n h = inl h
 all-fate (i ∷ is) p g (one-more f a) x n h = go (issue-fate i p g f x n (held-below p g x n h) h) (all-fate is (issue i p) (issue-good i p g f) (for-next i p g f a) x n)
   where
-    go : IsHeld x n (issue i p .held) ⊎ Over (x .link) n (issue i p) → (IsHeld x n (issue i p .held) → IsHeld x n (issueAll is (issue i p) .held) ⊎ Over (x .link) n (issueAll is (issue i p)))
-        → IsHeld x n (issueAll is (issue i p) .held) ⊎ Over (x .link) n (issueAll is (issue i p))
-    go (inl k) r = r k
+    go : IsHeld x n (issue i p .held) ⊎ (Over (x .link) n (issue i p) × Full i p (x .link))
+        → (IsHeld x n (issue i p .held) → IsHeld x n (issueAll is (issue i p) .held) ⊎ (Over (x .link) n (issueAll is (issue i p)) × Short is (issue i p) (x .link)))
+        → IsHeld x n (issueAll is (issue i p) .held) ⊎ (Over (x .link) n (issueAll is (issue i p)) × Short (i ∷ is) p (x .link))
+    go (inl k) r = or-later i is p g f x n (r k)
     go (inr o) r =
-        inr (all-over is (issue i p) (issue-good i p g f) (for-next i p g f a) (x .link) n (omega (arith, held-below p g x n h, issue-next i p g f)) o)
+        inr (all-over is (issue i p) (issue-good i p g f) (for-next i p g f a) (x .link) n (omega (arith, held-below p g x n h, issue-next i p g f)) (o .0), short-now i p is (x .link) (o .1))
 
 -- what is held after was held before, or is one of those issued
 pub record Placed (x : Issued) (n start : ℕ) (is : List Issued) : Type 0 where
@@ -196,30 +225,13 @@ all-counts (i ∷ is) p g (one-more f a) l = omega (arith, all-counts is (issue 
 
 -- the k-th that is issued
 pub all-issued : {k : ℕ} {i : Issued} (is : List Issued) (p : Pool) → Good p → Each (For (length (p .lost))) is → At i k is
-    → IsHeld i (p .next + k) (issueAll is p .held) ⊎ Over (i .link) (p .next + k) (issueAll is p)
+    → IsHeld i (p .next + k) (issueAll is p .held) ⊎ (Over (i .link) (p .next + k) (issueAll is p) × Short is p (i .link))
 all-issued (i ∷ is) p g (one-more f a) first =
     let e : p .next + 0 ≡ p .next = omega arith in
-    rw e (all-fate is (issue i p) (issue-good i p g f) (for-next i p g f a) i (p .next) (issue-has i p g f))
-all-issued (j ∷ is) p g (one-more f a) (behind {k} r) =
+    rw e (or-later i is p g f i (p .next) (all-fate is (issue i p) (issue-good i p g f) (for-next i p g f a) i (p .next) (issue-has i p g f)))
+all-issued {i = i} (j ∷ is) p g (one-more f a) (behind {k} r) =
     let e : p .next + suc k ≡ issue j p .next + k = omega (arith, issue-next j p g f) in
-    rw e (all-issued is (issue j p) (issue-good j p g f) (for-next j p g f a) r)
-
--- it is held, or records were issued and it is over
-some-issued : (is : List Issued) (p : Pool) (x : Issued) (n : ℕ) → (is ≡ [] → IsHeld x n (p .held)) → IsHeld x n (p .held) ⊎ Over (x .link) n p → IsHeld x n (p .held) ⊎ ((1 ≤ length is) × Over (x .link) n p)
-some-issued is p x n h (inl k) = inl k
-some-issued [] p x n h (inr o) = inl (h refl)
-some-issued (i ∷ is) p x n h (inr o) = inr (omega arith, o)
-
-pub fate-of : (is : List Issued) (p : Pool) → Good p → Each (For (length (p .lost))) is → (x : Issued) (n : ℕ) → IsHeld x n (p .held)
-    → IsHeld x n (issueAll is p .held) ⊎ ((1 ≤ length is) × Over (x .link) n (issueAll is p))
-fate-of is p g a x n h = some-issued is (issueAll is p) x n (λ e. rw e h) (all-fate is p g a x n h)
-
-pub issued-of : {k : ℕ} {i : Issued} (is : List Issued) (p : Pool) → Good p → Each (For (length (p .lost))) is → At i k is
-    → IsHeld i (p .next + k) (issueAll is p .held) ⊎ ((1 ≤ length is) × Over (i .link) (p .next + k) (issueAll is p))
-issued-of {k} {i} is p g a r = some-issued is (issueAll is p) i (p .next + k) (λ e. absurd (nothing is r e)) (all-issued is p g a r)
-  where
-    nothing : (is : List Issued) → At i k is → is ≡ [] → ⊥
-    nothing (x ∷ is) r e = let z : _≡_ {A = ℕ} 0 1 = cc in omega arith
+    rw e (or-later j is p g f i (issue j p .next + k) (all-issued is (issue j p) (issue-good j p g f) (for-next j p g f a) r))
 
 -- the pool is not crowded before the one behind xs
 pub never-crowded : (xs : List Issued) (i : Issued) (ys : List Issued) (p : Pool) → Good p → Each (For (length (p .lost))) (xs ++ i ∷ ys)

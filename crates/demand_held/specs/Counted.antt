@@ -20,7 +20,7 @@ use Rattle.machine.specs.Effects.{carried}
 use Rattle.machine.specs.Step.{step}
 use Rattle.machine.specs.Run.{Past, past, Run}
 use Rattle.machine.specs.Run.Run.{begun, next}
-use Rattle.demand_held.specs.Held.{IsDone, issuedBy, At}
+use Rattle.demand_held.specs.Held.{IsDone, issuedBy, issuesOf, At}
 
 -- a done call of the run issued record r under number n
 pub data IssuedIn (s : Start) (r : Issued) (n : ℕ) : List Past → Type 0 where
@@ -47,9 +47,6 @@ isRecord l n h = isFor l h and eqb (h .sequence) n
 
 abbrev pub answersOf : Machine → ℕ → Act → ℕ
 answersOf m l act = maybe 0 (λ n. count (isRecord l n) (m .pool .held)) (answeredBy m l act)
-
-abbrev pub issuesOf : Machine → ℕ → Call → ℕ
-issuesOf m l c = count (λ (i : Issued). eqb (i .link) l) (issuedBy m c)
 
 abbrev pub ifDone : Outcome → ℕ → ℕ
 ifDone (refused number) n = 0

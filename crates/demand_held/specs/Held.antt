@@ -1,11 +1,11 @@
 -- What can become of a held record.
 -- Assumes nothing.
-use Prim.Native.Nat.{ℕ, suc, _≤_}
+use Prim.Native.Nat.{ℕ, suc, _+_, _≤_, _<_}
 use mathlib.Core.Path.{_≡_}
 use mathlib.Core.Bool.{true}
 use mathlib.Core.List.{List, [], _∷_}
 use mathlib.Core.Option.{Option, some, none}
-use lib.Dec.{ltb}
+use lib.Dec.{eqb, ltb}
 use lib.ListN.{length}
 use Rattle.basis.specs.Lists.{count, Among}
 use Rattle.json_value.specs.Grammar.{Json}
@@ -17,7 +17,7 @@ use Rattle.machine.specs.State.Outcome.{done}
 use Rattle.machine.specs.Json.{readPacket, stringOf}
 use Rattle.machine.specs.Life.{awaitedBy}
 use Rattle.machine.specs.Answers.{isAnswer}
-use Rattle.machine.specs.Pool.{isFor}
+use Rattle.machine.specs.Pool.{isFor, holds}
 use Rattle.machine.specs.Effects.{carried, effectOf}
 use Rattle.machine.specs.Step.{step, leaves}
 
@@ -41,10 +41,20 @@ pub data Answered (m : Machine) (l n : ℕ) : Act → Type 0 where
   answered : {random bytes : Bytes} {room : ℕ} {j : Json} {a : Awaited} → readPacket bytes ≡ some j → isAnswer j ≡ true
       → awaitedBy (lifeAt m l) (stringOf "oMId" j) ≡ some a → carried (a .message) ≡ some n → Answered m l n (packet l random bytes room)
 
--- it stays, or a record was issued and at least 16 newer ones of its link are held after the call
+-- how many of the records that a call issues are for link l
+abbrev pub issuesOf : Machine → ℕ → Call → ℕ
+issuesOf m l c = count (λ (i : Issued). eqb (i .link) l) (issuedBy m c)
+
+-- "if S holds 64, its oldest is lost; else a free place is taken": with the records that the call issues link l would hold more than 64, or all
+-- links together more than 128
+pub data NoRoom (m : Machine) (c : Call) (l : ℕ) : Type 0 where
+  link-full : 64 < holds (m .pool) l + issuesOf m l c → NoRoom m c l
+  pool-full : 128 < length (m .pool .held) + length (issuedBy m c) → NoRoom m c l
+
+-- it stays, or there was no room for the records issued and at least 16 newer ones of its link are held after the call
 pub data Kept (m : Machine) (c : Call) (r : Issued) (n : ℕ) : Type 0 where
   stays : IsHeld r n (step m c .1 .pool .held) → Kept m c r n
-  pushed : IsDone m c → 1 ≤ length (issuedBy m c) → 16 ≤ newer (r .link) n (step m c .1 .pool .held) → Kept m c r n
+  pushed : IsDone m c → NoRoom m c (r .link) → 16 ≤ newer (r .link) n (step m c .1 .pool .held) → Kept m c r n
 
 pub data Fate (m : Machine) (c : Call) (r : Issued) (n : ℕ) : Type 0 where
   kept : Kept m c r n → Fate m c r n
@@ -65,7 +75,7 @@ packetLink (pump l random room) = none
 pub data Until (r : Issued) (n : ℕ) : Machine → List Call → Type 0 where
   lasts : {m : Machine} {cs : List Call} → IsHeld r n (leaves m cs .pool .held) → Until r n m cs
   answered-now : {m : Machine} {c : Call} {cs : List Call} → IsDone m c → Answered m (r .link) n (c .act) → Until r n m (c ∷ cs)
-  pushed-now : {m : Machine} {c : Call} {cs : List Call} → IsDone m c → 1 ≤ length (issuedBy m c) → 16 ≤ newer (r .link) n (step m c .1 .pool .held)
+  pushed-now : {m : Machine} {c : Call} {cs : List Call} → IsDone m c → NoRoom m c (r .link) → 16 ≤ newer (r .link) n (step m c .1 .pool .held)
       → Until r n m (c ∷ cs)
   later : {m : Machine} {c : Call} {cs : List Call} → Until r n (step m c .1) cs → Until r n m (c ∷ cs)
 
