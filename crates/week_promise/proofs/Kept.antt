@@ -6,11 +6,12 @@ use mathlib.Core.List.{List, [], _++_}
 use Prim.Native.Nat.{ℕ, _^_, _≤_, _<_}
 use native.Mathlib.Omega.{arith}
 use lib.Dec.{leb}
-use lib.ListN.{length, take}
-use borrow.Author.Tests.{leb-true}
+use lib.ListN.{length, getD, take}
+use denote.Ref.{now}
+use borrow.Author.Tests.{leb-true, le-leb}
 use Rattle.basis.specs.Pick.{pick}
 use Rattle.output.specs.Put.{Wrote}
-use Rattle.output.proofs.Laws.{same-length}
+use Rattle.output.proofs.Laws.{same-length, fits}
 use Rattle.week_tally.specs.Tally.{Tally}
 use Rattle.week_tally.specs.Tally.Tally.{within}
 use Rattle.week_tally.specs.Words.{tallyOf}
@@ -22,8 +23,10 @@ use Rattle.week_text.specs.Pieces.{reportPieces}
 use Rattle.week_promise.specs.Report.{reportText}
 use Rattle.week_promise.proofs.ReportKept as Report
 use Rattle.weekc.specs.declared.Told.{Told}
-use Rattle.weekc.specs.Calls.{Begins, Feeds, Tells}
-use Rattle.week_promise.specs.Reading.{Reading, begun, further}
+use Rattle.week_promise.specs.Reading.{Reading, Prints, Free}
+use Rattle.week_promise.specs.Reading.Reading.{begun, further}
+use Rattle.week_promise.specs.Reading.Prints.{prints}
+use Rattle.week_promise.proofs.Ranks.{once, ranked}
 use Rattle.week_promise.specs.Claims.{Claims}
 
 nothing : (s : State) → s ≡ fed s []
@@ -31,11 +34,11 @@ unfolding fed
 nothing s = refl
 
 state : {stream w held : List ℕ} {used : ℕ} → Reading stream w held used → stateOf w held used ≡ fed (fresh (within [] [])) stream
-state (begun l b) = ap fresh (b .done l .1) ∙ nothing (fresh (within [] []))
-state (further {stream} {piece = piece} x l h f) =
+state (begun κs w r e b l) = ap fresh (b .done l .1) ∙ nothing (fresh (within [] []))
+state (further {stream} κs w held used piece r e f l h x) =
     f .done l h .1
-    ∙ ap (λ (s : State). fed s piece) (state x)
-    ∙ sym (Stream.kept .in-two (fresh (within [] [])) stream piece)
+    ∙ ap (λ (s : State). fed s (now piece)) (state x)
+    ∙ sym (Stream.kept .in-two (fresh (within [] [])) stream (now piece))
 
 tally : {stream w held : List ℕ} {used : ℕ} → Reading stream w held used → tallyOf w ≡ notedAll (within [] []) (entriesOf stream)
 tally {stream} x = ap (λ (s : State). s .tally) (state x) ∙ Stream.kept .whole (within [] []) stream
@@ -48,12 +51,22 @@ has-room a b = by (leb a b) refl
     by false e h = absurd (omega (arith, h))
 
 report : {stream w held out after : List ℕ} {used : ℕ} {r : Told} → Reading stream w held used → length (entriesOf stream) < 2 ^ 64 → length w ≡ 5027
-    → Tells w out after r → r .number ≡ 0 → take (r .written) after ≡ reportText (entriesOf stream)
-report {stream} {out = out} {after = after} {r = r} x n l t z =
+    → Prints w out after r → r .number ≡ 0 → take (r .written) after ≡ reportText (entriesOf stream)
+report {stream} {out = out} {after = after} {r = r} x n l (prints κs w lent q e t) z =
     let d = t .done l in
     let wrote : Wrote out 0 (reportPieces (notedAll (within [] []) (entriesOf stream))) after (r .written) = subst (λ (y : Tally). Wrote out 0 (reportPieces y) after (r .written)) (tally x) (d .0) in
     let room = has-room (r .written) (length out) (sym (d .1) ∙ z) in
     Report.kept .printed (entriesOf stream) n wrote (omega (arith, room, same-length wrote))
 
+room : {w out after : List ℕ} {r : Told} → length w ≡ 5027 → ((i : ℕ) → getD w i 0 < 2 ^ 64) → 16384 ≤ length out → Prints w out after r → r .number ≡ 0
+room {w} {out} {after} {r} l small h (prints κs v lent q e t) =
+    let d = t .done l in
+    let small-enough = Report.kept .room w l small in
+    let long = fits (d .0) (omega (arith, h, small-enough)) .1 in
+    d .1 ∙ rw (le-leb (r .written) (length out) (omega (arith, h, small-enough, long)))
+
+free : Free
+free = record { begin = λ κs given. tt; feed = λ κs given. tt; report = λ κs given. tt }
+
 pub kept : Claims
-kept = record { state = state; report = report }
+kept = record { free = free; report = report; room = room; once = once; ranked = ranked }

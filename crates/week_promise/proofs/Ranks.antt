@@ -18,8 +18,7 @@ use Rattle.week_count.specs.Values.{raised}
 use Rattle.week_count.specs.Middle.{middleOf, hasRank as hasRankOf, below as belowOf}
 use Rattle.week_count.proofs.Ranks.{Ranked, middle-is, ranked-is}
 use Rattle.week_tally.proofs.Places.{raised-small}
-use Rattle.week_promise.specs.Figures.{below, notAbove, hasRank, middle}
-use Rattle.week_promise.specs.ReportClaims.{wordValue}
+use Rattle.week_promise.specs.Figures.{wordValue, below, notAbove, hasRank, middle}
 use Rattle.week_promise.proofs.Integers.{lowered, lowered-raised}
 use Rattle.week_promise.proofs.Folds.{rank-is, middle-of}
 

@@ -22,7 +22,6 @@ use Rattle.week_promise.specs.ReportClaims.{Claims}
 use Rattle.week_promise.proofs.Lines.{groupedFrom, lines-text}
 use Rattle.week_promise.proofs.Groups.Most.{none}
 use Rattle.week_promise.proofs.Room.{room}
-use Rattle.week_promise.proofs.Ranks.{once, ranked}
 use Rattle.week_promise.proofs.Steps.{Told, next, told-limited, fits-not}
 
 fits-never : (es : List Entry) (ss : List Status) → fits ss ≡ false → fits (tallyFrom ss es) ≡ false
@@ -72,4 +71,4 @@ report : (es : List Entry) → length es < 2 ^ 64 → concat (reportPieces (note
 report es h = run es begun fits-begun (omega arith)
 
 pub kept : Claims
-kept = record { report = report; printed = λ es h w r. sent w r ∙ report es h; room = room; once = once; ranked = ranked }
+kept = record { report = report; printed = λ es h w r. sent w r ∙ report es h; room = room }

@@ -1,6 +1,6 @@
 -- The statuses of a week, in order of first appearance, each with its values in order and its nulls.
 -- Assumes nothing.
-use Prim.Native.Nat.{ℕ, _+_, _%_, _^_}
+use Prim.Native.Nat.{ℕ, _+_}
 use mathlib.Core.Bool.{Bool}
 use mathlib.Core.List.{List, [], _∷_, _++_}
 use lib.Dec.{leb}
@@ -9,8 +9,8 @@ use lib.ListN.{length}
 use Rattle.basis.specs.Pick.{pick, both}
 use Rattle.basis.specs.Lists.{sameBytes}
 use Rattle.label.specs.Label.{textOf}
-use Rattle.number.specs.Signed.{signedOf}
 use Rattle.week_entry.specs.declared.Entry.{Entry}
+use Rattle.week_promise.specs.Figures.{wordValue}
 
 pub record Status : Type 0 where
   pub component : List ℕ
@@ -19,9 +19,8 @@ pub record Status : Type 0 where
   pub values : List ℤ
   pub nulls : ℕ
 
--- the 32 bits of an entry's word, in two's complement
 abbrev pub valueOf : Entry → ℤ
-valueOf e = signedOf (e .word % 2 ^ 32)
+valueOf e = wordValue (e .word)
 
 abbrev pub isSame : Status → Entry → Bool
 isSame s e =
