@@ -1,3 +1,2 @@
 pub mod Aggregated
 pub mod Issued
-pub mod History

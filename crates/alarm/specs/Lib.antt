@@ -1,3 +1,2 @@
 pub mod Alarm
 pub mod Issued
-pub mod History

@@ -1,4 +1,4 @@
--- Counting and looking after the first that passes a test was changed.
+-- Counting, and looking after the first that passes a test was changed.
 -- Assumes nothing.
 use Prim.Native.Nat.{ℕ, zero, suc, _+_, _≤_, _<_}
 use mathlib.Core.Path.{_≡_, refl, sym, ap}
@@ -9,7 +9,7 @@ use native.Mathlib.Nat.{zero-add}
 use lib.Dec.{ltb}
 use borrow.Author.Tests.{lt-ltb}
 use lib.ListN.{length, replicate}
-use Rattle.basis.specs.Pick.{pick, bit}
+use Rattle.basis.specs.Pick.{bit}
 use Rattle.basis.proofs.Cases.{bool-cases}
 use Rattle.awaited.specs.Lists.{changeFirst, some}
 use Rattle.basis.specs.Lists.{count}
@@ -51,27 +51,6 @@ module _ {A : Type 0} (g : A → Bool) (a : A) where
     count-kept e n [] = refl
     count-kept e n (x ∷ l) = bool-cases (g x) (λ t. rw (t, n, e x t)) (λ t. rw t (ap (λ (k : ℕ). bit (f x) + k) (count-kept e n l)))
 
-    pub some-change : ((x : A) → g x ≡ true → f x ≡ false) → (l : List A) → 0 < count g l
-        → some f (changeFirst g a l) ≡ pick (some f l) true (f a)
-    unfolding changeFirst some
-    some-change e [] h = absurd (omega arith)
-    some-change e (x ∷ l) h =
-        bool-cases (g x) (λ t. rw (t, e x t) (swap (f a) (some f l)))
-        (λ t. bool-cases (f x) (λ u. rw (t, u)) (λ u. rw (t, u) (some-change e l (omega (arith, bit-false (g x) t)))))
-      where
-        swap : (b d : Bool) → pick b true d ≡ pick d true b
-        swap true true = refl
-        swap true false = refl
-        swap false true = refl
-        swap false false = refl
-
-    pub some-less : f a ≡ false → (l : List A) → some f (changeFirst g a l) ≡ true → some f l ≡ true
-    unfolding changeFirst some
-    some-less e [] h = h
-    some-less e (x ∷ l) h =
-        bool-cases (f x) (λ u. rw u)
-        (λ u. bool-cases (g x) (λ t. rw u (rw (t, e) at h)) (λ t. rw u (some-less e l (rw (t, u) at h))))
-
 module _ {A : Type 0} (f g : A → Bool) where
   pub count-same : ((x : A) → f x ≡ g x) → (l : List A) → count f l ≡ count g l
   count-same e [] = refl
@@ -84,11 +63,6 @@ module _ {A : Type 0} (f g : A → Bool) where
 pub count-replicate : {A : Type 0} (f : A → Bool) (n : ℕ) (a : A) → f a ≡ false → count f (replicate n a) ≡ 0
 count-replicate f zero a e = refl
 count-replicate f (suc n) a e = omega (arith, bit-false (f a) e, count-replicate f n a e)
-
-pub some-replicate : {A : Type 0} (f : A → Bool) (n : ℕ) (a : A) → f a ≡ false → some f (replicate n a) ≡ false
-unfolding some
-some-replicate f zero a e = refl
-some-replicate f (suc n) a e = rw e (some-replicate f n a e)
 
 -- where none passes k, two tests that agree on the others count the same
 pub count-where : {A : Type 0} (k f g : A → Bool) → ((x : A) → k x ≡ false → f x ≡ g x) → (l : List A) → count k l ≡ 0 → count f l ≡ count g l

@@ -5,6 +5,3 @@ pub mod Change
 pub mod Same
 pub mod Slots
 pub mod Laws
-pub mod After
-pub mod View
-pub mod Kept

@@ -18,7 +18,3 @@ unfolding sameIdentity
 same-like a b d p q =
     let e : b .bytes ≡ d .bytes = sym (bytes.same-true (a .bytes) (b .bytes) p) ∙ bytes.same-true (a .bytes) (d .bytes) q in
     subst (λ (l : List ℕ). sameBytes (b .bytes) l ≡ true) e (bytes.same-self (b .bytes))
-
-pub same-is : (a b : Identity) → sameIdentity a b ≡ true → a ≡ b
-unfolding sameIdentity
-same-is a b p = rw (bytes.same-true (a .bytes) (b .bytes) p)

@@ -3,7 +3,6 @@
 use Prim.Native.Nat.{ℕ, _+_}
 use mathlib.Core.Path.{_≡_, refl}
 use mathlib.Core.Bool.{true, false}
-use lib.Dec.{leb}
 use Rattle.basis.specs.Pick.{bit}
 use Rattle.basis.proofs.Cases.{bool-cases}
 use Rattle.basis.proofs.Both.{untrue}
@@ -11,31 +10,15 @@ use Rattle.identity.specs.declared.Identity.{Identity}
 use Rattle.awaited.specs.declared.Slot.{Slot}
 use Rattle.awaited.specs.declared.Purpose.{Purpose}
 use Rattle.awaited.specs.declared.Purpose.the-variants.{Version, Watchdog, Entry, Other}
-use Rattle.awaited.specs.Slot.{sameIdentity, slotOf, purposeOf, isFree, isTaken, awaitsFor, isLate}
+use Rattle.awaited.specs.Slot.{sameIdentity, slotOf, purposeOf, isFree, isTaken, awaitsFor}
 
 pub free-awaits : (id : Identity) (x : Slot) → isFree x ≡ true → awaitsFor id x ≡ false
 unfolding awaitsFor
 free-awaits id x t = rw t
 
-pub free-taken : (x : Slot) → isFree x ≡ true → isTaken x ≡ false
-unfolding isTaken
-free-taken x t = rw t
-
-pub free-late : (t : ℕ) (x : Slot) → isFree x ≡ true → isLate t x ≡ false
-unfolding isLate
-free-late t x e = rw e
-
-pub awaits-taken : (id : Identity) (x : Slot) → awaitsFor id x ≡ true → isTaken x ≡ true
-unfolding awaitsFor isTaken
-awaits-taken id x t = bool-cases (isFree x) (λ u. untrue (rw u at t)) (λ u. rw u)
-
 pub awaits-same : (id : Identity) (x : Slot) → awaitsFor id x ≡ true → sameIdentity (x .id) id ≡ true
 unfolding awaitsFor
 awaits-same id x t = bool-cases (isFree x) (λ u. untrue (rw u at t)) (λ u. rw u at t)
-
-pub same-awaits : (id j : Identity) (x : Slot) → awaitsFor id x ≡ true → awaitsFor j x ≡ sameIdentity (x .id) j
-unfolding awaitsFor
-same-awaits id j x t = bool-cases (isFree x) (λ u. untrue (rw u at t)) (λ u. rw u)
 
 pub taken-free : (x : Slot) → bit (isTaken x) + bit (isFree x) ≡ 1
 unfolding isTaken
@@ -57,11 +40,3 @@ slot-purpose id t Other = refl
 pub slot-awaits : (id j : Identity) (t : ℕ) (p : Purpose) → awaitsFor j (slotOf id t p) ≡ sameIdentity id j
 unfolding awaitsFor
 slot-awaits id j t p = rw (not-free id t p)
-
-pub slot-taken : (id : Identity) (t : ℕ) (p : Purpose) → isTaken (slotOf id t p) ≡ true
-unfolding isTaken
-slot-taken id t p = rw (not-free id t p)
-
-pub slot-late : (id : Identity) (s t : ℕ) (p : Purpose) → isLate t (slotOf id s p) ≡ leb (s + 30000) t
-unfolding isLate
-slot-late id s t p = rw (not-free id s p)

@@ -1,4 +1,4 @@
--- Being one of a list: of none, of one, of two, of two lists in a row.
+-- Being one of a list: of none, of one, of the first of two lists in a row.
 -- Assumes nothing.
 use mathlib.Core.List.{List, [], _∷_, _++_}
 use mathlib.Core.Logic.{_⊎_, inl, inr}
@@ -13,17 +13,9 @@ module _ {A : Type 0} where
   among-one P x y p first = p
   among-one P x y p (later r) = among-none r
 
-  pub among-two : (P : A → Type 0) (x y z : A) → P y → P z → Among x (y ∷ z ∷ []) → P x
-  among-two P x y z p q first = p
-  among-two P x y z p q (later r) = among-one P x z q r
-
   pub among-left : {x : A} {xs : List A} (ys : List A) → Among x xs → Among x (xs ++ ys)
   among-left ys first = first
   among-left ys (later a) = later (among-left ys a)
-
-  pub among-right : {x : A} (xs : List A) {ys : List A} → Among x ys → Among x (xs ++ ys)
-  among-right [] r = r
-  among-right (y ∷ xs) r = later (among-right xs r)
 
   pub among-either : {x : A} (xs ys : List A) → Among x (xs ++ ys) → Among x xs ⊎ Among x ys
   among-either [] ys r = inr r

@@ -2,7 +2,7 @@
 -- Assumes nothing.
 use mathlib.Core.Path.{_≡_, refl, sym, ap, ap₂, subst, _∙_}
 use mathlib.Core.List.{List, [], _∷_, _++_}
-use Prim.Native.Nat.{ℕ, zero, suc, _+_, _-_, _*_, _/_, _%_, _^_, _≤_, _<_}
+use Prim.Native.Nat.{ℕ, suc, _+_, _*_, _/_, _%_, _^_, _≤_, _<_}
 use native.Mathlib.Nat.{mod-lt, mod-eq-of-lt, mod-mod, div-one, mul-assoc, mul-one, add-assoc, add-comm, add-mul-mod-self-right, add-mul, add-zero, zero-add, zero-mul, one-mul, div-lt-iff-lt-mul, lt-of-lt-of-le}
 use lib.Arith.{digits-lt}
 use lib.Dec.{lit<}
@@ -10,14 +10,6 @@ use native.Mathlib.Omega.{arith}
 use lib.ListN.{length}
 use lib.Pow.{pow-pos, pow-mono, pow-add, shr-shr, high, low, field as field-mod, split as split-at}
 use Rattle.bits.specs.Fields.{pushed, fieldOf, total, joined, split, Within, none, next}
-
--- the round trip of one field: the pushed value comes back
-pub pushed-value : (n k v : ℕ) → fieldOf (pushed n k v) 0 k ≡ v % 2 ^ k
-pushed-value n k v = ap (λ (x : ℕ). x % 2 ^ k) (div-one (pushed n k v)) ∙ low n k (mod-lt v (pow-pos k))
-
--- and every field before it is as it was
-pub pushed-rest : (n k v s j : ℕ) → fieldOf (pushed n k v) (k + s) j ≡ fieldOf n s j
-pushed-rest n k v s j = ap (λ (x : ℕ). x % 2 ^ j) (sym (shr-shr (pushed n k v) k s) ∙ ap (λ (y : ℕ). y / 2 ^ s) (high n k (mod-lt v (pow-pos k))))
 
 -- what stood before the fields stands before them still
 pub before : (ks vs : List ℕ) → length ks ≡ length vs → (n : ℕ) → joined n ks vs / 2 ^ total ks ≡ n
@@ -51,11 +43,6 @@ joined-split (k ∷ ks) n =
     (mod-mod (n / 2 ^ total ks) (2 ^ k))
     ∙ split-at (n / 2 ^ total ks) k)
     ∙ joined-split ks n
-
--- what is split fits
-pub split-within : (ks : List ℕ) (n : ℕ) → Within ks (split ks n)
-split-within [] n = none
-split-within (k ∷ ks) n = next (mod-lt (n / 2 ^ total ks) (pow-pos k)) (split-within ks n)
 
 total-append : (ks js : List ℕ) → total (ks ++ js) ≡ total ks + total js
 total-append [] js = sym (zero-add (total js))

@@ -1,8 +1,7 @@
--- Reading a time: the function gives the answer, there is one answer only, and each direction is the other's inverse.
+-- Reading a time: the function gives the answer, there is one answer only, and what was written is read back.
 -- Assumes nothing.
 use mathlib.Core.Path.{_≡_, refl, sym, ap, ap₂, subst, _∙_}
-use mathlib.Core.Bool.{true}
-use mathlib.Core.List.{List, [], _∷_, _++_}
+use mathlib.Core.List.{List, _++_}
 use Prim.Native.Nat.{ℕ, _+_, _-_, _*_, _/_, _%_, _≤_, _<_}
 use native.Mathlib.Omega.{arith}
 use lib.ListN.{length, take, drop, length-append, length-drop, take-append-drop}
@@ -14,11 +13,11 @@ use Rattle.calendar.specs.declared.Time.{Time}
 use Rattle.calendar.specs.declared.Time.the-variants.{Is, No}
 use Rattle.calendar.specs.Days.{dayOf, Valid}
 use Rattle.calendar.specs.Text.{lastTime, lastSecond, decimals, secondText, milliText, timeText}
-use Rattle.calendar.specs.Read.{Answers, areDigits, pointed, millis, Form, Reads, dateSaid, clockSaid, readSecond, readRest, joinTime, readTime, TimeRead}
+use Rattle.calendar.specs.Read.{Answers, pointed, millis, Form, Reads, dateSaid, clockSaid, readSecond, readRest, joinTime, readTime, TimeRead}
 use Rattle.calendar.specs.Read.Reads.{is, no}
 use Rattle.calendar.proofs.Said.{second-length, milli-length, said-valid, said-second, said-millis}
 use Rattle.calendar.proofs.Answers.{checked-answers}
-use Rattle.calendar.proofs.Rest.{RestForm, ReadsRest, millis-most, digits-are, digits-again, rest-complete, rest-answers}
+use Rattle.calendar.proofs.Rest.{RestForm, ReadsRest, digits-are, rest-complete, rest-answers}
 use Rattle.calendar.proofs.Rest.ReadsRest.{is-rest, no-rest}
 
 pub time-length : (n : ℕ) → length (timeText n) ≡ 24
@@ -89,10 +88,6 @@ equal s _ (no g) = by (readTime s) (answers s)
 pub read-as : (s : List ℕ) (r : Time) → Reads s r → TimeRead s r
 read-as s r p = record { answers = p; equals = equal s r p }
 
--- a text has one answer only
-pub one-time : (s : List ℕ) (a b : Time) → Reads s a → Reads s b → a ≡ b
-one-time s a b p q = equal s a p ∙ sym (equal s b q)
-
 -- reading what was written gives the time again
 pub read-written : (ms : ℕ) → ms ≤ lastTime → readTime (timeText ms) ≡ Is ms 3
 unfolding timeText milliText
@@ -109,42 +104,3 @@ read-written ms h = complete written ∙ ap (λ (n : ℕ). Is n 3) (ap (λ (m : 
 
     written : Form (timeText ms) (ms / 1000) (decimals 3 (ms % 1000))
     written = record { to-9999 = seconds ms h; digits = digits-are (ms % 1000); most = omega arith; said = refl }
-
--- what was read is a time with at most six decimals
-module _ (s : List ℕ) (ms k : ℕ) (e : readTime s ≡ Is ms k) where
-  record Found : Type 0 where
-    pub second : ℕ
-    pub ds : List ℕ
-    pub form : Form s second ds
-    pub time : ms ≡ second * 1000 + millis ds
-    pub count : k ≡ length ds
-
-  found : Found
-  found = by (readTime s) (answers s) e
-    where
-      by : (r : Time) → Reads s r → r ≡ Is ms k → Found
-      by _ (is x ds f) e = record { second = x; ds = ds; form = f; time = cc; count = cc }
-      by _ (no g) e = absurd (let z : _≡_ {A = ℕ} 0 1 = cc in omega arith)
-
-  pub time-within : ms ≤ lastTime
-  time-within = let f = found in omega (arith, f .time, f .form .to-9999, millis-most (f .ds) (f .form .digits))
-
--- writing what was read with three decimals gives the text again
-pub written-read : (s : List ℕ) (ms : ℕ) → readTime s ≡ Is ms 3 → timeText ms ≡ s
-unfolding timeText milliText
-written-read s ms e =
-    let f = found s ms 3 e in
-    let ds = f .ds in
-    let m : millis ds ≤ 999 = millis-most ds (f .form .digits) in
-    let q : ms / 1000 ≡ f .second = omega (arith, f .time) in
-    let r : ms % 1000 ≡ millis ds = omega (arith, f .time) in
-    ap₂ (λ (a b : ℕ). secondText a ++ milliText b) q r
-    ∙ ap (λ (t : List ℕ). secondText (f .second) ++ t) (again ds (digits-again ds (f .form .digits) (sym (f .count))) (sym (f .count)))
-    ∙ sym (f .form .said)
-  where
-    dotted : (ds : List ℕ) → length ds ≡ 3 → text "." ++ ds ++ text "Z" ≡ pointed ds ++ text "Z"
-    dotted [] l = absurd (omega arith)
-    dotted (d ∷ ds) l = refl
-
-    again : (ds : List ℕ) → decimals 3 (millis ds) ≡ ds → length ds ≡ 3 → milliText (millis ds) ≡ pointed ds ++ text "Z"
-    again ds e l = ap (λ (xs : List ℕ). text "." ++ xs ++ text "Z") e ∙ dotted ds l

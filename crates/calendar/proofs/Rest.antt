@@ -3,10 +3,10 @@
 use mathlib.Core.Path.{_≡_, refl, sym, ap, ap₂, subst, _∙_}
 use mathlib.Core.Bool.{Bool, true, false, not}
 use mathlib.Core.List.{List, [], _∷_, _++_}
-use Prim.Native.Nat.{ℕ, zero, suc, _+_, _-_, _*_, _/_, _%_, _≤_, _<_}
+use Prim.Native.Nat.{ℕ, zero, suc, _+_, _-_, _/_, _%_, _≤_, _<_}
 use native.Mathlib.Numerals.{add-one}
 use native.Mathlib.Omega.{arith}
-use lib.ListN.{length, take, drop, getD, length-append, length-take, length-drop, drop-of-length-le}
+use lib.ListN.{length, take, drop, getD, length-append, drop-of-length-le}
 use lib.Seq.{drop-cons, take-at, getD-at, take-suc, take-all}
 use lib.Dec.{ltb, leb, eqb}
 use borrow.Author.Tests.{ltb-true, ltb-false, leb-true, eqb-true, le-ltb, le-leb, eq-eqb}
@@ -59,38 +59,6 @@ module _ (x : ℕ) (h : x < 10) where
 
 pub digits-are : (m : ℕ) → areDigits (decimals 3 m) ≡ true
 digits-are m = rw (digit-is (m / 10 / 10 % 10) (omega arith), digit-is (m / 10 % 10) (omega arith), digit-is (m % 10) (omega arith))
-
-pub digits-again : (ds : List ℕ) → areDigits ds ≡ true → length ds ≡ 3 → decimals 3 (millis ds) ≡ ds
-digits-again [] e l = absurd (omega arith)
-digits-again (a ∷ []) e l = absurd (omega arith)
-digits-again (a ∷ b ∷ []) e l = absurd (omega arith)
-digits-again (a ∷ b ∷ c ∷ []) e l =
-    let p = both-parts (isDigit a) (areDigits (b ∷ c ∷ [])) e in
-    let q = both-parts (isDigit b) (areDigits (c ∷ [])) (p .1) in
-    let r = both-parts (isDigit c) (areDigits []) (q .1) in
-    let u = digit-from a (p .0) in
-    let v = digit-from b (q .0) in
-    let w = digit-from c (r .0) in
-    ap₂ (λ (x : ℕ) (k : List ℕ). x ∷ k) (first a b c u v w) (ap₂ (λ (x : ℕ) (k : List ℕ). x ∷ k) (second a b c u v w) (ap (λ (x : ℕ). x ∷ []) (third a b c u v w)))
-  where
-    number : ℕ → ℕ → ℕ → ℕ
-    number a b c = (a - 48) * 100 + ((b - 48) * 10 + (c - 48))
-
-    Digit : ℕ → Type 0
-    Digit a = (48 ≤ a) × (a ≤ 57)
-
-    digit-from : (a : ℕ) → isDigit a ≡ true → Digit a
-    digit-from a e = let p = both-parts (leb 48 a) (leb a 57) e in (leb-true 48 a (p .0), leb-true a 57 (p .1))
-
-    first : (a b c : ℕ) → Digit a → Digit b → Digit c → 48 + number a b c / 10 / 10 % 10 ≡ a
-    first a b c u v w = omega (arith, u .0, u .1, v .0, v .1, w .0, w .1)
-
-    second : (a b c : ℕ) → Digit a → Digit b → Digit c → 48 + number a b c / 10 % 10 ≡ b
-    second a b c u v w = omega (arith, u .0, u .1, v .0, v .1, w .0, w .1)
-
-    third : (a b c : ℕ) → Digit a → Digit b → Digit c → 48 + number a b c % 10 ≡ c
-    third a b c u v w = omega (arith, u .0, u .1, v .0, v .1, w .0, w .1)
-digits-again (a ∷ b ∷ c ∷ d ∷ ds) e l = absurd (omega arith)
 
 -- ---- the texts
 

@@ -16,10 +16,6 @@ put-in-time xs at ms h = rw (le-leb ms lastTime h)
 pub wrote : {xs : List ℕ} {at ms : ℕ} {ys : List ℕ} {r : ℕ} → ms ≤ lastTime → Wrote xs at (timeText ms ∷ []) ys r → WroteTime xs at ms ys r
 wrote {xs} {at} {ms} h w = record { all = w .all ∙ sym (put-in-time xs at ms h) }
 
--- to 9999 a time is one piece, as any other writer's
-pub one-piece : {xs : List ℕ} {at ms : ℕ} {ys : List ℕ} {r : ℕ} → ms ≤ lastTime → WroteTime xs at ms ys r → Wrote xs at (timeText ms ∷ []) ys r
-one-piece {xs} {at} {ms} h w = record { all = w .all ∙ put-in-time xs at ms h }
-
 pub too-late : {xs : List ℕ} {at ms : ℕ} → lastTime < ms → WroteTime xs at ms xs (length xs + 1)
 unfolding putTime
 too-late {xs} {at} {ms} h = record { all = rw (lt-leb ms lastTime h) }

@@ -114,6 +114,3 @@ module _ {b : List ℕ} {links primary period first time : ℕ} {ws vs xs ys : L
   module _ (s : StartsIn b links primary period first time ws vs xs ys r) (d : isDone r ≡ true) where
     pub site-again : siteOf vs (tableOf ys) ≡ s .step .site
     site-again = read (s .step) (s .starts) (s .begun) d .0
-
-    pub plain-again : Plain vs
-    plain-again = read (s .step) (s .starts) (s .begun) d .1

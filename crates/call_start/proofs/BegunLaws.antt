@@ -5,12 +5,10 @@ use mathlib.Core.Path.{_≡_, refl, sym, ap, subst, _∙_}
 use mathlib.Core.Bool.{true, false, true≢false}
 use mathlib.Core.List.{List}
 use lib.ListN.{length, replicate}
-use Rattle.basis.proofs.Cases.{bool-cases}
 use Rattle.answer.specs.declared.Refusal.{Refusal}
 use Rattle.answer.specs.declared.Refusal.the-variants.{NotAccepted}
 use Rattle.answer.specs.declared.Answer.{Answer}
 use Rattle.answer.specs.declared.Answer.the-variants.{Done, Refused}
-use Rattle.answer.specs.Number.{isDone}
 use Rattle.pool.specs.Pool.{emptyOf}
 use Rattle.link.specs.Fields.{closedLink}
 use Rattle.subscription.specs.Subscription.{none}
@@ -37,7 +35,7 @@ use Rattle.call_start.specs.Starts.Starts.{refuses}
 use Rattle.call_start.specs.Making.{isWithin, notAccepted, judgedBy, makeOf}
 use Rattle.call_start.specs.Begun.{Begun, StartsIn}
 use Rattle.call_start.proofs.Values.{all-within}
-use Rattle.call_start.proofs.Whole.{taken, starts-so, once}
+use Rattle.call_start.proofs.Whole.{taken, starts-so}
 
 abbrev items : Site → ℕ → Site
 items s time = withStatuses (withAlarms (withSubscriptions s (replicate 128 none)) (replicate 32 (beginning time))) (replicate 32 unknown)
@@ -121,24 +119,3 @@ module _ (b : List ℕ) (links primary period first time : ℕ) where
             subst (λ (x : Step). Begun x ws vs xs ys a)
             (ap (λ (n : ℕ). judgedBy (r .verdict) (fresh (r .table) links n period first time)) f ∙ sym (taken links primary period first time r e)) g;
       }
-
--- one result for each input
-module _ {b : List ℕ} {links primary period first time : ℕ} {ws vs us xs ys zs : List ℕ} {r q : Answer}
-    (a : StartsIn b links primary period first time ws vs xs ys r) (c : StartsIn b links primary period first time ws us xs zs q) where
-  same : a .step ≡ c .step
-  same = once links primary period first time (a .starts) (c .starts)
-
-  pub one-answer : r ≡ q
-  one-answer = a .begun .answer ∙ ap (λ (x : Step). x .answer) same ∙ sym (c .begun .answer)
-
-  pub one-words : vs ≡ us
-  one-words =
-      bool-cases (isDone r)
-      (λ e. a .begun .words e ∙ ap (λ (x : Step). wordsOf (x .site)) same ∙ sym (c .begun .words (sym (ap isDone one-answer) ∙ e)))
-      (λ e. a .begun .words-kept e ∙ sym (c .begun .words-kept (sym (ap isDone one-answer) ∙ e)))
-
-  pub one-bytes : ys ≡ zs
-  one-bytes =
-      bool-cases (isDone r)
-      (λ e. a .begun .bytes e ∙ ap (λ (x : Step). layoutOf (x .site .table)) same ∙ sym (c .begun .bytes (sym (ap isDone one-answer) ∙ e)))
-      (λ e. a .begun .bytes-kept e ∙ sym (c .begun .bytes-kept (sym (ap isDone one-answer) ∙ e)))

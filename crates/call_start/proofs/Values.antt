@@ -1,16 +1,14 @@
 -- The values that start takes are those within their limits.
 -- Assumes nothing.
 use Prim.Native.Nat.{ℕ, _≤_, _<_}
-use mathlib.Core.Path.{_≡_, refl, sym, _∙_}
+use mathlib.Core.Path.{_≡_, refl}
 use mathlib.Core.Bool.{true, false}
 use mathlib.Core.Logic.{_⊎_, inl, inr}
-use lib.Dec.{eqb, leb, ltb}
-use borrow.Author.Tests.{ltb-true, ltb-false, leb-true, eqb-true, lt-ltb, le-leb, eq-eqb, ne-eqb}
-use native.Mathlib.Omega.{arith}
+use lib.Dec.{leb, ltb}
+use borrow.Author.Tests.{ltb-true, leb-true, eqb-true, lt-ltb, le-leb, eq-eqb}
 use Rattle.basis.proofs.Cases.{bool-cases}
 use Rattle.basis.proofs.Both.{both-true, both-of}
 use Rattle.answer.specs.Times.{lastTime}
-use Rattle.call_start.specs.Fresh.{primaryOf}
 use Rattle.call_start.specs.Starts.{Within}
 use Rattle.call_start.specs.Making.{aLinkOrNone, valuesWithin, isWithin}
 
@@ -61,9 +59,3 @@ module _ (links primary period first time : ℕ) where
   pub no-link : 1 ≤ links → links ≤ 4 → aLinkOrNone links primary ≡ false → false ≡ isWithin links primary period first time
   unfolding isWithin
   no-link l m e = rw (le-leb 1 links l, le-leb links 4 m, e) refl
-
--- the primary that the site keeps is the one that start was given
-pub primary-kept : (primary l : ℕ) → l < 4 → eqb l (primaryOf primary) ≡ eqb l primary
-primary-kept primary l h = bool-cases (ltb primary 4)
-    (λ e. rw e refl)
-    (λ e. rw e (ne-eqb l 65535 (λ k. omega arith) ∙ sym (ne-eqb l primary (λ k. let g = ltb-false primary 4 e in omega arith))))

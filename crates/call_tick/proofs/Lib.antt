@@ -3,4 +3,3 @@ pub mod Records
 pub mod Judged
 pub mod Closed
 pub mod InPlace
-pub mod Kept

@@ -8,10 +8,10 @@ use native.Mathlib.Omega.{arith}
 use lib.ListN.{length, take, drop, replicate, take-append-drop, length-drop}
 use lib.Seq.{take-all, length-take-le}
 use Rattle.bits.specs.Fields.{fieldOf, total, joined, split, bytesOf as bytesIn, numberOf}
-use Rattle.bits.proofs.Fields.{before, split-append, split-two, joined-behind, joined-lt}
+use Rattle.bits.proofs.Fields.{split-two, joined-behind, joined-lt}
 use Rattle.bits.proofs.Bytes.{number-two, number-lt}
 use Rattle.entry.specs.declared.Entry.{Entry}
-use Rattle.entry.specs.Layout.{bytesOf, entryOf, widths, valuesOf}
+use Rattle.entry.specs.Layout.{bytesOf, entryOf, widths}
 
 abbrev firstWidths : List ℕ
 firstWidths = 2 ∷ 2 ∷ 6 ∷ 6 ∷ 48 ∷ []
@@ -56,10 +56,3 @@ sixteen b e =
   where
     eight : (s : List ℕ) → length s ≡ 8 → numberOf s % 2 ^ 64 ≡ numberOf s
     eight s h = mod-eq-of-lt (subst (λ (n : ℕ). numberOf s < 2 ^ total (replicate n 8)) h (number-lt s))
-
--- the first two bytes say link, kind, item and flags, whatever the rest is
-pub begins : (e : Entry) → take 2 (bytesOf e) ≡ bytesIn 2 (joined 0 (2 ∷ 2 ∷ 6 ∷ 6 ∷ []) (e .link ∷ e .kind ∷ e .item ∷ e .flags ∷ []))
-unfolding bytesOf
-begins e =
-    ap (take 2) (split-append (replicate 2 8) (replicate 14 8) (joined 0 widths (valuesOf e)))
-    ∙ ap (bytesIn 2) (before (48 ∷ 32 ∷ 32 ∷ []) (e .time ∷ e .value ∷ e .sequence ∷ []) refl (joined 0 (2 ∷ 2 ∷ 6 ∷ 6 ∷ []) (e .link ∷ e .kind ∷ e .item ∷ e .flags ∷ [])))

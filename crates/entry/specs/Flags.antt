@@ -11,16 +11,6 @@ use Rattle.bits.specs.Fields.{joined, fieldOf}
 abbrev pub isSet : ℕ → ℕ → Bool
 isSet flags s = eqb (fieldOf flags s 1) 1
 
--- an alarm's event (aSp)
-abbrev pub issue : ℕ
-issue = 0
-
-abbrev pub acknowledge : ℕ
-acknowledge = 1
-
-abbrev pub suspend : ℕ
-suspend = 2
-
 -- of an alarm: aSp 2, acknowledged, active, suspended, 0
 abbrev pub alarmWidths : List ℕ
 alarmWidths = 2 ∷ 1 ∷ 1 ∷ 1 ∷ 1 ∷ []

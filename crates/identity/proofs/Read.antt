@@ -23,10 +23,6 @@ use Rattle.identity.proofs.Lowered.{lowered-length}
 byte-below : (l : List ℕ) (p : ℕ) → byteAt l p < 256
 byte-below l p = omega (arith, value-below (getD l p 0), value-below (getD l (p + 1) 0))
 
-pub said-length : (l : List ℕ) → length (bytesOf l) ≡ 16
-unfolding bytesOf
-said-length l = refl
-
 pub byte-read : (l : List ℕ) (i : ℕ) → i < 16 → getD (bytesOf l) i 0 ≡ byteAt l (getD starts i 0)
 unfolding bytesOf
 byte-read l i h = mapped (byteAt l) starts i h

@@ -4,4 +4,3 @@ mod Steps
 mod Noted
 pub mod Once
 pub mod Meaning
-pub mod Kept

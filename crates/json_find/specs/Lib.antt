@@ -3,4 +3,3 @@ pub mod Entries
 pub mod Lookup
 pub mod Index
 pub mod Four
-pub mod Claims

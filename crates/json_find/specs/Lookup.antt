@@ -1,16 +1,13 @@
--- Members and elements of a meaning, and what it is that a place found shows them.
+-- Members and elements of a meaning.
 -- Assumes nothing.
 use Prim.Native.Nat.{ℕ, zero, suc}
 use mathlib.Core.List.{List}
 use Rattle.basis.specs.Lists.{sameBytes}
 use Rattle.basis.specs.Pick.{pick}
-use Rattle.json_text.specs.declared.Read.{Read}
-use Rattle.json_text.specs.declared.Read.the-variants.{End, Bad}
 use Rattle.json_value.specs.Grammar.{Json, Jsons, Members}
 use Rattle.json_value.specs.Grammar.Json.{null, bool, num, str, arr, obj}
 use Rattle.json_value.specs.Grammar.Jsons.{jnil, jcons}
 use Rattle.json_value.specs.Grammar.Members.{mnil, mcons}
-use Rattle.json_value.specs.Means.{Means}
 
 pub data Found : Type 0 where
   found : Json → Found
@@ -46,18 +43,9 @@ abbrev pub countElements : Jsons → ℕ
 countElements jnil = zero
 countElements (jcons j js) = suc (countElements js)
 
-abbrev pub countMembers : Members → ℕ
-countMembers mnil = zero
-countMembers (mcons d j ms) = suc (countMembers ms)
-
 -- the member of a name, the k-th element
 abbrev pub member : List ℕ → Json → Found
 member name j = named name (membersIn j)
 
 abbrev pub element : ℕ → Json → Found
 element k j = nthElement k (elementsIn j)
-
--- an answer shows what is found: `End p`, and the place p means it; `Bad`, and it is missing
-pub data Shows (s : List ℕ) : Read → Found → Type 0 where
-  shown : {p : ℕ} {j : Json} → Means s p j → Shows s (End p) (found j)
-  absent : Shows s Bad missing

@@ -1,9 +1,9 @@
 -- The grammar and the definition that the code equals read the same, so a text has one meaning.
 -- Assumes nothing.
-use Prim.Native.Nat.{ℕ, zero, suc, _+_, _≤_}
+use Prim.Native.Nat.{ℕ, zero, suc, _+_}
 use mathlib.Core.Path.{_≡_, refl, sym, subst, ap, _∙_}
 use mathlib.Core.Bool.{true}
-use mathlib.Core.List.{List, [], _∷_, _++_}
+use mathlib.Core.List.{List, _∷_}
 use native.Mathlib.Omega.{arith}
 use lib.Dec.{T}
 use lib.ListN.{length, drop}
@@ -13,8 +13,7 @@ use Rattle.json_character.specs.declared.Char.the-variants.{One, Close, Bad}
 use Rattle.json_character.specs.Char.{charOf}
 use Rattle.json_text.specs.Decoded.{Parsed, push, byChar, readChars, decoded, isText, sameText}
 use Rattle.json_text.specs.Decoded.Parsed.{ok, none}
-use Rattle.json_character.specs.Utf8.Utf8.{utf8-1}
-use Rattle.json_character.specs.Grammar.{Unescaped, Character}
+use Rattle.json_character.specs.Grammar.{Character}
 use Rattle.json_text.specs.Grammar.{Chars}
 use Rattle.json_character.proofs.Sound.{Says, char-says}
 use Rattle.json_character.proofs.Complete.{char-reads, quotation-mark}
@@ -58,16 +57,6 @@ refused {t} {r} {d} e x =
     let f : ok d r ≡ none = sym (complete x) ∙ e in
     let z : _≡_ {A = ℕ} 0 1 = cc in
     omega arith
-
--- a text of ASCII with no control character, quotation mark or backslash in it
-abbrev pub Plain : List ℕ → Type 0
-Plain [] = Unit {0}
-Plain (c ∷ d) = Unescaped c × (c ≤ 0x7f) × Plain d
-
--- stands for itself
-pub plain : (d r : List ℕ) → Plain d → Chars (d ++ (0x22 ∷ r)) r d
-plain [] r h = Chars.close
-plain (c ∷ d) r h = Chars.more (Character.unescaped (utf8-1 {a = c} (record { from = omega arith; to = h .1 })) (h .0)) (plain d r (h .2))
 
 -- what the two comparisons say
 pub named : (t n : List ℕ) → isText (decoded t) n ≡ true → (r : List ℕ) × Chars t r n

@@ -1,6 +1,6 @@
 -- What is in the grammar is read.
 -- Assumes nothing.
-use Prim.Native.Nat.{ℕ, zero, suc, _+_, _<_, _≤_}
+use Prim.Native.Nat.{ℕ, zero, suc, _<_, _≤_}
 use mathlib.Core.Path.{_≡_, refl, sym, ap, _∙_}
 use mathlib.Core.Bool.{Bool, true, false}
 use mathlib.Core.List.{List, [], _∷_, _++_}
@@ -53,10 +53,6 @@ skip-twice (b ∷ t) = go (isSpace b) refl (skip-twice t)
     go : (q : Bool) → isSpace b ≡ q → skipWs (skipWs t) ≡ skipWs t → skipWs (pick q (skipWs t) (b ∷ t)) ≡ pick q (skipWs t) (b ∷ t)
     go true e h = h
     go false e h = skip-solid (b ∷ t) e
-
--- two readings of one text after white space
-pub same-skip : {t u v : List ℕ} → Ws t u → Ws t v → Solid u → Solid v → u ≡ v
-same-skip a b h g = sym (skip a h) ∙ skip b g
 
 pub ws-length : {t u : List ℕ} → Ws t u → length u ≤ length t
 ws-length Ws.none = omega arith

@@ -130,9 +130,6 @@ consed x (ends e a b) = ends e a b
 consed x fails = fails
 
 module _ (s : List ℕ) (close l i : ℕ) where
-  entries : ℕ → List ℕ → Parsed (List Named)
-  entries n u = readItems close (λ v. readValue l v) n u
-
   first : Parsed Entry
   first = readEntry close (λ v. readValue l v) (drop i s)
 

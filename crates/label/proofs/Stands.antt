@@ -2,9 +2,9 @@
 -- Assumes nothing.
 use mathlib.Core.Path.{_≡_, refl, sym, ap, _∙_}
 use mathlib.Core.List.{List, [], _∷_, _++_, append-assoc, append-nil}
-use Prim.Native.Nat.{ℕ, _+_, _-_, _≤_}
+use Prim.Native.Nat.{ℕ, _+_}
 use native.Mathlib.Omega.{arith}
-use lib.ListN.{length, drop, length-append, length-drop}
+use lib.ListN.{length, drop, length-append}
 use lib.Seq.{drop-drop, drop-append-seam}
 
 pub record Stands (s : List ℕ) (at : ℕ) (bs : List ℕ) : Type 0 where
@@ -29,12 +29,6 @@ joined s at bs cs h k =
           ∙ ap (λ (l : List ℕ). bs ++ l) (sym (behind s at bs (h .rest) (h .parts)) ∙ k .parts)
           ∙ sym (append-assoc bs cs (k .rest));
     }
-
--- what stands ends within, but where nothing stands
-pub within : {s : List ℕ} {at : ℕ} {bs : List ℕ} → Stands s at bs → at ≤ length s → at + length bs ≤ length s
-within {s} {at} {bs} h l =
-    let e = ap length (h .parts) in
-    omega (arith, length-append bs (h .rest), length-drop at s, e)
 
 empty : (l : List ℕ) → length l ≡ 0 → l ≡ []
 empty [] e = refl

@@ -1,10 +1,1 @@
-pub mod Flags
-pub mod Doing
-pub mod Tells
-pub mod First
-pub mod Shut
-pub mod Phases
-pub mod Greets
-pub mod Read
-pub mod Replies
 pub mod Kept

@@ -3,10 +3,4 @@ pub mod Fields
 pub mod Phase
 pub mod Steps
 pub mod Due
-pub mod Acts
-pub mod Events
-pub mod Life
-pub mod Memory
-pub mod Since
 pub mod Promises
-pub mod Careful

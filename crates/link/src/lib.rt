@@ -5,7 +5,7 @@ ghost use Rattle.awaited.specs.declared.Purpose.the-variants.{Entry, Other};
 ghost use Rattle.awaited.specs.Awaited.{findOf, lateOf};
 ghost use Rattle.link.specs.Phase.{greeted, beaten, phaseOf, isUp, isBeating, beatsIn, takesIn, closesFor, closesOn};
 ghost use Rattle.link.specs.Fields.{closedLink};
-ghost use Rattle.link.specs.Steps.{connectOf, versionOutOf, mayJudgeOf, versionAcceptedOf, mayBeatOf, watchdogOutOf, watchdogTakenOf, messageOutOf, answeredBy, aggregatedPassedOf, alarmPassedOf, crowdedOf, fullOf};
+ghost use Rattle.link.specs.Steps.{connectOf, versionOutOf, mayJudgeOf, versionAcceptedOf, mayBeatOf, watchdogOutOf, watchdogTakenOf, messageOutOf, answeredBy, aggregatedPassedOf, alarmPassedOf, crowdedOf};
 ghost use Rattle.link.specs.Due.{alarmsFor, dueUp, dueOf};
 use awaited::Awaited;
 use awaited::Found;
@@ -206,12 +206,6 @@ impl Link {
         Phase::Down
     }
 
-    pub fn up(self) -> bool
-        ensures { λ r. ⌜ r ≡ isUp (phaseOf self) ⌝ }
-    {
-        is_up(self.phase())
-    }
-
     pub fn connect(self) -> Link
         ensures { λ r. ⌜ r ≡ connectOf self ⌝ }
     {
@@ -348,14 +342,6 @@ impl Link {
     {
         let a = self.awaited;
         8 <= a.how_many()
-    }
-
-    // Whether 16 are awaited: a reply is Busy then.
-    pub fn full(self) -> bool
-        ensures { λ r. ⌜ r ≡ fullOf self ⌝ }
-    {
-        let a = self.awaited;
-        16 <= a.how_many()
     }
 
     // The answer MessageAck or MessageNotAck to an identity.

@@ -42,10 +42,6 @@ findIn s i (suc n) = pick (sameBytes s (nameOf i)) (At i) (findIn s (suc i) n)
 abbrev pub findType : List ℕ → Found
 findType s = findIn s 0 (length typeNames)
 
--- the reason that s names
-abbrev pub findReason : List ℕ → Found
-findReason s = findIn s (length typeNames) (length reasons)
-
 abbrev pub numberOf : Found → ℕ
 numberOf (At i) = i
 numberOf Nothing = length names

@@ -2,9 +2,9 @@
 -- Assumes nothing.
 use mathlib.Core.Path.{_≡_, refl, sym, ap, _∙_}
 use mathlib.Core.List.{List, [], _∷_, _++_}
-use mathlib.Core.Logic.{_⊎_, ⊎-elim}
+use mathlib.Core.Logic.{⊎-elim}
 use Prim.Native.Nat.{ℕ, zero, suc, _+_, _-_, _*_, _/_, _%_, _^_, _≤_, _<_}
-use native.Mathlib.Nat.{pow-suc, mul-assoc, mul-comm, mul-le-mul-right, lt-of-lt-of-le}
+use native.Mathlib.Nat.{pow-suc}
 use native.Mathlib.Omega.{arith}
 use lib.IntN.{ℤ, pos, negsuc}
 use lib.ListN.{length, length-append}
@@ -109,17 +109,6 @@ pub digits-row : (n : ℕ) → Row (digits n)
 digits-row = by-digits (λ (n : ℕ). Row (digits n))
     (λ n l. rw (one-digit n l) (next {b = 48 + n} (omega arith) (omega arith) none))
     (λ n l r. rw (more-digits n l) (row-snoc {b = 48 + n % 10} r (omega arith) (omega arith)))
-
-says-below : {bs : List ℕ} → Row bs → (n : ℕ) → says n bs < (n + 1) * 10 ^ length bs
-says-below none n = omega arith
-says-below (next {b} {bs} l u r) n =
-    let m : n * 10 + (b - 48) + 1 ≤ (n + 1) * 10 = omega arith in
-    let q : (n + 1) * 10 * 10 ^ length bs ≡ (n + 1) * 10 ^ suc (length bs) = mul-assoc (n + 1) 10 (10 ^ length bs) ∙ ap (λ (x : ℕ). (n + 1) * x) (mul-comm 10 (10 ^ length bs) ∙ sym (pow-suc 10 (length bs))) in
-    rw q at (lt-of-lt-of-le (says-below r (n * 10 + (b - 48))) (mul-le-mul-right (10 ^ length bs) m))
-
--- no row of digits that says n is shorter
-pub shortest : (n : ℕ) (b : ℕ) (bs : List ℕ) → Row (b ∷ bs) → says 0 (b ∷ bs) ≡ n → length (digits n) ≤ length (b ∷ bs)
-shortest n b bs r e = digits-length (length bs) n (omega (arith, says-below r 0, e))
 
 -- one signed value a text
 pub decimal-once : (v w : ℤ) → decimalOf v ≡ decimalOf w → v ≡ w

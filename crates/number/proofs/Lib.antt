@@ -4,6 +4,5 @@ pub mod Digits
 pub mod Places
 pub mod Reading
 pub mod Alphabet
-pub mod Refused
 pub mod Examples
 pub mod Kept

@@ -35,9 +35,6 @@ reads-int-once (no-int f) (no-int g) = refl
 pub reads-written : (limit n : ℕ) → n ≤ limit → Reads limit (digits n) (Is n)
 reads-written limit n h = is n h refl
 
-pub reads-int-written : (v : ℤ) → Signed32 v → ReadsInt (decimalOf v) (IsInt v)
-reads-int-written v h = is-int v h refl
-
 is-inv : {limit : ℕ} {s : List ℕ} {n : ℕ} → Reads limit s (Is n) → (n ≤ limit) × (s ≡ digits n)
 is-inv (is n h e) = (h, e)
 

@@ -11,7 +11,7 @@ use borrow.Author.Tests.{le-leb, lt-leb}
 use borrow.Rule.Slice.PartMut.{midOf, putMid, same-len-mid, mid-len, put-same}
 use Rattle.basis.proofs.Cases.{le-or-lt}
 use Rattle.output.specs.Put.{Out, output, put, putPiece, putAll, Wrote, concat}
-use Rattle.output.proofs.Put.{length-put, take-put, drop-put, before-put, put-put, put-nothing, put-lent}
+use Rattle.output.proofs.Put.{length-put, take-put, drop-put, put-put, put-nothing, put-lent}
 
 -- one piece, where it fits and where it does not
 pub piece-fits : (xs : List ℕ) (at : ℕ) (bs : List ℕ) → at + length bs ≤ length xs → putPiece (output xs at) bs ≡ output (put xs at bs) (at + length bs)
@@ -61,13 +61,6 @@ long-all xs at (b ∷ bs) = ⊎-elim
     (λ h. rw (shut xs at b bs h))
     (le-or-lt (at + length b) (length xs))
 
-before-all : (xs : List ℕ) (at : ℕ) (bs : List (List ℕ)) (n : ℕ) → n ≤ at → take n (putAll (output xs at) bs .bytes) ≡ take n xs
-before-all xs at [] n l = refl
-before-all xs at (b ∷ bs) n l = ⊎-elim
-    (λ h. rw (goes xs at b bs h) (before-all (put xs at b) (at + length b) bs n (omega arith) ∙ before-put xs at b h n l))
-    (λ h. rw (shut xs at b bs h))
-    (le-or-lt (at + length b) (length xs))
-
 fits-all : (xs : List ℕ) (at : ℕ) (bs : List (List ℕ)) → at + length (concat bs) ≤ length xs → putAll (output xs at) bs ≡ output (put xs at (concat bs)) (at + length (concat bs))
 fits-all xs at [] h = ap₂ output (sym (put-nothing xs at)) (sym (add-zero at))
 fits-all xs at (b ∷ bs) h =
@@ -76,15 +69,6 @@ fits-all xs at (b ∷ bs) h =
     goes xs at b bs f
     ∙ fits-all (put xs at b) (at + length b) bs (rw (length-put xs at b f) g)
     ∙ ap₂ output (put-put xs at b f (concat bs)) (omega (arith, length-append b (concat bs)))
-
-full-all : (xs : List ℕ) (at : ℕ) (bs : List (List ℕ)) → at ≤ length xs → length xs < at + length (concat bs) → putAll (output xs at) bs .end ≡ length xs + 1
-full-all xs at [] l h = absurd (omega arith)
-full-all xs at (b ∷ bs) l h = ⊎-elim
-    (λ (f : at + length b ≤ length xs).
-    let e = length-put xs at b f in
-    rw (goes xs at b bs f) (full-all (put xs at b) (at + length b) bs (rw e f) (rw e (omega (arith, length-append b (concat bs)))) ∙ ap (λ (n : ℕ). n + 1) e))
-    (λ (f : length xs < at + length b). rw (shut xs at b bs f))
-    (le-or-lt (at + length b) (length xs))
 
 most-all : (xs : List ℕ) (at : ℕ) (bs : List (List ℕ)) → at ≤ length xs + 1 → putAll (output xs at) bs .end ≤ length xs + 1
 most-all xs at [] l = l
@@ -115,17 +99,9 @@ module _ {xs : List ℕ} {at : ℕ} {bs : List (List ℕ)} {ys : List ℕ} {r : 
   pub same-length : length ys ≡ length xs
   same-length = ap length bytes-are ∙ long-all xs at bs
 
-  -- what stands before the writer's start never changes
-  pub before : (n : ℕ) → n ≤ at → take n ys ≡ take n xs
-  before n h = ap (take n) bytes-are ∙ before-all xs at bs n h
-
   -- with room for all pieces they stand there, one behind the other
   pub fits : at + length (concat bs) ≤ length xs → (ys ≡ put xs at (concat bs)) × (r ≡ at + length (concat bs))
   fits h = let e = fits-all xs at bs h in (bytes-are ∙ ap (λ (o : Out). o .bytes) e, end-is ∙ ap (λ (o : Out). o .end) e)
-
-  -- without, the end is past the output
-  pub full : at ≤ length xs → length xs < at + length (concat bs) → r ≡ length xs + 1
-  full l h = end-is ∙ full-all xs at bs l h
 
   pub most : at ≤ length xs + 1 → r ≤ length xs + 1
   most h = rw end-is (most-all xs at bs h)

@@ -1,4 +1,3 @@
 pub mod Down
 pub mod Part
 pub mod Fixed
-pub mod Rows

@@ -32,9 +32,3 @@ module _ {A : Type 0} (f : A → A) where
   part-all (suc i) [] h = refl
   part-all zero (x ∷ p) h = absurd (omega arith)
   part-all (suc i) (x ∷ p) h = ap (λ (l : List A). f x ∷ l) (part-all i p (omega arith))
-
-  pub part-length : (i : ℕ) (p : List A) → length (part f i p) ≡ length p
-  unfolding part
-  part-length zero p = refl
-  part-length (suc i) [] = refl
-  part-length (suc i) (x ∷ p) = ap suc (part-length i p)

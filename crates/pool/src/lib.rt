@@ -6,7 +6,7 @@ mod places;
 mod shares;
 
 ghost use mathlib.Core.Path.{_≡_};
-ghost use Rattle.pool.specs.Pool.{emptyOf, heldOf, lostOf, issueOf, markOf, settleOf, unmarkOf, oldestUnsent, newestAlarm, rankedOf, readingOf};
+ghost use Rattle.pool.specs.Pool.{emptyOf, heldOf, lostOf, issueOf, markOf, settleOf, unmarkOf, oldestUnsent, newestAlarm, rankedOf};
 ghost use Rattle.pool.specs.Places.{soughtAt};
 
 // A place: 0 it is free, 1 its record is not sent, 2 it is sent.
@@ -63,22 +63,6 @@ fn look(s: Spot) -> Sought
     match s {
         Spot::Nowhere => Sought::Nothing,
         Spot::At(_, x) => Sought::Found(x),
-    }
-}
-
-fn bytes_of(s: Sought) -> Reading
-    ensures { λ r. ⌜ r ≡ readingOf s ⌝ }
-{
-    match s {
-        Sought::Nothing => Reading {
-            found: false,
-            bytes: [0; 16],
-        },
-        Sought::Found(x) => {
-            let packed = entry::pack(x.entry);
-            let bytes = packed.bytes;
-            Reading { found: true, bytes }
-        }
     }
 }
 
@@ -146,14 +130,6 @@ impl Pool {
     {
         let p = self.places;
         look(places::ranked(p, link, rank))
-    }
-
-    // The sixteen bytes of that record.
-    pub fn read(self, link: u16, rank: usize) -> Reading
-        ensures { λ r. ⌜ r ≡ readingOf (rankedOf self link rank) ⌝ }
-    {
-        let p = self.places;
-        bytes_of(look(places::ranked(p, link, rank)))
     }
 
     // The link's record of that number is marked as sent.

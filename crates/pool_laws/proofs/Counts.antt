@@ -22,10 +22,6 @@ pub bit-le : (b : Bool) → bit b ≤ 1
 bit-le true = omega arith
 bit-le false = omega arith
 
-pub bit-pos : (b : Bool) → 0 < bit b → b ≡ true
-bit-pos true h = refl
-bit-pos false h = absurd (omega arith)
-
 pub bit-and : (a b : Bool) → a ≡ true → bit (both a b) ≡ bit b
 bit-and a b e = rw e
 

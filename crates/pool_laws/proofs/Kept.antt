@@ -1,6 +1,6 @@
 -- The promises of the pool are kept, for every number of links n with 16 n at most 128.
 -- Assumes nothing.
-use Prim.Native.Nat.{ℕ, suc, zero, _+_, _*_, _≤_, _<_}
+use Prim.Native.Nat.{ℕ, _+_, _*_, _≤_, _<_}
 use mathlib.Core.Path.{_≡_, refl}
 use mathlib.Core.List.{List, [], _∷_}
 use mathlib.Core.Bool.{Bool, true, false}
@@ -10,25 +10,21 @@ use native.Mathlib.Omega.{arith}
 use borrow.Author.Tests.{eqb-true, le-leb}
 use Rattle.basis.specs.Pick.{both, bit}
 use Rattle.basis.specs.Lists.Among.{first, later}
-use Rattle.basis.proofs.Cases.{eq-or-ne}
 use Rattle.basis.specs.Lists.{count, Among}
 use Rattle.entry.specs.declared.Entry.{Entry}
 use Rattle.pool.specs.declared.Place.{Place}
 use Rattle.pool.specs.declared.Pool.{Pool}
-use Rattle.pool.specs.declared.Wanted.the-variants.{Free, Older, Numbered}
+use Rattle.pool.specs.declared.Wanted.the-variants.{Older, Numbered}
 use Rattle.pool.specs.Places.{of, fits}
-use Rattle.pool.specs.Shares.{fullest}
-use Rattle.pool.specs.Pool.{emptyOf, heldIn, lostOf, issueOf, settleOf, markOf, unmarkOf}
+use Rattle.pool.specs.Pool.{emptyOf, lostOf, issueOf, settleOf, markOf, unmarkOf}
 use Rattle.pool_laws.specs.Acts.{Act, act, acts, May, next, nexts, Rising, newerThan}
 use Rattle.pool_laws.specs.Acts.Act.{Issue, Settle, Mark, Unmark}
 use Rattle.pool_laws.specs.Acts.Rising.{then}
 use Rattle.pool_laws.specs.Leaves.{Held, leftOver, NoSettle, SettlesFirst}
-use Rattle.pool_laws.specs.Promises.{Reached, Superseded, Promises, Fourth}
+use Rattle.pool_laws.specs.Promises.{Reached, Superseded, Promises}
 use Rattle.pool_laws.specs.Promises.Reached.{empty, after}
 use Rattle.pool_laws.proofs.Counts.{count-le, bit-le}
-use Rattle.pool.proofs.Fixed.{fullest-is}
-use Rattle.pool_laws.specs.View.{total}
-use Rattle.pool_laws.proofs.Fullest.{outside, every-place}
+use Rattle.pool_laws.proofs.Fullest.{outside}
 use Rattle.pool_laws.proofs.Inv.{Inv, starts, numbered-from}
 use Rattle.pool_laws.proofs.Issue.{places-after, stays, stays-past, held-new, issue-keeps}
 use Rattle.pool_laws.proofs.Other.{lost-same, settle-less, less-keeps, settle-only, settle-gone, mark-alike, unmark-alike, alike-numbered, alike-newer, alike-keeps}
@@ -187,23 +183,3 @@ module _ (n : ℕ) (small : 16 * n ≤ 128) where
         whole-new = λ p q r xs y s e a. whole-issued p q xs (reached-keeps p q r) y s e a;
         lost = λ f xs h r m. omega (arith, lost-acts (emptyOf n) f xs (starts n f h) r m, replicate-none m);
       }
-
-many : (held : ℕ → ℕ) (l : ℕ) → l < 4 → total held 4 ≡ 128 → held l < 16 → 38 ≤ held (fullest held 3)
-unfolding total
-many held zero k t h = omega (arith, fullest-is held 3 .most 1 (omega arith), fullest-is held 3 .most 2 (omega arith), fullest-is held 3 .most 3 (omega arith))
-many held (suc zero) k t h = omega (arith, fullest-is held 3 .most 0 (omega arith), fullest-is held 3 .most 2 (omega arith), fullest-is held 3 .most 3 (omega arith))
-many held (suc (suc zero)) k t h = omega (arith, fullest-is held 3 .most 0 (omega arith), fullest-is held 3 .most 1 (omega arith), fullest-is held 3 .most 3 (omega arith))
-many held (suc (suc (suc zero))) k t h = omega (arith, fullest-is held 3 .most 0 (omega arith), fullest-is held 3 .most 1 (omega arith), fullest-is held 3 .most 2 (omega arith))
-many held (suc (suc (suc (suc l)))) k t h = absurd (omega arith)
-
-pub fourth : Fourth
-fourth = record { another = λ p q r l k f h. at p q (reached-keeps 4 (omega arith) p q r) l k f h }
-  where
-    at : (p : Pool) (q : ℕ) → Inv 4 p q → (l : ℕ) → l < 4 → count (fits Free) (p .places) ≡ 0 → count (of l) (p .places) < 16 → (j : ℕ) × ((j < 4) × (38 ≤ count (of j) (p .places)))
-    at p q i l k f h = (
-      fullest (heldIn (p .places)) 3,
-      (
-        omega (arith, fullest-is (heldIn (p .places)) 3 .one),
-        many (heldIn (p .places)) l k (omega (arith, every-place 4 (p .places), i .size, i .owned)) h,
-      ),
-    )

@@ -16,6 +16,5 @@ pub mod ViewOther
 pub mod ViewAsk
 pub mod Order
 pub mod Viewed
-pub mod Contents
 pub mod BatchKept
 pub mod Entries

@@ -3,9 +3,8 @@
 -- Assumes nothing.
 use Prim.Native.Nat.{ℕ, _*_, _≤_, _<_}
 use mathlib.Core.Path.{_≡_}
-use Rattle.entry.specs.declared.Entry.{Entry}
 use Rattle.pool.specs.declared.Pool.{Pool}
-use Rattle.pool.specs.Pool.{heldOf, freeIn, issueOf}
+use Rattle.pool.specs.Pool.{heldOf, freeIn}
 use Rattle.pool_laws.specs.Promises.{Reached}
 
 -- of n links: "pool full, the link holds fewer than 16, no other link holds more than 16"
@@ -18,8 +17,3 @@ pub record Crowded (n : ℕ) (p : Pool) (l : ℕ) : Type 0 where
 -- 128 places are a least share for each of the links
 abbrev pub NeverCrowded : Type 0
 NeverCrowded = (n : ℕ) → 16 * n ≤ 128 → (p : Pool) (q : ℕ) → Reached n p q → (l : ℕ) → Crowded n p l → ⊥
-
--- What no acts leave: a full pool in which none of the n links holds a record. The rule names a link to lose its oldest, and it has none:
--- nothing changes.
-abbrev pub Foreign : Type 0
-Foreign = (n : ℕ) (p : Pool) (e : Entry) → e .link < n → freeIn (p .places) ≡ 0 → ((j : ℕ) → j < n → heldOf p j ≡ 0) → issueOf n p e ≡ p

@@ -5,7 +5,6 @@ pub mod Promises
 pub mod Crowded
 pub mod View
 pub mod Views
-pub mod Contents
 pub mod Batch
 pub mod BatchLaws
 pub mod Upwards

@@ -1,6 +1,6 @@
 -- What holds of the pool after every list of acts from the empty pool in which the numbers rise. Statements only: their proof is `kept`.
 -- Assumes nothing.
-use Prim.Native.Nat.{ℕ, _≤_, _<_}
+use Prim.Native.Nat.{ℕ, _≤_}
 use mathlib.Core.Path.{_≡_}
 use mathlib.Core.List.{List}
 use mathlib.Core.Logic.{_⊎_}
@@ -10,7 +10,7 @@ use Rattle.basis.specs.Lists.{count, Among}
 use Rattle.entry.specs.declared.Entry.{Entry}
 use Rattle.pool.specs.declared.Place.{Place}
 use Rattle.pool.specs.declared.Pool.{Pool}
-use Rattle.pool.specs.declared.Wanted.the-variants.{Free, Older, Numbered}
+use Rattle.pool.specs.declared.Wanted.the-variants.{Older, Numbered}
 use Rattle.pool.specs.Places.{of, fits}
 use Rattle.pool.specs.Pool.{emptyOf, lostOf}
 use Rattle.pool_laws.specs.Acts.{Act, act, acts, May, next, nexts, Rising, newerThan}
@@ -58,8 +58,3 @@ pub record Promises (n : ℕ) : Type 0 where
       → Held (acts n p xs) (e .link) (e .sequence) ⊎ (16 ≤ count (newerThan (e .link) (e .sequence)) (acts n p xs .places))
   -- a lost count is exactly the number of the link's records that left without a settle
   pub lost : (first : ℕ) (xs : List Act) → first ≤ 4294967296 → Rising n first xs → (m : ℕ) → lostOf (acts n (emptyOf n) xs) m ≡ leftOver n (emptyOf n) xs m
-
--- four links: a full pool in which one holds fewer than 16 leaves another with 38
-pub record Fourth : Type 0 where
-  pub another : (p : Pool) (q : ℕ) → Reached 4 p q → (l : ℕ) → l < 4 → count (fits Free) (p .places) ≡ 0 → count (of l) (p .places) < 16
-      → (j : ℕ) × ((j < 4) × (38 ≤ count (of j) (p .places)))

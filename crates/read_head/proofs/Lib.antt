@@ -3,4 +3,3 @@ pub mod Places
 pub mod Leaves
 pub mod Found
 pub mod Kept
-pub mod Meanings

@@ -3,4 +3,3 @@ pub mod Values
 pub mod Head
 pub mod Small
 pub mod Claims
-pub mod Meanings

@@ -8,11 +8,9 @@ use native.Mathlib.Omega.{arith}
 use lib.Dec.{eqb}
 use borrow.Author.Tests.{eqb-true, ne-eqb}
 use Rattle.basis.specs.Pick.{pick}
-use Rattle.basis.specs.Text.{text}
 use Rattle.number.specs.declared.Number.{Number}
 use Rattle.number.specs.declared.Number.the-variants.{Is, No}
 use Rattle.number.specs.Decimal.{digits}
-use Rattle.number.specs.Reading.{Reads}
 use Rattle.number.proofs.Reading.{reads-written}
 use Rattle.number.proofs.Digits.{Row, none, next, digits-row}
 use Rattle.read_versions.specs.Numeral.{numberIn}
@@ -142,17 +140,3 @@ reads s = by (versionOf s) refl
     by : (r : Number) → versionOf s ≡ r → ReadsVersion s r
     by (Is n) e = is n (version-read s n e)
     by No e = no (λ n w. let z : No ≡ Is n = sym e ∙ written w in let y : _≡_ {A = ℕ} 0 1 = cc in omega arith)
-
-pub reads-once : (s : List ℕ) (r : Number) → ReadsVersion s r → r ≡ versionOf s
-reads-once s (Is n) h = go h
-  where
-    go : ReadsVersion s (Is n) → Is n ≡ versionOf s
-    go (is n w) = sym (written w)
-reads-once s No h = by (versionOf s) refl (go h)
-  where
-    go : ReadsVersion s No → (n : ℕ) → Writes s n → ⊥
-    go (no f) = f
-
-    by : (r : Number) → versionOf s ≡ r → ((n : ℕ) → Writes s n → ⊥) → No ≡ versionOf s
-    by (Is n) e f = absurd (f n (version-read s n e))
-    by No e f = sym e

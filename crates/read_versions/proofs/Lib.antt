@@ -3,6 +3,4 @@ pub mod Dots
 pub mod Parts
 pub mod Exact
 pub mod Backwards
-pub mod Best
 pub mod Judging
-pub mod Kept

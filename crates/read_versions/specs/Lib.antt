@@ -2,5 +2,3 @@ pub mod Numeral
 pub mod Version
 pub mod Dot
 pub mod Judge
-pub mod Claims
-pub mod Marked

@@ -74,10 +74,6 @@ module _ {A : Type 0} where
   count-last f [] y = omega arith
   count-last f (x ∷ xs) y = omega (arith, count-last f xs y)
 
-  pub count-same : (f g : A → Bool) → ((x : A) → f x ≡ g x) → (xs : List A) → count f xs ≡ count g xs
-  count-same f g h [] = refl
-  count-same f g h (x ∷ xs) = rw (h x, count-same f g h xs)
-
   pub count-every : (xs : List A) → count (λ (x : A). true) xs ≡ length xs
   count-every [] = refl
   count-every (x ∷ xs) = omega (arith, count-every xs)

@@ -143,7 +143,7 @@ fn put_phase(line: &mut [u8], link: Link) -> usize {
     let end = put_number(line, 0, phase_number(link.phase()));
     let end = put_number(line, end, a.how_many() as u64);
     let end = put_bool(line, end, link.crowded());
-    put_bool(line, end, link.full())
+    put_bool(line, end, 16 <= a.how_many())
 }
 
 fn put_version(line: &mut [u8], at: usize, link: Link) -> usize {

@@ -54,40 +54,6 @@ pub issued-end : (s : Site) (es : List Entry) (time : ℕ) → withLast (issuedI
 unfolding issuedIn
 issued-end s es time = refl
 
--- what stays
-module _ (s : Site) (es : List Entry) where
-  pub issued-links : issuedIn s es .links ≡ s .links
-  unfolding issuedIn
-  issued-links = refl
-
-  pub issued-subscriptions : issuedIn s es .subscriptions ≡ s .subscriptions
-  unfolding issuedIn
-  issued-subscriptions = refl
-
-  pub issued-alarms : issuedIn s es .alarms ≡ s .alarms
-  unfolding issuedIn
-  issued-alarms = refl
-
-  pub issued-statuses : issuedIn s es .statuses ≡ s .statuses
-  unfolding issuedIn
-  issued-statuses = refl
-
-  pub issued-aggregated : issuedIn s es .aggregated ≡ s .aggregated
-  unfolding issuedIn
-  issued-aggregated = refl
-
-  pub issued-count : issuedIn s es .linkcount ≡ s .linkcount
-  unfolding issuedIn
-  issued-count = refl
-
-  pub issued-primary : issuedIn s es .primary ≡ s .primary
-  unfolding issuedIn
-  issued-primary = refl
-
-  pub issued-table : issuedIn s es .table ≡ s .table
-  unfolding issuedIn
-  issued-table = refl
-
 -- number 10 depends on the next number and on how many records there are
 pub spent-any : (p o : Pool) (q : ℕ) (es : List Entry) → issuedAll 4 p q es .spent ≡ issuedAll 4 o q es .spent
 spent-any p o q es = kept 4 (omega arith) .spent p q es ∙ sym (kept 4 (omega arith) .spent o q es)

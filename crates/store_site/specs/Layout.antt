@@ -19,9 +19,6 @@ use Rattle.store_words.specs.Narrow.{upper}
 use Rattle.store_site.specs.Rows.{placeIn, subscriptionIn, alarmIn, statusIn}
 use Rattle.store_link.specs.Rows.{linkIn}
 
-abbrev pub size : ℕ
-size = 1173
-
 unfoldable pub lostIn : List ℕ → List ℕ
 lostIn ws = listOf (λ (l : ℕ). word ws (5 + l)) 4
 

@@ -109,13 +109,6 @@ pub fn put_next(w: &mut [u64], n: u64)
     w[0] = n;
 }
 
-pub fn last(w: &[u64]) -> u64
-    requires { ⌜ length (now w) ≡ 1173 ⌝ }
-    ensures { λ r. ⌜ ((t : SiteTable) → r ≡ siteOf (now (w .entry)) t .last) ⌝ }
-{
-    w[1]
-}
-
 pub fn put_last(w: &mut [u64], n: u64)
     requires { ⌜ length (now w) ≡ 1173 ⌝ }
     ensures { λ _. ⌜ Turns (λ (s : Site). withLast s n) (now (w .entry)) (now (w .exit)) ⌝ }

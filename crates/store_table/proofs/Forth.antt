@@ -232,15 +232,3 @@ module _ (x : SiteTable) (f : TableFits x) where
   pub table-forth : tableOf (layoutOf x) ≡ x
   unfolding layoutOf
   table-forth = all-forth (headBytes x ++ lists) (λ j g. ap (word (headBytes x ++ lists)) (zero-add j))
-
-  pub layout-length : length (layoutOf x) ≡ 6178
-  unfolding layoutOf
-  layout-length =
-      length-append (headBytes x) lists
-      ∙ ap₂ (λ (m n : ℕ). m + n) head-long
-      (length-append (inTurn labelBytes (x .components)) (ls ++ (ss ++ ks))
-      ∙ ap₂ (λ (m n : ℕ). m + n) (labels-long (x .components) (f .components) (f .component))
-      (length-append ls (ss ++ ks)
-      ∙ ap₂ (λ (m n : ℕ). m + n) (items-long 32 (x .alarms) (f .alarms) (f .alarm))
-      (length-append ss ks
-      ∙ ap₂ (λ (m n : ℕ). m + n) (items-long 32 (x .statuses) (f .statuses) (f .status)) (items-long 16 (x .commands) (f .commands) (f .command)))))

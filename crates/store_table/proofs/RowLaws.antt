@@ -15,7 +15,7 @@ use Rattle.table_item.specs.Item.{noItem}
 use Rattle.table_whole.proofs.Kept.{full}
 use Rattle.store_words.specs.Words.{word, listOf}
 use Rattle.store_words.proofs.Elements.{list-at, list-is, list-length}
-use Rattle.store_table.specs.Layout.{countIn, labelIn, itemIn, labelsIn, itemsIn, tableOf}
+use Rattle.store_table.specs.Layout.{countIn, labelIn, itemIn, labelsIn, itemsIn}
 
 -- a part of the bytes
 part-is : (bs : List ℕ) (i n : ℕ) → i + n ≤ length bs → take n (drop i bs) ≡ listOf (λ (j : ℕ). word bs (i + j)) n
@@ -87,19 +87,3 @@ module _ (bs : List ℕ) (i : ℕ) where
 
       pub item-behind : n ≤ k → noItem ≡ getD (itemsIn bs i n) k noItem
       item-behind h = sym (List·getD-eq-default (itemsIn bs i n) noItem {n = k} (omega (arith, items-length n)))
-
-pub components-are : (bs : List ℕ) → tableOf bs .components ≡ labelsIn bs 74
-unfolding tableOf
-components-are bs = refl
-
-pub alarms-are : (bs : List ℕ) → tableOf bs .alarms ≡ itemsIn bs 338 32
-unfolding tableOf
-alarms-are bs = refl
-
-pub statuses-are : (bs : List ℕ) → tableOf bs .statuses ≡ itemsIn bs 2674 32
-unfolding tableOf
-statuses-are bs = refl
-
-pub commands-are : (bs : List ℕ) → tableOf bs .commands ≡ itemsIn bs 5010 16
-unfolding tableOf
-commands-are bs = refl

@@ -292,9 +292,6 @@ module _ (s : Site) (r : InRange s) where
   alarms-long : length alarms ≡ 64
   alarms-long = flat-length alarmWords (λ (n : ℕ). 2 * n) 2 refl (λ n. omega arith) (beginning 0) (s .alarms) (λ j h. alarm-long (alarmAt s j)) ∙ ap (λ (n : ℕ). 2 * n) (r .alarms)
 
-  statuses-long : length statuses ≡ 32
-  statuses-long = flat-length statusWords (λ (n : ℕ). n) 1 refl (λ n. omega arith) unknown (s .statuses) (λ j h. status-long (statusAt s j)) ∙ r .statuses
-
   -- behind the head, the counts, the places, ..
   in-first : (m : ℕ) → m < 5 → word ws m ≡ word (headWords s) m
   unfolding wordsOf

@@ -1,6 +1,5 @@
 pub mod Spans
 pub mod Back
 pub mod Forth
-pub mod Kept
 pub mod FillLaws
 pub mod ListLaws

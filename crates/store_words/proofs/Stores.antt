@@ -11,10 +11,6 @@ use Rattle.basis.proofs.Cases.{eq-or-ne}
 use Rattle.store_words.specs.Words.{word, stores, Stored}
 
 module _ (i : ℕ) where
-  pub stores-length : (vs ws : List ℕ) (k : ℕ) → length (stores ws i k vs) ≡ length ws
-  stores-length [] ws k = refl
-  stores-length (v ∷ vs) ws k = stores-length vs (set ws (i + k) v) (suc k) ∙ length-set ws (i + k) v
-
   before : (vs ws : List ℕ) (k j : ℕ) → j < i + k → word (stores ws i k vs) j ≡ word ws j
   before [] ws k j h = refl
   before (v ∷ vs) ws k j h = before vs (set ws (i + k) v) (suc k) j (omega arith) ∙ getD-set-other ws (i + k) j v 0 (λ q. omega (arith, q))

@@ -4,7 +4,7 @@ ghost use Prim.Native.Nat.{_%_, _^_};
 ghost use Rattle.basis.specs.Pick.{bit as bitOf};
 ghost use Rattle.bits.specs.Fields.{fieldOf, numberOf};
 ghost use lib.ListN.{take, drop};
-ghost use Rattle.store_words.specs.Narrow.{upper as upperOf, lower as lowerOf, pair as pairOf, quad as quadOf, identityFrom};
+ghost use Rattle.store_words.specs.Narrow.{upper as upperOf, lower as lowerOf, pair as pairOf, quad as quadOf};
 use identity::Identity;
 
 pub fn upper(x: u64) -> u32
@@ -45,32 +45,6 @@ pub fn bit(b: bool) -> u64
     ensures { λ r. ⌜ r ≡ bitOf b ⌝ }
 {
     if b { 1 } else { 0 }
-}
-
-// The identity that two words are.
-pub fn identity(a: u64, b: u64) -> Identity
-    ensures { λ r. ⌜ r ≡ identityFrom a b ⌝ }
-{
-    Identity {
-        bytes: [
-            bits::byte(a, 56),
-            bits::byte(a, 48),
-            bits::byte(a, 40),
-            bits::byte(a, 32),
-            bits::byte(a, 24),
-            bits::byte(a, 16),
-            bits::byte(a, 8),
-            bits::byte(a, 0),
-            bits::byte(b, 56),
-            bits::byte(b, 48),
-            bits::byte(b, 40),
-            bits::byte(b, 32),
-            bits::byte(b, 24),
-            bits::byte(b, 16),
-            bits::byte(b, 8),
-            bits::byte(b, 0),
-        ],
-    }
 }
 
 // The first and the second eight bytes of an identity.

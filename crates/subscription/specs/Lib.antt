@@ -1,2 +1,1 @@
 pub mod Subscription
-pub mod History
