@@ -1,6 +1,6 @@
 """Random acts on a link, with the answers of the model in tests/model/link.py.
 
-  links.py --write     writes the stored cases and answers of the program `linkacts`
+  links.py --write     writes the stored cases and answers of the program `run_links`
   links.py --stored    checks that the stored ones are what this script makes
   links.py --fresh [SEED]   runs random act lists through the program
 

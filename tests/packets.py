@@ -1,7 +1,7 @@
 """Packets and what a JSON parser that nobody here wrote makes of them: Python's, behind a strict UTF-8 decoding and with
 document 01's additions (one object, eight levels, no lone surrogate, no name twice).
 
-  packets.py --write     writes the stored packets and answers of the program `packets`
+  packets.py --write     writes the stored packets and answers of the program `run_packets`
   packets.py --stored    checks that the stored ones are what this script makes
   packets.py --fresh [SEED]   runs random packets through the program
 

@@ -1,6 +1,6 @@
 """Random acts on the pool, with the answers of the model in tests/model/pool.py.
 
-  pools.py --write     writes the stored cases and answers of the program `poolacts`
+  pools.py --write     writes the stored cases and answers of the program `run_pool`
   pools.py --stored    checks that the stored ones are what this script makes
   pools.py --fresh [SEED]   runs random act lists through the program
 """

@@ -41,6 +41,12 @@ def wait(test, what, seconds=20):
         time.sleep(0.02)
 
 
+def told(reply):
+    """What a reply tells behind the word that says that its order was done; one that was refused is given whole."""
+    hold(reply.startswith(("done", "refused: ")) or not reply, f"a reply begins with neither done nor refused: {reply!r}")
+    return reply[len("done: "):] if reply.startswith("done: ") else reply
+
+
 def subscription(name="release", code="S0101", rate="0", change=True):
     return {"cId": NORTH, "sS": [{"sCI": code, "n": name, "uRt": rate, "sOc": change}]}
 
@@ -91,10 +97,10 @@ class Process:
                 raise Dead
             hold(time.monotonic() < end, f"no reply to {line!r}")
             time.sleep(0.005)
-        return self.said[-1]
+        return told(self.said[-1])
 
     def replies(self):
-        return list(self.said)
+        return [told(reply) for reply in self.said]
 
     def quit(self):
         hold(self.order("quit") == "goodbye", "quit is not taken")
@@ -164,7 +170,7 @@ class Control:
     def order(self, line):
         self.stream.write(line + "\n")
         self.stream.flush()
-        return self.stream.readline().rstrip("\n")
+        return told(self.stream.readline().rstrip("\n"))
 
     def close(self):
         self.stream.close()

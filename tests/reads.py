@@ -1,6 +1,6 @@
 """Packets of every taken type, good, spoiled and damaged, and what they say by the rules of tests/model/message.py.
 
-  reads.py --write     writes the stored packets and answers of the program `reads`
+  reads.py --write     writes the stored packets and answers of the program `run_reads`
   reads.py --stored    checks that the stored ones are what this script makes
   reads.py --fresh [SEED]   runs random packets through the program
 

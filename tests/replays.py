@@ -13,6 +13,7 @@ import sys
 import time
 
 import lives
+import packets
 from cases import ROOT
 from model import message, table
 from model.site import LAST_SEQUENCE
@@ -490,6 +491,44 @@ def many_members():
     return hand.done()
 
 
+def twin(name, key):
+    """Another name with its mark under the key (packets.mark): the last character but one is one less, the last the key more."""
+    other = name[:-2] + chr(ord(name[-2]) - 1) + chr(ord(name[-1]) + key)
+    assert packets.mark(other.encode(), key) == packets.mark(name.encode(), key)
+    return other
+
+
+def equal_marks():
+    """Names that differ and have equal marks with the key of their own call, its first four random bytes: each is told from the other, whether it
+    is an element that is looked for or not, and one that comes twice among them is found."""
+    hand = Hand()
+    supervisor = hand.supervisor
+    hand.up(0)
+    hand.sent_out(0)
+
+    def told(members, *others):
+        """Before all members, and behind them."""
+        for place in (0, len(members)):
+            key = hand.count + 1
+            added = [(name if own else twin(name, key), "other") for name, own in others]
+            hand.tell(0, members[:place] + added + members[place:])
+
+    for request in (lambda: supervisor.watchdog(hand.time), lambda: supervisor.order("Suspend", 1), lambda: supervisor.of_statuses("StatusRequest", 1)):
+        for name, _ in request():
+            told(request(), (name, False))
+            told(request(), (name, False), (name, False))
+            hand.sent_out(0)
+    for others in (("some", "some"), ("some", "one", "some"), ("one", "some", "two", "one", "some")):
+        told(supervisor.watchdog(hand.time), *((name, bool(place % 2)) for place, name in enumerate(others)))
+        told(supervisor.watchdog(hand.time), *((name, True) for name in others))
+    for inside in ('{"some":0,"%s":0}', '[{"%s":0,"one":0,"some":0}]', '{"some":{"%s":0}}', '{"%s":0,"some":0,"%s":0}'):
+        raw = inside.replace("%s", twin("some", hand.count + 1)).encode()
+        packet = supervisor.written(supervisor.watchdog(hand.time) + [("x", None)]).replace(b'"x":null', b'"x":' + raw)
+        assert raw in packet
+        hand.player.packet(0, hand.time, hand.random(), packet)
+    return hand.done()
+
+
 def editions():
     """Starts with tables of both editions: heads of the other's length, commands at their limits, the longest table."""
     player = Player()
@@ -610,7 +649,7 @@ def commands_of_edition_1():
 
 STORED = (start_limits, checks_in_order, without_packets, sequence_end, time_end, whole_life, decimals_of_a_watchdog, awaited_too_long,
           lengths, every_reason, numbers_of_a_link, closing_answers, alarm_orders, errors_met, filled_pool, late_answer, old_is_old,
-          many_members, editions, commands, commands_refused, commands_of_edition_1)
+          many_members, equal_marks, editions, commands, commands_refused, commands_of_edition_1)
 
 
 def texts(player):

@@ -1,7 +1,7 @@
 """Random acts on one alarm, one status with one subscription to it, and the aggregated value, with the answers of the model in
 tests/model/alarm.py.
 
-  rules.py --write     writes the stored cases and answers of the program `ruleacts`
+  rules.py --write     writes the stored cases and answers of the program `run_rules`
   rules.py --stored    checks that the stored ones are what this script makes
   rules.py --fresh [SEED]   runs random act lists through the program
 

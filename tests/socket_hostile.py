@@ -120,7 +120,7 @@ def long_orders(room):
     for _ in range(24):
         control.socket.sendall(b"x" * (1 << 20))
     grown = process.resident() - before
-    hold(control.order("") == "an order has at most 1024 bytes", "a long order")
+    hold(control.order("") == "refused: an order has at most 1024 bytes", "a long order")
     hold(grown < 4 << 20, f"a long order takes {grown} bytes")
     hold(control.order("alarm 0 on") == "done" and control.order("quit") == "goodbye", "the order after a long one")
     process.ended()

@@ -1,6 +1,6 @@
 """Site tables, good, at their limits and damaged, and lookups in them, with the answers of the reader in tests/model/table.py.
 
-  tables.py --write     writes the stored cases and answers of the program `tables`
+  tables.py --write     writes the stored cases and answers of the program `run_tables`
   tables.py --stored    checks that the stored ones are what this script makes
   tables.py --fresh [SEED]   runs random tables, damaged ones and longer sweeps through the program
 """

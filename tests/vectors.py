@@ -1,7 +1,7 @@
 """Vectors of the leaves: times, identities, numbers, labels, records and names, with the answers of Python's own datetime,
 uuid, struct and int.
 
-  vectors.py --write     writes the stored cases and answers of the program `vectors`
+  vectors.py --write     writes the stored cases and answers of the program `run_vectors`
   vectors.py --stored    checks that the stored ones are what this script makes
   vectors.py --fresh [SEED]   runs random cases, and the first and last millisecond of every month, through the program
 """

@@ -1,6 +1,6 @@
 """The fields of written messages, and the messages as Python's json writes them (tests/model/message.py).
 
-  writes.py --write     writes the stored cases and answers of the program `writes`
+  writes.py --write     writes the stored cases and answers of the program `run_writes`
   writes.py --stored    checks that the stored ones are what this script makes
   writes.py --fresh [SEED]   runs random messages through the program
 

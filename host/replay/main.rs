@@ -17,7 +17,8 @@ const USAGE: &str = "rsmp-replay: plays a script of calls on a site
 
   rsmp-replay <SCRIPT                plays it and prints one line per call
   rsmp-replay --picture [SCRIPT]     plays it and prints a picture of it (SVG): phases, records issued, sent, answered, held and lost,
-                                     commands handed over
+                                     commands handed over, alarms active
+  rsmp-replay --stream LINK [SCRIPT]   plays it and writes what the link's supervisor was sent, as rsmp-week reads it
   rsmp-replay --version | --help
 
 Lines, - standing for empty bytes or no primary:
@@ -37,6 +38,7 @@ enum End {
     Violation,
     BadLine(usize, String),
     Broken(io::Error),
+    Words(String),
 }
 
 impl From<io::Error> for End {
@@ -51,6 +53,7 @@ impl End {
             End::Violation => return ExitCode::from(1),
             End::BadLine(number, message) => eprintln!("rsmp-replay: line {}: {}", number, message),
             End::Broken(error) => eprintln!("rsmp-replay: {}", error),
+            End::Words(message) => eprintln!("rsmp-replay: {}", message),
         }
         ExitCode::from(2)
     }
@@ -94,6 +97,23 @@ fn picture(input: impl BufRead) -> Result<(), End> {
     played
 }
 
+/// What was sent on a link, to the first line that cannot be played.
+fn stream(input: impl BufRead, wanted: u32) -> Result<(), End> {
+    let mut output = io::stdout().lock();
+    play(input, |line, _, player| match line {
+        Line::Packet { link, .. } | Line::Pump { link, .. } if *link == wanted => output.write_all(player.written()),
+        _ => Ok(()),
+    })?;
+    Ok(output.flush()?)
+}
+
+fn stream_of(link: &str, input: Result<impl BufRead, io::Error>) -> Result<(), End> {
+    match link.parse() {
+        Ok(link) if link < rsmp_site::LINKS => stream(input?, link),
+        _ => Err(End::Words(format!("--stream: wanted a link's number, 0 to {}, not '{}'", rsmp_site::LINKS - 1, link.escape_default()))),
+    }
+}
+
 fn main() -> ExitCode {
     let words: Vec<String> = std::env::args_os().skip(1).map(|word| word.to_string_lossy().into_owned()).collect();
     let words: Vec<&str> = words.iter().map(String::as_str).collect();
@@ -101,6 +121,8 @@ fn main() -> ExitCode {
         [] => answers(io::stdin().lock()),
         ["--picture"] => picture(io::stdin().lock()),
         ["--picture", name] => File::open(name).map_err(End::Broken).and_then(|file| picture(BufReader::new(file))),
+        ["--stream", link] => stream_of(link, Ok(io::stdin().lock())),
+        ["--stream", link, name] => stream_of(link, File::open(name).map(BufReader::new)),
         ["--version" | "-V"] => {
             println!("rsmp-replay {}", env!("RSMP_VERSION"));
             Ok(())

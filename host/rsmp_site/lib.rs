@@ -10,6 +10,7 @@ extern crate std;
 
 mod commands;
 pub mod ffi;
+mod inside;
 mod refusal;
 mod stored;
 
@@ -17,6 +18,7 @@ pub use commands::{Command, Commands};
 use core::fmt;
 pub use ffi::SITE_BYTES;
 use ffi::{Block, COMMAND_WORDS, TABLE_BYTES, WORDS};
+pub use inside::{AlarmState, Subscription};
 pub use refusal::Refusal;
 pub use stored::{check_sum, NotStored, SITE_EDITION, STORED_BYTES};
 

@@ -1,6 +1,7 @@
 //! The safe crate over the library, run on x86-64: sizes on this side of the calling convention, typed refusals, clones.
 
-use rsmp_site::{ffi, Command, NotStored, Phase, Refusal, Report, Site, Start, LAST_TIME, OUTPUT_BYTES, SITE_BYTES, STORED_BYTES};
+use rsmp_site::{ffi, AlarmState, Command, NotStored, Phase, Refusal, Report, Site, Start, Subscription};
+use rsmp_site::{LAST_TIME, OUTPUT_BYTES, SITE_BYTES, STORED_BYTES};
 use std::mem::{align_of, size_of};
 
 const TABLE: &[u8] = include_bytes!("../../examples/barrier.bits");
@@ -168,8 +169,12 @@ const THEIRS: &str = "6f968141-4de5-42ff-8032-45f8093762c5";
 
 /// A supervisor's message, `more` being what stands behind its identity.
 fn told(site: &mut Site, kind: &str, more: &str) -> Report {
+    told_at(site, NOON, kind, more)
+}
+
+fn told_at(site: &mut Site, time: u64, kind: &str, more: &str) -> Report {
     let packet = format!("{{\"mType\":\"rSMsg\",\"type\":\"{}\",\"mId\":\"{}\",{}}}", kind, THEIRS, more);
-    site.packet(0, NOON, [9; 16], packet.as_bytes(), &mut [0; OUTPUT_BYTES]).expect("it is taken")
+    site.packet(0, time, [9; 16], packet.as_bytes(), &mut [0; OUTPUT_BYTES]).expect("it is taken")
 }
 
 /// A site whose link 0 is Up.
@@ -220,4 +225,25 @@ fn commands_are_handed_over() {
     let unknown = asked(&raise).replace("481BR001", "481BR009");
     assert!(told(&mut up(COMMANDS), "CommandRequest", &unknown).commands.is_empty());
     assert!(told(&mut up(TABLE), "CommandRequest", &asked(&raise)).commands.is_empty());
+}
+
+#[test]
+fn what_stands_inside() {
+    let mut site = up(TABLE);
+    let quiet = AlarmState { active: false, acknowledged: true, suspended: false, time: NOON };
+    assert_eq!((site.alarm_state(5), site.alarm_state(32)), (Some(quiet), None));
+    assert!(site.alarm(2, true, NOON + 1).is_ok() && site.aggregated(0x81, NOON + 1).is_ok());
+    let wanted = AlarmState { active: true, acknowledged: false, suspended: false, time: NOON + 1 };
+    assert_eq!((site.alarm_state(2), site.aggregated_value()), (Some(wanted), 0x81));
+    let suspend = "\"cId\":\"O+14439=481BR001\",\"aCId\":\"A0101\",\"xACId\":\"\",\"xNACId\":\"\",\"aSp\":\"Suspend\"";
+    told_at(&mut site, NOON + 2, "Alarm", suspend);
+    assert_eq!(site.alarm_state(2), Some(AlarmState { suspended: true, time: NOON + 2, ..wanted }));
+    assert_eq!((site.status_value(1), site.subscription(0, 1)), (None, None));
+    assert!(site.status(1, -190, NOON + 2).is_ok());
+    assert_eq!((site.status_value(1), site.status_value(0), site.status_value(32)), (Some(-190), None, None));
+    let entries = "{\"sCI\":\"S0101\",\"n\":\"release\",\"uRt\":\"60\",\"sOc\":true},{\"sCI\":\"S0101\",\"n\":\"release limit\",\"uRt\":\"5\",\"sOc\":false}";
+    told_at(&mut site, NOON + 2, "StatusSubscribe", &format!("\"cId\":\"O+14439=481BR001\",\"sS\":[{}]", entries));
+    assert_eq!(site.subscription(0, 1), Some(Subscription { seconds: 60, on_change: true }));
+    assert_eq!(site.subscription(0, 2), Some(Subscription { seconds: 5, on_change: false }));
+    assert_eq!((site.subscription(1, 1), site.subscription(4, 1), site.subscription(0, 32)), (None, None, None));
 }

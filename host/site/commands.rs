@@ -1,6 +1,7 @@
 //! What supervisors command: a line of the log each, and a program that is run for each, one after the other in the order in which they came over
 //! all links. The site does not wait for it. Commands that find no room are not taken, so what is acknowledged is run or told of.
 
+use crate::counted::{Counted, Ran};
 use crate::journal::Level;
 use crate::system::{in_own_group, kill_group};
 use rsmp_site::Command as Handed;
@@ -139,17 +140,16 @@ impl Commands {
 
     /// How it stands, where the table has commands.
     pub fn counts(&self) -> Option<String> {
+        self.counted().map(|counted| counted.said())
+    }
+
+    pub fn counted(&self) -> Option<Counted> {
         if self.table.is_empty() {
             return None;
         }
-        let handed = format!("{} handed over", self.handed);
-        if !self.runs_a_program {
-            return Some(handed);
-        }
         let shared = locked(&self.queue);
-        let (waiting, runs) = (shared.waiting.len(), if shared.runs { "one runs" } else { "none runs" });
-        let ended = format!("{} done, {} failed", shared.done, shared.failed);
-        Some(format!("{}: {}, {}, {} wait; {} not taken", handed, ended, runs, waiting, self.not_taken))
+        let ran = Ran { done: shared.done, failed: shared.failed, runs: shared.runs, waiting: shared.waiting.len() as u64 };
+        Some(Counted { handed: self.handed, not_taken: self.not_taken, ran: Some(ran).filter(|_| self.runs_a_program) })
     }
 
     /// What waits is still run until then; what runs then is ended. What was not run is told of.

@@ -1,5 +1,6 @@
 //! Where orders come from: standard input or a Unix socket. Each is answered with a line.
 
+use crate::access::Access;
 use crate::outlet::Outlet;
 use crate::system::with_private_files;
 use crate::wires::Event;
@@ -44,7 +45,7 @@ pub struct Socket {
 }
 
 /// Takes a path for a socket of our own; what stands there must be a socket that nobody serves.
-pub fn listen(path: &str) -> Result<(UnixListener, Socket), String> {
+pub fn listen(path: &str, access: &Access) -> Result<(UnixListener, Socket), String> {
     let told = |error: io::Error| format!("{}: {}", path, error);
     if let Ok(found) = fs::symlink_metadata(path) {
         if !found.file_type().is_socket() {
@@ -58,6 +59,7 @@ pub fn listen(path: &str) -> Result<(UnixListener, Socket), String> {
     }
     let listener = with_private_files(|| UnixListener::bind(path)).map_err(told)?;
     let inode = fs::symlink_metadata(path).map_err(told)?.ino();
+    access.give(path)?;
     let path = path.to_string();
     Ok((listener, Socket { path, inode }))
 }
@@ -94,7 +96,7 @@ pub fn from_socket(listener: UnixListener, events: SyncSender<Event>) {
 fn serve_aside(mut stream: UnixStream, events: &SyncSender<Event>, served: &Arc<AtomicUsize>) {
     let _ = stream.set_write_timeout(Some(REPLY_WAIT));
     if served.fetch_add(1, Ordering::Relaxed) >= MOST_STREAMS {
-        let _ = writeln!(stream, "too many connections, try again later");
+        let _ = writeln!(stream, "refused: too many connections, try again later");
         served.fetch_sub(1, Ordering::Relaxed);
         return;
     }
@@ -113,7 +115,7 @@ fn serve(mut input: impl BufRead, events: &SyncSender<Event>, mut out: impl FnMu
         let line = match line {
             Line::Whole(bytes) => String::from_utf8_lossy(&bytes).into_owned(),
             Line::TooLong => {
-                if !out("an order has at most 1024 bytes") {
+                if !out("refused: an order has at most 1024 bytes") {
                     return;
                 }
                 continue;

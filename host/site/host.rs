@@ -2,12 +2,15 @@
 
 use crate::calls::Calls;
 use crate::commands::{Commands, MOST_WAITING};
+use crate::drain::Drain;
 use crate::framing::{Frame, FORM_FEED};
 use crate::journal::{Journal, Level};
 use crate::options::Options;
 use crate::readable::{kind, value_of};
+use crate::show::{About, OfLink};
 use crate::wires::{Closing, Event, Wire, NOT_READ};
-use rsmp_site::{Called, Phase, Refusal, Report, COMMANDS};
+use rsmp_site::{Called, Phase, Refusal, Report, Site, COMMANDS};
+use rsmp_table::Table;
 use std::fmt::Display;
 use std::sync::mpsc::Receiver;
 use std::time::{Duration, Instant};
@@ -22,7 +25,7 @@ const CLOCK_LINES: Duration = Duration::from_secs(60);
 
 /// One supervisor.
 pub struct Link {
-    address: String,
+    pub address: String,
     wire: Option<Wire>,
     since: Instant,
     up: bool,
@@ -35,8 +38,26 @@ pub struct Link {
     clock_said: Option<Instant>,
 }
 
+impl Link {
+    pub fn shown(&self, site: &Site, number: u32) -> OfLink {
+        OfLink {
+            address: self.address.clone(),
+            phase: site.phase(number),
+            version: site.version(number),
+            held: site.held(number),
+            lost: site.lost(number),
+            connections: self.connections,
+            sent: self.sent,
+            received: self.received,
+            unanswered: self.unanswered,
+        }
+    }
+}
+
 pub struct Host {
     pub calls: Calls,
+    pub about: About,
+    pub drain: Drain,
     journal: Journal,
     pub links: Vec<Link>,
     pub commands: Commands,
@@ -48,7 +69,7 @@ pub struct Host {
 }
 
 impl Host {
-    pub fn new(calls: Calls, commands: Commands, journal: Journal, options: &Options) -> Host {
+    pub fn new(calls: Calls, commands: Commands, journal: Journal, table: Table, options: &Options) -> Host {
         let link = |address: &String| Link {
             address: address.clone(),
             wire: None,
@@ -63,6 +84,8 @@ impl Host {
         };
         Host {
             calls,
+            about: About { table, primary: options.primary, began: Instant::now() },
+            drain: Drain::new(options.drain),
             journal,
             links: options.supervisors.iter().map(link).collect(),
             commands,
@@ -82,7 +105,7 @@ impl Host {
         self.journal.say(now, level, Some(link), text);
     }
 
-    fn say_of_site(&mut self, level: Level, text: impl Display) {
+    pub fn say_of_site(&mut self, level: Level, text: impl Display) {
         let now = self.calls.now();
         self.journal.say(now, level, None, text);
     }
@@ -403,17 +426,19 @@ impl Host {
         while self.closing.iter().any(|closing| !closing.done()) && Instant::now() < until {
             std::thread::sleep(Duration::from_millis(10));
         }
-        self.journal.outlet.line("summary");
+        let now = self.calls.now();
+        self.journal.summary(now, "summary");
         if let Some(counts) = self.commands.counts() {
-            self.journal.outlet.line(&format!("  commands {}", counts));
+            self.journal.summary(now, &format!("  commands {}", counts));
         }
         for (number, link) in self.links.iter().enumerate() {
             let site = &self.calls.site;
             let (held, lost) = (site.held(number as u32), site.lost(number as u32));
-            self.journal.outlet.line(&format!(
+            let text = format!(
                 "  link {} {}: {} connections, {} messages sent, {} received, {} of them not answered, {} records held, {} lost",
                 number, link.address, link.connections, link.sent, link.received, link.unanswered, held, lost
-            ));
+            );
+            self.journal.summary(now, &text);
         }
     }
 }

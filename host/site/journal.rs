@@ -1,5 +1,6 @@
 //! The readable log: a line each, with date and UTC.
 
+use crate::form::Form;
 use crate::outlet::Outlet;
 use crate::readable::{clean, detail, kind};
 use std::fmt::Display;
@@ -30,7 +31,7 @@ impl FromStr for Level {
 }
 
 impl Level {
-    fn name(self) -> &'static str {
+    pub fn name(self) -> &'static str {
         LEVELS[self as usize].0
     }
 }
@@ -38,6 +39,7 @@ impl Level {
 pub struct Journal {
     pub level: Level,
     pub outlet: Outlet,
+    pub form: Form,
 }
 
 impl Journal {
@@ -49,10 +51,8 @@ impl Journal {
         if !self.says(level) {
             return;
         }
-        let whose = link.map_or("site  ".to_string(), |link| format!("link {}", link));
         let text = clean(&text.to_string());
-        let line = format!("{} {:<7} {}  {}", moment(time), level.name(), whose, text);
-        self.outlet.line(&line);
+        self.outlet.line(&self.form.line(time, level, link, &text));
     }
 
     /// A message; `mark` is > for sent, < for received, ! for received and not answered.
@@ -61,11 +61,15 @@ impl Journal {
             return;
         }
         let text = String::from_utf8_lossy(message);
-        let line = format!("{} {:<18} {}", mark, kind(&text), detail(&text));
-        self.say(time, Level::Message, Some(link), line.trim_end());
+        self.outlet.line(&self.form.message(time, link, mark, &kind(&text), &clean(&detail(&text))));
         if self.says(Level::Debug) {
             self.say(time, Level::Debug, Some(link), format!("{} {}", mark, text));
         }
+    }
+
+    /// Of the end, at every level.
+    pub fn summary(&self, time: u64, text: &str) {
+        self.outlet.line(&self.form.summary(time, text));
     }
 }
 

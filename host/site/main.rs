@@ -1,12 +1,19 @@
 //! The site as a process: TCP to the supervisors, orders from the cabinet, a log.
 
+mod access;
 mod calls;
+mod check;
 mod clock;
 mod commands;
 mod control;
+mod counted;
+mod drain;
+mod form;
 mod framing;
 mod host;
 mod journal;
+mod json;
+mod metrics;
 mod notify;
 mod obey;
 mod options;
@@ -16,16 +23,21 @@ mod pauses;
 mod random;
 mod readable;
 mod record;
+mod send;
+mod show;
 mod signals;
 mod state;
 mod system;
 mod wires;
 
+use access::Access;
 use calls::{Calls, Kit};
 use clock::Clock;
 use commands::Commands;
+use form::Form;
 use host::Host;
 use journal::{Journal, Level};
+use metrics::Metrics;
 use notify::Notifier;
 use options::{Options, Wanted};
 use outlet::Outlet;
@@ -69,11 +81,36 @@ fn commands_of(options: &Options, table: &Table) -> Result<Commands, String> {
     Commands::new(table, options.on_command.clone(), options.command_limit).map_err(|error| error.to_string())
 }
 
+fn start_of(options: &Options) -> Start {
+    Start { links: options.supervisors.len() as u32, primary: options.primary, period: options.period, first: options.first, time: 0 }
+}
+
+/// Prints what a start would do; false where it would not go on with all that it had.
+fn check(options: Options) -> Result<bool, String> {
+    let table = table_of(&options.table)?;
+    commands_of(&options, &table)?;
+    let (lines, good) = check::check(&options, &table, &start_of(&options));
+    print(&(lines.join("\n") + "\n"));
+    Ok(good)
+}
+
+/// The log, and in which form.
+fn journal_of(options: &Options, replies: &Outlet) -> Result<Journal, String> {
+    let (outlet, form) = match &options.log {
+        Some(name) => (Outlet::file(name.into()).map_err(|error| format!("{}: {}", name, error))?, Form::Text),
+        None => (replies.clone(), Form::of_standard_output()),
+    };
+    let form = if options.json { Form::Json } else { form };
+    if form == Form::Json {
+        outlet.lines_are_json();
+    }
+    Ok(Journal { level: options.level, outlet, form })
+}
+
 /// The calls, and what is to be said of the state that was found.
 fn calls_of(options: &Options, table: Vec<u8>) -> Result<(Calls, Option<(Level, String)>), String> {
     let named = |name: &str, error: io::Error| format!("{}: {}", name, error);
-    let start =
-        Start { links: options.supervisors.len() as u32, primary: options.primary, period: options.period, first: options.first, time: 0 };
+    let start = start_of(options);
     let (mut store, mut stored, mut said) = (None, None, None);
     if let Some(path) = &options.state {
         let (opened, found) = Store::open(path, options.state_interval, &table, &start)?;
@@ -113,15 +150,13 @@ fn run(options: Options) -> Result<(), String> {
     let commands = commands_of(&options, &table)?;
     let (calls, said) = calls_of(&options, bits::write(&table))?;
     let replies = Outlet::standard_output();
-    let log = match &options.log {
-        Some(name) => Outlet::file(name.into()).map_err(|error| format!("{}: {}", name, error))?,
-        None => replies.clone(),
-    };
-    let journal = Journal { level: options.level, outlet: log.clone() };
+    let journal = journal_of(&options, &replies)?;
+    let log = journal.outlet.clone();
     let (sender, events) = sync_channel(EVENTS);
     let socket = match &options.control {
         Some(path) => {
-            let (listener, socket) = control::listen(path)?;
+            let access = Access { mode: options.control_mode, group: options.control_group.clone() };
+            let (listener, socket) = control::listen(path, &access)?;
             control::from_socket(listener, sender.clone());
             Some(socket)
         }
@@ -131,7 +166,8 @@ fn run(options: Options) -> Result<(), String> {
         }
     };
     signals::listen();
-    let mut host = Host::new(calls, commands, journal, &options);
+    let mut host = Host::new(calls, commands, journal, table, &options);
+    let mut metrics = options.metrics.as_ref().map(|path| Metrics::begin(path, sender.clone()));
     host.say_beginning(VERSION, said);
     for (number, address) in options.supervisors.iter().enumerate() {
         let pauses = Pauses::new(options.reconnect, options.reconnect_limit);
@@ -140,7 +176,7 @@ fn run(options: Options) -> Result<(), String> {
     let mut notifier = Notifier::of_environment();
     notifier.tell("READY=1");
     let mut next_tick = Instant::now() + TICK;
-    while !host.is_quitting() && !signals::ending() {
+    while !host.is_over(signals::ending()) {
         match events.recv_timeout(next_tick.saturating_duration_since(Instant::now())) {
             Ok(event) => host.take(event),
             Err(RecvTimeoutError::Timeout) => {}
@@ -152,6 +188,9 @@ fn run(options: Options) -> Result<(), String> {
         }
         host.pump();
         host.go_on();
+        if let Some(metrics) = &mut metrics {
+            metrics.write_where_due(|| host.shown().metrics());
+        }
         if signals::take_reopening() {
             host.reopen();
         }
@@ -159,6 +198,9 @@ fn run(options: Options) -> Result<(), String> {
     }
     notifier.tell("STOPPING=1");
     host.goodbye();
+    if let Some(metrics) = metrics {
+        metrics.end();
+    }
     if let Some(socket) = socket {
         socket.remove();
     }
@@ -177,15 +219,26 @@ fn complain(text: &str) {
     let _ = writeln!(io::stderr(), "rsmp-site: {}", text);
 }
 
+/// 1 where it was not done, or not well.
+fn status(done: Result<bool, String>) -> ExitCode {
+    if let Err(message) = &done {
+        complain(message);
+    }
+    ExitCode::from(u8::from(done != Ok(true)))
+}
+
 fn main() -> ExitCode {
     match options::read(std::env::args_os().skip(1)) {
         Ok(Wanted::Help) => print(options::HELP),
         Ok(Wanted::Version) => print(&format!("rsmp-site {}\n", VERSION)),
-        Ok(Wanted::Run(options)) => {
-            if let Err(message) = run(options) {
-                complain(&message);
-                return ExitCode::from(1);
-            }
+        Ok(Wanted::Run(options)) => return status(run(options).map(|()| true)),
+        Ok(Wanted::Check(options)) => return status(check(options)),
+        Ok(Wanted::Send(path, order)) => {
+            let sent = send::send(&path, &order);
+            return status(sent.map(|(reply, done)| {
+                print(&reply);
+                done
+            }));
         }
         Err(message) => {
             complain(&format!("{}\nrsmp-site --help says more", message));

@@ -3,19 +3,20 @@
 use crate::control::Asked;
 use crate::host::Host;
 use crate::orders::{self, Order};
+use crate::send::followed;
 use rsmp_site::{Called, Phase, Refusal};
 use std::sync::mpsc::channel;
 
 impl Host {
     pub fn answer(&mut self, asked: Asked) {
         let (gone, written) = channel();
-        let text = match orders::read(&asked.line) {
+        let text = match orders::read(&asked.line, &self.about.table) {
             Ok(Order::Quit) => {
                 self.quitting = Some(written);
-                "goodbye".to_string()
+                "done: goodbye".to_string()
             }
             Ok(order) => self.obey(order),
-            Err(message) => message,
+            Err(message) => format!("refused: {}", message),
         };
         self.calls.save_before_it_is_seen();
         let _ = asked.reply.send((text, gone));
@@ -23,10 +24,14 @@ impl Host {
 
     fn obey(&mut self, order: Order) -> String {
         let mut called = match order {
-            Order::Counts => return self.counts(),
-            Order::Links => return self.phases(),
-            Order::Commands => return self.commands.counts().unwrap_or_else(|| "the table has no commands".to_string()),
-            Order::Help | Order::Quit => return orders::HELP.to_string(),
+            Order::Counts => return format!("done: {}", self.counts()),
+            Order::Links => return format!("done: {}", self.phases()),
+            Order::Commands => {
+                return format!("done: {}", self.commands.counts().unwrap_or_else(|| "the table has no commands".to_string()))
+            }
+            Order::Show => return followed(&self.shown().lines()),
+            Order::ShowJson => return followed(&[self.shown().json()]),
+            Order::Help | Order::Quit => return format!("done: {}", orders::HELP),
             Order::Save if self.calls.save() => return "done".to_string(),
             Order::Save => return "refused: there is no state, or it cannot be written".to_string(),
             _ => self.input(&order),

@@ -1,5 +1,6 @@
 //! The command line, and the same words in a file.
 
+use crate::access;
 use crate::journal::Level;
 use crate::readable::clean;
 use std::ffi::OsString;
@@ -28,13 +29,22 @@ pub const HELP: &str = "rsmp-site: the site end of RSMP 3.2 for a road-barrier d
   --state FILE               keep the site in this file over a restart or a power loss
   --state-interval SECONDS   write it so often at most (default 10); 0: before anything that depends on it is sent
   --control PATH             take orders on a Unix socket; without it, on standard input
+  --control-mode MODE        who may use it, as chmod has it (default 600: its owner alone)
+  --control-group GROUP      give it to this group
   --record FILE              append every call as a script that rsmp-replay plays
   --record-size BYTES        put it aside as FILE.1 when it is so long (default 64M; K, M and G are known; 0: never)
   --log FILE                 append the log to a file; without it, it goes to standard output
   --log-level LEVEL          error, warning, info (what happens to connections), message (a line for each; the default), debug
+  --log-format FORMAT        text (the default) or json, an object a line; to the journal of systemd lines go with their priority
   --quiet                    the same as --log-level info
+  --metrics FILE             write how the site stands every 15 seconds in the text form of Prometheus, for node_exporter's textfile folder
+
+  --drain SECONDS            told to end, wait so long at most until every record is answered (default 0)
 
   --config FILE              options from a file, a line each: the same words without --, then the value; # begins a comment
+  --check-config             say what a start with these words, this table and this state would do, and end; status 1: it could not
+                             start, or would not take the state
+  --send PATH ORDER..        give an order to the site whose control socket is PATH, and print the reply; status 0: done, 1: refused
   --version                  say which version this is
   -h, --help                 this text
   --clock FILE, --random FILE   for tests: the clock is a file with two numbers, the milliseconds since 1970 of the system's clock
@@ -43,13 +53,16 @@ pub const HELP: &str = "rsmp-site: the site end of RSMP 3.2 for a road-barrier d
 A value may also stand behind =, as in --period=60. SIGHUP has the log and the record opened again, SIGTERM and SIGINT say goodbye and
 end. Status 0: ended as told; 1: it cannot start; 2: wrong words.
 
-Orders, a line each:
+Orders, a line each; a reply begins with done or refused:
   alarm NUMBER on|off        the input of an alarm, numbered from 0 as the table lists them
+  alarm COMPONENT CODE on|off          .. or by its component and code
   status NUMBER VALUE        the value of a status, numbered in the same way
+  status COMPONENT CODE NAME VALUE     .. or by its component, code and name, in quotes where it has spaces
   aggregated 0..255          the eight booleans of the aggregated status, the first being 128
   counts                     the records held and lost of each link
   links                      the state of each link
   commands                   how many were handed over, done, failed, wait
+  show, show --json          all of it: links, alarms, values, subscriptions, counters since the start
   save                       write the state now
   quit                       say goodbye and end
 
@@ -70,10 +83,15 @@ pub struct Options {
     pub state: Option<String>,
     pub state_interval: Duration,
     pub control: Option<String>,
+    pub control_mode: u32,
+    pub control_group: Option<String>,
     pub record: Option<String>,
     pub record_size: u64,
     pub log: Option<String>,
     pub level: Level,
+    pub json: bool,
+    pub metrics: Option<String>,
+    pub drain: Duration,
     pub clock: Option<String>,
     pub random: String,
 }
@@ -82,6 +100,9 @@ pub enum Wanted {
     Help,
     Version,
     Run(Options),
+    Check(Options),
+    /// The control socket, and the order's words.
+    Send(String, Vec<String>),
 }
 
 /// What is wanted, or what is wrong.
@@ -100,27 +121,37 @@ pub fn read(words: impl Iterator<Item = OsString>) -> Result<Wanted, String> {
         state: None,
         state_interval: Duration::from_secs(10),
         control: None,
+        control_mode: 0o600,
+        control_group: None,
         record: None,
         record_size: 64 << 20,
         log: None,
         level: Level::Message,
+        json: false,
+        metrics: None,
+        drain: Duration::ZERO,
         clock: None,
         random: "/dev/urandom".to_string(),
     };
     let mut words = words.map(as_text);
+    let mut check = false;
     while let Some(word) = words.next() {
         let word = word?;
         match word.as_str() {
             "-h" | "--help" => return Ok(Wanted::Help),
             "--version" => return Ok(Wanted::Version),
             "--quiet" => options.level = Level::Info,
+            "--check-config" => check = true,
             _ => {
                 let (name, value) = match word.split_once('=') {
                     Some((name, value)) => (name, Some(value.to_string())),
                     None => (word.as_str(), words.next().transpose()?),
                 };
                 let plain = name.strip_prefix("--").ok_or_else(|| no_such(name))?;
-                if plain == "config" {
+                if plain == "send" {
+                    let path = value.ok_or("--send needs the path of a control socket")?;
+                    return sending(path, words.collect::<Result<_, _>>()?);
+                } else if plain == "config" {
                     let file = value.ok_or("--config needs a value")?;
                     options.read_file(&file)?;
                 } else {
@@ -129,7 +160,14 @@ pub fn read(words: impl Iterator<Item = OsString>) -> Result<Wanted, String> {
             }
         }
     }
-    options.judged().map(Wanted::Run)
+    options.judged().map(if check { Wanted::Check } else { Wanted::Run })
+}
+
+fn sending(path: String, order: Vec<String>) -> Result<Wanted, String> {
+    match order.is_empty() {
+        true => Err("--send needs an order behind the path".to_string()),
+        false => Ok(Wanted::Send(path, order)),
+    }
 }
 
 fn as_text(word: OsString) -> Result<String, String> {
@@ -169,7 +207,7 @@ impl Options {
         };
         match (name, &value) {
             ("quiet", None) => self.level = Level::Info,
-            ("config" | "quiet" | "version" | "help", _) => return Err(no_such(line)),
+            ("config" | "quiet" | "version" | "help" | "check-config" | "send", _) => return Err(no_such(line)),
             _ => self.set(name, value)?,
         }
         Ok(())
@@ -191,10 +229,15 @@ impl Options {
             "state",
             "state-interval",
             "control",
+            "control-mode",
+            "control-group",
             "record",
             "record-size",
             "log",
             "log-level",
+            "log-format",
+            "metrics",
+            "drain",
             "clock",
             "random",
         ];
@@ -237,6 +280,8 @@ impl Options {
             "state" => self.state = Some(value),
             "state-interval" => self.state_interval = seconds(0.0)?,
             "control" => self.control = Some(value),
+            "control-mode" => self.control_mode = access::mode(&value).ok_or_else(|| bad("octal digits, as 660"))?,
+            "control-group" => self.control_group = Some(value),
             "record" => self.record = Some(value),
             "record-size" => {
                 self.record_size = size(&value).ok_or_else(|| bad("a number of bytes, as 500K or 64M"))?;
@@ -246,6 +291,13 @@ impl Options {
                 let level = value.parse().map_err(|_| bad("error, warning, info, message or debug"))?;
                 self.level = level;
             }
+            "log-format" => match value.as_str() {
+                "text" => self.json = false,
+                "json" => self.json = true,
+                _ => return Err(bad("text or json")),
+            },
+            "metrics" => self.metrics = Some(value),
+            "drain" => self.drain = seconds(0.0)?,
             "clock" => self.clock = Some(value),
             _ => self.random = value,
         }

@@ -17,6 +17,7 @@ struct Waiting {
     dropped: u64,
     writing: bool,
     reopen: bool,
+    json: bool,
 }
 
 #[derive(Clone)]
@@ -55,8 +56,11 @@ pub fn appended(path: &Path) -> io::Result<File> {
     OpenOptions::new().append(true).create(true).open(path)
 }
 
-fn told_of(dropped: u64) -> String {
-    format!("({} lines of the log were dropped here)\n", dropped)
+fn told_of(dropped: u64, json: bool) -> String {
+    match json {
+        true => format!("{{\"level\":\"warning\",\"text\":\"{} lines of the log were dropped here\"}}\n", dropped),
+        false => format!("({} lines of the log were dropped here)\n", dropped),
+    }
 }
 
 impl Outlet {
@@ -84,7 +88,7 @@ impl Outlet {
         let mut waiting = self.waiting();
         let note = match waiting.dropped {
             0 => String::new(),
-            dropped => told_of(dropped),
+            dropped => told_of(dropped, waiting.json),
         };
         if waiting.bytes.len() + note.len() + line.len() + 1 > MOST_WAITING {
             waiting.dropped += 1;
@@ -95,6 +99,11 @@ impl Outlet {
         waiting.bytes.extend_from_slice(line.as_bytes());
         waiting.bytes.push(b'\n');
         self.waiting.1.notify_all();
+    }
+
+    /// What is dropped is told of as its lines are.
+    pub fn lines_are_json(&self) {
+        self.waiting().json = true;
     }
 
     /// Has the file opened again by its name.

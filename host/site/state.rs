@@ -80,6 +80,21 @@ pub enum Found {
     Aside(String),
 }
 
+/// What a start would make of a file, which stays as it is.
+pub enum Look {
+    Nothing,
+    Site(Stored),
+    Not(String),
+}
+
+pub fn looked_at(path: &str, table: &[u8], start: &Start) -> Look {
+    match fs::read(path) {
+        Err(error) if error.kind() == io::ErrorKind::NotFound => Look::Nothing,
+        Err(error) => Look::Not(error.to_string()),
+        Ok(bytes) => read(&setup(table, start), &bytes).map_or_else(Look::Not, Look::Site),
+    }
+}
+
 pub struct Store {
     path: PathBuf,
     interval: Duration,

@@ -1,9 +1,10 @@
 //! The calls of the system that the standard library has no name for, declared by hand for Linux.
 
+use std::ffi::CString;
 use std::fs::File;
 use std::io;
 use std::net::TcpStream;
-use std::os::raw::{c_int, c_uint, c_void};
+use std::os::raw::{c_char, c_int, c_uint, c_void};
 use std::os::unix::io::AsRawFd;
 use std::os::unix::net::UnixDatagram;
 use std::os::unix::process::CommandExt;
@@ -30,6 +31,7 @@ const MSG_NOSIGNAL: c_int = 0x4000;
 extern "C" {
     fn signal(number: c_int, handler: extern "C" fn(c_int)) -> usize;
     fn umask(mask: c_uint) -> c_uint;
+    fn chown(path: *const c_char, user: c_uint, group: c_uint) -> c_int;
     fn flock(file: c_int, operation: c_int) -> c_int;
     fn setpgid(process: c_int, group: c_int) -> c_int;
     fn kill(process: c_int, number: c_int) -> c_int;
@@ -116,6 +118,16 @@ pub fn end_when_dead(stream: &TcpStream, idle: Duration, unanswered: Duration) -
     set_option(stream, IPPROTO_TCP, TCP_KEEPINTVL, (seconds / 3).max(1))?;
     set_option(stream, IPPROTO_TCP, TCP_KEEPCNT, 3)?;
     set_option(stream, IPPROTO_TCP, TCP_USER_TIMEOUT, unanswered.as_millis() as c_int)
+}
+
+/// Gives a file to a group; its user stays.
+pub fn give_to_group(path: &str, group: u32) -> io::Result<()> {
+    let path = CString::new(path)?;
+    // SAFETY: the path ends with a zero and lives during the call; u32::MAX leaves the user as it is.
+    match unsafe { chown(path.as_ptr(), u32::MAX, group) } {
+        0 => Ok(()),
+        _ => Err(io::Error::last_os_error()),
+    }
 }
 
 /// Sends a datagram to a Unix socket by its path, or by its abstract name where the path begins with @.

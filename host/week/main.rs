@@ -1,15 +1,19 @@
 //! Prints the weekly report of a captured supervisor stream. The proved library reads and counts; this lends it memory.
 
 use std::env;
+use std::ffi::OsString;
+use std::fs::File;
 use std::io::{self, Read, Write};
 use std::process::ExitCode;
 
 const USAGE: &str = "rsmp-week: the weekly report of a captured supervisor stream
 
   rsmp-week < STREAM > REPORT
+  rsmp-week STREAM.. > REPORT
   rsmp-week --version | --help
 
-The stream is what a supervisor received, each message with its form feed. The report has a header and one line for each component,
+The stream is what a supervisor received, each message with its form feed; rsmp-replay --stream makes one of a record. Several files are one
+stream, one after the other, but no message goes over the end of a file; - is standard input. The report has a header and one line for each component,
 code and name met in StatusUpdate messages, in order of first appearance, with one tab between fields:
 
   component code name count null min max sum middle
@@ -82,20 +86,40 @@ impl Week {
         assert_eq!(told.number, 0);
         &out[..told.written as usize]
     }
-}
 
-fn read() -> io::Result<Week> {
-    let mut week = Week::begin();
-    let mut piece = [0; PIECE];
-    let mut input = io::stdin().lock();
-    loop {
-        match input.read(&mut piece) {
-            Ok(0) => return Ok(week),
-            Ok(n) => week.feed(&piece[..n]),
-            Err(error) if error.kind() == io::ErrorKind::Interrupted => {}
-            Err(error) => return Err(error),
+    /// What stands behind the last form feed is no message.
+    fn end_of_file(&mut self) {
+        self.used = 0;
+    }
+
+    fn read(&mut self, mut input: impl Read) -> io::Result<()> {
+        let mut piece = [0; PIECE];
+        loop {
+            match input.read(&mut piece) {
+                Ok(0) => {
+                    self.end_of_file();
+                    return Ok(());
+                }
+                Ok(n) => self.feed(&piece[..n]),
+                Err(error) if error.kind() == io::ErrorKind::Interrupted => {}
+                Err(error) => return Err(error),
+            }
         }
     }
+}
+
+/// The week of these files, or what cannot be read.
+fn read(names: &[OsString]) -> Result<Week, String> {
+    let mut week = Week::begin();
+    for name in names {
+        let read = match name.to_str() {
+            Some("-") => week.read(io::stdin().lock()),
+            _ => File::open(name).and_then(|file| week.read(file)),
+        };
+        let shown = if name == "-" { "standard input".into() } else { name.to_string_lossy() };
+        read.map_err(|error| format!("{shown}: {error}"))?;
+    }
+    Ok(week)
 }
 
 fn print(bytes: &[u8]) -> io::Result<()> {
@@ -117,13 +141,19 @@ fn printed(bytes: &[u8]) -> ExitCode {
 }
 
 fn main() -> ExitCode {
-    match env::args_os().nth(1) {
-        None => match read() {
-            Ok(week) => printed(week.report(&mut [0; REPORT])),
-            Err(error) => failed(1, format!("standard input: {error}")),
-        },
-        Some(option) if option == "--help" || option == "-h" => printed(USAGE.as_bytes()),
-        Some(option) if option == "--version" => printed(concat!("rsmp-week ", env!("RSMP_VERSION"), "\n").as_bytes()),
-        Some(option) => failed(2, format!("{}: the stream is read from standard input (see rsmp-week --help)", option.to_string_lossy())),
+    let mut names: Vec<OsString> = env::args_os().skip(1).collect();
+    let option = names.iter().find(|name| name.to_string_lossy().starts_with('-') && *name != "-");
+    match option.map(|option| option.to_string_lossy()).as_deref() {
+        Some("--help" | "-h") => return printed(USAGE.as_bytes()),
+        Some("--version") => return printed(concat!("rsmp-week ", env!("RSMP_VERSION"), "\n").as_bytes()),
+        Some(option) => return failed(2, format!("{option}: no such option (see rsmp-week --help)")),
+        None => {}
+    }
+    if names.is_empty() {
+        names.push("-".into());
+    }
+    match read(&names) {
+        Ok(week) => printed(week.report(&mut [0; REPORT])),
+        Err(message) => failed(1, message),
     }
 }
