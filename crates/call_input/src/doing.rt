@@ -5,7 +5,7 @@ ghost use Rattle.table_whole.specs.declared.SiteTable.{SiteTable};
 ghost use Rattle.site.specs.declared.Site.{Site};
 ghost use Rattle.site.specs.Site.{withAggregated};
 ghost use Rattle.site.specs.Parts.{withAlarm, withStatus};
-ghost use Rattle.store_site.specs.Layout.{siteOf, withLast};
+ghost use Rattle.store_site.specs.Layout.{siteOf, withLast, siteWords};
 ghost use Rattle.store_site.specs.Turns.{Turns};
 ghost use Rattle.store_call.specs.Called.{StepsIn};
 ghost use Rattle.store_call.specs.Issued.{issuedIn};
@@ -16,7 +16,7 @@ use answer::Answer;
 use answer::Refusal;
 
 fn change_alarm(w: &mut [u64], c: Changed, number: u16, time: u64)
-    requires { ⌜ length (now w) ≡ 1173 ⌝ }
+    requires { ⌜ length (now w) ≡ siteWords ⌝ }
     ensures { λ _. ⌜ Turns (λ (s : Site). withLast (issuedIn (withAlarm s number (c .alarm)) (alarmEntries s number c)) time) (now (w .entry)) (now (w .exit)) ⌝ }
 {
     store_site::items::put_alarm(w, number as usize, c.alarm);
@@ -25,7 +25,7 @@ fn change_alarm(w: &mut [u64], c: Changed, number: u16, time: u64)
 }
 
 pub fn alarm(w: &mut [u64], number: u16, active: bool, time: u64) -> Answer
-    requires { ⌜ length (now w) ≡ 1173 ⌝ }
+    requires { ⌜ length (now w) ≡ siteWords ⌝ }
     ensures { λ r. ⌜ ((t : SiteTable) → StepsIn t (planned (siteOf (now (w .entry)) t) time (alarmPlan (siteOf (now (w .entry)) t) number active time)) (now (w .entry)) (now (w .exit)) r) ⌝ }
 {
     let before = store_site::items::alarm(w, number as usize);
@@ -38,7 +38,7 @@ pub fn alarm(w: &mut [u64], number: u16, active: bool, time: u64) -> Answer
 }
 
 fn change_status(w: &mut [u64], x: status::Set, number: u16, time: u64)
-    requires { ⌜ length (now w) ≡ 1173 ⌝ }
+    requires { ⌜ length (now w) ≡ siteWords ⌝ }
     ensures { λ _. ⌜ Turns (λ (s : Site). withLast (issuedIn (withStatus s number (x .status)) (statusEntries s number x time)) time) (now (w .entry)) (now (w .exit)) ⌝ }
 {
     store_site::items::put_status(w, number as usize, x.status);
@@ -47,7 +47,7 @@ fn change_status(w: &mut [u64], x: status::Set, number: u16, time: u64)
 }
 
 pub fn status(w: &mut [u64], number: u16, value: i32, time: u64) -> Answer
-    requires { ⌜ length (now w) ≡ 1173 ⌝ }
+    requires { ⌜ length (now w) ≡ siteWords ⌝ }
     ensures { λ r. ⌜ ((t : SiteTable) → StepsIn t (planned (siteOf (now (w .entry)) t) time (statusPlan (siteOf (now (w .entry)) t) number value time)) (now (w .entry)) (now (w .exit)) r) ⌝ }
 {
     let before = store_site::items::status(w, number as usize);
@@ -60,7 +60,7 @@ pub fn status(w: &mut [u64], number: u16, value: i32, time: u64) -> Answer
 }
 
 fn change_aggregated(w: &mut [u64], x: aggregated::Set, time: u64)
-    requires { ⌜ length (now w) ≡ 1173 ⌝ }
+    requires { ⌜ length (now w) ≡ siteWords ⌝ }
     ensures { λ _. ⌜ Turns (λ (s : Site). withLast (issuedIn (withAggregated s (x .aggregated)) (aggregatedEntries s x)) time) (now (w .entry)) (now (w .exit)) ⌝ }
 {
     store_site::head::put_aggregated(w, x.aggregated);
@@ -69,7 +69,7 @@ fn change_aggregated(w: &mut [u64], x: aggregated::Set, time: u64)
 }
 
 pub fn aggregated(w: &mut [u64], value: u8, time: u64) -> Answer
-    requires { ⌜ length (now w) ≡ 1173 ⌝ }
+    requires { ⌜ length (now w) ≡ siteWords ⌝ }
     ensures { λ r. ⌜ ((t : SiteTable) → StepsIn t (planned (siteOf (now (w .entry)) t) time (aggregatedPlan (siteOf (now (w .entry)) t) value time)) (now (w .entry)) (now (w .exit)) r) ⌝ }
 {
     let before = store_site::head::aggregated(w);

@@ -2,8 +2,8 @@
 ghost use mathlib.Core.Path.{_≡_};
 ghost use lib.ListN.{length};
 ghost use Rattle.table_whole.specs.declared.SiteTable.{SiteTable};
-ghost use Rattle.store_table.specs.Layout.{tableOf};
-ghost use Rattle.store_site.specs.Layout.{siteOf};
+ghost use Rattle.store_table.specs.Layout.{tableOf, tableBytes};
+ghost use Rattle.store_site.specs.Layout.{siteOf, siteWords};
 ghost use Rattle.store_call.specs.Called.{StepsIn};
 ghost use Rattle.call_input.specs.Inputs.{alarmStep, statusStep, aggregatedStep};
 use answer::Answer;
@@ -14,7 +14,7 @@ mod records; // records.rt: the records that a value issues
 
 // An alarm is active or not.
 pub fn alarm(w: &mut [u64], t: &[u8], number: u32, active: bool, time: u64) -> Answer
-    requires { ⌜ (length (now w) ≡ 1173) × (length (now t) ≡ 6178) ⌝ }
+    requires { ⌜ (length (now w) ≡ siteWords) × (length (now t) ≡ tableBytes) ⌝ }
     ensures { λ r. ⌜ StepsIn (tableOf (now (t .entry))) (alarmStep (siteOf (now (w .entry)) (tableOf (now (t .entry)))) number active time) (now (w .entry)) (now (w .exit)) r ⌝ }
 {
     if (store_table::alarm_count(t) as u32) <= number {
@@ -28,7 +28,7 @@ pub fn alarm(w: &mut [u64], t: &[u8], number: u32, active: bool, time: u64) -> A
 
 // A status has a value.
 pub fn status(w: &mut [u64], t: &[u8], number: u32, value: i32, time: u64) -> Answer
-    requires { ⌜ (length (now w) ≡ 1173) × (length (now t) ≡ 6178) ⌝ }
+    requires { ⌜ (length (now w) ≡ siteWords) × (length (now t) ≡ tableBytes) ⌝ }
     ensures { λ r. ⌜ StepsIn (tableOf (now (t .entry))) (statusStep (siteOf (now (w .entry)) (tableOf (now (t .entry)))) number value time) (now (w .entry)) (now (w .exit)) r ⌝ }
 {
     if (store_table::status_count(t) as u32) <= number {
@@ -42,7 +42,7 @@ pub fn status(w: &mut [u64], t: &[u8], number: u32, value: i32, time: u64) -> An
 
 // The aggregated status is these eight booleans, the first highest.
 pub fn aggregated(w: &mut [u64], value: u8, time: u64) -> Answer
-    requires { ⌜ length (now w) ≡ 1173 ⌝ }
+    requires { ⌜ length (now w) ≡ siteWords ⌝ }
     ensures { λ r. ⌜ ((t : SiteTable) → StepsIn t (aggregatedStep (siteOf (now (w .entry)) t) value time) (now (w .entry)) (now (w .exit)) r) ⌝ }
 {
     if store_site::head::bad_time(w, time) {

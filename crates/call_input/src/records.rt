@@ -6,14 +6,14 @@ ghost use Rattle.subscription.specs.Subscription.{issuesOn};
 ghost use Rattle.table_whole.specs.declared.SiteTable.{SiteTable};
 ghost use Rattle.site.specs.declared.Site.{Site};
 ghost use Rattle.site.specs.Parts.{subscriptionAt};
-ghost use Rattle.store_site.specs.Layout.{siteOf};
+ghost use Rattle.store_site.specs.Layout.{siteOf, siteWords};
 ghost use Rattle.store_site.specs.Turns.{Turns};
 ghost use Rattle.store_call.specs.Issued.{issuedIn};
 ghost use Rattle.call_input.specs.Inputs.{statusEntry, statusEntries, aggregatedEntry, aggregatedEntries};
 
 // Whether the subscription of link l issues one.
 fn issues(w: &[u64], x: status::Set, number: u16, l: u16) -> bool
-    requires { ⌜ length (now w) ≡ 1173 ⌝ }
+    requires { ⌜ length (now w) ≡ siteWords ⌝ }
     ensures { λ r. ⌜ ((t : SiteTable) → r ≡ issuesOn (subscriptionAt (siteOf (now (w .entry)) t) (l * 32 + number)) (x .changed)) ⌝ }
 {
     let u = store_site::items::subscription(w, (l as usize) * 32 + (number as usize));
@@ -21,7 +21,7 @@ fn issues(w: &[u64], x: status::Set, number: u16, l: u16) -> bool
 }
 
 pub fn of_status(w: &[u64], x: status::Set, number: u16) -> u64
-    requires { ⌜ length (now w) ≡ 1173 ⌝ }
+    requires { ⌜ length (now w) ≡ siteWords ⌝ }
     ensures { λ r. ⌜ ((t : SiteTable) (time : ℕ) → r ≡ length (statusEntries (siteOf (now (w .entry)) t) number x time)) ⌝ }
 {
     let count = store_site::head::link_count(w);
@@ -35,7 +35,7 @@ pub fn of_status(w: &[u64], x: status::Set, number: u16) -> u64
 }
 
 fn add_status(w: &mut [u64], x: status::Set, number: u16, time: u64, l: u16)
-    requires { ⌜ length (now w) ≡ 1173 ⌝ }
+    requires { ⌜ length (now w) ≡ siteWords ⌝ }
     ensures { λ _. ⌜ Turns (λ (s : Site). issuedIn s (statusEntry s number x time l)) (now (w .entry)) (now (w .exit)) ⌝ }
 {
     if issues(w, x, number, l) {
@@ -46,7 +46,7 @@ fn add_status(w: &mut [u64], x: status::Set, number: u16, time: u64, l: u16)
 }
 
 pub fn add_statuses(w: &mut [u64], x: status::Set, number: u16, time: u64)
-    requires { ⌜ length (now w) ≡ 1173 ⌝ }
+    requires { ⌜ length (now w) ≡ siteWords ⌝ }
     ensures { λ _. ⌜ Turns (λ (s : Site). issuedIn s (statusEntries s number x time)) (now (w .entry)) (now (w .exit)) ⌝ }
 {
     let count = store_site::head::link_count(w);
@@ -58,7 +58,7 @@ pub fn add_statuses(w: &mut [u64], x: status::Set, number: u16, time: u64)
 }
 
 pub fn of_aggregated(w: &[u64], x: aggregated::Set) -> u64
-    requires { ⌜ length (now w) ≡ 1173 ⌝ }
+    requires { ⌜ length (now w) ≡ siteWords ⌝ }
     ensures { λ r. ⌜ ((t : SiteTable) → r ≡ length (aggregatedEntries (siteOf (now (w .entry)) t) x)) ⌝ }
 {
     if x.changed {
@@ -68,7 +68,7 @@ pub fn of_aggregated(w: &[u64], x: aggregated::Set) -> u64
 }
 
 fn add_one(w: &mut [u64], x: aggregated::Set, l: u16)
-    requires { ⌜ length (now w) ≡ 1173 ⌝ }
+    requires { ⌜ length (now w) ≡ siteWords ⌝ }
     ensures { λ _. ⌜ Turns (λ (s : Site). issuedIn s (aggregatedEntry x l)) (now (w .entry)) (now (w .exit)) ⌝ }
 {
     if x.changed {
@@ -79,7 +79,7 @@ fn add_one(w: &mut [u64], x: aggregated::Set, l: u16)
 }
 
 pub fn add_aggregated(w: &mut [u64], x: aggregated::Set)
-    requires { ⌜ length (now w) ≡ 1173 ⌝ }
+    requires { ⌜ length (now w) ≡ siteWords ⌝ }
     ensures { λ _. ⌜ Turns (λ (s : Site). issuedIn s (aggregatedEntries s x)) (now (w .entry)) (now (w .exit)) ⌝ }
 {
     let count = store_site::head::link_count(w);

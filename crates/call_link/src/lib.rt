@@ -6,7 +6,7 @@ ghost use Rattle.table_whole.specs.declared.SiteTable.{SiteTable};
 ghost use Rattle.site.specs.declared.Site.{Site};
 ghost use Rattle.site.specs.Site.{linkAt, withLink, closeAt};
 ghost use Rattle.link.specs.Steps.{connectOf};
-ghost use Rattle.store_site.specs.Layout.{siteOf, withLast};
+ghost use Rattle.store_site.specs.Layout.{siteOf, withLast, siteWords};
 ghost use Rattle.store_site.specs.Turns.{Turns};
 ghost use Rattle.store_call.specs.Called.{StepsIn};
 ghost use Rattle.call_link.specs.Connect.{connectStep, disconnectStep};
@@ -16,7 +16,7 @@ use answer::Report;
 
 // The link is connected and the time kept.
 fn joined(w: &mut [u64], l: usize, time: u64)
-    requires { ⌜ (length (now w) ≡ 1173) × (l < 4) ⌝ }
+    requires { ⌜ (length (now w) ≡ siteWords) × (l < 4) ⌝ }
     ensures { λ _. ⌜ Turns (λ (s : Site). withLast (withLink s l (connectOf (linkAt s l))) time) (now (w .entry)) (now (w .exit)) ⌝ }
 {
     let k = store_site::parts::link(w, l);
@@ -25,7 +25,7 @@ fn joined(w: &mut [u64], l: usize, time: u64)
 }
 
 pub fn connect(w: &mut [u64], link: u32, time: u64) -> Answer
-    requires { ⌜ length (now w) ≡ 1173 ⌝ }
+    requires { ⌜ length (now w) ≡ siteWords ⌝ }
     ensures { λ r. ⌜ ((t : SiteTable) → StepsIn t (connectStep (siteOf (now (w .entry)) t) link time) (now (w .entry)) (now (w .exit)) r) ⌝ }
 {
     if store_site::head::no_link(w, link) {
@@ -44,7 +44,7 @@ pub fn connect(w: &mut [u64], link: u32, time: u64) -> Answer
 
 // The link is closed and the time kept.
 fn left(w: &mut [u64], l: u16, time: u64)
-    requires { ⌜ (length (now w) ≡ 1173) × (l < 4) ⌝ }
+    requires { ⌜ (length (now w) ≡ siteWords) × (l < 4) ⌝ }
     ensures { λ _. ⌜ Turns (λ (s : Site). withLast (closeAt s l) time) (now (w .entry)) (now (w .exit)) ⌝ }
 {
     store_call::close(w, l);
@@ -52,7 +52,7 @@ fn left(w: &mut [u64], l: u16, time: u64)
 }
 
 pub fn disconnect(w: &mut [u64], link: u32, time: u64) -> Answer
-    requires { ⌜ length (now w) ≡ 1173 ⌝ }
+    requires { ⌜ length (now w) ≡ siteWords ⌝ }
     ensures { λ r. ⌜ ((t : SiteTable) → StepsIn t (disconnectStep (siteOf (now (w .entry)) t) link time) (now (w .entry)) (now (w .exit)) r) ⌝ }
 {
     if store_site::head::no_link(w, link) {

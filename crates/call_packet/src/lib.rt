@@ -11,8 +11,8 @@ ghost use Rattle.link.specs.Phase.{isBeating};
 ghost use Rattle.link.specs.Steps.{mayJudgeOf};
 ghost use Rattle.table_whole.specs.declared.SiteTable.{SiteTable};
 ghost use Rattle.site.specs.Site.{linkAt};
-ghost use Rattle.store_site.specs.Layout.{siteOf};
-ghost use Rattle.store_table.specs.Layout.{tableOf};
+ghost use Rattle.store_site.specs.Layout.{siteOf, siteWords};
+ghost use Rattle.store_table.specs.Layout.{tableOf, tableBytes};
 ghost use Rattle.store_call.specs.Called.{GivesIn};
 ghost use Rattle.packet_answer.specs.Takes.{TakesIn};
 ghost use Rattle.call_packet.specs.Packet.{isVersion, isWatchdog, isGreeting, expected as expectedOf, unready as unreadyOf, early as earlyOf, unawaited as unawaitedOf, ignoredBy, kindTaken, expectedTaken, askedTaken, classTaken, headTaken, headRefuses, packetTaken, packetRefuses};
@@ -68,7 +68,7 @@ fn is_beating(p: Phase) -> bool
 }
 
 fn may_judge(w: &[u64], l: u16) -> bool
-    requires { ⌜ (length (now w) ≡ 1173) × (l < 4) ⌝ }
+    requires { ⌜ (length (now w) ≡ siteWords) × (l < 4) ⌝ }
     ensures { λ r. ⌜ ((t : SiteTable) → r ≡ mayJudgeOf (linkAt (siteOf (now (w .entry)) t) l)) ⌝ }
 {
     if store_site::phases::version_taken(w, l as usize) {
@@ -78,7 +78,7 @@ fn may_judge(w: &[u64], l: u16) -> bool
 }
 
 fn expected(w: &[u64], l: u16, kind: Kind) -> bool
-    requires { ⌜ (length (now w) ≡ 1173) × (l < 4) ⌝ }
+    requires { ⌜ (length (now w) ≡ siteWords) × (l < 4) ⌝ }
     ensures { λ r. ⌜ ((t : SiteTable) → r ≡ expectedOf (linkAt (siteOf (now (w .entry)) t) l) kind) ⌝ }
 {
     if is_version(kind) {
@@ -88,7 +88,7 @@ fn expected(w: &[u64], l: u16, kind: Kind) -> bool
 }
 
 fn unready(w: &[u64], l: u16, kind: Kind) -> bool
-    requires { ⌜ (length (now w) ≡ 1173) × (l < 4) ⌝ }
+    requires { ⌜ (length (now w) ≡ siteWords) × (l < 4) ⌝ }
     ensures { λ r. ⌜ ((t : SiteTable) → r ≡ unreadyOf (linkAt (siteOf (now (w .entry)) t) l) kind) ⌝ }
 {
     if is_beating(store_site::phases::phase(w, l as usize)) {
@@ -98,7 +98,7 @@ fn unready(w: &[u64], l: u16, kind: Kind) -> bool
 }
 
 fn early(w: &[u64], l: u16, kind: Kind) -> bool
-    requires { ⌜ (length (now w) ≡ 1173) × (l < 4) ⌝ }
+    requires { ⌜ (length (now w) ≡ siteWords) × (l < 4) ⌝ }
     ensures { λ r. ⌜ ((t : SiteTable) → r ≡ earlyOf (linkAt (siteOf (now (w .entry)) t) l) kind) ⌝ }
 {
     if is_greeting(store_site::phases::phase(w, l as usize)) {
@@ -108,14 +108,14 @@ fn early(w: &[u64], l: u16, kind: Kind) -> bool
 }
 
 fn unawaited(w: &[u64], l: u16, id: Identity) -> bool
-    requires { ⌜ (length (now w) ≡ 1173) × (l < 4) ⌝ }
+    requires { ⌜ (length (now w) ≡ siteWords) × (l < 4) ⌝ }
     ensures { λ r. ⌜ ((t : SiteTable) → r ≡ unawaitedOf (linkAt (siteOf (now (w .entry)) t) l) id) ⌝ }
 {
     not(packet_answer::is_awaited(w, l, id))
 }
 
 fn ignored(w: &[u64], l: u16, id: Identity, class: Class) -> bool
-    requires { ⌜ (length (now w) ≡ 1173) × (l < 4) ⌝ }
+    requires { ⌜ (length (now w) ≡ siteWords) × (l < 4) ⌝ }
     ensures { λ r. ⌜ ((t : SiteTable) → r ≡ ignoredBy (linkAt (siteOf (now (w .entry)) t) l) id class) ⌝ }
 {
     match class {
@@ -139,7 +139,7 @@ fn by_kind(
     kind: Kind,
     out: &mut [u8],
 ) -> Answer
-    requires { ⌜ (length (now w) ≡ 1173) × (length (now t) ≡ 6178) × (l < 4) × Indexed (now p) (now places) ⌝ }
+    requires { ⌜ (length (now w) ≡ siteWords) × (length (now t) ≡ tableBytes) × (l < 4) × Indexed (now p) (now places) ⌝ }
     ensures { λ r. ⌜ TakesIn (tableOf (now (t .entry))) l time id (kindTaken (siteOf (now (w .entry)) (tableOf (now (t .entry)))) l time id (received .bytes) (now (p .entry)) kind) (now (w .entry)) (now (w .exit)) (now (out .entry)) (now (out .exit)) r ⌝ }
 {
     match kind {
@@ -216,7 +216,7 @@ fn expect(
     kind: Kind,
     out: &mut [u8],
 ) -> Answer
-    requires { ⌜ (length (now w) ≡ 1173) × (length (now t) ≡ 6178) × (l < 4) × Indexed (now p) (now places) ⌝ }
+    requires { ⌜ (length (now w) ≡ siteWords) × (length (now t) ≡ tableBytes) × (l < 4) × Indexed (now p) (now places) ⌝ }
     ensures { λ r. ⌜ TakesIn (tableOf (now (t .entry))) l time id (expectedTaken (siteOf (now (w .entry)) (tableOf (now (t .entry)))) l time id (received .bytes) (now (p .entry)) kind) (now (w .entry)) (now (w .exit)) (now (out .entry)) (now (out .exit)) r ⌝ }
 {
     if expected(w, l, kind) {
@@ -242,7 +242,7 @@ fn asked(
     kind: Kind,
     out: &mut [u8],
 ) -> Answer
-    requires { ⌜ (length (now w) ≡ 1173) × (length (now t) ≡ 6178) × (l < 4) × Indexed (now p) (now places) ⌝ }
+    requires { ⌜ (length (now w) ≡ siteWords) × (length (now t) ≡ tableBytes) × (l < 4) × Indexed (now p) (now places) ⌝ }
     ensures { λ r. ⌜ TakesIn (tableOf (now (t .entry))) l time id (askedTaken (siteOf (now (w .entry)) (tableOf (now (t .entry)))) l time id (received .bytes) (now (p .entry)) v kind) (now (w .entry)) (now (w .exit)) (now (out .entry)) (now (out .exit)) r ⌝ }
 {
     match v {
@@ -272,7 +272,7 @@ fn by_class(
     class: Class,
     out: &mut [u8],
 ) -> Answer
-    requires { ⌜ (length (now w) ≡ 1173) × (length (now t) ≡ 6178) × (l < 4) × Indexed (now p) (now places) ⌝ }
+    requires { ⌜ (length (now w) ≡ siteWords) × (length (now t) ≡ tableBytes) × (l < 4) × Indexed (now p) (now places) ⌝ }
     ensures { λ r. ⌜ TakesIn (tableOf (now (t .entry))) l time id (classTaken (siteOf (now (w .entry)) (tableOf (now (t .entry)))) l time id answered (received .bytes) (now (p .entry)) class) (now (w .entry)) (now (w .exit)) (now (out .entry)) (now (out .exit)) r ⌝ }
 {
     match class {
@@ -294,7 +294,7 @@ fn heed(
     h: Head,
     out: &mut [u8],
 ) -> Answer
-    requires { ⌜ (length (now w) ≡ 1173) × (length (now t) ≡ 6178) × (l < 4) × Indexed (now p) (now places) ⌝ }
+    requires { ⌜ (length (now w) ≡ siteWords) × (length (now t) ≡ tableBytes) × (l < 4) × Indexed (now p) (now places) ⌝ }
     ensures { λ r. ⌜ GivesIn (tableOf (now (t .entry))) time (headRefuses (siteOf (now (w .entry)) (tableOf (now (t .entry)))) l time id (now (p .entry)) h) (headTaken (siteOf (now (w .entry)) (tableOf (now (t .entry)))) l time id (now (p .entry)) h .plan) (now (w .entry)) (now (w .exit)) (now (out .entry)) (now (out .exit)) r ⌝ }
 {
     let class = h.class;
@@ -330,7 +330,7 @@ fn judged(
     p: &[u8],
     out: &mut [u8],
 ) -> Answer
-    requires { ⌜ (length (now w) ≡ 1173) × (length (now t) ≡ 6178) × (l < 4) ⌝ }
+    requires { ⌜ (length (now w) ≡ siteWords) × (length (now t) ≡ tableBytes) × (l < 4) ⌝ }
     ensures { λ r. ⌜ GivesIn (tableOf (now (t .entry))) time (headRefuses (siteOf (now (w .entry)) (tableOf (now (t .entry)))) l time id (now (p .entry)) (headAt (now (p .entry)))) (packetTaken (siteOf (now (w .entry)) (tableOf (now (t .entry)))) l time id (now (p .entry)) .plan) (now (w .entry)) (now (w .exit)) (now (out .entry)) (now (out .exit)) r ⌝ }
 {
     let mut places = [0usize; 32];
@@ -357,7 +357,7 @@ pub fn packet(
     p: &[u8],
     out: &mut [u8],
 ) -> Answer
-    requires { ⌜ (length (now w) ≡ 1173) × (length (now t) ≡ 6178) ⌝ }
+    requires { ⌜ (length (now w) ≡ siteWords) × (length (now t) ≡ tableBytes) ⌝ }
     ensures { λ r. ⌜ GivesIn (tableOf (now (t .entry))) time (packetRefuses (siteOf (now (w .entry)) (tableOf (now (t .entry)))) link time (identityOf random) (length (now (out .entry))) (now (p .entry))) (packetTaken (siteOf (now (w .entry)) (tableOf (now (t .entry)))) link time (identityOf random) (now (p .entry)) .plan) (now (w .entry)) (now (w .exit)) (now (out .entry)) (now (out .exit)) r ⌝ }
 {
     if store_site::head::no_link(w, link) {

@@ -12,8 +12,8 @@ ghost use Rattle.link.specs.declared.Due.the-variants.{Nothing, Version, Watchd
 ghost use Rattle.link.specs.Due.{alarmsFor, dueUp};
 ghost use Rattle.site.specs.declared.Site.{Site};
 ghost use Rattle.site.specs.Site.{roleOf, linkAt};
-ghost use Rattle.store_site.specs.Layout.{siteOf};
-ghost use Rattle.store_table.specs.Layout.{tableOf};
+ghost use Rattle.store_site.specs.Layout.{siteOf, siteWords};
+ghost use Rattle.store_table.specs.Layout.{tableOf, tableBytes};
 ghost use Rattle.call_pump.specs.Pump.{isHeld, dueAt, Below, isNothing, laterOf, laterVerdict, verdictOf};
 use answer::Answer;
 use answer::Refusal;
@@ -48,7 +48,7 @@ fn milliseconds(seconds: u32) -> u64
 
 // How many alarms the link's first pass goes through. Here and in what follows s is the site in w and t.
 fn alarms_for(w: &[u64], t: &[u8], l: u16) -> u16
-    requires { ⌜ (length (now w) ≡ 1173) × (length (now t) ≡ 6178) ⌝ }
+    requires { ⌜ (length (now w) ≡ siteWords) × (length (now t) ≡ tableBytes) ⌝ }
     ensures { λ r. ⌜ ((s : Site) → s ≡ siteOf (now (w .entry)) (tableOf (now (t .entry))) → r ≡ alarmsFor (roleOf s l) (s .table .alarmcount)) ⌝ }
 {
     match store_site::head::role(w, l) {
@@ -59,7 +59,7 @@ fn alarms_for(w: &[u64], t: &[u8], l: u16) -> u16
 
 // What is due once the AggregatedStatus is out.
 fn due_passing(w: &[u64], t: &[u8], l: u16) -> Due
-    requires { ⌜ (length (now w) ≡ 1173) × ((length (now t) ≡ 6178) × (l < 4)) ⌝ }
+    requires { ⌜ (length (now w) ≡ siteWords) × ((length (now t) ≡ tableBytes) × (l < 4)) ⌝ }
     ensures due { λ r. ⌜ ((s : Site) → s ≡ siteOf (now (w .entry)) (tableOf (now (t .entry))) → r ≡ pick (ltb (linkAt s l .alarm) (alarmsFor (roleOf s l) (s .table .alarmcount))) (Alarm (linkAt s l .alarm)) (pick (isHeld (oldestUnsent (s .pool) l)) Entry Nothing)) ⌝ }
     ensures small { λ r. ⌜ Below 65536 r ⌝ }
 {
@@ -74,7 +74,7 @@ fn due_passing(w: &[u64], t: &[u8], l: u16) -> Due
 }
 
 fn due_up(w: &[u64], t: &[u8], l: u16, time: u64) -> Due
-    requires { ⌜ (length (now w) ≡ 1173) × ((length (now t) ≡ 6178) × (l < 4)) ⌝ }
+    requires { ⌜ (length (now w) ≡ siteWords) × ((length (now t) ≡ tableBytes) × (l < 4)) ⌝ }
     ensures due { λ r. ⌜ ((s : Site) → s ≡ siteOf (now (w .entry)) (tableOf (now (t .entry))) → r ≡ dueUp (linkAt s l) time (s .period) (roleOf s l) (s .table .alarmcount) (isHeld (oldestUnsent (s .pool) l))) ⌝ }
     ensures small { λ r. ⌜ Below 65536 r ⌝ }
 {
@@ -106,7 +106,7 @@ fn due_beating(out: bool) -> Due
 }
 
 pub fn due_at(w: &[u64], t: &[u8], l: u16, time: u64) -> Due
-    requires { ⌜ (length (now w) ≡ 1173) × ((length (now t) ≡ 6178) × (l < 4)) ⌝ }
+    requires { ⌜ (length (now w) ≡ siteWords) × ((length (now t) ≡ tableBytes) × (l < 4)) ⌝ }
     ensures due { λ r. ⌜ r ≡ dueAt (siteOf (now (w .entry)) (tableOf (now (t .entry)))) l time ⌝ }
     ensures small { λ r. ⌜ Below 65536 r ⌝ }
 {
@@ -162,7 +162,7 @@ fn in_order(down: bool, nothing: bool, crowded: bool, awaited: bool) -> Answer
 }
 
 fn later_verdict(w: &[u64], t: &[u8], l: u16, time: u64, id: Identity) -> Answer
-    requires { ⌜ (length (now w) ≡ 1173) × ((length (now t) ≡ 6178) × (l < 4)) ⌝ }
+    requires { ⌜ (length (now w) ≡ siteWords) × ((length (now t) ≡ tableBytes) × (l < 4)) ⌝ }
     ensures { λ r. ⌜ r ≡ laterVerdict (siteOf (now (w .entry)) (tableOf (now (t .entry)))) l time id ⌝ }
 {
     let down = store_site::phases::down(w, l as usize);
@@ -173,7 +173,7 @@ fn later_verdict(w: &[u64], t: &[u8], l: u16, time: u64, id: Identity) -> Answer
 
 // What the checks answer, in their order.
 pub fn verdict(w: &[u64], t: &[u8], link: u32, time: u64, id: Identity, room: usize) -> Answer
-    requires { ⌜ (length (now w) ≡ 1173) × (length (now t) ≡ 6178) ⌝ }
+    requires { ⌜ (length (now w) ≡ siteWords) × (length (now t) ≡ tableBytes) ⌝ }
     ensures { λ r. ⌜ r ≡ verdictOf (siteOf (now (w .entry)) (tableOf (now (t .entry)))) link time id room ⌝ }
 {
     if store_site::head::no_link(w, link) {

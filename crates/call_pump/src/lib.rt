@@ -2,8 +2,8 @@
 ghost use mathlib.Core.Path.{_≡_};
 ghost use lib.ListN.{length};
 ghost use Rattle.identity.specs.Version.{identityOf};
-ghost use Rattle.store_site.specs.Layout.{siteOf};
-ghost use Rattle.store_table.specs.Layout.{tableOf};
+ghost use Rattle.store_site.specs.Layout.{siteOf, siteWords};
+ghost use Rattle.store_table.specs.Layout.{tableOf, tableBytes};
 ghost use Rattle.store_call.specs.Called.{GivesIn};
 ghost use Rattle.call_pump.specs.Pump.{pumpRefuses, pumpPlan};
 use answer::Answer;
@@ -20,7 +20,7 @@ pub fn pump(
     random: Identity,
     out: &mut [u8],
 ) -> Answer
-    requires { ⌜ (length (now w) ≡ 1173) × (length (now t) ≡ 6178) ⌝ }
+    requires { ⌜ (length (now w) ≡ siteWords) × (length (now t) ≡ tableBytes) ⌝ }
     ensures { λ r. ⌜ GivesIn (tableOf (now (t .entry))) time (pumpRefuses (siteOf (now (w .entry)) (tableOf (now (t .entry)))) link time (identityOf random) (length (now (out .entry)))) (pumpPlan (siteOf (now (w .entry)) (tableOf (now (t .entry)))) link time (identityOf random)) (now (w .entry)) (now (w .exit)) (now (out .entry)) (now (out .exit)) r ⌝ }
 {
     let id = checks::own_identity(random);

@@ -9,9 +9,9 @@ ghost use Rattle.site.specs.declared.Site.{Site};
 ghost use Rattle.site.specs.Call.{never};
 ghost use Rattle.send_after.specs.Outgoing.{entrySent};
 ghost use Rattle.send_message.specs.Sending.{entryMessage};
-ghost use Rattle.store_site.specs.Layout.{siteOf, withLast};
+ghost use Rattle.store_site.specs.Layout.{siteOf, withLast, siteWords};
 ghost use Rattle.store_site.specs.Turns.{Turns};
-ghost use Rattle.store_table.specs.Layout.{tableOf};
+ghost use Rattle.store_table.specs.Layout.{tableOf, tableBytes};
 ghost use Rattle.store_call.specs.Called.{GivesIn};
 ghost use Rattle.call_pump.specs.Pump.{sends, versionPlan, watchdogPlan, aggregatedPlan, alarmPlan, entryPlan, pumpPlan};
 use super::checks;
@@ -24,7 +24,7 @@ use pool::Sought;
 
 // The call is done: nothing issued, nothing closed, written up to `end`.
 fn finish(w: &mut [u64], time: u64, end: usize) -> Answer
-    requires { ⌜ length (now w) ≡ 1173 ⌝ }
+    requires { ⌜ length (now w) ≡ siteWords ⌝ }
     ensures report { λ r. ⌜ r ≡ doneWith (record { hint = 0; written = end % 4294967296; closed = 0; hinted = 0; commands = 0 }) ⌝ }
     ensures turns { λ _. ⌜ Turns (λ (s : Site). withLast s time) (now (w .entry)) (now (w .exit)) ⌝ }
 {
@@ -39,7 +39,7 @@ fn finish(w: &mut [u64], time: u64, end: usize) -> Answer
 }
 
 fn version(w: &mut [u64], t: &[u8], l: u16, time: u64, id: Identity, out: &mut [u8]) -> Answer
-    requires { ⌜ (length (now w) ≡ 1173) × ((length (now t) ≡ 6178) × (l < 4)) ⌝ }
+    requires { ⌜ (length (now w) ≡ siteWords) × ((length (now t) ≡ tableBytes) × (l < 4)) ⌝ }
     ensures { λ r. ⌜ GivesIn (tableOf (now (t .entry))) time never (versionPlan (siteOf (now (w .entry)) (tableOf (now (t .entry)))) l time id) (now (w .entry)) (now (w .exit)) (now (out .entry)) (now (out .exit)) r ⌝ }
 {
     let own = store_table::site_id(t);
@@ -50,7 +50,7 @@ fn version(w: &mut [u64], t: &[u8], l: u16, time: u64, id: Identity, out: &mut [
 }
 
 fn watchdog(w: &mut [u64], l: u16, time: u64, id: Identity, out: &mut [u8]) -> Answer
-    requires { ⌜ (length (now w) ≡ 1173) × (l < 4) ⌝ }
+    requires { ⌜ (length (now w) ≡ siteWords) × (l < 4) ⌝ }
     ensures { λ r. ⌜ ((x : SiteTable) → GivesIn x time never (watchdogPlan (siteOf (now (w .entry)) x) l time id) (now (w .entry)) (now (w .exit)) (now (out .entry)) (now (out .exit)) r) ⌝ }
 {
     let end = write_message::greeting::watchdog(out, 0, id, time);
@@ -59,7 +59,7 @@ fn watchdog(w: &mut [u64], l: u16, time: u64, id: Identity, out: &mut [u8]) -> A
 }
 
 fn aggregated(w: &mut [u64], t: &[u8], l: u16, time: u64, id: Identity, out: &mut [u8]) -> Answer
-    requires { ⌜ (length (now w) ≡ 1173) × ((length (now t) ≡ 6178) × (l < 4)) ⌝ }
+    requires { ⌜ (length (now w) ≡ siteWords) × ((length (now t) ≡ tableBytes) × (l < 4)) ⌝ }
     ensures { λ r. ⌜ GivesIn (tableOf (now (t .entry))) time never (aggregatedPlan (siteOf (now (w .entry)) (tableOf (now (t .entry)))) l time id) (now (w .entry)) (now (w .exit)) (now (out .entry)) (now (out .exit)) r ⌝ }
 {
     let end = send_message::write_aggregated(out, 0, w, t, id);
@@ -68,7 +68,7 @@ fn aggregated(w: &mut [u64], t: &[u8], l: u16, time: u64, id: Identity, out: &mu
 }
 
 fn alarm(w: &mut [u64], t: &[u8], l: u16, time: u64, id: Identity, k: u16, out: &mut [u8]) -> Answer
-    requires { ⌜ (length (now w) ≡ 1173) × ((length (now t) ≡ 6178) × (l < 4)) ⌝ }
+    requires { ⌜ (length (now w) ≡ siteWords) × ((length (now t) ≡ tableBytes) × (l < 4)) ⌝ }
     ensures { λ r. ⌜ GivesIn (tableOf (now (t .entry))) time never (alarmPlan (siteOf (now (w .entry)) (tableOf (now (t .entry)))) l time id k) (now (w .entry)) (now (w .exit)) (now (out .entry)) (now (out .exit)) r ⌝ }
 {
     let end = send_message::write_alarm(out, 0, w, t, id, k as usize);
@@ -85,7 +85,7 @@ fn entry(
     e: Entry,
     out: &mut [u8],
 ) -> Answer
-    requires { ⌜ (length (now w) ≡ 1173) × ((length (now t) ≡ 6178) × (l < 4)) ⌝ }
+    requires { ⌜ (length (now w) ≡ siteWords) × ((length (now t) ≡ tableBytes) × (l < 4)) ⌝ }
     ensures { λ r. ⌜ GivesIn (tableOf (now (t .entry))) time never (sends (entrySent (siteOf (now (w .entry)) (tableOf (now (t .entry)))) l time id (e .sequence)) (entryMessage (siteOf (now (w .entry)) (tableOf (now (t .entry)))) (id .bytes) e)) (now (w .entry)) (now (w .exit)) (now (out .entry)) (now (out .exit)) r ⌝ }
 {
     let end = send_message::write_entry(out, 0, t, id, e);
@@ -102,7 +102,7 @@ fn found(
     id: Identity,
     out: &mut [u8],
 ) -> Answer
-    requires { ⌜ (length (now w) ≡ 1173) × ((length (now t) ≡ 6178) × (l < 4)) ⌝ }
+    requires { ⌜ (length (now w) ≡ siteWords) × ((length (now t) ≡ tableBytes) × (l < 4)) ⌝ }
     ensures { λ r. ⌜ GivesIn (tableOf (now (t .entry))) time never (entryPlan x (siteOf (now (w .entry)) (tableOf (now (t .entry)))) l time id) (now (w .entry)) (now (w .exit)) (now (out .entry)) (now (out .exit)) r ⌝ }
 {
     match x {
@@ -115,7 +115,7 @@ fn found(
 }
 
 fn oldest(w: &mut [u64], t: &[u8], l: u16, time: u64, id: Identity, out: &mut [u8]) -> Answer
-    requires { ⌜ (length (now w) ≡ 1173) × ((length (now t) ≡ 6178) × (l < 4)) ⌝ }
+    requires { ⌜ (length (now w) ≡ siteWords) × ((length (now t) ≡ tableBytes) × (l < 4)) ⌝ }
     ensures { λ r. ⌜ GivesIn (tableOf (now (t .entry))) time never (entryPlan (oldestUnsent ((siteOf (now (w .entry)) (tableOf (now (t .entry)))) .pool) l) (siteOf (now (w .entry)) (tableOf (now (t .entry)))) l time id) (now (w .entry)) (now (w .exit)) (now (out .entry)) (now (out .exit)) r ⌝ }
 {
     found(
@@ -130,7 +130,7 @@ fn oldest(w: &mut [u64], t: &[u8], l: u16, time: u64, id: Identity, out: &mut [u
 }
 
 pub fn due(w: &mut [u64], t: &[u8], l: u16, time: u64, id: Identity, out: &mut [u8]) -> Answer
-    requires { ⌜ (length (now w) ≡ 1173) × ((length (now t) ≡ 6178) × (l < 4)) ⌝ }
+    requires { ⌜ (length (now w) ≡ siteWords) × ((length (now t) ≡ tableBytes) × (l < 4)) ⌝ }
     ensures { λ r. ⌜ GivesIn (tableOf (now (t .entry))) time never (pumpPlan (siteOf (now (w .entry)) (tableOf (now (t .entry)))) l time id) (now (w .entry)) (now (w .exit)) (now (out .entry)) (now (out .exit)) r ⌝ }
 {
     match checks::due_at(w, t, l, time) {

@@ -3,7 +3,7 @@ ghost use mathlib.Core.Path.{_≡_};
 ghost use lib.ListN.{length};
 ghost use Rattle.pool.specs.Pool.{readingOf};
 ghost use Rattle.table_whole.specs.declared.SiteTable.{SiteTable};
-ghost use Rattle.store_site.specs.Layout.{siteOf};
+ghost use Rattle.store_site.specs.Layout.{siteOf, siteWords};
 ghost use Rattle.call_read.specs.Readings.{heldAt, lostAt, phaseNumber, phaseAt, versionAt, recordAt};
 use link::Phase;
 use pool::Reading;
@@ -19,7 +19,7 @@ pub struct ChosenVersion {
 
 // How many records of the link are held.
 pub fn held(w: &[u64], link: u32) -> u64
-    requires { ⌜ length (now w) ≡ 1173 ⌝ }
+    requires { ⌜ length (now w) ≡ siteWords ⌝ }
     ensures { λ r. ⌜ ((t : SiteTable) → r ≡ heldAt (siteOf (now (w .entry)) t) link) ⌝ }
 {
     if store_site::head::no_link(w, link) {
@@ -30,7 +30,7 @@ pub fn held(w: &[u64], link: u32) -> u64
 
 // How many records the link lost since start.
 pub fn lost(w: &[u64], link: u32) -> u64
-    requires { ⌜ length (now w) ≡ 1173 ⌝ }
+    requires { ⌜ length (now w) ≡ siteWords ⌝ }
     ensures { λ r. ⌜ ((t : SiteTable) → r ≡ lostAt (siteOf (now (w .entry)) t) link) ⌝ }
 {
     if store_site::head::no_link(w, link) {
@@ -52,7 +52,7 @@ fn phase_number(p: Phase) -> u32
 
 // 0 Down, 1 Greeting, 2 Beating, 3 Up.
 pub fn phase(w: &[u64], link: u32) -> u32
-    requires { ⌜ length (now w) ≡ 1173 ⌝ }
+    requires { ⌜ length (now w) ≡ siteWords ⌝ }
     ensures { λ r. ⌜ ((t : SiteTable) → r ≡ phaseAt (siteOf (now (w .entry)) t) link) ⌝ }
 {
     if store_site::head::no_link(w, link) {
@@ -62,7 +62,7 @@ pub fn phase(w: &[u64], link: u32) -> u32
 }
 
 pub fn version_of(w: &[u64], link: u32) -> ChosenVersion
-    requires { ⌜ length (now w) ≡ 1173 ⌝ }
+    requires { ⌜ length (now w) ≡ siteWords ⌝ }
     ensures { λ r. ⌜ ((t : SiteTable) → r ≡ versionAt (siteOf (now (w .entry)) t) link) ⌝ }
 {
     if store_site::head::no_link(w, link) {
@@ -98,7 +98,7 @@ fn reading(s: Sought) -> Reading
 
 // The sixteen bytes of the link's held record than which so many of the link are older.
 pub fn record_at(w: &[u64], link: u32, rank: u64) -> Reading
-    requires { ⌜ length (now w) ≡ 1173 ⌝ }
+    requires { ⌜ length (now w) ≡ siteWords ⌝ }
     ensures { λ r. ⌜ ((t : SiteTable) → r ≡ recordAt (siteOf (now (w .entry)) t) link rank) ⌝ }
 {
     if store_site::head::no_link(w, link) {

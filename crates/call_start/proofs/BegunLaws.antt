@@ -24,7 +24,7 @@ use Rattle.site.specs.declared.Site.{Site}
 use Rattle.site.specs.declared.Step.{Step}
 use Rattle.site.specs.Site.{withPool, withLinks, withSubscriptions, withAlarms, withStatuses}
 use Rattle.site.specs.Call.{nothingOf}
-use Rattle.store_site.specs.Layout.{siteOf}
+use Rattle.store_site.specs.Layout.{siteOf, siteWords}
 use Rattle.store_site.specs.Turns.{Turns}
 use Rattle.store_table.specs.Layout.{layoutOf}
 use Rattle.store_whole.specs.Image.{wordsOf, Wide}
@@ -58,7 +58,7 @@ module _ (ws v1 v2 v3 vs : List ℕ) (links primary period first time : ℕ)
       (h3 .site t ∙ ap (λ (s : Site). items s time) (h2 .site t ∙ ap (λ (s : Site). withPool s (emptyOf 4)) (h1 .site t)))
       ∙ made
 
-  pub fresh-put : length vs ≡ 1173 → Wide vs → vs ≡ wordsOf (fresh t links primary period first time)
+  pub fresh-put : length vs ≡ siteWords → Wide vs → vs ≡ wordsOf (fresh t links primary period first time)
   fresh-put e w = sym (words-back vs w t e (h4 .plain)) ∙ ap wordsOf all-put
 
 -- refused, with nothing stored; done, with all stored

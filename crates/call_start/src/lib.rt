@@ -13,6 +13,8 @@ ghost use Rattle.store_whole.specs.Image.{wordsOf};
 ghost use Rattle.call_start.specs.Fresh.{fresh, primaryOf};
 ghost use Rattle.call_start.specs.Making.{aLinkOrNone, valuesWithin, isWithin, judgedBy};
 ghost use Rattle.call_start.specs.Begun.{Begun, StartsIn};
+ghost use Rattle.store_site.specs.Layout.{siteWords};
+ghost use Rattle.store_table.specs.Layout.{tableBytes};
 use aggregated::Aggregated;
 use alarm::Alarm;
 use answer::Answer;
@@ -72,7 +74,7 @@ fn within(links: u32, primary: u32, period: u32, first: u64, time: u64) -> bool
 
 // Nothing held, nothing lost.
 fn empty_pool(w: &mut [u64])
-    requires { ⌜ length (now w) ≡ 1173 ⌝ }
+    requires { ⌜ length (now w) ≡ siteWords ⌝ }
     ensures { λ _. ⌜ Turns (λ (s : Site). withPool s (emptyOf 4)) (now (w .entry)) (now (w .exit)) ⌝ }
 {
     let pool = Pool::empty();
@@ -84,7 +86,7 @@ fn empty_pool(w: &mut [u64])
 
 // Nothing subscribed, nothing known, every alarm as at the start time.
 fn begin_items(w: &mut [u64], time: u64)
-    requires { ⌜ length (now w) ≡ 1173 ⌝ }
+    requires { ⌜ length (now w) ≡ siteWords ⌝ }
     ensures { λ _. ⌜ Turns (λ (s : Site). withStatuses (withAlarms (withSubscriptions s (replicate 128 none)) (replicate 32 (beginning time))) (replicate 32 unknown)) (now (w .entry)) (now (w .exit)) ⌝ }
 {
     store_whole::lists::fill_subscriptions(w, Subscription::none());
@@ -94,7 +96,7 @@ fn begin_items(w: &mut [u64], time: u64)
 
 // Every word is stored: what it was does not matter.
 fn put_fresh(w: &mut [u64], links: u16, primary: u16, period: u32, first: u64, time: u64)
-    requires { ⌜ length (now w) ≡ 1173 ⌝ }
+    requires { ⌜ length (now w) ≡ siteWords ⌝ }
     ensures { λ _. ⌜ ((t : SiteTable) → now (w .exit) ≡ wordsOf (fresh t links primary period first time)) ⌝ }
 {
     let changed = Aggregated::begin(time);
@@ -115,7 +117,7 @@ fn begin(
     first: u64,
     time: u64,
 ) -> Answer
-    requires { ⌜ (length (now w) ≡ 1173) × (length (now t) ≡ 6178) ⌝ }
+    requires { ⌜ (length (now w) ≡ siteWords) × (length (now t) ≡ tableBytes) ⌝ }
     ensures { λ r. ⌜ Begun (judgedBy (read .verdict) (fresh (read .table) links primary period first time)) (now (w .entry)) (now (w .exit)) (now (t .entry)) (now (t .exit)) r ⌝ }
 {
     let table = read.table;
@@ -141,7 +143,7 @@ pub fn start(
     first: u64,
     time: u64,
 ) -> Answer
-    requires { ⌜ (length (now w) ≡ 1173) × (length (now t) ≡ 6178) ⌝ }
+    requires { ⌜ (length (now w) ≡ siteWords) × (length (now t) ≡ tableBytes) ⌝ }
     ensures { λ r. ⌜ StartsIn (now (table .entry)) links primary period first time (now (w .entry)) (now (w .exit)) (now (t .entry)) (now (t .exit)) r ⌝ }
 {
     if within(links, primary, period, first, time) {

@@ -9,13 +9,13 @@ ghost use Rattle.table_whole.specs.declared.SiteTable.{SiteTable};
 ghost use Rattle.site.specs.declared.Site.{Site};
 ghost use Rattle.site.specs.Site.{withSubscriptions};
 ghost use Rattle.site.specs.Parts.{subscriptionAt, withSubscription};
-ghost use Rattle.store_site.specs.Layout.{siteOf};
+ghost use Rattle.store_site.specs.Layout.{siteOf, siteWords};
 ghost use Rattle.store_site.specs.Turns.{Turns};
 ghost use Rattle.store_call.specs.Issued.{issuedIn};
 ghost use Rattle.call_tick.specs.Intervals.{renewed, recordAt, recordsOf};
 
 fn issues(w: &[u64], i: u16, time: u64) -> bool
-    requires { ⌜ (length (now w) ≡ 1173) × (i < 128) ⌝ }
+    requires { ⌜ (length (now w) ≡ siteWords) × (i < 128) ⌝ }
     ensures { λ r. ⌜ ((t : SiteTable) → r ≡ tickOf (subscriptionAt (siteOf (now (w .entry)) t) i) time .issues) ⌝ }
 {
     let x = store_site::parts::subscription(w, i as usize);
@@ -25,7 +25,7 @@ fn issues(w: &[u64], i: u16, time: u64) -> bool
 
 // How many records are issued, whatever the links ns are.
 pub fn how_many(w: &[u64], time: u64) -> u64
-    requires { ⌜ length (now w) ≡ 1173 ⌝ }
+    requires { ⌜ length (now w) ≡ siteWords ⌝ }
     ensures { λ r. ⌜ ((t : SiteTable) (ns : List Link) → r ≡ length (recordsOf (siteOf (now (w .entry)) t .subscriptions) (siteOf (now (w .entry)) t .statuses) ns time)) ⌝ }
 {
     let mut n: u64 = 0;
@@ -39,7 +39,7 @@ pub fn how_many(w: &[u64], time: u64) -> u64
 
 // The record of the place i, where its subscription issues one.
 fn issue_one(w: &mut [u64], i: u16, time: u64)
-    requires { ⌜ (length (now w) ≡ 1173) × (i < 128) ⌝ }
+    requires { ⌜ (length (now w) ≡ siteWords) × (i < 128) ⌝ }
     ensures { λ _. ⌜ Turns (λ (s : Site). issuedIn s (recordAt (s .subscriptions) (s .statuses) (s .links) time i)) (now (w .entry)) (now (w .exit)) ⌝ }
 {
     if issues(w, i, time) {
@@ -51,7 +51,7 @@ fn issue_one(w: &mut [u64], i: u16, time: u64)
 }
 
 pub fn issue_all(w: &mut [u64], time: u64)
-    requires { ⌜ length (now w) ≡ 1173 ⌝ }
+    requires { ⌜ length (now w) ≡ siteWords ⌝ }
     ensures { λ _. ⌜ Turns (λ (s : Site). issuedIn s (recordsOf (s .subscriptions) (s .statuses) (s .links) time)) (now (w .entry)) (now (w .exit)) ⌝ }
 {
     let mut i: u16 = 0;
@@ -62,7 +62,7 @@ pub fn issue_all(w: &mut [u64], time: u64)
 }
 
 fn renew(w: &mut [u64], i: usize, time: u64)
-    requires { ⌜ (length (now w) ≡ 1173) × (i < 128) ⌝ }
+    requires { ⌜ (length (now w) ≡ siteWords) × (i < 128) ⌝ }
     ensures { λ _. ⌜ Turns (λ (s : Site). withSubscription s i (renewed time (subscriptionAt s i))) (now (w .entry)) (now (w .exit)) ⌝ }
 {
     let x = store_site::parts::subscription(w, i);
@@ -71,7 +71,7 @@ fn renew(w: &mut [u64], i: usize, time: u64)
 }
 
 pub fn renew_all(w: &mut [u64], time: u64)
-    requires { ⌜ length (now w) ≡ 1173 ⌝ }
+    requires { ⌜ length (now w) ≡ siteWords ⌝ }
     ensures { λ _. ⌜ Turns (λ (s : Site). withSubscriptions s (map (renewed time) (s .subscriptions))) (now (w .entry)) (now (w .exit)) ⌝ }
 {
     let mut i: usize = 0;

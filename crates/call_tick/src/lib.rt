@@ -5,7 +5,7 @@ ghost use Rattle.table_whole.specs.declared.SiteTable.{SiteTable};
 ghost use Rattle.site.specs.declared.Site.{Site};
 ghost use Rattle.site.specs.Site.{withIssued};
 ghost use Rattle.site.specs.Call.{batchOf};
-ghost use Rattle.store_site.specs.Layout.{siteOf};
+ghost use Rattle.store_site.specs.Layout.{siteOf, siteWords};
 ghost use Rattle.store_site.specs.Turns.{Turns};
 ghost use Rattle.store_call.specs.Called.{StepsIn};
 ghost use Rattle.call_tick.specs.Closing.{maskTo};
@@ -19,7 +19,7 @@ mod intervals; // intervals.rt: what the subscriptions issue, and the subscripti
 
 // All that a tick does; the links that it closes.
 fn pass(w: &mut [u64], time: u64) -> u16
-    requires { ⌜ length (now w) ≡ 1173 ⌝ }
+    requires { ⌜ length (now w) ≡ siteWords ⌝ }
     ensures { λ r. ⌜ Turns (λ (s : Site). withIssued (siteAfter s time) (batchOf (tickPlan s time)) time) (now (w .entry)) (now (w .exit)) × ((t : SiteTable) → r ≡ maskTo (siteOf (now (w .entry)) t) time 4) ⌝ }
 {
     let closed = closing::close_all(w, time);
@@ -30,7 +30,7 @@ fn pass(w: &mut [u64], time: u64) -> u16
 }
 
 pub fn tick(w: &mut [u64], time: u64) -> Answer
-    requires { ⌜ length (now w) ≡ 1173 ⌝ }
+    requires { ⌜ length (now w) ≡ siteWords ⌝ }
     ensures { λ r. ⌜ ((t : SiteTable) → StepsIn t (tickStep (siteOf (now (w .entry)) t) time) (now (w .entry)) (now (w .exit)) r) ⌝ }
 {
     if store_site::head::bad_time(w, time) {

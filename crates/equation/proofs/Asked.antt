@@ -24,8 +24,8 @@ use Rattle.site.specs.declared.Step.{Step}
 use Rattle.site.specs.Call.{Plan}
 use Rattle.call_pump.specs.Pump.{dueAt, entryPlan, planFor}
 use Rattle.packet_command.specs.Handing.{commandWord}
-use Rattle.store_site.specs.Layout.{siteOf}
-use Rattle.store_table.specs.Layout.{tableOf}
+use Rattle.store_site.specs.Layout.{siteOf, siteWords}
+use Rattle.store_table.specs.Layout.{tableOf, tableBytes}
 use Rattle.sitec.specs.declared.Outcome.{Outcome}
 use Rattle.sitec.specs.Outcome.{outcomeOf}
 use Rattle.sitec.specs.Lent.{WordsAndTable, WithCommands, Called, Told, Handed}
@@ -66,7 +66,7 @@ pub record Opened (ts ws : List ℕ) (k : MachineCall) (output : List ℕ) (x : 
       → take (length (planOf (siteOf ws (tableOf ts)) code .commands)) words ≡ map commandWord (planOf (siteOf ws (tableOf ts)) code .commands)
   pub seen : x ≡ packetSeen (outBy (siteOf ws (tableOf ts)) code) words (outcomeOf (stepBy (siteOf ws (tableOf ts)) code .answer))
   pub after-it : siteOf vs (tableOf ts) ≡ stepBy (siteOf ws (tableOf ts)) code .site
-  pub sized : length vs ≡ 1173
+  pub sized : length vs ≡ siteWords
 
 nil : (xs : List ℕ) → length xs ≡ 0 → xs ≡ []
 nil [] e = refl
@@ -85,7 +85,7 @@ due-none Aggregated s l t id = refl
 due-none (Alarm k) s l t id = refl
 due-none Entry s l t id = entry-none (oldestUnsent (s .pool) l) s l t id
 
-module _ (ts ws : List ℕ) (words : length ws ≡ 1173) (table : length ts ≡ 6178) where
+module _ (ts ws : List ℕ) (words : length ws ≡ siteWords) (table : length ts ≡ tableBytes) where
   abbrev s : Site
   s = siteOf ws (tableOf ts)
 
@@ -131,7 +131,7 @@ module _ (ts ws : List ℕ) (words : length ws ≡ 1173) (table : length ts ≡ 
   lent-words c vs ys cs ds o f p h z =
       ap (take (length (planOf s c .commands))) (h .handed f (ap (λ (q : Outcome). q .number) (p .called .outcome f) ∙ z)) ∙ first-words (planOf s c .commands) cs
 
-pub opened : (ts ws : List ℕ) → length ws ≡ 1173 → length ts ≡ 6178 → (k : MachineCall) (output : List ℕ) (x : Seen) (vs : List ℕ) → Allows ts ws (call k output) x vs → Opened ts ws k output x vs
+pub opened : (ts ws : List ℕ) → length ws ≡ siteWords → length ts ≡ tableBytes → (k : MachineCall) (output : List ℕ) (x : Seen) (vs : List ℕ) → Allows ts ws (call k output) x vs → Opened ts ws k output x vs
 opened ts ws h g k output x vs (connects κs w l t o e p) = plain ts ws h g (connect l t) vs o h refl refl (λ u. (u, tt)) (p (tableOf ts))
 opened ts ws h g k output x vs (disconnects κs w l t o e p) = plain ts ws h g (disconnect l t) vs o h refl refl (λ u. (u, tt)) (p (tableOf ts))
 opened ts ws h g k output x vs (packets κs w table l t random rc cs xs o e p n) =

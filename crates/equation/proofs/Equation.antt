@@ -15,8 +15,8 @@ use Rattle.site.specs.Call.{nothingOf}
 use Rattle.call_start.specs.Starts.{Starts as Starts-so}
 use Rattle.call_start.specs.Starts.Starts.{starts as starts-so, refuses}
 use Rattle.sitec.specs.declared.Outcome.{Outcome}
-use Rattle.store_site.specs.Layout.{siteOf}
-use Rattle.store_table.specs.Layout.{tableOf}
+use Rattle.store_site.specs.Layout.{siteOf, siteWords}
+use Rattle.store_table.specs.Layout.{tableOf, tableBytes}
 use Rattle.call_start.proofs.Again.{site-again}
 use Rattle.sitec.specs.Outcome.{outcomeOf}
 use Rattle.sitec.specs.Lent.{Made, Started}
@@ -55,7 +55,7 @@ record One (ts : List ℕ) (m : Machine) (a : Ask) (x : Seen) (vs : List ℕ) : 
   seen : x ≡ shows m a
   leaves : Abstracts (siteOf vs (tableOf ts)) (next m a)
   sound : Sound (siteOf vs (tableOf ts))
-  sized : length vs ≡ 1173
+  sized : length vs ≡ siteWords
 
 same-shown : (v : List ℕ) → shown-so v ≡ shown v
 same-shown [] = refl
@@ -76,11 +76,11 @@ stands b links primary period first time x vs us o p m d =
       begun = record { answer = refl; words = m .words; bytes = m .bytes; words-kept = λ h. refl; bytes-kept = λ h. refl };
     }) d
 
-module _ (all : AllCalls) (ts : List ℕ) (table : length ts ≡ 6178) where
+module _ (all : AllCalls) (ts : List ℕ) (table : length ts ≡ tableBytes) where
   abbrev at : List ℕ → Site
   at ws = siteOf ws (tableOf ts)
 
-  one-call : (ws : List ℕ) (m : Machine) → length ws ≡ 1173 → Abstracts (at ws) m → Sound (at ws) → (k : MachineCall) (output : List ℕ) → TypedAct (k .act) → (x : Seen) (vs : List ℕ)
+  one-call : (ws : List ℕ) (m : Machine) → length ws ≡ siteWords → Abstracts (at ws) m → Sound (at ws) → (k : MachineCall) (output : List ℕ) → TypedAct (k .act) → (x : Seen) (vs : List ℕ)
       → Allows ts ws (call k output) x vs → One ts m (call k output) x vs
   one-call ws m g h sound k output typed x vs p =
       let q = opened ts ws g table k output x vs p in
@@ -95,7 +95,7 @@ module _ (all : AllCalls) (ts : List ℕ) (table : length ts ≡ 6178) where
         sized = q .sized;
       }
 
-  one : (ws : List ℕ) (m : Machine) → length ws ≡ 1173 → Abstracts (at ws) m → Sound (at ws) → (a : Ask) → Typed a → (x : Seen) (vs : List ℕ) → Allows ts ws a x vs → One ts m a x vs
+  one : (ws : List ℕ) (m : Machine) → length ws ≡ siteWords → Abstracts (at ws) m → Sound (at ws) → (a : Ask) → Typed a → (x : Seen) (vs : List ℕ) → Allows ts ws a x vs → One ts m a x vs
   one ws m g h sound (call k output) typed x vs p = one-call ws m g h sound k output typed x vs p
   one ws m g h sound (held l) typed x vs (reads-held κs w k n e p) =
       record { seen = ap count (p .reads g (tableOf ts) ∙ readings (at ws) m h l .held); leaves = h; sound = sound; sized = g }
@@ -113,14 +113,14 @@ module _ (all : AllCalls) (ts : List ℕ) (table : length ts ≡ 6178) where
   one ws m g h sound (record-of l r) typed x vs (reads-record κs w k j y e p) =
       record { seen = ap (λ (y : Reading). entry (y .found) (y .bytes)) (p .reads g (tableOf ts) ∙ readings (at ws) m h l .records r); leaves = h; sound = sound; sized = g }
 
-  same : (ws : List ℕ) (m : Machine) → length ws ≡ 1173 → Abstracts (at ws) m → Sound (at ws) → (more : List Ask) → AllTyped more → (seen : List Seen) → Run ts ws more seen → seen ≡ showsAll m more
+  same : (ws : List ℕ) (m : Machine) → length ws ≡ siteWords → Abstracts (at ws) m → Sound (at ws) → (more : List Ask) → AllTyped more → (seen : List Seen) → Run ts ws more seen → seen ≡ showsAll m more
   same ws m g h sound [] typed seen ends = refl
   same ws m g h sound (a ∷ more) typed seen (asks {vs = vs} {x = x} {xs = xs} p r) =
       let o = one ws m g h sound a (typed .0) x vs p in
       ap₂ (λ (y : Seen) (ys : List Seen). y ∷ ys) (o .seen) (same vs (next m a) (o .sized) (o .leaves) (o .sound) more (typed .1) xs r)
 
 module _ (all : AllCalls) where
-  sees : (x : Step) (m : Option Machine) (vs us : List ℕ) → length vs ≡ 1173 → length us ≡ 6178 → (isDone (x .answer) ≡ true → siteOf vs (tableOf us) ≡ x .site)
+  sees : (x : Step) (m : Option Machine) (vs us : List ℕ) → length vs ≡ siteWords → length us ≡ tableBytes → (isDone (x .answer) ≡ true → siteOf vs (tableOf us) ≡ x .site)
       → (isDone (x .answer) ≡ true → Sound (x .site)) → SameStart x m → Sees (outcomeOf (x .answer)) vs us m
   sees x m vs us g k st f not-accepted = refl
   sees x m vs us g k st f (accepted {s = s} {m = n} h) =

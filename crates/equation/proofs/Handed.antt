@@ -19,8 +19,8 @@ use Rattle.number.specs.Signed.{Signed32, wordOf, signedOf}
 use Rattle.number.proofs.RoundTrip.{signed-word, word-lt}
 use Rattle.site.specs.declared.Site.{Site}
 use Rattle.site.specs.Call.{Command}
-use Rattle.store_site.specs.Layout.{siteOf}
-use Rattle.store_table.specs.Layout.{tableOf}
+use Rattle.store_site.specs.Layout.{siteOf, siteWords}
+use Rattle.store_table.specs.Layout.{tableOf, tableBytes}
 use Rattle.packet_command.specs.Handing.{commandWord, handedOver}
 use Rattle.calls.specs.Calls.{Call, planOf, stepBy}
 use Rattle.calls.specs.Calls.Call.{packet}
@@ -78,9 +78,9 @@ commands-misfit ts ws cs output o vs ds ys (packet-call κs w table l t random r
 
 -- it fits, or its number is 14
 fits-or : (ws ts cs : List ℕ) → WithCommands ws ts cs ⊎ (WithCommands ws ts cs → ⊥)
-fits-or ws ts cs = by (eq-or-ne (length ws) 1173) (eq-or-ne (length ts) 6178) (eq-or-ne (length cs) 16)
+fits-or ws ts cs = by (eq-or-ne (length ws) siteWords) (eq-or-ne (length ts) tableBytes) (eq-or-ne (length cs) 16)
   where
-    by : (length ws ≡ 1173) ⊎ (length ws ≡ 1173 → ⊥) → (length ts ≡ 6178) ⊎ (length ts ≡ 6178 → ⊥) → (length cs ≡ 16) ⊎ (length cs ≡ 16 → ⊥)
+    by : (length ws ≡ siteWords) ⊎ (length ws ≡ siteWords → ⊥) → (length ts ≡ tableBytes) ⊎ (length ts ≡ tableBytes → ⊥) → (length cs ≡ 16) ⊎ (length cs ≡ 16 → ⊥)
         → WithCommands ws ts cs ⊎ (WithCommands ws ts cs → ⊥)
     by (inl a) (inl b) (inl c) = inl (a, b, c)
     by (inl a) (inl b) (inr c) = inr (λ z. c (z .2))

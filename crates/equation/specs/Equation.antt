@@ -16,6 +16,8 @@ use Rattle.equation.specs.Seen.{Ask, Seen, showsAll, AllTyped}
 use Rattle.equation.specs.Seen.Ask.{call}
 use Rattle.equation.specs.Seen.Seen.{told}
 use Rattle.equation.specs.Contracts.{Starts, Packets, Allows, Run, outcomeSeen}
+use Rattle.store_site.specs.Layout.{siteWords}
+use Rattle.store_table.specs.Layout.{tableBytes}
 
 -- the machine's start; no primary where it is 4294967295
 abbrev pub startFor : Bytes → ℕ → ℕ → ℕ → ℕ → ℕ → Start
@@ -42,18 +44,18 @@ pub record FromStart (start : Start) (o : Outcome) (vs : List ℕ) (us : Bytes) 
 
 -- a site is lent 1,173 words, and 6,178 bytes for its table
 pub record Fits (ws : List ℕ) (ts : Bytes) : Type 0 where
-  pub words : length ws ≡ 1173
-  pub table : length ts ≡ 6178
+  pub words : length ws ≡ siteWords
+  pub table : length ts ≡ tableBytes
 
 -- the memory that a call needs: its words, and the table where it reads it
 abbrev pub Serves : Act → List ℕ → Bytes → Type 0
-Serves (connect l) ws ts = length ws ≡ 1173
-Serves (disconnect l) ws ts = length ws ≡ 1173
+Serves (connect l) ws ts = length ws ≡ siteWords
+Serves (disconnect l) ws ts = length ws ≡ siteWords
 Serves (packet l random received room) ws ts = Fits ws ts
 Serves (alarmInput i active) ws ts = Fits ws ts
 Serves (statusValue i v) ws ts = Fits ws ts
-Serves (aggregatedValue v) ws ts = length ws ≡ 1173
-Serves tick ws ts = length ws ≡ 1173
+Serves (aggregatedValue v) ws ts = length ws ≡ siteWords
+Serves tick ws ts = length ws ≡ siteWords
 Serves (pump l random room) ws ts = Fits ws ts
 
 pub record Equation : Type 0 where

@@ -24,7 +24,7 @@ use Rattle.table_whole.proofs.Whole.{once as one-table}
 use Rattle.site.specs.declared.Site.{Site}
 use Rattle.site.specs.declared.Step.{Step}
 use Rattle.site.specs.Call.{Command, Plan, Gives, outAfter}
-use Rattle.store_site.specs.Layout.{siteOf}
+use Rattle.store_site.specs.Layout.{siteOf, siteWords}
 use Rattle.store_site.specs.Turns.{Plain}
 use Rattle.store_whole.specs.Image.{wordsOf, Wide}
 use Rattle.store_whole.proofs.Back.{words-back}
@@ -49,15 +49,15 @@ gives-once : {s : Site} {time : ℕ} {refuses : Refusal → Bool} {p : Plan} {xs
 gives-once {p = p} {xs = xs} a b = let e = a .step ∙ sym (b .step) in (e, by-answer xs (p .messages) e (a .out) (b .out))
 
 -- words that stand for one site are the same
-same-words : (t : SiteTable) (vs us : List ℕ) → length vs ≡ 1173 → length us ≡ 1173 → Plain vs → Plain us → Wide vs → Wide us → siteOf vs t ≡ siteOf us t → vs ≡ us
+same-words : (t : SiteTable) (vs us : List ℕ) → length vs ≡ siteWords → length us ≡ siteWords → Plain vs → Plain us → Wide vs → Wide us → siteOf vs t ≡ siteOf us t → vs ≡ us
 same-words t vs us a b p q v u e = sym (words-back vs v t a p) ∙ ap wordsOf e ∙ words-back us u t b q
 
-called-once : {Fits : Type 0} {t : SiteTable} {x : Step} {ws vs us : List ℕ} {r q : Outcome} → Fits → length ws ≡ 1173 → Plain ws → Wide vs → Wide us
+called-once : {Fits : Type 0} {t : SiteTable} {x : Step} {ws vs us : List ℕ} {r q : Outcome} → Fits → length ws ≡ siteWords → Plain ws → Wide vs → Wide us
     → Called Fits t x ws vs r → Called Fits t x ws us q → (r ≡ q) × (vs ≡ us)
 called-once {t = t} {vs = vs} {us = us} f n p v u a b =
     (a .outcome f ∙ sym (b .outcome f), same-words t vs us (a .sized ∙ n) (b .sized ∙ n) (a .plain p) (b .plain p) v u (a .site f ∙ sym (b .site f)))
 
-told-once : {Fits : Type 0} {t : SiteTable} {time : ℕ} {refuses : Refusal → Bool} {p : Plan} {ws vs us xs ys zs : List ℕ} {r q : Outcome} → Fits → length ws ≡ 1173 → Plain ws → Wide vs → Wide us
+told-once : {Fits : Type 0} {t : SiteTable} {time : ℕ} {refuses : Refusal → Bool} {p : Plan} {ws vs us xs ys zs : List ℕ} {r q : Outcome} → Fits → length ws ≡ siteWords → Plain ws → Wide vs → Wide us
     → Told Fits t time refuses p ws vs xs ys r → Told Fits t time refuses p ws us xs zs q → (r ≡ q) × (vs ≡ us) × (ys ≡ zs)
 told-once f n p v u a b = let e = called-once f n p v u (a .called) (b .called) in (e .0, e .1, a .out f ∙ sym (b .out f))
 
@@ -72,7 +72,7 @@ words-handed {ds = ds} {es = es} {r = r} {q = q} f e a b = by (eq-or-ne (r .numb
     by (inl z) = a .handed f z ∙ sym (b .handed f (sym also ∙ z))
     by (inr n) = a .unhanded (omega (arith, n)) ∙ sym (b .unhanded (omega (arith, n, also)))
 
-handed-once : {Fits : Type 0} {t : SiteTable} {time : ℕ} {refuses : Refusal → Bool} {p : Plan} {ws vs us xs ys zs cs ds es : List ℕ} {r q : Outcome} → Fits → length ws ≡ 1173 → Plain ws → Wide vs → Wide us
+handed-once : {Fits : Type 0} {t : SiteTable} {time : ℕ} {refuses : Refusal → Bool} {p : Plan} {ws vs us xs ys zs cs ds es : List ℕ} {r q : Outcome} → Fits → length ws ≡ siteWords → Plain ws → Wide vs → Wide us
     → Told Fits t time refuses p ws vs xs ys r × Handed Fits (p .commands) cs ds r → Told Fits t time refuses p ws us xs zs q × Handed Fits (p .commands) cs es q
     → (r ≡ q) × (vs ≡ us) × (ys ≡ zs) × (ds ≡ es)
 handed-once f n p v u a b = let e = told-once f n p v u (a .0) (b .0) in (e .0, e .1, e .2, words-handed f (e .0) (a .1) (b .1))

@@ -43,16 +43,17 @@ use Rattle.sitec.specs.Lent.{Words, WordsAndTable, Called, Told, Handed, Starte
 use Rattle.table_whole.specs.declared.SiteTable.{SiteTable}
 use Rattle.store_site.specs.Turns.{Plain}
 use Rattle.store_whole.specs.Image.{Wide}
+use Rattle.store_site.specs.Layout.{siteWords}
 
 pub record Once : Type 1 where
   -- ---- what is exported: the outcome, the words and the bytes of a lent output. Words in which what has happened on a link is 0 or 1 (start leaves such, and every
   -- call keeps them so) are told to the last bit; a word has 64
-  pub called : {Fits : Type 0} {t : SiteTable} {x : Step} {ws vs us : List ℕ} {r q : Outcome} → Fits → length ws ≡ 1173 → Plain ws → Wide vs → Wide us
+  pub called : {Fits : Type 0} {t : SiteTable} {x : Step} {ws vs us : List ℕ} {r q : Outcome} → Fits → length ws ≡ siteWords → Plain ws → Wide vs → Wide us
       → Called Fits t x ws vs r → Called Fits t x ws us q → (r ≡ q) × (vs ≡ us)
-  pub told : {Fits : Type 0} {t : SiteTable} {time : ℕ} {refuses : Refusal → Bool} {p : Plan} {ws vs us xs ys zs : List ℕ} {r q : Outcome} → Fits → length ws ≡ 1173 → Plain ws → Wide vs → Wide us
+  pub told : {Fits : Type 0} {t : SiteTable} {time : ℕ} {refuses : Refusal → Bool} {p : Plan} {ws vs us xs ys zs : List ℕ} {r q : Outcome} → Fits → length ws ≡ siteWords → Plain ws → Wide vs → Wide us
       → Told Fits t time refuses p ws vs xs ys r → Told Fits t time refuses p ws us xs zs q → (r ≡ q) × (vs ≡ us) × (ys ≡ zs)
   -- a packet call, with the words lent for its commands
-  pub handed : {Fits : Type 0} {t : SiteTable} {time : ℕ} {refuses : Refusal → Bool} {p : Plan} {ws vs us xs ys zs cs ds es : List ℕ} {r q : Outcome} → Fits → length ws ≡ 1173 → Plain ws → Wide vs → Wide us
+  pub handed : {Fits : Type 0} {t : SiteTable} {time : ℕ} {refuses : Refusal → Bool} {p : Plan} {ws vs us xs ys zs cs ds es : List ℕ} {r q : Outcome} → Fits → length ws ≡ siteWords → Plain ws → Wide vs → Wide us
       → Told Fits t time refuses p ws vs xs ys r × Handed Fits (p .commands) cs ds r → Told Fits t time refuses p ws us xs zs q × Handed Fits (p .commands) cs es q
       → (r ≡ q) × (vs ≡ us) × (ys ≡ zs) × (ds ≡ es)
   pub started : {b : List ℕ} {links primary period first time : ℕ} {ws vs us xs ys zs : List ℕ} {r q : Outcome} → WordsAndTable ws xs

@@ -5,7 +5,7 @@ ghost use Prim.Native.Nat.{_<_};
 ghost use lib.ListN.{length};
 ghost use Rattle.answer.specs.Given.Hint.{none};
 ghost use Rattle.table_whole.specs.declared.SiteTable.{SiteTable};
-ghost use Rattle.store_table.specs.Layout.{tableOf};
+ghost use Rattle.store_table.specs.Layout.{tableOf, tableBytes};
 ghost use Rattle.packet_lookup.specs.Sought.{alarmSought, componentSought};
 ghost use Rattle.output.specs.Put.{Wrote};
 ghost use Rattle.json_find.specs.Index.{Indexed};
@@ -16,7 +16,7 @@ ghost use Rattle.send_message.specs.Sending.{alarmMessage, aggregatedMessage};
 ghost use Rattle.site.specs.declared.Site.{Site};
 ghost use Rattle.site.specs.Call.{never};
 ghost use Rattle.site.specs.Parts.{withAlarm};
-ghost use Rattle.store_site.specs.Layout.{siteOf, withLast};
+ghost use Rattle.store_site.specs.Layout.{siteOf, withLast, siteWords};
 ghost use Rattle.store_site.specs.Turns.{Turns};
 ghost use Rattle.store_call.specs.Called.{GivesIn};
 ghost use Rattle.store_call.specs.Issued.{issuedIn};
@@ -40,7 +40,7 @@ use read_head::Verdict;
 
 // The alarm afterwards, the record of its change or none, and the time.
 fn keep(w: &mut [u64], time: u64, k: u8, c: Changed)
-    requires { ⌜ length (now w) ≡ 1173 ⌝ }
+    requires { ⌜ length (now w) ≡ siteWords ⌝ }
     ensures { λ _. ⌜ Turns (λ (s : Site). withLast (issuedIn (withAlarm s k (c .alarm)) (recordsOf s k c)) time) (now (w .entry)) (now (w .exit)) ⌝ }
 {
     let a = c.alarm;
@@ -58,7 +58,7 @@ fn changed(
     c: Changed,
     out: &mut [u8],
 ) -> Answer
-    requires { ⌜ length (now w) ≡ 1173 ⌝ }
+    requires { ⌜ length (now w) ≡ siteWords ⌝ }
     ensures { λ r. ⌜ ((t : SiteTable) → GivesIn t time never (changedTo (siteOf (now (w .entry)) t) (received .bytes) k c .plan) (now (w .entry)) (now (w .exit)) (now (out .entry)) (now (out .exit)) r) ⌝ }
 {
     let n = store_call::records::of_alarm(w, c);
@@ -79,7 +79,7 @@ fn change(
     order: alarm::Order,
     out: &mut [u8],
 ) -> Answer
-    requires { ⌜ length (now w) ≡ 1173 ⌝ }
+    requires { ⌜ length (now w) ≡ siteWords ⌝ }
     ensures { λ r. ⌜ ((t : SiteTable) → GivesIn t time never (changeTaken (siteOf (now (w .entry)) t) time (received .bytes) k order .plan) (now (w .entry)) (now (w .exit)) (now (out .entry)) (now (out .exit)) r) ⌝ }
 {
     let a = store_site::items::alarm(w, k as usize);
@@ -95,7 +95,7 @@ fn answer_and_alarm(
     k: u8,
     out: &mut [u8],
 ) -> usize
-    requires { ⌜ (length (now w) ≡ 1173) × (length (now t) ≡ 6178) ⌝ }
+    requires { ⌜ (length (now w) ≡ siteWords) × (length (now t) ≡ tableBytes) ⌝ }
     ensures { λ r. ⌜ Wrote (now (out .entry)) 0 (pieces (ack (received .bytes)) ++ pieces (alarmMessage (siteOf (now (w .entry)) (tableOf (now (t .entry)))) (id .bytes) k)) (now (out .exit)) r ⌝ }
 {
     let end = packet_answer::ack(received, out);
@@ -117,7 +117,7 @@ fn reply_alarm(
     k: u8,
     out: &mut [u8],
 ) -> Answer
-    requires { ⌜ (length (now w) ≡ 1173) × ((length (now t) ≡ 6178) × (l < 4)) ⌝ }
+    requires { ⌜ (length (now w) ≡ siteWords) × ((length (now t) ≡ tableBytes) × (l < 4)) ⌝ }
     ensures { λ r. ⌜ TakesIn (tableOf (now (t .entry))) l time id (unlessBusy (siteOf (now (w .entry)) (tableOf (now (t .entry)))) l (received .bytes) (replied (siteOf (now (w .entry)) (tableOf (now (t .entry)))) l time id (received .bytes) (alarmMessage (siteOf (now (w .entry)) (tableOf (now (t .entry)))) (id .bytes) k))) (now (w .entry)) (now (w .exit)) (now (out .entry)) (now (out .exit)) r ⌝ }
 {
     if packet_answer::is_busy(w, l) {
@@ -132,7 +132,7 @@ fn reply_alarm(
 
 // Acknowledged, and nothing else.
 fn accept(w: &mut [u64], time: u64, received: Received, out: &mut [u8]) -> Answer
-    requires { ⌜ length (now w) ≡ 1173 ⌝ }
+    requires { ⌜ length (now w) ≡ siteWords ⌝ }
     ensures { λ r. ⌜ ((t : SiteTable) → GivesIn t time never (acked (siteOf (now (w .entry)) t) [] (received .bytes) none .plan) (now (w .entry)) (now (w .exit)) (now (out .entry)) (now (out .exit)) r) ⌝ }
 {
     let end = packet_answer::ack(received, out);
@@ -150,7 +150,7 @@ fn request(
     k: u8,
     out: &mut [u8],
 ) -> Answer
-    requires { ⌜ (length (now w) ≡ 1173) × ((length (now t) ≡ 6178) × (l < 4)) ⌝ }
+    requires { ⌜ (length (now w) ≡ siteWords) × ((length (now t) ≡ tableBytes) × (l < 4)) ⌝ }
     ensures { λ r. ⌜ TakesIn (tableOf (now (t .entry))) l time id (requestTaken (siteOf (now (w .entry)) (tableOf (now (t .entry)))) l time id (received .bytes) k) (now (w .entry)) (now (w .exit)) (now (out .entry)) (now (out .exit)) r ⌝ }
 {
     let role = store_site::head::role(w, l);
@@ -171,7 +171,7 @@ fn ordered(
     order: Order,
     out: &mut [u8],
 ) -> Answer
-    requires { ⌜ (length (now w) ≡ 1173) × ((length (now t) ≡ 6178) × (l < 4)) ⌝ }
+    requires { ⌜ (length (now w) ≡ siteWords) × ((length (now t) ≡ tableBytes) × (l < 4)) ⌝ }
     ensures { λ r. ⌜ TakesIn (tableOf (now (t .entry))) l time id (orderedBy (siteOf (now (w .entry)) (tableOf (now (t .entry)))) l time id (received .bytes) k order) (now (w .entry)) (now (w .exit)) (now (out .entry)) (now (out .exit)) r ⌝ }
 {
     match order {
@@ -183,7 +183,7 @@ fn ordered(
 }
 
 fn alarm_of(t: &[u8], f: AlarmFields) -> SoughtAlarm
-    requires { ⌜ length (now t) ≡ 6178 ⌝ }
+    requires { ⌜ length (now t) ≡ tableBytes ⌝ }
     ensures { λ r. ⌜ r ≡ alarmSought (tableOf (now (t .entry))) (f .component) (f .code) ⌝ }
 {
     let component = f.component;
@@ -201,7 +201,7 @@ fn find(
     f: AlarmFields,
     out: &mut [u8],
 ) -> Answer
-    requires { ⌜ (length (now w) ≡ 1173) × ((length (now t) ≡ 6178) × (l < 4)) ⌝ }
+    requires { ⌜ (length (now w) ≡ siteWords) × ((length (now t) ≡ tableBytes) × (l < 4)) ⌝ }
     ensures { λ r. ⌜ TakesIn (tableOf (now (t .entry))) l time id (foundTaken (siteOf (now (w .entry)) (tableOf (now (t .entry)))) l time id (received .bytes) f) (now (w .entry)) (now (w .exit)) (now (out .entry)) (now (out .exit)) r ⌝ }
 {
     let a = alarm_of(t, f);
@@ -227,7 +227,7 @@ fn judge(
     f: AlarmFields,
     out: &mut [u8],
 ) -> Answer
-    requires { ⌜ (length (now w) ≡ 1173) × ((length (now t) ≡ 6178) × (l < 4)) ⌝ }
+    requires { ⌜ (length (now w) ≡ siteWords) × ((length (now t) ≡ tableBytes) × (l < 4)) ⌝ }
     ensures { λ r. ⌜ TakesIn (tableOf (now (t .entry))) l time id (alarmTaken (siteOf (now (w .entry)) (tableOf (now (t .entry)))) l time id (received .bytes) f) (now (w .entry)) (now (w .exit)) (now (out .entry)) (now (out .exit)) r ⌝ }
 {
     let v = f.verdict;
@@ -256,7 +256,7 @@ pub fn alarm(
     places: &[usize],
     out: &mut [u8],
 ) -> Answer
-    requires { ⌜ (length (now w) ≡ 1173) × ((length (now t) ≡ 6178) × ((l < 4) × Indexed (now packet) (now places))) ⌝ }
+    requires { ⌜ (length (now w) ≡ siteWords) × ((length (now t) ≡ tableBytes) × ((l < 4) × Indexed (now packet) (now places))) ⌝ }
     ensures { λ r. ⌜ TakesIn (tableOf (now (t .entry))) l time id (alarmTaken (siteOf (now (w .entry)) (tableOf (now (t .entry)))) l time id (received .bytes) (alarmAt (now (packet .entry)))) (now (w .entry)) (now (w .exit)) (now (out .entry)) (now (out .exit)) r ⌝ }
 {
     let f = read_head::read_alarm(packet, places);
@@ -271,7 +271,7 @@ fn answer_and_aggregated(
     received: Received,
     out: &mut [u8],
 ) -> usize
-    requires { ⌜ (length (now w) ≡ 1173) × (length (now t) ≡ 6178) ⌝ }
+    requires { ⌜ (length (now w) ≡ siteWords) × (length (now t) ≡ tableBytes) ⌝ }
     ensures { λ r. ⌜ Wrote (now (out .entry)) 0 (pieces (ack (received .bytes)) ++ pieces (aggregatedMessage (siteOf (now (w .entry)) (tableOf (now (t .entry)))) (id .bytes))) (now (out .exit)) r ⌝ }
 {
     let end = packet_answer::ack(received, out);
@@ -292,7 +292,7 @@ fn reply_aggregated(
     received: Received,
     out: &mut [u8],
 ) -> Answer
-    requires { ⌜ (length (now w) ≡ 1173) × ((length (now t) ≡ 6178) × (l < 4)) ⌝ }
+    requires { ⌜ (length (now w) ≡ siteWords) × ((length (now t) ≡ tableBytes) × (l < 4)) ⌝ }
     ensures { λ r. ⌜ TakesIn (tableOf (now (t .entry))) l time id (unlessBusy (siteOf (now (w .entry)) (tableOf (now (t .entry)))) l (received .bytes) (replied (siteOf (now (w .entry)) (tableOf (now (t .entry)))) l time id (received .bytes) (aggregatedMessage (siteOf (now (w .entry)) (tableOf (now (t .entry)))) (id .bytes)))) (now (w .entry)) (now (w .exit)) (now (out .entry)) (now (out .exit)) r ⌝ }
 {
     if packet_answer::is_busy(w, l) {
@@ -315,7 +315,7 @@ fn is_zero(c: Sought) -> bool
 }
 
 fn carries(t: &[u8], id: Label) -> bool
-    requires { ⌜ length (now t) ≡ 6178 ⌝ }
+    requires { ⌜ length (now t) ≡ tableBytes ⌝ }
     ensures { λ r. ⌜ r ≡ isZero (componentSought (tableOf (now (t .entry))) id) ⌝ }
 {
     is_zero(packet_lookup::component(t, id))
@@ -331,7 +331,7 @@ fn aggregated_for(
     component: Label,
     out: &mut [u8],
 ) -> Answer
-    requires { ⌜ (length (now w) ≡ 1173) × ((length (now t) ≡ 6178) × (l < 4)) ⌝ }
+    requires { ⌜ (length (now w) ≡ siteWords) × ((length (now t) ≡ tableBytes) × (l < 4)) ⌝ }
     ensures { λ r. ⌜ TakesIn (tableOf (now (t .entry))) l time id (aggregatedOf (siteOf (now (w .entry)) (tableOf (now (t .entry)))) l time id (received .bytes) (componentSought (tableOf (now (t .entry))) component)) (now (w .entry)) (now (w .exit)) (now (out .entry)) (now (out .exit)) r ⌝ }
 {
     if carries(t, component) {
@@ -350,7 +350,7 @@ fn judge_aggregated(
     f: GotLabel,
     out: &mut [u8],
 ) -> Answer
-    requires { ⌜ (length (now w) ≡ 1173) × ((length (now t) ≡ 6178) × (l < 4)) ⌝ }
+    requires { ⌜ (length (now w) ≡ siteWords) × ((length (now t) ≡ tableBytes) × (l < 4)) ⌝ }
     ensures { λ r. ⌜ TakesIn (tableOf (now (t .entry))) l time id (aggregatedTaken (siteOf (now (w .entry)) (tableOf (now (t .entry)))) l time id (received .bytes) f) (now (w .entry)) (now (w .exit)) (now (out .entry)) (now (out .exit)) r ⌝ }
 {
     let v = f.verdict;
@@ -379,7 +379,7 @@ pub fn aggregated(
     places: &[usize],
     out: &mut [u8],
 ) -> Answer
-    requires { ⌜ (length (now w) ≡ 1173) × ((length (now t) ≡ 6178) × ((l < 4) × Indexed (now packet) (now places))) ⌝ }
+    requires { ⌜ (length (now w) ≡ siteWords) × ((length (now t) ≡ tableBytes) × ((l < 4) × Indexed (now packet) (now places))) ⌝ }
     ensures { λ r. ⌜ TakesIn (tableOf (now (t .entry))) l time id (aggregatedTaken (siteOf (now (w .entry)) (tableOf (now (t .entry)))) l time id (received .bytes) (aggregatedAt (now (packet .entry)))) (now (w .entry)) (now (w .exit)) (now (out .entry)) (now (out .exit)) r ⌝ }
 {
     let f = read_head::read_aggregated(packet, places);

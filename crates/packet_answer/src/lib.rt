@@ -13,7 +13,7 @@ ghost use Rattle.write_message.specs.Pieces.{pieces};
 ghost use Rattle.site.specs.declared.Site.{Site};
 ghost use Rattle.site.specs.Site.{linkAt};
 ghost use Rattle.site.specs.Call.{never};
-ghost use Rattle.store_site.specs.Layout.{siteOf, withLast};
+ghost use Rattle.store_site.specs.Layout.{siteOf, withLast, siteWords};
 ghost use Rattle.store_site.specs.Turns.{Turns};
 ghost use Rattle.store_call.specs.Called.{GivesIn};
 ghost use Rattle.packet_answer.specs.Taken.{notAcked, closing};
@@ -25,7 +25,7 @@ use read_head::Received;
 
 // Number 9's condition, where something is to be sent.
 pub fn is_awaited(w: &[u64], l: u16, id: Identity) -> bool
-    requires { ⌜ (length (now w) ≡ 1173) × (l < 4) ⌝ }
+    requires { ⌜ (length (now w) ≡ siteWords) × (l < 4) ⌝ }
     ensures { λ r. ⌜ ((t : SiteTable) → r ≡ isAwaited (findOf (linkAt (siteOf (now (w .entry)) t) l .awaited) id)) ⌝ }
 {
     store_site::phases::awaits(w, l as usize, id)
@@ -33,7 +33,7 @@ pub fn is_awaited(w: &[u64], l: u16, id: Identity) -> bool
 
 // "Busy", where a reply is due.
 pub fn is_busy(w: &[u64], l: u16) -> bool
-    requires { ⌜ (length (now w) ≡ 1173) × (l < 4) ⌝ }
+    requires { ⌜ (length (now w) ≡ siteWords) × (l < 4) ⌝ }
     ensures { λ r. ⌜ ((t : SiteTable) → r ≡ fullOf (linkAt (siteOf (now (w .entry)) t) l)) ⌝ }
 {
     store_site::phases::full(w, l as usize)
@@ -53,7 +53,7 @@ pub fn report(hint: u64, hinted: u16, end: usize, closed: u16) -> Report
 
 // The end of a call that wrote up to an end: its time is kept.
 pub fn done(w: &mut [u64], time: u64, hint: u64, hinted: u16, end: usize, closed: u16) -> Answer
-    requires { ⌜ length (now w) ≡ 1173 ⌝ }
+    requires { ⌜ length (now w) ≡ siteWords ⌝ }
     ensures { λ r. ⌜ (r ≡ Done (reportOf hint hinted end closed)) × Turns (λ (s : Site). withLast s time) (now (w .entry)) (now (w .exit)) ⌝ }
 {
     store_site::parts::put_last(w, time);
@@ -84,7 +84,7 @@ pub fn not_ack(
     reason: usize,
     out: &mut [u8],
 ) -> Answer
-    requires { ⌜ length (now w) ≡ 1173 ⌝ }
+    requires { ⌜ length (now w) ≡ siteWords ⌝ }
     ensures { λ r. ⌜ ((t : SiteTable) → GivesIn t time never (notAcked (siteOf (now (w .entry)) t) (received .bytes) reason .plan) (now (w .entry)) (now (w .exit)) (now (out .entry)) (now (out .exit)) r) ⌝ }
 {
     let end = refusal(received, reason, out);
@@ -100,7 +100,7 @@ pub fn close(
     reason: usize,
     out: &mut [u8],
 ) -> Answer
-    requires { ⌜ (length (now w) ≡ 1173) × (l < 4) ⌝ }
+    requires { ⌜ (length (now w) ≡ siteWords) × (l < 4) ⌝ }
     ensures { λ r. ⌜ ((t : SiteTable) → GivesIn t time never (closing (siteOf (now (w .entry)) t) l (received .bytes) reason .plan) (now (w .entry)) (now (w .exit)) (now (out .entry)) (now (out .exit)) r) ⌝ }
 {
     let end = refusal(received, reason, out);
@@ -110,7 +110,7 @@ pub fn close(
 
 // The reply is awaited, and the call's time is kept.
 fn replied(w: &mut [u64], l: u16, time: u64, id: Identity)
-    requires { ⌜ (length (now w) ≡ 1173) × (l < 4) ⌝ }
+    requires { ⌜ (length (now w) ≡ siteWords) × (l < 4) ⌝ }
     ensures { λ _. ⌜ Turns (λ (s : Site). repliedAt s l time id 0 .site) (now (w .entry)) (now (w .exit)) ⌝ }
 {
     let k = store_site::parts::link(w, l as usize);
@@ -120,7 +120,7 @@ fn replied(w: &mut [u64], l: u16, time: u64, id: Identity)
 
 // The end of a call that wrote MessageAck and a reply up to an end.
 pub fn reply_done(w: &mut [u64], l: u16, time: u64, id: Identity, end: usize) -> Answer
-    requires { ⌜ (length (now w) ≡ 1173) × (l < 4) ⌝ }
+    requires { ⌜ (length (now w) ≡ siteWords) × (l < 4) ⌝ }
     ensures { λ r. ⌜ (r ≡ Done (reportOf 0 0 end 0)) × Turns (λ (s : Site). repliedAt s l time id end .site) (now (w .entry)) (now (w .exit)) ⌝ }
 {
     replied(w, l, time, id);
@@ -136,7 +136,7 @@ pub fn hand_done(
     end: usize,
     commands: usize,
 ) -> Answer
-    requires { ⌜ (length (now w) ≡ 1173) × (l < 4) ⌝ }
+    requires { ⌜ (length (now w) ≡ siteWords) × (l < 4) ⌝ }
     ensures { λ r. ⌜ (r ≡ Done (handed end commands)) × Turns (λ (s : Site). repliedAt s l time id end .site) (now (w .entry)) (now (w .exit)) ⌝ }
 {
     replied(w, l, time, id);

@@ -13,10 +13,10 @@ ghost use Rattle.write_message.specs.Pieces.{pieces, entryPieces, entriesPieces
 ghost use Rattle.json_find.specs.Index.{Indexed};
 ghost use Rattle.read_commands.specs.Command.{noCommand, commandAt};
 ghost use Rattle.table_whole.specs.declared.SiteTable.{SiteTable};
-ghost use Rattle.store_table.specs.Layout.{tableOf};
+ghost use Rattle.store_table.specs.Layout.{tableOf, tableBytes};
 ghost use Rattle.packet_lookup.specs.Sought.{componentSought, commandSought, isSought};
 ghost use Rattle.site.specs.declared.Site.{Site};
-ghost use Rattle.store_site.specs.Layout.{siteOf};
+ghost use Rattle.store_site.specs.Layout.{siteOf, siteWords};
 ghost use Rattle.packet_answer.specs.Taken.{handing, unlessBusy};
 ghost use Rattle.packet_answer.specs.Takes.{TakesIn};
 ghost use Rattle.packet_command.specs.Commanding.{entryAt, inRange, within as withinOf, allWithin, allCommands, keepsRanges as keepsRangesOf, passes as passesOf, valueIn, toldOf, toldTo, response, numberOf, commandOf, commandsTo, commandsOf, orderedOf, commandTaken};
@@ -68,7 +68,7 @@ fn in_range(row: Item, v: i32) -> bool
 }
 
 fn within(t: &[u8], k: Sought, v: i32) -> bool
-    requires { ⌜ length (now t) ≡ 6178 ⌝ }
+    requires { ⌜ length (now t) ≡ tableBytes ⌝ }
     ensures { λ r. ⌜ r ≡ withinOf (tableOf (now (t .entry))) k v ⌝ }
 {
     match k {
@@ -78,14 +78,14 @@ fn within(t: &[u8], k: Sought, v: i32) -> bool
 }
 
 fn entry_within(t: &[u8], component: u8, e: CommandEntry) -> bool
-    requires { ⌜ length (now t) ≡ 6178 ⌝ }
+    requires { ⌜ length (now t) ≡ tableBytes ⌝ }
     ensures { λ r. ⌜ r ≡ withinOf (tableOf (now (t .entry))) (commandSought (tableOf (now (t .entry))) component e) (e .value) ⌝ }
 {
     within(t, packet_lookup::command(t, component, e), e.value)
 }
 
 fn all_within(t: &[u8], component: u8, entries: [CommandEntry; 16], count: usize) -> bool
-    requires { ⌜ length (now t) ≡ 6178 ⌝ }
+    requires { ⌜ length (now t) ≡ tableBytes ⌝ }
     ensures { λ r. ⌜ r ≡ allWithin (tableOf (now (t .entry))) component entries count ⌝ }
 {
     let mut ok = true;
@@ -98,14 +98,14 @@ fn all_within(t: &[u8], component: u8, entries: [CommandEntry; 16], count: usize
 }
 
 fn is_command(t: &[u8], component: u8, e: CommandEntry) -> bool
-    requires { ⌜ length (now t) ≡ 6178 ⌝ }
+    requires { ⌜ length (now t) ≡ tableBytes ⌝ }
     ensures { λ r. ⌜ r ≡ isSought (commandSought (tableOf (now (t .entry))) component e) ⌝ }
 {
     packet_lookup::is_sought(packet_lookup::command(t, component, e))
 }
 
 fn all_commands(t: &[u8], component: u8, entries: [CommandEntry; 16], count: usize) -> bool
-    requires { ⌜ length (now t) ≡ 6178 ⌝ }
+    requires { ⌜ length (now t) ≡ tableBytes ⌝ }
     ensures { λ r. ⌜ r ≡ allCommands (tableOf (now (t .entry))) component entries count ⌝ }
 {
     let mut ok = true;
@@ -119,7 +119,7 @@ fn all_commands(t: &[u8], component: u8, entries: [CommandEntry; 16], count: usi
 
 // Whether no value of a known component's command is outside its range.
 fn keeps_ranges(t: &[u8], f: CommandFields, component: Sought) -> bool
-    requires { ⌜ length (now t) ≡ 6178 ⌝ }
+    requires { ⌜ length (now t) ≡ tableBytes ⌝ }
     ensures { λ r. ⌜ r ≡ keepsRangesOf (tableOf (now (t .entry))) f component ⌝ }
 {
     let entries = f.entries;
@@ -131,7 +131,7 @@ fn keeps_ranges(t: &[u8], f: CommandFields, component: Sought) -> bool
 
 // Whether each entry is a command of a known component.
 fn passes(t: &[u8], f: CommandFields, component: Sought) -> bool
-    requires { ⌜ length (now t) ≡ 6178 ⌝ }
+    requires { ⌜ length (now t) ≡ tableBytes ⌝ }
     ensures { λ r. ⌜ r ≡ passesOf (tableOf (now (t .entry))) f component ⌝ }
 {
     let entries = f.entries;
@@ -238,7 +238,7 @@ fn reply(
     f: CommandFields,
     out: &mut [u8],
 ) -> Answer
-    requires { ⌜ (length (now w) ≡ 1173) × ((length (now t) ≡ 6178) × (l < 4)) ⌝ }
+    requires { ⌜ (length (now w) ≡ siteWords) × ((length (now t) ≡ tableBytes) × (l < 4)) ⌝ }
     ensures { λ r. ⌜ TakesIn (tableOf (now (t .entry))) l time id (unlessBusy (siteOf (now (w .entry)) (tableOf (now (t .entry)))) l (received .bytes) (handing (siteOf (now (w .entry)) (tableOf (now (t .entry)))) l time id (received .bytes) (response time (id .bytes) component f) (commandsOf (tableOf (now (t .entry))) f component))) (now (w .entry)) (now (w .exit)) (now (out .entry)) (now (out .exit)) r ⌝ }
 {
     if packet_answer::is_busy(w, l) {
@@ -262,7 +262,7 @@ fn ordered(
     f: CommandFields,
     out: &mut [u8],
 ) -> Answer
-    requires { ⌜ (length (now w) ≡ 1173) × ((length (now t) ≡ 6178) × (l < 4)) ⌝ }
+    requires { ⌜ (length (now w) ≡ siteWords) × ((length (now t) ≡ tableBytes) × (l < 4)) ⌝ }
     ensures { λ r. ⌜ TakesIn (tableOf (now (t .entry))) l time id (orderedOf (siteOf (now (w .entry)) (tableOf (now (t .entry)))) l time id (received .bytes) f (componentSought (tableOf (now (t .entry))) (f .component))) (now (w .entry)) (now (w .exit)) (now (out .entry)) (now (out .exit)) r ⌝ }
 {
     let named = f.component;
@@ -288,7 +288,7 @@ pub fn command(
     places: &[usize],
     out: &mut [u8],
 ) -> Answer
-    requires { ⌜ (length (now w) ≡ 1173) × ((length (now t) ≡ 6178) × ((l < 4) × Indexed (now packet) (now places))) ⌝ }
+    requires { ⌜ (length (now w) ≡ siteWords) × ((length (now t) ≡ tableBytes) × ((l < 4) × Indexed (now packet) (now places))) ⌝ }
     ensures { λ r. ⌜ TakesIn (tableOf (now (t .entry))) l time id (commandTaken (siteOf (now (w .entry)) (tableOf (now (t .entry)))) l time id (received .bytes) (commandAt (now (packet .entry)))) (now (w .entry)) (now (w .exit)) (now (out .entry)) (now (out .exit)) r ⌝ }
 {
     let f = read_commands::read_command(packet, places);
@@ -317,7 +317,7 @@ fn number_of(k: Sought) -> u8
 
 // The word of an entry's command: its number is the high half, its value the low one.
 fn word_of(t: &[u8], component: u8, e: CommandEntry) -> u64
-    requires { ⌜ length (now t) ≡ 6178 ⌝ }
+    requires { ⌜ length (now t) ≡ tableBytes ⌝ }
     ensures { λ r. ⌜ r ≡ commandWord (commandOf (tableOf (now (t .entry))) component e) ⌝ }
 {
     let n = number_of(packet_lookup::command(t, component, e)) as u64;
@@ -326,7 +326,7 @@ fn word_of(t: &[u8], component: u8, e: CommandEntry) -> u64
 
 // The words of the first count entries.
 fn hand(t: &[u8], component: u8, entries: [CommandEntry; 16], count: usize, commands: &mut [u64])
-    requires { ⌜ (length (now t) ≡ 6178) × ((length (now commands) ≡ 16) × (count < 17)) ⌝ }
+    requires { ⌜ (length (now t) ≡ tableBytes) × ((length (now commands) ≡ 16) × (count < 17)) ⌝ }
     ensures { λ _. ⌜ now (commands .exit) ≡ handedOver (commandsTo (tableOf (now (t .entry))) component entries count) (now (commands .entry)) ⌝ }
 {
     let mut i: usize = 0;
@@ -338,7 +338,7 @@ fn hand(t: &[u8], component: u8, entries: [CommandEntry; 16], count: usize, comm
 
 // The commands of a packet that was done and hands them over.
 pub fn hand_over(t: &[u8], packet: &[u8], commands: &mut [u64])
-    requires { ⌜ (length (now t) ≡ 6178) × (length (now commands) ≡ 16) ⌝ }
+    requires { ⌜ (length (now t) ≡ tableBytes) × (length (now commands) ≡ 16) ⌝ }
     ensures { λ _. ⌜ now (commands .exit) ≡ handedOver (commandsIn (tableOf (now (t .entry))) (now (packet .entry))) (now (commands .entry)) ⌝ }
 {
     let f = read_commands::read_command(packet, &[]);

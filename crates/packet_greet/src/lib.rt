@@ -8,9 +8,9 @@ ghost use Rattle.site.specs.Call.{never, stepOf, hintTime, hintBit};
 ghost use Rattle.json_find.specs.Index.{Indexed};
 ghost use Rattle.read_head.specs.Small.{watchdogAt};
 ghost use Rattle.read_lists.specs.Version.{versionAt};
-ghost use Rattle.store_site.specs.Layout.{siteOf};
+ghost use Rattle.store_site.specs.Layout.{siteOf, siteWords};
 ghost use Rattle.store_site.specs.Turns.{Turns};
-ghost use Rattle.store_table.specs.Layout.{tableOf};
+ghost use Rattle.store_table.specs.Layout.{tableOf, tableBytes};
 ghost use Rattle.store_call.specs.Called.{StepsIn, GivesIn};
 ghost use Rattle.packet_greet.specs.Answered.{settledFor, settled as settledOf, answeredPlan};
 ghost use Rattle.packet_greet.specs.Version.{ownVersions, ownSites, ownOffer, accepted as acceptedOf, versionJudged, versionTaken};
@@ -32,7 +32,7 @@ use read_versions::Sites;
 use read_versions::Versions;
 
 fn settled_for(w: &mut [u64], l: u16, sent: Purpose)
-    requires { ⌜ length (now w) ≡ 1173 ⌝ }
+    requires { ⌜ length (now w) ≡ siteWords ⌝ }
     ensures { λ _. ⌜ Turns (λ (s : Site). settledFor s l sent) (now (w .entry)) (now (w .exit)) ⌝ }
 {
     match sent {
@@ -44,7 +44,7 @@ fn settled_for(w: &mut [u64], l: u16, sent: Purpose)
 }
 
 fn settled(w: &mut [u64], l: u16, found: Found)
-    requires { ⌜ length (now w) ≡ 1173 ⌝ }
+    requires { ⌜ length (now w) ≡ siteWords ⌝ }
     ensures { λ _. ⌜ Turns (λ (s : Site). settledOf s l found) (now (w .entry)) (now (w .exit)) ⌝ }
 {
     match found {
@@ -55,7 +55,7 @@ fn settled(w: &mut [u64], l: u16, found: Found)
 
 // MessageAck or MessageNotAck to an awaited identity.
 pub fn answered(w: &mut [u64], l: u16, time: u64, id: Identity, acknowledged: bool) -> Answer
-    requires { ⌜ (length (now w) ≡ 1173) × (l < 4) ⌝ }
+    requires { ⌜ (length (now w) ≡ siteWords) × (l < 4) ⌝ }
     ensures { λ r. ⌜ ((t : SiteTable) → StepsIn t (stepOf (siteOf (now (w .entry)) t) time never (answeredPlan (siteOf (now (w .entry)) t) l id acknowledged) 0) (now (w .entry)) (now (w .exit)) r) ⌝ }
 {
     let k = store_site::parts::link(w, l as usize);
@@ -90,7 +90,7 @@ fn sites(id: Label) -> Sites
 
 // What our Version offers.
 fn own(t: &[u8]) -> Offer
-    requires { ⌜ length (now t) ≡ 6178 ⌝ }
+    requires { ⌜ length (now t) ≡ tableBytes ⌝ }
     ensures { λ r. ⌜ r ≡ ownOffer (tableOf (now (t .entry))) ⌝ }
 {
     let versions = versions();
@@ -105,7 +105,7 @@ fn own(t: &[u8]) -> Offer
 
 // The link goes on with the chosen version.
 fn accepted(w: &mut [u64], l: u16, v: u32)
-    requires { ⌜ (length (now w) ≡ 1173) × (l < 4) ⌝ }
+    requires { ⌜ (length (now w) ≡ siteWords) × (l < 4) ⌝ }
     ensures { λ _. ⌜ Turns (λ (s : Site). acceptedOf s l v) (now (w .entry)) (now (w .exit)) ⌝ }
 {
     let k = store_site::parts::link(w, l as usize);
@@ -124,7 +124,7 @@ fn version_chosen(
     v: u32,
     out: &mut [u8],
 ) -> Answer
-    requires { ⌜ (length (now w) ≡ 1173) × (l < 4) ⌝ }
+    requires { ⌜ (length (now w) ≡ siteWords) × (l < 4) ⌝ }
     ensures { λ r. ⌜ ((t : SiteTable) → GivesIn t time never (versionJudged (siteOf (now (w .entry)) t) l (received .bytes) (Judged.Chosen v) .plan) (now (w .entry)) (now (w .exit)) (now (out .entry)) (now (out .exit)) r) ⌝ }
 {
     let end = packet_answer::ack(received, out);
@@ -140,7 +140,7 @@ fn version_judged(
     j: Judged,
     out: &mut [u8],
 ) -> Answer
-    requires { ⌜ (length (now w) ≡ 1173) × (l < 4) ⌝ }
+    requires { ⌜ (length (now w) ≡ siteWords) × (l < 4) ⌝ }
     ensures { λ r. ⌜ ((t : SiteTable) → GivesIn t time never (versionJudged (siteOf (now (w .entry)) t) l (received .bytes) j .plan) (now (w .entry)) (now (w .exit)) (now (out .entry)) (now (out .exit)) r) ⌝ }
 {
     match j {
@@ -167,7 +167,7 @@ fn version_by(
     f: VersionFields,
     out: &mut [u8],
 ) -> Answer
-    requires { ⌜ (length (now w) ≡ 1173) × (length (now t) ≡ 6178) × (l < 4) ⌝ }
+    requires { ⌜ (length (now w) ≡ siteWords) × (length (now t) ≡ tableBytes) × (l < 4) ⌝ }
     ensures { λ r. ⌜ GivesIn (tableOf (now (t .entry))) time never (versionTaken (siteOf (now (w .entry)) (tableOf (now (t .entry)))) l (received .bytes) f .plan) (now (w .entry)) (now (w .exit)) (now (out .entry)) (now (out .exit)) r ⌝ }
 {
     let v = f.verdict;
@@ -205,7 +205,7 @@ pub fn version(
     places: &[usize],
     out: &mut [u8],
 ) -> Answer
-    requires { ⌜ (length (now w) ≡ 1173) × (length (now t) ≡ 6178) × (l < 4) × Indexed (now packet) (now places) ⌝ }
+    requires { ⌜ (length (now w) ≡ siteWords) × (length (now t) ≡ tableBytes) × (l < 4) × Indexed (now packet) (now places) ⌝ }
     ensures { λ r. ⌜ GivesIn (tableOf (now (t .entry))) time never (versionTaken (siteOf (now (w .entry)) (tableOf (now (t .entry)))) l (received .bytes) (versionAt (now (packet .entry))) .plan) (now (w .entry)) (now (w .exit)) (now (out .entry)) (now (out .exit)) r ⌝ }
 {
     version_by(
@@ -239,7 +239,7 @@ fn hinted(role: Role, f: GotTime) -> u16
 }
 
 fn beaten(w: &mut [u64], l: u16)
-    requires { ⌜ (length (now w) ≡ 1173) × (l < 4) ⌝ }
+    requires { ⌜ (length (now w) ≡ siteWords) × (l < 4) ⌝ }
     ensures { λ _. ⌜ Turns (λ (s : Site). beatenOf s l) (now (w .entry)) (now (w .exit)) ⌝ }
 {
     let k = store_site::parts::link(w, l as usize);
@@ -254,7 +254,7 @@ fn beat(
     theirs: GotTime,
     out: &mut [u8],
 ) -> Answer
-    requires { ⌜ (length (now w) ≡ 1173) × (l < 4) ⌝ }
+    requires { ⌜ (length (now w) ≡ siteWords) × (l < 4) ⌝ }
     ensures { λ r. ⌜ ((t : SiteTable) → GivesIn t time never (beatOf (siteOf (now (w .entry)) t) l (received .bytes) theirs .plan) (now (w .entry)) (now (w .exit)) (now (out .entry)) (now (out .exit)) r) ⌝ }
 {
     let role = store_site::head::role(w, l);
@@ -273,7 +273,7 @@ fn watchdog_by(
     f: GotTime,
     out: &mut [u8],
 ) -> Answer
-    requires { ⌜ (length (now w) ≡ 1173) × (l < 4) ⌝ }
+    requires { ⌜ (length (now w) ≡ siteWords) × (l < 4) ⌝ }
     ensures { λ r. ⌜ ((t : SiteTable) → GivesIn t time never (watchdogTaken (siteOf (now (w .entry)) t) l (received .bytes) f .plan) (now (w .entry)) (now (w .exit)) (now (out .entry)) (now (out .exit)) r) ⌝ }
 {
     let v = f.verdict;
@@ -300,7 +300,7 @@ pub fn watchdog(
     places: &[usize],
     out: &mut [u8],
 ) -> Answer
-    requires { ⌜ (length (now w) ≡ 1173) × (l < 4) × Indexed (now packet) (now places) ⌝ }
+    requires { ⌜ (length (now w) ≡ siteWords) × (l < 4) × Indexed (now packet) (now places) ⌝ }
     ensures { λ r. ⌜ ((t : SiteTable) → GivesIn t time never (watchdogTaken (siteOf (now (w .entry)) t) l (received .bytes) (watchdogAt (now (packet .entry))) .plan) (now (w .entry)) (now (w .exit)) (now (out .entry)) (now (out .exit)) r) ⌝ }
 {
     watchdog_by(

@@ -4,7 +4,7 @@ ghost use lib.ListN.{length};
 ghost use Rattle.basis.specs.Pick.{both};
 ghost use Rattle.label.specs.Label.{textOf};
 ghost use Rattle.table_whole.specs.Lookup.{findStatus, findCommand};
-ghost use Rattle.store_table.specs.Layout.{tableOf};
+ghost use Rattle.store_table.specs.Layout.{tableOf, tableBytes};
 ghost use Rattle.read_lists.specs.Status.{noEntry};
 ghost use Rattle.packet_lookup.specs.Sought.{numbered, componentSought, alarmIn, orNoAlarm, alarmSought, statusSought, commandSought, isSought, entryAt, allStatuses};
 use label::Label;
@@ -41,7 +41,7 @@ fn number(f: Found) -> Sought
 
 // A component by its id.
 pub fn component(t: &[u8], id: Label) -> Sought
-    requires { ⌜ length (now t) ≡ 6178 ⌝ }
+    requires { ⌜ length (now t) ≡ tableBytes ⌝ }
     ensures { λ r. ⌜ r ≡ componentSought (tableOf (now (t .entry))) id ⌝ }
 {
     let n = label::size(id);
@@ -50,7 +50,7 @@ pub fn component(t: &[u8], id: Label) -> Sought
 }
 
 fn alarm_in(t: &[u8], component: u8, code: Label) -> Sought
-    requires { ⌜ length (now t) ≡ 6178 ⌝ }
+    requires { ⌜ length (now t) ≡ tableBytes ⌝ }
     ensures { λ r. ⌜ r ≡ alarmIn (tableOf (now (t .entry))) component code ⌝ }
 {
     let n = label::size(code);
@@ -69,7 +69,7 @@ fn or_no_alarm(a: Sought) -> SoughtAlarm
 
 // An alarm by its component's id and its code.
 pub fn alarm(t: &[u8], id: Label, code: Label) -> SoughtAlarm
-    requires { ⌜ length (now t) ≡ 6178 ⌝ }
+    requires { ⌜ length (now t) ≡ tableBytes ⌝ }
     ensures { λ r. ⌜ r ≡ alarmSought (tableOf (now (t .entry))) id code ⌝ }
 {
     let c = component(t, id);
@@ -80,7 +80,7 @@ pub fn alarm(t: &[u8], id: Label, code: Label) -> SoughtAlarm
 }
 
 fn named(t: &[u8], component: u8, code: &[u8], name: Label) -> Found
-    requires { ⌜ length (now t) ≡ 6178 ⌝ }
+    requires { ⌜ length (now t) ≡ tableBytes ⌝ }
     ensures { λ r. ⌜ r ≡ findStatus (tableOf (now (t .entry))) component (now (code .entry)) (textOf name) ⌝ }
 {
     let n = label::size(name);
@@ -89,7 +89,7 @@ fn named(t: &[u8], component: u8, code: &[u8], name: Label) -> Found
 }
 
 fn called(t: &[u8], component: u8, code: Label, name: Label) -> Found
-    requires { ⌜ length (now t) ≡ 6178 ⌝ }
+    requires { ⌜ length (now t) ≡ tableBytes ⌝ }
     ensures { λ r. ⌜ r ≡ findStatus (tableOf (now (t .entry))) component (textOf code) (textOf name) ⌝ }
 {
     let n = label::size(code);
@@ -99,7 +99,7 @@ fn called(t: &[u8], component: u8, code: Label, name: Label) -> Found
 
 // A status of a component, as an entry names it.
 pub fn status(t: &[u8], component: u8, e: StatusEntry) -> Sought
-    requires { ⌜ length (now t) ≡ 6178 ⌝ }
+    requires { ⌜ length (now t) ≡ tableBytes ⌝ }
     ensures { λ r. ⌜ r ≡ statusSought (tableOf (now (t .entry))) component e ⌝ }
 {
     let code = e.code;
@@ -108,7 +108,7 @@ pub fn status(t: &[u8], component: u8, e: StatusEntry) -> Sought
 }
 
 fn named_command(t: &[u8], component: u8, code: &[u8], name: Label) -> Found
-    requires { ⌜ length (now t) ≡ 6178 ⌝ }
+    requires { ⌜ length (now t) ≡ tableBytes ⌝ }
     ensures { λ r. ⌜ r ≡ findCommand (tableOf (now (t .entry))) component (now (code .entry)) (textOf name) ⌝ }
 {
     let n = label::size(name);
@@ -117,7 +117,7 @@ fn named_command(t: &[u8], component: u8, code: &[u8], name: Label) -> Found
 }
 
 fn called_command(t: &[u8], component: u8, code: Label, name: Label) -> Found
-    requires { ⌜ length (now t) ≡ 6178 ⌝ }
+    requires { ⌜ length (now t) ≡ tableBytes ⌝ }
     ensures { λ r. ⌜ r ≡ findCommand (tableOf (now (t .entry))) component (textOf code) (textOf name) ⌝ }
 {
     let n = label::size(code);
@@ -127,7 +127,7 @@ fn called_command(t: &[u8], component: u8, code: Label, name: Label) -> Found
 
 // A command of a component, as an entry names it.
 pub fn command(t: &[u8], component: u8, e: CommandEntry) -> Sought
-    requires { ⌜ length (now t) ≡ 6178 ⌝ }
+    requires { ⌜ length (now t) ≡ tableBytes ⌝ }
     ensures { λ r. ⌜ r ≡ commandSought (tableOf (now (t .entry))) component e ⌝ }
 {
     let code = e.code;
@@ -165,7 +165,7 @@ pub fn entry_in(entries: [StatusEntry; 16], i: usize) -> StatusEntry
 }
 
 fn is_status(t: &[u8], component: u8, e: StatusEntry) -> bool
-    requires { ⌜ length (now t) ≡ 6178 ⌝ }
+    requires { ⌜ length (now t) ≡ tableBytes ⌝ }
     ensures { λ r. ⌜ r ≡ isSought (statusSought (tableOf (now (t .entry))) component e) ⌝ }
 {
     is_sought(status(t, component, e))
@@ -179,7 +179,7 @@ fn and(a: bool, b: bool) -> bool
 
 // Whether each of the first count entries is a status of the component.
 pub fn all_statuses(t: &[u8], component: u8, entries: [StatusEntry; 16], count: usize) -> bool
-    requires { ⌜ length (now t) ≡ 6178 ⌝ }
+    requires { ⌜ length (now t) ≡ tableBytes ⌝ }
     ensures { λ r. ⌜ r ≡ allStatuses (tableOf (now (t .entry))) component entries count ⌝ }
 {
     let mut ok = true;

@@ -10,10 +10,10 @@ ghost use Rattle.write_message.specs.Pieces.{pieces, entryPieces, entriesPieces
 ghost use Rattle.write_message.specs.declared.Told.the-variants.{Response as responseOf};
 ghost use Rattle.json_find.specs.Index.{Indexed};
 ghost use Rattle.read_lists.specs.Status.{statusAt};
-ghost use Rattle.store_table.specs.Layout.{tableOf};
+ghost use Rattle.store_table.specs.Layout.{tableOf, tableBytes};
 ghost use Rattle.packet_lookup.specs.Sought.{componentSought, statusSought};
 ghost use Rattle.site.specs.declared.Site.{Site};
-ghost use Rattle.store_site.specs.Layout.{siteOf};
+ghost use Rattle.store_site.specs.Layout.{siteOf, siteWords};
 ghost use Rattle.packet_answer.specs.Taken.{replied, unlessBusy};
 ghost use Rattle.packet_answer.specs.Takes.{TakesIn};
 ghost use Rattle.packet_status.specs.StatusReply.{valueOf, valueIn, toldOf, toldTo, response, passes as passesOf, requestedOf, statusTaken};
@@ -31,7 +31,7 @@ use write_message::Value;
 
 // The value of a status of a known component.
 fn value_of(w: &[u64], t: &[u8], component: u8, e: StatusEntry) -> Value
-    requires { ⌜ (length (now w) ≡ 1173) × (length (now t) ≡ 6178) ⌝ }
+    requires { ⌜ (length (now w) ≡ siteWords) × (length (now t) ≡ tableBytes) ⌝ }
     ensures { λ r. ⌜ r ≡ valueOf (siteOf (now (w .entry)) (tableOf (now (t .entry)))) (statusSought (tableOf (now (t .entry))) component e) ⌝ }
 {
     let k = packet_lookup::status(t, component, e);
@@ -42,7 +42,7 @@ fn value_of(w: &[u64], t: &[u8], component: u8, e: StatusEntry) -> Value
 }
 
 fn value_in(w: &[u64], t: &[u8], component: Sought, e: StatusEntry) -> Value
-    requires { ⌜ (length (now w) ≡ 1173) × (length (now t) ≡ 6178) ⌝ }
+    requires { ⌜ (length (now w) ≡ siteWords) × (length (now t) ≡ tableBytes) ⌝ }
     ensures { λ r. ⌜ r ≡ valueIn (siteOf (now (w .entry)) (tableOf (now (t .entry)))) component e ⌝ }
 {
     match component {
@@ -61,7 +61,7 @@ fn write_entry(
     e: StatusEntry,
     first: bool,
 ) -> usize
-    requires { ⌜ (length (now w) ≡ 1173) × (length (now t) ≡ 6178) ⌝ }
+    requires { ⌜ (length (now w) ≡ siteWords) × (length (now t) ≡ tableBytes) ⌝ }
     ensures { λ r. ⌜ Wrote (now (out .entry)) at (entryPieces responseOf first (toldOf (siteOf (now (w .entry)) (tableOf (now (t .entry)))) component e)) (now (out .exit)) r ⌝ }
 {
     let v = value_in(w, t, component, e);
@@ -80,7 +80,7 @@ fn write_entries(
     entries: [StatusEntry; 16],
     count: usize,
 ) -> usize
-    requires { ⌜ (length (now w) ≡ 1173) × (length (now t) ≡ 6178) ⌝ }
+    requires { ⌜ (length (now w) ≡ siteWords) × (length (now t) ≡ tableBytes) ⌝ }
     ensures { λ r. ⌜ Wrote (now (out .entry)) at (entriesPieces responseOf true (toldTo (siteOf (now (w .entry)) (tableOf (now (t .entry)))) component entries count)) (now (out .exit)) r ⌝ }
 {
     let mut end = at;
@@ -103,7 +103,7 @@ fn write_response(
     component: Sought,
     f: StatusFields,
 ) -> usize
-    requires { ⌜ (length (now w) ≡ 1173) × (length (now t) ≡ 6178) ⌝ }
+    requires { ⌜ (length (now w) ≡ siteWords) × (length (now t) ≡ tableBytes) ⌝ }
     ensures { λ r. ⌜ Wrote (now (out .entry)) 0 (pieces (response (siteOf (now (w .entry)) (tableOf (now (t .entry)))) time (id .bytes) component f)) (now (out .exit)) r ⌝ }
 {
     let named = f.component;
@@ -124,7 +124,7 @@ fn answer_and_response(
     f: StatusFields,
     out: &mut [u8],
 ) -> usize
-    requires { ⌜ (length (now w) ≡ 1173) × (length (now t) ≡ 6178) ⌝ }
+    requires { ⌜ (length (now w) ≡ siteWords) × (length (now t) ≡ tableBytes) ⌝ }
     ensures { λ r. ⌜ Wrote (now (out .entry)) 0 (pieces (ack (received .bytes)) ++ pieces (response (siteOf (now (w .entry)) (tableOf (now (t .entry)))) time (id .bytes) component f)) (now (out .exit)) r ⌝ }
 {
     let end = packet_answer::ack(received, out);
@@ -137,7 +137,7 @@ fn answer_and_response(
 
 // Whether each entry is a status of a known component.
 fn passes(t: &[u8], f: StatusFields, component: Sought) -> bool
-    requires { ⌜ length (now t) ≡ 6178 ⌝ }
+    requires { ⌜ length (now t) ≡ tableBytes ⌝ }
     ensures { λ r. ⌜ ((s : Site) → s .table ≡ tableOf (now (t .entry)) → r ≡ passesOf s f component) ⌝ }
 {
     let entries = f.entries;
@@ -159,7 +159,7 @@ fn reply(
     f: StatusFields,
     out: &mut [u8],
 ) -> Answer
-    requires { ⌜ (length (now w) ≡ 1173) × ((length (now t) ≡ 6178) × (l < 4)) ⌝ }
+    requires { ⌜ (length (now w) ≡ siteWords) × ((length (now t) ≡ tableBytes) × (l < 4)) ⌝ }
     ensures { λ r. ⌜ TakesIn (tableOf (now (t .entry))) l time id (unlessBusy (siteOf (now (w .entry)) (tableOf (now (t .entry)))) l (received .bytes) (replied (siteOf (now (w .entry)) (tableOf (now (t .entry)))) l time id (received .bytes) (response (siteOf (now (w .entry)) (tableOf (now (t .entry)))) time (id .bytes) component f))) (now (w .entry)) (now (w .exit)) (now (out .entry)) (now (out .exit)) r ⌝ }
 {
     if packet_answer::is_busy(w, l) {
@@ -182,7 +182,7 @@ fn requested(
     f: StatusFields,
     out: &mut [u8],
 ) -> Answer
-    requires { ⌜ (length (now w) ≡ 1173) × ((length (now t) ≡ 6178) × (l < 4)) ⌝ }
+    requires { ⌜ (length (now w) ≡ siteWords) × ((length (now t) ≡ tableBytes) × (l < 4)) ⌝ }
     ensures { λ r. ⌜ TakesIn (tableOf (now (t .entry))) l time id (requestedOf (siteOf (now (w .entry)) (tableOf (now (t .entry)))) l time id (received .bytes) f (componentSought (tableOf (now (t .entry))) (f .component))) (now (w .entry)) (now (w .exit)) (now (out .entry)) (now (out .exit)) r ⌝ }
 {
     let named = f.component;
@@ -205,7 +205,7 @@ pub fn status_request(
     places: &[usize],
     out: &mut [u8],
 ) -> Answer
-    requires { ⌜ (length (now w) ≡ 1173) × ((length (now t) ≡ 6178) × ((l < 4) × Indexed (now packet) (now places))) ⌝ }
+    requires { ⌜ (length (now w) ≡ siteWords) × ((length (now t) ≡ tableBytes) × ((l < 4) × Indexed (now packet) (now places))) ⌝ }
     ensures { λ r. ⌜ TakesIn (tableOf (now (t .entry))) l time id (statusTaken (siteOf (now (w .entry)) (tableOf (now (t .entry)))) l time id (received .bytes) (statusAt false (now (packet .entry)))) (now (w .entry)) (now (w .exit)) (now (out .entry)) (now (out .exit)) r ⌝ }
 {
     let f = read_lists::read_status(packet, places, false);

@@ -7,9 +7,9 @@ ghost use lib.ListN.{length};
 ghost use Rattle.basis.specs.Pick.{pick};
 ghost use Rattle.site.specs.declared.Site.{Site};
 ghost use Rattle.site.specs.Call.{never};
-ghost use Rattle.store_site.specs.Layout.{siteOf};
+ghost use Rattle.store_site.specs.Layout.{siteOf, siteWords};
 ghost use Rattle.store_site.specs.Turns.{Turns};
-ghost use Rattle.store_table.specs.Layout.{tableOf};
+ghost use Rattle.store_table.specs.Layout.{tableOf, tableBytes};
 ghost use Rattle.store_call.specs.Called.{GivesIn};
 ghost use Rattle.store_call.specs.Issued.{issuedIn};
 ghost use Rattle.json_find.specs.Index.{Indexed};
@@ -53,7 +53,7 @@ fn replace(
     component: u8,
     e: StatusEntry,
 )
-    requires { ⌜ (length (now w) ≡ 1173) × (length (now t) ≡ 6178) ⌝ }
+    requires { ⌜ (length (now w) ≡ siteWords) × (length (now t) ≡ tableBytes) ⌝ }
     ensures { λ _. ⌜ Turns (λ (s : Site). replacedAt s l (wantedOf subscribing e time) (statusSought (tableOf (now (t .entry))) component e)) (now (w .entry)) (now (w .exit)) ⌝ }
 {
     let x = wanted(subscribing, e, time);
@@ -75,7 +75,7 @@ fn replaced(
     entries: [StatusEntry; 16],
     count: usize,
 )
-    requires { ⌜ (length (now w) ≡ 1173) × (length (now t) ≡ 6178) ⌝ }
+    requires { ⌜ (length (now w) ≡ siteWords) × (length (now t) ≡ tableBytes) ⌝ }
     ensures { λ _. ⌜ TurnsIn (tableOf (now (t .entry))) (λ (s : Site). replacedOf subscribing s l time component entries count) (now (w .entry)) (now (w .exit)) ⌝ }
 {
     let mut i: usize = 0;
@@ -87,7 +87,7 @@ fn replaced(
 }
 
 fn issue_of(w: &mut [u64], l: u16, time: u64, k: u8)
-    requires { ⌜ length (now w) ≡ 1173 ⌝ }
+    requires { ⌜ length (now w) ≡ siteWords ⌝ }
     ensures { λ _. ⌜ Turns (λ (s : Site). issuedIn s (recordOf s l time (Sought.Is k))) (now (w .entry)) (now (w .exit)) ⌝ }
 {
     let v = store_site::items::status(w, k as usize);
@@ -95,7 +95,7 @@ fn issue_of(w: &mut [u64], l: u16, time: u64, k: u8)
 }
 
 fn issue(w: &mut [u64], t: &[u8], l: u16, time: u64, component: u8, e: StatusEntry)
-    requires { ⌜ (length (now w) ≡ 1173) × (length (now t) ≡ 6178) ⌝ }
+    requires { ⌜ (length (now w) ≡ siteWords) × (length (now t) ≡ tableBytes) ⌝ }
     ensures { λ _. ⌜ Turns (λ (s : Site). issuedIn s (recordOf s l time (statusSought (tableOf (now (t .entry))) component e))) (now (w .entry)) (now (w .exit)) ⌝ }
 {
     let status = packet_lookup::status(t, component, e);
@@ -115,7 +115,7 @@ fn records(
     entries: [StatusEntry; 16],
     count: usize,
 )
-    requires { ⌜ (length (now w) ≡ 1173) × (length (now t) ≡ 6178) ⌝ }
+    requires { ⌜ (length (now w) ≡ siteWords) × (length (now t) ≡ tableBytes) ⌝ }
     ensures { λ _. ⌜ TurnsIn (tableOf (now (t .entry))) (λ (s : Site). issuedIn s (recordsOf s l time component entries count)) (now (w .entry)) (now (w .exit)) ⌝ }
 {
     let mut i: usize = 0;
@@ -137,7 +137,7 @@ fn turn(
     entries: [StatusEntry; 16],
     count: usize,
 )
-    requires { ⌜ (length (now w) ≡ 1173) × (length (now t) ≡ 6178) ⌝ }
+    requires { ⌜ (length (now w) ≡ siteWords) × (length (now t) ≡ tableBytes) ⌝ }
     ensures { λ _. ⌜ TurnsIn (tableOf (now (t .entry))) (λ (s : Site). issuedIn (replacedOf subscribing s l time component entries count) (pick subscribing (recordsOf s l time component entries count) [])) (now (w .entry)) (now (w .exit)) ⌝ }
 {
     replaced(w, t, subscribing, l, time, component, entries, count);
@@ -165,7 +165,7 @@ fn change(
     received: Received,
     out: &mut [u8],
 ) -> Answer
-    requires { ⌜ (length (now w) ≡ 1173) × (length (now t) ≡ 6178) × (allStatuses (tableOf (now t)) component (f .entries) (f .count) ≡ true) ⌝ }
+    requires { ⌜ (length (now w) ≡ siteWords) × (length (now t) ≡ tableBytes) × (allStatuses (tableOf (now t)) component (f .entries) (f .count) ≡ true) ⌝ }
     ensures { λ r. ⌜ GivesIn (tableOf (now (t .entry))) time never (changed subscribing (siteOf (now (w .entry)) (tableOf (now (t .entry)))) l time (received .bytes) f component .plan) (now (w .entry)) (now (w .exit)) (now (out .entry)) (now (out .exit)) r ⌝ }
 {
     if store_call::spent(w, number(subscribing, f.count)) {
@@ -188,7 +188,7 @@ fn judge(
     received: Received,
     out: &mut [u8],
 ) -> Answer
-    requires { ⌜ (length (now w) ≡ 1173) × (length (now t) ≡ 6178) ⌝ }
+    requires { ⌜ (length (now w) ≡ siteWords) × (length (now t) ≡ tableBytes) ⌝ }
     ensures { λ r. ⌜ GivesIn (tableOf (now (t .entry))) time never (judged subscribing (siteOf (now (w .entry)) (tableOf (now (t .entry)))) l time (received .bytes) f component .plan) (now (w .entry)) (now (w .exit)) (now (out .entry)) (now (out .exit)) r ⌝ }
 {
     let entries = f.entries;
@@ -208,7 +208,7 @@ fn ask(
     received: Received,
     out: &mut [u8],
 ) -> Answer
-    requires { ⌜ (length (now w) ≡ 1173) × (length (now t) ≡ 6178) ⌝ }
+    requires { ⌜ (length (now w) ≡ siteWords) × (length (now t) ≡ tableBytes) ⌝ }
     ensures { λ r. ⌜ GivesIn (tableOf (now (t .entry))) time never (asked subscribing (siteOf (now (w .entry)) (tableOf (now (t .entry)))) l time (received .bytes) f (componentSought (tableOf (now (t .entry))) (f .component)) .plan) (now (w .entry)) (now (w .exit)) (now (out .entry)) (now (out .exit)) r ⌝ }
 {
     let id = f.component;
@@ -229,7 +229,7 @@ fn take(
     received: Received,
     out: &mut [u8],
 ) -> Answer
-    requires { ⌜ (length (now w) ≡ 1173) × (length (now t) ≡ 6178) ⌝ }
+    requires { ⌜ (length (now w) ≡ siteWords) × (length (now t) ≡ tableBytes) ⌝ }
     ensures { λ r. ⌜ GivesIn (tableOf (now (t .entry))) time never (subscribingTaken subscribing (siteOf (now (w .entry)) (tableOf (now (t .entry)))) l time (received .bytes) f .plan) (now (w .entry)) (now (w .exit)) (now (out .entry)) (now (out .exit)) r ⌝ }
 {
     let v = f.verdict;
@@ -257,7 +257,7 @@ pub fn subscribe(
     places: &[usize],
     out: &mut [u8],
 ) -> Answer
-    requires { ⌜ (length (now w) ≡ 1173) × (length (now t) ≡ 6178) × Indexed (now packet) (now places) ⌝ }
+    requires { ⌜ (length (now w) ≡ siteWords) × (length (now t) ≡ tableBytes) × Indexed (now packet) (now places) ⌝ }
     ensures { λ r. ⌜ GivesIn (tableOf (now (t .entry))) time never (subscribingTaken true (siteOf (now (w .entry)) (tableOf (now (t .entry)))) l time (received .bytes) (fieldsAt true (now (packet .entry))) .plan) (now (w .entry)) (now (w .exit)) (now (out .entry)) (now (out .exit)) r ⌝ }
 {
     let f = read_lists::read_status(packet, places, true);
@@ -275,7 +275,7 @@ pub fn unsubscribe(
     places: &[usize],
     out: &mut [u8],
 ) -> Answer
-    requires { ⌜ (length (now w) ≡ 1173) × (length (now t) ≡ 6178) × Indexed (now packet) (now places) ⌝ }
+    requires { ⌜ (length (now w) ≡ siteWords) × (length (now t) ≡ tableBytes) × Indexed (now packet) (now places) ⌝ }
     ensures { λ r. ⌜ GivesIn (tableOf (now (t .entry))) time never (subscribingTaken false (siteOf (now (w .entry)) (tableOf (now (t .entry)))) l time (received .bytes) (fieldsAt false (now (packet .entry))) .plan) (now (w .entry)) (now (w .exit)) (now (out .entry)) (now (out .exit)) r ⌝ }
 {
     let f = read_lists::read_status(packet, places, false);

@@ -5,7 +5,7 @@ ghost use lib.ListN.{length};
 ghost use Rattle.table_whole.specs.declared.SiteTable.{SiteTable};
 ghost use Rattle.site.specs.declared.Site.{Site};
 ghost use Rattle.site.specs.Site.{withPool};
-ghost use Rattle.store_site.specs.Layout.{siteOf};
+ghost use Rattle.store_site.specs.Layout.{siteOf, siteWords};
 ghost use Rattle.store_site.specs.Turns.{Turns};
 ghost use Rattle.send_after.specs.Outgoing.{marked, sameEvent, carriedOf, carriedAt, messageOut, versionSent, watchdogSent, aggregatedSent, alarmSentWith, alarmSent, entrySent};
 use entry::Entry;
@@ -46,7 +46,7 @@ fn carried_of(e: Entry, newest: Sought) -> Carried
 
 // What the message of alarm k carries in the first pass of link l.
 fn first_pass(w: &[u64], l: u16, k: u16) -> Carried
-    requires { ⌜ length (now w) ≡ 1173 ⌝ }
+    requires { ⌜ length (now w) ≡ siteWords ⌝ }
     ensures { λ r. ⌜ ((t : SiteTable) → r ≡ carriedAt (siteOf (now (w .entry)) t) l k) ⌝ }
 {
     let a = store_site::items::alarm(w, k as usize);
@@ -64,7 +64,7 @@ fn message_out(k: Link, id: Identity, time: u64, c: Carried) -> Link
 
 // A record that is sent stays held.
 fn mark(w: &mut [u64], l: u16, c: Carried)
-    requires { ⌜ length (now w) ≡ 1173 ⌝ }
+    requires { ⌜ length (now w) ≡ siteWords ⌝ }
     ensures { λ _. ⌜ Turns (λ (s : Site). withPool s (marked (s .pool) l c)) (now (w .entry)) (now (w .exit)) ⌝ }
 {
     match c {
@@ -74,7 +74,7 @@ fn mark(w: &mut [u64], l: u16, c: Carried)
 }
 
 pub fn version(w: &mut [u64], l: u16, time: u64, id: Identity)
-    requires { ⌜ (length (now w) ≡ 1173) × (l < 4) ⌝ }
+    requires { ⌜ (length (now w) ≡ siteWords) × (l < 4) ⌝ }
     ensures { λ _. ⌜ Turns (λ (s : Site). versionSent s l time id) (now (w .entry)) (now (w .exit)) ⌝ }
 {
     let k = store_site::parts::link(w, l as usize);
@@ -82,7 +82,7 @@ pub fn version(w: &mut [u64], l: u16, time: u64, id: Identity)
 }
 
 pub fn watchdog(w: &mut [u64], l: u16, time: u64, id: Identity)
-    requires { ⌜ (length (now w) ≡ 1173) × (l < 4) ⌝ }
+    requires { ⌜ (length (now w) ≡ siteWords) × (l < 4) ⌝ }
     ensures { λ _. ⌜ Turns (λ (s : Site). watchdogSent s l time id) (now (w .entry)) (now (w .exit)) ⌝ }
 {
     let k = store_site::parts::link(w, l as usize);
@@ -91,7 +91,7 @@ pub fn watchdog(w: &mut [u64], l: u16, time: u64, id: Identity)
 
 // The first pass: its AggregatedStatus.
 pub fn aggregated(w: &mut [u64], l: u16, time: u64, id: Identity)
-    requires { ⌜ (length (now w) ≡ 1173) × (l < 4) ⌝ }
+    requires { ⌜ (length (now w) ≡ siteWords) × (l < 4) ⌝ }
     ensures { λ _. ⌜ Turns (λ (s : Site). aggregatedSent s l time id) (now (w .entry)) (now (w .exit)) ⌝ }
 {
     let k = store_site::parts::link(w, l as usize);
@@ -100,7 +100,7 @@ pub fn aggregated(w: &mut [u64], l: u16, time: u64, id: Identity)
 }
 
 fn alarm_with(c: Carried, w: &mut [u64], l: u16, time: u64, id: Identity)
-    requires { ⌜ (length (now w) ≡ 1173) × (l < 4) ⌝ }
+    requires { ⌜ (length (now w) ≡ siteWords) × (l < 4) ⌝ }
     ensures { λ _. ⌜ Turns (λ (s : Site). alarmSentWith c s l time id) (now (w .entry)) (now (w .exit)) ⌝ }
 {
     let k = store_site::parts::link(w, l as usize);
@@ -111,7 +111,7 @@ fn alarm_with(c: Carried, w: &mut [u64], l: u16, time: u64, id: Identity)
 
 // The first pass: alarm k.
 pub fn alarm(w: &mut [u64], l: u16, time: u64, id: Identity, k: u16)
-    requires { ⌜ (length (now w) ≡ 1173) × (l < 4) ⌝ }
+    requires { ⌜ (length (now w) ≡ siteWords) × (l < 4) ⌝ }
     ensures { λ _. ⌜ Turns (λ (s : Site). alarmSent s l time id k) (now (w .entry)) (now (w .exit)) ⌝ }
 {
     let c = first_pass(w, l, k);
@@ -120,7 +120,7 @@ pub fn alarm(w: &mut [u64], l: u16, time: u64, id: Identity, k: u16)
 
 // The held record of this number.
 pub fn entry(w: &mut [u64], l: u16, time: u64, id: Identity, sequence: u32)
-    requires { ⌜ (length (now w) ≡ 1173) × (l < 4) ⌝ }
+    requires { ⌜ (length (now w) ≡ siteWords) × (l < 4) ⌝ }
     ensures { λ _. ⌜ Turns (λ (s : Site). entrySent s l time id sequence) (now (w .entry)) (now (w .exit)) ⌝ }
 {
     let k = store_site::parts::link(w, l as usize);

@@ -7,8 +7,8 @@ ghost use Rattle.output.specs.Put.{Wrote};
 ghost use Rattle.write_message.specs.Pieces.{pieces};
 ghost use Rattle.site.specs.declared.Site.{Site};
 ghost use Rattle.site.specs.Parts.{alarmRowAt, statusRowAt};
-ghost use Rattle.store_site.specs.Layout.{siteOf};
-ghost use Rattle.store_table.specs.Layout.{tableOf};
+ghost use Rattle.store_site.specs.Layout.{siteOf, siteWords};
+ghost use Rattle.store_table.specs.Layout.{tableOf, tableBytes};
 ghost use Rattle.send_message.specs.Sending.{stateOf, heldState, alarmTold, alarmMessage, aggregatedTold, aggregatedMessage, knownValue, statusValue, heldValue, statusTold, entryMessage};
 use alarm::Alarm;
 use entry::Entry;
@@ -99,7 +99,7 @@ fn tell_alarm(
     row: Item,
     state: AlarmState,
 ) -> usize
-    requires { ⌜ length (now t) ≡ 6178 ⌝ }
+    requires { ⌜ length (now t) ≡ tableBytes ⌝ }
     ensures { λ r. ⌜ ((s : Site) → s .table ≡ tableOf (now (t .entry)) → Wrote (now (out .entry)) at (pieces (alarmTold s (id .bytes) row state)) (now (out .exit)) r) ⌝ }
 {
     let component = store_table::component(t, row.component as usize);
@@ -109,7 +109,7 @@ fn tell_alarm(
 
 // Alarm k as it is.
 pub fn write_alarm(out: &mut [u8], at: usize, w: &[u64], t: &[u8], id: Identity, k: usize) -> usize
-    requires { ⌜ (length (now w) ≡ 1173) × (length (now t) ≡ 6178) ⌝ }
+    requires { ⌜ (length (now w) ≡ siteWords) × (length (now t) ≡ tableBytes) ⌝ }
     ensures { λ r. ⌜ Wrote (now (out .entry)) at (pieces (alarmMessage (siteOf (now (w .entry)) (tableOf (now (t .entry)))) (id .bytes) k)) (now (out .exit)) r ⌝ }
 {
     let row = store_table::alarm_row(t, k);
@@ -131,7 +131,7 @@ fn tell_aggregated(
     time: u64,
     value: u64,
 ) -> usize
-    requires { ⌜ length (now t) ≡ 6178 ⌝ }
+    requires { ⌜ length (now t) ≡ tableBytes ⌝ }
     ensures { λ r. ⌜ ((s : Site) → s .table ≡ tableOf (now (t .entry)) → Wrote (now (out .entry)) at (pieces (aggregatedTold s (id .bytes) time value)) (now (out .exit)) r) ⌝ }
 {
     let component = store_table::component(t, 0);
@@ -141,7 +141,7 @@ fn tell_aggregated(
 
 // The aggregated status as it is, with the time of its last change.
 pub fn write_aggregated(out: &mut [u8], at: usize, w: &[u64], t: &[u8], id: Identity) -> usize
-    requires { ⌜ (length (now w) ≡ 1173) × (length (now t) ≡ 6178) ⌝ }
+    requires { ⌜ (length (now w) ≡ siteWords) × (length (now t) ≡ tableBytes) ⌝ }
     ensures { λ r. ⌜ Wrote (now (out .entry)) at (pieces (aggregatedMessage (siteOf (now (w .entry)) (tableOf (now (t .entry)))) (id .bytes))) (now (out .exit)) r ⌝ }
 {
     let a = store_site::head::aggregated(w);
@@ -157,7 +157,7 @@ fn tell_status(
     time: u64,
     v: Value,
 ) -> usize
-    requires { ⌜ length (now t) ≡ 6178 ⌝ }
+    requires { ⌜ length (now t) ≡ tableBytes ⌝ }
     ensures { λ r. ⌜ ((s : Site) → s .table ≡ tableOf (now (t .entry)) → Wrote (now (out .entry)) at (pieces (statusTold s (id .bytes) row time v)) (now (out .exit)) r) ⌝ }
 {
     let component = store_table::component(t, row.component as usize);
@@ -167,7 +167,7 @@ fn tell_status(
 }
 
 fn write_held_alarm(out: &mut [u8], at: usize, t: &[u8], id: Identity, e: Entry) -> usize
-    requires { ⌜ length (now t) ≡ 6178 ⌝ }
+    requires { ⌜ length (now t) ≡ tableBytes ⌝ }
     ensures { λ r. ⌜ ((s : Site) → s .table ≡ tableOf (now (t .entry)) → Wrote (now (out .entry)) at (pieces (alarmTold s (id .bytes) (alarmRowAt s (e .item)) (heldState e (alarmRowAt s (e .item))))) (now (out .exit)) r) ⌝ }
 {
     let row = store_table::alarm_row(t, e.item as usize);
@@ -175,7 +175,7 @@ fn write_held_alarm(out: &mut [u8], at: usize, t: &[u8], id: Identity, e: Entry)
 }
 
 fn write_held_status(out: &mut [u8], at: usize, t: &[u8], id: Identity, e: Entry) -> usize
-    requires { ⌜ length (now t) ≡ 6178 ⌝ }
+    requires { ⌜ length (now t) ≡ tableBytes ⌝ }
     ensures { λ r. ⌜ ((s : Site) → s .table ≡ tableOf (now (t .entry)) → Wrote (now (out .entry)) at (pieces (statusTold s (id .bytes) (statusRowAt s (e .item)) (e .time) (heldValue e))) (now (out .exit)) r) ⌝ }
 {
     let row = store_table::status_row(t, e.item as usize);
@@ -184,7 +184,7 @@ fn write_held_status(out: &mut [u8], at: usize, t: &[u8], id: Identity, e: Entry
 
 // A held record.
 pub fn write_entry(out: &mut [u8], at: usize, t: &[u8], id: Identity, e: Entry) -> usize
-    requires { ⌜ length (now t) ≡ 6178 ⌝ }
+    requires { ⌜ length (now t) ≡ tableBytes ⌝ }
     ensures { λ r. ⌜ ((s : Site) → s .table ≡ tableOf (now (t .entry)) → Wrote (now (out .entry)) at (pieces (entryMessage s (id .bytes) e)) (now (out .exit)) r) ⌝ }
 {
     if e.kind == entry::ALARM {

@@ -12,10 +12,10 @@ use Rattle.table_whole.specs.declared.SiteTable.{SiteTable}
 use Rattle.site.specs.declared.Site.{Site}
 use Rattle.site.specs.declared.Step.{Step}
 use Rattle.site.specs.Call.{Command, Plan, stepOf, writtenTo, outAfter}
-use Rattle.store_site.specs.Layout.{siteOf}
+use Rattle.store_site.specs.Layout.{siteOf, siteWords}
 use Rattle.store_site.specs.Turns.{Plain}
 use Rattle.store_whole.specs.Image.{wordsOf}
-use Rattle.store_table.specs.Layout.{layoutOf}
+use Rattle.store_table.specs.Layout.{layoutOf, tableBytes}
 use Rattle.packet_command.specs.Handing.{handedOver}
 use Rattle.call_start.specs.Starts.{Starts}
 use Rattle.sitec.specs.declared.Outcome.{Outcome}
@@ -23,14 +23,14 @@ use Rattle.sitec.specs.Outcome.{outcomeOf, misfit}
 
 -- the words of a site; and with them the bytes of a table
 abbrev pub Words : List ℕ → Type 0
-Words ws = length ws ≡ 1173
+Words ws = length ws ≡ siteWords
 
 abbrev pub WordsAndTable : List ℕ → List ℕ → Type 0
-WordsAndTable ws ts = (length ws ≡ 1173) × (length ts ≡ 6178)
+WordsAndTable ws ts = (length ws ≡ siteWords) × (length ts ≡ tableBytes)
 
 -- and sixteen words for commands
 abbrev pub WithCommands : List ℕ → List ℕ → List ℕ → Type 0
-WithCommands ws ts cs = (length ws ≡ 1173) × (length ts ≡ 6178) × (length cs ≡ 16)
+WithCommands ws ts cs = (length ws ≡ siteWords) × (length ts ≡ tableBytes) × (length cs ≡ 16)
 
 -- a call whose step, by its definition, is x
 pub record Called (Fits : Type 0) (t : SiteTable) (x : Step) (ws vs : List ℕ) (r : Outcome) : Type 0 where

@@ -19,10 +19,10 @@ pub extern "C" fn rsmp_lent_alarm(
 ) -> Outcome
     ensures { λ r. ⌜ Called (WordsAndTable (now (w .entry)) (now (t .entry))) (tableOf (now (t .entry))) (alarmStep (siteOf (now (w .entry)) (tableOf (now (t .entry)))) number (ltb 0 active) time) (now (w .entry)) (now (w .exit)) r ⌝ }
 {
-    if w.len() != 1173 {
+    if w.len() != store_site::WORDS {
         return super::misfit();
     }
-    if t.len() != 6178 {
+    if t.len() != store_table::BYTES {
         return super::misfit();
     }
     super::outcome_of(call_input::alarm(w, t, number, 0 < active, time))
@@ -38,10 +38,10 @@ pub extern "C" fn rsmp_lent_status(
 ) -> Outcome
     ensures { λ r. ⌜ Called (WordsAndTable (now (w .entry)) (now (t .entry))) (tableOf (now (t .entry))) (statusStep (siteOf (now (w .entry)) (tableOf (now (t .entry)))) number value time) (now (w .entry)) (now (w .exit)) r ⌝ }
 {
-    if w.len() != 1173 {
+    if w.len() != store_site::WORDS {
         return super::misfit();
     }
-    if t.len() != 6178 {
+    if t.len() != store_table::BYTES {
         return super::misfit();
     }
     super::outcome_of(call_input::status(w, t, number, value, time))
@@ -51,7 +51,7 @@ pub extern "C" fn rsmp_lent_status(
 pub extern "C" fn rsmp_lent_aggregated(w: &mut [u64], value: u8, time: u64) -> Outcome
     ensures { λ r. ⌜ ((t : SiteTable) → Called (Words (now (w .entry))) t (aggregatedStep (siteOf (now (w .entry)) t) value time) (now (w .entry)) (now (w .exit)) r) ⌝ }
 {
-    if w.len() != 1173 {
+    if w.len() != store_site::WORDS {
         return super::misfit();
     }
     super::outcome_of(call_input::aggregated(w, value, time))
@@ -61,7 +61,7 @@ pub extern "C" fn rsmp_lent_aggregated(w: &mut [u64], value: u8, time: u64) -> O
 pub extern "C" fn rsmp_lent_tick(w: &mut [u64], time: u64) -> Outcome
     ensures { λ r. ⌜ ((t : SiteTable) → Called (Words (now (w .entry))) t (tickStep (siteOf (now (w .entry)) t) time) (now (w .entry)) (now (w .exit)) r) ⌝ }
 {
-    if w.len() != 1173 {
+    if w.len() != store_site::WORDS {
         return super::misfit();
     }
     super::outcome_of(call_tick::tick(w, time))

@@ -9,7 +9,7 @@ use super::Outcome;
 pub extern "C" fn rsmp_lent_connect(w: &mut [u64], link: u32, time: u64) -> Outcome
     ensures { λ r. ⌜ ((t : SiteTable) → Called (Words (now (w .entry))) t (connectStep (siteOf (now (w .entry)) t) link time) (now (w .entry)) (now (w .exit)) r) ⌝ }
 {
-    if w.len() != 1173 {
+    if w.len() != store_site::WORDS {
         return super::misfit();
     }
     super::outcome_of(call_link::connect(w, link, time))
@@ -19,7 +19,7 @@ pub extern "C" fn rsmp_lent_connect(w: &mut [u64], link: u32, time: u64) -> Outc
 pub extern "C" fn rsmp_lent_disconnect(w: &mut [u64], link: u32, time: u64) -> Outcome
     ensures { λ r. ⌜ ((t : SiteTable) → Called (Words (now (w .entry))) t (disconnectStep (siteOf (now (w .entry)) t) link time) (now (w .entry)) (now (w .exit)) r) ⌝ }
 {
-    if w.len() != 1173 {
+    if w.len() != store_site::WORDS {
         return super::misfit();
     }
     super::outcome_of(call_link::disconnect(w, link, time))

@@ -7,7 +7,7 @@ ghost use Rattle.packet_command.specs.Handing.{handedOver, commandsIn};
 ghost use Rattle.call_pump.specs.Pump.{pumpRefuses, pumpPlan};
 ghost use Rattle.call_packet.specs.Packet.{packetRefuses, packetTaken};
 ghost use Rattle.store_site.specs.Layout.{siteOf};
-ghost use Rattle.store_table.specs.Layout.{tableOf};
+ghost use Rattle.store_table.specs.Layout.{tableOf, tableBytes};
 ghost use Rattle.sitec.specs.Lent.{WordsAndTable, WithCommands, Told, Handed};
 ghost use Rattle.sitec.specs.Outcome.{handsOf};
 use super::Outcome;
@@ -26,7 +26,7 @@ fn hands(a: Answer) -> bool
 
 // The commands of a done call that hands some over go into their words.
 fn hand(a: Answer, t: &[u8], received: &[u8], commands: &mut [u64])
-    requires { ⌜ (length (now t) ≡ 6178) × (length (now commands) ≡ 16) ⌝ }
+    requires { ⌜ (length (now t) ≡ tableBytes) × (length (now commands) ≡ 16) ⌝ }
     ensures { λ _. ⌜ now (commands .exit) ≡ pick (handsOf a) (handedOver (commandsIn (tableOf (now (t .entry))) (now (received .entry))) (now (commands .entry))) (now (commands .entry)) ⌝ }
 {
     if hands(a) {
@@ -49,10 +49,10 @@ pub extern "C" fn rsmp_lent_packet(
 ) -> Outcome
     ensures { λ r. ⌜ Told (WithCommands (now (w .entry)) (now (t .entry)) (now (commands .entry))) (tableOf (now (t .entry))) time (packetRefuses (siteOf (now (w .entry)) (tableOf (now (t .entry)))) link time (identityOf random) (length (now (out .entry))) (now (received .entry))) (packetTaken (siteOf (now (w .entry)) (tableOf (now (t .entry)))) link time (identityOf random) (now (received .entry)) .plan) (now (w .entry)) (now (w .exit)) (now (out .entry)) (now (out .exit)) r × Handed (WithCommands (now (w .entry)) (now (t .entry)) (now (commands .entry))) (packetTaken (siteOf (now (w .entry)) (tableOf (now (t .entry)))) link time (identityOf random) (now (received .entry)) .plan .commands) (now (commands .entry)) (now (commands .exit)) r ⌝ }
 {
-    if w.len() != 1173 {
+    if w.len() != store_site::WORDS {
         return super::misfit();
     }
-    if t.len() != 6178 {
+    if t.len() != store_table::BYTES {
         return super::misfit();
     }
     if commands.len() != 16 {
@@ -75,10 +75,10 @@ pub extern "C" fn rsmp_lent_pump(
 ) -> Outcome
     ensures { λ r. ⌜ Told (WordsAndTable (now (w .entry)) (now (t .entry))) (tableOf (now (t .entry))) time (pumpRefuses (siteOf (now (w .entry)) (tableOf (now (t .entry)))) link time (identityOf random) (length (now (out .entry)))) (pumpPlan (siteOf (now (w .entry)) (tableOf (now (t .entry)))) link time (identityOf random)) (now (w .entry)) (now (w .exit)) (now (out .entry)) (now (out .exit)) r ⌝ }
 {
-    if w.len() != 1173 {
+    if w.len() != store_site::WORDS {
         return super::misfit();
     }
-    if t.len() != 6178 {
+    if t.len() != store_table::BYTES {
         return super::misfit();
     }
     super::outcome_of(call_pump::pump(w, t, link, time, random, out))

@@ -10,7 +10,7 @@ use pool::Reading;
 pub extern "C" fn rsmp_lent_held(w: &[u64], link: u32) -> u64
     ensures { λ r. ⌜ Read (λ (s : Site). heldAt s link) 0 (now (w .entry)) r ⌝ }
 {
-    if w.len() != 1173 {
+    if w.len() != store_site::WORDS {
         return 0;
     }
     call_read::held(w, link)
@@ -21,7 +21,7 @@ pub extern "C" fn rsmp_lent_held(w: &[u64], link: u32) -> u64
 pub extern "C" fn rsmp_lent_lost(w: &[u64], link: u32) -> u64
     ensures { λ r. ⌜ Read (λ (s : Site). lostAt s link) 0 (now (w .entry)) r ⌝ }
 {
-    if w.len() != 1173 {
+    if w.len() != store_site::WORDS {
         return 0;
     }
     call_read::lost(w, link)
@@ -32,7 +32,7 @@ pub extern "C" fn rsmp_lent_lost(w: &[u64], link: u32) -> u64
 pub extern "C" fn rsmp_lent_phase(w: &[u64], link: u32) -> u32
     ensures { λ r. ⌜ Read (λ (s : Site). phaseAt s link) 0 (now (w .entry)) r ⌝ }
 {
-    if w.len() != 1173 {
+    if w.len() != store_site::WORDS {
         return 0;
     }
     call_read::phase(w, link)
@@ -43,7 +43,7 @@ pub extern "C" fn rsmp_lent_phase(w: &[u64], link: u32) -> u32
 pub extern "C" fn rsmp_lent_version_of(w: &[u64], link: u32) -> ChosenVersion
     ensures { λ r. ⌜ Read (λ (s : Site). versionAt s link) noVersion (now (w .entry)) r ⌝ }
 {
-    if w.len() != 1173 {
+    if w.len() != store_site::WORDS {
         return ChosenVersion {
             major: 0,
             minor: 0,
@@ -58,7 +58,7 @@ pub extern "C" fn rsmp_lent_version_of(w: &[u64], link: u32) -> ChosenVersion
 pub extern "C" fn rsmp_lent_record(w: &[u64], link: u32, rank: u64) -> Reading
     ensures { λ r. ⌜ Read (λ (s : Site). recordAt s link rank) noReading (now (w .entry)) r ⌝ }
 {
-    if w.len() != 1173 {
+    if w.len() != store_site::WORDS {
         return Reading {
             found: false,
             bytes: [0; 16],

@@ -16,10 +16,10 @@ pub extern "C" fn rsmp_lent_start(
 ) -> Outcome
     ensures { λ r. ⌜ Started (now (table .entry)) links primary period first time (now (w .entry)) (now (w .exit)) (now (t .entry)) (now (t .exit)) r ⌝ }
 {
-    if w.len() != 1173 {
+    if w.len() != store_site::WORDS {
         return super::misfit();
     }
-    if t.len() != 6178 {
+    if t.len() != store_table::BYTES {
         return super::misfit();
     }
     super::outcome_of(call_start::start(w, t, table, links, primary, period, first, time))

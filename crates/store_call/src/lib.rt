@@ -8,7 +8,7 @@ ghost use Rattle.pool_laws.specs.Batch.{under};
 ghost use Rattle.table_whole.specs.declared.SiteTable.{SiteTable};
 ghost use Rattle.site.specs.declared.Site.{Site};
 ghost use Rattle.site.specs.Site.{closeAt};
-ghost use Rattle.store_site.specs.Layout.{siteOf};
+ghost use Rattle.store_site.specs.Layout.{siteOf, siteWords};
 ghost use Rattle.store_site.specs.Turns.{Turns};
 ghost use Rattle.store_call.specs.Issued.{batchIn, issuedIn};
 use entry::Entry;
@@ -18,7 +18,7 @@ pub mod records; // records.rt: the record of a status, the record of an alarm's
 
 // Number 10: whether one of so many records takes a number past 4294967295.
 pub fn spent(w: &[u64], n: u64) -> bool
-    requires { ⌜ length (now w) ≡ 1173 ⌝ }
+    requires { ⌜ length (now w) ≡ siteWords ⌝ }
     ensures { λ r. ⌜ ((t : SiteTable) (es : List Entry) → length es ≡ n → r ≡ batchIn (siteOf (now (w .entry)) t) es .spent) ⌝ }
 {
     if n == 0 {
@@ -48,7 +48,7 @@ fn numbered(e: Entry, next: u64) -> Entry
 
 // A record is issued under the next number, whatever number it has.
 pub fn add(w: &mut [u64], e: Entry)
-    requires { ⌜ length (now w) ≡ 1173 ⌝ }
+    requires { ⌜ length (now w) ≡ siteWords ⌝ }
     ensures { λ _. ⌜ Turns (λ (s : Site). issuedIn s (e ∷ [])) (now (w .entry)) (now (w .exit)) ⌝ }
 {
     let next = store_site::parts::next(w);
@@ -58,7 +58,7 @@ pub fn add(w: &mut [u64], e: Entry)
 
 // The link is Down, nothing is awaited on it, and no record of it is marked sent.
 pub fn close(w: &mut [u64], l: u16)
-    requires { ⌜ (length (now w) ≡ 1173) × (l < 4) ⌝ }
+    requires { ⌜ (length (now w) ≡ siteWords) × (l < 4) ⌝ }
     ensures { λ _. ⌜ Turns (λ (s : Site). closeAt s l) (now (w .entry)) (now (w .exit)) ⌝ }
 {
     store_site::parts::put_link(w, l as usize, Link::closed());

@@ -7,7 +7,7 @@ ghost use Rattle.table_whole.specs.declared.SiteTable.{SiteTable};
 ghost use Rattle.site.specs.declared.Site.{Site};
 ghost use Rattle.site.specs.Site.{linkAt};
 ghost use Rattle.site.specs.Records.{statusRecord};
-ghost use Rattle.store_site.specs.Layout.{siteOf};
+ghost use Rattle.store_site.specs.Layout.{siteOf, siteWords};
 ghost use Rattle.store_site.specs.Turns.{Turns};
 ghost use Rattle.store_call.specs.Issued.{issuedIn, alarmRecords};
 use alarm::Changed;
@@ -16,7 +16,7 @@ use status::Status;
 
 // Old where link l is not Up.
 pub fn status(w: &[u64], x: Status, l: u16, number: u16, time: u64) -> Entry
-    requires { ⌜ length (now w) ≡ 1173 ⌝ }
+    requires { ⌜ length (now w) ≡ siteWords ⌝ }
     ensures { λ r. ⌜ ((t : SiteTable) → r ≡ statusRecord (linkAt (siteOf (now (w .entry)) t) l) x l number time) ⌝ }
 {
     x.issued(l, number, time, !store_site::items::up(w, l))
@@ -24,7 +24,7 @@ pub fn status(w: &[u64], x: Status, l: u16, number: u16, time: u64) -> Entry
 
 // How many records an alarm's change issues: one for the primary, or none.
 pub fn of_alarm(w: &[u64], c: Changed) -> u64
-    requires { ⌜ length (now w) ≡ 1173 ⌝ }
+    requires { ⌜ length (now w) ≡ siteWords ⌝ }
     ensures { λ r. ⌜ ((t : SiteTable) (k : ℕ) → r ≡ length (alarmRecords (siteOf (now (w .entry)) t) k c)) ⌝ }
 {
     if c.records {
@@ -36,7 +36,7 @@ pub fn of_alarm(w: &[u64], c: Changed) -> u64
 }
 
 pub fn add_alarm(w: &mut [u64], c: Changed, number: u16)
-    requires { ⌜ length (now w) ≡ 1173 ⌝ }
+    requires { ⌜ length (now w) ≡ siteWords ⌝ }
     ensures { λ _. ⌜ Turns (λ (s : Site). issuedIn s (alarmRecords s number c)) (now (w .entry)) (now (w .exit)) ⌝ }
 {
     if of_alarm(w, c) == 0 {

@@ -27,7 +27,7 @@ use Rattle.site.specs.Site.{withPool}
 use Rattle.store_words.specs.Words.{word, Stored}
 use Rattle.store_site.specs.Rows.{placeFrom, placeIn}
 use Rattle.store_words.specs.Words.{Put}
-use Rattle.store_site.specs.Layout.{lostIn, placesIn, poolIn, siteOf}
+use Rattle.store_site.specs.Layout.{lostIn, placesIn, poolIn, siteOf, siteWords}
 use Rattle.store_pool.specs.Pools.{Pools, Loss}
 use Rattle.store_words.proofs.Elements.{list-at, list-length, list-put}
 use Rattle.store_words.proofs.Stores.{stored, nothing, wider, then, below, above}
@@ -114,7 +114,7 @@ pub lost-beyond : (ws : List ℕ) (t : SiteTable) (l : ℕ) → 4 ≤ l → 0 �
 unfolding siteOf
 lost-beyond ws t l h = sym (List·getD-eq-default (lostIn ws) 0 {n = l} (omega (arith, lost-length ws)))
 
-lost-put : (ws : List ℕ) (m n : ℕ) → m < 4 → length ws ≡ 1173 → lostIn (set ws (5 + m) n) ≡ set (lostIn ws) m n
+lost-put : (ws : List ℕ) (m n : ℕ) → m < 4 → length ws ≡ siteWords → lostIn (set ws (5 + m) n) ≡ set (lostIn ws) m n
 unfolding lostIn
 lost-put ws m n h e =
     list-put (countAt ws) (countAt (set ws (5 + m) n)) 4 m n h
@@ -128,7 +128,7 @@ pub loss-out : (ws : List ℕ) (m : ℕ) → 4 ≤ m → Loss ws ws (Owner m)
 unfolding lossOf
 loss-out ws m h = record { counts = sym (set-out (lostIn ws) m _ (omega (arith, lost-length ws))); kept = wider 5 4 (nothing ws 5) (omega arith) (omega arith) }
 
-pub loss-one : (ws : List ℕ) (m : ℕ) {n : ℕ} → length ws ≡ 1173 → m < 4 → n ≡ moreOf (word ws (5 + m)) → Loss ws (set ws (5 + m) n) (Owner m)
+pub loss-one : (ws : List ℕ) (m : ℕ) {n : ℕ} → length ws ≡ siteWords → m < 4 → n ≡ moreOf (word ws (5 + m)) → Loss ws (set ws (5 + m) n) (Owner m)
 unfolding lossOf
 loss-one ws m {n} e h q =
     record {
@@ -197,7 +197,7 @@ module _ (ws : List ℕ) (l q i : ℕ) (s : Stands (placesIn ws) i (numbered (po
         kept = wider 5 516 (nothing ws 5) (omega arith) (omega arith);
       }
 
-  pub mark-one : length ws ≡ 1173 → i < 128 → Pools (λ (p : Pool). markOf p l q) ws (set ws (9 + 4 * i + 3) 2)
+  pub mark-one : length ws ≡ siteWords → i < 128 → Pools (λ (p : Pool). markOf p l q) ws (set ws (9 + 4 * i + 3) 2)
   unfolding markOf
   mark-one n h =
       let vs = set ws (9 + 4 * i + 3) 2 in
@@ -232,7 +232,7 @@ module _ (ws : List ℕ) (k l : ℕ) (g : k < 128) where
   pub unmark-other : of l (getD (placesIn ws) k noPlace) ≡ false → Put placeIn 4 ws ws (9 + 4 * k) (unsentFor l (getD (placesIn ws) k noPlace))
   unmark-other e = record { there = rw e (place-at ws k g); kept = wider (9 + 4 * k) 4 (nothing ws (9 + 4 * k)) (omega arith) (omega arith) }
 
-  pub unmark-one : length ws ≡ 1173 → of l (getD (placesIn ws) k noPlace) ≡ true → Put placeIn 4 ws (set ws (9 + 4 * k + 3) 1) (9 + 4 * k) (unsentFor l (getD (placesIn ws) k noPlace))
+  pub unmark-one : length ws ≡ siteWords → of l (getD (placesIn ws) k noPlace) ≡ true → Put placeIn 4 ws (set ws (9 + 4 * k + 3) 1) (9 + 4 * k) (unsentFor l (getD (placesIn ws) k noPlace))
   unmark-one n e =
       record {
         there = rw (e, ← place-at ws k g) (marked ws (9 + 4 * k) 1 (omega arith));

@@ -8,7 +8,7 @@ ghost use Rattle.site.specs.declared.Site.{Site};
 ghost use Rattle.site.specs.Site.{withPool};
 ghost use Rattle.store_words.specs.Words.{Put};
 ghost use Rattle.store_site.specs.Rows.{placeIn};
-ghost use Rattle.store_site.specs.Layout.{placesIn};
+ghost use Rattle.store_site.specs.Layout.{placesIn, siteWords};
 ghost use Rattle.store_site.specs.Turns.{Turns};
 use super::places;
 use entry::Entry;
@@ -17,7 +17,7 @@ use pool::Wanted;
 
 // The place's record is not sent where it is one of the link.
 fn unmark_at(w: &mut [u64], k: usize, l: u16)
-    requires { ⌜ (length (now w) ≡ 1173) × (k < 128) ⌝ }
+    requires { ⌜ (length (now w) ≡ siteWords) × (k < 128) ⌝ }
     ensures { λ _. ⌜ Put placeIn 4 (now (w .entry)) (now (w .exit)) (9 + 4 * k) (unsentFor l (getD (placesIn (now (w .entry))) k noPlace)) ⌝ }
 {
     let i = 9 + 4 * k;
@@ -29,7 +29,7 @@ fn unmark_at(w: &mut [u64], k: usize, l: u16)
 
 // No record of the link is marked as sent.
 pub fn unmark(w: &mut [u64], l: u16)
-    requires { ⌜ length (now w) ≡ 1173 ⌝ }
+    requires { ⌜ length (now w) ≡ siteWords ⌝ }
     ensures { λ _. ⌜ Turns (λ (s : Site). withPool s (unmarkOf (s .pool) l)) (now (w .entry)) (now (w .exit)) ⌝ }
 {
     let mut i: usize = 0;
@@ -41,7 +41,7 @@ pub fn unmark(w: &mut [u64], l: u16)
 
 // The link's record of that number is marked as sent.
 pub fn mark_sent(w: &mut [u64], l: u16, sequence: u32)
-    requires { ⌜ length (now w) ≡ 1173 ⌝ }
+    requires { ⌜ length (now w) ≡ siteWords ⌝ }
     ensures { λ _. ⌜ Turns (λ (s : Site). withPool s (markOf (s .pool) l sequence)) (now (w .entry)) (now (w .exit)) ⌝ }
 {
     let k = places::first(w, Wanted::Numbered(l, sequence));
@@ -64,7 +64,7 @@ const NO_ENTRY: Entry = Entry {
 
 // The link's record of that number is settled.
 pub fn settle(w: &mut [u64], l: u16, sequence: u32)
-    requires { ⌜ length (now w) ≡ 1173 ⌝ }
+    requires { ⌜ length (now w) ≡ siteWords ⌝ }
     ensures { λ _. ⌜ Turns (λ (s : Site). withPool s (settleOf (s .pool) l sequence)) (now (w .entry)) (now (w .exit)) ⌝ }
 {
     let k = places::first(w, Wanted::Numbered(l, sequence));

@@ -9,7 +9,7 @@ ghost use Rattle.pool.specs.Pool.{heldIn, freeIn, moreOf, roomOf, issueOf};
 ghost use Rattle.site.specs.declared.Site.{Site};
 ghost use Rattle.site.specs.Site.{withPool};
 ghost use Rattle.store_site.specs.Turns.{Turns};
-ghost use Rattle.store_site.specs.Layout.{placesIn};
+ghost use Rattle.store_site.specs.Layout.{placesIn, siteWords};
 ghost use Rattle.store_pool.specs.Best.{Stands};
 ghost use Rattle.store_pool.specs.Pools.{Loss};
 use super::places;
@@ -19,7 +19,7 @@ use pool::Place;
 use pool::Wanted;
 
 fn fuller_of(w: &[u64], a: u16, b: u16) -> u16
-    requires { ⌜ length (now w) ≡ 1173 ⌝ }
+    requires { ⌜ length (now w) ≡ siteWords ⌝ }
     ensures { λ r. ⌜ r ≡ fuller (heldIn (placesIn (now (w .entry)))) a b ⌝ }
 {
     if places::holds(w, a) < places::holds(w, b) {
@@ -31,7 +31,7 @@ fn fuller_of(w: &[u64], a: u16, b: u16) -> u16
 
 // The link that holds most; of several the lowest.
 fn fullest_of(w: &[u64]) -> u16
-    requires { ⌜ length (now w) ≡ 1173 ⌝ }
+    requires { ⌜ length (now w) ≡ siteWords ⌝ }
     ensures { λ r. ⌜ r ≡ fullest (heldIn (placesIn (now (w .entry)))) 3 ⌝ }
 {
     fuller_of(w, fuller_of(w, fuller_of(w, 0, 1), 2), 3)
@@ -39,7 +39,7 @@ fn fullest_of(w: &[u64]) -> u16
 
 // Whose oldest record is lost when one is issued for the link, the oldest free place being known.
 fn loser_for(w: &[u64], l: u16, free: usize) -> Loser
-    requires { ⌜ (length (now w) ≡ 1173) × Stands (placesIn (now w)) free (oldest (fits Free) (placesIn (now w))) ⌝ }
+    requires { ⌜ (length (now w) ≡ siteWords) × Stands (placesIn (now w)) free (oldest (fits Free) (placesIn (now w))) ⌝ }
     ensures { λ r. ⌜ r ≡ loser 4 (heldIn (placesIn (now (w .entry)))) (freeIn (placesIn (now (w .entry)))) l ⌝ }
 {
     let held = places::holds(w, l);
@@ -58,7 +58,7 @@ fn loser_for(w: &[u64], l: u16, free: usize) -> Loser
 
 // The place that a new record takes, the oldest free place being known.
 fn room(w: &[u64], who: Loser, free: usize) -> usize
-    requires { ⌜ (length (now w) ≡ 1173) × Stands (placesIn (now w)) free (oldest (fits Free) (placesIn (now w))) ⌝ }
+    requires { ⌜ (length (now w) ≡ siteWords) × Stands (placesIn (now w)) free (oldest (fits Free) (placesIn (now w))) ⌝ }
     ensures { λ r. ⌜ Stands (placesIn (now (w .entry))) r (roomOf (placesIn (now (w .entry))) who) ⌝ }
 {
     match who {
@@ -75,7 +75,7 @@ pub fn more(k: u64) -> u64
 }
 
 fn lose_of(w: &mut [u64], m: u16)
-    requires { ⌜ length (now w) ≡ 1173 ⌝ }
+    requires { ⌜ length (now w) ≡ siteWords ⌝ }
     ensures { λ _. ⌜ Loss (now (w .entry)) (now (w .exit)) (Owner m) ⌝ }
 {
     if 4 <= m {
@@ -86,7 +86,7 @@ fn lose_of(w: &mut [u64], m: u16)
 }
 
 fn lose(w: &mut [u64], who: Loser)
-    requires { ⌜ length (now w) ≡ 1173 ⌝ }
+    requires { ⌜ length (now w) ≡ siteWords ⌝ }
     ensures { λ _. ⌜ Loss (now (w .entry)) (now (w .exit)) who ⌝ }
 {
     match who {
@@ -97,7 +97,7 @@ fn lose(w: &mut [u64], who: Loser)
 
 // A record is issued for its link; for a link above 3 nothing is.
 pub fn issue(w: &mut [u64], e: Entry)
-    requires { ⌜ length (now w) ≡ 1173 ⌝ }
+    requires { ⌜ length (now w) ≡ siteWords ⌝ }
     ensures { λ _. ⌜ Turns (λ (s : Site). withPool s (issueOf 4 (s .pool) e)) (now (w .entry)) (now (w .exit)) ⌝ }
 {
     if 4 <= e.link {

@@ -5,7 +5,7 @@ ghost use Rattle.table_whole.specs.declared.SiteTable.{SiteTable};
 ghost use Rattle.pool.specs.declared.Spot.{Spot};
 ghost use Rattle.pool.specs.Places.{soughtAt};
 ghost use Rattle.pool.specs.Pool.{heldOf, lostOf, oldestUnsent, newestAlarm, rankedOf};
-ghost use Rattle.store_site.specs.Layout.{placesIn, siteOf};
+ghost use Rattle.store_site.specs.Layout.{placesIn, siteOf, siteWords};
 ghost use Rattle.store_pool.specs.Best.{Stands};
 use super::places;
 use pool::Sought;
@@ -13,7 +13,7 @@ use pool::Wanted;
 
 // How many records of the link are held.
 pub fn held(w: &[u64], l: u16) -> usize
-    requires { ⌜ length (now w) ≡ 1173 ⌝ }
+    requires { ⌜ length (now w) ≡ siteWords ⌝ }
     ensures { λ r. ⌜ ((t : SiteTable) → r ≡ heldOf (siteOf (now (w .entry)) t .pool) l) ⌝ }
 {
     places::holds(w, l)
@@ -21,7 +21,7 @@ pub fn held(w: &[u64], l: u16) -> usize
 
 // How many records the link lost.
 pub fn lost(w: &[u64], l: u16) -> u64
-    requires { ⌜ length (now w) ≡ 1173 ⌝ }
+    requires { ⌜ length (now w) ≡ siteWords ⌝ }
     ensures { λ r. ⌜ ((t : SiteTable) → r ≡ lostOf (siteOf (now (w .entry)) t .pool) l) ⌝ }
 {
     if l < 4 {
@@ -32,7 +32,7 @@ pub fn lost(w: &[u64], l: u16) -> u64
 
 // The place of an index, nothing for 128.
 fn look(w: &[u64], i: usize) -> Sought
-    requires { ⌜ length (now w) ≡ 1173 ⌝ }
+    requires { ⌜ length (now w) ≡ siteWords ⌝ }
     ensures { λ r. ⌜ ((s : Spot) → Stands (placesIn (now (w .entry))) i s → r ≡ soughtAt s) ⌝ }
 {
     if 128 <= i {
@@ -43,7 +43,7 @@ fn look(w: &[u64], i: usize) -> Sought
 
 // The link's oldest record that is not sent.
 pub fn oldest_unsent(w: &[u64], l: u16) -> Sought
-    requires { ⌜ length (now w) ≡ 1173 ⌝ }
+    requires { ⌜ length (now w) ≡ siteWords ⌝ }
     ensures { λ r. ⌜ ((t : SiteTable) → r ≡ oldestUnsent (siteOf (now (w .entry)) t .pool) l) ⌝ }
 {
     look(w, places::first(w, Wanted::Unsent(l)))
@@ -51,7 +51,7 @@ pub fn oldest_unsent(w: &[u64], l: u16) -> Sought
 
 // The link's newest record of the alarm.
 pub fn newest_alarm(w: &[u64], l: u16, item: u16) -> Sought
-    requires { ⌜ length (now w) ≡ 1173 ⌝ }
+    requires { ⌜ length (now w) ≡ siteWords ⌝ }
     ensures { λ r. ⌜ ((t : SiteTable) → r ≡ newestAlarm (siteOf (now (w .entry)) t .pool) l item) ⌝ }
 {
     look(w, places::last(w, Wanted::Alarm(l, item)))
@@ -59,7 +59,7 @@ pub fn newest_alarm(w: &[u64], l: u16, item: u16) -> Sought
 
 // The link's record with so many older ones of that link.
 pub fn ranked(w: &[u64], l: u16, rank: usize) -> Sought
-    requires { ⌜ length (now w) ≡ 1173 ⌝ }
+    requires { ⌜ length (now w) ≡ siteWords ⌝ }
     ensures { λ r. ⌜ ((t : SiteTable) → r ≡ rankedOf (siteOf (now (w .entry)) t .pool) l rank) ⌝ }
 {
     look(w, places::ranked(w, l, rank))

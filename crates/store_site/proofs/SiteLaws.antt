@@ -29,7 +29,7 @@ use Rattle.store_words.proofs.Stores.{stored, first, next, Same, below, above}
 use Rattle.store_link.specs.Rows.{linkIn, PlainAt, PutLink}
 use Rattle.store_link.proofs.RowLaws.{link-same}
 use Rattle.store_site.specs.Rows.{placeIn, subscriptionIn, alarmIn, statusIn}
-use Rattle.store_site.specs.Layout.{lostIn, placesIn, poolIn, linksIn, subscriptionsIn, alarmsIn, statusesIn, siteOf, withNext, withLast}
+use Rattle.store_site.specs.Layout.{lostIn, placesIn, poolIn, linksIn, subscriptionsIn, alarmsIn, statusesIn, siteOf, withNext, withLast, siteWords}
 use Rattle.store_site.specs.Turns.{Plain, Turns}
 use Rattle.store_site.proofs.RowLaws.{place-same, subscription-same, alarm-same, status-same}
 
@@ -173,7 +173,7 @@ module _ (ws vs : List ℕ) (t : SiteTable) {i n : ℕ} (s : Stored ws vs i n) w
   unfolding siteOf
   only-alarms f g = rw (s .before 0 (omega arith), s .before 1 (omega arith), s .before 2 (omega arith), s .before 3 (omega arith), s .before 4 (omega arith), lost-same ws vs (below 5 4 s (omega arith)), places-same ws vs (below 9 512 s (omega arith)), links-same ws vs (below 521 300 s (omega arith)), subscriptions-same ws vs (below 821 256 s (omega arith)), statuses-same ws vs (above 1141 32 s (omega arith)))
 
-  pub only-statuses : 1141 ≤ i → i + n ≤ 1173 → siteOf vs t ≡ withStatuses (siteOf ws t) (statusesIn vs)
+  pub only-statuses : 1141 ≤ i → i + n ≤ siteWords → siteOf vs t ≡ withStatuses (siteOf ws t) (statusesIn vs)
   unfolding siteOf
   only-statuses f g = rw (s .before 0 (omega arith), s .before 1 (omega arith), s .before 2 (omega arith), s .before 3 (omega arith), s .before 4 (omega arith), lost-same ws vs (below 5 4 s (omega arith)), places-same ws vs (below 9 512 s (omega arith)), links-same ws vs (below 521 300 s (omega arith)), subscriptions-same ws vs (below 821 256 s (omega arith)), alarms-same ws vs (below 1077 64 s (omega arith)))
 
@@ -225,7 +225,7 @@ status-turns ws vs k x h p =
       plain = plain-behind (p .kept) (omega arith);
     }
 
-pub next-turns : (ws : List ℕ) (n : ℕ) → length ws ≡ 1173 → Turns (λ (s : Site). withNext s n) ws (set ws 0 n)
+pub next-turns : (ws : List ℕ) (n : ℕ) → length ws ≡ siteWords → Turns (λ (s : Site). withNext s n) ws (set ws 0 n)
 unfolding siteOf
 next-turns ws n h =
     record {
@@ -248,7 +248,7 @@ next-turns ws n h =
       plain = plain-before (stored ws 0 n [] (omega arith)) (omega arith);
     }
 
-pub last-turns : (ws : List ℕ) (n : ℕ) → length ws ≡ 1173 → Turns (λ (s : Site). withLast s n) ws (set ws 1 n)
+pub last-turns : (ws : List ℕ) (n : ℕ) → length ws ≡ siteWords → Turns (λ (s : Site). withLast s n) ws (set ws 1 n)
 unfolding siteOf
 last-turns ws n h =
     record {
@@ -280,7 +280,7 @@ pub places-length : (ws : List ℕ) → length (placesIn ws) ≡ 128
 unfolding placesIn
 places-length ws = list-length (λ (k : ℕ). placeIn ws (9 + 4 * k)) 128
 
-pub aggregated-turns : (ws : List ℕ) (x : Aggregated) → length ws ≡ 1173 → Turns (λ (s : Site). withAggregated s x) ws (set (set ws 3 (x .time)) 4 (x .value))
+pub aggregated-turns : (ws : List ℕ) (x : Aggregated) → length ws ≡ siteWords → Turns (λ (s : Site). withAggregated s x) ws (set (set ws 3 (x .time)) 4 (x .value))
 unfolding siteOf
 aggregated-turns ws x h =
     let vs = set (set ws 3 (x .time)) 4 (x .value) in

@@ -1,6 +1,6 @@
 -- Where each part of the site stands in the words, and the site that they are.
 -- 0 next, 1 last, 2 period (32 bits), linkcount and primary (16 each), 3 and 4 aggregated, 5 lost, 9 places, 521 links, 821 subscriptions,
--- 1077 alarms, 1141 statuses; 1173 words in all.
+-- 1077 alarms, 1141 statuses: siteWords in all.
 -- Assumes nothing.
 use Prim.Native.Nat.{ℕ, _+_, _*_}
 use mathlib.Core.List.{List}
@@ -18,6 +18,9 @@ use Rattle.store_words.specs.Words.{word, listOf}
 use Rattle.store_words.specs.Narrow.{upper}
 use Rattle.store_site.specs.Rows.{placeIn, subscriptionIn, alarmIn, statusIn}
 use Rattle.store_link.specs.Rows.{linkIn}
+
+abbrev pub siteWords : ℕ
+siteWords = 1173
 
 unfoldable pub lostIn : List ℕ → List ℕ
 lostIn ws = listOf (λ (l : ℕ). word ws (5 + l)) 4

@@ -4,35 +4,35 @@ ghost use lib.ListN.{length};
 ghost use Rattle.table_whole.specs.declared.SiteTable.{SiteTable};
 ghost use Rattle.site.specs.declared.Site.{Site};
 ghost use Rattle.site.specs.Site.{noLinkAt, badTimeAt, hasPrimary, roleOf, withAggregated};
-ghost use Rattle.store_site.specs.Layout.{siteOf};
+ghost use Rattle.store_site.specs.Layout.{siteOf, siteWords};
 ghost use Rattle.store_site.specs.Turns.{Turns};
 use aggregated::Aggregated;
 use link::Role;
 
 // The watchdog period in seconds.
 pub fn period(w: &[u64]) -> u32
-    requires { ⌜ length (now w) ≡ 1173 ⌝ }
+    requires { ⌜ length (now w) ≡ siteWords ⌝ }
     ensures { λ r. ⌜ ((t : SiteTable) → r ≡ siteOf (now (w .entry)) t .period) ⌝ }
 {
     store_words::upper(w[2])
 }
 
 pub fn link_count(w: &[u64]) -> u16
-    requires { ⌜ length (now w) ≡ 1173 ⌝ }
+    requires { ⌜ length (now w) ≡ siteWords ⌝ }
     ensures { λ r. ⌜ ((t : SiteTable) → r ≡ siteOf (now (w .entry)) t .linkcount) ⌝ }
 {
     store_words::quarter(w[2], 16)
 }
 
 pub fn primary(w: &[u64]) -> u16
-    requires { ⌜ length (now w) ≡ 1173 ⌝ }
+    requires { ⌜ length (now w) ≡ siteWords ⌝ }
     ensures { λ r. ⌜ ((t : SiteTable) → r ≡ siteOf (now (w .entry)) t .primary) ⌝ }
 {
     store_words::quarter(w[2], 0)
 }
 
 pub fn has_primary(w: &[u64]) -> bool
-    requires { ⌜ length (now w) ≡ 1173 ⌝ }
+    requires { ⌜ length (now w) ≡ siteWords ⌝ }
     ensures { λ r. ⌜ ((t : SiteTable) → r ≡ hasPrimary (siteOf (now (w .entry)) t)) ⌝ }
 {
     let first = store_words::quarter(w[2], 0);
@@ -41,7 +41,7 @@ pub fn has_primary(w: &[u64]) -> bool
 }
 
 pub fn role(w: &[u64], l: u16) -> Role
-    requires { ⌜ length (now w) ≡ 1173 ⌝ }
+    requires { ⌜ length (now w) ≡ siteWords ⌝ }
     ensures { λ r. ⌜ ((t : SiteTable) → r ≡ roleOf (siteOf (now (w .entry)) t) l) ⌝ }
 {
     if l == store_words::quarter(w[2], 0) {
@@ -52,7 +52,7 @@ pub fn role(w: &[u64], l: u16) -> Role
 
 // Number 2.
 pub fn no_link(w: &[u64], link: u32) -> bool
-    requires { ⌜ length (now w) ≡ 1173 ⌝ }
+    requires { ⌜ length (now w) ≡ siteWords ⌝ }
     ensures { λ r. ⌜ ((t : SiteTable) → r ≡ noLinkAt (siteOf (now (w .entry)) t) link) ⌝ }
 {
     let count = store_words::quarter(w[2], 16);
@@ -64,7 +64,7 @@ pub fn no_link(w: &[u64], link: u32) -> bool
 
 // Number 5.
 pub fn bad_time(w: &[u64], time: u64) -> bool
-    requires { ⌜ length (now w) ≡ 1173 ⌝ }
+    requires { ⌜ length (now w) ≡ siteWords ⌝ }
     ensures { λ r. ⌜ ((t : SiteTable) → r ≡ badTimeAt (siteOf (now (w .entry)) t) time) ⌝ }
 {
     if time < w[1] {
@@ -74,7 +74,7 @@ pub fn bad_time(w: &[u64], time: u64) -> bool
 }
 
 pub fn aggregated(w: &[u64]) -> Aggregated
-    requires { ⌜ length (now w) ≡ 1173 ⌝ }
+    requires { ⌜ length (now w) ≡ siteWords ⌝ }
     ensures { λ r. ⌜ ((t : SiteTable) → r ≡ siteOf (now (w .entry)) t .aggregated) ⌝ }
 {
     Aggregated {
@@ -84,7 +84,7 @@ pub fn aggregated(w: &[u64]) -> Aggregated
 }
 
 pub fn put_aggregated(w: &mut [u64], x: Aggregated)
-    requires { ⌜ length (now w) ≡ 1173 ⌝ }
+    requires { ⌜ length (now w) ≡ siteWords ⌝ }
     ensures { λ _. ⌜ Turns (λ (s : Site). withAggregated s x) (now (w .entry)) (now (w .exit)) ⌝ }
 {
     w[3] = x.time;

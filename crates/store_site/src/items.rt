@@ -6,7 +6,7 @@ ghost use Rattle.table_whole.specs.declared.SiteTable.{SiteTable};
 ghost use Rattle.site.specs.declared.Site.{Site};
 ghost use Rattle.site.specs.Site.{linkAt};
 ghost use Rattle.site.specs.Parts.{subscriptionAt, withSubscription, alarmAt, withAlarm, statusAt, withStatus};
-ghost use Rattle.store_site.specs.Layout.{siteOf};
+ghost use Rattle.store_site.specs.Layout.{siteOf, siteWords};
 ghost use Rattle.store_site.specs.Turns.{Turns};
 use super::parts;
 use super::phases;
@@ -15,7 +15,7 @@ use status::Status;
 use subscription::Subscription;
 
 pub fn up(w: &[u64], l: u16) -> bool
-    requires { ⌜ length (now w) ≡ 1173 ⌝ }
+    requires { ⌜ length (now w) ≡ siteWords ⌝ }
     ensures { λ r. ⌜ ((t : SiteTable) → r ≡ isUp (phaseOf (linkAt (siteOf (now (w .entry)) t) l))) ⌝ }
 {
     if l < 4 {
@@ -25,7 +25,7 @@ pub fn up(w: &[u64], l: u16) -> bool
 }
 
 pub fn subscription(w: &[u64], k: usize) -> Subscription
-    requires { ⌜ length (now w) ≡ 1173 ⌝ }
+    requires { ⌜ length (now w) ≡ siteWords ⌝ }
     ensures { λ r. ⌜ ((t : SiteTable) → r ≡ subscriptionAt (siteOf (now (w .entry)) t) k) ⌝ }
 {
     if k < 128 {
@@ -35,7 +35,7 @@ pub fn subscription(w: &[u64], k: usize) -> Subscription
 }
 
 pub fn put_subscription(w: &mut [u64], k: usize, x: Subscription)
-    requires { ⌜ length (now w) ≡ 1173 ⌝ }
+    requires { ⌜ length (now w) ≡ siteWords ⌝ }
     ensures { λ _. ⌜ Turns (λ (s : Site). withSubscription s k x) (now (w .entry)) (now (w .exit)) ⌝ }
 {
     if k < 128 {
@@ -45,7 +45,7 @@ pub fn put_subscription(w: &mut [u64], k: usize, x: Subscription)
 }
 
 pub fn alarm(w: &[u64], k: usize) -> Alarm
-    requires { ⌜ length (now w) ≡ 1173 ⌝ }
+    requires { ⌜ length (now w) ≡ siteWords ⌝ }
     ensures { λ r. ⌜ ((t : SiteTable) → r ≡ alarmAt (siteOf (now (w .entry)) t) k) ⌝ }
 {
     if k < 32 {
@@ -55,7 +55,7 @@ pub fn alarm(w: &[u64], k: usize) -> Alarm
 }
 
 pub fn put_alarm(w: &mut [u64], k: usize, x: Alarm)
-    requires { ⌜ length (now w) ≡ 1173 ⌝ }
+    requires { ⌜ length (now w) ≡ siteWords ⌝ }
     ensures { λ _. ⌜ Turns (λ (s : Site). withAlarm s k x) (now (w .entry)) (now (w .exit)) ⌝ }
 {
     if k < 32 {
@@ -65,7 +65,7 @@ pub fn put_alarm(w: &mut [u64], k: usize, x: Alarm)
 }
 
 pub fn status(w: &[u64], k: usize) -> Status
-    requires { ⌜ length (now w) ≡ 1173 ⌝ }
+    requires { ⌜ length (now w) ≡ siteWords ⌝ }
     ensures { λ r. ⌜ ((t : SiteTable) → r ≡ statusAt (siteOf (now (w .entry)) t) k) ⌝ }
 {
     if k < 32 {
@@ -75,7 +75,7 @@ pub fn status(w: &[u64], k: usize) -> Status
 }
 
 pub fn put_status(w: &mut [u64], k: usize, x: Status)
-    requires { ⌜ length (now w) ≡ 1173 ⌝ }
+    requires { ⌜ length (now w) ≡ siteWords ⌝ }
     ensures { λ _. ⌜ Turns (λ (s : Site). withStatus s k x) (now (w .entry)) (now (w .exit)) ⌝ }
 {
     if k < 32 {

@@ -3,3 +3,5 @@ pub mod head; // head.rt: what stands once, and what every call asks
 pub mod items; // items.rt: an element of a list by any number
 pub mod parts; // parts.rt: each part of the site
 pub mod phases; // phases.rt: a link's phase, times, version and what has happened
+
+pub const WORDS: usize = 1173;

@@ -6,7 +6,7 @@ ghost use Rattle.table_whole.specs.declared.SiteTable.{SiteTable};
 ghost use Rattle.site.specs.declared.Site.{Site};
 ghost use Rattle.site.specs.Site.{linkAt, withLink};
 ghost use Rattle.site.specs.Parts.{subscriptionAt, withSubscription, alarmAt, withAlarm, statusAt, withStatus};
-ghost use Rattle.store_site.specs.Layout.{siteOf, withNext, withLast};
+ghost use Rattle.store_site.specs.Layout.{siteOf, withNext, withLast, siteWords};
 ghost use Rattle.store_site.specs.Turns.{Turns};
 use alarm::Alarm;
 use link::Link;
@@ -14,14 +14,14 @@ use status::Status;
 use subscription::Subscription;
 
 pub fn link(w: &[u64], l: usize) -> Link
-    requires { ⌜ (length (now w) ≡ 1173) × (l < 4) ⌝ }
+    requires { ⌜ (length (now w) ≡ siteWords) × (l < 4) ⌝ }
     ensures { λ r. ⌜ ((t : SiteTable) → r ≡ linkAt (siteOf (now (w .entry)) t) l) ⌝ }
 {
     store_link::links::link_at(w, 521 + 75 * l)
 }
 
 pub fn put_link(w: &mut [u64], l: usize, x: Link)
-    requires { ⌜ (length (now w) ≡ 1173) × (l < 4) ⌝ }
+    requires { ⌜ (length (now w) ≡ siteWords) × (l < 4) ⌝ }
     ensures { λ _. ⌜ Turns (λ (s : Site). withLink s l x) (now (w .entry)) (now (w .exit)) ⌝ }
 {
     store_link::links::put_link_at(w, 521 + 75 * l, x);
@@ -29,7 +29,7 @@ pub fn put_link(w: &mut [u64], l: usize, x: Link)
 
 // The subscription of link l to status k stands at l * 32 + k.
 pub fn subscription(w: &[u64], k: usize) -> Subscription
-    requires { ⌜ (length (now w) ≡ 1173) × (k < 128) ⌝ }
+    requires { ⌜ (length (now w) ≡ siteWords) × (k < 128) ⌝ }
     ensures { λ r. ⌜ ((t : SiteTable) → r ≡ subscriptionAt (siteOf (now (w .entry)) t) k) ⌝ }
 {
     let i = 821 + 2 * k;
@@ -42,7 +42,7 @@ pub fn subscription(w: &[u64], k: usize) -> Subscription
 }
 
 pub fn put_subscription(w: &mut [u64], k: usize, x: Subscription)
-    requires { ⌜ (length (now w) ≡ 1173) × (k < 128) ⌝ }
+    requires { ⌜ (length (now w) ≡ siteWords) × (k < 128) ⌝ }
     ensures { λ _. ⌜ Turns (λ (s : Site). withSubscription s k x) (now (w .entry)) (now (w .exit)) ⌝ }
 {
     let i = 821 + 2 * k;
@@ -52,7 +52,7 @@ pub fn put_subscription(w: &mut [u64], k: usize, x: Subscription)
 }
 
 pub fn alarm(w: &[u64], k: usize) -> Alarm
-    requires { ⌜ (length (now w) ≡ 1173) × (k < 32) ⌝ }
+    requires { ⌜ (length (now w) ≡ siteWords) × (k < 32) ⌝ }
     ensures { λ r. ⌜ ((t : SiteTable) → r ≡ alarmAt (siteOf (now (w .entry)) t) k) ⌝ }
 {
     let i = 1077 + 2 * k;
@@ -67,7 +67,7 @@ pub fn alarm(w: &[u64], k: usize) -> Alarm
 }
 
 pub fn put_alarm(w: &mut [u64], k: usize, x: Alarm)
-    requires { ⌜ (length (now w) ≡ 1173) × (k < 32) ⌝ }
+    requires { ⌜ (length (now w) ≡ siteWords) × (k < 32) ⌝ }
     ensures { λ _. ⌜ Turns (λ (s : Site). withAlarm s k x) (now (w .entry)) (now (w .exit)) ⌝ }
 {
     let i = 1077 + 2 * k;
@@ -77,7 +77,7 @@ pub fn put_alarm(w: &mut [u64], k: usize, x: Alarm)
 }
 
 pub fn status(w: &[u64], k: usize) -> Status
-    requires { ⌜ (length (now w) ≡ 1173) × (k < 32) ⌝ }
+    requires { ⌜ (length (now w) ≡ siteWords) × (k < 32) ⌝ }
     ensures { λ r. ⌜ ((t : SiteTable) → r ≡ statusAt (siteOf (now (w .entry)) t) k) ⌝ }
 {
     let both = w[1141 + k];
@@ -88,7 +88,7 @@ pub fn status(w: &[u64], k: usize) -> Status
 }
 
 pub fn put_status(w: &mut [u64], k: usize, x: Status)
-    requires { ⌜ (length (now w) ≡ 1173) × (k < 32) ⌝ }
+    requires { ⌜ (length (now w) ≡ siteWords) × (k < 32) ⌝ }
     ensures { λ _. ⌜ Turns (λ (s : Site). withStatus s k x) (now (w .entry)) (now (w .exit)) ⌝ }
 {
     let both = store_words::pair(x.value, x.known);
@@ -96,21 +96,21 @@ pub fn put_status(w: &mut [u64], k: usize, x: Status)
 }
 
 pub fn next(w: &[u64]) -> u64
-    requires { ⌜ length (now w) ≡ 1173 ⌝ }
+    requires { ⌜ length (now w) ≡ siteWords ⌝ }
     ensures { λ r. ⌜ ((t : SiteTable) → r ≡ siteOf (now (w .entry)) t .next) ⌝ }
 {
     w[0]
 }
 
 pub fn put_next(w: &mut [u64], n: u64)
-    requires { ⌜ length (now w) ≡ 1173 ⌝ }
+    requires { ⌜ length (now w) ≡ siteWords ⌝ }
     ensures { λ _. ⌜ Turns (λ (s : Site). withNext s n) (now (w .entry)) (now (w .exit)) ⌝ }
 {
     w[0] = n;
 }
 
 pub fn put_last(w: &mut [u64], n: u64)
-    requires { ⌜ length (now w) ≡ 1173 ⌝ }
+    requires { ⌜ length (now w) ≡ siteWords ⌝ }
     ensures { λ _. ⌜ Turns (λ (s : Site). withLast s n) (now (w .entry)) (now (w .exit)) ⌝ }
 {
     w[1] = n;

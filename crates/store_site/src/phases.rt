@@ -9,7 +9,7 @@ ghost use Rattle.link.specs.Steps.{fullOf};
 ghost use Rattle.table_whole.specs.declared.SiteTable.{SiteTable};
 ghost use Rattle.site.specs.Site.{linkAt, downAt};
 ghost use Rattle.store_words.specs.Words.{flag};
-ghost use Rattle.store_site.specs.Layout.{siteOf};
+ghost use Rattle.store_site.specs.Layout.{siteOf, siteWords};
 use identity::Identity;
 use link::Phase;
 
@@ -25,7 +25,7 @@ fn all_three(a: u64, b: u64, c: u64) -> bool
 }
 
 pub fn phase(w: &[u64], l: usize) -> Phase
-    requires { ⌜ (length (now w) ≡ 1173) × (l < 4) ⌝ }
+    requires { ⌜ (length (now w) ≡ siteWords) × (l < 4) ⌝ }
     ensures { λ r. ⌜ ((t : SiteTable) → r ≡ phaseOf (linkAt (siteOf (now (w .entry)) t) l)) ⌝ }
 {
     let i = 521 + 75 * l;
@@ -42,14 +42,14 @@ pub fn phase(w: &[u64], l: usize) -> Phase
 }
 
 pub fn down(w: &[u64], l: usize) -> bool
-    requires { ⌜ (length (now w) ≡ 1173) × (l < 4) ⌝ }
+    requires { ⌜ (length (now w) ≡ siteWords) × (l < 4) ⌝ }
     ensures { λ r. ⌜ ((t : SiteTable) → r ≡ downAt (siteOf (now (w .entry)) t) l) ⌝ }
 {
     site::is_down(phase(w, l))
 }
 
 pub fn up(w: &[u64], l: usize) -> bool
-    requires { ⌜ (length (now w) ≡ 1173) × (l < 4) ⌝ }
+    requires { ⌜ (length (now w) ≡ siteWords) × (l < 4) ⌝ }
     ensures { λ r. ⌜ ((t : SiteTable) → r ≡ isUp (phaseOf (linkAt (siteOf (now (w .entry)) t) l))) ⌝ }
 {
     let p = phase(w, l);
@@ -63,7 +63,7 @@ pub fn up(w: &[u64], l: usize) -> bool
 
 // The time of the last Watchdog.
 pub fn beat(w: &[u64], l: usize) -> u64
-    requires { ⌜ (length (now w) ≡ 1173) × (l < 4) ⌝ }
+    requires { ⌜ (length (now w) ≡ siteWords) × (l < 4) ⌝ }
     ensures { λ r. ⌜ ((t : SiteTable) → r ≡ linkAt (siteOf (now (w .entry)) t) l .beat) ⌝ }
 {
     w[521 + 75 * l]
@@ -71,7 +71,7 @@ pub fn beat(w: &[u64], l: usize) -> u64
 
 // The next alarm of the first pass.
 pub fn alarm_next(w: &[u64], l: usize) -> u32
-    requires { ⌜ (length (now w) ≡ 1173) × (l < 4) ⌝ }
+    requires { ⌜ (length (now w) ≡ siteWords) × (l < 4) ⌝ }
     ensures { λ r. ⌜ ((t : SiteTable) → r ≡ linkAt (siteOf (now (w .entry)) t) l .alarm) ⌝ }
 {
     let i = 521 + 75 * l;
@@ -79,7 +79,7 @@ pub fn alarm_next(w: &[u64], l: usize) -> u32
 }
 
 pub fn major(w: &[u64], l: usize) -> u32
-    requires { ⌜ (length (now w) ≡ 1173) × (l < 4) ⌝ }
+    requires { ⌜ (length (now w) ≡ siteWords) × (l < 4) ⌝ }
     ensures { λ r. ⌜ ((t : SiteTable) → r ≡ linkAt (siteOf (now (w .entry)) t) l .major) ⌝ }
 {
     let i = 521 + 75 * l;
@@ -87,7 +87,7 @@ pub fn major(w: &[u64], l: usize) -> u32
 }
 
 pub fn minor(w: &[u64], l: usize) -> u32
-    requires { ⌜ (length (now w) ≡ 1173) × (l < 4) ⌝ }
+    requires { ⌜ (length (now w) ≡ siteWords) × (l < 4) ⌝ }
     ensures { λ r. ⌜ ((t : SiteTable) → r ≡ linkAt (siteOf (now (w .entry)) t) l .minor) ⌝ }
 {
     let i = 521 + 75 * l;
@@ -95,7 +95,7 @@ pub fn minor(w: &[u64], l: usize) -> u32
 }
 
 pub fn patch(w: &[u64], l: usize) -> u32
-    requires { ⌜ (length (now w) ≡ 1173) × (l < 4) ⌝ }
+    requires { ⌜ (length (now w) ≡ siteWords) × (l < 4) ⌝ }
     ensures { λ r. ⌜ ((t : SiteTable) → r ≡ linkAt (siteOf (now (w .entry)) t) l .patch) ⌝ }
 {
     let i = 521 + 75 * l;
@@ -103,7 +103,7 @@ pub fn patch(w: &[u64], l: usize) -> u32
 }
 
 pub fn version_out(w: &[u64], l: usize) -> bool
-    requires { ⌜ (length (now w) ≡ 1173) × (l < 4) ⌝ }
+    requires { ⌜ (length (now w) ≡ siteWords) × (l < 4) ⌝ }
     ensures { λ r. ⌜ ((t : SiteTable) → r ≡ linkAt (siteOf (now (w .entry)) t) l .versionout) ⌝ }
 {
     let i = 521 + 75 * l;
@@ -111,7 +111,7 @@ pub fn version_out(w: &[u64], l: usize) -> bool
 }
 
 pub fn version_taken(w: &[u64], l: usize) -> bool
-    requires { ⌜ (length (now w) ≡ 1173) × (l < 4) ⌝ }
+    requires { ⌜ (length (now w) ≡ siteWords) × (l < 4) ⌝ }
     ensures { λ r. ⌜ ((t : SiteTable) → r ≡ linkAt (siteOf (now (w .entry)) t) l .versiontaken) ⌝ }
 {
     let i = 521 + 75 * l;
@@ -119,7 +119,7 @@ pub fn version_taken(w: &[u64], l: usize) -> bool
 }
 
 pub fn watchdog_out(w: &[u64], l: usize) -> bool
-    requires { ⌜ (length (now w) ≡ 1173) × (l < 4) ⌝ }
+    requires { ⌜ (length (now w) ≡ siteWords) × (l < 4) ⌝ }
     ensures { λ r. ⌜ ((t : SiteTable) → r ≡ linkAt (siteOf (now (w .entry)) t) l .watchdogout) ⌝ }
 {
     let i = 521 + 75 * l;
@@ -127,7 +127,7 @@ pub fn watchdog_out(w: &[u64], l: usize) -> bool
 }
 
 pub fn aggregated_out(w: &[u64], l: usize) -> bool
-    requires { ⌜ (length (now w) ≡ 1173) × (l < 4) ⌝ }
+    requires { ⌜ (length (now w) ≡ siteWords) × (l < 4) ⌝ }
     ensures { λ r. ⌜ ((t : SiteTable) → r ≡ linkAt (siteOf (now (w .entry)) t) l .aggregatedout) ⌝ }
 {
     let i = 521 + 75 * l;
@@ -136,7 +136,7 @@ pub fn aggregated_out(w: &[u64], l: usize) -> bool
 
 // Whether it awaits an answer to the identity.
 pub fn awaits(w: &[u64], l: usize, id: Identity) -> bool
-    requires { ⌜ (length (now w) ≡ 1173) × (l < 4) ⌝ }
+    requires { ⌜ (length (now w) ≡ siteWords) × (l < 4) ⌝ }
     ensures { λ r. ⌜ ((t : SiteTable) → r ≡ isAwaited (findOf (linkAt (siteOf (now (w .entry)) t) l .awaited) id)) ⌝ }
 {
     let i = 521 + 75 * l;
@@ -145,7 +145,7 @@ pub fn awaits(w: &[u64], l: usize, id: Identity) -> bool
 
 // Whether it awaits sixteen.
 pub fn full(w: &[u64], l: usize) -> bool
-    requires { ⌜ (length (now w) ≡ 1173) × (l < 4) ⌝ }
+    requires { ⌜ (length (now w) ≡ siteWords) × (l < 4) ⌝ }
     ensures { λ r. ⌜ ((t : SiteTable) → r ≡ fullOf (linkAt (siteOf (now (w .entry)) t) l)) ⌝ }
 {
     let i = 521 + 75 * l;

@@ -11,7 +11,7 @@ use lib.Seq.{take-all, take-suc, take-suc-set}
 use Rattle.label.specs.declared.Label.{Label}
 use Rattle.table_whole.specs.declared.SiteTable.{SiteTable}
 use Rattle.table_whole.specs.Bytes.{inTurn}
-use Rattle.store_table.specs.Layout.{labelBytes, itemBytes, headBytes, layoutOf}
+use Rattle.store_table.specs.Layout.{labelBytes, itemBytes, headBytes, layoutOf, tableBytes}
 use Rattle.store_table.specs.Laid.{Laid}
 
 pub none : (xs : List ℕ) (at : ℕ) → Laid xs at 0 [] xs
@@ -59,11 +59,11 @@ label-laid xs ws at k x e n h a =
     then 33 (said a (take-all k (x .bytes) (omega arith))) (one ws (at + k) (x .length) (omega arith)) refl (omega arith)
 
 -- every byte
-pub laid-whole : (xs ys : List ℕ) (x : SiteTable) → length ys ≡ 6178
-    → Laid xs 0 6178 (headBytes x ++ (inTurn labelBytes (x .components) ++ (inTurn itemBytes (x .alarms) ++ (inTurn itemBytes (x .statuses) ++ inTurn itemBytes (x .commands))))) ys
+pub laid-whole : (xs ys : List ℕ) (x : SiteTable) → length ys ≡ tableBytes
+    → Laid xs 0 tableBytes (headBytes x ++ (inTurn labelBytes (x .components) ++ (inTurn itemBytes (x .alarms) ++ (inTurn itemBytes (x .statuses) ++ inTurn itemBytes (x .commands))))) ys
     → ys ≡ layoutOf x
 unfolding layoutOf
-laid-whole xs ys x e a = sym (take-all 6178 ys (omega arith)) ∙ a .upto
+laid-whole xs ys x e a = sym (take-all tableBytes ys (omega arith)) ∙ a .upto
 
 -- all rows, of n bytes together
 pub all-laid : {A : Type 0} (f : A → List ℕ) (l : List A) {xs ys : List ℕ} {at n : ℕ} (k m : ℕ) → length l ≤ k → n ≡ m → Laid xs at n (inTurn f (take k l)) ys → Laid xs at m (inTurn f l) ys

@@ -1,4 +1,4 @@
--- Where each part of the site table stands in 6178 bytes, the table that they are, and the bytes that a table is.
+-- Where each part of the site table stands in its bytes, the table that they are, and the bytes that a table is.
 -- 0 components, 2 alarms, 4 statuses, 6 commands: how many, in 2 bytes each, the high one first; 8 site, 41 sxl, 74 component ids: labels of 33 bytes;
 -- 338 alarms, 2674 statuses, 5010 commands: rows of 73 bytes.
 -- Assumes nothing.
@@ -9,6 +9,9 @@ use Rattle.table_item.specs.declared.Item.{Item}
 use Rattle.table_whole.specs.declared.SiteTable.{SiteTable}
 use Rattle.table_whole.specs.Bytes.{inTurn}
 use Rattle.store_words.specs.Words.{word, listOf}
+
+abbrev pub tableBytes : ℕ
+tableBytes = 6178
 
 abbrev pub countIn : List ℕ → ℕ → ℕ
 countIn bs i = 256 * word bs i + word bs (i + 1)

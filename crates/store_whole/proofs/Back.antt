@@ -15,7 +15,7 @@ use Rattle.store_words.specs.Words.{word, flag, elements}
 use Rattle.store_words.specs.Narrow.{upper, lower, pair, quad, identityFrom}
 use Rattle.store_link.specs.Rows.{slotFrom, slotIn, awaitedIn, linkIn, PlainAt}
 use Rattle.store_site.specs.Rows.{placeFrom, placeIn, subscriptionFrom, subscriptionIn, alarmFrom, alarmIn, statusFrom, statusIn}
-use Rattle.store_site.specs.Layout.{lostIn, placesIn, linksIn, subscriptionsIn, alarmsIn, statusesIn, siteOf}
+use Rattle.store_site.specs.Layout.{lostIn, placesIn, linksIn, subscriptionsIn, alarmsIn, statusesIn, siteOf, siteWords}
 use Rattle.store_site.specs.Turns.{Plain}
 use Rattle.store_whole.specs.Image.{flat, slotWords, linkHead, linkWords, placeWords, subscriptionWords, alarmWords, statusWords, headWords, wordsOf, Wide}
 use Rattle.store_whole.proofs.Spans.{span, span-append, span-whole, flat-span}
@@ -136,7 +136,7 @@ module _ (ws : List ℕ) (wide : Wide ws) where
       (λ k. omega arith) refl (λ n. omega arith) (λ k h. status-back (1141 + k))
 
   -- the seven parts, one behind the other
-  parts : span ws 0 5 ++ (span ws 5 4 ++ (span ws 9 512 ++ (span ws 521 300 ++ (span ws 821 256 ++ (span ws 1077 64 ++ span ws 1141 32))))) ≡ span ws 0 1173
+  parts : span ws 0 5 ++ (span ws 5 4 ++ (span ws 9 512 ++ (span ws 521 300 ++ (span ws 821 256 ++ (span ws 1077 64 ++ span ws 1141 32))))) ≡ span ws 0 siteWords
   parts =
       ap (λ (x : List ℕ). span ws 0 5 ++ x)
       (ap (λ (x : List ℕ). span ws 5 4 ++ x)
@@ -146,11 +146,11 @@ module _ (ws : List ℕ) (wide : Wide ws) where
       ∙ span-append ws 521 300 352 821 652 refl refl)
       ∙ span-append ws 9 512 652 521 1164 refl refl)
       ∙ span-append ws 5 4 1164 9 1168 refl refl)
-      ∙ span-append ws 0 5 1168 5 1173 refl refl
+      ∙ span-append ws 0 5 1168 5 siteWords refl refl
 
   six : (t : SiteTable) → Plain ws → wordsOf (siteOf ws t) ≡ span ws 0 5 ++ (span ws 5 4 ++ (span ws 9 512 ++ (span ws 521 300 ++ (span ws 821 256 ++ (span ws 1077 64 ++ span ws 1141 32)))))
   unfolding wordsOf siteOf
   six t p = rw (head-back t, lost-back, places-back, links-back p, subscriptions-back, alarms-back, statuses-back) refl
 
-  pub words-back : (t : SiteTable) → length ws ≡ 1173 → Plain ws → wordsOf (siteOf ws t) ≡ ws
-  words-back t e p = six t p ∙ parts ∙ sym (span-whole ws 1173 e)
+  pub words-back : (t : SiteTable) → length ws ≡ siteWords → Plain ws → wordsOf (siteOf ws t) ≡ ws
+  words-back t e p = six t p ∙ parts ∙ sym (span-whole ws siteWords e)

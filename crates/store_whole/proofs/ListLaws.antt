@@ -23,7 +23,7 @@ use Rattle.store_words.proofs.Elements.{list-length}
 use Rattle.store_words.proofs.Stores.{stored, first, next, below, above}
 use Rattle.store_link.specs.Rows.{linkIn, PlainAt, PutLink}
 use Rattle.store_site.specs.Rows.{placeIn, subscriptionIn, alarmIn, statusIn}
-use Rattle.store_site.specs.Layout.{lostIn, placesIn, linksIn, subscriptionsIn, alarmsIn, statusesIn, siteOf}
+use Rattle.store_site.specs.Layout.{lostIn, placesIn, linksIn, subscriptionsIn, alarmsIn, statusesIn, siteOf, siteWords}
 use Rattle.store_site.specs.Turns.{Turns}
 use Rattle.store_site.proofs.SiteLaws.{places-length, places-put, places-same, lost-same, links-same, subscriptions-same, alarms-same, statuses-same, only-pool, plain-before}
 use Rattle.store_whole.specs.Filled.{withPlaces, withLost, withHead}
@@ -83,7 +83,7 @@ plain-next vs us k x p h j g m f = by (eq-or-ne j k)
     by (inl z) = rw z (p .plain m f)
     by (inr z) = rw (p .put .kept .before (521 + 75 * j + (3 + m)) (omega (arith, z))) (h j (omega (arith, z)) m f)
 
-four-lost : (ws : List ℕ) (a b c d : ℕ) → length ws ≡ 1173 → lostIn (set (set (set (set ws 5 a) 6 b) 7 c) 8 d) ≡ a ∷ b ∷ c ∷ d ∷ []
+four-lost : (ws : List ℕ) (a b c d : ℕ) → length ws ≡ siteWords → lostIn (set (set (set (set ws 5 a) 6 b) 7 c) 8 d) ≡ a ∷ b ∷ c ∷ d ∷ []
 unfolding lostIn elements
 four-lost ws a b c d h =
     let vs = b ∷ c ∷ d ∷ [] in
@@ -94,7 +94,7 @@ four-lost ws a b c d h =
       next ws 5 a vs (omega arith) 3 (lit≤ tt) (lit≤ tt),
     )
 
-pub lost-turns : (ws : List ℕ) (a b c d : ℕ) → length ws ≡ 1173 → Turns (λ (s : Site). withLost s (a ∷ b ∷ c ∷ d ∷ [])) ws (set (set (set (set ws 5 a) 6 b) 7 c) 8 d)
+pub lost-turns : (ws : List ℕ) (a b c d : ℕ) → length ws ≡ siteWords → Turns (λ (s : Site). withLost s (a ∷ b ∷ c ∷ d ∷ [])) ws (set (set (set (set ws 5 a) 6 b) 7 c) 8 d)
 unfolding siteOf
 lost-turns ws a b c d h =
     let vs = set (set (set (set ws 5 a) 6 b) 7 c) 8 d in
@@ -133,7 +133,7 @@ module _ (a b c : ℕ) (f : a < 4294967296) (g : b < 65536) (h : c < 65536) wher
   three-2 : fieldOf three 0 16 ≡ c
   three-2 = ap (λ (l : List ℕ). getD l 2 0) all
 
-module _ (ws : List ℕ) (a b c d e : ℕ) (x : Aggregated) {n : ℕ} (h : length ws ≡ 1173) (f : c < 4294967296) (g : d < 65536) (k : e < 65536)
+module _ (ws : List ℕ) (a b c d e : ℕ) (x : Aggregated) {n : ℕ} (h : length ws ≡ siteWords) (f : c < 4294967296) (g : d < 65536) (k : e < 65536)
     (q : n ≡ joined 0 (32 ∷ 16 ∷ 16 ∷ []) (c ∷ d ∷ e ∷ [])) where
   abbrev others : List ℕ
   others = b ∷ n ∷ x .time ∷ x .value ∷ []

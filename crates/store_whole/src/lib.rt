@@ -6,6 +6,7 @@ ghost use Rattle.bits.specs.Fields.{joined};
 ghost use Rattle.site.specs.declared.Site.{Site};
 ghost use Rattle.store_site.specs.Turns.{Turns};
 ghost use Rattle.store_whole.specs.Filled.{withHead};
+ghost use Rattle.store_site.specs.Layout.{siteWords};
 use aggregated::Aggregated;
 
 pub mod lists; // lists.rt: each list of the site
@@ -27,7 +28,7 @@ pub fn put_head(
     primary: u16,
     changed: Aggregated,
 )
-    requires { ⌜ length (now w) ≡ 1173 ⌝ }
+    requires { ⌜ length (now w) ≡ siteWords ⌝ }
     ensures { λ _. ⌜ Turns (λ (s : Site). withHead s next last period links primary changed) (now (w .entry)) (now (w .exit)) ⌝ }
 {
     let both = numbers(period, links, primary);

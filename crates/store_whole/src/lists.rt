@@ -6,6 +6,7 @@ ghost use Rattle.site.specs.declared.Site.{Site};
 ghost use Rattle.site.specs.Site.{withSubscriptions, withAlarms, withStatuses};
 ghost use Rattle.store_site.specs.Turns.{Turns};
 ghost use Rattle.store_whole.specs.Filled.{withPlaces, withLost, PutLinks};
+ghost use Rattle.store_site.specs.Layout.{siteWords};
 use alarm::Alarm;
 use link::Link;
 use pool::Place;
@@ -13,7 +14,7 @@ use status::Status;
 use subscription::Subscription;
 
 pub fn put_places(w: &mut [u64], places: [Place; 128])
-    requires { ⌜ length (now w) ≡ 1173 ⌝ }
+    requires { ⌜ length (now w) ≡ siteWords ⌝ }
     ensures { λ _. ⌜ Turns (λ (s : Site). withPlaces s places) (now (w .entry)) (now (w .exit)) ⌝ }
 {
     let mut k: usize = 0;
@@ -24,7 +25,7 @@ pub fn put_places(w: &mut [u64], places: [Place; 128])
 }
 
 fn put_four(w: &mut [u64], a: u64, b: u64, c: u64, d: u64)
-    requires { ⌜ length (now w) ≡ 1173 ⌝ }
+    requires { ⌜ length (now w) ≡ siteWords ⌝ }
     ensures { λ _. ⌜ Turns (λ (s : Site). withLost s (a ∷ b ∷ c ∷ d ∷ [])) (now (w .entry)) (now (w .exit)) ⌝ }
 {
     w[5] = a;
@@ -34,14 +35,14 @@ fn put_four(w: &mut [u64], a: u64, b: u64, c: u64, d: u64)
 }
 
 pub fn put_lost(w: &mut [u64], lost: [u64; 4])
-    requires { ⌜ length (now w) ≡ 1173 ⌝ }
+    requires { ⌜ length (now w) ≡ siteWords ⌝ }
     ensures { λ _. ⌜ Turns (λ (s : Site). withLost s lost) (now (w .entry)) (now (w .exit)) ⌝ }
 {
     put_four(w, lost[0], lost[1], lost[2], lost[3]);
 }
 
 pub fn fill_links(w: &mut [u64], x: Link)
-    requires { ⌜ length (now w) ≡ 1173 ⌝ }
+    requires { ⌜ length (now w) ≡ siteWords ⌝ }
     ensures { λ _. ⌜ PutLinks (now (w .entry)) (now (w .exit)) (replicate 4 x) ⌝ }
 {
     let mut k: usize = 0;
@@ -52,7 +53,7 @@ pub fn fill_links(w: &mut [u64], x: Link)
 }
 
 pub fn fill_subscriptions(w: &mut [u64], x: Subscription)
-    requires { ⌜ length (now w) ≡ 1173 ⌝ }
+    requires { ⌜ length (now w) ≡ siteWords ⌝ }
     ensures { λ _. ⌜ Turns (λ (s : Site). withSubscriptions s (replicate 128 x)) (now (w .entry)) (now (w .exit)) ⌝ }
 {
     let mut k: usize = 0;
@@ -63,7 +64,7 @@ pub fn fill_subscriptions(w: &mut [u64], x: Subscription)
 }
 
 pub fn fill_alarms(w: &mut [u64], x: Alarm)
-    requires { ⌜ length (now w) ≡ 1173 ⌝ }
+    requires { ⌜ length (now w) ≡ siteWords ⌝ }
     ensures { λ _. ⌜ Turns (λ (s : Site). withAlarms s (replicate 32 x)) (now (w .entry)) (now (w .exit)) ⌝ }
 {
     let mut k: usize = 0;
@@ -74,7 +75,7 @@ pub fn fill_alarms(w: &mut [u64], x: Alarm)
 }
 
 pub fn fill_statuses(w: &mut [u64], x: Status)
-    requires { ⌜ length (now w) ≡ 1173 ⌝ }
+    requires { ⌜ length (now w) ≡ siteWords ⌝ }
     ensures { λ _. ⌜ Turns (λ (s : Site). withStatuses s (replicate 32 x)) (now (w .entry)) (now (w .exit)) ⌝ }
 {
     let mut k: usize = 0;

@@ -3,7 +3,7 @@ use Prim.Native.Nat.{ℕ, _<_, _≤_, _-_}
 use mathlib.Core.Path.{_≡_, refl, ap, _∙_}
 use mathlib.Core.List.{List}
 use lib.ListN.{length}
-use Rattle.store_table.specs.Layout.{tableOf}
+use Rattle.store_table.specs.Layout.{tableOf, tableBytes}
 use Rattle.packet_command.specs.Commanding.{commandsTo}
 use Rattle.packet_command.specs.Handing.{handedOver}
 use Rattle.packet_command.proofs.HandedWords.{one-more-handed}
@@ -13,7 +13,7 @@ use Rattle.packet_command.proofs.hand.Tie as tie
 abbrev Inv-loop : tie.InvT-loop
 Inv-loop t component entries count commands₀ i₀ commands i =
     (i ≤ count)
-    × ((count < 17) × ((length t ≡ 6178) × ((length commands₀ ≡ 16) × ((length commands ≡ 16) × (commands ≡ handedOver (commandsTo (tableOf t) component entries i) commands₀)))))
+    × ((count < 17) × ((length t ≡ tableBytes) × ((length commands₀ ≡ 16) × ((length commands ≡ 16) × (commands ≡ handedOver (commandsTo (tableOf t) component entries i) commands₀)))))
 
 abbrev μ-loop : tie.MeasureT-loop
 μ-loop t component entries count commands₀ i₀ commands i = count - i

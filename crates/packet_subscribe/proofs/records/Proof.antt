@@ -6,16 +6,17 @@ use lib.ListN.{length}
 use borrow.Author.Needs.{needs}
 use Rattle.site.specs.declared.Site.{Site}
 use Rattle.store_call.specs.Issued.{issuedIn}
-use Rattle.store_table.specs.Layout.{tableOf}
+use Rattle.store_table.specs.Layout.{tableOf, tableBytes}
 use Rattle.packet_subscribe.specs.Subscribing.{records as recordsOf}
 use Rattle.packet_subscribe.specs.InPlace.{TurnsIn}
 use Rattle.packet_subscribe.proofs.Loops.{no-record, one-more-record}
 use Rattle.packet_subscribe.proofs.records.Statement.{statement}
 use Rattle.packet_subscribe.proofs.records.Tie as tie
+use Rattle.store_site.specs.Layout.{siteWords}
 
 abbrev Inv-loop : tie.InvT-loop
 Inv-loop w₀ t l time component entries count i₀ w i =
-    (i ≤ count) × ((length w ≡ 1173) × ((length t ≡ 6178) × TurnsIn (tableOf t) (λ (s : Site). issuedIn s (recordsOf s l time component entries i)) w₀ w))
+    (i ≤ count) × ((length w ≡ siteWords) × ((length t ≡ tableBytes) × TurnsIn (tableOf t) (λ (s : Site). issuedIn s (recordsOf s l time component entries i)) w₀ w))
 
 abbrev μ-loop : tie.MeasureT-loop
 μ-loop w₀ t l time component entries count i₀ w i = count - i

@@ -5,16 +5,17 @@ use mathlib.Core.Path.{_≡_}
 use lib.ListN.{length}
 use borrow.Author.Needs.{needs}
 use Rattle.site.specs.declared.Site.{Site}
-use Rattle.store_table.specs.Layout.{tableOf}
+use Rattle.store_table.specs.Layout.{tableOf, tableBytes}
 use Rattle.packet_subscribe.specs.Subscribing.{replaced as replacedOf}
 use Rattle.packet_subscribe.specs.InPlace.{TurnsIn}
 use Rattle.packet_subscribe.proofs.Loops.{none-replaced, one-more-replaced}
 use Rattle.packet_subscribe.proofs.replaced.Statement.{statement}
 use Rattle.packet_subscribe.proofs.replaced.Tie as tie
+use Rattle.store_site.specs.Layout.{siteWords}
 
 abbrev Inv-loop : tie.InvT-loop
 Inv-loop w₀ t subscribing l time component entries count i₀ w i =
-    (i ≤ count) × ((length w ≡ 1173) × ((length t ≡ 6178) × TurnsIn (tableOf t) (λ (s : Site). replacedOf subscribing s l time component entries i) w₀ w))
+    (i ≤ count) × ((length w ≡ siteWords) × ((length t ≡ tableBytes) × TurnsIn (tableOf t) (λ (s : Site). replacedOf subscribing s l time component entries i) w₀ w))
 
 abbrev μ-loop : tie.MeasureT-loop
 μ-loop w₀ t subscribing l time component entries count i₀ w i = count - i

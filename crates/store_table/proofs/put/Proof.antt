@@ -2,7 +2,7 @@
 -- Assumes nothing.
 use mathlib.Core.Path.{_≡_, refl}
 use lib.ListN.{length}
-use Rattle.store_table.specs.Layout.{headBytes}
+use Rattle.store_table.specs.Layout.{headBytes, tableBytes}
 use Rattle.store_table.proofs.LayLaws.{then, laid-whole}
 use borrow.Author.Needs.{needs}
 use Rattle.store_table.proofs.put.Statement.{statement}
@@ -32,9 +32,9 @@ returns c =
     let rows = c .before .before .before .before .before .before .before .before .before .before .before .before .before .before in
     let a = rows .before .before .before .before .before .before .before .before .before .before .before .before .before .args in
     let v = c .before .before .commands2 .last .0 in
-    let e : length v ≡ 6178 = search needs in
+    let e : length v ≡ tableBytes = search needs in
     laid-whole (a .t .now) v (a .x) e
-    (then 6178 (rows .before .before .before .before .head .ensures)
+    (then tableBytes (rows .before .before .before .before .head .ensures)
     (then 6104 (rows .labels .ensures)
     (then 5840 (c .before .before .before .before .before .before .before .before .before .before .items .ensures)
     (then 3504 (c .before .before .before .before .before .before .items2 .ensures) (c .before .before .commands2 .ensures) refl refl) refl refl) refl refl) refl refl)

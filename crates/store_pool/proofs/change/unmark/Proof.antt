@@ -10,9 +10,10 @@ use Rattle.pool.specs.declared.Pool.{Pool}
 use Rattle.pool.specs.Pool.{unmarkOf}
 use Rattle.store_pool.proofs.change.unmark.Statement.{statement}
 use Rattle.store_pool.proofs.change.unmark.Tie as tie
+use Rattle.store_site.specs.Layout.{siteWords}
 
 abbrev Inv-loop : tie.InvT-loop
-Inv-loop w₀ l i₀ w i = (i ≤ 128) × ((length w ≡ 1173) × ((length w₀ ≡ 1173) × Upto w₀ w l i))
+Inv-loop w₀ l i₀ w i = (i ≤ 128) × ((length w ≡ siteWords) × ((length w₀ ≡ siteWords) × Upto w₀ w l i))
 
 abbrev μ-loop : tie.MeasureT-loop
 μ-loop w₀ l i₀ w i = 128 - i
@@ -34,7 +35,7 @@ loop-again c =
     let l = c .before .before .before .before .before .loop in
     let a = c .before .before .before .before .before .before .before .args in
     let put = c .before .before .unmark-at in
-    let n : length (put .last .0) ≡ 1173 = search needs in
+    let n : length (put .last .0) ≡ siteWords = search needs in
     (omega arith, (n, (l .inv .1 .1 .0, upto-next (a .w .now) (l .w) (put .last .0) (a .l) (l .i) (omega arith) (l .inv .1 .1 .1) (put .ensures))))
 
 same-length : tie.Need-same-length Inv-loop μ-loop

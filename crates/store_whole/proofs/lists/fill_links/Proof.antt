@@ -8,7 +8,7 @@ use lib.ListN.{length, replicate, length-replicate, getD-replicate}
 use Rattle.link.specs.Fields.{closedLink}
 use Rattle.site.specs.Site.{withLinks}
 use Rattle.store_link.specs.Rows.{PlainAt}
-use Rattle.store_site.specs.Layout.{linksIn}
+use Rattle.store_site.specs.Layout.{linksIn, siteWords}
 use Rattle.store_site.proofs.SiteLaws.{link-turns}
 use Rattle.store_whole.proofs.FillLaws.{Upto, upto-none, upto-next, upto-all}
 use Rattle.store_whole.proofs.ListLaws.{links-part, plain-next}
@@ -16,7 +16,7 @@ use Rattle.store_whole.proofs.lists.fill_links.Statement.{statement}
 use Rattle.store_whole.proofs.lists.fill_links.Tie as tie
 
 abbrev Inv-loop : tie.InvT-loop
-Inv-loop w₀ x k₀ w k = (k ≤ 4) × ((length w ≡ 1173) × ((length w₀ ≡ 1173) × (Upto linksIn withLinks closedLink w₀ w (replicate 4 x) k × ((j : ℕ) → j < k → PlainAt w (521 + 75 * j)))))
+Inv-loop w₀ x k₀ w k = (k ≤ 4) × ((length w ≡ siteWords) × ((length w₀ ≡ siteWords) × (Upto linksIn withLinks closedLink w₀ w (replicate 4 x) k × ((j : ℕ) → j < k → PlainAt w (521 + 75 * j)))))
 
 abbrev μ-loop : tie.MeasureT-loop
 μ-loop w₀ x k₀ w k = 4 - k
@@ -44,7 +44,7 @@ loop-again c =
     let l = c .before .before .before .before .before .loop in
     let a = c .before .before .before .before .before .before .before .args in
     let put = c .before .before .put-link-at in
-    let n : length (put .last .0) ≡ 1173 = search needs in
+    let n : length (put .last .0) ≡ siteWords = search needs in
     (omega arith, (n, (l .inv .1 .1 .0, (upto-next links-part closedLink (a .w .now) (l .w) (put .last .0) (replicate 4 (a .x)) (l .k) (l .inv .1 .1 .1 .0) (omega arith) (length-replicate 4 (a .x)) (a .x) (sym (getD-replicate 4 (l .k) (a .x) closedLink (omega arith))) (link-turns (l .w) (put .last .0) (l .k) (a .x) (omega arith) (put .ensures)), plain-next (l .w) (put .last .0) (l .k) (a .x) (put .ensures) (l .inv .1 .1 .1 .1)))))
 
 same-length : tie.Need-same-length Inv-loop μ-loop

@@ -7,14 +7,14 @@ use borrow.Author.Needs.{needs}
 use lib.ListN.{length, replicate, length-replicate, getD-replicate}
 use Rattle.status.specs.Status.{unknown}
 use Rattle.site.specs.Site.{withStatuses}
-use Rattle.store_site.specs.Layout.{statusesIn}
+use Rattle.store_site.specs.Layout.{statusesIn, siteWords}
 use Rattle.store_whole.proofs.FillLaws.{Upto, upto-none, upto-next, upto-all}
 use Rattle.store_whole.proofs.ListLaws.{statuses-part}
 use Rattle.store_whole.proofs.lists.fill_statuses.Statement.{statement}
 use Rattle.store_whole.proofs.lists.fill_statuses.Tie as tie
 
 abbrev Inv-loop : tie.InvT-loop
-Inv-loop w₀ x k₀ w k = (k ≤ 32) × ((length w ≡ 1173) × ((length w₀ ≡ 1173) × Upto statusesIn withStatuses unknown w₀ w (replicate 32 x) k))
+Inv-loop w₀ x k₀ w k = (k ≤ 32) × ((length w ≡ siteWords) × ((length w₀ ≡ siteWords) × Upto statusesIn withStatuses unknown w₀ w (replicate 32 x) k))
 
 abbrev μ-loop : tie.MeasureT-loop
 μ-loop w₀ x k₀ w k = 32 - k
@@ -36,7 +36,7 @@ loop-again c =
     let l = c .before .before .before .before .before .loop in
     let a = c .before .before .before .before .before .before .before .args in
     let put = c .before .before .put-status in
-    let n : length (put .last .0) ≡ 1173 = search needs in
+    let n : length (put .last .0) ≡ siteWords = search needs in
     (omega arith, (n, (l .inv .1 .1 .0, upto-next statuses-part unknown (a .w .now) (l .w) (put .last .0) (replicate 32 (a .x)) (l .k) (l .inv .1 .1 .1) (omega arith) (length-replicate 32 (a .x)) (a .x) (sym (getD-replicate 32 (l .k) (a .x) unknown (omega arith))) (put .ensures))))
 
 same-length : tie.Need-same-length Inv-loop μ-loop

@@ -7,14 +7,14 @@ use borrow.Author.Needs.{needs}
 use lib.ListN.{length, replicate, length-replicate, getD-replicate}
 use Rattle.subscription.specs.Subscription.{none}
 use Rattle.site.specs.Site.{withSubscriptions}
-use Rattle.store_site.specs.Layout.{subscriptionsIn}
+use Rattle.store_site.specs.Layout.{subscriptionsIn, siteWords}
 use Rattle.store_whole.proofs.FillLaws.{Upto, upto-none, upto-next, upto-all}
 use Rattle.store_whole.proofs.ListLaws.{subscriptions-part}
 use Rattle.store_whole.proofs.lists.fill_subscriptions.Statement.{statement}
 use Rattle.store_whole.proofs.lists.fill_subscriptions.Tie as tie
 
 abbrev Inv-loop : tie.InvT-loop
-Inv-loop w₀ x k₀ w k = (k ≤ 128) × ((length w ≡ 1173) × ((length w₀ ≡ 1173) × Upto subscriptionsIn withSubscriptions none w₀ w (replicate 128 x) k))
+Inv-loop w₀ x k₀ w k = (k ≤ 128) × ((length w ≡ siteWords) × ((length w₀ ≡ siteWords) × Upto subscriptionsIn withSubscriptions none w₀ w (replicate 128 x) k))
 
 abbrev μ-loop : tie.MeasureT-loop
 μ-loop w₀ x k₀ w k = 128 - k
@@ -36,7 +36,7 @@ loop-again c =
     let l = c .before .before .before .before .before .loop in
     let a = c .before .before .before .before .before .before .before .args in
     let put = c .before .before .put-subscription in
-    let n : length (put .last .0) ≡ 1173 = search needs in
+    let n : length (put .last .0) ≡ siteWords = search needs in
     (omega arith, (n, (l .inv .1 .1 .0, upto-next subscriptions-part none (a .w .now) (l .w) (put .last .0) (replicate 128 (a .x)) (l .k) (l .inv .1 .1 .1) (omega arith) (length-replicate 128 (a .x)) (a .x) (sym (getD-replicate 128 (l .k) (a .x) none (omega arith))) (put .ensures))))
 
 same-length : tie.Need-same-length Inv-loop μ-loop

@@ -7,14 +7,14 @@ use borrow.Author.Needs.{needs}
 use lib.ListN.{length}
 use Rattle.pool.specs.Places.{noPlace}
 use Rattle.store_whole.specs.Filled.{withPlaces}
-use Rattle.store_site.specs.Layout.{placesIn}
+use Rattle.store_site.specs.Layout.{placesIn, siteWords}
 use Rattle.store_whole.proofs.FillLaws.{Upto, inside, upto-none, upto-next, upto-all}
 use Rattle.store_whole.proofs.ListLaws.{places-part, place-turns}
 use Rattle.store_whole.proofs.lists.put_places.Statement.{statement}
 use Rattle.store_whole.proofs.lists.put_places.Tie as tie
 
 abbrev Inv-loop : tie.InvT-loop
-Inv-loop w₀ places k₀ w k = (k ≤ 128) × ((length w ≡ 1173) × ((length w₀ ≡ 1173) × Upto placesIn withPlaces noPlace w₀ w places k))
+Inv-loop w₀ places k₀ w k = (k ≤ 128) × ((length w ≡ siteWords) × ((length w₀ ≡ siteWords) × Upto placesIn withPlaces noPlace w₀ w places k))
 
 abbrev μ-loop : tie.MeasureT-loop
 μ-loop w₀ places k₀ w k = 128 - k
@@ -43,7 +43,7 @@ loop-again c =
     let s = c .before .before .before .before .before .before .before .before in
     let a = s .args in
     let put = c .before .before .put-place in
-    let n : length (put .last .0) ≡ 1173 = search needs in
+    let n : length (put .last .0) ≡ siteWords = search needs in
     let m : length (a .t2) ≡ 128 = search (s, needs) in
     (omega arith, (n, (l .inv .1 .1 .0, upto-next places-part noPlace (a .w .now) (l .w) (put .last .0) (a .t2) (l .k) (l .inv .1 .1 .1) (omega arith) m _ (inside (a .t2) (l .k) _ noPlace (omega arith)) (place-turns (l .w) (put .last .0) (l .k) _ (omega arith) (put .ensures)))))
 
