@@ -32,6 +32,7 @@ use Rattle.link.specs.declared.Role.{Role}
 use Rattle.link.specs.declared.Role.the-variants.{Primary, Secondary}
 use Rattle.site.specs.Site.{linkAt, roleOf}
 use Rattle.site.specs.Call.{Command, Plan}
+use Rattle.packet_answer.specs.declared.Question.{Question}
 use Rattle.packet_answer.specs.Taken.{Taken, notAcked, byVerdict, unlessBusy, unexpected, notReady, busy}
 use Rattle.packet_lookup.specs.declared.Sought.{Sought}
 use Rattle.packet_lookup.specs.declared.Sought.the-variants.{Is, Nothing}
@@ -46,84 +47,84 @@ use Rattle.packet_status.specs.StatusReply.{passes, statusTaken}
 use Rattle.packet_subscribe.specs.Subscribing.{changed, judged, asked, subscribingTaken}
 use Rattle.packet_command.specs.Commanding.{keepsRanges, passes as allPass, orderedOf as commandOrdered, commandTaken}
 use Rattle.packet_command.specs.Handing.{commandsIn}
-use Rattle.call_packet.specs.Packet.{expected, unready, kindTaken, expectedTaken, classTaken, packetTaken}
+use Rattle.call_packet.specs.Packet.{expected, unready, kindTaken, expectedTaken, classTaken, questionOf, packetTaken}
 
 -- P of what is handed over
 module _ (P : List Command → Type 0) (nothing : P []) where
   abbrev Hands : Taken → Type 0
   Hands x = P (x .plan .commands)
 
-  by-verdict : (v : Verdict) (s : Site) (received : List ℕ) (x : Taken) → Hands x → Hands (byVerdict v s received x)
-  by-verdict Good s received x h = h
-  by-verdict Missing s received x h = nothing
-  by-verdict Bad s received x h = nothing
+  by-verdict : (v : Verdict) (s : Site) (q : Question) (x : Taken) → Hands x → Hands (byVerdict v s q x)
+  by-verdict Good s q x h = h
+  by-verdict Missing s q x h = nothing
+  by-verdict Bad s q x h = nothing
 
-  unless-busy : (s : Site) (l : ℕ) (received : List ℕ) (x : Taken) → Hands x → Hands (unlessBusy s l received x)
-  unless-busy s l received x h = picked Hands (fullOf (linkAt s l)) (notAcked s received busy) x (λ e. nothing) (λ e. h)
+  unless-busy : (s : Site) (q : Question) (x : Taken) → Hands x → Hands (unlessBusy s q x)
+  unless-busy s q x h = picked Hands (fullOf (linkAt s (q .link))) (notAcked s q busy) x (λ e. nothing) (λ e. h)
 
-  version : (s : Site) (l : ℕ) (received : List ℕ) (j : Judged) → Hands (versionJudged s l received j)
-  version s l received (Chosen v) = nothing
-  version s l received RsmpVersion = nothing
-  version s l received SiteId = nothing
-  version s l received SxlVersion = nothing
+  version : (s : Site) (q : Question) (j : Judged) → Hands (versionJudged s q j)
+  version s q (Chosen v) = nothing
+  version s q RsmpVersion = nothing
+  version s q SiteId = nothing
+  version s q SxlVersion = nothing
 
-  module _ (s : Site) (l time : ℕ) (id : Identity) (received : List ℕ) where
-    request : (k : ℕ) (r : Role) → Hands (requestBy s l time id received k r)
-    request k Primary = unless-busy s l received _ nothing
+  module _ (s : Site) (q : Question) where
+    request : (k : ℕ) (r : Role) → Hands (requestBy s q k r)
+    request k Primary = unless-busy s q _ nothing
     request k Secondary = nothing
 
-    order : (k : ℕ) (o : Order) → Hands (ordered s l time id received k o)
+    order : (k : ℕ) (o : Order) → Hands (ordered s q k o)
     unfolding requestTaken changeTaken
-    order k Request = request k (roleOf s l)
+    order k Request = request k (roleOf s (q .link))
     order k Acknowledge = nothing
     order k Suspend = nothing
     order k Resume = nothing
 
-    alarm : (o : Order) (a : SoughtAlarm) → Hands (orderedOf s l time id received o a)
+    alarm : (o : Order) (a : SoughtAlarm) → Hands (orderedOf s q o a)
     alarm o (TheAlarm k) = order k o
     alarm o NoComponent = nothing
     alarm o NoAlarm = nothing
 
-    alarm-taken : (f : AlarmFields) → Hands (alarmTaken s l time id received f)
+    alarm-taken : (f : AlarmFields) → Hands (alarmTaken s q f)
     unfolding alarmTaken foundTaken
-    alarm-taken f = by-verdict (f .verdict) s received _ (alarm (f .order) (alarmSought (s .table) (f .component) (f .code)))
+    alarm-taken f = by-verdict (f .verdict) s q _ (alarm (f .order) (alarmSought (s .table) (f .component) (f .code)))
 
-    aggregated : (k : Sought) → Hands (aggregatedOf s l time id received k)
-    aggregated k = picked Hands (isZero k) _ _ (λ e. unless-busy s l received _ nothing) (λ e. nothing)
+    aggregated : (k : Sought) → Hands (aggregatedOf s q k)
+    aggregated k = picked Hands (isZero k) _ _ (λ e. unless-busy s q _ nothing) (λ e. nothing)
 
-    aggregated-taken : (f : GotLabel) → Hands (aggregatedTaken s l time id received f)
+    aggregated-taken : (f : GotLabel) → Hands (aggregatedTaken s q f)
     unfolding aggregatedTaken
-    aggregated-taken f = by-verdict (f .verdict) s received _ (aggregated (componentSought (s .table) (f .label)))
+    aggregated-taken f = by-verdict (f .verdict) s q _ (aggregated (componentSought (s .table) (f .label)))
 
-    status-taken : (f : StatusFields) → Hands (statusTaken s l time id received f)
+    status-taken : (f : StatusFields) → Hands (statusTaken s q f)
     unfolding statusTaken
     status-taken f =
-        by-verdict (f .verdict) s received _
-        (picked Hands (passes s f (componentSought (s .table) (f .component))) _ _ (λ e. unless-busy s l received _ nothing) (λ e. nothing))
+        by-verdict (f .verdict) s q _
+        (picked Hands (passes s f (componentSought (s .table) (f .component))) _ _ (λ e. unless-busy s q _ nothing) (λ e. nothing))
 
-    subscribing : (b : Bool) (f : StatusFields) (k : Sought) → Hands (asked b s l time received f k)
+    subscribing : (b : Bool) (f : StatusFields) (k : Sought) → Hands (asked b s q f k)
     unfolding judged changed
     subscribing b f (Is c) = picked Hands (allStatuses (s .table) c (f .entries) (f .count)) _ _ (λ e. nothing) (λ e. nothing)
     subscribing b f Nothing = nothing
 
-    subscribing-taken : (b : Bool) (f : StatusFields) → Hands (subscribingTaken b s l time received f)
+    subscribing-taken : (b : Bool) (f : StatusFields) → Hands (subscribingTaken b s q f)
     unfolding subscribingTaken
-    subscribing-taken b f = by-verdict (f .verdict) s received _ (subscribing b f (componentSought (s .table) (f .component)))
+    subscribing-taken b f = by-verdict (f .verdict) s q _ (subscribing b f (componentSought (s .table) (f .component)))
 
     module _ (p : List ℕ) (some : P (commandsIn (s .table) p)) where
-      command-taken : Hands (commandTaken s l time id received (commandAt p))
+      command-taken : Hands (commandTaken s q (commandAt p))
       unfolding commandTaken commandsIn
       command-taken =
           let f = commandAt p in
           let k = componentSought (s .table) (f .component) in
-          by-verdict (f .verdict) s received _
+          by-verdict (f .verdict) s q _
           (picked Hands (keepsRanges (s .table) f k) _ _
-          (λ e. picked Hands (allPass (s .table) f k) _ _ (λ d. unless-busy s l received _ some) (λ d. nothing))
+          (λ e. picked Hands (allPass (s .table) f k) _ _ (λ d. unless-busy s q _ some) (λ d. nothing))
           (λ e. nothing))
 
-      kind-taken : (k : Kind) → Hands (kindTaken s l time id received p k)
-      kind-taken Version = by-verdict (versionAt p .verdict) s received _ (version s l received (judge (own s) (versionAt p .offer)))
-      kind-taken Watchdog = by-verdict (watchdogAt p .verdict) s received (beat s l received (watchdogAt p)) nothing
+      kind-taken : (k : Kind) → Hands (kindTaken s q p k)
+      kind-taken Version = by-verdict (versionAt p .verdict) s q _ (version s q (judge (own s) (versionAt p .offer)))
+      kind-taken Watchdog = by-verdict (watchdogAt p .verdict) s q (beat s q (watchdogAt p)) nothing
       kind-taken Alarm = alarm-taken (alarmAt p)
       kind-taken AggregatedStatusRequest = aggregated-taken (aggregatedAt p)
       kind-taken StatusRequest = status-taken (statusAt false p)
@@ -132,21 +133,21 @@ module _ (P : List Command → Type 0) (nothing : P []) where
       kind-taken CommandRequest = command-taken
       kind-taken Unexpected = nothing
 
-      expected-taken : (k : Kind) → Hands (expectedTaken s l time id received p k)
+      expected-taken : (k : Kind) → Hands (expectedTaken s q p k)
       expected-taken k =
-          picked Hands (expected (linkAt s l) k) _ _
-          (λ e. picked Hands (unready (linkAt s l) k) (notAcked s received notReady) (kindTaken s l time id received p k) (λ d. nothing) (λ d. kind-taken k))
+          picked Hands (expected (linkAt s (q .link)) k) _ _
+          (λ e. picked Hands (unready (linkAt s (q .link)) k) (notAcked s q notReady) (kindTaken s q p k) (λ d. nothing) (λ d. kind-taken k))
           (λ e. nothing)
 
-      class-taken : (answered : Identity) (c : Class) → Hands (classTaken s l time id answered received p c)
+      class-taken : (answered : Identity) (c : Class) → Hands (classTaken s q answered p c)
       class-taken answered Ignored = nothing
-      class-taken answered Acked = picked (λ (x : Plan). P (x .commands)) (closesOf (linkAt s l) answered true) _ _ (λ e. nothing) (λ e. nothing)
-      class-taken answered NotAcked = picked (λ (x : Plan). P (x .commands)) (closesOf (linkAt s l) answered false) _ _ (λ e. nothing) (λ e. nothing)
-      class-taken answered (Asked v k) = by-verdict v s received _ (expected-taken k)
+      class-taken answered Acked = picked (λ (x : Plan). P (x .commands)) (closesOf (linkAt s (q .link)) answered true) _ _ (λ e. nothing) (λ e. nothing)
+      class-taken answered NotAcked = picked (λ (x : Plan). P (x .commands)) (closesOf (linkAt s (q .link)) answered false) _ _ (λ e. nothing) (λ e. nothing)
+      class-taken answered (Asked v k) = by-verdict v s q _ (expected-taken k)
 
 -- so what holds of none and of those that the packet names holds of what a packet hands over
 pub packet-hands : (P : List Command → Type 0) (s : Site) (l time : ℕ) (id : Identity) (p : List ℕ)
     → P []
     → P (commandsIn (s .table) p)
     → P (packetTaken s l time id p .plan .commands)
-packet-hands P s l time id p none some = class-taken P none s l time id (headAt p .received .bytes) p some (headAt p .identity) (headAt p .class)
+packet-hands P s l time id p none some = class-taken P none s (questionOf l time id (headAt p)) p some (headAt p .identity) (headAt p .class)

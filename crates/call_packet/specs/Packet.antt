@@ -29,6 +29,7 @@ use Rattle.read_commands.specs.Command.{commandAt}
 use Rattle.site.specs.declared.Site.{Site}
 use Rattle.site.specs.Site.{noLinkAt, badTimeAt, downAt, linkAt}
 use Rattle.site.specs.Call.{Plan, only, when}
+use Rattle.packet_answer.specs.declared.Question.{Question}
 use Rattle.packet_answer.specs.Taken.{Taken, takenRefuses, notAcked, byVerdict, unexpected, notReady}
 use Rattle.packet_greet.specs.Answered.{answeredPlan}
 use Rattle.packet_greet.specs.Version.{versionTaken}
@@ -71,42 +72,45 @@ ignoredBy k id Acked = unawaited k id
 ignoredBy k id NotAcked = unawaited k id
 ignoredBy k id (Asked v kind) = early k kind
 
--- Below, p is the packet, and id the identity of a reply.
+-- Below, p is the packet, q what its call is asked, and id the identity of a reply.
 
 -- a request of a kind that is taken now
-abbrev pub kindTaken : Site → ℕ → ℕ → Identity → List ℕ → List ℕ → Kind → Taken
-kindTaken s l time id received p Version = versionTaken s l received (versionAt p)
-kindTaken s l time id received p Watchdog = watchdogTaken s l received (watchdogAt p)
-kindTaken s l time id received p Alarm = alarmTaken s l time id received (alarmAt p)
-kindTaken s l time id received p AggregatedStatusRequest = aggregatedTaken s l time id received (aggregatedAt p)
-kindTaken s l time id received p StatusRequest = statusTaken s l time id received (statusAt false p)
-kindTaken s l time id received p StatusSubscribe = subscribingTaken true s l time received (statusAt true p)
-kindTaken s l time id received p StatusUnsubscribe = subscribingTaken false s l time received (statusAt false p)
-kindTaken s l time id received p CommandRequest = commandTaken s l time id received (commandAt p)
-kindTaken s l time id received p Unexpected = notAcked s received unexpected
+abbrev pub kindTaken : Site → Question → List ℕ → Kind → Taken
+kindTaken s q p Version = versionTaken s q (versionAt p)
+kindTaken s q p Watchdog = watchdogTaken s q (watchdogAt p)
+kindTaken s q p Alarm = alarmTaken s q (alarmAt p)
+kindTaken s q p AggregatedStatusRequest = aggregatedTaken s q (aggregatedAt p)
+kindTaken s q p StatusRequest = statusTaken s q (statusAt false p)
+kindTaken s q p StatusSubscribe = subscribingTaken true s q (statusAt true p)
+kindTaken s q p StatusUnsubscribe = subscribingTaken false s q (statusAt false p)
+kindTaken s q p CommandRequest = commandTaken s q (commandAt p)
+kindTaken s q p Unexpected = notAcked s q unexpected
 
 -- the reasons in their order: mType, "Unexpected", "Not ready", then those of the kind
-abbrev pub expectedTaken : Site → ℕ → ℕ → Identity → List ℕ → List ℕ → Kind → Taken
-expectedTaken s l time id received p kind =
-    pick (expected (linkAt s l) kind)
-    (pick (unready (linkAt s l) kind) (notAcked s received notReady) (kindTaken s l time id received p kind))
-    (notAcked s received unexpected)
+abbrev pub expectedTaken : Site → Question → List ℕ → Kind → Taken
+expectedTaken s q p kind =
+    pick (expected (linkAt s (q .link)) kind)
+    (pick (unready (linkAt s (q .link)) kind) (notAcked s q notReady) (kindTaken s q p kind))
+    (notAcked s q unexpected)
 
-abbrev pub askedTaken : Site → ℕ → ℕ → Identity → List ℕ → List ℕ → Verdict → Kind → Taken
-askedTaken s l time id received p v kind = byVerdict v s received (expectedTaken s l time id received p kind)
+abbrev pub askedTaken : Site → Question → List ℕ → Verdict → Kind → Taken
+askedTaken s q p v kind = byVerdict v s q (expectedTaken s q p kind)
 
-abbrev pub classTaken : Site → ℕ → ℕ → Identity → Identity → List ℕ → List ℕ → Class → Taken
-classTaken s l time id answered received p NoClass = record { plan = only s; replies = false }
-classTaken s l time id answered received p Acked = record { plan = answeredPlan s l answered true; replies = false }
-classTaken s l time id answered received p NotAcked = record { plan = answeredPlan s l answered false; replies = false }
-classTaken s l time id answered received p (Asked v kind) = askedTaken s l time id received p v kind
+abbrev pub classTaken : Site → Question → Identity → List ℕ → Class → Taken
+classTaken s q answered p NoClass = record { plan = only s; replies = false }
+classTaken s q answered p Acked = record { plan = answeredPlan s (q .link) answered true; replies = false }
+classTaken s q answered p NotAcked = record { plan = answeredPlan s (q .link) answered false; replies = false }
+classTaken s q answered p (Asked v kind) = askedTaken s q p v kind
+
+abbrev pub questionOf : ℕ → ℕ → Identity → Head → Question
+questionOf l time id h = record { link = l; time = time; identity = id; received = h .received }
 
 abbrev pub headTaken : Site → ℕ → ℕ → Identity → List ℕ → Head → Taken
-headTaken s l time id p h = classTaken s l time id (h .identity) (h .received .bytes) p (h .class)
+headTaken s l time id p h = classTaken s (questionOf l time id h) (h .identity) p (h .class)
 
 abbrev pub headRefuses : Site → ℕ → ℕ → Identity → List ℕ → Head → Refusal → Bool
 headRefuses s l time id p h =
-    when Ignored (ignoredBy (linkAt s l) (h .identity) (h .class)) (takenRefuses s l id (headTaken s l time id p h))
+    when Ignored (ignoredBy (linkAt s l) (h .identity) (h .class)) (takenRefuses s (questionOf l time id h) (headTaken s l time id p h))
 
 abbrev pub packetTaken : Site → ℕ → ℕ → Identity → List ℕ → Taken
 packetTaken s l time id p = headTaken s l time id p (headAt p)

@@ -21,10 +21,10 @@ use answer::Refusal;
 use identity::Identity;
 use link::Phase;
 use names::reasons;
+use packet_answer::Question;
 use read_head::Class;
 use read_head::Head;
 use read_head::Kind;
-use read_head::Received;
 use read_head::Verdict;
 
 fn not(b: bool) -> bool
@@ -130,76 +130,25 @@ fn ignored(w: &[u64], l: u16, id: Identity, class: Class) -> bool
 fn by_kind(
     w: &mut [u64],
     t: &[u8],
-    l: u16,
-    time: u64,
-    id: Identity,
-    received: Received,
+    q: Question,
     p: &[u8],
     places: &[usize],
     kind: Kind,
     out: &mut [u8],
 ) -> Answer
-    requires { ⌜ (length (now w) ≡ siteWords) × (length (now t) ≡ tableBytes) × (l < 4) × Indexed (now p) (now places) ⌝ }
-    ensures { λ r. ⌜ TakesIn (tableOf (now (t .entry))) l time id (kindTaken (siteOf (now (w .entry)) (tableOf (now (t .entry)))) l time id (received .bytes) (now (p .entry)) kind) (now (w .entry)) (now (w .exit)) (now (out .entry)) (now (out .exit)) r ⌝ }
+    requires { ⌜ (length (now w) ≡ siteWords) × (length (now t) ≡ tableBytes) × (q .link < 4) × Indexed (now p) (now places) ⌝ }
+    ensures { λ r. ⌜ TakesIn (tableOf (now (t .entry))) q (kindTaken (siteOf (now (w .entry)) (tableOf (now (t .entry)))) q (now (p .entry)) kind) (now (w .entry)) (now (w .exit)) (now (out .entry)) (now (out .exit)) r ⌝ }
 {
     match kind {
-        Kind::Version => packet_greet::version(w, t, l, time, received, p, places, out),
-        Kind::Watchdog => packet_greet::watchdog(w, l, time, received, p, places, out),
-        Kind::Alarm => packet_alarm::alarm(w, t, l, time, id, received, p, places, out),
-        Kind::AggregatedStatusRequest => packet_alarm::aggregated(
-            w,
-            t,
-            l,
-            time,
-            id,
-            received,
-            p,
-            places,
-            out,
-        ),
-        Kind::StatusRequest => packet_status::status_request(
-            w,
-            t,
-            l,
-            time,
-            id,
-            received,
-            p,
-            places,
-            out,
-        ),
-        Kind::StatusSubscribe => packet_subscribe::subscribe(
-            w,
-            t,
-            l,
-            time,
-            received,
-            p,
-            places,
-            out,
-        ),
-        Kind::StatusUnsubscribe => packet_subscribe::unsubscribe(
-            w,
-            t,
-            l,
-            time,
-            received,
-            p,
-            places,
-            out,
-        ),
-        Kind::CommandRequest => packet_command::command(
-            w,
-            t,
-            l,
-            time,
-            id,
-            received,
-            p,
-            places,
-            out,
-        ),
-        Kind::Unexpected => packet_answer::not_ack(w, time, received, reasons::UNEXPECTED, out),
+        Kind::Version => packet_greet::version(w, t, q, p, places, out),
+        Kind::Watchdog => packet_greet::watchdog(w, q, p, places, out),
+        Kind::Alarm => packet_alarm::alarm(w, t, q, p, places, out),
+        Kind::AggregatedStatusRequest => packet_alarm::aggregated(w, t, q, p, places, out),
+        Kind::StatusRequest => packet_status::status_request(w, t, q, p, places, out),
+        Kind::StatusSubscribe => packet_subscribe::subscribe(w, t, q, p, places, out),
+        Kind::StatusUnsubscribe => packet_subscribe::unsubscribe(w, t, q, p, places, out),
+        Kind::CommandRequest => packet_command::command(w, t, q, p, places, out),
+        Kind::Unexpected => packet_answer::not_ack(w, q, reasons::UNEXPECTED, out),
     }
 }
 
@@ -207,54 +156,42 @@ fn by_kind(
 fn expect(
     w: &mut [u64],
     t: &[u8],
-    l: u16,
-    time: u64,
-    id: Identity,
-    received: Received,
+    q: Question,
     p: &[u8],
     places: &[usize],
     kind: Kind,
     out: &mut [u8],
 ) -> Answer
-    requires { ⌜ (length (now w) ≡ siteWords) × (length (now t) ≡ tableBytes) × (l < 4) × Indexed (now p) (now places) ⌝ }
-    ensures { λ r. ⌜ TakesIn (tableOf (now (t .entry))) l time id (expectedTaken (siteOf (now (w .entry)) (tableOf (now (t .entry)))) l time id (received .bytes) (now (p .entry)) kind) (now (w .entry)) (now (w .exit)) (now (out .entry)) (now (out .exit)) r ⌝ }
+    requires { ⌜ (length (now w) ≡ siteWords) × (length (now t) ≡ tableBytes) × (q .link < 4) × Indexed (now p) (now places) ⌝ }
+    ensures { λ r. ⌜ TakesIn (tableOf (now (t .entry))) q (expectedTaken (siteOf (now (w .entry)) (tableOf (now (t .entry)))) q (now (p .entry)) kind) (now (w .entry)) (now (w .exit)) (now (out .entry)) (now (out .exit)) r ⌝ }
 {
-    if expected(w, l, kind) {
-        if unready(w, l, kind) {
-            return packet_answer::not_ack(w, time, received, reasons::NOT_READY, out);
+    if expected(w, q.link, kind) {
+        if unready(w, q.link, kind) {
+            return packet_answer::not_ack(w, q, reasons::NOT_READY, out);
         }
-        return by_kind(w, t, l, time, id, received, p, places, kind, out);
+        return by_kind(w, t, q, p, places, kind, out);
     }
-    packet_answer::not_ack(w, time, received, reasons::UNEXPECTED, out)
+    packet_answer::not_ack(w, q, reasons::UNEXPECTED, out)
 }
 
 // mType, then the rest.
 fn asked(
     w: &mut [u64],
     t: &[u8],
-    l: u16,
-    time: u64,
-    id: Identity,
-    received: Received,
+    q: Question,
     p: &[u8],
     places: &[usize],
     v: Verdict,
     kind: Kind,
     out: &mut [u8],
 ) -> Answer
-    requires { ⌜ (length (now w) ≡ siteWords) × (length (now t) ≡ tableBytes) × (l < 4) × Indexed (now p) (now places) ⌝ }
-    ensures { λ r. ⌜ TakesIn (tableOf (now (t .entry))) l time id (askedTaken (siteOf (now (w .entry)) (tableOf (now (t .entry)))) l time id (received .bytes) (now (p .entry)) v kind) (now (w .entry)) (now (w .exit)) (now (out .entry)) (now (out .exit)) r ⌝ }
+    requires { ⌜ (length (now w) ≡ siteWords) × (length (now t) ≡ tableBytes) × (q .link < 4) × Indexed (now p) (now places) ⌝ }
+    ensures { λ r. ⌜ TakesIn (tableOf (now (t .entry))) q (askedTaken (siteOf (now (w .entry)) (tableOf (now (t .entry)))) q (now (p .entry)) v kind) (now (w .entry)) (now (w .exit)) (now (out .entry)) (now (out .exit)) r ⌝ }
 {
     match v {
-        Verdict::Good => expect(w, t, l, time, id, received, p, places, kind, out),
-        Verdict::Missing => packet_answer::not_ack(
-            w,
-            time,
-            received,
-            reasons::MISSING_ELEMENT,
-            out,
-        ),
-        Verdict::Bad => packet_answer::not_ack(w, time, received, reasons::BAD_VALUE, out),
+        Verdict::Good => expect(w, t, q, p, places, kind, out),
+        Verdict::Missing => packet_answer::not_ack(w, q, reasons::MISSING_ELEMENT, out),
+        Verdict::Bad => packet_answer::not_ack(w, q, reasons::BAD_VALUE, out),
     }
 }
 
@@ -262,24 +199,21 @@ fn asked(
 fn by_class(
     w: &mut [u64],
     t: &[u8],
-    l: u16,
-    time: u64,
-    id: Identity,
+    q: Question,
     answered: Identity,
-    received: Received,
     p: &[u8],
     places: &[usize],
     class: Class,
     out: &mut [u8],
 ) -> Answer
-    requires { ⌜ (length (now w) ≡ siteWords) × (length (now t) ≡ tableBytes) × (l < 4) × Indexed (now p) (now places) ⌝ }
-    ensures { λ r. ⌜ TakesIn (tableOf (now (t .entry))) l time id (classTaken (siteOf (now (w .entry)) (tableOf (now (t .entry)))) l time id answered (received .bytes) (now (p .entry)) class) (now (w .entry)) (now (w .exit)) (now (out .entry)) (now (out .exit)) r ⌝ }
+    requires { ⌜ (length (now w) ≡ siteWords) × (length (now t) ≡ tableBytes) × (q .link < 4) × Indexed (now p) (now places) ⌝ }
+    ensures { λ r. ⌜ TakesIn (tableOf (now (t .entry))) q (classTaken (siteOf (now (w .entry)) (tableOf (now (t .entry)))) q answered (now (p .entry)) class) (now (w .entry)) (now (w .exit)) (now (out .entry)) (now (out .exit)) r ⌝ }
 {
     match class {
-        Class::Ignored => packet_answer::done(w, time, 0, 0, 0, 0),
-        Class::Acked => packet_greet::answered(w, l, time, answered, true),
-        Class::NotAcked => packet_greet::answered(w, l, time, answered, false),
-        Class::Asked(v, kind) => asked(w, t, l, time, id, received, p, places, v, kind, out),
+        Class::Ignored => packet_answer::done(w, q.time, 0, 0, 0, 0),
+        Class::Acked => packet_greet::answered(w, q.link, q.time, answered, true),
+        Class::NotAcked => packet_greet::answered(w, q.link, q.time, answered, false),
+        Class::Asked(v, kind) => asked(w, t, q, p, places, v, kind, out),
     }
 }
 
@@ -303,7 +237,13 @@ fn heed(
     if ignored(w, l, answered, class) {
         return Answer::Refused(Refusal::Ignored);
     }
-    by_class(w, t, l, time, id, answered, received, p, places, class, out)
+    let q = Question {
+        link: l,
+        time,
+        identity: id,
+        received,
+    };
+    by_class(w, t, q, answered, p, places, class, out)
 }
 
 fn word_of(a: u8, b: u8, c: u8, d: u8) -> u32

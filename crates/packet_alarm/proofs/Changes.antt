@@ -27,12 +27,13 @@ use Rattle.store_site.specs.Turns.{Turns}
 use Rattle.store_call.specs.Called.{GivesIn}
 use Rattle.store_call.specs.Issued.{batchIn, issuedIn}
 use Rattle.store_call.proofs.IssuedLaws.{issued-end}
+use Rattle.packet_answer.specs.declared.Question.{Question}
 use Rattle.packet_answer.specs.Ending.{report}
 use Rattle.packet_answer.specs.Takes.{TakesIn}
 use Rattle.packet_answer.proofs.Ends.{acks, refuses-spent, unreplied}
 use Rattle.packet_alarm.specs.Orders.{recordsOf, changedTo, changeTaken}
 
-module _ (t : SiteTable) (ws : List ℕ) (time : ℕ) (received : List ℕ) (k : ℕ) where
+module _ (t : SiteTable) (ws : List ℕ) (q : Question) (k : ℕ) where
   module _ (c : Changed) {n : ℕ} {b : Bool}
       (many : (u : SiteTable) (j : ℕ) → n ≡ length (recordsOf (siteOf ws u) j c))
       (judged : (u : SiteTable) (es : List Entry) → length es ≡ n → b ≡ batchIn (siteOf ws u) es .spent) where
@@ -40,31 +41,30 @@ module _ (t : SiteTable) (ws : List ℕ) (time : ℕ) (received : List ℕ) (k :
     is-judged = judged t (recordsOf (siteOf ws t) k c) (sym (many t k))
 
     -- number 10: nothing is written, and no word changed
-    pub refuses : {xs : List ℕ} → b ≡ true → GivesIn t time never (changedTo (siteOf ws t) received k c .plan) ws ws xs xs (Refused SequenceSpent)
-    refuses e = refuses-spent t time received (withAlarm (siteOf ws t) k (c .alarm)) (recordsOf (siteOf ws t) k c) none (sym is-judged ∙ e) refl
+    pub refuses : {xs : List ℕ} → b ≡ true → GivesIn t (q .time) never (changedTo (siteOf ws t) q k c .plan) ws ws xs xs (Refused SequenceSpent)
+    refuses e = refuses-spent t q (withAlarm (siteOf ws t) k (c .alarm)) (recordsOf (siteOf ws t) k c) none (sym is-judged ∙ e) refl
 
     pub makes : {vs xs ys : List ℕ} {end : ℕ} {x : Report}
         → b ≡ false
-        → Wrote xs 0 (pieces (ack received)) ys end
-        → Turns (λ (s : Site). withLast (issuedIn (withAlarm s k (c .alarm)) (recordsOf s k c)) time) ws vs
+        → Wrote xs 0 (pieces (ack (q .received .bytes))) ys end
+        → Turns (λ (s : Site). withLast (issuedIn (withAlarm s k (c .alarm)) (recordsOf s k c)) (q .time)) ws vs
         → x ≡ report 0 0 end 0
-        → GivesIn t time never (changedTo (siteOf ws t) received k c .plan) ws vs xs ys (Done x)
+        → GivesIn t (q .time) never (changedTo (siteOf ws t) q k c .plan) ws vs xs ys (Done x)
     makes e w u f =
-        acks t time received (withAlarm (siteOf ws t) k (c .alarm)) (recordsOf (siteOf ws t) k c) none (sym is-judged ∙ e) w (ap Done f)
-        (u .site t ∙ issued-end (withAlarm (siteOf ws t) k (c .alarm)) (recordsOf (siteOf ws t) k c) time)
+        acks t q (withAlarm (siteOf ws t) k (c .alarm)) (recordsOf (siteOf ws t) k c) none (sym is-judged ∙ e) w (ap Done f)
+        (u .site t ∙ issued-end (withAlarm (siteOf ws t) k (c .alarm)) (recordsOf (siteOf ws t) k c) (q .time))
         (u .plain)
 
   module _ (order : Order) {vs xs ys : List ℕ} {r : Answer} where
     -- the change that an order makes of the alarm
     pub orders-it : {c : Changed}
-        → c ≡ orderOf (alarmAt (siteOf ws t) k) order time
-        → GivesIn t time never (changedTo (siteOf ws t) received k c .plan) ws vs xs ys r
-        → GivesIn t time never (changeTaken (siteOf ws t) time received k order .plan) ws vs xs ys r
+        → c ≡ orderOf (alarmAt (siteOf ws t) k) order (q .time)
+        → GivesIn t (q .time) never (changedTo (siteOf ws t) q k c .plan) ws vs xs ys r
+        → GivesIn t (q .time) never (changeTaken (siteOf ws t) q k order .plan) ws vs xs ys r
     unfolding changeTaken
-    orders-it e g = subst (λ (x : Changed). GivesIn t time never (changedTo (siteOf ws t) received k x .plan) ws vs xs ys r) e g
+    orders-it e g = subst (λ (x : Changed). GivesIn t (q .time) never (changedTo (siteOf ws t) q k x .plan) ws vs xs ys r) e g
 
-    pub taken-so : (l : ℕ) (id : Identity)
-        → GivesIn t time never (changeTaken (siteOf ws t) time received k order .plan) ws vs xs ys r
-        → TakesIn t l time id (changeTaken (siteOf ws t) time received k order) ws vs xs ys r
+    pub taken-so : GivesIn t (q .time) never (changeTaken (siteOf ws t) q k order .plan) ws vs xs ys r
+        → TakesIn t q (changeTaken (siteOf ws t) q k order) ws vs xs ys r
     unfolding changeTaken
-    taken-so l id g = unreplied t time l id (changedTo (siteOf ws t) received k (orderOf (alarmAt (siteOf ws t) k) order time)) refl g
+    taken-so g = unreplied t q (changedTo (siteOf ws t) q k (orderOf (alarmAt (siteOf ws t) k) order (q .time))) refl g

@@ -6,7 +6,6 @@ use mathlib.Core.List.{List, [], _∷_}
 use lib.Dec.{eqb}
 use Rattle.basis.specs.Pick.{pick, both}
 use Rattle.answer.specs.Given.Hint.{none}
-use Rattle.identity.specs.declared.Identity.{Identity}
 use Rattle.entry.specs.declared.Entry.{Entry}
 use Rattle.alarm.specs.declared.Changed.{Changed}
 use Rattle.alarm.specs.declared.Order.{Order as Change}
@@ -28,56 +27,57 @@ use Rattle.send_message.specs.Sending.{alarmMessage, aggregatedMessage}
 use Rattle.site.specs.declared.Site.{Site}
 use Rattle.site.specs.Site.{roleOf, hasPrimary}
 use Rattle.site.specs.Parts.{alarmAt, withAlarm}
+use Rattle.packet_answer.specs.declared.Question.{Question}
 use Rattle.packet_answer.specs.Taken.{Taken, notAcked, acked, replied, byVerdict, unlessBusy, unknownComponent, unknownAlarm}
 
 -- "alarm records are issued for the primary alone"
 abbrev pub recordsOf : Site → ℕ → Changed → List Entry
 recordsOf s k c = pick (both (c .records) (hasPrimary s)) (issuedOf (c .alarm) (s .primary) k ∷ []) []
 
-abbrev pub changedTo : Site → List ℕ → ℕ → Changed → Taken
-changedTo s received k c = acked (withAlarm s k (c .alarm)) (recordsOf s k c) received none
+abbrev pub changedTo : Site → Question → ℕ → Changed → Taken
+changedTo s q k c = acked (withAlarm s k (c .alarm)) (recordsOf s k c) q none
 
 -- Acknowledge, Suspend and Resume of alarm k, from any link
-unfoldable pub changeTaken : Site → ℕ → List ℕ → ℕ → Change → Taken
-changeTaken s time received k order = changedTo s received k (orderOf (alarmAt s k) order time)
+unfoldable pub changeTaken : Site → Question → ℕ → Change → Taken
+changeTaken s q k order = changedTo s q k (orderOf (alarmAt s k) order (q .time))
 
 abbrev pub isZero : Sought → Bool
 isZero (Is k) = eqb k 0
 isZero Nothing = false
 
--- of one packet: on link l, at this time, its reply under this identity; `received` are the characters of its mId
-module _ (s : Site) (l time : ℕ) (id : Identity) (received : List ℕ) where
+-- of one packet
+module _ (s : Site) (q : Question) where
   -- "Request from the primary is answered, suspended or not, with states, last event and its time, carrying no record;
   -- from a secondary it is acknowledged only"
   abbrev pub requestBy : ℕ → Role → Taken
-  requestBy k Primary = unlessBusy s l received (replied s l time id received (alarmMessage s (id .bytes) k))
-  requestBy k Secondary = acked s [] received none
+  requestBy k Primary = unlessBusy s q (replied s q (alarmMessage s (q .identity .bytes) k))
+  requestBy k Secondary = acked s [] q none
 
   unfoldable pub requestTaken : ℕ → Taken
-  requestTaken k = requestBy k (roleOf s l)
+  requestTaken k = requestBy k (roleOf s (q .link))
 
   abbrev pub ordered : ℕ → Order → Taken
   ordered k Request = requestTaken k
-  ordered k Acknowledge = changeTaken s time received k Acknowledging
-  ordered k Suspend = changeTaken s time received k Suspending
-  ordered k Resume = changeTaken s time received k Resuming
+  ordered k Acknowledge = changeTaken s q k Acknowledging
+  ordered k Suspend = changeTaken s q k Suspending
+  ordered k Resume = changeTaken s q k Resuming
 
   abbrev pub orderedOf : Order → SoughtAlarm → Taken
   orderedOf order (Alarm k) = ordered k order
-  orderedOf order NoComponent = notAcked s received unknownComponent
-  orderedOf order NoAlarm = notAcked s received unknownAlarm
+  orderedOf order NoComponent = notAcked s q unknownComponent
+  orderedOf order NoAlarm = notAcked s q unknownAlarm
 
   unfoldable pub foundTaken : AlarmFields → Taken
   foundTaken f = orderedOf (f .order) (alarmSought (s .table) (f .component) (f .code))
 
   unfoldable pub alarmTaken : AlarmFields → Taken
-  alarmTaken f = byVerdict (f .verdict) s received (foundTaken f)
+  alarmTaken f = byVerdict (f .verdict) s q (foundTaken f)
 
   -- "in AggregatedStatusRequest every component but 0 is "Unknown component""
   abbrev pub aggregatedOf : Sought → Taken
   aggregatedOf component =
-      pick (isZero component) (unlessBusy s l received (replied s l time id received (aggregatedMessage s (id .bytes))))
-      (notAcked s received unknownComponent)
+      pick (isZero component) (unlessBusy s q (replied s q (aggregatedMessage s (q .identity .bytes))))
+      (notAcked s q unknownComponent)
 
   unfoldable pub aggregatedTaken : GotLabel → Taken
-  aggregatedTaken f = byVerdict (f .verdict) s received (aggregatedOf (componentSought (s .table) (f .label)))
+  aggregatedTaken f = byVerdict (f .verdict) s q (aggregatedOf (componentSought (s .table) (f .label)))

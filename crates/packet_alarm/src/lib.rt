@@ -26,16 +26,15 @@ ghost use Rattle.packet_alarm.specs.Orders.{recordsOf, changedTo, change
 use alarm::Changed;
 use answer::Answer;
 use answer::Refusal;
-use identity::Identity;
 use label::Label;
 use link::Role;
 use names::reasons;
+use packet_answer::Question;
 use packet_lookup::Sought;
 use packet_lookup::SoughtAlarm;
 use read_head::AlarmFields;
 use read_head::GotLabel;
 use read_head::Order;
-use read_head::Received;
 use read_head::Verdict;
 
 // The alarm afterwards, the record of its change or none, and the time.
@@ -50,55 +49,35 @@ fn keep(w: &mut [u64], time: u64, k: u8, c: Changed)
 }
 
 // An alarm was changed, or not.
-fn changed(
-    w: &mut [u64],
-    time: u64,
-    received: Received,
-    k: u8,
-    c: Changed,
-    out: &mut [u8],
-) -> Answer
+fn changed(w: &mut [u64], q: Question, k: u8, c: Changed, out: &mut [u8]) -> Answer
     requires { ⌜ length (now w) ≡ siteWords ⌝ }
-    ensures { λ r. ⌜ ((t : SiteTable) → GivesIn t time never (changedTo (siteOf (now (w .entry)) t) (received .bytes) k c .plan) (now (w .entry)) (now (w .exit)) (now (out .entry)) (now (out .exit)) r) ⌝ }
+    ensures { λ r. ⌜ ((t : SiteTable) → GivesIn t (q .time) never (changedTo (siteOf (now (w .entry)) t) q k c .plan) (now (w .entry)) (now (w .exit)) (now (out .entry)) (now (out .exit)) r) ⌝ }
 {
     let n = store_call::records::of_alarm(w, c);
     if store_call::spent(w, n) {
         return Answer::Refused(Refusal::SequenceSpent);
     }
-    let end = packet_answer::ack(received, out);
-    keep(w, time, k, c);
+    let end = packet_answer::ack(q, out);
+    keep(w, q.time, k, c);
     Answer::Done(packet_answer::report(0, 0, end, 0))
 }
 
 // Acknowledge, Suspend or Resume of alarm k, from any link.
-fn change(
-    w: &mut [u64],
-    time: u64,
-    received: Received,
-    k: u8,
-    order: alarm::Order,
-    out: &mut [u8],
-) -> Answer
+fn change(w: &mut [u64], q: Question, k: u8, order: alarm::Order, out: &mut [u8]) -> Answer
     requires { ⌜ length (now w) ≡ siteWords ⌝ }
-    ensures { λ r. ⌜ ((t : SiteTable) → GivesIn t time never (changeTaken (siteOf (now (w .entry)) t) time (received .bytes) k order .plan) (now (w .entry)) (now (w .exit)) (now (out .entry)) (now (out .exit)) r) ⌝ }
+    ensures { λ r. ⌜ ((t : SiteTable) → GivesIn t (q .time) never (changeTaken (siteOf (now (w .entry)) t) q k order .plan) (now (w .entry)) (now (w .exit)) (now (out .entry)) (now (out .exit)) r) ⌝ }
 {
     let a = store_site::items::alarm(w, k as usize);
-    changed(w, time, received, k, a.order(order, time), out)
+    changed(w, q, k, a.order(order, q.time), out)
 }
 
 // The acknowledgement, and the alarm in the rest of the output, lent from where it ends. Where it found no room, nothing follows.
-fn answer_and_alarm(
-    w: &[u64],
-    t: &[u8],
-    id: Identity,
-    received: Received,
-    k: u8,
-    out: &mut [u8],
-) -> usize
+fn answer_and_alarm(w: &[u64], t: &[u8], q: Question, k: u8, out: &mut [u8]) -> usize
     requires { ⌜ (length (now w) ≡ siteWords) × (length (now t) ≡ tableBytes) ⌝ }
-    ensures { λ r. ⌜ Wrote (now (out .entry)) 0 (pieces (ack (received .bytes)) ++ pieces (alarmMessage (siteOf (now (w .entry)) (tableOf (now (t .entry)))) (id .bytes) k)) (now (out .exit)) r ⌝ }
+    ensures { λ r. ⌜ Wrote (now (out .entry)) 0 (pieces (ack (q .received .bytes)) ++ pieces (alarmMessage (siteOf (now (w .entry)) (tableOf (now (t .entry)))) (q .identity .bytes) k)) (now (out .exit)) r ⌝ }
 {
-    let end = packet_answer::ack(received, out);
+    let id = q.identity;
+    let end = packet_answer::ack(q, out);
     if out.len() < end {
         return end;
     }
@@ -107,78 +86,51 @@ fn answer_and_alarm(
 }
 
 // The alarm as it is, behind the acknowledgement.
-fn reply_alarm(
-    w: &mut [u64],
-    t: &[u8],
-    l: u16,
-    time: u64,
-    id: Identity,
-    received: Received,
-    k: u8,
-    out: &mut [u8],
-) -> Answer
-    requires { ⌜ (length (now w) ≡ siteWords) × ((length (now t) ≡ tableBytes) × (l < 4)) ⌝ }
-    ensures { λ r. ⌜ TakesIn (tableOf (now (t .entry))) l time id (unlessBusy (siteOf (now (w .entry)) (tableOf (now (t .entry)))) l (received .bytes) (replied (siteOf (now (w .entry)) (tableOf (now (t .entry)))) l time id (received .bytes) (alarmMessage (siteOf (now (w .entry)) (tableOf (now (t .entry)))) (id .bytes) k))) (now (w .entry)) (now (w .exit)) (now (out .entry)) (now (out .exit)) r ⌝ }
+fn reply_alarm(w: &mut [u64], t: &[u8], q: Question, k: u8, out: &mut [u8]) -> Answer
+    requires { ⌜ (length (now w) ≡ siteWords) × ((length (now t) ≡ tableBytes) × (q .link < 4)) ⌝ }
+    ensures { λ r. ⌜ TakesIn (tableOf (now (t .entry))) q (unlessBusy (siteOf (now (w .entry)) (tableOf (now (t .entry)))) q (replied (siteOf (now (w .entry)) (tableOf (now (t .entry)))) q (alarmMessage (siteOf (now (w .entry)) (tableOf (now (t .entry)))) (q .identity .bytes) k))) (now (w .entry)) (now (w .exit)) (now (out .entry)) (now (out .exit)) r ⌝ }
 {
-    if packet_answer::is_busy(w, l) {
-        return packet_answer::not_ack(w, time, received, reasons::BUSY, out);
+    let id = q.identity;
+    if packet_answer::is_busy(w, q.link) {
+        return packet_answer::not_ack(w, q, reasons::BUSY, out);
     }
-    if packet_answer::is_awaited(w, l, id) {
+    if packet_answer::is_awaited(w, q.link, id) {
         return Answer::Refused(Refusal::IdentityAwaited);
     }
-    let end = answer_and_alarm(w, t, id, received, k, out);
-    packet_answer::reply_done(w, l, time, id, end)
+    let end = answer_and_alarm(w, t, q, k, out);
+    packet_answer::reply_done(w, q, end)
 }
 
 // Acknowledged, and nothing else.
-fn accept(w: &mut [u64], time: u64, received: Received, out: &mut [u8]) -> Answer
+fn accept(w: &mut [u64], q: Question, out: &mut [u8]) -> Answer
     requires { ⌜ length (now w) ≡ siteWords ⌝ }
-    ensures { λ r. ⌜ ((t : SiteTable) → GivesIn t time never (acked (siteOf (now (w .entry)) t) [] (received .bytes) none .plan) (now (w .entry)) (now (w .exit)) (now (out .entry)) (now (out .exit)) r) ⌝ }
+    ensures { λ r. ⌜ ((t : SiteTable) → GivesIn t (q .time) never (acked (siteOf (now (w .entry)) t) [] q none .plan) (now (w .entry)) (now (w .exit)) (now (out .entry)) (now (out .exit)) r) ⌝ }
 {
-    let end = packet_answer::ack(received, out);
-    packet_answer::done(w, time, 0, 0, end, 0)
+    let end = packet_answer::ack(q, out);
+    packet_answer::done(w, q.time, 0, 0, end, 0)
 }
 
 // Request of alarm k: a secondary's is acknowledged only.
-fn request(
-    w: &mut [u64],
-    t: &[u8],
-    l: u16,
-    time: u64,
-    id: Identity,
-    received: Received,
-    k: u8,
-    out: &mut [u8],
-) -> Answer
-    requires { ⌜ (length (now w) ≡ siteWords) × ((length (now t) ≡ tableBytes) × (l < 4)) ⌝ }
-    ensures { λ r. ⌜ TakesIn (tableOf (now (t .entry))) l time id (requestTaken (siteOf (now (w .entry)) (tableOf (now (t .entry)))) l time id (received .bytes) k) (now (w .entry)) (now (w .exit)) (now (out .entry)) (now (out .exit)) r ⌝ }
+fn request(w: &mut [u64], t: &[u8], q: Question, k: u8, out: &mut [u8]) -> Answer
+    requires { ⌜ (length (now w) ≡ siteWords) × ((length (now t) ≡ tableBytes) × (q .link < 4)) ⌝ }
+    ensures { λ r. ⌜ TakesIn (tableOf (now (t .entry))) q (requestTaken (siteOf (now (w .entry)) (tableOf (now (t .entry)))) q k) (now (w .entry)) (now (w .exit)) (now (out .entry)) (now (out .exit)) r ⌝ }
 {
-    let role = store_site::head::role(w, l);
+    let role = store_site::head::role(w, q.link);
     match role {
-        Role::Primary => reply_alarm(w, t, l, time, id, received, k, out),
-        Role::Secondary => accept(w, time, received, out),
+        Role::Primary => reply_alarm(w, t, q, k, out),
+        Role::Secondary => accept(w, q, out),
     }
 }
 
-fn ordered(
-    w: &mut [u64],
-    t: &[u8],
-    l: u16,
-    time: u64,
-    id: Identity,
-    received: Received,
-    k: u8,
-    order: Order,
-    out: &mut [u8],
-) -> Answer
-    requires { ⌜ (length (now w) ≡ siteWords) × ((length (now t) ≡ tableBytes) × (l < 4)) ⌝ }
-    ensures { λ r. ⌜ TakesIn (tableOf (now (t .entry))) l time id (orderedBy (siteOf (now (w .entry)) (tableOf (now (t .entry)))) l time id (received .bytes) k order) (now (w .entry)) (now (w .exit)) (now (out .entry)) (now (out .exit)) r ⌝ }
+fn ordered(w: &mut [u64], t: &[u8], q: Question, k: u8, order: Order, out: &mut [u8]) -> Answer
+    requires { ⌜ (length (now w) ≡ siteWords) × ((length (now t) ≡ tableBytes) × (q .link < 4)) ⌝ }
+    ensures { λ r. ⌜ TakesIn (tableOf (now (t .entry))) q (orderedBy (siteOf (now (w .entry)) (tableOf (now (t .entry)))) q k order) (now (w .entry)) (now (w .exit)) (now (out .entry)) (now (out .exit)) r ⌝ }
 {
     match order {
-        Order::Request => request(w, t, l, time, id, received, k, out),
-        Order::Acknowledge => change(w, time, received, k, alarm::Order::Acknowledge, out),
-        Order::Suspend => change(w, time, received, k, alarm::Order::Suspend, out),
-        Order::Resume => change(w, time, received, k, alarm::Order::Resume, out),
+        Order::Request => request(w, t, q, k, out),
+        Order::Acknowledge => change(w, q, k, alarm::Order::Acknowledge, out),
+        Order::Suspend => change(w, q, k, alarm::Order::Suspend, out),
+        Order::Resume => change(w, q, k, alarm::Order::Resume, out),
     }
 }
 
@@ -191,56 +143,30 @@ fn alarm_of(t: &[u8], f: AlarmFields) -> SoughtAlarm
     packet_lookup::alarm(t, component, code)
 }
 
-fn find(
-    w: &mut [u64],
-    t: &[u8],
-    l: u16,
-    time: u64,
-    id: Identity,
-    received: Received,
-    f: AlarmFields,
-    out: &mut [u8],
-) -> Answer
-    requires { ⌜ (length (now w) ≡ siteWords) × ((length (now t) ≡ tableBytes) × (l < 4)) ⌝ }
-    ensures { λ r. ⌜ TakesIn (tableOf (now (t .entry))) l time id (foundTaken (siteOf (now (w .entry)) (tableOf (now (t .entry)))) l time id (received .bytes) f) (now (w .entry)) (now (w .exit)) (now (out .entry)) (now (out .exit)) r ⌝ }
+fn find(w: &mut [u64], t: &[u8], q: Question, f: AlarmFields, out: &mut [u8]) -> Answer
+    requires { ⌜ (length (now w) ≡ siteWords) × ((length (now t) ≡ tableBytes) × (q .link < 4)) ⌝ }
+    ensures { λ r. ⌜ TakesIn (tableOf (now (t .entry))) q (foundTaken (siteOf (now (w .entry)) (tableOf (now (t .entry)))) q f) (now (w .entry)) (now (w .exit)) (now (out .entry)) (now (out .exit)) r ⌝ }
 {
     let a = alarm_of(t, f);
     let order = f.order;
     match a {
-        SoughtAlarm::Alarm(k) => ordered(w, t, l, time, id, received, k, order, out),
+        SoughtAlarm::Alarm(k) => ordered(w, t, q, k, order, out),
         SoughtAlarm::NoComponent => {
-            packet_answer::not_ack(w, time, received, reasons::UNKNOWN_COMPONENT, out)
+            packet_answer::not_ack(w, q, reasons::UNKNOWN_COMPONENT, out)
         }
-        SoughtAlarm::NoAlarm => {
-            packet_answer::not_ack(w, time, received, reasons::UNKNOWN_ALARM, out)
-        }
+        SoughtAlarm::NoAlarm => { packet_answer::not_ack(w, q, reasons::UNKNOWN_ALARM, out) }
     }
 }
 
-fn judge(
-    w: &mut [u64],
-    t: &[u8],
-    l: u16,
-    time: u64,
-    id: Identity,
-    received: Received,
-    f: AlarmFields,
-    out: &mut [u8],
-) -> Answer
-    requires { ⌜ (length (now w) ≡ siteWords) × ((length (now t) ≡ tableBytes) × (l < 4)) ⌝ }
-    ensures { λ r. ⌜ TakesIn (tableOf (now (t .entry))) l time id (alarmTaken (siteOf (now (w .entry)) (tableOf (now (t .entry)))) l time id (received .bytes) f) (now (w .entry)) (now (w .exit)) (now (out .entry)) (now (out .exit)) r ⌝ }
+fn judge(w: &mut [u64], t: &[u8], q: Question, f: AlarmFields, out: &mut [u8]) -> Answer
+    requires { ⌜ (length (now w) ≡ siteWords) × ((length (now t) ≡ tableBytes) × (q .link < 4)) ⌝ }
+    ensures { λ r. ⌜ TakesIn (tableOf (now (t .entry))) q (alarmTaken (siteOf (now (w .entry)) (tableOf (now (t .entry)))) q f) (now (w .entry)) (now (w .exit)) (now (out .entry)) (now (out .exit)) r ⌝ }
 {
     let v = f.verdict;
     match v {
-        Verdict::Good => find(w, t, l, time, id, received, f, out),
-        Verdict::Missing => packet_answer::not_ack(
-            w,
-            time,
-            received,
-            reasons::MISSING_ELEMENT,
-            out,
-        ),
-        Verdict::Bad => packet_answer::not_ack(w, time, received, reasons::BAD_VALUE, out),
+        Verdict::Good => find(w, t, q, f, out),
+        Verdict::Missing => packet_answer::not_ack(w, q, reasons::MISSING_ELEMENT, out),
+        Verdict::Bad => packet_answer::not_ack(w, q, reasons::BAD_VALUE, out),
     }
 }
 
@@ -248,33 +174,25 @@ fn judge(
 pub fn alarm(
     w: &mut [u64],
     t: &[u8],
-    l: u16,
-    time: u64,
-    id: Identity,
-    received: Received,
+    q: Question,
     packet: &[u8],
     places: &[usize],
     out: &mut [u8],
 ) -> Answer
-    requires { ⌜ (length (now w) ≡ siteWords) × ((length (now t) ≡ tableBytes) × ((l < 4) × Indexed (now packet) (now places))) ⌝ }
-    ensures { λ r. ⌜ TakesIn (tableOf (now (t .entry))) l time id (alarmTaken (siteOf (now (w .entry)) (tableOf (now (t .entry)))) l time id (received .bytes) (alarmAt (now (packet .entry)))) (now (w .entry)) (now (w .exit)) (now (out .entry)) (now (out .exit)) r ⌝ }
+    requires { ⌜ (length (now w) ≡ siteWords) × ((length (now t) ≡ tableBytes) × ((q .link < 4) × Indexed (now packet) (now places))) ⌝ }
+    ensures { λ r. ⌜ TakesIn (tableOf (now (t .entry))) q (alarmTaken (siteOf (now (w .entry)) (tableOf (now (t .entry)))) q (alarmAt (now (packet .entry)))) (now (w .entry)) (now (w .exit)) (now (out .entry)) (now (out .exit)) r ⌝ }
 {
     let f = read_head::read_alarm(packet, places);
-    judge(w, t, l, time, id, received, f, out)
+    judge(w, t, q, f, out)
 }
 
 // The acknowledgement, and the aggregated status in the rest of the output, lent from where it ends. Where it found no room, nothing follows.
-fn answer_and_aggregated(
-    w: &[u64],
-    t: &[u8],
-    id: Identity,
-    received: Received,
-    out: &mut [u8],
-) -> usize
+fn answer_and_aggregated(w: &[u64], t: &[u8], q: Question, out: &mut [u8]) -> usize
     requires { ⌜ (length (now w) ≡ siteWords) × (length (now t) ≡ tableBytes) ⌝ }
-    ensures { λ r. ⌜ Wrote (now (out .entry)) 0 (pieces (ack (received .bytes)) ++ pieces (aggregatedMessage (siteOf (now (w .entry)) (tableOf (now (t .entry)))) (id .bytes))) (now (out .exit)) r ⌝ }
+    ensures { λ r. ⌜ Wrote (now (out .entry)) 0 (pieces (ack (q .received .bytes)) ++ pieces (aggregatedMessage (siteOf (now (w .entry)) (tableOf (now (t .entry)))) (q .identity .bytes))) (now (out .exit)) r ⌝ }
 {
-    let end = packet_answer::ack(received, out);
+    let id = q.identity;
+    let end = packet_answer::ack(q, out);
     if out.len() < end {
         return end;
     }
@@ -283,26 +201,19 @@ fn answer_and_aggregated(
 }
 
 // The aggregated status as it is, behind the acknowledgement.
-fn reply_aggregated(
-    w: &mut [u64],
-    t: &[u8],
-    l: u16,
-    time: u64,
-    id: Identity,
-    received: Received,
-    out: &mut [u8],
-) -> Answer
-    requires { ⌜ (length (now w) ≡ siteWords) × ((length (now t) ≡ tableBytes) × (l < 4)) ⌝ }
-    ensures { λ r. ⌜ TakesIn (tableOf (now (t .entry))) l time id (unlessBusy (siteOf (now (w .entry)) (tableOf (now (t .entry)))) l (received .bytes) (replied (siteOf (now (w .entry)) (tableOf (now (t .entry)))) l time id (received .bytes) (aggregatedMessage (siteOf (now (w .entry)) (tableOf (now (t .entry)))) (id .bytes)))) (now (w .entry)) (now (w .exit)) (now (out .entry)) (now (out .exit)) r ⌝ }
+fn reply_aggregated(w: &mut [u64], t: &[u8], q: Question, out: &mut [u8]) -> Answer
+    requires { ⌜ (length (now w) ≡ siteWords) × ((length (now t) ≡ tableBytes) × (q .link < 4)) ⌝ }
+    ensures { λ r. ⌜ TakesIn (tableOf (now (t .entry))) q (unlessBusy (siteOf (now (w .entry)) (tableOf (now (t .entry)))) q (replied (siteOf (now (w .entry)) (tableOf (now (t .entry)))) q (aggregatedMessage (siteOf (now (w .entry)) (tableOf (now (t .entry)))) (q .identity .bytes)))) (now (w .entry)) (now (w .exit)) (now (out .entry)) (now (out .exit)) r ⌝ }
 {
-    if packet_answer::is_busy(w, l) {
-        return packet_answer::not_ack(w, time, received, reasons::BUSY, out);
+    let id = q.identity;
+    if packet_answer::is_busy(w, q.link) {
+        return packet_answer::not_ack(w, q, reasons::BUSY, out);
     }
-    if packet_answer::is_awaited(w, l, id) {
+    if packet_answer::is_awaited(w, q.link, id) {
         return Answer::Refused(Refusal::IdentityAwaited);
     }
-    let end = answer_and_aggregated(w, t, id, received, out);
-    packet_answer::reply_done(w, l, time, id, end)
+    let end = answer_and_aggregated(w, t, q, out);
+    packet_answer::reply_done(w, q, end)
 }
 
 fn is_zero(c: Sought) -> bool
@@ -321,49 +232,25 @@ fn carries(t: &[u8], id: Label) -> bool
     is_zero(packet_lookup::component(t, id))
 }
 
-fn aggregated_for(
-    w: &mut [u64],
-    t: &[u8],
-    l: u16,
-    time: u64,
-    id: Identity,
-    received: Received,
-    component: Label,
-    out: &mut [u8],
-) -> Answer
-    requires { ⌜ (length (now w) ≡ siteWords) × ((length (now t) ≡ tableBytes) × (l < 4)) ⌝ }
-    ensures { λ r. ⌜ TakesIn (tableOf (now (t .entry))) l time id (aggregatedOf (siteOf (now (w .entry)) (tableOf (now (t .entry)))) l time id (received .bytes) (componentSought (tableOf (now (t .entry))) component)) (now (w .entry)) (now (w .exit)) (now (out .entry)) (now (out .exit)) r ⌝ }
+fn aggregated_for(w: &mut [u64], t: &[u8], q: Question, component: Label, out: &mut [u8]) -> Answer
+    requires { ⌜ (length (now w) ≡ siteWords) × ((length (now t) ≡ tableBytes) × (q .link < 4)) ⌝ }
+    ensures { λ r. ⌜ TakesIn (tableOf (now (t .entry))) q (aggregatedOf (siteOf (now (w .entry)) (tableOf (now (t .entry)))) q (componentSought (tableOf (now (t .entry))) component)) (now (w .entry)) (now (w .exit)) (now (out .entry)) (now (out .exit)) r ⌝ }
 {
     if carries(t, component) {
-        return reply_aggregated(w, t, l, time, id, received, out);
+        return reply_aggregated(w, t, q, out);
     }
-    packet_answer::not_ack(w, time, received, reasons::UNKNOWN_COMPONENT, out)
+    packet_answer::not_ack(w, q, reasons::UNKNOWN_COMPONENT, out)
 }
 
-fn judge_aggregated(
-    w: &mut [u64],
-    t: &[u8],
-    l: u16,
-    time: u64,
-    id: Identity,
-    received: Received,
-    f: GotLabel,
-    out: &mut [u8],
-) -> Answer
-    requires { ⌜ (length (now w) ≡ siteWords) × ((length (now t) ≡ tableBytes) × (l < 4)) ⌝ }
-    ensures { λ r. ⌜ TakesIn (tableOf (now (t .entry))) l time id (aggregatedTaken (siteOf (now (w .entry)) (tableOf (now (t .entry)))) l time id (received .bytes) f) (now (w .entry)) (now (w .exit)) (now (out .entry)) (now (out .exit)) r ⌝ }
+fn judge_aggregated(w: &mut [u64], t: &[u8], q: Question, f: GotLabel, out: &mut [u8]) -> Answer
+    requires { ⌜ (length (now w) ≡ siteWords) × ((length (now t) ≡ tableBytes) × (q .link < 4)) ⌝ }
+    ensures { λ r. ⌜ TakesIn (tableOf (now (t .entry))) q (aggregatedTaken (siteOf (now (w .entry)) (tableOf (now (t .entry)))) q f) (now (w .entry)) (now (w .exit)) (now (out .entry)) (now (out .exit)) r ⌝ }
 {
     let v = f.verdict;
     match v {
-        Verdict::Good => aggregated_for(w, t, l, time, id, received, f.label, out),
-        Verdict::Missing => packet_answer::not_ack(
-            w,
-            time,
-            received,
-            reasons::MISSING_ELEMENT,
-            out,
-        ),
-        Verdict::Bad => packet_answer::not_ack(w, time, received, reasons::BAD_VALUE, out),
+        Verdict::Good => aggregated_for(w, t, q, f.label, out),
+        Verdict::Missing => packet_answer::not_ack(w, q, reasons::MISSING_ELEMENT, out),
+        Verdict::Bad => packet_answer::not_ack(w, q, reasons::BAD_VALUE, out),
     }
 }
 
@@ -371,17 +258,14 @@ fn judge_aggregated(
 pub fn aggregated(
     w: &mut [u64],
     t: &[u8],
-    l: u16,
-    time: u64,
-    id: Identity,
-    received: Received,
+    q: Question,
     packet: &[u8],
     places: &[usize],
     out: &mut [u8],
 ) -> Answer
-    requires { ⌜ (length (now w) ≡ siteWords) × ((length (now t) ≡ tableBytes) × ((l < 4) × Indexed (now packet) (now places))) ⌝ }
-    ensures { λ r. ⌜ TakesIn (tableOf (now (t .entry))) l time id (aggregatedTaken (siteOf (now (w .entry)) (tableOf (now (t .entry)))) l time id (received .bytes) (aggregatedAt (now (packet .entry)))) (now (w .entry)) (now (w .exit)) (now (out .entry)) (now (out .exit)) r ⌝ }
+    requires { ⌜ (length (now w) ≡ siteWords) × ((length (now t) ≡ tableBytes) × ((q .link < 4) × Indexed (now packet) (now places))) ⌝ }
+    ensures { λ r. ⌜ TakesIn (tableOf (now (t .entry))) q (aggregatedTaken (siteOf (now (w .entry)) (tableOf (now (t .entry)))) q (aggregatedAt (now (packet .entry)))) (now (w .entry)) (now (w .exit)) (now (out .entry)) (now (out .exit)) r ⌝ }
 {
     let f = read_head::read_aggregated(packet, places);
-    judge_aggregated(w, t, l, time, id, received, f, out)
+    judge_aggregated(w, t, q, f, out)
 }

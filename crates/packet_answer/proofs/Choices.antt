@@ -9,7 +9,6 @@ use Rattle.basis.specs.Pick.{pick}
 use Rattle.answer.specs.declared.Refusal.the-variants.{IdentityAwaited}
 use Rattle.answer.specs.declared.Answer.{Answer}
 use Rattle.answer.specs.declared.Answer.the-variants.{Done, Refused}
-use Rattle.identity.specs.declared.Identity.{Identity}
 use Rattle.awaited.specs.Awaited.{findOf, isAwaited}
 use Rattle.link.specs.Steps.{fullOf}
 use Rattle.output.specs.Put.{Wrote}
@@ -25,76 +24,77 @@ use Rattle.site.specs.Call.{Command, never}
 use Rattle.store_site.specs.Layout.{siteOf}
 use Rattle.store_site.specs.Turns.{Turns}
 use Rattle.store_call.specs.Called.{GivesIn}
+use Rattle.packet_answer.specs.declared.Question.{Question}
 use Rattle.packet_answer.specs.Taken.{Taken, notAcked, handing, byVerdict, unlessBusy, missingElement, badValue, busy}
 use Rattle.packet_answer.specs.Ending.{report, handed, repliedAt}
 use Rattle.packet_answer.proofs.Ends.{unreplied, hands, hands-refused}
 use Rattle.packet_answer.specs.Takes.{TakesIn}
 
-module _ (t : SiteTable) (ws : List ℕ) (l time : ℕ) (id : Identity) (received : List ℕ) where
+module _ (t : SiteTable) (ws : List ℕ) (q : Question) where
   pub not-acked : (reason : ℕ) {vs xs ys : List ℕ} {r : Answer}
-      → GivesIn t time never (notAcked (siteOf ws t) received reason .plan) ws vs xs ys r
-      → TakesIn t l time id (notAcked (siteOf ws t) received reason) ws vs xs ys r
-  not-acked reason g = unreplied t time l id (notAcked (siteOf ws t) received reason) refl g
+      → GivesIn t (q .time) never (notAcked (siteOf ws t) q reason .plan) ws vs xs ys r
+      → TakesIn t q (notAcked (siteOf ws t) q reason) ws vs xs ys r
+  not-acked reason g = unreplied t q (notAcked (siteOf ws t) q reason) refl g
 
   module _ {vs xs ys : List ℕ} {r : Answer} where
     -- a choice that a test made
-    pub picked-first : (b : Bool) (x y : Taken) → b ≡ true → TakesIn t l time id x ws vs xs ys r → TakesIn t l time id (pick b x y) ws vs xs ys r
-    picked-first b x y e g = subst (λ (z : Bool). TakesIn t l time id (pick z x y) ws vs xs ys r) (sym e) g
+    pub picked-first : (b : Bool) (x y : Taken) → b ≡ true → TakesIn t q x ws vs xs ys r → TakesIn t q (pick b x y) ws vs xs ys r
+    picked-first b x y e g = subst (λ (z : Bool). TakesIn t q (pick z x y) ws vs xs ys r) (sym e) g
 
-    pub picked-second : (b : Bool) (x y : Taken) → b ≡ false → TakesIn t l time id y ws vs xs ys r → TakesIn t l time id (pick b x y) ws vs xs ys r
-    picked-second b x y e g = subst (λ (z : Bool). TakesIn t l time id (pick z x y) ws vs xs ys r) (sym e) g
+    pub picked-second : (b : Bool) (x y : Taken) → b ≡ false → TakesIn t q y ws vs xs ys r → TakesIn t q (pick b x y) ws vs xs ys r
+    picked-second b x y e g = subst (λ (z : Bool). TakesIn t q (pick z x y) ws vs xs ys r) (sym e) g
 
     -- by the verdict
-    pub good : (v : Verdict) (x : Taken) → v ≡ Good → TakesIn t l time id x ws vs xs ys r → TakesIn t l time id (byVerdict v (siteOf ws t) received x) ws vs xs ys r
-    good v x e g = subst (λ (z : Verdict). TakesIn t l time id (byVerdict z (siteOf ws t) received x) ws vs xs ys r) (sym e) g
+    pub good : (v : Verdict) (x : Taken) → v ≡ Good → TakesIn t q x ws vs xs ys r → TakesIn t q (byVerdict v (siteOf ws t) q x) ws vs xs ys r
+    good v x e g = subst (λ (z : Verdict). TakesIn t q (byVerdict z (siteOf ws t) q x) ws vs xs ys r) (sym e) g
 
     pub missing : (v : Verdict) (x : Taken)
         → v ≡ Missing
-        → GivesIn t time never (notAcked (siteOf ws t) received missingElement .plan) ws vs xs ys r
-        → TakesIn t l time id (byVerdict v (siteOf ws t) received x) ws vs xs ys r
-    missing v x e g = subst (λ (z : Verdict). TakesIn t l time id (byVerdict z (siteOf ws t) received x) ws vs xs ys r) (sym e) (not-acked missingElement g)
+        → GivesIn t (q .time) never (notAcked (siteOf ws t) q missingElement .plan) ws vs xs ys r
+        → TakesIn t q (byVerdict v (siteOf ws t) q x) ws vs xs ys r
+    missing v x e g = subst (λ (z : Verdict). TakesIn t q (byVerdict z (siteOf ws t) q x) ws vs xs ys r) (sym e) (not-acked missingElement g)
 
     pub bad : (v : Verdict) (x : Taken)
         → v ≡ Bad
-        → GivesIn t time never (notAcked (siteOf ws t) received badValue .plan) ws vs xs ys r
-        → TakesIn t l time id (byVerdict v (siteOf ws t) received x) ws vs xs ys r
-    bad v x e g = subst (λ (z : Verdict). TakesIn t l time id (byVerdict z (siteOf ws t) received x) ws vs xs ys r) (sym e) (not-acked badValue g)
+        → GivesIn t (q .time) never (notAcked (siteOf ws t) q badValue .plan) ws vs xs ys r
+        → TakesIn t q (byVerdict v (siteOf ws t) q x) ws vs xs ys r
+    bad v x e g = subst (λ (z : Verdict). TakesIn t q (byVerdict z (siteOf ws t) q x) ws vs xs ys r) (sym e) (not-acked badValue g)
 
     -- what is chosen by a value that a function gave
-    pub like : {A : Type 0} (f : A → Taken) {x y : A} → x ≡ y → TakesIn t l time id (f y) ws vs xs ys r → TakesIn t l time id (f x) ws vs xs ys r
-    like {A} f e g = subst (λ (z : A). TakesIn t l time id (f z) ws vs xs ys r) (sym e) g
+    pub like : {A : Type 0} (f : A → Taken) {x y : A} → x ≡ y → TakesIn t q (f y) ws vs xs ys r → TakesIn t q (f x) ws vs xs ys r
+    like {A} f e g = subst (λ (z : A). TakesIn t q (f z) ws vs xs ys r) (sym e) g
 
   -- a reply is due, and commands are handed over: "Busy"; the identity is awaited already; the answer and the reply behind it
   module _ (m : Message) (commands : List Command) where
     abbrev pub handed-due : Taken
-    handed-due = unlessBusy (siteOf ws t) l received (handing (siteOf ws t) l time id received m commands)
+    handed-due = unlessBusy (siteOf ws t) q (handing (siteOf ws t) q m commands)
 
     pub hand-busy : {vs xs ys : List ℕ} {r : Answer}
-        → fullOf (linkAt (siteOf ws t) l) ≡ true
-        → GivesIn t time never (notAcked (siteOf ws t) received busy .plan) ws vs xs ys r
-        → TakesIn t l time id handed-due ws vs xs ys r
+        → fullOf (linkAt (siteOf ws t) (q .link)) ≡ true
+        → GivesIn t (q .time) never (notAcked (siteOf ws t) q busy .plan) ws vs xs ys r
+        → TakesIn t q handed-due ws vs xs ys r
     hand-busy e g =
-        picked-first (fullOf (linkAt (siteOf ws t) l)) (notAcked (siteOf ws t) received busy) (handing (siteOf ws t) l time id received m commands) e (not-acked busy g)
+        picked-first (fullOf (linkAt (siteOf ws t) (q .link))) (notAcked (siteOf ws t) q busy) (handing (siteOf ws t) q m commands) e (not-acked busy g)
 
     pub hand-awaited : {xs : List ℕ} {r : Answer}
-        → fullOf (linkAt (siteOf ws t) l) ≡ false
-        → isAwaited (findOf (linkAt (siteOf ws t) l .awaited) id) ≡ true
+        → fullOf (linkAt (siteOf ws t) (q .link)) ≡ false
+        → isAwaited (findOf (linkAt (siteOf ws t) (q .link) .awaited) (q .identity)) ≡ true
         → r ≡ Refused IdentityAwaited
-        → TakesIn t l time id handed-due ws ws xs xs r
+        → TakesIn t q handed-due ws ws xs xs r
     hand-awaited e h f =
-        picked-second (fullOf (linkAt (siteOf ws t) l)) (notAcked (siteOf ws t) received busy) (handing (siteOf ws t) l time id received m commands) e
-        (hands-refused t time l id received m commands h f)
+        picked-second (fullOf (linkAt (siteOf ws t) (q .link))) (notAcked (siteOf ws t) q busy) (handing (siteOf ws t) q m commands) e
+        (hands-refused t q m commands h f)
 
     pub hand-sent : {vs xs ys : List ℕ} {end : ℕ} {r : Answer}
-        → fullOf (linkAt (siteOf ws t) l) ≡ false
-        → isAwaited (findOf (linkAt (siteOf ws t) l .awaited) id) ≡ false
-        → Wrote xs 0 (pieces (ack received) ++ pieces m) ys end
+        → fullOf (linkAt (siteOf ws t) (q .link)) ≡ false
+        → isAwaited (findOf (linkAt (siteOf ws t) (q .link) .awaited) (q .identity)) ≡ false
+        → Wrote xs 0 (pieces (ack (q .received .bytes)) ++ pieces m) ys end
         → r ≡ Done (handed end (length commands))
-        → Turns (λ (s : Site). repliedAt s l time id end .site) ws vs
-        → TakesIn t l time id handed-due ws vs xs ys r
+        → Turns (λ (s : Site). repliedAt s q end .site) ws vs
+        → TakesIn t q handed-due ws vs xs ys r
     hand-sent e h w f u =
-        picked-second (fullOf (linkAt (siteOf ws t) l)) (notAcked (siteOf ws t) received busy) (handing (siteOf ws t) l time id received m commands) e
-        (hands t time l id received m commands h w f u)
+        picked-second (fullOf (linkAt (siteOf ws t) (q .link))) (notAcked (siteOf ws t) q busy) (handing (siteOf ws t) q m commands) e
+        (hands t q m commands h w f u)
 
   -- and none is handed over
   module _ (m : Message) where
@@ -102,23 +102,23 @@ module _ (t : SiteTable) (ws : List ℕ) (l time : ℕ) (id : Identity) (receive
     due = handed-due m []
 
     pub is-busy : {vs xs ys : List ℕ} {r : Answer}
-        → fullOf (linkAt (siteOf ws t) l) ≡ true
-        → GivesIn t time never (notAcked (siteOf ws t) received busy .plan) ws vs xs ys r
-        → TakesIn t l time id due ws vs xs ys r
+        → fullOf (linkAt (siteOf ws t) (q .link)) ≡ true
+        → GivesIn t (q .time) never (notAcked (siteOf ws t) q busy .plan) ws vs xs ys r
+        → TakesIn t q due ws vs xs ys r
     is-busy = hand-busy m []
 
     pub is-awaited : {xs : List ℕ} {r : Answer}
-        → fullOf (linkAt (siteOf ws t) l) ≡ false
-        → isAwaited (findOf (linkAt (siteOf ws t) l .awaited) id) ≡ true
+        → fullOf (linkAt (siteOf ws t) (q .link)) ≡ false
+        → isAwaited (findOf (linkAt (siteOf ws t) (q .link) .awaited) (q .identity)) ≡ true
         → r ≡ Refused IdentityAwaited
-        → TakesIn t l time id due ws ws xs xs r
+        → TakesIn t q due ws ws xs xs r
     is-awaited = hand-awaited m []
 
     pub is-sent : {vs xs ys : List ℕ} {end : ℕ} {r : Answer}
-        → fullOf (linkAt (siteOf ws t) l) ≡ false
-        → isAwaited (findOf (linkAt (siteOf ws t) l .awaited) id) ≡ false
-        → Wrote xs 0 (pieces (ack received) ++ pieces m) ys end
+        → fullOf (linkAt (siteOf ws t) (q .link)) ≡ false
+        → isAwaited (findOf (linkAt (siteOf ws t) (q .link) .awaited) (q .identity)) ≡ false
+        → Wrote xs 0 (pieces (ack (q .received .bytes)) ++ pieces m) ys end
         → r ≡ Done (report 0 0 end 0)
-        → Turns (λ (s : Site). repliedAt s l time id end .site) ws vs
-        → TakesIn t l time id due ws vs xs ys r
+        → Turns (λ (s : Site). repliedAt s q end .site) ws vs
+        → TakesIn t q due ws vs xs ys r
     is-sent = hand-sent m []

@@ -13,7 +13,6 @@ use Rattle.answer.specs.declared.Answer.{Answer}
 use Rattle.answer.specs.declared.Answer.the-variants.{Done, Refused}
 use Rattle.answer.specs.Given.{Hint}
 use Rattle.names.specs.Names.{nameOf}
-use Rattle.identity.specs.declared.Identity.{Identity}
 use Rattle.entry.specs.declared.Entry.{Entry}
 use Rattle.awaited.specs.Awaited.{findOf, isAwaited}
 use Rattle.pool_laws.specs.Batch.{issuedAll}
@@ -29,6 +28,7 @@ use Rattle.site.specs.Call.{Command, Plan, never, writtenTo, reportOf, batchOf,
 use Rattle.store_site.specs.Layout.{siteOf, withLast}
 use Rattle.store_site.specs.Turns.{Plain, Turns}
 use Rattle.store_call.specs.Called.{GivesIn}
+use Rattle.packet_answer.specs.declared.Question.{Question}
 use Rattle.packet_answer.specs.Taken.{Taken, notAcked, closing, acked, handing}
 use Rattle.packet_answer.specs.Ending.{report, handed, repliedAt}
 use Rattle.packet_answer.specs.Takes.{TakesIn}
@@ -74,67 +74,71 @@ module _ (t : SiteTable) (time : ℕ) where
   pub spends : (p : Plan) {ws xs : List ℕ} {r : Answer} → batchOf p .spent ≡ true → r ≡ Refused SequenceSpent → GivesIn t time never p ws ws xs xs r
   spends p h e = record { gives = record { step = rw (e, h) refl; out = rw e refl }; plain = λ x. x; kept = λ why q. refl }
 
-  module _ (received : List ℕ) {ws vs xs ys : List ℕ} {end : ℕ} {r : Answer} where
+module _ (t : SiteTable) (q : Question) where
+  module _ {ws vs xs ys : List ℕ} {end : ℕ} {r : Answer} where
     -- answered with a reason
     pub not-acks : (reason : ℕ)
-        → Wrote xs 0 (pieces (notAck received (nameOf reason))) ys end
+        → Wrote xs 0 (pieces (notAck (q .received .bytes) (nameOf reason))) ys end
         → r ≡ Done (report 0 0 end 0)
-        → Turns (λ (s : Site). withLast s time) ws vs
-        → GivesIn t time never (notAcked (siteOf ws t) received reason .plan) ws vs xs ys r
-    not-acks reason w e u = ends (notAcked (siteOf ws t) received reason .plan) refl (one (notAck received (nameOf reason)) w) e (u .site t) (u .plain)
+        → Turns (λ (s : Site). withLast s (q .time)) ws vs
+        → GivesIn t (q .time) never (notAcked (siteOf ws t) q reason .plan) ws vs xs ys r
+    not-acks reason w e u =
+        ends t (q .time) (notAcked (siteOf ws t) q reason .plan) refl (one (notAck (q .received .bytes) (nameOf reason)) w) e (u .site t) (u .plain)
 
     -- answered with a reason, and the link is closed
-    pub closes : (l reason : ℕ)
-        → Wrote xs 0 (pieces (notAck received (nameOf reason))) ys end
-        → r ≡ Done (report 0 0 end (maskOf l))
-        → Turns (λ (s : Site). withLast (closeAt s l) time) ws vs
-        → GivesIn t time never (closing (siteOf ws t) l received reason .plan) ws vs xs ys r
-    closes l reason w e u = ends (closing (siteOf ws t) l received reason .plan) refl (one (notAck received (nameOf reason)) w) e (u .site t) (u .plain)
+    pub closes : (reason : ℕ)
+        → Wrote xs 0 (pieces (notAck (q .received .bytes) (nameOf reason))) ys end
+        → r ≡ Done (report 0 0 end (maskOf (q .link)))
+        → Turns (λ (s : Site). withLast (closeAt s (q .link)) (q .time)) ws vs
+        → GivesIn t (q .time) never (closing (siteOf ws t) q reason .plan) ws vs xs ys r
+    closes reason w e u =
+        ends t (q .time) (closing (siteOf ws t) q reason .plan) refl (one (notAck (q .received .bytes) (nameOf reason)) w) e (u .site t) (u .plain)
 
     -- acknowledged, with the records es; the site `after` them is that of the plan
     pub acks : (after : Site) (es : List Entry) (hint : Hint)
         → issuedAll 4 (after .pool) (after .next) es .spent ≡ false
-        → Wrote xs 0 (pieces (ack received)) ys end
+        → Wrote xs 0 (pieces (ack (q .received .bytes))) ys end
         → r ≡ Done (report (hintTime hint) (hintBit hint) end 0)
-        → siteOf vs t ≡ withIssued after (issuedAll 4 (after .pool) (after .next) es) time
+        → siteOf vs t ≡ withIssued after (issuedAll 4 (after .pool) (after .next) es) (q .time)
         → (Plain ws → Plain vs)
-        → GivesIn t time never (acked after es received hint .plan) ws vs xs ys r
-    acks after es hint h w e = ends (acked after es received hint .plan) h (one (ack received) w) e
+        → GivesIn t (q .time) never (acked after es q hint .plan) ws vs xs ys r
+    acks after es hint h w e = ends t (q .time) (acked after es q hint .plan) h (one (ack (q .received .bytes)) w) e
 
     -- acknowledged, and no record is issued: the words are changed by f, then the time is kept
     pub accepts : (f : Site → Site) (hint : Hint)
-        → Wrote xs 0 (pieces (ack received)) ys end
+        → Wrote xs 0 (pieces (ack (q .received .bytes))) ys end
         → r ≡ Done (report (hintTime hint) (hintBit hint) end 0)
-        → Turns (λ (s : Site). withLast (f s) time) ws vs
-        → GivesIn t time never (acked (f (siteOf ws t)) [] received hint .plan) ws vs xs ys r
+        → Turns (λ (s : Site). withLast (f s) (q .time)) ws vs
+        → GivesIn t (q .time) never (acked (f (siteOf ws t)) [] q hint .plan) ws vs xs ys r
     accepts f hint w e u = acks (f (siteOf ws t)) [] hint refl w e (u .site t) (u .plain)
 
   -- number 10 of a call that acknowledges
-  pub refuses-spent : (received : List ℕ) (after : Site) (es : List Entry) (hint : Hint) {ws xs : List ℕ} {r : Answer}
+  pub refuses-spent : (after : Site) (es : List Entry) (hint : Hint) {ws xs : List ℕ} {r : Answer}
       → issuedAll 4 (after .pool) (after .next) es .spent ≡ true
       → r ≡ Refused SequenceSpent
-      → GivesIn t time never (acked after es received hint .plan) ws ws xs xs r
-  refuses-spent received after es hint h e = spends (acked after es received hint .plan) h e
+      → GivesIn t (q .time) never (acked after es q hint .plan) ws ws xs xs r
+  refuses-spent after es hint h e = spends t (q .time) (acked after es q hint .plan) h e
 
-  module _ (l : ℕ) (id : Identity) where
-    -- what sends no message of its own has no condition of its own
-    pub unreplied : (x : Taken) {ws vs xs ys : List ℕ} {r : Answer} → x .replies ≡ false → GivesIn t time never (x .plan) ws vs xs ys r → TakesIn t l time id x ws vs xs ys r
-    unreplied x e g = record { gives = record { step = rw e (g .gives .step); out = g .gives .out }; plain = g .plain; kept = g .kept }
+  -- what sends no message of its own has no condition of its own
+  pub unreplied : (x : Taken) {ws vs xs ys : List ℕ} {r : Answer}
+      → x .replies ≡ false
+      → GivesIn t (q .time) never (x .plan) ws vs xs ys r
+      → TakesIn t q x ws vs xs ys r
+  unreplied x e g = record { gives = record { step = rw e (g .gives .step); out = g .gives .out }; plain = g .plain; kept = g .kept }
 
-    -- replied, with commands handed over: refused where the identity is awaited already, and else the answer and the reply are written
-    pub hands-refused : (received : List ℕ) (m : Message) (commands : List Command) {ws xs : List ℕ} {r : Answer}
-        → isAwaited (findOf (linkAt (siteOf ws t) l .awaited) id) ≡ true
-        → r ≡ Refused IdentityAwaited
-        → TakesIn t l time id (handing (siteOf ws t) l time id received m commands) ws ws xs xs r
-    hands-refused received m commands h e =
-        record { gives = record { step = rw (e, h) refl; out = rw e refl }; plain = λ x. x; kept = λ why q. refl }
+  -- replied, with commands handed over: refused where the identity is awaited already, and else the answer and the reply are written
+  pub hands-refused : (m : Message) (commands : List Command) {ws xs : List ℕ} {r : Answer}
+      → isAwaited (findOf (linkAt (siteOf ws t) (q .link) .awaited) (q .identity)) ≡ true
+      → r ≡ Refused IdentityAwaited
+      → TakesIn t q (handing (siteOf ws t) q m commands) ws ws xs xs r
+  hands-refused m commands h e = record { gives = record { step = rw (e, h) refl; out = rw e refl }; plain = λ x. x; kept = λ why q. refl }
 
-    pub hands : (received : List ℕ) (m : Message) (commands : List Command) {ws vs xs ys : List ℕ} {end : ℕ} {r : Answer}
-        → isAwaited (findOf (linkAt (siteOf ws t) l .awaited) id) ≡ false
-        → Wrote xs 0 (pieces (ack received) ++ pieces m) ys end
-        → r ≡ Done (handed end (length commands))
-        → Turns (λ (s : Site). repliedAt s l time id end .site) ws vs
-        → TakesIn t l time id (handing (siteOf ws t) l time id received m commands) ws vs xs ys r
-    hands received m commands {ws} h w e u =
-        let g = ends (handing (siteOf ws t) l time id received m commands .plan) refl (two (ack received) m w) e (u .site t) (u .plain) in
-        record { gives = record { step = rw h (g .gives .step); out = g .gives .out }; plain = g .plain; kept = g .kept }
+  pub hands : (m : Message) (commands : List Command) {ws vs xs ys : List ℕ} {end : ℕ} {r : Answer}
+      → isAwaited (findOf (linkAt (siteOf ws t) (q .link) .awaited) (q .identity)) ≡ false
+      → Wrote xs 0 (pieces (ack (q .received .bytes)) ++ pieces m) ys end
+      → r ≡ Done (handed end (length commands))
+      → Turns (λ (s : Site). repliedAt s q end .site) ws vs
+      → TakesIn t q (handing (siteOf ws t) q m commands) ws vs xs ys r
+  hands m commands {ws} h w e u =
+      let g = ends t (q .time) (handing (siteOf ws t) q m commands .plan) refl (two (ack (q .received .bytes)) m w) e (u .site t) (u .plain) in
+      record { gives = record { step = rw h (g .gives .step); out = g .gives .out }; plain = g .plain; kept = g .kept }

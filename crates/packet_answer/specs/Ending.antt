@@ -6,7 +6,6 @@ use mathlib.Core.Path.{_≡_}
 use mathlib.Core.List.{List, [], _∷_}
 use Rattle.answer.specs.declared.Report.{Report}
 use Rattle.answer.specs.declared.Answer.the-variants.{Done}
-use Rattle.identity.specs.declared.Identity.{Identity}
 use Rattle.awaited.specs.declared.Purpose.the-variants.{Other}
 use Rattle.pool_laws.specs.declared.Batch.{Batch}
 use Rattle.link.specs.Steps.{messageOutOf}
@@ -16,6 +15,7 @@ use Rattle.site.specs.declared.Site.{Site}
 use Rattle.site.specs.declared.Step.{Step}
 use Rattle.site.specs.Site.{linkAt, withLink, withIssued}
 use Rattle.site.specs.Call.{only, batchOf, concluded, writtenTo, outAfter}
+use Rattle.packet_answer.specs.declared.Question.{Question}
 
 abbrev pub report : ℕ → ℕ → ℕ → ℕ → Report
 report hint hinted end closed = record { hint = hint; written = end % 4294967296; closed = closed; hinted = hinted; commands = 0 }
@@ -29,8 +29,8 @@ abbrev pub doneAt : Site → ℕ → ℕ → ℕ → Step
 doneAt after time end closed = record { site = withIssued after (batchOf (only after)) time; answer = Done (report 0 0 end closed) }
 
 -- the end of a call that wrote a reply
-abbrev pub repliedAt : Site → ℕ → ℕ → Identity → ℕ → Step
-repliedAt s l time id end = doneAt (withLink s l (messageOutOf (linkAt s l) id time Other)) time end 0
+abbrev pub repliedAt : Site → Question → ℕ → Step
+repliedAt s q end = doneAt (withLink s (q .link) (messageOutOf (linkAt s (q .link)) (q .identity) (q .time) Other)) (q .time) end 0
 
 -- the end of a call that issues the records of a batch and acknowledges; where the batch is refused nothing is written
 pub record Acks (s after : Site) (b : Batch) (time hint hinted : ℕ) (received xs ys : List ℕ) (r : Step) : Type 0 where

@@ -9,7 +9,6 @@ use Rattle.answer.specs.declared.Refusal.{Refusal}
 use Rattle.answer.specs.declared.Refusal.the-variants.{IdentityAwaited}
 use Rattle.answer.specs.Given.{Hint}
 use Rattle.answer.specs.Given.Hint.{none}
-use Rattle.identity.specs.declared.Identity.{Identity}
 use Rattle.names.specs.Names.{nameOf, indexOf}
 use Rattle.entry.specs.declared.Entry.{Entry}
 use Rattle.awaited.specs.declared.Purpose.the-variants.{Other}
@@ -22,6 +21,7 @@ use Rattle.read_head.specs.declared.Verdict.the-variants.{Good, Missing, Bad}
 use Rattle.site.specs.declared.Site.{Site}
 use Rattle.site.specs.Site.{linkAt, withLink, closeAt, maskOf}
 use Rattle.site.specs.Call.{Command, Plan, never, when}
+use Rattle.packet_answer.specs.declared.Question.{Question}
 
 -- a plan, and whether a reply goes out under the identity of the call
 pub record Taken : Type 0 where
@@ -29,32 +29,32 @@ pub record Taken : Type 0 where
   pub replies : Bool
 
 -- number 9: the identity to be sent is already awaited on that link
-abbrev pub takenRefuses : Site → ℕ → Identity → Taken → Refusal → Bool
-takenRefuses s l id t = when IdentityAwaited (both (t .replies) (isAwaited (findOf (linkAt s l .awaited) id))) never
+abbrev pub takenRefuses : Site → Question → Taken → Refusal → Bool
+takenRefuses s q t = when IdentityAwaited (both (t .replies) (isAwaited (findOf (linkAt s (q .link) .awaited) (q .identity)))) never
 
 -- answered with a reason, and nothing is done
-abbrev pub notAcked : Site → List ℕ → ℕ → Taken
-notAcked s received reason =
-    record { plan = record { site = s; issued = []; messages = notAck received (nameOf reason) ∷ []; closed = 0; hint = none; commands = [] }; replies = false }
+abbrev pub notAcked : Site → Question → ℕ → Taken
+notAcked s q reason =
+    record { plan = record { site = s; issued = []; messages = notAck (q .received .bytes) (nameOf reason) ∷ []; closed = 0; hint = none; commands = [] }; replies = false }
 
 -- answered with a reason, and the link is closed
-abbrev pub closing : Site → ℕ → List ℕ → ℕ → Taken
-closing s l received reason =
-    record { plan = record { site = closeAt s l; issued = []; messages = notAck received (nameOf reason) ∷ []; closed = maskOf l; hint = none; commands = [] }; replies = false }
+abbrev pub closing : Site → Question → ℕ → Taken
+closing s q reason =
+    record { plan = record { site = closeAt s (q .link); issued = []; messages = notAck (q .received .bytes) (nameOf reason) ∷ []; closed = maskOf (q .link); hint = none; commands = [] }; replies = false }
 
 -- acknowledged: the next site, the records it issues, a clock hint
-abbrev pub acked : Site → List Entry → List ℕ → Hint → Taken
-acked after entries received hint =
-    record { plan = record { site = after; issued = entries; messages = ack received ∷ []; closed = 0; hint = hint; commands = [] }; replies = false }
+abbrev pub acked : Site → List Entry → Question → Hint → Taken
+acked after entries q hint =
+    record { plan = record { site = after; issued = entries; messages = ack (q .received .bytes) ∷ []; closed = 0; hint = hint; commands = [] }; replies = false }
 
 -- acknowledged, and a reply behind it, which is awaited and carries no record; with commands that are handed over, and without
-abbrev pub handing : Site → ℕ → ℕ → Identity → List ℕ → Message → List Command → Taken
-handing s l time id received m commands =
+abbrev pub handing : Site → Question → Message → List Command → Taken
+handing s q m commands =
     record {
       plan = record {
-        site = withLink s l (messageOutOf (linkAt s l) id time Other);
+        site = withLink s (q .link) (messageOutOf (linkAt s (q .link)) (q .identity) (q .time) Other);
         issued = [];
-        messages = ack received ∷ m ∷ [];
+        messages = ack (q .received .bytes) ∷ m ∷ [];
         closed = 0;
         hint = none;
         commands = commands;
@@ -62,8 +62,8 @@ handing s l time id received m commands =
       replies = true;
     }
 
-abbrev pub replied : Site → ℕ → ℕ → Identity → List ℕ → Message → Taken
-replied s l time id received m = handing s l time id received m []
+abbrev pub replied : Site → Question → Message → Taken
+replied s q m = handing s q m []
 
 -- The reasons by their numbers in the table of names.
 abbrev pub missingElement : ℕ
@@ -103,11 +103,11 @@ abbrev pub busy : ℕ
 busy = indexOf (text "Busy")
 
 -- "Missing element", then "Bad value", then what the packet asks for
-abbrev pub byVerdict : Verdict → Site → List ℕ → Taken → Taken
-byVerdict Good s received t = t
-byVerdict Missing s received t = notAcked s received missingElement
-byVerdict Bad s received t = notAcked s received badValue
+abbrev pub byVerdict : Verdict → Site → Question → Taken → Taken
+byVerdict Good s q t = t
+byVerdict Missing s q t = notAcked s q missingElement
+byVerdict Bad s q t = notAcked s q badValue
 
 -- "Busy" (a reply is due and 16 are awaited)
-abbrev pub unlessBusy : Site → ℕ → List ℕ → Taken → Taken
-unlessBusy s l received t = pick (fullOf (linkAt s l)) (notAcked s received busy) t
+abbrev pub unlessBusy : Site → Question → Taken → Taken
+unlessBusy s q t = pick (fullOf (linkAt s (q .link))) (notAcked s q busy) t

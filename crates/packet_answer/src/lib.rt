@@ -23,6 +23,14 @@ use answer::Report;
 use identity::Identity;
 use read_head::Received;
 
+// What the call of a packet is asked: on a link, at a time, a reply going out under an identity; and the characters of the packet's mId.
+pub struct Question {
+    pub link: u16,
+    pub time: u64,
+    pub identity: Identity,
+    pub received: Received,
+}
+
 // Number 9's condition, where something is to be sent.
 pub fn is_awaited(w: &[u64], l: u16, id: Identity) -> bool
     requires { ⌜ (length (now w) ≡ siteWords) × (l < 4) ⌝ }
@@ -61,85 +69,69 @@ pub fn done(w: &mut [u64], time: u64, hint: u64, hinted: u16, end: usize, closed
 }
 
 // MessageAck, at the beginning of the output.
-pub fn ack(received: Received, out: &mut [u8]) -> usize
-    ensures { λ r. ⌜ Wrote (now (out .entry)) 0 (pieces (ackOf (received .bytes))) (now (out .exit)) r ⌝ }
+pub fn ack(q: Question, out: &mut [u8]) -> usize
+    ensures { λ r. ⌜ Wrote (now (out .entry)) 0 (pieces (ackOf (q .received .bytes))) (now (out .exit)) r ⌝ }
 {
+    let received = q.received;
     let characters = received.bytes;
     write_message::answers::ack(out, 0, &characters)
 }
 
 // MessageNotAck, at the beginning of the output.
-fn refusal(received: Received, reason: usize, out: &mut [u8]) -> usize
-    ensures { λ r. ⌜ Wrote (now (out .entry)) 0 (pieces (notAck (received .bytes) (nameOf reason))) (now (out .exit)) r ⌝ }
+fn refusal(q: Question, reason: usize, out: &mut [u8]) -> usize
+    ensures { λ r. ⌜ Wrote (now (out .entry)) 0 (pieces (notAck (q .received .bytes) (nameOf reason))) (now (out .exit)) r ⌝ }
 {
+    let received = q.received;
     let characters = received.bytes;
     write_message::answers::not_ack(out, 0, &characters, reason)
 }
 
 // Answered with a reason, and nothing is done.
-pub fn not_ack(
-    w: &mut [u64],
-    time: u64,
-    received: Received,
-    reason: usize,
-    out: &mut [u8],
-) -> Answer
+pub fn not_ack(w: &mut [u64], q: Question, reason: usize, out: &mut [u8]) -> Answer
     requires { ⌜ length (now w) ≡ siteWords ⌝ }
-    ensures { λ r. ⌜ ((t : SiteTable) → GivesIn t time never (notAcked (siteOf (now (w .entry)) t) (received .bytes) reason .plan) (now (w .entry)) (now (w .exit)) (now (out .entry)) (now (out .exit)) r) ⌝ }
+    ensures { λ r. ⌜ ((t : SiteTable) → GivesIn t (q .time) never (notAcked (siteOf (now (w .entry)) t) q reason .plan) (now (w .entry)) (now (w .exit)) (now (out .entry)) (now (out .exit)) r) ⌝ }
 {
-    let end = refusal(received, reason, out);
-    done(w, time, 0, 0, end, 0)
+    let end = refusal(q, reason, out);
+    done(w, q.time, 0, 0, end, 0)
 }
 
 // Answered with a reason, and the link is closed.
-pub fn close(
-    w: &mut [u64],
-    l: u16,
-    time: u64,
-    received: Received,
-    reason: usize,
-    out: &mut [u8],
-) -> Answer
-    requires { ⌜ (length (now w) ≡ siteWords) × (l < 4) ⌝ }
-    ensures { λ r. ⌜ ((t : SiteTable) → GivesIn t time never (closing (siteOf (now (w .entry)) t) l (received .bytes) reason .plan) (now (w .entry)) (now (w .exit)) (now (out .entry)) (now (out .exit)) r) ⌝ }
+pub fn close(w: &mut [u64], q: Question, reason: usize, out: &mut [u8]) -> Answer
+    requires { ⌜ (length (now w) ≡ siteWords) × (q .link < 4) ⌝ }
+    ensures { λ r. ⌜ ((t : SiteTable) → GivesIn t (q .time) never (closing (siteOf (now (w .entry)) t) q reason .plan) (now (w .entry)) (now (w .exit)) (now (out .entry)) (now (out .exit)) r) ⌝ }
 {
-    let end = refusal(received, reason, out);
-    store_call::close(w, l);
-    done(w, time, 0, 0, end, site::bit_of(l))
+    let end = refusal(q, reason, out);
+    store_call::close(w, q.link);
+    done(w, q.time, 0, 0, end, site::bit_of(q.link))
 }
 
 // The reply is awaited, and the call's time is kept.
-fn replied(w: &mut [u64], l: u16, time: u64, id: Identity)
-    requires { ⌜ (length (now w) ≡ siteWords) × (l < 4) ⌝ }
-    ensures { λ _. ⌜ Turns (λ (s : Site). repliedAt s l time id 0 .site) (now (w .entry)) (now (w .exit)) ⌝ }
+fn replied(w: &mut [u64], q: Question)
+    requires { ⌜ (length (now w) ≡ siteWords) × (q .link < 4) ⌝ }
+    ensures { λ _. ⌜ Turns (λ (s : Site). repliedAt s q 0 .site) (now (w .entry)) (now (w .exit)) ⌝ }
 {
+    let l = q.link;
+    let id = q.identity;
     let k = store_site::parts::link(w, l as usize);
-    store_site::parts::put_link(w, l as usize, k.other_out(id, time));
-    store_site::parts::put_last(w, time);
+    store_site::parts::put_link(w, l as usize, k.other_out(id, q.time));
+    store_site::parts::put_last(w, q.time);
 }
 
 // The end of a call that wrote MessageAck and a reply up to an end.
-pub fn reply_done(w: &mut [u64], l: u16, time: u64, id: Identity, end: usize) -> Answer
-    requires { ⌜ (length (now w) ≡ siteWords) × (l < 4) ⌝ }
-    ensures { λ r. ⌜ (r ≡ Done (reportOf 0 0 end 0)) × Turns (λ (s : Site). repliedAt s l time id end .site) (now (w .entry)) (now (w .exit)) ⌝ }
+pub fn reply_done(w: &mut [u64], q: Question, end: usize) -> Answer
+    requires { ⌜ (length (now w) ≡ siteWords) × (q .link < 4) ⌝ }
+    ensures { λ r. ⌜ (r ≡ Done (reportOf 0 0 end 0)) × Turns (λ (s : Site). repliedAt s q end .site) (now (w .entry)) (now (w .exit)) ⌝ }
 {
-    replied(w, l, time, id);
+    replied(w, q);
     Answer::Done(report(0, 0, end, 0))
 }
 
 // The end of such a call that hands over so many commands.
-pub fn hand_done(
-    w: &mut [u64],
-    l: u16,
-    time: u64,
-    id: Identity,
-    end: usize,
-    commands: usize,
-) -> Answer
-    requires { ⌜ (length (now w) ≡ siteWords) × (l < 4) ⌝ }
-    ensures { λ r. ⌜ (r ≡ Done (handed end commands)) × Turns (λ (s : Site). repliedAt s l time id end .site) (now (w .entry)) (now (w .exit)) ⌝ }
+pub fn hand_done(w: &mut [u64], q: Question, end: usize, commands: usize) -> Answer
+    requires { ⌜ (length (now w) ≡ siteWords) × (q .link < 4) ⌝ }
+    ensures { λ r. ⌜ (r ≡ Done (handed end commands)) × Turns (λ (s : Site). repliedAt s q end .site) (now (w .entry)) (now (w .exit)) ⌝ }
 {
-    replied(w, l, time, id);
+    replied(w, q);
     Answer::Done(Report {
         hint: 0,
         written: (end % 4294967296) as u32,

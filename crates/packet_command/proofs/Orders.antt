@@ -6,7 +6,6 @@ use mathlib.Core.Bool.{true, false}
 use mathlib.Core.List.{List}
 use Rattle.basis.specs.Pick.{pick}
 use Rattle.answer.specs.declared.Answer.{Answer}
-use Rattle.identity.specs.declared.Identity.{Identity}
 use Rattle.table_whole.specs.declared.SiteTable.{SiteTable}
 use Rattle.read_commands.specs.declared.CommandFields.{CommandFields}
 use Rattle.packet_lookup.specs.declared.Sought.{Sought}
@@ -15,61 +14,62 @@ use Rattle.site.specs.Call.{never}
 use Rattle.store_site.specs.Layout.{siteOf}
 use Rattle.store_site.proofs.SiteLaws.{table-of}
 use Rattle.store_call.specs.Called.{GivesIn}
+use Rattle.packet_answer.specs.declared.Question.{Question}
 use Rattle.packet_answer.specs.Taken.{Taken, notAcked, byVerdict, badValue, unknownCommand}
 use Rattle.packet_answer.specs.Takes.{TakesIn}
 use Rattle.packet_answer.proofs.Choices.{not-acked, picked-first, picked-second, handed-due, like}
 use Rattle.packet_command.specs.Commanding.{keepsRanges, passes, response, commandsOf, orderedOf, commandTaken}
 
-module _ (t : SiteTable) (ws : List ℕ) (l time : ℕ) (id : Identity) (received : List ℕ) (f : CommandFields) where
+module _ (t : SiteTable) (ws : List ℕ) (q : Question) (f : CommandFields) where
   -- the choices by a table u
   abbrev replyBy : SiteTable → Sought → Taken
-  replyBy u k = handed-due t ws l time id received (response time (id .bytes) k f) (commandsOf u f k)
+  replyBy u k = handed-due t ws q (response (q .time) (q .identity .bytes) k f) (commandsOf u f k)
 
   abbrev passedBy : SiteTable → Sought → Taken
-  passedBy u k = pick (passes u f k) (replyBy u k) (notAcked (siteOf ws t) received unknownCommand)
+  passedBy u k = pick (passes u f k) (replyBy u k) (notAcked (siteOf ws t) q unknownCommand)
 
   abbrev orderedBy : SiteTable → Sought → Taken
-  orderedBy u k = pick (keepsRanges u f k) (passedBy u k) (notAcked (siteOf ws t) received badValue)
+  orderedBy u k = pick (keepsRanges u f k) (passedBy u k) (notAcked (siteOf ws t) q badValue)
 
-module _ (t : SiteTable) (ws : List ℕ) (l time : ℕ) (id : Identity) (received : List ℕ) (f : CommandFields) {vs xs ys : List ℕ} {r : Answer} where
+module _ (t : SiteTable) (ws : List ℕ) (q : Question) (f : CommandFields) {vs xs ys : List ℕ} {r : Answer} where
   pub command-judged : {g : CommandFields}
       → g ≡ f
-      → TakesIn t l time id (byVerdict (g .verdict) (siteOf ws t) received (orderedOf (siteOf ws t) l time id received g (componentSought t (g .component)))) ws vs xs ys r
-      → TakesIn t l time id (commandTaken (siteOf ws t) l time id received f) ws vs xs ys r
+      → TakesIn t q (byVerdict (g .verdict) (siteOf ws t) q (orderedOf (siteOf ws t) q g (componentSought t (g .component)))) ws vs xs ys r
+      → TakesIn t q (commandTaken (siteOf ws t) q f) ws vs xs ys r
   unfolding commandTaken
   command-judged {g} e x =
-      like t ws l time id received (λ (y : CommandFields). commandTaken (siteOf ws t) l time id received y) (sym e)
-      (like t ws l time id received (λ (u : SiteTable). byVerdict (g .verdict) (siteOf ws t) received (orderedOf (siteOf ws t) l time id received g (componentSought u (g .component)))) (table-of ws t) x)
+      like t ws q (λ (y : CommandFields). commandTaken (siteOf ws t) q y) (sym e)
+      (like t ws q (λ (u : SiteTable). byVerdict (g .verdict) (siteOf ws t) q (orderedOf (siteOf ws t) q g (componentSought u (g .component)))) (table-of ws t) x)
 
   module _ {k : Sought} (h : k ≡ componentSought t (f .component)) where
-    chosen : TakesIn t l time id (orderedBy t ws l time id received f t k) ws vs xs ys r
-        → TakesIn t l time id (orderedOf (siteOf ws t) l time id received f (componentSought t (f .component))) ws vs xs ys r
+    chosen : TakesIn t q (orderedBy t ws q f t k) ws vs xs ys r
+        → TakesIn t q (orderedOf (siteOf ws t) q f (componentSought t (f .component))) ws vs xs ys r
     chosen g =
-        like t ws l time id received (λ (x : Sought). orderedOf (siteOf ws t) l time id received f x) (sym h)
-        (like t ws l time id received (λ (u : SiteTable). orderedBy t ws l time id received f u k) (table-of ws t) g)
+        like t ws q (λ (x : Sought). orderedOf (siteOf ws t) q f x) (sym h)
+        (like t ws q (λ (u : SiteTable). orderedBy t ws q f u k) (table-of ws t) g)
 
     pub outside : keepsRanges t f k ≡ false
-        → GivesIn t time never (notAcked (siteOf ws t) received badValue .plan) ws vs xs ys r
-        → TakesIn t l time id (orderedOf (siteOf ws t) l time id received f (componentSought t (f .component))) ws vs xs ys r
+        → GivesIn t (q .time) never (notAcked (siteOf ws t) q badValue .plan) ws vs xs ys r
+        → TakesIn t q (orderedOf (siteOf ws t) q f (componentSought t (f .component))) ws vs xs ys r
     outside e g =
         chosen
-        (picked-second t ws l time id received (keepsRanges t f k) (passedBy t ws l time id received f t k) (notAcked (siteOf ws t) received badValue) e
-        (not-acked t ws l time id received badValue g))
+        (picked-second t ws q (keepsRanges t f k) (passedBy t ws q f t k) (notAcked (siteOf ws t) q badValue) e
+        (not-acked t ws q badValue g))
 
     module _ (e : keepsRanges t f k ≡ true) where
-      inside : TakesIn t l time id (passedBy t ws l time id received f t k) ws vs xs ys r
-          → TakesIn t l time id (orderedOf (siteOf ws t) l time id received f (componentSought t (f .component))) ws vs xs ys r
-      inside g = chosen (picked-first t ws l time id received (keepsRanges t f k) (passedBy t ws l time id received f t k) (notAcked (siteOf ws t) received badValue) e g)
+      inside : TakesIn t q (passedBy t ws q f t k) ws vs xs ys r
+          → TakesIn t q (orderedOf (siteOf ws t) q f (componentSought t (f .component))) ws vs xs ys r
+      inside g = chosen (picked-first t ws q (keepsRanges t f k) (passedBy t ws q f t k) (notAcked (siteOf ws t) q badValue) e g)
 
       pub all-pass : passes t f k ≡ true
-          → TakesIn t l time id (replyBy t ws l time id received f t k) ws vs xs ys r
-          → TakesIn t l time id (orderedOf (siteOf ws t) l time id received f (componentSought t (f .component))) ws vs xs ys r
-      all-pass p g = inside (picked-first t ws l time id received (passes t f k) (replyBy t ws l time id received f t k) (notAcked (siteOf ws t) received unknownCommand) p g)
+          → TakesIn t q (replyBy t ws q f t k) ws vs xs ys r
+          → TakesIn t q (orderedOf (siteOf ws t) q f (componentSought t (f .component))) ws vs xs ys r
+      all-pass p g = inside (picked-first t ws q (passes t f k) (replyBy t ws q f t k) (notAcked (siteOf ws t) q unknownCommand) p g)
 
       pub one-fails : passes t f k ≡ false
-          → GivesIn t time never (notAcked (siteOf ws t) received unknownCommand .plan) ws vs xs ys r
-          → TakesIn t l time id (orderedOf (siteOf ws t) l time id received f (componentSought t (f .component))) ws vs xs ys r
+          → GivesIn t (q .time) never (notAcked (siteOf ws t) q unknownCommand .plan) ws vs xs ys r
+          → TakesIn t q (orderedOf (siteOf ws t) q f (componentSought t (f .component))) ws vs xs ys r
       one-fails p g =
           inside
-          (picked-second t ws l time id received (passes t f k) (replyBy t ws l time id received f t k) (notAcked (siteOf ws t) received unknownCommand) p
-          (not-acked t ws l time id received unknownCommand g))
+          (picked-second t ws q (passes t f k) (replyBy t ws q f t k) (notAcked (siteOf ws t) q unknownCommand) p
+          (not-acked t ws q unknownCommand g))

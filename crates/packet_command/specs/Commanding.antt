@@ -7,7 +7,6 @@ use lib.IntN.{ℤ}
 use lib.ListN.{getD}
 use Rattle.basis.specs.Pick.{pick, both}
 use Rattle.number.specs.Signed.{signed16Of, atMost}
-use Rattle.identity.specs.declared.Identity.{Identity}
 use Rattle.label.specs.Label.{textOf}
 use Rattle.table_item.specs.declared.Item.{Item}
 use Rattle.table_item.specs.Item.{noItem}
@@ -23,6 +22,7 @@ use Rattle.write_message.specs.Message.{Message, Status, status}
 use Rattle.write_message.specs.Message.Message.{statuses}
 use Rattle.site.specs.declared.Site.{Site}
 use Rattle.site.specs.Call.{Command}
+use Rattle.packet_answer.specs.declared.Question.{Question}
 use Rattle.packet_answer.specs.Taken.{Taken, notAcked, handing, byVerdict, unlessBusy, badValue, unknownCommand}
 use Rattle.packet_lookup.specs.declared.Sought.{Sought}
 use Rattle.packet_lookup.specs.declared.Sought.the-variants.{Is, Nothing}
@@ -88,16 +88,16 @@ abbrev pub commandsOf : SiteTable → CommandFields → Sought → List Command
 commandsOf t f (Is component) = commandsTo t component (f .entries) (f .count)
 commandsOf t f Nothing = []
 
--- of one packet: on link l, at this time, its reply under this identity; `received` are the characters of its mId
-module _ (s : Site) (l time : ℕ) (id : Identity) (received : List ℕ) where
+-- of one packet
+module _ (s : Site) (q : Question) where
   -- "Bad value" of a range, "Unknown command", "Busy"
   abbrev pub orderedOf : CommandFields → Sought → Taken
   orderedOf f component =
       pick (keepsRanges (s .table) f component)
       (pick (passes (s .table) f component)
-      (unlessBusy s l received (handing s l time id received (response time (id .bytes) component f) (commandsOf (s .table) f component)))
-      (notAcked s received unknownCommand))
-      (notAcked s received badValue)
+      (unlessBusy s q (handing s q (response (q .time) (q .identity .bytes) component f) (commandsOf (s .table) f component)))
+      (notAcked s q unknownCommand))
+      (notAcked s q badValue)
 
   unfoldable pub commandTaken : CommandFields → Taken
-  commandTaken f = byVerdict (f .verdict) s received (orderedOf f (componentSought (s .table) (f .component)))
+  commandTaken f = byVerdict (f .verdict) s q (orderedOf f (componentSought (s .table) (f .component)))

@@ -25,10 +25,10 @@ use answer::Answer;
 use answer::Refusal;
 use identity::Identity;
 use names::reasons;
+use packet_answer::Question;
 use packet_lookup::Sought;
 use read_commands::CommandEntry;
 use read_commands::CommandFields;
-use read_head::Received;
 use read_head::Verdict;
 use table_item::Item;
 use write_message::Told;
@@ -198,21 +198,15 @@ fn write_response(
 }
 
 // The acknowledgement, and the response in the rest of the output, lent from where it ends. Where it found no room, nothing follows.
-fn answer_and_response(
-    id: Identity,
-    time: u64,
-    received: Received,
-    component: Sought,
-    f: CommandFields,
-    out: &mut [u8],
-) -> usize
-    ensures { λ r. ⌜ Wrote (now (out .entry)) 0 (pieces (ack (received .bytes)) ++ pieces (response time (id .bytes) component f)) (now (out .exit)) r ⌝ }
+fn answer_and_response(q: Question, component: Sought, f: CommandFields, out: &mut [u8]) -> usize
+    ensures { λ r. ⌜ Wrote (now (out .entry)) 0 (pieces (ack (q .received .bytes)) ++ pieces (response (q .time) (q .identity .bytes) component f)) (now (out .exit)) r ⌝ }
 {
-    let end = packet_answer::ack(received, out);
+    let id = q.identity;
+    let end = packet_answer::ack(q, out);
     if out.len() < end {
         return end;
     }
-    let more = write_response(&mut out[end..], id, time, component, f);
+    let more = write_response(&mut out[end..], id, q.time, component, f);
     end + more
 }
 
@@ -230,79 +224,59 @@ fn handed(f: CommandFields, component: Sought) -> usize
 fn reply(
     w: &mut [u64],
     t: &[u8],
-    l: u16,
-    time: u64,
-    id: Identity,
-    received: Received,
+    q: Question,
     component: Sought,
     f: CommandFields,
     out: &mut [u8],
 ) -> Answer
-    requires { ⌜ (length (now w) ≡ siteWords) × ((length (now t) ≡ tableBytes) × (l < 4)) ⌝ }
-    ensures { λ r. ⌜ TakesIn (tableOf (now (t .entry))) l time id (unlessBusy (siteOf (now (w .entry)) (tableOf (now (t .entry)))) l (received .bytes) (handing (siteOf (now (w .entry)) (tableOf (now (t .entry)))) l time id (received .bytes) (response time (id .bytes) component f) (commandsOf (tableOf (now (t .entry))) f component))) (now (w .entry)) (now (w .exit)) (now (out .entry)) (now (out .exit)) r ⌝ }
+    requires { ⌜ (length (now w) ≡ siteWords) × ((length (now t) ≡ tableBytes) × (q .link < 4)) ⌝ }
+    ensures { λ r. ⌜ TakesIn (tableOf (now (t .entry))) q (unlessBusy (siteOf (now (w .entry)) (tableOf (now (t .entry)))) q (handing (siteOf (now (w .entry)) (tableOf (now (t .entry)))) q (response (q .time) (q .identity .bytes) component f) (commandsOf (tableOf (now (t .entry))) f component))) (now (w .entry)) (now (w .exit)) (now (out .entry)) (now (out .exit)) r ⌝ }
 {
-    if packet_answer::is_busy(w, l) {
-        return packet_answer::not_ack(w, time, received, reasons::BUSY, out);
+    let id = q.identity;
+    if packet_answer::is_busy(w, q.link) {
+        return packet_answer::not_ack(w, q, reasons::BUSY, out);
     }
-    if packet_answer::is_awaited(w, l, id) {
+    if packet_answer::is_awaited(w, q.link, id) {
         return Answer::Refused(Refusal::IdentityAwaited);
     }
-    let end = answer_and_response(id, time, received, component, f, out);
-    packet_answer::hand_done(w, l, time, id, end, handed(f, component))
+    let end = answer_and_response(q, component, f, out);
+    packet_answer::hand_done(w, q, end, handed(f, component))
 }
 
 // "Bad value" of a range, "Unknown command", then the reply.
-fn ordered(
-    w: &mut [u64],
-    t: &[u8],
-    l: u16,
-    time: u64,
-    id: Identity,
-    received: Received,
-    f: CommandFields,
-    out: &mut [u8],
-) -> Answer
-    requires { ⌜ (length (now w) ≡ siteWords) × ((length (now t) ≡ tableBytes) × (l < 4)) ⌝ }
-    ensures { λ r. ⌜ TakesIn (tableOf (now (t .entry))) l time id (orderedOf (siteOf (now (w .entry)) (tableOf (now (t .entry)))) l time id (received .bytes) f (componentSought (tableOf (now (t .entry))) (f .component))) (now (w .entry)) (now (w .exit)) (now (out .entry)) (now (out .exit)) r ⌝ }
+fn ordered(w: &mut [u64], t: &[u8], q: Question, f: CommandFields, out: &mut [u8]) -> Answer
+    requires { ⌜ (length (now w) ≡ siteWords) × ((length (now t) ≡ tableBytes) × (q .link < 4)) ⌝ }
+    ensures { λ r. ⌜ TakesIn (tableOf (now (t .entry))) q (orderedOf (siteOf (now (w .entry)) (tableOf (now (t .entry)))) q f (componentSought (tableOf (now (t .entry))) (f .component))) (now (w .entry)) (now (w .exit)) (now (out .entry)) (now (out .exit)) r ⌝ }
 {
     let named = f.component;
     let component = packet_lookup::component(t, named);
     if keeps_ranges(t, f, component) {
         if passes(t, f, component) {
-            return reply(w, t, l, time, id, received, component, f, out);
+            return reply(w, t, q, component, f, out);
         }
-        return packet_answer::not_ack(w, time, received, reasons::UNKNOWN_COMMAND, out);
+        return packet_answer::not_ack(w, q, reasons::UNKNOWN_COMMAND, out);
     }
-    packet_answer::not_ack(w, time, received, reasons::BAD_VALUE, out)
+    packet_answer::not_ack(w, q, reasons::BAD_VALUE, out)
 }
 
 // A CommandRequest.
 pub fn command(
     w: &mut [u64],
     t: &[u8],
-    l: u16,
-    time: u64,
-    id: Identity,
-    received: Received,
+    q: Question,
     packet: &[u8],
     places: &[usize],
     out: &mut [u8],
 ) -> Answer
-    requires { ⌜ (length (now w) ≡ siteWords) × ((length (now t) ≡ tableBytes) × ((l < 4) × Indexed (now packet) (now places))) ⌝ }
-    ensures { λ r. ⌜ TakesIn (tableOf (now (t .entry))) l time id (commandTaken (siteOf (now (w .entry)) (tableOf (now (t .entry)))) l time id (received .bytes) (commandAt (now (packet .entry)))) (now (w .entry)) (now (w .exit)) (now (out .entry)) (now (out .exit)) r ⌝ }
+    requires { ⌜ (length (now w) ≡ siteWords) × ((length (now t) ≡ tableBytes) × ((q .link < 4) × Indexed (now packet) (now places))) ⌝ }
+    ensures { λ r. ⌜ TakesIn (tableOf (now (t .entry))) q (commandTaken (siteOf (now (w .entry)) (tableOf (now (t .entry)))) q (commandAt (now (packet .entry)))) (now (w .entry)) (now (w .exit)) (now (out .entry)) (now (out .exit)) r ⌝ }
 {
     let f = read_commands::read_command(packet, places);
     let v = f.verdict;
     match v {
-        Verdict::Good => ordered(w, t, l, time, id, received, f, out),
-        Verdict::Missing => packet_answer::not_ack(
-            w,
-            time,
-            received,
-            reasons::MISSING_ELEMENT,
-            out,
-        ),
-        Verdict::Bad => packet_answer::not_ack(w, time, received, reasons::BAD_VALUE, out),
+        Verdict::Good => ordered(w, t, q, f, out),
+        Verdict::Missing => packet_answer::not_ack(w, q, reasons::MISSING_ELEMENT, out),
+        Verdict::Bad => packet_answer::not_ack(w, q, reasons::BAD_VALUE, out),
     }
 }
 

@@ -15,6 +15,7 @@ use Rattle.table_whole.specs.declared.SiteTable.{SiteTable}
 use Rattle.site.specs.Call.{never}
 use Rattle.store_site.specs.Layout.{siteOf}
 use Rattle.store_call.specs.Called.{GivesIn}
+use Rattle.packet_answer.specs.declared.Question.{Question}
 use Rattle.packet_answer.specs.Taken.{byVerdict}
 use Rattle.packet_greet.specs.Watchdog.{hintFrom, beat, watchdogTaken}
 
@@ -24,9 +25,9 @@ hints role f e h = rw (e, le-leb 3 (f .decimals) h) refl
 pub withholds : (role : Role) (f : GotTime) → role ≡ Primary → f .decimals < 3 → hintFrom role f ≡ none
 withholds role f e h = rw (e, lt-leb 3 (f .decimals) h) refl
 
-pub beats : (t : SiteTable) (l time : ℕ) (received : List ℕ) (f : GotTime) {ws vs xs ys : List ℕ} {r : Answer}
+pub beats : (t : SiteTable) (q : Question) (f : GotTime) {ws vs xs ys : List ℕ} {r : Answer}
     → f .verdict ≡ Good
-    → GivesIn t time never (beat (siteOf ws t) l received f .plan) ws vs xs ys r
-    → GivesIn t time never (watchdogTaken (siteOf ws t) l received f .plan) ws vs xs ys r
-beats t l time received f {ws} {vs} {xs} {ys} {r} e h =
-    subst (λ (v : Verdict). GivesIn t time never (byVerdict v (siteOf ws t) received (beat (siteOf ws t) l received f) .plan) ws vs xs ys r) (sym e) h
+    → GivesIn t (q .time) never (beat (siteOf ws t) q f .plan) ws vs xs ys r
+    → GivesIn t (q .time) never (watchdogTaken (siteOf ws t) q f .plan) ws vs xs ys r
+beats t q f {ws} {vs} {xs} {ys} {r} e h =
+    subst (λ (v : Verdict). GivesIn t (q .time) never (byVerdict v (siteOf ws t) q (beat (siteOf ws t) q f) .plan) ws vs xs ys r) (sym e) h

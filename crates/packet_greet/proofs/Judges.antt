@@ -14,6 +14,7 @@ use Rattle.read_versions.specs.Judge.{judge}
 use Rattle.site.specs.Call.{never}
 use Rattle.store_site.specs.Layout.{siteOf}
 use Rattle.store_call.specs.Called.{GivesIn}
+use Rattle.packet_answer.specs.declared.Question.{Question}
 use Rattle.packet_answer.specs.Taken.{byVerdict}
 use Rattle.packet_greet.specs.Version.{ownOffer, own, versionJudged, versionTaken}
 
@@ -21,16 +22,16 @@ own-table : (ws : List ℕ) (t : SiteTable) → own (siteOf ws t) ≡ ownOffer t
 unfolding siteOf
 own-table ws t = refl
 
-module _ (t : SiteTable) (l time : ℕ) (received : List ℕ) (f : VersionFields) {ws vs xs ys : List ℕ} {r : Answer} where
+module _ (t : SiteTable) (q : Question) (f : VersionFields) {ws vs xs ys : List ℕ} {r : Answer} where
   pub judges : {o : Offer} {j : Judged}
       → f .verdict ≡ Good
       → o ≡ ownOffer t
       → j ≡ judge o (f .offer)
-      → GivesIn t time never (versionJudged (siteOf ws t) l received j .plan) ws vs xs ys r
-      → GivesIn t time never (versionTaken (siteOf ws t) l received f .plan) ws vs xs ys r
-  judges e q h g =
+      → GivesIn t (q .time) never (versionJudged (siteOf ws t) q j .plan) ws vs xs ys r
+      → GivesIn t (q .time) never (versionTaken (siteOf ws t) q f .plan) ws vs xs ys r
+  judges e y h g =
       subst
-      (λ (v : Verdict). GivesIn t time never (byVerdict v (siteOf ws t) received (versionJudged (siteOf ws t) l received (judge (own (siteOf ws t)) (f .offer))) .plan) ws vs xs ys r)
+      (λ (v : Verdict). GivesIn t (q .time) never (byVerdict v (siteOf ws t) q (versionJudged (siteOf ws t) q (judge (own (siteOf ws t)) (f .offer))) .plan) ws vs xs ys r)
       (sym e)
-      (subst (λ (x : Judged). GivesIn t time never (versionJudged (siteOf ws t) l received x .plan) ws vs xs ys r)
-      (h ∙ ap (λ (x : Offer). judge x (f .offer)) (q ∙ sym (own-table ws t))) g)
+      (subst (λ (x : Judged). GivesIn t (q .time) never (versionJudged (siteOf ws t) q x .plan) ws vs xs ys r)
+      (h ∙ ap (λ (x : Offer). judge x (f .offer)) (y ∙ sym (own-table ws t))) g)

@@ -31,6 +31,7 @@ use Rattle.table_whole.specs.declared.SiteTable.{SiteTable}
 use Rattle.write_message.specs.Listing.{offered}
 use Rattle.site.specs.declared.Site.{Site}
 use Rattle.site.specs.Site.{linkAt, roleOf, closeAt, maskOf}
+use Rattle.packet_answer.specs.declared.Question.{Question}
 use Rattle.packet_answer.specs.Taken.{Taken, byVerdict}
 use Rattle.packet_greet.specs.Answered.{answeredPlan}
 use Rattle.packet_greet.specs.Version.{ownOffer, own, versionJudged, versionTaken}
@@ -54,19 +55,19 @@ missed : (s : Site) (l q : ℕ) → numbered (s .pool) l q ≡ Nowhere → settl
 unfolding settleOf withOf
 missed s l q e = rw e refl
 
-judges : (s : Site) (l : ℕ) (received : List ℕ) (j : Judged)
+judges : (s : Site) (q : Question) (j : Judged)
     → ((v : ℕ) → j ≡ Chosen v → ⊥)
-    → (versionJudged s l received j .plan .site ≡ closeAt s l) × (versionJudged s l received j .plan .closed ≡ maskOf l)
-judges s l received (Chosen v) h = absurd (h v refl)
-judges s l received RsmpVersion h = (refl, refl)
-judges s l received SiteId h = (refl, refl)
-judges s l received SxlVersion h = (refl, refl)
+    → (versionJudged s q j .plan .site ≡ closeAt s (q .link)) × (versionJudged s q j .plan .closed ≡ maskOf (q .link))
+judges s q (Chosen v) h = absurd (h v refl)
+judges s q RsmpVersion h = (refl, refl)
+judges s q SiteId h = (refl, refl)
+judges s q SxlVersion h = (refl, refl)
 
-failed : (s : Site) (l : ℕ) (received : List ℕ) (f : VersionFields)
+failed : (s : Site) (q : Question) (f : VersionFields)
     → f .verdict ≡ Good
     → ((v : ℕ) → judge (own s) (f .offer) ≡ Chosen v → ⊥)
-    → (versionTaken s l received f .plan .site ≡ closeAt s l) × (versionTaken s l received f .plan .closed ≡ maskOf l)
-failed s l received f e h = rw e (judges s l received (judge (own s) (f .offer)) h)
+    → (versionTaken s q f .plan .site ≡ closeAt s (q .link)) × (versionTaken s q f .plan .closed ≡ maskOf (q .link))
+failed s q f e h = rw e (judges s q (judge (own s) (f .offer)) h)
 
 older : versionOf (text "3.1.5") ≡ Is (version 3 1 5)
 unfolding versionOf twoParts onePart before behind numberIn digits digitsBelow
@@ -80,42 +81,42 @@ offers : (table : SiteTable) → map versionOf offered ≡ map Is (versionsIn (o
 unfolding versionOf twoParts onePart before behind numberIn digits digitsBelow
 offers table = refl
 
-hints : (s : Site) (l : ℕ) (received : List ℕ) (f : GotTime)
-    → roleOf s l ≡ Primary
+hints : (s : Site) (q : Question) (f : GotTime)
+    → roleOf s (q .link) ≡ Primary
     → f .verdict ≡ Good
     → 3 ≤ f .decimals
-    → watchdogTaken s l received f .plan .hint ≡ clock (f .time)
-hints s l received f e h d = rw (h, e, le-leb 3 (f .decimals) d) refl
+    → watchdogTaken s q f .plan .hint ≡ clock (f .time)
+hints s q f e h d = rw (h, e, le-leb 3 (f .decimals) d) refl
 
-fewer : (s : Site) (l : ℕ) (received : List ℕ) (f : GotTime) (v : Verdict) (q : Role)
+fewer : (s : Site) (q : Question) (f : GotTime) (v : Verdict) (y : Role)
     → f .verdict ≡ v
-    → roleOf s l ≡ q
+    → roleOf s (q .link) ≡ y
     → f .decimals < 3
-    → watchdogTaken s l received f .plan .hint ≡ none
-fewer s l received f Good Primary h e d = rw (h, e, lt-leb 3 (f .decimals) d) refl
-fewer s l received f Good Secondary h e d = rw (h, e) refl
-fewer s l received f Missing q h e d = rw h refl
-fewer s l received f Bad q h e d = rw h refl
+    → watchdogTaken s q f .plan .hint ≡ none
+fewer s q f Good Primary h e d = rw (h, e, lt-leb 3 (f .decimals) d) refl
+fewer s q f Good Secondary h e d = rw (h, e) refl
+fewer s q f Missing y h e d = rw h refl
+fewer s q f Bad y h e d = rw h refl
 
-unhinted : (s : Site) (l : ℕ) (received : List ℕ) (f : GotTime) (v : Verdict)
+unhinted : (s : Site) (q : Question) (f : GotTime) (v : Verdict)
     → f .verdict ≡ v
-    → roleOf s l ≡ Secondary
-    → watchdogTaken s l received f .plan .hint ≡ none
-unhinted s l received f Good h e = rw (h, e) refl
-unhinted s l received f Missing h e = rw h refl
-unhinted s l received f Bad h e = rw h refl
+    → roleOf s (q .link) ≡ Secondary
+    → watchdogTaken s q f .plan .hint ≡ none
+unhinted s q f Good h e = rw (h, e) refl
+unhinted s q f Missing h e = rw h refl
+unhinted s q f Bad h e = rw h refl
 
 -- nothing of what the verdict leaves replies where its last case does not
-silent : (v : Verdict) (s : Site) (received : List ℕ) (t : Taken) → t .replies ≡ false → byVerdict v s received t .replies ≡ false
-silent Good s received t e = e
-silent Missing s received t e = refl
-silent Bad s received t e = refl
+silent : (v : Verdict) (s : Site) (q : Question) (t : Taken) → t .replies ≡ false → byVerdict v s q t .replies ≡ false
+silent Good s q t e = e
+silent Missing s q t e = refl
+silent Bad s q t e = refl
 
-judged-silent : (s : Site) (l : ℕ) (received : List ℕ) (j : Judged) → versionJudged s l received j .replies ≡ false
-judged-silent s l received (Chosen v) = refl
-judged-silent s l received RsmpVersion = refl
-judged-silent s l received SiteId = refl
-judged-silent s l received SxlVersion = refl
+judged-silent : (s : Site) (q : Question) (j : Judged) → versionJudged s q j .replies ≡ false
+judged-silent s q (Chosen v) = refl
+judged-silent s q RsmpVersion = refl
+judged-silent s q SiteId = refl
+judged-silent s q SxlVersion = refl
 
 pub kept : Claims
 kept =
@@ -127,8 +128,8 @@ kept =
       older = older;
       newer = newer;
       hints = hints;
-      fewer = λ s l received f d. fewer s l received f (f .verdict) (roleOf s l) refl refl d;
-      no-hint = λ s l received f e. unhinted s l received f (f .verdict) refl e;
-      version-only-answered = λ s l received f. silent (f .verdict) s received _ (judged-silent s l received (judge (own s) (f .offer)));
-      watchdog-only-answered = λ s l received f. silent (f .verdict) s received _ refl;
+      fewer = λ s q f d. fewer s q f (f .verdict) (roleOf s (q .link)) refl refl d;
+      no-hint = λ s q f e. unhinted s q f (f .verdict) refl e;
+      version-only-answered = λ s q f. silent (f .verdict) s q _ (judged-silent s q (judge (own s) (f .offer)));
+      watchdog-only-answered = λ s q f. silent (f .verdict) s q _ refl;
     }

@@ -3,7 +3,7 @@
 use Prim.Native.Nat.{ℕ, _≤_, _<_}
 use mathlib.Core.Path.{_≡_}
 use mathlib.Core.Bool.{Bool, false}
-use mathlib.Core.List.{List, map}
+use mathlib.Core.List.{map}
 use Rattle.basis.specs.Text.{text}
 use Rattle.number.specs.declared.Number.the-variants.{Is}
 use Rattle.answer.specs.Given.Hint.{none, clock}
@@ -24,6 +24,7 @@ use Rattle.table_whole.specs.declared.SiteTable.{SiteTable}
 use Rattle.write_message.specs.Listing.{offered}
 use Rattle.site.specs.declared.Site.{Site}
 use Rattle.site.specs.Site.{linkAt, roleOf, closeAt, maskOf}
+use Rattle.packet_answer.specs.declared.Question.{Question}
 use Rattle.packet_greet.specs.Answered.{answeredPlan}
 use Rattle.packet_greet.specs.Version.{ownOffer, own, versionTaken}
 use Rattle.packet_greet.specs.Watchdog.{watchdogTaken}
@@ -39,22 +40,22 @@ pub record Claims : Type 0 where
       → numbered (s .pool) l q ≡ Nowhere
       → answeredPlan s l id acknowledged .site .pool ≡ s .pool
   -- a Version that fails a check closes the link
-  pub failed : (s : Site) (l : ℕ) (received : List ℕ) (f : VersionFields)
+  pub failed : (s : Site) (q : Question) (f : VersionFields)
       → f .verdict ≡ Good
       → ((v : ℕ) → judge (own s) (f .offer) ≡ Chosen v → ⊥)
-      → (versionTaken s l received f .plan .site ≡ closeAt s l) × (versionTaken s l received f .plan .closed ≡ maskOf l)
+      → (versionTaken s q f .plan .site ≡ closeAt s (q .link)) × (versionTaken s q f .plan .closed ≡ maskOf (q .link))
   -- the versions that are judged are those that our Version writes, one for one
   pub offers : (table : SiteTable) → map versionOf offered ≡ map Is (versionsIn (ownOffer table))
   pub older : versionOf (text "3.1.5") ≡ Is (version 3 1 5)
   pub newer : versionOf (text "3.2") ≡ Is (version 3 2 0)
   -- only the primary's Watchdog gives a hint, and only with three or more decimals; its time is the hint
-  pub hints : (s : Site) (l : ℕ) (received : List ℕ) (f : GotTime)
-      → roleOf s l ≡ Primary
+  pub hints : (s : Site) (q : Question) (f : GotTime)
+      → roleOf s (q .link) ≡ Primary
       → f .verdict ≡ Good
       → 3 ≤ f .decimals
-      → watchdogTaken s l received f .plan .hint ≡ clock (f .time)
-  pub fewer : (s : Site) (l : ℕ) (received : List ℕ) (f : GotTime) → f .decimals < 3 → watchdogTaken s l received f .plan .hint ≡ none
-  pub no-hint : (s : Site) (l : ℕ) (received : List ℕ) (f : GotTime) → roleOf s l ≡ Secondary → watchdogTaken s l received f .plan .hint ≡ none
+      → watchdogTaken s q f .plan .hint ≡ clock (f .time)
+  pub fewer : (s : Site) (q : Question) (f : GotTime) → f .decimals < 3 → watchdogTaken s q f .plan .hint ≡ none
+  pub no-hint : (s : Site) (q : Question) (f : GotTime) → roleOf s (q .link) ≡ Secondary → watchdogTaken s q f .plan .hint ≡ none
   -- neither sends a message of its own
-  pub version-only-answered : (s : Site) (l : ℕ) (received : List ℕ) (f : VersionFields) → versionTaken s l received f .replies ≡ false
-  pub watchdog-only-answered : (s : Site) (l : ℕ) (received : List ℕ) (f : GotTime) → watchdogTaken s l received f .replies ≡ false
+  pub version-only-answered : (s : Site) (q : Question) (f : VersionFields) → versionTaken s q f .replies ≡ false
+  pub watchdog-only-answered : (s : Site) (q : Question) (f : GotTime) → watchdogTaken s q f .replies ≡ false

@@ -1,7 +1,7 @@
 -- Their Version, judged.
 -- Assumes nothing.
 use Prim.Native.Nat.{ℕ, _/_, _%_}
-use mathlib.Core.List.{List, [], _∷_}
+use mathlib.Core.List.{[], _∷_}
 use lib.ListN.{replicate}
 use Rattle.answer.specs.Given.Hint.{none}
 use Rattle.label.specs.declared.Label.{Label}
@@ -18,6 +18,7 @@ use Rattle.read_versions.specs.Judge.{judge}
 use Rattle.read_lists.specs.declared.VersionFields.{VersionFields}
 use Rattle.site.specs.declared.Site.{Site}
 use Rattle.site.specs.Site.{linkAt, withLink}
+use Rattle.packet_answer.specs.declared.Question.{Question}
 use Rattle.packet_answer.specs.Taken.{Taken, closing, acked, byVerdict, rsmpVersion, siteId, sxlVersion}
 
 -- what our Version offers: 3.1.5 and 3.2, the table's site id and SXL version
@@ -38,11 +39,11 @@ abbrev pub accepted : Site → ℕ → ℕ → Site
 accepted s l v = withLink s l (versionAcceptedOf (linkAt s l) (v / 65536) (v / 256 % 256) (v % 256))
 
 -- the chosen version is accepted; "A failure of these three sends MessageNotAck and closes the link"
-abbrev pub versionJudged : Site → ℕ → List ℕ → Judged → Taken
-versionJudged s l received (Chosen v) = acked (accepted s l v) [] received none
-versionJudged s l received RsmpVersion = closing s l received rsmpVersion
-versionJudged s l received SiteId = closing s l received siteId
-versionJudged s l received SxlVersion = closing s l received sxlVersion
+abbrev pub versionJudged : Site → Question → Judged → Taken
+versionJudged s q (Chosen v) = acked (accepted s (q .link) v) [] q none
+versionJudged s q RsmpVersion = closing s q rsmpVersion
+versionJudged s q SiteId = closing s q siteId
+versionJudged s q SxlVersion = closing s q sxlVersion
 
-abbrev pub versionTaken : Site → ℕ → List ℕ → VersionFields → Taken
-versionTaken s l received f = byVerdict (f .verdict) s received (versionJudged s l received (judge (own s) (f .offer)))
+abbrev pub versionTaken : Site → Question → VersionFields → Taken
+versionTaken s q f = byVerdict (f .verdict) s q (versionJudged s q (judge (own s) (f .offer)))

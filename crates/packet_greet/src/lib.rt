@@ -22,8 +22,8 @@ use identity::Identity;
 use label::Label;
 use link::Role;
 use names::reasons;
+use packet_answer::Question;
 use read_head::GotTime;
-use read_head::Received;
 use read_head::Verdict;
 use read_lists::VersionFields;
 use read_versions::Judged;
@@ -116,81 +116,39 @@ fn accepted(w: &mut [u64], l: u16, v: u32)
     );
 }
 
-fn version_chosen(
-    w: &mut [u64],
-    l: u16,
-    time: u64,
-    received: Received,
-    v: u32,
-    out: &mut [u8],
-) -> Answer
-    requires { ⌜ (length (now w) ≡ siteWords) × (l < 4) ⌝ }
-    ensures { λ r. ⌜ ((t : SiteTable) → GivesIn t time never (versionJudged (siteOf (now (w .entry)) t) l (received .bytes) (Judged.Chosen v) .plan) (now (w .entry)) (now (w .exit)) (now (out .entry)) (now (out .exit)) r) ⌝ }
+fn version_chosen(w: &mut [u64], q: Question, v: u32, out: &mut [u8]) -> Answer
+    requires { ⌜ (length (now w) ≡ siteWords) × (q .link < 4) ⌝ }
+    ensures { λ r. ⌜ ((t : SiteTable) → GivesIn t (q .time) never (versionJudged (siteOf (now (w .entry)) t) q (Judged.Chosen v) .plan) (now (w .entry)) (now (w .exit)) (now (out .entry)) (now (out .exit)) r) ⌝ }
 {
-    let end = packet_answer::ack(received, out);
-    accepted(w, l, v);
-    packet_answer::done(w, time, 0, 0, end, 0)
+    let end = packet_answer::ack(q, out);
+    accepted(w, q.link, v);
+    packet_answer::done(w, q.time, 0, 0, end, 0)
 }
 
-fn version_judged(
-    w: &mut [u64],
-    l: u16,
-    time: u64,
-    received: Received,
-    j: Judged,
-    out: &mut [u8],
-) -> Answer
-    requires { ⌜ (length (now w) ≡ siteWords) × (l < 4) ⌝ }
-    ensures { λ r. ⌜ ((t : SiteTable) → GivesIn t time never (versionJudged (siteOf (now (w .entry)) t) l (received .bytes) j .plan) (now (w .entry)) (now (w .exit)) (now (out .entry)) (now (out .exit)) r) ⌝ }
+fn version_judged(w: &mut [u64], q: Question, j: Judged, out: &mut [u8]) -> Answer
+    requires { ⌜ (length (now w) ≡ siteWords) × (q .link < 4) ⌝ }
+    ensures { λ r. ⌜ ((t : SiteTable) → GivesIn t (q .time) never (versionJudged (siteOf (now (w .entry)) t) q j .plan) (now (w .entry)) (now (w .exit)) (now (out .entry)) (now (out .exit)) r) ⌝ }
 {
     match j {
-        Judged::Chosen(v) => version_chosen(w, l, time, received, v, out),
-        Judged::RsmpVersion => packet_answer::close(
-            w,
-            l,
-            time,
-            received,
-            reasons::RSMP_VERSION,
-            out,
-        ),
-        Judged::SiteId => packet_answer::close(w, l, time, received, reasons::SITE_ID, out),
-        Judged::SxlVersion => packet_answer::close(w, l, time, received, reasons::SXL_VERSION, out),
+        Judged::Chosen(v) => version_chosen(w, q, v, out),
+        Judged::RsmpVersion => packet_answer::close(w, q, reasons::RSMP_VERSION, out),
+        Judged::SiteId => packet_answer::close(w, q, reasons::SITE_ID, out),
+        Judged::SxlVersion => packet_answer::close(w, q, reasons::SXL_VERSION, out),
     }
 }
 
-fn version_by(
-    w: &mut [u64],
-    t: &[u8],
-    l: u16,
-    time: u64,
-    received: Received,
-    f: VersionFields,
-    out: &mut [u8],
-) -> Answer
-    requires { ⌜ (length (now w) ≡ siteWords) × (length (now t) ≡ tableBytes) × (l < 4) ⌝ }
-    ensures { λ r. ⌜ GivesIn (tableOf (now (t .entry))) time never (versionTaken (siteOf (now (w .entry)) (tableOf (now (t .entry)))) l (received .bytes) f .plan) (now (w .entry)) (now (w .exit)) (now (out .entry)) (now (out .exit)) r ⌝ }
+fn version_by(w: &mut [u64], t: &[u8], q: Question, f: VersionFields, out: &mut [u8]) -> Answer
+    requires { ⌜ (length (now w) ≡ siteWords) × (length (now t) ≡ tableBytes) × (q .link < 4) ⌝ }
+    ensures { λ r. ⌜ GivesIn (tableOf (now (t .entry))) (q .time) never (versionTaken (siteOf (now (w .entry)) (tableOf (now (t .entry)))) q f .plan) (now (w .entry)) (now (w .exit)) (now (out .entry)) (now (out .exit)) r ⌝ }
 {
     let v = f.verdict;
     match v {
         Verdict::Good => {
             let theirs = f.offer;
-            version_judged(
-                w,
-                l,
-                time,
-                received,
-                read_versions::judge(own(t), theirs),
-                out,
-            )
+            version_judged(w, q, read_versions::judge(own(t), theirs), out)
         }
-        Verdict::Missing => packet_answer::not_ack(
-            w,
-            time,
-            received,
-            reasons::MISSING_ELEMENT,
-            out,
-        ),
-        Verdict::Bad => packet_answer::not_ack(w, time, received, reasons::BAD_VALUE, out),
+        Verdict::Missing => packet_answer::not_ack(w, q, reasons::MISSING_ELEMENT, out),
+        Verdict::Bad => packet_answer::not_ack(w, q, reasons::BAD_VALUE, out),
     }
 }
 
@@ -198,25 +156,15 @@ fn version_by(
 pub fn version(
     w: &mut [u64],
     t: &[u8],
-    l: u16,
-    time: u64,
-    received: Received,
+    q: Question,
     packet: &[u8],
     places: &[usize],
     out: &mut [u8],
 ) -> Answer
-    requires { ⌜ (length (now w) ≡ siteWords) × (length (now t) ≡ tableBytes) × (l < 4) × Indexed (now packet) (now places) ⌝ }
-    ensures { λ r. ⌜ GivesIn (tableOf (now (t .entry))) time never (versionTaken (siteOf (now (w .entry)) (tableOf (now (t .entry)))) l (received .bytes) (versionAt (now (packet .entry))) .plan) (now (w .entry)) (now (w .exit)) (now (out .entry)) (now (out .exit)) r ⌝ }
+    requires { ⌜ (length (now w) ≡ siteWords) × (length (now t) ≡ tableBytes) × (q .link < 4) × Indexed (now packet) (now places) ⌝ }
+    ensures { λ r. ⌜ GivesIn (tableOf (now (t .entry))) (q .time) never (versionTaken (siteOf (now (w .entry)) (tableOf (now (t .entry)))) q (versionAt (now (packet .entry))) .plan) (now (w .entry)) (now (w .exit)) (now (out .entry)) (now (out .exit)) r ⌝ }
 {
-    version_by(
-        w,
-        t,
-        l,
-        time,
-        received,
-        read_lists::read_version(packet, places),
-        out,
-    )
+    version_by(w, t, q, read_lists::read_version(packet, places), out)
 }
 
 // Only the primary's watchdog time is a clock hint, and only with three or more decimals.
@@ -246,69 +194,40 @@ fn beaten(w: &mut [u64], l: u16)
     store_site::parts::put_link(w, l as usize, k.watchdog_taken());
 }
 
-fn beat(
-    w: &mut [u64],
-    l: u16,
-    time: u64,
-    received: Received,
-    theirs: GotTime,
-    out: &mut [u8],
-) -> Answer
-    requires { ⌜ (length (now w) ≡ siteWords) × (l < 4) ⌝ }
-    ensures { λ r. ⌜ ((t : SiteTable) → GivesIn t time never (beatOf (siteOf (now (w .entry)) t) l (received .bytes) theirs .plan) (now (w .entry)) (now (w .exit)) (now (out .entry)) (now (out .exit)) r) ⌝ }
+fn beat(w: &mut [u64], q: Question, theirs: GotTime, out: &mut [u8]) -> Answer
+    requires { ⌜ (length (now w) ≡ siteWords) × (q .link < 4) ⌝ }
+    ensures { λ r. ⌜ ((t : SiteTable) → GivesIn t (q .time) never (beatOf (siteOf (now (w .entry)) t) q theirs .plan) (now (w .entry)) (now (w .exit)) (now (out .entry)) (now (out .exit)) r) ⌝ }
 {
-    let role = store_site::head::role(w, l);
+    let role = store_site::head::role(w, q.link);
     let at = hint(role, theirs);
     let bit = hinted(role, theirs);
-    let end = packet_answer::ack(received, out);
-    beaten(w, l);
-    packet_answer::done(w, time, at, bit, end, 0)
+    let end = packet_answer::ack(q, out);
+    beaten(w, q.link);
+    packet_answer::done(w, q.time, at, bit, end, 0)
 }
 
-fn watchdog_by(
-    w: &mut [u64],
-    l: u16,
-    time: u64,
-    received: Received,
-    f: GotTime,
-    out: &mut [u8],
-) -> Answer
-    requires { ⌜ (length (now w) ≡ siteWords) × (l < 4) ⌝ }
-    ensures { λ r. ⌜ ((t : SiteTable) → GivesIn t time never (watchdogTaken (siteOf (now (w .entry)) t) l (received .bytes) f .plan) (now (w .entry)) (now (w .exit)) (now (out .entry)) (now (out .exit)) r) ⌝ }
+fn watchdog_by(w: &mut [u64], q: Question, f: GotTime, out: &mut [u8]) -> Answer
+    requires { ⌜ (length (now w) ≡ siteWords) × (q .link < 4) ⌝ }
+    ensures { λ r. ⌜ ((t : SiteTable) → GivesIn t (q .time) never (watchdogTaken (siteOf (now (w .entry)) t) q f .plan) (now (w .entry)) (now (w .exit)) (now (out .entry)) (now (out .exit)) r) ⌝ }
 {
     let v = f.verdict;
     match v {
-        Verdict::Good => beat(w, l, time, received, f, out),
-        Verdict::Missing => packet_answer::not_ack(
-            w,
-            time,
-            received,
-            reasons::MISSING_ELEMENT,
-            out,
-        ),
-        Verdict::Bad => packet_answer::not_ack(w, time, received, reasons::BAD_VALUE, out),
+        Verdict::Good => beat(w, q, f, out),
+        Verdict::Missing => packet_answer::not_ack(w, q, reasons::MISSING_ELEMENT, out),
+        Verdict::Bad => packet_answer::not_ack(w, q, reasons::BAD_VALUE, out),
     }
 }
 
 // Watchdog.
 pub fn watchdog(
     w: &mut [u64],
-    l: u16,
-    time: u64,
-    received: Received,
+    q: Question,
     packet: &[u8],
     places: &[usize],
     out: &mut [u8],
 ) -> Answer
-    requires { ⌜ (length (now w) ≡ siteWords) × (l < 4) × Indexed (now packet) (now places) ⌝ }
-    ensures { λ r. ⌜ ((t : SiteTable) → GivesIn t time never (watchdogTaken (siteOf (now (w .entry)) t) l (received .bytes) (watchdogAt (now (packet .entry))) .plan) (now (w .entry)) (now (w .exit)) (now (out .entry)) (now (out .exit)) r) ⌝ }
+    requires { ⌜ (length (now w) ≡ siteWords) × (q .link < 4) × Indexed (now packet) (now places) ⌝ }
+    ensures { λ r. ⌜ ((t : SiteTable) → GivesIn t (q .time) never (watchdogTaken (siteOf (now (w .entry)) t) q (watchdogAt (now (packet .entry))) .plan) (now (w .entry)) (now (w .exit)) (now (out .entry)) (now (out .exit)) r) ⌝ }
 {
-    watchdog_by(
-        w,
-        l,
-        time,
-        received,
-        read_head::read_watchdog(packet, places),
-        out,
-    )
+    watchdog_by(w, q, read_head::read_watchdog(packet, places), out)
 }

@@ -5,7 +5,6 @@ use mathlib.Core.Path.{_≡_, sym, ap, _∙_}
 use mathlib.Core.Bool.{Bool, true, false}
 use mathlib.Core.List.{List}
 use Rattle.answer.specs.declared.Answer.{Answer}
-use Rattle.identity.specs.declared.Identity.{Identity}
 use Rattle.table_whole.specs.declared.SiteTable.{SiteTable}
 use Rattle.read_lists.specs.declared.StatusEntry.{StatusEntry}
 use Rattle.read_lists.specs.declared.StatusFields.{StatusFields}
@@ -18,6 +17,7 @@ use Rattle.site.specs.Call.{never}
 use Rattle.store_site.specs.Layout.{siteOf}
 use Rattle.store_site.proofs.SiteLaws.{table-of}
 use Rattle.store_call.specs.Called.{GivesIn}
+use Rattle.packet_answer.specs.declared.Question.{Question}
 use Rattle.packet_answer.specs.Taken.{notAcked, byVerdict, unknownStatus}
 use Rattle.packet_answer.specs.Takes.{TakesIn}
 use Rattle.packet_answer.proofs.Choices.{not-acked, picked-first, picked-second, due, like}
@@ -44,29 +44,29 @@ known-passes t component f s g h e =
     ∙ ap (λ (u : SiteTable). allStatuses u component (f .entries) (f .count)) (sym e)
     ∙ ap (λ (x : Sought). passes s f x) (sym g)
 
-module _ (t : SiteTable) (ws : List ℕ) (l time : ℕ) (id : Identity) (received : List ℕ) (f : StatusFields) {vs xs ys : List ℕ} {r : Answer} where
+module _ (t : SiteTable) (ws : List ℕ) (q : Question) (f : StatusFields) {vs xs ys : List ℕ} {r : Answer} where
   pub status-judged : {g : StatusFields}
       → g ≡ f
-      → TakesIn t l time id (byVerdict (g .verdict) (siteOf ws t) received (requestedOf (siteOf ws t) l time id received g (componentSought t (g .component)))) ws vs xs ys r
-      → TakesIn t l time id (statusTaken (siteOf ws t) l time id received f) ws vs xs ys r
+      → TakesIn t q (byVerdict (g .verdict) (siteOf ws t) q (requestedOf (siteOf ws t) q g (componentSought t (g .component)))) ws vs xs ys r
+      → TakesIn t q (statusTaken (siteOf ws t) q f) ws vs xs ys r
   unfolding statusTaken
   status-judged {g} e x =
-      like t ws l time id received (λ (y : StatusFields). statusTaken (siteOf ws t) l time id received y) (sym e)
-      (like t ws l time id received (λ (u : SiteTable). byVerdict (g .verdict) (siteOf ws t) received (requestedOf (siteOf ws t) l time id received g (componentSought u (g .component)))) (table-of ws t) x)
+      like t ws q (λ (y : StatusFields). statusTaken (siteOf ws t) q y) (sym e)
+      (like t ws q (λ (u : SiteTable). byVerdict (g .verdict) (siteOf ws t) q (requestedOf (siteOf ws t) q g (componentSought u (g .component)))) (table-of ws t) x)
 
   -- by whether all entries pass
   module _ {k : Sought} (h : k ≡ componentSought t (f .component)) where
     pub all-pass : passes (siteOf ws t) f k ≡ true
-        → TakesIn t l time id (due t ws l time id received (response (siteOf ws t) time (id .bytes) k f)) ws vs xs ys r
-        → TakesIn t l time id (requestedOf (siteOf ws t) l time id received f (componentSought t (f .component))) ws vs xs ys r
+        → TakesIn t q (due t ws q (response (siteOf ws t) (q .time) (q .identity .bytes) k f)) ws vs xs ys r
+        → TakesIn t q (requestedOf (siteOf ws t) q f (componentSought t (f .component))) ws vs xs ys r
     all-pass e g =
-        like t ws l time id received (λ (x : Sought). requestedOf (siteOf ws t) l time id received f x) (sym h)
-        (picked-first t ws l time id received (passes (siteOf ws t) f k) (due t ws l time id received (response (siteOf ws t) time (id .bytes) k f)) (notAcked (siteOf ws t) received unknownStatus) e g)
+        like t ws q (λ (x : Sought). requestedOf (siteOf ws t) q f x) (sym h)
+        (picked-first t ws q (passes (siteOf ws t) f k) (due t ws q (response (siteOf ws t) (q .time) (q .identity .bytes) k f)) (notAcked (siteOf ws t) q unknownStatus) e g)
 
     pub one-fails : passes (siteOf ws t) f k ≡ false
-        → GivesIn t time never (notAcked (siteOf ws t) received unknownStatus .plan) ws vs xs ys r
-        → TakesIn t l time id (requestedOf (siteOf ws t) l time id received f (componentSought t (f .component))) ws vs xs ys r
+        → GivesIn t (q .time) never (notAcked (siteOf ws t) q unknownStatus .plan) ws vs xs ys r
+        → TakesIn t q (requestedOf (siteOf ws t) q f (componentSought t (f .component))) ws vs xs ys r
     one-fails e g =
-        like t ws l time id received (λ (x : Sought). requestedOf (siteOf ws t) l time id received f x) (sym h)
-        (picked-second t ws l time id received (passes (siteOf ws t) f k) (due t ws l time id received (response (siteOf ws t) time (id .bytes) k f)) (notAcked (siteOf ws t) received unknownStatus) e
-        (not-acked t ws l time id received unknownStatus g))
+        like t ws q (λ (x : Sought). requestedOf (siteOf ws t) q f x) (sym h)
+        (picked-second t ws q (passes (siteOf ws t) f k) (due t ws q (response (siteOf ws t) (q .time) (q .identity .bytes) k f)) (notAcked (siteOf ws t) q unknownStatus) e
+        (not-acked t ws q unknownStatus g))

@@ -4,7 +4,6 @@ use Prim.Native.Nat.{ℕ, zero, suc}
 use mathlib.Core.Bool.{Bool, true}
 use mathlib.Core.List.{List, [], _∷_, _++_}
 use Rattle.basis.specs.Pick.{pick}
-use Rattle.identity.specs.declared.Identity.{Identity}
 use Rattle.label.specs.Label.{textOf}
 use Rattle.write_message.specs.declared.Value.{Value}
 use Rattle.write_message.specs.declared.Value.the-variants.{Undefined}
@@ -19,6 +18,7 @@ use Rattle.packet_lookup.specs.Sought.{componentSought, statusSought, entryAt, 
 use Rattle.send_message.specs.Sending.{statusValue}
 use Rattle.site.specs.declared.Site.{Site}
 use Rattle.site.specs.Parts.{statusAt}
+use Rattle.packet_answer.specs.declared.Question.{Question}
 use Rattle.packet_answer.specs.Taken.{Taken, notAcked, replied, byVerdict, unlessBusy, unknownStatus}
 
 -- "A status without a value so far: `s` null, `q` unknown. Otherwise `s` is the shortest decimal text, `q` recent"
@@ -48,12 +48,12 @@ abbrev pub passes : Site → StatusFields → Sought → Bool
 passes s f (Is component) = allStatuses (s .table) component (f .entries) (f .count)
 passes s f Nothing = true
 
--- of one packet: on link l, at this time, its reply under this identity; `received` are the characters of its mId
-module _ (s : Site) (l time : ℕ) (id : Identity) (received : List ℕ) where
+-- of one packet
+module _ (s : Site) (q : Question) where
   abbrev pub requestedOf : StatusFields → Sought → Taken
   requestedOf f component =
-      pick (passes s f component) (unlessBusy s l received (replied s l time id received (response s time (id .bytes) component f)))
-      (notAcked s received unknownStatus)
+      pick (passes s f component) (unlessBusy s q (replied s q (response s (q .time) (q .identity .bytes) component f)))
+      (notAcked s q unknownStatus)
 
   unfoldable pub statusTaken : StatusFields → Taken
-  statusTaken f = byVerdict (f .verdict) s received (requestedOf f (componentSought (s .table) (f .component)))
+  statusTaken f = byVerdict (f .verdict) s q (requestedOf f (componentSought (s .table) (f .component)))

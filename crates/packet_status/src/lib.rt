@@ -21,8 +21,8 @@ use answer::Answer;
 use answer::Refusal;
 use identity::Identity;
 use names::reasons;
+use packet_answer::Question;
 use packet_lookup::Sought;
-use read_head::Received;
 use read_head::Verdict;
 use read_lists::StatusEntry;
 use read_lists::StatusFields;
@@ -117,21 +117,20 @@ fn write_response(
 fn answer_and_response(
     w: &[u64],
     t: &[u8],
-    id: Identity,
-    time: u64,
-    received: Received,
+    q: Question,
     component: Sought,
     f: StatusFields,
     out: &mut [u8],
 ) -> usize
     requires { ⌜ (length (now w) ≡ siteWords) × (length (now t) ≡ tableBytes) ⌝ }
-    ensures { λ r. ⌜ Wrote (now (out .entry)) 0 (pieces (ack (received .bytes)) ++ pieces (response (siteOf (now (w .entry)) (tableOf (now (t .entry)))) time (id .bytes) component f)) (now (out .exit)) r ⌝ }
+    ensures { λ r. ⌜ Wrote (now (out .entry)) 0 (pieces (ack (q .received .bytes)) ++ pieces (response (siteOf (now (w .entry)) (tableOf (now (t .entry)))) (q .time) (q .identity .bytes) component f)) (now (out .exit)) r ⌝ }
 {
-    let end = packet_answer::ack(received, out);
+    let id = q.identity;
+    let end = packet_answer::ack(q, out);
     if out.len() < end {
         return end;
     }
-    let more = write_response(&mut out[end..], w, t, id, time, component, f);
+    let more = write_response(&mut out[end..], w, t, id, q.time, component, f);
     end + more
 }
 
@@ -151,74 +150,54 @@ fn passes(t: &[u8], f: StatusFields, component: Sought) -> bool
 fn reply(
     w: &mut [u64],
     t: &[u8],
-    l: u16,
-    time: u64,
-    id: Identity,
-    received: Received,
+    q: Question,
     component: Sought,
     f: StatusFields,
     out: &mut [u8],
 ) -> Answer
-    requires { ⌜ (length (now w) ≡ siteWords) × ((length (now t) ≡ tableBytes) × (l < 4)) ⌝ }
-    ensures { λ r. ⌜ TakesIn (tableOf (now (t .entry))) l time id (unlessBusy (siteOf (now (w .entry)) (tableOf (now (t .entry)))) l (received .bytes) (replied (siteOf (now (w .entry)) (tableOf (now (t .entry)))) l time id (received .bytes) (response (siteOf (now (w .entry)) (tableOf (now (t .entry)))) time (id .bytes) component f))) (now (w .entry)) (now (w .exit)) (now (out .entry)) (now (out .exit)) r ⌝ }
+    requires { ⌜ (length (now w) ≡ siteWords) × ((length (now t) ≡ tableBytes) × (q .link < 4)) ⌝ }
+    ensures { λ r. ⌜ TakesIn (tableOf (now (t .entry))) q (unlessBusy (siteOf (now (w .entry)) (tableOf (now (t .entry)))) q (replied (siteOf (now (w .entry)) (tableOf (now (t .entry)))) q (response (siteOf (now (w .entry)) (tableOf (now (t .entry)))) (q .time) (q .identity .bytes) component f))) (now (w .entry)) (now (w .exit)) (now (out .entry)) (now (out .exit)) r ⌝ }
 {
-    if packet_answer::is_busy(w, l) {
-        return packet_answer::not_ack(w, time, received, reasons::BUSY, out);
+    let id = q.identity;
+    if packet_answer::is_busy(w, q.link) {
+        return packet_answer::not_ack(w, q, reasons::BUSY, out);
     }
-    if packet_answer::is_awaited(w, l, id) {
+    if packet_answer::is_awaited(w, q.link, id) {
         return Answer::Refused(Refusal::IdentityAwaited);
     }
-    let end = answer_and_response(w, t, id, time, received, component, f, out);
-    packet_answer::reply_done(w, l, time, id, end)
+    let end = answer_and_response(w, t, q, component, f, out);
+    packet_answer::reply_done(w, q, end)
 }
 
-fn requested(
-    w: &mut [u64],
-    t: &[u8],
-    l: u16,
-    time: u64,
-    id: Identity,
-    received: Received,
-    f: StatusFields,
-    out: &mut [u8],
-) -> Answer
-    requires { ⌜ (length (now w) ≡ siteWords) × ((length (now t) ≡ tableBytes) × (l < 4)) ⌝ }
-    ensures { λ r. ⌜ TakesIn (tableOf (now (t .entry))) l time id (requestedOf (siteOf (now (w .entry)) (tableOf (now (t .entry)))) l time id (received .bytes) f (componentSought (tableOf (now (t .entry))) (f .component))) (now (w .entry)) (now (w .exit)) (now (out .entry)) (now (out .exit)) r ⌝ }
+fn requested(w: &mut [u64], t: &[u8], q: Question, f: StatusFields, out: &mut [u8]) -> Answer
+    requires { ⌜ (length (now w) ≡ siteWords) × ((length (now t) ≡ tableBytes) × (q .link < 4)) ⌝ }
+    ensures { λ r. ⌜ TakesIn (tableOf (now (t .entry))) q (requestedOf (siteOf (now (w .entry)) (tableOf (now (t .entry)))) q f (componentSought (tableOf (now (t .entry))) (f .component))) (now (w .entry)) (now (w .exit)) (now (out .entry)) (now (out .exit)) r ⌝ }
 {
     let named = f.component;
     let component = packet_lookup::component(t, named);
     if passes(t, f, component) {
-        return reply(w, t, l, time, id, received, component, f, out);
+        return reply(w, t, q, component, f, out);
     }
-    packet_answer::not_ack(w, time, received, reasons::UNKNOWN_STATUS, out)
+    packet_answer::not_ack(w, q, reasons::UNKNOWN_STATUS, out)
 }
 
 // A StatusRequest.
 pub fn status_request(
     w: &mut [u64],
     t: &[u8],
-    l: u16,
-    time: u64,
-    id: Identity,
-    received: Received,
+    q: Question,
     packet: &[u8],
     places: &[usize],
     out: &mut [u8],
 ) -> Answer
-    requires { ⌜ (length (now w) ≡ siteWords) × ((length (now t) ≡ tableBytes) × ((l < 4) × Indexed (now packet) (now places))) ⌝ }
-    ensures { λ r. ⌜ TakesIn (tableOf (now (t .entry))) l time id (statusTaken (siteOf (now (w .entry)) (tableOf (now (t .entry)))) l time id (received .bytes) (statusAt false (now (packet .entry)))) (now (w .entry)) (now (w .exit)) (now (out .entry)) (now (out .exit)) r ⌝ }
+    requires { ⌜ (length (now w) ≡ siteWords) × ((length (now t) ≡ tableBytes) × ((q .link < 4) × Indexed (now packet) (now places))) ⌝ }
+    ensures { λ r. ⌜ TakesIn (tableOf (now (t .entry))) q (statusTaken (siteOf (now (w .entry)) (tableOf (now (t .entry)))) q (statusAt false (now (packet .entry)))) (now (w .entry)) (now (w .exit)) (now (out .entry)) (now (out .exit)) r ⌝ }
 {
     let f = read_lists::read_status(packet, places, false);
     let v = f.verdict;
     match v {
-        Verdict::Good => requested(w, t, l, time, id, received, f, out),
-        Verdict::Missing => packet_answer::not_ack(
-            w,
-            time,
-            received,
-            reasons::MISSING_ELEMENT,
-            out,
-        ),
-        Verdict::Bad => packet_answer::not_ack(w, time, received, reasons::BAD_VALUE, out),
+        Verdict::Good => requested(w, t, q, f, out),
+        Verdict::Missing => packet_answer::not_ack(w, q, reasons::MISSING_ELEMENT, out),
+        Verdict::Bad => packet_answer::not_ack(w, q, reasons::BAD_VALUE, out),
     }
 }

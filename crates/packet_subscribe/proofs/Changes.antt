@@ -31,6 +31,7 @@ use Rattle.store_site.specs.Turns.{Turns}
 use Rattle.store_call.specs.Called.{GivesIn}
 use Rattle.store_call.specs.Issued.{batchIn, issuedIn}
 use Rattle.store_call.proofs.IssuedLaws.{issued-none, issued-end}
+use Rattle.packet_answer.specs.declared.Question.{Question}
 use Rattle.packet_answer.specs.Taken.{Taken, notAcked, byVerdict, unknownStatus}
 use Rattle.packet_answer.specs.Ending.{report}
 use Rattle.packet_answer.proofs.Ends.{acks, refuses-spent}
@@ -96,83 +97,83 @@ module _ (t : SiteTable) (l time c : ℕ) (es : List StatusEntry) (n : ℕ) {ws 
   turned-off subscribing e a =
       record { site = rw e (rw e at (a .site) ∙ sym (issued-none (replaced false (siteOf ws t) l time c es n))); plain = a .plain }
 
-module _ (subscribing : Bool) (s : Site) (l time : ℕ) (received : List ℕ) (f : StatusFields) (c : ℕ) where
-  judged-all : allStatuses (s .table) c (f .entries) (f .count) ≡ true → judged subscribing s l time received f c ≡ changed subscribing s l time received f c
+module _ (subscribing : Bool) (s : Site) (q : Question) (f : StatusFields) (c : ℕ) where
+  judged-all : allStatuses (s .table) c (f .entries) (f .count) ≡ true → judged subscribing s q f c ≡ changed subscribing s q f c
   unfolding judged
   judged-all e = rw e refl
 
-  judged-not : allStatuses (s .table) c (f .entries) (f .count) ≡ false → judged subscribing s l time received f c ≡ notAcked s received unknownStatus
+  judged-not : allStatuses (s .table) c (f .entries) (f .count) ≡ false → judged subscribing s q f c ≡ notAcked s q unknownStatus
   unfolding judged
   judged-not e = rw e refl
 
-module _ (subscribing : Bool) (t : SiteTable) (l time : ℕ) (received : List ℕ) (f : StatusFields) (c : ℕ) (ws : List ℕ) where
+module _ (subscribing : Bool) (t : SiteTable) (q : Question) (f : StatusFields) (c : ℕ) (ws : List ℕ) where
   abbrev issued : List Entry
-  issued = pick subscribing (records (siteOf ws t) l time c (f .entries) (f .count)) []
+  issued = pick subscribing (records (siteOf ws t) (q .link) (q .time) c (f .entries) (f .count)) []
 
   -- where every entry is a status there is a record for each
   numbers : (b : Bool) → allStatuses t c (f .entries) (f .count) ≡ true
-      → length (pick b (records (siteOf ws t) l time c (f .entries) (f .count)) []) ≡ pick b (f .count) 0
-  numbers true a = kept .one-each (siteOf ws t) l time c (f .entries) (f .count) (rw (table-is ws t) a)
+      → length (pick b (records (siteOf ws t) (q .link) (q .time) c (f .entries) (f .count)) []) ≡ pick b (f .count) 0
+  numbers true a = kept .one-each (siteOf ws t) (q .link) (q .time) c (f .entries) (f .count) (rw (table-is ws t) a)
   numbers false a = refl
 
   -- number 10 is judged by how many records there are
   module _ {n : ℕ} {b : Bool} (a : allStatuses t c (f .entries) (f .count) ≡ true) (e : n ≡ pick subscribing (f .count) 0)
       (h : (u : SiteTable) (es : List Entry) → length es ≡ n → b ≡ batchIn (siteOf ws u) es .spent) where
-    spent-is : {d : Bool} → b ≡ d → batchIn (replaced subscribing (siteOf ws t) l time c (f .entries) (f .count)) issued .spent ≡ d
-    spent-is g = spent-after subscribing (siteOf ws t) l time c (f .entries) (f .count) issued ∙ sym (h t issued (numbers subscribing a ∙ sym e)) ∙ g
+    spent-is : {d : Bool} → b ≡ d → batchIn (replaced subscribing (siteOf ws t) (q .link) (q .time) c (f .entries) (f .count)) issued .spent ≡ d
+    spent-is g = spent-after subscribing (siteOf ws t) (q .link) (q .time) c (f .entries) (f .count) issued ∙ sym (h t issued (numbers subscribing a ∙ sym e)) ∙ g
 
     pub change-refused : {xs : List ℕ} → b ≡ true
-        → GivesIn t time never (changed subscribing (siteOf ws t) l time received f c .plan) ws ws xs xs (Refused SequenceSpent)
+        → GivesIn t (q .time) never (changed subscribing (siteOf ws t) q f c .plan) ws ws xs xs (Refused SequenceSpent)
     unfolding changed
-    change-refused g = refuses-spent t time received (replaced subscribing (siteOf ws t) l time c (f .entries) (f .count)) issued none (spent-is g) refl
+    change-refused g = refuses-spent t q (replaced subscribing (siteOf ws t) (q .link) (q .time) c (f .entries) (f .count)) issued none (spent-is g) refl
 
     pub change-done : {us vs xs ys : List ℕ} {end : ℕ} {r : Answer}
         → b ≡ false
-        → Wrote xs 0 (pieces (ack received)) ys end
-        → TurnsIn t (λ (s : Site). issuedIn (replaced subscribing s l time c (f .entries) (f .count)) (pick subscribing (records s l time c (f .entries) (f .count)) [])) ws us
+        → Wrote xs 0 (pieces (ack (q .received .bytes))) ys end
+        → TurnsIn t (λ (s : Site). issuedIn (replaced subscribing s (q .link) (q .time) c (f .entries) (f .count)) (pick subscribing (records s (q .link) (q .time) c (f .entries) (f .count)) [])) ws us
         → r ≡ Done (report 0 0 end 0)
-        → Turns (λ (s : Site). withLast s time) us vs
-        → GivesIn t time never (changed subscribing (siteOf ws t) l time received f c .plan) ws vs xs ys r
+        → Turns (λ (s : Site). withLast s (q .time)) us vs
+        → GivesIn t (q .time) never (changed subscribing (siteOf ws t) q f c .plan) ws vs xs ys r
     unfolding changed
-    change-done g w p q m =
-        let after = replaced subscribing (siteOf ws t) l time c (f .entries) (f .count) in
-        acks t time received after issued none (spent-is g) w q
-        (m .site t ∙ ap (λ (s : Site). withLast s time) (p .site) ∙ issued-end after issued time) (λ x. m .plain (p .plain x))
+    change-done g w p y m =
+        let after = replaced subscribing (siteOf ws t) (q .link) (q .time) c (f .entries) (f .count) in
+        acks t q after issued none (spent-is g) w y
+        (m .site t ∙ ap (λ (s : Site). withLast s (q .time)) (p .site) ∙ issued-end after issued (q .time)) (λ x. m .plain (p .plain x))
 
   pub passes : {vs xs ys : List ℕ} {r : Answer}
       → allStatuses t c (f .entries) (f .count) ≡ true
-      → GivesIn t time never (changed subscribing (siteOf ws t) l time received f c .plan) ws vs xs ys r
-      → GivesIn t time never (judged subscribing (siteOf ws t) l time received f c .plan) ws vs xs ys r
+      → GivesIn t (q .time) never (changed subscribing (siteOf ws t) q f c .plan) ws vs xs ys r
+      → GivesIn t (q .time) never (judged subscribing (siteOf ws t) q f c .plan) ws vs xs ys r
   passes {vs} {xs} {ys} {r} e g =
-      subst (λ (x : Taken). GivesIn t time never (x .plan) ws vs xs ys r)
-      (sym (judged-all subscribing (siteOf ws t) l time received f c (rw (table-is ws t) e))) g
+      subst (λ (x : Taken). GivesIn t (q .time) never (x .plan) ws vs xs ys r)
+      (sym (judged-all subscribing (siteOf ws t) q f c (rw (table-is ws t) e))) g
 
   pub fails : {vs xs ys : List ℕ} {r : Answer}
       → allStatuses t c (f .entries) (f .count) ≡ false
-      → GivesIn t time never (notAcked (siteOf ws t) received unknownStatus .plan) ws vs xs ys r
-      → GivesIn t time never (judged subscribing (siteOf ws t) l time received f c .plan) ws vs xs ys r
+      → GivesIn t (q .time) never (notAcked (siteOf ws t) q unknownStatus .plan) ws vs xs ys r
+      → GivesIn t (q .time) never (judged subscribing (siteOf ws t) q f c .plan) ws vs xs ys r
   fails {vs} {xs} {ys} {r} e g =
-      subst (λ (x : Taken). GivesIn t time never (x .plan) ws vs xs ys r)
-      (sym (judged-not subscribing (siteOf ws t) l time received f c (rw (table-is ws t) e))) g
+      subst (λ (x : Taken). GivesIn t (q .time) never (x .plan) ws vs xs ys r)
+      (sym (judged-not subscribing (siteOf ws t) q f c (rw (table-is ws t) e))) g
 
-module _ (subscribing : Bool) (t : SiteTable) (l time : ℕ) (received : List ℕ) (f : StatusFields) (ws : List ℕ) where
+module _ (subscribing : Bool) (t : SiteTable) (q : Question) (f : StatusFields) (ws : List ℕ) where
   pub asks : {b d : Sought} {vs xs ys : List ℕ} {r : Answer}
       → b ≡ d
-      → GivesIn t time never (asked subscribing (siteOf ws t) l time received f b .plan) ws vs xs ys r
-      → GivesIn t time never (asked subscribing (siteOf ws t) l time received f d .plan) ws vs xs ys r
+      → GivesIn t (q .time) never (asked subscribing (siteOf ws t) q f b .plan) ws vs xs ys r
+      → GivesIn t (q .time) never (asked subscribing (siteOf ws t) q f d .plan) ws vs xs ys r
   asks e g = rw (← e) g
 
   good : {v : Verdict} (x : Taken) {vs xs ys : List ℕ} {r : Answer}
       → v ≡ Good
-      → GivesIn t time never (x .plan) ws vs xs ys r
-      → GivesIn t time never (byVerdict v (siteOf ws t) received x .plan) ws vs xs ys r
+      → GivesIn t (q .time) never (x .plan) ws vs xs ys r
+      → GivesIn t (q .time) never (byVerdict v (siteOf ws t) q x .plan) ws vs xs ys r
   good x e g = rw e g
 
   pub takes : {vs xs ys : List ℕ} {r : Answer}
       → f .verdict ≡ Good
-      → GivesIn t time never (asked subscribing (siteOf ws t) l time received f (componentSought t (f .component)) .plan) ws vs xs ys r
-      → GivesIn t time never (subscribingTaken subscribing (siteOf ws t) l time received f .plan) ws vs xs ys r
+      → GivesIn t (q .time) never (asked subscribing (siteOf ws t) q f (componentSought t (f .component)) .plan) ws vs xs ys r
+      → GivesIn t (q .time) never (subscribingTaken subscribing (siteOf ws t) q f .plan) ws vs xs ys r
   unfolding subscribingTaken
   takes e g =
-      good (asked subscribing (siteOf ws t) l time received f (componentSought (siteOf ws t .table) (f .component))) e
+      good (asked subscribing (siteOf ws t) q f (componentSought (siteOf ws t .table) (f .component))) e
       (asks (ap (λ (u : SiteTable). componentSought u (f .component)) (sym (table-is ws t))) g)

@@ -19,6 +19,7 @@ use Rattle.packet_lookup.specs.declared.Sought.{Sought}
 use Rattle.packet_lookup.specs.declared.Sought.the-variants.{Is, Nothing}
 use Rattle.packet_lookup.specs.Sought.{componentSought, statusSought, entryAt, isSought, allStatuses}
 use Rattle.site.specs.declared.Site.{Site}
+use Rattle.packet_answer.specs.declared.Question.{Question}
 use Rattle.packet_answer.specs.Taken.{Taken, byVerdict}
 use Rattle.packet_subscribe.specs.Subscribing.{recordOf, records, changed, judged, asked, subscribingTaken}
 use Rattle.packet_subscribe.specs.Claims.{Claims}
@@ -49,51 +50,51 @@ owned s l time c es (suc n) h =
     owned-append (records s l time c es n) _ (owned s l time c es n h) (owned-one s l time (statusSought (s .table) c (entryAt es n)) h)
 
 -- what holds of an answer with a reason and of what the packet asks for holds of what it comes to
-ends-judged : (s : Site) (l time : ℕ) (received : List ℕ) (f : StatusFields) (c : ℕ) (b : Bool)
+ends-judged : (s : Site) (q : Question) (f : StatusFields) (c : ℕ) (b : Bool)
     → allStatuses (s .table) c (f .entries) (f .count) ≡ b
-    → judged false s l time received f c .plan .issued ≡ []
+    → judged false s q f c .plan .issued ≡ []
 unfolding judged changed
-ends-judged s l time received f c true e = rw e refl
-ends-judged s l time received f c false e = rw e refl
+ends-judged s q f c true e = rw e refl
+ends-judged s q f c false e = rw e refl
 
-ends-asked : (s : Site) (l time : ℕ) (received : List ℕ) (f : StatusFields) (x : Sought) → asked false s l time received f x .plan .issued ≡ []
-ends-asked s l time received f (Is c) = ends-judged s l time received f c _ refl
-ends-asked s l time received f Nothing = refl
+ends-asked : (s : Site) (q : Question) (f : StatusFields) (x : Sought) → asked false s q f x .plan .issued ≡ []
+ends-asked s q f (Is c) = ends-judged s q f c _ refl
+ends-asked s q f Nothing = refl
 
-ends-by : (v : Verdict) (s : Site) (received : List ℕ) (t : Taken) → t .plan .issued ≡ [] → byVerdict v s received t .plan .issued ≡ []
-ends-by Good s received t e = e
-ends-by Missing s received t e = refl
-ends-by Bad s received t e = refl
+ends-by : (v : Verdict) (s : Site) (q : Question) (t : Taken) → t .plan .issued ≡ [] → byVerdict v s q t .plan .issued ≡ []
+ends-by Good s q t e = e
+ends-by Missing s q t e = refl
+ends-by Bad s q t e = refl
 
-ends : (s : Site) (l time : ℕ) (received : List ℕ) (f : StatusFields) → subscribingTaken false s l time received f .plan .issued ≡ []
+ends : (s : Site) (q : Question) (f : StatusFields) → subscribingTaken false s q f .plan .issued ≡ []
 unfolding subscribingTaken
-ends s l time received f =
-    ends-by (f .verdict) s received (asked false s l time received f (componentSought (s .table) (f .component)))
-    (ends-asked s l time received f (componentSought (s .table) (f .component)))
+ends s q f =
+    ends-by (f .verdict) s q (asked false s q f (componentSought (s .table) (f .component)))
+    (ends-asked s q f (componentSought (s .table) (f .component)))
 
-silent-judged : (subscribing : Bool) (s : Site) (l time : ℕ) (received : List ℕ) (f : StatusFields) (c : ℕ) (b : Bool)
+silent-judged : (subscribing : Bool) (s : Site) (q : Question) (f : StatusFields) (c : ℕ) (b : Bool)
     → allStatuses (s .table) c (f .entries) (f .count) ≡ b
-    → judged subscribing s l time received f c .replies ≡ false
+    → judged subscribing s q f c .replies ≡ false
 unfolding judged changed
-silent-judged subscribing s l time received f c true e = rw e refl
-silent-judged subscribing s l time received f c false e = rw e refl
+silent-judged subscribing s q f c true e = rw e refl
+silent-judged subscribing s q f c false e = rw e refl
 
-silent-asked : (subscribing : Bool) (s : Site) (l time : ℕ) (received : List ℕ) (f : StatusFields) (x : Sought)
-    → asked subscribing s l time received f x .replies ≡ false
-silent-asked subscribing s l time received f (Is c) = silent-judged subscribing s l time received f c _ refl
-silent-asked subscribing s l time received f Nothing = refl
+silent-asked : (subscribing : Bool) (s : Site) (q : Question) (f : StatusFields) (x : Sought)
+    → asked subscribing s q f x .replies ≡ false
+silent-asked subscribing s q f (Is c) = silent-judged subscribing s q f c _ refl
+silent-asked subscribing s q f Nothing = refl
 
-silent-by : (v : Verdict) (s : Site) (received : List ℕ) (t : Taken) → t .replies ≡ false → byVerdict v s received t .replies ≡ false
-silent-by Good s received t e = e
-silent-by Missing s received t e = refl
-silent-by Bad s received t e = refl
+silent-by : (v : Verdict) (s : Site) (q : Question) (t : Taken) → t .replies ≡ false → byVerdict v s q t .replies ≡ false
+silent-by Good s q t e = e
+silent-by Missing s q t e = refl
+silent-by Bad s q t e = refl
 
-only-answered : (subscribing : Bool) (s : Site) (l time : ℕ) (received : List ℕ) (f : StatusFields)
-    → subscribingTaken subscribing s l time received f .replies ≡ false
+only-answered : (subscribing : Bool) (s : Site) (q : Question) (f : StatusFields)
+    → subscribingTaken subscribing s q f .replies ≡ false
 unfolding subscribingTaken
-only-answered subscribing s l time received f =
-    silent-by (f .verdict) s received (asked subscribing s l time received f (componentSought (s .table) (f .component)))
-    (silent-asked subscribing s l time received f (componentSought (s .table) (f .component)))
+only-answered subscribing s q f =
+    silent-by (f .verdict) s q (asked subscribing s q f (componentSought (s .table) (f .component)))
+    (silent-asked subscribing s q f (componentSought (s .table) (f .component)))
 
 pub kept : Claims
 kept = record { one-each = one-each; owned = owned; ends = ends; only-answered = only-answered }

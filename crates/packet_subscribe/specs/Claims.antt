@@ -10,6 +10,7 @@ use Rattle.read_lists.specs.declared.StatusEntry.{StatusEntry}
 use Rattle.read_lists.specs.declared.StatusFields.{StatusFields}
 use Rattle.packet_lookup.specs.Sought.{allStatuses}
 use Rattle.site.specs.declared.Site.{Site}
+use Rattle.packet_answer.specs.declared.Question.{Question}
 use Rattle.packet_subscribe.specs.Subscribing.{records, subscribingTaken}
 
 pub record Claims : Type 0 where
@@ -18,7 +19,7 @@ pub record Claims : Type 0 where
   -- all of them are for a link of the site
   pub owned : (s : Site) (l time c : ℕ) (es : List StatusEntry) (n : ℕ) → l < 4 → Owned 4 (records s l time c es n)
   -- ending a subscription issues no record
-  pub ends : (s : Site) (l time : ℕ) (received : List ℕ) (f : StatusFields) → subscribingTaken false s l time received f .plan .issued ≡ []
+  pub ends : (s : Site) (q : Question) (f : StatusFields) → subscribingTaken false s q f .plan .issued ≡ []
   -- neither sends a message of its own
-  pub only-answered : (subscribing : Bool) (s : Site) (l time : ℕ) (received : List ℕ) (f : StatusFields)
-      → subscribingTaken subscribing s l time received f .replies ≡ false
+  pub only-answered : (subscribing : Bool) (s : Site) (q : Question) (f : StatusFields)
+      → subscribingTaken subscribing s q f .replies ≡ false

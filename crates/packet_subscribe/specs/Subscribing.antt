@@ -17,6 +17,7 @@ use Rattle.site.specs.declared.Site.{Site}
 use Rattle.site.specs.Site.{linkAt}
 use Rattle.site.specs.Parts.{statusAt, withSubscription}
 use Rattle.site.specs.Records.{statusRecord}
+use Rattle.packet_answer.specs.declared.Question.{Question}
 use Rattle.packet_answer.specs.Taken.{Taken, notAcked, acked, byVerdict, unknownStatus}
 
 -- what an entry asks for, or no subscription
@@ -45,20 +46,20 @@ records s l time c es zero = []
 records s l time c es (suc n) = records s l time c es n ++ recordOf s l time (statusSought (s .table) c (entryAt es n))
 
 -- every entry is done, and acknowledged
-unfoldable pub changed : Bool → Site → ℕ → ℕ → List ℕ → StatusFields → ℕ → Taken
-changed subscribing s l time received f c =
-    acked (replaced subscribing s l time c (f .entries) (f .count)) (pick subscribing (records s l time c (f .entries) (f .count)) []) received noHint
+unfoldable pub changed : Bool → Site → Question → StatusFields → ℕ → Taken
+changed subscribing s q f c =
+    acked (replaced subscribing s (q .link) (q .time) c (f .entries) (f .count)) (pick subscribing (records s (q .link) (q .time) c (f .entries) (f .count)) []) q noHint
 
 -- all entries pass or none is done
-unfoldable pub judged : Bool → Site → ℕ → ℕ → List ℕ → StatusFields → ℕ → Taken
-judged subscribing s l time received f c =
-    pick (allStatuses (s .table) c (f .entries) (f .count)) (changed subscribing s l time received f c) (notAcked s received unknownStatus)
+unfoldable pub judged : Bool → Site → Question → StatusFields → ℕ → Taken
+judged subscribing s q f c =
+    pick (allStatuses (s .table) c (f .entries) (f .count)) (changed subscribing s q f c) (notAcked s q unknownStatus)
 
 -- "in the other status types it is "Unknown status"": a component that is not known
-abbrev pub asked : Bool → Site → ℕ → ℕ → List ℕ → StatusFields → Sought → Taken
-asked subscribing s l time received f (Is c) = judged subscribing s l time received f c
-asked subscribing s l time received f Nothing = notAcked s received unknownStatus
+abbrev pub asked : Bool → Site → Question → StatusFields → Sought → Taken
+asked subscribing s q f (Is c) = judged subscribing s q f c
+asked subscribing s q f Nothing = notAcked s q unknownStatus
 
-unfoldable pub subscribingTaken : Bool → Site → ℕ → ℕ → List ℕ → StatusFields → Taken
-subscribingTaken subscribing s l time received f =
-    byVerdict (f .verdict) s received (asked subscribing s l time received f (componentSought (s .table) (f .component)))
+unfoldable pub subscribingTaken : Bool → Site → Question → StatusFields → Taken
+subscribingTaken subscribing s q f =
+    byVerdict (f .verdict) s q (asked subscribing s q f (componentSought (s .table) (f .component)))

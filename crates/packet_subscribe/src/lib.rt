@@ -20,8 +20,8 @@ ghost use Rattle.packet_subscribe.specs.InPlace.{TurnsIn};
 use answer::Answer;
 use answer::Refusal;
 use names::reasons;
+use packet_answer::Question;
 use packet_lookup::Sought;
-use read_head::Received;
 use read_head::Verdict;
 use read_lists::StatusEntry;
 use read_lists::StatusFields;
@@ -158,64 +158,67 @@ fn change(
     w: &mut [u64],
     t: &[u8],
     subscribing: bool,
-    l: u16,
-    time: u64,
+    q: Question,
     component: u8,
     f: StatusFields,
-    received: Received,
     out: &mut [u8],
 ) -> Answer
     requires { ⌜ (length (now w) ≡ siteWords) × (length (now t) ≡ tableBytes) × (allStatuses (tableOf (now t)) component (f .entries) (f .count) ≡ true) ⌝ }
-    ensures { λ r. ⌜ GivesIn (tableOf (now (t .entry))) time never (changed subscribing (siteOf (now (w .entry)) (tableOf (now (t .entry)))) l time (received .bytes) f component .plan) (now (w .entry)) (now (w .exit)) (now (out .entry)) (now (out .exit)) r ⌝ }
+    ensures { λ r. ⌜ GivesIn (tableOf (now (t .entry))) (q .time) never (changed subscribing (siteOf (now (w .entry)) (tableOf (now (t .entry)))) q f component .plan) (now (w .entry)) (now (w .exit)) (now (out .entry)) (now (out .exit)) r ⌝ }
 {
     if store_call::spent(w, number(subscribing, f.count)) {
         return Answer::Refused(Refusal::SequenceSpent);
     }
-    let end = packet_answer::ack(received, out);
+    let end = packet_answer::ack(q, out);
     let entries = f.entries;
-    turn(w, t, subscribing, l, time, component, entries, f.count);
-    packet_answer::done(w, time, 0, 0, end, 0)
+    turn(
+        w,
+        t,
+        subscribing,
+        q.link,
+        q.time,
+        component,
+        entries,
+        f.count,
+    );
+    packet_answer::done(w, q.time, 0, 0, end, 0)
 }
 
 fn judge(
     w: &mut [u64],
     t: &[u8],
     subscribing: bool,
-    l: u16,
-    time: u64,
+    q: Question,
     component: u8,
     f: StatusFields,
-    received: Received,
     out: &mut [u8],
 ) -> Answer
     requires { ⌜ (length (now w) ≡ siteWords) × (length (now t) ≡ tableBytes) ⌝ }
-    ensures { λ r. ⌜ GivesIn (tableOf (now (t .entry))) time never (judged subscribing (siteOf (now (w .entry)) (tableOf (now (t .entry)))) l time (received .bytes) f component .plan) (now (w .entry)) (now (w .exit)) (now (out .entry)) (now (out .exit)) r ⌝ }
+    ensures { λ r. ⌜ GivesIn (tableOf (now (t .entry))) (q .time) never (judged subscribing (siteOf (now (w .entry)) (tableOf (now (t .entry)))) q f component .plan) (now (w .entry)) (now (w .exit)) (now (out .entry)) (now (out .exit)) r ⌝ }
 {
     let entries = f.entries;
     if packet_lookup::all_statuses(t, component, entries, f.count) {
-        return change(w, t, subscribing, l, time, component, f, received, out);
+        return change(w, t, subscribing, q, component, f, out);
     }
-    packet_answer::not_ack(w, time, received, reasons::UNKNOWN_STATUS, out)
+    packet_answer::not_ack(w, q, reasons::UNKNOWN_STATUS, out)
 }
 
 fn ask(
     w: &mut [u64],
     t: &[u8],
     subscribing: bool,
-    l: u16,
-    time: u64,
+    q: Question,
     f: StatusFields,
-    received: Received,
     out: &mut [u8],
 ) -> Answer
     requires { ⌜ (length (now w) ≡ siteWords) × (length (now t) ≡ tableBytes) ⌝ }
-    ensures { λ r. ⌜ GivesIn (tableOf (now (t .entry))) time never (asked subscribing (siteOf (now (w .entry)) (tableOf (now (t .entry)))) l time (received .bytes) f (componentSought (tableOf (now (t .entry))) (f .component)) .plan) (now (w .entry)) (now (w .exit)) (now (out .entry)) (now (out .exit)) r ⌝ }
+    ensures { λ r. ⌜ GivesIn (tableOf (now (t .entry))) (q .time) never (asked subscribing (siteOf (now (w .entry)) (tableOf (now (t .entry)))) q f (componentSought (tableOf (now (t .entry))) (f .component)) .plan) (now (w .entry)) (now (w .exit)) (now (out .entry)) (now (out .exit)) r ⌝ }
 {
     let id = f.component;
     let component = packet_lookup::component(t, id);
     match component {
-        Sought::Is(c) => judge(w, t, subscribing, l, time, c, f, received, out),
-        Sought::Nothing => packet_answer::not_ack(w, time, received, reasons::UNKNOWN_STATUS, out),
+        Sought::Is(c) => judge(w, t, subscribing, q, c, f, out),
+        Sought::Nothing => packet_answer::not_ack(w, q, reasons::UNKNOWN_STATUS, out),
     }
 }
 
@@ -223,26 +226,18 @@ fn take(
     w: &mut [u64],
     t: &[u8],
     subscribing: bool,
-    l: u16,
-    time: u64,
+    q: Question,
     f: StatusFields,
-    received: Received,
     out: &mut [u8],
 ) -> Answer
     requires { ⌜ (length (now w) ≡ siteWords) × (length (now t) ≡ tableBytes) ⌝ }
-    ensures { λ r. ⌜ GivesIn (tableOf (now (t .entry))) time never (subscribingTaken subscribing (siteOf (now (w .entry)) (tableOf (now (t .entry)))) l time (received .bytes) f .plan) (now (w .entry)) (now (w .exit)) (now (out .entry)) (now (out .exit)) r ⌝ }
+    ensures { λ r. ⌜ GivesIn (tableOf (now (t .entry))) (q .time) never (subscribingTaken subscribing (siteOf (now (w .entry)) (tableOf (now (t .entry)))) q f .plan) (now (w .entry)) (now (w .exit)) (now (out .entry)) (now (out .exit)) r ⌝ }
 {
     let v = f.verdict;
     match v {
-        Verdict::Good => ask(w, t, subscribing, l, time, f, received, out),
-        Verdict::Missing => packet_answer::not_ack(
-            w,
-            time,
-            received,
-            reasons::MISSING_ELEMENT,
-            out,
-        ),
-        Verdict::Bad => packet_answer::not_ack(w, time, received, reasons::BAD_VALUE, out),
+        Verdict::Good => ask(w, t, subscribing, q, f, out),
+        Verdict::Missing => packet_answer::not_ack(w, q, reasons::MISSING_ELEMENT, out),
+        Verdict::Bad => packet_answer::not_ack(w, q, reasons::BAD_VALUE, out),
     }
 }
 
@@ -250,34 +245,30 @@ fn take(
 pub fn subscribe(
     w: &mut [u64],
     t: &[u8],
-    l: u16,
-    time: u64,
-    received: Received,
+    q: Question,
     packet: &[u8],
     places: &[usize],
     out: &mut [u8],
 ) -> Answer
     requires { ⌜ (length (now w) ≡ siteWords) × (length (now t) ≡ tableBytes) × Indexed (now packet) (now places) ⌝ }
-    ensures { λ r. ⌜ GivesIn (tableOf (now (t .entry))) time never (subscribingTaken true (siteOf (now (w .entry)) (tableOf (now (t .entry)))) l time (received .bytes) (fieldsAt true (now (packet .entry))) .plan) (now (w .entry)) (now (w .exit)) (now (out .entry)) (now (out .exit)) r ⌝ }
+    ensures { λ r. ⌜ GivesIn (tableOf (now (t .entry))) (q .time) never (subscribingTaken true (siteOf (now (w .entry)) (tableOf (now (t .entry)))) q (fieldsAt true (now (packet .entry))) .plan) (now (w .entry)) (now (w .exit)) (now (out .entry)) (now (out .exit)) r ⌝ }
 {
     let f = read_lists::read_status(packet, places, true);
-    take(w, t, true, l, time, f, received, out)
+    take(w, t, true, q, f, out)
 }
 
 // StatusUnsubscribe.
 pub fn unsubscribe(
     w: &mut [u64],
     t: &[u8],
-    l: u16,
-    time: u64,
-    received: Received,
+    q: Question,
     packet: &[u8],
     places: &[usize],
     out: &mut [u8],
 ) -> Answer
     requires { ⌜ (length (now w) ≡ siteWords) × (length (now t) ≡ tableBytes) × Indexed (now packet) (now places) ⌝ }
-    ensures { λ r. ⌜ GivesIn (tableOf (now (t .entry))) time never (subscribingTaken false (siteOf (now (w .entry)) (tableOf (now (t .entry)))) l time (received .bytes) (fieldsAt false (now (packet .entry))) .plan) (now (w .entry)) (now (w .exit)) (now (out .entry)) (now (out .exit)) r ⌝ }
+    ensures { λ r. ⌜ GivesIn (tableOf (now (t .entry))) (q .time) never (subscribingTaken false (siteOf (now (w .entry)) (tableOf (now (t .entry)))) q (fieldsAt false (now (packet .entry))) .plan) (now (w .entry)) (now (w .exit)) (now (out .entry)) (now (out .exit)) r ⌝ }
 {
     let f = read_lists::read_status(packet, places, false);
-    take(w, t, false, l, time, f, received, out)
+    take(w, t, false, q, f, out)
 }

@@ -28,7 +28,7 @@ use Rattle.machine.specs.Effects.{carriedOut, replyMessage, replying}
 use Rattle.refine_parts.specs.Questions.{roleIn}
 use Rattle.refine_calls.specs.Abstracts.{Abstracts}
 use Rattle.refine_calls.specs.Calls.{SamePlan}
-use Rattle.refine_packet.specs.Taken.{SameTaken}
+use Rattle.refine_packet.specs.Taken.{SameTaken, questionOn}
 
 -- the link's role
 pub same-role : (s : Site) (m : Machine) → Abstracts s m → (l : ℕ) → l < m .setup .links → roleOf s l ≡ roleIn m l
@@ -52,11 +52,11 @@ module _ (s : Site) (m : Machine) (l t : ℕ) (id : Identity) (j : Json) where
   -- e is what it does besides
   pub only-acked : (after : Site) (es : List Entry) (hint : Hint) (e : Effect) → carriedOut l t j m ≡ e
       → wantsReply m l j ≡ false → wantsReply (e .leaves) l j ≡ false → after .next ≡ s .next
-      → SamePlan (acked after es (stringOf "mId" j) hint .plan) (handing (e .commands) (e .leaves) (e .issues) (ack (stringOf "mId" j) ∷ []) (e .closed) (e .hint))
-      → SameTaken s m l t id j (acked after es (stringOf "mId" j) hint) none
+      → SamePlan (acked after es (questionOn l t id j) hint .plan) (handing (e .commands) (e .leaves) (e .issues) (ack (stringOf "mId" j) ∷ []) (e .closed) (e .hint))
+      → SameTaken s m l t id j (acked after es (questionOn l t id j) hint) none
   only-acked after es hint e c w v n p =
       record {
         replies = sym w;
         next = n;
-        plan = λ u. subst (SamePlan (acked after es (stringOf "mId" j) hint .plan)) (sym (ap (replying l t (id .bytes) j) c ∙ unreplied m l t (id .bytes) j e v)) p;
+        plan = λ u. subst (SamePlan (acked after es (questionOn l t id j) hint .plan)) (sym (ap (replying l t (id .bytes) j) c ∙ unreplied m l t (id .bytes) j e v)) p;
       }

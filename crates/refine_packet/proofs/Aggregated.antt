@@ -36,7 +36,7 @@ use Rattle.refine_calls.specs.Abstracts.{Abstracts}
 use Rattle.refine_calls.proofs.Messages.{messages}
 use Rattle.refine_packet.specs.Lookups.{soughtFor}
 use Rattle.refine_packet.proofs.Lookups.{same-lookups}
-use Rattle.refine_packet.specs.Taken.{SameTaken}
+use Rattle.refine_packet.specs.Taken.{SameTaken, questionOn}
 use Rattle.refine_packet.proofs.Refused.{reasons, by-verdict}
 use Rattle.refine_packet.specs.Ordered.{IsUp, SameAggregated}
 use Rattle.refine_packet.proofs.Replied.{reply}
@@ -72,7 +72,7 @@ module _ (s : Site) (m : Machine) (h : Abstracts s m) (l : ℕ) (b : l < m .setu
 
   by-component : (z : Bool)
       → SameTaken s m l t id j
-      (pick z (unlessBusy s l (stringOf "mId" j) (replied s l t id (stringOf "mId" j) (aggregatedMessage s (id .bytes)))) (notAcked s (stringOf "mId" j) unknownComponent))
+      (pick z (unlessBusy s (questionOn l t id j) (replied s (questionOn l t id j) (aggregatedMessage s (id .bytes)))) (notAcked s (questionOn l t id j) unknownComponent))
       (pick z (busyIf m l true) (some "Unknown component"))
   by-component true =
       reply s m h l b up t id v j (aggregatedMessage s (id .bytes)) (done-so j ty l t m) (replies j ty m l)
@@ -80,23 +80,23 @@ module _ (s : Site) (m : Machine) (h : Abstracts s m) (l : ℕ) (b : l < m .setu
   by-component false = reasons s m h l b t id j .unknown-component
 
   good : f .verdict ≡ Good
-      → SameTaken s m l t id j (aggregatedOf s l t id (stringOf "mId" j) (componentSought (s .table) (f .label)))
+      → SameTaken s m l t id j (aggregatedOf s (questionOn l t id j) (componentSought (s .table) (f .label)))
       (pick (isNumber 0 (componentAsked m j)) (busyIf m l true) (some "Unknown component"))
   good g =
       subst (λ (z : Bool). SameTaken s m l t id j
-      (pick z (unlessBusy s l (stringOf "mId" j) (replied s l t id (stringOf "mId" j) (aggregatedMessage s (id .bytes)))) (notAcked s (stringOf "mId" j) unknownComponent))
+      (pick z (unlessBusy s (questionOn l t id j) (replied s (questionOn l t id j) (aggregatedMessage s (id .bytes)))) (notAcked s (questionOn l t id j) unknownComponent))
       (pick (isNumber 0 (componentAsked m j)) (busyIf m l true) (some "Unknown component")))
       (sym (ap isZero (sought g) ∙ zero-is (componentAsked m j)))
       (by-component (isNumber 0 (componentAsked m j)))
 
-  taken : SameTaken s m l t id j (aggregatedTaken s l t id (stringOf "mId" j) f) (reasonBy (verdictIn j) (furtherReason m l j))
+  taken : SameTaken s m l t id j (aggregatedTaken s (questionOn l t id j) f) (reasonBy (verdictIn j) (furtherReason m l j))
   unfolding aggregatedTaken
   taken =
-      subst (λ (x : Verdict). SameTaken s m l t id j (aggregatedTaken s l t id (stringOf "mId" j) f) (reasonBy x (furtherReason m l j)))
+      subst (λ (x : Verdict). SameTaken s m l t id j (aggregatedTaken s (questionOn l t id j) f) (reasonBy x (furtherReason m l j)))
       (Reads.kept .aggregated p j read .verdict (is-request j ty))
-      (subst (λ (r : Option String). SameTaken s m l t id j (aggregatedTaken s l t id (stringOf "mId" j) f) (reasonBy (f .verdict) r))
+      (subst (λ (r : Option String). SameTaken s m l t id j (aggregatedTaken s (questionOn l t id j) f) (reasonBy (f .verdict) r))
       (sym (Reads.kept .further m l j .aggregated (is-request j ty)))
-      (by-verdict s m h l b t id j (f .verdict) (aggregatedOf s l t id (stringOf "mId" j) (componentSought (s .table) (f .label)))
+      (by-verdict s m h l b t id j (f .verdict) (aggregatedOf s (questionOn l t id j) (componentSought (s .table) (f .label)))
       (pick (isNumber 0 (componentAsked m j)) (busyIf m l true) (some "Unknown component")) good))
 
 pub same-aggregated : SameAggregated

@@ -51,7 +51,7 @@ use Rattle.refine_calls.specs.Abstracts.{Abstracts}
 use Rattle.refine_calls.proofs.Messages.{messages}
 use Rattle.refine_packet.proofs.Lookups.{same-lookups}
 use Rattle.refine_packet.proofs.Plans.{left}
-use Rattle.refine_packet.specs.Taken.{SameTaken}
+use Rattle.refine_packet.specs.Taken.{SameTaken, questionOn}
 use Rattle.refine_packet.proofs.Refused.{reasons, by-verdict}
 use Rattle.refine_packet.proofs.Acked.{same-role, only-acked}
 use Rattle.refine_packet.specs.Ordered.{IsUp, SameAlarm}
@@ -115,7 +115,7 @@ module _ (s : Site) (m : Machine) (h : Abstracts s m) (l : ℕ) (b : l < m .setu
         replies-so j ty m l ∙ same-pick (both (elementIs "aSp" "Request" j) (isPrimary m l)) ∙ ap (λ (c : Bool). both c (isPrimary m l)) (request-so j ty o e)
 
     by-role : stringAt "aSp" j ≡ some (text "Request") → (c : Bool) → isPrimary m l ≡ c
-        → SameTaken s m l t id j (requestBy s l t id (stringOf "mId" j) k (pick c Primary Secondary)) (busyIf m l c)
+        → SameTaken s m l t id j (requestBy s (questionOn l t id j) k (pick c Primary Secondary)) (busyIf m l c)
     by-role e true q =
         reply s m h l b up t id v j (alarmMessage s (id .bytes) k) (happens-so Request e ∙ nothing-happens m k) (wants-so Request e ∙ q)
         (messages .messages s m (h .items) (id .bytes) .alarm k there
@@ -125,20 +125,20 @@ module _ (s : Site) (m : Machine) (h : Abstracts s m) (l : ℕ) (b : l < m .setu
         (left s m h _)
 
     by-order : (o : Order) → stringAt "aSp" j ≡ some (text (orderWord o))
-        → SameTaken s m l t id j (ordered s l t id (stringOf "mId" j) k o) (busyIf m l (both (isRequest o) (isPrimary m l)))
+        → SameTaken s m l t id j (ordered s (questionOn l t id j) k o) (busyIf m l (both (isRequest o) (isPrimary m l)))
     unfolding requestTaken
     by-order Request e =
-        subst (λ (r : Role). SameTaken s m l t id j (requestBy s l t id (stringOf "mId" j) k r) (busyIf m l (isPrimary m l))) (sym (same-role s m h l b))
+        subst (λ (r : Role). SameTaken s m l t id j (requestBy s (questionOn l t id j) k r) (busyIf m l (isPrimary m l))) (sym (same-role s m h l b))
         (by-role e (isPrimary m l) refl)
     by-order Acknowledge e =
         changed s m h l t id j k Acknowledging (acknowledgedAt t (alarmAt m k)) (happens-so Acknowledge e) (wants-so Acknowledge e)
-        (item-acts .acts s m (h .items) .orders k t (stringOf "mId" j) there .acknowledge)
+        (item-acts .acts s m (h .items) .orders k (questionOn l t id j) there .acknowledge)
     by-order Suspend e =
         changed s m h l t id j k Suspending (suspendedAt t (alarmAt m k)) (happens-so Suspend e) (wants-so Suspend e)
-        (item-acts .acts s m (h .items) .orders k t (stringOf "mId" j) there .suspend)
+        (item-acts .acts s m (h .items) .orders k (questionOn l t id j) there .suspend)
     by-order Resume e =
         changed s m h l t id j k Resuming (resumedAt t (alarmAt m k)) (happens-so Resume e) (wants-so Resume e)
-        (item-acts .acts s m (h .items) .orders k t (stringOf "mId" j) there .resume)
+        (item-acts .acts s m (h .items) .orders k (questionOn l t id j) there .resume)
 
   module _ (p : Bytes) (read : readPacket p ≡ some j) where
     abbrev f : AlarmFields
@@ -161,17 +161,17 @@ module _ (s : Site) (m : Machine) (h : Abstracts s m) (l : ℕ) (b : l < m .setu
         ∙ same-lookups (h .items .setup .edition) (m .setup .table) (h .items .setup .allowed) .alarm (stringOf "cId" j) (stringOf "aCId" j)
 
     by-alarm : f .verdict ≡ Good → (c : ℕ) → componentAsked m j ≡ some c → (o : Option ℕ) → alarmNumber (m .setup .table) c (stringOf "aCId" j) ≡ o
-        → SameTaken s m l t id j (orderedOf s l t id (stringOf "mId" j) (f .order) (maybe NoAlarm Found o)) (pick (isSome o) (busyIf m l asks) (some "Unknown alarm"))
+        → SameTaken s m l t id j (orderedOf s (questionOn l t id j) (f .order) (maybe NoAlarm Found o)) (pick (isSome o) (busyIf m l asks) (some "Unknown alarm"))
     by-alarm g c e none q = reasons s m h l b t id j .unknown-alarm
     by-alarm g c e (some k) q =
-        subst (λ (x : Bool). SameTaken s m l t id j (ordered s l t id (stringOf "mId" j) k (f .order)) (busyIf m l (both x (isPrimary m l))))
+        subst (λ (x : Bool). SameTaken s m l t id j (ordered s (questionOn l t id j) k (f .order)) (busyIf m l (both x (isPrimary m l))))
         (sym (request-so j ty (f .order) (Reads.kept .alarm p j read .order g)))
         (by-order k
         (omega (arith, same-lookups (h .items .setup .edition) (m .setup .table) (h .items .setup .allowed) .alarm-there c (stringOf "aCId" j) k q, h .items .alarm-count))
         (ap foundIn e ∙ q) (f .order) (Reads.kept .alarm p j read .order g))
 
     by-component : f .verdict ≡ Good → (o : Option ℕ) → componentAsked m j ≡ o
-        → SameTaken s m l t id j (orderedOf s l t id (stringOf "mId" j) (f .order) (soughtIn o))
+        → SameTaken s m l t id j (orderedOf s (questionOn l t id j) (f .order) (soughtIn o))
         (pick (isSome o) (pick (isSome (foundIn o)) (busyIf m l asks) (some "Unknown alarm")) (some "Unknown component"))
     by-component g none e = reasons s m h l b t id j .unknown-component
     by-component g (some c) e = by-alarm g c e (alarmNumber (m .setup .table) c (stringOf "aCId" j)) refl
@@ -179,20 +179,20 @@ module _ (s : Site) (m : Machine) (h : Abstracts s m) (l : ℕ) (b : l < m .setu
     abbrev reason : Option String
     reason = pick (isSome (componentAsked m j)) (pick (isSome (alarmAsked m j)) (busyIf m l asks) (some "Unknown alarm")) (some "Unknown component")
 
-    good : f .verdict ≡ Good → SameTaken s m l t id j (foundTaken s l t id (stringOf "mId" j) f) reason
+    good : f .verdict ≡ Good → SameTaken s m l t id j (foundTaken s (questionOn l t id j) f) reason
     unfolding foundTaken
     good g =
-        subst (λ (x : SoughtAlarm). SameTaken s m l t id j (orderedOf s l t id (stringOf "mId" j) (f .order) x) reason) (sym (sought g))
+        subst (λ (x : SoughtAlarm). SameTaken s m l t id j (orderedOf s (questionOn l t id j) (f .order) x) reason) (sym (sought g))
         (by-component g (componentAsked m j) refl)
 
-    taken : SameTaken s m l t id j (alarmTaken s l t id (stringOf "mId" j) f) (reasonBy (verdictIn j) (furtherReason m l j))
+    taken : SameTaken s m l t id j (alarmTaken s (questionOn l t id j) f) (reasonBy (verdictIn j) (furtherReason m l j))
     unfolding alarmTaken
     taken =
-        subst (λ (x : Verdict). SameTaken s m l t id j (alarmTaken s l t id (stringOf "mId" j) f) (reasonBy x (furtherReason m l j)))
+        subst (λ (x : Verdict). SameTaken s m l t id j (alarmTaken s (questionOn l t id j) f) (reasonBy x (furtherReason m l j)))
         (Reads.kept .alarm p j read .verdict (is-alarm j ty))
-        (subst (λ (r : Option String). SameTaken s m l t id j (alarmTaken s l t id (stringOf "mId" j) f) (reasonBy (f .verdict) r))
+        (subst (λ (r : Option String). SameTaken s m l t id j (alarmTaken s (questionOn l t id j) f) (reasonBy (f .verdict) r))
         (sym (Reads.kept .further m l j .alarm (is-alarm j ty)))
-        (by-verdict s m h l b t id j (f .verdict) (foundTaken s l t id (stringOf "mId" j) f) reason good))
+        (by-verdict s m h l b t id j (f .verdict) (foundTaken s (questionOn l t id j) f) reason good))
 
 pub same-alarm : SameAlarm
 same-alarm s m h l b up t id v p j read ty = taken s m h l b up t id v j ty p read

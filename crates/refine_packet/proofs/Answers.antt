@@ -26,7 +26,7 @@ use Rattle.site.specs.Site.{linkAt, withLink, closeAt, maskOf}
 use Rattle.site.specs.Call.{only}
 use Rattle.packet_answer.specs.Taken.{Taken}
 use Rattle.packet_greet.specs.Answered.{settled, answeredPlan}
-use Rattle.call_packet.specs.Packet.{classTaken, headTaken}
+use Rattle.call_packet.specs.Packet.{classTaken, questionOf, headTaken}
 use Rattle.machine.specs.Words.{Bytes, maybe, isSome}
 use Rattle.machine.specs.State.{Awaited, Machine, lifeAt}
 use Rattle.machine.specs.Json.{stringOf, elementIs, isType, isIdentity}
@@ -67,7 +67,7 @@ module _ (s : Site) (m : Machine) (h : Abstracts s m) (l : ℕ) (b : l < m .setu
   head-is : elementIs "mType" "rSMsg" j ≡ true → isIdentity (stringOf "oMId" j) ≡ true → headOf j ≡ answerHead
   head-is e f = ap (λ (c : Bool). pick c (answerOf j) (requestOf j)) is ∙ ap (λ (c : Bool). pick c answerHead ignored) (both-of e f)
 
-  class-is : (c : Bool) → classTaken s l t id to (replicate 36 0) p (pick c Acked NotAcked) ≡ record { plan = answeredPlan s l to c; replies = false }
+  class-is : (c : Bool) → classTaken s (questionOf l t id answerHead) to p (pick c Acked NotAcked) ≡ record { plan = answeredPlan s l to c; replies = false }
   class-is true = refl
   class-is false = refl
 

@@ -21,7 +21,7 @@ use Rattle.packet_answer.specs.Taken.{Taken, notAcked, unexpected, notReady}
 use Rattle.call_packet.specs.Packet.{expected, unready, kindTaken, expectedTaken, askedTaken}
 use Rattle.machine.specs.Words.{Bytes}
 use Rattle.machine.specs.State.{Machine, lifeAt}
-use Rattle.machine.specs.Json.{readPacket, stringAt, stringOf, isType}
+use Rattle.machine.specs.Json.{readPacket, stringAt, isType}
 use Rattle.machine.specs.Life.{isOver, isGreeting, isBeating}
 use Rattle.machine.specs.Answers.{isUnexpected}
 use Rattle.refine_read.specs.Verdicts.{verdictIn}
@@ -30,7 +30,7 @@ use Rattle.refine_read.specs.Reasons.{byVerdict, furtherReason, reasonBy}
 use Rattle.refine_read.proofs.Kept as Reads
 use Rattle.refine_parts.proofs.Questions.{questions}
 use Rattle.refine_calls.specs.Abstracts.{Abstracts}
-use Rattle.refine_packet.specs.Taken.{SameTaken}
+use Rattle.refine_packet.specs.Taken.{SameTaken, questionOn}
 use Rattle.refine_packet.proofs.Refused.{reasons, by-verdict}
 use Rattle.refine_packet.specs.Greeted.{Judges, Beats}
 use Rattle.refine_packet.proofs.Version.{same-version}
@@ -68,7 +68,7 @@ module _ (s : Site) (m : Machine) (h : Abstracts s m) (l : ℕ) (b : l < m .setu
 
   -- "Unexpected", "Not ready", then those of the type
   stage : (e u r n : Bool) {x : Taken} {o : Option String} → e ≡ not u → (u ≡ false → r ≡ n) → (u ≡ false → n ≡ false → SameTaken s m l t id j x o)
-      → SameTaken s m l t id j (pick e (pick r (notAcked s (stringOf "mId" j) notReady) x) (notAcked s (stringOf "mId" j) unexpected))
+      → SameTaken s m l t id j (pick e (pick r (notAcked s (questionOn l t id j) notReady) x) (notAcked s (questionOn l t id j) unexpected))
       (pick u (some "Unexpected") (pick n (some "Not ready") o))
   stage e true r n a c f = rw a (reasons s m h l b t id j .is-unexpected)
   stage e false r true a c f = rw (a, c refl) (reasons s m h l b t id j .not-ready)
@@ -82,12 +82,12 @@ module _ (s : Site) (m : Machine) (h : Abstracts s m) (l : ℕ) (b : l < m .setu
 
   abbrev Same : Kind → Type 0
   Same k =
-      SameTaken s m l t id j (expectedTaken s l t id (stringOf "mId" j) p k)
+      SameTaken s m l t id j (expectedTaken s (questionOn l t id j) p k)
       (pick (isUnexpected (lifeAt m l) j) (some "Unexpected") (pick (both (isBeating (lifeAt m l)) (not (isType "Watchdog" j))) (some "Not ready") behind))
 
   abbrev staged : (k : Kind) → expected (linkAt s l) k ≡ not (isUnexpected (lifeAt m l) j)
       → (isUnexpected (lifeAt m l) j ≡ false → unready (linkAt s l) k ≡ both (isBeating (lifeAt m l)) (not (isType "Watchdog" j)))
-      → (isUnexpected (lifeAt m l) j ≡ false → both (isBeating (lifeAt m l)) (not (isType "Watchdog" j)) ≡ false → SameTaken s m l t id j (kindTaken s l t id (stringOf "mId" j) p k) behind)
+      → (isUnexpected (lifeAt m l) j ≡ false → both (isBeating (lifeAt m l)) (not (isType "Watchdog" j)) ≡ false → SameTaken s m l t id j (kindTaken s (questionOn l t id j) p k) behind)
       → Same k
   staged k = stage (expected (linkAt s l) k) (isUnexpected (lifeAt m l) j) (unready (linkAt s l) k) (both (isBeating (lifeAt m l)) (not (isType "Watchdog" j)))
 
@@ -163,7 +163,7 @@ module _ (s : Site) (m : Machine) (h : Abstracts s m) (l : ℕ) (b : l < m .setu
         ap (λ (c : Bool). pick (not c) true (both (isType "Version" j) (pick (not (lifeAt m l .versions .sent)) true (lifeAt m l .versions .taken)))) f in
         staged Unexpected (ap not (sym u)) (λ e. not-both u e) (λ e n. not-both u e)
 
-    pub asked : SameTaken s m l t id j (askedTaken s l t id (stringOf "mId" j) p (mTypeOf j) (kindOf j)) (reasonBy m l j)
+    pub asked : SameTaken s m l t id j (askedTaken s (questionOn l t id j) p (mTypeOf j) (kindOf j)) (reasonBy m l j)
     asked =
-        by-verdict s m h l b t id j (mTypeOf j) (expectedTaken s l t id (stringOf "mId" j) p (kindOf j)) _
+        by-verdict s m h l b t id j (mTypeOf j) (expectedTaken s (questionOn l t id j) p (kindOf j)) _
         (λ g. by-type (kindOf j) (Reads.kept .typed j))

@@ -17,7 +17,6 @@ use Rattle.packet_alarm.specs.Orders.{recordsOf, changeTaken}
 use Rattle.machine.specs.Words.{maybe}
 use Rattle.machine.specs.State.{Alarm, issuedFor, Machine, withAlarm, effect, only}
 use Rattle.machine.specs.State.Content.{ofAlarm}
-use Rattle.machine.specs.Json.{stringOf}
 use Rattle.machine.specs.Answers.{wantsReply}
 use Rattle.machine.specs.Items.{isSilent, told, happens}
 use Rattle.machine.specs.Effects.{carriedOut}
@@ -27,7 +26,7 @@ use Rattle.demand_held.proofs.Issue.{For}
 use Rattle.refine_parts.specs.Items.{SameEffect}
 use Rattle.refine_calls.specs.Abstracts.{Abstracts}
 use Rattle.refine_calls.specs.Calls.SameCommands.{no-command}
-use Rattle.refine_packet.specs.Taken.{SameTaken}
+use Rattle.refine_packet.specs.Taken.{SameTaken, questionOn}
 use Rattle.refine_packet.proofs.Acked.{only-acked}
 
 module _ (s : Site) (m : Machine) (h : Abstracts s m) where
@@ -43,7 +42,7 @@ module _ (s : Site) (m : Machine) (h : Abstracts s m) where
 
   module _ (l t : ℕ) (id : Identity) (j : Json) (k : ℕ) (order : Change) where
     pub changed : (o : Option Alarm) → carriedOut l t j m ≡ happens m k o → wantsReply m l j ≡ false
-        → SameEffect (changeTaken s t (stringOf "mId" j) k order .plan) (happens m k o) → SameTaken s m l t id j (changeTaken s t (stringOf "mId" j) k order) none
+        → SameEffect (changeTaken s (questionOn l t id j) k order .plan) (happens m k o) → SameTaken s m l t id j (changeTaken s (questionOn l t id j) k order) none
     unfolding changeTaken happens
     changed none c w e =
         only-acked s m l t id j (withAlarmIn s k (orderOf (alarmIn s k) order t .alarm)) (recordsOf s k (orderOf (alarmIn s k) order t)) noHint (only m) c w w refl

@@ -61,7 +61,7 @@ use Rattle.refine_calls.specs.Calls.{SameCommands}
 use Rattle.refine_calls.specs.Calls.SameCommands.{no-command, one-command}
 use Rattle.refine_packet.specs.Lookups.{soughtFor, Lookups}
 use Rattle.refine_packet.proofs.Lookups.{same-lookups}
-use Rattle.refine_packet.specs.Taken.{SameTaken}
+use Rattle.refine_packet.specs.Taken.{SameTaken, questionOn}
 use Rattle.refine_packet.proofs.Refused.{reasons, by-verdict}
 use Rattle.refine_packet.specs.Ordered.{IsUp}
 use Rattle.refine_packet.proofs.Replied.{hand}
@@ -229,7 +229,7 @@ module _ (s : Site) (m : Machine) (h : Abstracts s m) (j : Json) (f : CommandFie
 module _ (s : Site) (m : Machine) (h : Abstracts s m) (l : ℕ) (b : l < m .setup .links) (up : IsUp (lifeAt m l)) (t : ℕ) (id : Identity) (v : SixteenBytes (id .bytes)) (j : Json) (ty : stringAt "type" j ≡ some (text "CommandRequest")) (f : CommandFields) (r : CommandReads j f) where
   module _ (g : f .verdict ≡ Good) where
     abbrev answer : Option ℕ → Taken
-    answer o = unlessBusy s l (stringOf "mId" j) (handing s l t id (stringOf "mId" j) (response t (id .bytes) (soughtFor o) f) (commandsOf (s .table) f (soughtFor o)))
+    answer o = unlessBusy s (questionOn l t id j) (handing s (questionOn l t id j) (response t (id .bytes) (soughtFor o) f) (commandsOf (s .table) f (soughtFor o)))
 
     answered : (o : Option ℕ) → componentAsked m j ≡ o → SameTaken s m l t id j (answer o) (busyIf m l true)
     answered o a =
@@ -238,7 +238,7 @@ module _ (s : Site) (m : Machine) (h : Abstracts s m) (l : ℕ) (b : l < m .setu
 
     abbrev judged : Bool → Bool → Option ℕ → Taken
     judged keeps knows o =
-        pick keeps (pick knows (answer o) (notAcked s (stringOf "mId" j) unknownCommand)) (notAcked s (stringOf "mId" j) badValue)
+        pick keeps (pick knows (answer o) (notAcked s (questionOn l t id j) unknownCommand)) (notAcked s (questionOn l t id j) badValue)
 
     abbrev reasonFor : Bool → Bool → Option String
     reasonFor outside unknown = pick outside (some "Bad value") (pick unknown (some "Unknown command") (busyIf m l true))
@@ -252,16 +252,16 @@ module _ (s : Site) (m : Machine) (h : Abstracts s m) (l : ℕ) (b : l < m .setu
     abbrev reasonBehind : Option ℕ → Option String
     reasonBehind o = pick (isSome o) (reasonFor (anyOutOfRange m j) (anyUnknownCommand m j)) (busyIf m l true)
 
-    by-component : (o : Option ℕ) → componentAsked m j ≡ o → SameTaken s m l t id j (orderedOf s l t id (stringOf "mId" j) f (soughtFor o)) (reasonBehind o)
+    by-component : (o : Option ℕ) → componentAsked m j ≡ o → SameTaken s m l t id j (orderedOf s (questionOn l t id j) f (soughtFor o)) (reasonBehind o)
     by-component none a = answered none a
     by-component (some c) a =
         subst (λ (x : Bool). SameTaken s m l t id j (judged x (passes (s .table) f (soughtFor (some c))) (some c)) (reasonBehind (some c))) (sym (all-within s m h j f r g c a))
         (subst (λ (x : Bool). SameTaken s m l t id j (judged (not (anyOutOfRange m j)) x (some c)) (reasonBehind (some c))) (sym (all-there s m h j f r g c a))
         (by-known c a (anyOutOfRange m j) (anyUnknownCommand m j)))
 
-    good : SameTaken s m l t id j (orderedOf s l t id (stringOf "mId" j) f (componentSought (s .table) (f .component))) (reasonBehind (componentAsked m j))
+    good : SameTaken s m l t id j (orderedOf s (questionOn l t id j) f (componentSought (s .table) (f .component))) (reasonBehind (componentAsked m j))
     good =
-        subst (λ (x : Sought). SameTaken s m l t id j (orderedOf s l t id (stringOf "mId" j) f x) (reasonBehind (componentAsked m j)))
+        subst (λ (x : Sought). SameTaken s m l t id j (orderedOf s (questionOn l t id j) f x) (reasonBehind (componentAsked m j)))
         (sym (named-component s m h j (f .component) (r .component g))) (by-component (componentAsked m j) refl)
 
   abbrev reason : Option String
@@ -269,13 +269,13 @@ module _ (s : Site) (m : Machine) (h : Abstracts s m) (l : ℕ) (b : l < m .setu
       pick (isSome (componentAsked m j))
       (pick (anyOutOfRange m j) (some "Bad value") (pick (anyUnknownCommand m j) (some "Unknown command") (busyIf m l true))) (busyIf m l true)
 
-  taken : SameTaken s m l t id j (commandTaken s l t id (stringOf "mId" j) f) (reasonBy (verdictIn j) (furtherReason m l j))
+  taken : SameTaken s m l t id j (commandTaken s (questionOn l t id j) f) (reasonBy (verdictIn j) (furtherReason m l j))
   unfolding commandTaken
   taken =
-      subst (λ (x : Verdict). SameTaken s m l t id j (commandTaken s l t id (stringOf "mId" j) f) (reasonBy x (furtherReason m l j))) (r .verdict (is-request j ty))
-      (subst (λ (x : Option String). SameTaken s m l t id j (commandTaken s l t id (stringOf "mId" j) f) (reasonBy (f .verdict) x))
+      subst (λ (x : Verdict). SameTaken s m l t id j (commandTaken s (questionOn l t id j) f) (reasonBy x (furtherReason m l j))) (r .verdict (is-request j ty))
+      (subst (λ (x : Option String). SameTaken s m l t id j (commandTaken s (questionOn l t id j) f) (reasonBy (f .verdict) x))
       (sym (Reads.kept .further m l j .command-request (is-request j ty)))
-      (by-verdict s m h l b t id j (f .verdict) (orderedOf s l t id (stringOf "mId" j) f (componentSought (s .table) (f .component))) reason good))
+      (by-verdict s m h l b t id j (f .verdict) (orderedOf s (questionOn l t id j) f (componentSought (s .table) (f .component))) reason good))
 
 pub same-command : SameCommandRequest
 same-command s m h l b up t id v p j read ty = taken s m h l b up t id v j ty (commandAt p) (Lists.kept .commands p j read)

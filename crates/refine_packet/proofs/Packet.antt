@@ -32,7 +32,7 @@ use Rattle.refine_read.proofs.Kept as Reads
 use Rattle.refine_calls.specs.Abstracts.{Abstracts}
 use Rattle.refine_calls.specs.Calls.{SamePlan}
 use Rattle.refine_calls.proofs.Identity.{own-sixteen}
-use Rattle.refine_packet.specs.Taken.{SameTaken, effectBy}
+use Rattle.refine_packet.specs.Taken.{SameTaken, effectBy, questionOn}
 use Rattle.refine_packet.specs.Heard.{SameHeard}
 use Rattle.refine_packet.specs.Packet.{PacketCalls}
 use Rattle.refine_packet.specs.Packet.OfPacket.{packets}
@@ -96,8 +96,8 @@ module _ (s : Site) (m : Machine) (h : Abstracts s m) (l : ℕ) (b : l < m .setu
     asking : readPacket p ≡ some j → isAnswer j ≡ false → isReadable j ≡ true → both (isGreeting (lifeAt m l)) (not (isType "Version" j)) ≡ false → Heard (headOf j) (some j)
     asking read e f g =
         subst (λ (x : Head). Heard x (some j)) (sym (head-is e f))
-        (taken-heard (askedTaken s l t id (stringOf "mId" j) p (mTypeOf j) (kindOf j)) e
-        (subst (SameTaken s m l t id j (askedTaken s l t id (stringOf "mId" j) p (mTypeOf j) (kindOf j))) (sym (Reads.kept .reason m l j))
+        (taken-heard (askedTaken s (questionOn l t id j) p (mTypeOf j) (kindOf j)) e
+        (subst (SameTaken s m l t id j (askedTaken s (questionOn l t id j) p (mTypeOf j) (kindOf j))) (sym (Reads.kept .reason m l j))
         (asked s m h l b t id v p j read down g)))
 
     ignored-answer : isAnswer j ≡ true → isIgnored (lifeAt m l) (some j) ≡ false → (elementIs "mType" "rSMsg" j and awaitedHere (lifeAt m l) j) ≡ true

@@ -26,7 +26,7 @@ use Rattle.refine_read.specs.Reasons.{byVerdict as reasonBy}
 use Rattle.refine_calls.specs.Abstracts.{Abstracts}
 use Rattle.refine_calls.specs.Calls.{SamePlan}
 use Rattle.refine_packet.proofs.Plans.{left, shut}
-use Rattle.refine_packet.specs.Taken.{SameTaken}
+use Rattle.refine_packet.specs.Taken.{SameTaken, questionOn}
 use Rattle.refine_packet.specs.Refused.{SameReasons, SameRefused}
 
 stays : (l : ℕ) (j : Json) (m : Machine) (r : String) → failsCheck r ≡ false → refuses l j m r ≡ effect m [] (refusal j r ∷ []) [] none
@@ -38,7 +38,7 @@ unfolding refuses
 goes l j m r f = ap (λ (b : Bool). pick b (closes l (refusal j r ∷ []) m) (effect m [] (refusal j r ∷ []) [] none)) f
 
 module _ (s : Site) (m : Machine) (h : Abstracts s m) (l : ℕ) (b : l < m .setup .links) (t : ℕ) (id : Identity) (j : Json) where
-  noted : (n : ℕ) (r : String) → nameOf n ≡ text r → failsCheck r ≡ false → SameTaken s m l t id j (notAcked s (stringOf "mId" j) n) (some r)
+  noted : (n : ℕ) (r : String) → nameOf n ≡ text r → failsCheck r ≡ false → SameTaken s m l t id j (notAcked s (questionOn l t id j) n) (some r)
   noted n r e f =
       record {
         replies = refl;
@@ -48,7 +48,7 @@ module _ (s : Site) (m : Machine) (h : Abstracts s m) (l : ℕ) (b : l < m .setu
             (subst (SamePlan (record { site = s; issued = []; messages = refusal j r ∷ []; closed = 0; hint = noHint; commands = [] })) (sym (stays l j m r f)) (left s m h (refusal j r ∷ [])));
       }
 
-  closed-for : (n : ℕ) (r : String) → nameOf n ≡ text r → failsCheck r ≡ true → SameTaken s m l t id j (closing s l (stringOf "mId" j) n) (some r)
+  closed-for : (n : ℕ) (r : String) → nameOf n ≡ text r → failsCheck r ≡ true → SameTaken s m l t id j (closing s (questionOn l t id j) n) (some r)
   closed-for n r e f =
       record {
         replies = refl;
@@ -77,7 +77,7 @@ module _ (s : Site) (m : Machine) (h : Abstracts s m) (l : ℕ) (b : l < m .setu
 
   -- "Missing element", "Bad value", then what comes behind them
   pub by-verdict : (v : Verdict) (x : Taken) (r : Option String) → (v ≡ Good → SameTaken s m l t id j x r)
-      → SameTaken s m l t id j (byVerdict v s (stringOf "mId" j) x) (reasonBy v r)
+      → SameTaken s m l t id j (byVerdict v s (questionOn l t id j) x) (reasonBy v r)
   by-verdict Good x r f = f refl
   by-verdict Missing x r f = reasons .missing-element
   by-verdict Bad x r f = reasons .bad-value

@@ -34,7 +34,7 @@ use Rattle.refine_calls.specs.Abstracts.{Abstracts}
 use Rattle.refine_calls.specs.Calls.{SameCommands, SamePlan}
 use Rattle.refine_calls.specs.Calls.SameCommands.{no-command}
 use Rattle.refine_calls.proofs.Parts.{with-life}
-use Rattle.refine_packet.specs.Taken.{SameTaken}
+use Rattle.refine_packet.specs.Taken.{SameTaken, questionOn}
 use Rattle.refine_packet.proofs.Refused.{reasons}
 
 replied-so : (m : Machine) (l t : ℕ) (id : List ℕ) (j : Json) (ds : List MachineCommand) → wantsReply m l j ≡ true
@@ -50,20 +50,20 @@ module _ (s : Site) (m : Machine) (h : Abstracts s m) (l : ℕ) (b : l < m .setu
   -- with commands that are handed over, and without
   pub hand : (x : Message) (cs : List Command) (ds : List MachineCommand) → SameCommands cs ds → carriedOut l t j m ≡ handingOf ds m [] [] [] none → wantsReply m l j ≡ true
       → x ≡ replyMessage m t (id .bytes) j
-      → SameTaken s m l t id j (unlessBusy s l (stringOf "mId" j) (handing s l t id (stringOf "mId" j) x cs)) (busyIf m l true)
+      → SameTaken s m l t id j (unlessBusy s (questionOn l t id j) (handing s (questionOn l t id j) x cs)) (busyIf m l true)
   hand x cs ds same c w e =
-      subst (λ (f : Bool). SameTaken s m l t id j (pick f (notAcked s (stringOf "mId" j) busy) (handing s l t id (stringOf "mId" j) x cs)) (busyIf m l true))
+      subst (λ (f : Bool). SameTaken s m l t id j (pick f (notAcked s (questionOn l t id j) busy) (handing s (questionOn l t id j) x cs)) (busyIf m l true))
       (sym (questions .waits (linkAt s l) (lifeAt m l) (h .lives l) .full)) (by (leb 16 (length (lifeAt m l .awaited))) refl)
     where
       by : (f : Bool) → leb 16 (length (lifeAt m l .awaited)) ≡ f
-          → SameTaken s m l t id j (pick f (notAcked s (stringOf "mId" j) busy) (handing s l t id (stringOf "mId" j) x cs)) (pick f (some "Busy") none)
+          → SameTaken s m l t id j (pick f (notAcked s (questionOn l t id j) busy) (handing s (questionOn l t id j) x cs)) (pick f (some "Busy") none)
       by true f = reasons s m h l b t id j .is-busy
       by false f =
           record {
             replies = sym w;
             next = refl;
             plan = λ u.
-                subst (SamePlan (handing s l t id (stringOf "mId" j) x cs .plan)) (sym (ap (replying l t (id .bytes) j) c ∙ replied-so m l t (id .bytes) j ds w))
+                subst (SamePlan (handing s (questionOn l t id j) x cs .plan)) (sym (ap (replying l t (id .bytes) j) c ∙ replied-so m l t (id .bytes) j ds w))
                 (record {
                   leaves = with-life s m h l b (messageOutOf (linkAt s l) id t Other) (awaiting (id .bytes) t noRecord (lifeAt m l))
                       (acts .acts (linkAt s l) (lifeAt m l) (h .lives l)
@@ -78,5 +78,5 @@ module _ (s : Site) (m : Machine) (h : Abstracts s m) (l : ℕ) (b : l < m .setu
           }
 
   pub reply : (x : Message) → carriedOut l t j m ≡ only m → wantsReply m l j ≡ true → x ≡ replyMessage m t (id .bytes) j
-      → SameTaken s m l t id j (unlessBusy s l (stringOf "mId" j) (replied s l t id (stringOf "mId" j) x)) (busyIf m l true)
+      → SameTaken s m l t id j (unlessBusy s (questionOn l t id j) (replied s (questionOn l t id j) x)) (busyIf m l true)
   reply x c w e = hand x [] [] no-command c w e

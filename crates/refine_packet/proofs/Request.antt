@@ -54,7 +54,7 @@ use Rattle.refine_read.proofs.Indexed.{by-places}
 use Rattle.refine_parts.specs.Items.{statusFor}
 use Rattle.refine_calls.specs.Abstracts.{Abstracts}
 use Rattle.refine_packet.specs.Lookups.{soughtFor}
-use Rattle.refine_packet.specs.Taken.{SameTaken}
+use Rattle.refine_packet.specs.Taken.{SameTaken, questionOn}
 use Rattle.refine_packet.proofs.Refused.{reasons, by-verdict}
 use Rattle.refine_packet.specs.Ordered.{IsUp}
 use Rattle.refine_packet.proofs.Replied.{reply}
@@ -151,35 +151,35 @@ module _ (s : Site) (m : Machine) (h : Abstracts s m) (l : ℕ) (b : l < m .setu
     passes-so (some c) a = all-known s m h false j f r g c a
 
     abbrev answer : Option ℕ → Taken
-    answer o = unlessBusy s l (stringOf "mId" j) (replied s l t id (stringOf "mId" j) (response s t (id .bytes) (soughtFor o) f))
+    answer o = unlessBusy s (questionOn l t id j) (replied s (questionOn l t id j) (response s t (id .bytes) (soughtFor o) f))
 
     by-known : (o : Option ℕ) → componentAsked m j ≡ o → (z : Bool) → both (isSome o) (anyUnknown m j) ≡ z
-        → SameTaken s m l t id j (pick (not z) (answer o) (notAcked s (stringOf "mId" j) unknownStatus)) (pick z (some "Unknown status") (busyIf m l true))
+        → SameTaken s m l t id j (pick (not z) (answer o) (notAcked s (questionOn l t id j) unknownStatus)) (pick z (some "Unknown status") (busyIf m l true))
     by-known o a true u = reasons s m h l b t id j .unknown-status
     by-known o a false u =
         reply s m h l b up t id v j (response s t (id .bytes) (soughtFor o) f) (does j ty l t m) (replies j ty m l) (response-so o a u)
 
     by-component : (o : Option ℕ) → componentAsked m j ≡ o
-        → SameTaken s m l t id j (requestedOf s l t id (stringOf "mId" j) f (soughtFor o)) (pick (both (isSome o) (anyUnknown m j)) (some "Unknown status") (busyIf m l true))
+        → SameTaken s m l t id j (requestedOf s (questionOn l t id j) f (soughtFor o)) (pick (both (isSome o) (anyUnknown m j)) (some "Unknown status") (busyIf m l true))
     by-component o a =
-        subst (λ (x : Bool). SameTaken s m l t id j (pick x (answer o) (notAcked s (stringOf "mId" j) unknownStatus)) (pick (both (isSome o) (anyUnknown m j)) (some "Unknown status") (busyIf m l true)))
+        subst (λ (x : Bool). SameTaken s m l t id j (pick x (answer o) (notAcked s (questionOn l t id j) unknownStatus)) (pick (both (isSome o) (anyUnknown m j)) (some "Unknown status") (busyIf m l true)))
         (sym (passes-so o a)) (by-known o a (both (isSome o) (anyUnknown m j)) refl)
 
   abbrev reason : Option String
   reason = pick (both (isSome (componentAsked m j)) (anyUnknown m j)) (some "Unknown status") (busyIf m l true)
 
-  good : f .verdict ≡ Good → SameTaken s m l t id j (requestedOf s l t id (stringOf "mId" j) f (componentSought (s .table) (f .component))) reason
+  good : f .verdict ≡ Good → SameTaken s m l t id j (requestedOf s (questionOn l t id j) f (componentSought (s .table) (f .component))) reason
   good g =
-      subst (λ (x : Sought). SameTaken s m l t id j (requestedOf s l t id (stringOf "mId" j) f x) reason) (sym (component-sought s m h false j f r g))
+      subst (λ (x : Sought). SameTaken s m l t id j (requestedOf s (questionOn l t id j) f x) reason) (sym (component-sought s m h false j f r g))
       (by-component g (componentAsked m j) refl)
 
-  taken : SameTaken s m l t id j (statusTaken s l t id (stringOf "mId" j) f) (reasonBy (verdictIn j) (furtherReason m l j))
+  taken : SameTaken s m l t id j (statusTaken s (questionOn l t id j) f) (reasonBy (verdictIn j) (furtherReason m l j))
   unfolding statusTaken
   taken =
-      subst (λ (x : Verdict). SameTaken s m l t id j (statusTaken s l t id (stringOf "mId" j) f) (reasonBy x (furtherReason m l j))) (r .verdict (is-list j ty))
-      (subst (λ (x : Option String). SameTaken s m l t id j (statusTaken s l t id (stringOf "mId" j) f) (reasonBy (f .verdict) x))
+      subst (λ (x : Verdict). SameTaken s m l t id j (statusTaken s (questionOn l t id j) f) (reasonBy x (furtherReason m l j))) (r .verdict (is-list j ty))
+      (subst (λ (x : Option String). SameTaken s m l t id j (statusTaken s (questionOn l t id j) f) (reasonBy (f .verdict) x))
       (sym (Reads.kept .further m l j .status-request (is-request j ty)))
-      (by-verdict s m h l b t id j (f .verdict) (requestedOf s l t id (stringOf "mId" j) f (componentSought (s .table) (f .component))) reason good))
+      (by-verdict s m h l b t id j (f .verdict) (requestedOf s (questionOn l t id j) f (componentSought (s .table) (f .component))) reason good))
 
 pub same-request : SameStatusRequest
 same-request s m h l b up t id v p j read ty = taken s m h l b up t id v j ty (statusAt false p) (Lists.kept .statuses false p j read)

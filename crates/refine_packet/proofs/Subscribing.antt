@@ -41,7 +41,7 @@ use Rattle.refine_calls.specs.Abstracts.{Abstracts}
 use Rattle.refine_calls.specs.Calls.{SamePlan}
 use Rattle.refine_calls.specs.Calls.SameCommands.{no-command}
 use Rattle.refine_packet.specs.Lookups.{soughtFor}
-use Rattle.refine_packet.specs.Taken.{SameTaken}
+use Rattle.refine_packet.specs.Taken.{SameTaken, questionOn}
 use Rattle.refine_packet.proofs.Refused.{reasons, by-verdict}
 use Rattle.refine_packet.proofs.Acked.{only-acked}
 use Rattle.refine_packet.specs.Statuses.{SameStatusSubscribe, SameStatusUnsubscribe}
@@ -79,7 +79,7 @@ module _ (s : Site) (m : Machine) (h : Abstracts s m) (l : ℕ) (b : l < m .setu
     for-links true = each-of (toldOf s m h l b t subscribing j f r g c a) (λ e. b) (entriesOf "sS" j)
     for-links false = no-more
 
-    done-so : SameTaken s m l t id j (changed subscribing s l t (stringOf "mId" j) f c) none
+    done-so : SameTaken s m l t id j (changed subscribing s (questionOn l t id j) f c) none
     unfolding changed
     done-so =
         let now = subscriptions-so s m h l b t subscribing j f r g c a k in
@@ -96,30 +96,30 @@ module _ (s : Site) (m : Machine) (h : Abstracts s m) (l : ℕ) (b : l < m .setu
         })
 
   by-known : (g : f .verdict ≡ Good) (c : ℕ) → componentAsked m j ≡ some c → (z : Bool) → anyUnknown m j ≡ z
-      → SameTaken s m l t id j (pick (not z) (changed subscribing s l t (stringOf "mId" j) f c) (notAcked s (stringOf "mId" j) unknownStatus)) (pick (not z) none (some "Unknown status"))
+      → SameTaken s m l t id j (pick (not z) (changed subscribing s (questionOn l t id j) f c) (notAcked s (questionOn l t id j) unknownStatus)) (pick (not z) none (some "Unknown status"))
   by-known g c a false k = done-so g c a k
   by-known g c a true k = reasons s m h l b t id j .unknown-status
 
   by-component : (g : f .verdict ≡ Good) (o : Option ℕ) → componentAsked m j ≡ o
-      → SameTaken s m l t id j (asked subscribing s l t (stringOf "mId" j) f (soughtFor o)) (pick (both (isSome o) (not (anyUnknown m j))) none (some "Unknown status"))
+      → SameTaken s m l t id j (asked subscribing s (questionOn l t id j) f (soughtFor o)) (pick (both (isSome o) (not (anyUnknown m j))) none (some "Unknown status"))
   unfolding judged
   by-component g none a = reasons s m h l b t id j .unknown-status
   by-component g (some c) a =
-      subst (λ (x : Bool). SameTaken s m l t id j (pick x (changed subscribing s l t (stringOf "mId" j) f c) (notAcked s (stringOf "mId" j) unknownStatus)) (pick (not (anyUnknown m j)) none (some "Unknown status")))
+      subst (λ (x : Bool). SameTaken s m l t id j (pick x (changed subscribing s (questionOn l t id j) f c) (notAcked s (questionOn l t id j) unknownStatus)) (pick (not (anyUnknown m j)) none (some "Unknown status")))
       (sym (all-known s m h subscribing j f r g c a)) (by-known g c a (anyUnknown m j) refl)
 
-  good : f .verdict ≡ Good → SameTaken s m l t id j (asked subscribing s l t (stringOf "mId" j) f (componentSought (s .table) (f .component))) (reasonFor m j)
+  good : f .verdict ≡ Good → SameTaken s m l t id j (asked subscribing s (questionOn l t id j) f (componentSought (s .table) (f .component))) (reasonFor m j)
   good g =
-      subst (λ (x : Sought). SameTaken s m l t id j (asked subscribing s l t (stringOf "mId" j) f x) (reasonFor m j)) (sym (component-sought s m h subscribing j f r g))
+      subst (λ (x : Sought). SameTaken s m l t id j (asked subscribing s (questionOn l t id j) f x) (reasonFor m j)) (sym (component-sought s m h subscribing j f r g))
       (by-component g (componentAsked m j) refl)
 
   taken : isRead subscribing j ≡ true → furtherReason m l j ≡ reasonFor m j
-      → SameTaken s m l t id j (subscribingTaken subscribing s l t (stringOf "mId" j) f) (reasonBy (verdictIn j) (furtherReason m l j))
+      → SameTaken s m l t id j (subscribingTaken subscribing s (questionOn l t id j) f) (reasonBy (verdictIn j) (furtherReason m l j))
   unfolding subscribingTaken
   taken is further =
-      subst (λ (x : Verdict). SameTaken s m l t id j (subscribingTaken subscribing s l t (stringOf "mId" j) f) (reasonBy x (furtherReason m l j))) (r .verdict is)
-      (subst (λ (x : Option String). SameTaken s m l t id j (subscribingTaken subscribing s l t (stringOf "mId" j) f) (reasonBy (f .verdict) x)) (sym further)
-      (by-verdict s m h l b t id j (f .verdict) (asked subscribing s l t (stringOf "mId" j) f (componentSought (s .table) (f .component))) (reasonFor m j) good))
+      subst (λ (x : Verdict). SameTaken s m l t id j (subscribingTaken subscribing s (questionOn l t id j) f) (reasonBy x (furtherReason m l j))) (r .verdict is)
+      (subst (λ (x : Option String). SameTaken s m l t id j (subscribingTaken subscribing s (questionOn l t id j) f) (reasonBy (f .verdict) x)) (sym further)
+      (by-verdict s m h l b t id j (f .verdict) (asked subscribing s (questionOn l t id j) f (componentSought (s .table) (f .component))) (reasonFor m j) good))
 
 module _ (j : Json) (ty : stringAt "type" j ≡ some (text "StatusSubscribe")) where
   is-subscribe : isType "StatusSubscribe" j ≡ true

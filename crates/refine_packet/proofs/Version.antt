@@ -27,7 +27,7 @@ use Rattle.site.specs.Site.{linkAt, withLink}
 use Rattle.packet_greet.specs.Version.{own, accepted, versionJudged, versionTaken}
 use Rattle.machine.specs.Words.{Bytes, maybe, orElse}
 use Rattle.machine.specs.State.{Machine, lifeAt, withLife}
-use Rattle.machine.specs.Json.{readPacket, stringAt, stringOf, isType}
+use Rattle.machine.specs.Json.{readPacket, stringAt, isType}
 use Rattle.machine.specs.Life.{offers, common, namesSite, equalSxl}
 use Rattle.machine.specs.Answers.{wantsReply}
 use Rattle.machine.specs.Effects.{agreed, versionAccepted, carriedOut}
@@ -41,7 +41,7 @@ use Rattle.refine_parts.proofs.LifeActs.{acts}
 use Rattle.refine_calls.specs.Abstracts.{Abstracts}
 use Rattle.refine_calls.specs.Calls.SameCommands.{no-command}
 use Rattle.refine_calls.proofs.Parts.{with-life}
-use Rattle.refine_packet.specs.Taken.{SameTaken}
+use Rattle.refine_packet.specs.Taken.{SameTaken, questionOn}
 use Rattle.refine_packet.proofs.Refused.{reasons, by-verdict}
 use Rattle.refine_packet.specs.Greeted.{Judges, SameVersion}
 use Rattle.refine_packet.proofs.Acked.{only-acked}
@@ -70,7 +70,7 @@ own-ours s m h =
 
 module _ (s : Site) (m : Machine) (h : Abstracts s m) (l : ℕ) (b : l < m .setup .links) (judges : Judges (lifeAt m l)) (t : ℕ) (id : Identity) (j : Json) (ty : stringAt "type" j ≡ some (text "Version")) where
   abbrev Same : Judged → Option String → Type 0
-  Same c r = SameTaken s m l t id j (versionJudged s l (stringOf "mId" j) c) r
+  Same c r = SameTaken s m l t id j (versionJudged s (questionOn l t id j) c) r
 
   -- its three parts are in one number
   so : (x y z a : ℕ) → common j ≡ some (x ∷ y ∷ z ∷ [])
@@ -114,11 +114,11 @@ module _ (s : Site) (m : Machine) (h : Abstracts s m) (l : ℕ) (b : l < m .setu
   by-checks (some v) e false q = reasons s m h l b t id j .site-id
 
   taken : (p : Bytes) → readPacket p ≡ some j
-      → SameTaken s m l t id j (versionTaken s l (stringOf "mId" j) (versionAt p)) (reasonBy (verdictIn j) (furtherReason m l j))
+      → SameTaken s m l t id j (versionTaken s (questionOn l t id j) (versionAt p)) (reasonBy (verdictIn j) (furtherReason m l j))
   taken p read =
-      subst (λ (v : Verdict). SameTaken s m l t id j (versionTaken s l (stringOf "mId" j) f) (reasonBy v (furtherReason m l j))) (reads .verdict (is-version j ty))
-      (subst (λ (r : Option String). SameTaken s m l t id j (versionTaken s l (stringOf "mId" j) f) (reasonBy (f .verdict) r)) (sym (reads .reason (is-version j ty) m l))
-      (by-verdict s m h l b t id j (f .verdict) (versionJudged s l (stringOf "mId" j) (judge (own s) (f .offer))) (failed (checked m j))
+      subst (λ (v : Verdict). SameTaken s m l t id j (versionTaken s (questionOn l t id j) f) (reasonBy v (furtherReason m l j))) (reads .verdict (is-version j ty))
+      (subst (λ (r : Option String). SameTaken s m l t id j (versionTaken s (questionOn l t id j) f) (reasonBy (f .verdict) r)) (sym (reads .reason (is-version j ty) m l))
+      (by-verdict s m h l b t id j (f .verdict) (versionJudged s (questionOn l t id j) (judge (own s) (f .offer))) (failed (checked m j))
       (λ g. subst (λ (c : Judged). Same c (failed (checked m j))) (sym (reads .judged g m (own s) (own-ours s m h))) (by-checks (common j) refl (namesSite m j) (equalSxl m j)))))
     where
       f : VersionFields

@@ -36,7 +36,7 @@ use Rattle.refine_calls.specs.Abstracts.{Abstracts}
 use Rattle.refine_calls.specs.Calls.{hintFor}
 use Rattle.refine_calls.specs.Calls.SameCommands.{no-command}
 use Rattle.refine_calls.proofs.Parts.{with-life}
-use Rattle.refine_packet.specs.Taken.{SameTaken}
+use Rattle.refine_packet.specs.Taken.{SameTaken, questionOn}
 use Rattle.refine_packet.proofs.Refused.{by-verdict}
 use Rattle.refine_packet.specs.Greeted.{Beats, SameWatchdog}
 use Rattle.refine_packet.proofs.Acked.{same-role, only-acked}
@@ -67,7 +67,7 @@ module _ (s : Site) (m : Machine) (h : Abstracts s m) (l : ℕ) (b : l < m .setu
       by true = given (leb 3 (f .decimals))
       by false = refl
 
-  same-beat : f .verdict ≡ Good → SameTaken s m l t id j (beat s l (stringOf "mId" j) f) none
+  same-beat : f .verdict ≡ Good → SameTaken s m l t id j (beat s (questionOn l t id j) f) none
   same-beat g =
       only-acked s m l t id j (beaten s l) [] (hintFrom (roleOf s l) f) (watchdogIn l j m) (done-so j ty l t m)
       (no-reply j ty m l) (no-reply j ty (watchdogIn l j m .leaves) l) refl
@@ -82,13 +82,13 @@ module _ (s : Site) (m : Machine) (h : Abstracts s m) (l : ℕ) (b : l < m .setu
         commands = no-command;
       })
 
-  taken : SameTaken s m l t id j (watchdogTaken s l (stringOf "mId" j) f) (reasonBy (verdictIn j) (furtherReason m l j))
+  taken : SameTaken s m l t id j (watchdogTaken s (questionOn l t id j) f) (reasonBy (verdictIn j) (furtherReason m l j))
   taken =
-      subst (λ (v : Verdict). SameTaken s m l t id j (watchdogTaken s l (stringOf "mId" j) f) (reasonBy v (furtherReason m l j)))
+      subst (λ (v : Verdict). SameTaken s m l t id j (watchdogTaken s (questionOn l t id j) f) (reasonBy v (furtherReason m l j)))
       (Reads.kept .watchdog p j read .verdict (is-watchdog j ty))
-      (subst (λ (r : Option String). SameTaken s m l t id j (watchdogTaken s l (stringOf "mId" j) f) (reasonBy (f .verdict) r))
+      (subst (λ (r : Option String). SameTaken s m l t id j (watchdogTaken s (questionOn l t id j) f) (reasonBy (f .verdict) r))
       (sym (Reads.kept .further m l j .watchdog (is-watchdog j ty)))
-      (by-verdict s m h l b t id j (f .verdict) (beat s l (stringOf "mId" j) f) none same-beat))
+      (by-verdict s m h l b t id j (f .verdict) (beat s (questionOn l t id j) f) none same-beat))
 
 pub same-watchdog : SameWatchdog
 same-watchdog s m h l b beats t id v p j read ty = taken s m h l b beats t id p j read ty

@@ -6,4 +6,4 @@ use Rattle.refine_packet.specs.Taken.{SameAsked}
 use Rattle.refine_packet.specs.Ordered.{IsUp}
 
 abbrev pub SameCommandRequest : Type 0
-SameCommandRequest = SameAsked "CommandRequest" IsUp (λ s l t id received p. commandTaken s l t id received (commandAt p))
+SameCommandRequest = SameAsked "CommandRequest" IsUp (λ s q p. commandTaken s q (commandAt p))

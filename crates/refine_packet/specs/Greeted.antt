@@ -17,10 +17,10 @@ pub record Judges (k : Life) : Type 0 where
   pub not-taken : k .versions .taken ≡ false
 
 abbrev pub SameVersion : Type 0
-SameVersion = SameAsked "Version" Judges (λ s l t id received p. versionTaken s l received (versionAt p))
+SameVersion = SameAsked "Version" Judges (λ s q p. versionTaken s q (versionAt p))
 
 abbrev pub Beats : Life → Type 0
 Beats k = (isBeating k or isUp k) ≡ true
 
 abbrev pub SameWatchdog : Type 0
-SameWatchdog = SameAsked "Watchdog" Beats (λ s l t id received p. watchdogTaken s l received (watchdogAt p))
+SameWatchdog = SameAsked "Watchdog" Beats (λ s q p. watchdogTaken s q (watchdogAt p))

@@ -13,7 +13,7 @@ abbrev pub IsUp : Life → Type 0
 IsUp k = isUp k ≡ true
 
 abbrev pub SameAlarm : Type 0
-SameAlarm = SameAsked "Alarm" IsUp (λ s l t id received p. alarmTaken s l t id received (alarmAt p))
+SameAlarm = SameAsked "Alarm" IsUp (λ s q p. alarmTaken s q (alarmAt p))
 
 abbrev pub SameAggregated : Type 0
-SameAggregated = SameAsked "AggregatedStatusRequest" IsUp (λ s l t id received p. aggregatedTaken s l t id received (aggregatedAt p))
+SameAggregated = SameAsked "AggregatedStatusRequest" IsUp (λ s q p. aggregatedTaken s q (aggregatedAt p))

@@ -24,28 +24,27 @@ use Rattle.packet_answer.specs.Taken.{
   busy,
 }
 use Rattle.machine.specs.State.{Machine}
-use Rattle.machine.specs.Json.{stringOf}
 use Rattle.refine_calls.specs.Abstracts.{Abstracts}
-use Rattle.refine_packet.specs.Taken.{SameTaken}
+use Rattle.refine_packet.specs.Taken.{SameTaken, questionOn}
 
 module _ (s : Site) (m : Machine) (l t : ℕ) (id : Identity) (j : Json) where
   abbrev Same : Taken → String → Type 0
   Same x reason = SameTaken s m l t id j x (some reason)
 
   pub record SameReasons : Type 0 where
-    pub missing-element : Same (notAcked s (stringOf "mId" j) missingElement) "Missing element"
-    pub bad-value : Same (notAcked s (stringOf "mId" j) badValue) "Bad value"
-    pub is-unexpected : Same (notAcked s (stringOf "mId" j) unexpected) "Unexpected"
-    pub not-ready : Same (notAcked s (stringOf "mId" j) notReady) "Not ready"
+    pub missing-element : Same (notAcked s (questionOn l t id j) missingElement) "Missing element"
+    pub bad-value : Same (notAcked s (questionOn l t id j) badValue) "Bad value"
+    pub is-unexpected : Same (notAcked s (questionOn l t id j) unexpected) "Unexpected"
+    pub not-ready : Same (notAcked s (questionOn l t id j) notReady) "Not ready"
     -- "A failure of these three sends MessageNotAck and closes the link."
-    pub rsmp-version : Same (closing s l (stringOf "mId" j) rsmpVersion) "RSMP version"
-    pub site-id : Same (closing s l (stringOf "mId" j) siteId) "Site id"
-    pub sxl-version : Same (closing s l (stringOf "mId" j) sxlVersion) "SXL version"
-    pub unknown-component : Same (notAcked s (stringOf "mId" j) unknownComponent) "Unknown component"
-    pub unknown-alarm : Same (notAcked s (stringOf "mId" j) unknownAlarm) "Unknown alarm"
-    pub unknown-status : Same (notAcked s (stringOf "mId" j) unknownStatus) "Unknown status"
-    pub unknown-command : Same (notAcked s (stringOf "mId" j) unknownCommand) "Unknown command"
-    pub is-busy : Same (notAcked s (stringOf "mId" j) busy) "Busy"
+    pub rsmp-version : Same (closing s (questionOn l t id j) rsmpVersion) "RSMP version"
+    pub site-id : Same (closing s (questionOn l t id j) siteId) "Site id"
+    pub sxl-version : Same (closing s (questionOn l t id j) sxlVersion) "SXL version"
+    pub unknown-component : Same (notAcked s (questionOn l t id j) unknownComponent) "Unknown component"
+    pub unknown-alarm : Same (notAcked s (questionOn l t id j) unknownAlarm) "Unknown alarm"
+    pub unknown-status : Same (notAcked s (questionOn l t id j) unknownStatus) "Unknown status"
+    pub unknown-command : Same (notAcked s (questionOn l t id j) unknownCommand) "Unknown command"
+    pub is-busy : Same (notAcked s (questionOn l t id j) busy) "Busy"
 
 abbrev pub SameRefused : Type 0
 SameRefused = (s : Site) (m : Machine) → Abstracts s m → (l : ℕ) → l < m .setup .links → (t : ℕ) (id : Identity) (j : Json) → SameReasons s m l t id j

@@ -8,13 +8,13 @@ use Rattle.refine_packet.specs.Taken.{SameAsked}
 use Rattle.refine_packet.specs.Ordered.{IsUp}
 
 abbrev pub SameStatusRequest : Type 0
-SameStatusRequest = SameAsked "StatusRequest" IsUp (λ s l t id received p. statusTaken s l t id received (statusAt false p))
+SameStatusRequest = SameAsked "StatusRequest" IsUp (λ s q p. statusTaken s q (statusAt false p))
 
 abbrev pub SameStatusSubscribe : Type 0
-SameStatusSubscribe = SameAsked "StatusSubscribe" IsUp (λ s l t id received p. subscribingTaken true s l t received (statusAt true p))
+SameStatusSubscribe = SameAsked "StatusSubscribe" IsUp (λ s q p. subscribingTaken true s q (statusAt true p))
 
 abbrev pub SameStatusUnsubscribe : Type 0
-SameStatusUnsubscribe = SameAsked "StatusUnsubscribe" IsUp (λ s l t id received p. subscribingTaken false s l t received (statusAt false p))
+SameStatusUnsubscribe = SameAsked "StatusUnsubscribe" IsUp (λ s q p. subscribingTaken false s q (statusAt false p))
 
 pub record SameStatuses : Type 0 where
   pub status-request : SameStatusRequest

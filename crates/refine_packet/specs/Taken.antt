@@ -10,6 +10,7 @@ use Rattle.identity.specs.declared.Identity.{Identity}
 use Rattle.identity.specs.Read.{SixteenBytes}
 use Rattle.json_value.specs.Grammar.{Json}
 use Rattle.site.specs.declared.Site.{Site}
+use Rattle.packet_answer.specs.declared.Question.{Question}
 use Rattle.packet_answer.specs.Taken.{Taken}
 use Rattle.machine.specs.Words.{Bytes, _and_, maybe, isSome}
 use Rattle.machine.specs.State.{Life, Machine, lifeAt, Effect}
@@ -33,9 +34,13 @@ pub record SameTaken (s : Site) (m : Machine) (l t : ℕ) (id : Identity) (j : J
   -- number 9 refuses every other identity
   pub plan : (x .replies ≡ true → isAwaited (lifeAt m l) (id .bytes) ≡ false) → SamePlan (x .plan) (effectBy m l t (id .bytes) j reason)
 
+-- what the call of such a packet is asked
+abbrev pub questionOn : ℕ → ℕ → Identity → Json → Question
+questionOn l t id j = record { link = l; time = t; identity = id; received = record { bytes = stringOf "mId" j } }
+
 -- of a type that is taken on such a link: the code takes what it reads of the bytes p to its answer
-abbrev pub SameAsked : String → (Life → Type 0) → (Site → ℕ → ℕ → Identity → Bytes → Bytes → Taken) → Type 0
+abbrev pub SameAsked : String → (Life → Type 0) → (Site → Question → Bytes → Taken) → Type 0
 SameAsked type Ready takes =
     (s : Site) (m : Machine) → Abstracts s m → (l : ℕ) → l < m .setup .links → Ready (lifeAt m l) → (t : ℕ) (id : Identity) → SixteenBytes (id .bytes)
     → (p : Bytes) (j : Json) → readPacket p ≡ some j → stringAt "type" j ≡ some (text type)
-    → SameTaken s m l t id j (takes s l t id (stringOf "mId" j) p) (byVerdict (verdictIn j) (furtherReason m l j))
+    → SameTaken s m l t id j (takes s (questionOn l t id j) p) (byVerdict (verdictIn j) (furtherReason m l j))

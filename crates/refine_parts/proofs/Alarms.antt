@@ -20,6 +20,7 @@ use Rattle.call_input.proofs.Lists.{set-same}
 use Rattle.site.specs.declared.Site.{Site}
 use Rattle.site.specs.Site.{hasPrimary}
 use Rattle.site.specs.Parts.{alarmAt as alarmIn, withAlarm as withAlarmIn}
+use Rattle.packet_answer.specs.declared.Question.{Question}
 use Rattle.packet_alarm.specs.Orders.{recordsOf, changeTaken}
 use Rattle.call_input.specs.Inputs.{alarmPlan}
 use Rattle.machine.specs.Words.{maybe, orElse}
@@ -181,23 +182,23 @@ module _ (s : Site) (m : Machine) (h : SameItems s m) where
           records = record { issued = event-records (inputOf (alarmIn s i) active t) (withInput active t (alarmAt m i)) c; told = all-told (withInput active t (alarmAt m i)) };
         }
 
-    pub same-orders : (t : ℕ) (mId : List ℕ) → SameOrders s m i t mId
+    pub same-orders : (q : Question) → SameOrders s m i q
     unfolding changeTaken
-    same-orders t mId =
-        let a : SameChange (acknowledgeOf (alarmIn s i) t) (alarmAt m i) (acknowledgedAt t (alarmAt m i)) = rw (h .alarms i b) (same-acknowledge (alarmAt m i) t) in
-        let u : SameChange (suspendOf (alarmIn s i) true t) (alarmAt m i) (suspendedAt t (alarmAt m i)) = rw (h .alarms i b) (same-suspend (alarmAt m i) t) in
-        let r : SameChange (suspendOf (alarmIn s i) false t) (alarmAt m i) (resumedAt t (alarmAt m i)) = rw (h .alarms i b) (same-resume (alarmAt m i) t) in
+    same-orders q =
+        let a : SameChange (acknowledgeOf (alarmIn s i) (q .time)) (alarmAt m i) (acknowledgedAt (q .time) (alarmAt m i)) = rw (h .alarms i b) (same-acknowledge (alarmAt m i) (q .time)) in
+        let u : SameChange (suspendOf (alarmIn s i) true (q .time)) (alarmAt m i) (suspendedAt (q .time) (alarmAt m i)) = rw (h .alarms i b) (same-suspend (alarmAt m i) (q .time)) in
+        let r : SameChange (suspendOf (alarmIn s i) false (q .time)) (alarmAt m i) (resumedAt (q .time) (alarmAt m i)) = rw (h .alarms i b) (same-resume (alarmAt m i) (q .time)) in
         record {
           acknowledge = record {
-            items = event-items (acknowledgeOf (alarmIn s i) t) (acknowledgedAt t (alarmAt m i)) a;
-            records = record { issued = event-records (acknowledgeOf (alarmIn s i) t) (acknowledgedAt t (alarmAt m i)) a; told = all-told (acknowledgedAt t (alarmAt m i)) };
+            items = event-items (acknowledgeOf (alarmIn s i) (q .time)) (acknowledgedAt (q .time) (alarmAt m i)) a;
+            records = record { issued = event-records (acknowledgeOf (alarmIn s i) (q .time)) (acknowledgedAt (q .time) (alarmAt m i)) a; told = all-told (acknowledgedAt (q .time) (alarmAt m i)) };
           };
           suspend = record {
-            items = event-items (suspendOf (alarmIn s i) true t) (suspendedAt t (alarmAt m i)) u;
-            records = record { issued = event-records (suspendOf (alarmIn s i) true t) (suspendedAt t (alarmAt m i)) u; told = all-told (suspendedAt t (alarmAt m i)) };
+            items = event-items (suspendOf (alarmIn s i) true (q .time)) (suspendedAt (q .time) (alarmAt m i)) u;
+            records = record { issued = event-records (suspendOf (alarmIn s i) true (q .time)) (suspendedAt (q .time) (alarmAt m i)) u; told = all-told (suspendedAt (q .time) (alarmAt m i)) };
           };
           resume = record {
-            items = event-items (suspendOf (alarmIn s i) false t) (resumedAt t (alarmAt m i)) r;
-            records = record { issued = event-records (suspendOf (alarmIn s i) false t) (resumedAt t (alarmAt m i)) r; told = all-told (resumedAt t (alarmAt m i)) };
+            items = event-items (suspendOf (alarmIn s i) false (q .time)) (resumedAt (q .time) (alarmAt m i)) r;
+            records = record { issued = event-records (suspendOf (alarmIn s i) false (q .time)) (resumedAt (q .time) (alarmAt m i)) r; told = all-told (resumedAt (q .time) (alarmAt m i)) };
           };
         }

@@ -16,7 +16,7 @@ item-acts =
           status = λ i v t b r up. same-status s m h i b v r t up;
           aggregated = λ v t b. same-aggregated s m h v t b;
         };
-        orders = λ i t mId b. same-orders s m h i b t mId;
+        orders = λ i q b. same-orders s m h i b q;
         subscribing = λ l i a b. same-subscribing s m h l i a b;
         tick = λ t left up. same-tick s m h t left up;
       };

@@ -14,6 +14,7 @@ use Rattle.site.specs.Call.{issues}
 use Rattle.site.specs.Site.{withSubscriptions as withSlots}
 use Rattle.site.specs.Parts.{withSubscription}
 use Rattle.packet_lookup.specs.declared.Sought.the-variants.{Is}
+use Rattle.packet_answer.specs.declared.Question.{Question}
 use Rattle.packet_alarm.specs.Orders.{changeTaken}
 use Rattle.packet_subscribe.specs.Subscribing.{recordOf}
 use Rattle.call_input.specs.Inputs.{alarmPlan, statusPlan, aggregatedPlan}
@@ -29,11 +30,11 @@ module _ (s : Site) (m : Machine) where
     pub status : (i : ℕ) (v : ℤ) (t : ℕ) → i < length (m .statuses) → Signed32 v → SameUp s m → SameEffect (statusPlan s i v t) (becomes m i v t)
     pub aggregated : (v t : ℕ) → v < 256 → SameEffect (aggregatedPlan s v t) (aggregates m v t)
 
-  -- of alarm i, at a time; the received mId is acknowledged
-  pub record SameOrders (i t : ℕ) (mId : List ℕ) : Type 0 where
-    pub acknowledge : SameEffect (changeTaken s t mId i Acknowledge .plan) (happens m i (acknowledgedAt t (alarmAt m i)))
-    pub suspend : SameEffect (changeTaken s t mId i Suspend .plan) (happens m i (suspendedAt t (alarmAt m i)))
-    pub resume : SameEffect (changeTaken s t mId i Resume .plan) (happens m i (resumedAt t (alarmAt m i)))
+  -- of alarm i, as it is asked
+  pub record SameOrders (i : ℕ) (q : Question) : Type 0 where
+    pub acknowledge : SameEffect (changeTaken s q i Acknowledge .plan) (happens m i (acknowledgedAt (q .time) (alarmAt m i)))
+    pub suspend : SameEffect (changeTaken s q i Suspend .plan) (happens m i (suspendedAt (q .time) (alarmAt m i)))
+    pub resume : SameEffect (changeTaken s q i Resume .plan) (happens m i (resumedAt (q .time) (alarmAt m i)))
 
   -- of link l to status i
   pub record SameSubscribing (l i : ℕ) : Type 0 where
@@ -46,7 +47,7 @@ module _ (s : Site) (m : Machine) where
 
   pub record SameItemActs : Type 0 where
     pub inputs : SameInputs
-    pub orders : (i t : ℕ) (mId : List ℕ) → i < length (m .alarms) → SameOrders i t mId
+    pub orders : (i : ℕ) (q : Question) → i < length (m .alarms) → SameOrders i q
     pub subscribing : (l i : ℕ) → l < m .setup .links → i < length (m .statuses) → SameSubscribing l i
     -- a tick, but for the links that it closes: as it leaves them they are Up or not, and m is the machine that has closed them
     pub tick : (t : ℕ) (left : List Link) → UpIn left m

@@ -37,9 +37,10 @@ use Rattle.site.specs.Call.{Plan, Gives, stepOf, writtenTo, answerOf}
 use Rattle.calls.specs.Numbers.{conditions}
 use Rattle.calls.proofs.Given.{numbers}
 use Rattle.calls.proofs.Stepped.{steps}
+use Rattle.packet_answer.specs.declared.Question.{Question}
 use Rattle.packet_answer.specs.Taken.{Taken, notAcked, byVerdict, missingElement, badValue, unexpected, notReady}
 use Rattle.call_pump.specs.Pump.{pumpRefuses, pumpPlan}
-use Rattle.call_packet.specs.Packet.{expected, unready, kindTaken, expectedTaken, askedTaken, classTaken, packetTaken, packetRefuses}
+use Rattle.call_packet.specs.Packet.{expected, unready, kindTaken, expectedTaken, askedTaken, classTaken, questionOf, packetTaken, packetRefuses}
 use Rattle.sound.specs.Sound.{SoundAt, Sound}
 use Rattle.sound.specs.Claims.{SoundPlan}
 use Rattle.sound.proofs.Kept.{a-link, in-time, at-time}
@@ -63,84 +64,84 @@ long-enough : {c : Refusal → Bool} → None c inOrder → c ShortOutput ≡ fa
 long-enough (more a (more b (more h n))) = h
 
 -- ---- a sound plan
-module _ (s : Site) (time : ℕ) (h : SoundAt time s) (l : ℕ) (linked : l < s .linkcount) (id : Identity) (chars p : List ℕ) where
+module _ (s : Site) (q : Question) (h : SoundAt (q .time) s) (linked : q .link < s .linkcount) (p : List ℕ) where
   abbrev Keeps : Taken → Type 0
-  Keeps t = SoundPlan time (t .plan)
+  Keeps t = SoundPlan (q .time) (t .plan)
 
-  kind-keeps : (k : Kind) → Keeps (kindTaken s l time id chars p k)
-  kind-keeps Version = parts .version s time h l chars (versionAt p)
-  kind-keeps Watchdog = parts .watchdog s time h l chars (watchdogAt p)
-  kind-keeps Alarm = parts .alarm s time h l id chars (alarmAt p)
-  kind-keeps AggregatedStatusRequest = parts .aggregated s time h l id chars (aggregatedAt p)
-  kind-keeps StatusRequest = parts .status s time h l id chars (statusAt false p)
-  kind-keeps StatusSubscribe = parts .subscribing s time h l linked true chars (statusAt true p)
-  kind-keeps StatusUnsubscribe = parts .subscribing s time h l linked false chars (statusAt false p)
-  kind-keeps CommandRequest = parts .command s time h l id chars (commandAt p)
-  kind-keeps Unexpected = parts .refused s time h chars unexpected
+  kind-keeps : (k : Kind) → Keeps (kindTaken s q p k)
+  kind-keeps Version = parts .version s q h (versionAt p)
+  kind-keeps Watchdog = parts .watchdog s q h (watchdogAt p)
+  kind-keeps Alarm = parts .alarm s q h (alarmAt p)
+  kind-keeps AggregatedStatusRequest = parts .aggregated s q h (aggregatedAt p)
+  kind-keeps StatusRequest = parts .status s q h (statusAt false p)
+  kind-keeps StatusSubscribe = parts .subscribing s q h linked true (statusAt true p)
+  kind-keeps StatusUnsubscribe = parts .subscribing s q h linked false (statusAt false p)
+  kind-keeps CommandRequest = parts .command s q h (commandAt p)
+  kind-keeps Unexpected = parts .refused s q h unexpected
 
-  expected-keeps : (k : Kind) → Keeps (expectedTaken s l time id chars p k)
+  expected-keeps : (k : Kind) → Keeps (expectedTaken s q p k)
   expected-keeps k =
-      picked Keeps (expected (linkAt s l) k) _ (notAcked s chars unexpected)
-      (λ e. picked Keeps (unready (linkAt s l) k) (notAcked s chars notReady) (kindTaken s l time id chars p k) (λ u. parts .refused s time h chars notReady) (λ u. kind-keeps k))
-      (λ e. parts .refused s time h chars unexpected)
+      picked Keeps (expected (linkAt s (q .link)) k) _ (notAcked s q unexpected)
+      (λ e. picked Keeps (unready (linkAt s (q .link)) k) (notAcked s q notReady) (kindTaken s q p k) (λ u. parts .refused s q h notReady) (λ u. kind-keeps k))
+      (λ e. parts .refused s q h unexpected)
 
-  asked-keeps : (v : Verdict) (k : Kind) → Keeps (askedTaken s l time id chars p v k)
+  asked-keeps : (v : Verdict) (k : Kind) → Keeps (askedTaken s q p v k)
   asked-keeps Good k = expected-keeps k
-  asked-keeps Missing k = parts .refused s time h chars missingElement
-  asked-keeps Bad k = parts .refused s time h chars badValue
+  asked-keeps Missing k = parts .refused s q h missingElement
+  asked-keeps Bad k = parts .refused s q h badValue
 
-  class-keeps : (answered : Identity) (c : Class) → Keeps (classTaken s l time id answered chars p c)
+  class-keeps : (answered : Identity) (c : Class) → Keeps (classTaken s q answered p c)
   class-keeps answered NoClass = record { site = h; issued = tt }
-  class-keeps answered Acked = parts .answered s time h l answered true
-  class-keeps answered NotAcked = parts .answered s time h l answered false
+  class-keeps answered Acked = parts .answered s (q .time) h (q .link) answered true
+  class-keeps answered NotAcked = parts .answered s (q .time) h (q .link) answered false
   class-keeps answered (Asked v k) = asked-keeps v k
 
 -- ---- well-formed messages
-module _ (time : ℕ) (s : Site) (h : SoundAt time s) (l : ℕ) (id : Identity) (sixteen : SixteenBytes (id .bytes)) (p : List ℕ) where
+module _ (s : Site) (q : Question) (h : SoundAt (q .time) s) (sixteen : SixteenBytes (q .identity .bytes)) (p : List ℕ) where
   abbrev Sends : Taken → Type 0
   Sends t = Sendable (t .plan .messages)
 
-  module _ (chars : List ℕ) (r : Received chars) where
-    kind-sends : (k : Kind) → Sends (kindTaken s l time id chars p k)
-    kind-sends Version = plans .version s l chars r (versionAt p)
-    kind-sends Watchdog = plans .watchdog s l chars r (watchdogAt p)
-    kind-sends Alarm = plans .alarm time s h l id sixteen chars r (alarmAt p)
-    kind-sends AggregatedStatusRequest = plans .aggregated time s h l id sixteen chars r (aggregatedAt p)
-    kind-sends StatusRequest = plans .status time s h l id sixteen chars r p
-    kind-sends StatusSubscribe = plans .subscribing true s l time chars r (statusAt true p)
-    kind-sends StatusUnsubscribe = plans .subscribing false s l time chars r (statusAt false p)
-    kind-sends CommandRequest = plans .command time s h l id sixteen chars r p
-    kind-sends Unexpected = plans .refused s chars r unexpected tt
+  module _ (r : Received (q .received .bytes)) where
+    kind-sends : (k : Kind) → Sends (kindTaken s q p k)
+    kind-sends Version = plans .version s q r (versionAt p)
+    kind-sends Watchdog = plans .watchdog s q r (watchdogAt p)
+    kind-sends Alarm = plans .alarm s q h sixteen r (alarmAt p)
+    kind-sends AggregatedStatusRequest = plans .aggregated s q h sixteen r (aggregatedAt p)
+    kind-sends StatusRequest = plans .status s q h sixteen r p
+    kind-sends StatusSubscribe = plans .subscribing true s q r (statusAt true p)
+    kind-sends StatusUnsubscribe = plans .subscribing false s q r (statusAt false p)
+    kind-sends CommandRequest = plans .command s q h sixteen r p
+    kind-sends Unexpected = plans .refused s q r unexpected tt
 
-    expected-sends : (k : Kind) → Sends (expectedTaken s l time id chars p k)
+    expected-sends : (k : Kind) → Sends (expectedTaken s q p k)
     expected-sends k =
-        picked Sends (expected (linkAt s l) k) _ (notAcked s chars unexpected)
-        (λ e. picked Sends (unready (linkAt s l) k) (notAcked s chars notReady) (kindTaken s l time id chars p k) (λ u. plans .refused s chars r notReady tt) (λ u. kind-sends k))
-        (λ e. plans .refused s chars r unexpected tt)
+        picked Sends (expected (linkAt s (q .link)) k) _ (notAcked s q unexpected)
+        (λ e. picked Sends (unready (linkAt s (q .link)) k) (notAcked s q notReady) (kindTaken s q p k) (λ u. plans .refused s q r notReady tt) (λ u. kind-sends k))
+        (λ e. plans .refused s q r unexpected tt)
 
-    asked-sends : (v : Verdict) (k : Kind) → Sends (askedTaken s l time id chars p v k)
+    asked-sends : (v : Verdict) (k : Kind) → Sends (askedTaken s q p v k)
     asked-sends Good k = expected-sends k
-    asked-sends Missing k = plans .refused s chars r missingElement tt
-    asked-sends Bad k = plans .refused s chars r badValue tt
+    asked-sends Missing k = plans .refused s q r missingElement tt
+    asked-sends Bad k = plans .refused s q r badValue tt
 
   none-sent : (ms : List Message) → ms ≡ [] → Sendable ms
   none-sent ms e = rw e no-message
 
-  class-sends : (answered : Identity) (chars : List ℕ) (c : Class) → ((v : Verdict) (k : Kind) → c ≡ Asked v k → Received chars) → Sends (classTaken s l time id answered chars p c)
-  class-sends answered chars NoClass r = no-message
-  class-sends answered chars Acked r = none-sent _ (plans .answered s l answered true)
-  class-sends answered chars NotAcked r = none-sent _ (plans .answered s l answered false)
-  class-sends answered chars (Asked v k) r = asked-sends chars (r v k refl) v k
+  class-sends : (answered : Identity) (c : Class) → ((v : Verdict) (k : Kind) → c ≡ Asked v k → Received (q .received .bytes)) → Sends (classTaken s q answered p c)
+  class-sends answered NoClass r = no-message
+  class-sends answered Acked r = none-sent _ (plans .answered s (q .link) answered true)
+  class-sends answered NotAcked r = none-sent _ (plans .answered s (q .link) answered false)
+  class-sends answered (Asked v k) r = asked-sends (r v k refl) v k
 
-  packet-sends : Sends (packetTaken s l time id p)
-  packet-sends = class-sends (headAt p .identity) (headAt p .received .bytes) (headAt p .class) (received p)
+packet-sends : (time : ℕ) (s : Site) → SoundAt time s → (l : ℕ) (id : Identity) → SixteenBytes (id .bytes) → (p : List ℕ) → Sendable (packetTaken s l time id p .plan .messages)
+packet-sends time s h l id sixteen p = class-sends s (questionOf l time id (headAt p)) h sixteen p (headAt p .identity) (headAt p .class) (received p)
 
 -- ---- the calls
 packet-keeps : (s : Site) → Sound s → (l time : ℕ) (id : Identity) (room end : ℕ) (p : List ℕ)
     → Sound (stepOf s time (packetRefuses s l time id room p) (packetTaken s l time id p .plan) end .site)
 packet-keeps s h l time id room end p =
     keeps s time (packetRefuses s l time id room p) (packetTaken s l time id p .plan) end h
-    (λ n. class-keeps s time (at-time s time h (in-time n)) l (configured s l (a-link n)) id (headAt p .received .bytes) p (headAt p .identity) (headAt p .class))
+    (λ n. class-keeps s (questionOf l time id (headAt p)) (at-time s time h (in-time n)) (configured s l (a-link n)) p (headAt p .identity) (headAt p .class))
 
 -- where a call is done, none of its conditions applies
 free : (s : Site) (time : ℕ) (refuses : Refusal → Bool) (p : Plan) (xs ys : List ℕ) (r : Step) (d : Report)

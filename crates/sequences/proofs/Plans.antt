@@ -68,6 +68,7 @@ use Rattle.site.specs.Parts.{alarmRowAt, statusRowAt}
 use Rattle.site.specs.Call.{Command, Plan}
 use Rattle.call_pump.specs.Pump.{isHeld, Below, dueAt, entryPlan, planFor, pumpPlan}
 use Rattle.call_pump.proofs.Laws.{due-below}
+use Rattle.packet_answer.specs.declared.Question.{Question}
 use Rattle.packet_answer.specs.Taken.{Taken, notAcked, acked, handing, replied, byVerdict, unlessBusy, missingElement, badValue, rsmpVersion, siteId, sxlVersion, busy, unknownComponent, unknownAlarm, unknownStatus, unknownCommand}
 use Rattle.packet_greet.specs.Answered.{answeredPlan}
 use Rattle.packet_greet.specs.Version.{own, versionJudged, versionTaken}
@@ -168,123 +169,123 @@ answered-none s l id acknowledged = picked (λ (p : Plan). p .messages ≡ []) (
 abbrev Sends : Taken → Type 0
 Sends t = Sendable (t .plan .messages)
 
-module _ (s : Site) (l : ℕ) (received : List ℕ) (r : Received received) where
-  by-verdict : (v : Verdict) (t : Taken) → (v ≡ Good → Sends t) → Sends (byVerdict v s received t)
+module _ (s : Site) (q : Question) (r : Received (q .received .bytes)) where
+  by-verdict : (v : Verdict) (t : Taken) → (v ≡ Good → Sends t) → Sends (byVerdict v s q t)
   by-verdict Good t g = g refl
-  by-verdict Missing t g = a-reason received r missingElement tt
-  by-verdict Bad t g = a-reason received r badValue tt
+  by-verdict Missing t g = a-reason (q .received .bytes) r missingElement tt
+  by-verdict Bad t g = a-reason (q .received .bytes) r badValue tt
 
-  unless-busy : (t : Taken) → Sends t → Sends (unlessBusy s l received t)
-  unless-busy t g = picked Sends (fullOf (linkAt s l)) (notAcked s received busy) t (λ e. a-reason received r busy tt) (λ e. g)
+  unless-busy : (t : Taken) → Sends t → Sends (unlessBusy s q t)
+  unless-busy t g = picked Sends (fullOf (linkAt s (q .link))) (notAcked s q busy) t (λ e. a-reason (q .received .bytes) r busy tt) (λ e. g)
 
-  judged-sends : (j : Judged) → Sends (versionJudged s l received j)
-  judged-sends (Chosen v) = an-ack received r
-  judged-sends RsmpVersion = a-reason received r rsmpVersion tt
-  judged-sends SiteId = a-reason received r siteId tt
-  judged-sends SxlVersion = a-reason received r sxlVersion tt
+  judged-sends : (j : Judged) → Sends (versionJudged s q j)
+  judged-sends (Chosen v) = an-ack (q .received .bytes) r
+  judged-sends RsmpVersion = a-reason (q .received .bytes) r rsmpVersion tt
+  judged-sends SiteId = a-reason (q .received .bytes) r siteId tt
+  judged-sends SxlVersion = a-reason (q .received .bytes) r sxlVersion tt
 
-  version-sends : (f : VersionFields) → Sends (versionTaken s l received f)
-  version-sends f = by-verdict (f .verdict) (versionJudged s l received (judge (own s) (f .offer))) (λ e. judged-sends (judge (own s) (f .offer)))
+  version-sends : (f : VersionFields) → Sends (versionTaken s q f)
+  version-sends f = by-verdict (f .verdict) (versionJudged s q (judge (own s) (f .offer))) (λ e. judged-sends (judge (own s) (f .offer)))
 
-  watchdog-sends : (f : GotTime) → Sends (watchdogTaken s l received f)
-  watchdog-sends f = by-verdict (f .verdict) (beat s l received f) (λ e. an-ack received r)
+  watchdog-sends : (f : GotTime) → Sends (watchdogTaken s q f)
+  watchdog-sends f = by-verdict (f .verdict) (beat s q f) (λ e. an-ack (q .received .bytes) r)
 
-  module _ (subscribing : Bool) (time : ℕ) (f : StatusFields) where
-    change-sends : (c : ℕ) → Sends (judged subscribing s l time received f c)
+  module _ (subscribing : Bool) (f : StatusFields) where
+    change-sends : (c : ℕ) → Sends (judged subscribing s q f c)
     unfolding judged changed
     change-sends c =
-        picked Sends (allStatuses (s .table) c (f .entries) (f .count)) _ (notAcked s received unknownStatus)
-        (λ e. an-ack received r) (λ e. a-reason received r unknownStatus tt)
+        picked Sends (allStatuses (s .table) c (f .entries) (f .count)) _ (notAcked s q unknownStatus)
+        (λ e. an-ack (q .received .bytes) r) (λ e. a-reason (q .received .bytes) r unknownStatus tt)
 
-    asked-sends : (x : Sought) → Sends (asked subscribing s l time received f x)
+    asked-sends : (x : Sought) → Sends (asked subscribing s q f x)
     asked-sends (Is c) = change-sends c
-    asked-sends NoSuch = a-reason received r unknownStatus tt
+    asked-sends NoSuch = a-reason (q .received .bytes) r unknownStatus tt
 
-    subscribing-sends : Sends (subscribingTaken subscribing s l time received f)
+    subscribing-sends : Sends (subscribingTaken subscribing s q f)
     unfolding subscribingTaken
     subscribing-sends =
-        by-verdict (f .verdict) (asked subscribing s l time received f (componentSought (s .table) (f .component))) (λ e. asked-sends (componentSought (s .table) (f .component)))
+        by-verdict (f .verdict) (asked subscribing s q f (componentSought (s .table) (f .component))) (λ e. asked-sends (componentSought (s .table) (f .component)))
 
-  module _ (time : ℕ) (h : SoundAt time s) (id : Identity) (sixteen : SixteenBytes (id .bytes)) where
-    handing-sends : (m : Message) (commands : List Command) → Formed m → entriesIn m ≤ 16 → Sends (unlessBusy s l received (handing s l time id received m commands))
-    handing-sends m commands f e = unless-busy (handing s l time id received m commands) (and-reply received r m f e)
+  module _ (h : SoundAt (q .time) s) (sixteen : SixteenBytes (q .identity .bytes)) where
+    handing-sends : (m : Message) (commands : List Command) → Formed m → entriesIn m ≤ 16 → Sends (unlessBusy s q (handing s q m commands))
+    handing-sends m commands f e = unless-busy (handing s q m commands) (and-reply (q .received .bytes) r m f e)
 
-    replied-sends : (m : Message) → Formed m → entriesIn m ≤ 16 → Sends (unlessBusy s l received (replied s l time id received m))
+    replied-sends : (m : Message) → Formed m → entriesIn m ≤ 16 → Sends (unlessBusy s q (replied s q m))
     replied-sends m f e = handing-sends m [] f e
 
-    request-sends : (k : ℕ) → k < s .table .alarmcount → (w : Role) → Sends (requestBy s l time id received k w)
-    request-sends k i Primary = replied-sends (alarmMessage s (id .bytes) k) (alarm-formed time s h (id .bytes) sixteen k i) (lit≤ tt)
-    request-sends k i Secondary = an-ack received r
+    request-sends : (k : ℕ) → k < s .table .alarmcount → (w : Role) → Sends (requestBy s q k w)
+    request-sends k i Primary = replied-sends (alarmMessage s (q .identity .bytes) k) (alarm-formed (q .time) s h (q .identity .bytes) sixteen k i) (lit≤ tt)
+    request-sends k i Secondary = an-ack (q .received .bytes) r
 
-    ordered-sends : (k : ℕ) → k < s .table .alarmcount → (o : Order) → Sends (ordered s l time id received k o)
+    ordered-sends : (k : ℕ) → k < s .table .alarmcount → (o : Order) → Sends (ordered s q k o)
     unfolding requestTaken changeTaken
-    ordered-sends k i Request = request-sends k i (roleOf s l)
-    ordered-sends k i Acknowledge = an-ack received r
-    ordered-sends k i Suspend = an-ack received r
-    ordered-sends k i Resume = an-ack received r
+    ordered-sends k i Request = request-sends k i (roleOf s (q .link))
+    ordered-sends k i Acknowledge = an-ack (q .received .bytes) r
+    ordered-sends k i Suspend = an-ack (q .received .bytes) r
+    ordered-sends k i Resume = an-ack (q .received .bytes) r
 
-    order-sends : (o : Order) (x : SoughtAlarm) → AlarmBelow (s .table .alarmcount) x → Sends (orderedOf s l time id received o x)
+    order-sends : (o : Order) (x : SoughtAlarm) → AlarmBelow (s .table .alarmcount) x → Sends (orderedOf s q o x)
     order-sends o (AnAlarm k) i = ordered-sends k i o
-    order-sends o NoComponent i = a-reason received r unknownComponent tt
-    order-sends o NoAlarm i = a-reason received r unknownAlarm tt
+    order-sends o NoComponent i = a-reason (q .received .bytes) r unknownComponent tt
+    order-sends o NoAlarm i = a-reason (q .received .bytes) r unknownAlarm tt
 
-    alarm-sends : (f : AlarmFields) → Sends (alarmTaken s l time id received f)
+    alarm-sends : (f : AlarmFields) → Sends (alarmTaken s q f)
     unfolding alarmTaken foundTaken
     alarm-sends f =
         let x = alarmSought (s .table) (f .component) (f .code) in
-        by-verdict (f .verdict) (orderedOf s l time id received (f .order) x)
+        by-verdict (f .verdict) (orderedOf s q (f .order) x)
         (λ e. order-sends (f .order) x (alarm-below (s .linkcount) (s .primary) (s .period) (s .table) (h .start) (f .component) (f .code)))
 
-    aggregated-sends : (f : GotLabel) → Sends (aggregatedTaken s l time id received f)
+    aggregated-sends : (f : GotLabel) → Sends (aggregatedTaken s q f)
     unfolding aggregatedTaken
     aggregated-sends f =
         let x = componentSought (s .table) (f .label) in
-        let m = aggregatedMessage s (id .bytes) in
-        by-verdict (f .verdict) (aggregatedOf s l time id received x)
-        (λ e. picked Sends (isZero x) (unlessBusy s l received (replied s l time id received m)) (notAcked s received unknownComponent)
-        (λ t. replied-sends m (aggregated-formed time s h (id .bytes) sixteen) (lit≤ tt)) (λ t. a-reason received r unknownComponent tt))
+        let m = aggregatedMessage s (q .identity .bytes) in
+        by-verdict (f .verdict) (aggregatedOf s q x)
+        (λ e. picked Sends (isZero x) (unlessBusy s q (replied s q m)) (notAcked s q unknownComponent)
+        (λ t. replied-sends m (aggregated-formed (q .time) s h (q .identity .bytes) sixteen) (lit≤ tt)) (λ t. a-reason (q .received .bytes) r unknownComponent tt))
 
-    response-formed : (x : Sought) (f : StatusFields) → GoodFields f → f .verdict ≡ Good → Formed (response s time (id .bytes) x f)
+    response-formed : (x : Sought) (f : StatusFields) → GoodFields f → f .verdict ≡ Good → Formed (response s (q .time) (q .identity .bytes) x f)
     unfolding response
-    response-formed x f g e = formed-statuses sixteen (g .component e) (h .last) (told-to time s h x (f .entries) (f .count) (g .entries e))
+    response-formed x f g e = formed-statuses sixteen (g .component e) (h .last) (told-to (q .time) s h x (f .entries) (f .count) (g .entries e))
 
-    response-few : (x : Sought) (f : StatusFields) → GoodFields f → entriesIn (response s time (id .bytes) x f) ≤ 16
+    response-few : (x : Sought) (f : StatusFields) → GoodFields f → entriesIn (response s (q .time) (q .identity .bytes) x f) ≤ 16
     unfolding response
-    response-few x f g = let most = g .few in omega (arith, told-length time s h x (f .entries) (f .count), most)
+    response-few x f g = let most = g .few in omega (arith, told-length (q .time) s h x (f .entries) (f .count), most)
 
-    fields-send : (f : StatusFields) → GoodFields f → Sends (statusTaken s l time id received f)
+    fields-send : (f : StatusFields) → GoodFields f → Sends (statusTaken s q f)
     unfolding statusTaken
     fields-send f g =
         let x = componentSought (s .table) (f .component) in
-        let m = response s time (id .bytes) x f in
-        by-verdict (f .verdict) (requestedOf s l time id received f x)
-        (λ e. picked Sends (passes s f x) (unlessBusy s l received (replied s l time id received m)) (notAcked s received unknownStatus)
-        (λ t. replied-sends m (response-formed x f g e) (response-few x f g)) (λ t. a-reason received r unknownStatus tt))
+        let m = response s (q .time) (q .identity .bytes) x f in
+        by-verdict (f .verdict) (requestedOf s q f x)
+        (λ e. picked Sends (passes s f x) (unlessBusy s q (replied s q m)) (notAcked s q unknownStatus)
+        (λ t. replied-sends m (response-formed x f g e) (response-few x f g)) (λ t. a-reason (q .received .bytes) r unknownStatus tt))
 
-    status-sends : (packet : List ℕ) → Sends (statusTaken s l time id received (statusAt false packet))
+    status-sends : (packet : List ℕ) → Sends (statusTaken s q (statusAt false packet))
     status-sends packet = fields-send (statusAt false packet) (fields-good false packet)
 
-    command-formed : (x : Sought) (f : CommandFields) → GoodCommands f → f .verdict ≡ Good → Formed (commandResponse time (id .bytes) x f)
+    command-formed : (x : Sought) (f : CommandFields) → GoodCommands f → f .verdict ≡ Good → Formed (commandResponse (q .time) (q .identity .bytes) x f)
     unfolding commandResponse
     command-formed x f g e = formed-statuses sixteen (g .component e) (h .last) (told-commands x (f .entries) (f .count) (g .entries e))
 
-    command-few : (x : Sought) (f : CommandFields) → GoodCommands f → entriesIn (commandResponse time (id .bytes) x f) ≤ 16
+    command-few : (x : Sought) (f : CommandFields) → GoodCommands f → entriesIn (commandResponse (q .time) (q .identity .bytes) x f) ≤ 16
     unfolding commandResponse
     command-few x f g = let most = g .few in omega (arith, commands-length x (f .entries) (f .count), most)
 
-    commands-send : (f : CommandFields) → GoodCommands f → Sends (commandTaken s l time id received f)
+    commands-send : (f : CommandFields) → GoodCommands f → Sends (commandTaken s q f)
     unfolding commandTaken
     commands-send f g =
         let x = componentSought (s .table) (f .component) in
-        let m = commandResponse time (id .bytes) x f in
-        let t = unlessBusy s l received (handing s l time id received m (commandsOf (s .table) f x)) in
-        by-verdict (f .verdict) (commandedOf s l time id received f x)
-        (λ e. picked Sends (keepsRanges (s .table) f x) (pick (allThere (s .table) f x) t (notAcked s received unknownCommand)) (notAcked s received badValue)
-        (λ i. picked Sends (allThere (s .table) f x) t (notAcked s received unknownCommand)
-        (λ j. handing-sends m (commandsOf (s .table) f x) (command-formed x f g e) (command-few x f g)) (λ j. a-reason received r unknownCommand tt))
-        (λ i. a-reason received r badValue tt))
+        let m = commandResponse (q .time) (q .identity .bytes) x f in
+        let t = unlessBusy s q (handing s q m (commandsOf (s .table) f x)) in
+        by-verdict (f .verdict) (commandedOf s q f x)
+        (λ e. picked Sends (keepsRanges (s .table) f x) (pick (allThere (s .table) f x) t (notAcked s q unknownCommand)) (notAcked s q badValue)
+        (λ i. picked Sends (allThere (s .table) f x) t (notAcked s q unknownCommand)
+        (λ j. handing-sends m (commandsOf (s .table) f x) (command-formed x f g e) (command-few x f g)) (λ j. a-reason (q .received .bytes) r unknownCommand tt))
+        (λ i. a-reason (q .received .bytes) r badValue tt))
 
-    command-sends : (packet : List ℕ) → Sends (commandTaken s l time id received (commandAt packet))
+    command-sends : (packet : List ℕ) → Sends (commandTaken s q (commandAt packet))
     command-sends packet = commands-send (commandAt packet) (commands-good packet)
 
 pub plans : Plans
@@ -293,12 +294,12 @@ plans =
       identity = sixteen-still;
       pump = pump-sends;
       answered = answered-none;
-      refused = λ s received r reason t. a-reason received r reason t;
+      refused = λ s q r reason t. a-reason (q .received .bytes) r reason t;
       version = version-sends;
       watchdog = watchdog-sends;
-      subscribing = λ subscribing s l time received r f. subscribing-sends s l received r subscribing time f;
-      alarm = λ time s h l id sixteen received r f. alarm-sends s l received r time h id sixteen f;
-      aggregated = λ time s h l id sixteen received r f. aggregated-sends s l received r time h id sixteen f;
-      status = λ time s h l id sixteen received r packet. status-sends s l received r time h id sixteen packet;
-      command = λ time s h l id sixteen received r packet. command-sends s l received r time h id sixteen packet;
+      subscribing = λ subscribing s q r f. subscribing-sends s q r subscribing f;
+      alarm = λ s q h sixteen r f. alarm-sends s q r h sixteen f;
+      aggregated = λ s q h sixteen r f. aggregated-sends s q r h sixteen f;
+      status = λ s q h sixteen r packet. status-sends s q r h sixteen packet;
+      command = λ s q h sixteen r packet. command-sends s q r h sixteen packet;
     }

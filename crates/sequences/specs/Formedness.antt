@@ -38,6 +38,7 @@ use Rattle.site.specs.declared.Step.{Step}
 use Rattle.site.specs.Call.{Plan, Gives}
 use Rattle.send_message.specs.Sending.{alarmMessage, aggregatedMessage, entryMessage}
 use Rattle.call_pump.specs.Pump.{pumpPlan}
+use Rattle.packet_answer.specs.declared.Question.{Question}
 use Rattle.packet_answer.specs.Taken.{notAcked}
 use Rattle.packet_greet.specs.Answered.{answeredPlan}
 use Rattle.packet_greet.specs.Version.{versionTaken}
@@ -71,25 +72,25 @@ pub record Messages : Type 0 where
   -- of a held record
   pub entry : (now : ℕ) (s : Site) → SoundAt now s → (id : List ℕ) → SixteenBytes id → (e : Entry) → EntryOf s now e → Formed (entryMessage s id e)
 
--- ---- the messages of every call that writes; `received` are the characters of the packet's mId
+-- ---- the messages of every call that writes
 pub record Plans : Type 0 where
   pub identity : (bs : List ℕ) → SixteenBytes bs → SixteenBytes (version4Of bs)
   pub pump : (time : ℕ) (s : Site) → SoundAt time s → (l : ℕ) (id : Identity) → SixteenBytes (id .bytes) → Sendable (pumpPlan s l time id .messages)
   pub answered : (s : Site) (l : ℕ) (id : Identity) (acknowledged : Bool) → answeredPlan s l id acknowledged .messages ≡ []
-  pub refused : (s : Site) (received : List ℕ) → Received received → (reason : ℕ) → IsReason reason → Sendable (notAcked s received reason .plan .messages)
-  pub version : (s : Site) (l : ℕ) (received : List ℕ) → Received received → (f : VersionFields) → Sendable (versionTaken s l received f .plan .messages)
-  pub watchdog : (s : Site) (l : ℕ) (received : List ℕ) → Received received → (f : GotTime) → Sendable (watchdogTaken s l received f .plan .messages)
-  pub subscribing : (subscribing : Bool) (s : Site) (l time : ℕ) (received : List ℕ) → Received received → (f : StatusFields)
-      → Sendable (subscribingTaken subscribing s l time received f .plan .messages)
-  pub alarm : (time : ℕ) (s : Site) → SoundAt time s → (l : ℕ) (id : Identity) → SixteenBytes (id .bytes) → (received : List ℕ) → Received received → (f : AlarmFields)
-      → Sendable (alarmTaken s l time id received f .plan .messages)
-  pub aggregated : (time : ℕ) (s : Site) → SoundAt time s → (l : ℕ) (id : Identity) → SixteenBytes (id .bytes) → (received : List ℕ) → Received received → (f : GotLabel)
-      → Sendable (aggregatedTaken s l time id received f .plan .messages)
+  pub refused : (s : Site) (q : Question) → Received (q .received .bytes) → (reason : ℕ) → IsReason reason → Sendable (notAcked s q reason .plan .messages)
+  pub version : (s : Site) (q : Question) → Received (q .received .bytes) → (f : VersionFields) → Sendable (versionTaken s q f .plan .messages)
+  pub watchdog : (s : Site) (q : Question) → Received (q .received .bytes) → (f : GotTime) → Sendable (watchdogTaken s q f .plan .messages)
+  pub subscribing : (subscribing : Bool) (s : Site) (q : Question) → Received (q .received .bytes) → (f : StatusFields)
+      → Sendable (subscribingTaken subscribing s q f .plan .messages)
+  pub alarm : (s : Site) (q : Question) → SoundAt (q .time) s → SixteenBytes (q .identity .bytes) → Received (q .received .bytes) → (f : AlarmFields)
+      → Sendable (alarmTaken s q f .plan .messages)
+  pub aggregated : (s : Site) (q : Question) → SoundAt (q .time) s → SixteenBytes (q .identity .bytes) → Received (q .received .bytes) → (f : GotLabel)
+      → Sendable (aggregatedTaken s q f .plan .messages)
   -- a StatusRequest and a CommandRequest, their fields read from the packet's bytes
-  pub status : (time : ℕ) (s : Site) → SoundAt time s → (l : ℕ) (id : Identity) → SixteenBytes (id .bytes) → (received : List ℕ) → Received received → (packet : List ℕ)
-      → Sendable (statusTaken s l time id received (statusAt false packet) .plan .messages)
-  pub command : (time : ℕ) (s : Site) → SoundAt time s → (l : ℕ) (id : Identity) → SixteenBytes (id .bytes) → (received : List ℕ) → Received received → (packet : List ℕ)
-      → Sendable (commandTaken s l time id received (commandAt packet) .plan .messages)
+  pub status : (s : Site) (q : Question) → SoundAt (q .time) s → SixteenBytes (q .identity .bytes) → Received (q .received .bytes) → (packet : List ℕ)
+      → Sendable (statusTaken s q (statusAt false packet) .plan .messages)
+  pub command : (s : Site) (q : Question) → SoundAt (q .time) s → SixteenBytes (q .identity .bytes) → Received (q .received .bytes) → (packet : List ℕ)
+      → Sendable (commandTaken s q (commandAt packet) .plan .messages)
 
 -- the mId of a packet that is a request, as it was received
 abbrev pub ReceivedIn : Type 0

@@ -44,6 +44,7 @@ use Rattle.site.specs.declared.Site.{Site}
 use Rattle.site.specs.Site.{roleOf, linkAt, withLink, closeAt, maskOf, hasPrimary}
 use Rattle.site.specs.Parts.{alarmAt}
 use Rattle.site.specs.Call.{Command, Plan, only}
+use Rattle.packet_answer.specs.declared.Question.{Question}
 use Rattle.packet_answer.specs.Taken.{Taken, notAcked, closing, acked, handing, replied, byVerdict, unlessBusy, badValue, rsmpVersion, siteId, sxlVersion, unknownComponent, unknownAlarm, unknownStatus, unknownCommand, busy}
 use Rattle.packet_greet.specs.Answered.{settledFor, settled, answeredPlan}
 use Rattle.packet_greet.specs.Version.{own, versionJudged, versionTaken}
@@ -60,31 +61,8 @@ use Rattle.sound.proofs.Parts.{with-pool, with-link, with-alarm, close}
 use Rattle.sound.proofs.Alarms.{order-sound, alarm-record}
 use Rattle.sound.proofs.Found.{AlarmBelow, alarm-below}
 
+-- ---- an answer
 module _ (s : Site) (time : ℕ) (h : SoundAt time s) where
-  abbrev Good-plan : Taken → Type 0
-  Good-plan t = SoundPlan time (t .plan)
-
-  pub not-acked : (received : List ℕ) (reason : ℕ) → SoundPlan time (notAcked s received reason .plan)
-  not-acked received reason = record { site = h; issued = tt }
-
-  closing-sound : (l : ℕ) (received : List ℕ) (reason : ℕ) → SoundPlan time (closing s l received reason .plan)
-  closing-sound l received reason = record { site = close time s l h; issued = tt }
-
-  handing-sound : (l : ℕ) (id : Identity) (received : List ℕ) (m : Message) (commands : List Command) → SoundPlan time (handing s l time id received m commands .plan)
-  handing-sound l id received m commands = record { site = with-link time s h l (messageOutOf (linkAt s l) id time Other); issued = tt }
-
-  replied-sound : (l : ℕ) (id : Identity) (received : List ℕ) (m : Message) → SoundPlan time (replied s l time id received m .plan)
-  replied-sound l id received m = handing-sound l id received m []
-
-  pub by-verdict : (v : Verdict) (received : List ℕ) (t : Taken) → Good-plan t → SoundPlan time (byVerdict v s received t .plan)
-  by-verdict Good received t g = g
-  by-verdict Missing received t g = record { site = h; issued = tt }
-  by-verdict Bad received t g = record { site = h; issued = tt }
-
-  unless-busy : (l : ℕ) (received : List ℕ) (t : Taken) → Good-plan t → SoundPlan time (unlessBusy s l received t .plan)
-  unless-busy l received t g = picked Good-plan (fullOf (linkAt s l)) (notAcked s received busy) t (λ e. not-acked received busy) (λ e. g)
-
-  -- ---- an answer
   settled-for : (l : ℕ) (p : Purpose) → SoundAt time (settledFor s l p)
   settled-for l Version = h
   settled-for l Watchdog = h
@@ -102,86 +80,110 @@ module _ (s : Site) (time : ℕ) (h : SoundAt time s) where
       (λ e. record { site = close time s l h; issued = tt })
       (λ e. record { site = with-link time (settled s l f) (settled-sound l f) l (answeredOf (linkAt s l) id acknowledged); issued = tt })
 
+-- ---- what a packet asks for
+module _ (s : Site) (q : Question) (h : SoundAt (q .time) s) where
+  abbrev Good-plan : Taken → Type 0
+  Good-plan t = SoundPlan (q .time) (t .plan)
+
+  pub not-acked : (reason : ℕ) → SoundPlan (q .time) (notAcked s q reason .plan)
+  not-acked reason = record { site = h; issued = tt }
+
+  closing-sound : (reason : ℕ) → SoundPlan (q .time) (closing s q reason .plan)
+  closing-sound reason = record { site = close (q .time) s (q .link) h; issued = tt }
+
+  handing-sound : (m : Message) (commands : List Command) → SoundPlan (q .time) (handing s q m commands .plan)
+  handing-sound m commands = record { site = with-link (q .time) s h (q .link) (messageOutOf (linkAt s (q .link)) (q .identity) (q .time) Other); issued = tt }
+
+  replied-sound : (m : Message) → SoundPlan (q .time) (replied s q m .plan)
+  replied-sound m = handing-sound m []
+
+  pub by-verdict : (v : Verdict) (t : Taken) → Good-plan t → SoundPlan (q .time) (byVerdict v s q t .plan)
+  by-verdict Good t g = g
+  by-verdict Missing t g = record { site = h; issued = tt }
+  by-verdict Bad t g = record { site = h; issued = tt }
+
+  unless-busy : (t : Taken) → Good-plan t → SoundPlan (q .time) (unlessBusy s q t .plan)
+  unless-busy t g = picked Good-plan (fullOf (linkAt s (q .link))) (notAcked s q busy) t (λ e. not-acked busy) (λ e. g)
+
   -- ---- greeting
-  judged-sound : (l : ℕ) (received : List ℕ) (j : Judged) → SoundPlan time (versionJudged s l received j .plan)
-  judged-sound l received (Chosen v) =
-      record { site = with-link time s h l (versionAcceptedOf (linkAt s l) (v / 65536) (v / 256 % 256) (v % 256)); issued = tt }
-  judged-sound l received RsmpVersion = closing-sound l received rsmpVersion
-  judged-sound l received SiteId = closing-sound l received siteId
-  judged-sound l received SxlVersion = closing-sound l received sxlVersion
+  judged-sound : (j : Judged) → SoundPlan (q .time) (versionJudged s q j .plan)
+  judged-sound (Chosen v) =
+      record { site = with-link (q .time) s h (q .link) (versionAcceptedOf (linkAt s (q .link)) (v / 65536) (v / 256 % 256) (v % 256)); issued = tt }
+  judged-sound RsmpVersion = closing-sound rsmpVersion
+  judged-sound SiteId = closing-sound siteId
+  judged-sound SxlVersion = closing-sound sxlVersion
 
-  pub version-sound : (l : ℕ) (received : List ℕ) (f : VersionFields) → SoundPlan time (versionTaken s l received f .plan)
-  version-sound l received f = by-verdict (f .verdict) received (versionJudged s l received (judge (own s) (f .offer))) (judged-sound l received (judge (own s) (f .offer)))
+  pub version-sound : (f : VersionFields) → SoundPlan (q .time) (versionTaken s q f .plan)
+  version-sound f = by-verdict (f .verdict) (versionJudged s q (judge (own s) (f .offer))) (judged-sound (judge (own s) (f .offer)))
 
-  pub watchdog-sound : (l : ℕ) (received : List ℕ) (f : GotTime) → SoundPlan time (watchdogTaken s l received f .plan)
-  watchdog-sound l received f =
-      by-verdict (f .verdict) received (beat s l received f) (record { site = with-link time s h l (watchdogTakenOf (linkAt s l)); issued = tt })
+  pub watchdog-sound : (f : GotTime) → SoundPlan (q .time) (watchdogTaken s q f .plan)
+  watchdog-sound f =
+      by-verdict (f .verdict) (beat s q f) (record { site = with-link (q .time) s h (q .link) (watchdogTakenOf (linkAt s (q .link))); issued = tt })
 
   -- ---- orders
-  change-sound : (received : List ℕ) (k : ℕ) → k < s .table .alarmcount → (order : Change) → SoundPlan time (changeTaken s time received k order .plan)
+  change-sound : (k : ℕ) → k < s .table .alarmcount → (order : Change) → SoundPlan (q .time) (changeTaken s q k order .plan)
   unfolding changeTaken
-  change-sound received k i order =
-      let c = orderOf (alarmAt s k) order time in
-      let a = order-sound time (alarmAt s k) (h .alarms .each k) order in
+  change-sound k i order =
+      let c = orderOf (alarmAt s k) order (q .time) in
+      let a = order-sound (q .time) (alarmAt s k) (h .alarms .each k) order in
       record {
-        site = with-alarm time s h k (c .alarm) a;
+        site = with-alarm (q .time) s h k (c .alarm) a;
         issued =
-            each-if (EntryOf s time) (both (c .records) (hasPrimary s)) (issuedOf (c .alarm) (s .primary) k)
-            (λ t. alarm-record (s .linkcount) (s .primary) (s .period) (s .table) (h .start) time (h .last) (c .alarm) a k
+            each-if (EntryOf s (q .time)) (both (c .records) (hasPrimary s)) (issuedOf (c .alarm) (s .primary) k)
+            (λ t. alarm-record (s .linkcount) (s .primary) (s .period) (s .table) (h .start) (q .time) (h .last) (c .alarm) a k
             (ltb-true (s .primary) (s .linkcount) (both-true (c .records) (hasPrimary s) t .1)) i);
       }
 
-  module _ (l : ℕ) (id : Identity) (received : List ℕ) where
-    request-sound : (k : ℕ) (r : Role) → SoundPlan time (requestBy s l time id received k r .plan)
-    request-sound k Primary =
-        unless-busy l received (replied s l time id received (alarmMessage s (id .bytes) k)) (replied-sound l id received (alarmMessage s (id .bytes) k))
-    request-sound k Secondary = record { site = h; issued = tt }
+  request-sound : (k : ℕ) (r : Role) → SoundPlan (q .time) (requestBy s q k r .plan)
+  request-sound k Primary =
+      unless-busy (replied s q (alarmMessage s (q .identity .bytes) k)) (replied-sound (alarmMessage s (q .identity .bytes) k))
+  request-sound k Secondary = record { site = h; issued = tt }
 
-    ordered-sound : (k : ℕ) → k < s .table .alarmcount → (o : Order) → SoundPlan time (ordered s l time id received k o .plan)
-    unfolding requestTaken
-    ordered-sound k i Request = request-sound k (roleOf s l)
-    ordered-sound k i Acknowledge = change-sound received k i _
-    ordered-sound k i Suspend = change-sound received k i _
-    ordered-sound k i Resume = change-sound received k i _
+  ordered-sound : (k : ℕ) → k < s .table .alarmcount → (o : Order) → SoundPlan (q .time) (ordered s q k o .plan)
+  unfolding requestTaken
+  ordered-sound k i Request = request-sound k (roleOf s (q .link))
+  ordered-sound k i Acknowledge = change-sound k i _
+  ordered-sound k i Suspend = change-sound k i _
+  ordered-sound k i Resume = change-sound k i _
 
-    ordered-of : (o : Order) (x : SoughtAlarm) → AlarmBelow (s .table .alarmcount) x → SoundPlan time (orderedOf s l time id received o x .plan)
-    ordered-of o (Alarm k) i = ordered-sound k i o
-    ordered-of o NoComponent i = not-acked received unknownComponent
-    ordered-of o NoAlarm i = not-acked received unknownAlarm
+  ordered-of : (o : Order) (x : SoughtAlarm) → AlarmBelow (s .table .alarmcount) x → SoundPlan (q .time) (orderedOf s q o x .plan)
+  ordered-of o (Alarm k) i = ordered-sound k i o
+  ordered-of o NoComponent i = not-acked unknownComponent
+  ordered-of o NoAlarm i = not-acked unknownAlarm
 
-    pub alarm-sound : (f : AlarmFields) → SoundPlan time (alarmTaken s l time id received f .plan)
-    unfolding alarmTaken foundTaken
-    alarm-sound f =
-        by-verdict (f .verdict) received (orderedOf s l time id received (f .order) (alarmSought (s .table) (f .component) (f .code)))
-        (ordered-of (f .order) (alarmSought (s .table) (f .component) (f .code))
-        (alarm-below (s .linkcount) (s .primary) (s .period) (s .table) (h .start) (f .component) (f .code)))
+  pub alarm-sound : (f : AlarmFields) → SoundPlan (q .time) (alarmTaken s q f .plan)
+  unfolding alarmTaken foundTaken
+  alarm-sound f =
+      by-verdict (f .verdict) (orderedOf s q (f .order) (alarmSought (s .table) (f .component) (f .code)))
+      (ordered-of (f .order) (alarmSought (s .table) (f .component) (f .code))
+      (alarm-below (s .linkcount) (s .primary) (s .period) (s .table) (h .start) (f .component) (f .code)))
 
-    pub aggregated-sound : (f : GotLabel) → SoundPlan time (aggregatedTaken s l time id received f .plan)
-    unfolding aggregatedTaken
-    aggregated-sound f =
-        let x = componentSought (s .table) (f .label) in
-        let m = aggregatedMessage s (id .bytes) in
-        by-verdict (f .verdict) received (aggregatedOf s l time id received x)
-        (picked Good-plan (isZero x) (unlessBusy s l received (replied s l time id received m)) (notAcked s received unknownComponent)
-        (λ e. unless-busy l received (replied s l time id received m) (replied-sound l id received m)) (λ e. not-acked received unknownComponent))
+  pub aggregated-sound : (f : GotLabel) → SoundPlan (q .time) (aggregatedTaken s q f .plan)
+  unfolding aggregatedTaken
+  aggregated-sound f =
+      let x = componentSought (s .table) (f .label) in
+      let m = aggregatedMessage s (q .identity .bytes) in
+      by-verdict (f .verdict) (aggregatedOf s q x)
+      (picked Good-plan (isZero x) (unlessBusy s q (replied s q m)) (notAcked s q unknownComponent)
+      (λ e. unless-busy (replied s q m) (replied-sound m)) (λ e. not-acked unknownComponent))
 
-    pub status-sound : (f : StatusFields) → SoundPlan time (statusTaken s l time id received f .plan)
-    unfolding statusTaken
-    status-sound f =
-        let x = componentSought (s .table) (f .component) in
-        let m = response s time (id .bytes) x f in
-        by-verdict (f .verdict) received (requestedOf s l time id received f x)
-        (picked Good-plan (passes s f x) (unlessBusy s l received (replied s l time id received m)) (notAcked s received unknownStatus)
-        (λ e. unless-busy l received (replied s l time id received m) (replied-sound l id received m)) (λ e. not-acked received unknownStatus))
+  pub status-sound : (f : StatusFields) → SoundPlan (q .time) (statusTaken s q f .plan)
+  unfolding statusTaken
+  status-sound f =
+      let x = componentSought (s .table) (f .component) in
+      let m = response s (q .time) (q .identity .bytes) x f in
+      by-verdict (f .verdict) (requestedOf s q f x)
+      (picked Good-plan (passes s f x) (unlessBusy s q (replied s q m)) (notAcked s q unknownStatus)
+      (λ e. unless-busy (replied s q m) (replied-sound m)) (λ e. not-acked unknownStatus))
 
-    pub command-sound : (f : CommandFields) → SoundPlan time (commandTaken s l time id received f .plan)
-    unfolding commandTaken
-    command-sound f =
-        let x = componentSought (s .table) (f .component) in
-        let t = handing s l time id received (commandResponse time (id .bytes) x f) (commandsOf (s .table) f x) in
-        by-verdict (f .verdict) received (commandedOf s l time id received f x)
-        (picked Good-plan (keepsRanges (s .table) f x) (pick (allThere (s .table) f x) (unlessBusy s l received t) (notAcked s received unknownCommand)) (notAcked s received badValue)
-        (λ e. picked Good-plan (allThere (s .table) f x) (unlessBusy s l received t) (notAcked s received unknownCommand)
-        (λ e. unless-busy l received t (handing-sound l id received (commandResponse time (id .bytes) x f) (commandsOf (s .table) f x)))
-        (λ e. not-acked received unknownCommand))
-        (λ e. not-acked received badValue))
+  pub command-sound : (f : CommandFields) → SoundPlan (q .time) (commandTaken s q f .plan)
+  unfolding commandTaken
+  command-sound f =
+      let x = componentSought (s .table) (f .component) in
+      let t = handing s q (commandResponse (q .time) (q .identity .bytes) x f) (commandsOf (s .table) f x) in
+      by-verdict (f .verdict) (commandedOf s q f x)
+      (picked Good-plan (keepsRanges (s .table) f x) (pick (allThere (s .table) f x) (unlessBusy s q t) (notAcked s q unknownCommand)) (notAcked s q badValue)
+      (λ e. picked Good-plan (allThere (s .table) f x) (unlessBusy s q t) (notAcked s q unknownCommand)
+      (λ e. unless-busy t (handing-sound (commandResponse (q .time) (q .identity .bytes) x f) (commandsOf (s .table) f x)))
+      (λ e. not-acked unknownCommand))
+      (λ e. not-acked badValue))

@@ -3,7 +3,6 @@
 -- Assumes nothing.
 use Prim.Native.Nat.{ℕ, _<_}
 use mathlib.Core.Bool.{Bool}
-use mathlib.Core.List.{List}
 use Rattle.identity.specs.declared.Identity.{Identity}
 use Rattle.read_head.specs.declared.GotTime.{GotTime}
 use Rattle.read_head.specs.declared.GotLabel.{GotLabel}
@@ -14,6 +13,7 @@ use Rattle.read_commands.specs.declared.CommandFields.{CommandFields}
 use Rattle.site.specs.declared.Site.{Site}
 use Rattle.site.specs.Call.{stepOf}
 use Rattle.call_pump.specs.Pump.{pumpRefuses, pumpPlan}
+use Rattle.packet_answer.specs.declared.Question.{Question}
 use Rattle.packet_answer.specs.Taken.{notAcked}
 use Rattle.packet_greet.specs.Answered.{answeredPlan}
 use Rattle.packet_greet.specs.Version.{versionTaken}
@@ -30,13 +30,13 @@ pub record Packets : Type 0 where
   -- an answer to a message of ours
   pub answered : (s : Site) (time : ℕ) → SoundAt time s → (l : ℕ) (id : Identity) (acknowledged : Bool) → SoundPlan time (answeredPlan s l id acknowledged)
   -- a reason alone
-  pub refused : (s : Site) (time : ℕ) → SoundAt time s → (received : List ℕ) (reason : ℕ) → SoundPlan time (notAcked s received reason .plan)
-  pub version : (s : Site) (time : ℕ) → SoundAt time s → (l : ℕ) (received : List ℕ) (f : VersionFields) → SoundPlan time (versionTaken s l received f .plan)
-  pub watchdog : (s : Site) (time : ℕ) → SoundAt time s → (l : ℕ) (received : List ℕ) (f : GotTime) → SoundPlan time (watchdogTaken s l received f .plan)
-  pub alarm : (s : Site) (time : ℕ) → SoundAt time s → (l : ℕ) (id : Identity) (received : List ℕ) (f : AlarmFields) → SoundPlan time (alarmTaken s l time id received f .plan)
-  pub aggregated : (s : Site) (time : ℕ) → SoundAt time s → (l : ℕ) (id : Identity) (received : List ℕ) (f : GotLabel) → SoundPlan time (aggregatedTaken s l time id received f .plan)
-  pub status : (s : Site) (time : ℕ) → SoundAt time s → (l : ℕ) (id : Identity) (received : List ℕ) (f : StatusFields) → SoundPlan time (statusTaken s l time id received f .plan)
-  pub command : (s : Site) (time : ℕ) → SoundAt time s → (l : ℕ) (id : Identity) (received : List ℕ) (f : CommandFields) → SoundPlan time (commandTaken s l time id received f .plan)
+  pub refused : (s : Site) (q : Question) → SoundAt (q .time) s → (reason : ℕ) → SoundPlan (q .time) (notAcked s q reason .plan)
+  pub version : (s : Site) (q : Question) → SoundAt (q .time) s → (f : VersionFields) → SoundPlan (q .time) (versionTaken s q f .plan)
+  pub watchdog : (s : Site) (q : Question) → SoundAt (q .time) s → (f : GotTime) → SoundPlan (q .time) (watchdogTaken s q f .plan)
+  pub alarm : (s : Site) (q : Question) → SoundAt (q .time) s → (f : AlarmFields) → SoundPlan (q .time) (alarmTaken s q f .plan)
+  pub aggregated : (s : Site) (q : Question) → SoundAt (q .time) s → (f : GotLabel) → SoundPlan (q .time) (aggregatedTaken s q f .plan)
+  pub status : (s : Site) (q : Question) → SoundAt (q .time) s → (f : StatusFields) → SoundPlan (q .time) (statusTaken s q f .plan)
+  pub command : (s : Site) (q : Question) → SoundAt (q .time) s → (f : CommandFields) → SoundPlan (q .time) (commandTaken s q f .plan)
   -- on a configured link
-  pub subscribing : (s : Site) (time : ℕ) → SoundAt time s → (l : ℕ) → l < s .linkcount → (subscribing : Bool) (received : List ℕ) (f : StatusFields)
-      → SoundPlan time (subscribingTaken subscribing s l time received f .plan)
+  pub subscribing : (s : Site) (q : Question) → SoundAt (q .time) s → q .link < s .linkcount → (subscribing : Bool) (f : StatusFields)
+      → SoundPlan (q .time) (subscribingTaken subscribing s q f .plan)

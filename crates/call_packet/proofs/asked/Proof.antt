@@ -36,7 +36,7 @@ returns : tie.Need-returns
 returns c =
     let a = c .before .before .before .before .before .before .before .before .before .before .before .before .before .before .args in
     let t = tableOf (a .t .now) in
-    good t (a .w .now) (a .l) (a .time) (a .id) (a .received .bytes) (a .v) (expectedTaken (siteOf (a .w .now) t) (a .l) (a .time) (a .id) (a .received .bytes) (a .p .now) (a .kind)) (c .before .before .before .before .before .before .before .enum-told .given .1) (c .before .before .before .before .expect .ensures)
+    good t (a .w .now) (a .q) (a .v) (expectedTaken (siteOf (a .w .now) t) (a .q) (a .p .now) (a .kind)) (c .before .before .before .before .before .before .before .enum-told .given .1) (c .before .before .before .before .expect .ensures)
 
 same-length-3 : tie.Need-same-length-3
 same-length-3 c = search needs
@@ -48,7 +48,7 @@ returns-2 : tie.Need-returns-2
 returns-2 c =
     let a = c .before .before .before .before .before .before .before .before .before .before .before .before .before .before .args in
     let t = tableOf (a .t .now) in
-    missing t (a .w .now) (a .l) (a .time) (a .id) (a .received .bytes) (a .v) (expectedTaken (siteOf (a .w .now) t) (a .l) (a .time) (a .id) (a .received .bytes) (a .p .now) (a .kind)) (c .before .before .before .before .before .before .before .enum-told2 .given .1) (c .before .before .before .before .not-ack .ensures t)
+    missing t (a .w .now) (a .q) (a .v) (expectedTaken (siteOf (a .w .now) t) (a .q) (a .p .now) (a .kind)) (c .before .before .before .before .before .before .before .enum-told2 .given .1) (c .before .before .before .before .not-ack .ensures t)
 
 same-length-5 : tie.Need-same-length-5
 same-length-5 c = search needs
@@ -60,7 +60,7 @@ returns-3 : tie.Need-returns-3
 returns-3 c =
     let a = c .before .before .before .before .before .before .before .before .before .before .before .before .before .before .args in
     let t = tableOf (a .t .now) in
-    bad t (a .w .now) (a .l) (a .time) (a .id) (a .received .bytes) (a .v) (expectedTaken (siteOf (a .w .now) t) (a .l) (a .time) (a .id) (a .received .bytes) (a .p .now) (a .kind)) (c .before .before .before .before .before .before .before .enum-told3 .given .1) (c .before .before .before .before .not-ack2 .ensures t)
+    bad t (a .w .now) (a .q) (a .v) (expectedTaken (siteOf (a .w .now) t) (a .q) (a .p .now) (a .kind)) (c .before .before .before .before .before .before .before .enum-told3 .given .1) (c .before .before .before .before .not-ack2 .ensures t)
 
 pub asked-spec : {M : Type 1} → statement M
 asked-spec =

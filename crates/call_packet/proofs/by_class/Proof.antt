@@ -44,8 +44,8 @@ returns c =
     let a = c .before .before .before .before .before .before .before .before .before .before .before .args in
     let t = tableOf (a .t .now) in
     let s = siteOf (a .w .now) t in
-    like t (a .w .now) (a .l) (a .time) (a .id) (a .received .bytes) (λ (x : Class). classTaken s (a .l) (a .time) (a .id) (a .answered) (a .received .bytes) (a .p .now) x) (c .before .before .before .before .enum-told .given .1)
-    (keeps-time t (a .l) (a .time) (a .id) (c .before .before .done .ensures .0) (c .before .before .done .ensures .1))
+    like t (a .w .now) (a .q) (λ (x : Class). classTaken s (a .q) (a .answered) (a .p .now) x) (c .before .before .before .before .enum-told .given .1)
+    (keeps-time t (a .q) (c .before .before .done .ensures .0) (c .before .before .done .ensures .1))
 
 same-length-2 : tie.Need-same-length-2
 same-length-2 c = search needs
@@ -55,8 +55,8 @@ returns-2 c =
     let a = c .before .before .before .before .before .before .before .before .before .before .before .args in
     let t = tableOf (a .t .now) in
     let s = siteOf (a .w .now) t in
-    like t (a .w .now) (a .l) (a .time) (a .id) (a .received .bytes) (λ (x : Class). classTaken s (a .l) (a .time) (a .id) (a .answered) (a .received .bytes) (a .p .now) x) (c .before .before .before .before .enum-told2 .given .1)
-    (quiet t (a .l) (a .time) (a .id) (answeredPlan s (a .l) (a .answered) true) (answers-quietly s (a .l) (a .answered) true) (c .before .before .answered .ensures t))
+    like t (a .w .now) (a .q) (λ (x : Class). classTaken s (a .q) (a .answered) (a .p .now) x) (c .before .before .before .before .enum-told2 .given .1)
+    (quiet t (a .q) (answeredPlan s (a .q .link) (a .answered) true) (answers-quietly s (a .q .link) (a .answered) true) (c .before .before .answered .ensures t))
 
 same-length-3 : tie.Need-same-length-3
 same-length-3 c = search needs
@@ -66,8 +66,8 @@ returns-3 c =
     let a = c .before .before .before .before .before .before .before .before .before .before .before .args in
     let t = tableOf (a .t .now) in
     let s = siteOf (a .w .now) t in
-    like t (a .w .now) (a .l) (a .time) (a .id) (a .received .bytes) (λ (x : Class). classTaken s (a .l) (a .time) (a .id) (a .answered) (a .received .bytes) (a .p .now) x) (c .before .before .before .before .enum-told3 .given .1)
-    (quiet t (a .l) (a .time) (a .id) (answeredPlan s (a .l) (a .answered) false) (answers-quietly s (a .l) (a .answered) false) (c .before .before .answered2 .ensures t))
+    like t (a .w .now) (a .q) (λ (x : Class). classTaken s (a .q) (a .answered) (a .p .now) x) (c .before .before .before .before .enum-told3 .given .1)
+    (quiet t (a .q) (answeredPlan s (a .q .link) (a .answered) false) (answers-quietly s (a .q .link) (a .answered) false) (c .before .before .answered2 .ensures t))
 
 same-length-4 : tie.Need-same-length-4
 same-length-4 c = search needs
@@ -80,7 +80,7 @@ returns-4 c =
     let a = c .before .before .before .before .before .before .before .before .before .before .before .before .before .before .before .args in
     let t = tableOf (a .t .now) in
     let s = siteOf (a .w .now) t in
-    like t (a .w .now) (a .l) (a .time) (a .id) (a .received .bytes) (λ (x : Class). classTaken s (a .l) (a .time) (a .id) (a .answered) (a .received .bytes) (a .p .now) x) (c .before .before .before .before .before .before .before .before .class .given .1)
+    like t (a .w .now) (a .q) (λ (x : Class). classTaken s (a .q) (a .answered) (a .p .now) x) (c .before .before .before .before .before .before .before .before .class .given .1)
     (c .before .before .before .before .asked .ensures)
 
 pub by-class-spec : {M : Type 1} → statement M

@@ -83,8 +83,8 @@ returns c =
     let a = c .before .before .before .before .before .before .before .before .before .before .before .before .before .before .args in
     let t = tableOf (a .t .now) in
     let s = siteOf (a .w .now) t in
-    like t (a .w .now) (a .l) (a .time) (a .id) (a .received .bytes) (λ (x : Kind). kindTaken s (a .l) (a .time) (a .id) (a .received .bytes) (a .p .now) x) (c .before .before .before .before .before .before .before .enum-told .given .1)
-    (unreplied t (a .time) (a .l) (a .id) (kindTaken s (a .l) (a .time) (a .id) (a .received .bytes) (a .p .now) Version) (greet-kept .version-only-answered s (a .l) (a .received .bytes) (versionAt (a .p .now))) (c .before .before .before .before .version .ensures))
+    like t (a .w .now) (a .q) (λ (x : Kind). kindTaken s (a .q) (a .p .now) x) (c .before .before .before .before .before .before .before .enum-told .given .1)
+    (unreplied t (a .q) (kindTaken s (a .q) (a .p .now) Version) (greet-kept .version-only-answered s (a .q) (versionAt (a .p .now))) (c .before .before .before .before .version .ensures))
 
 same-length-3 : tie.Need-same-length-3
 same-length-3 c = search needs
@@ -97,8 +97,8 @@ returns-2 c =
     let a = c .before .before .before .before .before .before .before .before .before .before .before .before .before .before .args in
     let t = tableOf (a .t .now) in
     let s = siteOf (a .w .now) t in
-    like t (a .w .now) (a .l) (a .time) (a .id) (a .received .bytes) (λ (x : Kind). kindTaken s (a .l) (a .time) (a .id) (a .received .bytes) (a .p .now) x) (c .before .before .before .before .before .before .before .enum-told2 .given .1)
-    (unreplied t (a .time) (a .l) (a .id) (kindTaken s (a .l) (a .time) (a .id) (a .received .bytes) (a .p .now) Watchdog) (greet-kept .watchdog-only-answered s (a .l) (a .received .bytes) (watchdogAt (a .p .now))) (c .before .before .before .before .watchdog .ensures t))
+    like t (a .w .now) (a .q) (λ (x : Kind). kindTaken s (a .q) (a .p .now) x) (c .before .before .before .before .before .before .before .enum-told2 .given .1)
+    (unreplied t (a .q) (kindTaken s (a .q) (a .p .now) Watchdog) (greet-kept .watchdog-only-answered s (a .q) (watchdogAt (a .p .now))) (c .before .before .before .before .watchdog .ensures t))
 
 same-length-5 : tie.Need-same-length-5
 same-length-5 c = search needs
@@ -111,7 +111,7 @@ returns-3 c =
     let a = c .before .before .before .before .before .before .before .before .before .before .before .before .before .before .args in
     let t = tableOf (a .t .now) in
     let s = siteOf (a .w .now) t in
-    like t (a .w .now) (a .l) (a .time) (a .id) (a .received .bytes) (λ (x : Kind). kindTaken s (a .l) (a .time) (a .id) (a .received .bytes) (a .p .now) x) (c .before .before .before .before .before .before .before .enum-told3 .given .1)
+    like t (a .w .now) (a .q) (λ (x : Kind). kindTaken s (a .q) (a .p .now) x) (c .before .before .before .before .before .before .before .enum-told3 .given .1)
     (c .before .before .before .before .alarm .ensures)
 
 same-length-7 : tie.Need-same-length-7
@@ -125,7 +125,7 @@ returns-4 c =
     let a = c .before .before .before .before .before .before .before .before .before .before .before .before .before .before .args in
     let t = tableOf (a .t .now) in
     let s = siteOf (a .w .now) t in
-    like t (a .w .now) (a .l) (a .time) (a .id) (a .received .bytes) (λ (x : Kind). kindTaken s (a .l) (a .time) (a .id) (a .received .bytes) (a .p .now) x) (c .before .before .before .before .before .before .before .enum-told4 .given .1)
+    like t (a .w .now) (a .q) (λ (x : Kind). kindTaken s (a .q) (a .p .now) x) (c .before .before .before .before .before .before .before .enum-told4 .given .1)
     (c .before .before .before .before .aggregated .ensures)
 
 same-length-9 : tie.Need-same-length-9
@@ -139,7 +139,7 @@ returns-5 c =
     let a = c .before .before .before .before .before .before .before .before .before .before .before .before .before .before .args in
     let t = tableOf (a .t .now) in
     let s = siteOf (a .w .now) t in
-    like t (a .w .now) (a .l) (a .time) (a .id) (a .received .bytes) (λ (x : Kind). kindTaken s (a .l) (a .time) (a .id) (a .received .bytes) (a .p .now) x) (c .before .before .before .before .before .before .before .enum-told5 .given .1)
+    like t (a .w .now) (a .q) (λ (x : Kind). kindTaken s (a .q) (a .p .now) x) (c .before .before .before .before .before .before .before .enum-told5 .given .1)
     (c .before .before .before .before .status-request .ensures)
 
 same-length-11 : tie.Need-same-length-11
@@ -153,8 +153,8 @@ returns-6 c =
     let a = c .before .before .before .before .before .before .before .before .before .before .before .before .before .before .args in
     let t = tableOf (a .t .now) in
     let s = siteOf (a .w .now) t in
-    like t (a .w .now) (a .l) (a .time) (a .id) (a .received .bytes) (λ (x : Kind). kindTaken s (a .l) (a .time) (a .id) (a .received .bytes) (a .p .now) x) (c .before .before .before .before .before .before .before .enum-told6 .given .1)
-    (unreplied t (a .time) (a .l) (a .id) (kindTaken s (a .l) (a .time) (a .id) (a .received .bytes) (a .p .now) StatusSubscribe) (subscribing-kept .only-answered true s (a .l) (a .time) (a .received .bytes) (statusAt true (a .p .now))) (c .before .before .before .before .subscribe .ensures))
+    like t (a .w .now) (a .q) (λ (x : Kind). kindTaken s (a .q) (a .p .now) x) (c .before .before .before .before .before .before .before .enum-told6 .given .1)
+    (unreplied t (a .q) (kindTaken s (a .q) (a .p .now) StatusSubscribe) (subscribing-kept .only-answered true s (a .q) (statusAt true (a .p .now))) (c .before .before .before .before .subscribe .ensures))
 
 same-length-13 : tie.Need-same-length-13
 same-length-13 c = search needs
@@ -167,8 +167,8 @@ returns-7 c =
     let a = c .before .before .before .before .before .before .before .before .before .before .before .before .before .before .args in
     let t = tableOf (a .t .now) in
     let s = siteOf (a .w .now) t in
-    like t (a .w .now) (a .l) (a .time) (a .id) (a .received .bytes) (λ (x : Kind). kindTaken s (a .l) (a .time) (a .id) (a .received .bytes) (a .p .now) x) (c .before .before .before .before .before .before .before .enum-told7 .given .1)
-    (unreplied t (a .time) (a .l) (a .id) (kindTaken s (a .l) (a .time) (a .id) (a .received .bytes) (a .p .now) StatusUnsubscribe) (subscribing-kept .only-answered false s (a .l) (a .time) (a .received .bytes) (statusAt false (a .p .now))) (c .before .before .before .before .unsubscribe .ensures))
+    like t (a .w .now) (a .q) (λ (x : Kind). kindTaken s (a .q) (a .p .now) x) (c .before .before .before .before .before .before .before .enum-told7 .given .1)
+    (unreplied t (a .q) (kindTaken s (a .q) (a .p .now) StatusUnsubscribe) (subscribing-kept .only-answered false s (a .q) (statusAt false (a .p .now))) (c .before .before .before .before .unsubscribe .ensures))
 
 same-length-15 : tie.Need-same-length-15
 same-length-15 c = search needs
@@ -181,7 +181,7 @@ returns-8 c =
     let a = c .before .before .before .before .before .before .before .before .before .before .before .before .before .before .args in
     let t = tableOf (a .t .now) in
     let s = siteOf (a .w .now) t in
-    like t (a .w .now) (a .l) (a .time) (a .id) (a .received .bytes) (λ (x : Kind). kindTaken s (a .l) (a .time) (a .id) (a .received .bytes) (a .p .now) x) (c .before .before .before .before .before .before .before .enum-told8 .given .1)
+    like t (a .w .now) (a .q) (λ (x : Kind). kindTaken s (a .q) (a .p .now) x) (c .before .before .before .before .before .before .before .enum-told8 .given .1)
     (c .before .before .before .before .command .ensures)
 
 same-length-17 : tie.Need-same-length-17
@@ -195,8 +195,8 @@ returns-9 c =
     let a = c .before .before .before .before .before .before .before .before .before .before .before .before .before .before .args in
     let t = tableOf (a .t .now) in
     let s = siteOf (a .w .now) t in
-    like t (a .w .now) (a .l) (a .time) (a .id) (a .received .bytes) (λ (x : Kind). kindTaken s (a .l) (a .time) (a .id) (a .received .bytes) (a .p .now) x) (c .before .before .before .before .before .before .before .enum-told9 .given .1)
-    (not-acked t (a .w .now) (a .l) (a .time) (a .id) (a .received .bytes) unexpected (c .before .before .before .before .not-ack .ensures t))
+    like t (a .w .now) (a .q) (λ (x : Kind). kindTaken s (a .q) (a .p .now) x) (c .before .before .before .before .before .before .before .enum-told9 .given .1)
+    (not-acked t (a .w .now) (a .q) unexpected (c .before .before .before .before .not-ack .ensures t))
 
 pub by-kind-spec : {M : Type 1} → statement M
 by-kind-spec =

@@ -26,7 +26,7 @@ returns : tie.Need-returns
 returns c =
     let a = c .before .before .before .before .before .before .before .before .before .before .before .before .before .before .before .before .before .before .args in
     let t = tableOf (a .t .now) in
-    not-ready t (a .w .now) (a .l) (a .time) (a .id) (a .received .bytes) (a .p .now) (a .kind) (sym (c .before .before .before .before .before .before .before .before .before .before .before .expected .ensures t) ∙ c .before .before .before .before .before .before .before .before .before .before .if1 .taken) (sym (c .before .before .before .before .before .before .before .before .unready .ensures t) ∙ c .before .before .before .before .before .before .before .if2 .taken) (c .before .before .before .before .not-ack .ensures t)
+    not-ready t (a .w .now) (a .q) (a .p .now) (a .kind) (sym (c .before .before .before .before .before .before .before .before .before .before .before .expected .ensures t) ∙ c .before .before .before .before .before .before .before .before .before .before .if1 .taken) (sym (c .before .before .before .before .before .before .before .before .unready .ensures t) ∙ c .before .before .before .before .before .before .before .if2 .taken) (c .before .before .before .before .not-ack .ensures t)
 
 by-kind-requires : tie.Need-by-kind-requires
 by-kind-requires c κs = search needs
@@ -41,7 +41,7 @@ returns-2 : tie.Need-returns-2
 returns-2 c =
     let a = c .before .before .before .before .before .before .before .before .before .before .before .before .before .before .before .before .before .before .args in
     let t = tableOf (a .t .now) in
-    ready t (a .w .now) (a .l) (a .time) (a .id) (a .received .bytes) (a .p .now) (a .kind) (sym (c .before .before .before .before .before .before .before .before .before .before .before .expected .ensures t) ∙ c .before .before .before .before .before .before .before .before .before .before .if1 .taken) (sym (c .before .before .before .before .before .before .before .before .unready .ensures t) ∙ c .before .before .before .before .before .before .before .if2 .left) (c .before .before .before .before .by-kind .ensures)
+    ready t (a .w .now) (a .q) (a .p .now) (a .kind) (sym (c .before .before .before .before .before .before .before .before .before .before .before .expected .ensures t) ∙ c .before .before .before .before .before .before .before .before .before .before .if1 .taken) (sym (c .before .before .before .before .before .before .before .before .unready .ensures t) ∙ c .before .before .before .before .before .before .before .if2 .left) (c .before .before .before .before .by-kind .ensures)
 
 not-ack-requires-2 : tie.Need-not-ack-requires-2
 not-ack-requires-2 c κs = search needs
@@ -56,7 +56,7 @@ returns-3 : tie.Need-returns-3
 returns-3 c =
     let a = c .before .before .before .before .before .before .before .before .before .before .before .before .before .before .before .args in
     let t = tableOf (a .t .now) in
-    not-expected t (a .w .now) (a .l) (a .time) (a .id) (a .received .bytes) (a .p .now) (a .kind) (sym (c .before .before .before .before .before .before .before .before .expected .ensures t) ∙ c .before .before .before .before .before .before .before .if1 .left) (c .before .before .before .before .not-ack2 .ensures t)
+    not-expected t (a .w .now) (a .q) (a .p .now) (a .kind) (sym (c .before .before .before .before .before .before .before .before .expected .ensures t) ∙ c .before .before .before .before .before .before .before .if1 .left) (c .before .before .before .before .not-ack2 .ensures t)
 
 pub expect-spec : {M : Type 1} → statement M
 expect-spec =

@@ -4,7 +4,7 @@ use mathlib.Core.Path.{sym, _∙_}
 use Rattle.store_table.specs.Layout.{tableOf}
 use Rattle.store_site.specs.Layout.{siteOf}
 use Rattle.site.specs.Site.{linkAt}
-use Rattle.call_packet.specs.Packet.{ignoredBy, headTaken}
+use Rattle.call_packet.specs.Packet.{ignoredBy, questionOf, headTaken}
 use Rattle.call_packet.proofs.Laws.{is-ignored, is-heeded}
 use borrow.Author.Needs.{needs}
 use Rattle.call_packet.proofs.heed.Statement.{statement}
@@ -21,7 +21,7 @@ returns c =
     let a = c .before .before .before .before .before .before .before .before .before .before .args in
     let t = tableOf (a .t .now) in
     let s = siteOf (a .w .now) t in
-    is-ignored t (a .w .now) (a .l) (a .time) (a .id) (headTaken s (a .l) (a .time) (a .id) (a .p .now) (a .h)) (ignoredBy (linkAt s (a .l)) (a .h .identity) (a .h .class)) (sym (c .before .ignored .ensures t) ∙ c .if1 .taken)
+    is-ignored t (a .w .now) (questionOf (a .l) (a .time) (a .id) (a .h)) (headTaken s (a .l) (a .time) (a .id) (a .p .now) (a .h)) (ignoredBy (linkAt s (a .l)) (a .h .identity) (a .h .class)) (sym (c .before .ignored .ensures t) ∙ c .if1 .taken)
 
 by-class-requires : tie.Need-by-class-requires
 by-class-requires c κs = search needs
@@ -37,7 +37,7 @@ returns-2 c =
     let a = c .before .before .before .before .before .before .before .before .before .before .before .before .before .before .before .before .before .args in
     let t = tableOf (a .t .now) in
     let s = siteOf (a .w .now) t in
-    is-heeded t (a .w .now) (a .l) (a .time) (a .id) (headTaken s (a .l) (a .time) (a .id) (a .p .now) (a .h)) (ignoredBy (linkAt s (a .l)) (a .h .identity) (a .h .class)) (sym (c .before .before .before .before .before .before .before .before .ignored .ensures t) ∙ c .before .before .before .before .before .before .before .if1 .left) (c .before .before .before .before .by-class .ensures)
+    is-heeded t (a .w .now) (questionOf (a .l) (a .time) (a .id) (a .h)) (headTaken s (a .l) (a .time) (a .id) (a .p .now) (a .h)) (ignoredBy (linkAt s (a .l)) (a .h .identity) (a .h .class)) (sym (c .before .before .before .before .before .before .before .before .ignored .ensures t) ∙ c .before .before .before .before .before .before .before .if1 .left) (c .before .before .before .before .by-class .ensures)
 
 pub heed-spec : {M : Type 1} → statement M
 heed-spec =

@@ -10,7 +10,7 @@ use Rattle.site.specs.Site.{noLinkAt, badTimeAt, downAt, linkAt}
 use Rattle.site.proofs.Checks.{link-below}
 use Rattle.store_site.specs.Layout.{siteOf}
 use Rattle.store_table.specs.Layout.{tableOf}
-use Rattle.call_packet.specs.Packet.{ignoredBy, packetTaken}
+use Rattle.call_packet.specs.Packet.{ignoredBy, questionOf, packetTaken}
 use Rattle.call_packet.proofs.Laws.{no-link, short, long, late, closed, through}
 use borrow.Author.Tests.{lt-ltb, le-ltb}
 use borrow.Author.Needs.{needs}
@@ -29,7 +29,7 @@ returns c =
     let t = tableOf (a .t .now) in
     let s = siteOf (a .w .now) t in
     let id = identityOf (a .random) in
-    no-link t (a .w .now) (a .link) (a .time) id (packetTaken s (a .link) (a .time) id (a .p .now))
+    no-link t (a .w .now) (questionOf (a .link) (a .time) id (headAt (a .p .now))) (packetTaken s (a .link) (a .time) id (a .p .now))
     (noLinkAt s (a .link)) (ltb (length (a .out .now)) 4096) (ltb 4096 (length (a .p .now))) (badTimeAt s (a .time)) (downAt s (a .link))
     (ignoredBy (linkAt s (a .link)) (headAt (a .p .now) .identity) (headAt (a .p .now) .class))
     (sym (c .before .no-link .ensures t) ∙ c .if1 .taken)
@@ -43,7 +43,7 @@ returns-2 c =
     let t = tableOf (a .t .now) in
     let s = siteOf (a .w .now) t in
     let id = identityOf (a .random) in
-    short t (a .w .now) (a .link) (a .time) id (packetTaken s (a .link) (a .time) id (a .p .now))
+    short t (a .w .now) (questionOf (a .link) (a .time) id (headAt (a .p .now))) (packetTaken s (a .link) (a .time) id (a .p .now))
     (noLinkAt s (a .link)) (ltb (length (a .out .now)) 4096) (ltb 4096 (length (a .p .now))) (badTimeAt s (a .time)) (downAt s (a .link))
     (ignoredBy (linkAt s (a .link)) (headAt (a .p .now) .identity) (headAt (a .p .now) .class))
     (sym (c .before .before .no-link .ensures t) ∙ c .before .if1 .left) (lt-ltb _ _ (c .if2 .taken))
@@ -57,7 +57,7 @@ returns-3 c =
     let t = tableOf (a .t .now) in
     let s = siteOf (a .w .now) t in
     let id = identityOf (a .random) in
-    long t (a .w .now) (a .link) (a .time) id (packetTaken s (a .link) (a .time) id (a .p .now))
+    long t (a .w .now) (questionOf (a .link) (a .time) id (headAt (a .p .now))) (packetTaken s (a .link) (a .time) id (a .p .now))
     (noLinkAt s (a .link)) (ltb (length (a .out .now)) 4096) (ltb 4096 (length (a .p .now))) (badTimeAt s (a .time)) (downAt s (a .link))
     (ignoredBy (linkAt s (a .link)) (headAt (a .p .now) .identity) (headAt (a .p .now) .class))
     (sym (c .before .before .before .no-link .ensures t) ∙ c .before .before .if1 .left) (le-ltb _ _ (c .before .if2 .left)) (lt-ltb _ _ (c .if3 .taken))
@@ -74,7 +74,7 @@ returns-4 c =
     let t = tableOf (a .t .now) in
     let s = siteOf (a .w .now) t in
     let id = identityOf (a .random) in
-    late t (a .w .now) (a .link) (a .time) id (packetTaken s (a .link) (a .time) id (a .p .now))
+    late t (a .w .now) (questionOf (a .link) (a .time) id (headAt (a .p .now))) (packetTaken s (a .link) (a .time) id (a .p .now))
     (noLinkAt s (a .link)) (ltb (length (a .out .now)) 4096) (ltb 4096 (length (a .p .now))) (badTimeAt s (a .time)) (downAt s (a .link))
     (ignoredBy (linkAt s (a .link)) (headAt (a .p .now) .identity) (headAt (a .p .now) .class))
     (sym (c .before .before .before .before .before .before .no-link .ensures t) ∙ c .before .before .before .before .before .if1 .left) (le-ltb _ _ (c .before .before .before .before .if2 .left)) (le-ltb _ _ (c .before .before .before .if3 .left)) (sym (c .before .bad-time .ensures t) ∙ c .if4 .taken)
@@ -97,7 +97,7 @@ returns-5 c =
     let t = tableOf (a .t .now) in
     let s = siteOf (a .w .now) t in
     let id = identityOf (a .random) in
-    closed t (a .w .now) (a .link) (a .time) id (packetTaken s (a .link) (a .time) id (a .p .now))
+    closed t (a .w .now) (questionOf (a .link) (a .time) id (headAt (a .p .now))) (packetTaken s (a .link) (a .time) id (a .p .now))
     (noLinkAt s (a .link)) (ltb (length (a .out .now)) 4096) (ltb 4096 (length (a .p .now))) (badTimeAt s (a .time)) (downAt s (a .link))
     (ignoredBy (linkAt s (a .link)) (headAt (a .p .now) .identity) (headAt (a .p .now) .class))
     (sym (c .before .before .before .before .before .before .before .before .before .no-link .ensures t) ∙ c .before .before .before .before .before .before .before .before .if1 .left) (le-ltb _ _ (c .before .before .before .before .before .before .before .if2 .left)) (le-ltb _ _ (c .before .before .before .before .before .before .if3 .left)) (sym (c .before .before .before .before .bad-time .ensures t) ∙ c .before .before .before .if4 .left) (sym (c .before .down .ensures t) ∙ c .if5 .taken)
@@ -120,7 +120,7 @@ returns-6 c =
     let t = tableOf (a .t .now) in
     let s = siteOf (a .w .now) t in
     let id = identityOf (a .random) in
-    through t (a .w .now) (a .link) (a .time) id (packetTaken s (a .link) (a .time) id (a .p .now))
+    through t (a .w .now) (questionOf (a .link) (a .time) id (headAt (a .p .now))) (packetTaken s (a .link) (a .time) id (a .p .now))
     (noLinkAt s (a .link)) (ltb (length (a .out .now)) 4096) (ltb 4096 (length (a .p .now))) (badTimeAt s (a .time)) (downAt s (a .link))
     (ignoredBy (linkAt s (a .link)) (headAt (a .p .now) .identity) (headAt (a .p .now) .class))
     (sym (c .before .before .before .before .before .before .before .before .before .before .before .before .before .before .before .before .before .no-link .ensures t) ∙ c .before .before .before .before .before .before .before .before .before .before .before .before .before .before .before .before .if1 .left) (le-ltb _ _ (c .before .before .before .before .before .before .before .before .before .before .before .before .before .before .before .if2 .left)) (le-ltb _ _ (c .before .before .before .before .before .before .before .before .before .before .before .before .before .before .if3 .left)) (sym (c .before .before .before .before .before .before .before .before .before .before .before .before .bad-time .ensures t) ∙ c .before .before .before .before .before .before .before .before .before .before .before .if4 .left) (sym (c .before .before .before .before .before .before .before .before .before .down .ensures t) ∙ c .before .before .before .before .before .before .before .before .if5 .left)

@@ -20,7 +20,7 @@ same-length-2 c = search needs
 returns : tie.Need-returns
 returns c =
     let a = c .before .before .before .before .before .before .before .before .before .before .args in
-    λ t. accepts t (a .time) (a .received .bytes) (λ (s : Site). s) none (c .before .before .before .before .before .before .ack .ensures) (c .before .before .done .ensures .0) (c .before .before .done .ensures .1)
+    λ t. accepts t (a .q) (λ (s : Site). s) none (c .before .before .before .before .before .before .ack .ensures) (c .before .before .done .ensures .0) (c .before .before .done .ensures .1)
 
 pub accept-spec : {M : Type 1} → statement M
 accept-spec = tie.close (tie.spec ack-requires done-requires same-length same-length-2 returns)

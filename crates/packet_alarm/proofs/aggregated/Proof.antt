@@ -25,7 +25,7 @@ returns c =
     let a = c .before .before .before .before .before .before .before .before .before .before .before .before .before .args in
     let t = tableOf (a .t .now) in
     let ws = a .w .now in
-    like t ws (a .l) (a .time) (a .id) (a .received .bytes) (λ (x : GotLabel). aggregatedTaken (siteOf ws t) (a .l) (a .time) (a .id) (a .received .bytes) x) (sym (c .before .before .before .before .before .before .before .read-aggregated .ensures)) (c .before .before .before .before .judge-aggregated .ensures)
+    like t ws (a .q) (λ (x : GotLabel). aggregatedTaken (siteOf ws t) (a .q) x) (sym (c .before .before .before .before .before .before .before .read-aggregated .ensures)) (c .before .before .before .before .judge-aggregated .ensures)
 
 pub aggregated-spec : {M : Type 1} → statement M
 aggregated-spec =

@@ -27,9 +27,9 @@ returns c =
     let a = c .before .before .before .before .before .before .before .before .before .before .before .before .args in
     let t = tableOf (a .t .now) in
     let ws = a .w .now in
-    picked-first t ws (a .l) (a .time) (a .id) (a .received .bytes) (isZero (componentSought t (a .component)))
-    (unlessBusy (siteOf ws t) (a .l) (a .received .bytes) (replied (siteOf ws t) (a .l) (a .time) (a .id) (a .received .bytes) (aggregatedMessage (siteOf ws t) (a .id .bytes))))
-    (notAcked (siteOf ws t) (a .received .bytes) unknownComponent) (sym (c .before .before .before .before .before .before .before .before .carries .ensures) ∙ c .before .before .before .before .before .before .before .if1 .taken) (c .before .before .before .before .reply-aggregated .ensures)
+    picked-first t ws (a .q) (isZero (componentSought t (a .component)))
+    (unlessBusy (siteOf ws t) (a .q) (replied (siteOf ws t) (a .q) (aggregatedMessage (siteOf ws t) (a .q .identity .bytes))))
+    (notAcked (siteOf ws t) (a .q) unknownComponent) (sym (c .before .before .before .before .before .before .before .before .carries .ensures) ∙ c .before .before .before .before .before .before .before .if1 .taken) (c .before .before .before .before .reply-aggregated .ensures)
 
 not-ack-requires : tie.Need-not-ack-requires
 not-ack-requires c κs = search needs
@@ -45,9 +45,9 @@ returns-2 c =
     let a = c .before .before .before .before .before .before .before .before .before .before .before .before .args in
     let t = tableOf (a .t .now) in
     let ws = a .w .now in
-    picked-second t ws (a .l) (a .time) (a .id) (a .received .bytes) (isZero (componentSought t (a .component)))
-    (unlessBusy (siteOf ws t) (a .l) (a .received .bytes) (replied (siteOf ws t) (a .l) (a .time) (a .id) (a .received .bytes) (aggregatedMessage (siteOf ws t) (a .id .bytes))))
-    (notAcked (siteOf ws t) (a .received .bytes) unknownComponent) (sym (c .before .before .before .before .before .before .before .before .carries .ensures) ∙ c .before .before .before .before .before .before .before .if1 .left) (not-acked t ws (a .l) (a .time) (a .id) (a .received .bytes) unknownComponent (c .before .before .before .before .not-ack .ensures t))
+    picked-second t ws (a .q) (isZero (componentSought t (a .component)))
+    (unlessBusy (siteOf ws t) (a .q) (replied (siteOf ws t) (a .q) (aggregatedMessage (siteOf ws t) (a .q .identity .bytes))))
+    (notAcked (siteOf ws t) (a .q) unknownComponent) (sym (c .before .before .before .before .before .before .before .before .carries .ensures) ∙ c .before .before .before .before .before .before .before .if1 .left) (not-acked t ws (a .q) unknownComponent (c .before .before .before .before .not-ack .ensures t))
 
 pub aggregated-for-spec : {M : Type 1} → statement M
 aggregated-for-spec =

@@ -16,8 +16,8 @@ same-length c = search needs
 
 returns : tie.Need-returns
 returns c =
-    let a = c .before .before .before .before .before .before .before .before .args in
-    stopped (pieces (aggregatedMessage (siteOf (a .w .now) (tableOf (a .t .now))) (a .id .bytes))) (omega arith) (c .before .before .before .ack .ensures) (c .if1 .taken)
+    let a = c .before .before .before .before .before .before .before .before .before .args in
+    stopped (pieces (aggregatedMessage (siteOf (a .w .now) (tableOf (a .t .now))) (a .q .identity .bytes))) (omega arith) (c .before .before .before .ack .ensures) (c .if1 .taken)
 
 sub-write-aggregated : tie.Need-sub-write-aggregated
 sub-write-aggregated c = search needs

@@ -16,8 +16,8 @@ same-length c = search needs
 
 returns : tie.Need-returns
 returns c =
-    let a = c .before .before .before .before .before .before .before .before .args in
-    stopped (pieces (alarmMessage (siteOf (a .w .now) (tableOf (a .t .now))) (a .id .bytes) (a .k))) (omega arith) (c .before .before .before .ack .ensures) (c .if1 .taken)
+    let a = c .before .before .before .before .before .before .before .before .before .args in
+    stopped (pieces (alarmMessage (siteOf (a .w .now) (tableOf (a .t .now))) (a .q .identity .bytes) (a .k))) (omega arith) (c .before .before .before .ack .ensures) (c .if1 .taken)
 
 sub-write-alarm : tie.Need-sub-write-alarm
 sub-write-alarm c = search needs

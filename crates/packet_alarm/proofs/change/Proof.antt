@@ -24,7 +24,7 @@ same-length-2 c = search needs
 returns : tie.Need-returns
 returns c =
     let a = c .before .before .before .before .before .before .before .before .before .before .before .before .args in
-    λ t. orders-it t (a .w .now) (a .time) (a .received .bytes) (a .k) (a .order) (c .before .before .before .before .before .before .order .ensures ∙ ap (λ (x : Alarm). orderOf x (a .order) (a .time)) (c .before .before .before .before .before .before .before .before .alarm .ensures t)) (c .before .before .before .before .changed .ensures t)
+    λ t. orders-it t (a .w .now) (a .q) (a .k) (a .order) (c .before .before .before .before .before .before .order .ensures ∙ ap (λ (x : Alarm). orderOf x (a .order) (a .q .time)) (c .before .before .before .before .before .before .before .before .alarm .ensures t)) (c .before .before .before .before .changed .ensures t)
 
 pub change-spec : {M : Type 1} → statement M
 change-spec =

@@ -15,7 +15,7 @@ same-length c = search needs
 returns : tie.Need-returns
 returns c =
     let a = c .before .before .before .before .before .before .before .args in
-    λ t. refuses t (a .w .now) (a .time) (a .received .bytes) (a .k) (a .c) (c .before .before .before .of-alarm .ensures) (c .before .spent .ensures) (c .if1 .taken)
+    λ t. refuses t (a .w .now) (a .q) (a .k) (a .c) (c .before .before .before .of-alarm .ensures) (c .before .spent .ensures) (c .if1 .taken)
 
 ack-requires : tie.Need-ack-requires
 ack-requires c κs = search needs
@@ -35,7 +35,7 @@ same-length-3 c = search needs
 returns-2 : tie.Need-returns-2
 returns-2 c =
     let a = c .before .before .before .before .before .before .before .before .before .before .before .before .before .before .before .before .args in
-    λ t. makes t (a .w .now) (a .time) (a .received .bytes) (a .k) (a .c) (c .before .before .before .before .before .before .before .before .before .before .before .before .of-alarm .ensures) (c .before .before .before .before .before .before .before .before .before .before .spent .ensures) (c .before .before .before .before .before .before .before .before .before .if1 .left) (c .before .before .before .before .before .before .before .ack .ensures) (c .before .before .before .keep .ensures) (c .report .ensures)
+    λ t. makes t (a .w .now) (a .q) (a .k) (a .c) (c .before .before .before .before .before .before .before .before .before .before .before .before .of-alarm .ensures) (c .before .before .before .before .before .before .before .before .before .before .spent .ensures) (c .before .before .before .before .before .before .before .before .before .if1 .left) (c .before .before .before .before .before .before .before .ack .ensures) (c .before .before .before .keep .ensures) (c .report .ensures)
 
 pub changed-spec : {M : Type 1} → statement M
 changed-spec =

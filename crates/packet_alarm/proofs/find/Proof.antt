@@ -39,7 +39,7 @@ returns c =
     let a = c .before .before .before .before .before .before .before .before .before .before .before .before .before .before .args in
     let t = tableOf (a .t .now) in
     let ws = a .w .now in
-    found t ws (a .l) (a .time) (a .id) (a .received .bytes) (a .f) (sym (c .before .before .before .before .before .before .before .before .before .before .alarm-of .ensures) ∙ c .before .before .before .before .before .before .before .before .a .given .1) (c .before .before .before .before .ordered .ensures)
+    found t ws (a .q) (a .f) (sym (c .before .before .before .before .before .before .before .before .before .before .alarm-of .ensures) ∙ c .before .before .before .before .before .before .before .before .a .given .1) (c .before .before .before .before .ordered .ensures)
 
 same-length-3 : tie.Need-same-length-3
 same-length-3 c = search needs
@@ -52,8 +52,8 @@ returns-2 c =
     let a = c .before .before .before .before .before .before .before .before .before .before .before .before .before .args in
     let t = tableOf (a .t .now) in
     let ws = a .w .now in
-    found t ws (a .l) (a .time) (a .id) (a .received .bytes) (a .f) (sym (c .before .before .before .before .before .before .before .before .before .alarm-of .ensures) ∙ c .before .before .before .before .before .before .before .enum-told .given .1)
-    (not-acked t ws (a .l) (a .time) (a .id) (a .received .bytes) unknownComponent (c .before .before .before .before .not-ack .ensures t))
+    found t ws (a .q) (a .f) (sym (c .before .before .before .before .before .before .before .before .before .alarm-of .ensures) ∙ c .before .before .before .before .before .before .before .enum-told .given .1)
+    (not-acked t ws (a .q) unknownComponent (c .before .before .before .before .not-ack .ensures t))
 
 same-length-5 : tie.Need-same-length-5
 same-length-5 c = search needs
@@ -66,8 +66,8 @@ returns-3 c =
     let a = c .before .before .before .before .before .before .before .before .before .before .before .before .before .args in
     let t = tableOf (a .t .now) in
     let ws = a .w .now in
-    found t ws (a .l) (a .time) (a .id) (a .received .bytes) (a .f) (sym (c .before .before .before .before .before .before .before .before .before .alarm-of .ensures) ∙ c .before .before .before .before .before .before .before .enum-told2 .given .1)
-    (not-acked t ws (a .l) (a .time) (a .id) (a .received .bytes) unknownAlarm (c .before .before .before .before .not-ack2 .ensures t))
+    found t ws (a .q) (a .f) (sym (c .before .before .before .before .before .before .before .before .before .alarm-of .ensures) ∙ c .before .before .before .before .before .before .before .enum-told2 .given .1)
+    (not-acked t ws (a .q) unknownAlarm (c .before .before .before .before .not-ack2 .ensures t))
 
 pub find-spec : {M : Type 1} → statement M
 find-spec =

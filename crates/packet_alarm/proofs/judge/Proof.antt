@@ -36,7 +36,7 @@ returns c =
     let a = c .before .before .before .before .before .before .before .before .before .before .before .before .args in
     let t = tableOf (a .t .now) in
     let ws = a .w .now in
-    alarm-judged t ws (a .l) (a .time) (a .id) (a .received .bytes) (a .f) (good t ws (a .l) (a .time) (a .id) (a .received .bytes) (a .f .verdict) (foundTaken (siteOf ws t) (a .l) (a .time) (a .id) (a .received .bytes) (a .f)) (c .before .before .before .before .before .before .before .enum-told .given .1) (c .before .before .before .before .find .ensures))
+    alarm-judged t ws (a .q) (a .f) (good t ws (a .q) (a .f .verdict) (foundTaken (siteOf ws t) (a .q) (a .f)) (c .before .before .before .before .before .before .before .enum-told .given .1) (c .before .before .before .before .find .ensures))
 
 same-length-3 : tie.Need-same-length-3
 same-length-3 c = search needs
@@ -49,7 +49,7 @@ returns-2 c =
     let a = c .before .before .before .before .before .before .before .before .before .before .before .before .args in
     let t = tableOf (a .t .now) in
     let ws = a .w .now in
-    alarm-judged t ws (a .l) (a .time) (a .id) (a .received .bytes) (a .f) (missing t ws (a .l) (a .time) (a .id) (a .received .bytes) (a .f .verdict) (foundTaken (siteOf ws t) (a .l) (a .time) (a .id) (a .received .bytes) (a .f)) (c .before .before .before .before .before .before .before .enum-told2 .given .1) (c .before .before .before .before .not-ack .ensures t))
+    alarm-judged t ws (a .q) (a .f) (missing t ws (a .q) (a .f .verdict) (foundTaken (siteOf ws t) (a .q) (a .f)) (c .before .before .before .before .before .before .before .enum-told2 .given .1) (c .before .before .before .before .not-ack .ensures t))
 
 same-length-5 : tie.Need-same-length-5
 same-length-5 c = search needs
@@ -62,7 +62,7 @@ returns-3 c =
     let a = c .before .before .before .before .before .before .before .before .before .before .before .before .args in
     let t = tableOf (a .t .now) in
     let ws = a .w .now in
-    alarm-judged t ws (a .l) (a .time) (a .id) (a .received .bytes) (a .f) (bad t ws (a .l) (a .time) (a .id) (a .received .bytes) (a .f .verdict) (foundTaken (siteOf ws t) (a .l) (a .time) (a .id) (a .received .bytes) (a .f)) (c .before .before .before .before .before .before .before .enum-told3 .given .1) (c .before .before .before .before .not-ack2 .ensures t))
+    alarm-judged t ws (a .q) (a .f) (bad t ws (a .q) (a .f .verdict) (foundTaken (siteOf ws t) (a .q) (a .f)) (c .before .before .before .before .before .before .before .enum-told3 .given .1) (c .before .before .before .before .not-ack2 .ensures t))
 
 pub judge-spec : {M : Type 1} → statement M
 judge-spec =

@@ -44,7 +44,7 @@ returns c =
     let a = c .before .before .before .before .before .before .before .before .before .before .before .before .args in
     let t = tableOf (a .t .now) in
     let ws = a .w .now in
-    like t ws (a .l) (a .time) (a .id) (a .received .bytes) (λ (x : Order). ordered (siteOf ws t) (a .l) (a .time) (a .id) (a .received .bytes) (a .k) x) (c .before .before .before .before .before .before .before .enum-told .given .1) (c .before .before .before .before .request .ensures)
+    like t ws (a .q) (λ (x : Order). ordered (siteOf ws t) (a .q) (a .k) x) (c .before .before .before .before .before .before .before .enum-told .given .1) (c .before .before .before .before .request .ensures)
 
 same-length-3 : tie.Need-same-length-3
 same-length-3 c = search needs
@@ -57,8 +57,8 @@ returns-2 c =
     let a = c .before .before .before .before .before .before .before .before .before .before .before .before .args in
     let t = tableOf (a .t .now) in
     let ws = a .w .now in
-    like t ws (a .l) (a .time) (a .id) (a .received .bytes) (λ (x : Order). ordered (siteOf ws t) (a .l) (a .time) (a .id) (a .received .bytes) (a .k) x) (c .before .before .before .before .before .before .before .enum-told2 .given .1)
-    (taken-so t ws (a .time) (a .received .bytes) (a .k) Acknowledge (a .l) (a .id) (c .before .before .before .before .change .ensures t))
+    like t ws (a .q) (λ (x : Order). ordered (siteOf ws t) (a .q) (a .k) x) (c .before .before .before .before .before .before .before .enum-told2 .given .1)
+    (taken-so t ws (a .q) (a .k) Acknowledge (c .before .before .before .before .change .ensures t))
 
 same-length-5 : tie.Need-same-length-5
 same-length-5 c = search needs
@@ -71,8 +71,8 @@ returns-3 c =
     let a = c .before .before .before .before .before .before .before .before .before .before .before .before .args in
     let t = tableOf (a .t .now) in
     let ws = a .w .now in
-    like t ws (a .l) (a .time) (a .id) (a .received .bytes) (λ (x : Order). ordered (siteOf ws t) (a .l) (a .time) (a .id) (a .received .bytes) (a .k) x) (c .before .before .before .before .before .before .before .enum-told3 .given .1)
-    (taken-so t ws (a .time) (a .received .bytes) (a .k) Suspend (a .l) (a .id) (c .before .before .before .before .change2 .ensures t))
+    like t ws (a .q) (λ (x : Order). ordered (siteOf ws t) (a .q) (a .k) x) (c .before .before .before .before .before .before .before .enum-told3 .given .1)
+    (taken-so t ws (a .q) (a .k) Suspend (c .before .before .before .before .change2 .ensures t))
 
 same-length-7 : tie.Need-same-length-7
 same-length-7 c = search needs
@@ -85,8 +85,8 @@ returns-4 c =
     let a = c .before .before .before .before .before .before .before .before .before .before .before .before .args in
     let t = tableOf (a .t .now) in
     let ws = a .w .now in
-    like t ws (a .l) (a .time) (a .id) (a .received .bytes) (λ (x : Order). ordered (siteOf ws t) (a .l) (a .time) (a .id) (a .received .bytes) (a .k) x) (c .before .before .before .before .before .before .before .enum-told4 .given .1)
-    (taken-so t ws (a .time) (a .received .bytes) (a .k) Resume (a .l) (a .id) (c .before .before .before .before .change3 .ensures t))
+    like t ws (a .q) (λ (x : Order). ordered (siteOf ws t) (a .q) (a .k) x) (c .before .before .before .before .before .before .before .enum-told4 .given .1)
+    (taken-so t ws (a .q) (a .k) Resume (c .before .before .before .before .change3 .ensures t))
 
 pub ordered-spec : {M : Type 1} → statement M
 ordered-spec =

@@ -31,7 +31,7 @@ returns c =
     let a = c .before .before .before .before .before .before .before .before .before .before .before .before .before .before .args in
     let t = tableOf (a .t .now) in
     let ws = a .w .now in
-    from-primary t ws (a .l) (a .time) (a .id) (a .received .bytes) (a .k) (sym (c .before .before .before .before .before .before .before .before .before .role .ensures t) ∙ c .before .before .before .before .before .before .before .enum-told .given .1) (c .before .before .before .before .reply-alarm .ensures)
+    from-primary t ws (a .q) (a .k) (sym (c .before .before .before .before .before .before .before .before .before .role .ensures t) ∙ c .before .before .before .before .before .before .before .enum-told .given .1) (c .before .before .before .before .reply-alarm .ensures)
 
 same-length-3 : tie.Need-same-length-3
 same-length-3 c = search needs
@@ -44,7 +44,7 @@ returns-2 c =
     let a = c .before .before .before .before .before .before .before .before .before .before .before .before .before .before .args in
     let t = tableOf (a .t .now) in
     let ws = a .w .now in
-    from-secondary t ws (a .l) (a .time) (a .id) (a .received .bytes) (a .k) (sym (c .before .before .before .before .before .before .before .before .before .role .ensures t) ∙ c .before .before .before .before .before .before .before .enum-told2 .given .1) (c .before .before .before .before .accept .ensures t)
+    from-secondary t ws (a .q) (a .k) (sym (c .before .before .before .before .before .before .before .before .before .role .ensures t) ∙ c .before .before .before .before .before .before .before .enum-told2 .given .1) (c .before .before .before .before .accept .ensures t)
 
 pub request-spec : {M : Type 1} → statement M
 request-spec =

@@ -33,7 +33,7 @@ returns c =
     let a = c .before .before .before .before .before .before .before .before .before .before .before .before .before .before .before .args in
     let done = c .before .before .done .ensures in
     let wrote = c .before .before .before .before .before .before .before .before .before .before .before .refusal in
-    λ t. closes t (a .time) (a .received .bytes) (a .l) (a .reason) (wrote .ensures)
+    λ t. closes t (a .q) (a .reason) (wrote .ensures)
     (done .0 ∙ ap (λ (m : ℕ). Done (report 0 0 (wrote .result) m)) (c .before .before .before .bit-of .ensures))
     (turns-then (c .before .before .before .before .before .before .before .close .ensures) (done .1))
 

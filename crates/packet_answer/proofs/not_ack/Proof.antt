@@ -21,7 +21,7 @@ returns : tie.Need-returns
 returns c =
     let a = c .before .before .before .before .before .before .before .before .before .before .args in
     let done = c .before .before .done .ensures in
-    λ t. not-acks t (a .time) (a .received .bytes) (a .reason) (c .before .before .before .before .before .before .refusal .ensures) (done .0) (done .1)
+    λ t. not-acks t (a .q) (a .reason) (c .before .before .before .before .before .before .refusal .ensures) (done .0) (done .1)
 
 pub not-ack-spec : {M : Type 1} → statement M
 not-ack-spec =

@@ -42,9 +42,9 @@ returns c =
     let t = tableOf (a .t .now) in
     let ws = a .w .now in
     let f = c .before .before .before .before .before .before .before .before .before .read-command .result in
-    let x = orderedOf (siteOf ws t) (a .l) (a .time) (a .id) (a .received .bytes) f (componentSought t (f .component)) in
-    command-judged t ws (a .l) (a .time) (a .id) (a .received .bytes) (commandAt (a .packet .now)) (c .before .before .before .before .before .before .before .before .before .read-command .ensures)
-    (good t ws (a .l) (a .time) (a .id) (a .received .bytes) (f .verdict) x (c .before .before .before .before .before .before .before .enum-told .given .1) (c .before .before .before .before .ordered .ensures))
+    let x = orderedOf (siteOf ws t) (a .q) f (componentSought t (f .component)) in
+    command-judged t ws (a .q) (commandAt (a .packet .now)) (c .before .before .before .before .before .before .before .before .before .read-command .ensures)
+    (good t ws (a .q) (f .verdict) x (c .before .before .before .before .before .before .before .enum-told .given .1) (c .before .before .before .before .ordered .ensures))
 
 same-length-3 : tie.Need-same-length-3
 same-length-3 c = search needs
@@ -58,9 +58,9 @@ returns-2 c =
     let t = tableOf (a .t .now) in
     let ws = a .w .now in
     let f = c .before .before .before .before .before .before .before .before .before .read-command .result in
-    let x = orderedOf (siteOf ws t) (a .l) (a .time) (a .id) (a .received .bytes) f (componentSought t (f .component)) in
-    command-judged t ws (a .l) (a .time) (a .id) (a .received .bytes) (commandAt (a .packet .now)) (c .before .before .before .before .before .before .before .before .before .read-command .ensures)
-    (missing t ws (a .l) (a .time) (a .id) (a .received .bytes) (f .verdict) x (c .before .before .before .before .before .before .before .enum-told2 .given .1) (c .before .before .before .before .not-ack .ensures t))
+    let x = orderedOf (siteOf ws t) (a .q) f (componentSought t (f .component)) in
+    command-judged t ws (a .q) (commandAt (a .packet .now)) (c .before .before .before .before .before .before .before .before .before .read-command .ensures)
+    (missing t ws (a .q) (f .verdict) x (c .before .before .before .before .before .before .before .enum-told2 .given .1) (c .before .before .before .before .not-ack .ensures t))
 
 same-length-5 : tie.Need-same-length-5
 same-length-5 c = search needs
@@ -74,9 +74,9 @@ returns-3 c =
     let t = tableOf (a .t .now) in
     let ws = a .w .now in
     let f = c .before .before .before .before .before .before .before .before .before .read-command .result in
-    let x = orderedOf (siteOf ws t) (a .l) (a .time) (a .id) (a .received .bytes) f (componentSought t (f .component)) in
-    command-judged t ws (a .l) (a .time) (a .id) (a .received .bytes) (commandAt (a .packet .now)) (c .before .before .before .before .before .before .before .before .before .read-command .ensures)
-    (bad t ws (a .l) (a .time) (a .id) (a .received .bytes) (f .verdict) x (c .before .before .before .before .before .before .before .enum-told3 .given .1) (c .before .before .before .before .not-ack2 .ensures t))
+    let x = orderedOf (siteOf ws t) (a .q) f (componentSought t (f .component)) in
+    command-judged t ws (a .q) (commandAt (a .packet .now)) (c .before .before .before .before .before .before .before .before .before .read-command .ensures)
+    (bad t ws (a .q) (f .verdict) x (c .before .before .before .before .before .before .before .enum-told3 .given .1) (c .before .before .before .before .not-ack2 .ensures t))
 
 pub command-spec : {M : Type 1} → statement M
 command-spec =

@@ -28,7 +28,7 @@ returns c =
     let a = c .before .before .before .before .before .before .before .before .before .before .before .before .before .before .before .before .args in
     let t = tableOf (a .t .now) in
     let ws = a .w .now in
-    all-pass t ws (a .l) (a .time) (a .id) (a .received .bytes) (a .f) (c .before .before .before .before .before .before .before .before .before .before .before .component .ensures) (sym (c .before .before .before .before .before .before .before .before .before .before .keeps-ranges .ensures) ∙ c .before .before .before .before .before .before .before .before .before .if1 .taken) (sym (c .before .before .before .before .before .before .before .before .passes .ensures) ∙ c .before .before .before .before .before .before .before .if2 .taken) (c .before .before .before .before .reply .ensures)
+    all-pass t ws (a .q) (a .f) (c .before .before .before .before .before .before .before .before .before .before .before .component .ensures) (sym (c .before .before .before .before .before .before .before .before .before .before .keeps-ranges .ensures) ∙ c .before .before .before .before .before .before .before .before .before .if1 .taken) (sym (c .before .before .before .before .before .before .before .before .passes .ensures) ∙ c .before .before .before .before .before .before .before .if2 .taken) (c .before .before .before .before .reply .ensures)
 
 not-ack-requires : tie.Need-not-ack-requires
 not-ack-requires c κs = search needs
@@ -44,7 +44,7 @@ returns-2 c =
     let a = c .before .before .before .before .before .before .before .before .before .before .before .before .before .before .before .before .args in
     let t = tableOf (a .t .now) in
     let ws = a .w .now in
-    one-fails t ws (a .l) (a .time) (a .id) (a .received .bytes) (a .f) (c .before .before .before .before .before .before .before .before .before .before .before .component .ensures) (sym (c .before .before .before .before .before .before .before .before .before .before .keeps-ranges .ensures) ∙ c .before .before .before .before .before .before .before .before .before .if1 .taken) (sym (c .before .before .before .before .before .before .before .before .passes .ensures) ∙ c .before .before .before .before .before .before .before .if2 .left) (c .before .before .before .before .not-ack .ensures t)
+    one-fails t ws (a .q) (a .f) (c .before .before .before .before .before .before .before .before .before .before .before .component .ensures) (sym (c .before .before .before .before .before .before .before .before .before .before .keeps-ranges .ensures) ∙ c .before .before .before .before .before .before .before .before .before .if1 .taken) (sym (c .before .before .before .before .before .before .before .before .passes .ensures) ∙ c .before .before .before .before .before .before .before .if2 .left) (c .before .before .before .before .not-ack .ensures t)
 
 not-ack-requires-2 : tie.Need-not-ack-requires-2
 not-ack-requires-2 c κs = search needs
@@ -60,7 +60,7 @@ returns-3 c =
     let a = c .before .before .before .before .before .before .before .before .before .before .before .before .before .before .args in
     let t = tableOf (a .t .now) in
     let ws = a .w .now in
-    outside t ws (a .l) (a .time) (a .id) (a .received .bytes) (a .f) (c .before .before .before .before .before .before .before .before .before .component .ensures) (sym (c .before .before .before .before .before .before .before .before .keeps-ranges .ensures) ∙ c .before .before .before .before .before .before .before .if1 .left) (c .before .before .before .before .not-ack2 .ensures t)
+    outside t ws (a .q) (a .f) (c .before .before .before .before .before .before .before .before .before .component .ensures) (sym (c .before .before .before .before .before .before .before .before .keeps-ranges .ensures) ∙ c .before .before .before .before .before .before .before .if1 .left) (c .before .before .before .before .not-ack2 .ensures t)
 
 pub ordered-spec : {M : Type 1} → statement M
 ordered-spec =

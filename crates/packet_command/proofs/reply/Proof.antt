@@ -23,10 +23,10 @@ same-length-2 c = search needs
 
 returns : tie.Need-returns
 returns c =
-    let a = c .before .before .before .before .before .before .before .before .before .before .before .before .before .args in
+    let a = c .before .before .before .before .before .before .before .before .before .before .before .before .before .before .args in
     let t = tableOf (a .t .now) in
     let ws = a .w .now in
-    hand-busy t ws (a .l) (a .time) (a .id) (a .received .bytes) (response (a .time) (a .id .bytes) (a .component) (a .f)) (commandsOf t (a .f) (a .component)) (sym (c .before .before .before .before .before .before .before .before .is-busy .ensures t) ∙ c .before .before .before .before .before .before .before .if1 .taken) (c .before .before .before .before .not-ack .ensures t)
+    hand-busy t ws (a .q) (response (a .q .time) (a .q .identity .bytes) (a .component) (a .f)) (commandsOf t (a .f) (a .component)) (sym (c .before .before .before .before .before .before .before .before .is-busy .ensures t) ∙ c .before .before .before .before .before .before .before .if1 .taken) (c .before .before .before .before .not-ack .ensures t)
 
 is-awaited-requires : tie.Need-is-awaited-requires
 is-awaited-requires c κs = search needs
@@ -36,10 +36,10 @@ same-length-3 c = search needs
 
 returns-2 : tie.Need-returns-2
 returns-2 c =
-    let a = c .before .before .before .before .before .before .before .before .before .args in
+    let a = c .before .before .before .before .before .before .before .before .before .before .args in
     let t = tableOf (a .t .now) in
     let ws = a .w .now in
-    hand-awaited t ws (a .l) (a .time) (a .id) (a .received .bytes) (response (a .time) (a .id .bytes) (a .component) (a .f)) (commandsOf t (a .f) (a .component)) (sym (c .before .before .before .before .is-busy .ensures t) ∙ c .before .before .before .if1 .left) (sym (c .before .is-awaited .ensures t) ∙ c .if2 .taken) refl
+    hand-awaited t ws (a .q) (response (a .q .time) (a .q .identity .bytes) (a .component) (a .f)) (commandsOf t (a .f) (a .component)) (sym (c .before .before .before .before .is-busy .ensures t) ∙ c .before .before .before .if1 .left) (sym (c .before .is-awaited .ensures t) ∙ c .if2 .taken) refl
 
 answer-and-response-requires : tie.Need-answer-and-response-requires
 answer-and-response-requires c κs = search needs
@@ -58,11 +58,11 @@ same-length-5 c = search needs
 
 returns-3 : tie.Need-returns-3
 returns-3 c =
-    let a = c .before .before .before .before .before .before .before .before .before .before .before .before .before .before .before .before .before .before .args in
+    let a = c .before .before .before .before .before .before .before .before .before .before .before .before .before .before .before .before .before .before .before .args in
     let t = tableOf (a .t .now) in
     let ws = a .w .now in
     let wrote = c .before .before .before .before .before .before .before .answer-and-response in
-    hand-sent t ws (a .l) (a .time) (a .id) (a .received .bytes) (response (a .time) (a .id .bytes) (a .component) (a .f)) (commandsOf t (a .f) (a .component)) (sym (c .before .before .before .before .before .before .before .before .before .before .before .before .before .is-busy .ensures t) ∙ c .before .before .before .before .before .before .before .before .before .before .before .before .if1 .left) (sym (c .before .before .before .before .before .before .before .before .before .before .is-awaited .ensures t) ∙ c .before .before .before .before .before .before .before .before .before .if2 .left) (wrote .ensures) (c .before .before .hand-done .ensures .0 ∙ ap (λ (n : ℕ). Done (handed (wrote .result) n)) (c .before .before .before .handed .ensures t)) (c .before .before .hand-done .ensures .1)
+    hand-sent t ws (a .q) (response (a .q .time) (a .q .identity .bytes) (a .component) (a .f)) (commandsOf t (a .f) (a .component)) (sym (c .before .before .before .before .before .before .before .before .before .before .before .before .before .is-busy .ensures t) ∙ c .before .before .before .before .before .before .before .before .before .before .before .before .if1 .left) (sym (c .before .before .before .before .before .before .before .before .before .before .is-awaited .ensures t) ∙ c .before .before .before .before .before .before .before .before .before .if2 .left) (wrote .ensures) (c .before .before .hand-done .ensures .0 ∙ ap (λ (n : ℕ). Done (handed (wrote .result) n)) (c .before .before .before .handed .ensures t)) (c .before .before .hand-done .ensures .1)
 
 pub reply-spec : {M : Type 1} → statement M
 reply-spec =

@@ -46,7 +46,7 @@ returns c =
     let role = c .before .before .before .before .before .before .before .before .before .before .before .before .before .before .role .ensures in
     let wrote = c .before .before .before .before .before .before .before .before .before .before .ack in
     let done = c .before .before .done .ensures in
-    λ t. accepts t (a .time) (a .received .bytes) (λ (s : Site). beatenOf s (a .l)) (hintFrom (roleOf (siteOf (a .w .now) t) (a .l)) (a .theirs)) (wrote .ensures)
+    λ t. accepts t (a .q) (λ (s : Site). beatenOf s (a .q .link)) (hintFrom (roleOf (siteOf (a .w .now) t) (a .q .link)) (a .theirs)) (wrote .ensures)
     (done .0
     ∙ ap₂ (λ (x y : ℕ). Done (report x y (wrote .result) 0))
     (c .before .before .before .before .before .before .before .before .before .before .before .before .before .hint .ensures ∙ ap (λ (x : Role). hintTime (hintFrom x (a .theirs))) (role t))

@@ -39,7 +39,7 @@ same-length-2 c = search needs
 returns : tie.Need-returns
 returns c =
     let a = c .before .before .before .before .before .before .before .before .before .before .before .before .before .before .before .args in
-    judges (tableOf (a .t .now)) (a .l) (a .time) (a .received .bytes) (a .f) (c .before .before .before .before .before .before .before .before .before .before .enum-told .given .1) (c .before .before .before .before .before .before .before .own .ensures) (c .before .before .before .before .before .before .judge .ensures) (c .before .before .before .before .version-judged .ensures (tableOf (a .t .now)))
+    judges (tableOf (a .t .now)) (a .q) (a .f) (c .before .before .before .before .before .before .before .before .before .before .enum-told .given .1) (c .before .before .before .before .before .before .before .own .ensures) (c .before .before .before .before .before .before .judge .ensures) (c .before .before .before .before .version-judged .ensures (tableOf (a .t .now)))
 
 same-length-3 : tie.Need-same-length-3
 same-length-3 c = search needs

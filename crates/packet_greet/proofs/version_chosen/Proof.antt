@@ -28,7 +28,7 @@ returns : tie.Need-returns
 returns c =
     let a = c .before .before .before .before .before .before .before .before .before .before .before .before .before .before .args in
     let done = c .before .before .done .ensures in
-    λ t. accepts t (a .time) (a .received .bytes) (λ (s : Site). acceptedOf s (a .l) (a .v)) none (c .before .before .before .before .before .before .before .before .before .before .ack .ensures) (done .0) (turns-then (c .before .before .before .before .before .before .accepted .ensures) (done .1))
+    λ t. accepts t (a .q) (λ (s : Site). acceptedOf s (a .q .link) (a .v)) none (c .before .before .before .before .before .before .before .before .before .before .ack .ensures) (done .0) (turns-then (c .before .before .before .before .before .before .accepted .ensures) (done .1))
 
 pub version-chosen-spec : {M : Type 1} → statement M
 version-chosen-spec =

@@ -32,7 +32,7 @@ same-length-2 c = search needs
 returns : tie.Need-returns
 returns c =
     let a = c .before .before .before .before .before .before .before .before .before .before .before .args in
-    λ t. beats t (a .l) (a .time) (a .received .bytes) (a .f) (c .before .before .before .before .before .before .before .enum-told .given .1) (c .before .before .before .before .beat .ensures t)
+    λ t. beats t (a .q) (a .f) (c .before .before .before .before .before .before .before .enum-told .given .1) (c .before .before .before .before .beat .ensures t)
 
 same-length-3 : tie.Need-same-length-3
 same-length-3 c = search needs

@@ -16,8 +16,8 @@ same-length c = search needs
 
 returns : tie.Need-returns
 returns c =
-    let a = c .before .before .before .before .before .before .before .before .args in
-    stopped (pieces (response (siteOf (a .w .now) (tableOf (a .t .now))) (a .time) (a .id .bytes) (a .component) (a .f))) (omega arith) (c .before .before .before .ack .ensures) (c .if1 .taken)
+    let a = c .before .before .before .before .before .before .before .before .before .args in
+    stopped (pieces (response (siteOf (a .w .now) (tableOf (a .t .now))) (a .q .time) (a .q .identity .bytes) (a .component) (a .f))) (omega arith) (c .before .before .before .ack .ensures) (c .if1 .taken)
 
 sub-write-response : tie.Need-sub-write-response
 sub-write-response c = search needs

@@ -27,7 +27,7 @@ returns c =
     let a = c .before .before .before .before .before .before .before .before .before .before .before .before .before .before .args in
     let t = tableOf (a .t .now) in
     let ws = a .w .now in
-    all-pass t ws (a .l) (a .time) (a .id) (a .received .bytes) (a .f) (c .before .before .before .before .before .before .before .before .before .component .ensures) (sym (c .before .before .before .before .before .before .before .before .passes .ensures (siteOf ws t) (table-of ws t)) ∙ c .before .before .before .before .before .before .before .if1 .taken) (c .before .before .before .before .reply .ensures)
+    all-pass t ws (a .q) (a .f) (c .before .before .before .before .before .before .before .before .before .component .ensures) (sym (c .before .before .before .before .before .before .before .before .passes .ensures (siteOf ws t) (table-of ws t)) ∙ c .before .before .before .before .before .before .before .if1 .taken) (c .before .before .before .before .reply .ensures)
 
 not-ack-requires : tie.Need-not-ack-requires
 not-ack-requires c κs = search needs
@@ -43,7 +43,7 @@ returns-2 c =
     let a = c .before .before .before .before .before .before .before .before .before .before .before .before .before .before .args in
     let t = tableOf (a .t .now) in
     let ws = a .w .now in
-    one-fails t ws (a .l) (a .time) (a .id) (a .received .bytes) (a .f) (c .before .before .before .before .before .before .before .before .before .component .ensures) (sym (c .before .before .before .before .before .before .before .before .passes .ensures (siteOf ws t) (table-of ws t)) ∙ c .before .before .before .before .before .before .before .if1 .left) (c .before .before .before .before .not-ack .ensures t)
+    one-fails t ws (a .q) (a .f) (c .before .before .before .before .before .before .before .before .before .component .ensures) (sym (c .before .before .before .before .before .before .before .before .passes .ensures (siteOf ws t) (table-of ws t)) ∙ c .before .before .before .before .before .before .before .if1 .left) (c .before .before .before .before .not-ack .ensures t)
 
 pub requested-spec : {M : Type 1} → statement M
 requested-spec =

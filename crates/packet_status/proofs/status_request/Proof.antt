@@ -43,9 +43,9 @@ returns c =
     let t = tableOf (a .t .now) in
     let ws = a .w .now in
     let f = c .before .before .before .before .before .before .before .before .before .read-status .result in
-    let x = requestedOf (siteOf ws t) (a .l) (a .time) (a .id) (a .received .bytes) f (componentSought t (f .component)) in
-    status-judged t ws (a .l) (a .time) (a .id) (a .received .bytes) (statusAt false (a .packet .now)) (c .before .before .before .before .before .before .before .before .before .read-status .ensures)
-    (good t ws (a .l) (a .time) (a .id) (a .received .bytes) (f .verdict) x (c .before .before .before .before .before .before .before .enum-told .given .1) (c .before .before .before .before .requested .ensures))
+    let x = requestedOf (siteOf ws t) (a .q) f (componentSought t (f .component)) in
+    status-judged t ws (a .q) (statusAt false (a .packet .now)) (c .before .before .before .before .before .before .before .before .before .read-status .ensures)
+    (good t ws (a .q) (f .verdict) x (c .before .before .before .before .before .before .before .enum-told .given .1) (c .before .before .before .before .requested .ensures))
 
 same-length-3 : tie.Need-same-length-3
 same-length-3 c = search needs
@@ -59,9 +59,9 @@ returns-2 c =
     let t = tableOf (a .t .now) in
     let ws = a .w .now in
     let f = c .before .before .before .before .before .before .before .before .before .read-status .result in
-    let x = requestedOf (siteOf ws t) (a .l) (a .time) (a .id) (a .received .bytes) f (componentSought t (f .component)) in
-    status-judged t ws (a .l) (a .time) (a .id) (a .received .bytes) (statusAt false (a .packet .now)) (c .before .before .before .before .before .before .before .before .before .read-status .ensures)
-    (missing t ws (a .l) (a .time) (a .id) (a .received .bytes) (f .verdict) x (c .before .before .before .before .before .before .before .enum-told2 .given .1) (c .before .before .before .before .not-ack .ensures t))
+    let x = requestedOf (siteOf ws t) (a .q) f (componentSought t (f .component)) in
+    status-judged t ws (a .q) (statusAt false (a .packet .now)) (c .before .before .before .before .before .before .before .before .before .read-status .ensures)
+    (missing t ws (a .q) (f .verdict) x (c .before .before .before .before .before .before .before .enum-told2 .given .1) (c .before .before .before .before .not-ack .ensures t))
 
 same-length-5 : tie.Need-same-length-5
 same-length-5 c = search needs
@@ -75,9 +75,9 @@ returns-3 c =
     let t = tableOf (a .t .now) in
     let ws = a .w .now in
     let f = c .before .before .before .before .before .before .before .before .before .read-status .result in
-    let x = requestedOf (siteOf ws t) (a .l) (a .time) (a .id) (a .received .bytes) f (componentSought t (f .component)) in
-    status-judged t ws (a .l) (a .time) (a .id) (a .received .bytes) (statusAt false (a .packet .now)) (c .before .before .before .before .before .before .before .before .before .read-status .ensures)
-    (bad t ws (a .l) (a .time) (a .id) (a .received .bytes) (f .verdict) x (c .before .before .before .before .before .before .before .enum-told3 .given .1) (c .before .before .before .before .not-ack2 .ensures t))
+    let x = requestedOf (siteOf ws t) (a .q) f (componentSought t (f .component)) in
+    status-judged t ws (a .q) (statusAt false (a .packet .now)) (c .before .before .before .before .before .before .before .before .before .read-status .ensures)
+    (bad t ws (a .q) (f .verdict) x (c .before .before .before .before .before .before .before .enum-told3 .given .1) (c .before .before .before .before .not-ack2 .ensures t))
 
 pub status-request-spec : {M : Type 1} → statement M
 status-request-spec =

@@ -31,7 +31,7 @@ same-length-2 c = search needs
 returns : tie.Need-returns
 returns c =
     let a = c .before .before .before .before .before .before .before .before .before .before .before .before .before .before .before .args in
-    asks (a .subscribing) (tableOf (a .t .now)) (a .l) (a .time) (a .received .bytes) (a .f) (a .w .now) (sym (c .before .before .before .before .before .before .before .before .component2 .given .1) ∙ c .before .before .before .before .before .before .before .before .before .before .component .ensures) (c .before .before .before .before .judge .ensures)
+    asks (a .subscribing) (tableOf (a .t .now)) (a .q) (a .f) (a .w .now) (sym (c .before .before .before .before .before .before .before .before .component2 .given .1) ∙ c .before .before .before .before .before .before .before .before .before .before .component .ensures) (c .before .before .before .before .judge .ensures)
 
 same-length-3 : tie.Need-same-length-3
 same-length-3 c = search needs
@@ -42,7 +42,7 @@ same-length-4 c = search needs
 returns-2 : tie.Need-returns-2
 returns-2 c =
     let a = c .before .before .before .before .before .before .before .before .before .before .before .before .before .before .args in
-    asks (a .subscribing) (tableOf (a .t .now)) (a .l) (a .time) (a .received .bytes) (a .f) (a .w .now) (sym (c .before .before .before .before .before .before .before .enum-told .given .1) ∙ c .before .before .before .before .before .before .before .before .before .component .ensures) (c .before .before .before .before .not-ack .ensures (tableOf (a .t .now)))
+    asks (a .subscribing) (tableOf (a .t .now)) (a .q) (a .f) (a .w .now) (sym (c .before .before .before .before .before .before .before .enum-told .given .1) ∙ c .before .before .before .before .before .before .before .before .before .component .ensures) (c .before .before .before .before .not-ack .ensures (tableOf (a .t .now)))
 
 pub ask-spec : {M : Type 1} → statement M
 ask-spec =

@@ -18,7 +18,7 @@ same-length c = search needs
 returns : tie.Need-returns
 returns c =
     let a = c .before .before .before .before .before .before .before .args in
-    change-refused (a .subscribing) (tableOf (a .t .now)) (a .l) (a .time) (a .received .bytes) (a .f) (a .component) (a .w .now) (c .before .before .before .before .before .before .before .pre .2) (c .before .before .number .ensures) (c .before .spent .ensures) (c .if1 .taken)
+    change-refused (a .subscribing) (tableOf (a .t .now)) (a .q) (a .f) (a .component) (a .w .now) (c .before .before .before .before .before .before .before .pre .2) (c .before .before .number .ensures) (c .before .spent .ensures) (c .if1 .taken)
 
 ack-requires : tie.Need-ack-requires
 ack-requires c κs = search needs
@@ -38,7 +38,7 @@ same-length-3 c = search needs
 returns-2 : tie.Need-returns-2
 returns-2 c =
     let a = c .before .before .before .before .before .before .before .before .before .before .before .before .before .before .before .before .before .before .before .before .args in
-    change-done (a .subscribing) (tableOf (a .t .now)) (a .l) (a .time) (a .received .bytes) (a .f) (a .component) (a .w .now) (c .before .before .before .before .before .before .before .before .before .before .before .before .before .before .before .before .before .before .before .before .pre .2) (c .before .before .before .before .before .before .before .before .before .before .before .before .before .before .before .number .ensures) (c .before .before .before .before .before .before .before .before .before .before .before .before .before .before .spent .ensures) (c .before .before .before .before .before .before .before .before .before .before .before .before .before .if1 .left) (c .before .before .before .before .before .before .before .before .before .before .before .ack .ensures) (c .before .before .before .before .before .before .turn .ensures) (c .before .before .done .ensures .0) (c .before .before .done .ensures .1)
+    change-done (a .subscribing) (tableOf (a .t .now)) (a .q) (a .f) (a .component) (a .w .now) (c .before .before .before .before .before .before .before .before .before .before .before .before .before .before .before .before .before .before .before .before .pre .2) (c .before .before .before .before .before .before .before .before .before .before .before .before .before .before .before .number .ensures) (c .before .before .before .before .before .before .before .before .before .before .before .before .before .before .spent .ensures) (c .before .before .before .before .before .before .before .before .before .before .before .before .before .if1 .left) (c .before .before .before .before .before .before .before .before .before .before .before .ack .ensures) (c .before .before .before .before .before .before .turn .ensures) (c .before .before .done .ensures .0) (c .before .before .done .ensures .1)
 
 pub change-spec : {M : Type 1} → statement M
 change-spec =

@@ -22,7 +22,7 @@ same-length-2 c = search needs
 returns : tie.Need-returns
 returns c =
     let a = c .before .before .before .before .before .before .before .before .before .before .before .before .before .args in
-    passes (a .subscribing) (tableOf (a .t .now)) (a .l) (a .time) (a .received .bytes) (a .f) (a .component) (a .w .now) (sym (c .before .before .before .before .before .before .before .before .all-statuses .ensures) ∙ c .before .before .before .before .before .before .before .if1 .taken) (c .before .before .before .before .change .ensures)
+    passes (a .subscribing) (tableOf (a .t .now)) (a .q) (a .f) (a .component) (a .w .now) (sym (c .before .before .before .before .before .before .before .before .all-statuses .ensures) ∙ c .before .before .before .before .before .before .before .if1 .taken) (c .before .before .before .before .change .ensures)
 
 not-ack-requires : tie.Need-not-ack-requires
 not-ack-requires c κs = search needs
@@ -36,7 +36,7 @@ same-length-4 c = search needs
 returns-2 : tie.Need-returns-2
 returns-2 c =
     let a = c .before .before .before .before .before .before .before .before .before .before .before .before .before .args in
-    fails (a .subscribing) (tableOf (a .t .now)) (a .l) (a .time) (a .received .bytes) (a .f) (a .component) (a .w .now) (sym (c .before .before .before .before .before .before .before .before .all-statuses .ensures) ∙ c .before .before .before .before .before .before .before .if1 .left) (c .before .before .before .before .not-ack .ensures (tableOf (a .t .now)))
+    fails (a .subscribing) (tableOf (a .t .now)) (a .q) (a .f) (a .component) (a .w .now) (sym (c .before .before .before .before .before .before .before .before .all-statuses .ensures) ∙ c .before .before .before .before .before .before .before .if1 .left) (c .before .before .before .before .not-ack .ensures (tableOf (a .t .now)))
 
 pub judge-spec : {M : Type 1} → statement M
 judge-spec =

@@ -34,7 +34,7 @@ same-length-2 c = search needs
 returns : tie.Need-returns
 returns c =
     let a = c .before .before .before .before .before .before .before .before .before .before .before .before .args in
-    takes (a .subscribing) (tableOf (a .t .now)) (a .l) (a .time) (a .received .bytes) (a .f) (a .w .now) (c .before .before .before .before .before .before .before .enum-told .given .1) (c .before .before .before .before .ask .ensures)
+    takes (a .subscribing) (tableOf (a .t .now)) (a .q) (a .f) (a .w .now) (c .before .before .before .before .before .before .before .enum-told .given .1) (c .before .before .before .before .ask .ensures)
 
 same-length-3 : tie.Need-same-length-3
 same-length-3 c = search needs
