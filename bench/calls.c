@@ -4,12 +4,15 @@
  *   calls PACKETFILE TIMES CALL <SCRIPT     CALL is a line of a script; prints the call's number, its nanoseconds with those of the copy,
  *                                           those of the parsing and those of the copy alone, each the least of its rounds, which take
  *                                           turns, so that a slow moment of the machine is no one's
+ *   calls PACKETFILE 0 CALL <SCRIPT         under callgrind: no time is taken, and each of the three leaves its instructions in a dump
  */
 #include "input.h"
 #include <cjson/cJSON.h>
 #include <time.h>
+#include <valgrind/callgrind.h>
 
 #define ROUNDS 20
+#define ACTS 3
 
 static char packet[MOST_BYTES];
 static size_t length;
@@ -45,6 +48,28 @@ static double each(void (*act)(void), long times)
     return ((double)(ended.tv_sec - began.tv_sec) * 1e9 + (double)(ended.tv_nsec - began.tv_nsec)) / (double)times;
 }
 
+/* Once more: the first time binds the names of shared libraries. */
+static void count_instructions(void (*act)(void))
+{
+    act();
+    CALLGRIND_ZERO_STATS;
+    CALLGRIND_TOGGLE_COLLECT;
+    act();
+    CALLGRIND_TOGGLE_COLLECT;
+    CALLGRIND_DUMP_STATS;
+}
+
+static void print_least_times(void (**acts)(void), long times)
+{
+    double least[ACTS];
+    for (int round = 0; round < ROUNDS; round++)
+        for (int act = 0; act < ACTS; act++) {
+            double taken = each(acts[act], times);
+            if (round == 0 || taken < least[act]) least[act] = taken;
+        }
+    for (int act = 0; act < ACTS; act++) printf(" %.0f", least[act]);
+}
+
 int main(int count, char **words)
 {
     FILE *file = count == 4 ? fopen(words[1], "rb") : NULL;
@@ -56,14 +81,10 @@ int main(int count, char **words)
     read_line(words[3], &line);
     perform();
     printf("%u", (unsigned)report.number);
-    void (*acts[])(void) = {perform, parse, copy};
-    double least[3];
-    for (int round = 0; round < ROUNDS; round++)
-        for (int act = 0; act < 3; act++) {
-            double taken = each(acts[act], atol(words[2]));
-            if (round == 0 || taken < least[act]) least[act] = taken;
-        }
-    for (int act = 0; act < 3; act++) printf(" %.0f", least[act]);
+    void (*acts[ACTS])(void) = {perform, parse, copy};
+    long times = atol(words[2]);
+    if (times > 0) print_least_times(acts, times);
+    else for (int act = 0; act < ACTS; act++) count_instructions(acts[act]);
     putchar('\n');
     return 0;
 }

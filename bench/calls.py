@@ -1,14 +1,16 @@
-"""How long each call takes, as a ratio to a C JSON library (Debian's libcjson) parsing the same packet in the same process: the
-packet that the call was given or that it wrote, and for a call without one an ordinary StatusSubscribe of four entries.
+"""How many instructions and how long each call takes, as a ratio to a C JSON library (Debian's libcjson) parsing the same packet in the same
+process: the packet that the call was given or that it wrote, and for a call without one an ordinary StatusSubscribe of four entries.
 
-  calls.py [TIMES]     after `make build`; runs bench/calls.c
+  calls.py [TIMES]     after `make build`; runs bench/calls.c, which wants the headers of libcjson and valgrind; 0: instructions alone
 
 It is compiled for x86-64 by the compiler in CC (default: cc; on another processor a cross compiler), with the flags in CJSON
-(default: -lcjson). Under an emulator only the ratios say something. Each call is made on a copy of the site that stands before it, whose time
-is taken off.
+(default: -lcjson). Instructions are counted by valgrind's callgrind, are the same in every run and are left out on another processor, where
+under an emulator only the ratios of the times say something. Each call is made on a copy of the site that stands before it, which is taken off.
 """
 import os
 import pathlib
+import platform
+import re
 import sys
 import tempfile
 
@@ -146,18 +148,47 @@ CASES = (
 )
 
 
+def times_of(made, packet, times, case):
+    """The call's number; nanoseconds of the call with the copy, of the parsing and of the copy."""
+    number, *taken = map(int, output([*cases.wrapped(made), packet, str(times), case.call], case.script).split())
+    return number, taken
+
+
+def instructions_of(made, packet, case):
+    """The same in instructions."""
+    with tempfile.TemporaryDirectory() as room:
+        dump = pathlib.Path(room) / "dump"
+        valgrind = ["valgrind", "-q", "--tool=callgrind", "--collect-atstart=no", f"--callgrind-out-file={dump}"]
+        number = int(output([*valgrind, made, packet, "0", case.call], case.script))
+        return number, [int(re.search(r"^totals: (\d+)", dump.with_suffix(f".{act}").read_text(), re.M)[1]) for act in (1, 2, 3)]
+
+
+def told_as(taken, unit, scale=1.0, digits=0):
+    """Of the call and of the parsing, and their ratio."""
+    both, theirs, copy = taken
+    ours = max(0, both - copy)
+    return f"{ours / scale:9,.{digits}f} / {theirs / scale:7,.{digits}f} {unit} {ours / theirs:6.2f}"
+
+
 def main(words):
-    times = words[0] if words else str(TIMES)
+    times = int(words[0]) if words else TIMES
     with tempfile.TemporaryDirectory() as room:
         made = program("calls", room, os.environ.get("CC", "cc"), os.environ.get("CJSON", "-lcjson").split())
         packet = pathlib.Path(room) / "packet"
         for case in (Case(*row) for row in CASES):
             packet.write_bytes(case.packet)
-            number, both, theirs, copy = map(int, output([*cases.wrapped(made), packet, times, case.call], case.script).split())
-            ours = max(0, both - copy)
-            if case.number not in (None, number):
-                sys.exit(f"{case.name}: number {number} where {case.number} was expected")
-            print(f"{case.name:31} {ours / 1e3:8.1f} us, libcjson {len(case.packet):4} bytes {theirs / 1e3:7.1f} us, ratio {ours / theirs:6.2f}")
+            numbers, figures = set(), []
+            if platform.machine() == "x86_64":
+                number, taken = instructions_of(made, packet, case)
+                numbers.add(number)
+                figures.append(told_as(taken, "instructions"))
+            if times:
+                number, taken = times_of(made, packet, times, case)
+                numbers.add(number)
+                figures.append(told_as(taken, "us", 1e3, 1))
+            if case.number is not None and numbers != {case.number}:
+                sys.exit(f"{case.name}: numbers {numbers} where {case.number} was expected")
+            print(f"{case.name:31} {len(case.packet):4} bytes  {'  '.join(figures)}", flush=True)
     return 0
 
 
