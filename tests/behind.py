@@ -9,7 +9,7 @@ import re
 import sys
 
 CRATES = pathlib.Path(__file__).resolve().parent.parent / "crates"
-LIMIT = 3100
+LIMIT = 3550
 COMMENT = re.compile(r"--[^\n]*")
 IMPORT = re.compile(r"^\s*(?:pub )?use [^{\n]*(?:\{[^}]*\})?", re.M)
 CITED = re.compile(r"Rattle·([A-Za-z0-9_]+)(?:·specs)?\.((?:[A-Za-z0-9_'-]+\.?)+)")

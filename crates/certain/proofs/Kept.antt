@@ -1,9 +1,14 @@
 -- What is certain is proved.
 -- Assumes nothing.
+use mathlib.Core.Path.{_≡_}
+use mathlib.Core.List.{List}
+use Prim.Native.Nat.{ℕ}
 use Rattle.number.proofs.Kept.{kept as alphabet}
 use Rattle.number.proofs.RoundTrip.{signed-word}
 use Rattle.identity.proofs.Read.{answers as identity-read, read-written as identity-written}
 use Rattle.calendar.proofs.Reading.{answers as time-read, read-written as time-written}
+use Rattle.entry.specs.declared.Unpacked.{Unpacked}
+use Rattle.entry.specs.Reading.{Reads as ReadsRecord}
 use Rattle.entry.proofs.RoundTrip.{round-trip}
 use Rattle.json_character.proofs.Kept.{kept as characters}
 use Rattle.json_text.proofs.Kept.{kept as strings}
@@ -24,9 +29,13 @@ use Rattle.demand_carried.proofs.Marked.{demand-marked}
 use Rattle.demand_happens.proofs.Pumped.{pumping}
 use Rattle.demand_happens.proofs.Greeting.{greeting}
 use Rattle.demand_happens.proofs.Records.{sending}
+use Rattle.refine_read.proofs.Identity.{readable as identity-is}
 use Rattle.equation.proofs.Calls.{equation}
+use Rattle.week_promise.proofs.Kept.{kept as weekly}
 use Rattle.certain.proofs.Editions.{same-edition}
-use Rattle.certain.specs.Certain.{Demands, Grammar, Codecs, Certain}
+use Rattle.certain.proofs.Identities.{identity-of}
+use Rattle.certain.specs.Certain.{Demands, Grammar, Unpacks, Codecs, Certain}
+use Rattle.certain.specs.Certain.Unpacks.{unpacks}
 
 demands : Demands
 demands =
@@ -47,6 +56,9 @@ demands =
 grammar : Grammar
 grammar = record { characters = characters; strings = strings; numbers = numbers; values = values; packets = packets }
 
+record-read : (b : List ℕ) (r : Unpacked) → Unpacks b r → ReadsRecord b r
+record-read b r (unpacks κs p x e q) = q
+
 codecs : Codecs
 codecs =
     record {
@@ -55,11 +67,14 @@ codecs =
       time-written = time-written;
       identity-read = identity-read;
       identity-written = identity-written;
-      record-back = λ e r v q. round-trip v q;
+      identity-is = identity-is;
+      identity-of = identity-of;
+      record-read = record-read;
+      record-back = λ e r v q. round-trip v (record-read _ r q);
       value-back = signed-word;
       table-back = λ d e t u v w p. (same-edition t u v w p, same-table t u v w p);
       messages = messages;
     }
 
 pub kept : Certain
-kept = record { equation = equation; demands = demands; grammar = grammar; codecs = codecs; marked = marked; conversation = conversation }
+kept = record { equation = equation; demands = demands; grammar = grammar; codecs = codecs; marked = marked; conversation = conversation; weekly = weekly }

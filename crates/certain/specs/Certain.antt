@@ -1,12 +1,15 @@
 -- What is certain of the product: every statement that a reviewer need believe, each a field, and one theorem, `kept`, for all of them.
 -- A host of the exported functions sees what the machine shows (the equation); the three demands hold over every run of the machine; what the machine
--- reads and writes is RFC 8259's and document 01's. Of every function the checker itself gives that no call crashes, hangs or leaves the memory it was lent.
+-- reads and writes is RFC 8259's and document 01's; the weekly report of a stream is that of its entries. Of every function the checker itself gives that no
+-- call crashes, hangs or leaves the memory it was lent.
 -- Assumes nothing.
 use Prim.Native.Nat.{ℕ, _≤_, _<_}
 use mathlib.Core.Path.{_≡_}
 use mathlib.Core.List.{List}
 use lib.IntN.{ℤ}
-use lib.ListN.{getD}
+use contract.Lifetimes.{Lfts}
+use denote.Triple.Clauses.{AtExit}
+use borrow.Fn.Kinds.{endedOf}
 use Rattle.answer.specs.Times.{lastTime}
 use Rattle.number.specs.Signed.{Signed32, signedOf, wordOf}
 use Rattle.number.specs.Claims.{Claims as Alphabet}
@@ -16,11 +19,14 @@ use Rattle.calendar.specs.declared.Time.the-variants.{Is}
 use Rattle.calendar.specs.Text.{timeText}
 use Rattle.calendar.specs.Read.{Reads as ReadsTime, readTime}
 use Rattle.entry.specs.declared.Entry.{Entry}
+use Rattle.entry.specs.declared.Packed.{Packed}
 use Rattle.entry.specs.declared.Unpacked.{Unpacked}
 use Rattle.entry.specs.declared.Unpacked.the-variants.{Accepted}
 use Rattle.entry.specs.Layout.{bytesOf}
 use Rattle.entry.specs.Reading.{Reads as ReadsRecord}
-use Rattle.entry.specs.Valid.{Valid}
+use Rattle.entry.specs.Valid.{Valid, Decides}
+use Rattle.entry.proofs.unpack.Reads as unpack
+use Rattle.entry.proofs.unpack.Kinds as unpack-kinds
 use Rattle.json_character.specs.Claims.{Claims as Characters}
 use Rattle.json_text.specs.Claims.{Claims as Strings}
 use Rattle.json_number.specs.Claims.{Claims as Numbers}
@@ -30,6 +36,7 @@ use Rattle.table_whole.specs.Table.{Table}
 use Rattle.table_whole.specs.Bytes.{tableBytes}
 use Rattle.table_whole.specs.Allowed.{Allowed}
 use Rattle.write_laws.specs.Claims.{Claims as Messages}
+use Rattle.machine.specs.Json.{isIdentity, isIdentityOf}
 use Rattle.machine.specs.Computed.{Marked, Conversation}
 use Rattle.demand_refused.specs.Demand.{Demand1}
 use Rattle.demand_told.specs.Demand.{Demand2}
@@ -43,6 +50,7 @@ use Rattle.demand_happens.specs.Pumped.{Pumping}
 use Rattle.demand_happens.specs.Greeting.{Greeting}
 use Rattle.demand_happens.specs.Records.{Sending}
 use Rattle.equation.specs.Equation.{Equation}
+use Rattle.week_promise.specs.Claims.{Claims as Weekly}
 
 -- The three demands, over every sequence of calls of the machine.
 pub record Demands : Type 0 where
@@ -77,6 +85,10 @@ pub record Grammar : Type 1 where
   pub values : Values
   pub packets : Packets
 
+-- the record reader by its own contract: the bytes that it is given, and what it makes of them
+pub data Unpacks : List ℕ → Unpacked → Type 0 where
+  unpacks : (κs : Lfts 0) (p : Packed) (r : Unpacked) (e : AtExit (endedOf 0 unpack-kinds.ps unpack-kinds.r) κs) → unpack.Learnt κs (p, tt) r e → Unpacks (p .bytes) r
+
 -- The forms of document 01, both ways.
 pub record Codecs : Type 0 where
   -- 1 to 32 bytes of the table's alphabet
@@ -87,8 +99,12 @@ pub record Codecs : Type 0 where
   -- "Identities are 36 characters, hex 8-4-4-4-12, either case"
   pub identity-read : (s : List ℕ) → Answers s (readIdentity s)
   pub identity-written : (bs : List ℕ) → SixteenBytes bs → readIdentity (identityText bs) ≡ found bs
-  -- "Record, 128 bits": what the record reader accepts of a record's bytes is the record
-  pub record-back : (e : Entry) (r : Unpacked) → Valid e → ReadsRecord (bytesOf e) r → r ≡ Accepted e
+  -- by which the machine's own tests go
+  pub identity-is : (s : List ℕ) → isIdentity s ≡ readIdentity s .found
+  pub identity-of : (bs s : List ℕ) → SixteenBytes bs → Decides (isIdentityOf bs s) (readIdentity s ≡ found bs)
+  -- "Record, 128 bits": of a record's bytes the record, of all others number 11
+  pub record-read : (b : List ℕ) (r : Unpacked) → Unpacks b r → ReadsRecord b r
+  pub record-back : (e : Entry) (r : Unpacked) → Valid e → Unpacks (bytesOf e) r → r ≡ Accepted e
   pub value-back : (v : ℤ) → Signed32 v → signedOf (wordOf v) ≡ v
   -- "Site table": its bytes are those of one table in one edition
   pub table-back : (d e : ℕ) (t u : Table) → Allowed d t → Allowed e u → tableBytes d t ≡ tableBytes e u → (d ≡ e) × (t ≡ u)
@@ -103,3 +119,4 @@ pub record Certain : Type 1 where
   -- the cases that document 01 marks, and a conversation from bytes to bytes
   pub marked : Marked
   pub conversation : Conversation
+  pub weekly : Weekly

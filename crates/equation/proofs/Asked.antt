@@ -1,14 +1,12 @@
 -- What a contract allows is what the call's definition gives.
 -- Assumes nothing.
-use Prim.Native.Nat.{ℕ, zero, suc, _<_}
+use Prim.Native.Nat.{ℕ, _<_}
 use mathlib.Core.Path.{_≡_, refl, sym, ap, ap₂, _∙_}
-use mathlib.Core.Bool.{Bool}
 use mathlib.Core.List.{List, [], _∷_, map}
 use native.Mathlib.Omega.{arith}
 use lib.Dec.{ltb}
 use lib.ListN.{length, take, getD}
 use denote.Ref.{now}
-use Rattle.answer.specs.declared.Refusal.{Refusal}
 use Rattle.answer.specs.Number.{numberOf}
 use Rattle.identity.specs.declared.Identity.{Identity}
 use Rattle.identity.specs.Version.{identityOf}
@@ -17,18 +15,14 @@ use Rattle.pool.specs.declared.Sought.the-variants.{Found, Nothing as NoEntry}
 use Rattle.pool.specs.Pool.{oldestUnsent}
 use Rattle.link.specs.declared.Due.{Due}
 use Rattle.link.specs.declared.Due.the-variants.{Nothing, Version, Watchdog, Aggregated, Alarm, Entry}
-use Rattle.table_whole.specs.declared.SiteTable.{SiteTable}
-use Rattle.table_whole.specs.Memory.{noTable}
 use Rattle.site.specs.declared.Site.{Site}
-use Rattle.site.specs.declared.Step.{Step}
-use Rattle.site.specs.Call.{Plan}
 use Rattle.call_pump.specs.Pump.{dueAt, entryPlan, planFor}
 use Rattle.packet_command.specs.Handing.{commandWord}
 use Rattle.store_site.specs.Layout.{siteOf, siteWords}
 use Rattle.store_table.specs.Layout.{tableOf, tableBytes}
 use Rattle.sitec.specs.declared.Outcome.{Outcome}
 use Rattle.sitec.specs.Outcome.{outcomeOf}
-use Rattle.sitec.specs.Lent.{WordsAndTable, WithCommands, Called, Told, Handed}
+use Rattle.sitec.specs.Lent.{Called, Told, Handed}
 use Rattle.calls.specs.Calls.{Call, timeOf, outputOf, refuses, planOf, stepBy, outBy}
 use Rattle.calls.specs.Calls.Call.{connect, disconnect, packet, alarm, status, aggregated, tick, pump}
 use Rattle.calls.proofs.Kept.{kept as calls-kept}
@@ -37,9 +31,7 @@ use Rattle.machine.specs.State.{Call as MachineCall}
 use Rattle.refine_calls.specs.Calls.{callFor}
 use Rattle.equation.specs.Seen.{Seen, TypedAct}
 use Rattle.equation.specs.Seen.Ask.{call}
-use Rattle.equation.specs.Seen.Seen.{told, count, numbers, entry}
 use Rattle.equation.specs.Contracts.{Allows, packetSeen, outcomeSeen}
-use Rattle.equation.specs.Equation.{Fits, Serves}
 use Rattle.equation.proofs.Handed.{first-words}
 use Rattle.equation.specs.Contracts.Allows.{connects, disconnects, packets, alarms, statuses, aggregates, ticks, pumps}
 
@@ -147,60 +139,3 @@ opened ts ws h g k output x vs (pumps κs w table l t random xs o e p) =
     let s : Site = siteOf ws (tableOf ts) in
     lent ts ws h g (pump l t random (now xs)) vs (now (e .1 .1 .1 .1 .1 .0)) [] o (h, g) (λ u. (u, tt))
     (λ z. none-handed ts ws h g (pump l t random (now xs)) (due-none (dueAt s l t) s l t (identityOf random))) p
-
--- of what is told
-abbrev numberIn : Seen → ℕ
-numberIn (told n ys counted closed hint commands) = n
-numberIn (count n) = 0
-numberIn (numbers ns) = 0
-numberIn (entry found bytes) = 0
-
-abbrev outputIn : Seen → List ℕ
-outputIn (told n ys counted closed hint commands) = ys
-outputIn (count n) = []
-outputIn (numbers ns) = []
-outputIn (entry found bytes) = []
-
--- ---- of any memory: a refused call changes nothing, and other memory than the call needs is number 14
-pub record Lawful (Needs : Type 0) (ws : List ℕ) (output : List ℕ) (x : Seen) (vs : List ℕ) : Type 0 where
-  pub same-words : (numberIn x ≡ 0 → ⊥) → vs ≡ ws
-  pub same-bytes : (numberIn x ≡ 0 → ⊥) → outputIn x ≡ output
-  pub no-site : (Needs → ⊥) → numberIn x ≡ 14
-
-above : (n : ℕ) → (n ≡ 0 → ⊥) → 0 < n
-above zero h = absurd (h refl)
-above (suc n) h = omega arith
-
-lawful-plain : {F N : Type 0} (t : SiteTable) (y : Step) (ws vs : List ℕ) (o : Outcome) → (F → N) → Called F t y ws vs o → Lawful N ws [] (outcomeSeen [] o) vs
-lawful-plain t y ws vs o f p =
-    record {
-      same-words = λ h. p .kept (above (o .number) h);
-      same-bytes = λ h. refl;
-      no-site = λ h. ap (λ (q : Outcome). q .number) (p .other (λ z. h (f z)));
-    }
-
-lawful-lent : {F N : Type 0} (t : SiteTable) (time : ℕ) (refuses : Refusal → Bool) (q : Plan) (ws vs xs ys ds : List ℕ) (o : Outcome) → (F → N) → Told F t time refuses q ws vs xs ys o
-    → Lawful N ws xs (packetSeen ys ds o) vs
-lawful-lent t time refuses q ws vs xs ys ds o f p =
-    record {
-      same-words = λ h. p .called .kept (above (o .number) h);
-      same-bytes = λ h. p .unwritten (above (o .number) h);
-      no-site = λ h. ap (λ (q : Outcome). q .number) (p .called .other (λ z. h (f z)));
-    }
-
-pub fitting : (ws ts : List ℕ) → WordsAndTable ws ts → Fits ws ts
-fitting ws ts z = record { words = z .0; table = z .1 }
-
-fitting-words : (ws ts cs : List ℕ) → WithCommands ws ts cs → Fits ws ts
-fitting-words ws ts cs z = record { words = z .0; table = z .1 }
-
-pub lawful : (ts ws : List ℕ) (k : MachineCall) (output : List ℕ) (x : Seen) (vs : List ℕ) → Allows ts ws (call k output) x vs → Lawful (Serves (k .act) ws ts) ws output x vs
-lawful ts ws k output x vs (connects κs w l t o e p) = lawful-plain noTable _ ws vs o (λ z. z) (p noTable)
-lawful ts ws k output x vs (disconnects κs w l t o e p) = lawful-plain noTable _ ws vs o (λ z. z) (p noTable)
-lawful ts ws k output x vs (packets κs w table l t random rc cs xs o e p n) =
-    lawful-lent _ _ _ _ ws vs (now xs) (now (e .1 .1 .1 .1 .1 .1 .1 .0)) (now (e .1 .1 .1 .1 .1 .1 .0)) o (fitting-words ws ts (now cs)) (p .0)
-lawful ts ws k output x vs (alarms κs w table i active t o e p) = lawful-plain _ _ ws vs o (fitting ws ts) p
-lawful ts ws k output x vs (statuses κs w table i v t o e p) = lawful-plain _ _ ws vs o (fitting ws ts) p
-lawful ts ws k output x vs (aggregates κs w v t o e p) = lawful-plain noTable _ ws vs o (λ z. z) (p noTable)
-lawful ts ws k output x vs (ticks κs w t o e p) = lawful-plain noTable _ ws vs o (λ z. z) (p noTable)
-lawful ts ws k output x vs (pumps κs w table l t random xs o e p) = lawful-lent _ _ _ _ ws vs (now xs) (now (e .1 .1 .1 .1 .1 .0)) [] o (fitting ws ts) p

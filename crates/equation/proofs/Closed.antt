@@ -1,4 +1,4 @@
--- The links that the machine closes, read back out of a word in which each is a bit.
+-- The links that the machine closes are the bits of the word that tells them.
 -- Assumes nothing.
 use Prim.Native.Nat.{ℕ, zero, suc, _<_, _≤_}
 use Prim.Native.String.{String}
@@ -42,10 +42,10 @@ use Rattle.demand_held.proofs.Steps.{step-done, step-refused}
 use Rattle.demand_told.specs.Life.{closedBy}
 use Rattle.demand_told.proofs.GreetedDemand.{by-number}
 use Rattle.refine_calls.specs.Calls.{maskFor}
-use Rattle.equation.specs.Contracts.{linksIn}
+use Rattle.equation.specs.Seen.{bits}
 
 abbrev pub Same : List ℕ → Type 0
-Same ls = linksIn (maskFor ls) ≡ ls
+Same ls = maskFor ls ≡ bits ls
 
 abbrev Lays : Effect → Type 0
 Lays e = Same (e .closed)

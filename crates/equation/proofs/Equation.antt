@@ -1,6 +1,6 @@
 -- The equation, from each call's.
 -- Assumes nothing.
-use Prim.Native.Nat.{ℕ, zero, suc, _<_}
+use Prim.Native.Nat.{ℕ}
 use mathlib.Core.Path.{_≡_, refl, sym, ap, ap₂, _∙_, subst}
 use mathlib.Core.Bool.{true}
 use mathlib.Core.List.{List, [], _∷_}
@@ -34,16 +34,18 @@ use Rattle.refine_calls.specs.Start.{SameStart}
 use Rattle.refine_calls.specs.Start.SameStart.{not-accepted, accepted}
 use Rattle.refine_calls.proofs.Start.{starting}
 use Rattle.refine_calls.proofs.Readings.{readings}
-use Rattle.equation.specs.Seen.{Ask, Seen, tells, shown, shows, next, showsAll, TypedAct, Typed, AllTyped}
+use Rattle.equation.specs.Seen.{Ask, Seen, numbered, tells, shown, shows, next, showsAll, TypedAct, Typed, AllTyped}
 use Rattle.equation.specs.Seen.Ask.{call, held, lost, phase, version, record-of}
 use Rattle.equation.specs.Seen.Seen.{told, count, numbers, entry}
-use Rattle.equation.specs.Contracts.{Starts, Allows, Run}
+use Rattle.equation.specs.Contracts.{Starts, Allows, Run, Free}
 use Rattle.equation.specs.Contracts.Starts.{starts}
 use Rattle.equation.specs.Contracts.Allows.{reads-held, reads-lost, reads-phase, reads-version, reads-record}
 use Rattle.equation.specs.Contracts.Run.{ends, asks}
 use Rattle.equation.specs.Equation.{startFor, Sees, FromStart, Fits, Equation}
 use Rattle.equation.proofs.Told.{told-same}
-use Rattle.equation.proofs.Asked.{BytesIn, Opened, opened, fitting, lawful}
+use Rattle.equation.proofs.Asked.{BytesIn, Opened, opened}
+use Rattle.equation.proofs.Fitting.{above, fitting}
+use Rattle.equation.proofs.Lawful.{lawful, misfit}
 use Rattle.equation.proofs.Closed.{closed-links}
 use Rattle.equation.proofs.Handed.{unhanded, behind, commands-misfit}
 
@@ -146,26 +148,43 @@ module _ (all : AllCalls) where
       → FromStart (startFor table links primary period first time) o vs us
   of-contract ws ts fit table links primary period first time o vs us (starts κs w t b c d f g q oo e p) = begun ws ts table links primary period first time o vs us fit p
 
-above : (n : ℕ) → (n ≡ 0 → ⊥) → 0 < n
-above zero h = absurd (h refl)
-above (suc n) h = omega arith
-
 not-started : (ws ts table : List ℕ) (links primary period first time : ℕ) (o : Outcome) (vs us : List ℕ) → Starts ws ts table links primary period first time o vs us
     → (o .number ≡ 0 → ⊥) → (vs ≡ ws) × (us ≡ ts)
 not-started ws ts table links primary period first time o vs us (starts κs w t b c d f g q oo e p) wrong = (p .kept (above (o .number) wrong), p .table-kept (above (o .number) wrong))
 
 start-misfit : (ws ts table : List ℕ) (links primary period first time : ℕ) (o : Outcome) (vs us : List ℕ) → Starts ws ts table links primary period first time o vs us
-    → (Fits ws ts → ⊥) → o .number ≡ 14
-start-misfit ws ts table links primary period first time o vs us (starts κs w t b c d f g q oo e p) wrong = ap (λ (y : Outcome). y .number) (p .other (λ z. wrong (fitting ws ts z)))
+    → (Fits ws ts → ⊥) → o ≡ numbered 14
+start-misfit ws ts table links primary period first time o vs us (starts κs w t b c d f g q oo e p) wrong = p .other (λ z. wrong (fitting ws ts z))
+
+free : Free
+free =
+    record {
+      start = λ κs given. tt;
+      connect = λ κs given. tt;
+      disconnect = λ κs given. tt;
+      packet = λ κs given. tt;
+      alarm = λ κs given. tt;
+      status = λ κs given. tt;
+      aggregated = λ κs given. tt;
+      tick = λ κs given. tt;
+      pump = λ κs given. tt;
+      held = λ κs given. tt;
+      lost = λ κs given. tt;
+      phase = λ κs given. tt;
+      version = λ κs given. tt;
+      record-of = λ κs given. tt;
+    }
 
 pub from-calls : AllCalls → Equation
 from-calls all =
     record {
+      free = free;
       from-start = of-contract all;
-      refused = λ ts ws c output number counted ys closed hint commands vs p wrong.
-          let l = lawful ts ws c output (told number ys counted closed hint commands) vs p in (l .same-words wrong, l .same-bytes wrong);
+      refused = λ ts ws c output o ys commands vs p wrong.
+          let l = lawful ts ws c output (told o ys commands) vs p in (l .same-words wrong, l .number-only wrong);
       not-started = not-started;
-      misfit = λ ts ws c output number counted ys closed hint commands vs p wrong. lawful ts ws c output (told number ys counted closed hint commands) vs p .no-site wrong;
+      only-counted = λ ts ws c output o ys commands vs p short. lawful ts ws c output (told o ys commands) vs p .only-counted short;
+      misfit = misfit;
       unhanded = unhanded;
       behind = behind;
       commands-misfit = commands-misfit;

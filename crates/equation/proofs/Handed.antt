@@ -1,9 +1,9 @@
 -- The words of the commands that a packet call hands over.
 -- Assumes nothing.
-use Prim.Native.Nat.{ℕ, zero, suc, _+_, _*_, _/_, _%_, _^_, _<_}
+use Prim.Native.Nat.{ℕ, _+_, _*_, _/_, _%_, _^_}
 use mathlib.Core.Path.{_≡_, refl, sym, ap, ap₂, _∙_, subst}
 use mathlib.Core.List.{List, [], _∷_, _++_, map}
-use mathlib.Core.Logic.{_⊎_, inl, inr}
+use mathlib.Core.Logic.{inl, inr}
 use native.Mathlib.Omega.{arith}
 use lib.IntN.{ℤ}
 use lib.ListN.{length, take, drop, length-map}
@@ -19,8 +19,8 @@ use Rattle.number.specs.Signed.{Signed32, wordOf, signedOf}
 use Rattle.number.proofs.RoundTrip.{signed-word, word-lt}
 use Rattle.site.specs.declared.Site.{Site}
 use Rattle.site.specs.Call.{Command}
-use Rattle.store_site.specs.Layout.{siteOf, siteWords}
-use Rattle.store_table.specs.Layout.{tableOf, tableBytes}
+use Rattle.store_site.specs.Layout.{siteOf}
+use Rattle.store_table.specs.Layout.{tableOf}
 use Rattle.packet_command.specs.Handing.{commandWord, handedOver}
 use Rattle.calls.specs.Calls.{Call, planOf, stepBy}
 use Rattle.calls.specs.Calls.Call.{packet}
@@ -31,8 +31,10 @@ use Rattle.sitec.specs.Lent.{WithCommands}
 use Rattle.machine.specs.State.{Command as MachineCommand, commandOf}
 use Rattle.refine_calls.specs.Calls.{SameCommands}
 use Rattle.refine_calls.specs.Calls.SameCommands.{no-command, one-command}
+use Rattle.equation.specs.Seen.{numbered}
 use Rattle.equation.specs.Contracts.{commandIn, Packets}
 use Rattle.equation.specs.Contracts.Packets.{packet-call}
+use Rattle.equation.proofs.Fitting.{above, Either, fits-with-commands}
 
 -- a command out of its word
 word-back : (number : ℕ) (value : ℤ) → Signed32 value → commandIn (commandWord (record { number = number; value = value })) ≡ commandOf number value
@@ -62,35 +64,21 @@ counts s c z =
     let d = 0-is-done (stepBy s c .answer) z in
     ap (λ (a : Answer). reportIn a .commands) (d .1) ∙ ap (λ (r : Report). r .commands) (calls-kept .numbered s c .done-only-so (d .0) (d .1) .1)
 
-above : (n : ℕ) → (n ≡ 0 → ⊥) → 0 < n
-above zero h = absurd (h refl)
-above (suc n) h = omega arith
-
 -- ---- of any memory
 pub unhanded : (ts ws cs output : List ℕ) (o : Outcome) (vs ds ys : List ℕ) → Packets ts ws cs output o vs ds ys → (o .number ≡ 0 → ⊥) → ds ≡ cs
 unhanded ts ws cs output o vs ds ys (packet-call κs w table l t random received commands out q e p) wrong = p .1 .unhanded (above (o .number) wrong)
 
 pub commands-misfit : (ts ws cs output : List ℕ) (o : Outcome) (vs ds ys : List ℕ) → Packets ts ws cs output o vs ds ys → (length cs ≡ 16 → ⊥)
-    → (o .number ≡ 14) × (vs ≡ ws) × (ys ≡ output)
+    → (o ≡ numbered 14) × (vs ≡ ws) × (ys ≡ output)
 commands-misfit ts ws cs output o vs ds ys (packet-call κs w table l t random received commands out q e p) wrong =
-    let number : o .number ≡ 14 = ap (λ (x : Outcome). x .number) (p .0 .called .other (λ z. wrong (z .2))) in
-    (number, p .0 .called .kept (omega (arith, number)), p .0 .unwritten (omega (arith, number)))
-
--- it fits, or its number is 14
-fits-or : (ws ts cs : List ℕ) → WithCommands ws ts cs ⊎ (WithCommands ws ts cs → ⊥)
-fits-or ws ts cs = by (eq-or-ne (length ws) siteWords) (eq-or-ne (length ts) tableBytes) (eq-or-ne (length cs) 16)
-  where
-    by : (length ws ≡ siteWords) ⊎ (length ws ≡ siteWords → ⊥) → (length ts ≡ tableBytes) ⊎ (length ts ≡ tableBytes → ⊥) → (length cs ≡ 16) ⊎ (length cs ≡ 16 → ⊥)
-        → WithCommands ws ts cs ⊎ (WithCommands ws ts cs → ⊥)
-    by (inl a) (inl b) (inl c) = inl (a, b, c)
-    by (inl a) (inl b) (inr c) = inr (λ z. c (z .2))
-    by (inl a) (inr b) c = inr (λ z. b (z .1))
-    by (inr a) b c = inr (λ z. a (z .0))
+    let all = p .0 .called .other (λ z. wrong (z .2)) in
+    let number : o .number ≡ 14 = ap (λ (x : Outcome). x .number) all in
+    (all, p .0 .called .kept (omega (arith, number)), p .0 .unwritten (omega (arith, number)))
 
 pub behind : (ts ws cs output : List ℕ) (o : Outcome) (vs ds ys : List ℕ) → Packets ts ws cs output o vs ds ys → drop (o .commands) ds ≡ drop (o .commands) cs
-behind ts ws cs output o vs ds ys (packet-call κs w table l t random received commands out q e p) = by (eq-or-ne (o .number) 0) (fits-or ws ts cs)
+behind ts ws cs output o vs ds ys (packet-call κs w table l t random received commands out q e p) = by (eq-or-ne (o .number) 0) (fits-with-commands ws ts cs)
   where
-    by : (o .number ≡ 0) ⊎ (o .number ≡ 0 → ⊥) → WithCommands ws ts cs ⊎ (WithCommands ws ts cs → ⊥) → drop (o .commands) ds ≡ drop (o .commands) cs
+    by : Either (o .number ≡ 0) → Either (WithCommands ws ts cs) → drop (o .commands) ds ≡ drop (o .commands) cs
     by (inr n) f = ap (drop (o .commands)) (p .1 .unhanded (above (o .number) n))
     by (inl z) (inr f) = absurd (let number : o .number ≡ 14 = ap (λ (x : Outcome). x .number) (p .0 .called .other f) in omega (arith, z, number))
     by (inl z) (inl f) =

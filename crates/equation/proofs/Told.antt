@@ -1,19 +1,18 @@
 -- What is seen of a call that is the machine's.
 -- Assumes nothing.
-use Prim.Native.Nat.{ℕ}
+use Prim.Native.Nat.{ℕ, suc}
 use mathlib.Core.Path.{_≡_, refl, sym, ap, ap₂, _∙_}
 use mathlib.Core.List.{List, [], _∷_, _++_, map}
 use mathlib.Core.Option.{Option, some, none}
-use lib.Dec.{eqb}
 use lib.ListN.{length, take, drop, take-append-drop}
-use Rattle.basis.specs.Pick.{pick}
 use Rattle.answer.specs.declared.Answer.{Answer}
 use Rattle.answer.specs.declared.Answer.the-variants.{Done, Refused}
 use Rattle.answer.specs.Number.{numberOf}
 use Rattle.answer.specs.Given.{Hint}
 use Rattle.site.specs.declared.Site.{Site}
-use Rattle.site.specs.Call.{hintTime, hintBit, reportOf}
-use Rattle.sitec.specs.Outcome.{reportIn, outcomeOf}
+use Rattle.site.specs.Call.{Command as Planned, hintTime, hintBit, reportOf}
+use Rattle.sitec.specs.declared.Outcome.{Outcome}
+use Rattle.sitec.specs.Outcome.{outcomeOf}
 use Rattle.sound.specs.Sound.{Sound}
 use Rattle.sequences.specs.Formedness.{allBytes, Wrote}
 use Rattle.calls.specs.Calls.{Call, outputOf, planOf, endOf, stepBy, outBy}
@@ -23,27 +22,35 @@ use Rattle.sequences.proofs.Kept.{kept as sequences-kept}
 use Rattle.write_message.specs.Message.{Message}
 use Rattle.write_message.specs.Listing.{bytesOf}
 use Rattle.packet_command.specs.Handing.{commandWord}
+use Rattle.machine.specs.Words.{maybe, orElse}
 use Rattle.machine.specs.State.{Command, Outcome as MachineOutcome}
 use Rattle.demand_told.specs.Life.{closedBy}
-use Rattle.refine_calls.specs.Calls.{SameOutcome, maskFor, hintFor}
+use Rattle.refine_calls.specs.Calls.{SameCommands, SameOutcome, hintFor}
+use Rattle.refine_calls.specs.Calls.SameCommands.{no-command, one-command}
 use Rattle.refine_calls.specs.Calls.SameOutcome.{refuses-both, does-both}
-use Rattle.equation.specs.Seen.{Seen, written, tells}
+use Rattle.equation.specs.Seen.{Seen, written, bits, tells}
 use Rattle.equation.specs.Seen.Seen.{told}
-use Rattle.equation.specs.Contracts.{linksIn, commandIn, packetSeen}
+use Rattle.equation.specs.Contracts.{commandIn, packetSeen}
 use Rattle.equation.proofs.Closed.{Same}
 use Rattle.equation.proofs.Handed.{words-back}
 
-abbrev hinted : Hint → Option ℕ
-hinted h = pick (eqb (hintBit h) 0) none (some (hintTime h))
+same-time : (h : Option ℕ) → hintTime (hintFor h) ≡ orElse 0 h
+same-time none = refl
+same-time (some t) = refl
 
-same-hint : (h : Option ℕ) → hinted (hintFor h) ≡ h
-same-hint none = refl
-same-hint (some t) = refl
+same-bit : (h : Option ℕ) → hintBit (hintFor h) ≡ maybe 0 (λ t. 1) h
+same-bit none = refl
+same-bit (some t) = refl
+
+same-count : {cs : List Planned} {ds : List Command} → SameCommands cs ds → length cs ≡ length ds
+same-count no-command = refl
+same-count (one-command h v same) = ap suc (same-count same)
 
 abbrev answerSeen : List ℕ → List ℕ → Answer → Seen
-answerSeen words ys a =
-    told (numberOf a) ys (reportIn a .written) (linksIn (reportIn a .closed)) (pick (eqb (reportIn a .hinted) 0) none (some (reportIn a .hint)))
-    (map commandIn (take (reportIn a .commands) words))
+answerSeen words ys a = packetSeen ys words (outcomeOf a)
+
+abbrev doneWith : ℕ → ℕ → ℕ → ℕ → ℕ → Outcome
+doneWith written closed hint hinted commands = record { hint = hint; number = 0; written = written; closed = closed; hinted = hinted; commands = commands }
 
 all-written : (ms : List Message) → allBytes ms ≡ written ms
 all-written [] = refl
@@ -63,9 +70,12 @@ told-same s sound c typed words handed a x links e (does-both closed hint comman
     sym (take-append-drop (reportOf (planOf s c) (endOf s c) .written) (outBy s c))
     ∙ ap₂ (λ (p q : List ℕ). p ++ q) (w .first ∙ all-written ms) (w .behind)
     ∙ ap (λ (n : ℕ). written ms ++ drop n (outputOf c)) counted in
-    let all : map commandIn (take (length (planOf s c .commands)) words) ≡ commands = ap (map commandIn) (handed (ap numberOf e)) ∙ words-back same in
+    let p = planOf s c in
+    let out : List ℕ = written ms ++ drop (length (written ms)) (outputOf c) in
+    let given = map commandIn (take (length (p .commands)) words) in
+    let all : given ≡ commands = ap (map commandIn) (handed (ap numberOf e)) ∙ words-back same in
     ap (answerSeen words (outBy s c)) e
-    ∙ ap₂ (λ (ys : List ℕ) (n : ℕ). told 0 ys n (linksIn (planOf s c .closed)) (hinted (planOf s c .hint)) (map commandIn (take (length (planOf s c .commands)) words))) bytes counted
-    ∙ ap₂ (λ (k : List ℕ) (h : Option ℕ). told 0 (written ms ++ drop (length (written ms)) (outputOf c)) (length (written ms)) k h (map commandIn (take (length (planOf s c .commands)) words)))
-    (ap linksIn ec ∙ links) (ap hinted eh ∙ same-hint hint)
-    ∙ ap (told 0 (written ms ++ drop (length (written ms)) (outputOf c)) (length (written ms)) closed hint) all
+    ∙ ap₂ (λ (ys : List ℕ) (n : ℕ). told (doneWith n (p .closed) (hintTime (p .hint)) (hintBit (p .hint)) (length (p .commands))) ys given) bytes counted
+    ∙ ap₂ (λ (k : ℕ) (h : Hint). told (doneWith (length (written ms)) k (hintTime h) (hintBit h) (length (p .commands))) out given) (ec ∙ links) eh
+    ∙ ap₂ (λ (t b : ℕ). told (doneWith (length (written ms)) (bits closed) t b (length (p .commands))) out given) (same-time hint) (same-bit hint)
+    ∙ ap₂ (λ (n : ℕ) (cs : List Command). told (doneWith (length (written ms)) (bits closed) (orElse 0 hint) (maybe 0 (λ t. 1) hint) n) out cs) (same-count same) all

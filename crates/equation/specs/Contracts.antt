@@ -4,8 +4,7 @@
 use Prim.Native.Nat.{ℕ, _/_, _%_, _^_}
 use mathlib.Core.Path.{_≡_}
 use mathlib.Core.List.{List, [], _∷_, map}
-use mathlib.Core.Option.{some, none}
-use lib.Dec.{eqb, ltb}
+use lib.Dec.{ltb}
 use lib.IntN.{ℤ}
 use lib.ListN.{length, take}
 use contract.Lifetimes.{Lfts}
@@ -45,16 +44,12 @@ use Rattle.sitec.proofs.readings.rsmp_lent_version_of.Reads as rsmp-version-of
 use Rattle.sitec.proofs.readings.rsmp_lent_version_of.Kinds as version-of-kinds
 use Rattle.sitec.proofs.readings.rsmp_lent_record.Reads as rsmp-record
 use Rattle.sitec.proofs.readings.rsmp_lent_record.Kinds as record-kinds
-use Rattle.machine.specs.Words.{Bytes, if_then_else_, keep, upTo}
+use Rattle.machine.specs.Words.{Bytes}
 use Rattle.machine.specs.State.{Command, commandOf, Act}
 use Rattle.machine.specs.State.Act.{connect, disconnect, packet, alarmInput, statusValue, aggregatedValue, tick, pump}
 use Rattle.equation.specs.Seen.{Ask, Seen}
 use Rattle.equation.specs.Seen.Ask.{call, held, lost, phase, version, record-of}
 use Rattle.equation.specs.Seen.Seen.{told, count, numbers, entry}
-
--- the links of a word in which link l is bit l
-abbrev pub linksIn : ℕ → List ℕ
-linksIn word = keep (λ l. eqb (word / 2 ^ l % 2) 1) (upTo 4)
 
 -- the command of a word: its number is the high half, its value the low one
 abbrev pub commandIn : ℕ → Command
@@ -62,8 +57,7 @@ commandIn word = commandOf (word / 2 ^ 32) (signedOf (word % 2 ^ 32))
 
 -- what is seen of an outcome, of the output afterwards, and of the words lent for commands, of which so many are counted
 abbrev pub packetSeen : Bytes → List ℕ → Outcome → Seen
-packetSeen output words o =
-    told (o .number) output (o .written) (linksIn (o .closed)) (if eqb (o .hinted) 0 then none else some (o .hint)) (map commandIn (take (o .commands) words))
+packetSeen output words o = told o output (map commandIn (take (o .commands) words))
 
 abbrev pub outcomeSeen : Bytes → Outcome → Seen
 outcomeSeen output o = packetSeen output [] o
@@ -122,3 +116,20 @@ pub data Allows : Bytes → List ℕ → Ask → Seen → List ℕ → Type 0 wh
 pub data Run (ts : Bytes) : List ℕ → List Ask → List Seen → Type 0 where
   ends : {ws : List ℕ} → Run ts ws [] []
   asks : {ws vs : List ℕ} {a : Ask} {more : List Ask} {x : Seen} {xs : List Seen} → Allows ts ws a x vs → Run ts vs more xs → Run ts ws (a ∷ more) (x ∷ xs)
+
+-- no function asks anything of what it is given
+pub record Free : Type 0 where
+  pub start : (κs : Lfts 3) (given : _) → rsmp-start.Asked κs given
+  pub connect : (κs : Lfts 1) (given : _) → rsmp-connect.Asked κs given
+  pub disconnect : (κs : Lfts 1) (given : _) → rsmp-disconnect.Asked κs given
+  pub packet : (κs : Lfts 5) (given : _) → rsmp-packet.Asked κs given
+  pub alarm : (κs : Lfts 2) (given : _) → rsmp-alarm.Asked κs given
+  pub status : (κs : Lfts 2) (given : _) → rsmp-status.Asked κs given
+  pub aggregated : (κs : Lfts 1) (given : _) → rsmp-aggregated.Asked κs given
+  pub tick : (κs : Lfts 1) (given : _) → rsmp-tick.Asked κs given
+  pub pump : (κs : Lfts 3) (given : _) → rsmp-pump.Asked κs given
+  pub held : (κs : Lfts 1) (given : _) → rsmp-held.Asked κs given
+  pub lost : (κs : Lfts 1) (given : _) → rsmp-lost.Asked κs given
+  pub phase : (κs : Lfts 1) (given : _) → rsmp-phase.Asked κs given
+  pub version : (κs : Lfts 1) (given : _) → rsmp-version-of.Asked κs given
+  pub record-of : (κs : Lfts 1) (given : _) → rsmp-record.Asked κs given

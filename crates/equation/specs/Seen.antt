@@ -1,16 +1,16 @@
 -- All that a host sees of a call or a reading, and what the machine shows of it.
 -- Assumes nothing.
-use Prim.Native.Nat.{ℕ, _<_}
-use mathlib.Core.Bool.{Bool}
+use Prim.Native.Nat.{ℕ, _+_, _^_, _<_}
+use mathlib.Core.Bool.{Bool, false}
 use mathlib.Core.List.{List, [], _∷_, _++_}
-use mathlib.Core.Option.{Option, none}
 use lib.Dec.{ltb}
 use lib.ListN.{length, drop, getD, replicate}
 use Rattle.number.specs.Signed.{Signed32}
 use Rattle.identity.specs.Read.{SixteenBytes}
 use Rattle.write_message.specs.Message.{Message}
 use Rattle.write_message.specs.Listing.{bytesOf}
-use Rattle.machine.specs.Words.{Bytes, flat}
+use Rattle.sitec.specs.declared.Outcome.{Outcome as HandedOut}
+use Rattle.machine.specs.Words.{Bytes, maybe, orElse, flat}
 use Rattle.machine.specs.State.{Command, Machine, Act, Call, Outcome}
 use Rattle.machine.specs.State.Act.{connect, disconnect, packet, alarmInput, statusValue, aggregatedValue, tick, pump}
 use Rattle.machine.specs.State.Outcome.{refused, done}
@@ -23,10 +23,10 @@ pub data Ask : Type 0 where
   held lost phase version : (link : ℕ) → Ask
   record-of : (link rank : ℕ) → Ask
 
--- the number, the whole output afterwards, how many of its bytes are counted, the links closed, the clock hint and the commands handed over; or what is
--- read: a number, the three of a version, whether there is such a record and its bytes
+-- all that the call hands out, the whole output afterwards and the commands handed over; or what is read: a number, the three of a version, whether there
+-- is such a record and its bytes
 pub data Seen : Type 0 where
-  told : (number : ℕ) (output : Bytes) (counted : ℕ) (closed : List ℕ) (hint : Option ℕ) (commands : List Command) → Seen
+  told : (o : HandedOut) (output : Bytes) (commands : List Command) → Seen
   count : ℕ → Seen
   numbers : List ℕ → Seen
   entry : (found : Bool) (bytes : Bytes) → Seen
@@ -36,9 +36,28 @@ pub data Seen : Type 0 where
 abbrev pub written : List Message → Bytes
 written ms = flat bytesOf ms
 
+-- a word in which link l is bit l
+abbrev pub bits : List ℕ → ℕ
+bits [] = 0
+bits (l ∷ ls) = 2 ^ l + bits ls
+
+-- a number, and else zeros
+abbrev pub numbered : ℕ → HandedOut
+numbered n = record { hint = 0; number = n; written = 0; closed = 0; hinted = 0; commands = 0 }
+
 abbrev pub tells : Bytes → Outcome → Seen
-tells output (refused n) = told n output 0 [] none []
-tells output (done ms closed hint commands) = told 0 (written ms ++ drop (length (written ms)) output) (length (written ms)) closed hint commands
+tells output (refused n) = told (numbered n) output []
+tells output (done ms closed hint commands) =
+    told
+    (record {
+      hint = orElse 0 hint;
+      number = 0;
+      written = length (written ms);
+      closed = bits closed;
+      hinted = maybe 0 (λ t. 1) hint;
+      commands = length commands;
+    })
+    (written ms ++ drop (length (written ms)) output) commands
 
 -- zeros where no version is chosen
 abbrev pub shown : List ℕ → List ℕ
@@ -56,6 +75,15 @@ shows m (lost l) = count (reading m l .lost)
 shows m (phase l) = count (reading m l .phase)
 shows m (version l) = numbers (shown (reading m l .version))
 shows m (record-of l r) = ranked r (reading m l .records)
+
+-- on memory of another length: number 14, beyond document 01's, and nothing is changed; of a reading zeros
+abbrev pub unfit : Ask → Seen
+unfit (call c output) = tells output (refused 14)
+unfit (held l) = count 0
+unfit (lost l) = count 0
+unfit (phase l) = count 0
+unfit (version l) = numbers (shown [])
+unfit (record-of l r) = entry false (replicate 16 0)
 
 -- the machine afterwards: a reading changes nothing
 abbrev pub next : Machine → Ask → Machine
