@@ -7,8 +7,6 @@ use mathlib.Core.List.{List}
 use mathlib.Core.Option.{Option, some, none}
 use lib.Dec.{eqb}
 use lib.ListN.{length, drop}
-use Rattle.store_site.specs.Layout.{siteWords}
-use Rattle.store_table.specs.Layout.{tableBytes}
 use Rattle.sitec.specs.declared.Outcome.{Outcome}
 use Rattle.machine.specs.Words.{Bytes, if_then_else_}
 use Rattle.machine.specs.State.{Start, Command, Machine, Act, Call}
@@ -44,28 +42,31 @@ pub record FromStart (start : Start) (o : Outcome) (vs : List ℕ) (us : Bytes) 
   pub sees : Sees o vs us machine
 
 -- a site is lent 1,173 words, and 6,178 bytes for its table
+abbrev pub WordsFit : List ℕ → Type 0
+WordsFit ws = length ws ≡ 1173
+
 pub record Fits (ws : List ℕ) (ts : Bytes) : Type 0 where
-  pub words : length ws ≡ siteWords
-  pub table : length ts ≡ tableBytes
+  pub words : WordsFit ws
+  pub table : length ts ≡ 6178
 
 -- the memory that an ask needs: a site's words, and the table where a call reads it
 abbrev pub ServesCall : Act → List ℕ → Bytes → Type 0
-ServesCall (connect l) ws ts = length ws ≡ siteWords
-ServesCall (disconnect l) ws ts = length ws ≡ siteWords
+ServesCall (connect l) ws ts = WordsFit ws
+ServesCall (disconnect l) ws ts = WordsFit ws
 ServesCall (packet l random received room) ws ts = Fits ws ts
 ServesCall (alarmInput i active) ws ts = Fits ws ts
 ServesCall (statusValue i v) ws ts = Fits ws ts
-ServesCall (aggregatedValue v) ws ts = length ws ≡ siteWords
-ServesCall tick ws ts = length ws ≡ siteWords
+ServesCall (aggregatedValue v) ws ts = WordsFit ws
+ServesCall tick ws ts = WordsFit ws
 ServesCall (pump l random room) ws ts = Fits ws ts
 
 abbrev pub Serves : Ask → List ℕ → Bytes → Type 0
 Serves (call c output) ws ts = ServesCall (c .act) ws ts
-Serves (held l) ws ts = length ws ≡ siteWords
-Serves (lost l) ws ts = length ws ≡ siteWords
-Serves (phase l) ws ts = length ws ≡ siteWords
-Serves (version l) ws ts = length ws ≡ siteWords
-Serves (record-of l r) ws ts = length ws ≡ siteWords
+Serves (held l) ws ts = WordsFit ws
+Serves (lost l) ws ts = WordsFit ws
+Serves (phase l) ws ts = WordsFit ws
+Serves (version l) ws ts = WordsFit ws
+Serves (record-of l r) ws ts = WordsFit ws
 
 pub record Equation : Type 0 where
   pub free : Free
