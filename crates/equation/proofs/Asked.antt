@@ -23,10 +23,10 @@ use Rattle.store_table.specs.Layout.{tableOf, tableBytes}
 use Rattle.sitec.specs.declared.Outcome.{Outcome}
 use Rattle.sitec.specs.Outcome.{outcomeOf}
 use Rattle.sitec.specs.Lent.{Called, Told, Handed}
-use Rattle.calls.specs.Calls.{Call, timeOf, outputOf, refuses, planOf, stepBy, outBy}
-use Rattle.calls.specs.Calls.Call.{connect, disconnect, packet, alarm, status, aggregated, tick, pump}
-use Rattle.calls.proofs.Kept.{kept as calls-kept}
-use Rattle.sequences.specs.Typed.{Typed}
+use Rattle.call_laws.specs.Calls.{Call, timeOf, outputOf, refuses, planOf, stepBy, outBy}
+use Rattle.call_laws.specs.Calls.Call.{connect, disconnect, packet, alarm, status, aggregated, tick, pump}
+use Rattle.call_laws.proofs.Kept.{kept as calls-kept}
+use Rattle.call_laws.specs.Typed.{Typed}
 use Rattle.machine.specs.State.{Call as MachineCall}
 use Rattle.refine_calls.specs.Calls.{callFor}
 use Rattle.equation.specs.Seen.{Seen, TypedAct}

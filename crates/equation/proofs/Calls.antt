@@ -1,6 +1,6 @@
 -- Every call is the machine's, and so is what a host sees.
 -- Assumes nothing.
-use Rattle.calls.specs.Calls.Call.{connect, disconnect, packet, alarm, status, aggregated, tick, pump}
+use Rattle.call_laws.specs.Calls.Call.{connect, disconnect, packet, alarm, status, aggregated, tick, pump}
 use Rattle.refine_calls.specs.Links.OfLink.{connects, disconnects}
 use Rattle.refine_calls.proofs.Links.{link-calls}
 use Rattle.refine_calls.specs.Inputs.OfInput.{of-alarm, of-status, of-aggregated}

@@ -20,9 +20,9 @@ use Rattle.store_table.specs.Layout.{tableOf, tableBytes}
 use Rattle.call_start.proofs.Again.{site-again}
 use Rattle.sitec.specs.Outcome.{outcomeOf}
 use Rattle.sitec.specs.Lent.{Made, Started}
-use Rattle.sound.specs.Sound.{Sound}
-use Rattle.calls.specs.Calls.{Call, stepBy}
-use Rattle.sequences.proofs.Kept.{kept as sequences-kept}
+use Rattle.call_laws.specs.Sound.{Sound}
+use Rattle.call_laws.specs.Calls.{Call, stepBy}
+use Rattle.call_laws.proofs.SequencesKept.{kept as sequences-kept}
 use Rattle.machine.specs.State.{Machine, Call as MachineCall}
 use Rattle.machine.specs.Step.{step}
 use Rattle.machine.specs.Readings.{reading}

@@ -22,9 +22,9 @@ use Rattle.site.specs.Call.{Command}
 use Rattle.store_site.specs.Layout.{siteOf}
 use Rattle.store_table.specs.Layout.{tableOf}
 use Rattle.packet_command.specs.Handing.{commandWord, handedOver}
-use Rattle.calls.specs.Calls.{Call, planOf, stepBy}
-use Rattle.calls.specs.Calls.Call.{packet}
-use Rattle.calls.proofs.Kept.{kept as calls-kept}
+use Rattle.call_laws.specs.Calls.{Call, planOf, stepBy}
+use Rattle.call_laws.specs.Calls.Call.{packet}
+use Rattle.call_laws.proofs.Kept.{kept as calls-kept}
 use Rattle.sitec.specs.declared.Outcome.{Outcome}
 use Rattle.sitec.specs.Outcome.{reportIn, outcomeOf, misfit}
 use Rattle.sitec.specs.Lent.{WithCommands}

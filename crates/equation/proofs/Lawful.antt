@@ -23,9 +23,9 @@ use Rattle.site.specs.Call.{piecesOf, writtenTo, outAfter}
 use Rattle.store_site.specs.Layout.{siteOf}
 use Rattle.store_table.specs.Layout.{tableOf}
 use Rattle.call_read.specs.declared.ChosenVersion.{ChosenVersion}
-use Rattle.calls.specs.Calls.{Call, timeOf, outputOf, refuses, planOf, endOf, stepBy}
-use Rattle.calls.specs.Calls.Call.{packet, pump}
-use Rattle.calls.proofs.Kept.{kept as calls-kept}
+use Rattle.call_laws.specs.Calls.{Call, timeOf, outputOf, refuses, planOf, endOf, stepBy}
+use Rattle.call_laws.specs.Calls.Call.{packet, pump}
+use Rattle.call_laws.proofs.Kept.{kept as calls-kept}
 use Rattle.sitec.specs.declared.Outcome.{Outcome}
 use Rattle.sitec.specs.Outcome.{reportIn, outcomeOf}
 use Rattle.sitec.specs.Lent.{Called, Told}

@@ -13,12 +13,12 @@ use Rattle.site.specs.declared.Site.{Site}
 use Rattle.site.specs.Call.{Command as Planned, hintTime, hintBit, reportOf}
 use Rattle.sitec.specs.declared.Outcome.{Outcome}
 use Rattle.sitec.specs.Outcome.{outcomeOf}
-use Rattle.sound.specs.Sound.{Sound}
-use Rattle.sequences.specs.Formedness.{allBytes, Wrote}
-use Rattle.calls.specs.Calls.{Call, outputOf, planOf, endOf, stepBy, outBy}
-use Rattle.calls.proofs.Kept.{kept as calls-kept}
-use Rattle.sequences.specs.Typed.{Typed}
-use Rattle.sequences.proofs.Kept.{kept as sequences-kept}
+use Rattle.call_laws.specs.Sound.{Sound}
+use Rattle.call_laws.specs.Formedness.{allBytes, Wrote}
+use Rattle.call_laws.specs.Calls.{Call, outputOf, planOf, endOf, stepBy, outBy}
+use Rattle.call_laws.proofs.Kept.{kept as calls-kept}
+use Rattle.call_laws.specs.Typed.{Typed}
+use Rattle.call_laws.proofs.SequencesKept.{kept as sequences-kept}
 use Rattle.write_message.specs.Message.{Message}
 use Rattle.write_message.specs.Listing.{bytesOf}
 use Rattle.packet_command.specs.Handing.{commandWord}

@@ -7,7 +7,7 @@ use native.Mathlib.Omega.{arith}
 use lib.ListN.{getD, set, length-set}
 use Rattle.identity.specs.Read.{SixteenBytes}
 use Rattle.identity.specs.Version.{version4Of}
-use Rattle.sound.proofs.Parts.{each-set}
+use Rattle.call_laws.proofs.Parts.{each-set}
 
 pub own-sixteen : (bs : List ℕ) → SixteenBytes bs → SixteenBytes (version4Of bs)
 own-sixteen bs h =

@@ -15,7 +15,7 @@ use Rattle.table_whole.specs.declared.SiteTable.{SiteTable}
 use Rattle.site.specs.declared.Site.{Site}
 use Rattle.site.specs.Site.{linkAt}
 use Rattle.call_input.specs.Inputs.{alarmPlan, statusPlan, aggregatedPlan}
-use Rattle.calls.specs.Calls.Call.{alarm, status, aggregated}
+use Rattle.call_laws.specs.Calls.Call.{alarm, status, aggregated}
 use Rattle.machine.specs.State.{Machine, lifeAt, alarmAt, Act}
 use Rattle.machine.specs.State.Act.{alarmInput, statusValue, aggregatedValue}
 use Rattle.machine.specs.Items.{withInput, happens, becomes, aggregates}

@@ -13,7 +13,7 @@ use Rattle.link.specs.declared.Phase.the-variants.{Down, Greeting, Beating, Up}
 use Rattle.link.specs.Steps.{connectOf}
 use Rattle.site.specs.declared.Site.{Site}
 use Rattle.site.specs.Site.{noLinkAt, badTimeAt, linkAt, isDown, downAt}
-use Rattle.calls.specs.Calls.Call.{connect, disconnect}
+use Rattle.call_laws.specs.Calls.Call.{connect, disconnect}
 use Rattle.machine.specs.State.{Machine, fresh, lifeAt}
 use Rattle.machine.specs.Life.{isGreeting, isBeating}
 use Rattle.machine.specs.Effects.{connects as connecting, closes as closing, effectOf}

@@ -25,7 +25,7 @@ use Rattle.site.specs.declared.Site.{Site}
 use Rattle.site.specs.Site.{roleOf, linkAt}
 use Rattle.site.specs.Call.{issuing}
 use Rattle.call_pump.specs.Pump.{isHeld, dueAt, isNothing, pumpRefuses}
-use Rattle.calls.specs.Calls.Call.{pump}
+use Rattle.call_laws.specs.Calls.Call.{pump}
 use Rattle.machine.specs.Words.{isSome, isNumber, orElse}
 use Rattle.machine.specs.State.{Held, Machine, lifeAt}
 use Rattle.machine.specs.Life.{Due, oldestUnsent as oldestUnsentOf, due}

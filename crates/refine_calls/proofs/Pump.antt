@@ -21,7 +21,7 @@ use Rattle.site.specs.declared.Site.{Site}
 use Rattle.site.specs.Call.{batchOf, issuing}
 use Rattle.call_pump.specs.Pump.{planFor, pumpPlan, pumpRefuses}
 use Rattle.call_pump.proofs.Kept.{kept}
-use Rattle.calls.specs.Calls.Call.{pump}
+use Rattle.call_laws.specs.Calls.Call.{pump}
 use Rattle.machine.specs.Words.{isSome, maybe}
 use Rattle.machine.specs.State.{Machine, only, lifeAt}
 use Rattle.machine.specs.Life.{Due, due}

@@ -25,8 +25,8 @@ use Rattle.site.specs.declared.Site.{Site}
 use Rattle.site.specs.Site.{withIssued}
 use Rattle.site.specs.Call.{Plan, batchOf, issuing, reportOf, stepped}
 use Rattle.write_message.specs.Message.{Message}
-use Rattle.calls.specs.Calls.{Call, timeOf, refuses, planOf, endOf}
-use Rattle.calls.specs.Calls.Call.{connect, disconnect, packet, alarm, status, aggregated, tick, pump}
+use Rattle.call_laws.specs.Calls.{Call, timeOf, refuses, planOf, endOf}
+use Rattle.call_laws.specs.Calls.Call.{connect, disconnect, packet, alarm, status, aggregated, tick, pump}
 use Rattle.machine.specs.State.{Machine, Call as MachineCall, Outcome, Effect}
 use Rattle.machine.specs.State.Outcome.{refused, done}
 use Rattle.machine.specs.Effects.{effectOf}

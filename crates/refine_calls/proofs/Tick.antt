@@ -17,7 +17,7 @@ use Rattle.call_tick.specs.Closing.{closedTo}
 use Rattle.call_tick.specs.Intervals.{renewed, recordsOf}
 use Rattle.call_tick.specs.Tick.{siteAfter, issuedAt, tickPlan}
 use Rattle.call_tick.proofs.Closed.{stays}
-use Rattle.calls.specs.Calls.Call.{tick}
+use Rattle.call_laws.specs.Calls.Call.{tick}
 use Rattle.machine.specs.State.{Setup, Machine}
 use Rattle.machine.specs.State.Act.{tick as ticking}
 use Rattle.machine.specs.Life.{closeAll}

@@ -19,9 +19,9 @@ use Rattle.number.specs.Signed.{Signed32}
 use Rattle.site.specs.declared.Site.{Site}
 use Rattle.site.specs.Site.{maskOf}
 use Rattle.site.specs.Call.{Command, Plan, batchOf, issuing, reportOf}
-use Rattle.calls.specs.Calls.{Call, refuses, planOf, endOf, stepBy}
-use Rattle.calls.specs.Calls.Call.{connect, disconnect, packet, alarm, status, aggregated, tick, pump}
-use Rattle.sequences.specs.Typed.{Typed}
+use Rattle.call_laws.specs.Calls.{Call, refuses, planOf, endOf, stepBy}
+use Rattle.call_laws.specs.Calls.Call.{connect, disconnect, packet, alarm, status, aggregated, tick, pump}
+use Rattle.call_laws.specs.Typed.{Typed}
 use Rattle.machine.specs.Words.{maybe}
 use Rattle.machine.specs.State.{Command as MachineCommand, commandOf, Machine, Call as MachineCall, Outcome, Effect}
 use Rattle.machine.specs.State.Act.{connect as connects, disconnect as disconnects, packet as receives, alarmInput, statusValue, aggregatedValue, tick as ticks, pump as pumps}

@@ -3,8 +3,8 @@
 use Prim.Native.Nat.{ℕ}
 use mathlib.Core.Bool.{Bool}
 use lib.IntN.{ℤ}
-use Rattle.calls.specs.Calls.{Call}
-use Rattle.calls.specs.Calls.Call.{alarm, status, aggregated}
+use Rattle.call_laws.specs.Calls.{Call}
+use Rattle.call_laws.specs.Calls.Call.{alarm, status, aggregated}
 use Rattle.refine_calls.specs.Calls.{SameFor}
 
 pub data OfInput : Call → Type 0 where

@@ -1,8 +1,8 @@
 -- Connect and disconnect.
 -- Assumes nothing.
 use Prim.Native.Nat.{ℕ}
-use Rattle.calls.specs.Calls.{Call}
-use Rattle.calls.specs.Calls.Call.{connect, disconnect}
+use Rattle.call_laws.specs.Calls.{Call}
+use Rattle.call_laws.specs.Calls.Call.{connect, disconnect}
 use Rattle.refine_calls.specs.Calls.{SameFor}
 
 pub data OfLink : Call → Type 0 where

@@ -3,8 +3,8 @@
 use Prim.Native.Nat.{ℕ}
 use mathlib.Core.List.{List}
 use Rattle.identity.specs.declared.Identity.{Identity}
-use Rattle.calls.specs.Calls.{Call}
-use Rattle.calls.specs.Calls.Call.{pump}
+use Rattle.call_laws.specs.Calls.{Call}
+use Rattle.call_laws.specs.Calls.Call.{pump}
 use Rattle.refine_calls.specs.Calls.{SameFor}
 
 pub data OfPump : Call → Type 0 where

@@ -17,7 +17,7 @@ use Rattle.site.specs.declared.Site.{Site}
 use Rattle.site.specs.Site.{linkAt}
 use Rattle.site.specs.Call.{batchOf}
 use Rattle.call_packet.specs.Packet.{packetTaken}
-use Rattle.calls.specs.Calls.Call.{packet}
+use Rattle.call_laws.specs.Calls.Call.{packet}
 use Rattle.machine.specs.Words.{maybe}
 use Rattle.machine.specs.State.{Machine, lifeAt, Effect, only}
 use Rattle.machine.specs.Json.{readPacket}

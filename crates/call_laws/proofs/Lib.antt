@@ -1,0 +1,27 @@
+-- The laws over all calls: the proofs.
+pub mod Given
+pub mod Stepped
+pub mod Kept
+pub mod Held
+pub mod SoundEntries
+pub mod Parts
+pub mod Started
+pub mod SoundKept
+pub mod Alarms
+pub mod Inputs
+pub mod Ticks
+pub mod SoundCalls
+pub mod Found
+pub mod Sends
+pub mod Taken
+pub mod Subscribed
+pub mod SoundPackets
+pub mod Rows
+pub mod Tells
+pub mod Outputs
+pub mod Heads
+pub mod Entries
+pub mod Commands
+pub mod Plans
+pub mod PacketsKept
+pub mod SequencesKept

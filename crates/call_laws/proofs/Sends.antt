@@ -1,0 +1,51 @@
+-- The plan of pump is sound.
+-- Assumes nothing.
+use Prim.Native.Nat.{ℕ}
+use mathlib.Core.Path.{_≡_, refl}
+use Rattle.identity.specs.declared.Identity.{Identity}
+use Rattle.pool.specs.declared.Sought.{Sought}
+use Rattle.pool.specs.declared.Sought.the-variants.{Found as FoundEntry, Nothing as NoEntry}
+use Rattle.pool.specs.Pool.{markOf, oldestUnsent}
+use Rattle.link.specs.declared.Due.{Due}
+use Rattle.link.specs.declared.Due.the-variants.{Nothing, Version, Watchdog, Aggregated, Alarm, Entry}
+use Rattle.link.specs.Steps.{versionOutOf, watchdogOutOf, aggregatedPassedOf, alarmPassedOf}
+use Rattle.site.specs.declared.Site.{Site}
+use Rattle.site.specs.Site.{linkAt, withLink}
+use Rattle.send_after.specs.declared.Carried.{Carried}
+use Rattle.send_after.specs.declared.Carried.the-variants.{Held, NoRecord}
+use Rattle.send_after.specs.Outgoing.{marked, carriedAt, messageOut, alarmSentWith}
+use Rattle.call_pump.specs.Pump.{dueAt, entryPlan, planFor, pumpPlan}
+use Rattle.call_laws.specs.Sound.{EachHeld, EntryOf, SoundAt}
+use Rattle.call_laws.specs.SoundPlans.{SoundPlan}
+use Rattle.call_laws.proofs.Held.{held-mark}
+use Rattle.call_laws.proofs.Parts.{with-pool, with-link}
+
+module _ (s : Site) (time : ℕ) (h : SoundAt time s) (l : ℕ) (id : Identity) where
+  mark-held : (c : Carried) → EachHeld (EntryOf s time) (marked (s .pool) l c .places)
+  mark-held (Held q) = held-mark (EntryOf s time) (s .pool) l q (h .held)
+  mark-held NoRecord = h .held
+
+  alarm-sent : (c : Carried) → SoundAt time (alarmSentWith c s l time id)
+  alarm-sent c =
+      let k = alarmPassedOf (messageOut (linkAt s l) id time c) in
+      with-pool time (withLink s l k) (with-link time s h l k) (marked (s .pool) l c) (mark-held c)
+
+  entry-plan : (x : Sought) → SoundPlan time (entryPlan x s l time id)
+  entry-plan NoEntry = record { site = h; issued = tt }
+  entry-plan (FoundEntry x) =
+      let k = messageOut (linkAt s l) id time (Held (x .entry .sequence)) in
+      record {
+        site = with-pool time (withLink s l k) (with-link time s h l k) (markOf (s .pool) l (x .entry .sequence)) (mark-held (Held (x .entry .sequence)));
+        issued = tt;
+      }
+
+  plan-for : (d : Due) → SoundPlan time (planFor d s l time id)
+  plan-for Nothing = record { site = h; issued = tt }
+  plan-for Version = record { site = with-link time s h l (versionOutOf (linkAt s l) id time); issued = tt }
+  plan-for Watchdog = record { site = with-link time s h l (watchdogOutOf (linkAt s l) id time); issued = tt }
+  plan-for Aggregated = record { site = with-link time s h l (aggregatedPassedOf (messageOut (linkAt s l) id time NoRecord)); issued = tt }
+  plan-for (Alarm k) = record { site = alarm-sent (carriedAt s l k); issued = tt }
+  plan-for Entry = entry-plan (oldestUnsent (s .pool) l)
+
+  pub pump-plan : SoundPlan time (pumpPlan s l time id)
+  pump-plan = plan-for (dueAt s l time)

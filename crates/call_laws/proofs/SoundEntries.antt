@@ -1,0 +1,60 @@
+-- What holds of the records of every place holds of all of them; a record under another number is as sound.
+-- Assumes nothing.
+use Prim.Native.Nat.{ℕ, zero, suc, _≤_, _<_}
+use mathlib.Core.Path.{_≡_, refl}
+use mathlib.Core.Bool.{Bool, true, false}
+use mathlib.Core.List.{List, [], _∷_, _++_}
+use native.Mathlib.Omega.{arith}
+use Rattle.entry.specs.declared.Entry.{Entry}
+use Rattle.entry.specs.Valid.{OfKind}
+use Rattle.entry.specs.Valid.OfKind.{an-alarm, a-status, an-aggregated}
+use Rattle.pool_laws.specs.Batch.{renumbered}
+use Rattle.pool_laws.specs.Upwards.{entriesTo, entryIf}
+use Rattle.table_whole.specs.declared.SiteTable.{SiteTable}
+use Rattle.call_laws.specs.Sound.{Each, SoundEntry}
+
+module _ (P : Entry → Type 0) where
+  pub each-append : (xs ys : List Entry) → Each P xs → Each P ys → Each P (xs ++ ys)
+  each-append [] ys a b = b
+  each-append (x ∷ xs) ys a b = (a .0, each-append xs ys (a .1) b)
+
+  pub each-if : (t : Bool) (e : Entry) → (t ≡ true → P e) → Each P (entryIf t e)
+  each-if true e h = (h refl, tt)
+  each-if false e h = tt
+
+  pub each-to : (f : ℕ → List Entry) (k : ℕ) → ((i : ℕ) → i < k → Each P (f i)) → Each P (entriesTo f k)
+  each-to f zero h = tt
+  each-to f (suc k) h = each-append (entriesTo f k) (f k) (each-to f k (λ i g. h i (omega arith))) (h k (omega arith))
+
+of-kind-too : (e : Entry) (q : ℕ) → OfKind e → OfKind (renumbered e q)
+of-kind-too e q (an-alarm a) =
+    an-alarm (record {
+      kind = a .kind;
+      item = a .item;
+      event = a .event;
+      acknowledged = a .acknowledged;
+      active = a .active;
+      suspended = a .suspended;
+      event-is = a .event-is;
+      flags = a .flags;
+      value = a .value;
+    })
+of-kind-too e q (a-status a) =
+    a-status (record { kind = a .kind; item = a .item; known = a .known; old = a .old; flags = a .flags; value = a .value; unknown = a .unknown })
+of-kind-too e q (an-aggregated a) = an-aggregated (record { kind = a .kind; item = a .item; flags = a .flags; value = a .value })
+
+module _ (links primary : ℕ) (t : SiteTable) where
+  pub renumbered-too : (now : ℕ) (e : Entry) (q : ℕ) → q < 4294967296 → SoundEntry links primary t now e → SoundEntry links primary t now (renumbered e q)
+  renumbered-too now e q h s =
+      record {
+        valid = record { link = s .valid .link; time = s .valid .time; sequence = omega (arith, h); of-kind = of-kind-too e q (s .valid .of-kind) };
+        link = s .link;
+        item = s .item;
+        time = s .time;
+        for-primary = s .for-primary;
+      }
+
+  pub later-entry : (now then : ℕ) → now ≤ then → (e : Entry) → SoundEntry links primary t now e → SoundEntry links primary t then e
+  later-entry now then h e s =
+      let before : e .time ≤ now = s .time in
+      record { valid = s .valid; link = s .link; item = s .item; time = omega (arith, before, h); for-primary = s .for-primary }

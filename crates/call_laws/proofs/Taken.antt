@@ -1,0 +1,189 @@
+-- What every kind of packet but the subscribing ones comes to is a sound plan.
+-- Assumes nothing.
+use Prim.Native.Nat.{ℕ, _/_, _%_, _<_}
+use mathlib.Core.Path.{_≡_, refl}
+use mathlib.Core.Bool.{Bool, true, false}
+use mathlib.Core.List.{List, []}
+use borrow.Author.Tests.{ltb-true}
+use Rattle.basis.specs.Pick.{pick, both}
+use Rattle.basis.proofs.Cases.{picked}
+use Rattle.basis.proofs.Both.{both-true}
+use Rattle.identity.specs.declared.Identity.{Identity}
+use Rattle.awaited.specs.declared.Purpose.{Purpose}
+use Rattle.awaited.specs.declared.Purpose.the-variants.{Version, Watchdog, Entry, Other}
+use Rattle.awaited.specs.declared.Found.{Found}
+use Rattle.awaited.specs.declared.Found.the-variants.{For, Nothing}
+use Rattle.awaited.specs.Awaited.{findOf}
+use Rattle.pool.specs.Pool.{settleOf}
+use Rattle.link.specs.declared.Role.{Role}
+use Rattle.link.specs.declared.Role.the-variants.{Primary, Secondary}
+use Rattle.link.specs.Steps.{messageOutOf, fullOf, closesOf, answeredOf, versionAcceptedOf, watchdogTakenOf}
+use Rattle.alarm.specs.declared.Order.{Order as Change}
+use Rattle.alarm.specs.Alarm.{orderOf}
+use Rattle.alarm.specs.Issued.{issuedOf}
+use Rattle.write_message.specs.Message.{Message}
+use Rattle.read_head.specs.declared.Verdict.{Verdict}
+use Rattle.read_head.specs.declared.Verdict.the-variants.{Good, Missing, Bad}
+use Rattle.read_head.specs.declared.Order.{Order}
+use Rattle.read_head.specs.declared.Order.the-variants.{Request, Acknowledge, Suspend, Resume}
+use Rattle.read_head.specs.declared.AlarmFields.{AlarmFields}
+use Rattle.read_head.specs.declared.GotLabel.{GotLabel}
+use Rattle.read_head.specs.declared.GotTime.{GotTime}
+use Rattle.read_lists.specs.declared.VersionFields.{VersionFields}
+use Rattle.read_lists.specs.declared.StatusFields.{StatusFields}
+use Rattle.read_commands.specs.declared.CommandFields.{CommandFields}
+use Rattle.read_versions.specs.declared.Judged.{Judged}
+use Rattle.read_versions.specs.declared.Judged.the-variants.{Chosen, RsmpVersion, SiteId, SxlVersion}
+use Rattle.read_versions.specs.Judge.{judge}
+use Rattle.packet_lookup.specs.declared.Sought.{Sought}
+use Rattle.packet_lookup.specs.declared.SoughtAlarm.{SoughtAlarm}
+use Rattle.packet_lookup.specs.declared.SoughtAlarm.the-variants.{Alarm, NoComponent, NoAlarm}
+use Rattle.packet_lookup.specs.Sought.{componentSought, alarmSought}
+use Rattle.send_message.specs.Sending.{alarmMessage, aggregatedMessage}
+use Rattle.site.specs.declared.Site.{Site}
+use Rattle.site.specs.Site.{roleOf, linkAt, withLink, closeAt, maskOf, hasPrimary}
+use Rattle.site.specs.Parts.{alarmAt}
+use Rattle.site.specs.Call.{Command, Plan, only}
+use Rattle.packet_answer.specs.declared.Question.{Question}
+use Rattle.packet_answer.specs.Taken.{Taken, notAcked, closing, acked, handing, replied, byVerdict, unlessBusy, badValue, rsmpVersion, siteId, sxlVersion, unknownComponent, unknownAlarm, unknownStatus, unknownCommand, busy}
+use Rattle.packet_greet.specs.Answered.{settledFor, settled, answeredPlan}
+use Rattle.packet_greet.specs.Version.{own, versionJudged, versionTaken}
+use Rattle.packet_greet.specs.Watchdog.{beat, watchdogTaken}
+use Rattle.packet_alarm.specs.Orders.{changeTaken, isZero, requestBy, requestTaken, ordered, orderedOf, foundTaken, alarmTaken, aggregatedOf, aggregatedTaken}
+use Rattle.packet_status.specs.StatusReply.{passes, response, requestedOf, statusTaken}
+use Rattle.packet_command.specs.Commanding.{keepsRanges, commandsOf, orderedOf as commandedOf, commandTaken}
+use Rattle.packet_command.specs.Commanding.{passes as allThere, response as commandResponse}
+use Rattle.call_laws.specs.Sound.{EntryOf, SoundAt}
+use Rattle.call_laws.specs.SoundPlans.{SoundPlan}
+use Rattle.call_laws.proofs.Held.{held-settle}
+use Rattle.call_laws.proofs.SoundEntries.{each-if}
+use Rattle.call_laws.proofs.Parts.{with-pool, with-link, with-alarm, close}
+use Rattle.call_laws.proofs.Alarms.{order-sound, alarm-record}
+use Rattle.call_laws.proofs.Found.{AlarmBelow, alarm-below}
+
+-- ---- an answer
+module _ (s : Site) (time : ℕ) (h : SoundAt time s) where
+  settled-for : (l : ℕ) (p : Purpose) → SoundAt time (settledFor s l p)
+  settled-for l Version = h
+  settled-for l Watchdog = h
+  settled-for l (Entry q) = with-pool time s h (settleOf (s .pool) l q) (held-settle (EntryOf s time) (s .pool) l q (h .held))
+  settled-for l Other = h
+
+  settled-sound : (l : ℕ) (f : Found) → SoundAt time (settled s l f)
+  settled-sound l Nothing = h
+  settled-sound l (For p) = settled-for l p
+
+  pub answered-plan : (l : ℕ) (id : Identity) (acknowledged : Bool) → SoundPlan time (answeredPlan s l id acknowledged)
+  answered-plan l id acknowledged =
+      let f = findOf (linkAt s l .awaited) id in
+      picked (SoundPlan time) (closesOf (linkAt s l) id acknowledged) _ _
+      (λ e. record { site = close time s l h; issued = tt })
+      (λ e. record { site = with-link time (settled s l f) (settled-sound l f) l (answeredOf (linkAt s l) id acknowledged); issued = tt })
+
+-- ---- what a packet asks for
+module _ (s : Site) (q : Question) (h : SoundAt (q .time) s) where
+  abbrev Good-plan : Taken → Type 0
+  Good-plan t = SoundPlan (q .time) (t .plan)
+
+  pub not-acked : (reason : ℕ) → SoundPlan (q .time) (notAcked s q reason .plan)
+  not-acked reason = record { site = h; issued = tt }
+
+  closing-sound : (reason : ℕ) → SoundPlan (q .time) (closing s q reason .plan)
+  closing-sound reason = record { site = close (q .time) s (q .link) h; issued = tt }
+
+  handing-sound : (m : Message) (commands : List Command) → SoundPlan (q .time) (handing s q m commands .plan)
+  handing-sound m commands = record { site = with-link (q .time) s h (q .link) (messageOutOf (linkAt s (q .link)) (q .identity) (q .time) Other); issued = tt }
+
+  replied-sound : (m : Message) → SoundPlan (q .time) (replied s q m .plan)
+  replied-sound m = handing-sound m []
+
+  pub by-verdict : (v : Verdict) (t : Taken) → Good-plan t → SoundPlan (q .time) (byVerdict v s q t .plan)
+  by-verdict Good t g = g
+  by-verdict Missing t g = record { site = h; issued = tt }
+  by-verdict Bad t g = record { site = h; issued = tt }
+
+  unless-busy : (t : Taken) → Good-plan t → SoundPlan (q .time) (unlessBusy s q t .plan)
+  unless-busy t g = picked Good-plan (fullOf (linkAt s (q .link))) (notAcked s q busy) t (λ e. not-acked busy) (λ e. g)
+
+  -- ---- greeting
+  judged-sound : (j : Judged) → SoundPlan (q .time) (versionJudged s q j .plan)
+  judged-sound (Chosen v) =
+      record { site = with-link (q .time) s h (q .link) (versionAcceptedOf (linkAt s (q .link)) (v / 65536) (v / 256 % 256) (v % 256)); issued = tt }
+  judged-sound RsmpVersion = closing-sound rsmpVersion
+  judged-sound SiteId = closing-sound siteId
+  judged-sound SxlVersion = closing-sound sxlVersion
+
+  pub version-sound : (f : VersionFields) → SoundPlan (q .time) (versionTaken s q f .plan)
+  version-sound f = by-verdict (f .verdict) (versionJudged s q (judge (own s) (f .offer))) (judged-sound (judge (own s) (f .offer)))
+
+  pub watchdog-sound : (f : GotTime) → SoundPlan (q .time) (watchdogTaken s q f .plan)
+  watchdog-sound f =
+      by-verdict (f .verdict) (beat s q f) (record { site = with-link (q .time) s h (q .link) (watchdogTakenOf (linkAt s (q .link))); issued = tt })
+
+  -- ---- orders
+  change-sound : (k : ℕ) → k < s .table .alarmcount → (order : Change) → SoundPlan (q .time) (changeTaken s q k order .plan)
+  unfolding changeTaken
+  change-sound k i order =
+      let c = orderOf (alarmAt s k) order (q .time) in
+      let a = order-sound (q .time) (alarmAt s k) (h .alarms .each k) order in
+      record {
+        site = with-alarm (q .time) s h k (c .alarm) a;
+        issued =
+            each-if (EntryOf s (q .time)) (both (c .records) (hasPrimary s)) (issuedOf (c .alarm) (s .primary) k)
+            (λ t. alarm-record (s .linkcount) (s .primary) (s .period) (s .table) (h .start) (q .time) (h .last) (c .alarm) a k
+            (ltb-true (s .primary) (s .linkcount) (both-true (c .records) (hasPrimary s) t .1)) i);
+      }
+
+  request-sound : (k : ℕ) (r : Role) → SoundPlan (q .time) (requestBy s q k r .plan)
+  request-sound k Primary =
+      unless-busy (replied s q (alarmMessage s (q .identity .bytes) k)) (replied-sound (alarmMessage s (q .identity .bytes) k))
+  request-sound k Secondary = record { site = h; issued = tt }
+
+  ordered-sound : (k : ℕ) → k < s .table .alarmcount → (o : Order) → SoundPlan (q .time) (ordered s q k o .plan)
+  unfolding requestTaken
+  ordered-sound k i Request = request-sound k (roleOf s (q .link))
+  ordered-sound k i Acknowledge = change-sound k i _
+  ordered-sound k i Suspend = change-sound k i _
+  ordered-sound k i Resume = change-sound k i _
+
+  ordered-of : (o : Order) (x : SoughtAlarm) → AlarmBelow (s .table .alarmcount) x → SoundPlan (q .time) (orderedOf s q o x .plan)
+  ordered-of o (Alarm k) i = ordered-sound k i o
+  ordered-of o NoComponent i = not-acked unknownComponent
+  ordered-of o NoAlarm i = not-acked unknownAlarm
+
+  pub alarm-sound : (f : AlarmFields) → SoundPlan (q .time) (alarmTaken s q f .plan)
+  unfolding alarmTaken foundTaken
+  alarm-sound f =
+      by-verdict (f .verdict) (orderedOf s q (f .order) (alarmSought (s .table) (f .component) (f .code)))
+      (ordered-of (f .order) (alarmSought (s .table) (f .component) (f .code))
+      (alarm-below (s .linkcount) (s .primary) (s .period) (s .table) (h .start) (f .component) (f .code)))
+
+  pub aggregated-sound : (f : GotLabel) → SoundPlan (q .time) (aggregatedTaken s q f .plan)
+  unfolding aggregatedTaken
+  aggregated-sound f =
+      let x = componentSought (s .table) (f .label) in
+      let m = aggregatedMessage s (q .identity .bytes) in
+      by-verdict (f .verdict) (aggregatedOf s q x)
+      (picked Good-plan (isZero x) (unlessBusy s q (replied s q m)) (notAcked s q unknownComponent)
+      (λ e. unless-busy (replied s q m) (replied-sound m)) (λ e. not-acked unknownComponent))
+
+  pub status-sound : (f : StatusFields) → SoundPlan (q .time) (statusTaken s q f .plan)
+  unfolding statusTaken
+  status-sound f =
+      let x = componentSought (s .table) (f .component) in
+      let m = response s (q .time) (q .identity .bytes) x f in
+      by-verdict (f .verdict) (requestedOf s q f x)
+      (picked Good-plan (passes s f x) (unlessBusy s q (replied s q m)) (notAcked s q unknownStatus)
+      (λ e. unless-busy (replied s q m) (replied-sound m)) (λ e. not-acked unknownStatus))
+
+  pub command-sound : (f : CommandFields) → SoundPlan (q .time) (commandTaken s q f .plan)
+  unfolding commandTaken
+  command-sound f =
+      let x = componentSought (s .table) (f .component) in
+      let t = handing s q (commandResponse (q .time) (q .identity .bytes) x f) (commandsOf (s .table) f x) in
+      by-verdict (f .verdict) (commandedOf s q f x)
+      (picked Good-plan (keepsRanges (s .table) f x) (pick (allThere (s .table) f x) (unlessBusy s q t) (notAcked s q unknownCommand)) (notAcked s q badValue)
+      (λ e. picked Good-plan (allThere (s .table) f x) (unlessBusy s q t) (notAcked s q unknownCommand)
+      (λ e. unless-busy t (handing-sound (commandResponse (q .time) (q .identity .bytes) x f) (commandsOf (s .table) f x)))
+      (λ e. not-acked unknownCommand))
+      (λ e. not-acked badValue))
