@@ -22,13 +22,14 @@ use Rattle.demand_refused.proofs.Demand.{demand1}
 use Rattle.demand_told.proofs.Demand.{demand2}
 use Rattle.demand_told.proofs.GreetedDemand.{demand-greeted}
 use Rattle.demand_told.proofs.ReadDemand.{demand-read}
-use Rattle.demand_told.proofs.HandedDemand.{demand-handed}
 use Rattle.demand_held.proofs.Demand.{demand3}
 use Rattle.demand_carried.proofs.Demand.{demand-carried}
 use Rattle.demand_carried.proofs.Marked.{demand-marked}
 use Rattle.demand_happens.proofs.Pumped.{pumping}
 use Rattle.demand_happens.proofs.Greeting.{greeting}
 use Rattle.demand_happens.proofs.Records.{sending}
+use Rattle.demand_taken.proofs.Taken.{demand-taken}
+use Rattle.demand_taken.proofs.Commands.{demand-commands}
 use Rattle.refine_read.proofs.Identity.{readable as identity-is}
 use Rattle.equation.proofs.Calls.{equation}
 use Rattle.week_promise.proofs.Kept.{kept as weekly}
@@ -44,7 +45,8 @@ demands =
       telling = demand2;
       greeted = demand-greeted;
       reads-back = demand-read;
-      handing = demand-handed;
+      taking = demand-taken;
+      commanding = demand-commands;
       keeping = demand3;
       carrying = demand-carried;
       marking = demand-marked;

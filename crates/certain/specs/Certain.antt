@@ -42,13 +42,14 @@ use Rattle.demand_refused.specs.Demand.{Demand1}
 use Rattle.demand_told.specs.Demand.{Demand2}
 use Rattle.demand_told.specs.GreetedDemand.{DemandGreeted}
 use Rattle.demand_told.specs.ReadDemand.{DemandRead}
-use Rattle.demand_told.specs.HandedDemand.{DemandHanded}
 use Rattle.demand_held.specs.Demand.{Demand3}
 use Rattle.demand_carried.specs.Demand.{DemandCarried}
 use Rattle.demand_carried.specs.Marked.{DemandMarked}
 use Rattle.demand_happens.specs.Pumped.{Pumping}
 use Rattle.demand_happens.specs.Greeting.{Greeting}
 use Rattle.demand_happens.specs.Records.{Sending}
+use Rattle.demand_taken.specs.Taken.{DemandTaken}
+use Rattle.demand_taken.specs.Commands.{DemandCommands}
 use Rattle.equation.specs.Equation.{Equation}
 use Rattle.week_promise.specs.Claims.{Claims as Weekly}
 
@@ -63,8 +64,10 @@ pub record Demands : Type 0 where
   pub greeted : DemandGreeted
   -- "every message written reads back to the same fields"
   pub reads-back : DemandRead
-  -- request 01: "A value in its range is handed to the host", in the order of the entries, and nothing else is
-  pub handing : DemandHanded
+  -- in Greeting and Beating nothing but the greeting is taken, on the packets and messages of this life; what is no answer is heard
+  pub taking : DemandTaken
+  -- request 01: "A value in its range is handed to the host and answered with age recent", in the order of the entries, and nothing else is
+  pub commanding : DemandCommands
   -- 3. "a record issued for a supervisor stays held until that supervisor answers a message carrying it, or until a call issues a record after
   -- which at least 16 newer records for the same supervisor are held. None ever has more than 64 held."
   pub keeping : Demand3

@@ -37,11 +37,11 @@ pick-same : {A : Type 0} (b : Bool) (x : A) → pick b x x ≡ x
 pick-same true x = refl
 pick-same false x = refl
 
-first-none : {A : Type 0} (ks : List (Case A)) → Each (λ (k : Case A). k .applies ≡ false) ks → firstOf ks ≡ none
+pub first-none : {A : Type 0} (ks : List (Case A)) → Each (λ (k : Case A). k .applies ≡ false) ks → firstOf ks ≡ none
 first-none [] no-more = refl
 first-none (k ∷ ks) (one-more e r) = rw e (first-none ks r)
 
-mtype-there : (j : Json) → elementIs "mType" "rSMsg" j ≡ true → isSome (element "mType" j) ≡ true
+pub mtype-there : (j : Json) → elementIs "mType" "rSMsg" j ≡ true → isSome (element "mType" j) ≡ true
 mtype-there j e = go (element "mType" j) e
   where
     go : (o : Option Json) → maybe false (reads "rSMsg") (maybe none (λ (v : Json). shape v .string) o) ≡ true → isSome o ≡ true

@@ -56,7 +56,7 @@ run-kept {s} (begun (begins {t} a e g)) u same l = all-same (fresh false) (λ k.
 run-kept (next {h} {m} c r) u same l = step-kept u m c l (thisLife l h) (same ∙ same-setup r c) (run-kept r u (same ∙ same-setup r c) l)
 
 -- ---- Up
-greeted : (u : Machine) (l : ℕ) (k : Life) (life : List Past) → Kept u l k life → isUp k ≡ true → Greeted u l life
+pub greeted : (u : Machine) (l : ℕ) (k : Life) (life : List Past) → Kept u l k life → isUp k ≡ true → Greeted u l life
 greeted u l k life kept up =
     record {
       our-version = kept .our-version (versions .0);

@@ -18,4 +18,3 @@ pub mod Formed
 pub mod Received
 pub mod ReadReplies
 pub mod ReadDemand
-pub mod HandedDemand

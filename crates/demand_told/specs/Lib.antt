@@ -1,8 +1,7 @@
--- Demand 2, as theorems about the machine: one answer for each request, no alarm to a secondary, no report before the greeting is through, every message reads back, exactly the commands asked for are handed over.
+-- Demand 2, as theorems about the machine: one answer for each request, no alarm to a secondary, no report before the greeting is through, every message reads back.
 pub mod Demand
 pub mod Life
 pub mod Greeted
 pub mod GreetedDemand
 pub mod Typed
 pub mod ReadDemand
-pub mod HandedDemand
