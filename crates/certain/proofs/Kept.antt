@@ -30,6 +30,8 @@ use Rattle.demand_happens.proofs.Greeting.{greeting}
 use Rattle.demand_happens.proofs.Records.{sending}
 use Rattle.demand_taken.proofs.Taken.{demand-taken}
 use Rattle.demand_taken.proofs.Commands.{demand-commands}
+use Rattle.demand_taken.proofs.Closing.{demand-closing}
+use Rattle.demand_taken.proofs.Beats.{demand-beats}
 use Rattle.refine_read.proofs.Identity.{readable as identity-is}
 use Rattle.equation.proofs.Calls.{equation}
 use Rattle.week_promise.proofs.Kept.{kept as weekly}
@@ -47,6 +49,8 @@ demands =
       reads-back = demand-read;
       taking = demand-taken;
       commanding = demand-commands;
+      closing = demand-closing;
+      beating = demand-beats;
       keeping = demand3;
       carrying = demand-carried;
       marking = demand-marked;

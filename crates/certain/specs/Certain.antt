@@ -50,6 +50,8 @@ use Rattle.demand_happens.specs.Greeting.{Greeting}
 use Rattle.demand_happens.specs.Records.{Sending}
 use Rattle.demand_taken.specs.Taken.{DemandTaken}
 use Rattle.demand_taken.specs.Commands.{DemandCommands}
+use Rattle.demand_taken.specs.Closing.{DemandClosing}
+use Rattle.demand_taken.specs.Beats.{DemandBeats}
 use Rattle.equation.specs.Equation.{Equation}
 use Rattle.week_promise.specs.Claims.{Claims as Weekly}
 
@@ -68,6 +70,11 @@ pub record Demands : Type 0 where
   pub taking : DemandTaken
   -- request 01: "A value in its range is handed to the host and answered with age recent", in the order of the entries, and nothing else is
   pub commanding : DemandCommands
+  -- "A failure of these three sends MessageNotAck and closes the link"; a MessageNotAck to our Version, or to our Watchdog while Beating, closes it; "the
+  -- latest common one is chosen"
+  pub closing : DemandClosing
+  -- "Due in Up ..: Watchdog a period or more after the last"
+  pub beating : DemandBeats
   -- 3. "a record issued for a supervisor stays held until that supervisor answers a message carrying it, or until a call issues a record after
   -- which at least 16 newer records for the same supervisor are held. None ever has more than 64 held."
   pub keeping : Demand3

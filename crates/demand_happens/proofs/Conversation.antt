@@ -31,6 +31,7 @@ use Rattle.machine.specs.Effects.{connects, closes, ticks, sends, answers, answ
 use Rattle.machine.specs.Step.{conditions, step, leaves}
 use Rattle.machine.specs.Example.{started, noon}
 use Rattle.demand_happens.specs.Pumped.{Timely}
+use Rattle.demand_told.proofs.Checks.{good-version}
 use Rattle.demand_happens.specs.Greeting.{Greets}
 use Rattle.demand_happens.specs.Greeting.Ours.{acknowledged}
 use Rattle.demand_happens.specs.Greeting.Stage.{down}
@@ -70,7 +71,7 @@ greets-example =
     (meanwhile (elsewhere refl (λ e. absurd (connect-no-tick _ e)))
     (their-version {ours = acknowledged} refl (record { timely = timely _ (noon + 29999) refl refl; roomy = lit≤ tt; short = leb-true _ 4096 refl; reads = refl })
     (record { marked = refl; readable = refl; complete = refl; good = refl })
-    (record { typed = refl; version = refl; site = refl; sxl = refl })
+    (good-version _ _ refl refl refl refl)
     (our-watchdog (timely _ (noon + 30000) refl refl) (lit≤ tt)
     (watchdog-acknowledged (record { timely = timely _ (noon + 30001) refl refl; roomy = lit≤ tt; short = leb-true _ 4096 refl; reads = refl }) refl
     (record { marked = refl; named = text "02020202-0202-4202-8202-020202020202"; names = refl; ours = refl })

@@ -160,12 +160,12 @@ module _ (m : Machine) (l t room : ℕ) (random bytes : Bytes) (j : Json) (arriv
         life = answeredTo (stringOf "oMId" j) (acknowledges (isType "MessageAck" j) ourWatchdog (lifeAt m l))
 
   module _ (formed : WellFormed j) where
-    version-taken : IsGoodVersion m j → (ov : Ours) → isSent ov ≡ true → Talks ov false unsent false (lifeAt m l) → Talks ov true unsent false Then
-    version-taken good ov out k =
+    version-taken : (v : List ℕ) → IsGoodVersion m v j → (ov : Ours) → isSent ov ≡ true → Talks ov false unsent false (lifeAt m l) → Talks ov true unsent false Then
+    version-taken v good ov out k =
         rw (
-          plain-life m l t room random bytes j arrives configured (k .connected) limit (version-plain m l t j formed good (k .connected) went taken)
-              (version-reason m l t j formed good (k .connected) went taken) (version-heard m l t j formed good (k .connected) went taken)
-              (versionAccepted l j m) (version-carried m l t j formed good (k .connected) went taken) refl,
+          plain-life m l t room random bytes j arrives configured (k .connected) limit (version-plain m l t j formed v good (k .connected) went taken)
+              (version-reason m l t j formed v good (k .connected) went taken) (version-heard m l t j formed v good (k .connected) went taken)
+              (versionAccepted l j m) (version-carried m l t j formed v good (k .connected) went taken) refl,
           set-life m l (k .connected) (agreed (orElse [] (common j)) (lifeAt m l)),
         )
         (record { connected = k .connected; versions = rw (k .versions); watchdogs = k .watchdogs; awaited = k .awaited })
@@ -211,9 +211,9 @@ module _ (s : Start) (l : ℕ) where
   greets-up r here k (version-acknowledged {m} {id} {time} {theirs} {t} {room} {random} {bytes} {j} arrives typed says rest) =
       greets-up (next (at t (packet l random bytes room)) r) (links-stay r (at t (packet l random bytes room)) here)
       (version-acked m l t room random bytes j arrives here (run-limit r) typed id time says theirs k) rest
-  greets-up r here k (their-version {m} {ours} {t} {room} {random} {bytes} {j} out arrives formed good rest) =
+  greets-up r here k (their-version {m} {ours} {t} {room} {random} {bytes} {j} {v} out arrives formed good rest) =
       greets-up (next (at t (packet l random bytes room)) r) (links-stay r (at t (packet l random bytes room)) here)
-      (version-taken m l t room random bytes j arrives here (run-limit r) formed good ours out k) rest
+      (version-taken m l t room random bytes j arrives here (run-limit r) formed v good ours out k) rest
   greets-up r here k (our-watchdog {m} {theirs} {t} {room} {random} timely roomy rest) =
       greets-up (next (at t (pump l random room)) r) (links-stay r (at t (pump l random room)) here)
       (rw (pump-life m l t room random here timely roomy (k .awaited) theWatchdog (watchdog-due m l t theirs k)) (watchdog-sent m l t (ownIdentity random) theirs k)) rest

@@ -23,6 +23,7 @@ use Rattle.machine.specs.Step.{isReplied, conditions, numberOf}
 use Rattle.demand_held.proofs.Lists.{Each}
 use Rattle.demand_held.proofs.Lists.Each.{no-more, one-more}
 use Rattle.demand_told.proofs.Replies.{one-type}
+use Rattle.demand_told.proofs.Checks.{has-common, site-named, sxl-equal}
 use Rattle.demand_told.specs.Greeted.{IsGoodVersion, IsTheirWatchdog}
 use Rattle.demand_happens.specs.Pumped.{at}
 use Rattle.demand_happens.specs.Greeting.{Arrives, Answers, WellFormed}
@@ -165,7 +166,7 @@ module _ (j : Json) (plain : Plain j) where
     plain-effect = rw (no-answer, reason, no-reply (carriedOut l t j m .leaves) l)
 
 -- ---- their Version, after ours went out
-module _ (m : Machine) (l t : ℕ) (j : Json) (formed : WellFormed j) (good : IsGoodVersion m j) (connected : lifeAt m l .connected ≡ true)
+module _ (m : Machine) (l t : ℕ) (j : Json) (formed : WellFormed j) (v : List ℕ) (good : IsGoodVersion m v j) (connected : lifeAt m l .connected ≡ true)
     (sent : lifeAt m l .versions .sent ≡ true) (taken : lifeAt m l .versions .taken ≡ false) where
   pub version-plain : Plain j
   version-plain = plain-version j (good .typed)
@@ -181,8 +182,8 @@ module _ (m : Machine) (l t : ℕ) (j : Json) (formed : WellFormed j) (good : Is
   version-reason =
       first-none (reasons m l j)
       (one-more (rw (mtype-there j (formed .marked))) (one-more (rw (formed .marked)) (one-more expected (one-more (rw not-beating)
-      (one-more (formed .complete) (one-more (formed .good) (one-more (no-range j version-plain m) (one-more (rw (good .typed, good .version)) (one-more (rw (good .typed, good .site))
-      (one-more (rw (good .typed, good .sxl)) (one-more (no-component j version-plain m) (one-more (no-alarm-number j version-plain m)
+      (one-more (formed .complete) (one-more (formed .good) (one-more (no-range j version-plain m) (one-more (rw (good .typed, has-common j v (good .version .by-us) (good .version .by-them))) (one-more (rw (good .typed, site-named m j (good .site)))
+      (one-more (rw (good .typed, sxl-equal m j (good .sxl))) (one-more (no-component j version-plain m) (one-more (no-alarm-number j version-plain m)
       (one-more (no-status j version-plain m) (one-more (no-command j version-plain m) (one-more (rw (no-reply j version-plain m l)) no-more)))))))))))))))
 
   pub version-heard : isIgnored (lifeAt m l) (some j) ≡ false

@@ -78,8 +78,8 @@ pub data Greets (l : ℕ) : Machine → Stage → List Call → Type 0 where
       → Arrives m t bytes room j → isType "MessageAck" j ≡ true → Answers id j
       → Greets l (step m (at t (packet l random bytes room)) .1) (talking acknowledged theirs unsent false) cs
       → Greets l m (talking (sent id time) theirs unsent false) (at t (packet l random bytes room) ∷ cs)
-  their-version : {m : Machine} {ours : Ours} {t room : ℕ} {random bytes : Bytes} {j : Json} {cs : List Call} → isSent ours ≡ true
-      → Arrives m t bytes room j → WellFormed j → IsGoodVersion m j
+  their-version : {m : Machine} {ours : Ours} {t room : ℕ} {random bytes : Bytes} {j : Json} {v : List ℕ} {cs : List Call} → isSent ours ≡ true
+      → Arrives m t bytes room j → WellFormed j → IsGoodVersion m v j
       → Greets l (step m (at t (packet l random bytes room)) .1) (talking ours true unsent false) cs
       → Greets l m (talking ours false unsent false) (at t (packet l random bytes room) ∷ cs)
   our-watchdog : {m : Machine} {theirs : Bool} {t room : ℕ} {random : Bytes} {cs : List Call} → Timely m t → 4096 ≤ room

@@ -28,7 +28,7 @@ use Rattle.demand_told.specs.Demand.{messagesOf}
 use Rattle.demand_told.proofs.Written.{quiet-answered}
 use Rattle.demand_told.proofs.Replies.{nobody, none-at, replied-up}
 
-abbrev isAck : Message → Bool
+abbrev pub isAck : Message → Bool
 isAck (version id site sxl) = false
 isAck (watchdog id t) = false
 isAck (ack id) = true
@@ -37,7 +37,7 @@ isAck (alarm id component code state) = false
 isAck (aggregated id component t v) = false
 isAck (statuses kind id component t entries) = false
 
-not-acked : (w : Message) (id reason : Bytes) → Among w (notAck id reason ∷ []) → isAck w ≡ true → ⊥
+pub not-acked : (w : Message) (id reason : Bytes) → Among w (notAck id reason ∷ []) → isAck w ≡ true → ⊥
 not-acked w id reason first u = not-both u refl
 
 refuses-no-ack : (l : ℕ) (j : Json) (m : Machine) (reason : String) (w : Message) → Among w (refuses l j m reason .messages) → isAck w ≡ true → ⊥

@@ -6,3 +6,10 @@ pub mod Handed
 pub mod Taken
 pub mod Entries
 pub mod Commands
+pub mod Moves
+pub mod Lived
+pub mod Said
+pub mod Beats
+pub mod Chosen
+pub mod Greets
+pub mod Closing

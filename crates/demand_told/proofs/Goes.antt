@@ -18,7 +18,7 @@ use Rattle.basis.proofs.Cases.{bool-cases, picked, eq-or-ne}
 use Rattle.basis.proofs.Both.{not-both, both-true}
 use Rattle.json_value.specs.Grammar.{Json}
 use Rattle.write_message.specs.Message.{Message}
-use Rattle.write_message.specs.Message.Message.{version, ack}
+use Rattle.write_message.specs.Message.Message.{ack}
 use Rattle.machine.specs.Words.{Bytes, orElse, isNumber, any, changed, firstOf}
 use Rattle.machine.specs.State.{Alarm, Awaited, Life, fresh, Machine, withLife, lifeAt, Act, Effect, handing, effect, only}
 use Rattle.machine.specs.State.Sent.{noRecord}
@@ -38,6 +38,7 @@ use Rattle.demand_told.specs.Greeted.{Came, IsGoodVersion}
 use Rattle.demand_told.specs.Greeted.Came.{came}
 use Rattle.demand_told.specs.Greeted.Answered.{answered as answered-by}
 use Rattle.demand_told.proofs.Tests.{must, no-not, found}
+use Rattle.demand_told.proofs.Checks.{good-version}
 use Rattle.demand_told.proofs.Lives.{set-there, closed-there, all-there}
 use Rattle.demand_told.proofs.Apart.{Apart, apart, apart-tick}
 use Rattle.demand_told.proofs.Turns.{acked, accepted, taken, sent, waits, awaits, unawaits}
@@ -57,15 +58,13 @@ module _ (u m : Machine) (same : u .setup ≡ m .setup) (l : ℕ) (j : Json) (un
   unfolding reasons
   marked = no-not _ (none-at (reasons m l j) unrefused (later first))
 
-  pub checked : isType "Version" j ≡ true → IsGoodVersion u j
+  pub checked : isType "Version" j ≡ true → IsGoodVersion u (orElse [] (common j)) j
   unfolding reasons
   checked is =
-      record {
-        typed = is;
-        version = must _ _ is (none-at (reasons m l j) unrefused (later (later (later (later (later (later (later first))))))));
-        site = rw same (must _ (namesSite m j) is (none-at (reasons m l j) unrefused (later (later (later (later (later (later (later (later first))))))))));
-        sxl = rw same (must _ (equalSxl m j) is (none-at (reasons m l j) unrefused (later (later (later (later (later (later (later (later (later first)))))))))));
-      }
+      good-version u j is
+      (must _ _ is (none-at (reasons m l j) unrefused (later (later (later (later (later (later (later first)))))))))
+      (rw same (must _ (namesSite m j) is (none-at (reasons m l j) unrefused (later (later (later (later (later (later (later (later first)))))))))))
+      (rw same (must _ (equalSxl m j) is (none-at (reasons m l j) unrefused (later (later (later (later (later (later (later (later (later first))))))))))))
 
 module _ (u m : Machine) (same : u .setup ≡ m .setup) (t : ℕ) (act : Act) (l : ℕ) (life : List Past) (kept : Kept u l (lifeAt m l) life) where
   abbrev pastOf : Effect → Past
@@ -97,7 +96,7 @@ module _ (u m : Machine) (same : u .setup ≡ m .setup) (t : ℕ) (act : Act) (l
       (λ e. stays (ticks t m) n (apart-tick m l t e))
 
 -- what is carried out closes nothing
-abbrev Open : Effect → Type 0
+abbrev pub Open : Effect → Type 0
 Open e = (l : ℕ) → any (eqb l) (e .closed) ≡ false
 
 open-happens : (m : Machine) (i : ℕ) (o : Option Alarm) → Open (happens m i o)
@@ -105,7 +104,7 @@ unfolding happens
 open-happens m i none = λ n. refl
 open-happens m i (some a) = λ n. refl
 
-open-carried-out : (m : Machine) (l t : ℕ) (j : Json) → Open (carriedOut l t j m)
+pub open-carried-out : (m : Machine) (l t : ℕ) (j : Json) → Open (carriedOut l t j m)
 unfolding carriedOut subscribe unsubscribe commands
 open-carried-out m l t j =
     picked Open (isType "Version" j) _ _ (λ e n. refl)

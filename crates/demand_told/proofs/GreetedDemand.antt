@@ -59,6 +59,7 @@ run-kept (next {h} {m} c r) u same l = step-kept u m c l (thisLife l h) (same �
 pub greeted : (u : Machine) (l : ℕ) (k : Life) (life : List Past) → Kept u l k life → isUp k ≡ true → Greeted u l life
 greeted u l k life kept up =
     record {
+      version = k .version;
       our-version = kept .our-version (versions .0);
       their-version = kept .their-version (versions .1);
       our-watchdog = kept .our-watchdog (watchdogs .0);

@@ -30,7 +30,7 @@ BackedBy l life a = Backed l life (a .identity) (a .message)
 pub record Kept (u : Machine) (l : ℕ) (k : Life) (life : List Past) : Type 0 where
   pub there : k .connected ≡ true → life ≡ [] → ⊥
   pub our-version : k .versions .acknowledged ≡ true → Within (Acknowledged l IsVersion) life
-  pub their-version : k .versions .taken ≡ true → Within (Answered l (IsGoodVersion u)) life
+  pub their-version : k .versions .taken ≡ true → Within (Answered l (IsGoodVersion u (k .version))) life
   pub our-watchdog : k .watchdogs .acknowledged ≡ true → Within (Acknowledged l IsWatchdog) life
   pub their-watchdog : k .watchdogs .taken ≡ true → Within (Answered l IsTheirWatchdog) life
   pub awaited : Each (BackedBy l life) (k .awaited)

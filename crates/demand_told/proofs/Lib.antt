@@ -4,6 +4,7 @@ pub mod Replies
 pub mod Primary
 pub mod Demand
 pub mod Tests
+pub mod Checks
 pub mod Lives
 pub mod Apart
 pub mod Kept

@@ -52,13 +52,13 @@ one-type a b other j e = go (stringAt "type" j) e
     go none f = refl
     go (some s) f = rw (same-true s (text a) f) other
 
-abbrev NoGreeting : Json → Type 0
+abbrev pub NoGreeting : Json → Type 0
 NoGreeting j = (isType "Version" j ≡ false) × (isType "Watchdog" j ≡ false)
 
 pub no-greeting : (a : String) → sameBytes (text a) (text "Version") ≡ false → sameBytes (text a) (text "Watchdog") ≡ false → (j : Json) → isType a j ≡ true → NoGreeting j
 no-greeting a v w j e = (one-type a "Version" v j e, one-type a "Watchdog" w j e)
 
-asks : (m : Machine) (l : ℕ) (j : Json) → wantsReply m l j ≡ true → NoGreeting j
+pub asks : (m : Machine) (l : ℕ) (j : Json) → wantsReply m l j ≡ true → NoGreeting j
 asks m l j e = go (isType "Alarm" j) _ (isType "AggregatedStatusRequest" j) (isType "StatusRequest" j) (isType "CommandRequest" j) refl refl refl refl e
   where
     go : (a b c d f : Bool) → isType "Alarm" j ≡ a → isType "AggregatedStatusRequest" j ≡ c → isType "StatusRequest" j ≡ d → isType "CommandRequest" j ≡ f

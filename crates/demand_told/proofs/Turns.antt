@@ -1,11 +1,10 @@
 -- What a link's life becomes in a call of it, each turn with its event.
 -- Assumes nothing.
 use Prim.Native.Nat.{ℕ}
-use mathlib.Core.Path.{_≡_, refl, sym, _∙_}
+use mathlib.Core.Path.{_≡_, refl, sym, _∙_, subst}
 use mathlib.Core.Bool.{true, false}
 use mathlib.Core.List.{List, [], _∷_}
 use mathlib.Core.Option.{some, none}
-use native.Mathlib.Omega.{arith}
 use Rattle.basis.specs.Lists.Among.{first}
 use Rattle.basis.proofs.Cases.{picked}
 use Rattle.json_value.specs.Grammar.{Json}
@@ -22,7 +21,7 @@ use Rattle.demand_held.proofs.Lists.{maybe-cases, Each, each-append, each-butFi
 use Rattle.demand_held.proofs.Lists.Each.{no-more, one-more}
 use Rattle.demand_told.specs.Demand.{messagesOf, linkOf}
 use Rattle.demand_told.specs.Life.{goingOn}
-use Rattle.demand_told.specs.Greeted.{Came, Answered, IsGoodVersion, IsTheirWatchdog}
+use Rattle.demand_told.specs.Greeted.{Within, Came, Answered, IsGoodVersion, IsTheirWatchdog}
 use Rattle.demand_told.specs.Greeted.IsVersion.{is-version}
 use Rattle.demand_told.specs.Greeted.IsWatchdog.{is-watchdog}
 use Rattle.demand_told.specs.Greeted.Wrote.{wrote}
@@ -30,14 +29,14 @@ use Rattle.demand_told.specs.Greeted.Acknowledged.{acknowledged}
 use Rattle.demand_told.proofs.Kept.{Backed, BackedBy, Kept, now, goes-on}
 
 -- a life with the same flags and the same awaited
-pub alike : {u : Machine} {l : ℕ} {k : Life} {life : List Past} (x : Life) → Kept u l k life → x .connected ≡ k .connected
+pub alike : {u : Machine} {l : ℕ} {k : Life} {life : List Past} (x : Life) → Kept u l k life → x .connected ≡ k .connected → x .version ≡ k .version
     → x .versions .acknowledged ≡ k .versions .acknowledged → x .versions .taken ≡ k .versions .taken
     → x .watchdogs .acknowledged ≡ k .watchdogs .acknowledged → x .watchdogs .taken ≡ k .watchdogs .taken → x .awaited ≡ k .awaited → Kept u l x life
-alike x kept c va vt wa wt ids =
+alike {u} {l} {k} {life} x kept c v va vt wa wt ids =
     record {
       there = λ e. kept .there (sym c ∙ e);
       our-version = λ e. kept .our-version (sym va ∙ e);
-      their-version = λ e. kept .their-version (sym vt ∙ e);
+      their-version = λ e. subst (λ (w : List ℕ). Within (Answered l (IsGoodVersion u w)) life) (sym v) (kept .their-version (sym vt ∙ e));
       our-watchdog = λ e. kept .our-watchdog (sym wa ∙ e);
       their-watchdog = λ e. kept .their-watchdog (sym wt ∙ e);
       awaited = rw ids (kept .awaited);
@@ -85,7 +84,7 @@ module _ (u : Machine) (l : ℕ) (k : Life) (life : List Past) (kept : Kept u l 
   acked id j c marked own (theRecord n) b = same-life
 
   -- theirs is accepted, or taken
-  pub accepted : (chosen : List ℕ) → Answered l (IsGoodVersion u) p life → Goal (agreed chosen k)
+  pub accepted : (chosen : List ℕ) → Answered l (IsGoodVersion u chosen) p life → Goal (agreed chosen k)
   accepted chosen a =
       record {
         there = same-life .there;
@@ -109,10 +108,10 @@ module _ (u : Machine) (l : ℕ) (k : Life) (life : List Past) (kept : Kept u l 
 
   -- ours goes out
   pub sent : (t : ℕ) (d : Due) → Goal (afterSending t d k)
-  sent t theVersion = alike (afterSending t theVersion k) same-life refl refl refl refl refl refl
-  sent t theWatchdog = alike (afterSending t theWatchdog k) same-life refl refl refl refl refl refl
-  sent t theAggregated = alike (afterSending t theAggregated k) same-life refl refl refl refl refl refl
-  sent t (theAlarm i) = alike (afterSending t (theAlarm i) k) same-life refl refl refl refl refl refl
+  sent t theVersion = alike (afterSending t theVersion k) same-life refl refl refl refl refl refl refl
+  sent t theWatchdog = alike (afterSending t theWatchdog k) same-life refl refl refl refl refl refl refl
+  sent t theAggregated = alike (afterSending t theAggregated k) same-life refl refl refl refl refl refl refl
+  sent t (theAlarm i) = alike (afterSending t (theAlarm i) k) same-life refl refl refl refl refl refl refl
   sent t (theHeld h) = same-life
 
   pub waits : (id : Bytes) (m : Machine) (t : ℕ) (d : Due) → linkOf (p .call .act) ≡ some l → messagesOf (p .gave) ≡ dueMessage m t id d ∷ []

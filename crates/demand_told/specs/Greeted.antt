@@ -2,19 +2,20 @@
 -- Assumes nothing.
 use Prim.Native.Nat.{ℕ}
 use mathlib.Core.Path.{_≡_}
-use mathlib.Core.Bool.{true}
-use mathlib.Core.List.{List, _∷_}
+use mathlib.Core.Bool.{Bool, true, false}
+use mathlib.Core.List.{List, [], _∷_}
 use mathlib.Core.Option.{Option, some}
+use lib.Dec.{eqb, ltb}
 use Rattle.basis.specs.Lists.{Among}
 use Rattle.json_value.specs.Grammar.{Json}
 use Rattle.write_message.specs.Message.{Message}
 use Rattle.write_message.specs.Message.Message.{version, watchdog, ack}
-use Rattle.machine.specs.Words.{Bytes, isSome}
+use Rattle.write_message.specs.Listing.{offered}
+use Rattle.machine.specs.Words.{Bytes, if_then_else_}
 use Rattle.machine.specs.State.{Command, Machine}
 use Rattle.machine.specs.State.Act.{packet}
 use Rattle.machine.specs.State.Outcome.{done}
-use Rattle.machine.specs.Json.{readPacket, stringOf, elementIs, isType, isIdentityOf}
-use Rattle.machine.specs.Life.{common, namesSite, equalSxl}
+use Rattle.machine.specs.Json.{readPacket, stringOf, entriesOf, elementIs, isType, isIdentityOf, versionIn}
 use Rattle.machine.specs.Run.{Past}
 use Rattle.demand_told.specs.Demand.{messagesOf, linkOf}
 
@@ -48,19 +49,43 @@ pub data Acknowledged (l : ℕ) (Ours : Bytes → Message → Type 0) (p : Past)
 pub data Answered (l : ℕ) (Theirs : Json → Type 0) (p : Past) (before : List Past) : Type 0 where
   answered : {j : Json} → Theirs j → Came l j p → elementIs "mType" "rSMsg" j ≡ true → Among (ack (stringOf "mId" j)) (messagesOf (p .gave)) → Answered l Theirs p before
 
--- "the checks are: a common RSMP version .., our site id in their list, equal SXL bytes"
-pub record IsGoodVersion (m : Machine) (j : Json) : Type 0 where
+-- a version that our Version offers, "3.1.5 and 3.2", and one that theirs does: three numbers, "a missing part is 0"
+pub data Ours (v : List ℕ) : Type 0 where
+  ours : {s : Bytes} → Among s offered → versionIn s ≡ some v → Ours v
+
+pub data Theirs (j : Json) (v : List ℕ) : Type 0 where
+  theirs : {e : Json} → Among e (entriesOf "RSMP" j) → versionIn (stringOf "vers" e) ≡ some v → Theirs j v
+
+-- by the first number that differs
+abbrev pub notLater : List ℕ → List ℕ → Bool
+notLater [] vs = true
+notLater (w ∷ ws) [] = false
+notLater (w ∷ ws) (v ∷ vs) = if eqb w v then notLater ws vs else ltb w v
+
+-- "the latest common one is chosen"
+pub record Chosen (j : Json) (v : List ℕ) : Type 0 where
+  pub by-us : Ours v
+  pub by-them : Theirs j v
+  pub latest : (w : List ℕ) → Ours w → Theirs j w → notLater w v ≡ true
+
+-- "our site id in their list"
+pub data NamesSite (site : Bytes) (j : Json) : Type 0 where
+  names : {e : Json} → Among e (entriesOf "siteId" j) → stringOf "sId" e ≡ site → NamesSite site j
+
+-- "the checks are: a common RSMP version .., our site id in their list, equal SXL bytes"; v is the chosen version
+pub record IsGoodVersion (m : Machine) (v : List ℕ) (j : Json) : Type 0 where
   pub typed : isType "Version" j ≡ true
-  pub version : isSome (common j) ≡ true
-  pub site : namesSite m j ≡ true
-  pub sxl : equalSxl m j ≡ true
+  pub version : Chosen j v
+  pub site : NamesSite (m .setup .table .site) j
+  pub sxl : stringOf "SXL" j ≡ m .setup .table .sxl
 
 abbrev pub IsTheirWatchdog : Json → Type 0
 IsTheirWatchdog j = isType "Watchdog" j ≡ true
 
 -- "versions are agreed and watchdogs exchanged": in this life of link l; of the machine the table counts alone
 pub record Greeted (m : Machine) (l : ℕ) (life : List Past) : Type 0 where
+  pub version : List ℕ
   pub our-version : Within (Acknowledged l IsVersion) life
-  pub their-version : Within (Answered l (IsGoodVersion m)) life
+  pub their-version : Within (Answered l (IsGoodVersion m version)) life
   pub our-watchdog : Within (Acknowledged l IsWatchdog) life
   pub their-watchdog : Within (Answered l IsTheirWatchdog) life
