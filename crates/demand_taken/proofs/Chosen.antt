@@ -38,16 +38,17 @@ use Rattle.demand_taken.proofs.Moves.Turned.{sent, answered-by, turned-
 use Rattle.demand_taken.proofs.Lived.{Elsewhere, Goes, by-life}
 use Rattle.demand_taken.proofs.Said.{came-elsewhere, its-value, no-packet, nothing-within, within-cases, first-within}
 
--- a Version is accepted once in a life
 when-both : (a b : Bool) → a ≡ true → both a b ≡ false → b ≡ false
 when-both true b p e = e
 when-both false b p e = not-both p refl
 
-pub not-taken : (m : Machine) (l : ℕ) (j : Json) → reasonOf m l j ≡ none → isType "Version" j ≡ true → lifeAt m l .versions .taken ≡ false
+-- a Version is accepted once in a life, after ours went out
+pub sent-not-taken : (m : Machine) (l : ℕ) (j : Json) → reasonOf m l j ≡ none → isType "Version" j ≡ true
+    → (not (lifeAt m l .versions .sent) ≡ false) × (lifeAt m l .versions .taken ≡ false)
 unfolding reasons
-not-taken m l j unrefused is =
+sent-not-taken m l j unrefused is =
     let expected = neither (not (isTaken j)) _ (none-at (reasons m l j) unrefused (later (later first))) .1 in
-    neither (not (lifeAt m l .versions .sent)) (lifeAt m l .versions .taken) (when-both (isType "Version" j) _ is expected) .1
+    neither (not (lifeAt m l .versions .sent)) (lifeAt m l .versions .taken) (when-both (isType "Version" j) _ is expected)
 
 module _ (u : Machine) (l : ℕ) where
   abbrev Accepted : List ℕ → Past → List Past → Type 0
@@ -108,7 +109,7 @@ module _ (u : Machine) (l : ℕ) where
     turns act ms x (turned-down reason read) is gave (inr r) = holds v r
     turns act ms x (accepted {j = j} read unrefused typed) is gave (inl (answered {j = i} good c marked a)) =
         (refl, one-chosen j (orElse [] (common j)) v (checked m m refl l j unrefused typed .version) (subst (λ (q : Json). IsGoodVersion u v q) (its-value is read c) good .version))
-    turns act ms x (accepted {j = j} read unrefused typed) is gave (inr r) = not-both (holds v r .0) (not-taken m l j unrefused typed)
+    turns act ms x (accepted {j = j} read unrefused typed) is gave (inr r) = not-both (holds v r .0) (sent-not-taken m l j unrefused typed .1)
     turns act ms x (beaten {random} {bytes} {room} {j} read no-version) is gave q = other room random bytes j is read no-version q
     turns act ms x (taken {random} {bytes} {room} {j} read no-version) is gave q = other room random bytes j is read no-version q
     turns act ms x (replied {random} {bytes} {room} {j} n read no-version up) is gave q = other room random bytes j is read no-version q
@@ -116,5 +117,6 @@ module _ (u : Machine) (l : ℕ) where
   goes : (s : Start) (h : List Past) (m : Machine) (p : Past) (x : Life) → Goes s l h m p x → Chooses (lifeAt m l) (thisLife l h) → Chooses x (goingOn p (thisLife l h))
   goes s h m p x g holds v w = turns m p (thisLife l h) holds v (p .call .act) (messagesOf (p .gave)) x (g .turned) refl refl (within-cases p (thisLife l h) w)
 
-  pub run-chooses : {s : Start} {h : List Past} {m : Machine} → Run s h m → (v : List ℕ) → Within (Answered l (IsGoodVersion u v)) (thisLife l h) → lifeAt m l .version ≡ v
-  run-chooses {s} r v w = by-life s l Chooses (λ v w. absurd (nothing-within w refl)) opened elsewhere (goes s) r v w .1
+  pub run-chooses : {s : Start} {h : List Past} {m : Machine} → Run s h m → (v : List ℕ) → Within (Answered l (IsGoodVersion u v)) (thisLife l h)
+      → (lifeAt m l .versions .taken ≡ true) × (lifeAt m l .version ≡ v)
+  run-chooses {s} r = by-life s l Chooses (λ v w. absurd (nothing-within w refl)) opened elsewhere (goes s) r

@@ -8,13 +8,14 @@ use mathlib.Core.List.{List, [], _∷_}
 use mathlib.Core.Option.{Option, some, none}
 use lib.ListN.{take, drop}
 use Rattle.basis.specs.Text.{text}
+use Rattle.basis.specs.Lists.{Among}
 use Rattle.basis.proofs.Cases.{bool-cases}
-use Rattle.basis.proofs.Both.{both-false}
+use Rattle.basis.proofs.Both.{not-both, both-false}
 use Rattle.basis.proofs.Same.{same-true}
 use Rattle.json_value.specs.Grammar.{Json}
 use Rattle.write_message.specs.Message.{Message}
-use Rattle.write_message.specs.Message.Message.{notAck}
-use Rattle.machine.specs.Words.{Bytes, isSome, Case, firstOf}
+use Rattle.write_message.specs.Message.Message.{ack, notAck}
+use Rattle.machine.specs.Words.{Bytes, orElse, isSome, Case, firstOf}
 use Rattle.machine.specs.State.{Awaited, Start, Machine, lifeAt, Act, Effect}
 use Rattle.machine.specs.State.Sent.{ourVersion, ourWatchdog}
 use Rattle.machine.specs.State.Act.{packet}
@@ -27,23 +28,29 @@ use Rattle.machine.specs.Answers.{isAnswer, isIgnored, isUnexpected, reasons, r
 use Rattle.machine.specs.Effects.{ownIdentity, closes, refusal, refuses, answerCloses, answers, answered, receives}
 use Rattle.machine.specs.Step.{isReplied, step}
 use Rattle.machine.specs.Run.{Past, Run}
+use Rattle.machine.specs.Run.Run.{next}
 use Rattle.demand_held.proofs.Lists.{Each}
 use Rattle.demand_held.proofs.Lists.Each.{no-more, one-more}
 use Rattle.demand_held.proofs.Steps.{step-done}
+use Rattle.demand_told.specs.Demand.{messagesOf}
 use Rattle.demand_told.specs.Life.{thisLife}
-use Rattle.demand_told.specs.Greeted.{Within, IsVersion, IsWatchdog, Wrote, Acknowledged, Answered, Ours, Theirs, NamesSite, IsGoodVersion}
+use Rattle.demand_told.specs.Greeted.{Within, Came, IsVersion, IsWatchdog, Wrote, Acknowledged, Answered, Ours, Theirs, NamesSite, IsGoodVersion}
+use Rattle.demand_told.specs.Greeted.Came.{came}
+use Rattle.demand_told.proofs.Tests.{no-not}
 use Rattle.demand_told.proofs.Replies.{one-type}
 use Rattle.demand_told.proofs.Checks.{chosen, has-common, site-named, names-site}
-use Rattle.demand_told.proofs.GreetedDemand.{run-kept}
+use Rattle.demand_told.proofs.Goes.{checked}
+use Rattle.demand_told.proofs.GreetedDemand.{same-setup, run-kept}
 use Rattle.demand_happens.specs.Pumped.{at}
 use Rattle.demand_happens.specs.Greeting.{Arrives, Answers, WellFormed}
 use Rattle.demand_happens.proofs.Packets.{mtype-there, not-over, packet-effect, packet-unrefused, its-own, answer-heard, answer-unreplied}
 use Rattle.demand_happens.proofs.Limits.{run-limit}
-use Rattle.demand_taken.specs.Closing.{Fails, Unacknowledged, DemandClosing}
+use Rattle.demand_taken.specs.Closing.{Fails, Unacknowledged, Judged, DemandClosing}
 use Rattle.demand_taken.specs.Closing.Fails.{no-version, no-site, other-sxl}
+use Rattle.demand_taken.proofs.Acked.{acked-heard}
 use Rattle.demand_taken.proofs.Said.{nothing-within}
 use Rattle.demand_taken.proofs.Greets.{run-greets}
-use Rattle.demand_taken.proofs.Chosen.{run-chooses}
+use Rattle.demand_taken.proofs.Chosen.{sent-not-taken, run-chooses}
 
 -- ---- the first case that applies, behind some that do not
 first-behind : {A : Type 0} (n : ℕ) (ks : List (Case A)) → Each (λ (k : Case A). k .applies ≡ false) (take n ks) → firstOf ks ≡ firstOf (drop n ks)
@@ -190,11 +197,26 @@ module _ {s : Start} {h : List Past} {m : Machine} (r : Run s h m) (l : ℕ) whe
 
   chooses : (v : List ℕ) → Within (Answered l (IsGoodVersion m v)) (thisLife l h) → reading m l .version ≡ v
   unfolding reading
-  chooses v w = run-chooses m l r v w
+  chooses v w = run-chooses m l r v w .1
+
+judged : {s : Start} {p : Past} {h : List Past} {m : Machine} → Run s (p ∷ h) m → (l : ℕ) (j : Json) → Came l j p → isType "Version" j ≡ true
+    → (id : Bytes) → Among (ack id) (messagesOf (p .gave)) → Judged m l j (thisLife l h)
+judged (next {h} {m} c r) l j (came {random} {bytes} {room} is read gave) typed id a =
+    let unrefused = acked-heard m (c .time) l room random bytes j read c refl is id a .reason in
+    let flags = sent-not-taken m l j unrefused typed in
+    let went = run-greets l r .went (no-not (lifeAt m l .versions .sent) (flags .0)) in
+    record {
+      id = went .id;
+      went = went .within;
+      only-one = λ v w. not-both (run-chooses (step m c .1) l r v w .0) (flags .1);
+      version = orElse [] (common j);
+      good = checked (step m c .1) m (same-setup r c) l j unrefused typed;
+    }
 
 pub demand-closing : DemandClosing
 demand-closing =
     record {
+      judged = λ s p h m r. judged r;
       failed = λ s h m r l t room random bytes j configured id went none-taken arrives formed typed reason f.
           check-failed r l t room random bytes j configured id arrives went none-taken formed typed reason f;
       version-refused = λ s h m r l t room random bytes j configured id u arrives typed says. version-refused r l t room random bytes j configured id arrives u typed says;

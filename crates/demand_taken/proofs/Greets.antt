@@ -17,7 +17,7 @@ use Rattle.write_message.specs.Message.{Message}
 use Rattle.machine.specs.Words.{Bytes, butFirst}
 use Rattle.machine.specs.State.{Sent, Awaited, Life, fresh, Start, Machine, lifeAt, Act}
 use Rattle.machine.specs.State.Sent.{ourVersion, ourWatchdog, noRecord, theRecord}
-use Rattle.machine.specs.State.Act.{connect}
+use Rattle.machine.specs.State.Act.{connect, pump}
 use Rattle.machine.specs.Json.{stringOf, isType, isIdentityOf}
 use Rattle.machine.specs.Life.{isOver, isGreeting, isBeating, isUp, awaitedBy, awaiting, answeredTo, oldestUnsent, passLength, Due, dueUp, due}
 use Rattle.machine.specs.Life.Due.{theVersion, theWatchdog, theAggregated, theAlarm, theHeld}
@@ -31,7 +31,7 @@ use Rattle.demand_told.specs.Greeted.IsVersion.{is-version}
 use Rattle.demand_told.specs.Greeted.IsWatchdog.{is-watchdog}
 use Rattle.demand_told.specs.Greeted.Wrote.{wrote}
 use Rattle.demand_told.proofs.Tests.{found}
-use Rattle.demand_told.proofs.Kept.{Backed}
+use Rattle.demand_told.proofs.Kept.{Backed, still, now}
 use Rattle.demand_told.proofs.GreetedDemand.{run-kept}
 use Rattle.demand_taken.proofs.Moves.{Turned}
 use Rattle.demand_taken.proofs.Moves.Turned.{sent, answered-by, turned-down, accepted, beaten, taken, replied}
@@ -160,7 +160,12 @@ acked isAck (theRecord n) k e = unmoved (theRecord n) k (λ f. let z : _≡_ {A 
 
 -- ---- the invariant
 module _ (l : ℕ) where
+  pub record Went (life : List Past) : Type 0 where
+    pub id : Bytes
+    pub within : Within (Wrote l (IsVersion id)) life
+
   pub record Greets (k : Life) (life : List Past) : Type 0 where
+    pub went : k .versions .sent ≡ true → Went life
     pub there : k .connected ≡ false → life ≡ []
     pub version-out : k .versions .acknowledged ≡ true → k .versions .sent ≡ true
     pub watchdog-out : k .watchdogs .acknowledged ≡ true → k .watchdogs .sent ≡ true
@@ -173,6 +178,7 @@ module _ (l : ℕ) where
   down : Greets (fresh false) []
   down =
       record {
+        went = λ e. not-both e refl;
         there = λ e. refl;
         version-out = λ e. not-both e refl;
         watchdog-out = λ e. not-both e refl;
@@ -185,6 +191,7 @@ module _ (l : ℕ) where
   opened : (p : Past) → p .call .act ≡ connect l → messagesOf (p .gave) ≡ [] → Greets (fresh true) (p ∷ [])
   opened p is gave =
       record {
+        went = λ e. not-both e refl;
         there = λ e. not-both refl e;
         version-out = λ e. not-both e refl;
         watchdog-out = λ e. not-both e refl;
@@ -202,6 +209,9 @@ module _ (l : ℕ) where
       go (inl a) = absurd (n a)
       go (inr a) = a
 
+  still-went : (p : Past) {life : List Past} → Went life → Went (goingOn p life)
+  still-went p w = record { id = w .id; within = still p (w .within) }
+
   none-on : (p : Past) (life : List Past) → life ≡ [] → goingOn p life ≡ []
   none-on p [] e = refl
   none-on p (q ∷ life) e = absurd (let z : _≡_ {A = ℕ} 0 1 = cc in omega arith)
@@ -209,6 +219,7 @@ module _ (l : ℕ) where
   elsewhere : (k : Life) (life : List Past) (p : Past) → Elsewhere l p → Greets k life → Greets k (goingOn p life)
   elsewhere k life p e g =
       record {
+        went = λ f. still-went p (g .went f);
         there = λ f. none-on p life (g .there f);
         version-out = g .version-out;
         watchdog-out = g .watchdog-out;
@@ -218,7 +229,7 @@ module _ (l : ℕ) where
         watchdog = λ id w. g .watchdog id (back p life (wrote-elsewhere e) w);
       }
 
-  module _ (m : Machine) (p : Past) (life : List Past) (g : Greets (lifeAt m l) life) (connected : lifeAt m l .connected ≡ true) where
+  module _ (m : Machine) (p : Past) (life : List Past) (g : Greets (lifeAt m l) life) (connected : lifeAt m l .connected ≡ true) (lives : life ≡ [] → ⊥) where
     abbrev k : Life
     k = lifeAt m l
 
@@ -238,6 +249,7 @@ module _ (l : ℕ) where
     alike : {ms : List Message} → messagesOf (p .gave) ≡ ms → Silent ms → (x : Life) → Alike x → Goal x
     alike gave silent x a =
         record {
+          went = λ f. still-went p (g .went (sym (a .version-sent) ∙ f));
           there = λ f. none-on p life (g .there (sym (a .connected-same) ∙ f));
           version-out = λ f. a .version-sent ∙ g .version-out (sym (a .version-acked) ∙ f);
           watchdog-out = λ f. a .watchdog-sent ∙ g .watchdog-out (sym (a .watchdog-acked) ∙ f);
@@ -272,6 +284,7 @@ module _ (l : ℕ) where
     ups up x c v s w =
         let f = flags up in
         record {
+          went = λ e. still-went p (g .went (g .version-out (f .version-acked)));
           there = λ e. absurd (not-both connected (sym c ∙ e));
           version-out = λ e. rw v (g .version-out (f .version-acked));
           watchdog-out = λ e. s;
@@ -291,13 +304,17 @@ module _ (l : ℕ) where
     not-over : isGreeting k ≡ true → isOver (k .versions) ≡ false
     not-over e = bool-cases (isOver (k .versions)) (λ f. not-both e (rw (f, connected))) (λ f. f)
 
-    module _ (random : Bytes) where
+    module _ (random : Bytes) (room : ℕ) (is : p .call .act ≡ pump l random room) where
       abbrev sent-life : Due → Life
       sent-life d = awaiting (ownIdentity random) (p .call .time) (sentAs m l d) (afterSending (p .call .time) d k)
 
       version-sent-now : isGreeting k ≡ true → k .versions .sent ≡ false → messagesOf (p .gave) ≡ dueMessage m (p .call .time) (ownIdentity random) theVersion ∷ [] → Goal (sent-life theVersion)
       version-sent-now greeting unsent gave =
           record {
+            went = λ e. record {
+              id = ownIdentity random;
+              within = now p life lives (wrote {w = dueMessage m (p .call .time) (ownIdentity random) theVersion} (rw is) (rw gave first) is-version);
+            };
             there = λ e. absurd (not-both connected e);
             version-out = λ e. refl;
             watchdog-out = g .watchdog-out;
@@ -324,6 +341,7 @@ module _ (l : ℕ) where
       watchdog-sent-now : isBeating k ≡ true → k .watchdogs .sent ≡ false → messagesOf (p .gave) ≡ dueMessage m (p .call .time) (ownIdentity random) theWatchdog ∷ [] → Goal (sent-life theWatchdog)
       watchdog-sent-now beating unsent gave =
           record {
+            went = λ e. still-went p (g .went e);
             there = λ e. absurd (not-both connected e);
             version-out = g .version-out;
             watchdog-out = λ e. refl;
@@ -439,6 +457,7 @@ module _ (l : ℕ) where
       answers : Goal answered-life
       answers =
           record {
+            went = λ e. still-went p (g .went version-out);
             there = λ e. absurd (not-both connected (sym (moves .connected) ∙ e));
             version-out = λ e. moves .version-sent ∙ version-out;
             watchdog-out = λ e. moves .watchdog-sent ∙ beat-out (moves .watchdog-before e);
@@ -454,25 +473,25 @@ module _ (l : ℕ) where
 
     -- ---- every call of the link
     module _ (backed : (text : Bytes) (a : Awaited) → awaitedBy k text ≡ some a → Backed l life (a .identity) (a .message)) where
-      turns : (act : Act) (ms : List Message) (x : Life) → Turned m (p .call .time) l act ms x → messagesOf (p .gave) ≡ ms → Goal x
-      turns act ms x (sent {random} {d = d} e) gave = sends random d (due-when m l (p .call .time) d e) gave
-      turns act ms x (answered-by {j = j} {a = a} read e f) gave =
+      turns : (act : Act) (ms : List Message) (x : Life) → Turned m (p .call .time) l act ms x → p .call .act ≡ act → messagesOf (p .gave) ≡ ms → Goal x
+      turns act ms x (sent {random} {room} {d} e) is gave = sends random room is d (due-when m l (p .call .time) d e) gave
+      turns act ms x (answered-by {j = j} {a = a} read e f) is gave =
           answers (stringOf "oMId" j) a e (backed (stringOf "oMId" j) a e) (acknowledges (isType "MessageAck" j) (a .message) k) (acked (isType "MessageAck" j) (a .message) k f) gave
-      turns act ms x (turned-down reason read) gave = alike gave (silent-one _ refl) x same
-      turns act ms x (accepted read e f) gave =
+      turns act ms x (turned-down reason read) is gave = alike gave (silent-one _ refl) x same
+      turns act ms x (accepted read e f) is gave =
           alike gave (silent-one _ refl) x
           (record { connected-same = refl; version-sent = refl; version-acked = refl; over = λ q. both-of (both-true (k .versions .acknowledged) _ q .0) refl; watchdog-sent = refl; watchdog-acked = refl; awaited = refl })
-      turns act ms x (beaten read e) gave =
+      turns act ms x (beaten read e) is gave =
           alike gave (silent-one _ refl) x
           (record { connected-same = refl; version-sent = refl; version-acked = refl; over = λ q. q; watchdog-sent = refl; watchdog-acked = refl; awaited = refl })
-      turns act ms x (taken read e) gave = alike gave (silent-one _ refl) x same
-      turns act ms x (replied n read e up) gave = ups up x refl refl (g .watchdog-out (flags up .watchdog-acked)) (flags up .watchdog-acked)
+      turns act ms x (taken read e) is gave = alike gave (silent-one _ refl) x same
+      turns act ms x (replied n read e up) is gave = ups up x refl refl (g .watchdog-out (flags up .watchdog-acked)) (flags up .watchdog-acked)
 
   goes : (s : Start) (h : List Past) (m : Machine) (p : Past) (x : Life) → Goes s l h m p x → Greets (lifeAt m l) (thisLife l h) → Greets x (goingOn p (thisLife l h))
   goes s h m p x g holds =
-      turns m p (thisLife l h) holds (g .connected)
+      turns m p (thisLife l h) holds (g .connected) (g .lives)
       (λ text a e. found (λ (y : Awaited). isIdentityOf (y .identity) text) (lifeAt m l .awaited) a (run-kept (g .run) m refl l .awaited) e .0)
-      (p .call .act) (messagesOf (p .gave)) x (g .turned) refl
+      (p .call .act) (messagesOf (p .gave)) x (g .turned) refl refl
 
   pub run-greets : {s : Start} {h : List Past} {m : Machine} → Run s h m → Greets (lifeAt m l) (thisLife l h)
   run-greets {s} r = by-life s l Greets down opened elsewhere (goes s) r

@@ -8,9 +8,10 @@ use mathlib.Core.Bool.{true}
 use mathlib.Core.List.{List, [], _∷_}
 use mathlib.Core.Option.{none}
 use Rattle.basis.specs.Text.{text}
+use Rattle.basis.specs.Lists.{Among}
 use Rattle.json_value.specs.Grammar.{Json}
 use Rattle.write_message.specs.Message.{Message}
-use Rattle.write_message.specs.Message.Message.{notAck}
+use Rattle.write_message.specs.Message.Message.{ack, notAck}
 use Rattle.machine.specs.Words.{Bytes}
 use Rattle.machine.specs.State.{Start, Machine}
 use Rattle.machine.specs.State.Act.{packet}
@@ -19,8 +20,9 @@ use Rattle.machine.specs.Json.{stringOf, isType}
 use Rattle.machine.specs.Readings.{reading}
 use Rattle.machine.specs.Step.{step}
 use Rattle.machine.specs.Run.{Past, Run}
+use Rattle.demand_told.specs.Demand.{messagesOf}
 use Rattle.demand_told.specs.Life.{thisLife}
-use Rattle.demand_told.specs.Greeted.{Within, IsVersion, IsWatchdog, Wrote, Acknowledged, Answered, Ours, Theirs, NamesSite, IsGoodVersion}
+use Rattle.demand_told.specs.Greeted.{Within, IsVersion, IsWatchdog, Wrote, Came, Acknowledged, Answered, Ours, Theirs, NamesSite, IsGoodVersion}
 use Rattle.demand_happens.specs.Pumped.{at}
 use Rattle.demand_happens.specs.Greeting.{Arrives, Answers, WellFormed}
 
@@ -35,7 +37,17 @@ pub record Unacknowledged (l : ℕ) (Is : Bytes → Message → Type 0) (id : By
   pub went : Within (Wrote l (Is id)) life
   pub unacknowledged : Within (Acknowledged l Is) life → ⊥
 
+-- "Their Version is judged only after ours went out", and once in a life: one of theirs that gets MessageAck passes the checks
+pub record Judged (m : Machine) (l : ℕ) (j : Json) (life : List Past) : Type 0 where
+  pub id : Bytes
+  pub went : Within (Wrote l (IsVersion id)) life
+  pub only-one : (v : List ℕ) → Within (Answered l (IsGoodVersion m v)) life → ⊥
+  pub version : List ℕ
+  pub good : IsGoodVersion m version j
+
 pub record DemandClosing : Type 0 where
+  pub judged : (s : Start) (p : Past) (h : List Past) (m : Machine) → Run s (p ∷ h) m → (l : ℕ) (j : Json) → Came l j p → isType "Version" j ≡ true
+      → (id : Bytes) → Among (ack id) (messagesOf (p .gave)) → Judged m l j (thisLife l h)
   -- theirs, well-formed, after ours went out and before one of theirs was accepted
   pub failed : (s : Start) (h : List Past) (m : Machine) → Run s h m → (l t room : ℕ) (random bytes : Bytes) (j : Json) → l < m .setup .links
       → (id : Bytes) → Within (Wrote l (IsVersion id)) (thisLife l h) → ((v : List ℕ) → Within (Answered l (IsGoodVersion m v)) (thisLife l h) → ⊥)
