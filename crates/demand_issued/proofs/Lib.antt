@@ -1,0 +1,4 @@
+pub mod Base
+pub mod Tells
+pub mod Lists
+pub mod Kept
