@@ -2,3 +2,5 @@ pub mod Base
 pub mod Tells
 pub mod Lists
 pub mod Kept
+pub mod Issued
+pub mod Goes

@@ -84,3 +84,12 @@ module _ {A B : Type 0} where
 pub map-flat : {A B C : Type 0} (g : B → C) (f : A → List B) (xs : List A) → map g (flat f xs) ≡ flat (λ x. map g (f x)) xs
 map-flat g f [] = refl
 map-flat g f (x ∷ xs) = map-append g (f x) (flat f xs) ∙ rw (map-flat g f xs)
+
+-- one that is kept or not
+pub kept-one : {A B : Type 0} (g : A → B) (f : A → Bool) (x : A) (b : Bool) (y : B) → f x ≡ b → g x ≡ y → map g (keep f (x ∷ [])) ≡ pick b (y ∷ []) []
+kept-one g f x true y e same = rw (e, same)
+kept-one g f x false y e same = rw e
+
+pub either-false : (b : Bool) → b ≡ pick b true false
+either-false true = refl
+either-false false = refl
