@@ -25,6 +25,9 @@ use Rattle.demand_told.proofs.ReadDemand.{demand-read}
 use Rattle.demand_held.proofs.Demand.{demand3}
 use Rattle.demand_carried.proofs.Demand.{demand-carried}
 use Rattle.demand_carried.proofs.Marked.{demand-marked}
+use Rattle.demand_issued.proofs.Tells.{demand-tells}
+use Rattle.demand_issued.proofs.Goes.{demand-issues}
+use Rattle.demand_issued.proofs.Replies.{demand-replies}
 use Rattle.demand_happens.proofs.Pumped.{pumping}
 use Rattle.demand_happens.proofs.Greeting.{greeting}
 use Rattle.demand_happens.proofs.Records.{sending}
@@ -51,6 +54,9 @@ demands =
       commanding = demand-commands;
       closing = demand-closing;
       beating = demand-beats;
+      issuing = demand-issues;
+      replying = demand-replies;
+      telling-records = demand-tells;
       keeping = demand3;
       carrying = demand-carried;
       marking = demand-marked;

@@ -85,7 +85,7 @@ module _ (m : Machine) (s : Sound m) (c : Call) (e : numberOf m c ≡ none) wher
               fits m (c .time) (c .act) e (b .numbers),
               lays m (s .primary) (c .time) (c .act) here .frame .next,
               all-next (laid m c .issues) (laid m c .leaves .pool) (lays m (s .primary) (c .time) (c .act) here .frame .good (s .good))
-              (rw (lays m (s .primary) (c .time) (c .act) here .frame .lost, s .counts) (lays m (s .primary) (c .time) (c .act) here .issued)),
+                  (rw (lays m (s .primary) (c .time) (c .act) here .frame .lost, s .counts) (lays m (s .primary) (c .time) (c .act) here .issued)),
             );
       })
 

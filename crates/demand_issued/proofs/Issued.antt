@@ -126,9 +126,9 @@ module _ (start : ℕ) (p : Past) (h : List Past) where
         → happens m n (ordered (p .call .time) j (alarmAfter t n start h)) .issues ≡ issued (m .setup) start up p h
     order-issued l j d typed no-subscribe named own =
         let told =
-            order-event (elementIs "aSp" "Acknowledge" j) (elementIs "aSp" "Suspend" j) (elementIs "aSp" "Resume" j)
-            (wasActive t n h) (wasAcknowledged t n h) (wasSuspended t n h) (lastEvent t n h) (eventTime t n start h) (p .call .time)
-            (one-word "aSp" "Acknowledge" "Suspend" refl j) (one-word "aSp" "Acknowledge" "Resume" refl j) (one-word "aSp" "Suspend" "Resume" refl j) in
+        order-event (elementIs "aSp" "Acknowledge" j) (elementIs "aSp" "Suspend" j) (elementIs "aSp" "Resume" j)
+        (wasActive t n h) (wasAcknowledged t n h) (wasSuspended t n h) (lastEvent t n h) (eventTime t n start h) (p .call .time)
+        (one-word "aSp" "Acknowledge" "Suspend" refl j) (one-word "aSp" "Acknowledge" "Resume" refl j) (one-word "aSp" "Suspend" "Resume" refl j) in
         alarm-issued (m .setup) up
         (event-issued m up n _ own (rw (so "Acknowledge", so "Suspend", so "Resume") (rw d (told .0))) (told .1) ∙ rw (d, typed, named))
         (rw (d, no-subscribe)) (rw d) (rw d) (rw d)

@@ -4,3 +4,4 @@ pub mod Lists
 pub mod Kept
 pub mod Issued
 pub mod Goes
+pub mod Replies
