@@ -45,9 +45,11 @@ use Rattle.demand_told.specs.ReadDemand.{DemandRead}
 use Rattle.demand_held.specs.Demand.{Demand3}
 use Rattle.demand_carried.specs.Demand.{DemandCarried}
 use Rattle.demand_carried.specs.Marked.{DemandMarked}
+use Rattle.demand_carried.specs.Again.{DemandAgain}
 use Rattle.demand_issued.specs.Tells.{DemandTells}
 use Rattle.demand_issued.specs.Issues.{DemandIssues}
 use Rattle.demand_issued.specs.Replies.{DemandReplies}
+use Rattle.demand_issued.specs.Pumps.{DemandPumps}
 use Rattle.demand_happens.specs.Pumped.{Pumping}
 use Rattle.demand_happens.specs.Greeting.{Greeting}
 use Rattle.demand_happens.specs.Records.{Sending}
@@ -79,9 +81,10 @@ pub record Demands : Type 0 where
   -- "Due in Up ..: Watchdog a period or more after the last"
   pub beating : DemandBeats
   -- "Each call issues, sends, answers .. what that document lays down and nothing else": which records, by the last input, order, value and
-  -- subscription of the history; what a reply tells; what a message that carries a record tells, by the record's sixteen bytes
+  -- subscription of the history; what a reply and a pump tell; what a message that carries a record tells, by the record's sixteen bytes
   pub issuing : DemandIssues
   pub replying : DemandReplies
+  pub pumped : DemandPumps
   pub telling-records : DemandTells
   -- 3. "a record issued for a supervisor stays held until that supervisor answers a message carrying it, or until a call issues a record after
   -- which at least 16 newer records for the same supervisor are held. None ever has more than 64 held."
@@ -94,6 +97,8 @@ pub record Demands : Type 0 where
   pub pumping : Pumping
   pub greeting : Greeting
   pub sending : Sending
+  -- and again in a new life of its link
+  pub again : DemandAgain
 
 -- RFC 8259: the readers that the machine cites read the grammar and nothing else, and each text has one meaning.
 pub record Grammar : Type 1 where

@@ -5,3 +5,4 @@ pub mod Goes
 pub mod Demand
 pub mod Marks
 pub mod Marked
+pub mod Again

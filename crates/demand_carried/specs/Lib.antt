@@ -2,3 +2,4 @@
 pub mod Carried
 pub mod Demand
 pub mod Marked
+pub mod Again

@@ -41,15 +41,13 @@ use Rattle.demand_held.proofs.Lists.{maybe-cases, Each, length-map}
 use Rattle.demand_held.proofs.Lists.Each.{no-more, one-more}
 use Rattle.demand_held.proofs.Steps.{laid, step-done, step-refused, done-number}
 use Rattle.demand_held.specs.Held.{issuedBy}
-use Rattle.demand_held.proofs.Demand.{run-sound}
 use Rattle.demand_told.proofs.Replies.{none-at, one-type}
 use Rattle.demand_told.proofs.Tests.{no-not}
 use Rattle.demand_told.proofs.Found.{alarm-there, alarm-known, none-of-any}
-use Rattle.demand_told.proofs.GreetedDemand.{by-number}
+use Rattle.demand_told.proofs.GreetedDemand.{same-setup, by-number}
 use Rattle.demand_carried.proofs.Marks.{life-cases}
 use Rattle.demand_issued.specs.History.{doing, isAck, took, did, alarmNamed, lastAggregated}
 use Rattle.demand_issued.specs.Issues.{issued, DemandIssues}
-use Rattle.demand_issued.proofs.Base.{same-setup}
 use Rattle.demand_issued.proofs.Kept.{Kept, KeptBy, Known, extended, ticks-on, became, stayed, aggregated-anew, aggregated-again, took-other, took-subscribe, took-unsubscribe, took-order, took-input, input-own, order-own}
 use Rattle.demand_issued.proofs.Issued.{value-same, nothing-issued, alarm-issued, input-issued, order-issued, tick-issued, value-issued, value-silent, subscribe-issued, aggregate-issued, aggregate-silent, other-issued}
 
@@ -343,7 +341,7 @@ issues-done : {s : Start} {h : List Past} {m : Machine} → Run s h m → (c : C
     → issuedBy m c ≡ issued (m .setup) (s .time) (λ l. isUp (lifeAt (step m c .1) l)) (past m c) h
 issues-done {s} {h} {m} r c e =
     rw (step-done m c e) (goes (s .time) h m (run-kept r) (c .time) (c .act) e .issues
-    ∙ ap (λ (u : Setup). issued u (s .time) (λ l. isUp (lifeAt (laid m c .leaves) l)) (record { call = c; gave = outcome (laid m c) }) h) (same-setup m (run-sound r) c e))
+    ∙ ap (λ (u : Setup). issued u (s .time) (λ l. isUp (lifeAt (laid m c .leaves) l)) (record { call = c; gave = outcome (laid m c) }) h) (rw (step-done m c e) at (same-setup r c)))
 
 pub demand-issues : DemandIssues
 demand-issues = record { issues = λ s h m r c d. issues-done r c (done-number m c d) }

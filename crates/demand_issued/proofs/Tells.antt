@@ -5,9 +5,12 @@ use mathlib.Core.Path.{_≡_, refl, sym, _∙_, ap, subst}
 use mathlib.Core.Bool.{Bool, true, false}
 use mathlib.Core.List.{List, [], _∷_, map}
 use mathlib.Core.Option.{Option, some, none}
+use lib.Dec.{leb}
 use lib.IntN.{ℤ}
 use lib.ListN.{length}
 use native.Mathlib.Omega.{arith}
+use borrow.Author.Tests.{leb-true}
+use Rattle.basis.proofs.Both.{both-true}
 use Rattle.basis.specs.Pick.{pick}
 use Rattle.basis.specs.Lists.{Among}
 use Rattle.number.specs.Signed.{Signed32, signedOf, wordOf}
@@ -38,7 +41,9 @@ use Rattle.machine.specs.Table.{componentText, alarmRow, statusRow}
 use Rattle.machine.specs.Pool.{isFor}
 use Rattle.machine.specs.Messages.{valueOf, recordMessage}
 use Rattle.machine.specs.Readings.{entryFor, statusEntry, recordBytes, reading}
+use Rattle.machine.specs.Table.Begins.{begins}
 use Rattle.machine.specs.Run.{Past, past, Run}
+use Rattle.machine.specs.Run.Run.{begun, next}
 use Rattle.demand_held.specs.Held.{IsHeld}
 use Rattle.demand_held.specs.Held.IsHeld.{held}
 use Rattle.demand_held.proofs.Lists.{Each, MapOf, among-mapped, among-kept}
@@ -48,12 +53,13 @@ use Rattle.demand_told.specs.Typed.{EachTyped}
 use Rattle.demand_told.specs.Typed.EachTyped.{one-more as typed-too}
 use Rattle.demand_told.proofs.Sane.{Tells, Tellable, Sane}
 use Rattle.demand_told.proofs.ReadDemand.{run-sane}
+use Rattle.demand_told.proofs.GreetedDemand.{same-setup}
+use Rattle.demand_happens.proofs.Limits.{run-limit}
 use Rattle.demand_carried.specs.Carried.{Carried, Unanswered}
 use Rattle.demand_carried.specs.Carried.Unanswered.{at-once, and-then}
 use Rattle.demand_carried.proofs.Lists.{each-among}
 use Rattle.demand_carried.proofs.Marks.{one-number}
 use Rattle.demand_issued.specs.Tells.{stateIn, valueIn, messageOf, DemandTells}
-use Rattle.demand_issued.proofs.Base.{Base, run-base}
 
 event-small : (e : Event) → eventNumber e < 3
 event-small Issue = omega arith
@@ -65,6 +71,11 @@ signed-of (recent h) = h
 
 accepted-same : {a b : Entry} → Accepted a ≡ Accepted b → a ≡ b
 accepted-same e = cc
+
+-- "link count [1 to 4]"
+run-links : {s : Start} {h : List Past} {m : Machine} → Run s h m → m .setup .links ≤ 4
+run-links {s} (begun (begins x e g)) = leb-true (s .links) 4 (both-true (leb (s .links) 4) _ (both-true (leb 1 (s .links)) _ g .1) .0)
+run-links (next c r) = rw (same-setup r c) (run-links r)
 
 -- ---- a held record's entry is valid
 module _ (t : Table) (link sequence : ℕ) (linked : link < 4) (numbered : sequence < 2 ^ 32) (alarms : length (t .alarms) ≤ 32) (rows : length (t .statuses) ≤ 32) where
@@ -147,41 +158,40 @@ module _ {s : Start} {h : List Past} {m : Machine} (run : Run s h m) (typed : Ea
   abbrev table : Table
   table = m .setup .table
 
-  of-held : (x : Held) → Among x (m .pool .held) → (e : Entry) → Reads (recordBytes x) (Accepted e) → (e .sequence ≡ x .sequence) × (messageOf table id e ≡ recordMessage table id (x .content))
-  of-held x a e r = (ap (λ (y : Entry). y .sequence) same ∙ sequence-of (x .content), ap (messageOf table id) same ∙ entry-message table (x .link) (x .sequence) linked numbered alarms rows id (x .content) told)
-    where
-      sane : Sane m
-      sane = run-sane run typed
+  -- a held record's entry is valid and says its message
+  module _ (x : Held) (a : Among x (m .pool .held)) where
+    abbrev entry : Entry
+    entry = entryFor (x .link) (x .sequence) (x .content)
 
-      told : Tellable table (x .content)
-      told = each-among (sane .held) a
+    told : Tellable table (x .content)
+    told = each-among (run-sane run typed .held) a
 
-      linked : x .link < 4
-      linked = omega (arith, each-among (run-sound run .good .links) a, run-sound run .counts, run-base run .links)
+    linked : x .link < 4
+    linked = omega (arith, each-among (run-sound run .good .links) a, run-sound run .counts, run-links run)
 
-      numbered : x .sequence < 2 ^ 32
-      numbered = omega (arith, held-below (m .pool) (run-sound run .good) (issuedFor (x .link) (x .content)) (x .sequence) (held a refl refl refl), run-base run .numbers)
+    numbered : x .sequence < 2 ^ 32
+    numbered = omega (arith, held-below (m .pool) (run-sound run .good) (issuedFor (x .link) (x .content)) (x .sequence) (held a refl refl refl), run-limit run)
 
-      alarms : length (table .alarms) ≤ 32
-      alarms = sane .table .most-alarms
+    pub held-entry : Valid entry × (messageOf table id entry ≡ recordMessage table id (x .content))
+    held-entry =
+        let alarms : length (table .alarms) ≤ 32 = run-sane run typed .table .most-alarms in
+        let rows : length (table .statuses) ≤ 32 = run-sane run typed .table .most-statuses in
+        (entry-valid table (x .link) (x .sequence) linked numbered alarms rows (x .content) told, entry-message table (x .link) (x .sequence) linked numbered alarms rows id (x .content) told)
 
-      rows : length (table .statuses) ≤ 32
-      rows = sane .table .most-statuses
+    of-held : (e : Entry) → Reads (recordBytes x) (Accepted e) → (e .sequence ≡ x .sequence) × (messageOf table id e ≡ recordMessage table id (x .content))
+    of-held e r = (ap (λ (y : Entry). y .sequence) same ∙ sequence-of (x .content), ap (messageOf table id) same ∙ held-entry .1)
+      where
+        same : e ≡ entry
+        same = accepted-same (round-trip (held-entry .0) r)
 
-      accepted : Accepted e ≡ Accepted (entryFor (x .link) (x .sequence) (x .content))
-      accepted = round-trip (entry-valid table (x .link) (x .sequence) linked numbered alarms rows (x .content) told) r
+        status-sequence : (i time : ℕ) (old : Bool) (o : Option ℤ) → statusEntry (x .link) i old time (x .sequence) o .sequence ≡ x .sequence
+        status-sequence i time old none = refl
+        status-sequence i time old (some v) = refl
 
-      same : e ≡ entryFor (x .link) (x .sequence) (x .content)
-      same = accepted-same accepted
-
-      status-sequence : (i time : ℕ) (old : Bool) (o : Option ℤ) → statusEntry (x .link) i old time (x .sequence) o .sequence ≡ x .sequence
-      status-sequence i time old none = refl
-      status-sequence i time old (some v) = refl
-
-      sequence-of : (y : Content) → entryFor (x .link) (x .sequence) y .sequence ≡ x .sequence
-      sequence-of (ofAlarm i a) = refl
-      sequence-of (ofStatus i v old time) = status-sequence i time old v
-      sequence-of (ofAggregated v time) = refl
+        sequence-of : (y : Content) → entryFor (x .link) (x .sequence) y .sequence ≡ x .sequence
+        sequence-of (ofAlarm i b) = refl
+        sequence-of (ofStatus i v old time) = status-sequence i time old v
+        sequence-of (ofAggregated v time) = refl
 
   shown : (l n : ℕ) (content : Content) (bytes : Bytes) (e : Entry) → IsHeld (issuedFor l content) n (m .pool .held) → Among bytes (reading m l .records) → Reads bytes (Accepted e) → e .sequence ≡ n
       → recordMessage table id content ≡ messageOf table id e

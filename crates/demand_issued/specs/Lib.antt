@@ -3,3 +3,4 @@ pub mod Tells
 pub mod History
 pub mod Issues
 pub mod Replies
+pub mod Pumps

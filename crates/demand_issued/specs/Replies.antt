@@ -41,6 +41,9 @@ module _ (u : Setup) (start : ℕ) (h : List Past) (now : ℕ) (id : Bytes) wher
         suspended = a .suspended;
       })
 
+  abbrev pub aggregatedReply : Message
+  aggregatedReply = aggregated id (componentText (u .table) 0) (changeTime start h) (lastAggregated h)
+
   -- "A status without a value so far: `s` null, `q` unknown. Otherwise .. recent"; of an unknown component undefined
   abbrev pub entryReply : Json → Json → Status
   entryReply j e =
@@ -51,7 +54,7 @@ module _ (u : Setup) (start : ℕ) (h : List Past) (now : ℕ) (id : Bytes) wher
   replyTo l j =
       if isType "Alarm" j and elementIs "aSp" "Request" j and isNumber l (u .primary) then
       maybe [] (λ i. alarmReply (alarmRow (u .table) i) (alarmAfter (u .table) i start h) ∷ []) (alarmNamed (u .table) j)
-      else if isType "AggregatedStatusRequest" j then aggregated id (componentText (u .table) 0) (changeTime start h) (lastAggregated h) ∷ []
+      else if isType "AggregatedStatusRequest" j then aggregatedReply ∷ []
       else if isType "StatusRequest" j then statuses Response id (stringOf "cId" j) now (map (entryReply j) (entriesOf "sS" j)) ∷ []
       else []
 
