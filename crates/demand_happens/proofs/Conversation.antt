@@ -35,7 +35,7 @@ use Rattle.demand_told.proofs.Checks.{good-version}
 use Rattle.demand_happens.specs.Greeting.{Greets}
 use Rattle.demand_happens.specs.Greeting.Ours.{acknowledged}
 use Rattle.demand_happens.specs.Greeting.Stage.{down}
-use Rattle.demand_happens.specs.Greeting.Meanwhile.{not-done, elsewhere}
+use Rattle.demand_happens.specs.Greeting.Meanwhile.{not-done, elsewhere, not-acknowledged}
 use Rattle.demand_happens.specs.Greeting.Greets.{
   greeted,
   meanwhile,
@@ -72,12 +72,15 @@ greets-example =
     (their-version {ours = acknowledged} refl (record { timely = timely _ (noon + 29999) refl refl; roomy = lit≤ tt; short = leb-true _ 4096 refl; reads = refl })
     (record { marked = refl; readable = refl; complete = refl; good = refl })
     (good-version _ _ refl refl refl refl)
+    (their-watchdog (record { timely = timely _ (noon + 30000) refl refl; roomy = lit≤ tt; short = leb-true _ 4096 refl; reads = refl })
+    (record { marked = refl; readable = refl; complete = refl; good = refl }) refl
+    (meanwhile (not-acknowledged {mId = text "CD613E30-d8f1-6adf-91b7-584a2265b1f5"} {reason = text "Not ready"} refl)
     (our-watchdog (timely _ (noon + 30000) refl refl) (lit≤ tt)
     (watchdog-acknowledged (record { timely = timely _ (noon + 30001) refl refl; roomy = lit≤ tt; short = leb-true _ 4096 refl; reads = refl }) refl
     (record { marked = refl; named = text "02020202-0202-4202-8202-020202020202"; names = refl; ours = refl })
     (their-watchdog (record { timely = timely _ (noon + 30002) refl refl; roomy = lit≤ tt; short = leb-true _ 4096 refl; reads = refl })
     (record { marked = refl; readable = refl; complete = refl; good = refl }) refl
-    greeted))))))))))
+    greeted))))))))))))
 
 pub up-example : isUp (lifeAt (leaves (started 2) conversation) 0) ≡ true
 unfolding rawOf charOf readChars decoded skipWs literal readScalar readName readStart readMark readEntry readItems readInside readValue noTwice allOnce once isPacket meaningOf hexDigit lowerHex identityText digits digitsBelow leapOf years months dayOf yearFrom monthFrom dateOf secondText milliText timeText readSecond readDecimals readRest readTime versionIn close carriedBy dueUp due isIgnored needs reasons intervals becomes connects closes ticks sends answers answered refuses carriedOut replying receives effectOf conditions step

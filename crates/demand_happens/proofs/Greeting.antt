@@ -176,8 +176,8 @@ module _ (m : Machine) (l t room : ℕ) (random bytes : Bytes) (j : Json) (arriv
         taken : lifeAt m l .versions .taken ≡ false
         taken = rw (k .versions)
 
-    watchdog-taken : IsTheirWatchdog j → (ow : Ours) → Talks acknowledged true ow false (lifeAt m l) → Talks acknowledged true ow true Then
-    watchdog-taken typed ow k =
+    watchdog-taken : IsTheirWatchdog j → (ow : Ours) (tw : Bool) → Talks acknowledged true ow tw (lifeAt m l) → Talks acknowledged true ow true Then
+    watchdog-taken typed ow tw k =
         rw (
           plain-life m l t room random bytes j arrives configured (k .connected) limit (watchdog-plain m l t j formed typed (k .connected) over)
               (watchdog-reason m l t j formed typed (k .connected) over) (watchdog-heard m l t j formed typed (k .connected) over)
@@ -220,9 +220,9 @@ module _ (s : Start) (l : ℕ) where
   greets-up r here k (watchdog-acknowledged {m} {id} {time} {theirs} {t} {room} {random} {bytes} {j} arrives typed says rest) =
       greets-up (next (at t (packet l random bytes room)) r) (links-stay r (at t (packet l random bytes room)) here)
       (watchdog-acked m l t room random bytes j arrives here (run-limit r) typed id time says theirs k) rest
-  greets-up r here k (their-watchdog {m} {ours} {t} {room} {random} {bytes} {j} arrives formed typed rest) =
+  greets-up r here k (their-watchdog {m} {ours} {theirs} {t} {room} {random} {bytes} {j} arrives formed typed rest) =
       greets-up (next (at t (packet l random bytes room)) r) (links-stay r (at t (packet l random bytes room)) here)
-      (watchdog-taken m l t room random bytes j arrives here (run-limit r) formed typed ours k) rest
+      (watchdog-taken m l t room random bytes j arrives here (run-limit r) formed typed ours theirs k) rest
 
 is-down : (k : Life) → isDown k ≡ true → k .connected ≡ false
 is-down k e = not-true (k .connected) e

@@ -23,7 +23,8 @@ abbrev pub pasts : List Past → Machine → List Call → List Past
 pasts h m [] = h
 pasts h m (c ∷ cs) = pasts (past m c ∷ h) (step m c .1) cs
 
--- a value before; a second connect, which is refused; a tick when the Version is awaited 29,999 ms; a connect of the other link
+-- a value before; a second connect, which is refused; a tick when the Version is awaited 29,999 ms; a connect of the other link; a request that is
+-- not ready; a Watchdog of theirs more
 abbrev pub conversation : List Call
 conversation =
     later 0 (statusValue 0 (pos 5))
@@ -34,6 +35,8 @@ conversation =
     ∷ later 29999 (gets "MessageAck\",\"oMId\":\"01010101-0101-4101-8101-010101010101\"}")
     ∷ later 29999 (connect 1)
     ∷ later 29999 (gets "Version\",\"mId\":\"CD613E30-d8f1-6adf-91b7-584a2265b1f5\",\"RSMP\":[{\"vers\":\"3.1.4\"},{\"vers\":\"3.2.0\"}],\"siteId\":[{\"sId\":\"BD1\"}],\"SXL\":\"1.0\"}")
+    ∷ later 30000 (gets "Watchdog\",\"mId\":\"CD613E30-d8f1-6adf-91b7-584a2265b1f5\",\"wTs\":\"2009-10-01T11:59:31.571Z\"}")
+    ∷ later 30000 (gets "AggregatedStatusRequest\",\"mId\":\"CD613E30-d8f1-6adf-91b7-584a2265b1f5\",\"cId\":\"C0\"}")
     ∷ later 30000 (pump 0 (random 2) 4096)
     ∷ later 30001 (gets "MessageAck\",\"oMId\":\"02020202-0202-4202-8202-020202020202\"}")
     ∷ later 30002 (gets "Watchdog\",\"mId\":\"CD613E30-d8f1-6adf-91b7-584a2265b1f5\",\"wTs\":\"2009-10-01T11:59:31.571Z\"}")

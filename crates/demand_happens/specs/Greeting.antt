@@ -4,13 +4,14 @@ use Prim.Native.Nat.{ℕ, _≤_, _<_}
 use mathlib.Core.Path.{_≡_}
 use mathlib.Core.Bool.{Bool, true, false}
 use mathlib.Core.List.{List, [], _∷_}
-use mathlib.Core.Option.{some}
+use mathlib.Core.Option.{some, none}
 use lib.ListN.{length}
 use Rattle.json_value.specs.Grammar.{Json}
+use Rattle.write_message.specs.Message.Message.{notAck}
 use Rattle.machine.specs.Words.{Bytes, isNumber, any}
 use Rattle.machine.specs.State.{Start, Machine, lifeAt, Call}
 use Rattle.machine.specs.State.Act.{connect, packet, tick, pump}
-use Rattle.machine.specs.State.Outcome.{refused}
+use Rattle.machine.specs.State.Outcome.{refused, done}
 use Rattle.machine.specs.Json.{readPacket, stringAt, elementIs, isType, isIdentityOf}
 use Rattle.machine.specs.Life.{isDown, isUp, isLate}
 use Rattle.machine.specs.Answers.{isReadable, needs, isMissing, isBad}
@@ -60,10 +61,12 @@ pub data Stage : Type 0 where
   down : Stage
   talking : (ourVersion : Ours) (theirVersion : Bool) (ourWatchdog : Ours) (theirWatchdog : Bool) → Stage
 
--- a call in between: refused, or of another link or none; no tick at which one is awaited on this link for 30,000 ms or longer
+-- a call in between: refused; or of another link or none, but no tick at which one is awaited on this link for 30,000 ms or longer; or any packet
+-- that is answered with MessageNotAck and closes nothing
 pub data Meanwhile (l : ℕ) (m : Machine) (c : Call) : Type 0 where
   not-done : {n : ℕ} → step m c .0 ≡ refused n → Meanwhile l m c
   elsewhere : isNumber l (linkOf (c .act)) ≡ false → (c .act ≡ tick → isLate (c .time) (lifeAt m l) ≡ false) → Meanwhile l m c
+  not-acknowledged : {mId reason : Bytes} → step m c .0 ≡ done (notAck mId reason ∷ []) [] none [] → Meanwhile l m c
 
 -- calls that follow the greeting of link l from a stage to its end
 pub data Greets (l : ℕ) : Machine → Stage → List Call → Type 0 where
@@ -89,10 +92,11 @@ pub data Greets (l : ℕ) : Machine → Stage → List Call → Type 0 where
       → Arrives m t bytes room j → isType "MessageAck" j ≡ true → Answers id j
       → Greets l (step m (at t (packet l random bytes room)) .1) (talking acknowledged true acknowledged theirs) cs
       → Greets l m (talking acknowledged true (sent id time) theirs) (at t (packet l random bytes room) ∷ cs)
-  their-watchdog : {m : Machine} {ours : Ours} {t room : ℕ} {random bytes : Bytes} {j : Json} {cs : List Call}
+  -- theirs may come again
+  their-watchdog : {m : Machine} {ours : Ours} {theirs : Bool} {t room : ℕ} {random bytes : Bytes} {j : Json} {cs : List Call}
       → Arrives m t bytes room j → WellFormed j → IsTheirWatchdog j
       → Greets l (step m (at t (packet l random bytes room)) .1) (talking acknowledged true ours true) cs
-      → Greets l m (talking acknowledged true ours false) (at t (packet l random bytes room) ∷ cs)
+      → Greets l m (talking acknowledged true ours theirs) (at t (packet l random bytes room) ∷ cs)
 
 pub record Greeting : Type 0 where
   pub comes-up : (s : Start) (h : List Past) (m : Machine) → Run s h m → (l : ℕ) → l < m .setup .links → isDown (lifeAt m l) ≡ true
