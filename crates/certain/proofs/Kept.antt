@@ -25,11 +25,11 @@ use Rattle.demand_told.proofs.ReadDemand.{demand-read}
 use Rattle.demand_held.proofs.Demand.{demand3}
 use Rattle.demand_carried.proofs.Demand.{demand-carried}
 use Rattle.demand_carried.proofs.Marked.{demand-marked}
-use Rattle.demand_carried.proofs.Again.{demand-again}
 use Rattle.demand_issued.proofs.Tells.{demand-tells}
 use Rattle.demand_issued.proofs.Goes.{demand-issues}
 use Rattle.demand_issued.proofs.Replies.{demand-replies}
 use Rattle.demand_issued.proofs.Pumps.{demand-pumps}
+use Rattle.demand_issued.proofs.Sends.{demand-sends}
 use Rattle.demand_happens.proofs.Pumped.{pumping}
 use Rattle.demand_happens.proofs.Greeting.{greeting}
 use Rattle.demand_happens.proofs.Records.{sending}
@@ -66,7 +66,7 @@ demands =
       pumping = pumping;
       greeting = greeting;
       sending = sending;
-      again = demand-again;
+      sending-among = demand-sends;
     }
 
 grammar : Grammar

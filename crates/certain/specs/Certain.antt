@@ -45,11 +45,11 @@ use Rattle.demand_told.specs.ReadDemand.{DemandRead}
 use Rattle.demand_held.specs.Demand.{Demand3}
 use Rattle.demand_carried.specs.Demand.{DemandCarried}
 use Rattle.demand_carried.specs.Marked.{DemandMarked}
-use Rattle.demand_carried.specs.Again.{DemandAgain}
 use Rattle.demand_issued.specs.Tells.{DemandTells}
 use Rattle.demand_issued.specs.Issues.{DemandIssues}
 use Rattle.demand_issued.specs.Replies.{DemandReplies}
 use Rattle.demand_issued.specs.Pumps.{DemandPumps}
+use Rattle.demand_issued.specs.Sends.{DemandSends}
 use Rattle.demand_happens.specs.Pumped.{Pumping}
 use Rattle.demand_happens.specs.Greeting.{Greeting}
 use Rattle.demand_happens.specs.Records.{Sending}
@@ -97,8 +97,8 @@ pub record Demands : Type 0 where
   pub pumping : Pumping
   pub greeting : Greeting
   pub sending : Sending
-  -- and again in a new life of its link
-  pub again : DemandAgain
+  -- with other calls in between, and again in a new life of its link
+  pub sending-among : DemandSends
 
 -- RFC 8259: the readers that the machine cites read the grammar and nothing else, and each text has one meaning.
 pub record Grammar : Type 1 where

@@ -5,4 +5,3 @@ pub mod Goes
 pub mod Demand
 pub mod Marks
 pub mod Marked
-pub mod Again

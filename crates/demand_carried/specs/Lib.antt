@@ -2,4 +2,3 @@
 pub mod Carried
 pub mod Demand
 pub mod Marked
-pub mod Again

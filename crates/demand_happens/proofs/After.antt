@@ -19,13 +19,13 @@ use Rattle.write_message.specs.Message.Message.{ack, notAck}
 use Rattle.machine.specs.Words.{Bytes, keep, any, changed, upTo}
 use Rattle.machine.specs.State.{Awaited, Life, fresh, Machine, lifeAt, withLife, Act, Call, Outcome, Effect, handing, only}
 use Rattle.machine.specs.State.Act.{connect, disconnect, packet, alarmInput, statusValue, aggregatedValue, tick, pump}
-use Rattle.machine.specs.State.Outcome.{done}
+use Rattle.machine.specs.State.Outcome.{refused, done}
 use Rattle.machine.specs.Json.{readPacket, stringOf, isType}
 use Rattle.machine.specs.Table.{lastSequence}
 use Rattle.machine.specs.Life.{answeredTo, isLate}
 use Rattle.machine.specs.Answers.{isAnswer, isIgnored, wantsReply, reasonOf, failsCheck}
 use Rattle.machine.specs.Effects.{closes, ownIdentity, answerCloses, acknowledges, settle, answered, refuses, carriedOut, replying, receives, effectOf}
-use Rattle.machine.specs.Step.{numberOf, outcome, step}
+use Rattle.machine.specs.Step.{numberOf, after, outcome, step}
 use Rattle.demand_held.proofs.Lists.{maybe-cases}
 use Rattle.demand_held.proofs.Steps.{step-done, step-refused}
 use Rattle.demand_told.specs.Demand.{messagesOf, isAnAnswer}
@@ -55,7 +55,7 @@ pub life-after : (m : Machine) (t : ℕ) (act : Act) (e : Effect) (l : ℕ) → 
 life-after m t act e l n f = rw (step-done m (at t act) n, f)
 
 -- ---- in between
-unkept : (f : ℕ → Bool) (l : ℕ) (xs : List ℕ) → f l ≡ false → any (eqb l) (keep f xs) ≡ false
+pub unkept : (f : ℕ → Bool) (l : ℕ) (xs : List ℕ) → f l ≡ false → any (eqb l) (keep f xs) ≡ false
 unkept f l [] e = refl
 unkept f l (x ∷ xs) e = go (f x) refl (unkept f l xs e)
   where
@@ -66,10 +66,10 @@ unkept f l (x ∷ xs) e = go (f x) refl (unkept f l xs e)
     go true g r = rw (other g) r
     go false g r = r
 
--- a call that answers with MessageNotAck and closes nothing leaves every life as it is
-module _ (m : Machine) (l : ℕ) (mId because : Bytes) where
+-- a call that answers with MessageNotAck and closes nothing leaves the machine as it is
+module _ (m : Machine) (t : ℕ) (mId because : Bytes) where
   abbrev Same : Effect → Type 0
-  Same e = e .messages ≡ notAck mId because ∷ [] → e .closed ≡ [] → lifeAt (e .leaves) l ≡ lifeAt m l
+  Same e = e .messages ≡ notAck mId because ∷ [] → e .closed ≡ [] → after t e ≡ after t (only m)
 
   quiet-same : (e : Effect) → e .messages ≡ [] → Same e
   quiet-same e q f g = absurd (let z : _≡_ {A = ℕ} 0 1 = cc in omega arith)
@@ -78,21 +78,21 @@ module _ (m : Machine) (l : ℕ) (mId because : Bytes) where
   unfolding refuses closes
   refuses-same k j reason = picked Same (failsCheck reason) _ _ (λ e f g. absurd (let z : _≡_ {A = ℕ} 0 1 = cc in omega arith)) (λ e f g. refl)
 
-  replying-same : (k t : ℕ) (id : Bytes) (j : Json) (x : Effect) → Same (replying k t id j x)
+  replying-same : (k : ℕ) (id : Bytes) (j : Json) (x : Effect) → Same (replying k t id j x)
   unfolding replying
-  replying-same k t id j x =
+  replying-same k id j x =
       picked Same (wantsReply (x .leaves) k j) _ _
       (λ e f g. absurd (let z : _≡_ {A = ℕ} 0 1 = cc in omega arith)) (λ e f g. absurd (let z : _≡_ {A = ℕ} 0 1 = cc in omega arith))
 
-  received-same : (k t : ℕ) (id : Bytes) (j : Json) → Same (receives k t id m j)
+  received-same : (k : ℕ) (id : Bytes) (j : Json) → Same (receives k t id m j)
   unfolding receives
-  received-same k t id j =
+  received-same k id j =
       picked Same (isAnswer j) _ _ (λ e. quiet-same (answered k j m) (quiet-answered k j m))
-      (λ e. maybe-cases Same _ _ (reasonOf m k j) (λ f. replying-same k t id j (carriedOut k t j m)) (λ reason f. refuses-same k j reason))
+      (λ e. maybe-cases Same _ _ (reasonOf m k j) (λ f. replying-same k id j (carriedOut k t j m)) (λ reason f. refuses-same k j reason))
 
-  packet-same : (k t room : ℕ) (random bytes : Bytes) → Same (effectOf m t (packet k random bytes room))
+  packet-same : (k room : ℕ) (random bytes : Bytes) → Same (effectOf m t (packet k random bytes room))
   unfolding effectOf
-  packet-same k t room random bytes = maybe-cases Same (only m) _ (readPacket bytes) (λ e. quiet-same (only m) refl) (λ j e. received-same k t (ownIdentity random) j)
+  packet-same k room random bytes = maybe-cases Same (only m) _ (readPacket bytes) (λ e. quiet-same (only m) refl) (λ j e. received-same k (ownIdentity random) j)
 
   no-answer : (c : Call) → ((k room : ℕ) (random bytes : Bytes) → c .act ≡ packet k random bytes room → ⊥) → step m c .0 ≡ done (notAck mId because ∷ []) [] none [] → ⊥
   no-answer c other d =
@@ -100,20 +100,20 @@ module _ (m : Machine) (l : ℕ) (mId because : Bytes) where
       let one : count isAnAnswer (messagesOf (step m c .0)) ≡ 1 = ap (λ (o : Outcome). count isAnAnswer (messagesOf o)) d in
       omega arith
 
-  refused-life : (t : ℕ) (act : Act) → step m (at t act) .0 ≡ done (notAck mId because ∷ []) [] none [] → lifeAt (step m (at t act) .1) l ≡ lifeAt m l
-  refused-life t (packet k random bytes room) d =
+  pub refused-step : (act : Act) → step m (at t act) .0 ≡ done (notAck mId because ∷ []) [] none [] → step m (at t act) .1 ≡ after t (only m)
+  refused-step (packet k random bytes room) d =
       by-number m (at t (packet k random bytes room))
       (λ e. rw (step-done m (at t (packet k random bytes room)) e)
-      (packet-same k t room random bytes
+      (packet-same k room random bytes
       (ap messagesOf (rw (step-done m (at t (packet k random bytes room)) e) at d)) (ap closedBy (rw (step-done m (at t (packet k random bytes room)) e) at d))))
-      (λ n e. rw (step-refused m (at t (packet k random bytes room)) n e))
-  refused-life t (connect k) d = absurd (no-answer (at t (connect k)) (λ a b c e f. let z : _≡_ {A = ℕ} 0 1 = cc in omega arith) d)
-  refused-life t (disconnect k) d = absurd (no-answer (at t (disconnect k)) (λ a b c e f. let z : _≡_ {A = ℕ} 0 1 = cc in omega arith) d)
-  refused-life t (alarmInput i active) d = absurd (no-answer (at t (alarmInput i active)) (λ a b c e f. let z : _≡_ {A = ℕ} 0 1 = cc in omega arith) d)
-  refused-life t (statusValue i v) d = absurd (no-answer (at t (statusValue i v)) (λ a b c e f. let z : _≡_ {A = ℕ} 0 1 = cc in omega arith) d)
-  refused-life t (aggregatedValue v) d = absurd (no-answer (at t (aggregatedValue v)) (λ a b c e f. let z : _≡_ {A = ℕ} 0 1 = cc in omega arith) d)
-  refused-life t tick d = absurd (no-answer (at t tick) (λ a b c e f. let z : _≡_ {A = ℕ} 0 1 = cc in omega arith) d)
-  refused-life t (pump k random room) d = absurd (no-answer (at t (pump k random room)) (λ a b c e f. let z : _≡_ {A = ℕ} 0 1 = cc in omega arith) d)
+      (λ n e. absurd (let g : refused n ≡ done (notAck mId because ∷ []) [] none [] = rw (step-refused m (at t (packet k random bytes room)) n e) at d in let z : _≡_ {A = ℕ} 0 1 = cc in omega arith))
+  refused-step (connect k) d = absurd (no-answer (at t (connect k)) (λ a b c e f. let z : _≡_ {A = ℕ} 0 1 = cc in omega arith) d)
+  refused-step (disconnect k) d = absurd (no-answer (at t (disconnect k)) (λ a b c e f. let z : _≡_ {A = ℕ} 0 1 = cc in omega arith) d)
+  refused-step (alarmInput i active) d = absurd (no-answer (at t (alarmInput i active)) (λ a b c e f. let z : _≡_ {A = ℕ} 0 1 = cc in omega arith) d)
+  refused-step (statusValue i v) d = absurd (no-answer (at t (statusValue i v)) (λ a b c e f. let z : _≡_ {A = ℕ} 0 1 = cc in omega arith) d)
+  refused-step (aggregatedValue v) d = absurd (no-answer (at t (aggregatedValue v)) (λ a b c e f. let z : _≡_ {A = ℕ} 0 1 = cc in omega arith) d)
+  refused-step tick d = absurd (no-answer (at t tick) (λ a b c e f. let z : _≡_ {A = ℕ} 0 1 = cc in omega arith) d)
+  refused-step (pump k random room) d = absurd (no-answer (at t (pump k random room)) (λ a b c e f. let z : _≡_ {A = ℕ} 0 1 = cc in omega arith) d)
 
 pub meanwhile-life : (l : ℕ) (m : Machine) (c : Call) → Meanwhile l m c → lifeAt (step m c .1) l ≡ lifeAt m l
 meanwhile-life l m c (not-done {n} r) =
@@ -124,7 +124,7 @@ meanwhile-life l m c (elsewhere o short) =
     by-number m c
     (λ e. rw (step-done m c e) (apart m (c .time) (c .act) l o (λ i. unkept (λ k. isLate (c .time) (lifeAt m k)) l (upTo (m .setup .links)) (short i)) .life))
     (λ n e. rw (step-refused m c n e))
-meanwhile-life l m c (not-acknowledged {mId} {reason} d) = refused-life m l mId reason (c .time) (c .act) d
+meanwhile-life l m c (not-acknowledged {mId} {reason} d) = rw (refused-step m (c .time) mId reason (c .act) d)
 
 -- ---- a packet that is taken
 module _ (m : Machine) (l t room : ℕ) (random bytes : Bytes) (j : Json) (arrives : Arrives m t bytes room j) (configured : l < m .setup .links) (connected : lifeAt m l .connected ≡ true) (limit : m .pool .next ≤ suc lastSequence) where

@@ -268,6 +268,19 @@ module _ (l : ℕ) (x : Held) where
         first : Oldest (λ (y : Held). both (eqb (y .link) l) (not (y .sent))) x (m .pool .held)
         first = oldest (λ (y : Held). both (eqb (y .link) l) (not (y .sent))) (m .pool .held) (run-sound r .good .rising) (w .among) (rw (eq-eqb (x .link) l (w .link), w .unsent))
 
+    -- a due Watchdog goes first
+    pub beaten : nextBeat m l ≤ t → Waits end × (ahead end l x ≤ ahead m l x)
+    beaten late = (
+      then-waits theWatchdog is tt (rw same (w .among)),
+      omega (arith, then-passes theWatchdog is tt, then-pass theWatchdog is tt, ap (count (isBefore l (x .sequence))) same),
+    )
+      where
+        is : due m l t ≡ some theWatchdog
+        is = due-beat m l t (w .up) late
+
+        same : end .pool .held ≡ m .pool .held
+        same = then-held theWatchdog is tt
+
 -- ---- round after round
 goes-out : {start : Start} (l : ℕ) (x : Held) {h : List Past} {m : Machine} {n : ℕ} {cs : List Call} → Run start h m → Waits l x m → Rounds l m n cs → ahead m l x ≤ n
     → GoesOut l x m cs
@@ -283,21 +296,8 @@ goes-out l x r w (round {m} {n} {t} {room} {s} {place} {random} {other} {bytes} 
     by (out f) g = f (at s (packet l other bytes place) ∷ cs)
     by (on v fewer) g = later (later (g v (omega (arith, few, fewer))))
 goes-out l x r w (beat {m} {n} {t} {room} {s} {place} {random} {other} {bytes} {j} {cs} is-round late rest) few =
-    later (later (goes-out l x (next (at s (packet l other bytes place)) (next (at t (pump l random room)) r))
-    (then-waits l x r w t room s place random other bytes j is-round theWatchdog is tt (rw same (w .among))) rest
-    (omega (
-      arith,
-      few,
-      then-passes l x r w t room s place random other bytes j is-round theWatchdog is tt,
-      then-pass l x r w t room s place random other bytes j is-round theWatchdog is tt,
-      ap (count (isBefore l (x .sequence))) same,
-    ))))
-  where
-    is : due m l t ≡ some theWatchdog
-    is = due-beat m l t (w .up) late
-
-    same : end l x r w t room s place random other bytes j is-round .pool .held ≡ m .pool .held
-    same = then-held l x r w t room s place random other bytes j is-round theWatchdog is tt
+    let b = beaten l x r w t room s place random other bytes j is-round late in
+    later (later (goes-out l x (next (at s (packet l other bytes place)) (next (at t (pump l random room)) r)) (b .0) rest (omega (arith, few, b .1))))
 
 pub sending : Sending
 sending =

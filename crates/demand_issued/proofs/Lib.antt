@@ -5,3 +5,5 @@ pub mod Issued
 pub mod Goes
 pub mod Replies
 pub mod Pumps
+pub mod Fewer
+pub mod Sends

@@ -4,3 +4,4 @@ pub mod History
 pub mod Issues
 pub mod Replies
 pub mod Pumps
+pub mod Sends
