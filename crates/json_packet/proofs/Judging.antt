@@ -2,11 +2,12 @@
 -- Assumes nothing.
 use Prim.Native.Nat.{ℕ, _+_, _<_}
 use mathlib.Core.Path.{_≡_, refl, sym, ap, _∙_}
-use mathlib.Core.Bool.{true, false}
+use mathlib.Core.Bool.{Bool, true, false}
 use mathlib.Core.List.{List, []}
 use lib.ListN.{length, getD, take, drop}
 use native.Mathlib.Omega.{arith}
 use borrow.Author.Tests.{eq-eqb}
+use Rattle.basis.proofs.Both.{untrue}
 use Rattle.json_character.proofs.Lists.{next}
 use Rattle.json_value.specs.Reader.{skipWs, readValue, insideOf}
 use Rattle.json_value.specs.Answers.{Skipped}
@@ -16,12 +17,13 @@ use Rattle.json_find.specs.Entries.{insideAt, entriesAt, firstNamed, memberAt}
 use Rattle.json_find.specs.Index.{textsAt}
 use Rattle.json_sure.specs.declared.Judged.{Judged}
 use Rattle.json_sure.specs.Judges.{Judges, placeOf}
-use Rattle.json_sure.specs.Lists.{entriesIn, Finds}
+use Rattle.json_sure.specs.declared.Listed.the-variants as Listed
+use Rattle.json_sure.specs.Lists.{allOrNone, entriesIn, Finds}
 use Rattle.json_packet.specs.Packet.{isPacket}
 use Rattle.json_packet.specs.Notes.{Notes}
 
 pub refused : (s places : List ℕ) → false ≡ isPacket s → Notes s places (record { packet = false; count = 0 })
-refused s places h = record { packet = h; within = omega arith; indexed = record { finds = λ g. absurd (g refl) } }
+refused s places h = record { packet = h; within = omega arith; indexed = record { finds = λ g. absurd (g refl) }; all = λ e. untrue e }
 
 module _ (s : List ℕ) (i : ℕ) (h : i < length s) (b : getD s i 0 ≡ 0x7b) where
   pub value-judged : {key : ℕ} (r : Judged) → Judges key s (i + 1) (insideOf 0x7d depth (drop (i + 1) s)) r → Judges key s i (readValue depth (drop i s)) r
@@ -32,8 +34,18 @@ module _ (s : List ℕ) (i : ℕ) (h : i < length s) (b : getD s i 0 ≡ 0x7b) w
     unfolding memberAt entriesAt insideAt
     of-object name = rw (ws .rest, next s i h, eq-eqb _ _ b)
 
-    pub taken : (places : List ℕ) (n : ℕ) → Finds s (i + 1) places n → true ≡ isPacket s → Notes s places (record { packet = true; count = n })
-    taken places n x p = record { packet = p; within = x .within; indexed = record { finds = found } }
+    its-entries : entriesAt 0x7b 0x7d (skipWs s) ≡ entriesIn (drop (i + 1) s)
+    unfolding entriesAt insideAt
+    its-entries = rw (ws .rest, next s i h, eq-eqb _ _ b)
+
+    pub taken : (places : List ℕ) (e : ℕ) (sure : Bool) (n : ℕ) → Finds s (i + 1) places (Listed.End e sure n) → true ≡ isPacket s → Notes s places (record { packet = true; count = n })
+    taken places e sure n x p =
+        record {
+          packet = p;
+          within = x .within;
+          indexed = record { finds = found };
+          all = λ _. x .all e sure n refl ∙ ap (λ (ts : List (List ℕ)). allOrNone (length ts) (length places)) (sym its-entries);
+        }
       where
         found : ¬ (take n places ≡ []) → (name : List ℕ) → firstNamed name (textsAt s (take n places)) ≡ memberAt name (skipWs s)
         found g name = x .finds (λ e. g (ap (λ (k : ℕ). take k places) e)) name ∙ sym (of-object name)

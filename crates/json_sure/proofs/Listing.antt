@@ -1,6 +1,6 @@
 -- The places of an object's entries, one entry after the other.
 -- Assumes nothing.
-use Prim.Native.Nat.{ℕ, _+_, _<_, _≤_}
+use Prim.Native.Nat.{ℕ, suc, _+_, _<_, _≤_}
 use mathlib.Core.Path.{_≡_, refl, sym, ap, subst, _∙_}
 use mathlib.Core.Bool.{Bool, true, false}
 use mathlib.Core.List.{List, [], _∷_, _++_}
@@ -9,7 +9,7 @@ use lib.ListN.{length, getD, take, drop, set}
 use lib.Seq.{take-suc-set}
 use native.Mathlib.Numerals.{add-one}
 use native.Mathlib.Omega.{arith}
-use borrow.Author.Tests.{ne-eqb, ltb-false}
+use borrow.Author.Tests.{eq-eqb, ne-eqb, ltb-false}
 use Rattle.basis.specs.Pick.{pick}
 use Rattle.json_character.proofs.Lists.{next}
 use Rattle.json_value.specs.declared.Mark.the-variants as Mark
@@ -20,6 +20,7 @@ use Rattle.json_find.specs.Kinds.{stringAt}
 use Rattle.json_find.specs.Entries.{goesOn, nextEntry, afterNext, entries, firstNamed}
 use Rattle.json_find.specs.Index.{textsAt}
 use Rattle.json_find.proofs.Walks.{unroll, step-comma, step-close, goes-on, ends-here}
+use Rattle.json_sure.specs.declared.Listed.the-variants as Listed
 use Rattle.json_sure.specs.Lists.{Placed, allOrNone, entriesIn, Finds}
 
 pub eight : ¬ (_≡_ {A = ℕ} 8 0)
@@ -74,12 +75,63 @@ module _ (s : List ℕ) (at i : ℕ) where
         ∙ ap (firstNamed name) (texts-last s (take n places) i ∙ ap (λ (ts : List (List ℕ)). textsAt s (take n places) ++ ts) (sym (ends-here s i 0x7d (step-close s i 0x7d e m))))
         ∙ x (omega arith) name
 
-pub finds-none : (s : List ℕ) (at : ℕ) (places : List ℕ) → Finds s at places 0
-finds-none s at places = record { within = omega arith; finds = λ h. absurd (h refl) }
+-- ---- how many there are
+same-count : (t u : List ℕ) → skipWs t ≡ skipWs u → length (entries 0x7d t) ≡ length (entries 0x7d u)
+unfolding nextEntry readEntry readStart
+same-count t u h =
+    ap length (unroll 0x7d t)
+    ∙ ap (λ (w : List ℕ). suc (length (afterNext (λ v. entries 0x7d v) (goesOn (afterStart 0x7d (λ v. readValue 7 v) (readName w)))))) h
+    ∙ sym (ap length (unroll 0x7d u))
 
-pub finds-all : (s : List ℕ) (at : ℕ) (places : List ℕ) (n : ℕ) → FoundIn s at places n → (r : ℕ) → r ≡ allOrNone n (length places) → Finds s at places r
-finds-all s at places n x r e = go (ltb (length places) n) refl
-  where
-    go : (b : Bool) → ltb (length places) n ≡ b → Finds s at places r
-    go true h = subst (Finds s at places) (sym (e ∙ ap (λ (b : Bool). pick b 0 n) h)) (finds-none s at places)
-    go false h = subst (Finds s at places) (sym (e ∙ ap (λ (b : Bool). pick b 0 n) h)) (record { within = ltb-false _ _ h; finds = λ _. x (ltb-false _ _ h) })
+-- the first n, and those from i on, are as many as the object has
+abbrev pub CountFrom : List ℕ → ℕ → ℕ → ℕ → Type 0
+CountFrom s at n i = n + length (entries 0x7d (drop i s)) ≡ length (entriesIn (drop at s))
+
+module _ (s : List ℕ) (at i : ℕ) where
+  pub count-first : Skipped s at i → i < length s → ¬ (getD s i 0 ≡ 0x7d) → CountFrom s at 0 i
+  count-first ws h e = omega (arith, same-count (drop i s) (drop at s) (ap skipWs (sym (ws .rest)) ∙ skip-twice (drop at s)), ap length opens)
+    where
+      opens : entriesIn (drop at s) ≡ entries 0x7d (drop at s)
+      opens = rw (ws .rest, next s i h, ne-eqb _ _ e)
+
+  module _ (n : ℕ) (x : CountFrom s at n i) (e : ℕ) where
+    pub count-next : Marks s i (lastOf (readEntry 0x7d (λ v. readValue 7 v) (drop i s))) (Mark.Comma e) → CountFrom s at (n + 1) e
+    count-next m = omega (arith, x, ap length (goes-on s i 0x7d e (step-comma s i 0x7d e m)))
+
+    pub count-last : Marks s i (lastOf (readEntry 0x7d (λ v. readValue 7 v) (drop i s))) (Mark.Close e) → n + 1 ≡ length (entriesIn (drop at s))
+    count-last m = omega (arith, x, ap length (ends-here s i 0x7d (step-close s i 0x7d e m)))
+
+  -- a closing brace at once
+  pub count-none : Skipped s at i → i < length s → getD s i 0 ≡ 0x7d → length (entriesIn (drop at s)) ≡ 0
+  count-none ws h e = rw (ws .rest, next s i h, eq-eqb _ _ e)
+
+-- ---- what is left
+pub finds-bad : (s : List ℕ) (at : ℕ) (places : List ℕ) → Finds s at places Listed.Bad
+finds-bad s at places = record { within = omega arith; finds = λ h. absurd (h refl); all = λ e q n h. absurd (let z : _≡_ {A = ℕ} 0 1 = cc in omega arith) }
+
+none-or-none : (b : Bool) → pick {A = ℕ} b 0 0 ≡ 0
+none-or-none true = refl
+none-or-none false = refl
+
+module _ (s : List ℕ) (at : ℕ) (places : List ℕ) (e : ℕ) (q : Bool) where
+  pub finds-empty : length (entriesIn (drop at s)) ≡ 0 → Finds s at places (Listed.End e q 0)
+  finds-empty x =
+      record {
+        within = omega arith;
+        finds = λ h. absurd (h refl);
+        all = λ f p n h. let same : 0 ≡ n = cc in sym same ∙ sym (rw x (none-or-none (ltb (length places) 0)));
+      }
+
+  pub finds-all : (n : ℕ) → FoundIn s at places n → n ≡ length (entriesIn (drop at s)) → (r : ℕ) → r ≡ allOrNone n (length places) → Finds s at places (Listed.End e q r)
+  finds-all n x count r is = go (ltb (length places) n) refl
+    where
+      counted : (f : ℕ) (p : Bool) (k : ℕ) → Listed.End e q r ≡ Listed.End f p k → k ≡ allOrNone (length (entriesIn (drop at s))) (length places)
+      counted f p k h = let same : r ≡ k = cc in sym same ∙ is ∙ ap (λ (z : ℕ). allOrNone z (length places)) count
+
+      go : (b : Bool) → ltb (length places) n ≡ b → Finds s at places (Listed.End e q r)
+      go true h =
+          let zero-noted : r ≡ 0 = is ∙ ap (λ (b : Bool). pick b 0 n) h in
+          record { within = omega (arith, zero-noted); finds = λ g. absurd (g zero-noted); all = counted }
+      go false h =
+          let all-noted : r ≡ n = is ∙ ap (λ (b : Bool). pick b 0 n) h in
+          record { within = omega (arith, all-noted, ltb-false (length places) n h); finds = λ g. rw all-noted (x (ltb-false (length places) n h)); all = counted }

@@ -2,6 +2,7 @@
 -- Assumes nothing.
 use Prim.Native.Nat.{ℕ, _+_, _<_, _≤_}
 use mathlib.Core.Path.{_≡_}
+use mathlib.Core.Bool.{Bool}
 use mathlib.Core.List.{List, [], _∷_, _++_}
 use lib.Dec.{ltb}
 use lib.ListN.{length, take, drop}
@@ -33,7 +34,9 @@ allOrNone n room = pick (ltb room n) 0 n
 abbrev pub entriesIn : List ℕ → List (List ℕ)
 entriesIn t = entriesOf 0x7d (unlessClosed 0x7d t (skipWs t))
 
--- where places are noted, every name is found among them as in the object whose brace ends at a place
-pub record Finds (s : List ℕ) (at : ℕ) (places : List ℕ) (n : ℕ) : Type 0 where
-  pub within : n ≤ length places
-  pub finds : ¬ (n ≡ 0) → (name : List ℕ) → firstNamed name (textsAt s (take n places)) ≡ firstNamed name (entriesIn (drop at s))
+-- where places are noted, every name is found among them as in the object whose brace ends at a place; and of an object that is one all its
+-- entries are noted, or none where there is no room for all
+pub record Finds (s : List ℕ) (at : ℕ) (places : List ℕ) (r : Listed) : Type 0 where
+  pub within : countOf r ≤ length places
+  pub finds : ¬ (countOf r ≡ 0) → (name : List ℕ) → firstNamed name (textsAt s (take (countOf r) places)) ≡ firstNamed name (entriesIn (drop at s))
+  pub all : (e : ℕ) (sure : Bool) (n : ℕ) → r ≡ Listed.End e sure n → n ≡ allOrNone (length (entriesIn (drop at s))) (length places)

@@ -12,7 +12,7 @@ ghost use Rattle.json_text.specs.Decoded.{decoded};
 ghost use Rattle.json_value.specs.Reader.{readEntry, readValue, insideOf};
 ghost use Rattle.json_sure.specs.Sure.{markRead, markAt, isNew, allOf, notedIn, noteOf};
 ghost use Rattle.json_sure.specs.Judges.{endedOf, followedOf, Judges, JudgesIn, EntersIn};
-ghost use Rattle.json_sure.specs.Lists.{judgedOf, countOf, Placed, allOrNone, Finds};
+ghost use Rattle.json_sure.specs.Lists.{judgedOf, Placed, allOrNone, Finds};
 
 const NO_MARK: u64 = 4294967296;
 
@@ -257,7 +257,7 @@ fn all_or_none(n: usize, room: usize) -> usize
 // What follows the opening brace of a packet's object, and the places where its entries begin. There is room for the marks of 820 names at
 // a time: a text of 4,096 bytes has no more.
 pub fn object(key: u32, s: &[u8], at: usize, places: &mut [usize]) -> Listed
-    ensures { λ r. ⌜ Judges key (now (s .entry)) at (insideOf 0x7d 8 (drop at (now (s .entry)))) (judgedOf r) × Finds (now (s .entry)) at (now (places .exit)) (countOf r) ⌝ }
+    ensures { λ r. ⌜ Judges key (now (s .entry)) at (insideOf 0x7d 8 (drop at (now (s .entry)))) (judgedOf r) × Finds (now (s .entry)) at (now (places .exit)) r ⌝ }
 {
     if s.len() <= 640 {
         return object_short(key, s, at, places);
@@ -268,14 +268,14 @@ pub fn object(key: u32, s: &[u8], at: usize, places: &mut [usize]) -> Listed
 
 // The same where there are fewer marks to clear: a text of 640 bytes has no more than 128 names.
 fn object_short(key: u32, s: &[u8], at: usize, places: &mut [usize]) -> Listed
-    ensures { λ r. ⌜ JudgesIn key 128 (now (s .entry)) at (insideOf 0x7d 8 (drop at (now (s .entry)))) (judgedOf r) × Finds (now (s .entry)) at (now (places .exit)) (countOf r) ⌝ }
+    ensures { λ r. ⌜ JudgesIn key 128 (now (s .entry)) at (insideOf 0x7d 8 (drop at (now (s .entry)))) (judgedOf r) × Finds (now (s .entry)) at (now (places .exit)) r ⌝ }
 {
     let mut marks = [0u32; 128];
     object_in(key, s, at, &mut marks, places)
 }
 
 fn object_in(key: u32, s: &[u8], at: usize, marks: &mut [u32], places: &mut [usize]) -> Listed
-    ensures { λ r. ⌜ JudgesIn key (length (now (marks .entry))) (now (s .entry)) at (insideOf 0x7d 8 (drop at (now (s .entry)))) (judgedOf r) × Finds (now (s .entry)) at (now (places .exit)) (countOf r) ⌝ }
+    ensures { λ r. ⌜ JudgesIn key (length (now (marks .entry))) (now (s .entry)) at (insideOf 0x7d 8 (drop at (now (s .entry)))) (judgedOf r) × Finds (now (s .entry)) at (now (places .exit)) r ⌝ }
 {
     let k = json_value::space(s, at);
     if s.len() <= k {

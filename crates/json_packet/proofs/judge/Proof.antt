@@ -56,7 +56,7 @@ returns-4 c =
     let brace = c .before .before .before .before .before .before .before .before .before .before .if2 .left in
     let o = rw (c .before .before .before .before .o .given .1) at (c .before .before .before .before .before .before .before .before .object .ensures) in
     let v = value-judged _ _ there brace _ (o .0) in
-    taken _ _ there brace ws _ _ (o .1) (by-marks _ _ ws there brace _ (v .place) _ (c .before .before .space2 .ensures) _ (c .before .if3 .left) (λ j u h. sym (v .says j u h) ∙ c .if4 .taken))
+    taken _ _ there brace ws _ _ _ _ (o .1) (by-marks _ _ ws there brace _ (v .place) _ (c .before .before .space2 .ensures) _ (c .before .if3 .left) (λ j u h. sym (v .says j u h) ∙ c .if4 .taken))
 
 names-once-requires : tie.Need-names-once-requires
 names-once-requires c κs = search needs
@@ -71,7 +71,7 @@ returns-5 c =
     let brace = c .before .before .before .before .before .before .before .before .before .before .before .before .if2 .left in
     let o = rw (c .before .before .before .before .before .before .o .given .1) at (c .before .before .before .before .before .before .before .before .before .before .object .ensures) in
     let v = value-judged _ _ there brace _ (o .0) in
-    taken _ _ there brace ws _ _ (o .1) (sym (c .if5 .taken) ∙ by-names _ _ ws there brace _ (v .place) _ (c .before .before .before .before .space2 .ensures) (c .before .before .before .if3 .left) _ (c .before .names-once .ensures))
+    taken _ _ there brace ws _ _ _ _ (o .1) (sym (c .if5 .taken) ∙ by-names _ _ ws there brace _ (v .place) _ (c .before .before .before .before .space2 .ensures) (c .before .before .before .if3 .left) _ (c .before .names-once .ensures))
 
 same-length-4 : tie.Need-same-length-4
 same-length-4 c = search needs

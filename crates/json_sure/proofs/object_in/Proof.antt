@@ -16,7 +16,7 @@ use Rattle.json_value.proofs.Nesting.{ItemsAt, items-last, items-neither, items
 use Rattle.json_sure.specs.Sure.{Noted, sureIn, notedIn}
 use Rattle.json_sure.proofs.Notes.{none-noted, enters-rest, noted-rest, sure-rest}
 use Rattle.json_sure.proofs.Saying.{ItemsSay, say-last, say-next, judged-past, judged-empty, inside-say}
-use Rattle.json_sure.proofs.Listing.{eight, FoundFrom, found-first, found-next, found-last, finds-none, finds-all}
+use Rattle.json_sure.proofs.Listing.{eight, FoundFrom, found-first, found-next, found-last, CountFrom, count-first, count-next, count-last, count-none, finds-bad, finds-empty, finds-all}
 use Rattle.json_sure.proofs.object_in.Statement.{statement}
 use Rattle.json_sure.proofs.object_in.Tie as tie
 
@@ -30,6 +30,7 @@ Inv-loop key s at marks₀ places₀ k i₀ n₀ seen₀ marks places i n seen =
     × (length places ≡ length places₀)
     × (n ≤ i)
     × FoundFrom s at places n i
+    × CountFrom s at n i
 
 abbrev μ-loop : tie.MeasureT-loop
 μ-loop key s at marks₀ places₀ k i₀ n₀ seen₀ marks places i n seen = length s - i
@@ -38,7 +39,7 @@ space-requires : tie.Need-space-requires Inv-loop μ-loop
 space-requires c κs = search needs
 
 returns : tie.Need-returns Inv-loop μ-loop
-returns c = (judged-past _ _ _ _ 8 _ _ eight (c .before .space .ensures) (c .if1 .taken), finds-none _ _ _)
+returns c = (judged-past _ _ _ _ 8 _ _ eight (c .before .space .ensures) (c .if1 .taken), finds-bad _ _ _)
 
 shared-slice-read-if2 : tie.Need-shared-slice-read-if2 Inv-loop μ-loop
 shared-slice-read-if2 c = search needs
@@ -47,14 +48,14 @@ add-t21 : tie.Need-add-t21 Inv-loop μ-loop
 add-t21 c = search needs
 
 returns-2 : tie.Need-returns-2 Inv-loop μ-loop
-returns-2 c = (judged-empty _ _ _ _ 8 _ _ eight (c .before .before .before .space .ensures) (c .before .before .if1 .left) (c .if2 .taken), finds-none _ _ _)
+returns-2 c = (judged-empty _ _ _ _ 8 _ _ eight (c .before .before .before .space .ensures) (c .before .before .if1 .left) (c .if2 .taken), finds-empty _ _ _ _ _ (count-none _ _ _ (c .before .before .before .space .ensures) (c .before .before .if1 .left) (c .if2 .taken)))
 
 loop-holds : tie.Need-loop-holds Inv-loop μ-loop
 loop-holds c =
     let a = c .before .before .before .before .before .before .before .args in
     let ws = c .before .before .before .space .ensures in
     let there = c .before .before .if1 .left in
-    (omega arith, refl, omega arith, inside-items _ _ 8 _ _ eight ws there (c .if2 .left), λ q y. inside-say _ _ _ _ 8 _ _ eight ws there (c .if2 .left) q (rw (none-noted (a .marks .now)) at y), refl, omega arith, found-first _ _ _ ws there (c .if2 .left) (a .places .now))
+    (omega arith, refl, omega arith, inside-items _ _ 8 _ _ eight ws there (c .if2 .left), λ q y. inside-say _ _ _ _ 8 _ _ eight ws there (c .if2 .left) q (rw (none-noted (a .marks .now)) at y), refl, omega arith, found-first _ _ _ ws there (c .if2 .left) (a .places .now), count-first _ _ _ ws there (c .if2 .left))
 
 mul-entry : tie.Need-mul-entry Inv-loop μ-loop
 mul-entry c = omega (arith, c .loop .inv .1, c .loop .inv .2)
@@ -107,7 +108,7 @@ returns-3 c =
     let f = enters-rest _ xs [] u (l .loop .inv .1) (l .loop .inv .2) e in
     let n = sure-rest _ xs (c .before .before .before .before .before .before .before .before .before .before .before .before .before .before .before .entry .last .1 .1 .1 .1 .1 .0) u (l .loop .inv .1) (l .loop .inv .2) (c .before .before .before .before .before .before .before .before .before .before .before .before .before .before .marks .given .1) m q (c .before .before .before .note .last .0) (c .before .before .before .note .result) (c .before .before .before .note .ensures) in (
       record { place = l .loop .inv .3 _ (items-last _ _ _ _ _ (e .place)); says = l .loop .inv .4 _ (subst (λ (z : Bool). ItemsSay (a .key) (length (a .marks .now)) (a .s .now) 0x7d 7 (l .loop .i) (notedIn xs u) z) n (say-last _ _ _ _ _ _ _ (notedIn xs u) (c .before .before .before .before .mark-at .ensures) _ _ f)) },
-      finds-all (a .s .now) (a .at) _ _ (found-last (a .s .now) (a .at) _ _ _ _ (c .before .before .before .before .before .before .before .before .before .before .places .given) (c .before .before .before .before .before .before .before .before .before .before .before .note-place .ensures) (l .loop .inv .7) _ (e .place)) _ (c .all-or-none .ensures),
+      finds-all (a .s .now) (a .at) _ _ _ _ (found-last (a .s .now) (a .at) _ _ _ _ (c .before .before .before .before .before .before .before .before .before .before .places .given) (c .before .before .before .before .before .before .before .before .before .before .before .note-place .ensures) (l .loop .inv .7) _ (e .place)) (count-last (a .s .now) (a .at) _ _ (l .loop .inv .8) _ (e .place)) _ (c .all-or-none .ensures),
     )
 
 enum-known-m-2 : tie.Need-enum-known-m-2 Inv-loop μ-loop
@@ -143,6 +144,7 @@ loop-again c =
       c .before .before .before .before .before .before .before .before .before .places .given ∙ l .loop .inv .5,
       omega (arith, comma-after (e .place), l .loop .inv .6),
       found-next (a .s .now) (a .at) _ _ _ _ (c .before .before .before .before .before .before .before .before .before .places .given) (c .before .before .before .before .before .before .before .before .before .before .note-place .ensures) (l .loop .inv .7) _ (e .place),
+      count-next (a .s .now) (a .at) _ _ (l .loop .inv .8) _ (e .place),
     )
 
 enum-told : tie.Need-enum-told Inv-loop μ-loop
@@ -158,7 +160,7 @@ returns-4 : tie.Need-returns-4 Inv-loop μ-loop
 returns-4 c =
     let l = c .before .before .before .before .before .before .before .before .before .before in
     let e = rw (c .enum-told .given .1) at (c .before .before .before .before .before .before .before .before .entry .ensures) in
-    (record { place = l .loop .inv .3 _ (items-neither _ _ _ _ (e .place)); says = λ j u h. tt }, finds-none _ _ _)
+    (record { place = l .loop .inv .3 _ (items-neither _ _ _ _ (e .place)); says = λ j u h. tt }, finds-bad _ _ _)
 
 pub object-in-spec : {M : Type 1} → statement M
 object-in-spec =
