@@ -57,6 +57,14 @@ def take(n, items):
     return items[:n]
 
 
+def drop(n, items):
+    return items[n:]
+
+
+def reverse(items):
+    return items[::-1]
+
+
 def getD(items, i, default):
     return items[i] if i < len(items) else default
 
@@ -81,6 +89,10 @@ def text(quoted):
 
 def digits(n):
     return text(str(n))
+
+
+def decimalOf(value):
+    return digits(signed(value))
 
 
 def says(n, digits_):
@@ -123,6 +135,14 @@ def readTime(characters):
         return ("No",)
     decimals = found[7] or ""
     return "Is", (at - EPOCH) // datetime.timedelta(seconds=1) * 1000 + int((decimals + "000")[:3]), len(decimals)
+
+
+def timeText(ms):
+    return text((EPOCH + datetime.timedelta(milliseconds=ms)).isoformat(timespec="milliseconds") + "Z")
+
+
+def momentText(ms):
+    return timeText(min(ms, lastTime()))
 
 
 # Packets.
@@ -183,6 +203,26 @@ def meaningOf(packet):
 
 def isPacket(packet):
     return meaningOf(packet) is not None
+
+
+def textOf(value):
+    """The text of a value: no spaces, strings as they are."""
+    kind = value[0]
+    if kind == "null":
+        return text("null")
+    if kind == "bool":
+        return text("true" if value[1] else "false")
+    if kind == "num":
+        return value[1]
+    if kind == "str":
+        return text('"') + value[1] + text('"')
+    parts, rest = [], value[1]
+    while len(rest) > 1:
+        named = text('"') + rest[1] + text('":') if kind == "obj" else ()
+        parts += [named + textOf(rest[-2]), text(",")]
+        rest = rest[-1]
+    brackets = "[]" if kind == "arr" else "{}"
+    return text(brackets[0]) + sum(parts[:-1], ()) + text(brackets[1])
 
 
 # The table's rows, a message's entries, a record's bytes.

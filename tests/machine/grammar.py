@@ -4,9 +4,10 @@ import re
 NAME = r'[^\s(){}.;,"]+'
 TOKEN = re.compile(rf'"(?:[^"\\]|\\.)*"|(?<=[\s()])\.{NAME}|[(){{}};,.]|{NAME}')
 QUOTED_OR_COMMENT = re.compile(r'"(?:[^"\\]|\\.)*"|(?:^|(?<=\s))--(?=\s|$).*')
-INFIX = {"∷": (67, "r"), "++": (65, "l"), "+": (65, "l"), "-": (65, "l"), "*": (70, "l"), "and": (30, "r"), "or": (20, "r"),
-         "when": (70, "r"), "is": (75, "n")}
-ENDS = {")", "}", ";", ",", "then", "else", "in", "=", None}
+INFIX = {"∷": (67, "r"), "++": (65, "l"), "+": (65, "l"), "-": (65, "l"), "*": (70, "l"), "/": (70, "l"), "%": (70, "l"),
+         "and": (30, "r"), "or": (20, "r"), "when": (70, "r"), "is": (75, "n"), "≡": (4, "n")}
+ENDS = {")", "}", ";", ",", "then", "else", "in", "=", "↦", "|", "]", None}
+FIELD = re.compile(r"\n  pub (\S+) : ")
 
 
 def without_comment(line):
@@ -78,6 +79,14 @@ class Reader:
                 names.append(self.next())
             self.next()
             return "function", names, self.expression()
+        if token == "elim":
+            self.next()
+            value, cases = self.atom(), []
+            while self.next() in "[|":
+                pattern = self.expression()
+                self.want("↦")
+                cases.append((pattern, self.expression()))
+            return "elim", value, cases
         return self.application()
 
     def implicit(self):
@@ -131,6 +140,17 @@ def clause(text):
     tokens.want("=")
     name, patterns = (head[1], []) if head[0] == "name" else (head[1][1], head[2])
     return name, patterns, tokens.whole()
+
+
+def claims(text):
+    """The fields of a record that are equations, by name: the two sides. `EachComputes` of a name is as many as its rows."""
+    _, *fields = FIELD.split(text)
+    for name, type_ in zip(fields[::2], fields[1::2]):
+        if type_.startswith("EachComputes "):
+            yield name, ("name", type_.split()[1]), None
+        elif "≡" in type_ and "→" not in type_:
+            _, _, left, right = Reader(type_).whole()
+            yield name, left, right
 
 
 def places(type_):

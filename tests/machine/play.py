@@ -5,7 +5,7 @@ from cases import ROOT
 from model import message, table
 
 from .given import NONE, signed
-from .translate import Translation
+from .translate import Translation, files_of
 
 SPECS = ROOT / "crates" / "machine" / "specs"
 QUALITY = {"Recent": "recent", "Old": "old", "Unknown": "unknown", "Undefined": "undefined"}
@@ -14,7 +14,7 @@ COMMAND = "Command"
 
 
 def played(lines, specs=SPECS):
-    machine = Translation(specs)
+    machine = Translation(files_of(specs))
     state = None
     for line in lines:
         name, *words = line.split()

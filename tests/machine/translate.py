@@ -4,18 +4,20 @@ import inspect
 import re
 
 from . import given
-from .grammar import clause, declarations, places
+from .grammar import claims, clause, declarations, places
 
 USE = re.compile(r"use (\S+)\.\{(.*)\}", re.S)
-OWN = re.compile(r"Rattle\.machine\.specs\.(\w+)")
+OWN = re.compile(r"Rattle·(\w+?)(?:·specs)?\.specs\.(\w+)")
 DEFINED = re.compile(r"use |pub |infix|abbrev|unfoldable")
+SIGNED = re.compile(r"(?:abbrev|unfoldable)(?: pub)? (\S+) : (.*)", re.S)
 
 
 class Module:
-    def __init__(self, text):
-        self.parts = declarations(text)
-        self.constructors, self.clauses, self.uses = {}, {}, {}
-        for part in self.parts:
+    """A file of specs/: constructors, the types of what is defined, the defining lines, what is used from where, and the claims."""
+
+    def __init__(self, crate, text):
+        self.crate, self.constructors, self.types, self.clauses, self.uses, self.claims = crate, {}, {}, {}, {}, []
+        for part in declarations(text):
             if part.startswith("pub data") and "→ Type" not in part:
                 for line in part.split("\n")[1:]:
                     names, type_ = line.split(" : ", 1)
@@ -23,18 +25,47 @@ class Module:
             elif part.startswith("use "):
                 path, names = USE.match(part).groups()
                 own = OWN.match(path)
-                self.uses.update(dict.fromkeys(re.findall(r"[^,\s]+", names), own and own[1]))
+                self.uses.update(dict.fromkeys(re.findall(r"[^,\s]+", names), own and own.groups()))
+            elif part.startswith("pub record"):
+                self.claims += claims(part)
+            elif SIGNED.match(part):
+                name, type_ = SIGNED.match(part).groups()
+                self.types[name] = " ".join(type_.split())
             elif not DEFINED.match(part):
                 name, patterns, body = clause(part)
                 self.clauses.setdefault(name, []).append((patterns, body))
 
 
-class Translation:
-    """The functions by module and name, translation["Step", "step"]; each is translated when it is first asked for."""
+def module_at(path):
+    return Module(path.parent.parent.name, path.read_text())
 
-    def __init__(self, folder):
-        self.modules = {path.stem: Module(path.read_text()) for path in folder.glob("*.antt") if path.stem != "Lib"}
-        self.space, self.wanted = {"given": given, "When": When}, []
+
+def files_of(specs):
+    return [path for path in specs.glob("*.antt") if path.stem != "Lib"]
+
+
+class Translation:
+    """The functions by module and name, translation["Step", "step"]; each is translated when it is first asked for. `seen` are the
+    definitions that were used since it was cleared."""
+
+    def __init__(self, files):
+        self.modules = {path.stem: module_at(path) for path in files}
+        self.seen, self.constants, self.wanted = set(), {}, []
+        self.space = {"given": given, "When": When, "seen": self.seen, "constant": self.constant}
+
+    def constant(self, function):
+        """Computed once, with what it uses."""
+
+        def value():
+            if function not in self.constants:
+                before = set(self.seen)
+                self.seen.clear()
+                self.constants[function] = function(), frozenset(self.seen)
+                self.seen.update(before)
+            self.seen.update(self.constants[function][1])
+            return self.constants[function][0]
+
+        return value
 
     def __getitem__(self, place):
         self.wanted.append(place)
@@ -44,10 +75,39 @@ class Translation:
                 exec(self.definition(module, name), self.space)
         return self.space[spelled(*place)]
 
+    def value(self, module, expression):
+        """What an expression of a module comes to."""
+        text = self.python(module, expression, set())
+        for place in list(self.wanted):
+            self[place]
+        return eval(text, self.space)
+
+    def change(self, modules):
+        """Puts other modules in place of theirs. Gives the definitions that differ, by module and name."""
+        self.before = {name: self.modules[name] for name in modules}
+        self.modules.update(modules)
+        self.changed = {(module, name) for module in modules for name in {**modules[module].clauses, **self.before[module].clauses}
+                        if modules[module].clauses.get(name) != self.before[module].clauses.get(name)}
+        self.forget()
+        return self.changed
+
+    def restore(self):
+        self.modules.update(self.before)
+        self.forget()
+
+    def forget(self):
+        for place in self.changed:
+            self.space.pop(spelled(*place), None)
+        self.constants.clear()
+        for module, name in self.changed:
+            if name in self.modules[module].clauses:
+                self[module, name]
+
     def definition(self, module, name):
         clauses = self.modules[module].clauses[name]
         arguments = [f"a{i}" for i in range(len(clauses[0][0]))]
-        lines = [f"def {spelled(module, name)}({', '.join(arguments)}):"]
+        lines = [] if arguments else ["@constant"]
+        lines += [f"def {spelled(module, name)}({', '.join(arguments)}):", f"    seen.add({(module, name)})"]
         for patterns, body in clauses:
             tests, binds = [], {}
             for argument, pattern in zip(arguments, patterns):
@@ -83,9 +143,14 @@ class Translation:
         if name in here.constructors:
             return here.constructors[name]
         if name in here.uses:
-            origin = here.uses[name]
+            origin = self.origin(here, name)
             return self.modules[origin].constructors.get(name) if origin else given.CONSTRUCTORS.get(name)
         return None
+
+    def origin(self, here, name):
+        """The module that a used name comes from, if it is one of these."""
+        crate, module = here.uses.get(name) or (None, None)
+        return module if module in self.modules and self.modules[module].crate == crate else None
 
     def python(self, module, expression, bound):
         kind = expression[0]
@@ -110,6 +175,8 @@ class Translation:
             return f"({', '.join(map(inside, expression[1]))})"
         if kind == "record":
             return "{" + ", ".join(f"{name!r}: {inside(value)}" for name, value in expression[1]) + "}"
+        if kind == "elim":
+            return self.chosen(module, inside(expression[1]), expression[2], bound)
         if kind == "operator":
             return self.operated(module, expression[1], inside(expression[2]), inside(expression[3]))
         function, arguments = expression[1], [inside(part) for part in expression[2]]
@@ -119,9 +186,19 @@ class Translation:
             return self.applied(module, function[1], arguments, bound)
         return inside(function) + "".join(f"({argument})" for argument in arguments)
 
+    def chosen(self, module, value, cases, bound):
+        text = "None"
+        for pattern, body in reversed(cases):
+            tests, binds = [], {}
+            self.match(module, pattern, "chosen", tests, binds)
+            names = "".join(f"lambda {local(name)}: " for name in binds)
+            result = f"({names}{self.python(module, body, bound | set(binds))})" + "".join(f"({part})" for part in binds.values())
+            text = f"{result} if {' and '.join(tests) or 'True'} else {text}"
+        return f"(lambda chosen: {text})({value})"
+
     def operated(self, module, operator, left, right):
-        if operator in ("and", "or", "+", "*"):
-            return f"({left} {operator} {right})"
+        if operator in ("and", "or", "+", "*", "/", "%"):
+            return f"({left} {operator.replace('/', '//')} {right})"
         if operator == "when":
             return f"When({left}, lambda: {right})"
         forms = {"∷": f"(({left},) + {right})", "++": f"({left} + {right})", "-": f"max(0, {left} - {right})"}
@@ -133,7 +210,7 @@ class Translation:
         if name in given.LITERALS:
             return repr(given.LITERALS[name])
         here = self.modules[module]
-        origin = module if name in here.clauses else here.uses.get(name)
+        origin = module if name in here.clauses else self.origin(here, name)
         if self.constructor(module, name) is not None:
             function, count = f"given.made({name!r})", self.constructor(module, name)
         elif origin:
