@@ -2,17 +2,19 @@
 
   claims.py --stored        every claim holds; and each edit of tests/tried/machine and of the gate's own for the machine
                             (crates/machine/must-fail), applied to the text, breaks one. Prints which
-  claims.py EDIT ..         the same for these files alone
+  claims.py --hold          the claims alone; of one that does not hold, both sides
+  claims.py EDIT ..         the claims and these edits
 
 Of an edit that a crate other than the machine must refuse (`refused by:`, tests/tried.py) no claim of the machine's own crate may
 break, since that crate is proved with it.
 """
 import itertools
 import multiprocessing
+import pathlib
 import sys
 
 from cases import ROOT
-from machine.translate import Module, Translation, files_of, spelled
+from machine.translate import Module, Translation, files_of
 from machines import deeply
 from tried import Edit, edits
 
@@ -30,8 +32,11 @@ class Claim:
     def __init__(self, crate, module, name, sides):
         self.crate, self.module, self.name, self.sides, self.used = crate, module, f"{module}.{name}", sides, set()
 
+    def values(self, translation):
+        return [translation.value(self.module, side) for side in self.sides]
+
     def holds(self, translation):
-        left, right = (translation.value(self.module, side) for side in self.sides)
+        left, right = self.values(translation)
         return left == right
 
 
@@ -72,8 +77,8 @@ class Claims:
 
     def broken_with(self, modules, first=False):
         """The claims that no longer hold with other modules, or the first of them; of the others nothing that they use has changed."""
-        changed = self.translation.change(modules)
         try:
+            changed = self.translation.change(modules)
             failing = (claim for claim in self.claims if claim.used & changed and not claim.holds(self.translation))
             return list(itertools.islice(failing, 1 if first else None))
         finally:
@@ -103,6 +108,17 @@ def verdict(edit):
     return f"{edit.name}: breaks {', '.join(names[:SHOWN])}{more}", True
 
 
+def shown(value):
+    """A value as text; a list of printable bytes in quotation marks."""
+    if isinstance(value, dict):
+        return "{" + ", ".join(f"{name} {shown(part)}" for name, part in value.items()) + "}"
+    if not isinstance(value, tuple):
+        return str(value)
+    if len(value) > 3 and all(isinstance(part, int) and (part == 12 or 32 <= part < 127) for part in value):
+        return repr("".join(map(chr, value)))
+    return f"({', '.join(map(shown, value))})"
+
+
 def judged(chosen):
     with multiprocessing.get_context("fork").Pool(2) as pool:
         verdicts = list(pool.imap(verdict, chosen, chunksize=1))
@@ -118,11 +134,13 @@ def main(words):
     ALL = Claims()
     failing = ALL.broken()
     for claim in failing:
-        print(f"{claim.name} does not hold")
+        print(f"{claim.name} does not hold:")
+        for value in claim.values(ALL.translation):
+            print(f"  {shown(value)}")
     if words == ["--stored"]:
-        chosen = [edit for edit in edits(ROOT / "tests" / "tried", f"{EDITED}/*.edit") + edits(CRATES, f"{EDITED}/must-fail/*.edit")]
+        chosen = edits(ROOT / "tests" / "tried", f"{EDITED}/*.edit") + edits(CRATES, f"{EDITED}/must-fail/*.edit")
     else:
-        chosen = [Edit(EDITED, (ROOT / word).resolve()) for word in words]
+        chosen = [Edit(EDITED, pathlib.Path(word)) for word in words if word != "--hold"]
     bad = judged(chosen) if not failing else 0
     print(f"claims: {len(ALL.claims) - len(failing)} hold, {len(failing)} do not; {len(chosen) - bad} edits each break one, {bad} do not")
     if failing or bad:

@@ -92,6 +92,7 @@ class Translation:
         return self.changed
 
     def restore(self):
+        self.wanted.clear()
         self.modules.update(self.before)
         self.forget()
 

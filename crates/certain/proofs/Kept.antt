@@ -18,6 +18,7 @@ use Rattle.json_packet.proofs.Kept.{kept as packets}
 use Rattle.table_whole.proofs.Whole.{same-table}
 use Rattle.write_laws.proofs.Kept.{kept as messages}
 use Rattle.machine.proofs.Computed.{marked, conversation}
+use Rattle.machine_cases.proofs.Cases.{cases}
 use Rattle.demand_refused.proofs.Demand.{demand1}
 use Rattle.demand_told.proofs.Demand.{demand2}
 use Rattle.demand_told.proofs.GreetedDemand.{demand-greeted}
@@ -93,4 +94,14 @@ codecs =
     }
 
 pub kept : Certain
-kept = record { equation = equation; demands = demands; grammar = grammar; codecs = codecs; marked = marked; conversation = conversation; weekly = weekly }
+kept =
+    record {
+      equation = equation;
+      demands = demands;
+      grammar = grammar;
+      codecs = codecs;
+      marked = marked;
+      conversation = conversation;
+      cases = cases;
+      weekly = weekly;
+    }

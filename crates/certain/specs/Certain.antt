@@ -38,6 +38,7 @@ use Rattle.table_whole.specs.Allowed.{Allowed}
 use Rattle.write_laws.specs.Claims.{Claims as Messages}
 use Rattle.machine.specs.Json.{isIdentity, isIdentityOf}
 use Rattle.machine.specs.Computed.{Marked, Conversation}
+use Rattle.machine_cases.specs.Cases.{Cases}
 use Rattle.demand_refused.specs.Demand.{Demand1}
 use Rattle.demand_told.specs.Demand.{Demand2}
 use Rattle.demand_told.specs.GreetedDemand.{DemandGreeted}
@@ -142,4 +143,6 @@ pub record Certain : Type 1 where
   -- the cases that document 01 marks, and a conversation from bytes to bytes
   pub marked : Marked
   pub conversation : Conversation
+  -- a case, or several, of each rule of document 01 and of requests 01, 02 and 05
+  pub cases : Cases
   pub weekly : Weekly

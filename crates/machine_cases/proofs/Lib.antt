@@ -1,0 +1,10 @@
+-- The cases, computed.
+pub mod CasesStart
+pub mod CasesNumbers
+pub mod CasesLife
+pub mod CasesAnswers
+pub mod CasesAlarms
+pub mod CasesSubscriptions
+pub mod CasesCommands
+pub mod CasesPool
+pub mod Cases

@@ -1,0 +1,11 @@
+-- Cases of document 01's rules: what the machine computes, in the document's order.
+pub mod Junction
+pub mod CasesStart
+pub mod CasesNumbers
+pub mod CasesLife
+pub mod CasesAnswers
+pub mod CasesAlarms
+pub mod CasesSubscriptions
+pub mod CasesCommands
+pub mod CasesPool
+pub mod Cases

@@ -1,0 +1,1 @@
+// Cases of document 01's rules, computed by the machine; there is no code here.
