@@ -1,5 +1,5 @@
 """What a reader must believe behind the statements of a crate: every file below specs/ that is reached by `use` from crates/CRATE/specs, with the lines that say
-something (no blanks, comments, imports or module lines).
+something (no blanks, comments, imports or module lines). Computed examples are counted apart, since the checker judges them: nobody need believe a wrong one.
 
   behind.py --stored        of certain: printed by the gate, which fails above LIMIT
   behind.py CRATE           of any crate, with each file's lines
@@ -12,6 +12,7 @@ CRATES = pathlib.Path(__file__).resolve().parent.parent / "crates"
 LIMIT = 3550
 COMMENT = re.compile(r"--[^\n]*")
 IMPORT = re.compile(r"^\s*(?:pub )?use [^{\n]*(?:\{[^}]*\})?", re.M)
+EXAMPLES = re.compile(r"machine_cases/specs/|/(?:Example|Computed|Spelled)\.antt$")
 CITED = re.compile(r"Rattle·([A-Za-z0-9_]+)(?:·specs)?\.((?:[A-Za-z0-9_'-]+\.?)+)")
 
 
@@ -45,20 +46,23 @@ def behind(crate):
 
 def summary(crate):
     found = behind(crate)
-    machine = sum(lines for file, lines in found.items() if file.parent.parent.name == "machine")
-    return f"behind {crate}: {sum(found.values())} lines in {len(found)} files, of which the machine {machine}", found
+    examples = {file: lines for file, lines in found.items() if EXAMPLES.search(file.as_posix())}
+    rules = {file: lines for file, lines in found.items() if file not in examples}
+    machine = sum(lines for file, lines in rules.items() if file.parent.parent.name == "machine")
+    said = f"{sum(rules.values())} lines in {len(rules)} files, of which the machine {machine}; computed examples {sum(examples.values())} in {len(examples)}"
+    return f"behind {crate}: {said}", found, sum(rules.values())
 
 
 def main():
     if len(sys.argv) != 2:
         sys.exit(__doc__)
     stored = sys.argv[1] == "--stored"
-    line, found = summary("certain" if stored else sys.argv[1])
+    line, found, rules = summary("certain" if stored else sys.argv[1])
     if not stored:
         for file in sorted(found, key=found.get, reverse=True):
             print(f"{found[file]:5} {file.relative_to(CRATES)}")
     print(line)
-    if stored and sum(found.values()) > LIMIT:
+    if stored and rules > LIMIT:
         sys.exit(f"more than {LIMIT} lines stand behind certain")
 
 

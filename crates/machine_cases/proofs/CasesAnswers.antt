@@ -95,6 +95,7 @@ known-hold =
       before-busy = refl;
       fifteen = refl;
       reply-awaited = refl;
+      ignored-before = refl;
       response = refl;
       undefined = refl;
       aggregated-reply = refl;

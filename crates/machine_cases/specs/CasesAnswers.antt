@@ -276,6 +276,9 @@ pub record Known : Type 0 where
   pub reply-awaited : each (awaitingOn 0 (awaits 15 noon noRecord ∷ []) running)
       (of "AggregatedStatusRequest" ",'cId':'K0'" ∷ of "AggregatedStatusRequest" ",'cId':'K1'" ∷ of "StatusUnsubscribe" ",'cId':'K0','sS':[]" ∷ [])
       ≡ gives 9 ∷ writes (refusesFor "Unknown component") ∷ writes acks ∷ []
+  -- .. behind 1
+  pub ignored-before : hears (awaitingOn 0 (awaits 15 noon noRecord ∷ []) running) (raw "{'mType':'rSMsg','type':'AggregatedStatusRequest','cId':'K0'}" ∷ [])
+      ≡ gives 1 ∷ []
   -- "A status without a value so far: `s` null, `q` unknown. Otherwise `s` is the shortest decimal text, `q` recent"; StatusResponse has the call's time
   pub response : hears (withStatus 2 (negsuc 2147483647) (withStatus 1 (pos 20) running))
       (ask 2 0 "StatusRequest" ",'cId':'K1','sS':[{'sCI':'S1','n':'level'},{'sCI':'S2','n':'flow'},{'sCI':'S1','n':'flow'}]" ∷ [])

@@ -16,12 +16,16 @@ use Rattle.machine.specs.Example.{noon, later, atNoon, random}
 use Rattle.machine.specs.Computed.{heard, hears, gives, writes, silent, tells}
 use Rattle.machine_cases.specs.Junction.{awaited, running, awaitingOn, numberedFrom, json, pumped, ask, order}
 
--- ---- a machine of which every condition that may hold, holds: status 0 subscribed by link 0, no sequence number left
-abbrev pub everySecond : Subscription
-everySecond = record { link = 0; status = 0; interval = 1; onChange = true; since = noon }
+-- status 0 subscribed by link 0, since that time
+abbrev pub everySecondSince : ℕ → Subscription
+everySecondSince since = record { link = 0; status = 0; interval = 1; onChange = true; since = since }
 
+abbrev pub everySecond : Subscription
+everySecond = everySecondSince noon
+
+-- ---- a machine of which every condition that may hold, holds: a record due by interval, no sequence number left
 abbrev pub ended : Machine
-ended = withSubscriptions (everySecond ∷ []) (numberedFrom 4294967296)
+ended = withSubscriptions (everySecondSince 0 ∷ []) (numberedFrom 4294967296)
 
 abbrev pub early : Act → Call
 early act = record { time = noon - 1; act = act }
