@@ -1,8 +1,8 @@
 """Small changes of the machine's rules that every computed claim keeps: where a rule still lacks a case. On demand, not in the gate.
 
   mutants.py [MODULE ..]     each definition of these modules (RULES where none is named): literals, truth values, connectives, branches,
-                             entries of lists, constructors, fields, variables and functions exchanged for others of their kind, one at
-                             a time, until a claim breaks. Prints those that break none
+                             entries of lists, constructors, fields, variables and functions exchanged for others of their kind, numbers
+                             for 0, 1 and 2, one at a time, until a claim breaks. Prints those that break none
 """
 import copy
 import multiprocessing
@@ -13,6 +13,7 @@ import sys
 import claims
 from machines import deeply
 
+BUILT_IN = {("Words", "if_then_else_"), ("Words", "_and_"), ("Words", "_or_")}
 RULES = ["Words", "State", "Json", "Table", "Life", "Answers", "Items", "Messages", "Pool", "Effects", "Step", "Readings"]
 FAMILIES = [("Issue", "Acknowledge", "Suspend"), ("Recent", "Old"), ("Unknown", "Undefined"), ("Response", "Update", "Command"),
             ("ourVersion", "ourWatchdog", "noRecord"), ("theVersion", "theWatchdog", "theAggregated"), ("true", "false"), ("leb", "ltb"),
@@ -21,7 +22,8 @@ FIELDS = [("active", "acknowledged", "suspended"), ("sent", "acknowledged", "tak
           ("link", "status", "interval", "since"), ("beat", "pass"), ("lowest", "highest"), ("site", "sxl"), ("code", "name"),
           ("alarms", "statuses", "commands"), ("aggregated", "aggregatedTime", "last"), ("component", "priority", "category"),
           ("link", "sequence"), ("period", "links", "first", "time")]
-SECONDS = 20
+NUMBERS = (0, 1, 2)
+SECONDS = 60
 
 
 def arguments(type_):
@@ -75,6 +77,7 @@ def replaced(kinds, module, bound, expression):
                 yield from (("name", other) for other in family if other != name)
         if name in bound:
             yield from (("name", other) for other in bound if other != name and bound[other] == bound[name])
+            yield from (("literal", number) for number in NUMBERS if bound[name] == "ℕ")
         else:
             yield from (("name", other) for other in kinds.siblings(module, name))
     elif kind == "if":
@@ -191,7 +194,7 @@ def listed(modules):
     for module in modules:
         found = ALL.translation.modules[module]
         for name, lines in found.clauses.items():
-            for place, (patterns, body) in enumerate(lines):
+            for place, (patterns, body) in enumerate(lines if (module, name) not in BUILT_IN else []):
                 bound = variables(found, name, patterns)
                 seen = [body]
                 for other in mutants(kinds, module, bound, body):

@@ -60,6 +60,7 @@ orders-hold =
       secondary-resumes = refl;
       answers = refl;
       other-code = refl;
+      other-state = refl;
     }
 
 pub requests-hold : Requests

@@ -105,6 +105,8 @@ carried-hold =
     record {
       carries-newest = refl;
       carries-others = refl;
+      carries-first = refl;
+      carries-on-link-0 = refl;
       carries-none = refl;
       nothing-held = refl;
       pass-marks = refl;

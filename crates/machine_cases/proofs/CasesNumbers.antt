@@ -41,6 +41,7 @@ numbers-hold =
       not-down = refl;
       down = refl;
       nothing-due = refl;
+      eight-there = refl;
       awaited-there = refl;
       numbers-end = refl;
       four-numbers-left = refl;

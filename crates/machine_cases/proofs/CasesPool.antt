@@ -32,6 +32,7 @@ losing-hold =
     record {
       issues = refl;
       sixty-four = refl;
+      sixty-four-of-0 = refl;
       last-place = refl;
       fifteen = refl;
       lowest-tie = refl;
@@ -74,6 +75,7 @@ records-hold =
       alarm-whole = refl;
       statuses = refl;
       aggregated = refl;
+      links = refl;
       alarm-sent = refl;
       recent-sent = refl;
       old-sent = refl;

@@ -92,6 +92,8 @@ pub record Orders : Type 0 where
   pub other-code : leaves running (ask 1 0 "Alarm" ",'cId':'K2','aCId':'A2','aSp':'Suspend'" ∷ ask 1 0 "Alarm" ",'cId':'K1','aCId':'A1','aSp':'Suspend'"
       ∷ []) .alarms
       ≡ alarmOf false true true Suspend (noon + 1) ∷ alarmOf false true false Issue noon ∷ alarmOf false true true Suspend (noon + 1) ∷ []
+  pub other-state : leaves (withAlarm 2 rung running) (ask 1 0 "Alarm" ",'cId':'K2','aCId':'A2','aSp':'Acknowledge'" ∷ []) .alarms
+      ≡ alarmOf false true false Issue noon ∷ alarmOf false true false Issue noon ∷ alarmOf true true false Acknowledge (noon + 1) ∷ []
 
 pub record Requests : Type 0 where
   -- "Request from the primary is answered, suspended or not, with states, last event and its time, carrying no record; from a secondary it is

@@ -10,13 +10,13 @@ use lib.IntN.{pos, negsuc}
 use lib.ListN.{replicate}
 use Rattle.basis.specs.Text.{text}
 use Rattle.machine.specs.Words.{Bytes, flat}
-use Rattle.machine.specs.State.{Life, lifeOf, exchange, Machine, withLife, withStatus, withAggregated, Call}
-use Rattle.machine.specs.State.Sent.{ourVersion, noRecord}
+use Rattle.machine.specs.State.{Machine, withLife, withStatus, withAggregated, Call}
+use Rattle.machine.specs.State.Sent.{noRecord}
 use Rattle.machine.specs.State.Act.{packet}
 use Rattle.machine.specs.Step.{leaves}
 use Rattle.machine.specs.Example.{noon, later, random}
 use Rattle.machine.specs.Computed.{Heard, heard, hears, gives, writes, silent, acks, refusesFor}
-use Rattle.machine_cases.specs.Junction.{awaits, awaited, running, awaitingOn, json, gets, ask, answer, order, replied}
+use Rattle.machine_cases.specs.Junction.{beating, awaits, awaited, running, awaitingOn, json, gets, ask, answer, order, replied}
 use Rattle.machine_cases.specs.CasesLife.{offering, beats}
 
 -- ---- what each of some packets comes to by itself, on a link at noon
@@ -276,6 +276,10 @@ pub record Known : Type 0 where
   pub reply-awaited : each (awaitingOn 0 (awaits 15 noon noRecord ∷ []) running)
       (of "AggregatedStatusRequest" ",'cId':'K0'" ∷ of "AggregatedStatusRequest" ",'cId':'K1'" ∷ of "StatusUnsubscribe" ",'cId':'K0','sS':[]" ∷ [])
       ≡ gives 9 ∷ writes (refusesFor "Unknown component") ∷ writes acks ∷ []
+  pub reply-to-primary : hears (awaitingOn 1 (awaits 15 noon noRecord ∷ []) running) (order 0 1 "Request" ∷ []) ≡ gives 9 ∷ []
+  pub reply-to-secondary : hears (withLife 1 beating (awaitingOn 0 (awaits 15 noon noRecord ∷ []) running)) (of "AggregatedStatusRequest" ",'cId':'K0'" ∷ [])
+      ≡ gives 9 ∷ []
+  pub awaited-of-link-1 : leaves running (ask 0 1 "AggregatedStatusRequest" ",'cId':'K0'" ∷ []) ≡ awaitingOn 1 (awaits 15 noon noRecord ∷ []) running
   -- .. behind 1
   pub ignored-before : hears (awaitingOn 0 (awaits 15 noon noRecord ∷ []) running) (raw "{'mType':'rSMsg','type':'AggregatedStatusRequest','cId':'K0'}" ∷ [])
       ≡ gives 1 ∷ []

@@ -5,14 +5,17 @@ use Prim.Native.String.{String}
 use mathlib.Core.Path.{_≡_}
 use mathlib.Core.List.{List, [], _∷_, _++_}
 use mathlib.Core.Option.{none}
-use lib.IntN.{pos, negsuc}
+use lib.IntN.{ℤ, pos, negsuc}
 use Rattle.basis.specs.Text.{text}
-use Rattle.machine.specs.State.{commandOf, Call}
+use Rattle.machine.specs.State.{Command, Call}
 use Rattle.machine.specs.State.Act.{packet}
 use Rattle.machine.specs.Example.{later, random}
 use Rattle.machine.specs.Computed.{heard, hears, writes, acks, refusesFor}
 use Rattle.machine_cases.specs.Junction.{running, json, typed, ask, asks, replied}
 use Rattle.machine_cases.specs.CasesAnswers.{each, refused}
+
+abbrev pub command : ℕ → ℤ → Command
+command number value = record { number = number; value = value }
 
 -- one entry of component K2, or of another, with a value
 abbrev pub boomOf : String → String → Call
@@ -32,7 +35,7 @@ pub record Commanding : Type 0 where
       ("K1','cTS':'2009-10-01T11:59:31.573Z','rvs':[" ∷ "{'cCI':'M2','n':'lamp','v':'3','age':'recent'},"
       ∷ "{'cCI':'M1','n':'lamp','v':'-9','age':'recent'}," ∷ "{'cCI':'M1','n':'boom','v':'9','age':'recent'},"
       ∷ "{'cCI':'M1','n':'lamp','v':'-3','age':'recent'}]}" ∷ []))
-      [] none (commandOf 3 (pos 3) ∷ commandOf 2 (negsuc 8) ∷ commandOf 1 (pos 9) ∷ commandOf 2 (negsuc 2) ∷ []) ∷ []
+      [] none (command 3 (pos 3) ∷ command 2 (negsuc 8) ∷ command 1 (pos 9) ∷ command 2 (negsuc 2) ∷ []) ∷ []
   -- "a value outside its range is "Bad value"", by one, below and above
   pub below-and-above : each running
       (boom "'-3'" ∷ boom "'6'" ∷ boomOf "K1" "'-1'" ∷ boomOf "K1" "'10'"

@@ -36,7 +36,7 @@ use Rattle.machine.specs.State.Sent.{ourVersion, ourWatchdog, noRecord, theReco
 use Rattle.machine.specs.State.Act.{connect, disconnect, aggregatedValue, alarmInput, tick}
 use Rattle.machine.specs.Life.{carriedBy}
 use Rattle.machine.specs.Step.{leaves}
-use Rattle.machine.specs.Example.{noon, later, atNoon, own}
+use Rattle.machine.specs.Example.{noon, later, atNoon, up}
 use Rattle.machine.specs.Computed.{Heard, heard, hears, gives, writes, silent, packet, acks, refusesFor, tells}
 use Rattle.machine_cases.specs.Junction.{
   begun,
@@ -193,11 +193,10 @@ pub record Checks : Type 0 where
 pub record Closings : Type 0 where
   -- "Closing (also disconnect) leaves the link Down, nothing awaited, no record of it marked sent; records and subscriptions stay"
   pub disconnects : hears running (atNoon (disconnect 1) ∷ []) ≡ heard 0 [] (1 ∷ []) none [] ∷ []
-  pub closes : leaves (withSubscriptions (everySecond ∷ []) (awaitingOn 0 (awaits 1 noon (theRecord 5) ∷ []) (awaitingOn 1 (awaits 1 noon (theRecord 6)
-      ∷ []) (holding (aggregatedHeld 0 5 true ∷ aggregatedHeld 1 6 true ∷ aggregatedHeld 0 7 false ∷ [])))))
-      (atNoon (disconnect 0) ∷ [])
-      ≡ withSubscriptions (everySecond ∷ []) (withLife 0 (fresh false) (awaitingOn 1 (awaits 1 noon (theRecord 6) ∷ []) (holding (aggregatedHeld 0 5 false
-      ∷ aggregatedHeld 1 6 true ∷ aggregatedHeld 0 7 false ∷ []))))
+  pub closes : leaves (withSubscriptions (everySecond ∷ []) (awaitingOn 0 (awaits 1 noon (theRecord 5) ∷ []) (awaitingOn 1 (awaits 1 noon (theRecord 6) ∷ [])
+      (holding (aggregatedHeld 0 5 true ∷ aggregatedHeld 1 6 true ∷ aggregatedHeld 1 7 false ∷ aggregatedHeld 1 8 true ∷ []))))) (atNoon (disconnect 1) ∷ [])
+      ≡ withSubscriptions (everySecond ∷ []) (awaitingOn 0 (awaits 1 noon (theRecord 5) ∷ []) (withLife 1 (fresh false)
+      (holding (aggregatedHeld 0 5 true ∷ aggregatedHeld 1 6 false ∷ aggregatedHeld 1 7 false ∷ aggregatedHeld 1 8 false ∷ []))))
   -- "Each link keeps .. identities .. with the time of sending; an answer removes its one", on its link; "Either answer settles a record"
   pub removes-one : leaves (awaitingOn 0 (awaits 1 noon (theRecord 6) ∷ []) (awaitingOn 1 (awaits 2 noon (theRecord 5) ∷ awaits 1 noon (theRecord 6)
       ∷ awaits 3 noon (theRecord 7) ∷ []) (holding (aggregatedHeld 1 5 true ∷ aggregatedHeld 1 6 true ∷ aggregatedHeld 1 7 true ∷ []))))
@@ -254,6 +253,9 @@ pub record Carried : Type 0 where
       ∷ heldAs 2 (ofAlarm 2 rung) 11 false ∷ [])) 1 2 ≡ theRecord 7
   pub carries-others : carriedBy (ringing ceased (alarmHeld 2 6 ceased ∷ [])) 1 2 ∷ carriedBy (ringing hushed (alarmHeld 2 6 hushed ∷ [])) 1 2 ∷ []
       ≡ theRecord 6 ∷ theRecord 6 ∷ []
+  pub carries-first : carriedBy (withAlarm 0 rung (holding (alarmHeld 0 6 rung ∷ alarmHeld 1 7 rung ∷ alarmHeld 2 8 rung ∷ []))) 1 0 ≡ theRecord 6
+  pub carries-on-link-0 : carriedBy (withHeld (heldAs 0 (ofAlarm 0 rung) 6 false ∷ heldAs 0 (ofAlarm 0 rung) 7 false ∷ []) (withAlarm 0 rung up)) 0 0
+      ≡ theRecord 7
   pub carries-none : map (λ a. carriedBy (behindOne a) 1 2)
       (alarmOf false false false Issue (noon + 1) ∷ alarmOf true true false Issue (noon + 1) ∷ alarmOf true false true Issue (noon + 1)
       ∷ alarmOf true false false Acknowledge (noon + 1) ∷ alarmOf true false false Issue noon ∷ [])

@@ -67,6 +67,7 @@ pub record Numbers : Type 0 where
   pub down : hears running (atNoon (disconnect 3) ∷ atNoon (packet 3 (random 1) (long 9) 4096) ∷ pumped 0 3 1 ∷ []) ≡ gives 6 ∷ gives 6 ∷ gives 6 ∷ []
   -- "7: pump, nothing due", before 8; "8: pump, something due, 8 or more identities awaited on the link", before 9
   pub nothing-due : hears (awaitingOn 0 (awaited 8) running) (pumped 0 0 0 ∷ atNoon (aggregatedValue 1) ∷ pumped 0 0 0 ∷ []) ≡ gives 7 ∷ silent ∷ gives 8 ∷ []
+  pub eight-there : hears (awaitingOn 1 (awaited 8) running) (atNoon (aggregatedValue 1) ∷ pumped 0 1 9 ∷ []) ≡ silent ∷ gives 8 ∷ []
   -- "9: the identity to be sent is already awaited on that link": on link 0, not on link 1
   pub awaited-there : hears (awaitingOn 0 (awaited 7) running) (atNoon (aggregatedValue 1) ∷ pumped 0 1 6 ∷ pumped 0 0 6 ∷ [])
       ≡ silent

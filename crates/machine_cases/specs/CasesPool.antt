@@ -40,9 +40,9 @@ valueIn (ofAlarm i a) = 0
 valueIn (ofStatus i v old t) = 0
 valueIn (ofAggregated v t) = v
 
--- a record of each kind, of link 1 and number 9
+-- a record of link 2 and number 9
 abbrev pub told : Content → Bytes
-told c = recordBytes (heldAs 1 c 9 false)
+told c = recordBytes (heldAs 2 c 9 false)
 
 abbrev pub keeping : Content → Machine
 keeping c = holding (heldAs 1 c 9 false ∷ [])
@@ -58,8 +58,9 @@ pub record Losing : Type 0 where
   pub issues : issueAll (issuedFor 2 (ofAggregated 3 noon) ∷ issuedFor 0 (ofAggregated 4 noon) ∷ []) (begun .pool)
       ≡ poolOf 7 (heldAs 2 (ofAggregated 3 noon) 5 false ∷ heldAs 0 (ofAggregated 4 noon) 6 false ∷ []) (0 ∷ 0 ∷ 0 ∷ 0 ∷ [])
   -- "if S holds 64, its oldest is lost", though places are free
-  pub sixty-four : poolWith 0 64 0 0 .lost ∷ poolWith 0 65 0 0 .lost ∷ heldOf (poolWith 1 65 0 0) ∷ take 2 (sequences (poolWith 1 65 0 0)) ∷ []
-      ≡ (0 ∷ 0 ∷ 0 ∷ 0 ∷ []) ∷ (0 ∷ 1 ∷ 0 ∷ 0 ∷ []) ∷ (1 ∷ 64 ∷ 0 ∷ 0 ∷ []) ∷ (5 ∷ 7 ∷ []) ∷ []
+  pub sixty-four : poolWith 0 0 64 0 .lost ∷ poolWith 0 0 65 0 .lost ∷ heldOf (poolWith 1 0 65 0) ∷ take 2 (sequences (poolWith 1 0 65 0)) ∷ []
+      ≡ (0 ∷ 0 ∷ 0 ∷ 0 ∷ []) ∷ (0 ∷ 0 ∷ 1 ∷ 0 ∷ []) ∷ (1 ∷ 0 ∷ 64 ∷ 0 ∷ []) ∷ (5 ∷ 7 ∷ []) ∷ []
+  pub sixty-four-of-0 : poolWith 65 0 0 0 .lost ≡ 1 ∷ 0 ∷ 0 ∷ 0 ∷ []
   -- "else a free place is taken": the 128th
   pub last-place : poolWith 60 60 7 1 .lost ∷ heldOf (poolWith 60 60 7 1) ∷ [] ≡ (0 ∷ 0 ∷ 0 ∷ 0 ∷ []) ∷ (60 ∷ 60 ∷ 7 ∷ 1 ∷ []) ∷ []
   -- "else, S below 16, the oldest of the link holding most is lost (ties: lowest link)"
@@ -116,19 +117,22 @@ pub record Records : Type 0 where
   pub alarms : map (λ a. take 2 (told (ofAlarm 2 a)))
       (alarmOf false false false Issue noon ∷ alarmOf true false false Issue noon ∷ alarmOf false true false Issue noon ∷ alarmOf false false true Issue noon
       ∷ alarmOf false false false Acknowledge noon ∷ alarmOf false false false Suspend noon ∷ [])
-      ≡ (0x40 ∷ 0x80 ∷ []) ∷ (0x40 ∷ 0x84 ∷ []) ∷ (0x40 ∷ 0x88 ∷ []) ∷ (0x40 ∷ 0x82 ∷ []) ∷ (0x40 ∷ 0x90 ∷ []) ∷ (0x40 ∷ 0xA0 ∷ []) ∷ []
+      ≡ (0x80 ∷ 0x80 ∷ []) ∷ (0x80 ∷ 0x84 ∷ []) ∷ (0x80 ∷ 0x88 ∷ []) ∷ (0x80 ∷ 0x82 ∷ []) ∷ (0x80 ∷ 0x90 ∷ []) ∷ (0x80 ∷ 0xA0 ∷ []) ∷ []
   pub alarm-whole : recordBytes (heldAs 3 (ofAlarm 31 (alarmOf true true true Suspend noon)) 4294967295 false)
       ≡ 0xC7 ∷ 0xEE ∷ 0x01 ∷ 0x24 ∷ 0x0F ∷ 0xF8 ∷ 0x26 ∷ 0xF3 ∷ 0x00 ∷ 0x00 ∷ 0x00 ∷ 0x00 ∷ 0xFF ∷ 0xFF ∷ 0xFF ∷ 0xFF ∷ []
   -- "of a status: known" and (request 02) "that it was issued while its link was not Up"; "two's complement (0 if unknown)"
-  pub statuses : map told (ofStatus 2 none false noon ∷ ofStatus 2 none true noon ∷ ofStatus 2 (some (pos 5)) false noon
-      ∷ ofStatus 2 (some (negsuc 2147483647)) true noon ∷ [])
-      ≡ (0x50 ∷ 0x80 ∷ 0x01 ∷ 0x24 ∷ 0x0F ∷ 0xF8 ∷ 0x26 ∷ 0xF3 ∷ 0x00 ∷ 0x00 ∷ 0x00 ∷ 0x00 ∷ 0x00 ∷ 0x00 ∷ 0x00 ∷ 0x09 ∷ [])
-      ∷ (0x50 ∷ 0x90 ∷ 0x01 ∷ 0x24 ∷ 0x0F ∷ 0xF8 ∷ 0x26 ∷ 0xF3 ∷ 0x00 ∷ 0x00 ∷ 0x00 ∷ 0x00 ∷ 0x00 ∷ 0x00 ∷ 0x00 ∷ 0x09 ∷ [])
-      ∷ (0x50 ∷ 0xA0 ∷ 0x01 ∷ 0x24 ∷ 0x0F ∷ 0xF8 ∷ 0x26 ∷ 0xF3 ∷ 0x00 ∷ 0x00 ∷ 0x00 ∷ 0x05 ∷ 0x00 ∷ 0x00 ∷ 0x00 ∷ 0x09 ∷ [])
-      ∷ (0x50 ∷ 0xB0 ∷ 0x01 ∷ 0x24 ∷ 0x0F ∷ 0xF8 ∷ 0x26 ∷ 0xF3 ∷ 0x80 ∷ 0x00 ∷ 0x00 ∷ 0x00 ∷ 0x00 ∷ 0x00 ∷ 0x00 ∷ 0x09 ∷ []) ∷ []
+  pub statuses : map told (ofStatus 3 none false noon ∷ ofStatus 3 none true noon ∷ ofStatus 3 (some (pos 5)) false noon
+      ∷ ofStatus 3 (some (negsuc 2147483647)) true noon ∷ [])
+      ≡ (0x90 ∷ 0xC0 ∷ 0x01 ∷ 0x24 ∷ 0x0F ∷ 0xF8 ∷ 0x26 ∷ 0xF3 ∷ 0x00 ∷ 0x00 ∷ 0x00 ∷ 0x00 ∷ 0x00 ∷ 0x00 ∷ 0x00 ∷ 0x09 ∷ [])
+      ∷ (0x90 ∷ 0xD0 ∷ 0x01 ∷ 0x24 ∷ 0x0F ∷ 0xF8 ∷ 0x26 ∷ 0xF3 ∷ 0x00 ∷ 0x00 ∷ 0x00 ∷ 0x00 ∷ 0x00 ∷ 0x00 ∷ 0x00 ∷ 0x09 ∷ [])
+      ∷ (0x90 ∷ 0xE0 ∷ 0x01 ∷ 0x24 ∷ 0x0F ∷ 0xF8 ∷ 0x26 ∷ 0xF3 ∷ 0x00 ∷ 0x00 ∷ 0x00 ∷ 0x05 ∷ 0x00 ∷ 0x00 ∷ 0x00 ∷ 0x09 ∷ [])
+      ∷ (0x90 ∷ 0xF0 ∷ 0x01 ∷ 0x24 ∷ 0x0F ∷ 0xF8 ∷ 0x26 ∷ 0xF3 ∷ 0x80 ∷ 0x00 ∷ 0x00 ∷ 0x00 ∷ 0x00 ∷ 0x00 ∷ 0x00 ∷ 0x09 ∷ []) ∷ []
   -- "aggregated the eight booleans, first highest, in the low byte"
   pub aggregated : told (ofAggregated 0xA1 noon)
-      ≡ 0x60 ∷ 0x00 ∷ 0x01 ∷ 0x24 ∷ 0x0F ∷ 0xF8 ∷ 0x26 ∷ 0xF3 ∷ 0x00 ∷ 0x00 ∷ 0x00 ∷ 0xA1 ∷ 0x00 ∷ 0x00 ∷ 0x00 ∷ 0x09 ∷ []
+      ≡ 0xA0 ∷ 0x00 ∷ 0x01 ∷ 0x24 ∷ 0x0F ∷ 0xF8 ∷ 0x26 ∷ 0xF3 ∷ 0x00 ∷ 0x00 ∷ 0x00 ∷ 0xA1 ∷ 0x00 ∷ 0x00 ∷ 0x00 ∷ 0x09 ∷ []
+  pub links : map (λ l. take 1 (recordBytes (heldAs l (ofStatus 3 none false noon) 9 false))) (0 ∷ 1 ∷ 3 ∷ [])
+      ++ map (λ l. take 1 (recordBytes (heldAs l (ofAggregated 1 noon) 9 false))) (0 ∷ 1 ∷ 3 ∷ [])
+      ≡ (0x10 ∷ []) ∷ (0x50 ∷ []) ∷ (0xD0 ∷ []) ∷ (0x20 ∷ []) ∷ (0x60 ∷ []) ∷ (0xE0 ∷ []) ∷ []
   -- what its message tells: "Messages carry their record's time"; sent nine milliseconds after
   pub alarm-sent : hears (keeping (ofAlarm 2 (alarmOf true false false Issue noon))) (pumped 9 1 1 ∷ [])
       ≡ writes (tells "Alarm" "01010101-0101-4101-8101-010101010101" (alarmSaid "K2','aCId':'A2"

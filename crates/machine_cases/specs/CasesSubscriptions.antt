@@ -48,12 +48,21 @@ pub record Subscribing : Type 0 where
   pub replaced : leaves (subscribedBy (subscription 0 1 5 true noon ∷ subscription 1 1 5 true noon ∷ subscription 0 3 5 true noon
       ∷ [])) (ask 1 0 "StatusSubscribe" ",'cId':'K1','sS':[{'sCI':'S1','n':'level','uRt':'9','sOc':false}]" ∷ []) .subscriptions
       ≡ subscription 1 1 5 true noon ∷ subscription 0 3 5 true noon ∷ subscription 0 1 9 false (noon + 1) ∷ []
+  pub by-link-1 : leaves (subscribedBy (subscription 1 2 5 true noon ∷ subscription 0 2 5 true noon ∷ [])) (ask 1 1 "StatusSubscribe"
+      ",'cId':'K1','sS':[{'sCI':'S1','n':'level','uRt':'3','sOc':false},{'sCI':'S1','n':'flow','uRt':'9','sOc':false}]" ∷ []) .subscriptions
+      ≡ subscription 0 2 5 true noon ∷ subscription 1 1 3 false (noon + 1) ∷ subscription 1 2 9 false (noon + 1) ∷ []
+  pub told-link-1 : leaves running (ask 1 1 "StatusSubscribe" ",'cId':'K1','sS':[{'sCI':'S1','n':'flow','uRt':'9','sOc':false}]" ∷ []) .pool .held
+      ≡ recent 5 1 2 none 1 ∷ []
   -- ending one, of this link and status alone; "Ending one that isn't there is acknowledged only"
   pub ended : leaves (subscribedBy four) (ask 1 1 "StatusUnsubscribe" ",'cId':'K1','sS':[{'sCI':'S1','n':'level'}]" ∷ []) .subscriptions
       ≡ subscription 3 1 5 true noon ∷ subscription 1 2 5 true noon ∷ subscription 0 1 7 true noon ∷ []
   pub two-ended : leaves (subscribedBy four) (ask 1 1 "StatusUnsubscribe" ",'cId':'K1','sS':[{'sCI':'S1','n':'level'},{'sCI':'S1','n':'flow'}]"
       ∷ []) .subscriptions
       ≡ subscription 3 1 5 true noon ∷ subscription 0 1 7 true noon ∷ []
+  pub two-of-link-0 : leaves (subscribedBy (subscription 1 1 5 true noon ∷ subscription 0 1 5 true noon ∷ subscription 1 2 5 true noon
+      ∷ subscription 0 2 5 true noon ∷ []))
+      (ask 1 0 "StatusUnsubscribe" ",'cId':'K1','sS':[{'sCI':'S1','n':'level'},{'sCI':'S1','n':'flow'}]" ∷ []) .subscriptions
+      ≡ subscription 1 1 5 true noon ∷ subscription 1 2 5 true noon ∷ []
   pub not-there : leaves (subscribedBy four) (ask 1 0 "StatusUnsubscribe" ",'cId':'K1','sS':[{'sCI':'S1','n':'flow'}]" ∷ []) .subscriptions ≡ four
   pub answers : hears (subscribedBy four) (ask 1 1 "StatusUnsubscribe" ",'cId':'K1','sS':[{'sCI':'S1','n':'level'}]"
       ∷ ask 1 1 "StatusUnsubscribe" ",'cId':'K1','sS':[{'sCI':'S1','n':'level'}]" ∷ [])
@@ -71,6 +80,8 @@ pub record Values : Type 0 where
   pub both-negative : leaves (withStatus 1 (negsuc 7) (subscribedBy four)) (later 1 (statusValue 1 (negsuc 8)) ∷ []) .pool .held
       ≡ recent 5 0 1 (some (negsuc 8)) 1 ∷ old 6 3 1 (some (negsuc 8)) 1 ∷ []
   pub same-value : leaves (withStatus 1 (pos 7) (subscribedBy four)) (later 1 (statusValue 1 (pos 7)) ∷ []) .pool .held ≡ []
+  pub same-as-another : leaves (withStatus 2 (pos 6) (withStatus 1 (pos 7) (subscribedBy four))) (later 1 (statusValue 2 (pos 7)) ∷ []) .pool .held
+      ≡ recent 5 1 2 (some (pos 7)) 1 ∷ []
   pub same-negative : leaves (withStatus 1 (negsuc 7) (subscribedBy four)) (later 1 (statusValue 1 (negsuc 7)) ∷ []) .pool .held ≡ []
   -- the value is kept, of this status, subscribed or not
   pub value-kept : leaves running (later 1 (statusValue 1 (pos 7)) ∷ later 2 (statusValue 3 (negsuc 0)) ∷ later 3 (statusValue 1 (pos 8))
