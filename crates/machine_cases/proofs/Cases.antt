@@ -8,6 +8,7 @@ use Rattle.machine_cases.proofs.CasesAlarms.{inputs-hold, orders-hold, 
 use Rattle.machine_cases.proofs.CasesSubscriptions.{subscribing-hold, values-hold, intervals-hold, apart-hold, aggregates-hold}
 use Rattle.machine_cases.proofs.CasesCommands.{commanding-hold}
 use Rattle.machine_cases.proofs.CasesPool.{losing-hold, others-hold, othersInTime-hold, settling-hold, records-hold}
+use Rattle.machine_cases.proofs.CasesLinks.{links-hold, linkLives-hold}
 use Rattle.machine_cases.specs.Cases.{Cases}
 
 pub cases : Cases
@@ -41,4 +42,6 @@ cases =
       others-in-time = othersInTime-hold;
       settling = settling-hold;
       records = records-hold;
+      links = links-hold;
+      link-lives = linkLives-hold;
     }

@@ -8,6 +8,7 @@ use Rattle.machine_cases.specs.CasesAlarms.{Inputs, Orders, Requests}
 use Rattle.machine_cases.specs.CasesSubscriptions.{Subscribing, Values, Intervals, Apart, Aggregates}
 use Rattle.machine_cases.specs.CasesCommands.{Commanding}
 use Rattle.machine_cases.specs.CasesPool.{Losing, Others, OthersInTime, Settling, Records}
+use Rattle.machine_cases.specs.CasesLinks.{Links, LinkLives}
 
 pub record Cases : Type 0 where
   -- "Site table", start
@@ -46,3 +47,6 @@ pub record Cases : Type 0 where
   pub others-in-time : OthersInTime
   pub settling : Settling
   pub records : Records
+  -- the same on every link
+  pub links : Links
+  pub link-lives : LinkLives
