@@ -43,6 +43,7 @@ links-hold =
       not-told = refl;
       no-hint = refl;
       none-told = refl;
+      primaries = refl;
     }
 
 pub linkLives-hold : LinkLives
@@ -59,4 +60,5 @@ linkLives-hold =
       ended = refl;
       alarms = refl;
       carried = refl;
+      carried-on = refl;
     }

@@ -5,15 +5,15 @@ use Prim.Native.String.{String}
 use mathlib.Core.Path.{_≡_}
 use mathlib.Core.Bool.{Bool, true, false}
 use mathlib.Core.List.{List, [], _∷_, _++_}
-use mathlib.Core.Option.{Option, some, none}
+use mathlib.Core.Option.{Option, none}
 use Rattle.machine.specs.Words.{Bytes}
-use Rattle.machine.specs.State.{Alarm, alarmOf, Held, heldAs, poolOf, Machine, machine, withAlarm, atEnd, Call}
+use Rattle.machine.specs.State.{Alarm, alarmOf, heldAs, poolOf, Machine, machine, withAlarm, atEnd, Call}
 use Rattle.machine.specs.State.Event.{Issue, Acknowledge, Suspend}
 use Rattle.machine.specs.State.Content.{ofAlarm}
 use Rattle.machine.specs.State.Act.{alarmInput}
 use Rattle.machine.specs.Step.{leaves}
 use Rattle.machine.specs.Example.{noon, later}
-use Rattle.machine.specs.Computed.{hears, writes, silent, acks, tells}
+use Rattle.machine.specs.Computed.{hears, writes, acks, tells}
 use Rattle.machine_cases.specs.Junction.{running, ask, order, alarmSaid}
 
 -- alarm 1, that of component K2 and code A1, as it is and at its last event's time
@@ -45,10 +45,10 @@ from l aSp = order 1 l aSp ∷ []
 abbrev pub told : String → String → Bytes
 told about states = acks ++ tells "Alarm" "0f0f0f0f-0f0f-4f0f-8f0f-0f0f0f0f0f0f" (alarmSaid about states)
 
--- no link is the primary
-abbrev pub unled : Machine → Machine
-unled m =
-    machine (record { table = m .setup .table; links = 4; primary = none; period = 2 })
+-- another link, or none, is the primary
+abbrev pub ledBy : Option ℕ → Machine → Machine
+ledBy primary m =
+    machine (record { table = m .setup .table; links = 4; primary = primary; period = 2 })
     (m .last) (m .alarms) (m .statuses) (m .aggregated) (m .aggregatedTime) (m .subscriptions) (m .lives) (m .pool)
 
 pub record Inputs : Type 0 where
@@ -62,7 +62,7 @@ pub record Inputs : Type 0 where
   -- "Issue events while suspended make no record but are the last event"
   pub ceases-suspended : leaves (with1 suspended) (given false) ≡ unrecorded (alarmOf false false true Issue (noon + 1))
   pub active-suspended : leaves (with1 (alarmOf false true true Suspend noon)) (given true) ≡ unrecorded (alarmOf true false true Issue (noon + 1))
-  pub no-primary : leaves (unled running) (given true) ≡ unled (unrecorded (alarmOf true false false Issue (noon + 1)))
+  pub no-primary : leaves (ledBy none running) (given true) ≡ ledBy none (unrecorded (alarmOf true false false Issue (noon + 1)))
   -- each alarm by itself
   pub others : leaves running (later 1 (alarmInput 2 true) ∷ later 2 (alarmInput 0 true) ∷ []) .alarms
       ≡ alarmOf true false false Issue (noon + 2) ∷ alarmOf false true false Issue noon ∷ alarmOf true false false Issue (noon + 1) ∷ []

@@ -3,9 +3,7 @@
 use Prim.Native.Nat.{ℕ, zero, suc, _+_}
 use Prim.Native.String.{String}
 use mathlib.Core.Path.{_≡_}
-use mathlib.Core.Bool.{Bool, true, false}
-use mathlib.Core.List.{List, [], _∷_, _++_, map}
-use mathlib.Core.Option.{Option, some, none}
+use mathlib.Core.List.{List, [], _∷_, _++_}
 use lib.IntN.{pos, negsuc}
 use lib.ListN.{replicate}
 use Rattle.basis.specs.Text.{text}
@@ -15,7 +13,7 @@ use Rattle.machine.specs.State.Sent.{noRecord}
 use Rattle.machine.specs.State.Act.{packet}
 use Rattle.machine.specs.Step.{leaves}
 use Rattle.machine.specs.Example.{noon, later, random}
-use Rattle.machine.specs.Computed.{Heard, heard, hears, gives, writes, silent, acks, refusesFor}
+use Rattle.machine.specs.Computed.{Heard, hears, gives, writes, silent, acks, refusesFor}
 use Rattle.machine_cases.specs.Junction.{beating, awaits, awaited, running, awaitingOn, json, gets, ask, answer, order, replied}
 use Rattle.machine_cases.specs.CasesLife.{offering, beats}
 

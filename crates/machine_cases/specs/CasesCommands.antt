@@ -3,14 +3,14 @@
 use Prim.Native.Nat.{ℕ}
 use Prim.Native.String.{String}
 use mathlib.Core.Path.{_≡_}
-use mathlib.Core.List.{List, [], _∷_, _++_}
+use mathlib.Core.List.{[], _∷_, _++_}
 use mathlib.Core.Option.{none}
 use lib.IntN.{ℤ, pos, negsuc}
 use Rattle.basis.specs.Text.{text}
 use Rattle.machine.specs.State.{Command, Call}
 use Rattle.machine.specs.State.Act.{packet}
 use Rattle.machine.specs.Example.{later, random}
-use Rattle.machine.specs.Computed.{heard, hears, writes, acks, refusesFor}
+use Rattle.machine.specs.Computed.{heard, hears, writes}
 use Rattle.machine_cases.specs.Junction.{running, json, typed, ask, asks, replied}
 use Rattle.machine_cases.specs.CasesAnswers.{each, refused}
 

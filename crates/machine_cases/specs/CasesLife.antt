@@ -5,7 +5,7 @@ use Prim.Native.String.{String}
 use mathlib.Core.Path.{_≡_}
 use mathlib.Core.Bool.{Bool, true, false}
 use mathlib.Core.List.{List, [], _∷_, _++_, map}
-use mathlib.Core.Option.{Option, some, none}
+use mathlib.Core.Option.{some, none}
 use Rattle.basis.specs.Text.{text}
 use Rattle.machine.specs.Words.{Bytes}
 use Rattle.machine.specs.State.{
@@ -31,13 +31,13 @@ use Rattle.machine.specs.State.{
   Call,
 }
 use Rattle.machine.specs.State.Event.{Issue, Acknowledge, Suspend}
-use Rattle.machine.specs.State.Content.{ofAlarm, ofStatus, ofAggregated}
+use Rattle.machine.specs.State.Content.{ofAlarm, ofAggregated}
 use Rattle.machine.specs.State.Sent.{ourVersion, ourWatchdog, noRecord, theRecord}
-use Rattle.machine.specs.State.Act.{connect, disconnect, aggregatedValue, alarmInput, tick}
+use Rattle.machine.specs.State.Act.{connect, disconnect, tick}
 use Rattle.machine.specs.Life.{carriedBy}
 use Rattle.machine.specs.Step.{leaves}
 use Rattle.machine.specs.Example.{noon, later, atNoon, up}
-use Rattle.machine.specs.Computed.{Heard, heard, hears, gives, writes, silent, packet, acks, refusesFor, tells}
+use Rattle.machine.specs.Computed.{Heard, heard, hears, gives, writes, silent, acks, refusesFor, tells}
 use Rattle.machine_cases.specs.Junction.{
   begun,
   upLife,

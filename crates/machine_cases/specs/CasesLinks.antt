@@ -3,9 +3,9 @@
 use Prim.Native.Nat.{ℕ, _+_}
 use mathlib.Core.Path.{_≡_}
 use mathlib.Core.Bool.{Bool, true, false}
-use mathlib.Core.List.{List, [], _∷_, _++_, map}
-use mathlib.Core.Option.{Option, some, none}
-use Rattle.machine.specs.State.{alarmOf, Subscription, Held, heldAs, Life, fresh, Machine, withAlarm, withLife, withHeld, withSubscriptions, lifeAt, Call}
+use mathlib.Core.List.{List, [], _∷_, map}
+use mathlib.Core.Option.{some, none}
+use Rattle.machine.specs.State.{alarmOf, Subscription, Held, heldAs, fresh, Machine, withAlarm, withLife, withHeld, withSubscriptions, lifeAt, Call}
 use Rattle.machine.specs.State.Event.{Issue}
 use Rattle.machine.specs.State.Content.{ofAlarm, ofAggregated}
 use Rattle.machine.specs.State.Sent.{ourVersion, theRecord}
@@ -14,10 +14,10 @@ use Rattle.machine.specs.Life.{carriedBy}
 use Rattle.machine.specs.Step.{leaves}
 use Rattle.machine.specs.Readings.{phaseOf}
 use Rattle.machine.specs.Example.{noon, later, atNoon, started}
-use Rattle.machine.specs.Computed.{Heard, hears, gives, writes, acks, refusesFor}
+use Rattle.machine.specs.Computed.{Heard, heard, hears, gives, writes, acks, refusesFor}
 use Rattle.machine_cases.specs.Junction.{upLife, awaits, awaited, running, awaitingOn, pumped, ask, answer, order, replied}
 use Rattle.machine_cases.specs.CasesLife.{versioned, agrees, beats, rung, alarmHeld, aggregatedTold}
-use Rattle.machine_cases.specs.CasesAlarms.{unled}
+use Rattle.machine_cases.specs.CasesAlarms.{ledBy}
 use Rattle.machine_cases.specs.CasesSubscriptions.{subscription}
 
 -- every link Up; a record of each, number 5 upwards
@@ -73,7 +73,10 @@ pub record Links : Type 0 where
   -- no secondary is told an alarm or gives a hint; nor the link that is not the primary where none is
   pub not-told : both everyUp (λ l. order 0 l "Request") ≡ same (writes acks)
   pub no-hint : both everyUp (λ l. beats 0 l) ≡ same (writes acks)
-  pub none-told : hears (unled running) (order 0 1 "Request" ∷ beats 0 1 ∷ []) ≡ writes acks ∷ writes acks ∷ []
+  pub none-told : hears (ledBy none running) (order 0 1 "Request" ∷ beats 0 1 ∷ []) ≡ writes acks ∷ writes acks ∷ []
+  -- .. but whichever link is the primary
+  pub primaries : map (λ p. hears (ledBy (some p) everyUp) (beats 0 p ∷ [])) (0 ∷ 2 ∷ 3 ∷ [])
+      ≡ (heard 0 acks [] (some noon) [] ∷ []) ∷ (heard 0 acks [] (some noon) [] ∷ []) ∷ (heard 0 acks [] (some noon) [] ∷ []) ∷ []
 
 pub record LinkLives : Type 0 where
   pub connects : map (λ l. phaseOf (leaves (withLife l (fresh false) running) (atNoon (connect l) ∷ [])) l) (0 ∷ 1 ∷ 2 ∷ []) ≡ 1 ∷ 1 ∷ 1 ∷ []
@@ -101,3 +104,6 @@ pub record LinkLives : Type 0 where
       ≡ (heldAs 1 (ofAlarm 0 (alarmOf true false false Issue (noon + 1))) 5 false ∷ [])
       ∷ (heldAs 1 (ofAlarm 2 (alarmOf true false false Issue (noon + 1))) 5 false ∷ []) ∷ []
   pub carried : carriedBy (withHeld (alarmHeld 1 6 rung ∷ alarmHeld 2 7 rung ∷ []) (withAlarm 1 rung running)) 1 1 ≡ theRecord 6
+  pub carried-on : map (λ l. carriedBy (withHeld (heldAs l (ofAlarm 1 rung) 6 false ∷ heldAs l (ofAlarm 1 rung) 7 false
+      ∷ []) (withAlarm 1 rung running)) l 1) (0 ∷ 2 ∷ 3 ∷ [])
+      ≡ theRecord 7 ∷ theRecord 7 ∷ theRecord 7 ∷ []

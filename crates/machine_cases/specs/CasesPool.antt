@@ -1,15 +1,14 @@
 -- Cases of document 01, "The pool": what is lost, settled, and a record's bytes and message. Claims; the proofs are `refl`.
 -- Assumes nothing.
-use Prim.Native.Nat.{ℕ, _+_}
-use Prim.Native.String.{String}
+use Prim.Native.Nat.{ℕ}
 use mathlib.Core.Path.{_≡_}
-use mathlib.Core.Bool.{Bool, true, false}
+use mathlib.Core.Bool.{true, false}
 use mathlib.Core.List.{List, [], _∷_, _++_, map}
-use mathlib.Core.Option.{Option, some, none}
+use mathlib.Core.Option.{some, none}
 use lib.IntN.{pos, negsuc}
 use lib.ListN.{take}
 use Rattle.machine.specs.Words.{Bytes, upTo}
-use Rattle.machine.specs.State.{Alarm, alarmOf, Issued, issuedFor, Content, Held, heldAs, Pool, poolOf, Machine, withSubscriptions, atEnd}
+use Rattle.machine.specs.State.{alarmOf, issuedFor, Content, Held, heldAs, Pool, poolOf, Machine, withSubscriptions, atEnd}
 use Rattle.machine.specs.State.Event.{Issue, Acknowledge, Suspend}
 use Rattle.machine.specs.State.Content.{ofAlarm, ofStatus, ofAggregated}
 use Rattle.machine.specs.State.Sent.{noRecord, theRecord}

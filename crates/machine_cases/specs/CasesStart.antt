@@ -1,13 +1,12 @@
 -- Cases of document 01, "Site table": Start's values at both sides of their limits, and what a start makes. Claims; the proofs are `refl`.
 -- Assumes nothing.
-use Prim.Native.Nat.{ℕ, _+_}
+use Prim.Native.Nat.{ℕ}
 use mathlib.Core.Path.{_≡_}
-use mathlib.Core.Bool.{Bool, true, false}
-use mathlib.Core.List.{List, [], _∷_, map}
+use mathlib.Core.Bool.{true, false}
+use mathlib.Core.List.{[], _∷_, map}
 use mathlib.Core.Option.{Option, some, none}
-use Rattle.answer.specs.Times.{lastTime}
 use Rattle.basis.specs.Text.{text}
-use Rattle.machine.specs.State.{alarmOf, Life, lifeOf, exchange, poolOf, Start, Machine, machine}
+use Rattle.machine.specs.State.{alarmOf, Life, lifeOf, exchange, poolOf, Start, machine}
 use Rattle.machine.specs.State.Event.{Issue}
 use Rattle.machine.specs.Table.{goodStart, componentOf, alarmNumber, statusNumber, commandNumber}
 use Rattle.machine.specs.Example.{noon}

@@ -1,13 +1,12 @@
 -- Cases of document 01, "Alarms and subscriptions": statuses, subscriptions, the aggregated value; request 02. Claims; the proofs are `refl`.
 -- Assumes nothing.
 use Prim.Native.Nat.{ℕ, _+_}
-use Prim.Native.String.{String}
 use mathlib.Core.Path.{_≡_}
 use mathlib.Core.Bool.{Bool, true, false}
-use mathlib.Core.List.{List, [], _∷_, _++_}
+use mathlib.Core.List.{List, [], _∷_}
 use mathlib.Core.Option.{Option, some, none}
 use lib.IntN.{ℤ, pos, negsuc}
-use Rattle.machine.specs.State.{alarmOf, Subscription, Held, heldAs, poolOf, Life, fresh, Machine, machine, withStatus, withSubscriptions, Call}
+use Rattle.machine.specs.State.{alarmOf, Subscription, Held, heldAs, poolOf, Life, fresh, Machine, machine, withStatus, withSubscriptions}
 use Rattle.machine.specs.State.Event.{Issue}
 use Rattle.machine.specs.State.Content.{ofStatus, ofAggregated}
 use Rattle.machine.specs.State.Act.{statusValue, aggregatedValue, tick, disconnect}

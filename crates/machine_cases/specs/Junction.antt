@@ -1,11 +1,11 @@
 -- A second site for the cases: four links, link 1 the primary, three alarms, four statuses and five commands on three components.
 -- Components, codes and names stand several times, so that only all of them together tell a row.
 -- Assumes nothing.
-use Prim.Native.Nat.{ℕ, _+_}
+use Prim.Native.Nat.{ℕ}
 use Prim.Native.String.{String}
-use mathlib.Core.Bool.{Bool, true, false}
+use mathlib.Core.Bool.{true, false}
 use mathlib.Core.List.{List, [], _∷_, _++_, map}
-use mathlib.Core.Option.{Option, some, none}
+use mathlib.Core.Option.{some, none}
 use lib.Dec.{eqb}
 use lib.IntN.{ℤ, pos, negsuc}
 use Rattle.basis.specs.Text.{text}
@@ -30,7 +30,6 @@ use Rattle.machine.specs.State.{
   withHeld,
   atEnd,
   lifeAt,
-  Act,
   Call,
 }
 use Rattle.machine.specs.State.Event.{Issue}
