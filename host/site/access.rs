@@ -1,20 +1,27 @@
 //! Who may use the control socket: its group and its mode.
 
+use crate::options::Options;
 use crate::system::give_to_group;
 use std::fs::{self, Permissions};
 use std::os::unix::fs::PermissionsExt;
 
 pub struct Access {
-    pub mode: u32,
-    pub group: Option<String>,
+    mode: u32,
+    /// By its number.
+    group: Option<u32>,
 }
 
 impl Access {
+    /// What the words ask for; a group that is not there is told before a socket is made.
+    pub fn of(options: &Options) -> Result<Access, String> {
+        let group = options.control_group.as_deref().map(number_of).transpose()?;
+        Ok(Access { mode: options.control_mode, group })
+    }
+
     /// The group first: with it nobody gets more than the mode says.
     pub fn give(&self, path: &str) -> Result<(), String> {
-        if let Some(group) = &self.group {
-            let number = number_of(group)?;
-            give_to_group(path, number).map_err(|error| format!("{}: cannot be given to the group {}: {}", path, group, error))?;
+        if let Some(group) = self.group {
+            give_to_group(path, group).map_err(|error| format!("{}: cannot be given to the group {}: {}", path, group, error))?;
         }
         fs::set_permissions(path, Permissions::from_mode(self.mode)).map_err(|error| format!("{}: {}", path, error))
     }

@@ -14,6 +14,11 @@ impl Drain {
     pub fn new(limit: Duration) -> Drain {
         Drain { limit, until: None }
     }
+
+    /// How long it still may take, while it waits: for who would end it otherwise.
+    pub fn left(&self) -> Option<Duration> {
+        self.until.map(|until| until.saturating_duration_since(Instant::now()))
+    }
 }
 
 impl Host {

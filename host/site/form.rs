@@ -1,7 +1,7 @@
 //! The form of the log's lines: for people, for journald, or a JSON object each.
 
 use crate::journal::{moment, Level};
-use crate::json::{or_null, quoted};
+use crate::json::{self, or_null, quoted};
 use std::os::unix::fs::MetadataExt;
 
 #[derive(Clone, Copy, Debug, PartialEq, Eq)]
@@ -57,7 +57,7 @@ impl Form {
 }
 
 fn object(time: u64, level: Level, link: Option<u32>, more: &str, text: &str) -> String {
-    let (time, level, link) = (quoted(&moment(time).replace(' ', "T")), quoted(level.name()), or_null(link));
+    let (time, level, link) = (json::time(time), quoted(level.name()), or_null(link));
     format!("{{\"time\":{},\"level\":{},\"link\":{},{}\"text\":{}}}", time, level, link, more, quoted(text))
 }
 

@@ -60,6 +60,8 @@ const VERSION: &str = match option_env!("RSMP_VERSION") {
 const TICK: Duration = Duration::from_millis(250);
 /// The log gets so long for its last lines.
 const LAST_LINES: Duration = Duration::from_secs(2);
+/// And the whole end, behind the wait for answers, so long.
+const AFTER_DRAIN: Duration = Duration::from_secs(15);
 /// So many events wait at most; then reading stands still, and with it the supervisor.
 const EVENTS: usize = 64;
 
@@ -155,8 +157,7 @@ fn run(options: Options) -> Result<(), String> {
     let (sender, events) = sync_channel(EVENTS);
     let socket = match &options.control {
         Some(path) => {
-            let access = Access { mode: options.control_mode, group: options.control_group.clone() };
-            let (listener, socket) = control::listen(path, &access)?;
+            let (listener, socket) = control::listen(path, &Access::of(&options)?)?;
             control::from_socket(listener, sender.clone());
             Some(socket)
         }
@@ -193,6 +194,9 @@ fn run(options: Options) -> Result<(), String> {
         }
         if signals::take_reopening() {
             host.reopen();
+        }
+        if let Some(left) = host.drain.left() {
+            notifier.ends_within(left + AFTER_DRAIN);
         }
         notifier.alive();
     }

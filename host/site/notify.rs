@@ -10,6 +10,7 @@ pub struct Notifier {
     to: Option<(UnixDatagram, Vec<u8>)>,
     every: Option<Duration>,
     last: Option<Instant>,
+    ends: bool,
 }
 
 impl Notifier {
@@ -22,12 +23,19 @@ impl Notifier {
         let number = |name: &str| std::env::var(name).ok()?.parse::<u64>().ok();
         let ours = number("WATCHDOG_PID").map_or(true, |pid| pid == u64::from(std::process::id()));
         let limit = number("WATCHDOG_USEC").filter(|_| ours);
-        Notifier { to, every: limit.map(|limit| Duration::from_micros(limit) / 3), last: None }
+        Notifier { to, every: limit.map(|limit| Duration::from_micros(limit) / 3), last: None, ends: false }
     }
 
     pub fn tell(&self, text: &str) {
         if let Some((socket, path)) = &self.to {
             let _ = send_datagram(socket, path, text.as_bytes());
+        }
+    }
+
+    /// Says once that the site ends, which may take longer than its manager would wait.
+    pub fn ends_within(&mut self, limit: Duration) {
+        if !std::mem::replace(&mut self.ends, true) {
+            self.tell(&format!("STOPPING=1\nEXTEND_TIMEOUT_USEC={}", limit.as_micros()));
         }
     }
 

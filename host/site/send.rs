@@ -1,7 +1,7 @@
 //! An order to a site that runs: `rsmp-site --send PATH ORDER..`.
 
 use crate::orders::line_of;
-use std::io::{BufRead, BufReader, Write};
+use std::io::{BufRead, BufReader, ErrorKind, Write};
 use std::net::Shutdown;
 use std::os::unix::net::UnixStream;
 use std::time::Duration;
@@ -12,23 +12,57 @@ const REPLY_WAIT: Duration = Duration::from_secs(60);
 /// What is to be printed of the reply, and whether the order was done. Lines that follow a reply are printed without it.
 pub fn send(path: &str, words: &[String]) -> Result<(String, bool), String> {
     let line = line_of(words)?;
-    let told = |error: std::io::Error| format!("{}: {}", path, error);
+    let told = |error: std::io::Error| match error.kind() {
+        ErrorKind::WouldBlock | ErrorKind::TimedOut => format!("{}: no reply for {} s", path, REPLY_WAIT.as_secs()),
+        _ => format!("{}: {}", path, error),
+    };
     let mut stream = UnixStream::connect(path).map_err(told)?;
     stream.set_read_timeout(Some(REPLY_WAIT)).map_err(told)?;
-    writeln!(stream, "{}", line).map_err(told)?;
-    stream.shutdown(Shutdown::Write).map_err(told)?;
-    let mut lines = BufReader::new(stream).lines();
-    let first = lines.next().ok_or_else(|| format!("{}: the site has not answered", path))?.map_err(told)?;
-    let mut more = String::new();
-    for line in lines {
-        more.push_str(&line.map_err(told)?);
-        more.push('\n');
+    // One that takes no more connections says so without reading, and is gone when we write.
+    let given = writeln!(stream, "{}", line).and_then(|()| stream.shutdown(Shutdown::Write));
+    let lines = BufReader::new(stream).lines().collect::<Result<Vec<_>, _>>().map_err(told)?;
+    match (lines.split_first(), given) {
+        (Some((reply, more)), _) => told_of(reply, more).ok_or_else(|| format!("{}: the reply breaks off: {}", path, reply)),
+        (None, Err(error)) => Err(told(error)),
+        (None, Ok(())) => Err(format!("{}: the site has not replied", path)),
     }
-    let done = first.starts_with("done");
-    Ok((if more.is_empty() { first + "\n" } else { more }, done))
+}
+
+/// None where lines are missing.
+fn told_of(reply: &str, more: &[String]) -> Option<(String, bool)> {
+    let done = reply.starts_with("done");
+    match following(reply) {
+        None => Some((format!("{}\n", reply), done)),
+        Some(count) if count == more.len() => Some((more.join("\n") + "\n", done)),
+        Some(_) => None,
+    }
 }
 
 /// A reply with lines that follow it.
 pub fn followed(lines: &[String]) -> String {
-    format!("done, {} follow\n{}", if lines.len() == 1 { "1 line".to_string() } else { format!("{} lines", lines.len()) }, lines.join("\n"))
+    let count = if lines.len() == 1 { "1 line".to_string() } else { format!("{} lines", lines.len()) };
+    format!("done, {} follow\n{}", count, lines.join("\n"))
+}
+
+/// How many lines a reply says will follow.
+fn following(reply: &str) -> Option<usize> {
+    let (count, what) = reply.strip_prefix("done, ")?.split_once(' ')?;
+    count.parse().ok().filter(|_| what == "line follow" || what == "lines follow")
+}
+
+#[cfg(test)]
+mod tests {
+    use super::*;
+
+    #[test]
+    fn replies() {
+        let lines = |count: usize| vec!["x".to_string(); count];
+        for count in [1, 2, 17] {
+            let reply = followed(&lines(count)).lines().next().unwrap().to_string();
+            assert_eq!(told_of(&reply, &lines(count)), Some(("x\n".repeat(count), true)));
+            assert_eq!((told_of(&reply, &lines(count + 1)), told_of(&reply, &lines(count - 1))), (None, None));
+        }
+        assert_eq!(told_of("done, not stored", &[]), Some(("done, not stored\n".to_string(), true)));
+        assert_eq!(told_of("refused: what", &[]), Some(("refused: what\n".to_string(), false)));
+    }
 }

@@ -3,7 +3,7 @@
 use crate::counted::Counted;
 use crate::host::Host;
 use crate::journal::moment;
-use crate::json::{list, or_null, quoted};
+use crate::json::{self, list, or_null, quoted};
 use rsmp_site::{AlarmState, Phase, Subscription};
 use rsmp_table::Table;
 use std::fmt::Write;
@@ -152,7 +152,7 @@ impl OfAlarm {
             active,
             acknowledged,
             suspended,
-            quoted(&moment(time))
+            json::time(time)
         )
     }
 }
@@ -207,7 +207,7 @@ impl Shown {
              \"statuses\":{},\"commands\":{}}}",
             quoted(&self.site),
             quoted(crate::VERSION),
-            quoted(&moment(self.time)),
+            json::time(self.time),
             self.up_seconds,
             or_null(self.primary),
             self.aggregated,
