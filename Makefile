@@ -1,4 +1,4 @@
-.PHONY: build run test library install uninstall clean help always
+.PHONY: build run test library install uninstall deb clean help always
 .DELETE_ON_ERROR:
 
 PREFIX = /usr/local
@@ -22,6 +22,7 @@ library: build/librsmp_site.a build/rsmp_site.h build/librsmp_week.a build/rsmp_
 
 ## install    programs, library, header, manual pages and a systemd unit below PREFIX (/usr/local), all of it below DESTDIR where given
 ## uninstall  takes away what install put there
+## deb        a Debian package of what install installs: build/deb/rsmp-site_VERSION_amd64.deb
 ## clean      removes build/; what is proved and compiled stays in target/ (rm -r target: prove everything again)
 clean:
 	rm -rf build
@@ -73,8 +74,8 @@ $(TABLE): host/rsmp_table/lib.rs $(wildcard host/rsmp_table/*.rs) build/tools/re
 	mkdir -p $(OUT)
 	$(RUSTC) --crate-type rlib --crate-name rsmp_table -o $@ $<
 
-$(OUT)/rsmp-replay: host/replay/main.rs $(wildcard host/replay/*.rs) $(SITE)
-	$(RUSTC) --crate-name rsmp_replay --extern rsmp_site=$(SITE) -o $@ $<
+$(OUT)/rsmp-replay: host/replay/main.rs $(wildcard host/replay/*.rs) $(SITE) $(TABLE)
+	$(RUSTC) --crate-name rsmp_replay --extern rsmp_site=$(SITE) --extern rsmp_table=$(TABLE) -o $@ $<
 
 $(OUT)/rsmp-site: host/site/main.rs $(wildcard host/site/*.rs) $(SITE) $(TABLE)
 	$(RUSTC) --crate-name rsmp_site_program --extern rsmp_site=$(SITE) --extern rsmp_table=$(TABLE) -o $@ $<

@@ -4,13 +4,17 @@ LIBDIR = $(PREFIX)/lib
 INCLUDEDIR = $(PREFIX)/include
 MANDIR = $(PREFIX)/share/man
 UNITDIR = $(PREFIX)/lib/systemd/system
+COMPLETIONDIR = $(PREFIX)/share/bash-completion/completions
+EXAMPLEDIR = $(PREFIX)/share/doc/rsmp-site/examples
 
 PROGRAMS = rsmp-site rsmp-replay rsmp-table rsmp-week
 HEADERS = rsmp_site.h rsmp_week.h
 LIBRARIES = librsmp_site.a librsmp_week.a
 PAGES = $(addsuffix .1,$(PROGRAMS))
+EXAMPLES = examples/rsmp-site.conf examples/barrier.txt examples/commands.txt host/unit/rsmp-site.logrotate examples/move
 INSTALLED = $(addprefix $(BINDIR)/,$(PROGRAMS)) $(addprefix $(LIBDIR)/,$(LIBRARIES)) $(addprefix $(INCLUDEDIR)/,$(HEADERS)) $(LIBDIR)/pkgconfig/rsmp_site.pc \
-	$(addprefix $(MANDIR)/man1/,$(PAGES)) $(UNITDIR)/rsmp-site.service
+	$(addprefix $(MANDIR)/man1/,$(PAGES)) $(UNITDIR)/rsmp-site.service \
+	$(addprefix $(COMPLETIONDIR)/,$(PROGRAMS)) $(addprefix $(EXAMPLEDIR)/,$(notdir $(EXAMPLES)))
 
 FILLED = sed -e 's|@PREFIX@|$(PREFIX)|g; s|@BINDIR@|$(BINDIR)|g; s|@LIBDIR@|$(LIBDIR)|g; s|@INCLUDEDIR@|$(INCLUDEDIR)|g; s|@VERSION@|$(RSMP_VERSION)|g'
 
@@ -22,6 +26,12 @@ install: build
 	$(FILLED) host/include/rsmp_site.pc >$(DESTDIR)$(LIBDIR)/pkgconfig/rsmp_site.pc
 	for page in $(PAGES); do $(FILLED) host/man/$$page >$(DESTDIR)$(MANDIR)/man1/$$page; done
 	$(FILLED) host/unit/rsmp-site.service >$(DESTDIR)$(UNITDIR)/rsmp-site.service
+	for name in $(PROGRAMS); do install -m 644 host/unit/rsmp-site.bash $(DESTDIR)$(COMPLETIONDIR)/$$name; done
+	install -m 644 $(EXAMPLES) $(DESTDIR)$(EXAMPLEDIR)
+	chmod 755 $(DESTDIR)$(EXAMPLEDIR)/move
 
 uninstall:
 	rm -f $(addprefix $(DESTDIR),$(INSTALLED))
+
+deb: build
+	host/debian/make build/deb

@@ -1,4 +1,4 @@
-"""Pictures by `rsmp-replay --picture`: well-formed, and with the numbers of records and commands that the model in tests/model counts.
+"""Pictures by `rsmp-replay --picture`: well-formed, and with the numbers of records, commands and active alarms that the model in tests/model counts.
 
   picture.py --stored        pictures of the stored scripts
   picture.py --fresh [SEED]  .. of random ones
@@ -14,12 +14,14 @@ import replays
 from cases import ROOT, stored_or_fresh
 from model import link as links_
 from model import pool, site
+from player import Player
 
 PROGRAM = ROOT / "build" / "rsmp-replay"
 NAME = "{http://www.w3.org/2000/svg}"
 PHASES = ("Down", "Greeting", "Beating", "Up")
 WHAT = ("issued", "sent", "answered", "lost", "commands")
 LINES = 4000
+NOON, HOUR = replays.NOON, 3_600_000
 
 
 class Counting:
@@ -27,8 +29,8 @@ class Counting:
 
     def __enter__(self):
         self.count = collections.Counter()
-        self.kept = pool.Pool.issue, pool.Pool.lose, pool.Pool.settle, site.Site.pump, site.Site.packet
-        issue, lose, settle, pump, packet = self.kept
+        self.kept = pool.Pool.issue, pool.Pool.lose, pool.Pool.settle, site.Site.pump, site.Site.packet, site.Site.alarm
+        issue, lose, settle, pump, packet, alarm = self.kept
         count = self.count
 
         def issuing(one, record):
@@ -53,11 +55,21 @@ class Counting:
             count["commands", link] += len(done.commands)
             return done
 
-        pool.Pool.issue, pool.Pool.lose, pool.Pool.settle, site.Site.pump, site.Site.packet = issuing, losing, settling, pumping, packeting
+        def alarming(one, number, active, *more):
+            before = [alarm.active for alarm in one.alarms]
+            done = alarm(one, number, active, *more)
+            count["raised"] += one.alarms[number].active and not before[number]
+            return done
+
+        self.put(issuing, losing, settling, pumping, packeting, alarming)
         return self
 
     def __exit__(self, *_):
-        pool.Pool.issue, pool.Pool.lose, pool.Pool.settle, site.Site.pump, site.Site.packet = self.kept
+        self.put(*self.kept)
+
+    @staticmethod
+    def put(*acts):
+        pool.Pool.issue, pool.Pool.lose, pool.Pool.settle, site.Site.pump, site.Site.packet, site.Site.alarm = acts
 
 
 def hold(good, what):
@@ -71,10 +83,19 @@ def picture(script, status=0):
     return xml.fromstring(done.stdout)
 
 
+def judge_alarms(what, group, last, raised):
+    """A bar for each time that an alarm was active."""
+    active = sum(alarm.active for alarm in last.alarms)
+    hold((int(group.get("data-raised")), int(group.get("data-active"))) == (raised, active), f"{what}: {group.attrib}, and the model counts {raised}, {active}")
+    bars = [bar.find(NAME + "title").text for bar in group.iter(NAME + "rect")]
+    hold(len(bars) == raised and all(" active for " in bar for bar in bars), f"{what}: {len(bars)} bars of alarms, wanted {raised}")
+
+
 def judge(what, player, count):
     """The picture of a script that ends with this player's site."""
     root = picture(replays.texts(player)[0])
     drawn = {group.get("id"): group for group in root.iter(NAME + "g")}
+    judge_alarms(what, drawn.pop("alarms"), player.site, count.pop("raised", 0))
     most = max([link for _, link in count] + [len(player.site.links) - 1])
     hold(len(drawn) >= most + 1, f"{what}: {len(drawn)} links are drawn")
     for number, one in enumerate(player.site.links):
@@ -99,8 +120,27 @@ def stored():
     whole = replays.paths(replays.whole_life)[0].read_text()
     hold(picture("", 0).findall(f".//{NAME}g") == [], "nothing is drawn of nothing")
     broken = picture(whole + "pump 0", 2)
-    hold(len(broken.findall(f"{NAME}g")) == 2, "what was played before a line that cannot be read is drawn")
+    hold([group.get("id") for group in broken.findall(f"{NAME}g")] == ["alarms", "link0", "link1"], "what was played before a line that cannot be read is drawn")
+    judge_few_beside_many()
     print(f"picture: {len(replays.STORED)} stored scripts drawn, with the model's numbers")
+
+
+def judge_few_beside_many():
+    """66 records in one minute and 2 in another: the bar of two is seen, and of two bars the higher one has more."""
+    player = Player()
+    player.start(replays.BARRIER.bytes(), 1, 0, 60, 0, NOON)
+    for number in range(66):
+        player.aggregated(1 + number % 2, NOON + number)
+    player.tick(NOON + HOUR)
+    for number in range(2):
+        player.aggregated(3 + number, NOON + HOUR + number)
+    player.tick(NOON + 12 * HOUR)
+    bars = {}
+    for bar in picture(replays.texts(player)[0]).iter(NAME + "rect"):
+        said = "".join(bar.itertext())
+        if " issued in the " in said:
+            bars[int(said.split()[0])] = float(bar.get("height"))
+    hold(set(bars) == {2, 66} and 4 <= bars[2] < bars[66] / 3, f"bars of 2 and 66 are {bars} high")
 
 
 def fresh(seed):

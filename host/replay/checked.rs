@@ -3,7 +3,7 @@
 
 use crate::script::Line;
 use rsmp_site::ffi::{self, Block, Id, Outcome, COMMAND_WORDS, TABLE_BYTES, WORDS};
-use rsmp_site::Site;
+use rsmp_site::{AlarmState, Site};
 
 const LAST_NUMBER: u32 = 12;
 const LINKS: u32 = 4;
@@ -100,6 +100,11 @@ impl Player {
             (ffi::rsmp_lent_phase(words, WORDS, link), ffi::rsmp_lent_held(words, WORDS, link), ffi::rsmp_lent_lost(words, WORDS, link))
         };
         self.links.map_or((0, 0, 0), |_| read())
+    }
+
+    /// Whether an alarm is active.
+    pub fn is_active(&self, alarm: u32) -> bool {
+        AlarmState::of(&self.lent.site.words, alarm).map_or(false, |state| self.links.is_some() && state.active)
     }
 
     /// The records held for a link, oldest first.

@@ -1,8 +1,12 @@
-//! What a script of calls did, link by link over time: phases, and records issued, sent, answered, held and lost.
+//! What a script of calls did: alarms while they were active, and link by link phases, and records issued, sent, answered, held and lost.
 
 use crate::checked::Player;
 use crate::script::Line;
 use rsmp_site::ffi::NO_PRIMARY;
+use rsmp_table::{bits, Table};
+
+/// A site has no more.
+const ALARMS: usize = 32;
 
 pub const PHASES: [&str; 4] = ["Down", "Greeting", "Beating", "Up"];
 
@@ -17,6 +21,15 @@ impl Stay {
     pub fn length(&self) -> u64 {
         self.to.saturating_sub(self.from)
     }
+}
+
+/// An alarm while it is active.
+pub struct Active {
+    pub number: usize,
+    /// Its code and its component, where the table is known.
+    pub name: String,
+    pub from: u64,
+    pub to: u64,
 }
 
 #[derive(Default)]
@@ -54,6 +67,11 @@ pub struct Day {
     /// Where it is known and there is one.
     pub primary: Option<u32>,
     pub links: Vec<Link>,
+    /// In the order in which they became active.
+    pub alarms: Vec<Active>,
+    /// Which of them each alarm still is.
+    active: [Option<usize>; ALARMS],
+    alarm_names: Vec<String>,
     pub starts: Vec<u64>,
     pub first: u64,
     pub last: u64,
@@ -77,15 +95,39 @@ impl Day {
             Line::Packet { link, .. } => self.links[*link as usize].commands.extend(player.handed().map(|_| time)),
             _ => {}
         }
+        self.follow_alarms(time, player);
         for link in 0..player.links() {
             self.links[link as usize].follow(link, time, player);
         }
+    }
+
+    fn follow_alarms(&mut self, time: u64, player: &Player) {
+        for number in 0..ALARMS {
+            match (self.active[number], player.is_active(number as u32)) {
+                (None, true) => {
+                    self.active[number] = Some(self.alarms.len());
+                    let name = self.alarm_names.get(number).cloned().unwrap_or_default();
+                    self.alarms.push(Active { number, name, from: time, to: time });
+                }
+                (Some(place), false) => {
+                    self.active[number] = None;
+                    self.alarms[place].to = time.max(self.alarms[place].from);
+                }
+                _ => {}
+            }
+        }
+    }
+
+    /// How many alarms are active at the end.
+    pub fn still_active(&self) -> usize {
+        self.active.iter().flatten().count()
     }
 
     fn start(&mut self, table: &[u8], primary: u32, links: usize, time: u64) {
         let head = if table[0] >> 4 == 1 { 3 } else { 4 };
         let length = usize::from(table[head]);
         self.site = table[head + 1..head + 1 + length].iter().map(|byte| char::from(*byte)).collect();
+        self.alarm_names = alarm_names(table);
         self.primary = Some(primary).filter(|primary| *primary != NO_PRIMARY);
         self.starts.push(time);
         for link in &mut self.links {
@@ -135,6 +177,9 @@ impl Day {
     pub fn end(&mut self) {
         for stay in self.links.iter_mut().flat_map(|link| &mut link.held) {
             stay.to = self.last.max(stay.from);
+        }
+        for place in self.active.iter().flatten() {
+            self.alarms[*place].to = self.last;
         }
     }
 }
@@ -191,6 +236,12 @@ impl Link {
         self.seen_lost = 0;
         self.first_pass = Pass::default();
     }
+}
+
+fn alarm_names(table: &[u8]) -> Vec<String> {
+    let named =
+        |table: Table| table.alarms.iter().map(|alarm| format!("{} of {}", alarm.code, table.components[alarm.component])).collect();
+    bits::read(table).map_or_else(|_| Vec::new(), named)
 }
 
 /// Of a record that was issued before: its own time is when.

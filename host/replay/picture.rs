@@ -1,6 +1,7 @@
-//! A day as one SVG page: a panel for each link, with its phases, the records it held and lost, and those issued, sent and answered.
+//! A day as one SVG page: a row for each alarm that was active, and a panel for each link, with its phases, the records it held and lost, and those issued,
+//! sent and answered.
 
-use crate::day::{Day, Link, Stay, PHASES};
+use crate::day::{Active, Day, Link, Stay, PHASES};
 use crate::moment::{clock, day, span};
 use std::fmt::Write;
 
@@ -15,6 +16,8 @@ const STRIP: u64 = 14;
 const HELD: u64 = 84;
 const FLOW: u64 = 64;
 const GAP: u64 = 10;
+const ROW: u64 = 11;
+const BETWEEN_ROWS: u64 = 4;
 const PANEL: u64 = TITLE + STRIP + GAP + HELD + GAP + FLOW + 30;
 
 /// A record that is held for longer has waited.
@@ -32,6 +35,7 @@ const SENT_COLOUR: &str = "#b6bfc8";
 const ANSWERED_COLOUR: &str = "#3fa9e0";
 const LOST_COLOUR: &str = "#d5400e";
 const COMMAND_COLOUR: &str = "#1d2733";
+const ALARM_COLOUR: &str = "#a3123a";
 
 const STEPS: [u64; 27] = [
     1, 2, 5, 10, 20, 50, 100, 200, 500, 1_000, 2_000, 5_000, 10_000, 20_000, 30_000, 60_000, 120_000, 300_000, 600_000, 1_200_000,
@@ -83,7 +87,8 @@ impl Scale {
 
 pub fn draw(day_: &Day) -> String {
     let scale = Scale::of(day_);
-    let (width, height) = (LEFT + PLOT + RIGHT, HEAD + PANEL * day_.links.len() as u64 + FOOT);
+    let panels = HEAD + height_of_alarms(day_);
+    let (width, height) = (LEFT + PLOT + RIGHT, panels + PANEL * day_.links.len() as u64 + FOOT);
     let mut page = String::new();
     let _ = writeln!(
         page,
@@ -94,11 +99,14 @@ pub fn draw(day_: &Day) -> String {
     let _ = writeln!(page, "<title>{}</title>", escaped(&title(day_)));
     let _ = writeln!(page, "<rect width=\"{}\" height=\"{}\" fill=\"#ffffff\"/>", width, height);
     head(&mut page, day_);
+    if day_.calls > 0 {
+        alarms(&mut page, day_, &scale, HEAD as f64);
+    }
     for (number, link) in day_.links.iter().enumerate() {
-        let top = HEAD + PANEL * number as u64;
+        let top = panels + PANEL * number as u64;
         panel(&mut page, day_, &scale, number, link, top);
     }
-    axis(&mut page, &scale, HEAD + PANEL * day_.links.len() as u64);
+    axis(&mut page, &scale, panels + PANEL * day_.links.len() as u64);
     page.push_str("</svg>\n");
     page
 }
@@ -149,6 +157,7 @@ fn head(page: &mut String, day_: &Day) {
         ("lost", LOST_COLOUR),
     ]);
     let swatches = swatches.chain(Some(("commands", COMMAND_COLOUR)).filter(|_| day_.links.iter().any(|link| !link.commands.is_empty())));
+    let swatches = swatches.chain(Some(("alarm active", ALARM_COLOUR)).filter(|_| !day_.alarms.is_empty()));
     for (name, colour) in swatches {
         bar(page, (x, 66.0), (12.0, 12.0), colour, "");
         text(page, x + 17.0, 76.5, "", name);
@@ -158,6 +167,46 @@ fn head(page: &mut String, day_: &Day) {
 
 fn plural(count: usize, what: &str) -> String {
     format!("{} {}{}", count, what, if count == 1 { "" } else { "s" })
+}
+
+/// Those that were ever active, by their numbers.
+fn rows(day_: &Day) -> Vec<usize> {
+    let mut numbers: Vec<usize> = day_.alarms.iter().map(|active| active.number).collect();
+    numbers.sort_unstable();
+    numbers.dedup();
+    numbers
+}
+
+fn height_of_alarms(day_: &Day) -> u64 {
+    match day_.calls {
+        0 => 0,
+        _ => TITLE + GAP + (ROW + BETWEEN_ROWS) * rows(day_).len() as u64,
+    }
+}
+
+/// A row for each alarm that was active, with a bar while it was.
+fn alarms(page: &mut String, day_: &Day, scale: &Scale, top: f64) {
+    let (rows, still) = (rows(day_), day_.still_active());
+    let _ = writeln!(page, "<g id=\"alarms\" data-raised=\"{}\" data-active=\"{}\">", day_.alarms.len(), still);
+    text(page, LEFT as f64, top + 20.0, "font-size=\"15\" font-weight=\"bold\"", "Alarms");
+    let said = match rows.len() {
+        0 => "no alarm was active".to_string(),
+        count => format!("{} active, {} in all, {} still at the end", plural(count, "alarm"), plural(day_.alarms.len(), "time"), still),
+    };
+    text(page, LEFT as f64, top + 37.0, &format!("fill=\"{}\"", SOFT), &said);
+    for (place, number) in rows.into_iter().enumerate() {
+        let y = top + (TITLE + (ROW + BETWEEN_ROWS) * place as u64) as f64;
+        let spans: Vec<&Active> = day_.alarms.iter().filter(|active| active.number == number).collect();
+        let code = spans[0].name.split(' ').next().unwrap_or("");
+        text(page, 10.0, y + 9.0, &format!("font-size=\"10\" fill=\"{}\"", SOFT), &format!("{} {}", number, code));
+        for Active { name, from, to, .. } in spans {
+            let (left, right) = (scale.x(*from), scale.x(*to));
+            let said =
+                format!("alarm {} {} active for {}, from {} to {}", number, name, span(to - from), scale.said(*from), scale.said(*to));
+            bar(page, (left, y), ((right - left).max(1.5), ROW as f64), ALARM_COLOUR, &said);
+        }
+    }
+    page.push_str("</g>\n");
 }
 
 /// The stay in the pool that lasted longest, those that have not ended counted up to the last call.
@@ -391,7 +440,7 @@ fn grouped(times: &[u64], step: u64) -> Vec<(u64, usize)> {
     groups
 }
 
-/// Upwards what was issued, downwards what was sent and, before it, what was answered.
+/// Upwards what was issued, downwards what was sent and, before it, what was answered; by their roots, so that a few are seen beside many.
 fn flowing(page: &mut String, scale: &Scale, link: &Link, top: f64) {
     let step = scale.step(180);
     let groups = [&link.issued, &link.sent, &link.answered].map(|times| grouped(times, step));
@@ -401,7 +450,9 @@ fn flowing(page: &mut String, scale: &Scale, link: &Link, top: f64) {
     label(page, top + 11.0, "issued");
     label(page, top + FLOW as f64 - 14.0, "sent and");
     label(page, top + FLOW as f64 - 2.0, "answered");
-    for (y, number) in [(top, up), (top + FLOW as f64, down)] {
+    let quarters = [(middle - half / 2.0, up / 4), (middle + half / 2.0, down / 4)];
+    let quarters = quarters.into_iter().filter(|(_, number)| *number > 0);
+    for (y, number) in [(top, up), (top + FLOW as f64, down)].into_iter().chain(quarters) {
         line(page, (LEFT as f64, y), ((LEFT + PLOT) as f64, y), &format!("stroke=\"{}\"", RULE));
         text(page, (LEFT + PLOT) as f64 + 4.0, y + 4.0, &format!("font-size=\"10\" fill=\"{}\"", SOFT), &number.to_string());
     }
@@ -410,13 +461,13 @@ fn flowing(page: &mut String, scale: &Scale, link: &Link, top: f64) {
         for (from, count) in groups {
             let (left, right) = (scale.x((*from).max(scale.first)), scale.x((from + step).min(scale.last())));
             let width = ((right - left) * share).max(1.0);
-            let height = half * *count as f64 / if upwards { up } else { down } as f64;
+            let height = half * (*count as f64 / if upwards { up } else { down } as f64).sqrt();
             let said = format!("{} {} in the {} from {}", count, what, span(step), scale.said(*from));
             bar(page, ((left + right - width) / 2.0, if upwards { middle - height } else { middle }), (width, height), colour, &said);
         }
     }
     line(page, (LEFT as f64, middle), ((LEFT + PLOT) as f64, middle), &format!("stroke=\"{}\"", SOFT));
-    let each = format!("a bar: {}", span(step));
+    let each = format!("a bar: {}; a bar of half the height: a quarter as many", span(step));
     text(page, (LEFT + PLOT) as f64, top + FLOW as f64 + 13.0, &format!("font-size=\"10\" fill=\"{}\" text-anchor=\"end\"", SOFT), &each);
 }
 

@@ -1,6 +1,7 @@
 //! The inputs, values and subscriptions that stand in a site, for people to look at. The library has no readings of them: they are read from the words
 //! in which docs/ARCHITECTURE.md places them, of the edition `SITE_EDITION`.
 
+use crate::ffi::WORDS;
 use crate::{Site, LINKS};
 
 /// A link's share of the subscriptions, and the alarms and statuses there are places for.
@@ -20,6 +21,16 @@ pub struct AlarmState {
     pub time: u64,
 }
 
+impl AlarmState {
+    /// In a site's words; None past the places there are. Of a number that the table does not have, as at a start.
+    pub fn of(words: &[u64; WORDS], number: u32) -> Option<AlarmState> {
+        let at = ALARMS + 2 * place(number)?;
+        let (time, states) = (words[at], words[at + 1]);
+        let is = |bit: u32| states >> bit & 0xFFFF != 0;
+        Some(AlarmState { active: is(16), acknowledged: is(32), suspended: is(0), time })
+    }
+}
+
 /// What a link gets of a status.
 #[derive(Clone, Copy, Debug, PartialEq, Eq)]
 pub struct Subscription {
@@ -34,12 +45,9 @@ impl Site {
         self.lent.words[AGGREGATED] as u8
     }
 
-    /// How an alarm stands; None past the places there are. Of a number that the table does not have, as at a start.
+    /// How an alarm stands.
     pub fn alarm_state(&self, number: u32) -> Option<AlarmState> {
-        let at = ALARMS + 2 * place(number)?;
-        let (time, states) = (self.lent.words[at], self.lent.words[at + 1]);
-        let is = |bit: u32| states >> bit & 0xFFFF != 0;
-        Some(AlarmState { active: is(16), acknowledged: is(32), suspended: is(0), time })
+        AlarmState::of(&self.lent.words, number)
     }
 
     /// The last value of a status, where one was set.
