@@ -1,38 +1,97 @@
-"""How many messages a second `rsmp-site` takes and sends over loopback: one supervisor asks for the aggregated status again and again,
-eight requests at a time, and answers what it gets.
+"""How many messages a second `rsmp-site` takes and sends over loopback, and how many times longer a message takes on four links, with a log, a record and a
+state, than on one link without: all in one run, taking turns. bench/supervisors.c asks for the aggregated status, eight requests in flight a link.
 
-  host.py [REQUESTS]     after `make build`
+  host.py [SECONDS [ROUNDS]]     a round measures each setup so long; after `make build`
+  host.py --flash                bytes written, stores and syncs a message for each --state-interval, on the file system of the folder for temporary files
 """
+import pathlib
+import re
+import statistics
+import subprocess
 import sys
 import tempfile
 import time
 
-import built  # finds tests/
-from process import SITE, SXL, BARRIER, Process
+from built import program
+from process import PROGRAM, SITE, SXL, TABLE, Process, subscription
 from supervisors import Supervisor
 
-REQUESTS, AT_ONCE = 400, 8
+SECONDS, ROUNDS = 2, 5
+SETUPS = {
+    "one link": (1, "--quiet"),
+    "four links": (4, "--quiet"),
+    "one link, a log of every message": (1, "--log", "ROOM/log"),
+    "one link, a record": (1, "--quiet", "--record", "ROOM/record"),
+    "one link, state each 10 s": (1, "--quiet", "--state", "ROOM/state"),
+    "one link, state at once": (1, "--quiet", "--state", "ROOM/state", "--state-interval", "0"),
+}
+
+
+def rate(supervisors, links, *options, seconds):
+    """Messages a second of both ways."""
+    with tempfile.TemporaryDirectory() as room:
+        peer = subprocess.Popen([supervisors, str(links), str(seconds), SITE, SXL], stdout=subprocess.PIPE, text=True)
+        words = [word for port in peer.stdout.readline().split() for word in ("--supervisor", f"127.0.0.1:{port}")]
+        options = [option.replace("ROOM", room) for option in options]
+        process = subprocess.Popen([PROGRAM, "--table", TABLE, *words, *options], stdin=subprocess.DEVNULL, stdout=subprocess.DEVNULL)
+        try:
+            said = peer.communicate(timeout=60 + 2 * seconds)[0]
+        finally:
+            peer.kill()
+            process.kill()
+            process.wait()
+    messages, taken = said.split()
+    return int(messages) / float(taken)
+
+
+def rates(seconds, rounds):
+    with tempfile.TemporaryDirectory() as room:
+        supervisors = program("supervisors", room)
+        found = {name: [] for name in SETUPS}
+        for _ in range(rounds):
+            for name, (links, *options) in SETUPS.items():
+                found[name].append(rate(supervisors, links, *options, seconds=seconds))
+    base = found["one link"]
+    for name, each in found.items():
+        times = sorted(one / other for one, other in zip(base, each))
+        print(f"{name:34} {statistics.median(each):8.0f} messages a second   a message takes {statistics.median(times):6.2f} times as long"
+              f" ({times[0]:.2f} to {times[-1]:.2f})")
+
+
+def io_of(process):
+    """Bytes that the process had written to the disk's cache."""
+    return int(re.search(r"^write_bytes: (\d+)", pathlib.Path(f"/proc/{process.pid}/io").read_text(), re.MULTILINE)[1])
+
+
+def flash():
+    """A value a tenth of a second, each sent and answered."""
+    for interval in ("0", "1", "10", "60"):
+        with tempfile.TemporaryDirectory() as room:
+            trace, supervisor = pathlib.Path(room) / "trace", Supervisor(SITE, SXL)
+            process = Process(room, [supervisor], "--quiet", "--state", pathlib.Path(room) / "state", "--state-interval", interval, record=False)
+            supervisor.wait_up()
+            supervisor.ask("StatusSubscribe", **subscription())
+            time.sleep(1)
+            tracer = subprocess.Popen(["strace", "-f", "-q", "-e", "trace=fsync,fdatasync", "-o", trace, "-p", str(process.pid)])
+            time.sleep(1)
+            before, written, began = len(supervisor.of("StatusUpdate")), io_of(process), time.monotonic()
+            for value in range(200):
+                process.order(f"status 1 {value}")
+                time.sleep(0.1)
+            supervisor.wait(lambda: len(supervisor.of("StatusUpdate")) - before >= 200, "the updates")
+            taken, bytes_, sent = time.monotonic() - began, io_of(process) - written, len(supervisor.of("StatusUpdate")) - before
+            tracer.terminate()
+            tracer.wait()
+            syncs = len(re.findall(r"sync\(\d+\)|sync resumed", trace.read_text()))
+            process.quit()
+            supervisor.close()
+        print(f"interval {interval:>2}: {sent} messages in {taken:.0f} s, a message {bytes_ / sent:8.0f} bytes and {syncs / sent:.3f} syncs")
 
 
 def main(words):
-    requests = int(words[0]) if words else REQUESTS
-    centre = Supervisor(SITE, SXL)
-    with tempfile.TemporaryDirectory() as room:
-        process = Process(room, [centre], "--quiet")
-        try:
-            centre.wait_up()
-            time.sleep(1)
-            before, began = len(centre.messages), time.monotonic()
-            for done in range(AT_ONCE, requests + 1, AT_ONCE):
-                for _ in range(AT_ONCE):
-                    centre.send("AggregatedStatusRequest", cId=BARRIER.components[0].decode())
-                centre.wait(lambda: len(centre.messages) - before >= 2 * done, "the answers")
-            taken = time.monotonic() - began
-            got = len(centre.messages) - before
-            process.quit()
-        finally:
-            process.process.kill()
-    print(f"rsmp-site: {got} messages sent, {got} taken in {taken:.1f} s: {2 * got / taken:.0f} messages a second")
+    if words == ["--flash"]:
+        return flash()
+    rates(float(words[0]) if words else SECONDS, int(words[1]) if len(words) > 1 else ROUNDS)
     return 0
 
 

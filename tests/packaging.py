@@ -1,4 +1,5 @@
-"""What `make` promises: nothing changed means nothing done, help, and an installed tree that a C program builds with.
+"""What `make` promises: nothing changed means nothing done, help, an installed tree that a C program builds with, and a Debian package that is installed,
+started and purged in a folder of its own.
 
   packaging.py --stored
 """
@@ -16,7 +17,9 @@ VERSION = (ROOT / "VERSION").read_text().strip()
 CC, RUN = ROOT / "build" / "tools" / "cc", ROOT / "build" / "tools" / "run"
 PROGRAMS = ["rsmp-site", "rsmp-replay", "rsmp-table", "rsmp-week"]
 TREE = {*(f"bin/{name}" for name in PROGRAMS), *(f"share/man/man1/{name}.1" for name in PROGRAMS), "include/rsmp_site.h",
-        "include/rsmp_week.h", "lib/librsmp_site.a", "lib/librsmp_week.a", "lib/pkgconfig/rsmp_site.pc", "lib/systemd/system/rsmp-site.service"}
+        "include/rsmp_week.h", "lib/librsmp_site.a", "lib/librsmp_week.a", "lib/pkgconfig/rsmp_site.pc", "lib/systemd/system/rsmp-site.service",
+        *(f"share/bash-completion/completions/{name}" for name in PROGRAMS),
+        *(f"share/doc/rsmp-site/examples/{name}" for name in ("rsmp-site.conf", "rsmp-site.logrotate", "barrier.txt", "commands.txt", "move"))}
 ENDS = """#include <rsmp_site.h>
 static rsmp_site site;
 int main(void) { return (int)rsmp_start(&site, (const uint8_t *)"", 0, 1, 0, 60, 0, 0); }
@@ -56,7 +59,7 @@ def judge_nothing_done():
 
 def judge_help():
     said = make("help")
-    for word in ("build", "run", "test", "library", "install", "uninstall", "clean"):
+    for word in ("build", "run", "test", "library", "install", "uninstall", "deb", "clean"):
         hold(re.search(rf"^  make {word} ", said, re.MULTILINE), f"make help does not tell of {word}")
 
 
@@ -113,6 +116,92 @@ def judge_unit(place):
         hold(done.returncode == 0 and not done.stderr, f"systemd-analyze verify: {done.stdout}{done.stderr}")
 
 
+def completed(place, *words):
+    """What bash offers for the last of these words."""
+    script = f'''. {place}/share/bash-completion/completions/{words[0]}
+COMP_WORDS=("$@"); COMP_CWORD=$(($# - 1))
+$(complete -p "$1" | sed 's/.*-F \\([^ ]*\\) .*/\\1/') "{ROOT}/build/$1"
+printf "%s\\n" "${{COMPREPLY[@]}}"'''
+    done = subprocess.run(["bash", "-c", script, "bash", *words], capture_output=True, text=True)
+    hold(not done.stderr, f"completing {words}: {done.stderr}")
+    return done.stdout.split()
+
+
+def judge_completions(place):
+    for words, wanted in (
+            (("rsmp-site", "--check"), ["--check-config"]), (("rsmp-site", "--log-l"), ["--log-level"]),
+            (("rsmp-site", "--log-level", "w"), ["warning"]), (("rsmp-site", "--quiet", "--met"), ["--metrics"]),
+            (("rsmp-site", "--send", "/x", "s"), ["status", "show", "save"]), (("rsmp-site", "--send", "/x", "show", ""), ["--json"]),
+            (("rsmp-site", "--send", "/x", "alarm", "2", "o"), ["on", "off"]), (("rsmp-site", "--table", f"{ROOT}/VER"), [f"{ROOT}/VERSION"]),
+            (("rsmp-replay", "--st"), ["--stream"]), (("rsmp-week", f"{ROOT}/VER"), [f"{ROOT}/VERSION"]), (("rsmp-table", "un"), ["unpack"])):
+        hold(completed(place, *words) == wanted, f"bash completes {words} to {completed(place, *words)}")
+
+
+# The Debian package.
+
+DPKG = ("dpkg", "dpkg-deb", "dpkg-shlibdeps", "dpkg-gencontrol")
+
+
+def judge_deb(room):
+    """Made by anybody; installed, started and purged by root, in a folder that dpkg takes for the whole system."""
+    if not all(map(shutil.which, DPKG)):
+        return "no package: dpkg-dev is not here"
+    make("deb")
+    package = ROOT / "build" / "deb" / f"rsmp-site_{VERSION}_amd64.deb"
+    said = subprocess.run(["dpkg-deb", "--field", package, "Package", "Version", "Architecture", "Depends"], capture_output=True, text=True, check=True).stdout
+    hold(said.startswith(f"Package: rsmp-site\nVersion: {VERSION}\nArchitecture: amd64\n"), f"the package says {said}")
+    listed = [line.split(None, 5) for line in subprocess.run(["dpkg-deb", "-c", package], capture_output=True, text=True, check=True).stdout.splitlines()]
+    hold(all(owner == "root/root" and mode[7] == "r" for mode, owner, *_ in listed), "an owner or a mode in the package")
+    there = {name.removeprefix("./usr/") for *_, name in listed if not name.endswith("/")}
+    wanted = {name + ".gz" if name.startswith("share/man/") else name for name in TREE if not name.endswith(".logrotate")}
+    wanted |= {"./etc/logrotate.d/rsmp-site", "share/doc/rsmp-site/changelog.gz"}
+    hold(there == wanted, f"in the package are {sorted(there ^ wanted)} too many or too few")
+    if os.getuid() != 0:
+        return "a package made, not installed: that is root's"
+    return lived(package, room / "system")
+
+
+def dpkg(system, *words):
+    done = subprocess.run(["dpkg", f"--root={system}", f"--log={system}/dpkg.log", "--force-script-chrootless", *words], capture_output=True, text=True)
+    hold(done.returncode == 0, f"dpkg {words}: {done.stdout}{done.stderr}")
+
+
+def lived(package, system):
+    """What is held goes over a second installation; a purge leaves the operator's own file alone."""
+    (system / "var" / "lib" / "dpkg" / "info").mkdir(parents=True)
+    (system / "var" / "lib" / "dpkg" / "updates").mkdir()
+    shutil.copy("/var/lib/dpkg/status", system / "var" / "lib" / "dpkg" / "status")
+    own = files(system).keys() | {"dpkg.log", "etc/rsmp-site/barrier.txt"}
+    dpkg(system, "--install", package)
+    options = system / "etc" / "rsmp-site" / "rsmp-site.conf"
+    for folder in (options.parent, *(system / name / "rsmp-site" for name in ("var/lib", "var/log", "run"))):
+        folder.mkdir(parents=True)
+    examples = system / "usr" / "share" / "doc" / "rsmp-site" / "examples"
+    shutil.copy(examples / "barrier.txt", options.parent)
+    text = (examples / "rsmp-site.conf").read_text().replace("10.0.0.1:12111", "127.0.0.1:1").replace("\ndrain  ", "\n#drain  ")
+    options.write_text(re.sub(r"(?<= )/(?=etc|var|run)", f"{system}/", text))
+    control = system / "run" / "rsmp-site" / "control"
+    for held, order in ((1, ["alarm", "2", "on"]), (2, ["alarm", "3", "on"])):
+        program = [RUN, system / "usr" / "bin" / "rsmp-site"]
+        with subprocess.Popen([*program, "--config", options], stdout=subprocess.PIPE, text=True) as site:
+            for line in site.stdout:
+                if "cannot connect" in line:
+                    break
+            for words, said in ((order, "done\n"), (["counts"], f"done: link 0 holds {held}, lost 0; link 1 holds 0, lost 0\n")):
+                told = subprocess.run([*program, "--send", control, *words], capture_output=True, text=True)
+                hold((told.returncode, told.stdout) == (0, said), f"the installed site at {words}: {told}")
+            site.terminate()
+            site.stdout.read()
+        hold(site.returncode == 0, f"the installed site ends with {site.returncode}")
+        dpkg(system, "--install", package)
+    dpkg(system, "--remove", "rsmp-site")
+    hold(options.exists() and (system / "etc/logrotate.d/rsmp-site").exists() and not (system / "usr/bin/rsmp-site").exists(), "what removing leaves")
+    dpkg(system, "--purge", "rsmp-site")
+    left = {name for name in files(system) if not name.startswith("var/lib/dpkg/")} - own
+    hold(not left and (system / "etc/rsmp-site/barrier.txt").exists(), f"a purge leaves {left}")
+    return "a Debian package installed twice, started, removed and purged"
+
+
 def main(words):
     if words != ["--stored"]:
         print(__doc__)
@@ -127,13 +216,15 @@ def main(words):
         judge_linking(place, room)
         judge_pages(place)
         judge_unit(place)
+        judge_completions(place)
         make("install", f"DESTDIR={room}/image", "PREFIX=/usr")
         hold(set(files(room / "image" / "usr")) == TREE, "DESTDIR is not kept")
         hold(f"{room}" not in (room / "image" / "usr" / "lib" / "pkgconfig" / "rsmp_site.pc").read_text(), "DESTDIR stands in a file")
         make("uninstall", f"PREFIX={place}")
         hold(not files(place), f"uninstall leaves {sorted(files(place))}")
+        deb = judge_deb(room)
     with_tools = [name for name in ("pkg-config", "man", "mandoc", "systemd-analyze") if shutil.which(name)]
-    print(f"packaging: nothing done where nothing changed; {len(TREE)} files installed and taken away, judged by {', '.join(with_tools)}")
+    print(f"packaging: nothing done where nothing changed; {len(TREE)} files installed and taken away, judged by {', '.join(with_tools)}; {deb}")
     return 0
 
 

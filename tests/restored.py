@@ -33,7 +33,7 @@ def played(lines):
 def drawn(lines):
     done = subprocess.run([REPLAY, "--picture"], input="".join(f"{line}\n" for line in lines), capture_output=True, text=True)
     hold(done.returncode == 0, f"rsmp-replay --picture: status {done.returncode}: {done.stderr}")
-    links = [group for group in xml.fromstring(done.stdout).iter(NAME + "g")]
+    links = [group for group in xml.fromstring(done.stdout).iter(NAME + "g") if group.get("id") != "alarms"]
     return [{name: int(link.get(f"data-{name}")) for name in ("issued", "held", "lost", "brought", "dropped")} for link in links]
 
 

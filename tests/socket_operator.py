@@ -4,6 +4,8 @@ import json
 import os
 import pathlib
 import re
+import shutil
+import socket
 import stat
 import subprocess
 
@@ -195,12 +197,29 @@ def looked_at_before(room):
         code, said = status("--check-config", "--config", file, *words)
         hold(code == wanted and "ok" not in said.split(), f"{words}: {code} {said}")
     hold(state.read_bytes() == before, "a look changes the state")
+    for words, wanted in ((("--metrics", "/nowhere/at/all.prom"), "not ok: there is no folder /nowhere/at"),
+                          (("--control-group", "no such group"), "not ok: --control-group: no such group: no such group")):
+        code, said = status("--check-config", "--config", file, *words)
+        hold(code == 1 and said.endswith(f"\n{wanted}\n"), f"{words}: {code} {said}")
+    every = re.sub(r"^#(?=[a-z-]+ +[^ ]+( +#.*)?$)", "", (ROOT / "examples" / "rsmp-site.conf").read_text(), flags=re.MULTILINE)
+    hold("#" not in {line[:1] for line in every.splitlines()[3:]}, f"the example's lines: {every}")
+    for folder in ("/etc/rsmp-site", "/var/lib/rsmp-site", "/run/rsmp-site", "/var/log/rsmp-site"):
+        every = every.replace(folder + "/", f"{room}/")
+    every = every.replace("barrier.txt", "commands.txt").replace("group adm", f"group {os.getgid()}")
+    for name in ("commands.txt", "move"):
+        shutil.copy(ROOT / "examples" / name, room)
+    file.write_text(every)
+    code, said = status("--check-config", "--config", file, "--state", room / "none")
+    hold(code == 0 and f"run {room}/move" in said and f"metrics   {room}/rsmp-site.prom" in said and "mode 660" in said, f"{code} {said}")
 
 
 def drained(room):
-    """Told to end it waits for answers, so long at most, and then says what is left."""
+    """Told to end it waits for answers, so long at most, tells systemd so, and then says what is left."""
+    told = socket.socket(socket.AF_UNIX, socket.SOCK_DGRAM)
+    told.bind(str(pathlib.Path(room) / "notify"))
+    told.settimeout(10)
     supervisor = Supervisor(SITE, SXL, answers=True)
-    process = Process(room, [supervisor], "--drain", "30", record=False)
+    process = Process(room, [supervisor], "--drain", "30", record=False, env={**os.environ, "NOTIFY_SOCKET": told.getsockname()})
     supervisor.wait_up()
     supervisor.answers = False
     hold(process.order("alarm 2 on") == "done", "an alarm")
@@ -208,6 +227,9 @@ def drained(room):
     process.process.terminate()
     process.wait_logged("is to end, and waits up to 30 s for answers: link 0 holds 1, lost 0")
     hold(process.order("counts") == "link 0 holds 1, lost 0" and process.process.poll() is None, "it does not wait")
+    heard = [told.recv(100).decode() for _ in range(2)]
+    longer = re.fullmatch(r"STOPPING=1\nEXTEND_TIMEOUT_USEC=(\d+)", heard[1])
+    hold(heard[0] == "READY=1" and longer and 40e6 < int(longer[1]) <= 45e6, f"systemd is told {heard}")
     supervisor.answers = True
     for said in supervisor.of("Alarm"):
         supervisor.send_raw(message.ack(said["mId"]) + FORM_FEED)
@@ -218,6 +240,7 @@ def drained(room):
     process.quit()
     hold(process.logged("ends with records that are not answered: link 0 holds 1, lost 0") == 1, process.lines[-3:])
     supervisor.close()
+    told.close()
 
 
 TESTS = [shown_and_counted, orders_by_name, who_may_order, forms_of_the_log, looked_at_before, drained, metrics_that_cannot_be_written]

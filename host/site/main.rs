@@ -26,6 +26,7 @@ mod record;
 mod send;
 mod show;
 mod signals;
+mod slots;
 mod state;
 mod system;
 mod wires;

@@ -1,6 +1,7 @@
 //! The site's bytes in a file, so that what is held and what is set survive a power loss. The file is replaced as a whole: it has the
-//! former site or the new one, never a part.
+//! former site or the new one, never a part. Where every call is stored, the file has two places that are written in turn.
 
+use crate::slots::{self, Slots};
 use crate::system::lock;
 use rsmp_site::{check_sum, Phase, Site, Start};
 use std::fs::{self, File};
@@ -91,7 +92,7 @@ pub fn looked_at(path: &str, table: &[u8], start: &Start) -> Look {
     match fs::read(path) {
         Err(error) if error.kind() == io::ErrorKind::NotFound => Look::Nothing,
         Err(error) => Look::Not(error.to_string()),
-        Ok(bytes) => read(&setup(table, start), &bytes).map_or_else(Look::Not, Look::Site),
+        Ok(bytes) => read(&setup(table, start), &slots::newest(bytes)).map_or_else(Look::Not, Look::Site),
     }
 }
 
@@ -101,6 +102,7 @@ pub struct Store {
     setup: [u8; 20],
     last: Option<Instant>,
     changed: bool,
+    slots: Option<Slots>,
     _lock: File,
 }
 
@@ -114,7 +116,7 @@ impl Store {
         let found = match fs::read(&path) {
             Err(error) if error.kind() == io::ErrorKind::NotFound => Found::Nothing,
             Err(error) => return Err(told(error)),
-            Ok(bytes) => match read(&setup, &bytes) {
+            Ok(bytes) => match read(&setup, &slots::newest(bytes)) {
                 Ok(stored) => Found::Site(stored),
                 Err(why) => {
                     let aside = put_aside(&path).map_err(told)?;
@@ -123,7 +125,7 @@ impl Store {
                 }
             },
         };
-        let store = Store { path, interval, setup, last: None, changed: true, _lock: lock };
+        let store = Store { path, interval, setup, last: None, changed: true, slots: None, _lock: lock };
         Ok((store, found))
     }
 
@@ -149,8 +151,21 @@ impl Store {
     /// Writes the site and syncs it.
     pub fn write(&mut self, site: &Site, time: u64) -> Result<(), String> {
         self.last = Some(Instant::now());
-        replace(&self.path, &written(&self.setup, site, time)).map_err(|error| format!("{}: {}", self.path.display(), error))?;
+        let bytes = written(&self.setup, site, time);
+        let done = if self.at_once() { self.put(&bytes) } else { replace(&self.path, &bytes) };
+        done.map_err(|error| format!("{}: {}", self.path.display(), error))?;
         self.changed = false;
+        Ok(())
+    }
+
+    /// In place, with one sync; the first time, and where that does not do, by a new file.
+    fn put(&mut self, bytes: &[u8]) -> io::Result<()> {
+        if self.slots.as_mut().map_or(false, |slots| slots.put(bytes).is_ok()) {
+            return Ok(());
+        }
+        self.slots = None;
+        replace(&self.path, &slots::beginning(bytes))?;
+        self.slots = Slots::open(&self.path).ok();
         Ok(())
     }
 }

@@ -1,0 +1,134 @@
+//! A file with two places that are written in turn, where they lie: one sync each, where a new file and its rename take two. What a power cut tears is the
+//! older place; then the other one is read.
+
+use rsmp_site::check_sum;
+use std::fs::{self, File, OpenOptions};
+use std::io;
+use std::os::unix::fs::{FileExt, MetadataExt};
+use std::path::{Path, PathBuf};
+
+const NAME: &[u8; 8] = b"RSMPTURN";
+/// Name, turn, length.
+const HEAD_BYTES: usize = 24;
+const SUM_BYTES: usize = 8;
+/// A place is a whole number of a disk's pages.
+const PAGE: usize = 4096;
+
+/// An open file of two places.
+pub struct Slots {
+    path: PathBuf,
+    file: File,
+    inode: u64,
+    turn: u64,
+    place: usize,
+}
+
+impl Slots {
+    /// A file that was made of `beginning(content)`.
+    pub fn open(path: &Path) -> io::Result<Slots> {
+        let file = OpenOptions::new().write(true).open(path)?;
+        let about = file.metadata()?;
+        Ok(Slots { path: path.to_path_buf(), file, inode: about.ino(), turn: 1, place: about.len() as usize / 2 })
+    }
+
+    /// Writes over the older place and syncs it. Nothing where the file is no longer at its path, or where it does not fit.
+    pub fn put(&mut self, content: &[u8]) -> io::Result<()> {
+        let bytes = whole(self.turn + 1, content);
+        if bytes.len() > self.place || fs::metadata(&self.path)?.ino() != self.inode {
+            return Err(io::ErrorKind::NotFound.into());
+        }
+        self.turn += 1;
+        self.file.write_all_at(&bytes, self.place as u64 * ((self.turn + 1) % 2))?;
+        self.file.sync_data()
+    }
+}
+
+/// A new file's bytes: all of both places, so that later none has to be found for them.
+pub fn beginning(content: &[u8]) -> Vec<u8> {
+    let mut bytes = whole(1, content);
+    let place = (bytes.len() + PAGE - 1) / PAGE * PAGE;
+    bytes.resize(2 * place, 0);
+    bytes
+}
+
+fn whole(turn: u64, content: &[u8]) -> Vec<u8> {
+    let mut bytes = NAME.to_vec();
+    bytes.extend_from_slice(&turn.to_le_bytes());
+    bytes.extend_from_slice(&(content.len() as u64).to_le_bytes());
+    bytes.extend_from_slice(content);
+    let sum = check_sum(&bytes);
+    bytes.extend_from_slice(&sum.to_le_bytes());
+    bytes
+}
+
+/// What was put last; a file that has no two places is given as it is.
+pub fn newest(bytes: Vec<u8>) -> Vec<u8> {
+    let (first, second) = bytes.split_at(bytes.len() / 2);
+    match [first, second].into_iter().filter_map(read).max_by_key(|(turn, _)| *turn) {
+        Some((_, content)) => content.to_vec(),
+        None => bytes,
+    }
+}
+
+fn read(place: &[u8]) -> Option<(u64, &[u8])> {
+    let number = |at: usize| Some(u64::from_le_bytes(place.get(at..at + 8)?.try_into().ok()?));
+    let end = HEAD_BYTES.checked_add(usize::try_from(number(16)?).ok()?)?;
+    let told = place.get(..end).filter(|_| end.checked_add(SUM_BYTES).map_or(false, |end| end <= place.len()))?;
+    let good = told.starts_with(NAME) && number(end) == Some(check_sum(told));
+    Some((number(8)?, &told[HEAD_BYTES..])).filter(|_| good)
+}
+
+#[cfg(test)]
+mod tests {
+    use super::*;
+
+    fn path(name: &str) -> PathBuf {
+        std::env::temp_dir().join(format!("rsmp-site-slots-{}-{}", name, std::process::id()))
+    }
+
+    #[test]
+    fn in_turn() {
+        let path = path("turn");
+        fs::write(&path, beginning(b"1")).unwrap();
+        let mut slots = Slots::open(&path).unwrap();
+        for content in ["2", "33", "444", ""] {
+            slots.put(content.as_bytes()).unwrap();
+            assert_eq!(newest(fs::read(&path).unwrap()), content.as_bytes());
+        }
+        assert_eq!(fs::metadata(&path).unwrap().len(), 2 * PAGE as u64);
+        assert!(slots.put(&[0; PAGE]).is_err());
+        fs::rename(&path, path.with_extension("moved")).unwrap();
+        assert!(slots.put(b"nobody would find it").is_err());
+        fs::write(&path, "another").unwrap();
+        assert!(slots.put(b"nobody would find it").is_err());
+        assert_eq!(newest(fs::read(&path).unwrap()), b"another");
+        let _ = (fs::remove_file(&path), fs::remove_file(path.with_extension("moved")));
+    }
+
+    #[test]
+    fn torn() {
+        let path = path("torn");
+        fs::write(&path, beginning(b"before")).unwrap();
+        Slots::open(&path).unwrap().put(b"behind").unwrap();
+        let good = fs::read(&path).unwrap();
+        for at in PAGE..PAGE + HEAD_BYTES + 6 + SUM_BYTES {
+            let mut bytes = good.clone();
+            bytes[at] ^= 1;
+            assert_eq!(newest(bytes), b"before", "byte {}", at);
+        }
+        let mut bytes = good.clone();
+        bytes[0] ^= 1;
+        assert_eq!(newest(bytes.clone()), b"behind");
+        bytes[PAGE] ^= 1;
+        assert_eq!(newest(bytes.clone()), bytes);
+        for cut in [0, 1, 7, 23, 31, 32, 100] {
+            let mut bytes = good.clone();
+            bytes.truncate(cut);
+            let _ = newest(bytes);
+        }
+        let mut long = good;
+        long[PAGE + 16..PAGE + 24].copy_from_slice(&u64::MAX.to_le_bytes());
+        assert_eq!(newest(long), b"before");
+        let _ = fs::remove_file(&path);
+    }
+}
