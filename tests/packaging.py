@@ -187,7 +187,7 @@ def lived(package, system):
             for line in site.stdout:
                 if "cannot connect" in line:
                     break
-            for words, said in ((order, "done\n"), (["counts"], f"done: link 0 holds {held}, lost 0; link 1 holds 0, lost 0\n")):
+            for words, said in ((order, "done\n"), (["counts"], f"done: link 0 holds {held}, lost 0\n")):
                 told = subprocess.run([*program, "--send", control, *words], capture_output=True, text=True)
                 hold((told.returncode, told.stdout) == (0, said), f"the installed site at {words}: {told}")
             site.terminate()
