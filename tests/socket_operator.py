@@ -243,4 +243,31 @@ def drained(room):
     told.close()
 
 
-TESTS = [shown_and_counted, orders_by_name, who_may_order, forms_of_the_log, looked_at_before, drained, metrics_that_cannot_be_written]
+def state_in_two_places(room):
+    """With interval 0 the state is written where it lies, in turn; of a torn one the other is taken, and of two torn ones neither."""
+    path = pathlib.Path(room) / "state"
+    words = ([NOWHERE], "--state", path, "--state-interval", "0", "--quiet")
+    process, seen = Process(room, *words, record=False), []
+    for number in (1, 2, 3):
+        hold(process.order(f"alarm {number} on") == "done", "an alarm")
+        seen.append((path.stat().st_ino, path.read_bytes()))
+    process.kill()
+    hold(len({inode for inode, _ in seen}) == 1 and not path.with_name("state.new").exists(), "the state is not written in place")
+    half = len(seen[0][1]) // 2
+    hold(all(sum(before[at:at + half] != behind[at:at + half] for at in (0, half)) == 1 for (_, before), (_, behind) in zip(seen, seen[1:])), "one place at a time")
+    newest = 0 if seen[1][1][:half] != seen[2][1][:half] else half
+    for torn, held in (((), 3), ((newest,), 2), ((0, half), 0)):
+        spoiled = bytearray(seen[-1][1])
+        for at in torn:
+            spoiled[at + 5000:at + 6000] = bytes(1000)
+        path.write_bytes(spoiled)
+        process = Process(room, *words, record=False)
+        hold(process.order("counts") == f"link 0 holds {held}, lost 0", f"places torn: {torn}")
+        hold(process.logged("the state is not taken") == (held == 0), process.lines)
+        process.quit()
+    process = Process(room, *words, "--state-interval", "10", record=False)
+    hold(process.order("alarm 1 on") == "done" and process.order("save") == "done" and path.read_bytes()[:8] == b"RSMPHOST", "another interval")
+    process.quit()
+
+
+TESTS = [shown_and_counted, orders_by_name, who_may_order, forms_of_the_log, looked_at_before, drained, metrics_that_cannot_be_written, state_in_two_places]

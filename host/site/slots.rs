@@ -1,6 +1,7 @@
 //! A file with two places that are written in turn, where they lie: one sync each, where a new file and its rename take two. What a power cut tears is the
 //! older place; then the other one is read.
 
+use crate::state::replace;
 use rsmp_site::check_sum;
 use std::fs::{self, File, OpenOptions};
 use std::io;
@@ -14,8 +15,35 @@ const SUM_BYTES: usize = 8;
 /// A place is a whole number of a disk's pages.
 const PAGE: usize = 4096;
 
+/// A file that is written over and over.
+pub struct Kept {
+    path: PathBuf,
+    in_turn: bool,
+    slots: Option<Slots>,
+}
+
+impl Kept {
+    pub fn new(path: PathBuf, in_turn: bool) -> Kept {
+        Kept { path, in_turn, slots: None }
+    }
+
+    /// In place, with one sync; the first time, and where that does not do, by a new file.
+    pub fn write(&mut self, bytes: &[u8]) -> io::Result<()> {
+        if !self.in_turn {
+            return replace(&self.path, bytes);
+        }
+        if self.slots.as_mut().map_or(false, |slots| slots.put(bytes).is_ok()) {
+            return Ok(());
+        }
+        self.slots = None;
+        replace(&self.path, &beginning(bytes))?;
+        self.slots = Slots::open(&self.path).ok();
+        Ok(())
+    }
+}
+
 /// An open file of two places.
-pub struct Slots {
+struct Slots {
     path: PathBuf,
     file: File,
     inode: u64,
@@ -25,14 +53,14 @@ pub struct Slots {
 
 impl Slots {
     /// A file that was made of `beginning(content)`.
-    pub fn open(path: &Path) -> io::Result<Slots> {
+    fn open(path: &Path) -> io::Result<Slots> {
         let file = OpenOptions::new().write(true).open(path)?;
         let about = file.metadata()?;
         Ok(Slots { path: path.to_path_buf(), file, inode: about.ino(), turn: 1, place: about.len() as usize / 2 })
     }
 
     /// Writes over the older place and syncs it. Nothing where the file is no longer at its path, or where it does not fit.
-    pub fn put(&mut self, content: &[u8]) -> io::Result<()> {
+    fn put(&mut self, content: &[u8]) -> io::Result<()> {
         let bytes = whole(self.turn + 1, content);
         if bytes.len() > self.place || fs::metadata(&self.path)?.ino() != self.inode {
             return Err(io::ErrorKind::NotFound.into());
@@ -44,7 +72,7 @@ impl Slots {
 }
 
 /// A new file's bytes: all of both places, so that later none has to be found for them.
-pub fn beginning(content: &[u8]) -> Vec<u8> {
+fn beginning(content: &[u8]) -> Vec<u8> {
     let mut bytes = whole(1, content);
     let place = (bytes.len() + PAGE - 1) / PAGE * PAGE;
     bytes.resize(2 * place, 0);
@@ -102,6 +130,26 @@ mod tests {
         fs::write(&path, "another").unwrap();
         assert!(slots.put(b"nobody would find it").is_err());
         assert_eq!(newest(fs::read(&path).unwrap()), b"another");
+        let _ = (fs::remove_file(&path), fs::remove_file(path.with_extension("moved")));
+    }
+
+    #[test]
+    fn kept() {
+        let path = path("kept");
+        let mut kept = Kept::new(path.clone(), true);
+        for content in ["1", "2", "3"] {
+            kept.write(content.as_bytes()).unwrap();
+            assert_eq!(newest(fs::read(&path).unwrap()), content.as_bytes());
+        }
+        let inode = |path: &Path| fs::metadata(path).unwrap().ino();
+        let before = inode(&path);
+        kept.write(b"4").unwrap();
+        assert_eq!(inode(&path), before);
+        fs::rename(&path, path.with_extension("moved")).unwrap();
+        kept.write(&[5; 9 * PAGE]).unwrap();
+        assert_eq!(newest(fs::read(&path).unwrap()), [5; 9 * PAGE]);
+        Kept::new(path.clone(), false).write(b"6").unwrap();
+        assert_eq!(fs::read(&path).unwrap(), b"6");
         let _ = (fs::remove_file(&path), fs::remove_file(path.with_extension("moved")));
     }
 

@@ -1,7 +1,7 @@
 //! The site's bytes in a file, so that what is held and what is set survive a power loss. The file is replaced as a whole: it has the
 //! former site or the new one, never a part. Where every call is stored, the file has two places that are written in turn.
 
-use crate::slots::{self, Slots};
+use crate::slots::{self, Kept};
 use crate::system::lock;
 use rsmp_site::{check_sum, Phase, Site, Start};
 use std::fs::{self, File};
@@ -98,11 +98,11 @@ pub fn looked_at(path: &str, table: &[u8], start: &Start) -> Look {
 
 pub struct Store {
     path: PathBuf,
+    kept: Kept,
     interval: Duration,
     setup: [u8; 20],
     last: Option<Instant>,
     changed: bool,
-    slots: Option<Slots>,
     _lock: File,
 }
 
@@ -125,7 +125,8 @@ impl Store {
                 }
             },
         };
-        let store = Store { path, interval, setup, last: None, changed: true, slots: None, _lock: lock };
+        let kept = Kept::new(path.clone(), interval.is_zero());
+        let store = Store { path, kept, interval, setup, last: None, changed: true, _lock: lock };
         Ok((store, found))
     }
 
@@ -151,21 +152,8 @@ impl Store {
     /// Writes the site and syncs it.
     pub fn write(&mut self, site: &Site, time: u64) -> Result<(), String> {
         self.last = Some(Instant::now());
-        let bytes = written(&self.setup, site, time);
-        let done = if self.at_once() { self.put(&bytes) } else { replace(&self.path, &bytes) };
-        done.map_err(|error| format!("{}: {}", self.path.display(), error))?;
+        self.kept.write(&written(&self.setup, site, time)).map_err(|error| format!("{}: {}", self.path.display(), error))?;
         self.changed = false;
-        Ok(())
-    }
-
-    /// In place, with one sync; the first time, and where that does not do, by a new file.
-    fn put(&mut self, bytes: &[u8]) -> io::Result<()> {
-        if self.slots.as_mut().map_or(false, |slots| slots.put(bytes).is_ok()) {
-            return Ok(());
-        }
-        self.slots = None;
-        replace(&self.path, &slots::beginning(bytes))?;
-        self.slots = Slots::open(&self.path).ok();
         Ok(())
     }
 }
@@ -190,7 +178,7 @@ fn beside(path: &Path, ending: &str) -> PathBuf {
 }
 
 /// A new file, synced, takes the old one's name; then the folder is synced.
-fn replace(path: &Path, bytes: &[u8]) -> io::Result<()> {
+pub fn replace(path: &Path, bytes: &[u8]) -> io::Result<()> {
     let new = beside(path, ".new");
     let mut file = File::create(&new)?;
     file.write_all(bytes)?;
