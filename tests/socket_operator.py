@@ -259,7 +259,7 @@ def state_in_two_places(room):
     for torn, held in (((), 3), ((newest,), 2), ((0, half), 0)):
         spoiled = bytearray(seen[-1][1])
         for at in torn:
-            spoiled[at + 5000:at + 6000] = bytes(1000)
+            spoiled[at + 5000] ^= 1
         path.write_bytes(spoiled)
         process = Process(room, *words, record=False)
         hold(process.order("counts") == f"link 0 holds {held}, lost 0", f"places torn: {torn}")
