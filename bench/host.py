@@ -1,5 +1,6 @@
-"""How many messages a second `rsmp-site` takes and sends over loopback, and how many times longer a message takes on four links, with a log, a record and a
-state, than on one link without: all in one run, taking turns. bench/supervisors.c asks for the aggregated status, eight requests in flight a link.
+"""How many messages a second `rsmp-site` takes and sends over loopback, and how many times the processor time of one link without anything a message takes
+on four links, with a log, a record and a state: all in one run, taking turns. bench/supervisors.c asks for the aggregated status, eight requests in
+flight a link.
 
   host.py [SECONDS [ROUNDS]]     a round measures each setup so long; after `make build`
   host.py --flash                bytes written, stores and syncs a message for each --state-interval, on the file system of the folder for temporary files
@@ -28,7 +29,7 @@ SETUPS = {
 
 
 def rate(supervisors, links, *options, seconds):
-    """Messages a second of both ways."""
+    """Messages a second of both ways, and the site's processor time a message in microseconds."""
     with tempfile.TemporaryDirectory() as room:
         peer = subprocess.Popen([supervisors, str(links), str(seconds), SITE, SXL], stdout=subprocess.PIPE, text=True)
         words = [word for port in peer.stdout.readline().split() for word in ("--supervisor", f"127.0.0.1:{port}")]
@@ -36,12 +37,13 @@ def rate(supervisors, links, *options, seconds):
         process = subprocess.Popen([PROGRAM, "--table", TABLE, *words, *options], stdin=subprocess.DEVNULL, stdout=subprocess.DEVNULL)
         try:
             said = peer.communicate(timeout=60 + 2 * seconds)[0]
+            spent = Process.processor_seconds(process)
         finally:
             peer.kill()
             process.kill()
             process.wait()
-    messages, taken = said.split()
-    return int(messages) / float(taken)
+    messages, taken, all_messages = said.split()
+    return int(messages) / float(taken), 1e6 * spent / int(all_messages)
 
 
 def rates(seconds, rounds):
@@ -51,11 +53,11 @@ def rates(seconds, rounds):
         for _ in range(rounds):
             for name, (links, *options) in SETUPS.items():
                 found[name].append(rate(supervisors, links, *options, seconds=seconds))
-    base = found["one link"]
+    base = [spent for _, spent in found["one link"]]
     for name, each in found.items():
-        times = sorted(one / other for one, other in zip(base, each))
-        print(f"{name:34} {statistics.median(each):8.0f} messages a second   a message takes {statistics.median(times):6.2f} times as long"
-              f" ({times[0]:.2f} to {times[-1]:.2f})")
+        times = sorted(spent / one for one, (_, spent) in zip(base, each))
+        print(f"{name:34} {statistics.median(rate for rate, _ in each):7.0f} messages a second, {statistics.median(spent for _, spent in each):6.1f} us of processor time each: "
+              f"{statistics.median(times):5.2f} times one link's ({times[0]:.2f} to {times[-1]:.2f})")
 
 
 def io_of(process):

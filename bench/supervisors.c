@@ -1,6 +1,6 @@
 /* The supervisors of bench/host.py, quick enough not to be what is measured: each listens on a port of loopback, greets, then keeps so many
    requests for the aggregated status in flight and answers all that it gets. Prints the ports; when all are Up it counts for so many
-   seconds and prints the messages of both ways and the seconds; then it ends. */
+   seconds and prints the messages of both ways, the seconds, and the messages from the beginning; then it ends. */
 #define _GNU_SOURCE
 #include <arpa/inet.h>
 #include <netinet/tcp.h>
@@ -166,6 +166,6 @@ int main(int count, char **words)
         for (int i = 0; i < number; i++)
             if (polled[i].revents) read_some(&links[i]);
     }
-    printf("%ld %.3f\n", messages - before, now() - began);
+    printf("%ld %.3f %ld\n", messages - before, now() - began, messages);
     return 0;
 }
