@@ -3,7 +3,7 @@ on four links, with a log, a record and a state: all in one run, taking turns. b
 flight a link.
 
   host.py [SECONDS [ROUNDS]]     a round measures each setup so long; after `make build`
-  host.py --flash                bytes written, stores and syncs a message for each --state-interval, on the file system of the folder for temporary files
+  host.py --flash                bytes of the state, in whole pages, and syncs a message for each --state-interval; wants strace
 """
 import pathlib
 import re
@@ -17,7 +17,7 @@ from built import program
 from process import PROGRAM, SITE, SXL, TABLE, Process, subscription
 from supervisors import Supervisor
 
-SECONDS, ROUNDS = 2, 5
+SECONDS, ROUNDS, PAGE = 2, 5, 4096
 SETUPS = {
     "one link": (1, "--quiet"),
     "four links": (4, "--quiet"),
@@ -60,9 +60,9 @@ def rates(seconds, rounds):
               f"{statistics.median(times):5.2f} times one link's ({times[0]:.2f} to {times[-1]:.2f})")
 
 
-def io_of(process):
-    """Bytes that the process had written to the disk's cache."""
-    return int(re.search(r"^write_bytes: (\d+)", pathlib.Path(f"/proc/{process.pid}/io").read_text(), re.MULTILINE)[1])
+def pages_of(trace):
+    """Bytes of the pages that states were written to."""
+    return sum(-(-int(size) // PAGE) * PAGE for size in re.findall(r'write(?:64)?\(\d+, "RSMP(?:HOST|TURN)[^"]*"\.\.\., (\d+)', trace))
 
 
 def flash():
@@ -74,17 +74,17 @@ def flash():
             supervisor.wait_up()
             supervisor.ask("StatusSubscribe", **subscription())
             time.sleep(1)
-            tracer = subprocess.Popen(["strace", "-f", "-q", "-e", "trace=fsync,fdatasync", "-o", trace, "-p", str(process.pid)])
+            tracer = subprocess.Popen(["strace", "-f", "-q", "-e", "trace=fsync,fdatasync,write,pwrite64", "-o", trace, "-p", str(process.pid)])
             time.sleep(1)
-            before, written, began = len(supervisor.of("StatusUpdate")), io_of(process), time.monotonic()
+            before, began = len(supervisor.of("StatusUpdate")), time.monotonic()
             for value in range(200):
                 process.order(f"status 1 {value}")
                 time.sleep(0.1)
             supervisor.wait(lambda: len(supervisor.of("StatusUpdate")) - before >= 200, "the updates")
-            taken, bytes_, sent = time.monotonic() - began, io_of(process) - written, len(supervisor.of("StatusUpdate")) - before
+            taken, sent = time.monotonic() - began, len(supervisor.of("StatusUpdate")) - before
             tracer.terminate()
             tracer.wait()
-            syncs = len(re.findall(r"sync\(\d+\)|sync resumed", trace.read_text()))
+            bytes_, syncs = pages_of(trace.read_text()), len(re.findall(r"sync\(\d+\)|sync resumed", trace.read_text()))
             process.quit()
             supervisor.close()
         print(f"interval {interval:>2}: {sent} messages in {taken:.0f} s, a message {bytes_ / sent:8.0f} bytes and {syncs / sent:.3f} syncs")
