@@ -17,13 +17,17 @@ VERSION = (ROOT / "VERSION").read_text().strip()
 CC, RUN = ROOT / "build" / "tools" / "cc", ROOT / "build" / "tools" / "run"
 PROGRAMS = ["rsmp-site", "rsmp-replay", "rsmp-table", "rsmp-week"]
 TREE = {*(f"bin/{name}" for name in PROGRAMS), *(f"share/man/man1/{name}.1" for name in PROGRAMS), "include/rsmp_site.h",
-        "include/rsmp_week.h", "lib/librsmp_site.a", "lib/librsmp_week.a", "lib/pkgconfig/rsmp_site.pc", "lib/systemd/system/rsmp-site.service",
-        *(f"share/bash-completion/completions/{name}" for name in PROGRAMS),
+        "include/rsmp_week.h", "lib/librsmp_site.a", "lib/librsmp_week.a", "lib/pkgconfig/rsmp_site.pc", "lib/pkgconfig/rsmp_week.pc",
+        "lib/systemd/system/rsmp-site.service", *(f"share/bash-completion/completions/{name}" for name in PROGRAMS),
         *(f"share/doc/rsmp-site/examples/{name}" for name in ("rsmp-site.conf", "rsmp-site.logrotate", "barrier.txt", "commands.txt", "move"))}
-ENDS = """#include <rsmp_site.h>
+# A program for each library, and the status it ends with.
+ENDS = {"rsmp_site": ("""#include <rsmp_site.h>
 static rsmp_site site;
 int main(void) { return (int)rsmp_start(&site, (const uint8_t *)"", 0, 1, 0, 60, 0, 0); }
-"""
+""", 11), "rsmp_week": ("""#include <rsmp_week.h>
+static uint64_t words[RSMP_WEEK_WORDS];
+int main(void) { return (int)(rsmp_week_begin(words, RSMP_WEEK_WORDS) * 2 + rsmp_week_begin(words, 1)); }
+""", 1)}
 
 
 def hold(good, what):
@@ -31,10 +35,10 @@ def hold(good, what):
         sys.exit(f"packaging: {what}")
 
 
-def make(*words):
+def make(*words, umask=-1):
     """Not as a part of a make that runs us."""
     environment = {name: value for name, value in os.environ.items() if name not in ("MAKEFLAGS", "MFLAGS", "MAKELEVEL")}
-    done = subprocess.run(["make", "-C", ROOT, "--no-print-directory", *words], capture_output=True, text=True, env=environment)
+    done = subprocess.run(["make", "-C", ROOT, "--no-print-directory", *words], capture_output=True, text=True, env=environment, umask=umask)
     hold(done.returncode == 0, f"make {' '.join(words)}: {done.stdout[-2000:]}{done.stderr[-2000:]}")
     return done.stdout
 
@@ -73,20 +77,28 @@ def judge_tree(place):
         hold(said == f"{name} {VERSION}\n", f"the installed {name} says {said!r}")
 
 
-def judge_linking(place, room):
+def judge_linking(place, room, library):
     """By the flags of the pkg-config file."""
-    said = (place / "lib" / "pkgconfig" / "rsmp_site.pc").read_text()
+    said = (place / "lib" / "pkgconfig" / f"{library}.pc").read_text()
     values = {name: value for name, value in re.findall(r"^(\w+)=(.*)$", said, re.MULTILINE)}
     filled = re.sub(r"\$\{(\w+)\}", lambda found: values[found[1]], said)
     flags = {name: value.split() for name, value in re.findall(r"^(\w+): (.*)$", filled, re.MULTILINE)}
     hold(flags["Version"] == [VERSION], f"the pkg-config file says {flags['Version']}")
     if shutil.which("pkg-config"):
-        told = subprocess.run(["pkg-config", "--cflags", "--libs", "rsmp_site"], capture_output=True, text=True,
+        told = subprocess.run(["pkg-config", "--cflags", "--libs", library], capture_output=True, text=True,
                               env={**os.environ, "PKG_CONFIG_PATH": str(place / "lib" / "pkgconfig")})
         hold(told.stdout.split() == flags["Cflags"] + flags["Libs"], f"pkg-config says {told.stdout}{told.stderr}")
-    (room / "ends.c").write_text(ENDS)
+    text, status = ENDS[library]
+    (room / "ends.c").write_text(text)
     subprocess.run([CC, "-o", room / "ends", room / "ends.c", *flags["Cflags"], *flags["Libs"]], check=True)
-    hold(subprocess.run([RUN, room / "ends"]).returncode == 11, "a program that is built with the installed library does not run")
+    hold(subprocess.run([RUN, room / "ends"]).returncode == status, f"a program that is built with the installed {library} does not run")
+
+
+def judge_modes(place):
+    """Everybody may read what is installed, also where the umask is narrow."""
+    for path in [place, *place.rglob("*")]:
+        wanted = 0o755 if path.is_dir() or path.parent.name == "bin" else 0o644
+        hold(path.stat().st_mode & 0o777 == wanted, f"{path} has the mode {path.stat().st_mode & 0o777:o}")
 
 
 def judge_pages(place):
@@ -109,7 +121,7 @@ def judge_pages(place):
 def judge_unit(place):
     unit = place / "lib" / "systemd" / "system" / "rsmp-site.service"
     said = unit.read_text()
-    for line in ("Type=notify", "WatchdogSec=30", f"ExecStart={place}/bin/rsmp-site --config /etc/rsmp-site/rsmp-site.conf"):
+    for line in ("Type=notify", "WatchdogSec=30", "RestartPreventExitStatus=2 3", f"ExecStart={place}/bin/rsmp-site --config /etc/rsmp-site/rsmp-site.conf"):
         hold(line in said.splitlines(), f"the unit has no line {line}")
     if shutil.which("systemd-analyze"):
         done = subprocess.run(["systemd-analyze", "verify", "--man=no", unit], capture_output=True, text=True)
@@ -211,9 +223,11 @@ def main(words):
     with tempfile.TemporaryDirectory() as name:
         room = pathlib.Path(name)
         place = room / "there"
-        make("install", f"PREFIX={place}")
+        make("install", f"PREFIX={place}", umask=0o077)
         judge_tree(place)
-        judge_linking(place, room)
+        judge_modes(place)
+        for library in ENDS:
+            judge_linking(place, room, library)
         judge_pages(place)
         judge_unit(place)
         judge_completions(place)

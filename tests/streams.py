@@ -1,8 +1,9 @@
 """From a site's record to its weekly report: `rsmp-replay --stream` writes what each supervisor was sent, byte for byte, and `rsmp-week` reads it and
-files one after the other.
+files one after the other. And what these programs and `rsmp-table` say where their output is full or nobody reads it.
 
   streams.py --stored
 """
+import os
 import pathlib
 import subprocess
 import sys
@@ -12,7 +13,7 @@ import replays
 import weeks
 from cases import ROOT
 
-REPLAY, WEEK = ROOT / "build" / "rsmp-replay", ROOT / "build" / "rsmp-week"
+REPLAY, WEEK, TABLE = (ROOT / "build" / name for name in ("rsmp-replay", "rsmp-week", "rsmp-table"))
 
 
 def hold(good, what):
@@ -73,6 +74,29 @@ def judge_files(room):
         hold(got[0] == code and said in got[2] and not got[1], f"{words}: {got}")
 
 
+def judge_outputs(room):
+    """Into a full device and into pipes that nobody reads, for output and for complaints: a status and a word, no panic."""
+    table, script = ROOT / "examples" / "barrier.txt", room / "script"
+    script.write_text(replays.texts(next(one for one in replays.STORED if sent(one().pairs, 0))())[0])
+    told = ((REPLAY, ()), (REPLAY, ("--help",)), (REPLAY, ("--version",)), (REPLAY, ("--picture", script)), (REPLAY, ("--stream", "0", script)),
+            (TABLE, ("--help",)), (TABLE, ("--version",)), (TABLE, ("pack", table)), (TABLE, ("check", table)), (TABLE, ("hex", table)),
+            (WEEK, ()), (WEEK, ("--help",)), (WEEK, ("--version",)))
+    given = script.read_bytes()
+    for program, words in told:
+        with open("/dev/full", "wb") as full:
+            done = subprocess.run([program, *words], input=given, stdout=full, stderr=subprocess.PIPE)
+            said = done.stderr.decode()
+        hold(done.returncode in (1, 2) and "No space left" in said and "input" not in said, f"{program.name} {words} into a full device: {done.returncode} {said}")
+    wrong = ((REPLAY, ("--what",)), (REPLAY, ("--stream", "9")), (TABLE, ("unpack", table)), (TABLE, ("what",)), (WEEK, ("--what",)))
+    for program, words in told + wrong:
+        reading, writing = os.pipe()
+        os.close(reading)
+        done = subprocess.run([program, *words], input=given, stdout=writing, stderr=writing)
+        os.close(writing)
+        hold(done.returncode in (1, 2), f"{program.name} {words} where nobody reads: {done.returncode}")
+    return len(told) + len(wrong)
+
+
 def main(words):
     if words != ["--stored"]:
         print(__doc__)
@@ -80,7 +104,9 @@ def main(words):
     with tempfile.TemporaryDirectory() as name:
         total = judge_streams(pathlib.Path(name))
         judge_files(pathlib.Path(name))
-    print(f"streams: {len(replays.STORED)} stored scripts give the {total} bytes that were sent, and rsmp-week their reports, from files too")
+        closed = judge_outputs(pathlib.Path(name))
+    print(f"streams: {len(replays.STORED)} stored scripts give the {total} bytes that were sent, and rsmp-week their reports, from files too; "
+          f"{closed} command lines find their output full or closed and say so")
     return 0
 
 

@@ -39,6 +39,8 @@ enum End {
     BadLine(usize, String),
     Broken(io::Error),
     Words(String),
+    /// The help has said it.
+    NoWords,
 }
 
 impl From<io::Error> for End {
@@ -51,12 +53,24 @@ impl End {
     fn told(self) -> ExitCode {
         match self {
             End::Violation => return ExitCode::from(1),
-            End::BadLine(number, message) => eprintln!("rsmp-replay: line {}: {}", number, message),
-            End::Broken(error) => eprintln!("rsmp-replay: {}", error),
-            End::Words(message) => eprintln!("rsmp-replay: {}", message),
+            End::BadLine(number, message) => complain(&format!("line {}: {}", number, message)),
+            End::Broken(error) => complain(&error.to_string()),
+            End::Words(message) => complain(&message),
+            End::NoWords => {}
         }
         ExitCode::from(2)
     }
+}
+
+/// Also where nobody listens.
+fn complain(text: &str) {
+    let _ = writeln!(io::stderr(), "rsmp-replay: {}", text);
+}
+
+fn print(text: &str) -> Result<(), End> {
+    let mut output = io::stdout().lock();
+    output.write_all(text.as_bytes())?;
+    Ok(output.flush()?)
 }
 
 /// Plays each line, and hands on the line with its answer and the site after it.
@@ -69,7 +83,7 @@ fn play(input: impl BufRead, mut each: impl FnMut(&Line, &str, &Player) -> io::R
         match player.play(&line).map_err(|message| End::BadLine(number, message))? {
             Ok(answer) => each(&line, &answer, &player)?,
             Err(Violation(what)) => {
-                println!("VIOLATION line {}: {}", number, what);
+                print(&format!("VIOLATION line {}: {}\n", number, what))?;
                 return Err(End::Violation);
             }
         }
@@ -93,7 +107,7 @@ fn picture(input: impl BufRead) -> Result<(), End> {
         return played;
     }
     day.end();
-    io::stdout().write_all(picture::draw(&day).as_bytes())?;
+    print(&picture::draw(&day))?;
     played
 }
 
@@ -114,6 +128,10 @@ fn stream_of(link: &str, input: Result<impl BufRead, io::Error>) -> Result<(), E
     }
 }
 
+fn help() -> String {
+    format!("{}{}{}", USAGE, script::help(), ANSWERS)
+}
+
 fn main() -> ExitCode {
     let words: Vec<String> = std::env::args_os().skip(1).map(|word| word.to_string_lossy().into_owned()).collect();
     let words: Vec<&str> = words.iter().map(String::as_str).collect();
@@ -123,14 +141,9 @@ fn main() -> ExitCode {
         ["--picture", name] => File::open(name).map_err(End::Broken).and_then(|file| picture(BufReader::new(file))),
         ["--stream", link] => stream_of(link, Ok(io::stdin().lock())),
         ["--stream", link, name] => stream_of(link, File::open(name).map(BufReader::new)),
-        ["--version" | "-V"] => {
-            println!("rsmp-replay {}", env!("RSMP_VERSION"));
-            Ok(())
-        }
-        _ => {
-            print!("{}{}{}", USAGE, script::help(), ANSWERS);
-            return ExitCode::from(if matches!(words[..], ["--help" | "-h"]) { 0 } else { 2 });
-        }
+        ["--version" | "-V"] => print(concat!("rsmp-replay ", env!("RSMP_VERSION"), "\n")),
+        ["--help" | "-h"] => print(&help()),
+        _ => print(&help()).and(Err(End::NoWords)),
     };
     done.map_or_else(End::told, |()| ExitCode::SUCCESS)
 }

@@ -6,6 +6,7 @@ use crate::{Site, LINKS};
 
 /// A link's share of the subscriptions, and the alarms and statuses there are places for.
 const ROWS: u32 = 32;
+const NEXT_NUMBER: usize = 0;
 const AGGREGATED: usize = 4;
 const SUBSCRIPTIONS: usize = 821;
 const ALARMS: usize = 1077;
@@ -40,6 +41,11 @@ pub struct Subscription {
 }
 
 impl Site {
+    /// The sequence number of the next record; 4294967296 where they are used up.
+    pub fn next_number(&self) -> u64 {
+        self.lent.words[NEXT_NUMBER]
+    }
+
     /// The eight booleans of the aggregated status, the first in the highest bit.
     pub fn aggregated_value(&self) -> u8 {
         self.lent.words[AGGREGATED] as u8

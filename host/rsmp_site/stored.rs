@@ -37,6 +37,9 @@ impl fmt::Display for NotStored {
     }
 }
 
+#[cfg(feature = "std")]
+impl std::error::Error for NotStored {}
+
 /// FNV-1a of 64 bits: another byte anywhere gives another sum.
 pub fn check_sum(bytes: &[u8]) -> u64 {
     bytes.iter().fold(0xcbf2_9ce4_8422_2325, |sum, byte| (sum ^ u64::from(*byte)).wrapping_mul(0x0000_0100_0000_01b3))

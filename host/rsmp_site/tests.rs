@@ -157,6 +157,8 @@ fn bytes_and_back() {
         change(&mut bytes);
         Site::from_stored(&bytes).err()
     };
+    let as_error: &dyn std::error::Error = &NotStored::Damaged;
+    assert!(as_error.to_string().contains("check sum"));
     assert_eq!(fault(&|bytes| bytes[16] ^= 1), Some(NotStored::Damaged));
     assert_eq!(fault(&|bytes| bytes[STORED_BYTES - 1] ^= 1), Some(NotStored::Damaged));
     assert_eq!(fault(&|bytes| bytes[8] = 1), Some(NotStored::Edition(1)));
@@ -232,7 +234,9 @@ fn what_stands_inside() {
     let mut site = up(TABLE);
     let quiet = AlarmState { active: false, acknowledged: true, suspended: false, time: NOON };
     assert_eq!((site.alarm_state(5), site.alarm_state(32)), (Some(quiet), None));
+    let before = site.next_number();
     assert!(site.alarm(2, true, NOON + 1).is_ok() && site.aggregated(0x81, NOON + 1).is_ok());
+    assert_eq!(site.next_number(), before + 1 + u64::from(site.links()), "one for the alarm, one a link for the aggregated status");
     let wanted = AlarmState { active: true, acknowledged: false, suspended: false, time: NOON + 1 };
     assert_eq!((site.alarm_state(2), site.aggregated_value()), (Some(wanted), 0x81));
     let suspend = "\"cId\":\"O+14439=481BR001\",\"aCId\":\"A0101\",\"xACId\":\"\",\"xNACId\":\"\",\"aSp\":\"Suspend\"";

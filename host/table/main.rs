@@ -41,8 +41,17 @@ fn content(name: &str) -> Done<Vec<u8>> {
 }
 
 fn put(name: &str, bytes: &[u8]) -> Done<()> {
-    let written = if name == "-" { io::stdout().write_all(bytes) } else { fs::write(name, bytes) };
-    written.map_err(|error| Failed::Unusable(format!("{}: {}", shown(name), error)))
+    if name != "-" {
+        return fs::write(name, bytes).map_err(|error| Failed::Unusable(format!("{}: {}", name, error)));
+    }
+    let mut output = io::stdout().lock();
+    let written = output.write_all(bytes).and_then(|()| output.flush());
+    written.map_err(|error| Failed::Unusable(format!("standard output: {}", error)))
+}
+
+/// Also where nobody listens.
+fn complain(text: &str) {
+    let _ = writeln!(io::stderr(), "{}", text);
 }
 
 fn shown(name: &str) -> &str {
@@ -156,7 +165,7 @@ fn main() -> ExitCode {
     let words: Vec<String> = match std::env::args_os().skip(1).map(|word| word.into_string()).collect() {
         Ok(words) => words,
         Err(word) => {
-            eprintln!("rsmp-table: {:?} is not UTF-8", word);
+            complain(&format!("rsmp-table: {:?} is not UTF-8", word));
             return ExitCode::from(2);
         }
     };
@@ -169,11 +178,11 @@ fn main() -> ExitCode {
     match said {
         Ok(()) => ExitCode::SUCCESS,
         Err(Failed::NoTable(lines)) => {
-            eprintln!("{}", lines.join("\n"));
+            complain(&lines.join("\n"));
             ExitCode::from(1)
         }
         Err(Failed::Unusable(message)) => {
-            eprintln!("{}", message);
+            complain(&message);
             ExitCode::from(2)
         }
     }

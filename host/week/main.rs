@@ -129,7 +129,7 @@ fn print(bytes: &[u8]) -> io::Result<()> {
 }
 
 fn failed(status: u8, message: String) -> ExitCode {
-    eprintln!("rsmp-week: {message}");
+    let _ = writeln!(io::stderr(), "rsmp-week: {message}");
     ExitCode::from(status)
 }
 
