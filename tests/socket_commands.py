@@ -1,11 +1,9 @@
 """Commands over real sockets: a program is run for each, one after the other in the order in which they came over all links, and the site goes
 on meanwhile; what was acknowledged is run or told of."""
 import pathlib
-import subprocess
 import threading
 import time
 
-from cases import ROOT
 from process import NORTH, RELEASE, SITE, SOUTH, SXL, WITH_COMMANDS, Process, boom, commanding, hold, subscription, wait
 from recorded import judge_record
 from socket_end import status
@@ -145,10 +143,60 @@ def no_room(room):
     hold("beside another" not in program.lines(), "two programs ran at a time")
     process.quit()
     hold(process.logged("commands 258 handed over: 258 done, 0 failed, none runs, 0 wait; 1 not taken") == 1, "the summary")
-    played = subprocess.run([ROOT / "build" / "rsmp-replay"], input=process.record.read_text(), capture_output=True, text=True)
-    hold(played.returncode == 0 and "\nrestore " in process.record.read_text(), f"the record of a packet that was not taken: {played.stdout[-200:]}")
+    judge_record(process, [supervisor, other])
     for one in (supervisor, other):
         one.close()
+
+
+def after_a_kill(room):
+    """A site that is killed takes its program with it, and what that has started is waited for: nothing runs beside it, with a state or without."""
+    room, supervisor = pathlib.Path(room), Supervisor(SITE, SXL)
+    for turn, options in enumerate(((), ("--state", room / "state"))):
+        notes, program = room / f"notes{turn}", room / f"program{turn}"
+        program.write_text(f"""#!/bin/sh
+exec 2>/dev/null
+echo "begin $4 $$" >>{notes}
+[ "$4" = 100 ] || exit 0
+(sleep 1.5; echo "late" >>{notes})
+echo "end $4" >>{notes}
+""")
+        program.chmod(0o755)
+        lines = lambda: notes.read_text().splitlines() if notes.exists() else []
+        process = started(room, [supervisor], "--on-command", program, *options, record=False)
+        hold(supervisor.ask("CommandRequest", **commanding((*LIMIT, 100))) is True, "a command")
+        wait(lambda: lines(), "the program")
+        time.sleep(0.2)
+        process.kill()
+        supervisor.wait(lambda: supervisor.stream is None, "the kill")
+        number = lines()[0].split()[2]
+        wait(lambda: not is_running(number), "the program to be killed with the site", 1)
+        process = started(room, [supervisor], "--on-command", program, *options, record=False)
+        hold(supervisor.ask("CommandRequest", **commanding((*LIMIT, 101))) is True, "a command after the restart")
+        wait(lambda: len(lines()) == 3, "the next program")
+        hold([line.split()[:2] for line in lines()] == [["begin", "100"], ["late"], ["begin", "101"]], f"beside what a former program started: {lines()}")
+        hold(process.logged("waits, a program of a former start still runs: command ") == 1, "the log does not say why a command waits")
+        process.quit()
+        supervisor.wait(lambda: supervisor.stream is None, "the end")
+    supervisor.close()
+
+
+def is_running(number):
+    """Not where it has ended and nobody has asked for its status."""
+    try:
+        return pathlib.Path(f"/proc/{number}/stat").read_text().rsplit(")", 1)[1].split()[0] != "Z"
+    except FileNotFoundError:
+        return False
+
+
+def leaves_behind(room):
+    """What a program leaves running when it ends does not hold up the next."""
+    supervisor = Supervisor(SITE, SXL)
+    program = Program(room, "sleep 3 2>/dev/null &")
+    process = started(room, [supervisor], "--on-command", program.path, record=False)
+    hold(supervisor.ask("CommandRequest", **commanding((*LIMIT, 100), (*LIMIT, 101), (*LIMIT, 102))) is True, "commands")
+    wait(lambda: program.ended() == 3, "programs beside what they left", 2)
+    process.quit()
+    supervisor.close()
 
 
 def at_the_end(room):
@@ -196,11 +244,15 @@ def told_alone(room):
     hold(process.order("commands") == "the table has no commands" and supervisor.ask("CommandRequest", **boom(1)) == "Unknown command", "edition 1")
     process.quit()
     hold(not process.logged("  commands "), "a summary of commands that the table does not have")
+    (room / "text").write_text("no program")
     for words, wanted, code in ((("--on-command", "/nowhere/at/all"), "/nowhere/at/all: No such file", 1), (("--on-command=",), "wanted a program", 2),
+                                (("--on-command", room), f"{room}: is no program: it is no file", 1),
+                                (("--on-command", room / "text"), "text: is no program: it cannot be run", 1),
+                                (("--on-command", "no-such-program"), "no-such-program: no such program in PATH", 1),
                                 (("--command-limit", "0"), "0.1 to 86400 seconds", 2)):
         found, said = status("--table", WITH_COMMANDS, "--supervisor", "127.0.0.1:1", *words)
         hold(found == code and wanted in said, f"{words}: {found} {said}")
     supervisor.close()
 
 
-TESTS = [in_order, at_once, no_room, at_the_end, told_alone]
+TESTS = [in_order, at_once, no_room, after_a_kill, leaves_behind, at_the_end, told_alone]

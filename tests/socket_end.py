@@ -28,14 +28,16 @@ def usage(room):
     for words, wanted in (((), "--table is missing"), (("--table", TABLE), "0 supervisors, 1 to 4 are allowed"),
                           ((*supervised, "a:1", "--primary", "1"), "the links are numbered 0 to 0"),
                           (("--table", TABLE, "--period", "0"), "1 to 3600 seconds"), (("--what",), "no such option"),
-                          (("--period=",), "1 to 3600 seconds"), (("--table",), "--table needs a value"),
+                          (("--period=",), "1 to 3600 seconds"), (("--link-rate", "fast"), "0 to 1000000 packets"), (("--log-size", "big"), "a number of bytes"), (("--table",), "--table needs a value"),
                           ((*supervised, "centre"), "has no port"), ((*supervised, "centre:99999"), "no port from 1 to 65535"),
                           ((*supervised, "\x1b[31m:x"), "\\u{1b}[31m"), ((b"--table=\xff\xfe",), "a word is not UTF-8"),
                           (("--config", "/nowhere/at/all"), "No such file")):
         code, said = status(*words)
         hold(code == 2 and wanted in said and "\x1b" not in said, f"{words}: {code} {said}")
     code, said = status("--table", ROOT / "Makefile", "--supervisor", "a:1")
-    hold(code == 1 and "Makefile:1: a line begins with" in said, said)
+    hold(code == 3 and "Makefile:1: a line begins with" in said, said)
+    code, said = status("--table", "/nowhere/at/all", "--supervisor", "a:1")
+    hold(code == 1 and "/nowhere/at/all: No such file" in said, said)
     code, said = status("--table", TABLE, "--supervisor", "a:1", "--random", "/dev/null")
     hold(code == 1 and "/dev/null" in said, f"no random bytes: {said}")
 
@@ -84,7 +86,7 @@ def nobody_reads_the_log(room):
         for _ in range(count):
             hold(supervisor.ask("AggregatedStatusRequest", cId=SITE) is True, "a request while nobody reads the log")
 
-    supervisor.flood("AggregatedStatusRequest", 136, cId=SITE, pad="x" * 2500)
+    supervisor.flood("AggregatedStatusRequest", 136, cId=SITE, pad="x" * 3800)
     hold("link 0 Up" in control.order("links"), "an order while nobody reads the log")
     said, end = b"", time.monotonic() + 20
     while b" lines of the log were dropped here)\n" not in said:
@@ -98,7 +100,7 @@ def nobody_reads_the_log(room):
     process = Process(room, [supervisor], "--control", path, "--log-level", "debug", record=False, stdout=its)
     os.close(its)
     wait(lambda: supervisor.up, "the link again")
-    supervisor.flood("AggregatedStatusRequest", 136, cId=SITE, pad="x" * 2500)
+    supervisor.flood("AggregatedStatusRequest", 136, cId=SITE, pad="x" * 3800)
     began = time.monotonic()
     process.terminate()
     taken = time.monotonic() - began
@@ -118,7 +120,8 @@ def files_opened_again(room):
     log.rename(room / "log.old")
     record.rename(room / "record.old")
     process.process.send_signal(signal.SIGHUP)
-    wait(lambda: log.exists() and "opened again" in log.read_text(), "the log to be opened again")
+    wait(lambda: log.exists() and "the log is opened again" in log.read_text(), "the log to be opened again")
+    hold("the record is opened again" in log.read_text() + (room / "log.old").read_text(), "the record is not told of")
     hold(process.order("alarm 1 on") == "done", "an order after SIGHUP")
     process.quit()
     hold(all(LOGGED.match(line) for line in (room / "log.old").read_text().splitlines()), "a line of the log")

@@ -3,11 +3,14 @@ import pathlib
 import re
 import resource
 import socket
+import struct
 import subprocess
 import sys
 import time
 
-from process import LOGGED, PROGRAM, RELEASE, SITE, SXL, TABLE, Control, Process, hold, subscription, wait
+import stored
+from model import message
+from process import LOGGED, NORTH, PROGRAM, RELEASE, SITE, SXL, TABLE, Control, Process, hold, subscription, wait
 from supervisors import FORM_FEED, Supervisor
 
 BUSY = "import time; end = time.monotonic() + 3\nwhile time.monotonic() < end: pass\nprint(time.process_time())"
@@ -137,22 +140,35 @@ def constant_random_bytes(room):
     supervisor.close()
 
 
+def told(supervisor):
+    """How the aggregated status and alarm 2 stand as the supervisor was last told."""
+    aggregated = [sum(128 >> at for at, bit in enumerate(said["se"]) if bit) for said in supervisor.of("AggregatedStatus")]
+    alarms = [said["aS"] for said in supervisor.of("Alarm") if (said["cId"], said["aCId"]) == (NORTH, "A0101")]
+    return aggregated[-1:], alarms[-1:]
+
+
 def spent_numbers(room):
-    """The last sequence number: the log says what is not carried over, a new site starts and takes the input that found the end."""
+    """The last sequence number: the log says what is not carried over, a new site starts with the inputs as they are and takes the one that found
+    the end."""
     supervisor = Supervisor(SITE, SXL)
-    process = Process(room, [supervisor], "--first", "4294967293", "--state", pathlib.Path(room) / "state", "--state-interval", "0")
+    process = Process(room, [supervisor], "--first", "4294967290", "--state", pathlib.Path(room) / "state", "--state-interval", "0")
     supervisor.wait_up()
+    hold(process.order("alarm 2 on") == "done" and process.order("aggregated 5") == "done", "inputs")
     hold(supervisor.ask("StatusSubscribe", **subscription()) is True, "a subscription")
+    wait(lambda: told(supervisor) == ([5], ["Active"]) and process.order("counts") == "link 0 holds 0, lost 0", "the inputs to be told")
     supervisor.greets = False
     supervisor.cut()
     supervisor.wait(lambda: supervisor.stream is None, "the cut")
     for value in (1, 2, 3, 4):
         hold(process.order(f"status {RELEASE} {value}") == "done", "a status at the end of the numbers")
-    wait(lambda: any(re.search(r"used up: a new site starts. Not carried over: the records \(link 0 holds [1-3], lost 0\)", line)
+    wait(lambda: any(re.search(r"are used up: a new site starts.* Not carried over: the records \(link 0 holds [1-3], lost 0\)", line)
                      for line in process.lines), "the log to say what is not carried over")
     supervisor.greets = True
+    supervisor.messages.clear()
     supervisor.cut()
     supervisor.wait_up()
+    supervisor.wait(lambda: told(supervisor) == ([5], ["Active"]), "the inputs as they are")
+    hold(all(said["aS"] == "Active" for said in supervisor.of("Alarm") if (said["cId"], said["aCId"]) == (NORTH, "A0101")), "an active alarm is told inactive")
     hold(supervisor.ask("StatusSubscribe", **subscription()) is True, "a subscription to the new site")
     supervisor.wait(lambda: [said["sS"][0]["s"] for said in supervisor.of("StatusUpdate")][-1:] == ["4"], "the new site's status")
     process.kill()
@@ -163,4 +179,76 @@ def spent_numbers(room):
     supervisor.close()
 
 
-TESTS = [forged_lines, control_paths, open_files, many_connections, long_orders, constant_random_bytes, spent_numbers]
+def numbers_end_early(room):
+    """Where few numbers are left and nothing is held the new site starts: no record is lost, the inputs stay."""
+    supervisor = Supervisor(SITE, SXL)
+    process = Process(room, [supervisor], "--first", str((1 << 32) - 64))
+    supervisor.wait_up()
+    hold(process.order("alarm 2 on") == "done" and process.order("aggregated 5") == "done", "inputs")
+    hold(supervisor.ask("StatusSubscribe", **subscription()) is True, "a subscription")
+    value = 0
+    while not process.logged("the sequence numbers are nearly used up: a new site starts"):
+        value += 1
+        hold(value < 64 and process.order(f"status {RELEASE} {value}") == "done", f"value {value}")
+        wait(lambda: process.order("counts") == "link 0 holds 0, lost 0", "answers")
+        time.sleep(0.3 if value > 55 else 0)
+    hold(process.logged("Not carried over: the records (link 0 holds 0, lost 0)") == 1, "records are lost")
+    supervisor.wait(lambda: len(supervisor.connections) == 2 and supervisor.up, "the new site")
+    wait(lambda: process.order("counts") == "link 0 holds 0, lost 0", "answers of the new site")
+    states = [said["aS"] for said in supervisor.of("Alarm") if (said["cId"], said["aCId"]) == (NORTH, "A0101")]
+    hold(told(supervisor) == ([5], ["Active"]) and states == ["inActive", "Active", "Active"], f"the inputs as they are: {told(supervisor)}, {states}")
+    hold(supervisor.ask("StatusSubscribe", **subscription()) is True, "a subscription to the new site")
+    supervisor.wait(lambda: supervisor.of("StatusUpdate")[-1]["sS"][0]["s"] == str(value), "the value as it is")
+    process.quit()
+    hold(process.logged("a new site starts") == 2, "more than one start, or links that are not closed for it")
+    supervisor.close()
+    return f"after {value} of 64 numbers"
+
+
+def held_back(room):
+    """A link that sends more packets than are read in a second waits, loses nothing and does not hold up another; the log tells it once."""
+    flooding, other = Supervisor(SITE, SXL), Supervisor(SITE, SXL)
+    process = Process(room, [flooding, other], "--link-rate", "40")
+    flooding.wait_up()
+    other.wait_up()
+    began = time.monotonic()
+    asked = {flooding.send("Watchdog", wTs=message.time_text(int(time.time() * 1000))) for _ in range(120)}
+    hold(other.ask("AggregatedStatusRequest", cId=SITE) is True and time.monotonic() - began < 1.5, "another link")
+    flooding.wait(lambda: asked <= flooding.acknowledged, "answers to all")
+    took = time.monotonic() - began
+    hold(took > 1.5, f"120 packets are read in {took:.1f} s at 40 a second")
+    process.quit()
+    hold(process.logged("link 0  it sends more packets than are read in a second, and is held back") == 1, "the log")
+    hold(process.logged("link 1  it sends more") == 0, "the other is held back")
+    flooding.close()
+    other.close()
+    return f"120 packets in {took:.1f} s at 40 a second"
+
+
+def forged_state(room):
+    """A state with right sums whose site has more links than it says: the site goes on."""
+    state = pathlib.Path(room) / "state"
+    process = Process(room, ["127.0.0.1:1"], "--state", state, record=False)
+    hold(process.order("save") == "done", "save")
+    process.quit()
+    good = state.read_bytes()
+    words = list(struct.unpack("<1173Q", stored.of_state(good)[16:16 + 8 * 1173]))
+    for link in (1, 2, 3):
+        base = 521 + 75 * link
+        words[base + 3:base + 11] = [1] * 8  # connected, greeted, Up
+        for slot in range(16):
+            words[base + 11 + 4 * slot:base + 15 + 4 * slot] = [1, 0x0000_0001_0000_0001, 7, 7]  # awaited for long
+    for link in range(4):
+        words[9 + 4 * link + 2] = link << 48
+    site = struct.pack("<1173Q", *words) + stored.of_state(good)[16 + 8 * 1173:-8]
+    state.write_bytes(stored.summed(good[:40] + stored.summed(stored.of_state(good)[:16] + site)))
+    process = Process(room, ["127.0.0.1:1"], "--state", state, record=False)
+    process.wait_logged("goes on from ")
+    for order in ("alarm 1 on", "counts", "links", "commands"):
+        hold(not process.order(order).startswith("refused"), order)
+    time.sleep(0.6)
+    process.quit()
+    hold(not process.logged("panicked"), process.lines)
+
+
+TESTS = [forged_lines, control_paths, open_files, many_connections, long_orders, constant_random_bytes, spent_numbers, numbers_end_early, held_back, forged_state]

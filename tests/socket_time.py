@@ -1,5 +1,6 @@
 """Clocks that are set, through a clock that the test feeds."""
 import pathlib
+import time
 from datetime import datetime, timezone
 
 from process import RELEASE, SITE, SXL, Process, hold, subscription, wait
@@ -72,12 +73,44 @@ def boots_in_1970(room):
     hold(process.order("alarm 2 on") == "done", "an alarm in 1970")
     for turn, right in enumerate((NOON, NOON + HOUR), 1):
         clock.set(right)
+        if turn == 1:
+            process.wait_logged("ahead of our time, which is to be so for a minute or agree with the primary's clock before it is taken")
+            clock.pass_(61_000)
         wait(lambda: process.logged("the system's clock was set") == turn, "the log to tell of the clock")
         supervisor.wait(lambda: watchdogs(supervisor)[-1] >= right, "a Watchdog at the right time")
         supervisor.wait_up()
         hold("link 0 Up" in process.order("links"), "the link after the clock was set")
     times = watchdogs(supervisor)
-    hold(times[0] < 60_000 and times == sorted(times) and times[-1] < NOON + HOUR + 60_000, f"the times of Watchdogs: {times}")
+    hold(times[0] < 60_000 and times == sorted(times) and times[-1] < NOON + HOUR + 121_000, f"the times of Watchdogs: {times}")
+    process.quit()
+    supervisor.close()
+
+
+def a_year_ahead(room):
+    """A clock that is a year ahead for some seconds changes nothing, also over a restart in that time; one that agrees with the primary's is taken."""
+    clock, supervisor = FedClock(room, NOON), Supervisor(SITE, SXL)
+    options = "--clock", clock.path, "--period", "1", "--state", pathlib.Path(room) / "state"
+    process = Process(room, [supervisor], *options, record=False)
+    supervisor.wait_up()
+    clock.set(NOON + 365 * 24 * HOUR)
+    process.wait_logged("the system's clock is 3153")
+    beats = len(watchdogs(supervisor))
+    supervisor.wait(lambda: len(watchdogs(supervisor)) >= beats + 2, "Watchdogs meanwhile")
+    process.quit()
+    supervisor.wait(lambda: not supervisor.up, "the end")
+    process = Process(room, [supervisor], *options, record=False)
+    supervisor.wait_up()
+    process.wait_logged("the system's clock is 3153")
+    clock.set(NOON + 30_000)  # half a minute is taken at once
+    beats = len(watchdogs(supervisor))
+    supervisor.wait(lambda: len(watchdogs(supervisor)) >= beats + 2, "Watchdogs afterwards")
+    times = watchdogs(supervisor)
+    hold(times == sorted(times) and times[-1] < NOON + 60_000, f"the times of Watchdogs: {times}")
+    hold(not process.logged("behind our time"), "the clock that was wrong is kept")
+    now = int(time.time() * 1000)
+    clock.set(now - 1000)  # as the supervisor's Watchdogs say
+    supervisor.wait(lambda: watchdogs(supervisor)[-1] >= now - 1000, "a time that the primary agrees with")
+    wait(lambda: process.logged("the system's clock was set: our time goes on") == 2, "the log to tell of it")
     process.quit()
     supervisor.close()
 
@@ -113,4 +146,4 @@ def seven_decimals(room):
     supervisor.close()
 
 
-TESTS = [set_back, boots_in_1970, fewer_decimals, seven_decimals]
+TESTS = [set_back, boots_in_1970, a_year_ahead, fewer_decimals, seven_decimals]

@@ -1,4 +1,4 @@
-"""The program `rsmp-site` over real sockets, by subject: talk, ends, links, time, state, commands, operators, hostile neighbours. Two tests at a time.
+"""The program `rsmp-site` over real sockets, by subject: talk, ends, links, time, state, files, commands, operators, hostile neighbours. Two tests at a time.
 
   sockets.py --stored            what the gate runs
   sockets.py --only NAME ..      these tests
@@ -13,6 +13,7 @@ import time
 
 import socket_commands
 import socket_end
+import socket_files
 import socket_hostile
 import socket_links
 import socket_operator
@@ -23,7 +24,7 @@ from process import Failed, Process
 
 AT_ONCE = 2
 # The longest first.
-SUBJECTS = socket_talk, socket_operator, socket_state, socket_commands, socket_links, socket_time, socket_hostile, socket_end
+SUBJECTS = socket_talk, socket_operator, socket_state, socket_files, socket_commands, socket_links, socket_time, socket_hostile, socket_end
 
 
 def run(test, *more):

@@ -1,13 +1,22 @@
 //! The calls on the site, at the clock's time, each written to the record where there is one, and the site to its file.
 
 use crate::clock::Clock;
+use crate::notify::Notifier;
 use crate::random::Random;
 use crate::record::{hex, Record};
 use crate::state::{Store, Stored};
-use rsmp_site::{Called, Phase, Refusal, Report, Site, Start, OUTPUT_BYTES};
+use rsmp_site::{Called, Phase, Refusal, Report, Site, Start, COMMANDS, OUTPUT_BYTES};
+use std::time::{Duration, Instant};
 
 /// Random bytes that repeat are drawn again so often; then their source is broken.
 const DRAWS: u32 = 16;
+/// A record that could not be opened or written is tried again so often.
+const RECORD_AGAIN: Duration = Duration::from_secs(2);
+/// There are so many sequence numbers, and where but this part of them is left the site looks for a moment to begin anew.
+const NUMBERS: u64 = 1 << 32;
+const NEAR_THE_END: u64 = 16;
+/// More alarms or statuses than a table has.
+const ROWS: u32 = 32;
 
 pub struct Calls {
     pub site: Site,
@@ -16,11 +25,21 @@ pub struct Calls {
     start: Start,
     random: Random,
     record: Option<Record>,
+    /// When a record that is not written is tried again.
+    record_again: Option<Instant>,
     store: Option<Store>,
     state_fails: bool,
+    pub notifier: Notifier,
     /// What the record or the state could not be given, to be said.
     trouble: Vec<String>,
     output: Vec<u8>,
+}
+
+/// Why a packet is not taken.
+pub enum NotTaken {
+    Refused(Refusal),
+    /// Its commands, so many, find no room.
+    NoRoom(usize),
 }
 
 /// What calls are made with beside the site.
@@ -29,13 +48,14 @@ pub struct Kit {
     pub random: Random,
     pub record: Option<Record>,
     pub store: Option<Store>,
+    pub notifier: Notifier,
 }
 
 impl Calls {
     /// A new site, or the one that was stored: then every link whose connection the end of the last process took is disconnected.
     pub fn start(table: Vec<u8>, mut start: Start, mut kit: Kit, stored: Option<Stored>) -> Result<Calls, Refusal> {
         if let Some(stored) = &stored {
-            kit.clock.no_earlier_than(stored.time);
+            kit.clock.go_on_from(stored.time);
         }
         start.time = kit.clock.now();
         let restored = stored.is_some();
@@ -50,9 +70,11 @@ impl Calls {
             table,
             start,
             random: kit.random,
+            record_again: kit.record.as_ref().filter(|record| !record.is_open()).map(|_| Instant::now()),
             record: kit.record,
             store: kit.store,
             state_fails: false,
+            notifier: kit.notifier,
             trouble: Vec::new(),
             output,
         };
@@ -69,14 +91,32 @@ impl Calls {
         Ok(calls)
     }
 
-    /// A new site in place of one whose sequence numbers are used up. Nothing is carried over.
+    /// A new site in place of one whose sequence numbers are used up. What the cabinet has set is given to it again.
     pub fn start_anew(&mut self) -> Result<(), Refusal> {
+        let before = self.site.clone();
         self.start.first = 0;
         self.start.time = self.now();
         self.site.begin(&self.table, &self.start)?;
         self.record_start();
         self.changed();
+        if before.aggregated_value() != self.site.aggregated_value() {
+            let _ = self.aggregated(before.aggregated_value());
+        }
+        for number in 0..ROWS {
+            if let Some(value) = before.status_value(number) {
+                let _ = self.status(number, value);
+            }
+            if before.alarm_state(number).map_or(false, |alarm| alarm.active) {
+                let _ = self.alarm(number, true);
+            }
+        }
         Ok(())
+    }
+
+    /// Whether few sequence numbers are left.
+    pub fn is_near_its_end(&self) -> bool {
+        let (left, all) = (NUMBERS.saturating_sub(self.site.next_number()), NUMBERS - self.start.first);
+        left * NEAR_THE_END <= all
     }
 
     pub fn now(&mut self) -> u64 {
@@ -90,16 +130,26 @@ impl Calls {
     // The record.
 
     fn record(&mut self, line: impl FnOnce() -> String) {
-        if let Some(record) = &mut self.record {
+        self.begin_record_where_long();
+        self.record_line(line);
+    }
+
+    fn record_line(&mut self, line: impl FnOnce() -> String) {
+        if let Some(record) = self.record.as_mut().filter(|record| record.is_open()) {
             if let Err(error) = record.line(&line()) {
-                self.end_record(error);
+                self.record_fails(error);
             }
         }
     }
 
-    fn end_record(&mut self, error: std::io::Error) {
-        self.record = None;
-        self.trouble.push(format!("the record cannot be written any more: {}", error));
+    /// Said when it begins to fail.
+    fn record_fails(&mut self, error: std::io::Error) {
+        if let Some(record) = &mut self.record {
+            record.close();
+        }
+        if self.record_again.replace(Instant::now() + RECORD_AGAIN).is_none() {
+            self.trouble.push(format!("the record cannot be written, it is tried again: {}", error));
+        }
     }
 
     fn record_start(&mut self) {
@@ -111,36 +161,59 @@ impl Calls {
 
     /// So that what follows can be played without what came before.
     fn record_site(&mut self) {
-        if let Some(record) = &mut self.record {
-            let line = format!("restore {}", hex(&self.site.to_stored()));
-            if let Err(error) = record.begin(&line) {
-                self.end_record(error);
+        let stored = self.site.to_stored();
+        self.record_line(|| format!("restore {}", hex(&stored)));
+    }
+
+    fn begin_record_where_long(&mut self) {
+        if let Some(record) = self.record.as_mut().filter(|record| record.is_open() && record.is_long()) {
+            match record.put_aside() {
+                Ok(()) => self.record_site(),
+                Err(error) => self.record_fails(error),
             }
         }
     }
 
-    /// Writes out what waits for the record, and begins a new file where it is long.
+    /// Writes out what waits for the record; tries again where it could not be written.
     pub fn flush(&mut self) {
-        let mut begun = false;
-        if let Some(record) = &mut self.record {
-            let done = match record.is_long() {
-                true => record.put_aside().map(|_| begun = true),
-                false => record.flush(),
-            };
-            if let Err(error) = done {
-                self.end_record(error);
+        match self.record_again {
+            None => {
+                if let Some(Err(error)) = self.record.as_mut().map(Record::flush) {
+                    self.record_fails(error);
+                }
             }
-        }
-        if begun {
-            self.record_site();
+            Some(again) if Instant::now() >= again => {
+                if let Some(true) = self.reopen_record() {
+                    self.trouble.push("the record is written again".to_string());
+                }
+            }
+            Some(_) => {}
         }
     }
 
-    pub fn reopen_record(&mut self) {
-        if let Some(Err(error)) = self.record.as_mut().map(Record::reopen) {
-            self.end_record(error);
+    /// Whether it is written now; None where there is none.
+    pub fn reopen_record(&mut self) -> Option<bool> {
+        let reopened = self.record.as_mut()?.reopen();
+        let flushed = reopened.and_then(|cut| {
+            self.say_what_was_cut(cut);
+            self.record_site();
+            // With what waits, so that a full disk is seen at once.
+            self.record.as_mut().map_or(Ok(()), Record::flush)
+        });
+        if let Err(error) = flushed {
+            self.record_fails(error);
         }
-        self.record_site();
+        let written = self.record.as_ref()?.is_open();
+        if written {
+            self.record_again = None;
+        }
+        Some(written)
+    }
+
+    pub fn say_what_was_cut(&mut self, bytes: u64) {
+        if bytes > 0 {
+            self.trouble.push(format!("the record ended in the middle of a line: its last {} bytes are cut off", bytes));
+        }
     }
 
     // The state.
@@ -158,36 +231,60 @@ impl Calls {
         called
     }
 
-    /// Before a call's bytes or its reply go out: with interval 0 they wait for the state.
-    pub fn save_before_it_is_seen(&mut self) {
-        if self.store.as_ref().map_or(false, |store| store.at_once() && store.changed()) {
-            self.save();
+    fn input_where_done(&mut self, called: Called) -> Called {
+        if let Some(store) = self.store.as_mut().filter(|_| called.is_ok()) {
+            store.has_new_input();
+        }
+        called
+    }
+
+    /// Before a call's bytes or its reply go out: with interval 0 they wait for the state. False where it should be on the disk and is not.
+    pub fn save_before_it_is_seen(&mut self) -> bool {
+        match self.store.as_ref().map_or(false, |store| store.at_once() && store.changed()) {
+            true => self.save(),
+            false => true,
         }
     }
 
     pub fn save_where_due(&mut self) {
         if self.store.as_ref().map_or(false, Store::due) {
-            self.save();
+            match self.store.as_ref().map_or(false, Store::at_once) {
+                true => drop(self.save()),
+                false => drop(self.give_state()),
+            }
         }
     }
 
-    /// False where there is no file for it, or where it cannot be written, which is said once.
-    pub fn save(&mut self) -> bool {
+    /// Has the state written; its number, where there is a file for it.
+    pub fn give_state(&mut self) -> Option<u64> {
         let time = self.now();
-        let written = match &mut self.store {
-            None => return false,
-            Some(store) => store.write(&self.site, time),
-        };
-        let failed_before = std::mem::replace(&mut self.state_fails, written.is_err());
-        match &written {
-            Err(error) if !failed_before => {
-                let text = format!("the state cannot be written: {}", error);
-                self.trouble.push(text);
+        Some(self.store.as_mut()?.give(&self.site, time))
+    }
+
+    /// Up to which number all is written or has failed, and whether it is written. That it fails is said once.
+    pub fn settled(&mut self) -> Option<(u64, bool)> {
+        let store = self.store.as_mut()?;
+        if let Some(written) = store.outcome() {
+            let failed_before = std::mem::replace(&mut self.state_fails, written.is_err());
+            match &written {
+                Err(error) if !failed_before => {
+                    let text = format!("the state cannot be written: {}", error);
+                    self.trouble.push(text);
+                }
+                Ok(()) if failed_before => self.trouble.push("the state is written again".to_string()),
+                _ => {}
             }
-            Ok(()) if failed_before => self.trouble.push("the state is written again".to_string()),
-            _ => {}
         }
-        written.is_ok()
+        Some((store.settled(), !self.state_fails))
+    }
+
+    /// Waits until the state is written, and feeds the watchdog meanwhile. False where there is no file for it, or where it cannot be written.
+    pub fn save(&mut self) -> bool {
+        self.give_state();
+        if let Some(store) = &self.store {
+            store.wait(|| self.notifier.alive());
+        }
+        self.settled().map_or(false, |(_, good)| good)
     }
 
     // The calls.
@@ -210,21 +307,24 @@ impl Calls {
         let time = self.now();
         self.record(|| format!("alarm {} {} {}", number, u32::from(active), time));
         let called = self.site.alarm(number, active, time);
-        self.changed_where_done(called)
+        if let Some(store) = self.store.as_mut().filter(|_| called.is_ok()) {
+            store.has_new_alarm();
+        }
+        called
     }
 
     pub fn status(&mut self, number: u32, value: i32) -> Called {
         let time = self.now();
         self.record(|| format!("status {} {} {}", number, value, time));
         let called = self.site.status(number, value, time);
-        self.changed_where_done(called)
+        self.input_where_done(called)
     }
 
     pub fn aggregated(&mut self, value: u8) -> Called {
         let time = self.now();
         self.record(|| format!("aggregated {} {}", value, time));
         let called = self.site.aggregated(value, time);
-        self.changed_where_done(called)
+        self.input_where_done(called)
     }
 
     /// A tick that issues and closes nothing is not worth a write.
@@ -247,30 +347,27 @@ impl Calls {
         each.collect()
     }
 
-    pub fn packet(&mut self, link: u32, packet: &[u8]) -> Called {
+    /// A packet that came, and room for so many commands. One that has more is not taken: the site and the record are as before.
+    pub fn packet(&mut self, link: u32, packet: &[u8], room: usize) -> Result<Report, NotTaken> {
         for _ in 0..DRAWS {
-            let (time, random) = (self.now(), self.random()?);
+            let (time, random) = (self.now(), self.random().map_err(NotTaken::Refused)?);
+            if room < COMMANDS {
+                let tried = self.site.clone().packet(link, time, random, packet, &mut self.output);
+                let commands = tried.map_or(0, |report| report.commands.len());
+                if commands > room {
+                    return Err(NotTaken::NoRoom(commands));
+                }
+            }
             self.record(|| {
                 let (random, packet) = (hex(&random), hex(packet));
                 format!("packet {} {} {} {} {}", link, time, random, OUTPUT_BYTES, packet)
             });
             match self.site.packet(link, time, random, packet, &mut self.output) {
                 Err(Refusal::SameIdentity) => continue,
-                called => return self.changed_where_done(called),
+                called => return self.changed_where_done(called).map_err(NotTaken::Refused),
             }
         }
-        Err(Refusal::SameIdentity)
-    }
-
-    /// For `take_back`.
-    pub fn kept(&self) -> Site {
-        self.site.clone()
-    }
-
-    /// The site as it was before the last call, as though that had not been made.
-    pub fn take_back(&mut self, kept: Site) {
-        self.site = kept;
-        self.record_site();
+        Err(NotTaken::Refused(Refusal::SameIdentity))
     }
 
     /// What pump sends is sent again after a restart: only where every call is stored is it worth a write.

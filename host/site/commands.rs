@@ -3,10 +3,13 @@
 
 use crate::counted::{Counted, Ran};
 use crate::journal::Level;
-use crate::system::{in_own_group, kill_group};
+use crate::program::Program;
+use crate::system::{bind_to_us, kill_group, lock, unlock};
 use rsmp_site::Command as Handed;
 use rsmp_table::Table;
 use std::collections::VecDeque;
+use std::fs::File;
+use std::io;
 use std::process::{Child, Command, ExitStatus, Stdio};
 use std::sync::{Arc, Condvar, Mutex, MutexGuard};
 use std::thread;
@@ -80,7 +83,7 @@ pub struct Commands {
 
 impl Commands {
     /// Without a program commands are told of in the log alone.
-    pub fn new(table: &Table, program: Option<String>, limit: Duration) -> std::io::Result<Commands> {
+    pub fn new(table: &Table, program: Option<Program>) -> io::Result<Commands> {
         let named = |command: &rsmp_table::Command| Named {
             component: table.components[command.component].clone(),
             code: command.code.clone(),
@@ -91,7 +94,7 @@ impl Commands {
             None => None,
             Some(program) => {
                 let queue = queue.clone();
-                Some(thread::Builder::new().spawn(move || run_all(&queue, &program, limit))?)
+                Some(thread::Builder::new().spawn(move || run_all(&queue, &program))?)
             }
         };
         let table = table.commands.iter().map(named).collect();
@@ -169,7 +172,7 @@ impl Commands {
 }
 
 /// The runner: ends when it is told to and nothing waits, or when its time is over.
-fn run_all(queue: &Queue, program: &str, limit: Duration) {
+fn run_all(queue: &Queue, program: &Program) {
     let mut shared = locked(queue);
     loop {
         if shared.is_over() {
@@ -186,7 +189,7 @@ fn run_all(queue: &Queue, program: &str, limit: Duration) {
         shared.runs = true;
         drop(shared);
         let began = Instant::now();
-        let ended = run(queue, program, &order, began + limit);
+        let ended = run_alone(queue, program, &order);
         shared = locked(queue);
         shared.runs = false;
         let (level, text) = match ended {
@@ -196,18 +199,54 @@ fn run_all(queue: &Queue, program: &str, limit: Duration) {
             }
             Err(why) => {
                 shared.failed += 1;
-                (Level::Error, format!("{}: {}: {}", program, why, order.said()))
+                (Level::Error, format!("{}: {}: {}", program.name, why, order.said()))
             }
         };
         shared.said.push(Said { level, link: order.link, text });
     }
 }
 
-/// Runs the program for one command, until it ends or its time is over.
-fn run(queue: &Queue, program: &str, order: &Order, until: Instant) -> Result<(), String> {
-    let mut command = Command::new(program);
+/// Runs the program for one command when no other runs, also none of a former start.
+fn run_alone(queue: &Queue, program: &Program, order: &Order) -> Result<(), String> {
+    let lock = match program.lock()? {
+        Some(file) => Some(locked_file(queue, file, order, Instant::now() + program.limit)?),
+        None => None,
+    };
+    let ended = run(queue, program, order, lock.as_ref());
+    // What a program leaves behind has the file from us: the lock ends with the program.
+    if let Some(lock) = &lock {
+        unlock(lock);
+    }
+    ended
+}
+
+/// Waits for the lock, so long at most. Where the file system has no locks, none is asked for.
+fn locked_file(queue: &Queue, file: File, order: &Order, until: Instant) -> Result<File, String> {
+    let mut told = false;
+    loop {
+        match lock(&file) {
+            Err(error) if error.kind() == io::ErrorKind::WouldBlock => {}
+            _ => return Ok(file),
+        }
+        let mut shared = locked(queue);
+        if shared.is_over() || Instant::now() >= until {
+            return Err("is not run, a program of a former start still runs".to_string());
+        }
+        if !std::mem::replace(&mut told, true) {
+            let text = format!("waits, a program of a former start still runs: {}", order.said());
+            shared.said.push(Said { level: Level::Warning, link: order.link, text });
+        }
+        drop(shared);
+        thread::sleep(LOOK);
+    }
+}
+
+/// Runs the program until it ends or its time is over.
+fn run(queue: &Queue, program: &Program, order: &Order, lock: Option<&File>) -> Result<(), String> {
+    let until = Instant::now() + program.limit;
+    let mut command = Command::new(&program.path);
     command.args(&order.words).stdin(Stdio::null()).stdout(Stdio::null());
-    in_own_group(&mut command);
+    bind_to_us(&mut command, lock);
     let mut child = command.spawn().map_err(|error| format!("cannot be run: {}", error))?;
     loop {
         match child.try_wait() {
@@ -243,9 +282,15 @@ mod tests {
     const TABLE: &str = "site S\nsxl 1\ncomponent C\ncomponent \"a D\"\ncommand C M n 0 9\ncommand \"a D\" M n -9 9\n";
     const SOON: Duration = Duration::from_secs(20);
 
-    fn commands(program: Option<&str>, limit: Duration) -> Commands {
+    fn commands(program_of: Option<&str>, limit: Duration) -> Commands {
         let table = text::read(TABLE).unwrap();
-        Commands::new(&table, program.map(str::to_string), limit).unwrap()
+        let program = |name: &str| Program {
+            name: name.to_string(),
+            path: name.into(),
+            limit,
+            lock: Some(name.into()).filter(|_| name.contains("tmp")),
+        };
+        Commands::new(&table, program_of.map(program)).unwrap()
     }
 
     fn handed(number: u32, value: i32) -> Handed {

@@ -9,7 +9,7 @@ use std::io::{self, BufRead, BufReader, Write};
 use std::os::unix::fs::{FileTypeExt, MetadataExt};
 use std::os::unix::net::{UnixListener, UnixStream};
 use std::sync::atomic::{AtomicUsize, Ordering};
-use std::sync::mpsc::{channel, Sender, SyncSender};
+use std::sync::mpsc::{channel, Receiver, Sender, SyncSender};
 use std::sync::Arc;
 use std::thread;
 use std::time::Duration;
@@ -22,10 +22,22 @@ const MOST_STREAMS: usize = 16;
 const REPLY_WAIT: Duration = Duration::from_secs(10);
 const AFTER_NO_ACCEPT: Duration = Duration::from_millis(500);
 
-/// An order and where its reply goes. The reply's second part is dropped when the reply is written.
+/// An order and where its reply goes.
 pub struct Asked {
     pub line: String,
-    pub reply: Sender<(String, Sender<()>)>,
+    pub reply: Reply,
+}
+
+/// The reply's second part is dropped when the reply is written.
+pub struct Reply(Sender<(String, Sender<()>)>);
+
+impl Reply {
+    /// What is given ends when the reply is written.
+    pub fn say(self, text: &str) -> Receiver<()> {
+        let (gone, written) = channel();
+        let _ = self.0.send((text.to_string(), gone));
+        written
+    }
 }
 
 /// Orders from standard input, their replies on standard output. Its end is no order.
@@ -125,7 +137,7 @@ fn serve(mut input: impl BufRead, events: &SyncSender<Event>, mut out: impl FnMu
             continue;
         }
         let (reply, replies) = channel();
-        if events.send(Event::Control(Asked { line, reply })).is_err() {
+        if events.send(Event::Control(Asked { line, reply: Reply(reply) })).is_err() {
             return;
         }
         match replies.recv() {

@@ -27,8 +27,7 @@ impl Host {
         if !told && !self.is_quitting() {
             return false;
         }
-        let held = (0..self.links.len() as u32).any(|link| self.calls.site.held(link) > 0);
-        if !held || self.drain.limit.is_zero() {
+        if !self.holds_something() || self.drain.limit.is_zero() {
             return true;
         }
         match self.drain.until {

@@ -1,7 +1,8 @@
 //! What the process does with each event: calls on the site, bytes to the supervisors, lines to the log.
 
-use crate::calls::Calls;
+use crate::calls::{Calls, NotTaken};
 use crate::commands::{Commands, MOST_WAITING};
+use crate::control::Reply;
 use crate::drain::Drain;
 use crate::framing::{Frame, FORM_FEED};
 use crate::journal::{Journal, Level};
@@ -9,7 +10,7 @@ use crate::options::Options;
 use crate::readable::{kind, value_of};
 use crate::show::{About, OfLink};
 use crate::wires::{Closing, Event, Wire, NOT_READ};
-use rsmp_site::{Called, Phase, Refusal, Report, Site, COMMANDS};
+use rsmp_site::{Called, Phase, Refusal, Report, Site};
 use rsmp_table::Table;
 use std::fmt::Display;
 use std::sync::mpsc::Receiver;
@@ -22,6 +23,8 @@ const LAST_COMMANDS: Duration = Duration::from_secs(5);
 const CLOCKS_DIFFER: u64 = 1000;
 /// Nor is more than one line in so long a time.
 const CLOCK_LINES: Duration = Duration::from_secs(60);
+
+pub const NOT_SAVED: &str = "refused: there is no state, or it cannot be written";
 
 /// One supervisor.
 pub struct Link {
@@ -64,6 +67,8 @@ pub struct Host {
     greeting_limit: Duration,
     closing: Vec<Closing>,
     system_behind: u64,
+    /// Orders to save: until the state of this number is written.
+    pub saving: Vec<(u64, Reply)>,
     /// Set by quit: ends when its reply is written.
     pub quitting: Option<Receiver<()>>,
 }
@@ -92,6 +97,7 @@ impl Host {
             greeting_limit: options.greeting_limit,
             closing: Vec::new(),
             system_behind: 0,
+            saving: Vec::new(),
             quitting: None,
         }
     }
@@ -130,6 +136,9 @@ impl Host {
                 self.say(Level::Warning, link, text)
             }
             Event::Gone(link, why, unfinished) => self.gone(link, why, unfinished),
+            Event::HeldBack(link) => self.say(Level::Warning, link, "it sends more packets than are read in a second, and is held back"),
+            // What came of it is looked at after each event.
+            Event::Stored => {}
             Event::Control(asked) => self.answer(asked),
             Event::Trouble(text) => self.say_of_site(Level::Error, text),
         }
@@ -176,7 +185,7 @@ impl Host {
     /// The site closes these.
     fn close(&mut self, report: Report, why: &str) {
         for link in report.closed.iter() {
-            if let Some(wire) = self.links[link as usize].wire.take() {
+            if let Some(wire) = self.links.get_mut(link as usize).and_then(|of_link| of_link.wire.take()) {
                 self.say(Level::Warning, link, format!("we close the connection: {}", why));
                 self.closing.push(wire.close());
             }
@@ -204,7 +213,8 @@ impl Host {
             return;
         }
         self.links[link as usize].received += 1;
-        let called = self.packet_with_room(link, packet);
+        let room = self.commands.room();
+        let called = self.calls.packet(link, packet, room);
         let now = self.calls.now();
         let mark = if called.is_ok() { '<' } else { '!' };
         self.journal.message(now, link, mark, packet);
@@ -216,33 +226,27 @@ impl Host {
                 self.say_of_commands();
                 self.look_whether_up(link);
             }
-            Err(refusal) => {
+            Err(why) => {
                 self.links[link as usize].unanswered += 1;
-                self.refused(link, refusal);
+                match why {
+                    NotTaken::Refused(refusal) => self.refused(link, refusal),
+                    NotTaken::NoRoom(count) => self.no_room(link, count, room),
+                }
             }
         }
     }
 
     /// A packet for whose commands there is no room is not taken: nothing is answered that would not be carried out.
-    fn packet_with_room(&mut self, link: u32, packet: &[u8]) -> Called {
-        let room = self.commands.room();
-        let kept = if room < COMMANDS { Some(self.calls.kept()) } else { None };
-        let called = self.calls.packet(link, packet);
-        match (called, kept) {
-            (Ok(report), Some(kept)) if report.commands.len() > room => {
-                self.calls.take_back(kept);
-                self.commands.not_taken(report.commands.len());
-                let text = format!("a packet with {} commands is not taken: {} wait already", report.commands.len(), MOST_WAITING - room);
-                self.say(Level::Error, link, text);
-                Err(Refusal::Ignored)
-            }
-            (called, _) => called,
-        }
+    fn no_room(&mut self, link: u32, count: usize, room: usize) {
+        self.commands.not_taken(count);
+        let text = format!("a packet with {} commands is not taken: {} wait already", count, MOST_WAITING - room);
+        self.say(Level::Error, link, text);
     }
 
     fn say_of_commands(&mut self) {
         for said in self.commands.take_said() {
-            self.say(said.level, said.link, said.text);
+            let now = self.calls.now();
+            self.journal.say_each(now, said.level, Some(said.link), &said.text);
         }
     }
 
@@ -274,7 +278,7 @@ impl Host {
         match refusal {
             Refusal::Ignored => {}
             Refusal::SameIdentity => self.cut(link, "the random bytes repeat: their source is broken"),
-            Refusal::SequenceSpent => self.start_anew(),
+            Refusal::SequenceSpent => self.start_anew(Level::Error, "used up"),
             _ => self.say(Level::Warning, link, refusal),
         }
     }
@@ -291,6 +295,7 @@ impl Host {
         self.send(link, report.written);
         self.close(report, why);
         if let Some(hint) = report.hint {
+            self.calls.clock.hint(hint);
             self.compare_clocks(link, hint);
         }
     }
@@ -339,8 +344,11 @@ impl Host {
     pub fn tick(&mut self) {
         match self.calls.tick() {
             Ok(report) => self.close(report, "no answer for 30 seconds"),
-            Err(Refusal::SequenceSpent) => self.start_anew(),
+            Err(Refusal::SequenceSpent) => self.start_anew(Level::Error, "used up"),
             Err(refusal) => self.say_of_site(Level::Error, refusal),
+        }
+        if self.calls.is_near_its_end() && !self.holds_something() {
+            self.start_anew(Level::Warning, "nearly used up");
         }
         for link in 0..self.links.len() as u32 {
             let of_link = &self.links[link as usize];
@@ -351,12 +359,21 @@ impl Host {
         }
         self.look_at_clock();
         self.calls.flush();
+        let now = self.calls.now();
+        self.journal.say_what_is_left_out(now);
     }
 
     fn look_at_clock(&mut self) {
         let jump = self.calls.clock.take_jump();
         if jump >= CLOCKS_DIFFER {
             let text = format!("the system's clock was set: our time goes on {} ms later", jump);
+            self.say_of_site(Level::Warning, text);
+        }
+        if let Some(ahead) = self.calls.clock.take_doubt() {
+            let text = format!(
+                "the system's clock is {} ms ahead of our time, which is to be so for a minute or agree with the primary's clock before it is taken",
+                ahead
+            );
             self.say_of_site(Level::Warning, text);
         }
         let behind = self.calls.clock.system_behind();
@@ -371,27 +388,54 @@ impl Host {
     /// At the end of every turn.
     pub fn go_on(&mut self) {
         self.calls.save_where_due();
+        self.answer_what_is_saved();
         self.say_of_commands();
+        match self.journal.outlet.take_reopened() {
+            None => {}
+            Some(Ok(())) => self.say_of_site(Level::Info, "the log is opened again"),
+            Some(Err(error)) => {
+                self.say_of_site(Level::Error, format!("the log cannot be opened again, the former file is written on: {}", error))
+            }
+        }
         for text in self.calls.take_trouble() {
             self.say_of_site(Level::Error, text);
         }
     }
 
-    pub fn reopen(&mut self) {
-        self.journal.outlet.reopen();
-        self.calls.reopen_record();
-        self.say_of_site(Level::Info, "the log and the record are opened again");
+    /// Replies to orders to save.
+    fn answer_what_is_saved(&mut self) {
+        if let Some((settled, good)) = self.calls.settled() {
+            let (answered, left) = std::mem::take(&mut self.saving).into_iter().partition(|(number, _)| *number <= settled);
+            self.saving = left;
+            for (_, reply) in answered {
+                reply.say(if good { "done" } else { NOT_SAVED });
+            }
+        }
     }
 
-    /// A new site where the sequence numbers are used up.
-    pub fn start_anew(&mut self) {
+    pub fn reopen(&mut self) {
+        let log = self.journal.outlet.reopen();
+        match self.calls.reopen_record() {
+            Some(true) => self.say_of_site(Level::Info, "the record is opened again"),
+            Some(false) => self.say_of_site(Level::Error, "the record cannot be opened again"),
+            None if !log => self.say_of_site(Level::Info, "there is neither a log nor a record to open again"),
+            None => {}
+        }
+    }
+
+    pub fn holds_something(&self) -> bool {
+        (0..self.links.len() as u32).any(|link| self.calls.site.held(link) > 0)
+    }
+
+    /// A new site where the sequence numbers come to their end.
+    pub fn start_anew(&mut self, level: Level, numbers: &str) {
         let counts = self.counts();
         self.say_of_site(
-            Level::Error,
+            level,
             format!(
-                "the sequence numbers are used up: a new site starts. Not carried over: the records ({}), the subscriptions, \
-                 the inputs of alarms and statuses and the aggregated status, which are to be given again",
-                counts
+                "the sequence numbers are {}: a new site starts with the inputs, the values and the aggregated status as they are. \
+                 Not carried over: the records ({}), the subscriptions, and which alarms are acknowledged or suspended",
+                numbers, counts
             ),
         );
         for link in 0..self.links.len() as u32 {
@@ -416,6 +460,9 @@ impl Host {
         self.say_of_commands();
         self.calls.flush();
         self.calls.save();
+        self.answer_what_is_saved();
+        let now = self.calls.now();
+        self.journal.say_what_is_left_out(now);
         for text in self.calls.take_trouble() {
             self.say_of_site(Level::Error, text);
         }

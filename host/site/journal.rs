@@ -3,8 +3,11 @@
 use crate::form::Form;
 use crate::outlet::Outlet;
 use crate::readable::{clean, detail, kind};
+use crate::repeated::Repeated;
+use std::cell::RefCell;
 use std::fmt::Display;
 use std::str::FromStr;
+use std::time::Instant;
 
 #[derive(Clone, Copy, Debug, PartialEq, Eq, PartialOrd, Ord)]
 pub enum Level {
@@ -36,10 +39,29 @@ impl Level {
     }
 }
 
+/// The types of RSMP. Another word is a supervisor's own.
+const TYPES: [&str; 14] = [
+    "MessageAck",
+    "MessageNotAck",
+    "Version",
+    "Watchdog",
+    "AggregatedStatus",
+    "AggregatedStatusRequest",
+    "Alarm",
+    "StatusRequest",
+    "StatusResponse",
+    "StatusSubscribe",
+    "StatusUnsubscribe",
+    "StatusUpdate",
+    "CommandRequest",
+    "CommandResponse",
+];
+
 pub struct Journal {
     pub level: Level,
     pub outlet: Outlet,
     pub form: Form,
+    pub repeated: RefCell<Repeated>,
 }
 
 impl Journal {
@@ -47,12 +69,27 @@ impl Journal {
         level <= self.level
     }
 
+    /// A line, or one more of those that are counted. What it begins with tells its kind: no word of a supervisor's stands there.
     pub fn say(&self, time: u64, level: Level, link: Option<u32>, text: impl Display) {
-        if !self.says(level) {
-            return;
+        let text = text.to_string();
+        let kind = text.split(' ').next().unwrap_or("");
+        if self.says(level) && self.repeated.borrow_mut().allows(link, level, kind) {
+            self.say_each(time, level, link, &text);
         }
-        let text = clean(&text.to_string());
-        self.outlet.line(&self.form.line(time, level, link, &text));
+    }
+
+    /// A line, however many come.
+    pub fn say_each(&self, time: u64, level: Level, link: Option<u32>, text: &str) {
+        if self.says(level) {
+            self.outlet.line(&self.form.line(time, level, link, &clean(text)));
+        }
+    }
+
+    /// Of lines that were counted, once a second.
+    pub fn say_what_is_left_out(&self, time: u64) {
+        for told in self.repeated.borrow_mut().over(Instant::now()) {
+            self.say_each(time, told.level, told.link, &told.text);
+        }
     }
 
     /// A message; `mark` is > for sent, < for received, ! for received and not answered.
@@ -61,9 +98,14 @@ impl Journal {
             return;
         }
         let text = String::from_utf8_lossy(message);
-        self.outlet.line(&self.form.message(time, link, mark, &kind(&text), &clean(&detail(&text))));
+        let type_ = kind(&text);
+        let known = TYPES.iter().find(|known| **known == type_).unwrap_or(&"?");
+        if !self.repeated.borrow_mut().allows(Some(link), Level::Message, &format!("{} {}", mark, known)) {
+            return;
+        }
+        self.outlet.line(&self.form.message(time, link, mark, &type_, &clean(&detail(&text))));
         if self.says(Level::Debug) {
-            self.say(time, Level::Debug, Some(link), format!("{} {}", mark, text));
+            self.say_each(time, Level::Debug, Some(link), &format!("{} {}", mark, text));
         }
     }
 

@@ -19,10 +19,13 @@ mod obey;
 mod options;
 mod orders;
 mod outlet;
+mod pace;
 mod pauses;
+mod program;
 mod random;
 mod readable;
 mod record;
+mod repeated;
 mod send;
 mod show;
 mod signals;
@@ -42,7 +45,9 @@ use metrics::Metrics;
 use notify::Notifier;
 use options::{Options, Wanted};
 use outlet::Outlet;
+use pace::Pace;
 use pauses::Pauses;
+use program::Program;
 use random::Random;
 use record::Record;
 use rsmp_site::Start;
@@ -51,13 +56,16 @@ use state::{Found, Store};
 use std::fs;
 use std::io::{self, Write};
 use std::process::ExitCode;
-use std::sync::mpsc::{sync_channel, RecvTimeoutError};
+use std::sync::mpsc::{sync_channel, RecvTimeoutError, SyncSender};
 use std::time::{Duration, Instant};
+use wires::Event;
 
 const VERSION: &str = match option_env!("RSMP_VERSION") {
     Some(version) => version,
     None => "without a version",
 };
+/// The exit status of a table that is none: nothing to be tried again.
+const WRONG_TABLE: u8 = 3;
 const TICK: Duration = Duration::from_millis(250);
 /// The log gets so long for its last lines.
 const LAST_LINES: Duration = Duration::from_secs(2);
@@ -66,22 +74,35 @@ const AFTER_DRAIN: Duration = Duration::from_secs(15);
 /// So many events wait at most; then reading stands still, and with it the supervisor.
 const EVENTS: usize = 64;
 
-fn table_of(name: &str) -> Result<Table, String> {
-    let bytes = fs::read(name).map_err(|error| format!("{}: {}", name, error))?;
+enum NoTable {
+    Unreadable(String),
+    /// Another start would not read it either.
+    Wrong(String),
+}
+
+impl From<NoTable> for String {
+    fn from(no_table: NoTable) -> String {
+        match no_table {
+            NoTable::Unreadable(message) | NoTable::Wrong(message) => message,
+        }
+    }
+}
+
+fn table_of(name: &str) -> Result<Table, NoTable> {
+    let bytes = fs::read(name).map_err(|error| NoTable::Unreadable(format!("{}: {}", name, error)))?;
     if bits::looks_like_bits(&bytes) {
-        return bits::read(&bytes).map_err(|fault| format!("{}: byte {}: {}", name, fault.byte, fault.message));
+        return bits::read(&bytes).map_err(|fault| NoTable::Wrong(format!("{}: byte {}: {}", name, fault.byte, fault.message)));
     }
     let line = |fault: text::LineError| format!("{}:{}: {}", name, fault.line, fault.message);
-    let lines = |faults: Vec<text::LineError>| faults.into_iter().map(line).collect::<Vec<_>>().join("\n");
+    let lines = |faults: Vec<text::LineError>| NoTable::Wrong(faults.into_iter().map(line).collect::<Vec<_>>().join("\n"));
     text::read(&String::from_utf8_lossy(&bytes)).map_err(lines)
 }
 
-/// What is done with commands. A program that is named by its path must be there.
+/// What is done with commands. A program must be one that can be run.
 fn commands_of(options: &Options, table: &Table) -> Result<Commands, String> {
-    if let Some(program) = options.on_command.as_ref().filter(|program| program.contains('/')) {
-        fs::metadata(program).map_err(|error| format!("{}: {}", program, error))?;
-    }
-    Commands::new(table, options.on_command.clone(), options.command_limit).map_err(|error| error.to_string())
+    let found = |name: &String| Program::find(name, options.command_limit, options.state.as_deref());
+    let program = options.on_command.as_ref().map(found).transpose()?;
+    Commands::new(table, program).map_err(|error| error.to_string())
 }
 
 fn start_of(options: &Options) -> Start {
@@ -91,7 +112,7 @@ fn start_of(options: &Options) -> Start {
 /// Prints what a start would do; false where it would not go on with all that it had.
 fn check(options: Options) -> Result<bool, String> {
     let table = table_of(&options.table)?;
-    commands_of(&options, &table)?;
+    options.on_command.as_deref().map(program::found).transpose()?;
     let (lines, good) = check::check(&options, &table, &start_of(&options));
     print(&(lines.join("\n") + "\n"));
     Ok(good)
@@ -100,23 +121,23 @@ fn check(options: Options) -> Result<bool, String> {
 /// The log, and in which form.
 fn journal_of(options: &Options, replies: &Outlet) -> Result<Journal, String> {
     let (outlet, form) = match &options.log {
-        Some(name) => (Outlet::file(name.into()).map_err(|error| format!("{}: {}", name, error))?, Form::Text),
+        Some(name) => (Outlet::file(name.into(), options.log_size).map_err(|error| format!("{}: {}", name, error))?, Form::Text),
         None => (replies.clone(), Form::of_standard_output()),
     };
     let form = if options.json { Form::Json } else { form };
     if form == Form::Json {
         outlet.lines_are_json();
     }
-    Ok(Journal { level: options.level, outlet, form })
+    Ok(Journal { level: options.level, outlet, form, repeated: Default::default() })
 }
 
 /// The calls, and what is to be said of the state that was found.
-fn calls_of(options: &Options, table: Vec<u8>) -> Result<(Calls, Option<(Level, String)>), String> {
+fn calls_of(options: &Options, table: Vec<u8>, events: SyncSender<Event>) -> Result<(Calls, Option<(Level, String)>), String> {
     let named = |name: &str, error: io::Error| format!("{}: {}", name, error);
     let start = start_of(options);
     let (mut store, mut stored, mut said) = (None, None, None);
     if let Some(path) = &options.state {
-        let (opened, found) = Store::open(path, options.state_interval, &table, &start)?;
+        let (opened, found) = Store::open(path, options.state_interval, &table, &start, events)?;
         store = Some(opened);
         match found {
             Found::Nothing => {}
@@ -136,26 +157,28 @@ fn calls_of(options: &Options, table: Vec<u8>) -> Result<(Calls, Option<(Level, 
         None => Clock::machine(),
     };
     let random = Random::open(&options.random).map_err(|error| named(&options.random, error))?;
-    let record = match &options.record {
-        Some(name) => {
-            let opened = Record::open(name, options.record_size);
-            Some(opened.map_err(|error| named(name, error))?)
-        }
-        None => None,
-    };
-    let kit = Kit { clock, random, record, store };
-    let calls = Calls::start(table, start, kit, stored).map_err(|refusal| refusal.to_string())?;
+    let (mut record, mut cut) = (None, 0);
+    if let Some(name) = &options.record {
+        let opened = match Record::open(name, options.record_size) {
+            // It is tried again, and told of then.
+            Err(error) if system::may_pass(&error) => (Record::closed(name, options.record_size), 0),
+            opened => opened.map_err(|error| named(name, error))?,
+        };
+        (record, cut) = (Some(opened.0), opened.1);
+    }
+    let kit = Kit { clock, random, record, store, notifier: Notifier::of_environment() };
+    let mut calls = Calls::start(table, start, kit, stored).map_err(|refusal| refusal.to_string())?;
+    calls.say_what_was_cut(cut);
     Ok((calls, said))
 }
 
-fn run(options: Options) -> Result<(), String> {
-    let table = table_of(&options.table)?;
+fn run(options: Options, table: Table) -> Result<(), String> {
     let commands = commands_of(&options, &table)?;
-    let (calls, said) = calls_of(&options, bits::write(&table))?;
+    let (sender, events) = sync_channel(EVENTS);
+    let (calls, said) = calls_of(&options, bits::write(&table), sender.clone())?;
     let replies = Outlet::standard_output();
     let journal = journal_of(&options, &replies)?;
     let log = journal.outlet.clone();
-    let (sender, events) = sync_channel(EVENTS);
     let socket = match &options.control {
         Some(path) => {
             let (listener, socket) = control::listen(path, &Access::of(&options)?)?;
@@ -173,10 +196,9 @@ fn run(options: Options) -> Result<(), String> {
     host.say_beginning(VERSION, said);
     for (number, address) in options.supervisors.iter().enumerate() {
         let pauses = Pauses::new(options.reconnect, options.reconnect_limit);
-        wires::keep(number as u32, address.clone(), pauses, sender.clone());
+        wires::keep(number as u32, address.clone(), pauses, Pace::new(options.link_rate), sender.clone());
     }
-    let mut notifier = Notifier::of_environment();
-    notifier.tell("READY=1");
+    host.calls.notifier.tell("READY=1");
     let mut next_tick = Instant::now() + TICK;
     while !host.is_over(signals::ending()) {
         match events.recv_timeout(next_tick.saturating_duration_since(Instant::now())) {
@@ -197,11 +219,11 @@ fn run(options: Options) -> Result<(), String> {
             host.reopen();
         }
         if let Some(left) = host.drain.left() {
-            notifier.ends_within(left + AFTER_DRAIN);
+            host.calls.notifier.ends_within(left + AFTER_DRAIN);
         }
-        notifier.alive();
+        host.calls.notifier.alive();
     }
-    notifier.tell("STOPPING=1");
+    host.calls.notifier.tell("STOPPING=1");
     host.goodbye();
     if let Some(metrics) = metrics {
         metrics.end();
@@ -236,7 +258,14 @@ fn main() -> ExitCode {
     match options::read(std::env::args_os().skip(1)) {
         Ok(Wanted::Help) => print(options::HELP),
         Ok(Wanted::Version) => print(&format!("rsmp-site {}\n", VERSION)),
-        Ok(Wanted::Run(options)) => return status(run(options).map(|()| true)),
+        Ok(Wanted::Run(options)) => match table_of(&options.table) {
+            Ok(table) => return status(run(options, table).map(|()| true)),
+            Err(NoTable::Unreadable(message)) => return status(Err(message)),
+            Err(NoTable::Wrong(message)) => {
+                complain(&message);
+                return ExitCode::from(WRONG_TABLE);
+            }
+        },
         Ok(Wanted::Check(options)) => return status(check(options)),
         Ok(Wanted::Send(path, order)) => {
             let sent = send::send(&path, &order);

@@ -1,48 +1,58 @@
 //! What the process does at an order of the cabinet.
 
-use crate::control::Asked;
-use crate::host::Host;
+use crate::control::{Asked, Reply};
+use crate::host::{Host, NOT_SAVED};
+use crate::journal::Level;
 use crate::orders::{self, Order};
 use crate::send::followed;
 use rsmp_site::{Called, Phase, Refusal};
-use std::sync::mpsc::channel;
 
 impl Host {
     pub fn answer(&mut self, asked: Asked) {
-        let (gone, written) = channel();
-        let text = match orders::read(&asked.line, &self.about.table) {
+        let (text, input) = match orders::read(&asked.line, &self.about.table) {
             Ok(Order::Quit) => {
-                self.quitting = Some(written);
-                "done: goodbye".to_string()
+                self.quitting = Some(asked.reply.say("done: goodbye"));
+                return;
             }
+            Ok(Order::Save) => return self.save_for(asked.reply),
             Ok(order) => self.obey(order),
-            Err(message) => format!("refused: {}", message),
+            Err(message) => (format!("refused: {}", message), false),
         };
-        self.calls.save_before_it_is_seen();
-        let _ = asked.reply.send((text, gone));
+        let stored = self.calls.save_before_it_is_seen();
+        asked.reply.say(if input && !stored { "done, not stored" } else { &text });
     }
 
-    fn obey(&mut self, order: Order) -> String {
-        let mut called = match order {
-            Order::Counts => return format!("done: {}", self.counts()),
-            Order::Links => return format!("done: {}", self.phases()),
-            Order::Commands => {
-                return format!("done: {}", self.commands.counts().unwrap_or_else(|| "the table has no commands".to_string()))
-            }
-            Order::Show => return followed(&self.shown().lines()),
-            Order::ShowJson => return followed(&[self.shown().json()]),
-            Order::Help | Order::Quit => return format!("done: {}", orders::HELP),
-            Order::Save if self.calls.save() => return "done".to_string(),
-            Order::Save => return "refused: there is no state, or it cannot be written".to_string(),
-            _ => self.input(&order),
+    /// Replied to when it is written.
+    fn save_for(&mut self, reply: Reply) {
+        match self.calls.give_state() {
+            Some(number) => self.saving.push((number, reply)),
+            None => drop(reply.say(NOT_SAVED)),
+        }
+    }
+
+    /// The reply, and whether an input was taken.
+    fn obey(&mut self, order: Order) -> (String, bool) {
+        let told = match order {
+            Order::Counts => format!("done: {}", self.counts()),
+            Order::Links => format!("done: {}", self.phases()),
+            Order::Commands => format!("done: {}", self.commands.counts().unwrap_or_else(|| "the table has no commands".to_string())),
+            Order::Show => followed(&self.shown().lines()),
+            Order::ShowJson => followed(&[self.shown().json()]),
+            Order::Help | Order::Quit | Order::Save => format!("done: {}", orders::HELP),
+            _ => return self.take_input(&order),
         };
+        (told, false)
+    }
+
+    fn take_input(&mut self, order: &Order) -> (String, bool) {
+        let mut called = self.input(order);
         if called == Err(Refusal::SequenceSpent) {
-            self.start_anew();
-            called = self.input(&order);
+            self.start_anew(Level::Error, "used up");
+            called = self.input(order);
         }
         match called {
-            Ok(_) => "done".to_string(),
-            Err(refusal) => format!("refused: {}", refusal),
+            Ok(_) => ("done".to_string(), true),
+            Err(refusal) => (format!("refused: {}", refusal), false),
         }
     }
 

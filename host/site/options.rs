@@ -21,19 +21,21 @@ pub const HELP: &str = "rsmp-site: the site end of RSMP 3.2 for a road-barrier d
                              long each time that it does not come to Up, a tenth more or less
   --reconnect-limit SECONDS  and no longer than this (default 60)
   --greeting-limit SECONDS   a connection that is not Up by then is closed (default 60)
+  --link-rate PACKETS        read no more from a link in a second (default 1000; 0: as many as come); what is more waits
 
   --on-command PROGRAM       run this for each command of a supervisor, one after the other in the order in which they came, with four
                              words: component, code, name, value; without it, commands are told of in the log alone
   --command-limit SECONDS    one that runs longer is ended (default 60)
 
   --state FILE               keep the site in this file over a restart or a power loss
-  --state-interval SECONDS   write it so often at most (default 10); 0: before anything that depends on it is sent
+  --state-interval SECONDS   write it so often at most (default 10), but alarms at once; 0: before anything that depends on it is sent
   --control PATH             take orders on a Unix socket; without it, on standard input
   --control-mode MODE        who may use it, as chmod has it (default 600: its owner alone)
   --control-group GROUP      give it to this group
   --record FILE              append every call as a script that rsmp-replay plays
   --record-size BYTES        put it aside as FILE.1 when it is so long (default 64M; K, M and G are known; 0: never)
   --log FILE                 append the log to a file; without it, it goes to standard output
+  --log-size BYTES           put it aside as FILE.1 before it is longer (default 64M; 0: never)
   --log-level LEVEL          error, warning, info (what happens to connections), message (a line for each; the default), debug
   --log-format FORMAT        text (the default) or json, an object a line; to the journal of systemd lines go with their priority
   --quiet                    the same as --log-level info
@@ -51,9 +53,9 @@ pub const HELP: &str = "rsmp-site: the site end of RSMP 3.2 for a road-barrier d
                              at our start and how many milliseconds longer than it seems we run; random bytes are read from a file
 
 A value may also stand behind =, as in --period=60. SIGHUP has the log and the record opened again, SIGTERM and SIGINT say goodbye and
-end. Status 0: ended as told; 1: it cannot start; 2: wrong words.
+end. Status 0: ended as told; 1: it cannot start; 2: wrong words; 3: the table is none.
 
-Orders, a line each; a reply begins with done or refused:
+Orders, a line each; a reply begins with done or refused (done, not stored: with --state-interval 0, where the state cannot be written):
   alarm NUMBER on|off        the input of an alarm, numbered from 0 as the table lists them
   alarm COMPONENT CODE on|off          .. or by its component and code
   status NUMBER VALUE        the value of a status, numbered in the same way
@@ -78,6 +80,7 @@ pub struct Options {
     pub reconnect: Duration,
     pub reconnect_limit: Duration,
     pub greeting_limit: Duration,
+    pub link_rate: u32,
     pub on_command: Option<String>,
     pub command_limit: Duration,
     pub state: Option<String>,
@@ -88,6 +91,7 @@ pub struct Options {
     pub record: Option<String>,
     pub record_size: u64,
     pub log: Option<String>,
+    pub log_size: u64,
     pub level: Level,
     pub json: bool,
     pub metrics: Option<String>,
@@ -116,6 +120,7 @@ pub fn read(words: impl Iterator<Item = OsString>) -> Result<Wanted, String> {
         reconnect: Duration::from_secs(2),
         reconnect_limit: Duration::from_secs(60),
         greeting_limit: Duration::from_secs(60),
+        link_rate: 1000,
         on_command: None,
         command_limit: Duration::from_secs(60),
         state: None,
@@ -126,6 +131,7 @@ pub fn read(words: impl Iterator<Item = OsString>) -> Result<Wanted, String> {
         record: None,
         record_size: 64 << 20,
         log: None,
+        log_size: 64 << 20,
         level: Level::Message,
         json: false,
         metrics: None,
@@ -224,6 +230,7 @@ impl Options {
             "reconnect",
             "reconnect-limit",
             "greeting-limit",
+            "link-rate",
             "on-command",
             "command-limit",
             "state",
@@ -234,6 +241,7 @@ impl Options {
             "record",
             "record-size",
             "log",
+            "log-size",
             "log-level",
             "log-format",
             "metrics",
@@ -274,6 +282,10 @@ impl Options {
             "reconnect" => self.reconnect = seconds(0.01)?,
             "reconnect-limit" => self.reconnect_limit = seconds(0.01)?,
             "greeting-limit" => self.greeting_limit = seconds(0.1)?,
+            "link-rate" => {
+                let rate = value.parse().ok().filter(|rate| *rate <= 1_000_000);
+                self.link_rate = rate.ok_or_else(|| bad("0 to 1000000 packets"))?;
+            }
             "on-command" if value.is_empty() => return Err(bad("a program")),
             "on-command" => self.on_command = Some(value),
             "command-limit" => self.command_limit = seconds(0.1)?,
@@ -287,6 +299,9 @@ impl Options {
                 self.record_size = size(&value).ok_or_else(|| bad("a number of bytes, as 500K or 64M"))?;
             }
             "log" => self.log = Some(value),
+            "log-size" => {
+                self.log_size = size(&value).ok_or_else(|| bad("a number of bytes, as 500K or 64M"))?;
+            }
             "log-level" => {
                 let level = value.parse().map_err(|_| bad("error, warning, info, message or debug"))?;
                 self.level = level;

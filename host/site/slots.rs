@@ -27,6 +27,10 @@ impl Kept {
         Kept { path, in_turn, slots: None }
     }
 
+    pub fn path(&self) -> &Path {
+        &self.path
+    }
+
     /// In place, with one sync; the first time, and where that does not do, by a new file.
     pub fn write(&mut self, bytes: &[u8]) -> io::Result<()> {
         if !self.in_turn {

@@ -1,12 +1,17 @@
 //! The site's bytes in a file, so that what is held and what is set survive a power loss. The file is replaced as a whole: it has the
-//! former site or the new one, never a part. Where every call is stored, the file has two places that are written in turn.
+//! former site or the new one, never a part. Where every call is stored, the file has two places that are written in turn. A thread of its own
+//! writes it.
 
 use crate::slots::{self, Kept};
 use crate::system::lock;
+use crate::wires::Event;
 use rsmp_site::{check_sum, Phase, Site, Start};
 use std::fs::{self, File};
 use std::io::{self, Write};
 use std::path::{Path, PathBuf};
+use std::sync::mpsc::SyncSender;
+use std::sync::{Arc, Condvar, Mutex, MutexGuard};
+use std::thread;
 use std::time::{Duration, Instant};
 
 const NAME: &[u8; 8] = b"RSMPHOST";
@@ -15,6 +20,8 @@ const EDITION: u32 = 1;
 const HEAD_BYTES: usize = 40;
 const SUM_BYTES: usize = 8;
 const MOST_ASIDE: u32 = 9;
+/// While it is waited for, the watchdog is fed so often.
+const FEEDING: Duration = Duration::from_millis(200);
 
 pub struct Stored {
     pub site: Site,
@@ -96,19 +103,60 @@ pub fn looked_at(path: &str, table: &[u8], start: &Start) -> Look {
     }
 }
 
+/// What the writer is given and has done.
+#[derive(Default)]
+struct Desk {
+    /// The newest site that is not written yet, with its number: an older one need not be.
+    next: Option<(u64, Vec<u8>)>,
+    /// The number of the last that was written or failed, and why.
+    tried: u64,
+    fault: Option<String>,
+}
+
+type Shared = Arc<(Mutex<Desk>, Condvar)>;
+
+fn locked(shared: &Shared) -> MutexGuard<'_, Desk> {
+    shared.0.lock().unwrap_or_else(|poisoned| poisoned.into_inner())
+}
+
+fn write_all(mut kept: Kept, shared: &Shared, told: Option<SyncSender<Event>>) {
+    let mut desk = locked(shared);
+    loop {
+        desk = match desk.next.take() {
+            None => shared.1.wait(desk).unwrap_or_else(|poisoned| poisoned.into_inner()),
+            Some((number, bytes)) => {
+                drop(desk);
+                let written = kept.write(&bytes);
+                let mut desk = locked(shared);
+                desk.tried = number;
+                desk.fault = written.err().map(|error| format!("{}: {}", kept.path().display(), error));
+                shared.1.notify_all();
+                // One that finds no room finds the site awake.
+                let _ = told.as_ref().map(|events| events.try_send(Event::Stored));
+                desk
+            }
+        };
+    }
+}
+
 pub struct Store {
-    path: PathBuf,
-    kept: Kept,
     interval: Duration,
     setup: [u8; 20],
-    last: Option<Instant>,
+    shared: Shared,
+    given: u64,
+    settled: u64,
     changed: bool,
+    /// Since the last write something came from the cabinet, an alarm even.
+    input: bool,
+    alarm: bool,
+    last: Option<Instant>,
+    last_input: Option<Instant>,
     _lock: File,
 }
 
 impl Store {
     /// What a file has, and the store that will write it. A file that is not taken is kept aside.
-    pub fn open(path: &str, interval: Duration, table: &[u8], start: &Start) -> Result<(Store, Found), String> {
+    pub fn open(path: &str, interval: Duration, table: &[u8], start: &Start, events: SyncSender<Event>) -> Result<(Store, Found), String> {
         let path = PathBuf::from(path);
         let lock = alone(&path)?;
         let setup = setup(table, start);
@@ -125,8 +173,23 @@ impl Store {
                 }
             },
         };
-        let kept = Kept::new(path.clone(), interval.is_zero());
-        let store = Store { path, kept, interval, setup, last: None, changed: true, _lock: lock };
+        let shared = Shared::default();
+        let kept = Kept::new(path, interval.is_zero());
+        let (of_writer, told) = (shared.clone(), Some(events).filter(|_| !interval.is_zero()));
+        thread::Builder::new().spawn(move || write_all(kept, &of_writer, told)).map_err(|error| error.to_string())?;
+        let store = Store {
+            interval,
+            setup,
+            shared,
+            given: 0,
+            settled: 0,
+            changed: true,
+            input: false,
+            alarm: false,
+            last: None,
+            last_input: None,
+            _lock: lock,
+        };
         Ok((store, found))
     }
 
@@ -139,22 +202,71 @@ impl Store {
         self.changed = true;
     }
 
+    /// By something that came from the cabinet.
+    pub fn has_new_input(&mut self) {
+        (self.changed, self.input) = (true, true);
+    }
+
+    /// By an alarm of the cabinet, which waits for no interval.
+    pub fn has_new_alarm(&mut self) {
+        self.has_new_input();
+        self.alarm = true;
+    }
+
     pub fn changed(&self) -> bool {
         self.changed
     }
 
-    /// Whether a write is due.
+    /// Whether a write is due. What comes from the cabinet does not wait for the interval that a supervisor's doings began.
     pub fn due(&self) -> bool {
-        let rested = self.last.map_or(true, |last| last.elapsed() >= self.interval);
-        self.changed && rested
+        let rested = |last: Option<Instant>| last.map_or(true, |last| last.elapsed() >= self.interval);
+        self.alarm || self.changed && rested(self.last) || self.input && rested(self.last_input)
     }
 
-    /// Writes the site and syncs it.
-    pub fn write(&mut self, site: &Site, time: u64) -> Result<(), String> {
-        self.last = Some(Instant::now());
-        self.kept.write(&written(&self.setup, site, time)).map_err(|error| format!("{}: {}", self.path.display(), error))?;
-        self.changed = false;
-        Ok(())
+    /// Hands the site to the writer and gives its number. The start's own write begins no interval.
+    pub fn give(&mut self, site: &Site, time: u64) -> u64 {
+        if self.given > 0 {
+            self.last = Some(Instant::now());
+            self.last_input = self.last.filter(|_| self.input).or(self.last_input);
+        }
+        self.given += 1;
+        (self.changed, self.input, self.alarm) = (false, false, false);
+        locked(&self.shared).next = Some((self.given, written(&self.setup, site, time)));
+        self.shared.1.notify_all();
+        self.given
+    }
+
+    /// What came of the last write, where that was not asked yet. What was not written is to be written again, an interval later.
+    pub fn outcome(&mut self) -> Option<Result<(), String>> {
+        let desk = locked(&self.shared);
+        if desk.tried == self.settled {
+            return None;
+        }
+        self.settled = desk.tried;
+        let written = desk.fault.clone().map_or(Ok(()), Err);
+        drop(desk);
+        if written.is_err() {
+            self.changed = true;
+            self.last = Some(Instant::now());
+        }
+        Some(written)
+    }
+
+    /// The number up to which it is known what came of them.
+    pub fn settled(&self) -> u64 {
+        self.settled
+    }
+
+    /// Waits until all that was given is written or has failed.
+    pub fn wait(&self, mut alive: impl FnMut()) {
+        let mut desk = locked(&self.shared);
+        while desk.tried < self.given {
+            desk = match self.shared.1.wait_timeout(desk, FEEDING) {
+                Ok((desk, _)) => desk,
+                Err(poisoned) => poisoned.into_inner().0,
+            };
+            alive();
+        }
     }
 }
 

@@ -4,7 +4,7 @@ use std::ffi::CString;
 use std::fs::File;
 use std::io;
 use std::net::TcpStream;
-use std::os::raw::{c_char, c_int, c_uint, c_void};
+use std::os::raw::{c_char, c_int, c_uint, c_ulong, c_void};
 use std::os::unix::io::AsRawFd;
 use std::os::unix::net::UnixDatagram;
 use std::os::unix::process::CommandExt;
@@ -26,6 +26,10 @@ const TCP_USER_TIMEOUT: c_int = 18;
 const AF_UNIX: u16 = 1;
 const LOCK_EX: c_int = 2;
 const LOCK_NB: c_int = 4;
+const LOCK_UN: c_int = 8;
+const F_SETFD: c_int = 2;
+const X_OK: c_int = 1;
+const PR_SET_PDEATHSIG: c_int = 1;
 const MSG_NOSIGNAL: c_int = 0x4000;
 
 extern "C" {
@@ -34,6 +38,10 @@ extern "C" {
     fn chown(path: *const c_char, user: c_uint, group: c_uint) -> c_int;
     fn flock(file: c_int, operation: c_int) -> c_int;
     fn setpgid(process: c_int, group: c_int) -> c_int;
+    fn getppid() -> c_int;
+    fn prctl(option: c_int, ...) -> c_int;
+    fn fcntl(file: c_int, command: c_int, ...) -> c_int;
+    fn access(path: *const c_char, mode: c_int) -> c_int;
     fn kill(process: c_int, number: c_int) -> c_int;
     fn setsockopt(socket: c_int, level: c_int, name: c_int, value: *const c_void, length: c_uint) -> c_int;
     fn sendto(
@@ -80,12 +88,51 @@ pub fn lock(file: &File) -> io::Result<()> {
     }
 }
 
-/// The program that is run, and all that it runs, make a group of their own: a signal from the terminal is not theirs.
-pub fn in_own_group(command: &mut Command) {
-    // SAFETY: between fork and exec the closure makes one system call and nothing else.
-    let before_exec = || match unsafe { setpgid(0, 0) } {
+/// Ends a lock for all that have the file from us, too.
+pub fn unlock(file: &File) {
+    // SAFETY: the file is open while it is borrowed.
+    unsafe { flock(file.as_raw_fd(), LOCK_UN) };
+}
+
+/// Errors that go away without another word from anybody: no space, too many files, a file system that is read-only or gives errors.
+pub fn may_pass(error: &io::Error) -> bool {
+    const EIO: i32 = 5;
+    const ENFILE: i32 = 23;
+    const EMFILE: i32 = 24;
+    const ENOSPC: i32 = 28;
+    const EROFS: i32 = 30;
+    const EDQUOT: i32 = 122;
+    matches!(error.raw_os_error(), Some(EIO | ENFILE | EMFILE | ENOSPC | EROFS | EDQUOT))
+}
+
+/// Whether we may run this file.
+pub fn is_executable(path: &str) -> io::Result<()> {
+    let path = CString::new(path)?;
+    // SAFETY: the path ends with a zero and lives during the call.
+    match unsafe { access(path.as_ptr(), X_OK) } {
         0 => Ok(()),
         _ => Err(io::Error::last_os_error()),
+    }
+}
+
+/// The program that is run, and all that it runs, make a group of their own: a signal from the terminal is not theirs. It is killed when the
+/// thread that ran it is gone, however we end, and it and all that it runs keep `lock` open.
+pub fn bind_to_us(command: &mut Command, lock: Option<&File>) {
+    let (us, lock) = (std::process::id() as c_int, lock.map(AsRawFd::as_raw_fd));
+    let before_exec = move || {
+        // SAFETY: between fork and exec the closure makes system calls with numbers alone and nothing else.
+        let done = unsafe {
+            setpgid(0, 0) == 0
+                && prctl(PR_SET_PDEATHSIG, SIGKILL as c_ulong) == 0
+                && lock.map_or(true, |lock| fcntl(lock, F_SETFD, 0 as c_int) == 0)
+                // Were we gone before it was asked for, nothing would kill it.
+                && getppid() == us
+        };
+        if done {
+            Ok(())
+        } else {
+            Err(io::Error::last_os_error())
+        }
     };
     // SAFETY: as above, and what it gives allocates nothing.
     unsafe { command.pre_exec(before_exec) };

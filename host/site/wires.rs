@@ -2,6 +2,7 @@
 
 use crate::control::Asked;
 use crate::framing::{Frame, Framer};
+use crate::pace::Pace;
 use crate::pauses::Pauses;
 use crate::system::end_when_dead;
 use std::io::{self, Read, Write};
@@ -29,6 +30,10 @@ pub enum Event {
     Frame(u32, Frame),
     /// The connection is gone, with so many bytes behind the last form feed.
     Gone(u32, String, u64),
+    /// More packets come than are read in a second.
+    HeldBack(u32),
+    /// The state was written, or could not be.
+    Stored,
     Control(Asked),
     /// What a thread cannot do, for the log.
     Trouble(String),
@@ -129,7 +134,7 @@ impl Wire {
 }
 
 /// Keeps a link's connection: the thread never ends.
-pub fn keep(link: u32, address: String, mut pauses: Pauses, events: SyncSender<Event>) {
+pub fn keep(link: u32, address: String, mut pauses: Pauses, mut pace: Pace, events: SyncSender<Event>) {
     thread::spawn(move || loop {
         let event = match connect(&address) {
             Ok((stream, wire)) => {
@@ -137,7 +142,7 @@ pub fn keep(link: u32, address: String, mut pauses: Pauses, events: SyncSender<E
                 if events.send(Event::Connected(link, wire)).is_err() {
                     return;
                 }
-                let (why, unfinished) = read(link, stream, &events);
+                let (why, unfinished) = read(link, stream, &mut pace, &events);
                 if shared.was_up.load(Ordering::Relaxed) {
                     pauses.begin_again();
                 }
@@ -171,13 +176,16 @@ fn connect(address: &str) -> io::Result<(TcpStream, Wire)> {
     Err(last)
 }
 
-fn read(link: u32, mut stream: TcpStream, events: &SyncSender<Event>) -> (String, u64) {
+fn read(link: u32, mut stream: TcpStream, pace: &mut Pace, events: &SyncSender<Event>) -> (String, u64) {
     let mut framer = Framer::default();
     let mut buffer = [0; 4096];
     loop {
         match stream.read(&mut buffer) {
             Ok(0) => return (CLOSED.to_string(), framer.unfinished()),
             Ok(count) => framer.push(&buffer[..count], |frame| {
+                if pace.wait() {
+                    let _ = events.send(Event::HeldBack(link));
+                }
                 let _ = events.send(Event::Frame(link, frame));
             }),
             Err(error) if error.kind() == io::ErrorKind::Interrupted => {}
