@@ -137,7 +137,7 @@ def no_room(room):
     hold(too_many not in supervisor.acknowledged and too_many not in supervisor.refused, "what finds no room is answered")
     supervisor.wait(lambda: len(supervisor.of("CommandResponse")) == 17, "the responses")
     (pathlib.Path(room) / "go").touch()
-    wait(lambda: program.ended() == 257, "all that were acknowledged")
+    wait(lambda: program.ended() == 257, "all that were acknowledged", 60)
     hold(supervisor.ask("CommandRequest", **boom(0)) is True, "a command when there is room again")
     wait(lambda: program.ended() == 258, "the next")
     hold("beside another" not in program.lines(), "two programs ran at a time")

@@ -72,8 +72,7 @@ impl Journal {
     /// A line, or one more of those that are counted. What it begins with tells its kind: no word of a supervisor's stands there.
     pub fn say(&self, time: u64, level: Level, link: Option<u32>, text: impl Display) {
         let text = text.to_string();
-        let kind = text.split(' ').next().unwrap_or("");
-        if self.says(level) && self.repeated.borrow_mut().allows(link, level, kind) {
+        if self.says(level) && self.repeated.borrow_mut().allows(link, level, kind_of(&text)) {
             self.say_each(time, level, link, &text);
         }
     }
@@ -113,6 +112,12 @@ impl Journal {
     pub fn summary(&self, time: u64, text: &str) {
         self.outlet.line(&self.form.summary(time, text));
     }
+}
+
+/// The first word of a line; of a packet, three, which are ours.
+fn kind_of(text: &str) -> &str {
+    let words = if text.starts_with("a packet ") { 3 } else { 1 };
+    text.match_indices(' ').nth(words - 1).map_or(text, |(end, _)| &text[..end])
 }
 
 const DAY: u64 = 86_400_000;
@@ -155,6 +160,15 @@ mod tests {
         assert_eq!(moment(1_254_398_371_571), "2009-10-01 11:59:31.571Z");
         assert_eq!(moment(951_782_400_000), "2000-02-29 00:00:00.000Z");
         assert_eq!(moment(rsmp_site::LAST_TIME), "9999-12-31 23:59:59.999Z");
+    }
+
+    #[test]
+    fn kinds_of_lines() {
+        for (text, kind) in
+            [("a packet of 5000 bytes is dropped", "a packet of"), ("its \u{1b} is refused: no", "its"), ("goodbye", "goodbye"), ("", "")]
+        {
+            assert_eq!(kind_of(text), kind);
+        }
     }
 
     #[test]
