@@ -14,7 +14,7 @@ NOWHERE = "127.0.0.1:1"
 
 
 def status(*words):
-    done = subprocess.run([PROGRAM, *words], capture_output=True, stdin=subprocess.DEVNULL)
+    done = subprocess.run([PROGRAM, *words], capture_output=True, stdin=subprocess.DEVNULL, timeout=20)
     return done.returncode, (done.stdout + done.stderr).decode(errors="replace")
 
 

@@ -161,9 +161,10 @@ def slow_disk(room):
         time.sleep(0.25)
     took = time.monotonic() - began
     hold(took < 3, f"four orders take {took:.1f} s while the disk does not answer")
-    new.read_bytes()
-    process.wait_logged("the state cannot be written: ")
+    answering = os.open(new, os.O_RDONLY | os.O_NONBLOCK)
     new.unlink()
+    process.wait_logged("the state cannot be written: ")  # a pipe cannot be synced
+    os.close(answering)
     process.wait_logged("the state is written again")
     hold(process.order("save") == "done", "save")
     process.kill()
