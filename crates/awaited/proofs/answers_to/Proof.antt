@@ -8,12 +8,9 @@ returns : tie.Need-returns
 unfolding awaitsFor sameIdentity
 returns c = search tests
 
-same-identity-requires : tie.Need-same-identity-requires
-same-identity-requires c κs = search needs
-
 returns-2 : tie.Need-returns-2
 unfolding awaitsFor sameIdentity
 returns-2 c = search tests
 
 pub answers-to-spec : {M : Type 1} → statement M
-answers-to-spec = tie.close (tie.spec returns same-identity-requires returns-2)
+answers-to-spec = tie.close (tie.spec returns (λ c κs. search needs) returns-2)

@@ -20,24 +20,6 @@ loop-holds c =
     let h : length (c .args .t1) ≡ 16 = search needs in
     (omega arith, some-end (isLate (c .args .time)) (c .args .t1) 16 h)
 
-sub-i : tie.Need-sub-i Inv-loop μ-loop
-sub-i c = omega arith
-
-mul-is-late : tie.Need-mul-is-late Inv-loop μ-loop
-mul-is-late c = omega arith
-
-array-copy-out-is-late : tie.Need-array-copy-out-is-late Inv-loop μ-loop
-array-copy-out-is-late c = omega arith
-
-is-late-requires : tie.Need-is-late-requires Inv-loop μ-loop
-is-late-requires c κs = search needs
-
-either-requires : tie.Need-either-requires Inv-loop μ-loop
-either-requires c κs = search needs
-
-loop-less : tie.Need-loop-less Inv-loop μ-loop
-loop-less c = omega arith
-
 loop-again : tie.Need-loop-again Inv-loop μ-loop
 loop-again c =
     let l = c .before .before .before .before .before .args .t1 in
@@ -51,17 +33,5 @@ returns c =
     rw e at (c .before .loop .inv .1)
 
 pub any-late-spec : {M : Type 1} → statement M
-any-late-spec =
-    tie.close
-    (tie.spec
-    Inv-loop
-    μ-loop
-    loop-holds
-    sub-i
-    mul-is-late
-    array-copy-out-is-late
-    is-late-requires
-    either-requires
-    loop-less
-    loop-again
-    returns)
+any-late-spec = tie.close (tie.spec Inv-loop μ-loop loop-holds (λ c. omega arith) (λ c. omega arith) (λ c. omega arith) (λ c κs. search needs)
+    (λ c κs. search needs) (λ c. omega arith) loop-again returns)

@@ -20,24 +20,12 @@ loop-holds c =
     let h : length (c .args .t1) ≡ 16 = search needs in
     (omega arith, count-end isTaken (c .args .t1) 16 h)
 
-sub-i : tie.Need-sub-i Inv-loop μ-loop
-sub-i c = omega arith
-
-mul-counted : tie.Need-mul-counted Inv-loop μ-loop
-mul-counted c = omega arith
-
-array-copy-out-counted : tie.Need-array-copy-out-counted Inv-loop μ-loop
-array-copy-out-counted c = omega arith
-
 counted-requires : tie.Need-counted-requires Inv-loop μ-loop
 counted-requires c κs =
     let l = c .before .before .before .args .t1 in
     let i = c .before .before .loop .i in
     let h : length l ≡ 16 = search needs in
     omega (arith, count-le-length isTaken (drop i l), length-drop i l)
-
-loop-less : tie.Need-loop-less Inv-loop μ-loop
-loop-less c = omega arith
 
 loop-again : tie.Need-loop-again Inv-loop μ-loop
 loop-again c =
@@ -52,16 +40,5 @@ returns c =
     rw e at (c .before .loop .inv .1)
 
 pub count-taken-spec : {M : Type 1} → statement M
-count-taken-spec =
-    tie.close
-    (tie.spec
-    Inv-loop
-    μ-loop
-    loop-holds
-    sub-i
-    mul-counted
-    array-copy-out-counted
-    counted-requires
-    loop-less
-    loop-again
-    returns)
+count-taken-spec = tie.close (tie.spec Inv-loop μ-loop loop-holds (λ c. omega arith) (λ c. omega arith) (λ c. omega arith) counted-requires (λ c. omega arith)
+    loop-again returns)

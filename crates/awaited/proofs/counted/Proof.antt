@@ -5,9 +5,6 @@ use borrow.Author.Needs.{needs}
 use Rattle.awaited.proofs.counted.Statement.{statement}
 use Rattle.awaited.proofs.counted.Tie as tie
 
-add-result : tie.Need-add-result
-add-result c = search needs
-
 returns : tie.Need-returns
 unfolding isTaken
 returns c = simp (eq-eqb _ _ (c .if1 .taken)) (omega arith)
@@ -17,4 +14,4 @@ unfolding isTaken
 returns-2 c = simp (ne-eqb _ _ (c .if1 .left)) (omega arith)
 
 pub counted-spec : {M : Type 1} → statement M
-counted-spec = tie.close (tie.spec add-result returns returns-2)
+counted-spec = tie.close (tie.spec (λ c. search needs) returns returns-2)

@@ -21,21 +21,6 @@ loop-holds c =
     let h : length (c .args .t1) ≡ 16 = search needs in
     (omega arith, first-end isFree (c .args .t1) 16 h)
 
-sub-i : tie.Need-sub-i Inv-loop μ-loop
-sub-i c = omega arith
-
-mul-nearer : tie.Need-mul-nearer Inv-loop μ-loop
-mul-nearer c = omega arith
-
-element-copy-out-nearer : tie.Need-element-copy-out-nearer Inv-loop μ-loop
-element-copy-out-nearer c = omega arith
-
-nearer-requires : tie.Need-nearer-requires Inv-loop μ-loop
-nearer-requires c κs = search needs
-
-loop-less : tie.Need-loop-less Inv-loop μ-loop
-loop-less c = omega arith
-
 loop-again : tie.Need-loop-again Inv-loop μ-loop
 loop-again c =
     let l = c .before .before .before .args .t1 in
@@ -50,16 +35,5 @@ returns c =
     ((rw e at (c .before .loop .inv .1)) ∙ zero-add _, h)
 
 pub free-place-spec : {M : Type 1} → statement M
-free-place-spec =
-    tie.close
-    (tie.spec
-    Inv-loop
-    μ-loop
-    loop-holds
-    sub-i
-    mul-nearer
-    element-copy-out-nearer
-    nearer-requires
-    loop-less
-    loop-again
-    returns)
+free-place-spec = tie.close (tie.spec Inv-loop μ-loop loop-holds (λ c. omega arith) (λ c. omega arith) (λ c. omega arith) (λ c κs. search needs)
+    (λ c. omega arith) loop-again returns)

@@ -8,12 +8,9 @@ returns : tie.Need-returns
 unfolding isLate
 returns c = rw (eq-eqb _ _ (c .if1 .taken))
 
-elapsed-requires : tie.Need-elapsed-requires
-elapsed-requires c κs = search needs
-
 returns-2 : tie.Need-returns-2
 unfolding isLate
 returns-2 c = rw (ne-eqb _ _ (c .before .if1 .left)) (c .elapsed .ensures)
 
 pub is-late-spec : {M : Type 1} → statement M
-is-late-spec = tie.close (tie.spec returns elapsed-requires returns-2)
+is-late-spec = tie.close (tie.spec returns (λ c κs. search needs) returns-2)

@@ -19,27 +19,12 @@ abbrev μ-loop : tie.MeasureT-loop
 loop-holds : tie.Need-loop-holds Inv-loop μ-loop
 loop-holds c = (omega arith, sym (zero-add _))
 
-mul-answers-to : tie.Need-mul-answers-to Inv-loop μ-loop
-mul-answers-to c = omega arith
-
-array-copy-out-answers-to : tie.Need-array-copy-out-answers-to Inv-loop μ-loop
-array-copy-out-answers-to c = omega arith
-
-answers-to-requires : tie.Need-answers-to-requires Inv-loop μ-loop
-answers-to-requires c κs = search needs
-
 returns : tie.Need-returns Inv-loop μ-loop
 returns c =
     let l = c .before .before .before .before .before .args .t1 in
     let at = c .before .before .before .before .loop in
     let h : length l ≡ 16 = search needs in
     (first-here (awaitsFor _) l (at .i) _ (omega arith) (sym (c .before .answers-to .ensures) ∙ c .if1 .taken) (at .inv .1), h)
-
-add-i : tie.Need-add-i Inv-loop μ-loop
-add-i c = omega arith
-
-loop-less : tie.Need-loop-less Inv-loop μ-loop
-loop-less c = omega arith
 
 loop-again : tie.Need-loop-again Inv-loop μ-loop
 loop-again c =
@@ -56,17 +41,5 @@ returns-2 c =
     (first-none (awaitsFor _) l 16 (at .i) h (omega arith) (at .inv .1), h)
 
 pub place-of-spec : {M : Type 1} → statement M
-place-of-spec =
-    tie.close
-    (tie.spec
-    Inv-loop
-    μ-loop
-    loop-holds
-    mul-answers-to
-    array-copy-out-answers-to
-    answers-to-requires
-    returns
-    add-i
-    loop-less
-    loop-again
-    returns-2)
+place-of-spec = tie.close (tie.spec Inv-loop μ-loop loop-holds (λ c. omega arith) (λ c. omega arith) (λ c κs. search needs) returns (λ c. omega arith)
+    (λ c. omega arith) loop-again returns-2)

@@ -6,14 +6,8 @@ use Rattle.bits.proofs.field.Lts as lts
 use Rattle.bits.proofs.high.Reads as high-reads
 use Rattle.bits.proofs.low.Reads as low-reads
 
-high-requires : tie.Need-high-requires
-high-requires c κs = search needs
-
-low-requires : tie.Need-low-requires
-low-requires c κs = search needs
-
 returns : tie.Need-returns
 returns c = cc
 
 pub field-spec : {M : Type 1} → statement M
-field-spec = tie.close (tie.spec high-requires low-requires returns)
+field-spec = tie.close (tie.spec (λ c κs. search needs) (λ c κs. search needs) returns)

@@ -6,14 +6,8 @@ use Rattle.bits.proofs.high.Tie as tie
 use Rattle.bits.proofs.high.Reads as reads
 use Rattle.bits.proofs.high.Lts as lts
 
-shr-result : tie.Need-shr-result
-shr-result c = search needs
-
-returns : tie.Need-returns
-returns c = search needs
-
 returns-2 : tie.Need-returns-2
 returns-2 c = sym (shr-all (c .before .args .word) (c .before .args .shift) (search needs) (c .if1 .left))
 
 pub high-spec : {M : Type 1} → statement M
-high-spec = tie.close (tie.spec shr-result returns returns-2)
+high-spec = tie.close (tie.spec (λ c. search needs) (λ c. search needs) returns-2)

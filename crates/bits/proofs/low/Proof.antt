@@ -7,9 +7,6 @@ use Rattle.bits.proofs.low.Tie as tie
 use Rattle.bits.proofs.low.Reads as reads
 use Rattle.bits.proofs.low.Lts as lts
 
-shl-result : tie.Need-shl-result
-shl-result c = search needs
-
 sub-result : tie.Need-sub-result
 sub-result c = rw (one-shl _ (c .if1 .taken)) (pow-pos (c .before .args .width))
 
@@ -20,4 +17,4 @@ returns-2 : tie.Need-returns-2
 returns-2 c = sym (wider (c .before .args .word) (c .before .args .width) (search needs) (c .if1 .left))
 
 pub low-spec : {M : Type 1} → statement M
-low-spec = tie.close (tie.spec shl-result sub-result returns returns-2)
+low-spec = tie.close (tie.spec (λ c. search needs) sub-result returns returns-2)

@@ -7,12 +7,6 @@ use Rattle.bits.proofs.push.Reads as reads
 use Rattle.bits.proofs.push.Lts as lts
 use Rattle.bits.proofs.low.Reads as low-reads
 
-low-requires : tie.Need-low-requires
-low-requires c κs = search needs
-
-shl-result : tie.Need-shl-result
-shl-result c = search needs
-
 returns : tie.Need-returns
 returns c = rw (c .before .low .ensures) (push _ _ _ (c .if1 .taken))
 
@@ -20,4 +14,4 @@ returns-2 : tie.Need-returns-2
 returns-2 c = c .before .low .ensures ∙ push-all _ _ _ (c .if1 .left) (search needs)
 
 pub push-spec : {M : Type 1} → statement M
-push-spec = tie.close (tie.spec low-requires shl-result returns returns-2)
+push-spec = tie.close (tie.spec (λ c κs. search needs) (λ c. search needs) returns returns-2)

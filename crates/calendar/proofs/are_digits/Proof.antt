@@ -18,12 +18,6 @@ abbrev μ-loop : tie.MeasureT-loop
 loop-holds : tie.Need-loop-holds Inv-loop μ-loop
 loop-holds c = (search needs, refl)
 
-shared-slice-read-is-digit : tie.Need-shared-slice-read-is-digit Inv-loop μ-loop
-shared-slice-read-is-digit c = search needs
-
-is-digit-requires : tie.Need-is-digit-requires Inv-loop μ-loop
-is-digit-requires c κs = search needs
-
 returns : tie.Need-returns Inv-loop μ-loop
 returns c =
     let a = c .before .is-digit in
@@ -31,12 +25,6 @@ returns c =
     let s = c .before .before .before .before .before .before .args .s .now in
     let e : isDigit (getD s (l .i) 0) ≡ false = sym (a .ensures) ∙ not-taken (a .result) (c .if1 .taken) in
     sym (l .inv .1 ∙ turn s (l .i) (c .before .before .before .loop-test .taken) ∙ ap (λ (b : Bool). both b (areDigits (drop (l .i + 1) s))) e)
-
-add-i : tie.Need-add-i Inv-loop μ-loop
-add-i c = search needs
-
-loop-less : tie.Need-loop-less Inv-loop μ-loop
-loop-less c = search needs
 
 loop-again : tie.Need-loop-again Inv-loop μ-loop
 loop-again c =
@@ -53,16 +41,5 @@ returns-2 c =
     sym (l .inv .1 ∙ all-read s (l .i) (c .loop-test .left))
 
 pub are-digits-spec : {M : Type 1} → statement M
-are-digits-spec =
-    tie.close
-    (tie.spec
-    Inv-loop
-    μ-loop
-    loop-holds
-    shared-slice-read-is-digit
-    is-digit-requires
-    returns
-    add-i
-    loop-less
-    loop-again
-    returns-2)
+are-digits-spec = tie.close (tie.spec Inv-loop μ-loop loop-holds (λ c. search needs) (λ c κs. search needs) returns (λ c. search needs) (λ c. search needs)
+    loop-again returns-2)

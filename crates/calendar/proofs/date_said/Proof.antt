@@ -4,24 +4,6 @@ use borrow.Author.Needs.{needs}
 use Rattle.calendar.proofs.date_said.Statement.{statement}
 use Rattle.calendar.proofs.date_said.Tie as tie
 
-two-at-requires : tie.Need-two-at-requires
-two-at-requires c κs = search needs
-
-mul-t3 : tie.Need-mul-t3
-mul-t3 c = search needs
-
-two-at-requires-2 : tie.Need-two-at-requires-2
-two-at-requires-2 c κs = search needs
-
-add-t5 : tie.Need-add-t5
-add-t5 c = search needs
-
-two-at-requires-3 : tie.Need-two-at-requires-3
-two-at-requires-3 c κs = search needs
-
-two-at-requires-4 : tie.Need-two-at-requires-4
-two-at-requires-4 c κs = search needs
-
 returns : tie.Need-returns
 returns c =
     let m = c .two-at4 .ensures .0 in
@@ -30,13 +12,5 @@ returns c =
     λ i. record { year = y i; month = k i; day = m i }
 
 pub date-said-spec : {M : Type 1} → statement M
-date-said-spec =
-    tie.close
-    (tie.spec
-    two-at-requires
-    mul-t3
-    two-at-requires-2
-    add-t5
-    two-at-requires-3
-    two-at-requires-4
-    returns)
+date-said-spec = tie.close (tie.spec (λ c κs. search needs) (λ c. search needs) (λ c κs. search needs) (λ c. search needs) (λ c κs. search needs)
+    (λ c κs. search needs) returns)

@@ -9,12 +9,6 @@ use Rattle.calendar.proofs.one_at.Tie as tie
 returns : tie.Need-returns
 returns c = let a = c .before .args in (ap (λ (n : ℕ). n - 48) (sym (List·getD-eq-default (a .s .now) 0 (c .if1 .taken))), search needs)
 
-shared-slice-read-c : tie.Need-shared-slice-read-c
-shared-slice-read-c c = search needs
-
-returns-2 : tie.Need-returns-2
-returns-2 c = search needs
-
 cast-result : tie.Need-cast-result
 cast-result c = omega (arith, c .before .shared-slice-known .given (c .before .before .before .args .at))
 
@@ -22,4 +16,4 @@ returns-3 : tie.Need-returns-3
 returns-3 c = (refl, omega (arith, c .before .shared-slice-known .given (c .before .before .before .args .at)))
 
 pub one-at-spec : {M : Type 1} → statement M
-one-at-spec = tie.close (tie.spec returns shared-slice-read-c returns-2 cast-result returns-3)
+one-at-spec = tie.close (tie.spec returns (λ c. search needs) (λ c. search needs) cast-result returns-3)

@@ -17,12 +17,6 @@ returns-2 : tie.Need-returns-2
 unfolding readDecimals
 returns-2 c = search tests
 
-are-digits-requires : tie.Need-are-digits-requires
-are-digits-requires c κs = search needs
-
-millis-requires : tie.Need-millis-requires
-millis-requires c κs = search needs
-
 returns-3 : tie.Need-returns-3
 unfolding readDecimals
 returns-3 c =
@@ -36,5 +30,4 @@ returns-4 c =
     sym (decimals-refused ds (sym (c .before .are-digits .ensures) ∙ c .if3 .left))
 
 pub read-decimals-spec : {M : Type 1} → statement M
-read-decimals-spec =
-    tie.close (tie.spec returns returns-2 are-digits-requires millis-requires returns-3 returns-4)
+read-decimals-spec = tie.close (tie.spec returns returns-2 (λ c κs. search needs) (λ c κs. search needs) returns-3 returns-4)

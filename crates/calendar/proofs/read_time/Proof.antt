@@ -14,36 +14,6 @@ use Rattle.calendar.proofs.read_time.Tie as tie
 returns : tie.Need-returns
 returns c = let s = c .before .before .args .s .now in read-as s No (short s (c .if1 .taken))
 
-sub-read-second : tie.Need-sub-read-second
-sub-read-second c = search needs
-
-part-read-second-start : tie.Need-part-read-second-start
-part-read-second-start c = search needs
-
-part-read-second-end : tie.Need-part-read-second-end
-part-read-second-end c = search needs
-
-read-second-requires : tie.Need-read-second-requires
-read-second-requires c κs = search needs
-
-sub-read-rest : tie.Need-sub-read-rest
-sub-read-rest c = search needs
-
-part-read-rest-start : tie.Need-part-read-rest-start
-part-read-rest-start c = search needs
-
-part-read-rest-end : tie.Need-part-read-rest-end
-part-read-rest-end c = search needs
-
-read-rest-requires : tie.Need-read-rest-requires
-read-rest-requires c κs = search needs
-
-enum-known-seconds : tie.Need-enum-known-seconds
-enum-known-seconds c = search needs
-
-enum-known-rest : tie.Need-enum-known-rest
-enum-known-rest c = search needs
-
 mul-t17 : tie.Need-mul-t17
 mul-t17 c =
     let s = c .before .before .before .before .before .before .before .before .before .before .before .before .args .s .now in
@@ -56,12 +26,6 @@ add-t18 c =
     let p = subst (Answers secondText lastSecond (take 19 s)) (c .before .before .before .before .seconds .given .1) (c .before .before .before .before .before .before .before .before .read-second .ensures) in
     let q = subst (ReadsRest (drop 19 s)) (c .before .rest .given .1) (rest s _ (c .before .before .before .before .before .before .read-rest .ensures)) in
     omega (arith, p .accepted _ refl .0, rest-most q)
-
-enum-told : tie.Need-enum-told
-enum-told c = search needs
-
-enum-told-2 : tie.Need-enum-told-2
-enum-told-2 c = search needs
 
 returns-2 : tie.Need-returns-2
 returns-2 c =
@@ -84,24 +48,6 @@ returns-4 c =
     read-as s No (joined s NoSecond _ p (rest s _ (c .before .before .read-rest .ensures)))
 
 pub read-time-spec : {M : Type 1} → statement M
-read-time-spec =
-    tie.close
-    (tie.spec
-    returns
-    sub-read-second
-    part-read-second-start
-    part-read-second-end
-    read-second-requires
-    sub-read-rest
-    part-read-rest-start
-    part-read-rest-end
-    read-rest-requires
-    enum-known-seconds
-    enum-known-rest
-    mul-t17
-    add-t18
-    enum-told
-    enum-told-2
-    returns-2
-    returns-3
-    returns-4)
+read-time-spec = tie.close (tie.spec returns (λ c. search needs) (λ c. search needs) (λ c. search needs) (λ c κs. search needs) (λ c. search needs)
+    (λ c. search needs) (λ c. search needs) (λ c κs. search needs) (λ c. search needs) (λ c. search needs) mul-t17 add-t18 (λ c. search needs)
+    (λ c. search needs) returns-2 returns-3 returns-4)

@@ -4,15 +4,9 @@ use borrow.Author.Needs.{needs}
 use Rattle.calendar.proofs.time_text.Statement.{statement}
 use Rattle.calendar.proofs.time_text.Tie as tie
 
-second-text-requires : tie.Need-second-text-requires
-second-text-requires c κs = search needs
-
-put-digits-requires : tie.Need-put-digits-requires
-put-digits-requires c κs = search needs
-
 returns : tie.Need-returns
 unfolding put timeText secondText milliText
 returns c = rw (c .put-digits .ensures, c .before .second-text .ensures)
 
 pub time-text-spec : {M : Type 1} → statement M
-time-text-spec = tie.close (tie.spec second-text-requires put-digits-requires returns)
+time-text-spec = tie.close (tie.spec (λ c κs. search needs) (λ c κs. search needs) returns)

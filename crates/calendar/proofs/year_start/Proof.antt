@@ -7,21 +7,6 @@ use borrow.Author.Needs.{needs}
 use Rattle.calendar.proofs.year_start.Statement.{statement}
 use Rattle.calendar.proofs.year_start.Tie as tie
 
-sub-p : tie.Need-sub-p
-sub-p c = search needs
-
-mul-result : tie.Need-mul-result
-mul-result c = search needs
-
-add-result : tie.Need-add-result
-add-result c = search needs
-
-add-result-2 : tie.Need-add-result-2
-add-result-2 c = search needs
-
-sub-result : tie.Need-sub-result
-sub-result c = search needs
-
 sub-result-2 : tie.Need-sub-result-2
 sub-result-2 c = formula-fits (years (c .args .y - 1970)) _ ((c .args .y - 1) / 100) (years-formula (c .args .y) (c .pre .0))
 
@@ -31,5 +16,4 @@ returns c =
     (e, subst (λ (n : ℕ). n < 2932897) (sym e) (years-below (c .args .y) (c .pre .0) (c .pre .1)))
 
 pub year-start-spec : {M : Type 1} → statement M
-year-start-spec =
-    tie.close (tie.spec sub-p mul-result add-result add-result-2 sub-result sub-result-2 returns)
+year-start-spec = tie.close (tie.spec (λ c. search needs) (λ c. search needs) (λ c. search needs) (λ c. search needs) (λ c. search needs) sub-result-2 returns)

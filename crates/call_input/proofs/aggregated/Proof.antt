@@ -10,24 +10,12 @@ use borrow.Author.Needs.{needs}
 use Rattle.call_input.proofs.aggregated.Statement.{statement}
 use Rattle.call_input.proofs.aggregated.Tie as tie
 
-bad-time-requires : tie.Need-bad-time-requires
-bad-time-requires c κs = search needs
-
-same-length : tie.Need-same-length
-same-length c = search needs
-
 returns : tie.Need-returns
 returns c =
     let a = c .before .before .before .before .args in
     λ t.
     let s = siteOf (a .w .now) t in
     steps-refused t (a .w .now) BadTime (late s (a .time) (aggregatedPlan s (a .value) (a .time)) (sym (c .before .bad-time .ensures t) ∙ c .if1 .taken))
-
-aggregated-requires : tie.Need-aggregated-requires
-aggregated-requires c κs = search needs
-
-same-length-2 : tie.Need-same-length-2
-same-length-2 c = search needs
 
 returns-2 : tie.Need-returns-2
 returns-2 c =
@@ -37,6 +25,4 @@ returns-2 c =
     steps-as t (a .w .now) (c .before .before .aggregated .ensures t) (on-time s (a .time) (aggregatedPlan s (a .value) (a .time)) (sym (c .before .before .before .before .before .bad-time .ensures t) ∙ c .before .before .before .before .if1 .left))
 
 pub aggregated-spec : {M : Type 1} → statement M
-aggregated-spec =
-    tie.close
-    (tie.spec bad-time-requires same-length returns aggregated-requires same-length-2 returns-2)
+aggregated-spec = tie.close (tie.spec (λ c κs. search needs) (λ c. search needs) returns (λ c κs. search needs) (λ c. search needs) returns-2)

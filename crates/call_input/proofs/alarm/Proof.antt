@@ -13,12 +13,6 @@ use borrow.Author.Needs.{needs}
 use Rattle.call_input.proofs.alarm.Statement.{statement}
 use Rattle.call_input.proofs.alarm.Tie as tie
 
-alarm-count-requires : tie.Need-alarm-count-requires
-alarm-count-requires c κs = search needs
-
-cast-if1 : tie.Need-cast-if1
-cast-if1 c = search needs
-
 returns : tie.Need-returns
 returns c =
     let a = c .before .before .before .before .args in
@@ -26,12 +20,6 @@ returns c =
     let s = siteOf (a .w .now) t in
     let past : s .table .alarmcount ≤ a .number = rw (table-of (a .w .now) t, ← c .before .alarm-count .ensures) (c .if1 .taken) in
     steps-refused t (a .w .now) NoSuchItem (no-item s (a .time) (alarmPlan s (a .number) (a .active) (a .time)) (s .table .alarmcount) (a .number) past)
-
-bad-time-requires : tie.Need-bad-time-requires
-bad-time-requires c κs = search needs
-
-same-length : tie.Need-same-length
-same-length c = search needs
 
 returns-2 : tie.Need-returns-2
 returns-2 c =
@@ -41,15 +29,6 @@ returns-2 c =
     let is : a .number < s .table .alarmcount = rw (table-of (a .w .now) t, ← c .before .before .before .before .alarm-count .ensures) (c .before .before .before .if1 .left) in
     steps-refused t (a .w .now) BadTime
     (item-late s (a .time) (alarmPlan s (a .number) (a .active) (a .time)) (s .table .alarmcount) (a .number) is (sym (c .before .bad-time .ensures t) ∙ c .if2 .taken))
-
-cast-alarm : tie.Need-cast-alarm
-cast-alarm c = search needs
-
-alarm-requires : tie.Need-alarm-requires
-alarm-requires c κs = search needs
-
-same-length-2 : tie.Need-same-length-2
-same-length-2 c = search needs
 
 returns-3 : tie.Need-returns-3
 returns-3 c =
@@ -61,16 +40,5 @@ returns-3 c =
     (item-on-time s (a .time) (alarmPlan s (a .number) (a .active) (a .time)) (s .table .alarmcount) (a .number) is (sym (c .before .before .before .before .before .bad-time .ensures t) ∙ c .before .before .before .before .if2 .left))
 
 pub alarm-spec : {M : Type 1} → statement M
-alarm-spec =
-    tie.close
-    (tie.spec
-    alarm-count-requires
-    cast-if1
-    returns
-    bad-time-requires
-    same-length
-    returns-2
-    cast-alarm
-    alarm-requires
-    same-length-2
-    returns-3)
+alarm-spec = tie.close (tie.spec (λ c κs. search needs) (λ c. search needs) returns (λ c κs. search needs) (λ c. search needs) returns-2 (λ c. search needs)
+    (λ c κs. search needs) (λ c. search needs) returns-3)

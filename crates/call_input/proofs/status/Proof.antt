@@ -15,12 +15,6 @@ use borrow.Author.Needs.{needs}
 use Rattle.call_input.proofs.status.Statement.{statement}
 use Rattle.call_input.proofs.status.Tie as tie
 
-status-count-requires : tie.Need-status-count-requires
-status-count-requires c κs = search needs
-
-cast-if1 : tie.Need-cast-if1
-cast-if1 c = search needs
-
 returns : tie.Need-returns
 returns c =
     let a = c .before .before .before .before .args in
@@ -28,12 +22,6 @@ returns c =
     let s = siteOf (a .w .now) t in
     let past : s .table .statuscount ≤ a .number = rw (table-of (a .w .now) t, ← c .before .status-count .ensures) (c .if1 .taken) in
     steps-refused t (a .w .now) NoSuchItem (no-item s (a .time) (statusPlan s (a .number) (a .value) (a .time)) (s .table .statuscount) (a .number) past)
-
-bad-time-requires : tie.Need-bad-time-requires
-bad-time-requires c κs = search needs
-
-same-length : tie.Need-same-length
-same-length c = search needs
 
 returns-2 : tie.Need-returns-2
 returns-2 c =
@@ -43,15 +31,6 @@ returns-2 c =
     let is : a .number < s .table .statuscount = rw (table-of (a .w .now) t, ← c .before .before .before .before .status-count .ensures) (c .before .before .before .if1 .left) in
     steps-refused t (a .w .now) BadTime
     (item-late s (a .time) (statusPlan s (a .number) (a .value) (a .time)) (s .table .statuscount) (a .number) is (sym (c .before .bad-time .ensures t) ∙ c .if2 .taken))
-
-cast-status : tie.Need-cast-status
-cast-status c = search needs
-
-status-requires : tie.Need-status-requires
-status-requires c κs = search needs
-
-same-length-2 : tie.Need-same-length-2
-same-length-2 c = search needs
 
 returns-3 : tie.Need-returns-3
 returns-3 c =
@@ -64,16 +43,5 @@ returns-3 c =
     ∙ item-on-time s (a .time) (statusPlan s (a .number) (a .value) (a .time)) (s .table .statuscount) (a .number) is (sym (c .before .before .before .before .before .bad-time .ensures t) ∙ c .before .before .before .before .if2 .left))
 
 pub status-spec : {M : Type 1} → statement M
-status-spec =
-    tie.close
-    (tie.spec
-    status-count-requires
-    cast-if1
-    returns
-    bad-time-requires
-    same-length
-    returns-2
-    cast-status
-    status-requires
-    same-length-2
-    returns-3)
+status-spec = tie.close (tie.spec (λ c κs. search needs) (λ c. search needs) returns (λ c κs. search needs) (λ c. search needs) returns-2 (λ c. search needs)
+    (λ c κs. search needs) (λ c. search needs) returns-3)

@@ -10,22 +10,10 @@ use borrow.Author.Needs.{needs}
 use Rattle.call_link.proofs.connect.Statement.{statement}
 use Rattle.call_link.proofs.connect.Tie as tie
 
-no-link-requires : tie.Need-no-link-requires
-no-link-requires c κs = search needs
-
-same-length : tie.Need-same-length
-same-length c = search needs
-
 returns : tie.Need-returns
 returns c =
     let a = c .before .before .before .before .args in
     λ t. steps-refused t (a .w .now) NoSuchLink (connect-no-link (siteOf (a .w .now) t) (a .link) (a .time) (sym (c .before .no-link .ensures t) ∙ c .if1 .taken))
-
-bad-time-requires : tie.Need-bad-time-requires
-bad-time-requires c κs = search needs
-
-same-length-2 : tie.Need-same-length-2
-same-length-2 c = search needs
 
 returns-2 : tie.Need-returns-2
 returns-2 c =
@@ -38,19 +26,10 @@ down-requires c κs = (search needs, below-four (c .before .before .before .befo
 joined-requires : tie.Need-joined-requires
 joined-requires c κs = (search needs, below-four (c .before .before .before .before .before .before .before .before .before .before .before .args .w .now) (c .before .before .before .before .before .before .before .before .before .before .before .args .link) (λ t. sym (c .before .before .before .before .before .before .before .before .no-link .ensures t) ∙ c .before .before .before .before .before .before .before .if1 .left))
 
-nothing-requires : tie.Need-nothing-requires
-nothing-requires c κs = search needs
-
-same-length-3 : tie.Need-same-length-3
-same-length-3 c = search needs
-
 returns-3 : tie.Need-returns-3
 returns-3 c =
     let a = c .before .before .before .before .before .before .before .before .before .before .before .before .before .before .before .args in
     λ t. rw (c .nothing .ensures) (steps-done t (a .w .now) nothingOf (c .before .before .before .joined .ensures) (connects (siteOf (a .w .now) t) (a .link) (a .time) (sym (c .before .before .before .before .before .before .before .before .before .before .before .before .no-link .ensures t) ∙ c .before .before .before .before .before .before .before .before .before .before .before .if1 .left) (sym (c .before .before .before .before .before .before .before .before .before .bad-time .ensures t) ∙ c .before .before .before .before .before .before .before .before .if2 .left) (sym (c .before .before .before .before .before .before .down .ensures t) ∙ c .before .before .before .before .before .if3 .taken)))
-
-same-length-4 : tie.Need-same-length-4
-same-length-4 c = search needs
 
 returns-4 : tie.Need-returns-4
 returns-4 c =
@@ -58,19 +37,5 @@ returns-4 c =
     λ t. steps-refused t (a .w .now) WrongPhase (connect-up (siteOf (a .w .now) t) (a .link) (a .time) (sym (c .before .before .before .before .before .before .before .no-link .ensures t) ∙ c .before .before .before .before .before .before .if1 .left) (sym (c .before .before .before .before .bad-time .ensures t) ∙ c .before .before .before .if2 .left) (sym (c .before .down .ensures t) ∙ c .if3 .left))
 
 pub connect-spec : {M : Type 1} → statement M
-connect-spec =
-    tie.close
-    (tie.spec
-    no-link-requires
-    same-length
-    returns
-    bad-time-requires
-    same-length-2
-    returns-2
-    down-requires
-    joined-requires
-    nothing-requires
-    same-length-3
-    returns-3
-    same-length-4
-    returns-4)
+connect-spec = tie.close (tie.spec (λ c κs. search needs) (λ c. search needs) returns (λ c κs. search needs) (λ c. search needs) returns-2 down-requires
+    joined-requires (λ c κs. search needs) (λ c. search needs) returns-3 (λ c. search needs) returns-4)

@@ -11,22 +11,10 @@ use borrow.Author.Needs.{needs}
 use Rattle.call_link.proofs.disconnect.Statement.{statement}
 use Rattle.call_link.proofs.disconnect.Tie as tie
 
-no-link-requires : tie.Need-no-link-requires
-no-link-requires c κs = search needs
-
-same-length : tie.Need-same-length
-same-length c = search needs
-
 returns : tie.Need-returns
 returns c =
     let a = c .before .before .before .before .args in
     λ t. steps-refused t (a .w .now) NoSuchLink (disconnect-no-link (siteOf (a .w .now) t) (a .link) (a .time) (sym (c .before .no-link .ensures t) ∙ c .if1 .taken))
-
-bad-time-requires : tie.Need-bad-time-requires
-bad-time-requires c κs = search needs
-
-same-length-2 : tie.Need-same-length-2
-same-length-2 c = search needs
 
 returns-2 : tie.Need-returns-2
 returns-2 c =
@@ -35,9 +23,6 @@ returns-2 c =
 
 down-requires : tie.Need-down-requires
 down-requires c κs = (search needs, below-four (c .before .before .before .before .before .before .before .before .args .w .now) (c .before .before .before .before .before .before .before .before .args .link) (λ t. sym (c .before .before .before .before .before .no-link .ensures t) ∙ c .before .before .before .before .if1 .left))
-
-same-length-3 : tie.Need-same-length-3
-same-length-3 c = search needs
 
 returns-3 : tie.Need-returns-3
 returns-3 c =
@@ -50,32 +35,11 @@ cast-l c = omega (arith, below-four (c .before .before .before .before .before .
 left-requires : tie.Need-left-requires
 left-requires c κs = (search needs, below-four (c .before .before .before .before .before .before .before .before .before .before .before .args .w .now) (c .before .before .before .before .before .before .before .before .before .before .before .args .link) (λ t. sym (c .before .before .before .before .before .before .before .before .no-link .ensures t) ∙ c .before .before .before .before .before .before .before .if1 .left))
 
-bit-of-requires : tie.Need-bit-of-requires
-bit-of-requires c κs = search needs
-
-same-length-4 : tie.Need-same-length-4
-same-length-4 c = search needs
-
 returns-4 : tie.Need-returns-4
 returns-4 c =
     let a = c .before .before .before .before .before .before .before .before .before .before .before .before .before .before .before .args in
     λ t. rw (c .bit-of .ensures) (steps-done t (a .w .now) (record { hint = 0; written = 0; closed = maskOf (a .link); hinted = 0; commands = 0 }) (c .before .before .before .left .ensures) (disconnects (siteOf (a .w .now) t) (a .link) (a .time) (sym (c .before .before .before .before .before .before .before .before .before .before .before .before .no-link .ensures t) ∙ c .before .before .before .before .before .before .before .before .before .before .before .if1 .left) (sym (c .before .before .before .before .before .before .before .before .before .bad-time .ensures t) ∙ c .before .before .before .before .before .before .before .before .if2 .left) (sym (c .before .before .before .before .before .before .down .ensures t) ∙ c .before .before .before .before .before .if3 .left)))
 
 pub disconnect-spec : {M : Type 1} → statement M
-disconnect-spec =
-    tie.close
-    (tie.spec
-    no-link-requires
-    same-length
-    returns
-    bad-time-requires
-    same-length-2
-    returns-2
-    down-requires
-    same-length-3
-    returns-3
-    cast-l
-    left-requires
-    bit-of-requires
-    same-length-4
-    returns-4)
+disconnect-spec = tie.close (tie.spec (λ c κs. search needs) (λ c. search needs) returns (λ c κs. search needs) (λ c. search needs) returns-2 down-requires
+    (λ c. search needs) returns-3 cast-l left-requires (λ c κs. search needs) (λ c. search needs) returns-4)

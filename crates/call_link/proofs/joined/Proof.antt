@@ -7,21 +7,6 @@ use borrow.Author.Needs.{needs}
 use Rattle.call_link.proofs.joined.Statement.{statement}
 use Rattle.call_link.proofs.joined.Tie as tie
 
-link-requires : tie.Need-link-requires
-link-requires c κs = search needs
-
-connect-requires : tie.Need-connect-requires
-connect-requires c κs = search needs
-
-put-link-requires : tie.Need-put-link-requires
-put-link-requires c κs = search needs
-
-put-last-requires : tie.Need-put-last-requires
-put-last-requires c κs = search needs
-
-same-length : tie.Need-same-length
-same-length c = search needs
-
 returns : tie.Need-returns
 returns c =
     let put = c .before .before .before .before .before .before .put-link in
@@ -32,12 +17,4 @@ returns c =
     }
 
 pub joined-spec : {M : Type 1} → statement M
-joined-spec =
-    tie.close
-    (tie.spec
-    link-requires
-    connect-requires
-    put-link-requires
-    put-last-requires
-    same-length
-    returns)
+joined-spec = tie.close (tie.spec (λ c κs. search needs) (λ c κs. search needs) (λ c κs. search needs) (λ c κs. search needs) (λ c. search needs) returns)

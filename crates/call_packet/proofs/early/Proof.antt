@@ -5,18 +5,6 @@ use borrow.Author.Needs.{needs}
 use Rattle.call_packet.proofs.early.Statement.{statement}
 use Rattle.call_packet.proofs.early.Tie as tie
 
-phase-requires : tie.Need-phase-requires
-phase-requires c κs = search needs
-
-is-greeting-requires : tie.Need-is-greeting-requires
-is-greeting-requires c κs = search needs
-
-is-version-requires : tie.Need-is-version-requires
-is-version-requires c κs = search needs
-
-not-requires : tie.Need-not-requires
-not-requires c κs = search needs
-
 returns : tie.Need-returns
 returns c = λ t. rw (← c .before .before .before .before .phase .ensures t, sym (c .before .before .before .is-greeting .ensures) ∙ c .before .before .if1 .taken, ← c .before .is-version .ensures) (c .not .ensures)
 
@@ -24,12 +12,4 @@ returns-2 : tie.Need-returns-2
 returns-2 c = λ t. rw (← c .before .before .phase .ensures t, sym (c .before .is-greeting .ensures) ∙ c .if1 .left) refl
 
 pub early-spec : {M : Type 1} → statement M
-early-spec =
-    tie.close
-    (tie.spec
-    phase-requires
-    is-greeting-requires
-    is-version-requires
-    not-requires
-    returns
-    returns-2)
+early-spec = tie.close (tie.spec (λ c κs. search needs) (λ c κs. search needs) (λ c κs. search needs) (λ c κs. search needs) returns returns-2)

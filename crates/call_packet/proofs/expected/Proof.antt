@@ -7,21 +7,11 @@ use borrow.Author.Needs.{needs}
 use Rattle.call_packet.proofs.expected.Statement.{statement}
 use Rattle.call_packet.proofs.expected.Tie as tie
 
-is-version-requires : tie.Need-is-version-requires
-is-version-requires c κs = search needs
-
-may-judge-requires : tie.Need-may-judge-requires
-may-judge-requires c κs = search needs
-
 returns : tie.Need-returns
 returns c = λ t. rw (sym (c .before .before .is-version .ensures) ∙ c .before .if1 .taken) (c .may-judge .ensures t)
-
-kind-number-requires : tie.Need-kind-number-requires
-kind-number-requires c κs = search needs
 
 returns-2 : tie.Need-returns-2
 returns-2 c = λ t. rw (sym (c .before .before .is-version .ensures) ∙ c .before .if1 .left) (ap (λ (n : ℕ). ltb 0 n) (c .kind-number .ensures))
 
 pub expected-spec : {M : Type 1} → statement M
-expected-spec =
-    tie.close (tie.spec is-version-requires may-judge-requires returns kind-number-requires returns-2)
+expected-spec = tie.close (tie.spec (λ c κs. search needs) (λ c κs. search needs) returns (λ c κs. search needs) returns-2)

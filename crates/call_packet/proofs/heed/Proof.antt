@@ -10,27 +10,12 @@ use borrow.Author.Needs.{needs}
 use Rattle.call_packet.proofs.heed.Statement.{statement}
 use Rattle.call_packet.proofs.heed.Tie as tie
 
-ignored-requires : tie.Need-ignored-requires
-ignored-requires c κs = search needs
-
-same-length : tie.Need-same-length
-same-length c = search needs
-
 returns : tie.Need-returns
 returns c =
     let a = c .before .before .before .before .before .before .before .before .before .before .args in
     let t = tableOf (a .t .now) in
     let s = siteOf (a .w .now) t in
     is-ignored t (a .w .now) (questionOf (a .l) (a .time) (a .id) (a .h)) (headTaken s (a .l) (a .time) (a .id) (a .p .now) (a .h)) (ignoredBy (linkAt s (a .l)) (a .h .identity) (a .h .class)) (sym (c .before .ignored .ensures t) ∙ c .if1 .taken)
-
-by-class-requires : tie.Need-by-class-requires
-by-class-requires c κs = search needs
-
-same-length-2 : tie.Need-same-length-2
-same-length-2 c = search needs
-
-same-length-3 : tie.Need-same-length-3
-same-length-3 c = search needs
 
 returns-2 : tie.Need-returns-2
 returns-2 c =
@@ -40,13 +25,4 @@ returns-2 c =
     is-heeded t (a .w .now) (questionOf (a .l) (a .time) (a .id) (a .h)) (headTaken s (a .l) (a .time) (a .id) (a .p .now) (a .h)) (ignoredBy (linkAt s (a .l)) (a .h .identity) (a .h .class)) (sym (c .before .before .before .before .before .before .before .before .ignored .ensures t) ∙ c .before .before .before .before .before .before .before .if1 .left) (c .before .before .before .before .by-class .ensures)
 
 pub heed-spec : {M : Type 1} → statement M
-heed-spec =
-    tie.close
-    (tie.spec
-    ignored-requires
-    same-length
-    returns
-    by-class-requires
-    same-length-2
-    same-length-3
-    returns-2)
+heed-spec = tie.close (tie.spec (λ c κs. search needs) (λ c. search needs) returns (λ c κs. search needs) (λ c. search needs) (λ c. search needs) returns-2)

@@ -5,27 +5,6 @@ use borrow.Author.Needs.{needs}
 use Rattle.call_packet.proofs.ignored.Statement.{statement}
 use Rattle.call_packet.proofs.ignored.Tie as tie
 
-enum-told : tie.Need-enum-told
-enum-told c = search needs
-
-enum-told-2 : tie.Need-enum-told-2
-enum-told-2 c = search needs
-
-unawaited-requires : tie.Need-unawaited-requires
-unawaited-requires c κs = search needs
-
-enum-told-3 : tie.Need-enum-told-3
-enum-told-3 c = search needs
-
-unawaited-requires-2 : tie.Need-unawaited-requires-2
-unawaited-requires-2 c κs = search needs
-
-enum-known-class : tie.Need-enum-known-class
-enum-known-class c = search needs
-
-early-requires : tie.Need-early-requires
-early-requires c κs = search needs
-
 returns : tie.Need-returns
 returns c = λ t. rw (c .enum-told .given .1) refl
 
@@ -39,17 +18,5 @@ returns-4 : tie.Need-returns-4
 returns-4 c = λ t. rw (c .before .before .class .given .1) (c .early .ensures t)
 
 pub ignored-spec : {M : Type 1} → statement M
-ignored-spec =
-    tie.close
-    (tie.spec
-    enum-told
-    enum-told-2
-    unawaited-requires
-    enum-told-3
-    unawaited-requires-2
-    enum-known-class
-    early-requires
-    returns
-    returns-2
-    returns-3
-    returns-4)
+ignored-spec = tie.close (tie.spec (λ c. search needs) (λ c. search needs) (λ c κs. search needs) (λ c. search needs) (λ c κs. search needs) (λ c. search needs)
+    (λ c κs. search needs) returns returns-2 returns-3 returns-4)

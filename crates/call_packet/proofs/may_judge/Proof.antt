@@ -6,19 +6,13 @@ use borrow.Author.Needs.{needs}
 use Rattle.call_packet.proofs.may_judge.Statement.{statement}
 use Rattle.call_packet.proofs.may_judge.Tie as tie
 
-version-taken-requires : tie.Need-version-taken-requires
-version-taken-requires c κs = search needs
-
 returns : tie.Need-returns
 unfolding mayJudgeOf
 returns c = λ t. rw (sym (c .before .version-taken .ensures t) ∙ c .if1 .taken) refl
-
-version-out-requires : tie.Need-version-out-requires
-version-out-requires c κs = search needs
 
 returns-2 : tie.Need-returns-2
 unfolding mayJudgeOf
 returns-2 c = λ t. rw (sym (c .before .before .version-taken .ensures t) ∙ c .before .if1 .left) (c .version-out .ensures t)
 
 pub may-judge-spec : {M : Type 1} → statement M
-may-judge-spec = tie.close (tie.spec version-taken-requires returns version-out-requires returns-2)
+may-judge-spec = tie.close (tie.spec (λ c κs. search needs) returns (λ c κs. search needs) returns-2)

@@ -8,9 +8,6 @@ use borrow.Author.Needs.{needs}
 use Rattle.call_packet.proofs.own_identity.Statement.{statement}
 use Rattle.call_packet.proofs.own_identity.Tie as tie
 
-version4-requires : tie.Need-version4-requires
-version4-requires c κs = search needs
-
 returns : tie.Need-returns
 returns c = ap identity (c .version4 .ensures)
   where
@@ -18,4 +15,4 @@ returns c = ap identity (c .version4 .ensures)
     identity bs = record { bytes = bs }
 
 pub own-identity-spec : {M : Type 1} → statement M
-own-identity-spec = tie.close (tie.spec version4-requires returns)
+own-identity-spec = tie.close (tie.spec (λ c κs. search needs) returns)

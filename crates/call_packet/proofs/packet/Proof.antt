@@ -17,12 +17,6 @@ use borrow.Author.Needs.{needs}
 use Rattle.call_packet.proofs.packet.Statement.{statement}
 use Rattle.call_packet.proofs.packet.Tie as tie
 
-no-link-requires : tie.Need-no-link-requires
-no-link-requires c κs = search needs
-
-same-length : tie.Need-same-length
-same-length c = search needs
-
 returns : tie.Need-returns
 returns c =
     let a = c .before .before .before .before .before .before .before .args in
@@ -33,9 +27,6 @@ returns c =
     (noLinkAt s (a .link)) (ltb (length (a .out .now)) 4096) (ltb 4096 (length (a .p .now))) (badTimeAt s (a .time)) (downAt s (a .link))
     (ignoredBy (linkAt s (a .link)) (headAt (a .p .now) .identity) (headAt (a .p .now) .class))
     (sym (c .before .no-link .ensures t) ∙ c .if1 .taken)
-
-same-length-2 : tie.Need-same-length-2
-same-length-2 c = search needs
 
 returns-2 : tie.Need-returns-2
 returns-2 c =
@@ -48,9 +39,6 @@ returns-2 c =
     (ignoredBy (linkAt s (a .link)) (headAt (a .p .now) .identity) (headAt (a .p .now) .class))
     (sym (c .before .before .no-link .ensures t) ∙ c .before .if1 .left) (lt-ltb _ _ (c .if2 .taken))
 
-same-length-3 : tie.Need-same-length-3
-same-length-3 c = search needs
-
 returns-3 : tie.Need-returns-3
 returns-3 c =
     let a = c .before .before .before .before .before .before .before .before .before .args in
@@ -61,12 +49,6 @@ returns-3 c =
     (noLinkAt s (a .link)) (ltb (length (a .out .now)) 4096) (ltb 4096 (length (a .p .now))) (badTimeAt s (a .time)) (downAt s (a .link))
     (ignoredBy (linkAt s (a .link)) (headAt (a .p .now) .identity) (headAt (a .p .now) .class))
     (sym (c .before .before .before .no-link .ensures t) ∙ c .before .before .if1 .left) (le-ltb _ _ (c .before .if2 .left)) (lt-ltb _ _ (c .if3 .taken))
-
-bad-time-requires : tie.Need-bad-time-requires
-bad-time-requires c κs = search needs
-
-same-length-4 : tie.Need-same-length-4
-same-length-4 c = search needs
 
 returns-4 : tie.Need-returns-4
 returns-4 c =
@@ -82,14 +64,8 @@ returns-4 c =
 cast-l : tie.Need-cast-l
 cast-l c = omega (arith, link-below (siteOf (c .before .before .before .before .before .before .before .before .before .before .before .before .args .w .now) (tableOf (c .before .before .before .before .before .before .before .before .before .before .before .before .args .t .now))) (c .before .before .before .before .before .before .before .before .before .before .before .before .args .link) (sym (c .before .before .before .before .before .before .no-link .ensures (tableOf (c .before .before .before .before .before .before .before .before .before .before .before .before .args .t .now))) ∙ c .before .before .before .before .before .if1 .left))
 
-cast-down : tie.Need-cast-down
-cast-down c = search needs
-
 down-requires : tie.Need-down-requires
 down-requires c κs = (search needs, link-below (siteOf (c .before .before .before .before .before .before .before .before .before .before .before .before .before .args .w .now) (tableOf (c .before .before .before .before .before .before .before .before .before .before .before .before .before .args .t .now))) (c .before .before .before .before .before .before .before .before .before .before .before .before .before .args .link) (sym (c .before .before .before .before .before .before .before .no-link .ensures (tableOf (c .before .before .before .before .before .before .before .before .before .before .before .before .before .args .t .now))) ∙ c .before .before .before .before .before .before .if1 .left))
-
-same-length-5 : tie.Need-same-length-5
-same-length-5 c = search needs
 
 returns-5 : tie.Need-returns-5
 returns-5 c =
@@ -102,17 +78,8 @@ returns-5 c =
     (ignoredBy (linkAt s (a .link)) (headAt (a .p .now) .identity) (headAt (a .p .now) .class))
     (sym (c .before .before .before .before .before .before .before .before .before .no-link .ensures t) ∙ c .before .before .before .before .before .before .before .before .if1 .left) (le-ltb _ _ (c .before .before .before .before .before .before .before .if2 .left)) (le-ltb _ _ (c .before .before .before .before .before .before .if3 .left)) (sym (c .before .before .before .before .bad-time .ensures t) ∙ c .before .before .before .if4 .left) (sym (c .before .down .ensures t) ∙ c .if5 .taken)
 
-own-identity-requires : tie.Need-own-identity-requires
-own-identity-requires c κs = search needs
-
 judged-requires : tie.Need-judged-requires
 judged-requires c κs = (search needs, search needs, link-below (siteOf (c .before .before .before .before .before .before .before .before .before .before .before .before .before .before .before .before .before .before .args .w .now) (tableOf (c .before .before .before .before .before .before .before .before .before .before .before .before .before .before .before .before .before .before .args .t .now))) (c .before .before .before .before .before .before .before .before .before .before .before .before .before .before .before .before .before .before .args .link) (sym (c .before .before .before .before .before .before .before .before .before .before .before .before .no-link .ensures (tableOf (c .before .before .before .before .before .before .before .before .before .before .before .before .before .before .before .before .before .before .args .t .now))) ∙ c .before .before .before .before .before .before .before .before .before .before .before .if1 .left))
-
-same-length-6 : tie.Need-same-length-6
-same-length-6 c = search needs
-
-same-length-7 : tie.Need-same-length-7
-same-length-7 c = search needs
 
 returns-6 : tie.Need-returns-6
 returns-6 c =
@@ -127,26 +94,6 @@ returns-6 c =
     (rw (c .before .before .before .before .before .before .before .own-identity .ensures) at (c .before .before .before .before .judged .ensures))
 
 pub packet-spec : {M : Type 1} → statement M
-packet-spec =
-    tie.close
-    (tie.spec
-    no-link-requires
-    same-length
-    returns
-    same-length-2
-    returns-2
-    same-length-3
-    returns-3
-    bad-time-requires
-    same-length-4
-    returns-4
-    cast-l
-    cast-down
-    down-requires
-    same-length-5
-    returns-5
-    own-identity-requires
-    judged-requires
-    same-length-6
-    same-length-7
-    returns-6)
+packet-spec = tie.close (tie.spec (λ c κs. search needs) (λ c. search needs) returns (λ c. search needs) returns-2 (λ c. search needs) returns-3
+    (λ c κs. search needs) (λ c. search needs) returns-4 cast-l (λ c. search needs) down-requires (λ c. search needs) returns-5 (λ c κs. search needs)
+    judged-requires (λ c. search needs) (λ c. search needs) returns-6)

@@ -4,14 +4,8 @@ use borrow.Author.Needs.{needs}
 use Rattle.call_packet.proofs.unawaited.Statement.{statement}
 use Rattle.call_packet.proofs.unawaited.Tie as tie
 
-is-awaited-requires : tie.Need-is-awaited-requires
-is-awaited-requires c κs = search needs
-
-not-requires : tie.Need-not-requires
-not-requires c κs = search needs
-
 returns : tie.Need-returns
 returns c = λ t. rw (← c .before .is-awaited .ensures t) (c .not .ensures)
 
 pub unawaited-spec : {M : Type 1} → statement M
-unawaited-spec = tie.close (tie.spec is-awaited-requires not-requires returns)
+unawaited-spec = tie.close (tie.spec (λ c κs. search needs) (λ c κs. search needs) returns)

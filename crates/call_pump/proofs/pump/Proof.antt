@@ -9,18 +9,6 @@ use borrow.Author.Needs.{needs}
 use Rattle.call_pump.proofs.pump.Statement.{statement}
 use Rattle.call_pump.proofs.pump.Tie as tie
 
-own-identity-requires : tie.Need-own-identity-requires
-own-identity-requires c κs = search needs
-
-verdict-requires : tie.Need-verdict-requires
-verdict-requires c κs = search needs
-
-enum-known-why : tie.Need-enum-known-why
-enum-known-why c = search needs
-
-enum-told : tie.Need-enum-told
-enum-told c = search needs
-
 cast-due : tie.Need-cast-due
 cast-due c =
     let a = c .before .before .before .before .before .before .before .before .before .args in
@@ -33,20 +21,11 @@ due-requires c κs =
     let x = tableOf (a .t .now) in
     let h : a .link < 4 = verdict-below (siteOf (a .w .now) x) (a .link) (a .time) (c .before .before .before .before .before .before .own-identity .result) (length (a .out .now)) (c .before .before .before .before .verdict .ensures) (c .before .before .enum-told .given .1) in (search needs, (search needs, h))
 
-same-length : tie.Need-same-length
-same-length c = search needs
-
 returns : tie.Need-returns
 returns c =
     let a = c .before .before .before .before .before .before .before .before .before .args in
     let x = tableOf (a .t .now) in
     rw (← c .before .before .before .before .before .own-identity .ensures) (refused-in x (a .w .now) (a .link) (a .time) (c .before .before .before .before .before .own-identity .result) (c .before .before .before .verdict .ensures) (c .before .why .given .1))
-
-same-length-2 : tie.Need-same-length-2
-same-length-2 c = search needs
-
-same-length-3 : tie.Need-same-length-3
-same-length-3 c = search needs
 
 returns-2 : tie.Need-returns-2
 returns-2 c =
@@ -55,17 +34,5 @@ returns-2 c =
     rw (← c .before .before .before .before .before .before .before .before .before .before .before .own-identity .ensures) (done-in x (a .w .now) (a .link) (a .time) (c .before .before .before .before .before .before .before .before .before .before .before .own-identity .result) (c .before .before .before .before .before .before .before .before .before .verdict .ensures) (c .before .before .before .before .before .before .before .enum-told .given .1) (c .before .before .before .before .due .ensures))
 
 pub pump-spec : {M : Type 1} → statement M
-pump-spec =
-    tie.close
-    (tie.spec
-    own-identity-requires
-    verdict-requires
-    enum-known-why
-    enum-told
-    cast-due
-    due-requires
-    same-length
-    returns
-    same-length-2
-    same-length-3
-    returns-2)
+pump-spec = tie.close (tie.spec (λ c κs. search needs) (λ c κs. search needs) (λ c. search needs) (λ c. search needs) cast-due due-requires (λ c. search needs)
+    returns (λ c. search needs) (λ c. search needs) returns-2)

@@ -11,9 +11,6 @@ use borrow.Author.Needs.{needs}
 use Rattle.call_read.proofs.held.Statement.{statement}
 use Rattle.call_read.proofs.held.Tie as tie
 
-no-link-requires : tie.Need-no-link-requires
-no-link-requires c κs = search needs
-
 returns : tie.Need-returns
 returns c =
     let a = c .before .before .before .args in
@@ -24,9 +21,6 @@ returns c =
 cast-held : tie.Need-cast-held
 cast-held c = omega (arith, link-below (siteOf (c .before .before .before .args .w .now) noTable) (c .before .before .before .args .link) (sym (c .before .no-link .ensures noTable) ∙ c .if1 .left))
 
-held-requires : tie.Need-held-requires
-held-requires c κs = search needs
-
 returns-2 : tie.Need-returns-2
 returns-2 c =
     let a = c .before .before .before .before .args in
@@ -35,4 +29,4 @@ returns-2 c =
     rw e (c .held .ensures t)
 
 pub held-spec : {M : Type 1} → statement M
-held-spec = tie.close (tie.spec no-link-requires returns cast-held held-requires returns-2)
+held-spec = tie.close (tie.spec (λ c κs. search needs) returns cast-held (λ c κs. search needs) returns-2)

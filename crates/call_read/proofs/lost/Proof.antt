@@ -11,9 +11,6 @@ use borrow.Author.Needs.{needs}
 use Rattle.call_read.proofs.lost.Statement.{statement}
 use Rattle.call_read.proofs.lost.Tie as tie
 
-no-link-requires : tie.Need-no-link-requires
-no-link-requires c κs = search needs
-
 returns : tie.Need-returns
 returns c =
     let a = c .before .before .before .args in
@@ -24,9 +21,6 @@ returns c =
 cast-lost : tie.Need-cast-lost
 cast-lost c = omega (arith, link-below (siteOf (c .before .before .before .args .w .now) noTable) (c .before .before .before .args .link) (sym (c .before .no-link .ensures noTable) ∙ c .if1 .left))
 
-lost-requires : tie.Need-lost-requires
-lost-requires c κs = search needs
-
 returns-2 : tie.Need-returns-2
 returns-2 c =
     let a = c .before .before .before .before .args in
@@ -35,4 +29,4 @@ returns-2 c =
     rw e (c .lost .ensures t)
 
 pub lost-spec : {M : Type 1} → statement M
-lost-spec = tie.close (tie.spec no-link-requires returns cast-lost lost-requires returns-2)
+lost-spec = tie.close (tie.spec (λ c κs. search needs) returns cast-lost (λ c κs. search needs) returns-2)

@@ -11,9 +11,6 @@ use borrow.Author.Needs.{needs}
 use Rattle.call_read.proofs.phase.Statement.{statement}
 use Rattle.call_read.proofs.phase.Tie as tie
 
-no-link-requires : tie.Need-no-link-requires
-no-link-requires c κs = search needs
-
 returns : tie.Need-returns
 returns c =
     let a = c .before .before .before .args in
@@ -24,9 +21,6 @@ returns c =
 phase-requires : tie.Need-phase-requires
 phase-requires c κs = (search needs, link-below (siteOf (c .before .before .before .args .w .now) noTable) (c .before .before .before .args .link) (sym (c .before .no-link .ensures noTable) ∙ c .if1 .left))
 
-phase-number-requires : tie.Need-phase-number-requires
-phase-number-requires c κs = search needs
-
 returns-2 : tie.Need-returns-2
 returns-2 c =
     let a = c .before .before .before .before .before .args in
@@ -35,5 +29,4 @@ returns-2 c =
     rw e (c .phase-number .ensures ∙ ap phaseNumber (c .before .phase .ensures t))
 
 pub phase-spec : {M : Type 1} → statement M
-phase-spec =
-    tie.close (tie.spec no-link-requires returns phase-requires phase-number-requires returns-2)
+phase-spec = tie.close (tie.spec (λ c κs. search needs) returns phase-requires (λ c κs. search needs) returns-2)

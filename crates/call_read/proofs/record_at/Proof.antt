@@ -12,12 +12,6 @@ use borrow.Author.Needs.{needs}
 use Rattle.call_read.proofs.record_at.Statement.{statement}
 use Rattle.call_read.proofs.record_at.Tie as tie
 
-no-link-requires : tie.Need-no-link-requires
-no-link-requires c κs = search needs
-
-reading-requires : tie.Need-reading-requires
-reading-requires c κs = search needs
-
 returns : tie.Need-returns
 returns c =
     let a = c .before .before .before .before .args in
@@ -28,12 +22,6 @@ returns c =
 cast-ranked : tie.Need-cast-ranked
 cast-ranked c = omega (arith, link-below (siteOf (c .before .before .before .args .w .now) noTable) (c .before .before .before .args .link) (sym (c .before .no-link .ensures noTable) ∙ c .if1 .left))
 
-ranked-requires : tie.Need-ranked-requires
-ranked-requires c κs = search needs
-
-reading-requires-2 : tie.Need-reading-requires-2
-reading-requires-2 c κs = search needs
-
 returns-2 : tie.Need-returns-2
 returns-2 c =
     let a = c .before .before .before .before .before .args in
@@ -42,13 +30,4 @@ returns-2 c =
     rw e (c .reading2 .ensures ∙ ap readingOf (c .before .ranked .ensures t))
 
 pub record-at-spec : {M : Type 1} → statement M
-record-at-spec =
-    tie.close
-    (tie.spec
-    no-link-requires
-    reading-requires
-    returns
-    cast-ranked
-    ranked-requires
-    reading-requires-2
-    returns-2)
+record-at-spec = tie.close (tie.spec (λ c κs. search needs) (λ c κs. search needs) returns cast-ranked (λ c κs. search needs) (λ c κs. search needs) returns-2)

@@ -10,9 +10,6 @@ use borrow.Author.Needs.{needs}
 use Rattle.call_read.proofs.version_of.Statement.{statement}
 use Rattle.call_read.proofs.version_of.Tie as tie
 
-no-link-requires : tie.Need-no-link-requires
-no-link-requires c κs = search needs
-
 returns : tie.Need-returns
 returns c =
     let a = c .before .before .before .args in
@@ -37,6 +34,4 @@ returns-2 c =
     rw (e, c .before .before .major .ensures t, c .before .minor .ensures t, c .patch .ensures t) refl
 
 pub version-of-spec : {M : Type 1} → statement M
-version-of-spec =
-    tie.close
-    (tie.spec no-link-requires returns major-requires minor-requires patch-requires returns-2)
+version-of-spec = tie.close (tie.spec (λ c κs. search needs) returns major-requires minor-requires patch-requires returns-2)

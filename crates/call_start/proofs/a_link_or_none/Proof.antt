@@ -4,11 +4,5 @@ use Rattle.call_start.proofs.a_link_or_none.Tie as tie
 use Rattle.call_start.proofs.a_link_or_none.Reads as reads
 use Rattle.call_start.proofs.a_link_or_none.Lts as lts
 
-returns : tie.Need-returns
-returns c = search tests
-
-returns-2 : tie.Need-returns-2
-returns-2 c = search tests
-
 pub a-link-or-none-spec : {M : Type 1} → statement M
-a-link-or-none-spec = tie.close (tie.spec returns returns-2)
+a-link-or-none-spec = tie.close (tie.spec (λ c. search tests) (λ c. search tests))

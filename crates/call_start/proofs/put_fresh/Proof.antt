@@ -8,27 +8,6 @@ use Rattle.call_start.proofs.put_fresh.Statement.{statement}
 use Rattle.call_start.proofs.put_fresh.Tie as tie
 use Rattle.store_site.specs.Layout.{siteWords}
 
-begin-requires : tie.Need-begin-requires
-begin-requires c κs = search needs
-
-put-head-requires : tie.Need-put-head-requires
-put-head-requires c κs = search needs
-
-empty-pool-requires : tie.Need-empty-pool-requires
-empty-pool-requires c κs = search needs
-
-begin-items-requires : tie.Need-begin-items-requires
-begin-items-requires c κs = search needs
-
-closed-requires : tie.Need-closed-requires
-closed-requires c κs = search needs
-
-fill-links-requires : tie.Need-fill-links-requires
-fill-links-requires c κs = search needs
-
-same-length : tie.Need-same-length
-same-length c = search needs
-
 returns : tie.Need-returns
 returns c =
     let a = c .before .before .before .before .before .before .before .before .before .before .before .before .before .before .before .before .before .before .before .args in
@@ -39,14 +18,5 @@ returns c =
     (rw (c .before .before .before .before .before .before .before .before .before .before .before .before .before .before .before .before .before .begin .ensures) at (c .before .before .before .before .before .before .before .before .before .before .before .before .before .before .before .put-head .ensures)) (c .before .before .before .before .before .before .before .before .before .before .before .empty-pool .ensures) (c .before .before .before .before .before .before .before .begin-items .ensures) (rw (c .before .before .before .closed .ensures) at (c .before .before .fill-links .ensures)) t e (λ j. c .slice-known5 .given j .fits)
 
 pub put-fresh-spec : {M : Type 1} → statement M
-put-fresh-spec =
-    tie.close
-    (tie.spec
-    begin-requires
-    put-head-requires
-    empty-pool-requires
-    begin-items-requires
-    closed-requires
-    fill-links-requires
-    same-length
-    returns)
+put-fresh-spec = tie.close (tie.spec (λ c κs. search needs) (λ c κs. search needs) (λ c κs. search needs) (λ c κs. search needs) (λ c κs. search needs)
+    (λ c κs. search needs) (λ c. search needs) returns)

@@ -8,26 +8,8 @@ use borrow.Author.Needs.{needs}
 use Rattle.call_start.proofs.start.Statement.{statement}
 use Rattle.call_start.proofs.start.Tie as tie
 
-within-requires : tie.Need-within-requires
-within-requires c κs = search needs
-
-read-requires : tie.Need-read-requires
-read-requires c κs = search needs
-
 cast-begin : tie.Need-cast-begin
 cast-begin c = omega (arith, within-all (c .before .before .before .before .before .before .before .before .args .links) (c .before .before .before .before .before .before .before .before .args .primary) (c .before .before .before .before .before .before .before .before .args .period) (c .before .before .before .before .before .before .before .before .args .first) (c .before .before .before .before .before .before .before .before .args .time) (sym (c .before .before .before .before .within .ensures) ∙ c .before .before .before .if1 .taken) .most-links)
-
-primary-of-requires : tie.Need-primary-of-requires
-primary-of-requires c κs = search needs
-
-begin-requires : tie.Need-begin-requires
-begin-requires c κs = search needs
-
-same-length : tie.Need-same-length
-same-length c = search needs
-
-same-length-2 : tie.Need-same-length-2
-same-length-2 c = search needs
 
 returns : tie.Need-returns
 returns c =
@@ -41,15 +23,5 @@ returns-2 c =
     starts-not (a .table .now) (a .links) (a .primary) (a .period) (a .first) (a .time) (a .w .now) (a .t .now) (sym (c .before .within .ensures) ∙ c .if1 .left)
 
 pub start-spec : {M : Type 1} → statement M
-start-spec =
-    tie.close
-    (tie.spec
-    within-requires
-    read-requires
-    cast-begin
-    primary-of-requires
-    begin-requires
-    same-length
-    same-length-2
-    returns
-    returns-2)
+start-spec = tie.close (tie.spec (λ c κs. search needs) (λ c κs. search needs) cast-begin (λ c κs. search needs) (λ c κs. search needs) (λ c. search needs)
+    (λ c. search needs) returns returns-2)

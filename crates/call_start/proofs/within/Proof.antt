@@ -18,12 +18,6 @@ returns-2 : tie.Need-returns-2
 unfolding isWithin
 returns-2 c = search tests
 
-a-link-or-none-requires : tie.Need-a-link-or-none-requires
-a-link-or-none-requires c κs = search needs
-
-values-within-requires : tie.Need-values-within-requires
-values-within-requires c κs = search needs
-
 returns-3 : tie.Need-returns-3
 returns-3 c =
     let a = c .before .before .before .before .before .args in
@@ -38,6 +32,4 @@ returns-4 c =
     (sym (c .before .a-link-or-none .ensures) ∙ c .if3 .left)
 
 pub within-spec : {M : Type 1} → statement M
-within-spec =
-    tie.close
-    (tie.spec returns returns-2 a-link-or-none-requires values-within-requires returns-3 returns-4)
+within-spec = tie.close (tie.spec returns returns-2 (λ c κs. search needs) (λ c κs. search needs) returns-3 returns-4)

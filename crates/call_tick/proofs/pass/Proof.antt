@@ -7,21 +7,6 @@ use borrow.Author.Needs.{needs}
 use Rattle.call_tick.proofs.pass.Statement.{statement}
 use Rattle.call_tick.proofs.pass.Tie as tie
 
-close-all-requires : tie.Need-close-all-requires
-close-all-requires c κs = search needs
-
-issue-all-requires : tie.Need-issue-all-requires
-issue-all-requires c κs = search needs
-
-renew-all-requires : tie.Need-renew-all-requires
-renew-all-requires c κs = search needs
-
-put-last-requires : tie.Need-put-last-requires
-put-last-requires c κs = search needs
-
-same-length : tie.Need-same-length
-same-length c = search needs
-
 returns : tie.Need-returns
 returns c =
     let a = c .before .before .before .before .before .before .before .before .before .before .before .before .before .before .before .before .before .args in
@@ -32,12 +17,4 @@ returns c =
     )
 
 pub pass-spec : {M : Type 1} → statement M
-pass-spec =
-    tie.close
-    (tie.spec
-    close-all-requires
-    issue-all-requires
-    renew-all-requires
-    put-last-requires
-    same-length
-    returns)
+pass-spec = tie.close (tie.spec (λ c κs. search needs) (λ c κs. search needs) (λ c κs. search needs) (λ c κs. search needs) (λ c. search needs) returns)

@@ -14,25 +14,10 @@ use borrow.Author.Needs.{needs}
 use Rattle.call_tick.proofs.tick.Statement.{statement}
 use Rattle.call_tick.proofs.tick.Tie as tie
 
-bad-time-requires : tie.Need-bad-time-requires
-bad-time-requires c κs = search needs
-
-same-length : tie.Need-same-length
-same-length c = search needs
-
 returns : tie.Need-returns
 returns c =
     let a = c .before .before .before .before .args in
     λ t. steps-refused t (a .w .now) BadTime (tick-late (siteOf (a .w .now) t) (a .time) (sym (c .before .bad-time .ensures t) ∙ c .if1 .taken))
-
-how-many-requires : tie.Need-how-many-requires
-how-many-requires c κs = search needs
-
-spent-requires : tie.Need-spent-requires
-spent-requires c κs = search needs
-
-same-length-2 : tie.Need-same-length-2
-same-length-2 c = search needs
 
 returns-2 : tie.Need-returns-2
 returns-2 c =
@@ -43,12 +28,6 @@ returns-2 c =
     let spent : batchOf (tickPlan s (a .time)) .spent ≡ true =
     sym (spent-before s (a .time)) ∙ sym (c .before .spent .ensures t (issuedAt s (a .time)) (sym (c .before .before .how-many .ensures t (siteAfter s (a .time) .links)))) ∙ c .if2 .taken in
     steps-refused t (a .w .now) SequenceSpent (tick-spent s (a .time) on-time spent)
-
-pass-requires : tie.Need-pass-requires
-pass-requires c κs = search needs
-
-same-length-3 : tie.Need-same-length-3
-same-length-3 c = search needs
 
 returns-3 : tie.Need-returns-3
 returns-3 c =
@@ -62,16 +41,5 @@ returns-3 c =
     steps-done t (a .w .now) _ (pass .ensures .0) (rw (pass .ensures .1 t) (tick-done s (a .time) on-time lasts))
 
 pub tick-spec : {M : Type 1} → statement M
-tick-spec =
-    tie.close
-    (tie.spec
-    bad-time-requires
-    same-length
-    returns
-    how-many-requires
-    spent-requires
-    same-length-2
-    returns-2
-    pass-requires
-    same-length-3
-    returns-3)
+tick-spec = tie.close (tie.spec (λ c κs. search needs) (λ c. search needs) returns (λ c κs. search needs) (λ c κs. search needs) (λ c. search needs) returns-2
+    (λ c κs. search needs) (λ c. search needs) returns-3)

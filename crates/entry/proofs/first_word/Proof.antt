@@ -9,33 +9,6 @@ use Rattle.entry.proofs.first_word.Reads as reads
 use Rattle.entry.proofs.first_word.Lts as lts
 use Rattle.bits.proofs.push.Reads as push-reads
 
-cast-push : tie.Need-cast-push
-cast-push c = search needs
-
-push-requires : tie.Need-push-requires
-push-requires c κs = search needs
-
-cast-push-2 : tie.Need-cast-push-2
-cast-push-2 c = search needs
-
-push-requires-2 : tie.Need-push-requires-2
-push-requires-2 c κs = search needs
-
-cast-push-3 : tie.Need-cast-push-3
-cast-push-3 c = search needs
-
-push-requires-3 : tie.Need-push-requires-3
-push-requires-3 c κs = search needs
-
-cast-push-4 : tie.Need-cast-push-4
-cast-push-4 c = search needs
-
-push-requires-4 : tie.Need-push-requires-4
-push-requires-4 c κs = search needs
-
-push-requires-5 : tie.Need-push-requires-5
-push-requires-5 c κs = search needs
-
 returns : tie.Need-returns
 returns c =
     let p4 = c .before in
@@ -50,16 +23,5 @@ returns c =
     next-field (2 ∷ 2 ∷ 6 ∷ 6 ∷ []) (e .link ∷ e .kind ∷ e .item ∷ e .flags ∷ []) 48 (e .time) refl (lit≤ tt) e4 (c .push5 .ensures)
 
 pub first-word-spec : {M : Type 1} → statement M
-first-word-spec =
-    tie.close
-    (tie.spec
-    cast-push
-    push-requires
-    cast-push-2
-    push-requires-2
-    cast-push-3
-    push-requires-3
-    cast-push-4
-    push-requires-4
-    push-requires-5
-    returns)
+first-word-spec = tie.close (tie.spec (λ c. search needs) (λ c κs. search needs) (λ c. search needs) (λ c κs. search needs) (λ c. search needs)
+    (λ c κs. search needs) (λ c. search needs) (λ c κs. search needs) (λ c κs. search needs) returns)

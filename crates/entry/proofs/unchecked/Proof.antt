@@ -12,36 +12,15 @@ use Rattle.entry.proofs.unchecked.Lts as lts
 use Rattle.bits.proofs.number.Reads as number-reads
 use Rattle.entry.proofs.fields.Reads as fields-reads
 
-sub-number : tie.Need-sub-number
-sub-number c = search needs
-
-part-number-start : tie.Need-part-number-start
-part-number-start c = search needs
-
 part-number-end : tie.Need-part-number-end
 part-number-end c =
     let e : length (c .before .before .args .p .bytes) ≡ 16 = search (c .before .before, needs) in
     search needs
 
-number-requires : tie.Need-number-requires
-number-requires c κs = search needs
-
-sub-number-2 : tie.Need-sub-number-2
-sub-number-2 c = search needs
-
-part-number-start-2 : tie.Need-part-number-start-2
-part-number-start-2 c = search needs
-
 part-number-end-2 : tie.Need-part-number-end-2
 part-number-end-2 c =
     let e : length (c .before .before .before .before .before .args .p .bytes) ≡ 16 = search (c .before .before .before .before .before, needs) in
     search needs
-
-number-requires-2 : tie.Need-number-requires-2
-number-requires-2 c κs = search needs
-
-fields-requires : tie.Need-fields-requires
-fields-requires c κs = search needs
 
 returns : tie.Need-returns
 returns c =
@@ -52,16 +31,5 @@ returns c =
     (ap₂ (λ (h l : ℕ). h * 2 ^ 64 + l) (c .before .before .before .before .number .ensures) (c .before .number2 .ensures) ∙ sym (sixteen (s .args .p .bytes) e))
 
 pub unchecked-spec : {M : Type 1} → statement M
-unchecked-spec =
-    tie.close
-    (tie.spec
-    sub-number
-    part-number-start
-    part-number-end
-    number-requires
-    sub-number-2
-    part-number-start-2
-    part-number-end-2
-    number-requires-2
-    fields-requires
-    returns)
+unchecked-spec = tie.close (tie.spec (λ c. search needs) (λ c. search needs) part-number-end (λ c κs. search needs) (λ c. search needs) (λ c. search needs)
+    part-number-end-2 (λ c κs. search needs) (λ c κs. search needs) returns)

@@ -17,12 +17,6 @@ use Rattle.entry.proofs.unpack.Lts as lts
 use Rattle.entry.proofs.unchecked.Reads as unchecked-reads
 use Rattle.entry.proofs.valid.valid.Reads as valid-reads
 
-unchecked-requires : tie.Need-unchecked-requires
-unchecked-requires c κs = search needs
-
-valid-requires : tie.Need-valid-requires
-valid-requires c κs = search needs
-
 returns : tie.Need-returns
 returns c =
     let s = c .before .before .before in
@@ -38,4 +32,4 @@ returns-2 c =
     (λ (e : Entry) (v : Valid e) (p : bytesOf e ≡ b). not-held (c .before .valid .ensures) (c .if1 .left) (subst Valid (sym (c .before .before .unchecked .ensures ∙ back v b p)) v))
 
 pub unpack-spec : {M : Type 1} → statement M
-unpack-spec = tie.close (tie.spec unchecked-requires valid-requires returns returns-2)
+unpack-spec = tie.close (tie.spec (λ c κs. search needs) (λ c κs. search needs) returns returns-2)

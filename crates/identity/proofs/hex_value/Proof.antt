@@ -16,9 +16,6 @@ returns-3 : tie.Need-returns-3
 unfolding hexValue
 returns-3 c = search tests
 
-sub-result : tie.Need-sub-result
-sub-result c = search needs
-
 returns-4 : tie.Need-returns-4
 unfolding hexValue
 returns-4 c = search tests
@@ -28,4 +25,4 @@ unfolding hexValue
 returns-5 c = search tests
 
 pub hex-value-spec : {M : Type 1} → statement M
-hex-value-spec = tie.close (tie.spec returns returns-2 returns-3 sub-result returns-4 returns-5)
+hex-value-spec = tie.close (tie.spec returns returns-2 returns-3 (λ c. search needs) returns-4 returns-5)

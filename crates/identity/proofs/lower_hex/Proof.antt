@@ -8,9 +8,6 @@ returns : tie.Need-returns
 unfolding lowerHex
 returns c = search tests
 
-add-result : tie.Need-add-result
-add-result c = search needs
-
 returns-2 : tie.Need-returns-2
 unfolding lowerHex
 returns-2 c = search tests
@@ -20,4 +17,4 @@ unfolding lowerHex
 returns-3 c = search tests
 
 pub lower-hex-spec : {M : Type 1} → statement M
-lower-hex-spec = tie.close (tie.spec returns add-result returns-2 returns-3)
+lower-hex-spec = tie.close (tie.spec returns (λ c. search needs) returns-2 returns-3)

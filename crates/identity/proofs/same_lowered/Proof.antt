@@ -24,21 +24,6 @@ returns c =
 loop-holds : tie.Need-loop-holds Inv-loop μ-loop
 loop-holds c = (search needs, search needs, refl)
 
-shared-slice-read-still-same : tie.Need-shared-slice-read-still-same Inv-loop μ-loop
-shared-slice-read-still-same c = search needs
-
-shared-slice-read-still-same-2 : tie.Need-shared-slice-read-still-same-2 Inv-loop μ-loop
-shared-slice-read-still-same-2 c = search needs
-
-still-same-requires : tie.Need-still-same-requires Inv-loop μ-loop
-still-same-requires c κs = search needs
-
-add-i : tie.Need-add-i Inv-loop μ-loop
-add-i c = search needs
-
-loop-less : tie.Need-loop-less Inv-loop μ-loop
-loop-less c = search needs
-
 loop-again : tie.Need-loop-again Inv-loop μ-loop
 loop-again c =
     let l = c .before .before .before .before .loop in
@@ -56,17 +41,5 @@ returns-2 c =
     sym (l .inv .2 ∙ lowered-end (a .s .now) (a .t .now) (l .i) h g (l .same))
 
 pub same-lowered-spec : {M : Type 1} → statement M
-same-lowered-spec =
-    tie.close
-    (tie.spec
-    Inv-loop
-    μ-loop
-    returns
-    loop-holds
-    shared-slice-read-still-same
-    shared-slice-read-still-same-2
-    still-same-requires
-    add-i
-    loop-less
-    loop-again
-    returns-2)
+same-lowered-spec = tie.close (tie.spec Inv-loop μ-loop returns loop-holds (λ c. search needs) (λ c. search needs) (λ c κs. search needs) (λ c. search needs)
+    (λ c. search needs) loop-again returns-2)

@@ -6,16 +6,10 @@ use borrow.Author.Needs.{needs}
 use Rattle.identity.proofs.value.Statement.{statement}
 use Rattle.identity.proofs.value.Tie as tie
 
-lower-hex-requires : tie.Need-lower-hex-requires
-lower-hex-requires c κs = search needs
-
-hex-value-requires : tie.Need-hex-value-requires
-hex-value-requires c κs = search needs
-
 returns : tie.Need-returns
 returns c =
     let e : c .hex-value .result ≡ hexValue (lowerHex (c .before .before .args .c)) = c .hex-value .ensures ∙ ap hexValue (c .before .lower-hex .ensures) in
     (e, subst (λ (n : ℕ). n ≤ 15) (sym e) (value-below _))
 
 pub value-spec : {M : Type 1} → statement M
-value-spec = tie.close (tie.spec lower-hex-requires hex-value-requires returns)
+value-spec = tie.close (tie.spec (λ c κs. search needs) (λ c κs. search needs) returns)

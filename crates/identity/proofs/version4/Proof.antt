@@ -7,24 +7,6 @@ use borrow.Author.Needs.{needs}
 use Rattle.identity.proofs.version4.Statement.{statement}
 use Rattle.identity.proofs.version4.Tie as tie
 
-array-read-b : tie.Need-array-read-b
-array-read-b c = search needs
-
-add-b : tie.Need-add-b
-add-b c = search needs
-
-array-write-b : tie.Need-array-write-b
-array-write-b c = search needs
-
-array-read-b-2 : tie.Need-array-read-b-2
-array-read-b-2 c = search needs
-
-add-b-2 : tie.Need-add-b-2
-add-b-2 c = search needs
-
-array-write-b-2 : tie.Need-array-write-b-2
-array-write-b-2 c = search needs
-
 returns : tie.Need-returns
 returns c =
     let b = c .before .args .random .bytes in
@@ -32,6 +14,5 @@ returns c =
     ap (λ (n : ℕ). set (set b 6 x) 8 (128 + n % 64)) (getD-set-other b 6 8 x 0 (λ e. omega arith))
 
 pub version4-spec : {M : Type 1} → statement M
-version4-spec =
-    tie.close
-    (tie.spec array-read-b add-b array-write-b array-read-b-2 add-b-2 array-write-b-2 returns)
+version4-spec = tie.close (tie.spec (λ c. search needs) (λ c. search needs) (λ c. search needs) (λ c. search needs) (λ c. search needs) (λ c. search needs)
+    returns)

@@ -11,38 +11,20 @@ use Rattle.json_character.proofs.any.Tie as tie
 returns : tie.Need-returns
 returns c = at-end (now (c .before .before .args .s)) (c .before .before .args .at) (c .if1 .taken)
 
-byte-requires : tie.Need-byte-requires
-byte-requires c κs = search needs
-
 returns-2 : tie.Need-returns-2
 returns-2 c =
     let a = c .before .before .before .before .args in
     sym (at-close (now (a .s)) (a .at) (sym (c .before .byte .ensures) ∙ c .if2 .taken))
-
-add-byte : tie.Need-add-byte
-add-byte c = search needs
-
-byte-requires-2 : tie.Need-byte-requires-2
-byte-requires-2 c κs = search needs
-
-unicode-at-requires : tie.Need-unicode-at-requires
-unicode-at-requires c κs = search needs
 
 returns-3 : tie.Need-returns-3
 returns-3 c =
     let a = c .before .before .before .before .before .before .before .before .args in
     c .unicode-at .ensures ∙ sym (at-unicode (now (a .s)) (a .at) (sym (c .before .before .before .before .before .byte .ensures) ∙ c .before .before .before .if3 .taken) (sym (c .before .before .byte2 .ensures) ∙ c .before .if4 .taken))
 
-escape-requires : tie.Need-escape-requires
-escape-requires c κs = search needs
-
 returns-4 : tie.Need-returns-4
 returns-4 c =
     let a = c .before .before .before .before .before .before .before .before .args in
     c .escape .ensures ∙ ap escapeOf (c .before .before .byte2 .ensures) ∙ sym (at-escape (now (a .s)) (a .at) (sym (c .before .before .before .before .before .byte .ensures) ∙ c .before .before .before .if3 .taken) (λ e. c .before .if4 .left (c .before .before .byte2 .ensures ∙ e)))
-
-raw-at-requires : tie.Need-raw-at-requires
-raw-at-requires c κs = search needs
 
 returns-5 : tie.Need-returns-5
 returns-5 c =
@@ -51,17 +33,5 @@ returns-5 c =
     c .raw-at .ensures ∙ sym (at-raw (now (a .s)) (a .at) (λ e. c .before .before .if2 .left (b ∙ e)) (λ e. c .before .if3 .left (b ∙ e)))
 
 pub any-spec : {M : Type 1} → statement M
-any-spec =
-    tie.close
-    (tie.spec
-    returns
-    byte-requires
-    returns-2
-    add-byte
-    byte-requires-2
-    unicode-at-requires
-    returns-3
-    escape-requires
-    returns-4
-    raw-at-requires
-    returns-5)
+any-spec = tie.close (tie.spec returns (λ c κs. search needs) returns-2 (λ c. search needs) (λ c κs. search needs) (λ c κs. search needs) returns-3
+    (λ c κs. search needs) returns-4 (λ c κs. search needs) returns-5)

@@ -42,15 +42,4 @@ unfolding escapeOf
 returns-9 c = search tests
 
 pub escape-spec : {M : Type 1} → statement M
-escape-spec =
-    tie.close
-    (tie.spec
-    returns
-    returns-2
-    returns-3
-    returns-4
-    returns-5
-    returns-6
-    returns-7
-    returns-8
-    returns-9)
+escape-spec = tie.close (tie.spec returns returns-2 returns-3 returns-4 returns-5 returns-6 returns-7 returns-8 returns-9)

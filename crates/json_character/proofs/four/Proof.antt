@@ -6,27 +6,6 @@ use borrow.Author.Needs.{needs}
 use Rattle.json_character.proofs.four.Statement.{statement}
 use Rattle.json_character.proofs.four.Tie as tie
 
-sub-n : tie.Need-sub-n
-sub-n c = search needs
-
-mul-n : tie.Need-mul-n
-mul-n c = search needs
-
-mul-n-2 : tie.Need-mul-n-2
-mul-n-2 c = search needs
-
-add-n : tie.Need-add-n
-add-n c = search needs
-
-mul-n-3 : tie.Need-mul-n-3
-mul-n-3 c = search needs
-
-add-n-2 : tie.Need-add-n-2
-add-n-2 c = search needs
-
-add-n-3 : tie.Need-add-n-3
-add-n-3 c = search needs
-
 returns : tie.Need-returns
 unfolding fourOf inFour
 returns c = search tests
@@ -64,22 +43,5 @@ unfolding fourOf inFour
 returns-9 c = search tests
 
 pub four-spec : {M : Type 1} → statement M
-four-spec =
-    tie.close
-    (tie.spec
-    sub-n
-    mul-n
-    mul-n-2
-    add-n
-    mul-n-3
-    add-n-2
-    add-n-3
-    returns
-    returns-2
-    returns-3
-    returns-4
-    returns-5
-    returns-6
-    returns-7
-    returns-8
-    returns-9)
+four-spec = tie.close (tie.spec (λ c. search needs) (λ c. search needs) (λ c. search needs) (λ c. search needs) (λ c. search needs) (λ c. search needs)
+    (λ c. search needs) returns returns-2 returns-3 returns-4 returns-5 returns-6 returns-7 returns-8 returns-9)

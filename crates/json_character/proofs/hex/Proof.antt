@@ -18,9 +18,6 @@ returns-3 : tie.Need-returns-3
 unfolding hexOf
 returns-3 c = search tests
 
-sub-result : tie.Need-sub-result
-sub-result c = search needs
-
 returns-4 : tie.Need-returns-4
 unfolding hexOf
 returns-4 c = search tests
@@ -28,9 +25,6 @@ returns-4 c = search tests
 returns-5 : tie.Need-returns-5
 unfolding hexOf
 returns-5 c = search tests
-
-sub-result-2 : tie.Need-sub-result-2
-sub-result-2 c = search needs
 
 returns-6 : tie.Need-returns-6
 unfolding hexOf
@@ -41,15 +35,4 @@ unfolding hexOf
 returns-7 c = search tests
 
 pub hex-spec : {M : Type 1} → statement M
-hex-spec =
-    tie.close
-    (tie.spec
-    returns
-    returns-2
-    returns-3
-    sub-result
-    returns-4
-    returns-5
-    sub-result-2
-    returns-6
-    returns-7)
+hex-spec = tie.close (tie.spec returns returns-2 returns-3 (λ c. search needs) returns-4 returns-5 (λ c. search needs) returns-6 returns-7)

@@ -7,36 +7,6 @@ use borrow.Author.Needs.{needs}
 use Rattle.json_character.proofs.hex4.Statement.{statement}
 use Rattle.json_character.proofs.hex4.Tie as tie
 
-hex-requires : tie.Need-hex-requires
-hex-requires c κs = search needs
-
-hex-requires-2 : tie.Need-hex-requires-2
-hex-requires-2 c κs = search needs
-
-hex-requires-3 : tie.Need-hex-requires-3
-hex-requires-3 c κs = search needs
-
-hex-requires-4 : tie.Need-hex-requires-4
-hex-requires-4 c κs = search needs
-
-mul-result : tie.Need-mul-result
-mul-result c = search needs
-
-mul-result-2 : tie.Need-mul-result-2
-mul-result-2 c = search needs
-
-add-result : tie.Need-add-result
-add-result c = search needs
-
-mul-result-3 : tie.Need-mul-result-3
-mul-result-3 c = search needs
-
-add-result-2 : tie.Need-add-result-2
-add-result-2 c = search needs
-
-add-result-3 : tie.Need-add-result-3
-add-result-3 c = search needs
-
 returns : tie.Need-returns
 unfolding hex4Of
 returns c =
@@ -68,21 +38,5 @@ returns-5 c =
     cc (no-digit-1 (a .a) (a .b) (a .c) (a .d) (omega arith))
 
 pub hex4-spec : {M : Type 1} → statement M
-hex4-spec =
-    tie.close
-    (tie.spec
-    hex-requires
-    hex-requires-2
-    hex-requires-3
-    hex-requires-4
-    mul-result
-    mul-result-2
-    add-result
-    mul-result-3
-    add-result-2
-    add-result-3
-    returns
-    returns-2
-    returns-3
-    returns-4
-    returns-5)
+hex4-spec = tie.close (tie.spec (λ c κs. search needs) (λ c κs. search needs) (λ c κs. search needs) (λ c κs. search needs) (λ c. search needs)
+    (λ c. search needs) (λ c. search needs) (λ c. search needs) (λ c. search needs) (λ c. search needs) returns returns-2 returns-3 returns-4 returns-5)

@@ -18,22 +18,13 @@ returns-3 : tie.Need-returns-3
 unfolding rawOf
 returns-3 c = search tests
 
-two-requires : tie.Need-two-requires
-two-requires c κs = search needs
-
 returns-4 : tie.Need-returns-4
 unfolding rawOf
 returns-4 c = search tests
 
-three-requires : tie.Need-three-requires
-three-requires c κs = search needs
-
 returns-5 : tie.Need-returns-5
 unfolding rawOf
 returns-5 c = search tests
-
-four-requires : tie.Need-four-requires
-four-requires c κs = search needs
 
 returns-6 : tie.Need-returns-6
 unfolding rawOf
@@ -44,16 +35,5 @@ unfolding rawOf
 returns-7 c = search tests
 
 pub raw-spec : {M : Type 1} → statement M
-raw-spec =
-    tie.close
-    (tie.spec
-    returns
-    returns-2
-    returns-3
-    two-requires
-    returns-4
-    three-requires
-    returns-5
-    four-requires
-    returns-6
+raw-spec = tie.close (tie.spec returns returns-2 returns-3 (λ c κs. search needs) returns-4 (λ c κs. search needs) returns-5 (λ c κs. search needs) returns-6
     returns-7)

@@ -6,21 +6,6 @@ use borrow.Author.Needs.{needs}
 use Rattle.json_character.proofs.three.Statement.{statement}
 use Rattle.json_character.proofs.three.Tie as tie
 
-sub-n : tie.Need-sub-n
-sub-n c = search needs
-
-mul-n : tie.Need-mul-n
-mul-n c = search needs
-
-mul-n-2 : tie.Need-mul-n-2
-mul-n-2 c = search needs
-
-add-n : tie.Need-add-n
-add-n c = search needs
-
-add-n-2 : tie.Need-add-n-2
-add-n-2 c = search needs
-
 returns : tie.Need-returns
 unfolding threeOf inThree
 returns c = search tests
@@ -54,19 +39,5 @@ unfolding threeOf inThree
 returns-8 c = search tests
 
 pub three-spec : {M : Type 1} → statement M
-three-spec =
-    tie.close
-    (tie.spec
-    sub-n
-    mul-n
-    mul-n-2
-    add-n
-    add-n-2
-    returns
-    returns-2
-    returns-3
-    returns-4
-    returns-5
-    returns-6
-    returns-7
-    returns-8)
+three-spec = tie.close (tie.spec (λ c. search needs) (λ c. search needs) (λ c. search needs) (λ c. search needs) (λ c. search needs) returns returns-2 returns-3
+    returns-4 returns-5 returns-6 returns-7 returns-8)

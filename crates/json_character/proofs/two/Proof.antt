@@ -6,15 +6,6 @@ use borrow.Author.Needs.{needs}
 use Rattle.json_character.proofs.two.Statement.{statement}
 use Rattle.json_character.proofs.two.Tie as tie
 
-sub-t5 : tie.Need-sub-t5
-sub-t5 c = search needs
-
-mul-t6 : tie.Need-mul-t6
-mul-t6 c = search needs
-
-add-t8 : tie.Need-add-t8
-add-t8 c = search needs
-
 returns : tie.Need-returns
 unfolding twoOf
 returns c = search tests
@@ -28,4 +19,4 @@ unfolding twoOf
 returns-3 c = search tests
 
 pub two-spec : {M : Type 1} → statement M
-two-spec = tie.close (tie.spec sub-t5 mul-t6 add-t8 returns returns-2 returns-3)
+two-spec = tie.close (tie.spec (λ c. search needs) (λ c. search needs) (λ c. search needs) returns returns-2 returns-3)

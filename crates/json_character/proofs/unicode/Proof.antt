@@ -10,15 +10,6 @@ returns : tie.Need-returns
 unfolding unicodeOf
 returns c = search tests
 
-mul-t11 : tie.Need-mul-t11
-mul-t11 c = search needs
-
-add-t12 : tie.Need-add-t12
-add-t12 c = search needs
-
-add-t14 : tie.Need-add-t14
-add-t14 c = search needs
-
 returns-2 : tie.Need-returns-2
 unfolding unicodeOf
 returns-2 c = search tests
@@ -52,18 +43,5 @@ unfolding unicodeOf
 returns-9 c = search tests
 
 pub unicode-spec : {M : Type 1} → statement M
-unicode-spec =
-    tie.close
-    (tie.spec
-    returns
-    mul-t11
-    add-t12
-    add-t14
-    returns-2
-    returns-3
-    returns-4
-    returns-5
-    returns-6
-    returns-7
-    returns-8
-    returns-9)
+unicode-spec = tie.close (tie.spec returns (λ c. search needs) (λ c. search needs) (λ c. search needs) returns-2 returns-3 returns-4 returns-5 returns-6
+    returns-7 returns-8 returns-9)

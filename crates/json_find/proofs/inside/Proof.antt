@@ -9,44 +9,18 @@ use Rattle.json_find.proofs.inside.Tie as tie
 returns : tie.Need-returns
 returns c = inside-past _ _ _ _ (c .if1 .taken)
 
-shared-slice-read-if2 : tie.Need-shared-slice-read-if2
-shared-slice-read-if2 c = search needs
-
 returns-2 : tie.Need-returns-2
 returns-2 c = inside-other _ _ _ _ (c .before .before .if1 .left) (c .if2 .taken)
-
-add-space : tie.Need-add-space
-add-space c = search needs
-
-space-requires : tie.Need-space-requires
-space-requires c κs = search needs
 
 returns-3 : tie.Need-returns-3
 returns-3 c = inside-short _ _ _ _ (c .before .before .before .before .if1 .left) (c .before .before .if2 .left) _ (c .before .space .ensures) (c .if3 .taken)
 
-shared-slice-read-if4 : tie.Need-shared-slice-read-if4
-shared-slice-read-if4 c = search needs
-
 returns-4 : tie.Need-returns-4
 returns-4 c = inside-closed _ _ _ _ (c .before .before .before .before .before .before .if1 .left) (c .before .before .before .before .if2 .left) _ (c .before .before .before .space .ensures) (c .before .before .if3 .left) (c .if4 .taken)
-
-add-t6 : tie.Need-add-t6
-add-t6 c = search needs
 
 returns-5 : tie.Need-returns-5
 returns-5 c = inside-here _ _ _ _ (c .before .before .before .before .before .before .if1 .left) (c .before .before .before .before .if2 .left) _ (c .before .before .before .space .ensures) (c .before .before .if3 .left) (c .if4 .left)
 
 pub inside-spec : {M : Type 1} → statement M
-inside-spec =
-    tie.close
-    (tie.spec
-    returns
-    shared-slice-read-if2
-    returns-2
-    add-space
-    space-requires
-    returns-3
-    shared-slice-read-if4
-    returns-4
-    add-t6
-    returns-5)
+inside-spec = tie.close (tie.spec returns (λ c. search needs) returns-2 (λ c. search needs) (λ c κs. search needs) returns-3 (λ c. search needs) returns-4
+    (λ c. search needs) returns-5)

@@ -10,22 +10,11 @@ use Rattle.json_find.proofs.is_string.Tie as tie
 returns : tie.Need-returns
 returns c = string-past _ _ _ (c .if1 .taken)
 
-shared-slice-read-if2 : tie.Need-shared-slice-read-if2
-shared-slice-read-if2 c = search needs
-
 returns-2 : tie.Need-returns-2
 returns-2 c = string-other _ _ _ (c .before .before .if1 .left) (c .if2 .taken)
-
-add-is-name : tie.Need-add-is-name
-add-is-name c = search needs
-
-is-name-requires : tie.Need-is-name-requires
-is-name-requires c κs = search needs
 
 returns-3 : tie.Need-returns-3
 returns-3 c = c .is-name .ensures ∙ string-here _ _ _ (c .before .before .before .if1 .left) (c .before .if2 .left)
 
 pub is-string-spec : {M : Type 1} → statement M
-is-string-spec =
-    tie.close
-    (tie.spec returns shared-slice-read-if2 returns-2 add-is-name is-name-requires returns-3)
+is-string-spec = tie.close (tie.spec returns (λ c. search needs) returns-2 (λ c. search needs) (λ c κs. search needs) returns-3)

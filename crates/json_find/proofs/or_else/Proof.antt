@@ -4,15 +4,6 @@ use borrow.Author.Needs.{needs}
 use Rattle.json_find.proofs.or_else.Statement.{statement}
 use Rattle.json_find.proofs.or_else.Tie as tie
 
-enum-known-found : tie.Need-enum-known-found
-enum-known-found c = search needs
-
-enum-told : tie.Need-enum-told
-enum-told c = search needs
-
-is-string-requires : tie.Need-is-string-requires
-is-string-requires c κs = search needs
-
 returns : tie.Need-returns
 returns c = rw (c .before .before .enum-told .given .1, ← c .before .is-string .ensures, c .if1 .taken)
 
@@ -23,5 +14,4 @@ returns-3 : tie.Need-returns-3
 returns-3 c = rw (c .before .before .enum-told .given .1, ← c .before .is-string .ensures, c .if1 .left)
 
 pub or-else-spec : {M : Type 1} → statement M
-or-else-spec =
-    tie.close (tie.spec enum-known-found enum-told is-string-requires returns returns-2 returns-3)
+or-else-spec = tie.close (tie.spec (λ c. search needs) (λ c. search needs) (λ c κs. search needs) returns returns-2 returns-3)

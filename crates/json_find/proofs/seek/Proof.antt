@@ -22,29 +22,11 @@ abbrev μ-loop : tie.MeasureT-loop
 loop-holds : tie.Need-loop-holds Inv-loop μ-loop
 loop-holds c = (omega arith, λ r x. x)
 
-space-requires : tie.Need-space-requires Inv-loop μ-loop
-space-requires c κs = search needs
-
-is-string-requires : tie.Need-is-string-requires Inv-loop μ-loop
-is-string-requires c κs = search needs
-
-start-requires : tie.Need-start-requires Inv-loop μ-loop
-start-requires c κs = search needs
-
 returns : tie.Need-returns Inv-loop μ-loop
 returns c = c .before .before .before .before .loop .inv .1 _ (seek-here _ _ _ _ (c .before .before .before .space .ensures) (sym (c .before .if1 .taken) ∙ c .before .before .is-string .ensures) _ (c .start .ensures))
 
-step-requires : tie.Need-step-requires Inv-loop μ-loop
-step-requires c κs = search needs
-
-enum-told : tie.Need-enum-told Inv-loop μ-loop
-enum-told c = search needs
-
 returns-2 : tie.Need-returns-2 Inv-loop μ-loop
 returns-2 c = c .before .before .before .before .before .before .loop .inv .1 _ (seek-none _ _ _ _ (c .before .before .before .before .before .space .ensures) (sym (c .before .before .before .if1 .left) ∙ c .before .before .before .before .is-string .ensures) (rw (c .enum-told .given .1) at (c .before .before .step .ensures)))
-
-enum-known-m : tie.Need-enum-known-m Inv-loop μ-loop
-enum-known-m c = search needs
 
 loop-less : tie.Need-loop-less Inv-loop μ-loop
 loop-less c = omega (arith, step-on _ _ _ _ (rw (c .before .m .given .1) at (c .before .before .before .step .ensures)), step-in _ _ _ _ (rw (c .before .m .given .1) at (c .before .before .before .step .ensures)))
@@ -53,19 +35,5 @@ loop-again : tie.Need-loop-again Inv-loop μ-loop
 loop-again c = (omega (arith, step-on _ _ _ _ (rw (c .before .m .given .1) at (c .before .before .before .step .ensures))), λ r y. c .before .before .before .before .before .before .before .loop .inv .1 r (seek-next _ _ _ _ (c .before .before .before .before .before .before .space .ensures) (sym (c .before .before .before .before .if1 .left) ∙ c .before .before .before .before .before .is-string .ensures) _ (rw (c .before .m .given .1) at (c .before .before .before .step .ensures)) r y))
 
 pub seek-spec : {M : Type 1} → statement M
-seek-spec =
-    tie.close
-    (tie.spec
-    Inv-loop
-    μ-loop
-    loop-holds
-    space-requires
-    is-string-requires
-    start-requires
-    returns
-    step-requires
-    enum-told
-    returns-2
-    enum-known-m
-    loop-less
-    loop-again)
+seek-spec = tie.close (tie.spec Inv-loop μ-loop loop-holds (λ c κs. search needs) (λ c κs. search needs) (λ c κs. search needs) returns (λ c κs. search needs)
+    (λ c. search needs) returns-2 (λ c. search needs) loop-less loop-again)

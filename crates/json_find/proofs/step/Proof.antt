@@ -6,18 +6,6 @@ use borrow.Author.Needs.{needs}
 use Rattle.json_find.proofs.step.Statement.{statement}
 use Rattle.json_find.proofs.step.Tie as tie
 
-entry-requires : tie.Need-entry-requires
-entry-requires c κs = search needs
-
-enum-known-m : tie.Need-enum-known-m
-enum-known-m c = search needs
-
-enum-told : tie.Need-enum-told
-enum-told c = search needs
-
-enum-told-2 : tie.Need-enum-told-2
-enum-told-2 c = search needs
-
 returns : tie.Need-returns
 returns c = step-comma _ _ _ _ (rw (c .before .m .given .1) at (c .before .before .before .entry .ensures))
 
@@ -28,6 +16,4 @@ returns-3 : tie.Need-returns-3
 returns-3 c = step-neither _ _ _ (rw (c .enum-told2 .given .1) at (c .before .before .entry .ensures))
 
 pub step-spec : {M : Type 1} → statement M
-step-spec =
-    tie.close
-    (tie.spec entry-requires enum-known-m enum-told enum-told-2 returns returns-2 returns-3)
+step-spec = tie.close (tie.spec (λ c κs. search needs) (λ c. search needs) (λ c. search needs) (λ c. search needs) returns returns-2 returns-3)

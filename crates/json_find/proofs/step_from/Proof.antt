@@ -5,26 +5,8 @@ use Rattle.json_find.specs.Four.Follows.{after-none, after-end}
 use Rattle.json_find.proofs.step_from.Statement.{statement}
 use Rattle.json_find.proofs.step_from.Tie as tie
 
-enum-known-end : tie.Need-enum-known-end
-enum-known-end c = search needs
-
-enum-told : tie.Need-enum-told
-enum-told c = search needs
-
 returns : tie.Need-returns
 returns c = rw (c .enum-told .given .1) after-none
-
-after-requires : tie.Need-after-requires
-after-requires c κs = search needs
-
-enum-known-m : tie.Need-enum-known-m
-enum-known-m c = search needs
-
-enum-told-2 : tie.Need-enum-told-2
-enum-told-2 c = search needs
-
-enum-told-3 : tie.Need-enum-told-3
-enum-told-3 c = search needs
 
 returns-2 : tie.Need-returns-2
 returns-2 c = rw (c .before .before .before .before .before .end .given .1) (after-end _ _ (rw (c .before .m .given .1) at (c .before .before .before .after .ensures)))
@@ -36,16 +18,5 @@ returns-4 : tie.Need-returns-4
 returns-4 c = rw (c .before .before .before .before .end .given .1) (after-end _ _ (rw (c .enum-told3 .given .1) at (c .before .before .after .ensures)))
 
 pub step-from-spec : {M : Type 1} → statement M
-step-from-spec =
-    tie.close
-    (tie.spec
-    enum-known-end
-    enum-told
-    returns
-    after-requires
-    enum-known-m
-    enum-told-2
-    enum-told-3
-    returns-2
-    returns-3
-    returns-4)
+step-from-spec = tie.close (tie.spec (λ c. search needs) (λ c. search needs) returns (λ c κs. search needs) (λ c. search needs) (λ c. search needs)
+    (λ c. search needs) returns-2 returns-3 returns-4)

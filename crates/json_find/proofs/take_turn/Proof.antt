@@ -5,41 +5,11 @@ use Rattle.json_find.proofs.Once.{turn-last, turn-next, turn-neither, t
 use Rattle.json_find.proofs.take_turn.Statement.{statement}
 use Rattle.json_find.proofs.take_turn.Tie as tie
 
-start-requires : tie.Need-start-requires
-start-requires c κs = search needs
-
-enum-known-p : tie.Need-enum-known-p
-enum-known-p c = search needs
-
-enum-told : tie.Need-enum-told
-enum-told c = search needs
-
 returns : tie.Need-returns
 returns c = turn-unstarted _ _ (rw (c .enum-told .given .1) at (c .before .before .start .ensures))
 
-value-requires : tie.Need-value-requires
-value-requires c κs = search needs
-
-enum-known-q : tie.Need-enum-known-q
-enum-known-q c = search needs
-
-enum-told-2 : tie.Need-enum-told-2
-enum-told-2 c = search needs
-
 returns-2 : tie.Need-returns-2
 returns-2 c = turn-unread _ _ _ (rw (c .before .before .before .before .p .given .1) at (c .before .before .before .before .before .before .start .ensures)) (rw (c .enum-told2 .given .1) at (c .before .before .value .ensures))
-
-after-requires : tie.Need-after-requires
-after-requires c κs = search needs
-
-enum-known-m : tie.Need-enum-known-m
-enum-known-m c = search needs
-
-enum-known-m-2 : tie.Need-enum-known-m-2
-enum-known-m-2 c = search needs
-
-enum-told-3 : tie.Need-enum-told-3
-enum-told-3 c = search needs
 
 returns-3 : tie.Need-returns-3
 returns-3 c =
@@ -60,21 +30,5 @@ returns-5 c =
     turn-neither _ _ _ _ x y (rw (c .enum-told3 .given .1) at (c .before .before .after .ensures))
 
 pub take-turn-spec : {M : Type 1} → statement M
-take-turn-spec =
-    tie.close
-    (tie.spec
-    start-requires
-    enum-known-p
-    enum-told
-    returns
-    value-requires
-    enum-known-q
-    enum-told-2
-    returns-2
-    after-requires
-    enum-known-m
-    enum-known-m-2
-    enum-told-3
-    returns-3
-    returns-4
-    returns-5)
+take-turn-spec = tie.close (tie.spec (λ c κs. search needs) (λ c. search needs) (λ c. search needs) returns (λ c κs. search needs) (λ c. search needs)
+    (λ c. search needs) returns-2 (λ c κs. search needs) (λ c. search needs) (λ c. search needs) (λ c. search needs) returns-3 returns-4 returns-5)

@@ -6,14 +6,8 @@ use borrow.Author.Needs.{needs}
 use Rattle.json_number.proofs.lead.Statement.{statement}
 use Rattle.json_number.proofs.lead.Tie as tie
 
-returns : tie.Need-returns
-returns c = search tests
-
-digit-requires : tie.Need-digit-requires
-digit-requires c κs = search needs
-
 returns-2 : tie.Need-returns-2
 returns-2 c = rw (c .digit .ensures) (search tests)
 
 pub lead-spec : {M : Type 1} → statement M
-lead-spec = tie.close (tie.spec returns digit-requires returns-2)
+lead-spec = tie.close (tie.spec (λ c. search tests) (λ c κs. search needs) returns-2)

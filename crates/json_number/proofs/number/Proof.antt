@@ -24,21 +24,6 @@ returns c = start-past _ _ (c .if1 .taken)
 loop-holds : tie.Need-loop-holds Inv-loop μ-loop
 loop-holds c = (omega arith, omega arith, starts _ _)
 
-shared-slice-read-b : tie.Need-shared-slice-read-b Inv-loop μ-loop
-shared-slice-read-b c = omega arith
-
-turn-requires : tie.Need-turn-requires Inv-loop μ-loop
-turn-requires c κs = search needs
-
-is-stop-requires : tie.Need-is-stop-requires Inv-loop μ-loop
-is-stop-requires c κs = search needs
-
-is-final-requires : tie.Need-is-final-requires Inv-loop μ-loop
-is-final-requires c κs = search needs
-
-is-apart-requires : tie.Need-is-apart-requires Inv-loop μ-loop
-is-apart-requires c κs = search needs
-
 returns-2 : tie.Need-returns-2 Inv-loop μ-loop
 returns-2 c =
     let l = c .before .before .before .before .before .before .before .before .before in
@@ -57,19 +42,10 @@ returns-4 c =
     let e = sym (ap isStop (c .before .before .before .before .turn .ensures)) ∙ sym (c .before .before .before .is-stop .ensures) ∙ c .before .before .if2 .taken in
     l .loop .inv .2 _ (stop-early _ (l .loop .q) _ (c .before .before .before .before .before .before .loop-test .taken) e (sym (c .before .is-final .ensures) ∙ c .if3 .left))
 
-add-i : tie.Need-add-i Inv-loop μ-loop
-add-i c = omega arith
-
-loop-less : tie.Need-loop-less Inv-loop μ-loop
-loop-less c = omega arith
-
 loop-again : tie.Need-loop-again Inv-loop μ-loop
 loop-again c =
     let l = c .before .before .before .before .before in
     (omega arith, omega arith, λ r x. l .loop .inv .2 r (goes-on _ (l .loop .q) _ _ (c .before .before .before .before .loop-test .taken) (c .before .before .turn .ensures) (sym (c .before .is-stop .ensures) ∙ c .if2 .left) r x))
-
-is-final-requires-2 : tie.Need-is-final-requires-2 Inv-loop μ-loop
-is-final-requires-2 c κs = search needs
 
 returns-5 : tie.Need-returns-5 Inv-loop μ-loop
 returns-5 c =
@@ -82,24 +58,5 @@ returns-6 c =
     l .loop .inv .2 _ (end-early _ (l .loop .q) _ (c .before .before .loop-test .left) (sym (c .before .is-final2 .ensures) ∙ c .if5 .left))
 
 pub number-spec : {M : Type 1} → statement M
-number-spec =
-    tie.close
-    (tie.spec
-    Inv-loop
-    μ-loop
-    returns
-    loop-holds
-    shared-slice-read-b
-    turn-requires
-    is-stop-requires
-    is-final-requires
-    is-apart-requires
-    returns-2
-    returns-3
-    returns-4
-    add-i
-    loop-less
-    loop-again
-    is-final-requires-2
-    returns-5
-    returns-6)
+number-spec = tie.close (tie.spec Inv-loop μ-loop returns loop-holds (λ c. omega arith) (λ c κs. search needs) (λ c κs. search needs) (λ c κs. search needs)
+    (λ c κs. search needs) returns-2 returns-3 returns-4 (λ c. omega arith) (λ c. omega arith) loop-again (λ c κs. search needs) returns-5 returns-6)

@@ -6,14 +6,8 @@ use borrow.Author.Needs.{needs}
 use Rattle.json_number.proofs.start.Statement.{statement}
 use Rattle.json_number.proofs.start.Tie as tie
 
-returns : tie.Need-returns
-returns c = search tests
-
-lead-requires : tie.Need-lead-requires
-lead-requires c κs = search needs
-
 returns-2 : tie.Need-returns-2
 returns-2 c = rw (c .lead .ensures) (search tests)
 
 pub start-spec : {M : Type 1} → statement M
-start-spec = tie.close (tie.spec returns lead-requires returns-2)
+start-spec = tie.close (tie.spec (λ c. search tests) (λ c κs. search needs) returns-2)

@@ -5,75 +5,6 @@ use borrow.Author.Needs.{needs}
 use Rattle.json_number.proofs.turn.Statement.{statement}
 use Rattle.json_number.proofs.turn.Tie as tie
 
-enum-told : tie.Need-enum-told
-enum-told c = search needs
-
-start-requires : tie.Need-start-requires
-start-requires c κs = search needs
-
-enum-told-2 : tie.Need-enum-told-2
-enum-told-2 c = search needs
-
-lead-requires : tie.Need-lead-requires
-lead-requires c κs = search needs
-
-enum-told-3 : tie.Need-enum-told-3
-enum-told-3 c = search needs
-
-or-mark-requires : tie.Need-or-mark-requires
-or-mark-requires c κs = search needs
-
-or-point-requires : tie.Need-or-point-requires
-or-point-requires c κs = search needs
-
-enum-told-4 : tie.Need-enum-told-4
-enum-told-4 c = search needs
-
-digit-requires : tie.Need-digit-requires
-digit-requires c κs = search needs
-
-or-mark-requires-2 : tie.Need-or-mark-requires-2
-or-mark-requires-2 c κs = search needs
-
-or-point-requires-2 : tie.Need-or-point-requires-2
-or-point-requires-2 c κs = search needs
-
-enum-told-5 : tie.Need-enum-told-5
-enum-told-5 c = search needs
-
-digit-requires-2 : tie.Need-digit-requires-2
-digit-requires-2 c κs = search needs
-
-enum-told-6 : tie.Need-enum-told-6
-enum-told-6 c = search needs
-
-digit-requires-3 : tie.Need-digit-requires-3
-digit-requires-3 c κs = search needs
-
-or-mark-requires-3 : tie.Need-or-mark-requires-3
-or-mark-requires-3 c κs = search needs
-
-enum-told-7 : tie.Need-enum-told-7
-enum-told-7 c = search needs
-
-sign-requires : tie.Need-sign-requires
-sign-requires c κs = search needs
-
-enum-told-8 : tie.Need-enum-told-8
-enum-told-8 c = search needs
-
-digit-requires-4 : tie.Need-digit-requires-4
-digit-requires-4 c κs = search needs
-
-enum-told-9 : tie.Need-enum-told-9
-enum-told-9 c = search needs
-
-digit-requires-5 : tie.Need-digit-requires-5
-digit-requires-5 c κs = search needs
-
-enum-told-10 : tie.Need-enum-told-10
-enum-told-10 c = search needs
-
 returns : tie.Need-returns
 returns c = rw (c .before .enum-told .given .1) (c .start .ensures)
 
@@ -101,43 +32,9 @@ returns-8 c = rw (c .before .enum-told8 .given .1) (c .digit4 .ensures)
 returns-9 : tie.Need-returns-9
 returns-9 c = rw (c .before .enum-told9 .given .1) (c .digit5 .ensures)
 
-returns-10 : tie.Need-returns-10
-returns-10 c = search needs
-
 pub turn-spec : {M : Type 1} → statement M
-turn-spec =
-    tie.close
-    (tie.spec
-    enum-told
-    start-requires
-    enum-told-2
-    lead-requires
-    enum-told-3
-    or-mark-requires
-    or-point-requires
-    enum-told-4
-    digit-requires
-    or-mark-requires-2
-    or-point-requires-2
-    enum-told-5
-    digit-requires-2
-    enum-told-6
-    digit-requires-3
-    or-mark-requires-3
-    enum-told-7
-    sign-requires
-    enum-told-8
-    digit-requires-4
-    enum-told-9
-    digit-requires-5
-    enum-told-10
-    returns
-    returns-2
-    returns-3
-    returns-4
-    returns-5
-    returns-6
-    returns-7
-    returns-8
-    returns-9
-    returns-10)
+turn-spec = tie.close (tie.spec (λ c. search needs) (λ c κs. search needs) (λ c. search needs) (λ c κs. search needs) (λ c. search needs) (λ c κs. search needs)
+    (λ c κs. search needs) (λ c. search needs) (λ c κs. search needs) (λ c κs. search needs) (λ c κs. search needs) (λ c. search needs) (λ c κs. search needs)
+    (λ c. search needs) (λ c κs. search needs) (λ c κs. search needs) (λ c. search needs) (λ c κs. search needs) (λ c. search needs) (λ c κs. search needs)
+    (λ c. search needs) (λ c κs. search needs) (λ c. search needs) returns returns-2 returns-3 returns-4 returns-5 returns-6 returns-7 returns-8 returns-9
+    (λ c. search needs))

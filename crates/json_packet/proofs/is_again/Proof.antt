@@ -19,29 +19,11 @@ Inv-loop s at p i₀ i = again (drop (at + 1) s) (drop at s) ≡ anySame (decode
 abbrev μ-loop : tie.MeasureT-loop
 μ-loop s at p i₀ i = length s - i
 
-add-p : tie.Need-add-p Inv-loop μ-loop
-add-p c = omega arith
-
 loop-holds : tie.Need-loop-holds Inv-loop μ-loop
 loop-holds c = again-is _ _
 
-step-requires : tie.Need-step-requires Inv-loop μ-loop
-step-requires c κs = search needs
-
-enum-told : tie.Need-enum-told Inv-loop μ-loop
-enum-told c = search needs
-
 returns : tie.Need-returns Inv-loop μ-loop
 returns c = again-none _ _ _ (rw (c .enum-told .given .1) at (c .before .before .step .ensures)) ∙ sym (c .before .before .before .loop .inv)
-
-enum-known-m : tie.Need-enum-known-m Inv-loop μ-loop
-enum-known-m c = search needs
-
-space-requires : tie.Need-space-requires Inv-loop μ-loop
-space-requires c κs = search needs
-
-same-string-requires : tie.Need-same-string-requires Inv-loop μ-loop
-same-string-requires c κs = search needs
 
 returns-2 : tie.Need-returns-2 Inv-loop μ-loop
 returns-2 c = again-here _ _ _ _ (rw (c .before .before .before .before .m .given .1) at (c .before .before .before .before .before .before .step .ensures)) _ (c .before .before .space .ensures) (sym (c .if1 .taken) ∙ c .before .same-string .ensures) ∙ sym (c .before .before .before .before .before .before .before .loop .inv)
@@ -53,19 +35,5 @@ loop-again : tie.Need-loop-again Inv-loop μ-loop
 loop-again c = c .before .before .before .before .before .before .before .loop .inv ∙ again-next _ _ _ _ (rw (c .before .before .before .before .m .given .1) at (c .before .before .before .before .before .before .step .ensures)) _ (c .before .before .space .ensures) (sym (c .if1 .left) ∙ c .before .same-string .ensures)
 
 pub is-again-spec : {M : Type 1} → statement M
-is-again-spec =
-    tie.close
-    (tie.spec
-    Inv-loop
-    μ-loop
-    add-p
-    loop-holds
-    step-requires
-    enum-told
-    returns
-    enum-known-m
-    space-requires
-    same-string-requires
-    returns-2
-    loop-less
-    loop-again)
+is-again-spec = tie.close (tie.spec Inv-loop μ-loop (λ c. omega arith) loop-holds (λ c κs. search needs) (λ c. search needs) returns (λ c. search needs)
+    (λ c κs. search needs) (λ c κs. search needs) returns-2 loop-less loop-again)

@@ -7,35 +7,11 @@ use borrow.Author.Needs.{needs}
 use Rattle.json_packet.proofs.judge.Statement.{statement}
 use Rattle.json_packet.proofs.judge.Tie as tie
 
-space-requires : tie.Need-space-requires
-space-requires c κs = search needs
-
 returns : tie.Need-returns
 returns c = refused _ _ (none-there _ _ (c .before .space .ensures) (c .if1 .taken))
 
-shared-slice-read-if2 : tie.Need-shared-slice-read-if2
-shared-slice-read-if2 c = search needs
-
 returns-2 : tie.Need-returns-2
 returns-2 c = refused _ _ (no-object _ _ (c .before .before .before .space .ensures) (c .before .before .if1 .left) (c .if2 .taken))
-
-add-object : tie.Need-add-object
-add-object c = search needs
-
-object-requires : tie.Need-object-requires
-object-requires c κs = search needs
-
-enum-told : tie.Need-enum-told
-enum-told c = search needs
-
-enum-known-o : tie.Need-enum-known-o
-enum-known-o c = search needs
-
-space-requires-2 : tie.Need-space-requires-2
-space-requires-2 c κs = search needs
-
-same-length : tie.Need-same-length
-same-length c = search needs
 
 returns-3 : tie.Need-returns-3
 returns-3 c =
@@ -46,9 +22,6 @@ returns-3 c =
     let v = value-judged _ _ there brace _ (o .0) in
     refused _ _ (more-follows _ _ ws there brace _ (v .place) _ (c .before .space2 .ensures) (c .if3 .taken))
 
-same-length-2 : tie.Need-same-length-2
-same-length-2 c = search needs
-
 returns-4 : tie.Need-returns-4
 returns-4 c =
     let ws = c .before .before .before .before .before .before .before .before .before .before .before .before .before .space .ensures in
@@ -57,12 +30,6 @@ returns-4 c =
     let o = rw (c .before .before .before .before .o .given .1) at (c .before .before .before .before .before .before .before .before .object .ensures) in
     let v = value-judged _ _ there brace _ (o .0) in
     taken _ _ there brace ws _ _ _ _ (o .1) (by-marks _ _ ws there brace _ (v .place) _ (c .before .before .space2 .ensures) _ (c .before .if3 .left) (λ j u h. sym (v .says j u h) ∙ c .if4 .taken))
-
-names-once-requires : tie.Need-names-once-requires
-names-once-requires c κs = search needs
-
-same-length-3 : tie.Need-same-length-3
-same-length-3 c = search needs
 
 returns-5 : tie.Need-returns-5
 returns-5 c =
@@ -73,9 +40,6 @@ returns-5 c =
     let v = value-judged _ _ there brace _ (o .0) in
     taken _ _ there brace ws _ _ _ _ (o .1) (sym (c .if5 .taken) ∙ by-names _ _ ws there brace _ (v .place) _ (c .before .before .before .before .space2 .ensures) (c .before .before .before .if3 .left) _ (c .before .names-once .ensures))
 
-same-length-4 : tie.Need-same-length-4
-same-length-4 c = search needs
-
 returns-6 : tie.Need-returns-6
 returns-6 c =
     let ws = c .before .before .before .before .before .before .before .before .before .space .ensures in
@@ -84,9 +48,6 @@ returns-6 c =
     let o = rw (c .enum-told .given .1) at (c .before .before .before .before .object .ensures) in
     let v = value-judged _ _ there brace _ (o .0) in
     refused _ _ (no-value _ _ ws (v .place))
-
-same-length-5 : tie.Need-same-length-5
-same-length-5 c = search needs
 
 returns-7 : tie.Need-returns-7
 returns-7 c =
@@ -98,26 +59,6 @@ returns-7 c =
     refused _ _ (sym (c .if5 .left) ∙ by-names _ _ ws there brace _ (v .place) _ (c .before .before .before .before .space2 .ensures) (c .before .before .before .if3 .left) _ (c .before .names-once .ensures))
 
 pub judge-spec : {M : Type 1} → statement M
-judge-spec =
-    tie.close
-    (tie.spec
-    space-requires
-    returns
-    shared-slice-read-if2
-    returns-2
-    add-object
-    object-requires
-    enum-told
-    enum-known-o
-    space-requires-2
-    same-length
-    returns-3
-    same-length-2
-    returns-4
-    names-once-requires
-    same-length-3
-    returns-5
-    same-length-4
-    returns-6
-    same-length-5
-    returns-7)
+judge-spec = tie.close (tie.spec (λ c κs. search needs) returns (λ c. search needs) returns-2 (λ c. search needs) (λ c κs. search needs) (λ c. search needs)
+    (λ c. search needs) (λ c κs. search needs) (λ c. search needs) returns-3 (λ c. search needs) returns-4 (λ c κs. search needs) (λ c. search needs) returns-5
+    (λ c. search needs) returns-6 (λ c. search needs) returns-7)

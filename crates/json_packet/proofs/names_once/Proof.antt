@@ -16,20 +16,8 @@ Inv-loop s i₀ i = scan s ≡ scan (drop i s)
 abbrev μ-loop : tie.MeasureT-loop
 μ-loop s i₀ i = length s - i
 
-loop-holds : tie.Need-loop-holds Inv-loop μ-loop
-loop-holds c = refl
-
-token-requires : tie.Need-token-requires Inv-loop μ-loop
-token-requires c κs = search needs
-
-enum-told : tie.Need-enum-told Inv-loop μ-loop
-enum-told c = search needs
-
 returns : tie.Need-returns Inv-loop μ-loop
 returns c = sym (c .before .before .before .before .loop .inv ∙ scan-bad _ _ (c .before .before .before .loop-test .taken) (rw (c .enum-told .given .1) at (c .before .before .token .ensures)))
-
-enum-known-t : tie.Need-enum-known-t Inv-loop μ-loop
-enum-known-t c = search needs
 
 loop-less : tie.Need-loop-less Inv-loop μ-loop
 loop-less c = omega (arith, token-on _ _ (c .before .before .before .before .loop-test .taken) _ (rw (c .before .t .given .1) at (c .before .before .before .token .ensures)), token-in _ _ (c .before .before .before .before .loop-test .taken) _ (rw (c .before .t .given .1) at (c .before .before .before .token .ensures)))
@@ -41,16 +29,5 @@ returns-2 : tie.Need-returns-2 Inv-loop μ-loop
 returns-2 c = sym (c .before .loop .inv ∙ scan-past _ _ (c .loop-test .left))
 
 pub names-once-spec : {M : Type 1} → statement M
-names-once-spec =
-    tie.close
-    (tie.spec
-    Inv-loop
-    μ-loop
-    loop-holds
-    token-requires
-    enum-told
-    returns
-    enum-known-t
-    loop-less
-    loop-again
+names-once-spec = tie.close (tie.spec Inv-loop μ-loop (λ c. refl) (λ c κs. search needs) (λ c. search needs) returns (λ c. search needs) loop-less loop-again
     returns-2)

@@ -10,21 +10,11 @@ use Rattle.json_packet.proofs.same_string.Tie as tie
 returns : tie.Need-returns
 returns c = same-past _ _ _ (c .if1 .taken)
 
-shared-slice-read-if2 : tie.Need-shared-slice-read-if2
-shared-slice-read-if2 c = search needs
-
 returns-2 : tie.Need-returns-2
 returns-2 c = same-other _ _ _ (c .before .before .if1 .left) (c .if2 .taken)
-
-add-same : tie.Need-add-same
-add-same c = search needs
-
-same-requires : tie.Need-same-requires
-same-requires c κs = search needs
 
 returns-3 : tie.Need-returns-3
 returns-3 c = c .same .ensures ∙ same-here _ _ _ (c .before .before .before .if1 .left) (c .before .if2 .left)
 
 pub same-string-spec : {M : Type 1} → statement M
-same-string-spec =
-    tie.close (tie.spec returns shared-slice-read-if2 returns-2 add-same same-requires returns-3)
+same-string-spec = tie.close (tie.spec returns (λ c. search needs) returns-2 (λ c. search needs) (λ c κs. search needs) returns-3)

@@ -7,39 +7,15 @@ use borrow.Author.Needs.{needs}
 use Rattle.json_packet.proofs.token.Statement.{statement}
 use Rattle.json_packet.proofs.token.Tie as tie
 
-shared-slice-read-if1 : tie.Need-shared-slice-read-if1
-shared-slice-read-if1 c = search needs
-
-add-t6 : tie.Need-add-t6
-add-t6 c = search needs
-
 returns : tie.Need-returns
 returns c = token-byte _ _ (c .before .before .before .pre) (c .if1 .taken)
 
-is-again-requires : tie.Need-is-again-requires
-is-again-requires c κs = search needs
-
 returns-2 : tie.Need-returns-2
 returns-2 c = token-again _ _ (c .before .before .before .before .before .pre) (c .before .before .if1 .left) (sym (c .if2 .taken) ∙ c .before .is-again .ensures)
-
-add-chars : tie.Need-add-chars
-add-chars c = search needs
-
-chars-requires : tie.Need-chars-requires
-chars-requires c κs = search needs
 
 returns-3 : tie.Need-returns-3
 returns-3 c = token-string _ _ (c .before .before .before .before .before .before .pre) (c .before .before .before .if1 .left) (sym (c .before .if2 .left) ∙ c .before .before .is-again .ensures) _ (c .chars .ensures)
 
 pub token-spec : {M : Type 1} → statement M
-token-spec =
-    tie.close
-    (tie.spec
-    shared-slice-read-if1
-    add-t6
-    returns
-    is-again-requires
-    returns-2
-    add-chars
-    chars-requires
+token-spec = tie.close (tie.spec (λ c. search needs) (λ c. search needs) returns (λ c κs. search needs) returns-2 (λ c. search needs) (λ c κs. search needs)
     returns-3)

@@ -4,11 +4,5 @@ use Rattle.basis.proofs.Tests.{tests}
 use Rattle.json_sure.proofs.all_or_none.Statement.{statement}
 use Rattle.json_sure.proofs.all_or_none.Tie as tie
 
-returns : tie.Need-returns
-returns c = search tests
-
-returns-2 : tie.Need-returns-2
-returns-2 c = search tests
-
 pub all-or-none-spec : {M : Type 1} → statement M
-all-or-none-spec = tie.close (tie.spec returns returns-2)
+all-or-none-spec = tie.close (tie.spec (λ c. search tests) (λ c. search tests))

@@ -20,21 +20,6 @@ abbrev μ-loop : tie.MeasureT-loop
 loop-holds : tie.Need-loop-holds Inv-loop μ-loop
 loop-holds c = (omega arith, refl)
 
-mul-still-new : tie.Need-mul-still-new Inv-loop μ-loop
-mul-still-new c = search needs
-
-shared-slice-read-still-new : tie.Need-shared-slice-read-still-new Inv-loop μ-loop
-shared-slice-read-still-new c = search needs
-
-still-new-requires : tie.Need-still-new-requires Inv-loop μ-loop
-still-new-requires c κs = search needs
-
-add-i : tie.Need-add-i Inv-loop μ-loop
-add-i c = omega arith
-
-loop-less : tie.Need-loop-less Inv-loop μ-loop
-loop-less c = omega arith
-
 loop-again : tie.Need-loop-again Inv-loop μ-loop
 loop-again c =
     let l = c .before .before .before in
@@ -50,16 +35,5 @@ returns c =
     sym (l .loop .inv .1 ∙ new-end (a .m) (l .loop .i) (a .marks .now) h (l .loop .new))
 
 pub is-new-spec : {M : Type 1} → statement M
-is-new-spec =
-    tie.close
-    (tie.spec
-    Inv-loop
-    μ-loop
-    loop-holds
-    mul-still-new
-    shared-slice-read-still-new
-    still-new-requires
-    add-i
-    loop-less
-    loop-again
-    returns)
+is-new-spec = tie.close (tie.spec Inv-loop μ-loop loop-holds (λ c. search needs) (λ c. search needs) (λ c κs. search needs) (λ c. omega arith)
+    (λ c. omega arith) loop-again returns)

@@ -23,12 +23,6 @@ abbrev μ-loop : tie.MeasureT-loop
 loop-holds : tie.Need-loop-holds Inv-loop μ-loop
 loop-holds c = (omega arith, refl)
 
-shared-slice-read-b : tie.Need-shared-slice-read-b Inv-loop μ-loop
-shared-slice-read-b c = search needs
-
-is-plain-requires : tie.Need-is-plain-requires Inv-loop μ-loop
-is-plain-requires c κs = search needs
-
 mul-h : tie.Need-mul-h Inv-loop μ-loop
 mul-h c =
     let l = c .before .before .before .before in
@@ -42,12 +36,6 @@ add-h c =
     let l = c .before .before .before .before in
     omega (arith, product-low (l .loop .h) (l .before .before .args .key) (l .loop .inv .0) (l .before .before .fits .key .fits), c .before .before .shared-slice-known2 .given (l .loop .i))
 
-add-i : tie.Need-add-i Inv-loop μ-loop
-add-i c = omega arith
-
-loop-less : tie.Need-loop-less Inv-loop μ-loop
-loop-less c = omega arith
-
 loop-again : tie.Need-loop-again Inv-loop μ-loop
 loop-again c =
     let l = c .before .before .before .before in
@@ -55,19 +43,10 @@ loop-again c =
     let e = sym (at-plain s (l .loop .i) (sym (c .before .is-plain .ensures) ∙ c .if2 .taken)) in
     (next-low _ _ _, l .loop .inv .1 ∙ mark-one _ s (l .loop .i) (l .loop .h) _ _ e)
 
-any-requires : tie.Need-any-requires Inv-loop μ-loop
-any-requires c κs = search needs
-
-enum-known-c : tie.Need-enum-known-c Inv-loop μ-loop
-enum-known-c c = search needs
-
 mul-h-2 : tie.Need-mul-h-2 Inv-loop μ-loop
 mul-h-2 c =
     let l = c .before .before .before .before .before in
     omega (arith, product-low (l .loop .h) (l .before .before .args .key) (l .loop .inv .0) (l .before .before .fits .key .fits))
-
-cast-h-2 : tie.Need-cast-h-2 Inv-loop μ-loop
-cast-h-2 c = search needs
 
 add-h-2 : tie.Need-add-h-2 Inv-loop μ-loop
 add-h-2 c =
@@ -102,18 +81,12 @@ loop-again-2 c =
     let e = sym (c .before .c .given .1) ∙ c .before .before .before .any .ensures in
     (next-low _ _ _, l .loop .inv .1 ∙ mark-one _ s (l .loop .i) (l .loop .h) _ _ e)
 
-enum-told : tie.Need-enum-told Inv-loop μ-loop
-enum-told c = search needs
-
 returns : tie.Need-returns Inv-loop μ-loop
 returns c =
     let l = c .before .before .before .before in
     let s = now (l .before .before .args .s) in
     let e = sym (c .enum-told .given .1) ∙ c .before .before .any .ensures in
     sym (l .loop .inv .1 ∙ mark-close _ s (l .loop .i) (l .loop .h) e)
-
-enum-told-2 : tie.Need-enum-told-2 Inv-loop μ-loop
-enum-told-2 c = search needs
 
 returns-2 : tie.Need-returns-2 Inv-loop μ-loop
 returns-2 c =
@@ -123,30 +96,6 @@ returns-2 c =
     sym (l .loop .inv .1 ∙ mark-bad _ s (l .loop .i) (l .loop .h) e)
 
 pub mark-spec : {M : Type 1} → statement M
-mark-spec =
-    tie.close
-    (tie.spec
-    Inv-loop
-    μ-loop
-    loop-holds
-    shared-slice-read-b
-    is-plain-requires
-    mul-h
-    cast-h
-    add-h
-    add-i
-    loop-less
-    loop-again
-    any-requires
-    enum-known-c
-    mul-h-2
-    cast-h-2
-    add-h-2
-    add-i-2
-    add-i-3
-    loop-less-2
-    loop-again-2
-    enum-told
-    returns
-    enum-told-2
-    returns-2)
+mark-spec = tie.close (tie.spec Inv-loop μ-loop loop-holds (λ c. search needs) (λ c κs. search needs) mul-h cast-h add-h (λ c. omega arith) (λ c. omega arith)
+    loop-again (λ c κs. search needs) (λ c. search needs) mul-h-2 (λ c. search needs) add-h-2 add-i-2 add-i-3 loop-less-2 loop-again-2 (λ c. search needs)
+    returns (λ c. search needs) returns-2)

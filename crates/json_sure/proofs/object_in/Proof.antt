@@ -35,17 +35,8 @@ Inv-loop key s at marks₀ places₀ k i₀ n₀ seen₀ marks places i n seen =
 abbrev μ-loop : tie.MeasureT-loop
 μ-loop key s at marks₀ places₀ k i₀ n₀ seen₀ marks places i n seen = length s - i
 
-space-requires : tie.Need-space-requires Inv-loop μ-loop
-space-requires c κs = search needs
-
 returns : tie.Need-returns Inv-loop μ-loop
 returns c = (judged-past _ _ _ _ 8 _ _ eight (c .before .space .ensures) (c .if1 .taken), finds-bad _ _ _)
-
-shared-slice-read-if2 : tie.Need-shared-slice-read-if2 Inv-loop μ-loop
-shared-slice-read-if2 c = search needs
-
-add-t21 : tie.Need-add-t21 Inv-loop μ-loop
-add-t21 c = search needs
 
 returns-2 : tie.Need-returns-2 Inv-loop μ-loop
 returns-2 c = (judged-empty _ _ _ _ 8 _ _ eight (c .before .before .before .space .ensures) (c .before .before .if1 .left) (c .if2 .taken), finds-empty _ _ _ _ _ (count-none _ _ _ (c .before .before .before .space .ensures) (c .before .before .if1 .left) (c .if2 .taken)))
@@ -60,35 +51,8 @@ loop-holds c =
 mul-entry : tie.Need-mul-entry Inv-loop μ-loop
 mul-entry c = omega (arith, c .loop .inv .1, c .loop .inv .2)
 
-sub-entry : tie.Need-sub-entry Inv-loop μ-loop
-sub-entry c = search needs
-
-part-entry-start : tie.Need-part-entry-start Inv-loop μ-loop
-part-entry-start c = search needs
-
-part-entry-end : tie.Need-part-entry-end Inv-loop μ-loop
-part-entry-end c = search needs
-
-entry-requires : tie.Need-entry-requires Inv-loop μ-loop
-entry-requires c κs = search needs
-
-note-place-requires : tie.Need-note-place-requires Inv-loop μ-loop
-note-place-requires c κs = search needs
-
 add-n : tie.Need-add-n Inv-loop μ-loop
 add-n c = omega (arith, c .before .before .before .before .before .before .before .before .loop .inv .0, c .before .before .before .before .before .before .before .before .loop .inv .6)
-
-enum-known-m : tie.Need-enum-known-m Inv-loop μ-loop
-enum-known-m c = search needs
-
-mark-at-requires : tie.Need-mark-at-requires Inv-loop μ-loop
-mark-at-requires c κs = search needs
-
-note-requires : tie.Need-note-requires Inv-loop μ-loop
-note-requires c κs = search needs
-
-all-or-none-requires : tie.Need-all-or-none-requires Inv-loop μ-loop
-all-or-none-requires c κs = search needs
 
 same-length : tie.Need-same-length Inv-loop μ-loop
 same-length c = c .before .before .marks2 .given ∙ c .before .before .before .before .before .before .before .before .before .before .before .before .before .before .marks .given .1 ∙ c .before .before .before .before .before .before .before .before .before .before .before .before .before .before .before .before .before .loop .inv .1
@@ -110,15 +74,6 @@ returns-3 c =
       record { place = l .loop .inv .3 _ (items-last _ _ _ _ _ (e .place)); says = l .loop .inv .4 _ (subst (λ (z : Bool). ItemsSay (a .key) (length (a .marks .now)) (a .s .now) 0x7d 7 (l .loop .i) (notedIn xs u) z) n (say-last _ _ _ _ _ _ _ (notedIn xs u) (c .before .before .before .before .mark-at .ensures) _ _ f)) },
       finds-all (a .s .now) (a .at) _ _ _ _ (found-last (a .s .now) (a .at) _ _ _ _ (c .before .before .before .before .before .before .before .before .before .before .places .given) (c .before .before .before .before .before .before .before .before .before .before .before .note-place .ensures) (l .loop .inv .7) _ (e .place)) (count-last (a .s .now) (a .at) _ _ (l .loop .inv .8) _ (e .place)) _ (c .all-or-none .ensures),
     )
-
-enum-known-m-2 : tie.Need-enum-known-m-2 Inv-loop μ-loop
-enum-known-m-2 c = search needs
-
-mark-at-requires-2 : tie.Need-mark-at-requires-2 Inv-loop μ-loop
-mark-at-requires-2 c κs = search needs
-
-note-requires-2 : tie.Need-note-requires-2 Inv-loop μ-loop
-note-requires-2 c κs = search needs
 
 loop-less : tie.Need-loop-less Inv-loop μ-loop
 loop-less c =
@@ -147,9 +102,6 @@ loop-again c =
       count-next (a .s .now) (a .at) _ _ (l .loop .inv .8) _ (e .place),
     )
 
-enum-told : tie.Need-enum-told Inv-loop μ-loop
-enum-told c = search needs
-
 same-length-3 : tie.Need-same-length-3 Inv-loop μ-loop
 same-length-3 c = c .before .before .before .before .before .before .before .marks .given .1 ∙ c .before .before .before .before .before .before .before .before .before .before .loop .inv .1
 
@@ -163,37 +115,7 @@ returns-4 c =
     (record { place = l .loop .inv .3 _ (items-neither _ _ _ _ (e .place)); says = λ j u h. tt }, finds-bad _ _ _)
 
 pub object-in-spec : {M : Type 1} → statement M
-object-in-spec =
-    tie.close
-    (tie.spec
-    Inv-loop
-    μ-loop
-    space-requires
-    returns
-    shared-slice-read-if2
-    add-t21
-    returns-2
-    loop-holds
-    mul-entry
-    sub-entry
-    part-entry-start
-    part-entry-end
-    entry-requires
-    note-place-requires
-    add-n
-    enum-known-m
-    mark-at-requires
-    note-requires
-    all-or-none-requires
-    same-length
-    same-length-2
-    returns-3
-    enum-known-m-2
-    mark-at-requires-2
-    note-requires-2
-    loop-less
-    loop-again
-    enum-told
-    same-length-3
-    same-length-4
-    returns-4)
+object-in-spec = tie.close (tie.spec Inv-loop μ-loop (λ c κs. search needs) returns (λ c. search needs) (λ c. search needs) returns-2 loop-holds mul-entry
+    (λ c. search needs) (λ c. search needs) (λ c. search needs) (λ c κs. search needs) (λ c κs. search needs) add-n (λ c. search needs) (λ c κs. search needs)
+    (λ c κs. search needs) (λ c κs. search needs) same-length same-length-2 returns-3 (λ c. search needs) (λ c κs. search needs) (λ c κs. search needs)
+    loop-less loop-again (λ c. search needs) same-length-3 same-length-4 returns-4)

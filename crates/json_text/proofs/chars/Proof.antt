@@ -26,24 +26,6 @@ abbrev μ-loop : tie.MeasureT-loop
 loop-holds : tie.Need-loop-holds Inv-loop μ-loop
 loop-holds c = (omega arith, λ r x. x)
 
-plain-requires : tie.Need-plain-requires Inv-loop μ-loop
-plain-requires c κs = search needs
-
-is-quote-requires : tie.Need-is-quote-requires Inv-loop μ-loop
-is-quote-requires c κs = search needs
-
-any-requires : tie.Need-any-requires Inv-loop μ-loop
-any-requires c κs = search needs
-
-enum-known-c : tie.Need-enum-known-c Inv-loop μ-loop
-enum-known-c c = search needs
-
-enum-told : tie.Need-enum-told Inv-loop μ-loop
-enum-told c = search needs
-
-enum-told-2 : tie.Need-enum-told-2 Inv-loop μ-loop
-enum-told-2 c = search needs
-
 add-t8 : tie.Need-add-t8 Inv-loop μ-loop
 add-t8 c =
     let l = c .before .before .before in
@@ -105,24 +87,5 @@ returns-3 c =
     l .loop .inv .1 _ (run-to s (l .loop .i) _ (c .before .before .before .before .before .plain .ensures) Read.Bad (rw (no-char s (c .before .before .before .before .before .plain .result) e) fails))
 
 pub chars-spec : {M : Type 1} → statement M
-chars-spec =
-    tie.close
-    (tie.spec
-    Inv-loop
-    μ-loop
-    loop-holds
-    plain-requires
-    is-quote-requires
-    add-t8
-    returns
-    any-requires
-    enum-known-c
-    add-i
-    add-i-2
-    loop-less
-    loop-again
-    enum-told
-    add-t10
-    returns-2
-    enum-told-2
-    returns-3)
+chars-spec = tie.close (tie.spec Inv-loop μ-loop loop-holds (λ c κs. search needs) (λ c κs. search needs) add-t8 returns (λ c κs. search needs)
+    (λ c. search needs) add-i add-i-2 loop-less loop-again (λ c. search needs) add-t10 returns-2 (λ c. search needs) returns-3)

@@ -20,21 +20,6 @@ Inv-loop s at most room bytes₀ k₀ i₀ bytes k i = fillOf most bytes k (deco
 abbrev μ-loop : tie.MeasureT-loop
 μ-loop s at most room bytes₀ k₀ i₀ bytes k i = length s - i
 
-room-for-requires : tie.Need-room-for-requires Inv-loop μ-loop
-room-for-requires c κs = search needs
-
-loop-holds : tie.Need-loop-holds Inv-loop μ-loop
-loop-holds c = refl
-
-shared-slice-read-b : tie.Need-shared-slice-read-b Inv-loop μ-loop
-shared-slice-read-b c = search needs
-
-is-plain-requires : tie.Need-is-plain-requires Inv-loop μ-loop
-is-plain-requires c κs = search needs
-
-no-copy-requires : tie.Need-no-copy-requires Inv-loop μ-loop
-no-copy-requires c κs = search needs
-
 returns : tie.Need-returns Inv-loop μ-loop
 returns c =
     let l = c .before .before .before .before .before .before in
@@ -52,12 +37,6 @@ array-write-bytes c = let l = c .before .before .before .before .before in omega
 add-k : tie.Need-add-k Inv-loop μ-loop
 add-k c = let l = c .before .before .before .before .before in omega (arith, room-36 (l .before .before .before .args .most) _ (l .before .room-for .ensures))
 
-add-i : tie.Need-add-i Inv-loop μ-loop
-add-i c = omega arith
-
-loop-less : tie.Need-loop-less Inv-loop μ-loop
-loop-less c = omega arith
-
 loop-again : tie.Need-loop-again Inv-loop μ-loop
 loop-again c =
     let l = c .before .before .before .before .before in
@@ -69,15 +48,6 @@ loop-again c =
     let e = sym (at-plain s (v .i) p) in
     copy-one (a .most) _ r (v .bytes) (v .k) s (v .i) _ _ e (c .if3 .left) (plain-ascii _ p) ∙ v .inv
 
-any-requires : tie.Need-any-requires Inv-loop μ-loop
-any-requires c κs = search needs
-
-enum-known-c : tie.Need-enum-known-c Inv-loop μ-loop
-enum-known-c c = search needs
-
-no-copy-requires-2 : tie.Need-no-copy-requires-2 Inv-loop μ-loop
-no-copy-requires-2 c κs = search needs
-
 returns-2 : tie.Need-returns-2 Inv-loop μ-loop
 returns-2 c =
     let l = c .before .before .before .before .before .before .before in
@@ -88,9 +58,6 @@ returns-2 c =
     let e = sym (c .before .before .before .c .given .1) ∙ c .before .before .before .before .before .any .ensures in
     c .no-copy2 .ensures ∙ copy-full (a .most) _ r (v .bytes) (v .k) s (v .i) _ _ e (c .before .if4 .taken) ∙ v .inv ∙ filled (a .most) (decoded (drop (a .at) s))
 
-no-copy-requires-3 : tie.Need-no-copy-requires-3 Inv-loop μ-loop
-no-copy-requires-3 c κs = search needs
-
 returns-3 : tie.Need-returns-3 Inv-loop μ-loop
 returns-3 c =
     let l = c .before .before .before .before .before .before .before .before in
@@ -100,9 +67,6 @@ returns-3 c =
     let v = l .loop in
     let e = sym (c .before .before .before .before .c .given .1) ∙ c .before .before .before .before .before .before .any .ensures in
     c .no-copy3 .ensures ∙ copy-other (a .most) _ r (v .bytes) (v .k) s (v .i) _ _ e (c .before .before .if4 .left) (c .before .if5 .taken) ∙ v .inv ∙ filled (a .most) (decoded (drop (a .at) s))
-
-cast-bytes : tie.Need-cast-bytes Inv-loop μ-loop
-cast-bytes c = search needs
 
 array-write-bytes-2 : tie.Need-array-write-bytes-2 Inv-loop μ-loop
 array-write-bytes-2 c = let l = c .before .before .before .before .before .before .before in omega (arith, room-36 (l .before .before .before .args .most) _ (l .before .room-for .ensures))
@@ -147,9 +111,6 @@ loop-again-2 c =
     let e = sym (c .before .before .before .c .given .1) ∙ c .before .before .before .before .before .any .ensures in
     copy-one (a .most) _ r (v .bytes) (v .k) s (v .i) _ _ e (c .before .if4 .left) (c .if5 .left) ∙ v .inv
 
-enum-told : tie.Need-enum-told Inv-loop μ-loop
-enum-told c = search needs
-
 returns-4 : tie.Need-returns-4 Inv-loop μ-loop
 returns-4 c =
     let l = c .before .before .before .before in
@@ -158,12 +119,6 @@ returns-4 c =
     let v = l .loop in
     let e = sym (c .enum-told .given .1) ∙ c .before .before .any .ensures in
     sym (copy-close (a .most) (v .bytes) (v .k) s (v .i) e) ∙ v .inv ∙ filled (a .most) (decoded (drop (a .at) s))
-
-enum-told-2 : tie.Need-enum-told-2 Inv-loop μ-loop
-enum-told-2 c = search needs
-
-no-copy-requires-4 : tie.Need-no-copy-requires-4 Inv-loop μ-loop
-no-copy-requires-4 c κs = search needs
 
 returns-5 : tie.Need-returns-5 Inv-loop μ-loop
 returns-5 c =
@@ -175,37 +130,7 @@ returns-5 c =
     c .no-copy4 .ensures ∙ copy-bad (a .most) (v .bytes) (v .k) s (v .i) e ∙ v .inv ∙ filled (a .most) (decoded (drop (a .at) s))
 
 pub copy-one-by-one-spec : {M : Type 1} → statement M
-copy-one-by-one-spec =
-    tie.close
-    (tie.spec
-    Inv-loop
-    μ-loop
-    room-for-requires
-    loop-holds
-    shared-slice-read-b
-    is-plain-requires
-    no-copy-requires
-    returns
-    array-write-bytes
-    add-k
-    add-i
-    loop-less
-    loop-again
-    any-requires
-    enum-known-c
-    no-copy-requires-2
-    returns-2
-    no-copy-requires-3
-    returns-3
-    cast-bytes
-    array-write-bytes-2
-    add-k-2
-    add-i-2
-    add-i-3
-    loop-less-2
-    loop-again-2
-    enum-told
-    returns-4
-    enum-told-2
-    no-copy-requires-4
-    returns-5)
+copy-one-by-one-spec = tie.close (tie.spec Inv-loop μ-loop (λ c κs. search needs) (λ c. refl) (λ c. search needs) (λ c κs. search needs) (λ c κs. search needs)
+    returns array-write-bytes add-k (λ c. omega arith) (λ c. omega arith) loop-again (λ c κs. search needs) (λ c. search needs) (λ c κs. search needs) returns-2
+    (λ c κs. search needs) returns-3 (λ c. search needs) array-write-bytes-2 add-k-2 add-i-2 add-i-3 loop-less-2 loop-again-2 (λ c. search needs) returns-4
+    (λ c. search needs) (λ c κs. search needs) returns-5)

@@ -41,12 +41,6 @@ add-k c =
     let l = c .before .before in
     omega (arith, l .loop .inv .0, l .before .pre .2)
 
-add-i : tie.Need-add-i Inv-loop μ-loop
-add-i c = omega arith
-
-loop-less : tie.Need-loop-less Inv-loop μ-loop
-loop-less c = omega arith
-
 loop-again : tie.Need-loop-again Inv-loop μ-loop
 loop-again c =
     let l = c .before .before in
@@ -69,16 +63,5 @@ returns c =
     λ most h. sym (copy-close most (v .bytes) (v .k) s (v .i) (sym (at-close s (v .i) (rw e (p .1))))) ∙ v .inv .2 most h ∙ filled most (decoded (drop (a .at) s))
 
 pub copy-plain-spec : {M : Type 1} → statement M
-copy-plain-spec =
-    tie.close
-    (tie.spec
-    Inv-loop
-    μ-loop
-    loop-holds
-    shared-slice-read-bytes
-    array-write-bytes
-    add-k
-    add-i
-    loop-less
-    loop-again
-    returns)
+copy-plain-spec = tie.close (tie.spec Inv-loop μ-loop loop-holds shared-slice-read-bytes array-write-bytes add-k (λ c. omega arith) (λ c. omega arith)
+    loop-again returns)

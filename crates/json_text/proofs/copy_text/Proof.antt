@@ -9,18 +9,6 @@ use Rattle.json_text.proofs.Copies.{room-36, room-most}
 use Rattle.json_text.proofs.copy_text.Statement.{statement}
 use Rattle.json_text.proofs.copy_text.Tie as tie
 
-plain-requires : tie.Need-plain-requires
-plain-requires c κs = search needs
-
-is-quote-requires : tie.Need-is-quote-requires
-is-quote-requires c κs = search needs
-
-sub-if2 : tie.Need-sub-if2
-sub-if2 c = search needs
-
-room-for-requires : tie.Need-room-for-requires
-room-for-requires c κs = search needs
-
 copy-plain-requires : tie.Need-copy-plain-requires
 copy-plain-requires c κs =
     let q = c .before .before .before in
@@ -34,21 +22,6 @@ returns c =
     let a = b .before .before .before .before .before .args in
     c .copy-plain .ensures (a .most) (omega (arith, p, c .before .if2 .taken, room-most (a .most) _ (b .room-for .ensures)))
 
-copy-one-by-one-requires : tie.Need-copy-one-by-one-requires
-copy-one-by-one-requires c κs = search needs
-
-returns-2 : tie.Need-returns-2
-returns-2 c = search needs
-
 pub copy-text-spec : {M : Type 1} → statement M
-copy-text-spec =
-    tie.close
-    (tie.spec
-    plain-requires
-    is-quote-requires
-    sub-if2
-    room-for-requires
-    copy-plain-requires
-    returns
-    copy-one-by-one-requires
-    returns-2)
+copy-text-spec = tie.close (tie.spec (λ c κs. search needs) (λ c κs. search needs) (λ c. search needs) (λ c κs. search needs) copy-plain-requires returns
+    (λ c κs. search needs) (λ c. search needs))

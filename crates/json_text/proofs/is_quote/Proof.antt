@@ -9,14 +9,8 @@ use borrow.Author.Needs.{needs}
 use Rattle.json_text.proofs.is_quote.Statement.{statement}
 use Rattle.json_text.proofs.is_quote.Tie as tie
 
-shared-slice-read-result : tie.Need-shared-slice-read-result
-shared-slice-read-result c = search needs
-
-returns : tie.Need-returns
-returns c = search needs
-
 returns-2 : tie.Need-returns-2
 returns-2 c = sym (ap (λ (b : ℕ). eqb b 0x22) (List·getD-eq-default (now (c .before .args .s)) _ (c .if1 .left)))
 
 pub is-quote-spec : {M : Type 1} → statement M
-is-quote-spec = tie.close (tie.spec shared-slice-read-result returns returns-2)
+is-quote-spec = tie.close (tie.spec (λ c. search needs) (λ c. search needs) returns-2)

@@ -17,21 +17,6 @@ Inv-loop s p q i₀ j₀ i j = (sameText (decoded (drop i s)) (decoded (drop j s
 abbrev μ-loop : tie.MeasureT-loop
 μ-loop s p q i₀ j₀ i j = length s - i
 
-loop-holds : tie.Need-loop-holds Inv-loop μ-loop
-loop-holds c = refl
-
-step-requires : tie.Need-step-requires Inv-loop μ-loop
-step-requires c κs = search needs
-
-step-requires-2 : tie.Need-step-requires-2 Inv-loop μ-loop
-step-requires-2 c κs = search needs
-
-enum-known-c : tie.Need-enum-known-c Inv-loop μ-loop
-enum-known-c c = search needs
-
-enum-known-d : tie.Need-enum-known-d Inv-loop μ-loop
-enum-known-d c = search needs
-
 returns : tie.Need-returns Inv-loop μ-loop
 returns c =
     let l = c .before .before .before .before .before .before .before .before .before in
@@ -95,9 +80,6 @@ loop-again c =
     let v = l .loop .inv in
     same-both s (l .loop .i) (l .loop .j) _ _ _ _ e f (c .if1 .left) ∙ v
 
-enum-told : tie.Need-enum-told Inv-loop μ-loop
-enum-told c = search needs
-
 returns-2 : tie.Need-returns-2 Inv-loop μ-loop
 returns-2 c =
     let l = c .before .before .before .before .before .before .before in
@@ -106,9 +88,6 @@ returns-2 c =
     let f = sym (c .enum-told .given .1) ∙ c .before .before .before .before .before .step2 .ensures in
     let v = l .loop .inv in
     same-longer s (l .loop .i) (l .loop .j) _ _ e f ∙ v
-
-enum-told-2 : tie.Need-enum-told-2 Inv-loop μ-loop
-enum-told-2 c = search needs
 
 returns-3 : tie.Need-returns-3 Inv-loop μ-loop
 returns-3 c =
@@ -119,12 +98,6 @@ returns-3 c =
     let v = l .loop .inv in
     same-bad-2 s (l .loop .i) (l .loop .j) f ∙ v
 
-enum-told-3 : tie.Need-enum-told-3 Inv-loop μ-loop
-enum-told-3 c = search needs
-
-enum-told-4 : tie.Need-enum-told-4 Inv-loop μ-loop
-enum-told-4 c = search needs
-
 returns-4 : tie.Need-returns-4 Inv-loop μ-loop
 returns-4 c =
     let l = c .before .before .before .before .before .before in
@@ -133,9 +106,6 @@ returns-4 c =
     let f = sym (c .enum-told4 .given .1) ∙ c .before .before .before .before .step2 .ensures in
     let v = l .loop .inv in
     same-shorter s (l .loop .i) (l .loop .j) _ _ e f ∙ v
-
-enum-told-5 : tie.Need-enum-told-5 Inv-loop μ-loop
-enum-told-5 c = search needs
 
 returns-5 : tie.Need-returns-5 Inv-loop μ-loop
 returns-5 c =
@@ -146,9 +116,6 @@ returns-5 c =
     let v = l .loop .inv in
     same-done s (l .loop .i) (l .loop .j) e f ∙ v
 
-enum-told-6 : tie.Need-enum-told-6 Inv-loop μ-loop
-enum-told-6 c = search needs
-
 returns-6 : tie.Need-returns-6 Inv-loop μ-loop
 returns-6 c =
     let l = c .before .before .before .before .before .before in
@@ -157,9 +124,6 @@ returns-6 c =
     let f = sym (c .enum-told6 .given .1) ∙ c .before .before .before .before .step2 .ensures in
     let v = l .loop .inv in
     same-bad-2 s (l .loop .i) (l .loop .j) f ∙ v
-
-enum-told-7 : tie.Need-enum-told-7 Inv-loop μ-loop
-enum-told-7 c = search needs
 
 returns-7 : tie.Need-returns-7 Inv-loop μ-loop
 returns-7 c =
@@ -170,33 +134,6 @@ returns-7 c =
     same-bad-1 s (l .loop .i) (l .loop .j) e ∙ v
 
 pub same-spec : {M : Type 1} → statement M
-same-spec =
-    tie.close
-    (tie.spec
-    Inv-loop
-    μ-loop
-    loop-holds
-    step-requires
-    step-requires-2
-    enum-known-c
-    enum-known-d
-    returns
-    add-i
-    add-i-2
-    add-j
-    add-j-2
-    loop-less
-    loop-again
-    enum-told
-    returns-2
-    enum-told-2
-    returns-3
-    enum-told-3
-    enum-told-4
-    returns-4
-    enum-told-5
-    returns-5
-    enum-told-6
-    returns-6
-    enum-told-7
-    returns-7)
+same-spec = tie.close (tie.spec Inv-loop μ-loop (λ c. refl) (λ c κs. search needs) (λ c κs. search needs) (λ c. search needs) (λ c. search needs) returns add-i
+    add-i-2 add-j add-j-2 loop-less loop-again (λ c. search needs) returns-2 (λ c. search needs) returns-3 (λ c. search needs) (λ c. search needs) returns-4
+    (λ c. search needs) returns-5 (λ c. search needs) returns-6 (λ c. search needs) returns-7)

@@ -19,18 +19,6 @@ abbrev μ-loop : tie.MeasureT-loop
 loop-holds : tie.Need-loop-holds Inv-loop μ-loop
 loop-holds c = (omega arith, λ h. h, refl)
 
-shared-slice-read-is-space : tie.Need-shared-slice-read-is-space Inv-loop μ-loop
-shared-slice-read-is-space c = omega arith
-
-is-space-requires : tie.Need-is-space-requires Inv-loop μ-loop
-is-space-requires c κs = search needs
-
-add-i : tie.Need-add-i Inv-loop μ-loop
-add-i c = omega arith
-
-loop-less : tie.Need-loop-less Inv-loop μ-loop
-loop-less c = omega arith
-
 loop-again : tie.Need-loop-again Inv-loop μ-loop
 loop-again c =
     let l = c .before .before .before .before in
@@ -45,16 +33,5 @@ returns-2 : tie.Need-returns-2 Inv-loop μ-loop
 returns-2 c = record { from = c .before .loop .inv .0; within = c .before .loop .inv .1; rest = c .before .loop .inv .2 ∙ skip-end _ _ (c .loop-test .left) }
 
 pub space-spec : {M : Type 1} → statement M
-space-spec =
-    tie.close
-    (tie.spec
-    Inv-loop
-    μ-loop
-    loop-holds
-    shared-slice-read-is-space
-    is-space-requires
-    add-i
-    loop-less
-    loop-again
-    returns
+space-spec = tie.close (tie.spec Inv-loop μ-loop loop-holds (λ c. omega arith) (λ c κs. search needs) (λ c. omega arith) (λ c. omega arith) loop-again returns
     returns-2)

@@ -5,12 +5,6 @@ use borrow.Author.Needs.{needs}
 use Rattle.json_value.proofs.start.Statement.{statement}
 use Rattle.json_value.proofs.start.Tie as tie
 
-space-requires : tie.Need-space-requires
-space-requires c κs = search needs
-
-name-requires : tie.Need-name-requires
-name-requires c κs = search needs
-
 returns : tie.Need-returns
 returns c = start-name _ _ _ _ (c .before .before .space .ensures) (c .before .if1 .taken) _ (c .name .ensures)
 
@@ -21,4 +15,4 @@ returns-3 : tie.Need-returns-3
 returns-3 c = start-here _ _ _ _ (c .before .before .space .ensures) (c .before .if1 .left) (c .if2 .left)
 
 pub start-spec : {M : Type 1} → statement M
-start-spec = tie.close (tie.spec space-requires name-requires returns returns-2 returns-3)
+start-spec = tie.close (tie.spec (λ c κs. search needs) (λ c κs. search needs) returns returns-2 returns-3)

@@ -23,27 +23,12 @@ loop-holds c = (omega arith, c .pre, omega arith, λ j r x. x)
 returns : tie.Need-returns Inv-loop μ-loop
 returns c = λ j. c .before .before .loop .inv .3 j _ (word-short _ _ _ _ j (c .if1 .taken) (c .before .loop-test .taken))
 
-shared-slice-read-if2 : tie.Need-shared-slice-read-if2 Inv-loop μ-loop
-shared-slice-read-if2 c = omega arith
-
-shared-slice-read-if2-2 : tie.Need-shared-slice-read-if2-2 Inv-loop μ-loop
-shared-slice-read-if2-2 c = omega arith
-
 returns-2 : tie.Need-returns-2 Inv-loop μ-loop
 returns-2 c =
     let l = c .before .before .before .before .before in
     let g = c .before .before .before .before .loop-test .taken in
     let h = c .before .before .before .if1 .left in
     λ j. l .loop .inv .3 j _ (word-other _ _ _ _ j h g (c .if2 .taken))
-
-add-i : tie.Need-add-i Inv-loop μ-loop
-add-i c = omega arith
-
-add-k : tie.Need-add-k Inv-loop μ-loop
-add-k c = omega arith
-
-loop-less : tie.Need-loop-less Inv-loop μ-loop
-loop-less c = omega arith
 
 loop-again : tie.Need-loop-again Inv-loop μ-loop
 loop-again c =
@@ -56,18 +41,5 @@ returns-3 : tie.Need-returns-3 Inv-loop μ-loop
 returns-3 c = λ j. c .before .loop .inv .3 j _ (word-done _ _ _ _ j (c .before .loop .inv .1) (c .loop-test .left))
 
 pub word-spec : {M : Type 1} → statement M
-word-spec =
-    tie.close
-    (tie.spec
-    Inv-loop
-    μ-loop
-    loop-holds
-    returns
-    shared-slice-read-if2
-    shared-slice-read-if2-2
-    returns-2
-    add-i
-    add-k
-    loop-less
-    loop-again
-    returns-3)
+word-spec = tie.close (tie.spec Inv-loop μ-loop loop-holds returns (λ c. omega arith) (λ c. omega arith) returns-2 (λ c. omega arith) (λ c. omega arith)
+    (λ c. omega arith) loop-again returns-3)

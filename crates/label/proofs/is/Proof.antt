@@ -6,22 +6,10 @@ use borrow.Author.Needs.{needs}
 use Rattle.label.proofs.is.Statement.{statement}
 use Rattle.label.proofs.is.Tie as tie
 
-size-requires : tie.Need-size-requires
-size-requires c κs = search needs
-
-sub-same : tie.Need-sub-same
-sub-same c = search needs
-
-part-same-start : tie.Need-part-same-start
-part-same-start c = search needs
-
 part-same-end : tie.Need-part-same-end
 part-same-end c =
     let e : length (c .before .before .before .before .args .l .bytes) ≡ 32 = search needs in
     search needs
-
-same-requires : tie.Need-same-requires
-same-requires c κs = search needs
 
 returns : tie.Need-returns
 returns c =
@@ -31,5 +19,4 @@ returns c =
     rw (← k) (same-is _ _ (c .same .result) (e .0) (e .1))
 
 pub is-spec : {M : Type 1} → statement M
-is-spec =
-    tie.close (tie.spec size-requires sub-same part-same-start part-same-end same-requires returns)
+is-spec = tie.close (tie.spec (λ c κs. search needs) (λ c. search needs) (λ c. search needs) part-same-end (λ c κs. search needs) returns)

@@ -14,31 +14,13 @@ Inv-loop s n bytes₀ i₀ bytes i = (i ≤ n) × (bytes ≡ padded 32 0 (take i
 abbrev μ-loop : tie.MeasureT-loop
 μ-loop s n bytes₀ i₀ bytes i = n - i
 
-at-most-32-requires : tie.Need-at-most-32-requires Inv-loop μ-loop
-at-most-32-requires c κs = search needs
-
 loop-holds : tie.Need-loop-holds Inv-loop μ-loop
 loop-holds c = (search needs, refl)
-
-shared-slice-read-bytes : tie.Need-shared-slice-read-bytes Inv-loop μ-loop
-shared-slice-read-bytes c = search needs
-
-array-write-bytes : tie.Need-array-write-bytes Inv-loop μ-loop
-array-write-bytes c = search needs
-
-add-i : tie.Need-add-i Inv-loop μ-loop
-add-i c = search needs
-
-loop-less : tie.Need-loop-less Inv-loop μ-loop
-loop-less c = search needs
 
 loop-again : tie.Need-loop-again Inv-loop μ-loop
 loop-again c =
     let l = c .before .before .loop in
     (search needs, rw (l .inv .1) (copy-one 32 0 0 _ (l .i) (search needs) (search needs)))
-
-cast-t12 : tie.Need-cast-t12 Inv-loop μ-loop
-cast-t12 c = search needs
 
 returns : tie.Need-returns Inv-loop μ-loop
 returns c =
@@ -50,17 +32,5 @@ returns c =
     simp (c .before .loop .inv .1, e, k)
 
 pub of-spec : {M : Type 1} → statement M
-of-spec =
-    tie.close
-    (tie.spec
-    Inv-loop
-    μ-loop
-    at-most-32-requires
-    loop-holds
-    shared-slice-read-bytes
-    array-write-bytes
-    add-i
-    loop-less
-    loop-again
-    cast-t12
-    returns)
+of-spec = tie.close (tie.spec Inv-loop μ-loop (λ c κs. search needs) loop-holds (λ c. search needs) (λ c. search needs) (λ c. search needs) (λ c. search needs)
+    loop-again (λ c. search needs) returns)

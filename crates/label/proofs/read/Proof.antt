@@ -17,59 +17,11 @@ use Rattle.label.proofs.read.Tie as tie
 text : (s : List ℕ) (at n : ℕ) → n ≡ getD s at 0 → take (at + 1 + n - (at + 1)) (drop (at + 1) s) ≡ textAt s at
 text s at n e = ap (λ (m : ℕ). take m (drop (at + 1) s)) (add-sub-cancel-left (at + 1) n ∙ e)
 
-missed-requires : tie.Need-missed-requires
-missed-requires c κs = search needs
-
 returns : tie.Need-returns
 returns c = c .missed .ensures ∙ sym (read-behind _ _ (c .before .if1 .taken))
 
-shared-slice-read-wide : tie.Need-shared-slice-read-wide
-shared-slice-read-wide c = search needs
-
-wide-requires : tie.Need-wide-requires
-wide-requires c κs = search needs
-
-add-from : tie.Need-add-from
-add-from c = search needs
-
-sub-if2 : tie.Need-sub-if2
-sub-if2 c = search needs
-
-missed-requires-2 : tie.Need-missed-requires-2
-missed-requires-2 c κs = search needs
-
 returns-2 : tie.Need-returns-2
 returns-2 c = c .missed2 .ensures ∙ sym (read-cut _ _ (c .before .before .before .before .if1 .left) (rw (c .before .before .wide .ensures) at (c .before .if2 .taken)))
-
-add-end : tie.Need-add-end
-add-end c = search needs
-
-sub-is-label : tie.Need-sub-is-label
-sub-is-label c = search needs
-
-part-is-label-start : tie.Need-part-is-label-start
-part-is-label-start c = search needs
-
-part-is-label-end : tie.Need-part-is-label-end
-part-is-label-end c = search needs
-
-is-label-requires : tie.Need-is-label-requires
-is-label-requires c κs = search needs
-
-sub-of : tie.Need-sub-of
-sub-of c = search needs
-
-part-of-start : tie.Need-part-of-start
-part-of-start c = search needs
-
-part-of-end : tie.Need-part-of-end
-part-of-end c = search needs
-
-of-requires : tie.Need-of-requires
-of-requires c κs = search needs
-
-missed-requires-3 : tie.Need-missed-requires-3
-missed-requires-3 c κs = search needs
 
 returns-3 : tie.Need-returns-3
 returns-3 c =
@@ -93,26 +45,6 @@ returns-4 c =
     c .missed3 .ensures ∙ sym (read-no-label s (a .at) (p .before .before .before .if1 .left) (rw w at (p .if2 .left)) g)
 
 pub read-spec : {M : Type 1} → statement M
-read-spec =
-    tie.close
-    (tie.spec
-    missed-requires
-    returns
-    shared-slice-read-wide
-    wide-requires
-    add-from
-    sub-if2
-    missed-requires-2
-    returns-2
-    add-end
-    sub-is-label
-    part-is-label-start
-    part-is-label-end
-    is-label-requires
-    sub-of
-    part-of-start
-    part-of-end
-    of-requires
-    missed-requires-3
-    returns-3
-    returns-4)
+read-spec = tie.close (tie.spec (λ c κs. search needs) returns (λ c. search needs) (λ c κs. search needs) (λ c. search needs) (λ c. search needs)
+    (λ c κs. search needs) returns-2 (λ c. search needs) (λ c. search needs) (λ c. search needs) (λ c. search needs) (λ c κs. search needs) (λ c. search needs)
+    (λ c. search needs) (λ c. search needs) (λ c κs. search needs) (λ c κs. search needs) returns-3 returns-4)

@@ -18,23 +18,11 @@ Inv-loop s first end bytes starts lengths i₀ i = findIn s first (end - first) 
 abbrev μ-loop : tie.MeasureT-loop
 μ-loop s first end bytes starts lengths i₀ i = end - i
 
-loop-holds : tie.Need-loop-holds Inv-loop μ-loop
-loop-holds c = refl
-
-is-name-in-requires : tie.Need-is-name-in-requires Inv-loop μ-loop
-is-name-in-requires c κs = search needs
-
 returns : tie.Need-returns Inv-loop μ-loop
 returns c =
     let l = c .before .before .before .loop in
     let a = c .before .before .before .before .before .before .before .before .args in
     sym (l .inv ∙ turn (a .s .now) (l .i) (a .end) (search needs) ∙ ap (λ (b : Bool). pick b (At (l .i)) (findIn (a .s .now) (l .i + 1) (a .end - (l .i + 1)))) (sym (c .before .is-name-in .ensures) ∙ c .if1 .taken))
-
-add-i : tie.Need-add-i Inv-loop μ-loop
-add-i c = search needs
-
-loop-less : tie.Need-loop-less Inv-loop μ-loop
-loop-less c = search needs
 
 loop-again : tie.Need-loop-again Inv-loop μ-loop
 loop-again c =
@@ -50,15 +38,4 @@ returns-2 c =
     sym (l .inv ∙ ap (findIn (a .s .now) (l .i)) e)
 
 pub find-in-spec : {M : Type 1} → statement M
-find-in-spec =
-    tie.close
-    (tie.spec
-    Inv-loop
-    μ-loop
-    loop-holds
-    is-name-in-requires
-    returns
-    add-i
-    loop-less
-    loop-again
-    returns-2)
+find-in-spec = tie.close (tie.spec Inv-loop μ-loop (λ c. refl) (λ c κs. search needs) returns (λ c. search needs) (λ c. search needs) loop-again returns-2)

@@ -10,17 +10,11 @@ use Rattle.names.proofs.is_name_in.Tie as tie
 returns : tie.Need-returns
 returns c = past-names (c .before .before .before .before .before .pre) (now (c .before .before .before .before .before .args .s)) (c .before .before .before .before .before .args .i) (c .if1 .taken)
 
-shared-slice-read-length : tie.Need-shared-slice-read-length
-shared-slice-read-length c = search needs
-
 cast-length : tie.Need-cast-length
 cast-length c = omega (arith, few-bytes (c .before .before .before .before .before .before .pre) (now (c .before .before .before .before .before .before .args .s)) (c .before .before .before .before .before .before .args .i) (c .before .if1 .left))
 
 returns-2 : tie.Need-returns-2
 returns-2 c = other-length (c .before .before .before .before .before .before .before .pre) (now (c .before .before .before .before .before .before .before .args .s)) (c .before .before .before .before .before .before .before .args .i) (c .before .before .if1 .left) (c .if2 .taken)
-
-mul-start : tie.Need-mul-start
-mul-start c = search needs
 
 shared-slice-read-start : tie.Need-shared-slice-read-start
 shared-slice-read-start c = has-start (c .before .before .before .before .before .before .before .before .pre) (now (c .before .before .before .before .before .before .before .before .args .s)) (c .before .before .before .before .before .before .before .before .args .i) (c .before .before .before .if1 .left)
@@ -31,35 +25,12 @@ cast-start c = omega (arith, few-bytes (c .before .before .before .before .befor
 add-end : tie.Need-add-end
 add-end c = omega (arith, few-bytes (c .before .before .before .before .before .before .before .before .pre) (now (c .before .before .before .before .before .before .before .before .args .s)) (c .before .before .before .before .before .before .before .before .args .i) (c .before .before .before .if1 .left))
 
-sub-same : tie.Need-sub-same
-sub-same c = search needs
-
-part-same-start : tie.Need-part-same-start
-part-same-start c = search needs
-
 part-same-end : tie.Need-part-same-end
 part-same-end c = in-bytes (c .before .before .before .before .before .before .before .before .pre) (now (c .before .before .before .before .before .before .before .before .args .s)) (c .before .before .before .before .before .before .before .before .args .i) (c .before .before .before .if1 .left)
-
-same-requires : tie.Need-same-requires
-same-requires c κs = search needs
 
 returns-3 : tie.Need-returns-3
 returns-3 c = same-part (c .before .before .before .before .before .before .before .before .before .before .pre) (now (c .before .before .before .before .before .before .before .before .before .before .args .s)) (c .before .before .before .before .before .before .before .before .before .before .args .i) (c .before .before .before .before .before .if1 .left) (c .same .result) (c .same .ensures .0) (c .same .ensures .1)
 
 pub is-name-in-spec : {M : Type 1} → statement M
-is-name-in-spec =
-    tie.close
-    (tie.spec
-    returns
-    shared-slice-read-length
-    cast-length
-    returns-2
-    mul-start
-    shared-slice-read-start
-    cast-start
-    add-end
-    sub-same
-    part-same-start
-    part-same-end
-    same-requires
-    returns-3)
+is-name-in-spec = tie.close (tie.spec returns (λ c. search needs) cast-length returns-2 (λ c. search needs) shared-slice-read-start cast-start add-end
+    (λ c. search needs) (λ c. search needs) part-same-end (λ c κs. search needs) returns-3)

@@ -19,18 +19,6 @@ abbrev μ-loop : tie.MeasureT-loop
 loop-holds : tie.Need-loop-holds Inv-loop μ-loop
 loop-holds c = (search needs, omega arith, omega arith, omega arith, sym (append-nil (digits (c .args .n))))
 
-last-digit-requires : tie.Need-last-digit-requires Inv-loop μ-loop
-last-digit-requires c κs = search needs
-
-array-write-bytes : tie.Need-array-write-bytes Inv-loop μ-loop
-array-write-bytes c = search needs
-
-sub-from : tie.Need-sub-from Inv-loop μ-loop
-sub-from c = search needs
-
-loop-less : tie.Need-loop-less Inv-loop μ-loop
-loop-less c = search needs
-
 loop-again : tie.Need-loop-again Inv-loop μ-loop
 loop-again c =
     let l = c .before .before .loop in
@@ -43,12 +31,6 @@ loop-again c =
       rw (c .last-digit .ensures) (turn (l .bytes) (c .before .before .before .args .n) (l .left) (l .from) (omega arith) (l .inv .4) h (omega arith)),
     )
 
-last-digit-requires-2 : tie.Need-last-digit-requires-2 Inv-loop μ-loop
-last-digit-requires-2 c κs = search needs
-
-array-write-bytes-2 : tie.Need-array-write-bytes-2 Inv-loop μ-loop
-array-write-bytes-2 c = search needs
-
 returns : tie.Need-returns Inv-loop μ-loop
 returns c =
     let l = c .before .before .loop in (
@@ -58,17 +40,5 @@ returns c =
     )
 
 pub digits-of-spec : {M : Type 1} → statement M
-digits-of-spec =
-    tie.close
-    (tie.spec
-    Inv-loop
-    μ-loop
-    loop-holds
-    last-digit-requires
-    array-write-bytes
-    sub-from
-    loop-less
-    loop-again
-    last-digit-requires-2
-    array-write-bytes-2
-    returns)
+digits-of-spec = tie.close (tie.spec Inv-loop μ-loop loop-holds (λ c κs. search needs) (λ c. search needs) (λ c. search needs) (λ c. search needs) loop-again
+    (λ c κs. search needs) (λ c. search needs) returns)

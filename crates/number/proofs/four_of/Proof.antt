@@ -5,24 +5,6 @@ use borrow.Author.Needs.{needs}
 use Rattle.number.proofs.four_of.Statement.{statement}
 use Rattle.number.proofs.four_of.Tie as tie
 
-word-of-requires : tie.Need-word-of-requires
-word-of-requires c κs = search needs
-
-cast-w : tie.Need-cast-w
-cast-w c = search needs
-
-byte-requires : tie.Need-byte-requires
-byte-requires c κs = search needs
-
-byte-requires-2 : tie.Need-byte-requires-2
-byte-requires-2 c κs = search needs
-
-byte-requires-3 : tie.Need-byte-requires-3
-byte-requires-3 c κs = search needs
-
-byte-requires-4 : tie.Need-byte-requires-4
-byte-requires-4 c κs = search needs
-
 returns : tie.Need-returns
 returns c =
     let w = c .before .before .before .before .word-of in
@@ -31,13 +13,5 @@ returns c =
     rw (c .byte4 .ensures, c .before .byte3 .ensures, c .before .before .byte2 .ensures, c .before .before .before .byte .ensures, e)
 
 pub four-of-spec : {M : Type 1} → statement M
-four-of-spec =
-    tie.close
-    (tie.spec
-    word-of-requires
-    cast-w
-    byte-requires
-    byte-requires-2
-    byte-requires-3
-    byte-requires-4
-    returns)
+four-of-spec = tie.close (tie.spec (λ c κs. search needs) (λ c. search needs) (λ c κs. search needs) (λ c κs. search needs) (λ c κs. search needs)
+    (λ c κs. search needs) returns)

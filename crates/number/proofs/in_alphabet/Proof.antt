@@ -2,20 +2,5 @@ use Rattle.basis.proofs.Tests.{tests}
 use Rattle.number.proofs.in_alphabet.Statement.{statement}
 use Rattle.number.proofs.in_alphabet.Tie as tie
 
-returns : tie.Need-returns
-returns c = search tests
-
-returns-2 : tie.Need-returns-2
-returns-2 c = search tests
-
-returns-3 : tie.Need-returns-3
-returns-3 c = search tests
-
-returns-4 : tie.Need-returns-4
-returns-4 c = search tests
-
-returns-5 : tie.Need-returns-5
-returns-5 c = search tests
-
 pub in-alphabet-spec : {M : Type 1} → statement M
-in-alphabet-spec = tie.close (tie.spec returns returns-2 returns-3 returns-4 returns-5)
+in-alphabet-spec = tie.close (tie.spec (λ c. search tests) (λ c. search tests) (λ c. search tests) (λ c. search tests) (λ c. search tests))

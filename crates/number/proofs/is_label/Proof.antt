@@ -16,20 +16,8 @@ Inv-loop s i₀ i = (i ≤ length s) × (allInAlphabet s ≡ allInAlphabet (drop
 abbrev μ-loop : tie.MeasureT-loop
 μ-loop s i₀ i = length s - i
 
-returns : tie.Need-returns Inv-loop μ-loop
-returns c = search tests
-
-returns-2 : tie.Need-returns-2 Inv-loop μ-loop
-returns-2 c = search tests
-
 loop-holds : tie.Need-loop-holds Inv-loop μ-loop
 loop-holds c = (search needs, refl)
-
-shared-slice-read-in-alphabet : tie.Need-shared-slice-read-in-alphabet Inv-loop μ-loop
-shared-slice-read-in-alphabet c = search needs
-
-in-alphabet-requires : tie.Need-in-alphabet-requires Inv-loop μ-loop
-in-alphabet-requires c κs = search needs
 
 returns-3 : tie.Need-returns-3 Inv-loop μ-loop
 returns-3 c =
@@ -38,12 +26,6 @@ returns-3 c =
     let s = c .before .before .before .before .before .before .before .before .args .s .now in
     let e : inAlphabet (getD s (l .i) 0) ≡ false = sym (a .ensures) ∙ not-taken (a .result) (c .if3 .taken) in
     sym (no-label s (l .inv .1 ∙ turn s (l .i) (c .before .before .before .loop-test .taken) ∙ ap (λ (b : Bool). both b (allInAlphabet (drop (l .i + 1) s))) e))
-
-add-i : tie.Need-add-i Inv-loop μ-loop
-add-i c = search needs
-
-loop-less : tie.Need-loop-less Inv-loop μ-loop
-loop-less c = search needs
 
 loop-again : tie.Need-loop-again Inv-loop μ-loop
 loop-again c =
@@ -60,18 +42,5 @@ returns-4 c =
     sym (label s (c .before .before .before .if1 .left) (c .before .before .if2 .left) (l .inv .1 ∙ all-read s (l .i) (c .loop-test .left)))
 
 pub is-label-spec : {M : Type 1} → statement M
-is-label-spec =
-    tie.close
-    (tie.spec
-    Inv-loop
-    μ-loop
-    returns
-    returns-2
-    loop-holds
-    shared-slice-read-in-alphabet
-    in-alphabet-requires
-    returns-3
-    add-i
-    loop-less
-    loop-again
-    returns-4)
+is-label-spec = tie.close (tie.spec Inv-loop μ-loop (λ c. search tests) (λ c. search tests) loop-holds (λ c. search needs) (λ c κs. search needs) returns-3
+    (λ c. search needs) (λ c. search needs) loop-again returns-4)

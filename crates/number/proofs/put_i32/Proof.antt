@@ -9,27 +9,6 @@ use borrow.Author.Needs.{needs}
 use Rattle.number.proofs.put_i32.Statement.{statement}
 use Rattle.number.proofs.put_i32.Tie as tie
 
-word-of-requires : tie.Need-word-of-requires
-word-of-requires c κs = search needs
-
-cast-put-decimal : tie.Need-cast-put-decimal
-cast-put-decimal c = search needs
-
-put-decimal-requires : tie.Need-put-decimal-requires
-put-decimal-requires c κs = search needs
-
-cast-put-negative : tie.Need-cast-put-negative
-cast-put-negative c = search needs
-
-sub-put-negative : tie.Need-sub-put-negative
-sub-put-negative c = search needs
-
-put-negative-requires : tie.Need-put-negative-requires
-put-negative-requires c κs = search needs
-
-same-length : tie.Need-same-length
-same-length c = search needs
-
 returns : tie.Need-returns
 returns c =
     let w = c .before .before .before .before .before .word-of in
@@ -37,9 +16,6 @@ returns c =
     let e : w .result ≡ wordOf (s .args .v) = w .ensures ∙ ap wordOf (toZ-ofZ (s .fits .v)) in
     let h : wordOf (s .args .v) < 2 ^ 31 = omega (arith, e, c .before .before .before .before .if1 .taken) in
     rw (decimal-pos (s .args .v) (signed-fits (s .args .v) (s .fits .v)) h, ← e) (c .before .before .put-decimal .ensures)
-
-same-length-2 : tie.Need-same-length-2
-same-length-2 c = search needs
 
 returns-2 : tie.Need-returns-2
 returns-2 c =
@@ -50,16 +26,5 @@ returns-2 c =
     rw (decimal-neg (s .args .v) (signed-fits (s .args .v) (s .fits .v)) h, ← e) (c .before .before .put-negative .ensures)
 
 pub put-i32-spec : {M : Type 1} → statement M
-put-i32-spec =
-    tie.close
-    (tie.spec
-    word-of-requires
-    cast-put-decimal
-    put-decimal-requires
-    cast-put-negative
-    sub-put-negative
-    put-negative-requires
-    same-length
-    returns
-    same-length-2
-    returns-2)
+put-i32-spec = tie.close (tie.spec (λ c κs. search needs) (λ c. search needs) (λ c κs. search needs) (λ c. search needs) (λ c. search needs)
+    (λ c κs. search needs) (λ c. search needs) returns (λ c. search needs) returns-2)

@@ -9,32 +9,11 @@ use borrow.Author.Needs.{needs}
 use Rattle.number.proofs.put_negative.Statement.{statement}
 use Rattle.number.proofs.put_negative.Tie as tie
 
-digits-of-requires : tie.Need-digits-of-requires
-digits-of-requires c κs = search needs
-
-sub-from : tie.Need-sub-from
-sub-from c = search needs
-
-array-write-bytes : tie.Need-array-write-bytes
-array-write-bytes c = search needs
-
-sub-put-bytes : tie.Need-sub-put-bytes
-sub-put-bytes c = search needs
-
-part-put-bytes-start : tie.Need-part-put-bytes-start
-part-put-bytes-start c = search needs
-
 part-put-bytes-end : tie.Need-part-put-bytes-end
 part-put-bytes-end c =
     let t = c .before .before .before .before .digits-of in
     let l : length (t .result .bytes) ≡ 21 = search needs in
     simp length-set (omega (arith, l))
-
-put-bytes-requires : tie.Need-put-bytes-requires
-put-bytes-requires c κs = search needs
-
-same-length : tie.Need-same-length
-same-length c = search needs
 
 returns : tie.Need-returns
 returns c =
@@ -48,15 +27,5 @@ returns c =
     rw (← e) (c .before .before .put-bytes .ensures)
 
 pub put-negative-spec : {M : Type 1} → statement M
-put-negative-spec =
-    tie.close
-    (tie.spec
-    digits-of-requires
-    sub-from
-    array-write-bytes
-    sub-put-bytes
-    part-put-bytes-start
-    part-put-bytes-end
-    put-bytes-requires
-    same-length
-    returns)
+put-negative-spec = tie.close (tie.spec (λ c κs. search needs) (λ c. search needs) (λ c. search needs) (λ c. search needs) (λ c. search needs)
+    part-put-bytes-end (λ c κs. search needs) (λ c. search needs) returns)

@@ -13,31 +13,13 @@ use Rattle.number.proofs.read_decimal.Tie as tie
 returns : tie.Need-returns
 returns c = too-long (c .before .before .fits .limit .fits) (c .if1 .taken)
 
-said-requires : tie.Need-said-requires
-said-requires c κs = search needs
-
 returns-2 : tie.Need-returns-2
 returns-2 c = too-much (omega (arith, c .before .said .ensures, c .if2 .taken))
-
-digits-of-requires : tie.Need-digits-of-requires
-digits-of-requires c κs = search needs
-
-sub-same : tie.Need-sub-same
-sub-same c = search needs
-
-part-same-start : tie.Need-part-same-start
-part-same-start c = search needs
 
 part-same-end : tie.Need-part-same-end
 part-same-end c =
     let l : length (c .before .before .digits-of .result .bytes) ≡ 21 = search needs in
     omega (arith, l)
-
-same-requires : tie.Need-same-requires
-same-requires c κs = search needs
-
-cast-t16 : tie.Need-cast-t16
-cast-t16 c = search needs
 
 returns-3 : tie.Need-returns-3
 returns-3 c =
@@ -54,17 +36,5 @@ returns-4 c =
     unlike (λ q. let k = c .before .same .ensures .1 (q ∙ sym e) in let z : _≡_ {A = ℕ} 0 1 = cc (k, c .if3 .left) in omega arith)
 
 pub read-decimal-spec : {M : Type 1} → statement M
-read-decimal-spec =
-    tie.close
-    (tie.spec
-    returns
-    said-requires
-    returns-2
-    digits-of-requires
-    sub-same
-    part-same-start
-    part-same-end
-    same-requires
-    cast-t16
-    returns-3
-    returns-4)
+read-decimal-spec = tie.close (tie.spec returns (λ c κs. search needs) returns-2 (λ c κs. search needs) (λ c. search needs) (λ c. search needs) part-same-end
+    (λ c κs. search needs) (λ c. search needs) returns-3 returns-4)

@@ -19,21 +19,6 @@ use Rattle.number.proofs.read_i32.Tie as tie
 returns : tie.Need-returns
 returns c = no-text (c .before .before .args .s .now) (c .if1 .taken)
 
-shared-slice-read-if2 : tie.Need-shared-slice-read-if2
-shared-slice-read-if2 c = search needs
-
-sub-read-negative : tie.Need-sub-read-negative
-sub-read-negative c = search needs
-
-part-read-negative-start : tie.Need-part-read-negative-start
-part-read-negative-start c = search needs
-
-part-read-negative-end : tie.Need-part-read-negative-end
-part-read-negative-end c = search needs
-
-read-negative-requires : tie.Need-read-negative-requires
-read-negative-requires c κs = search needs
-
 returns-2 : tie.Need-returns-2
 returns-2 c =
     let s = c .before .before .before .before .before .before .args .s .now in
@@ -43,18 +28,6 @@ returns-2 c =
     ∙ ap (λ (b : ℕ). b ∷ drop 1 s) (sym (c .before .before .if2 .taken))
     ∙ sym (drop-cons s 0 0 h) in
     subst (λ (l : List ℕ). ReadsInt l (c .read-negative .result)) e (c .read-negative .ensures)
-
-read-decimal-requires : tie.Need-read-decimal-requires
-read-decimal-requires c κs = search needs
-
-enum-known-n : tie.Need-enum-known-n
-enum-known-n c = search needs
-
-signed-of-requires : tie.Need-signed-of-requires
-signed-of-requires c κs = search needs
-
-enum-told : tie.Need-enum-told
-enum-told c = search needs
 
 returns-3 : tie.Need-returns-3
 returns-3 c =
@@ -72,19 +45,5 @@ returns-4 c =
     (c .before .before .before .if2 .left)
 
 pub read-i32-spec : {M : Type 1} → statement M
-read-i32-spec =
-    tie.close
-    (tie.spec
-    returns
-    shared-slice-read-if2
-    sub-read-negative
-    part-read-negative-start
-    part-read-negative-end
-    read-negative-requires
-    returns-2
-    read-decimal-requires
-    enum-known-n
-    signed-of-requires
-    enum-told
-    returns-3
-    returns-4)
+read-i32-spec = tie.close (tie.spec returns (λ c. search needs) (λ c. search needs) (λ c. search needs) (λ c. search needs) (λ c κs. search needs) returns-2
+    (λ c κs. search needs) (λ c. search needs) (λ c κs. search needs) (λ c. search needs) returns-3 returns-4)

@@ -12,28 +12,10 @@ use borrow.Author.Needs.{needs}
 use Rattle.number.proofs.read_negative.Statement.{statement}
 use Rattle.number.proofs.read_negative.Tie as tie
 
-read-decimal-requires : tie.Need-read-decimal-requires
-read-decimal-requires c κs = search needs
-
-enum-known-n : tie.Need-enum-known-n
-enum-known-n c = search needs
-
 returns : tie.Need-returns
 returns c =
     let w = was (c .before .before .before .before .read-decimal .ensures) (c .before .before .n .given .1) in
     no-minus-zero (w .1 ∙ ap digits (c .if1 .taken))
-
-sub-signed-of : tie.Need-sub-signed-of
-sub-signed-of c = search needs
-
-add-signed-of : tie.Need-add-signed-of
-add-signed-of c = search needs
-
-signed-of-requires : tie.Need-signed-of-requires
-signed-of-requires c κs = search needs
-
-enum-told : tie.Need-enum-told
-enum-told c = search needs
 
 returns-2 : tie.Need-returns-2
 returns-2 c =
@@ -50,15 +32,5 @@ returns-3 : tie.Need-returns-3
 returns-3 c = no-digits (was-none (c .before .before .read-decimal .ensures) (c .enum-told .given .1))
 
 pub read-negative-spec : {M : Type 1} → statement M
-read-negative-spec =
-    tie.close
-    (tie.spec
-    read-decimal-requires
-    enum-known-n
-    returns
-    sub-signed-of
-    add-signed-of
-    signed-of-requires
-    enum-told
-    returns-2
-    returns-3)
+read-negative-spec = tie.close (tie.spec (λ c κs. search needs) (λ c. search needs) returns (λ c. search needs) (λ c. search needs) (λ c κs. search needs)
+    (λ c. search needs) returns-2 returns-3)

@@ -25,23 +25,11 @@ mul-n c =
     let p : 10 ^ l .i ≤ 10 ^ 10 = pow-le-pow-right (omega arith) {j = 10} (omega arith) in
     omega (arith, p)
 
-shared-slice-read-digit-value : tie.Need-shared-slice-read-digit-value Inv-loop μ-loop
-shared-slice-read-digit-value c = search needs
-
-digit-value-requires : tie.Need-digit-value-requires Inv-loop μ-loop
-digit-value-requires c κs = search needs
-
 add-n : tie.Need-add-n Inv-loop μ-loop
 add-n c =
     let l = c .before .before .before .loop in
     let p : 10 ^ l .i ≤ 10 ^ 10 = pow-le-pow-right (omega arith) {j = 10} (omega arith) in
     omega (arith, p)
-
-add-i : tie.Need-add-i Inv-loop μ-loop
-add-i c = search needs
-
-loop-less : tie.Need-loop-less Inv-loop μ-loop
-loop-less c = search needs
 
 loop-again : tie.Need-loop-again Inv-loop μ-loop
 loop-again c =
@@ -60,17 +48,5 @@ returns c =
     sym (l .inv .2 ∙ ap (says (l .n)) (drop-of-length-le s {i = l .i} (omega arith)))
 
 pub said-spec : {M : Type 1} → statement M
-said-spec =
-    tie.close
-    (tie.spec
-    Inv-loop
-    μ-loop
-    loop-holds
-    mul-n
-    shared-slice-read-digit-value
-    digit-value-requires
-    add-n
-    add-i
-    loop-less
-    loop-again
-    returns)
+said-spec = tie.close (tie.spec Inv-loop μ-loop loop-holds mul-n (λ c. search needs) (λ c κs. search needs) add-n (λ c. search needs) (λ c. search needs)
+    loop-again returns)

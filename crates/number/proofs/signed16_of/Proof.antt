@@ -10,15 +10,6 @@ use borrow.Author.Needs.{needs}
 use Rattle.number.proofs.signed16_of.Statement.{statement}
 use Rattle.number.proofs.signed16_of.Tie as tie
 
-cast-result : tie.Need-cast-result
-cast-result c = search needs
-
-add-signed-of : tie.Need-add-signed-of
-add-signed-of c = search needs
-
-signed-of-requires : tie.Need-signed-of-requires
-signed-of-requires c κs = search needs
-
 returns : tie.Need-returns
 returns c = small-16 (c .before .args .w) (c .if1 .taken)
 
@@ -30,4 +21,4 @@ returns-2 c =
     ap (λ (z : ℤ). toZ w32 (ofZ w32 z)) (c .signed-of .ensures) ∙ passed-on (4294901760 + w) h ∙ large-16 w (c .before .if1 .left) l
 
 pub signed16-of-spec : {M : Type 1} → statement M
-signed16-of-spec = tie.close (tie.spec cast-result add-signed-of signed-of-requires returns returns-2)
+signed16-of-spec = tie.close (tie.spec (λ c. search needs) (λ c. search needs) (λ c κs. search needs) returns returns-2)

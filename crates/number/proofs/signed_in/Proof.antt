@@ -11,20 +11,11 @@ use borrow.Author.Needs.{needs}
 use Rattle.number.proofs.signed_in.Statement.{statement}
 use Rattle.number.proofs.signed_in.Tie as tie
 
-slice-aggregate-number : tie.Need-slice-aggregate-number
-slice-aggregate-number c = search needs
-
-number-requires : tie.Need-number-requires
-number-requires c κs = search needs
-
 cast-signed-of : tie.Need-cast-signed-of
 cast-signed-of c =
     let bs = c .before .before .before .args .b .bytes in
     let l : length bs ≡ 4 = search needs in
     omega (arith, c .number .ensures, number-four bs l)
-
-signed-of-requires : tie.Need-signed-of-requires
-signed-of-requires c κs = search needs
 
 returns : tie.Need-returns
 returns c =
@@ -36,6 +27,4 @@ returns c =
     ap (λ (z : ℤ). toZ w32 (ofZ w32 z)) (c .signed-of .ensures ∙ ap signedOf e) ∙ passed-on (numberOf bs) h
 
 pub signed-in-spec : {M : Type 1} → statement M
-signed-in-spec =
-    tie.close
-    (tie.spec slice-aggregate-number number-requires cast-signed-of signed-of-requires returns)
+signed-in-spec = tie.close (tie.spec (λ c. search needs) (λ c κs. search needs) cast-signed-of (λ c κs. search needs) returns)

@@ -8,9 +8,6 @@ use borrow.Author.Needs.{needs}
 use Rattle.number.proofs.signed_of.Statement.{statement}
 use Rattle.number.proofs.signed_of.Tie as tie
 
-cast-result : tie.Need-cast-result
-cast-result c = search needs
-
 cast-result-2 : tie.Need-cast-result-2
 cast-result-2 c = record { sfits = mask-lt (c .before .args .w) 31 }
 
@@ -23,4 +20,4 @@ returns-2 c =
     ap (toZ w32) (ap (λ (n : ℕ). bitOr n (2 ^ 31)) (and-mask w 31) ∙ with-top w (c .if1 .left) (c .before .fits .w .fits)) ∙ signed-is w
 
 pub signed-of-spec : {M : Type 1} → statement M
-signed-of-spec = tie.close (tie.spec cast-result cast-result-2 returns returns-2)
+signed-of-spec = tie.close (tie.spec (λ c. search needs) cast-result-2 returns returns-2)

@@ -5,22 +5,10 @@ use borrow.Author.Needs.{needs}
 use Rattle.packet_alarm.proofs.accept.Statement.{statement}
 use Rattle.packet_alarm.proofs.accept.Tie as tie
 
-ack-requires : tie.Need-ack-requires
-ack-requires c κs = search needs
-
-done-requires : tie.Need-done-requires
-done-requires c κs = search needs
-
-same-length : tie.Need-same-length
-same-length c = search needs
-
-same-length-2 : tie.Need-same-length-2
-same-length-2 c = search needs
-
 returns : tie.Need-returns
 returns c =
     let a = c .before .before .before .before .before .before .before .before .before .before .args in
     λ t. accepts t (a .q) (λ (s : Site). s) none (c .before .before .before .before .before .before .ack .ensures) (c .before .before .done .ensures .0) (c .before .before .done .ensures .1)
 
 pub accept-spec : {M : Type 1} → statement M
-accept-spec = tie.close (tie.spec ack-requires done-requires same-length same-length-2 returns)
+accept-spec = tie.close (tie.spec (λ c κs. search needs) (λ c κs. search needs) (λ c. search needs) (λ c. search needs) returns)

@@ -8,18 +8,6 @@ use borrow.Author.Needs.{needs}
 use Rattle.packet_alarm.proofs.aggregated.Statement.{statement}
 use Rattle.packet_alarm.proofs.aggregated.Tie as tie
 
-read-aggregated-requires : tie.Need-read-aggregated-requires
-read-aggregated-requires c κs = search needs
-
-judge-aggregated-requires : tie.Need-judge-aggregated-requires
-judge-aggregated-requires c κs = search needs
-
-same-length : tie.Need-same-length
-same-length c = search needs
-
-same-length-2 : tie.Need-same-length-2
-same-length-2 c = search needs
-
 returns : tie.Need-returns
 returns c =
     let a = c .before .before .before .before .before .before .before .before .before .before .before .before .before .args in
@@ -28,6 +16,4 @@ returns c =
     like t ws (a .q) (λ (x : GotLabel). aggregatedTaken (siteOf ws t) (a .q) x) (sym (c .before .before .before .before .before .before .before .read-aggregated .ensures)) (c .before .before .before .before .judge-aggregated .ensures)
 
 pub aggregated-spec : {M : Type 1} → statement M
-aggregated-spec =
-    tie.close
-    (tie.spec read-aggregated-requires judge-aggregated-requires same-length same-length-2 returns)
+aggregated-spec = tie.close (tie.spec (λ c κs. search needs) (λ c κs. search needs) (λ c. search needs) (λ c. search needs) returns)

@@ -8,18 +8,6 @@ use borrow.Author.Needs.{needs}
 use Rattle.packet_alarm.proofs.alarm.Statement.{statement}
 use Rattle.packet_alarm.proofs.alarm.Tie as tie
 
-read-alarm-requires : tie.Need-read-alarm-requires
-read-alarm-requires c κs = search needs
-
-judge-requires : tie.Need-judge-requires
-judge-requires c κs = search needs
-
-same-length : tie.Need-same-length
-same-length c = search needs
-
-same-length-2 : tie.Need-same-length-2
-same-length-2 c = search needs
-
 returns : tie.Need-returns
 returns c =
     let a = c .before .before .before .before .before .before .before .before .before .before .before .before .before .args in
@@ -28,5 +16,4 @@ returns c =
     like t ws (a .q) (λ (x : AlarmFields). alarmTaken (siteOf ws t) (a .q) x) (sym (c .before .before .before .before .before .before .before .read-alarm .ensures)) (c .before .before .before .before .judge .ensures)
 
 pub alarm-spec : {M : Type 1} → statement M
-alarm-spec =
-    tie.close (tie.spec read-alarm-requires judge-requires same-length same-length-2 returns)
+alarm-spec = tie.close (tie.spec (λ c κs. search needs) (λ c κs. search needs) (λ c. search needs) (λ c. search needs) returns)

@@ -8,51 +8,19 @@ use borrow.Author.Needs.{needs}
 use Rattle.packet_alarm.proofs.answer_and_alarm.Statement.{statement}
 use Rattle.packet_alarm.proofs.answer_and_alarm.Tie as tie
 
-ack-requires : tie.Need-ack-requires
-ack-requires c κs = search needs
-
-same-length : tie.Need-same-length
-same-length c = search needs
-
 returns : tie.Need-returns
 returns c =
     let a = c .before .before .before .before .before .before .before .before .before .args in
     stopped (pieces (alarmMessage (siteOf (a .w .now) (tableOf (a .t .now))) (a .q .identity .bytes) (a .k))) (omega arith) (c .before .before .before .ack .ensures) (c .if1 .taken)
 
-sub-write-alarm : tie.Need-sub-write-alarm
-sub-write-alarm c = search needs
-
-part-write-alarm-start : tie.Need-part-write-alarm-start
-part-write-alarm-start c = search needs
-
-part-write-alarm-end : tie.Need-part-write-alarm-end
-part-write-alarm-end c = search needs
-
-write-alarm-requires : tie.Need-write-alarm-requires
-write-alarm-requires c κs = search needs
-
 add-result : tie.Need-add-result
 add-result c =
     omega (arith, most (c .before .before .write-alarm .ensures) (omega arith))
-
-same-length-2 : tie.Need-same-length-2
-same-length-2 c = search needs
 
 returns-2 : tie.Need-returns-2
 returns-2 c =
     lent (c .before .before .before .before .before .before .before .ack .ensures) (c .before .before .before .before .if1 .left) (c .before .before .write-alarm .ensures)
 
 pub answer-and-alarm-spec : {M : Type 1} → statement M
-answer-and-alarm-spec =
-    tie.close
-    (tie.spec
-    ack-requires
-    same-length
-    returns
-    sub-write-alarm
-    part-write-alarm-start
-    part-write-alarm-end
-    write-alarm-requires
-    add-result
-    same-length-2
-    returns-2)
+answer-and-alarm-spec = tie.close (tie.spec (λ c κs. search needs) (λ c. search needs) returns (λ c. search needs) (λ c. search needs) (λ c. search needs)
+    (λ c κs. search needs) add-result (λ c. search needs) returns-2)

@@ -6,27 +6,10 @@ use borrow.Author.Needs.{needs}
 use Rattle.packet_alarm.proofs.change.Statement.{statement}
 use Rattle.packet_alarm.proofs.change.Tie as tie
 
-alarm-requires : tie.Need-alarm-requires
-alarm-requires c κs = search needs
-
-order-requires : tie.Need-order-requires
-order-requires c κs = search needs
-
-changed-requires : tie.Need-changed-requires
-changed-requires c κs = search needs
-
-same-length : tie.Need-same-length
-same-length c = search needs
-
-same-length-2 : tie.Need-same-length-2
-same-length-2 c = search needs
-
 returns : tie.Need-returns
 returns c =
     let a = c .before .before .before .before .before .before .before .before .before .before .before .before .args in
     λ t. orders-it t (a .w .now) (a .q) (a .k) (a .order) (c .before .before .before .before .before .before .order .ensures ∙ ap (λ (x : Alarm). orderOf x (a .order) (a .q .time)) (c .before .before .before .before .before .before .before .before .alarm .ensures t)) (c .before .before .before .before .changed .ensures t)
 
 pub change-spec : {M : Type 1} → statement M
-change-spec =
-    tie.close
-    (tie.spec alarm-requires order-requires changed-requires same-length same-length-2 returns)
+change-spec = tie.close (tie.spec (λ c κs. search needs) (λ c κs. search needs) (λ c κs. search needs) (λ c. search needs) (λ c. search needs) returns)

@@ -10,24 +10,6 @@ use borrow.Author.Needs.{needs}
 use Rattle.packet_answer.proofs.close.Statement.{statement}
 use Rattle.packet_answer.proofs.close.Tie as tie
 
-refusal-requires : tie.Need-refusal-requires
-refusal-requires c κs = search needs
-
-close-requires : tie.Need-close-requires
-close-requires c κs = search needs
-
-bit-of-requires : tie.Need-bit-of-requires
-bit-of-requires c κs = search needs
-
-done-requires : tie.Need-done-requires
-done-requires c κs = search needs
-
-same-length : tie.Need-same-length
-same-length c = search needs
-
-same-length-2 : tie.Need-same-length-2
-same-length-2 c = search needs
-
 returns : tie.Need-returns
 returns c =
     let a = c .before .before .before .before .before .before .before .before .before .before .before .before .before .before .before .args in
@@ -38,13 +20,5 @@ returns c =
     (turns-then (c .before .before .before .before .before .before .before .close .ensures) (done .1))
 
 pub close-spec : {M : Type 1} → statement M
-close-spec =
-    tie.close
-    (tie.spec
-    refusal-requires
-    close-requires
-    bit-of-requires
-    done-requires
-    same-length
-    same-length-2
-    returns)
+close-spec = tie.close (tie.spec (λ c κs. search needs) (λ c κs. search needs) (λ c κs. search needs) (λ c κs. search needs) (λ c. search needs)
+    (λ c. search needs) returns)

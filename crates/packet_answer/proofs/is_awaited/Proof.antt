@@ -4,11 +4,8 @@ use borrow.Author.Needs.{needs}
 use Rattle.packet_answer.proofs.is_awaited.Statement.{statement}
 use Rattle.packet_answer.proofs.is_awaited.Tie as tie
 
-awaits-requires : tie.Need-awaits-requires
-awaits-requires c κs = search needs
-
 returns : tie.Need-returns
 returns c = c .awaits .ensures
 
 pub is-awaited-spec : {M : Type 1} → statement M
-is-awaited-spec = tie.close (tie.spec awaits-requires returns)
+is-awaited-spec = tie.close (tie.spec (λ c κs. search needs) returns)

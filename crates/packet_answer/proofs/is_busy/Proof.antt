@@ -4,11 +4,8 @@ use borrow.Author.Needs.{needs}
 use Rattle.packet_answer.proofs.is_busy.Statement.{statement}
 use Rattle.packet_answer.proofs.is_busy.Tie as tie
 
-full-requires : tie.Need-full-requires
-full-requires c κs = search needs
-
 returns : tie.Need-returns
 returns c = c .full .ensures
 
 pub is-busy-spec : {M : Type 1} → statement M
-is-busy-spec = tie.close (tie.spec full-requires returns)
+is-busy-spec = tie.close (tie.spec (λ c κs. search needs) returns)

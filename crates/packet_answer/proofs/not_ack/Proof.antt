@@ -5,18 +5,6 @@ use borrow.Author.Needs.{needs}
 use Rattle.packet_answer.proofs.not_ack.Statement.{statement}
 use Rattle.packet_answer.proofs.not_ack.Tie as tie
 
-refusal-requires : tie.Need-refusal-requires
-refusal-requires c κs = search needs
-
-done-requires : tie.Need-done-requires
-done-requires c κs = search needs
-
-same-length : tie.Need-same-length
-same-length c = search needs
-
-same-length-2 : tie.Need-same-length-2
-same-length-2 c = search needs
-
 returns : tie.Need-returns
 returns c =
     let a = c .before .before .before .before .before .before .before .before .before .before .args in
@@ -24,5 +12,4 @@ returns c =
     λ t. not-acks t (a .q) (a .reason) (c .before .before .before .before .before .before .refusal .ensures) (done .0) (done .1)
 
 pub not-ack-spec : {M : Type 1} → statement M
-not-ack-spec =
-    tie.close (tie.spec refusal-requires done-requires same-length same-length-2 returns)
+not-ack-spec = tie.close (tie.spec (λ c κs. search needs) (λ c κs. search needs) (λ c. search needs) (λ c. search needs) returns)

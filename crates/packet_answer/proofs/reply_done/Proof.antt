@@ -6,17 +6,8 @@ use borrow.Author.Needs.{needs}
 use Rattle.packet_answer.proofs.reply_done.Statement.{statement}
 use Rattle.packet_answer.proofs.reply_done.Tie as tie
 
-replied-requires : tie.Need-replied-requires
-replied-requires c κs = search needs
-
-report-requires : tie.Need-report-requires
-report-requires c κs = search needs
-
-same-length : tie.Need-same-length
-same-length c = search needs
-
 returns : tie.Need-returns
 returns c = (ap Done (c .report .ensures), c .before .before .before .replied .ensures)
 
 pub reply-done-spec : {M : Type 1} → statement M
-reply-done-spec = tie.close (tie.spec replied-requires report-requires same-length returns)
+reply-done-spec = tie.close (tie.spec (λ c κs. search needs) (λ c κs. search needs) (λ c. search needs) returns)

@@ -5,20 +5,11 @@ use borrow.Author.Needs.{needs}
 use Rattle.packet_command.proofs.entry_in.Statement.{statement}
 use Rattle.packet_command.proofs.entry_in.Tie as tie
 
-mul-result : tie.Need-mul-result
-mul-result c = search needs
-
-array-copy-out-result : tie.Need-array-copy-out-result
-array-copy-out-result c = search needs
-
 returns : tie.Need-returns
 returns c =
     let a = c .before .before .args in
     let e : length (a .t1) ≡ 16 = search needs in
     getD-any (a .t1) (a .i) _ _ (search needs)
-
-none-requires : tie.Need-none-requires
-none-requires c κs = search needs
 
 returns-2 : tie.Need-returns-2
 returns-2 c =
@@ -27,5 +18,4 @@ returns-2 c =
     c .none .ensures ∙ sym (List·getD-eq-default (a .t1) _ {n = a .i} (search needs))
 
 pub entry-in-spec : {M : Type 1} → statement M
-entry-in-spec =
-    tie.close (tie.spec mul-result array-copy-out-result returns none-requires returns-2)
+entry-in-spec = tie.close (tie.spec (λ c. search needs) (λ c. search needs) returns (λ c κs. search needs) returns-2)

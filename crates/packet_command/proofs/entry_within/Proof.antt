@@ -9,12 +9,6 @@ use borrow.Author.Needs.{needs}
 use Rattle.packet_command.proofs.entry_within.Statement.{statement}
 use Rattle.packet_command.proofs.entry_within.Tie as tie
 
-command-requires : tie.Need-command-requires
-command-requires c κs = search needs
-
-within-requires : tie.Need-within-requires
-within-requires c κs = search needs
-
 returns : tie.Need-returns
 returns c =
     let s = c .before .before .before .before in
@@ -22,4 +16,4 @@ returns c =
     c .within .ensures ∙ ap₂ (λ (x : Sought) (z : ℤ). within (tableOf (s .args .t .now)) x z) (c .before .before .command .ensures) v
 
 pub entry-within-spec : {M : Type 1} → statement M
-entry-within-spec = tie.close (tie.spec command-requires within-requires returns)
+entry-within-spec = tie.close (tie.spec (λ c κs. search needs) (λ c κs. search needs) returns)

@@ -21,33 +21,12 @@ abbrev μ-loop : tie.MeasureT-loop
 loop-holds : tie.Need-loop-holds Inv-loop μ-loop
 loop-holds c = (search needs, (search needs, (search needs, (search needs, (search needs, refl)))))
 
-entry-in-requires : tie.Need-entry-in-requires Inv-loop μ-loop
-entry-in-requires c κs = search needs
-
-word-of-requires : tie.Need-word-of-requires Inv-loop μ-loop
-word-of-requires c κs = search needs
-
-mul-commands : tie.Need-mul-commands Inv-loop μ-loop
-mul-commands c = search needs
-
-slice-write-commands : tie.Need-slice-write-commands Inv-loop μ-loop
-slice-write-commands c = search needs
-
-add-i : tie.Need-add-i Inv-loop μ-loop
-add-i c = search needs
-
-loop-less : tie.Need-loop-less Inv-loop μ-loop
-loop-less c = search needs
-
 loop-again : tie.Need-loop-again Inv-loop μ-loop
 loop-again c =
     let a = c .before .before .before .before .before .before .args in
     let l = c .before .before .before .loop in
     let h : l .i < length (a .commands .now) = search needs in
     (search needs, (search needs, (search needs, (search needs, (search needs, one-more-handed (tableOf (a .t .now)) (a .component) (a .entries) (l .i) (a .commands .now) h (l .inv .1 .1 .1 .1 .1) (c .before .entry-in .ensures) (c .word-of .ensures))))))
-
-same-length : tie.Need-same-length Inv-loop μ-loop
-same-length c = search needs
 
 returns : tie.Need-returns Inv-loop μ-loop
 returns c =
@@ -57,18 +36,5 @@ returns c =
     l .inv .1 .1 .1 .1 .1 ∙ ap (λ (n : ℕ). handedOver (commandsTo (tableOf (a .t .now)) (a .component) (a .entries) n) (a .commands .now)) e
 
 pub hand-spec : {M : Type 1} → statement M
-hand-spec =
-    tie.close
-    (tie.spec
-    Inv-loop
-    μ-loop
-    loop-holds
-    entry-in-requires
-    word-of-requires
-    mul-commands
-    slice-write-commands
-    add-i
-    loop-less
-    loop-again
-    same-length
-    returns)
+hand-spec = tie.close (tie.spec Inv-loop μ-loop loop-holds (λ c κs. search needs) (λ c κs. search needs) (λ c. search needs) (λ c. search needs)
+    (λ c. search needs) (λ c. search needs) loop-again (λ c. search needs) returns)

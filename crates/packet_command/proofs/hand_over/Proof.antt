@@ -9,17 +9,8 @@ use borrow.Author.Needs.{needs}
 use Rattle.packet_command.proofs.hand_over.Statement.{statement}
 use Rattle.packet_command.proofs.hand_over.Tie as tie
 
-slice-aggregate-read-command : tie.Need-slice-aggregate-read-command
-slice-aggregate-read-command c = refl
-
 read-command-requires : tie.Need-read-command-requires
 read-command-requires c κs = record { finds = λ h. absurd (h refl) }
-
-component-requires : tie.Need-component-requires
-component-requires c κs = search needs
-
-enum-known-component : tie.Need-enum-known-component
-enum-known-component c = search needs
 
 hand-requires : tie.Need-hand-requires
 hand-requires c κs =
@@ -27,12 +18,6 @@ hand-requires c κs =
     let f = c .before .before .before .before .before .before .before .read-command in
     let m = subst (λ (x : CommandFields). x .count ≤ 16) (sym (f .ensures)) (kept .most (a .packet .now)) in
     (search needs, (search needs, omega (arith, m)))
-
-enum-told : tie.Need-enum-told
-enum-told c = search needs
-
-same-length : tie.Need-same-length
-same-length c = search needs
 
 returns : tie.Need-returns
 returns c =
@@ -45,15 +30,5 @@ returns-2 c =
     unknown-handed (tableOf (a .t .now)) (a .packet .now) (c .before .before .before .before .before .read-command .ensures) (c .before .before .component .ensures) (a .commands .now) (c .enum-told .given .1)
 
 pub hand-over-spec : {M : Type 1} → statement M
-hand-over-spec =
-    tie.close
-    (tie.spec
-    slice-aggregate-read-command
-    read-command-requires
-    component-requires
-    enum-known-component
-    hand-requires
-    enum-told
-    same-length
-    returns
-    returns-2)
+hand-over-spec = tie.close (tie.spec (λ c. refl) read-command-requires (λ c κs. search needs) (λ c. search needs) hand-requires (λ c. search needs)
+    (λ c. search needs) returns returns-2)

@@ -7,12 +7,6 @@ use borrow.Author.Needs.{needs}
 use Rattle.packet_command.proofs.handed.Statement.{statement}
 use Rattle.packet_command.proofs.handed.Tie as tie
 
-enum-told : tie.Need-enum-told
-enum-told c = search needs
-
-enum-told-2 : tie.Need-enum-told-2
-enum-told-2 c = search needs
-
 returns : tie.Need-returns
 returns c = λ t. how-many t _ (c .before .before .args .f) (c .enum-told .given .1)
 
@@ -22,4 +16,4 @@ returns-2 c =
     λ t. ap (λ (x : Sought). length (commandsOf t (a .f) x)) (sym (c .enum-told2 .given .1))
 
 pub handed-spec : {M : Type 1} → statement M
-handed-spec = tie.close (tie.spec enum-told enum-told-2 returns returns-2)
+handed-spec = tie.close (tie.spec (λ c. search needs) (λ c. search needs) returns returns-2)

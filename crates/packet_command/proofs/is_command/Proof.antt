@@ -4,14 +4,8 @@ use borrow.Author.Needs.{needs}
 use Rattle.packet_command.proofs.is_command.Statement.{statement}
 use Rattle.packet_command.proofs.is_command.Tie as tie
 
-command-requires : tie.Need-command-requires
-command-requires c κs = search needs
-
-is-sought-requires : tie.Need-is-sought-requires
-is-sought-requires c κs = search needs
-
 returns : tie.Need-returns
 returns c = rw (← c .before .command .ensures) (c .is-sought .ensures)
 
 pub is-command-spec : {M : Type 1} → statement M
-is-command-spec = tie.close (tie.spec command-requires is-sought-requires returns)
+is-command-spec = tie.close (tie.spec (λ c κs. search needs) (λ c κs. search needs) returns)

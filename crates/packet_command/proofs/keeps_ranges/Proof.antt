@@ -6,15 +6,6 @@ use borrow.Author.Needs.{needs}
 use Rattle.packet_command.proofs.keeps_ranges.Statement.{statement}
 use Rattle.packet_command.proofs.keeps_ranges.Tie as tie
 
-enum-known-component : tie.Need-enum-known-component
-enum-known-component c = search needs
-
-all-within-requires : tie.Need-all-within-requires
-all-within-requires c κs = search needs
-
-enum-told : tie.Need-enum-told
-enum-told c = search needs
-
 returns : tie.Need-returns
 returns c =
     let a = c .before .before .before .before .before .before .args in
@@ -26,5 +17,4 @@ returns-2 c =
     ap (λ (x : Sought). keepsRanges (tableOf (a .t .now)) (a .f) x) (sym (c .enum-told .given .1))
 
 pub keeps-ranges-spec : {M : Type 1} → statement M
-keeps-ranges-spec =
-    tie.close (tie.spec enum-known-component all-within-requires enum-told returns returns-2)
+keeps-ranges-spec = tie.close (tie.spec (λ c. search needs) (λ c κs. search needs) (λ c. search needs) returns returns-2)

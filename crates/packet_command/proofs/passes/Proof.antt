@@ -6,15 +6,6 @@ use borrow.Author.Needs.{needs}
 use Rattle.packet_command.proofs.passes.Statement.{statement}
 use Rattle.packet_command.proofs.passes.Tie as tie
 
-enum-known-component : tie.Need-enum-known-component
-enum-known-component c = search needs
-
-all-commands-requires : tie.Need-all-commands-requires
-all-commands-requires c κs = search needs
-
-enum-told : tie.Need-enum-told
-enum-told c = search needs
-
 returns : tie.Need-returns
 returns c =
     let a = c .before .before .before .before .before .before .args in
@@ -26,5 +17,4 @@ returns-2 c =
     ap (λ (x : Sought). passes (tableOf (a .t .now)) (a .f) x) (sym (c .enum-told .given .1))
 
 pub passes-spec : {M : Type 1} → statement M
-passes-spec =
-    tie.close (tie.spec enum-known-component all-commands-requires enum-told returns returns-2)
+passes-spec = tie.close (tie.spec (λ c. search needs) (λ c κs. search needs) (λ c. search needs) returns returns-2)

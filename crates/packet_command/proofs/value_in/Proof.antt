@@ -8,20 +8,11 @@ use borrow.Author.Needs.{needs}
 use Rattle.packet_command.proofs.value_in.Statement.{statement}
 use Rattle.packet_command.proofs.value_in.Tie as tie
 
-enum-told : tie.Need-enum-told
-enum-told c = search needs
-
-enum-told-2 : tie.Need-enum-told-2
-enum-told-2 c = search needs
-
 returns : tie.Need-returns
 returns c =
     let a = c .before .before .before .args in
     let v : toZ w32 (ofZ w32 (a .e .value)) ≡ a .e .value = search needs in
     ap Recent v ∙ ap (λ (x : Sought). valueIn x (a .e)) (sym (c .before .enum-told .given .1))
 
-returns-2 : tie.Need-returns-2
-returns-2 c = search needs
-
 pub value-in-spec : {M : Type 1} → statement M
-value-in-spec = tie.close (tie.spec enum-told enum-told-2 returns returns-2)
+value-in-spec = tie.close (tie.spec (λ c. search needs) (λ c. search needs) returns (λ c. search needs))

@@ -9,24 +9,6 @@ use borrow.Author.Needs.{needs}
 use Rattle.packet_greet.proofs.answered.Statement.{statement}
 use Rattle.packet_greet.proofs.answered.Tie as tie
 
-link-requires : tie.Need-link-requires
-link-requires c κs = search needs
-
-answered-requires : tie.Need-answered-requires
-answered-requires c κs = search needs
-
-close-requires : tie.Need-close-requires
-close-requires c κs = search needs
-
-bit-of-requires : tie.Need-bit-of-requires
-bit-of-requires c κs = search needs
-
-done-requires : tie.Need-done-requires
-done-requires c κs = search needs
-
-same-length : tie.Need-same-length
-same-length c = search needs
-
 returns : tie.Need-returns
 returns c =
     let a = c .before .before .before .before .before .before .before .before .before .before .before .before .before .before .args in
@@ -36,18 +18,6 @@ returns c =
     (c .before .before .before .before .before .before .before .before .before .before .answered .ensures ∙ ap (λ (x : Link). answeredBy x (a .id) (a .acknowledged)) (k t))
     (c .before .before .before .before .before .before .before .before .before .if1 .taken) (c .before .before .before .bit-of .ensures) (done .0)
     (turns-then (c .before .before .before .before .before .before .before .close .ensures) (done .1))
-
-settled-requires : tie.Need-settled-requires
-settled-requires c κs = search needs
-
-put-link-requires : tie.Need-put-link-requires
-put-link-requires c κs = search needs
-
-done-requires-2 : tie.Need-done-requires-2
-done-requires-2 c κs = search needs
-
-same-length-2 : tie.Need-same-length-2
-same-length-2 c = search needs
 
 returns-2 : tie.Need-returns-2
 returns-2 c =
@@ -60,18 +30,5 @@ returns-2 c =
     (turns-then (turns-then (c .before .before .before .before .before .before .before .before .before .before .settled .ensures) (c .before .before .before .before .before .before .put-link .ensures)) (done .1))
 
 pub answered-spec : {M : Type 1} → statement M
-answered-spec =
-    tie.close
-    (tie.spec
-    link-requires
-    answered-requires
-    close-requires
-    bit-of-requires
-    done-requires
-    same-length
-    returns
-    settled-requires
-    put-link-requires
-    done-requires-2
-    same-length-2
-    returns-2)
+answered-spec = tie.close (tie.spec (λ c κs. search needs) (λ c κs. search needs) (λ c κs. search needs) (λ c κs. search needs) (λ c κs. search needs)
+    (λ c. search needs) returns (λ c κs. search needs) (λ c κs. search needs) (λ c κs. search needs) (λ c. search needs) returns-2)

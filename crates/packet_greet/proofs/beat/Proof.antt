@@ -16,30 +16,6 @@ use borrow.Author.Needs.{needs}
 use Rattle.packet_greet.proofs.beat.Statement.{statement}
 use Rattle.packet_greet.proofs.beat.Tie as tie
 
-role-requires : tie.Need-role-requires
-role-requires c κs = search needs
-
-hint-requires : tie.Need-hint-requires
-hint-requires c κs = search needs
-
-hinted-requires : tie.Need-hinted-requires
-hinted-requires c κs = search needs
-
-ack-requires : tie.Need-ack-requires
-ack-requires c κs = search needs
-
-beaten-requires : tie.Need-beaten-requires
-beaten-requires c κs = search needs
-
-done-requires : tie.Need-done-requires
-done-requires c κs = search needs
-
-same-length : tie.Need-same-length
-same-length c = search needs
-
-same-length-2 : tie.Need-same-length-2
-same-length-2 c = search needs
-
 returns : tie.Need-returns
 returns c =
     let a = c .before .before .before .before .before .before .before .before .before .before .before .before .before .before .before .before .before .before .args in
@@ -54,15 +30,5 @@ returns c =
     (turns-then (c .before .before .before .before .before .before .beaten .ensures) (done .1))
 
 pub beat-spec : {M : Type 1} → statement M
-beat-spec =
-    tie.close
-    (tie.spec
-    role-requires
-    hint-requires
-    hinted-requires
-    ack-requires
-    beaten-requires
-    done-requires
-    same-length
-    same-length-2
-    returns)
+beat-spec = tie.close (tie.spec (λ c κs. search needs) (λ c κs. search needs) (λ c κs. search needs) (λ c κs. search needs) (λ c κs. search needs)
+    (λ c κs. search needs) (λ c. search needs) (λ c. search needs) returns)

@@ -4,18 +4,6 @@ use borrow.Author.Needs.{needs}
 use Rattle.packet_greet.proofs.beaten.Statement.{statement}
 use Rattle.packet_greet.proofs.beaten.Tie as tie
 
-link-requires : tie.Need-link-requires
-link-requires c κs = search needs
-
-watchdog-taken-requires : tie.Need-watchdog-taken-requires
-watchdog-taken-requires c κs = search needs
-
-put-link-requires : tie.Need-put-link-requires
-put-link-requires c κs = search needs
-
-same-length : tie.Need-same-length
-same-length c = search needs
-
 returns : tie.Need-returns
 returns c =
     let put = c .before .before .put-link .ensures in
@@ -25,6 +13,4 @@ returns c =
     }
 
 pub beaten-spec : {M : Type 1} → statement M
-beaten-spec =
-    tie.close
-    (tie.spec link-requires watchdog-taken-requires put-link-requires same-length returns)
+beaten-spec = tie.close (tie.spec (λ c κs. search needs) (λ c κs. search needs) (λ c κs. search needs) (λ c. search needs) returns)

@@ -5,29 +5,11 @@ use borrow.Author.Needs.{needs}
 use Rattle.packet_greet.proofs.settled_for.Statement.{statement}
 use Rattle.packet_greet.proofs.settled_for.Tie as tie
 
-enum-told : tie.Need-enum-told
-enum-told c = search needs
-
-enum-told-2 : tie.Need-enum-told-2
-enum-told-2 c = search needs
-
-enum-known-sent : tie.Need-enum-known-sent
-enum-known-sent c = search needs
-
-settle-requires : tie.Need-settle-requires
-settle-requires c κs = search needs
-
-enum-told-3 : tie.Need-enum-told-3
-enum-told-3 c = search needs
-
 returns : tie.Need-returns
 returns c = rw (c .enum-told .given .1) (record { site = λ t. refl; plain = λ p. p })
 
 returns-2 : tie.Need-returns-2
 returns-2 c = rw (c .enum-told2 .given .1) (record { site = λ t. refl; plain = λ p. p })
-
-same-length : tie.Need-same-length
-same-length c = search needs
 
 returns-3 : tie.Need-returns-3
 returns-3 c = rw (c .before .before .before .before .before .sent .given .1) (c .before .before .settle .ensures)
@@ -36,16 +18,5 @@ returns-4 : tie.Need-returns-4
 returns-4 c = rw (c .enum-told3 .given .1) (record { site = λ t. refl; plain = λ p. p })
 
 pub settled-for-spec : {M : Type 1} → statement M
-settled-for-spec =
-    tie.close
-    (tie.spec
-    enum-told
-    enum-told-2
-    enum-known-sent
-    settle-requires
-    enum-told-3
-    returns
-    returns-2
-    same-length
-    returns-3
-    returns-4)
+settled-for-spec = tie.close (tie.spec (λ c. search needs) (λ c. search needs) (λ c. search needs) (λ c κs. search needs) (λ c. search needs) returns returns-2
+    (λ c. search needs) returns-3 returns-4)

@@ -7,21 +7,6 @@ use borrow.Author.Needs.{needs}
 use Rattle.packet_lookup.proofs.alarm.Statement.{statement}
 use Rattle.packet_lookup.proofs.alarm.Tie as tie
 
-component-requires : tie.Need-component-requires
-component-requires c κs = search needs
-
-enum-known-c : tie.Need-enum-known-c
-enum-known-c c = search needs
-
-alarm-in-requires : tie.Need-alarm-in-requires
-alarm-in-requires c κs = search needs
-
-or-no-alarm-requires : tie.Need-or-no-alarm-requires
-or-no-alarm-requires c κs = search needs
-
-enum-told : tie.Need-enum-told
-enum-told c = search needs
-
 returns : tie.Need-returns
 returns c =
     let a = c .before .before .before .before .before .before .before .args in
@@ -35,13 +20,4 @@ returns-2 c =
     ap (alarmOf (tableOf (a .t .now)) (a .code)) (sym (c .enum-told .given .1) ∙ c .before .before .component .ensures)
 
 pub alarm-spec : {M : Type 1} → statement M
-alarm-spec =
-    tie.close
-    (tie.spec
-    component-requires
-    enum-known-c
-    alarm-in-requires
-    or-no-alarm-requires
-    enum-told
-    returns
-    returns-2)
+alarm-spec = tie.close (tie.spec (λ c κs. search needs) (λ c. search needs) (λ c κs. search needs) (λ c κs. search needs) (λ c. search needs) returns returns-2)

@@ -12,22 +12,10 @@ use borrow.Author.Needs.{needs}
 use Rattle.packet_lookup.proofs.called.Statement.{statement}
 use Rattle.packet_lookup.proofs.called.Tie as tie
 
-size-requires : tie.Need-size-requires
-size-requires c κs = search needs
-
-sub-named : tie.Need-sub-named
-sub-named c = search needs
-
-part-named-start : tie.Need-part-named-start
-part-named-start c = search needs
-
 part-named-end : tie.Need-part-named-end
 part-named-end c =
     let e : length (c .before .before .before .before .args .code .bytes) ≡ 32 = search needs in
     search needs
-
-named-requires : tie.Need-named-requires
-named-requires c κs = search needs
 
 returns : tie.Need-returns
 returns c =
@@ -36,6 +24,4 @@ returns c =
     c .named .ensures ∙ ap (λ (x : List ℕ). findStatus (tableOf (a .t .now)) (a .component) x (textOf (a .name))) k
 
 pub called-spec : {M : Type 1} → statement M
-called-spec =
-    tie.close
-    (tie.spec size-requires sub-named part-named-start part-named-end named-requires returns)
+called-spec = tie.close (tie.spec (λ c κs. search needs) (λ c. search needs) (λ c. search needs) part-named-end (λ c κs. search needs) returns)

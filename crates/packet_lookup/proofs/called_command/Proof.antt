@@ -12,22 +12,10 @@ use borrow.Author.Needs.{needs}
 use Rattle.packet_lookup.proofs.called_command.Statement.{statement}
 use Rattle.packet_lookup.proofs.called_command.Tie as tie
 
-size-requires : tie.Need-size-requires
-size-requires c κs = search needs
-
-sub-named-command : tie.Need-sub-named-command
-sub-named-command c = search needs
-
-part-named-command-start : tie.Need-part-named-command-start
-part-named-command-start c = search needs
-
 part-named-command-end : tie.Need-part-named-command-end
 part-named-command-end c =
     let e : length (c .before .before .before .before .args .code .bytes) ≡ 32 = search needs in
     search needs
-
-named-command-requires : tie.Need-named-command-requires
-named-command-requires c κs = search needs
 
 returns : tie.Need-returns
 returns c =
@@ -36,6 +24,4 @@ returns c =
     c .named-command .ensures ∙ ap (λ (x : List ℕ). findCommand (tableOf (a .t .now)) (a .component) x (textOf (a .name))) k
 
 pub called-command-spec : {M : Type 1} → statement M
-called-command-spec =
-    tie.close
-    (tie.spec size-requires sub-named-command part-named-command-start part-named-command-end named-command-requires returns)
+called-command-spec = tie.close (tie.spec (λ c κs. search needs) (λ c. search needs) (λ c. search needs) part-named-command-end (λ c κs. search needs) returns)

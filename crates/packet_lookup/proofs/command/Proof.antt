@@ -6,14 +6,8 @@ use borrow.Author.Needs.{needs}
 use Rattle.packet_lookup.proofs.command.Statement.{statement}
 use Rattle.packet_lookup.proofs.command.Tie as tie
 
-called-command-requires : tie.Need-called-command-requires
-called-command-requires c κs = search needs
-
-number-requires : tie.Need-number-requires
-number-requires c κs = search needs
-
 returns : tie.Need-returns
 returns c = c .number .ensures ∙ ap numbered (c .before .called-command .ensures)
 
 pub command-spec : {M : Type 1} → statement M
-command-spec = tie.close (tie.spec called-command-requires number-requires returns)
+command-spec = tie.close (tie.spec (λ c κs. search needs) (λ c κs. search needs) returns)

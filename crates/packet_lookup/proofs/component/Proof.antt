@@ -10,25 +10,10 @@ use borrow.Author.Needs.{needs}
 use Rattle.packet_lookup.proofs.component.Statement.{statement}
 use Rattle.packet_lookup.proofs.component.Tie as tie
 
-size-requires : tie.Need-size-requires
-size-requires c κs = search needs
-
-sub-find-component : tie.Need-sub-find-component
-sub-find-component c = search needs
-
-part-find-component-start : tie.Need-part-find-component-start
-part-find-component-start c = search needs
-
 part-find-component-end : tie.Need-part-find-component-end
 part-find-component-end c =
     let e : length (c .before .before .before .before .args .id .bytes) ≡ 32 = search needs in
     search needs
-
-find-component-requires : tie.Need-find-component-requires
-find-component-requires c κs = search needs
-
-number-requires : tie.Need-number-requires
-number-requires c κs = search needs
 
 returns : tie.Need-returns
 returns c =
@@ -37,13 +22,5 @@ returns c =
     c .number .ensures ∙ ap numbered (c .before .find-component .ensures ∙ ap (findComponent (tableOf (a .t .now))) k)
 
 pub component-spec : {M : Type 1} → statement M
-component-spec =
-    tie.close
-    (tie.spec
-    size-requires
-    sub-find-component
-    part-find-component-start
-    part-find-component-end
-    find-component-requires
-    number-requires
-    returns)
+component-spec = tie.close (tie.spec (λ c κs. search needs) (λ c. search needs) (λ c. search needs) part-find-component-end (λ c κs. search needs)
+    (λ c κs. search needs) returns)

@@ -8,26 +8,12 @@ use Rattle.packet_lookup.proofs.entry_in.Reads as reads
 use Rattle.packet_lookup.proofs.entry_in.Lts as lts
 use Rattle.packet_lookup.proofs.none.Reads as none-reads
 
--- src/lib.rt:112:16
-mul-result : tie.Need-mul-result
-mul-result c = search needs
-
--- src/lib.rt:112:16
-array-copy-out-result : tie.Need-array-copy-out-result
-array-copy-out-result c = search needs
-
--- src/lib.rt:112:9
 returns : tie.Need-returns
 returns c =
     let a = c .before .before .args in
     let e : length (a .t1) ≡ 16 = search needs in
     getD-any (a .t1) (a .i) _ _ (search needs)
 
--- src/lib.rt:114:5
-none-requires : tie.Need-none-requires
-none-requires c κs = search needs
-
--- src/lib.rt:108:1
 returns-2 : tie.Need-returns-2
 returns-2 c =
     let a = c .before .before .args in
@@ -35,5 +21,4 @@ returns-2 c =
     c .none .ensures ∙ sym (List·getD-eq-default (a .t1) _ {n = a .i} (search needs))
 
 pub entry-in-spec : {M : Type 1} → statement M
-entry-in-spec =
-    tie.close (tie.spec mul-result array-copy-out-result returns none-requires returns-2)
+entry-in-spec = tie.close (tie.spec (λ c. search needs) (λ c. search needs) returns (λ c κs. search needs) returns-2)

@@ -9,22 +9,10 @@ use borrow.Author.Needs.{needs}
 use Rattle.packet_lookup.proofs.named.Statement.{statement}
 use Rattle.packet_lookup.proofs.named.Tie as tie
 
-size-requires : tie.Need-size-requires
-size-requires c κs = search needs
-
-sub-find-status : tie.Need-sub-find-status
-sub-find-status c = search needs
-
-part-find-status-start : tie.Need-part-find-status-start
-part-find-status-start c = search needs
-
 part-find-status-end : tie.Need-part-find-status-end
 part-find-status-end c =
     let e : length (c .before .before .before .before .before .args .name .bytes) ≡ 32 = search needs in
     search needs
-
-find-status-requires : tie.Need-find-status-requires
-find-status-requires c κs = search needs
 
 returns : tie.Need-returns
 returns c =
@@ -33,12 +21,4 @@ returns c =
     c .find-status .ensures ∙ ap (findStatus (tableOf (a .t .now)) (a .component) _) k
 
 pub named-spec : {M : Type 1} → statement M
-named-spec =
-    tie.close
-    (tie.spec
-    size-requires
-    sub-find-status
-    part-find-status-start
-    part-find-status-end
-    find-status-requires
-    returns)
+named-spec = tie.close (tie.spec (λ c κs. search needs) (λ c. search needs) (λ c. search needs) part-find-status-end (λ c κs. search needs) returns)

@@ -9,22 +9,10 @@ use borrow.Author.Needs.{needs}
 use Rattle.packet_lookup.proofs.named_command.Statement.{statement}
 use Rattle.packet_lookup.proofs.named_command.Tie as tie
 
-size-requires : tie.Need-size-requires
-size-requires c κs = search needs
-
-sub-find-command : tie.Need-sub-find-command
-sub-find-command c = search needs
-
-part-find-command-start : tie.Need-part-find-command-start
-part-find-command-start c = search needs
-
 part-find-command-end : tie.Need-part-find-command-end
 part-find-command-end c =
     let e : length (c .before .before .before .before .before .args .name .bytes) ≡ 32 = search needs in
     search needs
-
-find-command-requires : tie.Need-find-command-requires
-find-command-requires c κs = search needs
 
 returns : tie.Need-returns
 returns c =
@@ -33,12 +21,4 @@ returns c =
     c .find-command .ensures ∙ ap (findCommand (tableOf (a .t .now)) (a .component) _) k
 
 pub named-command-spec : {M : Type 1} → statement M
-named-command-spec =
-    tie.close
-    (tie.spec
-    size-requires
-    sub-find-command
-    part-find-command-start
-    part-find-command-end
-    find-command-requires
-    returns)
+named-command-spec = tie.close (tie.spec (λ c κs. search needs) (λ c. search needs) (λ c. search needs) part-find-command-end (λ c κs. search needs) returns)

@@ -7,36 +7,12 @@ use borrow.Author.Needs.{needs}
 use Rattle.packet_status.proofs.requested.Statement.{statement}
 use Rattle.packet_status.proofs.requested.Tie as tie
 
-component-requires : tie.Need-component-requires
-component-requires c κs = search needs
-
-passes-requires : tie.Need-passes-requires
-passes-requires c κs = search needs
-
-reply-requires : tie.Need-reply-requires
-reply-requires c κs = search needs
-
-same-length : tie.Need-same-length
-same-length c = search needs
-
-same-length-2 : tie.Need-same-length-2
-same-length-2 c = search needs
-
 returns : tie.Need-returns
 returns c =
     let a = c .before .before .before .before .before .before .before .before .before .before .before .before .before .before .args in
     let t = tableOf (a .t .now) in
     let ws = a .w .now in
     all-pass t ws (a .q) (a .f) (c .before .before .before .before .before .before .before .before .before .component .ensures) (sym (c .before .before .before .before .before .before .before .before .passes .ensures (siteOf ws t) (table-of ws t)) ∙ c .before .before .before .before .before .before .before .if1 .taken) (c .before .before .before .before .reply .ensures)
-
-not-ack-requires : tie.Need-not-ack-requires
-not-ack-requires c κs = search needs
-
-same-length-3 : tie.Need-same-length-3
-same-length-3 c = search needs
-
-same-length-4 : tie.Need-same-length-4
-same-length-4 c = search needs
 
 returns-2 : tie.Need-returns-2
 returns-2 c =
@@ -46,16 +22,5 @@ returns-2 c =
     one-fails t ws (a .q) (a .f) (c .before .before .before .before .before .before .before .before .before .component .ensures) (sym (c .before .before .before .before .before .before .before .before .passes .ensures (siteOf ws t) (table-of ws t)) ∙ c .before .before .before .before .before .before .before .if1 .left) (c .before .before .before .before .not-ack .ensures t)
 
 pub requested-spec : {M : Type 1} → statement M
-requested-spec =
-    tie.close
-    (tie.spec
-    component-requires
-    passes-requires
-    reply-requires
-    same-length
-    same-length-2
-    returns
-    not-ack-requires
-    same-length-3
-    same-length-4
-    returns-2)
+requested-spec = tie.close (tie.spec (λ c κs. search needs) (λ c κs. search needs) (λ c κs. search needs) (λ c. search needs) (λ c. search needs) returns
+    (λ c κs. search needs) (λ c. search needs) (λ c. search needs) returns-2)

@@ -8,24 +8,6 @@ use borrow.Author.Needs.{needs}
 use Rattle.packet_status.proofs.value_of.Statement.{statement}
 use Rattle.packet_status.proofs.value_of.Tie as tie
 
-status-requires : tie.Need-status-requires
-status-requires c κs = search needs
-
-enum-known-k : tie.Need-enum-known-k
-enum-known-k c = search needs
-
-cast-status : tie.Need-cast-status
-cast-status c = search needs
-
-status-requires-2 : tie.Need-status-requires-2
-status-requires-2 c κs = search needs
-
-status-value-requires : tie.Need-status-value-requires
-status-value-requires c κs = search needs
-
-enum-told : tie.Need-enum-told
-enum-told c = search needs
-
 returns : tie.Need-returns
 returns c =
     let a = c .before .before .before .before .before .before .before .before .args in
@@ -41,14 +23,5 @@ returns-2 c =
     ap (λ (x : Sought). valueOf (siteOf ws t) x) (sym (c .enum-told .given .1) ∙ c .before .before .status .ensures)
 
 pub value-of-spec : {M : Type 1} → statement M
-value-of-spec =
-    tie.close
-    (tie.spec
-    status-requires
-    enum-known-k
-    cast-status
-    status-requires-2
-    status-value-requires
-    enum-told
-    returns
-    returns-2)
+value-of-spec = tie.close (tie.spec (λ c κs. search needs) (λ c. search needs) (λ c. search needs) (λ c κs. search needs) (λ c κs. search needs)
+    (λ c. search needs) returns returns-2)

@@ -6,21 +6,6 @@ use borrow.Author.Needs.{needs}
 use Rattle.packet_subscribe.proofs.issue.Statement.{statement}
 use Rattle.packet_subscribe.proofs.issue.Tie as tie
 
-status-requires : tie.Need-status-requires
-status-requires c κs = search needs
-
-enum-known-status : tie.Need-enum-known-status
-enum-known-status c = search needs
-
-issue-of-requires : tie.Need-issue-of-requires
-issue-of-requires c κs = search needs
-
-enum-told : tie.Need-enum-told
-enum-told c = search needs
-
-same-length : tie.Need-same-length
-same-length c = search needs
-
 returns : tie.Need-returns
 returns c =
     let a = c .before .before .before .before .before .before .before .before .before .before .args in
@@ -32,13 +17,4 @@ returns-2 c =
     record-like (a .w .now) (a .l) (a .time) (sym (c .enum-told .given .1) ∙ c .before .before .status .ensures) (not-issued (a .w .now) (a .l) (a .time))
 
 pub issue-spec : {M : Type 1} → statement M
-issue-spec =
-    tie.close
-    (tie.spec
-    status-requires
-    enum-known-status
-    issue-of-requires
-    enum-told
-    same-length
-    returns
-    returns-2)
+issue-spec = tie.close (tie.spec (λ c κs. search needs) (λ c. search needs) (λ c κs. search needs) (λ c. search needs) (λ c. search needs) returns returns-2)

@@ -7,31 +7,13 @@ use borrow.Author.Needs.{needs}
 use Rattle.packet_subscribe.proofs.judge.Statement.{statement}
 use Rattle.packet_subscribe.proofs.judge.Tie as tie
 
-all-statuses-requires : tie.Need-all-statuses-requires
-all-statuses-requires c κs = search needs
-
 change-requires : tie.Need-change-requires
 change-requires c κs = (search needs, search needs, sym (c .before .before .before .all-statuses .ensures) ∙ c .before .before .if1 .taken)
-
-same-length : tie.Need-same-length
-same-length c = search needs
-
-same-length-2 : tie.Need-same-length-2
-same-length-2 c = search needs
 
 returns : tie.Need-returns
 returns c =
     let a = c .before .before .before .before .before .before .before .before .before .before .before .before .before .args in
     passes (a .subscribing) (tableOf (a .t .now)) (a .q) (a .f) (a .component) (a .w .now) (sym (c .before .before .before .before .before .before .before .before .all-statuses .ensures) ∙ c .before .before .before .before .before .before .before .if1 .taken) (c .before .before .before .before .change .ensures)
-
-not-ack-requires : tie.Need-not-ack-requires
-not-ack-requires c κs = search needs
-
-same-length-3 : tie.Need-same-length-3
-same-length-3 c = search needs
-
-same-length-4 : tie.Need-same-length-4
-same-length-4 c = search needs
 
 returns-2 : tie.Need-returns-2
 returns-2 c =
@@ -39,15 +21,5 @@ returns-2 c =
     fails (a .subscribing) (tableOf (a .t .now)) (a .q) (a .f) (a .component) (a .w .now) (sym (c .before .before .before .before .before .before .before .before .all-statuses .ensures) ∙ c .before .before .before .before .before .before .before .if1 .left) (c .before .before .before .before .not-ack .ensures (tableOf (a .t .now)))
 
 pub judge-spec : {M : Type 1} → statement M
-judge-spec =
-    tie.close
-    (tie.spec
-    all-statuses-requires
-    change-requires
-    same-length
-    same-length-2
-    returns
-    not-ack-requires
-    same-length-3
-    same-length-4
-    returns-2)
+judge-spec = tie.close (tie.spec (λ c κs. search needs) change-requires (λ c. search needs) (λ c. search needs) returns (λ c κs. search needs)
+    (λ c. search needs) (λ c. search needs) returns-2)

@@ -26,26 +26,11 @@ loop-holds c =
     let a = c .before .before .args in
     (search needs, (search needs, (search needs, no-record (tableOf (a .t .now)) (a .l) (a .time) (a .component) (a .entries))))
 
-entry-in-requires : tie.Need-entry-in-requires Inv-loop μ-loop
-entry-in-requires c κs = search needs
-
-issue-requires : tie.Need-issue-requires Inv-loop μ-loop
-issue-requires c κs = search needs
-
-add-i : tie.Need-add-i Inv-loop μ-loop
-add-i c = search needs
-
-loop-less : tie.Need-loop-less Inv-loop μ-loop
-loop-less c = search needs
-
 loop-again : tie.Need-loop-again Inv-loop μ-loop
 loop-again c =
     let a = c .before .before .before .before .before .before .before .before .before .args in
     let n = c .before .before .before .before .before .before .loop in
     (search needs, (search needs, (search needs, one-more-record (tableOf (a .t .now)) (a .l) (a .time) (a .component) (a .entries) (n .i) (n .inv .1 .1 .1) (c .before .before .before .before .entry-in .ensures) (c .before .before .issue .ensures))))
-
-same-length : tie.Need-same-length Inv-loop μ-loop
-same-length c = search needs
 
 returns : tie.Need-returns Inv-loop μ-loop
 returns c =
@@ -55,16 +40,5 @@ returns c =
     rw (← e) (n .inv .1 .1 .1)
 
 pub records-spec : {M : Type 1} → statement M
-records-spec =
-    tie.close
-    (tie.spec
-    Inv-loop
-    μ-loop
-    loop-holds
-    entry-in-requires
-    issue-requires
-    add-i
-    loop-less
-    loop-again
-    same-length
-    returns)
+records-spec = tie.close (tie.spec Inv-loop μ-loop loop-holds (λ c κs. search needs) (λ c κs. search needs) (λ c. search needs) (λ c. search needs) loop-again
+    (λ c. search needs) returns)

@@ -7,27 +7,6 @@ use borrow.Author.Needs.{needs}
 use Rattle.packet_subscribe.proofs.replace.Statement.{statement}
 use Rattle.packet_subscribe.proofs.replace.Tie as tie
 
-wanted-requires : tie.Need-wanted-requires
-wanted-requires c κs = search needs
-
-status-requires : tie.Need-status-requires
-status-requires c κs = search needs
-
-enum-known-status : tie.Need-enum-known-status
-enum-known-status c = search needs
-
-place-requires : tie.Need-place-requires
-place-requires c κs = search needs
-
-put-subscription-requires : tie.Need-put-subscription-requires
-put-subscription-requires c κs = search needs
-
-enum-told : tie.Need-enum-told
-enum-told c = search needs
-
-same-length : tie.Need-same-length
-same-length c = search needs
-
 returns : tie.Need-returns
 returns c =
     let a = c .before .before .before .before .before .before .before .before .before .before .before .before .args in
@@ -40,15 +19,5 @@ returns-2 c =
     replaced-like (a .w .now) (a .l) x (sym (c .enum-told .given .1) ∙ c .before .before .status .ensures) (not-replaced (a .w .now) (a .l) x)
 
 pub replace-spec : {M : Type 1} → statement M
-replace-spec =
-    tie.close
-    (tie.spec
-    wanted-requires
-    status-requires
-    enum-known-status
-    place-requires
-    put-subscription-requires
-    enum-told
-    same-length
-    returns
-    returns-2)
+replace-spec = tie.close (tie.spec (λ c κs. search needs) (λ c κs. search needs) (λ c. search needs) (λ c κs. search needs) (λ c κs. search needs)
+    (λ c. search needs) (λ c. search needs) returns returns-2)

@@ -25,26 +25,11 @@ loop-holds c =
     let a = c .before .before .args in
     (search needs, (search needs, (search needs, none-replaced (tableOf (a .t .now)) (a .subscribing) (a .l) (a .time) (a .component) (a .entries))))
 
-entry-in-requires : tie.Need-entry-in-requires Inv-loop μ-loop
-entry-in-requires c κs = search needs
-
-replace-requires : tie.Need-replace-requires Inv-loop μ-loop
-replace-requires c κs = search needs
-
-add-i : tie.Need-add-i Inv-loop μ-loop
-add-i c = search needs
-
-loop-less : tie.Need-loop-less Inv-loop μ-loop
-loop-less c = search needs
-
 loop-again : tie.Need-loop-again Inv-loop μ-loop
 loop-again c =
     let a = c .before .before .before .before .before .before .before .before .before .args in
     let n = c .before .before .before .before .before .before .loop in
     (search needs, (search needs, (search needs, one-more-replaced (tableOf (a .t .now)) (a .subscribing) (a .l) (a .time) (a .component) (a .entries) (n .i) (n .inv .1 .1 .1) (c .before .before .before .before .entry-in .ensures) (c .before .before .replace .ensures))))
-
-same-length : tie.Need-same-length Inv-loop μ-loop
-same-length c = search needs
 
 returns : tie.Need-returns Inv-loop μ-loop
 returns c =
@@ -54,16 +39,5 @@ returns c =
     rw (← e) (n .inv .1 .1 .1)
 
 pub replaced-spec : {M : Type 1} → statement M
-replaced-spec =
-    tie.close
-    (tie.spec
-    Inv-loop
-    μ-loop
-    loop-holds
-    entry-in-requires
-    replace-requires
-    add-i
-    loop-less
-    loop-again
-    same-length
-    returns)
+replaced-spec = tie.close (tie.spec Inv-loop μ-loop loop-holds (λ c κs. search needs) (λ c κs. search needs) (λ c. search needs) (λ c. search needs) loop-again
+    (λ c. search needs) returns)

@@ -6,22 +6,10 @@ use borrow.Author.Needs.{needs}
 use Rattle.packet_subscribe.proofs.turn.Statement.{statement}
 use Rattle.packet_subscribe.proofs.turn.Tie as tie
 
-replaced-requires : tie.Need-replaced-requires
-replaced-requires c κs = search needs
-
-records-requires : tie.Need-records-requires
-records-requires c κs = search needs
-
-same-length : tie.Need-same-length
-same-length c = search needs
-
 returns : tie.Need-returns
 returns c =
     let a = c .before .before .before .before .before .before .before .before .before .before .before .args in
     turned-on (tableOf (a .t .now)) (a .l) (a .time) (a .component) (a .entries) (a .count) (a .subscribing) (c .before .before .before .before .if1 .taken) (c .before .before .before .before .before .before .before .replaced .ensures) (c .before .before .records .ensures)
-
-same-length-2 : tie.Need-same-length-2
-same-length-2 c = search needs
 
 returns-2 : tie.Need-returns-2
 returns-2 c =
@@ -29,6 +17,4 @@ returns-2 c =
     turned-off (tableOf (a .t .now)) (a .l) (a .time) (a .component) (a .entries) (a .count) (a .subscribing) (c .if1 .left) (c .before .before .before .replaced .ensures)
 
 pub turn-spec : {M : Type 1} → statement M
-turn-spec =
-    tie.close
-    (tie.spec replaced-requires records-requires same-length returns same-length-2 returns-2)
+turn-spec = tie.close (tie.spec (λ c κs. search needs) (λ c κs. search needs) (λ c. search needs) returns (λ c. search needs) returns-2)

@@ -4,17 +4,8 @@ use borrow.Author.Needs.{needs}
 use Rattle.pool.proofs.look.Statement.{statement}
 use Rattle.pool.proofs.look.Tie as tie
 
-enum-told : tie.Need-enum-told
-enum-told c = search needs
-
-enum-known-s : tie.Need-enum-known-s
-enum-known-s c = search needs
-
-returns : tie.Need-returns
-returns c = search needs
-
 returns-2 : tie.Need-returns-2
 returns-2 c = rw (c .before .s .given .1)
 
 pub look-spec : {M : Type 1} → statement M
-look-spec = tie.close (tie.spec enum-told enum-known-s returns returns-2)
+look-spec = tie.close (tie.spec (λ c. search needs) (λ c. search needs) (λ c. search needs) returns-2)

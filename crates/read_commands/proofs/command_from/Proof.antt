@@ -5,11 +5,8 @@ use Rattle.read_commands.proofs.command_from.Reads as reads
 use Rattle.read_commands.proofs.command_from.Lts as lts
 use Rattle.read_head.proofs.worst.Reads as worst-reads
 
-worst-requires : tie.Need-worst-requires
-worst-requires c κs = search needs
-
 returns : tie.Need-returns
 returns c = rw (c .worst .ensures)
 
 pub command-from-spec : {M : Type 1} → statement M
-command-from-spec = tie.close (tie.spec worst-requires returns)
+command-from-spec = tie.close (tie.spec (λ c κs. search needs) returns)

@@ -8,20 +8,10 @@ use Rattle.read_commands.proofs.command_of.Reads as reads
 use Rattle.read_commands.proofs.command_of.Lts as lts
 use Rattle.read_head.proofs.worst.Reads as worst-reads
 
-worst-requires : tie.Need-worst-requires
-worst-requires c κs = search needs
-
-worst-requires-2 : tie.Need-worst-requires-2
-worst-requires-2 c κs = search needs
-
-worst-requires-3 : tie.Need-worst-requires-3
-worst-requires-3 c κs = search needs
-
 returns : tie.Need-returns
 returns c =
     let fits : SFits w32 (c .before .before .before .before .before .before .args .v .value) = record { sfits = c .struct-told .given .1 .0 .1 } in
     rw (c .before .worst3 .ensures, c .before .before .worst2 .ensures, c .before .before .before .worst .ensures, toZ-ofZ fits)
 
 pub command-of-spec : {M : Type 1} → statement M
-command-of-spec =
-    tie.close (tie.spec worst-requires worst-requires-2 worst-requires-3 returns)
+command-of-spec = tie.close (tie.spec (λ c κs. search needs) (λ c κs. search needs) (λ c κs. search needs) returns)

@@ -24,44 +24,11 @@ Inv-loop s at verdict₀ count₀ entries₀ start i₀ verdict count kept i = g
 abbrev μ-loop : tie.MeasureT-loop
 μ-loop s at verdict₀ count₀ entries₀ start i₀ verdict count kept i = length s - i
 
-no-command-requires : tie.Need-no-command-requires Inv-loop μ-loop
-no-command-requires c κs = search needs
-
-inside-requires : tie.Need-inside-requires Inv-loop μ-loop
-inside-requires c κs = search needs
-
-enum-known-p : tie.Need-enum-known-p Inv-loop μ-loop
-enum-known-p c = search needs
-
-enum-told : tie.Need-enum-told Inv-loop μ-loop
-enum-told c = search needs
-
 returns : tie.Need-returns Inv-loop μ-loop
 returns c = rw (c .before .before .before .no-command .ensures) (none-in (λ l x. pushCommand l (commandOfItem x)) _ _ _ (rw (c .enum-told .given .1) at (c .before .before .inside .ensures)))
 
 loop-holds : tie.Need-loop-holds Inv-loop μ-loop
 loop-holds c = rw (c .before .before .before .before .no-command .ensures) (some-in (λ l x. pushCommand l (commandOfItem x)) _ _ _ _ (rw (c .before .p .given .1) at (c .before .before .before .inside .ensures)))
-
-command-entry-requires : tie.Need-command-entry-requires Inv-loop μ-loop
-command-entry-requires c κs = search needs
-
-worst-requires : tie.Need-worst-requires Inv-loop μ-loop
-worst-requires c κs = search needs
-
-mul-entries : tie.Need-mul-entries Inv-loop μ-loop
-mul-entries c = search needs
-
-array-set-from-entries : tie.Need-array-set-from-entries Inv-loop μ-loop
-array-set-from-entries c = search needs
-
-add-count : tie.Need-add-count Inv-loop μ-loop
-add-count c = search needs
-
-worst-requires-2 : tie.Need-worst-requires-2 Inv-loop μ-loop
-worst-requires-2 c κs = search needs
-
-enum-told-2 : tie.Need-enum-told-2 Inv-loop μ-loop
-enum-told-2 c = search needs
 
 returns-2 : tie.Need-returns-2 Inv-loop μ-loop
 returns-2 c =
@@ -71,9 +38,6 @@ returns-2 c =
     let pushed : _≡_ {A = CommandList} (record { verdict = j .if1 .verdict; count = j .if1 .count; entries = j .if1 .entries }) (pushCommand (record { verdict = l .verdict; count = l .count; entries = l .entries }) (g .command-entry .result .got)) =
     ⊎-elim (λ x. command-taken _ _ _ _ (x .0 .taken) (x .1 ∙ j .before .worst .ensures) (x .2) (x .3)) (λ x. command-left _ _ _ _ (x .0 .left) (x .2 ∙ x .1 .ensures ∙ ap (λ (a : Verdict). worst a Bad) (j .before .worst .ensures)) (x .3) (x .4)) (j .if1 .came) in
     last-item (λ l x. pushCommand l (commandOfItem x)) _ _ _ (pushed ∙ ap (pushCommand (record { verdict = l .verdict; count = l .count; entries = l .entries })) (g .command-entry .ensures .here)) (rw (c .enum-told2 .given .1) at (g .command-entry .ensures .on)) ∙ l .inv
-
-enum-known-m : tie.Need-enum-known-m Inv-loop μ-loop
-enum-known-m c = search needs
 
 loop-less : tie.Need-loop-less Inv-loop μ-loop
 loop-less c =
@@ -90,25 +54,6 @@ loop-again c =
     more-items (λ l x. pushCommand l (commandOfItem x)) _ _ _ (pushed ∙ ap (pushCommand (record { verdict = l .verdict; count = l .count; entries = l .entries })) (g .command-entry .ensures .here)) _ (rw (c .before .m .given .1) at (g .command-entry .ensures .on)) ∙ l .inv
 
 pub commands-in-spec : {M : Type 1} → statement M
-commands-in-spec =
-    tie.close
-    (tie.spec
-    Inv-loop
-    μ-loop
-    no-command-requires
-    inside-requires
-    enum-known-p
-    enum-told
-    returns
-    loop-holds
-    command-entry-requires
-    worst-requires
-    mul-entries
-    array-set-from-entries
-    add-count
-    worst-requires-2
-    enum-told-2
-    returns-2
-    enum-known-m
-    loop-less
-    loop-again)
+commands-in-spec = tie.close (tie.spec Inv-loop μ-loop (λ c κs. search needs) (λ c κs. search needs) (λ c. search needs) (λ c. search needs) returns loop-holds
+    (λ c κs. search needs) (λ c κs. search needs) (λ c. search needs) (λ c. search needs) (λ c. search needs) (λ c κs. search needs) (λ c. search needs)
+    returns-2 (λ c. search needs) loop-less loop-again)

@@ -12,30 +12,6 @@ use Rattle.read_lists.proofs.begins.Reads as begins-reads
 use Rattle.read_commands.proofs.no_commands.Reads as no-commands-reads
 use Rattle.read_commands.proofs.commands_in.Reads as commands-in-reads
 
-slice-aggregate-member-of : tie.Need-slice-aggregate-member-of
-slice-aggregate-member-of c = search needs
-
-member-of-requires : tie.Need-member-of-requires
-member-of-requires c κs = search needs
-
-enum-told : tie.Need-enum-told
-enum-told c = search needs
-
-no-commands-requires : tie.Need-no-commands-requires
-no-commands-requires c κs = search needs
-
-enum-known-p : tie.Need-enum-known-p
-enum-known-p c = search needs
-
-begins-requires : tie.Need-begins-requires
-begins-requires c κs = search needs
-
-commands-in-requires : tie.Need-commands-in-requires
-commands-in-requires c κs = search needs
-
-no-commands-requires-2 : tie.Need-no-commands-requires-2
-no-commands-requires-2 c κs = search needs
-
 returns : tie.Need-returns
 returns c = c .no-commands .ensures ∙ ap commandsOf (sym (list-missing _ _ _ _ (rw (c .before .enum-told .given .1) at (c .before .before .before .member-of .ensures))))
 
@@ -46,17 +22,5 @@ returns-3 : tie.Need-returns-3
 returns-3 c = c .no-commands2 .ensures ∙ no-list (λ l x. pushCommand l (commandOfItem x)) (noCommands Good) (noCommands Missing) (noCommands Bad) _ (c .before .before .begins .ensures) (c .before .if1 .left) ∙ ap commandsOf (sym (list-there _ _ _ _ _ (rw (c .before .before .before .before .p .given .1) at (c .before .before .before .before .before .before .member-of .ensures))))
 
 pub commands-of-spec : {M : Type 1} → statement M
-commands-of-spec =
-    tie.close
-    (tie.spec
-    slice-aggregate-member-of
-    member-of-requires
-    enum-told
-    no-commands-requires
-    enum-known-p
-    begins-requires
-    commands-in-requires
-    no-commands-requires-2
-    returns
-    returns-2
-    returns-3)
+commands-of-spec = tie.close (tie.spec (λ c. search needs) (λ c κs. search needs) (λ c. search needs) (λ c κs. search needs) (λ c. search needs)
+    (λ c κs. search needs) (λ c κs. search needs) (λ c κs. search needs) returns returns-2 returns-3)

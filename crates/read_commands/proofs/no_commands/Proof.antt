@@ -5,11 +5,8 @@ use Rattle.read_commands.proofs.no_commands.Reads as reads
 use Rattle.read_commands.proofs.no_commands.Lts as lts
 use Rattle.read_commands.proofs.no_command.Reads as no-command-reads
 
-no-command-requires : tie.Need-no-command-requires
-no-command-requires c κs = search needs
-
 returns : tie.Need-returns
 returns c = rw (c .no-command .ensures)
 
 pub no-commands-spec : {M : Type 1} → statement M
-no-commands-spec = tie.close (tie.spec no-command-requires returns)
+no-commands-spec = tie.close (tie.spec (λ c κs. search needs) returns)

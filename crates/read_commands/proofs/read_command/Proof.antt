@@ -9,23 +9,9 @@ use Rattle.read_head.proofs.own_label.Reads as own-label-reads
 use Rattle.read_commands.proofs.command_from.Reads as command-from-reads
 use Rattle.read_commands.proofs.commands_of.Reads as commands-of-reads
 
-slice-aggregate-own-label : tie.Need-slice-aggregate-own-label
-slice-aggregate-own-label c = search needs
-
-own-label-requires : tie.Need-own-label-requires
-own-label-requires c κs = search needs
-
-commands-of-requires : tie.Need-commands-of-requires
-commands-of-requires c κs = search needs
-
-command-from-requires : tie.Need-command-from-requires
-command-from-requires c κs = search needs
-
 returns : tie.Need-returns
 unfolding commandAt
 returns c = c .command-from .ensures ∙ rw (c .before .before .own-label .ensures, c .before .commands-of .ensures)
 
 pub read-command-spec : {M : Type 1} → statement M
-read-command-spec =
-    tie.close
-    (tie.spec slice-aggregate-own-label own-label-requires commands-of-requires command-from-requires returns)
+read-command-spec = tie.close (tie.spec (λ c. search needs) (λ c κs. search needs) (λ c κs. search needs) (λ c κs. search needs) returns)

@@ -8,14 +8,8 @@ use Rattle.read_commands.specs.Command.{gotValue}
 use Rattle.read_commands.proofs.value_at.Statement.{statement}
 use Rattle.read_commands.proofs.value_at.Tie as tie
 
-element-at-requires : tie.Need-element-at-requires
-element-at-requires c κs = search needs
-
-value-of-requires : tie.Need-value-of-requires
-value-of-requires c κs = search needs
-
 returns : tie.Need-returns
 returns c = c .value-of .ensures ∙ ap gotValue (ap wordOf (c .before .element-at .ensures) ∙ says (found-from _ _))
 
 pub value-at-spec : {M : Type 1} → statement M
-value-at-spec = tie.close (tie.spec element-at-requires value-of-requires returns)
+value-at-spec = tie.close (tie.spec (λ c κs. search needs) (λ c κs. search needs) returns)

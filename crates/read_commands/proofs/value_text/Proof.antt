@@ -9,14 +9,8 @@ use Rattle.read_commands.proofs.value_text.Lts as lts
 use Rattle.number.proofs.read_i32.Reads as read-i32-reads
 use Rattle.read_commands.proofs.valued_by.Reads as valued-by-reads
 
-read-i32-requires : tie.Need-read-i32-requires
-read-i32-requires c κs = search needs
-
-valued-by-requires : tie.Need-valued-by-requires
-valued-by-requires c κs = search needs
-
 returns : tie.Need-returns
 returns c = c .valued-by .ensures ∙ ap valued (integer-once _ _ (c .before .read-i32 .ensures))
 
 pub value-text-spec : {M : Type 1} → statement M
-value-text-spec = tie.close (tie.spec read-i32-requires valued-by-requires returns)
+value-text-spec = tie.close (tie.spec (λ c κs. search needs) (λ c κs. search needs) returns)

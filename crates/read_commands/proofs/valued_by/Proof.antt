@@ -9,15 +9,6 @@ use Rattle.read_commands.proofs.valued_by.Reads as reads
 use Rattle.read_commands.proofs.valued_by.Lts as lts
 use Rattle.read_commands.proofs.no_value.Reads as no-value-reads
 
-enum-known-n : tie.Need-enum-known-n
-enum-known-n c = search needs
-
-enum-told : tie.Need-enum-told
-enum-told c = search needs
-
-no-value-requires : tie.Need-no-value-requires
-no-value-requires c κs = search needs
-
 returns : tie.Need-returns
 returns c =
     let fits : SFits w32 (c .before .n .given .0 .0) = record { sfits = c .known-told .given .0 .1 } in
@@ -27,4 +18,4 @@ returns-2 : tie.Need-returns-2
 returns-2 c = c .no-value .ensures ∙ sym (rw (c .before .enum-told .given .1))
 
 pub valued-by-spec : {M : Type 1} → statement M
-valued-by-spec = tie.close (tie.spec enum-known-n enum-told no-value-requires returns returns-2)
+valued-by-spec = tie.close (tie.spec (λ c. search needs) (λ c. search needs) (λ c κs. search needs) returns returns-2)

@@ -5,17 +5,8 @@ use Rattle.read_head.proofs.alarm_of.Reads as reads
 use Rattle.read_head.proofs.alarm_of.Lts as lts
 use Rattle.read_head.proofs.worst.Reads as worst-reads
 
--- src/lib.rt:345:28
-worst-requires : tie.Need-worst-requires
-worst-requires c κs = search needs
-
--- src/lib.rt:345:9
-worst-requires-2 : tie.Need-worst-requires-2
-worst-requires-2 c κs = search needs
-
--- src/lib.rt:337:1
 returns : tie.Need-returns
 returns c = rw (c .worst2 .ensures, c .before .worst .ensures)
 
 pub alarm-of-spec : {M : Type 1} → statement M
-alarm-of-spec = tie.close (tie.spec worst-requires worst-requires-2 returns)
+alarm-of-spec = tie.close (tie.spec (λ c κs. search needs) (λ c κs. search needs) returns)

@@ -16,18 +16,6 @@ use Rattle.read_head.proofs.element_of.Reads as element-of-reads
 use Rattle.read_head.proofs.identity_of.Reads as identity-of-reads
 use Rattle.read_head.proofs.ignored.Reads as ignored-reads
 
-slice-aggregate-element-of : tie.Need-slice-aggregate-element-of
-slice-aggregate-element-of c = search needs
-
-element-of-requires : tie.Need-element-of-requires
-element-of-requires c κs = search needs
-
-identity-of-requires : tie.Need-identity-of-requires
-identity-of-requires c κs = search needs
-
-ignored-requires : tie.Need-ignored-requires
-ignored-requires c κs = search needs
-
 returns : tie.Need-returns
 returns c =
     let t = skipWs (c .before .before .before .before .before .before .before .before .args .s .now) in
@@ -45,12 +33,4 @@ returns-2 c =
     c .ignored .ensures ∙ sym (rw k)
 
 pub asked-spec : {M : Type 1} → statement M
-asked-spec =
-    tie.close
-    (tie.spec
-    slice-aggregate-element-of
-    element-of-requires
-    identity-of-requires
-    ignored-requires
-    returns
-    returns-2)
+asked-spec = tie.close (tie.spec (λ c. search needs) (λ c κs. search needs) (λ c κs. search needs) (λ c κs. search needs) returns returns-2)

@@ -6,18 +6,6 @@ use Rattle.read_head.specs.Word.{wordFound}
 use Rattle.read_head.proofs.element_at.Statement.{statement}
 use Rattle.read_head.proofs.element_at.Tie as tie
 
-enum-told : tie.Need-enum-told
-enum-told c = search needs
-
-unusable-requires : tie.Need-unusable-requires
-unusable-requires c κs = search needs
-
-enum-known-found : tie.Need-enum-known-found
-enum-known-found c = search needs
-
-value-at-requires : tie.Need-value-at-requires
-value-at-requires c κs = search needs
-
 returns : tie.Need-returns
 unfolding wordFound
 returns c = c .unusable .ensures ∙ sym (rw (c .before .enum-told .given .1))
@@ -27,6 +15,4 @@ unfolding wordFound
 returns-2 c = c .value-at .ensures ∙ sym (rw (c .before .before .found .given .1))
 
 pub element-at-spec : {M : Type 1} → statement M
-element-at-spec =
-    tie.close
-    (tie.spec enum-told unusable-requires enum-known-found value-at-requires returns returns-2)
+element-at-spec = tie.close (tie.spec (λ c. search needs) (λ c κs. search needs) (λ c. search needs) (λ c κs. search needs) returns returns-2)

@@ -7,14 +7,8 @@ use Rattle.read_head.proofs.Places.{found-word}
 use Rattle.read_head.proofs.element_of.Statement.{statement}
 use Rattle.read_head.proofs.element_of.Tie as tie
 
-member-of-requires : tie.Need-member-of-requires
-member-of-requires c κs = search needs
-
-element-at-requires : tie.Need-element-at-requires
-element-at-requires c κs = search needs
-
 returns : tie.Need-returns
 returns c = c .element-at .ensures ∙ ap elementOf (found-word _ _ _ _ _ (c .before .member-of .ensures))
 
 pub element-of-spec : {M : Type 1} → statement M
-element-of-spec = tie.close (tie.spec member-of-requires element-at-requires returns)
+element-of-spec = tie.close (tie.spec (λ c κs. search needs) (λ c κs. search needs) returns)

@@ -12,39 +12,6 @@ use borrow.Author.Needs.{needs}
 use Rattle.read_head.proofs.head_by.Statement.{statement}
 use Rattle.read_head.proofs.head_by.Tie as tie
 
-slice-aggregate-element-of : tie.Need-slice-aggregate-element-of
-slice-aggregate-element-of c = search needs
-
-element-of-requires : tie.Need-element-of-requires
-element-of-requires c κs = search needs
-
-slice-aggregate-verdict-of : tie.Need-slice-aggregate-verdict-of
-slice-aggregate-verdict-of c = search needs
-
-verdict-of-requires : tie.Need-verdict-of-requires
-verdict-of-requires c κs = search needs
-
-slice-aggregate-element-of-2 : tie.Need-slice-aggregate-element-of-2
-slice-aggregate-element-of-2 c = search needs
-
-element-of-requires-2 : tie.Need-element-of-requires-2
-element-of-requires-2 c κs = search needs
-
-type-of-requires : tie.Need-type-of-requires
-type-of-requires c κs = search needs
-
-enum-known-t : tie.Need-enum-known-t
-enum-known-t c = search needs
-
-head-for-requires : tie.Need-head-for-requires
-head-for-requires c κs = search needs
-
-enum-told : tie.Need-enum-told
-enum-told c = search needs
-
-asked-requires : tie.Need-asked-requires
-asked-requires c κs = search needs
-
 returns : tie.Need-returns
 unfolding headBy
 returns c =
@@ -60,19 +27,5 @@ returns-2 c =
     c .asked .ensures ∙ ap₂ (λ (t : Found) (v : Verdict). headOf t v (wordAt (skipWs (c .before .before .before .before .before .before .before .before .before .before .before .before .args .s .now)))) (sym ty) ve
 
 pub head-by-spec : {M : Type 1} → statement M
-head-by-spec =
-    tie.close
-    (tie.spec
-    slice-aggregate-element-of
-    element-of-requires
-    slice-aggregate-verdict-of
-    verdict-of-requires
-    slice-aggregate-element-of-2
-    element-of-requires-2
-    type-of-requires
-    enum-known-t
-    head-for-requires
-    enum-told
-    asked-requires
-    returns
-    returns-2)
+head-by-spec = tie.close (tie.spec (λ c. search needs) (λ c κs. search needs) (λ c. search needs) (λ c κs. search needs) (λ c. search needs)
+    (λ c κs. search needs) (λ c κs. search needs) (λ c. search needs) (λ c κs. search needs) (λ c. search needs) (λ c κs. search needs) returns returns-2)

@@ -9,42 +9,14 @@ use Rattle.read_head.proofs.answered.Reads as answered-reads
 use Rattle.read_head.proofs.asked.Reads as asked-reads
 use Rattle.read_head.proofs.kind_for.Reads as kind-for-reads
 
--- src/lib.rt:510:9
-answered-requires : tie.Need-answered-requires
-answered-requires c κs = search needs
-
--- src/lib.rt:510:9
 returns : tie.Need-returns
 returns c = c .answered .ensures ∙ sym (rw (eq-eqb _ 2 (c .before .if1 .taken)))
 
--- src/lib.rt:513:9
-answered-requires-2 : tie.Need-answered-requires-2
-answered-requires-2 c κs = search needs
-
--- src/lib.rt:513:9
 returns-2 : tie.Need-returns-2
 returns-2 c = c .answered2 .ensures ∙ sym (rw (ne-eqb _ 2 (c .before .before .if1 .left), eq-eqb _ 3 (c .before .if2 .taken)))
 
--- src/lib.rt:515:18
-kind-for-requires : tie.Need-kind-for-requires
-kind-for-requires c κs = search needs
-
--- src/lib.rt:515:5
-asked-requires : tie.Need-asked-requires
-asked-requires c κs = search needs
-
--- src/lib.rt:506:1
 returns-3 : tie.Need-returns-3
 returns-3 c = c .asked .ensures ∙ rw (c .before .kind-for .ensures) (sym (rw (ne-eqb _ 2 (c .before .before .before .if1 .left), ne-eqb _ 3 (c .before .before .if2 .left))))
 
 pub head-for-spec : {M : Type 1} → statement M
-head-for-spec =
-    tie.close
-    (tie.spec
-    answered-requires
-    returns
-    answered-requires-2
-    returns-2
-    kind-for-requires
-    asked-requires
-    returns-3)
+head-for-spec = tie.close (tie.spec (λ c κs. search needs) returns (λ c κs. search needs) returns-2 (λ c κs. search needs) (λ c κs. search needs) returns-3)

@@ -10,14 +10,8 @@ use Rattle.read_head.proofs.label_in.Lts as lts
 use Rattle.read_head.proofs.element_in.Reads as element-in-reads
 use Rattle.read_head.proofs.label_of.Reads as label-of-reads
 
-element-in-requires : tie.Need-element-in-requires
-element-in-requires c κs = search needs
-
-label-of-requires : tie.Need-label-of-requires
-label-of-requires c κs = search needs
-
 returns : tie.Need-returns
 returns c = c .label-of .ensures ∙ ap gotLabel (ap wordOf (c .before .element-in .ensures) ∙ says (found-at _ _))
 
 pub label-in-spec : {M : Type 1} → statement M
-label-in-spec = tie.close (tie.spec element-in-requires label-of-requires returns)
+label-in-spec = tie.close (tie.spec (λ c κs. search needs) (λ c κs. search needs) returns)

@@ -11,62 +11,23 @@ use Rattle.read_head.proofs.at_most_36.Reads as at-most-36-reads
 use Rattle.read_head.proofs.label_text.Reads as label-text-reads
 use Rattle.read_head.proofs.no_label.Reads as no-label-reads
 
--- src/lib.rt:189:17
-at-most-36-requires : tie.Need-at-most-36-requires
-at-most-36-requires c κs = search needs
-
--- src/lib.rt:191:24
-sub-label-text : tie.Need-sub-label-text
-sub-label-text c = search needs
-
--- src/lib.rt:191:24
-part-label-text-start : tie.Need-part-label-text-start
-part-label-text-start c = search needs
-
--- src/lib.rt:191:24
 part-label-text-end : tie.Need-part-label-text-end
 part-label-text-end c =
     let z : length (c .before .before .before .before .before .before .args .e .copy .bytes) ≡ 36 = search needs in
     search needs
 
--- src/lib.rt:191:13
-label-text-requires : tie.Need-label-text-requires
-label-text-requires c κs = search needs
-
--- src/lib.rt:193:13
-no-label-requires : tie.Need-no-label-requires
-no-label-requires c κs = search needs
-
--- src/lib.rt:196:9
-no-label-requires-2 : tie.Need-no-label-requires-2
-no-label-requires-2 c κs = search needs
-
--- src/lib.rt:183:1
 returns : tie.Need-returns
 returns c =
     let e = c .before .before .before .before .before .before .before .before .args .e in
     let z : length (e .copy .bytes) ≡ 36 = search needs in
     c .label-text .ensures ∙ ap gotLabel (is-lent e (c .before .before .before .before .before .before .before .if1 .taken) (c .before .before .before .before .before .if2 .taken) z _ (c .before .before .before .before .at-most-36 .ensures))
 
--- src/lib.rt:183:1
 returns-2 : tie.Need-returns-2
 returns-2 c = c .no-label .ensures ∙ ap gotLabel (sym (not-copy (c .before .before .before .before .args .e) (c .before .before .before .if1 .taken) (c .before .if2 .left)))
 
--- src/lib.rt:183:1
 returns-3 : tie.Need-returns-3
 returns-3 c = c .no-label2 .ensures ∙ ap gotLabel (sym (not-there (c .before .before .args .e) (c .before .if1 .left)))
 
 pub label-of-spec : {M : Type 1} → statement M
-label-of-spec =
-    tie.close
-    (tie.spec
-    at-most-36-requires
-    sub-label-text
-    part-label-text-start
-    part-label-text-end
-    label-text-requires
-    no-label-requires
-    no-label-requires-2
-    returns
-    returns-2
-    returns-3)
+label-of-spec = tie.close (tie.spec (λ c κs. search needs) (λ c. search needs) (λ c. search needs) part-label-text-end (λ c κs. search needs)
+    (λ c κs. search needs) (λ c κs. search needs) returns returns-2 returns-3)

@@ -5,7 +5,6 @@ use Rattle.read_head.proofs.no_copy.Tie as tie
 use Rattle.read_head.proofs.no_copy.Reads as reads
 use Rattle.read_head.proofs.no_copy.Lts as lts
 
--- src/lib.rt:100:1
 returns : tie.Need-returns
 unfolding noCopy
 returns c = refl

@@ -11,62 +11,23 @@ use Rattle.read_head.proofs.an_order.Reads as an-order-reads
 use Rattle.read_head.proofs.at_most_36.Reads as at-most-36-reads
 use Rattle.read_head.proofs.order_text.Reads as order-text-reads
 
--- src/lib.rt:269:17
-at-most-36-requires : tie.Need-at-most-36-requires
-at-most-36-requires c κs = search needs
-
--- src/lib.rt:271:24
-sub-order-text : tie.Need-sub-order-text
-sub-order-text c = search needs
-
--- src/lib.rt:271:24
-part-order-text-start : tie.Need-part-order-text-start
-part-order-text-start c = search needs
-
--- src/lib.rt:271:24
 part-order-text-end : tie.Need-part-order-text-end
 part-order-text-end c =
     let z : length (c .before .before .before .before .before .before .args .e .copy .bytes) ≡ 36 = search needs in
     search needs
 
--- src/lib.rt:271:13
-order-text-requires : tie.Need-order-text-requires
-order-text-requires c κs = search needs
-
--- src/lib.rt:273:13
-an-order-requires : tie.Need-an-order-requires
-an-order-requires c κs = search needs
-
--- src/lib.rt:276:9
-an-order-requires-2 : tie.Need-an-order-requires-2
-an-order-requires-2 c κs = search needs
-
--- src/lib.rt:263:1
 returns : tie.Need-returns
 returns c =
     let e = c .before .before .before .before .before .before .before .before .args .e in
     let z : length (e .copy .bytes) ≡ 36 = search needs in
     c .order-text .ensures ∙ ap gotOrder (is-lent e (c .before .before .before .before .before .before .before .if1 .taken) (c .before .before .before .before .before .if2 .taken) z _ (c .before .before .before .before .at-most-36 .ensures))
 
--- src/lib.rt:263:1
 returns-2 : tie.Need-returns-2
 returns-2 c = c .an-order .ensures ∙ ap gotOrder (sym (not-copy (c .before .before .before .before .args .e) (c .before .before .before .if1 .taken) (c .before .if2 .left)))
 
--- src/lib.rt:263:1
 returns-3 : tie.Need-returns-3
 returns-3 c = c .an-order2 .ensures ∙ ap gotOrder (sym (not-there (c .before .before .args .e) (c .before .if1 .left)))
 
 pub order-of-spec : {M : Type 1} → statement M
-order-of-spec =
-    tie.close
-    (tie.spec
-    at-most-36-requires
-    sub-order-text
-    part-order-text-start
-    part-order-text-end
-    order-text-requires
-    an-order-requires
-    an-order-requires-2
-    returns
-    returns-2
-    returns-3)
+order-of-spec = tie.close (tie.spec (λ c κs. search needs) (λ c. search needs) (λ c. search needs) part-order-text-end (λ c κs. search needs)
+    (λ c κs. search needs) (λ c κs. search needs) returns returns-2 returns-3)

@@ -10,14 +10,8 @@ use Rattle.read_head.proofs.own_label.Lts as lts
 use Rattle.read_head.proofs.element_of.Reads as element-of-reads
 use Rattle.read_head.proofs.label_of.Reads as label-of-reads
 
-element-of-requires : tie.Need-element-of-requires
-element-of-requires c κs = search needs
-
-label-of-requires : tie.Need-label-of-requires
-label-of-requires c κs = search needs
-
 returns : tie.Need-returns
 returns c = c .label-of .ensures ∙ ap gotLabel (ap wordOf (c .before .element-of .ensures) ∙ says (found-at _ _))
 
 pub own-label-spec : {M : Type 1} → statement M
-own-label-spec = tie.close (tie.spec element-of-requires label-of-requires returns)
+own-label-spec = tie.close (tie.spec (λ c κs. search needs) (λ c κs. search needs) returns)

@@ -10,23 +10,8 @@ use Rattle.read_head.proofs.own_order.Lts as lts
 use Rattle.read_head.proofs.element_of.Reads as element-of-reads
 use Rattle.read_head.proofs.order_of.Reads as order-of-reads
 
-slice-aggregate-element-of : tie.Need-slice-aggregate-element-of
-slice-aggregate-element-of c = search needs
-
-element-of-requires : tie.Need-element-of-requires
-element-of-requires c κs = search needs
-
-order-of-requires : tie.Need-order-of-requires
-order-of-requires c κs = search needs
-
 returns : tie.Need-returns
 returns c = c .order-of .ensures ∙ ap gotOrder (ap wordOf (c .before .element-of .ensures) ∙ says (found-at _ _))
 
 pub own-order-spec : {M : Type 1} → statement M
-own-order-spec =
-    tie.close
-    (tie.spec
-    slice-aggregate-element-of
-    element-of-requires
-    order-of-requires
-    returns)
+own-order-spec = tie.close (tie.spec (λ c. search needs) (λ c κs. search needs) (λ c κs. search needs) returns)

@@ -7,16 +7,9 @@ use Rattle.read_head.proofs.read_aggregated.Reads as reads
 use Rattle.read_head.proofs.read_aggregated.Lts as lts
 use Rattle.read_head.proofs.own_label.Reads as own-label-reads
 
-slice-aggregate-own-label : tie.Need-slice-aggregate-own-label
-slice-aggregate-own-label c = search needs
-
-own-label-requires : tie.Need-own-label-requires
-own-label-requires c κs = search needs
-
 returns : tie.Need-returns
 unfolding aggregatedAt
 returns c = c .own-label .ensures
 
 pub read-aggregated-spec : {M : Type 1} → statement M
-read-aggregated-spec =
-    tie.close (tie.spec slice-aggregate-own-label own-label-requires returns)
+read-aggregated-spec = tie.close (tie.spec (λ c. search needs) (λ c κs. search needs) returns)

@@ -9,12 +9,6 @@ use Rattle.read_head.proofs.read_head.Lts as lts
 use Rattle.read_head.proofs.head_by.Reads as head-by-reads
 use Rattle.read_head.proofs.ignored.Reads as ignored-reads
 
-head-by-requires : tie.Need-head-by-requires
-head-by-requires c κs = search needs
-
-ignored-requires : tie.Need-ignored-requires
-ignored-requires c κs = search needs
-
 returns : tie.Need-returns
 unfolding headAt
 returns c =
@@ -28,4 +22,4 @@ returns-2 c =
     c .ignored .ensures ∙ sym (rw (sym e ∙ c .before .if1 .left))
 
 pub read-head-spec : {M : Type 1} → statement M
-read-head-spec = tie.close (tie.spec head-by-requires ignored-requires returns returns-2)
+read-head-spec = tie.close (tie.spec (λ c κs. search needs) (λ c κs. search needs) returns returns-2)

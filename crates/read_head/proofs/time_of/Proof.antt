@@ -6,28 +6,10 @@ use Rattle.read_head.proofs.Copies.{is-lent, not-copy, not-there}
 use Rattle.read_head.proofs.time_of.Statement.{statement}
 use Rattle.read_head.proofs.time_of.Tie as tie
 
-at-most-36-requires : tie.Need-at-most-36-requires
-at-most-36-requires c κs = search needs
-
-sub-time-text : tie.Need-sub-time-text
-sub-time-text c = search needs
-
-part-time-text-start : tie.Need-part-time-text-start
-part-time-text-start c = search needs
-
 part-time-text-end : tie.Need-part-time-text-end
 part-time-text-end c =
     let z : length (c .before .before .before .before .before .before .args .e .copy .bytes) ≡ 36 = search needs in
     search needs
-
-time-text-requires : tie.Need-time-text-requires
-time-text-requires c κs = search needs
-
-no-time-requires : tie.Need-no-time-requires
-no-time-requires c κs = search needs
-
-no-time-requires-2 : tie.Need-no-time-requires-2
-no-time-requires-2 c κs = search needs
 
 returns : tie.Need-returns
 returns c =
@@ -42,16 +24,5 @@ returns-3 : tie.Need-returns-3
 returns-3 c = c .no-time2 .ensures ∙ ap gotTime (sym (not-there (c .before .before .args .e) (c .before .if1 .left)))
 
 pub time-of-spec : {M : Type 1} → statement M
-time-of-spec =
-    tie.close
-    (tie.spec
-    at-most-36-requires
-    sub-time-text
-    part-time-text-start
-    part-time-text-end
-    time-text-requires
-    no-time-requires
-    no-time-requires-2
-    returns
-    returns-2
-    returns-3)
+time-of-spec = tie.close (tie.spec (λ c κs. search needs) (λ c. search needs) (λ c. search needs) part-time-text-end (λ c κs. search needs)
+    (λ c κs. search needs) (λ c κs. search needs) returns returns-2 returns-3)

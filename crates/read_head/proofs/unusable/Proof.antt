@@ -5,13 +5,8 @@ use Rattle.read_head.proofs.unusable.Reads as reads
 use Rattle.read_head.proofs.unusable.Lts as lts
 use Rattle.read_head.proofs.no_copy.Reads as no-copy-reads
 
--- src/lib.rt:115:15
-no-copy-requires : tie.Need-no-copy-requires
-no-copy-requires c κs = search needs
-
--- src/lib.rt:110:1
 returns : tie.Need-returns
 returns c = rw (c .no-copy .ensures)
 
 pub unusable-spec : {M : Type 1} → statement M
-unusable-spec = tie.close (tie.spec no-copy-requires returns)
+unusable-spec = tie.close (tie.spec (λ c κs. search needs) returns)

@@ -3,9 +3,6 @@ use borrow.Author.Needs.{needs}
 use Rattle.read_head.proofs.word_verdict.Statement.{statement}
 use Rattle.read_head.proofs.word_verdict.Tie as tie
 
-is-word-requires : tie.Need-is-word-requires
-is-word-requires c κs = search needs
-
 returns : tie.Need-returns
 returns c = sym (rw (sym (c .before .is-word .ensures) ∙ c .if1 .taken))
 
@@ -13,4 +10,4 @@ returns-2 : tie.Need-returns-2
 returns-2 c = sym (rw (sym (c .before .is-word .ensures) ∙ c .if1 .left))
 
 pub word-verdict-spec : {M : Type 1} → statement M
-word-verdict-spec = tie.close (tie.spec is-word-requires returns returns-2)
+word-verdict-spec = tie.close (tie.spec (λ c κs. search needs) returns returns-2)

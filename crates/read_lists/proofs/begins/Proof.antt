@@ -5,17 +5,11 @@ use Rattle.read_lists.proofs.begins.Tie as tie
 use Rattle.read_lists.proofs.begins.Reads as reads
 use Rattle.read_lists.proofs.begins.Lts as lts
 
--- src/lib.rt:83:9
 returns : tie.Need-returns
 returns c = begins-past _ _ _ (c .if1 .taken)
 
--- src/lib.rt:85:5
-shared-slice-read-result : tie.Need-shared-slice-read-result
-shared-slice-read-result c = search needs
-
--- src/lib.rt:79:1
 returns-2 : tie.Need-returns-2
 returns-2 c = begins-here _ _ _ (c .before .if1 .left)
 
 pub begins-spec : {M : Type 1} → statement M
-begins-spec = tie.close (tie.spec returns shared-slice-read-result returns-2)
+begins-spec = tie.close (tie.spec returns (λ c. search needs) returns-2)

@@ -6,15 +6,6 @@ use Rattle.read_lists.specs.Items.{flagFound}
 use Rattle.read_lists.proofs.flag_at.Statement.{statement}
 use Rattle.read_lists.proofs.flag_at.Tie as tie
 
-enum-told : tie.Need-enum-told
-enum-told c = search needs
-
-enum-known-found : tie.Need-enum-known-found
-enum-known-found c = search needs
-
-flag-here-requires : tie.Need-flag-here-requires
-flag-here-requires c κs = search needs
-
 returns : tie.Need-returns
 unfolding flagFound
 returns c = sym (rw (c .enum-told .given .1))
@@ -24,4 +15,4 @@ unfolding flagFound
 returns-2 c = c .flag-here .ensures ∙ sym (rw (c .before .before .found .given .1))
 
 pub flag-at-spec : {M : Type 1} → statement M
-flag-at-spec = tie.close (tie.spec enum-told enum-known-found flag-here-requires returns returns-2)
+flag-at-spec = tie.close (tie.spec (λ c. search needs) (λ c. search needs) (λ c κs. search needs) returns returns-2)

@@ -7,28 +7,17 @@ use Rattle.read_lists.proofs.flag_here.Reads as reads
 use Rattle.read_lists.proofs.flag_here.Lts as lts
 use Rattle.read_lists.proofs.begins.Reads as begins-reads
 
--- src/lib.rt:362:8
-begins-requires : tie.Need-begins-requires
-begins-requires c κs = search needs
-
--- src/lib.rt:363:9
 returns : tie.Need-returns
 unfolding flagHere
 returns c = sym (rw (sym (c .before .begins .ensures) ∙ c .if1 .taken))
 
--- src/lib.rt:365:8
-begins-requires-2 : tie.Need-begins-requires-2
-begins-requires-2 c κs = search needs
-
--- src/lib.rt:366:9
 returns-2 : tie.Need-returns-2
 unfolding flagHere
 returns-2 c = sym (rw (sym (c .before .before .before .begins .ensures) ∙ c .before .before .if1 .left, sym (c .before .begins2 .ensures) ∙ c .if2 .taken))
 
--- src/lib.rt:359:1
 returns-3 : tie.Need-returns-3
 unfolding flagHere
 returns-3 c = sym (rw (sym (c .before .before .before .begins .ensures) ∙ c .before .before .if1 .left, sym (c .before .begins2 .ensures) ∙ c .if2 .left))
 
 pub flag-here-spec : {M : Type 1} → statement M
-flag-here-spec = tie.close (tie.spec begins-requires returns begins-requires-2 returns-2 returns-3)
+flag-here-spec = tie.close (tie.spec (λ c κs. search needs) returns (λ c κs. search needs) returns-2 returns-3)

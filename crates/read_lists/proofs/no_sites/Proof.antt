@@ -5,13 +5,8 @@ use Rattle.read_lists.proofs.no_sites.Reads as reads
 use Rattle.read_lists.proofs.no_sites.Lts as lts
 use Rattle.label.proofs.none.Reads as none-reads
 
--- src/lib.rt:257:20
-none-requires : tie.Need-none-requires
-none-requires c κs = search needs
-
--- src/lib.rt:250:1
 returns : tie.Need-returns
 returns c = rw (c .none .ensures)
 
 pub no-sites-spec : {M : Type 1} → statement M
-no-sites-spec = tie.close (tie.spec none-requires returns)
+no-sites-spec = tie.close (tie.spec (λ c κs. search needs) returns)

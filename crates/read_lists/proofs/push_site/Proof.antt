@@ -9,33 +9,13 @@ use Rattle.read_lists.proofs.push_site.Lts as lts
 use Rattle.read_head.proofs.worst.Reads as worst-reads
 use Rattle.read_lists.proofs.put_label.Reads as put-label-reads
 
--- src/lib.rt:278:9
-worst-requires : tie.Need-worst-requires
-worst-requires c κs = search needs
-
--- src/lib.rt:284:13
-put-label-requires : tie.Need-put-label-requires
-put-label-requires c κs = search needs
-
--- src/lib.rt:287:35
-add-t12 : tie.Need-add-t12
-add-t12 c = search needs
-
--- src/lib.rt:285:9
 returns : tie.Need-returns
 unfolding pushSite
 returns c = rw (c .put-label .ensures, c .before .before .before .before .before .worst .ensures) (sym (rw (lt-ltb (c .before .before .before .before .before .before .args .l .sites .count) 16 (c .before .before .before .if1 .taken))))
 
--- src/lib.rt:291:18
-worst-requires-2 : tie.Need-worst-requires-2
-worst-requires-2 c κs = search needs
-
--- src/lib.rt:273:1
 returns-2 : tie.Need-returns-2
 unfolding pushSite
 returns-2 c = rw (c .worst2 .ensures, c .before .before .before .worst .ensures) (sym (rw (le-ltb (c .before .before .before .before .args .l .sites .count) 16 (c .before .if1 .left))))
 
 pub push-site-spec : {M : Type 1} → statement M
-push-site-spec =
-    tie.close
-    (tie.spec worst-requires put-label-requires add-t12 returns worst-requires-2 returns-2)
+push-site-spec = tie.close (tie.spec (λ c κs. search needs) (λ c κs. search needs) (λ c. search needs) returns (λ c κs. search needs) returns-2)

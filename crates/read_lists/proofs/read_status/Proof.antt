@@ -9,23 +9,9 @@ use Rattle.read_head.proofs.own_label.Reads as own-label-reads
 use Rattle.read_lists.proofs.status_of.Reads as status-of-reads
 use Rattle.read_lists.proofs.statuses_of.Reads as statuses-of-reads
 
-slice-aggregate-own-label : tie.Need-slice-aggregate-own-label
-slice-aggregate-own-label c = search needs
-
-own-label-requires : tie.Need-own-label-requires
-own-label-requires c κs = search needs
-
-statuses-of-requires : tie.Need-statuses-of-requires
-statuses-of-requires c κs = search needs
-
-status-of-requires : tie.Need-status-of-requires
-status-of-requires c κs = search needs
-
 returns : tie.Need-returns
 unfolding statusAt
 returns c = c .status-of .ensures ∙ rw (c .before .before .own-label .ensures, c .before .statuses-of .ensures)
 
 pub read-status-spec : {M : Type 1} → statement M
-read-status-spec =
-    tie.close
-    (tie.spec slice-aggregate-own-label own-label-requires statuses-of-requires status-of-requires returns)
+read-status-spec = tie.close (tie.spec (λ c. search needs) (λ c κs. search needs) (λ c κs. search needs) (λ c κs. search needs) returns)

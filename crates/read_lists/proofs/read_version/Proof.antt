@@ -10,32 +10,9 @@ use Rattle.read_lists.proofs.offer_of.Reads as offer-of-reads
 use Rattle.read_lists.proofs.sites_of.Reads as sites-of-reads
 use Rattle.read_lists.proofs.versions_of.Reads as versions-of-reads
 
-versions-of-requires : tie.Need-versions-of-requires
-versions-of-requires c κs = search needs
-
-sites-of-requires : tie.Need-sites-of-requires
-sites-of-requires c κs = search needs
-
-slice-aggregate-own-label : tie.Need-slice-aggregate-own-label
-slice-aggregate-own-label c = search needs
-
-own-label-requires : tie.Need-own-label-requires
-own-label-requires c κs = search needs
-
-offer-of-requires : tie.Need-offer-of-requires
-offer-of-requires c κs = search needs
-
 returns : tie.Need-returns
 unfolding versionAt
 returns c = c .offer-of .ensures ∙ rw (c .before .before .before .before .versions-of .ensures, c .before .before .before .sites-of .ensures, c .before .own-label .ensures)
 
 pub read-version-spec : {M : Type 1} → statement M
-read-version-spec =
-    tie.close
-    (tie.spec
-    versions-of-requires
-    sites-of-requires
-    slice-aggregate-own-label
-    own-label-requires
-    offer-of-requires
-    returns)
+read-version-spec = tie.close (tie.spec (λ c κs. search needs) (λ c κs. search needs) (λ c. search needs) (λ c κs. search needs) (λ c κs. search needs) returns)

@@ -8,14 +8,8 @@ use Rattle.read_lists.specs.Status.{gotSeconds}
 use Rattle.read_lists.proofs.seconds_at.Statement.{statement}
 use Rattle.read_lists.proofs.seconds_at.Tie as tie
 
-element-at-requires : tie.Need-element-at-requires
-element-at-requires c κs = search needs
-
-seconds-of-requires : tie.Need-seconds-of-requires
-seconds-of-requires c κs = search needs
-
 returns : tie.Need-returns
 returns c = c .seconds-of .ensures ∙ ap gotSeconds (ap wordOf (c .before .element-at .ensures) ∙ says (found-from _ _))
 
 pub seconds-at-spec : {M : Type 1} → statement M
-seconds-at-spec = tie.close (tie.spec element-at-requires seconds-of-requires returns)
+seconds-at-spec = tie.close (tie.spec (λ c κs. search needs) (λ c κs. search needs) returns)

@@ -6,59 +6,12 @@ use Rattle.read_lists.proofs.Once.{object-steps, other-steps}
 use Rattle.read_lists.proofs.status_entry.Statement.{statement}
 use Rattle.read_lists.proofs.status_entry.Tie as tie
 
-space-requires : tie.Need-space-requires
-space-requires c κs = search needs
-
-begins-requires : tie.Need-begins-requires
-begins-requires c κs = search needs
-
-slice-aggregate-four : tie.Need-slice-aggregate-four
-slice-aggregate-four c = search needs
-
-slice-aggregate-four-2 : tie.Need-slice-aggregate-four-2
-slice-aggregate-four-2 c = search needs
-
-slice-aggregate-four-3 : tie.Need-slice-aggregate-four-3
-slice-aggregate-four-3 c = search needs
-
-slice-aggregate-four-4 : tie.Need-slice-aggregate-four-4
-slice-aggregate-four-4 c = search needs
-
-four-requires : tie.Need-four-requires
-four-requires c κs = search needs
-
-entry-found-requires : tie.Need-entry-found-requires
-entry-found-requires c κs = search needs
-
-step-from-requires : tie.Need-step-from-requires
-step-from-requires c κs = search needs
-
 returns : tie.Need-returns
 returns c = object-steps _ _ _ _ (c .before .before .before .before .before .before .before .before .before .space .ensures) _ _ (sym (c .before .before .before .before .before .before .before .if1 .taken) ∙ c .before .before .before .before .before .before .before .before .begins .ensures) _ (c .before .before .four .ensures) (c .before .entry-found .ensures) (c .step-from .ensures)
-
-no-entry-requires : tie.Need-no-entry-requires
-no-entry-requires c κs = search needs
-
-step-requires : tie.Need-step-requires
-step-requires c κs = search needs
 
 returns-2 : tie.Need-returns-2
 returns-2 c = other-steps _ _ _ _ (c .before .before .before .before .space .ensures) _ _ (sym (c .before .before .if1 .left) ∙ c .before .before .before .begins .ensures) (rw (c .before .no-entry .ensures)) (c .step .ensures)
 
 pub status-entry-spec : {M : Type 1} → statement M
-status-entry-spec =
-    tie.close
-    (tie.spec
-    space-requires
-    begins-requires
-    slice-aggregate-four
-    slice-aggregate-four-2
-    slice-aggregate-four-3
-    slice-aggregate-four-4
-    four-requires
-    entry-found-requires
-    step-from-requires
-    returns
-    no-entry-requires
-    step-requires
-    returns-2)
+status-entry-spec = tie.close (tie.spec (λ c κs. search needs) (λ c κs. search needs) (λ c. search needs) (λ c. search needs) (λ c. search needs)
+    (λ c. search needs) (λ c κs. search needs) (λ c κs. search needs) (λ c κs. search needs) returns (λ c κs. search needs) (λ c κs. search needs) returns-2)

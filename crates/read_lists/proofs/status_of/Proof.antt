@@ -5,13 +5,8 @@ use Rattle.read_lists.proofs.status_of.Reads as reads
 use Rattle.read_lists.proofs.status_of.Lts as lts
 use Rattle.read_head.proofs.worst.Reads as worst-reads
 
--- src/lib.rt:596:18
-worst-requires : tie.Need-worst-requires
-worst-requires c κs = search needs
-
--- src/lib.rt:588:1
 returns : tie.Need-returns
 returns c = rw (c .worst .ensures)
 
 pub status-of-spec : {M : Type 1} → statement M
-status-of-spec = tie.close (tie.spec worst-requires returns)
+status-of-spec = tie.close (tie.spec (λ c κs. search needs) returns)

@@ -24,44 +24,11 @@ Inv-loop s at subscribing verdict₀ count₀ entries₀ start i₀ verdict coun
 abbrev μ-loop : tie.MeasureT-loop
 μ-loop s at subscribing verdict₀ count₀ entries₀ start i₀ verdict count kept i = length s - i
 
-no-entry-requires : tie.Need-no-entry-requires Inv-loop μ-loop
-no-entry-requires c κs = search needs
-
-inside-requires : tie.Need-inside-requires Inv-loop μ-loop
-inside-requires c κs = search needs
-
-enum-known-p : tie.Need-enum-known-p Inv-loop μ-loop
-enum-known-p c = search needs
-
-enum-told : tie.Need-enum-told Inv-loop μ-loop
-enum-told c = search needs
-
 returns : tie.Need-returns Inv-loop μ-loop
 returns c = rw (c .before .before .before .no-entry .ensures) (none-in (λ l x. pushEntry l (entryOfItem (c .before .before .before .before .before .args .subscribing) x)) _ _ _ (rw (c .enum-told .given .1) at (c .before .before .inside .ensures)))
 
 loop-holds : tie.Need-loop-holds Inv-loop μ-loop
 loop-holds c = rw (c .before .before .before .before .no-entry .ensures) (some-in (λ l x. pushEntry l (entryOfItem (c .before .before .before .before .before .before .args .subscribing) x)) _ _ _ _ (rw (c .before .p .given .1) at (c .before .before .before .inside .ensures)))
-
-status-entry-requires : tie.Need-status-entry-requires Inv-loop μ-loop
-status-entry-requires c κs = search needs
-
-worst-requires : tie.Need-worst-requires Inv-loop μ-loop
-worst-requires c κs = search needs
-
-mul-entries : tie.Need-mul-entries Inv-loop μ-loop
-mul-entries c = search needs
-
-array-set-from-entries : tie.Need-array-set-from-entries Inv-loop μ-loop
-array-set-from-entries c = search needs
-
-add-count : tie.Need-add-count Inv-loop μ-loop
-add-count c = search needs
-
-worst-requires-2 : tie.Need-worst-requires-2 Inv-loop μ-loop
-worst-requires-2 c κs = search needs
-
-enum-told-2 : tie.Need-enum-told-2 Inv-loop μ-loop
-enum-told-2 c = search needs
 
 returns-2 : tie.Need-returns-2 Inv-loop μ-loop
 returns-2 c =
@@ -71,9 +38,6 @@ returns-2 c =
     let pushed : _≡_ {A = StatusList} (record { verdict = j .if1 .verdict; count = j .if1 .count; entries = j .if1 .entries }) (pushEntry (record { verdict = l .verdict; count = l .count; entries = l .entries }) (g .status-entry .result .got)) =
     ⊎-elim (λ x. entry-taken _ _ _ _ (x .0 .taken) (x .1 ∙ j .before .worst .ensures) (x .2) (x .3)) (λ x. entry-left _ _ _ _ (x .0 .left) (x .2 ∙ x .1 .ensures ∙ ap (λ (a : Verdict). worst a Bad) (j .before .worst .ensures)) (x .3) (x .4)) (j .if1 .came) in
     last-item (λ l x. pushEntry l (entryOfItem (g .before .before .before .before .before .before .before .before .args .subscribing) x)) _ _ _ (pushed ∙ ap (pushEntry (record { verdict = l .verdict; count = l .count; entries = l .entries })) (g .status-entry .ensures .here)) (rw (c .enum-told2 .given .1) at (g .status-entry .ensures .on)) ∙ l .inv
-
-enum-known-m : tie.Need-enum-known-m Inv-loop μ-loop
-enum-known-m c = search needs
 
 loop-less : tie.Need-loop-less Inv-loop μ-loop
 loop-less c =
@@ -90,25 +54,6 @@ loop-again c =
     more-items (λ l x. pushEntry l (entryOfItem (g .before .before .before .before .before .before .before .before .args .subscribing) x)) _ _ _ (pushed ∙ ap (pushEntry (record { verdict = l .verdict; count = l .count; entries = l .entries })) (g .status-entry .ensures .here)) _ (rw (c .before .m .given .1) at (g .status-entry .ensures .on)) ∙ l .inv
 
 pub statuses-in-spec : {M : Type 1} → statement M
-statuses-in-spec =
-    tie.close
-    (tie.spec
-    Inv-loop
-    μ-loop
-    no-entry-requires
-    inside-requires
-    enum-known-p
-    enum-told
-    returns
-    loop-holds
-    status-entry-requires
-    worst-requires
-    mul-entries
-    array-set-from-entries
-    add-count
-    worst-requires-2
-    enum-told-2
-    returns-2
-    enum-known-m
-    loop-less
-    loop-again)
+statuses-in-spec = tie.close (tie.spec Inv-loop μ-loop (λ c κs. search needs) (λ c κs. search needs) (λ c. search needs) (λ c. search needs) returns loop-holds
+    (λ c κs. search needs) (λ c κs. search needs) (λ c. search needs) (λ c. search needs) (λ c. search needs) (λ c κs. search needs) (λ c. search needs)
+    returns-2 (λ c. search needs) loop-less loop-again)

@@ -12,30 +12,6 @@ use Rattle.read_lists.proofs.begins.Reads as begins-reads
 use Rattle.read_lists.proofs.no_statuses.Reads as no-statuses-reads
 use Rattle.read_lists.proofs.statuses_in.Reads as statuses-in-reads
 
-slice-aggregate-member-of : tie.Need-slice-aggregate-member-of
-slice-aggregate-member-of c = search needs
-
-member-of-requires : tie.Need-member-of-requires
-member-of-requires c κs = search needs
-
-enum-told : tie.Need-enum-told
-enum-told c = search needs
-
-no-statuses-requires : tie.Need-no-statuses-requires
-no-statuses-requires c κs = search needs
-
-enum-known-p : tie.Need-enum-known-p
-enum-known-p c = search needs
-
-begins-requires : tie.Need-begins-requires
-begins-requires c κs = search needs
-
-statuses-in-requires : tie.Need-statuses-in-requires
-statuses-in-requires c κs = search needs
-
-no-statuses-requires-2 : tie.Need-no-statuses-requires-2
-no-statuses-requires-2 c κs = search needs
-
 returns : tie.Need-returns
 returns c = c .no-statuses .ensures ∙ ap (statusesOf (c .before .before .before .before .before .before .before .args .subscribing)) (sym (list-missing _ _ _ _ (rw (c .before .enum-told .given .1) at (c .before .before .before .member-of .ensures))))
 
@@ -46,17 +22,5 @@ returns-3 : tie.Need-returns-3
 returns-3 c = c .no-statuses2 .ensures ∙ no-list (λ l x. pushEntry l (entryOfItem (c .before .before .before .before .before .before .before .before .before .before .args .subscribing) x)) (noStatuses Good) (noStatuses Missing) (noStatuses Bad) _ (c .before .before .begins .ensures) (c .before .if1 .left) ∙ ap (statusesOf (c .before .before .before .before .before .before .before .before .before .before .args .subscribing)) (sym (list-there _ _ _ _ _ (rw (c .before .before .before .before .p .given .1) at (c .before .before .before .before .before .before .member-of .ensures))))
 
 pub statuses-of-spec : {M : Type 1} → statement M
-statuses-of-spec =
-    tie.close
-    (tie.spec
-    slice-aggregate-member-of
-    member-of-requires
-    enum-told
-    no-statuses-requires
-    enum-known-p
-    begins-requires
-    statuses-in-requires
-    no-statuses-requires-2
-    returns
-    returns-2
-    returns-3)
+statuses-of-spec = tie.close (tie.spec (λ c. search needs) (λ c κs. search needs) (λ c. search needs) (λ c κs. search needs) (λ c. search needs)
+    (λ c κs. search needs) (λ c κs. search needs) (λ c κs. search needs) returns returns-2 returns-3)

@@ -12,21 +12,6 @@ use Rattle.read_lists.proofs.begins.Reads as begins-reads
 use Rattle.read_lists.proofs.no_number.Reads as no-number-reads
 use Rattle.read_lists.proofs.version_of.Reads as version-of-reads
 
-begins-requires : tie.Need-begins-requires
-begins-requires c κs = search needs
-
-slice-aggregate-element-in : tie.Need-slice-aggregate-element-in
-slice-aggregate-element-in c = search needs
-
-element-in-requires : tie.Need-element-in-requires
-element-in-requires c κs = search needs
-
-version-of-requires : tie.Need-version-of-requires
-version-of-requires c κs = search needs
-
-no-number-requires : tie.Need-no-number-requires
-no-number-requires c κs = search needs
-
 returns : tie.Need-returns
 returns c = c .version-of .ensures ∙ ap gotVersion (ap wordOf (c .before .element-in .ensures) ∙ says (found-at _ _)) ∙ sym (rw (sym (c .before .before .before .before .begins .ensures) ∙ c .before .before .before .if1 .taken))
 
@@ -34,13 +19,5 @@ returns-2 : tie.Need-returns-2
 returns-2 c = c .no-number .ensures ∙ sym (rw (sym (c .before .before .begins .ensures) ∙ c .before .if1 .left))
 
 pub version-entry-spec : {M : Type 1} → statement M
-version-entry-spec =
-    tie.close
-    (tie.spec
-    begins-requires
-    slice-aggregate-element-in
-    element-in-requires
-    version-of-requires
-    no-number-requires
-    returns
+version-entry-spec = tie.close (tie.spec (λ c κs. search needs) (λ c. search needs) (λ c κs. search needs) (λ c κs. search needs) (λ c κs. search needs) returns
     returns-2)

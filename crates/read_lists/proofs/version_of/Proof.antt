@@ -12,67 +12,23 @@ use Rattle.read_lists.proofs.no_number.Reads as no-number-reads
 use Rattle.read_lists.proofs.number_of.Reads as number-of-reads
 use Rattle.read_versions.proofs.read_version.Reads as read-version-reads
 
--- src/lib.rt:138:17
-at-most-36-requires : tie.Need-at-most-36-requires
-at-most-36-requires c κs = search needs
-
--- src/lib.rt:140:46
-sub-read-version : tie.Need-sub-read-version
-sub-read-version c = search needs
-
--- src/lib.rt:140:46
-part-read-version-start : tie.Need-part-read-version-start
-part-read-version-start c = search needs
-
--- src/lib.rt:140:46
 part-read-version-end : tie.Need-part-read-version-end
 part-read-version-end c =
     let z : length (c .before .before .before .before .before .before .args .e .copy .bytes) ≡ 36 = search needs in
     search needs
 
--- src/lib.rt:140:23
-read-version-requires : tie.Need-read-version-requires
-read-version-requires c κs = search needs
-
--- src/lib.rt:140:13
-number-of-requires : tie.Need-number-of-requires
-number-of-requires c κs = search needs
-
--- src/lib.rt:142:13
-no-number-requires : tie.Need-no-number-requires
-no-number-requires c κs = search needs
-
--- src/lib.rt:145:9
-no-number-requires-2 : tie.Need-no-number-requires-2
-no-number-requires-2 c κs = search needs
-
--- src/lib.rt:132:1
 returns : tie.Need-returns
 returns c =
     let e = c .before .before .before .before .before .before .before .before .before .args .e in
     let z : length (e .copy .bytes) ≡ 36 = search needs in
     c .number-of .ensures ∙ ap numbered (c .before .read-version .ensures) ∙ ap gotVersion (is-lent e (c .before .before .before .before .before .before .before .before .if1 .taken) (c .before .before .before .before .before .before .if2 .taken) z _ (c .before .before .before .before .before .at-most-36 .ensures))
 
--- src/lib.rt:132:1
 returns-2 : tie.Need-returns-2
 returns-2 c = c .no-number .ensures ∙ ap gotVersion (sym (not-copy (c .before .before .before .before .args .e) (c .before .before .before .if1 .taken) (c .before .if2 .left)))
 
--- src/lib.rt:132:1
 returns-3 : tie.Need-returns-3
 returns-3 c = c .no-number2 .ensures ∙ ap gotVersion (sym (not-there (c .before .before .args .e) (c .before .if1 .left)))
 
 pub version-of-spec : {M : Type 1} → statement M
-version-of-spec =
-    tie.close
-    (tie.spec
-    at-most-36-requires
-    sub-read-version
-    part-read-version-start
-    part-read-version-end
-    read-version-requires
-    number-of-requires
-    no-number-requires
-    no-number-requires-2
-    returns
-    returns-2
-    returns-3)
+version-of-spec = tie.close (tie.spec (λ c κs. search needs) (λ c. search needs) (λ c. search needs) part-read-version-end (λ c κs. search needs)
+    (λ c κs. search needs) (λ c κs. search needs) (λ c κs. search needs) returns returns-2 returns-3)

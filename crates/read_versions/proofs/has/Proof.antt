@@ -21,11 +21,6 @@ Inv-loop n list i₀ found₀ i found = (i ≤ i₀) × (i₀ ≤ 16) × (found 
 abbrev μ-loop : tie.MeasureT-loop
 μ-loop n list i₀ found₀ i found = i
 
--- src/lib.rt:144:9
-at-most-16-requires : tie.Need-at-most-16-requires Inv-loop μ-loop
-at-most-16-requires c κs = search needs
-
--- src/lib.rt:146:5
 loop-holds : tie.Need-loop-holds Inv-loop μ-loop
 unfolding hasOf
 loop-holds c =
@@ -34,27 +29,6 @@ loop-holds c =
     let n = c .at-most-16 .ensures in
     (search needs, omega arith, sym (rw (past list 0 (c .at-most-16 .result) (omega arith))))
 
--- src/lib.rt:147:9
-sub-i : tie.Need-sub-i Inv-loop μ-loop
-sub-i c = search needs
-
--- src/lib.rt:148:24
-mul-either : tie.Need-mul-either Inv-loop μ-loop
-mul-either c = search needs
-
--- src/lib.rt:148:24
-array-read-either : tie.Need-array-read-either Inv-loop μ-loop
-array-read-either c = search needs
-
--- src/lib.rt:148:9
-either-requires : tie.Need-either-requires Inv-loop μ-loop
-either-requires c κs = search needs
-
--- src/lib.rt:146:5
-loop-less : tie.Need-loop-less Inv-loop μ-loop
-loop-less c = search needs
-
--- src/lib.rt:146:5
 loop-again : tie.Need-loop-again Inv-loop μ-loop
 unfolding hasOf
 loop-again c =
@@ -64,7 +38,6 @@ loop-again c =
     let e : length list ≡ 16 = search needs in
     (search needs, l .inv .1, c .either .ensures ∙ ap (λ (b : Bool). pick (eqb (getD list (l .i - 1) 0) (c .before .before .before .before .before .args .n)) true b) (l .inv .2) ∙ sym (rw (back list 0 n (omega (arith, l .inv .1)) (l .i) (search needs) (l .inv .0))))
 
--- src/lib.rt:140:1
 returns : tie.Need-returns Inv-loop μ-loop
 returns c =
     let l = c .before .loop in
@@ -75,17 +48,5 @@ returns c =
     rw (← k) (rw i at (l .inv .2))
 
 pub has-spec : {M : Type 1} → statement M
-has-spec =
-    tie.close
-    (tie.spec
-    Inv-loop
-    μ-loop
-    at-most-16-requires
-    loop-holds
-    sub-i
-    mul-either
-    array-read-either
-    either-requires
-    loop-less
-    loop-again
-    returns)
+has-spec = tie.close (tie.spec Inv-loop μ-loop (λ c κs. search needs) loop-holds (λ c. search needs) (λ c. search needs) (λ c. search needs)
+    (λ c κs. search needs) (λ c. search needs) loop-again returns)

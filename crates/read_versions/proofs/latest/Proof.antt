@@ -19,11 +19,6 @@ Inv-loop theirs list i₀ best₀ i best = (i ≤ i₀) × (i₀ ≤ 16) × (bes
 abbrev μ-loop : tie.MeasureT-loop
 μ-loop theirs list i₀ best₀ i best = i
 
--- src/lib.rt:184:9
-at-most-16-requires : tie.Need-at-most-16-requires Inv-loop μ-loop
-at-most-16-requires c κs = search needs
-
--- src/lib.rt:186:5
 loop-holds : tie.Need-loop-holds Inv-loop μ-loop
 unfolding latestOf
 loop-holds c =
@@ -32,31 +27,6 @@ loop-holds c =
     let n = c .at-most-16 .ensures in
     (search needs, omega arith, sym (rw (past list 0 (c .at-most-16 .result) (omega arith))))
 
--- src/lib.rt:187:9
-sub-i : tie.Need-sub-i Inv-loop μ-loop
-sub-i c = search needs
-
--- src/lib.rt:188:37
-mul-shared : tie.Need-mul-shared Inv-loop μ-loop
-mul-shared c = search needs
-
--- src/lib.rt:188:37
-array-read-shared : tie.Need-array-read-shared Inv-loop μ-loop
-array-read-shared c = search needs
-
--- src/lib.rt:188:22
-shared-requires : tie.Need-shared-requires Inv-loop μ-loop
-shared-requires c κs = search needs
-
--- src/lib.rt:188:9
-later-requires : tie.Need-later-requires Inv-loop μ-loop
-later-requires c κs = search needs
-
--- src/lib.rt:186:5
-loop-less : tie.Need-loop-less Inv-loop μ-loop
-loop-less c = search needs
-
--- src/lib.rt:186:5
 loop-again : tie.Need-loop-again Inv-loop μ-loop
 unfolding latestOf
 loop-again c =
@@ -66,7 +36,6 @@ loop-again c =
     let e : length list ≡ 16 = search needs in
     (search needs, l .inv .1, c .later .ensures ∙ ap₂ laterOf (c .before .shared .ensures) (l .inv .2) ∙ sym (rw (back list 0 n (omega (arith, l .inv .1)) (l .i) (search needs) (l .inv .0))))
 
--- src/lib.rt:180:1
 returns : tie.Need-returns Inv-loop μ-loop
 returns c =
     let l = c .before .loop in
@@ -77,18 +46,5 @@ returns c =
     rw (← k) (rw i at (l .inv .2))
 
 pub latest-spec : {M : Type 1} → statement M
-latest-spec =
-    tie.close
-    (tie.spec
-    Inv-loop
-    μ-loop
-    at-most-16-requires
-    loop-holds
-    sub-i
-    mul-shared
-    array-read-shared
-    shared-requires
-    later-requires
-    loop-less
-    loop-again
-    returns)
+latest-spec = tie.close (tie.spec Inv-loop μ-loop (λ c κs. search needs) loop-holds (λ c. search needs) (λ c. search needs) (λ c. search needs)
+    (λ c κs. search needs) (λ c κs. search needs) (λ c. search needs) loop-again returns)

@@ -20,11 +20,6 @@ Inv-loop count theirs list i₀ found₀ i found = (i ≤ i₀) × (i₀ ≤ 16)
 abbrev μ-loop : tie.MeasureT-loop
 μ-loop count theirs list i₀ found₀ i found = i
 
--- src/lib.rt:204:9
-at-most-16-requires : tie.Need-at-most-16-requires Inv-loop μ-loop
-at-most-16-requires c κs = search needs
-
--- src/lib.rt:206:5
 loop-holds : tie.Need-loop-holds Inv-loop μ-loop
 unfolding meetOf
 loop-holds c =
@@ -33,31 +28,6 @@ loop-holds c =
     let n = c .at-most-16 .ensures in
     (search needs, omega arith, sym (rw (past list noLabel (c .at-most-16 .result) (omega arith))))
 
--- src/lib.rt:207:9
-sub-i : tie.Need-sub-i Inv-loop μ-loop
-sub-i c = search needs
-
--- src/lib.rt:208:35
-mul-listed : tie.Need-mul-listed Inv-loop μ-loop
-mul-listed c = search needs
-
--- src/lib.rt:208:35
-array-copy-out-listed : tie.Need-array-copy-out-listed Inv-loop μ-loop
-array-copy-out-listed c = search needs
-
--- src/lib.rt:208:24
-listed-requires : tie.Need-listed-requires Inv-loop μ-loop
-listed-requires c κs = search needs
-
--- src/lib.rt:208:9
-either-requires : tie.Need-either-requires Inv-loop μ-loop
-either-requires c κs = search needs
-
--- src/lib.rt:206:5
-loop-less : tie.Need-loop-less Inv-loop μ-loop
-loop-less c = search needs
-
--- src/lib.rt:206:5
 loop-again : tie.Need-loop-again Inv-loop μ-loop
 loop-again c =
     let l = c .before .before .before .before .loop in
@@ -66,7 +36,6 @@ loop-again c =
     let e : length list ≡ 16 = search needs in
     (search needs, l .inv .1, meet-back list n (omega (arith, l .inv .1)) (l .i) (search needs) (l .inv .0) _ _ (c .before .listed .ensures) (c .either .ensures) (l .inv .2))
 
--- src/lib.rt:201:1
 returns : tie.Need-returns Inv-loop μ-loop
 returns c =
     let l = c .before .loop in
@@ -77,18 +46,5 @@ returns c =
     rw (← k) (rw i at (l .inv .2))
 
 pub meet-spec : {M : Type 1} → statement M
-meet-spec =
-    tie.close
-    (tie.spec
-    Inv-loop
-    μ-loop
-    at-most-16-requires
-    loop-holds
-    sub-i
-    mul-listed
-    array-copy-out-listed
-    listed-requires
-    either-requires
-    loop-less
-    loop-again
-    returns)
+meet-spec = tie.close (tie.spec Inv-loop μ-loop (λ c κs. search needs) loop-holds (λ c. search needs) (λ c. search needs) (λ c. search needs)
+    (λ c κs. search needs) (λ c κs. search needs) (λ c. search needs) loop-again returns)

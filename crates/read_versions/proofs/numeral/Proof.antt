@@ -6,13 +6,8 @@ use Rattle.read_versions.proofs.numeral.Reads as reads
 use Rattle.read_versions.proofs.numeral.Lts as lts
 use Rattle.number.proofs.read_decimal.Reads as read-decimal-reads
 
--- src/lib.rt:61:5
-read-decimal-requires : tie.Need-read-decimal-requires
-read-decimal-requires c κs = search needs
-
--- src/lib.rt:58:1
 returns : tie.Need-returns
 returns c = numeral-once _ _ _ (c .read-decimal .ensures)
 
 pub numeral-spec : {M : Type 1} → statement M
-numeral-spec = tie.close (tie.spec read-decimal-requires returns)
+numeral-spec = tie.close (tie.spec (λ c κs. search needs) returns)

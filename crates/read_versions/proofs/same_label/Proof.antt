@@ -9,29 +9,11 @@ use Rattle.read_versions.proofs.same_label.Lts as lts
 use Rattle.label.proofs.is.Reads as is-reads
 use Rattle.label.proofs.size.Reads as size-reads
 
--- src/lib.rt:196:9
-size-requires : tie.Need-size-requires
-size-requires c κs = search needs
-
--- src/lib.rt:198:18
-sub-is : tie.Need-sub-is
-sub-is c = search needs
-
--- src/lib.rt:198:18
-part-is-start : tie.Need-part-is-start
-part-is-start c = search needs
-
--- src/lib.rt:198:18
 part-is-end : tie.Need-part-is-end
 part-is-end c =
     let e : length (c .before .before .before .args .b .bytes) ≡ 32 = search needs in
     search needs
 
--- src/lib.rt:198:5
-is-requires : tie.Need-is-requires
-is-requires c κs = search needs
-
--- src/lib.rt:193:1
 returns : tie.Need-returns
 returns c =
     let l = c .before .before .before .before .before .args .b in
@@ -39,5 +21,4 @@ returns c =
     rw (← k) (c .is .ensures)
 
 pub same-label-spec : {M : Type 1} → statement M
-same-label-spec =
-    tie.close (tie.spec size-requires sub-is part-is-start part-is-end is-requires returns)
+same-label-spec = tie.close (tie.spec (λ c κs. search needs) (λ c. search needs) (λ c. search needs) part-is-end (λ c κs. search needs) returns)

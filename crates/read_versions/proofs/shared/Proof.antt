@@ -6,17 +6,11 @@ use Rattle.read_versions.proofs.shared.Reads as reads
 use Rattle.read_versions.proofs.shared.Lts as lts
 use Rattle.read_versions.proofs.has.Reads as has-reads
 
--- src/lib.rt:156:8
-has-requires : tie.Need-has-requires
-has-requires c κs = search needs
-
--- src/lib.rt:153:1
 returns : tie.Need-returns
 returns c = sym (rw (sym (c .before .has .ensures) ∙ c .if1 .taken))
 
--- src/lib.rt:153:1
 returns-2 : tie.Need-returns-2
 returns-2 c = sym (rw (sym (c .before .has .ensures) ∙ c .if1 .left))
 
 pub shared-spec : {M : Type 1} → statement M
-shared-spec = tie.close (tie.spec has-requires returns returns-2)
+shared-spec = tie.close (tie.spec (λ c κs. search needs) returns returns-2)

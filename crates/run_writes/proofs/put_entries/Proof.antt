@@ -15,41 +15,6 @@ Inv-loop line₀ at kind s from count end₀ next₀ i₀ line end next i = (i �
 abbrev μ-loop : tie.MeasureT-loop
 μ-loop line₀ at kind s from count end₀ next₀ i₀ line end next i = count - i
 
-loop-holds : tie.Need-loop-holds Inv-loop μ-loop
-loop-holds c = search needs
-
-status-in-requires : tie.Need-status-in-requires Inv-loop μ-loop
-status-in-requires c κs = search needs
-
-put-status-requires : tie.Need-put-status-requires Inv-loop μ-loop
-put-status-requires c κs = search needs
-
-add-i : tie.Need-add-i Inv-loop μ-loop
-add-i c = search needs
-
-loop-less : tie.Need-loop-less Inv-loop μ-loop
-loop-less c = search needs
-
-loop-again : tie.Need-loop-again Inv-loop μ-loop
-loop-again c = search needs
-
-same-length : tie.Need-same-length Inv-loop μ-loop
-same-length c = search needs
-
-returns : tie.Need-returns Inv-loop μ-loop
-returns c = search needs
-
 pub put-entries-spec : {M : Type 1} → statement M
-put-entries-spec =
-    tie.close
-    (tie.spec
-    Inv-loop
-    μ-loop
-    loop-holds
-    status-in-requires
-    put-status-requires
-    add-i
-    loop-less
-    loop-again
-    same-length
-    returns)
+put-entries-spec = tie.close (tie.spec Inv-loop μ-loop (λ c. search needs) (λ c κs. search needs) (λ c κs. search needs) (λ c. search needs) (λ c. search needs)
+    (λ c. search needs) (λ c. search needs) (λ c. search needs))

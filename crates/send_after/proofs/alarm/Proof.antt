@@ -6,17 +6,8 @@ use borrow.Author.Needs.{needs}
 use Rattle.send_after.proofs.alarm.Statement.{statement}
 use Rattle.send_after.proofs.alarm.Tie as tie
 
-first-pass-requires : tie.Need-first-pass-requires
-first-pass-requires c κs = search needs
-
-alarm-with-requires : tie.Need-alarm-with-requires
-alarm-with-requires c κs = search needs
-
-same-length : tie.Need-same-length
-same-length c = search needs
-
 returns : tie.Need-returns
 returns c = turns-as (c .before .before .alarm-with .ensures) (λ t. rw (c .before .before .before .before .first-pass .ensures t) refl)
 
 pub alarm-spec : {M : Type 1} → statement M
-alarm-spec = tie.close (tie.spec first-pass-requires alarm-with-requires same-length returns)
+alarm-spec = tie.close (tie.spec (λ c κs. search needs) (λ c κs. search needs) (λ c. search needs) returns)

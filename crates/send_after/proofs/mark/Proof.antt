@@ -6,18 +6,6 @@ use borrow.Author.Needs.{needs}
 use Rattle.send_after.proofs.mark.Statement.{statement}
 use Rattle.send_after.proofs.mark.Tie as tie
 
-enum-known-c : tie.Need-enum-known-c
-enum-known-c c = search needs
-
-mark-sent-requires : tie.Need-mark-sent-requires
-mark-sent-requires c κs = search needs
-
-enum-told : tie.Need-enum-told
-enum-told c = search needs
-
-same-length : tie.Need-same-length
-same-length c = search needs
-
 returns : tie.Need-returns
 returns c = rw (c .before .before .before .before .before .c .given .1) (c .before .before .mark-sent .ensures)
 
@@ -25,5 +13,4 @@ returns-2 : tie.Need-returns-2
 returns-2 c = rw (c .enum-told .given .1) (turns-none (c .before .before .before .args .w .now) (λ t. refl))
 
 pub mark-spec : {M : Type 1} → statement M
-mark-spec =
-    tie.close (tie.spec enum-known-c mark-sent-requires enum-told same-length returns returns-2)
+mark-spec = tie.close (tie.spec (λ c. search needs) (λ c κs. search needs) (λ c. search needs) (λ c. search needs) returns returns-2)

@@ -6,13 +6,8 @@ use Rattle.send_after.proofs.same_event.Tie as tie
 use Rattle.send_after.proofs.same_event.Reads as reads
 use Rattle.send_after.proofs.same_event.Lts as lts
 
--- src/lib.rt:23:9
-returns : tie.Need-returns
-returns c = search tests
-
--- src/lib.rt:19:1
 returns-2 : tie.Need-returns-2
 returns-2 c = rw (ne-eqb _ _ (c .if1 .left)) refl
 
 pub same-event-spec : {M : Type 1} → statement M
-same-event-spec = tie.close (tie.spec returns returns-2)
+same-event-spec = tie.close (tie.spec (λ c. search tests) returns-2)

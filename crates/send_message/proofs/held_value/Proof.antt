@@ -9,15 +9,6 @@ use Rattle.send_message.proofs.held_value.Lts as lts
 use Rattle.entry.proofs.flags.known.Reads as known-reads
 use Rattle.send_message.proofs.known_value.Reads as known-value-reads
 
-known-requires : tie.Need-known-requires
-known-requires c κs = search needs
-
-old-requires : tie.Need-old-requires
-old-requires c κs = search needs
-
-known-value-requires : tie.Need-known-value-requires
-known-value-requires c κs = search needs
-
 returns : tie.Need-returns
 returns c =
     let e = c .before .before .before .before .args .e in
@@ -27,4 +18,4 @@ returns-2 : tie.Need-returns-2
 returns-2 c = rw (← c .before .known .ensures, c .if1 .left) refl
 
 pub held-value-spec : {M : Type 1} → statement M
-held-value-spec = tie.close (tie.spec known-requires old-requires known-value-requires returns returns-2)
+held-value-spec = tie.close (tie.spec (λ c κs. search needs) (λ c κs. search needs) (λ c κs. search needs) returns returns-2)

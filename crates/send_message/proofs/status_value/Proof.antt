@@ -7,17 +7,11 @@ use Rattle.send_message.proofs.status_value.Reads as reads
 use Rattle.send_message.proofs.status_value.Lts as lts
 use Rattle.send_message.proofs.recent_value.Reads as recent-value-reads
 
--- src/lib.rt:59:9
-recent-value-requires : tie.Need-recent-value-requires
-recent-value-requires c κs = search needs
-
--- src/lib.rt:59:9
 returns : tie.Need-returns
 returns c = rw (eq-eqb _ _ (c .before .if1 .taken)) (c .recent-value .ensures)
 
--- src/lib.rt:55:1
 returns-2 : tie.Need-returns-2
 returns-2 c = rw (ne-eqb _ _ (c .if1 .left)) refl
 
 pub status-value-spec : {M : Type 1} → statement M
-status-value-spec = tie.close (tie.spec recent-value-requires returns returns-2)
+status-value-spec = tie.close (tie.spec (λ c κs. search needs) returns returns-2)

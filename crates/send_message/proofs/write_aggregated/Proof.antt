@@ -7,15 +7,6 @@ use borrow.Author.Needs.{needs}
 use Rattle.send_message.proofs.write_aggregated.Statement.{statement}
 use Rattle.send_message.proofs.write_aggregated.Tie as tie
 
-aggregated-requires : tie.Need-aggregated-requires
-aggregated-requires c κs = search needs
-
-tell-aggregated-requires : tie.Need-tell-aggregated-requires
-tell-aggregated-requires c κs = search needs
-
-same-length : tie.Need-same-length
-same-length c = search needs
-
 returns : tie.Need-returns
 returns c =
     let a = c .before .before .before .before .before .before .before .before .args in
@@ -23,5 +14,4 @@ returns c =
     rw (← c .before .before .before .before .aggregated .ensures (tableOf (a .t .now))) (c .before .before .tell-aggregated .ensures s (table-of (a .w .now) (tableOf (a .t .now))))
 
 pub write-aggregated-spec : {M : Type 1} → statement M
-write-aggregated-spec =
-    tie.close (tie.spec aggregated-requires tell-aggregated-requires same-length returns)
+write-aggregated-spec = tie.close (tie.spec (λ c κs. search needs) (λ c κs. search needs) (λ c. search needs) returns)

@@ -7,21 +7,6 @@ use borrow.Author.Needs.{needs}
 use Rattle.send_message.proofs.write_alarm.Statement.{statement}
 use Rattle.send_message.proofs.write_alarm.Tie as tie
 
-alarm-row-requires : tie.Need-alarm-row-requires
-alarm-row-requires c κs = search needs
-
-alarm-requires : tie.Need-alarm-requires
-alarm-requires c κs = search needs
-
-state-of-requires : tie.Need-state-of-requires
-state-of-requires c κs = search needs
-
-tell-alarm-requires : tie.Need-tell-alarm-requires
-tell-alarm-requires c κs = search needs
-
-same-length : tie.Need-same-length
-same-length c = search needs
-
 returns : tie.Need-returns
 returns c =
     let a = c .before .before .before .before .before .before .before .before .before .before .args in
@@ -30,12 +15,4 @@ returns c =
     rw (← alarm-row-of s (a .k) e (c .before .before .before .before .before .before .alarm-row .ensures), ← c .before .before .before .before .before .alarm .ensures (tableOf (a .t .now)), ← c .before .before .before .before .state-of .ensures) (c .before .before .tell-alarm .ensures s e)
 
 pub write-alarm-spec : {M : Type 1} → statement M
-write-alarm-spec =
-    tie.close
-    (tie.spec
-    alarm-row-requires
-    alarm-requires
-    state-of-requires
-    tell-alarm-requires
-    same-length
-    returns)
+write-alarm-spec = tie.close (tie.spec (λ c κs. search needs) (λ c κs. search needs) (λ c κs. search needs) (λ c κs. search needs) (λ c. search needs) returns)

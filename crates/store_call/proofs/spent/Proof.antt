@@ -13,9 +13,6 @@ use Rattle.store_call.proofs.spent.Tie as tie
 returns : tie.Need-returns
 returns c = λ t es e. spent-none (siteOf (c .before .before .args .w .now) t) es (e ∙ c .if1 .taken)
 
-next-requires : tie.Need-next-requires
-next-requires c κs = search needs
-
 returns-2 : tie.Need-returns-2
 returns-2 c =
     λ t es e.
@@ -29,4 +26,4 @@ returns-3 c =
     rw (c .before .next .ensures t, ← e) (spent-here (siteOf (c .before .before .before .before .args .w .now) t) es h (omega (arith, c .before .next .ensures t)))
 
 pub spent-spec : {M : Type 1} → statement M
-spent-spec = tie.close (tie.spec returns next-requires returns-2 returns-3)
+spent-spec = tie.close (tie.spec returns (λ c κs. search needs) returns-2 returns-3)

@@ -5,19 +5,9 @@ use borrow.Author.Needs.{needs}
 use Rattle.store_table.proofs.find_component.Statement.{statement}
 use Rattle.store_table.proofs.find_component.Tie as tie
 
-component-count-requires : tie.Need-component-count-requires
-component-count-requires c κs = search needs
-
-wide-requires : tie.Need-wide-requires
-wide-requires c κs = search needs
-
-label-requires : tie.Need-label-requires
-label-requires c κs = search needs
-
 returns : tie.Need-returns
 unfolding tableOf
 returns c = rw (c .before .wide .ensures, c .before .before .component-count .ensures) at (c .label .ensures)
 
 pub find-component-spec : {M : Type 1} → statement M
-find-component-spec =
-    tie.close (tie.spec component-count-requires wide-requires label-requires returns)
+find-component-spec = tie.close (tie.spec (λ c κs. search needs) (λ c κs. search needs) (λ c κs. search needs) returns)

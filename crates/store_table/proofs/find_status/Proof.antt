@@ -5,18 +5,9 @@ use borrow.Author.Needs.{needs}
 use Rattle.store_table.proofs.find_status.Statement.{statement}
 use Rattle.store_table.proofs.find_status.Tie as tie
 
-status-count-requires : tie.Need-status-count-requires
-status-count-requires c κs = search needs
-
-wide-requires : tie.Need-wide-requires
-wide-requires c κs = search needs
-
-item-requires : tie.Need-item-requires
-item-requires c κs = search needs
-
 returns : tie.Need-returns
 unfolding tableOf
 returns c = rw (c .before .wide .ensures, c .before .before .status-count .ensures) at (c .item .ensures)
 
 pub find-status-spec : {M : Type 1} → statement M
-find-status-spec = tie.close (tie.spec status-count-requires wide-requires item-requires returns)
+find-status-spec = tie.close (tie.spec (λ c κs. search needs) (λ c κs. search needs) (λ c κs. search needs) returns)

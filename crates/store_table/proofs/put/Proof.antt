@@ -8,24 +8,6 @@ use borrow.Author.Needs.{needs}
 use Rattle.store_table.proofs.put.Statement.{statement}
 use Rattle.store_table.proofs.put.Tie as tie
 
-head-requires : tie.Need-head-requires
-head-requires c κs = search needs
-
-labels-requires : tie.Need-labels-requires
-labels-requires c κs = search needs
-
-items-requires : tie.Need-items-requires
-items-requires c κs = search needs
-
-items-requires-2 : tie.Need-items-requires-2
-items-requires-2 c κs = search needs
-
-commands-requires : tie.Need-commands-requires
-commands-requires c κs = search needs
-
-same-length : tie.Need-same-length
-same-length c = search needs
-
 returns : tie.Need-returns
 unfolding headBytes
 returns c =
@@ -40,13 +22,5 @@ returns c =
     (then 3504 (c .before .before .before .before .before .before .items2 .ensures) (c .before .before .commands2 .ensures) refl refl) refl refl) refl refl) refl refl)
 
 pub put-spec : {M : Type 1} → statement M
-put-spec =
-    tie.close
-    (tie.spec
-    head-requires
-    labels-requires
-    items-requires
-    items-requires-2
-    commands-requires
-    same-length
-    returns)
+put-spec = tie.close (tie.spec (λ c κs. search needs) (λ c κs. search needs) (λ c κs. search needs) (λ c κs. search needs) (λ c κs. search needs)
+    (λ c. search needs) returns)

@@ -5,12 +5,9 @@ use borrow.Author.Needs.{needs}
 use Rattle.store_table.proofs.status_count.Statement.{statement}
 use Rattle.store_table.proofs.status_count.Tie as tie
 
-count-at-requires : tie.Need-count-at-requires
-count-at-requires c κs = search needs
-
 returns : tie.Need-returns
 unfolding tableOf
 returns c = c .count-at .ensures
 
 pub status-count-spec : {M : Type 1} → statement M
-status-count-spec = tie.close (tie.spec count-at-requires returns)
+status-count-spec = tie.close (tie.spec (λ c κs. search needs) returns)

@@ -5,12 +5,9 @@ use borrow.Author.Needs.{needs}
 use Rattle.store_table.proofs.status_row.Statement.{statement}
 use Rattle.store_table.proofs.status_row.Tie as tie
 
-row-requires : tie.Need-row-requires
-row-requires c κs = search needs
-
 returns : tie.Need-returns
 unfolding tableOf
 returns c = c .row .ensures
 
 pub status-row-spec : {M : Type 1} → statement M
-status-row-spec = tie.close (tie.spec row-requires returns)
+status-row-spec = tie.close (tie.spec (λ c κs. search needs) returns)

@@ -5,12 +5,9 @@ use borrow.Author.Needs.{needs}
 use Rattle.store_table.proofs.sxl.Statement.{statement}
 use Rattle.store_table.proofs.sxl.Tie as tie
 
-label-at-requires : tie.Need-label-at-requires
-label-at-requires c κs = search needs
-
 returns : tie.Need-returns
 unfolding tableOf
 returns c = c .label-at .ensures
 
 pub sxl-spec : {M : Type 1} → statement M
-sxl-spec = tie.close (tie.spec label-at-requires returns)
+sxl-spec = tie.close (tie.spec (λ c κs. search needs) returns)

@@ -8,15 +8,6 @@ use borrow.Author.Needs.{needs}
 use Rattle.store_whole.proofs.numbers.Statement.{statement}
 use Rattle.store_whole.proofs.numbers.Tie as tie
 
-push-requires : tie.Need-push-requires
-push-requires c κs = search needs
-
-push-requires-2 : tie.Need-push-requires-2
-push-requires-2 c κs = search needs
-
-push-requires-3 : tie.Need-push-requires-3
-push-requires-3 c κs = search needs
-
 returns : tie.Need-returns
 returns c =
     let p2 = c .before in
@@ -27,4 +18,4 @@ returns c =
     next-field (32 ∷ 16 ∷ []) (g .period ∷ g .links ∷ []) 16 (g .primary) refl (lit≤ tt) e2 (c .push3 .ensures)
 
 pub numbers-spec : {M : Type 1} → statement M
-numbers-spec = tie.close (tie.spec push-requires push-requires-2 push-requires-3 returns)
+numbers-spec = tie.close (tie.spec (λ c κs. search needs) (λ c κs. search needs) (λ c κs. search needs) returns)

@@ -6,23 +6,10 @@ use borrow.Author.Needs.{needs}
 use Rattle.store_words.proofs.first_half.Statement.{statement}
 use Rattle.store_words.proofs.first_half.Tie as tie
 
-sub-number : tie.Need-sub-number
-sub-number c = search needs
-
-part-number-start : tie.Need-part-number-start
-part-number-start c = search needs
-
 part-number-end : tie.Need-part-number-end
 part-number-end c =
     let e : length (c .before .before .args .id .bytes) ≡ 16 = search (c .before .before, needs) in
     search needs
 
-number-requires : tie.Need-number-requires
-number-requires c κs = search needs
-
-returns : tie.Need-returns
-returns c = search needs
-
 pub first-half-spec : {M : Type 1} → statement M
-first-half-spec =
-    tie.close (tie.spec sub-number part-number-start part-number-end number-requires returns)
+first-half-spec = tie.close (tie.spec (λ c. search needs) (λ c. search needs) part-number-end (λ c κs. search needs) (λ c. search needs))

@@ -8,18 +8,6 @@ use borrow.Author.Needs.{needs}
 use Rattle.store_words.proofs.quad.Statement.{statement}
 use Rattle.store_words.proofs.quad.Tie as tie
 
-push-requires : tie.Need-push-requires
-push-requires c κs = search needs
-
-push-requires-2 : tie.Need-push-requires-2
-push-requires-2 c κs = search needs
-
-push-requires-3 : tie.Need-push-requires-3
-push-requires-3 c κs = search needs
-
-push-requires-4 : tie.Need-push-requires-4
-push-requires-4 c κs = search needs
-
 returns : tie.Need-returns
 returns c =
     let p3 = c .before in
@@ -32,5 +20,4 @@ returns c =
     next-field (16 ∷ 16 ∷ 16 ∷ []) (g .a ∷ g .b ∷ g .c ∷ []) 16 (g .d) refl (lit≤ tt) e3 (c .push4 .ensures)
 
 pub quad-spec : {M : Type 1} → statement M
-quad-spec =
-    tie.close (tie.spec push-requires push-requires-2 push-requires-3 push-requires-4 returns)
+quad-spec = tie.close (tie.spec (λ c κs. search needs) (λ c κs. search needs) (λ c κs. search needs) (λ c κs. search needs) returns)

@@ -17,12 +17,6 @@ abbrev μ-loop : tie.MeasureT-loop
 loop-holds : tie.Need-loop-holds Inv-loop μ-loop
 loop-holds c = (search needs, rw sub-zero)
 
-item-in-requires : tie.Need-item-in-requires Inv-loop μ-loop
-item-in-requires c κs = search needs
-
-is-requires : tie.Need-is-requires Inv-loop μ-loop
-is-requires c κs = search needs
-
 returns : tie.Need-returns Inv-loop μ-loop
 returns c =
     let a = c .before .before .before .before .before .before .before .args in
@@ -30,12 +24,6 @@ returns c =
     let t : itemAt (a .items) (a .component) (a .code .now) (a .name .now) (l .i) ≡ true =
     rw (← (c .before .before .item-in .ensures)) (rw (c .before .is .ensures) at (c .if1 .taken)) in
     sym (stops (itemAt (a .items) (a .component) (a .code .now) (a .name .now)) (a .count) (l .i) _ (l .inv .1) (search needs) t)
-
-add-i : tie.Need-add-i Inv-loop μ-loop
-add-i c = search needs
-
-loop-less : tie.Need-loop-less Inv-loop μ-loop
-loop-less c = search needs
 
 loop-again : tie.Need-loop-again Inv-loop μ-loop
 loop-again c =
@@ -52,16 +40,5 @@ returns-2 c =
     sym (ends (itemAt (a .items) (a .component) (a .code .now) (a .name .now)) (a .count) (l .i) _ (l .inv .1) (search needs))
 
 pub find-item-spec : {M : Type 1} → statement M
-find-item-spec =
-    tie.close
-    (tie.spec
-    Inv-loop
-    μ-loop
-    loop-holds
-    item-in-requires
-    is-requires
-    returns
-    add-i
-    loop-less
-    loop-again
-    returns-2)
+find-item-spec = tie.close (tie.spec Inv-loop μ-loop loop-holds (λ c κs. search needs) (λ c κs. search needs) returns (λ c. search needs) (λ c. search needs)
+    loop-again returns-2)

@@ -19,24 +19,12 @@ abbrev μ-loop : tie.MeasureT-loop
 loop-holds : tie.Need-loop-holds Inv-loop μ-loop
 loop-holds c = (search needs, rw sub-zero)
 
-label-in-requires : tie.Need-label-in-requires Inv-loop μ-loop
-label-in-requires c κs = search needs
-
-is-requires : tie.Need-is-requires Inv-loop μ-loop
-is-requires c κs = search needs
-
 returns : tie.Need-returns Inv-loop μ-loop
 returns c =
     let a = c .before .before .before .before .before .before .args in
     let l = c .before .before .before .before .loop in
     let t = ap (λ (l : Label). sameBytes (textOf l) (a .text .now)) (sym (c .before .before .label-in .ensures)) ∙ sym (c .before .is .ensures) ∙ c .if1 .taken in
     sym (stops (labelAt (a .labels) (a .text .now)) (a .count) (l .i) _ (l .inv .1) (search needs) t)
-
-add-i : tie.Need-add-i Inv-loop μ-loop
-add-i c = search needs
-
-loop-less : tie.Need-loop-less Inv-loop μ-loop
-loop-less c = search needs
 
 loop-again : tie.Need-loop-again Inv-loop μ-loop
 loop-again c =
@@ -52,16 +40,5 @@ returns-2 c =
     sym (ends (labelAt (a .labels) (a .text .now)) (a .count) (l .i) _ (l .inv .1) (search needs))
 
 pub find-label-spec : {M : Type 1} → statement M
-find-label-spec =
-    tie.close
-    (tie.spec
-    Inv-loop
-    μ-loop
-    loop-holds
-    label-in-requires
-    is-requires
-    returns
-    add-i
-    loop-less
-    loop-again
-    returns-2)
+find-label-spec = tie.close (tie.spec Inv-loop μ-loop loop-holds (λ c κs. search needs) (λ c κs. search needs) returns (λ c. search needs) (λ c. search needs)
+    loop-again returns-2)

@@ -6,22 +6,10 @@ use borrow.Author.Needs.{needs}
 use Rattle.table_item.proofs.find_label_like.Statement.{statement}
 use Rattle.table_item.proofs.find_label_like.Tie as tie
 
-size-requires : tie.Need-size-requires
-size-requires c κs = search needs
-
-sub-find-label : tie.Need-sub-find-label
-sub-find-label c = search needs
-
-part-find-label-start : tie.Need-part-find-label-start
-part-find-label-start c = search needs
-
 part-find-label-end : tie.Need-part-find-label-end
 part-find-label-end c =
     let e : length (c .before .before .before .args .l .bytes) ≡ 32 = search needs in
     search needs
-
-find-label-requires : tie.Need-find-label-requires
-find-label-requires c κs = search needs
 
 returns : tie.Need-returns
 returns c =
@@ -30,12 +18,4 @@ returns c =
     c .find-label .ensures ∙ ap (findLabel (a .labels) (a .count)) k
 
 pub find-label-like-spec : {M : Type 1} → statement M
-find-label-like-spec =
-    tie.close
-    (tie.spec
-    size-requires
-    sub-find-label
-    part-find-label-start
-    part-find-label-end
-    find-label-requires
-    returns)
+find-label-like-spec = tie.close (tie.spec (λ c κs. search needs) (λ c. search needs) (λ c. search needs) part-find-label-end (λ c κs. search needs) returns)

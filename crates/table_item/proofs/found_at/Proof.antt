@@ -2,17 +2,8 @@ use borrow.Author.Needs.{needs}
 use Rattle.table_item.proofs.found_at.Statement.{statement}
 use Rattle.table_item.proofs.found_at.Tie as tie
 
-enum-known-f : tie.Need-enum-known-f
-enum-known-f c = search needs
-
-enum-told : tie.Need-enum-told
-enum-told c = search needs
-
 returns : tie.Need-returns
 returns c = rw (c .before .f .given .1)
 
-returns-2 : tie.Need-returns-2
-returns-2 c = search needs
-
 pub found-at-spec : {M : Type 1} → statement M
-found-at-spec = tie.close (tie.spec enum-known-f enum-told returns returns-2)
+found-at-spec = tie.close (tie.spec (λ c. search needs) (λ c. search needs) returns (λ c. search needs))

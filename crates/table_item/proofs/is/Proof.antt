@@ -9,19 +9,13 @@ returns : tie.Need-returns
 unfolding isItem
 returns c = sym (simp (ne-eqb _ _ (c .if1 .taken)))
 
-is-requires : tie.Need-is-requires
-is-requires c κs = search needs
-
 returns-2 : tie.Need-returns-2
 unfolding isItem
 returns-2 c = sym (simp (eq-eqb _ _ (c .before .before .before .if1 .left), sym (c .before .is .ensures) ∙ not-true _ (c .if2 .taken)))
-
-is-requires-2 : tie.Need-is-requires-2
-is-requires-2 c κs = search needs
 
 returns-3 : tie.Need-returns-3
 unfolding isItem
 returns-3 c = c .is2 .ensures ∙ sym (simp (eq-eqb _ _ (c .before .before .before .before .before .if1 .left), sym (c .before .before .before .is .ensures) ∙ not-false _ (c .before .before .if2 .left)))
 
 pub is-spec : {M : Type 1} → statement M
-is-spec = tie.close (tie.spec returns is-requires returns-2 is-requires-2 returns-3)
+is-spec = tie.close (tie.spec returns (λ c κs. search needs) returns-2 (λ c κs. search needs) returns-3)

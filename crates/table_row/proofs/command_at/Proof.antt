@@ -4,15 +4,9 @@ use borrow.Author.Needs.{needs}
 use Rattle.table_row.proofs.command_at.Statement.{statement}
 use Rattle.table_row.proofs.command_at.Tie as tie
 
-status-at-requires : tie.Need-status-at-requires
-status-at-requires c κs = search needs
-
-with-range-requires : tie.Need-with-range-requires
-with-range-requires c κs = search needs
-
 returns : tie.Need-returns
 unfolding commandAt
 returns c = c .with-range .ensures ∙ ap (withRange _) (c .before .status-at .ensures)
 
 pub command-at-spec : {M : Type 1} → statement M
-command-at-spec = tie.close (tie.spec status-at-requires with-range-requires returns)
+command-at-spec = tie.close (tie.spec (λ c κs. search needs) (λ c κs. search needs) returns)

@@ -5,12 +5,6 @@ use borrow.Author.Needs.{needs}
 use Rattle.table_row.proofs.good_counts.Statement.{statement}
 use Rattle.table_row.proofs.good_counts.Tie as tie
 
-add-field : tie.Need-add-field
-add-field c = search needs
-
-field-requires : tie.Need-field-requires
-field-requires c κs = search needs
-
 returns : tie.Need-returns
 unfolding goodCounts
 returns c = sym (simp (lt-leb 1 _ (rw (c .before .field .ensures) at (c .if1 .taken))))
@@ -19,33 +13,14 @@ returns-2 : tie.Need-returns-2
 unfolding goodCounts
 returns-2 c = sym (simp (le-leb 1 _ (rw (c .before .before .field .ensures) at (c .before .if1 .left)), lt-leb _ 8 (rw (c .before .before .field .ensures) at (c .if2 .taken))))
 
-add-field-2 : tie.Need-add-field-2
-add-field-2 c = search needs
-
-field-requires-2 : tie.Need-field-requires-2
-field-requires-2 c κs = search needs
-
 returns-3 : tie.Need-returns-3
 unfolding goodCounts
 returns-3 c = sym (simp (le-leb 1 _ (rw (c .before .before .before .before .field .ensures) at (c .before .before .before .if1 .left)), le-leb _ 8 (rw (c .before .before .before .before .field .ensures) at (c .before .before .if2 .left)), lt-leb _ 32 (rw (c .before .field2 .ensures) at (c .if3 .taken))))
-
-field-requires-3 : tie.Need-field-requires-3
-field-requires-3 c κs = search needs
 
 returns-4 : tie.Need-returns-4
 unfolding goodCounts
 returns-4 c = rw (c .field3 .ensures) (sym (simp (le-leb 1 _ (rw (c .before .before .before .before .before .field .ensures) at (c .before .before .before .before .if1 .left)), le-leb _ 8 (rw (c .before .before .before .before .before .field .ensures) at (c .before .before .before .if2 .left)), le-leb _ 32 (rw (c .before .before .field2 .ensures) at (c .before .if3 .left)))))
 
 pub good-counts-spec : {M : Type 1} → statement M
-good-counts-spec =
-    tie.close
-    (tie.spec
-    add-field
-    field-requires
-    returns
-    returns-2
-    add-field-2
-    field-requires-2
-    returns-3
-    field-requires-3
-    returns-4)
+good-counts-spec = tie.close (tie.spec (λ c. search needs) (λ c κs. search needs) returns returns-2 (λ c. search needs) (λ c κs. search needs) returns-3
+    (λ c κs. search needs) returns-4)

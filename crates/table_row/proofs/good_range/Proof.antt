@@ -13,27 +13,6 @@ use borrow.Author.Needs.{needs}
 use Rattle.table_row.proofs.good_range.Statement.{statement}
 use Rattle.table_row.proofs.good_range.Tie as tie
 
-field-requires : tie.Need-field-requires
-field-requires c κs = search needs
-
-cast-lowest : tie.Need-cast-lowest
-cast-lowest c = search needs
-
-field-requires-2 : tie.Need-field-requires-2
-field-requires-2 c κs = search needs
-
-cast-highest : tie.Need-cast-highest
-cast-highest c = search needs
-
-signed16-of-requires : tie.Need-signed16-of-requires
-signed16-of-requires c κs = search needs
-
-signed16-of-requires-2 : tie.Need-signed16-of-requires-2
-signed16-of-requires-2 c κs = search needs
-
-at-most-requires : tie.Need-at-most-requires
-at-most-requires c κs = search needs
-
 returns : tie.Need-returns
 unfolding goodRange
 returns c =
@@ -45,14 +24,5 @@ returns c =
     c .at-most .ensures ∙ (λ i. atMost (e i) (f i))
 
 pub good-range-spec : {M : Type 1} → statement M
-good-range-spec =
-    tie.close
-    (tie.spec
-    field-requires
-    cast-lowest
-    field-requires-2
-    cast-highest
-    signed16-of-requires
-    signed16-of-requires-2
-    at-most-requires
-    returns)
+good-range-spec = tie.close (tie.spec (λ c κs. search needs) (λ c. search needs) (λ c κs. search needs) (λ c. search needs) (λ c κs. search needs)
+    (λ c κs. search needs) (λ c κs. search needs) returns)

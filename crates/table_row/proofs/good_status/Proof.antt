@@ -5,19 +5,13 @@ use borrow.Author.Needs.{needs}
 use Rattle.table_row.proofs.good_status.Statement.{statement}
 use Rattle.table_row.proofs.good_status.Tie as tie
 
-field-requires : tie.Need-field-requires
-field-requires c κs = search needs
-
 returns : tie.Need-returns
 unfolding goodStatus
 returns c = sym (simp (ne-eqb _ _ (rw (c .before .field .ensures) at (c .if1 .taken))))
-
-field-requires-2 : tie.Need-field-requires-2
-field-requires-2 c κs = search needs
 
 returns-2 : tie.Need-returns-2
 unfolding goodStatus
 returns-2 c = rw (c .field2 .ensures) (sym (simp (eq-eqb _ _ (rw (c .before .before .field .ensures) at (c .before .if1 .left)))))
 
 pub good-status-spec : {M : Type 1} → statement M
-good-status-spec = tie.close (tie.spec field-requires returns field-requires-2 returns-2)
+good-status-spec = tie.close (tie.spec (λ c κs. search needs) returns (λ c κs. search needs) returns-2)

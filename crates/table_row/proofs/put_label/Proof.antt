@@ -5,15 +5,6 @@ use borrow.Author.Needs.{needs}
 use Rattle.table_row.proofs.put_label.Statement.{statement}
 use Rattle.table_row.proofs.put_label.Tie as tie
 
-mul-after : tie.Need-mul-after
-mul-after c = search needs
-
-array-set-from-after : tie.Need-array-set-from-after
-array-set-from-after c = search needs
-
-returns : tie.Need-returns
-returns c = search needs
-
 returns-2 : tie.Need-returns-2
 returns-2 c =
     let a = c .before .args in
@@ -21,4 +12,4 @@ returns-2 c =
     sym (set-out (a .labels) (a .i) _ (search needs))
 
 pub put-label-spec : {M : Type 1} → statement M
-put-label-spec = tie.close (tie.spec mul-after array-set-from-after returns returns-2)
+put-label-spec = tie.close (tie.spec (λ c. search needs) (λ c. search needs) (λ c. search needs) returns-2)

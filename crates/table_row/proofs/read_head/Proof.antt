@@ -7,16 +7,10 @@ use borrow.Author.Needs.{needs}
 use Rattle.table_row.proofs.read_head.Statement.{statement}
 use Rattle.table_row.proofs.read_head.Tie as tie
 
-first-head-requires : tie.Need-first-head-requires
-first-head-requires c κs = search needs
-
 returns : tie.Need-returns
 unfolding headOf
 returns c = let e = c .before .before .first-head .ensures in
     e ∙ sym (simp (lt-ltb _ far (rw e at (c .if1 .taken))))
-
-second-head-requires : tie.Need-second-head-requires
-second-head-requires c κs = search needs
 
 returns-2 : tie.Need-returns-2
 unfolding headOf
@@ -24,4 +18,4 @@ returns-2 c = let e = c .before .before .before .first-head .ensures in
     c .second-head .ensures ∙ sym (simp (le-ltb _ far (rw e at (c .before .if1 .left))))
 
 pub read-head-spec : {M : Type 1} → statement M
-read-head-spec = tie.close (tie.spec first-head-requires returns second-head-requires returns-2)
+read-head-spec = tie.close (tie.spec (λ c κs. search needs) returns (λ c κs. search needs) returns-2)

@@ -20,27 +20,9 @@ Inv-loop s at kind components count items₀ next₀ i₀ items next i =
 abbrev μ-loop : tie.MeasureT-loop
 μ-loop s at kind components count items₀ next₀ i₀ items next i = count - i
 
-none-requires : tie.Need-none-requires Inv-loop μ-loop
-none-requires c κs = search needs
-
 loop-holds : tie.Need-loop-holds Inv-loop μ-loop
 unfolding itemsTo
 loop-holds c = (search needs, (refl, (rw (c .none .ensures), refl)))
-
-item-at-requires : tie.Need-item-at-requires Inv-loop μ-loop
-item-at-requires c κs = search needs
-
-mul-items : tie.Need-mul-items Inv-loop μ-loop
-mul-items c = search needs
-
-array-set-from-items : tie.Need-array-set-from-items Inv-loop μ-loop
-array-set-from-items c = search needs
-
-add-i : tie.Need-add-i Inv-loop μ-loop
-add-i c = search needs
-
-loop-less : tie.Need-loop-less Inv-loop μ-loop
-loop-less c = search needs
 
 loop-again : tie.Need-loop-again Inv-loop μ-loop
 unfolding itemsTo
@@ -73,17 +55,5 @@ returns c =
     (λ i. record { items = l .inv .1 .1 .0 i; next = l .inv .1 .1 .1 i }) ∙ ap (itemsTo (a .s .now) (a .kind) (a .components) (a .at)) e
 
 pub read-items-spec : {M : Type 1} → statement M
-read-items-spec =
-    tie.close
-    (tie.spec
-    Inv-loop
-    μ-loop
-    none-requires
-    loop-holds
-    item-at-requires
-    mul-items
-    array-set-from-items
-    add-i
-    loop-less
-    loop-again
-    returns)
+read-items-spec = tie.close (tie.spec Inv-loop μ-loop (λ c κs. search needs) loop-holds (λ c κs. search needs) (λ c. search needs) (λ c. search needs)
+    (λ c. search needs) (λ c. search needs) loop-again returns)

@@ -12,21 +12,9 @@ Inv-loop s at count r₀ i₀ r i = (i ≤ count) × (r ≡ labelsTo s at i)
 abbrev μ-loop : tie.MeasureT-loop
 μ-loop s at count r₀ i₀ r i = count - i
 
-none-requires : tie.Need-none-requires Inv-loop μ-loop
-none-requires c κs = search needs
-
 loop-holds : tie.Need-loop-holds Inv-loop μ-loop
 unfolding labelsTo
 loop-holds c = (search needs, rw (c .none .ensures))
-
-one-more-label-requires : tie.Need-one-more-label-requires Inv-loop μ-loop
-one-more-label-requires c κs = search needs
-
-add-i : tie.Need-add-i Inv-loop μ-loop
-add-i c = search needs
-
-loop-less : tie.Need-loop-less Inv-loop μ-loop
-loop-less c = search needs
 
 loop-again : tie.Need-loop-again Inv-loop μ-loop
 unfolding labelsTo
@@ -40,15 +28,5 @@ returns c =
     l .inv .1 ∙ ap (labelsTo (a .s .now) (a .at)) e
 
 pub read-labels-spec : {M : Type 1} → statement M
-read-labels-spec =
-    tie.close
-    (tie.spec
-    Inv-loop
-    μ-loop
-    none-requires
-    loop-holds
-    one-more-label-requires
-    add-i
-    loop-less
-    loop-again
-    returns)
+read-labels-spec = tie.close (tie.spec Inv-loop μ-loop (λ c κs. search needs) loop-holds (λ c κs. search needs) (λ c. search needs) (λ c. search needs)
+    loop-again returns)

@@ -6,40 +6,10 @@ use borrow.Author.Needs.{needs}
 use Rattle.table_row.proofs.status_at.Statement.{statement}
 use Rattle.table_row.proofs.status_at.Tie as tie
 
-missed-requires : tie.Need-missed-requires
-missed-requires c κs = search needs
-
 returns : tie.Need-returns
 returns c =
     let a = c .before .before .before .args in
     c .missed .ensures ∙ sym (status-behind (a .s .now) (a .components) (a .at) (c .before .if1 .taken))
-
-shared-slice-read-wide : tie.Need-shared-slice-read-wide
-shared-slice-read-wide c = search needs
-
-wide-requires : tie.Need-wide-requires
-wide-requires c κs = search needs
-
-good-status-requires : tie.Need-good-status-requires
-good-status-requires c κs = search needs
-
-add-read : tie.Need-add-read
-add-read c = search needs
-
-read-requires : tie.Need-read-requires
-read-requires c κs = search needs
-
-read-requires-2 : tie.Need-read-requires-2
-read-requires-2 c κs = search needs
-
-field-requires : tie.Need-field-requires
-field-requires c κs = search needs
-
-cast-t18 : tie.Need-cast-t18
-cast-t18 c = search needs
-
-missed-requires-2 : tie.Need-missed-requires-2
-missed-requires-2 c κs = search needs
 
 returns-2 : tie.Need-returns-2
 returns-2 c =
@@ -55,19 +25,5 @@ returns-3 c =
     c .missed2 .ensures ∙ sym (status-bad (a .s .now) (a .components) (a .at) (c .before .before .before .before .before .if1 .left) g)
 
 pub status-at-spec : {M : Type 1} → statement M
-status-at-spec =
-    tie.close
-    (tie.spec
-    missed-requires
-    returns
-    shared-slice-read-wide
-    wide-requires
-    good-status-requires
-    add-read
-    read-requires
-    read-requires-2
-    field-requires
-    cast-t18
-    missed-requires-2
-    returns-2
-    returns-3)
+status-at-spec = tie.close (tie.spec (λ c κs. search needs) returns (λ c. search needs) (λ c κs. search needs) (λ c κs. search needs) (λ c. search needs)
+    (λ c κs. search needs) (λ c κs. search needs) (λ c κs. search needs) (λ c. search needs) (λ c κs. search needs) returns-2 returns-3)

@@ -8,50 +8,17 @@ use borrow.Author.Needs.{needs}
 use Rattle.table_row.proofs.with_range.Statement.{statement}
 use Rattle.table_row.proofs.with_range.Tie as tie
 
-missed-requires : tie.Need-missed-requires
-missed-requires c κs = search needs
-
 returns : tie.Need-returns
 returns c =
     let a = c .before .before .before .args in
     let h : length (a .s .now) < a .r .next + 4 = omega (arith, c .before .if1 .taken) in
     c .missed .ensures ∙ sym (range-behind (a .s .now) (a .r) h)
 
-sub-if2 : tie.Need-sub-if2
-sub-if2 c = search needs
-
-missed-requires-2 : tie.Need-missed-requires-2
-missed-requires-2 c κs = search needs
-
 returns-2 : tie.Need-returns-2
 returns-2 c =
     let a = c .before .before .before .before .args in
     let h : length (a .s .now) < a .r .next + 4 = omega (arith, c .before .if2 .taken) in
     c .missed2 .ensures ∙ sym (range-behind (a .s .now) (a .r) h)
-
-add-end : tie.Need-add-end
-add-end c = search needs
-
-sub-number : tie.Need-sub-number
-sub-number c = search needs
-
-part-number-start : tie.Need-part-number-start
-part-number-start c = search needs
-
-part-number-end : tie.Need-part-number-end
-part-number-end c = search needs
-
-number-requires : tie.Need-number-requires
-number-requires c κs = search needs
-
-good-range-requires : tie.Need-good-range-requires
-good-range-requires c κs = search needs
-
-ranged-requires : tie.Need-ranged-requires
-ranged-requires c κs = search needs
-
-missed-requires-3 : tie.Need-missed-requires-3
-missed-requires-3 c κs = search needs
 
 returns-3 : tie.Need-returns-3
 returns-3 c =
@@ -74,21 +41,6 @@ returns-4 c =
     c .missed3 .ensures ∙ sym (range-bad (a .s .now) (a .r) h g)
 
 pub with-range-spec : {M : Type 1} → statement M
-with-range-spec =
-    tie.close
-    (tie.spec
-    missed-requires
-    returns
-    sub-if2
-    missed-requires-2
-    returns-2
-    add-end
-    sub-number
-    part-number-start
-    part-number-end
-    number-requires
-    good-range-requires
-    ranged-requires
-    missed-requires-3
-    returns-3
-    returns-4)
+with-range-spec = tie.close (tie.spec (λ c κs. search needs) returns (λ c. search needs) (λ c κs. search needs) returns-2 (λ c. search needs)
+    (λ c. search needs) (λ c. search needs) (λ c. search needs) (λ c κs. search needs) (λ c κs. search needs) (λ c κs. search needs) (λ c κs. search needs)
+    returns-3 returns-4)

@@ -22,29 +22,8 @@ Inv-loop rows first₀ i₀ first i = (i ≤ 16) × (first ≡ padded 16 noItem 
 abbrev μ-loop : tie.MeasureT-loop
 μ-loop rows first₀ i₀ first i = 16 - i
 
-none-requires : tie.Need-none-requires Inv-loop μ-loop
-none-requires c κs = search needs
-
 loop-holds : tie.Need-loop-holds Inv-loop μ-loop
 loop-holds c = (search needs, rw (c .none .ensures))
-
-mul-first : tie.Need-mul-first Inv-loop μ-loop
-mul-first c = search needs
-
-array-copy-out-first : tie.Need-array-copy-out-first Inv-loop μ-loop
-array-copy-out-first c = search needs
-
-mul-first-2 : tie.Need-mul-first-2 Inv-loop μ-loop
-mul-first-2 c = search needs
-
-array-set-from-first : tie.Need-array-set-from-first Inv-loop μ-loop
-array-set-from-first c = search needs
-
-add-i : tie.Need-add-i Inv-loop μ-loop
-add-i c = search needs
-
-loop-less : tie.Need-loop-less Inv-loop μ-loop
-loop-less c = search needs
 
 loop-again : tie.Need-loop-again Inv-loop μ-loop
 loop-again c =
@@ -63,18 +42,5 @@ returns c =
     l .inv .1 ∙ ap (λ (m : ℕ). padded 16 noItem (take m rows)) e ∙ full 16 noItem (take 16 rows) (length-take-le 16 rows (omega arith))
 
 pub first-sixteen-spec : {M : Type 1} → statement M
-first-sixteen-spec =
-    tie.close
-    (tie.spec
-    Inv-loop
-    μ-loop
-    none-requires
-    loop-holds
-    mul-first
-    array-copy-out-first
-    mul-first-2
-    array-set-from-first
-    add-i
-    loop-less
-    loop-again
-    returns)
+first-sixteen-spec = tie.close (tie.spec Inv-loop μ-loop (λ c κs. search needs) loop-holds (λ c. search needs) (λ c. search needs) (λ c. search needs)
+    (λ c. search needs) (λ c. search needs) (λ c. search needs) loop-again returns)

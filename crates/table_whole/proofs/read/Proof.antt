@@ -5,13 +5,10 @@ use borrow.Author.Needs.{needs}
 use Rattle.table_whole.proofs.read.Statement.{statement}
 use Rattle.table_whole.proofs.read.Tie as tie
 
-read-table-requires : tie.Need-read-table-requires
-read-table-requires c κs = search needs
-
 returns : tie.Need-returns
 returns c =
     let s = c .before .before .args .s .now in
     subst (Reads s) (sym (c .read-table .ensures)) (reads-table s (λ i. c .before .shared-slice-known .given i .fits))
 
 pub read-spec : {M : Type 1} → statement M
-read-spec = tie.close (tie.spec read-table-requires returns)
+read-spec = tie.close (tie.spec (λ c κs. search needs) returns)

@@ -18,29 +18,8 @@ Inv-loop rows wider₀ i₀ wider i = (i ≤ 16) × (wider ≡ padded 32 noItem 
 abbrev μ-loop : tie.MeasureT-loop
 μ-loop rows wider₀ i₀ wider i = 16 - i
 
-none-requires : tie.Need-none-requires Inv-loop μ-loop
-none-requires c κs = search needs
-
 loop-holds : tie.Need-loop-holds Inv-loop μ-loop
 loop-holds c = (search needs, rw (c .none .ensures))
-
-mul-wider : tie.Need-mul-wider Inv-loop μ-loop
-mul-wider c = search needs
-
-array-copy-out-wider : tie.Need-array-copy-out-wider Inv-loop μ-loop
-array-copy-out-wider c = search needs
-
-mul-wider-2 : tie.Need-mul-wider-2 Inv-loop μ-loop
-mul-wider-2 c = search needs
-
-array-set-from-wider : tie.Need-array-set-from-wider Inv-loop μ-loop
-array-set-from-wider c = search needs
-
-add-i : tie.Need-add-i Inv-loop μ-loop
-add-i c = search needs
-
-loop-less : tie.Need-loop-less Inv-loop μ-loop
-loop-less c = search needs
 
 loop-again : tie.Need-loop-again Inv-loop μ-loop
 loop-again c =
@@ -59,18 +38,5 @@ returns c =
     l .inv .1 ∙ ap (λ (m : ℕ). padded 32 noItem (take m rows)) e ∙ ap (padded 32 noItem) (take-all 16 rows (omega arith))
 
 pub widened-spec : {M : Type 1} → statement M
-widened-spec =
-    tie.close
-    (tie.spec
-    Inv-loop
-    μ-loop
-    none-requires
-    loop-holds
-    mul-wider
-    array-copy-out-wider
-    mul-wider-2
-    array-set-from-wider
-    add-i
-    loop-less
-    loop-again
-    returns)
+widened-spec = tie.close (tie.spec Inv-loop μ-loop (λ c κs. search needs) loop-holds (λ c. search needs) (λ c. search needs) (λ c. search needs)
+    (λ c. search needs) (λ c. search needs) (λ c. search needs) loop-again returns)

@@ -5,11 +5,9 @@ use Rattle.weekc.proofs.room.Tie as tie
 use Rattle.weekc.proofs.room.Reads as reads
 use Rattle.weekc.proofs.room.Lts as lts
 
--- src/lib.rt:33:1
 returns : tie.Need-returns
 returns c = sym (rw (le-leb (c .before .args .written) (c .before .args .length) (c .if1 .taken)))
 
--- src/lib.rt:33:1
 returns-2 : tie.Need-returns-2
 returns-2 c = sym (rw (lt-leb (c .before .args .written) (c .before .args .length) (c .if1 .left)))
 

@@ -7,47 +7,15 @@ use Rattle.weekc.proofs.rsmp_week_feed.Lts as lts
 use Rattle.week_stream.proofs.feed.Reads as feed-reads
 use Rattle.weekc.proofs.refused.Reads as refused-reads
 
--- src/lib.rt:57:9
-refused-requires : tie.Need-refused-requires
-refused-requires c κs = search needs
-
--- src/lib.rt:57:9
 returns : tie.Need-returns
 returns c = record { done = λ e f. absurd (c .before .if1 .taken e); refused = λ n. (c .refused .ensures, (refl, refl)) }
 
--- src/lib.rt:60:9
-refused-requires-2 : tie.Need-refused-requires-2
-refused-requires-2 c κs = search needs
-
--- src/lib.rt:60:9
 returns-2 : tie.Need-returns-2
 returns-2 c = record { done = λ e f. absurd (c .before .if2 .taken f); refused = λ n. (c .refused2 .ensures, (refl, refl)) }
 
--- src/lib.rt:64:15
-feed-requires : tie.Need-feed-requires
-feed-requires c κs = search needs
-
--- src/lib.rt:52:1
-same-length : tie.Need-same-length
-same-length c = search needs
-
--- src/lib.rt:52:1
-same-length-2 : tie.Need-same-length-2
-same-length-2 c = search needs
-
--- src/lib.rt:52:1
 returns-3 : tie.Need-returns-3
 returns-3 c = record { done = λ e f. (refl, c .before .before .before .before .feed .ensures); refused = λ n. absurd (n (c .before .before .before .before .before .before .before .before .if1 .left) (c .before .before .before .before .before .before .before .if2 .left)) }
 
 pub rsmp-week-feed-spec : {M : Type 1} → statement M
-rsmp-week-feed-spec =
-    tie.close
-    (tie.spec
-    refused-requires
-    returns
-    refused-requires-2
-    returns-2
-    feed-requires
-    same-length
-    same-length-2
-    returns-3)
+rsmp-week-feed-spec = tie.close (tie.spec (λ c κs. search needs) returns (λ c κs. search needs) returns-2 (λ c κs. search needs) (λ c. search needs)
+    (λ c. search needs) returns-3)

@@ -2,25 +2,11 @@ use borrow.Author.Needs.{needs}
 use Rattle.write_member.proofs.choice.Statement.{statement}
 use Rattle.write_member.proofs.choice.Tie as tie
 
-put-bytes-requires : tie.Need-put-bytes-requires
-put-bytes-requires c κs = search needs
-
-put-bytes-requires-2 : tie.Need-put-bytes-requires-2
-put-bytes-requires-2 c κs = search needs
-
-same-length : tie.Need-same-length
-same-length c = search needs
-
 returns : tie.Need-returns
 returns c = rw (c .before .before .before .before .if1 .taken) (c .before .before .put-bytes .ensures)
-
-same-length-2 : tie.Need-same-length-2
-same-length-2 c = search needs
 
 returns-2 : tie.Need-returns-2
 returns-2 c = rw (c .before .before .before .before .if1 .left) (c .before .before .put-bytes2 .ensures)
 
 pub choice-spec : {M : Type 1} → statement M
-choice-spec =
-    tie.close
-    (tie.spec put-bytes-requires put-bytes-requires-2 same-length returns same-length-2 returns-2)
+choice-spec = tie.close (tie.spec (λ c κs. search needs) (λ c κs. search needs) (λ c. search needs) returns (λ c. search needs) returns-2)

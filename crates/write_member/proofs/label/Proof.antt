@@ -5,25 +5,10 @@ use borrow.Author.Needs.{needs}
 use Rattle.write_member.proofs.label.Statement.{statement}
 use Rattle.write_member.proofs.label.Tie as tie
 
-size-requires : tie.Need-size-requires
-size-requires c κs = search needs
-
-sub-put-bytes : tie.Need-sub-put-bytes
-sub-put-bytes c = search needs
-
-part-put-bytes-start : tie.Need-part-put-bytes-start
-part-put-bytes-start c = search needs
-
 part-put-bytes-end : tie.Need-part-put-bytes-end
 part-put-bytes-end c =
     let e : length (c .before .before .before .before .before .args .l .bytes) ≡ 32 = search needs in
     search needs
-
-put-bytes-requires : tie.Need-put-bytes-requires
-put-bytes-requires c κs = search needs
-
-same-length : tie.Need-same-length
-same-length c = search needs
 
 returns : tie.Need-returns
 returns c =
@@ -31,13 +16,5 @@ returns c =
     rw (← (text-part l (search needs) _ (c .before .before .before .before .before .before .before .size .ensures))) (c .before .before .put-bytes .ensures)
 
 pub label-spec : {M : Type 1} → statement M
-label-spec =
-    tie.close
-    (tie.spec
-    size-requires
-    sub-put-bytes
-    part-put-bytes-start
-    part-put-bytes-end
-    put-bytes-requires
-    same-length
+label-spec = tie.close (tie.spec (λ c κs. search needs) (λ c. search needs) (λ c. search needs) part-put-bytes-end (λ c κs. search needs) (λ c. search needs)
     returns)

@@ -3,17 +3,8 @@ use borrow.Author.Needs.{needs}
 use Rattle.write_member.proofs.moment_behind.Statement.{statement}
 use Rattle.write_member.proofs.moment_behind.Tie as tie
 
-put-bytes-requires : tie.Need-put-bytes-requires
-put-bytes-requires c κs = search needs
-
-moment-requires : tie.Need-moment-requires
-moment-requires c κs = search needs
-
-same-length : tie.Need-same-length
-same-length c = search needs
-
 returns : tie.Need-returns
 returns c = then (c .before .before .before .before .before .before .put-bytes .ensures) (c .before .before .moment .ensures)
 
 pub moment-behind-spec : {M : Type 1} → statement M
-moment-behind-spec = tie.close (tie.spec put-bytes-requires moment-requires same-length returns)
+moment-behind-spec = tie.close (tie.spec (λ c κs. search needs) (λ c κs. search needs) (λ c. search needs) returns)

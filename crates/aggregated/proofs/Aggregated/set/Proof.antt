@@ -5,9 +5,6 @@ use borrow.Author.Needs.{needs}
 use Rattle.aggregated.proofs.Aggregated.set.Statement.{statement}
 use Rattle.aggregated.proofs.Aggregated.set.Tie as tie
 
-wide-requires : tie.Need-wide-requires
-wide-requires c κs = search needs
-
 returns : tie.Need-returns
 unfolding setOf
 returns c = simp (eq-eqb _ _ (c .if1 .taken ∙ c .before .before .wide .ensures))
@@ -19,4 +16,4 @@ returns-2 c =
     simp (w, ne-eqb _ _ (rw w at (c .if1 .left)))
 
 pub set-spec : {M : Type 1} → statement M
-set-spec = tie.close (tie.spec wide-requires returns returns-2)
+set-spec = tie.close (tie.spec (λ c κs. search needs) returns returns-2)

@@ -5,15 +5,9 @@ use borrow.Author.Needs.{needs}
 use Rattle.alarm.proofs.Alarm.input.Statement.{statement}
 use Rattle.alarm.proofs.Alarm.input.Tie as tie
 
-bit-requires : tie.Need-bit-requires
-bit-requires c κs = search needs
-
 returns : tie.Need-returns
 unfolding inputOf
 returns c = simp (eq-eqb _ _ (c .if1 .taken ∙ c .before .before .bit .ensures))
-
-acknowledged-after-requires : tie.Need-acknowledged-after-requires
-acknowledged-after-requires c κs = search needs
 
 returns-2 : tie.Need-returns-2
 unfolding inputOf
@@ -22,4 +16,4 @@ returns-2 c =
     simp (b, c .before .acknowledged-after .ensures, ne-eqb _ _ (rw b at (c .before .before .if1 .left)))
 
 pub input-spec : {M : Type 1} → statement M
-input-spec = tie.close (tie.spec bit-requires returns acknowledged-after-requires returns-2)
+input-spec = tie.close (tie.spec (λ c κs. search needs) returns (λ c κs. search needs) returns-2)

@@ -2,11 +2,8 @@ use borrow.Author.Needs.{needs}
 use Rattle.alarm.proofs.Alarm.issued.Statement.{statement}
 use Rattle.alarm.proofs.Alarm.issued.Tie as tie
 
-of-alarm-requires : tie.Need-of-alarm-requires
-of-alarm-requires c κs = search needs
-
 returns : tie.Need-returns
 returns c = rw (c .of-alarm .ensures)
 
 pub issued-spec : {M : Type 1} → statement M
-issued-spec = tie.close (tie.spec of-alarm-requires returns)
+issued-spec = tie.close (tie.spec (λ c κs. search needs) returns)

@@ -2,24 +2,6 @@ use borrow.Author.Needs.{needs}
 use Rattle.alarm.proofs.Alarm.order.Statement.{statement}
 use Rattle.alarm.proofs.Alarm.order.Tie as tie
 
-enum-told : tie.Need-enum-told
-enum-told c = search needs
-
-acknowledge-requires : tie.Need-acknowledge-requires
-acknowledge-requires c κs = search needs
-
-enum-told-2 : tie.Need-enum-told-2
-enum-told-2 c = search needs
-
-suspend-requires : tie.Need-suspend-requires
-suspend-requires c κs = search needs
-
-enum-told-3 : tie.Need-enum-told-3
-enum-told-3 c = search needs
-
-suspend-requires-2 : tie.Need-suspend-requires-2
-suspend-requires-2 c κs = search needs
-
 returns : tie.Need-returns
 returns c = rw (c .before .enum-told .given .1) (c .acknowledge .ensures)
 
@@ -30,15 +12,5 @@ returns-3 : tie.Need-returns-3
 returns-3 c = rw (c .before .enum-told3 .given .1) (c .suspend2 .ensures)
 
 pub order-spec : {M : Type 1} → statement M
-order-spec =
-    tie.close
-    (tie.spec
-    enum-told
-    acknowledge-requires
-    enum-told-2
-    suspend-requires
-    enum-told-3
-    suspend-requires-2
-    returns
-    returns-2
-    returns-3)
+order-spec = tie.close (tie.spec (λ c. search needs) (λ c κs. search needs) (λ c. search needs) (λ c κs. search needs) (λ c. search needs)
+    (λ c κs. search needs) returns returns-2 returns-3)

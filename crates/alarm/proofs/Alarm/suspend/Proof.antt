@@ -5,9 +5,6 @@ use borrow.Author.Needs.{needs}
 use Rattle.alarm.proofs.Alarm.suspend.Statement.{statement}
 use Rattle.alarm.proofs.Alarm.suspend.Tie as tie
 
-bit-requires : tie.Need-bit-requires
-bit-requires c κs = search needs
-
 returns : tie.Need-returns
 unfolding suspendOf
 returns c = simp (eq-eqb _ _ (c .if1 .taken ∙ c .before .before .bit .ensures))
@@ -17,4 +14,4 @@ unfolding suspendOf
 returns-2 c = simp (c .before .before .bit .ensures, ne-eqb _ _ (rw (c .before .before .bit .ensures) at (c .if1 .left)))
 
 pub suspend-spec : {M : Type 1} → statement M
-suspend-spec = tie.close (tie.spec bit-requires returns returns-2)
+suspend-spec = tie.close (tie.spec (λ c κs. search needs) returns returns-2)

@@ -11,18 +11,6 @@ use borrow.Author.Needs.{needs}
 use Rattle.awaited.proofs.Awaited.add.Statement.{statement}
 use Rattle.awaited.proofs.Awaited.add.Tie as tie
 
-free-place-requires : tie.Need-free-place-requires
-free-place-requires c κs = search needs
-
-taken-by-requires : tie.Need-taken-by-requires
-taken-by-requires c κs = search needs
-
-mul-slots : tie.Need-mul-slots
-mul-slots c = search needs
-
-array-set-from-slots : tie.Need-array-set-from-slots
-array-set-from-slots c = search needs
-
 returns : tie.Need-returns
 unfolding addOf
 returns c = rw (change-set isFree _ _, c .taken-by .ensures, c .before .before .free-place .ensures .0)
@@ -36,12 +24,4 @@ returns-2 c =
     rw (change-set isFree _ _, set-out l _ _ out)
 
 pub add-spec : {M : Type 1} → statement M
-add-spec =
-    tie.close
-    (tie.spec
-    free-place-requires
-    taken-by-requires
-    mul-slots
-    array-set-from-slots
-    returns
-    returns-2)
+add-spec = tie.close (tie.spec (λ c κs. search needs) (λ c κs. search needs) (λ c. search needs) (λ c. search needs) returns returns-2)

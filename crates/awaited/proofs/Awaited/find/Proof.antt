@@ -16,18 +16,6 @@ use Rattle.awaited.proofs.Awaited.find.Tie as tie
 abbrev blank : Slot
 blank = record { time = 0; sequence = 0; purpose = 0; id = record { bytes = [] } }
 
-place-of-requires : tie.Need-place-of-requires
-place-of-requires c κs = search needs
-
-mul-w : tie.Need-mul-w
-mul-w c = search needs
-
-array-copy-out-w : tie.Need-array-copy-out-w
-array-copy-out-w c = search needs
-
-sent-for-requires : tie.Need-sent-for-requires
-sent-for-requires c κs = search needs
-
 returns : tie.Need-returns
 unfolding findOf
 returns c =
@@ -46,6 +34,4 @@ returns-2 c =
     sym (find-none id l (omega (arith, c .before .place-of .ensures .0)))
 
 pub find-spec : {M : Type 1} → statement M
-find-spec =
-    tie.close
-    (tie.spec place-of-requires mul-w array-copy-out-w sent-for-requires returns returns-2)
+find-spec = tie.close (tie.spec (λ c κs. search needs) (λ c. search needs) (λ c. search needs) (λ c κs. search needs) returns returns-2)

@@ -3,12 +3,9 @@ use Rattle.awaited.specs.Awaited.{lateOf}
 use Rattle.awaited.proofs.Awaited.late.Statement.{statement}
 use Rattle.awaited.proofs.Awaited.late.Tie as tie
 
-any-late-requires : tie.Need-any-late-requires
-any-late-requires c κs = search needs
-
 returns : tie.Need-returns
 unfolding lateOf
 returns c = c .any-late .ensures
 
 pub late-spec : {M : Type 1} → statement M
-late-spec = tie.close (tie.spec any-late-requires returns)
+late-spec = tie.close (tie.spec (λ c κs. search needs) returns)

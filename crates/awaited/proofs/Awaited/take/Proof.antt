@@ -18,27 +18,6 @@ use Rattle.awaited.proofs.Awaited.take.Tie as tie
 abbrev blank : Slot
 blank = record { time = 0; sequence = 0; purpose = 0; id = record { bytes = [] } }
 
-place-of-requires : tie.Need-place-of-requires
-place-of-requires c κs = search needs
-
-mul-w : tie.Need-mul-w
-mul-w c = search needs
-
-array-copy-out-w : tie.Need-array-copy-out-w
-array-copy-out-w c = search needs
-
-sent-for-requires : tie.Need-sent-for-requires
-sent-for-requires c κs = search needs
-
-free-slot-requires : tie.Need-free-slot-requires
-free-slot-requires c κs = search needs
-
-mul-slots : tie.Need-mul-slots
-mul-slots c = search needs
-
-array-set-from-slots : tie.Need-array-set-from-slots
-array-set-from-slots c = search needs
-
 returns : tie.Need-returns
 unfolding findOf removeOf
 returns c =
@@ -60,15 +39,5 @@ returns-2 c =
     rw (change-set (awaitsFor _) _ _, set-out l _ _ out, find-none (a .id) l out)
 
 pub take-spec : {M : Type 1} → statement M
-take-spec =
-    tie.close
-    (tie.spec
-    place-of-requires
-    mul-w
-    array-copy-out-w
-    sent-for-requires
-    free-slot-requires
-    mul-slots
-    array-set-from-slots
-    returns
-    returns-2)
+take-spec = tie.close (tie.spec (λ c κs. search needs) (λ c. search needs) (λ c. search needs) (λ c κs. search needs) (λ c κs. search needs) (λ c. search needs)
+    (λ c. search needs) returns returns-2)

@@ -16,21 +16,6 @@ use borrow.Author.Needs.{needs}
 use Rattle.call_input.proofs.doing.aggregated.Statement.{statement}
 use Rattle.call_input.proofs.doing.aggregated.Tie as tie
 
-aggregated-requires : tie.Need-aggregated-requires
-aggregated-requires c κs = search needs
-
-set-requires : tie.Need-set-requires
-set-requires c κs = search needs
-
-of-aggregated-requires : tie.Need-of-aggregated-requires
-of-aggregated-requires c κs = search needs
-
-spent-requires : tie.Need-spent-requires
-spent-requires c κs = search needs
-
-same-length : tie.Need-same-length
-same-length c = search needs
-
 returns : tie.Need-returns
 returns c =
     let a = c .before .before .before .before .before .before .before .before .args in
@@ -43,15 +28,6 @@ returns c =
     ∙ sym (c .before .spent .ensures t (aggregatedEntries s (c .before .before .before .before .set .result)) (sym (c .before .before .of-aggregated .ensures t)))
     ∙ c .if1 .taken in
     steps-refused t (a .w .now) SequenceSpent (planned-spent s (a .time) (aggregatedPlan s (a .value) (a .time)) spent)
-
-change-aggregated-requires : tie.Need-change-aggregated-requires
-change-aggregated-requires c κs = search needs
-
-nothing-requires : tie.Need-nothing-requires
-nothing-requires c κs = search needs
-
-same-length-2 : tie.Need-same-length-2
-same-length-2 c = search needs
 
 returns-2 : tie.Need-returns-2
 returns-2 c =
@@ -68,16 +44,5 @@ returns-2 c =
     (rw (c .nothing .ensures, e) (planned-done s (a .time) (aggregatedPlan s (a .value) (a .time)) lasts))
 
 pub aggregated-spec : {M : Type 1} → statement M
-aggregated-spec =
-    tie.close
-    (tie.spec
-    aggregated-requires
-    set-requires
-    of-aggregated-requires
-    spent-requires
-    same-length
-    returns
-    change-aggregated-requires
-    nothing-requires
-    same-length-2
-    returns-2)
+aggregated-spec = tie.close (tie.spec (λ c κs. search needs) (λ c κs. search needs) (λ c κs. search needs) (λ c κs. search needs) (λ c. search needs) returns
+    (λ c κs. search needs) (λ c κs. search needs) (λ c. search needs) returns-2)

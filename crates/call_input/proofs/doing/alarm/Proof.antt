@@ -16,21 +16,6 @@ use borrow.Author.Needs.{needs}
 use Rattle.call_input.proofs.doing.alarm.Statement.{statement}
 use Rattle.call_input.proofs.doing.alarm.Tie as tie
 
-alarm-requires : tie.Need-alarm-requires
-alarm-requires c κs = search needs
-
-input-requires : tie.Need-input-requires
-input-requires c κs = search needs
-
-of-alarm-requires : tie.Need-of-alarm-requires
-of-alarm-requires c κs = search needs
-
-spent-requires : tie.Need-spent-requires
-spent-requires c κs = search needs
-
-same-length : tie.Need-same-length
-same-length c = search needs
-
 returns : tie.Need-returns
 returns c =
     let a = c .before .before .before .before .before .before .before .before .args in
@@ -43,15 +28,6 @@ returns c =
     ∙ sym (c .before .spent .ensures t (alarmEntries s (a .number) (c .before .before .before .before .input .result)) (sym (c .before .before .of-alarm .ensures t (a .number))))
     ∙ c .if1 .taken in
     steps-refused t (a .w .now) SequenceSpent (planned-spent s (a .time) (alarmPlan s (a .number) (a .active) (a .time)) spent)
-
-change-alarm-requires : tie.Need-change-alarm-requires
-change-alarm-requires c κs = search needs
-
-nothing-requires : tie.Need-nothing-requires
-nothing-requires c κs = search needs
-
-same-length-2 : tie.Need-same-length-2
-same-length-2 c = search needs
 
 returns-2 : tie.Need-returns-2
 returns-2 c =
@@ -68,16 +44,5 @@ returns-2 c =
     (rw (c .nothing .ensures, e) (planned-done s (a .time) (alarmPlan s (a .number) (a .active) (a .time)) lasts))
 
 pub alarm-spec : {M : Type 1} → statement M
-alarm-spec =
-    tie.close
-    (tie.spec
-    alarm-requires
-    input-requires
-    of-alarm-requires
-    spent-requires
-    same-length
-    returns
-    change-alarm-requires
-    nothing-requires
-    same-length-2
-    returns-2)
+alarm-spec = tie.close (tie.spec (λ c κs. search needs) (λ c κs. search needs) (λ c κs. search needs) (λ c κs. search needs) (λ c. search needs) returns
+    (λ c κs. search needs) (λ c κs. search needs) (λ c. search needs) returns-2)

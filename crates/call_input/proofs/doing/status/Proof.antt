@@ -15,21 +15,6 @@ use borrow.Author.Needs.{needs}
 use Rattle.call_input.proofs.doing.status.Statement.{statement}
 use Rattle.call_input.proofs.doing.status.Tie as tie
 
-status-requires : tie.Need-status-requires
-status-requires c κs = search needs
-
-set-requires : tie.Need-set-requires
-set-requires c κs = search needs
-
-of-status-requires : tie.Need-of-status-requires
-of-status-requires c κs = search needs
-
-spent-requires : tie.Need-spent-requires
-spent-requires c κs = search needs
-
-same-length : tie.Need-same-length
-same-length c = search needs
-
 returns : tie.Need-returns
 returns c =
     let a = c .before .before .before .before .before .before .before .before .args in
@@ -41,15 +26,6 @@ returns c =
     ∙ sym (c .before .spent .ensures t (statusEntries s (a .number) (c .before .before .before .before .set .result) (a .time)) (sym (c .before .before .of-status .ensures t (a .time))))
     ∙ c .if1 .taken in
     steps-refused t (a .w .now) SequenceSpent (planned-spent s (a .time) (statusPlan s (a .number) (a .value) (a .time)) spent)
-
-change-status-requires : tie.Need-change-status-requires
-change-status-requires c κs = search needs
-
-nothing-requires : tie.Need-nothing-requires
-nothing-requires c κs = search needs
-
-same-length-2 : tie.Need-same-length-2
-same-length-2 c = search needs
 
 returns-2 : tie.Need-returns-2
 returns-2 c =
@@ -65,16 +41,5 @@ returns-2 c =
     (rw (c .nothing .ensures, e) (planned-done s (a .time) (statusPlan s (a .number) (a .value) (a .time)) lasts))
 
 pub status-spec : {M : Type 1} → statement M
-status-spec =
-    tie.close
-    (tie.spec
-    status-requires
-    set-requires
-    of-status-requires
-    spent-requires
-    same-length
-    returns
-    change-status-requires
-    nothing-requires
-    same-length-2
-    returns-2)
+status-spec = tie.close (tie.spec (λ c κs. search needs) (λ c κs. search needs) (λ c κs. search needs) (λ c κs. search needs) (λ c. search needs) returns
+    (λ c κs. search needs) (λ c κs. search needs) (λ c. search needs) returns-2)

@@ -7,15 +7,6 @@ use borrow.Author.Needs.{needs}
 use Rattle.call_input.proofs.records.add_one.Statement.{statement}
 use Rattle.call_input.proofs.records.add_one.Tie as tie
 
-issued-requires : tie.Need-issued-requires
-issued-requires c κs = search needs
-
-add-requires : tie.Need-add-requires
-add-requires c κs = search needs
-
-same-length : tie.Need-same-length
-same-length c = search needs
-
 returns : tie.Need-returns
 returns c =
     let a = c .before .before .before .before .before .before .before .before .args in
@@ -27,4 +18,4 @@ returns-2 c =
     turns-none (a .w .now) (λ t. aggregated-silent (a .x) (siteOf (a .w .now) t) (a .l) (c .if1 .left))
 
 pub add-one-spec : {M : Type 1} → statement M
-add-one-spec = tie.close (tie.spec issued-requires add-requires same-length returns returns-2)
+add-one-spec = tie.close (tie.spec (λ c κs. search needs) (λ c κs. search needs) (λ c. search needs) returns returns-2)

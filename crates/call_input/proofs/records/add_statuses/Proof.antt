@@ -16,22 +16,10 @@ Inv-loop w₀ x number time count l₀ w l = (l ≤ count) × ((length w ≡ sit
 abbrev μ-loop : tie.MeasureT-loop
 μ-loop w₀ x number time count l₀ w l = count - l
 
-link-count-requires : tie.Need-link-count-requires Inv-loop μ-loop
-link-count-requires c κs = search needs
-
 loop-holds : tie.Need-loop-holds Inv-loop μ-loop
 loop-holds c =
     let a = c .before .before .before .args in
     (omega arith, (search needs, (search needs, statuses-none (a .number) (a .x) (a .time) (a .w .now))))
-
-add-status-requires : tie.Need-add-status-requires Inv-loop μ-loop
-add-status-requires c κs = search needs
-
-add-l : tie.Need-add-l Inv-loop μ-loop
-add-l c = omega arith
-
-loop-less : tie.Need-loop-less Inv-loop μ-loop
-loop-less c = omega arith
 
 loop-again : tie.Need-loop-again Inv-loop μ-loop
 loop-again c =
@@ -41,9 +29,6 @@ loop-again c =
     let n : length (put .last .0) ≡ siteWords = search needs in
     (omega arith, (n, (l .inv .1 .1 .0, statuses-next (a .number) (a .x) (a .time) (l .l) (l .inv .1 .1 .1) (put .ensures))))
 
-same-length : tie.Need-same-length Inv-loop μ-loop
-same-length c = search needs
-
 returns : tie.Need-returns Inv-loop μ-loop
 returns c =
     let l = c .before .loop in
@@ -51,16 +36,5 @@ returns c =
     issued-all (λ t. all ∙ c .before .before .link-count .ensures t) (l .inv .1 .1 .1)
 
 pub add-statuses-spec : {M : Type 1} → statement M
-add-statuses-spec =
-    tie.close
-    (tie.spec
-    Inv-loop
-    μ-loop
-    link-count-requires
-    loop-holds
-    add-status-requires
-    add-l
-    loop-less
-    loop-again
-    same-length
-    returns)
+add-statuses-spec = tie.close (tie.spec Inv-loop μ-loop (λ c κs. search needs) loop-holds (λ c κs. search needs) (λ c. omega arith) (λ c. omega arith)
+    loop-again (λ c. search needs) returns)

@@ -7,12 +7,6 @@ use borrow.Author.Needs.{needs}
 use Rattle.call_input.proofs.records.of_aggregated.Statement.{statement}
 use Rattle.call_input.proofs.records.of_aggregated.Tie as tie
 
-link-count-requires : tie.Need-link-count-requires
-link-count-requires c κs = search needs
-
-cast-result : tie.Need-cast-result
-cast-result c = search needs
-
 returns : tie.Need-returns
 returns c = λ t. c .link-count .ensures t ∙ one-each (c .before .before .before .args .x) (c .before .if1 .taken) (siteOf (c .before .before .before .args .w .now) t .linkcount)
 
@@ -20,4 +14,4 @@ returns-2 : tie.Need-returns-2
 returns-2 c = λ t. none-at-all (c .before .before .args .x) (c .if1 .left) (siteOf (c .before .before .args .w .now) t .linkcount)
 
 pub of-aggregated-spec : {M : Type 1} → statement M
-of-aggregated-spec = tie.close (tie.spec link-count-requires cast-result returns returns-2)
+of-aggregated-spec = tie.close (tie.spec (λ c κs. search needs) (λ c. search needs) returns returns-2)

@@ -21,23 +21,8 @@ Inv-loop w x number count n₀ l₀ n l = (l ≤ count) × ((n ≤ l) × ((t : S
 abbrev μ-loop : tie.MeasureT-loop
 μ-loop w x number count n₀ l₀ n l = count - l
 
-link-count-requires : tie.Need-link-count-requires Inv-loop μ-loop
-link-count-requires c κs = search needs
-
 loop-holds : tie.Need-loop-holds Inv-loop μ-loop
 loop-holds c = (omega arith, (omega arith, λ t time. refl))
-
-issues-requires : tie.Need-issues-requires Inv-loop μ-loop
-issues-requires c κs = search needs
-
-more-if-requires : tie.Need-more-if-requires Inv-loop μ-loop
-more-if-requires c κs = omega arith
-
-add-l : tie.Need-add-l Inv-loop μ-loop
-add-l c = omega arith
-
-loop-less : tie.Need-loop-less Inv-loop μ-loop
-loop-less c = omega arith
 
 loop-again : tie.Need-loop-again Inv-loop μ-loop
 loop-again c =
@@ -60,16 +45,5 @@ returns c =
     λ t time. l .inv .1 .1 t time ∙ ap (λ (n : ℕ). length (entriesTo (entryOf (a .number) (a .x) time (siteOf (a .w .now) t)) n)) (all ∙ c .before .before .link-count .ensures t)
 
 pub of-status-spec : {M : Type 1} → statement M
-of-status-spec =
-    tie.close
-    (tie.spec
-    Inv-loop
-    μ-loop
-    link-count-requires
-    loop-holds
-    issues-requires
-    more-if-requires
-    add-l
-    loop-less
-    loop-again
-    returns)
+of-status-spec = tie.close (tie.spec Inv-loop μ-loop (λ c κs. search needs) loop-holds (λ c κs. search needs) (λ c κs. omega arith) (λ c. omega arith)
+    (λ c. omega arith) loop-again returns)

@@ -7,18 +7,6 @@ use borrow.Author.Needs.{needs}
 use Rattle.call_pump.proofs.checks.alarms_for.Statement.{statement}
 use Rattle.call_pump.proofs.checks.alarms_for.Tie as tie
 
-role-requires : tie.Need-role-requires
-role-requires c κs = search needs
-
-enum-told : tie.Need-enum-told
-enum-told c = search needs
-
-alarm-count-requires : tie.Need-alarm-count-requires
-alarm-count-requires c κs = search needs
-
-enum-told-2 : tie.Need-enum-told-2
-enum-told-2 c = search needs
-
 returns : tie.Need-returns
 returns c =
     let a = c .before .before .before .before .before .before .args in
@@ -32,5 +20,4 @@ returns-2 c =
     λ s e. rw (e, ← c .before .before .role .ensures x, c .enum-told2 .given .1) refl
 
 pub alarms-for-spec : {M : Type 1} → statement M
-alarms-for-spec =
-    tie.close (tie.spec role-requires enum-told alarm-count-requires enum-told-2 returns returns-2)
+alarms-for-spec = tie.close (tie.spec (λ c κs. search needs) (λ c. search needs) (λ c κs. search needs) (λ c. search needs) returns returns-2)

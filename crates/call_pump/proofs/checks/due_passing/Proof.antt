@@ -7,26 +7,11 @@ use borrow.Author.Needs.{needs}
 use Rattle.call_pump.proofs.checks.due_passing.Statement.{statement}
 use Rattle.call_pump.proofs.checks.due_passing.Tie as tie
 
-alarm-next-requires : tie.Need-alarm-next-requires
-alarm-next-requires c κs = search needs
-
-alarms-for-requires : tie.Need-alarms-for-requires
-alarms-for-requires c κs = search needs
-
-cast-if1 : tie.Need-cast-if1
-cast-if1 c = search needs
-
 returns : tie.Need-returns
 returns c =
     let a = c .before .before .before .before .before .args in
     let x = tableOf (a .t .now) in
     (λ s e. rw (← c .before .alarms-for .ensures s e, e, ← c .before .before .alarm-next .ensures x, lt-ltb _ _ (c .if1 .taken)) refl, search needs)
-
-oldest-unsent-requires : tie.Need-oldest-unsent-requires
-oldest-unsent-requires c κs = search needs
-
-is-held-requires : tie.Need-is-held-requires
-is-held-requires c κs = search needs
 
 returns-2 : tie.Need-returns-2
 returns-2 c =
@@ -41,14 +26,5 @@ returns-3 c =
     (λ s e. rw (← c .before .before .before .before .alarms-for .ensures s e, e, ← c .before .before .before .before .before .alarm-next .ensures x, le-ltb _ _ (c .before .before .before .if1 .left), ← c .before .before .oldest-unsent .ensures x, ← c .before .is-held .ensures, c .if2 .left) refl, tt)
 
 pub due-passing-spec : {M : Type 1} → statement M
-due-passing-spec =
-    tie.close
-    (tie.spec
-    alarm-next-requires
-    alarms-for-requires
-    cast-if1
-    returns
-    oldest-unsent-requires
-    is-held-requires
-    returns-2
-    returns-3)
+due-passing-spec = tie.close (tie.spec (λ c κs. search needs) (λ c κs. search needs) (λ c. search needs) returns (λ c κs. search needs) (λ c κs. search needs)
+    returns-2 returns-3)

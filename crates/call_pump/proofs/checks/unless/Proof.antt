@@ -5,13 +5,8 @@ use Rattle.call_pump.proofs.checks.unless.Tie as tie
 use Rattle.call_pump.proofs.checks.unless.Reads as reads
 use Rattle.call_pump.proofs.checks.unless.Lts as lts
 
--- src/checks.rt:62:1
 returns : tie.Need-returns
 returns c = rw (c .if1 .taken) refl
 
--- src/checks.rt:62:1
-returns-2 : tie.Need-returns-2
-returns-2 c = search needs
-
 pub unless-spec : {M : Type 1} → statement M
-unless-spec = tie.close (tie.spec returns returns-2)
+unless-spec = tie.close (tie.spec returns (λ c. search needs))

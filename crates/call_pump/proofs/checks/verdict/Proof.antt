@@ -10,9 +10,6 @@ use borrow.Author.Needs.{needs}
 use Rattle.call_pump.proofs.checks.verdict.Statement.{statement}
 use Rattle.call_pump.proofs.checks.verdict.Tie as tie
 
-no-link-requires : tie.Need-no-link-requires
-no-link-requires c κs = search needs
-
 returns : tie.Need-returns
 returns c =
     let a = c .before .before .before .before .args in
@@ -24,9 +21,6 @@ returns-2 c =
     let a = c .before .before .before .before .before .args in
     let x = tableOf (a .t .now) in
     rw (← c .before .before .no-link .ensures x, c .before .if1 .left, lt-ltb _ _ (c .if2 .taken)) refl
-
-bad-time-requires : tie.Need-bad-time-requires
-bad-time-requires c κs = search needs
 
 returns-3 : tie.Need-returns-3
 returns-3 c =
@@ -53,14 +47,5 @@ returns-4 c =
     rw (← c .before .before .before .before .before .no-link .ensures x, c .before .before .before .before .if1 .left, le-ltb _ _ (c .before .before .before .if2 .left), ← c .before .before .bad-time .ensures x, c .before .if3 .left) (c .later-verdict .ensures)
 
 pub verdict-spec : {M : Type 1} → statement M
-verdict-spec =
-    tie.close
-    (tie.spec
-    no-link-requires
-    returns
-    returns-2
-    bad-time-requires
-    returns-3
-    cast-later-verdict
-    later-verdict-requires
+verdict-spec = tie.close (tie.spec (λ c κs. search needs) returns returns-2 (λ c κs. search needs) returns-3 cast-later-verdict later-verdict-requires
     returns-4)

@@ -10,21 +10,6 @@ use borrow.Author.Needs.{needs}
 use Rattle.call_pump.proofs.send.entry.Statement.{statement}
 use Rattle.call_pump.proofs.send.entry.Tie as tie
 
-write-entry-requires : tie.Need-write-entry-requires
-write-entry-requires c κs = search needs
-
-entry-requires : tie.Need-entry-requires
-entry-requires c κs = search needs
-
-finish-requires : tie.Need-finish-requires
-finish-requires c κs = search needs
-
-same-length : tie.Need-same-length
-same-length c = search needs
-
-same-length-2 : tie.Need-same-length-2
-same-length-2 c = search needs
-
 returns : tie.Need-returns
 returns c =
     let a = c .before .before .before .before .before .before .before .before .before .before .before .before .before .before .before .args in
@@ -33,12 +18,4 @@ returns c =
     sent {f = λ (s : Site). entrySent s (a .l) (a .time) (a .id) (a .e .sequence)} (c .before .before .before .before .before .before .before .before .before .before .write-entry .ensures s (table-of (a .w .now) x)) (c .before .before .before .before .before .before .entry .ensures) (c .before .before .finish .ensures)
 
 pub entry-spec : {M : Type 1} → statement M
-entry-spec =
-    tie.close
-    (tie.spec
-    write-entry-requires
-    entry-requires
-    finish-requires
-    same-length
-    same-length-2
-    returns)
+entry-spec = tie.close (tie.spec (λ c κs. search needs) (λ c κs. search needs) (λ c κs. search needs) (λ c. search needs) (λ c. search needs) returns)

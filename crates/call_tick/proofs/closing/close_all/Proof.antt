@@ -13,18 +13,6 @@ use borrow.Author.Needs.{needs}
 use Rattle.call_tick.proofs.closing.close_all.Statement.{statement}
 use Rattle.call_tick.proofs.closing.close_all.Tie as tie
 
-close-late-requires : tie.Need-close-late-requires
-close-late-requires c κs = search needs
-
-close-late-requires-2 : tie.Need-close-late-requires-2
-close-late-requires-2 c κs = search needs
-
-close-late-requires-3 : tie.Need-close-late-requires-3
-close-late-requires-3 c κs = search needs
-
-close-late-requires-4 : tie.Need-close-late-requires-4
-close-late-requires-4 c κs = search needs
-
 add-result : tie.Need-add-result
 add-result c =
     let a = c .before .before .before .before .before .before .before .before .before .before .before .before .before .before .before .before .before .args in
@@ -76,9 +64,6 @@ add-result-3 c =
       late-most (siteOf (three .last .0) noTable) 3 (a .time),
     )
 
-same-length : tie.Need-same-length
-same-length c = search needs
-
 returns : tie.Need-returns
 returns c =
     let a = c .before .before .before .before .before .before .before .before .before .before .before .before .before .before .before .before .before .args in
@@ -97,15 +82,5 @@ returns c =
     )
 
 pub close-all-spec : {M : Type 1} → statement M
-close-all-spec =
-    tie.close
-    (tie.spec
-    close-late-requires
-    close-late-requires-2
-    close-late-requires-3
-    close-late-requires-4
-    add-result
-    add-result-2
-    add-result-3
-    same-length
-    returns)
+close-all-spec = tie.close (tie.spec (λ c κs. search needs) (λ c κs. search needs) (λ c κs. search needs) (λ c κs. search needs) add-result add-result-2
+    add-result-3 (λ c. search needs) returns)

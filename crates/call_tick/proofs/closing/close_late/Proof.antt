@@ -11,18 +11,6 @@ use borrow.Author.Needs.{needs}
 use Rattle.call_tick.proofs.closing.close_late.Statement.{statement}
 use Rattle.call_tick.proofs.closing.close_late.Tie as tie
 
-late-requires : tie.Need-late-requires
-late-requires c κs = search needs
-
-close-requires : tie.Need-close-requires
-close-requires c κs = search needs
-
-bit-of-requires : tie.Need-bit-of-requires
-bit-of-requires c κs = search needs
-
-same-length : tie.Need-same-length
-same-length c = search needs
-
 returns : tie.Need-returns
 returns c =
     let a = c .before .before .before .before .before .before .before .before .before .args in
@@ -31,9 +19,6 @@ returns c =
       λ t. c .bit-of .ensures ∙ late-bit (siteOf (a .w .now) t) (a .l) (a .time) (late t),
     )
 
-same-length-2 : tie.Need-same-length-2
-same-length-2 c = search needs
-
 returns-2 : tie.Need-returns-2
 returns-2 c =
     let a = c .before .before .before .before .args in
@@ -41,13 +26,5 @@ returns-2 c =
     (turns-none (a .w .now) (λ t. not-late (siteOf (a .w .now) t) (a .l) (a .time) (early t)), λ t. no-bit (siteOf (a .w .now) t) (a .l) (a .time) (early t))
 
 pub close-late-spec : {M : Type 1} → statement M
-close-late-spec =
-    tie.close
-    (tie.spec
-    late-requires
-    close-requires
-    bit-of-requires
-    same-length
-    returns
-    same-length-2
+close-late-spec = tie.close (tie.spec (λ c κs. search needs) (λ c κs. search needs) (λ c κs. search needs) (λ c. search needs) returns (λ c. search needs)
     returns-2)

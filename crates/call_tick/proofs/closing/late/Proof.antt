@@ -4,14 +4,8 @@ use borrow.Author.Needs.{needs}
 use Rattle.call_tick.proofs.closing.late.Statement.{statement}
 use Rattle.call_tick.proofs.closing.late.Tie as tie
 
-link-requires : tie.Need-link-requires
-link-requires c κs = search needs
-
-late-requires : tie.Need-late-requires
-late-requires c κs = search needs
-
 returns : tie.Need-returns
 returns c = λ t. rw (← c .before .link .ensures t) (c .late .ensures)
 
 pub late-spec : {M : Type 1} → statement M
-late-spec = tie.close (tie.spec link-requires late-requires returns)
+late-spec = tie.close (tie.spec (λ c κs. search needs) (λ c κs. search needs) returns)

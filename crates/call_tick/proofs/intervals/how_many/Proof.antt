@@ -28,18 +28,6 @@ abbrev μ-loop : tie.MeasureT-loop
 loop-holds : tie.Need-loop-holds Inv-loop μ-loop
 loop-holds c = (omega arith, (omega arith, λ t ns. refl))
 
-issues-requires : tie.Need-issues-requires Inv-loop μ-loop
-issues-requires c κs = search needs
-
-more-if-requires : tie.Need-more-if-requires Inv-loop μ-loop
-more-if-requires c κs = omega arith
-
-add-i : tie.Need-add-i Inv-loop μ-loop
-add-i c = omega arith
-
-loop-less : tie.Need-loop-less Inv-loop μ-loop
-loop-less c = omega arith
-
 loop-again : tie.Need-loop-again Inv-loop μ-loop
 loop-again c =
     let a = c .before .before .before .before .before .args in
@@ -62,15 +50,5 @@ returns c =
     l .inv .1 .1 t ns ∙ ap length (all-places (s .subscriptions) (s .statuses) ns (a .time) (l .i) (omega arith))
 
 pub how-many-spec : {M : Type 1} → statement M
-how-many-spec =
-    tie.close
-    (tie.spec
-    Inv-loop
-    μ-loop
-    loop-holds
-    issues-requires
-    more-if-requires
-    add-i
-    loop-less
-    loop-again
+how-many-spec = tie.close (tie.spec Inv-loop μ-loop loop-holds (λ c κs. search needs) (λ c κs. omega arith) (λ c. omega arith) (λ c. omega arith) loop-again
     returns)

@@ -8,32 +8,11 @@ use borrow.Author.Needs.{needs}
 use Rattle.call_tick.proofs.intervals.issue_one.Statement.{statement}
 use Rattle.call_tick.proofs.intervals.issue_one.Tie as tie
 
-issues-requires : tie.Need-issues-requires
-issues-requires c κs = search needs
-
-cast-status : tie.Need-cast-status
-cast-status c = search needs
-
-status-requires : tie.Need-status-requires
-status-requires c κs = search needs
-
-status-requires-2 : tie.Need-status-requires-2
-status-requires-2 c κs = search needs
-
-add-requires : tie.Need-add-requires
-add-requires c κs = search needs
-
-same-length : tie.Need-same-length
-same-length c = search needs
-
 returns : tie.Need-returns
 returns c =
     let a = c .before .before .before .before .before .before .before .before .before .before .before .before .args in
     turns-as (c .before .before .add .ensures)
     (λ t. rw (c .before .before .before .before .status2 .ensures t, c .before .before .before .before .before .before .status .ensures t) (place-issues (siteOf (a .w .now) t) (a .time) (a .i) (sym (c .before .before .before .before .before .before .before .before .before .issues .ensures t) ∙ c .before .before .before .before .before .before .before .before .if1 .taken)))
-
-same-length-2 : tie.Need-same-length-2
-same-length-2 c = search needs
 
 returns-2 : tie.Need-returns-2
 returns-2 c =
@@ -41,15 +20,5 @@ returns-2 c =
     turns-none (a .w .now) (λ t. place-silent (siteOf (a .w .now) t) (a .time) (a .i) (sym (c .before .issues .ensures t) ∙ c .if1 .left))
 
 pub issue-one-spec : {M : Type 1} → statement M
-issue-one-spec =
-    tie.close
-    (tie.spec
-    issues-requires
-    cast-status
-    status-requires
-    status-requires-2
-    add-requires
-    same-length
-    returns
-    same-length-2
-    returns-2)
+issue-one-spec = tie.close (tie.spec (λ c κs. search needs) (λ c. search needs) (λ c κs. search needs) (λ c κs. search needs) (λ c κs. search needs)
+    (λ c. search needs) returns (λ c. search needs) returns-2)

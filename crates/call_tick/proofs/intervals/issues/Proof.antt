@@ -5,14 +5,8 @@ use borrow.Author.Needs.{needs}
 use Rattle.call_tick.proofs.intervals.issues.Statement.{statement}
 use Rattle.call_tick.proofs.intervals.issues.Tie as tie
 
-subscription-requires : tie.Need-subscription-requires
-subscription-requires c κs = search needs
-
-on-tick-requires : tie.Need-on-tick-requires
-on-tick-requires c κs = search needs
-
 returns : tie.Need-returns
 returns c = λ t. rw (c .on-tick .ensures, c .before .subscription .ensures t) refl
 
 pub issues-spec : {M : Type 1} → statement M
-issues-spec = tie.close (tie.spec subscription-requires on-tick-requires returns)
+issues-spec = tie.close (tie.spec (λ c κs. search needs) (λ c κs. search needs) returns)

@@ -8,11 +8,8 @@ use Rattle.entry.proofs.flags.is_set.Reads as reads
 use Rattle.entry.proofs.flags.is_set.Lts as lts
 use Rattle.bits.proofs.field.Reads as field-reads
 
-field-requires : tie.Need-field-requires
-field-requires c κs = search needs
-
 returns : tie.Need-returns
 returns c = ap (λ (x : ℕ). eqb x 1) (c .field .ensures)
 
 pub is-set-spec : {M : Type 1} → statement M
-is-set-spec = tie.close (tie.spec field-requires returns)
+is-set-spec = tie.close (tie.spec (λ c κs. search needs) returns)

@@ -14,33 +14,6 @@ use Rattle.entry.proofs.flags.of_alarm.Lts as lts
 use Rattle.bits.proofs.push.Reads as push-reads
 use Rattle.entry.proofs.flags.bit.Reads as bit-reads
 
-push-requires : tie.Need-push-requires
-push-requires c κs = search needs
-
-bit-requires : tie.Need-bit-requires
-bit-requires c κs = search needs
-
-push-requires-2 : tie.Need-push-requires-2
-push-requires-2 c κs = search needs
-
-bit-requires-2 : tie.Need-bit-requires-2
-bit-requires-2 c κs = search needs
-
-push-requires-3 : tie.Need-push-requires-3
-push-requires-3 c κs = search needs
-
-bit-requires-3 : tie.Need-bit-requires-3
-bit-requires-3 c κs = search needs
-
-push-requires-4 : tie.Need-push-requires-4
-push-requires-4 c κs = search needs
-
-push-requires-5 : tie.Need-push-requires-5
-push-requires-5 c κs = search needs
-
-cast-result : tie.Need-cast-result
-cast-result c = search needs
-
 returns : tie.Need-returns
 unfolding alarmFlags
 returns c =
@@ -59,16 +32,5 @@ returns c =
     next-field (2 ∷ 1 ∷ 1 ∷ 1 ∷ []) (s .event ∷ a ∷ b ∷ d ∷ []) 1 0 refl (lit≤ tt) e4 (c .push5 .ensures)
 
 pub of-alarm-spec : {M : Type 1} → statement M
-of-alarm-spec =
-    tie.close
-    (tie.spec
-    push-requires
-    bit-requires
-    push-requires-2
-    bit-requires-2
-    push-requires-3
-    bit-requires-3
-    push-requires-4
-    push-requires-5
-    cast-result
-    returns)
+of-alarm-spec = tie.close (tie.spec (λ c κs. search needs) (λ c κs. search needs) (λ c κs. search needs) (λ c κs. search needs) (λ c κs. search needs)
+    (λ c κs. search needs) (λ c κs. search needs) (λ c κs. search needs) (λ c. search needs) returns)

@@ -14,24 +14,6 @@ use Rattle.entry.proofs.flags.of_status.Lts as lts
 use Rattle.bits.proofs.push.Reads as push-reads
 use Rattle.entry.proofs.flags.bit.Reads as bit-reads
 
-bit-requires : tie.Need-bit-requires
-bit-requires c κs = search needs
-
-push-requires : tie.Need-push-requires
-push-requires c κs = search needs
-
-bit-requires-2 : tie.Need-bit-requires-2
-bit-requires-2 c κs = search needs
-
-push-requires-2 : tie.Need-push-requires-2
-push-requires-2 c κs = search needs
-
-push-requires-3 : tie.Need-push-requires-3
-push-requires-3 c κs = search needs
-
-cast-result : tie.Need-cast-result
-cast-result c = search needs
-
 returns : tie.Need-returns
 unfolding statusFlags
 returns c =
@@ -45,4 +27,5 @@ returns c =
     next-field (1 ∷ 1 ∷ []) (a ∷ b ∷ []) 4 0 refl (lit≤ tt) e2 (c .push3 .ensures)
 
 pub of-status-spec : {M : Type 1} → statement M
-of-status-spec = tie.close (tie.spec bit-requires push-requires bit-requires-2 push-requires-2 push-requires-3 cast-result returns)
+of-status-spec = tie.close (tie.spec (λ c κs. search needs) (λ c κs. search needs) (λ c κs. search needs) (λ c κs. search needs) (λ c κs. search needs)
+    (λ c. search needs) returns)

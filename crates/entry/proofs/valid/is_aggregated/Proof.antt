@@ -19,8 +19,5 @@ returns-3 c = fails (λ (g : Aggregated (c .before .before .before .before .befo
 returns-4 : tie.Need-returns-4
 returns-4 c = fails (λ (g : Aggregated (c .before .before .before .before .before .before .before .before .args .e)). omega (arith, g .value))
 
-returns-5 : tie.Need-returns-5
-returns-5 c = search needs
-
 pub is-aggregated-spec : {M : Type 1} → statement M
-is-aggregated-spec = tie.close (tie.spec returns returns-2 returns-3 returns-4 returns-5)
+is-aggregated-spec = tie.close (tie.spec returns returns-2 returns-3 returns-4 (λ c. search needs))

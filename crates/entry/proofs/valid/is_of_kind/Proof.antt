@@ -9,20 +9,11 @@ use Rattle.entry.proofs.valid.is_aggregated.Reads as is-aggregated-read
 use Rattle.entry.proofs.valid.is_alarm.Reads as is-alarm-reads
 use Rattle.entry.proofs.valid.is_status.Reads as is-status-reads
 
-is-alarm-requires : tie.Need-is-alarm-requires
-is-alarm-requires c κs = search needs
-
 returns : tie.Need-returns
 returns c = holds (an-alarm (c .before .is-alarm .ensures .yes (c .if1 .taken)))
 
-is-status-requires : tie.Need-is-status-requires
-is-status-requires c κs = search needs
-
 returns-2 : tie.Need-returns-2
 returns-2 c = holds (a-status (c .before .is-status .ensures .yes (c .if2 .taken)))
-
-is-aggregated-requires : tie.Need-is-aggregated-requires
-is-aggregated-requires c κs = search needs
 
 returns-3 : tie.Need-returns-3
 returns-3 c = holds (an-aggregated (c .before .is-aggregated .ensures .yes (c .if3 .taken)))
@@ -38,13 +29,4 @@ returns-4 c =
     (not-held (c .before .is-aggregated .ensures) (c .if3 .left)))
 
 pub is-of-kind-spec : {M : Type 1} → statement M
-is-of-kind-spec =
-    tie.close
-    (tie.spec
-    is-alarm-requires
-    returns
-    is-status-requires
-    returns-2
-    is-aggregated-requires
-    returns-3
-    returns-4)
+is-of-kind-spec = tie.close (tie.spec (λ c κs. search needs) returns (λ c κs. search needs) returns-2 (λ c κs. search needs) returns-3 returns-4)

@@ -14,9 +14,6 @@ returns c = fails (λ (v : Valid (c .before .before .args .e)). omega (arith, v 
 returns-2 : tie.Need-returns-2
 returns-2 c = fails (λ (v : Valid (c .before .before .before .before .args .e)). omega (arith, v .time))
 
-is-of-kind-requires : tie.Need-is-of-kind-requires
-is-of-kind-requires c κs = search needs
-
 returns-3 : tie.Need-returns-3
 returns-3 c = holds (record { link = search needs; time = search needs; sequence = search needs; of-kind = c .before .is-of-kind .ensures .yes (c .if3 .taken) })
 
@@ -24,4 +21,4 @@ returns-4 : tie.Need-returns-4
 returns-4 c = fails (λ (v : Valid (c .before .before .before .before .before .before .args .e)). not-held (c .before .is-of-kind .ensures) (c .if3 .left) (v .of-kind))
 
 pub valid-spec : {M : Type 1} → statement M
-valid-spec = tie.close (tie.spec returns returns-2 is-of-kind-requires returns-3 returns-4)
+valid-spec = tie.close (tie.spec returns returns-2 (λ c κs. search needs) returns-3 returns-4)

@@ -4,12 +4,6 @@ use borrow.Author.Needs.{needs}
 use Rattle.link.proofs.Link.aggregated_passed.Statement.{statement}
 use Rattle.link.proofs.Link.aggregated_passed.Tie as tie
 
-phase-requires : tie.Need-phase-requires
-phase-requires c κs = search needs
-
-is-up-requires : tie.Need-is-up-requires
-is-up-requires c κs = search needs
-
 returns : tie.Need-returns
 unfolding aggregatedPassedOf
 returns c = rw (← c .before .before .phase .ensures, sym (c .before .is-up .ensures) ∙ c .if1 .taken)
@@ -19,4 +13,4 @@ unfolding aggregatedPassedOf
 returns-2 c = rw (← c .before .before .phase .ensures, sym (c .before .is-up .ensures) ∙ c .if1 .left)
 
 pub aggregated-passed-spec : {M : Type 1} → statement M
-aggregated-passed-spec = tie.close (tie.spec phase-requires is-up-requires returns returns-2)
+aggregated-passed-spec = tie.close (tie.spec (λ c κs. search needs) (λ c κs. search needs) returns returns-2)

@@ -11,36 +11,6 @@ use Rattle.link.proofs.Link.answered.Tie as tie
 found-for : {t u : Taken} {p : Purpose} (q : Purpose) → t ≡ u → t .found ≡ For p → p ≡ q → u .found ≡ For q
 found-for q take known told = sym (ap (λ (x : Taken). x .found) take) ∙ known ∙ ap For told
 
-take-requires : tie.Need-take-requires
-take-requires c κs = search needs
-
-enum-told : tie.Need-enum-told
-enum-told c = search needs
-
-enum-known-found : tie.Need-enum-known-found
-enum-known-found c = search needs
-
-enum-told-2 : tie.Need-enum-told-2
-enum-told-2 c = search needs
-
-enum-told-3 : tie.Need-enum-told-3
-enum-told-3 c = search needs
-
-enum-told-4 : tie.Need-enum-told-4
-enum-told-4 c = search needs
-
-enum-told-5 : tie.Need-enum-told-5
-enum-told-5 c = search needs
-
-phase-requires : tie.Need-phase-requires
-phase-requires c κs = search needs
-
-closes-on-requires : tie.Need-closes-on-requires
-closes-on-requires c κs = search needs
-
-closed-requires : tie.Need-closed-requires
-closed-requires c κs = search needs
-
 returns : tie.Need-returns
 unfolding answeredOf closesOf noted removedOf
 returns c =
@@ -91,23 +61,6 @@ returns-7 c =
     rw (take, c .before .before .before .if1 .left, ← c .before .before .phase .ensures, ← found, sym (c .before .closes-on .ensures) ∙ c .if2 .left)
 
 pub answered-spec : {M : Type 1} → statement M
-answered-spec =
-    tie.close
-    (tie.spec
-    take-requires
-    enum-told
-    enum-known-found
-    enum-told-2
-    enum-told-3
-    enum-told-4
-    enum-told-5
-    phase-requires
-    closes-on-requires
-    closed-requires
-    returns
-    returns-2
-    returns-3
-    returns-4
-    returns-5
-    returns-6
+answered-spec = tie.close (tie.spec (λ c κs. search needs) (λ c. search needs) (λ c. search needs) (λ c. search needs) (λ c. search needs) (λ c. search needs)
+    (λ c. search needs) (λ c κs. search needs) (λ c κs. search needs) (λ c κs. search needs) returns returns-2 returns-3 returns-4 returns-5 returns-6
     returns-7)

@@ -2,11 +2,8 @@ use borrow.Author.Needs.{needs}
 use Rattle.link.proofs.Link.closed.Statement.{statement}
 use Rattle.link.proofs.Link.closed.Tie as tie
 
-nothing-requires : tie.Need-nothing-requires
-nothing-requires c κs = search needs
-
 returns : tie.Need-returns
 returns c = rw (c .nothing .ensures)
 
 pub closed-spec : {M : Type 1} → statement M
-closed-spec = tie.close (tie.spec nothing-requires returns)
+closed-spec = tie.close (tie.spec (λ c κs. search needs) returns)

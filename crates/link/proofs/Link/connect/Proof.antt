@@ -7,12 +7,9 @@ returns : tie.Need-returns
 unfolding connectOf
 returns c = rw (c .if1 .taken)
 
-closed-requires : tie.Need-closed-requires
-closed-requires c κs = search needs
-
 returns-2 : tie.Need-returns-2
 unfolding connectOf
 returns-2 c = rw (c .closed .ensures, c .before .if1 .left)
 
 pub connect-spec : {M : Type 1} → statement M
-connect-spec = tie.close (tie.spec returns closed-requires returns-2)
+connect-spec = tie.close (tie.spec returns (λ c κs. search needs) returns-2)

@@ -3,12 +3,9 @@ use borrow.Author.Needs.{needs}
 use Rattle.link.proofs.Link.crowded.Statement.{statement}
 use Rattle.link.proofs.Link.crowded.Tie as tie
 
-how-many-requires : tie.Need-how-many-requires
-how-many-requires c κs = search needs
-
 returns : tie.Need-returns
 unfolding crowdedOf
 returns c = rw (c .how-many .ensures)
 
 pub crowded-spec : {M : Type 1} → statement M
-crowded-spec = tie.close (tie.spec how-many-requires returns)
+crowded-spec = tie.close (tie.spec (λ c κs. search needs) returns)

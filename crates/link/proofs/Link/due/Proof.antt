@@ -4,24 +4,6 @@ use borrow.Author.Needs.{needs}
 use Rattle.link.proofs.Link.due.Statement.{statement}
 use Rattle.link.proofs.Link.due.Tie as tie
 
-phase-requires : tie.Need-phase-requires
-phase-requires c κs = search needs
-
-enum-told : tie.Need-enum-told
-enum-told c = search needs
-
-enum-told-2 : tie.Need-enum-told-2
-enum-told-2 c = search needs
-
-enum-told-3 : tie.Need-enum-told-3
-enum-told-3 c = search needs
-
-enum-told-4 : tie.Need-enum-told-4
-enum-told-4 c = search needs
-
-due-up-requires : tie.Need-due-up-requires
-due-up-requires c κs = search needs
-
 returns : tie.Need-returns
 unfolding dueOf
 returns c = rw (sym (c .before .before .phase .ensures) ∙ c .enum-told .given .1)
@@ -47,18 +29,5 @@ unfolding dueOf
 returns-6 c = rw (sym (c .before .before .before .phase .ensures) ∙ c .before .enum-told4 .given .1) (c .due-up .ensures)
 
 pub due-spec : {M : Type 1} → statement M
-due-spec =
-    tie.close
-    (tie.spec
-    phase-requires
-    enum-told
-    enum-told-2
-    enum-told-3
-    enum-told-4
-    due-up-requires
-    returns
-    returns-2
-    returns-3
-    returns-4
-    returns-5
-    returns-6)
+due-spec = tie.close (tie.spec (λ c κs. search needs) (λ c. search needs) (λ c. search needs) (λ c. search needs) (λ c. search needs) (λ c κs. search needs)
+    returns returns-2 returns-3 returns-4 returns-5 returns-6)

@@ -5,18 +5,9 @@ use borrow.Author.Needs.{needs}
 use Rattle.link.proofs.Link.due_up.Statement.{statement}
 use Rattle.link.proofs.Link.due_up.Tie as tie
 
-milliseconds-requires : tie.Need-milliseconds-requires
-milliseconds-requires c κs = search needs
-
-elapsed-requires : tie.Need-elapsed-requires
-elapsed-requires c κs = search needs
-
 returns : tie.Need-returns
 unfolding dueUp
 returns c = rw (← c .before .before .milliseconds .ensures, sym (c .before .elapsed .ensures) ∙ c .if1 .taken)
-
-alarms-for-requires : tie.Need-alarms-for-requires
-alarms-for-requires c κs = search needs
 
 returns-2 : tie.Need-returns-2
 unfolding dueUp
@@ -35,14 +26,4 @@ unfolding dueUp
 returns-5 c = rw (← c .before .before .before .milliseconds .ensures, sym (c .before .before .elapsed .ensures) ∙ c .before .if1 .left, c .if2 .left)
 
 pub due-up-spec : {M : Type 1} → statement M
-due-up-spec =
-    tie.close
-    (tie.spec
-    milliseconds-requires
-    elapsed-requires
-    returns
-    alarms-for-requires
-    returns-2
-    returns-3
-    returns-4
-    returns-5)
+due-up-spec = tie.close (tie.spec (λ c κs. search needs) (λ c κs. search needs) returns (λ c κs. search needs) returns-2 returns-3 returns-4 returns-5)

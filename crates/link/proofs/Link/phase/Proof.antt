@@ -4,12 +4,6 @@ use borrow.Author.Needs.{needs}
 use Rattle.link.proofs.Link.phase.Statement.{statement}
 use Rattle.link.proofs.Link.phase.Tie as tie
 
-is-greeted-requires : tie.Need-is-greeted-requires
-is-greeted-requires c κs = search needs
-
-is-beaten-requires : tie.Need-is-beaten-requires
-is-beaten-requires c κs = search needs
-
 returns : tie.Need-returns
 unfolding phaseOf
 returns c = rw (sym (c .before .before .before .is-greeted .ensures) ∙ c .before .before .if2 .taken, sym (c .before .is-beaten .ensures) ∙ c .if3 .taken, c .before .before .before .before .if1 .taken)
@@ -27,6 +21,4 @@ unfolding phaseOf
 returns-4 c = rw (c .if1 .left)
 
 pub phase-spec : {M : Type 1} → statement M
-phase-spec =
-    tie.close
-    (tie.spec is-greeted-requires is-beaten-requires returns returns-2 returns-3 returns-4)
+phase-spec = tie.close (tie.spec (λ c κs. search needs) (λ c κs. search needs) returns returns-2 returns-3 returns-4)

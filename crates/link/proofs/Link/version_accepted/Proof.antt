@@ -4,9 +4,6 @@ use borrow.Author.Needs.{needs}
 use Rattle.link.proofs.Link.version_accepted.Statement.{statement}
 use Rattle.link.proofs.Link.version_accepted.Tie as tie
 
-may-judge-version-requires : tie.Need-may-judge-version-requires
-may-judge-version-requires c κs = search needs
-
 returns : tie.Need-returns
 unfolding versionAcceptedOf
 returns c = rw (sym (c .before .may-judge-version .ensures) ∙ c .if1 .taken)
@@ -16,4 +13,4 @@ unfolding versionAcceptedOf
 returns-2 c = rw (sym (c .before .may-judge-version .ensures) ∙ c .if1 .left)
 
 pub version-accepted-spec : {M : Type 1} → statement M
-version-accepted-spec = tie.close (tie.spec may-judge-version-requires returns returns-2)
+version-accepted-spec = tie.close (tie.spec (λ c κs. search needs) returns returns-2)

@@ -7,9 +7,6 @@ returns : tie.Need-returns
 unfolding versionOutOf
 returns c = rw (c .if1 .taken)
 
-add-requires : tie.Need-add-requires
-add-requires c κs = search needs
-
 returns-2 : tie.Need-returns-2
 unfolding versionOutOf
 returns-2 c = rw (c .add .ensures, c .before .before .before .if1 .left, c .before .before .if2 .taken)
@@ -19,4 +16,4 @@ unfolding versionOutOf
 returns-3 c = rw (c .before .if1 .left, c .if2 .left)
 
 pub version-out-spec : {M : Type 1} → statement M
-version-out-spec = tie.close (tie.spec returns add-requires returns-2 returns-3)
+version-out-spec = tie.close (tie.spec returns (λ c κs. search needs) returns-2 returns-3)

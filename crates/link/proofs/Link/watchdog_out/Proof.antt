@@ -4,12 +4,6 @@ use borrow.Author.Needs.{needs}
 use Rattle.link.proofs.Link.watchdog_out.Statement.{statement}
 use Rattle.link.proofs.Link.watchdog_out.Tie as tie
 
-may-beat-requires : tie.Need-may-beat-requires
-may-beat-requires c κs = search needs
-
-add-requires : tie.Need-add-requires
-add-requires c κs = search needs
-
 returns : tie.Need-returns
 unfolding watchdogOutOf
 returns c = rw (c .add .ensures, sym (c .before .before .before .may-beat .ensures) ∙ c .before .before .if1 .taken)
@@ -19,4 +13,4 @@ unfolding watchdogOutOf
 returns-2 c = rw (sym (c .before .may-beat .ensures) ∙ c .if1 .left)
 
 pub watchdog-out-spec : {M : Type 1} → statement M
-watchdog-out-spec = tie.close (tie.spec may-beat-requires add-requires returns returns-2)
+watchdog-out-spec = tie.close (tie.spec (λ c κs. search needs) (λ c κs. search needs) returns returns-2)

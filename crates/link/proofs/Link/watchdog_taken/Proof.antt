@@ -4,12 +4,6 @@ use borrow.Author.Needs.{needs}
 use Rattle.link.proofs.Link.watchdog_taken.Statement.{statement}
 use Rattle.link.proofs.Link.watchdog_taken.Tie as tie
 
-phase-requires : tie.Need-phase-requires
-phase-requires c κs = search needs
-
-takes-in-requires : tie.Need-takes-in-requires
-takes-in-requires c κs = search needs
-
 returns : tie.Need-returns
 unfolding watchdogTakenOf
 returns c = rw (← c .before .before .phase .ensures, sym (c .before .takes-in .ensures) ∙ c .if1 .taken)
@@ -19,4 +13,4 @@ unfolding watchdogTakenOf
 returns-2 c = rw (← c .before .before .phase .ensures, sym (c .before .takes-in .ensures) ∙ c .if1 .left)
 
 pub watchdog-taken-spec : {M : Type 1} → statement M
-watchdog-taken-spec = tie.close (tie.spec phase-requires takes-in-requires returns returns-2)
+watchdog-taken-spec = tie.close (tie.spec (λ c κs. search needs) (λ c κs. search needs) returns returns-2)

@@ -6,17 +6,8 @@ use Rattle.names.proofs.table.span_of.Tie as tie
 use Rattle.names.proofs.table.span_of.Reads as reads
 use Rattle.names.proofs.table.span_of.Lts as lts
 
-mul-start : tie.Need-mul-start
-mul-start c = search needs
-
-array-read-start : tie.Need-array-read-start
-array-read-start c = search needs
-
 cast-start : tie.Need-cast-start
 cast-start c = omega (arith, spans (c .before .args .i) (c .if1 .taken) .within)
-
-array-read-t13 : tie.Need-array-read-t13
-array-read-t13 c = search needs
 
 cast-t6 : tie.Need-cast-t6
 cast-t6 c = omega (arith, spans (c .before .args .i) (c .if1 .taken) .within)
@@ -31,14 +22,4 @@ returns-2 : tie.Need-returns-2
 returns-2 c = past (c .before .args .i) (c .if1 .left)
 
 pub span-of-spec : {M : Type 1} → statement M
-span-of-spec =
-    tie.close
-    (tie.spec
-    mul-start
-    array-read-start
-    cast-start
-    array-read-t13
-    cast-t6
-    add-t14
-    returns
-    returns-2)
+span-of-spec = tie.close (tie.spec (λ c. search needs) (λ c. search needs) cast-start (λ c. search needs) cast-t6 add-t14 returns returns-2)

@@ -10,18 +10,6 @@ returns : tie.Need-returns
 unfolding issueOf
 returns c = rw (le-ltb _ 4 (c .if1 .taken))
 
-loser-for-requires : tie.Need-loser-for-requires
-loser-for-requires c κs = search needs
-
-room-requires : tie.Need-room-requires
-room-requires c κs = search needs
-
-lose-requires : tie.Need-lose-requires
-lose-requires c κs = search needs
-
-with-requires : tie.Need-with-requires
-with-requires c κs = search needs
-
 returns-2 : tie.Need-returns-2
 unfolding issueOf
 returns-2 c =
@@ -29,6 +17,4 @@ returns-2 c =
     (rw (c .before .lose .ensures, c .before .before .room .ensures, c .before .before .before .loser-for .ensures) at (c .with .ensures))
 
 pub issue-spec : {M : Type 1} → statement M
-issue-spec =
-    tie.close
-    (tie.spec returns loser-for-requires room-requires lose-requires with-requires returns-2)
+issue-spec = tie.close (tie.spec returns (λ c κs. search needs) (λ c κs. search needs) (λ c κs. search needs) (λ c κs. search needs) returns-2)

@@ -8,15 +8,6 @@ use borrow.Author.Needs.{needs}
 use Rattle.pool.proofs.Pool.lost.Statement.{statement}
 use Rattle.pool.proofs.Pool.lost.Tie as tie
 
-mul-result : tie.Need-mul-result
-mul-result c = search needs
-
-array-read-result : tie.Need-array-read-result
-array-read-result c = search needs
-
-returns : tie.Need-returns
-returns c = search needs
-
 returns-2 : tie.Need-returns-2
 returns-2 c =
     let h : length (c .before .before .args .self .lost) ≡ 4 = search needs in
@@ -24,4 +15,4 @@ returns-2 c =
     sym (List·getD-eq-default (c .before .before .args .self .lost) 0 g)
 
 pub lost-spec : {M : Type 1} → statement M
-lost-spec = tie.close (tie.spec mul-result array-read-result returns returns-2)
+lost-spec = tie.close (tie.spec (λ c. search needs) (λ c. search needs) (λ c. search needs) returns-2)

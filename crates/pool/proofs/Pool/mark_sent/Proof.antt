@@ -5,18 +5,9 @@ use borrow.Author.Needs.{needs}
 use Rattle.pool.proofs.Pool.mark_sent.Statement.{statement}
 use Rattle.pool.proofs.Pool.mark_sent.Tie as tie
 
-first-requires : tie.Need-first-requires
-first-requires c κs = search needs
-
-as-sent-requires : tie.Need-as-sent-requires
-as-sent-requires c κs = search needs
-
-with-requires : tie.Need-with-requires
-with-requires c κs = search needs
-
 returns : tie.Need-returns
 unfolding markOf
 returns c = rw (c .before .as-sent .ensures, c .before .before .first .ensures) at (c .with .ensures)
 
 pub mark-sent-spec : {M : Type 1} → statement M
-mark-sent-spec = tie.close (tie.spec first-requires as-sent-requires with-requires returns)
+mark-sent-spec = tie.close (tie.spec (λ c κs. search needs) (λ c κs. search needs) (λ c κs. search needs) returns)

@@ -4,14 +4,8 @@ use borrow.Author.Needs.{needs}
 use Rattle.pool.proofs.Pool.ranked.Statement.{statement}
 use Rattle.pool.proofs.Pool.ranked.Tie as tie
 
-ranked-requires : tie.Need-ranked-requires
-ranked-requires c κs = search needs
-
-look-requires : tie.Need-look-requires
-look-requires c κs = search needs
-
 returns : tie.Need-returns
 returns c = rw (c .before .ranked .ensures) at (c .look .ensures)
 
 pub ranked-spec : {M : Type 1} → statement M
-ranked-spec = tie.close (tie.spec ranked-requires look-requires returns)
+ranked-spec = tie.close (tie.spec (λ c κs. search needs) (λ c κs. search needs) returns)

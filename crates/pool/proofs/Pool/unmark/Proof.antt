@@ -5,12 +5,9 @@ use borrow.Author.Needs.{needs}
 use Rattle.pool.proofs.Pool.unmark.Statement.{statement}
 use Rattle.pool.proofs.Pool.unmark.Tie as tie
 
-all-unsent-requires : tie.Need-all-unsent-requires
-all-unsent-requires c κs = search needs
-
 returns : tie.Need-returns
 unfolding unmarkOf
 returns c = rw (c .all-unsent .ensures)
 
 pub unmark-spec : {M : Type 1} → statement M
-unmark-spec = tie.close (tie.spec all-unsent-requires returns)
+unmark-spec = tie.close (tie.spec (λ c κs. search needs) returns)

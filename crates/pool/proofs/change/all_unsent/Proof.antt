@@ -20,27 +20,6 @@ abbrev μ-loop : tie.MeasureT-loop
 loop-holds : tie.Need-loop-holds Inv-loop μ-loop
 loop-holds c = (omega arith, sym (part-none _ _))
 
-mul-as-unsent : tie.Need-mul-as-unsent Inv-loop μ-loop
-mul-as-unsent c = omega arith
-
-array-copy-out-as-unsent : tie.Need-array-copy-out-as-unsent Inv-loop μ-loop
-array-copy-out-as-unsent c = omega arith
-
-as-unsent-requires : tie.Need-as-unsent-requires Inv-loop μ-loop
-as-unsent-requires c κs = search needs
-
-mul-q : tie.Need-mul-q Inv-loop μ-loop
-mul-q c = omega arith
-
-array-set-from-q : tie.Need-array-set-from-q Inv-loop μ-loop
-array-set-from-q c = omega arith
-
-add-i : tie.Need-add-i Inv-loop μ-loop
-add-i c = omega arith
-
-loop-less : tie.Need-loop-less Inv-loop μ-loop
-loop-less c = omega arith
-
 loop-again : tie.Need-loop-again Inv-loop μ-loop
 loop-again c =
     let p = c .before .before .before .before .args .t1 in
@@ -55,18 +34,5 @@ returns c =
     c .before .loop .inv .1 ∙ part-all _ _ p (omega arith)
 
 pub all-unsent-spec : {M : Type 1} → statement M
-all-unsent-spec =
-    tie.close
-    (tie.spec
-    Inv-loop
-    μ-loop
-    loop-holds
-    mul-as-unsent
-    array-copy-out-as-unsent
-    as-unsent-requires
-    mul-q
-    array-set-from-q
-    add-i
-    loop-less
-    loop-again
-    returns)
+all-unsent-spec = tie.close (tie.spec Inv-loop μ-loop loop-holds (λ c. omega arith) (λ c. omega arith) (λ c κs. search needs) (λ c. omega arith)
+    (λ c. omega arith) (λ c. omega arith) (λ c. omega arith) loop-again returns)

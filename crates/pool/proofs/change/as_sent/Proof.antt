@@ -4,12 +4,6 @@ use borrow.Author.Needs.{needs}
 use Rattle.pool.proofs.change.as_sent.Statement.{statement}
 use Rattle.pool.proofs.change.as_sent.Tie as tie
 
-enum-told : tie.Need-enum-told
-enum-told c = search needs
-
-enum-known-s : tie.Need-enum-known-s
-enum-known-s c = search needs
-
 returns : tie.Need-returns
 returns c = rw (c .enum-told .given .1)
 
@@ -17,4 +11,4 @@ returns-2 : tie.Need-returns-2
 returns-2 c = rw (c .before .before .s .given .1)
 
 pub as-sent-spec : {M : Type 1} → statement M
-as-sent-spec = tie.close (tie.spec enum-told enum-known-s returns returns-2)
+as-sent-spec = tie.close (tie.spec (λ c. search needs) (λ c. search needs) returns returns-2)

@@ -5,9 +5,6 @@ use borrow.Author.Needs.{needs}
 use Rattle.pool.proofs.change.as_unsent.Statement.{statement}
 use Rattle.pool.proofs.change.as_unsent.Tie as tie
 
-mine-requires : tie.Need-mine-requires
-mine-requires c κs = search needs
-
 returns : tie.Need-returns
 returns c = rw (sym (c .before .before .mine .ensures) ∙ c .before .if1 .taken)
 
@@ -15,4 +12,4 @@ returns-2 : tie.Need-returns-2
 returns-2 c = rw (sym (c .before .mine .ensures) ∙ c .if1 .left)
 
 pub as-unsent-spec : {M : Type 1} → statement M
-as-unsent-spec = tie.close (tie.spec mine-requires returns returns-2)
+as-unsent-spec = tie.close (tie.spec (λ c κs. search needs) returns returns-2)

@@ -10,30 +10,6 @@ use borrow.Author.Needs.{needs}
 use Rattle.pool.proofs.change.lose.Statement.{statement}
 use Rattle.pool.proofs.change.lose.Tie as tie
 
-enum-told : tie.Need-enum-told
-enum-told c = search needs
-
-enum-known-who : tie.Need-enum-known-who
-enum-known-who c = search needs
-
-cast-i : tie.Need-cast-i
-cast-i c = search needs
-
-mul-more : tie.Need-mul-more
-mul-more c = search needs
-
-array-read-more : tie.Need-array-read-more
-array-read-more c = search needs
-
-more-requires : tie.Need-more-requires
-more-requires c κs = search needs
-
-mul-counts : tie.Need-mul-counts
-mul-counts c = search needs
-
-array-write-counts : tie.Need-array-write-counts
-array-write-counts c = search needs
-
 returns : tie.Need-returns
 unfolding lossOf
 returns c = rw (c .before .before .before .who .given .1, c .more .ensures)
@@ -50,17 +26,5 @@ returns-3 c =
     rw (c .before .before .who .given .1) (sym (set-out _ _ _ g))
 
 pub lose-spec : {M : Type 1} → statement M
-lose-spec =
-    tie.close
-    (tie.spec
-    enum-told
-    enum-known-who
-    cast-i
-    mul-more
-    array-read-more
-    more-requires
-    mul-counts
-    array-write-counts
-    returns
-    returns-2
-    returns-3)
+lose-spec = tie.close (tie.spec (λ c. search needs) (λ c. search needs) (λ c. search needs) (λ c. search needs) (λ c. search needs) (λ c κs. search needs)
+    (λ c. search needs) (λ c. search needs) returns returns-2 returns-3)

@@ -5,14 +5,5 @@ use borrow.Author.Needs.{needs}
 use Rattle.pool.proofs.change.more.Statement.{statement}
 use Rattle.pool.proofs.change.more.Tie as tie
 
-add-result : tie.Need-add-result
-add-result c = search needs
-
-returns : tie.Need-returns
-returns c = search tests
-
-returns-2 : tie.Need-returns-2
-returns-2 c = search tests
-
 pub more-spec : {M : Type 1} → statement M
-more-spec = tie.close (tie.spec add-result returns returns-2)
+more-spec = tie.close (tie.spec (λ c. search needs) (λ c. search tests) (λ c. search tests))

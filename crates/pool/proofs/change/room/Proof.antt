@@ -5,18 +5,6 @@ use borrow.Author.Needs.{needs}
 use Rattle.pool.proofs.change.room.Statement.{statement}
 use Rattle.pool.proofs.change.room.Tie as tie
 
-enum-told : tie.Need-enum-told
-enum-told c = search needs
-
-first-requires : tie.Need-first-requires
-first-requires c κs = search needs
-
-enum-known-who : tie.Need-enum-known-who
-enum-known-who c = search needs
-
-first-requires-2 : tie.Need-first-requires-2
-first-requires-2 c κs = search needs
-
 returns : tie.Need-returns
 unfolding roomOf
 returns c = rw (c .before .enum-told .given .1) (c .first .ensures)
@@ -26,5 +14,4 @@ unfolding roomOf
 returns-2 c = rw (c .before .before .who .given .1) (c .first2 .ensures)
 
 pub room-spec : {M : Type 1} → statement M
-room-spec =
-    tie.close (tie.spec enum-told first-requires enum-known-who first-requires-2 returns returns-2)
+room-spec = tie.close (tie.spec (λ c. search needs) (λ c κs. search needs) (λ c. search needs) (λ c κs. search needs) returns returns-2)

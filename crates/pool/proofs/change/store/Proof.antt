@@ -9,15 +9,6 @@ use borrow.Author.Needs.{needs}
 use Rattle.pool.proofs.change.store.Statement.{statement}
 use Rattle.pool.proofs.change.store.Tie as tie
 
-mul-q : tie.Need-mul-q
-mul-q c = search needs
-
-array-set-from-q : tie.Need-array-set-from-q
-array-set-from-q c = search needs
-
-returns : tie.Need-returns
-returns c = search needs
-
 returns-2 : tie.Need-returns-2
 returns-2 c =
     let h : length (c .before .args .p) ≡ 128 = search needs in
@@ -25,4 +16,4 @@ returns-2 c =
     sym (set-out _ _ _ g)
 
 pub store-spec : {M : Type 1} → statement M
-store-spec = tie.close (tie.spec mul-q array-set-from-q returns returns-2)
+store-spec = tie.close (tie.spec (λ c. search needs) (λ c. search needs) (λ c. search needs) returns-2)

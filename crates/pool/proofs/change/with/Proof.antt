@@ -5,15 +5,6 @@ use borrow.Author.Needs.{needs}
 use Rattle.pool.proofs.change.with.Statement.{statement}
 use Rattle.pool.proofs.change.with.Tie as tie
 
-enum-told : tie.Need-enum-told
-enum-told c = search needs
-
-enum-known-s : tie.Need-enum-known-s
-enum-known-s c = search needs
-
-store-requires : tie.Need-store-requires
-store-requires c κs = search needs
-
 returns : tie.Need-returns
 unfolding withOf
 returns c = rw (c .enum-told .given .1)
@@ -23,4 +14,4 @@ unfolding withOf
 returns-2 c = rw (c .before .before .before .s .given .1, c .store .ensures)
 
 pub with-spec : {M : Type 1} → statement M
-with-spec = tie.close (tie.spec enum-told enum-known-s store-requires returns returns-2)
+with-spec = tie.close (tie.spec (λ c. search needs) (λ c. search needs) (λ c κs. search needs) returns returns-2)

@@ -22,27 +22,12 @@ loop-holds c =
     let h : length (c .args .t1) ≡ 128 = search needs in
     (omega arith, sym (count-end _ (c .args .t1) 128 (omega arith)))
 
-sub-i : tie.Need-sub-i Inv-loop μ-loop
-sub-i c = omega arith
-
-mul-asked : tie.Need-mul-asked Inv-loop μ-loop
-mul-asked c = omega arith
-
-array-copy-out-asked : tie.Need-array-copy-out-asked Inv-loop μ-loop
-array-copy-out-asked c = omega arith
-
-asked-requires : tie.Need-asked-requires Inv-loop μ-loop
-asked-requires c κs = search needs
-
 add-requires : tie.Need-add-requires Inv-loop μ-loop
 add-requires c κs =
     let p = c .before .before .before .before .args .t1 in
     let i = c .before .before .before .loop .i in
     let h : length p ≡ 128 = search needs in
     omega (arith, count-most (fits (c .before .before .before .before .args .w)) (drop i p), length-drop i p)
-
-loop-less : tie.Need-loop-less Inv-loop μ-loop
-loop-less c = omega arith
 
 loop-again : tie.Need-loop-again Inv-loop μ-loop
 loop-again c =
@@ -57,17 +42,5 @@ returns c =
     rw e at (c .before .loop .inv .1)
 
 pub number-spec : {M : Type 1} → statement M
-number-spec =
-    tie.close
-    (tie.spec
-    Inv-loop
-    μ-loop
-    loop-holds
-    sub-i
-    mul-asked
-    array-copy-out-asked
-    asked-requires
-    add-requires
-    loop-less
-    loop-again
-    returns)
+number-spec = tie.close (tie.spec Inv-loop μ-loop loop-holds (λ c. omega arith) (λ c. omega arith) (λ c. omega arith) (λ c κs. search needs) add-requires
+    (λ c. omega arith) loop-again returns)

@@ -8,24 +8,15 @@ use borrow.Author.Needs.{needs}
 use Rattle.pool.proofs.shares.loser_for.Statement.{statement}
 use Rattle.pool.proofs.shares.loser_for.Tie as tie
 
-holds-requires : tie.Need-holds-requires
-holds-requires c κs = search needs
-
 returns : tie.Need-returns
 unfolding loser
 returns c = rw (le-leb _ _ (rw (c .before .holds .ensures) at (c .if1 .taken)))
-
-number-requires : tie.Need-number-requires
-number-requires c κs = search needs
 
 returns-2 : tie.Need-returns-2
 unfolding loser
 returns-2 c =
     let a = lt-leb _ _ (rw (c .before .before .before .holds .ensures) at (c .before .before .if1 .left)) in
     rw (a, lt-ltb _ _ (rw (c .before .number .ensures) at (c .if2 .taken)))
-
-fullest-of-requires : tie.Need-fullest-of-requires
-fullest-of-requires c κs = search needs
 
 returns-3 : tie.Need-returns-3
 unfolding loser
@@ -44,13 +35,4 @@ returns-4 c =
     rw (a, b, le-ltb _ _ (rw held at (c .if3 .left)))
 
 pub loser-for-spec : {M : Type 1} → statement M
-loser-for-spec =
-    tie.close
-    (tie.spec
-    holds-requires
-    returns
-    number-requires
-    returns-2
-    fullest-of-requires
-    returns-3
-    returns-4)
+loser-for-spec = tie.close (tie.spec (λ c κs. search needs) returns (λ c κs. search needs) returns-2 (λ c κs. search needs) returns-3 returns-4)

@@ -5,23 +5,11 @@ use borrow.Author.Needs.{needs}
 use Rattle.sitec.proofs.inputs.rsmp_lent_alarm.Statement.{statement}
 use Rattle.sitec.proofs.inputs.rsmp_lent_alarm.Tie as tie
 
-misfit-requires : tie.Need-misfit-requires
-misfit-requires c κs = search needs
-
 returns : tie.Need-returns
 returns c = misfits (λ f. c .before .if1 .taken (f .0)) (c .misfit .ensures)
 
-misfit-requires-2 : tie.Need-misfit-requires-2
-misfit-requires-2 c κs = search needs
-
 returns-2 : tie.Need-returns-2
 returns-2 c = misfits (λ f. c .before .if2 .taken (f .1)) (c .misfit2 .ensures)
-
-alarm-requires : tie.Need-alarm-requires
-alarm-requires c κs = search needs
-
-outcome-of-requires : tie.Need-outcome-of-requires
-outcome-of-requires c κs = search needs
 
 same-length : tie.Need-same-length
 same-length c = search needs
@@ -30,14 +18,5 @@ returns-3 : tie.Need-returns-3
 returns-3 c = calls (c .before .before .before .before .before .before .if1 .left, c .before .before .before .before .before .if2 .left) (same-length c) (c .before .before .before .alarm .ensures) (c .outcome-of .ensures)
 
 pub rsmp-lent-alarm-spec : {M : Type 1} → statement M
-rsmp-lent-alarm-spec =
-    tie.close
-    (tie.spec
-    misfit-requires
-    returns
-    misfit-requires-2
-    returns-2
-    alarm-requires
-    outcome-of-requires
-    same-length
-    returns-3)
+rsmp-lent-alarm-spec = tie.close (tie.spec (λ c κs. search needs) returns (λ c κs. search needs) returns-2 (λ c κs. search needs) (λ c κs. search needs)
+    same-length returns-3)

@@ -6,23 +6,11 @@ use borrow.Author.Needs.{needs}
 use Rattle.sitec.proofs.inputs.rsmp_lent_status.Statement.{statement}
 use Rattle.sitec.proofs.inputs.rsmp_lent_status.Tie as tie
 
-misfit-requires : tie.Need-misfit-requires
-misfit-requires c κs = search needs
-
 returns : tie.Need-returns
 returns c = misfits (λ f. c .before .if1 .taken (f .0)) (c .misfit .ensures)
 
-misfit-requires-2 : tie.Need-misfit-requires-2
-misfit-requires-2 c κs = search needs
-
 returns-2 : tie.Need-returns-2
 returns-2 c = misfits (λ f. c .before .if2 .taken (f .1)) (c .misfit2 .ensures)
-
-status-requires : tie.Need-status-requires
-status-requires c κs = search needs
-
-outcome-of-requires : tie.Need-outcome-of-requires
-outcome-of-requires c κs = search needs
 
 same-length : tie.Need-same-length
 same-length c = search needs
@@ -31,14 +19,5 @@ returns-3 : tie.Need-returns-3
 returns-3 c = calls (c .before .before .before .before .before .before .if1 .left, c .before .before .before .before .before .if2 .left) (same-length c) (rw (toZ-ofZ (c .before .before .before .before .before .before .before .before .before .fits .value)) at (c .before .before .before .status .ensures)) (c .outcome-of .ensures)
 
 pub rsmp-lent-status-spec : {M : Type 1} → statement M
-rsmp-lent-status-spec =
-    tie.close
-    (tie.spec
-    misfit-requires
-    returns
-    misfit-requires-2
-    returns-2
-    status-requires
-    outcome-of-requires
-    same-length
-    returns-3)
+rsmp-lent-status-spec = tie.close (tie.spec (λ c κs. search needs) returns (λ c κs. search needs) returns-2 (λ c κs. search needs) (λ c κs. search needs)
+    same-length returns-3)

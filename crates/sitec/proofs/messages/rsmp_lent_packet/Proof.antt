@@ -8,44 +8,20 @@ use borrow.Author.Needs.{needs}
 use Rattle.sitec.proofs.messages.rsmp_lent_packet.Statement.{statement}
 use Rattle.sitec.proofs.messages.rsmp_lent_packet.Tie as tie
 
-misfit-requires : tie.Need-misfit-requires
-misfit-requires c κs = search needs
-
 returns : tie.Need-returns
 returns c =
     (told-misfits (λ f. c .before .if1 .taken (f .0)) (c .misfit .ensures), hand-misfits (λ f. c .before .if1 .taken (f .0)))
-
-misfit-requires-2 : tie.Need-misfit-requires-2
-misfit-requires-2 c κs = search needs
 
 returns-2 : tie.Need-returns-2
 returns-2 c =
     (told-misfits (λ f. c .before .if2 .taken (f .1)) (c .misfit2 .ensures), hand-misfits (λ f. c .before .if2 .taken (f .1)))
 
-misfit-requires-3 : tie.Need-misfit-requires-3
-misfit-requires-3 c κs = search needs
-
 returns-3 : tie.Need-returns-3
 returns-3 c =
     (told-misfits (λ f. c .before .if3 .taken (f .2)) (c .misfit3 .ensures), hand-misfits (λ f. c .before .if3 .taken (f .2)))
 
-packet-requires : tie.Need-packet-requires
-packet-requires c κs = search needs
-
-hand-requires : tie.Need-hand-requires
-hand-requires c κs = search needs
-
-outcome-of-requires : tie.Need-outcome-of-requires
-outcome-of-requires c κs = search needs
-
 same-length : tie.Need-same-length
 same-length c = search needs
-
-same-length-2 : tie.Need-same-length-2
-same-length-2 c = search needs
-
-same-length-3 : tie.Need-same-length-3
-same-length-3 c = search needs
 
 returns-4 : tie.Need-returns-4
 returns-4 c =
@@ -58,19 +34,5 @@ returns-4 c =
     )
 
 pub rsmp-lent-packet-spec : {M : Type 1} → statement M
-rsmp-lent-packet-spec =
-    tie.close
-    (tie.spec
-    misfit-requires
-    returns
-    misfit-requires-2
-    returns-2
-    misfit-requires-3
-    returns-3
-    packet-requires
-    hand-requires
-    outcome-of-requires
-    same-length
-    same-length-2
-    same-length-3
-    returns-4)
+rsmp-lent-packet-spec = tie.close (tie.spec (λ c κs. search needs) returns (λ c κs. search needs) returns-2 (λ c κs. search needs) returns-3
+    (λ c κs. search needs) (λ c κs. search needs) (λ c κs. search needs) same-length (λ c. search needs) (λ c. search needs) returns-4)

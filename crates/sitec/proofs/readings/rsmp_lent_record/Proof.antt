@@ -9,11 +9,8 @@ use Rattle.sitec.proofs.readings.rsmp_lent_record.Tie as tie
 returns : tie.Need-returns
 returns c = unread (c .if1 .taken) refl
 
-record-at-requires : tie.Need-record-at-requires
-record-at-requires c κs = search needs
-
 returns-2 : tie.Need-returns-2
 returns-2 c = reads (c .before .if1 .left) (c .record-at .ensures)
 
 pub rsmp-lent-record-spec : {M : Type 1} → statement M
-rsmp-lent-record-spec = tie.close (tie.spec returns record-at-requires returns-2)
+rsmp-lent-record-spec = tie.close (tie.spec returns (λ c κs. search needs) returns-2)

@@ -9,11 +9,8 @@ use Rattle.sitec.proofs.readings.rsmp_lent_version_of.Tie as tie
 returns : tie.Need-returns
 returns c = unread (c .if1 .taken) refl
 
-version-of-requires : tie.Need-version-of-requires
-version-of-requires c κs = search needs
-
 returns-2 : tie.Need-returns-2
 returns-2 c = reads (c .before .if1 .left) (c .version-of .ensures)
 
 pub rsmp-lent-version-of-spec : {M : Type 1} → statement M
-rsmp-lent-version-of-spec = tie.close (tie.spec returns version-of-requires returns-2)
+rsmp-lent-version-of-spec = tie.close (tie.spec returns (λ c κs. search needs) returns-2)

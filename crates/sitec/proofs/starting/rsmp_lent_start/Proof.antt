@@ -5,23 +5,11 @@ use borrow.Author.Needs.{needs}
 use Rattle.sitec.proofs.starting.rsmp_lent_start.Statement.{statement}
 use Rattle.sitec.proofs.starting.rsmp_lent_start.Tie as tie
 
-misfit-requires : tie.Need-misfit-requires
-misfit-requires c κs = search needs
-
 returns : tie.Need-returns
 returns c = start-misfits (λ f. c .before .if1 .taken (f .0)) (c .misfit .ensures)
 
-misfit-requires-2 : tie.Need-misfit-requires-2
-misfit-requires-2 c κs = search needs
-
 returns-2 : tie.Need-returns-2
 returns-2 c = start-misfits (λ f. c .before .if2 .taken (f .1)) (c .misfit2 .ensures)
-
-start-requires : tie.Need-start-requires
-start-requires c κs = search needs
-
-outcome-of-requires : tie.Need-outcome-of-requires
-outcome-of-requires c κs = search needs
 
 same-length : tie.Need-same-length
 same-length c = search needs
@@ -33,15 +21,5 @@ returns-3 : tie.Need-returns-3
 returns-3 c = begins (c .before .before .before .before .before .before .before .before .before .if1 .left, c .before .before .before .before .before .before .before .before .if2 .left) (same-length c) (same-length-2 c) (c .before .before .before .before .before .start .ensures) (c .outcome-of .ensures)
 
 pub rsmp-lent-start-spec : {M : Type 1} → statement M
-rsmp-lent-start-spec =
-    tie.close
-    (tie.spec
-    misfit-requires
-    returns
-    misfit-requires-2
-    returns-2
-    start-requires
-    outcome-of-requires
-    same-length
-    same-length-2
-    returns-3)
+rsmp-lent-start-spec = tie.close (tie.spec (λ c κs. search needs) returns (λ c κs. search needs) returns-2 (λ c κs. search needs) (λ c κs. search needs)
+    same-length same-length-2 returns-3)

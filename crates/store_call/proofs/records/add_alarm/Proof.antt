@@ -8,28 +8,10 @@ use borrow.Author.Needs.{needs}
 use Rattle.store_call.proofs.records.add_alarm.Statement.{statement}
 use Rattle.store_call.proofs.records.add_alarm.Tie as tie
 
-of-alarm-requires : tie.Need-of-alarm-requires
-of-alarm-requires c κs = search needs
-
-same-length : tie.Need-same-length
-same-length c = search needs
-
 returns : tie.Need-returns
 returns c =
     let a = c .before .before .before .before .args in
     turns-none (a .w .now) (λ t. alarm-none (siteOf (a .w .now) t) (a .number) (a .c) (sym (c .before .of-alarm .ensures t (a .number)) ∙ c .if1 .taken))
-
-primary-requires : tie.Need-primary-requires
-primary-requires c κs = search needs
-
-issued-requires : tie.Need-issued-requires
-issued-requires c κs = search needs
-
-add-requires : tie.Need-add-requires
-add-requires c κs = search needs
-
-same-length-2 : tie.Need-same-length-2
-same-length-2 c = search needs
 
 returns-2 : tie.Need-returns-2
 returns-2 c =
@@ -40,14 +22,5 @@ returns-2 c =
     (alarm-one (siteOf (a .w .now) t) (a .number) (a .c) (λ e. c .before .before .before .before .before .before .before .before .if1 .left (c .before .before .before .before .before .before .before .before .before .of-alarm .ensures t (a .number) ∙ e))))
 
 pub add-alarm-spec : {M : Type 1} → statement M
-add-alarm-spec =
-    tie.close
-    (tie.spec
-    of-alarm-requires
-    same-length
-    returns
-    primary-requires
-    issued-requires
-    add-requires
-    same-length-2
-    returns-2)
+add-alarm-spec = tie.close (tie.spec (λ c κs. search needs) (λ c. search needs) returns (λ c κs. search needs) (λ c κs. search needs) (λ c κs. search needs)
+    (λ c. search needs) returns-2)

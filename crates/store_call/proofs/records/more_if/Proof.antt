@@ -6,9 +6,6 @@ use borrow.Author.Needs.{needs}
 use Rattle.store_call.proofs.records.more_if.Statement.{statement}
 use Rattle.store_call.proofs.records.more_if.Tie as tie
 
-add-result : tie.Need-add-result
-add-result c = search needs
-
 returns : tie.Need-returns
 returns c = rw (c .if1 .taken) refl
 
@@ -16,4 +13,4 @@ returns-2 : tie.Need-returns-2
 returns-2 c = rw (c .if1 .left) (omega arith)
 
 pub more-if-spec : {M : Type 1} → statement M
-more-if-spec = tie.close (tie.spec add-result returns returns-2)
+more-if-spec = tie.close (tie.spec (λ c. search needs) returns returns-2)

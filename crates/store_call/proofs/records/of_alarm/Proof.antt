@@ -5,9 +5,6 @@ use borrow.Author.Needs.{needs}
 use Rattle.store_call.proofs.records.of_alarm.Statement.{statement}
 use Rattle.store_call.proofs.records.of_alarm.Tie as tie
 
-has-primary-requires : tie.Need-has-primary-requires
-has-primary-requires c κs = search needs
-
 returns : tie.Need-returns
 returns c = λ t k. rw (c .before .before .if1 .taken, ← c .before .has-primary .ensures t, c .if2 .taken) refl
 
@@ -18,4 +15,4 @@ returns-3 : tie.Need-returns-3
 returns-3 c = λ t k. rw (c .if1 .left) refl
 
 pub of-alarm-spec : {M : Type 1} → statement M
-of-alarm-spec = tie.close (tie.spec has-primary-requires returns returns-2 returns-3)
+of-alarm-spec = tie.close (tie.spec (λ c κs. search needs) returns returns-2 returns-3)

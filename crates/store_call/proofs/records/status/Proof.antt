@@ -4,14 +4,8 @@ use borrow.Author.Needs.{needs}
 use Rattle.store_call.proofs.records.status.Statement.{statement}
 use Rattle.store_call.proofs.records.status.Tie as tie
 
-up-requires : tie.Need-up-requires
-up-requires c κs = search needs
-
-issued-requires : tie.Need-issued-requires
-issued-requires c κs = search needs
-
 returns : tie.Need-returns
 returns c = λ t. rw (← c .before .up .ensures t) (c .issued .ensures)
 
 pub status-spec : {M : Type 1} → statement M
-status-spec = tie.close (tie.spec up-requires issued-requires returns)
+status-spec = tie.close (tie.spec (λ c κs. search needs) (λ c κs. search needs) returns)

@@ -18,23 +18,8 @@ Inv-loop w i a b k₀ k = (id : Identity) → Answers w a b id → Sought w i id
 abbrev μ-loop : tie.MeasureT-loop
 μ-loop w i a b k₀ k = 16 - k
 
-first-half-requires : tie.Need-first-half-requires Inv-loop μ-loop
-first-half-requires c κs = search needs
-
-second-half-requires : tie.Need-second-half-requires Inv-loop μ-loop
-second-half-requires c κs = search needs
-
 loop-holds : tie.Need-loop-holds Inv-loop μ-loop
 loop-holds c = λ id h. sought (c .before .before .before .args .w .now) (c .before .before .before .args .i) id
-
-mul-answers-to : tie.Need-mul-answers-to Inv-loop μ-loop
-mul-answers-to c = omega arith
-
-add-answers-to : tie.Need-add-answers-to Inv-loop μ-loop
-add-answers-to c = omega arith
-
-answers-to-requires : tie.Need-answers-to-requires Inv-loop μ-loop
-answers-to-requires c κs = omega arith
 
 returns : tie.Need-returns Inv-loop μ-loop
 returns c =
@@ -45,12 +30,6 @@ returns c =
     let h =
     answers-is (s .args .id) (search (s, needs)) (λ j. f j .fits) (b .before .first-half .ensures) (b .second-half .ensures) (s .args .w .now) (λ j. b .before .before .shared-slice-known .given j .fits) in
     found (s .args .w .now) (s .args .i) (s .args .id) (l .k) (omega arith) (l .inv (s .args .id) h) (sym (h (s .args .i + 4 * l .k)) ∙ sym (c .before .answers-to .ensures) ∙ c .if1 .taken)
-
-add-k : tie.Need-add-k Inv-loop μ-loop
-add-k c = omega arith
-
-loop-less : tie.Need-loop-less Inv-loop μ-loop
-loop-less c = omega arith
 
 loop-again : tie.Need-loop-again Inv-loop μ-loop
 loop-again c =
@@ -69,19 +48,5 @@ returns-2 c =
     not-found (s .args .w .now) (s .args .i) (s .args .id) (l .k) (omega arith) (l .inv (s .args .id) h)
 
 pub awaits-at-spec : {M : Type 1} → statement M
-awaits-at-spec =
-    tie.close
-    (tie.spec
-    Inv-loop
-    μ-loop
-    first-half-requires
-    second-half-requires
-    loop-holds
-    mul-answers-to
-    add-answers-to
-    answers-to-requires
-    returns
-    add-k
-    loop-less
-    loop-again
-    returns-2)
+awaits-at-spec = tie.close (tie.spec Inv-loop μ-loop (λ c κs. search needs) (λ c κs. search needs) loop-holds (λ c. omega arith) (λ c. omega arith)
+    (λ c κs. omega arith) returns (λ c. omega arith) (λ c. omega arith) loop-again returns-2)

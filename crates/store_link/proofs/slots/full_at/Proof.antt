@@ -16,26 +16,11 @@ abbrev μ-loop : tie.MeasureT-loop
 loop-holds : tie.Need-loop-holds Inv-loop μ-loop
 loop-holds c = taken (c .before .args .w .now) (c .before .args .i)
 
-mul-is-free : tie.Need-mul-is-free Inv-loop μ-loop
-mul-is-free c = omega arith
-
-add-is-free : tie.Need-add-is-free Inv-loop μ-loop
-add-is-free c = omega arith
-
-is-free-requires : tie.Need-is-free-requires Inv-loop μ-loop
-is-free-requires c κs = omega arith
-
 returns : tie.Need-returns Inv-loop μ-loop
 returns c =
     let l = c .before .before .before .loop in
     let a = c .before .before .before .before .before .args in
     not-full (a .w .now) (a .i) (l .k) (omega arith) (l .inv) (sym (c .before .is-free .ensures) ∙ c .if1 .taken)
-
-add-k : tie.Need-add-k Inv-loop μ-loop
-add-k c = omega arith
-
-loop-less : tie.Need-loop-less Inv-loop μ-loop
-loop-less c = omega arith
 
 loop-again : tie.Need-loop-again Inv-loop μ-loop
 loop-again c =
@@ -50,17 +35,5 @@ returns-2 c =
     full (a .w .now) (a .i) (l .k) (omega arith) (l .inv)
 
 pub full-at-spec : {M : Type 1} → statement M
-full-at-spec =
-    tie.close
-    (tie.spec
-    Inv-loop
-    μ-loop
-    loop-holds
-    mul-is-free
-    add-is-free
-    is-free-requires
-    returns
-    add-k
-    loop-less
-    loop-again
-    returns-2)
+full-at-spec = tie.close (tie.spec Inv-loop μ-loop loop-holds (λ c. omega arith) (λ c. omega arith) (λ c κs. omega arith) returns (λ c. omega arith)
+    (λ c. omega arith) loop-again returns-2)

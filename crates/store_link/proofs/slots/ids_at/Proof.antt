@@ -21,26 +21,8 @@ loop-holds c = (omega arith, refl, λ j h. absurd (omega arith))
 slice-aggregate-put-id : tie.Need-slice-aggregate-put-id Inv-loop μ-loop
 slice-aggregate-put-id c = sym (c .before .before .loop .inv .1)
 
-mul-put-id : tie.Need-mul-put-id Inv-loop μ-loop
-mul-put-id c = omega arith
-
-mul-put-id-2 : tie.Need-mul-put-id-2 Inv-loop μ-loop
-mul-put-id-2 c = omega arith
-
-add-put-id : tie.Need-add-put-id Inv-loop μ-loop
-add-put-id c = omega arith
-
-add-put-id-2 : tie.Need-add-put-id-2 Inv-loop μ-loop
-add-put-id-2 c = omega arith
-
 put-id-requires : tie.Need-put-id-requires Inv-loop μ-loop
 put-id-requires c κs = (omega arith, omega arith)
-
-add-k : tie.Need-add-k Inv-loop μ-loop
-add-k c = omega arith
-
-loop-less : tie.Need-loop-less Inv-loop μ-loop
-loop-less c = omega arith
 
 loop-again : tie.Need-loop-again Inv-loop μ-loop
 loop-again c =
@@ -51,19 +33,5 @@ returns : tie.Need-returns Inv-loop μ-loop
 returns c = λ j h. c .before .loop .inv .2 j (omega arith)
 
 pub ids-at-spec : {M : Type 1} → statement M
-ids-at-spec =
-    tie.close
-    (tie.spec
-    Inv-loop
-    μ-loop
-    loop-holds
-    slice-aggregate-put-id
-    mul-put-id
-    mul-put-id-2
-    add-put-id
-    add-put-id-2
-    put-id-requires
-    add-k
-    loop-less
-    loop-again
-    returns)
+ids-at-spec = tie.close (tie.spec Inv-loop μ-loop loop-holds slice-aggregate-put-id (λ c. omega arith) (λ c. omega arith) (λ c. omega arith) (λ c. omega arith)
+    put-id-requires (λ c. omega arith) (λ c. omega arith) loop-again returns)

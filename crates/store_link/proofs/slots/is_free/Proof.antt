@@ -8,22 +8,9 @@ use Rattle.store_link.specs.Rows.{slotFrom}
 use Rattle.store_link.proofs.slots.is_free.Statement.{statement}
 use Rattle.store_link.proofs.slots.is_free.Tie as tie
 
-add-numbers : tie.Need-add-numbers
-add-numbers c = search needs
-
-mul-numbers : tie.Need-mul-numbers
-mul-numbers c = search needs
-
-shared-slice-read-numbers : tie.Need-shared-slice-read-numbers
-shared-slice-read-numbers c = search needs
-
-lower-requires : tie.Need-lower-requires
-lower-requires c κs = search needs
-
 returns : tie.Need-returns
 unfolding slotFrom
 returns c = ap (λ (n : ℕ). eqb n 0) (c .lower .ensures)
 
 pub is-free-spec : {M : Type 1} → statement M
-is-free-spec =
-    tie.close (tie.spec add-numbers mul-numbers shared-slice-read-numbers lower-requires returns)
+is-free-spec = tie.close (tie.spec (λ c. search needs) (λ c. search needs) (λ c. search needs) (λ c κs. search needs) returns)

@@ -19,27 +19,6 @@ abbrev μ-loop : tie.MeasureT-loop
 loop-holds : tie.Need-loop-holds Inv-loop μ-loop
 loop-holds c = (omega arith, (refl, record { there = λ j h. absurd (omega arith); kept = wider _ 64 (nothing _ (c .before .args .i)) (omega arith) (omega arith) }))
 
-mul-put-slot : tie.Need-mul-put-slot Inv-loop μ-loop
-mul-put-slot c = omega arith
-
-add-put-slot : tie.Need-add-put-slot Inv-loop μ-loop
-add-put-slot c = omega arith
-
-mul-put-slot-2 : tie.Need-mul-put-slot-2 Inv-loop μ-loop
-mul-put-slot-2 c = omega arith
-
-array-copy-out-put-slot : tie.Need-array-copy-out-put-slot Inv-loop μ-loop
-array-copy-out-put-slot c = omega arith
-
-put-slot-requires : tie.Need-put-slot-requires Inv-loop μ-loop
-put-slot-requires c κs = omega arith
-
-add-k : tie.Need-add-k Inv-loop μ-loop
-add-k c = omega arith
-
-loop-less : tie.Need-loop-less Inv-loop μ-loop
-loop-less c = omega arith
-
 loop-again : tie.Need-loop-again Inv-loop μ-loop
 loop-again c =
     let l = c .before .before .before .before .before .before .loop in
@@ -48,9 +27,6 @@ loop-again c =
     let n : length (put .last .0) ≡ length (a .w .now) = search needs in
     (omega arith, (n, slots-next (a .w .now) (l .w) (put .last .0) (a .i) (a .t3) (l .k) (omega arith) (l .inv .1 .1) (put .ensures)))
 
-same-length : tie.Need-same-length Inv-loop μ-loop
-same-length c = search needs
-
 returns : tie.Need-returns Inv-loop μ-loop
 returns c =
     let l = c .before .loop in
@@ -58,19 +34,5 @@ returns c =
     awaited-put (s .args .w .now) (l .w) (s .args .i) (s .args .t3) (l .k) (omega arith) (search (s, needs)) (l .inv .1 .1)
 
 pub put-slots-spec : {M : Type 1} → statement M
-put-slots-spec =
-    tie.close
-    (tie.spec
-    Inv-loop
-    μ-loop
-    loop-holds
-    mul-put-slot
-    add-put-slot
-    mul-put-slot-2
-    array-copy-out-put-slot
-    put-slot-requires
-    add-k
-    loop-less
-    loop-again
-    same-length
-    returns)
+put-slots-spec = tie.close (tie.spec Inv-loop μ-loop loop-holds (λ c. omega arith) (λ c. omega arith) (λ c. omega arith) (λ c. omega arith)
+    (λ c κs. omega arith) (λ c. omega arith) (λ c. omega arith) loop-again (λ c. search needs) returns)

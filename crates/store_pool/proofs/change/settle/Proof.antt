@@ -5,22 +5,10 @@ use borrow.Author.Needs.{needs}
 use Rattle.store_pool.proofs.change.settle.Statement.{statement}
 use Rattle.store_pool.proofs.change.settle.Tie as tie
 
-first-requires : tie.Need-first-requires
-first-requires c κs = search needs
-
-same-length : tie.Need-same-length
-same-length c = search needs
-
 returns : tie.Need-returns
 returns c =
     let a = c .before .before .before .before .args in
     pool-turns _ _ _ (settle-none (a .w .now) (a .l) (a .sequence) (c .before .first .result) (c .before .first .ensures) (c .if1 .taken))
-
-put-place-requires : tie.Need-put-place-requires
-put-place-requires c κs = search needs
-
-same-length-2 : tie.Need-same-length-2
-same-length-2 c = search needs
 
 returns-2 : tie.Need-returns-2
 returns-2 c =
@@ -29,6 +17,4 @@ returns-2 c =
     pool-turns _ _ _ (settle-one (a .w .now) (a .l) (a .sequence) (first .result) (first .ensures) (c .before .before .put-place .last .0) (c .before .before .before .before .if1 .left) (c .before .before .put-place .ensures))
 
 pub settle-spec : {M : Type 1} → statement M
-settle-spec =
-    tie.close
-    (tie.spec first-requires same-length returns put-place-requires same-length-2 returns-2)
+settle-spec = tie.close (tie.spec (λ c κs. search needs) (λ c. search needs) returns (λ c κs. search needs) (λ c. search needs) returns-2)

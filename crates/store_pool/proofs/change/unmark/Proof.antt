@@ -21,15 +21,6 @@ abbrev μ-loop : tie.MeasureT-loop
 loop-holds : tie.Need-loop-holds Inv-loop μ-loop
 loop-holds c = (omega arith, (search needs, (search needs, upto-none (c .before .args .w .now) (c .before .args .l))))
 
-unmark-at-requires : tie.Need-unmark-at-requires Inv-loop μ-loop
-unmark-at-requires c κs = search needs
-
-add-i : tie.Need-add-i Inv-loop μ-loop
-add-i c = omega arith
-
-loop-less : tie.Need-loop-less Inv-loop μ-loop
-loop-less c = omega arith
-
 loop-again : tie.Need-loop-again Inv-loop μ-loop
 loop-again c =
     let l = c .before .before .before .before .before .loop in
@@ -38,9 +29,6 @@ loop-again c =
     let n : length (put .last .0) ≡ siteWords = search needs in
     (omega arith, (n, (l .inv .1 .1 .0, upto-next (a .w .now) (l .w) (put .last .0) (a .l) (l .i) (omega arith) (l .inv .1 .1 .1) (put .ensures))))
 
-same-length : tie.Need-same-length Inv-loop μ-loop
-same-length c = search needs
-
 returns : tie.Need-returns Inv-loop μ-loop
 returns c =
     let l = c .before .loop in
@@ -48,15 +36,5 @@ returns c =
     pool-turns (λ (p : Pool). unmarkOf p (a .l)) (a .w .now) (l .w) (unmarked (a .w .now) (l .w) (a .l) (l .i) (omega arith) (l .inv .1 .1 .1))
 
 pub unmark-spec : {M : Type 1} → statement M
-unmark-spec =
-    tie.close
-    (tie.spec
-    Inv-loop
-    μ-loop
-    loop-holds
-    unmark-at-requires
-    add-i
-    loop-less
-    loop-again
-    same-length
+unmark-spec = tie.close (tie.spec Inv-loop μ-loop loop-holds (λ c κs. search needs) (λ c. omega arith) (λ c. omega arith) loop-again (λ c. search needs)
     returns)

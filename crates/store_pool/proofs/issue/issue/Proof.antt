@@ -8,33 +8,12 @@ use Rattle.store_pool.proofs.issue.issue.Tie as tie
 returns : tie.Need-returns
 returns c = pool-turns _ _ _ (issue-none (c .before .before .before .args .w .now) (c .before .before .before .args .e) (c .if1 .taken))
 
-free-requires : tie.Need-free-requires
-free-requires c κs = search needs
-
-loser-for-requires : tie.Need-loser-for-requires
-loser-for-requires c κs = search needs
-
-room-requires : tie.Need-room-requires
-room-requires c κs = search needs
-
-same-length : tie.Need-same-length
-same-length c = search needs
-
 returns-2 : tie.Need-returns-2
 returns-2 c =
     let loser = c .before .before .before in
     let test = loser .before .before .before .before in
     let a = test .before .before .before .args in
     pool-turns _ _ _ (issue-full (a .w .now) (a .e) (loser .loser-for .result) (c .before .room .result) (test .if1 .left) (loser .loser-for .ensures) (c .before .room .ensures) (c .if2 .taken))
-
-put-place-requires : tie.Need-put-place-requires
-put-place-requires c κs = search needs
-
-lose-requires : tie.Need-lose-requires
-lose-requires c κs = search needs
-
-same-length-2 : tie.Need-same-length-2
-same-length-2 c = search needs
 
 returns-3 : tie.Need-returns-3
 returns-3 c =
@@ -47,16 +26,5 @@ returns-3 c =
     pool-turns _ _ _ (issue-one (a .w .now) (a .e) (loser .loser-for .result) (room .room .result) (test .if1 .left) (loser .loser-for .ensures) (room .room .ensures) (put .put-place .last .0) (lose .lose .last .0) (put .before .before .if2 .left) (put .put-place .ensures) (lose .lose .ensures))
 
 pub issue-spec : {M : Type 1} → statement M
-issue-spec =
-    tie.close
-    (tie.spec
-    returns
-    free-requires
-    loser-for-requires
-    room-requires
-    same-length
-    returns-2
-    put-place-requires
-    lose-requires
-    same-length-2
-    returns-3)
+issue-spec = tie.close (tie.spec returns (λ c κs. search needs) (λ c κs. search needs) (λ c κs. search needs) (λ c. search needs) returns-2
+    (λ c κs. search needs) (λ c κs. search needs) (λ c. search needs) returns-3)

@@ -5,24 +5,11 @@ use borrow.Author.Needs.{needs}
 use Rattle.store_pool.proofs.issue.lose.Statement.{statement}
 use Rattle.store_pool.proofs.issue.lose.Tie as tie
 
-enum-told : tie.Need-enum-told
-enum-told c = search needs
-
-enum-known-who : tie.Need-enum-known-who
-enum-known-who c = search needs
-
-lose-of-requires : tie.Need-lose-of-requires
-lose-of-requires c κs = search needs
-
 returns : tie.Need-returns
 returns c = rw (c .enum-told .given .1) (loss-none (c .before .before .before .args .w .now))
-
-same-length : tie.Need-same-length
-same-length c = search needs
 
 returns-2 : tie.Need-returns-2
 returns-2 c = rw (c .before .before .before .before .before .who .given .1) (c .before .before .lose-of .ensures)
 
 pub lose-spec : {M : Type 1} → statement M
-lose-spec =
-    tie.close (tie.spec enum-told enum-known-who lose-of-requires returns same-length returns-2)
+lose-spec = tie.close (tie.spec (λ c. search needs) (λ c. search needs) (λ c κs. search needs) returns (λ c. search needs) returns-2)

@@ -9,9 +9,6 @@ use Rattle.store_pool.proofs.PlaceLaws.{some-free, none-free}
 use Rattle.store_pool.proofs.issue.loser_for.Statement.{statement}
 use Rattle.store_pool.proofs.issue.loser_for.Tie as tie
 
-holds-requires : tie.Need-holds-requires
-holds-requires c κs = search needs
-
 returns : tie.Need-returns
 unfolding loser
 returns c = rw (le-leb _ _ (rw (c .before .holds .ensures) at (c .if1 .taken)))
@@ -22,9 +19,6 @@ returns-2 c =
     let held = c .before .before in
     let a = lt-leb _ _ (rw (held .holds .ensures) at (c .before .if1 .left)) in
     rw (a, some-free (held .before .before .pre .1) (c .if2 .taken))
-
-fullest-of-requires : tie.Need-fullest-of-requires
-fullest-of-requires c κs = search needs
 
 returns-3 : tie.Need-returns-3
 unfolding loser
@@ -43,5 +37,4 @@ returns-4 c =
     rw (a, b, le-ltb _ _ (rw (held .holds .ensures) at (c .if3 .left)))
 
 pub loser-for-spec : {M : Type 1} → statement M
-loser-for-spec =
-    tie.close (tie.spec holds-requires returns returns-2 fullest-of-requires returns-3 returns-4)
+loser-for-spec = tie.close (tie.spec (λ c κs. search needs) returns returns-2 (λ c κs. search needs) returns-3 returns-4)

@@ -5,15 +5,6 @@ use borrow.Author.Needs.{needs}
 use Rattle.store_pool.proofs.issue.room.Statement.{statement}
 use Rattle.store_pool.proofs.issue.room.Tie as tie
 
-enum-told : tie.Need-enum-told
-enum-told c = search needs
-
-enum-known-who : tie.Need-enum-known-who
-enum-known-who c = search needs
-
-first-requires : tie.Need-first-requires
-first-requires c κs = search needs
-
 returns : tie.Need-returns
 unfolding roomOf
 returns c = rw (c .enum-told .given .1) (c .before .before .before .pre .1)
@@ -23,4 +14,4 @@ unfolding roomOf
 returns-2 c = rw (c .before .before .who .given .1) (c .first .ensures)
 
 pub room-spec : {M : Type 1} → statement M
-room-spec = tie.close (tie.spec enum-told enum-known-who first-requires returns returns-2)
+room-spec = tie.close (tie.spec (λ c. search needs) (λ c. search needs) (λ c κs. search needs) returns returns-2)

@@ -7,14 +7,8 @@ use Rattle.store_pool.proofs.PlaceLaws.{vacant-none, vacant-first}
 use Rattle.store_pool.proofs.places.free.Statement.{statement}
 use Rattle.store_pool.proofs.places.free.Tie as tie
 
-vacant-requires : tie.Need-vacant-requires
-vacant-requires c κs = search needs
-
 returns : tie.Need-returns
 returns c = vacant-none (c .before .before .before .args .w .now) (c .before .vacant .result) (c .before .vacant .ensures) (c .if1 .taken)
-
-place-requires : tie.Need-place-requires
-place-requires c κs = search needs
 
 returns-2 : tie.Need-returns-2
 returns-2 c =
@@ -22,12 +16,8 @@ returns-2 c =
     let e = sym (ap (λ (x : Place). x .entry .sequence) (c .before .before .place .ensures)) ∙ c .if2 .taken in
     vacant-first (v .before .before .args .w .now) (v .vacant .result) (v .vacant .ensures) (c .before .before .before .if1 .left) e
 
-first-requires : tie.Need-first-requires
-first-requires c κs = search needs
-
 returns-3 : tie.Need-returns-3
 returns-3 c = c .first .ensures
 
 pub free-spec : {M : Type 1} → statement M
-free-spec =
-    tie.close (tie.spec vacant-requires returns place-requires returns-2 first-requires returns-3)
+free-spec = tie.close (tie.spec (λ c κs. search needs) returns (λ c κs. search needs) returns-2 (λ c κs. search needs) returns-3)

@@ -4,12 +4,6 @@ use borrow.Author.Needs.{needs}
 use Rattle.store_pool.proofs.places.has_rank.Statement.{statement}
 use Rattle.store_pool.proofs.places.has_rank.Tie as tie
 
-mine-requires : tie.Need-mine-requires
-mine-requires c κs = search needs
-
-number-requires : tie.Need-number-requires
-number-requires c κs = search needs
-
 returns : tie.Need-returns
 returns c = rw (← c .before .before .mine .ensures, c .before .if1 .taken, ← c .number .ensures)
 
@@ -17,4 +11,4 @@ returns-2 : tie.Need-returns-2
 returns-2 c = rw (← c .before .mine .ensures, c .if1 .left)
 
 pub has-rank-spec : {M : Type 1} → statement M
-has-rank-spec = tie.close (tie.spec mine-requires number-requires returns returns-2)
+has-rank-spec = tie.close (tie.spec (λ c κs. search needs) (λ c κs. search needs) returns returns-2)

@@ -25,12 +25,6 @@ loop-holds c =
     let h : length p ≡ 128 = places-length _ in
     (omega arith, sym (count-end _ p 128 (omega arith)))
 
-sub-i : tie.Need-sub-i Inv-loop μ-loop
-sub-i c = omega arith
-
-is-mine-requires : tie.Need-is-mine-requires Inv-loop μ-loop
-is-mine-requires c κs = search needs
-
 add-requires : tie.Need-add-requires Inv-loop μ-loop
 add-requires c κs =
     let l = c .before .before in
@@ -38,9 +32,6 @@ add-requires c κs =
     let p = placesIn (a .w .now) in
     let h : length p ≡ 128 = places-length _ in
     omega (arith, count-most (of (a .l)) (drop (l .loop .i) p), length-drop (l .loop .i) p)
-
-loop-less : tie.Need-loop-less Inv-loop μ-loop
-loop-less c = omega arith
 
 loop-again : tie.Need-loop-again Inv-loop μ-loop
 loop-again c =
@@ -55,15 +46,4 @@ returns c =
     rw e at (c .before .loop .inv .1)
 
 pub holds-spec : {M : Type 1} → statement M
-holds-spec =
-    tie.close
-    (tie.spec
-    Inv-loop
-    μ-loop
-    loop-holds
-    sub-i
-    is-mine-requires
-    add-requires
-    loop-less
-    loop-again
-    returns)
+holds-spec = tie.close (tie.spec Inv-loop μ-loop loop-holds (λ c. omega arith) (λ c κs. search needs) add-requires (λ c. omega arith) loop-again returns)

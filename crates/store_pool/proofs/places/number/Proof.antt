@@ -25,24 +25,12 @@ loop-holds c =
     let h : length p ≡ 128 = places-length _ in
     (omega arith, sym (count-end _ p 128 (omega arith)))
 
-sub-i : tie.Need-sub-i Inv-loop μ-loop
-sub-i c = omega arith
-
-place-requires : tie.Need-place-requires Inv-loop μ-loop
-place-requires c κs = search needs
-
-asked-requires : tie.Need-asked-requires Inv-loop μ-loop
-asked-requires c κs = search needs
-
 add-requires : tie.Need-add-requires Inv-loop μ-loop
 add-requires c κs =
     let p = placesIn (c .before .before .before .before .before .args .w .now) in
     let i = c .before .before .before .loop .i in
     let h : length p ≡ 128 = places-length _ in
     omega (arith, count-most (fits (c .before .before .before .before .before .args .q)) (drop i p), length-drop i p)
-
-loop-less : tie.Need-loop-less Inv-loop μ-loop
-loop-less c = omega arith
 
 loop-again : tie.Need-loop-again Inv-loop μ-loop
 loop-again c =
@@ -57,16 +45,5 @@ returns c =
     rw e at (c .before .loop .inv .1)
 
 pub number-spec : {M : Type 1} → statement M
-number-spec =
-    tie.close
-    (tie.spec
-    Inv-loop
-    μ-loop
-    loop-holds
-    sub-i
-    place-requires
-    asked-requires
-    add-requires
-    loop-less
-    loop-again
-    returns)
+number-spec = tie.close (tie.spec Inv-loop μ-loop loop-holds (λ c. omega arith) (λ c κs. search needs) (λ c κs. search needs) add-requires (λ c. omega arith)
+    loop-again returns)

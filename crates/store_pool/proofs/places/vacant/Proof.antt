@@ -18,19 +18,10 @@ abbrev μ-loop : tie.MeasureT-loop
 loop-holds : tie.Need-loop-holds Inv-loop μ-loop
 loop-holds c = (omega arith, λ j g. absurd (omega arith))
 
-is-free-requires : tie.Need-is-free-requires Inv-loop μ-loop
-is-free-requires c κs = search needs
-
 returns : tie.Need-returns Inv-loop μ-loop
 returns c =
     let l = c .before .before .before .loop in
     record { most = l .inv .0; taken = l .inv .1; free = λ h. sym (c .before .is-free .ensures) ∙ c .if1 .taken }
-
-add-i : tie.Need-add-i Inv-loop μ-loop
-add-i c = omega arith
-
-loop-less : tie.Need-loop-less Inv-loop μ-loop
-loop-less c = omega arith
 
 loop-again : tie.Need-loop-again Inv-loop μ-loop
 loop-again c =
@@ -42,15 +33,4 @@ returns-2 c =
     record { most = omega arith; taken = λ j g. c .before .loop .inv .1 j (omega arith); free = λ h. absurd (omega arith) }
 
 pub vacant-spec : {M : Type 1} → statement M
-vacant-spec =
-    tie.close
-    (tie.spec
-    Inv-loop
-    μ-loop
-    loop-holds
-    is-free-requires
-    returns
-    add-i
-    loop-less
-    loop-again
-    returns-2)
+vacant-spec = tie.close (tie.spec Inv-loop μ-loop loop-holds (λ c κs. search needs) returns (λ c. omega arith) (λ c. omega arith) loop-again returns-2)

@@ -5,12 +5,9 @@ use borrow.Author.Needs.{needs}
 use Rattle.store_pool.proofs.read.held.Statement.{statement}
 use Rattle.store_pool.proofs.read.held.Tie as tie
 
-holds-requires : tie.Need-holds-requires
-holds-requires c κs = search needs
-
 returns : tie.Need-returns
 unfolding siteOf
 returns c = λ t. c .holds .ensures
 
 pub held-spec : {M : Type 1} → statement M
-held-spec = tie.close (tie.spec holds-requires returns)
+held-spec = tie.close (tie.spec (λ c κs. search needs) returns)

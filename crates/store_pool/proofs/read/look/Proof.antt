@@ -9,11 +9,8 @@ use Rattle.store_pool.proofs.read.look.Tie as tie
 returns : tie.Need-returns
 returns c = λ s h. sought-none (placesIn (c .before .before .args .w .now)) s (c .before .before .args .i) h (c .if1 .taken)
 
-place-requires : tie.Need-place-requires
-place-requires c κs = search needs
-
 returns-2 : tie.Need-returns-2
 returns-2 c = λ s h. rw (c .place .ensures) (sought-one (placesIn (c .before .before .before .args .w .now)) s (c .before .before .before .args .i) h (c .before .if1 .left))
 
 pub look-spec : {M : Type 1} → statement M
-look-spec = tie.close (tie.spec returns place-requires returns-2)
+look-spec = tie.close (tie.spec returns (λ c κs. search needs) returns-2)

@@ -5,15 +5,6 @@ use borrow.Author.Needs.{needs}
 use Rattle.store_pool.proofs.read.lost.Statement.{statement}
 use Rattle.store_pool.proofs.read.lost.Tie as tie
 
-add-result : tie.Need-add-result
-add-result c = search needs
-
-mul-result : tie.Need-mul-result
-mul-result c = search needs
-
-shared-slice-read-result : tie.Need-shared-slice-read-result
-shared-slice-read-result c = search needs
-
 returns : tie.Need-returns
 returns c = λ t. lost-read (c .before .before .args .w .now) t (c .before .before .args .l) (c .before .if1 .taken)
 
@@ -21,4 +12,4 @@ returns-2 : tie.Need-returns-2
 returns-2 c = λ t. lost-beyond (c .before .args .w .now) t (c .before .args .l) (c .if1 .left)
 
 pub lost-spec : {M : Type 1} → statement M
-lost-spec = tie.close (tie.spec add-result mul-result shared-slice-read-result returns returns-2)
+lost-spec = tie.close (tie.spec (λ c. search needs) (λ c. search needs) (λ c. search needs) returns returns-2)

@@ -5,15 +5,9 @@ use borrow.Author.Needs.{needs}
 use Rattle.store_pool.proofs.read.newest_alarm.Statement.{statement}
 use Rattle.store_pool.proofs.read.newest_alarm.Tie as tie
 
-last-requires : tie.Need-last-requires
-last-requires c κs = search needs
-
-look-requires : tie.Need-look-requires
-look-requires c κs = search needs
-
 returns : tie.Need-returns
 unfolding siteOf
 returns c = λ t. c .look .ensures _ (c .before .last .ensures)
 
 pub newest-alarm-spec : {M : Type 1} → statement M
-newest-alarm-spec = tie.close (tie.spec last-requires look-requires returns)
+newest-alarm-spec = tie.close (tie.spec (λ c κs. search needs) (λ c κs. search needs) returns)

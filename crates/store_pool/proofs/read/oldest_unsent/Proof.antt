@@ -5,15 +5,9 @@ use borrow.Author.Needs.{needs}
 use Rattle.store_pool.proofs.read.oldest_unsent.Statement.{statement}
 use Rattle.store_pool.proofs.read.oldest_unsent.Tie as tie
 
-first-requires : tie.Need-first-requires
-first-requires c κs = search needs
-
-look-requires : tie.Need-look-requires
-look-requires c κs = search needs
-
 returns : tie.Need-returns
 unfolding siteOf
 returns c = λ t. c .look .ensures _ (c .before .first .ensures)
 
 pub oldest-unsent-spec : {M : Type 1} → statement M
-oldest-unsent-spec = tie.close (tie.spec first-requires look-requires returns)
+oldest-unsent-spec = tie.close (tie.spec (λ c κs. search needs) (λ c κs. search needs) returns)

@@ -5,15 +5,9 @@ use borrow.Author.Needs.{needs}
 use Rattle.store_pool.proofs.read.ranked.Statement.{statement}
 use Rattle.store_pool.proofs.read.ranked.Tie as tie
 
-ranked-requires : tie.Need-ranked-requires
-ranked-requires c κs = search needs
-
-look-requires : tie.Need-look-requires
-look-requires c κs = search needs
-
 returns : tie.Need-returns
 unfolding siteOf
 returns c = λ t. c .look .ensures _ (c .before .ranked .ensures)
 
 pub ranked-spec : {M : Type 1} → statement M
-ranked-spec = tie.close (tie.spec ranked-requires look-requires returns)
+ranked-spec = tie.close (tie.spec (λ c κs. search needs) (λ c κs. search needs) returns)

@@ -5,9 +5,6 @@ use borrow.Author.Needs.{needs}
 use Rattle.store_site.proofs.head.bad_time.Statement.{statement}
 use Rattle.store_site.proofs.head.bad_time.Tie as tie
 
-shared-slice-read-if1 : tie.Need-shared-slice-read-if1
-shared-slice-read-if1 c = search needs
-
 returns : tie.Need-returns
 returns c = λ t. time-early (c .before .before .args .w .now) t (c .before .before .args .time) (c .if1 .taken)
 
@@ -15,4 +12,4 @@ returns-2 : tie.Need-returns-2
 returns-2 c = λ t. time-late (c .before .before .args .w .now) t (c .before .before .args .time) (c .if1 .left)
 
 pub bad-time-spec : {M : Type 1} → statement M
-bad-time-spec = tie.close (tie.spec shared-slice-read-if1 returns returns-2)
+bad-time-spec = tie.close (tie.spec (λ c. search needs) returns returns-2)

@@ -5,15 +5,9 @@ use borrow.Author.Needs.{needs}
 use Rattle.store_site.proofs.head.link_count.Statement.{statement}
 use Rattle.store_site.proofs.head.link_count.Tie as tie
 
-shared-slice-read-quarter : tie.Need-shared-slice-read-quarter
-shared-slice-read-quarter c = search needs
-
-quarter-requires : tie.Need-quarter-requires
-quarter-requires c κs = search needs
-
 returns : tie.Need-returns
 unfolding siteOf
 returns c = λ t. c .quarter .ensures
 
 pub link-count-spec : {M : Type 1} → statement M
-link-count-spec = tie.close (tie.spec shared-slice-read-quarter quarter-requires returns)
+link-count-spec = tie.close (tie.spec (λ c. search needs) (λ c κs. search needs) returns)

@@ -5,15 +5,6 @@ use borrow.Author.Needs.{needs}
 use Rattle.store_site.proofs.head.no_link.Statement.{statement}
 use Rattle.store_site.proofs.head.no_link.Tie as tie
 
-shared-slice-read-quarter : tie.Need-shared-slice-read-quarter
-shared-slice-read-quarter c = search needs
-
-quarter-requires : tie.Need-quarter-requires
-quarter-requires c κs = search needs
-
-cast-result : tie.Need-cast-result
-cast-result c = search needs
-
 returns : tie.Need-returns
 returns c = λ t. no-link-low (c .before .before .before .before .args .w .now) t (c .before .before .before .before .args .link) (c .before .quarter .ensures) (c .if1 .taken)
 
@@ -21,5 +12,4 @@ returns-2 : tie.Need-returns-2
 returns-2 c = λ t. no-link-high (c .before .before .before .before .args .w .now) t (c .before .before .before .before .args .link) (c .if1 .left)
 
 pub no-link-spec : {M : Type 1} → statement M
-no-link-spec =
-    tie.close (tie.spec shared-slice-read-quarter quarter-requires cast-result returns returns-2)
+no-link-spec = tie.close (tie.spec (λ c. search needs) (λ c κs. search needs) (λ c. search needs) returns returns-2)

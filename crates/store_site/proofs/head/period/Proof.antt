@@ -5,15 +5,9 @@ use borrow.Author.Needs.{needs}
 use Rattle.store_site.proofs.head.period.Statement.{statement}
 use Rattle.store_site.proofs.head.period.Tie as tie
 
-shared-slice-read-upper : tie.Need-shared-slice-read-upper
-shared-slice-read-upper c = search needs
-
-upper-requires : tie.Need-upper-requires
-upper-requires c κs = search needs
-
 returns : tie.Need-returns
 unfolding siteOf
 returns c = λ t. c .upper .ensures
 
 pub period-spec : {M : Type 1} → statement M
-period-spec = tie.close (tie.spec shared-slice-read-upper upper-requires returns)
+period-spec = tie.close (tie.spec (λ c. search needs) (λ c κs. search needs) returns)

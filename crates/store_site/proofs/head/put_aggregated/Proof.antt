@@ -5,17 +5,8 @@ use borrow.Author.Needs.{needs}
 use Rattle.store_site.proofs.head.put_aggregated.Statement.{statement}
 use Rattle.store_site.proofs.head.put_aggregated.Tie as tie
 
-slice-write-w : tie.Need-slice-write-w
-slice-write-w c = search needs
-
-slice-write-w-2 : tie.Need-slice-write-w-2
-slice-write-w-2 c = search needs
-
-same-length : tie.Need-same-length
-same-length c = search needs
-
 returns : tie.Need-returns
 returns c = aggregated-turns (c .args .w .now) (c .args .x) (search needs)
 
 pub put-aggregated-spec : {M : Type 1} → statement M
-put-aggregated-spec = tie.close (tie.spec slice-write-w slice-write-w-2 same-length returns)
+put-aggregated-spec = tie.close (tie.spec (λ c. search needs) (λ c. search needs) (λ c. search needs) returns)

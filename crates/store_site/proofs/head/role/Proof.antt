@@ -7,12 +7,6 @@ use borrow.Author.Needs.{needs}
 use Rattle.store_site.proofs.head.role.Statement.{statement}
 use Rattle.store_site.proofs.head.role.Tie as tie
 
-shared-slice-read-quarter : tie.Need-shared-slice-read-quarter
-shared-slice-read-quarter c = search needs
-
-quarter-requires : tie.Need-quarter-requires
-quarter-requires c κs = search needs
-
 returns : tie.Need-returns
 unfolding siteOf
 returns c = λ t. rw (eq-eqb _ _ (c .if1 .taken ∙ c .before .quarter .ensures))
@@ -22,4 +16,4 @@ unfolding siteOf
 returns-2 c = λ t. rw (ne-eqb _ _ (λ e. c .if1 .left (e ∙ sym (c .before .quarter .ensures))))
 
 pub role-spec : {M : Type 1} → statement M
-role-spec = tie.close (tie.spec shared-slice-read-quarter quarter-requires returns returns-2)
+role-spec = tie.close (tie.spec (λ c. search needs) (λ c κs. search needs) returns returns-2)

@@ -6,17 +6,8 @@ use borrow.Author.Needs.{needs}
 use Rattle.store_site.proofs.items.alarm.Statement.{statement}
 use Rattle.store_site.proofs.items.alarm.Tie as tie
 
-alarm-requires : tie.Need-alarm-requires
-alarm-requires c κs = search needs
-
-returns : tie.Need-returns
-returns c = search needs
-
-begin-requires : tie.Need-begin-requires
-begin-requires c κs = search needs
-
 returns-2 : tie.Need-returns-2
 returns-2 c = λ t. c .begin .ensures ∙ sym (alarm-past (c .before .before .before .args .w .now) t (c .before .before .before .args .k) (c .before .if1 .left))
 
 pub alarm-spec : {M : Type 1} → statement M
-alarm-spec = tie.close (tie.spec alarm-requires returns begin-requires returns-2)
+alarm-spec = tie.close (tie.spec (λ c κs. search needs) (λ c. search needs) (λ c κs. search needs) returns-2)

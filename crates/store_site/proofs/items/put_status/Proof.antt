@@ -6,17 +6,8 @@ use borrow.Author.Needs.{needs}
 use Rattle.store_site.proofs.items.put_status.Statement.{statement}
 use Rattle.store_site.proofs.items.put_status.Tie as tie
 
-put-status-requires : tie.Need-put-status-requires
-put-status-requires c κs = search needs
-
-same-length : tie.Need-same-length
-same-length c = search needs
-
-returns : tie.Need-returns
-returns c = search needs
-
 returns-2 : tie.Need-returns-2
 returns-2 c = turns-none _ (λ t. no-status-put (c .before .before .args .w .now) t (c .before .before .args .k) (c .before .before .args .x) (c .if1 .left))
 
 pub put-status-spec : {M : Type 1} → statement M
-put-status-spec = tie.close (tie.spec put-status-requires same-length returns returns-2)
+put-status-spec = tie.close (tie.spec (λ c κs. search needs) (λ c. search needs) (λ c. search needs) returns-2)

@@ -6,17 +6,8 @@ use borrow.Author.Needs.{needs}
 use Rattle.store_site.proofs.items.status.Statement.{statement}
 use Rattle.store_site.proofs.items.status.Tie as tie
 
-status-requires : tie.Need-status-requires
-status-requires c κs = search needs
-
-returns : tie.Need-returns
-returns c = search needs
-
-unknown-requires : tie.Need-unknown-requires
-unknown-requires c κs = search needs
-
 returns-2 : tie.Need-returns-2
 returns-2 c = λ t. c .unknown .ensures ∙ sym (status-past (c .before .before .before .args .w .now) t (c .before .before .before .args .k) (c .before .if1 .left))
 
 pub status-spec : {M : Type 1} → statement M
-status-spec = tie.close (tie.spec status-requires returns unknown-requires returns-2)
+status-spec = tie.close (tie.spec (λ c κs. search needs) (λ c. search needs) (λ c κs. search needs) returns-2)

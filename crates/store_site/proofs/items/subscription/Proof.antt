@@ -6,17 +6,8 @@ use borrow.Author.Needs.{needs}
 use Rattle.store_site.proofs.items.subscription.Statement.{statement}
 use Rattle.store_site.proofs.items.subscription.Tie as tie
 
-subscription-requires : tie.Need-subscription-requires
-subscription-requires c κs = search needs
-
-returns : tie.Need-returns
-returns c = search needs
-
-none-requires : tie.Need-none-requires
-none-requires c κs = search needs
-
 returns-2 : tie.Need-returns-2
 returns-2 c = λ t. c .none .ensures ∙ sym (subscription-past (c .before .before .before .args .w .now) t (c .before .before .before .args .k) (c .before .if1 .left))
 
 pub subscription-spec : {M : Type 1} → statement M
-subscription-spec = tie.close (tie.spec subscription-requires returns none-requires returns-2)
+subscription-spec = tie.close (tie.spec (λ c κs. search needs) (λ c. search needs) (λ c κs. search needs) returns-2)

@@ -8,15 +8,9 @@ use borrow.Author.Needs.{needs}
 use Rattle.store_site.proofs.items.up.Statement.{statement}
 use Rattle.store_site.proofs.items.up.Tie as tie
 
-up-requires : tie.Need-up-requires
-up-requires c κs = search needs
-
-returns : tie.Need-returns
-returns c = search needs
-
 returns-2 : tie.Need-returns-2
 unfolding phaseOf
 returns-2 c = λ t. ap (λ (k : Link). isUp (phaseOf k)) (sym (link-past (c .before .before .args .w .now) t (c .before .before .args .l) (c .if1 .left)))
 
 pub up-spec : {M : Type 1} → statement M
-up-spec = tie.close (tie.spec up-requires returns returns-2)
+up-spec = tie.close (tie.spec (λ c κs. search needs) (λ c. search needs) returns-2)

@@ -6,17 +6,8 @@ use borrow.Author.Needs.{needs}
 use Rattle.store_site.proofs.parts.link.Statement.{statement}
 use Rattle.store_site.proofs.parts.link.Tie as tie
 
-mul-link-at : tie.Need-mul-link-at
-mul-link-at c = search needs
-
-add-link-at : tie.Need-add-link-at
-add-link-at c = search needs
-
-link-at-requires : tie.Need-link-at-requires
-link-at-requires c κs = search needs
-
 returns : tie.Need-returns
 returns c = λ t. c .link-at .ensures ∙ link-read (c .before .before .args .w .now) t (c .before .before .args .l) (search needs)
 
 pub link-spec : {M : Type 1} → statement M
-link-spec = tie.close (tie.spec mul-link-at add-link-at link-at-requires returns)
+link-spec = tie.close (tie.spec (λ c. search needs) (λ c. search needs) (λ c κs. search needs) returns)

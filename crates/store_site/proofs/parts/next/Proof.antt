@@ -6,12 +6,9 @@ use borrow.Author.Needs.{needs}
 use Rattle.store_site.proofs.parts.next.Statement.{statement}
 use Rattle.store_site.proofs.parts.next.Tie as tie
 
-shared-slice-read-result : tie.Need-shared-slice-read-result
-shared-slice-read-result c = search needs
-
 returns : tie.Need-returns
 unfolding siteOf
 returns c = λ t. refl
 
 pub next-spec : {M : Type 1} → statement M
-next-spec = tie.close (tie.spec shared-slice-read-result returns)
+next-spec = tie.close (tie.spec (λ c. search needs) returns)

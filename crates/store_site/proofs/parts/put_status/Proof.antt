@@ -7,25 +7,10 @@ use borrow.Author.Needs.{needs}
 use Rattle.store_site.proofs.parts.put_status.Statement.{statement}
 use Rattle.store_site.proofs.parts.put_status.Tie as tie
 
-pair-requires : tie.Need-pair-requires
-pair-requires c κs = search needs
-
-add-w : tie.Need-add-w
-add-w c = search needs
-
-mul-w : tie.Need-mul-w
-mul-w c = search needs
-
-slice-write-w : tie.Need-slice-write-w
-slice-write-w c = search needs
-
-same-length : tie.Need-same-length
-same-length c = search needs
-
 returns : tie.Need-returns
 returns c =
     let a = c .before .before .args in
     status-turns (a .w .now) _ (a .k) (a .x) (search needs) (status-put (a .w .now) (1141 + a .k) (a .x) (search needs) (search needs) (search needs) (c .pair .ensures))
 
 pub put-status-spec : {M : Type 1} → statement M
-put-status-spec = tie.close (tie.spec pair-requires add-w mul-w slice-write-w same-length returns)
+put-status-spec = tie.close (tie.spec (λ c κs. search needs) (λ c. search needs) (λ c. search needs) (λ c. search needs) (λ c. search needs) returns)

@@ -7,29 +7,10 @@ use borrow.Author.Needs.{needs}
 use Rattle.store_site.proofs.phases.alarm_next.Statement.{statement}
 use Rattle.store_site.proofs.phases.alarm_next.Tie as tie
 
-mul-i : tie.Need-mul-i
-mul-i c = search needs
-
-add-i : tie.Need-add-i
-add-i c = search needs
-
-add-upper : tie.Need-add-upper
-add-upper c = search needs
-
-mul-upper : tie.Need-mul-upper
-mul-upper c = search needs
-
-shared-slice-read-upper : tie.Need-shared-slice-read-upper
-shared-slice-read-upper c = search needs
-
-upper-requires : tie.Need-upper-requires
-upper-requires c κs = search needs
-
 returns : tie.Need-returns
 unfolding linkIn
 returns c = λ t. link-says (λ (k : Link). k .alarm) (c .before .before .before .args .w .now) t (c .before .before .before .args .l) (search needs) (c .upper .ensures)
 
 pub alarm-next-spec : {M : Type 1} → statement M
-alarm-next-spec =
-    tie.close
-    (tie.spec mul-i add-i add-upper mul-upper shared-slice-read-upper upper-requires returns)
+alarm-next-spec = tie.close (tie.spec (λ c. search needs) (λ c. search needs) (λ c. search needs) (λ c. search needs) (λ c. search needs) (λ c κs. search needs)
+    returns)

@@ -8,21 +8,9 @@ use borrow.Author.Needs.{needs}
 use Rattle.store_site.proofs.phases.awaits.Statement.{statement}
 use Rattle.store_site.proofs.phases.awaits.Tie as tie
 
-mul-i : tie.Need-mul-i
-mul-i c = search needs
-
-add-i : tie.Need-add-i
-add-i c = search needs
-
-add-awaits-at : tie.Need-add-awaits-at
-add-awaits-at c = search needs
-
-awaits-at-requires : tie.Need-awaits-at-requires
-awaits-at-requires c κs = search needs
-
 returns : tie.Need-returns
 unfolding linkIn
 returns c = λ t. link-says (λ (k : Link). isAwaited (findOf (k .awaited) (c .before .before .args .id))) (c .before .before .args .w .now) t (c .before .before .args .l) (search needs) (c .awaits-at .ensures)
 
 pub awaits-spec : {M : Type 1} → statement M
-awaits-spec = tie.close (tie.spec mul-i add-i add-awaits-at awaits-at-requires returns)
+awaits-spec = tie.close (tie.spec (λ c. search needs) (λ c. search needs) (λ c. search needs) (λ c κs. search needs) returns)

@@ -6,14 +6,8 @@ use borrow.Author.Needs.{needs}
 use Rattle.store_site.proofs.phases.down.Statement.{statement}
 use Rattle.store_site.proofs.phases.down.Tie as tie
 
-phase-requires : tie.Need-phase-requires
-phase-requires c κs = search needs
-
-is-down-requires : tie.Need-is-down-requires
-is-down-requires c κs = search needs
-
 returns : tie.Need-returns
 returns c = λ t. c .is-down .ensures ∙ ap isDown (c .before .phase .ensures t)
 
 pub down-spec : {M : Type 1} → statement M
-down-spec = tie.close (tie.spec phase-requires is-down-requires returns)
+down-spec = tie.close (tie.spec (λ c κs. search needs) (λ c κs. search needs) returns)

@@ -6,21 +6,6 @@ use borrow.Author.Needs.{needs}
 use Rattle.store_site.proofs.phases.up.Statement.{statement}
 use Rattle.store_site.proofs.phases.up.Tie as tie
 
-phase-requires : tie.Need-phase-requires
-phase-requires c κs = search needs
-
-enum-told : tie.Need-enum-told
-enum-told c = search needs
-
-enum-told-2 : tie.Need-enum-told-2
-enum-told-2 c = search needs
-
-enum-told-3 : tie.Need-enum-told-3
-enum-told-3 c = search needs
-
-enum-told-4 : tie.Need-enum-told-4
-enum-told-4 c = search needs
-
 returns : tie.Need-returns
 returns c = λ t. ap isUp (sym (c .enum-told .given .1) ∙ c .before .before .phase .ensures t)
 
@@ -34,15 +19,5 @@ returns-4 : tie.Need-returns-4
 returns-4 c = λ t. ap isUp (sym (c .enum-told4 .given .1) ∙ c .before .before .phase .ensures t)
 
 pub up-spec : {M : Type 1} → statement M
-up-spec =
-    tie.close
-    (tie.spec
-    phase-requires
-    enum-told
-    enum-told-2
-    enum-told-3
-    enum-told-4
-    returns
-    returns-2
-    returns-3
+up-spec = tie.close (tie.spec (λ c κs. search needs) (λ c. search needs) (λ c. search needs) (λ c. search needs) (λ c. search needs) returns returns-2 returns-3
     returns-4)

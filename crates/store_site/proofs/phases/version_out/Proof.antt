@@ -8,25 +8,9 @@ use borrow.Author.Needs.{needs}
 use Rattle.store_site.proofs.phases.version_out.Statement.{statement}
 use Rattle.store_site.proofs.phases.version_out.Tie as tie
 
-mul-i : tie.Need-mul-i
-mul-i c = search needs
-
-add-i : tie.Need-add-i
-add-i c = search needs
-
-add-result : tie.Need-add-result
-add-result c = search needs
-
-mul-result : tie.Need-mul-result
-mul-result c = search needs
-
-shared-slice-read-result : tie.Need-shared-slice-read-result
-shared-slice-read-result c = search needs
-
 returns : tie.Need-returns
 unfolding linkIn
 returns c = λ t. link-says (λ (k : Link). k .versionout) (c .before .args .w .now) t (c .before .args .l) (search needs) (refl)
 
 pub version-out-spec : {M : Type 1} → statement M
-version-out-spec =
-    tie.close (tie.spec mul-i add-i add-result mul-result shared-slice-read-result returns)
+version-out-spec = tie.close (tie.spec (λ c. search needs) (λ c. search needs) (λ c. search needs) (λ c. search needs) (λ c. search needs) returns)

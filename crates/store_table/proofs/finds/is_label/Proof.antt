@@ -9,25 +9,10 @@ use borrow.Author.Needs.{needs}
 use Rattle.store_table.proofs.finds.is_label.Statement.{statement}
 use Rattle.store_table.proofs.finds.is_label.Tie as tie
 
-mul-label-is : tie.Need-mul-label-is
-mul-label-is c = search needs
-
-add-label-is : tie.Need-add-label-is
-add-label-is c = search needs
-
-label-is-requires : tie.Need-label-is-requires
-label-is-requires c κs = search needs
-
 returns : tie.Need-returns
 returns c =
     let a = c .before .before .before .before .args in
     rw (← (label-at (a .t .now) (a .i) (a .k) (search needs))) (c .label-is .ensures)
-
-none-requires : tie.Need-none-requires
-none-requires c κs = search needs
-
-is-requires : tie.Need-is-requires
-is-requires c κs = search needs
 
 returns-2 : tie.Need-returns-2
 returns-2 c =
@@ -35,13 +20,5 @@ returns-2 c =
     c .is .ensures ∙ ap (λ (l : Label). sameBytes (textOf l) (a .text .now)) (c .before .none .ensures ∙ label-behind (a .t .now) (a .i) (a .k) (search needs))
 
 pub is-label-spec : {M : Type 1} → statement M
-is-label-spec =
-    tie.close
-    (tie.spec
-    mul-label-is
-    add-label-is
-    label-is-requires
-    returns
-    none-requires
-    is-requires
+is-label-spec = tie.close (tie.spec (λ c. search needs) (λ c. search needs) (λ c κs. search needs) returns (λ c κs. search needs) (λ c κs. search needs)
     returns-2)

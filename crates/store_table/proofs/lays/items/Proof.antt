@@ -21,27 +21,6 @@ abbrev μ-loop : tie.MeasureT-loop
 loop-holds : tie.Need-loop-holds Inv-loop μ-loop
 loop-holds c = (omega arith, (refl, (search needs, none _ _)))
 
-mul-item : tie.Need-mul-item Inv-loop μ-loop
-mul-item c = omega arith
-
-add-item : tie.Need-add-item Inv-loop μ-loop
-add-item c = omega arith
-
-mul-item-2 : tie.Need-mul-item-2 Inv-loop μ-loop
-mul-item-2 c = omega arith
-
-array-copy-out-item : tie.Need-array-copy-out-item Inv-loop μ-loop
-array-copy-out-item c = omega arith
-
-item-requires : tie.Need-item-requires Inv-loop μ-loop
-item-requires c κs = omega arith
-
-add-k : tie.Need-add-k Inv-loop μ-loop
-add-k c = omega arith
-
-loop-less : tie.Need-loop-less Inv-loop μ-loop
-loop-less c = omega arith
-
 loop-again : tie.Need-loop-again Inv-loop μ-loop
 loop-again c =
     let l = c .before .before .before .before .before .before .loop in
@@ -52,9 +31,6 @@ loop-again c =
     let m : length (a .t3) ≡ 32 = search (s, needs) in
     (omega arith, (n, (l .inv .1 .1 .0, said (then (73 * (l .k + 1)) (l .inv .1 .1 .1) (put .ensures) refl (omega arith)) (in-turn-next itemBytes (a .t3) (l .k) _ (omega arith)))))
 
-same-length : tie.Need-same-length Inv-loop μ-loop
-same-length c = search needs
-
 returns : tie.Need-returns Inv-loop μ-loop
 returns c =
     let l = c .before .loop in
@@ -64,19 +40,5 @@ returns c =
     all-laid itemBytes (a .t3) (l .k) 2336 (omega arith) (omega arith) (l .inv .1 .1 .1)
 
 pub items-spec : {M : Type 1} → statement M
-items-spec =
-    tie.close
-    (tie.spec
-    Inv-loop
-    μ-loop
-    loop-holds
-    mul-item
-    add-item
-    mul-item-2
-    array-copy-out-item
-    item-requires
-    add-k
-    loop-less
-    loop-again
-    same-length
-    returns)
+items-spec = tie.close (tie.spec Inv-loop μ-loop loop-holds (λ c. omega arith) (λ c. omega arith) (λ c. omega arith) (λ c. omega arith) (λ c κs. omega arith)
+    (λ c. omega arith) (λ c. omega arith) loop-again (λ c. search needs) returns)

@@ -19,21 +19,6 @@ abbrev μ-loop : tie.MeasureT-loop
 loop-holds : tie.Need-loop-holds Inv-loop μ-loop
 loop-holds c = (omega arith, (refl, (search needs, none _ _)))
 
-array-read-t : tie.Need-array-read-t Inv-loop μ-loop
-array-read-t c = search needs
-
-add-t : tie.Need-add-t Inv-loop μ-loop
-add-t c = omega arith
-
-slice-write-t : tie.Need-slice-write-t Inv-loop μ-loop
-slice-write-t c = omega arith
-
-add-k : tie.Need-add-k Inv-loop μ-loop
-add-k c = omega arith
-
-loop-less : tie.Need-loop-less Inv-loop μ-loop
-loop-less c = omega arith
-
 loop-again : tie.Need-loop-again Inv-loop μ-loop
 loop-again c =
     let l = c .before .loop in
@@ -41,15 +26,6 @@ loop-again c =
     let a = s .args in
     let n : length (a .x .bytes) ≡ 32 = search (s, needs) in
     (omega arith, (length-set (l .t) (a .at + l .k) _ ∙ l .inv .1 .0, (l .inv .1 .1 .0, said (then (l .k + 1) (l .inv .1 .1 .1) (one (l .t) (a .at + l .k) _ (omega arith)) refl refl) (byte-next (a .x .bytes) (l .k) (omega arith)))))
-
-add-t-2 : tie.Need-add-t-2 Inv-loop μ-loop
-add-t-2 c = omega arith
-
-slice-write-t-2 : tie.Need-slice-write-t-2 Inv-loop μ-loop
-slice-write-t-2 c = omega arith
-
-same-length : tie.Need-same-length Inv-loop μ-loop
-same-length c = search needs
 
 returns : tie.Need-returns Inv-loop μ-loop
 returns c =
@@ -59,19 +35,5 @@ returns c =
     label-laid (a .t .now) (l .t) (a .at) (l .k) (a .x) (omega arith) (search (s, needs)) (omega arith) (l .inv .1 .1 .1)
 
 pub label-spec : {M : Type 1} → statement M
-label-spec =
-    tie.close
-    (tie.spec
-    Inv-loop
-    μ-loop
-    loop-holds
-    array-read-t
-    add-t
-    slice-write-t
-    add-k
-    loop-less
-    loop-again
-    add-t-2
-    slice-write-t-2
-    same-length
-    returns)
+label-spec = tie.close (tie.spec Inv-loop μ-loop loop-holds (λ c. search needs) (λ c. omega arith) (λ c. omega arith) (λ c. omega arith) (λ c. omega arith)
+    loop-again (λ c. omega arith) (λ c. omega arith) (λ c. search needs) returns)

@@ -21,27 +21,6 @@ abbrev μ-loop : tie.MeasureT-loop
 loop-holds : tie.Need-loop-holds Inv-loop μ-loop
 loop-holds c = (omega arith, (refl, (search needs, none _ _)))
 
-mul-label : tie.Need-mul-label Inv-loop μ-loop
-mul-label c = omega arith
-
-add-label : tie.Need-add-label Inv-loop μ-loop
-add-label c = omega arith
-
-mul-label-2 : tie.Need-mul-label-2 Inv-loop μ-loop
-mul-label-2 c = omega arith
-
-array-copy-out-label : tie.Need-array-copy-out-label Inv-loop μ-loop
-array-copy-out-label c = omega arith
-
-label-requires : tie.Need-label-requires Inv-loop μ-loop
-label-requires c κs = omega arith
-
-add-k : tie.Need-add-k Inv-loop μ-loop
-add-k c = omega arith
-
-loop-less : tie.Need-loop-less Inv-loop μ-loop
-loop-less c = omega arith
-
 loop-again : tie.Need-loop-again Inv-loop μ-loop
 loop-again c =
     let l = c .before .before .before .before .before .before .loop in
@@ -52,9 +31,6 @@ loop-again c =
     let m : length (a .t3) ≡ 8 = search (s, needs) in
     (omega arith, (n, (l .inv .1 .1 .0, said (then (33 * (l .k + 1)) (l .inv .1 .1 .1) (put .ensures) refl (omega arith)) (in-turn-next labelBytes (a .t3) (l .k) _ (omega arith)))))
 
-same-length : tie.Need-same-length Inv-loop μ-loop
-same-length c = search needs
-
 returns : tie.Need-returns Inv-loop μ-loop
 returns c =
     let l = c .before .loop in
@@ -64,19 +40,5 @@ returns c =
     all-laid labelBytes (a .t3) (l .k) 264 (omega arith) (omega arith) (l .inv .1 .1 .1)
 
 pub labels-spec : {M : Type 1} → statement M
-labels-spec =
-    tie.close
-    (tie.spec
-    Inv-loop
-    μ-loop
-    loop-holds
-    mul-label
-    add-label
-    mul-label-2
-    array-copy-out-label
-    label-requires
-    add-k
-    loop-less
-    loop-again
-    same-length
-    returns)
+labels-spec = tie.close (tie.spec Inv-loop μ-loop loop-holds (λ c. omega arith) (λ c. omega arith) (λ c. omega arith) (λ c. omega arith) (λ c κs. omega arith)
+    (λ c. omega arith) (λ c. omega arith) loop-again (λ c. search needs) returns)

@@ -8,24 +8,9 @@ use borrow.Author.Needs.{needs}
 use Rattle.store_table.proofs.rows.item_is.Statement.{statement}
 use Rattle.store_table.proofs.rows.item_is.Tie as tie
 
-add-if1 : tie.Need-add-if1
-add-if1 c = search needs
-
-shared-slice-read-if1 : tie.Need-shared-slice-read-if1
-shared-slice-read-if1 c = search needs
-
 returns : tie.Need-returns
 unfolding isItem itemIn
 returns c = sym (simp (ne-eqb _ _ (c .if1 .taken)))
-
-label-is-requires : tie.Need-label-is-requires
-label-is-requires c κs = search needs
-
-add-label-is : tie.Need-add-label-is
-add-label-is c = search needs
-
-label-is-requires-2 : tie.Need-label-is-requires-2
-label-is-requires-2 c κs = search needs
 
 returns-2 : tie.Need-returns-2
 unfolding isItem itemIn
@@ -36,14 +21,5 @@ unfolding isItem itemIn
 returns-3 c = sym (simp (eq-eqb _ _ (c .before .before .if1 .left), sym (c .before .label-is .ensures) ∙ c .if2 .left))
 
 pub item-is-spec : {M : Type 1} → statement M
-item-is-spec =
-    tie.close
-    (tie.spec
-    add-if1
-    shared-slice-read-if1
-    returns
-    label-is-requires
-    add-label-is
-    label-is-requires-2
-    returns-2
+item-is-spec = tie.close (tie.spec (λ c. search needs) (λ c. search needs) returns (λ c κs. search needs) (λ c. search needs) (λ c κs. search needs) returns-2
     returns-3)

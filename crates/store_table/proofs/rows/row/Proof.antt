@@ -6,22 +6,10 @@ use borrow.Author.Needs.{needs}
 use Rattle.store_table.proofs.rows.row.Statement.{statement}
 use Rattle.store_table.proofs.rows.row.Tie as tie
 
-mul-item-at : tie.Need-mul-item-at
-mul-item-at c = search needs
-
-add-item-at : tie.Need-add-item-at
-add-item-at c = search needs
-
-item-at-requires : tie.Need-item-at-requires
-item-at-requires c κs = search needs
-
 returns : tie.Need-returns
 returns c =
     let a = c .before .before .before .args in
     c .item-at .ensures ∙ item-at (a .t .now) (a .i) (a .k) (a .n) (search needs)
-
-none-requires : tie.Need-none-requires
-none-requires c κs = search needs
 
 returns-2 : tie.Need-returns-2
 returns-2 c =
@@ -29,5 +17,4 @@ returns-2 c =
     c .none .ensures ∙ item-behind (a .t .now) (a .i) (a .k) (a .n) (search needs)
 
 pub row-spec : {M : Type 1} → statement M
-row-spec =
-    tie.close (tie.spec mul-item-at add-item-at item-at-requires returns none-requires returns-2)
+row-spec = tie.close (tie.spec (λ c. search needs) (λ c. search needs) (λ c κs. search needs) returns (λ c κs. search needs) returns-2)

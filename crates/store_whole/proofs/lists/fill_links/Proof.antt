@@ -24,21 +24,6 @@ abbrev μ-loop : tie.MeasureT-loop
 loop-holds : tie.Need-loop-holds Inv-loop μ-loop
 loop-holds c = (omega arith, (search needs, (search needs, (upto-none links-part closedLink (c .before .args .w .now) (replicate 4 (c .before .args .x)), λ j h. absurd (omega arith)))))
 
-mul-put-link-at : tie.Need-mul-put-link-at Inv-loop μ-loop
-mul-put-link-at c = omega arith
-
-add-put-link-at : tie.Need-add-put-link-at Inv-loop μ-loop
-add-put-link-at c = omega arith
-
-put-link-at-requires : tie.Need-put-link-at-requires Inv-loop μ-loop
-put-link-at-requires c κs = omega arith
-
-add-k : tie.Need-add-k Inv-loop μ-loop
-add-k c = omega arith
-
-loop-less : tie.Need-loop-less Inv-loop μ-loop
-loop-less c = omega arith
-
 loop-again : tie.Need-loop-again Inv-loop μ-loop
 loop-again c =
     let l = c .before .before .before .before .before .loop in
@@ -46,9 +31,6 @@ loop-again c =
     let put = c .before .before .put-link-at in
     let n : length (put .last .0) ≡ siteWords = search needs in
     (omega arith, (n, (l .inv .1 .1 .0, (upto-next links-part closedLink (a .w .now) (l .w) (put .last .0) (replicate 4 (a .x)) (l .k) (l .inv .1 .1 .1 .0) (omega arith) (length-replicate 4 (a .x)) (a .x) (sym (getD-replicate 4 (l .k) (a .x) closedLink (omega arith))) (link-turns (l .w) (put .last .0) (l .k) (a .x) (omega arith) (put .ensures)), plain-next (l .w) (put .last .0) (l .k) (a .x) (put .ensures) (l .inv .1 .1 .1 .1)))))
-
-same-length : tie.Need-same-length Inv-loop μ-loop
-same-length c = search needs
 
 returns : tie.Need-returns Inv-loop μ-loop
 returns c =
@@ -58,17 +40,5 @@ returns c =
     record { site = all .site; plain = λ j h. l .inv .1 .1 .1 .1 j (omega arith) }
 
 pub fill-links-spec : {M : Type 1} → statement M
-fill-links-spec =
-    tie.close
-    (tie.spec
-    Inv-loop
-    μ-loop
-    loop-holds
-    mul-put-link-at
-    add-put-link-at
-    put-link-at-requires
-    add-k
-    loop-less
-    loop-again
-    same-length
-    returns)
+fill-links-spec = tie.close (tie.spec Inv-loop μ-loop loop-holds (λ c. omega arith) (λ c. omega arith) (λ c κs. omega arith) (λ c. omega arith)
+    (λ c. omega arith) loop-again (λ c. search needs) returns)

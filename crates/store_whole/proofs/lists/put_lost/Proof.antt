@@ -7,24 +7,6 @@ use borrow.Author.Needs.{needs}
 use Rattle.store_whole.proofs.lists.put_lost.Statement.{statement}
 use Rattle.store_whole.proofs.lists.put_lost.Tie as tie
 
-array-read-put-four : tie.Need-array-read-put-four
-array-read-put-four c = search needs
-
-array-read-put-four-2 : tie.Need-array-read-put-four-2
-array-read-put-four-2 c = search needs
-
-array-read-put-four-3 : tie.Need-array-read-put-four-3
-array-read-put-four-3 c = search needs
-
-array-read-put-four-4 : tie.Need-array-read-put-four-4
-array-read-put-four-4 c = search needs
-
-put-four-requires : tie.Need-put-four-requires
-put-four-requires c κs = search needs
-
-same-length : tie.Need-same-length
-same-length c = search needs
-
 returns : tie.Need-returns
 returns c =
     let s = c .before .before .before .before .before in
@@ -32,13 +14,5 @@ returns c =
     rw (four-of (s .args .t2) e) at (c .before .before .put-four .ensures)
 
 pub put-lost-spec : {M : Type 1} → statement M
-put-lost-spec =
-    tie.close
-    (tie.spec
-    array-read-put-four
-    array-read-put-four-2
-    array-read-put-four-3
-    array-read-put-four-4
-    put-four-requires
-    same-length
+put-lost-spec = tie.close (tie.spec (λ c. search needs) (λ c. search needs) (λ c. search needs) (λ c. search needs) (λ c κs. search needs) (λ c. search needs)
     returns)

@@ -22,21 +22,6 @@ abbrev μ-loop : tie.MeasureT-loop
 loop-holds : tie.Need-loop-holds Inv-loop μ-loop
 loop-holds c = (omega arith, (search needs, (search needs, upto-none places-part noPlace (c .before .args .w .now) (c .before .args .t2))))
 
-mul-put-place : tie.Need-mul-put-place Inv-loop μ-loop
-mul-put-place c = omega arith
-
-array-copy-out-put-place : tie.Need-array-copy-out-put-place Inv-loop μ-loop
-array-copy-out-put-place c = omega arith
-
-put-place-requires : tie.Need-put-place-requires Inv-loop μ-loop
-put-place-requires c κs = search needs
-
-add-k : tie.Need-add-k Inv-loop μ-loop
-add-k c = omega arith
-
-loop-less : tie.Need-loop-less Inv-loop μ-loop
-loop-less c = omega arith
-
 loop-again : tie.Need-loop-again Inv-loop μ-loop
 loop-again c =
     let l = c .before .before .before .before .before .before .loop in
@@ -47,9 +32,6 @@ loop-again c =
     let m : length (a .t2) ≡ 128 = search (s, needs) in
     (omega arith, (n, (l .inv .1 .1 .0, upto-next places-part noPlace (a .w .now) (l .w) (put .last .0) (a .t2) (l .k) (l .inv .1 .1 .1) (omega arith) m _ (inside (a .t2) (l .k) _ noPlace (omega arith)) (place-turns (l .w) (put .last .0) (l .k) _ (omega arith) (put .ensures)))))
 
-same-length : tie.Need-same-length Inv-loop μ-loop
-same-length c = search needs
-
 returns : tie.Need-returns Inv-loop μ-loop
 returns c =
     let l = c .before .loop in
@@ -57,17 +39,5 @@ returns c =
     upto-all places-part noPlace (s .args .w .now) (l .w) (s .args .t2) (l .k) (omega arith) (search (s, needs)) (l .inv .1 .1 .1)
 
 pub put-places-spec : {M : Type 1} → statement M
-put-places-spec =
-    tie.close
-    (tie.spec
-    Inv-loop
-    μ-loop
-    loop-holds
-    mul-put-place
-    array-copy-out-put-place
-    put-place-requires
-    add-k
-    loop-less
-    loop-again
-    same-length
-    returns)
+put-places-spec = tie.close (tie.spec Inv-loop μ-loop loop-holds (λ c. omega arith) (λ c. omega arith) (λ c κs. search needs) (λ c. omega arith)
+    (λ c. omega arith) loop-again (λ c. search needs) returns)

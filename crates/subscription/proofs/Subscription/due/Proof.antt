@@ -4,15 +4,6 @@ use borrow.Author.Needs.{needs}
 use Rattle.subscription.proofs.Subscription.due.Statement.{statement}
 use Rattle.subscription.proofs.Subscription.due.Tie as tie
 
-wide-requires : tie.Need-wide-requires
-wide-requires c κs = search needs
-
-mul-passed : tie.Need-mul-passed
-mul-passed c = search needs
-
-passed-requires : tie.Need-passed-requires
-passed-requires c κs = search needs
-
 returns : tie.Need-returns
 unfolding dueAt
 returns c =
@@ -28,5 +19,4 @@ unfolding dueAt
 returns-3 c = simp (le-ltb _ _ (c .if1 .left))
 
 pub due-spec : {M : Type 1} → statement M
-due-spec =
-    tie.close (tie.spec wide-requires mul-passed passed-requires returns returns-2 returns-3)
+due-spec = tie.close (tie.spec (λ c κs. search needs) (λ c. search needs) (λ c κs. search needs) returns returns-2 returns-3)

@@ -4,9 +4,6 @@ use borrow.Author.Needs.{needs}
 use Rattle.subscription.proofs.Subscription.on_tick.Statement.{statement}
 use Rattle.subscription.proofs.Subscription.on_tick.Tie as tie
 
-due-requires : tie.Need-due-requires
-due-requires c κs = search needs
-
 returns : tie.Need-returns
 unfolding tickOf
 returns c = simp (sym (c .before .due .ensures) ∙ c .if1 .taken)
@@ -16,4 +13,4 @@ unfolding tickOf
 returns-2 c = simp (sym (c .before .due .ensures) ∙ c .if1 .left)
 
 pub on-tick-spec : {M : Type 1} → statement M
-on-tick-spec = tie.close (tie.spec due-requires returns returns-2)
+on-tick-spec = tie.close (tie.spec (λ c κs. search needs) returns returns-2)

@@ -14,12 +14,9 @@ returns-2 : tie.Need-returns-2
 unfolding isWhole
 returns-2 c = sym (simp (lt-ltb _ far (c .before .if1 .left), ne-eqb _ _ (c .if2 .taken)))
 
-own-names-requires : tie.Need-own-names-requires
-own-names-requires c κs = search needs
-
 returns-3 : tie.Need-returns-3
 unfolding isWhole
 returns-3 c = c .own-names .ensures ∙ sym (simp (lt-ltb _ far (c .before .before .if1 .left), eq-eqb _ _ (c .before .if2 .left)))
 
 pub is-whole-spec : {M : Type 1} → statement M
-is-whole-spec = tie.close (tie.spec returns returns-2 own-names-requires returns-3)
+is-whole-spec = tie.close (tie.spec returns returns-2 (λ c κs. search needs) returns-3)

@@ -6,21 +6,9 @@ use borrow.Author.Needs.{needs}
 use Rattle.table_whole.proofs.SiteTable.own_names.Statement.{statement}
 use Rattle.table_whole.proofs.SiteTable.own_names.Tie as tie
 
-wide-requires : tie.Need-wide-requires
-wide-requires c κs = search needs
-
-own-labels-requires : tie.Need-own-labels-requires
-own-labels-requires c κs = search needs
-
 returns : tie.Need-returns
 unfolding ownNames
 returns c = sym (simp (sym (rw (c .before .before .wide .ensures) at (c .before .own-labels .ensures)) ∙ not-true _ (c .if1 .taken)))
-
-wide-requires-2 : tie.Need-wide-requires-2
-wide-requires-2 c κs = search needs
-
-own-items-requires : tie.Need-own-items-requires
-own-items-requires c κs = search needs
 
 returns-2 : tie.Need-returns-2
 unfolding ownNames
@@ -29,12 +17,6 @@ returns-2 c =
     let labels = sym (rw (p .before .before .wide .ensures) at (p .before .own-labels .ensures)) ∙ not-false _ (p .if1 .left) in
     let alarms = sym (rw (c .before .before .wide2 .ensures) at (c .before .own-items .ensures)) ∙ not-true _ (c .if2 .taken) in
     sym (simp (labels, alarms))
-
-wide-requires-3 : tie.Need-wide-requires-3
-wide-requires-3 c κs = search needs
-
-own-items-requires-2 : tie.Need-own-items-requires-2
-own-items-requires-2 c κs = search needs
 
 returns-3 : tie.Need-returns-3
 unfolding ownNames
@@ -45,15 +27,6 @@ returns-3 c =
     let alarms = sym (rw (q .before .before .wide2 .ensures) at (q .before .own-items .ensures)) ∙ not-false _ (q .if2 .left) in
     let statuses = sym (rw (c .before .before .wide3 .ensures) at (c .before .own-items2 .ensures)) ∙ not-true _ (c .if3 .taken) in
     sym (simp (labels, alarms, statuses))
-
-widened-requires : tie.Need-widened-requires
-widened-requires c κs = search needs
-
-wide-requires-4 : tie.Need-wide-requires-4
-wide-requires-4 c κs = search needs
-
-own-items-requires-3 : tie.Need-own-items-requires-3
-own-items-requires-3 c κs = search needs
 
 returns-4 : tie.Need-returns-4
 unfolding ownNames
@@ -69,19 +42,5 @@ returns-4 c =
     simp (labels, alarms, statuses) (commands ∙ own-padded 32 (m .commands) (m .commandcount))
 
 pub own-names-spec : {M : Type 1} → statement M
-own-names-spec =
-    tie.close
-    (tie.spec
-    wide-requires
-    own-labels-requires
-    returns
-    wide-requires-2
-    own-items-requires
-    returns-2
-    wide-requires-3
-    own-items-requires-2
-    returns-3
-    widened-requires
-    wide-requires-4
-    own-items-requires-3
-    returns-4)
+own-names-spec = tie.close (tie.spec (λ c κs. search needs) (λ c κs. search needs) returns (λ c κs. search needs) (λ c κs. search needs) returns-2
+    (λ c κs. search needs) (λ c κs. search needs) returns-3 (λ c κs. search needs) (λ c κs. search needs) (λ c κs. search needs) returns-4)

@@ -5,22 +5,9 @@ use borrow.Author.Needs.{needs}
 use Rattle.write_report.proofs.status.update.Statement.{statement}
 use Rattle.write_report.proofs.status.update.Tie as tie
 
-begin-requires : tie.Need-begin-requires
-begin-requires c κs = search needs
-
-entry-requires : tie.Need-entry-requires
-entry-requires c κs = search needs
-
-finish-requires : tie.Need-finish-requires
-finish-requires c κs = search needs
-
-same-length : tie.Need-same-length
-same-length c = search needs
-
 returns : tie.Need-returns
 unfolding pieces entriesPieces
 returns c = rw append-nil (then (then (c .before .before .before .before .before .before .before .before .before .before .begin .ensures) (c .before .before .before .before .before .before .entry .ensures)) (c .before .before .finish .ensures))
 
 pub update-spec : {M : Type 1} → statement M
-update-spec =
-    tie.close (tie.spec begin-requires entry-requires finish-requires same-length returns)
+update-spec = tie.close (tie.spec (λ c κs. search needs) (λ c κs. search needs) (λ c κs. search needs) (λ c. search needs) returns)
