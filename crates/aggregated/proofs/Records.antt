@@ -1,9 +1,6 @@
 -- The record of the aggregated value is one that the record reader accepts; a value that was set is kept whole.
 -- Assumes nothing.
-use Prim.Native.Nat.{ℕ, _≤_, _<_}
-use mathlib.Core.Path.{refl}
-use native.Mathlib.Nat.{mod-lt}
-use lib.Dec.{lit<}
+use Rattle.basis.proofs.Std.{ℕ, _≤_, _<_, refl, mod-lt, lit<}
 use Rattle.entry.specs.Valid.{Valid, lastTime as latest}
 use Rattle.entry.specs.Valid.OfKind.{an-aggregated}
 use Rattle.aggregated.specs.declared.Aggregated.{Aggregated}

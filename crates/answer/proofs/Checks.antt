@@ -1,15 +1,10 @@
 -- A call's answer under the checks: the first refusal of the list that applies, exactly.
 -- Assumes nothing.
-use mathlib.Core.Path.{_≡_, refl, subst}
-use mathlib.Core.Bool.{Bool}
-use mathlib.Core.List.{List, [], _∷_}
-use Prim.Native.Nat.{ℕ}
-use native.Mathlib.Omega.{arith}
+use Rattle.basis.proofs.Std.{_≡_, refl, subst, Bool, List, [], _∷_, ℕ, arith, bool-cases}
 use Rattle.answer.specs.declared.Refusal.{Refusal}
 use Rattle.answer.specs.declared.Report.{Report}
 use Rattle.answer.specs.declared.Answer.{Answer}
 use Rattle.answer.specs.declared.Answer.the-variants.{Done, Refused}
-use Rattle.basis.proofs.Cases.{bool-cases}
 use Rattle.answer.specs.Order.{judged, None, none, more, First, here, later}
 
 pub none-refuses : {applies : Refusal → Bool} {rs : List Refusal} (a : Answer) → None applies rs → judged applies rs a ≡ a

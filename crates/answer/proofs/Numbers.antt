@@ -1,25 +1,8 @@
 -- The numbers are 1 to 12, each of one refusal; 0 is exactly done; the order of the checks by its numbers.
 -- Assumes nothing.
-use mathlib.Core.Path.{_≡_, refl, sym, ap, _∙_}
-use mathlib.Core.List.{List, [], _∷_, map}
-use Prim.Native.Nat.{ℕ, _-_, _≤_}
-use native.Mathlib.Omega.{arith}
-use lib.ListN.{getD}
+use Rattle.basis.proofs.Std.{_≡_, refl, sym, ap, _∙_, List, [], _∷_, map, ℕ, _-_, _≤_, arith, getD}
 use Rattle.answer.specs.declared.Refusal.{Refusal}
-use Rattle.answer.specs.declared.Refusal.the-variants.{
-  Ignored,
-  NoSuchLink,
-  NoSuchItem,
-  ShortOutput,
-  BadTime,
-  WrongPhase,
-  NothingDue,
-  ManyAwaited,
-  IdentityAwaited,
-  SequenceSpent,
-  NotAccepted,
-  LongPacket,
-}
+use Rattle.answer.specs.declared.Refusal.the-variants.{Ignored, NoSuchLink, NoSuchItem, ShortOutput, BadTime, WrongPhase, NothingDue, ManyAwaited, IdentityAwaited, SequenceSpent, NotAccepted, LongPacket}
 use Rattle.answer.specs.declared.Report.{Report}
 use Rattle.answer.specs.declared.Answer.{Answer}
 use Rattle.answer.specs.declared.Answer.the-variants.{Done, Refused}

@@ -1,16 +1,7 @@
 -- A pass over a list from the back, one element at a time, and what changing the first that passes comes to at its place.
 -- Assumes nothing.
-use Prim.Native.Nat.{ℕ, suc, _+_, _-_, _≤_, _<_}
-use mathlib.Core.Path.{_≡_, refl, ap, _∙_}
-use mathlib.Core.Bool.{Bool, true, false}
-use mathlib.Core.List.{List, [], _∷_}
-use native.Mathlib.Omega.{arith}
-use lib.ListN.{length, drop, getD, set, drop-of-length-le}
-use lib.Seq.{drop-cons}
-use Rattle.basis.specs.Pick.{pick, bit}
-use Rattle.basis.proofs.Cases.{bool-cases}
+use Rattle.basis.proofs.Std.{ℕ, suc, _+_, _-_, _≤_, _<_, _≡_, refl, ap, _∙_, Bool, true, false, List, [], _∷_, arith, length, drop, getD, set, drop-of-length-le, drop-cons, pick, bit, bool-cases, count}
 use Rattle.awaited.specs.Lists.{firstOf, changeFirst, some}
-use Rattle.basis.specs.Lists.{count}
 
 module _ {A : Type 0} where
   pub drop-back : (l : List A) (i : ℕ) (d : A) → 0 < i → i ≤ length l → drop (i - 1) l ≡ getD l (i - 1) d ∷ drop i l

@@ -1,18 +1,7 @@
 -- Counting, and looking after the first that passes a test was changed.
 -- Assumes nothing.
-use Prim.Native.Nat.{ℕ, zero, suc, _+_, _≤_, _<_}
-use mathlib.Core.Path.{_≡_, refl, sym, ap}
-use mathlib.Core.Bool.{Bool, true, false}
-use mathlib.Core.List.{List, [], _∷_}
-use native.Mathlib.Omega.{arith}
-use native.Mathlib.Nat.{zero-add}
-use lib.Dec.{ltb}
-use borrow.Author.Tests.{lt-ltb}
-use lib.ListN.{length, replicate}
-use Rattle.basis.specs.Pick.{bit}
-use Rattle.basis.proofs.Cases.{bool-cases}
+use Rattle.basis.proofs.Std.{ℕ, zero, suc, _+_, _≤_, _<_, _≡_, refl, sym, ap, Bool, true, false, List, [], _∷_, arith, zero-add, ltb, lt-ltb, length, replicate, bit, bool-cases, count}
 use Rattle.awaited.specs.Lists.{changeFirst, some}
-use Rattle.basis.specs.Lists.{count}
 
 pub bit-true : (b : Bool) → b ≡ true → bit b ≡ 1
 bit-true b e = rw e

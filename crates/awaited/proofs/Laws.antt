@@ -1,22 +1,12 @@
 -- Sixteen places and no identity at two of them, after each act.
 -- Assumes nothing.
-use Prim.Native.Nat.{ℕ, _+_, _≤_, _<_}
-use mathlib.Core.Path.{_≡_, refl, sym, _∙_}
-use mathlib.Core.Bool.{true}
-use mathlib.Core.List.{List, [], _∷_}
-use native.Mathlib.Omega.{arith}
-use lib.ListN.{length}
-use Rattle.basis.specs.Pick.{bit}
-use mathlib.Core.Logic.{⊎-elim}
-use Rattle.basis.proofs.Cases.{bool-cases, lt-or-ge}
+use Rattle.basis.proofs.Std.{ℕ, _+_, _≤_, _<_, _≡_, refl, sym, _∙_, true, List, [], _∷_, arith, length, bit, ⊎-elim, bool-cases, lt-or-ge, count, not-both}
 use Rattle.identity.specs.declared.Identity.{Identity}
 use Rattle.awaited.specs.declared.Slot.{Slot}
 use Rattle.awaited.specs.declared.Awaited.{Awaited}
 use Rattle.awaited.specs.declared.Purpose.{Purpose}
 use Rattle.awaited.specs.declared.Found.the-variants.{For, Nothing}
 use Rattle.awaited.specs.Lists.{changeFirst}
-use Rattle.basis.specs.Lists.{count}
-use Rattle.basis.proofs.Both.{not-both}
 use Rattle.awaited.specs.Slot.{sameIdentity, freeSlot, slotOf, purposeOf, isFree, isTaken, awaitsFor}
 use Rattle.awaited.specs.Awaited.{nothingAwaited, addOf, findIn, findOf, removeOf, howManyOf}
 use Rattle.awaited.proofs.Back.{change-length}

@@ -1,10 +1,6 @@
 -- Being the same identity: each is the same as itself, and what is the same as one is the same as its like.
 -- Assumes nothing.
-use mathlib.Core.Path.{_≡_, sym, _∙_, subst}
-use mathlib.Core.Bool.{true}
-use mathlib.Core.List.{List}
-use Prim.Native.Nat.{ℕ}
-use Rattle.basis.specs.Lists.{sameBytes}
+use Rattle.basis.proofs.Std.{_≡_, sym, _∙_, subst, true, List, ℕ, sameBytes}
 use Rattle.basis.proofs.Same as bytes
 use Rattle.identity.specs.declared.Identity.{Identity}
 use Rattle.awaited.specs.Slot.{sameIdentity}

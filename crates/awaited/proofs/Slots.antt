@@ -1,11 +1,6 @@
 -- One place: what follows from its being free, and what a place says that was taken.
 -- Assumes nothing.
-use Prim.Native.Nat.{ℕ, _+_}
-use mathlib.Core.Path.{_≡_, refl}
-use mathlib.Core.Bool.{true, false}
-use Rattle.basis.specs.Pick.{bit}
-use Rattle.basis.proofs.Cases.{bool-cases}
-use Rattle.basis.proofs.Both.{untrue}
+use Rattle.basis.proofs.Std.{ℕ, _+_, _≡_, refl, true, false, bit, bool-cases, untrue}
 use Rattle.identity.specs.declared.Identity.{Identity}
 use Rattle.awaited.specs.declared.Slot.{Slot}
 use Rattle.awaited.specs.declared.Purpose.{Purpose}

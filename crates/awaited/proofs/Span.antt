@@ -1,12 +1,6 @@
 -- A span that has passed, counted without a sum that could be too large.
 -- Assumes nothing.
-use Prim.Native.Nat.{ℕ, _+_, _-_, _≤_}
-use mathlib.Core.Path.{_≡_, sym, _∙_}
-use mathlib.Core.Logic.{⊎-elim}
-use native.Mathlib.Omega.{arith}
-use lib.Dec.{leb}
-use borrow.Author.Tests.{le-leb, lt-leb}
-use Rattle.basis.proofs.Cases.{le-or-lt}
+use Rattle.basis.proofs.Std.{ℕ, _+_, _-_, _≤_, _≡_, sym, _∙_, ⊎-elim, arith, leb, le-leb, lt-leb, le-or-lt}
 
 pub after : (since span time : ℕ) → since ≤ time → leb span (time - since) ≡ leb (since + span) time
 after since span time h =

@@ -1,3 +1,4 @@
+pub mod Std
 pub mod Tests
 pub mod Table
 pub mod Cases

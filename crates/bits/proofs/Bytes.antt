@@ -9,7 +9,6 @@ use native.Mathlib.Omega.{arith}
 use lib.ListN.{length, getD, take, replicate, length-append, length-replicate, replicate-append-replicate}
 use lib.Seq.{take-suc, length-take-le}
 use Rattle.bits.specs.Fields.{pushed, total, joined, Within, none, next, bytesOf, numberOf}
-use Rattle.bits.specs.Fields.{pushed, total, joined, Within, bytesOf, numberOf}
 use Rattle.bits.proofs.Fields.{joined-append, joined-behind, joined-lt, joined-split, split-joined, split-length}
 
 -- one byte more

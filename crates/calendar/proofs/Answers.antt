@@ -1,18 +1,6 @@
 -- An answer by a guess that is the number wherever there is one; and there is one answer only.
 -- Assumes nothing.
-use mathlib.Core.Path.{_≡_, refl, sym, ap, subst, _∙_}
-use mathlib.Core.Bool.{Bool, true, false}
-use mathlib.Core.List.{List}
-use Prim.Native.Nat.{ℕ, _≤_, _<_}
-use native.Mathlib.Omega.{arith}
-use lib.Dec.{leb}
-use borrow.Author.Tests.{leb-true, le-leb}
-use Rattle.basis.specs.Pick.{both}
-use Rattle.basis.proofs.Cases.{picked}
-use Rattle.basis.specs.Lists.{sameBytes}
-use Rattle.basis.proofs.Same.{same-true, same-self}
-use Rattle.basis.proofs.Both.{not-both, both-true, both-of}
-use Rattle.calendar.specs.declared.Second.{Second}
+use Rattle.basis.proofs.Std.{_≡_, sym, ap, subst, _∙_, Bool, true, false, List, ℕ, _≤_, _<_, arith, leb, leb-true, le-leb, both, picked, sameBytes, same-true, same-self, not-both, both-true, both-of}
 use Rattle.calendar.specs.declared.Second.the-variants.{Is, No}
 use Rattle.calendar.specs.Read.{Answers, checked}
 

@@ -1,12 +1,6 @@
 -- The counted date of a day is a valid date, as many days after 1970-01-01.
 -- Assumes nothing.
-use mathlib.Core.Path.{_≡_, refl, sym, ap, subst, _∙_}
-use Prim.Native.Nat.{ℕ, zero, suc, _+_, _-_, _≤_, _<_}
-use native.Mathlib.Numerals.{add-one}
-use native.Mathlib.Omega.{arith}
-use lib.Dec.{ltb, lit≤}
-use borrow.Author.Tests.{ltb-true, ltb-false}
-use Rattle.basis.proofs.Cases.{picked}
+use Rattle.basis.proofs.Std.{_≡_, refl, sym, ap, subst, _∙_, ℕ, zero, suc, _+_, _-_, _≤_, _<_, add-one, arith, ltb, lit≤, ltb-true, ltb-false, picked}
 use Rattle.calendar.specs.declared.Place.{Place}
 use Rattle.calendar.specs.Days.{years, months, leapOf, yearDays, monthDays, dayOf, Valid, InYear, InMonth}
 use Rattle.calendar.specs.Civil.{yearFrom, monthFrom, dateAt, dateOf}

@@ -1,11 +1,6 @@
 -- Digits put into a text from the last to the first, and read back.
 -- Assumes nothing.
-use mathlib.Core.Path.{_≡_, refl, sym, ap, ap₂, _∙_}
-use mathlib.Core.List.{List, [], _∷_, _++_, append-assoc}
-use Prim.Native.Nat.{ℕ, zero, suc, _+_, _-_, _*_, _/_, _%_, _≤_, _<_}
-use native.Mathlib.Omega.{arith}
-use lib.ListN.{length, take, drop, set, getD, length-append}
-use lib.Seq.{take-set-le, drop-cons, drop-set-lt, getD-set-same, lt-length-set}
+use Rattle.basis.proofs.Std.{_≡_, refl, sym, ap, ap₂, _∙_, List, [], _∷_, _++_, append-assoc, ℕ, zero, suc, _+_, _-_, _*_, _/_, _%_, _≤_, _<_, arith, length, take, drop, set, getD, length-append, take-set-le, drop-cons, drop-set-lt, getD-set-same, lt-length-set}
 use Rattle.output.specs.Put.{put}
 use Rattle.calendar.specs.Text.{decimals}
 

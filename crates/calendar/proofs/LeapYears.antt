@@ -1,12 +1,6 @@
 -- The leap rule: a year is 365 or 366 days long, and what a year adds to the counts of fourth, hundredth and four hundredth years.
 -- Assumes nothing.
-use mathlib.Core.Path.{_≡_}
-use mathlib.Core.Logic.{_⊎_, ⊎-elim}
-use Prim.Native.Nat.{ℕ, _+_, _/_, _%_, _≤_}
-use native.Mathlib.Omega.{arith}
-use lib.Dec.{eqb, lit≤}
-use borrow.Author.Tests.{eq-eqb, ne-eqb, eqb-true, eqb-false}
-use Rattle.basis.proofs.Cases.{picked}
+use Rattle.basis.proofs.Std.{_≡_, _⊎_, ⊎-elim, ℕ, _+_, _/_, _%_, _≤_, arith, eqb, lit≤, eq-eqb, ne-eqb, eqb-true, eqb-false, picked}
 use Rattle.calendar.specs.Days.{leapOf}
 
 pub leap-le : (y : ℕ) → leapOf y ≤ 1

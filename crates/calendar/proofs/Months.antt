@@ -1,14 +1,6 @@
 -- The days of the months, and the month of a day of a year.
 -- Assumes nothing.
-use mathlib.Core.Path.{_≡_, refl, ap, subst, _∙_}
-use mathlib.Core.Bool.{Bool}
-use mathlib.Core.List.{List, [], _∷_}
-use Prim.Native.Nat.{ℕ, zero, suc, _+_, _-_, _*_, _/_, _≤_, _<_, zero-le}
-use native.Mathlib.Nat.{le-refl, le-trans, le-add-right, add-zero, add-suc}
-use native.Mathlib.Omega.{arith}
-use lib.Dec.{T, eqb, eqb→eq, lit≤}
-use lib.ListN.{replicate, getD}
-use Rattle.basis.specs.Pick.{both}
+use Rattle.basis.proofs.Std.{_≡_, refl, ap, subst, _∙_, Bool, List, [], _∷_, ℕ, zero, suc, _+_, _-_, _*_, _/_, _≤_, _<_, zero-le, le-refl, le-trans, le-add-right, add-zero, add-suc, arith, T, eqb, eqb→eq, lit≤, replicate, getD, both}
 use Rattle.basis.proofs.Table.{at, both-left, both-right}
 use Rattle.calendar.specs.Days.{leapOf, monthDays, months, InMonth}
 use Rattle.calendar.proofs.LeapYears.{leap-le}

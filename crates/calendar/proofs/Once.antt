@@ -1,10 +1,6 @@
 -- A day has one date: two valid dates as many days after 1970-01-01 are the same.
 -- Assumes nothing.
-use mathlib.Core.Path.{_≡_, sym, ap}
-use mathlib.Core.Logic.{_⊎_, ⊎-elim}
-use Prim.Native.Nat.{ℕ, _+_, _-_, _≤_, _<_}
-use native.Mathlib.Omega.{arith}
-use Rattle.basis.proofs.Cases.{le-or-lt}
+use Rattle.basis.proofs.Std.{_≡_, sym, ap, ⊎-elim, ℕ, _+_, _-_, _≤_, _<_, arith, le-or-lt}
 use Rattle.calendar.specs.declared.Date.{Date}
 use Rattle.calendar.specs.Days.{years, months, leapOf, yearDays, dayOf, Valid}
 use Rattle.calendar.proofs.Years.{year-step, years-le}

@@ -1,12 +1,6 @@
 -- Reading a time: the function gives the answer, there is one answer only, and what was written is read back.
 -- Assumes nothing.
-use mathlib.Core.Path.{_≡_, refl, sym, ap, ap₂, subst, _∙_}
-use mathlib.Core.List.{List, _++_}
-use Prim.Native.Nat.{ℕ, _+_, _-_, _*_, _/_, _%_, _≤_, _<_}
-use native.Mathlib.Omega.{arith}
-use lib.ListN.{length, take, drop, length-append, length-drop, take-append-drop}
-use lib.Seq.{take-at, drop-at, take-all}
-use Rattle.basis.specs.Text.{text}
+use Rattle.basis.proofs.Std.{_≡_, refl, sym, ap, ap₂, subst, _∙_, List, _++_, ℕ, _+_, _-_, _*_, _/_, _%_, _≤_, _<_, arith, length, take, drop, length-append, length-drop, take-append-drop, take-at, drop-at, take-all, text}
 use Rattle.calendar.specs.declared.Second.{Second}
 use Rattle.calendar.specs.declared.Second.the-variants.{Is as IsSecond, No as NoSecond}
 use Rattle.calendar.specs.declared.Time.{Time}

@@ -1,18 +1,6 @@
 -- What stands after the seconds: zero to six decimals behind a dot, and Z. The function reads exactly these texts.
 -- Assumes nothing.
-use mathlib.Core.Path.{_≡_, refl, sym, ap, ap₂, subst, _∙_}
-use mathlib.Core.Bool.{Bool, true, false, not}
-use mathlib.Core.List.{List, [], _∷_, _++_}
-use Prim.Native.Nat.{ℕ, zero, suc, _+_, _-_, _/_, _%_, _≤_, _<_}
-use native.Mathlib.Numerals.{add-one}
-use native.Mathlib.Omega.{arith}
-use lib.ListN.{length, take, drop, getD, length-append, drop-of-length-le}
-use lib.Seq.{drop-cons, take-at, getD-at, take-suc, take-all}
-use lib.Dec.{ltb, leb, eqb}
-use borrow.Author.Tests.{ltb-true, ltb-false, leb-true, eqb-true, le-ltb, le-leb, eq-eqb}
-use Rattle.basis.specs.Pick.{pick, both}
-use Rattle.basis.specs.Text.{text}
-use Rattle.basis.proofs.Cases.{picked}
+use Rattle.basis.proofs.Std.{_≡_, refl, sym, ap, ap₂, subst, _∙_, Bool, true, false, not, List, [], _∷_, _++_, ℕ, zero, suc, _+_, _-_, _/_, _%_, _≤_, _<_, add-one, arith, length, take, drop, getD, length-append, drop-of-length-le, drop-cons, take-at, getD-at, take-suc, take-all, ltb, leb, eqb, ltb-true, ltb-false, leb-true, eqb-true, le-ltb, le-leb, eq-eqb, pick, both, text, picked}
 use Rattle.calendar.specs.declared.Time.{Time}
 use Rattle.calendar.specs.declared.Time.the-variants.{Is, No}
 use Rattle.calendar.specs.Text.{decimals}

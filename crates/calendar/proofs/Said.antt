@@ -1,10 +1,6 @@
 -- The numbers that the digits of a written time say are the ones that were written.
 -- Assumes nothing.
-use mathlib.Core.Path.{_≡_, refl, sym, ap, subst, _∙_}
-use mathlib.Core.List.{List}
-use Prim.Native.Nat.{ℕ, _+_, _-_, _*_, _/_, _%_, _≤_, _<_}
-use native.Mathlib.Omega.{arith}
-use lib.ListN.{length}
+use Rattle.basis.proofs.Std.{_≡_, refl, sym, ap, subst, _∙_, List, ℕ, _+_, _-_, _*_, _/_, _%_, _≤_, _<_, arith, length}
 use Rattle.calendar.specs.Days.{dayOf, Valid}
 use Rattle.calendar.specs.Civil.{dateOf}
 use Rattle.calendar.specs.Text.{lastSecond, decimals, secondText, milliText}

@@ -1,10 +1,6 @@
 -- Writing a time: one piece, or nothing after 9999.
 -- Assumes nothing.
-use mathlib.Core.Path.{_≡_, sym, _∙_}
-use mathlib.Core.List.{List, [], _∷_}
-use Prim.Native.Nat.{ℕ, _+_, _≤_, _<_}
-use lib.ListN.{length}
-use borrow.Author.Tests.{le-leb, lt-leb}
+use Rattle.basis.proofs.Std.{_≡_, sym, _∙_, List, [], _∷_, ℕ, _+_, _≤_, _<_, length, le-leb, lt-leb}
 use Rattle.output.specs.Put.{output, putPiece, Wrote}
 use Rattle.calendar.specs.Text.{lastTime, timeText}
 use Rattle.calendar.specs.Put.{putTime, WroteTime}

@@ -1,14 +1,8 @@
 -- The year of a day, by parts of 400, 100, 4 and 1 years from year 1 on.
 -- Assumes nothing.
-use mathlib.Core.Path.{_≡_, refl, sym, ap, subst, _∙_}
-use mathlib.Core.Logic.{_⊎_, inl, inr, ⊎-elim}
-use Prim.Native.Nat.{ℕ, _+_, _-_, _*_, _/_, _%_, _≤_, _<_}
-use native.Mathlib.Nat.{sub-zero, mod-lt, mod-eq-sub-div-mul, div-eq-of-lt, div-lt-iff-lt-mul, div-mul-le-self, mul-div-cancel, div-self}
-use native.Mathlib.Omega.{arith}
+use Rattle.basis.proofs.Std.{_≡_, refl, sym, ap, subst, _∙_, inl, inr, ⊎-elim, ℕ, _+_, _-_, _*_, _/_, _%_, _≤_, _<_, sub-zero, mod-lt, mod-eq-sub-div-mul, div-eq-of-lt, div-lt-iff-lt-mul, div-mul-le-self, mul-div-cancel, div-self, arith, lit≤, lt-or-ge}
 use mir.Val.{Fits}
 use mir.Syntax.{w64}
-use lib.Dec.{lit≤}
-use Rattle.basis.proofs.Cases.{lt-or-ge}
 use Rattle.calendar.specs.Days.{leapOf, yearDays, years, InYear}
 use Rattle.calendar.proofs.LeapYears.{leap-year}
 use Rattle.calendar.proofs.Years.{years-formula}

@@ -1,9 +1,6 @@
 -- The days of the years, counted and by a formula.
 -- Assumes nothing.
-use mathlib.Core.Path.{_≡_, refl, ap, subst, _∙_}
-use Prim.Native.Nat.{ℕ, zero, suc, _+_, _-_, _*_, _/_, _≤_, _<_}
-use native.Mathlib.Nat.{le-refl, le-trans, le-add-right, add-zero, add-suc}
-use native.Mathlib.Omega.{arith}
+use Rattle.basis.proofs.Std.{_≡_, refl, ap, subst, _∙_, ℕ, zero, suc, _+_, _-_, _*_, _/_, _≤_, _<_, le-refl, le-trans, le-add-right, add-zero, add-suc, arith}
 use Rattle.calendar.specs.Days.{leapOf, yearDays, years}
 use Rattle.calendar.proofs.LeapYears.{leap-adds}
 

@@ -1,10 +1,6 @@
 -- What a call without output gives, condition by condition in their order.
 -- Assumes nothing.
-use Prim.Native.Nat.{ℕ, _≤_, _<_}
-use mathlib.Core.Path.{_≡_, refl}
-use mathlib.Core.Bool.{Bool, true, false}
-use borrow.Author.Tests.{le-leb, lt-leb}
-use Rattle.basis.specs.Pick.{pick}
+use Rattle.basis.proofs.Std.{ℕ, _≤_, _<_, _≡_, refl, Bool, true, false, le-leb, lt-leb, pick}
 use Rattle.answer.specs.declared.Refusal.the-variants.{NoSuchItem, BadTime, SequenceSpent}
 use Rattle.answer.specs.declared.Report.{Report}
 use Rattle.answer.specs.declared.Answer.the-variants.{Done, Refused}

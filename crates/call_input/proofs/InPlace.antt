@@ -1,12 +1,6 @@
 -- The records of a value in place, link by link: how many there are, and the site with them.
 -- Assumes nothing.
-use Prim.Native.Nat.{ℕ, zero, suc, _+_, _*_}
-use mathlib.Core.Path.{_≡_, refl, sym, ap}
-use mathlib.Core.Bool.{true, false}
-use mathlib.Core.List.{List, [], _∷_}
-use native.Mathlib.Omega.{arith}
-use lib.ListN.{length, length-append}
-use Rattle.basis.specs.Pick.{bit}
+use Rattle.basis.proofs.Std.{ℕ, zero, suc, _+_, _*_, _≡_, refl, sym, ap, true, false, List, [], _∷_, arith, length, length-append, bit}
 use Rattle.entry.specs.declared.Entry.{Entry}
 use Rattle.status.specs.declared.Set.{Set as StatusSet}
 use Rattle.subscription.specs.Subscription.{issuesOn}

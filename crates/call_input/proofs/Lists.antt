@@ -1,9 +1,6 @@
 -- Storing what stands there already.
 -- Assumes nothing.
-use Prim.Native.Nat.{ℕ, zero, suc}
-use mathlib.Core.Path.{_≡_, refl, sym, ap}
-use mathlib.Core.List.{List, [], _∷_}
-use lib.ListN.{getD, set}
+use Rattle.basis.proofs.Std.{ℕ, zero, suc, _≡_, refl, sym, ap, List, [], _∷_, getD, set}
 
 -- what stands there is put there
 pub set-same : {A : Type 0} (xs : List A) (k : ℕ) (x d : A) → getD xs k d ≡ x → set xs k x ≡ xs

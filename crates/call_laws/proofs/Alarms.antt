@@ -1,12 +1,6 @@
 -- A sound alarm after an input or an order, and its record.
 -- Assumes nothing.
-use Prim.Native.Nat.{ℕ, _≤_, _<_}
-use mathlib.Core.Path.{_≡_, refl}
-use mathlib.Core.Bool.{Bool, true, false}
-use native.Mathlib.Omega.{arith}
-use lib.Dec.{eqb, lit<, lit≤}
-use Rattle.basis.specs.Pick.{pick, bit}
-use Rattle.basis.proofs.Cases.{picked}
+use Rattle.basis.proofs.Std.{ℕ, _≤_, _<_, refl, Bool, true, false, arith, eqb, lit<, lit≤, bit, picked}
 use Rattle.entry.specs.Valid.{lastTime}
 use Rattle.entry.specs.Valid.OfKind.{an-alarm}
 use Rattle.entry.proofs.FlagLaws.{bit-le}

@@ -1,16 +1,6 @@
 -- The fields of a CommandRequest that is not refused: labels, values of 32 bits, and 16 entries at most; and the entries told.
 -- Assumes nothing.
-use Prim.Native.Nat.{ℕ, zero, suc, _+_, _≤_, _<_}
-use mathlib.Core.Path.{_≡_, refl, sym, _∙_, ap, subst}
-use mathlib.Core.List.{List, [], _∷_, _++_}
-use mathlib.Core.Logic.{_⊎_, inl, inr}
-use native.Mathlib.Omega.{arith}
-use borrow.Author.Tests.{ltb-true}
-use lib.Dec.{ltb}
-use lib.ListN.{length, getD, set, length-set, length-append, length-replicate}
-use lib.Seq.{getD-set-same, getD-set-other}
-use Rattle.basis.specs.Text.{text}
-use Rattle.basis.proofs.Cases.{picked, eq-or-ne}
+use Rattle.basis.proofs.Std.{ℕ, zero, suc, _+_, _≤_, _<_, _≡_, refl, sym, _∙_, ap, subst, List, [], _∷_, _⊎_, inl, inr, arith, ltb-true, ltb, length, getD, set, length-set, length-append, length-replicate, getD-set-same, getD-set-other, text, picked, eq-or-ne}
 use Rattle.number.specs.Signed.{Signed32}
 use Rattle.number.specs.declared.Int.{Int}
 use Rattle.number.specs.declared.Int.the-variants.{Is as IsInt, No as NoInt}
@@ -31,11 +21,10 @@ use Rattle.read_commands.specs.declared.CommandEntry.{CommandEntry}
 use Rattle.read_commands.specs.declared.GotCommand.{GotCommand}
 use Rattle.read_commands.specs.declared.CommandList.{CommandList}
 use Rattle.read_commands.specs.declared.CommandFields.{CommandFields}
-use Rattle.read_commands.specs.Command.{noValue, valued, gotValue, commandOf, noCommand, commandBy, commandOfItem, noCommands, pushCommand, commandsOf, commandFrom, commandAt}
+use Rattle.read_commands.specs.Command.{valued, gotValue, commandOf, noCommand, commandBy, commandOfItem, noCommands, pushCommand, commandsOf, commandFrom, commandAt}
 use Rattle.packet_lookup.specs.declared.Sought.{Sought}
 use Rattle.packet_lookup.specs.declared.Sought.the-variants.{Is, Nothing}
 use Rattle.packet_command.specs.Commanding.{entryAt, valueIn, toldOf, toldTo}
-use Rattle.write_message.specs.Message.{Status}
 use Rattle.write_laws.specs.Formed.{Label, FormedValue, FormedStatus, FormedStatuses}
 use Rattle.write_laws.specs.Formed.FormedValue.{recent, undefined}
 use Rattle.write_laws.specs.Formed.FormedStatuses.{none}

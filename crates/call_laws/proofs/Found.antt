@@ -1,12 +1,6 @@
 -- What a packet names in the table of a sound site is one of the table's.
 -- Assumes nothing.
-use Prim.Native.Nat.{ℕ, _<_}
-use mathlib.Core.Path.{_≡_, refl, sym, subst}
-use mathlib.Core.List.{List}
-use mathlib.Core.Bool.{Bool, true, false}
-use lib.Dec.{ltb}
-use lib.ListN.{length}
-use Rattle.basis.specs.Pick.{pick}
+use Rattle.basis.proofs.Std.{ℕ, _<_, sym, subst, Bool, true, false, ltb, length, pick}
 use Rattle.label.specs.declared.Label.{Label}
 use Rattle.label.specs.Label.{textOf}
 use Rattle.table_item.specs.declared.Found.{Found}

@@ -1,20 +1,12 @@
 -- Which number a call gives, proved for every call at once.
 -- Assumes nothing.
-use Prim.Native.Nat.{ℕ}
-use mathlib.Core.Path.{_≡_, refl, sym, _∙_}
-use mathlib.Core.Bool.{Bool, true, false, true≢false}
-use mathlib.Core.List.{List, [], _∷_}
-use lib.Dec.{eqb}
-use native.Mathlib.Omega.{arith}
-use borrow.Author.Tests.{eq-eqb, ne-eqb}
-use Rattle.basis.specs.Pick.{pick}
-use Rattle.basis.proofs.Cases.{bool-cases}
+use Rattle.basis.proofs.Std.{ℕ, _≡_, refl, sym, _∙_, Bool, true, false, true≢false, List, [], _∷_, eqb, arith, eq-eqb, ne-eqb, pick, bool-cases}
 use Rattle.answer.specs.declared.Refusal.{Refusal}
 use Rattle.answer.specs.declared.Refusal.the-variants.{NotAccepted}
 use Rattle.answer.specs.declared.Report.{Report}
 use Rattle.answer.specs.declared.Answer.the-variants.{Done}
 use Rattle.answer.specs.Number.{refusalNumber}
-use Rattle.answer.specs.Order.{inOrder, First, here, later, None}
+use Rattle.answer.specs.Order.{inOrder, First, here, later}
 use Rattle.answer.proofs.Checks.{first-refuses, refused-first, none-refuses, done-none}
 use Rattle.pool_laws.proofs.BatchKept.{kept}
 use Rattle.site.specs.Call.{Plan, reportOf, answerOf}

@@ -1,20 +1,9 @@
 -- The characters that a request's head keeps are its mId's.
 -- Assumes nothing.
-use Prim.Native.Nat.{ℕ, _-_}
-use mathlib.Core.Path.{_≡_, refl, sym, _∙_, ap, subst}
-use mathlib.Core.Bool.{Bool, true}
-use mathlib.Core.List.{List, [], _∷_, _++_}
-use native.Mathlib.Omega.{arith}
-use lib.ListN.{length, replicate, length-map}
-use Rattle.basis.specs.Pick.{pick}
-use Rattle.basis.specs.Text.{text}
-use Rattle.basis.specs.Lists.{sameBytes}
-use Rattle.basis.proofs.Cases.{picked}
-use Rattle.basis.proofs.Both.{untrue}
+use Rattle.basis.proofs.Std.{ℕ, _-_, _≡_, refl, sym, _∙_, ap, subst, true, List, [], _∷_, _++_, arith, length, replicate, length-map, text, sameBytes, picked, untrue}
 use Rattle.identity.specs.declared.ReadIdentity.{ReadIdentity}
 use Rattle.identity.specs.Hex.{lowerHex}
-use Rattle.identity.specs.Text.{identityText}
-use Rattle.identity.specs.Read.{Says, readIdentity, notFound}
+use Rattle.identity.specs.Read.{Says, readIdentity}
 use Rattle.identity.proofs.Read.{answers}
 use Rattle.identity.proofs.Text.{text-length}
 use Rattle.names.specs.declared.Found.{Found}

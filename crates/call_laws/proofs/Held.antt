@@ -1,22 +1,12 @@
 -- What holds of every held record after an act of the pool, and after a list of issues.
 -- Assumes nothing.
-use Prim.Native.Nat.{ℕ, suc, zero, _%_, _<_}
-use mathlib.Core.Path.{_≡_, refl, sym, subst}
-use mathlib.Core.List.{List, [], _∷_, map}
-use mathlib.Core.Bool.{Bool, true, false}
-use lib.ListN.{getD, set, replicate}
-use lib.Dec.{ltb, lit<}
-use native.Mathlib.Nat.{mod-lt}
-use Rattle.basis.specs.Pick.{pick}
-use Rattle.basis.proofs.Both.{not-both, both-first}
+use Rattle.basis.proofs.Std.{ℕ, suc, zero, _%_, _<_, _≡_, refl, sym, subst, List, [], _∷_, map, Bool, true, false, getD, set, replicate, ltb, lit<, mod-lt, pick, not-both, both-first}
 use Rattle.entry.specs.declared.Entry.{Entry}
 use Rattle.pool.specs.declared.Place.{Place}
 use Rattle.pool.specs.declared.Pool.{Pool}
 use Rattle.pool.specs.declared.Spot.{Spot}
 use Rattle.pool.specs.declared.Spot.the-variants.{At, Nowhere}
 use Rattle.pool.specs.declared.Loser.{Loser}
-use Rattle.pool.specs.declared.Sought.{Sought}
-use Rattle.pool.specs.declared.Sought.the-variants.{Found, Nothing}
 use Rattle.pool.specs.Places.{noPlace, of}
 use Rattle.pool.specs.Shares.{loser}
 use Rattle.pool.specs.Pool.{emptyOf, heldIn, freeIn, made, lossOf, roomOf, withOf, issueOf, settleOf, markOf, unsentFor, unmarkOf}

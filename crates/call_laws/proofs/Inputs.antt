@@ -1,16 +1,6 @@
 -- The plans of connect, disconnect and the three inputs are sound.
 -- Assumes nothing.
-use Prim.Native.Nat.{ℕ, _+_, _*_, _^_, _≤_, _<_}
-use mathlib.Core.Path.{_≡_, refl}
-use mathlib.Core.Bool.{Bool, true, false}
-use native.Mathlib.Omega.{arith}
-use native.Mathlib.Nat.{mod-lt}
-use borrow.Author.Tests.{ltb-true}
-use lib.Dec.{eqb, ltb, lit<, lit≤}
-use lib.IntN.{ℤ}
-use Rattle.basis.specs.Pick.{both}
-use Rattle.basis.proofs.Cases.{picked}
-use Rattle.basis.proofs.Both.{both-true}
+use Rattle.basis.proofs.Std.{ℕ, _+_, _*_, _^_, _<_, Bool, true, false, arith, ltb-true, eqb, lit<, lit≤, ℤ, both, picked, both-true}
 use Rattle.number.specs.Signed.{Signed32, wordOf}
 use Rattle.number.proofs.RoundTrip.{word-lt}
 use Rattle.status.specs.Status.{holding}
@@ -30,7 +20,7 @@ use Rattle.site.specs.Parts.{alarmAt, subscriptionAt}
 use Rattle.site.specs.Records.{statusRecord}
 use Rattle.call_link.specs.Connect.{connectPlan, disconnectPlan}
 use Rattle.call_input.specs.Inputs.{alarmChange, alarmPlan, statusChange, statusEntry, statusPlan, aggregatedChange, aggregatedEntry, aggregatedPlan}
-use Rattle.call_laws.specs.Sound.{SoundAggregated, SoundEntry, EntryOf, SoundAt}
+use Rattle.call_laws.specs.Sound.{SoundAggregated, EntryOf, SoundAt}
 use Rattle.call_laws.specs.SoundPlans.{SoundPlan}
 use Rattle.call_laws.proofs.SoundEntries.{each-if, each-to}
 use Rattle.call_laws.proofs.Parts.{with-link, with-alarm, with-status, with-aggregated, close}

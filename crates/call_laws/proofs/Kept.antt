@@ -1,9 +1,6 @@
 -- Every call, by what holds of all of them at once.
 -- Assumes nothing.
-use Prim.Native.Nat.{ℕ}
-use mathlib.Core.Path.{_≡_, refl, sym, ap, _∙_}
-use mathlib.Core.Bool.{Bool}
-use mathlib.Core.List.{List}
+use Rattle.basis.proofs.Std.{ℕ, _≡_, refl, sym, ap, _∙_, Bool, List}
 use Rattle.answer.specs.declared.Refusal.{Refusal}
 use Rattle.site.specs.declared.Site.{Site}
 use Rattle.site.specs.declared.Step.{Step}

@@ -1,22 +1,15 @@
 -- A done call with well-formed messages that have room writes exactly their bytes.
 -- Assumes nothing.
-use Prim.Native.Nat.{ℕ, _+_, _%_, _≤_, _<_}
-use mathlib.Core.Path.{_≡_, refl, sym, _∙_, ap, subst}
-use mathlib.Core.List.{List, [], _∷_, _++_}
-use native.Mathlib.Omega.{arith}
-use lib.ListN.{length, take, drop}
+use Rattle.basis.proofs.Std.{ℕ, _%_, _≤_, _≡_, refl, sym, _∙_, ap, List, [], _∷_, _++_, arith, length}
 use Rattle.answer.specs.declared.Report.{Report}
-use Rattle.answer.specs.declared.Answer.the-variants.{Done}
 use Rattle.output.specs.Put.{Wrote as Puts, concat}
 use Rattle.output.proofs.Laws as laws
 use Rattle.write_message.specs.Message.{Message}
-use Rattle.write_message.specs.Listing.{bytesOf}
 use Rattle.write_message.specs.Pieces.{pieces}
 use Rattle.write_message.proofs.Whole.{whole}
-use Rattle.write_laws.specs.Claims.{Claims}
 use Rattle.write_laws.proofs.Kept.{kept as lawful}
 use Rattle.site.specs.declared.Step.{Step}
-use Rattle.site.specs.Call.{reportOf, stepOf, piecesOf, writtenTo, outAfter}
+use Rattle.site.specs.Call.{reportOf, piecesOf, writtenTo, outAfter}
 use Rattle.call_laws.proofs.Given.{numbers}
 use Rattle.call_laws.proofs.Stepped.{steps}
 use Rattle.call_laws.specs.Formedness.{EachFormed, allBytes, Sendable, EachReadsBack, Wrote, Outputs}

@@ -1,14 +1,6 @@
 -- Packet and pump keep a site sound, and write what their plans say.
 -- Assumes nothing.
-use Prim.Native.Nat.{ℕ, _≤_, _<_}
-use mathlib.Core.Path.{_≡_, refl, sym, _∙_, ap}
-use mathlib.Core.Bool.{Bool, true, false, true≢false}
-use mathlib.Core.List.{List, []}
-use lib.Dec.{ltb, leb}
-use lib.ListN.{length}
-use borrow.Author.Tests.{ltb-false, leb-false}
-use Rattle.basis.specs.Pick.{pick}
-use Rattle.basis.proofs.Cases.{picked}
+use Rattle.basis.proofs.Std.{ℕ, _<_, _≡_, refl, sym, _∙_, ap, Bool, true, false, true≢false, List, [], ltb, leb, length, ltb-false, leb-false, pick, picked}
 use Rattle.answer.specs.declared.Refusal.{Refusal}
 use Rattle.answer.specs.declared.Refusal.the-variants.{ShortOutput}
 use Rattle.answer.specs.declared.Report.{Report}
@@ -32,19 +24,18 @@ use Rattle.write_message.specs.Message.{Message}
 use Rattle.write_laws.specs.Formed.{Received}
 use Rattle.site.specs.declared.Site.{Site}
 use Rattle.site.specs.declared.Step.{Step}
-use Rattle.site.specs.Site.{noLinkAt, badTimeAt, linkAt}
-use Rattle.site.specs.Call.{Plan, Gives, stepOf, writtenTo, answerOf}
+use Rattle.site.specs.Site.{noLinkAt, linkAt}
+use Rattle.site.specs.Call.{Plan, Gives, stepOf, writtenTo}
 use Rattle.call_laws.specs.Numbers.{conditions}
 use Rattle.call_laws.proofs.Given.{numbers}
 use Rattle.call_laws.proofs.Stepped.{steps}
 use Rattle.packet_answer.specs.declared.Question.{Question}
-use Rattle.packet_answer.specs.Taken.{Taken, notAcked, byVerdict, missingElement, badValue, unexpected, notReady}
+use Rattle.packet_answer.specs.Taken.{Taken, notAcked, missingElement, badValue, unexpected, notReady}
 use Rattle.call_pump.specs.Pump.{pumpRefuses, pumpPlan}
 use Rattle.call_packet.specs.Packet.{expected, unready, kindTaken, expectedTaken, askedTaken, classTaken, questionOf, packetTaken, packetRefuses}
 use Rattle.call_laws.specs.Sound.{SoundAt, Sound}
 use Rattle.call_laws.specs.SoundPlans.{SoundPlan}
-use Rattle.call_laws.proofs.SoundKept.{a-link, in-time, at-time}
-use Rattle.call_laws.proofs.SoundKept.{kept as keeps}
+use Rattle.call_laws.proofs.SoundKept.{a-link, in-time, at-time, kept as keeps}
 use Rattle.call_laws.proofs.SoundPackets.{kept as parts}
 use Rattle.call_laws.specs.Formedness.{Sendable, Wrote}
 use Rattle.call_laws.proofs.Plans.{plans, no-message}

@@ -1,13 +1,7 @@
 -- A sound site with something else in one part, and at a later time.
 -- Assumes nothing.
-use Prim.Native.Nat.{ℕ, zero, suc, _+_, _*_, _≤_, _<_}
-use mathlib.Core.Path.{_≡_, refl, sym, _∙_, ap, subst}
-use mathlib.Core.List.{List, [], _∷_}
-use mathlib.Core.Logic.{_⊎_, inl, inr}
-use native.Mathlib.Omega.{arith}
-use lib.ListN.{length, getD, set, replicate, length-set}
+use Rattle.basis.proofs.Std.{ℕ, zero, suc, _≤_, _≡_, _∙_, List, [], _∷_, arith, length, getD, set, replicate, length-set}
 use Rattle.answer.specs.Times.{lastTime}
-use Rattle.entry.specs.declared.Entry.{Entry}
 use Rattle.pool.specs.declared.Pool.{Pool}
 use Rattle.pool.specs.Pool.{unmarkOf}
 use Rattle.link.specs.declared.Link.{Link}
@@ -19,9 +13,9 @@ use Rattle.status.specs.Status.{unknown}
 use Rattle.subscription.specs.declared.Subscription.{Subscription}
 use Rattle.aggregated.specs.declared.Aggregated.{Aggregated}
 use Rattle.site.specs.declared.Site.{Site}
-use Rattle.site.specs.Site.{withPool, withLinks, withSubscriptions, withAlarms, withStatuses, withAggregated, withLink, closeAt}
+use Rattle.site.specs.Site.{withPool, withLinks, withSubscriptions, withAggregated, withLink, closeAt}
 use Rattle.site.specs.Parts.{withAlarm, withStatus}
-use Rattle.call_laws.specs.Sound.{SoundAlarm, SoundAlarms, SoundStatus, SoundStatuses, SoundAggregated, SoundSubscriptions, EachHeld, EntryOf, SoundAt, Sound}
+use Rattle.call_laws.specs.Sound.{SoundAlarm, SoundStatus, SoundAggregated, SoundSubscriptions, EachHeld, EntryOf, SoundAt}
 use Rattle.call_laws.proofs.Held.{held-unmark, held-so}
 use Rattle.call_laws.proofs.SoundEntries.{later-entry}
 

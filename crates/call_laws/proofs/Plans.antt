@@ -1,21 +1,9 @@
 -- The messages of every call that writes are well-formed and have room in 4,096 bytes.
 -- Assumes nothing.
-use Prim.Native.Nat.{ℕ, _+_, _%_, _≤_, _<_}
-use mathlib.Core.Path.{_≡_, refl, sym, _∙_, ap, subst}
-use mathlib.Core.Bool.{Bool, true, false}
-use mathlib.Core.List.{List, [], _∷_, _++_}
-use mathlib.Core.Logic.{_⊎_, inl, inr}
-use native.Mathlib.Omega.{arith}
-use lib.Dec.{eqb, ltb, lit≤}
-use lib.ListN.{length, getD, set, length-set, length-append}
-use Rattle.basis.specs.Lists.{count}
-use Rattle.basis.specs.Pick.{pick}
-use Rattle.basis.proofs.Cases.{picked, lt-or-ge}
-use Rattle.basis.proofs.Both.{both-first}
+use Rattle.basis.proofs.Std.{ℕ, _+_, _%_, _≤_, _<_, _≡_, refl, sym, _∙_, ap, subst, Bool, true, false, List, [], _∷_, _++_, _⊎_, inl, inr, arith, eqb, ltb, lit≤, length, getD, set, length-set, count, pick, picked, lt-or-ge, both-first}
 use Rattle.identity.specs.declared.Identity.{Identity}
 use Rattle.identity.specs.Read.{SixteenBytes}
 use Rattle.identity.specs.Version.{version4Of}
-use Rattle.label.specs.Label.{textOf}
 use Rattle.entry.specs.declared.Entry.{Entry}
 use Rattle.names.specs.Names.{nameOf, IsReason}
 use Rattle.pool.specs.declared.Place.{Place}
@@ -24,7 +12,7 @@ use Rattle.pool.specs.declared.Wanted.the-variants.{Unsent}
 use Rattle.pool.specs.declared.Spot.{Spot}
 use Rattle.pool.specs.declared.Sought.{Sought as Searched}
 use Rattle.pool.specs.declared.Sought.the-variants.{Found as FoundEntry, Nothing as NoEntry}
-use Rattle.pool.specs.Places.{noPlace, of, fits, soughtAt}
+use Rattle.pool.specs.Places.{of, fits, soughtAt}
 use Rattle.pool.specs.Pool.{oldestUnsent}
 use Rattle.pool_laws.proofs.Inv.{of-used}
 use Rattle.pool_laws.proofs.Oldest.{Oldest, the-oldest, no-oldest}
@@ -33,7 +21,6 @@ use Rattle.link.specs.declared.Due.the-variants.{Nothing, Version, Watchdog, Ag
 use Rattle.link.specs.declared.Role.{Role}
 use Rattle.link.specs.declared.Role.the-variants.{Primary, Secondary}
 use Rattle.link.specs.Steps.{fullOf, closesOf}
-use Rattle.alarm.specs.declared.Order.{Order as Change}
 use Rattle.write_message.specs.Message.{Message}
 use Rattle.write_message.specs.Message.Message.{ack, notAck}
 use Rattle.write_message.specs.Listing.{bytesOf}
@@ -61,28 +48,26 @@ use Rattle.packet_lookup.specs.declared.Sought.the-variants.{Is, Nothing as NoS
 use Rattle.packet_lookup.specs.declared.SoughtAlarm.{SoughtAlarm}
 use Rattle.packet_lookup.specs.declared.SoughtAlarm.the-variants.{Alarm as AnAlarm, NoComponent, NoAlarm}
 use Rattle.packet_lookup.specs.Sought.{componentSought, alarmSought, allStatuses}
-use Rattle.send_message.specs.Sending.{alarmMessage, aggregatedMessage, heldState, alarmTold, aggregatedTold, heldValue, statusTold, entryMessage}
+use Rattle.send_message.specs.Sending.{alarmMessage, aggregatedMessage, entryMessage}
 use Rattle.site.specs.declared.Site.{Site}
 use Rattle.site.specs.Site.{roleOf, linkAt}
-use Rattle.site.specs.Parts.{alarmRowAt, statusRowAt}
 use Rattle.site.specs.Call.{Command, Plan}
 use Rattle.call_pump.specs.Pump.{isHeld, Below, dueAt, entryPlan, planFor, pumpPlan}
 use Rattle.call_pump.proofs.Laws.{due-below}
 use Rattle.packet_answer.specs.declared.Question.{Question}
-use Rattle.packet_answer.specs.Taken.{Taken, notAcked, acked, handing, replied, byVerdict, unlessBusy, missingElement, badValue, rsmpVersion, siteId, sxlVersion, busy, unknownComponent, unknownAlarm, unknownStatus, unknownCommand}
+use Rattle.packet_answer.specs.Taken.{Taken, notAcked, handing, replied, byVerdict, unlessBusy, missingElement, badValue, rsmpVersion, siteId, sxlVersion, busy, unknownComponent, unknownAlarm, unknownStatus, unknownCommand}
 use Rattle.packet_greet.specs.Answered.{answeredPlan}
 use Rattle.packet_greet.specs.Version.{own, versionJudged, versionTaken}
 use Rattle.packet_greet.specs.Watchdog.{beat, watchdogTaken}
 use Rattle.packet_subscribe.specs.Subscribing.{changed, judged, asked, subscribingTaken}
 use Rattle.packet_alarm.specs.Orders.{changeTaken, isZero, requestBy, requestTaken, ordered, orderedOf, foundTaken, alarmTaken, aggregatedOf, aggregatedTaken}
-use Rattle.packet_status.specs.StatusReply.{toldTo, passes, response, requestedOf, statusTaken}
-use Rattle.packet_command.specs.Commanding.{keepsRanges, commandsOf, orderedOf as commandedOf, commandTaken}
-use Rattle.packet_command.specs.Commanding.{passes as allThere, response as commandResponse}
+use Rattle.packet_status.specs.StatusReply.{passes, response, requestedOf, statusTaken}
+use Rattle.packet_command.specs.Commanding.{keepsRanges, commandsOf, orderedOf as commandedOf, commandTaken, passes as allThere, response as commandResponse}
 use Rattle.call_laws.specs.Sound.{EachHeld, EntryOf, SoundAt}
 use Rattle.call_laws.proofs.Held.{held-at}
 use Rattle.call_laws.proofs.Parts.{each-set}
 use Rattle.call_laws.proofs.Found.{AlarmBelow, alarm-below}
-use Rattle.call_laws.specs.Formedness.{allBytes, Sendable, Plans}
+use Rattle.call_laws.specs.Formedness.{Sendable, Plans}
 use Rattle.call_laws.proofs.Tells.{version-formed, alarm-formed, aggregated-formed, entry-formed}
 use Rattle.call_laws.proofs.Entries.{GoodFields, fields-good, told-to, told-length}
 use Rattle.call_laws.proofs.Commands.{GoodCommands, commands-good, told-commands, commands-length}

@@ -1,18 +1,13 @@
 -- The rows of the table of a sound site, as they are kept.
 -- Assumes nothing.
-use Prim.Native.Nat.{ℕ, zero, suc, _≤_, _<_}
-use mathlib.Core.Path.{_≡_, refl, sym, _∙_, ap, subst}
-use mathlib.Core.Bool.{true}
-use mathlib.Core.List.{List, [], _∷_}
-use native.Mathlib.Omega.{arith}
-use lib.ListN.{length, getD}
+use Rattle.basis.proofs.Std.{ℕ, zero, suc, _<_, _≡_, sym, _∙_, ap, subst, true, List, [], _∷_, arith, length, getD}
 use Rattle.number.specs.Alphabet.{isLabel}
 use Rattle.label.specs.Label.{labelOf, noLabel, textOf}
 use Rattle.table_item.specs.Item.{noItem}
 use Rattle.table_whole.specs.declared.SiteTable.{SiteTable}
-use Rattle.table_whole.specs.Table.{Row, noRow}
-use Rattle.table_whole.specs.Allowed.{Every, IsString, IsAlarm, IsStatus}
-use Rattle.table_whole.specs.Allowed.Every.{none, more}
+use Rattle.table_whole.specs.Table.{noRow}
+use Rattle.table_whole.specs.Allowed.{Every, IsAlarm, IsStatus}
+use Rattle.table_whole.specs.Allowed.Every.{more}
 use Rattle.table_whole.specs.Memory.{itemOf}
 use Rattle.table_whole.proofs.Kept.{text-label, kept-text, kept-item}
 use Rattle.write_laws.specs.Formed.{Label}

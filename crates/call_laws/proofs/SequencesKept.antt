@@ -1,11 +1,6 @@
 -- Every call keeps a site sound, and so does every sequence.
 -- Assumes nothing.
-use Prim.Native.Nat.{ℕ, _%_}
-use mathlib.Core.Path.{_≡_, refl, sym, _∙_, ap}
-use mathlib.Core.Bool.{Bool}
-use mathlib.Core.List.{List, [], _∷_}
-use lib.Dec.{lit≤}
-use lib.ListN.{length}
+use Rattle.basis.proofs.Std.{ℕ, _%_, _≡_, refl, sym, _∙_, ap, Bool, List, [], _∷_, lit≤, length}
 use Rattle.answer.specs.declared.Refusal.{Refusal}
 use Rattle.answer.specs.declared.Report.{Report}
 use Rattle.answer.specs.declared.Answer.the-variants.{Done}

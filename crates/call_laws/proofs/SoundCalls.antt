@@ -1,13 +1,10 @@
 -- Connect, disconnect, the three inputs and tick keep a site sound.
 -- Assumes nothing.
-use Prim.Native.Nat.{ℕ}
-use mathlib.Core.Path.{_≡_}
-use borrow.Author.Tests.{leb-false}
+use Rattle.basis.proofs.Std.{leb-false}
 use Rattle.call_link.specs.Connect.{connectRefuses, connectPlan, disconnectRefuses, disconnectPlan}
 use Rattle.call_input.specs.Inputs.{alarmRefuses, alarmPlan, statusRefuses, statusPlan, aggregatedRefuses, aggregatedPlan}
 use Rattle.call_tick.specs.Tick.{tickRefuses, tickPlan}
-use Rattle.call_laws.proofs.SoundKept.{an-item, in-time, at-time}
-use Rattle.call_laws.proofs.SoundKept.{kept as keeps}
+use Rattle.call_laws.proofs.SoundKept.{an-item, in-time, at-time, kept as keeps}
 use Rattle.call_laws.specs.SoundCalls.{Calls}
 use Rattle.call_laws.proofs.Inputs.{connect-plan, disconnect-plan, alarm-plan, status-plan, aggregated-plan}
 use Rattle.call_laws.proofs.Ticks.{tick-plan}

@@ -1,10 +1,6 @@
 -- What holds of the records of every place holds of all of them; a record under another number is as sound.
 -- Assumes nothing.
-use Prim.Native.Nat.{ℕ, zero, suc, _≤_, _<_}
-use mathlib.Core.Path.{_≡_, refl}
-use mathlib.Core.Bool.{Bool, true, false}
-use mathlib.Core.List.{List, [], _∷_, _++_}
-use native.Mathlib.Omega.{arith}
+use Rattle.basis.proofs.Std.{ℕ, zero, suc, _≤_, _<_, _≡_, refl, Bool, true, false, List, [], _∷_, _++_, arith}
 use Rattle.entry.specs.declared.Entry.{Entry}
 use Rattle.entry.specs.Valid.{OfKind}
 use Rattle.entry.specs.Valid.OfKind.{an-alarm, a-status, an-aggregated}

@@ -1,21 +1,12 @@
 -- Every call whose plan is sound leaves a sound site.
 -- Assumes nothing.
-use Prim.Native.Nat.{ℕ, _+_, _≤_, _<_}
-use mathlib.Core.Path.{_≡_, refl, sym, _∙_, ap, subst}
-use mathlib.Core.Bool.{Bool, true, false, true≢false}
-use mathlib.Core.List.{List, [], _∷_}
-use native.Mathlib.Omega.{arith}
-use lib.Dec.{ltb}
-use lib.ListN.{length}
-use borrow.Author.Tests.{ltb-false, lt-ltb}
-use Rattle.basis.specs.Pick.{pick, both}
+use Rattle.basis.proofs.Std.{ℕ, _+_, _≤_, _≡_, refl, sym, _∙_, subst, Bool, true, false, true≢false, List, [], _∷_, arith, ltb, length, ltb-false, lt-ltb, pick, both}
 use Rattle.answer.specs.declared.Refusal.{Refusal}
-use Rattle.answer.specs.declared.Refusal.the-variants.{NoSuchLink, NoSuchItem, ShortOutput, LongPacket, BadTime, WrongPhase, Ignored, NothingDue, ManyAwaited, IdentityAwaited, SequenceSpent}
-use Rattle.answer.specs.declared.Report.{Report}
+use Rattle.answer.specs.declared.Refusal.the-variants.{NoSuchLink, NoSuchItem, BadTime, SequenceSpent}
 use Rattle.answer.specs.declared.Answer.{Answer}
 use Rattle.answer.specs.declared.Answer.the-variants.{Done, Refused}
 use Rattle.answer.specs.Order.{inOrder, None}
-use Rattle.answer.specs.Order.None.{none, more}
+use Rattle.answer.specs.Order.None.{more}
 use Rattle.answer.specs.Times.{lastTime}
 use Rattle.entry.specs.declared.Entry.{Entry}
 use Rattle.pool.specs.declared.Pool.{Pool}

@@ -1,10 +1,7 @@
 -- Pump and what every kind of packet comes to keep a site sound.
 -- Assumes nothing.
-use Prim.Native.Nat.{ℕ}
-use mathlib.Core.Path.{_≡_}
 use Rattle.call_pump.specs.Pump.{pumpRefuses, pumpPlan}
-use Rattle.call_laws.proofs.SoundKept.{in-time, at-time}
-use Rattle.call_laws.proofs.SoundKept.{kept as keeps}
+use Rattle.call_laws.proofs.SoundKept.{in-time, at-time, kept as keeps}
 use Rattle.call_laws.specs.SoundPackets.{Packets}
 use Rattle.call_laws.proofs.Sends.{pump-plan}
 use Rattle.call_laws.proofs.Taken.{not-acked, answered-plan, version-sound, watchdog-sound, alarm-sound, aggregated-sound, status-sound, command-sound}

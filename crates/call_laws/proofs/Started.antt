@@ -1,13 +1,6 @@
 -- A site that start made is sound.
 -- Assumes nothing.
-use Prim.Native.Nat.{ℕ, _+_, _*_, _≤_, _<_}
-use mathlib.Core.Path.{_≡_, refl, sym, ap, subst}
-use mathlib.Core.Logic.{_⊎_, inl, inr}
-use native.Mathlib.Omega.{arith}
-use lib.Dec.{lit<, lit≤}
-use lib.ListN.{length-replicate}
-use borrow.Author.Tests.{lt-ltb}
-use Rattle.basis.specs.Pick.{pick}
+use Rattle.basis.proofs.Std.{ℕ, _+_, _*_, _≤_, _<_, _≡_, refl, ap, _⊎_, inl, inr, arith, lit<, lit≤, length-replicate, lt-ltb}
 use Rattle.answer.specs.declared.Answer.{Answer}
 use Rattle.answer.specs.declared.Answer.the-variants.{Done, Refused}
 use Rattle.alarm.specs.Alarm.{beginning}
@@ -19,7 +12,7 @@ use Rattle.table_whole.specs.Table.{Table}
 use Rattle.table_whole.specs.Allowed.{Allowed}
 use Rattle.table_whole.specs.Memory.{memoryOf}
 use Rattle.call_start.specs.Fresh.{fresh, primaryOf}
-use Rattle.call_start.specs.Starts.{Within, Starts}
+use Rattle.call_start.specs.Starts.{Within}
 use Rattle.call_start.specs.Starts.Starts.{starts, refuses}
 use Rattle.call_laws.specs.Sound.{SoundAlarm, SoundStatus, EntryOf, Sound}
 use Rattle.call_laws.specs.SoundPlans.{Started}

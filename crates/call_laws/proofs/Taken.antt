@@ -1,13 +1,6 @@
 -- What every kind of packet but the subscribing ones comes to is a sound plan.
 -- Assumes nothing.
-use Prim.Native.Nat.{ℕ, _/_, _%_, _<_}
-use mathlib.Core.Path.{_≡_, refl}
-use mathlib.Core.Bool.{Bool, true, false}
-use mathlib.Core.List.{List, []}
-use borrow.Author.Tests.{ltb-true}
-use Rattle.basis.specs.Pick.{pick, both}
-use Rattle.basis.proofs.Cases.{picked}
-use Rattle.basis.proofs.Both.{both-true}
+use Rattle.basis.proofs.Std.{ℕ, _/_, _%_, _<_, Bool, List, [], ltb-true, pick, both, picked, both-true}
 use Rattle.identity.specs.declared.Identity.{Identity}
 use Rattle.awaited.specs.declared.Purpose.{Purpose}
 use Rattle.awaited.specs.declared.Purpose.the-variants.{Version, Watchdog, Entry, Other}
@@ -35,24 +28,22 @@ use Rattle.read_commands.specs.declared.CommandFields.{CommandFields}
 use Rattle.read_versions.specs.declared.Judged.{Judged}
 use Rattle.read_versions.specs.declared.Judged.the-variants.{Chosen, RsmpVersion, SiteId, SxlVersion}
 use Rattle.read_versions.specs.Judge.{judge}
-use Rattle.packet_lookup.specs.declared.Sought.{Sought}
 use Rattle.packet_lookup.specs.declared.SoughtAlarm.{SoughtAlarm}
 use Rattle.packet_lookup.specs.declared.SoughtAlarm.the-variants.{Alarm, NoComponent, NoAlarm}
 use Rattle.packet_lookup.specs.Sought.{componentSought, alarmSought}
 use Rattle.send_message.specs.Sending.{alarmMessage, aggregatedMessage}
 use Rattle.site.specs.declared.Site.{Site}
-use Rattle.site.specs.Site.{roleOf, linkAt, withLink, closeAt, maskOf, hasPrimary}
+use Rattle.site.specs.Site.{roleOf, linkAt, hasPrimary}
 use Rattle.site.specs.Parts.{alarmAt}
-use Rattle.site.specs.Call.{Command, Plan, only}
+use Rattle.site.specs.Call.{Command}
 use Rattle.packet_answer.specs.declared.Question.{Question}
-use Rattle.packet_answer.specs.Taken.{Taken, notAcked, closing, acked, handing, replied, byVerdict, unlessBusy, badValue, rsmpVersion, siteId, sxlVersion, unknownComponent, unknownAlarm, unknownStatus, unknownCommand, busy}
+use Rattle.packet_answer.specs.Taken.{Taken, notAcked, closing, handing, replied, byVerdict, unlessBusy, badValue, rsmpVersion, siteId, sxlVersion, unknownComponent, unknownAlarm, unknownStatus, unknownCommand, busy}
 use Rattle.packet_greet.specs.Answered.{settledFor, settled, answeredPlan}
 use Rattle.packet_greet.specs.Version.{own, versionJudged, versionTaken}
 use Rattle.packet_greet.specs.Watchdog.{beat, watchdogTaken}
 use Rattle.packet_alarm.specs.Orders.{changeTaken, isZero, requestBy, requestTaken, ordered, orderedOf, foundTaken, alarmTaken, aggregatedOf, aggregatedTaken}
 use Rattle.packet_status.specs.StatusReply.{passes, response, requestedOf, statusTaken}
-use Rattle.packet_command.specs.Commanding.{keepsRanges, commandsOf, orderedOf as commandedOf, commandTaken}
-use Rattle.packet_command.specs.Commanding.{passes as allThere, response as commandResponse}
+use Rattle.packet_command.specs.Commanding.{keepsRanges, commandsOf, orderedOf as commandedOf, commandTaken, passes as allThere, response as commandResponse}
 use Rattle.call_laws.specs.Sound.{EntryOf, SoundAt}
 use Rattle.call_laws.specs.SoundPlans.{SoundPlan}
 use Rattle.call_laws.proofs.Held.{held-settle}

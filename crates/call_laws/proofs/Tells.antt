@@ -1,24 +1,13 @@
 -- The messages that tell a part of a sound site are well-formed.
 -- Assumes nothing.
-use Prim.Native.Nat.{ℕ, _%_, _^_, _≤_, _<_}
-use mathlib.Core.Path.{_≡_, refl, sym, _∙_, ap, subst}
-use mathlib.Core.Bool.{Bool, true, false}
-use mathlib.Core.List.{List, [], _∷_}
-use native.Mathlib.Omega.{arith}
-use native.Mathlib.Nat.{mod-lt}
-use lib.Dec.{eqb, lit<}
-use lib.ListN.{length, getD}
-use Rattle.basis.specs.Pick.{pick}
-use Rattle.basis.proofs.Cases.{picked}
+use Rattle.basis.proofs.Std.{ℕ, _^_, _≤_, _<_, _≡_, sym, subst, Bool, true, false, List, arith, mod-lt, eqb, lit<, length, getD, pick, picked}
 use Rattle.label.specs.Label.{textOf}
 use Rattle.table_item.specs.declared.Item.{Item}
-use Rattle.number.specs.Signed.{signedOf}
 use Rattle.number.proofs.RoundTrip.{signed-range}
 use Rattle.identity.specs.Read.{SixteenBytes}
 use Rattle.entry.specs.declared.Entry.{Entry}
 use Rattle.entry.specs.Flags.{eventOf, isKnown, isOld}
-use Rattle.entry.specs.Valid.{OfKind}
-use Rattle.entry.specs.Valid.{Alarm as AnAlarm, Status as AStatus, Aggregated as AnAggregated}
+use Rattle.entry.specs.Valid.{OfKind, Alarm as AnAlarm, Status as AStatus}
 use Rattle.entry.specs.Valid.OfKind.{an-alarm, a-status, an-aggregated}
 use Rattle.entry.proofs.ValidLaws.{alarm-flags}
 use Rattle.status.specs.declared.Status.{Status}
@@ -29,7 +18,7 @@ use Rattle.write_message.specs.declared.AlarmState.{AlarmState}
 use Rattle.write_message.specs.declared.Value.{Value}
 use Rattle.write_message.specs.declared.Value.the-variants.{Unknown}
 use Rattle.write_message.specs.Message.Message.{version}
-use Rattle.write_laws.specs.Formed.{Label, FormedState, FormedValue, FormedStatus, Formed}
+use Rattle.write_laws.specs.Formed.{Label, FormedState, FormedValue, Formed}
 use Rattle.write_laws.specs.Formed.FormedValue.{recent, old, unknown}
 use Rattle.write_laws.specs.Formed.FormedStatuses.{none, more}
 use Rattle.write_laws.specs.Formed.Formed.{formed-version, formed-alarm, formed-aggregated, formed-statuses}

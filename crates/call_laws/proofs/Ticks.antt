@@ -1,14 +1,6 @@
 -- The plan of tick is sound.
 -- Assumes nothing.
-use Prim.Native.Nat.{ℕ, zero, suc, _+_, _*_, _/_, _%_, _≤_, _<_}
-use mathlib.Core.Path.{_≡_, refl, sym, _∙_, ap, subst}
-use mathlib.Core.Bool.{Bool, true, false, true≢false}
-use mathlib.Core.List.{List, [], _∷_, map}
-use mathlib.Core.Logic.{_⊎_, inl, inr}
-use native.Mathlib.Omega.{arith}
-use lib.ListN.{length, getD, length-map, List·getD-map}
-use Rattle.basis.proofs.Cases.{picked, lt-or-ge}
-use Rattle.entry.specs.declared.Entry.{Entry}
+use Rattle.basis.proofs.Std.{ℕ, zero, suc, _+_, _*_, _/_, _%_, _≤_, _<_, _≡_, refl, sym, _∙_, ap, subst, true, false, true≢false, List, map, _⊎_, inl, inr, arith, getD, length-map, List·getD-map, picked, lt-or-ge}
 use Rattle.subscription.specs.declared.Subscription.{Subscription}
 use Rattle.subscription.specs.Subscription.{none, dueAt, tickOf}
 use Rattle.site.specs.declared.Site.{Site}

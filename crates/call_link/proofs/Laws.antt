@@ -1,8 +1,6 @@
 -- Connect and disconnect, one condition after the other.
 -- Assumes nothing.
-use Prim.Native.Nat.{ℕ}
-use mathlib.Core.Path.{_≡_, refl}
-use mathlib.Core.Bool.{true, false}
+use Rattle.basis.proofs.Std.{ℕ, _≡_, refl, true, false}
 use Rattle.pool_laws.specs.Batch.{beginning}
 use Rattle.answer.specs.declared.Refusal.the-variants.{NoSuchLink, BadTime, WrongPhase}
 use Rattle.link.specs.Steps.{connectOf}

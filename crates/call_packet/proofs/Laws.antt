@@ -1,11 +1,6 @@
 -- From what one part of the call gives to what the packet comes to: the words are ws, the site's table is t.
 -- Assumes nothing.
-use Prim.Native.Nat.{ℕ}
-use mathlib.Core.Path.{_≡_, refl}
-use mathlib.Core.Bool.{Bool, true, false}
-use mathlib.Core.List.{List, []}
-use Rattle.basis.specs.Pick.{pick}
-use Rattle.basis.proofs.Cases.{picked}
+use Rattle.basis.proofs.Std.{ℕ, _≡_, refl, Bool, true, false, List, [], pick, picked}
 use Rattle.answer.specs.declared.Refusal.{Refusal}
 use Rattle.answer.specs.declared.Refusal.the-variants.{NoSuchLink, ShortOutput, LongPacket, BadTime, WrongPhase, Ignored}
 use Rattle.answer.specs.declared.Answer.{Answer}

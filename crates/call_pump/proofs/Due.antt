@@ -1,12 +1,6 @@
 -- What is due on a link of the site, in document 01's order.
 -- Assumes nothing.
-use Prim.Native.Nat.{ℕ}
-use mathlib.Core.Path.{_≡_, refl, ap}
-use mathlib.Core.Bool.{Bool, true, false}
-use native.Mathlib.Omega.{arith}
-use lib.Dec.{eqb}
-use borrow.Author.Tests.{eq-eqb, eqb-true}
-use Rattle.basis.specs.Pick.{pick}
+use Rattle.basis.proofs.Std.{ℕ, _≡_, refl, ap, Bool, true, false, arith, eqb, eq-eqb, eqb-true, pick}
 use Rattle.pool.specs.Pool.{oldestUnsent}
 use Rattle.link.specs.declared.Role.the-variants.{Primary, Secondary}
 use Rattle.link.specs.Promises.{Order}

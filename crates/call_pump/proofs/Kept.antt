@@ -1,12 +1,6 @@
 -- The claims are kept.
 -- Assumes nothing.
-use Prim.Native.Nat.{ℕ, _+_, _%_, _≤_}
-use native.Mathlib.Nat.{zero-add}
-use native.Mathlib.Omega.{arith}
-use mathlib.Core.Path.{_≡_, refl, sym, ap, subst, _∙_}
-use mathlib.Core.Bool.{Bool}
-use mathlib.Core.List.{List, [], _∷_, append-nil}
-use lib.ListN.{length}
+use Rattle.basis.proofs.Std.{ℕ, _+_, _%_, _≤_, zero-add, arith, _≡_, refl, sym, ap, subst, _∙_, Bool, List, [], _∷_, append-nil, length}
 use Rattle.answer.specs.declared.Refusal.{Refusal}
 use Rattle.answer.specs.declared.Report.{Report}
 use Rattle.answer.specs.declared.Answer.{Answer}

@@ -1,16 +1,6 @@
 -- The plan by what is due.
 -- Assumes nothing.
-use Prim.Native.Nat.{ℕ, _+_, _*_, _≤_}
-use mathlib.Core.Path.{_≡_, refl, ap, subst, _∙_}
-use mathlib.Core.Bool.{Bool, true}
-use mathlib.Core.List.{[], _∷_}
-use native.Mathlib.Omega.{arith}
-use lib.Dec.{ltb, leb}
-use lib.ListN.{length}
-use borrow.Author.Tests.{eq-eqb, eqb-true}
-use Rattle.basis.specs.Pick.{pick}
-use Rattle.basis.proofs.Cases.{bool-cases, picked}
-use Rattle.basis.proofs.Both.{both-true}
+use Rattle.basis.proofs.Std.{ℕ, _+_, _*_, _≤_, _≡_, refl, ap, subst, _∙_, Bool, true, [], _∷_, arith, ltb, leb, length, eq-eqb, eqb-true, pick, bool-cases, picked, both-true}
 use Rattle.answer.specs.Given.Hint.{none}
 use Rattle.identity.specs.declared.Identity.{Identity}
 use Rattle.pool.specs.declared.Place.{Place}

@@ -1,12 +1,6 @@
 -- The checks are the seven conditions, both ways.
 -- Assumes nothing.
-use Prim.Native.Nat.{ℕ, _<_}
-use mathlib.Core.Path.{_≡_, refl, sym, ap, _∙_}
-use mathlib.Core.Bool.{Bool, true, false}
-use lib.Dec.{ltb, leb}
-use borrow.Author.Tests.{lt-ltb, le-ltb, lt-leb, ltb-false, leb-false}
-use Rattle.basis.specs.Pick.{pick}
-use Rattle.basis.proofs.Both.{untrue, not-both}
+use Rattle.basis.proofs.Std.{ℕ, _<_, _≡_, refl, sym, ap, _∙_, Bool, true, false, ltb, leb, lt-ltb, le-ltb, lt-leb, ltb-false, leb-false, pick, untrue, not-both}
 use Rattle.answer.specs.declared.Report.{Report}
 use Rattle.answer.specs.declared.Answer.{Answer}
 use Rattle.answer.specs.declared.Answer.the-variants.{Done}

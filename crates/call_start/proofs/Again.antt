@@ -1,14 +1,6 @@
 -- What start left is read again: the site that it made, of the table that it was given.
 -- Assumes nothing.
-use Prim.Native.Nat.{ℕ, zero, suc, _<_}
-use mathlib.Core.Path.{_≡_, refl, sym, ap, ap₂, subst, _∙_}
-use mathlib.Core.Bool.{true, true≢false}
-use mathlib.Core.List.{List}
-use native.Mathlib.Omega.{arith}
-use lib.Dec.{ltb}
-use lib.ListN.{getD, replicate, getD-replicate}
-use borrow.Author.Tests.{ltb-true}
-use Rattle.basis.proofs.Cases.{bool-cases}
+use Rattle.basis.proofs.Std.{ℕ, zero, suc, _<_, _≡_, refl, sym, ap, ap₂, subst, _∙_, true, true≢false, List, arith, ltb, getD, replicate, getD-replicate, ltb-true, bool-cases}
 use Rattle.answer.specs.declared.Answer.{Answer}
 use Rattle.answer.specs.Number.{isDone}
 use Rattle.awaited.specs.Awaited.{nothingAwaited}

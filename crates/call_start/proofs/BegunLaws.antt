@@ -1,10 +1,6 @@
 -- What start leaves in the words and in the table's bytes.
 -- Assumes nothing.
-use Prim.Native.Nat.{ℕ}
-use mathlib.Core.Path.{_≡_, refl, sym, ap, subst, _∙_}
-use mathlib.Core.Bool.{true, false, true≢false}
-use mathlib.Core.List.{List}
-use lib.ListN.{length, replicate}
+use Rattle.basis.proofs.Std.{ℕ, _≡_, refl, sym, ap, subst, _∙_, true, false, true≢false, List, length, replicate}
 use Rattle.answer.specs.declared.Refusal.{Refusal}
 use Rattle.answer.specs.declared.Refusal.the-variants.{NotAccepted}
 use Rattle.answer.specs.declared.Answer.{Answer}

@@ -1,13 +1,6 @@
 -- The values that start takes are those within their limits.
 -- Assumes nothing.
-use Prim.Native.Nat.{ℕ, _≤_, _<_}
-use mathlib.Core.Path.{_≡_, refl}
-use mathlib.Core.Bool.{true, false}
-use mathlib.Core.Logic.{_⊎_, inl, inr}
-use lib.Dec.{leb, ltb}
-use borrow.Author.Tests.{ltb-true, leb-true, eqb-true, lt-ltb, le-leb, eq-eqb}
-use Rattle.basis.proofs.Cases.{bool-cases}
-use Rattle.basis.proofs.Both.{both-true, both-of}
+use Rattle.basis.proofs.Std.{ℕ, _≤_, _<_, _≡_, refl, true, false, _⊎_, inl, inr, leb, ltb, ltb-true, leb-true, eqb-true, lt-ltb, le-leb, eq-eqb, bool-cases, both-true, both-of}
 use Rattle.answer.specs.Times.{lastTime}
 use Rattle.call_start.specs.Starts.{Within}
 use Rattle.call_start.specs.Making.{aLinkOrNone, valuesWithin, isWithin}

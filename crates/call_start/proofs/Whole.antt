@@ -1,13 +1,7 @@
 -- Start is what document 01 says of it, and there is one result for each input.
 -- Assumes nothing.
-use Prim.Native.Nat.{ℕ}
-use mathlib.Core.Path.{_≡_, refl, sym, ap, subst, _∙_}
-use mathlib.Core.Bool.{Bool, true, false, true≢false}
-use mathlib.Core.List.{List}
-use Rattle.basis.specs.Pick.{pick}
-use Rattle.basis.proofs.Cases.{bool-cases}
+use Rattle.basis.proofs.Std.{ℕ, _≡_, refl, sym, ap, subst, _∙_, true, false, true≢false, List, bool-cases}
 use Rattle.answer.specs.declared.Answer.the-variants.{Done}
-use Rattle.table_whole.specs.declared.SiteTable.{SiteTable}
 use Rattle.table_whole.specs.declared.TableRead.{TableRead}
 use Rattle.table_whole.specs.Reads.{Reads}
 use Rattle.table_whole.specs.Reads.Reads.{reads, refuses as no-table}

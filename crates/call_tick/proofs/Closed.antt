@@ -1,11 +1,6 @@
 -- Closing upwards: what becomes of each link and of the rest of the site.
 -- Assumes nothing.
-use Prim.Native.Nat.{ℕ, zero, suc, _≤_}
-use mathlib.Core.Path.{_≡_, refl, _∙_}
-use mathlib.Core.Bool.{Bool, true, false}
-use native.Mathlib.Omega.{arith}
-use lib.Seq.{getD-set-other}
-use Rattle.basis.specs.Pick.{pick}
+use Rattle.basis.proofs.Std.{ℕ, zero, suc, _≤_, _≡_, refl, _∙_, Bool, true, false, arith, getD-set-other, pick}
 use Rattle.link.specs.Fields.{closedLink}
 use Rattle.site.specs.declared.Site.{Site}
 use Rattle.site.specs.Site.{linkAt, closeAt}

@@ -1,12 +1,6 @@
 -- A tick in place: links closed, then records issued, then subscriptions renewed.
 -- Assumes nothing.
-use Prim.Native.Nat.{ℕ, _+_, _/_, _%_, _<_}
-use mathlib.Core.Path.{_≡_, refl, sym, ap, _∙_}
-use mathlib.Core.Bool.{true, false}
-use mathlib.Core.List.{List, [], _∷_, map}
-use native.Mathlib.Omega.{arith}
-use lib.ListN.{length, getD, set}
-use Rattle.basis.specs.Pick.{bit}
+use Rattle.basis.proofs.Std.{ℕ, _+_, _/_, _%_, _<_, _≡_, refl, sym, ap, _∙_, true, false, List, [], _∷_, map, arith, length, getD, set, bit}
 use Rattle.entry.specs.declared.Entry.{Entry}
 use Rattle.link.specs.declared.Link.{Link}
 use Rattle.link.specs.Fields.{closedLink}

@@ -1,9 +1,6 @@
 -- A call that number 5 alone can refuse, besides what its records refuse; so a tick.
 -- Assumes nothing.
-use Prim.Native.Nat.{ℕ}
-use mathlib.Core.Path.{_≡_, refl, sym, _∙_}
-use mathlib.Core.Bool.{Bool, true, false}
-use Rattle.basis.specs.Pick.{pick}
+use Rattle.basis.proofs.Std.{ℕ, _≡_, refl, sym, _∙_, Bool, true, false, pick}
 use Rattle.answer.specs.declared.Refusal.the-variants.{BadTime, SequenceSpent}
 use Rattle.answer.specs.declared.Report.{Report}
 use Rattle.answer.specs.declared.Answer.the-variants.{Done, Refused}

@@ -1,10 +1,6 @@
 -- A link's bit is at most 8.
 -- Assumes nothing.
-use Prim.Native.Nat.{ℕ, _≤_}
-use mathlib.Core.Bool.{Bool, true, false}
-use native.Mathlib.Omega.{arith}
-use lib.Dec.{eqb}
-use Rattle.basis.specs.Pick.{pick}
+use Rattle.basis.proofs.Std.{ℕ, _≤_, Bool, true, false, arith, eqb, pick}
 use Rattle.site.specs.declared.Site.{Site}
 use Rattle.site.specs.Site.{maskOf}
 use Rattle.call_tick.specs.Closing.{lateAt, lateMask}

@@ -1,8 +1,6 @@
 -- Where the loop over the places ends.
 -- Assumes nothing.
-use Prim.Native.Nat.{ℕ}
-use mathlib.Core.Path.{_≡_, ap}
-use mathlib.Core.List.{List}
+use Rattle.basis.proofs.Std.{ℕ, _≡_, ap, List}
 use Rattle.link.specs.declared.Link.{Link}
 use Rattle.status.specs.declared.Status.{Status}
 use Rattle.subscription.specs.declared.Subscription.{Subscription}

@@ -1,10 +1,6 @@
 -- The bytes of a site table say its edition.
 -- Assumes nothing.
-use Prim.Native.Nat.{ℕ, _+_, _*_, _/_}
-use mathlib.Core.Path.{_≡_, refl, sym, ap, _∙_}
-use mathlib.Core.List.{List}
-use native.Mathlib.Omega.{arith}
-use lib.ListN.{length, getD}
+use Rattle.basis.proofs.Std.{ℕ, _/_, _≡_, sym, ap, _∙_, List, arith, getD}
 use Rattle.table_whole.specs.Table.{Table}
 use Rattle.table_whole.specs.Bytes.{tableHead, tableBytes}
 use Rattle.table_whole.specs.Allowed.{EditionOf, Allowed}

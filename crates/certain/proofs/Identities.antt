@@ -1,12 +1,6 @@
 -- A text is the identity of these bytes where the reader finds them.
 -- Assumes nothing.
-use Prim.Native.Nat.{ℕ}
-use mathlib.Core.Path.{_≡_, refl, ap, subst, _∙_}
-use mathlib.Core.Bool.{true}
-use mathlib.Core.List.{List}
-use Rattle.basis.specs.Lists.{sameBytes}
-use Rattle.basis.proofs.Same.{same-true, same-self}
-use Rattle.basis.proofs.Both.{not-both}
+use Rattle.basis.proofs.Std.{ℕ, _≡_, refl, ap, subst, _∙_, true, List, sameBytes, same-true, same-self, not-both}
 use Rattle.identity.specs.declared.ReadIdentity.{ReadIdentity}
 use Rattle.identity.specs.Hex.{lowered}
 use Rattle.identity.specs.Text.{identityText}

@@ -1,8 +1,6 @@
 -- What is certain is proved.
 -- Assumes nothing.
-use mathlib.Core.Path.{_≡_}
-use mathlib.Core.List.{List}
-use Prim.Native.Nat.{ℕ}
+use Rattle.basis.proofs.Std.{List, ℕ}
 use Rattle.number.proofs.Kept.{kept as alphabet}
 use Rattle.number.proofs.RoundTrip.{signed-word}
 use Rattle.identity.proofs.Read.{answers as identity-read, read-written as identity-written}

@@ -1,17 +1,8 @@
 -- What the awaited identities of a link stand for: each that is awaited for a record for a message carrying it, unanswered; sixteen bytes; no two
 -- of one text.
 -- Assumes nothing.
-use Prim.Native.Nat.{ℕ, _+_, _≤_}
-use mathlib.Core.Path.{_≡_, refl, sym, _∙_, ap}
-use mathlib.Core.Bool.{Bool, true, false}
-use mathlib.Core.List.{List, [], _∷_, _++_}
-use mathlib.Core.Option.{some}
-use native.Mathlib.Omega.{arith}
-use Rattle.basis.specs.Lists.{sameBytes, count, Among}
+use Rattle.basis.proofs.Std.{ℕ, _≤_, _≡_, refl, sym, _∙_, ap, Bool, true, false, List, [], _∷_, _++_, some, arith, sameBytes, count, Among, bool-cases, not-both, same-true, same-self}
 use Rattle.basis.specs.Lists.Among.{later}
-use Rattle.basis.proofs.Cases.{bool-cases}
-use Rattle.basis.proofs.Both.{not-both}
-use Rattle.basis.proofs.Same.{same-true, same-self}
 use Rattle.identity.specs.Hex.{lowered}
 use Rattle.identity.specs.Text.{identityText}
 use Rattle.identity.specs.Read.{SixteenBytes, bytesOf}

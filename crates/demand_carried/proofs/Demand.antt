@@ -1,11 +1,6 @@
 -- What is awaited for a record is a message carrying it, unanswered in this life of its link, over every run.
 -- Assumes nothing.
-use Prim.Native.Nat.{ℕ}
-use mathlib.Core.Path.{_≡_, refl}
-use mathlib.Core.Bool.{false}
-use mathlib.Core.List.{List, [], _∷_}
-use mathlib.Core.Logic.{_⊎_, inl, inr}
-use native.Mathlib.Omega.{arith}
+use Rattle.basis.proofs.Std.{ℕ, _≡_, refl, false, List, [], _∷_, _⊎_, inl, inr, arith}
 use Rattle.machine.specs.State.{Issued, Awaited, Life, fresh, Start, Machine, lifeAt, Act, Call}
 use Rattle.machine.specs.State.Outcome.{refused}
 use Rattle.machine.specs.Json.{stringOf, isIdentityOf}

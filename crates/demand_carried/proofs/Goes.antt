@@ -1,21 +1,7 @@
 -- A done call keeps what a link's awaited identities stand for.
 -- Assumes nothing.
-use Prim.Native.Nat.{ℕ}
-use Prim.Native.String.{String}
-use mathlib.Core.Path.{_≡_, refl, sym, _∙_, ap}
-use mathlib.Core.Bool.{Bool, true, false}
-use mathlib.Core.List.{List, [], _∷_}
-use mathlib.Core.Option.{Option, some, none}
-use mathlib.Core.Logic.{_⊎_, inl, inr}
-use lib.Dec.{eqb}
-use lib.ListN.{getD}
-use native.Mathlib.Omega.{arith}
-use borrow.Author.Tests.{eq-eqb, ne-eqb}
-use Rattle.basis.specs.Pick.{both}
-use Rattle.basis.specs.Lists.{sameBytes, Among}
+use Rattle.basis.proofs.Std.{ℕ, String, _≡_, refl, sym, _∙_, ap, Bool, true, false, List, [], _∷_, Option, some, none, _⊎_, inl, inr, eqb, getD, arith, eq-eqb, ne-eqb, both, sameBytes, Among, bool-cases, picked, eq-or-ne, not-both}
 use Rattle.basis.specs.Lists.Among.{first, later}
-use Rattle.basis.proofs.Cases.{bool-cases, picked, eq-or-ne}
-use Rattle.basis.proofs.Both.{not-both}
 use Rattle.identity.specs.Read.{SixteenBytes}
 use Rattle.json_value.specs.Grammar.{Json}
 use Rattle.write_message.specs.Message.{Message}

@@ -1,15 +1,7 @@
 -- Laws of lists: two properties of each, the first that passes, and what is left without it.
 -- Assumes nothing.
-use Prim.Native.Nat.{ℕ, _≤_}
-use mathlib.Core.Path.{_≡_, refl}
-use mathlib.Core.Bool.{Bool, true, false}
-use mathlib.Core.List.{List, [], _∷_}
-use mathlib.Core.Option.{some, none}
-use native.Mathlib.Omega.{arith}
-use Rattle.basis.specs.Pick.{pick}
-use Rattle.basis.specs.Lists.{count, Among}
+use Rattle.basis.proofs.Std.{ℕ, _≤_, _≡_, refl, Bool, true, false, List, [], _∷_, some, none, arith, pick, count, Among, bool-cases, picked}
 use Rattle.basis.specs.Lists.Among.{first, later}
-use Rattle.basis.proofs.Cases.{bool-cases, picked}
 use Rattle.machine.specs.Words.{firstThat, butFirst}
 use Rattle.demand_held.proofs.Lists.{bit-true, bit-false, Each}
 use Rattle.demand_held.proofs.Lists.Each.{no-more, one-more}

@@ -1,18 +1,8 @@
 -- A held record is marked sent where its link awaits an answer for it, over every run.
 -- Assumes nothing.
-use Prim.Native.Nat.{ℕ, _<_}
-use Prim.Native.String.{String}
-use mathlib.Core.Path.{_≡_, refl, _∙_}
-use mathlib.Core.Bool.{Bool, true, false}
-use mathlib.Core.List.{List, [], _∷_, map}
-use mathlib.Core.Option.{Option, some, none}
-use mathlib.Core.Logic.{_⊎_, inl, inr}
-use lib.Dec.{eqb}
-use native.Mathlib.Omega.{arith}
-use borrow.Author.Tests.{not-true}
+use Rattle.basis.proofs.Std.{ℕ, _<_, String, _≡_, refl, _∙_, Bool, true, false, List, [], _∷_, map, Option, some, none, _⊎_, inl, inr, eqb, arith, not-true, picked}
 use Rattle.basis.specs.Lists.Among.{first, later}
 use Rattle.basis.proofs.Among.{among-none}
-use Rattle.basis.proofs.Cases.{picked}
 use Rattle.json_value.specs.Grammar.{Json}
 use Rattle.write_message.specs.Message.{Message}
 use Rattle.machine.specs.Words.{Bytes, butFirst, changed, firstOf}
@@ -26,27 +16,7 @@ use Rattle.machine.specs.Life.Due.{theVersion, theWatchdog, theAggregated, theA
 use Rattle.machine.specs.Answers.{isAnswer, wantsReply, reasonOf, failsCheck}
 use Rattle.machine.specs.Items.{isNew, happens, subscribe, unsubscribe, intervals, becomes, commands, aggregates}
 use Rattle.machine.specs.Pool.{settled, marked}
-use Rattle.machine.specs.Effects.{
-  connects,
-  closes,
-  late,
-  ticks,
-  ownIdentity,
-  dueMessage,
-  sentAs,
-  carried,
-  afterSending,
-  sends,
-  answerCloses,
-  acknowledges,
-  answers,
-  answered,
-  refuses,
-  carriedOut,
-  replying,
-  receives,
-  effectOf,
-}
+use Rattle.machine.specs.Effects.{connects, closes, late, ticks, ownIdentity, dueMessage, sentAs, carried, afterSending, sends, answerCloses, acknowledges, answers, answered, refuses, carriedOut, replying, receives, effectOf}
 use Rattle.machine.specs.Step.{conditions}
 use Rattle.machine.specs.Run.{Past, Run}
 use Rattle.machine.specs.Run.Run.{begun, next}

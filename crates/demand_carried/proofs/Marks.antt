@@ -1,21 +1,8 @@
 -- Marks and awaited identities say the same: what sets a life, closes a link, sends, answers and issues keeps this.
 -- Assumes nothing.
-use Prim.Native.Nat.{ℕ, zero, suc, _≤_, _<_}
-use mathlib.Core.Path.{_≡_, refl, sym, _∙_, ap, subst}
-use mathlib.Core.Bool.{Bool, true, false, not}
-use mathlib.Core.List.{List, [], _∷_, _++_, map}
-use mathlib.Core.Option.{some, none}
-use mathlib.Core.Logic.{_⊎_, inl, inr}
-use lib.Dec.{eqb, leb, ltb}
-use lib.ListN.{getD}
-use native.Mathlib.Omega.{arith}
-use borrow.Author.Tests.{eqb-true, eq-eqb, ne-eqb}
-use Rattle.basis.specs.Pick.{pick, both}
-use Rattle.basis.specs.Lists.{Among}
+use Rattle.basis.proofs.Std.{ℕ, zero, suc, _≤_, _<_, _≡_, refl, sym, _∙_, ap, subst, Bool, true, false, not, List, [], _∷_, _++_, map, some, none, _⊎_, inl, inr, eqb, leb, ltb, getD, arith, eqb-true, eq-eqb, ne-eqb, pick, both, Among, bool-cases, picked, eq-or-ne, not-both, untrue}
 use Rattle.basis.specs.Lists.Among.{first, later}
 use Rattle.basis.proofs.Among.{among-none, among-one, among-left, among-either}
-use Rattle.basis.proofs.Cases.{bool-cases, picked, eq-or-ne}
-use Rattle.basis.proofs.Both.{not-both, untrue}
 use Rattle.machine.specs.Words.{firstThat, butFirst, changed}
 use Rattle.machine.specs.State.{Issued, Held, heldAs, Pool, poolOf, Sent, Awaited, Life, fresh}
 use Rattle.machine.specs.State.Sent.{theRecord}

@@ -1,17 +1,6 @@
 -- A message that is awaited for a record is that record's, and it is held.
 -- Assumes nothing.
-use Prim.Native.Nat.{ℕ, _+_, _-_, _*_}
-use mathlib.Core.Path.{_≡_, refl, subst}
-use mathlib.Core.Bool.{true, false, not}
-use mathlib.Core.Option.{Option, some, none}
-use mathlib.Core.Logic.{_⊎_, inl, inr}
-use lib.Dec.{eqb, ltb, leb}
-use native.Mathlib.Omega.{arith}
-use borrow.Author.Tests.{eqb-true}
-use Rattle.basis.specs.Pick.{both}
-use Rattle.basis.specs.Lists.{Among}
-use Rattle.basis.proofs.Cases.{picked}
-use Rattle.basis.proofs.Both.{both-true}
+use Rattle.basis.proofs.Std.{ℕ, _+_, _-_, _*_, _≡_, refl, subst, true, false, not, Option, some, none, _⊎_, inl, inr, eqb, ltb, leb, arith, eqb-true, both, Among, picked, both-true}
 use Rattle.write_message.specs.Message.{Message}
 use Rattle.machine.specs.Words.{Bytes, maybe}
 use Rattle.machine.specs.State.{Content, issuedFor, Held, Sent, Machine, lifeAt, alarmAt}

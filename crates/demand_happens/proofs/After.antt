@@ -1,19 +1,6 @@
 -- The life of a link after a done call of it, and after a call in between.
 -- Assumes nothing.
-use Prim.Native.Nat.{ℕ, zero, suc, _≤_, _<_}
-use Prim.Native.String.{String}
-use mathlib.Core.Path.{_≡_, refl, _∙_, ap, subst}
-use mathlib.Core.Bool.{Bool, true, false}
-use mathlib.Core.List.{List, [], _∷_}
-use mathlib.Core.Option.{some, none}
-use lib.Dec.{eqb}
-use lib.ListN.{length, getD}
-use native.Mathlib.Omega.{arith}
-use borrow.Author.Tests.{eqb-true}
-use Rattle.basis.specs.Pick.{pick}
-use Rattle.basis.specs.Lists.{count}
-use Rattle.basis.proofs.Cases.{bool-cases, picked}
-use Rattle.basis.proofs.Both.{not-both}
+use Rattle.basis.proofs.Std.{ℕ, zero, suc, _≤_, _<_, String, _≡_, refl, _∙_, ap, subst, Bool, true, false, List, [], _∷_, some, none, eqb, length, getD, arith, eqb-true, pick, count, bool-cases, picked, not-both}
 use Rattle.json_value.specs.Grammar.{Json}
 use Rattle.write_message.specs.Message.Message.{ack, notAck}
 use Rattle.machine.specs.Words.{Bytes, keep, any, changed, upTo}

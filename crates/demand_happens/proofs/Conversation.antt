@@ -1,13 +1,6 @@
 -- The example follows the greeting.
 -- Assumes nothing.
-use Prim.Native.Nat.{ℕ, _+_}
-use mathlib.Core.Path.{_≡_, refl}
-use mathlib.Core.Bool.{true}
-use lib.Dec.{lit≤, leb}
-use lib.IntN.{ℤ}
-use native.Mathlib.Omega.{arith}
-use borrow.Author.Tests.{leb-true}
-use Rattle.basis.specs.Text.{text}
+use Rattle.basis.proofs.Std.{ℕ, _+_, _≡_, refl, true, lit≤, leb, ℤ, arith, leb-true, text}
 use Rattle.answer.specs.Times.{lastTime}
 use Rattle.json_character.specs.Char.{rawOf, charOf}
 use Rattle.json_text.specs.Decoded.{readChars, decoded}
@@ -36,17 +29,7 @@ use Rattle.demand_happens.specs.Greeting.{Greets}
 use Rattle.demand_happens.specs.Greeting.Ours.{acknowledged}
 use Rattle.demand_happens.specs.Greeting.Stage.{down}
 use Rattle.demand_happens.specs.Greeting.Meanwhile.{not-done, elsewhere, not-acknowledged}
-use Rattle.demand_happens.specs.Greeting.Greets.{
-  greeted,
-  meanwhile,
-  connects as connects-now,
-  our-version,
-  version-acknowledged,
-  their-version,
-  our-watchdog,
-  watchdog-acknowledged,
-  their-watchdog,
-}
+use Rattle.demand_happens.specs.Greeting.Greets.{greeted, meanwhile, connects as connects-now, our-version, version-acknowledged, their-version, our-watchdog, watchdog-acknowledged, their-watchdog}
 use Rattle.demand_happens.specs.Example.{conversation}
 
 pub timely : (m : Machine) (t : ℕ) → leb (m .last) t ≡ true → leb t lastTime ≡ true → Timely m t

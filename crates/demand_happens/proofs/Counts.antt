@@ -1,19 +1,7 @@
 -- What a round does to the list of held records: the one that a message carried is marked sent, and its answer settles it.
 -- Assumes nothing.
-use Prim.Native.Nat.{ℕ, suc, _+_, _≤_}
-use mathlib.Core.Path.{_≡_, refl, subst}
-use mathlib.Core.Bool.{Bool, true, false, not}
-use mathlib.Core.List.{List, [], _∷_, map}
-use mathlib.Core.Option.{Option, some}
-use mathlib.Core.Logic.{_⊎_, inl, inr}
-use lib.Dec.{eqb, leb}
-use native.Mathlib.Omega.{arith}
-use borrow.Author.Tests.{eq-eqb, eqb-true, ne-eqb}
-use Rattle.basis.specs.Pick.{pick, both, bit}
-use Rattle.basis.specs.Lists.{count, Among}
+use Rattle.basis.proofs.Std.{ℕ, suc, _+_, _≤_, _≡_, refl, subst, Bool, true, false, not, List, [], _∷_, map, Option, some, _⊎_, inl, inr, eqb, leb, arith, eq-eqb, eqb-true, ne-eqb, pick, both, bit, count, Among, bool-cases, picked, not-both, both-true}
 use Rattle.basis.specs.Lists.Among.{first as here, later}
-use Rattle.basis.proofs.Cases.{bool-cases, picked}
-use Rattle.basis.proofs.Both.{not-both, both-true}
 use Rattle.machine.specs.Words.{isSome, firstThat}
 use Rattle.machine.specs.State.{Held}
 use Rattle.machine.specs.Life.{alarmIn, newest}

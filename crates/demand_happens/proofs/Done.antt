@@ -1,13 +1,6 @@
 -- Calls that no number refuses.
 -- Assumes nothing.
-use Prim.Native.Nat.{ℕ, _<_}
-use mathlib.Core.Path.{_≡_}
-use mathlib.Core.Bool.{true, false}
-use mathlib.Core.Option.{some, none}
-use lib.ListN.{length}
-use native.Mathlib.Omega.{arith}
-use borrow.Author.Tests.{le-ltb, lt-leb}
-use Rattle.basis.proofs.Cases.{bool-cases}
+use Rattle.basis.proofs.Std.{ℕ, _<_, _≡_, true, false, some, none, length, arith, le-ltb, lt-leb, bool-cases}
 use Rattle.answer.specs.Times.{lastTime}
 use Rattle.machine.specs.Words.{Bytes}
 use Rattle.machine.specs.State.{Machine, lifeAt}

@@ -1,11 +1,6 @@
 -- The example's start is accepted, and calls go on from it.
 -- Assumes nothing.
-use Prim.Native.Nat.{ℕ, zero, suc, _<_}
-use mathlib.Core.Path.{_≡_, refl, ap}
-use mathlib.Core.List.{List, [], _∷_}
-use lib.Dec.{lit≤}
-use lib.ListN.{getD}
-use native.Mathlib.Omega.{arith}
+use Rattle.basis.proofs.Std.{ℕ, zero, suc, _<_, _≡_, refl, ap, List, [], _∷_, lit≤, getD, arith}
 use Rattle.table_whole.specs.Allowed.{Allowed}
 use Rattle.table_whole.specs.Allowed.Every.{none, more}
 use Rattle.table_whole.specs.Allowed.EditionOf.{second}

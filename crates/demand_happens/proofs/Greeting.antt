@@ -1,14 +1,6 @@
 -- Each call of a greeting brings it on, and the others leave it as it is.
 -- Assumes nothing.
-use Prim.Native.Nat.{ℕ, suc, _≤_, _<_}
-use mathlib.Core.Path.{_≡_, refl, sym, _∙_, subst}
-use mathlib.Core.Bool.{Bool, true, false, not}
-use mathlib.Core.List.{List, [], _∷_, _++_}
-use mathlib.Core.Option.{some}
-use lib.ListN.{length}
-use native.Mathlib.Omega.{arith}
-use borrow.Author.Tests.{not-true}
-use Rattle.basis.specs.Pick.{both}
+use Rattle.basis.proofs.Std.{ℕ, suc, _≤_, _<_, _≡_, refl, sym, _∙_, subst, Bool, true, false, not, List, [], _∷_, _++_, some, length, arith, not-true, both}
 use Rattle.json_value.specs.Grammar.{Json}
 use Rattle.machine.specs.Words.{Bytes, orElse}
 use Rattle.machine.specs.State.{Sent, Awaited, exchange, Life, fresh, Start, Machine, lifeAt, withLife, Call, only}
@@ -29,17 +21,7 @@ use Rattle.demand_happens.specs.Pumped.{at, Timely, CanPump}
 use Rattle.demand_happens.specs.Greeting.{Arrives, Answers, WellFormed, Ours, isSent, Stage, Greets, Greeting}
 use Rattle.demand_happens.specs.Greeting.Ours.{unsent, sent, acknowledged}
 use Rattle.demand_happens.specs.Greeting.Stage.{down, talking}
-use Rattle.demand_happens.specs.Greeting.Greets.{
-  greeted,
-  meanwhile,
-  connects as connects-now,
-  our-version,
-  version-acknowledged,
-  their-version,
-  our-watchdog,
-  watchdog-acknowledged,
-  their-watchdog,
-}
+use Rattle.demand_happens.specs.Greeting.Greets.{greeted, meanwhile, connects as connects-now, our-version, version-acknowledged, their-version, our-watchdog, watchdog-acknowledged, their-watchdog}
 use Rattle.demand_happens.proofs.Done.{configured-link, good-time, pump-unrefused}
 use Rattle.demand_happens.proofs.Pumped.{pump-effect}
 use Rattle.demand_happens.proofs.Sized.{run-sized}

@@ -1,16 +1,7 @@
 -- The next number never passes number 10's limit by more than one, over every run.
 -- Assumes nothing.
-use Prim.Native.Nat.{ℕ, suc, _+_, _≤_, _<_}
-use mathlib.Core.Path.{_≡_, _∙_, ap}
-use mathlib.Core.Bool.{true, false}
-use mathlib.Core.List.{List, [], _∷_}
-use mathlib.Core.Option.{some, none}
-use lib.Dec.{ltb, leb}
-use lib.ListN.{length}
-use native.Mathlib.Omega.{arith}
-use borrow.Author.Tests.{ltb-false, leb-true}
+use Rattle.basis.proofs.Std.{ℕ, suc, _+_, _≤_, _<_, _≡_, _∙_, ap, true, false, List, [], _∷_, some, none, ltb, leb, length, arith, ltb-false, leb-true, both-true}
 use Rattle.basis.specs.Lists.Among.{first, later}
-use Rattle.basis.proofs.Both.{both-true}
 use Rattle.machine.specs.Words.{firstOf, maybe}
 use Rattle.machine.specs.State.{Issued, Pool, Start, Machine, Act, Call, Effect, only}
 use Rattle.machine.specs.State.Act.{connect, disconnect, packet, alarmInput, statusValue, aggregatedValue, tick, pump}

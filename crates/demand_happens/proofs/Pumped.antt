@@ -1,10 +1,6 @@
 -- Pump sends the first due.
 -- Assumes nothing.
-use Prim.Native.Nat.{ℕ}
-use mathlib.Core.Path.{_≡_, refl}
-use mathlib.Core.List.{[], _∷_}
-use mathlib.Core.Option.{some, none}
-use native.Mathlib.Omega.{arith}
+use Rattle.basis.proofs.Std.{ℕ, _≡_, refl, [], _∷_, some, none, arith}
 use Rattle.machine.specs.Words.{Bytes}
 use Rattle.machine.specs.State.{Machine}
 use Rattle.machine.specs.State.Act.{pump}

@@ -1,20 +1,7 @@
 -- Each round that counts sends the record or one that stood before it.
 -- Assumes nothing.
-use Prim.Native.Nat.{ℕ, suc, _-_, _≤_, _<_}
-use mathlib.Core.Path.{_≡_, refl, sym, _∙_, ap}
-use mathlib.Core.Bool.{Bool, true, false, not}
-use mathlib.Core.List.{List, [], _∷_}
-use mathlib.Core.Option.{some, none}
-use mathlib.Core.Logic.{_⊎_, inl, inr}
-use lib.Dec.{eqb, ltb}
-use lib.ListN.{length}
-use native.Mathlib.Omega.{arith}
-use borrow.Author.Tests.{eq-eqb, eqb-true, le-leb, lt-leb, ltb-true}
-use Rattle.basis.specs.Pick.{pick, both}
-use Rattle.basis.specs.Lists.{count, Among}
+use Rattle.basis.proofs.Std.{ℕ, suc, _-_, _≤_, _<_, _≡_, refl, sym, _∙_, ap, Bool, true, false, not, List, [], _∷_, some, none, _⊎_, inl, inr, eqb, ltb, length, arith, eq-eqb, eqb-true, le-leb, lt-leb, ltb-true, pick, both, count, Among, bool-cases, picked, eq-or-ne, not-both, both-true}
 use Rattle.basis.specs.Lists.Among.{first as here}
-use Rattle.basis.proofs.Cases.{bool-cases, picked, eq-or-ne}
-use Rattle.basis.proofs.Both.{not-both, both-true}
 use Rattle.json_value.specs.Grammar.{Json}
 use Rattle.table_whole.specs.Table.{Table}
 use Rattle.machine.specs.Words.{Bytes, maybe, alike}
@@ -40,21 +27,7 @@ use Rattle.demand_happens.specs.Example.{inputs, subscribes}
 use Rattle.demand_happens.proofs.Example.{begun-example, begun-second, goes-on}
 use Rattle.demand_happens.proofs.Rounds.{holds-three, three-rounds, counted-three, told-three, holds-one, two-rounds, counted-two, told-two}
 use Rattle.demand_happens.proofs.Counts.{gone, count-gone, count-one-gone, still-there, some-counted, one-number, Oldest, oldest, Newest, newest-of}
-use Rattle.demand_happens.proofs.Round.{
-  up-connected,
-  up-over,
-  NoVersion,
-  markedBy,
-  settledBy,
-  pumped-gave,
-  pumped-awaited,
-  answered-up,
-  answered-alone,
-  answered-pass,
-  answered-held,
-  answered-alarms,
-  answered-setup,
-}
+use Rattle.demand_happens.proofs.Round.{up-connected, up-over, NoVersion, markedBy, settledBy, pumped-gave, pumped-awaited, answered-up, answered-alone, answered-pass, answered-held, answered-alarms, answered-setup}
 
 -- ---- the message of a pass that carries a record is the record's own
 same-flag : (a b : Bool) → alike a b ≡ true → a ≡ b

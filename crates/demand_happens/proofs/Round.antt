@@ -1,14 +1,6 @@
 -- What a round of pump and answer leaves of an Up link with nothing awaited: again such a link, and of the pool all but what the message carried.
 -- Assumes nothing.
-use Prim.Native.Nat.{ℕ, _<_}
-use mathlib.Core.Path.{_≡_, refl, _∙_, ap}
-use mathlib.Core.Bool.{Bool, true, false}
-use mathlib.Core.List.{List, [], _∷_, map}
-use mathlib.Core.Option.{some, none}
-use lib.ListN.{length}
-use native.Mathlib.Omega.{arith}
-use Rattle.basis.proofs.Cases.{picked}
-use Rattle.basis.proofs.Both.{both-true}
+use Rattle.basis.proofs.Std.{ℕ, _<_, _≡_, refl, _∙_, ap, Bool, true, false, List, [], _∷_, map, some, none, length, arith, picked, both-true}
 use Rattle.json_value.specs.Grammar.{Json}
 use Rattle.machine.specs.Words.{Bytes, maybe}
 use Rattle.machine.specs.State.{Held, Sent, Awaited, Life, fresh, Start, Machine, lifeAt, withLife, Outcome, only}

@@ -1,13 +1,6 @@
 -- The example's rounds.
 -- Assumes nothing.
-use Prim.Native.Nat.{ℕ}
-use mathlib.Core.Path.{_≡_, refl}
-use mathlib.Core.Bool.{true, false}
-use mathlib.Core.List.{[], _∷_}
-use lib.Dec.{lit≤}
-use native.Mathlib.Omega.{arith}
-use borrow.Author.Tests.{leb-true, ltb-true}
-use Rattle.basis.specs.Text.{text}
+use Rattle.basis.proofs.Std.{_≡_, refl, true, false, [], _∷_, lit≤, leb-true, ltb-true, text}
 use Rattle.json_character.specs.Char.{rawOf, charOf}
 use Rattle.json_text.specs.Decoded.{readChars, decoded}
 use Rattle.json_value.specs.Reader.{skipWs, literal, readScalar, readName, readStart, readMark, readEntry, readItems, readInside, readValue}

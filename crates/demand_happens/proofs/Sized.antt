@@ -1,14 +1,6 @@
 -- There are as many lives as links, over every run.
 -- Assumes nothing.
-use Prim.Native.Nat.{ℕ}
-use Prim.Native.String.{String}
-use mathlib.Core.Path.{_≡_, refl, sym, _∙_, ap}
-use mathlib.Core.Bool.{Bool, false}
-use mathlib.Core.List.{List, [], _∷_}
-use mathlib.Core.Option.{Option, some, none}
-use lib.Dec.{eqb}
-use lib.ListN.{length, length-replicate}
-use Rattle.basis.proofs.Cases.{picked}
+use Rattle.basis.proofs.Std.{ℕ, String, _≡_, refl, sym, _∙_, ap, Bool, false, List, [], _∷_, Option, some, none, eqb, length, length-replicate, picked}
 use Rattle.json_value.specs.Grammar.{Json}
 use Rattle.write_message.specs.Message.{Message}
 use Rattle.machine.specs.Words.{Bytes}
@@ -18,26 +10,7 @@ use Rattle.machine.specs.Json.{readPacket, stringOf, isType}
 use Rattle.machine.specs.Life.{close, closeAll, awaitedBy, Due, due}
 use Rattle.machine.specs.Answers.{isAnswer, wantsReply, reasonOf, failsCheck}
 use Rattle.machine.specs.Items.{isNew, happens, subscribe, unsubscribe, intervals, becomes, commands, aggregates}
-use Rattle.machine.specs.Effects.{
-  connects,
-  closes,
-  late,
-  ticks,
-  ownIdentity,
-  sentAs,
-  carried,
-  markSent,
-  sends,
-  answerCloses,
-  settle,
-  answers,
-  answered,
-  refuses,
-  carriedOut,
-  replying,
-  receives,
-  effectOf,
-}
+use Rattle.machine.specs.Effects.{connects, closes, late, ticks, ownIdentity, sentAs, carried, markSent, sends, answerCloses, settle, answers, answered, refuses, carriedOut, replying, receives, effectOf}
 use Rattle.machine.specs.Table.Begins.{begins}
 use Rattle.machine.specs.Step.{step}
 use Rattle.machine.specs.Run.{Past, Run}

@@ -1,16 +1,6 @@
 -- What a call leaves of the records of a link: all of them but those that it answers.
 -- Assumes nothing.
-use Prim.Native.Nat.{ℕ, _+_, _<_}
-use mathlib.Core.Path.{_≡_, refl}
-use mathlib.Core.Bool.{Bool, true}
-use mathlib.Core.Option.{Option, some, none}
-use mathlib.Core.Logic.{_⊎_, inl, inr}
-use lib.Dec.{eqb}
-use native.Mathlib.Omega.{arith}
-use borrow.Author.Tests.{eq-eqb, ne-eqb}
-use Rattle.basis.specs.Lists.{count}
-use Rattle.basis.proofs.Both.{not-both}
-use Rattle.basis.proofs.Cases.{bool-cases, picked, eq-or-ne}
+use Rattle.basis.proofs.Std.{ℕ, _+_, _<_, _≡_, refl, Bool, true, Option, some, none, _⊎_, inl, inr, eqb, arith, eq-eqb, ne-eqb, count, not-both, bool-cases, picked, eq-or-ne}
 use Rattle.json_value.specs.Grammar.{Json}
 use Rattle.machine.specs.Words.{Bytes, maybe}
 use Rattle.machine.specs.State.{Held, Sent, Awaited, Machine, withHeld, lifeAt, Act, Effect, only}

@@ -1,21 +1,10 @@
 -- Demand 3 holds of every run.
 -- Assumes nothing.
-use Prim.Native.Nat.{ℕ, zero, suc, _+_, _≤_, _<_}
-use mathlib.Core.Path.{_≡_, refl, sym, _∙_, ap, subst}
-use mathlib.Core.Bool.{Bool, true, false}
-use mathlib.Core.List.{List, [], _∷_, _++_}
-use mathlib.Core.Option.{Option, some, none}
-use mathlib.Core.Logic.{_⊎_, inl, inr}
-use lib.Dec.{ltb, leb, eqb}
-use lib.ListN.{length, getD, replicate, length-replicate}
-use native.Mathlib.Omega.{arith}
-use borrow.Author.Tests.{ltb-true, leb-true, eq-eqb}
-use Rattle.basis.specs.Pick.{pick}
+use Rattle.basis.proofs.Std.{ℕ, zero, suc, _+_, _≤_, _<_, _≡_, refl, sym, _∙_, ap, subst, true, false, List, [], _∷_, _++_, Option, some, none, _⊎_, inl, inr, ltb, leb, length, getD, replicate, length-replicate, arith, ltb-true, leb-true, eq-eqb, both-first, both-second, not-both}
 use Rattle.basis.proofs.Among.{among-none}
-use Rattle.basis.proofs.Both.{both-first, both-second, not-both}
 use Rattle.machine.specs.Words.{maybe, isNumber}
 use Rattle.machine.specs.State.{Issued, Setup, Pool, Start, Machine, Act, Call}
-use Rattle.machine.specs.Table.{goodStart, first, Begins}
+use Rattle.machine.specs.Table.{Begins}
 use Rattle.machine.specs.Table.Begins.{begins}
 use Rattle.machine.specs.Pool.{holds, issueAll}
 use Rattle.machine.specs.Step.{numberOf, after, step, leaves}
@@ -31,9 +20,9 @@ use Rattle.demand_held.specs.Held.IsHeld.{held as is-held}
 use Rattle.demand_held.specs.Crowded.{Crowded}
 use Rattle.demand_held.specs.Counted.{IssuedIn, answersOf, ifDone, issuedCount, answeredCount}
 use Rattle.demand_held.specs.Counted.IssuedIn.{issued-now, issued-before}
-use Rattle.demand_held.specs.Demand.{Holding, Demand3}
+use Rattle.demand_held.specs.Demand.{Demand3}
 use Rattle.demand_held.proofs.Lists.{Each}
-use Rattle.demand_held.proofs.Lists.Each.{no-more, one-more}
+use Rattle.demand_held.proofs.Lists.Each.{no-more}
 use Rattle.demand_held.proofs.Good.{Good, Fits}
 use Rattle.demand_held.proofs.Good.Rising.{ends}
 use Rattle.demand_held.proofs.Rising.{rising-once, newer-older}

@@ -1,33 +1,14 @@
 -- What each call does to the pool before it issues: nothing but marks, unless it is the answer that settles a record. And for which links it
 -- issues.
 -- Assumes nothing.
-use Prim.Native.Nat.{ℕ, zero, suc, _+_, _≤_, _<_}
-use Prim.Native.String.{String}
-use mathlib.Core.Path.{_≡_, refl, sym, _∙_, ap}
-use mathlib.Core.Bool.{Bool, true, false, not}
-use mathlib.Core.List.{List, [], _∷_, _++_, map}
-use mathlib.Core.Option.{Option, some, none}
-use mathlib.Core.Logic.{_⊎_, inl, inr}
-use lib.Dec.{eqb, ltb, leb}
-use lib.ListN.{length}
-use native.Mathlib.Omega.{arith}
-use borrow.Author.Tests.{eqb-true, leb-false, ne-eqb, eq-eqb}
-use Rattle.basis.specs.Pick.{pick, both, bit}
-use Rattle.basis.specs.Lists.{count, Among}
-use Rattle.basis.proofs.Cases.{bool-cases, picked, eq-or-ne}
-use Rattle.json_value.specs.Grammar.{Json}
-use Rattle.write_message.specs.Message.{Message}
-use Rattle.machine.specs.Words.{Bytes, maybe, keep, flat, upTo, isNumber}
-use Rattle.machine.specs.State.{Issued, Held, Pool, poolOf, Setup, Machine, withHeld, Act, Effect, effect, only}
-use Rattle.machine.specs.Pool.{isFor, holds, settled, marked}
-use Rattle.machine.specs.Life.{unsent, close, closeAll}
-use Rattle.demand_held.specs.Held.{IsHeld, Answered}
+use Rattle.basis.proofs.Std.{ℕ, _≤_, _≡_, refl, sym, _∙_, ap, Bool, true, false, not, map, _⊎_, inl, inr, eqb, length, arith, eqb-true, ne-eqb, both, count, Among, eq-or-ne}
+use Rattle.machine.specs.State.{Issued, Held, Pool, Setup, Machine, withHeld}
+use Rattle.machine.specs.Pool.{isFor, holds, settled}
+use Rattle.demand_held.specs.Held.{IsHeld}
 use Rattle.demand_held.specs.Held.IsHeld.{held}
-use Rattle.demand_held.proofs.Lists.{maybe-cases, Each, each-map, each-keep, among-map, among-mapped, among-keep, among-kept, count-map, count-keep, count-kept, length-map, length-keep}
-use Rattle.demand_held.proofs.Lists.Each.{no-more, one-more}
-use Rattle.demand_held.proofs.Good.{Good, Below, Fits}
+use Rattle.demand_held.proofs.Lists.{Each, each-map, each-keep, among-map, among-mapped, among-keep, among-kept, count-map, count-keep, count-kept, length-map, length-keep}
+use Rattle.demand_held.proofs.Good.{Good, Fits}
 use Rattle.demand_held.proofs.Rising.{rising-map, rising-keep}
-use Rattle.demand_held.proofs.Issue.{For}
 
 -- what a call leaves before it issues; E ends a record otherwise
 pub record Ended (E : ℕ → ℕ → Type 0) (l : ℕ) : Type 0 where

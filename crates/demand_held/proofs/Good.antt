@@ -1,19 +1,7 @@
 -- Pools as runs leave them: a least share of 16 for each link, 64 of a link and 128 held, numbers that rise. Where one is full and a link
 -- holds fewer than 16, its fullest link holds more than 16.
 -- Assumes nothing.
-use Prim.Native.Nat.{ℕ, zero, suc, _+_, _*_, _≤_, _<_}
-use mathlib.Core.Path.{_≡_, refl, ap}
-use mathlib.Core.Bool.{Bool, true}
-use mathlib.Core.List.{List, [], _∷_}
-use mathlib.Core.Logic.{_⊎_, inl, inr}
-use lib.Dec.{eqb, ltb}
-use lib.ListN.{length}
-use native.Mathlib.Omega.{arith}
-use borrow.Author.Tests.{ltb-true, ltb-false, lt-ltb, le-ltb, eq-eqb, ne-eqb}
-use Rattle.basis.specs.Pick.{bit}
-use Rattle.basis.specs.Lists.{count}
-use Rattle.basis.proofs.Both.{not-both}
-use Rattle.basis.proofs.Cases.{picked, lt-or-ge, eq-or-ne, bool-cases}
+use Rattle.basis.proofs.Std.{ℕ, zero, suc, _+_, _*_, _≤_, _<_, _≡_, refl, ap, Bool, true, List, [], _∷_, _⊎_, inl, inr, eqb, ltb, length, arith, ltb-true, ltb-false, lt-ltb, le-ltb, eq-eqb, ne-eqb, bit, count, picked, lt-or-ge, eq-or-ne}
 use Rattle.machine.specs.Words.{isNumber}
 use Rattle.machine.specs.State.{Setup, Content, Held, Pool}
 use Rattle.machine.specs.State.Content.{ofAlarm, ofStatus, ofAggregated}

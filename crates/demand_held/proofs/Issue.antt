@@ -1,18 +1,6 @@
 -- Issuing keeps a pool good; what becomes of a record while others are issued, and of one that is issued.
 -- Assumes nothing.
-use Prim.Native.Nat.{ℕ, suc, _+_, _≤_, _<_}
-use mathlib.Core.Path.{_≡_, refl, sym, _∙_, ap, subst}
-use mathlib.Core.Bool.{Bool, true, false}
-use mathlib.Core.List.{List, [], _∷_, _++_}
-use mathlib.Core.Logic.{_⊎_, inl, inr}
-use lib.Dec.{eqb, leb}
-use lib.ListN.{length, getD}
-use native.Mathlib.Omega.{arith}
-use borrow.Author.Tests.{lt-leb, eq-eqb, ne-eqb}
-use Rattle.basis.specs.Pick.{both, bit}
-use Rattle.basis.specs.Lists.{count, Among}
-use Rattle.basis.proofs.Cases.{eq-or-ne}
-use Rattle.basis.proofs.Both.{both-no}
+use Rattle.basis.proofs.Std.{ℕ, suc, _+_, _≤_, _<_, _≡_, refl, sym, _∙_, ap, subst, true, false, List, [], _∷_, _++_, _⊎_, inl, inr, eqb, leb, length, getD, arith, lt-leb, eq-eqb, ne-eqb, bit, count, Among, eq-or-ne, both-no}
 use Rattle.basis.proofs.Among.{among-left, among-one, among-either}
 use Rattle.machine.specs.State.{Setup, Issued, Held, heldAs, Pool}
 use Rattle.machine.specs.Pool.{isFor, holds, makeRoom, added, issue, issueAll}
@@ -22,7 +10,7 @@ use Rattle.demand_held.specs.Held.IsHeld.{held}
 use Rattle.demand_held.specs.Held.At.{first, behind}
 use Rattle.demand_held.proofs.Lists.{bit-true, bit-false, bit-le, Each, each-append, among-last, count-last, length-last}
 use Rattle.demand_held.proofs.Lists.Each.{no-more, one-more}
-use Rattle.demand_held.proofs.Good.{Rising, Below, fits, Fits, Good, not-crowded}
+use Rattle.demand_held.proofs.Good.{fits, Fits, Good, not-crowded}
 use Rattle.demand_held.proofs.Rising.{rising-last, rising-below, older}
 use Rattle.demand_held.proofs.Room.{Over, Full, Room, holds-added, makes-room}
 use Rattle.demand_held.proofs.Room.Full.{of-link, of-pool}

@@ -1,69 +1,18 @@
 -- Each call's frame, and for which links it issues.
 -- Assumes nothing.
-use Prim.Native.Nat.{ℕ, _<_}
-use Prim.Native.String.{String}
-use mathlib.Core.Path.{_≡_, refl, subst}
-use mathlib.Core.Bool.{Bool, true, false, not}
-use mathlib.Core.List.{List, [], _∷_, map}
-use mathlib.Core.Option.{Option, some, none}
-use lib.Dec.{eqb}
-use lib.IntN.{ℤ}
-use lib.ListN.{length}
-use native.Mathlib.Omega.{arith}
-use borrow.Author.Tests.{eqb-true, eq-eqb}
-use Rattle.basis.specs.Pick.{pick, both}
-use Rattle.basis.proofs.Cases.{picked}
-use Rattle.basis.proofs.Both.{both-first}
+use Rattle.basis.proofs.Std.{ℕ, _<_, String, _≡_, refl, subst, Bool, true, false, List, [], _∷_, Option, some, none, eqb, ℤ, length, eqb-true, eq-eqb, both, picked, both-first}
 use Rattle.json_value.specs.Grammar.{Json}
 use Rattle.write_message.specs.Message.{Message}
-use Rattle.machine.specs.Words.{Bytes, maybe, keep, flat, upTo}
-use Rattle.machine.specs.State.{
-  Setup,
-  Alarm,
-  Subscription,
-  Issued,
-  issuedFor,
-  Sent,
-  Awaited,
-  Life,
-  Machine,
-  withLife,
-  withHeld,
-  fresh,
-  lifeAt,
-  valueAt,
-  Act,
-  Effect,
-  effect,
-  only,
-}
+use Rattle.machine.specs.Words.{Bytes, upTo}
+use Rattle.machine.specs.State.{Setup, Alarm, Subscription, issuedFor, Sent, Awaited, Machine, withLife, fresh, lifeAt, valueAt, Act, Effect, effect, only}
 use Rattle.machine.specs.State.Content.{ofAlarm, ofAggregated}
 use Rattle.machine.specs.State.Act.{connect, disconnect, packet, alarmInput, statusValue, aggregatedValue, tick, pump}
 use Rattle.machine.specs.Json.{readPacket, stringOf, entriesOf, isType}
 use Rattle.machine.specs.Life.{unsent, close, closeAll, awaitedBy, Due, due}
-use Rattle.machine.specs.Answers.{isAnswer, alarmAsked, wantsReply, reasonOf, failsCheck}
+use Rattle.machine.specs.Answers.{isAnswer, wantsReply, reasonOf, failsCheck}
 use Rattle.machine.specs.Items.{isSilent, isOf, statusFor, update, numberAsked, upwards, isTime, isNew, told, happens, subscribe, unsubscribe, intervals, becomes, commands, aggregates}
-use Rattle.machine.specs.Pool.{marked, settled}
-use Rattle.machine.specs.Effects.{
-  connects,
-  closes,
-  late,
-  ticks,
-  sentAs,
-  carried,
-  markSent,
-  sends,
-  answerCloses,
-  settle,
-  answers,
-  answered,
-  refuses,
-  carriedOut,
-  replying,
-  receives,
-  ownIdentity,
-  effectOf,
-}
+use Rattle.machine.specs.Pool.{marked}
+use Rattle.machine.specs.Effects.{connects, closes, late, ticks, sentAs, carried, markSent, sends, answerCloses, settle, answers, answered, refuses, carriedOut, replying, receives, ownIdentity, effectOf}
 use Rattle.demand_held.specs.Held.{Answered, packetLink}
 use Rattle.demand_held.specs.Held.Answered.{answered as answered-by}
 use Rattle.demand_held.proofs.Lists.{maybe-cases, Each, each-map, each-of, each-kept, each-flat, each-below}

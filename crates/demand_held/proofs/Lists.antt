@@ -1,19 +1,8 @@
 -- Laws of the machine's lists: what leaving out the first, keeping and changing do to counts; cases of what may be there or not.
 -- Assumes nothing.
-use Prim.Native.Nat.{ℕ, zero, suc, _+_, _≤_, _<_}
-use mathlib.Core.Path.{_≡_, refl, ap}
-use mathlib.Core.Bool.{Bool, true, false, not}
-use mathlib.Core.List.{List, [], _∷_, _++_, map}
-use mathlib.Core.Option.{Option, some, none}
-use mathlib.Core.Logic.{_⊎_, inl, inr}
-use lib.ListN.{length, getD}
-use native.Mathlib.Omega.{arith}
-use Rattle.basis.specs.Pick.{pick, both, bit}
-use Rattle.basis.specs.Lists.{count, Among}
+use Rattle.basis.proofs.Std.{ℕ, zero, suc, _+_, _≤_, _<_, _≡_, refl, ap, Bool, true, false, not, List, [], _∷_, _++_, map, Option, some, none, length, getD, arith, both, bit, count, Among, picked, not-both}
 use Rattle.basis.specs.Lists.Among.{first, later}
-use Rattle.basis.proofs.Cases.{picked, lt-or-ge}
 use Rattle.basis.proofs.Among.{among-none}
-use Rattle.basis.proofs.Both.{not-both}
 use Rattle.machine.specs.Words.{maybe, keep, butFirst, flat, changed, upTo}
 
 pub bit-true : (b : Bool) → b ≡ true → bit b ≡ 1

@@ -1,20 +1,9 @@
 -- Numbers that rise: what keeps them rising, and that the first of a link is its oldest.
 -- Assumes nothing.
-use Prim.Native.Nat.{ℕ, suc, _+_, _≤_, _<_}
-use mathlib.Core.Path.{_≡_, refl}
-use mathlib.Core.Bool.{Bool, true, false}
-use mathlib.Core.List.{List, [], _∷_, _++_, map}
-use mathlib.Core.Logic.{_⊎_, inl, inr}
-use lib.Dec.{eqb, ltb, leb}
-use native.Mathlib.Omega.{arith}
-use borrow.Author.Tests.{leb-true, leb-false, lt-leb, lt-ltb, le-ltb, le-leb, eqb-true, eq-eqb, ne-eqb}
-use Rattle.basis.specs.Pick.{pick, both, bit}
-use Rattle.basis.specs.Lists.{count, Among}
+use Rattle.basis.proofs.Std.{ℕ, suc, _+_, _≤_, _<_, _≡_, refl, Bool, true, false, List, [], _∷_, _++_, map, _⊎_, inl, inr, eqb, ltb, leb, arith, lt-leb, lt-ltb, le-ltb, le-leb, eqb-true, eq-eqb, ne-eqb, both, bit, count, Among, picked, lt-or-ge, eq-or-ne, both-no}
 use Rattle.basis.specs.Lists.Among.{first, later}
-use Rattle.basis.proofs.Cases.{picked, lt-or-ge, eq-or-ne}
-use Rattle.basis.proofs.Both.{both-no}
 use Rattle.machine.specs.Words.{keep, butFirst}
-use Rattle.machine.specs.State.{Held, Pool}
+use Rattle.machine.specs.State.{Held}
 use Rattle.machine.specs.Pool.{isFor}
 use Rattle.demand_held.specs.Held.{newer}
 use Rattle.demand_held.proofs.Lists.{bit-true, bit-false, no-left}

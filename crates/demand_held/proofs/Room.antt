@@ -1,23 +1,12 @@
 -- Room for a record that is issued: what making room keeps, and that a link which loses one has 16 newer ones after.
 -- Assumes nothing.
-use Prim.Native.Nat.{ℕ, suc, _+_, _≤_, _<_}
-use mathlib.Core.Path.{_≡_, refl, sym, _∙_}
-use mathlib.Core.Bool.{Bool, true, false, not}
-use mathlib.Core.List.{List, [], _∷_, _++_}
-use mathlib.Core.Logic.{_⊎_, inl, inr}
-use lib.Dec.{eqb, ltb, leb}
-use lib.ListN.{length, getD}
-use native.Mathlib.Omega.{arith}
-use borrow.Author.Tests.{ltb-true, ltb-false, leb-true, leb-false, eq-eqb, ne-eqb, eqb-true, not-true, not-false}
-use Rattle.basis.specs.Pick.{pick, both, bit}
-use Rattle.basis.specs.Lists.{count, Among}
-use Rattle.basis.proofs.Cases.{picked, eq-or-ne, lt-or-ge}
+use Rattle.basis.proofs.Std.{ℕ, suc, _+_, _≤_, _<_, _≡_, refl, sym, _∙_, Bool, false, not, _⊎_, inl, inr, eqb, ltb, leb, length, getD, arith, ltb-true, ltb-false, leb-true, leb-false, eq-eqb, ne-eqb, eqb-true, not-true, not-false, bit, count, Among, picked, eq-or-ne, lt-or-ge}
 use Rattle.machine.specs.Words.{butFirst, changed}
 use Rattle.machine.specs.State.{Setup, Issued, Held, heldAs, Pool}
 use Rattle.machine.specs.Pool.{isFor, holds, isFull, fullest, lose, makeRoom, added}
 use Rattle.demand_held.specs.Held.{IsHeld}
 use Rattle.demand_held.specs.Held.IsHeld.{held}
-use Rattle.demand_held.proofs.Lists.{bit-true, bit-false, Each, each-butFirst, count-last, count-butFirst, length-butFirst, count-left, count-other, length-changed, among-butFirst, got-changed, got-other}
+use Rattle.demand_held.proofs.Lists.{bit-true, Each, each-butFirst, count-last, count-butFirst, length-butFirst, count-left, count-other, length-changed, among-butFirst, got-changed, got-other}
 use Rattle.demand_held.proofs.Good.{Rising, Below, Fits, Good, beyond, fullest-holds}
 use Rattle.demand_held.proofs.Rising.{rising-butFirst, older, left-or-oldest}
 

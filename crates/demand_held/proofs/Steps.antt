@@ -1,21 +1,10 @@
 -- A step is refused or done; a packet call that is done is on a configured link.
 -- Assumes nothing.
-use Prim.Native.Nat.{ℕ, _<_}
-use mathlib.Core.Path.{_≡_, refl, ap}
-use mathlib.Core.Bool.{Bool, true, false}
-use mathlib.Core.List.{List}
-use mathlib.Core.Option.{Option, some, none}
-use lib.Dec.{leb}
-use native.Mathlib.Omega.{arith}
-use borrow.Author.Tests.{leb-false}
-use Rattle.basis.specs.Pick.{pick}
-use Rattle.basis.proofs.Cases.{bool-cases}
-use Rattle.basis.proofs.Both.{not-both}
-use Rattle.write_message.specs.Message.{Message}
+use Rattle.basis.proofs.Std.{ℕ, _<_, _≡_, refl, ap, Bool, true, false, Option, some, none, arith, leb-false, pick, bool-cases}
 use Rattle.machine.specs.Words.{firstOf}
 use Rattle.machine.specs.State.{Machine, Act, Call, Outcome, Effect}
 use Rattle.machine.specs.State.Act.{connect, disconnect, packet, alarmInput, statusValue, aggregatedValue, tick, pump}
-use Rattle.machine.specs.State.Outcome.{refused, done}
+use Rattle.machine.specs.State.Outcome.{refused}
 use Rattle.machine.specs.Effects.{effectOf}
 use Rattle.machine.specs.Step.{noSuchLink, conditions, numberOf, after, outcome, step}
 use Rattle.demand_held.specs.Held.{IsDone, packetLink}

@@ -1,33 +1,18 @@
 -- A call that is not of link l makes no more records of it go before one that is held.
 -- Assumes nothing.
-use Prim.Native.Nat.{ℕ, suc, _+_, _≤_, _<_}
-use Prim.Native.String.{String}
-use mathlib.Core.Path.{_≡_, refl, sym, _∙_, ap}
-use mathlib.Core.Bool.{Bool, true, false, not}
-use mathlib.Core.List.{List, [], _∷_, _++_, map}
-use mathlib.Core.Option.{Option, some, none}
-use lib.Dec.{eqb, ltb, leb}
-use native.Mathlib.Omega.{arith}
-use borrow.Author.Tests.{eqb-true, ne-eqb, lt-leb}
-use Rattle.basis.specs.Pick.{pick, both, bit}
-use Rattle.basis.specs.Lists.{count}
-use Rattle.basis.proofs.Cases.{picked, bool-cases}
-use Rattle.basis.proofs.Both.{both-false}
+use Rattle.basis.proofs.Std.{ℕ, _≤_, _<_, String, _≡_, refl, sym, _∙_, Bool, true, false, not, List, [], _∷_, map, Option, some, none, eqb, ltb, leb, arith, eqb-true, ne-eqb, lt-leb, pick, both, bit, count, picked, bool-cases, both-false}
 use Rattle.json_value.specs.Grammar.{Json}
 use Rattle.write_message.specs.Message.{Message}
-use Rattle.machine.specs.Words.{Bytes, maybe, isNumber, any}
-use Rattle.machine.specs.State.{Alarm, Sent, Awaited, Issued, Held, heldAs, Pool, Machine, lifeAt, valueAt, Act, Effect, only}
+use Rattle.machine.specs.Words.{Bytes, isNumber, any}
+use Rattle.machine.specs.State.{Alarm, Awaited, Issued, Held, heldAs, Pool, Machine, lifeAt, valueAt, Act, Effect, only}
 use Rattle.machine.specs.State.Act.{connect, disconnect, packet, alarmInput, statusValue, aggregatedValue, tick, pump}
 use Rattle.machine.specs.Json.{readPacket, stringOf, isType}
 use Rattle.machine.specs.Life.{unsent, close, closeAll, awaitedBy, Due, due}
 use Rattle.machine.specs.Answers.{isAnswer, wantsReply, reasonOf, failsCheck}
-use Rattle.machine.specs.Pool.{isFor, holds, isFull, fullest, lose, makeRoom, issue, issueAll, settled, marked}
+use Rattle.machine.specs.Pool.{isFor, holds, isFull, fullest, lose, makeRoom, issue, issueAll, marked}
 use Rattle.machine.specs.Items.{isNew, happens, subscribe, unsubscribe, intervals, becomes, commands, aggregates}
 use Rattle.machine.specs.Effects.{connects, closes, late, ticks, ownIdentity, carried, sentAs, sends, answerCloses, answers, answered, refuses, carriedOut, replying, receives, effectOf}
-use Rattle.demand_held.proofs.Lists.{maybe-cases, bit-false, count-last, count-left, count-keep, count-map, Each}
-use Rattle.demand_held.proofs.Lists.Each.{no-more, one-more}
-use Rattle.demand_held.proofs.Good.{Good}
-use Rattle.demand_held.proofs.Issue.{For, issue-good, issue-next, issue-lost}
+use Rattle.demand_held.proofs.Lists.{maybe-cases, bit-false, count-last, count-left, count-keep, count-map}
 use Rattle.demand_told.specs.Demand.{linkOf}
 use Rattle.demand_told.proofs.Lives.{apart-from}
 use Rattle.demand_told.proofs.Tests.{neither}

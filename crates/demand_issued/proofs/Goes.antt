@@ -1,31 +1,15 @@
 -- Each done call keeps what its history tells, and issues what that tells, over every run.
 -- Assumes nothing.
-use Prim.Native.Nat.{ℕ, zero, suc, _<_}
-use Prim.Native.String.{String}
-use mathlib.Core.Path.{_≡_, refl, sym, _∙_, ap, subst}
-use mathlib.Core.Bool.{Bool, true, false, not}
-use mathlib.Core.List.{List, [], _∷_, _++_, map}
-use mathlib.Core.Option.{Option, some, none}
-use lib.Dec.{eqb}
-use lib.IntN.{ℤ}
-use lib.ListN.{length, getD}
-use native.Mathlib.Omega.{arith}
-use borrow.Author.Tests.{leb-false}
-use Rattle.basis.specs.Pick.{pick, both}
-use Rattle.basis.specs.Lists.{sameBytes}
+use Rattle.basis.proofs.Std.{ℕ, zero, suc, _<_, String, _≡_, refl, sym, _∙_, ap, Bool, true, false, not, List, [], _∷_, map, Option, some, none, eqb, ℤ, length, getD, arith, leb-false, pick, both, sameBytes, text, not-both, picked}
 use Rattle.basis.specs.Lists.Among.{first, later}
-use Rattle.basis.specs.Text.{text}
-use Rattle.basis.proofs.Both.{not-both}
-use Rattle.basis.proofs.Cases.{picked}
 use Rattle.json_value.specs.Grammar.{Json}
-use Rattle.table_whole.specs.Table.{Row, Table}
+use Rattle.table_whole.specs.Table.{Row}
 use Rattle.write_message.specs.Message.{Message}
 use Rattle.write_message.specs.Message.Message.{ack}
-use Rattle.machine.specs.Words.{Bytes, maybe, isSome, orElse, any, firstOf, upTo}
-use Rattle.machine.specs.State.{Alarm, alarmOf, Sent, Awaited, Issued, issuedFor, Life, Setup, Start, Machine, withLife, lifeAt, alarmAt, valueAt, Act, Call, Outcome, Effect, handing, only}
+use Rattle.machine.specs.Words.{Bytes, isSome, orElse, any, firstOf}
+use Rattle.machine.specs.State.{Alarm, alarmOf, Awaited, Life, Setup, Start, Machine, withLife, lifeAt, alarmAt, valueAt, Act, Call, Outcome, Effect, handing, only}
 use Rattle.machine.specs.State.Event.{Issue}
 use Rattle.machine.specs.State.Sent.{noRecord}
-use Rattle.machine.specs.State.Content.{ofAggregated}
 use Rattle.machine.specs.State.Outcome.{refused}
 use Rattle.machine.specs.State.Act.{connect, disconnect, packet, alarmInput, statusValue, aggregatedValue, tick, pump}
 use Rattle.machine.specs.Json.{readPacket, stringOf, entriesOf, isType}
@@ -33,12 +17,11 @@ use Rattle.machine.specs.Table.Begins.{begins}
 use Rattle.machine.specs.Life.{isUp, close, closeAll, awaitedBy, awaiting, Due, due}
 use Rattle.machine.specs.Answers.{isAnswer, componentAsked, alarmAsked, statusAsked, isStatusType, unknownStatus, wantsReply, reasons, reasonOf, failsCheck}
 use Rattle.machine.specs.Items.{withInput, ordered, sameValue, isNew, happens, subscribe, unsubscribe, intervals, becomes, commands, aggregates}
-use Rattle.machine.specs.Effects.{connects, closes, late, ticks, ownIdentity, carried, sentAs, markSent, sends, answerCloses, settle, answers, answered, refuses, carriedOut, replyMessage, replying, receives, effectOf}
+use Rattle.machine.specs.Effects.{connects, closes, late, ticks, ownIdentity, carried, sentAs, sends, answerCloses, answers, answered, refuses, carriedOut, replyMessage, replying, receives, effectOf}
 use Rattle.machine.specs.Step.{conditions, numberOf, outcome, step}
 use Rattle.machine.specs.Run.{Past, past, Run}
 use Rattle.machine.specs.Run.Run.{begun, next}
 use Rattle.demand_held.proofs.Lists.{maybe-cases, Each, length-map}
-use Rattle.demand_held.proofs.Lists.Each.{no-more, one-more}
 use Rattle.demand_held.proofs.Steps.{laid, step-done, step-refused, done-number}
 use Rattle.demand_held.specs.Held.{issuedBy}
 use Rattle.demand_told.proofs.Replies.{none-at, one-type}
@@ -46,10 +29,10 @@ use Rattle.demand_told.proofs.Tests.{no-not}
 use Rattle.demand_told.proofs.Found.{alarm-there, alarm-known, none-of-any}
 use Rattle.demand_told.proofs.GreetedDemand.{same-setup, by-number}
 use Rattle.demand_carried.proofs.Marks.{life-cases}
-use Rattle.demand_issued.specs.History.{doing, isAck, took, did, alarmNamed, lastAggregated}
+use Rattle.demand_issued.specs.History.{doing, isAck, did, alarmNamed}
 use Rattle.demand_issued.specs.Issues.{issued, DemandIssues}
-use Rattle.demand_issued.proofs.Kept.{Kept, KeptBy, Known, extended, ticks-on, became, stayed, aggregated-anew, aggregated-again, took-other, took-subscribe, took-unsubscribe, took-order, took-input, input-own, order-own}
-use Rattle.demand_issued.proofs.Issued.{value-same, nothing-issued, alarm-issued, input-issued, order-issued, tick-issued, value-issued, value-silent, subscribe-issued, aggregate-issued, aggregate-silent, other-issued}
+use Rattle.demand_issued.proofs.Kept.{KeptBy, Known, extended, ticks-on, became, stayed, aggregated-anew, aggregated-again, took-other, took-subscribe, took-unsubscribe, took-order, took-input, input-own, order-own}
+use Rattle.demand_issued.proofs.Issued.{value-same, nothing-issued, input-issued, order-issued, tick-issued, value-issued, value-silent, subscribe-issued, aggregate-issued, aggregate-silent, other-issued}
 
 -- ---- the entries of a packet that no reason refuses
 module _ (m : Machine) (l : ℕ) (j : Json) (unrefused : reasonOf m l j ≡ none) where

@@ -1,35 +1,22 @@
 -- What each call lays down to be issued is what its history tells.
 -- Assumes nothing.
-use Prim.Native.Nat.{ℕ, _<_}
-use Prim.Native.String.{String}
-use mathlib.Core.Path.{_≡_, refl, sym, _∙_, ap, subst}
-use mathlib.Core.Bool.{Bool, true, false, not}
-use mathlib.Core.List.{List, [], _∷_, _++_, map}
-use mathlib.Core.Option.{Option, some, none}
-use mathlib.Core.Logic.{_⊎_, inl, inr}
-use lib.Dec.{eqb}
-use lib.IntN.{ℤ, pos, negsuc}
-use lib.ListN.{length, getD}
-use borrow.Author.Tests.{eqb-true, eq-eqb, ne-eqb}
-use Rattle.basis.specs.Pick.{pick, both}
-use Rattle.basis.proofs.Both.{not-both, both-false}
-use Rattle.basis.proofs.Cases.{eq-or-ne}
+use Rattle.basis.proofs.Std.{ℕ, _<_, String, _≡_, refl, sym, _∙_, ap, subst, Bool, true, false, not, List, [], _∷_, map, Option, some, none, _⊎_, inl, inr, eqb, ℤ, pos, negsuc, length, eqb-true, eq-eqb, ne-eqb, pick, both, not-both, eq-or-ne}
 use Rattle.json_value.specs.Grammar.{Json}
 use Rattle.table_whole.specs.Table.{Table}
-use Rattle.machine.specs.Words.{maybe, orElse, alike, keep, flat, upTo}
+use Rattle.machine.specs.Words.{maybe, alike, keep, flat, upTo}
 use Rattle.machine.specs.State.{Event, Alarm, alarmOf, Subscription, Issued, issuedFor, Setup, Machine, lifeAt, valueAt}
 use Rattle.machine.specs.State.Event.{Issue, Acknowledge, Suspend}
-use Rattle.machine.specs.State.Content.{ofAlarm, ofStatus, ofAggregated}
+use Rattle.machine.specs.State.Content.{ofStatus, ofAggregated}
 use Rattle.machine.specs.Json.{entriesOf, elementIs, isType}
 use Rattle.machine.specs.Life.{isUp}
 use Rattle.machine.specs.Items.{happens, withInput, acknowledgedAt, suspendedAt, resumedAt, ordered, isSilent, isOf, statusFor, update, numberAsked, upwards, isTime, sameValue, isNew}
 use Rattle.machine.specs.Run.{Past}
 use Rattle.demand_held.proofs.Lists.{Each}
 use Rattle.demand_held.proofs.Lists.Each.{no-more, one-more}
-use Rattle.demand_issued.specs.History.{doing, did, alarmNamed, statusNamed, isOrder, wasActive, wasSuspended, wasAcknowledged, eventOf, lastEvent, eventTime, alarmAfter, lastAggregated, isOther, valueTo, lastValue, Standing, isOver, standing}
-use Rattle.demand_issued.specs.Issues.{equal, isIssue, alarmMeant, alarmRecord, alarmIssues, statusRecord, subscribes, isNews, asks, updates, aggregatedIssues, issued}
-use Rattle.demand_issued.proofs.Lists.{eqb-swap, behind-none, keep-both, flat-same, flat-none, map-flat, kept-one, either-false}
-use Rattle.demand_issued.proofs.Kept.{subscriptionOf, listed, Kept, KeptBy, afterwards, one-word, Known, is-named, order-is}
+use Rattle.demand_issued.specs.History.{doing, did, alarmNamed, statusNamed, isOrder, wasActive, wasSuspended, wasAcknowledged, eventOf, lastEvent, eventTime, alarmAfter, lastValue, Standing, isOver, standing}
+use Rattle.demand_issued.specs.Issues.{equal, isIssue, alarmRecord, alarmIssues, statusRecord, subscribes, isNews, asks, updates, issued}
+use Rattle.demand_issued.proofs.Lists.{behind-none, keep-both, flat-same, flat-none, map-flat, kept-one, either-false}
+use Rattle.demand_issued.proofs.Kept.{subscriptionOf, listed, KeptBy, afterwards, one-word, Known, is-named, order-is}
 
 -- ---- alarms: an event is told by what the alarm becomes
 abbrev EventIn : Option Alarm → Option Event

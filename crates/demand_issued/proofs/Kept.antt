@@ -1,36 +1,19 @@
 -- What the machine keeps of alarms, statuses, the aggregated value and subscriptions is what its history tells.
 -- Assumes nothing.
-use Prim.Native.Nat.{ℕ, zero, suc, _+_, _<_}
-use Prim.Native.String.{String}
-use mathlib.Core.Path.{_≡_, refl, sym, _∙_, ap, subst}
-use mathlib.Core.Bool.{Bool, true, false, not}
-use mathlib.Core.List.{List, [], _∷_, _++_, map}
-use mathlib.Core.Option.{Option, some, none}
-use mathlib.Core.Logic.{_⊎_, inl, inr}
-use lib.Dec.{eqb}
-use lib.IntN.{ℤ}
-use lib.ListN.{length, getD}
-use native.Mathlib.Omega.{arith}
-use borrow.Author.Tests.{eqb-true, eq-eqb, ne-eqb}
-use Rattle.basis.specs.Pick.{pick, both}
-use Rattle.basis.proofs.Both.{not-both, both-true, both-false, both-no}
-use Rattle.basis.proofs.Same.{same-true}
-use Rattle.basis.specs.Lists.{sameBytes}
-use Rattle.basis.specs.Text.{text}
-use Rattle.basis.proofs.Cases.{eq-or-ne, bool-cases}
+use Rattle.basis.proofs.Std.{ℕ, zero, suc, _<_, String, _≡_, refl, sym, _∙_, ap, subst, Bool, true, false, not, List, [], _∷_, map, Option, some, none, _⊎_, inl, inr, eqb, ℤ, length, getD, arith, eqb-true, eq-eqb, ne-eqb, pick, both, not-both, both-true, both-false, both-no, same-true, sameBytes, text, eq-or-ne}
 use Rattle.json_value.specs.Grammar.{Json}
-use Rattle.table_whole.specs.Table.{Row, Table}
+use Rattle.table_whole.specs.Table.{Table}
 use Rattle.machine.specs.Words.{Bytes, reads, isSome, maybe, orElse, isNumber, alike, keep, any, changed}
 use Rattle.machine.specs.State.{Event, Alarm, alarmOf, Subscription, Setup, Machine, valueAt, withStatus, withAggregated, withSubscriptions}
 use Rattle.machine.specs.State.Event.{Issue, Acknowledge, Suspend}
-use Rattle.machine.specs.Json.{stringAt, stringOf, booleanOf, entriesOf, elementIs, isType}
+use Rattle.machine.specs.Json.{stringAt, entriesOf, elementIs, isType}
 use Rattle.machine.specs.Answers.{interval, statusAsked}
-use Rattle.machine.specs.Items.{happens, withInput, acknowledgedAt, suspendedAt, resumedAt, ordered, isOf, numberAsked, without, subscribing, subscribeAll, endAll, isTime, anew}
+use Rattle.machine.specs.Items.{happens, withInput, acknowledgedAt, suspendedAt, resumedAt, ordered, isOf, numberAsked, without, subscribing, subscribeAll, endAll, anew}
 use Rattle.machine.specs.Run.{Past}
 use Rattle.demand_held.proofs.Lists.{Each, length-changed}
 use Rattle.demand_held.proofs.Lists.Each.{no-more, one-more}
 use Rattle.demand_told.proofs.Lives.{set-other}
-use Rattle.demand_issued.specs.History.{Did, doing, did, alarmNamed, statusNamed, inputTo, isOrder, wasActive, wasSuspended, wasAcknowledged, eventOf, lastEvent, eventTime, alarmAfter, lastAggregated, isOther, changeTime, valueTo, lastValue, Standing, isOver, standingFrom, ticked, subscribedBy, standingBy, standing}
+use Rattle.demand_issued.specs.History.{doing, did, alarmNamed, statusNamed, inputTo, isOrder, wasActive, wasSuspended, wasAcknowledged, lastEvent, eventTime, alarmAfter, lastAggregated, changeTime, lastValue, Standing, standingFrom, ticked, subscribedBy, standing}
 use Rattle.demand_issued.proofs.Lists.{eqb-swap, behind-none, keep-append, keep-kept, keep-nothing, keep-map}
 
 abbrev noAlarm : Alarm

@@ -1,14 +1,6 @@
 -- Laws of lists that are kept, mapped and put in a row.
 -- Assumes nothing.
-use Prim.Native.Nat.{ℕ}
-use mathlib.Core.Path.{_≡_, refl, sym, _∙_, ap}
-use mathlib.Core.Bool.{Bool, true, false, not}
-use mathlib.Core.List.{List, [], _∷_, _++_, map}
-use lib.Dec.{eqb}
-use borrow.Author.Tests.{eqb-true, eqb-false, eq-eqb, ne-eqb}
-use Rattle.basis.specs.Pick.{pick, both}
-use Rattle.basis.proofs.Both.{not-both, untrue}
-use Rattle.basis.proofs.Cases.{bool-cases}
+use Rattle.basis.proofs.Std.{ℕ, _≡_, refl, sym, _∙_, ap, Bool, true, false, List, [], _∷_, _++_, map, eqb, eqb-true, eqb-false, eq-eqb, ne-eqb, pick, both, not-both, untrue, bool-cases}
 use Rattle.machine.specs.Words.{keep, flat}
 
 pub eqb-swap : (a b : ℕ) → eqb a b ≡ eqb b a

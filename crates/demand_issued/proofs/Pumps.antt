@@ -1,29 +1,17 @@
 -- What a pump tells is what the history and the reading tell.
 -- Assumes nothing.
-use Prim.Native.Nat.{ℕ, zero, suc, _+_, _-_, _*_, _<_}
-use mathlib.Core.Path.{_≡_, refl, sym, _∙_, ap, subst}
-use mathlib.Core.Bool.{Bool, true, false, not}
-use mathlib.Core.List.{List, []}
-use mathlib.Core.Option.{Option, some, none}
-use lib.Dec.{eqb, ltb, leb}
-use lib.ListN.{length}
-use native.Mathlib.Omega.{arith}
-use borrow.Author.Tests.{eqb-true, eqb-false, ltb-true}
-use Rattle.basis.specs.Pick.{pick, both}
-use Rattle.basis.specs.Lists.{Among}
+use Rattle.basis.proofs.Std.{ℕ, zero, suc, _+_, _-_, _*_, _<_, _≡_, refl, sym, subst, Bool, true, false, not, List, Option, some, none, eqb, ltb, leb, length, arith, eqb-false, ltb-true, pick, both, Among, both-true, picked}
 use Rattle.basis.proofs.Among.{among-none, among-one}
-use Rattle.basis.proofs.Both.{both-true}
-use Rattle.basis.proofs.Cases.{picked}
 use Rattle.entry.specs.Reading.Reads.{reads}
 use Rattle.write_message.specs.Message.{Message}
-use Rattle.machine.specs.Words.{Bytes, maybe, keep}
+use Rattle.machine.specs.Words.{Bytes}
 use Rattle.machine.specs.State.{Held, Start, Machine, lifeAt, Act, Call, Effect, only}
 use Rattle.machine.specs.State.Act.{pump}
 use Rattle.machine.specs.Life.{isGreeting, isBeating, isUp, isPrimary, passLength, oldestUnsent, Due, dueUp, due}
 use Rattle.machine.specs.Life.Due.{theVersion, theWatchdog, theAggregated, theAlarm, theHeld}
 use Rattle.machine.specs.Pool.{isFor}
 use Rattle.machine.specs.Messages.{recordMessage}
-use Rattle.machine.specs.Readings.{entryFor, recordBytes, reading}
+use Rattle.machine.specs.Readings.{recordBytes, reading}
 use Rattle.machine.specs.Effects.{ownIdentity, dueMessage, sends, effectOf}
 use Rattle.machine.specs.Step.{step}
 use Rattle.machine.specs.Run.{Past, Run}
@@ -36,7 +24,6 @@ use Rattle.demand_carried.proofs.Lists.{found-among}
 use Rattle.demand_issued.specs.Pumps.{Pumped, DemandPumps}
 use Rattle.demand_issued.specs.Pumps.Pumped.{our-version, our-watchdog, the-aggregated, an-alarm, a-record}
 use Rattle.demand_issued.proofs.Tells.{held-entry}
-use Rattle.demand_issued.proofs.Kept.{KeptBy}
 use Rattle.demand_issued.proofs.Goes.{run-kept}
 
 -- ---- what is due is an alarm that there is, or a held record of the link

@@ -1,46 +1,28 @@
 -- What a reply tells is what the history tells.
 -- Assumes nothing.
-use Prim.Native.Nat.{ℕ, _<_}
-use Prim.Native.String.{String}
-use mathlib.Core.Path.{_≡_, refl, sym, _∙_, ap, subst}
-use mathlib.Core.Bool.{Bool, true, false, not}
-use mathlib.Core.List.{List, [], _∷_, map}
-use mathlib.Core.Option.{Option, some, none}
-use lib.IntN.{ℤ}
-use lib.ListN.{length}
-use native.Mathlib.Omega.{arith}
-use Rattle.basis.specs.Pick.{pick, both}
-use Rattle.basis.specs.Lists.{sameBytes}
-use Rattle.basis.specs.Text.{text}
-use Rattle.basis.proofs.Both.{not-both}
-use Rattle.basis.proofs.Cases.{picked, bool-cases}
+use Rattle.basis.proofs.Std.{ℕ, _<_, String, _≡_, refl, sym, ap, subst, Bool, true, false, List, [], _∷_, map, Option, some, none, ℤ, length, arith, pick, sameBytes, text, not-both, picked, bool-cases}
 use Rattle.json_value.specs.Grammar.{Json}
-use Rattle.table_whole.specs.Table.{Table}
-use Rattle.write_message.specs.declared.Value.{Value}
-use Rattle.write_message.specs.declared.Value.the-variants.{Recent, Unknown, Undefined}
-use Rattle.write_message.specs.declared.Told.the-variants.{Response}
-use Rattle.write_message.specs.Message.{Message, Status}
+use Rattle.write_message.specs.declared.Value.the-variants.{Recent, Unknown}
 use Rattle.write_message.specs.Message.Message.{ack, statuses}
 use Rattle.machine.specs.Words.{Bytes, maybe, isSome, orElse, any}
-use Rattle.machine.specs.State.{Start, Machine, alarmAt, valueAt, Act, Call, Outcome, Effect, only}
+use Rattle.machine.specs.State.{Start, Machine, Act, Call, Effect, only}
 use Rattle.machine.specs.State.Act.{packet}
-use Rattle.machine.specs.State.Outcome.{refused}
 use Rattle.machine.specs.Json.{readPacket, stringOf, entriesOf, elementIs, isType}
 use Rattle.machine.specs.Life.{isPrimary}
-use Rattle.machine.specs.Answers.{isAnswer, componentAsked, alarmAsked, statusAsked, isStatusType, wantsReply, reasonOf}
-use Rattle.machine.specs.Items.{ordered, happens, numberAsked, subscribe, unsubscribe, commands}
+use Rattle.machine.specs.Answers.{isAnswer, componentAsked, alarmAsked, isStatusType, wantsReply, reasonOf}
+use Rattle.machine.specs.Items.{happens, numberAsked}
 use Rattle.machine.specs.Messages.{valueOf, answerEntry}
-use Rattle.machine.specs.Effects.{ownIdentity, answered, refuses, carriedOut, replyMessage, replying, receives, effectOf}
-use Rattle.machine.specs.Step.{numberOf, outcome, step}
+use Rattle.machine.specs.Effects.{ownIdentity, answered, refuses, carriedOut, replying, receives, effectOf}
+use Rattle.machine.specs.Step.{step}
 use Rattle.machine.specs.Run.{Past, past, Run}
 use Rattle.demand_held.proofs.Lists.{maybe-cases, Each}
 use Rattle.demand_held.proofs.Lists.Each.{no-more, one-more}
-use Rattle.demand_held.proofs.Steps.{laid, step-done, step-refused}
+use Rattle.demand_held.proofs.Steps.{step-done, step-refused}
 use Rattle.demand_told.specs.Demand.{messagesOf}
 use Rattle.demand_told.proofs.Replies.{one-type}
 use Rattle.demand_told.proofs.Found.{alarm-there, alarm-known}
 use Rattle.demand_told.proofs.GreetedDemand.{by-number}
-use Rattle.demand_issued.specs.History.{isAck, took, did, alarmNamed, statusNamed, lastValue}
+use Rattle.demand_issued.specs.History.{isAck, took, did, alarmNamed, lastValue}
 use Rattle.demand_issued.specs.Replies.{entryReply, replyTo, DemandReplies}
 use Rattle.demand_issued.proofs.Kept.{KeptBy, Known, is-named, one-word}
 use Rattle.demand_issued.proofs.Goes.{entries-known, answered-silent, refuses-silent, run-kept}

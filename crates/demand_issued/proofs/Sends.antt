@@ -1,25 +1,13 @@
 -- Each held record of an Up link goes out or is pushed out, with other calls between the rounds, and in every new life.
 -- Assumes nothing.
-use Prim.Native.Nat.{ℕ, suc, _+_, _-_, _≤_, _<_}
-use mathlib.Core.Path.{_≡_, refl, sym, _∙_, ap, subst}
-use mathlib.Core.Bool.{Bool, true, false, not}
-use mathlib.Core.List.{List, [], _∷_}
-use mathlib.Core.Option.{Option, some, none}
-use mathlib.Core.Logic.{_⊎_, inl, inr}
-use lib.Dec.{eqb}
-use lib.ListN.{length}
-use native.Mathlib.Omega.{arith}
-use borrow.Author.Tests.{eq-eqb, le-leb}
-use Rattle.basis.specs.Lists.{count, Among}
-use Rattle.basis.proofs.Both.{not-both}
-use Rattle.json_value.specs.Grammar.{Json}
-use Rattle.machine.specs.Words.{Bytes, isNumber, any, upTo}
-use Rattle.machine.specs.State.{issuedFor, Held, heldAs, Start, Machine, lifeAt, Act, Call, Outcome, only}
+use Rattle.basis.proofs.Std.{ℕ, _≤_, _<_, _≡_, refl, sym, _∙_, ap, subst, Bool, true, false, List, [], _∷_, some, none, _⊎_, inl, inr, eqb, length, arith, eq-eqb, le-leb, count, Among}
+use Rattle.machine.specs.Words.{isNumber, any, upTo}
+use Rattle.machine.specs.State.{issuedFor, Held, heldAs, Start, Machine, lifeAt, Act, Call, Outcome}
 use Rattle.machine.specs.State.Outcome.{refused}
 use Rattle.machine.specs.State.Act.{connect, disconnect, packet, alarmInput, statusValue, aggregatedValue, tick, pump}
-use Rattle.machine.specs.Life.{isDown, isUp, isLate, passLength}
-use Rattle.machine.specs.Effects.{late, effectOf}
-use Rattle.machine.specs.Step.{numberOf, after, outcome, step, leaves}
+use Rattle.machine.specs.Life.{isLate, passLength}
+use Rattle.machine.specs.Effects.{late}
+use Rattle.machine.specs.Step.{numberOf, outcome, step, leaves}
 use Rattle.machine.specs.Run.{Past, Run}
 use Rattle.machine.specs.Run.Run.{next}
 use Rattle.demand_held.specs.Held.{IsHeld, Kept, packetLink}
@@ -36,7 +24,6 @@ use Rattle.demand_happens.specs.Greeting.{Meanwhile}
 use Rattle.demand_happens.specs.Greeting.Meanwhile.{not-done, elsewhere, not-acknowledged}
 use Rattle.demand_happens.specs.Records.{isBefore, ahead, GoesOut}
 use Rattle.demand_happens.specs.Records.GoesOut.{later}
-use Rattle.demand_happens.specs.Example.{pasts}
 use Rattle.demand_happens.proofs.Counts.{some-counted}
 use Rattle.demand_happens.proofs.After.{unkept, refused-step, meanwhile-life}
 use Rattle.demand_happens.proofs.Example.{goes-on}

@@ -1,22 +1,9 @@
 -- The message of a record is the message of its sixteen bytes.
 -- Assumes nothing.
-use Prim.Native.Nat.{ℕ, suc, _^_, _%_, _≤_, _<_}
-use mathlib.Core.Path.{_≡_, refl, sym, _∙_, ap, subst}
-use mathlib.Core.Bool.{Bool, true, false}
-use mathlib.Core.List.{List, [], _∷_, map}
-use mathlib.Core.Option.{Option, some, none}
-use lib.Dec.{leb}
-use lib.IntN.{ℤ}
-use lib.ListN.{length}
-use native.Mathlib.Omega.{arith}
-use borrow.Author.Tests.{leb-true}
-use Rattle.basis.proofs.Both.{both-true}
-use Rattle.basis.specs.Pick.{pick}
-use Rattle.basis.specs.Lists.{Among}
-use Rattle.number.specs.Signed.{Signed32, signedOf, wordOf}
+use Rattle.basis.proofs.Std.{ℕ, _^_, _≤_, _<_, _≡_, refl, sym, _∙_, ap, Bool, true, false, List, [], _∷_, Option, some, none, leb, ℤ, length, arith, leb-true, both-true, Among}
+use Rattle.number.specs.Signed.{Signed32}
 use Rattle.number.proofs.RoundTrip.{signed-word, word-lt}
 use Rattle.entry.specs.declared.Entry.{Entry}
-use Rattle.entry.specs.declared.Unpacked.{Unpacked}
 use Rattle.entry.specs.declared.Unpacked.the-variants.{Accepted}
 use Rattle.entry.specs.Flags.{alarmFlags, eventOf}
 use Rattle.entry.specs.Reading.{Reads}
@@ -25,41 +12,40 @@ use Rattle.entry.specs.Valid.OfKind.{an-alarm, a-status, an-aggregated}
 use Rattle.entry.proofs.FlagLaws.{event-back, acknowledged-back, active-back, suspended-back, known-back, old-back}
 use Rattle.entry.proofs.RoundTrip.{round-trip}
 use Rattle.table_whole.specs.Table.{Table}
-use Rattle.write_message.specs.declared.AlarmState.{AlarmState}
 use Rattle.write_message.specs.declared.Value.{Value}
 use Rattle.write_message.specs.declared.Value.the-variants.{Recent}
 use Rattle.write_message.specs.declared.Told.the-variants.{Update}
-use Rattle.write_message.specs.Message.{Message, status}
-use Rattle.write_message.specs.Message.Message.{alarm, statuses}
+use Rattle.write_message.specs.Message.{status}
+use Rattle.write_message.specs.Message.Message.{statuses}
 use Rattle.write_laws.specs.Formed.{FormedValue}
 use Rattle.write_laws.specs.Formed.FormedValue.{recent}
 use Rattle.machine.specs.Words.{Bytes, keep}
 use Rattle.machine.specs.State.{Event, eventNumber, Alarm, Content, issuedFor, Held, Start, Machine}
 use Rattle.machine.specs.State.Event.{Issue, Acknowledge, Suspend}
 use Rattle.machine.specs.State.Content.{ofAlarm, ofStatus, ofAggregated}
-use Rattle.machine.specs.Table.{componentText, alarmRow, statusRow}
+use Rattle.machine.specs.Table.{componentText, statusRow}
 use Rattle.machine.specs.Pool.{isFor}
 use Rattle.machine.specs.Messages.{valueOf, recordMessage}
 use Rattle.machine.specs.Readings.{entryFor, statusEntry, recordBytes, reading}
 use Rattle.machine.specs.Table.Begins.{begins}
-use Rattle.machine.specs.Run.{Past, past, Run}
+use Rattle.machine.specs.Run.{Past, Run}
 use Rattle.machine.specs.Run.Run.{begun, next}
 use Rattle.demand_held.specs.Held.{IsHeld}
 use Rattle.demand_held.specs.Held.IsHeld.{held}
-use Rattle.demand_held.proofs.Lists.{Each, MapOf, among-mapped, among-kept}
+use Rattle.demand_held.proofs.Lists.{MapOf, among-mapped, among-kept}
 use Rattle.demand_held.proofs.Issue.{held-below}
-use Rattle.demand_held.proofs.Demand.{Sound, run-sound}
+use Rattle.demand_held.proofs.Demand.{run-sound}
 use Rattle.demand_told.specs.Typed.{EachTyped}
 use Rattle.demand_told.specs.Typed.EachTyped.{one-more as typed-too}
-use Rattle.demand_told.proofs.Sane.{Tells, Tellable, Sane}
+use Rattle.demand_told.proofs.Sane.{Tells, Tellable}
 use Rattle.demand_told.proofs.ReadDemand.{run-sane}
 use Rattle.demand_told.proofs.GreetedDemand.{same-setup}
 use Rattle.demand_happens.proofs.Limits.{run-limit}
-use Rattle.demand_carried.specs.Carried.{Carried, Unanswered}
+use Rattle.demand_carried.specs.Carried.{Unanswered}
 use Rattle.demand_carried.specs.Carried.Unanswered.{at-once, and-then}
 use Rattle.demand_carried.proofs.Lists.{each-among}
 use Rattle.demand_carried.proofs.Marks.{one-number}
-use Rattle.demand_issued.specs.Tells.{stateIn, valueIn, messageOf, DemandTells}
+use Rattle.demand_issued.specs.Tells.{valueIn, messageOf, DemandTells}
 
 event-small : (e : Event) → eventNumber e < 3
 event-small Issue = omega arith

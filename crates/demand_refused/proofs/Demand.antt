@@ -1,24 +1,16 @@
 -- Demand 1 holds of every call, on whatever machine.
 -- Assumes nothing.
-use Prim.Native.Nat.{ℕ}
-use mathlib.Core.Path.{_≡_, refl, sym, _∙_, ap}
-use mathlib.Core.Bool.{Bool, true, false}
-use mathlib.Core.List.{List, [], _∷_}
-use mathlib.Core.Option.{Option, some, none}
-use native.Mathlib.Omega.{arith}
-use Rattle.basis.specs.Pick.{pick}
-use Rattle.basis.specs.Lists.{Among}
+use Rattle.basis.proofs.Std.{ℕ, _≡_, refl, sym, _∙_, ap, Bool, true, false, List, [], _∷_, Option, some, none, arith, pick, Among}
 use Rattle.basis.specs.Lists.Among.{first as here, later}
-use Rattle.table_whole.specs.Table.{Table}
 use Rattle.table_whole.proofs.Whole.{same-table}
 use Rattle.machine.specs.Words.{Case, firstOf}
 use Rattle.machine.specs.State.{Start, Machine, Act, Call, Outcome}
 use Rattle.machine.specs.State.Act.{connect, disconnect, packet, alarmInput, statusValue, aggregatedValue, tick, pump}
 use Rattle.machine.specs.State.Outcome.{refused}
-use Rattle.machine.specs.Table.{first, Begins}
+use Rattle.machine.specs.Table.{Begins}
 use Rattle.machine.specs.Table.Begins.{begins, not-good, no-table}
 use Rattle.machine.specs.Effects.{effectOf}
-use Rattle.machine.specs.Step.{conditions, numberOf, after, outcome, step, outcomes, leaves}
+use Rattle.machine.specs.Step.{conditions, numberOf, after, outcome, step}
 use Rattle.demand_refused.specs.Demand.{NoneApplies, FirstIs, numbers, Refusing, Demand1}
 use Rattle.demand_refused.specs.Demand.NoneApplies.{none-applies, nor}
 use Rattle.demand_refused.specs.Demand.FirstIs.{first-is, behind}

@@ -1,15 +1,7 @@
 -- A packet that gets MessageAck is one that no reason refuses.
 -- Assumes nothing.
-use Prim.Native.Nat.{ℕ}
-use Prim.Native.String.{String}
-use mathlib.Core.Path.{_≡_, refl}
-use mathlib.Core.Bool.{Bool, true, false}
-use mathlib.Core.List.{[], _∷_}
-use mathlib.Core.Option.{Option, some, none}
-use Rattle.basis.specs.Lists.{Among}
+use Rattle.basis.proofs.Std.{ℕ, String, _≡_, refl, Bool, true, false, [], _∷_, Option, some, none, Among, picked, not-both}
 use Rattle.basis.specs.Lists.Among.{first, later}
-use Rattle.basis.proofs.Cases.{picked}
-use Rattle.basis.proofs.Both.{not-both}
 use Rattle.json_value.specs.Grammar.{Json}
 use Rattle.write_message.specs.Message.{Message}
 use Rattle.write_message.specs.Message.Message.{version, watchdog, ack, notAck, alarm, aggregated, statuses}

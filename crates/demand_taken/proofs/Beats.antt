@@ -1,17 +1,7 @@
 -- On an Up link a Watchdog goes out a period or more after the last, and not sooner.
 -- Assumes nothing.
-use Prim.Native.Nat.{ℕ, _+_, _*_, _≤_}
-use mathlib.Core.Path.{_≡_, refl, sym, _∙_, ap, subst}
-use mathlib.Core.Bool.{Bool, true, false}
-use mathlib.Core.List.{List, [], _∷_}
-use mathlib.Core.Option.{Option, some, none}
-use lib.Dec.{eqb, ltb, leb}
-use native.Mathlib.Omega.{arith}
-use borrow.Author.Tests.{le-leb, leb-true}
-use Rattle.basis.specs.Lists.{Among}
+use Rattle.basis.proofs.Std.{ℕ, _+_, _*_, _≤_, _≡_, refl, sym, _∙_, ap, subst, Bool, true, false, List, [], _∷_, Option, some, none, eqb, ltb, leb, arith, le-leb, leb-true, Among, picked, both-true}
 use Rattle.basis.specs.Lists.Among.{first}
-use Rattle.basis.proofs.Cases.{picked}
-use Rattle.basis.proofs.Both.{both-true}
 use Rattle.write_message.specs.Message.{Message}
 use Rattle.write_message.specs.Message.Message.{watchdog}
 use Rattle.machine.specs.Words.{Bytes}

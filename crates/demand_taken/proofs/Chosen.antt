@@ -1,15 +1,7 @@
 -- The version that a link has is the one that was chosen from the Version that was accepted in its life.
 -- Assumes nothing.
-use Prim.Native.Nat.{ℕ}
-use mathlib.Core.Path.{_≡_, refl, subst}
-use mathlib.Core.Bool.{Bool, true, false, not}
-use mathlib.Core.List.{List, [], _∷_}
-use mathlib.Core.Option.{some, none}
-use mathlib.Core.Logic.{_⊎_, inl, inr}
-use native.Mathlib.Omega.{arith}
-use Rattle.basis.specs.Pick.{both}
+use Rattle.basis.proofs.Std.{ℕ, _≡_, refl, subst, Bool, true, false, not, List, [], _∷_, some, none, _⊎_, inl, inr, arith, both, not-both}
 use Rattle.basis.specs.Lists.Among.{first, later}
-use Rattle.basis.proofs.Both.{not-both}
 use Rattle.json_value.specs.Grammar.{Json}
 use Rattle.write_message.specs.Message.{Message}
 use Rattle.write_message.specs.Message.Message.{ack}

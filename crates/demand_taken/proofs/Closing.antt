@@ -1,17 +1,6 @@
 -- A failed check, a MessageNotAck to our Version and one to our Watchdog while Beating close the link; the chosen version is read.
 -- Assumes nothing.
-use Prim.Native.Nat.{ℕ, zero, suc, _≤_, _<_}
-use Prim.Native.String.{String}
-use mathlib.Core.Path.{_≡_, refl, _∙_, ap}
-use mathlib.Core.Bool.{true, false}
-use mathlib.Core.List.{List, [], _∷_}
-use mathlib.Core.Option.{Option, some, none}
-use lib.ListN.{take, drop}
-use Rattle.basis.specs.Text.{text}
-use Rattle.basis.specs.Lists.{Among}
-use Rattle.basis.proofs.Cases.{bool-cases}
-use Rattle.basis.proofs.Both.{not-both, both-false}
-use Rattle.basis.proofs.Same.{same-true}
+use Rattle.basis.proofs.Std.{ℕ, zero, suc, _≤_, _<_, String, _≡_, refl, _∙_, ap, true, false, List, [], _∷_, Option, some, none, take, drop, text, Among, bool-cases, not-both, both-false, same-true}
 use Rattle.json_value.specs.Grammar.{Json}
 use Rattle.write_message.specs.Message.{Message}
 use Rattle.write_message.specs.Message.Message.{ack, notAck}

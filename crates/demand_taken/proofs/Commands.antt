@@ -1,19 +1,7 @@
 -- A CommandRequest in order is obeyed, one that is acknowledged was in order, and nothing else hands anything over.
 -- Assumes nothing.
-use Prim.Native.Nat.{ℕ, suc, _+_, _<_, _≤_}
-use Prim.Native.String.{String}
-use mathlib.Core.Path.{_≡_, refl, sym, _∙_, ap}
-use mathlib.Core.Bool.{Bool, true, false, not}
-use mathlib.Core.List.{List, [], _∷_, map}
-use mathlib.Core.Option.{Option, some, none}
-use lib.ListN.{length}
-use native.Mathlib.Omega.{arith}
-use borrow.Author.Tests.{le-ltb, lt-leb}
-use Rattle.basis.specs.Pick.{both}
-use Rattle.basis.specs.Text.{text}
-use Rattle.basis.specs.Lists.{sameBytes}
+use Rattle.basis.proofs.Std.{ℕ, suc, _+_, _<_, _≤_, String, _≡_, refl, sym, _∙_, ap, Bool, true, false, not, List, [], _∷_, map, Option, some, none, length, arith, le-ltb, lt-leb, both, text, sameBytes, not-both, both-true, both-false}
 use Rattle.basis.specs.Lists.Among.{first, later}
-use Rattle.basis.proofs.Both.{not-both, both-true, both-false}
 use Rattle.json_value.specs.Grammar.{Json}
 use Rattle.table_whole.specs.Allowed.{Allowed}
 use Rattle.machine.specs.Words.{Bytes, maybe, isSome, orElse, any}

@@ -1,18 +1,6 @@
 -- The entries of a CommandRequest: what each asks for, as the table has it and as the machine looks it up.
 -- Assumes nothing.
-use Prim.Native.Nat.{ℕ, zero, suc}
-use mathlib.Core.Path.{_≡_, refl, sym, _∙_, ap}
-use mathlib.Core.Bool.{Bool, true, false}
-use mathlib.Core.List.{[], _∷_}
-use mathlib.Core.Option.{Option, some, none}
-use lib.Dec.{eqb, leb}
-use lib.IntN.{ℤ, pos}
-use lib.ListN.{getD}
-use borrow.Author.Tests.{eq-eqb, eqb-true}
-use Rattle.basis.specs.Pick.{pick, both}
-use Rattle.basis.specs.Lists.{sameBytes}
-use Rattle.basis.proofs.Both.{not-both, both-true}
-use Rattle.basis.proofs.Same.{same-true, same-self}
+use Rattle.basis.proofs.Std.{ℕ, zero, suc, _≡_, refl, sym, _∙_, ap, Bool, true, false, [], _∷_, Option, some, none, eqb, leb, ℤ, pos, getD, eq-eqb, eqb-true, pick, both, sameBytes, not-both, both-true, same-true, same-self}
 use Rattle.number.specs.Signed.{atMost}
 use Rattle.number.specs.Decimal.{digits, decimalOf}
 use Rattle.number.specs.Reading.{says}

@@ -1,18 +1,7 @@
 -- Before a link is Up, our Version and then our Watchdog are alone in being awaited, under the identities that they were written with.
 -- Assumes nothing.
-use Prim.Native.Nat.{ℕ, _+_, _*_}
-use mathlib.Core.Path.{_≡_, refl, sym, _∙_, ap, subst}
-use mathlib.Core.Bool.{Bool, true, false, not}
-use mathlib.Core.List.{List, [], _∷_, _++_}
-use mathlib.Core.Option.{Option, some, none}
-use mathlib.Core.Logic.{_⊎_, inl, inr}
-use lib.Dec.{eqb, ltb, leb}
-use native.Mathlib.Omega.{arith}
-use Rattle.basis.specs.Pick.{pick, both}
-use Rattle.basis.specs.Lists.{Among}
+use Rattle.basis.proofs.Std.{ℕ, _+_, _*_, _≡_, refl, sym, _∙_, ap, subst, Bool, true, false, not, List, [], _∷_, _++_, Option, some, none, _⊎_, inl, inr, eqb, ltb, leb, arith, pick, both, Among, bool-cases, picked, not-both, both-true, both-of}
 use Rattle.basis.specs.Lists.Among.{first}
-use Rattle.basis.proofs.Cases.{bool-cases, picked}
-use Rattle.basis.proofs.Both.{not-both, both-true, both-of}
 use Rattle.write_message.specs.Message.{Message}
 use Rattle.machine.specs.Words.{Bytes, butFirst}
 use Rattle.machine.specs.State.{Sent, Awaited, Life, fresh, Start, Machine, lifeAt, Act}

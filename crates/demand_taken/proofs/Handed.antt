@@ -1,17 +1,7 @@
 -- Nothing but a CommandRequest for a component of the table, answered with MessageAck, hands anything over.
 -- Assumes nothing.
-use Prim.Native.Nat.{ℕ}
-use Prim.Native.String.{String}
-use mathlib.Core.Path.{_≡_, refl, sym}
-use mathlib.Core.Bool.{Bool, true, false}
-use mathlib.Core.List.{List, []}
-use mathlib.Core.Option.{Option, some, none}
-use lib.Dec.{eqb}
-use Rattle.basis.specs.Lists.{sameBytes, Among}
+use Rattle.basis.proofs.Std.{ℕ, String, _≡_, refl, sym, Bool, true, false, List, [], Option, some, none, eqb, sameBytes, Among, picked, not-both, same-true}
 use Rattle.basis.specs.Lists.Among.{first}
-use Rattle.basis.proofs.Cases.{picked}
-use Rattle.basis.proofs.Both.{not-both}
-use Rattle.basis.proofs.Same.{same-true}
 use Rattle.json_value.specs.Grammar.{Json}
 use Rattle.write_message.specs.Message.Message.{ack}
 use Rattle.machine.specs.Words.{Bytes, isSome, orElse}

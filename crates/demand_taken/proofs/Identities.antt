@@ -1,19 +1,6 @@
 -- The text of sixteen bytes, in either case, is a readable mId.
 -- Assumes nothing.
-use Prim.Native.Nat.{ℕ, _/_, _%_, _≤_, _<_}
-use mathlib.Core.Path.{_≡_, refl, sym, _∙_, ap}
-use mathlib.Core.Bool.{Bool, true, false}
-use mathlib.Core.List.{[], _∷_, map}
-use mathlib.Core.Option.{Option, some, none}
-use mathlib.Core.Logic.{_⊎_, inl, inr}
-use lib.Dec.{eqb, eqb→eq}
-use lib.ListN.{getD, replicate}
-use native.Mathlib.Omega.{arith}
-use borrow.Author.Tests.{le-ltb}
-use Rattle.basis.specs.Pick.{pick}
-use Rattle.basis.specs.Text.{text}
-use Rattle.basis.proofs.Cases.{lt-or-ge}
-use Rattle.basis.proofs.Both.{not-both}
+use Rattle.basis.proofs.Std.{ℕ, _/_, _%_, _≤_, _<_, _≡_, refl, sym, _∙_, ap, Bool, true, false, [], _∷_, map, Option, some, none, _⊎_, inl, inr, eqb, eqb→eq, getD, replicate, arith, le-ltb, pick, text, lt-or-ge, not-both}
 use Rattle.basis.proofs.Table.{at}
 use Rattle.identity.specs.Hex.{hexDigit, lowerHex, lowered}
 use Rattle.identity.specs.Text.{identityText}

@@ -1,17 +1,7 @@
 -- What holds of every life of a link in a run: of none, of one just opened, and after each call if before it.
 -- Assumes nothing.
-use Prim.Native.Nat.{ℕ}
-use mathlib.Core.Path.{_≡_, refl, sym}
-use mathlib.Core.Bool.{true, false}
-use mathlib.Core.List.{List, [], _∷_}
-use mathlib.Core.Option.{some, none}
-use mathlib.Core.Logic.{_⊎_, inl, inr}
-use lib.Dec.{eqb}
-use native.Mathlib.Omega.{arith}
-use borrow.Author.Tests.{eq-eqb, ne-eqb, leb-false}
-use Rattle.basis.specs.Pick.{both}
+use Rattle.basis.proofs.Std.{ℕ, _≡_, refl, sym, true, false, List, [], _∷_, some, none, _⊎_, inl, inr, eqb, arith, eq-eqb, ne-eqb, leb-false, both, bool-cases, eq-or-ne}
 use Rattle.basis.specs.Lists.Among.{first, later}
-use Rattle.basis.proofs.Cases.{bool-cases, eq-or-ne}
 use Rattle.machine.specs.Words.{Bytes, isNumber, any, firstOf}
 use Rattle.machine.specs.State.{Life, fresh, Start, Machine, lifeAt, Act, Effect}
 use Rattle.machine.specs.State.Act.{connect, disconnect, packet, alarmInput, statusValue, aggregatedValue, tick, pump}

@@ -1,18 +1,7 @@
 -- What a done call makes of a link's life, with what it writes on the link; and by it what holds of every life of a run.
 -- Assumes nothing.
-use Prim.Native.Nat.{ℕ, _<_}
-use Prim.Native.String.{String}
-use mathlib.Core.Path.{_≡_, refl, sym, _∙_, ap, subst}
-use mathlib.Core.Bool.{true, false, not}
-use mathlib.Core.List.{List, [], _∷_}
-use mathlib.Core.Option.{Option, some, none}
-use mathlib.Core.Logic.{_⊎_, inl, inr}
-use lib.Dec.{eqb}
-use lib.ListN.{length, getD}
-use borrow.Author.Tests.{eq-eqb}
+use Rattle.basis.proofs.Std.{ℕ, _<_, String, _≡_, refl, sym, _∙_, ap, subst, true, false, not, List, [], _∷_, Option, some, none, _⊎_, inl, inr, eqb, length, getD, eq-eqb, bool-cases, picked, not-both, both-true}
 use Rattle.basis.specs.Lists.Among.{first, later}
-use Rattle.basis.proofs.Cases.{bool-cases, picked}
-use Rattle.basis.proofs.Both.{not-both, both-true}
 use Rattle.json_value.specs.Grammar.{Json}
 use Rattle.write_message.specs.Message.{Message}
 use Rattle.write_message.specs.Message.Message.{ack}

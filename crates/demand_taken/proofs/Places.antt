@@ -1,14 +1,6 @@
 -- Where in a list the first that passes stands.
 -- Assumes nothing.
-use Prim.Native.Nat.{ℕ, zero, suc, _+_, _<_}
-use mathlib.Core.Path.{_≡_, refl, _∙_, ap}
-use mathlib.Core.Bool.{Bool, true, false}
-use mathlib.Core.List.{List, [], _∷_}
-use mathlib.Core.Option.{some}
-use lib.ListN.{length, getD}
-use native.Mathlib.Omega.{arith}
-use Rattle.basis.specs.Pick.{pick}
-use Rattle.basis.proofs.Cases.{bool-cases}
+use Rattle.basis.proofs.Std.{ℕ, zero, suc, _+_, _<_, _≡_, refl, _∙_, ap, Bool, true, false, List, [], _∷_, some, length, getD, arith, pick, bool-cases}
 use Rattle.machine.specs.Words.{placeFrom, placeOf}
 
 module _ {A : Type 0} (d : A) (f : A → Bool) where

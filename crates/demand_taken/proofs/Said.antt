@@ -1,18 +1,7 @@
 -- Which calls write a Version or a Watchdog of ours, and which bring a packet.
 -- Assumes nothing.
-use Prim.Native.Nat.{ℕ}
-use mathlib.Core.Path.{_≡_, refl, subst}
-use mathlib.Core.Bool.{Bool, true, false}
-use mathlib.Core.List.{List, [], _∷_}
-use mathlib.Core.Option.{some}
-use mathlib.Core.Logic.{_⊎_, inl, inr}
-use native.Mathlib.Omega.{arith}
-use borrow.Author.Tests.{eq-eqb}
-use Rattle.basis.specs.Pick.{both}
-use Rattle.basis.specs.Lists.{Among}
+use Rattle.basis.proofs.Std.{ℕ, _≡_, refl, subst, Bool, true, false, List, [], _∷_, some, _⊎_, inl, inr, arith, eq-eqb, both, Among, picked, not-both}
 use Rattle.basis.specs.Lists.Among.{first, later}
-use Rattle.basis.proofs.Cases.{picked}
-use Rattle.basis.proofs.Both.{not-both}
 use Rattle.json_value.specs.Grammar.{Json}
 use Rattle.table_whole.specs.Table.{Table}
 use Rattle.write_message.specs.Message.{Message}

@@ -1,15 +1,6 @@
 -- What is taken is taken of a greeted link, and what is to be heard is heard.
 -- Assumes nothing.
-use Prim.Native.Nat.{ℕ}
-use mathlib.Core.Path.{_≡_, refl, ap, subst}
-use mathlib.Core.Bool.{Bool, true, false, not}
-use mathlib.Core.List.{List, [], _∷_}
-use mathlib.Core.Option.{some}
-use mathlib.Core.Logic.{_⊎_, inl, inr}
-use native.Mathlib.Omega.{arith}
-use Rattle.basis.specs.Pick.{pick, both}
-use Rattle.basis.specs.Lists.{Among}
-use Rattle.basis.proofs.Both.{not-both}
+use Rattle.basis.proofs.Std.{ℕ, _≡_, refl, ap, subst, Bool, true, false, not, List, [], _∷_, some, _⊎_, inl, inr, arith, pick, both, Among, not-both}
 use Rattle.identity.specs.Read.{Says}
 use Rattle.json_value.specs.Grammar.{Json}
 use Rattle.write_message.specs.Message.Message.{ack}

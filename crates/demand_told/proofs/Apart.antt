@@ -1,14 +1,6 @@
 -- A call of another link, or of none, leaves a link's life as it is, and does not name it closed; but a tick may.
 -- Assumes nothing.
-use Prim.Native.Nat.{ℕ}
-use Prim.Native.String.{String}
-use mathlib.Core.Path.{_≡_, refl, _∙_}
-use mathlib.Core.Bool.{Bool, false}
-use mathlib.Core.List.{List, []}
-use mathlib.Core.Option.{Option, some, none}
-use lib.Dec.{eqb}
-use native.Mathlib.Omega.{arith}
-use Rattle.basis.proofs.Cases.{picked}
+use Rattle.basis.proofs.Std.{ℕ, String, _≡_, refl, _∙_, Bool, false, List, [], Option, some, none, eqb, picked}
 use Rattle.json_value.specs.Grammar.{Json}
 use Rattle.write_message.specs.Message.{Message}
 use Rattle.machine.specs.Words.{Bytes, isNumber, any}
@@ -18,28 +10,7 @@ use Rattle.machine.specs.Json.{readPacket, stringOf, isType}
 use Rattle.machine.specs.Life.{awaitedBy, awaiting, answeredTo, Due, due}
 use Rattle.machine.specs.Answers.{isAnswer, wantsReply, reasonOf, failsCheck}
 use Rattle.machine.specs.Items.{isNew, happens, subscribe, unsubscribe, intervals, becomes, commands, aggregates}
-use Rattle.machine.specs.Effects.{
-  connects,
-  closes,
-  late,
-  ticks,
-  ownIdentity,
-  sentAs,
-  carried,
-  afterSending,
-  markSent,
-  sends,
-  answerCloses,
-  acknowledges,
-  settle,
-  answers,
-  answered,
-  refuses,
-  carriedOut,
-  replying,
-  receives,
-  effectOf,
-}
+use Rattle.machine.specs.Effects.{connects, closes, late, ticks, ownIdentity, sentAs, carried, afterSending, markSent, sends, answerCloses, acknowledges, settle, answers, answered, refuses, carriedOut, replying, receives, effectOf}
 use Rattle.demand_held.proofs.Lists.{maybe-cases}
 use Rattle.demand_told.specs.Demand.{linkOf}
 use Rattle.demand_told.proofs.Lives.{set-other, not-named, apart-from, closed-other, all-other}

@@ -1,20 +1,7 @@
 -- The three checks of their Version, as the packets tell them and as the machine makes them; the version that it chooses.
 -- Assumes nothing.
-use Prim.Native.Nat.{ℕ}
-use mathlib.Core.Path.{_≡_, refl, sym, _∙_, ap}
-use mathlib.Core.Bool.{Bool, true, false}
-use mathlib.Core.List.{List, [], _∷_}
-use mathlib.Core.Option.{Option, some, none}
-use mathlib.Core.Logic.{_⊎_, inl, inr}
-use lib.Dec.{eqb, ltb}
-use native.Mathlib.Omega.{arith}
-use borrow.Author.Tests.{eq-eqb, eqb-true, ltb-true}
-use Rattle.basis.specs.Pick.{pick}
-use Rattle.basis.specs.Text.{text}
-use Rattle.basis.specs.Lists.{sameBytes, Among}
+use Rattle.basis.proofs.Std.{ℕ, _≡_, refl, sym, _∙_, ap, Bool, true, false, List, [], _∷_, Option, some, none, _⊎_, inl, inr, eqb, ltb, arith, eq-eqb, eqb-true, ltb-true, pick, text, sameBytes, Among, not-both, same-true, same-self}
 use Rattle.basis.specs.Lists.Among.{first, later}
-use Rattle.basis.proofs.Both.{not-both}
-use Rattle.basis.proofs.Same.{same-true, same-self}
 use Rattle.number.specs.Decimal.{digits, digitsBelow}
 use Rattle.json_value.specs.Grammar.{Json}
 use Rattle.machine.specs.Words.{Bytes, maybe, isSome, orElse, any, firstThat}

@@ -1,32 +1,21 @@
 -- Demand 2 holds of every call, on whatever machine.
 -- Assumes nothing.
-use Prim.Native.Nat.{ℕ, _+_}
-use mathlib.Core.Path.{_≡_, refl, sym, _∙_, ap, subst}
-use mathlib.Core.Bool.{Bool, true, false}
-use mathlib.Core.List.{List, [], _∷_}
-use mathlib.Core.Option.{Option, some, none}
-use lib.Dec.{eqb}
-use native.Mathlib.Omega.{arith}
-use Rattle.basis.specs.Pick.{pick, both, bit}
-use Rattle.basis.specs.Lists.{count, Among}
+use Rattle.basis.proofs.Std.{ℕ, _≡_, refl, sym, _∙_, ap, subst, true, false, List, [], Option, some, none, eqb, arith, bit, count, Among, picked}
 use Rattle.basis.specs.Lists.Among.{first, later}
-use Rattle.basis.proofs.Cases.{picked}
-use Rattle.basis.proofs.Both.{not-both}
 use Rattle.json_value.specs.Grammar.{Json}
 use Rattle.write_message.specs.Message.{Message}
-use Rattle.machine.specs.Words.{Bytes, maybe, firstOf}
+use Rattle.machine.specs.Words.{Bytes, firstOf}
 use Rattle.machine.specs.State.{Alarm, Start, Command, Machine, Act, Call, Outcome, Effect, lifeAt, valueAt, only}
 use Rattle.machine.specs.State.Act.{connect, disconnect, packet, alarmInput, statusValue, aggregatedValue, tick, pump}
 use Rattle.machine.specs.State.Outcome.{refused, done}
 use Rattle.machine.specs.Json.{readPacket, stringOf}
-use Rattle.machine.specs.Life.{isUp, isDown, isPrimary, Due, due}
-use Rattle.machine.specs.Answers.{isAnswer, isIgnored}
+use Rattle.machine.specs.Life.{isUp, isPrimary, Due, due}
+use Rattle.machine.specs.Answers.{isAnswer}
 use Rattle.machine.specs.Items.{happens, isNew, becomes, aggregates}
-use Rattle.machine.specs.Effects.{connects, closes, ticks, sends, dueMessage, ownIdentity, receives, effectOf}
-use Rattle.machine.specs.Step.{conditions, numberOf, outcome, after, step}
+use Rattle.machine.specs.Effects.{connects, closes, ticks, sends, ownIdentity, effectOf}
+use Rattle.machine.specs.Step.{conditions, numberOf, step}
 use Rattle.machine.specs.Run.{Past, Run}
-use Rattle.demand_held.proofs.Lists.{maybe-cases}
-use Rattle.demand_held.proofs.Lists.{Each}
+use Rattle.demand_held.proofs.Lists.{maybe-cases, Each}
 use Rattle.demand_held.proofs.Good.{Fits}
 use Rattle.demand_held.proofs.Demand.{run-sound}
 use Rattle.demand_held.proofs.Steps.{laid, step-done, step-refused}

@@ -1,20 +1,6 @@
 -- What a StatusRequest and a CommandRequest hold where no element is missing and none is bad.
 -- Assumes nothing.
-use Prim.Native.Nat.{ℕ, zero, suc, _≤_}
-use Prim.Native.String.{String}
-use mathlib.Core.Path.{_≡_, refl, subst}
-use mathlib.Core.Bool.{Bool, true, false, not}
-use mathlib.Core.List.{List, [], _∷_}
-use mathlib.Core.Option.{Option, some, none}
-use lib.Dec.{eqb, leb, ltb}
-use lib.IntN.{ℤ, pos}
-use lib.ListN.{length, drop}
-use native.Mathlib.Omega.{arith}
-use borrow.Author.Tests.{leb-true}
-use Rattle.basis.specs.Pick.{pick, both}
-use Rattle.basis.specs.Lists.{sameBytes}
-use Rattle.basis.proofs.Cases.{picked}
-use Rattle.basis.proofs.Both.{not-both, both-first}
+use Rattle.basis.proofs.Std.{ℕ, zero, suc, _≤_, String, _≡_, refl, subst, Bool, true, false, not, List, [], _∷_, Option, some, none, eqb, leb, ltb, ℤ, pos, length, drop, arith, leb-true, pick, both, sameBytes, picked, not-both, both-first}
 use Rattle.number.specs.Decimal.{digits}
 use Rattle.number.specs.Reading.{says}
 use Rattle.number.specs.Signed.{Signed32}
@@ -22,23 +8,7 @@ use Rattle.number.specs.Alphabet.{isLabel}
 use Rattle.json_value.specs.Grammar.{Json}
 use Rattle.machine.specs.Words.{Bytes, maybe, isSome, orElse, any}
 use Rattle.machine.specs.Json.{shape, element, stringOf, entriesOf, isType, numberIn, below, integerIn}
-use Rattle.machine.specs.Answers.{
-  Element,
-  _is_,
-  Need,
-  label,
-  anyEntry,
-  asked,
-  commanded,
-  needs,
-  isObject,
-  lacks,
-  spoils,
-  isMissing,
-  badEntries,
-  isBad,
-  valueAsked,
-}
+use Rattle.machine.specs.Answers.{Element, _is_, Need, label, anyEntry, asked, commanded, needs, isObject, lacks, spoils, isMissing, badEntries, isBad, valueAsked}
 use Rattle.machine.specs.Answers.Kind.{aString}
 use Rattle.machine.specs.Answers.Need.{one, entries}
 use Rattle.demand_held.proofs.Lists.{Each}

@@ -1,16 +1,6 @@
 -- What pump writes on a machine that can be told is well-formed.
 -- Assumes nothing.
-use Prim.Native.Nat.{ℕ, zero, suc, _+_, _-_, _*_, _%_, _≤_, _<_}
-use mathlib.Core.Path.{_≡_, refl, _∙_, subst}
-use mathlib.Core.Bool.{Bool, true, false, not}
-use mathlib.Core.List.{List, [], _∷_}
-use mathlib.Core.Option.{Option, some, none}
-use lib.Dec.{eqb, ltb, leb}
-use lib.ListN.{length, getD, set, length-set}
-use native.Mathlib.Omega.{arith}
-use borrow.Author.Tests.{eqb-false, ltb-true}
-use Rattle.basis.specs.Pick.{pick, both}
-use Rattle.basis.proofs.Cases.{picked}
+use Rattle.basis.proofs.Std.{ℕ, zero, suc, _+_, _-_, _*_, _%_, _≤_, _<_, _≡_, refl, _∙_, subst, Bool, true, false, not, List, [], _∷_, Option, some, none, eqb, ltb, leb, length, getD, set, length-set, arith, eqb-false, ltb-true, pick, both, picked}
 use Rattle.answer.specs.Times.{lastTime}
 use Rattle.identity.specs.Read.{SixteenBytes}
 use Rattle.identity.specs.Version.{version4Of}

@@ -1,15 +1,7 @@
 -- Numbers that a packet asks for and that no reason refuses are numbers of the table.
 -- Assumes nothing.
-use Prim.Native.Nat.{ℕ, suc, _+_, _<_}
-use mathlib.Core.Path.{_≡_, refl}
-use mathlib.Core.Bool.{Bool, true, false, not}
-use mathlib.Core.List.{List, [], _∷_}
-use mathlib.Core.Option.{Option, some, none}
-use lib.ListN.{length}
-use native.Mathlib.Omega.{arith}
-use Rattle.basis.specs.Pick.{pick, both}
+use Rattle.basis.proofs.Std.{ℕ, suc, _+_, _<_, _≡_, refl, Bool, true, false, not, List, [], _∷_, Option, some, none, length, arith, pick, both, not-both}
 use Rattle.basis.specs.Lists.Among.{first, later}
-use Rattle.basis.proofs.Both.{not-both}
 use Rattle.json_value.specs.Grammar.{Json}
 use Rattle.machine.specs.Words.{maybe, isSome, orElse, any, placeFrom}
 use Rattle.machine.specs.State.{Machine}

@@ -1,13 +1,6 @@
 -- What is told is told to a link that was greeted in this life, over every run.
 -- Assumes nothing.
-use Prim.Native.Nat.{ℕ}
-use mathlib.Core.Path.{_≡_, refl, _∙_}
-use mathlib.Core.Bool.{true, false}
-use mathlib.Core.List.{List, [], _∷_}
-use mathlib.Core.Option.{Option, some, none}
-use native.Mathlib.Omega.{arith}
-use Rattle.basis.specs.Lists.{Among}
-use Rattle.basis.proofs.Both.{both-true}
+use Rattle.basis.proofs.Std.{ℕ, _≡_, refl, _∙_, true, false, List, [], _∷_, Option, some, none, arith, Among, both-true}
 use Rattle.write_message.specs.Message.{Message}
 use Rattle.machine.specs.State.{Life, fresh, Start, Machine, lifeAt, Call}
 use Rattle.machine.specs.State.Outcome.{refused}

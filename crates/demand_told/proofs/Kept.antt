@@ -1,12 +1,7 @@
 -- What a link's life in the machine tells of the history: each flag of the two exchanges, and each awaited Version and Watchdog, stands for
 -- calls of this life.
 -- Assumes nothing.
-use Prim.Native.Nat.{ℕ}
-use mathlib.Core.Path.{_≡_, refl}
-use mathlib.Core.Bool.{true, false}
-use mathlib.Core.List.{List, [], _∷_}
-use native.Mathlib.Omega.{arith}
-use Rattle.basis.proofs.Both.{not-both}
+use Rattle.basis.proofs.Std.{ℕ, _≡_, refl, true, false, List, [], _∷_, arith, not-both}
 use Rattle.machine.specs.Words.{Bytes}
 use Rattle.machine.specs.State.{Sent, Awaited, Life, fresh, Machine}
 use Rattle.machine.specs.State.Sent.{ourVersion, ourWatchdog, noRecord, theRecord}

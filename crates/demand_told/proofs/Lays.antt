@@ -1,20 +1,7 @@
 -- Each call leaves and issues what can be told.
 -- Assumes nothing.
-use Prim.Native.Nat.{ℕ, _≤_, _<_}
-use Prim.Native.String.{String}
-use mathlib.Core.Path.{_≡_}
-use mathlib.Core.Bool.{Bool, true, false, not}
-use mathlib.Core.List.{List, [], _∷_}
-use mathlib.Core.Option.{Option, some, none}
-use lib.Dec.{eqb}
-use lib.IntN.{ℤ}
-use lib.ListN.{length}
-use native.Mathlib.Omega.{arith}
-use borrow.Author.Tests.{eqb-true, leb-false}
-use Rattle.basis.specs.Pick.{pick, both}
+use Rattle.basis.proofs.Std.{ℕ, _≤_, _<_, String, _≡_, Bool, true, false, not, List, [], _∷_, Option, some, none, eqb, ℤ, length, arith, eqb-true, leb-false, pick, both, picked, both-true}
 use Rattle.basis.specs.Lists.Among.{first}
-use Rattle.basis.proofs.Cases.{picked}
-use Rattle.basis.proofs.Both.{both-true}
 use Rattle.answer.specs.Times.{lastTime}
 use Rattle.json_value.specs.Grammar.{Json}
 use Rattle.number.specs.Signed.{Signed32}

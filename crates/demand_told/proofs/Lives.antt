@@ -1,15 +1,6 @@
 -- A link's life in the machine's list of lives, where one is set or all of some are closed.
 -- Assumes nothing.
-use Prim.Native.Nat.{ℕ, zero, suc}
-use mathlib.Core.Path.{_≡_, refl, sym, _∙_, ap}
-use mathlib.Core.Bool.{true, false}
-use mathlib.Core.List.{List, [], _∷_}
-use lib.Dec.{eqb}
-use lib.ListN.{getD, replicate}
-use native.Mathlib.Omega.{arith}
-use borrow.Author.Tests.{eqb-true, eqb-false, ne-eqb}
-use Rattle.basis.proofs.Cases.{bool-cases}
-use Rattle.basis.proofs.Both.{not-both}
+use Rattle.basis.proofs.Std.{ℕ, zero, suc, _≡_, refl, sym, _∙_, ap, true, false, List, [], _∷_, eqb, getD, replicate, eqb-true, eqb-false, ne-eqb, bool-cases, not-both}
 use Rattle.machine.specs.Words.{any, changed}
 use Rattle.machine.specs.State.{Life, fresh, Machine, lifeAt}
 use Rattle.machine.specs.Life.{close, closeAll}

@@ -1,25 +1,12 @@
 -- An Alarm goes to the primary alone.
 -- Assumes nothing.
-use Prim.Native.Nat.{ℕ, suc, _+_, _-_, _*_, _<_}
-use Prim.Native.String.{String}
-use mathlib.Core.Path.{_≡_, refl, sym, ap, subst}
-use mathlib.Core.Bool.{Bool, true, false, not}
-use mathlib.Core.List.{List, [], _∷_}
-use mathlib.Core.Option.{Option, some, none}
-use lib.Dec.{eqb, ltb, leb}
-use lib.ListN.{length}
-use native.Mathlib.Omega.{arith}
-use borrow.Author.Tests.{ltb-true, eq-eqb, eqb-true}
-use Rattle.basis.specs.Pick.{pick, both}
-use Rattle.basis.specs.Lists.{Among}
+use Rattle.basis.proofs.Std.{ℕ, suc, _+_, _-_, _*_, String, _≡_, refl, sym, ap, subst, Bool, true, false, not, List, [], _∷_, Option, some, none, eqb, ltb, leb, length, arith, ltb-true, eq-eqb, eqb-true, pick, both, Among, picked, both-first, not-both}
 use Rattle.basis.specs.Lists.Among.{first, later}
-use Rattle.basis.proofs.Cases.{picked}
-use Rattle.basis.proofs.Both.{both-first, not-both}
 use Rattle.json_value.specs.Grammar.{Json}
 use Rattle.table_whole.specs.Table.{Table}
 use Rattle.write_message.specs.Message.{Message}
 use Rattle.write_message.specs.Message.Message.{ack, notAck}
-use Rattle.machine.specs.Words.{Bytes, maybe, isNumber, firstThat}
+use Rattle.machine.specs.Words.{Bytes, isNumber, firstThat}
 use Rattle.machine.specs.State.{Setup, Content, Alarm, Held, Machine, lifeAt, Effect}
 use Rattle.machine.specs.State.Content.{ofAlarm, ofStatus, ofAggregated}
 use Rattle.machine.specs.Json.{stringOf, isType, elementIs}

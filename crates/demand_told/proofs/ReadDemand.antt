@@ -1,18 +1,7 @@
 -- What is written reads back, over every run.
 -- Assumes nothing.
-use Prim.Native.Nat.{ℕ, _≤_}
-use mathlib.Core.Path.{_≡_, refl, subst}
-use mathlib.Core.Bool.{true, false}
-use mathlib.Core.List.{List, []}
-use mathlib.Core.Option.{Option, some, none}
-use lib.Dec.{leb, ltb}
-use lib.IntN.{ℤ}
-use lib.ListN.{length-map}
-use native.Mathlib.Omega.{arith}
-use borrow.Author.Tests.{leb-true, ltb-false}
-use Rattle.basis.specs.Lists.{Among}
+use Rattle.basis.proofs.Std.{ℕ, _≤_, _≡_, refl, subst, true, false, List, [], Option, some, none, leb, ltb, ℤ, length-map, arith, leb-true, ltb-false, Among, both-true}
 use Rattle.basis.specs.Lists.Among.{first as here, later}
-use Rattle.basis.proofs.Both.{both-true}
 use Rattle.answer.specs.Times.{lastTime}
 use Rattle.identity.specs.Read.{SixteenBytes}
 use Rattle.json_value.specs.Grammar.{Json}

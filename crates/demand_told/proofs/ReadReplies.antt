@@ -1,18 +1,7 @@
 -- What a packet call writes on a machine that can be told is well-formed.
 -- Assumes nothing.
-use Prim.Native.Nat.{ℕ, _≤_}
-use Prim.Native.String.{String}
-use mathlib.Core.Path.{_≡_, refl, subst}
-use mathlib.Core.Bool.{Bool, true, false, not}
-use mathlib.Core.List.{List, [], _∷_, map}
-use mathlib.Core.Option.{Option, some, none}
-use native.Mathlib.Omega.{arith}
-use Rattle.basis.specs.Pick.{pick, both}
-use Rattle.basis.specs.Lists.{sameBytes, Among}
-use Rattle.basis.specs.Text.{text}
+use Rattle.basis.proofs.Std.{ℕ, _≤_, String, _≡_, refl, subst, Bool, true, false, not, List, [], _∷_, map, Option, some, none, arith, pick, both, sameBytes, Among, text, picked, not-both}
 use Rattle.basis.specs.Lists.Among.{first, later}
-use Rattle.basis.proofs.Cases.{picked}
-use Rattle.basis.proofs.Both.{not-both}
 use Rattle.answer.specs.Times.{lastTime}
 use Rattle.identity.specs.Read.{SixteenBytes}
 use Rattle.names.specs.Names.{names, nameOf, IsReason}
@@ -27,23 +16,7 @@ use Rattle.write_laws.specs.Formed.Formed.{formed-ack, formed-notAck, formed-st
 use Rattle.machine.specs.Words.{Bytes, maybe, isSome, orElse, any, placeOf, Case, firstOf}
 use Rattle.machine.specs.State.{Alarm, Life, Machine, lifeAt, alarmAt, valueAt, Effect}
 use Rattle.machine.specs.Json.{stringOf, isType}
-use Rattle.machine.specs.Answers.{
-  isAnswer,
-  isReadable,
-  isIgnored,
-  asked,
-  commanded,
-  needs,
-  isMissing,
-  isBad,
-  componentAsked,
-  alarmAsked,
-  valueAsked,
-  wantsReply,
-  reasons,
-  reasonOf,
-  failsCheck,
-}
+use Rattle.machine.specs.Answers.{isAnswer, isReadable, isIgnored, asked, commanded, needs, isMissing, isBad, componentAsked, alarmAsked, valueAsked, wantsReply, reasons, reasonOf, failsCheck}
 use Rattle.machine.specs.Items.{numberAsked, happens, subscribe, unsubscribe, commands}
 use Rattle.machine.specs.Messages.{valueOf, answerEntry, responseMessage, commandEntry, commandMessage}
 use Rattle.machine.specs.Effects.{closes, refusal, refuses, carriedOut, replyMessage, replying, receives}

@@ -1,19 +1,7 @@
 -- A readable mId is the text of an identity, in either case.
 -- Assumes nothing.
-use Prim.Native.Nat.{ℕ, _+_, _*_, _/_, _%_, _<_}
-use mathlib.Core.Path.{_≡_, refl, sym, _∙_, ap, subst}
-use mathlib.Core.Bool.{Bool, true, false}
-use mathlib.Core.List.{List, [], _∷_, map}
-use mathlib.Core.Option.{Option, some, none}
-use lib.Dec.{eqb, leb, T, eqb→eq}
-use lib.ListN.{replicate}
-use native.Mathlib.Omega.{arith}
-use borrow.Author.Tests.{eqb-true, leb-true}
-use Rattle.basis.specs.Pick.{pick, both}
-use Rattle.basis.specs.Lists.{sameBytes}
-use Rattle.basis.proofs.Same.{same-true, same-self}
+use Rattle.basis.proofs.Std.{ℕ, _+_, _*_, _/_, _%_, _<_, _≡_, refl, sym, _∙_, ap, subst, Bool, true, false, List, [], _∷_, map, Option, some, none, eqb, leb, T, eqb→eq, replicate, arith, eqb-true, leb-true, pick, both, sameBytes, same-true, same-self, not-both}
 use Rattle.basis.proofs.Table.{at}
-use Rattle.basis.proofs.Both.{not-both}
 use Rattle.identity.specs.Hex.{hexDigit, hexValue, lowerHex, lowered}
 use Rattle.identity.specs.Text.{identityText}
 use Rattle.identity.specs.Read.{bytesOf, readIdentity}

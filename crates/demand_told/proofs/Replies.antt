@@ -1,29 +1,16 @@
 -- A reply is written in Up alone: in Greeting its packet is ignored, in Beating it is "Not ready".
 -- Assumes nothing.
-use Prim.Native.Nat.{ℕ, _≤_}
-use Prim.Native.String.{String}
-use mathlib.Core.Path.{_≡_, refl, ap}
-use mathlib.Core.Bool.{Bool, true, false, not}
-use mathlib.Core.List.{List, [], _∷_}
-use mathlib.Core.Option.{Option, some, none}
-use lib.ListN.{length}
-use native.Mathlib.Omega.{arith}
-use Rattle.basis.specs.Pick.{pick, both}
-use Rattle.basis.specs.Lists.{sameBytes, Among}
+use Rattle.basis.proofs.Std.{ℕ, _≤_, String, _≡_, refl, Bool, true, false, not, List, [], _∷_, Option, some, none, length, arith, pick, both, sameBytes, Among, text, picked, same-true, not-both}
 use Rattle.basis.specs.Lists.Among.{first, later}
-use Rattle.basis.specs.Text.{text}
-use Rattle.basis.proofs.Cases.{picked}
-use Rattle.basis.proofs.Same.{same-true}
-use Rattle.basis.proofs.Both.{not-both}
 use Rattle.json_value.specs.Grammar.{Json}
 use Rattle.write_message.specs.Message.{Message}
 use Rattle.write_message.specs.Message.Message.{ack, notAck}
 use Rattle.machine.specs.Words.{Bytes, maybe, reads, Case, firstOf}
 use Rattle.machine.specs.State.{Life, Machine, lifeAt, Effect}
-use Rattle.machine.specs.Json.{element, stringAt, elementIs, isType}
+use Rattle.machine.specs.Json.{stringAt, isType}
 use Rattle.machine.specs.Life.{isOver, isDown, isGreeting, isBeating, isUp}
-use Rattle.machine.specs.Answers.{isAnswer, awaitedHere, isReadable, isIgnored, isUnexpected, wantsReply, reasons, reasonOf, failsCheck}
-use Rattle.machine.specs.Effects.{closes, refusal, refuses, carriedOut, replying, receives}
+use Rattle.machine.specs.Answers.{isAnswer, isReadable, isIgnored, wantsReply, reasons, reasonOf, failsCheck}
+use Rattle.machine.specs.Effects.{closes, refuses, carriedOut, replying, receives}
 use Rattle.demand_held.proofs.Lists.{maybe-cases}
 use Rattle.demand_told.specs.Demand.{isTold}
 use Rattle.demand_told.proofs.Written.{quiet-answered}

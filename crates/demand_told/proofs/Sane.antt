@@ -1,15 +1,6 @@
 -- What the machine keeps can be told: times up to the last, values of 32 bits, numbers that the table has.
 -- Assumes nothing.
-use Prim.Native.Nat.{ℕ, zero, suc, _≤_, _<_}
-use mathlib.Core.Path.{_≡_, _∙_}
-use mathlib.Core.Bool.{Bool, true, false, not}
-use mathlib.Core.List.{List, [], _∷_}
-use mathlib.Core.Option.{Option, some, none}
-use lib.Dec.{leb, ltb}
-use lib.IntN.{ℤ}
-use lib.ListN.{length, getD}
-use native.Mathlib.Omega.{arith}
-use Rattle.basis.proofs.Cases.{picked}
+use Rattle.basis.proofs.Std.{ℕ, zero, suc, _≤_, _<_, _≡_, _∙_, Bool, true, false, not, List, [], _∷_, Option, some, none, leb, ltb, ℤ, length, getD, arith, picked}
 use Rattle.answer.specs.Times.{lastTime}
 use Rattle.number.specs.Signed.{Signed32}
 use Rattle.table_whole.specs.Table.{Table}

@@ -1,13 +1,6 @@
 -- Laws of tests and of the first that passes.
 -- Assumes nothing.
-use Prim.Native.Nat.{ℕ}
-use mathlib.Core.Path.{_≡_, refl}
-use mathlib.Core.Bool.{Bool, true, false, not}
-use mathlib.Core.List.{List, [], _∷_}
-use mathlib.Core.Option.{some}
-use native.Mathlib.Omega.{arith}
-use Rattle.basis.specs.Pick.{pick, both}
-use Rattle.basis.proofs.Both.{not-both}
+use Rattle.basis.proofs.Std.{ℕ, _≡_, refl, Bool, true, false, not, List, [], _∷_, some, arith, pick, both, not-both}
 use Rattle.machine.specs.Words.{firstThat}
 use Rattle.demand_held.proofs.Lists.{Each}
 use Rattle.demand_held.proofs.Lists.Each.{no-more, one-more}

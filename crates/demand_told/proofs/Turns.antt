@@ -1,12 +1,7 @@
 -- What a link's life becomes in a call of it, each turn with its event.
 -- Assumes nothing.
-use Prim.Native.Nat.{ℕ}
-use mathlib.Core.Path.{_≡_, refl, sym, _∙_, subst}
-use mathlib.Core.Bool.{true, false}
-use mathlib.Core.List.{List, [], _∷_}
-use mathlib.Core.Option.{some, none}
+use Rattle.basis.proofs.Std.{ℕ, _≡_, refl, sym, _∙_, subst, true, false, List, [], _∷_, some, none, picked}
 use Rattle.basis.specs.Lists.Among.{first}
-use Rattle.basis.proofs.Cases.{picked}
 use Rattle.json_value.specs.Grammar.{Json}
 use Rattle.write_message.specs.Message.Message.{version, watchdog}
 use Rattle.machine.specs.Words.{Bytes, maybe}

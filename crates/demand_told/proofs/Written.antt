@@ -1,34 +1,18 @@
 -- What each call writes.
 -- Assumes nothing.
-use Prim.Native.Nat.{ℕ}
-use Prim.Native.String.{String}
-use mathlib.Core.Path.{_≡_, refl, sym, _∙_, ap}
-use mathlib.Core.Bool.{Bool, true, false, not}
-use mathlib.Core.List.{List, [], _∷_}
-use mathlib.Core.Option.{Option, some, none}
-use mathlib.Core.Logic.{_⊎_, inl, inr}
-use lib.Dec.{eqb, leb, ltb}
-use lib.IntN.{ℤ}
-use lib.ListN.{length}
-use native.Mathlib.Omega.{arith}
-use Rattle.basis.specs.Pick.{pick, both, bit}
-use Rattle.basis.specs.Lists.{count}
-use Rattle.basis.proofs.Cases.{picked}
-use Rattle.basis.proofs.Both.{not-both}
+use Rattle.basis.proofs.Std.{ℕ, String, _≡_, refl, ap, Bool, true, false, not, [], Option, some, none, arith, both, bit, picked, not-both}
 use Rattle.json_value.specs.Grammar.{Json}
 use Rattle.table_whole.specs.Table.{Table}
 use Rattle.write_message.specs.Message.{Message}
-use Rattle.write_message.specs.Message.Message.{ack}
-use Rattle.machine.specs.Words.{Bytes, maybe, isSome, firstOf}
-use Rattle.machine.specs.State.{Content, Held, Sent, Awaited, Alarm, Life, Machine, lifeAt, valueAt, Act, Effect, only}
+use Rattle.machine.specs.Words.{Bytes}
+use Rattle.machine.specs.State.{Content, Awaited, Machine, lifeAt, Effect, only}
 use Rattle.machine.specs.State.Content.{ofAlarm, ofStatus, ofAggregated}
-use Rattle.machine.specs.Json.{readPacket, stringOf, isType}
-use Rattle.machine.specs.Life.{isGreeting, isBeating, isUp, oldestUnsent, passLength, Due, dueUp, due, awaitedBy}
+use Rattle.machine.specs.Json.{stringOf, isType}
+use Rattle.machine.specs.Life.{isGreeting, isBeating, isUp, Due, dueUp, due, awaitedBy}
 use Rattle.machine.specs.Life.Due.{theVersion, theWatchdog, theAggregated, theAlarm, theHeld}
-use Rattle.machine.specs.Answers.{isAnswer, isIgnored, wantsReply, reasons, reasonOf, failsCheck}
-use Rattle.machine.specs.Items.{isNew, happens, subscribe, unsubscribe, becomes, aggregates}
+use Rattle.machine.specs.Answers.{isAnswer, wantsReply, reasonOf, failsCheck}
 use Rattle.machine.specs.Messages.{recordMessage}
-use Rattle.machine.specs.Effects.{answerCloses, closes, refusal, sends, dueMessage, answers, answered, refuses, carriedOut, replyMessage, replying, receives}
+use Rattle.machine.specs.Effects.{answerCloses, closes, dueMessage, answers, answered, refuses, carriedOut, replyMessage, replying, receives}
 use Rattle.demand_held.proofs.Lists.{maybe-cases}
 use Rattle.demand_told.specs.Demand.{isTold, isAnAnswer, OneAnswer}
 use Rattle.demand_told.specs.Demand.OneAnswer.{acked, not-acked}

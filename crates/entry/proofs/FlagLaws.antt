@@ -1,16 +1,8 @@
 -- What is made into flags is read from them, and which numbers are flags.
 -- Assumes nothing.
-use mathlib.Core.Path.{_≡_, refl, sym, ap, _∙_}
-use mathlib.Core.Bool.{Bool, true, false}
-use mathlib.Core.List.{[], _∷_}
-use Prim.Native.Nat.{ℕ, _/_, _%_, _^_, _≤_, _<_}
-use lib.Dec.{eqb, lit≤}
-use native.Mathlib.Omega.{arith}
+use Rattle.basis.proofs.Std.{_≡_, sym, ap, _∙_, Bool, true, false, [], _∷_, ℕ, _/_, _%_, _^_, _≤_, _<_, eqb, lit≤, arith, bool-cases, eqb-true, eqb-false, bit}
 use Rattle.bits.specs.Fields.{fieldOf, joined, split}
 use Rattle.bits.proofs.Fields.{joined-split}
-use Rattle.basis.proofs.Cases.{bool-cases}
-use borrow.Author.Tests.{eqb-true, eqb-false}
-use Rattle.basis.specs.Pick.{bit}
 use Rattle.entry.specs.Flags.{isSet, alarmWidths, alarmFlags, statusWidths, statusFlags, eventOf, isAcknowledged, isActive, isSuspended, isKnown, isOld}
 
 pub bit-le : (b : Bool) → bit b ≤ 1

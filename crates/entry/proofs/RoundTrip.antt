@@ -1,11 +1,6 @@
 -- Packed and unpacked: the same record; unpacked and packed: the same bytes; and the reader has one result.
 -- Assumes nothing.
-use mathlib.Core.Path.{_≡_, refl, sym, ap, subst, _∙_}
-use mathlib.Core.List.{List}
-use Prim.Native.Nat.{ℕ, _^_, _<_}
-use native.Mathlib.Nat.{div-eq-of-lt}
-use native.Mathlib.Omega.{arith}
-use lib.ListN.{length, getD, replicate}
+use Rattle.basis.proofs.Std.{_≡_, refl, sym, ap, subst, _∙_, List, ℕ, _^_, _<_, div-eq-of-lt, arith, length, getD, replicate}
 use Rattle.bits.specs.Fields.{total, joined, split, Within, none, next, bytesOf as bytesIn, numberOf}
 use Rattle.bits.proofs.Fields.{joined-lt, joined-split, split-joined}
 use Rattle.bits.proofs.Bytes.{number-bytes, number-lt, bytes-number, bytes-within}

@@ -1,9 +1,6 @@
 -- What the tests of the kinds say of a record.
 -- Assumes nothing.
-use mathlib.Core.Path.{_≡_, refl, sym, ap, _∙_}
-use mathlib.Core.Bool.{Bool, true, false}
-use Prim.Native.Nat.{ℕ, _%_, _^_, _≤_, _<_}
-use native.Mathlib.Omega.{arith}
+use Rattle.basis.proofs.Std.{_≡_, refl, sym, ap, _∙_, Bool, true, false, ℕ, _%_, _^_, _≤_, _<_, arith}
 use Rattle.entry.specs.declared.Entry.{Entry}
 use Rattle.entry.specs.Flags.{eventOf, isAcknowledged, isActive, isSuspended, isKnown, isOld}
 use Rattle.entry.specs.Valid.{Alarm, Status, Aggregated, OfKind, an-alarm, a-status, an-aggregated, Decides}

@@ -1,12 +1,6 @@
 -- A record's bytes are those of its two words.
 -- Assumes nothing.
-use mathlib.Core.Path.{_≡_, refl, sym, ap, ap₂, subst, _∙_}
-use mathlib.Core.List.{List, [], _∷_, _++_}
-use Prim.Native.Nat.{ℕ, _+_, _-_, _*_, _%_, _^_, _<_}
-use native.Mathlib.Nat.{mod-eq-of-lt}
-use native.Mathlib.Omega.{arith}
-use lib.ListN.{length, take, drop, replicate, take-append-drop, length-drop}
-use lib.Seq.{take-all, length-take-le}
+use Rattle.basis.proofs.Std.{_≡_, refl, sym, ap, ap₂, subst, _∙_, List, [], _∷_, _++_, ℕ, _+_, _-_, _*_, _%_, _^_, _<_, mod-eq-of-lt, arith, length, take, drop, replicate, take-append-drop, length-drop, take-all, length-take-le}
 use Rattle.bits.specs.Fields.{fieldOf, total, joined, split, bytesOf as bytesIn, numberOf}
 use Rattle.bits.proofs.Fields.{split-two, joined-behind, joined-lt}
 use Rattle.bits.proofs.Bytes.{number-two, number-lt}

@@ -1,11 +1,6 @@
 -- What a contract allows is what the call's definition gives.
 -- Assumes nothing.
-use Prim.Native.Nat.{ℕ, _<_}
-use mathlib.Core.Path.{_≡_, refl, sym, ap, ap₂, _∙_}
-use mathlib.Core.List.{List, [], _∷_, map}
-use native.Mathlib.Omega.{arith}
-use lib.Dec.{ltb}
-use lib.ListN.{length, take, getD}
+use Rattle.basis.proofs.Std.{ℕ, _<_, _≡_, refl, sym, ap, ap₂, _∙_, List, [], _∷_, map, arith, ltb, length, take, getD}
 use denote.Ref.{now}
 use Rattle.answer.specs.Number.{numberOf}
 use Rattle.identity.specs.declared.Identity.{Identity}

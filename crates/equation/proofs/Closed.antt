@@ -1,42 +1,17 @@
 -- The links that the machine closes are the bits of the word that tells them.
 -- Assumes nothing.
-use Prim.Native.Nat.{ℕ, zero, suc, _<_, _≤_}
-use Prim.Native.String.{String}
-use mathlib.Core.Path.{_≡_, refl}
-use mathlib.Core.Bool.{Bool, true, false}
-use mathlib.Core.List.{List, [], _∷_}
-use mathlib.Core.Option.{Option, some, none}
-use native.Mathlib.Omega.{arith}
-use borrow.Author.Tests.{leb-false}
-use lib.Dec.{eqb}
-use Rattle.basis.specs.Pick.{pick}
-use Rattle.basis.proofs.Cases.{picked}
+use Rattle.basis.proofs.Std.{ℕ, zero, suc, _<_, _≤_, String, _≡_, refl, Bool, true, false, List, [], _∷_, Option, some, none, arith, leb-false, eqb, pick, picked}
 use Rattle.json_value.specs.Grammar.{Json}
 use Rattle.write_message.specs.Message.{Message}
 use Rattle.machine.specs.Words.{Bytes, firstOf, keep, upTo}
-use Rattle.machine.specs.State.{Alarm, Awaited, Machine, lifeAt, valueAt, Act, Call, Outcome, Effect, only}
+use Rattle.machine.specs.State.{Alarm, Awaited, Machine, lifeAt, valueAt, Act, Call, Effect, only}
 use Rattle.machine.specs.State.Act.{connect, disconnect, packet, alarmInput, statusValue, aggregatedValue, tick, pump}
-use Rattle.machine.specs.State.Outcome.{refused, done}
 use Rattle.machine.specs.Json.{readPacket, stringOf, isType}
 use Rattle.machine.specs.Life.{isLate, awaitedBy, Due, due}
 use Rattle.machine.specs.Answers.{isAnswer, wantsReply, reasonOf, failsCheck}
 use Rattle.machine.specs.Items.{isNew, happens, subscribe, unsubscribe, becomes, commands, aggregates}
-use Rattle.machine.specs.Effects.{
-  connects,
-  closes,
-  ticks,
-  ownIdentity,
-  sends,
-  answerCloses,
-  answers,
-  answered,
-  refuses,
-  carriedOut,
-  replying,
-  receives,
-  effectOf,
-}
-use Rattle.machine.specs.Step.{noSuchLink, conditions, numberOf, step}
+use Rattle.machine.specs.Effects.{connects, closes, ticks, ownIdentity, sends, answerCloses, answers, answered, refuses, carriedOut, replying, receives, effectOf}
+use Rattle.machine.specs.Step.{noSuchLink, conditions, step}
 use Rattle.demand_held.proofs.Lists.{maybe-cases}
 use Rattle.demand_held.proofs.Steps.{step-done, step-refused}
 use Rattle.demand_told.specs.Life.{closedBy}

@@ -1,12 +1,6 @@
 -- The equation, from each call's.
 -- Assumes nothing.
-use Prim.Native.Nat.{ℕ}
-use mathlib.Core.Path.{_≡_, refl, sym, ap, ap₂, _∙_, subst}
-use mathlib.Core.Bool.{true}
-use mathlib.Core.List.{List, [], _∷_}
-use mathlib.Core.Option.{Option, some, none}
-use native.Mathlib.Omega.{arith}
-use lib.ListN.{length}
+use Rattle.basis.proofs.Std.{ℕ, _≡_, refl, sym, ap, ap₂, _∙_, subst, true, List, [], _∷_, Option, arith, length}
 use Rattle.answer.specs.Number.{isDone}
 use Rattle.pool.specs.declared.Reading.{Reading}
 use Rattle.site.specs.declared.Site.{Site}
@@ -21,7 +15,7 @@ use Rattle.call_start.proofs.Again.{site-again}
 use Rattle.sitec.specs.Outcome.{outcomeOf}
 use Rattle.sitec.specs.Lent.{Made, Started}
 use Rattle.call_laws.specs.Sound.{Sound}
-use Rattle.call_laws.specs.Calls.{Call, stepBy}
+use Rattle.call_laws.specs.Calls.{stepBy}
 use Rattle.call_laws.proofs.SequencesKept.{kept as sequences-kept}
 use Rattle.machine.specs.State.{Machine, Call as MachineCall}
 use Rattle.machine.specs.Step.{step}
@@ -43,7 +37,7 @@ use Rattle.equation.specs.Contracts.Allows.{reads-held, reads-lost, read
 use Rattle.equation.specs.Contracts.Run.{ends, asks}
 use Rattle.equation.specs.Equation.{startFor, Sees, FromStart, Fits, Equation}
 use Rattle.equation.proofs.Told.{told-same}
-use Rattle.equation.proofs.Asked.{BytesIn, Opened, opened}
+use Rattle.equation.proofs.Asked.{BytesIn, opened}
 use Rattle.equation.proofs.Fitting.{above, fitting}
 use Rattle.equation.proofs.Lawful.{lawful, misfit}
 use Rattle.equation.proofs.Closed.{closed-links}

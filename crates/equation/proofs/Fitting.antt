@@ -1,14 +1,8 @@
 -- What was lent fits, or it does not.
 -- Assumes nothing.
-use Prim.Native.Nat.{ℕ, zero, suc, _<_}
-use mathlib.Core.Path.{_≡_, refl}
-use mathlib.Core.List.{List}
-use mathlib.Core.Logic.{_⊎_, inl, inr}
-use native.Mathlib.Omega.{arith}
-use lib.ListN.{length}
+use Rattle.basis.proofs.Std.{ℕ, zero, suc, _<_, _≡_, refl, List, _⊎_, inl, inr, arith, length, eq-or-ne}
 use Rattle.store_site.specs.Layout.{siteWords}
 use Rattle.store_table.specs.Layout.{tableBytes}
-use Rattle.basis.proofs.Cases.{eq-or-ne}
 use Rattle.sitec.specs.Lent.{Words, WordsAndTable, WithCommands}
 use Rattle.equation.specs.Equation.{Fits}
 

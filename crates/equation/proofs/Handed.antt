@@ -1,18 +1,9 @@
 -- The words of the commands that a packet call hands over.
 -- Assumes nothing.
-use Prim.Native.Nat.{ℕ, _+_, _*_, _/_, _%_, _^_}
-use mathlib.Core.Path.{_≡_, refl, sym, ap, ap₂, _∙_, subst}
-use mathlib.Core.List.{List, [], _∷_, _++_, map}
-use mathlib.Core.Logic.{inl, inr}
-use native.Mathlib.Omega.{arith}
-use lib.IntN.{ℤ}
-use lib.ListN.{length, take, drop, length-map}
-use lib.Seq.{take-at, drop-at}
+use Rattle.basis.proofs.Std.{ℕ, _+_, _*_, _/_, _%_, _^_, _≡_, refl, sym, ap, ap₂, _∙_, List, _∷_, map, inl, inr, arith, ℤ, length, take, drop, length-map, take-at, drop-at, eq-or-ne}
 use denote.Ref.{now}
-use Rattle.basis.proofs.Cases.{eq-or-ne}
 use Rattle.answer.specs.declared.Report.{Report}
 use Rattle.answer.specs.declared.Answer.{Answer}
-use Rattle.answer.specs.declared.Answer.the-variants.{Done}
 use Rattle.answer.specs.Number.{numberOf}
 use Rattle.answer.proofs.Numbers.{0-is-done}
 use Rattle.number.specs.Signed.{Signed32, wordOf, signedOf}
@@ -26,7 +17,7 @@ use Rattle.call_laws.specs.Calls.{Call, planOf, stepBy}
 use Rattle.call_laws.specs.Calls.Call.{packet}
 use Rattle.call_laws.proofs.Kept.{kept as calls-kept}
 use Rattle.sitec.specs.declared.Outcome.{Outcome}
-use Rattle.sitec.specs.Outcome.{reportIn, outcomeOf, misfit}
+use Rattle.sitec.specs.Outcome.{reportIn}
 use Rattle.sitec.specs.Lent.{WithCommands}
 use Rattle.machine.specs.State.{Command as MachineCommand, commandOf}
 use Rattle.refine_calls.specs.Calls.{SameCommands}

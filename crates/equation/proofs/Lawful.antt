@@ -1,13 +1,7 @@
 -- Of any memory: a refused call changes nothing and tells its number alone, a call writes only what it counts, and on other memory than an ask needs there is
 -- number 14 and zeros.
 -- Assumes nothing.
-use Prim.Native.Nat.{ℕ, _%_, _<_}
-use mathlib.Core.Path.{_≡_, refl, sym, ap, ap₂, _∙_, subst}
-use mathlib.Core.List.{List, [], _∷_}
-use mathlib.Core.Logic.{inl, inr}
-use native.Mathlib.Omega.{arith}
-use lib.Dec.{ltb}
-use lib.ListN.{length, drop}
+use Rattle.basis.proofs.Std.{ℕ, _%_, _<_, _≡_, refl, sym, ap, ap₂, _∙_, subst, List, [], _∷_, inl, inr, arith, length, drop}
 use denote.Ref.{now}
 use Rattle.answer.specs.declared.Report.{Report}
 use Rattle.answer.specs.declared.Answer.{Answer}
@@ -35,22 +29,8 @@ use Rattle.equation.specs.Seen.{Ask, Seen, numbered, tells, unfit}
 use Rattle.equation.specs.Seen.Ask.{call, held, lost, phase, version, record-of}
 use Rattle.equation.specs.Seen.Seen.{told, count, numbers, entry}
 use Rattle.equation.specs.Contracts.{Allows, packetSeen, outcomeSeen}
-use Rattle.equation.specs.Contracts.Allows.{
-  connects,
-  disconnects,
-  packets,
-  alarms,
-  statuses,
-  aggregates,
-  ticks,
-  pumps,
-  reads-held,
-  reads-lost,
-  reads-phase,
-  reads-version,
-  reads-record,
-}
-use Rattle.equation.specs.Equation.{Fits, ServesCall, Serves}
+use Rattle.equation.specs.Contracts.Allows.{connects, disconnects, packets, alarms, statuses, aggregates, ticks, pumps, reads-held, reads-lost, reads-phase, reads-version, reads-record}
+use Rattle.equation.specs.Equation.{ServesCall, Serves}
 use Rattle.equation.proofs.Fitting.{above, Either, fits-words, fits-with-table, fits-with-commands, fitting, fitting-words}
 
 abbrev numberIn : Seen → ℕ

@@ -1,12 +1,7 @@
 -- What is seen of a call that is the machine's.
 -- Assumes nothing.
-use Prim.Native.Nat.{ℕ, suc}
-use mathlib.Core.Path.{_≡_, refl, sym, ap, ap₂, _∙_}
-use mathlib.Core.List.{List, [], _∷_, _++_, map}
-use mathlib.Core.Option.{Option, some, none}
-use lib.ListN.{length, take, drop, take-append-drop}
+use Rattle.basis.proofs.Std.{ℕ, suc, _≡_, refl, sym, ap, ap₂, _∙_, List, [], _∷_, _++_, map, Option, some, none, length, take, drop, take-append-drop}
 use Rattle.answer.specs.declared.Answer.{Answer}
-use Rattle.answer.specs.declared.Answer.the-variants.{Done, Refused}
 use Rattle.answer.specs.Number.{numberOf}
 use Rattle.answer.specs.Given.{Hint}
 use Rattle.site.specs.declared.Site.{Site}

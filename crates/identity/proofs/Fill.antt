@@ -1,10 +1,6 @@
 -- The elements of a list made by a function.
 -- Assumes nothing.
-use mathlib.Core.Path.{_≡_, refl}
-use mathlib.Core.List.{List, [], _∷_, map}
-use Prim.Native.Nat.{ℕ, zero, suc, _<_}
-use native.Mathlib.Nat.{le-of-suc-le-suc, not-suc-le-zero}
-use lib.ListN.{length, getD}
+use Rattle.basis.proofs.Std.{_≡_, refl, List, [], _∷_, map, ℕ, zero, suc, _<_, le-of-suc-le-suc, not-suc-le-zero, length, getD}
 
 pub mapped : (f : ℕ → ℕ) (xs : List ℕ) (k : ℕ) → k < length xs → getD (map f xs) k 0 ≡ f (getD xs k 0)
 mapped f [] k h = absurd (not-suc-le-zero h)

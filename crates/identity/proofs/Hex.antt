@@ -1,15 +1,7 @@
 -- Laws of the hexadecimal digits, each one computed test over the sixteen.
 -- Assumes nothing.
-use mathlib.Core.Path.{_≡_}
-use mathlib.Core.Bool.{Bool}
-use mathlib.Core.List.{List}
-use Prim.Native.Nat.{ℕ, _*_, _+_, _-_, _/_, _%_, _≤_, _<_}
-use native.Mathlib.Omega.{arith}
-use lib.Dec.{ltb, eqb, eqb→eq, lit≤}
-use lib.ListN.{replicate}
-use borrow.Author.Tests.{ltb-true}
+use Rattle.basis.proofs.Std.{_≡_, Bool, List, ℕ, _*_, _+_, _/_, _%_, _≤_, _<_, arith, ltb, eqb, eqb→eq, lit≤, replicate, ltb-true, picked}
 use Rattle.basis.proofs.Table.{at}
-use Rattle.basis.proofs.Cases.{picked}
 use Rattle.identity.specs.Hex.{hexDigit, hexValue, lowerHex}
 
 abbrev sixteen : List ℕ

@@ -1,17 +1,6 @@
 -- What a comparison byte by byte shows of a text whose letters A to F are made small.
 -- Assumes nothing.
-use mathlib.Core.Path.{_≡_, refl, sym, ap, subst, _∙_}
-use mathlib.Core.Bool.{Bool, true, false}
-use mathlib.Core.List.{List, _∷_}
-use Prim.Native.Nat.{ℕ, _+_, _≤_, _<_}
-use native.Mathlib.Numerals.{add-one}
-use lib.Dec.{eqb}
-use lib.ListN.{length, getD, drop, length-map, drop-of-length-le}
-use lib.Seq.{ext-getD, drop-cons}
-use Rattle.basis.specs.Lists.{sameBytes}
-use Rattle.basis.specs.Pick.{pick, both}
-use Rattle.basis.proofs.Same.{same-is}
-use Rattle.basis.proofs.Both.{untrue}
+use Rattle.basis.proofs.Std.{_≡_, refl, sym, ap, subst, _∙_, Bool, true, false, List, _∷_, ℕ, _+_, _≤_, _<_, add-one, eqb, length, getD, drop, length-map, drop-of-length-le, ext-getD, drop-cons, sameBytes, pick, both, same-is, untrue}
 use Rattle.identity.specs.Hex.{lowerHex, lowered}
 use Rattle.identity.proofs.Fill.{mapped}
 

@@ -1,21 +1,11 @@
 -- Reading an identity: the function gives the answer, there is one answer only, and what was written is read back.
 -- Assumes nothing.
-use mathlib.Core.Path.{_≡_, refl, sym, ap, subst, _∙_}
-use mathlib.Core.Bool.{true}
-use mathlib.Core.List.{List}
-use Prim.Native.Nat.{ℕ, _+_, _<_}
-use native.Mathlib.Omega.{arith}
-use lib.Dec.{lit≤}
-use lib.ListN.{length, getD}
-use Rattle.basis.proofs.Cases.{bool-cases, picked}
+use Rattle.basis.proofs.Std.{_≡_, refl, sym, ap, subst, _∙_, true, List, ℕ, _+_, _<_, arith, lit≤, length, getD, bool-cases, picked, sameBytes, same-true, same-self, not-both, untrue}
 use Rattle.identity.specs.declared.ReadIdentity.{ReadIdentity}
 use Rattle.identity.specs.Hex.{lowered}
 use Rattle.identity.specs.Text.{identityText}
-use Rattle.basis.specs.Lists.{sameBytes}
 use Rattle.identity.specs.Read.{SixteenBytes, Says, found, notFound, starts, byteAt, bytesOf, readIdentity, Answers, IdentityRead}
 use Rattle.identity.proofs.Fill.{mapped, mapped-below}
-use Rattle.basis.proofs.Same.{same-true, same-self}
-use Rattle.basis.proofs.Both.{not-both, untrue}
 use Rattle.identity.proofs.Hex.{value-below}
 use Rattle.identity.proofs.Text.{text-length, bytes-said, text-lowered}
 use Rattle.identity.proofs.Lowered.{lowered-length}

@@ -1,16 +1,6 @@
 -- The text of an identity by its places.
 -- Assumes nothing.
-use mathlib.Core.Path.{_≡_, refl, sym, ap, ap₂, _∙_}
-use mathlib.Core.Bool.{Bool}
-use mathlib.Core.List.{List, [], _∷_, _++_, map, map-append}
-use Prim.Native.Nat.{ℕ, zero, suc, _+_, _-_, _*_, _/_, _%_, _<_}
-use native.Mathlib.Omega.{arith}
-use lib.Dec.{T, ltb, eqb, ltb→lt, eqb→eq}
-use lib.ListN.{length, getD}
-use lib.Seq.{ext-getD}
-use borrow.Author.Tests.{le-ltb, eq-eqb, ne-eqb}
-use Rattle.basis.specs.Pick.{pick, both}
-use Rattle.basis.specs.Text.{text}
+use Rattle.basis.proofs.Std.{_≡_, refl, sym, ap, ap₂, _∙_, Bool, List, [], _∷_, _++_, map, map-append, ℕ, zero, suc, _+_, _-_, _*_, _/_, _%_, _<_, arith, T, ltb, eqb, ltb→lt, eqb→eq, length, getD, ext-getD, le-ltb, eq-eqb, ne-eqb, pick, both, text}
 use Rattle.basis.proofs.Table.{at, both-left, both-right}
 use Rattle.identity.specs.Hex.{hexDigit, lowerHex, lowered}
 use Rattle.identity.specs.Text.{hexBytes, identityText}

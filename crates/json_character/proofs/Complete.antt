@@ -1,12 +1,6 @@
 -- A character of the grammar is read.
 -- Assumes nothing.
-use Prim.Native.Nat.{ℕ, _+_, _-_, _*_, _<_, _≤_}
-use mathlib.Core.Path.{_≡_, refl, _∙_}
-use mathlib.Core.List.{List, _∷_}
-use mathlib.Core.Logic.{_⊎_, inl, inr}
-use native.Mathlib.Omega.{arith}
-use lib.ListN.{getD, drop}
-use borrow.Author.Tests.{lt-ltb, le-ltb, le-leb, ne-eqb}
+use Rattle.basis.proofs.Std.{ℕ, _+_, _-_, _*_, _<_, _≤_, _≡_, refl, _∙_, List, _∷_, _⊎_, inl, inr, arith, getD, drop, lt-ltb, le-ltb, le-leb, ne-eqb}
 use Rattle.json_character.specs.declared.Char.the-variants.{One, Close}
 use Rattle.json_character.specs.Char.{hexOf, hex4Of, hex4At, escapeOf, unicodeOf, twoOf, inThree, threeOf, inFour, fourOf, rawOf, charOf}
 use Rattle.json_character.proofs.Laws.{digits}

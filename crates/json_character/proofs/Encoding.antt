@@ -1,14 +1,8 @@
 -- The rows of UTF-8 are the code points' bytes: each code point that is no surrogate has one form, the one that `utf8` gives.
 -- Assumes nothing.
-use Prim.Native.Nat.{ℕ, _+_, _-_, _*_, _/_, _%_, _<_, _≤_}
-use mathlib.Core.Path.{_≡_, sym, subst}
-use mathlib.Core.List.{List, [], _∷_, _++_}
-use mathlib.Core.Logic.{_⊎_, inl, inr, ⊎-elim}
-use native.Mathlib.Omega.{arith}
-use borrow.Author.Tests.{lt-ltb, le-ltb}
+use Rattle.basis.proofs.Std.{ℕ, _+_, _-_, _*_, _/_, _%_, _<_, _≤_, _≡_, sym, subst, List, [], _∷_, _++_, _⊎_, inl, inr, ⊎-elim, arith, lt-ltb, le-ltb, lt-or-ge}
 use Rattle.json_character.specs.Utf8.{In, Tail, Utf8, two, three, four}
 use Rattle.json_character.specs.Utf8.Utf8.{utf8-1, utf8-2, utf8-3-E0, utf8-3-E1, utf8-3-ED, utf8-3-EE, utf8-4-F0, utf8-4-F1, utf8-4-F4}
-use Rattle.basis.proofs.Cases.{lt-or-ge}
 use Rattle.json_character.proofs.Ranges.{between}
 use Rattle.json_character.proofs.Sound.{three-row, four-row}
 use Rattle.json_character.specs.Encoded.{Scalar, utf8}

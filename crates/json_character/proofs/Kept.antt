@@ -1,6 +1,6 @@
 -- The claims about characters are kept.
 -- Assumes nothing.
-use mathlib.Core.Path.{subst}
+use Rattle.basis.proofs.Std.{subst}
 use Rattle.json_character.specs.declared.Char.{Char}
 use Rattle.json_character.specs.Claims.{Claims}
 use Rattle.json_character.proofs.Sound.{Says, char-says}

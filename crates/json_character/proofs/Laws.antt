@@ -1,16 +1,6 @@
 -- Four digits, and the character at a place of a slice.
 -- Assumes nothing.
-use Prim.Native.Nat.{ℕ, _+_, _-_, _*_, _<_, _≤_}
-use mathlib.Core.Path.{_≡_, ap, _∙_}
-use mathlib.Core.List.{List}
-use native.Mathlib.Nat.{add-zero, add-assoc}
-use lib.ListN.{length, getD, drop}
-use lib.Seq.{getD-drop}
-use borrow.Author.Tests.{lt-ltb, le-ltb, ne-eqb, ltb-false, leb-false, eqb-false}
-use Rattle.basis.proofs.Cases.{picked}
-use Rattle.basis.proofs.Both.{untrue}
-use mathlib.Core.Bool.{Bool, true}
-use lib.Dec.{ltb, leb, eqb}
+use Rattle.basis.proofs.Std.{ℕ, _+_, _*_, _<_, _≤_, _≡_, ap, _∙_, List, add-zero, add-assoc, length, getD, drop, getD-drop, lt-ltb, le-ltb, ne-eqb, ltb-false, leb-false, eqb-false, picked, untrue, Bool, true, ltb, leb, eqb}
 use Rattle.json_character.proofs.Lists.{past}
 use Rattle.json_character.specs.declared.Char.the-variants.{One, Close, Bad}
 use Rattle.json_character.specs.Char.{hexOf, hex4Of, hex4At, escapeOf, unicodeOf, rawOf, charOf, isPlain}

@@ -1,7 +1,6 @@
 -- A number of a range is in a wider one.
 -- Assumes nothing.
-use Prim.Native.Nat.{ℕ, _≤_}
-use native.Mathlib.Omega.{arith}
+use Rattle.basis.proofs.Std.{ℕ, _≤_, arith}
 use Rattle.json_character.specs.Utf8.{In}
 
 pub between : {low high low′ high′ b : ℕ} → In low high b → low′ ≤ low → high ≤ high′ → In low′ high′ b

@@ -1,20 +1,8 @@
 -- What the definition reads is in the grammar.
 -- Assumes nothing.
-use Prim.Native.Nat.{ℕ, _+_, _-_, _*_, _<_, _≤_}
-use mathlib.Core.Path.{_≡_, refl, sym, subst}
-use mathlib.Core.Bool.{true}
-use mathlib.Core.List.{List, [], _∷_}
-use mathlib.Core.Logic.{_⊎_, inl, inr, ⊎-elim}
-use native.Mathlib.Omega.{arith}
-use native.Mathlib.Nat.{add-zero}
-use lib.Dec.{ltb, leb, eqb}
-use lib.ListN.{length, getD, drop, length-drop}
-use lib.Seq.{getD-drop, drop-drop}
-use borrow.Author.Tests.{ltb-true, ltb-false, leb-true, eqb-true, eqb-false}
-use Rattle.basis.specs.Pick.{pick}
+use Rattle.basis.proofs.Std.{ℕ, _+_, _-_, _*_, _<_, _≤_, _≡_, refl, sym, subst, true, List, [], _∷_, _⊎_, inl, inr, ⊎-elim, arith, add-zero, ltb, leb, eqb, length, getD, drop, length-drop, getD-drop, drop-drop, ltb-true, ltb-false, leb-true, eqb-true, eqb-false, pick, picked, lt-or-ge}
 use Rattle.json_character.proofs.Laws.{digits}
 use Rattle.json_character.proofs.Lists.{next}
-use Rattle.basis.proofs.Cases.{picked, lt-or-ge}
 use Rattle.json_character.specs.declared.Char.{Char}
 use Rattle.json_character.specs.declared.Char.the-variants.{One, Close, Bad}
 use Rattle.json_character.specs.Char.{hexOf, hex4Of, hex4At, escapeOf, unicodeOf, twoOf, inThree, threeOf, inFour, fourOf, rawOf, charOf}

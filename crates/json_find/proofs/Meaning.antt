@@ -1,9 +1,6 @@
 -- The entries of an object beside what they mean, and a name's string.
 -- Assumes nothing.
-use Prim.Native.Nat.{ℕ, _≤_}
-use mathlib.Core.Path.{_≡_, refl, _∙_}
-use mathlib.Core.Bool.{true, false}
-use mathlib.Core.List.{List, [], _∷_}
+use Rattle.basis.proofs.Std.{ℕ, _≤_, _≡_, refl, _∙_, true, false, List, [], _∷_}
 use Rattle.json_text.specs.Decoded.Parsed.{ok}
 use Rattle.json_text.proofs.Meaning as Strings
 use Rattle.json_value.specs.Grammar.{Json, Members, Name, Value, Pairs}

@@ -1,14 +1,6 @@
 -- Four names in one walk: what one entry adds to what was found before it, and the object's end by its entries.
 -- Assumes nothing.
-use Prim.Native.Nat.{ℕ, zero, suc, _<_, _≤_}
-use mathlib.Core.Path.{_≡_, refl, sym, ap, _∙_}
-use mathlib.Core.Bool.{Bool, true, false}
-use mathlib.Core.List.{List, [], _∷_}
-use lib.Dec.{eqb}
-use lib.ListN.{length, drop, length-drop}
-use native.Mathlib.Omega.{arith}
-use borrow.Author.Tests.{eqb-true}
-use Rattle.basis.specs.Pick.{pick}
+use Rattle.basis.proofs.Std.{ℕ, zero, suc, _<_, _≤_, _≡_, refl, sym, ap, _∙_, Bool, true, false, List, [], _∷_, eqb, length, drop, length-drop, arith, eqb-true, pick}
 use Rattle.json_text.specs.Decoded.{Parsed}
 use Rattle.json_text.specs.Decoded.Parsed.{ok, none}
 use Rattle.json_text.specs.declared.Read.{Read}

@@ -1,11 +1,6 @@
 -- Strings at a place, one turn of the loop over entries, and what the lookup makes of the first entry's place.
 -- Assumes nothing.
-use Prim.Native.Nat.{ℕ, _+_, _<_, _≤_}
-use mathlib.Core.Path.{_≡_, ap, _∙_}
-use mathlib.Core.Bool.{true, false}
-use mathlib.Core.List.{List, []}
-use lib.ListN.{length, getD, drop}
-use borrow.Author.Tests.{ne-eqb}
+use Rattle.basis.proofs.Std.{ℕ, _+_, _<_, _≤_, _≡_, ap, _∙_, true, false, List, [], length, getD, drop, ne-eqb}
 use Rattle.json_text.specs.Decoded.{decoded, isText}
 use Rattle.json_text.specs.declared.Read.{Read}
 use Rattle.json_text.specs.declared.Read.the-variants as Read

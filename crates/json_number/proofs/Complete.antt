@@ -1,14 +1,6 @@
 -- A number of the grammar before bytes with which none goes on is what the machine reads.
 -- Assumes nothing.
-use Prim.Native.Nat.{ℕ, _≤_, _<_}
-use mathlib.Core.Path.{_≡_, refl, ap}
-use mathlib.Core.Bool.{Bool, true, false}
-use mathlib.Core.List.{List, [], _∷_}
-use mathlib.Core.Logic.{_⊎_, inl, inr}
-use native.Mathlib.Omega.{arith}
-use lib.Dec.{ltb, lit<, lit≤}
-use borrow.Author.Tests.{lt-ltb, le-ltb, ne-eqb, ltb-true, ltb-false, eqb-false}
-use Rattle.basis.specs.Pick.{pick}
+use Rattle.basis.proofs.Std.{ℕ, _≤_, _<_, _≡_, refl, ap, Bool, true, false, List, [], _∷_, _⊎_, inl, inr, arith, ltb, lit<, lit≤, lt-ltb, le-ltb, ne-eqb, ltb-true, ltb-false, eqb-false, pick}
 use Rattle.json_text.specs.Decoded.{Parsed, push}
 use Rattle.json_text.specs.Decoded.Parsed.{ok}
 use Rattle.json_number.specs.declared.At.{At}

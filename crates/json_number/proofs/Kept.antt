@@ -1,10 +1,6 @@
 -- The claims about numbers are kept.
 -- Assumes nothing.
-use Prim.Native.Nat.{ℕ}
-use mathlib.Core.Path.{_≡_, refl, sym, subst, ap, _∙_}
-use mathlib.Core.List.{List, [], _∷_, _++_}
-use lib.ListN.{length, length-append}
-use native.Mathlib.Omega.{arith}
+use Rattle.basis.proofs.Std.{ℕ, _≡_, refl, sym, subst, ap, _∙_, List, [], _∷_, _++_, length, length-append, arith}
 use Rattle.json_text.specs.Decoded.Parsed.{ok}
 use Rattle.json_number.specs.Number.{Number, Ended}
 use Rattle.json_number.specs.Machine.{readNumber}

@@ -1,14 +1,6 @@
 -- What the machine reads is a number of the grammar, with nothing after it with which one goes on.
 -- Assumes nothing.
-use Prim.Native.Nat.{ℕ}
-use mathlib.Core.Path.{_≡_, refl, sym, subst, ap}
-use mathlib.Core.Bool.{Bool, true, false, false≢true}
-use mathlib.Core.List.{List, [], _∷_, _++_}
-use native.Mathlib.Omega.{arith}
-use lib.Dec.{ltb, eqb}
-use borrow.Author.Tests.{eqb-true, eqb-false, ltb-true, ltb-false}
-use Rattle.basis.specs.Pick.{both}
-use Rattle.basis.proofs.Cases.{picked}
+use Rattle.basis.proofs.Std.{ℕ, _≡_, refl, sym, subst, ap, Bool, true, false, false≢true, List, [], _∷_, _++_, arith, ltb, eqb, eqb-true, eqb-false, ltb-true, ltb-false, both, picked}
 use Rattle.json_text.specs.Decoded.{Parsed, push}
 use Rattle.json_text.specs.Decoded.Parsed.{ok, none}
 use Rattle.json_number.specs.declared.At.{At}

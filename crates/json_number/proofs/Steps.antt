@@ -1,13 +1,7 @@
 -- One turn of the machine at a place of a slice, and how an answer for the rest is an answer for the whole.
 -- Assumes nothing.
-use Prim.Native.Nat.{ℕ, _+_, _<_, _≤_}
-use mathlib.Core.Path.{_≡_, sym, subst}
-use mathlib.Core.Bool.{true, false}
-use mathlib.Core.List.{List, _∷_}
-use lib.ListN.{length, getD, drop}
-use native.Mathlib.Omega.{arith}
+use Rattle.basis.proofs.Std.{ℕ, _+_, _<_, _≤_, _≡_, sym, subst, true, false, List, _∷_, length, getD, drop, arith, both}
 use Rattle.json_character.proofs.Lists.{next, past}
-use Rattle.basis.specs.Pick.{both}
 use Rattle.json_text.specs.Decoded.{Parsed, push}
 use Rattle.json_text.specs.declared.Read.{Read}
 use Rattle.json_text.specs.declared.Read.the-variants as Read

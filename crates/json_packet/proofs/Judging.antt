@@ -1,13 +1,6 @@
 -- From what the object's reader leaves to the judgement of a slice.
 -- Assumes nothing.
-use Prim.Native.Nat.{ℕ, _+_, _<_}
-use mathlib.Core.Path.{_≡_, refl, sym, ap, _∙_}
-use mathlib.Core.Bool.{Bool, true, false}
-use mathlib.Core.List.{List, []}
-use lib.ListN.{length, getD, take, drop}
-use native.Mathlib.Omega.{arith}
-use borrow.Author.Tests.{eq-eqb}
-use Rattle.basis.proofs.Both.{untrue}
+use Rattle.basis.proofs.Std.{ℕ, _+_, _<_, _≡_, refl, sym, ap, _∙_, Bool, true, false, List, [], length, getD, take, drop, arith, eq-eqb, untrue}
 use Rattle.json_character.proofs.Lists.{next}
 use Rattle.json_value.specs.Reader.{skipWs, readValue, insideOf}
 use Rattle.json_value.specs.Answers.{Skipped}

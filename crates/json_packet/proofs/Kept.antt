@@ -1,9 +1,6 @@
 -- The claims about packets are kept.
 -- Assumes nothing.
-use mathlib.Core.Path.{_≡_, sym, _∙_}
-use mathlib.Core.Bool.{true, false, false≢true}
-use mathlib.Core.List.{List}
-use Prim.Native.Nat.{ℕ}
+use Rattle.basis.proofs.Std.{_≡_, sym, _∙_, false, false≢true, List, ℕ}
 use Rattle.json_value.specs.Grammar.{Json}
 use Rattle.json_packet.specs.Packet.{Packet, isPacket}
 use Rattle.json_packet.specs.Claims.{Claims}

@@ -1,9 +1,6 @@
 -- The noted places as they are lent: from the first on, as many as were noted.
 -- Assumes nothing.
-use Prim.Native.Nat.{ℕ, _-_}
-use mathlib.Core.List.{List}
-use native.Mathlib.Nat.{sub-zero}
-use lib.ListN.{take}
+use Rattle.basis.proofs.Std.{ℕ, _-_, List, sub-zero, take}
 use Rattle.json_find.specs.Index.{Indexed}
 use Rattle.json_packet.specs.declared.Judgement.{Judgement}
 use Rattle.json_packet.specs.Notes.{Notes}

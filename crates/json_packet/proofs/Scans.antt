@@ -1,15 +1,6 @@
 -- The scan for names with no count of calls in it, and at a place of a slice.
 -- Assumes nothing.
-use Prim.Native.Nat.{ℕ, zero, suc, _+_, _-_, _<_, _≤_}
-use mathlib.Core.Path.{_≡_, refl, sym, subst, ap, _∙_}
-use mathlib.Core.Bool.{true, false}
-use mathlib.Core.List.{List, [], _∷_}
-use lib.Dec.{eqb}
-use lib.ListN.{length, getD, drop, length-drop}
-use native.Mathlib.Omega.{arith}
-use borrow.Author.Tests.{ne-eqb}
-use Rattle.basis.specs.Pick.{pick}
-use Rattle.basis.proofs.Cases.{picked}
+use Rattle.basis.proofs.Std.{ℕ, zero, suc, _+_, _<_, _≤_, _≡_, refl, sym, subst, ap, _∙_, true, false, List, [], _∷_, eqb, length, getD, drop, length-drop, arith, ne-eqb, pick, picked}
 use Rattle.json_text.specs.Decoded.{Parsed, decoded, sameText}
 use Rattle.json_text.specs.Decoded.Parsed.{ok, none}
 use Rattle.json_text.specs.declared.Read.{Read}

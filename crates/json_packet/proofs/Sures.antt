@@ -1,18 +1,6 @@
 -- Where the marks of a value's names are sure, no name is twice in an object of it.
 -- Assumes nothing.
-use Prim.Native.Nat.{ℕ, _+_, _*_, _%_, _<_}
-use mathlib.Core.Path.{_≡_, refl, sym, ap, _∙_}
-use mathlib.Core.Bool.{Bool, true, false}
-use mathlib.Core.List.{List, [], _∷_, _++_}
-use native.Mathlib.Omega.{arith}
-use lib.Dec.{eqb, ltb}
-use lib.ListN.{length}
-use borrow.Author.Tests.{lt-ltb, eq-eqb}
-use Rattle.basis.specs.Lists.{sameBytes}
-use Rattle.basis.specs.Pick.{pick}
-use Rattle.basis.proofs.Cases.{bool-cases}
-use Rattle.basis.proofs.Same.{same-true}
-use Rattle.basis.proofs.Both.{untrue}
+use Rattle.basis.proofs.Std.{ℕ, _<_, _≡_, refl, sym, ap, _∙_, Bool, true, false, List, [], _∷_, _++_, arith, eqb, ltb, length, lt-ltb, eq-eqb, sameBytes, pick, bool-cases, same-true, untrue}
 use Rattle.json_value.specs.Grammar.{Json, Jsons, Members}
 use Rattle.json_value.specs.Grammar.Json.{null, bool, num, str, arr, obj}
 use Rattle.json_value.specs.Grammar.Jsons.{jnil, jcons}

@@ -1,14 +1,6 @@
 -- In a text of the grammar the scan finds a name twice exactly where its meaning has one.
 -- Assumes nothing.
-use Prim.Native.Nat.{ℕ, _≤_}
-use mathlib.Core.Path.{_≡_, refl, ap, _∙_}
-use mathlib.Core.Bool.{Bool, true, false}
-use mathlib.Core.List.{List, [], _∷_}
-use lib.Dec.{eqb}
-use native.Mathlib.Omega.{arith}
-use borrow.Author.Tests.{ne-eqb}
-use Rattle.basis.specs.Lists.{sameBytes}
-use Rattle.basis.specs.Pick.{pick, both}
+use Rattle.basis.proofs.Std.{ℕ, _≤_, _≡_, refl, ap, _∙_, Bool, true, false, List, [], _∷_, eqb, arith, ne-eqb, sameBytes, pick, both}
 use Rattle.json_text.specs.Decoded.{Parsed, decoded}
 use Rattle.json_text.specs.Decoded.Parsed.{ok, none}
 use Rattle.json_text.proofs.Meaning as Strings

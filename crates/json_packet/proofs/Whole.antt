@@ -1,15 +1,6 @@
 -- From the readers' answers on a whole slice to whether it is a packet; and what `isPacket` says in the grammar's terms.
 -- Assumes nothing.
-use Prim.Native.Nat.{ℕ, _+_, _<_, _≤_}
-use mathlib.Core.Path.{_≡_, refl, sym, subst, ap, _∙_}
-use mathlib.Core.Bool.{Bool, true, false, false≢true}
-use mathlib.Core.List.{List, [], _∷_}
-use lib.Dec.{eqb}
-use lib.ListN.{length, getD, drop}
-use native.Mathlib.Omega.{arith}
-use borrow.Author.Tests.{ne-eqb, eq-eqb}
-use Rattle.basis.specs.Pick.{both}
-use Rattle.basis.proofs.Both.{both-first, both-second}
+use Rattle.basis.proofs.Std.{ℕ, _+_, _<_, _≤_, _≡_, refl, sym, subst, ap, _∙_, Bool, true, false, false≢true, List, [], _∷_, eqb, length, getD, drop, arith, ne-eqb, eq-eqb, both, both-first, both-second}
 use Rattle.json_text.specs.Decoded.{Parsed}
 use Rattle.json_text.specs.Decoded.Parsed.{ok, none}
 use Rattle.json_text.specs.declared.Read.{Read}

@@ -1,13 +1,6 @@
 -- What is read of an entry: its name, whose mark stands at its place, and its value.
 -- Assumes nothing.
-use Prim.Native.Nat.{ℕ}
-use mathlib.Core.Path.{_≡_, refl, sym, ap, subst, _∙_}
-use mathlib.Core.Bool.{Bool, true, false}
-use mathlib.Core.List.{List, [], _∷_}
-use native.Mathlib.Omega.{arith}
-use lib.Dec.{eqb}
-use lib.ListN.{drop}
-use Rattle.basis.specs.Pick.{pick}
+use Rattle.basis.proofs.Std.{ℕ, _≡_, refl, sym, ap, subst, _∙_, Bool, true, false, List, [], _∷_, arith, eqb, drop, pick}
 use Rattle.json_text.specs.Decoded.{Parsed, decoded}
 use Rattle.json_text.specs.Decoded.Parsed.{ok, none}
 use Rattle.json_text.specs.declared.Read.the-variants as Read

@@ -1,16 +1,6 @@
 -- The places of an object's entries, one entry after the other.
 -- Assumes nothing.
-use Prim.Native.Nat.{ℕ, suc, _+_, _<_, _≤_}
-use mathlib.Core.Path.{_≡_, refl, sym, ap, subst, _∙_}
-use mathlib.Core.Bool.{Bool, true, false}
-use mathlib.Core.List.{List, [], _∷_, _++_}
-use lib.Dec.{ltb}
-use lib.ListN.{length, getD, take, drop, set}
-use lib.Seq.{take-suc-set}
-use native.Mathlib.Numerals.{add-one}
-use native.Mathlib.Omega.{arith}
-use borrow.Author.Tests.{eq-eqb, ne-eqb, ltb-false}
-use Rattle.basis.specs.Pick.{pick}
+use Rattle.basis.proofs.Std.{ℕ, suc, _+_, _<_, _≤_, _≡_, refl, sym, ap, _∙_, Bool, true, false, List, [], _∷_, _++_, ltb, length, getD, take, drop, set, take-suc-set, add-one, arith, eq-eqb, ne-eqb, ltb-false, pick}
 use Rattle.json_character.proofs.Lists.{next}
 use Rattle.json_value.specs.declared.Mark.the-variants as Mark
 use Rattle.json_value.specs.Reader.{skipWs, readName, readStart, afterStart, readEntry, readValue}

@@ -1,13 +1,6 @@
 -- Marks, character by character.
 -- Assumes nothing.
-use Prim.Native.Nat.{ℕ, _+_, _*_, _<_, _≤_}
-use mathlib.Core.Path.{_≡_, refl, sym, ap, _∙_}
-use mathlib.Core.List.{List}
-use native.Mathlib.Nat.{mul-le-mul, mod-lt}
-use native.Mathlib.Omega.{arith}
-use lib.Dec.{eqb}
-use lib.ListN.{length, drop}
-use borrow.Author.Tests.{ne-eqb, eq-eqb}
+use Rattle.basis.proofs.Std.{ℕ, _+_, _*_, _<_, _≤_, _≡_, refl, sym, ap, _∙_, List, mul-le-mul, mod-lt, arith, eqb, length, drop, ne-eqb, eq-eqb}
 use Rattle.json_character.proofs.Lists.{past}
 use Rattle.json_character.proofs.Lists as Lists
 use Rattle.json_value.specs.Answers.{Skipped}

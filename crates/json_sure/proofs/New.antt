@@ -1,12 +1,6 @@
 -- A mark and the marks before it, one after the other.
 -- Assumes nothing.
-use Prim.Native.Nat.{ℕ, _+_, _<_, _≤_}
-use mathlib.Core.Path.{_≡_, refl, sym, ap, _∙_}
-use mathlib.Core.Bool.{Bool, true, false}
-use mathlib.Core.List.{List, [], _∷_}
-use lib.Dec.{eqb}
-use lib.ListN.{length, getD, drop}
-use Rattle.basis.specs.Pick.{pick, both}
+use Rattle.basis.proofs.Std.{ℕ, _+_, _<_, _≤_, _≡_, refl, ap, _∙_, Bool, true, false, List, eqb, length, getD, drop, pick, both}
 use Rattle.json_character.proofs.Lists.{next, past}
 use Rattle.json_sure.specs.Sure.{isNew}
 

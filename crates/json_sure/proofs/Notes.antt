@@ -1,15 +1,6 @@
 -- Marks that stand at the start of the lent ones, and one more.
 -- Assumes nothing.
-use Prim.Native.Nat.{ℕ, _+_, _-_, _<_, _≤_}
-use mathlib.Core.Path.{_≡_, refl, sym, ap, ap₂, subst, _∙_}
-use mathlib.Core.Bool.{Bool, true, false}
-use mathlib.Core.List.{List, [], _∷_, _++_}
-use native.Mathlib.Nat.{sub-zero}
-use native.Mathlib.Omega.{arith}
-use native.Mathlib.Numerals.{add-one}
-use lib.ListN.{length, take, set, length-take, length-set}
-use lib.Seq.{length-take-le, take-suc-set}
-use borrow.Author.Tests.{lt-ltb, le-ltb}
+use Rattle.basis.proofs.Std.{ℕ, _+_, _-_, _<_, _≤_, _≡_, refl, sym, ap, ap₂, subst, _∙_, Bool, true, false, List, [], _∷_, _++_, sub-zero, arith, add-one, length, take, set, length-set, length-take-le, take-suc-set, lt-ltb, le-ltb}
 use borrow.Rule.Slice.PartMut.{midOf, putMid, mid-len, take-put}
 use Rattle.json_text.specs.Decoded.{Parsed}
 use Rattle.json_value.specs.Reader.{Entry}

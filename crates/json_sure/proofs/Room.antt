@@ -1,14 +1,6 @@
 -- Room for as many marks as a value has names is room enough, and a name takes five bytes of a text.
 -- Assumes nothing.
-use Prim.Native.Nat.{ℕ, suc, _+_, _*_, _<_, _≤_}
-use mathlib.Core.Path.{_≡_, refl, ap, subst, _∙_}
-use mathlib.Core.Bool.{Bool}
-use mathlib.Core.List.{List, [], _∷_}
-use native.Mathlib.Omega.{arith}
-use lib.Dec.{ltb}
-use lib.ListN.{length, drop, length-drop, length-append}
-use borrow.Author.Tests.{lt-ltb}
-use Rattle.basis.proofs.Cases.{picked}
+use Rattle.basis.proofs.Std.{ℕ, suc, _+_, _*_, _<_, _≤_, _≡_, refl, ap, subst, _∙_, Bool, List, [], _∷_, arith, ltb, length, drop, length-drop, length-append, lt-ltb, picked}
 use Rattle.json_text.specs.Decoded.Parsed.{ok}
 use Rattle.json_value.specs.Grammar.{Json, Jsons, Members, Ws, Name, Value, Elements, Pairs}
 use Rattle.json_value.specs.Grammar.Json.{null, bool, num, str, arr, obj}

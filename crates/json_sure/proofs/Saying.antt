@@ -1,13 +1,6 @@
 -- What is said of a list of entries, one entry after the other, and of a value.
 -- Assumes nothing.
-use Prim.Native.Nat.{ℕ, zero, suc, _+_, _-_, _<_, _≤_}
-use mathlib.Core.Path.{_≡_, refl, sym, ap, ap₂, subst, _∙_}
-use mathlib.Core.Bool.{Bool, true, false}
-use mathlib.Core.List.{List, [], _∷_}
-use lib.Dec.{eqb}
-use lib.ListN.{length, getD, drop}
-use borrow.Author.Tests.{ne-eqb, eq-eqb}
-use Rattle.basis.specs.Pick.{pick}
+use Rattle.basis.proofs.Std.{ℕ, zero, suc, _+_, _-_, _<_, _≤_, _≡_, refl, sym, ap, ap₂, subst, _∙_, Bool, true, false, List, [], _∷_, eqb, length, getD, drop, ne-eqb, eq-eqb, pick}
 use Rattle.json_character.proofs.Lists.{next}
 use Rattle.json_text.specs.Decoded.{Parsed}
 use Rattle.json_text.specs.Decoded.Parsed.{ok, none}
@@ -21,7 +14,6 @@ use Rattle.json_value.specs.Answers.{Skipped, Marks, lastOf}
 use Rattle.json_value.specs.Answers.Marks.{closes, commas}
 use Rattle.json_value.specs.declared.Mark.the-variants as Mark
 use Rattle.json_value.proofs.Sound as Sound
-use Rattle.json_value.proofs.Shorter as Shorter
 use Rattle.json_value.proofs.Nesting as Nesting
 use Rattle.json_sure.specs.declared.Judged.{Judged}
 use Rattle.json_sure.specs.declared.Judged.the-variants as Judged

@@ -1,18 +1,6 @@
 -- A string copied byte by byte: what is copied so far, and what the rest adds to it.
 -- Assumes nothing.
-use Prim.Native.Nat.{ℕ, zero, suc, _+_, _-_, _<_, _≤_}
-use mathlib.Core.Path.{_≡_, refl, sym, ap, _∙_}
-use mathlib.Core.Bool.{Bool, true, false}
-use mathlib.Core.List.{List, [], _∷_, _++_, append-assoc, append-nil}
-use mathlib.Core.Logic.{⊎-elim}
-use native.Mathlib.Omega.{arith}
-use lib.Dec.{ltb}
-use lib.ListN.{length, getD, drop, set, replicate, length-append}
-use lib.Seq.{set-append-seam}
-use borrow.Author.Tests.{lt-ltb, le-ltb, le-leb, lt-leb, ltb-true, ltb-false}
-use Rattle.basis.specs.Pick.{pick, both}
-use Rattle.basis.proofs.Cases.{lt-or-ge, picked}
-use Rattle.basis.proofs.Both.{both-false}
+use Rattle.basis.proofs.Std.{ℕ, suc, _+_, _-_, _<_, _≤_, _≡_, refl, sym, ap, _∙_, Bool, true, false, List, [], _∷_, _++_, append-assoc, append-nil, ⊎-elim, arith, ltb, length, getD, drop, set, replicate, length-append, set-append-seam, lt-ltb, le-ltb, le-leb, lt-leb, ltb-true, ltb-false, pick, both, lt-or-ge, picked, both-false}
 use Rattle.json_character.specs.declared.Char.the-variants.{One, Close, Bad}
 use Rattle.json_text.specs.declared.Copied.{Copied}
 use Rattle.json_character.specs.Char.{charOf, isPlain}

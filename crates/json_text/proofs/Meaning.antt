@@ -1,13 +1,6 @@
 -- The grammar and the definition that the code equals read the same, so a text has one meaning.
 -- Assumes nothing.
-use Prim.Native.Nat.{ℕ, zero, suc, _+_}
-use mathlib.Core.Path.{_≡_, refl, sym, subst, ap, _∙_}
-use mathlib.Core.Bool.{true}
-use mathlib.Core.List.{List, _∷_}
-use native.Mathlib.Omega.{arith}
-use lib.Dec.{T}
-use lib.ListN.{length, drop}
-use Rattle.basis.proofs.Same.{same-true, same-self}
+use Rattle.basis.proofs.Std.{ℕ, zero, suc, _+_, _≡_, refl, sym, subst, ap, _∙_, true, List, _∷_, arith, T, length, drop, same-true, same-self}
 use Rattle.json_character.specs.declared.Char.{Char}
 use Rattle.json_character.specs.declared.Char.the-variants.{One, Close, Bad}
 use Rattle.json_character.specs.Char.{charOf}

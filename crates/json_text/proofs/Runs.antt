@@ -1,17 +1,6 @@
 -- Plain characters are passed over one by one.
 -- Assumes nothing.
-use Prim.Native.Nat.{ℕ, zero, suc, _+_, _<_, _≤_}
-use mathlib.Core.Path.{_≡_, refl, sym}
-use mathlib.Core.Bool.{Bool, true, false}
-use mathlib.Core.List.{List}
-use native.Mathlib.Omega.{arith}
-use native.Mathlib.Nat.{add-zero}
-use mathlib.Core.Logic.{⊎-elim}
-use Rattle.basis.proofs.Cases.{bool-cases, picked, lt-or-ge}
-use Rattle.basis.proofs.Both.{untrue}
-use lib.Dec.{ltb, leb}
-use borrow.Author.Tests.{leb-false}
-use lib.ListN.{length, getD, drop}
+use Rattle.basis.proofs.Std.{ℕ, zero, suc, _+_, _<_, _≤_, _≡_, refl, sym, Bool, true, false, List, arith, add-zero, ⊎-elim, bool-cases, picked, lt-or-ge, untrue, ltb, leb, leb-false, length, getD, drop}
 use Rattle.json_character.specs.Char.{isPlain}
 use Rattle.json_character.proofs.Lists.{next, past}
 use Rattle.json_character.proofs.Laws.{at-plain, at-close}

@@ -1,14 +1,6 @@
 -- A text's characters one by one: an equation for each answer of `step`, with no count of calls in it.
 -- Assumes nothing.
-use Prim.Native.Nat.{ℕ, zero, suc, _+_, _-_, _<_, _≤_}
-use mathlib.Core.Path.{_≡_, refl, sym, ap, _∙_}
-use mathlib.Core.Bool.{true, false}
-use mathlib.Core.List.{List, [], _∷_}
-use native.Mathlib.Omega.{arith}
-use lib.Dec.{eqb, eqb·zero-suc, eqb·suc-suc}
-use lib.ListN.{length, getD, drop, length-drop}
-use lib.Seq.{drop-drop}
-use borrow.Author.Tests.{eq-eqb, ne-eqb}
+use Rattle.basis.proofs.Std.{ℕ, zero, suc, _+_, _<_, _≤_, _≡_, refl, sym, ap, _∙_, true, false, List, [], _∷_, arith, eqb, eqb·zero-suc, eqb·suc-suc, length, getD, drop, length-drop, drop-drop, eq-eqb, ne-eqb}
 use Rattle.json_character.proofs.Lists.{next, past}
 use Rattle.json_character.proofs.Sound.{Says, char-says}
 use Rattle.json_character.specs.declared.Char.{Char}

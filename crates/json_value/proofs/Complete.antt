@@ -1,14 +1,6 @@
 -- What is in the grammar is read.
 -- Assumes nothing.
-use Prim.Native.Nat.{ℕ, zero, suc, _<_, _≤_}
-use mathlib.Core.Path.{_≡_, refl, sym, ap, _∙_}
-use mathlib.Core.Bool.{Bool, true, false}
-use mathlib.Core.List.{List, [], _∷_, _++_}
-use lib.Dec.{eqb}
-use lib.ListN.{length}
-use Rattle.basis.specs.Pick.{pick}
-use native.Mathlib.Omega.{arith}
-use borrow.Author.Tests.{ne-eqb}
+use Rattle.basis.proofs.Std.{ℕ, zero, suc, _<_, _≤_, _≡_, refl, sym, ap, _∙_, Bool, true, false, List, [], _∷_, _++_, eqb, length, pick, arith, ne-eqb}
 use Rattle.json_text.specs.Decoded.{Parsed}
 use Rattle.json_text.specs.Decoded.Parsed.{ok, none}
 use Rattle.json_text.specs.Grammar.{Chars}

@@ -1,9 +1,6 @@
 -- What has at most l levels has at most m, for m no less than l; and a place means one thing.
 -- Assumes nothing.
-use Prim.Native.Nat.{ℕ, zero, suc, _≤_}
-use mathlib.Core.Path.{_≡_}
-use mathlib.Core.List.{List}
-use native.Mathlib.Omega.{arith}
+use Rattle.basis.proofs.Std.{ℕ, zero, suc, _≤_, _≡_, List, arith}
 use Rattle.json_value.specs.Grammar.{Json, Jsons, Members, Value, Elements, Pairs}
 use Rattle.json_value.specs.Means.{Means}
 use Rattle.json_value.proofs.Complete as Complete

@@ -1,9 +1,6 @@
 -- The claims about values are kept.
 -- Assumes nothing.
-use Prim.Native.Nat.{ℕ}
-use mathlib.Core.Path.{_≡_, sym, subst, _∙_}
-use mathlib.Core.List.{List}
-use native.Mathlib.Omega.{arith}
+use Rattle.basis.proofs.Std.{ℕ, _≡_, sym, subst, _∙_, List, arith}
 use Rattle.json_text.specs.Decoded.Parsed.{ok, none}
 use Rattle.json_value.specs.Grammar.{Json, Value}
 use Rattle.json_value.specs.Reader.{readValue}

@@ -1,10 +1,6 @@
 -- Answers from one place of a slice on as answers from an earlier one; what an answer says of the reading.
 -- Assumes nothing.
-use Prim.Native.Nat.{ℕ, _≤_}
-use mathlib.Core.Path.{_≡_, refl}
-use mathlib.Core.List.{List}
-use lib.ListN.{length, drop}
-use native.Mathlib.Omega.{arith}
+use Rattle.basis.proofs.Std.{ℕ, _≤_, _≡_, refl, List, length, drop, arith}
 use Rattle.json_text.specs.Decoded.{Parsed}
 use Rattle.json_text.specs.Decoded.Parsed.{ok}
 use Rattle.json_text.specs.declared.Read.{Read}

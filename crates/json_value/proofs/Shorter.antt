@@ -1,11 +1,6 @@
 -- What follows a string's characters, or a number, is shorter than the text. What a number begins with.
 -- Assumes nothing.
-use Prim.Native.Nat.{ℕ, _<_, _≤_}
-use mathlib.Core.Path.{_≡_, refl}
-use mathlib.Core.List.{List, _∷_}
-use mathlib.Core.Logic.{_⊎_, inl, inr}
-use lib.ListN.{length}
-use native.Mathlib.Omega.{arith}
+use Rattle.basis.proofs.Std.{ℕ, _<_, _≤_, _≡_, refl, List, _∷_, _⊎_, inl, inr, length, arith}
 use Rattle.json_number.specs.Number.{Digits, Integer, Fraction, Signed, Exponent, Number}
 use Rattle.json_character.specs.Utf8.{Utf8}
 use Rattle.json_character.specs.Grammar.{Hex4, Character}

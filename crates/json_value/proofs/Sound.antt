@@ -1,15 +1,6 @@
 -- What the reader reads is in the grammar.
 -- Assumes nothing.
-use Prim.Native.Nat.{ℕ, zero, suc}
-use mathlib.Core.Path.{_≡_, refl, sym, subst}
-use mathlib.Core.Bool.{Bool, true, false}
-use mathlib.Core.List.{List, [], _∷_, _++_}
-use lib.ListN.{length}
-use lib.Dec.{eqb}
-use borrow.Author.Tests.{eqb-true}
-use Rattle.basis.specs.Pick.{pick}
-use Rattle.basis.specs.Text.{text}
-use Rattle.basis.proofs.Cases.{picked}
+use Rattle.basis.proofs.Std.{ℕ, zero, suc, _≡_, refl, sym, subst, Bool, true, false, List, [], _∷_, _++_, length, eqb, eqb-true, pick, text, picked}
 use Rattle.json_text.specs.Decoded.{Parsed, decoded}
 use Rattle.json_text.specs.Decoded.Parsed.{ok, none}
 use Rattle.json_text.specs.Grammar.{Chars}

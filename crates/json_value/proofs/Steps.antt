@@ -1,14 +1,6 @@
 -- One step of the readers that call no other, at a place of a slice.
 -- Assumes nothing.
-use Prim.Native.Nat.{ℕ, _+_, _<_, _≤_}
-use mathlib.Core.Path.{_≡_, _∙_, ap}
-use mathlib.Core.Bool.{true, false}
-use mathlib.Core.List.{List}
-use lib.Dec.{eqb}
-use lib.ListN.{length, getD, drop}
-use native.Mathlib.Omega.{arith}
-use borrow.Author.Tests.{ne-eqb, eq-eqb}
-use Rattle.basis.specs.Text.{text}
+use Rattle.basis.proofs.Std.{ℕ, _+_, _<_, _≤_, _≡_, _∙_, ap, true, false, List, eqb, length, getD, drop, arith, ne-eqb, eq-eqb, text}
 use Rattle.json_text.specs.Decoded.{Parsed, decoded}
 use Rattle.json_text.specs.declared.Read.{Read}
 use Rattle.json_text.specs.declared.Read.the-variants as Read

@@ -1,29 +1,19 @@
 -- The text of a plain value is in the grammar, and means that value.
 -- Assumes nothing.
-use Prim.Native.Nat.{ℕ, zero, suc, _≤_, _<_, zero-le}
-use native.Mathlib.Omega.{arith}
-use mathlib.Core.Logic.{⊎-elim}
-use mathlib.Core.Path.{_≡_, refl}
-use mathlib.Core.Bool.{Bool, true, false}
-use mathlib.Core.List.{List, [], _∷_, _++_}
-use Rattle.basis.proofs.Cases.{le-or-lt}
+use Rattle.basis.proofs.Std.{ℕ, _≤_, _<_, zero-le, arith, ⊎-elim, true, false, List, _∷_, _++_, le-or-lt}
 use Rattle.json_character.specs.Grammar.{Character, Unescaped}
 use Rattle.json_text.specs.Grammar.{Chars}
 use Rattle.json_text.specs.Grammar.Chars.{close, more as char}
 use Rattle.json_character.specs.Grammar.Character.{unescaped}
 use Rattle.json_character.specs.Grammar.Unescaped.{below-quote, below-backslash, above}
-use Rattle.json_character.specs.Utf8.{In, Utf8}
 use Rattle.json_character.specs.Utf8.Utf8.{utf8-1}
-use Rattle.json_value.specs.Grammar.{Json, Jsons, Members, Ws, Name, Value, Elements, Pairs}
-use Rattle.json_value.specs.Grammar.Json.{null, bool, num, str, arr, obj}
-use Rattle.json_value.specs.Grammar.Jsons.{jnil, jcons}
-use Rattle.json_value.specs.Grammar.Members.{mnil, mcons}
+use Rattle.json_value.specs.Grammar.{Json, Jsons, Members, Name, Value, Elements, Pairs}
 use Rattle.json_value.specs.Grammar.Ws.{none as no-space}
 use Rattle.json_value.specs.Grammar.Name.{name}
 use Rattle.json_value.specs.Grammar.Value.{vnull, vtrue, vfalse, vstr, varr₀, varr, vobj₀, vobj}
 use Rattle.json_value.specs.Grammar.Elements.{elast, enext}
 use Rattle.json_value.specs.Grammar.Pairs.{plast, pnext}
-use Rattle.json_write.specs.Text.{quoted, textOnto, elementsOnto, membersOnto, textOf}
+use Rattle.json_write.specs.Text.{quoted, textOnto, elementsOnto, membersOnto}
 use Rattle.json_write.specs.Plain.{PlainByte, PlainText, Plain, PlainElements, PlainMembers}
 use Rattle.json_write.specs.Plain.PlainText.{none, more}
 use Rattle.json_write.specs.Plain.Plain.{pnull, pbool, pstr, parr₀, parr, pobj₀, pobj}

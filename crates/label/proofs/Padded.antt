@@ -1,14 +1,6 @@
 -- A list in a place of n elements: one more at its end, and the first bytes of a text.
 -- Assumes nothing.
-use mathlib.Core.Path.{_≡_, refl, sym, ap, _∙_}
-use mathlib.Core.List.{List, [], _∷_, _++_}
-use mathlib.Core.Logic.{⊎-elim}
-use Prim.Native.Nat.{ℕ, suc, _+_, _-_, _≤_, _<_, min}
-use native.Mathlib.Numerals.{add-one}
-use native.Mathlib.Omega.{arith}
-use lib.ListN.{length, getD, set, take, replicate, length-append, length-replicate}
-use lib.Seq.{set-at, append-snoc, take-suc, length-take-le, take-all, take-at}
-use Rattle.basis.proofs.Cases.{le-or-lt}
+use Rattle.basis.proofs.Std.{_≡_, refl, sym, ap, _∙_, List, [], _∷_, _++_, ⊎-elim, ℕ, suc, _+_, _-_, _≤_, _<_, min, add-one, arith, length, getD, set, take, replicate, length-append, length-replicate, set-at, append-snoc, take-suc, length-take-le, take-all, take-at, le-or-lt}
 use Rattle.label.specs.Padded.{padded}
 
 -- the element behind the list, set: the list has it at its end

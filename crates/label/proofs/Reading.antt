@@ -1,20 +1,7 @@
 -- What reading a string at a place gives, case by case.
 -- Assumes nothing.
-use mathlib.Core.Path.{_≡_, refl, sym, ap, _∙_}
-use mathlib.Core.Logic.{⊎-elim}
-use native.Mathlib.Nat.{add-zero}
-use native.Mathlib.Numerals.{add-one}
-use native.Mathlib.Omega.{arith}
-use lib.Seq.{getD-drop, drop-drop, drop-cons, take-at, length-take-le}
-use Rattle.basis.proofs.Cases.{le-or-lt, bool-cases}
-use Rattle.basis.proofs.Both.{both-true}
+use Rattle.basis.proofs.Std.{_≡_, refl, sym, ap, _∙_, ⊎-elim, add-zero, add-one, arith, getD-drop, drop-drop, drop-cons, take-at, length-take-le, le-or-lt, bool-cases, both-true, true, false, List, _∷_, _++_, ℕ, suc, _+_, _-_, _≤_, _<_, leb, length, getD, take, drop, length-drop, length-append, take-append-drop, lt-ltb, le-ltb, le-leb, lt-leb, leb-true}
 use Rattle.label.proofs.Stands.{Stands}
-use mathlib.Core.Bool.{true, false}
-use mathlib.Core.List.{List, _∷_, _++_}
-use Prim.Native.Nat.{ℕ, suc, _+_, _-_, _≤_, _<_}
-use lib.Dec.{leb}
-use lib.ListN.{length, getD, take, drop, length-drop, length-append, take-append-drop}
-use borrow.Author.Tests.{lt-ltb, le-ltb, le-leb, lt-leb, leb-true}
 use Rattle.number.specs.Alphabet.{isLabel}
 use Rattle.label.specs.declared.LabelRead.{LabelRead}
 use Rattle.label.specs.Label.{labelOf, string}

@@ -1,11 +1,6 @@
 -- Bytes that stand in a slice at a place: pieces one behind the other, and the whole.
 -- Assumes nothing.
-use mathlib.Core.Path.{_≡_, refl, sym, ap, _∙_}
-use mathlib.Core.List.{List, [], _∷_, _++_, append-assoc, append-nil}
-use Prim.Native.Nat.{ℕ, _+_}
-use native.Mathlib.Omega.{arith}
-use lib.ListN.{length, drop, length-append}
-use lib.Seq.{drop-drop, drop-append-seam}
+use Rattle.basis.proofs.Std.{_≡_, refl, sym, ap, _∙_, List, [], _∷_, _++_, append-assoc, append-nil, ℕ, _+_, arith, length, drop, length-append, drop-drop, drop-append-seam}
 
 pub record Stands (s : List ℕ) (at : ℕ) (bs : List ℕ) : Type 0 where
   pub rest : List ℕ

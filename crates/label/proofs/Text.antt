@@ -1,9 +1,6 @@
 -- The text of a label, as a part of its bytes.
 -- Assumes nothing.
-use mathlib.Core.Path.{_≡_, sym, ap, _∙_}
-use Prim.Native.Nat.{ℕ, _-_, min}
-use native.Mathlib.Nat.{sub-zero}
-use lib.ListN.{length, take}
+use Rattle.basis.proofs.Std.{_≡_, sym, ap, _∙_, ℕ, _-_, min, sub-zero, length, take}
 use Rattle.label.specs.declared.Label.{Label}
 use Rattle.label.specs.Label.{textOf}
 use Rattle.label.proofs.Padded.{take-short}

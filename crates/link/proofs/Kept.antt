@@ -1,11 +1,6 @@
 -- The order of what is due is kept.
 -- Assumes nothing.
-use Prim.Native.Nat.{ℕ, _+_, _*_, _≤_}
-use native.Mathlib.Omega.{arith}
-use mathlib.Core.Path.{_≡_, refl}
-use mathlib.Core.Bool.{Bool, false}
-use lib.Dec.{ltb}
-use borrow.Author.Tests.{lt-ltb, le-ltb, le-leb, lt-leb}
+use Rattle.basis.proofs.Std.{ℕ, _+_, _*_, _≤_, arith, _≡_, refl, Bool, false, ltb, lt-ltb, le-ltb, le-leb, lt-leb}
 use Rattle.link.specs.declared.Link.{Link}
 use Rattle.link.specs.declared.Role.{Role}
 use Rattle.link.specs.declared.Role.the-variants.{Primary, Secondary}

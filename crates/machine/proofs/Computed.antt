@@ -1,9 +1,6 @@
 -- The claims of specs/Computed, computed.
 -- Assumes nothing.
-use Prim.Native.Nat.{ℕ}
-use mathlib.Core.Path.{_≡_, refl, ap, _∙_}
-use mathlib.Core.List.{List, [], _∷_, _++_}
-use lib.ListN.{take, replicate}
+use Rattle.basis.proofs.Std.{ℕ, _≡_, refl, ap, _∙_, List, [], _∷_, _++_, take, replicate}
 use Rattle.bits.specs.Fields.{joined, split}
 use Rattle.bits.proofs.Fields.{before as first-fields, split-append}
 use Rattle.entry.specs.Flags.{alarmFlags, statusFlags}

@@ -1,18 +1,8 @@
 -- A table as lent: where a name stands in it, and what a comparison with a part of it says.
 -- Assumes nothing.
-use mathlib.Core.Path.{_≡_, refl, sym, ap, subst, _∙_}
-use mathlib.Core.Bool.{Bool, true, false}
-use mathlib.Core.List.{List, [], _∷_}
-use Prim.Native.Nat.{ℕ, suc, _+_, _-_, _≤_, _<_}
-use native.Mathlib.Omega.{arith}
-use lib.Dec.{eqb}
-use lib.ListN.{length, getD, take, drop, List·getD-eq-default}
-use borrow.Author.Tests.{ne-eqb}
-use Rattle.basis.specs.Lists.{sameBytes}
-use Rattle.basis.proofs.Cases.{bool-cases}
-use Rattle.basis.proofs.Same.{same-is, same-true}
+use Rattle.basis.proofs.Std.{_≡_, refl, sym, ap, subst, _∙_, Bool, true, false, List, [], _∷_, ℕ, suc, _+_, _-_, _≤_, _<_, arith, eqb, length, getD, take, drop, List·getD-eq-default, ne-eqb, sameBytes, bool-cases, same-is, same-true}
 use Rattle.names.specs.Names.{names, nameOf}
-use Rattle.names.specs.Table.{table, starts, lens, Spans, Lent}
+use Rattle.names.specs.Table.{starts, Spans, Lent}
 use Rattle.names.proofs.Spans.{spans, spanned}
 
 is-empty : (s : List ℕ) → eqb (length s) 0 ≡ sameBytes s []

@@ -1,15 +1,6 @@
 -- The search for a name.
 -- Assumes nothing.
-use mathlib.Core.Path.{_≡_, sym, ap, subst, _∙_}
-use mathlib.Core.Bool.{Bool}
-use mathlib.Core.List.{List}
-use Prim.Native.Nat.{ℕ, suc, _+_, _-_, _≤_, _<_}
-use native.Mathlib.Numerals.{add-one}
-use native.Mathlib.Omega.{arith}
-use lib.ListN.{length, replicate}
-use lib.Dec.{T, leb, ltb, leb→le, ltb→lt}
-use Rattle.basis.specs.Pick.{pick}
-use Rattle.basis.specs.Lists.{sameBytes}
+use Rattle.basis.proofs.Std.{_≡_, sym, ap, subst, _∙_, Bool, List, ℕ, suc, _+_, _-_, _≤_, _<_, add-one, arith, length, replicate, T, leb, ltb, leb→le, ltb→lt, pick, sameBytes}
 use Rattle.basis.proofs.Table.{every, at, both-left, both-right}
 use Rattle.names.specs.Names.{typeNames, reasons, nameOf, findIn, IsReason}
 use Rattle.names.specs.declared.Found.the-variants.{At}

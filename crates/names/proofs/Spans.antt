@@ -1,20 +1,9 @@
 -- The table's rule, by one test that antt computes: what stands in it from a start on, as long as the length says, is the name.
 -- Assumes nothing.
-use mathlib.Core.Path.{_≡_, refl, ap, sym, _∙_}
-use mathlib.Core.Bool.{Bool, true, false}
-use mathlib.Core.List.{[]}
-use Prim.Native.Nat.{ℕ, _+_, _-_, _≤_, _<_}
-use native.Mathlib.Nat.{add-sub-cancel-left}
-use native.Mathlib.Omega.{arith}
-use lib.Dec.{T, leb, leb→le, lit≤}
-use lib.ListN.{length, getD, take, drop, length-drop, List·getD-eq-default}
-use lib.Seq.{length-take-le}
-use Rattle.basis.specs.Pick.{both}
-use Rattle.basis.specs.Lists.{sameBytes}
+use Rattle.basis.proofs.Std.{_≡_, refl, ap, sym, _∙_, Bool, true, false, [], ℕ, _+_, _-_, _≤_, _<_, add-sub-cancel-left, arith, T, leb, leb→le, lit≤, length, getD, take, drop, length-drop, List·getD-eq-default, length-take-le, both, sameBytes, same-true}
 use Rattle.basis.proofs.Table.{at, both-left, both-right}
 use Rattle.names.specs.Names.{names, nameOf}
 use Rattle.names.specs.Table.{table, starts, lens, Spans}
-use Rattle.basis.proofs.Same.{same-true}
 
 told : (b : Bool) → T b → b ≡ true
 told true t = refl

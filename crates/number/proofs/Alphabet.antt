@@ -1,18 +1,6 @@
 -- The laws of the alphabet: one byte more, and a string that is or is not a label; decimal text is of the alphabet.
 -- Assumes nothing.
-use mathlib.Core.Path.{_≡_, refl, sym, ap, _∙_}
-use mathlib.Core.Bool.{Bool, true, false, not}
-use mathlib.Core.List.{List, [], _∷_, _++_}
-use Prim.Native.Nat.{ℕ, suc, _+_, _/_, _%_, _≤_, _<_}
-use native.Mathlib.Numerals.{add-one}
-use native.Mathlib.Omega.{arith}
-use lib.Dec.{leb}
-use lib.IntN.{ℤ, pos, negsuc}
-use lib.ListN.{length, drop, getD, drop-of-length-le}
-use lib.Seq.{drop-cons}
-use borrow.Author.Tests.{le-leb, ne-eqb}
-use Rattle.basis.specs.Pick.{both}
-use Rattle.basis.proofs.Both.{both-true}
+use Rattle.basis.proofs.Std.{_≡_, refl, sym, ap, _∙_, Bool, true, false, not, List, [], _∷_, _++_, ℕ, suc, _+_, _/_, _%_, _≤_, _<_, add-one, arith, leb, ℤ, pos, negsuc, length, drop, getD, drop-of-length-le, drop-cons, le-leb, ne-eqb, both, both-true}
 use Rattle.number.specs.Alphabet.{inAlphabet, allInAlphabet, isLabel}
 use Rattle.number.specs.Decimal.{digits, decimalOf}
 use Rattle.number.proofs.Digits.{by-digits, one-digit, more-digits}

@@ -1,15 +1,6 @@
 -- The shortest decimal text of a number: its digits one by one, what it says, its length, its first byte; one number a text.
 -- Assumes nothing.
-use mathlib.Core.Path.{_≡_, refl, sym, ap, _∙_}
-use mathlib.Core.List.{List, [], _∷_, _++_}
-use mathlib.Core.Logic.{⊎-elim}
-use Prim.Native.Nat.{ℕ, zero, suc, _+_, _-_, _*_, _/_, _%_, _^_, _≤_, _<_}
-use native.Mathlib.Nat.{pow-suc}
-use native.Mathlib.Omega.{arith}
-use lib.IntN.{ℤ, pos, negsuc}
-use lib.ListN.{length, length-append}
-use borrow.Author.Tests.{lt-ltb, le-ltb}
-use Rattle.basis.proofs.Cases.{lt-or-ge}
+use Rattle.basis.proofs.Std.{_≡_, refl, sym, ap, _∙_, List, [], _∷_, _++_, ⊎-elim, ℕ, zero, suc, _+_, _-_, _*_, _/_, _%_, _^_, _≤_, _<_, pow-suc, arith, ℤ, pos, negsuc, length, length-append, lt-ltb, le-ltb, lt-or-ge}
 use Rattle.number.specs.Decimal.{digitsBelow, digits, decimalOf}
 use Rattle.number.specs.Reading.{says}
 use Rattle.number.specs.Signed.{Signed32, wordOf}

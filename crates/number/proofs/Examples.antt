@@ -1,9 +1,6 @@
 -- A few values, computed.
 -- Assumes nothing.
-use mathlib.Core.Path.{_≡_, refl}
-use mathlib.Core.List.{[], _∷_}
-use lib.IntN.{negsuc}
-use Rattle.basis.specs.Text.{text}
+use Rattle.basis.proofs.Std.{_≡_, refl, [], _∷_, negsuc, text}
 use Rattle.number.specs.Signed.{fourOf}
 use Rattle.number.specs.Decimal.{digitsBelow, digits, decimalOf}
 

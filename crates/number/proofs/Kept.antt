@@ -1,15 +1,6 @@
 -- The claims about the strings that are used are kept.
 -- Assumes nothing.
-use mathlib.Core.Path.{_≡_, refl}
-use mathlib.Core.Bool.{true, false, not}
-use mathlib.Core.List.{List, [], _∷_}
-use Prim.Native.Nat.{ℕ, zero, suc, _≤_, _<_}
-use native.Mathlib.Omega.{arith}
-use lib.Dec.{leb, eqb}
-use lib.ListN.{length, getD}
-use borrow.Author.Tests.{le-leb, leb-true, ne-eqb, eqb-false}
-use Rattle.basis.specs.Pick.{both}
-use Rattle.basis.proofs.Both.{both-true}
+use Rattle.basis.proofs.Std.{_≡_, refl, true, not, List, [], _∷_, ℕ, zero, suc, _<_, arith, leb, eqb, length, getD, le-leb, leb-true, ne-eqb, eqb-false, both-true}
 use Rattle.number.specs.Alphabet.{inAlphabet, allInAlphabet, isLabel}
 use Rattle.number.specs.Claims.{OfAlphabet, Used, Claims}
 use Rattle.number.proofs.Alphabet.{not-taken, label}

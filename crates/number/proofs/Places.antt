@@ -1,13 +1,6 @@
 -- Digits put into an array from its end forwards.
 -- Assumes nothing.
-use mathlib.Core.Path.{_≡_, sym, ap, ap₂, subst, _∙_}
-use mathlib.Core.List.{List, _∷_, _++_}
-use Prim.Native.Nat.{ℕ, zero, suc, _+_, _-_, _/_, _%_, _^_, _≤_, _<_}
-use native.Mathlib.Nat.{pow-suc}
-use native.Mathlib.Numerals.{add-one}
-use native.Mathlib.Omega.{arith}
-use lib.ListN.{length, take, drop, set, length-set, length-drop}
-use lib.Seq.{take-all, drop-cons, drop-set-lt, getD-set-same, append-snoc}
+use Rattle.basis.proofs.Std.{_≡_, sym, ap, ap₂, subst, _∙_, List, _∷_, _++_, ℕ, zero, suc, _+_, _-_, _/_, _%_, _^_, _≤_, _<_, pow-suc, add-one, arith, length, take, drop, set, length-set, length-drop, take-all, drop-cons, drop-set-lt, getD-set-same, append-snoc}
 use Rattle.number.specs.Decimal.{digits}
 use Rattle.number.proofs.Digits.{one-digit, more-digits}
 

@@ -1,14 +1,6 @@
 -- Reading decimal text: one answer a text, and how each answer is shown.
 -- Assumes nothing.
-use mathlib.Core.Path.{_≡_, refl, sym, ap, subst, _∙_}
-use mathlib.Core.List.{List, [], _∷_}
-use Prim.Native.Nat.{ℕ, suc, _+_, _-_, _*_, _^_, _≤_, _<_}
-use native.Mathlib.Omega.{arith}
-use native.Mathlib.Numerals.{add-one}
-use lib.IntN.{ℤ, pos, negsuc}
-use lib.ListN.{length, drop, getD}
-use lib.Seq.{drop-cons}
-use borrow.Author.Tests.{le-ltb, lt-ltb}
+use Rattle.basis.proofs.Std.{_≡_, refl, sym, ap, subst, _∙_, List, [], _∷_, ℕ, suc, _+_, _-_, _*_, _^_, _≤_, _<_, arith, add-one, ℤ, pos, negsuc, length, drop, getD, drop-cons, le-ltb, lt-ltb}
 use Rattle.number.specs.declared.Number.{Number}
 use Rattle.number.specs.declared.Number.the-variants.{Is, No}
 use Rattle.number.specs.declared.Int.{Int}

@@ -1,17 +1,9 @@
 -- A signed value to its 32 bits, its four bytes or its 16 bits and back.
 -- Assumes nothing.
-use mathlib.Core.Path.{_≡_, refl, sym, ap, subst, _∙_}
-use mathlib.Core.List.{List}
-use Prim.Native.Nat.{ℕ, suc, _-_, _^_, _≤_, _<_}
-use native.Mathlib.Omega.{arith}
-use lib.IntN.{ℤ, pos, negsuc}
-use lib.ListN.{length, replicate}
-use lib.Dec.{ltb}
-use borrow.Author.Tests.{lt-ltb, le-ltb, ltb-true, ltb-false}
+use Rattle.basis.proofs.Std.{_≡_, refl, sym, ap, subst, _∙_, List, ℕ, suc, _-_, _^_, _≤_, _<_, arith, ℤ, pos, negsuc, length, replicate, ltb, lt-ltb, le-ltb, ltb-true, ltb-false, picked}
 use mir.Syntax.{w32}
 use mir.Val.{toZ, ofZ}
 use mir.Facts.{toZ-ofZ, sfits-toZ}
-use Rattle.basis.proofs.Cases.{picked}
 use Rattle.bits.specs.Fields.{total, numberOf}
 use Rattle.bits.proofs.Bytes.{number-lt}
 use Rattle.number.specs.Signed.{Signed32, wordOf, signedOf, Signed16, word16Of, signed16Of}

@@ -1,22 +1,12 @@
 -- A signed number by its bits: what a test of the sign, a mask and an or of the top bit say of them.
 -- Assumes nothing.
-use mathlib.Core.Path.{_≡_, refl, sym, ap, subst, _∙_}
-use mathlib.Core.Bool.{Bool, true, false}
-use mathlib.Core.Logic.{_⊎_, ⊎-elim}
-use Prim.Native.Nat.{ℕ, suc, _+_, _-_, _%_, _^_, _≤_, _<_}
-use native.Mathlib.Nat.{mod-lt}
-use native.Mathlib.Omega.{arith}
-use lib.Dec.{T, ltb, leb·suc-zero}
-use lib.IntN.{ℤ, pos, negsuc, natAbs}
+use Rattle.basis.proofs.Std.{_≡_, refl, sym, ap, subst, _∙_, Bool, true, false, ⊎-elim, ℕ, suc, _+_, _-_, _%_, _^_, _≤_, _<_, mod-lt, arith, T, ltb, leb·suc-zero, ℤ, pos, negsuc, natAbs, lt-ltb, le-ltb, pick, le-or-lt}
 use lib.Signed.{ltZ, nonNeg}
 use lib.Pow.{pow-pos}
 use lib.Bits.{bitAnd, bitOr, and-mask, mask-lt, or-shifted-r}
-use borrow.Author.Tests.{lt-ltb, le-ltb}
 use mir.Syntax.{w32}
 use mir.Val.{SFits, Fits, toZ, ofZ, sel}
 use mir.Facts.{toZ-pos, fits-mask}
-use Rattle.basis.specs.Pick.{pick}
-use Rattle.basis.proofs.Cases.{le-or-lt}
 use Rattle.number.specs.Signed.{Signed32, wordOf, signedOf, signed16Of}
 
 -- the machine's reading of bits is that of the definitions

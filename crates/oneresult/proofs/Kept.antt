@@ -1,13 +1,6 @@
 -- Each relation allows one result.
 -- Assumes nothing.
-use Prim.Native.Nat.{ℕ, _<_}
-use mathlib.Core.Path.{_≡_, refl, sym, ap, _∙_, subst}
-use mathlib.Core.Bool.{Bool, true, false, true≢false}
-use mathlib.Core.List.{List, [], _∷_}
-use mathlib.Core.Logic.{_⊎_, inl, inr}
-use native.Mathlib.Omega.{arith}
-use lib.ListN.{length}
-use Rattle.basis.proofs.Cases.{eq-or-ne}
+use Rattle.basis.proofs.Std.{ℕ, _<_, _≡_, refl, sym, ap, _∙_, subst, Bool, true, false, List, [], _∷_, _⊎_, inl, inr, arith, length, eq-or-ne}
 use Rattle.answer.specs.declared.Refusal.{Refusal}
 use Rattle.answer.specs.declared.Answer.{Answer}
 use Rattle.answer.specs.declared.Answer.the-variants.{Done, Refused}
@@ -28,15 +21,12 @@ use Rattle.store_site.specs.Layout.{siteOf, siteWords}
 use Rattle.store_site.specs.Turns.{Plain}
 use Rattle.store_whole.specs.Image.{wordsOf, Wide}
 use Rattle.store_whole.proofs.Back.{words-back}
-use Rattle.call_start.specs.Starts.{Starts}
 use Rattle.call_start.proofs.Whole.{once as one-start}
-use Rattle.packet_answer.specs.Ending.{Acks}
 use Rattle.write_message.specs.Message.{Message}
 use Rattle.write_message.specs.Message.Message.{ack}
-use Rattle.call_pump.specs.Pump.{Sends}
 use Rattle.sitec.specs.declared.Outcome.{Outcome}
 use Rattle.sitec.specs.Outcome.{outcomeOf}
-use Rattle.sitec.specs.Lent.{Words, WordsAndTable, Called, Told, Handed, Made, Started}
+use Rattle.sitec.specs.Lent.{WordsAndTable, Called, Told, Handed, Made, Started}
 use Rattle.oneresult.specs.Once.{Once}
 use Rattle.oneresult.proofs.Readers.{ends-once, marks-once, judges-once, skipped-once, finds-four-once, follows-once}
 

@@ -1,11 +1,6 @@
 -- Two ends of one reading are one.
 -- Assumes nothing.
-use Prim.Native.Nat.{ℕ, _≤_, _-_}
-use mathlib.Core.Path.{_≡_, refl, sym, ap, ap₂, _∙_, subst}
-use mathlib.Core.Bool.{Bool, true, false, true≢false}
-use mathlib.Core.List.{List, []}
-use native.Mathlib.Omega.{arith}
-use lib.ListN.{length, drop, length-drop}
+use Rattle.basis.proofs.Std.{ℕ, _≤_, _-_, _≡_, refl, sym, ap, ap₂, _∙_, subst, Bool, true, false, true≢false, List, [], arith, length, drop, length-drop}
 use Rattle.json_text.specs.Decoded.{Parsed}
 use Rattle.json_text.specs.Decoded.Parsed.{ok, none}
 use Rattle.json_text.specs.declared.Read.{Read}
@@ -20,8 +15,7 @@ use Rattle.json_find.specs.declared.FourFound.{FourFound}
 use Rattle.json_find.specs.Four.{FindsFour, Follows, after-none, after-end, nextBy}
 use Rattle.json_sure.specs.declared.Judged.{Judged}
 use Rattle.json_sure.specs.declared.Judged.the-variants as Judged
-use Rattle.json_sure.specs.Sure.{sure}
-use Rattle.json_sure.specs.Judges.{Judges, placeOf, Says}
+use Rattle.json_sure.specs.Judges.{Judges}
 
 -- two places of a text with the same rest are one
 pub same-place : (s : List ℕ) (a b : ℕ) → a ≤ length s → b ≤ length s → drop a s ≡ drop b s → a ≡ b

@@ -1,15 +1,7 @@
 -- The laws of `Wrote`: one writer after another, what stands in the output afterwards, a part that is lent on.
 -- Assumes nothing.
-use mathlib.Core.Path.{_≡_, refl, sym, ap, ap₂, _∙_}
-use mathlib.Core.List.{List, [], _∷_, _++_}
-use mathlib.Core.Logic.{⊎-elim}
-use Prim.Native.Nat.{ℕ, _+_, _-_, _≤_, _<_}
-use native.Mathlib.Nat.{add-assoc, add-zero}
-use native.Mathlib.Omega.{arith}
-use lib.ListN.{length, take, drop, length-append, drop-of-length-le}
-use borrow.Author.Tests.{le-leb, lt-leb}
+use Rattle.basis.proofs.Std.{_≡_, refl, sym, ap, ap₂, _∙_, List, [], _∷_, _++_, ⊎-elim, ℕ, _+_, _-_, _≤_, _<_, add-assoc, add-zero, arith, length, take, drop, length-append, drop-of-length-le, le-leb, lt-leb, le-or-lt}
 use borrow.Rule.Slice.PartMut.{midOf, putMid, same-len-mid, mid-len, put-same}
-use Rattle.basis.proofs.Cases.{le-or-lt}
 use Rattle.output.specs.Put.{Out, output, put, putPiece, putAll, Wrote, concat}
 use Rattle.output.proofs.Put.{length-put, take-put, drop-put, put-put, put-nothing, put-lent}
 

@@ -1,12 +1,6 @@
 -- The laws of `put`: its length, what stands before and behind it, two in a row, one in a part that is lent on.
 -- Assumes nothing.
-use mathlib.Core.Path.{_≡_, sym, ap, _∙_}
-use mathlib.Core.List.{List, [], _++_, append-assoc, append-nil}
-use Prim.Native.Nat.{ℕ, _+_, _-_, _≤_}
-use native.Mathlib.Nat.{add-assoc, add-zero}
-use native.Mathlib.Omega.{arith}
-use lib.ListN.{length, take, drop, length-append, length-take, length-drop, take-append-drop}
-use lib.Seq.{paste, take-length, length-take-le, take-at, drop-at, take-take, take-append-le, drop-append-le, take-append-add, drop-append-add, drop-drop}
+use Rattle.basis.proofs.Std.{_≡_, sym, ap, _∙_, List, [], _++_, append-assoc, append-nil, ℕ, _+_, _-_, _≤_, add-assoc, add-zero, arith, length, take, drop, length-append, length-take, length-drop, take-append-drop, paste, take-length, length-take-le, take-at, drop-at, take-take, take-append-le, drop-append-le, take-append-add, drop-append-add, drop-drop}
 use borrow.Rule.Slice.PartMut.{postOf, putMid}
 use Rattle.output.specs.Put.{put}
 

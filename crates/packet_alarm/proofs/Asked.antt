@@ -1,8 +1,6 @@
 -- The parts of an Alarm and of an AggregatedStatusRequest together: the words are ws, the site's table is t.
 -- Assumes nothing.
-use Prim.Native.Nat.{ℕ}
-use mathlib.Core.Path.{_≡_, refl, ap, _∙_}
-use mathlib.Core.List.{List, []}
+use Rattle.basis.proofs.Std.{ℕ, _≡_, refl, ap, _∙_, List, []}
 use Rattle.answer.specs.declared.Answer.{Answer}
 use Rattle.answer.specs.Given.Hint.{none}
 use Rattle.link.specs.declared.Role.{Role}

@@ -1,16 +1,11 @@
 -- An alarm's change in place, and the record of it: the words are ws, the site's table is t.
 -- Assumes nothing.
-use Prim.Native.Nat.{ℕ}
-use mathlib.Core.Path.{_≡_, refl, sym, ap, subst, _∙_}
-use mathlib.Core.Bool.{Bool, true, false}
-use mathlib.Core.List.{List}
-use lib.ListN.{length}
+use Rattle.basis.proofs.Std.{ℕ, _≡_, refl, sym, ap, subst, _∙_, Bool, true, false, List, length}
 use Rattle.answer.specs.declared.Refusal.the-variants.{SequenceSpent}
 use Rattle.answer.specs.declared.Report.{Report}
 use Rattle.answer.specs.declared.Answer.{Answer}
 use Rattle.answer.specs.declared.Answer.the-variants.{Done, Refused}
 use Rattle.answer.specs.Given.Hint.{none}
-use Rattle.identity.specs.declared.Identity.{Identity}
 use Rattle.entry.specs.declared.Entry.{Entry}
 use Rattle.alarm.specs.declared.Changed.{Changed}
 use Rattle.alarm.specs.declared.Order.{Order}

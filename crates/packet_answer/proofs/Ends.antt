@@ -1,11 +1,6 @@
 -- From what was written and how the words changed to what the call gives, the site's table being t.
 -- Assumes nothing.
-use Prim.Native.Nat.{ℕ}
-use mathlib.Core.Path.{_≡_, refl, sym, ap, ap₂, _∙_}
-use mathlib.Core.Bool.{true, false}
-use mathlib.Core.List.{List, [], _∷_, _++_}
-use native.Mathlib.Omega.{arith}
-use lib.ListN.{length}
+use Rattle.basis.proofs.Std.{ℕ, _≡_, refl, sym, ap, ap₂, _∙_, true, false, List, [], _∷_, _++_, arith, length}
 use Rattle.answer.specs.declared.Refusal.{Refusal}
 use Rattle.answer.specs.declared.Refusal.the-variants.{IdentityAwaited, SequenceSpent}
 use Rattle.answer.specs.declared.Report.{Report}

@@ -1,11 +1,6 @@
 -- The words of commands, put one by one into those that are lent.
 -- Assumes nothing.
-use Prim.Native.Nat.{ℕ, zero, suc, _+_, _<_}
-use mathlib.Core.Path.{_≡_, refl, sym, ap, ap₂, _∙_}
-use mathlib.Core.List.{List, [], _∷_, _++_, map, map-append}
-use native.Mathlib.Numerals.{add-one}
-use native.Mathlib.Omega.{arith}
-use lib.ListN.{length, set, drop, length-append, length-map}
+use Rattle.basis.proofs.Std.{ℕ, zero, suc, _+_, _<_, _≡_, refl, sym, ap, ap₂, _∙_, List, [], _∷_, _++_, map, map-append, add-one, arith, length, set, drop, length-append, length-map}
 use Rattle.table_whole.specs.declared.SiteTable.{SiteTable}
 use Rattle.read_commands.specs.declared.CommandEntry.{CommandEntry}
 use Rattle.read_commands.specs.declared.CommandFields.{CommandFields}
@@ -13,7 +8,6 @@ use Rattle.read_commands.specs.Command.{commandAt}
 use Rattle.packet_lookup.specs.declared.Sought.{Sought}
 use Rattle.packet_lookup.specs.declared.Sought.the-variants.{Is, Nothing}
 use Rattle.packet_lookup.specs.Sought.{componentSought}
-use Rattle.site.specs.Call.{Command}
 use Rattle.packet_command.specs.Commanding.{entryAt, commandOf, commandsTo, commandsOf}
 use Rattle.packet_command.specs.Handing.{commandWord, handedOver, commandsIn}
 

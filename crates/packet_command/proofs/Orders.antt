@@ -1,10 +1,6 @@
 -- The parts of a CommandRequest together: the words are ws, the site's table is t.
 -- Assumes nothing.
-use Prim.Native.Nat.{ℕ}
-use mathlib.Core.Path.{_≡_, sym}
-use mathlib.Core.Bool.{true, false}
-use mathlib.Core.List.{List}
-use Rattle.basis.specs.Pick.{pick}
+use Rattle.basis.proofs.Std.{ℕ, _≡_, sym, true, false, List, pick}
 use Rattle.answer.specs.declared.Answer.{Answer}
 use Rattle.table_whole.specs.declared.SiteTable.{SiteTable}
 use Rattle.read_commands.specs.declared.CommandFields.{CommandFields}

@@ -1,9 +1,6 @@
 -- The two ends of an answer to a message of ours, in place, the site's table being t.
 -- Assumes nothing.
-use Prim.Native.Nat.{ℕ}
-use mathlib.Core.Path.{_≡_, ap, sym, _∙_}
-use mathlib.Core.Bool.{Bool, true, false}
-use mathlib.Core.List.{List}
+use Rattle.basis.proofs.Std.{ℕ, _≡_, ap, sym, _∙_, Bool, true, false, List}
 use Rattle.answer.specs.declared.Answer.{Answer}
 use Rattle.answer.specs.declared.Answer.the-variants.{Done}
 use Rattle.identity.specs.declared.Identity.{Identity}

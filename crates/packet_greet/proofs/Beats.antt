@@ -1,9 +1,6 @@
 -- The hint of a Watchdog, and that one with good fields beats.
 -- Assumes nothing.
-use Prim.Native.Nat.{ℕ, _≤_, _<_}
-use mathlib.Core.Path.{_≡_, refl, sym, subst}
-use mathlib.Core.List.{List}
-use borrow.Author.Tests.{le-leb, lt-leb}
+use Rattle.basis.proofs.Std.{ℕ, _≤_, _<_, _≡_, refl, sym, subst, List, le-leb, lt-leb}
 use Rattle.answer.specs.declared.Answer.{Answer}
 use Rattle.answer.specs.Given.Hint.{none, clock}
 use Rattle.link.specs.declared.Role.{Role}

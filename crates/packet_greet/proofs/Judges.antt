@@ -1,8 +1,6 @@
 -- A Version with good fields is judged by what the table offers.
 -- Assumes nothing.
-use Prim.Native.Nat.{ℕ}
-use mathlib.Core.Path.{_≡_, refl, sym, ap, subst, _∙_}
-use mathlib.Core.List.{List}
+use Rattle.basis.proofs.Std.{ℕ, _≡_, refl, sym, ap, subst, _∙_, List}
 use Rattle.answer.specs.declared.Answer.{Answer}
 use Rattle.table_whole.specs.declared.SiteTable.{SiteTable}
 use Rattle.read_head.specs.declared.Verdict.{Verdict}

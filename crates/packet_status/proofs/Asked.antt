@@ -1,9 +1,6 @@
 -- The parts of a StatusRequest together: the words are ws, the site's table is t.
 -- Assumes nothing.
-use Prim.Native.Nat.{ℕ}
-use mathlib.Core.Path.{_≡_, sym, ap, _∙_}
-use mathlib.Core.Bool.{Bool, true, false}
-use mathlib.Core.List.{List}
+use Rattle.basis.proofs.Std.{ℕ, _≡_, sym, ap, _∙_, Bool, true, false, List}
 use Rattle.answer.specs.declared.Answer.{Answer}
 use Rattle.table_whole.specs.declared.SiteTable.{SiteTable}
 use Rattle.read_lists.specs.declared.StatusEntry.{StatusEntry}

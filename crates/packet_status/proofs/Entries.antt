@@ -1,13 +1,6 @@
 -- The entries of a StatusResponse, put one by one between its head and its tail.
 -- Assumes nothing.
-use Prim.Native.Nat.{ℕ, zero, suc, _+_}
-use mathlib.Core.Path.{_≡_, refl, sym, ap, subst, _∙_}
-use mathlib.Core.Bool.{Bool, true}
-use mathlib.Core.List.{List, [], _∷_, _++_}
-use native.Mathlib.Numerals.{add-one}
-use native.Mathlib.Omega.{arith}
-use lib.Dec.{eqb}
-use lib.ListN.{length, length-append}
+use Rattle.basis.proofs.Std.{ℕ, zero, suc, _+_, _≡_, refl, sym, ap, subst, _∙_, Bool, true, List, [], _∷_, _++_, add-one, arith, eqb, length, length-append}
 use Rattle.label.specs.Label.{textOf}
 use Rattle.output.specs.Put.{Wrote}
 use Rattle.output.proofs.Laws.{then}

@@ -1,11 +1,6 @@
 -- From the parts of a change to what the call gives, the site's table being t.
 -- Assumes nothing.
-use Prim.Native.Nat.{ℕ, zero, suc}
-use mathlib.Core.Path.{_≡_, refl, sym, ap, ap₂, subst, _∙_}
-use mathlib.Core.Bool.{Bool, true, false}
-use mathlib.Core.List.{List, [], _++_}
-use lib.ListN.{length}
-use Rattle.basis.specs.Pick.{pick}
+use Rattle.basis.proofs.Std.{ℕ, zero, suc, _≡_, refl, sym, ap, ap₂, subst, _∙_, Bool, true, false, List, [], _++_, length, pick}
 use Rattle.answer.specs.declared.Refusal.the-variants.{SequenceSpent}
 use Rattle.answer.specs.declared.Answer.{Answer}
 use Rattle.answer.specs.declared.Answer.the-variants.{Done, Refused}

@@ -1,14 +1,6 @@
 -- The claims about StatusSubscribe and StatusUnsubscribe are kept.
 -- Assumes nothing.
-use Prim.Native.Nat.{ℕ, zero, suc, _+_, _<_}
-use mathlib.Core.Path.{_≡_, refl, sym, ap₂, _∙_}
-use mathlib.Core.Bool.{Bool, true, false}
-use mathlib.Core.List.{List, [], _∷_, _++_}
-use native.Mathlib.Numerals.{add-one}
-use native.Mathlib.Omega.{arith}
-use lib.ListN.{length, length-append}
-use Rattle.basis.specs.Pick.{pick}
-use Rattle.basis.proofs.Both.{both-true}
+use Rattle.basis.proofs.Std.{ℕ, zero, suc, _+_, _<_, _≡_, refl, ap₂, _∙_, Bool, true, false, List, [], _∷_, _++_, add-one, arith, length, length-append, both-true}
 use Rattle.entry.specs.declared.Entry.{Entry}
 use Rattle.pool_laws.specs.BatchLaws.{Owned}
 use Rattle.read_head.specs.declared.Verdict.{Verdict}

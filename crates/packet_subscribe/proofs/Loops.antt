@@ -1,10 +1,6 @@
 -- One entry more, in each of the two loops.
 -- Assumes nothing.
-use Prim.Native.Nat.{ℕ, _+_, _*_}
-use mathlib.Core.Path.{_≡_, refl, sym, ap, ap₂, subst, _∙_}
-use mathlib.Core.Bool.{Bool}
-use mathlib.Core.List.{List, [], _∷_, _++_}
-use native.Mathlib.Numerals.{add-one}
+use Rattle.basis.proofs.Std.{ℕ, _+_, _*_, _≡_, refl, sym, ap, ap₂, subst, _∙_, Bool, List, [], _∷_, add-one}
 use Rattle.table_whole.specs.declared.SiteTable.{SiteTable}
 use Rattle.entry.specs.declared.Entry.{Entry}
 use Rattle.read_lists.specs.declared.StatusEntry.{StatusEntry}

@@ -1,16 +1,8 @@
 -- What one turn of a loop that goes down the places does to the folds over them, and where it starts.
 -- Assumes nothing.
-use Prim.Native.Nat.{ℕ, suc, _≤_, _<_, _-_, _+_}
-use mathlib.Core.Path.{_≡_, ap, _∙_}
-use mathlib.Core.List.{List, [], _∷_}
-use mathlib.Core.Bool.{Bool, true, false}
-use native.Mathlib.Omega.{arith}
-use lib.ListN.{length, drop, getD, drop-of-length-le}
-use lib.Seq.{drop-cons}
+use Rattle.basis.proofs.Std.{ℕ, suc, _≤_, _<_, _-_, _+_, _≡_, ap, _∙_, List, [], _∷_, Bool, true, false, arith, length, drop, getD, drop-of-length-le, drop-cons, bit, count}
 use Rattle.pool.specs.declared.Place.{Place}
 use Rattle.pool.specs.declared.Spot.the-variants.{Nowhere}
-use Rattle.basis.specs.Pick.{bit}
-use Rattle.basis.specs.Lists.{count}
 use Rattle.pool.specs.Places.{noPlace, older, newer, oldestFrom, newestFrom}
 
 down : {A : Type 0} (p : List A) (i : ℕ) (d : A) → i ≤ length p → 0 < i → drop (i - 1) p ≡ getD p (i - 1) d ∷ drop i p

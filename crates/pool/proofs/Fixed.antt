@@ -1,14 +1,6 @@
 -- The fullest of the first links: none holds more, and every lower one holds fewer.
 -- Assumes nothing.
-use Prim.Native.Nat.{ℕ, suc, zero, _≤_, _<_}
-use mathlib.Core.Path.{_≡_, refl}
-use mathlib.Core.Bool.{Bool, true, false}
-use mathlib.Core.Logic.{_⊎_, inl, inr}
-use lib.Dec.{ltb}
-use native.Mathlib.Omega.{arith}
-use borrow.Author.Tests.{ltb-true, ltb-false}
-use Rattle.basis.specs.Pick.{pick}
-use Rattle.basis.proofs.Cases.{eq-or-ne}
+use Rattle.basis.proofs.Std.{ℕ, suc, zero, _≤_, _<_, _≡_, refl, Bool, true, false, _⊎_, inl, inr, ltb, arith, ltb-true, ltb-false, pick, eq-or-ne}
 use Rattle.pool.specs.Shares.{fullest}
 
 -- the links 0 to k: the fullest is one of them, none holds more, and every lower one holds fewer

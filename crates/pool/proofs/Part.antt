@@ -1,11 +1,6 @@
 -- A function on the first elements of a list: what a loop has done that goes up the list and changes one element a turn.
 -- Assumes nothing.
-use Prim.Native.Nat.{ℕ, zero, suc, _≤_, _<_, _+_}
-use mathlib.Core.Path.{_≡_, refl, ap}
-use mathlib.Core.List.{List, [], _∷_, map}
-use native.Mathlib.Omega.{arith}
-use native.Mathlib.Numerals.{add-one}
-use lib.ListN.{length, getD, set}
+use Rattle.basis.proofs.Std.{ℕ, zero, suc, _≤_, _<_, _+_, _≡_, refl, ap, List, [], _∷_, map, arith, add-one, length, getD, set}
 
 unfoldable pub part : {A : Type 0} → (A → A) → ℕ → List A → List A
 part f zero p = p

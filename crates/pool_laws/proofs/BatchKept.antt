@@ -1,33 +1,20 @@
 -- The laws of issuing a list of records.
 -- Assumes nothing.
-use mathlib.Core.Path.{_≡_, refl, sym, ap, subst, fun-ext, _∙_}
-use mathlib.Core.Bool.{Bool, true, false}
-use mathlib.Core.Logic.{_⊎_, inl, inr}
-use mathlib.Core.List.{List, [], _∷_, _++_}
-use Prim.Native.Nat.{ℕ, zero, suc, _+_, _*_, _%_, _≤_, _<_}
-use native.Mathlib.Nat.{mod-eq-of-lt, add-zero, add-assoc}
-use native.Mathlib.Omega.{arith}
-use lib.Dec.{ltb}
-use lib.ListN.{length}
-use borrow.Author.Tests.{lt-ltb, le-ltb}
-use Rattle.basis.specs.Pick.{pick, both}
-use Rattle.basis.proofs.Cases.{lt-or-ge}
+use Rattle.basis.proofs.Std.{_≡_, refl, sym, ap, subst, fun-ext, _∙_, true, false, _⊎_, inl, inr, List, [], _∷_, _++_, ℕ, zero, suc, _+_, _*_, _≤_, _<_, mod-eq-of-lt, arith, ltb, length, lt-ltb, le-ltb, both, lt-or-ge}
 use Rattle.entry.specs.declared.Entry.{Entry}
 use Rattle.pool.specs.declared.Place.{Place}
-use Rattle.pool.specs.declared.Pool.{Pool}
-use Rattle.pool.specs.Pool.{lostOf, issueOf, moreOf}
-use Rattle.pool_laws.specs.Acts.{Act, acts, May, Rising}
+use Rattle.pool.specs.Pool.{lostOf, moreOf}
+use Rattle.pool_laws.specs.Acts.{acts, May, Rising}
 use Rattle.pool_laws.specs.Acts.Act.{Issue}
 use Rattle.pool_laws.specs.Acts.Rising.{none, then}
 use Rattle.pool_laws.specs.Promises.{Reached}
 use Rattle.pool_laws.specs.Promises.Reached.{after}
 use Rattle.pool_laws.specs.Crowded.{Crowded}
 use Rattle.pool_laws.specs.View.{records, loserIn, issueView, losses}
-use Rattle.pool_laws.specs.Views.{Views}
 use Rattle.pool_laws.proofs.Crowded.{never-crowded}
 use Rattle.pool_laws.proofs.Viewed.{viewed}
 use Rattle.pool_laws.specs.declared.Batch.{Batch}
-use Rattle.pool_laws.specs.Batch.{either, renumbered, under, beginning, added, addedAll, issuedAll}
+use Rattle.pool_laws.specs.Batch.{renumbered, under, beginning, added, addedAll, issuedAll}
 use Rattle.pool_laws.specs.BatchLaws.{numbered, issues, Owned, viewAll, lossesAll, Lasting, Laws}
 
 added-append : (n : ℕ) (b : Batch) (xs ys : List Entry) → addedAll n b (xs ++ ys) ≡ addedAll n (addedAll n b xs) ys

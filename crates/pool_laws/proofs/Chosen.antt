@@ -1,13 +1,6 @@
 -- The place that an issue takes, and why: a free one; its own link's oldest, of 16 or more; or another link's oldest, of 17 or more.
 -- Assumes nothing.
-use Prim.Native.Nat.{ℕ, _-_, _*_, _≤_, _<_}
-use mathlib.Core.Path.{_≡_, refl, _∙_, ap}
-use mathlib.Core.List.{List}
-use mathlib.Core.Bool.{Bool, true, false}
-use lib.ListN.{length, getD, set}
-use lib.Dec.{ltb, leb}
-use native.Mathlib.Omega.{arith}
-use borrow.Author.Tests.{ltb-true, ltb-false, leb-true, leb-false, eqb-true, lt-ltb}
+use Rattle.basis.proofs.Std.{ℕ, _-_, _*_, _≤_, _<_, _≡_, refl, _∙_, ap, List, Bool, true, false, length, getD, set, ltb, leb, arith, ltb-true, ltb-false, leb-true, leb-false, eqb-true, lt-ltb, count}
 use Rattle.entry.specs.declared.Entry.{Entry}
 use Rattle.pool.specs.declared.Place.{Place}
 use Rattle.pool.specs.declared.Pool.{Pool}
@@ -15,7 +8,6 @@ use Rattle.pool.specs.declared.Wanted.the-variants.{Free, Older}
 use Rattle.pool.specs.declared.Spot.the-variants.{At}
 use Rattle.pool.specs.declared.Loser.{Loser}
 use Rattle.pool.specs.declared.Loser.the-variants.{Nobody, Owner}
-use Rattle.basis.specs.Lists.{count}
 use Rattle.pool.specs.Places.{noPlace, of, fits, oldest}
 use Rattle.pool.specs.Shares.{fullest, loser}
 use Rattle.pool.specs.Pool.{heldIn, freeIn, made, lossOf, roomOf, withOf, issueOf}

@@ -1,16 +1,6 @@
 -- Laws of counting: what a store, a map and a comparison of tests do to a count.
 -- Assumes nothing.
-use Prim.Native.Nat.{ℕ, suc, zero, _+_, _≤_, _<_}
-use mathlib.Core.Path.{_≡_, refl, ap}
-use mathlib.Core.List.{List, [], _∷_, map}
-use mathlib.Core.Bool.{Bool, true, false}
-use lib.ListN.{length, getD, set, replicate}
-use lib.Dec.{ltb, eqb}
-use native.Mathlib.Omega.{arith}
-use borrow.Author.Tests.{lt-ltb, le-ltb, eq-eqb, ne-eqb}
-use Rattle.basis.specs.Pick.{both}
-use Rattle.basis.specs.Pick.{bit}
-use Rattle.basis.specs.Lists.{count}
+use Rattle.basis.proofs.Std.{ℕ, suc, zero, _+_, _≤_, _<_, _≡_, refl, ap, List, [], _∷_, map, Bool, true, false, length, getD, set, replicate, ltb, eqb, arith, lt-ltb, le-ltb, eq-eqb, ne-eqb, both, bit, count}
 
 pub bit-true : (b : Bool) → b ≡ true → bit b ≡ 1
 bit-true b e = rw e

@@ -1,11 +1,7 @@
 -- The pool is never crowded: 16 a link are a full pool or more than one, and one link holds fewer. And what issuing does where none of the
 -- links holds a record.
 -- Assumes nothing.
-use Prim.Native.Nat.{ℕ, _*_, _≤_, _<_}
-use mathlib.Core.Path.{_≡_, ap}
-use mathlib.Core.Logic.{_⊎_, inl, inr}
-use native.Mathlib.Omega.{arith}
-use Rattle.basis.proofs.Cases.{eq-or-ne}
+use Rattle.basis.proofs.Std.{ℕ, _*_, _≤_, _<_, _≡_, ap, _⊎_, inl, inr, arith, eq-or-ne}
 use Rattle.pool.specs.declared.Pool.{Pool}
 use Rattle.pool.specs.Pool.{heldOf}
 use Rattle.pool_laws.specs.Crowded.{Crowded, NeverCrowded}

@@ -1,9 +1,6 @@
 -- What holds of the records of every place holds of all of them.
 -- Assumes nothing.
-use Prim.Native.Nat.{ℕ, zero, suc, _<_}
-use mathlib.Core.Path.{_≡_, refl}
-use mathlib.Core.List.{List, []}
-use native.Mathlib.Omega.{arith}
+use Rattle.basis.proofs.Std.{ℕ, zero, suc, _<_, _≡_, refl, List, [], arith}
 use Rattle.entry.specs.declared.Entry.{Entry}
 use Rattle.pool_laws.specs.Upwards.{entriesTo}
 

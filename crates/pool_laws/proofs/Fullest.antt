@@ -1,20 +1,8 @@
 -- What the links hold together, and what the fullest holds: in a full pool of n links, 16 n at most 128, a link below 16 leaves another above 16.
 -- Assumes nothing.
-use Prim.Native.Nat.{ℕ, suc, zero, _+_, _-_, _*_, _≤_, _<_}
-use mathlib.Core.Path.{_≡_, refl, ap}
-use mathlib.Core.List.{List, [], _∷_}
-use mathlib.Core.Bool.{Bool, true, false}
-use mathlib.Core.Logic.{_⊎_, inl, inr}
-use lib.ListN.{length}
-use lib.Dec.{ltb, leb, eqb}
-use native.Mathlib.Omega.{arith}
-use borrow.Author.Tests.{lt-ltb, le-leb, lt-leb}
-use Rattle.basis.specs.Pick.{both}
-use Rattle.basis.proofs.Cases.{lt-or-ge, eq-or-ne}
+use Rattle.basis.proofs.Std.{ℕ, suc, zero, _+_, _-_, _*_, _≤_, _<_, _≡_, refl, ap, List, [], _∷_, Bool, true, false, _⊎_, inl, inr, length, ltb, leb, eqb, arith, lt-ltb, le-leb, lt-leb, both, lt-or-ge, eq-or-ne, bit, count}
 use Rattle.pool.specs.declared.Place.{Place}
 use Rattle.pool.specs.declared.Wanted.the-variants.{Free}
-use Rattle.basis.specs.Pick.{bit}
-use Rattle.basis.specs.Lists.{count}
 use Rattle.pool.specs.Places.{of, fits}
 use Rattle.pool.specs.Shares.{fullest}
 use Rattle.pool.specs.Pool.{heldIn, freeIn}

@@ -1,18 +1,6 @@
 -- Laws of insertion into a list of records in the order of their numbers.
 -- Assumes nothing.
-use Prim.Native.Nat.{ℕ, suc, _+_, _≤_, _<_}
-use mathlib.Core.Path.{_≡_, refl, sym, _∙_, ap}
-use mathlib.Core.List.{List, [], _∷_, _++_, map}
-use mathlib.Core.Bool.{Bool, true, false}
-use mathlib.Core.Logic.{_⊎_, inl, inr}
-use lib.ListN.{length}
-use lib.Dec.{ltb, leb, eqb}
-use native.Mathlib.Omega.{arith}
-use borrow.Author.Tests.{le-leb, lt-leb, eq-eqb}
-use Rattle.basis.specs.Pick.{pick, bit}
-use Rattle.basis.specs.Lists.{count}
-use Rattle.basis.proofs.Cases.{lt-or-ge}
-use Rattle.basis.proofs.Both.{not-both}
+use Rattle.basis.proofs.Std.{ℕ, suc, _+_, _≤_, _<_, _≡_, refl, sym, _∙_, ap, List, [], _∷_, _++_, map, Bool, true, false, _⊎_, inl, inr, length, ltb, leb, eqb, arith, le-leb, lt-leb, eq-eqb, pick, bit, count, lt-or-ge, not-both}
 use Rattle.pool.specs.declared.Place.{Place}
 use Rattle.pool_laws.specs.View.{insert, insertIf, without}
 use Rattle.pool_laws.proofs.Counts.{bit-lt, bit-ge, count-le}

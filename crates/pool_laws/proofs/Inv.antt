@@ -1,22 +1,9 @@
 -- What every act keeps: 128 places, records of the n links only, none twice, all numbers below the next, none above 64.
 -- Assumes nothing.
-use Prim.Native.Nat.{ℕ, suc, zero, _+_, _≤_, _<_}
-use mathlib.Core.Path.{_≡_, refl}
-use mathlib.Core.List.{List, [], _∷_}
-use mathlib.Core.Bool.{Bool, true, false}
-use mathlib.Core.Logic.{_⊎_, inl, inr}
-use lib.ListN.{length, getD, replicate, length-replicate}
-use lib.Dec.{ltb, leb, eqb}
-use native.Mathlib.Omega.{arith}
-use borrow.Author.Tests.{eqb-true, le-leb, lt-leb}
-use Rattle.basis.specs.Pick.{both}
-use Rattle.basis.proofs.Cases.{lt-or-ge, eq-or-ne}
+use Rattle.basis.proofs.Std.{ℕ, suc, zero, _+_, _≤_, _<_, _≡_, refl, List, [], _∷_, Bool, true, false, _⊎_, inl, inr, length, getD, replicate, length-replicate, ltb, leb, eqb, arith, eqb-true, le-leb, lt-leb, both, lt-or-ge, eq-or-ne, bit, count, both-first, both-second}
 use Rattle.pool.specs.declared.Place.{Place}
 use Rattle.pool.specs.declared.Pool.{Pool}
 use Rattle.pool.specs.declared.Wanted.the-variants.{Older, Numbered}
-use Rattle.basis.specs.Pick.{bit}
-use Rattle.basis.specs.Lists.{count}
-use Rattle.basis.proofs.Both.{both-first, both-second}
 use Rattle.pool.specs.Places.{noPlace, of, fits}
 use Rattle.pool.specs.Pool.{emptyOf, heldIn, lostOf}
 use Rattle.pool_laws.specs.Acts.{newerThan}

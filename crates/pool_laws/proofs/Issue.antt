@@ -1,19 +1,6 @@
 -- What an issue does to every count, to the invariant, and to a record that was held.
 -- Assumes nothing.
-use Prim.Native.Nat.{ℕ, _+_, _*_, _≤_, _<_}
-use mathlib.Core.Path.{_≡_, refl, sym, _∙_, ap}
-use mathlib.Core.List.{List}
-use mathlib.Core.Bool.{Bool, true, false}
-use mathlib.Core.Logic.{_⊎_, inl, inr}
-use lib.ListN.{length, getD, set, length-set}
-use lib.Seq.{getD-set-same, getD-set-other}
-use lib.Dec.{ltb, eqb}
-use native.Mathlib.Omega.{arith}
-use borrow.Author.Tests.{ltb-true, eqb-true, lt-ltb, le-leb, lt-leb, eq-eqb, ne-eqb}
-use Rattle.basis.specs.Pick.{both, bit}
-use Rattle.basis.specs.Lists.{count}
-use Rattle.basis.proofs.Cases.{lt-or-ge, eq-or-ne}
-use Rattle.basis.proofs.Both.{not-both, both-first, both-second, both-of}
+use Rattle.basis.proofs.Std.{ℕ, _+_, _*_, _≤_, _<_, _≡_, refl, sym, _∙_, ap, List, Bool, true, false, _⊎_, inl, inr, length, getD, set, length-set, getD-set-same, getD-set-other, ltb, eqb, arith, ltb-true, eqb-true, lt-ltb, le-leb, lt-leb, eq-eqb, ne-eqb, both, bit, count, lt-or-ge, eq-or-ne, not-both, both-first, both-second, both-of}
 use Rattle.entry.specs.declared.Entry.{Entry}
 use Rattle.pool.specs.declared.Place.{Place}
 use Rattle.pool.specs.declared.Pool.{Pool}

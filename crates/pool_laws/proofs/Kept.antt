@@ -1,16 +1,7 @@
 -- The promises of the pool are kept, for every number of links n with 16 n at most 128.
 -- Assumes nothing.
-use Prim.Native.Nat.{ℕ, _+_, _*_, _≤_, _<_}
-use mathlib.Core.Path.{_≡_, refl}
-use mathlib.Core.List.{List, [], _∷_}
-use mathlib.Core.Bool.{Bool, true, false}
-use mathlib.Core.Logic.{_⊎_, inl, inr}
-use lib.Dec.{ltb, leb, eqb}
-use native.Mathlib.Omega.{arith}
-use borrow.Author.Tests.{eqb-true, le-leb}
-use Rattle.basis.specs.Pick.{both, bit}
+use Rattle.basis.proofs.Std.{ℕ, _+_, _*_, _≤_, _<_, _≡_, refl, List, [], _∷_, Bool, true, false, _⊎_, inl, inr, ltb, leb, eqb, arith, eqb-true, le-leb, both, bit, count, Among}
 use Rattle.basis.specs.Lists.Among.{first, later}
-use Rattle.basis.specs.Lists.{count, Among}
 use Rattle.entry.specs.declared.Entry.{Entry}
 use Rattle.pool.specs.declared.Place.{Place}
 use Rattle.pool.specs.declared.Pool.{Pool}

@@ -1,18 +1,6 @@
 -- How many records of a link an act makes leave: one where an issue takes its place, none by a mark.
 -- Assumes nothing.
-use Prim.Native.Nat.{ℕ, suc, _+_, _*_, _≤_, _<_}
-use mathlib.Core.Path.{_≡_, refl, sym, _∙_, ap, subst, subst⁻¹}
-use mathlib.Core.List.{List, [], _∷_}
-use mathlib.Core.Bool.{Bool, true, false}
-use mathlib.Core.Logic.{_⊎_, inl, inr}
-use lib.ListN.{length, getD}
-use lib.Dec.{eqb}
-use native.Mathlib.Omega.{arith}
-use borrow.Author.Tests.{eqb-true, eqb-false, le-leb, eq-eqb, ne-eqb}
-use Rattle.basis.specs.Pick.{both, bit}
-use Rattle.basis.specs.Lists.{count}
-use Rattle.basis.proofs.Cases.{lt-or-ge}
-use Rattle.basis.proofs.Both.{both-of}
+use Rattle.basis.proofs.Std.{ℕ, suc, _+_, _*_, _≤_, _<_, _≡_, refl, sym, _∙_, ap, subst, subst⁻¹, List, [], _∷_, Bool, true, false, _⊎_, inl, inr, length, getD, eqb, arith, eqb-true, eqb-false, le-leb, eq-eqb, ne-eqb, both, bit, count, lt-or-ge, both-of}
 use Rattle.entry.specs.declared.Entry.{Entry}
 use Rattle.pool.specs.declared.Place.{Place}
 use Rattle.pool.specs.declared.Pool.{Pool}

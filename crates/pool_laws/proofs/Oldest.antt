@@ -1,21 +1,9 @@
 -- What `oldest` finds: a place that passes the test, and none that passes has an older record. Nowhere: no place passes.
 -- Assumes nothing.
-use Prim.Native.Nat.{ℕ, suc, _+_, _≤_, _<_}
-use mathlib.Core.Path.{_≡_, refl}
-use mathlib.Core.List.{List, [], _∷_}
-use mathlib.Core.Bool.{Bool, true, false}
-use mathlib.Core.Logic.{_⊎_, inl, inr}
-use lib.ListN.{length, getD}
-use lib.Dec.{ltb, leb}
-use native.Mathlib.Omega.{arith}
-use borrow.Author.Tests.{leb-true, leb-false}
-use Rattle.basis.specs.Pick.{pick, both}
-use Rattle.basis.proofs.Cases.{lt-or-ge}
+use Rattle.basis.proofs.Std.{ℕ, suc, _+_, _≤_, _<_, _≡_, refl, List, [], _∷_, Bool, true, false, _⊎_, inl, inr, length, getD, ltb, leb, arith, leb-true, leb-false, pick, both, lt-or-ge, bit, count}
 use Rattle.pool.specs.declared.Place.{Place}
 use Rattle.pool.specs.declared.Spot.{Spot}
 use Rattle.pool.specs.declared.Spot.the-variants.{At, Nowhere}
-use Rattle.basis.specs.Pick.{bit}
-use Rattle.basis.specs.Lists.{count}
 use Rattle.pool.specs.Places.{noPlace, lower, older, oldestFrom, oldest}
 use Rattle.pool_laws.proofs.Counts.{bit-false, bit-and, bit-and-no, bit-and-le, bit-lt, bit-ge, count-cons, count-nil, count-le, count-pos}
 

@@ -1,16 +1,6 @@
 -- A link's records are its own, each sent or not, and their numbers rise: so the rank of a record is its place in the list.
 -- Assumes nothing.
-use Prim.Native.Nat.{ℕ, suc, zero, _+_, _≤_, _<_}
-use mathlib.Core.Path.{_≡_, refl}
-use mathlib.Core.List.{List, [], _∷_}
-use mathlib.Core.Bool.{Bool, true, false}
-use mathlib.Core.Logic.{_⊎_, inl, inr}
-use lib.Dec.{ltb, leb, eqb}
-use native.Mathlib.Omega.{arith}
-use borrow.Author.Tests.{ltb-true, le-leb, eq-eqb, ne-eqb}
-use Rattle.basis.specs.Pick.{pick, both, bit}
-use Rattle.basis.specs.Lists.{count}
-use Rattle.basis.proofs.Cases.{lt-or-ge, eq-or-ne}
+use Rattle.basis.proofs.Std.{ℕ, suc, zero, _+_, _≤_, _<_, _≡_, refl, List, [], _∷_, Bool, true, false, _⊎_, inl, inr, ltb, leb, eqb, arith, ltb-true, le-leb, eq-eqb, ne-eqb, pick, both, bit, count, lt-or-ge, eq-or-ne}
 use Rattle.pool.specs.declared.Place.{Place}
 use Rattle.pool.specs.declared.Pool.{Pool}
 use Rattle.pool.specs.Places.{of}

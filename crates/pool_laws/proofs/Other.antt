@@ -1,18 +1,6 @@
 -- What a settle, a mark and an unmark do to every count, to the invariant, and to a record that was held.
 -- Assumes nothing.
-use Prim.Native.Nat.{ℕ, _≤_, _<_}
-use mathlib.Core.Path.{_≡_, refl, sym, _∙_, ap}
-use mathlib.Core.List.{List}
-use mathlib.Core.Bool.{Bool, true, false}
-use mathlib.Core.Logic.{_⊎_, inl, inr}
-use lib.ListN.{length, getD, set, length-set, length-map}
-use lib.Dec.{ltb, leb, eqb}
-use native.Mathlib.Omega.{arith}
-use borrow.Author.Tests.{eqb-true}
-use Rattle.basis.specs.Pick.{pick, both, bit}
-use Rattle.basis.specs.Lists.{count}
-use Rattle.basis.proofs.Cases.{lt-or-ge}
-use Rattle.basis.proofs.Both.{both-first, both-second}
+use Rattle.basis.proofs.Std.{ℕ, _≤_, _<_, _≡_, refl, sym, _∙_, ap, List, Bool, true, false, _⊎_, inl, inr, length, getD, set, length-set, length-map, ltb, leb, eqb, arith, eqb-true, pick, both, bit, count, lt-or-ge, both-first, both-second}
 use Rattle.pool.specs.declared.Place.{Place}
 use Rattle.pool.specs.declared.Pool.{Pool}
 use Rattle.pool.specs.declared.Wanted.the-variants.{Numbered}

@@ -1,16 +1,6 @@
 -- Laws of a link's records: how many they are, what a store at a place does to them, and that they stand in the order of their numbers.
 -- Assumes nothing.
-use Prim.Native.Nat.{ℕ, suc, zero, _+_, _≤_, _<_}
-use mathlib.Core.Path.{_≡_, refl, sym, _∙_, ap}
-use mathlib.Core.List.{List, [], _∷_, map}
-use mathlib.Core.Bool.{Bool, true, false}
-use lib.ListN.{length, getD, set}
-use lib.Dec.{leb}
-use native.Mathlib.Omega.{arith}
-use borrow.Author.Tests.{leb-true, leb-false, eq-eqb}
-use Rattle.basis.specs.Pick.{pick, both, bit}
-use Rattle.basis.specs.Lists.{count}
-use Rattle.basis.proofs.Both.{not-both, both-of}
+use Rattle.basis.proofs.Std.{ℕ, suc, zero, _+_, _≤_, _<_, _≡_, refl, sym, _∙_, ap, List, [], _∷_, map, Bool, true, false, length, getD, set, leb, arith, leb-true, leb-false, eq-eqb, pick, both, bit, count, not-both, both-of}
 use Rattle.pool.specs.declared.Place.{Place}
 use Rattle.pool.specs.declared.Wanted.the-variants.{Numbered}
 use Rattle.pool.specs.Places.{noPlace, of, fits}

@@ -1,17 +1,6 @@
 -- What is read from the places is read from the view.
 -- Assumes nothing.
-use Prim.Native.Nat.{ℕ, suc, _≤_, _<_}
-use mathlib.Core.Path.{_≡_, refl, sym, _∙_, ap}
-use mathlib.Core.List.{List, [], _∷_}
-use mathlib.Core.Bool.{Bool, true, false}
-use mathlib.Core.Logic.{_⊎_, inl, inr}
-use lib.Dec.{ltb, leb}
-use native.Mathlib.Omega.{arith}
-use borrow.Author.Tests.{lt-ltb, le-ltb, le-leb, lt-leb}
-use Rattle.basis.specs.Pick.{pick}
-use Rattle.basis.specs.Lists.{count}
-use Rattle.basis.proofs.Cases.{lt-or-ge}
-use Rattle.basis.proofs.Both.{not-both}
+use Rattle.basis.proofs.Std.{ℕ, suc, _≤_, _<_, _≡_, refl, sym, _∙_, ap, List, [], _∷_, Bool, true, false, _⊎_, inl, inr, ltb, leb, arith, lt-ltb, le-ltb, le-leb, lt-leb, pick, count, lt-or-ge, not-both}
 use Rattle.pool.specs.declared.Place.{Place}
 use Rattle.pool.specs.declared.Spot.{Spot}
 use Rattle.pool.specs.declared.Spot.the-variants.{At, Nowhere}

@@ -1,17 +1,6 @@
 -- An issue on the view: the loser's oldest leaves its list, the new record comes last in its own.
 -- Assumes nothing.
-use Prim.Native.Nat.{ℕ, suc, zero, _+_, _-_, _*_, _≤_, _<_}
-use mathlib.Core.Path.{_≡_, refl, sym, _∙_, ap, subst}
-use mathlib.Core.List.{List, [], _∷_, _++_, append-nil}
-use mathlib.Core.Bool.{Bool, true, false}
-use mathlib.Core.Logic.{_⊎_, inl, inr}
-use lib.ListN.{length, drop}
-use lib.Dec.{ltb, leb, eqb}
-use native.Mathlib.Omega.{arith}
-use borrow.Author.Tests.{eqb-true, eqb-false, ne-eqb, le-leb, lt-leb}
-use Rattle.basis.specs.Pick.{pick, both, bit}
-use Rattle.basis.specs.Lists.{count}
-use Rattle.basis.proofs.Cases.{lt-or-ge}
+use Rattle.basis.proofs.Std.{ℕ, suc, zero, _+_, _-_, _*_, _≤_, _<_, _≡_, refl, sym, _∙_, ap, subst, List, [], _∷_, _++_, append-nil, Bool, true, false, _⊎_, inl, inr, length, drop, ltb, leb, eqb, arith, eqb-true, eqb-false, ne-eqb, le-leb, lt-leb, pick, both, bit, count, lt-or-ge}
 use Rattle.entry.specs.declared.Entry.{Entry}
 use Rattle.pool.specs.declared.Place.{Place}
 use Rattle.pool.specs.declared.Pool.{Pool}

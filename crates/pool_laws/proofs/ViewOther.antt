@@ -1,16 +1,6 @@
 -- A settle, a mark and an unmark on the view.
 -- Assumes nothing.
-use Prim.Native.Nat.{ℕ, suc, zero, _+_, _≤_, _<_}
-use mathlib.Core.Path.{_≡_, refl, sym, _∙_, ap, subst}
-use mathlib.Core.List.{List, [], _∷_, map, map-id}
-use mathlib.Core.Bool.{Bool, true, false}
-use lib.ListN.{length, getD, set}
-use lib.Dec.{ltb, eqb}
-use native.Mathlib.Omega.{arith}
-use borrow.Author.Tests.{eqb-true, eqb-false, eq-eqb, ne-eqb}
-use Rattle.basis.specs.Pick.{pick, both, bit}
-use Rattle.basis.specs.Lists.{count}
-use Rattle.basis.proofs.Both.{not-both, both-first, both-second}
+use Rattle.basis.proofs.Std.{ℕ, suc, zero, _+_, _≤_, _<_, _≡_, refl, sym, _∙_, ap, subst, List, [], _∷_, map, map-id, Bool, true, false, length, getD, set, ltb, eqb, arith, eqb-true, eqb-false, eq-eqb, ne-eqb, pick, both, bit, count, not-both, both-first, both-second}
 use Rattle.pool.specs.declared.Place.{Place}
 use Rattle.pool.specs.declared.Pool.{Pool}
 use Rattle.pool.specs.declared.Wanted.the-variants.{Numbered}

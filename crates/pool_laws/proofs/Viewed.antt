@@ -1,14 +1,6 @@
 -- The laws of the view hold.
 -- Assumes nothing.
-use Prim.Native.Nat.{ℕ, suc, zero, _+_, _*_, _≤_}
-use mathlib.Core.Path.{_≡_, refl, sym, _∙_, ap}
-use mathlib.Core.List.{List, [], _∷_}
-use mathlib.Core.Bool.{Bool}
-use lib.ListN.{replicate}
-use lib.Dec.{eqb}
-use native.Mathlib.Omega.{arith}
-use Rattle.basis.specs.Lists.{count}
-use Rattle.basis.proofs.Both.{both-first}
+use Rattle.basis.proofs.Std.{ℕ, suc, zero, _+_, _*_, _≤_, _≡_, refl, sym, _∙_, ap, List, [], _∷_, Bool, replicate, eqb, arith, count, both-first}
 use Rattle.pool.specs.declared.Place.{Place}
 use Rattle.pool.specs.declared.Pool.{Pool}
 use Rattle.pool.specs.declared.Wanted.the-variants.{Unsent, Older, Alarm}

@@ -1,13 +1,6 @@
 -- A list of commands that is good was gathered whole, and none has more than sixteen.
 -- Assumes nothing.
-use mathlib.Core.Path.{_≡_, refl}
-use mathlib.Core.List.{List, [], _∷_}
-use Prim.Native.Nat.{ℕ, _≤_}
-use native.Mathlib.Omega.{arith}
-use lib.Dec.{ltb}
-use borrow.Author.Tests.{ltb-true}
-use Rattle.basis.specs.Text.{text}
-use Rattle.basis.proofs.Cases.{bool-cases}
+use Rattle.basis.proofs.Std.{_≡_, refl, List, [], _∷_, ℕ, _≤_, arith, ltb, ltb-true, text, bool-cases}
 use Rattle.json_value.specs.Grammar.{Json}
 use Rattle.json_value.specs.Reader.{skipWs}
 use Rattle.json_find.specs.Lookup.{member}

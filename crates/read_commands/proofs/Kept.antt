@@ -1,8 +1,6 @@
 -- The claims about a CommandRequest's fields are kept.
 -- Assumes nothing.
-use mathlib.Core.Path.{_≡_}
-use mathlib.Core.List.{List}
-use Prim.Native.Nat.{ℕ}
+use Rattle.basis.proofs.Std.{_≡_, List, ℕ}
 use Rattle.json_value.specs.Grammar.{Json}
 use Rattle.json_packet.specs.Packet.{Packet}
 use Rattle.read_head.proofs.Kept.{words}

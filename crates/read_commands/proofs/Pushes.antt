@@ -1,10 +1,6 @@
 -- A command pushed behind those that were read, as the loop over a list does it: in its place, or refused where there is none.
 -- Assumes nothing.
-use Prim.Native.Nat.{ℕ, _+_, _<_, _≤_}
-use mathlib.Core.Path.{_≡_, sym, ap, _∙_}
-use mathlib.Core.List.{List}
-use lib.ListN.{set}
-use borrow.Author.Tests.{lt-ltb, le-ltb}
+use Rattle.basis.proofs.Std.{ℕ, _+_, _<_, _≤_, _≡_, List, set, lt-ltb, le-ltb}
 use Rattle.read_head.specs.declared.Verdict.{Verdict}
 use Rattle.read_head.specs.declared.Verdict.the-variants.{Bad}
 use Rattle.read_head.specs.Values.{worst}

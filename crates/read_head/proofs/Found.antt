@@ -1,30 +1,21 @@
 -- The elements that are looked up in a text are those of its meaning.
 -- Assumes nothing.
-use mathlib.Core.Path.{_≡_, refl, sym, ap, fun-ext, _∙_}
-use mathlib.Core.Bool.{Bool, true, false}
-use mathlib.Core.List.{List, [], _∷_}
-use Prim.Native.Nat.{ℕ, _≤_}
-use native.Mathlib.Omega.{arith}
-use lib.Dec.{eqb}
-use lib.ListN.{drop}
-use borrow.Author.Tests.{eq-eqb, ne-eqb}
-use Rattle.basis.specs.Pick.{pick}
-use Rattle.json_text.specs.Decoded.{Parsed, decoded}
+use Rattle.basis.proofs.Std.{_≡_, refl, fun-ext, Bool, true, false, List, [], _∷_, ℕ, _≤_, arith, eqb, ne-eqb, pick}
+use Rattle.json_text.specs.Decoded.{Parsed}
 use Rattle.json_text.specs.Decoded.Parsed.{ok, none}
 use Rattle.json_text.proofs.Meaning as Strings
-use Rattle.json_value.specs.Grammar.{Json, Jsons, Members, Ws, Name, Value, Pairs}
-use Rattle.json_value.specs.Grammar.Json.{str, obj}
-use Rattle.json_value.specs.Grammar.Members.{mnil, mcons}
+use Rattle.json_value.specs.Grammar.{Json, Members, Value, Pairs}
+use Rattle.json_value.specs.Grammar.Json.{str}
 use Rattle.json_value.specs.Reader.{skipWs, readStart}
 use Rattle.json_value.proofs.Complete as Complete
 use Rattle.json_value.proofs.Shorter as Shorter
-use Rattle.json_find.specs.Kinds.{stringAt, isStr}
+use Rattle.json_find.specs.Kinds.{isStr}
 use Rattle.json_find.specs.Entries.{entries, insideAt, entriesAt, firstNamed, memberAt}
 use Rattle.json_find.specs.Lookup as Lookup
 use Rattle.json_find.specs.Lookup.{Found, membersIn, member}
 use Rattle.json_find.specs.Lookup.Found.{found, missing}
 use Rattle.json_find.proofs.Meaning.{Pairing, pnil, pcons, pairing, name-string}
-use Rattle.read_head.specs.Word.{Word, wordFor, said, saidOf, wordIn, readWord, wordHere, wordBehind, wordAt}
+use Rattle.read_head.specs.Word.{said, saidOf, wordIn, wordHere, wordBehind, wordAt}
 
 -- the entries of an object's text are its members
 

@@ -1,18 +1,12 @@
 -- The claims about packets without lists are kept.
 -- Assumes nothing.
-use mathlib.Core.Path.{_≡_, refl, sym, ap, _∙_}
-use mathlib.Core.Bool.{Bool, true, false}
-use mathlib.Core.List.{List, []}
-use Prim.Native.Nat.{ℕ}
-use native.Mathlib.Omega.{arith}
-use Rattle.basis.specs.Pick.{pick}
-use Rattle.json_value.specs.Grammar.{Json, Members, Ws, Value}
-use Rattle.json_value.specs.Grammar.Json.{obj}
+use Rattle.basis.proofs.Std.{_≡_, refl, ap, _∙_, Bool, true, false, List, ℕ, arith, pick}
+use Rattle.json_value.specs.Grammar.{Json}
 use Rattle.json_value.specs.Reader.{skipWs}
 use Rattle.json_value.proofs.Complete as Complete
 use Rattle.json_packet.specs.Packet.{Packet, packet, isPacket, meaningOf}
 use Rattle.json_packet.proofs.Kept as Packets
-use Rattle.read_head.specs.Word.{Word, wordIn, wordAt}
+use Rattle.read_head.specs.Word.{wordIn, wordAt}
 use Rattle.read_head.specs.Head.{headBy, headIn, headAt, ignored}
 use Rattle.read_head.specs.Small.{watchdogBy, watchdogIn, watchdogAt, aggregatedBy, aggregatedIn, aggregatedAt, alarmBy, alarmIn, alarmAt}
 use Rattle.read_head.specs.Claims.{Claims}

@@ -1,22 +1,14 @@
 -- What a string says, once it was tested.
 -- Assumes nothing.
-use mathlib.Core.Path.{_≡_, refl, sym, ap, _∙_}
-use mathlib.Core.Bool.{Bool, true, false}
-use mathlib.Core.List.{List}
-use Prim.Native.Nat.{ℕ}
-use lib.ListN.{length, take}
-use lib.Seq.{take-all}
-use Rattle.basis.specs.Lists.{sameBytes}
-use Rattle.basis.specs.Text.{text}
+use Rattle.basis.proofs.Std.{_≡_, sym, _∙_, Bool, true, false, List, ℕ, take, take-all, sameBytes, text}
 use Rattle.number.specs.Alphabet.{isLabel}
 use Rattle.label.specs.declared.Label.{Label}
 use Rattle.label.specs.Label.{labelOf}
 use Rattle.label.proofs.Reading.{label-short}
 use Rattle.read_head.specs.declared.Verdict.the-variants.{Good, Bad}
 use Rattle.read_head.specs.declared.Order.the-variants.{Request, Acknowledge, Suspend, Resume}
-use Rattle.read_head.specs.Word.{word, wordOf, elementOf, wordAt}
+use Rattle.read_head.specs.Word.{word}
 use Rattle.read_head.specs.Values.{gotLabel, noText, anOrder, orderFor}
-use Rattle.read_head.proofs.Copies.{says, found-at}
 
 module _ (d : List ℕ) {b : Bool} (e : b ≡ isLabel d) where
   pub label-good : b ≡ true → {l : Label} → l ≡ labelOf (take 32 d) → record { verdict = Good; label = l } ≡ gotLabel (word d)

@@ -1,11 +1,6 @@
 -- The element at a place.
 -- Assumes nothing.
-use mathlib.Core.Path.{_≡_, refl, sym, ap, _∙_}
-use mathlib.Core.Bool.{Bool, true, false}
-use mathlib.Core.List.{List, [], _∷_}
-use Prim.Native.Nat.{ℕ, _+_, _≤_, _<_}
-use lib.ListN.{length, drop, getD}
-use borrow.Author.Tests.{eq-eqb, ne-eqb}
+use Rattle.basis.proofs.Std.{_≡_, refl, sym, _∙_, true, List, ℕ, _+_, _≤_, _<_, length, drop, getD, eq-eqb, ne-eqb}
 use Rattle.json_text.specs.declared.Read.{Read}
 use Rattle.json_text.specs.Decoded.{Parsed, decoded}
 use Rattle.json_text.specs.Ends.{Ends}
@@ -13,8 +8,7 @@ use Rattle.json_text.specs.Ends.Ends.{ends, fails}
 use Rattle.json_text.specs.Copied.{noCopy, copyOf}
 use Rattle.json_character.proofs.Lists.{next, past}
 use Rattle.json_find.specs.Entries.{memberAt}
-use Rattle.read_head.specs.declared.Element.{Element}
-use Rattle.read_head.specs.Word.{Word, wordHere, wordBehind, wordFound, wordAt, elementOf}
+use Rattle.read_head.specs.Word.{wordHere, wordBehind, wordFound, wordAt, elementOf}
 use Rattle.read_head.proofs.Copies.{copied-read}
 
 module _ (s : List ℕ) (i : ℕ) where

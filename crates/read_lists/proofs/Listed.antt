@@ -1,29 +1,19 @@
 -- The lists that are looked up in a text are those of its meaning.
 -- Assumes nothing.
-use mathlib.Core.Path.{_≡_, refl, sym, ap, ap₂, fun-ext, _∙_}
-use mathlib.Core.Bool.{Bool, true, false}
-use mathlib.Core.List.{List, [], _∷_}
-use Prim.Native.Nat.{ℕ, _≤_}
-use native.Mathlib.Omega.{arith}
-use lib.Dec.{eqb}
-use borrow.Author.Tests.{ne-eqb}
+use Rattle.basis.proofs.Std.{_≡_, refl, ap, ap₂, fun-ext, _∙_, true, false, List, [], _∷_, ℕ, _≤_, arith, eqb, ne-eqb}
 use Rattle.json_text.specs.Decoded.{Parsed}
-use Rattle.json_text.specs.Decoded.Parsed.{ok, none}
+use Rattle.json_text.specs.Decoded.Parsed.{ok}
 use Rattle.json_value.specs.Grammar.{Json, Jsons, Ws, Value, Elements}
-use Rattle.json_value.specs.Grammar.Jsons.{jnil, jcons}
 use Rattle.json_value.specs.Reader.{skipWs, Named, named, readEntry, readValue}
 use Rattle.json_value.proofs.Complete as Complete
 use Rattle.json_value.proofs.Shorter as Shorter
 use Rattle.json_value.proofs.Deeper as Deeper
-use Rattle.json_find.specs.Entries.{nextEntry, entries, insideAt, entriesAt, memberAt}
-use Rattle.json_find.specs.Lookup.{Found, member}
-use Rattle.json_find.specs.Lookup.Found.{found, missing}
+use Rattle.json_find.specs.Entries.{nextEntry, entries, insideAt, entriesAt}
+use Rattle.json_find.specs.Lookup.{Found}
 use Rattle.json_find.proofs.Walks.{unroll}
 use Rattle.json_packet.specs.Packet.{isObject}
-use Rattle.read_head.specs.Word.{Word, wordIn, wordAt}
 use Rattle.read_head.proofs.Found.{Leads, to, nowhere, leads, words-agree}
-use Rattle.read_lists.specs.declared.Flag.{Flag}
-use Rattle.read_lists.specs.Items.{Item, Items, items, flagged, flagOf, flagIn, itemIn, itemsIn, listed, listOf, listIn, begins, flagHere, flagBehind, flagAt, itemAt, itemsAt, listHere, listBehind, listAt}
+use Rattle.read_lists.specs.Items.{Item, items, flagged, flagOf, flagIn, itemIn, itemsIn, listed, listOf, listIn, begins, flagHere, flagBehind, flagAt, itemAt, itemsAt, listHere, listBehind, listAt}
 
 -- the entries of an array's text are its elements
 

@@ -1,12 +1,6 @@
 -- A list walked from entry to entry.
 -- Assumes nothing.
-use mathlib.Core.Path.{_≡_, refl, sym, ap, _∙_}
-use mathlib.Core.Bool.{Bool, true, false}
-use mathlib.Core.List.{List, [], _∷_}
-use Prim.Native.Nat.{ℕ, _≤_, _<_}
-use lib.Dec.{eqb}
-use lib.ListN.{length, drop, length-drop, getD}
-use native.Mathlib.Omega.{arith}
+use Rattle.basis.proofs.Std.{_≡_, refl, sym, ap, _∙_, Bool, true, false, List, [], _∷_, ℕ, _≤_, _<_, eqb, length, drop, length-drop, getD, arith}
 use Rattle.json_text.specs.declared.Read.{Read}
 use Rattle.json_text.specs.declared.Read.the-variants.{End, Bad}
 use Rattle.json_text.specs.Decoded.{Parsed}

@@ -1,15 +1,6 @@
 -- The first n elements of a list, searched from the last to the first.
 -- Assumes nothing.
-use mathlib.Core.Path.{_≡_, refl, sym, ap, ap₂, _∙_}
-use mathlib.Core.Bool.{Bool, true}
-use mathlib.Core.List.{List, [], _∷_}
-use Prim.Native.Nat.{ℕ, suc, _+_, _-_, _≤_, _<_, min}
-use native.Mathlib.Omega.{arith}
-use lib.ListN.{length, take, drop, getD, length-take, length-drop}
-use lib.Seq.{drop-cons, getD-take, take-all}
-use mathlib.Core.Logic.{⊎-elim}
-use Rattle.basis.specs.Pick.{pick}
-use Rattle.basis.proofs.Cases.{le-or-lt}
+use Rattle.basis.proofs.Std.{_≡_, refl, sym, ap, ap₂, _∙_, Bool, true, List, [], _∷_, ℕ, suc, _-_, _≤_, _<_, min, arith, length, take, drop, getD, length-take, length-drop, drop-cons, getD-take, take-all, ⊎-elim, pick, le-or-lt}
 use Rattle.label.specs.declared.Label.{Label}
 use Rattle.read_versions.specs.Judge.{sameLabel, lists, meet}
 

@@ -1,18 +1,10 @@
 -- The first dot of a text, searched from its start.
 -- Assumes nothing.
-use mathlib.Core.Path.{_≡_, refl, sym, ap, _∙_}
-use mathlib.Core.List.{List, [], _∷_, _++_, append-nil, append-assoc}
-use Prim.Native.Nat.{ℕ, suc, _+_, _-_, _≤_, _<_}
-use native.Mathlib.Numerals.{add-one}
-use native.Mathlib.Nat.{sub-zero}
-use native.Mathlib.Omega.{arith}
-use lib.ListN.{length, take, drop, getD, length-drop}
-use lib.Seq.{drop-cons, take-suc, take-all, append-snoc}
-use borrow.Author.Tests.{eq-eqb, ne-eqb}
+use Rattle.basis.proofs.Std.{_≡_, refl, sym, ap, _∙_, List, [], _∷_, _++_, append-nil, ℕ, suc, _+_, _-_, _≤_, _<_, add-one, sub-zero, arith, length, take, drop, getD, length-drop, drop-cons, take-suc, take-all, append-snoc, eq-eqb, ne-eqb}
 use Rattle.number.specs.declared.Number.{Number}
 use Rattle.number.specs.declared.Number.the-variants.{Is, No}
 use Rattle.read_versions.specs.Numeral.{numberIn}
-use Rattle.read_versions.specs.Version.{before, behind, nothing, more, restOf, alone, onePart}
+use Rattle.read_versions.specs.Version.{before, behind, restOf, onePart}
 use Rattle.read_versions.specs.Dot.{Dot}
 
 -- no dot stands before i

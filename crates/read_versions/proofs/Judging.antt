@@ -1,8 +1,6 @@
 -- The three checks, one after the other.
 -- Assumes nothing.
-use mathlib.Core.Path.{_≡_, sym, _∙_}
-use mathlib.Core.Bool.{Bool, true, false}
-use Prim.Native.Nat.{ℕ}
+use Rattle.basis.proofs.Std.{_≡_, sym, _∙_, Bool, true, false, ℕ}
 use Rattle.number.specs.declared.Number.{Number}
 use Rattle.number.specs.declared.Number.the-variants.{Is, No}
 use Rattle.read_versions.specs.declared.Offer.{Offer}

@@ -1,23 +1,11 @@
 -- `numberIn` and `intIn` are the answers that reading a decimal text gives.
 -- Assumes nothing.
-use mathlib.Core.Path.{_≡_, refl, ap}
-use mathlib.Core.Bool.{Bool, true, false}
-use mathlib.Core.List.{List, [], _∷_}
-use Prim.Native.Nat.{ℕ, zero, suc, _-_, _^_, _≤_, _<_}
-use native.Mathlib.Omega.{arith}
-use lib.Dec.{leb, eqb}
-use lib.IntN.{pos, negsuc}
-use lib.ListN.{getD}
-use borrow.Author.Tests.{leb-true, leb-false, eqb-true, eqb-false}
-use Rattle.basis.specs.Pick.{pick, both}
-use Rattle.basis.specs.Lists.{sameBytes}
-use Rattle.basis.proofs.Same.{same-true, same-self}
-use Rattle.basis.proofs.Both.{not-both}
+use Rattle.basis.proofs.Std.{_≡_, refl, ap, Bool, true, false, List, [], _∷_, ℕ, zero, suc, _-_, _^_, _≤_, _<_, arith, leb, eqb, pos, negsuc, getD, leb-true, leb-false, eqb-true, eqb-false, pick, both, sameBytes, same-true, same-self, not-both}
 use Rattle.number.specs.declared.Number.{Number}
 use Rattle.number.specs.declared.Number.the-variants.{Is, No}
 use Rattle.number.specs.declared.Int.{Int}
 use Rattle.number.specs.Decimal.{digits, decimalOf}
-use Rattle.number.specs.Reading.{Reads, is, no, says, ReadsInt, is-int}
+use Rattle.number.specs.Reading.{Reads, is, says, ReadsInt, is-int}
 use Rattle.number.proofs.Reading.{reads-once, reads-int-once, too-much, unlike, was, was-none, no-minus-zero, no-digits, no-plain, no-text}
 use Rattle.read_versions.specs.Numeral.{numberIn, negated, plain, intIn}
 

@@ -1,13 +1,6 @@
 -- The site after a message went out, and the machine.
 -- Assumes nothing.
-use Prim.Native.Nat.{ℕ, _<_}
-use mathlib.Core.Path.{_≡_, refl, sym, ap, subst, _∙_}
-use mathlib.Core.Bool.{Bool, true, false}
-use mathlib.Core.List.{map}
-use mathlib.Core.Option.{Option, some, none}
-use lib.ListN.{length}
-use Rattle.basis.specs.Pick.{pick}
-use Rattle.basis.proofs.Cases.{picked}
+use Rattle.basis.proofs.Std.{ℕ, _<_, _≡_, refl, sym, ap, subst, _∙_, Bool, true, false, map, Option, some, none, length, pick, picked}
 use Rattle.entry.specs.declared.Entry.{Entry}
 use Rattle.pool.specs.declared.Sought.{Sought}
 use Rattle.pool.specs.declared.Sought.the-variants.{Found, Nothing}

@@ -1,20 +1,10 @@
 -- What is due says of its link what it needs to be sent.
 -- Assumes nothing.
-use Prim.Native.Nat.{ℕ, zero, suc, _+_, _-_, _*_, _≤_, _<_}
-use mathlib.Core.Path.{_≡_, refl, sym, subst}
-use mathlib.Core.Bool.{Bool, true, false, not}
-use mathlib.Core.Option.{Option, some, none}
-use native.Mathlib.Omega.{arith}
-use lib.Dec.{eqb, ltb, leb}
-use lib.ListN.{length}
-use borrow.Author.Tests.{ltb-true, eqb-true, eqb-false}
-use Rattle.basis.specs.Pick.{pick}
-use Rattle.basis.proofs.Cases.{picked}
+use Rattle.basis.proofs.Std.{ℕ, zero, suc, _+_, _-_, _*_, _≤_, _<_, _≡_, refl, sym, subst, Bool, true, false, not, Option, some, none, arith, eqb, ltb, leb, length, ltb-true, eqb-true, eqb-false, pick, picked, both-first, both-second}
 use Rattle.machine.specs.Words.{_and_, _or_, maybe}
 use Rattle.machine.specs.State.{Held, Machine, lifeAt}
 use Rattle.machine.specs.Life.{isGreeting, isBeating, isUp, isPrimary, passLength, oldestUnsent, Due, dueUp, due}
 use Rattle.machine.specs.Life.Due.{theVersion, theWatchdog, theAggregated, theAlarm, theHeld}
-use Rattle.basis.proofs.Both.{both-first, both-second}
 
 not-true : (b : Bool) → not b ≡ true → b ≡ false
 not-true true e = sym e

@@ -1,13 +1,6 @@
 -- The site that start makes is the machine that begins.
 -- Assumes nothing.
-use Prim.Native.Nat.{ℕ, zero, suc, _+_, _*_, _<_}
-use mathlib.Core.Path.{_≡_, refl, sym, ap, _∙_}
-use mathlib.Core.Bool.{true, false}
-use mathlib.Core.List.{List, [], _∷_, map}
-use mathlib.Core.Option.{Option, none}
-use native.Mathlib.Omega.{arith}
-use lib.IntN.{ℤ}
-use lib.ListN.{length, getD, replicate, length-replicate, getD-replicate, List·getD-map}
+use Rattle.basis.proofs.Std.{ℕ, zero, suc, _+_, _*_, _<_, _≡_, refl, sym, ap, _∙_, true, false, List, [], _∷_, map, Option, none, arith, ℤ, length, getD, replicate, length-replicate, getD-replicate, List·getD-map}
 use Rattle.alarm.specs.Alarm.{beginning}
 use Rattle.status.specs.Status.{unknown}
 use Rattle.subscription.specs.Subscription.{none as noSubscription}

@@ -1,10 +1,6 @@
 -- Sixteen random bytes as an identity of version 4 are sixteen bytes.
 -- Assumes nothing.
-use Prim.Native.Nat.{ℕ, _+_, _%_, _<_}
-use mathlib.Core.Path.{_∙_}
-use mathlib.Core.List.{List}
-use native.Mathlib.Omega.{arith}
-use lib.ListN.{getD, set, length-set}
+use Rattle.basis.proofs.Std.{ℕ, _+_, _%_, _<_, _∙_, List, arith, getD, set, length-set}
 use Rattle.identity.specs.Read.{SixteenBytes}
 use Rattle.identity.specs.Version.{version4Of}
 use Rattle.call_laws.proofs.Parts.{each-set}

@@ -1,13 +1,6 @@
 -- A call that issues records and changes nothing else but items: what it leaves, what it lays down, and number 10.
 -- Assumes nothing.
-use Prim.Native.Nat.{ℕ}
-use mathlib.Core.Path.{_≡_, refl, sym, ap, _∙_}
-use mathlib.Core.List.{List, []}
-use mathlib.Core.Option.{Option, some, none}
-use lib.Dec.{eqb}
-use lib.IntN.{ℤ}
-use lib.ListN.{length}
-use Rattle.basis.proofs.Cases.{picked}
+use Rattle.basis.proofs.Std.{ℕ, _≡_, refl, sym, ap, _∙_, List, [], Option, some, none, eqb, ℤ, length, picked}
 use Rattle.entry.specs.declared.Entry.{Entry}
 use Rattle.alarm.specs.declared.Alarm.{Alarm as AlarmWord}
 use Rattle.status.specs.declared.Status.{Status}

@@ -1,14 +1,6 @@
 -- Connect and disconnect are the machine's.
 -- Assumes nothing.
-use Prim.Native.Nat.{ℕ}
-use mathlib.Core.Path.{_≡_, refl, sym, ap, _∙_}
-use mathlib.Core.Bool.{Bool, true, false, not}
-use mathlib.Core.Option.{Option, some, none}
-use native.Mathlib.Omega.{arith}
-use lib.Dec.{ltb}
-use borrow.Author.Tests.{ltb-false, leb-false, le-leb}
-use Rattle.basis.specs.Pick.{pick}
-use Rattle.basis.proofs.Cases.{bool-cases}
+use Rattle.basis.proofs.Std.{ℕ, _≡_, refl, sym, ap, _∙_, Bool, true, false, not, Option, some, none, arith, ltb, ltb-false, leb-false, le-leb, pick, bool-cases}
 use Rattle.link.specs.declared.Phase.the-variants.{Down, Greeting, Beating, Up}
 use Rattle.link.specs.Steps.{connectOf}
 use Rattle.site.specs.declared.Site.{Site}

@@ -1,14 +1,6 @@
 -- The messages that tell a part of the site are the machine's.
 -- Assumes nothing.
-use Prim.Native.Nat.{ℕ, _%_}
-use mathlib.Core.Path.{_≡_, refl, ap, ap₂, _∙_}
-use mathlib.Core.Bool.{Bool, true, false}
-use mathlib.Core.List.{List, [], _∷_}
-use mathlib.Core.Option.{Option, some, none}
-use lib.Dec.{eqb}
-use lib.IntN.{ℤ}
-use native.Mathlib.Nat.{mod-eq-of-lt}
-use Rattle.basis.specs.Pick.{bit}
+use Rattle.basis.proofs.Std.{ℕ, _%_, _≡_, refl, ap, ap₂, _∙_, Bool, true, false, List, [], _∷_, Option, some, none, eqb, ℤ, mod-eq-of-lt, bit}
 use Rattle.entry.proofs.FlagLaws.{event-back, acknowledged-back, active-back, suspended-back, known-back, old-back}
 use Rattle.table_item.specs.declared.Item.{Item}
 use Rattle.table_whole.specs.Table.{Row}

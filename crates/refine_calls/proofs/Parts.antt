@@ -1,14 +1,6 @@
 -- What a call changes of a site and of its machine, part by part: a life, a closed link, the records and the time.
 -- Assumes nothing.
-use Prim.Native.Nat.{ℕ, _<_}
-use mathlib.Core.Path.{_≡_, refl, _∙_}
-use mathlib.Core.Bool.{false}
-use mathlib.Core.List.{List}
-use mathlib.Core.Logic.{_⊎_, inl, inr}
-use native.Mathlib.Omega.{arith}
-use lib.ListN.{getD, set, length-set}
-use lib.Seq.{getD-set-same, getD-set-other}
-use Rattle.basis.proofs.Cases.{eq-or-ne}
+use Rattle.basis.proofs.Std.{ℕ, _<_, _≡_, refl, _∙_, false, List, _⊎_, inl, inr, arith, getD, set, length-set, getD-set-same, getD-set-other, eq-or-ne}
 use Rattle.pool.specs.declared.Pool.{Pool}
 use Rattle.pool_laws.specs.declared.Batch.{Batch}
 use Rattle.link.specs.declared.Link.{Link}

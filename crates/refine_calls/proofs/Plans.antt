@@ -1,12 +1,6 @@
 -- What pump lays down is the machine's, whatever is due.
 -- Assumes nothing.
-use Prim.Native.Nat.{ℕ, _<_}
-use mathlib.Core.Path.{_≡_, refl, sym, ap, ap₂, subst, _∙_}
-use mathlib.Core.Bool.{true}
-use mathlib.Core.List.{[], _∷_}
-use mathlib.Core.Option.{some, none}
-use native.Mathlib.Omega.{arith}
-use lib.ListN.{length}
+use Rattle.basis.proofs.Std.{ℕ, _<_, _≡_, refl, sym, ap, ap₂, subst, _∙_, true, [], _∷_, some, none, arith, length}
 use Rattle.identity.specs.declared.Identity.{Identity}
 use Rattle.awaited.specs.declared.Purpose.{Purpose}
 use Rattle.pool.specs.declared.Sought.{Sought}

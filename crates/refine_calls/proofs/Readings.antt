@@ -1,15 +1,6 @@
 -- Each reading is the machine's.
 -- Assumes nothing.
-use Prim.Native.Nat.{ℕ, _≤_}
-use mathlib.Core.Path.{_≡_, refl, sym, ap, _∙_}
-use mathlib.Core.Bool.{Bool, true, false, not}
-use mathlib.Core.List.{List, [], map}
-use native.Mathlib.Omega.{arith}
-use lib.ListN.{length, List·getD-eq-default}
-use borrow.Author.Tests.{le-ltb, leb-true, ne-eqb}
-use Rattle.basis.specs.Pick.{pick}
-use Rattle.basis.specs.Lists.{count}
-use Rattle.basis.proofs.Cases.{bool-cases}
+use Rattle.basis.proofs.Std.{ℕ, _≤_, _≡_, refl, sym, ap, _∙_, Bool, true, false, not, List, [], map, arith, length, List·getD-eq-default, le-ltb, leb-true, ne-eqb, pick, count, bool-cases}
 use Rattle.link.specs.declared.Phase.the-variants.{Down, Greeting, Beating, Up}
 use Rattle.site.specs.declared.Site.{Site}
 use Rattle.site.specs.Site.{noLinkAt, linkAt}

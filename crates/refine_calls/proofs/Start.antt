@@ -1,15 +1,12 @@
 -- The code's start is the machine's.
 -- Assumes nothing.
-use mathlib.Core.Path.{_≡_, refl, sym, ap, _∙_}
-use mathlib.Core.Option.{Option, some, none}
-use Rattle.basis.proofs.Cases.{bool-cases}
+use Rattle.basis.proofs.Std.{_≡_, refl, sym, ap, _∙_, Option, some, none, bool-cases, not-both}
 use Rattle.table_whole.specs.Table.{Table}
 use Rattle.table_whole.proofs.Whole.{same-table}
 use Rattle.call_start.specs.Starts.Starts.{starts, refuses}
 use Rattle.machine.specs.State.{Machine}
 use Rattle.machine.specs.Table.{goodStart, first as firstOf, Begins}
 use Rattle.machine.specs.Table.Begins.{begins, not-good, no-table}
-use Rattle.basis.proofs.Both.{not-both}
 use Rattle.refine_calls.specs.Start.{startFor, Starting}
 use Rattle.refine_calls.specs.Start.SameStart.{not-accepted, accepted}
 use Rattle.refine_calls.proofs.Values.{within, good}

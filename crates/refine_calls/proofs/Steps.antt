@@ -1,17 +1,7 @@
 -- Where a call has its numbers and what it lays down in common with the machine's, its outcome is the same and the next site is the next machine.
 -- Assumes nothing.
-use Prim.Native.Nat.{ℕ, suc, _+_, _≤_}
-use mathlib.Core.Path.{_≡_, refl, sym, ap, _∙_, subst}
-use mathlib.Core.Bool.{Bool, true, false}
-use mathlib.Core.List.{List, [], _∷_, map}
-use mathlib.Core.Option.{Option, some, none}
-use native.Mathlib.Omega.{arith}
-use lib.ListN.{length}
-use borrow.Author.Tests.{ltb-false}
-use Rattle.basis.specs.Pick.{pick}
-use Rattle.basis.specs.Lists.{Among}
+use Rattle.basis.proofs.Std.{ℕ, suc, _+_, _≤_, _≡_, refl, sym, ap, _∙_, subst, Bool, true, false, List, [], _∷_, map, Option, some, none, arith, length, ltb-false, pick, Among, bool-cases}
 use Rattle.basis.specs.Lists.Among.{first, later}
-use Rattle.basis.proofs.Cases.{bool-cases}
 use Rattle.answer.specs.declared.Refusal.{Refusal}
 use Rattle.answer.specs.declared.Refusal.the-variants.{SequenceSpent}
 use Rattle.answer.specs.declared.Answer.{Answer}

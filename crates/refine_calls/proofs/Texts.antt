@@ -1,9 +1,6 @@
 -- The site table as it is kept says what the table says.
 -- Assumes nothing.
-use Prim.Native.Nat.{ℕ, zero, suc, _-_}
-use mathlib.Core.Path.{_≡_, refl, ap, _∙_}
-use mathlib.Core.List.{List, [], _∷_, _++_, map}
-use lib.ListN.{length, getD, replicate}
+use Rattle.basis.proofs.Std.{ℕ, zero, suc, _-_, _≡_, refl, ap, _∙_, List, [], _∷_, _++_, map, length, getD, replicate}
 use Rattle.label.specs.Label.{labelOf, noLabel, textOf}
 use Rattle.table_item.specs.Item.{noItem}
 use Rattle.table_whole.specs.declared.SiteTable.{SiteTable}

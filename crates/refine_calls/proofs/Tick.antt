@@ -1,11 +1,6 @@
 -- A tick is the machine's.
 -- Assumes nothing.
-use Prim.Native.Nat.{ℕ}
-use mathlib.Core.Path.{_≡_, refl, sym, ap, ap₂, _∙_, subst}
-use mathlib.Core.Bool.{Bool}
-use mathlib.Core.List.{List, map}
-use mathlib.Core.Option.{Option, some, none}
-use Rattle.basis.specs.Pick.{pick}
+use Rattle.basis.proofs.Std.{ℕ, _≡_, refl, sym, ap, ap₂, _∙_, subst, Bool, List, map, Option, some, none, pick}
 use Rattle.entry.specs.declared.Entry.{Entry}
 use Rattle.link.specs.declared.Link.{Link}
 use Rattle.status.specs.declared.Status.{Status}

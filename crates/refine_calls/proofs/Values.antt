@@ -1,15 +1,6 @@
 -- The start values that the machine takes are those that the code takes.
 -- Assumes nothing.
-use Prim.Native.Nat.{ℕ, _≤_, _<_}
-use mathlib.Core.Path.{_≡_, refl, sym, ap, _∙_}
-use mathlib.Core.Bool.{Bool, true, false}
-use mathlib.Core.List.{List}
-use mathlib.Core.Option.{some, none}
-use mathlib.Core.Logic.{_⊎_, inl, inr}
-use native.Mathlib.Omega.{arith}
-use lib.Dec.{eqb, ltb}
-use borrow.Author.Tests.{lt-ltb, ne-eqb}
-use Rattle.basis.specs.Pick.{pick}
+use Rattle.basis.proofs.Std.{ℕ, _≤_, _<_, _≡_, refl, sym, ap, _∙_, Bool, true, false, List, some, none, _⊎_, inl, inr, arith, eqb, ltb, lt-ltb, ne-eqb, pick}
 use Rattle.call_start.specs.Fresh.{primaryOf}
 use Rattle.call_start.specs.Starts.{Within}
 use Rattle.call_start.specs.Making.{aLinkOrNone, valuesWithin, isWithin}

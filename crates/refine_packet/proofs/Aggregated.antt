@@ -1,14 +1,6 @@
 -- Their AggregatedStatusRequest is the machine's.
 -- Assumes nothing.
-use Prim.Native.Nat.{ℕ, zero, suc, _<_}
-use Prim.Native.String.{String}
-use native.Mathlib.Omega.{arith}
-use mathlib.Core.Path.{_≡_, refl, sym, ap, subst, _∙_}
-use mathlib.Core.Bool.{Bool, true, false}
-use mathlib.Core.Option.{Option, some, none}
-use borrow.Author.Tests.{ne-eqb}
-use Rattle.basis.specs.Pick.{pick}
-use Rattle.basis.specs.Text.{text}
+use Rattle.basis.proofs.Std.{ℕ, zero, suc, _<_, String, arith, _≡_, refl, sym, ap, subst, _∙_, Bool, true, false, Option, some, none, ne-eqb, pick, text}
 use Rattle.identity.specs.declared.Identity.{Identity}
 use Rattle.identity.specs.Read.{SixteenBytes}
 use Rattle.table_whole.specs.declared.SiteTable.{SiteTable}

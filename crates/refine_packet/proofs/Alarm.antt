@@ -1,15 +1,6 @@
 -- What they order of an alarm is the machine's.
 -- Assumes nothing.
-use Prim.Native.Nat.{ℕ, _<_}
-use Prim.Native.String.{String}
-use native.Mathlib.Omega.{arith}
-use mathlib.Core.Path.{_≡_, refl, sym, ap, subst, _∙_}
-use mathlib.Core.Bool.{Bool, true, false}
-use mathlib.Core.List.{[]}
-use mathlib.Core.Option.{Option, some, none}
-use lib.ListN.{length}
-use Rattle.basis.specs.Pick.{pick, both}
-use Rattle.basis.specs.Text.{text}
+use Rattle.basis.proofs.Std.{ℕ, _<_, String, arith, _≡_, refl, sym, ap, subst, _∙_, Bool, true, false, [], Option, some, none, length, pick, both, text}
 use Rattle.answer.specs.Given.Hint.{none as noHint}
 use Rattle.identity.specs.declared.Identity.{Identity}
 use Rattle.identity.specs.Read.{SixteenBytes}

@@ -1,26 +1,18 @@
 -- An answer is the machine's.
 -- Assumes nothing.
-use Prim.Native.Nat.{ℕ, _<_}
-use mathlib.Core.Path.{_≡_, sym, subst, ap, _∙_}
-use mathlib.Core.Bool.{Bool, true, false}
-use mathlib.Core.List.{[]}
-use mathlib.Core.Option.{Option, some, none}
-use Rattle.basis.specs.Pick.{pick}
-use Rattle.basis.proofs.Cases.{bool-cases}
+use Rattle.basis.proofs.Std.{ℕ, _<_, _≡_, subst, ap, _∙_, Bool, false, [], some, pick, bool-cases}
 use Rattle.identity.specs.declared.Identity.{Identity}
 use Rattle.identity.specs.Read.{Says}
 use Rattle.json_value.specs.Grammar.{Json}
-use Rattle.awaited.specs.declared.Found.{Found}
 use Rattle.awaited.specs.declared.Found.the-variants.{For}
 use Rattle.awaited.specs.Awaited.{findOf}
 use Rattle.link.specs.declared.Link.{Link}
 use Rattle.link.specs.Steps.{closesOf, answeredOf}
 use Rattle.site.specs.declared.Site.{Site}
 use Rattle.site.specs.Site.{linkAt, withLink}
-use Rattle.site.specs.Call.{only}
-use Rattle.packet_greet.specs.Answered.{settledFor, settled, answeredPlan}
+use Rattle.packet_greet.specs.Answered.{settledFor, answeredPlan}
 use Rattle.machine.specs.Words.{Bytes}
-use Rattle.machine.specs.State.{Sent, Awaited, Life, fresh, Machine, lifeAt, withLife, only as onlyLeaves}
+use Rattle.machine.specs.State.{Sent, Awaited, Life, fresh, Machine, lifeAt, withLife}
 use Rattle.machine.specs.State.Sent.{ourVersion, ourWatchdog, noRecord, theRecord}
 use Rattle.machine.specs.Json.{stringOf, isType}
 use Rattle.machine.specs.Life.{awaitedBy, answeredTo}
@@ -28,7 +20,6 @@ use Rattle.machine.specs.Effects.{answerCloses, acknowledges, settle, answers, 
 use Rattle.refine_parts.proofs.Same.{same-acts}
 use Rattle.refine_parts.specs.Waits.{purposeFor, foundFor}
 use Rattle.refine_parts.specs.Life.{SameLife}
-use Rattle.refine_parts.specs.LifeActs.{answeredBy}
 use Rattle.refine_parts.proofs.Questions.{questions}
 use Rattle.refine_parts.proofs.LifeActs.{acts}
 use Rattle.refine_calls.specs.Abstracts.{Abstracts}

@@ -1,13 +1,6 @@
 -- An answer to an awaited message comes to what it comes to in the machine.
 -- Assumes nothing.
-use Prim.Native.Nat.{ℕ, _<_}
-use mathlib.Core.Path.{_≡_, refl, sym, ap, subst, _∙_}
-use mathlib.Core.Bool.{Bool, true, false, not}
-use mathlib.Core.List.{[]}
-use mathlib.Core.Option.{some}
-use lib.ListN.{replicate}
-use Rattle.basis.specs.Pick.{pick, both}
-use Rattle.basis.proofs.Both.{both-of}
+use Rattle.basis.proofs.Std.{ℕ, _<_, _≡_, refl, sym, ap, subst, _∙_, Bool, true, false, not, [], some, replicate, pick, both, both-of}
 use Rattle.answer.specs.Given.Hint.{none as noHint}
 use Rattle.identity.specs.declared.Identity.{Identity}
 use Rattle.identity.specs.Read.{Says, readIdentity}

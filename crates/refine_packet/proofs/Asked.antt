@@ -1,13 +1,6 @@
 -- A packet that is no answer comes to what it comes to in the machine: the reasons in their order, then by its type.
 -- Assumes nothing.
-use Prim.Native.Nat.{ℕ, _<_}
-use Prim.Native.String.{String}
-use mathlib.Core.Path.{_≡_, refl, sym, ap, _∙_}
-use mathlib.Core.Bool.{Bool, true, false, not}
-use mathlib.Core.Option.{Option, some}
-use Rattle.basis.specs.Pick.{pick, both}
-use Rattle.basis.specs.Text.{text}
-use Rattle.basis.proofs.Both.{untrue, not-both}
+use Rattle.basis.proofs.Std.{ℕ, _<_, String, _≡_, refl, sym, ap, _∙_, Bool, true, false, not, Option, some, pick, both, text, untrue, not-both}
 use Rattle.identity.specs.declared.Identity.{Identity}
 use Rattle.identity.specs.Read.{SixteenBytes}
 use Rattle.json_value.specs.Grammar.{Json}

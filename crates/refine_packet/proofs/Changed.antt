@@ -1,11 +1,6 @@
 -- An alarm that an order changes, or not.
 -- Assumes nothing.
-use Prim.Native.Nat.{ℕ, _<_}
-use mathlib.Core.Path.{_≡_, refl}
-use mathlib.Core.Bool.{Bool, true, false}
-use mathlib.Core.List.{[], _∷_}
-use mathlib.Core.Option.{Option, some, none}
-use Rattle.basis.specs.Pick.{pick}
+use Rattle.basis.proofs.Std.{ℕ, _<_, _≡_, refl, Bool, true, false, [], _∷_, Option, some, none, pick}
 use Rattle.answer.specs.Given.Hint.{none as noHint}
 use Rattle.identity.specs.declared.Identity.{Identity}
 use Rattle.alarm.specs.declared.Order.{Order as Change}

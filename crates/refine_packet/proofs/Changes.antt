@@ -1,13 +1,6 @@
 -- What the entries of StatusSubscribe and StatusUnsubscribe change, one by one, and the records that are issued.
 -- Assumes nothing.
-use Prim.Native.Nat.{ℕ, suc, _+_, _*_, _<_}
-use mathlib.Core.Path.{_≡_, refl, sym, ap, ap₂, subst, _∙_}
-use mathlib.Core.Bool.{Bool, true, false, not}
-use mathlib.Core.List.{List, [], _∷_, _++_, map}
-use mathlib.Core.Option.{Option, some, none}
-use lib.ListN.{length, getD}
-use native.Mathlib.Omega.{arith}
-use Rattle.basis.proofs.Both.{untrue}
+use Rattle.basis.proofs.Std.{ℕ, _<_, _≡_, refl, sym, ap, ap₂, subst, _∙_, Bool, true, false, not, List, [], _∷_, _++_, map, Option, some, none, arith, untrue}
 use Rattle.entry.specs.declared.Entry.{Entry}
 use Rattle.subscription.specs.declared.Subscription.{Subscription as Slot}
 use Rattle.json_value.specs.Grammar.{Json}
@@ -16,7 +9,6 @@ use Rattle.read_head.specs.declared.Verdict.the-variants.{Good}
 use Rattle.read_lists.specs.declared.StatusEntry.{StatusEntry}
 use Rattle.read_lists.specs.declared.StatusFields.{StatusFields}
 use Rattle.packet_lookup.specs.declared.Sought.{Sought}
-use Rattle.packet_lookup.specs.Sought.{entryAt}
 use Rattle.site.specs.declared.Site.{Site}
 use Rattle.site.specs.Parts.{withSubscription}
 use Rattle.packet_subscribe.specs.Subscribing.{wanted, replacedAt, replaced, recordOf, records}
@@ -26,7 +18,7 @@ use Rattle.machine.specs.Json.{entriesOf}
 use Rattle.machine.specs.Answers.{componentAsked, statusAsked}
 use Rattle.machine.specs.Items.{update, numberAsked, without, subscribing as subscribingTo, subscribeAll, endAll}
 use Rattle.demand_held.proofs.Lists.{Each, each-append}
-use Rattle.demand_held.proofs.Lists.Each.{no-more, one-more}
+use Rattle.demand_held.proofs.Lists.Each.{no-more}
 use Rattle.refine_parts.specs.Record.{unnumbered, IsTold}
 use Rattle.refine_read.specs.Statuses.{entryOf, StatusReads}
 use Rattle.refine_read.proofs.Indexed.{done, by-places}

@@ -1,19 +1,8 @@
 -- Their CommandRequest is the machine's.
 -- Assumes nothing.
-use Prim.Native.Nat.{ℕ, _^_, _<_}
-use Prim.Native.String.{String}
-use mathlib.Core.Path.{_≡_, refl, sym, ap, ap₂, subst, _∙_}
-use mathlib.Core.Bool.{Bool, true, false, not}
-use mathlib.Core.List.{List, [], _∷_, _++_, map}
-use mathlib.Core.Option.{Option, some, none}
-use lib.Dec.{lit<}
-use lib.IntN.{ℤ, pos}
-use lib.ListN.{length, getD}
-use native.Mathlib.Omega.{arith}
-use Rattle.basis.specs.Pick.{pick, both}
-use Rattle.basis.specs.Text.{text}
+use Rattle.basis.proofs.Std.{ℕ, _^_, _<_, String, _≡_, refl, sym, ap, ap₂, subst, _∙_, Bool, true, false, not, List, [], _∷_, _++_, map, Option, some, none, lit<, ℤ, pos, length, getD, arith, pick, both, text}
 use Rattle.number.specs.Signed.{Signed32}
-use Rattle.number.specs.Reading.{ReadsInt, is-int, no-int}
+use Rattle.number.specs.Reading.{ReadsInt, is-int}
 use Rattle.identity.specs.declared.Identity.{Identity}
 use Rattle.identity.specs.Read.{SixteenBytes}
 use Rattle.label.specs.Label.{textOf}
@@ -22,7 +11,6 @@ use Rattle.table_whole.specs.declared.SiteTable.{SiteTable}
 use Rattle.table_whole.specs.Memory.{memoryOf}
 use Rattle.json_value.specs.Grammar.{Json}
 use Rattle.json_value.specs.Grammar.Json.{null}
-use Rattle.write_message.specs.declared.Value.{Value}
 use Rattle.write_message.specs.declared.Value.the-variants.{Recent, Undefined}
 use Rattle.write_message.specs.declared.Told.the-variants.{Command as CommandResponse}
 use Rattle.write_message.specs.Message.{Status, status}
@@ -38,14 +26,12 @@ use Rattle.packet_lookup.specs.Sought.{componentSought, commandSought, isSought
 use Rattle.site.specs.declared.Site.{Site}
 use Rattle.site.specs.Call.{Command}
 use Rattle.packet_answer.specs.Taken.{Taken, notAcked, handing, unlessBusy, badValue, unknownCommand}
-use Rattle.packet_command.specs.Commanding.{entryAt, inRange, within, allWithin, allCommands, keepsRanges, passes, valueIn, toldOf, toldTo, response, numberOf, commandsTo, commandsOf, orderedOf, commandTaken}
+use Rattle.packet_command.specs.Commanding.{entryAt, inRange, within, allWithin, allCommands, passes, valueIn, toldOf, toldTo, response, numberOf, commandsTo, commandsOf, orderedOf, commandTaken}
 use Rattle.machine.specs.Words.{Bytes, maybe, isSome, orElse, any}
-use Rattle.machine.specs.State.{Machine, lifeAt}
-use Rattle.machine.specs.State.{handing as handingOf}
+use Rattle.machine.specs.State.{Machine, lifeAt, handing as handingOf}
 use Rattle.machine.specs.Json.{stringAt, stringOf, entriesOf, isType, integerIn}
 use Rattle.machine.specs.Table.{commandNumber, commandRow}
-use Rattle.machine.specs.Answers.{componentAsked, commandAsked, valueAsked, wantsReply}
-use Rattle.machine.specs.Answers.{inRange as inRangeOf}
+use Rattle.machine.specs.Answers.{componentAsked, commandAsked, valueAsked, wantsReply, inRange as inRangeOf}
 use Rattle.machine.specs.Items.{commandOfEntry, commandsAsked, commands}
 use Rattle.machine.specs.Messages.{commandMessage}
 use Rattle.machine.specs.Effects.{carriedOut, replyMessage}

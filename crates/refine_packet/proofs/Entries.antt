@@ -1,23 +1,14 @@
 -- The entries of a packet, one by one: which statuses of a known component they name.
 -- Assumes nothing.
-use Prim.Native.Nat.{ℕ, _<_}
-use mathlib.Core.Path.{_≡_, refl, sym, ap, ap₂, _∙_}
-use mathlib.Core.Bool.{Bool, true, false, not}
-use mathlib.Core.List.{List, [], _∷_, _++_, map}
-use mathlib.Core.Option.{Option, some, none}
-use lib.ListN.{length, getD}
-use native.Mathlib.Omega.{arith}
-use Rattle.basis.specs.Pick.{pick, both}
-use Rattle.basis.proofs.Both.{untrue}
+use Rattle.basis.proofs.Std.{ℕ, _<_, _≡_, refl, sym, ap, ap₂, _∙_, Bool, true, false, not, List, [], _∷_, _++_, map, Option, some, none, length, getD, arith, pick, both, untrue}
 use Rattle.label.specs.declared.Label.{Label}
-use Rattle.label.specs.Label.{labelOf, textOf}
+use Rattle.label.specs.Label.{labelOf}
 use Rattle.table_whole.specs.declared.SiteTable.{SiteTable}
 use Rattle.table_whole.specs.Memory.{memoryOf}
 use Rattle.json_value.specs.Grammar.{Json}
 use Rattle.json_value.specs.Grammar.Json.{null}
 use Rattle.read_head.specs.declared.Verdict.the-variants.{Good}
 use Rattle.read_lists.specs.declared.StatusFields.{StatusFields}
-use Rattle.packet_lookup.specs.declared.Sought.{Sought}
 use Rattle.packet_lookup.specs.Sought.{componentSought, statusSought, entryAt, isSought, allStatuses}
 use Rattle.site.specs.declared.Site.{Site}
 use Rattle.machine.specs.Words.{Bytes, maybe, isSome, any}

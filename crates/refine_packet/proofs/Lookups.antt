@@ -1,19 +1,6 @@
 -- Lookups are the machine's.
 -- Assumes nothing.
-use Prim.Native.Nat.{ℕ, zero, suc, _<_}
-use native.Mathlib.Omega.{arith}
-use mathlib.Core.Path.{_≡_, refl, sym, ap, ap₂, _∙_}
-use mathlib.Core.Bool.{Bool}
-use mathlib.Core.List.{List, [], _∷_}
-use mathlib.Core.Option.{Option, some, none}
-use lib.Dec.{eqb}
-use lib.IntN.{ℤ}
-use lib.ListN.{length, getD}
-use borrow.Author.Tests.{eqb-true, eq-eqb}
-use Rattle.basis.specs.Pick.{both}
-use Rattle.basis.specs.Lists.{sameBytes}
-use Rattle.basis.proofs.Both.{both-true, both-of}
-use Rattle.basis.proofs.Same.{same-true, same-self}
+use Rattle.basis.proofs.Std.{ℕ, zero, suc, _<_, arith, _≡_, refl, sym, ap, ap₂, _∙_, Bool, List, [], _∷_, Option, some, none, eqb, ℤ, length, getD, eqb-true, eq-eqb, both, sameBytes, both-true, both-of, same-true, same-self}
 use Rattle.number.specs.Signed.{atMost}
 use Rattle.number.proofs.RoundTrip.{signed-word-16}
 use Rattle.label.specs.Label.{labelOf, textOf}
@@ -22,7 +9,7 @@ use Rattle.table_item.specs.Item.{noItem}
 use Rattle.table_whole.specs.Table.{Row, noRow, Table}
 use Rattle.table_whole.specs.Allowed.{Every, IsCommand, Allowed}
 use Rattle.table_whole.specs.Allowed.Every.{more}
-use Rattle.table_whole.specs.Memory.{itemOf, memoryOf}
+use Rattle.table_whole.specs.Memory.{memoryOf}
 use Rattle.table_whole.specs.Lookup.{findComponent, findAlarm, findStatus, findCommand, ComponentIs, AlarmIs, StatusIs, CommandIs}
 use Rattle.table_whole.proofs.Kept.{text-label, kept-item}
 use Rattle.table_whole.proofs.Lookups.{component-found, alarm-found, status-found, command-found}

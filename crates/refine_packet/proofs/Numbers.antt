@@ -1,15 +1,6 @@
 -- The numbers of packet are the machine's, where what it comes to is.
 -- Assumes nothing.
-use Prim.Native.Nat.{ℕ, _<_}
-use mathlib.Core.Path.{_≡_, refl, sym, _∙_}
-use mathlib.Core.Bool.{Bool, true, false}
-use mathlib.Core.List.{List}
-use mathlib.Core.Option.{Option, some, none}
-use native.Mathlib.Omega.{arith}
-use lib.Dec.{ltb}
-use lib.ListN.{length}
-use borrow.Author.Tests.{leb-false}
-use Rattle.basis.specs.Pick.{pick, both}
+use Rattle.basis.proofs.Std.{ℕ, _<_, _≡_, refl, sym, _∙_, Bool, true, false, List, Option, some, none, arith, ltb, length, leb-false, pick, both}
 use Rattle.identity.specs.declared.Identity.{Identity}
 use Rattle.identity.specs.Version.{version4Of, identityOf}
 use Rattle.awaited.specs.Awaited.{findOf, isAwaited as isFound}

@@ -1,14 +1,6 @@
 -- Packet is the machine's.
 -- Assumes nothing.
-use Prim.Native.Nat.{ℕ, _<_}
-use mathlib.Core.Path.{_≡_, refl, sym, ap, subst, _∙_}
-use mathlib.Core.Bool.{Bool, true, false, not}
-use mathlib.Core.List.{[]}
-use mathlib.Core.Option.{Option, some, none}
-use lib.ListN.{replicate}
-use Rattle.basis.specs.Pick.{pick, both}
-use Rattle.basis.proofs.Cases.{bool-cases}
-use Rattle.basis.proofs.Both.{untrue, both-first, both-second}
+use Rattle.basis.proofs.Std.{ℕ, _<_, _≡_, refl, sym, ap, subst, _∙_, Bool, true, false, not, [], Option, some, none, replicate, pick, both, bool-cases, untrue, both-first, both-second}
 use Rattle.identity.specs.declared.Identity.{Identity}
 use Rattle.identity.specs.Read.{SixteenBytes, readIdentity}
 use Rattle.identity.specs.Version.{identityOf}

@@ -1,16 +1,6 @@
 -- The machine's first place that passes, and the only one that the code finds.
 -- Assumes nothing.
-use Prim.Native.Nat.{ℕ, zero, suc, _+_, _≤_, _<_}
-use native.Mathlib.Nat.{le-of-suc-le-suc, not-suc-le-zero}
-use native.Mathlib.Omega.{arith}
-use mathlib.Core.Path.{_≡_, refl, ap}
-use mathlib.Core.Bool.{Bool, true, false}
-use mathlib.Core.List.{List, [], _∷_}
-use mathlib.Core.Option.{Option, some, none}
-use lib.ListN.{length, getD}
-use borrow.Author.Tests.{lt-ltb}
-use Rattle.basis.proofs.Cases.{picked}
-use Rattle.basis.proofs.Both.{not-both}
+use Rattle.basis.proofs.Std.{ℕ, zero, suc, _+_, _≤_, _<_, le-of-suc-le-suc, not-suc-le-zero, arith, _≡_, refl, ap, Bool, true, false, List, [], _∷_, Option, some, none, length, getD, lt-ltb, picked, not-both}
 use Rattle.table_item.specs.declared.Found.{Found}
 use Rattle.table_item.specs.declared.Found.the-variants.{At, Nothing}
 use Rattle.table_whole.specs.Lookup.{Finds}

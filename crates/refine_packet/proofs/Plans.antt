@@ -1,10 +1,6 @@
 -- Plans that issue nothing and give no hint: what is left is the same, or the link is closed.
 -- Assumes nothing.
-use Prim.Native.Nat.{ℕ, _<_}
-use mathlib.Core.Path.{_≡_, refl}
-use mathlib.Core.List.{List, []}
-use mathlib.Core.Option.{none}
-use native.Mathlib.Omega.{arith}
+use Rattle.basis.proofs.Std.{ℕ, _<_, refl, List, [], none, arith}
 use Rattle.answer.specs.Given.Hint.{none as noHint}
 use Rattle.write_message.specs.Message.{Message}
 use Rattle.site.specs.declared.Site.{Site}

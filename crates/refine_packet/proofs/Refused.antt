@@ -1,13 +1,6 @@
 -- Each reason is answered as the machine answers it.
 -- Assumes nothing.
-use Prim.Native.Nat.{ℕ, _<_}
-use Prim.Native.String.{String}
-use mathlib.Core.Path.{_≡_, refl, sym, ap, subst}
-use mathlib.Core.Bool.{Bool, true, false}
-use mathlib.Core.List.{List, [], _∷_}
-use mathlib.Core.Option.{Option, some, none}
-use Rattle.basis.specs.Pick.{pick}
-use Rattle.basis.specs.Text.{text}
+use Rattle.basis.proofs.Std.{ℕ, _<_, String, _≡_, refl, sym, ap, subst, Bool, true, false, List, [], _∷_, Option, some, none, pick, text}
 use Rattle.answer.specs.Given.Hint.{none as noHint}
 use Rattle.identity.specs.declared.Identity.{Identity}
 use Rattle.names.specs.Names.{nameOf}
@@ -18,7 +11,7 @@ use Rattle.read_head.specs.declared.Verdict.the-variants.{Good, Missing, Bad}
 use Rattle.site.specs.declared.Site.{Site}
 use Rattle.site.specs.Site.{closeAt, maskOf}
 use Rattle.packet_answer.specs.Taken.{Taken, notAcked, closing, byVerdict, missingElement, badValue, unexpected, notReady, rsmpVersion, siteId, sxlVersion, unknownComponent, unknownAlarm, unknownStatus, unknownCommand, busy}
-use Rattle.machine.specs.State.{Machine, Effect, effect}
+use Rattle.machine.specs.State.{Machine, effect}
 use Rattle.machine.specs.Json.{stringOf}
 use Rattle.machine.specs.Answers.{failsCheck}
 use Rattle.machine.specs.Effects.{closes, refusal, refuses}

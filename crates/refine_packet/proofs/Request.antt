@@ -1,30 +1,17 @@
 -- Their StatusRequest is the machine's.
 -- Assumes nothing.
-use Prim.Native.Nat.{ℕ, _<_}
-use Prim.Native.String.{String}
-use mathlib.Core.Path.{_≡_, refl, sym, ap, ap₂, subst, _∙_}
-use mathlib.Core.Bool.{Bool, true, false, not}
-use mathlib.Core.List.{List, [], _∷_, _++_, map}
-use mathlib.Core.Option.{Option, some, none}
-use lib.IntN.{ℤ}
-use lib.ListN.{length, getD}
-use native.Mathlib.Omega.{arith}
-use Rattle.basis.specs.Pick.{pick, both}
-use Rattle.basis.specs.Text.{text}
-use Rattle.basis.proofs.Both.{untrue}
+use Rattle.basis.proofs.Std.{ℕ, _<_, String, _≡_, refl, sym, ap, ap₂, subst, _∙_, Bool, true, false, not, List, [], _∷_, _++_, map, Option, some, none, ℤ, length, getD, arith, pick, both, text, untrue}
 use Rattle.number.specs.Signed.{Signed32}
 use Rattle.number.proofs.RoundTrip.{signed-word}
 use Rattle.identity.specs.declared.Identity.{Identity}
 use Rattle.identity.specs.Read.{SixteenBytes}
-use Rattle.label.specs.declared.Label.{Label}
 use Rattle.label.specs.Label.{textOf}
-use Rattle.status.specs.declared.Status.{Status as Word}
 use Rattle.json_value.specs.Grammar.{Json}
 use Rattle.json_value.specs.Grammar.Json.{null}
 use Rattle.write_message.specs.declared.Value.{Value}
 use Rattle.write_message.specs.declared.Value.the-variants.{Recent, Undefined}
 use Rattle.write_message.specs.declared.Told.the-variants.{Response}
-use Rattle.write_message.specs.Message.{Message, Status, status}
+use Rattle.write_message.specs.Message.{Status, status}
 use Rattle.write_message.specs.Message.Message.{statuses}
 use Rattle.read_head.specs.declared.Verdict.{Verdict}
 use Rattle.read_head.specs.declared.Verdict.the-variants.{Good}
@@ -32,7 +19,6 @@ use Rattle.read_lists.specs.declared.StatusEntry.{StatusEntry}
 use Rattle.read_lists.specs.declared.StatusFields.{StatusFields}
 use Rattle.read_lists.specs.Status.{statusAt}
 use Rattle.packet_lookup.specs.declared.Sought.{Sought}
-use Rattle.packet_lookup.specs.declared.Sought.the-variants.{Is}
 use Rattle.packet_lookup.specs.Sought.{componentSought, entryAt}
 use Rattle.send_message.specs.Sending.{statusValue}
 use Rattle.site.specs.declared.Site.{Site}
@@ -41,14 +27,14 @@ use Rattle.packet_status.specs.StatusReply.{valueOf, toldOf, toldTo, response, 
 use Rattle.machine.specs.Words.{Bytes, maybe, isSome, orElse, any}
 use Rattle.machine.specs.State.{Machine, lifeAt, valueAt, only}
 use Rattle.machine.specs.Json.{stringAt, stringOf, entriesOf, isType}
-use Rattle.machine.specs.Messages.{valueOf as valueIn, answerEntry, responseMessage}
+use Rattle.machine.specs.Messages.{valueOf as valueIn, responseMessage}
 use Rattle.machine.specs.Answers.{componentAsked, statusAsked, wantsReply}
 use Rattle.machine.specs.Items.{numberAsked}
 use Rattle.machine.specs.Effects.{carriedOut, replyMessage}
 use Rattle.refine_read.specs.Verdicts.{verdictIn}
 use Rattle.refine_read.specs.Reasons.{byVerdict as reasonBy, furtherReason, busyIf, anyUnknown}
 use Rattle.refine_read.proofs.Kept as Reads
-use Rattle.refine_read.specs.Statuses.{isRead, entryOf, StatusReads}
+use Rattle.refine_read.specs.Statuses.{isRead, StatusReads}
 use Rattle.refine_read.proofs.ListsKept as Lists
 use Rattle.refine_read.proofs.Indexed.{by-places}
 use Rattle.refine_parts.specs.Items.{statusFor}

@@ -1,16 +1,8 @@
 -- Their StatusSubscribe and StatusUnsubscribe are the machine's.
 -- Assumes nothing.
-use Prim.Native.Nat.{ℕ, _<_}
-use Prim.Native.String.{String}
-use mathlib.Core.Path.{_≡_, refl, sym, ap, subst, _∙_}
-use mathlib.Core.Bool.{Bool, true, false, not}
-use mathlib.Core.List.{List, [], _∷_, map}
-use mathlib.Core.Option.{Option, some, none}
-use Rattle.basis.specs.Pick.{pick, both}
-use Rattle.basis.specs.Text.{text}
+use Rattle.basis.proofs.Std.{ℕ, _<_, String, _≡_, refl, sym, subst, _∙_, Bool, true, false, not, List, [], _∷_, map, Option, some, none, pick, both, text}
 use Rattle.answer.specs.Given.Hint.{none as noHint}
 use Rattle.identity.specs.declared.Identity.{Identity}
-use Rattle.entry.specs.declared.Entry.{Entry}
 use Rattle.json_value.specs.Grammar.{Json}
 use Rattle.write_message.specs.Message.Message.{ack}
 use Rattle.read_head.specs.declared.Verdict.{Verdict}
@@ -18,7 +10,7 @@ use Rattle.read_head.specs.declared.Verdict.the-variants.{Good}
 use Rattle.read_lists.specs.declared.StatusFields.{StatusFields}
 use Rattle.read_lists.specs.Status.{statusAt}
 use Rattle.packet_lookup.specs.declared.Sought.{Sought}
-use Rattle.packet_lookup.specs.Sought.{componentSought, allStatuses}
+use Rattle.packet_lookup.specs.Sought.{componentSought}
 use Rattle.site.specs.declared.Site.{Site}
 use Rattle.packet_answer.specs.Taken.{notAcked, unknownStatus}
 use Rattle.packet_subscribe.specs.Subscribing.{replaced, records, changed, judged, asked, subscribingTaken}
@@ -38,7 +30,6 @@ use Rattle.refine_read.specs.Statuses.{isRead, StatusReads}
 use Rattle.refine_read.proofs.ListsKept as Lists
 use Rattle.refine_parts.specs.Items.{SameIssued}
 use Rattle.refine_calls.specs.Abstracts.{Abstracts}
-use Rattle.refine_calls.specs.Calls.{SamePlan}
 use Rattle.refine_calls.specs.Calls.SameCommands.{no-command}
 use Rattle.refine_packet.specs.Lookups.{soughtFor}
 use Rattle.refine_packet.specs.Taken.{SameTaken, questionOn}

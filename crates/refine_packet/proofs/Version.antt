@@ -1,14 +1,6 @@
 -- Their Version is the machine's.
 -- Assumes nothing.
-use Prim.Native.Nat.{ℕ, _/_, _%_, _<_}
-use Prim.Native.String.{String}
-use mathlib.Core.Path.{_≡_, refl, sym, ap, subst, _∙_}
-use mathlib.Core.Bool.{Bool, true, false}
-use mathlib.Core.List.{List, [], _∷_}
-use mathlib.Core.Option.{Option, some, none}
-use native.Mathlib.Omega.{arith}
-use Rattle.basis.specs.Pick.{pick}
-use Rattle.basis.specs.Text.{text}
+use Rattle.basis.proofs.Std.{ℕ, _/_, _%_, _<_, String, _≡_, refl, sym, ap, subst, _∙_, Bool, true, false, List, [], _∷_, Option, some, none, arith, pick, text}
 use Rattle.answer.specs.Given.Hint.{none as noHint}
 use Rattle.identity.specs.declared.Identity.{Identity}
 use Rattle.label.specs.Label.{textOf}

@@ -1,14 +1,6 @@
 -- Their Watchdog is the machine's.
 -- Assumes nothing.
-use Prim.Native.Nat.{ℕ, _<_}
-use Prim.Native.String.{String}
-use mathlib.Core.Path.{_≡_, refl, sym, subst}
-use mathlib.Core.Bool.{Bool, true, false}
-use mathlib.Core.List.{[]}
-use mathlib.Core.Option.{Option, some, none}
-use lib.Dec.{leb}
-use Rattle.basis.specs.Pick.{pick}
-use Rattle.basis.specs.Text.{text}
+use Rattle.basis.proofs.Std.{ℕ, _<_, String, _≡_, refl, sym, subst, Bool, true, false, [], Option, some, none, leb, pick, text}
 use Rattle.answer.specs.Given.Hint.{none as noHint, clock}
 use Rattle.identity.specs.declared.Identity.{Identity}
 use Rattle.link.specs.declared.Role.the-variants.{Primary, Secondary}

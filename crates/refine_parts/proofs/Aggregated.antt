@@ -1,13 +1,6 @@
 -- The aggregated value, and its records.
 -- Assumes nothing.
-use Prim.Native.Nat.{ℕ, zero, suc, _<_}
-use mathlib.Core.Path.{_≡_, refl, sym, ap, ap₂, _∙_}
-use mathlib.Core.Bool.{true, false}
-use mathlib.Core.List.{List, [], _∷_, _++_, map}
-use native.Mathlib.Nat.{mod-eq-of-lt}
-use lib.Dec.{eqb}
-use borrow.Author.Tests.{eqb-true, eqb-false, eq-eqb, ne-eqb}
-use Rattle.basis.proofs.Cases.{bool-cases}
+use Rattle.basis.proofs.Std.{ℕ, zero, suc, _<_, _≡_, refl, sym, ap, ap₂, _∙_, true, false, List, [], _∷_, _++_, map, mod-eq-of-lt, eqb, eqb-true, eqb-false, eq-eqb, ne-eqb, bool-cases}
 use Rattle.entry.specs.declared.Entry.{Entry}
 use Rattle.aggregated.specs.declared.Aggregated.{Aggregated}
 use Rattle.aggregated.specs.Aggregated.{setOf}

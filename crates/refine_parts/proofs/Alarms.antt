@@ -1,18 +1,6 @@
 -- An event of an alarm, and its record.
 -- Assumes nothing.
-use Prim.Native.Nat.{ℕ, _<_}
-use mathlib.Core.Path.{_≡_, refl, sym, ap, _∙_, subst}
-use mathlib.Core.Bool.{Bool, true, false, not}
-use mathlib.Core.List.{List, [], _∷_, map}
-use mathlib.Core.Option.{Option, some, none}
-use mathlib.Core.Logic.{_⊎_, inl, inr}
-use native.Mathlib.Omega.{arith}
-use lib.Dec.{eqb}
-use lib.ListN.{length, length-set}
-use lib.Seq.{getD-set-same, getD-set-other}
-use borrow.Author.Tests.{lt-ltb, le-ltb}
-use Rattle.basis.specs.Pick.{pick, both, bit}
-use Rattle.basis.proofs.Cases.{eq-or-ne}
+use Rattle.basis.proofs.Std.{ℕ, _<_, _≡_, refl, sym, ap, _∙_, subst, Bool, true, false, not, [], _∷_, map, Option, some, none, _⊎_, inl, inr, arith, eqb, length, length-set, getD-set-same, getD-set-other, lt-ltb, le-ltb, pick, both, bit, eq-or-ne}
 use Rattle.alarm.specs.declared.Changed.{Changed}
 use Rattle.alarm.specs.Alarm.{beginning, inputOf, acknowledgeOf, suspendOf}
 use Rattle.alarm.specs.Issued.{issuedOf}

@@ -1,16 +1,6 @@
 -- What the entry of a content says, and that it tells the content.
 -- Assumes nothing.
-use Prim.Native.Nat.{ℕ, _%_, _≤_, _<_}
-use mathlib.Core.Path.{_≡_, refl, sym, _∙_, ap}
-use mathlib.Core.Bool.{Bool, true, false}
-use mathlib.Core.Option.{some, none}
-use lib.Dec.{eqb}
-use lib.IntN.{ℤ}
-use native.Mathlib.Nat.{mod-eq-of-lt}
-use native.Mathlib.Omega.{arith}
-use borrow.Author.Tests.{eq-eqb, eqb-true}
-use Rattle.basis.specs.Pick.{pick, both}
-use Rattle.basis.proofs.Both.{untrue, both-first, both-second, both-false}
+use Rattle.basis.proofs.Std.{ℕ, _%_, _≤_, _<_, _≡_, refl, sym, _∙_, ap, Bool, true, false, some, none, eqb, ℤ, mod-eq-of-lt, arith, eq-eqb, eqb-true, pick, both, untrue, both-first, both-second, both-false}
 use Rattle.number.specs.Signed.{Signed32, wordOf, signedOf}
 use Rattle.number.proofs.RoundTrip.{signed-word}
 use Rattle.entry.specs.Flags.{eventOf, isAcknowledged, isActive, isSuspended}

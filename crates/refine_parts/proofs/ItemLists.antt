@@ -1,18 +1,7 @@
 -- Laws of lists: an element changed, what is found first, and lists made place by place.
 -- Assumes nothing.
-use Prim.Native.Nat.{ℕ, zero, suc, _+_, _*_, _≤_, _<_}
-use mathlib.Core.Path.{_≡_, refl, sym, ap, ap₂, _∙_}
-use mathlib.Core.Bool.{Bool, true, false, not}
-use mathlib.Core.List.{List, [], _∷_, _++_, map}
-use mathlib.Core.Option.{some, none}
-use mathlib.Core.Logic.{_⊎_, inl, inr}
-use native.Mathlib.Omega.{arith}
-use lib.ListN.{length, getD}
-use Rattle.basis.specs.Pick.{pick, both}
-use Rattle.basis.specs.Lists.{count, Among}
+use Rattle.basis.proofs.Std.{ℕ, zero, suc, _+_, _*_, _≤_, _<_, _≡_, refl, sym, ap, ap₂, _∙_, Bool, true, false, not, List, [], _∷_, _++_, map, some, none, _⊎_, inl, inr, arith, length, getD, pick, both, count, Among, bool-cases, le-or-lt, not-both}
 use Rattle.basis.specs.Lists.Among.{first, later}
-use Rattle.basis.proofs.Cases.{bool-cases, le-or-lt}
-use Rattle.basis.proofs.Both.{not-both}
 use Rattle.entry.specs.declared.Entry.{Entry}
 use Rattle.pool_laws.specs.Upwards.{entriesTo}
 use Rattle.machine.specs.Words.{maybe, keep, firstThat, flat, changed, upTo}

@@ -1,15 +1,6 @@
 -- What is done to a link is done to its life.
 -- Assumes nothing.
-use Prim.Native.Nat.{ℕ, suc, _+_, _≤_, _<_}
-use mathlib.Core.Path.{_≡_, refl, ap, _∙_}
-use mathlib.Core.Bool.{Bool, true, false, not}
-use mathlib.Core.List.{[], _∷_}
-use mathlib.Core.Option.{some, none}
-use native.Mathlib.Omega.{arith}
-use borrow.Author.Tests.{lt-ltb}
-use Rattle.basis.specs.Pick.{pick, both}
-use Rattle.basis.proofs.Cases.{bool-cases, picked}
-use Rattle.basis.proofs.Both.{not-both, both-first, both-second}
+use Rattle.basis.proofs.Std.{ℕ, suc, _+_, _≤_, _<_, _≡_, refl, ap, _∙_, Bool, true, false, not, [], _∷_, some, none, arith, lt-ltb, pick, both, bool-cases, picked, not-both, both-first, both-second}
 use Rattle.identity.specs.declared.Identity.{Identity}
 use Rattle.identity.specs.Read.{Says}
 use Rattle.awaited.specs.declared.Purpose.the-variants.{Version, Other}

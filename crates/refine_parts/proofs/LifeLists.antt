@@ -1,19 +1,7 @@
 -- Laws of the machine's lists: what is among them, counted and found first.
 -- Assumes nothing.
-use Prim.Native.Nat.{ℕ, _+_, _≤_, _<_}
-use mathlib.Core.Path.{_≡_, refl, sym}
-use mathlib.Core.Bool.{Bool, true, false}
-use mathlib.Core.List.{List, [], _∷_, _++_}
-use mathlib.Core.Option.{Option, some, none}
-use native.Mathlib.Omega.{arith}
-use lib.Dec.{ltb}
-use lib.ListN.{length}
-use borrow.Author.Tests.{lt-ltb}
-use native.Mathlib.Nat.{zero-add}
-use Rattle.basis.specs.Pick.{pick, both, bit}
-use Rattle.basis.specs.Lists.{count, Among}
+use Rattle.basis.proofs.Std.{ℕ, _+_, _≤_, _<_, _≡_, refl, sym, Bool, true, false, List, [], _∷_, _++_, Option, some, none, arith, ltb, length, lt-ltb, zero-add, pick, both, bit, count, Among, bool-cases, picked}
 use Rattle.basis.specs.Lists.Among.{first, later}
-use Rattle.basis.proofs.Cases.{bool-cases, picked}
 use Rattle.awaited.proofs.Change.{bit-true, bit-false}
 use Rattle.machine.specs.Words.{any, isSome, firstThat, butFirst}
 

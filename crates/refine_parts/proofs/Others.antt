@@ -1,15 +1,6 @@
 -- The start, and what settles, marks and unmarks.
 -- Assumes nothing.
-use Prim.Native.Nat.{ℕ, zero, suc, _+_, _≤_}
-use mathlib.Core.Path.{_≡_, refl, sym, _∙_, ap, ap₂}
-use mathlib.Core.Bool.{Bool, true, false, not}
-use mathlib.Core.List.{List, [], _∷_, map}
-use lib.Dec.{eqb}
-use lib.ListN.{getD, replicate, length-replicate}
-use native.Mathlib.Omega.{arith}
-use borrow.Author.Tests.{eqb-true, eqb-false, ne-eqb}
-use Rattle.basis.specs.Pick.{pick, both, bit}
-use Rattle.basis.specs.Lists.{count}
+use Rattle.basis.proofs.Std.{ℕ, zero, suc, _+_, _≤_, _≡_, refl, sym, _∙_, ap, ap₂, Bool, true, false, not, List, [], _∷_, map, eqb, getD, replicate, length-replicate, arith, eqb-true, eqb-false, ne-eqb, pick, both, bit, count}
 use Rattle.pool.specs.declared.Place.{Place}
 use Rattle.pool.specs.declared.Pool.{Pool}
 use Rattle.pool.specs.Pool.{emptyOf, settleOf, markOf, unmarkOf}

@@ -1,19 +1,6 @@
 -- What keeping does to the machine's lists, and what stands in a list whose one element is changed.
 -- Assumes nothing.
-use Prim.Native.Nat.{ℕ, zero, suc, _+_, _<_}
-use mathlib.Core.Path.{_≡_, refl, sym, _∙_, ap}
-use mathlib.Core.Bool.{Bool, true, false, not}
-use mathlib.Core.List.{List, [], _∷_, _++_, map}
-use mathlib.Core.Option.{some}
-use mathlib.Core.Logic.{_⊎_, inl, inr}
-use lib.Dec.{eqb}
-use lib.ListN.{length, getD, drop}
-use native.Mathlib.Nat.{add-zero}
-use native.Mathlib.Omega.{arith}
-use borrow.Author.Tests.{eq-eqb, ne-eqb}
-use Rattle.basis.specs.Pick.{pick, both, bit}
-use Rattle.basis.specs.Lists.{count}
-use Rattle.basis.proofs.Cases.{eq-or-ne}
+use Rattle.basis.proofs.Std.{ℕ, zero, suc, _+_, _<_, _≡_, refl, sym, _∙_, ap, Bool, true, false, not, List, [], _∷_, _++_, map, some, _⊎_, inl, inr, eqb, length, getD, drop, add-zero, arith, eq-eqb, ne-eqb, pick, both, bit, count, eq-or-ne}
 use Rattle.machine.specs.Words.{keep, butFirst, firstThat, changed}
 
 module _ {A : Type 0} where

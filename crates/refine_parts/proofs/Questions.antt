@@ -1,16 +1,6 @@
 -- The answers of a link are those of its life.
 -- Assumes nothing.
-use Prim.Native.Nat.{ℕ, suc, _+_, _-_, _*_}
-use mathlib.Core.Path.{_≡_, refl, sym, ap, _∙_}
-use mathlib.Core.Bool.{Bool, true, false, not}
-use mathlib.Core.Option.{Option, some, none}
-use native.Mathlib.Omega.{arith}
-use lib.Dec.{eqb, ltb, leb}
-use lib.ListN.{length}
-use borrow.Author.Tests.{ltb-true, ltb-false, lt-ltb, le-ltb, ne-eqb}
-use Rattle.basis.specs.Pick.{pick, both}
-use Rattle.basis.proofs.Cases.{bool-cases}
-use Rattle.basis.proofs.Both.{untrue}
+use Rattle.basis.proofs.Std.{ℕ, suc, _+_, _-_, _*_, _≡_, refl, sym, ap, _∙_, Bool, true, false, not, Option, some, none, arith, eqb, ltb, leb, length, ltb-true, ltb-false, lt-ltb, le-ltb, ne-eqb, pick, both, bool-cases, untrue}
 use Rattle.awaited.specs.Awaited.{isAwaited as isFound}
 use Rattle.link.specs.declared.Link.{Link}
 use Rattle.link.specs.declared.Phase.{Phase}

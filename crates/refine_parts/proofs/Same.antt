@@ -1,6 +1,6 @@
 -- Both pools do the same.
 -- Assumes nothing.
-use Prim.Native.Nat.{ℕ, _≤_}
+use Rattle.basis.proofs.Std.{ℕ, _≤_}
 use Rattle.pool.specs.declared.Pool.{Pool}
 use Rattle.pool_laws.specs.Batch.{beginning}
 use Rattle.machine.specs.State.{Machine}
@@ -8,17 +8,7 @@ use Rattle.refine_parts.specs.Same.{SamePool}
 use Rattle.refine_parts.specs.Claims.{SameActs, SameAnswers}
 use Rattle.refine_parts.proofs.Issue.{issue-same, issue-all-same}
 use Rattle.refine_parts.proofs.Others.{start-same, settle-same, mark-same, unmark-same}
-use Rattle.refine_parts.proofs.Asks.{
-  unsent-same,
-  unsent-stands,
-  alarm-same,
-  carried-same,
-  alarm-stands,
-  held-read,
-  lost-read,
-  records-read,
-  spent-same,
-}
+use Rattle.refine_parts.proofs.Asks.{unsent-same, unsent-stands, alarm-same, carried-same, alarm-stands, held-read, lost-read, records-read, spent-same}
 
 pub same-acts : (links : ℕ) → links ≤ 4 → SameActs links
 same-acts links few =

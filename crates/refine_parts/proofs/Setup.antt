@@ -1,7 +1,6 @@
 -- What start gave stays, whatever a call changes.
 -- Assumes nothing.
-use Prim.Native.Nat.{ℕ}
-use mathlib.Core.List.{List}
+use Rattle.basis.proofs.Std.{ℕ, List}
 use Rattle.pool.specs.declared.Pool.{Pool}
 use Rattle.link.specs.declared.Link.{Link}
 use Rattle.alarm.specs.declared.Alarm.{Alarm}

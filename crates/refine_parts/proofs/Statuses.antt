@@ -1,19 +1,6 @@
 -- A status' value, and its records.
 -- Assumes nothing.
-use Prim.Native.Nat.{ℕ, suc, _+_, _-_, _*_, _^_, _<_}
-use mathlib.Core.Path.{_≡_, refl, sym, ap, _∙_, subst}
-use mathlib.Core.Bool.{Bool, true, false, not}
-use mathlib.Core.List.{List, [], _∷_, map}
-use mathlib.Core.Option.{Option, some, none}
-use mathlib.Core.Logic.{_⊎_, inl, inr}
-use native.Mathlib.Omega.{arith}
-use lib.Dec.{eqb}
-use lib.IntN.{ℤ, pos, negsuc}
-use lib.ListN.{length, length-set}
-use lib.Seq.{getD-set-same, getD-set-other}
-use borrow.Author.Tests.{eqb-true, eqb-false, eq-eqb, ne-eqb}
-use Rattle.basis.specs.Pick.{pick, both}
-use Rattle.basis.proofs.Cases.{bool-cases, eq-or-ne}
+use Rattle.basis.proofs.Std.{ℕ, suc, _+_, _-_, _*_, _^_, _<_, _≡_, refl, sym, ap, _∙_, subst, Bool, true, false, not, List, [], _∷_, map, Option, some, none, _⊎_, inl, inr, arith, eqb, ℤ, pos, negsuc, length, length-set, getD-set-same, getD-set-other, eqb-true, eqb-false, eq-eqb, ne-eqb, pick, both, bool-cases, eq-or-ne}
 use Rattle.number.specs.Signed.{Signed32, wordOf}
 use Rattle.link.specs.Phase.{phaseOf, isUp as upIn}
 use Rattle.status.specs.declared.Status.{Status}

@@ -1,21 +1,6 @@
 -- Subscriptions: a new one, the end of one, a tick; and what each place issues.
 -- Assumes nothing.
-use Prim.Native.Nat.{ℕ, _+_, _*_, _≤_, _<_}
-use mathlib.Core.Path.{_≡_, refl, sym, ap, _∙_}
-use mathlib.Core.Bool.{Bool, true, false, not}
-use mathlib.Core.List.{List, [], _∷_, _++_, map}
-use mathlib.Core.Option.{Option, some, none}
-use mathlib.Core.Logic.{_⊎_, inl, inr}
-use native.Mathlib.Omega.{arith}
-use lib.Dec.{eqb}
-use lib.IntN.{ℤ}
-use lib.ListN.{length, getD, length-set}
-use lib.Seq.{getD-set-same, getD-set-other}
-use borrow.Author.Tests.{eqb-true, eq-eqb}
-use Rattle.basis.specs.Pick.{pick, both}
-use Rattle.basis.specs.Lists.{count, Among}
-use Rattle.basis.proofs.Cases.{bool-cases, eq-or-ne}
-use Rattle.basis.proofs.Both.{not-both, both-first, both-second}
+use Rattle.basis.proofs.Std.{ℕ, _+_, _*_, _≤_, _<_, _≡_, refl, sym, ap, _∙_, Bool, true, false, not, List, [], _∷_, _++_, map, Option, some, none, _⊎_, inl, inr, arith, eqb, ℤ, length, getD, length-set, getD-set-same, getD-set-other, eqb-true, eq-eqb, pick, both, count, Among, bool-cases, eq-or-ne, not-both, both-first, both-second}
 use Rattle.number.specs.Signed.{Signed32}
 use Rattle.entry.specs.declared.Entry.{Entry}
 use Rattle.link.specs.declared.Link.{Link}

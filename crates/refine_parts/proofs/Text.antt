@@ -1,12 +1,6 @@
 -- An awaited identity by its text.
 -- Assumes nothing.
-use Prim.Native.Nat.{ℕ}
-use mathlib.Core.Path.{_≡_, sym, ap, _∙_}
-use mathlib.Core.List.{List}
-use mathlib.Core.Option.{none}
-use Rattle.basis.specs.Lists.{sameBytes, Among}
-use Rattle.basis.proofs.Cases.{bool-cases}
-use Rattle.basis.proofs.Same.{same-is, same-true, same-self}
+use Rattle.basis.proofs.Std.{ℕ, _≡_, sym, ap, _∙_, List, none, sameBytes, Among, bool-cases, same-is, same-true, same-self}
 use Rattle.identity.specs.declared.Identity.{Identity}
 use Rattle.identity.specs.Hex.{lowered}
 use Rattle.identity.specs.Text.{identityText}

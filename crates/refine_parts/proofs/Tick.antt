@@ -1,16 +1,6 @@
 -- A tick: subscriptions made anew, and the records of those whose time it is, links upwards, statuses upwards.
 -- Assumes nothing.
-use Prim.Native.Nat.{ℕ, _+_, _-_, _*_, _/_, _%_, _≤_, _<_}
-use mathlib.Core.Path.{_≡_, refl, sym, ap, _∙_, subst}
-use mathlib.Core.Bool.{Bool, true, false, not}
-use mathlib.Core.List.{List, [], _∷_, map}
-use mathlib.Core.Option.{Option, some, none}
-use mathlib.Core.Logic.{_⊎_, inl, inr}
-use native.Mathlib.Omega.{arith}
-use lib.Dec.{ltb, leb}
-use lib.ListN.{length, getD}
-use Rattle.basis.specs.Pick.{pick, both}
-use Rattle.basis.proofs.Cases.{bool-cases}
+use Rattle.basis.proofs.Std.{ℕ, _+_, _-_, _*_, _/_, _%_, _≤_, _<_, _≡_, refl, sym, ap, _∙_, subst, Bool, true, false, not, List, [], _∷_, map, Option, some, none, _⊎_, inl, inr, arith, ltb, leb, length, getD, pick, both, bool-cases}
 use Rattle.entry.specs.declared.Entry.{Entry}
 use Rattle.link.specs.declared.Link.{Link}
 use Rattle.link.specs.Fields.{closedLink}

@@ -1,19 +1,6 @@
 -- An entry of arg: its verdict and what it asks for.
 -- Assumes nothing.
-use Prim.Native.Nat.{ℕ, zero, suc, _≤_}
-use native.Mathlib.Omega.{arith}
-use mathlib.Core.Path.{_≡_, refl, sym, ap, ap₂, _∙_}
-use mathlib.Core.Bool.{Bool, true, false, not}
-use mathlib.Core.List.{[], _∷_}
-use mathlib.Core.Option.{Option, some, none}
-use lib.Dec.{eqb}
-use lib.IntN.{ℤ, pos}
-use lib.ListN.{length}
-use borrow.Author.Tests.{eqb-true}
-use Rattle.basis.specs.Pick.{pick}
-use Rattle.basis.specs.Text.{text}
-use Rattle.basis.proofs.Cases.{bool-cases}
-use Rattle.basis.proofs.Both.{untrue}
+use Rattle.basis.proofs.Std.{ℕ, zero, suc, _≤_, arith, _≡_, refl, sym, ap, ap₂, _∙_, Bool, true, false, not, [], _∷_, Option, some, none, eqb, ℤ, pos, length, eqb-true, pick, text, bool-cases, untrue}
 use Rattle.number.specs.declared.Int.{Int}
 use Rattle.number.specs.declared.Int.the-variants.{Is, No}
 use Rattle.json_text.specs.Copied.{ascii}

@@ -1,21 +1,6 @@
 -- An entry of sS: its verdict and what it asks for.
 -- Assumes nothing.
-use Prim.Native.Nat.{ℕ, _≤_, _<_}
-use Prim.Native.String.{String}
-use native.Mathlib.Omega.{arith}
-use mathlib.Core.Path.{_≡_, refl, sym, ap, ap₂, _∙_}
-use mathlib.Core.Bool.{Bool, true, false, not}
-use mathlib.Core.List.{List, [], _∷_}
-use mathlib.Core.Option.{Option, some, none}
-use lib.Dec.{leb, eqb}
-use lib.ListN.{length}
-use borrow.Author.Tests.{leb-true, eqb-true, eqb-false, eq-eqb, ne-eqb}
-use Rattle.basis.specs.Pick.{pick, both}
-use Rattle.basis.specs.Lists.{sameBytes}
-use Rattle.basis.specs.Text.{text}
-use Rattle.basis.proofs.Cases.{bool-cases}
-use Rattle.basis.proofs.Both.{untrue, both-false}
-use Rattle.basis.proofs.Same.{same-true}
+use Rattle.basis.proofs.Std.{ℕ, _≤_, _<_, String, arith, _≡_, refl, sym, ap, ap₂, _∙_, Bool, true, false, not, List, [], _∷_, Option, some, none, leb, eqb, length, leb-true, eqb-true, eqb-false, eq-eqb, ne-eqb, pick, both, sameBytes, text, bool-cases, untrue, both-false, same-true}
 use Rattle.number.specs.declared.Number.{Number}
 use Rattle.number.specs.declared.Number.the-variants.{Is, No}
 use Rattle.number.specs.Decimal.{digits}

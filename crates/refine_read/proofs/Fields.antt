@@ -1,15 +1,6 @@
 -- The fields of Alarm and AggregatedStatusRequest are those that the machine reads.
 -- Assumes nothing.
-use Prim.Native.String.{String}
-use mathlib.Core.Path.{_≡_, refl, sym, ap, ap₂, _∙_}
-use mathlib.Core.Bool.{Bool, true, false}
-use mathlib.Core.List.{List, [], _∷_}
-use mathlib.Core.Option.{some}
-use lib.Seq.{take-append-seam}
-use Rattle.basis.specs.Pick.{pick}
-use Rattle.basis.specs.Text.{text}
-use Rattle.basis.proofs.Cases.{bool-cases}
-use Rattle.basis.proofs.Both.{untrue}
+use Rattle.basis.proofs.Std.{String, _≡_, refl, sym, ap, ap₂, _∙_, Bool, true, false, List, [], _∷_, some, take-append-seam, pick, text, bool-cases, untrue}
 use Rattle.number.specs.Alphabet.{isLabel}
 use Rattle.label.specs.Label.{labelOf, textOf}
 use Rattle.json_text.specs.Copied.{ascii}

@@ -1,19 +1,6 @@
 -- A list that the code gathers item by item is judged as the machine judges its entries, and holds them.
 -- Assumes nothing.
-use Prim.Native.Nat.{ℕ, suc, _+_, _≤_}
-use native.Mathlib.Nat.{zero-add}
-use native.Mathlib.Numerals.{add-one}
-use native.Mathlib.Omega.{arith}
-use mathlib.Core.Path.{_≡_, refl, sym, ap, ap₂, _∙_}
-use mathlib.Core.Bool.{Bool, true, false, not}
-use mathlib.Core.List.{List, [], _∷_, _++_, map, append-nil, append-assoc}
-use mathlib.Core.Option.{Option, some, none}
-use lib.Dec.{ltb}
-use lib.ListN.{length, take, set, length-set}
-use lib.Seq.{take-suc-set}
-use borrow.Author.Tests.{lt-ltb, le-ltb, ltb-true, ltb-false}
-use Rattle.basis.specs.Pick.{pick}
-use Rattle.basis.proofs.Cases.{bool-cases}
+use Rattle.basis.proofs.Std.{ℕ, suc, _+_, _≤_, zero-add, add-one, arith, _≡_, refl, sym, ap, ap₂, _∙_, Bool, true, false, not, List, [], _∷_, _++_, map, append-nil, append-assoc, Option, some, none, ltb, length, take, set, length-set, take-suc-set, lt-ltb, le-ltb, ltb-true, ltb-false, pick, bool-cases}
 use Rattle.json_value.specs.Grammar.{Json, Jsons}
 use Rattle.json_value.specs.Grammar.Json.{null, bool, num, str, arr, obj}
 use Rattle.json_value.specs.Grammar.Jsons.{jnil, jcons}

@@ -1,18 +1,6 @@
 -- The head that the code takes from a packet's value is the one by the machine's tests.
 -- Assumes nothing.
-use Prim.Native.Nat.{ℕ, _-_}
-use Prim.Native.String.{String}
-use native.Mathlib.Omega.{arith}
-use mathlib.Core.Path.{_≡_, refl, sym, ap, _∙_}
-use mathlib.Core.Bool.{Bool, true, false, not}
-use mathlib.Core.List.{List, [], _++_, append-nil}
-use mathlib.Core.Option.{Option, some, none}
-use lib.ListN.{length, replicate}
-use Rattle.basis.specs.Pick.{pick, both}
-use Rattle.basis.specs.Text.{text}
-use Rattle.basis.proofs.Cases.{bool-cases}
-use Rattle.basis.proofs.Both.{untrue, not-both}
-use Rattle.basis.proofs.Same.{same-true}
+use Rattle.basis.proofs.Std.{ℕ, _-_, String, arith, _≡_, refl, sym, ap, _∙_, Bool, true, false, not, List, [], _++_, append-nil, Option, some, none, length, replicate, pick, both, text, bool-cases, untrue, not-both, same-true}
 use Rattle.identity.specs.declared.ReadIdentity.{ReadIdentity}
 use Rattle.identity.specs.Text.{identityText}
 use Rattle.identity.specs.Read.{readIdentity, notFound}

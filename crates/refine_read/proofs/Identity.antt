@@ -1,21 +1,7 @@
 -- The machine's pattern of an identity passes exactly what the code reads, and a text is an identity's exactly where these bytes are read.
 -- Assumes nothing.
-use Prim.Native.Nat.{ℕ, _+_, _-_, _*_, _/_, _%_, _≤_, _<_}
-use native.Mathlib.Omega.{arith}
-use mathlib.Core.Path.{_≡_, refl, sym, ap, subst, _∙_}
-use mathlib.Core.Bool.{Bool, true, false}
-use mathlib.Core.List.{List, [], _∷_, map}
-use lib.Dec.{T, eqb, ltb, leb, eqb→eq, ltb→lt, leb→le}
-use lib.ListN.{length, getD, length-map}
-use lib.Seq.{ext-getD}
-use borrow.Author.Tests.{lt-ltb, le-ltb, le-leb, lt-leb, leb-true, ltb-true, ltb-false, eqb-true, eqb-false}
-use Rattle.basis.specs.Pick.{pick, both}
-use Rattle.basis.specs.Lists.{sameBytes}
-use Rattle.basis.specs.Text.{text}
-use Rattle.basis.proofs.Cases.{bool-cases}
-use Rattle.basis.proofs.Same.{same-is, same-true, same-self}
+use Rattle.basis.proofs.Std.{ℕ, _+_, _-_, _*_, _/_, _%_, _≤_, _<_, arith, _≡_, refl, sym, ap, subst, _∙_, Bool, true, false, List, [], _∷_, map, T, eqb, ltb, leb, eqb→eq, ltb→lt, leb→le, length, getD, length-map, ext-getD, lt-ltb, le-ltb, le-leb, lt-leb, leb-true, ltb-true, ltb-false, eqb-true, eqb-false, pick, both, sameBytes, text, bool-cases, same-is, same-true, same-self, untrue, both-true}
 use Rattle.basis.proofs.Table.{at, both-left, both-right}
-use Rattle.basis.proofs.Both.{untrue, both-true}
 use Rattle.identity.specs.Hex.{hexDigit, hexValue, lowerHex, lowered}
 use Rattle.identity.specs.Text.{identityText}
 use Rattle.identity.specs.Read.{SixteenBytes, Says, found, starts, byteAt, bytesOf, readIdentity}

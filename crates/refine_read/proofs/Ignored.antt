@@ -1,16 +1,10 @@
 -- What is awaited by the text of an identity is awaited by its bytes, and the same packets are ignored.
 -- Assumes nothing.
-use mathlib.Core.Path.{_≡_, refl, sym, ap, ap₂, _∙_}
-use mathlib.Core.Bool.{Bool, true, false, not}
-use mathlib.Core.List.{List, [], _∷_}
-use mathlib.Core.Option.{Option, some, none}
-use lib.ListN.{replicate}
-use Rattle.basis.specs.Pick.{pick, both}
+use Rattle.basis.proofs.Std.{_≡_, refl, sym, ap, ap₂, _∙_, Bool, true, false, not, List, [], _∷_, Option, some, none, replicate, pick, both}
 use Rattle.identity.specs.Read.{SixteenBytes, readIdentity}
 use Rattle.json_value.specs.Grammar.{Json}
 use Rattle.read_head.specs.declared.Kind.the-variants.{Version, Watchdog, Alarm, AggregatedStatusRequest, StatusRequest, StatusSubscribe, StatusUnsubscribe, CommandRequest, Unexpected}
-use Rattle.read_head.specs.declared.Class.{Class}
-use Rattle.read_head.specs.declared.Class.the-variants.{Ignored, Acked, NotAcked, Asked}
+use Rattle.read_head.specs.declared.Class.the-variants.{Acked, NotAcked, Asked}
 use Rattle.read_head.specs.Head.{ignored}
 use Rattle.machine.specs.Words.{Bytes, _and_, _or_, maybe, isSome, orElse, any, firstThat, butFirst}
 use Rattle.machine.specs.State.{Awaited, Life}

@@ -1,12 +1,6 @@
 -- A list by its places: what is done place after place is done entry after entry.
 -- Assumes nothing.
-use Prim.Native.Nat.{ℕ, zero, suc, _<_}
-use native.Mathlib.Nat.{le-of-suc-le-suc, not-suc-le-zero}
-use native.Mathlib.Omega.{arith}
-use mathlib.Core.Path.{_≡_, refl, sym, ap, _∙_}
-use mathlib.Core.List.{List, [], _∷_, map}
-use lib.ListN.{length, take, getD}
-use lib.Seq.{getD-take}
+use Rattle.basis.proofs.Std.{ℕ, zero, suc, _<_, le-of-suc-le-suc, not-suc-le-zero, arith, _≡_, refl, sym, ap, _∙_, List, [], _∷_, map, length, take, getD, getD-take}
 
 module _ {A B : Type 0} (f : A → B) (d : A) (z : B) where
   mapped-at : (xs : List A) (i : ℕ) → i < length xs → getD (map f xs) i z ≡ f (getD xs i d)

@@ -1,12 +1,6 @@
 -- The claims about packets without lists are kept.
 -- Assumes nothing.
-use Prim.Native.Nat.{ℕ}
-use native.Mathlib.Omega.{arith}
-use mathlib.Core.Path.{_≡_, refl, sym, ap, _∙_}
-use mathlib.Core.Bool.{Bool, true, false}
-use mathlib.Core.Option.{some, none}
-use Rattle.basis.specs.Pick.{pick, both}
-use Rattle.basis.specs.Lists.{sameBytes}
+use Rattle.basis.proofs.Std.{ℕ, arith, _≡_, refl, sym, ap, _∙_, Bool, true, false, some, none, pick, both, sameBytes}
 use Rattle.identity.specs.Read.{readIdentity}
 use Rattle.json_value.specs.Grammar.{Json}
 use Rattle.json_packet.specs.Packet.{Packet, isPacket, meaningOf}

@@ -1,15 +1,6 @@
 -- The lists of a Version: RSMP and siteId.
 -- Assumes nothing.
-use Prim.Native.Nat.{ℕ}
-use Prim.Native.String.{String}
-use mathlib.Core.Path.{_≡_, refl, sym, ap, ap₂, _∙_}
-use mathlib.Core.Bool.{Bool, true, false}
-use mathlib.Core.List.{List, [], _∷_}
-use mathlib.Core.Option.{Option, some, none}
-use lib.Dec.{ltb}
-use Rattle.basis.specs.Pick.{pick}
-use Rattle.basis.specs.Text.{text}
-use Rattle.basis.proofs.Cases.{bool-cases}
+use Rattle.basis.proofs.Std.{ℕ, String, _≡_, refl, sym, ap, ap₂, _∙_, Bool, true, false, List, [], _∷_, Option, some, none, ltb, pick, text, bool-cases}
 use Rattle.number.specs.declared.Number.{Number}
 use Rattle.label.specs.declared.Label.{Label}
 use Rattle.label.specs.Label.{labelOf}

@@ -1,15 +1,6 @@
 -- The first reason that applies, by the verdicts.
 -- Assumes nothing.
-use Prim.Native.Nat.{ℕ}
-use Prim.Native.String.{String}
-use mathlib.Core.Path.{_≡_, refl, sym, ap, _∙_}
-use mathlib.Core.Bool.{Bool, true, false, not}
-use mathlib.Core.List.{List, [], _∷_}
-use mathlib.Core.Option.{Option, some, none}
-use lib.Dec.{leb}
-use lib.ListN.{length}
-use Rattle.basis.specs.Pick.{pick, both}
-use Rattle.basis.proofs.Both.{untrue}
+use Rattle.basis.proofs.Std.{ℕ, String, _≡_, refl, sym, ap, _∙_, Bool, true, false, not, List, [], _∷_, Option, some, none, leb, length, pick, both, untrue}
 use Rattle.json_value.specs.Grammar.{Json}
 use Rattle.machine.specs.Words.{_and_, maybe, isSome, isNumber, any}
 use Rattle.machine.specs.State.{Machine, lifeAt}

@@ -1,17 +1,6 @@
 -- A version's text: the code reads it part by part, the machine splits it at its dots.
 -- Assumes nothing.
-use Prim.Native.Nat.{ℕ, _+_, _*_, _≤_}
-use native.Mathlib.Omega.{arith}
-use mathlib.Core.Path.{_≡_, refl, ap, _∙_}
-use mathlib.Core.Bool.{Bool, true, false}
-use mathlib.Core.List.{List, [], _∷_, _++_}
-use mathlib.Core.Option.{Option, some, none}
-use lib.Dec.{eqb, leb}
-use lib.ListN.{length, length-append}
-use borrow.Author.Tests.{leb-true, lt-leb}
-use Rattle.basis.specs.Pick.{pick, both}
-use Rattle.basis.specs.Lists.{sameBytes}
-use Rattle.basis.specs.Text.{text}
+use Rattle.basis.proofs.Std.{ℕ, _+_, _*_, _≤_, arith, _≡_, refl, ap, _∙_, Bool, true, false, List, [], _∷_, _++_, Option, some, none, eqb, leb, length, length-append, leb-true, lt-leb, pick, both, sameBytes, text}
 use Rattle.number.specs.declared.Number.{Number}
 use Rattle.number.specs.declared.Number.the-variants.{Is, No}
 use Rattle.number.specs.Decimal.{digits}

@@ -1,15 +1,7 @@
 -- What the type of a packet makes of the machine's tests.
 -- Assumes nothing.
-use Prim.Native.String.{String}
-use mathlib.Core.Path.{_≡_, ap}
-use mathlib.Core.Bool.{true, false}
-use mathlib.Core.Option.{Option, some, none}
-use Rattle.basis.specs.Text.{text}
-use Rattle.basis.proofs.Cases.{bool-cases}
-use Rattle.basis.proofs.Both.{untrue}
-use Rattle.basis.proofs.Same.{same-true}
+use Rattle.basis.proofs.Std.{String, _≡_, ap, true, false, Option, some, none, text, bool-cases, untrue, same-true}
 use Rattle.json_value.specs.Grammar.{Json}
-use Rattle.read_head.specs.declared.Kind.the-variants.{Version, Watchdog, Alarm, AggregatedStatusRequest, StatusRequest, StatusSubscribe, StatusUnsubscribe, CommandRequest}
 use Rattle.machine.specs.Words.{Bytes, reads, maybe}
 use Rattle.machine.specs.Json.{stringAt, isType}
 use Rattle.refine_read.specs.Head.{kindOf, Typed, version, watchdog, alarm, aggregated-request, status-request, status-subscribe, status-unsubscribe, command-request, not-taken}

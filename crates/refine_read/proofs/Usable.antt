@@ -1,14 +1,6 @@
 -- The strings that pass the tests of document 01 are ASCII and no longer than 36.
 -- Assumes nothing.
-use Prim.Native.Nat.{ℕ, _≤_, _<_}
-use native.Mathlib.Omega.{arith}
-use mathlib.Core.Path.{_≡_, refl}
-use mathlib.Core.Bool.{true}
-use mathlib.Core.List.{[], _∷_, _++_}
-use lib.Dec.{leb, ltb}
-use lib.ListN.{length}
-use borrow.Author.Tests.{lt-ltb, le-leb, leb-true}
-use Rattle.basis.proofs.Both.{both-true}
+use Rattle.basis.proofs.Std.{ℕ, _≤_, _<_, arith, _≡_, refl, true, [], _∷_, _++_, leb, ltb, length, lt-ltb, le-leb, leb-true, both-true}
 use Rattle.number.specs.Alphabet.{inAlphabet, allInAlphabet, isLabel}
 use Rattle.json_text.specs.Copied.{ascii}
 use Rattle.machine.specs.Words.{Bytes}

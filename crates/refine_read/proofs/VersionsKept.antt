@@ -1,13 +1,6 @@
 -- The claims about Version are kept.
 -- Assumes nothing.
-use Prim.Native.Nat.{ℕ}
-use mathlib.Core.Path.{_≡_, refl, sym, ap, ap₂, _∙_}
-use mathlib.Core.Bool.{Bool, true, false, not}
-use mathlib.Core.List.{List, [], _∷_}
-use mathlib.Core.Option.{Option, some, none}
-use Rattle.basis.specs.Pick.{pick}
-use Rattle.basis.specs.Lists.{sameBytes}
-use Rattle.basis.specs.Text.{text}
+use Rattle.basis.proofs.Std.{ℕ, _≡_, refl, sym, ap, ap₂, _∙_, Bool, true, false, not, List, [], _∷_, Option, some, none, pick, sameBytes, text}
 use Rattle.label.specs.Label.{textOf}
 use Rattle.json_value.specs.Grammar.{Json}
 use Rattle.read_versions.specs.declared.Offer.{Offer}

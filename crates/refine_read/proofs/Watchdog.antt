@@ -1,16 +1,6 @@
 -- The time of a Watchdog is the one that the machine reads: whatever has the form of a time can be used.
 -- Assumes nothing.
-use Prim.Native.Nat.{ℕ, zero, suc, _+_, _/_, _%_, _≤_, _<_}
-use native.Mathlib.Omega.{arith}
-use mathlib.Core.Path.{_≡_, refl, sym, ap, _∙_}
-use mathlib.Core.Bool.{Bool, true}
-use mathlib.Core.List.{[], _∷_, _++_}
-use lib.Dec.{leb}
-use lib.ListN.{length, length-append}
-use borrow.Author.Tests.{lt-ltb, leb-true}
-use Rattle.basis.specs.Pick.{pick}
-use Rattle.basis.specs.Text.{text}
-use Rattle.basis.proofs.Both.{untrue, both-true}
+use Rattle.basis.proofs.Std.{ℕ, zero, suc, _+_, _/_, _%_, _≤_, _<_, arith, _≡_, refl, sym, ap, _∙_, Bool, true, [], _∷_, _++_, leb, length, length-append, lt-ltb, leb-true, pick, text, untrue, both-true}
 use Rattle.calendar.specs.declared.Time.{Time}
 use Rattle.calendar.specs.declared.Time.the-variants.{Is, No}
 use Rattle.calendar.specs.Civil.{dateOf}

@@ -1,19 +1,6 @@
 -- The elements that the code looks up are the machine's, and a verdict on a string is the machine's wherever what passes can be used.
 -- Assumes nothing.
-use Prim.Native.Nat.{ℕ}
-use Prim.Native.String.{String}
-use native.Mathlib.Omega.{arith}
-use mathlib.Core.Path.{_≡_, refl, sym, ap, ap₂, subst, _∙_}
-use mathlib.Core.Bool.{Bool, true, false, not}
-use mathlib.Core.List.{List, [], _∷_}
-use mathlib.Core.Option.{Option, some, none}
-use lib.Dec.{leb}
-use lib.ListN.{length}
-use Rattle.basis.specs.Pick.{pick, both}
-use Rattle.basis.specs.Lists.{sameBytes}
-use Rattle.basis.specs.Text.{text}
-use Rattle.basis.proofs.Cases.{bool-cases}
-use Rattle.basis.proofs.Same.{same-true}
+use Rattle.basis.proofs.Std.{ℕ, String, arith, _≡_, refl, sym, ap, ap₂, subst, _∙_, Bool, true, false, not, List, [], _∷_, Option, some, none, leb, length, pick, both, sameBytes, text, bool-cases, same-true}
 use Rattle.json_text.specs.Copied.{ascii}
 use Rattle.json_value.specs.Grammar.{Json, Members}
 use Rattle.json_value.specs.Grammar.Json.{null, bool, num, str, arr, obj}

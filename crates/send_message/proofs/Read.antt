@@ -1,9 +1,6 @@
 -- What a site in lent words says of its table.
 -- Assumes nothing.
-use mathlib.Core.Path.{_≡_, refl}
-use Prim.Native.Nat.{ℕ}
-use mathlib.Core.List.{List}
-use lib.ListN.{getD}
+use Rattle.basis.proofs.Std.{_≡_, refl, ℕ, List, getD}
 use Rattle.table_item.specs.declared.Item.{Item}
 use Rattle.table_item.specs.Item.{noItem}
 use Rattle.table_whole.specs.declared.SiteTable.{SiteTable}

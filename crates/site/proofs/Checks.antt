@@ -1,12 +1,6 @@
 -- What a check that does not apply tells.
 -- Assumes nothing.
-use Prim.Native.Nat.{ℕ, _<_}
-use mathlib.Core.Path.{_≡_, refl}
-use mathlib.Core.Bool.{false}
-use lib.Dec.{ltb}
-use borrow.Author.Tests.{ltb-true}
-use Rattle.basis.proofs.Cases.{bool-cases}
-use Rattle.basis.proofs.Both.{not-both}
+use Rattle.basis.proofs.Std.{ℕ, _<_, _≡_, refl, false, ltb, ltb-true, bool-cases, not-both}
 use Rattle.site.specs.declared.Site.{Site}
 use Rattle.site.specs.Site.{noLinkAt}
 

@@ -1,11 +1,6 @@
 -- The record of every status' value is one that the record reader accepts.
 -- Assumes nothing.
-use Prim.Native.Nat.{ℕ, _^_, _≤_, _<_}
-use mathlib.Core.Path.{refl, ap}
-use mathlib.Core.Bool.{Bool}
-use lib.Dec.{eqb, lit<}
-use Rattle.basis.specs.Pick.{pick}
-use Rattle.basis.proofs.Cases.{picked}
+use Rattle.basis.proofs.Std.{ℕ, _^_, _≤_, _<_, refl, ap, Bool, eqb, lit<, pick, picked}
 use Rattle.entry.specs.Valid.{Valid, lastTime as latest}
 use Rattle.entry.specs.Valid.OfKind.{a-status}
 use Rattle.status.specs.declared.Status.{Status}

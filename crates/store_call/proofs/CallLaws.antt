@@ -1,10 +1,6 @@
 -- How a call in place ends: refused with nothing changed, or done.
 -- Assumes nothing.
-use Prim.Native.Nat.{ℕ, _<_}
-use mathlib.Core.Path.{_≡_, refl, ap, subst, sym, _∙_}
-use mathlib.Core.Bool.{Bool, false}
-use mathlib.Core.List.{List}
-use native.Mathlib.Omega.{arith}
+use Rattle.basis.proofs.Std.{ℕ, _<_, _≡_, refl, ap, subst, sym, _∙_, Bool, false, List, arith}
 use Rattle.answer.specs.declared.Refusal.{Refusal}
 use Rattle.answer.specs.declared.Report.{Report}
 use Rattle.answer.specs.declared.Answer.{Answer}

@@ -1,16 +1,6 @@
 -- Records issued one by one are issued as one list; nothing else of the site is changed by them.
 -- Assumes nothing.
-use Prim.Native.Nat.{ℕ, suc, _+_, _-_, _<_, _≤_}
-use mathlib.Core.Path.{_≡_, refl, sym, ap, _∙_}
-use mathlib.Core.Bool.{Bool, true, false}
-use mathlib.Core.Logic.{_⊎_, inl, inr}
-use mathlib.Core.List.{List, [], _∷_, _++_}
-use native.Mathlib.Omega.{arith}
-use lib.Dec.{ltb}
-use lib.ListN.{length, length-append}
-use borrow.Author.Tests.{lt-ltb, le-ltb}
-use Rattle.basis.specs.Pick.{both, bit}
-use Rattle.basis.proofs.Cases.{lt-or-ge}
+use Rattle.basis.proofs.Std.{ℕ, suc, _+_, _-_, _<_, _≤_, _≡_, refl, sym, ap, _∙_, Bool, true, false, _⊎_, inl, inr, List, [], _∷_, _++_, arith, ltb, length, length-append, lt-ltb, le-ltb, both, bit, lt-or-ge}
 use Rattle.entry.specs.declared.Entry.{Entry}
 use Rattle.alarm.specs.declared.Changed.{Changed}
 use Rattle.alarm.specs.Issued.{issuedOf}

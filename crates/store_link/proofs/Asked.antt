@@ -1,24 +1,10 @@
 -- What is asked of the awaited places straight from their words.
 -- Assumes nothing.
-use Prim.Native.Nat.{ℕ, zero, suc, _+_, _-_, _*_, _%_, _^_, _<_, _≤_}
-use mathlib.Core.Path.{_≡_, refl, sym, ap, ap₂, _∙_}
-use mathlib.Core.Bool.{Bool, true, false}
-use mathlib.Core.List.{List, [], _∷_}
-use native.Mathlib.Nat.{mod-eq-of-lt}
-use native.Mathlib.Omega.{arith}
-use borrow.Author.Tests.{eqb-true, eq-eqb, le-leb, lt-leb}
-use lib.Dec.{eqb, leb}
-use lib.ListN.{length, getD, take, drop}
-use Rattle.basis.specs.Pick.{pick, both, bit}
-use Rattle.basis.specs.Lists.{count}
-use Rattle.basis.proofs.Cases.{bool-cases}
-use Rattle.basis.proofs.Both.{both-true, both-of}
-use Rattle.basis.proofs.Same.{same-is}
+use Rattle.basis.proofs.Std.{ℕ, zero, suc, _+_, _-_, _*_, _%_, _^_, _<_, _≤_, _≡_, refl, sym, ap, ap₂, _∙_, Bool, true, false, List, [], _∷_, mod-eq-of-lt, arith, eqb-true, eq-eqb, le-leb, lt-leb, eqb, leb, length, getD, take, drop, pick, both, bit, count, bool-cases, both-true, both-of, same-is}
 use Rattle.bits.specs.Fields.{bytesOf, numberOf}
 use Rattle.bits.proofs.Bytes.{number-bytes}
 use Rattle.identity.specs.declared.Identity.{Identity}
 use Rattle.awaited.specs.declared.Slot.{Slot}
-use Rattle.awaited.specs.declared.Found.{Found}
 use Rattle.awaited.specs.declared.Found.the-variants.{For}
 use Rattle.awaited.specs.Slot.{sameIdentity, isFree, isTaken, purposeOf, awaitsFor}
 use Rattle.awaited.specs.Awaited.{findIn, findOf, isAwaited, howManyOf}

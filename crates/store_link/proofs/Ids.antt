@@ -1,13 +1,6 @@
 -- Identities out of words, one behind the other as bytes.
 -- Assumes nothing.
-use mathlib.Core.Path.{_≡_, ap, ap₂, _∙_}
-use mathlib.Core.Logic.{_⊎_, inl, inr}
-use mathlib.Core.List.{List, [], _∷_, _++_}
-use Prim.Native.Nat.{ℕ, _+_, _*_, _<_, _≤_}
-use native.Mathlib.Omega.{arith}
-use lib.Dec.{lit≤}
-use lib.ListN.{length, set}
-use Rattle.basis.proofs.Cases.{eq-or-ne}
+use Rattle.basis.proofs.Std.{_≡_, ap, ap₂, _∙_, _⊎_, inl, inr, List, [], _∷_, _++_, ℕ, _+_, _*_, _<_, _≤_, arith, lit≤, length, set, eq-or-ne}
 use Rattle.bits.specs.Fields.{fieldOf, bytesOf}
 use Rattle.identity.specs.declared.Identity.{Identity}
 use Rattle.store_words.specs.Words.{word, stores, Put}

@@ -1,19 +1,10 @@
 -- Each part read back from the words that it was stored in.
 -- Assumes nothing.
-use mathlib.Core.Path.{_≡_, sym, ap, _∙_}
-use mathlib.Core.Logic.{_⊎_, inl, inr}
-use Rattle.basis.proofs.Cases.{eq-or-ne}
-use Prim.Native.Nat.{ℕ, zero, suc, _+_, _*_, _%_, _^_, _<_, _≤_}
-use native.Mathlib.Omega.{arith}
-use mathlib.Core.List.{List, [], _∷_}
-use lib.Dec.{lit≤}
-use lib.ListN.{length, getD, set, take, drop}
+use Rattle.basis.proofs.Std.{_≡_, sym, ap, _∙_, _⊎_, inl, inr, eq-or-ne, ℕ, zero, suc, _+_, _*_, _%_, _^_, _<_, _≤_, arith, List, [], _∷_, lit≤, length, getD, set, take, drop, Bool, bit}
 use Rattle.bits.specs.Fields.{numberOf}
 use Rattle.awaited.specs.declared.Slot.{Slot}
 use Rattle.awaited.specs.declared.Awaited.{Awaited}
 use Rattle.awaited.specs.Slot.{freeSlot}
-use mathlib.Core.Bool.{Bool}
-use Rattle.basis.specs.Pick.{bit}
 use Rattle.link.specs.declared.Link.{Link}
 use Rattle.store_words.specs.Words.{word, flag, stores, Stored, Put}
 use Rattle.store_words.specs.Narrow.{upper, lower, pair}

@@ -1,19 +1,8 @@
 -- A place read from two of its words; a free place: the lowest one, where its number is 0, is the oldest, and one is found exactly
 -- where one is counted.
 -- Assumes nothing.
-use mathlib.Core.Path.{_≡_, refl, sym, ap, _∙_}
-use mathlib.Core.Logic.{_⊎_, inl, inr}
-use mathlib.Core.Bool.{Bool, true, false}
-use mathlib.Core.List.{List, [], _∷_}
-use Prim.Native.Nat.{ℕ, zero, suc, _+_, _*_, _<_, _≤_}
-use native.Mathlib.Omega.{arith}
-use borrow.Author.Tests.{le-leb, lt-ltb}
-use lib.Dec.{ltb, leb, eqb}
-use lib.ListN.{length, getD}
+use Rattle.basis.proofs.Std.{_≡_, refl, sym, ap, _∙_, _⊎_, inl, inr, Bool, true, false, List, [], _∷_, ℕ, zero, suc, _+_, _*_, _<_, _≤_, arith, le-leb, lt-ltb, ltb, leb, eqb, length, getD, pick, bit, count, eq-or-ne}
 use Rattle.bits.specs.Fields.{fieldOf}
-use Rattle.basis.specs.Pick.{pick, bit}
-use Rattle.basis.specs.Lists.{count}
-use Rattle.basis.proofs.Cases.{eq-or-ne}
 use Rattle.pool.specs.declared.Place.{Place}
 use Rattle.pool.specs.declared.Spot.{Spot}
 use Rattle.pool.specs.declared.Spot.the-variants.{At, Nowhere}
@@ -21,7 +10,7 @@ use Rattle.pool.specs.declared.Wanted.the-variants.{Free}
 use Rattle.pool.specs.Places.{noPlace, of, fits, lower, older, oldestFrom, oldest}
 use Rattle.pool.specs.Pool.{freeIn}
 use Rattle.store_words.specs.Words.{word}
-use Rattle.store_site.specs.Rows.{placeFrom, placeIn}
+use Rattle.store_site.specs.Rows.{placeFrom}
 use Rattle.store_site.specs.Layout.{placesIn}
 use Rattle.store_site.proofs.SiteLaws.{place-at, places-length}
 use Rattle.store_pool.specs.Best.{Stands, Vacant}

@@ -1,18 +1,10 @@
 -- A place found by its index is the spot that the definitions find.
 -- Assumes nothing.
-use mathlib.Core.Path.{_≡_, refl, sym, ap, ap₂, _∙_}
-use Prim.Native.Nat.{ℕ, zero, suc, _+_, _*_, _<_, _≤_}
-use native.Mathlib.Omega.{arith}
-use borrow.Author.Tests.{le-leb, lt-leb}
+use Rattle.basis.proofs.Std.{_≡_, refl, sym, ap, ap₂, _∙_, ℕ, zero, suc, _+_, _*_, _<_, _≤_, arith, le-leb, lt-leb, List, [], _∷_, true, false, length, getD, set, List·getD-eq-default, lt-ltb, le-ltb, set-out, getD-set-same, getD-set-other}
 use Rattle.pool.specs.declared.Place.{Place}
 use Rattle.pool.specs.declared.Spot.{Spot}
 use Rattle.pool.specs.declared.Spot.the-variants.{At, Nowhere}
 use Rattle.pool.specs.declared.Sought.the-variants.{Found, Nothing}
-use mathlib.Core.List.{List, [], _∷_}
-use mathlib.Core.Bool.{true, false}
-use lib.ListN.{length, getD, set, List·getD-eq-default}
-use borrow.Author.Tests.{lt-ltb, le-ltb}
-use lib.Seq.{set-out, getD-set-same, getD-set-other}
 use Rattle.entry.specs.declared.Entry.{Entry}
 use Rattle.pool.specs.declared.Pool.{Pool}
 use Rattle.pool.specs.declared.Loser.{Loser}
@@ -24,9 +16,8 @@ use Rattle.pool.specs.Pool.{heldIn, freeIn, lostOf, moreOf, lossOf, roomOf, mad
 use Rattle.table_whole.specs.declared.SiteTable.{SiteTable}
 use Rattle.site.specs.declared.Site.{Site}
 use Rattle.site.specs.Site.{withPool}
-use Rattle.store_words.specs.Words.{word, Stored}
+use Rattle.store_words.specs.Words.{word, Stored, Put}
 use Rattle.store_site.specs.Rows.{placeFrom, placeIn}
-use Rattle.store_words.specs.Words.{Put}
 use Rattle.store_site.specs.Layout.{lostIn, placesIn, poolIn, siteOf, siteWords}
 use Rattle.store_pool.specs.Pools.{Pools, Loss}
 use Rattle.store_words.proofs.Elements.{list-at, list-length, list-put}

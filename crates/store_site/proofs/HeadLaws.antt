@@ -1,12 +1,6 @@
 -- What every call asks of the site, and what a link says, from the words.
 -- Assumes nothing.
-use mathlib.Core.Path.{_≡_, refl, sym, ap, _∙_}
-use mathlib.Core.Bool.{Bool, true}
-use Prim.Native.Nat.{ℕ, _+_, _*_, _<_, _≤_}
-use mathlib.Core.List.{List}
-use lib.Dec.{ltb, leb}
-use borrow.Author.Tests.{lt-ltb, le-ltb}
-use Rattle.basis.specs.Pick.{pick, both}
+use Rattle.basis.proofs.Std.{_≡_, refl, sym, ap, _∙_, Bool, true, ℕ, _+_, _*_, _<_, _≤_, List, ltb, leb, lt-ltb, le-ltb, pick, both}
 use Rattle.answer.specs.Times.{lastTime}
 use Rattle.bits.specs.Fields.{fieldOf}
 use Rattle.link.specs.declared.Link.{Link}

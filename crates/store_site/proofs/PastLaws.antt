@@ -1,11 +1,6 @@
 -- Past the end of a list of the site: what stands for none, and no change.
 -- Assumes nothing.
-use Prim.Native.Nat.{ℕ, _+_, _*_, _≤_}
-use mathlib.Core.Path.{_≡_, sym, ap}
-use mathlib.Core.List.{List}
-use native.Mathlib.Omega.{arith}
-use lib.ListN.{length, List·getD-eq-default}
-use lib.Seq.{set-out}
+use Rattle.basis.proofs.Std.{ℕ, _+_, _*_, _≤_, _≡_, sym, ap, List, arith, length, List·getD-eq-default, set-out}
 use Rattle.link.specs.Fields.{closedLink}
 use Rattle.subscription.specs.declared.Subscription.{Subscription}
 use Rattle.subscription.specs.Subscription.{none}

@@ -1,11 +1,6 @@
 -- A place of the pool, a subscription, an alarm, a status: read from its words, stored in them, and as it was where they are.
 -- Assumes nothing.
-use mathlib.Core.Path.{_≡_, _∙_}
-use Prim.Native.Nat.{ℕ, _+_, _<_, _≤_}
-use native.Mathlib.Omega.{arith}
-use mathlib.Core.List.{List, [], _∷_}
-use lib.Dec.{lit≤}
-use lib.ListN.{length, set}
+use Rattle.basis.proofs.Std.{_≡_, _∙_, ℕ, _+_, _<_, _≤_, arith, List, [], _∷_, lit≤, length, set}
 use Rattle.bits.specs.Fields.{fieldOf}
 use Rattle.pool.specs.declared.Place.{Place}
 use Rattle.subscription.specs.declared.Subscription.{Subscription}

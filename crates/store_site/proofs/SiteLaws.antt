@@ -1,13 +1,6 @@
 -- A store in one part of the site leaves the others, and one element of a part is replaced.
 -- Assumes nothing.
-use mathlib.Core.Path.{_≡_, refl, sym, ap, _∙_}
-use mathlib.Core.Logic.{_⊎_, inl, inr}
-use Rattle.basis.proofs.Cases.{eq-or-ne, lt-or-ge}
-use Prim.Native.Nat.{ℕ, _+_, _*_, _<_, _≤_}
-use native.Mathlib.Omega.{arith}
-use mathlib.Core.List.{List, [], _∷_}
-use lib.Dec.{lit≤}
-use lib.ListN.{length, getD, set}
+use Rattle.basis.proofs.Std.{_≡_, refl, sym, ap, _∙_, _⊎_, inl, inr, eq-or-ne, lt-or-ge, ℕ, _+_, _*_, _<_, _≤_, arith, List, [], _∷_, lit≤, length, getD, set}
 use Rattle.link.specs.declared.Link.{Link}
 use Rattle.link.specs.Fields.{closedLink}
 use Rattle.pool.specs.declared.Place.{Place}

@@ -1,8 +1,6 @@
 -- Changes in place, one after the other.
 -- Assumes nothing.
-use Prim.Native.Nat.{ℕ}
-use mathlib.Core.Path.{_≡_, ap, _∙_}
-use mathlib.Core.List.{List}
+use Rattle.basis.proofs.Std.{ℕ, _≡_, ap, _∙_, List}
 use Rattle.table_whole.specs.declared.SiteTable.{SiteTable}
 use Rattle.site.specs.declared.Site.{Site}
 use Rattle.store_site.specs.Layout.{siteOf}

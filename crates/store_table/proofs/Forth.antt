@@ -1,12 +1,6 @@
 -- A table is read back from its own bytes.
 -- Assumes nothing.
-use mathlib.Core.Path.{_≡_, refl, sym, ap, ap₂, _∙_}
-use mathlib.Core.List.{List, [], _∷_, _++_}
-use Prim.Native.Nat.{ℕ, zero, suc, _+_, _*_, _/_, _%_, _<_}
-use native.Mathlib.Nat.{add-zero, zero-add}
-use native.Mathlib.Omega.{arith}
-use lib.ListN.{length, getD, length-append, List·getD-append}
-use lib.Seq.{getD-append-add}
+use Rattle.basis.proofs.Std.{_≡_, refl, sym, ap, ap₂, _∙_, List, [], _∷_, _++_, ℕ, zero, suc, _+_, _*_, _/_, _%_, _<_, add-zero, zero-add, arith, length, getD, length-append, List·getD-append, getD-append-add}
 use Rattle.label.specs.declared.Label.{Label}
 use Rattle.label.specs.Label.{noLabel}
 use Rattle.table_item.specs.declared.Item.{Item}

@@ -1,12 +1,6 @@
 -- A table that is allowed, kept in its bytes and read again.
 -- Assumes nothing.
-use mathlib.Core.Path.{_≡_, refl, sym, ap, subst, _∙_}
-use mathlib.Core.Logic.{⊎-elim}
-use mathlib.Core.List.{List, [], _∷_, map}
-use Prim.Native.Nat.{ℕ, zero, suc, _+_, _-_, _<_, _≤_}
-use native.Mathlib.Omega.{arith}
-use lib.ListN.{length, getD, length-map, List·getD-eq-default}
-use Rattle.basis.proofs.Cases.{lt-or-ge}
+use Rattle.basis.proofs.Std.{_≡_, refl, sym, ap, subst, _∙_, ⊎-elim, List, [], _∷_, map, ℕ, zero, suc, _-_, _<_, _≤_, arith, length, getD, length-map, List·getD-eq-default, lt-or-ge}
 use Rattle.label.specs.Padded.{padded}
 use Rattle.label.specs.Label.{labelOf}
 use Rattle.label.proofs.Padded.{length-padded}

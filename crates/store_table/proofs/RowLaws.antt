@@ -1,12 +1,6 @@
 -- Labels and rows, read from the bytes where they stand.
 -- Assumes nothing.
-use mathlib.Core.Path.{_≡_, refl, sym, ap, ap₂, _∙_}
-use mathlib.Core.List.{List}
-use Prim.Native.Nat.{ℕ, _+_, _-_, _*_, _<_, _≤_, min}
-use native.Mathlib.Nat.{sub-zero}
-use native.Mathlib.Omega.{arith}
-use lib.ListN.{length, getD, take, drop, length-drop, List·getD-eq-default}
-use lib.Seq.{length-take-le, take-take, getD-take, getD-drop}
+use Rattle.basis.proofs.Std.{_≡_, refl, sym, ap, ap₂, _∙_, List, ℕ, _+_, _-_, _*_, _<_, _≤_, min, sub-zero, arith, length, getD, take, drop, length-drop, List·getD-eq-default, length-take-le, take-take, getD-take, getD-drop}
 use Rattle.label.specs.declared.Label.{Label}
 use Rattle.label.specs.Label.{labelOf, noLabel, textOf}
 use Rattle.label.proofs.Text.{text-part}

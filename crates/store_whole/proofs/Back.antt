@@ -1,12 +1,6 @@
 -- Words that stand for a site are that site's words, where what has happened on a link is 0 or 1.
 -- Assumes nothing.
-use mathlib.Core.Path.{_≡_, refl, sym, ap, ap₂, _∙_}
-use Prim.Native.Nat.{ℕ, zero, suc, _+_, _*_, _^_, _<_}
-use native.Mathlib.Nat.{add-zero, div-eq-of-lt}
-use native.Mathlib.Omega.{arith}
-use mathlib.Core.List.{List, [], _∷_, _++_}
-use lib.ListN.{length}
-use Rattle.basis.specs.Pick.{bit}
+use Rattle.basis.proofs.Std.{_≡_, refl, sym, ap, ap₂, _∙_, ℕ, zero, suc, _+_, _*_, _^_, _<_, add-zero, div-eq-of-lt, arith, List, [], _∷_, _++_, length, bit}
 use Rattle.bits.specs.Fields.{fieldOf, joined, split, total}
 use Rattle.bits.proofs.Fields.{joined-split}
 use Rattle.bits.proofs.Bytes.{number-bytes}

@@ -1,11 +1,6 @@
 -- A list of the site filled, one element after the other.
 -- Assumes nothing.
-use mathlib.Core.Path.{_≡_, refl, sym, ap, _∙_}
-use Prim.Native.Nat.{ℕ, zero, suc, _+_, _<_, _≤_}
-use native.Mathlib.Omega.{arith}
-use mathlib.Core.List.{List, [], _∷_}
-use lib.ListN.{length, getD, set}
-use lib.Seq.{ext-getD}
+use Rattle.basis.proofs.Std.{_≡_, refl, sym, ap, _∙_, ℕ, zero, suc, _+_, _<_, _≤_, arith, List, [], _∷_, length, getD, set, ext-getD}
 use Rattle.table_whole.specs.declared.SiteTable.{SiteTable}
 use Rattle.table_whole.specs.Memory.{noTable}
 use Rattle.site.specs.declared.Site.{Site}

@@ -1,12 +1,6 @@
 -- A site is read back from its own words.
 -- Assumes nothing.
-use mathlib.Core.Path.{_≡_, refl, sym, ap, ap₂, subst, _∙_}
-use Prim.Native.Nat.{ℕ, zero, suc, _+_, _-_, _*_, _%_, _^_, _<_}
-use native.Mathlib.Nat.{add-zero, mod-eq-of-lt}
-use native.Mathlib.Omega.{arith}
-use mathlib.Core.List.{List, [], _∷_, _++_}
-use lib.ListN.{length, getD, take, drop, replicate, length-append, length-drop}
-use lib.Seq.{length-take-le}
+use Rattle.basis.proofs.Std.{_≡_, refl, sym, ap, ap₂, subst, _∙_, ℕ, zero, suc, _+_, _-_, _*_, _%_, _^_, _<_, add-zero, mod-eq-of-lt, arith, List, [], _∷_, _++_, length, getD, take, drop, replicate, length-append, length-drop, length-take-le}
 use Rattle.bits.specs.Fields.{fieldOf, joined, split, total, numberOf}
 use Rattle.bits.specs.Fields.Within.{none, next}
 use Rattle.bits.proofs.Fields.{split-joined}

@@ -1,14 +1,6 @@
 -- Each list of the site, and what stands once.
 -- Assumes nothing.
-use mathlib.Core.Path.{_≡_, refl, sym, ap, ap₂, _∙_}
-use mathlib.Core.Logic.{_⊎_, inl, inr}
-use Rattle.basis.proofs.Cases.{eq-or-ne}
-use Prim.Native.Nat.{ℕ, zero, suc, _+_, _*_, _<_}
-use native.Mathlib.Omega.{arith}
-use mathlib.Core.List.{List, [], _∷_}
-use lib.Dec.{lit≤}
-use lib.ListN.{length, getD, set}
-use lib.Seq.{ext-getD}
+use Rattle.basis.proofs.Std.{_≡_, refl, sym, ap, ap₂, _∙_, _⊎_, inl, inr, eq-or-ne, ℕ, zero, suc, _+_, _*_, _<_, arith, List, [], _∷_, lit≤, length, getD, set, ext-getD}
 use Rattle.bits.specs.Fields.{fieldOf, joined, split}
 use Rattle.bits.specs.Fields.Within.{none as none·field, next as next·field}
 use Rattle.bits.proofs.Fields.{split-joined}

@@ -1,14 +1,6 @@
 -- A part of the words as a list, and parts one behind the other.
 -- Assumes nothing.
-use mathlib.Core.Path.{_≡_, refl, sym, ap, ap₂, _∙_}
-use mathlib.Core.Logic.{_⊎_, inl, inr}
-use Prim.Native.Nat.{ℕ, zero, suc, _+_, _-_, _<_, _≤_}
-use native.Mathlib.Nat.{zero-add}
-use native.Mathlib.Omega.{arith}
-use mathlib.Core.List.{List, _++_}
-use lib.ListN.{length, length-append, List·getD-append}
-use lib.Seq.{getD-append-add}
-use Rattle.basis.proofs.Cases.{lt-or-ge}
+use Rattle.basis.proofs.Std.{_≡_, refl, sym, ap, ap₂, _∙_, _⊎_, inl, inr, ℕ, zero, suc, _+_, _-_, _<_, _≤_, zero-add, arith, List, _++_, length, length-append, List·getD-append, getD-append-add, lt-or-ge}
 use Rattle.store_words.specs.Words.{word, elements, listOf}
 use Rattle.store_words.proofs.Elements.{list-at, list-is, list-length}
 use Rattle.store_whole.specs.Image.{flat}

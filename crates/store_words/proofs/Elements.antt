@@ -1,14 +1,6 @@
 -- A list made of words, element by element: what stands at a place, and what one changed element comes to. Any width, any element.
 -- Assumes nothing.
-use mathlib.Core.Path.{_≡_, refl, sym, ap, _∙_}
-use mathlib.Core.Logic.{_≢_, _⊎_, inl, inr}
-use Prim.Native.Nat.{ℕ, zero, suc, _+_, _<_}
-use native.Mathlib.Nat.{le-of-suc-le-suc, not-suc-le-zero, suc-add, add-zero, add-suc, zero-add}
-use native.Mathlib.Omega.{arith}
-use mathlib.Core.List.{List}
-use lib.ListN.{length, getD, set, length-set}
-use lib.Seq.{ext-getD, getD-set-same, getD-set-other}
-use Rattle.basis.proofs.Cases.{eq-or-ne}
+use Rattle.basis.proofs.Std.{_≡_, refl, sym, ap, _∙_, _≢_, _⊎_, inl, inr, ℕ, zero, suc, _+_, _<_, le-of-suc-le-suc, not-suc-le-zero, suc-add, add-zero, add-suc, zero-add, arith, List, length, getD, set, length-set, ext-getD, getD-set-same, getD-set-other, eq-or-ne}
 use Rattle.store_words.specs.Words.{elements, listOf}
 
 module _ {A : Type 0} where

@@ -1,17 +1,6 @@
 -- Narrow numbers read back from the word that they were joined to.
 -- Assumes nothing.
-use mathlib.Core.Path.{_≡_, refl, ap, ap₂, subst, _∙_}
-use mathlib.Core.Logic.{_⊎_, inl, inr}
-use mathlib.Core.Bool.{Bool, true, false}
-use mathlib.Core.List.{List, [], _∷_, _++_}
-use Prim.Native.Nat.{ℕ, _+_, _-_, _%_, _^_, _<_, _≤_}
-use native.Mathlib.Nat.{mod-eq-of-lt}
-use native.Mathlib.Omega.{arith}
-use lib.Dec.{lit≤}
-use lib.ListN.{length, getD, take, drop, replicate, take-append-drop, length-drop, List·getD-eq-default}
-use lib.Seq.{length-take-le, take-all, getD-take, getD-drop}
-use Rattle.basis.proofs.Cases.{lt-or-ge}
-use Rattle.basis.specs.Pick.{bit}
+use Rattle.basis.proofs.Std.{_≡_, refl, ap, ap₂, subst, _∙_, _⊎_, inl, inr, Bool, true, false, List, [], _∷_, _++_, ℕ, _+_, _-_, _%_, _^_, _<_, _≤_, mod-eq-of-lt, arith, lit≤, length, getD, take, drop, replicate, take-append-drop, length-drop, List·getD-eq-default, length-take-le, take-all, getD-take, getD-drop, lt-or-ge, bit}
 use Rattle.bits.specs.Fields.{fieldOf, split, total, bytesOf, numberOf}
 use Rattle.bits.specs.Fields.Within.{none, next}
 use Rattle.bits.proofs.Fields.{split-joined}

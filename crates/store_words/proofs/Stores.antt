@@ -1,13 +1,6 @@
 -- Words after stores side by side, and which of them are as they were.
 -- Assumes nothing.
-use mathlib.Core.Path.{_≡_, refl, _∙_}
-use mathlib.Core.Logic.{_⊎_, inl, inr}
-use Prim.Native.Nat.{ℕ, suc, _+_, _-_, _<_, _≤_}
-use native.Mathlib.Omega.{arith}
-use mathlib.Core.List.{List, [], _∷_}
-use lib.ListN.{length, getD, set, length-set}
-use lib.Seq.{getD-set-same, getD-set-other}
-use Rattle.basis.proofs.Cases.{eq-or-ne}
+use Rattle.basis.proofs.Std.{_≡_, refl, _∙_, _⊎_, inl, inr, ℕ, suc, _+_, _-_, _<_, _≤_, arith, List, [], _∷_, length, getD, set, length-set, getD-set-same, getD-set-other, eq-or-ne}
 use Rattle.store_words.specs.Words.{word, stores, Stored}
 
 module _ (i : ℕ) where

@@ -1,14 +1,6 @@
 -- The search for the first place that passes: one turn of it, and what it finds.
 -- Assumes nothing.
-use mathlib.Core.Path.{_≡_, refl, ap, _∙_}
-use mathlib.Core.Bool.{Bool, true, false}
-use mathlib.Core.List.{List, [], _∷_}
-use Prim.Native.Nat.{ℕ, zero, suc, _+_, _-_, _≤_, _<_}
-use native.Mathlib.Nat.{not-suc-le-zero, le-of-suc-le-suc}
-use native.Mathlib.Numerals.{add-one}
-use native.Mathlib.Omega.{arith}
-use lib.ListN.{length, getD}
-use Rattle.basis.specs.Pick.{pick}
+use Rattle.basis.proofs.Std.{_≡_, refl, ap, _∙_, Bool, true, false, List, [], _∷_, ℕ, zero, suc, _+_, _-_, _≤_, _<_, not-suc-le-zero, le-of-suc-le-suc, add-one, arith, length, getD, pick}
 use Rattle.table_item.specs.declared.Found.{Found}
 use Rattle.table_item.specs.declared.Found.the-variants.{At, Nothing}
 use Rattle.table_item.specs.Find.{firstFrom}

@@ -1,15 +1,6 @@
 -- What a search from the first place on finds; every place is found as itself exactly when no two are called the same.
 -- Assumes nothing.
-use mathlib.Core.Path.{_≡_, refl, sym, subst}
-use mathlib.Core.Bool.{Bool, true, false, true≢false}
-use mathlib.Core.Logic.{⊎-elim}
-use Prim.Native.Nat.{ℕ, zero, suc, _+_, _≤_, _<_}
-use native.Mathlib.Nat.{le-antisymm}
-use native.Mathlib.Omega.{arith}
-use borrow.Author.Tests.{eqb-true, eq-eqb}
-use Rattle.basis.specs.Pick.{pick}
-use Rattle.basis.proofs.Cases.{bool-cases, lt-or-ge}
-use Rattle.basis.proofs.Both.{both-true, both-of, not-both}
+use Rattle.basis.proofs.Std.{_≡_, refl, sym, subst, Bool, true, false, true≢false, ⊎-elim, ℕ, zero, suc, _+_, _≤_, _<_, le-antisymm, arith, eqb-true, eq-eqb, pick, bool-cases, lt-or-ge, both-true, both-of, not-both}
 use Rattle.table_item.specs.declared.Found.{Found}
 use Rattle.table_item.specs.declared.Found.the-variants.{At, Nothing}
 use Rattle.table_item.specs.Find.{firstFrom, each, foundAt}

@@ -1,14 +1,7 @@
 -- What reading the head gives, case by case.
 -- Assumes nothing.
-use mathlib.Core.Path.{_≡_, subst, _∙_}
-use mathlib.Core.Bool.{true, false}
-use mathlib.Core.List.{List}
-use Prim.Native.Nat.{ℕ, _-_, _%_, _^_, _≤_, _<_}
-use native.Mathlib.Nat.{mod-eq-of-lt, lt-of-lt-of-le}
+use Rattle.basis.proofs.Std.{_≡_, subst, _∙_, true, false, List, ℕ, _%_, _^_, _≤_, _<_, mod-eq-of-lt, lt-of-lt-of-le, length, take, replicate, length-take-le, le-leb, lt-leb}
 use native.Mathlib.Bridge.{le-by-compare, IsLe}
-use lib.ListN.{length, take, replicate}
-use lib.Seq.{length-take-le}
-use borrow.Author.Tests.{le-leb, lt-leb}
 use Rattle.bits.specs.Fields.{fieldOf, numberOf, total}
 use Rattle.bits.proofs.Bytes.{number-lt}
 use Rattle.table_row.specs.Head.{goodFirst, goodSecond, noHead, counted, firstHead, secondHead, headOf}

@@ -1,12 +1,6 @@
 -- What reading a row at a place gives, case by case.
 -- Assumes nothing.
-use mathlib.Core.Path.{_≡_, ap, _∙_}
-use mathlib.Core.Bool.{true, false}
-use mathlib.Core.List.{List}
-use Prim.Native.Nat.{ℕ, _+_, _-_, _%_, _^_, _≤_, _<_}
-use native.Mathlib.Omega.{arith}
-use lib.ListN.{length, getD, take, drop, length-drop}
-use borrow.Author.Tests.{lt-ltb, le-ltb, lt-leb, le-leb}
+use Rattle.basis.proofs.Std.{_≡_, ap, _∙_, true, false, List, ℕ, _+_, _-_, _%_, _^_, _≤_, _<_, arith, length, getD, take, drop, length-drop, lt-ltb, le-ltb, lt-leb, le-leb}
 use Rattle.bits.specs.Fields.{numberOf}
 use Rattle.label.specs.Reading.{readAt}
 use Rattle.table_row.specs.declared.ItemRead.{ItemRead}

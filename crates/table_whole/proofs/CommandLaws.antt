@@ -1,18 +1,8 @@
 -- A command that is read stands there and is allowed; an allowed command that stands there is read.
 -- Assumes nothing.
-use mathlib.Core.Path.{_≡_, refl, sym, ap, subst, _∙_}
-use mathlib.Core.Bool.{true}
-use mathlib.Core.List.{List, [], _∷_, _++_}
-use mathlib.Core.Logic.{⊎-elim}
-use Prim.Native.Nat.{ℕ, _+_, _≤_, _<_}
-use native.Mathlib.Nat.{mod-lt}
-use native.Mathlib.Omega.{arith}
-use lib.IntN.{ℤ, pos}
-use lib.ListN.{length, getD, take, drop, take-append-drop, length-drop, length-append}
+use Rattle.basis.proofs.Std.{_≡_, refl, sym, ap, subst, _∙_, true, List, [], _∷_, _++_, ⊎-elim, ℕ, _+_, _≤_, _<_, mod-lt, arith, ℤ, pos, length, getD, take, drop, take-append-drop, length-drop, length-append, getD-drop, bool-cases, le-or-lt}
 use lib.Pow.{pow-pos}
-use lib.Seq.{getD-drop}
-use Rattle.basis.proofs.Cases.{bool-cases, le-or-lt}
-use Rattle.bits.specs.Fields.{fieldOf, joined, split, Within, bytesOf, numberOf}
+use Rattle.bits.specs.Fields.{fieldOf, joined, split, Within, bytesOf}
 use Rattle.bits.specs.Fields.Within.{none, next}
 use Rattle.number.specs.Signed.{word16Of, signed16Of, atMost}
 use Rattle.number.proofs.RoundTrip.{signed-word-16, word-lt-16, word-signed-16, signed-range-16}

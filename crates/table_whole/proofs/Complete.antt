@@ -1,13 +1,6 @@
 -- The bytes of every allowed table are read, and what is kept is that table. They are at most 4,702.
 -- Assumes nothing.
-use mathlib.Core.Path.{_≡_, ap, subst, _∙_}
-use mathlib.Core.Bool.{true}
-use mathlib.Core.List.{List, [], _∷_, _++_, map}
-use Prim.Native.Nat.{ℕ, _+_, _*_, _≤_, _<_}
-use native.Mathlib.Nat.{zero-add}
-use native.Mathlib.Omega.{arith}
-use lib.ListN.{length, take, length-append, length-map}
-use Rattle.basis.proofs.Both.{both-of}
+use Rattle.basis.proofs.Std.{_≡_, ap, subst, _∙_, true, List, [], _∷_, _++_, map, ℕ, _+_, _*_, _≤_, _<_, zero-add, arith, length, take, length-append, length-map, both-of}
 use Rattle.label.specs.declared.LabelRead.{LabelRead}
 use Rattle.label.specs.Padded.{padded}
 use Rattle.label.specs.Label.{string, labelOf, noLabel}

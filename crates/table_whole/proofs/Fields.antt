@@ -1,13 +1,6 @@
 -- Fields that fill whole bytes, read back, and bytes that are such fields.
 -- Assumes nothing.
-use mathlib.Core.Path.{_≡_, refl, sym, ap, subst, _∙_}
-use mathlib.Core.List.{List, [], _∷_}
-use Prim.Native.Nat.{ℕ, zero, suc, _^_, _≤_, _<_}
-use native.Mathlib.Nat.{div-eq-of-lt}
-use native.Mathlib.Omega.{arith}
-use lib.Dec.{lit<}
-use lib.ListN.{length, getD, take, replicate}
-use lib.Seq.{length-take-le}
+use Rattle.basis.proofs.Std.{_≡_, refl, sym, ap, subst, _∙_, List, [], _∷_, ℕ, zero, suc, _^_, _≤_, _<_, div-eq-of-lt, arith, lit<, length, getD, take, replicate, length-take-le}
 use Rattle.bits.specs.Fields.{total, joined, split, Within, bytesOf, numberOf}
 use Rattle.bits.specs.Fields.Within.{none, next}
 use Rattle.bits.proofs.Fields.{joined-split, split-joined, joined-lt}

@@ -1,15 +1,6 @@
 -- The head that is read stands there with its counts within their limits; such a head that stands there is read.
 -- Assumes nothing.
-use mathlib.Core.Path.{_≡_, refl, sym, ap, _∙_}
-use mathlib.Core.Bool.{true, false}
-use mathlib.Core.List.{List, [], _∷_, _++_}
-use Prim.Native.Nat.{ℕ, suc, _+_, _*_, _/_, _%_, _^_, _≤_, _<_}
-use native.Mathlib.Omega.{arith}
-use lib.Dec.{eqb, leb, lit<}
-use lib.ListN.{length, getD, take, drop, take-append-drop}
-use borrow.Author.Tests.{eqb-true, leb-true, eq-eqb, le-leb, ne-eqb}
-use Rattle.basis.specs.Pick.{pick}
-use Rattle.basis.proofs.Both.{both-true, both-of}
+use Rattle.basis.proofs.Std.{_≡_, refl, sym, ap, _∙_, true, false, List, [], _∷_, _++_, ℕ, _+_, _≤_, _<_, arith, eqb, leb, lit<, length, getD, take, drop, take-append-drop, eqb-true, leb-true, eq-eqb, le-leb, pick, both-true, both-of}
 use Rattle.bits.specs.Fields.{fieldOf, joined, split, Within, bytesOf, numberOf}
 use Rattle.bits.specs.Fields.Within.{none, next}
 use Rattle.label.proofs.Stands.{Stands}

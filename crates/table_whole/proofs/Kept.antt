@@ -1,17 +1,6 @@
 -- What is kept of a table says the table again; the tests on it say that nothing stands there twice.
 -- Assumes nothing.
-use mathlib.Core.Path.{_≡_, refl, sym, ap, ap₂, subst, _∙_}
-use mathlib.Core.Bool.{Bool, true}
-use mathlib.Core.List.{List, [], _∷_, _++_, map, append-assoc, append-nil}
-use Prim.Native.Nat.{ℕ, zero, suc, _+_, _-_, _≤_, _<_}
-use native.Mathlib.Omega.{arith}
-use lib.Dec.{eqb}
-use lib.ListN.{length, getD, take, replicate, length-append, length-map, length-replicate, replicate-append-replicate, List·getD-append, List·getD-map}
-use lib.Seq.{take-at}
-use borrow.Author.Tests.{eqb-true, eq-eqb}
-use Rattle.basis.specs.Lists.{sameBytes}
-use Rattle.basis.proofs.Same.{same-true, same-self}
-use Rattle.basis.proofs.Both.{both-true, both-of}
+use Rattle.basis.proofs.Std.{_≡_, refl, sym, ap, ap₂, subst, _∙_, Bool, true, List, [], _∷_, _++_, map, append-assoc, append-nil, ℕ, zero, suc, _+_, _-_, _≤_, _<_, arith, eqb, length, getD, take, replicate, length-append, length-map, length-replicate, replicate-append-replicate, List·getD-append, List·getD-map, take-at, eqb-true, eq-eqb, sameBytes, same-true, same-self, both-true, both-of}
 use Rattle.label.specs.Padded.{padded}
 use Rattle.label.specs.Label.{labelOf, noLabel, textOf}
 use Rattle.label.specs.declared.Label.{Label}

@@ -1,12 +1,6 @@
 -- Of an allowed table, what is looked up is the only one called so.
 -- Assumes nothing.
-use mathlib.Core.Path.{_≡_, sym, ap, _∙_}
-use mathlib.Core.Bool.{Bool, true, true≢false}
-use mathlib.Core.List.{List, []}
-use Prim.Native.Nat.{ℕ, _<_}
-use native.Mathlib.Omega.{arith}
-use lib.ListN.{length, getD}
-use Rattle.basis.proofs.Same.{same-true}
+use Rattle.basis.proofs.Std.{_≡_, sym, ap, _∙_, Bool, true, true≢false, List, [], ℕ, _<_, arith, length, getD, same-true}
 use Rattle.table_item.specs.declared.Found.{Found}
 use Rattle.table_item.specs.declared.Found.the-variants.{At, Nothing}
 use Rattle.table_item.specs.Item.{isItem}

@@ -1,9 +1,6 @@
 -- The lists of a table as things read in turn.
 -- Assumes nothing.
-use mathlib.Core.Path.{_≡_, refl, ap}
-use mathlib.Core.List.{List}
-use Prim.Native.Nat.{ℕ, zero, suc, _+_, _≤_, _<_}
-use lib.ListN.{length}
+use Rattle.basis.proofs.Std.{_≡_, refl, ap, List, ℕ, zero, suc, _+_, _≤_, _<_, length}
 use Rattle.label.specs.declared.Label.{Label}
 use Rattle.label.specs.declared.LabelRead.{LabelRead}
 use Rattle.label.specs.Label.{string, labelOf, noLabel}

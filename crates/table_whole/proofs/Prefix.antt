@@ -1,11 +1,6 @@
 -- The first byte of a row: its fields say the byte, and the byte its fields.
 -- Assumes nothing.
-use mathlib.Core.Path.{_≡_, refl, sym, ap, _∙_}
-use mathlib.Core.List.{List, [], _∷_}
-use Prim.Native.Nat.{ℕ, zero, suc, _<_}
-use native.Mathlib.Nat.{mod-lt}
-use lib.Dec.{lit<}
-use lib.ListN.{getD}
+use Rattle.basis.proofs.Std.{_≡_, refl, sym, ap, _∙_, List, [], _∷_, ℕ, zero, suc, _<_, mod-lt, lit<, getD}
 use lib.Pow.{pow-pos}
 use Rattle.bits.specs.Fields.{fieldOf, total, joined, split, Within, bytesOf}
 use Rattle.bits.specs.Fields.Within.{none, next}

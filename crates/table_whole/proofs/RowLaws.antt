@@ -1,20 +1,6 @@
 -- A row that is read stands there and is allowed; an allowed row that stands there is read.
 -- Assumes nothing.
-use mathlib.Core.Path.{_≡_, refl, sym, ap, ap₂, subst, _∙_}
-use mathlib.Core.Bool.{true}
-use mathlib.Core.List.{List, [], _∷_, _++_}
-use mathlib.Core.Logic.{⊎-elim}
-use Prim.Native.Nat.{ℕ, suc, _+_, _-_, _≤_, _<_}
-use native.Mathlib.Nat.{add-zero}
-use native.Mathlib.Omega.{arith}
-use lib.Dec.{eqb, leb}
-use lib.IntN.{pos}
-use lib.ListN.{length, getD, drop, length-drop, length-append}
-use lib.Seq.{drop-cons, getD-drop}
-use borrow.Author.Tests.{eqb-true, leb-true, ltb-true, eq-eqb, le-leb, lt-ltb}
-use Rattle.basis.specs.Pick.{both}
-use Rattle.basis.proofs.Cases.{bool-cases, le-or-lt}
-use Rattle.basis.proofs.Both.{both-true, both-of}
+use Rattle.basis.proofs.Std.{_≡_, refl, sym, ap, ap₂, subst, _∙_, true, List, [], _∷_, _++_, ⊎-elim, ℕ, suc, _+_, _-_, _≤_, _<_, add-zero, arith, eqb, leb, pos, length, getD, drop, length-drop, length-append, drop-cons, getD-drop, eqb-true, leb-true, ltb-true, eq-eqb, le-leb, lt-ltb, both, bool-cases, le-or-lt, both-true, both-of}
 use Rattle.bits.specs.Fields.{fieldOf}
 use Rattle.number.specs.Signed.{word16Of}
 use Rattle.label.specs.declared.LabelRead.{LabelRead}

@@ -1,10 +1,6 @@
 -- The smallest tables with a row of each kind are read: one component, one alarm, one status, and in edition 2 one command.
 -- Assumes nothing.
-use mathlib.Core.Path.{_≡_, refl}
-use mathlib.Core.List.{List, [], _∷_, _++_}
-use Prim.Native.Nat.{ℕ}
-use lib.IntN.{pos, negsuc}
-use Rattle.basis.specs.Text.{text}
+use Rattle.basis.proofs.Std.{_≡_, refl, List, [], _∷_, _++_, ℕ, pos, negsuc, text}
 use Rattle.label.specs.Reading.{readAt}
 use Rattle.table_item.specs.Item.{isItem}
 use Rattle.table_row.specs.Head.{goodCounts, goodFirst, goodSecond, firstHead, secondHead, headOf}

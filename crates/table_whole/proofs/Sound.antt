@@ -1,15 +1,6 @@
 -- What the reader accepts is the bytes of an allowed table, and what it keeps is that table.
 -- Assumes nothing.
-use mathlib.Core.Path.{_≡_, refl, sym, ap, subst, _∙_}
-use mathlib.Core.Bool.{true}
-use mathlib.Core.List.{List, [], _∷_, _++_, map}
-use mathlib.Core.Logic.{⊎-elim}
-use Prim.Native.Nat.{ℕ, _+_, _≤_, _<_}
-use native.Mathlib.Nat.{zero-add}
-use native.Mathlib.Omega.{arith}
-use lib.ListN.{length, getD, take, length-append, length-map}
-use Rattle.basis.proofs.Cases.{bool-cases, le-or-lt}
-use Rattle.basis.proofs.Both.{both-true}
+use Rattle.basis.proofs.Std.{_≡_, refl, sym, ap, subst, _∙_, true, List, [], _∷_, _++_, map, ⊎-elim, ℕ, _+_, _≤_, _<_, zero-add, arith, length, getD, take, length-append, length-map, bool-cases, le-or-lt, both-true}
 use Rattle.bits.specs.Fields.{numberOf}
 use Rattle.label.specs.declared.LabelRead.{LabelRead}
 use Rattle.label.specs.Label.{string, labelOf, noLabel}
@@ -22,7 +13,7 @@ use Rattle.table_row.specs.declared.Head.{Head}
 use Rattle.table_row.specs.declared.Kind.the-variants.{Alarm, Status, Command}
 use Rattle.table_row.specs.declared.LabelsRead.{LabelsRead}
 use Rattle.table_row.specs.declared.ItemsRead.{ItemsRead}
-use Rattle.table_row.specs.Head.{goodFirst, goodSecond, headOf, noHead, firstHead, secondHead}
+use Rattle.table_row.specs.Head.{goodFirst, goodSecond, headOf, noHead, firstHead}
 use Rattle.table_row.specs.Rows.{labelsTo, itemsTo}
 use Rattle.table_row.proofs.Heads.{first-short, first-bad, second-short, second-bad, head-second}
 use Rattle.table_whole.specs.declared.Laid.{Laid}

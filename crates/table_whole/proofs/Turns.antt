@@ -1,12 +1,6 @@
 -- Things read one behind the other into a place of n: what is read stands there, and what stands there is read.
 -- Assumes nothing.
-use mathlib.Core.Path.{_≡_, refl, sym, ap, ap₂, subst, _∙_}
-use mathlib.Core.List.{List, [], _∷_, _++_, map, map-append, append-assoc, append-nil}
-use Prim.Native.Nat.{ℕ, zero, suc, _+_, _-_, _≤_, _<_}
-use native.Mathlib.Nat.{sub-zero, add-zero}
-use native.Mathlib.Omega.{arith}
-use lib.ListN.{length, drop, set, replicate, length-append, length-map}
-use lib.Seq.{append-snoc}
+use Rattle.basis.proofs.Std.{_≡_, refl, sym, ap, ap₂, subst, _∙_, List, [], _∷_, _++_, map, map-append, append-assoc, append-nil, ℕ, zero, suc, _+_, _≤_, _<_, sub-zero, add-zero, arith, length, drop, set, replicate, length-append, length-map, append-snoc}
 use Rattle.label.specs.Padded.{padded}
 use Rattle.label.proofs.Padded.{set-padded}
 use Rattle.label.proofs.Stands.{Stands, first, second, joined}

@@ -1,16 +1,6 @@
 -- The reader accepts exactly the bytes of an allowed table and gives that table; equal tables exactly for equal bytes.
 -- Assumes nothing.
-use mathlib.Core.Path.{_≡_, refl, sym, ap, ap₂, subst, _∙_}
-use mathlib.Core.Bool.{Bool, true, false, true≢false}
-use mathlib.Core.List.{List, [], _∷_, map}
-use Prim.Native.Nat.{ℕ, _-_, _<_}
-use lib.Dec.{ltb, eqb, lit<}
-use lib.ListN.{length, getD, take, replicate, length-map}
-use lib.Seq.{take-at}
-use borrow.Author.Tests.{ltb-true, eqb-true, lt-ltb, eq-eqb}
-use Rattle.basis.specs.Pick.{pick, both}
-use Rattle.basis.proofs.Cases.{bool-cases}
-use Rattle.basis.proofs.Both.{both-true, both-of}
+use Rattle.basis.proofs.Std.{_≡_, refl, sym, ap, ap₂, subst, _∙_, Bool, true, false, true≢false, List, [], _∷_, map, ℕ, _-_, _<_, ltb, eqb, lit<, length, getD, take, replicate, length-map, take-at, ltb-true, eqb-true, lt-ltb, eq-eqb, pick, bool-cases, both-true, both-of}
 use Rattle.number.specs.Signed.{Signed16}
 use Rattle.number.proofs.RoundTrip.{signed-word-16}
 use Rattle.label.specs.Padded.{padded}

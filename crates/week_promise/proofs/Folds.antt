@@ -1,18 +1,6 @@
 -- The figures of raised values are those of the values.
 -- Assumes nothing.
-use mathlib.Core.Path.{_≡_, refl, sym, ap, _∙_}
-use mathlib.Core.Bool.{Bool, true, false}
-use mathlib.Core.Logic.{⊎-elim}
-use mathlib.Core.List.{List, [], _∷_, map}
-use Prim.Native.Nat.{ℕ, suc, _+_, _-_, _*_, _/_, _^_, _≤_, _<_}
-use native.Mathlib.Omega.{arith}
-use borrow.Author.Tests.{lt-ltb, le-ltb}
-use lib.Dec.{ltb}
-use lib.IntN.{ℤ, subℕ, _+ℤ_, +ℤ-idl, +ℤ-idr, +ℤ-assoc}
-use lib.ListN.{length, length-map}
-use Rattle.basis.specs.Pick.{pick, bit}
-use Rattle.basis.specs.Lists.{count}
-use Rattle.basis.proofs.Cases.{lt-or-ge}
+use Rattle.basis.proofs.Std.{_≡_, refl, sym, ap, _∙_, Bool, true, false, ⊎-elim, List, [], _∷_, map, ℕ, suc, _+_, _*_, _/_, _^_, _≤_, _<_, arith, lt-ltb, le-ltb, ltb, ℤ, subℕ, _+ℤ_, +ℤ-idl, +ℤ-idr, +ℤ-assoc, length, length-map, pick, bit, count, lt-or-ge}
 use Rattle.week_count.specs.declared.Figures.{Figures}
 use Rattle.week_count.specs.Figures.{figuresOf, noFigures, withValue}
 use Rattle.week_count.specs.Middle.{middleOf, hasRank as hasRankOf, firstSuch as firstOf, below as belowOf}

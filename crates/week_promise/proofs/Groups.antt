@@ -1,16 +1,6 @@
 -- One value or null more of the statuses that are kept is one entry more of their groups.
 -- Assumes nothing.
-use mathlib.Core.Path.{_≡_, refl, sym, ap, _∙_}
-use mathlib.Core.Bool.{Bool, true, false}
-use mathlib.Core.Logic.{⊎-elim}
-use mathlib.Core.List.{List, [], _∷_, _++_, append-nil, map}
-use Prim.Native.Nat.{ℕ, suc, _+_, _-_, _/_, _%_, _^_, _≤_, _<_}
-use native.Mathlib.Nat.{add-zero}
-use native.Mathlib.Omega.{arith}
-use borrow.Author.Tests.{lt-ltb, le-ltb, eq-eqb, ne-eqb}
-use lib.IntN.{ℤ}
-use lib.ListN.{length, getD, set}
-use Rattle.basis.proofs.Cases.{bool-cases, lt-or-ge}
+use Rattle.basis.proofs.Std.{_≡_, refl, sym, ap, _∙_, Bool, true, false, ⊎-elim, List, [], _∷_, _++_, append-nil, map, ℕ, suc, _+_, _-_, _/_, _%_, _^_, _≤_, _<_, add-zero, arith, lt-ltb, le-ltb, eq-eqb, ne-eqb, ℤ, length, getD, set, bool-cases, lt-or-ge}
 use Rattle.label.specs.Label.{textOf}
 use Rattle.week_entry.specs.declared.Entry.{Entry}
 use Rattle.week_count.specs.Values.{isOf, valueIn, valuesOf, raised, valueWord}

@@ -1,16 +1,7 @@
 -- Differences of two numbers: equal ones, sums, order, decimal text; and the value that a raised word stands for.
 -- Assumes nothing.
-use mathlib.Core.Path.{_≡_, sym, ap, _∙_}
-use mathlib.Core.Bool.{not}
-use mathlib.Core.Logic.{⊎-elim}
-use mathlib.Core.List.{_∷_, append-nil}
-use Prim.Native.Nat.{ℕ, suc, _+_, _-_, _^_, _≤_, _<_}
-use native.Mathlib.Omega.{arith}
-use borrow.Author.Tests.{lt-ltb, le-ltb, le-leb, lt-leb}
-use lib.Dec.{ltb}
-use lib.IntN.{ℤ, pos, negsuc, subℕ, _+ℤ_}
+use Rattle.basis.proofs.Std.{_≡_, sym, ap, _∙_, not, ⊎-elim, _∷_, append-nil, ℕ, suc, _+_, _-_, _^_, _≤_, _<_, arith, lt-ltb, le-ltb, le-leb, lt-leb, ltb, ℤ, pos, negsuc, subℕ, _+ℤ_, lt-or-ge}
 use lib.Signed.{ltZ}
-use Rattle.basis.proofs.Cases.{lt-or-ge}
 use Rattle.number.specs.Decimal.{decimalOf}
 use Rattle.number.specs.Signed.{signedOf}
 use Rattle.output.specs.Put.{concat}

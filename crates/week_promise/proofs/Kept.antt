@@ -1,15 +1,7 @@
 -- The claims about a stream's report are kept.
 -- Assumes nothing.
-use mathlib.Core.Path.{_≡_, refl, sym, ap, subst, _∙_}
-use mathlib.Core.Bool.{Bool, true, false}
-use mathlib.Core.List.{List, [], _++_}
-use Prim.Native.Nat.{ℕ, _^_, _≤_, _<_}
-use native.Mathlib.Omega.{arith}
-use lib.Dec.{leb}
-use lib.ListN.{length, getD, take}
+use Rattle.basis.proofs.Std.{_≡_, refl, sym, ap, subst, _∙_, Bool, true, false, List, [], ℕ, _^_, _≤_, _<_, arith, leb, length, getD, take, leb-true, le-leb, pick}
 use denote.Ref.{now}
-use borrow.Author.Tests.{leb-true, le-leb}
-use Rattle.basis.specs.Pick.{pick}
 use Rattle.output.specs.Put.{Wrote}
 use Rattle.output.proofs.Laws.{same-length, fits}
 use Rattle.week_tally.specs.Tally.{Tally}

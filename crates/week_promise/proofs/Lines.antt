@@ -1,14 +1,6 @@
 -- The pieces of a status are its line, and those of all statuses their lines.
 -- Assumes nothing.
-use mathlib.Core.Path.{_≡_, refl, sym, ap, _∙_}
-use mathlib.Core.List.{List, [], _∷_, _++_, append-assoc, append-nil, map}
-use Prim.Native.Nat.{ℕ, suc, _+_, _*_, _/_, _^_, _<_}
-use native.Mathlib.Nat.{add-zero, zero-add}
-use native.Mathlib.Omega.{arith}
-use borrow.Author.Tests.{ne-eqb}
-use lib.IntN.{ℤ, subℕ}
-use lib.ListN.{length, getD, length-map}
-use Rattle.basis.proofs.Cases.{bool-cases}
+use Rattle.basis.proofs.Std.{_≡_, refl, sym, ap, _∙_, List, [], _∷_, _++_, append-assoc, append-nil, map, ℕ, suc, _+_, _*_, _/_, _^_, _<_, add-zero, zero-add, arith, ne-eqb, ℤ, subℕ, length, getD, length-map, bool-cases}
 use Rattle.label.specs.Label.{textOf}
 use Rattle.number.specs.Decimal.{digits, decimalOf}
 use Rattle.output.specs.Put.{concat}

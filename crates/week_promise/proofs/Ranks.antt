@@ -1,19 +1,7 @@
 -- Only one number has a rank among values, and the middle has its rank.
 -- Assumes nothing.
-use mathlib.Core.Path.{_≡_, refl, sym, ap, subst, _∙_}
-use mathlib.Core.Bool.{Bool, true, false, not}
-use mathlib.Core.Logic.{_⊎_, ⊎-elim}
-use mathlib.Core.List.{List, [], _∷_, map}
-use Prim.Native.Nat.{ℕ, zero, suc, _+_, _-_, _/_, _%_, _^_, _≤_, _<_}
-use native.Mathlib.Omega.{arith}
-use borrow.Author.Tests.{lt-ltb, le-ltb, ltb-true, leb-true}
-use lib.Dec.{ltb, leb}
-use lib.IntN.{ℤ, pos, negsuc}
+use Rattle.basis.proofs.Std.{_≡_, refl, sym, ap, subst, _∙_, Bool, true, false, not, ⊎-elim, List, [], _∷_, map, ℕ, zero, suc, _+_, _/_, _%_, _^_, _≤_, _<_, arith, lt-ltb, le-ltb, ltb-true, leb-true, ltb, leb, ℤ, pos, negsuc, length, length-map, bit, lt-or-ge, le-or-lt, both-true, untrue}
 use lib.Signed.{ltZ}
-use lib.ListN.{length, length-map}
-use Rattle.basis.specs.Pick.{bit}
-use Rattle.basis.proofs.Cases.{lt-or-ge, le-or-lt}
-use Rattle.basis.proofs.Both.{both-true, untrue}
 use Rattle.week_count.specs.Values.{raised}
 use Rattle.week_count.specs.Middle.{middleOf, hasRank as hasRankOf, below as belowOf}
 use Rattle.week_count.proofs.Ranks.{Ranked, middle-is, ranked-is}

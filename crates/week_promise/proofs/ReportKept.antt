@@ -1,12 +1,6 @@
 -- The claims hold.
 -- Assumes nothing.
-use mathlib.Core.Path.{_≡_, refl, sym, ap, _∙_}
-use mathlib.Core.Bool.{true, false}
-use mathlib.Core.List.{List, [], _∷_, _++_}
-use Prim.Native.Nat.{ℕ, _+_, _-_, _^_, _<_}
-use native.Mathlib.Omega.{arith}
-use lib.ListN.{length}
-use Rattle.basis.proofs.Cases.{bool-cases}
+use Rattle.basis.proofs.Std.{_≡_, refl, sym, ap, _∙_, true, false, List, [], _∷_, _++_, ℕ, _+_, _^_, _<_, arith, length, bool-cases}
 use Rattle.output.specs.Put.{concat}
 use Rattle.output.proofs.Laws.{sent}
 use Rattle.week_entry.specs.declared.Entry.{Entry}

@@ -1,17 +1,6 @@
 -- How long a report can be.
 -- Assumes nothing.
-use mathlib.Core.Path.{_≡_, ap, _∙_}
-use mathlib.Core.Bool.{Bool, true, false}
-use mathlib.Core.Logic.{⊎-elim}
-use mathlib.Core.List.{List, [], _∷_, _++_, append-nil}
-use Prim.Native.Nat.{ℕ, zero, suc, _+_, _-_, _*_, _/_, _^_, _≤_, _<_}
-use native.Mathlib.Omega.{arith}
-use borrow.Author.Tests.{le-leb, lt-leb, eq-eqb, ne-eqb}
-use lib.Dec.{ltb}
-use lib.ListN.{length, getD, drop, length-append, length-take}
-use lib.Seq.{getD-take, getD-drop}
-use Rattle.basis.specs.Pick.{pick}
-use Rattle.basis.proofs.Cases.{bool-cases, lt-or-ge, eq-or-ne}
+use Rattle.basis.proofs.Std.{_≡_, ap, _∙_, Bool, true, false, ⊎-elim, List, [], _∷_, _++_, append-nil, ℕ, zero, suc, _+_, _-_, _*_, _/_, _^_, _≤_, _<_, arith, le-leb, lt-leb, eq-eqb, ne-eqb, ltb, length, getD, drop, length-append, length-take, getD-take, getD-drop, pick, bool-cases, lt-or-ge, eq-or-ne}
 use Rattle.label.specs.Label.{textOf}
 use Rattle.number.specs.Decimal.{digits}
 use Rattle.number.proofs.Digits.{digits-length}

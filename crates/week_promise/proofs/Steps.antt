@@ -1,18 +1,6 @@
 -- What is kept tells the tally of the entries, entry by entry, until it does not fit.
 -- Assumes nothing.
-use mathlib.Core.Path.{_≡_, refl, sym, ap, _∙_}
-use mathlib.Core.Bool.{Bool, true, false}
-use mathlib.Core.Logic.{⊎-elim}
-use mathlib.Core.List.{List, [], _∷_, _++_}
-use Prim.Native.Nat.{ℕ, suc, _+_, _-_, _^_, _≤_, _<_}
-use native.Mathlib.Nat.{zero-add}
-use native.Mathlib.Omega.{arith}
-use borrow.Author.Tests.{le-leb, lt-leb, lt-ltb, le-ltb}
-use lib.Dec.{leb}
-use lib.ListN.{length, length-append, length-set}
-use Rattle.basis.specs.Pick.{pick, bit}
-use Rattle.basis.proofs.Cases.{bool-cases, lt-or-ge, le-or-lt}
-use Rattle.basis.proofs.Both.{both-no, not-both}
+use Rattle.basis.proofs.Std.{_≡_, refl, sym, ap, _∙_, Bool, true, false, ⊎-elim, List, [], _∷_, _++_, ℕ, suc, _+_, _-_, _^_, _≤_, _<_, zero-add, arith, le-leb, lt-leb, lt-ltb, le-ltb, leb, length, length-append, length-set, pick, bit, bool-cases, lt-or-ge, le-or-lt, both-no, not-both}
 use Rattle.label.specs.Label.{textOf}
 use Rattle.week_entry.specs.declared.Entry.{Entry}
 use Rattle.week_count.specs.Values.{valuesOf, valueWord}

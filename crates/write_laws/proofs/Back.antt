@@ -1,17 +1,6 @@
 -- The fields of a well-formed message are read back from its listing.
 -- Assumes nothing.
-use Prim.Native.Nat.{ℕ, zero, suc, _-_, _≤_, _<_, min}
-use native.Mathlib.Omega.{arith}
-use mathlib.Core.Path.{_≡_, refl, ap, ap₂, _∙_}
-use mathlib.Core.Bool.{Bool, true, false}
-use mathlib.Core.List.{List, [], _∷_}
-use lib.Dec.{eqb, eqb→eq}
-use lib.IntN.{ℤ, pos, negsuc}
-use lib.ListN.{getD, replicate}
-use borrow.Author.Tests.{ne-eqb}
-use Rattle.basis.specs.Pick.{pick}
-use Rattle.basis.specs.Text.{text}
-use Rattle.basis.specs.Lists.{sameBytes}
+use Rattle.basis.proofs.Std.{ℕ, zero, suc, _-_, _≤_, _<_, min, arith, _≡_, refl, ap, ap₂, _∙_, Bool, true, false, List, [], _∷_, eqb, eqb→eq, ℤ, pos, negsuc, getD, replicate, ne-eqb, pick, text, sameBytes}
 use Rattle.basis.proofs.Table.{at}
 use Rattle.calendar.specs.Text.{lastTime, timeText}
 use Rattle.calendar.specs.Read.{readTime}

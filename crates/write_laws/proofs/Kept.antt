@@ -1,9 +1,6 @@
 -- The claims are kept.
 -- Assumes nothing.
-use mathlib.Core.Path.{_≡_, sym, ap, subst, _∙_}
-use mathlib.Core.Bool.{true}
-use mathlib.Core.List.{List, []}
-use Prim.Native.Nat.{ℕ}
+use Rattle.basis.proofs.Std.{_≡_, sym, ap, subst, _∙_, true, List, [], ℕ}
 use Rattle.json_value.specs.Grammar.{Json, Members, Value}
 use Rattle.json_value.specs.Grammar.Ws.{none as no-space}
 use Rattle.json_value.specs.Means.{depth}

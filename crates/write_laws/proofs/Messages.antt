@@ -1,14 +1,6 @@
 -- The listing of a well-formed message is plain: no numbers, strings that stand for themselves, few levels.
 -- Assumes nothing.
-use Prim.Native.Nat.{ℕ, suc}
-use Prim.Native.String.{String}
-use mathlib.Core.Path.{_≡_, refl}
-use mathlib.Core.Bool.{Bool, true}
-use mathlib.Core.List.{List}
-use lib.Dec.{eqb}
-use Rattle.basis.specs.Pick.{pick}
-use Rattle.basis.specs.Text.{text}
-use Rattle.basis.proofs.Cases.{picked}
+use Rattle.basis.proofs.Std.{ℕ, suc, String, _≡_, refl, Bool, true, List, eqb, pick, text, picked}
 use Rattle.number.specs.Alphabet.{allInAlphabet}
 use Rattle.json_value.specs.Grammar.{Json}
 use Rattle.json_value.specs.Grammar.Jsons.{jcons}

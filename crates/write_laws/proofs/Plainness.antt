@@ -1,18 +1,6 @@
 -- Which texts stand for themselves in a string.
 -- Assumes nothing.
-use Prim.Native.Nat.{ℕ, zero, suc, _+_, _/_, _%_, _≤_, _<_, min}
-use native.Mathlib.Omega.{arith}
-use mathlib.Core.Path.{_≡_, refl, sym, subst}
-use mathlib.Core.Bool.{Bool, true}
-use mathlib.Core.Logic.{⊎-elim}
-use mathlib.Core.List.{List, [], _∷_, _++_}
-use lib.Dec.{T, leb}
-use lib.ListN.{length, getD}
-use borrow.Author.Tests.{lt-ltb, le-ltb, leb-true, eqb-false}
-use Rattle.basis.specs.Pick.{both}
-use Rattle.basis.specs.Text.{text}
-use Rattle.basis.proofs.Cases.{lt-or-ge}
-use Rattle.basis.proofs.Both.{both-true}
+use Rattle.basis.proofs.Std.{ℕ, zero, suc, _+_, _/_, _%_, _≤_, _<_, min, arith, _≡_, refl, sym, subst, Bool, true, ⊎-elim, List, [], _∷_, _++_, leb, length, getD, lt-ltb, le-ltb, leb-true, eqb-false, both, text, lt-or-ge, both-true}
 use Rattle.calendar.specs.Civil.{dateOf}
 use Rattle.calendar.specs.Text.{lastTime, decimals, dateText, clockText, secondText, milliText, timeText}
 use Rattle.identity.specs.Hex.{hexDigit, lowerHex, lowered}

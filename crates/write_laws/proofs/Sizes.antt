@@ -1,19 +1,6 @@
 -- The length of a text, counted on its JSON, and of a well-formed message's bytes.
 -- Assumes nothing.
-use Prim.Native.Nat.{ℕ, suc, _+_, _-_, _*_, _/_, _%_, _≤_, min}
-use native.Mathlib.Omega.{arith}
-use mathlib.Core.Path.{_≡_, sym, ap, _∙_}
-use mathlib.Core.Bool.{Bool, true, false}
-use mathlib.Core.List.{List, [], _∷_, _++_}
-use lib.Dec.{leb, leb→le, eqb}
-use lib.IntN.{ℤ, pos, negsuc}
-use lib.ListN.{length, length-append, length-map}
-use borrow.Author.Tests.{leb-true}
-use Rattle.basis.specs.Pick.{pick}
-use Rattle.basis.specs.Text.{text}
-use Rattle.basis.proofs.Cases.{picked}
-use Rattle.basis.proofs.Table.{at}
-use Rattle.basis.proofs.Both.{both-true}
+use Rattle.basis.proofs.Std.{ℕ, suc, _+_, _/_, _%_, _≤_, min, arith, _≡_, sym, ap, _∙_, Bool, true, false, List, [], _∷_, _++_, leb, leb→le, eqb, ℤ, pos, negsuc, length, length-append, length-map, leb-true, pick, text, picked, both-true}
 use Rattle.calendar.specs.Text.{lastTime}
 use Rattle.calendar.proofs.Reading.{time-length}
 use Rattle.identity.specs.Hex.{lowerHex}

@@ -1,6 +1,6 @@
 -- The claims of specs/Spelled, computed.
 -- Assumes nothing.
-use mathlib.Core.Path.{refl}
+use Rattle.basis.proofs.Std.{refl}
 use Rattle.identity.specs.Hex.{hexDigit}
 use Rattle.identity.specs.Text.{identityText}
 use Rattle.number.specs.Decimal.{digitsBelow, digits, decimalOf}

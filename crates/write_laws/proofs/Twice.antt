@@ -1,8 +1,6 @@
 -- No name stands twice in the listing of a message.
 -- Assumes nothing.
-use mathlib.Core.Path.{_≡_, refl}
-use mathlib.Core.Bool.{true}
-use mathlib.Core.List.{List, [], _∷_}
+use Rattle.basis.proofs.Std.{_≡_, refl, true, List, [], _∷_}
 use Rattle.json_packet.specs.Names.{noTwice, allOnce, once}
 use Rattle.write_message.specs.declared.Value.{Value}
 use Rattle.write_message.specs.declared.Value.the-variants.{Recent, Old, Unknown, Undefined}

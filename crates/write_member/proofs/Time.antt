@@ -1,9 +1,6 @@
 -- A time that has a text is put as one piece.
 -- Assumes nothing.
-use mathlib.Core.Path.{_∙_}
-use mathlib.Core.List.{List, [], _∷_}
-use Prim.Native.Nat.{ℕ, _≤_}
-use borrow.Author.Tests.{le-leb}
+use Rattle.basis.proofs.Std.{_∙_, List, [], _∷_, ℕ, _≤_, le-leb}
 use Rattle.output.specs.Put.{Wrote}
 use Rattle.calendar.specs.Text.{lastTime, timeText}
 use Rattle.calendar.specs.Put.{WroteTime, putTime}

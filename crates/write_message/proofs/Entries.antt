@@ -1,13 +1,6 @@
 -- Entries one by one.
 -- Assumes nothing.
-use Prim.Native.Nat.{suc}
-use native.Mathlib.Omega.{arith}
-use mathlib.Core.Path.{_≡_, sym, ap, _∙_}
-use mathlib.Core.Bool.{true, false}
-use mathlib.Core.List.{List, [], _∷_, _++_, append-assoc, append-nil}
-use lib.Dec.{eqb}
-use lib.ListN.{length}
-use borrow.Author.Tests.{ne-eqb}
+use Rattle.basis.proofs.Std.{suc, arith, _≡_, sym, ap, _∙_, true, false, List, [], _∷_, _++_, append-assoc, append-nil, eqb, length, ne-eqb}
 use Rattle.write_message.specs.declared.Told.{Told}
 use Rattle.write_message.specs.Message.{Status}
 use Rattle.write_message.specs.Pieces.{entryPieces, entriesPieces}

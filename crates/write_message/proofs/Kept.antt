@@ -1,6 +1,6 @@
 -- The claims are kept.
 -- Assumes nothing.
-use mathlib.Core.Path.{refl}
+use Rattle.basis.proofs.Std.{refl}
 use Rattle.write_message.specs.Claims.{Claims}
 use Rattle.write_message.specs.Pieces.{entriesPieces, pieces}
 use Rattle.write_message.proofs.Whole.{whole}

@@ -1,9 +1,6 @@
 -- What is behind a text stays behind it.
 -- Assumes nothing.
-use Prim.Native.Nat.{ℕ}
-use mathlib.Core.Path.{_≡_, refl, ap, _∙_}
-use mathlib.Core.Bool.{true, false}
-use mathlib.Core.List.{List, [], _∷_, _++_, append-assoc}
+use Rattle.basis.proofs.Std.{ℕ, _≡_, refl, ap, _∙_, true, false, List, [], _∷_, _++_, append-assoc}
 use Rattle.json_value.specs.Grammar.{Json, Jsons, Members}
 use Rattle.json_value.specs.Grammar.Json.{null, bool, num, str, arr, obj}
 use Rattle.json_value.specs.Grammar.Jsons.{jnil, jcons}

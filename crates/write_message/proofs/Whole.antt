@@ -1,11 +1,6 @@
 -- The pieces of a message are, together, its bytes.
 -- Assumes nothing.
-use Prim.Native.Nat.{ℕ}
-use mathlib.Core.Path.{_≡_, refl, ap, _∙_}
-use mathlib.Core.Bool.{Bool, true, false}
-use mathlib.Core.List.{List, [], _∷_, _++_, append-assoc}
-use Rattle.basis.specs.Pick.{pick}
-use Rattle.basis.specs.Text.{text}
+use Rattle.basis.proofs.Std.{ℕ, _≡_, refl, ap, _∙_, Bool, true, false, List, [], _∷_, _++_, append-assoc, pick, text}
 use Rattle.output.specs.Put.{concat}
 use Rattle.json_value.specs.Grammar.Json.{bool}
 use Rattle.json_value.specs.Grammar.Jsons.{jcons}

@@ -1,6 +1,5 @@
 use Rattle.awaited.specs.Slot.{awaitsFor, sameIdentity}
-use Rattle.basis.proofs.Tests.{tests}
-use borrow.Author.Needs.{needs}
+use Rattle.basis.proofs.Std.{tests, needs}
 use Rattle.awaited.proofs.answers_to.Statement.{statement}
 use Rattle.awaited.proofs.answers_to.Tie as tie
 

@@ -1,8 +1,4 @@
-use Prim.Native.Nat.{_≤_, _-_}
-use mathlib.Core.Path.{_≡_}
-use native.Mathlib.Omega.{arith}
-use borrow.Author.Needs.{needs}
-use lib.ListN.{length, drop}
+use Rattle.basis.proofs.Std.{_≤_, _≡_, arith, needs, length, drop}
 use Rattle.awaited.specs.Lists.{some}
 use Rattle.awaited.specs.Slot.{isLate}
 use Rattle.awaited.proofs.Back.{some-end, some-back}

@@ -1,9 +1,4 @@
-use Prim.Native.Nat.{_≤_, _-_}
-use mathlib.Core.Path.{_≡_, _∙_}
-use native.Mathlib.Omega.{arith}
-use borrow.Author.Needs.{needs}
-use lib.ListN.{length, drop, length-drop}
-use Rattle.basis.specs.Lists.{count}
+use Rattle.basis.proofs.Std.{_≤_, _≡_, _∙_, arith, needs, length, drop, length-drop, count}
 use Rattle.awaited.specs.Slot.{isTaken}
 use Rattle.awaited.proofs.Back.{count-end, count-back, count-le-length}
 use Rattle.awaited.proofs.count_taken.Statement.{statement}

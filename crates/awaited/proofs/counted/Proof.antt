@@ -1,7 +1,5 @@
-use native.Mathlib.Omega.{arith}
-use borrow.Author.Tests.{eq-eqb, ne-eqb}
+use Rattle.basis.proofs.Std.{arith, eq-eqb, ne-eqb, needs}
 use Rattle.awaited.specs.Slot.{isTaken}
-use borrow.Author.Needs.{needs}
 use Rattle.awaited.proofs.counted.Statement.{statement}
 use Rattle.awaited.proofs.counted.Tie as tie
 

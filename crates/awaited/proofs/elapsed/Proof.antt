@@ -1,7 +1,4 @@
-use Prim.Native.Nat.{_+_, _-_}
-use mathlib.Core.Path.{sym}
-use native.Mathlib.Omega.{arith}
-use borrow.Author.Tests.{lt-leb}
+use Rattle.basis.proofs.Std.{_+_, sym, arith, lt-leb}
 use Rattle.awaited.proofs.Span.{after}
 use Rattle.awaited.proofs.elapsed.Statement.{statement}
 use Rattle.awaited.proofs.elapsed.Tie as tie

@@ -1,6 +1,5 @@
-use borrow.Author.Tests.{eq-eqb, ne-eqb}
+use Rattle.basis.proofs.Std.{eq-eqb, ne-eqb, needs}
 use Rattle.awaited.specs.Slot.{isLate}
-use borrow.Author.Needs.{needs}
 use Rattle.awaited.proofs.is_late.Statement.{statement}
 use Rattle.awaited.proofs.is_late.Tie as tie
 

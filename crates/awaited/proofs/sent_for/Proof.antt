@@ -1,5 +1,5 @@
 use Rattle.awaited.specs.Slot.{purposeOf}
-use Rattle.basis.proofs.Tests.{tests}
+use Rattle.basis.proofs.Std.{tests}
 use Rattle.awaited.proofs.sent_for.Statement.{statement}
 use Rattle.awaited.proofs.sent_for.Tie as tie
 

@@ -1,4 +1,4 @@
-use borrow.Author.Needs.{needs}
+use Rattle.basis.proofs.Std.{needs}
 use Rattle.awaited.proofs.taken_by.Statement.{statement}
 use Rattle.awaited.proofs.taken_by.Tie as tie
 

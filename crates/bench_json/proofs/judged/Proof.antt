@@ -1,10 +1,6 @@
 use borrow.Author.Needs.{needs}
 use Rattle.bench_json.proofs.judged.Statement.{statement}
 use Rattle.bench_json.proofs.judged.Tie as tie
-use Rattle.bench_json.proofs.judged.Reads as reads
-use Rattle.bench_json.proofs.judged.Lts as lts
-use Rattle.bench_json.proofs.one_more.Reads as one-more-reads
-use Rattle.json_packet.proofs.is_packet.Reads as is-packet-reads
 
 abbrev Inv-loop : tie.InvT-loop
 Inv-loop s often accepted₀ left₀ accepted left = Unit {0}

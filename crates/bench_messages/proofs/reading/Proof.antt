@@ -1,10 +1,6 @@
 use borrow.Author.Needs.{needs}
 use Rattle.bench_messages.proofs.reading.Statement.{statement}
 use Rattle.bench_messages.proofs.reading.Tie as tie
-use Rattle.bench_messages.proofs.reading.Reads as reads
-use Rattle.bench_messages.proofs.reading.Lts as lts
-use Rattle.bench_messages.proofs.read_once.Reads as read-once-reads
-use Rattle.bench_messages.proofs.sum.Reads as sum-reads
 
 abbrev Inv-loop : tie.InvT-loop
 Inv-loop s often total₀ left₀ total left = Unit {0}

@@ -3,10 +3,6 @@ use mathlib.Core.Path.{_≡_}
 use borrow.Author.Needs.{needs}
 use Rattle.bench_messages.proofs.writing.Statement.{statement}
 use Rattle.bench_messages.proofs.writing.Tie as tie
-use Rattle.bench_messages.proofs.writing.Reads as reads
-use Rattle.bench_messages.proofs.writing.Lts as lts
-use Rattle.bench_messages.proofs.sum.Reads as sum-reads
-use Rattle.bench_messages.proofs.write_once.Reads as write-once-reads
 
 abbrev Inv-loop : tie.InvT-loop
 Inv-loop out₀ message often total₀ left₀ out total left = length out ≡ length out₀

@@ -3,8 +3,6 @@ use Rattle.bits.proofs.Operators.{shr-all}
 use borrow.Author.Needs.{needs}
 use Rattle.bits.proofs.high.Statement.{statement}
 use Rattle.bits.proofs.high.Tie as tie
-use Rattle.bits.proofs.high.Reads as reads
-use Rattle.bits.proofs.high.Lts as lts
 
 returns-2 : tie.Need-returns-2
 returns-2 c = sym (shr-all (c .before .args .word) (c .before .args .shift) (search needs) (c .if1 .left))

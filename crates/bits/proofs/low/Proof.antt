@@ -4,8 +4,6 @@ use Rattle.bits.proofs.Operators.{one-shl, mask, wider}
 use borrow.Author.Needs.{needs}
 use Rattle.bits.proofs.low.Statement.{statement}
 use Rattle.bits.proofs.low.Tie as tie
-use Rattle.bits.proofs.low.Reads as reads
-use Rattle.bits.proofs.low.Lts as lts
 
 sub-result : tie.Need-sub-result
 sub-result c = rw (one-shl _ (c .if1 .taken)) (pow-pos (c .before .args .width))

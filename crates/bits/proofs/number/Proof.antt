@@ -8,10 +8,6 @@ use Rattle.bits.specs.Fields.{joined, pushed}
 use Rattle.bits.proofs.Bytes.{one-more, carry}
 use Rattle.bits.proofs.number.Statement.{statement}
 use Rattle.bits.proofs.number.Tie as tie
-use Rattle.bits.proofs.number.Reads as reads
-use Rattle.bits.proofs.number.Lts as lts
-use Rattle.bits.proofs.push.Reads as push-reads
-use Rattle.bits.proofs.wide.Reads as wide-reads
 
 abbrev Inv-loop : tie.InvT-loop
 Inv-loop s n₀ i₀ n i = (i ≤ length s) × (n ≡ joined 0 (replicate i 8) (take i s) % 2 ^ 64)

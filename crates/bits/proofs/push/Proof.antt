@@ -3,9 +3,6 @@ use Rattle.bits.proofs.Operators.{push, push-all}
 use borrow.Author.Needs.{needs}
 use Rattle.bits.proofs.push.Statement.{statement}
 use Rattle.bits.proofs.push.Tie as tie
-use Rattle.bits.proofs.push.Reads as reads
-use Rattle.bits.proofs.push.Lts as lts
-use Rattle.bits.proofs.low.Reads as low-reads
 
 returns : tie.Need-returns
 returns c = rw (c .before .low .ensures) (push _ _ _ (c .if1 .taken))

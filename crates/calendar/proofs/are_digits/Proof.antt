@@ -1,10 +1,5 @@
 use Rattle.calendar.proofs.Rest.{turn, all-read, not-taken, not-left}
-use mathlib.Core.Path.{_≡_, refl, sym, ap, _∙_}
-use mathlib.Core.Bool.{Bool, true, false}
-use Prim.Native.Nat.{_+_, _-_, _≤_}
-use lib.ListN.{length, drop, getD}
-use borrow.Author.Needs.{needs}
-use Rattle.basis.specs.Pick.{both}
+use Rattle.basis.proofs.Std.{_≡_, refl, sym, ap, _∙_, Bool, true, false, _+_, _-_, _≤_, length, drop, getD, needs, both}
 use Rattle.calendar.specs.Read.{isDigit, areDigits}
 use Rattle.calendar.proofs.are_digits.Statement.{statement}
 use Rattle.calendar.proofs.are_digits.Tie as tie

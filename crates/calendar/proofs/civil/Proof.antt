@@ -1,5 +1,5 @@
 use Rattle.calendar.proofs.Counted.{date-is}
-use borrow.Author.Needs.{needs}
+use Rattle.basis.proofs.Std.{needs}
 use Rattle.calendar.proofs.civil.Statement.{statement}
 use Rattle.calendar.proofs.civil.Tie as tie
 

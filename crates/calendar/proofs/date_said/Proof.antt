@@ -1,6 +1,4 @@
-use mathlib.Core.Path.{ap₂}
-use Prim.Native.Nat.{ℕ, _+_, _*_, _-_}
-use borrow.Author.Needs.{needs}
+use Rattle.basis.proofs.Std.{ap₂, ℕ, _+_, _*_, needs}
 use Rattle.calendar.proofs.date_said.Statement.{statement}
 use Rattle.calendar.proofs.date_said.Tie as tie
 

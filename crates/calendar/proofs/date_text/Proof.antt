@@ -1,5 +1,5 @@
 use Rattle.output.specs.Put.{put}
-use borrow.Author.Needs.{needs}
+use Rattle.basis.proofs.Std.{needs}
 use Rattle.calendar.proofs.date_text.Statement.{statement}
 use Rattle.calendar.proofs.date_text.Tie as tie
 

@@ -1,8 +1,6 @@
 use Rattle.calendar.specs.Days.{dayOf}
 use Rattle.calendar.proofs.Months.{month-below}
-use native.Mathlib.Omega.{arith}
-use Prim.Native.Nat.{_-_}
-use borrow.Author.Needs.{needs}
+use Rattle.basis.proofs.Std.{arith, needs}
 use Rattle.calendar.proofs.day_of.Statement.{statement}
 use Rattle.calendar.proofs.day_of.Tie as tie
 

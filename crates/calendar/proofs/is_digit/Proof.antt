@@ -1,4 +1,4 @@
-use Rattle.basis.proofs.Tests.{tests}
+use Rattle.basis.proofs.Std.{tests}
 use Rattle.calendar.proofs.is_digit.Statement.{statement}
 use Rattle.calendar.proofs.is_digit.Tie as tie
 

@@ -1,4 +1,4 @@
-use Rattle.basis.proofs.Tests.{tests}
+use Rattle.basis.proofs.Std.{tests}
 use Rattle.calendar.specs.Days.{leapOf}
 use Rattle.calendar.proofs.leap.Statement.{statement}
 use Rattle.calendar.proofs.leap.Tie as tie

@@ -1,6 +1,5 @@
-use mathlib.Core.Path.{refl}
+use Rattle.basis.proofs.Std.{refl, needs}
 use Rattle.calendar.proofs.Months.{from-january, after-february}
-use borrow.Author.Needs.{needs}
 use Rattle.calendar.proofs.month_of.Statement.{statement}
 use Rattle.calendar.proofs.month_of.Tie as tie
 

@@ -1,6 +1,5 @@
-use native.Mathlib.Omega.{arith}
+use Rattle.basis.proofs.Std.{arith, needs}
 use Rattle.calendar.proofs.Months.{first, march-start}
-use borrow.Author.Needs.{needs}
 use Rattle.calendar.proofs.month_start.Statement.{statement}
 use Rattle.calendar.proofs.month_start.Tie as tie
 

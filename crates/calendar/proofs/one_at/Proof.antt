@@ -1,8 +1,4 @@
-use mathlib.Core.Path.{refl, sym, ap}
-use Prim.Native.Nat.{ℕ, _-_}
-use native.Mathlib.Omega.{arith}
-use lib.ListN.{List·getD-eq-default}
-use borrow.Author.Needs.{needs}
+use Rattle.basis.proofs.Std.{refl, sym, ap, ℕ, _-_, arith, List·getD-eq-default, needs}
 use Rattle.calendar.proofs.one_at.Statement.{statement}
 use Rattle.calendar.proofs.one_at.Tie as tie
 

@@ -1,9 +1,4 @@
-use mathlib.Core.Path.{_≡_, refl, sym, ap, _∙_}
-use Prim.Native.Nat.{ℕ, suc, _+_, _-_, _≤_}
-use native.Mathlib.Omega.{arith}
-use borrow.Author.Needs.{needs}
-use native.Mathlib.Numerals.{add-one}
-use lib.ListN.{length, length-set}
+use Rattle.basis.proofs.Std.{_≡_, refl, sym, ap, _∙_, ℕ, suc, _+_, _-_, _≤_, arith, needs, add-one, length, length-set}
 use Rattle.output.specs.Put.{put}
 use Rattle.output.proofs.Put.{put-nothing}
 use Rattle.calendar.specs.Text.{decimals}

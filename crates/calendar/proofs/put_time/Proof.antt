@@ -1,5 +1,5 @@
 use Rattle.calendar.proofs.Writing.{wrote, too-late}
-use borrow.Author.Needs.{needs}
+use Rattle.basis.proofs.Std.{needs}
 use Rattle.calendar.proofs.put_time.Statement.{statement}
 use Rattle.calendar.proofs.put_time.Tie as tie
 

@@ -1,10 +1,6 @@
-use Rattle.basis.proofs.Tests.{tests}
+use Rattle.basis.proofs.Std.{tests, sym, ap, _∙_, ℕ, length, needs}
 use Rattle.calendar.proofs.Rest.{decimals-read, decimals-refused}
-use mathlib.Core.Path.{sym, ap, _∙_}
-use Prim.Native.Nat.{ℕ}
-use lib.ListN.{length}
 use Rattle.calendar.specs.declared.Time.the-variants.{Is}
-use borrow.Author.Needs.{needs}
 use Rattle.calendar.specs.Read.{readDecimals}
 use Rattle.calendar.proofs.read_decimals.Statement.{statement}
 use Rattle.calendar.proofs.read_decimals.Tie as tie

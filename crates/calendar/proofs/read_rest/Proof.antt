@@ -1,5 +1,4 @@
-use Rattle.basis.proofs.Tests.{tests}
-use borrow.Author.Needs.{needs}
+use Rattle.basis.proofs.Std.{tests, needs}
 use Rattle.calendar.specs.Read.{readRest}
 use Rattle.calendar.proofs.read_rest.Statement.{statement}
 use Rattle.calendar.proofs.read_rest.Tie as tie

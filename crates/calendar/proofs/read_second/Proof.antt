@@ -1,10 +1,7 @@
-use mathlib.Core.Path.{sym, ap, _∙_}
-use Prim.Native.Nat.{_-_}
-use lib.ListN.{take}
+use Rattle.basis.proofs.Std.{sym, ap, _∙_, take, needs}
 use Rattle.calendar.specs.Text.{secondText, lastSecond}
 use Rattle.calendar.proofs.Answers.{too-large, this, another, differs}
 use Rattle.calendar.proofs.Reading.{guess-second, second-part}
-use borrow.Author.Needs.{needs}
 use Rattle.calendar.proofs.read_second.Statement.{statement}
 use Rattle.calendar.proofs.read_second.Tie as tie
 

@@ -1,13 +1,10 @@
 use Rattle.calendar.proofs.Rest.{ReadsRest, rest-most}
 use Rattle.calendar.proofs.Reading.{read-as, short, rest, joined}
-use mathlib.Core.Path.{refl, subst}
-use native.Mathlib.Omega.{arith}
-use lib.ListN.{take, drop}
+use Rattle.basis.proofs.Std.{refl, subst, arith, take, drop, needs}
 use Rattle.calendar.specs.declared.Second.the-variants.{Is as IsSecond, No as NoSecond}
 use Rattle.calendar.specs.declared.Time.the-variants.{Is, No}
 use Rattle.calendar.specs.Text.{secondText, lastSecond}
 use Rattle.calendar.specs.Read.{Answers}
-use borrow.Author.Needs.{needs}
 use Rattle.calendar.proofs.read_time.Statement.{statement}
 use Rattle.calendar.proofs.read_time.Tie as tie
 

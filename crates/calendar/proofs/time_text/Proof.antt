@@ -1,6 +1,6 @@
 use Rattle.output.specs.Put.{put}
 use Rattle.calendar.specs.Text.{secondText, milliText, timeText}
-use borrow.Author.Needs.{needs}
+use Rattle.basis.proofs.Std.{needs}
 use Rattle.calendar.proofs.time_text.Statement.{statement}
 use Rattle.calendar.proofs.time_text.Tie as tie
 

@@ -1,8 +1,5 @@
-use Rattle.calendar.proofs.YearParts.{before-year, year-fits, ones-fit}
-use mathlib.Core.Path.{refl}
-use Prim.Native.Nat.{_-_}
-use Rattle.calendar.proofs.YearParts.{year-parts}
-use borrow.Author.Needs.{needs}
+use Rattle.calendar.proofs.YearParts.{before-year, year-fits, ones-fit, year-parts}
+use Rattle.basis.proofs.Std.{refl, needs}
 use Rattle.calendar.proofs.year_of.Statement.{statement}
 use Rattle.calendar.proofs.year_of.Tie as tie
 

@@ -1,9 +1,6 @@
-use Rattle.calendar.proofs.Years.{years-below, formula-fits, formula-is}
+use Rattle.calendar.proofs.Years.{years-below, formula-fits, formula-is, years-formula}
 use Rattle.calendar.specs.Days.{years}
-use mathlib.Core.Path.{sym, subst}
-use Prim.Native.Nat.{ℕ, _-_, _/_, _<_}
-use Rattle.calendar.proofs.Years.{years-formula}
-use borrow.Author.Needs.{needs}
+use Rattle.basis.proofs.Std.{sym, subst, ℕ, _-_, _/_, _<_, needs}
 use Rattle.calendar.proofs.year_start.Statement.{statement}
 use Rattle.calendar.proofs.year_start.Tie as tie
 

@@ -1,12 +1,11 @@
 -- `call_input::aggregated` meets its contract.
 -- Assumes nothing.
-use mathlib.Core.Path.{sym, _∙_}
+use Rattle.basis.proofs.Std.{sym, _∙_, needs}
 use Rattle.answer.specs.declared.Refusal.the-variants.{BadTime}
 use Rattle.store_site.specs.Layout.{siteOf}
 use Rattle.store_call.proofs.CallLaws.{steps-refused, steps-as}
 use Rattle.call_input.specs.Inputs.{aggregatedPlan}
 use Rattle.call_input.proofs.Ends.{late, on-time}
-use borrow.Author.Needs.{needs}
 use Rattle.call_input.proofs.aggregated.Statement.{statement}
 use Rattle.call_input.proofs.aggregated.Tie as tie
 

@@ -1,7 +1,6 @@
 -- `call_input::alarm` meets its contract.
 -- Assumes nothing.
-use Prim.Native.Nat.{_≤_, _<_}
-use mathlib.Core.Path.{sym, _∙_}
+use Rattle.basis.proofs.Std.{_≤_, _<_, sym, _∙_, needs}
 use Rattle.answer.specs.declared.Refusal.the-variants.{NoSuchItem, BadTime}
 use Rattle.store_table.specs.Layout.{tableOf}
 use Rattle.store_site.specs.Layout.{siteOf}
@@ -9,7 +8,6 @@ use Rattle.store_site.proofs.SiteLaws.{table-of}
 use Rattle.store_call.proofs.CallLaws.{steps-refused, steps-as}
 use Rattle.call_input.specs.Inputs.{planned, alarmPlan}
 use Rattle.call_input.proofs.Ends.{no-item, item-late, item-on-time}
-use borrow.Author.Needs.{needs}
 use Rattle.call_input.proofs.alarm.Statement.{statement}
 use Rattle.call_input.proofs.alarm.Tie as tie
 

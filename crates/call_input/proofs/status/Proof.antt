@@ -1,9 +1,7 @@
 -- `call_input::status` meets its contract.
 -- Assumes nothing.
-use Prim.Native.Nat.{_≤_, _<_}
-use mathlib.Core.Path.{sym, ap, _∙_}
+use Rattle.basis.proofs.Std.{_≤_, _<_, sym, ap, _∙_, ℤ, needs}
 use mir.Facts.{toZ-ofZ}
-use lib.IntN.{ℤ}
 use Rattle.answer.specs.declared.Refusal.the-variants.{NoSuchItem, BadTime}
 use Rattle.store_table.specs.Layout.{tableOf}
 use Rattle.store_site.specs.Layout.{siteOf}
@@ -11,7 +9,6 @@ use Rattle.store_site.proofs.SiteLaws.{table-of}
 use Rattle.store_call.proofs.CallLaws.{steps-refused, steps-as}
 use Rattle.call_input.specs.Inputs.{planned, statusPlan}
 use Rattle.call_input.proofs.Ends.{no-item, item-late, item-on-time}
-use borrow.Author.Needs.{needs}
 use Rattle.call_input.proofs.status.Statement.{statement}
 use Rattle.call_input.proofs.status.Tie as tie
 

@@ -1,12 +1,11 @@
 -- `call_link::connect` meets its contract.
 -- Assumes nothing.
-use mathlib.Core.Path.{sym, _∙_}
+use Rattle.basis.proofs.Std.{sym, _∙_, needs}
 use Rattle.store_site.specs.Layout.{siteOf}
 use Rattle.store_call.proofs.CallLaws.{below-four, steps-refused, steps-done}
 use Rattle.answer.specs.declared.Refusal.the-variants.{NoSuchLink, BadTime, WrongPhase}
 use Rattle.site.specs.Call.{nothingOf}
 use Rattle.call_link.proofs.Laws.{connect-no-link, connect-bad-time, connect-up, connects}
-use borrow.Author.Needs.{needs}
 use Rattle.call_link.proofs.connect.Statement.{statement}
 use Rattle.call_link.proofs.connect.Tie as tie
 

@@ -1,13 +1,11 @@
 -- `call_link::disconnect` meets its contract.
 -- Assumes nothing.
-use mathlib.Core.Path.{sym, _∙_}
+use Rattle.basis.proofs.Std.{sym, _∙_, arith, needs}
 use Rattle.store_site.specs.Layout.{siteOf}
 use Rattle.store_call.proofs.CallLaws.{below-four, steps-refused, steps-done}
 use Rattle.answer.specs.declared.Refusal.the-variants.{NoSuchLink, BadTime, WrongPhase}
-use native.Mathlib.Omega.{arith}
 use Rattle.site.specs.Site.{maskOf}
 use Rattle.call_link.proofs.Laws.{disconnect-no-link, disconnect-bad-time, disconnect-down, disconnects}
-use borrow.Author.Needs.{needs}
 use Rattle.call_link.proofs.disconnect.Statement.{statement}
 use Rattle.call_link.proofs.disconnect.Tie as tie
 

@@ -1,9 +1,8 @@
 -- `call_link::joined` meets its contract.
 -- Assumes nothing.
-use mathlib.Core.Path.{ap, _∙_}
+use Rattle.basis.proofs.Std.{ap, _∙_, needs}
 use Rattle.site.specs.declared.Site.{Site}
 use Rattle.store_site.specs.Layout.{withLast}
-use borrow.Author.Needs.{needs}
 use Rattle.call_link.proofs.joined.Statement.{statement}
 use Rattle.call_link.proofs.joined.Tie as tie
 

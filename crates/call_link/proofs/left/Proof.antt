@@ -1,7 +1,7 @@
 -- `call_link::left` meets its contract.
 -- Assumes nothing.
 use Rattle.store_site.proofs.TurnsLaws.{turns-then}
-use borrow.Author.Needs.{needs}
+use Rattle.basis.proofs.Std.{needs}
 use Rattle.call_link.proofs.left.Statement.{statement}
 use Rattle.call_link.proofs.left.Tie as tie
 

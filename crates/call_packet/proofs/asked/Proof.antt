@@ -4,7 +4,7 @@ use Rattle.packet_answer.proofs.Choices.{good, missing, bad}
 use Rattle.store_table.specs.Layout.{tableOf}
 use Rattle.store_site.specs.Layout.{siteOf}
 use Rattle.call_packet.specs.Packet.{expectedTaken}
-use borrow.Author.Needs.{needs}
+use Rattle.basis.proofs.Std.{needs}
 use Rattle.call_packet.proofs.asked.Statement.{statement}
 use Rattle.call_packet.proofs.asked.Tie as tie
 

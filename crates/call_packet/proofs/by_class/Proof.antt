@@ -1,6 +1,6 @@
 -- `call_packet::by_class` meets its contract.
 -- Assumes nothing.
-use mathlib.Core.Bool.{true, false}
+use Rattle.basis.proofs.Std.{true, false, needs}
 use Rattle.packet_answer.proofs.Choices.{like}
 use Rattle.packet_greet.specs.Answered.{answeredPlan}
 use Rattle.store_table.specs.Layout.{tableOf}
@@ -8,7 +8,6 @@ use Rattle.store_site.specs.Layout.{siteOf}
 use Rattle.read_head.specs.declared.Class.{Class}
 use Rattle.call_packet.specs.Packet.{classTaken}
 use Rattle.call_packet.proofs.Laws.{quiet, keeps-time, answers-quietly}
-use borrow.Author.Needs.{needs}
 use Rattle.call_packet.proofs.by_class.Statement.{statement}
 use Rattle.call_packet.proofs.by_class.Tie as tie
 

@@ -1,6 +1,6 @@
 -- `call_packet::by_kind` meets its contract.
 -- Assumes nothing.
-use mathlib.Core.Bool.{true, false}
+use Rattle.basis.proofs.Std.{true, false, needs}
 use Rattle.read_head.specs.declared.Kind.{Kind}
 use Rattle.read_head.specs.declared.Kind.the-variants.{Version, Watchdog, StatusSubscribe, StatusUnsubscribe}
 use Rattle.read_head.specs.Small.{watchdogAt}
@@ -14,7 +14,6 @@ use Rattle.packet_answer.proofs.Choices.{like, not-acked}
 use Rattle.packet_greet.proofs.Kept.{kept as greet-kept}
 use Rattle.packet_subscribe.proofs.Kept.{kept as subscribing-kept}
 use Rattle.call_packet.specs.Packet.{kindTaken}
-use borrow.Author.Needs.{needs}
 use Rattle.call_packet.proofs.by_kind.Statement.{statement}
 use Rattle.call_packet.proofs.by_kind.Tie as tie
 

@@ -1,7 +1,6 @@
 -- `call_packet::early` meets its contract.
 -- Assumes nothing.
-use mathlib.Core.Path.{refl, sym, _∙_}
-use borrow.Author.Needs.{needs}
+use Rattle.basis.proofs.Std.{refl, sym, _∙_, needs}
 use Rattle.call_packet.proofs.early.Statement.{statement}
 use Rattle.call_packet.proofs.early.Tie as tie
 

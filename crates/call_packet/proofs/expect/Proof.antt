@@ -1,9 +1,8 @@
 -- `call_packet::expect` meets its contract.
 -- Assumes nothing.
-use mathlib.Core.Path.{sym, _∙_}
+use Rattle.basis.proofs.Std.{sym, _∙_, needs}
 use Rattle.store_table.specs.Layout.{tableOf}
 use Rattle.call_packet.proofs.Laws.{not-expected, not-ready, ready}
-use borrow.Author.Needs.{needs}
 use Rattle.call_packet.proofs.expect.Statement.{statement}
 use Rattle.call_packet.proofs.expect.Tie as tie
 

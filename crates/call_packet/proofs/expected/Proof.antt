@@ -1,9 +1,6 @@
 -- `call_packet::expected` meets its contract.
 -- Assumes nothing.
-use Prim.Native.Nat.{ℕ}
-use mathlib.Core.Path.{sym, ap, _∙_}
-use lib.Dec.{ltb}
-use borrow.Author.Needs.{needs}
+use Rattle.basis.proofs.Std.{ℕ, sym, ap, _∙_, ltb, needs}
 use Rattle.call_packet.proofs.expected.Statement.{statement}
 use Rattle.call_packet.proofs.expected.Tie as tie
 

@@ -1,12 +1,11 @@
 -- `call_packet::heed` meets its contract.
 -- Assumes nothing.
-use mathlib.Core.Path.{sym, _∙_}
+use Rattle.basis.proofs.Std.{sym, _∙_, needs}
 use Rattle.store_table.specs.Layout.{tableOf}
 use Rattle.store_site.specs.Layout.{siteOf}
 use Rattle.site.specs.Site.{linkAt}
 use Rattle.call_packet.specs.Packet.{ignoredBy, questionOf, headTaken}
 use Rattle.call_packet.proofs.Laws.{is-ignored, is-heeded}
-use borrow.Author.Needs.{needs}
 use Rattle.call_packet.proofs.heed.Statement.{statement}
 use Rattle.call_packet.proofs.heed.Tie as tie
 

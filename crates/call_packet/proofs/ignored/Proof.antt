@@ -1,7 +1,6 @@
 -- `call_packet::ignored` meets its contract.
 -- Assumes nothing.
-use mathlib.Core.Path.{refl}
-use borrow.Author.Needs.{needs}
+use Rattle.basis.proofs.Std.{refl, needs}
 use Rattle.call_packet.proofs.ignored.Statement.{statement}
 use Rattle.call_packet.proofs.ignored.Tie as tie
 

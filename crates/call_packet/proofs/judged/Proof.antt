@@ -1,7 +1,7 @@
 -- `call_packet::judged` meets its contract.
 -- Assumes nothing.
 use Rattle.json_packet.proofs.Noted.{lent}
-use borrow.Author.Needs.{needs}
+use Rattle.basis.proofs.Std.{needs}
 use Rattle.call_packet.proofs.judged.Statement.{statement}
 use Rattle.call_packet.proofs.judged.Tie as tie
 

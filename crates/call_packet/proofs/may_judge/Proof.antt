@@ -1,8 +1,7 @@
 -- `call_packet::may_judge` meets its contract.
 -- Assumes nothing.
-use mathlib.Core.Path.{refl, sym, _∙_}
+use Rattle.basis.proofs.Std.{refl, sym, _∙_, needs}
 use Rattle.link.specs.Steps.{mayJudgeOf}
-use borrow.Author.Needs.{needs}
 use Rattle.call_packet.proofs.may_judge.Statement.{statement}
 use Rattle.call_packet.proofs.may_judge.Tie as tie
 

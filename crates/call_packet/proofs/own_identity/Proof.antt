@@ -1,10 +1,7 @@
 -- `call_packet::own_identity` meets its contract.
 -- Assumes nothing.
-use Prim.Native.Nat.{ℕ}
-use mathlib.Core.List.{List}
-use mathlib.Core.Path.{ap}
+use Rattle.basis.proofs.Std.{ℕ, List, ap, needs}
 use Rattle.identity.specs.declared.Identity.{Identity}
-use borrow.Author.Needs.{needs}
 use Rattle.call_packet.proofs.own_identity.Statement.{statement}
 use Rattle.call_packet.proofs.own_identity.Tie as tie
 

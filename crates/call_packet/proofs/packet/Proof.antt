@@ -1,9 +1,6 @@
 -- `call_packet::packet` meets its contract.
 -- Assumes nothing.
-use native.Mathlib.Omega.{arith}
-use mathlib.Core.Path.{sym, _∙_}
-use lib.Dec.{ltb}
-use lib.ListN.{length}
+use Rattle.basis.proofs.Std.{arith, sym, _∙_, ltb, length, lt-ltb, le-ltb, needs}
 use Rattle.identity.specs.Version.{identityOf}
 use Rattle.read_head.specs.Head.{headAt}
 use Rattle.site.specs.Site.{noLinkAt, badTimeAt, downAt, linkAt}
@@ -12,8 +9,6 @@ use Rattle.store_site.specs.Layout.{siteOf}
 use Rattle.store_table.specs.Layout.{tableOf}
 use Rattle.call_packet.specs.Packet.{ignoredBy, questionOf, packetTaken}
 use Rattle.call_packet.proofs.Laws.{no-link, short, long, late, closed, through}
-use borrow.Author.Tests.{lt-ltb, le-ltb}
-use borrow.Author.Needs.{needs}
 use Rattle.call_packet.proofs.packet.Statement.{statement}
 use Rattle.call_packet.proofs.packet.Tie as tie
 

@@ -1,6 +1,6 @@
 -- `call_packet::unawaited` meets its contract.
 -- Assumes nothing.
-use borrow.Author.Needs.{needs}
+use Rattle.basis.proofs.Std.{needs}
 use Rattle.call_packet.proofs.unawaited.Statement.{statement}
 use Rattle.call_packet.proofs.unawaited.Tie as tie
 

@@ -1,11 +1,9 @@
 -- `call_pump::pump` meets its contract.
 -- Assumes nothing.
-use lib.ListN.{length}
-use Prim.Native.Nat.{_<_}
+use Rattle.basis.proofs.Std.{length, _<_, needs}
 use Rattle.call_pump.proofs.Laws.{verdict-below, refused-in, done-in}
 use Rattle.store_table.specs.Layout.{tableOf}
 use Rattle.store_site.specs.Layout.{siteOf}
-use borrow.Author.Needs.{needs}
 use Rattle.call_pump.proofs.pump.Statement.{statement}
 use Rattle.call_pump.proofs.pump.Tie as tie
 

@@ -1,13 +1,11 @@
 -- `call_read::phase` meets its contract.
 -- Assumes nothing.
-use mathlib.Core.Path.{_≡_, refl, sym, ap, _∙_}
-use mathlib.Core.Bool.{true, false}
+use Rattle.basis.proofs.Std.{_≡_, refl, sym, ap, _∙_, true, false, needs}
 use Rattle.site.specs.Site.{noLinkAt}
 use Rattle.store_site.specs.Layout.{siteOf}
 use Rattle.table_whole.specs.Memory.{noTable}
 use Rattle.site.proofs.Checks.{link-below}
 use Rattle.call_read.specs.Readings.{phaseNumber}
-use borrow.Author.Needs.{needs}
 use Rattle.call_read.proofs.phase.Statement.{statement}
 use Rattle.call_read.proofs.phase.Tie as tie
 

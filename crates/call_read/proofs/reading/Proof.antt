@@ -1,6 +1,6 @@
 -- `call_read::reading` meets its contract.
 -- Assumes nothing.
-use borrow.Author.Needs.{needs}
+use Rattle.basis.proofs.Std.{needs}
 use Rattle.call_read.proofs.reading.Statement.{statement}
 use Rattle.call_read.proofs.reading.Tie as tie
 

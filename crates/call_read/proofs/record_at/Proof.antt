@@ -1,14 +1,11 @@
 -- `call_read::record_at` meets its contract.
 -- Assumes nothing.
-use mathlib.Core.Path.{_≡_, sym, ap, _∙_}
-use mathlib.Core.Bool.{true, false}
-use native.Mathlib.Omega.{arith}
+use Rattle.basis.proofs.Std.{_≡_, sym, ap, _∙_, true, false, arith, needs}
 use Rattle.site.specs.Site.{noLinkAt}
 use Rattle.store_site.specs.Layout.{siteOf}
 use Rattle.table_whole.specs.Memory.{noTable}
 use Rattle.site.proofs.Checks.{link-below}
 use Rattle.pool.specs.Pool.{readingOf}
-use borrow.Author.Needs.{needs}
 use Rattle.call_read.proofs.record_at.Statement.{statement}
 use Rattle.call_read.proofs.record_at.Tie as tie
 

@@ -1,7 +1,7 @@
 -- `call_start::begin` meets its contract.
 -- Assumes nothing.
 use Rattle.call_start.proofs.BegunLaws.{begun-refused, begun-accepted}
-use borrow.Author.Needs.{needs}
+use Rattle.basis.proofs.Std.{needs}
 use Rattle.call_start.proofs.begin.Statement.{statement}
 use Rattle.call_start.proofs.begin.Tie as tie
 

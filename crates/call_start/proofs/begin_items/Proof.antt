@@ -1,7 +1,7 @@
 -- `call_start::begin_items` meets its contract.
 -- Assumes nothing.
 use Rattle.store_site.proofs.TurnsLaws.{turns-then}
-use borrow.Author.Needs.{needs}
+use Rattle.basis.proofs.Std.{needs}
 use Rattle.call_start.proofs.begin_items.Statement.{statement}
 use Rattle.call_start.proofs.begin_items.Tie as tie
 

@@ -1,10 +1,9 @@
 -- `call_start::empty_pool` meets its contract.
 -- Assumes nothing.
-use mathlib.Core.Path.{ap}
+use Rattle.basis.proofs.Std.{ap, needs}
 use Rattle.site.specs.Site.{withPool}
 use Rattle.store_site.specs.Layout.{siteOf}
 use Rattle.store_site.proofs.TurnsLaws.{turns-then, turns-as}
-use borrow.Author.Needs.{needs}
 use Rattle.call_start.proofs.empty_pool.Statement.{statement}
 use Rattle.call_start.proofs.empty_pool.Tie as tie
 

@@ -1,9 +1,7 @@
 -- `call_start::put_fresh` meets its contract.
 -- Assumes nothing.
-use mathlib.Core.Path.{_≡_}
-use lib.ListN.{length}
+use Rattle.basis.proofs.Std.{_≡_, length, needs}
 use Rattle.call_start.proofs.BegunLaws.{fresh-put}
-use borrow.Author.Needs.{needs}
 use Rattle.call_start.proofs.put_fresh.Statement.{statement}
 use Rattle.call_start.proofs.put_fresh.Tie as tie
 use Rattle.store_site.specs.Layout.{siteWords}

@@ -1,10 +1,8 @@
 -- `call_start::start` meets its contract.
 -- Assumes nothing.
-use mathlib.Core.Path.{sym, _∙_}
-use native.Mathlib.Omega.{arith}
+use Rattle.basis.proofs.Std.{sym, _∙_, arith, needs}
 use Rattle.call_start.proofs.BegunLaws.{starts-in, starts-not}
 use Rattle.call_start.proofs.Values.{within-all}
-use borrow.Author.Needs.{needs}
 use Rattle.call_start.proofs.start.Statement.{statement}
 use Rattle.call_start.proofs.start.Tie as tie
 

@@ -1,9 +1,7 @@
-use Rattle.basis.proofs.Tests.{tests}
+use Rattle.basis.proofs.Std.{tests}
 use Rattle.call_start.specs.Making.{valuesWithin}
 use Rattle.call_start.proofs.values_within.Statement.{statement}
 use Rattle.call_start.proofs.values_within.Tie as tie
-use Rattle.call_start.proofs.values_within.Reads as reads
-use Rattle.call_start.proofs.values_within.Lts as lts
 
 returns : tie.Need-returns
 unfolding valuesWithin

@@ -1,14 +1,8 @@
-use Rattle.basis.proofs.Tests.{tests}
+use Rattle.basis.proofs.Std.{tests, sym, _∙_, needs}
 use Rattle.call_start.specs.Making.{isWithin}
-use mathlib.Core.Path.{sym, _∙_}
 use Rattle.call_start.proofs.Values.{to-values, no-link}
-use borrow.Author.Needs.{needs}
 use Rattle.call_start.proofs.within.Statement.{statement}
 use Rattle.call_start.proofs.within.Tie as tie
-use Rattle.call_start.proofs.within.Reads as reads
-use Rattle.call_start.proofs.within.Lts as lts
-use Rattle.call_start.proofs.a_link_or_none.Reads as a-link-or-none-reads
-use Rattle.call_start.proofs.values_within.Reads as values-within-reads
 
 returns : tie.Need-returns
 unfolding isWithin

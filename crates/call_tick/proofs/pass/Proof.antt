@@ -3,7 +3,7 @@
 use Rattle.store_site.specs.Layout.{siteOf}
 use Rattle.store_site.proofs.TurnsLaws.{turns-then, turns-as}
 use Rattle.call_tick.proofs.InPlace.{passed}
-use borrow.Author.Needs.{needs}
+use Rattle.basis.proofs.Std.{needs}
 use Rattle.call_tick.proofs.pass.Statement.{statement}
 use Rattle.call_tick.proofs.pass.Tie as tie
 

@@ -1,7 +1,6 @@
 -- `call_tick::tick` meets its contract.
 -- Assumes nothing.
-use mathlib.Core.Path.{_≡_, sym, _∙_}
-use mathlib.Core.Bool.{true, false}
+use Rattle.basis.proofs.Std.{_≡_, sym, _∙_, true, false, needs}
 use Rattle.answer.specs.declared.Refusal.the-variants.{BadTime, SequenceSpent}
 use Rattle.site.specs.Site.{badTimeAt}
 use Rattle.site.specs.Call.{batchOf}
@@ -10,7 +9,6 @@ use Rattle.store_call.proofs.CallLaws.{steps-refused, steps-done}
 use Rattle.call_tick.specs.Tick.{siteAfter, issuedAt, tickPlan}
 use Rattle.call_tick.proofs.Judged.{tick-late, tick-spent, tick-done}
 use Rattle.call_tick.proofs.InPlace.{spent-before}
-use borrow.Author.Needs.{needs}
 use Rattle.call_tick.proofs.tick.Statement.{statement}
 use Rattle.call_tick.proofs.tick.Tie as tie
 

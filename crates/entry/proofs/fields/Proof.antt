@@ -1,10 +1,7 @@
 use Rattle.entry.proofs.Words.{from-words}
-use borrow.Author.Needs.{needs}
+use Rattle.basis.proofs.Std.{needs}
 use Rattle.entry.proofs.fields.Statement.{statement}
 use Rattle.entry.proofs.fields.Tie as tie
-use Rattle.entry.proofs.fields.Reads as reads
-use Rattle.entry.proofs.fields.Lts as lts
-use Rattle.bits.proofs.field.Reads as field-reads
 
 returns : tie.Need-returns
 returns c =

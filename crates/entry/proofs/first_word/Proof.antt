@@ -1,13 +1,7 @@
-use mathlib.Core.Path.{refl}
-use mathlib.Core.List.{[], _∷_}
-use lib.Dec.{lit≤}
+use Rattle.basis.proofs.Std.{refl, [], _∷_, lit≤, needs}
 use Rattle.bits.proofs.Fields.{next-field}
-use borrow.Author.Needs.{needs}
 use Rattle.entry.proofs.first_word.Statement.{statement}
 use Rattle.entry.proofs.first_word.Tie as tie
-use Rattle.entry.proofs.first_word.Reads as reads
-use Rattle.entry.proofs.first_word.Lts as lts
-use Rattle.bits.proofs.push.Reads as push-reads
 
 returns : tie.Need-returns
 returns c =

@@ -1,16 +1,9 @@
-use mathlib.Core.Path.{_≡_, sym, ap, ap₂, _∙_}
-use Prim.Native.Nat.{ℕ, _+_, _*_, _^_}
-use lib.ListN.{length}
+use Rattle.basis.proofs.Std.{_≡_, sym, ap, ap₂, _∙_, ℕ, _+_, _*_, _^_, length, needs}
 use Rattle.bits.specs.Fields.{split}
 use Rattle.entry.specs.Layout.{entryOf, widths}
 use Rattle.entry.proofs.Words.{sixteen}
-use borrow.Author.Needs.{needs}
 use Rattle.entry.proofs.unchecked.Statement.{statement}
 use Rattle.entry.proofs.unchecked.Tie as tie
-use Rattle.entry.proofs.unchecked.Reads as reads
-use Rattle.entry.proofs.unchecked.Lts as lts
-use Rattle.bits.proofs.number.Reads as number-reads
-use Rattle.entry.proofs.fields.Reads as fields-reads
 
 part-number-end : tie.Need-part-number-end
 part-number-end c =

@@ -1,6 +1,4 @@
-use mathlib.Core.Path.{_≡_, sym, ap, subst, _∙_}
-use Prim.Native.Nat.{ℕ}
-use lib.ListN.{length, getD}
+use Rattle.basis.proofs.Std.{_≡_, sym, ap, subst, _∙_, ℕ, length, getD, needs}
 use mir.Syntax.{w8}
 use mir.Val.{Fits}
 use Rattle.entry.specs.declared.Entry.{Entry}
@@ -9,13 +7,8 @@ use Rattle.entry.specs.Valid.{Valid}
 use Rattle.entry.specs.Reading.{reads, refuses}
 use Rattle.entry.proofs.ValidLaws.{not-held}
 use Rattle.entry.proofs.RoundTrip.{back, forth}
-use borrow.Author.Needs.{needs}
 use Rattle.entry.proofs.unpack.Statement.{statement}
 use Rattle.entry.proofs.unpack.Tie as tie
-use Rattle.entry.proofs.unpack.Reads as own-reads
-use Rattle.entry.proofs.unpack.Lts as lts
-use Rattle.entry.proofs.unchecked.Reads as unchecked-reads
-use Rattle.entry.proofs.valid.valid.Reads as valid-reads
 
 returns : tie.Need-returns
 returns c =

@@ -1,10 +1,6 @@
-use mathlib.Core.Path.{_≡_}
-use Prim.Native.Nat.{_+_}
-use native.Mathlib.Omega.{arith}
-use lib.ListN.{getD}
+use Rattle.basis.proofs.Std.{_≡_, _+_, arith, getD, needs}
 use Rattle.identity.specs.Hex.{lowerHex, lowered}
 use Rattle.identity.proofs.Fill.{mapped}
-use borrow.Author.Needs.{needs}
 use Rattle.identity.proofs.byte_at.Statement.{statement}
 use Rattle.identity.proofs.byte_at.Tie as tie
 

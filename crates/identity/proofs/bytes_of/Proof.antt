@@ -1,5 +1,5 @@
 use Rattle.identity.specs.Read.{bytesOf}
-use borrow.Author.Needs.{needs}
+use Rattle.basis.proofs.Std.{needs}
 use Rattle.identity.proofs.bytes_of.Statement.{statement}
 use Rattle.identity.proofs.bytes_of.Tie as tie
 

@@ -1,4 +1,4 @@
-use borrow.Author.Needs.{needs}
+use Rattle.basis.proofs.Std.{needs}
 use Rattle.identity.proofs.digits.Statement.{statement}
 use Rattle.identity.proofs.digits.Tie as tie
 

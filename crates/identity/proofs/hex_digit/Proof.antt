@@ -1,6 +1,5 @@
-use Rattle.basis.proofs.Tests.{tests}
+use Rattle.basis.proofs.Std.{tests, needs}
 use Rattle.identity.specs.Hex.{hexDigit}
-use borrow.Author.Needs.{needs}
 use Rattle.identity.proofs.hex_digit.Statement.{statement}
 use Rattle.identity.proofs.hex_digit.Tie as tie
 

@@ -1,6 +1,5 @@
-use Rattle.basis.proofs.Tests.{tests}
+use Rattle.basis.proofs.Std.{tests, needs}
 use Rattle.identity.specs.Hex.{hexValue}
-use borrow.Author.Needs.{needs}
 use Rattle.identity.proofs.hex_value.Statement.{statement}
 use Rattle.identity.proofs.hex_value.Tie as tie
 

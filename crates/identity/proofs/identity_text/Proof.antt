@@ -1,5 +1,5 @@
 use Rattle.identity.proofs.Text.{by-fours}
-use borrow.Author.Needs.{needs}
+use Rattle.basis.proofs.Std.{needs}
 use Rattle.identity.proofs.identity_text.Statement.{statement}
 use Rattle.identity.proofs.identity_text.Tie as tie
 

@@ -1,6 +1,5 @@
-use Rattle.basis.proofs.Tests.{tests}
+use Rattle.basis.proofs.Std.{tests, needs}
 use Rattle.identity.specs.Hex.{lowerHex}
-use borrow.Author.Needs.{needs}
 use Rattle.identity.proofs.lower_hex.Statement.{statement}
 use Rattle.identity.proofs.lower_hex.Tie as tie
 

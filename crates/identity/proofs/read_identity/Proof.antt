@@ -1,7 +1,6 @@
-use mathlib.Core.Path.{sym, _∙_}
+use Rattle.basis.proofs.Std.{sym, _∙_, needs}
 use Rattle.identity.proofs.Read.{read-as, short}
 use Rattle.identity.specs.Read.{readIdentity}
-use borrow.Author.Needs.{needs}
 use Rattle.identity.proofs.read_identity.Statement.{statement}
 use Rattle.identity.proofs.read_identity.Tie as tie
 

@@ -1,5 +1,4 @@
-use Rattle.basis.proofs.Same.{same-is}
-use borrow.Author.Needs.{needs}
+use Rattle.basis.proofs.Std.{same-is, needs}
 use Rattle.identity.proofs.same_identity.Statement.{statement}
 use Rattle.identity.proofs.same_identity.Tie as tie
 

@@ -1,10 +1,4 @@
-use mathlib.Core.Path.{_≡_, refl, sym, _∙_}
-use Prim.Native.Nat.{_-_, _≤_, _<_}
-use native.Mathlib.Omega.{arith}
-use borrow.Author.Needs.{needs}
-use lib.ListN.{length, drop}
-use Rattle.basis.specs.Lists.{sameBytes}
-use Rattle.basis.specs.Pick.{both}
+use Rattle.basis.proofs.Std.{_≡_, refl, sym, _∙_, _-_, _≤_, _<_, arith, needs, length, drop, sameBytes, both}
 use Rattle.identity.specs.Hex.{lowered}
 use Rattle.identity.proofs.Lowered.{lowered-length, lowered-step, lowered-end}
 use Rattle.identity.proofs.same_lowered.Statement.{statement}

@@ -1,6 +1,4 @@
-use mathlib.Core.Path.{sym, _∙_}
-use borrow.Author.Tests.{eq-eqb, ne-eqb}
-use borrow.Author.Needs.{needs}
+use Rattle.basis.proofs.Std.{sym, _∙_, eq-eqb, ne-eqb, needs}
 use Rattle.identity.proofs.still_same.Statement.{statement}
 use Rattle.identity.proofs.still_same.Tie as tie
 

@@ -1,8 +1,6 @@
-use mathlib.Core.Path.{_≡_, sym, ap, subst, _∙_}
-use Prim.Native.Nat.{ℕ, _≤_}
+use Rattle.basis.proofs.Std.{_≡_, sym, ap, subst, _∙_, ℕ, _≤_, needs}
 use Rattle.identity.specs.Hex.{hexValue, lowerHex}
 use Rattle.identity.proofs.Hex.{value-below}
-use borrow.Author.Needs.{needs}
 use Rattle.identity.proofs.value.Statement.{statement}
 use Rattle.identity.proofs.value.Tie as tie
 

@@ -1,9 +1,4 @@
-use mathlib.Core.Path.{ap}
-use Prim.Native.Nat.{ℕ, _+_, _-_, _%_}
-use native.Mathlib.Omega.{arith}
-use lib.ListN.{getD, set}
-use lib.Seq.{getD-set-other}
-use borrow.Author.Needs.{needs}
+use Rattle.basis.proofs.Std.{ap, ℕ, _+_, _%_, arith, getD, set, getD-set-other, needs}
 use Rattle.identity.proofs.version4.Statement.{statement}
 use Rattle.identity.proofs.version4.Tie as tie
 

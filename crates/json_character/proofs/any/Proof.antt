@@ -1,10 +1,9 @@
 -- `json_character::any` meets its contract.
 -- Assumes nothing.
-use mathlib.Core.Path.{_∙_, sym, ap}
+use Rattle.basis.proofs.Std.{_∙_, sym, ap, needs}
 use Rattle.json_character.specs.Char.{escapeOf}
 use denote.Ref.{now}
 use Rattle.json_character.proofs.Laws.{at-end, at-close, at-unicode, at-escape, at-raw}
-use borrow.Author.Needs.{needs}
 use Rattle.json_character.proofs.any.Statement.{statement}
 use Rattle.json_character.proofs.any.Tie as tie
 

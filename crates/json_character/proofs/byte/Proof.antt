@@ -1,9 +1,7 @@
 -- `json_character::byte` meets its contract.
 -- Assumes nothing.
 use denote.Ref.{now}
-use mathlib.Core.Path.{sym}
-use lib.ListN.{List·getD-eq-default}
-use borrow.Author.Needs.{needs}
+use Rattle.basis.proofs.Std.{sym, List·getD-eq-default, needs}
 use Rattle.json_character.proofs.byte.Statement.{statement}
 use Rattle.json_character.proofs.byte.Tie as tie
 

@@ -1,6 +1,6 @@
 -- `json_character::escape` meets its contract.
 -- Assumes nothing.
-use Rattle.basis.proofs.Tests.{tests}
+use Rattle.basis.proofs.Std.{tests}
 use Rattle.json_character.specs.Char.{escapeOf}
 use Rattle.json_character.proofs.escape.Statement.{statement}
 use Rattle.json_character.proofs.escape.Tie as tie

@@ -1,8 +1,7 @@
 -- `json_character::four` meets its contract.
 -- Assumes nothing.
-use Rattle.basis.proofs.Tests.{tests}
+use Rattle.basis.proofs.Std.{tests, needs}
 use Rattle.json_character.specs.Char.{fourOf, inFour}
-use borrow.Author.Needs.{needs}
 use Rattle.json_character.proofs.four.Statement.{statement}
 use Rattle.json_character.proofs.four.Tie as tie
 

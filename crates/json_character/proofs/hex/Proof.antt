@@ -1,8 +1,7 @@
 -- `json_character::hex` meets its contract.
 -- Assumes nothing.
-use Rattle.basis.proofs.Tests.{tests}
+use Rattle.basis.proofs.Std.{tests, needs}
 use Rattle.json_character.specs.Char.{hexOf}
-use borrow.Author.Needs.{needs}
 use Rattle.json_character.proofs.hex.Statement.{statement}
 use Rattle.json_character.proofs.hex.Tie as tie
 

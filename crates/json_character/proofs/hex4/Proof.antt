@@ -1,9 +1,8 @@
 -- `json_character::hex4` meets its contract.
 -- Assumes nothing.
-use native.Mathlib.Omega.{arith}
+use Rattle.basis.proofs.Std.{arith, needs}
 use Rattle.json_character.proofs.Laws.{digits, no-digit-1, no-digit-2, no-digit-3, no-digit-4}
 use Rattle.json_character.specs.Char.{hex4Of}
-use borrow.Author.Needs.{needs}
 use Rattle.json_character.proofs.hex4.Statement.{statement}
 use Rattle.json_character.proofs.hex4.Tie as tie
 

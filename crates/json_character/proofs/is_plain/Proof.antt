@@ -1,6 +1,6 @@
 -- `json_character::is_plain` meets its contract.
 -- Assumes nothing.
-use Rattle.basis.proofs.Tests.{tests}
+use Rattle.basis.proofs.Std.{tests}
 use Rattle.json_character.specs.Char.{isPlain}
 use Rattle.json_character.proofs.is_plain.Statement.{statement}
 use Rattle.json_character.proofs.is_plain.Tie as tie

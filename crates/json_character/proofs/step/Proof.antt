@@ -1,9 +1,7 @@
 -- `json_character::step` meets its contract.
 -- Assumes nothing.
-use mathlib.Core.Path.{_∙_, sym, ap}
-use Prim.Native.Nat.{ℕ}
+use Rattle.basis.proofs.Std.{_∙_, sym, ap, ℕ, needs}
 use denote.Ref.{now}
-use borrow.Author.Needs.{needs}
 use Rattle.json_character.specs.Char.{isPlain}
 use Rattle.json_character.specs.declared.Char.the-variants.{One}
 use Rattle.json_character.proofs.Laws.{at-plain, at-close}

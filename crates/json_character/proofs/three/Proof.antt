@@ -1,8 +1,7 @@
 -- `json_character::three` meets its contract.
 -- Assumes nothing.
-use Rattle.basis.proofs.Tests.{tests}
+use Rattle.basis.proofs.Std.{tests, needs}
 use Rattle.json_character.specs.Char.{threeOf, inThree}
-use borrow.Author.Needs.{needs}
 use Rattle.json_character.proofs.three.Statement.{statement}
 use Rattle.json_character.proofs.three.Tie as tie
 

@@ -1,8 +1,7 @@
 -- `json_character::unicode` meets its contract.
 -- Assumes nothing.
-use Rattle.basis.proofs.Tests.{tests}
+use Rattle.basis.proofs.Std.{tests, needs}
 use Rattle.json_character.specs.Char.{unicodeOf}
-use borrow.Author.Needs.{needs}
 use Rattle.json_character.proofs.unicode.Statement.{statement}
 use Rattle.json_character.proofs.unicode.Tie as tie
 

@@ -1,13 +1,9 @@
 -- `json_find::among` meets its contract.
 -- Assumes nothing.
-use Prim.Native.Nat.{_-_}
-use mathlib.Core.Path.{_≡_, refl, sym, _∙_}
-use lib.ListN.{length, drop}
+use Rattle.basis.proofs.Std.{_-_, _≡_, refl, sym, _∙_, length, drop, needs}
 use Rattle.json_find.specs.Entries.{firstNamed}
 use Rattle.json_find.specs.Index.{textsAt}
 use Rattle.json_find.proofs.Noted.{among-here, among-next, among-none}
-use native.Mathlib.Omega.{arith}
-use borrow.Author.Needs.{needs}
 use Rattle.json_find.proofs.among.Statement.{statement}
 use Rattle.json_find.proofs.among.Tie as tie
 

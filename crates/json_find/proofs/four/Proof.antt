@@ -1,9 +1,6 @@
 -- `json_find::four` meets its contract.
 -- Assumes nothing.
-use Prim.Native.Nat.{_-_}
-use lib.ListN.{length}
-use native.Mathlib.Omega.{arith}
-use borrow.Author.Needs.{needs}
+use Rattle.basis.proofs.Std.{_-_, length, arith, needs}
 use Rattle.json_find.proofs.Once.{Walked, walk-begins, walk-ends, walk-goes-on, next-after, next-in}
 use Rattle.json_find.proofs.four.Statement.{statement}
 use Rattle.json_find.proofs.four.Tie as tie

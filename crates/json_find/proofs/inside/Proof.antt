@@ -1,8 +1,7 @@
 -- `json_find::inside` meets its contract.
 -- Assumes nothing.
-use borrow.Author.Needs.{needs}
+use Rattle.basis.proofs.Std.{needs}
 use Rattle.json_find.proofs.Walks.{inside-past, inside-other, inside-short, inside-closed, inside-here}
-use borrow.Author.Needs.{needs}
 use Rattle.json_find.proofs.inside.Statement.{statement}
 use Rattle.json_find.proofs.inside.Tie as tie
 

@@ -1,9 +1,7 @@
 -- `json_find::is_string` meets its contract.
 -- Assumes nothing.
-use mathlib.Core.Path.{_∙_}
-use borrow.Author.Needs.{needs}
+use Rattle.basis.proofs.Std.{_∙_, needs}
 use Rattle.json_find.proofs.Steps.{string-past, string-other, string-here}
-use borrow.Author.Needs.{needs}
 use Rattle.json_find.proofs.is_string.Statement.{statement}
 use Rattle.json_find.proofs.is_string.Tie as tie
 

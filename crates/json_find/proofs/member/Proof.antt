@@ -1,8 +1,7 @@
 -- `json_find::member` meets its contract.
 -- Assumes nothing.
-use borrow.Author.Needs.{needs}
+use Rattle.basis.proofs.Std.{needs}
 use Rattle.json_find.proofs.Steps.{member-none, member-some}
-use borrow.Author.Needs.{needs}
 use Rattle.json_find.proofs.member.Statement.{statement}
 use Rattle.json_find.proofs.member.Tie as tie
 

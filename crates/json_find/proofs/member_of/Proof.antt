@@ -1,7 +1,7 @@
 -- `json_find::member_of` meets its contract.
 -- Assumes nothing.
 use Rattle.json_find.proofs.Noted.{noted, unnoted}
-use borrow.Author.Needs.{needs}
+use Rattle.basis.proofs.Std.{needs}
 use Rattle.json_find.proofs.member_of.Statement.{statement}
 use Rattle.json_find.proofs.member_of.Tie as tie
 

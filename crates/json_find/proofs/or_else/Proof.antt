@@ -1,6 +1,6 @@
 -- `json_find::or_else` meets its contract.
 -- Assumes nothing.
-use borrow.Author.Needs.{needs}
+use Rattle.basis.proofs.Std.{needs}
 use Rattle.json_find.proofs.or_else.Statement.{statement}
 use Rattle.json_find.proofs.or_else.Tie as tie
 

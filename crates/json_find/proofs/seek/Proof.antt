@@ -1,13 +1,9 @@
 -- `json_find::seek` meets its contract.
 -- Assumes nothing.
-use Prim.Native.Nat.{_≤_, _-_}
-use mathlib.Core.Path.{sym, _∙_}
-use lib.ListN.{length, drop}
+use Rattle.basis.proofs.Std.{_≤_, _-_, sym, _∙_, length, drop, arith, needs}
 use Rattle.json_text.specs.declared.Read.{Read}
 use Rattle.json_text.specs.Ends.{Ends}
 use Rattle.json_find.specs.Entries.{entries, firstNamed}
-use native.Mathlib.Omega.{arith}
-use borrow.Author.Needs.{needs}
 use Rattle.json_find.proofs.Steps.{seek-here, seek-none, seek-next}
 use Rattle.json_find.proofs.Walks.{step-on, step-in}
 use Rattle.json_find.proofs.seek.Statement.{statement}

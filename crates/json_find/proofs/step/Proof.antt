@@ -1,8 +1,7 @@
 -- `json_find::step` meets its contract.
 -- Assumes nothing.
-use borrow.Author.Needs.{needs}
+use Rattle.basis.proofs.Std.{needs}
 use Rattle.json_find.proofs.Walks.{step-comma, step-close, step-neither}
-use borrow.Author.Needs.{needs}
 use Rattle.json_find.proofs.step.Statement.{statement}
 use Rattle.json_find.proofs.step.Tie as tie
 

@@ -1,6 +1,6 @@
 -- `json_find::step_from` meets its contract.
 -- Assumes nothing.
-use borrow.Author.Needs.{needs}
+use Rattle.basis.proofs.Std.{needs}
 use Rattle.json_find.specs.Four.Follows.{after-none, after-end}
 use Rattle.json_find.proofs.step_from.Statement.{statement}
 use Rattle.json_find.proofs.step_from.Tie as tie

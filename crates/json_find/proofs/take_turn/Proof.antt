@@ -1,6 +1,6 @@
 -- `json_find::take_turn` meets its contract.
 -- Assumes nothing.
-use borrow.Author.Needs.{needs}
+use Rattle.basis.proofs.Std.{needs}
 use Rattle.json_find.proofs.Once.{turn-last, turn-next, turn-neither, turn-unstarted, turn-unread}
 use Rattle.json_find.proofs.take_turn.Statement.{statement}
 use Rattle.json_find.proofs.take_turn.Tie as tie

@@ -1,6 +1,6 @@
 -- `json_find::with_entry` meets its contract.
 -- Assumes nothing.
-use borrow.Author.Needs.{needs}
+use Rattle.basis.proofs.Std.{needs}
 use Rattle.json_find.proofs.with_entry.Statement.{statement}
 use Rattle.json_find.proofs.with_entry.Tie as tie
 

@@ -1,6 +1,6 @@
 -- `json_number::digit` meets its contract.
 -- Assumes nothing.
-use Rattle.basis.proofs.Tests.{tests}
+use Rattle.basis.proofs.Std.{tests}
 use Rattle.json_number.proofs.digit.Statement.{statement}
 use Rattle.json_number.proofs.digit.Tie as tie
 

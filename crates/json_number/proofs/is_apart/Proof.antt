@@ -1,6 +1,6 @@
 -- `json_number::is_apart` meets its contract.
 -- Assumes nothing.
-use Rattle.basis.proofs.Tests.{tests}
+use Rattle.basis.proofs.Std.{tests}
 use Rattle.json_number.specs.Machine.{apart}
 use Rattle.json_number.proofs.is_apart.Statement.{statement}
 use Rattle.json_number.proofs.is_apart.Tie as tie

@@ -1,8 +1,6 @@
 -- `json_number::lead` meets its contract.
 -- Assumes nothing.
-use Rattle.basis.proofs.Tests.{tests}
-use borrow.Author.Needs.{needs}
-use borrow.Author.Needs.{needs}
+use Rattle.basis.proofs.Std.{tests, needs}
 use Rattle.json_number.proofs.lead.Statement.{statement}
 use Rattle.json_number.proofs.lead.Tie as tie
 

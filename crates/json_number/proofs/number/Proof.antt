@@ -1,10 +1,6 @@
 -- `json_number::number` meets its contract.
 -- Assumes nothing.
-use Prim.Native.Nat.{_≤_, _-_}
-use mathlib.Core.Path.{_∙_, sym, ap}
-use native.Mathlib.Omega.{arith}
-use borrow.Author.Needs.{needs}
-use lib.ListN.{length, drop}
+use Rattle.basis.proofs.Std.{_≤_, _-_, _∙_, sym, ap, arith, needs, length, drop}
 use Rattle.json_text.specs.declared.Read.{Read}
 use Rattle.json_text.specs.Ends.{Ends}
 use Rattle.json_number.specs.Machine.{isStop, readNum, readNumber}

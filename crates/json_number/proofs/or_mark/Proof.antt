@@ -1,6 +1,6 @@
 -- `json_number::or_mark` meets its contract.
 -- Assumes nothing.
-use Rattle.basis.proofs.Tests.{tests}
+use Rattle.basis.proofs.Std.{tests}
 use Rattle.json_number.proofs.or_mark.Statement.{statement}
 use Rattle.json_number.proofs.or_mark.Tie as tie
 

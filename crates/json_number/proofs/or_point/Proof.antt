@@ -1,6 +1,6 @@
 -- `json_number::or_point` meets its contract.
 -- Assumes nothing.
-use Rattle.basis.proofs.Tests.{tests}
+use Rattle.basis.proofs.Std.{tests}
 use Rattle.json_number.proofs.or_point.Statement.{statement}
 use Rattle.json_number.proofs.or_point.Tie as tie
 

@@ -1,8 +1,6 @@
 -- `json_number::sign` meets its contract.
 -- Assumes nothing.
-use Rattle.basis.proofs.Tests.{tests}
-use borrow.Author.Needs.{needs}
-use borrow.Author.Needs.{needs}
+use Rattle.basis.proofs.Std.{tests, needs}
 use Rattle.json_number.proofs.sign.Statement.{statement}
 use Rattle.json_number.proofs.sign.Tie as tie
 

@@ -1,7 +1,6 @@
 -- `json_number::turn` meets its contract.
 -- Assumes nothing.
-use borrow.Author.Needs.{needs}
-use borrow.Author.Needs.{needs}
+use Rattle.basis.proofs.Std.{needs}
 use Rattle.json_number.proofs.turn.Statement.{statement}
 use Rattle.json_number.proofs.turn.Tie as tie
 

@@ -1,14 +1,10 @@
 -- `json_packet::is_again` meets its contract.
 -- Assumes nothing.
-use Prim.Native.Nat.{_+_, _-_}
-use lib.ListN.{length, drop}
+use Rattle.basis.proofs.Std.{_+_, _-_, length, drop, _≡_, _∙_, sym, arith, needs}
 use Rattle.json_text.specs.Decoded.{decoded}
 use Rattle.json_find.specs.Entries.{entries}
 use Rattle.json_find.proofs.Walks.{step-on, step-in}
 use Rattle.json_packet.specs.Scan.{anySame, later, again}
-use mathlib.Core.Path.{_≡_, _∙_, sym}
-use native.Mathlib.Omega.{arith}
-use borrow.Author.Needs.{needs}
 use Rattle.json_packet.proofs.Scans.{again-is, again-none, again-here, again-next}
 use Rattle.json_packet.proofs.is_again.Statement.{statement}
 use Rattle.json_packet.proofs.is_again.Tie as tie

@@ -1,9 +1,8 @@
 -- `json_packet::judge` meets its contract.
 -- Assumes nothing.
-use mathlib.Core.Path.{_∙_, sym}
+use Rattle.basis.proofs.Std.{_∙_, sym, needs}
 use Rattle.json_packet.proofs.Whole.{none-there, no-object, no-value, more-follows, by-marks, by-names}
 use Rattle.json_packet.proofs.Judging.{refused, value-judged, taken}
-use borrow.Author.Needs.{needs}
 use Rattle.json_packet.proofs.judge.Statement.{statement}
 use Rattle.json_packet.proofs.judge.Tie as tie
 

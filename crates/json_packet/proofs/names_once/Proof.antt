@@ -1,11 +1,7 @@
 -- `json_packet::names_once` meets its contract.
 -- Assumes nothing.
-use Prim.Native.Nat.{_-_}
-use lib.ListN.{length, drop}
+use Rattle.basis.proofs.Std.{_-_, length, drop, _≡_, _∙_, sym, refl, arith, needs}
 use Rattle.json_packet.specs.Scan.{scan}
-use mathlib.Core.Path.{_≡_, _∙_, sym, refl}
-use native.Mathlib.Omega.{arith}
-use borrow.Author.Needs.{needs}
 use Rattle.json_packet.proofs.Scans.{scan-bad, scan-on, token-on, token-in, scan-past}
 use Rattle.json_packet.proofs.names_once.Statement.{statement}
 use Rattle.json_packet.proofs.names_once.Tie as tie

@@ -1,9 +1,7 @@
 -- `json_packet::same_string` meets its contract.
 -- Assumes nothing.
-use mathlib.Core.Path.{_∙_}
-use borrow.Author.Needs.{needs}
+use Rattle.basis.proofs.Std.{_∙_, needs}
 use Rattle.json_packet.proofs.Scans.{same-past, same-other, same-here}
-use borrow.Author.Needs.{needs}
 use Rattle.json_packet.proofs.same_string.Statement.{statement}
 use Rattle.json_packet.proofs.same_string.Tie as tie
 

@@ -1,9 +1,7 @@
 -- `json_packet::token` meets its contract.
 -- Assumes nothing.
-use mathlib.Core.Path.{_∙_, sym}
-use borrow.Author.Needs.{needs}
+use Rattle.basis.proofs.Std.{_∙_, sym, needs}
 use Rattle.json_packet.proofs.Scans.{token-byte, token-again, token-string}
-use borrow.Author.Needs.{needs}
 use Rattle.json_packet.proofs.token.Statement.{statement}
 use Rattle.json_packet.proofs.token.Tie as tie
 

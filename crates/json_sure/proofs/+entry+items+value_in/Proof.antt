@@ -1,12 +1,6 @@
 -- `json_sure::entry`, `json_sure::items`, `json_sure::value_in`, which call one another with falling levels, meet their contracts.
 -- Assumes nothing.
-use Prim.Native.Nat.{_≤_, _-_, _+_, _*_}
-use mathlib.Core.Path.{_≡_, refl, subst, _∙_}
-use mathlib.Core.Bool.{Bool}
-use mathlib.Core.List.{List, []}
-use native.Mathlib.Omega.{arith}
-use borrow.Author.Needs.{needs}
-use lib.ListN.{length, drop}
+use Rattle.basis.proofs.Std.{_≤_, _-_, _+_, _*_, _≡_, refl, subst, _∙_, Bool, List, [], arith, needs, length, drop, ℕ, _<_}
 use Rattle.json_text.specs.Decoded.Parsed.{ok}
 use Rattle.json_text.specs.declared.Read.{Read}
 use Rattle.json_text.specs.declared.Read.the-variants as Read
@@ -18,7 +12,6 @@ use Rattle.json_sure.specs.Sure.{Noted, sureIn, notedIn}
 use Rattle.json_sure.proofs.Notes.{none-noted, enters-rest, noted-rest, sure-rest}
 use Rattle.json_sure.proofs.Entries.{enters-none, enters-bad, enters}
 use Rattle.json_sure.proofs.Saying.{ItemsSay, say-last, say-next, judged-none, judged-past, judged-empty, inside-say, value-past, value-array, value-object, value-scalar}
-use Prim.Native.Nat.{ℕ, _<_}
 use borrow.Fn.Kinds.{In}
 use borrow.Fn.PlainCycle.{Measures, is, falls, and}
 use Rattle.json_sure.proofs.entry.Reads as entry

@@ -1,6 +1,6 @@
 -- `json_sure::all_or_none` meets its contract.
 -- Assumes nothing.
-use Rattle.basis.proofs.Tests.{tests}
+use Rattle.basis.proofs.Std.{tests}
 use Rattle.json_sure.proofs.all_or_none.Statement.{statement}
 use Rattle.json_sure.proofs.all_or_none.Tie as tie
 

@@ -1,11 +1,6 @@
 -- `json_sure::is_new` meets its contract.
 -- Assumes nothing.
-use Prim.Native.Nat.{_-_, _<_, _≤_}
-use mathlib.Core.Path.{_≡_, refl, sym, _∙_}
-use native.Mathlib.Omega.{arith}
-use borrow.Author.Needs.{needs}
-use lib.ListN.{length, drop}
-use Rattle.basis.specs.Pick.{both}
+use Rattle.basis.proofs.Std.{_-_, _<_, _≤_, _≡_, refl, sym, _∙_, arith, needs, length, drop, both}
 use Rattle.json_sure.specs.Sure.{isNew}
 use Rattle.json_sure.proofs.New.{new-step, new-end}
 use Rattle.json_sure.proofs.is_new.Statement.{statement}

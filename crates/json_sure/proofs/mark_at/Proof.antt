@@ -1,7 +1,6 @@
 -- `json_sure::mark_at` meets its contract.
 -- Assumes nothing.
-use mathlib.Core.Path.{_∙_}
-use borrow.Author.Needs.{needs}
+use Rattle.basis.proofs.Std.{_∙_, needs}
 use denote.Ref.{now}
 use Rattle.json_sure.proofs.Marks.{mark-none, mark-past, mark-there}
 use Rattle.json_sure.proofs.mark_at.Statement.{statement}

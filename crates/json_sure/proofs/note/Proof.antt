@@ -1,10 +1,8 @@
 -- `json_sure::note` meets its contract.
 -- Assumes nothing.
-use mathlib.Core.Path.{ap, _∙_}
-use native.Mathlib.Omega.{arith}
+use Rattle.basis.proofs.Std.{ap, _∙_, arith, needs}
 use Rattle.json_sure.specs.Sure.{allOf}
 use Rattle.json_sure.proofs.Notes.{notes-none, notes-full, notes-new}
-use borrow.Author.Needs.{needs}
 use Rattle.json_sure.proofs.note.Statement.{statement}
 use Rattle.json_sure.proofs.note.Tie as tie
 

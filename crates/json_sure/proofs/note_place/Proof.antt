@@ -1,7 +1,7 @@
 -- `json_sure::note_place` meets its contract.
 -- Assumes nothing.
 use Rattle.json_sure.proofs.Listing.{place-noted, no-room}
-use borrow.Author.Needs.{needs}
+use Rattle.basis.proofs.Std.{needs}
 use Rattle.json_sure.proofs.note_place.Statement.{statement}
 use Rattle.json_sure.proofs.note_place.Tie as tie
 

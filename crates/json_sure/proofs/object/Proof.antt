@@ -1,6 +1,6 @@
 -- `json_sure::object` meets its contract.
 -- Assumes nothing.
-use borrow.Author.Needs.{needs}
+use Rattle.basis.proofs.Std.{needs}
 use denote.Ref.{now}
 use Rattle.json_sure.proofs.Room.{judged-short}
 use Rattle.json_sure.proofs.object.Statement.{statement}

@@ -1,12 +1,6 @@
 -- `json_sure::object_in` meets its contract.
 -- Assumes nothing.
-use Prim.Native.Nat.{ℕ, _≤_, _-_}
-use mathlib.Core.Path.{_≡_, refl, subst, _∙_}
-use mathlib.Core.Bool.{Bool}
-use mathlib.Core.List.{List, []}
-use native.Mathlib.Omega.{arith}
-use borrow.Author.Needs.{needs}
-use lib.ListN.{length, drop}
+use Rattle.basis.proofs.Std.{ℕ, _≤_, _-_, _≡_, refl, subst, _∙_, Bool, List, [], arith, needs, length, drop}
 use Rattle.json_text.specs.Decoded.Parsed.{ok}
 use Rattle.json_text.specs.declared.Read.{Read}
 use Rattle.json_text.specs.Ends.{Ends}

@@ -1,6 +1,6 @@
 -- `json_sure::still_new` meets its contract.
 -- Assumes nothing.
-use Rattle.basis.proofs.Tests.{tests}
+use Rattle.basis.proofs.Std.{tests}
 use Rattle.json_sure.proofs.still_new.Statement.{statement}
 use Rattle.json_sure.proofs.still_new.Tie as tie
 

@@ -1,11 +1,6 @@
 -- `json_text::chars` meets its contract.
 -- Assumes nothing.
-use Prim.Native.Nat.{_≤_, _-_, _+_}
-use mathlib.Core.Path.{_∙_, sym}
-use native.Mathlib.Omega.{arith}
-use borrow.Author.Needs.{needs}
-use borrow.Author.Tests.{eqb-true}
-use lib.ListN.{length, drop}
+use Rattle.basis.proofs.Std.{_≤_, _-_, _+_, _∙_, sym, arith, needs, eqb-true, length, drop}
 use denote.Ref.{now}
 use Rattle.json_text.specs.declared.Read.{Read}
 use Rattle.json_text.specs.declared.Read.the-variants as Read

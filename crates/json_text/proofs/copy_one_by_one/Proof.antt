@@ -1,10 +1,6 @@
 -- `json_text::copy_one_by_one` meets its contract.
 -- Assumes nothing.
-use Prim.Native.Nat.{_-_}
-use mathlib.Core.Path.{_≡_, refl, _∙_, sym}
-use native.Mathlib.Omega.{arith}
-use borrow.Author.Needs.{needs}
-use lib.ListN.{length, drop, replicate}
+use Rattle.basis.proofs.Std.{_-_, _≡_, refl, _∙_, sym, arith, needs, length, drop, replicate}
 use denote.Ref.{now}
 use Rattle.json_character.proofs.Laws.{at-plain}
 use Rattle.json_text.specs.Decoded.{decoded}

@@ -1,11 +1,6 @@
 -- `json_text::copy_plain` meets its contract.
 -- Assumes nothing.
-use Prim.Native.Nat.{ℕ, _+_, _-_, _≤_}
-use mathlib.Core.Path.{_≡_, refl, _∙_, sym}
-use mathlib.Core.Bool.{true}
-use native.Mathlib.Omega.{arith}
-use borrow.Author.Needs.{needs}
-use lib.ListN.{getD, drop, replicate}
+use Rattle.basis.proofs.Std.{ℕ, _+_, _-_, _≤_, _≡_, refl, _∙_, sym, true, arith, getD, drop, replicate}
 use denote.Ref.{now}
 use Rattle.json_character.specs.Char.{isPlain}
 use Rattle.json_character.proofs.Laws.{at-close}

@@ -1,10 +1,6 @@
 -- `json_text::copy_text` meets its contract.
 -- Assumes nothing.
-use Prim.Native.Nat.{_+_}
-use mathlib.Core.Path.{_∙_, sym}
-use native.Mathlib.Omega.{arith}
-use borrow.Author.Needs.{needs}
-use borrow.Author.Tests.{eqb-true}
+use Rattle.basis.proofs.Std.{_∙_, sym, arith, needs, eqb-true}
 use Rattle.json_text.proofs.Copies.{room-36, room-most}
 use Rattle.json_text.proofs.copy_text.Statement.{statement}
 use Rattle.json_text.proofs.copy_text.Tie as tie

@@ -1,11 +1,7 @@
 -- `json_text::is_quote` meets its contract.
 -- Assumes nothing.
-use Prim.Native.Nat.{ℕ}
-use mathlib.Core.Path.{sym, ap}
-use lib.Dec.{eqb}
-use lib.ListN.{List·getD-eq-default}
+use Rattle.basis.proofs.Std.{ℕ, sym, ap, eqb, List·getD-eq-default, needs}
 use denote.Ref.{now}
-use borrow.Author.Needs.{needs}
 use Rattle.json_text.proofs.is_quote.Statement.{statement}
 use Rattle.json_text.proofs.is_quote.Tie as tie
 

@@ -1,6 +1,6 @@
 -- `json_text::no_copy` meets its contract.
 -- Assumes nothing.
-use mathlib.Core.Path.{refl}
+use Rattle.basis.proofs.Std.{refl}
 use Rattle.json_text.specs.Copied.{noCopy}
 use Rattle.json_text.proofs.no_copy.Statement.{statement}
 use Rattle.json_text.proofs.no_copy.Tie as tie

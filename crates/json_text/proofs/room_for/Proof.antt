@@ -1,6 +1,6 @@
 -- `json_text::room_for` meets its contract.
 -- Assumes nothing.
-use Rattle.basis.proofs.Tests.{tests}
+use Rattle.basis.proofs.Std.{tests}
 use Rattle.json_text.proofs.room_for.Statement.{statement}
 use Rattle.json_text.proofs.room_for.Tie as tie
 

@@ -1,10 +1,6 @@
 -- `json_text::same` meets its contract.
 -- Assumes nothing.
-use Prim.Native.Nat.{_-_}
-use mathlib.Core.Path.{_≡_, refl, _∙_, sym}
-use native.Mathlib.Omega.{arith}
-use borrow.Author.Needs.{needs}
-use lib.ListN.{length, drop}
+use Rattle.basis.proofs.Std.{_-_, _≡_, refl, _∙_, sym, arith, needs, length, drop}
 use denote.Ref.{now}
 use Rattle.json_text.specs.Decoded.{decoded, sameText}
 use Rattle.json_text.proofs.Texts.{one-in, close, same-both, same-differ, same-longer, same-shorter, same-done, same-bad-1, same-bad-2}

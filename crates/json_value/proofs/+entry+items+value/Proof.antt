@@ -1,14 +1,10 @@
 -- `json_value::entry`, `json_value::items`, `json_value::value`, which call one another with falling levels, meet their contracts.
 -- Assumes nothing.
-use Prim.Native.Nat.{_≤_, _-_, _+_, _*_}
-use native.Mathlib.Omega.{arith}
-use borrow.Author.Needs.{needs}
-use lib.ListN.{length, drop}
+use Rattle.basis.proofs.Std.{_≤_, _-_, _+_, _*_, arith, needs, length, drop, ℕ, _<_}
 use Rattle.json_text.specs.declared.Read.{Read}
 use Rattle.json_text.specs.Ends.{Ends}
 use Rattle.json_value.specs.Reader.{insideOf}
 use Rattle.json_value.proofs.Nesting.{value-past, value-array, value-object, value-scalar, entry-none, entry-bad, entry-mark, ItemsAt, items-last, items-neither, items-next, comma-after, comma-in, no-levels, inside-past, inside-empty, inside-items}
-use Prim.Native.Nat.{ℕ, _<_}
 use borrow.Fn.Kinds.{In}
 use borrow.Fn.PlainCycle.{Measures, is, falls, and}
 use Rattle.json_value.proofs.entry.Reads as entry

@@ -1,7 +1,7 @@
 -- `json_value::after` meets its contract.
 -- Assumes nothing.
 use Rattle.json_value.proofs.Steps.{mark-past, mark-close, mark-comma, mark-neither}
-use borrow.Author.Needs.{needs}
+use Rattle.basis.proofs.Std.{needs}
 use Rattle.json_value.proofs.after.Statement.{statement}
 use Rattle.json_value.proofs.after.Tie as tie
 

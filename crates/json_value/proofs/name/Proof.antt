@@ -1,7 +1,7 @@
 -- `json_value::name` meets its contract.
 -- Assumes nothing.
 use Rattle.json_value.proofs.Steps.{name-past, name-none, name-bad, name-short, name-other, name-done}
-use borrow.Author.Needs.{needs}
+use Rattle.basis.proofs.Std.{needs}
 use Rattle.json_value.proofs.name.Statement.{statement}
 use Rattle.json_value.proofs.name.Tie as tie
 

@@ -1,9 +1,8 @@
 -- `json_value::scalar` meets its contract.
 -- Assumes nothing.
-use mathlib.Core.Bool.{true, false}
+use Rattle.basis.proofs.Std.{true, false, needs}
 use Rattle.json_value.specs.Grammar.Json.{null, bool}
 use Rattle.json_value.proofs.Steps.{scalar-past, scalar-string, scalar-true, scalar-false, scalar-null, scalar-number}
-use borrow.Author.Needs.{needs}
 use Rattle.json_value.proofs.scalar.Statement.{statement}
 use Rattle.json_value.proofs.scalar.Tie as tie
 

@@ -1,10 +1,6 @@
 -- `json_value::space` meets its contract.
 -- Assumes nothing.
-use Prim.Native.Nat.{_≤_, _-_}
-use mathlib.Core.Path.{_≡_, refl, _∙_, sym}
-use native.Mathlib.Omega.{arith}
-use borrow.Author.Needs.{needs}
-use lib.ListN.{length, drop}
+use Rattle.basis.proofs.Std.{_≤_, _-_, _≡_, refl, _∙_, sym, arith, needs, length, drop}
 use Rattle.json_value.specs.Reader.{skipWs}
 use Rattle.json_value.proofs.Steps.{skip-yes, skip-no, skip-end}
 use Rattle.json_value.proofs.space.Statement.{statement}

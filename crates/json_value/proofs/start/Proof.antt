@@ -1,7 +1,7 @@
 -- `json_value::start` meets its contract.
 -- Assumes nothing.
 use Rattle.json_value.proofs.Steps.{start-name, start-past, start-here}
-use borrow.Author.Needs.{needs}
+use Rattle.basis.proofs.Std.{needs}
 use Rattle.json_value.proofs.start.Statement.{statement}
 use Rattle.json_value.proofs.start.Tie as tie
 

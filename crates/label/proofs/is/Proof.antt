@@ -1,8 +1,5 @@
-use mathlib.Core.Path.{_≡_}
-use lib.ListN.{length}
-use Rattle.basis.proofs.Same.{same-is}
+use Rattle.basis.proofs.Std.{_≡_, length, same-is, needs}
 use Rattle.label.proofs.Text.{text-part}
-use borrow.Author.Needs.{needs}
 use Rattle.label.proofs.is.Statement.{statement}
 use Rattle.label.proofs.is.Tie as tie
 

@@ -1,4 +1,4 @@
-use borrow.Author.Needs.{needs}
+use Rattle.basis.proofs.Std.{needs}
 use Rattle.label.proofs.missed.Statement.{statement}
 use Rattle.label.proofs.missed.Tie as tie
 

@@ -1,8 +1,4 @@
-use Prim.Native.Nat.{ℕ, _≤_, _-_}
-use mathlib.Core.Path.{_≡_, refl, ap, _∙_}
-use native.Mathlib.Omega.{arith}
-use lib.ListN.{length, take, length-take}
-use borrow.Author.Needs.{needs}
+use Rattle.basis.proofs.Std.{ℕ, _≤_, _-_, _≡_, refl, ap, _∙_, arith, length, take, length-take, needs}
 use Rattle.label.specs.Padded.{padded}
 use Rattle.label.proofs.Padded.{copy-one, take-min}
 use Rattle.label.proofs.of.Statement.{statement}

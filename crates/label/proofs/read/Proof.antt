@@ -1,15 +1,8 @@
-use Prim.Native.Nat.{ℕ, _+_, _-_}
-use mathlib.Core.Path.{_≡_, sym, ap, _∙_}
-use mathlib.Core.Bool.{true, false}
-use mathlib.Core.List.{List}
-use native.Mathlib.Nat.{add-sub-cancel-left}
-use lib.ListN.{getD, take, drop}
-use lib.Seq.{take-all}
+use Rattle.basis.proofs.Std.{ℕ, _+_, _-_, _≡_, sym, ap, _∙_, true, false, List, add-sub-cancel-left, getD, take, drop, take-all, needs}
 use Rattle.number.specs.Alphabet.{isLabel}
 use Rattle.label.specs.Label.{labelOf}
 use Rattle.label.specs.Reading.{textAt}
 use Rattle.label.proofs.Reading.{label-short, read-behind, read-cut, read-label, read-no-label}
-use borrow.Author.Needs.{needs}
 use Rattle.label.proofs.read.Statement.{statement}
 use Rattle.label.proofs.read.Tie as tie
 

@@ -1,11 +1,6 @@
 -- `names::find_in` meets its contract.
 -- Assumes nothing.
-use mathlib.Core.Bool.{Bool}
-use mathlib.Core.Path.{_≡_, refl, sym, ap, _∙_}
-use Prim.Native.Nat.{_+_, _-_}
-use native.Mathlib.Omega.{arith}
-use borrow.Author.Needs.{needs}
-use Rattle.basis.specs.Pick.{pick}
+use Rattle.basis.proofs.Std.{Bool, _≡_, refl, sym, ap, _∙_, _+_, _-_, arith, needs, pick}
 use Rattle.names.specs.Names.{findIn}
 use Rattle.names.specs.declared.Found.the-variants.{At}
 use Rattle.names.proofs.Search.{turn}

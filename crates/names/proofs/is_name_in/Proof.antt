@@ -1,7 +1,6 @@
 -- `names::is_name_in` meets its contract.
 -- Assumes nothing.
-use native.Mathlib.Omega.{arith}
-use borrow.Author.Needs.{needs}
+use Rattle.basis.proofs.Std.{arith, needs}
 use denote.Ref.{now}
 use Rattle.names.proofs.Lending.{past-names, has-start, in-bytes, few-bytes, other-length, same-part}
 use Rattle.names.proofs.is_name_in.Statement.{statement}

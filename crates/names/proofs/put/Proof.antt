@@ -1,10 +1,6 @@
-use borrow.Author.Needs.{needs}
+use Rattle.basis.proofs.Std.{needs}
 use Rattle.names.proofs.put.Statement.{statement}
 use Rattle.names.proofs.put.Tie as tie
-use Rattle.names.proofs.put.Reads as reads
-use Rattle.names.proofs.put.Lts as lts
-use Rattle.names.proofs.table.span_of.Reads as span-of-reads
-use Rattle.output.proofs.put_bytes.Reads as put-bytes-reads
 
 returns : tie.Need-returns
 returns c = rw (← (c .before .before .before .before .before .before .span-of .ensures .named)) (c .before .before .put-bytes .ensures)

@@ -1,9 +1,4 @@
-use mathlib.Core.Path.{_≡_, sym}
-use mathlib.Core.List.{_++_, append-nil}
-use Prim.Native.Nat.{_+_, _-_, _^_, _≤_, _<_}
-use native.Mathlib.Omega.{arith}
-use lib.ListN.{length, drop, length-set}
-use borrow.Author.Needs.{needs}
+use Rattle.basis.proofs.Std.{_≡_, sym, _++_, append-nil, _+_, _^_, _≤_, _<_, arith, length, drop, length-set, needs}
 use Rattle.number.specs.Decimal.{digits}
 use Rattle.number.proofs.Places.{room, turn, ends}
 use Rattle.number.proofs.digits_of.Statement.{statement}

@@ -1,7 +1,6 @@
-use mathlib.Core.Path.{_≡_, ap, _∙_}
+use Rattle.basis.proofs.Std.{_≡_, ap, _∙_, needs}
 use mir.Facts.{toZ-ofZ}
 use Rattle.number.specs.Signed.{wordOf}
-use borrow.Author.Needs.{needs}
 use Rattle.number.proofs.four_of.Statement.{statement}
 use Rattle.number.proofs.four_of.Tie as tie
 

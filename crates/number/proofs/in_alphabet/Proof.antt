@@ -1,4 +1,4 @@
-use Rattle.basis.proofs.Tests.{tests}
+use Rattle.basis.proofs.Std.{tests}
 use Rattle.number.proofs.in_alphabet.Statement.{statement}
 use Rattle.number.proofs.in_alphabet.Tie as tie
 

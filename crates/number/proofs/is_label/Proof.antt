@@ -1,11 +1,5 @@
 use Rattle.number.proofs.Alphabet.{turn, no-label, label, all-read, not-taken, not-left}
-use mathlib.Core.Path.{_≡_, refl, sym, ap, _∙_}
-use mathlib.Core.Bool.{Bool, true, false}
-use Prim.Native.Nat.{_+_, _-_, _≤_}
-use lib.ListN.{length, drop, getD}
-use borrow.Author.Needs.{needs}
-use Rattle.basis.proofs.Tests.{tests}
-use Rattle.basis.specs.Pick.{both}
+use Rattle.basis.proofs.Std.{_≡_, refl, sym, ap, _∙_, Bool, true, false, _+_, _-_, _≤_, length, drop, getD, needs, tests, both}
 use Rattle.number.specs.Alphabet.{inAlphabet, allInAlphabet}
 use Rattle.number.proofs.is_label.Statement.{statement}
 use Rattle.number.proofs.is_label.Tie as tie

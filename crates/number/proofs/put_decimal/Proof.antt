@@ -1,10 +1,6 @@
-use Prim.Native.Nat.{_-_}
-use lib.ListN.{length, take, drop}
+use Rattle.basis.proofs.Std.{_-_, length, take, drop, _≡_, _∙_, arith, needs}
 use Rattle.number.specs.Decimal.{digits}
 use Rattle.number.proofs.Places.{from-on}
-use mathlib.Core.Path.{_≡_, _∙_}
-use native.Mathlib.Omega.{arith}
-use borrow.Author.Needs.{needs}
 use Rattle.number.proofs.put_decimal.Statement.{statement}
 use Rattle.number.proofs.put_decimal.Tie as tie
 

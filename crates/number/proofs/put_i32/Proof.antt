@@ -1,11 +1,8 @@
-use mathlib.Core.Path.{_≡_, ap, _∙_}
-use Prim.Native.Nat.{_^_, _<_, _≤_}
-use native.Mathlib.Omega.{arith}
+use Rattle.basis.proofs.Std.{_≡_, ap, _∙_, _^_, _<_, _≤_, arith, needs}
 use mir.Facts.{toZ-ofZ}
 use Rattle.number.specs.Signed.{wordOf}
 use Rattle.number.proofs.Sign.{signed-fits}
 use Rattle.number.proofs.Digits.{decimal-pos, decimal-neg}
-use borrow.Author.Needs.{needs}
 use Rattle.number.proofs.put_i32.Statement.{statement}
 use Rattle.number.proofs.put_i32.Tie as tie
 

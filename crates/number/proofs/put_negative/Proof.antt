@@ -1,11 +1,6 @@
-use mathlib.Core.Path.{_≡_, ap, _∙_}
-use Prim.Native.Nat.{ℕ, _-_}
-use mathlib.Core.List.{List, _∷_}
-use native.Mathlib.Omega.{arith}
-use lib.ListN.{length, take, drop, set, length-set}
+use Rattle.basis.proofs.Std.{_≡_, ap, _∙_, ℕ, _-_, List, _∷_, arith, length, take, drop, set, length-set, needs}
 use Rattle.number.specs.Decimal.{digits}
 use Rattle.number.proofs.Places.{from-on, before}
-use borrow.Author.Needs.{needs}
 use Rattle.number.proofs.put_negative.Statement.{statement}
 use Rattle.number.proofs.put_negative.Tie as tie
 

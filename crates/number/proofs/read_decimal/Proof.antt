@@ -1,12 +1,8 @@
-use mathlib.Core.Path.{_≡_, sym, ap, _∙_}
-use Prim.Native.Nat.{ℕ, _-_}
-use native.Mathlib.Omega.{arith}
-use lib.ListN.{length}
+use Rattle.basis.proofs.Std.{_≡_, sym, ap, _∙_, ℕ, arith, length, needs}
 use Rattle.number.specs.Decimal.{digits}
 use Rattle.number.specs.Reading.{is}
 use Rattle.number.proofs.Places.{from-on}
 use Rattle.number.proofs.Reading.{too-long, too-much, unlike}
-use borrow.Author.Needs.{needs}
 use Rattle.number.proofs.read_decimal.Statement.{statement}
 use Rattle.number.proofs.read_decimal.Tie as tie
 

@@ -1,10 +1,4 @@
-use mathlib.Core.Path.{_≡_, refl, sym, ap, subst, _∙_}
-use mathlib.Core.List.{List, _∷_}
-use Prim.Native.Nat.{ℕ, _-_, _<_}
-use native.Mathlib.Omega.{arith}
-use lib.IntN.{ℤ}
-use lib.ListN.{length, take, drop}
-use lib.Seq.{drop-cons}
+use Rattle.basis.proofs.Std.{_≡_, refl, sym, ap, subst, _∙_, List, _∷_, ℕ, _-_, _<_, arith, ℤ, length, take, drop, drop-cons, needs}
 use mir.Syntax.{w32}
 use mir.Val.{toZ, ofZ}
 use Rattle.number.specs.Reading.{ReadsInt}
@@ -12,7 +6,6 @@ use Rattle.number.specs.Signed.{signedOf}
 use Rattle.number.proofs.Places.{from-on}
 use Rattle.number.proofs.RoundTrip.{passed-on}
 use Rattle.number.proofs.Reading.{was, was-none, from-zero, no-plain, no-text}
-use borrow.Author.Needs.{needs}
 use Rattle.number.proofs.read_i32.Statement.{statement}
 use Rattle.number.proofs.read_i32.Tie as tie
 

@@ -1,14 +1,10 @@
-use mathlib.Core.Path.{_≡_, ap, _∙_}
-use Prim.Native.Nat.{_+_, _-_, _^_, _<_}
-use native.Mathlib.Omega.{arith}
-use lib.IntN.{ℤ}
+use Rattle.basis.proofs.Std.{_≡_, ap, _∙_, _+_, _-_, _^_, _<_, arith, ℤ, needs}
 use mir.Syntax.{w32}
 use mir.Val.{toZ, ofZ}
 use Rattle.number.specs.Decimal.{digits}
 use Rattle.number.specs.Signed.{signedOf}
 use Rattle.number.proofs.RoundTrip.{passed-on}
 use Rattle.number.proofs.Reading.{was, was-none, below-zero, no-minus-zero, no-digits}
-use borrow.Author.Needs.{needs}
 use Rattle.number.proofs.read_negative.Statement.{statement}
 use Rattle.number.proofs.read_negative.Tie as tie
 

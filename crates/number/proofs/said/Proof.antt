@@ -1,10 +1,4 @@
-use mathlib.Core.Path.{_≡_, refl, sym, ap, _∙_}
-use Prim.Native.Nat.{_+_, _-_, _*_, _^_, _≤_}
-use native.Mathlib.Nat.{pow-suc, pow-le-pow-right}
-use native.Mathlib.Numerals.{add-one}
-use native.Mathlib.Omega.{arith}
-use lib.ListN.{length, drop, drop-of-length-le}
-use borrow.Author.Needs.{needs}
+use Rattle.basis.proofs.Std.{_≡_, refl, sym, ap, _∙_, _+_, _-_, _*_, _^_, _≤_, pow-suc, pow-le-pow-right, add-one, arith, length, drop, drop-of-length-le, needs}
 use Rattle.number.specs.Reading.{says}
 use Rattle.number.proofs.Reading.{turn}
 use Rattle.number.proofs.said.Statement.{statement}

@@ -1,12 +1,8 @@
-use mathlib.Core.Path.{ap, _∙_}
-use Prim.Native.Nat.{_+_, _<_, _^_}
-use native.Mathlib.Omega.{arith}
-use lib.IntN.{ℤ}
+use Rattle.basis.proofs.Std.{ap, _∙_, _+_, _<_, _^_, arith, ℤ, needs}
 use mir.Syntax.{w32}
 use mir.Val.{toZ, ofZ}
 use Rattle.number.proofs.Sign.{small-16, large-16}
 use Rattle.number.proofs.RoundTrip.{passed-on}
-use borrow.Author.Needs.{needs}
 use Rattle.number.proofs.signed16_of.Statement.{statement}
 use Rattle.number.proofs.signed16_of.Tie as tie
 

@@ -1,13 +1,9 @@
-use mathlib.Core.Path.{_≡_, ap, _∙_}
-use native.Mathlib.Omega.{arith}
-use lib.ListN.{length}
-use lib.IntN.{ℤ}
+use Rattle.basis.proofs.Std.{_≡_, ap, _∙_, arith, length, ℤ, needs}
 use mir.Syntax.{w32}
 use mir.Val.{toZ, ofZ}
 use Rattle.bits.specs.Fields.{numberOf}
 use Rattle.number.specs.Signed.{signedOf}
 use Rattle.number.proofs.RoundTrip.{passed-on, number-four}
-use borrow.Author.Needs.{needs}
 use Rattle.number.proofs.signed_in.Statement.{statement}
 use Rattle.number.proofs.signed_in.Tie as tie
 

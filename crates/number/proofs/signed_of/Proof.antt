@@ -1,10 +1,8 @@
-use mathlib.Core.Path.{ap, _∙_}
-use Prim.Native.Nat.{ℕ, _^_}
+use Rattle.basis.proofs.Std.{ap, _∙_, ℕ, _^_, needs}
 use lib.Bits.{bitOr, and-mask, mask-lt}
 use mir.Syntax.{w32}
 use mir.Val.{toZ}
 use Rattle.number.proofs.Sign.{with-top, signed-is}
-use borrow.Author.Needs.{needs}
 use Rattle.number.proofs.signed_of.Statement.{statement}
 use Rattle.number.proofs.signed_of.Tie as tie
 

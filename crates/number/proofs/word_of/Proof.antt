@@ -1,6 +1,4 @@
-use mathlib.Core.Path.{ap, _∙_}
-use Prim.Native.Nat.{ℕ, _^_}
-use native.Mathlib.Nat.{mod-eq-of-lt}
+use Rattle.basis.proofs.Std.{ap, _∙_, ℕ, _^_, mod-eq-of-lt}
 use lib.Bits.{bitOr}
 use mir.Syntax.{w32}
 use mir.Val.{ofZ}

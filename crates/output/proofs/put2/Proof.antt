@@ -1,5 +1,5 @@
 use Rattle.output.proofs.Laws.{then}
-use borrow.Author.Needs.{needs}
+use Rattle.basis.proofs.Std.{needs}
 use Rattle.output.proofs.put2.Statement.{statement}
 use Rattle.output.proofs.put2.Tie as tie
 

@@ -1,10 +1,4 @@
-use mathlib.Core.Path.{_≡_, refl}
-use Prim.Native.Nat.{_+_, _-_, _≤_, _<_}
-use native.Mathlib.Omega.{arith}
-use native.Mathlib.Numerals.{add-one}
-use lib.ListN.{length, length-set}
-use lib.Seq.{paste, paste-zero, paste-suc}
-use borrow.Author.Needs.{needs}
+use Rattle.basis.proofs.Std.{_≡_, refl, _+_, _-_, _≤_, _<_, arith, add-one, length, length-set, paste, paste-zero, paste-suc, needs}
 use Rattle.output.proofs.Put.{pasted}
 use Rattle.output.proofs.Laws.{placed, refused}
 use Rattle.output.proofs.put_bytes.Statement.{statement}

@@ -1,7 +1,7 @@
 use Rattle.answer.specs.Given.Hint.{none}
 use Rattle.site.specs.declared.Site.{Site}
 use Rattle.packet_answer.proofs.Ends.{accepts}
-use borrow.Author.Needs.{needs}
+use Rattle.basis.proofs.Std.{needs}
 use Rattle.packet_alarm.proofs.accept.Statement.{statement}
 use Rattle.packet_alarm.proofs.accept.Tie as tie
 

@@ -1,10 +1,9 @@
-use mathlib.Core.Path.{sym}
+use Rattle.basis.proofs.Std.{sym, needs}
 use Rattle.read_head.specs.declared.GotLabel.{GotLabel}
 use Rattle.store_table.specs.Layout.{tableOf}
 use Rattle.store_site.specs.Layout.{siteOf}
 use Rattle.packet_answer.proofs.Choices.{like}
 use Rattle.packet_alarm.specs.Orders.{aggregatedTaken}
-use borrow.Author.Needs.{needs}
 use Rattle.packet_alarm.proofs.aggregated.Statement.{statement}
 use Rattle.packet_alarm.proofs.aggregated.Tie as tie
 

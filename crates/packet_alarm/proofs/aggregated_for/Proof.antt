@@ -1,4 +1,4 @@
-use mathlib.Core.Path.{sym, _∙_}
+use Rattle.basis.proofs.Std.{sym, _∙_, needs}
 use Rattle.store_table.specs.Layout.{tableOf}
 use Rattle.store_site.specs.Layout.{siteOf}
 use Rattle.packet_lookup.specs.Sought.{componentSought}
@@ -6,7 +6,6 @@ use Rattle.send_message.specs.Sending.{aggregatedMessage}
 use Rattle.packet_answer.specs.Taken.{notAcked, replied, unlessBusy, unknownComponent}
 use Rattle.packet_answer.proofs.Choices.{picked-first, picked-second, not-acked}
 use Rattle.packet_alarm.specs.Orders.{isZero}
-use borrow.Author.Needs.{needs}
 use Rattle.packet_alarm.proofs.aggregated_for.Statement.{statement}
 use Rattle.packet_alarm.proofs.aggregated_for.Tie as tie
 

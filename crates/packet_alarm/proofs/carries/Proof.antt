@@ -1,6 +1,5 @@
-use mathlib.Core.Path.{ap, _∙_}
+use Rattle.basis.proofs.Std.{ap, _∙_, needs}
 use Rattle.packet_alarm.specs.Orders.{isZero}
-use borrow.Author.Needs.{needs}
 use Rattle.packet_alarm.proofs.carries.Statement.{statement}
 use Rattle.packet_alarm.proofs.carries.Tie as tie
 

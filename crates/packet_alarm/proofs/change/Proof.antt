@@ -1,8 +1,7 @@
-use mathlib.Core.Path.{ap, _∙_}
+use Rattle.basis.proofs.Std.{ap, _∙_, needs}
 use Rattle.alarm.specs.declared.Alarm.{Alarm}
 use Rattle.alarm.specs.Alarm.{orderOf}
 use Rattle.packet_alarm.proofs.Changes.{orders-it}
-use borrow.Author.Needs.{needs}
 use Rattle.packet_alarm.proofs.change.Statement.{statement}
 use Rattle.packet_alarm.proofs.change.Tie as tie
 

@@ -1,5 +1,5 @@
 use Rattle.packet_alarm.proofs.Changes.{refuses, makes}
-use borrow.Author.Needs.{needs}
+use Rattle.basis.proofs.Std.{needs}
 use Rattle.packet_alarm.proofs.changed.Statement.{statement}
 use Rattle.packet_alarm.proofs.changed.Tie as tie
 

@@ -1,9 +1,8 @@
-use mathlib.Core.Path.{sym, _∙_}
+use Rattle.basis.proofs.Std.{sym, _∙_, needs}
 use Rattle.store_table.specs.Layout.{tableOf}
 use Rattle.packet_answer.specs.Taken.{unknownComponent, unknownAlarm}
 use Rattle.packet_answer.proofs.Choices.{not-acked}
 use Rattle.packet_alarm.proofs.Asked.{found}
-use borrow.Author.Needs.{needs}
 use Rattle.packet_alarm.proofs.find.Statement.{statement}
 use Rattle.packet_alarm.proofs.find.Tie as tie
 

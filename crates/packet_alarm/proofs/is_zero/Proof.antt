@@ -1,4 +1,4 @@
-use borrow.Author.Needs.{needs}
+use Rattle.basis.proofs.Std.{needs}
 use Rattle.packet_alarm.proofs.is_zero.Statement.{statement}
 use Rattle.packet_alarm.proofs.is_zero.Tie as tie
 

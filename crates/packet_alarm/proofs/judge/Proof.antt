@@ -3,7 +3,7 @@ use Rattle.store_site.specs.Layout.{siteOf}
 use Rattle.packet_answer.proofs.Choices.{good, missing, bad}
 use Rattle.packet_alarm.specs.Orders.{foundTaken}
 use Rattle.packet_alarm.proofs.Asked.{alarm-judged}
-use borrow.Author.Needs.{needs}
+use Rattle.basis.proofs.Std.{needs}
 use Rattle.packet_alarm.proofs.judge.Statement.{statement}
 use Rattle.packet_alarm.proofs.judge.Tie as tie
 

@@ -4,7 +4,7 @@ use Rattle.packet_lookup.specs.Sought.{componentSought}
 use Rattle.packet_answer.proofs.Choices.{good, missing, bad}
 use Rattle.packet_alarm.specs.Orders.{aggregatedOf}
 use Rattle.packet_alarm.proofs.Asked.{aggregated-judged}
-use borrow.Author.Needs.{needs}
+use Rattle.basis.proofs.Std.{needs}
 use Rattle.packet_alarm.proofs.judge_aggregated.Statement.{statement}
 use Rattle.packet_alarm.proofs.judge_aggregated.Tie as tie
 

@@ -1,5 +1,5 @@
 use Rattle.store_site.proofs.TurnsLaws.{turns-then}
-use borrow.Author.Needs.{needs}
+use Rattle.basis.proofs.Std.{needs}
 use Rattle.packet_alarm.proofs.keep.Statement.{statement}
 use Rattle.packet_alarm.proofs.keep.Tie as tie
 

@@ -5,7 +5,7 @@ use Rattle.store_site.specs.Layout.{siteOf}
 use Rattle.packet_answer.proofs.Choices.{like}
 use Rattle.packet_alarm.specs.Orders.{ordered}
 use Rattle.packet_alarm.proofs.Changes.{taken-so}
-use borrow.Author.Needs.{needs}
+use Rattle.basis.proofs.Std.{needs}
 use Rattle.packet_alarm.proofs.ordered.Statement.{statement}
 use Rattle.packet_alarm.proofs.ordered.Tie as tie
 

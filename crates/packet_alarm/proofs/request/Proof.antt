@@ -1,7 +1,6 @@
-use mathlib.Core.Path.{sym, _∙_}
+use Rattle.basis.proofs.Std.{sym, _∙_, needs}
 use Rattle.store_table.specs.Layout.{tableOf}
 use Rattle.packet_alarm.proofs.Asked.{from-primary, from-secondary}
-use borrow.Author.Needs.{needs}
 use Rattle.packet_alarm.proofs.request.Statement.{statement}
 use Rattle.packet_alarm.proofs.request.Tie as tie
 

@@ -1,12 +1,10 @@
 -- `packet_answer::close` meets its contract.
 -- Assumes nothing.
-use Prim.Native.Nat.{ℕ}
-use mathlib.Core.Path.{ap, _∙_}
+use Rattle.basis.proofs.Std.{ℕ, ap, _∙_, needs}
 use Rattle.answer.specs.declared.Answer.the-variants.{Done}
 use Rattle.store_site.proofs.TurnsLaws.{turns-then}
 use Rattle.packet_answer.specs.Ending.{report}
 use Rattle.packet_answer.proofs.Ends.{closes}
-use borrow.Author.Needs.{needs}
 use Rattle.packet_answer.proofs.close.Statement.{statement}
 use Rattle.packet_answer.proofs.close.Tie as tie
 

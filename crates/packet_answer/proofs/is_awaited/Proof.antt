@@ -1,6 +1,6 @@
 -- `packet_answer::is_awaited` meets its contract.
 -- Assumes nothing.
-use borrow.Author.Needs.{needs}
+use Rattle.basis.proofs.Std.{needs}
 use Rattle.packet_answer.proofs.is_awaited.Statement.{statement}
 use Rattle.packet_answer.proofs.is_awaited.Tie as tie
 

@@ -1,6 +1,6 @@
 -- `packet_answer::is_busy` meets its contract.
 -- Assumes nothing.
-use borrow.Author.Needs.{needs}
+use Rattle.basis.proofs.Std.{needs}
 use Rattle.packet_answer.proofs.is_busy.Statement.{statement}
 use Rattle.packet_answer.proofs.is_busy.Tie as tie
 

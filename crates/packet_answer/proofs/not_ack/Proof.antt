@@ -1,7 +1,7 @@
 -- `packet_answer::not_ack` meets its contract.
 -- Assumes nothing.
 use Rattle.packet_answer.proofs.Ends.{not-acks}
-use borrow.Author.Needs.{needs}
+use Rattle.basis.proofs.Std.{needs}
 use Rattle.packet_answer.proofs.not_ack.Statement.{statement}
 use Rattle.packet_answer.proofs.not_ack.Tie as tie
 

@@ -1,9 +1,8 @@
 -- `packet_answer::replied` meets its contract.
 -- Assumes nothing.
-use mathlib.Core.Path.{ap, _∙_}
+use Rattle.basis.proofs.Std.{ap, _∙_, needs}
 use Rattle.store_site.specs.Layout.{withLast}
 use Rattle.site.specs.declared.Site.{Site}
-use borrow.Author.Needs.{needs}
 use Rattle.packet_answer.proofs.replied.Statement.{statement}
 use Rattle.packet_answer.proofs.replied.Tie as tie
 

@@ -1,8 +1,7 @@
 -- `packet_answer::reply_done` meets its contract.
 -- Assumes nothing.
-use mathlib.Core.Path.{ap}
+use Rattle.basis.proofs.Std.{ap, needs}
 use Rattle.answer.specs.declared.Answer.the-variants.{Done}
-use borrow.Author.Needs.{needs}
 use Rattle.packet_answer.proofs.reply_done.Statement.{statement}
 use Rattle.packet_answer.proofs.reply_done.Tie as tie
 

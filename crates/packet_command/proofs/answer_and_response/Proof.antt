@@ -1,8 +1,7 @@
-use native.Mathlib.Omega.{arith}
+use Rattle.basis.proofs.Std.{arith, needs}
 use Rattle.output.proofs.Laws.{most, stopped, lent}
 use Rattle.write_message.specs.Pieces.{pieces}
 use Rattle.packet_command.specs.Commanding.{response}
-use borrow.Author.Needs.{needs}
 use Rattle.packet_command.proofs.answer_and_response.Statement.{statement}
 use Rattle.packet_command.proofs.answer_and_response.Tie as tie
 

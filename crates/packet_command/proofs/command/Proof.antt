@@ -5,7 +5,7 @@ use Rattle.store_site.specs.Layout.{siteOf}
 use Rattle.packet_answer.proofs.Choices.{good, missing, bad}
 use Rattle.packet_command.specs.Commanding.{orderedOf}
 use Rattle.packet_command.proofs.Orders.{command-judged}
-use borrow.Author.Needs.{needs}
+use Rattle.basis.proofs.Std.{needs}
 use Rattle.packet_command.proofs.command.Statement.{statement}
 use Rattle.packet_command.proofs.command.Tie as tie
 

@@ -1,7 +1,5 @@
 use Rattle.table_item.proofs.First.{getD-any}
-use lib.ListN.{length, List·getD-eq-default}
-use mathlib.Core.Path.{_≡_, sym, _∙_}
-use borrow.Author.Needs.{needs}
+use Rattle.basis.proofs.Std.{length, List·getD-eq-default, _≡_, sym, _∙_, needs}
 use Rattle.packet_command.proofs.entry_in.Statement.{statement}
 use Rattle.packet_command.proofs.entry_in.Tie as tie
 

@@ -1,11 +1,9 @@
-use mathlib.Core.Path.{_≡_, ap₂, _∙_}
-use lib.IntN.{ℤ}
+use Rattle.basis.proofs.Std.{_≡_, ap₂, _∙_, ℤ, needs}
 use mir.Syntax.{w32}
 use mir.Val.{toZ, ofZ}
 use Rattle.packet_lookup.specs.declared.Sought.{Sought}
 use Rattle.store_table.specs.Layout.{tableOf}
 use Rattle.packet_command.specs.Commanding.{within}
-use borrow.Author.Needs.{needs}
 use Rattle.packet_command.proofs.entry_within.Statement.{statement}
 use Rattle.packet_command.proofs.entry_within.Tie as tie
 

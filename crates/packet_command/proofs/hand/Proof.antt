@@ -1,8 +1,4 @@
-use borrow.Author.Needs.{needs}
-use Prim.Native.Nat.{ℕ, _<_, _≤_, _-_}
-use mathlib.Core.Path.{_≡_, refl, ap, _∙_}
-use mathlib.Core.List.{List}
-use lib.ListN.{length}
+use Rattle.basis.proofs.Std.{needs, ℕ, _<_, _≤_, _-_, _≡_, refl, ap, _∙_, length}
 use Rattle.store_table.specs.Layout.{tableOf, tableBytes}
 use Rattle.packet_command.specs.Commanding.{commandsTo}
 use Rattle.packet_command.specs.Handing.{handedOver}

@@ -1,11 +1,8 @@
-use Prim.Native.Nat.{_≤_}
-use mathlib.Core.Path.{refl, sym, subst}
-use native.Mathlib.Omega.{arith}
+use Rattle.basis.proofs.Std.{_≤_, refl, sym, subst, arith, needs}
 use Rattle.read_commands.specs.declared.CommandFields.{CommandFields}
 use Rattle.read_commands.proofs.Kept.{kept}
 use Rattle.store_table.specs.Layout.{tableOf}
 use Rattle.packet_command.proofs.HandedWords.{known-handed, unknown-handed}
-use borrow.Author.Needs.{needs}
 use Rattle.packet_command.proofs.hand_over.Statement.{statement}
 use Rattle.packet_command.proofs.hand_over.Tie as tie
 

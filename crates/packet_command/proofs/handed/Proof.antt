@@ -1,9 +1,7 @@
-use mathlib.Core.Path.{sym, ap}
-use lib.ListN.{length}
+use Rattle.basis.proofs.Std.{sym, ap, length, needs}
 use Rattle.packet_lookup.specs.declared.Sought.{Sought}
 use Rattle.packet_command.specs.Commanding.{commandsOf}
 use Rattle.packet_command.proofs.HandedWords.{how-many}
-use borrow.Author.Needs.{needs}
 use Rattle.packet_command.proofs.handed.Statement.{statement}
 use Rattle.packet_command.proofs.handed.Tie as tie
 

@@ -1,12 +1,9 @@
-use mathlib.Core.Path.{ap, ap₂, _∙_}
-use lib.IntN.{ℤ}
+use Rattle.basis.proofs.Std.{ap, ap₂, _∙_, ℤ, both, needs}
 use mir.Syntax.{w32}
 use mir.Val.{toZ, ofZ}
 use mir.Facts.{toZ-ofZ}
-use Rattle.basis.specs.Pick.{both}
 use Rattle.number.specs.Signed.{atMost}
 use Rattle.number.proofs.RoundTrip.{passed-on-16}
-use borrow.Author.Needs.{needs}
 use Rattle.packet_command.proofs.in_range.Statement.{statement}
 use Rattle.packet_command.proofs.in_range.Tie as tie
 

@@ -1,6 +1,6 @@
 -- `packet_command::is_command` meets its contract.
 -- Assumes nothing.
-use borrow.Author.Needs.{needs}
+use Rattle.basis.proofs.Std.{needs}
 use Rattle.packet_command.proofs.is_command.Statement.{statement}
 use Rattle.packet_command.proofs.is_command.Tie as tie
 

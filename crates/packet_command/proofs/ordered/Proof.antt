@@ -1,7 +1,6 @@
-use mathlib.Core.Path.{sym, _∙_}
+use Rattle.basis.proofs.Std.{sym, _∙_, needs}
 use Rattle.store_table.specs.Layout.{tableOf}
 use Rattle.packet_command.proofs.Orders.{outside, all-pass, one-fails}
-use borrow.Author.Needs.{needs}
 use Rattle.packet_command.proofs.ordered.Statement.{statement}
 use Rattle.packet_command.proofs.ordered.Tie as tie
 

@@ -1,11 +1,9 @@
-use Prim.Native.Nat.{ℕ}
-use mathlib.Core.Path.{refl, sym, ap, _∙_}
+use Rattle.basis.proofs.Std.{ℕ, refl, sym, ap, _∙_, needs}
 use Rattle.store_table.specs.Layout.{tableOf}
 use Rattle.answer.specs.declared.Answer.the-variants.{Done}
 use Rattle.packet_answer.specs.Ending.{handed}
 use Rattle.packet_answer.proofs.Choices.{hand-busy, hand-awaited, hand-sent}
 use Rattle.packet_command.specs.Commanding.{response, commandsOf}
-use borrow.Author.Needs.{needs}
 use Rattle.packet_command.proofs.reply.Statement.{statement}
 use Rattle.packet_command.proofs.reply.Tie as tie
 

@@ -1,10 +1,9 @@
-use mathlib.Core.Path.{_≡_, sym, ap, _∙_}
+use Rattle.basis.proofs.Std.{_≡_, sym, ap, _∙_, needs}
 use mir.Syntax.{w32}
 use mir.Val.{toZ, ofZ}
 use Rattle.packet_lookup.specs.declared.Sought.{Sought}
 use Rattle.write_message.specs.declared.Value.the-variants.{Recent}
 use Rattle.packet_command.specs.Commanding.{valueIn}
-use borrow.Author.Needs.{needs}
 use Rattle.packet_command.proofs.value_in.Statement.{statement}
 use Rattle.packet_command.proofs.value_in.Tie as tie
 

@@ -1,9 +1,8 @@
-use mathlib.Core.Path.{sym, ap, ap₂, _∙_}
+use Rattle.basis.proofs.Std.{sym, ap, ap₂, _∙_, needs}
 use mir.Facts.{toZ-ofZ}
 use Rattle.packet_lookup.specs.declared.Sought.{Sought}
 use Rattle.store_table.specs.Layout.{tableOf}
 use Rattle.packet_command.specs.Commanding.{inRange, within}
-use borrow.Author.Needs.{needs}
 use Rattle.packet_command.proofs.within.Statement.{statement}
 use Rattle.packet_command.proofs.within.Tie as tie
 

@@ -1,10 +1,8 @@
-use Prim.Native.Nat.{ℕ, _+_, _*_}
-use mathlib.Core.Path.{_≡_, ap, ap₂, _∙_}
+use Rattle.basis.proofs.Std.{ℕ, _+_, _*_, _≡_, ap, ap₂, _∙_, needs}
 use mir.Syntax.{w32}
 use mir.Val.{toZ, ofZ}
 use Rattle.number.specs.Signed.{wordOf}
 use Rattle.packet_command.specs.Commanding.{numberOf}
-use borrow.Author.Needs.{needs}
 use Rattle.packet_command.proofs.word_of.Statement.{statement}
 use Rattle.packet_command.proofs.word_of.Tie as tie
 

@@ -1,5 +1,5 @@
 use Rattle.packet_command.proofs.Entries.{one-told}
-use borrow.Author.Needs.{needs}
+use Rattle.basis.proofs.Std.{needs}
 use Rattle.packet_command.proofs.write_entry.Statement.{statement}
 use Rattle.packet_command.proofs.write_entry.Tie as tie
 

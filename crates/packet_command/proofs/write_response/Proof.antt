@@ -1,5 +1,5 @@
 use Rattle.packet_command.proofs.Entries.{whole-told}
-use borrow.Author.Needs.{needs}
+use Rattle.basis.proofs.Std.{needs}
 use Rattle.packet_command.proofs.write_response.Statement.{statement}
 use Rattle.packet_command.proofs.write_response.Tie as tie
 

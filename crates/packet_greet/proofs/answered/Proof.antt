@@ -1,11 +1,10 @@
 -- `packet_greet::answered` meets its contract.
 -- Assumes nothing.
-use mathlib.Core.Path.{ap, _∙_}
+use Rattle.basis.proofs.Std.{ap, _∙_, needs}
 use Rattle.link.specs.declared.Link.{Link}
 use Rattle.link.specs.Steps.{answeredBy}
 use Rattle.store_site.proofs.TurnsLaws.{turns-then}
 use Rattle.packet_greet.proofs.Answers.{answer-closes, answer-goes-on}
-use borrow.Author.Needs.{needs}
 use Rattle.packet_greet.proofs.answered.Statement.{statement}
 use Rattle.packet_greet.proofs.answered.Tie as tie
 

@@ -1,7 +1,6 @@
 -- `packet_greet::beat` meets its contract.
 -- Assumes nothing.
-use Prim.Native.Nat.{ℕ}
-use mathlib.Core.Path.{ap, ap₂, _∙_}
+use Rattle.basis.proofs.Std.{ℕ, ap, ap₂, _∙_, needs}
 use Rattle.answer.specs.declared.Answer.the-variants.{Done}
 use Rattle.link.specs.declared.Role.{Role}
 use Rattle.site.specs.declared.Site.{Site}
@@ -12,7 +11,6 @@ use Rattle.packet_answer.specs.Ending.{report}
 use Rattle.store_site.proofs.TurnsLaws.{turns-then}
 use Rattle.packet_answer.proofs.Ends.{accepts}
 use Rattle.packet_greet.specs.Watchdog.{hintFrom, beaten as beatenOf}
-use borrow.Author.Needs.{needs}
 use Rattle.packet_greet.proofs.beat.Statement.{statement}
 use Rattle.packet_greet.proofs.beat.Tie as tie
 

@@ -1,9 +1,8 @@
 -- `packet_greet::hint` meets its contract.
 -- Assumes nothing.
-use mathlib.Core.Path.{sym, ap}
+use Rattle.basis.proofs.Std.{sym, ap, needs}
 use Rattle.site.specs.Call.{hintTime}
 use Rattle.packet_greet.proofs.Beats.{hints, withholds}
-use borrow.Author.Needs.{needs}
 use Rattle.packet_greet.proofs.hint.Statement.{statement}
 use Rattle.packet_greet.proofs.hint.Tie as tie
 

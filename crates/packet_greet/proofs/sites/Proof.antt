@@ -1,7 +1,6 @@
 -- `packet_greet::sites` meets its contract.
 -- Assumes nothing.
-use mathlib.Core.Path.{refl}
-use borrow.Author.Needs.{needs}
+use Rattle.basis.proofs.Std.{refl, needs}
 use Rattle.packet_greet.proofs.sites.Statement.{statement}
 use Rattle.packet_greet.proofs.sites.Tie as tie
 

@@ -2,7 +2,7 @@
 -- Assumes nothing.
 use Rattle.store_table.specs.Layout.{tableOf}
 use Rattle.packet_greet.proofs.Judges.{judges}
-use borrow.Author.Needs.{needs}
+use Rattle.basis.proofs.Std.{needs}
 use Rattle.packet_greet.proofs.version_by.Statement.{statement}
 use Rattle.packet_greet.proofs.version_by.Tie as tie
 

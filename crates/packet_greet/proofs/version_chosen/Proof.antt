@@ -5,7 +5,7 @@ use Rattle.site.specs.declared.Site.{Site}
 use Rattle.store_site.proofs.TurnsLaws.{turns-then}
 use Rattle.packet_answer.proofs.Ends.{accepts}
 use Rattle.packet_greet.specs.Version.{accepted as acceptedOf}
-use borrow.Author.Needs.{needs}
+use Rattle.basis.proofs.Std.{needs}
 use Rattle.packet_greet.proofs.version_chosen.Statement.{statement}
 use Rattle.packet_greet.proofs.version_chosen.Tie as tie
 

@@ -1,6 +1,6 @@
 -- `packet_greet::version_judged` meets its contract.
 -- Assumes nothing.
-use borrow.Author.Needs.{needs}
+use Rattle.basis.proofs.Std.{needs}
 use Rattle.packet_greet.proofs.version_judged.Statement.{statement}
 use Rattle.packet_greet.proofs.version_judged.Tie as tie
 

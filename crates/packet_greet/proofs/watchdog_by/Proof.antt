@@ -1,7 +1,7 @@
 -- `packet_greet::watchdog_by` meets its contract.
 -- Assumes nothing.
 use Rattle.packet_greet.proofs.Beats.{beats}
-use borrow.Author.Needs.{needs}
+use Rattle.basis.proofs.Std.{needs}
 use Rattle.packet_greet.proofs.watchdog_by.Statement.{statement}
 use Rattle.packet_greet.proofs.watchdog_by.Tie as tie
 

@@ -1,9 +1,8 @@
 -- `packet_lookup::alarm` meets its contract.
 -- Assumes nothing.
 use Rattle.store_table.specs.Layout.{tableOf}
-use mathlib.Core.Path.{sym, ap, _∙_}
+use Rattle.basis.proofs.Std.{sym, ap, _∙_, needs}
 use Rattle.packet_lookup.specs.Sought.{orNoAlarm, alarmOf}
-use borrow.Author.Needs.{needs}
 use Rattle.packet_lookup.proofs.alarm.Statement.{statement}
 use Rattle.packet_lookup.proofs.alarm.Tie as tie
 

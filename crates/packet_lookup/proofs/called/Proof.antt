@@ -1,14 +1,10 @@
 -- `packet_lookup::called` meets its contract.
 -- Assumes nothing.
 use Rattle.store_table.specs.Layout.{tableOf}
-use mathlib.Core.Path.{_≡_, ap, _∙_}
-use lib.ListN.{length}
-use Prim.Native.Nat.{ℕ}
-use mathlib.Core.List.{List}
+use Rattle.basis.proofs.Std.{_≡_, ap, _∙_, length, ℕ, List, needs}
 use Rattle.label.specs.Label.{textOf}
 use Rattle.label.proofs.Text.{text-part}
 use Rattle.table_whole.specs.Lookup.{findStatus}
-use borrow.Author.Needs.{needs}
 use Rattle.packet_lookup.proofs.called.Statement.{statement}
 use Rattle.packet_lookup.proofs.called.Tie as tie
 

@@ -1,12 +1,7 @@
 use Rattle.table_item.proofs.First.{getD-any}
-use lib.ListN.{length, List·getD-eq-default}
-use mathlib.Core.Path.{_≡_, sym, _∙_}
-use borrow.Author.Needs.{needs}
+use Rattle.basis.proofs.Std.{length, List·getD-eq-default, _≡_, sym, _∙_, needs}
 use Rattle.packet_lookup.proofs.entry_in.Statement.{statement}
 use Rattle.packet_lookup.proofs.entry_in.Tie as tie
-use Rattle.packet_lookup.proofs.entry_in.Reads as reads
-use Rattle.packet_lookup.proofs.entry_in.Lts as lts
-use Rattle.packet_lookup.proofs.none.Reads as none-reads
 
 returns : tie.Need-returns
 returns c =

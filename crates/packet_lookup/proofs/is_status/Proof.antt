@@ -1,6 +1,6 @@
 -- `packet_lookup::is_status` meets its contract.
 -- Assumes nothing.
-use borrow.Author.Needs.{needs}
+use Rattle.basis.proofs.Std.{needs}
 use Rattle.packet_lookup.proofs.is_status.Statement.{statement}
 use Rattle.packet_lookup.proofs.is_status.Tie as tie
 

@@ -1,9 +1,6 @@
-use borrow.Author.Needs.{needs}
+use Rattle.basis.proofs.Std.{needs}
 use Rattle.packet_lookup.proofs.none.Statement.{statement}
 use Rattle.packet_lookup.proofs.none.Tie as tie
-use Rattle.packet_lookup.proofs.none.Reads as reads
-use Rattle.packet_lookup.proofs.none.Lts as lts
-use Rattle.label.proofs.none.Reads as none-reads
 
 returns : tie.Need-returns
 returns c = rw (c .before .none .ensures, c .none2 .ensures)

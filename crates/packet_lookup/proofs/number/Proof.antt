@@ -1,9 +1,6 @@
-use Rattle.basis.proofs.Tests.{tests}
-use borrow.Author.Needs.{needs}
+use Rattle.basis.proofs.Std.{tests, needs}
 use Rattle.packet_lookup.proofs.number.Statement.{statement}
 use Rattle.packet_lookup.proofs.number.Tie as tie
-use Rattle.packet_lookup.proofs.number.Reads as reads
-use Rattle.packet_lookup.proofs.number.Lts as lts
 
 returns : tie.Need-returns
 returns c = rw (c .before .before .f .given .1) (search tests)

@@ -1,8 +1,6 @@
-use borrow.Author.Needs.{needs}
+use Rattle.basis.proofs.Std.{needs}
 use Rattle.packet_lookup.proofs.or_no_alarm.Statement.{statement}
 use Rattle.packet_lookup.proofs.or_no_alarm.Tie as tie
-use Rattle.packet_lookup.proofs.or_no_alarm.Reads as reads
-use Rattle.packet_lookup.proofs.or_no_alarm.Lts as lts
 
 returns : tie.Need-returns
 returns c = rw (c .before .a .given .1)

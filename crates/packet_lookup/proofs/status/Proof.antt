@@ -1,8 +1,7 @@
 -- `packet_lookup::status` meets its contract.
 -- Assumes nothing.
-use mathlib.Core.Path.{ap, _∙_}
+use Rattle.basis.proofs.Std.{ap, _∙_, needs}
 use Rattle.packet_lookup.specs.Sought.{numbered}
-use borrow.Author.Needs.{needs}
 use Rattle.packet_lookup.proofs.status.Statement.{statement}
 use Rattle.packet_lookup.proofs.status.Tie as tie
 

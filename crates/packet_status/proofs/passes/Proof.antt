@@ -1,9 +1,8 @@
-use mathlib.Core.Path.{sym, ap}
+use Rattle.basis.proofs.Std.{sym, ap, needs}
 use Rattle.packet_lookup.specs.declared.Sought.{Sought}
 use Rattle.store_table.specs.Layout.{tableOf}
 use Rattle.packet_status.specs.StatusReply.{passes}
 use Rattle.packet_status.proofs.Asked.{known-passes}
-use borrow.Author.Needs.{needs}
 use Rattle.packet_status.proofs.passes.Statement.{statement}
 use Rattle.packet_status.proofs.passes.Tie as tie
 

@@ -1,9 +1,8 @@
-use mathlib.Core.Path.{refl, sym, _∙_}
+use Rattle.basis.proofs.Std.{refl, sym, _∙_, needs}
 use Rattle.store_table.specs.Layout.{tableOf}
 use Rattle.store_site.specs.Layout.{siteOf}
 use Rattle.packet_answer.proofs.Choices.{is-busy, is-awaited, is-sent}
 use Rattle.packet_status.specs.StatusReply.{response}
-use borrow.Author.Needs.{needs}
 use Rattle.packet_status.proofs.reply.Statement.{statement}
 use Rattle.packet_status.proofs.reply.Tie as tie
 

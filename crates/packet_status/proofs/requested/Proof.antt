@@ -1,9 +1,8 @@
-use mathlib.Core.Path.{sym, _∙_}
+use Rattle.basis.proofs.Std.{sym, _∙_, needs}
 use Rattle.store_table.specs.Layout.{tableOf}
 use Rattle.store_site.specs.Layout.{siteOf}
 use Rattle.store_site.proofs.SiteLaws.{table-of}
 use Rattle.packet_status.proofs.Asked.{all-pass, one-fails}
-use borrow.Author.Needs.{needs}
 use Rattle.packet_status.proofs.requested.Statement.{statement}
 use Rattle.packet_status.proofs.requested.Tie as tie
 

@@ -1,4 +1,4 @@
-use mathlib.Core.Bool.{false}
+use Rattle.basis.proofs.Std.{false, needs}
 use Rattle.read_lists.specs.Status.{statusAt}
 use Rattle.store_table.specs.Layout.{tableOf}
 use Rattle.packet_lookup.specs.Sought.{componentSought}
@@ -6,7 +6,6 @@ use Rattle.store_site.specs.Layout.{siteOf}
 use Rattle.packet_answer.proofs.Choices.{good, missing, bad}
 use Rattle.packet_status.specs.StatusReply.{requestedOf}
 use Rattle.packet_status.proofs.Asked.{status-judged}
-use borrow.Author.Needs.{needs}
 use Rattle.packet_status.proofs.status_request.Statement.{statement}
 use Rattle.packet_status.proofs.status_request.Tie as tie
 

@@ -1,6 +1,6 @@
 use Rattle.store_table.specs.Layout.{tableOf}
 use Rattle.packet_status.proofs.Asked.{known-value}
-use borrow.Author.Needs.{needs}
+use Rattle.basis.proofs.Std.{needs}
 use Rattle.packet_status.proofs.value_in.Statement.{statement}
 use Rattle.packet_status.proofs.value_in.Tie as tie
 

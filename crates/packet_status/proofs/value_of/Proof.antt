@@ -1,10 +1,9 @@
-use mathlib.Core.Path.{sym, ap, _∙_}
+use Rattle.basis.proofs.Std.{sym, ap, _∙_, needs}
 use Rattle.packet_lookup.specs.declared.Sought.{Sought}
 use Rattle.send_message.specs.Sending.{statusValue}
 use Rattle.store_table.specs.Layout.{tableOf}
 use Rattle.store_site.specs.Layout.{siteOf}
 use Rattle.packet_status.specs.StatusReply.{valueOf}
-use borrow.Author.Needs.{needs}
 use Rattle.packet_status.proofs.value_of.Statement.{statement}
 use Rattle.packet_status.proofs.value_of.Tie as tie
 

@@ -1,7 +1,7 @@
 use Rattle.store_table.specs.Layout.{tableOf}
 use Rattle.store_site.specs.Layout.{siteOf}
 use Rattle.packet_status.proofs.Entries.{one-told}
-use borrow.Author.Needs.{needs}
+use Rattle.basis.proofs.Std.{needs}
 use Rattle.packet_status.proofs.write_entry.Statement.{statement}
 use Rattle.packet_status.proofs.write_entry.Tie as tie
 

@@ -1,9 +1,8 @@
 -- `packet_subscribe::ask` meets its contract.
 -- Assumes nothing.
-use mathlib.Core.Path.{sym, _∙_}
+use Rattle.basis.proofs.Std.{sym, _∙_, needs}
 use Rattle.store_table.specs.Layout.{tableOf}
 use Rattle.packet_subscribe.proofs.Changes.{asks}
-use borrow.Author.Needs.{needs}
 use Rattle.packet_subscribe.proofs.ask.Statement.{statement}
 use Rattle.packet_subscribe.proofs.ask.Tie as tie
 

@@ -1,8 +1,7 @@
 -- `packet_subscribe::issue` meets its contract.
 -- Assumes nothing.
-use mathlib.Core.Path.{sym, _∙_}
+use Rattle.basis.proofs.Std.{sym, _∙_, needs}
 use Rattle.packet_subscribe.proofs.Loops.{record-like, not-issued}
-use borrow.Author.Needs.{needs}
 use Rattle.packet_subscribe.proofs.issue.Statement.{statement}
 use Rattle.packet_subscribe.proofs.issue.Tie as tie
 

@@ -1,7 +1,7 @@
 -- `packet_subscribe::issue_of` meets its contract.
 -- Assumes nothing.
 use Rattle.packet_subscribe.proofs.Loops.{record-one}
-use borrow.Author.Needs.{needs}
+use Rattle.basis.proofs.Std.{needs}
 use Rattle.packet_subscribe.proofs.issue_of.Statement.{statement}
 use Rattle.packet_subscribe.proofs.issue_of.Tie as tie
 

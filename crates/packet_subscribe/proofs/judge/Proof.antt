@@ -1,9 +1,8 @@
 -- `packet_subscribe::judge` meets its contract.
 -- Assumes nothing.
-use mathlib.Core.Path.{sym, _∙_}
+use Rattle.basis.proofs.Std.{sym, _∙_, needs}
 use Rattle.store_table.specs.Layout.{tableOf}
 use Rattle.packet_subscribe.proofs.Changes.{passes, fails}
-use borrow.Author.Needs.{needs}
 use Rattle.packet_subscribe.proofs.judge.Statement.{statement}
 use Rattle.packet_subscribe.proofs.judge.Tie as tie
 

@@ -1,9 +1,8 @@
 -- `packet_subscribe::replace` meets its contract.
 -- Assumes nothing.
-use mathlib.Core.Path.{sym, _∙_}
+use Rattle.basis.proofs.Std.{sym, _∙_, needs}
 use Rattle.packet_subscribe.specs.Subscribing.{wanted as wantedOf}
 use Rattle.packet_subscribe.proofs.Loops.{replaced-like, replaced-one, not-replaced}
-use borrow.Author.Needs.{needs}
 use Rattle.packet_subscribe.proofs.replace.Statement.{statement}
 use Rattle.packet_subscribe.proofs.replace.Tie as tie
 

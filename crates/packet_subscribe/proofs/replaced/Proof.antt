@@ -1,9 +1,6 @@
 -- `packet_subscribe::replaced` meets its contract.
 -- Assumes nothing.
-use Prim.Native.Nat.{_≤_, _-_}
-use mathlib.Core.Path.{_≡_}
-use lib.ListN.{length}
-use borrow.Author.Needs.{needs}
+use Rattle.basis.proofs.Std.{_≤_, _-_, _≡_, length, needs}
 use Rattle.site.specs.declared.Site.{Site}
 use Rattle.store_table.specs.Layout.{tableOf, tableBytes}
 use Rattle.packet_subscribe.specs.Subscribing.{replaced as replacedOf}

@@ -1,6 +1,6 @@
 -- `packet_subscribe::subscribe` meets its contract.
 -- Assumes nothing.
-use borrow.Author.Needs.{needs}
+use Rattle.basis.proofs.Std.{needs}
 use Rattle.packet_subscribe.proofs.subscribe.Statement.{statement}
 use Rattle.packet_subscribe.proofs.subscribe.Tie as tie
 

@@ -3,7 +3,7 @@
 use Rattle.store_table.specs.Layout.{tableOf}
 use Rattle.packet_subscribe.specs.Subscribing.{subscribingTaken}
 use Rattle.packet_subscribe.proofs.Changes.{takes}
-use borrow.Author.Needs.{needs}
+use Rattle.basis.proofs.Std.{needs}
 use Rattle.packet_subscribe.proofs.take.Statement.{statement}
 use Rattle.packet_subscribe.proofs.take.Tie as tie
 

@@ -2,7 +2,7 @@
 -- Assumes nothing.
 use Rattle.store_table.specs.Layout.{tableOf}
 use Rattle.packet_subscribe.proofs.Changes.{turned-on, turned-off}
-use borrow.Author.Needs.{needs}
+use Rattle.basis.proofs.Std.{needs}
 use Rattle.packet_subscribe.proofs.turn.Statement.{statement}
 use Rattle.packet_subscribe.proofs.turn.Tie as tie
 

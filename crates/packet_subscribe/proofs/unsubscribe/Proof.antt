@@ -1,6 +1,6 @@
 -- `packet_subscribe::unsubscribe` meets its contract.
 -- Assumes nothing.
-use borrow.Author.Needs.{needs}
+use Rattle.basis.proofs.Std.{needs}
 use Rattle.packet_subscribe.proofs.unsubscribe.Statement.{statement}
 use Rattle.packet_subscribe.proofs.unsubscribe.Tie as tie
 

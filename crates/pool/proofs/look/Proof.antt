@@ -1,6 +1,6 @@
 -- `pool::look` meets its contract.
 -- Assumes nothing.
-use borrow.Author.Needs.{needs}
+use Rattle.basis.proofs.Std.{needs}
 use Rattle.pool.proofs.look.Statement.{statement}
 use Rattle.pool.proofs.look.Tie as tie
 

@@ -1,7 +1,6 @@
 -- `read_commands::command_found` meets its contract.
 -- Assumes nothing.
-use borrow.Author.Needs.{needs}
-use mathlib.Core.Path.{_∙_}
+use Rattle.basis.proofs.Std.{needs, _∙_}
 use Rattle.read_commands.proofs.command_found.Statement.{statement}
 use Rattle.read_commands.proofs.command_found.Tie as tie
 

@@ -1,9 +1,6 @@
-use borrow.Author.Needs.{needs}
+use Rattle.basis.proofs.Std.{needs}
 use Rattle.read_commands.proofs.command_from.Statement.{statement}
 use Rattle.read_commands.proofs.command_from.Tie as tie
-use Rattle.read_commands.proofs.command_from.Reads as reads
-use Rattle.read_commands.proofs.command_from.Lts as lts
-use Rattle.read_head.proofs.worst.Reads as worst-reads
 
 returns : tie.Need-returns
 returns c = rw (c .worst .ensures)

@@ -1,12 +1,9 @@
-use borrow.Author.Needs.{needs}
+use Rattle.basis.proofs.Std.{needs}
 use mir.Syntax.{w32}
 use mir.Val.{SFits}
 use mir.Facts.{toZ-ofZ}
 use Rattle.read_commands.proofs.command_of.Statement.{statement}
 use Rattle.read_commands.proofs.command_of.Tie as tie
-use Rattle.read_commands.proofs.command_of.Reads as reads
-use Rattle.read_commands.proofs.command_of.Lts as lts
-use Rattle.read_head.proofs.worst.Reads as worst-reads
 
 returns : tie.Need-returns
 returns c =

@@ -1,9 +1,4 @@
-use mathlib.Core.Path.{_≡_, refl, sym, ap, ap₂, _∙_}
-use mathlib.Core.Logic.{⊎-elim}
-use Prim.Native.Nat.{_-_}
-use native.Mathlib.Omega.{arith}
-use lib.ListN.{length, drop}
-use borrow.Author.Needs.{needs}
+use Rattle.basis.proofs.Std.{_≡_, ap, _∙_, ⊎-elim, _-_, arith, length, drop, needs}
 use Rattle.json_find.specs.Entries.{entries, entriesAt}
 use Rattle.json_find.proofs.Walks.{step-on, step-in}
 use Rattle.read_head.specs.declared.Verdict.{Verdict}

@@ -1,9 +1,6 @@
-use borrow.Author.Needs.{needs}
+use Rattle.basis.proofs.Std.{needs}
 use Rattle.read_commands.proofs.no_command.Statement.{statement}
 use Rattle.read_commands.proofs.no_command.Tie as tie
-use Rattle.read_commands.proofs.no_command.Reads as reads
-use Rattle.read_commands.proofs.no_command.Lts as lts
-use Rattle.label.proofs.none.Reads as none-reads
 
 returns : tie.Need-returns
 returns c = rw (c .none2 .ensures, c .before .none .ensures)

@@ -1,13 +1,7 @@
-use borrow.Author.Needs.{needs}
-use mathlib.Core.Path.{_≡_, refl, sym, ap, ap₂, _∙_}
+use Rattle.basis.proofs.Std.{needs, _∙_}
 use Rattle.read_commands.specs.Command.{commandAt}
 use Rattle.read_commands.proofs.read_command.Statement.{statement}
 use Rattle.read_commands.proofs.read_command.Tie as tie
-use Rattle.read_commands.proofs.read_command.Reads as reads
-use Rattle.read_commands.proofs.read_command.Lts as lts
-use Rattle.read_head.proofs.own_label.Reads as own-label-reads
-use Rattle.read_commands.proofs.command_from.Reads as command-from-reads
-use Rattle.read_commands.proofs.commands_of.Reads as commands-of-reads
 
 returns : tie.Need-returns
 unfolding commandAt

@@ -1,7 +1,6 @@
 -- `read_commands::value_at` meets its contract.
 -- Assumes nothing.
-use borrow.Author.Needs.{needs}
-use mathlib.Core.Path.{ap, _∙_}
+use Rattle.basis.proofs.Std.{needs, ap, _∙_}
 use Rattle.read_head.specs.Word.{wordOf}
 use Rattle.read_head.proofs.Copies.{says, found-from}
 use Rattle.read_commands.specs.Command.{gotValue}

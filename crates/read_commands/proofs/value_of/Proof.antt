@@ -1,15 +1,8 @@
-use borrow.Author.Needs.{needs}
-use mathlib.Core.Path.{_≡_, refl, sym, ap, ap₂, _∙_}
-use lib.ListN.{length}
+use Rattle.basis.proofs.Std.{needs, _≡_, sym, ap, _∙_, length}
 use Rattle.read_head.proofs.Copies.{is-lent, not-copy, not-there}
 use Rattle.read_commands.specs.Command.{gotValue}
 use Rattle.read_commands.proofs.value_of.Statement.{statement}
 use Rattle.read_commands.proofs.value_of.Tie as tie
-use Rattle.read_commands.proofs.value_of.Reads as reads
-use Rattle.read_commands.proofs.value_of.Lts as lts
-use Rattle.read_head.proofs.at_most_36.Reads as at-most-36-reads
-use Rattle.read_commands.proofs.no_value.Reads as no-value-reads
-use Rattle.read_commands.proofs.value_text.Reads as value-text-reads
 
 part-value-text-end : tie.Need-part-value-text-end
 part-value-text-end c =

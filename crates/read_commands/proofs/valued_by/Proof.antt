@@ -1,13 +1,9 @@
-use borrow.Author.Needs.{needs}
+use Rattle.basis.proofs.Std.{needs, sym, _∙_}
 use mir.Syntax.{w32}
 use mir.Val.{SFits}
 use mir.Facts.{toZ-ofZ}
-use mathlib.Core.Path.{_≡_, refl, sym, ap, ap₂, _∙_}
 use Rattle.read_commands.proofs.valued_by.Statement.{statement}
 use Rattle.read_commands.proofs.valued_by.Tie as tie
-use Rattle.read_commands.proofs.valued_by.Reads as reads
-use Rattle.read_commands.proofs.valued_by.Lts as lts
-use Rattle.read_commands.proofs.no_value.Reads as no-value-reads
 
 returns : tie.Need-returns
 returns c =

@@ -1,16 +1,9 @@
-use borrow.Author.Needs.{needs}
-use mathlib.Core.Path.{_≡_, refl, sym, ap, ap₂, _∙_}
-use Rattle.read_head.specs.Word.{wordOf, wordAt}
+use Rattle.basis.proofs.Std.{needs, ap, _∙_}
+use Rattle.read_head.specs.Word.{wordOf}
 use Rattle.read_head.proofs.Copies.{says, found-at}
 use Rattle.read_head.specs.Head.{identityOf}
 use Rattle.read_head.proofs.answered.Statement.{statement}
 use Rattle.read_head.proofs.answered.Tie as tie
-use Rattle.read_head.proofs.answered.Reads as reads
-use Rattle.read_head.proofs.answered.Lts as lts
-use Rattle.read_head.proofs.answered_with.Reads as answered-with-reads
-use Rattle.read_head.proofs.element_of.Reads as element-of-reads
-use Rattle.read_head.proofs.identity_of.Reads as identity-of-reads
-use Rattle.read_head.proofs.ignored.Reads as ignored-reads
 
 returns : tie.Need-returns
 returns c =

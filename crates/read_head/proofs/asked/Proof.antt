@@ -1,20 +1,12 @@
-use mathlib.Core.Bool.{true, false}
-use Rattle.basis.specs.Text.{text}
+use Rattle.basis.proofs.Std.{true, false, text, needs, _≡_, sym, ap, _∙_}
 use Rattle.identity.specs.declared.ReadIdentity.{ReadIdentity}
 use Rattle.json_value.specs.Reader.{skipWs}
 use Rattle.read_head.specs.declared.Element.{Element}
-use borrow.Author.Needs.{needs}
-use mathlib.Core.Path.{_≡_, refl, sym, ap, ap₂, _∙_}
 use Rattle.read_head.specs.Word.{wordOf, wordAt}
 use Rattle.read_head.proofs.Copies.{says, has-characters, found-at}
 use Rattle.read_head.specs.Head.{identityOf}
 use Rattle.read_head.proofs.asked.Statement.{statement}
 use Rattle.read_head.proofs.asked.Tie as tie
-use Rattle.read_head.proofs.asked.Reads as reads
-use Rattle.read_head.proofs.asked.Lts as lts
-use Rattle.read_head.proofs.element_of.Reads as element-of-reads
-use Rattle.read_head.proofs.identity_of.Reads as identity-of-reads
-use Rattle.read_head.proofs.ignored.Reads as ignored-reads
 
 returns : tie.Need-returns
 returns c =

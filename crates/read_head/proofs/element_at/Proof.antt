@@ -1,7 +1,6 @@
 -- `read_head::element_at` meets its contract.
 -- Assumes nothing.
-use borrow.Author.Needs.{needs}
-use mathlib.Core.Path.{sym, _∙_}
+use Rattle.basis.proofs.Std.{needs, sym, _∙_}
 use Rattle.read_head.specs.Word.{wordFound}
 use Rattle.read_head.proofs.element_at.Statement.{statement}
 use Rattle.read_head.proofs.element_at.Tie as tie

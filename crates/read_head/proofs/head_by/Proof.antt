@@ -1,6 +1,4 @@
-use mathlib.Core.Path.{sym, ap, ap₂, _∙_}
-use Rattle.basis.specs.Lists.{sameBytes}
-use Rattle.basis.specs.Text.{text}
+use Rattle.basis.proofs.Std.{sym, ap, ap₂, _∙_, sameBytes, text, needs}
 use Rattle.names.specs.declared.Found.{Found}
 use Rattle.json_value.specs.Reader.{skipWs}
 use Rattle.read_head.specs.Word.{wordOf, wordAt}
@@ -8,7 +6,6 @@ use Rattle.read_head.specs.Head.{typeOf, headOf, headBy}
 use Rattle.read_head.specs.Values.{verdictOf}
 use Rattle.read_head.specs.declared.Verdict.{Verdict}
 use Rattle.read_head.proofs.Copies.{says, found-at}
-use borrow.Author.Needs.{needs}
 use Rattle.read_head.proofs.head_by.Statement.{statement}
 use Rattle.read_head.proofs.head_by.Tie as tie
 

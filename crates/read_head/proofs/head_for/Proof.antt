@@ -1,13 +1,6 @@
-use borrow.Author.Needs.{needs}
-use mathlib.Core.Path.{_≡_, refl, sym, ap, ap₂, _∙_}
-use borrow.Author.Tests.{eq-eqb, ne-eqb}
+use Rattle.basis.proofs.Std.{needs, sym, _∙_, eq-eqb, ne-eqb}
 use Rattle.read_head.proofs.head_for.Statement.{statement}
 use Rattle.read_head.proofs.head_for.Tie as tie
-use Rattle.read_head.proofs.head_for.Reads as reads
-use Rattle.read_head.proofs.head_for.Lts as lts
-use Rattle.read_head.proofs.answered.Reads as answered-reads
-use Rattle.read_head.proofs.asked.Reads as asked-reads
-use Rattle.read_head.proofs.kind_for.Reads as kind-for-reads
 
 returns : tie.Need-returns
 returns c = c .answered .ensures ∙ sym (rw (eq-eqb _ 2 (c .before .if1 .taken)))

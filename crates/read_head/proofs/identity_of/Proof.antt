@@ -1,15 +1,8 @@
-use borrow.Author.Needs.{needs}
-use mathlib.Core.Path.{_≡_, refl, sym, ap, ap₂, _∙_}
-use lib.ListN.{length}
+use Rattle.basis.proofs.Std.{needs, _≡_, ap, _∙_, length}
 use Rattle.read_head.specs.Head.{identityOf}
 use Rattle.read_head.proofs.Copies.{is-lent}
 use Rattle.read_head.proofs.identity_of.Statement.{statement}
 use Rattle.read_head.proofs.identity_of.Tie as tie
-use Rattle.read_head.proofs.identity_of.Reads as reads
-use Rattle.read_head.proofs.identity_of.Lts as lts
-use Rattle.identity.proofs.read_identity.Reads as read-identity-reads
-use Rattle.read_head.proofs.at_most_36.Reads as at-most-36-reads
-use Rattle.read_head.proofs.no_identity.Reads as no-identity-reads
 
 part-read-identity-end : tie.Need-part-read-identity-end
 part-read-identity-end c =

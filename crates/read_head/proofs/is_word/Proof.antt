@@ -1,5 +1,4 @@
-use Rattle.basis.proofs.Same.{same-is}
-use borrow.Author.Needs.{needs}
+use Rattle.basis.proofs.Std.{same-is, needs}
 use Rattle.read_head.proofs.is_word.Statement.{statement}
 use Rattle.read_head.proofs.is_word.Tie as tie
 

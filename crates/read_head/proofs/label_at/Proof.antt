@@ -1,7 +1,6 @@
 -- `read_head::label_at` meets its contract.
 -- Assumes nothing.
-use borrow.Author.Needs.{needs}
-use mathlib.Core.Path.{ap, _∙_}
+use Rattle.basis.proofs.Std.{needs, ap, _∙_}
 use Rattle.read_head.specs.Word.{wordOf}
 use Rattle.read_head.specs.Values.{gotLabel}
 use Rattle.read_head.proofs.Copies.{says, found-from}

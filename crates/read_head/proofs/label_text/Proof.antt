@@ -1,13 +1,7 @@
-use borrow.Author.Needs.{needs}
-use mathlib.Core.Path.{_≡_, refl, sym, ap, ap₂, _∙_}
+use Rattle.basis.proofs.Std.{needs, _∙_}
 use Rattle.read_head.proofs.Leaves.{label-good, label-bad}
 use Rattle.read_head.proofs.label_text.Statement.{statement}
 use Rattle.read_head.proofs.label_text.Tie as tie
-use Rattle.read_head.proofs.label_text.Reads as reads
-use Rattle.read_head.proofs.label_text.Lts as lts
-use Rattle.label.proofs.of.Reads as of-reads
-use Rattle.number.proofs.is_label.Reads as is-label-reads
-use Rattle.read_head.proofs.no_label.Reads as no-label-reads
 
 returns : tie.Need-returns
 returns c = label-good (c .before .before .before .before .args .d .now) (c .before .before .is-label .ensures) (c .before .if1 .taken) (c .of .ensures)

@@ -1,9 +1,7 @@
-use mathlib.Core.Path.{refl}
+use Rattle.basis.proofs.Std.{refl}
 use Rattle.json_text.specs.Copied.{noCopy}
 use Rattle.read_head.proofs.no_copy.Statement.{statement}
 use Rattle.read_head.proofs.no_copy.Tie as tie
-use Rattle.read_head.proofs.no_copy.Reads as reads
-use Rattle.read_head.proofs.no_copy.Lts as lts
 
 returns : tie.Need-returns
 unfolding noCopy

@@ -1,15 +1,8 @@
-use borrow.Author.Needs.{needs}
-use mathlib.Core.Path.{_≡_, refl, sym, ap, ap₂, _∙_}
-use lib.ListN.{length}
+use Rattle.basis.proofs.Std.{needs, _≡_, sym, ap, _∙_, length}
 use Rattle.read_head.specs.Values.{gotOrder}
 use Rattle.read_head.proofs.Copies.{is-lent, not-copy, not-there}
 use Rattle.read_head.proofs.order_of.Statement.{statement}
 use Rattle.read_head.proofs.order_of.Tie as tie
-use Rattle.read_head.proofs.order_of.Reads as reads
-use Rattle.read_head.proofs.order_of.Lts as lts
-use Rattle.read_head.proofs.an_order.Reads as an-order-reads
-use Rattle.read_head.proofs.at_most_36.Reads as at-most-36-reads
-use Rattle.read_head.proofs.order_text.Reads as order-text-reads
 
 part-order-text-end : tie.Need-part-order-text-end
 part-order-text-end c =

@@ -1,6 +1,5 @@
-use mathlib.Core.Path.{_∙_}
+use Rattle.basis.proofs.Std.{_∙_, needs}
 use Rattle.read_head.proofs.Leaves.{requests, acknowledges, suspends, resumes, orders-nothing}
-use borrow.Author.Needs.{needs}
 use Rattle.read_head.proofs.order_text.Statement.{statement}
 use Rattle.read_head.proofs.order_text.Tie as tie
 

@@ -1,11 +1,7 @@
-use borrow.Author.Needs.{needs}
-use mathlib.Core.Path.{_≡_, refl, sym, ap, ap₂, _∙_}
+use Rattle.basis.proofs.Std.{needs}
 use Rattle.read_head.specs.Small.{aggregatedAt}
 use Rattle.read_head.proofs.read_aggregated.Statement.{statement}
 use Rattle.read_head.proofs.read_aggregated.Tie as tie
-use Rattle.read_head.proofs.read_aggregated.Reads as reads
-use Rattle.read_head.proofs.read_aggregated.Lts as lts
-use Rattle.read_head.proofs.own_label.Reads as own-label-reads
 
 returns : tie.Need-returns
 unfolding aggregatedAt

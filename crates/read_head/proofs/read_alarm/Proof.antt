@@ -1,13 +1,7 @@
-use borrow.Author.Needs.{needs}
-use mathlib.Core.Path.{_≡_, refl, sym, ap, ap₂, _∙_}
+use Rattle.basis.proofs.Std.{needs, _∙_}
 use Rattle.read_head.specs.Small.{alarmAt}
 use Rattle.read_head.proofs.read_alarm.Statement.{statement}
 use Rattle.read_head.proofs.read_alarm.Tie as tie
-use Rattle.read_head.proofs.read_alarm.Reads as reads
-use Rattle.read_head.proofs.read_alarm.Lts as lts
-use Rattle.read_head.proofs.alarm_of.Reads as alarm-of-reads
-use Rattle.read_head.proofs.own_label.Reads as own-label-reads
-use Rattle.read_head.proofs.own_order.Reads as own-order-reads
 
 returns : tie.Need-returns
 unfolding alarmAt

@@ -1,13 +1,8 @@
-use borrow.Author.Needs.{needs}
-use mathlib.Core.Path.{_≡_, refl, sym, ap, ap₂, _∙_}
+use Rattle.basis.proofs.Std.{needs, _≡_, sym, _∙_}
 use Rattle.json_packet.specs.Packet.{isPacket}
 use Rattle.read_head.specs.Head.{headAt}
 use Rattle.read_head.proofs.read_head.Statement.{statement}
 use Rattle.read_head.proofs.read_head.Tie as tie
-use Rattle.read_head.proofs.read_head.Reads as reads
-use Rattle.read_head.proofs.read_head.Lts as lts
-use Rattle.read_head.proofs.head_by.Reads as head-by-reads
-use Rattle.read_head.proofs.ignored.Reads as ignored-reads
 
 returns : tie.Need-returns
 unfolding headAt

@@ -1,15 +1,10 @@
-use borrow.Author.Needs.{needs}
-use mathlib.Core.Path.{_≡_, refl, sym, ap, ap₂, _∙_}
-use Rattle.read_head.specs.Word.{wordOf, wordAt}
+use Rattle.basis.proofs.Std.{needs, ap, _∙_}
+use Rattle.read_head.specs.Word.{wordOf}
 use Rattle.read_head.proofs.Copies.{says, found-at}
 use Rattle.read_head.specs.Values.{gotTime}
 use Rattle.read_head.specs.Small.{watchdogAt}
 use Rattle.read_head.proofs.read_watchdog.Statement.{statement}
 use Rattle.read_head.proofs.read_watchdog.Tie as tie
-use Rattle.read_head.proofs.read_watchdog.Reads as reads
-use Rattle.read_head.proofs.read_watchdog.Lts as lts
-use Rattle.read_head.proofs.element_of.Reads as element-of-reads
-use Rattle.read_head.proofs.time_of.Reads as time-of-reads
 
 returns : tie.Need-returns
 unfolding watchdogAt

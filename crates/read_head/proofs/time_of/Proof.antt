@@ -1,6 +1,4 @@
-use borrow.Author.Needs.{needs}
-use mathlib.Core.Path.{_≡_, refl, sym, ap, ap₂, _∙_}
-use lib.ListN.{length}
+use Rattle.basis.proofs.Std.{needs, _≡_, sym, ap, _∙_, length}
 use Rattle.read_head.specs.Values.{gotTime}
 use Rattle.read_head.proofs.Copies.{is-lent, not-copy, not-there}
 use Rattle.read_head.proofs.time_of.Statement.{statement}

@@ -1,14 +1,8 @@
-use borrow.Author.Needs.{needs}
-use mathlib.Core.Path.{_≡_, refl, sym, ap, ap₂, _∙_}
-use lib.ListN.{length}
+use Rattle.basis.proofs.Std.{needs, _≡_, ap, _∙_, length}
 use Rattle.read_head.specs.Head.{typeOf}
 use Rattle.read_head.proofs.Copies.{is-lent}
 use Rattle.read_head.proofs.type_of.Statement.{statement}
 use Rattle.read_head.proofs.type_of.Tie as tie
-use Rattle.read_head.proofs.type_of.Reads as reads
-use Rattle.read_head.proofs.type_of.Lts as lts
-use Rattle.names.proofs.find_type.Reads as find-type-reads
-use Rattle.read_head.proofs.at_most_36.Reads as at-most-36-reads
 
 part-find-type-end : tie.Need-part-find-type-end
 part-find-type-end c =

@@ -1,9 +1,6 @@
-use borrow.Author.Needs.{needs}
+use Rattle.basis.proofs.Std.{needs}
 use Rattle.read_head.proofs.unusable.Statement.{statement}
 use Rattle.read_head.proofs.unusable.Tie as tie
-use Rattle.read_head.proofs.unusable.Reads as reads
-use Rattle.read_head.proofs.unusable.Lts as lts
-use Rattle.read_head.proofs.no_copy.Reads as no-copy-reads
 
 returns : tie.Need-returns
 returns c = rw (c .no-copy .ensures)

@@ -1,12 +1,7 @@
-use borrow.Author.Needs.{needs}
-use mathlib.Core.Path.{_≡_, refl, sym, ap, ap₂, _∙_}
+use Rattle.basis.proofs.Std.{needs, _∙_}
 use Rattle.read_head.proofs.Places.{value-past, value-other, value-string}
 use Rattle.read_head.proofs.value_at.Statement.{statement}
 use Rattle.read_head.proofs.value_at.Tie as tie
-use Rattle.read_head.proofs.value_at.Reads as reads
-use Rattle.read_head.proofs.value_at.Lts as lts
-use Rattle.read_head.proofs.unusable.Reads as unusable-reads
-use Rattle.json_text.proofs.copy_text.Reads as copy-text-reads
 
 returns : tie.Need-returns
 returns c = c .unusable .ensures ∙ value-past _ _ (c .before .if1 .taken)

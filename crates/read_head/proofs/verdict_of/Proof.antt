@@ -1,9 +1,6 @@
-use mathlib.Core.Path.{_≡_, ap, _∙_}
-use lib.ListN.{length}
-use Rattle.basis.specs.Lists.{sameBytes}
+use Rattle.basis.proofs.Std.{_≡_, ap, _∙_, length, sameBytes, needs}
 use Rattle.read_head.specs.Values.{verdictOf}
 use Rattle.read_head.proofs.Copies.{is-lent}
-use borrow.Author.Needs.{needs}
 use Rattle.read_head.proofs.verdict_of.Statement.{statement}
 use Rattle.read_head.proofs.verdict_of.Tie as tie
 

@@ -1,5 +1,4 @@
-use mathlib.Core.Path.{sym, _∙_}
-use borrow.Author.Needs.{needs}
+use Rattle.basis.proofs.Std.{sym, _∙_, needs}
 use Rattle.read_head.proofs.word_verdict.Statement.{statement}
 use Rattle.read_head.proofs.word_verdict.Tie as tie
 

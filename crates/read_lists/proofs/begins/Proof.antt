@@ -1,9 +1,7 @@
-use borrow.Author.Needs.{needs}
+use Rattle.basis.proofs.Std.{needs}
 use Rattle.read_lists.proofs.Walk.{begins-past, begins-here}
 use Rattle.read_lists.proofs.begins.Statement.{statement}
 use Rattle.read_lists.proofs.begins.Tie as tie
-use Rattle.read_lists.proofs.begins.Reads as reads
-use Rattle.read_lists.proofs.begins.Lts as lts
 
 returns : tie.Need-returns
 returns c = begins-past _ _ _ (c .if1 .taken)

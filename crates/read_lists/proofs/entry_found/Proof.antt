@@ -1,7 +1,6 @@
 -- `read_lists::entry_found` meets its contract.
 -- Assumes nothing.
-use borrow.Author.Needs.{needs}
-use mathlib.Core.Path.{sym, _∙_}
+use Rattle.basis.proofs.Std.{needs, sym, _∙_}
 use Rattle.read_lists.proofs.entry_found.Statement.{statement}
 use Rattle.read_lists.proofs.entry_found.Tie as tie
 

@@ -1,11 +1,6 @@
-use borrow.Author.Needs.{needs}
+use Rattle.basis.proofs.Std.{needs}
 use Rattle.read_lists.proofs.entry_of.Statement.{statement}
 use Rattle.read_lists.proofs.entry_of.Tie as tie
-use Rattle.read_lists.proofs.entry_of.Reads as reads
-use Rattle.read_lists.proofs.entry_of.Lts as lts
-use Rattle.read_head.proofs.worst.Reads as worst-reads
-use Rattle.read_lists.proofs.changed.Reads as changed-reads
-use Rattle.read_lists.proofs.is_set.Reads as is-set-reads
 
 returns : tie.Need-returns
 returns c = rw (c .is-set .ensures, c .before .worst3 .ensures, c .before .before .worst2 .ensures, c .before .before .before .changed .ensures, c .before .before .before .before .worst .ensures)

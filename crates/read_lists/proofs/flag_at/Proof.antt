@@ -1,7 +1,6 @@
 -- `read_lists::flag_at` meets its contract.
 -- Assumes nothing.
-use borrow.Author.Needs.{needs}
-use mathlib.Core.Path.{sym, _∙_}
+use Rattle.basis.proofs.Std.{needs, sym, _∙_}
 use Rattle.read_lists.specs.Items.{flagFound}
 use Rattle.read_lists.proofs.flag_at.Statement.{statement}
 use Rattle.read_lists.proofs.flag_at.Tie as tie

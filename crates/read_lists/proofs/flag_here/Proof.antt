@@ -1,11 +1,7 @@
-use borrow.Author.Needs.{needs}
-use mathlib.Core.Path.{_≡_, refl, sym, ap, ap₂, _∙_}
+use Rattle.basis.proofs.Std.{needs, sym, _∙_}
 use Rattle.read_lists.specs.Items.{flagHere}
 use Rattle.read_lists.proofs.flag_here.Statement.{statement}
 use Rattle.read_lists.proofs.flag_here.Tie as tie
-use Rattle.read_lists.proofs.flag_here.Reads as reads
-use Rattle.read_lists.proofs.flag_here.Lts as lts
-use Rattle.read_lists.proofs.begins.Reads as begins-reads
 
 returns : tie.Need-returns
 unfolding flagHere

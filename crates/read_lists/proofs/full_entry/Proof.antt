@@ -1,7 +1,6 @@
 -- `read_lists::full_entry` meets its contract.
 -- Assumes nothing.
-use borrow.Author.Needs.{needs}
-use mathlib.Core.Path.{_∙_}
+use Rattle.basis.proofs.Std.{needs, _∙_}
 use Rattle.read_lists.proofs.full_entry.Statement.{statement}
 use Rattle.read_lists.proofs.full_entry.Tie as tie
 

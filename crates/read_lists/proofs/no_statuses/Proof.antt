@@ -1,9 +1,6 @@
-use borrow.Author.Needs.{needs}
+use Rattle.basis.proofs.Std.{needs}
 use Rattle.read_lists.proofs.no_statuses.Statement.{statement}
 use Rattle.read_lists.proofs.no_statuses.Tie as tie
-use Rattle.read_lists.proofs.no_statuses.Reads as reads
-use Rattle.read_lists.proofs.no_statuses.Lts as lts
-use Rattle.read_lists.proofs.no_entry.Reads as no-entry-reads
 
 returns : tie.Need-returns
 returns c = rw (c .no-entry .ensures)

@@ -1,10 +1,6 @@
-use borrow.Author.Needs.{needs}
-use mathlib.Core.Path.{_≡_, refl, sym, ap, ap₂, _∙_}
+use Rattle.basis.proofs.Std.{needs, sym, _∙_}
 use Rattle.read_lists.proofs.number_of.Statement.{statement}
 use Rattle.read_lists.proofs.number_of.Tie as tie
-use Rattle.read_lists.proofs.number_of.Reads as reads
-use Rattle.read_lists.proofs.number_of.Lts as lts
-use Rattle.read_lists.proofs.no_number.Reads as no-number-reads
 
 returns : tie.Need-returns
 returns c = sym (rw (c .before .n .given .1))

@@ -1,9 +1,6 @@
-use borrow.Author.Needs.{needs}
+use Rattle.basis.proofs.Std.{needs}
 use Rattle.read_lists.proofs.offer_of.Statement.{statement}
 use Rattle.read_lists.proofs.offer_of.Tie as tie
-use Rattle.read_lists.proofs.offer_of.Reads as reads
-use Rattle.read_lists.proofs.offer_of.Lts as lts
-use Rattle.read_head.proofs.worst.Reads as worst-reads
 
 returns : tie.Need-returns
 returns c = rw (c .worst2 .ensures, c .before .worst .ensures)

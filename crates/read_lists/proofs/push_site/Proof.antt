@@ -1,13 +1,7 @@
-use borrow.Author.Needs.{needs}
-use mathlib.Core.Path.{_≡_, refl, sym, ap, ap₂, _∙_}
-use borrow.Author.Tests.{lt-ltb, le-ltb}
+use Rattle.basis.proofs.Std.{needs, sym, lt-ltb, le-ltb}
 use Rattle.read_lists.specs.Version.{pushSite}
 use Rattle.read_lists.proofs.push_site.Statement.{statement}
 use Rattle.read_lists.proofs.push_site.Tie as tie
-use Rattle.read_lists.proofs.push_site.Reads as reads
-use Rattle.read_lists.proofs.push_site.Lts as lts
-use Rattle.read_head.proofs.worst.Reads as worst-reads
-use Rattle.read_lists.proofs.put_label.Reads as put-label-reads
 
 returns : tie.Need-returns
 unfolding pushSite

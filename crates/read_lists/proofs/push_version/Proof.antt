@@ -1,12 +1,7 @@
-use borrow.Author.Needs.{needs}
-use mathlib.Core.Path.{_≡_, refl, sym, ap, ap₂, _∙_}
-use borrow.Author.Tests.{lt-ltb, le-ltb}
+use Rattle.basis.proofs.Std.{needs, sym, lt-ltb, le-ltb}
 use Rattle.read_lists.specs.Version.{pushVersion}
 use Rattle.read_lists.proofs.push_version.Statement.{statement}
 use Rattle.read_lists.proofs.push_version.Tie as tie
-use Rattle.read_lists.proofs.push_version.Reads as reads
-use Rattle.read_lists.proofs.push_version.Lts as lts
-use Rattle.read_head.proofs.worst.Reads as worst-reads
 
 returns : tie.Need-returns
 unfolding pushVersion

@@ -1,12 +1,6 @@
-use borrow.Author.Needs.{needs}
-use mathlib.Core.Path.{_≡_, refl, sym, ap, ap₂, _∙_}
+use Rattle.basis.proofs.Std.{needs, sym, _∙_}
 use Rattle.read_lists.proofs.site_entry.Statement.{statement}
 use Rattle.read_lists.proofs.site_entry.Tie as tie
-use Rattle.read_lists.proofs.site_entry.Reads as reads
-use Rattle.read_lists.proofs.site_entry.Lts as lts
-use Rattle.read_head.proofs.label_in.Reads as label-in-reads
-use Rattle.read_lists.proofs.begins.Reads as begins-reads
-use Rattle.read_lists.proofs.no_site.Reads as no-site-reads
 
 returns : tie.Need-returns
 returns c = c .label-in .ensures ∙ sym (rw (sym (c .before .before .before .begins .ensures) ∙ c .before .before .if1 .taken))

@@ -1,8 +1,4 @@
-use mathlib.Core.Path.{_≡_, refl, sym, ap, ap₂, _∙_}
-use Prim.Native.Nat.{_-_}
-use native.Mathlib.Omega.{arith}
-use lib.ListN.{length, drop}
-use borrow.Author.Needs.{needs}
+use Rattle.basis.proofs.Std.{_≡_, ap, _∙_, _-_, arith, length, drop, needs}
 use Rattle.json_find.specs.Entries.{entries, entriesAt}
 use Rattle.json_find.proofs.Walks.{step-on, step-in}
 use Rattle.read_head.specs.declared.Verdict.the-variants.{Good}
@@ -12,14 +8,6 @@ use Rattle.read_lists.specs.Version.{pushSite, siteOfItem, noSites}
 use Rattle.read_lists.proofs.Walk.{none-in, some-in, last-one, and-more}
 use Rattle.read_lists.proofs.sites_in.Statement.{statement}
 use Rattle.read_lists.proofs.sites_in.Tie as tie
-use Rattle.read_lists.proofs.sites_in.Reads as reads
-use Rattle.read_lists.proofs.sites_in.Lts as lts
-use Rattle.json_value.proofs.space.Reads as space-reads
-use Rattle.json_find.proofs.step.Reads as step-reads
-use Rattle.json_find.proofs.inside.Reads as inside-reads
-use Rattle.read_lists.proofs.no_sites.Reads as no-sites-reads
-use Rattle.read_lists.proofs.push_site.Reads as push-site-reads
-use Rattle.read_lists.proofs.site_entry.Reads as site-entry-reads
 
 abbrev Inv-loop : tie.InvT-loop
 Inv-loop s at list₀ start i₀ list i = gather (λ l x. pushSite l (siteOfItem x)) list (itemsAt (entries 0x5d (drop i s))) ≡ gather (λ l x. pushSite l (siteOfItem x)) (noSites Good) (itemsAt (entriesAt 0x5b 0x5d (drop at s)))

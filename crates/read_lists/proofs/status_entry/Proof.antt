@@ -1,7 +1,6 @@
 -- `read_lists::status_entry` meets its contract.
 -- Assumes nothing.
-use borrow.Author.Needs.{needs}
-use mathlib.Core.Path.{sym, _∙_}
+use Rattle.basis.proofs.Std.{needs, sym, _∙_}
 use Rattle.read_lists.proofs.Once.{object-steps, other-steps}
 use Rattle.read_lists.proofs.status_entry.Statement.{statement}
 use Rattle.read_lists.proofs.status_entry.Tie as tie

@@ -1,11 +1,7 @@
-use Prim.Native.Nat.{_-_}
-use lib.ListN.{length}
-use borrow.Author.Needs.{needs}
+use Rattle.basis.proofs.Std.{_-_, length, needs}
 use Rattle.read_versions.proofs.Dots.{Undotted, at-start, passes, stops, ends}
 use Rattle.read_versions.proofs.dot.Statement.{statement}
 use Rattle.read_versions.proofs.dot.Tie as tie
-use Rattle.read_versions.proofs.dot.Reads as reads
-use Rattle.read_versions.proofs.dot.Lts as lts
 
 abbrev Inv-loop : tie.InvT-loop
 Inv-loop s i₀ i = Undotted s i

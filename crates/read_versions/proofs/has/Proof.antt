@@ -1,19 +1,8 @@
-use mathlib.Core.Bool.{Bool, true}
-use Rattle.basis.specs.Pick.{pick}
-use Prim.Native.Nat.{_≤_, _<_, _-_, min}
-use mathlib.Core.Path.{_≡_, refl, sym, ap, ap₂, _∙_}
-use native.Mathlib.Omega.{arith}
-use lib.Dec.{eqb}
-use lib.ListN.{length, take, drop, getD}
-use borrow.Author.Needs.{needs}
+use Rattle.basis.proofs.Std.{Bool, true, pick, _≤_, _-_, _≡_, sym, ap, _∙_, arith, eqb, length, take, drop, getD, needs}
 use Rattle.read_versions.specs.Judge.{has as hasOf}
 use Rattle.read_versions.proofs.Backwards.{past, back, counted}
 use Rattle.read_versions.proofs.has.Statement.{statement}
 use Rattle.read_versions.proofs.has.Tie as tie
-use Rattle.read_versions.proofs.has.Reads as reads
-use Rattle.read_versions.proofs.has.Lts as lts
-use Rattle.read_versions.proofs.at_most_16.Reads as at-most-16-reads
-use Rattle.read_versions.proofs.either.Reads as either-reads
 
 abbrev Inv-loop : tie.InvT-loop
 Inv-loop n list i₀ found₀ i found = (i ≤ i₀) × (i₀ ≤ 16) × (found ≡ hasOf (drop i (take i₀ list)) n)

@@ -1,13 +1,7 @@
-use borrow.Author.Needs.{needs}
-use borrow.Author.Tests.{not-true, not-false}
+use Rattle.basis.proofs.Std.{needs, not-true, not-false}
 use Rattle.read_versions.proofs.Judging.{no-version, no-site, no-sxl, accepted}
 use Rattle.read_versions.proofs.judge.Statement.{statement}
 use Rattle.read_versions.proofs.judge.Tie as tie
-use Rattle.read_versions.proofs.judge.Reads as reads
-use Rattle.read_versions.proofs.judge.Lts as lts
-use Rattle.read_versions.proofs.latest.Reads as latest-reads
-use Rattle.read_versions.proofs.met.Reads as met-reads
-use Rattle.read_versions.proofs.same_label.Reads as same-label-reads
 
 returns : tie.Need-returns
 returns c = no-site _ _ (c .before .before .before .before .before .before .latest .ensures) (c .before .before .before .before .best .given .1) (c .before .met .ensures) (not-true _ (c .if1 .taken))

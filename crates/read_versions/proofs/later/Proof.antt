@@ -1,10 +1,6 @@
-use borrow.Author.Needs.{needs}
-use mathlib.Core.Path.{sym}
-use borrow.Author.Tests.{lt-ltb, le-ltb}
+use Rattle.basis.proofs.Std.{needs, sym, lt-ltb, le-ltb}
 use Rattle.read_versions.proofs.later.Statement.{statement}
 use Rattle.read_versions.proofs.later.Tie as tie
-use Rattle.read_versions.proofs.later.Reads as reads
-use Rattle.read_versions.proofs.later.Lts as lts
 
 returns : tie.Need-returns
 returns c =

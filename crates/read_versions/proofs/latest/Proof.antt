@@ -1,17 +1,8 @@
-use Prim.Native.Nat.{_≤_, _<_, _-_}
-use mathlib.Core.Path.{_≡_, refl, sym, ap, ap₂, _∙_}
-use native.Mathlib.Omega.{arith}
-use lib.ListN.{length, take, drop}
-use borrow.Author.Needs.{needs}
+use Rattle.basis.proofs.Std.{_≤_, _≡_, sym, ap₂, _∙_, arith, length, take, drop, needs}
 use Rattle.read_versions.proofs.Backwards.{past, back, counted}
 use Rattle.read_versions.specs.Judge.{latest as latestOf, later as laterOf}
 use Rattle.read_versions.proofs.latest.Statement.{statement}
 use Rattle.read_versions.proofs.latest.Tie as tie
-use Rattle.read_versions.proofs.latest.Reads as reads
-use Rattle.read_versions.proofs.latest.Lts as lts
-use Rattle.read_versions.proofs.at_most_16.Reads as at-most-16-reads
-use Rattle.read_versions.proofs.later.Reads as later-reads
-use Rattle.read_versions.proofs.shared.Reads as shared-reads
 
 abbrev Inv-loop : tie.InvT-loop
 Inv-loop theirs list i₀ best₀ i best = (i ≤ i₀) × (i₀ ≤ 16) × (best ≡ latestOf (drop i (take i₀ list)) (take (theirs .count) (theirs .list)))

@@ -1,18 +1,9 @@
-use Prim.Native.Nat.{_≤_, _<_, _-_}
-use mathlib.Core.Path.{_≡_, sym}
-use native.Mathlib.Omega.{arith}
-use lib.ListN.{length, take, drop}
-use borrow.Author.Needs.{needs}
+use Rattle.basis.proofs.Std.{_≤_, _≡_, sym, arith, length, take, drop, needs}
 use Rattle.label.specs.Label.{noLabel}
 use Rattle.read_versions.specs.Judge.{lists as listsOf}
 use Rattle.read_versions.proofs.Backwards.{past, lists-back, counted}
 use Rattle.read_versions.proofs.lists.Statement.{statement}
 use Rattle.read_versions.proofs.lists.Tie as tie
-use Rattle.read_versions.proofs.lists.Reads as reads
-use Rattle.read_versions.proofs.lists.Lts as lts
-use Rattle.read_versions.proofs.at_most_16.Reads as at-most-16-reads
-use Rattle.read_versions.proofs.either.Reads as either-reads
-use Rattle.read_versions.proofs.same_label.Reads as same-label-reads
 
 abbrev Inv-loop : tie.InvT-loop
 Inv-loop count l list i₀ found₀ i found = (i ≤ i₀) × (i₀ ≤ 16) × (found ≡ listsOf (drop i (take i₀ list)) l)

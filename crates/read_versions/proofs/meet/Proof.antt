@@ -1,18 +1,9 @@
-use Prim.Native.Nat.{_≤_, _<_, _-_}
-use mathlib.Core.Path.{_≡_, sym}
-use native.Mathlib.Omega.{arith}
-use lib.ListN.{length, take, drop}
-use borrow.Author.Needs.{needs}
+use Rattle.basis.proofs.Std.{_≤_, _≡_, sym, arith, length, take, drop, needs}
 use Rattle.label.specs.Label.{noLabel}
 use Rattle.read_versions.specs.Judge.{meet as meetOf}
 use Rattle.read_versions.proofs.Backwards.{past, meet-back, counted}
 use Rattle.read_versions.proofs.meet.Statement.{statement}
 use Rattle.read_versions.proofs.meet.Tie as tie
-use Rattle.read_versions.proofs.meet.Reads as reads
-use Rattle.read_versions.proofs.meet.Lts as lts
-use Rattle.read_versions.proofs.at_most_16.Reads as at-most-16-reads
-use Rattle.read_versions.proofs.either.Reads as either-reads
-use Rattle.read_versions.proofs.listed.Reads as listed-reads
 
 abbrev Inv-loop : tie.InvT-loop
 Inv-loop count theirs list i₀ found₀ i found = (i ≤ i₀) × (i₀ ≤ 16) × (found ≡ meetOf (drop i (take i₀ list)) (take (theirs .count) (theirs .list)))

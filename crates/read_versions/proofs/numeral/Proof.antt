@@ -1,10 +1,7 @@
-use borrow.Author.Needs.{needs}
+use Rattle.basis.proofs.Std.{needs}
 use Rattle.read_versions.proofs.Numerals.{numeral-once}
 use Rattle.read_versions.proofs.numeral.Statement.{statement}
 use Rattle.read_versions.proofs.numeral.Tie as tie
-use Rattle.read_versions.proofs.numeral.Reads as reads
-use Rattle.read_versions.proofs.numeral.Lts as lts
-use Rattle.number.proofs.read_decimal.Reads as read-decimal-reads
 
 returns : tie.Need-returns
 returns c = numeral-once _ _ _ (c .read-decimal .ensures)

@@ -1,11 +1,7 @@
-use borrow.Author.Needs.{needs}
+use Rattle.basis.proofs.Std.{needs}
 use Rattle.read_versions.proofs.Dots.{one-more, one-end}
 use Rattle.read_versions.proofs.one_part.Statement.{statement}
 use Rattle.read_versions.proofs.one_part.Tie as tie
-use Rattle.read_versions.proofs.one_part.Reads as reads
-use Rattle.read_versions.proofs.one_part.Lts as lts
-use Rattle.read_versions.proofs.dot.Reads as dot-reads
-use Rattle.read_versions.proofs.numeral.Reads as numeral-reads
 
 returns : tie.Need-returns
 returns c = one-more _ _ (c .before .dot .ensures) (c .if1 .taken)

@@ -1,11 +1,8 @@
-use borrow.Author.Needs.{needs}
+use Rattle.basis.proofs.Std.{needs}
 use Rattle.read_versions.proofs.Dots.{rest-none, after-dot}
 use Rattle.read_versions.specs.Version.{onePart}
 use Rattle.read_versions.proofs.one_rest.Statement.{statement}
 use Rattle.read_versions.proofs.one_rest.Tie as tie
-use Rattle.read_versions.proofs.one_rest.Reads as reads
-use Rattle.read_versions.proofs.one_rest.Lts as lts
-use Rattle.read_versions.proofs.one_part.Reads as one-part-reads
 
 returns : tie.Need-returns
 returns c = rest-none _ _ (c .before .before .pre) onePart (c .if1 .taken)

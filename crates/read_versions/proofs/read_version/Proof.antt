@@ -1,15 +1,8 @@
-use borrow.Author.Needs.{needs}
-use native.Mathlib.Omega.{arith}
+use Rattle.basis.proofs.Std.{needs, arith, sym, _∙_}
 use Rattle.read_versions.specs.Version.{behind, twoParts, versionOf}
-use mathlib.Core.Path.{sym, _∙_}
 use Rattle.read_versions.proofs.Parts.{both-there, rest-bad, first-bad, first-most, two-rest-most}
 use Rattle.read_versions.proofs.read_version.Statement.{statement}
 use Rattle.read_versions.proofs.read_version.Tie as tie
-use Rattle.read_versions.proofs.read_version.Reads as reads
-use Rattle.read_versions.proofs.read_version.Lts as lts
-use Rattle.read_versions.proofs.dot.Reads as dot-reads
-use Rattle.read_versions.proofs.numeral.Reads as numeral-reads
-use Rattle.read_versions.proofs.two_rest.Reads as two-rest-reads
 
 mul-t13 : tie.Need-mul-t13
 mul-t13 c =

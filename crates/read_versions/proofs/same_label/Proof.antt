@@ -1,13 +1,7 @@
-use mathlib.Core.Path.{_≡_}
-use lib.ListN.{length}
+use Rattle.basis.proofs.Std.{_≡_, length, needs}
 use Rattle.label.proofs.Text.{text-part}
-use borrow.Author.Needs.{needs}
 use Rattle.read_versions.proofs.same_label.Statement.{statement}
 use Rattle.read_versions.proofs.same_label.Tie as tie
-use Rattle.read_versions.proofs.same_label.Reads as reads
-use Rattle.read_versions.proofs.same_label.Lts as lts
-use Rattle.label.proofs.is.Reads as is-reads
-use Rattle.label.proofs.size.Reads as size-reads
 
 part-is-end : tie.Need-part-is-end
 part-is-end c =

@@ -1,10 +1,6 @@
-use borrow.Author.Needs.{needs}
-use mathlib.Core.Path.{sym, _∙_}
+use Rattle.basis.proofs.Std.{needs, sym, _∙_}
 use Rattle.read_versions.proofs.shared.Statement.{statement}
 use Rattle.read_versions.proofs.shared.Tie as tie
-use Rattle.read_versions.proofs.shared.Reads as reads
-use Rattle.read_versions.proofs.shared.Lts as lts
-use Rattle.read_versions.proofs.has.Reads as has-reads
 
 returns : tie.Need-returns
 returns c = sym (rw (sym (c .before .has .ensures) ∙ c .if1 .taken))

@@ -1,15 +1,8 @@
-use borrow.Author.Needs.{needs}
-use native.Mathlib.Omega.{arith}
+use Rattle.basis.proofs.Std.{needs, arith, sym, _∙_}
 use Rattle.read_versions.specs.Version.{behind, onePart, twoParts}
-use mathlib.Core.Path.{sym, _∙_}
 use Rattle.read_versions.proofs.Parts.{both-there, rest-bad, first-bad, first-most, one-rest-most}
 use Rattle.read_versions.proofs.two_parts.Statement.{statement}
 use Rattle.read_versions.proofs.two_parts.Tie as tie
-use Rattle.read_versions.proofs.two_parts.Reads as reads
-use Rattle.read_versions.proofs.two_parts.Lts as lts
-use Rattle.read_versions.proofs.dot.Reads as dot-reads
-use Rattle.read_versions.proofs.numeral.Reads as numeral-reads
-use Rattle.read_versions.proofs.one_rest.Reads as one-rest-reads
 
 mul-t13 : tie.Need-mul-t13
 mul-t13 c =

@@ -1,11 +1,8 @@
-use borrow.Author.Needs.{needs}
+use Rattle.basis.proofs.Std.{needs}
 use Rattle.read_versions.proofs.Dots.{rest-none, after-dot}
 use Rattle.read_versions.specs.Version.{twoParts}
 use Rattle.read_versions.proofs.two_rest.Statement.{statement}
 use Rattle.read_versions.proofs.two_rest.Tie as tie
-use Rattle.read_versions.proofs.two_rest.Reads as reads
-use Rattle.read_versions.proofs.two_rest.Lts as lts
-use Rattle.read_versions.proofs.two_parts.Reads as two-parts-reads
 
 returns : tie.Need-returns
 returns c = rest-none _ _ (c .before .before .pre) twoParts (c .if1 .taken)

@@ -3,9 +3,6 @@ use Prim.Native.Nat.{_≤_, _-_}
 use lib.ListN.{length}
 use Rattle.run_feed.proofs.decimal.Statement.{statement}
 use Rattle.run_feed.proofs.decimal.Tie as tie
-use Rattle.run_feed.proofs.decimal.Reads as reads
-use Rattle.run_feed.proofs.decimal.Lts as lts
-use Rattle.run_feed.proofs.behind.Reads as behind-reads
 
 abbrev Inv-loop : tie.InvT-loop
 Inv-loop s n₀ i₀ n i = i ≤ length s

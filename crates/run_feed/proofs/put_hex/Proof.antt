@@ -4,9 +4,6 @@ use mathlib.Core.Path.{_≡_}
 use lib.ListN.{length}
 use Rattle.run_feed.proofs.put_hex.Statement.{statement}
 use Rattle.run_feed.proofs.put_hex.Tie as tie
-use Rattle.run_feed.proofs.put_hex.Reads as reads
-use Rattle.run_feed.proofs.put_hex.Lts as lts
-use Rattle.run_feed.proofs.put_byte.Reads as put-byte-reads
 
 abbrev Inv-loop : tie.InvT-loop
 Inv-loop line₀ at bytes end₀ i₀ line end i = (i ≤ length bytes) × (length line ≡ length line₀)

@@ -4,9 +4,6 @@ use mathlib.Core.Path.{_≡_}
 use lib.ListN.{length}
 use Rattle.run_feed.proofs.unhex.Statement.{statement}
 use Rattle.run_feed.proofs.unhex.Tie as tie
-use Rattle.run_feed.proofs.unhex.Reads as reads
-use Rattle.run_feed.proofs.unhex.Lts as lts
-use Rattle.run_feed.proofs.byte.Reads as byte-reads
 
 abbrev Inv-loop : tie.InvT-loop
 Inv-loop s bytes₀ i₀ bytes i = (i ≤ length bytes₀) × (length bytes ≡ length bytes₀)

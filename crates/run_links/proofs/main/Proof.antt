@@ -3,10 +3,6 @@
 use borrow.Author.Needs.{needs}
 use Rattle.run_links.proofs.main.Statement.{statement}
 use Rattle.run_links.proofs.main.Tie as tie
-use Rattle.run_links.proofs.main.Reads as reads
-use Rattle.run_links.proofs.main.Lts as lts
-use Rattle.link.proofs.Link.closed.Reads as closed-reads
-use Rattle.run_links.proofs.taken.Reads as taken-reads
 
 abbrev Inv-loop : tie.InvT-loop
 Inv-loop link₀ more₀ turns₀ link more turns = Unit {0}

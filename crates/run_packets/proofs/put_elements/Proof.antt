@@ -3,11 +3,6 @@ use mathlib.Core.Path.{_≡_}
 use borrow.Author.Needs.{needs}
 use Rattle.run_packets.proofs.put_elements.Statement.{statement}
 use Rattle.run_packets.proofs.put_elements.Tie as tie
-use Rattle.run_packets.proofs.put_elements.Reads as reads
-use Rattle.run_packets.proofs.put_elements.Lts as lts
-use Rattle.json_find.proofs.step.Reads as step-reads
-use Rattle.json_value.proofs.start.Reads as start-reads
-use Rattle.run_packets.proofs.put_kind.Reads as put-kind-reads
 
 abbrev Inv-loop : tie.InvT-loop
 Inv-loop s first line₀ at i₀ end₀ left₀ line i end left = length line ≡ length line₀

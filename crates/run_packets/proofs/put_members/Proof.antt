@@ -3,10 +3,6 @@ use mathlib.Core.Path.{_≡_}
 use borrow.Author.Needs.{needs}
 use Rattle.run_packets.proofs.put_members.Statement.{statement}
 use Rattle.run_packets.proofs.put_members.Tie as tie
-use Rattle.run_packets.proofs.put_members.Reads as reads
-use Rattle.run_packets.proofs.put_members.Lts as lts
-use Rattle.json_find.proofs.step.Reads as step-reads
-use Rattle.run_packets.proofs.put_member.Reads as put-member-reads
 
 abbrev Inv-loop : tie.InvT-loop
 Inv-loop s object first line₀ at i₀ end₀ left₀ line i end left = length line ≡ length line₀

@@ -1,14 +1,8 @@
 use lib.ListN.{length}
 use mathlib.Core.Path.{_≡_}
-use Prim.Native.Nat.{_≤_, _-_}
 use borrow.Author.Needs.{needs}
 use Rattle.run_packets.proofs.put_string.Statement.{statement}
 use Rattle.run_packets.proofs.put_string.Tie as tie
-use Rattle.run_packets.proofs.put_string.Reads as reads
-use Rattle.run_packets.proofs.put_string.Lts as lts
-use Rattle.json_character.proofs.step.Reads as step-reads
-use Rattle.run_packets.proofs.forward.Reads as forward-reads
-use Rattle.run_packets.proofs.put_point.Reads as put-point-reads
 
 abbrev Inv-loop : tie.InvT-loop
 Inv-loop s i line₀ at next₀ end₀ left₀ line next end left = length line ≡ length line₀

@@ -1,13 +1,8 @@
 use lib.ListN.{length}
 use mathlib.Core.Path.{_≡_}
-use Prim.Native.Nat.{_≤_, _-_}
 use borrow.Author.Needs.{needs}
 use Rattle.run_packets.proofs.put_tokens.Statement.{statement}
 use Rattle.run_packets.proofs.put_tokens.Tie as tie
-use Rattle.run_packets.proofs.put_tokens.Reads as reads
-use Rattle.run_packets.proofs.put_tokens.Lts as lts
-use Rattle.json_value.proofs.space.Reads as space-reads
-use Rattle.run_packets.proofs.put_token.Reads as put-token-reads
 
 abbrev Inv-loop : tie.InvT-loop
 Inv-loop s line₀ next₀ end₀ left₀ line next end left = length line ≡ length line₀

@@ -3,10 +3,6 @@
 use borrow.Author.Needs.{needs}
 use Rattle.run_pool.proofs.main.Statement.{statement}
 use Rattle.run_pool.proofs.main.Tie as tie
-use Rattle.run_pool.proofs.main.Reads as reads
-use Rattle.run_pool.proofs.main.Lts as lts
-use Rattle.pool.proofs.Pool.empty.Reads as empty-reads
-use Rattle.run_pool.proofs.taken.Reads as taken-reads
 
 abbrev Inv-loop : tie.InvT-loop
 Inv-loop pool₀ more₀ turns₀ pool more turns = Unit {0}

@@ -4,9 +4,6 @@ use mathlib.Core.Path.{_≡_}
 use lib.ListN.{length}
 use Rattle.run_reads.proofs.put_version_list.Statement.{statement}
 use Rattle.run_reads.proofs.put_version_list.Tie as tie
-use Rattle.run_reads.proofs.put_version_list.Reads as reads
-use Rattle.run_reads.proofs.put_version_list.Lts as lts
-use Rattle.run_reads.proofs.put_version_of.Reads as put-version-of-reads
 
 abbrev Inv-loop : tie.InvT-loop
 Inv-loop line₀ at list count end₀ i₀ line end i = (i ≤ count) × (length line ≡ length line₀)

@@ -3,10 +3,6 @@
 use borrow.Author.Needs.{needs}
 use Rattle.run_rules.proofs.main.Statement.{statement}
 use Rattle.run_rules.proofs.main.Tie as tie
-use Rattle.run_rules.proofs.main.Reads as reads
-use Rattle.run_rules.proofs.main.Lts as lts
-use Rattle.run_rules.proofs.begin.Reads as begin-reads
-use Rattle.run_rules.proofs.taken.Reads as taken-reads
 
 abbrev Inv-loop : tie.InvT-loop
 Inv-loop rules₀ more₀ turns₀ rules more turns = Unit {0}

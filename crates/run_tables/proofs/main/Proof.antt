@@ -3,10 +3,6 @@
 use borrow.Author.Needs.{needs}
 use Rattle.run_tables.proofs.main.Statement.{statement}
 use Rattle.run_tables.proofs.main.Tie as tie
-use Rattle.run_tables.proofs.main.Reads as reads
-use Rattle.run_tables.proofs.main.Lts as lts
-use Rattle.table_whole.proofs.read.Reads as read-reads
-use Rattle.run_tables.proofs.taken.Reads as taken-reads
 
 abbrev Inv-loop : tie.InvT-loop
 Inv-loop read₀ more₀ turns₀ read more turns = Unit {0}

@@ -4,9 +4,6 @@ use mathlib.Core.Path.{_≡_}
 use lib.ListN.{length}
 use Rattle.run_tables.proofs.put_commands.Statement.{statement}
 use Rattle.run_tables.proofs.put_commands.Tie as tie
-use Rattle.run_tables.proofs.put_commands.Reads as reads
-use Rattle.run_tables.proofs.put_commands.Lts as lts
-use Rattle.run_tables.proofs.put_command_of.Reads as put-command-of-reads
 
 abbrev Inv-loop : tie.InvT-loop
 Inv-loop line₀ at rows count end₀ i₀ line end i = (i ≤ count) × (length line ≡ length line₀)

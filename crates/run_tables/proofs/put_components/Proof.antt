@@ -4,9 +4,6 @@ use mathlib.Core.Path.{_≡_}
 use lib.ListN.{length}
 use Rattle.run_tables.proofs.put_components.Statement.{statement}
 use Rattle.run_tables.proofs.put_components.Tie as tie
-use Rattle.run_tables.proofs.put_components.Reads as reads
-use Rattle.run_tables.proofs.put_components.Lts as lts
-use Rattle.run_tables.proofs.put_component.Reads as put-component-reads
 
 abbrev Inv-loop : tie.InvT-loop
 Inv-loop line₀ at components count end₀ i₀ line end i = (i ≤ count) × (length line ≡ length line₀)

@@ -3,11 +3,6 @@ use lib.ListN.{length}
 use borrow.Author.Needs.{needs}
 use Rattle.run_tables.proofs.put_label.Statement.{statement}
 use Rattle.run_tables.proofs.put_label.Tie as tie
-use Rattle.run_tables.proofs.put_label.Reads as reads
-use Rattle.run_tables.proofs.put_label.Lts as lts
-use Rattle.run_feed.proofs.put_hex.Reads as put-hex-reads
-use Rattle.label.proofs.size.Reads as size-reads
-use Rattle.output.proofs.put_bytes.Reads as put-bytes-reads
 
 part-put-hex-end : tie.Need-part-put-hex-end
 part-put-hex-end c =

@@ -3,9 +3,6 @@
 use borrow.Author.Needs.{needs}
 use Rattle.run_vectors.proofs.main.Statement.{statement}
 use Rattle.run_vectors.proofs.main.Tie as tie
-use Rattle.run_vectors.proofs.main.Reads as reads
-use Rattle.run_vectors.proofs.main.Lts as lts
-use Rattle.run_vectors.proofs.turn.Reads as turn-reads
 
 abbrev Inv-loop : tie.InvT-loop
 Inv-loop turns₀ turns = Unit {0}

@@ -4,10 +4,6 @@ use mathlib.Core.Path.{_≡_}
 use lib.ListN.{length}
 use Rattle.run_writes.proofs.put_entries.Statement.{statement}
 use Rattle.run_writes.proofs.put_entries.Tie as tie
-use Rattle.run_writes.proofs.put_entries.Reads as reads
-use Rattle.run_writes.proofs.put_entries.Lts as lts
-use Rattle.run_writes.proofs.put_status.Reads as put-status-reads
-use Rattle.run_writes.proofs.status_in.Reads as status-in-reads
 
 abbrev Inv-loop : tie.InvT-loop
 Inv-loop line₀ at kind s from count end₀ next₀ i₀ line end next i = (i ≤ count) × (length line ≡ length line₀)

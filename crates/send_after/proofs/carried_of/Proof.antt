@@ -1,10 +1,6 @@
-use mathlib.Core.Path.{refl}
-use borrow.Author.Needs.{needs}
+use Rattle.basis.proofs.Std.{refl, needs}
 use Rattle.send_after.proofs.carried_of.Statement.{statement}
 use Rattle.send_after.proofs.carried_of.Tie as tie
-use Rattle.send_after.proofs.carried_of.Reads as reads
-use Rattle.send_after.proofs.carried_of.Lts as lts
-use Rattle.send_after.proofs.same_event.Reads as same-event-reads
 
 returns : tie.Need-returns
 returns c = rw (c .before .before .before .before .newest .given .1, ← c .before .same-event .ensures, c .if1 .taken) refl

@@ -1,6 +1,6 @@
 -- `send_after::first_pass` meets its contract.
 -- Assumes nothing.
-use borrow.Author.Needs.{needs}
+use Rattle.basis.proofs.Std.{needs}
 use Rattle.send_after.proofs.first_pass.Statement.{statement}
 use Rattle.send_after.proofs.first_pass.Tie as tie
 

@@ -1,8 +1,7 @@
 -- `send_after::mark` meets its contract.
 -- Assumes nothing.
-use mathlib.Core.Path.{refl}
+use Rattle.basis.proofs.Std.{refl, needs}
 use Rattle.store_site.proofs.TurnsLaws.{turns-none}
-use borrow.Author.Needs.{needs}
 use Rattle.send_after.proofs.mark.Statement.{statement}
 use Rattle.send_after.proofs.mark.Tie as tie
 

@@ -1,10 +1,6 @@
-use borrow.Author.Needs.{needs}
+use Rattle.basis.proofs.Std.{needs}
 use Rattle.send_after.proofs.message_out.Statement.{statement}
 use Rattle.send_after.proofs.message_out.Tie as tie
-use Rattle.send_after.proofs.message_out.Reads as reads
-use Rattle.send_after.proofs.message_out.Lts as lts
-use Rattle.link.proofs.Link.entry_out.Reads as entry-out-reads
-use Rattle.link.proofs.Link.other_out.Reads as other-out-reads
 
 returns : tie.Need-returns
 returns c = rw (c .before .before .c .given .1) (c .entry-out .ensures)

@@ -1,10 +1,6 @@
-use Rattle.basis.proofs.Tests.{tests}
-use borrow.Author.Tests.{ne-eqb}
-use mathlib.Core.Path.{refl}
+use Rattle.basis.proofs.Std.{tests, ne-eqb, refl}
 use Rattle.send_after.proofs.same_event.Statement.{statement}
 use Rattle.send_after.proofs.same_event.Tie as tie
-use Rattle.send_after.proofs.same_event.Reads as reads
-use Rattle.send_after.proofs.same_event.Lts as lts
 
 returns-2 : tie.Need-returns-2
 returns-2 c = rw (ne-eqb _ _ (c .if1 .left)) refl

@@ -1,13 +1,7 @@
-use mathlib.Core.Path.{refl, ap, _∙_}
-use mathlib.Core.Bool.{Bool}
+use Rattle.basis.proofs.Std.{refl, ap, _∙_, Bool, needs}
 use Rattle.send_message.specs.Sending.{knownValue}
-use borrow.Author.Needs.{needs}
 use Rattle.send_message.proofs.held_value.Statement.{statement}
 use Rattle.send_message.proofs.held_value.Tie as tie
-use Rattle.send_message.proofs.held_value.Reads as reads
-use Rattle.send_message.proofs.held_value.Lts as lts
-use Rattle.entry.proofs.flags.known.Reads as known-reads
-use Rattle.send_message.proofs.known_value.Reads as known-value-reads
 
 returns : tie.Need-returns
 returns c =

@@ -1,4 +1,4 @@
-use borrow.Author.Needs.{needs}
+use Rattle.basis.proofs.Std.{needs}
 use Rattle.send_message.proofs.known_value.Statement.{statement}
 use Rattle.send_message.proofs.known_value.Tie as tie
 

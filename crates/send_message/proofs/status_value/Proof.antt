@@ -1,11 +1,6 @@
-use mathlib.Core.Path.{refl}
-use borrow.Author.Tests.{eq-eqb, ne-eqb}
-use borrow.Author.Needs.{needs}
+use Rattle.basis.proofs.Std.{refl, eq-eqb, ne-eqb, needs}
 use Rattle.send_message.proofs.status_value.Statement.{statement}
 use Rattle.send_message.proofs.status_value.Tie as tie
-use Rattle.send_message.proofs.status_value.Reads as reads
-use Rattle.send_message.proofs.status_value.Lts as lts
-use Rattle.send_message.proofs.recent_value.Reads as recent-value-reads
 
 returns : tie.Need-returns
 returns c = rw (eq-eqb _ _ (c .before .if1 .taken)) (c .recent-value .ensures)

@@ -1,6 +1,6 @@
 -- `send_message::tell_aggregated` meets its contract.
 -- Assumes nothing.
-use borrow.Author.Needs.{needs}
+use Rattle.basis.proofs.Std.{needs}
 use Rattle.send_message.proofs.tell_aggregated.Statement.{statement}
 use Rattle.send_message.proofs.tell_aggregated.Tie as tie
 

@@ -1,6 +1,6 @@
 -- `send_message::tell_alarm` meets its contract.
 -- Assumes nothing.
-use borrow.Author.Needs.{needs}
+use Rattle.basis.proofs.Std.{needs}
 use Rattle.send_message.proofs.tell_alarm.Statement.{statement}
 use Rattle.send_message.proofs.tell_alarm.Tie as tie
 

@@ -1,6 +1,6 @@
 -- `send_message::tell_status` meets its contract.
 -- Assumes nothing.
-use borrow.Author.Needs.{needs}
+use Rattle.basis.proofs.Std.{needs}
 use Rattle.send_message.proofs.tell_status.Statement.{statement}
 use Rattle.send_message.proofs.tell_status.Tie as tie
 

@@ -3,7 +3,7 @@
 use Rattle.store_table.specs.Layout.{tableOf}
 use Rattle.store_site.specs.Layout.{siteOf}
 use Rattle.send_message.proofs.Read.{table-of}
-use borrow.Author.Needs.{needs}
+use Rattle.basis.proofs.Std.{needs}
 use Rattle.send_message.proofs.write_aggregated.Statement.{statement}
 use Rattle.send_message.proofs.write_aggregated.Tie as tie
 

@@ -3,7 +3,7 @@
 use Rattle.send_message.proofs.Read.{table-of, alarm-row-of}
 use Rattle.store_site.specs.Layout.{siteOf}
 use Rattle.store_table.specs.Layout.{tableOf}
-use borrow.Author.Needs.{needs}
+use Rattle.basis.proofs.Std.{needs}
 use Rattle.send_message.proofs.write_alarm.Statement.{statement}
 use Rattle.send_message.proofs.write_alarm.Tie as tie
 

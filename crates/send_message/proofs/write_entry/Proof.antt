@@ -1,7 +1,6 @@
 -- `send_message::write_entry` meets its contract.
 -- Assumes nothing.
-use borrow.Author.Tests.{eq-eqb, ne-eqb}
-use borrow.Author.Needs.{needs}
+use Rattle.basis.proofs.Std.{eq-eqb, ne-eqb, needs}
 use Rattle.send_message.proofs.write_entry.Statement.{statement}
 use Rattle.send_message.proofs.write_entry.Tie as tie
 

@@ -1,7 +1,7 @@
 -- `send_message::write_held_alarm` meets its contract.
 -- Assumes nothing.
 use Rattle.send_message.proofs.Read.{alarm-row-of}
-use borrow.Author.Needs.{needs}
+use Rattle.basis.proofs.Std.{needs}
 use Rattle.send_message.proofs.write_held_alarm.Statement.{statement}
 use Rattle.send_message.proofs.write_held_alarm.Tie as tie
 

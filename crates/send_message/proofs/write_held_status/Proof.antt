@@ -1,7 +1,7 @@
 -- `send_message::write_held_status` meets its contract.
 -- Assumes nothing.
 use Rattle.send_message.proofs.Read.{status-row-of}
-use borrow.Author.Needs.{needs}
+use Rattle.basis.proofs.Std.{needs}
 use Rattle.send_message.proofs.write_held_status.Statement.{statement}
 use Rattle.send_message.proofs.write_held_status.Tie as tie
 

@@ -1,7 +1,6 @@
 -- `sitec::outcome_of` meets its contract.
 -- Assumes nothing.
-use mathlib.Core.Path.{refl}
-use borrow.Author.Needs.{needs}
+use Rattle.basis.proofs.Std.{refl, needs}
 use Rattle.sitec.proofs.outcome_of.Statement.{statement}
 use Rattle.sitec.proofs.outcome_of.Tie as tie
 

@@ -3,7 +3,7 @@
 use Rattle.store_site.specs.Layout.{siteOf}
 use Rattle.store_site.proofs.TurnsLaws.{turns-then, turns-as}
 use Rattle.store_call.proofs.IssuedLaws.{issued-one}
-use borrow.Author.Needs.{needs}
+use Rattle.basis.proofs.Std.{needs}
 use Rattle.store_call.proofs.add.Statement.{statement}
 use Rattle.store_call.proofs.add.Tie as tie
 

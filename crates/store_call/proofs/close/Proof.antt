@@ -1,8 +1,7 @@
 -- `store_call::close` meets its contract.
 -- Assumes nothing.
-use mathlib.Core.Path.{refl}
+use Rattle.basis.proofs.Std.{refl, needs}
 use Rattle.store_site.proofs.TurnsLaws.{turns-then, turns-as}
-use borrow.Author.Needs.{needs}
 use Rattle.store_call.proofs.close.Statement.{statement}
 use Rattle.store_call.proofs.close.Tie as tie
 

@@ -1,12 +1,8 @@
 -- `store_call::spent` meets its contract.
 -- Assumes nothing.
-use Prim.Native.Nat.{_<_}
-use mathlib.Core.Path.{_∙_}
-use native.Mathlib.Omega.{arith}
-use lib.ListN.{length}
+use Rattle.basis.proofs.Std.{_<_, _∙_, arith, length, needs}
 use Rattle.store_site.specs.Layout.{siteOf}
 use Rattle.store_call.proofs.IssuedLaws.{spent-none, spent-past, spent-here}
-use borrow.Author.Needs.{needs}
 use Rattle.store_call.proofs.spent.Statement.{statement}
 use Rattle.store_call.proofs.spent.Tie as tie
 

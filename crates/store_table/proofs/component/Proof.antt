@@ -2,8 +2,7 @@
 -- Assumes nothing.
 use Rattle.store_table.proofs.RowLaws.{label-at, label-behind}
 use Rattle.store_table.specs.Layout.{tableOf}
-use mathlib.Core.Path.{_∙_}
-use borrow.Author.Needs.{needs}
+use Rattle.basis.proofs.Std.{_∙_, needs}
 use Rattle.store_table.proofs.component.Statement.{statement}
 use Rattle.store_table.proofs.component.Tie as tie
 

@@ -1,7 +1,7 @@
 -- `store_table::find_alarm` meets its contract.
 -- Assumes nothing.
 use Rattle.store_table.specs.Layout.{tableOf}
-use borrow.Author.Needs.{needs}
+use Rattle.basis.proofs.Std.{needs}
 use Rattle.store_table.proofs.find_alarm.Statement.{statement}
 use Rattle.store_table.proofs.find_alarm.Tie as tie
 

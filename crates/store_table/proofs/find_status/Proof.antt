@@ -1,7 +1,7 @@
 -- `store_table::find_status` meets its contract.
 -- Assumes nothing.
 use Rattle.store_table.specs.Layout.{tableOf}
-use borrow.Author.Needs.{needs}
+use Rattle.basis.proofs.Std.{needs}
 use Rattle.store_table.proofs.find_status.Statement.{statement}
 use Rattle.store_table.proofs.find_status.Tie as tie
 

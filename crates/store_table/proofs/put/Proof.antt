@@ -1,10 +1,8 @@
 -- `store_table::put` meets its contract.
 -- Assumes nothing.
-use mathlib.Core.Path.{_≡_, refl}
-use lib.ListN.{length}
+use Rattle.basis.proofs.Std.{_≡_, refl, length, needs}
 use Rattle.store_table.specs.Layout.{headBytes, tableBytes}
 use Rattle.store_table.proofs.LayLaws.{then, laid-whole}
-use borrow.Author.Needs.{needs}
 use Rattle.store_table.proofs.put.Statement.{statement}
 use Rattle.store_table.proofs.put.Tie as tie
 

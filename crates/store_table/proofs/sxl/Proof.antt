@@ -1,7 +1,7 @@
 -- `store_table::sxl` meets its contract.
 -- Assumes nothing.
 use Rattle.store_table.specs.Layout.{tableOf}
-use borrow.Author.Needs.{needs}
+use Rattle.basis.proofs.Std.{needs}
 use Rattle.store_table.proofs.sxl.Statement.{statement}
 use Rattle.store_table.proofs.sxl.Tie as tie
 

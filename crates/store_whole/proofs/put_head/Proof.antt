@@ -1,9 +1,7 @@
 -- `store_whole::put_head` meets its contract.
 -- Assumes nothing.
-use native.Mathlib.Omega.{arith}
-use lib.ListN.{length-set}
+use Rattle.basis.proofs.Std.{arith, length-set, needs}
 use Rattle.store_whole.proofs.ListLaws.{head-turns}
-use borrow.Author.Needs.{needs}
 use Rattle.store_whole.proofs.put_head.Statement.{statement}
 use Rattle.store_whole.proofs.put_head.Tie as tie
 

@@ -1,10 +1,7 @@
 -- `store_words::quad` meets its contract.
 -- Assumes nothing.
-use mathlib.Core.Path.{refl}
-use mathlib.Core.List.{[], _∷_}
-use lib.Dec.{lit≤}
+use Rattle.basis.proofs.Std.{refl, [], _∷_, lit≤, needs}
 use Rattle.bits.proofs.Fields.{next-field}
-use borrow.Author.Needs.{needs}
 use Rattle.store_words.proofs.quad.Statement.{statement}
 use Rattle.store_words.proofs.quad.Tie as tie
 

@@ -1,10 +1,4 @@
-use Prim.Native.Nat.{ℕ, _+_, _-_, _≤_, _<_}
-use mathlib.Core.Path.{_≡_, sym, _∙_}
-use mathlib.Core.Logic.{⊎-elim}
-use native.Mathlib.Omega.{arith}
-use lib.Dec.{leb}
-use borrow.Author.Tests.{le-leb, lt-leb}
-use Rattle.basis.proofs.Cases.{le-or-lt}
+use Rattle.basis.proofs.Std.{ℕ, _+_, _-_, _≤_, _<_, _≡_, sym, _∙_, ⊎-elim, arith, leb, le-leb, lt-leb, le-or-lt}
 use Rattle.subscription.proofs.passed.Statement.{statement}
 use Rattle.subscription.proofs.passed.Tie as tie
 

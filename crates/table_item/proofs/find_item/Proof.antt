@@ -1,10 +1,6 @@
-use mathlib.Core.Bool.{true, false}
-use Prim.Native.Nat.{_≤_, _-_}
-use mathlib.Core.Path.{_≡_, sym}
-use native.Mathlib.Nat.{sub-zero}
+use Rattle.basis.proofs.Std.{true, false, _≤_, _-_, _≡_, sym, sub-zero, needs}
 use Rattle.table_item.specs.Find.{firstFrom, itemAt}
 use Rattle.table_item.proofs.First.{stops, goes-on, ends}
-use borrow.Author.Needs.{needs}
 use Rattle.table_item.proofs.find_item.Statement.{statement}
 use Rattle.table_item.proofs.find_item.Tie as tie
 

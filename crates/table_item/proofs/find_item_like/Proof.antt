@@ -1,7 +1,5 @@
-use mathlib.Core.Path.{_≡_}
-use lib.ListN.{length}
+use Rattle.basis.proofs.Std.{_≡_, length, needs}
 use Rattle.label.proofs.Text.{text-part}
-use borrow.Author.Needs.{needs}
 use Rattle.table_item.proofs.find_item_like.Statement.{statement}
 use Rattle.table_item.proofs.find_item_like.Tie as tie
 

@@ -1,12 +1,8 @@
-use Prim.Native.Nat.{_≤_, _-_}
-use mathlib.Core.Path.{_≡_, sym, ap, _∙_}
-use native.Mathlib.Nat.{sub-zero}
-use Rattle.basis.specs.Lists.{sameBytes}
+use Rattle.basis.proofs.Std.{_≤_, _-_, _≡_, sym, ap, _∙_, sub-zero, sameBytes, needs}
 use Rattle.label.specs.declared.Label.{Label}
 use Rattle.label.specs.Label.{textOf}
 use Rattle.table_item.specs.Find.{firstFrom, labelAt}
 use Rattle.table_item.proofs.First.{stops, goes-on, ends}
-use borrow.Author.Needs.{needs}
 use Rattle.table_item.proofs.find_label.Statement.{statement}
 use Rattle.table_item.proofs.find_label.Tie as tie
 

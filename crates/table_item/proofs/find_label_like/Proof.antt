@@ -1,8 +1,6 @@
-use mathlib.Core.Path.{_≡_, ap, _∙_}
-use lib.ListN.{length}
+use Rattle.basis.proofs.Std.{_≡_, ap, _∙_, length, needs}
 use Rattle.label.proofs.Text.{text-part}
 use Rattle.table_item.specs.Find.{findLabel}
-use borrow.Author.Needs.{needs}
 use Rattle.table_item.proofs.find_label_like.Statement.{statement}
 use Rattle.table_item.proofs.find_label_like.Tie as tie
 

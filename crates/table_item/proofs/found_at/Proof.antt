@@ -1,4 +1,4 @@
-use borrow.Author.Needs.{needs}
+use Rattle.basis.proofs.Std.{needs}
 use Rattle.table_item.proofs.found_at.Statement.{statement}
 use Rattle.table_item.proofs.found_at.Tie as tie
 

@@ -1,7 +1,5 @@
-use mathlib.Core.Path.{sym, _∙_}
-use borrow.Author.Tests.{eq-eqb, ne-eqb, not-true, not-false}
+use Rattle.basis.proofs.Std.{sym, _∙_, eq-eqb, ne-eqb, not-true, not-false, needs}
 use Rattle.table_item.specs.Item.{isItem}
-use borrow.Author.Needs.{needs}
 use Rattle.table_item.proofs.is.Statement.{statement}
 use Rattle.table_item.proofs.is.Tie as tie
 

@@ -1,7 +1,5 @@
-use mathlib.Core.Path.{_≡_, sym, _∙_}
-use lib.ListN.{length, List·getD-eq-default}
+use Rattle.basis.proofs.Std.{_≡_, sym, _∙_, length, List·getD-eq-default, needs}
 use Rattle.table_item.proofs.First.{getD-any}
-use borrow.Author.Needs.{needs}
 use Rattle.table_item.proofs.label_in.Statement.{statement}
 use Rattle.table_item.proofs.label_in.Tie as tie
 

@@ -1,4 +1,4 @@
-use borrow.Author.Needs.{needs}
+use Rattle.basis.proofs.Std.{needs}
 use Rattle.table_item.proofs.own_item.Statement.{statement}
 use Rattle.table_item.proofs.own_item.Tie as tie
 

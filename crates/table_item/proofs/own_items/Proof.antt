@@ -1,7 +1,4 @@
-use Prim.Native.Nat.{_≤_, _-_}
-use mathlib.Core.Path.{_≡_, refl, ap, _∙_}
-use native.Mathlib.Numerals.{add-one}
-use borrow.Author.Needs.{needs}
+use Rattle.basis.proofs.Std.{_≤_, _-_, _≡_, refl, ap, _∙_, add-one, needs}
 use Rattle.table_item.specs.Find.{each, ownItem}
 use Rattle.table_item.proofs.own_items.Statement.{statement}
 use Rattle.table_item.proofs.own_items.Tie as tie

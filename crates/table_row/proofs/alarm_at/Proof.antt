@@ -1,8 +1,6 @@
-use Prim.Native.Nat.{ℕ}
-use mathlib.Core.Path.{sym, ap, _∙_}
+use Rattle.basis.proofs.Std.{ℕ, sym, ap, _∙_, needs}
 use Rattle.table_row.specs.Rows.{goodAlarm}
 use Rattle.table_row.proofs.Rows.{alarm-behind, alarm-bad, alarm-good}
-use borrow.Author.Needs.{needs}
 use Rattle.table_row.proofs.alarm_at.Statement.{statement}
 use Rattle.table_row.proofs.alarm_at.Tie as tie
 

@@ -1,6 +1,5 @@
-use mathlib.Core.Path.{ap, _∙_}
+use Rattle.basis.proofs.Std.{ap, _∙_, needs}
 use Rattle.table_row.specs.Rows.{withRange, commandAt}
-use borrow.Author.Needs.{needs}
 use Rattle.table_row.proofs.command_at.Statement.{statement}
 use Rattle.table_row.proofs.command_at.Tie as tie
 

@@ -1,7 +1,6 @@
-use mathlib.Core.Path.{sym, ap, _∙_}
+use Rattle.basis.proofs.Std.{sym, ap, _∙_, needs}
 use Rattle.table_row.specs.Head.{goodFirst}
-use Rattle.table_row.proofs.Heads.{first-short, first-bad, first-good, three, four}
-use borrow.Author.Needs.{needs}
+use Rattle.table_row.proofs.Heads.{first-short, first-bad, first-good, three}
 use Rattle.table_row.proofs.first_head.Statement.{statement}
 use Rattle.table_row.proofs.first_head.Tie as tie
 

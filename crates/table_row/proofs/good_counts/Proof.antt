@@ -1,7 +1,5 @@
-use mathlib.Core.Path.{sym}
-use borrow.Author.Tests.{lt-leb, le-leb}
+use Rattle.basis.proofs.Std.{sym, lt-leb, le-leb, needs}
 use Rattle.table_row.specs.Head.{goodCounts}
-use borrow.Author.Needs.{needs}
 use Rattle.table_row.proofs.good_counts.Statement.{statement}
 use Rattle.table_row.proofs.good_counts.Tie as tie
 

@@ -1,7 +1,4 @@
-use mathlib.Core.Path.{_≡_, ap, _∙_}
-use Prim.Native.Nat.{ℕ}
-use native.Mathlib.Nat.{mod-lt}
-use lib.IntN.{ℤ}
+use Rattle.basis.proofs.Std.{ap, _∙_, mod-lt, ℤ, needs}
 use lib.Pow.{pow-pos}
 use mir.Syntax.{w32}
 use mir.Val.{toZ, ofZ}
@@ -9,7 +6,6 @@ use Rattle.bits.specs.Fields.{fieldOf}
 use Rattle.number.specs.Signed.{signed16Of, atMost}
 use Rattle.number.proofs.RoundTrip.{passed-on-16}
 use Rattle.table_row.specs.Rows.{goodRange}
-use borrow.Author.Needs.{needs}
 use Rattle.table_row.proofs.good_range.Statement.{statement}
 use Rattle.table_row.proofs.good_range.Tie as tie
 

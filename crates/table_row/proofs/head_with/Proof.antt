@@ -1,4 +1,4 @@
-use borrow.Author.Needs.{needs}
+use Rattle.basis.proofs.Std.{needs}
 use Rattle.table_row.proofs.head_with.Statement.{statement}
 use Rattle.table_row.proofs.head_with.Tie as tie
 

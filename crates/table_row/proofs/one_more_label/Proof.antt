@@ -1,4 +1,4 @@
-use borrow.Author.Needs.{needs}
+use Rattle.basis.proofs.Std.{needs}
 use Rattle.table_row.proofs.one_more_label.Statement.{statement}
 use Rattle.table_row.proofs.one_more_label.Tie as tie
 

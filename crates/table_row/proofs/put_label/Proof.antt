@@ -1,7 +1,4 @@
-use mathlib.Core.Path.{_≡_, sym}
-use lib.ListN.{length}
-use lib.Seq.{set-out}
-use borrow.Author.Needs.{needs}
+use Rattle.basis.proofs.Std.{_≡_, sym, length, set-out, needs}
 use Rattle.table_row.proofs.put_label.Statement.{statement}
 use Rattle.table_row.proofs.put_label.Tie as tie
 

@@ -1,9 +1,6 @@
-use mathlib.Core.Path.{sym, ap, _∙_}
-use borrow.Author.Tests.{lt-ltb, le-ltb}
+use Rattle.basis.proofs.Std.{sym, _∙_, lt-ltb, le-ltb, needs}
 use Rattle.label.specs.Reading.{far}
-use Rattle.table_row.specs.declared.Head.{Head}
 use Rattle.table_row.specs.Head.{headOf}
-use borrow.Author.Needs.{needs}
 use Rattle.table_row.proofs.read_head.Statement.{statement}
 use Rattle.table_row.proofs.read_head.Tie as tie
 

@@ -1,15 +1,7 @@
-use Prim.Native.Nat.{ℕ, _≤_, _-_}
-use mathlib.Core.Path.{_≡_, refl, sym, ap, ap₂, _∙_}
-use mathlib.Core.List.{List}
-use mathlib.Core.Logic.{⊎-elim}
-use native.Mathlib.Omega.{arith}
-use lib.ListN.{length, set, length-set}
-use lib.Seq.{set-out}
+use Rattle.basis.proofs.Std.{ℕ, _≤_, _-_, _≡_, refl, sym, ap, ap₂, _∙_, List, ⊎-elim, arith, length, set, length-set, set-out, add-one, needs}
 use Rattle.table_item.specs.declared.Item.{Item}
 use Rattle.table_row.specs.declared.ItemRead.{ItemRead}
 use Rattle.table_row.specs.Rows.{itemAt, itemsTo}
-use native.Mathlib.Numerals.{add-one}
-use borrow.Author.Needs.{needs}
 use Rattle.table_row.proofs.read_items.Statement.{statement}
 use Rattle.table_row.proofs.read_items.Tie as tie
 

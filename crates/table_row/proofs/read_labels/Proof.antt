@@ -1,7 +1,4 @@
-use Prim.Native.Nat.{_≤_, _-_}
-use mathlib.Core.Path.{_≡_, ap, _∙_}
-use native.Mathlib.Numerals.{add-one}
-use borrow.Author.Needs.{needs}
+use Rattle.basis.proofs.Std.{_≤_, _-_, _≡_, ap, _∙_, add-one, needs}
 use Rattle.table_row.specs.Rows.{labelsTo}
 use Rattle.table_row.proofs.read_labels.Statement.{statement}
 use Rattle.table_row.proofs.read_labels.Tie as tie

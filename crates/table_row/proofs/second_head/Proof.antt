@@ -1,7 +1,6 @@
-use mathlib.Core.Path.{sym, ap, _∙_}
+use Rattle.basis.proofs.Std.{sym, ap, _∙_, needs}
 use Rattle.table_row.specs.Head.{goodSecond}
-use Rattle.table_row.proofs.Heads.{second-short, second-bad, second-good, three, four}
-use borrow.Author.Needs.{needs}
+use Rattle.table_row.proofs.Heads.{second-short, second-bad, second-good, four}
 use Rattle.table_row.proofs.second_head.Statement.{statement}
 use Rattle.table_row.proofs.second_head.Tie as tie
 

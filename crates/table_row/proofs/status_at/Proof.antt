@@ -1,8 +1,6 @@
-use Prim.Native.Nat.{ℕ}
-use mathlib.Core.Path.{sym, ap, _∙_}
+use Rattle.basis.proofs.Std.{ℕ, sym, ap, _∙_, needs}
 use Rattle.table_row.specs.Rows.{goodStatus}
 use Rattle.table_row.proofs.Rows.{status-behind, status-bad, status-good}
-use borrow.Author.Needs.{needs}
 use Rattle.table_row.proofs.status_at.Statement.{statement}
 use Rattle.table_row.proofs.status_at.Tie as tie
 

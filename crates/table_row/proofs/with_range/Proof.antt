@@ -1,10 +1,6 @@
-use mathlib.Core.Path.{_≡_, sym, ap, _∙_}
-use Prim.Native.Nat.{_+_, _<_, _≤_}
-use native.Mathlib.Omega.{arith}
-use lib.ListN.{length}
+use Rattle.basis.proofs.Std.{sym, ap, _∙_, _+_, _<_, _≤_, arith, length, needs}
 use Rattle.table_row.specs.Rows.{goodRange}
 use Rattle.table_row.proofs.Rows.{range-behind, range-bad, range-good, range-number}
-use borrow.Author.Needs.{needs}
 use Rattle.table_row.proofs.with_range.Statement.{statement}
 use Rattle.table_row.proofs.with_range.Tie as tie
 

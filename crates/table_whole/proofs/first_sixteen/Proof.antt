@@ -1,18 +1,9 @@
-use mathlib.Core.Path.{_≡_, ap, _∙_}
-use mathlib.Core.List.{List}
-use Prim.Native.Nat.{ℕ, _-_, _≤_, _<_}
-use native.Mathlib.Omega.{arith}
-use lib.ListN.{length, getD, take, set}
-use lib.Seq.{length-take-le}
+use Rattle.basis.proofs.Std.{_≡_, ap, _∙_, List, ℕ, _-_, _≤_, _<_, arith, length, getD, take, set, length-take-le, needs}
 use Rattle.label.specs.Padded.{padded}
 use Rattle.table_item.specs.declared.Item.{Item}
 use Rattle.table_item.specs.Item.{noItem}
 use Rattle.label.proofs.Padded.{copy-one}
 use Rattle.table_whole.proofs.Kept.{full}
-use mathlib.Core.Path.{_≡_}
-use Prim.Native.Nat.{ℕ, _-_, _≤_}
-use lib.ListN.{length, take}
-use borrow.Author.Needs.{needs}
 use Rattle.table_whole.proofs.first_sixteen.Statement.{statement}
 use Rattle.table_whole.proofs.first_sixteen.Tie as tie
 

@@ -1,5 +1,5 @@
 use Rattle.table_whole.specs.Reading.{laidOut, siteAt, sxlAt, componentsAt, alarmsAt, statusesAt, commandsAt}
-use borrow.Author.Needs.{needs}
+use Rattle.basis.proofs.Std.{needs}
 use Rattle.table_whole.proofs.laid_out.Statement.{statement}
 use Rattle.table_whole.proofs.laid_out.Tie as tie
 

@@ -1,7 +1,6 @@
-use mathlib.Core.Path.{sym, subst}
+use Rattle.basis.proofs.Std.{sym, subst, needs}
 use Rattle.table_whole.specs.Reads.{Reads}
 use Rattle.table_whole.proofs.Whole.{reads-table}
-use borrow.Author.Needs.{needs}
 use Rattle.table_whole.proofs.read.Statement.{statement}
 use Rattle.table_whole.proofs.read.Tie as tie
 

@@ -1,6 +1,5 @@
-use mathlib.Core.Path.{sym, _∙_}
+use Rattle.basis.proofs.Std.{sym, _∙_, needs}
 use Rattle.table_whole.specs.Reading.{readTable}
-use borrow.Author.Needs.{needs}
 use Rattle.table_whole.proofs.read_table.Statement.{statement}
 use Rattle.table_whole.proofs.read_table.Tie as tie
 

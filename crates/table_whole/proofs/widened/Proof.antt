@@ -1,10 +1,4 @@
-use mathlib.Core.Path.{_≡_, ap, _∙_}
-use mathlib.Core.List.{List}
-use Prim.Native.Nat.{ℕ, _-_, _≤_, _<_}
-use native.Mathlib.Omega.{arith}
-use lib.ListN.{length, getD, take, set}
-use lib.Seq.{take-all}
-use borrow.Author.Needs.{needs}
+use Rattle.basis.proofs.Std.{_≡_, ap, _∙_, List, ℕ, _-_, _≤_, _<_, arith, length, getD, take, set, take-all, needs}
 use Rattle.label.specs.Padded.{padded}
 use Rattle.table_item.specs.declared.Item.{Item}
 use Rattle.table_item.specs.Item.{noItem}

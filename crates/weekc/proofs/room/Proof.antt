@@ -1,9 +1,6 @@
-use mathlib.Core.Path.{_≡_, sym}
-use borrow.Author.Tests.{le-leb, lt-leb}
+use Rattle.basis.proofs.Std.{sym, le-leb, lt-leb}
 use Rattle.weekc.proofs.room.Statement.{statement}
 use Rattle.weekc.proofs.room.Tie as tie
-use Rattle.weekc.proofs.room.Reads as reads
-use Rattle.weekc.proofs.room.Lts as lts
 
 returns : tie.Need-returns
 returns c = sym (rw (le-leb (c .before .args .written) (c .before .args .length) (c .if1 .taken)))

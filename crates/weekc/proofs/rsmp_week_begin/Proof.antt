@@ -1,10 +1,6 @@
-use mathlib.Core.Path.{_≡_, refl}
-use borrow.Author.Needs.{needs}
+use Rattle.basis.proofs.Std.{refl, needs}
 use Rattle.weekc.proofs.rsmp_week_begin.Statement.{statement}
 use Rattle.weekc.proofs.rsmp_week_begin.Tie as tie
-use Rattle.weekc.proofs.rsmp_week_begin.Reads as reads
-use Rattle.weekc.proofs.rsmp_week_begin.Lts as lts
-use Rattle.week_tally.proofs.begin.Reads as begin-reads
 
 returns : tie.Need-returns
 returns c = record { done = λ e. absurd (c .if1 .taken e); refused = λ n. (refl, refl) }

@@ -1,11 +1,6 @@
-use mathlib.Core.Path.{_≡_, refl}
-use borrow.Author.Needs.{needs}
+use Rattle.basis.proofs.Std.{refl, needs}
 use Rattle.weekc.proofs.rsmp_week_feed.Statement.{statement}
 use Rattle.weekc.proofs.rsmp_week_feed.Tie as tie
-use Rattle.weekc.proofs.rsmp_week_feed.Reads as reads
-use Rattle.weekc.proofs.rsmp_week_feed.Lts as lts
-use Rattle.week_stream.proofs.feed.Reads as feed-reads
-use Rattle.weekc.proofs.refused.Reads as refused-reads
 
 returns : tie.Need-returns
 returns c = record { done = λ e f. absurd (c .before .if1 .taken e); refused = λ n. (c .refused .ensures, (refl, refl)) }

@@ -1,11 +1,6 @@
-use mathlib.Core.Path.{_≡_, refl}
-use borrow.Author.Needs.{needs}
+use Rattle.basis.proofs.Std.{refl, needs}
 use Rattle.weekc.proofs.rsmp_week_report.Statement.{statement}
 use Rattle.weekc.proofs.rsmp_week_report.Tie as tie
-use Rattle.weekc.proofs.rsmp_week_report.Reads as reads
-use Rattle.weekc.proofs.rsmp_week_report.Lts as lts
-use Rattle.week_text.proofs.report.Reads as report-reads
-use Rattle.weekc.proofs.room.Reads as room-reads
 
 returns : tie.Need-returns
 returns c = record { done = λ e. absurd (c .if1 .taken e); refused = λ n. (refl, refl) }

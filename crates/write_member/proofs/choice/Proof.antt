@@ -1,4 +1,4 @@
-use borrow.Author.Needs.{needs}
+use Rattle.basis.proofs.Std.{needs}
 use Rattle.write_member.proofs.choice.Statement.{statement}
 use Rattle.write_member.proofs.choice.Tie as tie
 

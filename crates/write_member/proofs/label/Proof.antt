@@ -1,7 +1,5 @@
-use mathlib.Core.Path.{_≡_}
-use lib.ListN.{length}
+use Rattle.basis.proofs.Std.{_≡_, length, needs}
 use Rattle.label.proofs.Text.{text-part}
-use borrow.Author.Needs.{needs}
 use Rattle.write_member.proofs.label.Statement.{statement}
 use Rattle.write_member.proofs.label.Tie as tie
 

@@ -1,6 +1,5 @@
-use native.Mathlib.Omega.{arith}
+use Rattle.basis.proofs.Std.{arith, needs}
 use Rattle.write_member.proofs.Time.{as-piece}
-use borrow.Author.Needs.{needs}
 use Rattle.write_member.proofs.moment.Statement.{statement}
 use Rattle.write_member.proofs.moment.Tie as tie
 

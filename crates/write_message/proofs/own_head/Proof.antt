@@ -1,5 +1,5 @@
 use Rattle.write_message.specs.Pieces.{ownPieces}
-use borrow.Author.Needs.{needs}
+use Rattle.basis.proofs.Std.{needs}
 use Rattle.write_message.proofs.own_head.Statement.{statement}
 use Rattle.write_message.proofs.own_head.Tie as tie
 

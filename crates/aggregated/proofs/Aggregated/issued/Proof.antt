@@ -1,4 +1,4 @@
-use borrow.Author.Needs.{needs}
+use Rattle.basis.proofs.Std.{needs}
 use Rattle.aggregated.proofs.Aggregated.issued.Statement.{statement}
 use Rattle.aggregated.proofs.Aggregated.issued.Tie as tie
 

@@ -1,7 +1,5 @@
-use mathlib.Core.Path.{_∙_}
-use borrow.Author.Tests.{eq-eqb, ne-eqb}
+use Rattle.basis.proofs.Std.{_∙_, eq-eqb, ne-eqb, needs}
 use Rattle.aggregated.specs.Aggregated.{setOf}
-use borrow.Author.Needs.{needs}
 use Rattle.aggregated.proofs.Aggregated.set.Statement.{statement}
 use Rattle.aggregated.proofs.Aggregated.set.Tie as tie
 

@@ -1,4 +1,4 @@
-use Rattle.basis.proofs.Tests.{tests}
+use Rattle.basis.proofs.Std.{tests}
 use Rattle.alarm.specs.Alarm.{acknowledgeOf}
 use Rattle.alarm.proofs.Alarm.acknowledge.Statement.{statement}
 use Rattle.alarm.proofs.Alarm.acknowledge.Tie as tie

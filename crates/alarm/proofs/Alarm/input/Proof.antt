@@ -1,7 +1,5 @@
-use mathlib.Core.Path.{_∙_}
-use borrow.Author.Tests.{eq-eqb, ne-eqb}
+use Rattle.basis.proofs.Std.{_∙_, eq-eqb, ne-eqb, needs}
 use Rattle.alarm.specs.Alarm.{inputOf}
-use borrow.Author.Needs.{needs}
 use Rattle.alarm.proofs.Alarm.input.Statement.{statement}
 use Rattle.alarm.proofs.Alarm.input.Tie as tie
 

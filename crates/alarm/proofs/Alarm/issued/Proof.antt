@@ -1,4 +1,4 @@
-use borrow.Author.Needs.{needs}
+use Rattle.basis.proofs.Std.{needs}
 use Rattle.alarm.proofs.Alarm.issued.Statement.{statement}
 use Rattle.alarm.proofs.Alarm.issued.Tie as tie
 

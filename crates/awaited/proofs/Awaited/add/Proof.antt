@@ -1,13 +1,8 @@
-use Prim.Native.Nat.{_≤_}
-use mathlib.Core.Path.{_≡_}
-use native.Mathlib.Omega.{arith}
-use lib.ListN.{length}
-use lib.Seq.{set-out}
+use Rattle.basis.proofs.Std.{_≤_, _≡_, arith, length, set-out, needs}
 use Rattle.awaited.proofs.Back.{change-set}
 use Rattle.awaited.specs.Lists.{firstOf}
 use Rattle.awaited.specs.Awaited.{addOf}
 use Rattle.awaited.specs.Slot.{isFree}
-use borrow.Author.Needs.{needs}
 use Rattle.awaited.proofs.Awaited.add.Statement.{statement}
 use Rattle.awaited.proofs.Awaited.add.Tie as tie
 

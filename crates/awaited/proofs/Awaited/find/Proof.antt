@@ -1,14 +1,9 @@
-use Prim.Native.Nat.{_<_}
-use mathlib.Core.Path.{_≡_, sym}
-use native.Mathlib.Omega.{arith}
-use lib.ListN.{length}
-use mathlib.Core.List.{[]}
+use Rattle.basis.proofs.Std.{_<_, _≡_, sym, arith, length, [], needs}
 use Rattle.awaited.specs.declared.Slot.{Slot}
 use Rattle.awaited.specs.Lists.{firstOf}
 use Rattle.awaited.proofs.Search.{find-at, find-none}
 use Rattle.awaited.specs.Awaited.{findOf}
 use Rattle.awaited.specs.Slot.{awaitsFor}
-use borrow.Author.Needs.{needs}
 use Rattle.awaited.proofs.Awaited.find.Statement.{statement}
 use Rattle.awaited.proofs.Awaited.find.Tie as tie
 

@@ -1,4 +1,4 @@
-use borrow.Author.Needs.{needs}
+use Rattle.basis.proofs.Std.{needs}
 use Rattle.awaited.specs.Awaited.{howManyOf}
 use Rattle.awaited.proofs.Awaited.how_many.Statement.{statement}
 use Rattle.awaited.proofs.Awaited.how_many.Tie as tie

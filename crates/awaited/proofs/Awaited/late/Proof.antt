@@ -1,4 +1,4 @@
-use borrow.Author.Needs.{needs}
+use Rattle.basis.proofs.Std.{needs}
 use Rattle.awaited.specs.Awaited.{lateOf}
 use Rattle.awaited.proofs.Awaited.late.Statement.{statement}
 use Rattle.awaited.proofs.Awaited.late.Tie as tie

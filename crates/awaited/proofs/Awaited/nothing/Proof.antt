@@ -1,5 +1,5 @@
 use Rattle.awaited.specs.Awaited.{nothingAwaited}
-use borrow.Author.Needs.{needs}
+use Rattle.basis.proofs.Std.{needs}
 use Rattle.awaited.proofs.Awaited.nothing.Statement.{statement}
 use Rattle.awaited.proofs.Awaited.nothing.Tie as tie
 

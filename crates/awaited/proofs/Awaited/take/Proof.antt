@@ -1,16 +1,10 @@
-use Prim.Native.Nat.{_≤_, _<_}
-use mathlib.Core.Path.{_≡_}
-use mathlib.Core.List.{[]}
-use native.Mathlib.Omega.{arith}
-use lib.ListN.{length}
-use lib.Seq.{set-out}
+use Rattle.basis.proofs.Std.{_≤_, _<_, _≡_, [], arith, length, set-out, needs}
 use Rattle.awaited.proofs.Back.{change-set}
 use Rattle.awaited.proofs.Search.{find-at, find-none}
 use Rattle.awaited.specs.declared.Slot.{Slot}
 use Rattle.awaited.specs.Lists.{firstOf}
 use Rattle.awaited.specs.Awaited.{findOf, removeOf}
 use Rattle.awaited.specs.Slot.{awaitsFor}
-use borrow.Author.Needs.{needs}
 use Rattle.awaited.proofs.Awaited.take.Statement.{statement}
 use Rattle.awaited.proofs.Awaited.take.Tie as tie
 

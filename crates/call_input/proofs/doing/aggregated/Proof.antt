@@ -1,7 +1,6 @@
 -- `call_input::doing::aggregated` meets its contract.
 -- Assumes nothing.
-use mathlib.Core.Path.{_≡_, sym, ap, _∙_}
-use mathlib.Core.Bool.{true, false}
+use Rattle.basis.proofs.Std.{_≡_, sym, ap, _∙_, true, false, needs}
 use Rattle.answer.specs.declared.Refusal.the-variants.{SequenceSpent}
 use Rattle.aggregated.specs.declared.Aggregated.{Aggregated}
 use Rattle.aggregated.specs.declared.Set.{Set}
@@ -12,7 +11,6 @@ use Rattle.store_call.specs.Issued.{batchIn}
 use Rattle.store_call.proofs.CallLaws.{steps-refused, steps-done}
 use Rattle.call_input.specs.Inputs.{aggregatedEntries, aggregatedChange, aggregatedPlan}
 use Rattle.call_input.proofs.Ends.{planned-spent, planned-done}
-use borrow.Author.Needs.{needs}
 use Rattle.call_input.proofs.doing.aggregated.Statement.{statement}
 use Rattle.call_input.proofs.doing.aggregated.Tie as tie
 

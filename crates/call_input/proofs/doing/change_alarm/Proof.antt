@@ -1,7 +1,7 @@
 -- `call_input::doing::change_alarm` meets its contract.
 -- Assumes nothing.
 use Rattle.store_site.proofs.TurnsLaws.{turns-then}
-use borrow.Author.Needs.{needs}
+use Rattle.basis.proofs.Std.{needs}
 use Rattle.call_input.proofs.doing.change_alarm.Statement.{statement}
 use Rattle.call_input.proofs.doing.change_alarm.Tie as tie
 

@@ -3,7 +3,7 @@
 use Rattle.store_site.specs.Layout.{siteOf}
 use Rattle.store_site.proofs.TurnsLaws.{turns-none, turns-as}
 use Rattle.call_input.proofs.InPlace.{aggregated-issues, aggregated-silent}
-use borrow.Author.Needs.{needs}
+use Rattle.basis.proofs.Std.{needs}
 use Rattle.call_input.proofs.records.add_one.Statement.{statement}
 use Rattle.call_input.proofs.records.add_one.Tie as tie
 

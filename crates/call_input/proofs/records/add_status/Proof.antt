@@ -1,10 +1,9 @@
 -- `call_input::records::add_status` meets its contract.
 -- Assumes nothing.
-use mathlib.Core.Path.{sym, _∙_}
+use Rattle.basis.proofs.Std.{sym, _∙_, needs}
 use Rattle.store_site.specs.Layout.{siteOf}
 use Rattle.store_site.proofs.TurnsLaws.{turns-none, turns-as}
 use Rattle.call_input.proofs.InPlace.{status-issues, status-silent}
-use borrow.Author.Needs.{needs}
 use Rattle.call_input.proofs.records.add_status.Statement.{statement}
 use Rattle.call_input.proofs.records.add_status.Tie as tie
 

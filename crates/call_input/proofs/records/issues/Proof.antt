@@ -1,6 +1,6 @@
 -- `call_input::records::issues` meets its contract.
 -- Assumes nothing.
-use borrow.Author.Needs.{needs}
+use Rattle.basis.proofs.Std.{needs}
 use Rattle.call_input.proofs.records.issues.Statement.{statement}
 use Rattle.call_input.proofs.records.issues.Tie as tie
 

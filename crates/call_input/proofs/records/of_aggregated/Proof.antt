@@ -1,9 +1,8 @@
 -- `call_input::records::of_aggregated` meets its contract.
 -- Assumes nothing.
-use mathlib.Core.Path.{_∙_}
+use Rattle.basis.proofs.Std.{_∙_, needs}
 use Rattle.store_site.specs.Layout.{siteOf}
 use Rattle.call_input.proofs.InPlace.{one-each, none-at-all}
-use borrow.Author.Needs.{needs}
 use Rattle.call_input.proofs.records.of_aggregated.Statement.{statement}
 use Rattle.call_input.proofs.records.of_aggregated.Tie as tie
 

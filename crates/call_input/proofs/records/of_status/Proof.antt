@@ -1,12 +1,6 @@
 -- `call_input::records::of_status` meets its contract.
 -- Assumes nothing.
-use Prim.Native.Nat.{ℕ, _+_, _-_, _≤_}
-use mathlib.Core.Path.{_≡_, refl, ap, _∙_}
-use mathlib.Core.Bool.{Bool}
-use native.Mathlib.Omega.{arith}
-use lib.ListN.{length}
-use borrow.Author.Needs.{needs}
-use Rattle.basis.specs.Pick.{bit}
+use Rattle.basis.proofs.Std.{ℕ, _+_, _-_, _≤_, _≡_, refl, ap, _∙_, Bool, arith, length, needs, bit}
 use Rattle.table_whole.specs.declared.SiteTable.{SiteTable}
 use Rattle.pool_laws.specs.Upwards.{entriesTo}
 use Rattle.store_site.specs.Layout.{siteOf}

@@ -1,9 +1,8 @@
 -- `call_pump::checks::alarms_for` meets its contract.
 -- Assumes nothing.
-use mathlib.Core.Path.{refl}
+use Rattle.basis.proofs.Std.{refl, needs}
 use Rattle.send_message.proofs.Read.{table-of}
 use Rattle.store_table.specs.Layout.{tableOf}
-use borrow.Author.Needs.{needs}
 use Rattle.call_pump.proofs.checks.alarms_for.Statement.{statement}
 use Rattle.call_pump.proofs.checks.alarms_for.Tie as tie
 

@@ -1,10 +1,9 @@
 -- `call_pump::checks::due_at` meets its contract.
 -- Assumes nothing.
 use Rattle.link.specs.Due.{dueOf}
-use mathlib.Core.Path.{refl}
+use Rattle.basis.proofs.Std.{refl, needs}
 use Rattle.store_table.specs.Layout.{tableOf}
 use Rattle.store_site.specs.Layout.{siteOf}
-use borrow.Author.Needs.{needs}
 use Rattle.call_pump.proofs.checks.due_at.Statement.{statement}
 use Rattle.call_pump.proofs.checks.due_at.Tie as tie
 

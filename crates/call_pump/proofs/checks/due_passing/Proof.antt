@@ -1,9 +1,7 @@
 -- `call_pump::checks::due_passing` meets its contract.
 -- Assumes nothing.
-use borrow.Author.Tests.{lt-ltb, le-ltb}
-use mathlib.Core.Path.{refl}
+use Rattle.basis.proofs.Std.{lt-ltb, le-ltb, refl, needs}
 use Rattle.store_table.specs.Layout.{tableOf}
-use borrow.Author.Needs.{needs}
 use Rattle.call_pump.proofs.checks.due_passing.Statement.{statement}
 use Rattle.call_pump.proofs.checks.due_passing.Tie as tie
 

@@ -1,10 +1,9 @@
 -- `call_pump::checks::due_up` meets its contract.
 -- Assumes nothing.
 use Rattle.link.specs.Due.{dueUp}
-use mathlib.Core.Path.{refl, sym, _∙_}
+use Rattle.basis.proofs.Std.{refl, sym, _∙_, needs}
 use Rattle.store_table.specs.Layout.{tableOf}
 use Rattle.store_site.specs.Layout.{siteOf}
-use borrow.Author.Needs.{needs}
 use Rattle.call_pump.proofs.checks.due_up.Statement.{statement}
 use Rattle.call_pump.proofs.checks.due_up.Tie as tie
 

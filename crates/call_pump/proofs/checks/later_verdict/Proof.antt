@@ -1,7 +1,7 @@
 -- `call_pump::checks::later_verdict` meets its contract.
 -- Assumes nothing.
 use Rattle.store_table.specs.Layout.{tableOf}
-use borrow.Author.Needs.{needs}
+use Rattle.basis.proofs.Std.{needs}
 use Rattle.call_pump.proofs.checks.later_verdict.Statement.{statement}
 use Rattle.call_pump.proofs.checks.later_verdict.Tie as tie
 

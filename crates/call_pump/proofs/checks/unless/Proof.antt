@@ -1,9 +1,6 @@
-use mathlib.Core.Path.{refl}
-use borrow.Author.Needs.{needs}
+use Rattle.basis.proofs.Std.{refl, needs}
 use Rattle.call_pump.proofs.checks.unless.Statement.{statement}
 use Rattle.call_pump.proofs.checks.unless.Tie as tie
-use Rattle.call_pump.proofs.checks.unless.Reads as reads
-use Rattle.call_pump.proofs.checks.unless.Lts as lts
 
 returns : tie.Need-returns
 returns c = rw (c .if1 .taken) refl

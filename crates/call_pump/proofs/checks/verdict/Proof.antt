@@ -1,12 +1,9 @@
 -- `call_pump::checks::verdict` meets its contract.
 -- Assumes nothing.
-use mathlib.Core.Path.{refl, sym, _∙_}
-use borrow.Author.Tests.{lt-ltb, le-ltb}
-use Prim.Native.Nat.{_<_}
+use Rattle.basis.proofs.Std.{refl, sym, _∙_, lt-ltb, le-ltb, _<_, needs}
 use Rattle.site.proofs.Checks.{link-below}
 use Rattle.store_table.specs.Layout.{tableOf}
 use Rattle.store_site.specs.Layout.{siteOf}
-use borrow.Author.Needs.{needs}
 use Rattle.call_pump.proofs.checks.verdict.Statement.{statement}
 use Rattle.call_pump.proofs.checks.verdict.Tie as tie
 

@@ -1,7 +1,7 @@
 -- `call_pump::send::aggregated` meets its contract.
 -- Assumes nothing.
 use Rattle.call_pump.proofs.Laws.{sent}
-use borrow.Author.Needs.{needs}
+use Rattle.basis.proofs.Std.{needs}
 use Rattle.call_pump.proofs.send.aggregated.Statement.{statement}
 use Rattle.call_pump.proofs.send.aggregated.Tie as tie
 

@@ -2,7 +2,7 @@
 -- Assumes nothing.
 use Rattle.call_pump.proofs.Laws.{alarm-below, quiet}
 use Rattle.store_table.specs.Layout.{tableOf}
-use borrow.Author.Needs.{needs}
+use Rattle.basis.proofs.Std.{needs}
 use Rattle.call_pump.proofs.send.due.Statement.{statement}
 use Rattle.call_pump.proofs.send.due.Tie as tie
 

@@ -6,7 +6,7 @@ use Rattle.send_message.proofs.Read.{table-of}
 use Rattle.store_table.specs.Layout.{tableOf}
 use Rattle.store_site.specs.Layout.{siteOf}
 use Rattle.call_pump.proofs.Laws.{sent}
-use borrow.Author.Needs.{needs}
+use Rattle.basis.proofs.Std.{needs}
 use Rattle.call_pump.proofs.send.entry.Statement.{statement}
 use Rattle.call_pump.proofs.send.entry.Tie as tie
 

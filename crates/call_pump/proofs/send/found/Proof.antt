@@ -1,7 +1,7 @@
 -- `call_pump::send::found` meets its contract.
 -- Assumes nothing.
 use Rattle.call_pump.proofs.Laws.{quiet}
-use borrow.Author.Needs.{needs}
+use Rattle.basis.proofs.Std.{needs}
 use Rattle.call_pump.proofs.send.found.Statement.{statement}
 use Rattle.call_pump.proofs.send.found.Tie as tie
 

@@ -1,7 +1,7 @@
 -- `call_pump::send::oldest` meets its contract.
 -- Assumes nothing.
 use Rattle.store_table.specs.Layout.{tableOf}
-use borrow.Author.Needs.{needs}
+use Rattle.basis.proofs.Std.{needs}
 use Rattle.call_pump.proofs.send.oldest.Statement.{statement}
 use Rattle.call_pump.proofs.send.oldest.Tie as tie
 

@@ -1,11 +1,10 @@
 -- `call_pump::send::version` meets its contract.
 -- Assumes nothing.
 use Rattle.table_whole.specs.declared.SiteTable.{SiteTable}
-use mathlib.Core.Path.{sym, ap, _∙_}
+use Rattle.basis.proofs.Std.{sym, ap, _∙_, needs}
 use Rattle.call_pump.proofs.Laws.{sent}
 use Rattle.send_message.proofs.Read.{table-of}
 use Rattle.store_table.specs.Layout.{tableOf}
-use borrow.Author.Needs.{needs}
 use Rattle.call_pump.proofs.send.version.Statement.{statement}
 use Rattle.call_pump.proofs.send.version.Tie as tie
 

@@ -1,7 +1,7 @@
 -- `call_pump::send::watchdog` meets its contract.
 -- Assumes nothing.
 use Rattle.call_pump.proofs.Laws.{sent}
-use borrow.Author.Needs.{needs}
+use Rattle.basis.proofs.Std.{needs}
 use Rattle.call_pump.proofs.send.watchdog.Statement.{statement}
 use Rattle.call_pump.proofs.send.watchdog.Tie as tie
 

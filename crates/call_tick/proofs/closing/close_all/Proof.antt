@@ -1,7 +1,6 @@
 -- `call_tick::closing::close_all` meets its contract.
 -- Assumes nothing.
-use mathlib.Core.Path.{ap, _∙_}
-use native.Mathlib.Omega.{arith}
+use Rattle.basis.proofs.Std.{ap, _∙_, arith, needs}
 use Rattle.table_whole.specs.Memory.{noTable}
 use Rattle.site.specs.declared.Site.{Site}
 use Rattle.store_site.specs.Layout.{siteOf}
@@ -9,7 +8,6 @@ use Rattle.store_site.proofs.TurnsLaws.{turns-then}
 use Rattle.call_tick.specs.Closing.{lateMask}
 use Rattle.call_tick.proofs.Masks.{late-most}
 use Rattle.call_tick.proofs.InPlace.{bits-closed}
-use borrow.Author.Needs.{needs}
 use Rattle.call_tick.proofs.closing.close_all.Statement.{statement}
 use Rattle.call_tick.proofs.closing.close_all.Tie as tie
 

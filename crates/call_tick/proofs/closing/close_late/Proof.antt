@@ -1,13 +1,11 @@
 -- `call_tick::closing::close_late` meets its contract.
 -- Assumes nothing.
-use mathlib.Core.Path.{_≡_, sym, _∙_}
-use mathlib.Core.Bool.{true, false}
+use Rattle.basis.proofs.Std.{_≡_, sym, _∙_, true, false, needs}
 use Rattle.table_whole.specs.declared.SiteTable.{SiteTable}
 use Rattle.call_tick.specs.Closing.{lateAt}
 use Rattle.store_site.specs.Layout.{siteOf}
 use Rattle.store_site.proofs.TurnsLaws.{turns-none, turns-as}
 use Rattle.call_tick.proofs.InPlace.{late-closed, not-late, late-bit, no-bit}
-use borrow.Author.Needs.{needs}
 use Rattle.call_tick.proofs.closing.close_late.Statement.{statement}
 use Rattle.call_tick.proofs.closing.close_late.Tie as tie
 

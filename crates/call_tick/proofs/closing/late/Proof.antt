@@ -1,6 +1,6 @@
 -- `call_tick::closing::late` meets its contract.
 -- Assumes nothing.
-use borrow.Author.Needs.{needs}
+use Rattle.basis.proofs.Std.{needs}
 use Rattle.call_tick.proofs.closing.late.Statement.{statement}
 use Rattle.call_tick.proofs.closing.late.Tie as tie
 

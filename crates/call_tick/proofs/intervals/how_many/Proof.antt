@@ -1,13 +1,6 @@
 -- `call_tick::intervals::how_many` meets its contract.
 -- Assumes nothing.
-use Prim.Native.Nat.{_+_, _-_, _≤_}
-use mathlib.Core.Path.{_≡_, refl, ap, _∙_}
-use mathlib.Core.Bool.{Bool}
-use mathlib.Core.List.{List}
-use native.Mathlib.Omega.{arith}
-use lib.ListN.{length}
-use borrow.Author.Needs.{needs}
-use Rattle.basis.specs.Pick.{bit}
+use Rattle.basis.proofs.Std.{_+_, _-_, _≤_, _≡_, refl, ap, _∙_, Bool, List, arith, length, needs, bit}
 use Rattle.link.specs.declared.Link.{Link}
 use Rattle.table_whole.specs.declared.SiteTable.{SiteTable}
 use Rattle.pool_laws.specs.Upwards.{entriesTo}

@@ -1,10 +1,9 @@
 -- `call_tick::intervals::issue_one` meets its contract.
 -- Assumes nothing.
-use mathlib.Core.Path.{sym, _∙_}
+use Rattle.basis.proofs.Std.{sym, _∙_, needs}
 use Rattle.store_site.specs.Layout.{siteOf}
 use Rattle.store_site.proofs.TurnsLaws.{turns-none, turns-as}
 use Rattle.call_tick.proofs.InPlace.{place-issues, place-silent}
-use borrow.Author.Needs.{needs}
 use Rattle.call_tick.proofs.intervals.issue_one.Statement.{statement}
 use Rattle.call_tick.proofs.intervals.issue_one.Tie as tie
 

@@ -1,7 +1,6 @@
 -- `call_tick::intervals::issues` meets its contract.
 -- Assumes nothing.
-use mathlib.Core.Path.{refl}
-use borrow.Author.Needs.{needs}
+use Rattle.basis.proofs.Std.{refl, needs}
 use Rattle.call_tick.proofs.intervals.issues.Statement.{statement}
 use Rattle.call_tick.proofs.intervals.issues.Tie as tie
 

@@ -1,8 +1,7 @@
 -- `call_tick::intervals::renew` meets its contract.
 -- Assumes nothing.
-use mathlib.Core.Path.{refl}
+use Rattle.basis.proofs.Std.{refl, needs}
 use Rattle.store_site.proofs.TurnsLaws.{turns-as}
-use borrow.Author.Needs.{needs}
 use Rattle.call_tick.proofs.intervals.renew.Statement.{statement}
 use Rattle.call_tick.proofs.intervals.renew.Tie as tie
 

@@ -1,12 +1,6 @@
-use mathlib.Core.Path.{ap}
-use Prim.Native.Nat.{ℕ}
-use lib.Dec.{eqb}
-use borrow.Author.Needs.{needs}
+use Rattle.basis.proofs.Std.{ap, ℕ, eqb, needs}
 use Rattle.entry.proofs.flags.is_set.Statement.{statement}
 use Rattle.entry.proofs.flags.is_set.Tie as tie
-use Rattle.entry.proofs.flags.is_set.Reads as reads
-use Rattle.entry.proofs.flags.is_set.Lts as lts
-use Rattle.bits.proofs.field.Reads as field-reads
 
 returns : tie.Need-returns
 returns c = ap (λ (x : ℕ). eqb x 1) (c .field .ensures)

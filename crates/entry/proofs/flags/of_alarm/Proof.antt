@@ -1,18 +1,9 @@
-use mathlib.Core.Path.{refl, ap, _∙_}
-use mathlib.Core.List.{[], _∷_}
-use Prim.Native.Nat.{ℕ, _%_, _^_}
-use lib.Dec.{lit≤}
+use Rattle.basis.proofs.Std.{refl, ap, _∙_, [], _∷_, ℕ, _%_, _^_, lit≤, bit, needs}
 use Rattle.bits.specs.Fields.{pushed}
 use Rattle.bits.proofs.Fields.{next-field}
-use Rattle.basis.specs.Pick.{bit}
 use Rattle.entry.specs.Flags.{alarmFlags}
-use borrow.Author.Needs.{needs}
 use Rattle.entry.proofs.flags.of_alarm.Statement.{statement}
 use Rattle.entry.proofs.flags.of_alarm.Tie as tie
-use Rattle.entry.proofs.flags.of_alarm.Reads as reads
-use Rattle.entry.proofs.flags.of_alarm.Lts as lts
-use Rattle.bits.proofs.push.Reads as push-reads
-use Rattle.entry.proofs.flags.bit.Reads as bit-reads
 
 returns : tie.Need-returns
 unfolding alarmFlags

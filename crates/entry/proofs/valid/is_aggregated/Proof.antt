@@ -1,11 +1,8 @@
-use native.Mathlib.Omega.{arith}
+use Rattle.basis.proofs.Std.{arith, needs}
 use Rattle.entry.specs.Valid.{Aggregated}
 use Rattle.entry.proofs.ValidLaws.{fails}
-use borrow.Author.Needs.{needs}
 use Rattle.entry.proofs.valid.is_aggregated.Statement.{statement}
 use Rattle.entry.proofs.valid.is_aggregated.Tie as tie
-use Rattle.entry.proofs.valid.is_aggregated.Reads as reads
-use Rattle.entry.proofs.valid.is_aggregated.Lts as lts
 
 returns : tie.Need-returns
 returns c = fails (λ (g : Aggregated (c .before .before .args .e)). omega (arith, g .kind))

@@ -1,11 +1,8 @@
-use borrow.Author.Needs.{needs}
-use native.Mathlib.Omega.{arith}
+use Rattle.basis.proofs.Std.{needs, arith}
 use Rattle.entry.specs.Valid.{Alarm}
 use Rattle.entry.proofs.ValidLaws.{fails, holds, alarm-flags, an-alarm-of}
 use Rattle.entry.proofs.valid.is_alarm.Statement.{statement}
 use Rattle.entry.proofs.valid.is_alarm.Tie as tie
-use Rattle.entry.proofs.valid.is_alarm.Reads as reads
-use Rattle.entry.proofs.valid.is_alarm.Lts as lts
 
 returns : tie.Need-returns
 returns c = fails (λ (a : Alarm (c .before .before .args .e)). omega (arith, a .kind))

@@ -1,13 +1,8 @@
 use Rattle.entry.specs.Valid.{an-alarm, a-status, an-aggregated}
 use Rattle.entry.proofs.ValidLaws.{fails, holds, not-held, of-no-kind}
-use borrow.Author.Needs.{needs}
+use Rattle.basis.proofs.Std.{needs}
 use Rattle.entry.proofs.valid.is_of_kind.Statement.{statement}
 use Rattle.entry.proofs.valid.is_of_kind.Tie as tie
-use Rattle.entry.proofs.valid.is_of_kind.Reads as reads
-use Rattle.entry.proofs.valid.is_of_kind.Lts as lts
-use Rattle.entry.proofs.valid.is_aggregated.Reads as is-aggregated-reads
-use Rattle.entry.proofs.valid.is_alarm.Reads as is-alarm-reads
-use Rattle.entry.proofs.valid.is_status.Reads as is-status-reads
 
 returns : tie.Need-returns
 returns c = holds (an-alarm (c .before .is-alarm .ensures .yes (c .if1 .taken)))

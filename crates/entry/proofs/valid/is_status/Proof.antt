@@ -1,11 +1,8 @@
-use borrow.Author.Needs.{needs}
-use native.Mathlib.Omega.{arith}
+use Rattle.basis.proofs.Std.{needs, arith}
 use Rattle.entry.specs.Valid.{Status}
 use Rattle.entry.proofs.ValidLaws.{fails, holds, status-flags, no-value, a-known, an-unknown}
 use Rattle.entry.proofs.valid.is_status.Statement.{statement}
 use Rattle.entry.proofs.valid.is_status.Tie as tie
-use Rattle.entry.proofs.valid.is_status.Reads as reads
-use Rattle.entry.proofs.valid.is_status.Lts as lts
 
 returns : tie.Need-returns
 returns c = fails (λ (s : Status (c .before .before .args .e)). omega (arith, s .kind))

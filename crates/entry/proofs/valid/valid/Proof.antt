@@ -1,12 +1,8 @@
-use native.Mathlib.Omega.{arith}
+use Rattle.basis.proofs.Std.{arith, needs}
 use Rattle.entry.specs.Valid.{Valid}
 use Rattle.entry.proofs.ValidLaws.{fails, holds, not-held}
-use borrow.Author.Needs.{needs}
 use Rattle.entry.proofs.valid.valid.Statement.{statement}
 use Rattle.entry.proofs.valid.valid.Tie as tie
-use Rattle.entry.proofs.valid.valid.Reads as reads
-use Rattle.entry.proofs.valid.valid.Lts as lts
-use Rattle.entry.proofs.valid.is_of_kind.Reads as is-of-kind-reads
 
 returns : tie.Need-returns
 returns c = fails (λ (v : Valid (c .before .before .args .e)). omega (arith, v .link))

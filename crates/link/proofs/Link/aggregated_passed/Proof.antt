@@ -1,6 +1,5 @@
-use mathlib.Core.Path.{sym, _∙_}
+use Rattle.basis.proofs.Std.{sym, _∙_, needs}
 use Rattle.link.specs.Steps.{aggregatedPassedOf}
-use borrow.Author.Needs.{needs}
 use Rattle.link.proofs.Link.aggregated_passed.Statement.{statement}
 use Rattle.link.proofs.Link.aggregated_passed.Tie as tie
 

@@ -1,10 +1,9 @@
-use mathlib.Core.Path.{_≡_, ap, sym, _∙_}
+use Rattle.basis.proofs.Std.{_≡_, ap, sym, _∙_, needs}
 use Rattle.awaited.specs.declared.Taken.{Taken}
 use Rattle.awaited.specs.declared.Purpose.{Purpose}
 use Rattle.awaited.specs.declared.Purpose.the-variants.{Version, Watchdog, Entry, Other}
 use Rattle.awaited.specs.declared.Found.the-variants.{For}
 use Rattle.link.specs.Steps.{removedOf, notedFor, noted, closesOf, answeredOf}
-use borrow.Author.Needs.{needs}
 use Rattle.link.proofs.Link.answered.Statement.{statement}
 use Rattle.link.proofs.Link.answered.Tie as tie
 

@@ -1,5 +1,5 @@
 use Rattle.link.specs.Steps.{connectOf}
-use borrow.Author.Needs.{needs}
+use Rattle.basis.proofs.Std.{needs}
 use Rattle.link.proofs.Link.connect.Statement.{statement}
 use Rattle.link.proofs.Link.connect.Tie as tie
 

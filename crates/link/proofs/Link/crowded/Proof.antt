@@ -1,5 +1,5 @@
 use Rattle.link.specs.Steps.{crowdedOf}
-use borrow.Author.Needs.{needs}
+use Rattle.basis.proofs.Std.{needs}
 use Rattle.link.proofs.Link.crowded.Statement.{statement}
 use Rattle.link.proofs.Link.crowded.Tie as tie
 

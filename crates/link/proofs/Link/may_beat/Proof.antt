@@ -1,5 +1,5 @@
 use Rattle.link.specs.Steps.{mayBeatOf}
-use borrow.Author.Needs.{needs}
+use Rattle.basis.proofs.Std.{needs}
 use Rattle.link.proofs.Link.may_beat.Statement.{statement}
 use Rattle.link.proofs.Link.may_beat.Tie as tie
 

@@ -1,5 +1,5 @@
 use Rattle.link.specs.Steps.{versionOutOf}
-use borrow.Author.Needs.{needs}
+use Rattle.basis.proofs.Std.{needs}
 use Rattle.link.proofs.Link.version_out.Statement.{statement}
 use Rattle.link.proofs.Link.version_out.Tie as tie
 

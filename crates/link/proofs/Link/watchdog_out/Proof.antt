@@ -1,6 +1,5 @@
-use mathlib.Core.Path.{sym, _∙_}
+use Rattle.basis.proofs.Std.{sym, _∙_, needs}
 use Rattle.link.specs.Steps.{watchdogOutOf}
-use borrow.Author.Needs.{needs}
 use Rattle.link.proofs.Link.watchdog_out.Statement.{statement}
 use Rattle.link.proofs.Link.watchdog_out.Tie as tie
 

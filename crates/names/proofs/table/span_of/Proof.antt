@@ -1,10 +1,7 @@
-use native.Mathlib.Omega.{arith}
+use Rattle.basis.proofs.Std.{arith, needs}
 use Rattle.names.proofs.Spans.{spans, past}
-use borrow.Author.Needs.{needs}
 use Rattle.names.proofs.table.span_of.Statement.{statement}
 use Rattle.names.proofs.table.span_of.Tie as tie
-use Rattle.names.proofs.table.span_of.Reads as reads
-use Rattle.names.proofs.table.span_of.Lts as lts
 
 cast-start : tie.Need-cast-start
 cast-start c = omega (arith, spans (c .before .args .i) (c .if1 .taken) .within)

@@ -1,6 +1,6 @@
 -- `pool::Pool::empty` meets its contract.
 -- Assumes nothing.
-use mathlib.Core.Path.{refl}
+use Rattle.basis.proofs.Std.{refl}
 use Rattle.pool.specs.Pool.{emptyOf}
 use Rattle.pool.proofs.Pool.empty.Statement.{statement}
 use Rattle.pool.proofs.Pool.empty.Tie as tie

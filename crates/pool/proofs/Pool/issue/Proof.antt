@@ -1,8 +1,7 @@
 -- `pool::Pool::issue` meets its contract.
 -- Assumes nothing.
-use borrow.Author.Tests.{lt-ltb, le-ltb}
+use Rattle.basis.proofs.Std.{lt-ltb, le-ltb, needs}
 use Rattle.pool.specs.Pool.{issueOf}
-use borrow.Author.Needs.{needs}
 use Rattle.pool.proofs.Pool.issue.Statement.{statement}
 use Rattle.pool.proofs.Pool.issue.Tie as tie
 

@@ -1,10 +1,6 @@
 -- `pool::Pool::lost` meets its contract.
 -- Assumes nothing.
-use Prim.Native.Nat.{_≤_}
-use mathlib.Core.Path.{_≡_, sym}
-use native.Mathlib.Omega.{arith}
-use lib.ListN.{length, List·getD-eq-default}
-use borrow.Author.Needs.{needs}
+use Rattle.basis.proofs.Std.{_≤_, _≡_, sym, arith, length, List·getD-eq-default, needs}
 use Rattle.pool.proofs.Pool.lost.Statement.{statement}
 use Rattle.pool.proofs.Pool.lost.Tie as tie
 

@@ -1,7 +1,7 @@
 -- `pool::Pool::mark_sent` meets its contract.
 -- Assumes nothing.
 use Rattle.pool.specs.Pool.{markOf}
-use borrow.Author.Needs.{needs}
+use Rattle.basis.proofs.Std.{needs}
 use Rattle.pool.proofs.Pool.mark_sent.Statement.{statement}
 use Rattle.pool.proofs.Pool.mark_sent.Tie as tie
 

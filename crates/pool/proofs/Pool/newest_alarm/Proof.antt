@@ -1,6 +1,6 @@
 -- `pool::Pool::newest_alarm` meets its contract.
 -- Assumes nothing.
-use borrow.Author.Needs.{needs}
+use Rattle.basis.proofs.Std.{needs}
 use Rattle.pool.proofs.Pool.newest_alarm.Statement.{statement}
 use Rattle.pool.proofs.Pool.newest_alarm.Tie as tie
 

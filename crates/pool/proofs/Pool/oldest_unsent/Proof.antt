@@ -1,6 +1,6 @@
 -- `pool::Pool::oldest_unsent` meets its contract.
 -- Assumes nothing.
-use borrow.Author.Needs.{needs}
+use Rattle.basis.proofs.Std.{needs}
 use Rattle.pool.proofs.Pool.oldest_unsent.Statement.{statement}
 use Rattle.pool.proofs.Pool.oldest_unsent.Tie as tie
 

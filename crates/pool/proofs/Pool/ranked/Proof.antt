@@ -1,6 +1,6 @@
 -- `pool::Pool::ranked` meets its contract.
 -- Assumes nothing.
-use borrow.Author.Needs.{needs}
+use Rattle.basis.proofs.Std.{needs}
 use Rattle.pool.proofs.Pool.ranked.Statement.{statement}
 use Rattle.pool.proofs.Pool.ranked.Tie as tie
 

@@ -1,7 +1,7 @@
 -- `pool::Pool::settle` meets its contract.
 -- Assumes nothing.
 use Rattle.pool.specs.Pool.{settleOf}
-use borrow.Author.Needs.{needs}
+use Rattle.basis.proofs.Std.{needs}
 use Rattle.pool.proofs.Pool.settle.Statement.{statement}
 use Rattle.pool.proofs.Pool.settle.Tie as tie
 

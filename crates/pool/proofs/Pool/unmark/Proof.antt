@@ -1,7 +1,7 @@
 -- `pool::Pool::unmark` meets its contract.
 -- Assumes nothing.
 use Rattle.pool.specs.Pool.{unmarkOf}
-use borrow.Author.Needs.{needs}
+use Rattle.basis.proofs.Std.{needs}
 use Rattle.pool.proofs.Pool.unmark.Statement.{statement}
 use Rattle.pool.proofs.Pool.unmark.Tie as tie
 

@@ -1,10 +1,6 @@
 -- `pool::change::all_unsent` meets its contract. The loop goes up: the places passed are changed, the rest are as they were.
 -- Assumes nothing.
-use Prim.Native.Nat.{_≤_, _-_}
-use mathlib.Core.Path.{_≡_, sym, _∙_}
-use native.Mathlib.Omega.{arith}
-use borrow.Author.Needs.{needs}
-use lib.ListN.{length}
+use Rattle.basis.proofs.Std.{_≤_, _-_, _≡_, sym, _∙_, arith, needs, length}
 use Rattle.pool.proofs.Part.{part, part-next, part-none, part-all}
 use Rattle.pool.specs.Places.{noPlace}
 use Rattle.pool.specs.Pool.{unsentFor}

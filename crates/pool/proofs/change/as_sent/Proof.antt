@@ -1,6 +1,6 @@
 -- `pool::change::as_sent` meets its contract.
 -- Assumes nothing.
-use borrow.Author.Needs.{needs}
+use Rattle.basis.proofs.Std.{needs}
 use Rattle.pool.proofs.change.as_sent.Statement.{statement}
 use Rattle.pool.proofs.change.as_sent.Tie as tie
 

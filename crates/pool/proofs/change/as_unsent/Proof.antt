@@ -1,7 +1,6 @@
 -- `pool::change::as_unsent` meets its contract.
 -- Assumes nothing.
-use mathlib.Core.Path.{sym, _∙_}
-use borrow.Author.Needs.{needs}
+use Rattle.basis.proofs.Std.{sym, _∙_, needs}
 use Rattle.pool.proofs.change.as_unsent.Statement.{statement}
 use Rattle.pool.proofs.change.as_unsent.Tie as tie
 

@@ -1,12 +1,7 @@
 -- `pool::change::lose` meets its contract.
 -- Assumes nothing.
-use Prim.Native.Nat.{_≤_}
-use mathlib.Core.Path.{_≡_, sym}
-use native.Mathlib.Omega.{arith}
-use lib.ListN.{length}
-use lib.Seq.{set-out}
+use Rattle.basis.proofs.Std.{_≤_, _≡_, sym, arith, length, set-out, needs}
 use Rattle.pool.specs.Pool.{lossOf}
-use borrow.Author.Needs.{needs}
 use Rattle.pool.proofs.change.lose.Statement.{statement}
 use Rattle.pool.proofs.change.lose.Tie as tie
 

@@ -1,7 +1,6 @@
 -- `pool::change::more` meets its contract.
 -- Assumes nothing.
-use Rattle.basis.proofs.Tests.{tests}
-use borrow.Author.Needs.{needs}
+use Rattle.basis.proofs.Std.{tests, needs}
 use Rattle.pool.proofs.change.more.Statement.{statement}
 use Rattle.pool.proofs.change.more.Tie as tie
 

@@ -1,7 +1,7 @@
 -- `pool::change::room` meets its contract.
 -- Assumes nothing.
 use Rattle.pool.specs.Pool.{roomOf}
-use borrow.Author.Needs.{needs}
+use Rattle.basis.proofs.Std.{needs}
 use Rattle.pool.proofs.change.room.Statement.{statement}
 use Rattle.pool.proofs.change.room.Tie as tie
 

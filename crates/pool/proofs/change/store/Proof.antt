@@ -1,11 +1,6 @@
 -- `pool::change::store` meets its contract.
 -- Assumes nothing.
-use Prim.Native.Nat.{_≤_}
-use mathlib.Core.Path.{_≡_, sym}
-use native.Mathlib.Omega.{arith}
-use lib.ListN.{length}
-use lib.Seq.{set-out}
-use borrow.Author.Needs.{needs}
+use Rattle.basis.proofs.Std.{_≤_, _≡_, sym, arith, length, set-out, needs}
 use Rattle.pool.proofs.change.store.Statement.{statement}
 use Rattle.pool.proofs.change.store.Tie as tie
 

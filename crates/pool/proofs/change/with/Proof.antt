@@ -1,7 +1,7 @@
 -- `pool::change::with` meets its contract.
 -- Assumes nothing.
 use Rattle.pool.specs.Pool.{withOf}
-use borrow.Author.Needs.{needs}
+use Rattle.basis.proofs.Std.{needs}
 use Rattle.pool.proofs.change.with.Statement.{statement}
 use Rattle.pool.proofs.change.with.Tie as tie
 

@@ -1,6 +1,6 @@
 -- `pool::places::asked` meets its contract.
 -- Assumes nothing.
-use borrow.Author.Needs.{needs}
+use Rattle.basis.proofs.Std.{needs}
 use Rattle.pool.proofs.places.asked.Statement.{statement}
 use Rattle.pool.proofs.places.asked.Tie as tie
 

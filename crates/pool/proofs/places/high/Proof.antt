@@ -1,7 +1,6 @@
 -- `pool::places::high` meets its contract.
 -- Assumes nothing.
-use borrow.Author.Tests.{lt-ltb, le-ltb}
-use borrow.Author.Needs.{needs}
+use Rattle.basis.proofs.Std.{lt-ltb, le-ltb, needs}
 use Rattle.pool.proofs.places.high.Statement.{statement}
 use Rattle.pool.proofs.places.high.Tie as tie
 

@@ -1,10 +1,6 @@
 -- `pool::places::last` meets its contract. The loop goes down: what is found is the newest of the places passed.
 -- Assumes nothing.
-use Prim.Native.Nat.{_≤_}
-use mathlib.Core.Path.{_≡_, sym}
-use native.Mathlib.Omega.{arith}
-use borrow.Author.Needs.{needs}
-use lib.ListN.{length, drop}
+use Rattle.basis.proofs.Std.{_≤_, _≡_, sym, arith, needs, length, drop}
 use Rattle.pool.proofs.Down.{newest-down, newest-end}
 use Rattle.pool.specs.Places.{fits, newestFrom}
 use Rattle.pool.proofs.places.last.Statement.{statement}

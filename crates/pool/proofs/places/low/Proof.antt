@@ -1,7 +1,6 @@
 -- `pool::places::low` meets its contract.
 -- Assumes nothing.
-use borrow.Author.Tests.{le-leb, lt-leb}
-use borrow.Author.Needs.{needs}
+use Rattle.basis.proofs.Std.{le-leb, lt-leb, needs}
 use Rattle.pool.proofs.places.low.Statement.{statement}
 use Rattle.pool.proofs.places.low.Tie as tie
 

@@ -1,6 +1,6 @@
 -- `pool::places::new` meets its contract.
 -- Assumes nothing.
-use borrow.Author.Needs.{needs}
+use Rattle.basis.proofs.Std.{needs}
 use Rattle.pool.proofs.places.new.Statement.{statement}
 use Rattle.pool.proofs.places.new.Tie as tie
 

@@ -1,12 +1,7 @@
 -- `pool::places::number` meets its contract. The loop goes down: what is counted is the count over the places passed.
 -- Assumes nothing.
-use Prim.Native.Nat.{_≤_}
-use mathlib.Core.Path.{_≡_, sym}
-use native.Mathlib.Omega.{arith}
-use borrow.Author.Needs.{needs}
-use lib.ListN.{length, drop, length-drop}
+use Rattle.basis.proofs.Std.{_≤_, _≡_, sym, arith, needs, length, drop, length-drop, count}
 use Rattle.pool.proofs.Down.{count-down, count-end, count-most}
-use Rattle.basis.specs.Lists.{count}
 use Rattle.pool.specs.Places.{fits}
 use Rattle.pool.proofs.places.number.Statement.{statement}
 use Rattle.pool.proofs.places.number.Tie as tie

@@ -1,6 +1,6 @@
 -- `pool::places::old` meets its contract.
 -- Assumes nothing.
-use borrow.Author.Needs.{needs}
+use Rattle.basis.proofs.Std.{needs}
 use Rattle.pool.proofs.places.old.Statement.{statement}
 use Rattle.pool.proofs.places.old.Tie as tie
 

@@ -1,7 +1,6 @@
 -- `pool::shares::fuller_of` meets its contract.
 -- Assumes nothing.
-use borrow.Author.Tests.{lt-ltb, le-ltb}
-use borrow.Author.Needs.{needs}
+use Rattle.basis.proofs.Std.{lt-ltb, le-ltb, needs}
 use Rattle.pool.proofs.shares.fuller_of.Statement.{statement}
 use Rattle.pool.proofs.shares.fuller_of.Tie as tie
 

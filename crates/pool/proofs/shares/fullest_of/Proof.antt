@@ -1,7 +1,7 @@
 -- `pool::shares::fullest_of` meets its contract.
 -- Assumes nothing.
 use Rattle.pool.specs.Shares.{fullest}
-use borrow.Author.Needs.{needs}
+use Rattle.basis.proofs.Std.{needs}
 use Rattle.pool.proofs.shares.fullest_of.Statement.{statement}
 use Rattle.pool.proofs.shares.fullest_of.Tie as tie
 

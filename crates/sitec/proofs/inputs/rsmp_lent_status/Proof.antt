@@ -2,7 +2,7 @@
 -- Assumes nothing.
 use mir.Facts.{toZ-ofZ}
 use Rattle.sitec.proofs.Laws.{misfits, calls}
-use borrow.Author.Needs.{needs}
+use Rattle.basis.proofs.Std.{needs}
 use Rattle.sitec.proofs.inputs.rsmp_lent_status.Statement.{statement}
 use Rattle.sitec.proofs.inputs.rsmp_lent_status.Tie as tie
 

@@ -1,7 +1,7 @@
 -- `sitec::links::rsmp_lent_connect` meets its contract.
 -- Assumes nothing.
 use Rattle.sitec.proofs.Laws.{misfits, calls}
-use borrow.Author.Needs.{needs}
+use Rattle.basis.proofs.Std.{needs}
 use Rattle.sitec.proofs.links.rsmp_lent_connect.Statement.{statement}
 use Rattle.sitec.proofs.links.rsmp_lent_connect.Tie as tie
 

@@ -1,7 +1,7 @@
 -- `sitec::links::rsmp_lent_disconnect` meets its contract.
 -- Assumes nothing.
 use Rattle.sitec.proofs.Laws.{misfits, calls}
-use borrow.Author.Needs.{needs}
+use Rattle.basis.proofs.Std.{needs}
 use Rattle.sitec.proofs.links.rsmp_lent_disconnect.Statement.{statement}
 use Rattle.sitec.proofs.links.rsmp_lent_disconnect.Tie as tie
 

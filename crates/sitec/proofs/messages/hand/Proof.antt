@@ -1,7 +1,6 @@
 -- `sitec::messages::hand` meets its contract.
 -- Assumes nothing.
-use mathlib.Core.Path.{refl, sym, _∙_}
-use borrow.Author.Needs.{needs}
+use Rattle.basis.proofs.Std.{refl, sym, _∙_, needs}
 use Rattle.sitec.proofs.messages.hand.Statement.{statement}
 use Rattle.sitec.proofs.messages.hand.Tie as tie
 

@@ -1,8 +1,7 @@
 -- `sitec::messages::hands` meets its contract.
 -- Assumes nothing.
-use mathlib.Core.Path.{sym, ap}
+use Rattle.basis.proofs.Std.{sym, ap, needs}
 use Rattle.sitec.specs.Outcome.{handsOf}
-use borrow.Author.Needs.{needs}
 use Rattle.sitec.proofs.messages.hands.Statement.{statement}
 use Rattle.sitec.proofs.messages.hands.Tie as tie
 

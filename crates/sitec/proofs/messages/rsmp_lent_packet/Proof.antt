@@ -4,7 +4,7 @@ use Rattle.identity.specs.Version.{identityOf}
 use Rattle.store_table.specs.Layout.{tableOf}
 use Rattle.packet_command.specs.Handing.{commandsIn}
 use Rattle.sitec.proofs.Laws.{told-misfits, tells, hand-misfits, hands-over, named-only}
-use borrow.Author.Needs.{needs}
+use Rattle.basis.proofs.Std.{needs}
 use Rattle.sitec.proofs.messages.rsmp_lent_packet.Statement.{statement}
 use Rattle.sitec.proofs.messages.rsmp_lent_packet.Tie as tie
 

@@ -1,7 +1,7 @@
 -- `sitec::messages::rsmp_lent_pump` meets its contract.
 -- Assumes nothing.
 use Rattle.sitec.proofs.Laws.{told-misfits, tells}
-use borrow.Author.Needs.{needs}
+use Rattle.basis.proofs.Std.{needs}
 use Rattle.sitec.proofs.messages.rsmp_lent_pump.Statement.{statement}
 use Rattle.sitec.proofs.messages.rsmp_lent_pump.Tie as tie
 

@@ -1,7 +1,7 @@
 -- `sitec::starting::rsmp_lent_start` meets its contract.
 -- Assumes nothing.
 use Rattle.sitec.proofs.Laws.{start-misfits, begins}
-use borrow.Author.Needs.{needs}
+use Rattle.basis.proofs.Std.{needs}
 use Rattle.sitec.proofs.starting.rsmp_lent_start.Statement.{statement}
 use Rattle.sitec.proofs.starting.rsmp_lent_start.Tie as tie
 

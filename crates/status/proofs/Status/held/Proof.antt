@@ -1,4 +1,4 @@
-use borrow.Author.Tests.{eq-eqb, ne-eqb}
+use Rattle.basis.proofs.Std.{eq-eqb, ne-eqb}
 use Rattle.status.proofs.Status.held.Statement.{statement}
 use Rattle.status.proofs.Status.held.Tie as tie
 

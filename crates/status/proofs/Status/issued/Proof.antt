@@ -1,4 +1,4 @@
-use borrow.Author.Needs.{needs}
+use Rattle.basis.proofs.Std.{needs}
 use Rattle.status.proofs.Status.issued.Statement.{statement}
 use Rattle.status.proofs.Status.issued.Tie as tie
 

@@ -1,5 +1,5 @@
 use mir.Facts.{toZ-ofZ}
-use borrow.Author.Needs.{needs}
+use Rattle.basis.proofs.Std.{needs}
 use Rattle.status.proofs.Status.set.Statement.{statement}
 use Rattle.status.proofs.Status.set.Tie as tie
 

@@ -1,4 +1,4 @@
-use Rattle.basis.proofs.Tests.{tests}
+use Rattle.basis.proofs.Std.{tests}
 use Rattle.status.proofs.Status.set_word.Statement.{statement}
 use Rattle.status.proofs.Status.set_word.Tie as tie
 

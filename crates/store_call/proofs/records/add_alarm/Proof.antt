@@ -1,10 +1,9 @@
 -- `store_call::records::add_alarm` meets its contract.
 -- Assumes nothing.
-use mathlib.Core.Path.{sym, _∙_}
+use Rattle.basis.proofs.Std.{sym, _∙_, needs}
 use Rattle.store_site.specs.Layout.{siteOf}
 use Rattle.store_site.proofs.TurnsLaws.{turns-none, turns-as}
 use Rattle.store_call.proofs.IssuedLaws.{alarm-none, alarm-one}
-use borrow.Author.Needs.{needs}
 use Rattle.store_call.proofs.records.add_alarm.Statement.{statement}
 use Rattle.store_call.proofs.records.add_alarm.Tie as tie
 

@@ -1,8 +1,6 @@
 -- `store_call::records::more_if` meets its contract.
 -- Assumes nothing.
-use mathlib.Core.Path.{refl}
-use native.Mathlib.Omega.{arith}
-use borrow.Author.Needs.{needs}
+use Rattle.basis.proofs.Std.{refl, arith, needs}
 use Rattle.store_call.proofs.records.more_if.Statement.{statement}
 use Rattle.store_call.proofs.records.more_if.Tie as tie
 

@@ -1,7 +1,6 @@
 -- `store_call::records::of_alarm` meets its contract.
 -- Assumes nothing.
-use mathlib.Core.Path.{refl}
-use borrow.Author.Needs.{needs}
+use Rattle.basis.proofs.Std.{refl, needs}
 use Rattle.store_call.proofs.records.of_alarm.Statement.{statement}
 use Rattle.store_call.proofs.records.of_alarm.Tie as tie
 

@@ -1,6 +1,6 @@
 -- `store_call::records::status` meets its contract.
 -- Assumes nothing.
-use borrow.Author.Needs.{needs}
+use Rattle.basis.proofs.Std.{needs}
 use Rattle.store_call.proofs.records.status.Statement.{statement}
 use Rattle.store_call.proofs.records.status.Tie as tie
 

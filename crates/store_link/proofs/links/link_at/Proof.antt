@@ -1,7 +1,7 @@
 -- `store_link::links::link_at` meets its contract.
 -- Assumes nothing.
 use Rattle.store_link.proofs.RowLaws.{link-get}
-use borrow.Author.Needs.{needs}
+use Rattle.basis.proofs.Std.{needs}
 use Rattle.store_link.proofs.links.link_at.Statement.{statement}
 use Rattle.store_link.proofs.links.link_at.Tie as tie
 

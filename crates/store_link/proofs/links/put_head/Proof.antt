@@ -1,9 +1,7 @@
 -- `store_link::links::put_head` meets its contract.
 -- Assumes nothing.
-use native.Mathlib.Omega.{arith}
-use lib.ListN.{length-set}
+use Rattle.basis.proofs.Std.{arith, length-set, needs}
 use Rattle.store_link.proofs.RowLaws.{head-put}
-use borrow.Author.Needs.{needs}
 use Rattle.store_link.proofs.links.put_head.Statement.{statement}
 use Rattle.store_link.proofs.links.put_head.Tie as tie
 

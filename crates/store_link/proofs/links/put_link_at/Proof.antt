@@ -1,7 +1,7 @@
 -- `store_link::links::put_link_at` meets its contract.
 -- Assumes nothing.
 use Rattle.store_link.proofs.RowLaws.{link-put}
-use borrow.Author.Needs.{needs}
+use Rattle.basis.proofs.Std.{needs}
 use Rattle.store_link.proofs.links.put_link_at.Statement.{statement}
 use Rattle.store_link.proofs.links.put_link_at.Tie as tie
 

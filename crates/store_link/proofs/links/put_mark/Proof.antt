@@ -1,9 +1,7 @@
 -- `store_link::links::put_mark` meets its contract.
 -- Assumes nothing.
 use Rattle.store_link.proofs.RowLaws.{marks-put}
-use native.Mathlib.Omega.{arith}
-use lib.ListN.{length-set}
-use borrow.Author.Needs.{needs}
+use Rattle.basis.proofs.Std.{arith, length-set, needs}
 use Rattle.store_link.proofs.links.put_mark.Statement.{statement}
 use Rattle.store_link.proofs.links.put_mark.Tie as tie
 

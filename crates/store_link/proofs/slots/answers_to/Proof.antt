@@ -1,8 +1,6 @@
 -- `store_link::slots::answers_to` meets its contract.
 -- Assumes nothing.
-use mathlib.Core.Path.{sym, _∙_}
-use borrow.Author.Tests.{eq-eqb, ne-eqb}
-use borrow.Author.Needs.{needs}
+use Rattle.basis.proofs.Std.{sym, _∙_, eq-eqb, ne-eqb, needs}
 use Rattle.store_link.proofs.slots.answers_to.Statement.{statement}
 use Rattle.store_link.proofs.slots.answers_to.Tie as tie
 

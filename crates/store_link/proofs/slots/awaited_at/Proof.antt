@@ -1,10 +1,6 @@
 -- `store_link::slots::awaited_at` meets its contract.
 -- Assumes nothing.
-use Prim.Native.Nat.{ℕ, _≤_, _<_, _-_, _+_, _*_}
-use mathlib.Core.Path.{_≡_, _∙_}
-use native.Mathlib.Omega.{arith}
-use borrow.Author.Needs.{needs}
-use lib.ListN.{length, getD, length-set}
+use Rattle.basis.proofs.Std.{ℕ, _≤_, _<_, _-_, _+_, _*_, _≡_, _∙_, arith, needs, length, getD, length-set}
 use Rattle.awaited.specs.Slot.{freeSlot}
 use Rattle.store_link.specs.Rows.{slotIn}
 use Rattle.store_words.proofs.Elements.{fill-next}

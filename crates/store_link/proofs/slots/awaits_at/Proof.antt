@@ -1,10 +1,6 @@
 -- `store_link::slots::awaits_at` meets its contract.
 -- Assumes nothing.
-use Prim.Native.Nat.{ℕ, _+_, _*_, _-_}
-use mathlib.Core.Path.{sym, _∙_}
-use native.Mathlib.Omega.{arith}
-use borrow.Author.Needs.{needs}
-use lib.ListN.{getD}
+use Rattle.basis.proofs.Std.{ℕ, _+_, _*_, _-_, sym, _∙_, arith, needs, getD}
 use mir.Val.{Fits}
 use mir.Syntax.{w8}
 use Rattle.identity.specs.declared.Identity.{Identity}

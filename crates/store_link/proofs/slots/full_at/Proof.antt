@@ -1,8 +1,6 @@
 -- `store_link::slots::full_at` meets its contract.
 -- Assumes nothing.
-use Prim.Native.Nat.{_-_}
-use mathlib.Core.Path.{sym, _∙_}
-use native.Mathlib.Omega.{arith}
+use Rattle.basis.proofs.Std.{_-_, sym, _∙_, arith}
 use Rattle.store_link.proofs.Asked.{Taken, taken, taken-on, not-full, full}
 use Rattle.store_link.proofs.slots.full_at.Statement.{statement}
 use Rattle.store_link.proofs.slots.full_at.Tie as tie

@@ -1,9 +1,6 @@
 -- `store_link::slots::ids_at` meets its contract.
 -- Assumes nothing.
-use Prim.Native.Nat.{_≤_, _-_}
-use mathlib.Core.Path.{_≡_, refl, sym}
-use native.Mathlib.Omega.{arith}
-use lib.ListN.{length}
+use Rattle.basis.proofs.Std.{_≤_, _-_, _≡_, refl, sym, arith, length}
 use Rattle.store_link.specs.Rows.{IdsIn}
 use Rattle.store_link.proofs.Ids.{ids-next}
 use Rattle.store_link.proofs.slots.ids_at.Statement.{statement}

@@ -1,9 +1,6 @@
 -- `store_link::slots::is_free` meets its contract.
 -- Assumes nothing.
-use Prim.Native.Nat.{ℕ}
-use mathlib.Core.Path.{ap}
-use lib.Dec.{eqb}
-use borrow.Author.Needs.{needs}
+use Rattle.basis.proofs.Std.{ℕ, ap, eqb, needs}
 use Rattle.store_link.specs.Rows.{slotFrom}
 use Rattle.store_link.proofs.slots.is_free.Statement.{statement}
 use Rattle.store_link.proofs.slots.is_free.Tie as tie

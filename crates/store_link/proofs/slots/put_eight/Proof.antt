@@ -1,9 +1,7 @@
 -- `store_link::slots::put_eight` meets its contract.
 -- Assumes nothing.
-use native.Mathlib.Omega.{arith}
-use lib.ListN.{length-set}
+use Rattle.basis.proofs.Std.{arith, length-set, needs}
 use Rattle.store_link.proofs.Ids.{eight-put}
-use borrow.Author.Needs.{needs}
 use Rattle.store_link.proofs.slots.put_eight.Statement.{statement}
 use Rattle.store_link.proofs.slots.put_eight.Tie as tie
 

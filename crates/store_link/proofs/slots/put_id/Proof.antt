@@ -1,7 +1,7 @@
 -- `store_link::slots::put_id` meets its contract.
 -- Assumes nothing.
 use Rattle.store_link.proofs.Ids.{id-put}
-use borrow.Author.Needs.{needs}
+use Rattle.basis.proofs.Std.{needs}
 use Rattle.store_link.proofs.slots.put_id.Statement.{statement}
 use Rattle.store_link.proofs.slots.put_id.Tie as tie
 

@@ -1,12 +1,9 @@
 -- `store_link::slots::put_slot` meets its contract.
 -- Assumes nothing.
-use Prim.Native.Nat.{ℕ}
+use Rattle.basis.proofs.Std.{ℕ, arith, getD, length-set, needs}
 use mir.Syntax.{w8}
 use mir.Val.{Fits}
-use native.Mathlib.Omega.{arith}
-use lib.ListN.{getD, length-set}
 use Rattle.store_link.proofs.RowLaws.{slot-put}
-use borrow.Author.Needs.{needs}
 use Rattle.store_link.proofs.slots.put_slot.Statement.{statement}
 use Rattle.store_link.proofs.slots.put_slot.Tie as tie
 

@@ -1,10 +1,6 @@
 -- `store_link::slots::put_slots` meets its contract.
 -- Assumes nothing.
-use Prim.Native.Nat.{_≤_, _-_}
-use mathlib.Core.Path.{_≡_, refl}
-use native.Mathlib.Omega.{arith}
-use borrow.Author.Needs.{needs}
-use lib.ListN.{length}
+use Rattle.basis.proofs.Std.{_≤_, _-_, _≡_, refl, arith, needs, length}
 use Rattle.store_words.proofs.Stores.{nothing, wider}
 use Rattle.store_link.proofs.RowLaws.{Sofar, slots-next, awaited-put}
 use Rattle.store_link.proofs.slots.put_slots.Statement.{statement}

@@ -1,6 +1,6 @@
 -- `store_link::slots::slot_at` meets its contract.
 -- Assumes nothing.
-use borrow.Author.Needs.{needs}
+use Rattle.basis.proofs.Std.{needs}
 use Rattle.store_link.proofs.slots.slot_at.Statement.{statement}
 use Rattle.store_link.proofs.slots.slot_at.Tie as tie
 

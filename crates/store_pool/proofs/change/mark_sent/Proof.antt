@@ -1,7 +1,7 @@
 -- `store_pool::change::mark_sent` meets its contract.
 -- Assumes nothing.
 use Rattle.store_pool.proofs.PoolLaws.{mark-none, mark-one, pool-turns}
-use borrow.Author.Needs.{needs}
+use Rattle.basis.proofs.Std.{needs}
 use Rattle.store_pool.proofs.change.mark_sent.Statement.{statement}
 use Rattle.store_pool.proofs.change.mark_sent.Tie as tie
 

@@ -1,7 +1,7 @@
 -- `store_pool::change::settle` meets its contract.
 -- Assumes nothing.
 use Rattle.store_pool.proofs.PoolLaws.{settle-none, settle-one, pool-turns}
-use borrow.Author.Needs.{needs}
+use Rattle.basis.proofs.Std.{needs}
 use Rattle.store_pool.proofs.change.settle.Statement.{statement}
 use Rattle.store_pool.proofs.change.settle.Tie as tie
 

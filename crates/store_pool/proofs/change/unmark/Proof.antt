@@ -1,10 +1,6 @@
 -- `store_pool::change::unmark` meets its contract.
 -- Assumes nothing.
-use Prim.Native.Nat.{_≤_, _-_}
-use mathlib.Core.Path.{_≡_}
-use native.Mathlib.Omega.{arith}
-use borrow.Author.Needs.{needs}
-use lib.ListN.{length}
+use Rattle.basis.proofs.Std.{_≤_, _-_, _≡_, arith, needs, length}
 use Rattle.store_pool.proofs.PoolLaws.{Upto, upto-none, upto-next, unmarked, pool-turns}
 use Rattle.pool.specs.declared.Pool.{Pool}
 use Rattle.pool.specs.Pool.{unmarkOf}

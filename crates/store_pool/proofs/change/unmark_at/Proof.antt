@@ -1,8 +1,7 @@
 -- `store_pool::change::unmark_at` meets its contract.
 -- Assumes nothing.
-use mathlib.Core.Path.{sym, _∙_}
+use Rattle.basis.proofs.Std.{sym, _∙_, needs}
 use Rattle.store_pool.proofs.PoolLaws.{unmark-one, unmark-other}
-use borrow.Author.Needs.{needs}
 use Rattle.store_pool.proofs.change.unmark_at.Statement.{statement}
 use Rattle.store_pool.proofs.change.unmark_at.Tie as tie
 

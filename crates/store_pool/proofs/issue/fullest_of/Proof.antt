@@ -1,7 +1,7 @@
 -- `store_pool::issue::fullest_of` meets its contract.
 -- Assumes nothing.
 use Rattle.pool.specs.Shares.{fullest}
-use borrow.Author.Needs.{needs}
+use Rattle.basis.proofs.Std.{needs}
 use Rattle.store_pool.proofs.issue.fullest_of.Statement.{statement}
 use Rattle.store_pool.proofs.issue.fullest_of.Tie as tie
 

@@ -1,7 +1,7 @@
 -- `store_pool::issue::issue` meets its contract.
 -- Assumes nothing.
 use Rattle.store_pool.proofs.PoolLaws.{issue-none, issue-full, issue-one, pool-turns}
-use borrow.Author.Needs.{needs}
+use Rattle.basis.proofs.Std.{needs}
 use Rattle.store_pool.proofs.issue.issue.Statement.{statement}
 use Rattle.store_pool.proofs.issue.issue.Tie as tie
 

@@ -1,7 +1,7 @@
 -- `store_pool::issue::lose` meets its contract.
 -- Assumes nothing.
 use Rattle.store_pool.proofs.PoolLaws.{loss-none}
-use borrow.Author.Needs.{needs}
+use Rattle.basis.proofs.Std.{needs}
 use Rattle.store_pool.proofs.issue.lose.Statement.{statement}
 use Rattle.store_pool.proofs.issue.lose.Tie as tie
 

@@ -1,7 +1,7 @@
 -- `store_pool::issue::lose_of` meets its contract.
 -- Assumes nothing.
 use Rattle.store_pool.proofs.PoolLaws.{loss-out, loss-one}
-use borrow.Author.Needs.{needs}
+use Rattle.basis.proofs.Std.{needs}
 use Rattle.store_pool.proofs.issue.lose_of.Statement.{statement}
 use Rattle.store_pool.proofs.issue.lose_of.Tie as tie
 

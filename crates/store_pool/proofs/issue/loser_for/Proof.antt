@@ -1,10 +1,8 @@
 -- `store_pool::issue::loser_for` meets its contract.
 -- Assumes nothing.
-use borrow.Author.Tests.{lt-ltb, le-ltb, le-leb, lt-leb}
-use mathlib.Core.Path.{ap}
+use Rattle.basis.proofs.Std.{lt-ltb, le-ltb, le-leb, lt-leb, ap, needs}
 use Rattle.pool.specs.Shares.{loser}
 use Rattle.pool.specs.declared.Loser.the-variants.{Owner}
-use borrow.Author.Needs.{needs}
 use Rattle.store_pool.proofs.PlaceLaws.{some-free, none-free}
 use Rattle.store_pool.proofs.issue.loser_for.Statement.{statement}
 use Rattle.store_pool.proofs.issue.loser_for.Tie as tie

@@ -1,7 +1,6 @@
 -- `store_pool::issue::more` meets its contract.
 -- Assumes nothing.
-use Rattle.basis.proofs.Tests.{tests}
-use borrow.Author.Needs.{needs}
+use Rattle.basis.proofs.Std.{tests, needs}
 use Rattle.store_pool.proofs.issue.more.Statement.{statement}
 use Rattle.store_pool.proofs.issue.more.Tie as tie
 

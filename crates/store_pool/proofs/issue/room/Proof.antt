@@ -1,7 +1,7 @@
 -- `store_pool::issue::room` meets its contract.
 -- Assumes nothing.
 use Rattle.pool.specs.Pool.{roomOf}
-use borrow.Author.Needs.{needs}
+use Rattle.basis.proofs.Std.{needs}
 use Rattle.store_pool.proofs.issue.room.Statement.{statement}
 use Rattle.store_pool.proofs.issue.room.Tie as tie
 

@@ -1,6 +1,6 @@
 -- `store_pool::places::asked` meets its contract.
 -- Assumes nothing.
-use borrow.Author.Needs.{needs}
+use Rattle.basis.proofs.Std.{needs}
 use Rattle.store_pool.proofs.places.asked.Statement.{statement}
 use Rattle.store_pool.proofs.places.asked.Tie as tie
 

@@ -1,7 +1,6 @@
 -- `store_pool::places::free` meets its contract.
 -- Assumes nothing.
-use mathlib.Core.Path.{sym, ap, _∙_}
-use borrow.Author.Needs.{needs}
+use Rattle.basis.proofs.Std.{sym, ap, _∙_, needs}
 use Rattle.pool.specs.declared.Place.{Place}
 use Rattle.store_pool.proofs.PlaceLaws.{vacant-none, vacant-first}
 use Rattle.store_pool.proofs.places.free.Statement.{statement}

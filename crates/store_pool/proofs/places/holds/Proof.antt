@@ -1,11 +1,6 @@
 -- `store_pool::places::holds` meets its contract.
 -- Assumes nothing.
-use Prim.Native.Nat.{_≤_, _-_}
-use mathlib.Core.Path.{_≡_, sym}
-use native.Mathlib.Omega.{arith}
-use borrow.Author.Needs.{needs}
-use lib.ListN.{length, drop, length-drop}
-use Rattle.basis.specs.Lists.{count}
+use Rattle.basis.proofs.Std.{_≤_, _≡_, sym, arith, needs, length, drop, length-drop, count}
 use Rattle.pool.specs.Places.{of}
 use Rattle.store_site.specs.Layout.{placesIn}
 use Rattle.store_site.proofs.SiteLaws.{places-length}

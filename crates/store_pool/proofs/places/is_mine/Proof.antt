@@ -1,6 +1,6 @@
 -- `store_pool::places::is_mine` meets its contract.
 -- Assumes nothing.
-use borrow.Author.Needs.{needs}
+use Rattle.basis.proofs.Std.{needs}
 use Rattle.store_pool.proofs.PlaceLaws.{mine-not, mine-if}
 use Rattle.store_pool.proofs.places.is_mine.Statement.{statement}
 use Rattle.store_pool.proofs.places.is_mine.Tie as tie

@@ -1,10 +1,8 @@
 -- `store_pool::places::place` meets its contract.
 -- Assumes nothing.
-use mathlib.Core.Path.{_∙_}
-use Prim.Native.Nat.{_+_, _*_}
+use Rattle.basis.proofs.Std.{_∙_, _+_, _*_, needs}
 use Rattle.store_site.proofs.RowLaws.{place-get}
 use Rattle.store_site.proofs.SiteLaws.{place-at}
-use borrow.Author.Needs.{needs}
 use Rattle.store_pool.proofs.places.place.Statement.{statement}
 use Rattle.store_pool.proofs.places.place.Tie as tie
 

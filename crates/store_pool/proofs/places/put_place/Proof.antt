@@ -1,10 +1,7 @@
 -- `store_pool::places::put_place` meets its contract.
 -- Assumes nothing.
-use native.Mathlib.Omega.{arith}
-use lib.ListN.{length-set}
-use Prim.Native.Nat.{_+_, _*_}
+use Rattle.basis.proofs.Std.{arith, length-set, _+_, _*_, needs}
 use Rattle.store_site.proofs.RowLaws.{place-put}
-use borrow.Author.Needs.{needs}
 use Rattle.store_pool.proofs.places.put_place.Statement.{statement}
 use Rattle.store_pool.proofs.places.put_place.Tie as tie
 

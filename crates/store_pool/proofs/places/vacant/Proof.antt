@@ -1,9 +1,6 @@
 -- `store_pool::places::vacant` meets its contract.
 -- Assumes nothing.
-use Prim.Native.Nat.{_≤_, _-_}
-use mathlib.Core.Path.{sym, _∙_}
-use native.Mathlib.Omega.{arith}
-use borrow.Author.Needs.{needs}
+use Rattle.basis.proofs.Std.{_≤_, _-_, sym, _∙_, arith, needs}
 use Rattle.store_site.specs.Layout.{placesIn}
 use Rattle.store_pool.proofs.PlaceLaws.{Taken, taken-next}
 use Rattle.store_pool.proofs.places.vacant.Statement.{statement}

@@ -1,7 +1,7 @@
 -- `store_pool::read::held` meets its contract.
 -- Assumes nothing.
 use Rattle.store_site.specs.Layout.{siteOf}
-use borrow.Author.Needs.{needs}
+use Rattle.basis.proofs.Std.{needs}
 use Rattle.store_pool.proofs.read.held.Statement.{statement}
 use Rattle.store_pool.proofs.read.held.Tie as tie
 

@@ -2,7 +2,7 @@
 -- Assumes nothing.
 use Rattle.store_site.specs.Layout.{placesIn}
 use Rattle.store_pool.proofs.PoolLaws.{sought-none, sought-one}
-use borrow.Author.Needs.{needs}
+use Rattle.basis.proofs.Std.{needs}
 use Rattle.store_pool.proofs.read.look.Statement.{statement}
 use Rattle.store_pool.proofs.read.look.Tie as tie
 

@@ -1,7 +1,7 @@
 -- `store_pool::read::lost` meets its contract.
 -- Assumes nothing.
 use Rattle.store_pool.proofs.PoolLaws.{lost-read, lost-beyond}
-use borrow.Author.Needs.{needs}
+use Rattle.basis.proofs.Std.{needs}
 use Rattle.store_pool.proofs.read.lost.Statement.{statement}
 use Rattle.store_pool.proofs.read.lost.Tie as tie
 

@@ -1,7 +1,7 @@
 -- `store_pool::read::oldest_unsent` meets its contract.
 -- Assumes nothing.
 use Rattle.store_site.specs.Layout.{siteOf}
-use borrow.Author.Needs.{needs}
+use Rattle.basis.proofs.Std.{needs}
 use Rattle.store_pool.proofs.read.oldest_unsent.Statement.{statement}
 use Rattle.store_pool.proofs.read.oldest_unsent.Tie as tie
 

@@ -1,8 +1,7 @@
 -- `store_site::head::aggregated` meets its contract.
 -- Assumes nothing.
 use Rattle.store_site.specs.Layout.{siteOf}
-use mathlib.Core.Path.{refl}
-use borrow.Author.Needs.{needs}
+use Rattle.basis.proofs.Std.{refl, needs}
 use Rattle.store_site.proofs.head.aggregated.Statement.{statement}
 use Rattle.store_site.proofs.head.aggregated.Tie as tie
 

@@ -1,7 +1,7 @@
 -- `store_site::head::bad_time` meets its contract.
 -- Assumes nothing.
 use Rattle.store_site.proofs.HeadLaws.{time-early, time-late}
-use borrow.Author.Needs.{needs}
+use Rattle.basis.proofs.Std.{needs}
 use Rattle.store_site.proofs.head.bad_time.Statement.{statement}
 use Rattle.store_site.proofs.head.bad_time.Tie as tie
 

@@ -1,7 +1,7 @@
 -- `store_site::head::has_primary` meets its contract.
 -- Assumes nothing.
 use Rattle.store_site.specs.Layout.{siteOf}
-use borrow.Author.Needs.{needs}
+use Rattle.basis.proofs.Std.{needs}
 use Rattle.store_site.proofs.head.has_primary.Statement.{statement}
 use Rattle.store_site.proofs.head.has_primary.Tie as tie
 

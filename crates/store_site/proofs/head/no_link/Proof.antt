@@ -1,7 +1,7 @@
 -- `store_site::head::no_link` meets its contract.
 -- Assumes nothing.
 use Rattle.store_site.proofs.HeadLaws.{no-link-low, no-link-high}
-use borrow.Author.Needs.{needs}
+use Rattle.basis.proofs.Std.{needs}
 use Rattle.store_site.proofs.head.no_link.Statement.{statement}
 use Rattle.store_site.proofs.head.no_link.Tie as tie
 

@@ -1,7 +1,7 @@
 -- `store_site::head::primary` meets its contract.
 -- Assumes nothing.
 use Rattle.store_site.specs.Layout.{siteOf}
-use borrow.Author.Needs.{needs}
+use Rattle.basis.proofs.Std.{needs}
 use Rattle.store_site.proofs.head.primary.Statement.{statement}
 use Rattle.store_site.proofs.head.primary.Tie as tie
 

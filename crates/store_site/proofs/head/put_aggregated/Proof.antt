@@ -1,7 +1,7 @@
 -- `store_site::head::put_aggregated` meets its contract.
 -- Assumes nothing.
 use Rattle.store_site.proofs.SiteLaws.{aggregated-turns}
-use borrow.Author.Needs.{needs}
+use Rattle.basis.proofs.Std.{needs}
 use Rattle.store_site.proofs.head.put_aggregated.Statement.{statement}
 use Rattle.store_site.proofs.head.put_aggregated.Tie as tie
 

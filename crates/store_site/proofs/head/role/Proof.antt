@@ -1,9 +1,7 @@
 -- `store_site::head::role` meets its contract.
 -- Assumes nothing.
 use Rattle.store_site.specs.Layout.{siteOf}
-use mathlib.Core.Path.{sym, _∙_}
-use borrow.Author.Tests.{eq-eqb, ne-eqb}
-use borrow.Author.Needs.{needs}
+use Rattle.basis.proofs.Std.{sym, _∙_, eq-eqb, ne-eqb, needs}
 use Rattle.store_site.proofs.head.role.Statement.{statement}
 use Rattle.store_site.proofs.head.role.Tie as tie
 

@@ -1,8 +1,7 @@
 -- `store_site::items::alarm` meets its contract.
 -- Assumes nothing.
-use mathlib.Core.Path.{sym, _∙_}
+use Rattle.basis.proofs.Std.{sym, _∙_, needs}
 use Rattle.store_site.proofs.PastLaws.{alarm-past}
-use borrow.Author.Needs.{needs}
 use Rattle.store_site.proofs.items.alarm.Statement.{statement}
 use Rattle.store_site.proofs.items.alarm.Tie as tie
 

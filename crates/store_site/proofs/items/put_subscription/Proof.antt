@@ -2,7 +2,7 @@
 -- Assumes nothing.
 use Rattle.store_site.proofs.PastLaws.{no-subscription-put}
 use Rattle.store_site.proofs.TurnsLaws.{turns-none}
-use borrow.Author.Needs.{needs}
+use Rattle.basis.proofs.Std.{needs}
 use Rattle.store_site.proofs.items.put_subscription.Statement.{statement}
 use Rattle.store_site.proofs.items.put_subscription.Tie as tie
 

@@ -1,8 +1,7 @@
 -- `store_site::items::subscription` meets its contract.
 -- Assumes nothing.
-use mathlib.Core.Path.{sym, _∙_}
+use Rattle.basis.proofs.Std.{sym, _∙_, needs}
 use Rattle.store_site.proofs.PastLaws.{subscription-past}
-use borrow.Author.Needs.{needs}
 use Rattle.store_site.proofs.items.subscription.Statement.{statement}
 use Rattle.store_site.proofs.items.subscription.Tie as tie
 

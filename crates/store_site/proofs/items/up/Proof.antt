@@ -1,10 +1,9 @@
 -- `store_site::items::up` meets its contract.
 -- Assumes nothing.
-use mathlib.Core.Path.{sym, ap}
+use Rattle.basis.proofs.Std.{sym, ap, needs}
 use Rattle.link.specs.declared.Link.{Link}
 use Rattle.link.specs.Phase.{phaseOf, isUp}
 use Rattle.store_site.proofs.PastLaws.{link-past}
-use borrow.Author.Needs.{needs}
 use Rattle.store_site.proofs.items.up.Statement.{statement}
 use Rattle.store_site.proofs.items.up.Tie as tie
 

@@ -1,8 +1,7 @@
 -- `store_site::parts::link` meets its contract.
 -- Assumes nothing.
-use mathlib.Core.Path.{_∙_}
+use Rattle.basis.proofs.Std.{_∙_, needs}
 use Rattle.store_site.proofs.SiteLaws.{link-read}
-use borrow.Author.Needs.{needs}
 use Rattle.store_site.proofs.parts.link.Statement.{statement}
 use Rattle.store_site.proofs.parts.link.Tie as tie
 

@@ -1,8 +1,7 @@
 -- `store_site::parts::next` meets its contract.
 -- Assumes nothing.
-use mathlib.Core.Path.{refl}
+use Rattle.basis.proofs.Std.{refl, needs}
 use Rattle.store_site.specs.Layout.{siteOf}
-use borrow.Author.Needs.{needs}
 use Rattle.store_site.proofs.parts.next.Statement.{statement}
 use Rattle.store_site.proofs.parts.next.Tie as tie
 

@@ -1,11 +1,8 @@
 -- `store_site::parts::put_alarm` meets its contract.
 -- Assumes nothing.
-use native.Mathlib.Omega.{arith}
-use lib.ListN.{length-set}
-use Prim.Native.Nat.{_+_, _*_}
+use Rattle.basis.proofs.Std.{arith, length-set, _+_, _*_, needs}
 use Rattle.store_site.proofs.SiteLaws.{alarm-turns}
 use Rattle.store_site.proofs.RowLaws.{alarm-put}
-use borrow.Author.Needs.{needs}
 use Rattle.store_site.proofs.parts.put_alarm.Statement.{statement}
 use Rattle.store_site.proofs.parts.put_alarm.Tie as tie
 

@@ -1,7 +1,7 @@
 -- `store_site::parts::put_last` meets its contract.
 -- Assumes nothing.
 use Rattle.store_site.proofs.SiteLaws.{last-turns}
-use borrow.Author.Needs.{needs}
+use Rattle.basis.proofs.Std.{needs}
 use Rattle.store_site.proofs.parts.put_last.Statement.{statement}
 use Rattle.store_site.proofs.parts.put_last.Tie as tie
 

@@ -1,7 +1,7 @@
 -- `store_site::parts::put_link` meets its contract.
 -- Assumes nothing.
 use Rattle.store_site.proofs.SiteLaws.{link-turns}
-use borrow.Author.Needs.{needs}
+use Rattle.basis.proofs.Std.{needs}
 use Rattle.store_site.proofs.parts.put_link.Statement.{statement}
 use Rattle.store_site.proofs.parts.put_link.Tie as tie
 

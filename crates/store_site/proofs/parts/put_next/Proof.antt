@@ -1,7 +1,7 @@
 -- `store_site::parts::put_next` meets its contract.
 -- Assumes nothing.
 use Rattle.store_site.proofs.SiteLaws.{next-turns}
-use borrow.Author.Needs.{needs}
+use Rattle.basis.proofs.Std.{needs}
 use Rattle.store_site.proofs.parts.put_next.Statement.{statement}
 use Rattle.store_site.proofs.parts.put_next.Tie as tie
 

@@ -1,9 +1,8 @@
 -- `store_site::parts::put_status` meets its contract.
 -- Assumes nothing.
-use Prim.Native.Nat.{_+_}
+use Rattle.basis.proofs.Std.{_+_, needs}
 use Rattle.store_site.proofs.SiteLaws.{status-turns}
 use Rattle.store_site.proofs.RowLaws.{status-put}
-use borrow.Author.Needs.{needs}
 use Rattle.store_site.proofs.parts.put_status.Statement.{statement}
 use Rattle.store_site.proofs.parts.put_status.Tie as tie
 

@@ -1,11 +1,8 @@
 -- `store_site::parts::put_subscription` meets its contract.
 -- Assumes nothing.
-use native.Mathlib.Omega.{arith}
-use lib.ListN.{length-set}
-use Prim.Native.Nat.{_+_, _*_}
+use Rattle.basis.proofs.Std.{arith, length-set, _+_, _*_, needs}
 use Rattle.store_site.proofs.SiteLaws.{subscription-turns}
 use Rattle.store_site.proofs.RowLaws.{subscription-put}
-use borrow.Author.Needs.{needs}
 use Rattle.store_site.proofs.parts.put_subscription.Statement.{statement}
 use Rattle.store_site.proofs.parts.put_subscription.Tie as tie
 

@@ -1,10 +1,8 @@
 -- `store_site::parts::status` meets its contract.
 -- Assumes nothing.
-use mathlib.Core.Path.{_∙_}
-use Prim.Native.Nat.{_+_}
+use Rattle.basis.proofs.Std.{_∙_, _+_, needs}
 use Rattle.store_site.proofs.RowLaws.{status-get}
 use Rattle.store_site.proofs.SiteLaws.{status-read}
-use borrow.Author.Needs.{needs}
 use Rattle.store_site.proofs.parts.status.Statement.{statement}
 use Rattle.store_site.proofs.parts.status.Tie as tie
 

@@ -1,10 +1,8 @@
 -- `store_site::parts::subscription` meets its contract.
 -- Assumes nothing.
-use mathlib.Core.Path.{_∙_}
-use Prim.Native.Nat.{_+_, _*_}
+use Rattle.basis.proofs.Std.{_∙_, _+_, _*_, needs}
 use Rattle.store_site.proofs.RowLaws.{subscription-get}
 use Rattle.store_site.proofs.SiteLaws.{subscription-read}
-use borrow.Author.Needs.{needs}
 use Rattle.store_site.proofs.parts.subscription.Statement.{statement}
 use Rattle.store_site.proofs.parts.subscription.Tie as tie
 

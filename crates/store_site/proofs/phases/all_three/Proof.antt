@@ -1,6 +1,6 @@
 -- `store_site::phases::all_three` meets its contract.
 -- Assumes nothing.
-use borrow.Author.Tests.{lt-ltb, le-ltb}
+use Rattle.basis.proofs.Std.{lt-ltb, le-ltb}
 use Rattle.store_site.proofs.phases.all_three.Statement.{statement}
 use Rattle.store_site.proofs.phases.all_three.Tie as tie
 

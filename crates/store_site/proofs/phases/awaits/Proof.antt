@@ -4,7 +4,7 @@ use Rattle.awaited.specs.Awaited.{findOf, isAwaited}
 use Rattle.link.specs.declared.Link.{Link}
 use Rattle.store_link.specs.Rows.{linkIn}
 use Rattle.store_site.proofs.HeadLaws.{link-says}
-use borrow.Author.Needs.{needs}
+use Rattle.basis.proofs.Std.{needs}
 use Rattle.store_site.proofs.phases.awaits.Statement.{statement}
 use Rattle.store_site.proofs.phases.awaits.Tie as tie
 

@@ -1,8 +1,7 @@
 -- `store_site::phases::down` meets its contract.
 -- Assumes nothing.
-use mathlib.Core.Path.{ap, _∙_}
+use Rattle.basis.proofs.Std.{ap, _∙_, needs}
 use Rattle.site.specs.Site.{isDown}
-use borrow.Author.Needs.{needs}
 use Rattle.store_site.proofs.phases.down.Statement.{statement}
 use Rattle.store_site.proofs.phases.down.Tie as tie
 

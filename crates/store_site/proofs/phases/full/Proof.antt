@@ -4,7 +4,7 @@ use Rattle.link.specs.Steps.{fullOf}
 use Rattle.link.specs.declared.Link.{Link}
 use Rattle.store_link.specs.Rows.{linkIn}
 use Rattle.store_site.proofs.HeadLaws.{link-says}
-use borrow.Author.Needs.{needs}
+use Rattle.basis.proofs.Std.{needs}
 use Rattle.store_site.proofs.phases.full.Statement.{statement}
 use Rattle.store_site.proofs.phases.full.Tie as tie
 

@@ -1,9 +1,7 @@
 -- `store_site::phases::phase` meets its contract.
 -- Assumes nothing.
 use Rattle.store_site.proofs.HeadLaws.{phase-is}
-use mathlib.Core.Path.{refl, sym, _∙_}
-use borrow.Author.Tests.{lt-ltb, le-ltb}
-use borrow.Author.Needs.{needs}
+use Rattle.basis.proofs.Std.{refl, sym, _∙_, lt-ltb, le-ltb, needs}
 use Rattle.store_site.proofs.phases.phase.Statement.{statement}
 use Rattle.store_site.proofs.phases.phase.Tie as tie
 

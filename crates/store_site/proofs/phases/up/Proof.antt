@@ -1,8 +1,7 @@
 -- `store_site::phases::up` meets its contract.
 -- Assumes nothing.
-use mathlib.Core.Path.{sym, ap, _∙_}
+use Rattle.basis.proofs.Std.{sym, ap, _∙_, needs}
 use Rattle.link.specs.Phase.{isUp}
-use borrow.Author.Needs.{needs}
 use Rattle.store_site.proofs.phases.up.Statement.{statement}
 use Rattle.store_site.proofs.phases.up.Tie as tie
 

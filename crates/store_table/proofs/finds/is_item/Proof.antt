@@ -1,7 +1,7 @@
 -- `store_table::finds::is_item` meets its contract.
 -- Assumes nothing.
 use Rattle.store_table.proofs.RowLaws.{item-at, item-behind}
-use borrow.Author.Needs.{needs}
+use Rattle.basis.proofs.Std.{needs}
 use Rattle.store_table.proofs.finds.is_item.Statement.{statement}
 use Rattle.store_table.proofs.finds.is_item.Tie as tie
 

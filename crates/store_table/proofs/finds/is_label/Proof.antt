@@ -1,11 +1,9 @@
 -- `store_table::finds::is_label` meets its contract.
 -- Assumes nothing.
-use Rattle.basis.specs.Lists.{sameBytes}
+use Rattle.basis.proofs.Std.{sameBytes, ap, _∙_, needs}
 use Rattle.label.specs.declared.Label.{Label}
 use Rattle.label.specs.Label.{textOf}
 use Rattle.store_table.proofs.RowLaws.{label-at, label-behind}
-use mathlib.Core.Path.{ap, _∙_}
-use borrow.Author.Needs.{needs}
 use Rattle.store_table.proofs.finds.is_label.Statement.{statement}
 use Rattle.store_table.proofs.finds.is_label.Tie as tie
 

@@ -1,11 +1,7 @@
 -- `store_table::lays::count` meets its contract.
 -- Assumes nothing.
-use native.Mathlib.Omega.{arith}
-use lib.ListN.{length-set}
-use Prim.Native.Nat.{_+_}
-use mathlib.Core.Path.{refl}
+use Rattle.basis.proofs.Std.{arith, length-set, _+_, refl, needs}
 use Rattle.store_table.proofs.LayLaws.{one, then}
-use borrow.Author.Needs.{needs}
 use Rattle.store_table.proofs.lays.count.Statement.{statement}
 use Rattle.store_table.proofs.lays.count.Tie as tie
 

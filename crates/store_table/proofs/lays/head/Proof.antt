@@ -1,8 +1,7 @@
 -- `store_table::lays::head` meets its contract.
 -- Assumes nothing.
-use mathlib.Core.Path.{refl}
+use Rattle.basis.proofs.Std.{refl, needs}
 use Rattle.store_table.proofs.LayLaws.{then}
-use borrow.Author.Needs.{needs}
 use Rattle.store_table.proofs.lays.head.Statement.{statement}
 use Rattle.store_table.proofs.lays.head.Tie as tie
 

@@ -1,10 +1,8 @@
 -- `store_table::lays::item` meets its contract.
 -- Assumes nothing.
-use mathlib.Core.Path.{refl}
-use native.Mathlib.Omega.{arith}
+use Rattle.basis.proofs.Std.{refl, arith, needs}
 use Rattle.store_table.specs.Layout.{itemBytes}
 use Rattle.store_table.proofs.LayLaws.{then}
-use borrow.Author.Needs.{needs}
 use Rattle.store_table.proofs.lays.item.Statement.{statement}
 use Rattle.store_table.proofs.lays.item.Tie as tie
 

@@ -1,10 +1,6 @@
 -- `store_table::lays::label` meets its contract.
 -- Assumes nothing.
-use Prim.Native.Nat.{_≤_, _-_, _+_}
-use mathlib.Core.Path.{_≡_, refl, _∙_}
-use native.Mathlib.Omega.{arith}
-use borrow.Author.Needs.{needs}
-use lib.ListN.{length, take, length-set}
+use Rattle.basis.proofs.Std.{_≤_, _-_, _+_, _≡_, refl, _∙_, arith, needs, length, take, length-set}
 use Rattle.store_table.specs.Laid.{Laid}
 use Rattle.store_table.proofs.LayLaws.{none, one, then, said, byte-next, label-laid}
 use Rattle.store_table.proofs.lays.label.Statement.{statement}

@@ -1,9 +1,7 @@
 -- `store_table::lays::three` meets its contract.
 -- Assumes nothing.
-use native.Mathlib.Omega.{arith}
-use lib.ListN.{length-set}
+use Rattle.basis.proofs.Std.{arith, length-set, needs}
 use Rattle.store_table.proofs.LayLaws.{three}
-use borrow.Author.Needs.{needs}
 use Rattle.store_table.proofs.lays.three.Statement.{statement}
 use Rattle.store_table.proofs.lays.three.Tie as tie
 

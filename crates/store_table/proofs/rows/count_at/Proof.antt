@@ -1,8 +1,6 @@
 -- `store_table::rows::count_at` meets its contract.
 -- Assumes nothing.
-use native.Mathlib.Omega.{arith}
-use Prim.Native.Nat.{_+_}
-use borrow.Author.Needs.{needs}
+use Rattle.basis.proofs.Std.{arith, _+_, needs}
 use Rattle.store_table.proofs.rows.count_at.Statement.{statement}
 use Rattle.store_table.proofs.rows.count_at.Tie as tie
 

@@ -1,7 +1,7 @@
 -- `store_table::rows::item_at` meets its contract.
 -- Assumes nothing.
 use Rattle.store_table.proofs.RowLaws.{item-get}
-use borrow.Author.Needs.{needs}
+use Rattle.basis.proofs.Std.{needs}
 use Rattle.store_table.proofs.rows.item_at.Statement.{statement}
 use Rattle.store_table.proofs.rows.item_at.Tie as tie
 

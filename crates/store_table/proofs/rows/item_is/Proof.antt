@@ -1,10 +1,8 @@
 -- `store_table::rows::item_is` meets its contract.
 -- Assumes nothing.
-use borrow.Author.Tests.{eq-eqb, ne-eqb}
+use Rattle.basis.proofs.Std.{eq-eqb, ne-eqb, sym, _∙_, needs}
 use Rattle.table_item.specs.Item.{isItem}
 use Rattle.store_table.specs.Layout.{itemIn}
-use mathlib.Core.Path.{sym, _∙_}
-use borrow.Author.Needs.{needs}
 use Rattle.store_table.proofs.rows.item_is.Statement.{statement}
 use Rattle.store_table.proofs.rows.item_is.Tie as tie
 

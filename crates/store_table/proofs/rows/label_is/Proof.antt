@@ -1,8 +1,7 @@
 -- `store_table::rows::label_is` meets its contract.
 -- Assumes nothing.
 use Rattle.store_table.proofs.RowLaws.{text-is}
-use Rattle.basis.proofs.Same.{same-is}
-use borrow.Author.Needs.{needs}
+use Rattle.basis.proofs.Std.{same-is, needs}
 use Rattle.store_table.proofs.rows.label_is.Statement.{statement}
 use Rattle.store_table.proofs.rows.label_is.Tie as tie
 

@@ -1,8 +1,7 @@
 -- `store_table::rows::row` meets its contract.
 -- Assumes nothing.
 use Rattle.store_table.proofs.RowLaws.{item-at, item-behind}
-use mathlib.Core.Path.{_∙_}
-use borrow.Author.Needs.{needs}
+use Rattle.basis.proofs.Std.{_∙_, needs}
 use Rattle.store_table.proofs.rows.row.Statement.{statement}
 use Rattle.store_table.proofs.rows.row.Tie as tie
 

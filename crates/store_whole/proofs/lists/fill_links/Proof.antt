@@ -1,10 +1,6 @@
 -- `store_whole::lists::fill_links` meets its contract.
 -- Assumes nothing.
-use Prim.Native.Nat.{ℕ, _≤_, _-_, _<_, _+_, _*_}
-use mathlib.Core.Path.{_≡_, sym}
-use native.Mathlib.Omega.{arith}
-use borrow.Author.Needs.{needs}
-use lib.ListN.{length, replicate, length-replicate, getD-replicate}
+use Rattle.basis.proofs.Std.{ℕ, _≤_, _-_, _<_, _+_, _*_, _≡_, sym, arith, needs, length, replicate, length-replicate, getD-replicate}
 use Rattle.link.specs.Fields.{closedLink}
 use Rattle.site.specs.Site.{withLinks}
 use Rattle.store_link.specs.Rows.{PlainAt}

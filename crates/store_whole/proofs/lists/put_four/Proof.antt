@@ -1,7 +1,7 @@
 -- `store_whole::lists::put_four` meets its contract.
 -- Assumes nothing.
 use Rattle.store_whole.proofs.ListLaws.{lost-turns}
-use borrow.Author.Needs.{needs}
+use Rattle.basis.proofs.Std.{needs}
 use Rattle.store_whole.proofs.lists.put_four.Statement.{statement}
 use Rattle.store_whole.proofs.lists.put_four.Tie as tie
 

@@ -1,9 +1,7 @@
 -- `store_whole::lists::put_lost` meets its contract.
 -- Assumes nothing.
-use mathlib.Core.Path.{_≡_}
-use lib.ListN.{length}
+use Rattle.basis.proofs.Std.{_≡_, length, needs}
 use Rattle.store_whole.proofs.ListLaws.{four-of}
-use borrow.Author.Needs.{needs}
 use Rattle.store_whole.proofs.lists.put_lost.Statement.{statement}
 use Rattle.store_whole.proofs.lists.put_lost.Tie as tie
 

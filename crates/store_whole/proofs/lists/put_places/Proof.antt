@@ -1,10 +1,6 @@
 -- `store_whole::lists::put_places` meets its contract.
 -- Assumes nothing.
-use Prim.Native.Nat.{_≤_, _-_}
-use mathlib.Core.Path.{_≡_}
-use native.Mathlib.Omega.{arith}
-use borrow.Author.Needs.{needs}
-use lib.ListN.{length}
+use Rattle.basis.proofs.Std.{_≤_, _-_, _≡_, arith, needs, length}
 use Rattle.pool.specs.Places.{noPlace}
 use Rattle.store_whole.specs.Filled.{withPlaces}
 use Rattle.store_site.specs.Layout.{placesIn, siteWords}

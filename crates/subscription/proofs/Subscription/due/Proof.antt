@@ -1,6 +1,5 @@
-use borrow.Author.Tests.{lt-ltb, le-ltb}
+use Rattle.basis.proofs.Std.{lt-ltb, le-ltb, needs}
 use Rattle.subscription.specs.Subscription.{dueAt}
-use borrow.Author.Needs.{needs}
 use Rattle.subscription.proofs.Subscription.due.Statement.{statement}
 use Rattle.subscription.proofs.Subscription.due.Tie as tie
 

@@ -1,6 +1,5 @@
 use Rattle.subscription.specs.Subscription.{tickOf}
-use mathlib.Core.Path.{sym, _∙_}
-use borrow.Author.Needs.{needs}
+use Rattle.basis.proofs.Std.{sym, _∙_, needs}
 use Rattle.subscription.proofs.Subscription.on_tick.Statement.{statement}
 use Rattle.subscription.proofs.Subscription.on_tick.Tie as tie
 

@@ -1,4 +1,4 @@
-use borrow.Author.Needs.{needs}
+use Rattle.basis.proofs.Std.{needs}
 use Rattle.subscription.proofs.Subscription.on_value.Statement.{statement}
 use Rattle.subscription.proofs.Subscription.on_value.Tie as tie
 

@@ -1,8 +1,6 @@
-use mathlib.Core.Path.{sym, _∙_}
-use borrow.Author.Tests.{lt-ltb, le-ltb, eq-eqb, ne-eqb}
+use Rattle.basis.proofs.Std.{sym, _∙_, lt-ltb, le-ltb, eq-eqb, ne-eqb, needs}
 use Rattle.label.specs.Reading.{far}
 use Rattle.table_whole.specs.Reading.{isWhole}
-use borrow.Author.Needs.{needs}
 use Rattle.table_whole.proofs.SiteTable.is_whole.Statement.{statement}
 use Rattle.table_whole.proofs.SiteTable.is_whole.Tie as tie
 

@@ -1,8 +1,6 @@
-use mathlib.Core.Path.{sym, _∙_}
-use borrow.Author.Tests.{not-true, not-false}
+use Rattle.basis.proofs.Std.{sym, _∙_, not-true, not-false, needs}
 use Rattle.table_whole.specs.Reading.{ownNames}
 use Rattle.table_whole.proofs.Kept.{own-padded}
-use borrow.Author.Needs.{needs}
 use Rattle.table_whole.proofs.SiteTable.own_names.Statement.{statement}
 use Rattle.table_whole.proofs.SiteTable.own_names.Tie as tie
 

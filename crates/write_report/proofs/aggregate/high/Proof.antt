@@ -1,6 +1,6 @@
 use Rattle.write_message.specs.Pieces.{highPieces}
 use Rattle.output.proofs.Laws.{then}
-use borrow.Author.Needs.{needs}
+use Rattle.basis.proofs.Std.{needs}
 use Rattle.write_report.proofs.aggregate.high.Statement.{statement}
 use Rattle.write_report.proofs.aggregate.high.Tie as tie
 

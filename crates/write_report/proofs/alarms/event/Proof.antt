@@ -1,5 +1,4 @@
-use borrow.Author.Tests.{eq-eqb, ne-eqb}
-use borrow.Author.Needs.{needs}
+use Rattle.basis.proofs.Std.{eq-eqb, ne-eqb, needs}
 use Rattle.write_report.proofs.alarms.event.Statement.{statement}
 use Rattle.write_report.proofs.alarms.event.Tie as tie
 

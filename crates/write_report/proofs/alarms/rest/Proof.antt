@@ -1,6 +1,6 @@
 use Rattle.write_message.specs.Pieces.{restPieces}
 use Rattle.output.proofs.Laws.{then}
-use borrow.Author.Needs.{needs}
+use Rattle.basis.proofs.Std.{needs}
 use Rattle.write_report.proofs.alarms.rest.Statement.{statement}
 use Rattle.write_report.proofs.alarms.rest.Tie as tie
 

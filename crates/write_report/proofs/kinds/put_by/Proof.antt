@@ -1,5 +1,5 @@
 use Rattle.write_message.specs.Pieces.{byKind}
-use borrow.Author.Needs.{needs}
+use Rattle.basis.proofs.Std.{needs}
 use Rattle.write_report.proofs.kinds.put_by.Statement.{statement}
 use Rattle.write_report.proofs.kinds.put_by.Tie as tie
 

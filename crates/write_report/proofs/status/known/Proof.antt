@@ -1,8 +1,7 @@
-use mathlib.Core.List.{[], _∷_}
+use Rattle.basis.proofs.Std.{[], _∷_, needs}
 use Rattle.number.specs.Decimal.{decimalOf}
 use Rattle.write_report.proofs.PassedOn.{passed}
 use Rattle.output.proofs.Laws.{then}
-use borrow.Author.Needs.{needs}
 use Rattle.write_report.proofs.status.known.Statement.{statement}
 use Rattle.write_report.proofs.status.known.Tie as tie
 

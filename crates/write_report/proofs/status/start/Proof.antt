@@ -1,4 +1,4 @@
-use borrow.Author.Needs.{needs}
+use Rattle.basis.proofs.Std.{needs}
 use Rattle.write_report.proofs.status.start.Statement.{statement}
 use Rattle.write_report.proofs.status.start.Tie as tie
 

@@ -1,7 +1,6 @@
-use mathlib.Core.List.{append-nil}
+use Rattle.basis.proofs.Std.{append-nil, needs}
 use Rattle.write_message.specs.Pieces.{pieces, entriesPieces}
 use Rattle.output.proofs.Laws.{then}
-use borrow.Author.Needs.{needs}
 use Rattle.write_report.proofs.status.update.Statement.{statement}
 use Rattle.write_report.proofs.status.update.Tie as tie
 

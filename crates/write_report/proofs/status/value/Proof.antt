@@ -1,7 +1,6 @@
-use Rattle.basis.specs.Text.{text}
+use Rattle.basis.proofs.Std.{text, needs}
 use Rattle.write_message.specs.Pieces.{knownPieces, valuePieces}
 use Rattle.write_report.proofs.PassedOn.{passed}
-use borrow.Author.Needs.{needs}
 use Rattle.write_report.proofs.status.value.Statement.{statement}
 use Rattle.write_report.proofs.status.value.Tie as tie
 
