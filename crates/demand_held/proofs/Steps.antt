@@ -1,6 +1,6 @@
 -- A step is refused or done; a packet call that is done is on a configured link.
 -- Assumes nothing.
-use Rattle.basis.proofs.Std.{ℕ, _<_, _≡_, refl, ap, Bool, true, false, Option, some, none, arith, leb-false, pick, bool-cases}
+use Rattle.basis.proofs.Std.{ℕ, _<_, _≡_, refl, ap, Option, some, none, arith, leb-false, bool-cases}
 use Rattle.machine.specs.Words.{firstOf}
 use Rattle.machine.specs.State.{Machine, Act, Call, Outcome, Effect}
 use Rattle.machine.specs.State.Act.{connect, disconnect, packet, alarmInput, statusValue, aggregatedValue, tick, pump}
@@ -33,11 +33,6 @@ module _ (m : Machine) (c : Call) where
 
   pub number-done : numberOf m c ≡ none → IsDone m c
   number-done e = is-done (ap (λ (r : Outcome × Machine). r .0) (step-done e))
-
--- the first of a list that applies is not the first where it does not
-pub first-out : (n : ℕ) (b : Bool) (rest : Option ℕ) → pick b (some n) rest ≡ none → b ≡ false
-first-out n true rest e = absurd (let z : _≡_ {A = ℕ} 0 1 = cc in omega arith)
-first-out n false rest e = refl
 
 -- a packet's link is configured where number 2 is not given
 pub there : (m : Machine) (t : ℕ) (act : Act) → (firstOf (conditions m t act) ≡ some 2 → ⊥) → (l : ℕ) → packetLink act ≡ some l → l < m .setup .links

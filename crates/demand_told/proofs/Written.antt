@@ -18,11 +18,6 @@ use Rattle.demand_told.specs.Demand.{isTold, isAnAnswer, OneAnswer}
 use Rattle.demand_told.specs.Demand.OneAnswer.{acked, not-acked}
 
 -- ---- pump
-record-told : (t : Table) (id : Bytes) (x : Content) → isTold (recordMessage t id x) ≡ true
-record-told t id (ofAlarm i a) = refl
-record-told t id (ofStatus i v old time) = refl
-record-told t id (ofAggregated v time) = refl
-
 record-no-answer : (t : Table) (id : Bytes) (x : Content) → isAnAnswer (recordMessage t id x) ≡ false
 record-no-answer t id (ofAlarm i a) = refl
 record-no-answer t id (ofStatus i v old time) = refl

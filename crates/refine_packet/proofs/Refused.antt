@@ -20,7 +20,7 @@ use Rattle.refine_calls.specs.Abstracts.{Abstracts}
 use Rattle.refine_calls.specs.Calls.{SamePlan}
 use Rattle.refine_packet.proofs.Plans.{left, shut}
 use Rattle.refine_packet.specs.Taken.{SameTaken, questionOn}
-use Rattle.refine_packet.specs.Refused.{SameReasons, SameRefused}
+use Rattle.refine_packet.specs.Refused.{SameReasons}
 
 stays : (l : ℕ) (j : Json) (m : Machine) (r : String) → failsCheck r ≡ false → refuses l j m r ≡ effect m [] (refusal j r ∷ []) [] none
 unfolding refuses
@@ -74,6 +74,3 @@ module _ (s : Site) (m : Machine) (h : Abstracts s m) (l : ℕ) (b : l < m .setu
   by-verdict Good x r f = f refl
   by-verdict Missing x r f = reasons .missing-element
   by-verdict Bad x r f = reasons .bad-value
-
-pub same-refused : SameRefused
-same-refused = reasons

@@ -1,6 +1,6 @@
 -- Each reason of the code is the machine's: the same text, and the link closed by the same three. proofs/Refused.antt proves it.
 -- Assumes nothing.
-use Prim.Native.Nat.{ℕ, _<_}
+use Prim.Native.Nat.{ℕ}
 use Prim.Native.String.{String}
 use mathlib.Core.Option.{some}
 use Rattle.identity.specs.declared.Identity.{Identity}
@@ -24,7 +24,6 @@ use Rattle.packet_answer.specs.Taken.{
   busy,
 }
 use Rattle.machine.specs.State.{Machine}
-use Rattle.refine_calls.specs.Abstracts.{Abstracts}
 use Rattle.refine_packet.specs.Taken.{SameTaken, questionOn}
 
 module _ (s : Site) (m : Machine) (l t : ℕ) (id : Identity) (j : Json) where
@@ -45,6 +44,3 @@ module _ (s : Site) (m : Machine) (l t : ℕ) (id : Identity) (j : Json) where
     pub unknown-status : Same (notAcked s (questionOn l t id j) unknownStatus) "Unknown status"
     pub unknown-command : Same (notAcked s (questionOn l t id j) unknownCommand) "Unknown command"
     pub is-busy : Same (notAcked s (questionOn l t id j) busy) "Busy"
-
-abbrev pub SameRefused : Type 0
-SameRefused = (s : Site) (m : Machine) → Abstracts s m → (l : ℕ) → l < m .setup .links → (t : ℕ) (id : Identity) (j : Json) → SameReasons s m l t id j

@@ -124,9 +124,6 @@ place-cases {P} k h f g = by (eqb (getD pattern k 0) 45) refl (at placed shape t
           place = eqb→eq _ k (both-right (ltb ((getD shape k 0 - 48) / 2) 16) _ v);
         })
 
-dash-of : (bs : List ℕ) → charOf bs 45 ≡ 45
-dash-of bs = refl
-
 -- the character of a digit's place is a small digit
 digit-of : (bs : List ℕ) → SixteenBytes bs → (k c : ℕ) → Digit k c → Small (charOf bs c)
 digit-of bs v k c d =

@@ -10,7 +10,7 @@ use Rattle.json_find.specs.Lookup.{Found, member}
 use Rattle.json_find.specs.Lookup.Found.{found, missing}
 use Rattle.read_head.specs.declared.Verdict.{Verdict}
 use Rattle.read_head.specs.declared.Verdict.the-variants.{Good, Missing, Bad}
-use Rattle.read_head.specs.Word.{Word, absent, other, word, wordFor, said, saidOf, wordIn}
+use Rattle.read_head.specs.Word.{Word, absent, other, word, said, saidOf, wordIn}
 use Rattle.read_head.specs.Values.{worst, verdictOf}
 use Rattle.machine.specs.Words.{Bytes, _or_, maybe, isSome, orElse, any}
 use Rattle.machine.specs.Json.{named, shape, element, stringAt, stringOf}
@@ -61,9 +61,6 @@ usable d = both (leb (length d) 36) (ascii d)
 -- a test of strings passes none that cannot be used
 abbrev pub Sure : (Bytes → Bool) → Type 0
 Sure good = (d : Bytes) → good d ≡ true → usable d ≡ true
-
-pub sure-word : (good : Bytes → Bool) → Sure good → (d : Bytes) → good d ≡ true → wordFor d ≡ word d
-sure-word good sure d e = rw (sure d e)
 
 abbrev isString : (Bytes → Bool) → Json → Bool
 isString good v = fits (aString good) v
