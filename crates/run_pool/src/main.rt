@@ -1,14 +1,13 @@
-// Runs acts on a pool, case by case from standard input, and writes a line for each; tests/pools.py makes the cases and the
+// Runs acts on the pool of a site's words, case by case from standard input, and writes a line for each; tests/pools.py makes the cases and the
 // lines from a model of its own.
 use entry::Entry;
-use pool::Pool;
 use pool::Sought;
 use run_feed::Case;
-
-struct Turn {
-    pool: Pool,
-    more: bool,
-}
+use store_pool::change;
+use store_pool::issue;
+use store_pool::read;
+ghost use mathlib.Core.Path.{_≡_};
+ghost use lib.ListN.{length};
 
 fn entry_in(b: [u8; 40]) -> Entry {
     Entry {
@@ -22,14 +21,27 @@ fn entry_in(b: [u8; 40]) -> Entry {
     }
 }
 
-fn acted(kind: u8, b: [u8; 40], pool: Pool) -> Pool {
+// No record, nothing lost.
+fn empty(w: &mut [u64])
+    requires { ⌜ length (now w) ≡ 1173 ⌝ }
+{
+    let mut i: usize = 0;
+    while i < 1173 {
+        w[i] = 0;
+        i += 1;
+    }
+}
+
+fn act(kind: u8, b: [u8; 40], w: &mut [u64])
+    requires { ⌜ length (now w) ≡ 1173 ⌝ }
+{
     match kind {
-        b'0' => Pool::empty(),
-        b'i' => pool.issue(entry_in(b)),
-        b's' => pool.settle(run_feed::short(b, 0), run_feed::long(b, 2)),
-        b'm' => pool.mark_sent(run_feed::short(b, 0), run_feed::long(b, 2)),
-        b'u' => pool.unmark(run_feed::short(b, 0)),
-        _ => pool,
+        b'0' => empty(w),
+        b'i' => issue::issue(w, entry_in(b)),
+        b's' => change::settle(w, run_feed::short(b, 0), run_feed::long(b, 2)),
+        b'm' => change::mark_sent(w, run_feed::short(b, 0), run_feed::long(b, 2)),
+        b'u' => change::unmark(w, run_feed::short(b, 0)),
+        _ => {}
     }
 }
 
@@ -38,16 +50,20 @@ fn put_number(line: &mut [u8], at: usize, n: u64) -> usize {
     output::put_bytes(line, end, b" ")
 }
 
-fn put_count(line: &mut [u8], at: usize, pool: Pool, link: u16) -> usize {
-    let end = put_number(line, at, pool.held(link) as u64);
-    put_number(line, end, pool.lost(link))
+fn put_count(line: &mut [u8], at: usize, w: &[u64], link: u16) -> usize
+    requires { ⌜ length (now w) ≡ 1173 ⌝ }
+{
+    let end = put_number(line, at, read::held(w, link) as u64);
+    put_number(line, end, read::lost(w, link))
 }
 
-fn put_counts(line: &mut [u8], pool: Pool) -> usize {
-    let end = put_count(line, 0, pool, 0);
-    let end = put_count(line, end, pool, 1);
-    let end = put_count(line, end, pool, 2);
-    put_count(line, end, pool, 3)
+fn put_counts(line: &mut [u8], w: &[u64]) -> usize
+    requires { ⌜ length (now w) ≡ 1173 ⌝ }
+{
+    let end = put_count(line, 0, w, 0);
+    let end = put_count(line, end, w, 1);
+    let end = put_count(line, end, w, 2);
+    put_count(line, end, w, 3)
 }
 
 fn put_sought(line: &mut [u8], s: Sought) -> usize {
@@ -63,44 +79,46 @@ fn put_sought(line: &mut [u8], s: Sought) -> usize {
     }
 }
 
-fn said(kind: u8, b: [u8; 40], pool: Pool, line: &mut [u8]) -> usize {
+fn said(kind: u8, b: [u8; 40], w: &[u64], line: &mut [u8]) -> usize
+    requires { ⌜ length (now w) ≡ 1173 ⌝ }
+{
     match kind {
-        b'o' => put_sought(line, pool.oldest_unsent(run_feed::short(b, 0))),
+        b'o' => put_sought(line, read::oldest_unsent(w, run_feed::short(b, 0))),
         b'a' => put_sought(
             line,
-            pool.newest_alarm(run_feed::short(b, 0), run_feed::short(b, 2)),
+            read::newest_alarm(w, run_feed::short(b, 0), run_feed::short(b, 2)),
         ),
         b'k' => put_sought(
             line,
-            pool.ranked(run_feed::short(b, 0), run_feed::short(b, 2) as usize),
+            read::ranked(w, run_feed::short(b, 0), run_feed::short(b, 2) as usize),
         ),
-        _ => put_counts(line, pool),
+        _ => put_counts(line, w),
     }
 }
 
-fn taken(pool: Pool) -> Turn {
+// Whether there was a case, and its line was written.
+fn taken(w: &mut [u64]) -> bool
+    requires { ⌜ length (now w) ≡ 1173 ⌝ }
+{
     let mut body = [0u8; 64];
     let mut line = [0u8; 256];
     match run_feed::next(&mut body) {
         Case::Body(kind, n) => {
             let b = run_feed::forty(&body);
-            let next = acted(kind, b, pool);
-            let end = said(kind, b, next, &mut line);
-            let more = run_feed::say(&line, end);
-            Turn { pool: next, more }
+            act(kind, b, w);
+            let end = said(kind, b, w, &mut line);
+            run_feed::say(&line, end)
         }
-        Case::End => Turn { pool, more: false },
+        Case::End => false,
     }
 }
 
 fn main() {
-    let mut pool = Pool::empty();
+    let mut w = [0u64; 1173];
     let mut more = true;
     let mut turns = u64::MAX;
     while turns > 0 && more {
-        let t = taken(pool);
-        pool = t.pool;
-        more = t.more;
+        more = taken(&mut w);
         turns -= 1;
     }
 }

@@ -1,4 +1,4 @@
-// Reads site tables and looks things up in the last one, case by case from standard input, and writes a line for each;
+// Reads site tables and looks things up in the last one, as it is stored, case by case from standard input, and writes a line for each;
 // tests/tables.py makes the cases and the lines with a reader of its own.
 use label::Label;
 use run_feed::Case;
@@ -148,16 +148,16 @@ fn wide(b: u8) -> usize {
 }
 
 // The body is a component's number in a byte, and a code.
-fn alarm_in(t: SiteTable, body: &[u8]) -> Found {
+fn alarm_in(t: &[u8; 6178], body: &[u8]) -> Found {
     let n = body.len();
     if n < 1 {
         return Found::Nothing;
     }
-    t.find_alarm(body[0], &body[1..n])
+    store_table::find_alarm(t, body[0], &body[1..n])
 }
 
 // The body is a component's number in a byte, the length of a code in a byte, that code, and a name.
-fn status_in(t: SiteTable, body: &[u8]) -> Found {
+fn status_in(t: &[u8; 6178], body: &[u8]) -> Found {
     let n = body.len();
     if n < 2 {
         return Found::Nothing;
@@ -167,7 +167,7 @@ fn status_in(t: SiteTable, body: &[u8]) -> Found {
         return Found::Nothing;
     }
     let from = 2 + size;
-    t.find_status(body[0], &body[2..from], &body[from..n])
+    store_table::find_status(t, body[0], &body[2..from], &body[from..n])
 }
 
 fn acted(kind: u8, body: &[u8], read: TableRead) -> TableRead {
@@ -178,11 +178,12 @@ fn acted(kind: u8, body: &[u8], read: TableRead) -> TableRead {
 }
 
 fn said(kind: u8, body: &[u8], read: TableRead, line: &mut [u8]) -> usize {
-    let t = read.table;
+    let mut t = [0u8; 6178];
+    store_table::put(&mut t, read.table);
     match kind {
-        b'c' => put_found(line, t.find_component(body)),
-        b'a' => put_found(line, alarm_in(t, body)),
-        b's' => put_found(line, status_in(t, body)),
+        b'c' => put_found(line, store_table::find_component(&t, body)),
+        b'a' => put_found(line, alarm_in(&t, body)),
+        b's' => put_found(line, status_in(&t, body)),
         _ => put_read(line, read),
     }
 }

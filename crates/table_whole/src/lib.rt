@@ -1,4 +1,4 @@
-// The site table: read from bits that someone else made, and looked up.
+// The site table: read from bits that someone else made.
 ghost use mathlib.Core.Path.{_≡_};
 ghost use lib.ListN.{take};
 ghost use Rattle.label.specs.Padded.{padded};
@@ -6,10 +6,8 @@ ghost use Rattle.table_item.specs.Item.{noItem};
 ghost use Rattle.table_whole.specs.Memory.{noTable};
 ghost use Rattle.table_whole.specs.Reading.{laidOut, ownNames, isWhole, readTable, refused as refusedOf};
 ghost use Rattle.table_whole.specs.Reads.{Reads};
-ghost use Rattle.table_whole.specs.Lookup.{findComponent, findAlarm, findStatus};
 use answer::Refusal;
 use label::Label;
-use table_item::Found;
 use table_item::Item;
 use table_row::Kind;
 
@@ -167,27 +165,6 @@ impl SiteTable {
             return false;
         }
         self.own_names()
-    }
-
-    pub fn find_component(self, id: &[u8]) -> Found
-        ensures { λ r. ⌜ r ≡ findComponent self (now (id .entry)) ⌝ }
-    {
-        let components = self.components;
-        table_item::find_label(components, wide(self.componentcount), id)
-    }
-
-    pub fn find_alarm(self, component: u8, code: &[u8]) -> Found
-        ensures { λ r. ⌜ r ≡ findAlarm self component (now (code .entry)) ⌝ }
-    {
-        let alarms = self.alarms;
-        table_item::find_item(alarms, wide(self.alarmcount), component, code, b"")
-    }
-
-    pub fn find_status(self, component: u8, code: &[u8], name: &[u8]) -> Found
-        ensures { λ r. ⌜ r ≡ findStatus self component (now (code .entry)) (now (name .entry)) ⌝ }
-    {
-        let statuses = self.statuses;
-        table_item::find_item(statuses, wide(self.statuscount), component, code, name)
     }
 }
 
