@@ -1,5 +1,17 @@
 -- The words that the rules are written in.
 -- Assumes nothing.
+--
+-- How these files are read, for who knows C. A definition says what a value is; nothing is ever changed.
+--   f : A → B → C, then f a b = ..    f takes an A and a B and gives a C; the first line that fits counts (`abbrev`, `unfoldable`: for the checker)
+--   m .x, record { x = a; y = b }     field x of the record m; a record of these fields
+--   [], x ∷ xs, xs ++ ys              the empty list, x and then xs, one list behind the other
+--   some a, none; maybe d f o         an `Option`: there or not; f of what is there, else d. `orElse d o`: what is there, else d
+--   λ x. e; (a, b), p .0, p .1        the function that makes e of x; a pair, its parts
+--   ℕ, a - b                          numbers from 0 on of any size; 0 where b is above a
+--   ℤ, pos 2, negsuc 1                whole numbers: 2, -2 (negsuc n is -(n + 1))
+--   leb a b, ltb a b, eqb a b         a ≤ b, a < b, a = b, as true or false
+--   a ≡ b, A × B, A ⊎ B, A → ⊥        statements: a is b; A and B; A or B; not A
+-- A default that stands for what a packet asks for (`orElse 0 (alarmAsked m j)`) is never reached: `reasonOf` has refused the packet where it is not there.
 use Prim.Native.Nat.{ℕ, zero, suc}
 use Prim.Native.String.{String}
 use mathlib.Core.Bool.{Bool, true, false, not}
