@@ -34,7 +34,7 @@ def rate(supervisors, links, *options, seconds):
         peer = subprocess.Popen([supervisors, str(links), str(seconds), SITE, SXL], stdout=subprocess.PIPE, text=True)
         words = [word for port in peer.stdout.readline().split() for word in ("--supervisor", f"127.0.0.1:{port}")]
         options = [option.replace("ROOM", room) for option in options]
-        process = subprocess.Popen([PROGRAM, "--table", TABLE, *words, *options], stdin=subprocess.DEVNULL, stdout=subprocess.DEVNULL)
+        process = subprocess.Popen([PROGRAM, "--table", TABLE, "--link-rate", "0", *words, *options], stdin=subprocess.DEVNULL, stdout=subprocess.DEVNULL)
         try:
             said = peer.communicate(timeout=60 + 2 * seconds)[0]
             spent = Process.processor_seconds(process)
@@ -70,7 +70,8 @@ def flash():
     for interval in ("0", "1", "10", "60"):
         with tempfile.TemporaryDirectory() as room:
             trace, supervisor = pathlib.Path(room) / "trace", Supervisor(SITE, SXL)
-            process = Process(room, [supervisor], "--quiet", "--state", pathlib.Path(room) / "state", "--state-interval", interval, record=False)
+            process = Process(room, [supervisor], "--quiet", "--link-rate", "0", "--state", pathlib.Path(room) / "state", "--state-interval", interval,
+                              record=False)
             supervisor.wait_up()
             supervisor.ask("StatusSubscribe", **subscription())
             time.sleep(1)

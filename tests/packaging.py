@@ -18,7 +18,8 @@ CC, RUN = ROOT / "build" / "tools" / "cc", ROOT / "build" / "tools" / "run"
 PROGRAMS = ["rsmp-site", "rsmp-replay", "rsmp-table", "rsmp-week"]
 TREE = {*(f"bin/{name}" for name in PROGRAMS), *(f"share/man/man1/{name}.1" for name in PROGRAMS), "include/rsmp_site.h",
         "include/rsmp_week.h", "lib/librsmp_site.a", "lib/librsmp_week.a", "lib/pkgconfig/rsmp_site.pc", "lib/pkgconfig/rsmp_week.pc",
-        "lib/systemd/system/rsmp-site.service", *(f"share/bash-completion/completions/{name}" for name in PROGRAMS),
+        "lib/systemd/system/rsmp-site.service",
+        *(f"share/bash-completion/completions/{name}" for name in PROGRAMS),
         *(f"share/doc/rsmp-site/examples/{name}" for name in ("rsmp-site.conf", "rsmp-site.logrotate", "barrier.txt", "commands.txt", "move"))}
 # A program for each library, and the status it ends with.
 ENDS = {"rsmp_site": ("""#include <rsmp_site.h>
@@ -97,7 +98,7 @@ def judge_linking(place, room, library):
 def judge_modes(place):
     """Everybody may read what is installed, also where the umask is narrow."""
     for path in [place, *place.rglob("*")]:
-        wanted = 0o755 if path.is_dir() or path.parent.name == "bin" else 0o644
+        wanted = 0o755 if path.is_dir() or path.parent.name == "bin" or path.name == "move" else 0o644
         hold(path.stat().st_mode & 0o777 == wanted, f"{path} has the mode {path.stat().st_mode & 0o777:o}")
 
 

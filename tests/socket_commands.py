@@ -1,6 +1,8 @@
 """Commands over real sockets: a program is run for each, one after the other in the order in which they came over all links, and the site goes
 on meanwhile; what was acknowledged is run or told of."""
+import os
 import pathlib
+import signal
 import threading
 import time
 
@@ -157,7 +159,7 @@ def after_a_kill(room):
 exec 2>/dev/null
 echo "begin $4 $$" >>{notes}
 [ "$4" = 100 ] || exit 0
-(sleep 1.5; echo "late" >>{notes})
+(while [ ! -e {notes}.go ]; do sleep 0.1; done; echo "late" >>{notes})
 echo "end $4" >>{notes}
 """)
         program.chmod(0o755)
@@ -165,16 +167,17 @@ echo "end $4" >>{notes}
         process = started(room, [supervisor], "--on-command", program, *options, record=False)
         hold(supervisor.ask("CommandRequest", **commanding((*LIMIT, 100))) is True, "a command")
         wait(lambda: lines(), "the program")
-        time.sleep(0.2)
+        time.sleep(0.3)
         process.kill()
         supervisor.wait(lambda: supervisor.stream is None, "the kill")
         number = lines()[0].split()[2]
-        wait(lambda: not is_running(number), "the program to be killed with the site", 1)
+        wait(lambda: not is_running(number), "the program to be killed with the site")
         process = started(room, [supervisor], "--on-command", program, *options, record=False)
         hold(supervisor.ask("CommandRequest", **commanding((*LIMIT, 101))) is True, "a command after the restart")
+        process.wait_logged("waits, a program of a former start still runs: command ")
+        notes.with_suffix(".go").touch()
         wait(lambda: len(lines()) == 3, "the next program")
         hold([line.split()[:2] for line in lines()] == [["begin", "100"], ["late"], ["begin", "101"]], f"beside what a former program started: {lines()}")
-        hold(process.logged("waits, a program of a former start still runs: command ") == 1, "the log does not say why a command waits")
         process.quit()
         supervisor.wait(lambda: supervisor.stream is None, "the end")
     supervisor.close()
@@ -191,11 +194,14 @@ def is_running(number):
 def leaves_behind(room):
     """What a program leaves running when it ends does not hold up the next."""
     supervisor = Supervisor(SITE, SXL)
-    program = Program(room, "sleep 3 2>/dev/null &")
+    left = pathlib.Path(room) / "left"
+    program = Program(room, f"sleep 60 2>/dev/null & echo $! >>{left}")
     process = started(room, [supervisor], "--on-command", program.path, record=False)
     hold(supervisor.ask("CommandRequest", **commanding((*LIMIT, 100), (*LIMIT, 101), (*LIMIT, 102))) is True, "commands")
-    wait(lambda: program.ended() == 3, "programs beside what they left", 2)
+    wait(lambda: program.ended() == 3, "programs beside what they left")
     process.quit()
+    for number in left.read_text().split():
+        os.kill(int(number), signal.SIGKILL)
     supervisor.close()
 
 

@@ -160,7 +160,7 @@ def slow_disk(room):
         hold(process.order(order).startswith(("done", "link 0 holds 2")), order)
         time.sleep(0.25)
     took = time.monotonic() - began
-    hold(took < 3, f"four orders take {took:.1f} s while the disk does not answer")
+    hold(took < 10, f"four orders take {took:.1f} s while the disk does not answer")
     answering = os.open(new, os.O_RDONLY | os.O_NONBLOCK)
     new.unlink()
     process.wait_logged("the state cannot be written: ")  # a pipe cannot be synced
@@ -210,16 +210,16 @@ def drained(stream):
 
 def what_is_set_is_stored(room):
     """What the cabinet sets does not wait for the interval that the start or a supervisor began, and an alarm waits for none."""
-    supervisor, options = Supervisor(SITE, SXL), ("--state", pathlib.Path(room) / "state", "--state-interval", "60")
+    supervisor, state = Supervisor(SITE, SXL), pathlib.Path(room) / "state"
+    options = "--state", state, "--state-interval", "600"
     process = Process(room, [supervisor], *options, record=False)
     supervisor.wait_up()
     hold(supervisor.ask("AggregatedStatusRequest", cId=SITE) is True, "a request")
-    time.sleep(0.5)
-    hold(process.order(f"status {RELEASE} 77") == "done", "a status")
-    time.sleep(0.5)
-    for number in (3, 4):
-        hold(process.order(f"alarm {number} on") == "done", "an alarm")
-        time.sleep(0.4)
+    time.sleep(0.7)
+    for order in (f"status {RELEASE} 77", "alarm 3 on", "alarm 4 on"):
+        before = state.read_bytes()
+        hold(process.order(order) == "done", order)
+        wait(lambda: state.read_bytes() != before, f"{order}: the state")
     process.kill()
     supervisor.wait(lambda: not supervisor.up, "the kill")
     process = Process(room, [supervisor], *options, record=False)

@@ -17,7 +17,7 @@ const PAGE: usize = 4096;
 
 /// A file that is written over and over.
 pub struct Kept {
-    path: PathBuf,
+    pub path: PathBuf,
     in_turn: bool,
     slots: Option<Slots>,
 }
@@ -25,10 +25,6 @@ pub struct Kept {
 impl Kept {
     pub fn new(path: PathBuf, in_turn: bool) -> Kept {
         Kept { path, in_turn, slots: None }
-    }
-
-    pub fn path(&self) -> &Path {
-        &self.path
     }
 
     /// In place, with one sync; the first time, and where that does not do, by a new file.

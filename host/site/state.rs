@@ -1,6 +1,5 @@
 //! The site's bytes in a file, so that what is held and what is set survive a power loss. The file is replaced as a whole: it has the
-//! former site or the new one, never a part. Where every call is stored, the file has two places that are written in turn. A thread of its own
-//! writes it.
+//! former site or the new one, never a part. Where every call is stored, the file has two places that are written in turn. A thread of its own writes it.
 
 use crate::slots::{self, Kept};
 use crate::system::lock;
@@ -129,7 +128,7 @@ fn write_all(mut kept: Kept, shared: &Shared, told: Option<SyncSender<Event>>) {
                 let written = kept.write(&bytes);
                 let mut desk = locked(shared);
                 desk.tried = number;
-                desk.fault = written.err().map(|error| format!("{}: {}", kept.path().display(), error));
+                desk.fault = written.err().map(|error| format!("{}: {}", kept.path.display(), error));
                 shared.1.notify_all();
                 // One that finds no room finds the site awake.
                 let _ = told.as_ref().map(|events| events.try_send(Event::Stored));
@@ -174,8 +173,8 @@ impl Store {
             },
         };
         let shared = Shared::default();
-        let kept = Kept::new(path, interval.is_zero());
         let (of_writer, told) = (shared.clone(), Some(events).filter(|_| !interval.is_zero()));
+        let kept = Kept::new(path, interval.is_zero());
         thread::Builder::new().spawn(move || write_all(kept, &of_writer, told)).map_err(|error| error.to_string())?;
         let store = Store {
             interval,
