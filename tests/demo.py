@@ -100,7 +100,7 @@ def show(process, centre, workshop, motor):
     say("The workshop floods the site: it subscribes 640 times and answers nothing.")
     workshop.answers = False
     for _ in range(40):
-        workshop.send("StatusSubscribe", cId=NORTH, sS=subscription()["sS"] * 16)
+        workshop.send("StatusSubscribe", cId=NORTH, sS=subscription(change=None)["sS"] * 16)
     workshop.ask("StatusUnsubscribe", cId=NORTH, sS=[{"sCI": "S0101", "n": "release"}])
     release(process, 355)
     centre.wait(lambda: values(centre)[-1] == "355", "the value in the flood")
@@ -127,7 +127,7 @@ def report(centre):
 
 
 def main():
-    centre, workshop = Supervisor(SITE, SXL), Supervisor(SITE, SXL, offer="3.1.5")
+    centre, workshop = Supervisor(SITE, SXL), Supervisor(SITE, SXL, offer="3.1.4")
     with tempfile.TemporaryDirectory() as room:
         motor = Motor(room)
         process = Process(room, [centre, workshop], "--on-command", motor.program, table=WITH_COMMANDS)

@@ -98,6 +98,11 @@ class Talk:
         elif words == ["up", "again"]:
             hand.up(0)
             self.pump(0)
+        elif words[:2] == ["up", "with"]:
+            player.disconnect(0, hand.time)
+            hand.up(0, offer=tuple(words[2:]))
+            self.pump(0)
+            self.sent[0] = []
         elif words == ["silent"]:
             self.silent = True
         elif words[0] == "alarm":

@@ -63,7 +63,7 @@ class Life:
     """One start and the calls after it."""
 
     def __init__(self, source, player, kind):
-        self.source, self.player, self.supervisor = source, player, Supervisor(source, player)
+        self.source, self.player, self.supervisor = source, player, Supervisor(source, player, mixed=True)
         self.kind, self.weights = kind, {**ORDINARY, **LIVES[kind]}
         self.time, self.spent = 0, []
 

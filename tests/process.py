@@ -48,7 +48,9 @@ def told(reply):
 
 
 def subscription(name="release", code="S0101", rate="0", change=True):
-    return {"cId": NORTH, "sS": [{"sCI": code, "n": name, "uRt": rate, "sOc": change}]}
+    """To one status; in the edition before, without sOc, where `change` is None."""
+    said = {"sCI": code, "n": name, "uRt": rate}
+    return {"cId": NORTH, "sS": [said if change is None else {**said, "sOc": change}]}
 
 
 def commanding(*entries, component=NORTH):

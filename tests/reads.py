@@ -116,7 +116,7 @@ def head(kind):
     return [("mType", "rSMsg"), ("type", kind), ("mId", MID)]
 
 
-VERSION = head("Version") + [("RSMP", [{"vers": "3.1.5"}, {"vers": "3.2"}]), ("siteId", [{"sId": SITE}]), ("SXL", SXL)]
+VERSION = head("Version") + [("RSMP", [{"vers": "3.1.4"}, {"vers": "3.1.5"}, {"vers": "3.2"}]), ("siteId", [{"sId": SITE}]), ("SXL", SXL)]
 WATCHDOG = head("Watchdog") + [("wTs", "2015-06-08T12:01:39.654Z")]
 ALARM = head("Alarm") + [("cId", "AB+84001=860VA001"), ("aCId", "A0004"), ("aSp", "Suspend")]
 AGGREGATED = head("AggregatedStatusRequest") + [("cId", SITE)]
@@ -359,7 +359,7 @@ def lists():
 
 
 OFFERS = (("3.1.5",), ("3.2",), ("3.2.0",), ("3.2", "3.1.5"), ("3.1.5", "3.2.0"), ("3",), ("3.1",), ("3.2.1",),
-          ("3.10", "3.1.5"), (), ("4", "3.1.5", "3.1.4"), ("3.2", "3.2.0", "3.2"), ("2.1.5", "3.20"), ("255.255.255",), ("0",),
+          ("3.10", "3.1.5"), (), ("4", "3.1.5", "3.1.3"), ("3.1.4",), ("3.1.4", "3.2", "3.1.5"), ("3.1.5", "3.1.4.0"), ("3.1.4", "3.1.3"), ("3.2", "3.2.0", "3.2"), ("2.1.5", "3.20"), ("255.255.255",), ("0",),
           ("3.1.5",) * 16)
 
 
@@ -483,7 +483,7 @@ def some_version(source):
 
 def some_fields(source, kind):
     if kind == "Version":
-        vers = lambda: calm(source, [("vers", some_text(source, ("3.2", "3.1.5", "3.2.0", some_version(source)), VERSIONS))])
+        vers = lambda: calm(source, [("vers", some_text(source, ("3.2", "3.1.5", "3.1.4", "3.2.0", some_version(source)), VERSIONS))])
         site = lambda: calm(source, [("sId", text(SITE) if source.random() < 0.5 else some_label(source))])
         return [("RSMP", some_list(source, vers)), ("siteId", some_list(source, site)),
                 ("SXL", text(SXL) if source.random() < 0.7 else some_label(source))]

@@ -69,14 +69,14 @@ class Hand:
         """Answers the oldest awaited identity."""
         return self.tell(link, self.supervisor.answer(self.awaited(link)[0], kind))
 
-    def beating(self, link):
+    def beating(self, link, **theirs):
         self.connect(link)
         self.pump(link)
         self.answer(link)
-        self.tell(link, self.supervisor.version())
+        self.tell(link, self.supervisor.version(**theirs))
 
-    def up(self, link):
-        self.beating(link)
+    def up(self, link, **theirs):
+        self.beating(link, **theirs)
         self.pump(link)
         self.answer(link)
         self.tell(link, self.supervisor.watchdog(self.time))
@@ -274,7 +274,7 @@ def every_reason():
     tell(0, supervisor.version())
     tell(0, supervisor.watchdog(0))
     tell(0, supervisor.of_statuses("StatusRequest", 1))
-    for spoiled in (dict(offer=("3.1.4",)), dict(site="another"), dict(sxl="1.0.130")):
+    for spoiled in (dict(offer=("3.1.3",)), dict(site="another"), dict(sxl="1.0.130")):
         hand.pump(0)
         hand.answer(0)
         tell(0, supervisor.version(**spoiled))
@@ -498,6 +498,52 @@ def twin(name, key):
     return other
 
 
+def edition_before():
+    """Request 07: 3.1.4 is chosen where it is the latest that both have, and 3.2 wherever it stands; there a subscription has no sOc, uRt 0 is at each
+    change and any other number by interval only; over a break into the other edition, either way, subscriptions stay as they were made."""
+    hand = Hand()
+    player, component = hand.player, hand.supervisor.site.table.components[1].decode()
+    status = {"sCI": "S0001", "n": "release"}
+    offers = {0: ("3.1.3", "3.1.4"), 1: ("3.2", "3.1.4", "3.1.5")}
+    tell = lambda link, kind, **more: hand.tell(link, hand.supervisor.head(kind) + [("cId", component), ("sS", [{**status, **more}])])
+
+    def values():
+        for value in (190, 190, 340):
+            hand.time += 1
+            player.status(1, value, hand.time)
+        for later in (4997, 1, 1, 5000):
+            hand.time += later
+            player.tick(hand.time)
+        player.counts()
+        for link in (0, 1):
+            hand.sent_out(link)
+
+    for link in (0, 1):
+        hand.up(link, offer=offers[link])
+        hand.sent_out(link)
+    player.readings()
+    for entry in (dict(uRt="0"), dict(), dict(uRt="2.5", sOc=True), dict(uRt=0), dict(uRt="86401"), dict(uRt="0", sOc=False), dict(uRt="5", sOc=True),
+                  dict(uRt="5", sOc="x"), dict(uRt="86400")):
+        for link in (0, 1):
+            tell(link, "StatusSubscribe", **entry)
+    for again in (dict(uRt="0", sOc=False), dict(uRt="5", sOc=True), dict(uRt="0", sOc=True)):
+        for link in (0, 1):
+            tell(link, "StatusSubscribe", **again)
+        values()
+    for link in (0, 1):
+        player.disconnect(link, hand.time)
+        hand.up(link, offer=offers[1 - link])
+    values()
+    for link in (0, 1):
+        tell(link, "StatusRequest")
+        tell(link, "StatusUnsubscribe")
+    values()
+    player.disconnect(1, hand.time)
+    hand.up(1, offer=("3.1.4", "3.1.5"))
+    tell(1, "StatusSubscribe", uRt="0")
+    return hand.done()
+
+
 def equal_marks():
     """Names that differ and have equal marks with the key of their own call, its first four random bytes: each is told from the other, whether it
     is an element that is looked for or not, and one that comes twice among them is found."""
@@ -649,7 +695,7 @@ def commands_of_edition_1():
 
 STORED = (start_limits, checks_in_order, without_packets, sequence_end, time_end, whole_life, decimals_of_a_watchdog, awaited_too_long,
           lengths, every_reason, numbers_of_a_link, closing_answers, alarm_orders, errors_met, filled_pool, late_answer, old_is_old,
-          many_members, equal_marks, editions, commands, commands_refused, commands_of_edition_1)
+          edition_before, many_members, equal_marks, editions, commands, commands_refused, commands_of_edition_1)
 
 
 def texts(player):

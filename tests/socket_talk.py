@@ -68,6 +68,31 @@ def conversation(room):
     return judged(process, supervisors)
 
 
+def edition_before(room):
+    """Request 07: a supervisor that stops at 3.1.4, and what it made stays when it comes back with 3.2."""
+    older = Supervisor(SITE, SXL, offer="3.1.4")
+    process = Process(room, [older])
+    older.wait_up()
+    hold("link 0 Up, RSMP 3.1.4" in process.order("links"), "3.1.4 is not chosen")
+    hold(older.ask("StatusSubscribe", **subscription(change=None)) is True, "a subscription without sOc")
+    hold(older.ask("StatusSubscribe", **subscription(rate="2.5", change=None)) == "Bad value", "decimals of uRt")
+    told = lambda: [entry["s"] for said in older.of("StatusUpdate") for entry in said["sS"]]
+    for value in ("190", "340"):
+        hold(process.order(f"status {RELEASE} {value}") == "done", "the value")
+        older.wait(lambda: value in told(), f"{value} at its change")
+    older.offer = "3.2"
+    older.cut()
+    older.wait(lambda: len(older.connections) >= 2, "the link anew")
+    older.wait_up()
+    hold("link 0 Up, RSMP 3.2.0" in process.order("links"), "3.2 is not chosen")
+    process.order(f"status {RELEASE} 350")
+    older.wait(lambda: "350" in told(), "350 at its change")
+    hold(older.ask("StatusSubscribe", **subscription(change=None)) == "Missing element", "a subscription without sOc under 3.2")
+    process.quit()
+    older.close()
+    return judged(process, [older])
+
+
 def cut_and_back(process, primary):
     """What is issued while a link is down arrives when it is back."""
     before = len(primary.of("StatusUpdate"))
@@ -166,7 +191,7 @@ def strict_greeting(room):
     process = Process(room, [strict], "--period", "3600")
     strict.accept()
     version = strict.next("Version", "RSMP", "siteId", "SXL")
-    hold(version["RSMP"] == [{"vers": "3.1.5"}, {"vers": "3.2"}] and version["siteId"] == [{"sId": SITE}] and version["SXL"] == SXL, f"{version}")
+    hold(version["RSMP"] == [{"vers": "3.1.4"}, {"vers": "3.1.5"}, {"vers": "3.2"}] and version["siteId"] == [{"sId": SITE}] and version["SXL"] == SXL, f"{version}")
     hold(process.order("alarm 2 on") == "done", "an alarm before the greeting")
     strict.silence("before our Version is acknowledged")
     strict.acknowledge(version)
@@ -203,4 +228,4 @@ def judged(process, supervisors):
             "the rest held or lost")
 
 
-TESTS = [conversation, control_socket, strict_greeting]
+TESTS = [conversation, edition_before, control_socket, strict_greeting]

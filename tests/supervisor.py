@@ -8,7 +8,8 @@ from packets import damaged
 LONGEST = 4096
 ANSWER, NO_ANSWER = "MessageAck", "MessageNotAck"
 OFFERS = (("3.2",), ("3.1.5",), ("3.2.0",), ("3.1.5", "3.2"), ("3.2", "3.1.5"), ("3.1.5", "3.2.0", "4"), ("3.1.4", "3.2"))
-FAILED_OFFERS = (("3.1.4",), ("3",), ("3.2.1",), ("3.3", "2.1.5"), ())
+OLDER_OFFERS = (("3.1.4",), ("3.1.4", "3.1.3"), ("3.2", "3.1.4", "3.1.5"), ("3.1.5", "3.1.4"))
+FAILED_OFFERS = (("3.1.3",), ("3",), ("3.2.1",), ("3.3", "2.1.5"), ())
 RATES = (("0", True), ("1", False), ("1", True), ("5", False), ("60", True), ("86400", False), ("2", False))
 
 
@@ -17,10 +18,10 @@ def new_identity(source):
 
 
 class Supervisor:
-    """The far end of the links of a player's site."""
+    """The far end of the links of a player's site; of mixed editions where it is told so."""
 
-    def __init__(self, source, player):
-        self.source, self.player = source, player
+    def __init__(self, source, player, mixed=False):
+        self.source, self.player, self.mixed = source, player, mixed
 
     @property
     def site(self):
@@ -37,8 +38,11 @@ class Supervisor:
         if self.source.random() < 0.2:
             sites.insert(self.source.randrange(2), "another site")
         return self.head("Version") + [
-            ("RSMP", [{"vers": version} for version in (self.source.choice(OFFERS) if offer is None else offer)]),
+            ("RSMP", [{"vers": version} for version in (self.some_offer() if offer is None else offer)]),
             ("siteId", [{"sId": one} for one in sites]), ("SXL", sxl or table.sxl.decode())]
+
+    def some_offer(self):
+        return self.source.choice(OLDER_OFFERS if self.mixed and self.source.random() < 0.5 else OFFERS)
 
     def failing_version(self):
         way = self.source.randrange(3)
@@ -98,7 +102,10 @@ class Supervisor:
         if kind != "StatusSubscribe":
             return {"sCI": code, "n": name}
         seconds, change = rate or self.source.choice(RATES)
-        return {"sCI": code, "n": name, "uRt": seconds, "sOc": change}
+        said = {"sCI": code, "n": name, "uRt": seconds, "sOc": change}
+        if self.mixed and rate is None and self.source.random() < 0.3:
+            said = self.source.choice(({**said, "uRt": "0"}, {**said, "sOc": "x"}, {key: said[key] for key in ("sCI", "n", "uRt")}))
+        return said
 
     def value_for(self, row):
         """A value in a command's range, at its ends or, now and then, just or far outside."""

@@ -59,7 +59,7 @@ def pair(kind, body, text, expected):
 
 def version(identity, site, sxl):
     return pair("V", fields(identity, labels=labelled(site, sxl)).hex(), message.version(str(identity), site, sxl),
-                {"type": "Version", "mId": str(identity), "RSMP": [{"vers": "3.1.5"}, {"vers": "3.2"}],
+                {"type": "Version", "mId": str(identity), "RSMP": [{"vers": "3.1.4"}, {"vers": "3.1.5"}, {"vers": "3.2"}],
                  "siteId": [{"sId": site}], "SXL": sxl})
 
 

@@ -16,7 +16,8 @@ INTEGER = re.compile(r"0|-?[1-9][0-9]*")
 ANSWERS = ("MessageAck", "MessageNotAck")
 STATUS_TYPES = ("StatusRequest", "StatusSubscribe", "StatusUnsubscribe")
 TAKEN = ("Version", "Watchdog", "Alarm", "AggregatedStatusRequest") + STATUS_TYPES + ("CommandRequest",)
-OFFERED = ("3.1.5", "3.2")
+OFFERED = ("3.1.4", "3.1.5", "3.2")
+OLDER = (3, 1, 4)
 
 
 # Reading.
@@ -169,9 +170,10 @@ def aggregated_fields(fields):
     return {"component": fields["cId"]}
 
 
-def status_fields(fields, subscribing):
+def status_fields(fields, subscribing, older):
+    """Request 07: on a link of the edition before a subscription has no sOc; uRt 0 is at each change, any other number by interval only."""
     need(fields, "cId", "sS")
-    need_entries(fields["sS"], *(("sCI", "n", "uRt", "sOc") if subscribing else ("sCI", "n")))
+    need_entries(fields["sS"], "sCI", "n", *(("uRt",) if subscribing else ()), *(("sOc",) if subscribing and not older else ()))
     good(is_label(fields["cId"]))
     good_list(fields["sS"])
     entries = []
@@ -179,7 +181,8 @@ def status_fields(fields, subscribing):
         good(is_label(entry["sCI"]) and is_label(entry["n"]))
         rate, change = None, None
         if subscribing:
-            rate, change = read_seconds(entry["uRt"]), entry["sOc"]
+            rate = read_seconds(entry["uRt"])
+            change = rate == 0 if older else entry["sOc"]
             good(rate is not None and isinstance(change, bool) and (rate > 0 or change))
         entries.append((entry["sCI"], entry["n"], rate, change))
     return {"component": fields["cId"], "entries": entries}
@@ -199,8 +202,8 @@ def command_fields(fields):
     return {"component": fields["cId"], "entries": entries}
 
 
-def fields_of(kind, fields):
-    """The fields of a packet of a taken type; Reason where one is missing or bad."""
+def fields_of(kind, fields, older=False):
+    """The fields of a packet of a taken type, on a link of the edition before or not; Reason where one is missing or bad."""
     if kind == "Version":
         return version_fields(fields)
     if kind == "Watchdog":
@@ -211,7 +214,7 @@ def fields_of(kind, fields):
         return aggregated_fields(fields)
     if kind == "CommandRequest":
         return command_fields(fields)
-    return status_fields(fields, kind == "StatusSubscribe")
+    return status_fields(fields, kind == "StatusSubscribe", older)
 
 
 def head_of(packet):

@@ -285,7 +285,7 @@ class Site:
             raise message.Reason("Unexpected")
         if one.phase == links_.BEATING and kind != "Watchdog":
             raise message.Reason("Not ready")
-        said = message.fields_of(kind, fields)
+        said = message.fields_of(kind, fields, one.chosen == message.OLDER)
         answer = message.ack(received) + FORM_FEED
         return getattr(self, "take_" + kind)(link, time, random, said, answer)
 

@@ -7,6 +7,7 @@ use identity::Identity;
 use label::Label;
 use read_head::Class;
 use read_head::Kind;
+use read_lists::Asking;
 use run_feed::Case;
 use write_message::AlarmState;
 use write_message::Value;
@@ -63,10 +64,10 @@ fn component_said(s: &[u8], places: &[usize]) -> u64
     l.length as u64
 }
 
-fn entries_said(s: &[u8], places: &[usize], subscribing: bool) -> u64
+fn entries_said(s: &[u8], places: &[usize], asking: Asking) -> u64
     requires { ⌜ Indexed (now s) (now places) ⌝ }
 {
-    let f = read_lists::read_status(s, places, subscribing);
+    let f = read_lists::read_status(s, places, asking);
     f.count as u64
 }
 
@@ -85,9 +86,9 @@ fn said_by(s: &[u8], places: &[usize], k: Kind) -> u64
         Kind::Watchdog => time_said(s, places),
         Kind::Alarm => order_said(s, places),
         Kind::AggregatedStatusRequest => component_said(s, places),
-        Kind::StatusRequest => entries_said(s, places, false),
-        Kind::StatusSubscribe => entries_said(s, places, true),
-        Kind::StatusUnsubscribe => entries_said(s, places, false),
+        Kind::StatusRequest => entries_said(s, places, Asking::Plain),
+        Kind::StatusSubscribe => entries_said(s, places, Asking::Full),
+        Kind::StatusUnsubscribe => entries_said(s, places, Asking::Plain),
         Kind::CommandRequest => commands_said(s, places),
         Kind::Unexpected => 0,
     }

@@ -1,6 +1,18 @@
 -- The fields of a StatusRequest that is not refused: labels, and 16 entries at most; and the entries told.
 -- Assumes nothing.
-use Rattle.basis.proofs.Std.{ℕ, zero, suc, _+_, _≤_, _<_, _≡_, refl, sym, _∙_, ap, subst, Bool, true, List, [], _∷_, _++_, _⊎_, inl, inr, arith, ltb-true, ltb, length, getD, set, length-set, length-append, length-replicate, getD-set-same, getD-set-other, text, picked, eq-or-ne}
+use Prim.Native.Nat.{ℕ, zero, suc, _+_, _≤_, _<_}
+use mathlib.Core.Path.{_≡_, refl, sym, _∙_, ap, subst}
+use mathlib.Core.Bool.{Bool, true, false}
+use mathlib.Core.List.{List, [], _∷_, _++_}
+use mathlib.Core.Logic.{_⊎_, inl, inr}
+use native.Mathlib.Omega.{arith}
+use borrow.Author.Tests.{ltb-true}
+use lib.Dec.{ltb, eqb}
+use lib.ListN.{length, getD, set, length-set, length-append, length-replicate}
+use lib.Seq.{getD-set-same, getD-set-other}
+use Rattle.basis.specs.Pick.{pick}
+use Rattle.basis.specs.Text.{text}
+use Rattle.basis.proofs.Cases.{picked, bool-cases, eq-or-ne}
 use Rattle.number.specs.Alphabet.{isLabel}
 use Rattle.label.specs.Label.{labelOf, textOf}
 use Rattle.json_value.specs.Reader.{skipWs}
@@ -18,7 +30,9 @@ use Rattle.read_lists.specs.declared.StatusList.{StatusList}
 use Rattle.read_lists.specs.declared.StatusFields.{StatusFields}
 use Rattle.read_lists.specs.Items.{Item, Items, absent as no-list, other as no-such-list, items, listAt}
 use Rattle.read_lists.specs.Gather.{gather}
-use Rattle.read_lists.specs.Status.{changed, entryOf, noEntry, gotSeconds, plainEntry, fullEntry, entryOfItem, noStatuses, pushEntry, statusesOf, statusFrom, statusAt}
+use Rattle.read_lists.specs.declared.Asking.{Asking}
+use Rattle.read_lists.specs.declared.Asking.the-variants.{Plain, Full, Older}
+use Rattle.read_lists.specs.Status.{changed, entryOf, noEntry, gotSeconds, entryBy, entryOfItem, noStatuses, pushEntry, statusesOf, statusFrom, statusBy, statusAt}
 use Rattle.packet_lookup.specs.declared.Sought.{Sought}
 use Rattle.packet_lookup.specs.declared.Sought.the-variants.{Is, Nothing}
 use Rattle.packet_lookup.specs.Sought.{statusSought, entryAt}
@@ -75,15 +89,18 @@ entry-good c n u o a b e =
     let both = worst-left (worst (c .verdict) (n .verdict)) (worst (u .verdict) (changed (u .number) o)) e in
     record { code = a (worst-left (c .verdict) (n .verdict) both); name = b (worst-right (c .verdict) (n .verdict) both) }
 
-item-good : (subscribing : Bool) (x : Item) → GoodEntry (entryOfItem subscribing x)
-item-good subscribing x =
-    picked GoodEntry (x .object) _ _
-    (λ e. picked GoodEntry subscribing (fullEntry (x .words) (x .flags)) (plainEntry (x .words))
-    (λ t. entry-good (gotLabel (x .words (text "sCI"))) (gotLabel (x .words (text "n"))) (gotSeconds (x .words (text "uRt"))) (x .flags (text "sOc"))
-    (got-label (x .words (text "sCI"))) (got-label (x .words (text "n"))))
-    (λ t. entry-good (gotLabel (x .words (text "sCI"))) (gotLabel (x .words (text "n"))) (record { verdict = Good; number = 0 }) (IsFlag true)
-    (got-label (x .words (text "sCI"))) (got-label (x .words (text "n")))))
-    (λ e. λ g. absurd (omega (arith, ap which g)))
+module _ (f : List ℕ → Word) where
+  found-good : (u : GotNumber) (o : Flag) → GoodEntry (entryOf (gotLabel (f (text "sCI"))) (gotLabel (f (text "n"))) u o)
+  found-good u o = entry-good (gotLabel (f (text "sCI"))) (gotLabel (f (text "n"))) u o (got-label (f (text "sCI"))) (got-label (f (text "n")))
+
+  by-asking : (asking : Asking) (g : List ℕ → Flag) → GoodEntry (entryBy asking f g)
+  by-asking Plain g = found-good (record { verdict = Good; number = 0 }) (IsFlag true)
+  by-asking Full g = found-good (gotSeconds (f (text "uRt"))) (g (text "sOc"))
+  by-asking Older g = found-good (gotSeconds (f (text "uRt"))) (IsFlag (eqb (gotSeconds (f (text "uRt")) .number) 0))
+
+item-good : (asking : Asking) (x : Item) → GoodEntry (entryOfItem asking x)
+item-good asking x =
+    picked GoodEntry (x .object) _ _ (λ e. by-asking (x .words) asking (x .flags)) (λ e. λ g. absurd (omega (arith, ap which g)))
 
 pub record Listed (l : StatusList) : Type 0 where
   pub few : l .count ≤ 16
@@ -118,15 +135,15 @@ push-listed l g h p =
     at e i j (inr s) room =
         subst Labelled (sym (getD-set-other (l .entries) (l .count) i (g .entry) noEntry s)) (h .good (worst-left (l .verdict) (g .verdict) e) i (omega (arith, j, s)))
 
-gather-listed : (subscribing : Bool) (l : StatusList) (xs : List Item) → Listed l → Listed (gather (λ (a : StatusList) (x : Item). pushEntry a (entryOfItem subscribing x)) l xs)
+gather-listed : (asking : Asking) (l : StatusList) (xs : List Item) → Listed l → Listed (gather (λ (a : StatusList) (x : Item). pushEntry a (entryOfItem asking x)) l xs)
 unfolding gather
-gather-listed subscribing l [] h = h
-gather-listed subscribing l (x ∷ xs) h = gather-listed subscribing (pushEntry l (entryOfItem subscribing x)) xs (push-listed l (entryOfItem subscribing x) h (item-good subscribing x))
+gather-listed asking l [] h = h
+gather-listed asking l (x ∷ xs) h = gather-listed asking (pushEntry l (entryOfItem asking x)) xs (push-listed l (entryOfItem asking x) h (item-good asking x))
 
-statuses-listed : (subscribing : Bool) (i : Items) → Listed (statusesOf subscribing i)
-statuses-listed subscribing no-list = nothing-listed Missing
-statuses-listed subscribing no-such-list = nothing-listed Bad
-statuses-listed subscribing (items xs) = gather-listed subscribing (noStatuses Good) xs (nothing-listed Good)
+statuses-listed : (asking : Asking) (i : Items) → Listed (statusesOf asking i)
+statuses-listed asking no-list = nothing-listed Missing
+statuses-listed asking no-such-list = nothing-listed Bad
+statuses-listed asking (items xs) = gather-listed asking (noStatuses Good) xs (nothing-listed Good)
 
 -- the fields of a packet that names a component and its entries well
 pub record GoodFields (f : StatusFields) : Type 0 where
@@ -142,11 +159,11 @@ fields-from c l a h =
       entries = λ e. h .good (worst-right (c .verdict) (l .verdict) e);
     }
 
-pub fields-good : (subscribing : Bool) (packet : List ℕ) → GoodFields (statusAt subscribing packet)
+pub fields-good : (asking : Asking) (packet : List ℕ) → GoodFields (statusAt asking packet)
 unfolding statusAt
-fields-good subscribing packet =
-    fields-from (gotLabel (wordAt (skipWs packet) (text "cId"))) (statusesOf subscribing (listAt (skipWs packet) (text "sS")))
-    (got-label (wordAt (skipWs packet) (text "cId"))) (statuses-listed subscribing (listAt (skipWs packet) (text "sS")))
+fields-good asking packet =
+    fields-from (gotLabel (wordAt (skipWs packet) (text "cId"))) (statusesOf asking (listAt (skipWs packet) (text "sS")))
+    (got-label (wordAt (skipWs packet) (text "cId"))) (statuses-listed asking (listAt (skipWs packet) (text "sS")))
 
 -- ---- the entries told
 pub formed-behind : (xs : List Status) (x : Status) → FormedStatuses xs → FormedStatus x → FormedStatuses (xs ++ (x ∷ []))

@@ -18,6 +18,7 @@ use Rattle.read_head.specs.declared.Class.the-variants.{Ignored as NoClass, Ack
 use Rattle.read_head.specs.Head.{headAt}
 use Rattle.read_head.specs.Small.{watchdogAt, aggregatedAt, alarmAt}
 use Rattle.read_lists.specs.Version.{versionAt}
+use Rattle.read_lists.specs.declared.Asking.the-variants.{Plain}
 use Rattle.read_lists.specs.Status.{statusAt}
 use Rattle.read_commands.specs.Command.{commandAt}
 use Rattle.write_message.specs.Message.{Message}
@@ -29,6 +30,7 @@ use Rattle.site.specs.Call.{Plan, Gives, stepOf, writtenTo}
 use Rattle.call_laws.specs.Numbers.{conditions}
 use Rattle.call_laws.proofs.Given.{numbers}
 use Rattle.call_laws.proofs.Stepped.{steps}
+use Rattle.packet_subscribe.specs.Subscribing.{askingOn}
 use Rattle.packet_answer.specs.declared.Question.{Question}
 use Rattle.packet_answer.specs.Taken.{Taken, notAcked, missingElement, badValue, unexpected, notReady}
 use Rattle.call_pump.specs.Pump.{pumpRefuses, pumpPlan}
@@ -64,9 +66,9 @@ module _ (s : Site) (q : Question) (h : SoundAt (q .time) s) (linked : q .link <
   kind-keeps Watchdog = parts .watchdog s q h (watchdogAt p)
   kind-keeps Alarm = parts .alarm s q h (alarmAt p)
   kind-keeps AggregatedStatusRequest = parts .aggregated s q h (aggregatedAt p)
-  kind-keeps StatusRequest = parts .status s q h (statusAt false p)
-  kind-keeps StatusSubscribe = parts .subscribing s q h linked true (statusAt true p)
-  kind-keeps StatusUnsubscribe = parts .subscribing s q h linked false (statusAt false p)
+  kind-keeps StatusRequest = parts .status s q h (statusAt Plain p)
+  kind-keeps StatusSubscribe = parts .subscribing s q h linked true (statusAt (askingOn (linkAt s (q .link))) p)
+  kind-keeps StatusUnsubscribe = parts .subscribing s q h linked false (statusAt Plain p)
   kind-keeps CommandRequest = parts .command s q h (commandAt p)
   kind-keeps Unexpected = parts .refused s q h unexpected
 
@@ -99,8 +101,8 @@ module _ (s : Site) (q : Question) (h : SoundAt (q .time) s) (sixteen : SixteenB
     kind-sends Alarm = plans .alarm s q h sixteen r (alarmAt p)
     kind-sends AggregatedStatusRequest = plans .aggregated s q h sixteen r (aggregatedAt p)
     kind-sends StatusRequest = plans .status s q h sixteen r p
-    kind-sends StatusSubscribe = plans .subscribing true s q r (statusAt true p)
-    kind-sends StatusUnsubscribe = plans .subscribing false s q r (statusAt false p)
+    kind-sends StatusSubscribe = plans .subscribing true s q r (statusAt (askingOn (linkAt s (q .link))) p)
+    kind-sends StatusUnsubscribe = plans .subscribing false s q r (statusAt Plain p)
     kind-sends CommandRequest = plans .command s q h sixteen r p
     kind-sends Unexpected = plans .refused s q r unexpected tt
 

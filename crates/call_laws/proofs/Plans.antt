@@ -37,6 +37,7 @@ use Rattle.read_head.specs.declared.GotLabel.{GotLabel}
 use Rattle.read_head.specs.declared.GotTime.{GotTime}
 use Rattle.read_lists.specs.declared.VersionFields.{VersionFields}
 use Rattle.read_lists.specs.declared.StatusFields.{StatusFields}
+use Rattle.read_lists.specs.declared.Asking.the-variants.{Plain}
 use Rattle.read_lists.specs.Status.{statusAt}
 use Rattle.read_commands.specs.declared.CommandFields.{CommandFields}
 use Rattle.read_commands.specs.Command.{commandAt}
@@ -247,8 +248,8 @@ module _ (s : Site) (q : Question) (r : Received (q .received .bytes)) where
         (λ e. picked Sends (passes s f x) (unlessBusy s q (replied s q m)) (notAcked s q unknownStatus)
         (λ t. replied-sends m (response-formed x f g e) (response-few x f g)) (λ t. a-reason (q .received .bytes) r unknownStatus tt))
 
-    status-sends : (packet : List ℕ) → Sends (statusTaken s q (statusAt false packet))
-    status-sends packet = fields-send (statusAt false packet) (fields-good false packet)
+    status-sends : (packet : List ℕ) → Sends (statusTaken s q (statusAt Plain packet))
+    status-sends packet = fields-send (statusAt Plain packet) (fields-good Plain packet)
 
     command-formed : (x : Sought) (f : CommandFields) → GoodCommands f → f .verdict ≡ Good → Formed (commandResponse (q .time) (q .identity .bytes) x f)
     unfolding commandResponse

@@ -31,6 +31,7 @@ use Rattle.read_head.specs.declared.AlarmFields.{AlarmFields}
 use Rattle.read_head.specs.Head.{headAt}
 use Rattle.read_lists.specs.declared.VersionFields.{VersionFields}
 use Rattle.read_lists.specs.declared.StatusFields.{StatusFields}
+use Rattle.read_lists.specs.declared.Asking.the-variants.{Plain}
 use Rattle.read_lists.specs.Status.{statusAt}
 use Rattle.read_commands.specs.Command.{commandAt}
 use Rattle.site.specs.declared.Site.{Site}
@@ -88,7 +89,7 @@ pub record Plans : Type 0 where
       → Sendable (aggregatedTaken s q f .plan .messages)
   -- a StatusRequest and a CommandRequest, their fields read from the packet's bytes
   pub status : (s : Site) (q : Question) → SoundAt (q .time) s → SixteenBytes (q .identity .bytes) → Received (q .received .bytes) → (packet : List ℕ)
-      → Sendable (statusTaken s q (statusAt false packet) .plan .messages)
+      → Sendable (statusTaken s q (statusAt Plain packet) .plan .messages)
   pub command : (s : Site) (q : Question) → SoundAt (q .time) s → SixteenBytes (q .identity .bytes) → Received (q .received .bytes) → (packet : List ℕ)
       → Sendable (commandTaken s q (commandAt packet) .plan .messages)
 

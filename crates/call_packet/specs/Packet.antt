@@ -24,6 +24,7 @@ use Rattle.read_head.specs.declared.Head.{Head}
 use Rattle.read_head.specs.Head.{kindNumber, headAt}
 use Rattle.read_head.specs.Small.{watchdogAt, aggregatedAt, alarmAt}
 use Rattle.read_lists.specs.Version.{versionAt}
+use Rattle.read_lists.specs.declared.Asking.the-variants.{Plain}
 use Rattle.read_lists.specs.Status.{statusAt}
 use Rattle.read_commands.specs.Command.{commandAt}
 use Rattle.site.specs.declared.Site.{Site}
@@ -36,7 +37,7 @@ use Rattle.packet_greet.specs.Version.{versionTaken}
 use Rattle.packet_greet.specs.Watchdog.{watchdogTaken}
 use Rattle.packet_alarm.specs.Orders.{alarmTaken, aggregatedTaken}
 use Rattle.packet_status.specs.StatusReply.{statusTaken}
-use Rattle.packet_subscribe.specs.Subscribing.{subscribingTaken}
+use Rattle.packet_subscribe.specs.Subscribing.{askingOn, subscribingTaken}
 use Rattle.packet_command.specs.Commanding.{commandTaken}
 
 abbrev pub isVersion : Kind → Bool
@@ -80,9 +81,9 @@ kindTaken s q p Version = versionTaken s q (versionAt p)
 kindTaken s q p Watchdog = watchdogTaken s q (watchdogAt p)
 kindTaken s q p Alarm = alarmTaken s q (alarmAt p)
 kindTaken s q p AggregatedStatusRequest = aggregatedTaken s q (aggregatedAt p)
-kindTaken s q p StatusRequest = statusTaken s q (statusAt false p)
-kindTaken s q p StatusSubscribe = subscribingTaken true s q (statusAt true p)
-kindTaken s q p StatusUnsubscribe = subscribingTaken false s q (statusAt false p)
+kindTaken s q p StatusRequest = statusTaken s q (statusAt Plain p)
+kindTaken s q p StatusSubscribe = subscribingTaken true s q (statusAt (askingOn (linkAt s (q .link))) p)
+kindTaken s q p StatusUnsubscribe = subscribingTaken false s q (statusAt Plain p)
 kindTaken s q p CommandRequest = commandTaken s q (commandAt p)
 kindTaken s q p Unexpected = notAcked s q unexpected
 

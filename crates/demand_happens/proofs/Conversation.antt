@@ -53,16 +53,16 @@ greets-example =
     (record { marked = refl; named = text "01010101-0101-4101-8101-010101010101"; names = refl; ours = refl })
     (meanwhile (elsewhere refl (λ e. absurd (connect-no-tick _ e)))
     (their-version {ours = acknowledged} refl (record { timely = timely _ (noon + 29999) refl refl; roomy = lit≤ tt; short = leb-true _ 4096 refl; reads = refl })
-    (record { marked = refl; readable = refl; complete = refl; good = refl })
+    (record { marked = refl; readable = refl; complete = λ older. refl; good = λ older. refl })
     (good-version _ _ refl refl refl refl)
     (their-watchdog (record { timely = timely _ (noon + 30000) refl refl; roomy = lit≤ tt; short = leb-true _ 4096 refl; reads = refl })
-    (record { marked = refl; readable = refl; complete = refl; good = refl }) refl
+    (record { marked = refl; readable = refl; complete = λ older. refl; good = λ older. refl }) refl
     (meanwhile (not-acknowledged {mId = text "CD613E30-d8f1-6adf-91b7-584a2265b1f5"} {reason = text "Not ready"} refl)
     (our-watchdog (timely _ (noon + 30000) refl refl) (lit≤ tt)
     (watchdog-acknowledged (record { timely = timely _ (noon + 30001) refl refl; roomy = lit≤ tt; short = leb-true _ 4096 refl; reads = refl }) refl
     (record { marked = refl; named = text "02020202-0202-4202-8202-020202020202"; names = refl; ours = refl })
     (their-watchdog (record { timely = timely _ (noon + 30002) refl refl; roomy = lit≤ tt; short = leb-true _ 4096 refl; reads = refl })
-    (record { marked = refl; readable = refl; complete = refl; good = refl }) refl
+    (record { marked = refl; readable = refl; complete = λ older. refl; good = λ older. refl }) refl
     greeted))))))))))))
 
 pub up-example : isUp (lifeAt (leaves (started 2) conversation) 0) ≡ true

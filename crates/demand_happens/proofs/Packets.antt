@@ -174,7 +174,7 @@ module _ (m : Machine) (l t : ℕ) (j : Json) (formed : WellFormed j) (v : List 
   version-reason =
       first-none (reasons m l j)
       (one-more (rw (mtype-there j (formed .marked))) (one-more (rw (formed .marked)) (one-more expected (one-more (rw not-beating)
-      (one-more (formed .complete) (one-more (formed .good) (one-more (no-range j version-plain m) (one-more (rw (good .typed, has-common j v (good .version .by-us) (good .version .by-them))) (one-more (rw (good .typed, site-named m j (good .site)))
+      (one-more (formed .complete _) (one-more (formed .good _) (one-more (no-range j version-plain m) (one-more (rw (good .typed, has-common j v (good .version .by-us) (good .version .by-them))) (one-more (rw (good .typed, site-named m j (good .site)))
       (one-more (rw (good .typed, sxl-equal m j (good .sxl))) (one-more (no-component j version-plain m) (one-more (no-alarm-number j version-plain m)
       (one-more (no-status j version-plain m) (one-more (no-command j version-plain m) (one-more (rw (no-reply j version-plain m l)) no-more)))))))))))))))
 
@@ -200,7 +200,7 @@ module _ (m : Machine) (l t : ℕ) (j : Json) (formed : WellFormed j) (typed : I
   watchdog-reason =
       first-none (reasons m l j)
       (one-more (rw (mtype-there j (formed .marked))) (one-more (rw (formed .marked)) (one-more (rw (no-version, typed)) (one-more (rw typed (both-no (isBeating (lifeAt m l))))
-      (one-more (formed .complete) (one-more (formed .good) (one-more (no-range j watchdog-plain m) (one-more (rw no-version) (one-more (rw no-version)
+      (one-more (formed .complete _) (one-more (formed .good _) (one-more (no-range j watchdog-plain m) (one-more (rw no-version) (one-more (rw no-version)
       (one-more (rw no-version) (one-more (no-component j watchdog-plain m) (one-more (no-alarm-number j watchdog-plain m)
       (one-more (no-status j watchdog-plain m) (one-more (no-command j watchdog-plain m) (one-more (rw (no-reply j watchdog-plain m l)) no-more)))))))))))))))
 

@@ -42,8 +42,8 @@ pub record Answers (id : Bytes) (j : Json) : Type 0 where
 pub record WellFormed (j : Json) : Type 0 where
   pub marked : elementIs "mType" "rSMsg" j ≡ true
   pub readable : isReadable j ≡ true
-  pub complete : any (isMissing j) (needs j) ≡ false
-  pub good : any (isBad j) (needs j) ≡ false
+  pub complete : (older : Bool) → any (isMissing j) (needs older j) ≡ false
+  pub good : (older : Bool) → any (isBad j) (needs older j) ≡ false
 
 -- ours of an exchange: not sent yet, sent at a time under an identity, acknowledged
 pub data Ours : Type 0 where

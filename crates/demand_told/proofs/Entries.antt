@@ -46,8 +46,8 @@ pub both-each : {A : Type 0} {P Q R : A → Type 0} → ((x : A) → P x → Q x
 both-each f no-more no-more = no-more
 both-each f (one-more p r) (one-more q t) = one-more (f _ p q) (both-each f r t)
 
-module _ (name : String) (es : List Element) (j : Json) (needed : needs j ≡ one ("cId" is label) ∷ entries name es anyEntry ∷ [])
-    (complete : any (isMissing j) (needs j) ≡ false) (good : any (isBad j) (needs j) ≡ false) where
+module _ (older : Bool) (name : String) (es : List Element) (j : Json) (needed : needs older j ≡ one ("cId" is label) ∷ entries name es anyEntry ∷ [])
+    (complete : any (isMissing j) (needs older j) ≡ false) (good : any (isBad j) (needs older j) ≡ false) where
   missing-none : (isMissing j (one ("cId" is label)) ≡ false) × (isMissing j (entries name es anyEntry) ≡ false)
   missing-none =
       let a = neither (isMissing j (one ("cId" is label))) _ (subst (λ (ns : List Need). any (isMissing j) ns ≡ false) needed complete) in
@@ -88,9 +88,9 @@ module _ (name : String) (es : List Element) (j : Json) (needed : needs j ≡ on
       (none-of-any (λ (x : Json). both (isObject x) (lacks x es)) (entriesOf name j) (neither (not (isSome (element name j))) _ (missing-none .1) .1))
 
 -- ---- a StatusRequest
-pub status-needs : (j : Json) → isType "StatusRequest" j ≡ true → needs j ≡ one ("cId" is label) ∷ entries "sS" asked anyEntry ∷ []
+pub status-needs : (older : Bool) (j : Json) → isType "StatusRequest" j ≡ true → needs older j ≡ one ("cId" is label) ∷ entries "sS" asked anyEntry ∷ []
 unfolding needs
-status-needs j typed =
+status-needs older j typed =
     rw (
       one-type "StatusRequest" "Version" refl j typed,
       one-type "StatusRequest" "Watchdog" refl j typed,
@@ -111,9 +111,9 @@ status-entry x w =
     (code .0, name .0)
 
 -- ---- a CommandRequest
-pub command-needs : (j : Json) → isType "CommandRequest" j ≡ true → needs j ≡ one ("cId" is label) ∷ entries "arg" commanded anyEntry ∷ []
+pub command-needs : (older : Bool) (j : Json) → isType "CommandRequest" j ≡ true → needs older j ≡ one ("cId" is label) ∷ entries "arg" commanded anyEntry ∷ []
 unfolding needs
-command-needs j typed =
+command-needs older j typed =
     rw (
       one-type "CommandRequest" "Version" refl j typed,
       one-type "CommandRequest" "Watchdog" refl j typed,

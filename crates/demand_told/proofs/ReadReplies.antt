@@ -16,6 +16,7 @@ use Rattle.write_laws.specs.Formed.Formed.{formed-ack, formed-notAck, formed-st
 use Rattle.machine.specs.Words.{Bytes, maybe, isSome, orElse, any, placeOf, Case, firstOf}
 use Rattle.machine.specs.State.{Alarm, Life, Machine, lifeAt, alarmAt, valueAt, Effect}
 use Rattle.machine.specs.Json.{stringOf, isType}
+use Rattle.machine.specs.Life.{isOlder}
 use Rattle.machine.specs.Answers.{isAnswer, isReadable, isIgnored, asked, commanded, needs, isMissing, isBad, componentAsked, alarmAsked, valueAsked, wantsReply, reasons, reasonOf, failsCheck}
 use Rattle.machine.specs.Items.{numberAsked, happens, subscribe, unsubscribe, commands}
 use Rattle.machine.specs.Messages.{valueOf, answerEntry, responseMessage, commandEntry, commandMessage}
@@ -55,7 +56,7 @@ reason-named m l j reason e =
     e
 
 -- ---- what answers a StatusRequest or a CommandRequest
-module _ (j : Json) (complete : any (isMissing j) (needs j) ≡ false) (good : any (isBad j) (needs j) ≡ false) (m : Machine) (s : Sane m) where
+module _ (older : Bool) (j : Json) (complete : any (isMissing j) (needs older j) ≡ false) (good : any (isBad j) (needs older j) ≡ false) (m : Machine) (s : Sane m) where
   status-formed : (e : Json) → FormedValue (maybe Undefined (λ (c : ℕ). valueOf false (valueAt m (numberAsked m j e))) (componentAsked m j))
   status-formed e = maybe-cases FormedValue Undefined _ (componentAsked m j) (λ f. undefined) (λ c f. value-formed s (numberAsked m j e) false)
 
@@ -67,8 +68,8 @@ module _ (j : Json) (complete : any (isMissing j) (needs j) ≡ false) (good : a
 
   response-formed : isType "StatusRequest" j ≡ true → (t : ℕ) (id : Bytes) → SixteenBytes id → t ≤ lastTime → Formed (responseMessage m t id j)
   response-formed typed t id sixteen timely =
-      formed-statuses sixteen (record { label = component-label "sS" asked j (status-needs j typed) complete good }) timely
-      (statuses-formed (whole-entries "sS" asked j (status-needs j typed) complete good))
+      formed-statuses sixteen (record { label = component-label older "sS" asked j (status-needs older j typed) complete good }) timely
+      (statuses-formed (whole-entries older "sS" asked j (status-needs older j typed) complete good))
 
   order-formed : (e : Json) → FormedValue (maybe Undefined (λ (c : ℕ). Recent (valueAsked e)) (componentAsked m j))
   order-formed e = maybe-cases FormedValue Undefined (λ (c : ℕ). Recent (valueAsked e)) (componentAsked m j) (λ f. undefined) (λ c f. recent (value-signed e))
@@ -81,8 +82,8 @@ module _ (j : Json) (complete : any (isMissing j) (needs j) ≡ false) (good : a
 
   commands-formed : isType "CommandRequest" j ≡ true → (t : ℕ) (id : Bytes) → SixteenBytes id → t ≤ lastTime → Formed (commandMessage m t id j)
   commands-formed typed t id sixteen timely =
-      formed-statuses sixteen (record { label = component-label "arg" commanded j (command-needs j typed) complete good }) timely
-      (orders-formed (whole-entries "arg" commanded j (command-needs j typed) complete good))
+      formed-statuses sixteen (record { label = component-label older "arg" commanded j (command-needs older j typed) complete good }) timely
+      (orders-formed (whole-entries older "arg" commanded j (command-needs older j typed) complete good))
 
 -- ---- a reply
 abbrev SameSetup : Machine → Effect → Type 0
@@ -120,11 +121,11 @@ module _ (m : Machine) (s : Sane m) (l t : ℕ) (timely : t ≤ lastTime) (id : 
   then-sane : Sane Then
   then-sane = lays-carried-out t timely s l j unrefused .sane
 
-  complete : any (isMissing j) (needs j) ≡ false
+  complete : any (isMissing j) (needs (isOlder (lifeAt m l)) j) ≡ false
   unfolding reasons
   complete = none-at (reasons m l j) unrefused (later (later (later (later first))))
 
-  good : any (isBad j) (needs j) ≡ false
+  good : any (isBad j) (needs (isOlder (lifeAt m l)) j) ≡ false
   unfolding reasons
   good = none-at (reasons m l j) unrefused (later (later (later (later (later first)))))
 
@@ -139,8 +140,8 @@ module _ (m : Machine) (s : Sane m) (l t : ℕ) (timely : t ≤ lastTime) (id : 
       (λ e. picked Formed (isType "AggregatedStatusRequest" j) _ _
       (λ f. aggregated-formed (Then .setup .table) (then-sane .table) id sixteen (Then .aggregated) (Then .aggregatedTime) (then-sane .aggregated) (then-sane .aggregated-time))
       (λ f. picked Formed (isType "CommandRequest" j) _ _
-      (λ g. commands-formed j complete good Then then-sane g t id sixteen timely)
-      (λ g. response-formed j complete good Then then-sane (asks-status Then l j w e f g) t id sixteen timely)))
+      (λ g. commands-formed (isOlder (lifeAt m l)) j complete good Then then-sane g t id sixteen timely)
+      (λ g. response-formed (isOlder (lifeAt m l)) j complete good Then then-sane (asks-status Then l j w e f g) t id sixteen timely)))
 
 -- ---- all that a packet call writes
 abbrev pub EachFormed : Effect → Type 0

@@ -69,6 +69,14 @@ conversation =
       commands-handed = refl;
       commands-kept = refl;
       old-issued = refl;
+      older-chosen = refl;
+      latest-chosen = refl;
+      older-told = refl;
+      newer-told = refl;
+      middle-told = refl;
+      older-issued = refl;
+      older-kept = refl;
+      newer-kept = refl;
       free-place = refl;
       most-loses = refl;
     }

@@ -17,7 +17,7 @@ use Rattle.machine.specs.Words.{Bytes, if_then_else_, _and_, _or_, reads
 use Rattle.machine.specs.State.{Life, Machine, lifeAt}
 use Rattle.machine.specs.Json.{shape, element, stringAt, stringOf, booleanOf, entriesOf, elementIs, isType, isIdentity, numberIn, integerIn, versionIn, timeIn}
 use Rattle.machine.specs.Table.{componentOf, alarmNumber, statusNumber, commandNumber, commandRow}
-use Rattle.machine.specs.Life.{isGreeting, isBeating, isPrimary, common, namesSite, equalSxl, awaitedBy}
+use Rattle.machine.specs.Life.{isGreeting, isBeating, isPrimary, common, isOlder, namesSite, equalSxl, awaitedBy}
 
 -- ---- "Ignored (1)"
 abbrev pub isAnswer : Json → Bool
@@ -63,8 +63,13 @@ isWord words s = any (λ w. reads w s) words
 abbrev pub interval : Json → Option ℕ
 interval e = numberIn 86400 (stringOf "uRt" e)
 
-abbrev pub asksNever : Json → Bool
-asksNever e = isNumber 0 (interval e) and not (booleanOf "sOc" e)
+-- request 07, on a link of the edition before: "a subscription has no sOc; uRt 0 means send on change and any other number means by
+-- interval only"
+abbrev pub asksChange : Bool → Json → Bool
+asksChange older e = if older then isNumber 0 (interval e) else booleanOf "sOc" e
+
+abbrev pub asksNever : Bool → Json → Bool
+asksNever older e = isNumber 0 (interval e) and not (asksChange older e)
 
 abbrev pub label : Kind
 label = aString isLabel  -- "Used strings other than identities and times: 1 to 32 bytes of the table's alphabet."
@@ -72,8 +77,9 @@ label = aString isLabel  -- "Used strings other than identities and times: 1 to 
 abbrev pub asked : List Element
 asked = "sCI" is label ∷ "n" is label ∷ []
 
-abbrev pub subscribed : List Element
-subscribed = "sCI" is label ∷ "n" is label ∷ "uRt" is aString (λ s. isSome (numberIn 86400 s)) ∷ "sOc" is aBoolean ∷ []
+abbrev pub subscribed : Bool → List Element
+subscribed older =
+    "sCI" is label ∷ "n" is label ∷ "uRt" is aString (λ s. isSome (numberIn 86400 s)) ∷ (if older then [] else "sOc" is aBoolean ∷ [])
 
 -- request 01: "each entry needs cCI, n, cO (any used string) and v, shortest decimal text"
 abbrev pub commanded : List Element
@@ -82,8 +88,8 @@ commanded = "cCI" is label ∷ "n" is label ∷ "cO" is label ∷ "v" is aString
 abbrev pub anyEntry : Json → Bool
 anyEntry e = true
 
-unfoldable pub needs : Json → List Need
-needs j =
+unfoldable pub needs : Bool → Json → List Need
+needs older j =
     if isType "Version" j then
     entries "RSMP" ("vers" is aString (λ s. isSome (versionIn s)) ∷ []) anyEntry
     ∷ entries "siteId" ("sId" is label ∷ []) anyEntry
@@ -93,7 +99,7 @@ needs j =
     one ("cId" is label) ∷ one ("aCId" is label)
     ∷ one ("aSp" is aString (isWord ("Request" ∷ "Acknowledge" ∷ "Suspend" ∷ "Resume" ∷ []))) ∷ []
     else if isType "AggregatedStatusRequest" j then one ("cId" is label) ∷ []
-    else if isType "StatusSubscribe" j then one ("cId" is label) ∷ entries "sS" subscribed (λ e. not (asksNever e)) ∷ []
+    else if isType "StatusSubscribe" j then one ("cId" is label) ∷ entries "sS" (subscribed older) (λ e. not (asksNever older e)) ∷ []
     else if isType "CommandRequest" j then one ("cId" is label) ∷ entries "arg" commanded anyEntry ∷ []
     else one ("cId" is label) ∷ entries "sS" asked anyEntry ∷ []
 
@@ -197,8 +203,8 @@ reasons m l j =
     ∷ "Bad value" when not (elementIs "mType" "rSMsg" j)
     ∷ "Unexpected" when isUnexpected k j
     ∷ "Not ready" when (isBeating k and not (isType "Watchdog" j))
-    ∷ "Missing element" when any (isMissing j) (needs j)
-    ∷ "Bad value" when any (isBad j) (needs j)
+    ∷ "Missing element" when any (isMissing j) (needs (isOlder k) j)
+    ∷ "Bad value" when any (isBad j) (needs (isOlder k) j)
     ∷ "Bad value" when outOfRange m j
     ∷ "RSMP version" when (isType "Version" j and not (isSome (common j)))
     ∷ "Site id" when (isType "Version" j and not (namesSite m j))

@@ -16,7 +16,7 @@ use Rattle.machine.specs.Words.{Bytes, orElse, keep, flat}
 use Rattle.machine.specs.State.{alarmOf, issuedFor, heldAs, Pool, poolOf, Command, commandOf, Machine, atEnd, Call, Outcome}
 use Rattle.machine.specs.State.Event.{Issue}
 use Rattle.machine.specs.State.Content.{ofAlarm, ofStatus}
-use Rattle.machine.specs.State.Act.{connect, alarmInput, statusValue, aggregatedValue, tick, pump}
+use Rattle.machine.specs.State.Act.{connect, disconnect, alarmInput, statusValue, aggregatedValue, tick, pump}
 use Rattle.machine.specs.State.Outcome.{refused, done}
 use Rattle.machine.specs.Json.{versionIn}
 use Rattle.machine.specs.Pool.{isFor, holds, issueAll}
@@ -35,7 +35,10 @@ use Rattle.machine.specs.Example.{
   orders,
   beats,
   greeting,
+  greetingOf,
   up,
+  upBy,
+  upOlder,
   suspended,
 }
 
@@ -156,7 +159,7 @@ pub record Conversation : Type 0 where
   pub greets : hears (started 2) greeting
       ≡ silent
       ∷ writes (text "{\"mType\":\"rSMsg\",\"type\":\"Version\",\"mId\":\"01010101-0101-4101-8101-010101010101\","
-      ++ packet "\"RSMP\":[{\"vers\":\"3.1.5\"},{\"vers\":\"3.2\"}],\"siteId\":[{\"sId\":\"BD1\"}],\"SXL\":\"1.0\"}")
+      ++ packet "\"RSMP\":[{\"vers\":\"3.1.4\"},{\"vers\":\"3.1.5\"},{\"vers\":\"3.2\"}],\"siteId\":[{\"sId\":\"BD1\"}],\"SXL\":\"1.0\"}")
       ∷ silent
       ∷ writes acks
       ∷ writes (packet "{\"mType\":\"rSMsg\",\"type\":\"Watchdog\",\"mId\":\"02020202-0202-4202-8202-020202020202\",\"wTs\":\"2009-10-01T11:59:31.571Z\"}")
@@ -232,6 +235,46 @@ pub record Conversation : Type 0 where
       ≡ heldAs 0 (ofStatus 0 none false noon) 0 false
       ∷ heldAs 0 (ofStatus 0 (some (negsuc 1)) false noon) 1 false
       ∷ heldAs 0 (ofStatus 0 (some (negsuc 1)) true (noon + 30000)) 2 false
+      ∷ []
+  -- request 07: the latest common version is chosen, wherever it stands; 3.1.4 where it alone is common
+  pub older-chosen : leaves (started 2) (greetingOf 0 "{\"vers\":\"3.1.3\"},{\"vers\":\"3.1.4\"}") ≡ upOlder
+  pub latest-chosen : leaves (started 2) (greetingOf 0 "{\"vers\":\"3.2\"},{\"vers\":\"3.1.4\"},{\"vers\":\"3.1.5\"}") ≡ up
+  -- .. there a subscription has no sOc, and whatever is called so is passed over: 0 is at each change, any other number at intervals alone
+  pub older-told : hears upOlder (atNoon (asks "StatusSubscribe" "C0\",\"sS\":[{\"sCI\":\"S1\",\"n\":\"release\",\"uRt\":\"0\"}]}")
+      ∷ atNoon (asks "StatusSubscribe" "C0\",\"sS\":[{\"sCI\":\"S1\",\"n\":\"release\"}]}")
+      ∷ atNoon (asks "StatusSubscribe" "C0\",\"sS\":[{\"sCI\":\"S1\",\"n\":\"release\",\"uRt\":\"2.5\",\"sOc\":true}]}")
+      ∷ [])
+      ≡ writes acks ∷ writes (refusesFor "Missing element") ∷ writes (refusesFor "Bad value") ∷ []
+  pub newer-told : hears up (atNoon (asks "StatusSubscribe" "C0\",\"sS\":[{\"sCI\":\"S1\",\"n\":\"release\",\"uRt\":\"0\"}]}") ∷ [])
+      ≡ writes (refusesFor "Missing element") ∷ []
+  pub middle-told : hears (upBy (3 ∷ 1 ∷ 5 ∷ [])) (atNoon (asks "StatusSubscribe" "C0\",\"sS\":[{\"sCI\":\"S1\",\"n\":\"release\",\"uRt\":\"0\"}]}") ∷ [])
+      ≡ writes (refusesFor "Missing element") ∷ []
+  pub older-issued : leaves upOlder (atNoon (asks "StatusSubscribe" "C0\",\"sS\":[{\"sCI\":\"S1\",\"n\":\"release\",\"uRt\":\"0\",\"sOc\":false}]}")
+      ∷ atNoon (statusValue 0 (negsuc 1))
+      ∷ later 1 tick
+      ∷ later 1 (asks "StatusSubscribe" "C0\",\"sS\":[{\"sCI\":\"S1\",\"n\":\"release\",\"uRt\":\"5\",\"sOc\":\"x\"}]}")
+      ∷ later 2 (statusValue 0 (pos 3))
+      ∷ later 5000 tick
+      ∷ later 5001 tick
+      ∷ []) .pool .held
+      ≡ heldAs 0 (ofStatus 0 none false noon) 0 false
+      ∷ heldAs 0 (ofStatus 0 (some (negsuc 1)) false noon) 1 false
+      ∷ heldAs 0 (ofStatus 0 (some (negsuc 1)) false (noon + 1)) 2 false
+      ∷ heldAs 0 (ofStatus 0 (some (pos 3)) false (noon + 5001)) 3 false
+      ∷ []
+  -- "subscriptions kept over a break stay as they were made": at each change, made under 3.1.4 and kept under 3.2; at both, made under 3.2 and kept under 3.1.4
+  pub older-kept : leaves upOlder (atNoon (asks "StatusSubscribe" "C0\",\"sS\":[{\"sCI\":\"S1\",\"n\":\"release\",\"uRt\":\"0\"}]}")
+      ∷ later 1 (disconnect 0)
+      ∷ greetingOf 2 "{\"vers\":\"3.2\"}" ++ (later 3 (statusValue 0 (pos 3)) ∷ later 86400000 tick ∷ [])) .pool .held
+      ≡ heldAs 0 (ofStatus 0 none false noon) 0 false
+      ∷ heldAs 0 (ofStatus 0 (some (pos 3)) false (noon + 3)) 1 false
+      ∷ []
+  pub newer-kept : leaves up (atNoon (asks "StatusSubscribe" "C0\",\"sS\":[{\"sCI\":\"S1\",\"n\":\"release\",\"uRt\":\"5\",\"sOc\":true}]}")
+      ∷ later 1 (disconnect 0)
+      ∷ greetingOf 2 "{\"vers\":\"3.1.4\"}" ++ (later 3 (statusValue 0 (pos 3)) ∷ later 5000 tick ∷ [])) .pool .held
+      ≡ heldAs 0 (ofStatus 0 none false noon) 0 false
+      ∷ heldAs 0 (ofStatus 0 (some (pos 3)) false (noon + 3)) 1 false
+      ∷ heldAs 0 (ofStatus 0 (some (pos 3)) false (noon + 5000)) 2 false
       ∷ []
   -- "else a free place is taken", by a status' record too; "the oldest of the link holding most is lost"
   pub free-place : issueAll (records 17 0 ++ (issuedFor 1 (ofStatus 0 none false noon) ∷ [])) (started 2 .pool) .lost ≡ 0 ∷ 0 ∷ []

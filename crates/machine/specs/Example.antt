@@ -88,6 +88,18 @@ abbrev pub beats : String → Act
 beats wTs = packet 0 (random 15)
     (text "{\"mType\":\"rSMsg\",\"type\":\"Watchdog\",\"mId\":\"CD613E30-d8f1-6adf-91b7-584a2265b1f5\",\"wTs\":\"" ++ text wTs ++ text "\"}") 4096
 
+-- a greeting of a supervisor that offers these, and at noon or so many milliseconds later
+abbrev pub greetingOf : ℕ → String → List Call
+greetingOf ms versions =
+    later ms (connect 0)
+    ∷ later ms (pump 0 (random 1) 4096)
+    ∷ later ms (gets "MessageAck\",\"oMId\":\"01010101-0101-4101-8101-010101010101\"}")
+    ∷ later ms (packet 0 (random 15) (text "{\"mType\":\"rSMsg\",\"type\":\"Version\",\"mId\":\"CD613E30-d8f1-6adf-91b7-584a2265b1f5\",\"RSMP\":[" ++ text versions ++ text "],\"siteId\":[{\"sId\":\"BD1\"}],\"SXL\":\"1.0\"}") 4096)
+    ∷ later ms (pump 0 (random 2) 4096)
+    ∷ later ms (gets "MessageAck\",\"oMId\":\"02020202-0202-4202-8202-020202020202\"}")
+    ∷ later ms (gets "Watchdog\",\"mId\":\"CD613E30-d8f1-6adf-91b7-584a2265b1f5\",\"wTs\":\"2009-10-01T11:59:31.571Z\"}")
+    ∷ []
+
 abbrev pub greeting : List Call
 greeting =
     atNoon (connect 0)
@@ -113,12 +125,19 @@ alarmNow k event time acknowledged active suspended =
     (record { time = time; event = event; category = 0; priority = 2; acknowledged = acknowledged; active = active; suspended = suspended })
 
 -- ---- the machine, Up on link 0, the primary; and after Suspend and an input: one record, Suspend's
-abbrev pub up : Machine
-up =
+abbrev pub upBy : List ℕ → Machine
+upBy version =
     machine (started 2 .setup) noon
     (alarmOf false true false Issue noon ∷ []) (none ∷ []) 0 noon []
-    (lifeOf true (exchange true true true) (exchange true true true) (3 ∷ 2 ∷ 0 ∷ []) noon 0 [] ∷ fresh false ∷ [])
+    (lifeOf true (exchange true true true) (exchange true true true) version noon 0 [] ∷ fresh false ∷ [])
     (poolOf 0 [] (0 ∷ 0 ∷ []))
+
+abbrev pub up : Machine
+up = upBy (3 ∷ 2 ∷ 0 ∷ [])
+
+-- .. and where the edition before was chosen
+abbrev pub upOlder : Machine
+upOlder = upBy (3 ∷ 1 ∷ 4 ∷ [])
 
 abbrev pub suspended : Machine
 suspended =

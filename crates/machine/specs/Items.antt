@@ -33,9 +33,9 @@ use Rattle.machine.specs.State.{
 }
 use Rattle.machine.specs.State.Event.{Issue, Acknowledge, Suspend}
 use Rattle.machine.specs.State.Content.{ofAlarm, ofStatus, ofAggregated}
-use Rattle.machine.specs.Json.{booleanOf, entriesOf, elementIs}
-use Rattle.machine.specs.Life.{isUp}
-use Rattle.machine.specs.Answers.{interval, componentAsked, statusAsked, commandAsked, valueAsked}
+use Rattle.machine.specs.Json.{entriesOf, elementIs}
+use Rattle.machine.specs.Life.{isUp, isOlder}
+use Rattle.machine.specs.Answers.{interval, asksChange, componentAsked, statusAsked, commandAsked, valueAsked}
 
 -- ---- alarms
 -- "An input equal to the state does nothing. Becoming active clears the acknowledgement."
@@ -96,13 +96,13 @@ numberAsked m j e = orElse 0 (statusAsked m j e)
 abbrev pub without : ℕ → ℕ → List Subscription → List Subscription
 without l i subs = keep (λ s. not (isOf l i s)) subs
 
-abbrev pub subscribing : ℕ → ℕ → ℕ → Json → List Subscription → List Subscription
-subscribing t l i e subs =
-    without l i subs ++ (record { link = l; status = i; interval = orElse 0 (interval e); onChange = booleanOf "sOc" e; since = t } ∷ [])
+abbrev pub subscribing : Bool → ℕ → ℕ → ℕ → Json → List Subscription → List Subscription
+subscribing older t l i e subs =
+    without l i subs ++ (record { link = l; status = i; interval = orElse 0 (interval e); onChange = asksChange older e; since = t } ∷ [])
 
 abbrev pub subscribeAll : Machine → ℕ → ℕ → Json → List Json → List Subscription → List Subscription
 subscribeAll m t l j [] subs = subs
-subscribeAll m t l j (e ∷ es) subs = subscribeAll m t l j es (subscribing t l (numberAsked m j e) e subs)
+subscribeAll m t l j (e ∷ es) subs = subscribeAll m t l j es (subscribing (isOlder (lifeAt m l)) t l (numberAsked m j e) e subs)
 
 -- "A subscription issues a record at once."
 unfoldable pub subscribe : Machine → ℕ → ℕ → Json → Effect

@@ -80,15 +80,23 @@ closeAll [] m = m
 closeAll (l ∷ ls) m = closeAll ls (close l m)
 
 -- ---- the three checks of their Version
--- "a common RSMP version [of 3.1.5 and 3.2]; the latest common one is chosen": ours, latest first
+-- "a common RSMP version [of 3.1.4, 3.1.5 and 3.2]; the latest common one is chosen": ours, latest first
 abbrev pub ours : List (List ℕ)
-ours = (3 ∷ 2 ∷ 0 ∷ []) ∷ (3 ∷ 1 ∷ 5 ∷ []) ∷ []
+ours = (3 ∷ 2 ∷ 0 ∷ []) ∷ (3 ∷ 1 ∷ 5 ∷ []) ∷ (3 ∷ 1 ∷ 4 ∷ []) ∷ []
 
 abbrev pub offers : Json → List ℕ → Bool
 offers j v = any (λ e. maybe false (sameBytes v) (versionIn (stringOf "vers" e))) (entriesOf "RSMP" j)
 
+-- of any list that is latest first
+abbrev pub chosenOf : List (List ℕ) → Json → Option (List ℕ)
+chosenOf mine j = firstThat (offers j) mine
+
 abbrev pub common : Json → Option (List ℕ)
-common j = firstThat (offers j) ours
+common j = chosenOf ours j
+
+-- request 07: "On a link where [3.1.4] is chosen"
+abbrev pub isOlder : Life → Bool
+isOlder k = sameBytes (k .version) (3 ∷ 1 ∷ 4 ∷ [])
 
 -- "our site id in their list, equal SXL bytes"
 abbrev pub namesSite : Machine → Json → Bool

@@ -1,6 +1,10 @@
 -- The claims about the answers and about what greets are kept.
 -- Assumes nothing.
-use Rattle.basis.proofs.Std.{ℕ, _≤_, _<_, _≡_, refl, _∙_, Bool, true, false, map, le-leb, lt-leb, text}
+use Prim.Native.Nat.{ℕ, _≤_, _<_}
+use mathlib.Core.Path.{_≡_, refl, sym, _∙_}
+use mathlib.Core.Bool.{Bool, true, false}
+use mathlib.Core.List.{List, map, reverse}
+use borrow.Author.Tests.{le-leb, lt-leb}
 use Rattle.number.specs.declared.Number.the-variants.{Is}
 use Rattle.number.specs.Decimal.{digits, digitsBelow}
 use Rattle.answer.specs.Given.Hint.{none, clock}
@@ -20,7 +24,7 @@ use Rattle.read_lists.specs.declared.VersionFields.{VersionFields}
 use Rattle.read_versions.specs.Numeral.{numberIn}
 use Rattle.read_versions.specs.declared.Judged.{Judged}
 use Rattle.read_versions.specs.declared.Judged.the-variants.{Chosen, RsmpVersion, SiteId, SxlVersion}
-use Rattle.read_versions.specs.Version.{version, versionOf, before, behind, onePart, twoParts}
+use Rattle.read_versions.specs.Version.{versionOf, before, behind, onePart, twoParts}
 use Rattle.read_versions.specs.Judge.{versionsIn, judge}
 use Rattle.table_whole.specs.declared.SiteTable.{SiteTable}
 use Rattle.write_message.specs.Listing.{offered}
@@ -64,15 +68,7 @@ failed : (s : Site) (q : Question) (f : VersionFields)
     → (versionTaken s q f .plan .site ≡ closeAt s (q .link)) × (versionTaken s q f .plan .closed ≡ maskOf (q .link))
 failed s q f e h = rw e (judges s q (judge (own s) (f .offer)) h)
 
-older : versionOf (text "3.1.5") ≡ Is (version 3 1 5)
-unfolding versionOf twoParts onePart before behind numberIn digits digitsBelow
-older = refl
-
-newer : versionOf (text "3.2") ≡ Is (version 3 2 0)
-unfolding versionOf twoParts onePart before behind numberIn digits digitsBelow
-newer = refl
-
-offers : (table : SiteTable) → map versionOf offered ≡ map Is (versionsIn (ownOffer table))
+offers : (table : SiteTable) → reverse (map versionOf offered) ≡ map Is (versionsIn (ownOffer table))
 unfolding versionOf twoParts onePart before behind numberIn digits digitsBelow
 offers table = refl
 
@@ -120,8 +116,6 @@ kept =
       late = λ s l id acknowledged q e h. settles s l id acknowledged q e ∙ missed s l q h;
       failed = failed;
       offers = offers;
-      older = older;
-      newer = newer;
       hints = hints;
       fewer = λ s q f d. fewer s q f (f .verdict) (roleOf s (q .link)) refl refl d;
       no-hint = λ s q f e. unhinted s q f (f .verdict) refl e;

@@ -3,8 +3,7 @@
 use Prim.Native.Nat.{ℕ, _≤_, _<_}
 use mathlib.Core.Path.{_≡_}
 use mathlib.Core.Bool.{Bool, false}
-use mathlib.Core.List.{map}
-use Rattle.basis.specs.Text.{text}
+use mathlib.Core.List.{map, reverse}
 use Rattle.number.specs.declared.Number.the-variants.{Is}
 use Rattle.answer.specs.Given.Hint.{none, clock}
 use Rattle.identity.specs.declared.Identity.{Identity}
@@ -18,7 +17,7 @@ use Rattle.read_head.specs.declared.Verdict.the-variants.{Good}
 use Rattle.read_head.specs.declared.GotTime.{GotTime}
 use Rattle.read_lists.specs.declared.VersionFields.{VersionFields}
 use Rattle.read_versions.specs.declared.Judged.the-variants.{Chosen}
-use Rattle.read_versions.specs.Version.{version, versionOf}
+use Rattle.read_versions.specs.Version.{versionOf}
 use Rattle.read_versions.specs.Judge.{versionsIn, judge}
 use Rattle.table_whole.specs.declared.SiteTable.{SiteTable}
 use Rattle.write_message.specs.Listing.{offered}
@@ -44,10 +43,8 @@ pub record Claims : Type 0 where
       → f .verdict ≡ Good
       → ((v : ℕ) → judge (own s) (f .offer) ≡ Chosen v → ⊥)
       → (versionTaken s q f .plan .site ≡ closeAt s (q .link)) × (versionTaken s q f .plan .closed ≡ maskOf (q .link))
-  -- the versions that are judged are those that our Version writes, one for one
-  pub offers : (table : SiteTable) → map versionOf offered ≡ map Is (versionsIn (ownOffer table))
-  pub older : versionOf (text "3.1.5") ≡ Is (version 3 1 5)
-  pub newer : versionOf (text "3.2") ≡ Is (version 3 2 0)
+  -- the versions that are judged are those that our Version writes, one for one, from the last
+  pub offers : (table : SiteTable) → reverse (map versionOf offered) ≡ map Is (versionsIn (ownOffer table))
   -- only the primary's Watchdog gives a hint, and only with three or more decimals; its time is the hint
   pub hints : (s : Site) (q : Question) (f : GotTime)
       → roleOf s (q .link) ≡ Primary

@@ -21,9 +21,9 @@ use Rattle.site.specs.Site.{linkAt, withLink}
 use Rattle.packet_answer.specs.declared.Question.{Question}
 use Rattle.packet_answer.specs.Taken.{Taken, closing, acked, byVerdict, rsmpVersion, siteId, sxlVersion}
 
--- what our Version offers: 3.1.5 and 3.2, the table's site id and SXL version
+-- what our Version offers: 3.1.4, 3.1.5 and 3.2, here the latest first; the table's site id and SXL version
 abbrev pub ownVersions : Versions
-ownVersions = record { count = 2; list = version 3 1 5 ∷ version 3 2 0 ∷ replicate 14 0 }
+ownVersions = record { count = 3; list = version 3 2 0 ∷ version 3 1 5 ∷ version 3 1 4 ∷ replicate 13 0 }
 
 abbrev pub ownSites : Label → Sites
 ownSites id = record { count = 1; list = id ∷ replicate 15 noLabel }

@@ -75,9 +75,10 @@ fn versions() -> Versions
     ensures { λ r. ⌜ r ≡ ownVersions ⌝ }
 {
     let mut list = [0u32; 16];
-    list[0] = 0x030105;
-    list[1] = 0x030200;
-    Versions { count: 2, list }
+    list[0] = 0x030200;
+    list[1] = 0x030105;
+    list[2] = 0x030104;
+    Versions { count: 3, list }
 }
 
 fn sites(id: Label) -> Sites

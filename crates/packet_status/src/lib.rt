@@ -24,6 +24,7 @@ use names::reasons;
 use packet_answer::Question;
 use packet_lookup::Sought;
 use read_head::Verdict;
+use read_lists::Asking;
 use read_lists::StatusEntry;
 use read_lists::StatusFields;
 use write_message::Told;
@@ -191,9 +192,9 @@ pub fn status_request(
     out: &mut [u8],
 ) -> Answer
     requires { ⌜ (length (now w) ≡ siteWords) × ((length (now t) ≡ tableBytes) × ((q .link < 4) × Indexed (now packet) (now places))) ⌝ }
-    ensures { λ r. ⌜ TakesIn (tableOf (now (t .entry))) q (statusTaken (siteOf (now (w .entry)) (tableOf (now (t .entry)))) q (statusAt false (now (packet .entry)))) (now (w .entry)) (now (w .exit)) (now (out .entry)) (now (out .exit)) r ⌝ }
+    ensures { λ r. ⌜ TakesIn (tableOf (now (t .entry))) q (statusTaken (siteOf (now (w .entry)) (tableOf (now (t .entry)))) q (statusAt Asking.Plain (now (packet .entry)))) (now (w .entry)) (now (w .exit)) (now (out .entry)) (now (out .exit)) r ⌝ }
 {
-    let f = read_lists::read_status(packet, places, false);
+    let f = read_lists::read_status(packet, places, Asking::Plain);
     let v = f.verdict;
     match v {
         Verdict::Good => requested(w, t, q, f, out),

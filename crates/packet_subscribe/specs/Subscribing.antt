@@ -3,11 +3,15 @@
 use Prim.Native.Nat.{ℕ, zero, suc, _+_, _*_}
 use mathlib.Core.Bool.{Bool}
 use mathlib.Core.List.{List, [], _∷_, _++_}
-use Rattle.basis.specs.Pick.{pick}
+use lib.Dec.{eqb}
+use Rattle.basis.specs.Pick.{pick, both}
 use Rattle.answer.specs.Given.Hint.{none as noHint}
 use Rattle.entry.specs.declared.Entry.{Entry}
 use Rattle.subscription.specs.declared.Subscription.{Subscription}
 use Rattle.subscription.specs.Subscription.{none, subscribed}
+use Rattle.link.specs.declared.Link.{Link}
+use Rattle.read_lists.specs.declared.Asking.{Asking}
+use Rattle.read_lists.specs.declared.Asking.the-variants.{Full, Older}
 use Rattle.read_lists.specs.declared.StatusEntry.{StatusEntry}
 use Rattle.read_lists.specs.declared.StatusFields.{StatusFields}
 use Rattle.packet_lookup.specs.declared.Sought.{Sought}
@@ -19,6 +23,13 @@ use Rattle.site.specs.Parts.{statusAt, withSubscription}
 use Rattle.site.specs.Records.{statusRecord}
 use Rattle.packet_answer.specs.declared.Question.{Question}
 use Rattle.packet_answer.specs.Taken.{Taken, notAcked, acked, byVerdict, unknownStatus}
+
+-- request 07: "On a link where [3.1.4] is chosen, a subscription has no sOc"
+abbrev pub askingBy : ℕ → ℕ → ℕ → Asking
+askingBy major minor patch = pick (both (eqb major 3) (both (eqb minor 1) (eqb patch 4))) Older Full
+
+abbrev pub askingOn : Link → Asking
+askingOn k = askingBy (k .major) (k .minor) (k .patch)
 
 -- what an entry asks for, or no subscription
 abbrev pub wanted : Bool → StatusEntry → ℕ → Subscription

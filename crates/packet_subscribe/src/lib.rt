@@ -2,10 +2,12 @@
 ghost use mathlib.Core.Path.{_≡_};
 ghost use mathlib.Core.Bool.{true, false};
 ghost use mathlib.Core.List.{[]};
-ghost use Prim.Native.Nat.{_+_, _*_};
+ghost use Prim.Native.Nat.{_+_, _*_, _<_};
 ghost use lib.ListN.{length};
 ghost use Rattle.basis.specs.Pick.{pick};
+ghost use Rattle.table_whole.specs.declared.SiteTable.{SiteTable};
 ghost use Rattle.site.specs.declared.Site.{Site};
+ghost use Rattle.site.specs.Site.{linkAt};
 ghost use Rattle.site.specs.Call.{never};
 ghost use Rattle.store_site.specs.Layout.{siteOf, siteWords};
 ghost use Rattle.store_site.specs.Turns.{Turns};
@@ -15,7 +17,7 @@ ghost use Rattle.store_call.specs.Issued.{issuedIn};
 ghost use Rattle.json_find.specs.Index.{Indexed};
 ghost use Rattle.read_lists.specs.Status.{statusAt as fieldsAt};
 ghost use Rattle.packet_lookup.specs.Sought.{componentSought, statusSought, allStatuses};
-ghost use Rattle.packet_subscribe.specs.Subscribing.{wanted as wantedOf, replacedAt, replaced as replacedOf, recordOf, records as recordsOf, changed, judged, asked, subscribingTaken};
+ghost use Rattle.packet_subscribe.specs.Subscribing.{wanted as wantedOf, replacedAt, replaced as replacedOf, recordOf, records as recordsOf, changed, judged, asked, subscribingTaken, askingBy, askingOn};
 ghost use Rattle.packet_subscribe.specs.InPlace.{TurnsIn};
 use answer::Answer;
 use answer::Refusal;
@@ -23,6 +25,7 @@ use names::reasons;
 use packet_answer::Question;
 use packet_lookup::Sought;
 use read_head::Verdict;
+use read_lists::Asking;
 use read_lists::StatusEntry;
 use read_lists::StatusFields;
 use subscription::Subscription;
@@ -241,6 +244,31 @@ fn take(
     }
 }
 
+fn asking_by(major: u32, minor: u32, patch: u32) -> Asking
+    ensures { λ r. ⌜ r ≡ askingBy major minor patch ⌝ }
+{
+    if major == 3 {
+        if minor == 1 {
+            if patch == 4 {
+                return Asking::Older;
+            }
+        }
+    }
+    Asking::Full
+}
+
+// How a subscription's entries are read on a link.
+fn asking_on(w: &[u64], l: u16) -> Asking
+    requires { ⌜ (length (now w) ≡ siteWords) × (l < 4) ⌝ }
+    ensures { λ r. ⌜ ((t : SiteTable) → r ≡ askingOn (linkAt (siteOf (now (w .entry)) t) l)) ⌝ }
+{
+    asking_by(
+        store_site::phases::major(w, l as usize),
+        store_site::phases::minor(w, l as usize),
+        store_site::phases::patch(w, l as usize),
+    )
+}
+
 // StatusSubscribe.
 pub fn subscribe(
     w: &mut [u64],
@@ -250,10 +278,11 @@ pub fn subscribe(
     places: &[usize],
     out: &mut [u8],
 ) -> Answer
-    requires { ⌜ (length (now w) ≡ siteWords) × (length (now t) ≡ tableBytes) × Indexed (now packet) (now places) ⌝ }
-    ensures { λ r. ⌜ GivesIn (tableOf (now (t .entry))) (q .time) never (subscribingTaken true (siteOf (now (w .entry)) (tableOf (now (t .entry)))) q (fieldsAt true (now (packet .entry))) .plan) (now (w .entry)) (now (w .exit)) (now (out .entry)) (now (out .exit)) r ⌝ }
+    requires { ⌜ (length (now w) ≡ siteWords) × (length (now t) ≡ tableBytes) × (q .link < 4) × Indexed (now packet) (now places) ⌝ }
+    ensures { λ r. ⌜ GivesIn (tableOf (now (t .entry))) (q .time) never (subscribingTaken true (siteOf (now (w .entry)) (tableOf (now (t .entry)))) q (fieldsAt (askingOn (linkAt (siteOf (now (w .entry)) (tableOf (now (t .entry)))) (q .link))) (now (packet .entry))) .plan) (now (w .entry)) (now (w .exit)) (now (out .entry)) (now (out .exit)) r ⌝ }
 {
-    let f = read_lists::read_status(packet, places, true);
+    let asking = asking_on(w, q.link);
+    let f = read_lists::read_status(packet, places, asking);
     take(w, t, true, q, f, out)
 }
 
@@ -267,8 +296,8 @@ pub fn unsubscribe(
     out: &mut [u8],
 ) -> Answer
     requires { ⌜ (length (now w) ≡ siteWords) × (length (now t) ≡ tableBytes) × Indexed (now packet) (now places) ⌝ }
-    ensures { λ r. ⌜ GivesIn (tableOf (now (t .entry))) (q .time) never (subscribingTaken false (siteOf (now (w .entry)) (tableOf (now (t .entry)))) q (fieldsAt false (now (packet .entry))) .plan) (now (w .entry)) (now (w .exit)) (now (out .entry)) (now (out .exit)) r ⌝ }
+    ensures { λ r. ⌜ GivesIn (tableOf (now (t .entry))) (q .time) never (subscribingTaken false (siteOf (now (w .entry)) (tableOf (now (t .entry)))) q (fieldsAt Asking.Plain (now (packet .entry))) .plan) (now (w .entry)) (now (w .exit)) (now (out .entry)) (now (out .exit)) r ⌝ }
 {
-    let f = read_lists::read_status(packet, places, false);
+    let f = read_lists::read_status(packet, places, Asking::Plain);
     take(w, t, false, q, f, out)
 }

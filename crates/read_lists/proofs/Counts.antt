@@ -1,6 +1,14 @@
 -- A list that is good was gathered whole.
 -- Assumes nothing.
-use Rattle.basis.proofs.Std.{_≡_, refl, ap, Bool, List, [], _∷_, ℕ, suc, _+_, _≤_, _<_, arith, ltb, length, ltb-true, text, bool-cases}
+use mathlib.Core.Path.{_≡_, refl, ap}
+use mathlib.Core.List.{List, [], _∷_}
+use Prim.Native.Nat.{ℕ, suc, _+_, _≤_, _<_}
+use native.Mathlib.Omega.{arith}
+use lib.Dec.{ltb}
+use lib.ListN.{length}
+use borrow.Author.Tests.{ltb-true}
+use Rattle.basis.specs.Text.{text}
+use Rattle.basis.proofs.Cases.{bool-cases}
 use Rattle.json_value.specs.Grammar.{Json, Jsons}
 use Rattle.json_value.specs.Grammar.Json.{null, bool, num, str, arr, obj}
 use Rattle.json_value.specs.Grammar.Jsons.{jnil, jcons}
@@ -11,6 +19,7 @@ use Rattle.read_head.specs.declared.Verdict.the-variants.{Good, Missing, Bad}
 use Rattle.read_head.specs.declared.GotLabel.{GotLabel}
 use Rattle.read_head.specs.Word.{wordIn}
 use Rattle.read_head.specs.Values.{worst, gotLabel}
+use Rattle.read_lists.specs.declared.Asking.{Asking}
 use Rattle.read_lists.specs.declared.GotNumber.{GotNumber}
 use Rattle.read_lists.specs.declared.GotEntry.{GotEntry}
 use Rattle.read_lists.specs.declared.VersionList.{VersionList}
@@ -83,13 +92,13 @@ site-pushed l g e =
     (λ t. record { good = both-good (l .verdict) (g .verdict) (rw t at e) .0; room = ltb-true (l .sites .count) 16 t; more = rw t refl })
     (λ f. absurd (not-bad (both-good (worst (l .verdict) (g .verdict)) Bad (rw f at e) .1)))
 
-pub statuses : (subscribing : Bool) (j : Json) → statusIn subscribing j .verdict ≡ Good → Counted (member (text "sS") j) (statusIn subscribing j .count)
+pub statuses : (asking : Asking) (j : Json) → statusIn asking j .verdict ≡ Good → Counted (member (text "sS") j) (statusIn asking j .count)
 unfolding statusIn listIn
-statuses subscribing j g =
-    counted (λ (l : StatusList). l .verdict) (λ (l : StatusList). l .count) (λ l x. pushEntry l (entryOfItem subscribing x))
-    (λ l x. entry-pushed l (entryOfItem subscribing x))
+statuses asking j g =
+    counted (λ (l : StatusList). l .verdict) (λ (l : StatusList). l .count) (λ l x. pushEntry l (entryOfItem asking x))
+    (λ l x. entry-pushed l (entryOfItem asking x))
     (noStatuses Good) (noStatuses Missing) (noStatuses Bad) refl not-missing not-bad (member (text "sS") j)
-    (both-good (gotLabel (wordIn j (text "cId")) .verdict) (statusesOf subscribing (listOf (member (text "sS") j)) .verdict) g .1)
+    (both-good (gotLabel (wordIn j (text "cId")) .verdict) (statusesOf asking (listOf (member (text "sS") j)) .verdict) g .1)
 
 module _ (j : Json) (g : versionIn j .verdict ≡ Good) where
   parts : (versionsOf (listOf (member (text "RSMP") j)) .verdict ≡ Good) × (sitesOf (listOf (member (text "siteId") j)) .verdict ≡ Good)

@@ -1,17 +1,22 @@
 -- The claims about packets with lists are kept.
 -- Assumes nothing.
-use Rattle.basis.proofs.Std.{_≡_, ap, _∙_, Bool, List, ℕ, arith}
+use mathlib.Core.Path.{_≡_, ap, ap₂, _∙_}
+use mathlib.Core.List.{List}
+use Prim.Native.Nat.{ℕ}
+use native.Mathlib.Omega.{arith}
 use Rattle.json_value.specs.Grammar.{Json}
 use Rattle.json_value.specs.Reader.{skipWs}
 use Rattle.json_value.proofs.Complete as Complete
 use Rattle.json_packet.specs.Packet.{Packet, packet}
+use Rattle.read_head.specs.Word.{wordIn, wordAt}
 use Rattle.read_head.proofs.Kept.{words}
+use Rattle.read_lists.specs.declared.Asking.{Asking}
 use Rattle.read_lists.specs.Items.{listIn, listAt}
-use Rattle.read_lists.specs.Version.{versionIn, versionAt}
-use Rattle.read_lists.specs.Status.{statusIn, statusAt}
+use Rattle.read_lists.specs.Version.{versionBy, versionIn, versionAt}
+use Rattle.read_lists.specs.Status.{statusBy, statusIn, statusAt}
 use Rattle.read_lists.specs.Claims.{Claims}
 use Rattle.read_lists.proofs.Listed.{lists-agree}
-use Rattle.read_lists.proofs.Seconds.{seconds, only-seconds, no-seconds, only-missing, too-long, subscribed}
+use Rattle.read_lists.proofs.Seconds.{seconds, only-seconds, no-seconds, only-missing, too-long, subscribed, older}
 use Rattle.read_lists.proofs.Counts.{statuses, versions, sites}
 
 -- the lists of a packet are those of its meaning
@@ -22,9 +27,9 @@ version : {s : List ℕ} {j : Json} → Packet s j → versionAt s ≡ versionIn
 unfolding versionAt versionIn
 version p = rw (words p, lists p)
 
-status : (subscribing : Bool) {s : List ℕ} {j : Json} → Packet s j → statusAt subscribing s ≡ statusIn subscribing j
+status : (asking : Asking) {s : List ℕ} {j : Json} → Packet s j → statusAt asking s ≡ statusIn asking j
 unfolding statusAt statusIn
-status subscribing p = rw (words p, lists p)
+status asking p = rw (words p, lists p)
 
 pub kept : Claims
 kept =
@@ -37,6 +42,7 @@ kept =
       only-missing = only-missing;
       too-long = too-long;
       subscribed = subscribed;
+      older = older;
       statuses = statuses;
       versions = versions;
       sites = sites;

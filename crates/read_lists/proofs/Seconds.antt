@@ -1,6 +1,17 @@
 -- uRt is good exactly where it is the decimal text of a number of seconds up to 86400.
 -- Assumes nothing.
-use Rattle.basis.proofs.Std.{_≡_, refl, sym, ap, _∙_, true, List, [], _∷_, _++_, ℕ, _+_, _/_, _%_, _≤_, _<_, arith, ltb, leb, length, lt-ltb, le-leb, both, text, bool-cases, untrue}
+use mathlib.Core.Path.{_≡_, refl, sym, ap, _∙_}
+use mathlib.Core.Bool.{true}
+use mathlib.Core.List.{List, [], _∷_, _++_}
+use Prim.Native.Nat.{ℕ, _+_, _/_, _%_, _≤_, _<_}
+use native.Mathlib.Omega.{arith}
+use lib.Dec.{ltb, leb, eqb}
+use lib.ListN.{length}
+use borrow.Author.Tests.{lt-ltb, le-leb}
+use Rattle.basis.specs.Pick.{both}
+use Rattle.basis.specs.Text.{text}
+use Rattle.basis.proofs.Cases.{bool-cases}
+use Rattle.basis.proofs.Both.{untrue}
 use Rattle.number.specs.declared.Number.{Number}
 use Rattle.number.specs.declared.Number.the-variants.{Is, No}
 use Rattle.number.specs.Decimal.{digits}
@@ -18,6 +29,9 @@ use Rattle.read_head.specs.declared.Verdict.{Verdict}
 use Rattle.read_head.specs.declared.Verdict.the-variants.{Good, Missing, Bad}
 use Rattle.read_head.specs.Word.{Word, absent, other, word, wordFor, said, saidOf, wordIn}
 use Rattle.read_head.specs.Values.{worst, gotLabel}
+use Rattle.read_lists.specs.declared.Asking.the-variants.{Full, Older}
+use Rattle.read_lists.specs.declared.Flag.{Flag}
+use Rattle.read_lists.specs.declared.Flag.the-variants as flags
 use Rattle.read_lists.specs.Items.{itemIn, flagIn}
 use Rattle.read_lists.specs.Version.{numbered}
 use Rattle.read_lists.specs.Status.{gotSeconds, secondsIn, changed, entryOfItem}
@@ -118,13 +132,15 @@ module _ (entry : Json) where
       by Missing g = absurd (let m = only-missing g in let z : _≡_ {A = ℕ} 0 1 = cc in omega arith)
       by Good g = absurd (let s = only-seconds g in omega (arith, digits-once n (secondsIn entry .number) (let m = s .said in cc), s .most))
 
-  pub subscribed : entryOfItem true (itemIn entry) .verdict ≡ Good → Seconds entry (entryOfItem true (itemIn entry) .entry .seconds)
-  subscribed g =
-      bool-cases (isObject entry)
-      (λ t.
-      let f = wordIn entry in
-      let labels = worst (gotLabel (f (text "sCI")) .verdict) (gotLabel (f (text "n")) .verdict) in
-      let change = changed (secondsIn entry .number) (flagIn entry (text "sOc")) in
-      let p = both-good labels (worst (secondsIn entry .verdict) change) (rw t at g) in
-      rw t (only-seconds (both-good (secondsIn entry .verdict) change (p .1) .0)))
-      (λ f. absurd (not-bad (rw f at g)))
+  -- of an entry that is an object and good, uRt is good whatever is said of changes
+  good-seconds : (flag : Flag) → worst (worst (gotLabel (wordIn entry (text "sCI")) .verdict) (gotLabel (wordIn entry (text "n")) .verdict)) (worst (secondsIn entry .verdict) (changed (secondsIn entry .number) flag)) ≡ Good → Seconds entry (secondsIn entry .number)
+  good-seconds flag g =
+      let labels = worst (gotLabel (wordIn entry (text "sCI")) .verdict) (gotLabel (wordIn entry (text "n")) .verdict) in
+      let change = changed (secondsIn entry .number) flag in
+      only-seconds (both-good (secondsIn entry .verdict) change (both-good labels (worst (secondsIn entry .verdict) change) g .1) .0)
+
+  pub subscribed : entryOfItem Full (itemIn entry) .verdict ≡ Good → Seconds entry (entryOfItem Full (itemIn entry) .entry .seconds)
+  subscribed g = bool-cases (isObject entry) (λ t. rw t (good-seconds (flagIn entry (text "sOc")) (rw t at g))) (λ f. absurd (not-bad (rw f at g)))
+
+  pub older : entryOfItem Older (itemIn entry) .verdict ≡ Good → Seconds entry (entryOfItem Older (itemIn entry) .entry .seconds)
+  older g = bool-cases (isObject entry) (λ t. rw t (good-seconds (Flag.Is (eqb (secondsIn entry .number) 0)) (rw t at g))) (λ f. absurd (not-bad (rw f at g)))

@@ -1,4 +1,5 @@
--- The fields of the three status types, or the first reason that applies: cId and sS (each entry sCI, n; to subscribe also uRt, sOc).
+-- The fields of the three status types, or the first reason that applies: cId and sS (each entry sCI, n; to subscribe also uRt, sOc;
+-- request 07, to subscribe in the edition before: also uRt).
 -- Assumes nothing.
 use mathlib.Core.Path.{_≡_}
 use mathlib.Core.Bool.{Bool, true, false}
@@ -20,6 +21,8 @@ use Rattle.read_head.specs.declared.Verdict.the-variants.{Good, Missing, Bad}
 use Rattle.read_head.specs.declared.GotLabel.{GotLabel}
 use Rattle.read_head.specs.Word.{Word, absent, other, word, wordFound, wordIn, wordAt}
 use Rattle.read_head.specs.Values.{worst, gotLabel}
+use Rattle.read_lists.specs.declared.Asking.{Asking}
+use Rattle.read_lists.specs.declared.Asking.the-variants.{Plain, Full, Older}
 use Rattle.read_lists.specs.declared.Flag.{Flag}
 use Rattle.read_lists.specs.declared.Flag.the-variants.{Absent, Other, Is}
 use Rattle.read_lists.specs.declared.GotNumber.{GotNumber}
@@ -71,9 +74,19 @@ plainEntry f = entryOf (gotLabel (f (text "sCI"))) (gotLabel (f (text "n"))) (re
 abbrev pub fullEntry : (List ℕ → Word) → (List ℕ → Flag) → GotEntry
 fullEntry f g = entryOf (gotLabel (f (text "sCI"))) (gotLabel (f (text "n"))) (gotSeconds (f (text "uRt"))) (g (text "sOc"))
 
-abbrev pub entryOfItem : Bool → Item → GotEntry
-entryOfItem subscribing x =
-    pick (x .object) (pick subscribing (fullEntry (x .words) (x .flags)) (plainEntry (x .words))) (record { verdict = Bad; entry = noEntry })
+-- request 07: "a subscription has no sOc; uRt 0 means send on change and any other number means by interval only"
+abbrev pub olderEntry : (List ℕ → Word) → GotEntry
+olderEntry f =
+    let u = gotSeconds (f (text "uRt")) in
+    entryOf (gotLabel (f (text "sCI"))) (gotLabel (f (text "n"))) u (Is (eqb (u .number) 0))
+
+abbrev pub entryBy : Asking → (List ℕ → Word) → (List ℕ → Flag) → GotEntry
+entryBy Plain f g = plainEntry f
+entryBy Full f g = fullEntry f g
+entryBy Older f g = olderEntry f
+
+abbrev pub entryOfItem : Asking → Item → GotEntry
+entryOfItem asking x = pick (x .object) (entryBy asking (x .words) (x .flags)) (record { verdict = Bad; entry = noEntry })
 
 -- an entry of the elements that were found in s of sCI, n, uRt and sOc
 abbrev pub plainFound : List ℕ → FourFound → GotEntry
@@ -83,9 +96,19 @@ abbrev pub fullFound : List ℕ → FourFound → GotEntry
 fullFound s f =
     entryOf (gotLabel (wordFound s (f .first))) (gotLabel (wordFound s (f .second))) (gotSeconds (wordFound s (f .third))) (flagFound s (f .fourth))
 
+abbrev pub olderFound : List ℕ → FourFound → GotEntry
+olderFound s f =
+    let u = gotSeconds (wordFound s (f .third)) in
+    entryOf (gotLabel (wordFound s (f .first))) (gotLabel (wordFound s (f .second))) u (Is (eqb (u .number) 0))
+
+abbrev pub foundBy : Asking → List ℕ → FourFound → GotEntry
+foundBy Plain s f = plainFound s f
+foundBy Full s f = fullFound s f
+foundBy Older s f = olderFound s f
+
 -- the entry at a place, and the place of the next
-pub record Steps (s : List ℕ) (at : ℕ) (subscribing : Bool) (r : StatusStep) : Type 0 where
-  pub here : r .got ≡ entryOfItem subscribing (itemAt (skipWs (drop at s)))
+pub record Steps (s : List ℕ) (at : ℕ) (asking : Asking) (r : StatusStep) : Type 0 where
+  pub here : r .got ≡ entryOfItem asking (itemAt (skipWs (drop at s)))
   pub on : Ends s at (nextEntry 0x5d (drop at s)) (r .next)
 
 abbrev pub noStatuses : Verdict → StatusList
@@ -97,20 +120,20 @@ pushEntry l g =
     (record { verdict = worst (l .verdict) (g .verdict); count = l .count + 1; entries = set (l .entries) (l .count) (g .entry) })
     (record { verdict = worst (worst (l .verdict) (g .verdict)) Bad; count = l .count; entries = l .entries })
 
-abbrev pub statusesOf : Bool → Items → StatusList
-statusesOf subscribing i =
-    gathered (λ l x. pushEntry l (entryOfItem subscribing x)) (noStatuses Good) (noStatuses Missing) (noStatuses Bad) i
+abbrev pub statusesOf : Asking → Items → StatusList
+statusesOf asking i =
+    gathered (λ l x. pushEntry l (entryOfItem asking x)) (noStatuses Good) (noStatuses Missing) (noStatuses Bad) i
 
 abbrev pub statusFrom : GotLabel → StatusList → StatusFields
 statusFrom c l = record { verdict = worst (c .verdict) (l .verdict); component = c .label; count = l .count; entries = l .entries }
 
-abbrev pub statusBy : Bool → (List ℕ → Word) → (List ℕ → Items) → StatusFields
-statusBy subscribing f g = statusFrom (gotLabel (f (text "cId"))) (statusesOf subscribing (g (text "sS")))
+abbrev pub statusBy : Asking → (List ℕ → Word) → (List ℕ → Items) → StatusFields
+statusBy asking f g = statusFrom (gotLabel (f (text "cId"))) (statusesOf asking (g (text "sS")))
 
 -- of a packet's meaning
-unfoldable pub statusIn : Bool → Json → StatusFields
-statusIn subscribing j = statusBy subscribing (wordIn j) (listIn j)
+unfoldable pub statusIn : Asking → Json → StatusFields
+statusIn asking j = statusBy asking (wordIn j) (listIn j)
 
 -- of any text, as the code looks the elements up
-unfoldable pub statusAt : Bool → List ℕ → StatusFields
-statusAt subscribing s = statusBy subscribing (wordAt (skipWs s)) (listAt (skipWs s))
+unfoldable pub statusAt : Asking → List ℕ → StatusFields
+statusAt asking s = statusBy asking (wordAt (skipWs s)) (listAt (skipWs s))

@@ -17,6 +17,7 @@ use Rattle.packet_answer.specs.Taken.{notAcked, replied, unlessBusy, unknownCom
 use Rattle.packet_alarm.specs.Orders.{isZero, aggregatedOf, aggregatedTaken}
 use Rattle.machine.specs.Words.{Bytes, isNumber}
 use Rattle.machine.specs.State.{Machine, lifeAt, only}
+use Rattle.machine.specs.Life.{isOlder}
 use Rattle.machine.specs.Json.{readPacket, stringAt, stringOf, isType}
 use Rattle.machine.specs.Messages.{aggregatedMessage as aggregatedTold}
 use Rattle.machine.specs.Answers.{componentAsked, wantsReply}
@@ -81,11 +82,11 @@ module _ (s : Site) (m : Machine) (h : Abstracts s m) (l : ℕ) (b : l < m .setu
       (sym (ap isZero (sought g) ∙ zero-is (componentAsked m j)))
       (by-component (isNumber 0 (componentAsked m j)))
 
-  taken : SameTaken s m l t id j (aggregatedTaken s (questionOn l t id j) f) (reasonBy (verdictIn j) (furtherReason m l j))
+  taken : SameTaken s m l t id j (aggregatedTaken s (questionOn l t id j) f) (reasonBy (verdictIn (isOlder (lifeAt m l)) j) (furtherReason m l j))
   unfolding aggregatedTaken
   taken =
       subst (λ (x : Verdict). SameTaken s m l t id j (aggregatedTaken s (questionOn l t id j) f) (reasonBy x (furtherReason m l j)))
-      (Reads.kept .aggregated p j read .verdict (is-request j ty))
+      (Reads.kept .aggregated p j read .verdict (isOlder (lifeAt m l)) (is-request j ty))
       (subst (λ (r : Option String). SameTaken s m l t id j (aggregatedTaken s (questionOn l t id j) f) (reasonBy (f .verdict) r))
       (sym (Reads.kept .further m l j .aggregated (is-request j ty)))
       (by-verdict s m h l b t id j (f .verdict) (aggregatedOf s (questionOn l t id j) (componentSought (s .table) (f .label)))

@@ -27,7 +27,7 @@ use Rattle.packet_alarm.specs.Orders.{requestBy, requestTaken, ordered, ordered
 use Rattle.machine.specs.Words.{Bytes, maybe, isSome, orElse}
 use Rattle.machine.specs.State.{Alarm, Machine, lifeAt, alarmAt, only}
 use Rattle.machine.specs.Json.{readPacket, stringAt, stringOf, elementIs, isType}
-use Rattle.machine.specs.Life.{isPrimary}
+use Rattle.machine.specs.Life.{isOlder, isPrimary}
 use Rattle.machine.specs.Table.{alarmNumber}
 use Rattle.machine.specs.Messages.{alarmMessage as alarmTold}
 use Rattle.machine.specs.Answers.{componentAsked, alarmAsked, wantsReply}
@@ -176,11 +176,11 @@ module _ (s : Site) (m : Machine) (h : Abstracts s m) (l : ℕ) (b : l < m .setu
         subst (λ (x : SoughtAlarm). SameTaken s m l t id j (orderedOf s (questionOn l t id j) (f .order) x) reason) (sym (sought g))
         (by-component g (componentAsked m j) refl)
 
-    taken : SameTaken s m l t id j (alarmTaken s (questionOn l t id j) f) (reasonBy (verdictIn j) (furtherReason m l j))
+    taken : SameTaken s m l t id j (alarmTaken s (questionOn l t id j) f) (reasonBy (verdictIn (isOlder (lifeAt m l)) j) (furtherReason m l j))
     unfolding alarmTaken
     taken =
         subst (λ (x : Verdict). SameTaken s m l t id j (alarmTaken s (questionOn l t id j) f) (reasonBy x (furtherReason m l j)))
-        (Reads.kept .alarm p j read .verdict (is-alarm j ty))
+        (Reads.kept .alarm p j read .verdict (isOlder (lifeAt m l)) (is-alarm j ty))
         (subst (λ (r : Option String). SameTaken s m l t id j (alarmTaken s (questionOn l t id j) f) (reasonBy (f .verdict) r))
         (sym (Reads.kept .further m l j .alarm (is-alarm j ty)))
         (by-verdict s m h l b t id j (f .verdict) (foundTaken s (questionOn l t id j) f) reason good))

@@ -15,7 +15,7 @@ use Rattle.call_packet.specs.Packet.{expected, unready, kindTaken, expectedTake
 use Rattle.machine.specs.Words.{Bytes}
 use Rattle.machine.specs.State.{Machine, lifeAt}
 use Rattle.machine.specs.Json.{readPacket, stringAt, isType}
-use Rattle.machine.specs.Life.{isOver, isGreeting, isBeating}
+use Rattle.machine.specs.Life.{isOlder, isOver, isGreeting, isBeating}
 use Rattle.machine.specs.Answers.{isUnexpected}
 use Rattle.refine_read.specs.Verdicts.{verdictIn}
 use Rattle.refine_read.specs.Head.{kindOf, mTypeOf, Typed, version, watchdog, alarm, aggregated-request, status-request, status-subscribe, status-unsubscribe, command-request, not-taken}
@@ -57,7 +57,7 @@ judges-taken false b e = untrue (sym e)
 
 module _ (s : Site) (m : Machine) (h : Abstracts s m) (l : ℕ) (b : l < m .setup .links) (t : ℕ) (id : Identity) (v : SixteenBytes (id .bytes)) (p : Bytes) (j : Json) (read : readPacket p ≡ some j) (down : not (lifeAt m l .connected) ≡ false) where
   abbrev behind : Option String
-  behind = byVerdict (verdictIn j) (furtherReason m l j)
+  behind = byVerdict (verdictIn (isOlder (lifeAt m l)) j) (furtherReason m l j)
 
   -- "Unexpected", "Not ready", then those of the type
   stage : (e u r n : Bool) {x : Taken} {o : Option String} → e ≡ not u → (u ≡ false → r ≡ n) → (u ≡ false → n ≡ false → SameTaken s m l t id j x o)

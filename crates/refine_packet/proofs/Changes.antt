@@ -13,7 +13,8 @@ use Rattle.site.specs.declared.Site.{Site}
 use Rattle.site.specs.Parts.{withSubscription}
 use Rattle.packet_subscribe.specs.Subscribing.{wanted, replacedAt, replaced, recordOf, records}
 use Rattle.machine.specs.Words.{isSome, orElse, any}
-use Rattle.machine.specs.State.{Subscription, Issued, Machine, withSubscriptions}
+use Rattle.machine.specs.State.{Subscription, Issued, Machine, withSubscriptions, lifeAt}
+use Rattle.machine.specs.Life.{isOlder}
 use Rattle.machine.specs.Json.{entriesOf}
 use Rattle.machine.specs.Answers.{componentAsked, statusAsked}
 use Rattle.machine.specs.Items.{update, numberAsked, without, subscribing as subscribingTo, subscribeAll, endAll}
@@ -30,13 +31,13 @@ use Rattle.refine_calls.proofs.Inputs.{same-up}
 use Rattle.refine_packet.specs.Lookups.{soughtFor}
 use Rattle.refine_packet.proofs.Entries.{sought-at, there, first-known}
 
-module _ (s : Site) (m : Machine) (h : Abstracts s m) (l : ℕ) (b : l < m .setup .links) (t : ℕ) (subscribing : Bool) (j : Json) (f : StatusFields) (r : StatusReads subscribing j f) (g : f .verdict ≡ Good) (c : ℕ) (asked : componentAsked m j ≡ some c) where
+module _ (s : Site) (m : Machine) (h : Abstracts s m) (l : ℕ) (b : l < m .setup .links) (t : ℕ) (subscribing : Bool) (j : Json) (f : StatusFields) (r : StatusReads subscribing (isOlder (lifeAt m l)) j f) (g : f .verdict ≡ Good) (c : ℕ) (asked : componentAsked m j ≡ some c) where
   abbrev unknown : List Json → Bool
   unknown es = any (λ e. not (isSome (statusAsked m j e))) es
 
   -- ---- the subscriptions
   abbrev pub oneBy : Bool → ℕ → Json → List Subscription → List Subscription
-  oneBy true i e subs = subscribingTo t l i e subs
+  oneBy true i e subs = subscribingTo (isOlder (lifeAt m l)) t l i e subs
   oneBy false i e subs = without l i subs
 
   abbrev pub allBy : Bool → List Json → List Subscription → List Subscription
@@ -44,7 +45,7 @@ module _ (s : Site) (m : Machine) (h : Abstracts s m) (l : ℕ) (b : l < m .setu
   allBy false es subs = endAll m l j es subs
 
   abbrev replacing : Bool → Site → Json → Site
-  replacing z now e = replacedAt now l (wanted z (entryOf z e) t) (soughtFor (statusAsked m j e))
+  replacing z now e = replacedAt now l (wanted z (entryOf z (isOlder (lifeAt m l)) e) t) (soughtFor (statusAsked m j e))
 
   -- as it stands after some entries
   pub record Now (now : Site) (subs : List Subscription) : Type 0 where
@@ -67,11 +68,11 @@ module _ (s : Site) (m : Machine) (h : Abstracts s m) (l : ℕ) (b : l < m .setu
       }
 
   one-done : (z : Bool) (now : Site) (subs : List Subscription) → Now now subs → (e : Json) (o : Option ℕ) → statusAsked m j e ≡ o → isSome o ≡ true
-      → Now (replacedAt now l (wanted z (entryOf z e) t) (soughtFor o)) (oneBy z (orElse 0 o) e subs)
+      → Now (replacedAt now l (wanted z (entryOf z (isOlder (lifeAt m l)) e) t) (soughtFor o)) (oneBy z (orElse 0 o) e subs)
   one-done true now subs n e (some k) q y =
-      with-items now subs _ n _ _ (item-acts .acts now (withSubscriptions subs m) (n .same .items) .subscribing l k b (there s m h subscribing j f r g c asked e k q) .subscribe _ _ t)
+      with-items now subs _ n _ _ (item-acts .acts now (withSubscriptions subs m) (n .same .items) .subscribing l k b (there s m h subscribing (isOlder (lifeAt m l)) j f r g c asked e k q) .subscribe _ _ t)
   one-done false now subs n e (some k) q y =
-      with-items now subs _ n _ _ (item-acts .acts now (withSubscriptions subs m) (n .same .items) .subscribing l k b (there s m h subscribing j f r g c asked e k q) .end)
+      with-items now subs _ n _ _ (item-acts .acts now (withSubscriptions subs m) (n .same .items) .subscribing l k b (there s m h subscribing (isOlder (lifeAt m l)) j f r g c asked e k q) .end)
   one-done z now subs n e none q y = untrue y
 
   known-first : (e : Json) (es : List Json) → unknown (e ∷ es) ≡ false → (isSome (statusAsked m j e) ≡ true) × (unknown es ≡ false)
@@ -91,7 +92,7 @@ module _ (s : Site) (m : Machine) (h : Abstracts s m) (l : ℕ) (b : l < m .setu
       ap (replaced subscribing s l t c (f .entries)) (r .count g)
       ∙ by-places (replacing subscribing) null (entriesOf "sS" j) (replaced subscribing s l t c (f .entries))
       (λ i a. ap₂ (λ (x : StatusEntry) (y : Sought). replacedAt (replaced subscribing s l t c (f .entries) i) l (wanted subscribing x t) y)
-      (r .at g i (omega (arith, r .count g, a))) (sought-at s m h subscribing j f r g c asked i a))
+      (r .at g i (omega (arith, r .count g, a))) (sought-at s m h subscribing (isOlder (lifeAt m l)) j f r g c asked i a))
 
   pub subscriptions-so : unknown (entriesOf "sS" j) ≡ false
       → Now (replaced subscribing s l t c (f .entries) (f .count)) (allBy subscribing (entriesOf "sS" j) (m .subscriptions))
@@ -108,12 +109,12 @@ module _ (s : Site) (m : Machine) (h : Abstracts s m) (l : ℕ) (b : l < m .setu
 
   record-so : (e : Json) (o : Option ℕ) → statusAsked m j e ≡ o → isSome o ≡ true → recordOf s l t (soughtFor o) ≡ unnumbered (update m t l (orElse 0 o)) ∷ []
   record-so e (some k) q y =
-      item-acts .acts s m (h .items) .subscribing l k b (there s m h subscribing j f r g c asked e k q) .at-once t (same-up s m h) .issued
+      item-acts .acts s m (h .items) .subscribing l k b (there s m h subscribing (isOlder (lifeAt m l)) j f r g c asked e k q) .at-once t (same-up s m h) .issued
   record-so e none q y = untrue y
 
   told-so : (e : Json) (o : Option ℕ) → statusAsked m j e ≡ o → isSome o ≡ true → Each (λ (i : Issued). IsTold (i .content)) (update m t l (orElse 0 o) ∷ [])
   told-so e (some k) q y =
-      item-acts .acts s m (h .items) .subscribing l k b (there s m h subscribing j f r g c asked e k q) .at-once t (same-up s m h) .told
+      item-acts .acts s m (h .items) .subscribing l k b (there s m h subscribing (isOlder (lifeAt m l)) j f r g c asked e k q) .at-once t (same-up s m h) .told
   told-so e none q y = untrue y
 
   all-added : (es : List Json) → unknown es ≡ false → (rs : List Entry) → done adding rs es ≡ rs ++ map unnumbered (map toldOf es)
@@ -131,5 +132,5 @@ module _ (s : Site) (m : Machine) (h : Abstracts s m) (l : ℕ) (b : l < m .setu
   records-so k =
       ap (records s l t c (f .entries)) (r .count g)
       ∙ by-places adding null (entriesOf "sS" j) (records s l t c (f .entries))
-      (λ i a. ap (λ (y : Sought). records s l t c (f .entries) i ++ recordOf s l t y) (sought-at s m h subscribing j f r g c asked i a))
+      (λ i a. ap (λ (y : Sought). records s l t c (f .entries) i ++ recordOf s l t y) (sought-at s m h subscribing (isOlder (lifeAt m l)) j f r g c asked i a))
       ∙ all-added (entriesOf "sS" j) k []

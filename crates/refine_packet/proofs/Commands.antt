@@ -29,6 +29,7 @@ use Rattle.packet_answer.specs.Taken.{Taken, notAcked, handing, unlessBusy, bad
 use Rattle.packet_command.specs.Commanding.{entryAt, inRange, within, allWithin, allCommands, passes, valueIn, toldOf, toldTo, response, numberOf, commandsTo, commandsOf, orderedOf, commandTaken}
 use Rattle.machine.specs.Words.{Bytes, maybe, isSome, orElse, any}
 use Rattle.machine.specs.State.{Machine, lifeAt, handing as handingOf}
+use Rattle.machine.specs.Life.{isOlder}
 use Rattle.machine.specs.Json.{stringAt, stringOf, entriesOf, isType, integerIn}
 use Rattle.machine.specs.Table.{commandNumber, commandRow}
 use Rattle.machine.specs.Answers.{componentAsked, commandAsked, valueAsked, wantsReply, inRange as inRangeOf}
@@ -255,10 +256,10 @@ module _ (s : Site) (m : Machine) (h : Abstracts s m) (l : ℕ) (b : l < m .setu
       pick (isSome (componentAsked m j))
       (pick (anyOutOfRange m j) (some "Bad value") (pick (anyUnknownCommand m j) (some "Unknown command") (busyIf m l true))) (busyIf m l true)
 
-  taken : SameTaken s m l t id j (commandTaken s (questionOn l t id j) f) (reasonBy (verdictIn j) (furtherReason m l j))
+  taken : SameTaken s m l t id j (commandTaken s (questionOn l t id j) f) (reasonBy (verdictIn (isOlder (lifeAt m l)) j) (furtherReason m l j))
   unfolding commandTaken
   taken =
-      subst (λ (x : Verdict). SameTaken s m l t id j (commandTaken s (questionOn l t id j) f) (reasonBy x (furtherReason m l j))) (r .verdict (is-request j ty))
+      subst (λ (x : Verdict). SameTaken s m l t id j (commandTaken s (questionOn l t id j) f) (reasonBy x (furtherReason m l j))) (r .verdict (isOlder (lifeAt m l)) (is-request j ty))
       (subst (λ (x : Option String). SameTaken s m l t id j (commandTaken s (questionOn l t id j) f) (reasonBy (f .verdict) x))
       (sym (Reads.kept .further m l j .command-request (is-request j ty)))
       (by-verdict s m h l b t id j (f .verdict) (orderedOf s (questionOn l t id j) f (componentSought (s .table) (f .component))) reason good))

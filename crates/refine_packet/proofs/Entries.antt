@@ -52,14 +52,14 @@ named-component s m h j id e =
     ∙ ap (componentSought (memoryOf (m .setup .table))) e
     ∙ same-lookups (h .items .setup .edition) (m .setup .table) (h .items .setup .allowed) .component (stringOf "cId" j)
 
-module _ (s : Site) (m : Machine) (h : Abstracts s m) (subscribing : Bool) (j : Json) (f : StatusFields) (r : StatusReads subscribing j f) (g : f .verdict ≡ Good) where
+module _ (s : Site) (m : Machine) (h : Abstracts s m) (subscribing older : Bool) (j : Json) (f : StatusFields) (r : StatusReads subscribing older j f) (g : f .verdict ≡ Good) where
   pub component-sought : componentSought (s .table) (f .component) ≡ soughtFor (componentAsked m j)
   component-sought = named-component s m h j (f .component) (r .component g)
 
   module _ (c : ℕ) (asked : componentAsked m j ≡ some c) where
-    pub entry-sought : (e : Json) → statusSought (memoryOf (m .setup .table)) c (entryOf subscribing e) ≡ soughtFor (statusAsked m j e)
+    pub entry-sought : (e : Json) → statusSought (memoryOf (m .setup .table)) c (entryOf subscribing older e) ≡ soughtFor (statusAsked m j e)
     entry-sought e =
-        same-lookups (h .items .setup .edition) (m .setup .table) (h .items .setup .allowed) .status c (entryOf subscribing e)
+        same-lookups (h .items .setup .edition) (m .setup .table) (h .items .setup .allowed) .status c (entryOf subscribing older e)
         ∙ ap₂ (λ (x y : Bytes). soughtFor (statusNumber (m .setup .table) c x y)) (Reads.kept .kept (stringOf "sCI" e)) (Reads.kept .kept (stringOf "n" e))
         ∙ sym (ap (λ (o : Option ℕ). soughtFor (maybe none (λ (x : ℕ). statusNumber (m .setup .table) x (stringOf "sCI" e) (stringOf "n" e)) o)) asked)
 

@@ -17,6 +17,7 @@ use Rattle.read_head.specs.declared.Verdict.{Verdict}
 use Rattle.read_head.specs.declared.Verdict.the-variants.{Good}
 use Rattle.read_lists.specs.declared.StatusEntry.{StatusEntry}
 use Rattle.read_lists.specs.declared.StatusFields.{StatusFields}
+use Rattle.read_lists.specs.declared.Asking.the-variants.{Plain}
 use Rattle.read_lists.specs.Status.{statusAt}
 use Rattle.packet_lookup.specs.declared.Sought.{Sought}
 use Rattle.packet_lookup.specs.Sought.{componentSought, entryAt}
@@ -26,6 +27,7 @@ use Rattle.packet_answer.specs.Taken.{Taken, notAcked, replied, unlessBusy, unk
 use Rattle.packet_status.specs.StatusReply.{valueOf, toldOf, toldTo, response, passes, requestedOf, statusTaken}
 use Rattle.machine.specs.Words.{Bytes, maybe, isSome, orElse, any}
 use Rattle.machine.specs.State.{Machine, lifeAt, valueAt, only}
+use Rattle.machine.specs.Life.{isOlder}
 use Rattle.machine.specs.Json.{stringAt, stringOf, entriesOf, isType}
 use Rattle.machine.specs.Messages.{valueOf as valueIn, responseMessage}
 use Rattle.machine.specs.Answers.{componentAsked, statusAsked, wantsReply}
@@ -74,7 +76,7 @@ map-known q k n e [] u = refl
 map-known {B = B} q k n e (x ∷ xs) u =
     ap₂ (λ (y : B) (ys : List B). y ∷ ys) (e x (first-known q x xs u .0)) (map-known q k n e xs (first-known q x xs u .1))
 
-module _ (s : Site) (m : Machine) (h : Abstracts s m) (l : ℕ) (b : l < m .setup .links) (up : IsUp (lifeAt m l)) (t : ℕ) (id : Identity) (v : SixteenBytes (id .bytes)) (j : Json) (ty : stringAt "type" j ≡ some (text "StatusRequest")) (f : StatusFields) (r : StatusReads false j f) where
+module _ (s : Site) (m : Machine) (h : Abstracts s m) (l : ℕ) (b : l < m .setup .links) (up : IsUp (lifeAt m l)) (t : ℕ) (id : Identity) (v : SixteenBytes (id .bytes)) (j : Json) (ty : stringAt "type" j ≡ some (text "StatusRequest")) (f : StatusFields) (r : StatusReads false (isOlder (lifeAt m l)) j f) where
   -- an entry with a value
   abbrev entryWith : (Json → Value) → Json → Status
   entryWith value e = status (stringOf "sCI" e) (stringOf "n" e) (value e)
@@ -97,7 +99,7 @@ module _ (s : Site) (m : Machine) (h : Abstracts s m) (l : ℕ) (b : l < m .setu
         → toldOf s (soughtFor o) (entryAt (f .entries) i) ≡ entryWith (valueFor o) (getD (entriesOf "sS" j) i null)
     unfolding toldOf
     told-at none a i e = texts-so i e _ _ refl
-    told-at (some c) a i e = texts-so i e _ _ (ap (valueOf s) (sought-at s m h false j f r g c a i e))
+    told-at (some c) a i e = texts-so i e _ _ (ap (valueOf s) (sought-at s m h false (isOlder (lifeAt m l)) j f r g c a i e))
 
     told-all : (o : Option ℕ) → componentAsked m j ≡ o → toldTo s (soughtFor o) (f .entries) (f .count) ≡ map (entryWith (valueFor o)) (entriesOf "sS" j)
     told-all o a =
@@ -109,7 +111,7 @@ module _ (s : Site) (m : Machine) (h : Abstracts s m) (l : ℕ) (b : l < m .setu
     value-so : (c : ℕ) → componentAsked m j ≡ some c → (e : Json) (o : Option ℕ) → statusAsked m j e ≡ o → isSome o ≡ true
         → valueOf s (soughtFor o) ≡ valueIn false (valueAt m (orElse 0 o))
     value-so c a e (some k) q y =
-        ap statusValue (h .items .statuses k (there s m h false j f r g c a e k q)) ∙ value-same (valueAt m k) (h .items .values k)
+        ap statusValue (h .items .statuses k (there s m h false (isOlder (lifeAt m l)) j f r g c a e k q)) ∙ value-same (valueAt m k) (h .items .values k)
     value-so c a e none q y = untrue y
 
     abbrev answerBy : Option ℕ → Json → Status
@@ -134,7 +136,7 @@ module _ (s : Site) (m : Machine) (h : Abstracts s m) (l : ℕ) (b : l < m .setu
 
     passes-so : (o : Option ℕ) → componentAsked m j ≡ o → passes s f (soughtFor o) ≡ not (both (isSome o) (anyUnknown m j))
     passes-so none a = refl
-    passes-so (some c) a = all-known s m h false j f r g c a
+    passes-so (some c) a = all-known s m h false (isOlder (lifeAt m l)) j f r g c a
 
     abbrev answer : Option ℕ → Taken
     answer o = unlessBusy s (questionOn l t id j) (replied s (questionOn l t id j) (response s t (id .bytes) (soughtFor o) f))
@@ -156,10 +158,10 @@ module _ (s : Site) (m : Machine) (h : Abstracts s m) (l : ℕ) (b : l < m .setu
 
   good : f .verdict ≡ Good → SameTaken s m l t id j (requestedOf s (questionOn l t id j) f (componentSought (s .table) (f .component))) reason
   good g =
-      subst (λ (x : Sought). SameTaken s m l t id j (requestedOf s (questionOn l t id j) f x) reason) (sym (component-sought s m h false j f r g))
+      subst (λ (x : Sought). SameTaken s m l t id j (requestedOf s (questionOn l t id j) f x) reason) (sym (component-sought s m h false (isOlder (lifeAt m l)) j f r g))
       (by-component g (componentAsked m j) refl)
 
-  taken : SameTaken s m l t id j (statusTaken s (questionOn l t id j) f) (reasonBy (verdictIn j) (furtherReason m l j))
+  taken : SameTaken s m l t id j (statusTaken s (questionOn l t id j) f) (reasonBy (verdictIn (isOlder (lifeAt m l)) j) (furtherReason m l j))
   unfolding statusTaken
   taken =
       subst (λ (x : Verdict). SameTaken s m l t id j (statusTaken s (questionOn l t id j) f) (reasonBy x (furtherReason m l j))) (r .verdict (is-list j ty))
@@ -168,4 +170,4 @@ module _ (s : Site) (m : Machine) (h : Abstracts s m) (l : ℕ) (b : l < m .setu
       (by-verdict s m h l b t id j (f .verdict) (requestedOf s (questionOn l t id j) f (componentSought (s .table) (f .component))) reason good))
 
 pub same-request : SameStatusRequest
-same-request s m h l b up t id v p j read ty = taken s m h l b up t id v j ty (statusAt false p) (Lists.kept .statuses false p j read)
+same-request s m h l b up t id v p j read ty = taken s m h l b up t id v j ty (statusAt Plain p) (Lists.kept .statuses false (isOlder (lifeAt m l)) p j read)

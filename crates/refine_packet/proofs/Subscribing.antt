@@ -8,14 +8,21 @@ use Rattle.write_message.specs.Message.Message.{ack}
 use Rattle.read_head.specs.declared.Verdict.{Verdict}
 use Rattle.read_head.specs.declared.Verdict.the-variants.{Good}
 use Rattle.read_lists.specs.declared.StatusFields.{StatusFields}
+use Rattle.read_lists.specs.declared.Asking.{Asking}
+use Rattle.read_lists.specs.declared.Asking.the-variants.{Plain, Full, Older}
 use Rattle.read_lists.specs.Status.{statusAt}
 use Rattle.packet_lookup.specs.declared.Sought.{Sought}
 use Rattle.packet_lookup.specs.Sought.{componentSought}
 use Rattle.site.specs.declared.Site.{Site}
+use Rattle.site.specs.Site.{linkAt}
+use Rattle.refine_parts.specs.Life.{shown}
+use Rattle.basis.specs.Lists.{sameBytes}
+use lib.Dec.{eqb}
 use Rattle.packet_answer.specs.Taken.{notAcked, unknownStatus}
-use Rattle.packet_subscribe.specs.Subscribing.{replaced, records, changed, judged, asked, subscribingTaken}
+use Rattle.packet_subscribe.specs.Subscribing.{replaced, records, changed, judged, asked, askingBy, askingOn, subscribingTaken}
 use Rattle.machine.specs.Words.{isSome}
-use Rattle.machine.specs.State.{Issued, Machine, withSubscriptions, Effect, effect}
+use Rattle.machine.specs.State.{Issued, Machine, withSubscriptions, Effect, effect, lifeAt}
+use Rattle.machine.specs.Life.{isOlder}
 use Rattle.machine.specs.Json.{stringAt, stringOf, entriesOf, isType}
 use Rattle.machine.specs.Answers.{componentAsked, wantsReply}
 use Rattle.machine.specs.Items.{subscribe, unsubscribe}
@@ -26,7 +33,7 @@ use Rattle.demand_held.proofs.Issue.{For}
 use Rattle.refine_read.specs.Verdicts.{verdictIn}
 use Rattle.refine_read.specs.Reasons.{byVerdict as reasonBy, furtherReason, anyUnknown}
 use Rattle.refine_read.proofs.Kept as Reads
-use Rattle.refine_read.specs.Statuses.{isRead, StatusReads}
+use Rattle.refine_read.specs.Statuses.{askingFor, isRead, StatusReads}
 use Rattle.refine_read.proofs.ListsKept as Lists
 use Rattle.refine_parts.specs.Items.{SameIssued}
 use Rattle.refine_calls.specs.Abstracts.{Abstracts}
@@ -47,7 +54,7 @@ effectFor false m l t j = unsubscribe m l j
 abbrev reasonFor : Machine → Json → Option String
 reasonFor m j = pick (both (isSome (componentAsked m j)) (not (anyUnknown m j))) none (some "Unknown status")
 
-module _ (s : Site) (m : Machine) (h : Abstracts s m) (l : ℕ) (b : l < m .setup .links) (t : ℕ) (id : Identity) (subscribing : Bool) (j : Json) (f : StatusFields) (r : StatusReads subscribing j f) (does : carriedOut l t j m ≡ effectFor subscribing m l t j) (silent : (n : Machine) → wantsReply n l j ≡ false) where
+module _ (s : Site) (m : Machine) (h : Abstracts s m) (l : ℕ) (b : l < m .setup .links) (t : ℕ) (id : Identity) (subscribing : Bool) (j : Json) (f : StatusFields) (r : StatusReads subscribing (isOlder (lifeAt m l)) j f) (does : carriedOut l t j m ≡ effectFor subscribing m l t j) (silent : (n : Machine) → wantsReply n l j ≡ false) where
   module _ (g : f .verdict ≡ Good) (c : ℕ) (a : componentAsked m j ≡ some c) (k : anyUnknown m j ≡ false) where
     abbrev issuedBy : Bool → List Issued
     issuedBy true = map (toldOf s m h l b t subscribing j f r g c a) (entriesOf "sS" j)
@@ -97,15 +104,15 @@ module _ (s : Site) (m : Machine) (h : Abstracts s m) (l : ℕ) (b : l < m .setu
   by-component g none a = reasons s m h l b t id j .unknown-status
   by-component g (some c) a =
       subst (λ (x : Bool). SameTaken s m l t id j (pick x (changed subscribing s (questionOn l t id j) f c) (notAcked s (questionOn l t id j) unknownStatus)) (pick (not (anyUnknown m j)) none (some "Unknown status")))
-      (sym (all-known s m h subscribing j f r g c a)) (by-known g c a (anyUnknown m j) refl)
+      (sym (all-known s m h subscribing (isOlder (lifeAt m l)) j f r g c a)) (by-known g c a (anyUnknown m j) refl)
 
   good : f .verdict ≡ Good → SameTaken s m l t id j (asked subscribing s (questionOn l t id j) f (componentSought (s .table) (f .component))) (reasonFor m j)
   good g =
-      subst (λ (x : Sought). SameTaken s m l t id j (asked subscribing s (questionOn l t id j) f x) (reasonFor m j)) (sym (component-sought s m h subscribing j f r g))
+      subst (λ (x : Sought). SameTaken s m l t id j (asked subscribing s (questionOn l t id j) f x) (reasonFor m j)) (sym (component-sought s m h subscribing (isOlder (lifeAt m l)) j f r g))
       (by-component g (componentAsked m j) refl)
 
   taken : isRead subscribing j ≡ true → furtherReason m l j ≡ reasonFor m j
-      → SameTaken s m l t id j (subscribingTaken subscribing s (questionOn l t id j) f) (reasonBy (verdictIn j) (furtherReason m l j))
+      → SameTaken s m l t id j (subscribingTaken subscribing s (questionOn l t id j) f) (reasonBy (verdictIn (isOlder (lifeAt m l)) j) (furtherReason m l j))
   unfolding subscribingTaken
   taken is further =
       subst (λ (x : Verdict). SameTaken s m l t id j (subscribingTaken subscribing s (questionOn l t id j) f) (reasonBy x (furtherReason m l j))) (r .verdict is)
@@ -137,12 +144,30 @@ module _ (j : Json) (ty : stringAt "type" j ≡ some (text "StatusUnsubscribe"))
   unfolding carriedOut
   unsubscribe-does l t m = rw ty
 
+-- the link's three numbers are its life's version
+asking-shown : (v : List ℕ) (x y z : ℕ) → x ∷ y ∷ z ∷ [] ≡ shown v → askingFor true (sameBytes v (3 ∷ 1 ∷ 4 ∷ [])) ≡ askingBy x y z
+asking-shown [] x y z e =
+    let q : x ≡ 0 = cc in
+    rw q
+asking-shown (a ∷ v) x y z e = subst (λ (w : List ℕ). askingFor true (sameBytes w (3 ∷ 1 ∷ 4 ∷ [])) ≡ askingBy x y z) e (by (eqb x 3) (eqb y 1) (eqb z 4))
+  where
+    by : (p q r : Bool) → askingFor true (both p (both q (both r true))) ≡ pick (both p (both q r)) Older Full
+    by true true true = refl
+    by true true false = refl
+    by true false r = refl
+    by false q r = refl
+
+same-asking : (s : Site) (m : Machine) → Abstracts s m → (l : ℕ) → askingFor true (isOlder (lifeAt m l)) ≡ askingOn (linkAt s l)
+same-asking s m h l = asking-shown (lifeAt m l .version) (linkAt s l .major) (linkAt s l .minor) (linkAt s l .patch) (h .lives l .version)
+
 pub same-subscribe : SameStatusSubscribe
 same-subscribe s m h l b up t id v p j read ty =
-    taken s m h l b t id true j (statusAt true p) (Lists.kept .statuses true p j read) (subscribe-does j ty l t m) (subscribe-silent j ty l) (is-subscribe j ty)
-    (Reads.kept .further m l j .status-subscribe (is-subscribe j ty))
+    subst (λ (a : Asking). SameTaken s m l t id j (subscribingTaken true s (questionOn l t id j) (statusAt a p)) (reasonBy (verdictIn (isOlder (lifeAt m l)) j) (furtherReason m l j)))
+    (same-asking s m h l)
+    (taken s m h l b t id true j (statusAt (askingFor true (isOlder (lifeAt m l))) p) (Lists.kept .statuses true (isOlder (lifeAt m l)) p j read) (subscribe-does j ty l t m) (subscribe-silent j ty l) (is-subscribe j ty)
+    (Reads.kept .further m l j .status-subscribe (is-subscribe j ty)))
 
 pub same-unsubscribe : SameStatusUnsubscribe
 same-unsubscribe s m h l b up t id v p j read ty =
-    taken s m h l b t id false j (statusAt false p) (Lists.kept .statuses false p j read) (unsubscribe-does j ty l t m) (unsubscribe-silent j ty l) (is-list j ty)
+    taken s m h l b t id false j (statusAt Plain p) (Lists.kept .statuses false (isOlder (lifeAt m l)) p j read) (unsubscribe-does j ty l t m) (unsubscribe-silent j ty l) (is-list j ty)
     (Reads.kept .further m l j .status-unsubscribe (is-unsubscribe j ty))

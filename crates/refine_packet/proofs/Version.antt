@@ -11,6 +11,7 @@ use Rattle.table_whole.specs.declared.SiteTable.{SiteTable}
 use Rattle.read_head.specs.declared.Verdict.{Verdict}
 use Rattle.read_versions.specs.declared.Judged.{Judged}
 use Rattle.read_versions.specs.declared.Judged.the-variants.{Chosen, RsmpVersion, SiteId, SxlVersion}
+use Rattle.read_versions.specs.Version.{version}
 use Rattle.read_versions.specs.Judge.{judge}
 use Rattle.read_lists.specs.declared.VersionFields.{VersionFields}
 use Rattle.read_lists.specs.Version.{versionAt}
@@ -20,7 +21,7 @@ use Rattle.packet_greet.specs.Version.{own, accepted, versionJudged, versionTak
 use Rattle.machine.specs.Words.{Bytes, maybe, orElse}
 use Rattle.machine.specs.State.{Machine, lifeAt, withLife}
 use Rattle.machine.specs.Json.{readPacket, stringAt, isType}
-use Rattle.machine.specs.Life.{offers, common, namesSite, equalSxl}
+use Rattle.machine.specs.Life.{isOlder, offers, common, namesSite, equalSxl}
 use Rattle.machine.specs.Answers.{wantsReply}
 use Rattle.machine.specs.Effects.{agreed, versionAccepted, carriedOut}
 use Rattle.demand_held.proofs.Lists.Each.{no-more}
@@ -29,6 +30,7 @@ use Rattle.refine_read.specs.Reasons.{byVerdict as reasonBy, furtherReason}
 use Rattle.refine_read.proofs.Kept as Reads
 use Rattle.refine_read.specs.Versions.{numberOf, checked, failed, Ours, VersionReads}
 use Rattle.refine_read.proofs.VersionsKept as Versions
+use Rattle.refine_read.proofs.Checks.{Parts, three, chosen-parts, ours-fall}
 use Rattle.refine_parts.proofs.LifeActs.{acts}
 use Rattle.refine_calls.specs.Abstracts.{Abstracts}
 use Rattle.refine_calls.specs.Calls.SameCommands.{no-command}
@@ -83,18 +85,16 @@ module _ (s : Site) (m : Machine) (h : Abstracts s m) (l : ℕ) (b : l < m .setu
         commands = no-command;
       })
 
-  -- it is one of ours
+  -- it is one of ours, so its parts are in its number
   accepts : (v : List ℕ) → common j ≡ some v → Same (Chosen (numberOf v)) none
-  accepts v e = by (offers j (3 ∷ 2 ∷ 0 ∷ [])) (offers j (3 ∷ 1 ∷ 5 ∷ [])) e e
+  accepts v e = by v (chosen-parts (offers j) ours-fall v e) e
     where
-      by : (p q : Bool) → common j ≡ some v → pick p (some (3 ∷ 2 ∷ 0 ∷ [])) (pick q (some (3 ∷ 1 ∷ 5 ∷ [])) none) ≡ some v → Same (Chosen (numberOf v)) none
-      by true q c e =
-          let z : v ≡ 3 ∷ 2 ∷ 0 ∷ [] = cc in
-          subst (λ (w : List ℕ). Same (Chosen (numberOf w)) none) (sym z) (so 3 2 0 (numberOf (3 ∷ 2 ∷ 0 ∷ [])) (c ∙ ap some z) refl)
-      by false true c e =
-          let z : v ≡ 3 ∷ 1 ∷ 5 ∷ [] = cc in
-          subst (λ (w : List ℕ). Same (Chosen (numberOf w)) none) (sym z) (so 3 1 5 (numberOf (3 ∷ 1 ∷ 5 ∷ [])) (c ∙ ap some z) refl)
-      by false false c e = absurd (let z : _≡_ {A = ℕ} 0 1 = cc in omega arith)
+      by : (w : List ℕ) → Parts w → common j ≡ some w → Same (Chosen (numberOf w)) none
+      by (p ∷ q ∷ t ∷ []) (three p q t high mid low) c =
+          let a : version p q t / 65536 ≡ p = omega arith in
+          let b : version p q t / 256 % 256 ≡ q = omega arith in
+          let d : version p q t % 256 ≡ t = omega arith in
+          so p q t (version p q t) c (rw (a, b, d))
 
   abbrev first-failed : Option (List ℕ) → Bool → Bool → Judged
   first-failed o n q = maybe RsmpVersion (λ v. pick n (pick q (Chosen (numberOf v)) SxlVersion) SiteId) o
@@ -106,9 +106,9 @@ module _ (s : Site) (m : Machine) (h : Abstracts s m) (l : ℕ) (b : l < m .setu
   by-checks (some v) e false q = reasons s m h l b t id j .site-id
 
   taken : (p : Bytes) → readPacket p ≡ some j
-      → SameTaken s m l t id j (versionTaken s (questionOn l t id j) (versionAt p)) (reasonBy (verdictIn j) (furtherReason m l j))
+      → SameTaken s m l t id j (versionTaken s (questionOn l t id j) (versionAt p)) (reasonBy (verdictIn (isOlder (lifeAt m l)) j) (furtherReason m l j))
   taken p read =
-      subst (λ (v : Verdict). SameTaken s m l t id j (versionTaken s (questionOn l t id j) f) (reasonBy v (furtherReason m l j))) (reads .verdict (is-version j ty))
+      subst (λ (v : Verdict). SameTaken s m l t id j (versionTaken s (questionOn l t id j) f) (reasonBy v (furtherReason m l j))) (reads .verdict (isOlder (lifeAt m l)) (is-version j ty))
       (subst (λ (r : Option String). SameTaken s m l t id j (versionTaken s (questionOn l t id j) f) (reasonBy (f .verdict) r)) (sym (reads .reason (is-version j ty) m l))
       (by-verdict s m h l b t id j (f .verdict) (versionJudged s (questionOn l t id j) (judge (own s) (f .offer))) (failed (checked m j))
       (λ g. subst (λ (c : Judged). Same c (failed (checked m j))) (sym (reads .judged g m (own s) (own-ours s m h))) (by-checks (common j) refl (namesSite m j) (equalSxl m j)))))

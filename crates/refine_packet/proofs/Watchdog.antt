@@ -16,7 +16,7 @@ use Rattle.packet_greet.specs.Watchdog.{hintFrom, beaten, beat, watchdogTaken}
 use Rattle.machine.specs.Words.{Bytes}
 use Rattle.machine.specs.State.{Machine, lifeAt}
 use Rattle.machine.specs.Json.{readPacket, stringAt, stringOf, isType, hintIn}
-use Rattle.machine.specs.Life.{isPrimary, nowTaken, withWatchdogs}
+use Rattle.machine.specs.Life.{isOlder, isPrimary, nowTaken, withWatchdogs}
 use Rattle.machine.specs.Answers.{wantsReply}
 use Rattle.machine.specs.Effects.{carriedOut, watchdogTaken as watchdogIn}
 use Rattle.demand_held.proofs.Lists.Each.{no-more}
@@ -74,10 +74,10 @@ module _ (s : Site) (m : Machine) (h : Abstracts s m) (l : ℕ) (b : l < m .setu
         commands = no-command;
       })
 
-  taken : SameTaken s m l t id j (watchdogTaken s (questionOn l t id j) f) (reasonBy (verdictIn j) (furtherReason m l j))
+  taken : SameTaken s m l t id j (watchdogTaken s (questionOn l t id j) f) (reasonBy (verdictIn (isOlder (lifeAt m l)) j) (furtherReason m l j))
   taken =
       subst (λ (v : Verdict). SameTaken s m l t id j (watchdogTaken s (questionOn l t id j) f) (reasonBy v (furtherReason m l j)))
-      (Reads.kept .watchdog p j read .verdict (is-watchdog j ty))
+      (Reads.kept .watchdog p j read .verdict (isOlder (lifeAt m l)) (is-watchdog j ty))
       (subst (λ (r : Option String). SameTaken s m l t id j (watchdogTaken s (questionOn l t id j) f) (reasonBy (f .verdict) r))
       (sym (Reads.kept .further m l j .watchdog (is-watchdog j ty)))
       (by-verdict s m h l b t id j (f .verdict) (beat s (questionOn l t id j) f) none same-beat))

@@ -15,7 +15,7 @@ use Rattle.packet_answer.specs.Taken.{Taken}
 use Rattle.machine.specs.Words.{Bytes, _and_, maybe, isSome}
 use Rattle.machine.specs.State.{Life, Machine, lifeAt, Effect}
 use Rattle.machine.specs.Json.{readPacket, stringAt, stringOf}
-use Rattle.machine.specs.Life.{isAwaited}
+use Rattle.machine.specs.Life.{isOlder, isAwaited}
 use Rattle.machine.specs.Answers.{wantsReply}
 use Rattle.machine.specs.Effects.{refuses, carriedOut, replying}
 use Rattle.refine_read.specs.Verdicts.{verdictIn}
@@ -43,4 +43,4 @@ abbrev pub SameAsked : String → (Life → Type 0) → (Site → Question → B
 SameAsked type Ready takes =
     (s : Site) (m : Machine) → Abstracts s m → (l : ℕ) → l < m .setup .links → Ready (lifeAt m l) → (t : ℕ) (id : Identity) → SixteenBytes (id .bytes)
     → (p : Bytes) (j : Json) → readPacket p ≡ some j → stringAt "type" j ≡ some (text type)
-    → SameTaken s m l t id j (takes s (questionOn l t id j) p) (byVerdict (verdictIn j) (furtherReason m l j))
+    → SameTaken s m l t id j (takes s (questionOn l t id j) p) (byVerdict (verdictIn (isOlder (lifeAt m l)) j) (furtherReason m l j))

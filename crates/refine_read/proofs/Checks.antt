@@ -1,6 +1,16 @@
 -- The three checks, on the entries that both read.
 -- Assumes nothing.
-use Rattle.basis.proofs.Std.{ℕ, _≤_, _<_, arith, _≡_, refl, sym, ap, ap₂, _∙_, Bool, true, false, List, [], _∷_, map, Option, some, none, eqb, eqb-true, eq-eqb, ne-eqb, pick, sameBytes, same-is, same-true, same-self}
+use Prim.Native.Nat.{ℕ, _≤_, _<_}
+use native.Mathlib.Omega.{arith}
+use mathlib.Core.Path.{_≡_, refl, sym, ap, ap₂, subst, _∙_}
+use mathlib.Core.Bool.{Bool, true, false}
+use mathlib.Core.List.{List, [], _∷_, map}
+use mathlib.Core.Option.{Option, some, none}
+use lib.Dec.{eqb, ltb}
+use borrow.Author.Tests.{eqb-true, eq-eqb, ne-eqb, le-ltb}
+use Rattle.basis.specs.Pick.{pick}
+use Rattle.basis.specs.Lists.{sameBytes}
+use Rattle.basis.proofs.Same.{same-is, same-true, same-self}
 use Rattle.number.specs.declared.Number.{Number}
 use Rattle.number.specs.declared.Number.the-variants.{Is, No}
 use Rattle.label.specs.declared.Label.{Label}
@@ -48,23 +58,78 @@ module _ (p q t : ℕ) (high : p ≤ 255) (mid : q ≤ 255) (low : t ≤ 255) (m
   offered [] = refl
   offered (x ∷ xs) = ap₂ _or_ (number-same (alike (stringOf "vers" x))) (offered xs)
 
--- ---- the latest of ours that they have
-abbrev chosenOf : Bool → Bool → Number
-chosenOf older newer = later (pick older (Is (version 3 1 5)) No) (later (pick newer (Is (version 3 2 0)) No) No)
+-- ---- the latest of ours that they have, of any list of ours that falls
+-- all of these are earlier
+pub data Under (n : ℕ) : List (List ℕ) → Type 0 where
+  none-under : Under n []
+  one-under : {v : List ℕ} {vs : List (List ℕ)} → numberOf v < n → Under n vs → Under n (v ∷ vs)
 
-pub choice : (xs : List Json)
-    → latest (version 3 1 5 ∷ version 3 2 0 ∷ []) (map versionAt xs)
-    ≡ numbered (firstThat (λ v. any (λ e. maybe false (sameBytes v) (versionIn (stringOf "vers" e))) xs) ours)
-unfolding latest
-choice xs =
-    ap₂ chosenOf (offered 3 1 5 (omega arith) (omega arith) (omega arith) (omega arith) xs) (offered 3 2 0 (omega arith) (omega arith) (omega arith) (omega arith) xs)
-    ∙ by (any (λ e. maybe false (sameBytes (3 ∷ 1 ∷ 5 ∷ [])) (versionIn (stringOf "vers" e))) xs) (any (λ e. maybe false (sameBytes (3 ∷ 2 ∷ 0 ∷ [])) (versionIn (stringOf "vers" e))) xs)
+pub data Falling : List (List ℕ) → Type 0 where
+  ends : Falling []
+  falls : (p q t : ℕ) → p ≤ 255 → q ≤ 255 → t ≤ 255 → 0 < version p q t → {vs : List (List ℕ)} → Under (version p q t) vs → Falling vs
+      → Falling ((p ∷ q ∷ t ∷ []) ∷ vs)
+
+data Less (n : ℕ) : Number → Type 0 where
+  no-number : Less n No
+  a-number : {w : ℕ} → w < n → Less n (Is w)
+
+later-less : (n : ℕ) {a b : Number} → Less n a → Less n b → Less n (later a b)
+later-less n no-number r = r
+later-less n (a-number h) no-number = a-number h
+later-less n (a-number {w} h) (a-number {w = x} k) = by (ltb w x)
   where
-    by : (older newer : Bool) → chosenOf older newer ≡ numbered (pick newer (some (3 ∷ 2 ∷ 0 ∷ [])) (pick older (some (3 ∷ 1 ∷ 5 ∷ [])) none))
-    by true true = refl
-    by true false = refl
-    by false true = refl
-    by false false = refl
+    by : (z : Bool) → Less n (Is (pick z x w))
+    by true = a-number k
+    by false = a-number h
+
+latest-less : (n : ℕ) (ys : List ℕ) {vs : List (List ℕ)} → Under n vs → Less n (latest (map numberOf vs) ys)
+unfolding latest
+latest-less n ys none-under = no-number
+latest-less n ys (one-under {v} h u) = later-less n (by (has ys (numberOf v))) (latest-less n ys u)
+  where
+    by : (z : Bool) → Less n (pick z (Is (numberOf v)) No)
+    by true = a-number h
+    by false = no-number
+
+first-latest : (n : ℕ) {r : Number} → Less n r → later (Is n) r ≡ Is n
+first-latest n no-number = refl
+first-latest n (a-number {w} h) = rw (le-ltb n w (omega arith))
+
+abbrev offeredIn : List Json → List ℕ → Bool
+offeredIn xs v = any (λ e. maybe false (sameBytes v) (versionIn (stringOf "vers" e))) xs
+
+choice-of : (xs : List Json) {mine : List (List ℕ)} → Falling mine → latest (map numberOf mine) (map versionAt xs) ≡ numbered (firstThat (offeredIn xs) mine)
+unfolding latest
+choice-of xs ends = refl
+choice-of xs (falls p q t h k l more {vs} u f) =
+    ap (λ (z : Bool). later (pick z (Is (version p q t)) No) (latest (map numberOf vs) (map versionAt xs))) (offered p q t h k l more xs)
+    ∙ by (choice-of xs f) (offeredIn xs (p ∷ q ∷ t ∷ []))
+  where
+    by : latest (map numberOf vs) (map versionAt xs) ≡ numbered (firstThat (offeredIn xs) vs) → (z : Bool)
+        → later (pick z (Is (version p q t)) No) (latest (map numberOf vs) (map versionAt xs)) ≡ numbered (pick z (some (p ∷ q ∷ t ∷ [])) (firstThat (offeredIn xs) vs))
+    by rest true = first-latest (version p q t) (latest-less (version p q t) (map versionAt xs) u)
+    by rest false = rest
+
+pub ours-fall : Falling ours
+ours-fall =
+    falls 3 2 0 (omega arith) (omega arith) (omega arith) (omega arith) (one-under {v = 3 ∷ 1 ∷ 5 ∷ []} (omega arith) (one-under {v = 3 ∷ 1 ∷ 4 ∷ []} (omega arith) none-under))
+    (falls 3 1 5 (omega arith) (omega arith) (omega arith) (omega arith) (one-under {v = 3 ∷ 1 ∷ 4 ∷ []} (omega arith) none-under)
+    (falls 3 1 4 (omega arith) (omega arith) (omega arith) (omega arith) none-under ends))
+
+pub choice : (xs : List Json) → latest (map numberOf ours) (map versionAt xs) ≡ numbered (firstThat (offeredIn xs) ours)
+choice xs = choice-of xs ours-fall
+
+-- what is chosen has three parts, each in a byte
+pub data Parts : List ℕ → Type 0 where
+  three : (p q t : ℕ) → p ≤ 255 → q ≤ 255 → t ≤ 255 → Parts (p ∷ q ∷ t ∷ [])
+
+pub chosen-parts : (f : List ℕ → Bool) {mine : List (List ℕ)} → Falling mine → (v : List ℕ) → firstThat f mine ≡ some v → Parts v
+chosen-parts f ends v e = absurd (let z : _≡_ {A = ℕ} 0 1 = cc in omega arith)
+chosen-parts f (falls p q t h k l more {vs} u g) v e = by (chosen-parts f g v) (f (p ∷ q ∷ t ∷ [])) e
+  where
+    by : (firstThat f vs ≡ some v → Parts v) → (z : Bool) → pick z (some (p ∷ q ∷ t ∷ [])) (firstThat f vs) ≡ some v → Parts v
+    by rest true e = subst Parts (let z : p ∷ q ∷ t ∷ [] ≡ v = cc in z) (three p q t h k l)
+    by rest false e = rest e
 
 -- ---- our site id in their list
 named : (site : Label) (xs : List Json) → lists (map siteAt xs) site ≡ any (λ e. sameBytes (stringOf "sId" e) (textOf site)) xs

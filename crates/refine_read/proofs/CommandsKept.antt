@@ -1,6 +1,13 @@
 -- The claims about CommandRequest are kept.
 -- Assumes nothing.
-use Rattle.basis.proofs.Std.{ℕ, arith, _≡_, refl, sym, ap, ap₂, _∙_, true, List, [], _∷_, ltb, text, bool-cases}
+use Prim.Native.Nat.{ℕ}
+use native.Mathlib.Omega.{arith}
+use mathlib.Core.Path.{_≡_, refl, sym, ap, ap₂, _∙_}
+use mathlib.Core.Bool.{Bool, true}
+use mathlib.Core.List.{List, [], _∷_}
+use lib.Dec.{ltb}
+use Rattle.basis.specs.Text.{text}
+use Rattle.basis.proofs.Cases.{bool-cases}
 use Rattle.json_value.specs.Grammar.{Json}
 use Rattle.json_value.specs.Grammar.Json.{null}
 use Rattle.read_head.specs.declared.Verdict.{Verdict}
@@ -54,9 +61,9 @@ pushes l x = bool-cases (ltb (l .count) 16)
 abbrev theEntries : Need
 theEntries = Answers.entries "arg" commanded anyEntry
 
-command-needs : (j : Json) → isType "CommandRequest" j ≡ true → needs j ≡ one ("cId" is label) ∷ theEntries ∷ []
+command-needs : (older : Bool) (j : Json) → isType "CommandRequest" j ≡ true → needs older j ≡ one ("cId" is label) ∷ theEntries ∷ []
 unfolding needs
-command-needs j e = rw (type-is j "CommandRequest" e)
+command-needs older j e = rw (type-is j "CommandRequest" e)
 
 module _ (j : Json) where
   list-in : listIn j (text "arg") ≡ listOf (foundOf (element "arg" j))
@@ -86,10 +93,10 @@ module _ (j : Json) where
   unfolding commandIn
   command-reads =
       record {
-        verdict = λ e.
+        verdict = λ older e.
             ap₂ worst (label-judged j "cId") (entries-judged ∙ sym (last-judged j theEntries))
             ∙ sym (judged-more j (one ("cId" is label)) (theEntries ∷ []))
-            ∙ ap (judged j) (sym (command-needs j e));
+            ∙ ap (judged j) (sym (command-needs older j e));
         component = λ g. label-kept j "cId" (parts g .0);
         entries = λ g. entries-held (parts g .1) .all;
         at = λ g.

@@ -21,15 +21,15 @@ use Rattle.read_lists.specs.declared.Flag.{Flag}
 use Rattle.read_lists.specs.declared.GotEntry.{GotEntry}
 use Rattle.read_lists.specs.Items.{itemIn, flagOf, flagIn}
 use Rattle.read_lists.specs.Version.{numbered}
-use Rattle.read_lists.specs.Status.{gotSeconds, secondsIn, changed, isSet, noEntry, plainEntry, fullEntry, entryOfItem}
+use Rattle.read_lists.specs.Status.{gotSeconds, secondsIn, changed, isSet, noEntry, plainEntry, fullEntry, olderEntry, entryBy, entryOfItem}
 use Rattle.machine.specs.Words.{Bytes, _and_, _or_, maybe, isSome, orElse, isNumber}
 use Rattle.machine.specs.Json.{shape, element, stringOf, booleanOf, numberIn}
-use Rattle.machine.specs.Answers.{aString, aBoolean, Element, _is_, label, asked, subscribed, interval, asksNever, anyEntry, isObject, lacks, fits, spoils}
+use Rattle.machine.specs.Answers.{aString, aBoolean, Element, _is_, label, asked, subscribed, interval, asksChange, asksNever, anyEntry, isObject, lacks, fits, spoils}
 use Rattle.refine_read.specs.Verdicts.{verdict}
 use Rattle.refine_read.proofs.Words.{foundOf, element-found, usable, Sure, worst-of, worst-good, both-good, or-false, element-judged, need-good}
 use Rattle.refine_read.proofs.Usable.{alphabet-ascii, usable-of, label-sure}
 use Rattle.refine_read.proofs.Fields.{label-verdict, label-kept}
-use Rattle.refine_read.specs.Statuses.{entryOf}
+use Rattle.refine_read.specs.Statuses.{askingFor, entryOf}
 use Rattle.refine_read.proofs.Gathered.{worst-assoc, or-parts}
 
 pub object-is : (x : Json) → Packet.isObject x ≡ isObject x
@@ -212,12 +212,12 @@ module _ (x : Json) where
   abbrev change : Verdict
   change = changed (secondsIn x .number) (flagIn x (text "sOc"))
 
-  full-judged : fullEntry (wordIn x) (flagIn x) .verdict ≡ worst (elementsVerdict x subscribed) (verdict false (not (not (asksNever x))))
+  full-judged : fullEntry (wordIn x) (flagIn x) .verdict ≡ worst (elementsVerdict x (subscribed false)) (verdict false (not (not (asksNever false x))))
   full-judged =
-      let a = verdict false (asksNever x) in
+      let a = verdict false (asksNever false x) in
       let s = flagVerdict (element "sOc" x) in
       let u = secondsIn x .verdict in
-      let e : elementsVerdict x subscribed ≡ worst codeOf (worst nameOf (worst u s)) =
+      let e : elementsVerdict x (subscribed false) ≡ worst codeOf (worst nameOf (worst u s)) =
       elements-more x ("sCI" is label) ("n" is label ∷ theSeconds ∷ "sOc" is aBoolean ∷ [])
       ∙ ap₂ worst (sym (label-element x "sCI")) (elements-more x ("n" is label) (theSeconds ∷ "sOc" is aBoolean ∷ [])
       ∙ ap₂ worst (sym (label-element x "n")) (elements-more x theSeconds ("sOc" is aBoolean ∷ [])
@@ -226,61 +226,112 @@ module _ (x : Json) where
       let c : worst u change ≡ worst u (worst s a) = ap (λ (f : Flag). worst u (changed (secondsIn x .number) f)) flag-in ∙ change-judged u (secondsIn x .number) (interval x) (element "sOc" x) (seconds-said x) in
       ap (worst (worst codeOf nameOf)) c
       ∙ worst-assoc codeOf nameOf (worst u (worst s a))
-      ∙ sym (ap₂ (λ (v : Verdict) (b : Bool). worst v (verdict false b)) e (not-not (asksNever x))
+      ∙ sym (ap₂ (λ (v : Verdict) (b : Bool). worst v (verdict false b)) e (not-not (asksNever false x))
       ∙ worst-assoc codeOf (worst nameOf (worst u s)) a
       ∙ ap (worst codeOf) (worst-assoc nameOf (worst u s) a ∙ ap (worst nameOf) (worst-assoc u s a)))
 
-abbrev pub elementsOf : Bool → List Element
-elementsOf true = subscribed
-elementsOf false = asked
+  -- in the edition before nobody asks never: 0 is at each change
+  abbrev older-change : Verdict
+  older-change = changed (secondsIn x .number) (Flag.Is (eqb (secondsIn x .number) 0))
 
-abbrev pub passes : Bool → Json → Bool
-passes true x = not (asksNever x)
-passes false x = true
+  older-changes : older-change ≡ Good
+  older-changes = by (eqb (secondsIn x .number) 0) refl
+    where
+      by : (b : Bool) → eqb (secondsIn x .number) 0 ≡ b → changed (secondsIn x .number) (Flag.Is b) ≡ Good
+      by true e = refl
+      by false e = rw e
+
+  older-never : asksNever true x ≡ false
+  older-never = by (isNumber 0 (interval x))
+    where
+      by : (b : Bool) → both b (not b) ≡ false
+      by true = refl
+      by false = refl
+
+  older-judged : olderEntry (wordIn x) .verdict ≡ worst (elementsVerdict x (subscribed true)) (verdict false (not (not (asksNever true x))))
+  older-judged =
+      let u = secondsIn x .verdict in
+      let e : elementsVerdict x (subscribed true) ≡ worst codeOf (worst nameOf u) =
+      elements-more x ("sCI" is label) ("n" is label ∷ theSeconds ∷ [])
+      ∙ ap₂ worst (sym (label-element x "sCI")) (elements-more x ("n" is label) (theSeconds ∷ [])
+      ∙ ap₂ worst (sym (label-element x "n")) (elements-more x theSeconds [] ∙ ap₂ worst (sym (seconds-element x)) refl ∙ worst-good u))
+      in
+      ap (λ (v : Verdict). worst (worst codeOf nameOf) (worst u v)) older-changes
+      ∙ ap (worst (worst codeOf nameOf)) (worst-good u)
+      ∙ worst-assoc codeOf nameOf u
+      ∙ sym (ap₂ (λ (v : Verdict) (b : Bool). worst v (verdict false (not (not b)))) e older-never ∙ worst-good (worst codeOf (worst nameOf u)))
+
+abbrev pub elementsOf : Bool → Bool → List Element
+elementsOf true older = subscribed older
+elementsOf false older = asked
+
+abbrev pub passes : Bool → Bool → Json → Bool
+passes true older x = not (asksNever older x)
+passes false older x = true
 
 -- an entry of an object
-abbrev entryIn : Bool → Json → GotEntry
-entryIn subscribing x = pick subscribing (fullEntry (wordIn x) (flagIn x)) (plainEntry (wordIn x))
+abbrev entryIn : Bool → Bool → Json → GotEntry
+entryIn subscribing older x = entryBy (askingFor subscribing older) (wordIn x) (flagIn x)
 
-of-item : (subscribing : Bool) (x : Json) → entryOfItem subscribing (itemIn x) .verdict ≡ pick (isObject x) (entryIn subscribing x .verdict) Bad
-of-item subscribing x = rw (object-is x) (by (isObject x))
-  where
-    by : (b : Bool) → pick b (entryIn subscribing x) (record { verdict = Bad; entry = noEntry }) .verdict ≡ pick b (entryIn subscribing x .verdict) Bad
-    by true = refl
-    by false = refl
+module _ (subscribing older : Bool) where
+  of-item : (x : Json) → entryOfItem (askingFor subscribing older) (itemIn x) .verdict ≡ pick (isObject x) (entryIn subscribing older x .verdict) Bad
+  of-item x = rw (object-is x) (by (isObject x))
+    where
+      by : (b : Bool) → pick b (entryIn subscribing older x) (record { verdict = Bad; entry = noEntry }) .verdict ≡ pick b (entryIn subscribing older x .verdict) Bad
+      by true = refl
+      by false = refl
 
-in-judged : (subscribing : Bool) (x : Json) → entryIn subscribing x .verdict ≡ worst (elementsVerdict x (elementsOf subscribing)) (verdict false (not (passes subscribing x)))
-in-judged true x = full-judged x
-in-judged false x = plain-judged x
+in-judged : (subscribing older : Bool) (x : Json)
+    → entryIn subscribing older x .verdict ≡ worst (elementsVerdict x (elementsOf subscribing older)) (verdict false (not (passes subscribing older x)))
+in-judged true false x = full-judged x
+in-judged true true x = older-judged x
+in-judged false older x = plain-judged x
 
-pub item-judged : (subscribing : Bool) (x : Json)
-    → entryOfItem subscribing (itemIn x) .verdict ≡ verdict (isMissing (elementsOf subscribing) x) (isBad (elementsOf subscribing) (passes subscribing) x)
-item-judged subscribing x =
-    of-item subscribing x ∙ entry-judged (elementsOf subscribing) (passes subscribing) x (entryIn subscribing x .verdict) (in-judged subscribing x)
+pub item-judged : (subscribing older : Bool) (x : Json)
+    → entryOfItem (askingFor subscribing older) (itemIn x) .verdict
+    ≡ verdict (isMissing (elementsOf subscribing older) x) (isBad (elementsOf subscribing older) (passes subscribing older) x)
+item-judged subscribing older x =
+    of-item subscribing older x
+    ∙ entry-judged (elementsOf subscribing older) (passes subscribing older) x (entryIn subscribing older x .verdict) (in-judged subscribing older x)
 
 -- what a good entry asks for
-in-asks : (subscribing : Bool) (x : Json) → entryIn subscribing x .verdict ≡ Good → entryIn subscribing x .entry ≡ entryOf subscribing x
-in-asks true x g =
-    let p = both-good (worst (codeOf x) (nameOf x)) (worst (secondsIn x .verdict) (change x)) g in
-    let q = both-good (codeOf x) (nameOf x) (p .0) in
-    let r = both-good (secondsIn x .verdict) (change x) (p .1) in
+module _ (x : Json) (changing : Verdict) (g : worst (worst (codeOf x) (nameOf x)) (worst (secondsIn x .verdict) changing) ≡ Good) where
+  abbrev good-labels : (codeOf x ≡ Good) × (nameOf x ≡ Good)
+  good-labels = both-good (codeOf x) (nameOf x) (both-good (worst (codeOf x) (nameOf x)) (worst (secondsIn x .verdict) changing) g .0)
+
+  said-interval : interval x ≡ some (secondsIn x .number)
+  said-interval =
+      seconds-said x (both-good (secondsIn x .verdict) changing (both-good (worst (codeOf x) (nameOf x)) (worst (secondsIn x .verdict) changing) g .1) .0)
+
+in-asks : (subscribing older : Bool) (x : Json) → entryIn subscribing older x .verdict ≡ Good → entryIn subscribing older x .entry ≡ entryOf subscribing older x
+in-asks true false x g =
+    let q = good-labels x (change x) g in
     let c = label-kept x "sCI" (q .0) in
     let n = label-kept x "n" (q .1) in
-    let s : secondsIn x .number ≡ orElse 0 (interval x) = sym (ap (orElse 0) (seconds-said x (r .0))) in
+    let s : secondsIn x .number ≡ orElse 0 (interval x) = sym (ap (orElse 0) (said-interval x (change x) g)) in
     let o : isSet (flagIn x (text "sOc")) ≡ booleanOf "sOc" x = ap isSet (flag-in x) ∙ flag-set (element "sOc" x) in
     λ i. record { code = c i; name = n i; seconds = s i; onchange = o i }
-in-asks false x g =
+in-asks true true x g =
+    let q = good-labels x (older-change x) g in
+    let c = label-kept x "sCI" (q .0) in
+    let n = label-kept x "n" (q .1) in
+    let i₀ = said-interval x (older-change x) g in
+    let s : secondsIn x .number ≡ orElse 0 (interval x) = sym (ap (orElse 0) i₀) in
+    let o : eqb (secondsIn x .number) 0 ≡ isNumber 0 (interval x) = zero-swap (secondsIn x .number) ∙ sym (ap (isNumber 0) i₀) in
+    λ i. record { code = c i; name = n i; seconds = s i; onchange = o i }
+in-asks false older x g =
     let p = both-good (worst (codeOf x) (nameOf x)) Good g in
     let q = both-good (codeOf x) (nameOf x) (p .0) in
     let c = label-kept x "sCI" (q .0) in
     let n = label-kept x "n" (q .1) in
     λ i. record { code = c i; name = n i; seconds = 0; onchange = true }
 
-pub item-asks : (subscribing : Bool) (x : Json) → isMissing (elementsOf subscribing) x ≡ false → isBad (elementsOf subscribing) (passes subscribing) x ≡ false
-    → entryOfItem subscribing (itemIn x) .entry ≡ entryOf subscribing x
-item-asks subscribing x m b =
-    let t : isObject x ≡ true = good-object (elementsOf subscribing) (passes subscribing) x b in
-    let g : entryIn subscribing x .verdict ≡ Good =
-    sym (rw t at (of-item subscribing x)) ∙ item-judged subscribing x ∙ ap₂ verdict m b
+pub item-asks : (subscribing older : Bool) (x : Json) → isMissing (elementsOf subscribing older) x ≡ false
+    → isBad (elementsOf subscribing older) (passes subscribing older) x ≡ false
+    → entryOfItem (askingFor subscribing older) (itemIn x) .entry ≡ entryOf subscribing older x
+item-asks subscribing older x m b =
+    let t : isObject x ≡ true = good-object (elementsOf subscribing older) (passes subscribing older) x b in
+    let g : entryIn subscribing older x .verdict ≡ Good =
+    sym (rw t at (of-item subscribing older x)) ∙ item-judged subscribing older x ∙ ap₂ verdict m b
     in
-    rw (object-is x, t) (in-asks subscribing x g)
+    rw (object-is x, t) (in-asks subscribing older x g)

@@ -81,13 +81,13 @@ order-said j e =
 pub last-judged : (j : Json) (n : Need) → judged j (n ∷ []) ≡ verdict (isMissing j n) (isBad j n)
 last-judged j n = judged-more j n [] ∙ worst-good (verdict (isMissing j n) (isBad j n))
 
-alarm-needs : (j : Json) → isType "Alarm" j ≡ true → needs j ≡ one ("cId" is label) ∷ one ("aCId" is label) ∷ one ("aSp" is aString (isWord orders)) ∷ []
+alarm-needs : (older : Bool) (j : Json) → isType "Alarm" j ≡ true → needs older j ≡ one ("cId" is label) ∷ one ("aCId" is label) ∷ one ("aSp" is aString (isWord orders)) ∷ []
 unfolding needs
-alarm-needs j e = rw (type-is j "Alarm" e)
+alarm-needs older j e = rw (type-is j "Alarm" e)
 
-aggregated-needs : (j : Json) → isType "AggregatedStatusRequest" j ≡ true → needs j ≡ one ("cId" is label) ∷ []
+aggregated-needs : (older : Bool) (j : Json) → isType "AggregatedStatusRequest" j ≡ true → needs older j ≡ one ("cId" is label) ∷ []
 unfolding needs
-aggregated-needs j e = rw (type-is j "AggregatedStatusRequest" e)
+aggregated-needs older j e = rw (type-is j "AggregatedStatusRequest" e)
 
 module _ (j : Json) where
   parts : alarmIn j .verdict ≡ Good → (gotLabel (wordIn j (text "cId")) .verdict ≡ Good) × (gotLabel (wordIn j (text "aCId")) .verdict ≡ Good) × (gotOrder (wordIn j (text "aSp")) .verdict ≡ Good)
@@ -101,11 +101,11 @@ module _ (j : Json) where
   unfolding alarmIn
   alarm-reads =
       record {
-        verdict = λ e.
+        verdict = λ older e.
             ap₂ worst (label-judged j "cId") (ap₂ worst (label-judged j "aCId") (order-judged j ∙ sym (last-judged j (one ("aSp" is aString (isWord orders)))))
             ∙ sym (judged-more j (one ("aCId" is label)) (one ("aSp" is aString (isWord orders)) ∷ [])))
             ∙ sym (judged-more j (one ("cId" is label)) (one ("aCId" is label) ∷ one ("aSp" is aString (isWord orders)) ∷ []))
-            ∙ ap (judged j) (sym (alarm-needs j e));
+            ∙ ap (judged j) (sym (alarm-needs older j e));
         component = λ g. label-kept j "cId" (parts g .0);
         code = λ g. label-kept j "aCId" (parts g .1);
         order = λ g. order-said j (parts g .2);
@@ -115,6 +115,6 @@ module _ (j : Json) where
   unfolding aggregatedIn
   aggregated-reads =
       record {
-        verdict = λ e. label-judged j "cId" ∙ sym (last-judged j (one ("cId" is label))) ∙ ap (judged j) (sym (aggregated-needs j e));
+        verdict = λ older e. label-judged j "cId" ∙ sym (last-judged j (one ("cId" is label))) ∙ ap (judged j) (sym (aggregated-needs older j e));
         component = λ g. label-kept j "cId" g;
       }

@@ -21,23 +21,23 @@ use Rattle.refine_read.proofs.Words.{foundOf, element-found, judged-mor
 use Rattle.refine_read.proofs.Types.{type-is}
 use Rattle.refine_read.proofs.Fields.{label-judged, label-kept, last-judged}
 use Rattle.refine_read.proofs.Kept.{only}
-use Rattle.refine_read.specs.Statuses.{isRead, entryOf, StatusReads, Claims}
+use Rattle.refine_read.specs.Statuses.{askingFor, isRead, entryOf, StatusReads, Claims}
 use Rattle.refine_read.proofs.Indexed.{taken-at}
 use Rattle.refine_read.proofs.Gathered.{Pushes, Holds, entriesOf, list-judged, list-holds}
 use Rattle.refine_read.proofs.Entries.{isMissing, isBad, elementsOf, passes, item-judged, item-asks}
 
-module _ (subscribing : Bool) where
+module _ (subscribing older : Bool) where
   abbrev said : StatusList → Verdict
   said l = l .verdict
 
   abbrev one-said : Json → Verdict
-  one-said x = entryOfItem subscribing (itemIn x) .verdict
+  one-said x = entryOfItem (askingFor subscribing older) (itemIn x) .verdict
 
   abbrev value : Json → StatusEntry
-  value x = entryOfItem subscribing (itemIn x) .entry
+  value x = entryOfItem (askingFor subscribing older) (itemIn x) .entry
 
   abbrev push : StatusList → Item → StatusList
-  push l x = pushEntry l (entryOfItem subscribing x)
+  push l x = pushEntry l (entryOfItem (askingFor subscribing older) x)
 
   abbrev count : StatusList → ℕ
   count l = l .count
@@ -52,65 +52,65 @@ module _ (subscribing : Bool) where
       (λ f. record { judged = rw f; counted = rw f; holds = rw f })
 
   abbrev theEntries : Need
-  theEntries = Answers.entries "sS" (elementsOf subscribing) (passes subscribing)
+  theEntries = Answers.entries "sS" (elementsOf subscribing older) (passes subscribing older)
 
   module _ (j : Json) where
     list-in : listIn j (text "sS") ≡ listOf (foundOf (element "sS" j))
     unfolding listIn
     list-in = ap listOf (element-found j "sS")
 
-    entries-judged : statusesOf subscribing (listIn j (text "sS")) .verdict ≡ verdict (Answers.isMissing j theEntries) (Answers.isBad j theEntries)
+    entries-judged : statusesOf (askingFor subscribing older) (listIn j (text "sS")) .verdict ≡ verdict (Answers.isMissing j theEntries) (Answers.isBad j theEntries)
     entries-judged =
-        ap (λ i. statusesOf subscribing i .verdict) list-in
-        ∙ list-judged said count list one-said value push pushes (isMissing (elementsOf subscribing)) (isBad (elementsOf subscribing) (passes subscribing)) (item-judged subscribing)
+        ap (λ i. statusesOf (askingFor subscribing older) i .verdict) list-in
+        ∙ list-judged said count list one-said value push pushes (isMissing (elementsOf subscribing older)) (isBad (elementsOf subscribing older) (passes subscribing older)) (item-judged subscribing older)
         (noStatuses Good) (noStatuses Missing) (noStatuses Bad) refl refl refl refl (element "sS" j)
 
-    entries-held : statusesOf subscribing (listIn j (text "sS")) .verdict ≡ Good → Holds (statusesOf subscribing (listIn j (text "sS"))) count list (entryOf subscribing) (entriesOf (element "sS" j))
+    entries-held : statusesOf (askingFor subscribing older) (listIn j (text "sS")) .verdict ≡ Good → Holds (statusesOf (askingFor subscribing older) (listIn j (text "sS"))) count list (entryOf subscribing older) (entriesOf (element "sS" j))
     entries-held g =
         rw list-in
-        (list-holds said count list one-said value push pushes (isMissing (elementsOf subscribing)) (isBad (elementsOf subscribing) (passes subscribing)) (item-judged subscribing)
-        (noStatuses Good) (noStatuses Missing) (noStatuses Bad) refl refl refl refl (entryOf subscribing) (item-asks subscribing) refl (element "sS" j) (rw list-in at g))
+        (list-holds said count list one-said value push pushes (isMissing (elementsOf subscribing older)) (isBad (elementsOf subscribing older) (passes subscribing older)) (item-judged subscribing older)
+        (noStatuses Good) (noStatuses Missing) (noStatuses Bad) refl refl refl refl (entryOf subscribing older) (item-asks subscribing older) refl (element "sS" j) (rw list-in at g))
 
-subscribe-needs : (j : Json) → isType "StatusSubscribe" j ≡ true → needs j ≡ one ("cId" is label) ∷ theEntries true ∷ []
+subscribe-needs : (older : Bool) (j : Json) → isType "StatusSubscribe" j ≡ true → needs older j ≡ one ("cId" is label) ∷ theEntries true older ∷ []
 unfolding needs
-subscribe-needs j e = rw (type-is j "StatusSubscribe" e)
+subscribe-needs older j e = rw (type-is j "StatusSubscribe" e)
 
-request-needs : (j : Json) → isType "StatusRequest" j ≡ true → needs j ≡ one ("cId" is label) ∷ theEntries false ∷ []
+request-needs : (older : Bool) (j : Json) → isType "StatusRequest" j ≡ true → needs older j ≡ one ("cId" is label) ∷ theEntries false older ∷ []
 unfolding needs
-request-needs j e = rw (type-is j "StatusRequest" e)
+request-needs older j e = rw (type-is j "StatusRequest" e)
 
-unsubscribe-needs : (j : Json) → isType "StatusUnsubscribe" j ≡ true → needs j ≡ one ("cId" is label) ∷ theEntries false ∷ []
+unsubscribe-needs : (older : Bool) (j : Json) → isType "StatusUnsubscribe" j ≡ true → needs older j ≡ one ("cId" is label) ∷ theEntries false older ∷ []
 unfolding needs
-unsubscribe-needs j e = rw (type-is j "StatusUnsubscribe" e)
+unsubscribe-needs older j e = rw (type-is j "StatusUnsubscribe" e)
 
-status-needs : (subscribing : Bool) (j : Json) → isRead subscribing j ≡ true → needs j ≡ one ("cId" is label) ∷ theEntries subscribing ∷ []
-status-needs true j e = subscribe-needs j e
-status-needs false j e = bool-cases (isType "StatusRequest" j) (λ t. request-needs j t) (λ f. unsubscribe-needs j (rw f at e))
+status-needs : (subscribing older : Bool) (j : Json) → isRead subscribing j ≡ true → needs older j ≡ one ("cId" is label) ∷ theEntries subscribing older ∷ []
+status-needs true older j e = subscribe-needs older j e
+status-needs false older j e = bool-cases (isType "StatusRequest" j) (λ t. request-needs older j t) (λ f. unsubscribe-needs older j (rw f at e))
 
-module _ (subscribing : Bool) (j : Json) where
+module _ (subscribing older : Bool) (j : Json) where
   abbrev theList : StatusList
-  theList = statusesOf subscribing (listIn j (text "sS"))
+  theList = statusesOf (askingFor subscribing older) (listIn j (text "sS"))
 
-  parts : statusIn subscribing j .verdict ≡ Good → (gotLabel (wordIn j (text "cId")) .verdict ≡ Good) × (theList .verdict ≡ Good)
+  parts : statusIn (askingFor subscribing older) j .verdict ≡ Good → (gotLabel (wordIn j (text "cId")) .verdict ≡ Good) × (theList .verdict ≡ Good)
   unfolding statusIn
   parts g = both-good (gotLabel (wordIn j (text "cId")) .verdict) (theList .verdict) g
 
-  status-reads : StatusReads subscribing j (statusIn subscribing j)
+  status-reads : StatusReads subscribing older j (statusIn (askingFor subscribing older) j)
   unfolding statusIn
   status-reads =
       record {
         verdict = λ e.
-            ap₂ worst (label-judged j "cId") (entries-judged subscribing j ∙ sym (last-judged j (theEntries subscribing)))
-            ∙ sym (judged-more j (one ("cId" is label)) (theEntries subscribing ∷ []))
-            ∙ ap (judged j) (sym (status-needs subscribing j e));
+            ap₂ worst (label-judged j "cId") (entries-judged subscribing older j ∙ sym (last-judged j (theEntries subscribing older)))
+            ∙ sym (judged-more j (one ("cId" is label)) (theEntries subscribing older ∷ []))
+            ∙ ap (judged j) (sym (status-needs subscribing older j e));
         component = λ g. label-kept j "cId" (parts g .0);
-        entries = λ g. entries-held subscribing j (parts g .1) .all;
+        entries = λ g. entries-held subscribing older j (parts g .1) .all;
         at = λ g.
-            let h = entries-held subscribing j (parts g .1) in
-            taken-at (entryOf subscribing) null noEntry (theList .count) (theList .entries) (Machine.entriesOf "sS" j) (h .all) (h .counted);
-        count = λ g. entries-held subscribing j (parts g .1) .counted;
-        most = λ g. let h = entries-held subscribing j (parts g .1) in omega (arith, h .counted, h .most);
+            let h = entries-held subscribing older j (parts g .1) in
+            taken-at (entryOf subscribing older) null noEntry (theList .count) (theList .entries) (Machine.entriesOf "sS" j) (h .all) (h .counted);
+        count = λ g. entries-held subscribing older j (parts g .1) .counted;
+        most = λ g. let h = entries-held subscribing older j (parts g .1) in omega (arith, h .counted, h .most);
       }
 
 pub kept : Claims
-kept = record { statuses = λ subscribing s j e. rw (Lists.kept .status subscribing (only e)) (status-reads subscribing j) }
+kept = record { statuses = λ subscribing older s j e. rw (Lists.kept .status (askingFor subscribing older) (only e)) (status-reads subscribing older j) }

@@ -6,7 +6,7 @@ use Rattle.machine.specs.Words.{_and_, maybe, isSome, isNumber, any}
 use Rattle.machine.specs.State.{Machine, lifeAt}
 use Rattle.machine.specs.Json.{element, stringOf, entriesOf, elementIs, isType}
 use Rattle.machine.specs.Table.{commandNumber, commandRow}
-use Rattle.machine.specs.Life.{isBeating, isPrimary}
+use Rattle.machine.specs.Life.{isBeating, isPrimary, isOlder}
 use Rattle.machine.specs.Answers.{componentAsked, alarmAsked, valueAsked, inRange, needs, isMissing, isBad, isUnexpected, reasons, reasonOf}
 use Rattle.refine_read.specs.Verdicts.{verdict}
 use Rattle.refine_read.specs.Reasons.{byVerdict, furtherReason, reasonBy, anyUnknown, anyUnknownCommand, anyOutOfRange, FurtherReasons}
@@ -23,7 +23,7 @@ unfolding reasons
 reason-is m l j =
     ap (λ (r : Option String). pick (not (isSome (element "mType" j))) (some "Missing element") (pick (not (elementIs "mType" "rSMsg" j)) (some "Bad value")
     (pick (isUnexpected (lifeAt m l) j) (some "Unexpected") (pick (isBeating (lifeAt m l) and not (isType "Watchdog" j)) (some "Not ready") r))))
-    (two (any (isMissing j) (needs j)) (any (isBad j) (needs j)) (furtherReason m l j))
+    (two (any (isMissing j) (needs (isOlder (lifeAt m l)) j)) (any (isBad j) (needs (isOlder (lifeAt m l)) j)) (furtherReason m l j))
     ∙ two (not (isSome (element "mType" j))) (not (elementIs "mType" "rSMsg" j)) _
 
 -- ---- behind the needs, by the type

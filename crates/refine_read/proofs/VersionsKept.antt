@@ -30,9 +30,9 @@ use Rattle.refine_read.proofs.Text.{text-is}
 use Rattle.refine_read.proofs.Lists.{theVersions, theSites, versions-judged, versions-held, sites-judged, sites-held}
 use Rattle.refine_read.proofs.Checks.{same-swap, choice, met}
 
-version-needs : (j : Json) → isType "Version" j ≡ true → needs j ≡ theVersions ∷ theSites ∷ one ("SXL" is label) ∷ []
+version-needs : (older : Bool) (j : Json) → isType "Version" j ≡ true → needs older j ≡ theVersions ∷ theSites ∷ one ("SXL" is label) ∷ []
 unfolding needs
-version-needs j e = rw (type-is j "Version" e)
+version-needs older j e = rw (type-is j "Version" e)
 
 -- the first check that fails, or the choice
 in-order : (o : Option (List ℕ)) (site sxl : Bool)
@@ -91,11 +91,11 @@ module _ (j : Json) where
   unfolding Code.versionIn
   version-reads =
       record {
-        verdict = λ e.
+        verdict = λ older e.
             ap₂ worst (versions-judged j) (ap₂ worst (sites-judged j) (label-judged j "SXL" ∙ sym (last-judged j (one ("SXL" is label))))
             ∙ sym (judged-more j theSites (one ("SXL" is label) ∷ [])))
             ∙ sym (judged-more j theVersions (theSites ∷ one ("SXL" is label) ∷ []))
-            ∙ ap (judged j) (sym (version-needs j e));
+            ∙ ap (judged j) (sym (version-needs older j e));
         reason = reason-is;
         judged = judged-is;
       }

@@ -116,17 +116,17 @@ time-said : (r : Time) → isSome (said r) ≡ true → r ≡ Is (timed r .time)
 time-said (Is t k) e = refl
 time-said No e = untrue e
 
-watchdog-needs : (j : Json) → isType "Watchdog" j ≡ true → needs j ≡ one ("wTs" is aString isTime) ∷ []
+watchdog-needs : (older : Bool) (j : Json) → isType "Watchdog" j ≡ true → needs older j ≡ one ("wTs" is aString isTime) ∷ []
 unfolding needs
-watchdog-needs j e = rw (type-is j "Watchdog" e)
+watchdog-needs older j e = rw (type-is j "Watchdog" e)
 
 pub watchdog-reads : (j : Json) → WatchdogReads j (watchdogIn j)
 unfolding watchdogIn
 watchdog-reads j =
     record {
-      verdict = λ e.
+      verdict = λ older e.
           time-verdict (wordIn j (text "wTs")) ∙ need-judged isTime time-sure j "wTs"
-          ∙ sym (last-judged j (one ("wTs" is aString isTime))) ∙ ap (judged j) (sym (watchdog-needs j e));
+          ∙ sym (last-judged j (one ("wTs" is aString isTime))) ∙ ap (judged j) (sym (watchdog-needs older j e));
       time = λ g.
           let p = need-good isTime j "wTs" (sym (time-verdict (wordIn j (text "wTs"))) ∙ g) in
           time-said (readTime (stringOf "wTs" j)) (p .1) ∙ ap (λ (w : Word). Is (gotTime w .time) (gotTime w .decimals)) (sym (p .0));

@@ -2,7 +2,7 @@
 -- Assumes nothing.
 use Prim.Native.Nat.{ℕ, _≤_, _<_}
 use mathlib.Core.Path.{_≡_}
-use mathlib.Core.Bool.{true}
+use mathlib.Core.Bool.{Bool, true}
 use mathlib.Core.List.{map}
 use mathlib.Core.Option.{some}
 use lib.ListN.{length, take, getD}
@@ -23,7 +23,7 @@ abbrev pub commandOf : Json → CommandEntry
 commandOf e = record { code = labelOf (stringOf "cCI" e); name = labelOf (stringOf "n" e); value = valueAsked e }
 
 pub record CommandReads (j : Json) (f : CommandFields) : Type 0 where
-  pub verdict : isType "CommandRequest" j ≡ true → f .verdict ≡ verdictIn j
+  pub verdict : (older : Bool) → isType "CommandRequest" j ≡ true → f .verdict ≡ verdictIn older j
   pub component : f .verdict ≡ Good → f .component ≡ labelOf (stringOf "cId" j)
   -- all entries, in order, "at most 16"
   pub entries : f .verdict ≡ Good → take (f .count) (f .entries) ≡ map commandOf (entriesOf "arg" j)

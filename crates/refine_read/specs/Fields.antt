@@ -2,7 +2,7 @@
 -- Assumes nothing.
 use Prim.Native.String.{String}
 use mathlib.Core.Path.{_≡_}
-use mathlib.Core.Bool.{true}
+use mathlib.Core.Bool.{Bool, true}
 use mathlib.Core.Option.{some}
 use Rattle.basis.specs.Text.{text}
 use Rattle.calendar.specs.declared.Time.the-variants.{Is}
@@ -27,17 +27,17 @@ orderWord Resume = "Resume"
 
 -- "Alarm cId, aCId, aSp"
 pub record AlarmReads (j : Json) (f : AlarmFields) : Type 0 where
-  pub verdict : isType "Alarm" j ≡ true → f .verdict ≡ verdictIn j
+  pub verdict : (older : Bool) → isType "Alarm" j ≡ true → f .verdict ≡ verdictIn older j
   pub component : f .verdict ≡ Good → f .component ≡ labelOf (stringOf "cId" j)
   pub code : f .verdict ≡ Good → f .code ≡ labelOf (stringOf "aCId" j)
   pub order : f .verdict ≡ Good → stringAt "aSp" j ≡ some (text (orderWord (f .order)))
 
 -- "Watchdog wTs": the time and how many decimals stood there, of which the machine takes the hint
 pub record WatchdogReads (j : Json) (f : GotTime) : Type 0 where
-  pub verdict : isType "Watchdog" j ≡ true → f .verdict ≡ verdictIn j
+  pub verdict : (older : Bool) → isType "Watchdog" j ≡ true → f .verdict ≡ verdictIn older j
   pub time : f .verdict ≡ Good → readTime (stringOf "wTs" j) ≡ Is (f .time) (f .decimals)
 
 -- "AggregatedStatusRequest cId"
 pub record AggregatedReads (j : Json) (f : GotLabel) : Type 0 where
-  pub verdict : isType "AggregatedStatusRequest" j ≡ true → f .verdict ≡ verdictIn j
+  pub verdict : (older : Bool) → isType "AggregatedStatusRequest" j ≡ true → f .verdict ≡ verdictIn older j
   pub component : f .verdict ≡ Good → f .label ≡ labelOf (stringOf "cId" j)

@@ -14,7 +14,7 @@ use Rattle.machine.specs.Words.{if_then_else_, _and_, maybe, isSome, isNumber, 
 use Rattle.machine.specs.State.{Machine, lifeAt}
 use Rattle.machine.specs.Json.{entriesOf, elementIs, isType}
 use Rattle.machine.specs.Table.{commandRow}
-use Rattle.machine.specs.Life.{isBeating, isPrimary}
+use Rattle.machine.specs.Life.{isBeating, isPrimary, isOlder}
 use Rattle.machine.specs.Answers.{componentAsked, alarmAsked, statusAsked, commandAsked, valueAsked, inRange, isUnexpected, reasons}
 use Rattle.refine_read.specs.Verdicts.{verdictIn}
 use Rattle.refine_read.specs.Head.{mTypeOf}
@@ -35,7 +35,7 @@ reasonBy m l j =
     byVerdict (mTypeOf j)
     (if isUnexpected (lifeAt m l) j then some "Unexpected"
     else if isBeating (lifeAt m l) and not (isType "Watchdog" j) then some "Not ready"
-    else byVerdict (verdictIn j) (furtherReason m l j))
+    else byVerdict (verdictIn (isOlder (lifeAt m l)) j) (furtherReason m l j))
 
 -- "Busy" (a reply is due and 16 are awaited)
 abbrev pub busyIf : Machine → ℕ → Bool → Option String

@@ -16,6 +16,6 @@ verdict missing bad = if missing then Missing else if bad then Bad else Good
 abbrev pub judged : Json → List Need → Verdict
 judged j ns = verdict (any (isMissing j) ns) (any (isBad j) ns)
 
--- of all that the packet needs
-abbrev pub verdictIn : Json → Verdict
-verdictIn j = judged j (needs j)
+-- of all that the packet needs, on a link of the edition before or not
+abbrev pub verdictIn : Bool → Json → Verdict
+verdictIn older j = judged j (needs older j)

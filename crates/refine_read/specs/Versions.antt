@@ -3,8 +3,8 @@
 use Prim.Native.Nat.{ℕ}
 use Prim.Native.String.{String}
 use mathlib.Core.Path.{_≡_}
-use mathlib.Core.Bool.{true}
-use mathlib.Core.List.{List, [], _∷_}
+use mathlib.Core.Bool.{Bool, true}
+use mathlib.Core.List.{List, [], _∷_, map}
 use mathlib.Core.Option.{Option, some, none}
 use lib.ListN.{getD}
 use Rattle.number.specs.declared.Number.{Number}
@@ -23,7 +23,7 @@ use Rattle.read_lists.specs.Version.{versionAt}
 use Rattle.machine.specs.Words.{Bytes, if_then_else_, maybe}
 use Rattle.machine.specs.State.{Machine}
 use Rattle.machine.specs.Json.{readPacket, isType, versionIn}
-use Rattle.machine.specs.Life.{common, namesSite, equalSxl}
+use Rattle.machine.specs.Life.{ours as offers, common, namesSite, equalSxl}
 use Rattle.refine_read.specs.Verdicts.{verdictIn}
 use Rattle.refine_read.specs.Reasons.{furtherReason}
 
@@ -49,17 +49,17 @@ failed RsmpVersion = some "RSMP version"
 failed SiteId = some "Site id"
 failed SxlVersion = some "SXL version"
 
--- what our Version offers: 3.1.5 and 3.2, the table's site id and SXL version
+-- what our Version offers: the machine's versions, the table's site id and SXL version
 pub record Ours (m : Machine) (own : Offer) : Type 0 where
   pub site : Label
-  pub versions : versionsIn own ≡ version 3 1 5 ∷ version 3 2 0 ∷ []
+  pub versions : versionsIn own ≡ map numberOf offers
   pub sites : sitesIn own ≡ site ∷ []
   pub same-site : textOf site ≡ m .setup .table .site
   pub same-sxl : textOf (own .sxl) ≡ m .setup .table .sxl
 
 -- "Version RSMP (each entry vers), siteId (each sId), SXL"
 pub record VersionReads (j : Json) (f : VersionFields) : Type 0 where
-  pub verdict : isType "Version" j ≡ true → f .verdict ≡ verdictIn j
+  pub verdict : (older : Bool) → isType "Version" j ≡ true → f .verdict ≡ verdictIn older j
   pub reason : isType "Version" j ≡ true → (m : Machine) (l : ℕ) → furtherReason m l j ≡ failed (checked m j)
   pub judged : f .verdict ≡ Good → (m : Machine) (own : Offer) → Ours m own → judge own (f .offer) ≡ checked m j
 

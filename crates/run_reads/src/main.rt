@@ -15,6 +15,7 @@ use read_head::Kind;
 use read_head::Order;
 use read_head::Received;
 use read_head::Verdict;
+use read_lists::Asking;
 use read_lists::StatusEntry;
 use read_lists::StatusFields;
 use read_lists::VersionFields;
@@ -80,12 +81,13 @@ fn put_label(line: &mut [u8], at: usize, l: Label) -> usize {
     output::put_bytes(line, end, b" ")
 }
 
-// What we offer: 3.1.5 and 3.2.
+// What we offer: 3.2, 3.1.5 and 3.1.4.
 fn own_versions() -> Versions {
     let mut list = [0u32; 16];
-    list[0] = 196869;
-    list[1] = 197120;
-    Versions { count: 2, list }
+    list[0] = 0x030200;
+    list[1] = 0x030105;
+    list[2] = 0x030104;
+    Versions { count: 3, list }
 }
 
 fn own() -> Offer {
@@ -265,9 +267,9 @@ fn put_statuses(line: &mut [u8], at: usize, s: &[u8], places: &[usize], kind: Ki
     requires { ⌜ Indexed (now s) (now places) ⌝ }
 {
     match kind {
-        Kind::StatusRequest => put_status(line, at, read_lists::read_status(s, places, false)),
-        Kind::StatusSubscribe => put_status(line, at, read_lists::read_status(s, places, true)),
-        Kind::StatusUnsubscribe => put_status(line, at, read_lists::read_status(s, places, false)),
+        Kind::StatusRequest => put_status(line, at, read_lists::read_status(s, places, Asking::Plain)),
+        Kind::StatusSubscribe => put_status(line, at, read_lists::read_status(s, places, Asking::Full)),
+        Kind::StatusUnsubscribe => put_status(line, at, read_lists::read_status(s, places, Asking::Plain)),
         _ => at,
     }
 }

@@ -74,7 +74,7 @@ plain-message (version id site sxl) (formed-version i s x) =
     pobj (member (word "mType" refl) (pstr (word "rSMsg" refl))
     (member (word "type" refl) (pstr (word "Version" refl))
     (member (word "mId" refl) (pstr (plain-identity i))
-    (member (word "RSMP" refl) (parr (element (pobj (last-member (word "vers" refl) (pstr (word "3.1.5" refl)))) (last-element (pobj (last-member (word "vers" refl) (pstr (word "3.2" refl)))))))
+    (member (word "RSMP" refl) (parr (element (pobj (last-member (word "vers" refl) (pstr (word "3.1.4" refl)))) (element (pobj (last-member (word "vers" refl) (pstr (word "3.1.5" refl)))) (last-element (pobj (last-member (word "vers" refl) (pstr (word "3.2" refl))))))))
     (member (word "siteId" refl) (parr (last-element (pobj (last-member (word "sId" refl) (pstr (plain-label s))))))
     (last-member (word "SXL" refl) (pstr (plain-label x))))))))
 plain-message (watchdog id time) (formed-watchdog i t) =

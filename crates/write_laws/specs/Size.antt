@@ -25,7 +25,7 @@ mostEntries kind [] = 0
 mostEntries kind (s ∷ ss) = mostEntry kind + (1 + mostEntry kind) * length ss
 
 abbrev pub most : Message → ℕ
-most (version id site sxl) = 216
+most (version id site sxl) = 233
 most (watchdog id time) = 114
 most (ack received) = 84
 most (notAck received reason) = 113

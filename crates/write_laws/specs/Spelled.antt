@@ -40,10 +40,10 @@ abbrev pub entry : String → Value → Status
 entry code v = status (text code) (text "level") v
 
 pub record Spelled : Type 0 where
-  -- "offering 3.1.5 and 3.2"
+  -- "offering 3.1.5 and 3.2"; request 07: "Offer 3.1.4 as well"
   pub of-version : bytesOf (version own component (text "1.0.13"))
       ≡ packet ("{\"mType\":\"rSMsg\",\"type\":\"Version\",\"mId\":\"6f968141-4de5-42ff-8032-45f8093762c5\","
-      ∷ "\"RSMP\":[{\"vers\":\"3.1.5\"},{\"vers\":\"3.2\"}],\"siteId\":[{\"sId\":\"O+14439=481WA001\"}],\"SXL\":\"1.0.13\"}" ∷ [])
+      ∷ "\"RSMP\":[{\"vers\":\"3.1.4\"},{\"vers\":\"3.1.5\"},{\"vers\":\"3.2\"}],\"siteId\":[{\"sId\":\"O+14439=481WA001\"}],\"SXL\":\"1.0.13\"}" ∷ [])
   pub of-watchdog : bytesOf (watchdog own noon)
       ≡ packet ("{\"mType\":\"rSMsg\",\"type\":\"Watchdog\",\"mId\":\"6f968141-4de5-42ff-8032-45f8093762c5\",\"wTs\":\"2009-10-01T11:59:31.571Z\"}" ∷ [])
   pub of-ack : bytesOf (ack (text "CD613E30-d8f1-6adf-91b7-584a2265b1f5"))

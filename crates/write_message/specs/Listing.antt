@@ -36,9 +36,9 @@ headOf type name id ms = said "mType" (text "rSMsg") (said "type" type (said nam
 abbrev pub aboutOf : List ℕ → List ℕ → List ℕ → Members → Members
 aboutOf type id component ms = headOf type "mId" (identityText id) (said "ntsOId" [] (said "xNId" [] (said "cId" component ms)))
 
--- "offering 3.1.5 and 3.2"
+-- "offering 3.1.5 and 3.2"; request 07: "Offer 3.1.4 as well"
 abbrev pub offered : List (List ℕ)
-offered = text "3.1.5" ∷ text "3.2" ∷ []
+offered = text "3.1.4" ∷ text "3.1.5" ∷ text "3.2" ∷ []
 
 abbrev pub offeredJson : List (List ℕ) → Jsons
 offeredJson [] = jnil

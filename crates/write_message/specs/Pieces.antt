@@ -102,7 +102,7 @@ statusTail = text "]}\u{c}" ∷ []
 unfoldable pub pieces : Message → List (List ℕ)
 pieces (version id site sxl) =
     ownPieces (text "Version") id
-    ++ (text "\",\"RSMP\":[{\"vers\":\"3.1.5\"},{\"vers\":\"3.2\"}],\"siteId\":[{\"sId\":\"" ∷ site ∷ text "\"}],\"SXL\":\"" ∷ sxl ∷ [])
+    ++ (text "\",\"RSMP\":[{\"vers\":\"3.1.4\"},{\"vers\":\"3.1.5\"},{\"vers\":\"3.2\"}],\"siteId\":[{\"sId\":\"" ∷ site ∷ text "\"}],\"SXL\":\"" ∷ sxl ∷ [])
     ++ closing
 pieces (watchdog id time) = ownPieces (text "Watchdog") id ++ (text "\",\"wTs\":\"" ∷ momentText time ∷ []) ++ closing
 pieces (ack received) = headPieces (text "MessageAck") (text "\",\"oMId\":\"") received ++ closing

@@ -14,7 +14,7 @@ pub fn version(out: &mut [u8], at: usize, id: Identity, site: Label, sxl: Label)
     let end = write_member::label_behind(
         out,
         end,
-        b"\",\"RSMP\":[{\"vers\":\"3.1.5\"},{\"vers\":\"3.2\"}],\"siteId\":[{\"sId\":\"",
+        b"\",\"RSMP\":[{\"vers\":\"3.1.4\"},{\"vers\":\"3.1.5\"},{\"vers\":\"3.2\"}],\"siteId\":[{\"sId\":\"",
         site,
     );
     let end = write_member::label_behind(out, end, b"\"}],\"SXL\":\"", sxl);

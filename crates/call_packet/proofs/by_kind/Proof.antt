@@ -5,6 +5,7 @@ use Rattle.read_head.specs.declared.Kind.{Kind}
 use Rattle.read_head.specs.declared.Kind.the-variants.{Version, Watchdog, StatusSubscribe, StatusUnsubscribe}
 use Rattle.read_head.specs.Small.{watchdogAt}
 use Rattle.read_lists.specs.Version.{versionAt}
+use Rattle.read_lists.specs.declared.Asking.the-variants.{Plain}
 use Rattle.read_lists.specs.Status.{statusAt}
 use Rattle.store_site.specs.Layout.{siteOf}
 use Rattle.store_table.specs.Layout.{tableOf}
@@ -12,7 +13,9 @@ use Rattle.packet_answer.specs.Taken.{unexpected}
 use Rattle.packet_answer.proofs.Ends.{unreplied}
 use Rattle.packet_answer.proofs.Choices.{like, not-acked}
 use Rattle.packet_greet.proofs.Kept.{kept as greet-kept}
+use Rattle.packet_subscribe.specs.Subscribing.{askingOn}
 use Rattle.packet_subscribe.proofs.Kept.{kept as subscribing-kept}
+use Rattle.site.specs.Site.{linkAt}
 use Rattle.call_packet.specs.Packet.{kindTaken}
 use Rattle.call_packet.proofs.by_kind.Statement.{statement}
 use Rattle.call_packet.proofs.by_kind.Tie as tie
@@ -63,7 +66,7 @@ returns-6 c =
     let t = tableOf (a .t .now) in
     let s = siteOf (a .w .now) t in
     like t (a .w .now) (a .q) (λ (x : Kind). kindTaken s (a .q) (a .p .now) x) (c .before .before .before .before .before .before .before .enum-told6 .given .1)
-    (unreplied t (a .q) (kindTaken s (a .q) (a .p .now) StatusSubscribe) (subscribing-kept .only-answered true s (a .q) (statusAt true (a .p .now))) (c .before .before .before .before .subscribe .ensures))
+    (unreplied t (a .q) (kindTaken s (a .q) (a .p .now) StatusSubscribe) (subscribing-kept .only-answered true s (a .q) (statusAt (askingOn (linkAt s (a .q .link))) (a .p .now))) (c .before .before .before .before .subscribe .ensures))
 
 returns-7 : tie.Need-returns-7
 returns-7 c =
@@ -71,7 +74,7 @@ returns-7 c =
     let t = tableOf (a .t .now) in
     let s = siteOf (a .w .now) t in
     like t (a .w .now) (a .q) (λ (x : Kind). kindTaken s (a .q) (a .p .now) x) (c .before .before .before .before .before .before .before .enum-told7 .given .1)
-    (unreplied t (a .q) (kindTaken s (a .q) (a .p .now) StatusUnsubscribe) (subscribing-kept .only-answered false s (a .q) (statusAt false (a .p .now))) (c .before .before .before .before .unsubscribe .ensures))
+    (unreplied t (a .q) (kindTaken s (a .q) (a .p .now) StatusUnsubscribe) (subscribing-kept .only-answered false s (a .q) (statusAt Plain (a .p .now))) (c .before .before .before .before .unsubscribe .ensures))
 
 returns-8 : tie.Need-returns-8
 returns-8 c =

@@ -14,16 +14,16 @@ use Rattle.read_lists.proofs.statuses_in.Statement.{statement}
 use Rattle.read_lists.proofs.statuses_in.Tie as tie
 
 abbrev Inv-loop : tie.InvT-loop
-Inv-loop s at subscribing verdict₀ count₀ entries₀ start i₀ verdict count kept i = gather (λ l x. pushEntry l (entryOfItem subscribing x)) (record { verdict = verdict; count = count; entries = kept }) (itemsAt (entries 0x5d (drop i s))) ≡ gather (λ l x. pushEntry l (entryOfItem subscribing x)) (noStatuses Good) (itemsAt (entriesAt 0x5b 0x5d (drop at s)))
+Inv-loop s at asking verdict₀ count₀ entries₀ start i₀ verdict count kept i = gather (λ l x. pushEntry l (entryOfItem asking x)) (record { verdict = verdict; count = count; entries = kept }) (itemsAt (entries 0x5d (drop i s))) ≡ gather (λ l x. pushEntry l (entryOfItem asking x)) (noStatuses Good) (itemsAt (entriesAt 0x5b 0x5d (drop at s)))
 
 abbrev μ-loop : tie.MeasureT-loop
-μ-loop s at subscribing verdict₀ count₀ entries₀ start i₀ verdict count kept i = length s - i
+μ-loop s at asking verdict₀ count₀ entries₀ start i₀ verdict count kept i = length s - i
 
 returns : tie.Need-returns Inv-loop μ-loop
-returns c = rw (c .before .before .before .no-entry .ensures) (none-in (λ l x. pushEntry l (entryOfItem (c .before .before .before .before .before .args .subscribing) x)) _ _ _ (rw (c .enum-told .given .1) at (c .before .before .inside .ensures)))
+returns c = rw (c .before .before .before .no-entry .ensures) (none-in (λ l x. pushEntry l (entryOfItem (c .before .before .before .before .before .args .asking) x)) _ _ _ (rw (c .enum-told .given .1) at (c .before .before .inside .ensures)))
 
 loop-holds : tie.Need-loop-holds Inv-loop μ-loop
-loop-holds c = rw (c .before .before .before .before .no-entry .ensures) (some-in (λ l x. pushEntry l (entryOfItem (c .before .before .before .before .before .before .args .subscribing) x)) _ _ _ _ (rw (c .before .p .given .1) at (c .before .before .before .inside .ensures)))
+loop-holds c = rw (c .before .before .before .before .no-entry .ensures) (some-in (λ l x. pushEntry l (entryOfItem (c .before .before .before .before .before .before .args .asking) x)) _ _ _ _ (rw (c .before .p .given .1) at (c .before .before .before .inside .ensures)))
 
 returns-2 : tie.Need-returns-2 Inv-loop μ-loop
 returns-2 c =
@@ -32,7 +32,7 @@ returns-2 c =
     let l = g .before .loop in
     let pushed : _≡_ {A = StatusList} (record { verdict = j .if1 .verdict; count = j .if1 .count; entries = j .if1 .entries }) (pushEntry (record { verdict = l .verdict; count = l .count; entries = l .entries }) (g .status-entry .result .got)) =
     ⊎-elim (λ x. entry-taken _ _ _ _ (x .0 .taken) (x .1 ∙ j .before .worst .ensures) (x .2) (x .3)) (λ x. entry-left _ _ _ _ (x .0 .left) (x .2 ∙ x .1 .ensures ∙ ap (λ (a : Verdict). worst a Bad) (j .before .worst .ensures)) (x .3) (x .4)) (j .if1 .came) in
-    last-item (λ l x. pushEntry l (entryOfItem (g .before .before .before .before .before .before .before .before .args .subscribing) x)) _ _ _ (pushed ∙ ap (pushEntry (record { verdict = l .verdict; count = l .count; entries = l .entries })) (g .status-entry .ensures .here)) (rw (c .enum-told2 .given .1) at (g .status-entry .ensures .on)) ∙ l .inv
+    last-item (λ l x. pushEntry l (entryOfItem (g .before .before .before .before .before .before .before .before .args .asking) x)) _ _ _ (pushed ∙ ap (pushEntry (record { verdict = l .verdict; count = l .count; entries = l .entries })) (g .status-entry .ensures .here)) (rw (c .enum-told2 .given .1) at (g .status-entry .ensures .on)) ∙ l .inv
 
 loop-less : tie.Need-loop-less Inv-loop μ-loop
 loop-less c =
@@ -46,7 +46,7 @@ loop-again c =
     let l = g .before .loop in
     let pushed : _≡_ {A = StatusList} (record { verdict = j .if1 .verdict; count = j .if1 .count; entries = j .if1 .entries }) (pushEntry (record { verdict = l .verdict; count = l .count; entries = l .entries }) (g .status-entry .result .got)) =
     ⊎-elim (λ x. entry-taken _ _ _ _ (x .0 .taken) (x .1 ∙ j .before .worst .ensures) (x .2) (x .3)) (λ x. entry-left _ _ _ _ (x .0 .left) (x .2 ∙ x .1 .ensures ∙ ap (λ (a : Verdict). worst a Bad) (j .before .worst .ensures)) (x .3) (x .4)) (j .if1 .came) in
-    more-items (λ l x. pushEntry l (entryOfItem (g .before .before .before .before .before .before .before .before .args .subscribing) x)) _ _ _ (pushed ∙ ap (pushEntry (record { verdict = l .verdict; count = l .count; entries = l .entries })) (g .status-entry .ensures .here)) _ (rw (c .before .m .given .1) at (g .status-entry .ensures .on)) ∙ l .inv
+    more-items (λ l x. pushEntry l (entryOfItem (g .before .before .before .before .before .before .before .before .args .asking) x)) _ _ _ (pushed ∙ ap (pushEntry (record { verdict = l .verdict; count = l .count; entries = l .entries })) (g .status-entry .ensures .here)) _ (rw (c .before .m .given .1) at (g .status-entry .ensures .on)) ∙ l .inv
 
 pub statuses-in-spec : {M : Type 1} → statement M
 statuses-in-spec = tie.close (tie.spec Inv-loop μ-loop (λ c κs. search needs) (λ c κs. search needs) (λ c. search needs) (λ c. search needs) returns loop-holds
