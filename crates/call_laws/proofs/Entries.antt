@@ -1,18 +1,6 @@
 -- The fields of a StatusRequest that is not refused: labels, and 16 entries at most; and the entries told.
 -- Assumes nothing.
-use Prim.Native.Nat.{ℕ, zero, suc, _+_, _≤_, _<_}
-use mathlib.Core.Path.{_≡_, refl, sym, _∙_, ap, subst}
-use mathlib.Core.Bool.{Bool, true, false}
-use mathlib.Core.List.{List, [], _∷_, _++_}
-use mathlib.Core.Logic.{_⊎_, inl, inr}
-use native.Mathlib.Omega.{arith}
-use borrow.Author.Tests.{ltb-true}
-use lib.Dec.{ltb, eqb}
-use lib.ListN.{length, getD, set, length-set, length-append, length-replicate}
-use lib.Seq.{getD-set-same, getD-set-other}
-use Rattle.basis.specs.Pick.{pick}
-use Rattle.basis.specs.Text.{text}
-use Rattle.basis.proofs.Cases.{picked, bool-cases, eq-or-ne}
+use Rattle.basis.proofs.Std.{ℕ, zero, suc, _+_, _≤_, _<_, _≡_, refl, sym, _∙_, ap, subst, true, List, [], _∷_, _++_, _⊎_, inl, inr, arith, ltb-true, ltb, eqb, length, getD, set, length-set, length-append, length-replicate, getD-set-same, getD-set-other, text, picked, eq-or-ne}
 use Rattle.number.specs.Alphabet.{isLabel}
 use Rattle.label.specs.Label.{labelOf, textOf}
 use Rattle.json_value.specs.Reader.{skipWs}
@@ -32,7 +20,7 @@ use Rattle.read_lists.specs.Items.{Item, Items, absent as no-list, other as no-
 use Rattle.read_lists.specs.Gather.{gather}
 use Rattle.read_lists.specs.declared.Asking.{Asking}
 use Rattle.read_lists.specs.declared.Asking.the-variants.{Plain, Full, Older}
-use Rattle.read_lists.specs.Status.{changed, entryOf, noEntry, gotSeconds, entryBy, entryOfItem, noStatuses, pushEntry, statusesOf, statusFrom, statusBy, statusAt}
+use Rattle.read_lists.specs.Status.{changed, entryOf, noEntry, gotSeconds, entryBy, entryOfItem, noStatuses, pushEntry, statusesOf, statusFrom, statusAt}
 use Rattle.packet_lookup.specs.declared.Sought.{Sought}
 use Rattle.packet_lookup.specs.declared.Sought.the-variants.{Is, Nothing}
 use Rattle.packet_lookup.specs.Sought.{statusSought, entryAt}

@@ -1,6 +1,6 @@
 -- The messages of every call that writes are well-formed and have room in 4,096 bytes.
 -- Assumes nothing.
-use Rattle.basis.proofs.Std.{ℕ, _+_, _%_, _≤_, _<_, _≡_, refl, sym, _∙_, ap, subst, Bool, true, false, List, [], _∷_, _++_, _⊎_, inl, inr, arith, eqb, ltb, lit≤, length, getD, set, length-set, count, pick, picked, lt-or-ge, both-first}
+use Rattle.basis.proofs.Std.{ℕ, _+_, _%_, _≤_, _<_, _≡_, refl, sym, _∙_, ap, subst, Bool, true, List, [], _∷_, _++_, _⊎_, inl, inr, arith, eqb, ltb, lit≤, length, getD, set, length-set, count, pick, picked, lt-or-ge, both-first}
 use Rattle.identity.specs.declared.Identity.{Identity}
 use Rattle.identity.specs.Read.{SixteenBytes}
 use Rattle.identity.specs.Version.{version4Of}

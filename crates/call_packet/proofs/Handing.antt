@@ -1,10 +1,6 @@
 -- Which packets hand commands over: of a CommandRequest those that it names, of every other packet none.
 -- Assumes nothing.
-use Prim.Native.Nat.{ℕ}
-use mathlib.Core.Bool.{Bool, true, false}
-use mathlib.Core.List.{List, []}
-use Rattle.basis.specs.Pick.{pick}
-use Rattle.basis.proofs.Cases.{picked}
+use Rattle.basis.proofs.Std.{ℕ, Bool, true, false, List, [], picked}
 use Rattle.identity.specs.declared.Identity.{Identity}
 use Rattle.link.specs.Steps.{closesOf, fullOf}
 use Rattle.read_head.specs.declared.Verdict.{Verdict}
@@ -20,7 +16,6 @@ use Rattle.read_head.specs.declared.GotLabel.{GotLabel}
 use Rattle.read_head.specs.Head.{headAt}
 use Rattle.read_head.specs.Small.{watchdogAt, aggregatedAt, alarmAt}
 use Rattle.read_lists.specs.declared.StatusFields.{StatusFields}
-use Rattle.read_lists.specs.declared.VersionFields.{VersionFields}
 use Rattle.read_lists.specs.Version.{versionAt}
 use Rattle.read_lists.specs.declared.Asking.the-variants.{Plain}
 use Rattle.read_lists.specs.Status.{statusAt}
@@ -34,19 +29,18 @@ use Rattle.link.specs.declared.Role.the-variants.{Primary, Secondary}
 use Rattle.site.specs.Site.{linkAt, roleOf}
 use Rattle.site.specs.Call.{Command, Plan}
 use Rattle.packet_answer.specs.declared.Question.{Question}
-use Rattle.packet_answer.specs.Taken.{Taken, notAcked, byVerdict, unlessBusy, unexpected, notReady, busy}
+use Rattle.packet_answer.specs.Taken.{Taken, notAcked, byVerdict, unlessBusy, notReady, busy}
 use Rattle.packet_lookup.specs.declared.Sought.{Sought}
 use Rattle.packet_lookup.specs.declared.Sought.the-variants.{Is, Nothing}
 use Rattle.packet_lookup.specs.declared.SoughtAlarm.{SoughtAlarm}
 use Rattle.packet_lookup.specs.declared.SoughtAlarm.the-variants.{Alarm as TheAlarm, NoComponent, NoAlarm}
 use Rattle.packet_lookup.specs.Sought.{componentSought, alarmSought, allStatuses}
-use Rattle.packet_greet.specs.Answered.{answeredPlan}
-use Rattle.packet_greet.specs.Version.{own, versionJudged, versionTaken}
+use Rattle.packet_greet.specs.Version.{own, versionJudged}
 use Rattle.packet_greet.specs.Watchdog.{beat}
 use Rattle.packet_alarm.specs.Orders.{isZero, changeTaken, requestBy, requestTaken, ordered, orderedOf, foundTaken, alarmTaken, aggregatedOf, aggregatedTaken}
 use Rattle.packet_status.specs.StatusReply.{passes, statusTaken}
 use Rattle.packet_subscribe.specs.Subscribing.{changed, judged, asked, askingOn, subscribingTaken}
-use Rattle.packet_command.specs.Commanding.{keepsRanges, passes as allPass, orderedOf as commandOrdered, commandTaken}
+use Rattle.packet_command.specs.Commanding.{keepsRanges, passes as allPass, commandTaken}
 use Rattle.packet_command.specs.Handing.{commandsIn}
 use Rattle.call_packet.specs.Packet.{expected, unready, kindTaken, expectedTaken, classTaken, questionOf, packetTaken}
 

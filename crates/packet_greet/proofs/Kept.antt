@@ -1,10 +1,7 @@
 -- The claims about the answers and about what greets are kept.
 -- Assumes nothing.
-use Prim.Native.Nat.{ℕ, _≤_, _<_}
-use mathlib.Core.Path.{_≡_, refl, sym, _∙_}
-use mathlib.Core.Bool.{Bool, true, false}
-use mathlib.Core.List.{List, map, reverse}
-use borrow.Author.Tests.{le-leb, lt-leb}
+use Rattle.basis.proofs.Std.{ℕ, _≤_, _<_, _≡_, refl, _∙_, Bool, true, false, map, le-leb, lt-leb}
+use mathlib.Core.List.{reverse}
 use Rattle.number.specs.declared.Number.the-variants.{Is}
 use Rattle.number.specs.Decimal.{digits, digitsBelow}
 use Rattle.answer.specs.Given.Hint.{none, clock}

@@ -1,19 +1,15 @@
 -- The claims about packets with lists are kept.
 -- Assumes nothing.
-use mathlib.Core.Path.{_≡_, ap, ap₂, _∙_}
-use mathlib.Core.List.{List}
-use Prim.Native.Nat.{ℕ}
-use native.Mathlib.Omega.{arith}
+use Rattle.basis.proofs.Std.{_≡_, ap, _∙_, List, ℕ, arith}
 use Rattle.json_value.specs.Grammar.{Json}
 use Rattle.json_value.specs.Reader.{skipWs}
 use Rattle.json_value.proofs.Complete as Complete
 use Rattle.json_packet.specs.Packet.{Packet, packet}
-use Rattle.read_head.specs.Word.{wordIn, wordAt}
 use Rattle.read_head.proofs.Kept.{words}
 use Rattle.read_lists.specs.declared.Asking.{Asking}
 use Rattle.read_lists.specs.Items.{listIn, listAt}
-use Rattle.read_lists.specs.Version.{versionBy, versionIn, versionAt}
-use Rattle.read_lists.specs.Status.{statusBy, statusIn, statusAt}
+use Rattle.read_lists.specs.Version.{versionIn, versionAt}
+use Rattle.read_lists.specs.Status.{statusIn, statusAt}
 use Rattle.read_lists.specs.Claims.{Claims}
 use Rattle.read_lists.proofs.Listed.{lists-agree}
 use Rattle.read_lists.proofs.Seconds.{seconds, only-seconds, no-seconds, only-missing, too-long, subscribed, older}

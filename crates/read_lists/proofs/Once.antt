@@ -1,11 +1,6 @@
 -- An entry of sS that is looked up once: what was found of its four names, and the entry after it.
 -- Assumes nothing.
-use mathlib.Core.Path.{_≡_, sym, _∙_}
-use mathlib.Core.Bool.{true, false}
-use mathlib.Core.List.{List}
-use Prim.Native.Nat.{ℕ}
-use lib.ListN.{drop}
-use Rattle.basis.specs.Text.{text}
+use Rattle.basis.proofs.Std.{_≡_, sym, _∙_, true, false, List, ℕ, drop, text}
 use Rattle.json_text.specs.declared.Read.{Read}
 use Rattle.json_text.specs.Ends.{Ends}
 use Rattle.json_value.specs.Answers.{Skipped}

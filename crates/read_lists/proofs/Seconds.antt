@@ -1,17 +1,6 @@
 -- uRt is good exactly where it is the decimal text of a number of seconds up to 86400.
 -- Assumes nothing.
-use mathlib.Core.Path.{_≡_, refl, sym, ap, _∙_}
-use mathlib.Core.Bool.{true}
-use mathlib.Core.List.{List, [], _∷_, _++_}
-use Prim.Native.Nat.{ℕ, _+_, _/_, _%_, _≤_, _<_}
-use native.Mathlib.Omega.{arith}
-use lib.Dec.{ltb, leb, eqb}
-use lib.ListN.{length}
-use borrow.Author.Tests.{lt-ltb, le-leb}
-use Rattle.basis.specs.Pick.{both}
-use Rattle.basis.specs.Text.{text}
-use Rattle.basis.proofs.Cases.{bool-cases}
-use Rattle.basis.proofs.Both.{untrue}
+use Rattle.basis.proofs.Std.{_≡_, refl, sym, ap, _∙_, true, List, [], _∷_, _++_, ℕ, _+_, _/_, _%_, _≤_, _<_, arith, ltb, leb, eqb, length, lt-ltb, le-leb, both, text, bool-cases, untrue}
 use Rattle.number.specs.declared.Number.{Number}
 use Rattle.number.specs.declared.Number.the-variants.{Is, No}
 use Rattle.number.specs.Decimal.{digits}
@@ -31,7 +20,6 @@ use Rattle.read_head.specs.Word.{Word, absent, other, word, wordFor, said, said
 use Rattle.read_head.specs.Values.{worst, gotLabel}
 use Rattle.read_lists.specs.declared.Asking.the-variants.{Full, Older}
 use Rattle.read_lists.specs.declared.Flag.{Flag}
-use Rattle.read_lists.specs.declared.Flag.the-variants as flags
 use Rattle.read_lists.specs.Items.{itemIn, flagIn}
 use Rattle.read_lists.specs.Version.{numbered}
 use Rattle.read_lists.specs.Status.{gotSeconds, secondsIn, changed, entryOfItem}

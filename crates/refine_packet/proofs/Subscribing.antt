@@ -1,6 +1,6 @@
 -- Their StatusSubscribe and StatusUnsubscribe are the machine's.
 -- Assumes nothing.
-use Rattle.basis.proofs.Std.{ℕ, _<_, String, _≡_, refl, sym, subst, _∙_, Bool, true, false, not, List, [], _∷_, map, Option, some, none, pick, both, text}
+use Rattle.basis.proofs.Std.{ℕ, _<_, String, _≡_, refl, sym, subst, _∙_, Bool, true, false, not, List, [], _∷_, map, Option, some, none, pick, both, text, sameBytes, eqb}
 use Rattle.answer.specs.Given.Hint.{none as noHint}
 use Rattle.identity.specs.declared.Identity.{Identity}
 use Rattle.json_value.specs.Grammar.{Json}
@@ -16,8 +16,6 @@ use Rattle.packet_lookup.specs.Sought.{componentSought}
 use Rattle.site.specs.declared.Site.{Site}
 use Rattle.site.specs.Site.{linkAt}
 use Rattle.refine_parts.specs.Life.{shown}
-use Rattle.basis.specs.Lists.{sameBytes}
-use lib.Dec.{eqb}
 use Rattle.packet_answer.specs.Taken.{notAcked, unknownStatus}
 use Rattle.packet_subscribe.specs.Subscribing.{replaced, records, changed, judged, asked, askingBy, askingOn, subscribingTaken}
 use Rattle.machine.specs.Words.{isSome}

@@ -1,16 +1,6 @@
 -- The three checks, on the entries that both read.
 -- Assumes nothing.
-use Prim.Native.Nat.{ℕ, _≤_, _<_}
-use native.Mathlib.Omega.{arith}
-use mathlib.Core.Path.{_≡_, refl, sym, ap, ap₂, subst, _∙_}
-use mathlib.Core.Bool.{Bool, true, false}
-use mathlib.Core.List.{List, [], _∷_, map}
-use mathlib.Core.Option.{Option, some, none}
-use lib.Dec.{eqb, ltb}
-use borrow.Author.Tests.{eqb-true, eq-eqb, ne-eqb, le-ltb}
-use Rattle.basis.specs.Pick.{pick}
-use Rattle.basis.specs.Lists.{sameBytes}
-use Rattle.basis.proofs.Same.{same-is, same-true, same-self}
+use Rattle.basis.proofs.Std.{ℕ, _≤_, _<_, arith, _≡_, refl, sym, ap, ap₂, subst, _∙_, Bool, true, false, List, [], _∷_, map, Option, some, eqb, ltb, eqb-true, eq-eqb, ne-eqb, le-ltb, pick, sameBytes, same-is, same-true, same-self}
 use Rattle.number.specs.declared.Number.{Number}
 use Rattle.number.specs.declared.Number.the-variants.{Is, No}
 use Rattle.label.specs.declared.Label.{Label}

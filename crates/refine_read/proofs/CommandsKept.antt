@@ -1,13 +1,6 @@
 -- The claims about CommandRequest are kept.
 -- Assumes nothing.
-use Prim.Native.Nat.{ℕ}
-use native.Mathlib.Omega.{arith}
-use mathlib.Core.Path.{_≡_, refl, sym, ap, ap₂, _∙_}
-use mathlib.Core.Bool.{Bool, true}
-use mathlib.Core.List.{List, [], _∷_}
-use lib.Dec.{ltb}
-use Rattle.basis.specs.Text.{text}
-use Rattle.basis.proofs.Cases.{bool-cases}
+use Rattle.basis.proofs.Std.{ℕ, arith, _≡_, refl, sym, ap, ap₂, _∙_, Bool, true, List, [], _∷_, ltb, text, bool-cases}
 use Rattle.json_value.specs.Grammar.{Json}
 use Rattle.json_value.specs.Grammar.Json.{null}
 use Rattle.read_head.specs.declared.Verdict.{Verdict}

@@ -24,7 +24,7 @@ use Rattle.read_lists.specs.Version.{numbered}
 use Rattle.read_lists.specs.Status.{gotSeconds, secondsIn, changed, isSet, noEntry, plainEntry, fullEntry, olderEntry, entryBy, entryOfItem}
 use Rattle.machine.specs.Words.{Bytes, _and_, _or_, maybe, isSome, orElse, isNumber}
 use Rattle.machine.specs.Json.{shape, element, stringOf, booleanOf, numberIn}
-use Rattle.machine.specs.Answers.{aString, aBoolean, Element, _is_, label, asked, subscribed, interval, asksChange, asksNever, anyEntry, isObject, lacks, fits, spoils}
+use Rattle.machine.specs.Answers.{aString, aBoolean, Element, _is_, label, asked, subscribed, interval, asksNever, anyEntry, isObject, lacks, fits, spoils}
 use Rattle.refine_read.specs.Verdicts.{verdict}
 use Rattle.refine_read.proofs.Words.{foundOf, element-found, usable, Sure, worst-of, worst-good, both-good, or-false, element-judged, need-good}
 use Rattle.refine_read.proofs.Usable.{alphabet-ascii, usable-of, label-sure}

@@ -267,9 +267,21 @@ fn put_statuses(line: &mut [u8], at: usize, s: &[u8], places: &[usize], kind: Ki
     requires { ⌜ Indexed (now s) (now places) ⌝ }
 {
     match kind {
-        Kind::StatusRequest => put_status(line, at, read_lists::read_status(s, places, Asking::Plain)),
-        Kind::StatusSubscribe => put_status(line, at, read_lists::read_status(s, places, Asking::Full)),
-        Kind::StatusUnsubscribe => put_status(line, at, read_lists::read_status(s, places, Asking::Plain)),
+        Kind::StatusRequest => put_status(
+            line,
+            at,
+            read_lists::read_status(s, places, Asking::Plain),
+        ),
+        Kind::StatusSubscribe => put_status(
+            line,
+            at,
+            read_lists::read_status(s, places, Asking::Full),
+        ),
+        Kind::StatusUnsubscribe => put_status(
+            line,
+            at,
+            read_lists::read_status(s, places, Asking::Plain),
+        ),
         _ => at,
     }
 }

@@ -1,7 +1,6 @@
 -- `packet_subscribe::asking_by` meets its contract.
 -- Assumes nothing.
-use mathlib.Core.Path.{sym}
-use borrow.Author.Tests.{eq-eqb, ne-eqb}
+use Rattle.basis.proofs.Std.{sym, eq-eqb, ne-eqb}
 use Rattle.packet_subscribe.proofs.asking_by.Statement.{statement}
 use Rattle.packet_subscribe.proofs.asking_by.Tie as tie
 
