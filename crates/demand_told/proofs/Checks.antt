@@ -83,7 +83,11 @@ there-is f (later {y} {xs} a) e = go (f y) (there-is f a e)
 
 -- ---- the versions of ours
 ours-fall : Falls ourVersions
-ours-fall = falls (one-more refl no-more) (falls no-more ends)
+ours-fall = falls (one-more refl (one-more refl no-more)) (falls (one-more refl no-more) (falls no-more ends))
+
+says-314 : versionIn (text "3.1.4") ≡ some (3 ∷ 1 ∷ 4 ∷ [])
+unfolding versionIn digits digitsBelow
+says-314 = refl
 
 says-315 : versionIn (text "3.1.5") ≡ some (3 ∷ 1 ∷ 5 ∷ [])
 unfolding versionIn digits digitsBelow
@@ -94,7 +98,7 @@ unfolding versionIn digits digitsBelow
 says-32 = refl
 
 of-ours : (v : List ℕ) → Among v ourVersions → Ours v
-of-ours v a = each-of {P = Ours} (one-more (ours (later first) says-32) (one-more (ours first says-315) no-more)) a
+of-ours v a = each-of {P = Ours} (one-more (ours (later (later first)) says-32) (one-more (ours (later first) says-315) (one-more (ours first says-314) no-more))) a
 
 same-some : (v w : List ℕ) → some v ≡ some w → v ≡ w
 same-some v w e = cc
@@ -102,7 +106,9 @@ same-some v w e = cc
 ours-of : (v : List ℕ) → Ours v → Among v ourVersions
 ours-of v (ours {s} a e) =
     each-of {P = λ (s : Bytes). versionIn s ≡ some v → Among v ourVersions}
-    (one-more (λ e. rw (← same-some _ v (sym says-315 ∙ e)) (later first)) (one-more (λ e. rw (← same-some _ v (sym says-32 ∙ e)) first) no-more)) a e
+    (one-more (λ e. rw (← same-some _ v (sym says-314 ∙ e)) (later (later first)))
+    (one-more (λ e. rw (← same-some _ v (sym says-315 ∙ e)) (later first))
+    (one-more (λ e. rw (← same-some _ v (sym says-32 ∙ e)) first) no-more))) a e
 
 -- ---- and of theirs
 theirs-of : (j : Json) (v : List ℕ) → offers j v ≡ true → Theirs j v

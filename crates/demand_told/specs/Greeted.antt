@@ -49,7 +49,7 @@ pub data Acknowledged (l : ℕ) (Ours : Bytes → Message → Type 0) (p : Past)
 pub data Answered (l : ℕ) (Theirs : Json → Type 0) (p : Past) (before : List Past) : Type 0 where
   answered : {j : Json} → Theirs j → Came l j p → elementIs "mType" "rSMsg" j ≡ true → Among (ack (stringOf "mId" j)) (messagesOf (p .gave)) → Answered l Theirs p before
 
--- a version that our Version offers, "3.1.5 and 3.2", and one that theirs does: three numbers, "a missing part is 0"
+-- a version that our Version offers, "3.1.5 and 3.2" and 3.1.4 (request 07), and one that theirs does: three numbers, "a missing part is 0"
 pub data Ours (v : List ℕ) : Type 0 where
   ours : {s : Bytes} → Among s offered → versionIn s ≡ some v → Ours v
 
