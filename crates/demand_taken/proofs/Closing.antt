@@ -132,7 +132,7 @@ module _ (m : Machine) (l t room : ℕ) (random bytes : Bytes) (j : Json) (arriv
       before-checks =
           first-behind 7 (reasons m l j)
           (one-more (rw (mtype-there j (formed .marked))) (one-more (rw (formed .marked)) (one-more expected (one-more (rw not-beating)
-          (one-more (formed .complete) (one-more (formed .good) (one-more (rw not-ordered) no-more)))))))
+          (one-more (formed .complete _) (one-more (formed .good _) (one-more (rw not-ordered) no-more)))))))
 
       first-failing : (reason : String) → Fails m j reason → reasonOf m l j ≡ some reason
       unfolding reasons

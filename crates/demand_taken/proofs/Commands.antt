@@ -10,7 +10,7 @@ use Rattle.machine.specs.State.Act.{packet}
 use Rattle.machine.specs.Json.{readPacket, stringOf, entriesOf, isType, integerIn}
 use Rattle.machine.specs.Table.{lastSequence, commandNumber, commandRow}
 use Rattle.machine.specs.Table.Begins.{begins}
-use Rattle.machine.specs.Life.{isOver, isUp, isBeating, isAwaited}
+use Rattle.machine.specs.Life.{isOver, isUp, isBeating, isAwaited, isOlder}
 use Rattle.machine.specs.Answers.{isAnswer, isIgnored, commanded, needs, isMissing, isBad, componentAsked, commandAsked, valueAsked, inRange, outOfRange, unknownCommand, wantsReply, isUnexpected, reasons, reasonOf}
 use Rattle.machine.specs.Items.{commandOfEntry, commandsAsked, commands}
 use Rattle.machine.specs.Messages.{commandEntry}
@@ -53,8 +53,9 @@ each-to : {P Q : Json → Type 0} → ((x : Json) → P x → Q x) → {xs : Lis
 each-to f no-more = no-more
 each-to f (one-more p r) = one-more (f _ p) (each-to f r)
 
-each-valued : (j : Json) → isType "CommandRequest" j ≡ true → any (isMissing j) (needs j) ≡ false → any (isBad j) (needs j) ≡ false → Each Valued (entriesOf "arg" j)
-each-valued j typed complete good = each-to (λ e w. command-entry e w .1) (whole-entries "arg" commanded j (command-needs j typed) complete good)
+each-valued : (older : Bool) (j : Json) → isType "CommandRequest" j ≡ true → any (isMissing j) (needs older j) ≡ false → any (isBad j) (needs older j) ≡ false
+    → Each Valued (entriesOf "arg" j)
+each-valued older j typed complete good = each-to (λ e w. command-entry e w .1) (whole-entries older "arg" commanded j (command-needs older j typed) complete good)
 
 when-all : (a b c : Bool) → a ≡ true → b ≡ true → both a (both b c) ≡ false → c ≡ false
 when-all true true c p q e = e
@@ -157,7 +158,7 @@ module _ (m : Machine) (l : ℕ) (j : Json) (component : ℕ) (typed : isType "C
       no-reason =
           first-none (reasons m l j)
           (one-more (rw (mtype-there j (formed .marked))) (one-more (rw (formed .marked)) (one-more expected (one-more (rw ready)
-          (one-more (formed .complete) (one-more (formed .good) (one-more (rw (typed, none-outside m j component known table turns valued))
+          (one-more (formed .complete _) (one-more (formed .good _) (one-more (rw (typed, none-outside m j component known table turns valued))
           (one-more (rw (no-type "Version" refl)) (one-more (rw (no-type "Version" refl)) (one-more (rw (no-type "Version" refl))
           (one-more (rw (no-type "Alarm" refl, no-type "AggregatedStatusRequest" refl)) (one-more (rw (no-type "Alarm" refl))
           (one-more (rw (known, no-type "StatusRequest" refl, no-type "StatusSubscribe" refl, no-type "StatusUnsubscribe" refl))
@@ -200,11 +201,11 @@ module _ (m : Machine) (l : ℕ) (j : Json) (component : ℕ) (typed : isType "C
 
   -- ---- one that no reason refuses
   module _ (unrefused : reasonOf m l j ≡ none) where
-    complete : any (isMissing j) (needs j) ≡ false
+    complete : any (isMissing j) (needs (isOlder (lifeAt m l)) j) ≡ false
     unfolding reasons
     complete = none-at (reasons m l j) unrefused (later (later (later (later first))))
 
-    good : any (isBad j) (needs j) ≡ false
+    good : any (isBad j) (needs (isOlder (lifeAt m l)) j) ≡ false
     unfolding reasons
     good = none-at (reasons m l j) unrefused (later (later (later (later (later first)))))
 
@@ -223,7 +224,7 @@ module _ (m : Machine) (l : ℕ) (j : Json) (component : ℕ) (typed : isType "C
     all-fine =
         both-each (λ e p (q : (outside m j component known e ≡ false) × Valued e). (no-not (isSome (commandAsked m j e)) p, q .0, q .1))
         (none-of-any (λ (e : Json). not (isSome (commandAsked m j e))) (entriesOf "arg" j) (when-all (isType "CommandRequest" j) (isSome (componentAsked m j)) _ typed (ap isSome known) there))
-        (both-each (λ e p q. (p, q)) (none-of-any (outside m j component known) (entriesOf "arg" j) (when-both (isType "CommandRequest" j) _ typed within)) (each-valued j typed complete good))
+        (both-each (λ e p q. (p, q)) (none-of-any (outside m j component known) (entriesOf "arg" j) (when-both (isType "CommandRequest" j) _ typed within)) (each-valued (isOlder (lifeAt m l)) j typed complete good))
 
     in-range : (e : Json) (o : Option ℕ) → isSome o ≡ true → maybe false (λ (i : ℕ). not (inRange (commandRow (m .setup .table) i) (valueAsked e))) o ≡ false
         → inRange (commandRow (m .setup .table) (orElse 0 o)) (valueAsked e) ≡ true
@@ -248,7 +249,7 @@ module _ (m : Machine) (table : HasTable m) (t l room : ℕ) (random bytes : Byt
   acknowledged heard =
       let xs = map (commandOfEntry m j) (entriesOf "arg" j) in
       let turns = turned m l j component (asked .typed) known (heard .reason) in
-      let valued = each-valued j (asked .typed) (complete m l j component (asked .typed) known (heard .reason)) (good m l j component (asked .typed) known (heard .reason)) in
+      let valued = each-valued (isOlder (lifeAt m l)) j (asked .typed) (complete m l j component (asked .typed) known (heard .reason)) (good m l j component (asked .typed) known (heard .reason)) in
       record {
         commands = xs;
         in-turn = turns;
@@ -259,7 +260,7 @@ pub demand-commands : DemandCommands
 demand-commands =
     record {
       obeyed = λ s h m r l t room random bytes j component xs configured up few fresh arrives formed asked turns.
-          obeyed m l j component (asked .typed) (component-at m (run-table r .allowed) j component asked) (run-table r) (each-valued j (asked .typed) (formed .complete) (formed .good)) xs turns
+          obeyed m l j component (asked .typed) (component-at m (run-table r .allowed) j component asked) (run-table r) (each-valued false j (asked .typed) (formed .complete false) (formed .good false)) xs turns
           up few formed t room random bytes arrives configured (run-limit r) fresh;
       acknowledged = λ s h m r t l room random bytes j component read asked a.
           acknowledged m (run-table r) t l room random bytes j component read asked
