@@ -1,37 +1,37 @@
 -- Each done call keeps what its history tells, and issues what that tells, over every run.
 -- Assumes nothing.
-use Rattle.basis.proofs.Std.{ℕ, zero, suc, _<_, String, _≡_, refl, sym, _∙_, ap, Bool, true, false, not, List, [], _∷_, map, Option, some, none, eqb, ℤ, length, getD, arith, leb-false, pick, both, sameBytes, text, not-both, picked}
+use Rattle.basis.proofs.Std.{ℕ, zero, suc, _<_, String, _≡_, refl, sym, _∙_, ap, Bool, true, false, not, List, [], _∷_, map, Option, some, none, eqb, ℤ, length, getD, arith, leb-false, pick, both, sameBytes, text, not-both, both-true, picked}
 use Rattle.basis.specs.Lists.Among.{first, later}
 use Rattle.json_value.specs.Grammar.{Json}
 use Rattle.table_whole.specs.Table.{Row}
 use Rattle.write_message.specs.Message.{Message}
-use Rattle.write_message.specs.Message.Message.{ack}
 use Rattle.machine.specs.Words.{Bytes, isSome, orElse, any, firstOf}
-use Rattle.machine.specs.State.{Alarm, alarmOf, Awaited, Life, Setup, Start, Machine, withLife, lifeAt, alarmAt, valueAt, Act, Call, Outcome, Effect, handing, only}
+use Rattle.machine.specs.State.{Alarm, alarmOf, Awaited, Life, Setup, Start, Machine, withLife, lifeAt, alarmAt, valueAt, Act, Call, Outcome, Effect, only}
 use Rattle.machine.specs.State.Event.{Issue}
 use Rattle.machine.specs.State.Sent.{noRecord}
 use Rattle.machine.specs.State.Outcome.{refused}
 use Rattle.machine.specs.State.Act.{connect, disconnect, packet, alarmInput, statusValue, aggregatedValue, tick, pump}
 use Rattle.machine.specs.Json.{readPacket, stringOf, entriesOf, isType}
 use Rattle.machine.specs.Table.Begins.{begins}
-use Rattle.machine.specs.Life.{isUp, close, closeAll, awaitedBy, awaiting, Due, due}
-use Rattle.machine.specs.Answers.{isAnswer, componentAsked, alarmAsked, statusAsked, isStatusType, unknownStatus, wantsReply, reasons, reasonOf, failsCheck}
+use Rattle.machine.specs.Life.{isOver, isUp, isOlder, close, closeAll, awaitedBy, awaiting, Due, due}
+use Rattle.machine.specs.Answers.{isAnswer, isIgnored, componentAsked, alarmAsked, statusAsked, isStatusType, unknownStatus, wantsReply, reasons, reasonOf, failsCheck}
 use Rattle.machine.specs.Items.{withInput, ordered, sameValue, isNew, happens, subscribe, unsubscribe, intervals, becomes, commands, aggregates}
-use Rattle.machine.specs.Effects.{connects, closes, late, ticks, ownIdentity, carried, sentAs, sends, answerCloses, answers, answered, refuses, carriedOut, replyMessage, replying, receives, effectOf}
+use Rattle.machine.specs.Effects.{connects, closes, late, ticks, ownIdentity, carried, sentAs, sends, answerCloses, answers, answered, refuses, carriedOut, replying, receives, effectOf}
 use Rattle.machine.specs.Step.{conditions, numberOf, outcome, step}
 use Rattle.machine.specs.Run.{Past, past, Run}
 use Rattle.machine.specs.Run.Run.{begun, next}
 use Rattle.demand_held.proofs.Lists.{maybe-cases, Each, length-map}
 use Rattle.demand_held.proofs.Steps.{laid, step-done, step-refused, done-number}
 use Rattle.demand_held.specs.Held.{issuedBy}
-use Rattle.demand_told.proofs.Replies.{none-at, one-type}
+use Rattle.demand_told.proofs.Replies.{none-at, one-type, no-greeting, replied-up}
 use Rattle.demand_told.proofs.Tests.{no-not}
 use Rattle.demand_told.proofs.Found.{alarm-there, alarm-known, none-of-any}
 use Rattle.demand_told.proofs.GreetedDemand.{same-setup, by-number}
 use Rattle.demand_carried.proofs.Marks.{life-cases}
-use Rattle.demand_issued.specs.History.{doing, isAck, did, alarmNamed}
+use Rattle.demand_issued.specs.History.{doing, isAck, did, alarmNamed, wasOlder}
 use Rattle.demand_issued.specs.Issues.{issued, DemandIssues}
 use Rattle.demand_issued.proofs.Kept.{KeptBy, Known, extended, ticks-on, became, stayed, aggregated-anew, aggregated-again, took-other, took-subscribe, took-unsubscribe, took-order, took-input, input-own, order-own}
+use Rattle.demand_issued.proofs.Older.{Told, replied, acked, answered-silent, refuses-silent, run-told}
 use Rattle.demand_issued.proofs.Issued.{value-same, nothing-issued, input-issued, order-issued, tick-issued, value-issued, value-silent, subscribe-issued, aggregate-issued, aggregate-silent, other-issued}
 
 -- ---- the entries of a packet that no reason refuses
@@ -69,22 +69,6 @@ module _ (m : Machine) (l : ℕ) (j : Json) (unrefused : reasonOf m l j ≡ none
       go true b e = refl
       go false true e = refl
       go false false e = e
-
--- ---- answers and refusals issue nothing and acknowledge nothing
-module _ (m : Machine) (l : ℕ) (j : Json) where
-  answers-silent : (a : Awaited) → (answers l (stringOf "oMId" j) (isType "MessageAck" j) m a .issues ≡ []) × (answers l (stringOf "oMId" j) (isType "MessageAck" j) m a .messages ≡ [])
-  unfolding answers closes
-  answers-silent a =
-      picked (λ (e : Effect). (e .issues ≡ []) × (e .messages ≡ [])) (answerCloses (lifeAt m l) (isType "MessageAck" j) (a .message)) _ _ (λ e. (refl, refl)) (λ e. (refl, refl))
-
-  pub answered-silent : (answered l j m .issues ≡ []) × (answered l j m .messages ≡ [])
-  unfolding answered
-  answered-silent =
-      maybe-cases (λ (e : Effect). (e .issues ≡ []) × (e .messages ≡ [])) (only m) _ (awaitedBy (lifeAt m l) (stringOf "oMId" j)) (λ e. (refl, refl)) (λ a e. answers-silent a)
-
-  pub refuses-silent : (reason : String) → (refuses l j m reason .issues ≡ []) × (any isAck (refuses l j m reason .messages) ≡ false)
-  unfolding refuses closes
-  refuses-silent reason = picked (λ (e : Effect). (e .issues ≡ []) × (any isAck (e .messages) ≡ false)) (failsCheck reason) _ _ (λ e. (refl, refl)) (λ e. (refl, refl))
 
 module _ (start : ℕ) (h : List Past) where
   -- ---- what keeps a part of the machine as it is
@@ -173,7 +157,8 @@ module _ (start : ℕ) (h : List Past) where
       (λ up. rw (k .alarms n there) (input-issued start p h m k up n there active d (input-own (m .setup .table) start p h n active (rw d) (rw d))))
 
   -- ---- a packet that was acknowledged
-  module _ (p : Past) (m : Machine) (k : KeptBy start h m) (l : ℕ) (j : Json) (d : did p ≡ doing none none none (some (l, j)) false) (unrefused : reasonOf m l j ≡ none) where
+  module _ (p : Past) (m : Machine) (k : KeptBy start h m) (l : ℕ) (j : Json) (d : did p ≡ doing none none none (some (l, j)) false) (unrefused : reasonOf m l j ≡ none)
+      (read-by : isType "StatusSubscribe" j ≡ true → isOlder (lifeAt m l) ≡ wasOlder l h) where
     calm : (e : Effect) → KeptBy start (p ∷ h) (e .leaves) → e .leaves .setup ≡ m .setup → e .issues ≡ [] → isType "Alarm" j ≡ false → isType "StatusSubscribe" j ≡ false → Lays p e
     calm e x same none-issued no-alarm no-subscribe =
         record { kept = x; issues = none-issued ∙ rw same (other-issued start p h m k l j d no-alarm no-subscribe (λ l. isUp (lifeAt (e .leaves) l))) }
@@ -203,7 +188,7 @@ module _ (start : ℕ) (h : List Past) where
         (λ w. picked (Lays p) (isType "Alarm" j) _ _ order-lays
         (λ a. picked (Lays p) (isType "StatusSubscribe" j) _ _
         (λ e. record {
-          kept = took-subscribe start p h m k l j d e a (subscribed-known m l j unrefused e);
+          kept = took-subscribe start p h m k l j d e a (subscribed-known m l j unrefused e) (read-by e);
           issues = subscribe-issued start p h m k l j d e a (subscribed-known m l j unrefused e);
         })
         (λ s. picked (Lays p) (isType "StatusUnsubscribe" j) _ _ (λ e. calm _ (took-unsubscribe start p h m k l j d e s a (ended-known m l j unrefused e)) refl refl a s)
@@ -214,7 +199,7 @@ module _ (start : ℕ) (h : List Past) where
         other name x y z e = took-other start p h m k l j d (one-type name "Alarm" x j e) (one-type name "StatusSubscribe" y j e) (one-type name "StatusUnsubscribe" z j e)
 
   -- ---- every call
-  module _ (m : Machine) (k : KeptBy start h m) (t : ℕ) where
+  module _ (m : Machine) (k : KeptBy start h m) (told : (l : ℕ) → Told l h (lifeAt m l)) (t : ℕ) where
     abbrev pastOf : Act → Effect → Past
     pastOf act e = record { call = record { time = t; act = act }; gave = outcome e }
 
@@ -237,36 +222,35 @@ module _ (start : ℕ) (h : List Past) where
       module _ (id : Bytes) (j : Json) (r : readPacket bytes ≡ some j) where
         replying-goes : (e : Effect) → ((o : Outcome) → did (gives o) ≡ doing none none none (some (l, j)) false → Lays (gives o) e) → Goes this (replying l t id j e)
         unfolding replying
-        replying-goes e each = picked (Goes this) (wantsReply (e .leaves) l j) (replied e) (acked e) (λ w. with-reply) (λ w. without-reply)
+        replying-goes e each = picked (Goes this) (wantsReply (e .leaves) l j) (replied l t id j e) (acked l t id j e) (λ w. with-reply) (λ w. without-reply)
           where
-            replied : Effect → Effect
-            replied e =
-                handing (e .commands) (withLife l (awaiting id t noRecord (lifeAt (e .leaves) l)) (e .leaves)) (e .issues)
-                (ack (stringOf "mId" j) ∷ replyMessage (e .leaves) t id j ∷ []) (e .closed) (e .hint)
-
-            acked : Effect → Effect
-            acked e = handing (e .commands) (e .leaves) (e .issues) (ack (stringOf "mId" j) ∷ []) (e .closed) (e .hint)
-
-            with-reply : Goes this (replied e)
+            with-reply : Goes this (replied l t id j e)
             with-reply =
-                let x = each (outcome (replied e)) (rw r) in
+                let x = each (outcome (replied l t id j e)) (rw r) in
                 record {
                   kept = x .kept;
                   issues =
                       x .issues
-                      ∙ ap (λ (up : ℕ → Bool). issued (e .leaves .setup) start up (gives (outcome (replied e))) h) (λ z n. same-up id (e .leaves) n z);
+                      ∙ ap (λ (up : ℕ → Bool). issued (e .leaves .setup) start up (gives (outcome (replied l t id j e))) h) (λ z n. same-up id (e .leaves) n z);
                 }
 
-            without-reply : Goes this (acked e)
-            without-reply = let x = each (outcome (acked e)) (rw r) in record { kept = x .kept; issues = x .issues }
+            without-reply : Goes this (acked l t id j e)
+            without-reply = let x = each (outcome (acked l t id j e)) (rw r) in record { kept = x .kept; issues = x .issues }
 
-        received-goes : Goes this (receives l t id m j)
+        -- what subscribes is Up
+        read-by : lifeAt m l .connected ≡ true → isIgnored (lifeAt m l) (some j) ≡ false → isAnswer j ≡ false → reasonOf m l j ≡ none → isType "StatusSubscribe" j ≡ true
+            → isOlder (lifeAt m l) ≡ wasOlder l h
+        read-by connected heard other unrefused typed =
+            let up = replied-up m l j (record { other = other; reason = unrefused; asked = no-greeting "StatusSubscribe" refl refl j typed }) (rw connected) heard in
+            told l (both-true (lifeAt m l .versions .acknowledged) _ (both-true (isOver (lifeAt m l .versions)) _ (both-true (lifeAt m l .connected) _ up .1) .0) .1)
+
+        received-goes : lifeAt m l .connected ≡ true → isIgnored (lifeAt m l) (some j) ≡ false → Goes this (receives l t id m j)
         unfolding receives
-        received-goes =
+        received-goes connected heard =
             picked (Goes this) (isAnswer j) _ _
             (λ e. quiet (answered l j m) (answered-kept l j m k) (answered-silent m l j .0) (ap (any isAck) (answered-silent m l j .1)))
             (λ e. maybe-cases (Goes this) _ _ (reasonOf m l j)
-            (λ f. replying-goes (carriedOut l t j m) (λ o d. carried-lays (gives o) m k l j d f))
+            (λ f. replying-goes (carriedOut l t j m) (λ o d. carried-lays (gives o) m k l j d f (read-by connected heard e f)))
             (λ reason f. quiet (refuses l j m reason) (refuses-kept l j m reason k) (refuses-silent m l j reason .0) (refuses-silent m l j reason .1)))
 
     sends-silent : (l : ℕ) (id : Bytes) (d : Due) → sends l t id m d .issues ≡ []
@@ -279,7 +263,13 @@ module _ (start : ℕ) (h : List Past) where
     goes (disconnect l) f = silent _ _ (closed-kept l m k) refl refl
     goes (packet l random bytes room) f =
         maybe-cases (Goes (packet l random bytes room)) (only m) _ (readPacket bytes) (λ e. quiet l random bytes room (only m) k refl refl)
-        (λ j e. received-goes l random bytes room (ownIdentity random) j e)
+        (λ j e. received-goes l random bytes room (ownIdentity random) j e connected (rw e at heard))
+      where
+        connected : lifeAt m l .connected ≡ true
+        connected = no-not _ (none-at (conditions m t (packet l random bytes room)) f (later (later (later (later first)))))
+
+        heard : isIgnored (lifeAt m l) (readPacket bytes) ≡ false
+        heard = none-at (conditions m t (packet l random bytes room)) f (later (later (later (later (later first)))))
     goes (alarmInput i active) f =
         input-lays _ m k i active (omega (arith, k .alarm-count, leb-false (length (m .setup .table .alarms)) i (none-at (conditions m t (alarmInput i active)) f first))) refl
     goes (statusValue i v) f =
@@ -317,13 +307,13 @@ run-kept {s} (begun (begins {t} x e g)) =
     }
 run-kept {s} (next {h = h} {m = m} c r) =
     by-number m c
-    (λ e. rw (step-done m c e) (goes (s .time) h m (run-kept r) (c .time) (c .act) e .kept))
+    (λ e. rw (step-done m c e) (goes (s .time) h m (run-kept r) (run-told r) (c .time) (c .act) e .kept))
     (λ n e. rw (step-refused m c n e) (extended (s .time) (record { call = c; gave = refused n }) h m (run-kept r) refl))
 
 issues-done : {s : Start} {h : List Past} {m : Machine} → Run s h m → (c : Call) → numberOf m c ≡ none
     → issuedBy m c ≡ issued (m .setup) (s .time) (λ l. isUp (lifeAt (step m c .1) l)) (past m c) h
 issues-done {s} {h} {m} r c e =
-    rw (step-done m c e) (goes (s .time) h m (run-kept r) (c .time) (c .act) e .issues
+    rw (step-done m c e) (goes (s .time) h m (run-kept r) (run-told r) (c .time) (c .act) e .issues
     ∙ ap (λ (u : Setup). issued u (s .time) (λ l. isUp (lifeAt (laid m c .leaves) l)) (record { call = c; gave = outcome (laid m c) }) h) (rw (step-done m c e) at (same-setup r c)))
 
 pub demand-issues : DemandIssues

@@ -4,16 +4,17 @@ use Rattle.basis.proofs.Std.{ℕ, zero, suc, _<_, String, _≡_, refl, sym, _�
 use Rattle.json_value.specs.Grammar.{Json}
 use Rattle.table_whole.specs.Table.{Table}
 use Rattle.machine.specs.Words.{Bytes, reads, isSome, maybe, orElse, isNumber, alike, keep, any, changed}
-use Rattle.machine.specs.State.{Event, Alarm, alarmOf, Subscription, Setup, Machine, valueAt, withStatus, withAggregated, withSubscriptions}
+use Rattle.machine.specs.State.{Event, Alarm, alarmOf, Subscription, Setup, Machine, valueAt, withStatus, withAggregated, withSubscriptions, lifeAt}
 use Rattle.machine.specs.State.Event.{Issue, Acknowledge, Suspend}
 use Rattle.machine.specs.Json.{stringAt, entriesOf, elementIs, isType}
+use Rattle.machine.specs.Life.{isOlder}
 use Rattle.machine.specs.Answers.{interval, statusAsked}
 use Rattle.machine.specs.Items.{happens, withInput, acknowledgedAt, suspendedAt, resumedAt, ordered, isOf, numberAsked, without, subscribing, subscribeAll, endAll, anew}
 use Rattle.machine.specs.Run.{Past}
 use Rattle.demand_held.proofs.Lists.{Each, length-changed}
 use Rattle.demand_held.proofs.Lists.Each.{no-more, one-more}
 use Rattle.demand_told.proofs.Lives.{set-other}
-use Rattle.demand_issued.specs.History.{doing, did, alarmNamed, statusNamed, inputTo, isOrder, wasActive, wasSuspended, wasAcknowledged, lastEvent, eventTime, alarmAfter, lastAggregated, changeTime, lastValue, Standing, standingFrom, ticked, subscribedBy, standing}
+use Rattle.demand_issued.specs.History.{doing, did, alarmNamed, statusNamed, inputTo, isOrder, wasActive, wasSuspended, wasAcknowledged, lastEvent, eventTime, alarmAfter, lastAggregated, changeTime, lastValue, wasOlder, Standing, standingFrom, ticked, subscribedBy, standing}
 use Rattle.demand_issued.proofs.Lists.{eqb-swap, behind-none, keep-append, keep-kept, keep-nothing, keep-map}
 
 abbrev noAlarm : Alarm
@@ -140,18 +141,22 @@ module _ (now l i : ℕ) where
           let b = both-true (eqb (s .link) l) (eqb (s .status) i) e in
           rw (eqb-true (s .link) l (b .0), eqb-true (s .status) i (b .1), eqb-swap l k, eqb-swap i n) other
 
-  pub begun-own : (e : Json) (ss : List Subscription) → keep (isOf l i) (subscribing now l i e ss) ≡ listed l i (some (standingFrom now e))
-  begun-own e ss =
+  pub begun-own : (older : Bool) (e : Json) (ss : List Subscription) → keep (isOf l i) (subscribing older now l i e ss) ≡ listed l i (some (standingFrom older now e))
+  begun-own older e ss =
       keep-append (isOf l i) (without l i ss) _
       ∙ rw (ended-own ss, eq-eqb l l refl, eq-eqb i i refl)
 
-  pub begun-other : (k n : ℕ) → both (eqb k l) (eqb n i) ≡ false → (e : Json) (ss : List Subscription) → keep (isOf l i) (subscribing now k n e ss) ≡ keep (isOf l i) ss
-  begun-other k n other e ss = keep-append (isOf l i) (without k n ss) _ ∙ rw (ended-other k n other ss, other) (behind-none (keep (isOf l i) ss))
+  pub begun-other : (older : Bool) (k n : ℕ) → both (eqb k l) (eqb n i) ≡ false → (e : Json) (ss : List Subscription)
+      → keep (isOf l i) (subscribing older now k n e ss) ≡ keep (isOf l i) ss
+  begun-other older k n other e ss = keep-append (isOf l i) (without k n ss) _ ∙ rw (ended-other k n other ss, other) (behind-none (keep (isOf l i) ss))
 
 -- what the entries of a packet on link l0 do to them
 module _ (m : Machine) (now l : ℕ) (j : Json) (k i : ℕ) where
   abbrev t : Table
   t = m .setup .table
+
+  abbrev older : Bool
+  older = isOlder (lifeAt m l)
 
   pub is-named : (e : Json) → Known m j e → statusNamed t j e ≡ some (numberAsked m j e)
   is-named e known = go (statusAsked m j e) known
@@ -164,7 +169,7 @@ module _ (m : Machine) (now l : ℕ) (j : Json) (k i : ℕ) where
   pub subscribed-other : eqb l k ≡ false → (es : List Json) (ss : List Subscription) → keep (isOf k i) (subscribeAll m now l j es ss) ≡ keep (isOf k i) ss
   subscribed-other other [] ss = refl
   subscribed-other other (e ∷ es) ss =
-      subscribed-other other es _ ∙ begun-other now k i l (numberAsked m j e) (rw other) e ss
+      subscribed-other other es _ ∙ begun-other now k i older l (numberAsked m j e) (rw other) e ss
 
   pub ended-others : eqb l k ≡ false → (es : List Json) (ss : List Subscription) → keep (isOf k i) (endAll m l j es ss) ≡ keep (isOf k i) ss
   ended-others other [] ss = refl
@@ -173,18 +178,18 @@ module _ (m : Machine) (now l : ℕ) (j : Json) (k i : ℕ) where
   -- of this link
   module _ (own : l ≡ k) where
     one-begun : (e : Json) → Known m j e → (ss : List Subscription) (o : Option Standing) → keep (isOf k i) ss ≡ listed k i o
-        → keep (isOf k i) (subscribing now l (numberAsked m j e) e ss) ≡ listed k i (pick (isNumber i (statusNamed t j e)) (some (standingFrom now e)) o)
+        → keep (isOf k i) (subscribing older now l (numberAsked m j e) e ss) ≡ listed k i (pick (isNumber i (statusNamed t j e)) (some (standingFrom older now e)) o)
     one-begun e known ss o before = rw (is-named e known) (go (eq-or-ne (numberAsked m j e) i))
       where
         go : (numberAsked m j e ≡ i) ⊎ (numberAsked m j e ≡ i → ⊥)
-            → keep (isOf k i) (subscribing now l (numberAsked m j e) e ss) ≡ listed k i (pick (eqb i (numberAsked m j e)) (some (standingFrom now e)) o)
-        go (inl f) = rw (f, own, eq-eqb i i refl) (begun-own now k i e ss)
+            → keep (isOf k i) (subscribing older now l (numberAsked m j e) e ss) ≡ listed k i (pick (eqb i (numberAsked m j e)) (some (standingFrom older now e)) o)
+        go (inl f) = rw (f, own, eq-eqb i i refl) (begun-own now k i (isOlder (lifeAt m k)) e ss)
         go (inr f) =
-            begun-other now k i l (numberAsked m j e) (both-no (eqb l k) (eqb (numberAsked m j e) i) (ne-eqb (numberAsked m j e) i f)) e ss
+            begun-other now k i older l (numberAsked m j e) (both-no (eqb l k) (eqb (numberAsked m j e) i) (ne-eqb (numberAsked m j e) i f)) e ss
             ∙ rw (ne-eqb i (numberAsked m j e) (λ g. f (sym g))) before
 
     pub subscribed-own : {es : List Json} → Each (Known m j) es → (ss : List Subscription) (o : Option Standing) → keep (isOf k i) ss ≡ listed k i o
-        → keep (isOf k i) (subscribeAll m now l j es ss) ≡ listed k i (subscribedBy t k i now j es o)
+        → keep (isOf k i) (subscribeAll m now l j es ss) ≡ listed k i (subscribedBy t k i older now j es o)
     subscribed-own no-more ss o before = before
     subscribed-own (one-more {x = e} known r) ss o before = subscribed-own r _ _ (one-begun e known ss o before)
 
@@ -368,14 +373,17 @@ module _ (start : ℕ) (p : Past) (h : List Past) where
         subscriptions-so m k (m .subscriptions) (rw d) (rw d) (rw d) (λ word i. rw (d, no-alarm))
         (λ x i. k .subscriptions x i ∙ ap (listed x i) (sym (standing-untyped table start p h l j (rw d) (rw d) (rw d) no-subscribe no-unsubscribe x i)))
 
-    pub took-subscribe : isType "StatusSubscribe" j ≡ true → isType "Alarm" j ≡ false → Each (Known m j) (entriesOf "sS" j)
+    pub took-subscribe : isType "StatusSubscribe" j ≡ true → isType "Alarm" j ≡ false → Each (Known m j) (entriesOf "sS" j) → isOlder (lifeAt m l) ≡ wasOlder l h
         → KeptBy start (p ∷ h) (withSubscriptions (subscribeAll m (p .call .time) l j (entriesOf "sS" j) (m .subscriptions)) m)
-    took-subscribe typed no-alarm known =
+    took-subscribe typed no-alarm known told =
         subscriptions-so m k _ (rw d) (rw d) (rw d) (λ word i. rw (d, no-alarm)) (λ x i. rw (d, typed) (go x i (eq-or-ne l x)))
       where
+        told-of : {x : ℕ} → l ≡ x → isOlder (lifeAt m l) ≡ wasOlder x h
+        told-of e = rw (← e) told
+
         go : (x i : ℕ) → (l ≡ x) ⊎ (l ≡ x → ⊥) → keep (isOf x i) (subscribeAll m (p .call .time) l j (entriesOf "sS" j) (m .subscriptions))
-            ≡ listed x i (pick (not (eqb l x)) (standing table x i h) (subscribedBy table x i (p .call .time) j (entriesOf "sS" j) (standing table x i h)))
-        go x i (inl e) = rw (eq-eqb l x e) (subscribed-own m (p .call .time) l j x i e known (m .subscriptions) _ (k .subscriptions x i))
+            ≡ listed x i (pick (not (eqb l x)) (standing table x i h) (subscribedBy table x i (wasOlder x h) (p .call .time) j (entriesOf "sS" j) (standing table x i h)))
+        go x i (inl e) = rw (eq-eqb l x e, ← told-of e) (subscribed-own m (p .call .time) l j x i e known (m .subscriptions) _ (k .subscriptions x i))
         go x i (inr e) = rw (ne-eqb l x e) (subscribed-other m (p .call .time) l j x i (ne-eqb l x e) (entriesOf "sS" j) (m .subscriptions) ∙ k .subscriptions x i)
 
     pub took-unsubscribe : isType "StatusUnsubscribe" j ≡ true → isType "StatusSubscribe" j ≡ false → isType "Alarm" j ≡ false → Each (Known m j) (entriesOf "sS" j)

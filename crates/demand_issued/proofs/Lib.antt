@@ -1,5 +1,6 @@
 pub mod Tells
 pub mod Lists
+pub mod Older
 pub mod Kept
 pub mod Issued
 pub mod Goes

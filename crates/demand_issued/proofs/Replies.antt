@@ -25,7 +25,8 @@ use Rattle.demand_told.proofs.GreetedDemand.{by-number}
 use Rattle.demand_issued.specs.History.{isAck, took, did, alarmNamed, lastValue}
 use Rattle.demand_issued.specs.Replies.{entryReply, replyTo, DemandReplies}
 use Rattle.demand_issued.proofs.Kept.{KeptBy, Known, is-named, one-word}
-use Rattle.demand_issued.proofs.Goes.{entries-known, answered-silent, refuses-silent, run-kept}
+use Rattle.demand_issued.proofs.Older.{answered-silent, refuses-silent}
+use Rattle.demand_issued.proofs.Goes.{entries-known, run-kept}
 
 module _ (start : ℕ) (h : List Past) (m : Machine) (k : KeptBy start h m) (l t : ℕ) (id : Bytes) (j : Json) (unrefused : reasonOf m l j ≡ none) (no-command : isType "CommandRequest" j ≡ false) where
   abbrev Tells : Effect → Type 0

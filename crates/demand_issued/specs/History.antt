@@ -7,6 +7,7 @@ use mathlib.Core.List.{List, [], _∷_}
 use mathlib.Core.Option.{Option, some, none}
 use lib.Dec.{eqb, ltb, leb}
 use lib.IntN.{ℤ}
+use Rattle.basis.specs.Lists.{sameBytes}
 use Rattle.json_value.specs.Grammar.{Json}
 use Rattle.table_whole.specs.Table.{Table}
 use Rattle.write_message.specs.Message.{Message}
@@ -16,7 +17,7 @@ use Rattle.machine.specs.State.{Event, Alarm, alarmOf, Act, Outcome}
 use Rattle.machine.specs.State.Event.{Issue, Acknowledge, Suspend}
 use Rattle.machine.specs.State.Act.{connect, disconnect, packet, alarmInput, statusValue, aggregatedValue, tick, pump}
 use Rattle.machine.specs.State.Outcome.{refused, done}
-use Rattle.machine.specs.Json.{readPacket, stringOf, booleanOf, entriesOf, elementIs, isType, numberIn}
+use Rattle.machine.specs.Json.{readPacket, stringOf, booleanOf, entriesOf, elementIs, isType, numberIn, versionIn}
 use Rattle.machine.specs.Table.{componentOf, alarmNumber, statusNumber}
 use Rattle.machine.specs.Run.{Past}
 
@@ -133,6 +134,19 @@ abbrev pub lastValue : ℕ → List Past → Option ℤ
 lastValue i [] = none
 lastValue i (p ∷ h) = maybe (lastValue i h) (λ v. some v) (valueTo i p)
 
+-- ---- request 07: "On a link where [3.1.4] is chosen"
+abbrev pub lists : List ℕ → Json → Bool
+lists v j = any (λ e. maybe false (sameBytes v) (versionIn (stringOf "vers" e))) (entriesOf "RSMP" j)
+
+-- 3.1.4, and neither 3.1.5 nor 3.2
+abbrev pub listsOlder : Json → Bool
+listsOlder j = lists (3 ∷ 1 ∷ 4 ∷ []) j and not (lists (3 ∷ 1 ∷ 5 ∷ []) j or lists (3 ∷ 2 ∷ 0 ∷ []) j)
+
+-- the Version that link l took last lists so
+abbrev pub wasOlder : ℕ → List Past → Bool
+wasOlder l [] = false
+wasOlder l (p ∷ h) = maybe (wasOlder l h) (λ x. if isType "Version" (x .1) and eqb (x .0) l then listsOlder (x .1) else wasOlder l h) (did p .took)
+
 -- ---- the subscription of link l to status i that stands: uRt, sOc, and the time of "the subscribing call or the last tick that did so"
 pub record Standing : Type 0 where
   pub seconds : ℕ
@@ -143,22 +157,29 @@ pub record Standing : Type 0 where
 abbrev pub isOver : ℕ → Standing → Bool
 isOver now s = ltb 0 (s .seconds) and leb (s .since + 1000 * s .seconds) now
 
-abbrev pub standingFrom : ℕ → Json → Standing
-standingFrom now e = record { seconds = orElse 0 (numberIn 86400 (stringOf "uRt" e)); onChange = booleanOf "sOc" e; since = now }
+-- request 07, there: "a subscription has no sOc; uRt 0 means send on change and any other number means by interval only"
+abbrev pub standingFrom : Bool → ℕ → Json → Standing
+standingFrom older now e =
+    record {
+      seconds = orElse 0 (numberIn 86400 (stringOf "uRt" e));
+      onChange = if older then isNumber 0 (numberIn 86400 (stringOf "uRt" e)) else booleanOf "sOc" e;
+      since = now;
+    }
 
 abbrev pub ticked : ℕ → Standing → Standing
 ticked now s = record { seconds = s .seconds; onChange = s .onChange; since = if isOver now s then now else s .since }
 
 module _ (t : Table) (l i : ℕ) where
   -- "A link has one subscription per status; a new one replaces it": the entries of a packet in order
-  abbrev pub subscribedBy : ℕ → Json → List Json → Option Standing → Option Standing
-  subscribedBy now j [] before = before
-  subscribedBy now j (e ∷ es) before = subscribedBy now j es (if isNumber i (statusNamed t j e) then some (standingFrom now e) else before)
+  abbrev pub subscribedBy : Bool → ℕ → Json → List Json → Option Standing → Option Standing
+  subscribedBy older now j [] before = before
+  subscribedBy older now j (e ∷ es) before =
+      subscribedBy older now j es (if isNumber i (statusNamed t j e) then some (standingFrom older now e) else before)
 
-  abbrev pub standingBy : ℕ → ℕ × Json → Option Standing → Option Standing
-  standingBy now x before =
+  abbrev pub standingBy : Bool → ℕ → ℕ × Json → Option Standing → Option Standing
+  standingBy older now x before =
       if not (eqb (x .0) l) then before
-      else if isType "StatusSubscribe" (x .1) then subscribedBy now (x .1) (entriesOf "sS" (x .1)) before
+      else if isType "StatusSubscribe" (x .1) then subscribedBy older now (x .1) (entriesOf "sS" (x .1)) before
       else if isType "StatusUnsubscribe" (x .1) and any (λ e. isNumber i (statusNamed t (x .1) e)) (entriesOf "sS" (x .1)) then none
       else before
 
@@ -166,4 +187,4 @@ module _ (t : Table) (l i : ℕ) where
   standing [] = none
   standing (p ∷ h) =
       if did p .ticked then maybe none (λ s. some (ticked (p .call .time) s)) (standing h)
-      else maybe (standing h) (λ x. standingBy (p .call .time) x (standing h)) (did p .took)
+      else maybe (standing h) (λ x. standingBy (wasOlder l h) (p .call .time) x (standing h)) (did p .took)
