@@ -234,8 +234,8 @@ pub record BadValues : Type 0 where
       ≡ writes acks ∷ writes (refusesFor "Unknown status") ∷ writes (refusesFor "Bad value") ∷ writes (refusesFor "Unknown command")
       ∷ writes (refusesFor "Bad value") ∷ []
   pub sixteen-versions : each offering
-      (many 3 "Version','SXL':'2.1','siteId':[{'sId':'J4'}],'RSMP':[" "{'vers':'3.1.4'}," "{'vers':'3.2'}]}" 15
-      ∷ many 3 "Version','SXL':'2.1','siteId':[{'sId':'J4'}],'RSMP':[" "{'vers':'3.1.4'}," "{'vers':'3.2'}]}" 16
+      (many 3 "Version','SXL':'2.1','siteId':[{'sId':'J4'}],'RSMP':[" "{'vers':'3.1.3'}," "{'vers':'3.2'}]}" 15
+      ∷ many 3 "Version','SXL':'2.1','siteId':[{'sId':'J4'}],'RSMP':[" "{'vers':'3.1.3'}," "{'vers':'3.2'}]}" 16
       ∷ many 3 "Version','SXL':'2.1','RSMP':[{'vers':'3.2'}],'siteId':[" "{'sId':'J5'}," "{'sId':'J4'}]}" 15
       ∷ many 3 "Version','SXL':'2.1','RSMP':[{'vers':'3.2'}],'siteId':[" "{'sId':'J5'}," "{'sId':'J4'}]}" 16 ∷ [])
       ≡ writes acks ∷ writes (refusesFor "Bad value") ∷ writes acks ∷ writes (refusesFor "Bad value") ∷ []

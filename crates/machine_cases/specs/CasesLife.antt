@@ -88,8 +88,8 @@ refusal reason = heard 0 (refusesFor reason) (3 ∷ []) none []
 -- what our Version, a Watchdog, an AggregatedStatus and an Alarm look like
 abbrev pub versionAs : String → Bytes
 versionAs id =
-    json "{'mType':'rSMsg','type':'Version','mId':'" ++ text id ++ json "','RSMP':[{'vers':'3.1.5'},{'vers':'3.2'}],'siteId':[{'sId':'J4'}],'SXL':'2.1'}"
-    ++ (0x0C ∷ [])
+    json "{'mType':'rSMsg','type':'Version','mId':'" ++ text id
+    ++ json "','RSMP':[{'vers':'3.1.4'},{'vers':'3.1.5'},{'vers':'3.2'}],'siteId':[{'sId':'J4'}],'SXL':'2.1'}" ++ (0x0C ∷ [])
 
 abbrev pub watchdogAs : String → String → Bytes
 watchdogAs id wTs = json "{'mType':'rSMsg','type':'Watchdog','mId':'" ++ text id ++ json "','wTs':'" ++ text wTs ++ json "'}" ++ (0x0C ∷ [])
@@ -166,10 +166,10 @@ pub record Judged : Type 0 where
 
 pub record Checks : Type 0 where
   -- the checks, in this order: "A failure of these three sends MessageNotAck and closes the link"
-  pub no-version : hears offering (greet 0 3 "{'vers':'3.1.4'},{'vers':'3.2.255'},{'vers':'3'}" "{'sId':'J5'}" "2.10" ∷ []) ≡ refusal "RSMP version" ∷ []
+  pub no-version : hears offering (greet 0 3 "{'vers':'3.1.3'},{'vers':'3.2.255'},{'vers':'3'}" "{'sId':'J5'}" "2.10" ∷ []) ≡ refusal "RSMP version" ∷ []
   pub no-site : hears offering (greet 0 3 "{'vers':'3.2'}" "{'sId':'J5'},{'sId':'J40'}" "2.10" ∷ []) ≡ refusal "Site id" ∷ []
   pub no-sxl : hears offering (greet 0 3 "{'vers':'3.2'}" "{'sId':'J4'}" "2.10" ∷ []) ≡ refusal "SXL version" ∷ []
-  pub closed-by-check : leaves offering (greet 0 3 "{'vers':'3.1.4'}" "{'sId':'J4'}" "2.1" ∷ []) ≡ running
+  pub closed-by-check : leaves offering (greet 0 3 "{'vers':'3.1.3'}" "{'sId':'J4'}" "2.1" ∷ []) ≡ running
   pub closed-by-site : leaves offering (greet 0 3 "{'vers':'3.2'}" "{'sId':'J5'}" "2.1" ∷ []) ≡ running
   pub closed-by-sxl : leaves offering (greet 0 3 "{'vers':'3.2'}" "{'sId':'J4'}" "2" ∷ []) ≡ running
   -- "one to three dotted numbers, each 0 to 255 without leading zeros, else "Bad value"": that closes nothing
