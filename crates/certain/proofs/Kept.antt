@@ -20,6 +20,7 @@ use Rattle.machine_cases.proofs.Cases.{cases}
 use Rattle.demand_refused.proofs.Demand.{demand1}
 use Rattle.demand_told.proofs.Demand.{demand2}
 use Rattle.demand_told.proofs.GreetedDemand.{demand-greeted}
+use Rattle.demand_told.proofs.VersionDemand.{demand-version}
 use Rattle.demand_told.proofs.ReadDemand.{demand-read}
 use Rattle.demand_held.proofs.Demand.{demand3}
 use Rattle.demand_carried.proofs.Demand.{demand-carried}
@@ -54,6 +55,7 @@ demands =
       taking = demand-taken;
       commanding = demand-commands;
       closing = demand-closing;
+      choosing = demand-version;
       beating = demand-beats;
       issuing = demand-issues;
       replying = demand-replies;

@@ -42,6 +42,7 @@ use Rattle.machine_cases.specs.Cases.{Cases}
 use Rattle.demand_refused.specs.Demand.{Demand1}
 use Rattle.demand_told.specs.Demand.{Demand2}
 use Rattle.demand_told.specs.GreetedDemand.{DemandGreeted}
+use Rattle.demand_told.specs.VersionDemand.{DemandVersion}
 use Rattle.demand_told.specs.ReadDemand.{DemandRead}
 use Rattle.demand_held.specs.Demand.{Demand3}
 use Rattle.demand_carried.specs.Demand.{DemandCarried}
@@ -79,6 +80,8 @@ pub record Demands : Type 0 where
   -- "A failure of these three sends MessageNotAck and closes the link"; a MessageNotAck to our Version, or to our Watchdog while Beating, closes it; "the
   -- latest common one is chosen"
   pub closing : DemandClosing
+  -- request 07: "prove the selection once over any offered list"
+  pub choosing : DemandVersion
   -- "Due in Up ..: Watchdog a period or more after the last"
   pub beating : DemandBeats
   -- "Each call issues, sends, answers .. what that document lays down and nothing else": which records, by the last input, order, value and

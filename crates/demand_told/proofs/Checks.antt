@@ -11,6 +11,8 @@ use Rattle.machine.specs.Life.{ours as ourVersions, offers, common, namesSite, 
 use Rattle.demand_held.proofs.Lists.{Each}
 use Rattle.demand_held.proofs.Lists.Each.{no-more, one-more}
 use Rattle.demand_told.specs.Greeted.{Ours, Theirs, notLater, Chosen, NamesSite, IsGoodVersion}
+use Rattle.demand_told.specs.VersionDemand.{Falls}
+use Rattle.demand_told.specs.VersionDemand.Falls.{ends, falls}
 use Rattle.demand_told.specs.Greeted.Ours.{ours}
 use Rattle.demand_told.specs.Greeted.Theirs.{theirs}
 use Rattle.demand_told.specs.Greeted.NamesSite.{names}
@@ -38,10 +40,6 @@ some-passes f (later {y} {xs} a) e = go (f y) (some-passes f a e)
     go false r = r
 
 -- ---- the first of a list that falls is the latest that passes
-pub data Falls : List (List ℕ) → Type 0 where
-  ends : Falls []
-  falls : {v : List ℕ} {vs : List (List ℕ)} → Each (λ (w : List ℕ). notLater w v ≡ true) vs → Falls vs → Falls (v ∷ vs)
-
 not-after-itself : (v : List ℕ) → notLater v v ≡ true
 not-after-itself [] = refl
 not-after-itself (n ∷ v) = rw (eq-eqb n n refl) (not-after-itself v)
@@ -61,7 +59,7 @@ first-latest f (x ∷ vs) v (falls each rest) e w a p = go (f x) refl e (first-o
     go : (b : Bool) → f x ≡ b → pick b (some x) (firstThat f vs) ≡ some v → (x ≡ w) ⊎ Among w vs
         → (firstThat f vs ≡ some v → (w : List ℕ) → Among w vs → f w ≡ true → notLater w v ≡ true) → notLater w v ≡ true
     go true g q (inl own) r = let same : w ≡ v = cc in rw same (not-after-itself v)
-    go true g q (inr i) r = let same : x ≡ v = cc in rw (← same) (each-of each i)
+    go true g q (inr i) r = let same : x ≡ v = cc in rw (← same) (each w i)
     go false g q (inl own) r = not-both p (rw (← own) g)
     go false g q (inr i) r = r q w i p
 
@@ -82,8 +80,11 @@ there-is f (later {y} {xs} a) e = go (f y) (there-is f a e)
     go false r = r
 
 -- ---- the versions of ours
-ours-fall : Falls ourVersions
-ours-fall = falls (one-more refl (one-more refl no-more)) (falls (one-more refl no-more) (falls no-more ends))
+pub ours-fall : Falls ourVersions
+ours-fall =
+    falls (λ w a. each-of {P = λ (x : List ℕ). notLater x (3 ∷ 2 ∷ 0 ∷ []) ≡ true} (one-more refl (one-more refl no-more)) a)
+    (falls (λ w a. each-of {P = λ (x : List ℕ). notLater x (3 ∷ 1 ∷ 5 ∷ []) ≡ true} (one-more refl no-more) a)
+    (falls (λ w a. each-of {P = λ (x : List ℕ). notLater x (3 ∷ 1 ∷ 4 ∷ []) ≡ true} no-more a) ends))
 
 says-314 : versionIn (text "3.1.4") ≡ some (3 ∷ 1 ∷ 4 ∷ [])
 unfolding versionIn digits digitsBelow
@@ -111,7 +112,7 @@ ours-of v (ours {s} a e) =
     (one-more (λ e. rw (← same-some _ v (sym says-32 ∙ e)) first) no-more))) a e
 
 -- ---- and of theirs
-theirs-of : (j : Json) (v : List ℕ) → offers j v ≡ true → Theirs j v
+pub theirs-of : (j : Json) (v : List ℕ) → offers j v ≡ true → Theirs j v
 theirs-of j v e =
     let p = passing (λ (x : Json). maybe false (sameBytes v) (versionIn (stringOf "vers" x))) (entriesOf "RSMP" j) e in
     theirs (p .among) (go (versionIn (stringOf "vers" (p .one))) (p .passes))
@@ -120,7 +121,7 @@ theirs-of j v e =
     go none f = not-both f refl
     go (some w) f = ap some (sym (same-true v w f))
 
-offers-of : (j : Json) (v : List ℕ) → Theirs j v → offers j v ≡ true
+pub offers-of : (j : Json) (v : List ℕ) → Theirs j v → offers j v ≡ true
 offers-of j v (theirs a e) = some-passes (λ (x : Json). maybe false (sameBytes v) (versionIn (stringOf "vers" x))) a (rw e (same-self v))
 
 -- ---- the checks

@@ -5,6 +5,7 @@ pub mod Primary
 pub mod Demand
 pub mod Tests
 pub mod Checks
+pub mod VersionDemand
 pub mod Lives
 pub mod Apart
 pub mod Kept

@@ -3,5 +3,6 @@ pub mod Demand
 pub mod Life
 pub mod Greeted
 pub mod GreetedDemand
+pub mod VersionDemand
 pub mod Typed
 pub mod ReadDemand
