@@ -123,7 +123,7 @@ module _ (P : List Command → Type 0) (nothing : P []) where
       kind-taken Alarm = alarm-taken (alarmAt p)
       kind-taken AggregatedStatusRequest = aggregated-taken (aggregatedAt p)
       kind-taken StatusRequest = status-taken (statusAt Plain p)
-      kind-taken StatusSubscribe = subscribing-taken true (statusAt (askingOn (linkAt s l)) p)
+      kind-taken StatusSubscribe = subscribing-taken true (statusAt (askingOn (linkAt s (q .link))) p)
       kind-taken StatusUnsubscribe = subscribing-taken false (statusAt Plain p)
       kind-taken CommandRequest = command-taken
       kind-taken Unexpected = nothing
