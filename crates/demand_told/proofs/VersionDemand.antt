@@ -1,11 +1,11 @@
 -- The version is chosen so, of any list that falls.
 -- Assumes nothing.
-use Rattle.basis.proofs.Std.{ℕ, _≡_, refl, ap, Bool, true, false, List, map, Option, some, none, Among, not-both}
+use Rattle.basis.proofs.Std.{ℕ, _≡_, refl, ap, List, map, some, none, Among, not-both}
 use mathlib.Core.List.{reverse}
 use Rattle.number.specs.Decimal.{digits, digitsBelow}
 use Rattle.json_value.specs.Grammar.{Json}
 use Rattle.write_message.specs.Listing.{offered}
-use Rattle.machine.specs.Words.{isSome, firstThat}
+use Rattle.machine.specs.Words.{isSome}
 use Rattle.machine.specs.Json.{versionIn}
 use Rattle.machine.specs.Life.{ours, offers, chosenOf}
 use Rattle.demand_told.specs.Greeted.{Theirs}

@@ -87,10 +87,10 @@ module _ (s : Site) (m : Machine) (h : Abstracts s m) (l : ℕ) (b : l < m .setu
 
   -- it is one of ours, so its parts are in its number
   accepts : (v : List ℕ) → common j ≡ some v → Same (Chosen (numberOf v)) none
-  accepts v e = by v (chosen-parts (offers j) ours-fall v e) e
+  accepts v e = by (chosen-parts (offers j) ours-fall v e) e
     where
-      by : (w : List ℕ) → Parts w → common j ≡ some w → Same (Chosen (numberOf w)) none
-      by (p ∷ q ∷ t ∷ []) (three p q t high mid low) c =
+      by : {w : List ℕ} → Parts w → common j ≡ some w → Same (Chosen (numberOf w)) none
+      by (three p q t high mid low) c =
           let a : version p q t / 65536 ≡ p = omega arith in
           let b : version p q t / 256 % 256 ≡ q = omega arith in
           let d : version p q t % 256 ≡ t = omega arith in
