@@ -15,7 +15,7 @@ use Rattle.json_value.specs.Grammar.{Json}
 use Rattle.table_whole.specs.Table.{Row}
 use Rattle.machine.specs.Words.{Bytes, if_then_else_, _and_, _or_, reads, maybe, isSome, orElse, isNumber, any, Case, _when_, firstOf}
 use Rattle.machine.specs.State.{Life, Machine, lifeAt}
-use Rattle.machine.specs.Json.{shape, element, stringAt, stringOf, booleanOf, entriesOf, elementIs, isType, isIdentity, numberIn, integerIn, versionIn, timeIn}
+use Rattle.machine.specs.Json.{shape, element, stringAt, stringOf, booleanOf, entriesOf, elementIs, isType, isIncluded, asksFor, isIdentity, numberIn, integerIn, versionIn, timeIn}
 use Rattle.machine.specs.Table.{componentOf, alarmNumber, statusNumber, commandNumber, commandRow}
 use Rattle.machine.specs.Life.{isGreeting, isBeating, isPrimary, common, isOlder, namesSite, equalSxl, awaitedBy}
 
@@ -100,7 +100,7 @@ needs older j =
     ∷ one ("aSp" is aString (isWord ("Request" ∷ "Acknowledge" ∷ "Suspend" ∷ "Resume" ∷ []))) ∷ []
     else if isType "AggregatedStatusRequest" j then one ("cId" is label) ∷ []
     else if isType "StatusSubscribe" j then one ("cId" is label) ∷ entries "sS" (subscribed older) (λ e. not (asksNever older e)) ∷ []
-    else if isType "CommandRequest" j then one ("cId" is label) ∷ entries "arg" commanded anyEntry ∷ []
+    else if asksFor "CommandRequest" j then one ("cId" is label) ∷ entries "arg" commanded anyEntry ∷ []
     else one ("cId" is label) ∷ entries "sS" asked anyEntry ∷ []
 
 abbrev pub isObject : Json → Bool
@@ -146,7 +146,7 @@ abbrev pub valueAsked : Json → ℤ
 valueAsked e = orElse (pos 0) (integerIn (stringOf "v" e))
 
 abbrev pub isStatusType : Json → Bool
-isStatusType j = isType "StatusRequest" j or isType "StatusSubscribe" j or isType "StatusUnsubscribe" j
+isStatusType j = asksFor "StatusRequest" j or isType "StatusSubscribe" j or isType "StatusUnsubscribe" j
 
 -- "in AggregatedStatusRequest every component but 0 is "Unknown component""
 abbrev pub unknownComponent : Machine → Json → Bool
@@ -170,13 +170,13 @@ inRange r v = atMost (r .lowest) v and atMost v (r .highest)
 
 abbrev pub outOfRange : Machine → Json → Bool
 outOfRange m j =
-    isType "CommandRequest" j
+    asksFor "CommandRequest" j
     and any (λ e. maybe false (λ i. not (inRange (commandRow (m .setup .table) i) (valueAsked e))) (commandAsked m j e)) (entriesOf "arg" j)
 
 -- "an unknown component is answered with age undefined and v null"; of a known one every entry is a command
 abbrev pub unknownCommand : Machine → Json → Bool
 unknownCommand m j =
-    isType "CommandRequest" j and isSome (componentAsked m j) and any (λ e. not (isSome (commandAsked m j e))) (entriesOf "arg" j)
+    asksFor "CommandRequest" j and isSome (componentAsked m j) and any (λ e. not (isSome (commandAsked m j e))) (entriesOf "arg" j)
 
 -- "Request from the primary is answered"; AggregatedStatusRequest, StatusRequest and CommandRequest are, on every link
 abbrev pub wantsReply : Machine → ℕ → Json → Bool
@@ -184,11 +184,15 @@ wantsReply m l j =
     (isType "Alarm" j and elementIs "aSp" "Request" j and isPrimary m l)
     or isType "AggregatedStatusRequest" j or isType "StatusRequest" j or isType "CommandRequest" j
 
+-- request 04: the response is itself the answer, under no identity of ours: `wantsReply`, and so "Busy" and number 9, is not of these
+abbrev pub repliesAtOnce : Json → Bool
+repliesAtOnce j = isIncluded "StatusRequest" j or isIncluded "CommandRequest" j
+
 -- "Taken: Version, Watchdog, both answers, Alarm, AggregatedStatusRequest, StatusRequest, StatusSubscribe, StatusUnsubscribe." And CommandRequest
 abbrev pub isTaken : Json → Bool
 isTaken j =
     isType "Version" j or isType "Watchdog" j or isType "Alarm" j or isType "AggregatedStatusRequest" j or isStatusType j
-    or isType "CommandRequest" j
+    or asksFor "CommandRequest" j
 
 -- "type missing, no string or not taken, Version before ours went out or after theirs was accepted"
 abbrev pub isUnexpected : Life → Json → Bool

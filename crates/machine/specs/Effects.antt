@@ -30,7 +30,7 @@ use Rattle.machine.specs.State.{
 }
 use Rattle.machine.specs.State.Sent.{ourVersion, ourWatchdog, noRecord, theRecord}
 use Rattle.machine.specs.State.Act.{connect, disconnect, packet, alarmInput, statusValue, aggregatedValue, tick, pump}
-use Rattle.machine.specs.Json.{readPacket, stringOf, isType, hintIn}
+use Rattle.machine.specs.Json.{readPacket, stringOf, isType, asksFor, hintIn}
 use Rattle.machine.specs.Life.{
   isBeating,
   isPrimary,
@@ -51,9 +51,9 @@ use Rattle.machine.specs.Life.{
   due,
 }
 use Rattle.machine.specs.Life.Due.{theVersion, theWatchdog, theAggregated, theAlarm, theHeld}
-use Rattle.machine.specs.Answers.{isAnswer, alarmAsked, wantsReply, reasonOf, failsCheck}
+use Rattle.machine.specs.Answers.{isAnswer, alarmAsked, wantsReply, repliesAtOnce, reasonOf, failsCheck}
 use Rattle.machine.specs.Items.{withInput, ordered, happens, subscribe, unsubscribe, intervals, becomes, commands, aggregates}
-use Rattle.machine.specs.Messages.{alarmMessage, aggregatedMessage, recordMessage, responseMessage, commandMessage}
+use Rattle.machine.specs.Messages.{alarmMessage, aggregatedMessage, recordMessage, responseMessage, commandMessage, includedMessage}
 use Rattle.machine.specs.Pool.{settled, marked}
 
 -- ---- connect, disconnect, tick
@@ -177,7 +177,7 @@ carriedOut l t j m =
     else if isType "Alarm" j then alarmOrdered t j m (orElse 0 (alarmAsked m j))
     else if isType "StatusSubscribe" j then subscribe m t l j
     else if isType "StatusUnsubscribe" j then unsubscribe m l j
-    else if isType "CommandRequest" j then commands m j
+    else if asksFor "CommandRequest" j then commands m j
     else only m
 
 -- "Request from the primary is answered, suspended or not, with states, last event and its time, carrying no record"
@@ -191,7 +191,8 @@ replyMessage m t id j =
 -- "the answer first, behind the one before": MessageAck, and the reply where one is due
 unfoldable pub replying : ℕ → ℕ → Bytes → Json → Effect → Effect
 replying l t id j e =
-    if wantsReply (e .leaves) l j then
+    if repliesAtOnce j then handing (e .commands) (e .leaves) (e .issues) (includedMessage (e .leaves) t j ∷ []) (e .closed) (e .hint)
+    else if wantsReply (e .leaves) l j then
     handing (e .commands) (withLife l (awaiting id t noRecord (lifeAt (e .leaves) l)) (e .leaves)) (e .issues)
     (ack (stringOf "mId" j) ∷ replyMessage (e .leaves) t id j ∷ []) (e .closed) (e .hint)
     else handing (e .commands) (e .leaves) (e .issues) (ack (stringOf "mId" j) ∷ []) (e .closed) (e .hint)

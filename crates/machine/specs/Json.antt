@@ -79,6 +79,13 @@ elementIs name word j = maybe false (reads word) (stringAt name j)
 abbrev pub isType : String → Json → Bool
 isType name j = elementIs "type" name j
 
+-- request 04: a type of source document 004, the name of an old one with AckIncluded behind it; and either of the two
+abbrev pub isIncluded : String → Json → Bool
+isIncluded name j = maybe false (λ s. sameBytes s (text name ++ text "AckIncluded")) (stringAt "type" j)
+
+abbrev pub asksFor : String → Json → Bool
+asksFor name j = isType name j or isIncluded name j
+
 -- "Identities are 36 characters, hex 8-4-4-4-12, either case": with x for each digit
 abbrev pub isHex : ℕ → Bool
 isHex b = (leb 48 b and leb b 57) or (leb 65 b and leb b 70) or (leb 97 b and leb b 102)

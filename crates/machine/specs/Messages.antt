@@ -12,11 +12,11 @@ use Rattle.write_message.specs.declared.Value.{Value}
 use Rattle.write_message.specs.declared.Value.the-variants.{Recent, Old, Unknown, Undefined}
 use Rattle.write_message.specs.declared.Told.the-variants.{Response, Update, Command}
 use Rattle.write_message.specs.Message.{Message, Status, status}
-use Rattle.write_message.specs.Message.Message.{alarm, aggregated, statuses}
+use Rattle.write_message.specs.Message.Message.{alarm, aggregated, statuses, included}
 use Rattle.machine.specs.Words.{Bytes, if_then_else_, maybe}
 use Rattle.machine.specs.State.{eventNumber, Alarm, Content, Machine, valueAt}
 use Rattle.machine.specs.State.Content.{ofAlarm, ofStatus, ofAggregated}
-use Rattle.machine.specs.Json.{stringOf, entriesOf}
+use Rattle.machine.specs.Json.{stringOf, entriesOf, isIncluded}
 use Rattle.machine.specs.Table.{componentText, alarmRow, statusRow}
 use Rattle.machine.specs.Answers.{componentAsked, valueAsked}
 use Rattle.machine.specs.Items.{numberAsked}
@@ -58,12 +58,24 @@ abbrev pub answerEntry : Machine → Json → Json → Status
 answerEntry m j e =
     status (stringOf "sCI" e) (stringOf "n" e) (maybe Undefined (λ c. valueOf false (valueAt m (numberAsked m j e))) (componentAsked m j))
 
+abbrev pub answerEntries : Machine → Json → List Status
+answerEntries m j = map (answerEntry m j) (entriesOf "sS" j)
+
 abbrev pub responseMessage : Machine → ℕ → Bytes → Json → Message
-responseMessage m t id j = statuses Response id (stringOf "cId" j) t (map (answerEntry m j) (entriesOf "sS" j))
+responseMessage m t id j = statuses Response id (stringOf "cId" j) t (answerEntries m j)
 
 -- request 01: "A value in its range is .. answered with age recent; an unknown component is answered with age undefined and v null"
 abbrev pub commandEntry : Machine → Json → Json → Status
 commandEntry m j e = status (stringOf "cCI" e) (stringOf "n" e) (maybe Undefined (λ c. Recent (valueAsked e)) (componentAsked m j))
 
+abbrev pub commandEntries : Machine → Json → List Status
+commandEntries m j = map (commandEntry m j) (entriesOf "arg" j)
+
 abbrev pub commandMessage : Machine → ℕ → Bytes → Json → Message
-commandMessage m t id j = statuses Command id (stringOf "cId" j) t (map (commandEntry m j) (entriesOf "arg" j))
+commandMessage m t id j = statuses Command id (stringOf "cId" j) t (commandEntries m j)
+
+-- request 04: "one response with oMId equal to the request's mId and no identity of its own"; its entries are those of the old types
+abbrev pub includedMessage : Machine → ℕ → Json → Message
+includedMessage m t j =
+    if isIncluded "CommandRequest" j then included Command (stringOf "mId" j) (stringOf "cId" j) t (commandEntries m j)
+    else included Response (stringOf "mId" j) (stringOf "cId" j) t (answerEntries m j)

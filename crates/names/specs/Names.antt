@@ -10,13 +10,14 @@ use Rattle.basis.specs.Text.{text}
 use Rattle.names.specs.declared.Found.{Found}
 use Rattle.names.specs.declared.Found.the-variants.{At, Nothing}
 
--- the fourteen types of messages
+-- the eighteen types of messages: the fourteen of 000, and the four that carry their acknowledgement (004)
 abbrev pub typeNames : List (List ℕ)
 typeNames =
     text "Version" ∷ text "Watchdog" ∷ text "MessageAck" ∷ text "MessageNotAck" ∷ text "Alarm"
     ∷ text "AggregatedStatus" ∷ text "AggregatedStatusRequest" ∷ text "StatusRequest" ∷ text "StatusResponse"
     ∷ text "StatusSubscribe" ∷ text "StatusUnsubscribe" ∷ text "StatusUpdate" ∷ text "CommandRequest"
-    ∷ text "CommandResponse" ∷ []
+    ∷ text "CommandResponse" ∷ text "StatusRequestAckIncluded" ∷ text "StatusResponseAckIncluded"
+    ∷ text "CommandRequestAckIncluded" ∷ text "CommandResponseAckIncluded" ∷ []
 
 -- the twelve reasons of a MessageNotAck
 abbrev pub reasons : List (List ℕ)

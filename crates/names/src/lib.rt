@@ -8,7 +8,7 @@ ghost use Rattle.names.specs.Names.{nameOf, findIn, findType};
 ghost use Rattle.names.specs.Table.{Lent};
 
 mod table; // table.rt: the bytes of all names, and where each stands
-pub mod types; // types.rt: the fourteen types of messages
+pub mod types; // types.rt: the eighteen types of messages
 pub mod reasons; // reasons.rt: the twelve reasons of a MessageNotAck
 
 pub enum Found {

@@ -6,8 +6,9 @@ use super::reasons;
 
 const COUNT: usize = reasons::END;
 
-pub const TABLE: [u8; 318] =
+pub const TABLE: [u8; 418] =
     *b"VersionWatchdogMessageAckMessageNotAckAlarmAggregatedStatusAggregatedStatusRequestStatusRequestStatusResponseStatusSubscribeStatusUnsubscribeStatusUpdateCommandRequestCommandResponse\
+      StatusRequestAckIncludedStatusResponseAckIncludedCommandRequestAckIncludedCommandResponseAckIncluded\
       Missing elementBad valueUnexpectedNot readyRSMP versionSite idSXL versionUnknown componentUnknown alarmUnknown statusUnknown commandBusy";
 
 pub const STARTS: [u16; COUNT] = [
@@ -26,21 +27,25 @@ pub const STARTS: [u16; COUNT] = [
     153,
     167,
     182,
-    197,
     206,
-    216,
-    225,
-    237,
-    244,
-    255,
-    272,
-    285,
-    299,
-    314,
+    231,
+    256,
+    282,
+    297,
+    306,
+    316,
+    325,
+    337,
+    344,
+    355,
+    372,
+    385,
+    399,
+    414,
 ];
 
 pub const LENS: [u8; COUNT] =
-    *b"\x07\x08\x0a\x0d\x05\x10\x17\x0d\x0e\x0f\x11\x0c\x0e\x0f\x0f\x09\x0a\x09\x0c\x07\x0b\x11\x0d\x0e\x0f\x04";
+    *b"\x07\x08\x0a\x0d\x05\x10\x17\x0d\x0e\x0f\x11\x0c\x0e\x0f\x18\x19\x19\x1a\x0f\x09\x0a\x09\x0c\x07\x0b\x11\x0d\x0e\x0f\x04";
 
 pub struct Span {
     pub start: usize,

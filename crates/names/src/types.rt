@@ -27,4 +27,12 @@ pub const COMMAND_REQUEST: usize = 12;
 
 pub const COMMAND_RESPONSE: usize = 13;
 
-pub const END: usize = 14;
+pub const STATUS_REQUEST_ACK_INCLUDED: usize = 14;
+
+pub const STATUS_RESPONSE_ACK_INCLUDED: usize = 15;
+
+pub const COMMAND_REQUEST_ACK_INCLUDED: usize = 16;
+
+pub const COMMAND_RESPONSE_ACK_INCLUDED: usize = 17;
+
+pub const END: usize = 18;

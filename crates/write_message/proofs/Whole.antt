@@ -11,9 +11,9 @@ use Rattle.write_message.specs.declared.Value.the-variants.{Recent, Old,
 use Rattle.write_message.specs.declared.Told.{Told}
 use Rattle.write_message.specs.declared.Told.the-variants.{Response, Update, Command}
 use Rattle.write_message.specs.Message.{Message, Status, status}
-use Rattle.write_message.specs.Message.Message.{version, watchdog, ack, notAck, alarm, aggregated, statuses}
+use Rattle.write_message.specs.Message.Message.{version, watchdog, ack, notAck, alarm, aggregated, statuses, included}
 use Rattle.write_message.specs.Listing.{element, said, codeName, valueName, qualityName, valueJson, qualityText, jsonOf, bytesOf, statusJson, statusesJson}
-use Rattle.write_message.specs.Pieces.{headPieces, ownPieces, aboutPieces, statePieces, restPieces, highPieces, lowPieces, byKind, statusHead, entryStart, valuePieces, entryPieces, entriesPieces, statusTail, pieces}
+use Rattle.write_message.specs.Pieces.{headPieces, ownPieces, componentPieces, aboutPieces, statePieces, restPieces, highPieces, lowPieces, byKind, toldPieces, statusHead, includedHead, entryStart, valuePieces, entryPieces, entriesPieces, statusTail, pieces}
 use Rattle.write_message.proofs.Onto.{behind}
 
 flag-text : (b : Bool) (r : List ℕ) → pick b (text "true,") (text "false,") ++ r ≡ textOnto (bool b) (0x2c ∷ r)
@@ -115,7 +115,7 @@ entries-text kind (s ∷ ss) more =
     ∙ others-are kind s ss (concat more)
 
 onto : (m : Message) → concat (pieces m) ≡ textOnto (jsonOf m) (text "\u{c}")
-unfolding headPieces ownPieces aboutPieces statePieces restPieces highPieces lowPieces byKind statusHead pieces
+unfolding headPieces ownPieces componentPieces aboutPieces statePieces restPieces highPieces lowPieces byKind toldPieces statusHead includedHead pieces
 onto (version id site sxl) = refl
 onto (watchdog id time) = refl
 onto (ack received) = refl
@@ -125,6 +125,9 @@ onto (aggregated id component time value) = simp (flag-text, last-flag-text)
 onto (statuses Response id component time entries) = rw (entries-text Response entries statusTail)
 onto (statuses Update id component time entries) = rw (entries-text Update entries statusTail)
 onto (statuses Command id component time entries) = rw (entries-text Command entries statusTail)
+onto (included Response received component time entries) = rw (entries-text Response entries statusTail)
+onto (included Update received component time entries) = rw (entries-text Update entries statusTail)
+onto (included Command received component time entries) = rw (entries-text Command entries statusTail)
 
 pub whole : (m : Message) → concat (pieces m) ≡ bytesOf m
 whole m = onto m ∙ behind (jsonOf m) (text "\u{c}")

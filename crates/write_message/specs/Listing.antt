@@ -20,7 +20,7 @@ use Rattle.write_message.specs.declared.Value.the-variants.{Recent, Old,
 use Rattle.write_message.specs.declared.Told.{Told}
 use Rattle.write_message.specs.declared.Told.the-variants.{Response, Update, Command}
 use Rattle.write_message.specs.Message.{Message, Status}
-use Rattle.write_message.specs.Message.Message.{version, watchdog, ack, notAck, alarm, aggregated, statuses}
+use Rattle.write_message.specs.Message.Message.{version, watchdog, ack, notAck, alarm, aggregated, statuses, included}
 
 -- an element and the ones after it; an element that is a string
 abbrev pub element : String → Json → Members → Members
@@ -33,8 +33,12 @@ said name s ms = mcons (text name) (str s) ms
 abbrev pub headOf : List ℕ → String → List ℕ → Members → Members
 headOf type name id ms = said "mType" (text "rSMsg") (said "type" type (said name id ms))
 
+-- how a message about a component goes on behind its identity
+abbrev pub ofComponent : List ℕ → Members → Members
+ofComponent component ms = said "ntsOId" [] (said "xNId" [] (said "cId" component ms))
+
 abbrev pub aboutOf : List ℕ → List ℕ → List ℕ → Members → Members
-aboutOf type id component ms = headOf type "mId" (identityText id) (said "ntsOId" [] (said "xNId" [] (said "cId" component ms)))
+aboutOf type id component ms = headOf type "mId" (identityText id) (ofComponent component ms)
 
 -- "offering 3.1.5 and 3.2"; request 07: "Offer 3.1.4 as well"
 abbrev pub offered : List (List ℕ)
@@ -73,6 +77,10 @@ abbrev pub typeText : Told → List ℕ
 typeText Response = text "StatusResponse"
 typeText Update = text "StatusUpdate"
 typeText Command = text "CommandResponse"
+
+-- request 04: the old type's name with AckIncluded behind it; nothing writes that of Update
+abbrev pub includedText : Told → List ℕ
+includedText kind = typeText kind ++ text "AckIncluded"
 
 -- what the elements of the three are called: the time, the list; in an entry the code, the value and how good it is
 abbrev pub timeName : Told → String
@@ -122,6 +130,11 @@ abbrev pub statusesJson : Told → List Status → Jsons
 statusesJson kind [] = jnil
 statusesJson kind (s ∷ ss) = jcons (statusJson kind s) (statusesJson kind ss)
 
+-- what is told of a component, behind the identity: its own, or the one that is repeated
+abbrev pub toldOf : Told → List ℕ → ℕ → List Status → Members
+toldOf kind component time entries =
+    ofComponent component (said (timeName kind) (momentText time) (element (listName kind) (arr (statusesJson kind entries)) mnil))
+
 abbrev pub jsonOf : Message → Json
 jsonOf (version id site sxl) =
     obj (headOf (text "Version") "mId" (identityText id)
@@ -139,7 +152,8 @@ jsonOf (aggregated id component time value) =
     obj (aboutOf (text "AggregatedStatus") id component
     (said "aSTS" (momentText time) (said "fP" [] (said "fS" [] (element "se" (arr (flagsOf value)) mnil)))))
 jsonOf (statuses kind id component time entries) =
-    obj (aboutOf (typeText kind) id component (said (timeName kind) (momentText time) (element (listName kind) (arr (statusesJson kind entries)) mnil)))
+    obj (headOf (typeText kind) "mId" (identityText id) (toldOf kind component time entries))
+jsonOf (included kind received component time entries) = obj (headOf (includedText kind) "oMId" received (toldOf kind component time entries))
 
 -- the message's bytes: its text and the form feed
 abbrev pub bytesOf : Message → List ℕ

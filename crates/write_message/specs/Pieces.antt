@@ -16,8 +16,8 @@ use Rattle.write_message.specs.declared.Value.the-variants.{Recent, Old,
 use Rattle.write_message.specs.declared.Told.{Told}
 use Rattle.write_message.specs.declared.Told.the-variants.{Response, Update, Command}
 use Rattle.write_message.specs.Message.{Message, Status}
-use Rattle.write_message.specs.Message.Message.{version, watchdog, ack, notAck, alarm, aggregated, statuses}
-use Rattle.write_message.specs.Listing.{typeText}
+use Rattle.write_message.specs.Message.Message.{version, watchdog, ack, notAck, alarm, aggregated, statuses, included}
+use Rattle.write_message.specs.Listing.{typeText, includedText}
 
 unfoldable pub headPieces : List ℕ → List ℕ → List ℕ → List (List ℕ)
 headPieces type before id = text "{\"mType\":\"rSMsg\",\"type\":\"" ∷ type ∷ before ∷ id ∷ []
@@ -25,8 +25,11 @@ headPieces type before id = text "{\"mType\":\"rSMsg\",\"type\":\"" ∷ type ∷
 unfoldable pub ownPieces : List ℕ → List ℕ → List (List ℕ)
 ownPieces type id = headPieces type (text "\",\"mId\":\"") (identityText id)
 
+unfoldable pub componentPieces : List ℕ → List (List ℕ)
+componentPieces component = text "\",\"ntsOId\":\"\",\"xNId\":\"\",\"cId\":\"" ∷ component ∷ []
+
 unfoldable pub aboutPieces : List ℕ → List ℕ → List ℕ → List (List ℕ)
-aboutPieces type id component = ownPieces type id ++ (text "\",\"ntsOId\":\"\",\"xNId\":\"\",\"cId\":\"" ∷ component ∷ [])
+aboutPieces type id component = ownPieces type id ++ componentPieces component
 
 abbrev pub closing : List (List ℕ)
 closing = text "\"}\u{c}" ∷ []
@@ -70,10 +73,17 @@ byKind Update status command = status
 byKind Command status command = command
 
 -- a StatusResponse, StatusUpdate or CommandResponse: up to its entries, an entry, what follows them
-unfoldable pub statusHead : Told → List ℕ → List ℕ → ℕ → List (List ℕ)
-statusHead kind id component time =
-    aboutPieces (typeText kind) id component
+unfoldable pub toldPieces : Told → List ℕ → ℕ → List (List ℕ)
+toldPieces kind component time =
+    componentPieces component
     ++ (byKind kind (text "\",\"sTs\":\"") (text "\",\"cTS\":\"") ∷ momentText time ∷ byKind kind (text "\",\"sS\":[") (text "\",\"rvs\":[") ∷ [])
+
+unfoldable pub statusHead : Told → List ℕ → List ℕ → ℕ → List (List ℕ)
+statusHead kind id component time = ownPieces (typeText kind) id ++ toldPieces kind component time
+
+-- .. of a response that carries its acknowledgement
+unfoldable pub includedHead : Told → List ℕ → List ℕ → ℕ → List (List ℕ)
+includedHead kind received component time = headPieces (includedText kind) (text "\",\"oMId\":\"") received ++ toldPieces kind component time
 
 abbrev pub entryStart : Told → Bool → List ℕ
 entryStart kind first =
@@ -114,3 +124,4 @@ pieces (aggregated id component time value) =
     ++ highPieces value
     ++ lowPieces value
 pieces (statuses kind id component time entries) = statusHead kind id component time ++ entriesPieces kind true entries ++ statusTail
+pieces (included kind received component time entries) = includedHead kind received component time ++ entriesPieces kind true entries ++ statusTail

@@ -8,7 +8,7 @@ use names::types;
 pub fn ack(out: &mut [u8], at: usize, received: &[u8]) -> usize
     ensures { λ r. ⌜ Wrote (now (out .entry)) at (pieces (ackOf (now (received .entry)))) (now (out .exit)) r ⌝ }
 {
-    let end = super::head(out, at, types::MESSAGE_ACK, b"\",\"oMId\":\"", received);
+    let end = super::repeated_head(out, at, types::MESSAGE_ACK, received);
     output::put_bytes(out, end, b"\"}\x0c")
 }
 
@@ -16,7 +16,7 @@ pub fn ack(out: &mut [u8], at: usize, received: &[u8]) -> usize
 pub fn not_ack(out: &mut [u8], at: usize, received: &[u8], reason: usize) -> usize
     ensures { λ r. ⌜ Wrote (now (out .entry)) at (pieces (notAck (now (received .entry)) (nameOf reason))) (now (out .exit)) r ⌝ }
 {
-    let end = super::head(out, at, types::MESSAGE_NOT_ACK, b"\",\"oMId\":\"", received);
+    let end = super::repeated_head(out, at, types::MESSAGE_NOT_ACK, received);
     let end = output::put_bytes(out, end, b"\",\"rea\":\"");
     let end = names::put(out, end, reason);
     output::put_bytes(out, end, b"\"}\x0c")

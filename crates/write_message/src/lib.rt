@@ -1,8 +1,9 @@
 // The written messages, put piece by piece into a lent output, each with its form feed: how they begin, answers and greeting. The others are in `reports`.
 ghost use Rattle.label.specs.Label.{textOf};
 ghost use Rattle.names.specs.Names.{nameOf};
+ghost use Rattle.basis.specs.Text.{text};
 ghost use Rattle.output.specs.Put.{Wrote};
-ghost use Rattle.write_message.specs.Pieces.{headPieces, ownPieces, aboutPieces};
+ghost use Rattle.write_message.specs.Pieces.{headPieces, ownPieces, componentPieces, aboutPieces};
 use identity::Identity;
 use label::Label;
 
@@ -52,15 +53,29 @@ pub fn own_head(out: &mut [u8], at: usize, kind: usize, id: Identity) -> usize
     head(out, at, kind, b"\",\"mId\":\"", &t)
 }
 
+// How a message that repeats a received identity begins.
+pub fn repeated_head(out: &mut [u8], at: usize, kind: usize, received: &[u8]) -> usize
+    ensures { λ r. ⌜ Wrote (now (out .entry)) at (headPieces (nameOf kind) (text "\",\"oMId\":\"") (now (received .entry))) (now (out .exit)) r ⌝ }
+{
+    head(out, at, kind, b"\",\"oMId\":\"", received)
+}
+
+// How a message about a component goes on behind its identity.
+pub fn of_component(out: &mut [u8], at: usize, component: Label) -> usize
+    ensures { λ r. ⌜ Wrote (now (out .entry)) at (componentPieces (textOf component)) (now (out .exit)) r ⌝ }
+{
+    write_member::label_behind(
+        out,
+        at,
+        b"\",\"ntsOId\":\"\",\"xNId\":\"\",\"cId\":\"",
+        component,
+    )
+}
+
 // How a message about a component begins.
 pub fn about(out: &mut [u8], at: usize, kind: usize, id: Identity, component: Label) -> usize
     ensures { λ r. ⌜ Wrote (now (out .entry)) at (aboutPieces (nameOf kind) (id .bytes) (textOf component)) (now (out .exit)) r ⌝ }
 {
     let end = own_head(out, at, kind, id);
-    write_member::label_behind(
-        out,
-        end,
-        b"\",\"ntsOId\":\"\",\"xNId\":\"\",\"cId\":\"",
-        component,
-    )
+    of_component(out, end, component)
 }
