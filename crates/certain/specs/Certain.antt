@@ -43,6 +43,7 @@ use Rattle.demand_refused.specs.Demand.{Demand1}
 use Rattle.demand_told.specs.Demand.{Demand2}
 use Rattle.demand_told.specs.GreetedDemand.{DemandGreeted}
 use Rattle.demand_told.specs.VersionDemand.{DemandVersion}
+use Rattle.demand_told.specs.IncludedDemand.{DemandIncluded}
 use Rattle.demand_told.specs.ReadDemand.{DemandRead}
 use Rattle.demand_held.specs.Demand.{Demand3}
 use Rattle.demand_carried.specs.Demand.{DemandCarried}
@@ -67,7 +68,8 @@ pub record Demands : Type 0 where
   -- 1. "A refused call gives the number that document 01 fixes, and the site's state .. stay exactly as before." Of the lent buffers the
   -- equation says it: `refused`
   pub refusing : Demand1
-  -- 2. "every request that document 01 says is answered gets exactly one MessageAck or MessageNotAck"; "a secondary supervisor gets no alarm"
+  -- 2. "every request that document 01 says is answered gets exactly one MessageAck or MessageNotAck", request 04: "or such a response"; "a secondary
+  -- supervisor gets no alarm"
   pub telling : Demand2
   -- "no alarm or status leaves on a link before versions are agreed and watchdogs exchanged", on the packets and messages of this life
   pub greeted : DemandGreeted
@@ -82,6 +84,8 @@ pub record Demands : Type 0 where
   pub closing : DemandClosing
   -- request 07: "prove the selection once over any offered list"
   pub choosing : DemandVersion
+  -- request 04: "one response .., so it takes no awaited place and is never "Busy""; what it shares with the old types
+  pub including : DemandIncluded
   -- "Due in Up ..: Watchdog a period or more after the last"
   pub beating : DemandBeats
   -- "Each call issues, sends, answers .. what that document lays down and nothing else": which records, by the last input, order, value and

@@ -11,7 +11,7 @@ use Rattle.basis.specs.Lists.{sameBytes}
 use Rattle.json_value.specs.Grammar.{Json}
 use Rattle.table_whole.specs.Table.{Table}
 use Rattle.write_message.specs.Message.{Message}
-use Rattle.write_message.specs.Message.Message.{version, watchdog, ack, notAck, alarm, aggregated, statuses}
+use Rattle.write_message.specs.Message.Message.{version, watchdog, ack, notAck, alarm, aggregated, statuses, included}
 use Rattle.machine.specs.Words.{if_then_else_, _and_, _or_, alike, maybe, orElse, isNumber, any}
 use Rattle.machine.specs.State.{Event, Alarm, alarmOf, Act, Outcome}
 use Rattle.machine.specs.State.Event.{Issue, Acknowledge, Suspend}
@@ -21,7 +21,7 @@ use Rattle.machine.specs.Json.{readPacket, stringOf, booleanOf, entriesOf, elem
 use Rattle.machine.specs.Table.{componentOf, alarmNumber, statusNumber}
 use Rattle.machine.specs.Run.{Past}
 
--- ---- what a done call did: an alarm's input, a status' value, an aggregated value, a packet on a link that it answered with MessageAck, a tick
+-- ---- what a done call did: an alarm's input, a status' value, an aggregated value, a packet on a link that it acknowledged, a tick
 pub record Did : Type 0 where
   pub input : Option (ℕ × Bool)
   pub value : Option (ℕ × ℤ)
@@ -32,6 +32,7 @@ pub record Did : Type 0 where
 abbrev pub doing : Option (ℕ × Bool) → Option (ℕ × ℤ) → Option ℕ → Option (ℕ × Json) → Bool → Did
 doing input value aggregate took ticked = record { input = input; value = value; aggregate = aggregate; took = took; ticked = ticked }
 
+-- MessageAck, or a response that carries it
 abbrev pub isAck : Message → Bool
 isAck (version id site sxl) = false
 isAck (watchdog id t) = false
@@ -40,6 +41,7 @@ isAck (notAck id reason) = false
 isAck (alarm id component code state) = false
 isAck (aggregated id component t v) = false
 isAck (statuses kind id component t entries) = false
+isAck (included kind received component t entries) = true
 
 abbrev pub took : ℕ → List Message → Option Json → Option (ℕ × Json)
 took l messages received = if any isAck messages then maybe none (λ j. some (l, j)) received else none

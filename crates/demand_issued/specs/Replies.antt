@@ -14,11 +14,11 @@ use Rattle.write_message.specs.declared.Value.{Value}
 use Rattle.write_message.specs.declared.Value.the-variants.{Recent, Unknown, Undefined}
 use Rattle.write_message.specs.declared.Told.the-variants.{Response}
 use Rattle.write_message.specs.Message.{Message, Status, status}
-use Rattle.write_message.specs.Message.Message.{ack, alarm, aggregated, statuses}
+use Rattle.write_message.specs.Message.Message.{ack, alarm, aggregated, statuses, included}
 use Rattle.machine.specs.Words.{Bytes, if_then_else_, _and_, maybe, isNumber}
 use Rattle.machine.specs.State.{eventNumber, Alarm, Setup, Start, Machine, Call}
 use Rattle.machine.specs.State.Act.{packet}
-use Rattle.machine.specs.Json.{stringOf, entriesOf, elementIs, isType}
+use Rattle.machine.specs.Json.{stringOf, entriesOf, elementIs, isType, isIncluded, asksFor}
 use Rattle.machine.specs.Table.{componentText, componentOf, alarmRow}
 use Rattle.machine.specs.Step.{step}
 use Rattle.machine.specs.Run.{Past, past, Run}
@@ -58,8 +58,14 @@ module _ (u : Setup) (start : ℕ) (h : List Past) (now : ℕ) (id : Bytes) wher
       else if isType "StatusRequest" j then statuses Response id (stringOf "cId" j) now (map (entryReply j) (entriesOf "sS" j)) ∷ []
       else []
 
--- a packet answered with MessageAck that is no CommandRequest gets exactly this behind it
+  -- MessageAck and the reply; request 04: the response that carries it
+  abbrev pub answerTo : ℕ → Json → List Message
+  answerTo l j =
+      if isIncluded "StatusRequest" j then included Response (stringOf "mId" j) (stringOf "cId" j) now (map (entryReply j) (entriesOf "sS" j)) ∷ []
+      else ack (stringOf "mId" j) ∷ replyTo l j
+
+-- a packet that is acknowledged and is no CommandRequest of either form gets exactly this
 pub record DemandReplies : Type 0 where
   pub replies : (s : Start) (h : List Past) (m : Machine) → Run s h m → (c : Call) (l room : ℕ) (random bytes : Bytes) (j : Json)
-      → c .act ≡ packet l random bytes room → did (past m c) .took ≡ some (l, j) → isType "CommandRequest" j ≡ false
-      → messagesOf (step m c .0) ≡ ack (stringOf "mId" j) ∷ replyTo (m .setup) (s .time) h (c .time) (version4Of random) l j
+      → c .act ≡ packet l random bytes room → did (past m c) .took ≡ some (l, j) → asksFor "CommandRequest" j ≡ false
+      → messagesOf (step m c .0) ≡ answerTo (m .setup) (s .time) h (c .time) (version4Of random) l j

@@ -4,5 +4,6 @@ pub mod Life
 pub mod Greeted
 pub mod GreetedDemand
 pub mod VersionDemand
+pub mod IncludedDemand
 pub mod Typed
 pub mod ReadDemand

@@ -28,7 +28,7 @@ use Rattle.write_message.specs.declared.Value.the-variants.{Recent, Old, Unknow
 use Rattle.write_message.specs.declared.Told.{Told}
 use Rattle.write_message.specs.declared.Told.the-variants.{Response, Update, Command}
 use Rattle.write_message.specs.Message.{Message, Status}
-use Rattle.write_message.specs.Message.Message.{version, watchdog, ack, notAck, alarm, aggregated, statuses}
+use Rattle.write_message.specs.Message.Message.{version, watchdog, ack, notAck, alarm, aggregated, statuses, included}
 
 abbrev pub valueOf : Found → Json
 valueOf (found j) = j
@@ -101,9 +101,15 @@ abbrev pub statusesIn : (Json → Status) → Jsons → List Status
 statusesIn read jnil = []
 statusesIn read (jcons j js) = read j ∷ statusesIn read js
 
--- and what the time and the list
-abbrev pub toldIn : Told → String → String → (Json → Status) → Json → Message
-toldIn kind time list read j = statuses kind (identityIn j) (said "cId" j) (timeIn time j) (statusesIn read (elementsIn (valueOf (member (text list) j))))
+-- and what the time and the list; behind how the message begins
+abbrev pub toldIn : String → String → (Json → Status) → (List ℕ → ℕ → List Status → Message) → Json → Message
+toldIn time list read begun j = begun (said "cId" j) (timeIn time j) (statusesIn read (elementsIn (valueOf (member (text list) j))))
+
+abbrev pub statusesTold : (List ℕ → ℕ → List Status → Message) → Json → Message
+statusesTold begun j = toldIn "sTs" "sS" (statusIn "sCI" "s" "q") begun j
+
+abbrev pub commandsTold : (List ℕ → ℕ → List Status → Message) → Json → Message
+commandsTold begun j = toldIn "cTS" "rvs" (statusIn "cCI" "v" "age") begun j
 
 abbrev pub fieldsOf : Json → Message
 fieldsOf j =
@@ -113,5 +119,8 @@ fieldsOf j =
     (pick (saidIs "type" "MessageNotAck" j) (notAck (said "oMId" j) (said "rea" j))
     (pick (saidIs "type" "Alarm" j) (alarm (identityIn j) (said "cId" j) (said "aCId" j) (stateIn j))
     (pick (saidIs "type" "AggregatedStatus" j) (aggregated (identityIn j) (said "cId" j) (timeIn "aSTS" j) (flagsIn 0 (elementsIn (valueOf (member (text "se") j)))))
-    (pick (saidIs "type" "StatusResponse" j) (toldIn Response "sTs" "sS" (statusIn "sCI" "s" "q") j)
-    (pick (saidIs "type" "StatusUpdate" j) (toldIn Update "sTs" "sS" (statusIn "sCI" "s" "q") j) (toldIn Command "cTS" "rvs" (statusIn "cCI" "v" "age") j))))))))
+    (pick (saidIs "type" "StatusResponse" j) (statusesTold (statuses Response (identityIn j)) j)
+    (pick (saidIs "type" "StatusUpdate" j) (statusesTold (statuses Update (identityIn j)) j)
+    (pick (saidIs "type" "CommandResponse" j) (commandsTold (statuses Command (identityIn j)) j)
+    (pick (saidIs "type" "StatusResponseAckIncluded" j) (statusesTold (included Response (said "oMId" j)) j)
+    (commandsTold (included Command (said "oMId" j)) j))))))))))

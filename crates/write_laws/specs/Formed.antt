@@ -13,8 +13,9 @@ use Rattle.write_message.specs.declared.AlarmState.{AlarmState}
 use Rattle.write_message.specs.declared.Value.{Value}
 use Rattle.write_message.specs.declared.Value.the-variants.{Recent, Old, Unknown, Undefined}
 use Rattle.write_message.specs.declared.Told.{Told}
+use Rattle.write_message.specs.declared.Told.the-variants.{Response, Command}
 use Rattle.write_message.specs.Message.{Message, Status}
-use Rattle.write_message.specs.Message.Message.{version, watchdog, ack, notAck, alarm, aggregated, statuses}
+use Rattle.write_message.specs.Message.Message.{version, watchdog, ack, notAck, alarm, aggregated, statuses, included}
 
 -- 1 to 32 bytes of the table's alphabet
 pub record Label (s : List ℕ) : Type 0 where
@@ -47,6 +48,11 @@ pub data FormedStatuses : List Status → Type 0 where
   none : FormedStatuses []
   more : {s : Status} {ss : List Status} → FormedStatus s → FormedStatuses ss → FormedStatuses (s ∷ ss)
 
+-- what answers a request, and so may carry its acknowledgement
+pub data Answering : Told → Type 0 where
+  a-status : Answering Response
+  a-command : Answering Command
+
 pub data Formed : Message → Type 0 where
   formed-version : {id site sxl : List ℕ} → SixteenBytes id → Label site → Label sxl → Formed (version id site sxl)
   formed-watchdog : {id : List ℕ} {time : ℕ} → SixteenBytes id → time ≤ lastTime → Formed (watchdog id time)
@@ -55,3 +61,4 @@ pub data Formed : Message → Type 0 where
   formed-alarm : {id component code : List ℕ} {s : AlarmState} → SixteenBytes id → Label component → Label code → FormedState s → Formed (alarm id component code s)
   formed-aggregated : {id component : List ℕ} {time value : ℕ} → SixteenBytes id → Label component → time ≤ lastTime → value < 256 → Formed (aggregated id component time value)
   formed-statuses : {kind : Told} {id component : List ℕ} {time : ℕ} {entries : List Status} → SixteenBytes id → Label component → time ≤ lastTime → FormedStatuses entries → Formed (statuses kind id component time entries)
+  formed-included : {kind : Told} {received component : List ℕ} {time : ℕ} {entries : List Status} → Answering kind → Received received → Label component → time ≤ lastTime → FormedStatuses entries → Formed (included kind received component time entries)

@@ -6,13 +6,17 @@ use lib.ListN.{length}
 use Rattle.write_message.specs.declared.Told.{Told}
 use Rattle.write_message.specs.declared.Told.the-variants.{Response, Update, Command}
 use Rattle.write_message.specs.Message.{Message, Status}
-use Rattle.write_message.specs.Message.Message.{version, watchdog, ack, notAck, alarm, aggregated, statuses}
+use Rattle.write_message.specs.Message.Message.{version, watchdog, ack, notAck, alarm, aggregated, statuses, included}
 
 -- without entries
 abbrev pub mostAround : Told → ℕ
 mostAround Response = 191
 mostAround Update = 189
 mostAround Command = 193
+
+-- .. with AckIncluded, and oMId for mId
+abbrev pub mostAroundIncluded : Told → ℕ
+mostAroundIncluded kind = 12 + mostAround kind
 
 -- an entry; a comma stands before each but the first
 abbrev pub mostEntry : Told → ℕ
@@ -32,6 +36,7 @@ most (notAck received reason) = 113
 most (alarm id component code s) = 348
 most (aggregated id component time value) = 257
 most (statuses kind id component time entries) = mostAround kind + mostEntries kind entries
+most (included kind received component time entries) = mostAroundIncluded kind + mostEntries kind entries
 
 -- how many entries it has
 abbrev pub entriesIn : Message → ℕ
@@ -42,3 +47,4 @@ entriesIn (notAck received reason) = 0
 entriesIn (alarm id component code s) = 0
 entriesIn (aggregated id component time value) = 0
 entriesIn (statuses kind id component time entries) = length entries
+entriesIn (included kind received component time entries) = length entries

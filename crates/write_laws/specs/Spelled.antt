@@ -1,4 +1,4 @@
--- What is written, byte for byte: each of the nine types, in 000's spelling and order. "Written messages have no spaces, elements in the order of 000's
+-- What is written, byte for byte: each of the eleven types, in 000's spelling and order. "Written messages have no spaces, elements in the order of 000's
 -- listing, `ntsOId`, `xNId`, external codes, `fP` and `fS` empty, `rvs` of an alarm `[]`." Claims; the proofs are `refl`.
 -- Assumes nothing.
 use Prim.Native.Nat.{ℕ}
@@ -12,7 +12,7 @@ use Rattle.write_message.specs.declared.Value.{Value}
 use Rattle.write_message.specs.declared.Value.the-variants.{Recent, Old, Unknown, Undefined}
 use Rattle.write_message.specs.declared.Told.the-variants.{Response, Update, Command}
 use Rattle.write_message.specs.Message.{Message, Status, status}
-use Rattle.write_message.specs.Message.Message.{version, watchdog, ack, notAck, alarm, aggregated, statuses}
+use Rattle.write_message.specs.Message.Message.{version, watchdog, ack, notAck, alarm, aggregated, statuses, included}
 use Rattle.write_message.specs.Listing.{bytesOf}
 
 -- a packet in parts, and its form feed
@@ -75,5 +75,13 @@ pub record Spelled : Type 0 where
       ∷ "\"cId\":\"O+14439=481WA001\",\"sTs\":\"2009-10-01T11:59:31.571Z\",\"sS\":[{\"sCI\":\"S1\",\"n\":\"level\",\"s\":\"-7\",\"q\":\"old\"}]}" ∷ [])
   pub of-command : bytesOf (statuses Command own component noon (entry "M1" (Recent (pos 5)) ∷ entry "M2" Undefined ∷ []))
       ≡ packet ("{\"mType\":\"rSMsg\",\"type\":\"CommandResponse\",\"mId\":\"6f968141-4de5-42ff-8032-45f8093762c5\",\"ntsOId\":\"\",\"xNId\":\"\","
+      ∷ "\"cId\":\"O+14439=481WA001\",\"cTS\":\"2009-10-01T11:59:31.571Z\",\"rvs\":[{\"cCI\":\"M1\",\"n\":\"level\",\"v\":\"5\",\"age\":\"recent\"},"
+      ∷ "{\"cCI\":\"M2\",\"n\":\"level\",\"v\":null,\"age\":\"undefined\"}]}" ∷ [])
+  -- request 04: 000's listing with oMId where mId stood
+  pub of-response-included : bytesOf (included Response (text "CD613E30-d8f1-6adf-91b7-584a2265b1f5") component noon (entry "S1" (Recent (negsuc 6)) ∷ []))
+      ≡ packet ("{\"mType\":\"rSMsg\",\"type\":\"StatusResponseAckIncluded\",\"oMId\":\"CD613E30-d8f1-6adf-91b7-584a2265b1f5\",\"ntsOId\":\"\",\"xNId\":\"\","
+      ∷ "\"cId\":\"O+14439=481WA001\",\"sTs\":\"2009-10-01T11:59:31.571Z\",\"sS\":[{\"sCI\":\"S1\",\"n\":\"level\",\"s\":\"-7\",\"q\":\"recent\"}]}" ∷ [])
+  pub of-command-included : bytesOf (included Command (text "CD613E30-d8f1-6adf-91b7-584a2265b1f5") component noon (entry "M1" (Recent (pos 5)) ∷ entry "M2" Undefined ∷ []))
+      ≡ packet ("{\"mType\":\"rSMsg\",\"type\":\"CommandResponseAckIncluded\",\"oMId\":\"CD613E30-d8f1-6adf-91b7-584a2265b1f5\",\"ntsOId\":\"\",\"xNId\":\"\","
       ∷ "\"cId\":\"O+14439=481WA001\",\"cTS\":\"2009-10-01T11:59:31.571Z\",\"rvs\":[{\"cCI\":\"M1\",\"n\":\"level\",\"v\":\"5\",\"age\":\"recent\"},"
       ∷ "{\"cCI\":\"M2\",\"n\":\"level\",\"v\":null,\"age\":\"undefined\"}]}" ∷ [])
