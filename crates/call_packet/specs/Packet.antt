@@ -104,7 +104,7 @@ classTaken s q answered p NotAcked = record { plan = answeredPlan s (q .link) an
 classTaken s q answered p (Asked v kind) = askedTaken s q p v kind
 
 abbrev pub questionOf : ℕ → ℕ → Identity → Head → Question
-questionOf l time id h = record { link = l; time = time; identity = id; received = h .received }
+questionOf l time id h = record { link = l; time = time; identity = id; received = h .received; included = h .included }
 
 abbrev pub headTaken : Site → ℕ → ℕ → Identity → List ℕ → Head → Taken
 headTaken s l time id p h = classTaken s (questionOf l time id h) (h .identity) p (h .class)

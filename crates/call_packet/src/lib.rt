@@ -242,6 +242,7 @@ fn heed(
         time,
         identity: id,
         received,
+        included: h.included,
     };
     by_class(w, t, q, answered, p, places, class, out)
 }

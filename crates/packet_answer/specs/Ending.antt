@@ -4,13 +4,16 @@
 use Prim.Native.Nat.{ℕ, _%_}
 use mathlib.Core.Path.{_≡_}
 use mathlib.Core.List.{List, [], _∷_}
+use Rattle.basis.specs.Pick.{pick}
 use Rattle.answer.specs.declared.Report.{Report}
 use Rattle.answer.specs.declared.Answer.the-variants.{Done}
 use Rattle.awaited.specs.declared.Purpose.the-variants.{Other}
 use Rattle.pool_laws.specs.declared.Batch.{Batch}
 use Rattle.link.specs.Steps.{messageOutOf}
-use Rattle.write_message.specs.Message.{Message}
-use Rattle.write_message.specs.Message.Message.{ack}
+use Rattle.write_message.specs.declared.Told.{Told}
+use Rattle.write_message.specs.Message.{Message, Status}
+use Rattle.write_message.specs.Message.Message.{ack, statuses, included}
+use Rattle.write_message.specs.Pieces.{statusHead, includedHead}
 use Rattle.site.specs.declared.Site.{Site}
 use Rattle.site.specs.declared.Step.{Step}
 use Rattle.site.specs.Site.{linkAt, withLink, withIssued}
@@ -36,3 +39,12 @@ repliedAt s q end = doneAt (withLink s (q .link) (messageOutOf (linkAt s (q .lin
 pub record Acks (s after : Site) (b : Batch) (time hint hinted : ℕ) (received xs ys : List ℕ) (r : Step) : Type 0 where
   pub step : r ≡ concluded s after b time (report hint hinted (writtenTo xs (ack received ∷ []) .end) 0)
   pub out : ys ≡ outAfter xs (ack received ∷ []) (r .answer)
+
+-- the message that tells it, and how that begins
+abbrev pub responseOf : Question → Told → List ℕ → List Status → Message
+responseOf q kind component entries =
+    pick (q .included) (included kind (q .received .bytes) component (q .time) entries) (statuses kind (q .identity .bytes) component (q .time) entries)
+
+abbrev pub responseHead : Question → Told → List ℕ → List (List ℕ)
+responseHead q kind component =
+    pick (q .included) (includedHead kind (q .received .bytes) component (q .time)) (statusHead kind (q .identity .bytes) component (q .time))

@@ -14,8 +14,9 @@ use Rattle.entry.specs.declared.Entry.{Entry}
 use Rattle.awaited.specs.declared.Purpose.the-variants.{Other}
 use Rattle.awaited.specs.Awaited.{findOf, isAwaited}
 use Rattle.link.specs.Steps.{messageOutOf, fullOf}
-use Rattle.write_message.specs.Message.{Message}
-use Rattle.write_message.specs.Message.Message.{ack, notAck}
+use Rattle.write_message.specs.declared.Told.{Told}
+use Rattle.write_message.specs.Message.{Message, Status}
+use Rattle.write_message.specs.Message.Message.{ack, notAck, statuses, included}
 use Rattle.read_head.specs.declared.Verdict.{Verdict}
 use Rattle.read_head.specs.declared.Verdict.the-variants.{Good, Missing, Bad}
 use Rattle.site.specs.declared.Site.{Site}
@@ -65,6 +66,11 @@ handing s q m commands =
 abbrev pub replied : Site → Question → Message → Taken
 replied s q m = handing s q m []
 
+-- request 04: one message, which carries the acknowledgement and is not awaited, with commands that are handed over
+abbrev pub responded : Site → Message → List Command → Taken
+responded s m commands =
+    record { plan = record { site = s; issued = []; messages = m ∷ []; closed = 0; hint = none; commands = commands }; replies = false }
+
 -- The reasons by their numbers in the table of names.
 abbrev pub missingElement : ℕ
 missingElement = indexOf (text "Missing element")
@@ -111,3 +117,9 @@ byVerdict Bad s q t = notAcked s q badValue
 -- "Busy" (a reply is due and 16 are awaited)
 abbrev pub unlessBusy : Site → Question → Taken → Taken
 unlessBusy s q t = pick (fullOf (linkAt s (q .link))) (notAcked s q busy) t
+
+-- what is told of a component in answer to a request: with its acknowledgement in it, or behind it
+abbrev pub answering : Site → Question → Told → List ℕ → List Status → List Command → Taken
+answering s q kind component entries commands =
+    pick (q .included) (responded s (included kind (q .received .bytes) component (q .time) entries) commands)
+    (unlessBusy s q (handing s q (statuses kind (q .identity .bytes) component (q .time) entries) commands))

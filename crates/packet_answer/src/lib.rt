@@ -4,12 +4,14 @@ ghost use Prim.Native.Nat.{_<_};
 ghost use lib.ListN.{length};
 ghost use Rattle.answer.specs.declared.Answer.the-variants.{Done};
 ghost use Rattle.awaited.specs.Awaited.{findOf, isAwaited};
+ghost use Rattle.label.specs.Label.{textOf};
 ghost use Rattle.link.specs.Steps.{fullOf};
 ghost use Rattle.names.specs.Names.{nameOf};
 ghost use Rattle.output.specs.Put.{Wrote};
 ghost use Rattle.table_whole.specs.declared.SiteTable.{SiteTable};
 ghost use Rattle.write_message.specs.Message.Message.{ack as ackOf, notAck};
 ghost use Rattle.write_message.specs.Pieces.{pieces};
+ghost use Rattle.write_message.specs.declared.Told.the-variants.{Update as updateOf};
 ghost use Rattle.site.specs.declared.Site.{Site};
 ghost use Rattle.site.specs.Site.{linkAt};
 ghost use Rattle.site.specs.Call.{never};
@@ -17,18 +19,22 @@ ghost use Rattle.store_site.specs.Layout.{siteOf, withLast, siteWords};
 ghost use Rattle.store_site.specs.Turns.{Turns};
 ghost use Rattle.store_call.specs.Called.{GivesIn};
 ghost use Rattle.packet_answer.specs.Taken.{notAcked, closing};
-ghost use Rattle.packet_answer.specs.Ending.{report as reportOf, handed, repliedAt};
+ghost use Rattle.packet_answer.specs.Ending.{report as reportOf, handed as handedReport, repliedAt, responseHead};
 use answer::Answer;
 use answer::Report;
 use identity::Identity;
+use label::Label;
 use read_head::Received;
+use write_message::Told;
 
-// What the call of a packet is asked: on a link, at a time, a reply going out under an identity; and the characters of the packet's mId.
+// What the call of a packet is asked: on a link, at a time, a reply going out under an identity; the characters of the packet's mId; and whether
+// the response is to carry the acknowledgement.
 pub struct Question {
     pub link: u16,
     pub time: u64,
     pub identity: Identity,
     pub received: Received,
+    pub included: bool,
 }
 
 // Number 9's condition, where something is to be sent.
@@ -86,6 +92,27 @@ fn refusal(q: Question, reason: usize, out: &mut [u8]) -> usize
     write_message::answers::not_ack(out, 0, &characters, reason)
 }
 
+// How the response to a request begins, at the beginning of what is lent: it repeats the request's identity, or goes out under the call's.
+pub fn begin(out: &mut [u8], q: Question, kind: Told, component: Label) -> usize
+    requires { ⌜ kind ≡ updateOf → ⊥ ⌝ }
+    ensures { λ r. ⌜ Wrote (now (out .entry)) 0 (responseHead q kind (textOf component)) (now (out .exit)) r ⌝ }
+{
+    if q.included {
+        let received = q.received;
+        let characters = received.bytes;
+        return write_report::status::begin_included(
+            out,
+            0,
+            kind,
+            &characters,
+            component,
+            q.time,
+        );
+    }
+    let id = q.identity;
+    write_report::status::begin(out, 0, kind, id, component, q.time)
+}
+
 // Answered with a reason, and nothing is done.
 pub fn not_ack(w: &mut [u64], q: Question, reason: usize, out: &mut [u8]) -> Answer
     requires { ⌜ length (now w) ≡ siteWords ⌝ }
@@ -126,17 +153,32 @@ pub fn reply_done(w: &mut [u64], q: Question, end: usize) -> Answer
     Answer::Done(report(0, 0, end, 0))
 }
 
-// The end of such a call that hands over so many commands.
-pub fn hand_done(w: &mut [u64], q: Question, end: usize, commands: usize) -> Answer
-    requires { ⌜ (length (now w) ≡ siteWords) × (q .link < 4) ⌝ }
-    ensures { λ r. ⌜ (r ≡ Done (handed end commands)) × Turns (λ (s : Site). repliedAt s q end .site) (now (w .entry)) (now (w .exit)) ⌝ }
+fn handed(end: usize, commands: usize) -> Report
+    ensures { λ r. ⌜ r ≡ handedReport end commands ⌝ }
 {
-    replied(w, q);
-    Answer::Done(Report {
+    Report {
         hint: 0,
         written: (end % 4294967296) as u32,
         closed: 0,
         hinted: 0,
         commands: commands as u64,
-    })
+    }
+}
+
+// The end of such a call that hands over so many commands.
+pub fn hand_done(w: &mut [u64], q: Question, end: usize, commands: usize) -> Answer
+    requires { ⌜ (length (now w) ≡ siteWords) × (q .link < 4) ⌝ }
+    ensures { λ r. ⌜ (r ≡ Done (handedReport end commands)) × Turns (λ (s : Site). repliedAt s q end .site) (now (w .entry)) (now (w .exit)) ⌝ }
+{
+    replied(w, q);
+    Answer::Done(handed(end, commands))
+}
+
+// .. that wrote a response with the acknowledgement in it: nothing is awaited.
+pub fn respond_done(w: &mut [u64], time: u64, end: usize, commands: usize) -> Answer
+    requires { ⌜ length (now w) ≡ siteWords ⌝ }
+    ensures { λ r. ⌜ (r ≡ Done (handedReport end commands)) × Turns (λ (s : Site). withLast s time) (now (w .entry)) (now (w .exit)) ⌝ }
+{
+    store_site::parts::put_last(w, time);
+    Answer::Done(handed(end, commands))
 }

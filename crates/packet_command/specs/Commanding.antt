@@ -1,4 +1,4 @@
--- What a CommandRequest comes to.
+-- What a CommandRequest comes to, and one whose response carries the acknowledgement.
 -- Assumes nothing.
 use Prim.Native.Nat.{ℕ, zero, suc}
 use mathlib.Core.Bool.{Bool, true}
@@ -18,12 +18,11 @@ use Rattle.read_commands.specs.Command.{noCommand}
 use Rattle.write_message.specs.declared.Value.{Value}
 use Rattle.write_message.specs.declared.Value.the-variants.{Recent, Undefined}
 use Rattle.write_message.specs.declared.Told.the-variants.{Command as CommandResponse}
-use Rattle.write_message.specs.Message.{Message, Status, status}
-use Rattle.write_message.specs.Message.Message.{statuses}
+use Rattle.write_message.specs.Message.{Status, status}
 use Rattle.site.specs.declared.Site.{Site}
 use Rattle.site.specs.Call.{Command}
 use Rattle.packet_answer.specs.declared.Question.{Question}
-use Rattle.packet_answer.specs.Taken.{Taken, notAcked, handing, byVerdict, unlessBusy, badValue, unknownCommand}
+use Rattle.packet_answer.specs.Taken.{Taken, notAcked, answering, byVerdict, badValue, unknownCommand}
 use Rattle.packet_lookup.specs.declared.Sought.{Sought}
 use Rattle.packet_lookup.specs.declared.Sought.the-variants.{Is, Nothing}
 use Rattle.packet_lookup.specs.Sought.{componentSought, commandSought, isSought}
@@ -68,9 +67,8 @@ abbrev pub toldTo : Sought → List CommandEntry → ℕ → List Status
 toldTo component entries zero = []
 toldTo component entries (suc n) = toldTo component entries n ++ (toldOf component (entryAt entries n) ∷ [])
 
--- with the call's time
-unfoldable pub response : ℕ → List ℕ → Sought → CommandFields → Message
-response time id component f = statuses CommandResponse id (textOf (f .component)) time (toldTo component (f .entries) (f .count))
+unfoldable pub told : Sought → CommandFields → List Status
+told component f = toldTo component (f .entries) (f .count)
 
 -- what is handed over: the number of each entry's command, and its value, in order
 abbrev pub numberOf : Sought → ℕ
@@ -95,7 +93,7 @@ module _ (s : Site) (q : Question) where
   orderedOf f component =
       pick (keepsRanges (s .table) f component)
       (pick (passes (s .table) f component)
-      (unlessBusy s q (handing s q (response (q .time) (q .identity .bytes) component f) (commandsOf (s .table) f component)))
+      (answering s q CommandResponse (textOf (f .component)) (told component f) (commandsOf (s .table) f component))
       (notAcked s q unknownCommand))
       (notAcked s q badValue)
 

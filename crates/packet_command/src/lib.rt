@@ -1,4 +1,4 @@
-// CommandRequest: every entry is judged, then all are answered and counted as handed over, or none is. Handing over writes them into lent words.
+// CommandRequest, of either form: every entry is judged, then all are answered and counted as handed over, or none is. Handing over writes them into lent words.
 ghost use mathlib.Core.Path.{_≡_};
 ghost use mathlib.Core.Bool.{true};
 ghost use mathlib.Core.List.{_++_};
@@ -10,6 +10,7 @@ ghost use Rattle.output.specs.Put.{Wrote};
 ghost use Rattle.write_message.specs.declared.Told.the-variants.{Command as commandKind};
 ghost use Rattle.write_message.specs.Message.Message.{ack};
 ghost use Rattle.write_message.specs.Pieces.{pieces, entryPieces, entriesPieces};
+ghost use Rattle.label.specs.Label.{textOf};
 ghost use Rattle.json_find.specs.Index.{Indexed};
 ghost use Rattle.read_commands.specs.Command.{noCommand, commandAt};
 ghost use Rattle.table_whole.specs.declared.SiteTable.{SiteTable};
@@ -17,13 +18,13 @@ ghost use Rattle.store_table.specs.Layout.{tableOf, tableBytes};
 ghost use Rattle.packet_lookup.specs.Sought.{componentSought, commandSought, isSought};
 ghost use Rattle.site.specs.declared.Site.{Site};
 ghost use Rattle.store_site.specs.Layout.{siteOf, siteWords};
-ghost use Rattle.packet_answer.specs.Taken.{handing, unlessBusy};
+ghost use Rattle.packet_answer.specs.Taken.{answering};
+ghost use Rattle.packet_answer.specs.Ending.{responseOf};
 ghost use Rattle.packet_answer.specs.Takes.{TakesIn};
-ghost use Rattle.packet_command.specs.Commanding.{entryAt, inRange, within as withinOf, allWithin, allCommands, keepsRanges as keepsRangesOf, passes as passesOf, valueIn, toldOf, toldTo, response, numberOf, commandOf, commandsTo, commandsOf, orderedOf, commandTaken};
+ghost use Rattle.packet_command.specs.Commanding.{entryAt, inRange, within as withinOf, allWithin, allCommands, keepsRanges as keepsRangesOf, passes as passesOf, valueIn, toldOf, toldTo, told, numberOf, commandOf, commandsTo, commandsOf, orderedOf, commandTaken};
 ghost use Rattle.packet_command.specs.Handing.{commandWord, handedOver, commandsIn};
 use answer::Answer;
 use answer::Refusal;
-use identity::Identity;
 use names::reasons;
 use packet_answer::Question;
 use packet_lookup::Sought;
@@ -181,32 +182,25 @@ fn write_entries(
 }
 
 // From the start of the part that is lent.
-fn write_response(
-    out: &mut [u8],
-    id: Identity,
-    time: u64,
-    component: Sought,
-    f: CommandFields,
-) -> usize
-    ensures { λ r. ⌜ Wrote (now (out .entry)) 0 (pieces (response time (id .bytes) component f)) (now (out .exit)) r ⌝ }
+fn write_response(out: &mut [u8], q: Question, component: Sought, f: CommandFields) -> usize
+    ensures { λ r. ⌜ Wrote (now (out .entry)) 0 (pieces (responseOf q commandKind (textOf (f .component)) (told component f))) (now (out .exit)) r ⌝ }
 {
     let named = f.component;
     let entries = f.entries;
-    let end = write_report::status::begin(out, 0, Told::Command, id, named, time);
+    let end = packet_answer::begin(out, q, Told::Command, named);
     let end = write_entries(out, end, component, entries, f.count);
     write_report::status::finish(out, end)
 }
 
 // The acknowledgement, and the response in the rest of the output, lent from where it ends. Where it found no room, nothing follows.
 fn answer_and_response(q: Question, component: Sought, f: CommandFields, out: &mut [u8]) -> usize
-    ensures { λ r. ⌜ Wrote (now (out .entry)) 0 (pieces (ack (q .received .bytes)) ++ pieces (response (q .time) (q .identity .bytes) component f)) (now (out .exit)) r ⌝ }
+    ensures { λ r. ⌜ Wrote (now (out .entry)) 0 (pieces (ack (q .received .bytes)) ++ pieces (responseOf q commandKind (textOf (f .component)) (told component f))) (now (out .exit)) r ⌝ }
 {
-    let id = q.identity;
     let end = packet_answer::ack(q, out);
     if out.len() < end {
         return end;
     }
-    let more = write_response(&mut out[end..], id, q.time, component, f);
+    let more = write_response(&mut out[end..], q, component, f);
     end + more
 }
 
@@ -220,7 +214,7 @@ fn handed(f: CommandFields, component: Sought) -> usize
     }
 }
 
-// The values as they were asked for, behind the acknowledgement.
+// The values as they were asked for, with the acknowledgement in one message or behind it.
 fn reply(
     w: &mut [u64],
     t: &[u8],
@@ -230,8 +224,12 @@ fn reply(
     out: &mut [u8],
 ) -> Answer
     requires { ⌜ (length (now w) ≡ siteWords) × ((length (now t) ≡ tableBytes) × (q .link < 4)) ⌝ }
-    ensures { λ r. ⌜ TakesIn (tableOf (now (t .entry))) q (unlessBusy (siteOf (now (w .entry)) (tableOf (now (t .entry)))) q (handing (siteOf (now (w .entry)) (tableOf (now (t .entry)))) q (response (q .time) (q .identity .bytes) component f) (commandsOf (tableOf (now (t .entry))) f component))) (now (w .entry)) (now (w .exit)) (now (out .entry)) (now (out .exit)) r ⌝ }
+    ensures { λ r. ⌜ TakesIn (tableOf (now (t .entry))) q (answering (siteOf (now (w .entry)) (tableOf (now (t .entry)))) q commandKind (textOf (f .component)) (told component f) (commandsOf (tableOf (now (t .entry))) f component)) (now (w .entry)) (now (w .exit)) (now (out .entry)) (now (out .exit)) r ⌝ }
 {
+    if q.included {
+        let end = write_response(out, q, component, f);
+        return packet_answer::respond_done(w, q.time, end, handed(f, component));
+    }
     let id = q.identity;
     if packet_answer::is_busy(w, q.link) {
         return packet_answer::not_ack(w, q, reasons::BUSY, out);
@@ -259,7 +257,7 @@ fn ordered(w: &mut [u64], t: &[u8], q: Question, f: CommandFields, out: &mut [u8
     packet_answer::not_ack(w, q, reasons::BAD_VALUE, out)
 }
 
-// A CommandRequest.
+// A CommandRequest, or a CommandRequestAckIncluded.
 pub fn command(
     w: &mut [u64],
     t: &[u8],

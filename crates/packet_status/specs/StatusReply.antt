@@ -1,4 +1,4 @@
--- What a StatusRequest comes to.
+-- What a StatusRequest comes to, and one whose response carries the acknowledgement.
 -- Assumes nothing.
 use Prim.Native.Nat.{ℕ, zero, suc}
 use mathlib.Core.Bool.{Bool, true}
@@ -8,8 +8,7 @@ use Rattle.label.specs.Label.{textOf}
 use Rattle.write_message.specs.declared.Value.{Value}
 use Rattle.write_message.specs.declared.Value.the-variants.{Undefined}
 use Rattle.write_message.specs.declared.Told.the-variants.{Response}
-use Rattle.write_message.specs.Message.{Message, Status, status}
-use Rattle.write_message.specs.Message.Message.{statuses}
+use Rattle.write_message.specs.Message.{Status, status}
 use Rattle.read_lists.specs.declared.StatusEntry.{StatusEntry}
 use Rattle.read_lists.specs.declared.StatusFields.{StatusFields}
 use Rattle.packet_lookup.specs.declared.Sought.{Sought}
@@ -19,7 +18,7 @@ use Rattle.send_message.specs.Sending.{statusValue}
 use Rattle.site.specs.declared.Site.{Site}
 use Rattle.site.specs.Parts.{statusAt}
 use Rattle.packet_answer.specs.declared.Question.{Question}
-use Rattle.packet_answer.specs.Taken.{Taken, notAcked, replied, byVerdict, unlessBusy, unknownStatus}
+use Rattle.packet_answer.specs.Taken.{Taken, notAcked, answering, byVerdict, unknownStatus}
 
 -- "A status without a value so far: `s` null, `q` unknown. Otherwise `s` is the shortest decimal text, `q` recent"
 abbrev pub valueOf : Site → Sought → Value
@@ -39,9 +38,8 @@ abbrev pub toldTo : Site → Sought → List StatusEntry → ℕ → List Status
 toldTo s component entries zero = []
 toldTo s component entries (suc n) = toldTo s component entries n ++ (toldOf s component (entryAt entries n) ∷ [])
 
--- with the call's time
-unfoldable pub response : Site → ℕ → List ℕ → Sought → StatusFields → Message
-response s time id component f = statuses Response id (textOf (f .component)) time (toldTo s component (f .entries) (f .count))
+unfoldable pub told : Site → Sought → StatusFields → List Status
+told s component f = toldTo s component (f .entries) (f .count)
 
 -- "all entries pass or none is done": of a known component each entry is a status
 abbrev pub passes : Site → StatusFields → Sought → Bool
@@ -52,8 +50,7 @@ passes s f Nothing = true
 module _ (s : Site) (q : Question) where
   abbrev pub requestedOf : StatusFields → Sought → Taken
   requestedOf f component =
-      pick (passes s f component) (unlessBusy s q (replied s q (response s (q .time) (q .identity .bytes) component f)))
-      (notAcked s q unknownStatus)
+      pick (passes s f component) (answering s q Response (textOf (f .component)) (told s component f) []) (notAcked s q unknownStatus)
 
   unfoldable pub statusTaken : StatusFields → Taken
   statusTaken f = byVerdict (f .verdict) s q (requestedOf f (componentSought (s .table) (f .component)))

@@ -1,25 +1,26 @@
-// StatusRequest: its entries, told with their values, which are read from the words as they are written out.
+// StatusRequest, of either form: its entries, told with their values, which are read from the words as they are written out.
 ghost use mathlib.Core.Path.{_≡_};
 ghost use mathlib.Core.Bool.{true, false};
-ghost use mathlib.Core.List.{_++_};
+ghost use mathlib.Core.List.{[], _++_};
 ghost use Prim.Native.Nat.{_<_};
 ghost use lib.ListN.{length};
 ghost use Rattle.output.specs.Put.{Wrote};
 ghost use Rattle.write_message.specs.Message.Message.{ack};
 ghost use Rattle.write_message.specs.Pieces.{pieces, entryPieces, entriesPieces};
-ghost use Rattle.write_message.specs.declared.Told.the-variants.{Response as responseOf};
+ghost use Rattle.write_message.specs.declared.Told.the-variants.{Response as responseKind};
+ghost use Rattle.label.specs.Label.{textOf};
 ghost use Rattle.json_find.specs.Index.{Indexed};
 ghost use Rattle.read_lists.specs.Status.{statusAt};
 ghost use Rattle.store_table.specs.Layout.{tableOf, tableBytes};
 ghost use Rattle.packet_lookup.specs.Sought.{componentSought, statusSought};
 ghost use Rattle.site.specs.declared.Site.{Site};
 ghost use Rattle.store_site.specs.Layout.{siteOf, siteWords};
-ghost use Rattle.packet_answer.specs.Taken.{replied, unlessBusy};
+ghost use Rattle.packet_answer.specs.Taken.{answering};
+ghost use Rattle.packet_answer.specs.Ending.{responseOf};
 ghost use Rattle.packet_answer.specs.Takes.{TakesIn};
-ghost use Rattle.packet_status.specs.StatusReply.{valueOf, valueIn, toldOf, toldTo, response, passes as passesOf, requestedOf, statusTaken};
+ghost use Rattle.packet_status.specs.StatusReply.{valueOf, valueIn, toldOf, toldTo, told, passes as passesOf, requestedOf, statusTaken};
 use answer::Answer;
 use answer::Refusal;
-use identity::Identity;
 use names::reasons;
 use packet_answer::Question;
 use packet_lookup::Sought;
@@ -63,7 +64,7 @@ fn write_entry(
     first: bool,
 ) -> usize
     requires { ⌜ (length (now w) ≡ siteWords) × (length (now t) ≡ tableBytes) ⌝ }
-    ensures { λ r. ⌜ Wrote (now (out .entry)) at (entryPieces responseOf first (toldOf (siteOf (now (w .entry)) (tableOf (now (t .entry)))) component e)) (now (out .exit)) r ⌝ }
+    ensures { λ r. ⌜ Wrote (now (out .entry)) at (entryPieces responseKind first (toldOf (siteOf (now (w .entry)) (tableOf (now (t .entry)))) component e)) (now (out .exit)) r ⌝ }
 {
     let v = value_in(w, t, component, e);
     let code = e.code;
@@ -82,7 +83,7 @@ fn write_entries(
     count: usize,
 ) -> usize
     requires { ⌜ (length (now w) ≡ siteWords) × (length (now t) ≡ tableBytes) ⌝ }
-    ensures { λ r. ⌜ Wrote (now (out .entry)) at (entriesPieces responseOf true (toldTo (siteOf (now (w .entry)) (tableOf (now (t .entry)))) component entries count)) (now (out .exit)) r ⌝ }
+    ensures { λ r. ⌜ Wrote (now (out .entry)) at (entriesPieces responseKind true (toldTo (siteOf (now (w .entry)) (tableOf (now (t .entry)))) component entries count)) (now (out .exit)) r ⌝ }
 {
     let mut end = at;
     let mut i: usize = 0;
@@ -99,17 +100,16 @@ fn write_response(
     out: &mut [u8],
     w: &[u64],
     t: &[u8],
-    id: Identity,
-    time: u64,
+    q: Question,
     component: Sought,
     f: StatusFields,
 ) -> usize
     requires { ⌜ (length (now w) ≡ siteWords) × (length (now t) ≡ tableBytes) ⌝ }
-    ensures { λ r. ⌜ Wrote (now (out .entry)) 0 (pieces (response (siteOf (now (w .entry)) (tableOf (now (t .entry)))) time (id .bytes) component f)) (now (out .exit)) r ⌝ }
+    ensures { λ r. ⌜ Wrote (now (out .entry)) 0 (pieces (responseOf q responseKind (textOf (f .component)) (told (siteOf (now (w .entry)) (tableOf (now (t .entry)))) component f))) (now (out .exit)) r ⌝ }
 {
     let named = f.component;
     let entries = f.entries;
-    let end = write_report::status::begin(out, 0, Told::Response, id, named, time);
+    let end = packet_answer::begin(out, q, Told::Response, named);
     let end = write_entries(out, end, w, t, component, entries, f.count);
     write_report::status::finish(out, end)
 }
@@ -124,14 +124,13 @@ fn answer_and_response(
     out: &mut [u8],
 ) -> usize
     requires { ⌜ (length (now w) ≡ siteWords) × (length (now t) ≡ tableBytes) ⌝ }
-    ensures { λ r. ⌜ Wrote (now (out .entry)) 0 (pieces (ack (q .received .bytes)) ++ pieces (response (siteOf (now (w .entry)) (tableOf (now (t .entry)))) (q .time) (q .identity .bytes) component f)) (now (out .exit)) r ⌝ }
+    ensures { λ r. ⌜ Wrote (now (out .entry)) 0 (pieces (ack (q .received .bytes)) ++ pieces (responseOf q responseKind (textOf (f .component)) (told (siteOf (now (w .entry)) (tableOf (now (t .entry)))) component f))) (now (out .exit)) r ⌝ }
 {
-    let id = q.identity;
     let end = packet_answer::ack(q, out);
     if out.len() < end {
         return end;
     }
-    let more = write_response(&mut out[end..], w, t, id, q.time, component, f);
+    let more = write_response(&mut out[end..], w, t, q, component, f);
     end + more
 }
 
@@ -147,7 +146,7 @@ fn passes(t: &[u8], f: StatusFields, component: Sought) -> bool
     }
 }
 
-// The statuses, behind the acknowledgement.
+// The statuses, with the acknowledgement in one message or behind it.
 fn reply(
     w: &mut [u64],
     t: &[u8],
@@ -157,8 +156,12 @@ fn reply(
     out: &mut [u8],
 ) -> Answer
     requires { ⌜ (length (now w) ≡ siteWords) × ((length (now t) ≡ tableBytes) × (q .link < 4)) ⌝ }
-    ensures { λ r. ⌜ TakesIn (tableOf (now (t .entry))) q (unlessBusy (siteOf (now (w .entry)) (tableOf (now (t .entry)))) q (replied (siteOf (now (w .entry)) (tableOf (now (t .entry)))) q (response (siteOf (now (w .entry)) (tableOf (now (t .entry)))) (q .time) (q .identity .bytes) component f))) (now (w .entry)) (now (w .exit)) (now (out .entry)) (now (out .exit)) r ⌝ }
+    ensures { λ r. ⌜ TakesIn (tableOf (now (t .entry))) q (answering (siteOf (now (w .entry)) (tableOf (now (t .entry)))) q responseKind (textOf (f .component)) (told (siteOf (now (w .entry)) (tableOf (now (t .entry)))) component f) []) (now (w .entry)) (now (w .exit)) (now (out .entry)) (now (out .exit)) r ⌝ }
 {
+    if q.included {
+        let end = write_response(out, w, t, q, component, f);
+        return packet_answer::respond_done(w, q.time, end, 0);
+    }
     let id = q.identity;
     if packet_answer::is_busy(w, q.link) {
         return packet_answer::not_ack(w, q, reasons::BUSY, out);
@@ -182,7 +185,7 @@ fn requested(w: &mut [u64], t: &[u8], q: Question, f: StatusFields, out: &mut [u
     packet_answer::not_ack(w, q, reasons::UNKNOWN_STATUS, out)
 }
 
-// A StatusRequest.
+// A StatusRequest, or a StatusRequestAckIncluded.
 pub fn status_request(
     w: &mut [u64],
     t: &[u8],

@@ -1,7 +1,7 @@
 -- What kind of packet it is, before its own elements are judged: an answer, a request, or to be ignored.
 -- Assumes nothing.
 use Prim.Native.String.{String}
-use mathlib.Core.Bool.{Bool}
+use mathlib.Core.Bool.{Bool, true, false}
 use mathlib.Core.List.{List, _++_}
 use Prim.Native.Nat.{ℕ, _-_}
 use lib.Dec.{eqb}
@@ -59,7 +59,13 @@ kindFor i =
     (pick (isType "StatusRequest" i) StatusRequest
     (pick (isType "StatusSubscribe" i) StatusSubscribe
     (pick (isType "StatusUnsubscribe" i) StatusUnsubscribe
-    (pick (isType "CommandRequest" i) CommandRequest Unexpected)))))))
+    (pick (isType "CommandRequest" i) CommandRequest
+    (pick (isType "StatusRequestAckIncluded" i) StatusRequest
+    (pick (isType "CommandRequestAckIncluded" i) CommandRequest Unexpected)))))))))
+
+-- the types that are answered by one message, which carries its acknowledgement
+abbrev pub includedFor : ℕ → Bool
+includedFor i = pick (isType "StatusRequestAckIncluded" i) true (isType "CommandRequestAckIncluded" i)
 
 -- the kinds as numbers, so that a question about a kind is one test: 0 is none that is taken
 abbrev pub kindNumber : Kind → ℕ
@@ -74,26 +80,29 @@ kindNumber StatusUnsubscribe = 7
 kindNumber CommandRequest = 8
 
 abbrev pub ignored : Head
-ignored = record { class = Ignored; received = record { bytes = replicate 36 0 }; identity = record { bytes = replicate 16 0 } }
+ignored = record { class = Ignored; received = record { bytes = replicate 36 0 }; identity = record { bytes = replicate 16 0 }; included = false }
 
 -- an answer: its mType is rSMsg, and its oMId can be read
 abbrev pub answered : Class → Verdict → ReadIdentity → Head
-answered c Good o = pick (o .found) (record { class = c; received = record { bytes = replicate 36 0 }; identity = o .id }) ignored
+answered c Good o = pick (o .found) (record { class = c; received = record { bytes = replicate 36 0 }; identity = o .id; included = false }) ignored
 answered c Missing o = ignored
 answered c Bad o = ignored
 
 -- a request: its mId can be read, and is kept as it was received
-abbrev pub asked : Kind → Verdict → Word → Head
-asked k v w = pick (identityOf w .found) (record { class = Asked v k; received = record { bytes = characters w }; identity = record { bytes = replicate 16 0 } }) ignored
+abbrev pub asked : Kind → Bool → Verdict → Word → Head
+asked k included v w =
+    pick (identityOf w .found)
+    (record { class = Asked v k; received = record { bytes = characters w }; identity = record { bytes = replicate 16 0 }; included = included })
+    ignored
 
 abbrev pub headFor : ℕ → Verdict → (List ℕ → Word) → Head
 headFor i v f =
     pick (isType "MessageAck" i) (answered Acked v (identityOf (f (text "oMId"))))
-    (pick (isType "MessageNotAck" i) (answered NotAcked v (identityOf (f (text "oMId")))) (asked (kindFor i) v (f (text "mId"))))
+    (pick (isType "MessageNotAck" i) (answered NotAcked v (identityOf (f (text "oMId")))) (asked (kindFor i) (includedFor i) v (f (text "mId"))))
 
 abbrev pub headOf : Found → Verdict → (List ℕ → Word) → Head
 headOf (At i) v f = headFor i v f
-headOf Nothing v f = asked Unexpected v (f (text "mId"))
+headOf Nothing v f = asked Unexpected false v (f (text "mId"))
 
 unfoldable pub headBy : (List ℕ → Word) → Head
 headBy f = headOf (typeOf (f (text "type"))) (verdictOf (λ d. sameBytes d (text "rSMsg")) (f (text "mType"))) f

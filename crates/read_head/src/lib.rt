@@ -20,7 +20,7 @@ ghost use Rattle.read_head.specs.Word.{word, wordHere, wordFound, wordAt
 ghost use Rattle.read_head.specs.Values.{worst as worstOf, verdictOf, noText, gotLabel, noTime, gotTime, anOrder, gotOrder, orderFor};
 ghost use Rattle.basis.specs.Pick.{pick};
 ghost use Rattle.identity.specs.Read.{notFound};
-ghost use Rattle.read_head.specs.Head.{identityOf, typeOf, kindFor, kindNumber, ignored as ignoredHead, answered as answeredBy, asked as askedBy, headFor, headBy, headAt};
+ghost use Rattle.read_head.specs.Head.{identityOf, typeOf, kindFor, includedFor, kindNumber, ignored as ignoredHead, answered as answeredBy, asked as askedBy, headFor, headBy, headAt};
 ghost use Rattle.read_head.specs.Small.{watchdogAt, aggregatedAt, alarmFrom, alarmAt};
 
 // Whether an element is as it must be, and else the reason.
@@ -64,11 +64,12 @@ pub struct Received {
     pub bytes: [u8; 36],
 }
 
-// An answer has the identity that it answers, a request the characters of its own.
+// An answer has the identity that it answers, a request the characters of its own, and whether its response is to carry the acknowledgement.
 pub struct Head {
     pub class: Class,
     pub received: Received,
     pub identity: Identity,
+    pub included: bool,
 }
 
 pub struct GotLabel {
@@ -480,7 +481,23 @@ fn kind_for(i: usize) -> Kind
     if i == types::COMMAND_REQUEST {
         return Kind::CommandRequest;
     }
+    if i == types::STATUS_REQUEST_ACK_INCLUDED {
+        return Kind::StatusRequest;
+    }
+    if i == types::COMMAND_REQUEST_ACK_INCLUDED {
+        return Kind::CommandRequest;
+    }
     Kind::Unexpected
+}
+
+// Whether a type is answered by one message, which carries its acknowledgement.
+fn included_for(i: usize) -> bool
+    ensures { λ r. ⌜ r ≡ includedFor i ⌝ }
+{
+    if i == types::STATUS_REQUEST_ACK_INCLUDED {
+        return true;
+    }
+    i == types::COMMAND_REQUEST_ACK_INCLUDED
 }
 
 // The kinds as numbers: 0 is none that is taken.
@@ -507,6 +524,7 @@ fn ignored() -> Head
         class: Class::Ignored,
         received: Received { bytes: [0u8; 36] },
         identity: Identity { bytes: [0u8; 16] },
+        included: false,
     }
 }
 
@@ -519,6 +537,7 @@ fn answered_with(class: Class, o: ReadIdentity) -> Head
             class,
             received: Received { bytes: [0u8; 36] },
             identity,
+            included: false,
         }
     } else {
         ignored()
@@ -536,9 +555,9 @@ fn answered(s: &[u8], places: &[usize], class: Class, v: Verdict) -> Head
     }
 }
 
-fn asked(s: &[u8], places: &[usize], kind: Kind, v: Verdict) -> Head
+fn asked(s: &[u8], places: &[usize], kind: Kind, included: bool, v: Verdict) -> Head
     requires { ⌜ Indexed (now s) (now places) ⌝ }
-    ensures { λ r. ⌜ r ≡ askedBy kind v (wordAt (skipWs (now (s .entry))) (text "mId")) ⌝ }
+    ensures { λ r. ⌜ r ≡ askedBy kind included v (wordAt (skipWs (now (s .entry))) (text "mId")) ⌝ }
 {
     let e = element_of(s, places, b"mId");
     let o = identity_of(e);
@@ -549,6 +568,7 @@ fn asked(s: &[u8], places: &[usize], kind: Kind, v: Verdict) -> Head
             class: Class::Asked(v, kind),
             received: Received { bytes },
             identity: Identity { bytes: [0u8; 16] },
+            included,
         }
     } else {
         ignored()
@@ -565,7 +585,7 @@ fn head_for(s: &[u8], places: &[usize], i: usize, v: Verdict) -> Head
     if i == types::MESSAGE_NOT_ACK {
         return answered(s, places, Class::NotAcked, v);
     }
-    asked(s, places, kind_for(i), v)
+    asked(s, places, kind_for(i), included_for(i), v)
 }
 
 fn head_by(s: &[u8], places: &[usize]) -> Head
@@ -576,7 +596,7 @@ fn head_by(s: &[u8], places: &[usize]) -> Head
     let t = type_of(element_of(s, places, b"type"));
     match t {
         Found::At(i) => head_for(s, places, i, v),
-        Found::Nothing => asked(s, places, Kind::Unexpected, v),
+        Found::Nothing => asked(s, places, Kind::Unexpected, false, v),
     }
 }
 

@@ -1,10 +1,11 @@
-// The types that tell statuses and the one that answers commands, and what is put by them.
+// The types that tell statuses and those that answer commands, and what is put by them.
 ghost use mathlib.Core.Path.{_≡_};
 ghost use mathlib.Core.List.{[], _∷_};
 ghost use Rattle.names.specs.Names.{nameOf};
 ghost use Rattle.output.specs.Put.{Wrote};
-ghost use Rattle.write_message.specs.Listing.{typeText};
+ghost use Rattle.write_message.specs.Listing.{typeText, includedText};
 ghost use Rattle.write_message.specs.Pieces.{byKind};
+ghost use Rattle.write_message.specs.declared.Told.the-variants.{Update as updateOf};
 use names::types;
 use write_message::Told;
 
@@ -15,6 +16,18 @@ pub fn type_of(kind: Told) -> usize
         Told::Response => types::STATUS_RESPONSE,
         Told::Update => types::STATUS_UPDATE,
         Told::Command => types::COMMAND_RESPONSE,
+    }
+}
+
+// Of a response that carries its acknowledgement.
+pub fn included_type_of(kind: Told) -> usize
+    requires { ⌜ kind ≡ updateOf → ⊥ ⌝ }
+    ensures { λ r. ⌜ nameOf r ≡ includedText kind ⌝ }
+{
+    match kind {
+        Told::Response => types::STATUS_RESPONSE_ACK_INCLUDED,
+        Told::Update => types::STATUS_UPDATE,
+        Told::Command => types::COMMAND_RESPONSE_ACK_INCLUDED,
     }
 }
 

@@ -1,16 +1,27 @@
 // Statuses told, and commands answered: a head, entries one by one, and a tail.
+ghost use mathlib.Core.Path.{_≡_};
 ghost use mathlib.Core.List.{[], _∷_};
 ghost use Rattle.label.specs.Label.{textOf};
 ghost use Rattle.output.specs.Put.{Wrote};
 ghost use Rattle.write_message.specs.Message.{status};
 ghost use Rattle.write_message.specs.Message.Message.{statuses};
-ghost use Rattle.write_message.specs.Pieces.{statusHead, entryStart, knownPieces, valuePieces, entryPieces, statusTail, pieces};
+ghost use Rattle.write_message.specs.Pieces.{toldPieces, statusHead, includedHead, entryStart, knownPieces, valuePieces, entryPieces, statusTail, pieces};
 ghost use Rattle.write_message.specs.declared.Told.the-variants.{Update as updateOf};
 use super::kinds;
 use identity::Identity;
 use label::Label;
 use write_message::Told;
 use write_message::Value;
+
+// What is told of a component behind the identity, up to the entries.
+fn tell(out: &mut [u8], at: usize, kind: Told, component: Label, time: u64) -> usize
+    ensures { λ r. ⌜ Wrote (now (out .entry)) at (toldPieces kind (textOf component) time) (now (out .exit)) r ⌝ }
+{
+    let end = write_message::of_component(out, at, component);
+    let end = kinds::put_by(out, end, kind, b"\",\"sTs\":\"", b"\",\"cTS\":\"");
+    let end = write_member::moment(out, end, time);
+    kinds::put_by(out, end, kind, b"\",\"sS\":[", b"\",\"rvs\":[")
+}
 
 // A StatusResponse, StatusUpdate or CommandResponse up to its entries.
 pub fn begin(
@@ -23,11 +34,24 @@ pub fn begin(
 ) -> usize
     ensures { λ r. ⌜ Wrote (now (out .entry)) at (statusHead kind (id .bytes) (textOf component) time) (now (out .exit)) r ⌝ }
 {
-    let t = kinds::type_of(kind);
-    let end = write_message::about(out, at, t, id, component);
-    let end = kinds::put_by(out, end, kind, b"\",\"sTs\":\"", b"\",\"cTS\":\"");
-    let end = write_member::moment(out, end, time);
-    kinds::put_by(out, end, kind, b"\",\"sS\":[", b"\",\"rvs\":[")
+    let end = write_message::own_head(out, at, kinds::type_of(kind), id);
+    tell(out, end, kind, component, time)
+}
+
+// A response that carries its acknowledgement up to its entries: it repeats the identity that was received.
+pub fn begin_included(
+    out: &mut [u8],
+    at: usize,
+    kind: Told,
+    received: &[u8],
+    component: Label,
+    time: u64,
+) -> usize
+    requires { ⌜ kind ≡ updateOf → ⊥ ⌝ }
+    ensures { λ r. ⌜ Wrote (now (out .entry)) at (includedHead kind (now (received .entry)) (textOf component) time) (now (out .exit)) r ⌝ }
+{
+    let end = write_message::repeated_head(out, at, kinds::included_type_of(kind), received);
+    tell(out, end, kind, component, time)
 }
 
 fn start(out: &mut [u8], at: usize, kind: Told, first: bool) -> usize
