@@ -35,7 +35,7 @@ module _ {bytes firsts lengths : List ℕ} (l : Lent bytes firsts lengths) (s : 
     pub in-bytes : a + n ≤ length bytes
     in-bytes = subst (λ (ks : List ℕ). a + n ≤ length ks) (sym (l .bytes-are)) (spans-lent .within)
 
-    pub few-bytes : a + n ≤ 318
+    pub few-bytes : a + n ≤ 418
     few-bytes = spans-lent .within
 
     pub other-length : ¬ (length s ≡ n) → false ≡ sameBytes s (nameOf i)

@@ -8,21 +8,22 @@ use Rattle.awaited.specs.Awaited.{findOf, isAwaited}
 use Rattle.link.specs.Steps.{fullOf}
 use Rattle.output.specs.Put.{Wrote}
 use Rattle.table_whole.specs.declared.SiteTable.{SiteTable}
-use Rattle.write_message.specs.Message.{Message}
-use Rattle.write_message.specs.Message.Message.{ack}
+use Rattle.write_message.specs.declared.Told.{Told}
+use Rattle.write_message.specs.Message.{Message, Status}
+use Rattle.write_message.specs.Message.Message.{ack, statuses, included}
 use Rattle.write_message.specs.Pieces.{pieces}
 use Rattle.read_head.specs.declared.Verdict.{Verdict}
 use Rattle.read_head.specs.declared.Verdict.the-variants.{Good, Missing, Bad}
 use Rattle.site.specs.declared.Site.{Site}
 use Rattle.site.specs.Site.{linkAt}
 use Rattle.site.specs.Call.{Command, never}
-use Rattle.store_site.specs.Layout.{siteOf}
+use Rattle.store_site.specs.Layout.{siteOf, withLast}
 use Rattle.store_site.specs.Turns.{Turns}
 use Rattle.store_call.specs.Called.{GivesIn}
 use Rattle.packet_answer.specs.declared.Question.{Question}
-use Rattle.packet_answer.specs.Taken.{Taken, notAcked, handing, byVerdict, unlessBusy, missingElement, badValue, busy}
-use Rattle.packet_answer.specs.Ending.{report, handed, repliedAt}
-use Rattle.packet_answer.proofs.Ends.{unreplied, hands, hands-refused}
+use Rattle.packet_answer.specs.Taken.{Taken, notAcked, handing, responded, byVerdict, unlessBusy, answering, missingElement, badValue, busy}
+use Rattle.packet_answer.specs.Ending.{report, handed, repliedAt, responseOf}
+use Rattle.packet_answer.proofs.Ends.{unreplied, responds, hands, hands-refused}
 use Rattle.packet_answer.specs.Takes.{TakesIn}
 
 module _ (t : SiteTable) (ws : List ℕ) (q : Question) where
@@ -117,3 +118,29 @@ module _ (t : SiteTable) (ws : List ℕ) (q : Question) where
         → Turns (λ (s : Site). repliedAt s q end .site) ws vs
         → TakesIn t q due ws vs xs ys r
     is-sent = hand-sent m []
+
+  -- what is told of a component in answer to a request: in one message, or behind the acknowledgement
+  module _ (kind : Told) (component : List ℕ) (entries : List Status) (commands : List Command) where
+    abbrev one-message : Message
+    one-message = included kind (q .received .bytes) component (q .time) entries
+
+    abbrev behind-it : Message
+    behind-it = statuses kind (q .identity .bytes) component (q .time) entries
+
+    pub in-one : {vs xs ys : List ℕ} {end : ℕ} {r : Answer}
+        → q .included ≡ true
+        → Wrote xs 0 (pieces (responseOf q kind component entries)) ys end
+        → r ≡ Done (handed end (length commands))
+        → Turns (λ (s : Site). withLast s (q .time)) ws vs
+        → TakesIn t q (answering (siteOf ws t) q kind component entries commands) ws vs xs ys r
+    in-one {vs} {xs} {ys} {end} e w f u =
+        picked-first (q .included) (responded (siteOf ws t) one-message commands) (handed-due behind-it commands) e
+        (responds t q one-message commands (subst (λ (b : Bool). Wrote xs 0 (pieces (pick b one-message behind-it)) ys end) e w) f u)
+
+    pub in-two : {vs xs ys : List ℕ} {r : Answer}
+        → q .included ≡ false
+        → TakesIn t q (handed-due (responseOf q kind component entries) commands) ws vs xs ys r
+        → TakesIn t q (answering (siteOf ws t) q kind component entries commands) ws vs xs ys r
+    in-two {vs} {xs} {ys} {r} e g =
+        picked-second (q .included) (responded (siteOf ws t) one-message commands) (handed-due behind-it commands) e
+        (subst (λ (b : Bool). TakesIn t q (handed-due (pick b one-message behind-it) commands) ws vs xs ys r) e g)

@@ -24,7 +24,7 @@ use Rattle.store_site.specs.Layout.{siteOf, withLast}
 use Rattle.store_site.specs.Turns.{Plain, Turns}
 use Rattle.store_call.specs.Called.{GivesIn}
 use Rattle.packet_answer.specs.declared.Question.{Question}
-use Rattle.packet_answer.specs.Taken.{Taken, notAcked, closing, acked, handing}
+use Rattle.packet_answer.specs.Taken.{Taken, notAcked, closing, acked, handing, responded}
 use Rattle.packet_answer.specs.Ending.{report, handed, repliedAt}
 use Rattle.packet_answer.specs.Takes.{TakesIn}
 
@@ -120,6 +120,16 @@ module _ (t : SiteTable) (q : Question) where
       → GivesIn t (q .time) never (x .plan) ws vs xs ys r
       → TakesIn t q x ws vs xs ys r
   unreplied x e g = record { gives = record { step = rw e (g .gives .step); out = g .gives .out }; plain = g .plain; kept = g .kept }
+
+  -- one message, with commands handed over
+  pub responds : (m : Message) (commands : List Command) {ws vs xs ys : List ℕ} {end : ℕ} {r : Answer}
+      → Wrote xs 0 (pieces m) ys end
+      → r ≡ Done (handed end (length commands))
+      → Turns (λ (s : Site). withLast s (q .time)) ws vs
+      → TakesIn t q (responded (siteOf ws t) m commands) ws vs xs ys r
+  responds m commands {ws} w e u =
+      let x = responded (siteOf ws t) m commands in
+      unreplied x refl (ends t (q .time) (x .plan) refl (one m w) e (u .site t) (u .plain))
 
   -- replied, with commands handed over: refused where the identity is awaited already, and else the answer and the reply are written
   pub hands-refused : (m : Message) (commands : List Command) {ws xs : List ℕ} {r : Answer}

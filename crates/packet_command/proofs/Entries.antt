@@ -7,12 +7,15 @@ use Rattle.output.proofs.Laws.{then}
 use Rattle.write_message.specs.declared.Value.{Value}
 use Rattle.write_message.specs.declared.Told.the-variants.{Command as CommandResponse}
 use Rattle.write_message.specs.Message.{status}
-use Rattle.write_message.specs.Pieces.{statusHead, entryPieces, entriesPieces, statusTail, pieces}
+use Rattle.write_message.specs.Pieces.{entryPieces, entriesPieces, statusTail, pieces}
 use Rattle.write_message.proofs.Kept.{kept}
 use Rattle.read_commands.specs.declared.CommandEntry.{CommandEntry}
 use Rattle.read_commands.specs.declared.CommandFields.{CommandFields}
 use Rattle.packet_lookup.specs.declared.Sought.{Sought}
-use Rattle.packet_command.specs.Commanding.{entryAt, valueIn, toldOf, toldTo, response}
+use Rattle.packet_answer.specs.declared.Question.{Question}
+use Rattle.packet_answer.specs.Ending.{responseOf, responseHead}
+use Rattle.packet_answer.proofs.Responses.{whole-response}
+use Rattle.packet_command.specs.Commanding.{entryAt, valueIn, toldOf, toldTo, told}
 
 pub none-told : (xs : List ℕ) (at : ℕ) → Wrote xs at (entriesPieces CommandResponse true []) xs at
 none-told xs at = subst (λ (x : List (List ℕ)). Wrote xs at x xs at) (sym (kept .no-entry CommandResponse)) (record { all = refl })
@@ -44,13 +47,10 @@ module _ (component : Sought) where
         kept .one-more CommandResponse (toldTo component entries i) x ∙ ap (λ (p : List (List ℕ)). entriesPieces CommandResponse true (toldTo component entries i) ++ p) first in
         rw add-one (subst (λ (p : List (List ℕ)). Wrote xs at p zs r) (sym all) (then a b))
 
-  pub whole-told : (time : ℕ) (id : List ℕ) (f : CommandFields) {xs ys zs ws : List ℕ} {at m n r : ℕ}
-      → Wrote xs at (statusHead CommandResponse id (textOf (f .component)) time) ys m
+  pub whole-told : (q : Question) (f : CommandFields) {xs ys zs ws : List ℕ} {at m n r : ℕ}
+      → Wrote xs at (responseHead q CommandResponse (textOf (f .component))) ys m
       → Wrote ys m (entriesPieces CommandResponse true (toldTo component (f .entries) (f .count))) zs n
       → Wrote zs n statusTail ws r
-      → Wrote xs at (pieces (response time id component f)) ws r
-  unfolding response
-  whole-told time id f {xs} {ys} {zs} {ws} {at} {m} {n} {r} a b c =
-      subst (λ (p : List (List ℕ)). Wrote xs at p ws r)
-      (sym (kept .told CommandResponse id (textOf (f .component)) time (toldTo component (f .entries) (f .count))))
-      (then (then a b) c)
+      → Wrote xs at (pieces (responseOf q CommandResponse (textOf (f .component)) (told component f))) ws r
+  unfolding told
+  whole-told q f a b c = whole-response q CommandResponse (textOf (f .component)) (toldTo component (f .entries) (f .count)) a b c

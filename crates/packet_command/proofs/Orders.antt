@@ -3,6 +3,8 @@
 use Rattle.basis.proofs.Std.{ℕ, _≡_, sym, true, false, List, pick}
 use Rattle.answer.specs.declared.Answer.{Answer}
 use Rattle.table_whole.specs.declared.SiteTable.{SiteTable}
+use Rattle.label.specs.Label.{textOf}
+use Rattle.write_message.specs.declared.Told.the-variants.{Command as CommandResponse}
 use Rattle.read_commands.specs.declared.CommandFields.{CommandFields}
 use Rattle.packet_lookup.specs.declared.Sought.{Sought}
 use Rattle.packet_lookup.specs.Sought.{componentSought}
@@ -11,15 +13,15 @@ use Rattle.store_site.specs.Layout.{siteOf}
 use Rattle.store_site.proofs.SiteLaws.{table-of}
 use Rattle.store_call.specs.Called.{GivesIn}
 use Rattle.packet_answer.specs.declared.Question.{Question}
-use Rattle.packet_answer.specs.Taken.{Taken, notAcked, byVerdict, badValue, unknownCommand}
+use Rattle.packet_answer.specs.Taken.{Taken, notAcked, answering, byVerdict, badValue, unknownCommand}
 use Rattle.packet_answer.specs.Takes.{TakesIn}
-use Rattle.packet_answer.proofs.Choices.{not-acked, picked-first, picked-second, handed-due, like}
-use Rattle.packet_command.specs.Commanding.{keepsRanges, passes, response, commandsOf, orderedOf, commandTaken}
+use Rattle.packet_answer.proofs.Choices.{not-acked, picked-first, picked-second, like}
+use Rattle.packet_command.specs.Commanding.{keepsRanges, passes, told, commandsOf, orderedOf, commandTaken}
 
 module _ (t : SiteTable) (ws : List ℕ) (q : Question) (f : CommandFields) where
   -- the choices by a table u
   abbrev replyBy : SiteTable → Sought → Taken
-  replyBy u k = handed-due t ws q (response (q .time) (q .identity .bytes) k f) (commandsOf u f k)
+  replyBy u k = answering (siteOf ws t) q CommandResponse (textOf (f .component)) (told k f) (commandsOf u f k)
 
   abbrev passedBy : SiteTable → Sought → Taken
   passedBy u k = pick (passes u f k) (replyBy u k) (notAcked (siteOf ws t) q unknownCommand)

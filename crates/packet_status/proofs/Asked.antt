@@ -1,24 +1,26 @@
 -- The parts of a StatusRequest together: the words are ws, the site's table is t.
 -- Assumes nothing.
-use Rattle.basis.proofs.Std.{ℕ, _≡_, sym, ap, _∙_, Bool, true, false, List}
+use Rattle.basis.proofs.Std.{ℕ, _≡_, sym, ap, _∙_, Bool, true, false, List, []}
 use Rattle.answer.specs.declared.Answer.{Answer}
 use Rattle.table_whole.specs.declared.SiteTable.{SiteTable}
+use Rattle.label.specs.Label.{textOf}
 use Rattle.read_lists.specs.declared.StatusEntry.{StatusEntry}
 use Rattle.read_lists.specs.declared.StatusFields.{StatusFields}
 use Rattle.packet_lookup.specs.declared.Sought.{Sought}
 use Rattle.packet_lookup.specs.declared.Sought.the-variants.{Is}
 use Rattle.packet_lookup.specs.Sought.{componentSought, statusSought, allStatuses}
 use Rattle.write_message.specs.declared.Value.{Value}
+use Rattle.write_message.specs.declared.Told.the-variants.{Response}
 use Rattle.site.specs.declared.Site.{Site}
 use Rattle.site.specs.Call.{never}
 use Rattle.store_site.specs.Layout.{siteOf}
 use Rattle.store_site.proofs.SiteLaws.{table-of}
 use Rattle.store_call.specs.Called.{GivesIn}
 use Rattle.packet_answer.specs.declared.Question.{Question}
-use Rattle.packet_answer.specs.Taken.{notAcked, byVerdict, unknownStatus}
+use Rattle.packet_answer.specs.Taken.{Taken, notAcked, answering, byVerdict, unknownStatus}
 use Rattle.packet_answer.specs.Takes.{TakesIn}
-use Rattle.packet_answer.proofs.Choices.{not-acked, picked-first, picked-second, due, like}
-use Rattle.packet_status.specs.StatusReply.{valueOf, valueIn, response, passes, requestedOf, statusTaken}
+use Rattle.packet_answer.proofs.Choices.{not-acked, picked-first, picked-second, like}
+use Rattle.packet_status.specs.StatusReply.{valueOf, valueIn, told, passes, requestedOf, statusTaken}
 
 -- the value of an entry of a known component
 pub known-value : (ws : List ℕ) (t : SiteTable) (component : ℕ) (e : StatusEntry) {k : Sought} {v : Value}
@@ -53,17 +55,20 @@ module _ (t : SiteTable) (ws : List ℕ) (q : Question) (f : StatusFields) {vs x
 
   -- by whether all entries pass
   module _ {k : Sought} (h : k ≡ componentSought t (f .component)) where
+    abbrev answer : Taken
+    answer = answering (siteOf ws t) q Response (textOf (f .component)) (told (siteOf ws t) k f) []
+
     pub all-pass : passes (siteOf ws t) f k ≡ true
-        → TakesIn t q (due t ws q (response (siteOf ws t) (q .time) (q .identity .bytes) k f)) ws vs xs ys r
+        → TakesIn t q answer ws vs xs ys r
         → TakesIn t q (requestedOf (siteOf ws t) q f (componentSought t (f .component))) ws vs xs ys r
     all-pass e g =
         like t ws q (λ (x : Sought). requestedOf (siteOf ws t) q f x) (sym h)
-        (picked-first t ws q (passes (siteOf ws t) f k) (due t ws q (response (siteOf ws t) (q .time) (q .identity .bytes) k f)) (notAcked (siteOf ws t) q unknownStatus) e g)
+        (picked-first t ws q (passes (siteOf ws t) f k) answer (notAcked (siteOf ws t) q unknownStatus) e g)
 
     pub one-fails : passes (siteOf ws t) f k ≡ false
         → GivesIn t (q .time) never (notAcked (siteOf ws t) q unknownStatus .plan) ws vs xs ys r
         → TakesIn t q (requestedOf (siteOf ws t) q f (componentSought t (f .component))) ws vs xs ys r
     one-fails e g =
         like t ws q (λ (x : Sought). requestedOf (siteOf ws t) q f x) (sym h)
-        (picked-second t ws q (passes (siteOf ws t) f k) (due t ws q (response (siteOf ws t) (q .time) (q .identity .bytes) k f)) (notAcked (siteOf ws t) q unknownStatus) e
+        (picked-second t ws q (passes (siteOf ws t) f k) answer (notAcked (siteOf ws t) q unknownStatus) e
         (not-acked t ws q unknownStatus g))

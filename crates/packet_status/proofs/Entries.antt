@@ -7,14 +7,17 @@ use Rattle.output.proofs.Laws.{then}
 use Rattle.write_message.specs.declared.Value.{Value}
 use Rattle.write_message.specs.declared.Told.the-variants.{Response}
 use Rattle.write_message.specs.Message.{status}
-use Rattle.write_message.specs.Pieces.{statusHead, entryPieces, entriesPieces, statusTail, pieces}
+use Rattle.write_message.specs.Pieces.{entryPieces, entriesPieces, statusTail, pieces}
 use Rattle.write_message.proofs.Kept.{kept}
 use Rattle.read_lists.specs.declared.StatusEntry.{StatusEntry}
 use Rattle.read_lists.specs.declared.StatusFields.{StatusFields}
 use Rattle.packet_lookup.specs.declared.Sought.{Sought}
 use Rattle.packet_lookup.specs.Sought.{entryAt}
 use Rattle.site.specs.declared.Site.{Site}
-use Rattle.packet_status.specs.StatusReply.{valueIn, toldOf, toldTo, response}
+use Rattle.packet_answer.specs.declared.Question.{Question}
+use Rattle.packet_answer.specs.Ending.{responseOf, responseHead}
+use Rattle.packet_answer.proofs.Responses.{whole-response}
+use Rattle.packet_status.specs.StatusReply.{valueIn, toldOf, toldTo, told}
 
 pub none-told : (xs : List ℕ) (at : ℕ) → Wrote xs at (entriesPieces Response true []) xs at
 none-told xs at = subst (λ (x : List (List ℕ)). Wrote xs at x xs at) (sym (kept .no-entry Response)) (record { all = refl })
@@ -47,13 +50,10 @@ module _ (s : Site) (component : Sought) where
         kept .one-more Response (toldTo s component entries i) x ∙ ap (λ (p : List (List ℕ)). entriesPieces Response true (toldTo s component entries i) ++ p) first in
         rw add-one (subst (λ (p : List (List ℕ)). Wrote xs at p zs r) (sym all) (then a b))
 
-  pub whole-told : (time : ℕ) (id : List ℕ) (f : StatusFields) {xs ys zs ws : List ℕ} {at m n r : ℕ}
-      → Wrote xs at (statusHead Response id (textOf (f .component)) time) ys m
+  pub whole-told : (q : Question) (f : StatusFields) {xs ys zs ws : List ℕ} {at m n r : ℕ}
+      → Wrote xs at (responseHead q Response (textOf (f .component))) ys m
       → Wrote ys m (entriesPieces Response true (toldTo s component (f .entries) (f .count))) zs n
       → Wrote zs n statusTail ws r
-      → Wrote xs at (pieces (response s time id component f)) ws r
-  unfolding response
-  whole-told time id f {xs} {ys} {zs} {ws} {at} {m} {n} {r} a b c =
-      subst (λ (p : List (List ℕ)). Wrote xs at p ws r)
-      (sym (kept .told Response id (textOf (f .component)) time (toldTo s component (f .entries) (f .count))))
-      (then (then a b) c)
+      → Wrote xs at (pieces (responseOf q Response (textOf (f .component)) (told s component f))) ws r
+  unfolding told
+  whole-told q f a b c = whole-response q Response (textOf (f .component)) (toldTo s component (f .entries) (f .count)) a b c

@@ -47,6 +47,19 @@ fn kind_letter(k: Kind) -> u8 {
     }
 }
 
+// Small where the acknowledgement is included.
+fn form_letter(k: Kind, included: bool) -> u8 {
+    if included {
+        match k {
+            Kind::StatusRequest => b'r',
+            Kind::CommandRequest => b'c',
+            _ => b'x',
+        }
+    } else {
+        kind_letter(k)
+    }
+}
+
 fn order_letter(o: Order) -> u8 {
     match o {
         Order::Request => b'Q',
@@ -352,12 +365,18 @@ fn put_fields(line: &mut [u8], at: usize, s: &[u8], places: &[usize], kind: Kind
     }
 }
 
-fn put_kind(line: &mut [u8], received: Received, v: Verdict, kind: Kind) -> usize {
+fn put_kind(
+    line: &mut [u8],
+    received: Received,
+    included: bool,
+    v: Verdict,
+    kind: Kind,
+) -> usize {
     let bytes = received.bytes;
     let end = output::put_bytes(line, 0, &bytes);
     let end = output::put_bytes(line, end, b" ");
     let end = put_letter(line, end, verdict_letter(v));
-    put_letter(line, end, kind_letter(kind))
+    put_letter(line, end, form_letter(kind, included))
 }
 
 fn put_request(
@@ -365,12 +384,13 @@ fn put_request(
     s: &[u8],
     places: &[usize],
     received: Received,
+    included: bool,
     v: Verdict,
     kind: Kind,
 ) -> usize
     requires { ⌜ Indexed (now s) (now places) ⌝ }
 {
-    let end = put_kind(line, received, v, kind);
+    let end = put_kind(line, received, included, v, kind);
     match v {
         Verdict::Good => put_fields(line, end, s, places, kind),
         Verdict::Missing => end,
@@ -394,7 +414,15 @@ fn said_by(line: &mut [u8], s: &[u8], places: &[usize], packet: bool) -> usize
         Class::Ignored => output::put_bytes(line, 0, b"-"),
         Class::Acked => put_answer(line, b'A', head.identity),
         Class::NotAcked => put_answer(line, b'N', head.identity),
-        Class::Asked(v, kind) => put_request(line, s, places, head.received, v, kind),
+        Class::Asked(v, kind) => put_request(
+            line,
+            s,
+            places,
+            head.received,
+            head.included,
+            v,
+            kind,
+        ),
     }
 }
 

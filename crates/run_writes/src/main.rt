@@ -1,5 +1,7 @@
 // Writes the message that each case from standard input gives the fields of, its form feed behind it, and a line feed;
 // tests/writes.py makes the cases, and the messages with Python's json.
+ghost use mathlib.Core.Path.{_≡_};
+ghost use Rattle.write_message.specs.declared.Told.the-variants.{Update as updateOf};
 use identity::Identity;
 use label::Label;
 use run_feed::Case;
@@ -191,12 +193,51 @@ fn put_not_ack(line: &mut [u8], body: &[u8]) -> usize {
     write_message::answers::not_ack(line, 0, &body[2..n], reason)
 }
 
+// A response that carries its acknowledgement.
+fn put_response(line: &mut [u8], kind: Told, received: &[u8], s: &[u8]) -> usize
+    requires { ⌜ kind ≡ updateOf → ⊥ ⌝ }
+{
+    let a = label::read(s, LABELS);
+    let component = a.label;
+    let end = write_report::status::begin_included(
+        line,
+        0,
+        kind,
+        received,
+        component,
+        time_in(s),
+    );
+    let end = put_entries(line, end, kind, s, a.next, byte_in(s, 24) as usize);
+    write_report::status::finish(line, end)
+}
+
+// The received identity stands before the fields.
+fn put_included(line: &mut [u8], command: bool, body: &[u8]) -> usize {
+    let n = body.len();
+    if n < 36 {
+        return 0;
+    }
+    let mut fields = [0u8; 1280];
+    run_feed::unhex(&body[36..n], &mut fields);
+    if command {
+        put_response(line, Told::Command, &body[0..36], &fields)
+    } else {
+        put_response(line, Told::Response, &body[0..36], &fields)
+    }
+}
+
 fn written_in(line: &mut [u8], kind: u8, body: &[u8]) -> usize {
     if kind == b'K' {
         return write_message::answers::ack(line, 0, body);
     }
     if kind == b'N' {
         return put_not_ack(line, body);
+    }
+    if kind == b'r' {
+        return put_included(line, false, body);
+    }
+    if kind == b'c' {
+        return put_included(line, true, body);
     }
     let mut fields = [0u8; 1280];
     run_feed::unhex(body, &mut fields);

@@ -8,4 +8,4 @@ use Rattle.write_message.proofs.Entries.{one-more}
 
 pub kept : Claims
 unfolding pieces entriesPieces
-kept = record { whole = whole; told = λ kind id component time ss. refl; no-entry = λ kind. refl; one-more = one-more }
+kept = record { whole = whole; told = λ kind id component time ss. refl; told-included = λ kind received component time ss. refl; no-entry = λ kind. refl; one-more = one-more }

@@ -6,7 +6,7 @@ use Rattle.write_message.proofs.about.Tie as tie
 
 returns : tie.Need-returns
 unfolding aboutPieces
-returns c = then (c .before .before .before .before .before .before .before .own-head .ensures) (c .before .before .label-behind .ensures)
+returns c = then (c .before .before .before .before .before .before .own-head .ensures) (c .before .before .of-component .ensures)
 
 pub about-spec : {M : Type 1} → statement M
-about-spec = tie.close (tie.spec (λ c κs. search needs) (λ c. search needs) (λ c κs. search needs) (λ c. search needs) returns)
+about-spec = tie.close (tie.spec (λ c κs. search needs) (λ c κs. search needs) (λ c. search needs) returns)
