@@ -1,4 +1,4 @@
--- Which packets hand commands over: of a CommandRequest those that it names, of every other packet none.
+-- Which packets hand commands over: of a CommandRequest, of either form, those that it names, of every other packet none.
 -- Assumes nothing.
 use Rattle.basis.proofs.Std.{ℕ, Bool, true, false, List, [], picked}
 use Rattle.identity.specs.declared.Identity.{Identity}
@@ -23,13 +23,15 @@ use Rattle.read_versions.specs.declared.Judged.{Judged}
 use Rattle.read_versions.specs.declared.Judged.the-variants.{Chosen, RsmpVersion, SiteId, SxlVersion}
 use Rattle.read_versions.specs.Judge.{judge}
 use Rattle.read_commands.specs.Command.{commandAt}
+use Rattle.write_message.specs.declared.Told.{Told}
+use Rattle.write_message.specs.Message.{Status}
 use Rattle.site.specs.declared.Site.{Site}
 use Rattle.link.specs.declared.Role.{Role}
 use Rattle.link.specs.declared.Role.the-variants.{Primary, Secondary}
 use Rattle.site.specs.Site.{linkAt, roleOf}
 use Rattle.site.specs.Call.{Command, Plan}
 use Rattle.packet_answer.specs.declared.Question.{Question}
-use Rattle.packet_answer.specs.Taken.{Taken, notAcked, byVerdict, unlessBusy, notReady, busy}
+use Rattle.packet_answer.specs.Taken.{Taken, notAcked, answering, byVerdict, unlessBusy, notReady, busy}
 use Rattle.packet_lookup.specs.declared.Sought.{Sought}
 use Rattle.packet_lookup.specs.declared.Sought.the-variants.{Is, Nothing}
 use Rattle.packet_lookup.specs.declared.SoughtAlarm.{SoughtAlarm}
@@ -56,6 +58,10 @@ module _ (P : List Command → Type 0) (nothing : P []) where
 
   unless-busy : (s : Site) (q : Question) (x : Taken) → Hands x → Hands (unlessBusy s q x)
   unless-busy s q x h = picked Hands (fullOf (linkAt s (q .link))) (notAcked s q busy) x (λ e. nothing) (λ e. h)
+
+  told : (s : Site) (q : Question) (kind : Told) (component : List ℕ) (entries : List Status) (commands : List Command) → P commands
+      → Hands (answering s q kind component entries commands)
+  told s q kind component entries commands h = picked Hands (q .included) _ _ (λ e. h) (λ e. unless-busy s q _ h)
 
   version : (s : Site) (q : Question) (j : Judged) → Hands (versionJudged s q j)
   version s q (Chosen v) = nothing
@@ -95,7 +101,7 @@ module _ (P : List Command → Type 0) (nothing : P []) where
     unfolding statusTaken
     status-taken f =
         by-verdict (f .verdict) s q _
-        (picked Hands (passes s f (componentSought (s .table) (f .component))) _ _ (λ e. unless-busy s q _ nothing) (λ e. nothing))
+        (picked Hands (passes s f (componentSought (s .table) (f .component))) _ _ (λ e. told s q _ _ _ [] nothing) (λ e. nothing))
 
     subscribing : (b : Bool) (f : StatusFields) (k : Sought) → Hands (asked b s q f k)
     unfolding judged changed
@@ -114,7 +120,7 @@ module _ (P : List Command → Type 0) (nothing : P []) where
           let k = componentSought (s .table) (f .component) in
           by-verdict (f .verdict) s q _
           (picked Hands (keepsRanges (s .table) f k) _ _
-          (λ e. picked Hands (allPass (s .table) f k) _ _ (λ d. unless-busy s q _ some) (λ d. nothing))
+          (λ e. picked Hands (allPass (s .table) f k) _ _ (λ d. told s q _ _ _ _ some) (λ d. nothing))
           (λ e. nothing))
 
       kind-taken : (k : Kind) → Hands (kindTaken s q p k)

@@ -1,16 +1,19 @@
 use Rattle.basis.proofs.Std.{arith, needs}
 use Rattle.output.proofs.Laws.{most, stopped, lent}
+use Rattle.label.specs.Label.{textOf}
+use Rattle.write_message.specs.declared.Told.the-variants.{Response}
 use Rattle.write_message.specs.Pieces.{pieces}
+use Rattle.packet_answer.specs.Ending.{responseOf}
 use Rattle.store_table.specs.Layout.{tableOf}
 use Rattle.store_site.specs.Layout.{siteOf}
-use Rattle.packet_status.specs.StatusReply.{response}
+use Rattle.packet_status.specs.StatusReply.{told}
 use Rattle.packet_status.proofs.answer_and_response.Statement.{statement}
 use Rattle.packet_status.proofs.answer_and_response.Tie as tie
 
 returns : tie.Need-returns
 returns c =
     let a = c .before .before .before .before .before .before .before .before .before .args in
-    stopped (pieces (response (siteOf (a .w .now) (tableOf (a .t .now))) (a .q .time) (a .q .identity .bytes) (a .component) (a .f))) (omega arith) (c .before .before .before .ack .ensures) (c .if1 .taken)
+    stopped (pieces (responseOf (a .q) Response (textOf (a .f .component)) (told (siteOf (a .w .now) (tableOf (a .t .now))) (a .component) (a .f)))) (omega arith) (c .before .before .before .ack .ensures) (c .if1 .taken)
 
 add-result : tie.Need-add-result
 add-result c =
