@@ -94,7 +94,7 @@ fn refusal(q: Question, reason: usize, out: &mut [u8]) -> usize
 
 // How the response to a request begins, at the beginning of what is lent: it repeats the request's identity, or goes out under the call's.
 pub fn begin(out: &mut [u8], q: Question, kind: Told, component: Label) -> usize
-    requires { ⌜ kind ≡ updateOf → ⊥ ⌝ }
+    requires { ⌜ (kind ≡ updateOf → ⊥) ⌝ }
     ensures { λ r. ⌜ Wrote (now (out .entry)) 0 (responseHead q kind (textOf component)) (now (out .exit)) r ⌝ }
 {
     if q.included {

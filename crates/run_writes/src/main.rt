@@ -195,7 +195,7 @@ fn put_not_ack(line: &mut [u8], body: &[u8]) -> usize {
 
 // A response that carries its acknowledgement.
 fn put_response(line: &mut [u8], kind: Told, received: &[u8], s: &[u8]) -> usize
-    requires { ⌜ kind ≡ updateOf → ⊥ ⌝ }
+    requires { ⌜ (kind ≡ updateOf → ⊥) ⌝ }
 {
     let a = label::read(s, LABELS);
     let component = a.label;

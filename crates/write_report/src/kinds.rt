@@ -21,7 +21,7 @@ pub fn type_of(kind: Told) -> usize
 
 // Of a response that carries its acknowledgement.
 pub fn included_type_of(kind: Told) -> usize
-    requires { ⌜ kind ≡ updateOf → ⊥ ⌝ }
+    requires { ⌜ (kind ≡ updateOf → ⊥) ⌝ }
     ensures { λ r. ⌜ nameOf r ≡ includedText kind ⌝ }
 {
     match kind {

@@ -47,7 +47,7 @@ pub fn begin_included(
     component: Label,
     time: u64,
 ) -> usize
-    requires { ⌜ kind ≡ updateOf → ⊥ ⌝ }
+    requires { ⌜ (kind ≡ updateOf → ⊥) ⌝ }
     ensures { λ r. ⌜ Wrote (now (out .entry)) at (includedHead kind (now (received .entry)) (textOf component) time) (now (out .exit)) r ⌝ }
 {
     let end = write_message::repeated_head(out, at, kinds::included_type_of(kind), received);

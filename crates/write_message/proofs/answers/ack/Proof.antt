@@ -6,7 +6,7 @@ use Rattle.write_message.proofs.answers.ack.Tie as tie
 
 returns : tie.Need-returns
 unfolding pieces
-returns c = then (c .before .before .before .before .before .before .repeated-head .ensures) (c .before .before .put-bytes .ensures)
+returns c = then (c .before .before .before .before .before .before .before .repeated-head .ensures) (c .before .before .put-bytes .ensures)
 
 pub ack-spec : {M : Type 1} → statement M
-ack-spec = tie.close (tie.spec (λ c. search needs) (λ c κs. search needs) (λ c. search needs) (λ c κs. search needs) (λ c. search needs) returns)
+ack-spec = tie.close (tie.spec (λ c κs. search needs) (λ c. search needs) (λ c κs. search needs) (λ c. search needs) returns)

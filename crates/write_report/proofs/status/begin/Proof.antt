@@ -6,8 +6,7 @@ use Rattle.write_report.proofs.status.begin.Tie as tie
 
 returns : tie.Need-returns
 unfolding statusHead
-returns c = rw (← (c .before .before .before .before .before .before .before .before .before .before .before .before .before .before .before .before .before .before .before .before .type-of .ensures)) (then (c .before .before .before .before .before .before .before .before .before .before .before .before .before .before .before .before .before .before .about .ensures) (then (then (c .before .before .before .before .before .before .before .before .before .before .before .before .put-by .ensures) (c .before .before .before .before .before .before .before .before .moment .ensures)) (c .before .before .put-by2 .ensures)))
+returns c = rw (← (c .before .before .before .before .before .before .before .type-of .ensures)) (then (c .before .before .before .before .before .before .own-head .ensures) (c .before .before .tell .ensures))
 
 pub begin-spec : {M : Type 1} → statement M
-begin-spec = tie.close (tie.spec (λ c κs. search needs) (λ c κs. search needs) (λ c. search needs) (λ c. search needs) (λ c κs. search needs)
-    (λ c κs. search needs) (λ c. search needs) (λ c. search needs) (λ c κs. search needs) (λ c. search needs) returns)
+begin-spec = tie.close (tie.spec (λ c κs. search needs) (λ c κs. search needs) (λ c κs. search needs) (λ c. search needs) returns)
