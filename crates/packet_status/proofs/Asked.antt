@@ -43,6 +43,9 @@ known-passes t component f s g h e =
     ∙ ap (λ (u : SiteTable). allStatuses u component (f .entries) (f .count)) (sym e)
     ∙ ap (λ (x : Sought). passes s f x) (sym g)
 
+abbrev answer : SiteTable → List ℕ → Question → StatusFields → Sought → Taken
+answer t ws q f k = answering (siteOf ws t) q Response (textOf (f .component)) (told (siteOf ws t) k f) []
+
 module _ (t : SiteTable) (ws : List ℕ) (q : Question) (f : StatusFields) {vs xs ys : List ℕ} {r : Answer} where
   pub status-judged : {g : StatusFields}
       → g ≡ f
@@ -55,20 +58,17 @@ module _ (t : SiteTable) (ws : List ℕ) (q : Question) (f : StatusFields) {vs x
 
   -- by whether all entries pass
   module _ {k : Sought} (h : k ≡ componentSought t (f .component)) where
-    abbrev answer : Taken
-    answer = answering (siteOf ws t) q Response (textOf (f .component)) (told (siteOf ws t) k f) []
-
     pub all-pass : passes (siteOf ws t) f k ≡ true
-        → TakesIn t q answer ws vs xs ys r
+        → TakesIn t q (answer t ws q f k) ws vs xs ys r
         → TakesIn t q (requestedOf (siteOf ws t) q f (componentSought t (f .component))) ws vs xs ys r
     all-pass e g =
         like t ws q (λ (x : Sought). requestedOf (siteOf ws t) q f x) (sym h)
-        (picked-first t ws q (passes (siteOf ws t) f k) answer (notAcked (siteOf ws t) q unknownStatus) e g)
+        (picked-first t ws q (passes (siteOf ws t) f k) (answer t ws q f k) (notAcked (siteOf ws t) q unknownStatus) e g)
 
     pub one-fails : passes (siteOf ws t) f k ≡ false
         → GivesIn t (q .time) never (notAcked (siteOf ws t) q unknownStatus .plan) ws vs xs ys r
         → TakesIn t q (requestedOf (siteOf ws t) q f (componentSought t (f .component))) ws vs xs ys r
     one-fails e g =
         like t ws q (λ (x : Sought). requestedOf (siteOf ws t) q f x) (sym h)
-        (picked-second t ws q (passes (siteOf ws t) f k) answer (notAcked (siteOf ws t) q unknownStatus) e
+        (picked-second t ws q (passes (siteOf ws t) f k) (answer t ws q f k) (notAcked (siteOf ws t) q unknownStatus) e
         (not-acked t ws q unknownStatus g))

@@ -10,7 +10,7 @@ use Rattle.packet_command.proofs.answer_and_response.Tie as tie
 
 returns : tie.Need-returns
 returns c =
-    let a = c .before .before .before .before .before .before .before .args in
+    let a = c .before .before .before .before .before .before .args in
     stopped (pieces (responseOf (a .q) CommandResponse (textOf (a .f .component)) (told (a .component) (a .f)))) (omega arith) (c .before .before .before .ack .ensures) (c .if1 .taken)
 
 add-result : tie.Need-add-result

@@ -12,7 +12,7 @@ use Rattle.packet_status.proofs.answer_and_response.Tie as tie
 
 returns : tie.Need-returns
 returns c =
-    let a = c .before .before .before .before .before .before .before .before .before .args in
+    let a = c .before .before .before .before .before .before .before .before .args in
     stopped (pieces (responseOf (a .q) Response (textOf (a .f .component)) (told (siteOf (a .w .now) (tableOf (a .t .now))) (a .component) (a .f)))) (omega arith) (c .before .before .before .ack .ensures) (c .if1 .taken)
 
 add-result : tie.Need-add-result
