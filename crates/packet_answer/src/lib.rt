@@ -100,14 +100,7 @@ pub fn begin(out: &mut [u8], q: Question, kind: Told, component: Label) -> usize
     if q.included {
         let received = q.received;
         let characters = received.bytes;
-        return write_report::status::begin_included(
-            out,
-            0,
-            kind,
-            &characters,
-            component,
-            q.time,
-        );
+        return write_report::status::begin_included(out, 0, kind, &characters, component, q.time);
     }
     let id = q.identity;
     write_report::status::begin(out, 0, kind, id, component, q.time)

@@ -365,13 +365,7 @@ fn put_fields(line: &mut [u8], at: usize, s: &[u8], places: &[usize], kind: Kind
     }
 }
 
-fn put_kind(
-    line: &mut [u8],
-    received: Received,
-    included: bool,
-    v: Verdict,
-    kind: Kind,
-) -> usize {
+fn put_kind(line: &mut [u8], received: Received, included: bool, v: Verdict, kind: Kind) -> usize {
     let bytes = received.bytes;
     let end = output::put_bytes(line, 0, &bytes);
     let end = output::put_bytes(line, end, b" ");

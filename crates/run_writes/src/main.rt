@@ -199,14 +199,7 @@ fn put_response(line: &mut [u8], kind: Told, received: &[u8], s: &[u8]) -> usize
 {
     let a = label::read(s, LABELS);
     let component = a.label;
-    let end = write_report::status::begin_included(
-        line,
-        0,
-        kind,
-        received,
-        component,
-        time_in(s),
-    );
+    let end = write_report::status::begin_included(line, 0, kind, received, component, time_in(s));
     let end = put_entries(line, end, kind, s, a.next, byte_in(s, 24) as usize);
     write_report::status::finish(line, end)
 }
