@@ -21,10 +21,11 @@ use Rattle.write_message.specs.declared.Value.the-variants.{Recent, Old, Unknow
 use Rattle.write_message.specs.declared.Told.{Told}
 use Rattle.write_message.specs.declared.Told.the-variants.{Response, Update, Command}
 use Rattle.write_message.specs.Message.{Message, Status}
-use Rattle.write_message.specs.Message.Message.{version, watchdog, ack, notAck, alarm, aggregated, statuses}
+use Rattle.write_message.specs.Message.Message.{version, watchdog, ack, notAck, alarm, aggregated, statuses, included}
 use Rattle.write_message.specs.Listing.{jsonOf, said, statesOf, flagsOf, eventText, categoryText, valueJson, qualityText, statusJson, statusesJson}
 use Rattle.write_laws.specs.Formed.{Formed, FormedState}
-use Rattle.write_laws.specs.Formed.Formed.{formed-version, formed-watchdog, formed-ack, formed-notAck, formed-alarm, formed-aggregated, formed-statuses}
+use Rattle.write_laws.specs.Formed.Formed.{formed-version, formed-watchdog, formed-ack, formed-notAck, formed-alarm, formed-aggregated, formed-statuses, formed-included}
+use Rattle.write_laws.specs.Formed.Answering.{a-status, a-command}
 use Rattle.write_laws.specs.Fields.{stateIn, flagsIn, timeOf, eventOf, categoryOf, integerOf, valueIn, statusIn, statusesIn, fieldsOf}
 
 id-back : (bs : List ℕ) → SixteenBytes bs → readIdentity (identityText bs) .id .bytes ≡ bs
@@ -78,6 +79,12 @@ statuses-back : (kind : Told) (read : Json → Status) → ((s : Status) → rea
 statuses-back kind read h [] = refl
 statuses-back kind read h (s ∷ ss) = ap₂ (λ (x : Status) (l : List Status). x ∷ l) (h s) (statuses-back kind read h ss)
 
+responses-back : (ss : List Status) → statusesIn (statusIn "sCI" "s" "q") (statusesJson Response ss) ≡ ss
+responses-back ss = statuses-back Response (statusIn "sCI" "s" "q") (λ s. status-back s .0) ss
+
+commands-back : (ss : List Status) → statusesIn (statusIn "cCI" "v" "age") (statusesJson Command ss) ≡ ss
+commands-back ss = statuses-back Command (statusIn "cCI" "v" "age") (λ s. status-back s .2) ss
+
 right-value : ℕ → ℕ → Bool
 right-value v x = eqb (flagsIn 0 (flagsOf v)) v
 
@@ -107,10 +114,14 @@ back (aggregated id component time value) (formed-aggregated i c t v) =
     ∙ ap (aggregated id component time) (flags-back value v)
 back (statuses Response id component time entries) (formed-statuses i c t f) =
     ap₂ (λ (b : List ℕ) (n : ℕ). statuses Response b component n (statusesIn (statusIn "sCI" "s" "q") (statusesJson Response entries))) (id-back id i) (time-back time t)
-    ∙ ap (statuses Response id component time) (statuses-back Response (statusIn "sCI" "s" "q") (λ s. status-back s .0) entries)
+    ∙ ap (statuses Response id component time) (responses-back entries)
 back (statuses Update id component time entries) (formed-statuses i c t f) =
     ap₂ (λ (b : List ℕ) (n : ℕ). statuses Update b component n (statusesIn (statusIn "sCI" "s" "q") (statusesJson Update entries))) (id-back id i) (time-back time t)
     ∙ ap (statuses Update id component time) (statuses-back Update (statusIn "sCI" "s" "q") (λ s. status-back s .1) entries)
 back (statuses Command id component time entries) (formed-statuses i c t f) =
     ap₂ (λ (b : List ℕ) (n : ℕ). statuses Command b component n (statusesIn (statusIn "cCI" "v" "age") (statusesJson Command entries))) (id-back id i) (time-back time t)
-    ∙ ap (statuses Command id component time) (statuses-back Command (statusIn "cCI" "v" "age") (λ s. status-back s .2) entries)
+    ∙ ap (statuses Command id component time) (commands-back entries)
+back (included _ received component time entries) (formed-included a-status r c t f) =
+    ap₂ (included Response received component) (time-back time t) (responses-back entries)
+back (included _ received component time entries) (formed-included a-command r c t f) =
+    ap₂ (included Command received component) (time-back time t) (commands-back entries)

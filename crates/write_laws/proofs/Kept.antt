@@ -11,7 +11,7 @@ use Rattle.json_packet.proofs.Whole.{meaning-once}
 use Rattle.json_write.specs.Text.{textOf}
 use Rattle.json_write.proofs.Meaning.{means}
 use Rattle.write_message.specs.Message.{Message}
-use Rattle.write_message.specs.Message.Message.{version, watchdog, ack, notAck, alarm, aggregated, statuses}
+use Rattle.write_message.specs.Message.Message.{version, watchdog, ack, notAck, alarm, aggregated, statuses, included}
 use Rattle.write_message.specs.Listing.{jsonOf}
 use Rattle.write_laws.specs.Formed.{Formed}
 use Rattle.write_laws.specs.Fields.{fieldsOf}
@@ -33,6 +33,7 @@ said (notAck received reason) f = one-packet (means [] (plain-message _ f)) (no-
 said (alarm id component code s) f = one-packet (means [] (plain-message _ f)) (no-name-twice (alarm id component code s))
 said (aggregated id component time value) f = one-packet (means [] (plain-message _ f)) (no-name-twice (aggregated id component time value))
 said (statuses kind id component time entries) f = one-packet (means [] (plain-message _ f)) (no-name-twice (statuses kind id component time entries))
+said (included kind received component time entries) f = one-packet (means [] (plain-message _ f)) (no-name-twice (included kind received component time entries))
 
 once : (m n : Message) → Formed m → Formed n → textOf (jsonOf m) ≡ textOf (jsonOf n) → m ≡ n
 once m n f g e =

@@ -4,7 +4,7 @@ use Rattle.basis.proofs.Std.{ℕ, suc, String, _≡_, refl, Bool, true, List, e
 use Rattle.number.specs.Alphabet.{allInAlphabet}
 use Rattle.json_value.specs.Grammar.{Json}
 use Rattle.json_value.specs.Grammar.Jsons.{jcons}
-use Rattle.json_write.specs.Plain.{PlainText, Plain, PlainElements}
+use Rattle.json_write.specs.Plain.{PlainText, Plain, PlainElements, PlainMembers}
 use Rattle.json_write.specs.Plain.PlainText.{none}
 use Rattle.json_write.specs.Plain.Plain.{pnull, pbool, pstr, parr₀, parr, pobj}
 use Rattle.json_write.specs.Plain.PlainElements.{last-element, element}
@@ -14,12 +14,12 @@ use Rattle.write_message.specs.declared.Value.the-variants.{Recent, Old, Unknow
 use Rattle.write_message.specs.declared.Told.{Told}
 use Rattle.write_message.specs.declared.Told.the-variants.{Response, Update, Command}
 use Rattle.write_message.specs.Message.{Message, Status}
-use Rattle.write_message.specs.Message.Message.{version, watchdog, ack, notAck, alarm, aggregated, statuses}
-use Rattle.write_message.specs.Listing.{jsonOf, eventText, typeText, timeName, listName, codeName, valueName, qualityName, valueJson, qualityText, statusJson, statusesJson}
-use Rattle.write_laws.specs.Formed.{Formed, FormedStatus, FormedStatuses}
-use Rattle.write_laws.specs.Formed.Formed.{formed-version, formed-watchdog, formed-ack, formed-notAck, formed-alarm, formed-aggregated, formed-statuses}
+use Rattle.write_message.specs.Message.Message.{version, watchdog, ack, notAck, alarm, aggregated, statuses, included}
+use Rattle.write_message.specs.Listing.{jsonOf, eventText, typeText, includedText, timeName, listName, codeName, valueName, qualityName, valueJson, qualityText, statusJson, statusesJson, toldOf}
+use Rattle.write_laws.specs.Formed.{Label, Formed, FormedStatus, FormedStatuses}
+use Rattle.write_laws.specs.Formed.Formed.{formed-version, formed-watchdog, formed-ack, formed-notAck, formed-alarm, formed-aggregated, formed-statuses, formed-included}
 use Rattle.write_laws.specs.Formed.FormedStatuses.{none as no-more, more as one-more}
-use Rattle.write_laws.proofs.Plainness.{plain, plain-label, plain-digits, plain-decimal, plain-name, plain-moment, plain-identity, plain-received}
+use Rattle.write_laws.proofs.Plainness.{plain, plain-append, plain-label, plain-digits, plain-decimal, plain-name, plain-moment, plain-identity, plain-received}
 
 word : (s : String) → allInAlphabet (text s) ≡ true → PlainText (text s)
 word s e = plain (text s) e
@@ -40,6 +40,9 @@ type-word : (kind : Told) → PlainText (typeText kind)
 type-word Response = word "StatusResponse" refl
 type-word Update = word "StatusUpdate" refl
 type-word Command = word "CommandResponse" refl
+
+included-word : (kind : Told) → PlainText (includedText kind)
+included-word kind = plain-append (type-word kind) (word "AckIncluded" refl)
 
 value : {l : ℕ} (v : Value) → Plain l (valueJson v)
 value (Recent v) = pstr (plain-decimal v)
@@ -68,6 +71,14 @@ some-statuses kind f (one-more g gs) = element (status kind f) (some-statuses ki
 all-statuses : {l : ℕ} (kind : Told) {ss : List Status} → FormedStatuses ss → Plain (suc (suc l)) (Json.arr (statusesJson kind ss))
 all-statuses kind no-more = parr₀
 all-statuses kind (one-more f fs) = parr (some-statuses kind f fs)
+
+told : {l : ℕ} (kind : Told) {component : List ℕ} (time : ℕ) {ss : List Status} → Label component → FormedStatuses ss → PlainMembers (suc (suc l)) (toldOf kind component time ss)
+told kind time c f =
+    member (word "ntsOId" refl) (pstr none)
+    (member (word "xNId" refl) (pstr none)
+    (member (word "cId" refl) (pstr (plain-label c))
+    (member (of-kind timeName refl refl refl kind) (pstr (plain-moment time))
+    (last-member (of-kind listName refl refl refl kind) (all-statuses kind f)))))
 
 pub plain-message : (m : Message) → Formed m → Plain 8 (jsonOf m)
 plain-message (version id site sxl) (formed-version i s x) =
@@ -123,9 +134,8 @@ plain-message (aggregated id component time value) (formed-aggregated i c t v) =
 plain-message (statuses kind id component time entries) (formed-statuses i c t f) =
     pobj (member (word "mType" refl) (pstr (word "rSMsg" refl))
     (member (word "type" refl) (pstr (type-word kind))
-    (member (word "mId" refl) (pstr (plain-identity i))
-    (member (word "ntsOId" refl) (pstr none)
-    (member (word "xNId" refl) (pstr none)
-    (member (word "cId" refl) (pstr (plain-label c))
-    (member (of-kind timeName refl refl refl kind) (pstr (plain-moment time))
-    (last-member (of-kind listName refl refl refl kind) (all-statuses kind f)))))))))
+    (member (word "mId" refl) (pstr (plain-identity i)) (told kind time c f))))
+plain-message (included kind received component time entries) (formed-included a r c t f) =
+    pobj (member (word "mType" refl) (pstr (word "rSMsg" refl))
+    (member (word "type" refl) (pstr (included-word kind))
+    (member (word "oMId" refl) (pstr (plain-received r)) (told kind time c f))))

@@ -21,10 +21,11 @@ use Rattle.write_message.specs.declared.Value.the-variants.{Recent, Old, Unknow
 use Rattle.write_message.specs.declared.Told.{Told}
 use Rattle.write_message.specs.declared.Told.the-variants.{Response, Update, Command}
 use Rattle.write_message.specs.Message.{Message, Status}
-use Rattle.write_message.specs.Message.Message.{version, watchdog, ack, notAck, alarm, aggregated, statuses}
+use Rattle.write_message.specs.Message.Message.{version, watchdog, ack, notAck, alarm, aggregated, statuses, included}
 use Rattle.write_message.specs.Listing.{jsonOf, bytesOf, flag, flagsOf, eventText, valueJson, qualityText, statusJson, statusesJson}
 use Rattle.write_laws.specs.Formed.{Label, Received, Formed, FormedValue, FormedStatus, FormedStatuses}
-use Rattle.write_laws.specs.Formed.Formed.{formed-version, formed-watchdog, formed-ack, formed-notAck, formed-alarm, formed-aggregated, formed-statuses}
+use Rattle.write_laws.specs.Formed.Formed.{formed-version, formed-watchdog, formed-ack, formed-notAck, formed-alarm, formed-aggregated, formed-statuses, formed-included}
+use Rattle.write_laws.specs.Formed.Answering.{a-status, a-command}
 use Rattle.write_laws.specs.Formed.FormedValue.{recent, old, unknown, undefined}
 use Rattle.write_laws.specs.Formed.FormedStatuses.{none as no-more, more as one-more}
 use Rattle.write_laws.specs.Size.{most, mostEntry, mostEntries, entriesIn}
@@ -154,11 +155,15 @@ sized (statuses Update id component time entries) (formed-statuses i c t f) =
     omega (arith, text-length id, label-size c, moment-size time, statuses-size Update f)
 sized (statuses Command id component time entries) (formed-statuses i c t f) =
     omega (arith, text-length id, label-size c, moment-size time, statuses-size Command f)
+sized (included _ received component time entries) (formed-included a-status r c t f) =
+    omega (arith, received-size r, label-size c, moment-size time, statuses-size Response f)
+sized (included _ received component time entries) (formed-included a-command r c t f) =
+    omega (arith, received-size r, label-size c, moment-size time, statuses-size Command f)
 
 pub long : (m : Message) → Formed m → length (bytesOf m) ≤ most m
 long m f = omega (arith, length-append (textOf (jsonOf m)) (0x0c ∷ []), size-is (jsonOf m) [], sized m f)
 
-most-sixteen : (m : Message) → entriesIn m ≤ 16 → most m ≤ 2032
+most-sixteen : (m : Message) → entriesIn m ≤ 16 → most m ≤ 2044
 most-sixteen (version id site sxl) h = omega arith
 most-sixteen (watchdog id time) h = omega arith
 most-sixteen (ack received) h = omega arith
@@ -171,6 +176,12 @@ most-sixteen (statuses Update id component time []) h = omega arith
 most-sixteen (statuses Update id component time (e ∷ es)) h = omega arith
 most-sixteen (statuses Command id component time []) h = omega arith
 most-sixteen (statuses Command id component time (e ∷ es)) h = omega arith
+most-sixteen (included Response received component time []) h = omega arith
+most-sixteen (included Response received component time (e ∷ es)) h = omega arith
+most-sixteen (included Update received component time []) h = omega arith
+most-sixteen (included Update received component time (e ∷ es)) h = omega arith
+most-sixteen (included Command received component time []) h = omega arith
+most-sixteen (included Command received component time (e ∷ es)) h = omega arith
 
 pub room : (received : List ℕ) (m : Message) → Received received → Formed m → entriesIn m ≤ 16 → length (bytesOf (ack received) ++ bytesOf m) ≤ 4096
 room received m r f h =

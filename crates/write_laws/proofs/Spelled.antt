@@ -24,4 +24,6 @@ spelled =
       of-response = refl;
       of-update = refl;
       of-command = refl;
+      of-response-included = refl;
+      of-command-included = refl;
     }

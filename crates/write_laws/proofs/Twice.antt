@@ -7,7 +7,7 @@ use Rattle.write_message.specs.declared.Value.the-variants.{Recent, Old, Unknow
 use Rattle.write_message.specs.declared.Told.{Told}
 use Rattle.write_message.specs.declared.Told.the-variants.{Response, Update, Command}
 use Rattle.write_message.specs.Message.{Message, Status}
-use Rattle.write_message.specs.Message.Message.{version, watchdog, ack, notAck, alarm, aggregated, statuses}
+use Rattle.write_message.specs.Message.Message.{version, watchdog, ack, notAck, alarm, aggregated, statuses, included}
 use Rattle.write_message.specs.Listing.{jsonOf, valueJson, statusJson, statusesJson}
 
 value-once : (v : Value) → noTwice (valueJson v) ≡ true
@@ -39,3 +39,6 @@ no-name-twice (aggregated id component time value) = refl
 no-name-twice (statuses Response id component time entries) = rw (statuses-once Response entries)
 no-name-twice (statuses Update id component time entries) = rw (statuses-once Update entries)
 no-name-twice (statuses Command id component time entries) = rw (statuses-once Command entries)
+no-name-twice (included Response received component time entries) = rw (statuses-once Response entries)
+no-name-twice (included Update received component time entries) = rw (statuses-once Update entries)
+no-name-twice (included Command received component time entries) = rw (statuses-once Command entries)
