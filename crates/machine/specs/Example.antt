@@ -3,7 +3,7 @@
 use Prim.Native.Nat.{ℕ, _+_}
 use Prim.Native.String.{String}
 use mathlib.Core.Bool.{Bool, true, false}
-use mathlib.Core.List.{List, [], _∷_, _++_, map}
+use mathlib.Core.List.{List, [], _∷_, _++_}
 use mathlib.Core.Option.{Option, some, none}
 use lib.IntN.{pos, negsuc}
 use lib.ListN.{replicate}
@@ -11,7 +11,7 @@ use Rattle.basis.specs.Text.{text}
 use Rattle.table_whole.specs.Table.{Table}
 use Rattle.write_message.specs.Message.{Message}
 use Rattle.write_message.specs.Message.Message.{alarm}
-use Rattle.machine.specs.Words.{Bytes, upTo}
+use Rattle.machine.specs.Words.{Bytes}
 use Rattle.machine.specs.State.{
   alarmOf,
   Issued,
@@ -29,7 +29,6 @@ use Rattle.machine.specs.State.{
 }
 use Rattle.machine.specs.State.Event.{Issue, Suspend}
 use Rattle.machine.specs.State.Content.{ofAlarm, ofAggregated}
-use Rattle.machine.specs.State.Sent.{noRecord}
 use Rattle.machine.specs.State.Act.{connect, packet, pump}
 use Rattle.machine.specs.State.Outcome.{done}
 use Rattle.machine.specs.Table.{first}
@@ -135,14 +134,6 @@ upBy version =
 
 abbrev pub up : Machine
 up = upBy (3 ∷ 2 ∷ 0 ∷ [])
-
--- .. with sixteen awaited
-abbrev pub upBusy : Machine
-upBusy =
-    machine (up .setup) noon (up .alarms) (up .statuses) 0 noon []
-    (lifeOf true (exchange true true true) (exchange true true true) (3 ∷ 2 ∷ 0 ∷ []) noon 0
-    (map (λ k. record { identity = own k; time = noon; message = noRecord }) (upTo 16)) ∷ fresh false ∷ [])
-    (up .pool)
 
 -- .. and where the edition before was chosen
 abbrev pub upOlder : Machine

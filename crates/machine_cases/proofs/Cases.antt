@@ -7,6 +7,7 @@ use Rattle.machine_cases.proofs.CasesAnswers.{ignoring-hold, passed-hol
 use Rattle.machine_cases.proofs.CasesAlarms.{inputs-hold, orders-hold, requests-hold}
 use Rattle.machine_cases.proofs.CasesSubscriptions.{subscribing-hold, values-hold, intervals-hold, apart-hold, aggregates-hold}
 use Rattle.machine_cases.proofs.CasesCommands.{commanding-hold}
+use Rattle.machine_cases.proofs.CasesIncluded.{responding-hold, notResponding-hold, unawaited-hold}
 use Rattle.machine_cases.proofs.CasesEditions.{choices-hold, olderEntries-hold, newerEntries-hold, onItsLink-hold, overBreaks-hold}
 use Rattle.machine_cases.proofs.CasesPool.{losing-hold, others-hold, othersInTime-hold, settling-hold, records-hold}
 use Rattle.machine_cases.proofs.CasesLinks.{links-hold, linkLives-hold}
@@ -38,6 +39,9 @@ cases =
       apart = apart-hold;
       aggregates = aggregates-hold;
       commanding = commanding-hold;
+      responding = responding-hold;
+      not-responding = notResponding-hold;
+      unawaited = unawaited-hold;
       choices = choices-hold;
       older-entries = olderEntries-hold;
       newer-entries = newerEntries-hold;

@@ -7,6 +7,7 @@ use Rattle.machine_cases.specs.CasesAnswers.{Ignoring, Passed, Reasons, 
 use Rattle.machine_cases.specs.CasesAlarms.{Inputs, Orders, Requests}
 use Rattle.machine_cases.specs.CasesSubscriptions.{Subscribing, Values, Intervals, Apart, Aggregates}
 use Rattle.machine_cases.specs.CasesCommands.{Commanding}
+use Rattle.machine_cases.specs.CasesIncluded.{Responding, NotResponding, Unawaited}
 use Rattle.machine_cases.specs.CasesEditions.{Choices, OlderEntries, NewerEntries, OnItsLink, OverBreaks}
 use Rattle.machine_cases.specs.CasesPool.{Losing, Others, OthersInTime, Settling, Records}
 use Rattle.machine_cases.specs.CasesLinks.{Links, LinkLives}
@@ -42,6 +43,10 @@ pub record Cases : Type 0 where
   pub aggregates : Aggregates
   -- request 01
   pub commanding : Commanding
+  -- request 04
+  pub responding : Responding
+  pub not-responding : NotResponding
+  pub unawaited : Unawaited
   -- request 07
   pub choices : Choices
   pub older-entries : OlderEntries

@@ -7,6 +7,7 @@ pub mod CasesAnswers
 pub mod CasesAlarms
 pub mod CasesSubscriptions
 pub mod CasesCommands
+pub mod CasesIncluded
 pub mod CasesEditions
 pub mod CasesPool
 pub mod CasesLinks
