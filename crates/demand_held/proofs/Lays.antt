@@ -7,9 +7,9 @@ use Rattle.machine.specs.Words.{Bytes, upTo}
 use Rattle.machine.specs.State.{Setup, Alarm, Subscription, issuedFor, Sent, Awaited, Machine, withLife, fresh, lifeAt, valueAt, Act, Effect, effect, only}
 use Rattle.machine.specs.State.Content.{ofAlarm, ofAggregated}
 use Rattle.machine.specs.State.Act.{connect, disconnect, packet, alarmInput, statusValue, aggregatedValue, tick, pump}
-use Rattle.machine.specs.Json.{readPacket, stringOf, entriesOf, isType}
+use Rattle.machine.specs.Json.{readPacket, stringOf, entriesOf, isType, asksFor}
 use Rattle.machine.specs.Life.{unsent, close, closeAll, awaitedBy, Due, due}
-use Rattle.machine.specs.Answers.{isAnswer, wantsReply, reasonOf, failsCheck}
+use Rattle.machine.specs.Answers.{isAnswer, wantsReply, repliesAtOnce, reasonOf, failsCheck}
 use Rattle.machine.specs.Items.{isSilent, isOf, statusFor, update, numberAsked, upwards, isTime, isNew, told, happens, subscribe, unsubscribe, intervals, becomes, commands, aggregates}
 use Rattle.machine.specs.Pool.{marked}
 use Rattle.machine.specs.Effects.{connects, closes, late, ticks, sentAs, carried, markSent, sends, answerCloses, settle, answers, answered, refuses, carriedOut, replying, receives, ownIdentity, effectOf}
@@ -126,9 +126,10 @@ module _ (E : ℕ → ℕ → Type 0) (m : Machine) where
   lays-replying : (l t : ℕ) (id : Bytes) (j : Json) (e : Effect) → Lays e → Lays (replying l t id j e)
   unfolding replying
   lays-replying l t id j e a =
-      picked Lays (wantsReply (e .leaves) l j) _ _
+      picked Lays (repliesAtOnce j) _ _ (λ o. record { frame = a .frame; issued = a .issued; told = a .told })
+      (λ o. picked Lays (wantsReply (e .leaves) l j) _ _
       (λ w. record { frame = then (a .frame) (still _ refl refl); issued = a .issued; told = a .told })
-      (λ w. record { frame = a .frame; issued = a .issued; told = a .told })
+      (λ w. record { frame = a .frame; issued = a .issued; told = a .told }))
 
   lays-commands : (j : Json) → Lays (commands m j)
   unfolding commands
@@ -155,7 +156,7 @@ module _ (E : ℕ → ℕ → Type 0) (m : Machine) where
         (λ e. picked Lays (isType "Alarm" j) _ _ (λ e. lays-happens primary _ _)
         (λ e. picked Lays (isType "StatusSubscribe" j) _ _ (λ e. lays-subscribe t j)
         (λ e. picked Lays (isType "StatusUnsubscribe" j) _ _ (λ e. lays-unsubscribe j)
-        (λ e. picked Lays (isType "CommandRequest" j) _ _ (λ e. lays-commands j) (λ e. calm m [] [] none refl refl))))))
+        (λ e. picked Lays (asksFor "CommandRequest" j) _ _ (λ e. lays-commands j) (λ e. calm m [] [] none refl refl))))))
 
 -- ---- an answer
 module _ (m : Machine) (l : ℕ) (random bytes : Bytes) (room : ℕ) (j : Json) (is : readPacket bytes ≡ some j) (answer : isAnswer j ≡ true) where
