@@ -6,9 +6,9 @@ use Rattle.write_message.specs.Message.{Message}
 use Rattle.machine.specs.Words.{Bytes, isNumber, any}
 use Rattle.machine.specs.State.{Alarm, Sent, Awaited, Life, fresh, Machine, withLife, lifeAt, valueAt, Act, Effect, effect, only}
 use Rattle.machine.specs.State.Act.{connect, disconnect, packet, alarmInput, statusValue, aggregatedValue, tick, pump}
-use Rattle.machine.specs.Json.{readPacket, stringOf, isType}
+use Rattle.machine.specs.Json.{readPacket, stringOf, isType, asksFor}
 use Rattle.machine.specs.Life.{awaitedBy, awaiting, answeredTo, Due, due}
-use Rattle.machine.specs.Answers.{isAnswer, wantsReply, reasonOf, failsCheck}
+use Rattle.machine.specs.Answers.{isAnswer, wantsReply, repliesAtOnce, reasonOf, failsCheck}
 use Rattle.machine.specs.Items.{isNew, happens, subscribe, unsubscribe, intervals, becomes, commands, aggregates}
 use Rattle.machine.specs.Effects.{connects, closes, late, ticks, ownIdentity, sentAs, carried, afterSending, markSent, sends, answerCloses, acknowledges, settle, answers, answered, refuses, carriedOut, replying, receives, effectOf}
 use Rattle.demand_held.proofs.Lists.{maybe-cases}
@@ -68,14 +68,15 @@ module _ (m : Machine) (l : ℕ) where
         (λ e. picked Apart (isType "Alarm" j) _ _ (λ e. apart-happens _ _)
         (λ e. picked Apart (isType "StatusSubscribe" j) _ _ (λ e. record { life = refl; unnamed = refl })
         (λ e. picked Apart (isType "StatusUnsubscribe" j) _ _ (λ e. record { life = refl; unnamed = refl })
-        (λ e. picked Apart (isType "CommandRequest" j) _ _ (λ e. record { life = refl; unnamed = refl }) (λ e. record { life = refl; unnamed = refl }))))))
+        (λ e. picked Apart (asksFor "CommandRequest" j) _ _ (λ e. record { life = refl; unnamed = refl }) (λ e. record { life = refl; unnamed = refl }))))))
 
     apart-replying : (t : ℕ) (id : Bytes) (j : Json) (e : Effect) → Apart e → Apart (replying k t id j e)
     unfolding replying
     apart-replying t id j e a =
-        picked Apart (wantsReply (e .leaves) k j) _ _
+        picked Apart (repliesAtOnce j) _ _ (λ o. record { life = a .life; unnamed = a .unnamed })
+        (λ o. picked Apart (wantsReply (e .leaves) k j) _ _
         (λ w. record { life = set-other (fresh false) k l _ (e .leaves .lives) other ∙ a .life; unnamed = a .unnamed })
-        (λ w. record { life = a .life; unnamed = a .unnamed })
+        (λ w. record { life = a .life; unnamed = a .unnamed }))
 
     apart-received : (t : ℕ) (id : Bytes) (j : Json) → Apart (receives k t id m j)
     unfolding receives

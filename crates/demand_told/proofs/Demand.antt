@@ -8,7 +8,7 @@ use Rattle.machine.specs.Words.{Bytes, firstOf}
 use Rattle.machine.specs.State.{Alarm, Start, Command, Machine, Act, Call, Outcome, Effect, lifeAt, valueAt, only}
 use Rattle.machine.specs.State.Act.{connect, disconnect, packet, alarmInput, statusValue, aggregatedValue, tick, pump}
 use Rattle.machine.specs.State.Outcome.{refused, done}
-use Rattle.machine.specs.Json.{readPacket, stringOf}
+use Rattle.machine.specs.Json.{readPacket}
 use Rattle.machine.specs.Life.{isUp, isPrimary, Due, due}
 use Rattle.machine.specs.Answers.{isAnswer}
 use Rattle.machine.specs.Items.{happens, isNew, becomes, aggregates}
@@ -75,7 +75,7 @@ told-up m t (pump k random room) l e f w =
 
 -- ---- answers
 answered : (m : Machine) (t l room : ℕ) (random bytes : Bytes) (j : Json) → readPacket bytes ≡ some j → isAnswer j ≡ false
-    → OneAnswer (stringOf "mId" j) (effectOf m t (packet l random bytes room) .messages)
+    → OneAnswer j (effectOf m t (packet l random bytes room) .messages)
 unfolding effectOf
 answered m t l room random bytes j r other = rw r (once-received l t (ownIdentity random) m j other)
 
@@ -123,7 +123,7 @@ module _ (m : Machine) (c : Call) where
         up-first = λ w a u l e. by-number (λ (ms : List Message). Among w ms → isUp (lifeAt m l) ≡ true) (λ b. absurd (nobody b)) (λ n b. told-up m (c .time) (c .act) l e n w b u) a;
         no-link = λ e. by-number (λ (ms : List Message). ms ≡ []) refl (λ n. quiet m (c .time) (c .act) e);
         answered = λ l room random bytes j ms closed hint commands e r d other.
-            rw (← done-messages d) (subst (λ (x : Act). OneAnswer (stringOf "mId" j) (effectOf m (c .time) x .messages)) (sym e) (answered m (c .time) l room random bytes j r other));
+            rw (← done-messages d) (subst (λ (x : Act). OneAnswer j (effectOf m (c .time) x .messages)) (sym e) (answered m (c .time) l room random bytes j r other));
         unanswered = λ l room random bytes j e r is.
             by-number (λ (ms : List Message). ms ≡ []) refl
             (λ n. subst (λ (x : Act). effectOf m (c .time) x .messages ≡ []) (sym e) (unanswered m (c .time) l room random bytes j r is));

@@ -7,13 +7,13 @@ use Rattle.number.specs.Signed.{Signed32}
 use Rattle.number.specs.Alphabet.{isLabel}
 use Rattle.json_value.specs.Grammar.{Json}
 use Rattle.machine.specs.Words.{Bytes, maybe, isSome, orElse, any}
-use Rattle.machine.specs.Json.{shape, element, stringOf, entriesOf, isType, numberIn, below, integerIn}
+use Rattle.machine.specs.Json.{shape, element, stringOf, entriesOf, asksFor, numberIn, below, integerIn}
 use Rattle.machine.specs.Answers.{Element, _is_, Need, label, anyEntry, asked, commanded, needs, isObject, lacks, spoils, isMissing, badEntries, isBad, valueAsked}
 use Rattle.machine.specs.Answers.Kind.{aString}
 use Rattle.machine.specs.Answers.Need.{one, entries}
 use Rattle.demand_held.proofs.Lists.{Each}
 use Rattle.demand_held.proofs.Lists.Each.{no-more, one-more}
-use Rattle.demand_told.proofs.Replies.{one-type}
+use Rattle.demand_told.proofs.Replies.{asks-only, asks-nothing-else}
 use Rattle.demand_told.proofs.Tests.{no-not, neither}
 use Rattle.demand_told.proofs.Found.{none-of-any}
 
@@ -88,16 +88,17 @@ module _ (older : Bool) (name : String) (es : List Element) (j : Json) (needed :
       (none-of-any (λ (x : Json). both (isObject x) (lacks x es)) (entriesOf name j) (neither (not (isSome (element name j))) _ (missing-none .1) .1))
 
 -- ---- a StatusRequest
-pub status-needs : (older : Bool) (j : Json) → isType "StatusRequest" j ≡ true → needs older j ≡ one ("cId" is label) ∷ entries "sS" asked anyEntry ∷ []
+pub status-needs : (older : Bool) (j : Json) → asksFor "StatusRequest" j ≡ true → needs older j ≡ one ("cId" is label) ∷ entries "sS" asked anyEntry ∷ []
 unfolding needs
 status-needs older j typed =
     rw (
-      one-type "StatusRequest" "Version" refl j typed,
-      one-type "StatusRequest" "Watchdog" refl j typed,
-      one-type "StatusRequest" "Alarm" refl j typed,
-      one-type "StatusRequest" "AggregatedStatusRequest" refl j typed,
-      one-type "StatusRequest" "StatusSubscribe" refl j typed,
-      one-type "StatusRequest" "CommandRequest" refl j typed,
+      asks-only "StatusRequest" "Version" refl refl j typed,
+      asks-only "StatusRequest" "Watchdog" refl refl j typed,
+      asks-only "StatusRequest" "Alarm" refl refl j typed,
+      asks-only "StatusRequest" "AggregatedStatusRequest" refl refl j typed,
+      asks-only "StatusRequest" "StatusSubscribe" refl refl j typed,
+      asks-only "StatusRequest" "CommandRequest" refl refl j typed,
+      asks-nothing-else "StatusRequest" "CommandRequest" refl refl j typed,
     )
 
 -- code and name
@@ -111,15 +112,15 @@ status-entry x w =
     (code .0, name .0)
 
 -- ---- a CommandRequest
-pub command-needs : (older : Bool) (j : Json) → isType "CommandRequest" j ≡ true → needs older j ≡ one ("cId" is label) ∷ entries "arg" commanded anyEntry ∷ []
+pub command-needs : (older : Bool) (j : Json) → asksFor "CommandRequest" j ≡ true → needs older j ≡ one ("cId" is label) ∷ entries "arg" commanded anyEntry ∷ []
 unfolding needs
 command-needs older j typed =
     rw (
-      one-type "CommandRequest" "Version" refl j typed,
-      one-type "CommandRequest" "Watchdog" refl j typed,
-      one-type "CommandRequest" "Alarm" refl j typed,
-      one-type "CommandRequest" "AggregatedStatusRequest" refl j typed,
-      one-type "CommandRequest" "StatusSubscribe" refl j typed,
+      asks-only "CommandRequest" "Version" refl refl j typed,
+      asks-only "CommandRequest" "Watchdog" refl refl j typed,
+      asks-only "CommandRequest" "Alarm" refl refl j typed,
+      asks-only "CommandRequest" "AggregatedStatusRequest" refl refl j typed,
+      asks-only "CommandRequest" "StatusSubscribe" refl refl j typed,
       typed,
     )
 

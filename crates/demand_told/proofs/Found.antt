@@ -5,7 +5,7 @@ use Rattle.basis.specs.Lists.Among.{first, later}
 use Rattle.json_value.specs.Grammar.{Json}
 use Rattle.machine.specs.Words.{maybe, isSome, orElse, any, placeFrom}
 use Rattle.machine.specs.State.{Machine}
-use Rattle.machine.specs.Json.{stringOf, entriesOf, isType}
+use Rattle.machine.specs.Json.{stringOf, entriesOf, isType, asksFor}
 use Rattle.machine.specs.Table.{alarmNumber, statusNumber}
 use Rattle.machine.specs.Answers.{componentAsked, alarmAsked, statusAsked, unknownStatus, reasons, reasonOf}
 use Rattle.machine.specs.Items.{numberAsked}
@@ -59,7 +59,7 @@ module _ (m : Machine) (l : ℕ) (j : Json) (unrefused : reasonOf m l j ≡ none
   pub statuses-known : isType "StatusSubscribe" j ≡ true → Each (λ (e : Json). not (isSome (statusAsked m j e)) ≡ false) (entriesOf "sS" j)
   statuses-known is =
       none-of-any (λ e. not (isSome (statusAsked m j e))) (entriesOf "sS" j)
-      (go (isSome (componentAsked m j)) (isType "StatusRequest" j) (isType "StatusSubscribe" j) (isType "StatusUnsubscribe" j) _ is status-refusal)
+      (go (isSome (componentAsked m j)) (asksFor "StatusRequest" j) (isType "StatusSubscribe" j) (isType "StatusUnsubscribe" j) _ is status-refusal)
     where
       go : (a b c d x : Bool) → c ≡ true → pick a (both (pick b true (pick c true d)) x) (pick c true d) ≡ false → x ≡ false
       go true true c d x e f = f

@@ -9,16 +9,17 @@ use Rattle.machine.specs.Words.{Bytes, orElse, isNumber, any, changed, firstOf}
 use Rattle.machine.specs.State.{Alarm, Awaited, Life, fresh, Machine, withLife, lifeAt, Act, Effect, handing, effect, only}
 use Rattle.machine.specs.State.Sent.{noRecord}
 use Rattle.machine.specs.State.Act.{connect, disconnect, packet, alarmInput, statusValue, aggregatedValue, tick, pump}
-use Rattle.machine.specs.Json.{readPacket, stringOf, elementIs, isType, isIdentityOf}
+use Rattle.machine.specs.Json.{readPacket, stringOf, elementIs, isType, asksFor, isIdentityOf}
 use Rattle.machine.specs.Life.{nowTaken, withWatchdogs, common, namesSite, equalSxl, awaitedBy, awaiting, answeredTo, Due, due}
-use Rattle.machine.specs.Answers.{isAnswer, awaitedHere, isIgnored, wantsReply, reasons, reasonOf, failsCheck}
+use Rattle.machine.specs.Answers.{isAnswer, awaitedHere, isIgnored, wantsReply, repliesAtOnce, reasons, reasonOf, failsCheck}
 use Rattle.machine.specs.Items.{happens, subscribe, unsubscribe, intervals, commands}
+use Rattle.machine.specs.Messages.{includedMessage}
 use Rattle.machine.specs.Effects.{connects, closes, late, ticks, ownIdentity, sentAs, afterSending, markSent, sends, answerCloses, acknowledges, settle, answers, answered, refusal, refuses, agreed, carriedOut, replyMessage, replying, receives, effectOf}
 use Rattle.machine.specs.Step.{conditions, outcome}
 use Rattle.machine.specs.Run.{Past}
 use Rattle.demand_held.proofs.Lists.{maybe-cases}
 use Rattle.demand_told.specs.Demand.{messagesOf, linkOf}
-use Rattle.demand_told.proofs.Replies.{none-at}
+use Rattle.demand_told.proofs.Replies.{none-at, not-at-once}
 use Rattle.demand_told.specs.Life.{connectedBy, goingOn, lived}
 use Rattle.demand_told.specs.Greeted.{Came, IsGoodVersion}
 use Rattle.demand_told.specs.Greeted.Came.{came}
@@ -98,7 +99,7 @@ open-carried-out m l t j =
     (λ e. picked Open (isType "Alarm" j) _ _ (λ e. open-happens m _ _)
     (λ e. picked Open (isType "StatusSubscribe" j) _ _ (λ e n. refl)
     (λ e. picked Open (isType "StatusUnsubscribe" j) _ _ (λ e n. refl)
-    (λ e. picked Open (isType "CommandRequest" j) _ _ (λ e n. refl) (λ e n. refl))))))
+    (λ e. picked Open (asksFor "CommandRequest" j) _ _ (λ e n. refl) (λ e n. refl))))))
 
 -- ---- calls of link l
 module _ (u m : Machine) (same : u .setup ≡ m .setup) (t l : ℕ) (life : List Past) (kept : Kept u l (lifeAt m l) life) (lives : life ≡ [] → ⊥) where
@@ -152,8 +153,8 @@ module _ (u m : Machine) (same : u .setup ≡ m .setup) (t l : ℕ) (life : List
         picked Received (failsCheck reason) _ _ (λ e. goes-closes u m same t this l life kept _)
         (λ e. turns u m same t this l life kept (effect m [] (refusal j reason ∷ []) [] none) refl refl (goes-on _ kept))
 
-    -- any other that no reason refuses: of a call p that answers by MessageAck
-    module _ (unrefused : reasonOf m l j ≡ none) (p : Past) (c : Came l j p) (acks : Among (ack (stringOf "mId" j)) (messagesOf (p .gave))) where
+    -- any other that no reason refuses: of a call p that answers by MessageAck, or at once
+    module _ (unrefused : reasonOf m l j ≡ none) (p : Past) (c : Came l j p) (acks : repliesAtOnce j ≡ false → Among (ack (stringOf "mId" j)) (messagesOf (p .gave))) where
       abbrev On : Effect → Type 0
       On e = Kept u l (lifeAt (e .leaves) l) (goingOn p life)
 
@@ -167,23 +168,25 @@ module _ (u m : Machine) (same : u .setup ≡ m .setup) (t l : ℕ) (life : List
       on-carried-out =
           picked On (isType "Version" j) _ _
           (λ e. sets (agreed (orElse [] (common j)) (lifeAt m l)) (m .lives) p
-          (accepted u l (lifeAt m l) life kept p lives (orElse [] (common j)) (answered-by (checked u m same l j unrefused e) c (marked u m same l j unrefused) acks)))
+          (accepted u l (lifeAt m l) life kept p lives (orElse [] (common j)) (answered-by (checked u m same l j unrefused e) c (marked u m same l j unrefused) (acks (not-at-once "Version" refl refl j e)))))
           (λ e. picked On (isType "Watchdog" j) _ _
           (λ e. sets (withWatchdogs (nowTaken (lifeAt m l .watchdogs)) (lifeAt m l)) (m .lives) p
-          (taken u l (lifeAt m l) life kept p lives (answered-by e c (marked u m same l j unrefused) acks)))
+          (taken u l (lifeAt m l) life kept p lives (answered-by e c (marked u m same l j unrefused) (acks (not-at-once "Watchdog" refl refl j e)))))
           (λ e. picked On (isType "Alarm" j) _ _ (λ e. on-happens _ _)
           (λ e. picked On (isType "StatusSubscribe" j) _ _ (λ e. goes-on p kept)
           (λ e. picked On (isType "StatusUnsubscribe" j) _ _ (λ e. goes-on p kept)
-          (λ e. picked On (isType "CommandRequest" j) _ _ (λ e. goes-on p kept) (λ e. goes-on p kept))))))
+          (λ e. picked On (asksFor "CommandRequest" j) _ _ (λ e. goes-on p kept) (λ e. goes-on p kept))))))
 
     goes-replying : reasonOf m l j ≡ none → (id : Bytes) → Received (replying l t id j (carriedOut l t j m))
     unfolding replying
     goes-replying unrefused id =
-        picked Received (wantsReply (done .leaves) l j) _ _
+        picked Received (repliesAtOnce j) _ _
+        (λ o. turns u m same t this l life kept responded refl (open-carried-out m l t j l) (on-carried-out unrefused (this-past responded) (came-by responded) (λ n. not-both o n)))
+        (λ o. picked Received (wantsReply (done .leaves) l j) _ _
         (λ w. turns u m same t this l life kept replied refl (open-carried-out m l t j l)
         (sets (awaiting id t noRecord (lifeAt (done .leaves) l)) (done .leaves .lives) (this-past replied)
-        (awaits (on-carried-out unrefused (this-past replied) (came-by replied) first) id t noRecord tt)))
-        (λ w. turns u m same t this l life kept acked-only refl (open-carried-out m l t j l) (on-carried-out unrefused (this-past acked-only) (came-by acked-only) first))
+        (awaits (on-carried-out unrefused (this-past replied) (came-by replied) (λ n. first)) id t noRecord tt)))
+        (λ w. turns u m same t this l life kept acked-only refl (open-carried-out m l t j l) (on-carried-out unrefused (this-past acked-only) (came-by acked-only) (λ n. first))))
       where
         done : Effect
         done = carriedOut l t j m
@@ -192,6 +195,9 @@ module _ (u m : Machine) (same : u .setup ≡ m .setup) (t l : ℕ) (life : List
         replied =
             handing (done .commands) (withLife l (awaiting id t noRecord (lifeAt (done .leaves) l)) (done .leaves)) (done .issues)
             (ack (stringOf "mId" j) ∷ replyMessage (done .leaves) t id j ∷ []) (done .closed) (done .hint)
+
+        responded : Effect
+        responded = handing (done .commands) (done .leaves) (done .issues) (includedMessage (done .leaves) t j ∷ []) (done .closed) (done .hint)
 
         acked-only : Effect
         acked-only = handing (done .commands) (done .leaves) (done .issues) (ack (stringOf "mId" j) ∷ []) (done .closed) (done .hint)

@@ -11,10 +11,10 @@ use Rattle.machine.specs.State.{Alarm, alarmOf, Subscription, issuedFor, Sent, 
 use Rattle.machine.specs.State.Event.{Issue}
 use Rattle.machine.specs.State.Content.{ofAlarm, ofAggregated}
 use Rattle.machine.specs.State.Act.{connect, disconnect, packet, alarmInput, statusValue, aggregatedValue, tick, pump}
-use Rattle.machine.specs.Json.{readPacket, stringOf, entriesOf, elementIs, isType}
+use Rattle.machine.specs.Json.{readPacket, stringOf, entriesOf, elementIs, isType, asksFor}
 use Rattle.machine.specs.Life.{unsent, close, closeAll, awaitedBy, Due, due}
 use Rattle.machine.specs.Pool.{marked, isFor}
-use Rattle.machine.specs.Answers.{isAnswer, alarmAsked, statusAsked, wantsReply, reasonOf, failsCheck}
+use Rattle.machine.specs.Answers.{isAnswer, alarmAsked, statusAsked, wantsReply, repliesAtOnce, reasonOf, failsCheck}
 use Rattle.machine.specs.Items.{withInput, ordered, isSilent, told, isOf, statusFor, update, numberAsked, upwards, isTime, isNew, happens, subscribe, unsubscribe, intervals, becomes, commands, aggregates}
 use Rattle.machine.specs.Effects.{connects, closes, late, ticks, ownIdentity, sentAs, carried, markSent, sends, answerCloses, settle, answers, answered, refuses, carriedOut, replying, receives, effectOf}
 use Rattle.machine.specs.Step.{conditions}
@@ -149,14 +149,15 @@ module _ (t : ℕ) (timely : t ≤ lastTime) where
         (λ e. picked Lays (isType "Alarm" j) _ _ (λ e. lays-happens _ (alarm-there m j (alarm-known m l j unrefused e)) _ (order-time j (alarmAt m (orElse 0 (alarmAsked m j)))))
         (λ e. picked Lays (isType "StatusSubscribe" j) _ _ (λ e. lays-subscribe l j (statuses-known m l j unrefused e))
         (λ e. picked Lays (isType "StatusUnsubscribe" j) _ _ (λ e. silent (sane-subscriptions s _))
-        (λ e. picked Lays (isType "CommandRequest" j) _ _ (λ e. record { sane = s; issues = no-more }) (λ e. silent s))))))
+        (λ e. picked Lays (asksFor "CommandRequest" j) _ _ (λ e. record { sane = s; issues = no-more }) (λ e. silent s))))))
 
     lays-replying : (l : ℕ) (id : Bytes) (j : Json) (e : Effect) → Lays e → Lays (replying l t id j e)
     unfolding replying
     lays-replying l id j e h =
-        picked Lays (wantsReply (e .leaves) l j) _ _
+        picked Lays (repliesAtOnce j) _ _ (λ o. record { sane = h .sane; issues = h .issues })
+        (λ o. picked Lays (wantsReply (e .leaves) l j) _ _
         (λ w. record { sane = sane-life (h .sane) l _; issues = h .issues })
-        (λ w. record { sane = h .sane; issues = h .issues })
+        (λ w. record { sane = h .sane; issues = h .issues }))
 
     lays-received : (l : ℕ) (id : Bytes) (j : Json) → Lays (receives l t id m j)
     unfolding receives

@@ -9,12 +9,12 @@ use Rattle.write_message.specs.Message.Message.{ack, notAck}
 use Rattle.machine.specs.Words.{Bytes, isNumber, firstThat}
 use Rattle.machine.specs.State.{Setup, Content, Alarm, Held, Machine, lifeAt, Effect}
 use Rattle.machine.specs.State.Content.{ofAlarm, ofStatus, ofAggregated}
-use Rattle.machine.specs.Json.{stringOf, isType, elementIs}
+use Rattle.machine.specs.Json.{stringOf, isType, isIncluded, asksFor, elementIs}
 use Rattle.machine.specs.Life.{isGreeting, isBeating, isUp, isPrimary, oldestUnsent, passLength, Due, dueUp, due}
 use Rattle.machine.specs.Life.Due.{theVersion, theWatchdog, theAggregated, theAlarm, theHeld}
-use Rattle.machine.specs.Answers.{isAnswer, wantsReply, reasonOf, failsCheck}
+use Rattle.machine.specs.Answers.{isAnswer, wantsReply, repliesAtOnce, reasonOf, failsCheck}
 use Rattle.machine.specs.Items.{happens, subscribe, unsubscribe, commands}
-use Rattle.machine.specs.Messages.{recordMessage}
+use Rattle.machine.specs.Messages.{recordMessage, includedMessage}
 use Rattle.machine.specs.Effects.{closes, dueMessage, refuses, carriedOut, replyMessage, replying, receives}
 use Rattle.demand_held.proofs.Lists.{maybe-cases, Each}
 use Rattle.demand_held.proofs.Lists.Each.{no-more, one-more}
@@ -112,12 +112,19 @@ two w a v (later first) u = refl
 alarm-replying : (l t : ℕ) (id : Bytes) (j : Json) (e : Effect) (w : Message) → ToPrimary (e .leaves) l w (replying l t id j e)
 unfolding replying
 alarm-replying l t id j e w =
-    picked (ToPrimary (e .leaves) l w) (wantsReply (e .leaves) l j) _ _
+    picked (ToPrimary (e .leaves) l w) (repliesAtOnce j) _ _ (λ o a u. absurd (no-alarm _ w responses a u))
+    (λ o. picked (ToPrimary (e .leaves) l w) (wantsReply (e .leaves) l j) _ _
     (λ h a u. asks-alarm (e .leaves) l j (reply-alarm (e .leaves) t id j (rw (two w (stringOf "mId" j) (replyMessage (e .leaves) t id j) a u) at u)) h)
-    (λ h a u. absurd (only-ack w _ a u))
+    (λ h a u. absurd (only-ack w _ a u)))
   where
     only-ack : (w : Message) (a : Bytes) → Among w (ack a ∷ []) → isAlarm w ≡ true → ⊥
     only-ack w a first u = not-both u refl
+
+    responses : isAlarm (includedMessage (e .leaves) t j) ≡ false
+    responses = picked (λ (v : Message). isAlarm v ≡ false) (isIncluded "CommandRequest" j) _ _ (λ c. refl) (λ c. refl)
+
+    no-alarm : (v w : Message) → isAlarm v ≡ false → Among w (v ∷ []) → isAlarm w ≡ true → ⊥
+    no-alarm v w f first u = not-both u f
 
 alarm-refuses : (l : ℕ) (j : Json) (m : Machine) (reason : String) (w : Message) → ToPrimary m l w (refuses l j m reason)
 unfolding refuses closes
@@ -144,7 +151,7 @@ carried-out-setup l t j m =
     (λ e. picked (SameSetup m) (isType "Alarm" j) _ _ (λ e. happens-setup m _ _)
     (λ e. picked (SameSetup m) (isType "StatusSubscribe" j) _ _ (λ e. refl)
     (λ e. picked (SameSetup m) (isType "StatusUnsubscribe" j) _ _ (λ e. refl)
-    (λ e. picked (SameSetup m) (isType "CommandRequest" j) _ _ (λ e. refl) (λ e. refl))))))
+    (λ e. picked (SameSetup m) (asksFor "CommandRequest" j) _ _ (λ e. refl) (λ e. refl))))))
 
 pub alarm-received : (l t : ℕ) (id : Bytes) (m : Machine) (j : Json) (w : Message) → ToPrimary m l w (receives l t id m j)
 unfolding receives

@@ -9,22 +9,23 @@ use Rattle.json_value.specs.Grammar.{Json}
 use Rattle.write_message.specs.declared.Value.the-variants.{Recent, Undefined}
 use Rattle.write_message.specs.Message.{Message}
 use Rattle.write_message.specs.Message.Message.{ack, notAck}
-use Rattle.write_laws.specs.Formed.{FormedValue, FormedStatuses, Formed}
+use Rattle.write_laws.specs.Formed.{FormedValue, FormedStatuses, Formed, Label, Received}
+use Rattle.write_laws.specs.Formed.Answering.{a-status, a-command}
 use Rattle.write_laws.specs.Formed.FormedValue.{recent, undefined}
 use Rattle.write_laws.specs.Formed.FormedStatuses.{none as no-status, more as one-status}
-use Rattle.write_laws.specs.Formed.Formed.{formed-ack, formed-notAck, formed-statuses}
+use Rattle.write_laws.specs.Formed.Formed.{formed-ack, formed-notAck, formed-statuses, formed-included}
 use Rattle.machine.specs.Words.{Bytes, maybe, isSome, orElse, any, placeOf, Case, firstOf}
 use Rattle.machine.specs.State.{Alarm, Life, Machine, lifeAt, alarmAt, valueAt, Effect}
-use Rattle.machine.specs.Json.{stringOf, isType}
+use Rattle.machine.specs.Json.{stringOf, isType, isIncluded, asksFor}
 use Rattle.machine.specs.Life.{isOlder}
-use Rattle.machine.specs.Answers.{isAnswer, isReadable, isIgnored, asked, commanded, needs, isMissing, isBad, componentAsked, alarmAsked, valueAsked, wantsReply, reasons, reasonOf, failsCheck}
+use Rattle.machine.specs.Answers.{isAnswer, isReadable, isIgnored, asked, commanded, needs, isMissing, isBad, componentAsked, alarmAsked, valueAsked, wantsReply, repliesAtOnce, reasons, reasonOf, failsCheck}
 use Rattle.machine.specs.Items.{numberAsked, happens, subscribe, unsubscribe, commands}
-use Rattle.machine.specs.Messages.{valueOf, answerEntry, responseMessage, commandEntry, commandMessage}
+use Rattle.machine.specs.Messages.{valueOf, answerEntry, answerEntries, responseMessage, commandEntry, commandEntries, commandMessage, includedMessage}
 use Rattle.machine.specs.Effects.{closes, refusal, refuses, carriedOut, replyMessage, replying, receives}
 use Rattle.demand_held.proofs.Lists.{maybe-cases, Each}
 use Rattle.demand_held.proofs.Lists.Each.{no-more, one-more}
 use Rattle.demand_told.proofs.Written.{quiet-answered}
-use Rattle.demand_told.proofs.Replies.{none-at, nobody}
+use Rattle.demand_told.proofs.Replies.{none-at, nobody, asks-old, asks-new, at-once}
 use Rattle.demand_told.proofs.Tests.{no-not, neither}
 use Rattle.demand_told.proofs.Sane.{Sane, alarm-time, value-formed}
 use Rattle.demand_told.proofs.Lays.{lays-carried-out}
@@ -66,10 +67,11 @@ module _ (older : Bool) (j : Json) (complete : any (isMissing j) (needs older j)
       let p = status-entry x w in
       one-status (record { code = record { label = p .0 }; name = record { label = p .1 }; value = status-formed x }) (statuses-formed r)
 
-  response-formed : isType "StatusRequest" j ≡ true → (t : ℕ) (id : Bytes) → SixteenBytes id → t ≤ lastTime → Formed (responseMessage m t id j)
-  response-formed typed t id sixteen timely =
-      formed-statuses sixteen (record { label = component-label older "sS" asked j (status-needs older j typed) complete good }) timely
-      (statuses-formed (whole-entries older "sS" asked j (status-needs older j typed) complete good))
+  about-statuses : asksFor "StatusRequest" j ≡ true → Label (stringOf "cId" j) × FormedStatuses (answerEntries m j)
+  about-statuses typed = (
+    record { label = component-label older "sS" asked j (status-needs older j typed) complete good },
+    statuses-formed (whole-entries older "sS" asked j (status-needs older j typed) complete good),
+  )
 
   order-formed : (e : Json) → FormedValue (maybe Undefined (λ (c : ℕ). Recent (valueAsked e)) (componentAsked m j))
   order-formed e = maybe-cases FormedValue Undefined (λ (c : ℕ). Recent (valueAsked e)) (componentAsked m j) (λ f. undefined) (λ c f. recent (value-signed e))
@@ -80,10 +82,24 @@ module _ (older : Bool) (j : Json) (complete : any (isMissing j) (needs older j)
       let p = command-entry x w .0 in
       one-status (record { code = record { label = p .0 }; name = record { label = p .1 }; value = order-formed x }) (orders-formed r)
 
-  commands-formed : isType "CommandRequest" j ≡ true → (t : ℕ) (id : Bytes) → SixteenBytes id → t ≤ lastTime → Formed (commandMessage m t id j)
-  commands-formed typed t id sixteen timely =
-      formed-statuses sixteen (record { label = component-label older "arg" commanded j (command-needs older j typed) complete good }) timely
-      (orders-formed (whole-entries older "arg" commanded j (command-needs older j typed) complete good))
+  about-commands : asksFor "CommandRequest" j ≡ true → Label (stringOf "cId" j) × FormedStatuses (commandEntries m j)
+  about-commands typed = (
+    record { label = component-label older "arg" commanded j (command-needs older j typed) complete good },
+    orders-formed (whole-entries older "arg" commanded j (command-needs older j typed) complete good),
+  )
+
+  module _ (t : ℕ) (timely : t ≤ lastTime) where
+    response-formed : isType "StatusRequest" j ≡ true → (id : Bytes) → SixteenBytes id → Formed (responseMessage m t id j)
+    response-formed typed id sixteen = let x = about-statuses (asks-old "StatusRequest" j typed) in formed-statuses sixteen (x .0) timely (x .1)
+
+    commands-formed : isType "CommandRequest" j ≡ true → (id : Bytes) → SixteenBytes id → Formed (commandMessage m t id j)
+    commands-formed typed id sixteen = let x = about-commands (asks-old "CommandRequest" j typed) in formed-statuses sixteen (x .0) timely (x .1)
+
+    included-formed : repliesAtOnce j ≡ true → Received (stringOf "mId" j) → Formed (includedMessage m t j)
+    included-formed o r =
+        picked Formed (isIncluded "CommandRequest" j) _ _
+        (λ c. let x = about-commands (asks-new "CommandRequest" j c) in formed-included a-command r (x .0) timely (x .1))
+        (λ c. let x = about-statuses (asks-new "StatusRequest" j (at-once j o (λ s. s) (λ d. not-both d c))) in formed-included a-status r (x .0) timely (x .1))
 
 -- ---- a reply
 abbrev SameSetup : Machine → Effect → Type 0
@@ -102,7 +118,7 @@ same-carried-out l t j m =
     (λ e. picked (SameSetup m) (isType "Alarm" j) _ _ (λ e. same-happens m _ _)
     (λ e. picked (SameSetup m) (isType "StatusSubscribe" j) _ _ (λ e. refl)
     (λ e. picked (SameSetup m) (isType "StatusUnsubscribe" j) _ _ (λ e. refl)
-    (λ e. picked (SameSetup m) (isType "CommandRequest" j) _ _ (λ e. refl) (λ e. refl))))))
+    (λ e. picked (SameSetup m) (asksFor "CommandRequest" j) _ _ (λ e. refl) (λ e. refl))))))
 
 asks-status : (m : Machine) (l : ℕ) (j : Json) → wantsReply m l j ≡ true → isType "Alarm" j ≡ false → isType "AggregatedStatusRequest" j ≡ false → isType "CommandRequest" j ≡ false
     → isType "StatusRequest" j ≡ true
@@ -140,8 +156,11 @@ module _ (m : Machine) (s : Sane m) (l t : ℕ) (timely : t ≤ lastTime) (id : 
       (λ e. picked Formed (isType "AggregatedStatusRequest" j) _ _
       (λ f. aggregated-formed (Then .setup .table) (then-sane .table) id sixteen (Then .aggregated) (Then .aggregatedTime) (then-sane .aggregated) (then-sane .aggregated-time))
       (λ f. picked Formed (isType "CommandRequest" j) _ _
-      (λ g. commands-formed (isOlder (lifeAt m l)) j complete good Then then-sane g t id sixteen timely)
-      (λ g. response-formed (isOlder (lifeAt m l)) j complete good Then then-sane (asks-status Then l j w e f g) t id sixteen timely)))
+      (λ g. commands-formed (isOlder (lifeAt m l)) j complete good Then then-sane t timely g id sixteen)
+      (λ g. response-formed (isOlder (lifeAt m l)) j complete good Then then-sane t timely (asks-status Then l j w e f g) id sixteen)))
+
+  response-formed-at-once : repliesAtOnce j ≡ true → Received (stringOf "mId" j) → Formed (includedMessage Then t j)
+  response-formed-at-once = included-formed (isOlder (lifeAt m l)) j complete good Then then-sane t timely
 
 -- ---- all that a packet call writes
 abbrev pub EachFormed : Effect → Type 0
@@ -176,12 +195,14 @@ module _ (m : Machine) (s : Sane m) (l t : ℕ) (timely : t ≤ lastTime) (id : 
   replying-formed : isAnswer j ≡ false → reasonOf m l j ≡ none → EachFormed (replying l t id j (carriedOut l t j m))
   unfolding replying
   replying-formed other unrefused =
-      picked EachFormed (wantsReply (carriedOut l t j m .leaves) l j) _ _
-      (λ w. two-formed (ack (stringOf "mId" j)) (replyMessage (carriedOut l t j m .leaves) t id j) written (reply-formed m s l t timely id sixteen j unrefused w))
-      (λ w. one-formed (ack (stringOf "mId" j)) written)
+      picked EachFormed (repliesAtOnce j) _ _
+      (λ o. one-formed (includedMessage (carriedOut l t j m .leaves) t j) (response-formed-at-once m s l t timely id sixteen j unrefused o mId))
+      (λ o. picked EachFormed (wantsReply (carriedOut l t j m .leaves) l j) _ _
+      (λ w. two-formed (ack (stringOf "mId" j)) (replyMessage (carriedOut l t j m .leaves) t id j) (formed-ack mId) (reply-formed m s l t timely id sixteen j unrefused w))
+      (λ w. one-formed (ack (stringOf "mId" j)) (formed-ack mId)))
     where
-      written : Formed (ack (stringOf "mId" j))
-      written = formed-ack (received-id j (readable (lifeAt m l) j other heard))
+      mId : Received (stringOf "mId" j)
+      mId = received-id j (readable (lifeAt m l) j other heard)
 
   pub received-formed : EachFormed (receives l t id m j)
   unfolding receives

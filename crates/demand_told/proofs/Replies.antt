@@ -1,15 +1,15 @@
 -- A reply is written in Up alone: in Greeting its packet is ignored, in Beating it is "Not ready".
 -- Assumes nothing.
-use Rattle.basis.proofs.Std.{ℕ, _≤_, String, _≡_, refl, Bool, true, false, not, List, [], _∷_, Option, some, none, length, arith, pick, both, sameBytes, Among, text, picked, same-true, not-both}
+use Rattle.basis.proofs.Std.{ℕ, _≤_, String, _≡_, refl, Bool, true, false, not, List, [], _∷_, _++_, Option, some, none, length, arith, pick, both, sameBytes, Among, text, picked, same-true, not-both}
 use Rattle.basis.specs.Lists.Among.{first, later}
 use Rattle.json_value.specs.Grammar.{Json}
 use Rattle.write_message.specs.Message.{Message}
 use Rattle.write_message.specs.Message.Message.{ack, notAck}
-use Rattle.machine.specs.Words.{Bytes, maybe, reads, Case, firstOf}
+use Rattle.machine.specs.Words.{Bytes, maybe, Case, firstOf}
 use Rattle.machine.specs.State.{Life, Machine, lifeAt, Effect}
-use Rattle.machine.specs.Json.{stringAt, isType}
+use Rattle.machine.specs.Json.{stringAt, isType, isIncluded, asksFor}
 use Rattle.machine.specs.Life.{isOver, isDown, isGreeting, isBeating, isUp}
-use Rattle.machine.specs.Answers.{isAnswer, isReadable, isIgnored, wantsReply, reasons, reasonOf, failsCheck}
+use Rattle.machine.specs.Answers.{isAnswer, isReadable, isIgnored, wantsReply, repliesAtOnce, reasons, reasonOf, failsCheck}
 use Rattle.machine.specs.Effects.{closes, refuses, carriedOut, replying, receives}
 use Rattle.demand_held.proofs.Lists.{maybe-cases}
 use Rattle.demand_told.specs.Demand.{isTold}
@@ -32,12 +32,57 @@ none-at (k ∷ ks) e first = first-no (k .applies) (k .gives) (firstOf ks) e .0
 none-at (x ∷ ks) e (later a) = none-at ks (first-no (x .applies) (x .gives) (firstOf ks) e .1) a
 
 -- ---- a packet has one type
-pub one-type : (a b : String) → sameBytes (text a) (text b) ≡ false → (j : Json) → isType a j ≡ true → isType b j ≡ false
-one-type a b other j e = go (stringAt "type" j) e
+abbrev typeIs : Bytes → Json → Bool
+typeIs s j = maybe false (λ (x : Bytes). sameBytes x s) (stringAt "type" j)
+
+no-other : (s u : Bytes) → sameBytes s u ≡ false → (j : Json) → typeIs s j ≡ true → typeIs u j ≡ false
+no-other s u other j e = go (stringAt "type" j) e
   where
-    go : (o : Option Bytes) → maybe false (reads a) o ≡ true → maybe false (reads b) o ≡ false
+    go : (o : Option Bytes) → maybe false (λ (x : Bytes). sameBytes x s) o ≡ true → maybe false (λ (x : Bytes). sameBytes x u) o ≡ false
     go none f = refl
-    go (some s) f = rw (same-true s (text a) f) other
+    go (some x) f = rw (same-true x s f) other
+
+pub one-type : (a b : String) → sameBytes (text a) (text b) ≡ false → (j : Json) → isType a j ≡ true → isType b j ≡ false
+one-type a b other j e = no-other (text a) (text b) other j e
+
+abbrev pub withAck : String → Bytes
+withAck a = text a ++ text "AckIncluded"
+
+pub not-included : (a b : String) → sameBytes (text a) (withAck b) ≡ false → (j : Json) → isType a j ≡ true → isIncluded b j ≡ false
+not-included a b other j e = no-other (text a) (withAck b) other j e
+
+pub included-only : (a b : String) → sameBytes (withAck a) (text b) ≡ false → (j : Json) → isIncluded a j ≡ true → isType b j ≡ false
+included-only a b other j e = no-other (withAck a) (text b) other j e
+
+-- .. and so has one that is of either form
+pub asks-old : (a : String) (j : Json) → isType a j ≡ true → asksFor a j ≡ true
+asks-old a j e = rw e
+
+pub asks-new : (a : String) (j : Json) → isIncluded a j ≡ true → asksFor a j ≡ true
+asks-new a j e = picked (λ (b : Bool). b ≡ true) (isType a j) true (isIncluded a j) (λ f. refl) (λ f. e)
+
+either : {P : Type 0} (a b : Bool) → pick a true b ≡ true → (a ≡ true → P) → (b ≡ true → P) → P
+either true b e f g = f refl
+either false b e f g = g e
+
+pub either-form : {P : Type 0} (a : String) (j : Json) → asksFor a j ≡ true → (isType a j ≡ true → P) → (isIncluded a j ≡ true → P) → P
+either-form a j e f g = either (isType a j) (isIncluded a j) e f g
+
+pub asks-only : (a b : String) → sameBytes (text a) (text b) ≡ false → sameBytes (withAck a) (text b) ≡ false → (j : Json) → asksFor a j ≡ true → isType b j ≡ false
+asks-only a b x y j e = either-form a j e (one-type a b x j) (included-only a b y j)
+
+pub asks-nothing-else : (a b : String) → sameBytes (text a) (withAck b) ≡ false → sameBytes (withAck a) (withAck b) ≡ false → (j : Json) → asksFor a j ≡ true → isIncluded b j ≡ false
+asks-nothing-else a b x y j e = either-form a j e (not-included a b x j) (no-other (withAck a) (withAck b) y j)
+
+-- one whose response is its answer is of no other type
+pub at-once : {P : Type 0} (j : Json) → repliesAtOnce j ≡ true → (isIncluded "StatusRequest" j ≡ true → P) → (isIncluded "CommandRequest" j ≡ true → P) → P
+at-once j e f g = either (isIncluded "StatusRequest" j) (isIncluded "CommandRequest" j) e f g
+
+pub at-once-only : (b : String) → sameBytes (withAck "StatusRequest") (text b) ≡ false → sameBytes (withAck "CommandRequest") (text b) ≡ false → (j : Json) → repliesAtOnce j ≡ true → isType b j ≡ false
+at-once-only b x y j e = at-once j e (included-only "StatusRequest" b x j) (included-only "CommandRequest" b y j)
+
+pub not-at-once : (a : String) → sameBytes (text a) (withAck "StatusRequest") ≡ false → sameBytes (text a) (withAck "CommandRequest") ≡ false → (j : Json) → isType a j ≡ true → repliesAtOnce j ≡ false
+not-at-once a x y j e = rw (not-included a "StatusRequest" x j e, not-included a "CommandRequest" y j e)
 
 abbrev pub NoGreeting : Json → Type 0
 NoGreeting j = (isType "Version" j ≡ false) × (isType "Watchdog" j ≡ false)
@@ -69,9 +114,11 @@ Telling w e P = Among w (e .messages) → isTold w ≡ true → P
 tells-replying : (l t : ℕ) (id : Bytes) (j : Json) (e : Effect) (w : Message) → Telling w (replying l t id j e) (NoGreeting j)
 unfolding replying
 tells-replying l t id j e w =
-    picked (λ (x : Effect). Telling w x (NoGreeting j)) (wantsReply (e .leaves) l j) _ _
+    picked (λ (x : Effect). Telling w x (NoGreeting j)) (repliesAtOnce j) _ _
+    (λ h a u. (at-once-only "Version" refl refl j h, at-once-only "Watchdog" refl refl j h))
+    (λ o. picked (λ (x : Effect). Telling w x (NoGreeting j)) (wantsReply (e .leaves) l j) _ _
     (λ h a u. asks (e .leaves) l j h)
-    (λ h a u. absurd (only-ack w _ a u))
+    (λ h a u. absurd (only-ack w _ a u)))
 
 tells-refuses : (l : ℕ) (j : Json) (m : Machine) (reason : String) (w : Message) → Telling w (refuses l j m reason) ⊥
 unfolding refuses closes

@@ -1,21 +1,21 @@
 -- What each call writes.
 -- Assumes nothing.
-use Rattle.basis.proofs.Std.{ℕ, String, _≡_, refl, ap, Bool, true, false, not, [], Option, some, none, arith, both, bit, picked, not-both}
+use Rattle.basis.proofs.Std.{ℕ, String, _≡_, refl, ap, Bool, true, false, not, [], _∷_, Option, some, none, arith, both, bit, picked, not-both}
 use Rattle.json_value.specs.Grammar.{Json}
 use Rattle.table_whole.specs.Table.{Table}
 use Rattle.write_message.specs.Message.{Message}
 use Rattle.machine.specs.Words.{Bytes}
 use Rattle.machine.specs.State.{Content, Awaited, Machine, lifeAt, Effect, only}
 use Rattle.machine.specs.State.Content.{ofAlarm, ofStatus, ofAggregated}
-use Rattle.machine.specs.Json.{stringOf, isType}
+use Rattle.machine.specs.Json.{stringOf, isType, isIncluded}
 use Rattle.machine.specs.Life.{isGreeting, isBeating, isUp, Due, dueUp, due, awaitedBy}
 use Rattle.machine.specs.Life.Due.{theVersion, theWatchdog, theAggregated, theAlarm, theHeld}
-use Rattle.machine.specs.Answers.{isAnswer, wantsReply, reasonOf, failsCheck}
+use Rattle.machine.specs.Answers.{isAnswer, wantsReply, repliesAtOnce, reasonOf, failsCheck}
 use Rattle.machine.specs.Messages.{recordMessage}
 use Rattle.machine.specs.Effects.{answerCloses, closes, dueMessage, answers, answered, refuses, carriedOut, replyMessage, replying, receives}
 use Rattle.demand_held.proofs.Lists.{maybe-cases}
 use Rattle.demand_told.specs.Demand.{isTold, isAnAnswer, OneAnswer}
-use Rattle.demand_told.specs.Demand.OneAnswer.{acked, not-acked}
+use Rattle.demand_told.specs.Demand.OneAnswer.{acked, not-acked, responded}
 
 -- ---- pump
 record-no-answer : (t : Table) (id : Bytes) (x : Content) → isAnAnswer (recordMessage t id x) ≡ false
@@ -66,7 +66,7 @@ quiet-answered l j m = maybe-cases Quiet (only m) _ (awaitedBy (lifeAt m l) (str
 
 -- ---- packet: any other is answered once
 abbrev Once : Json → Effect → Type 0
-Once j e = OneAnswer (stringOf "mId" j) (e .messages)
+Once j e = OneAnswer j (e .messages)
 
 once-refuses : (l : ℕ) (j : Json) (m : Machine) (reason : String) → Once j (refuses l j m reason)
 unfolding refuses closes
@@ -81,9 +81,11 @@ reply-told m t id j =
 once-replying : (l t : ℕ) (id : Bytes) (j : Json) (e : Effect) → Once j (replying l t id j e)
 unfolding replying
 once-replying l t id j e =
-    picked (Once j) (wantsReply (e .leaves) l j) _ _
-    (λ w. acked (omega (arith, ap bit (reply-told (e .leaves) t id j))))
-    (λ w. acked refl)
+    picked (Once j) (repliesAtOnce j) _ _
+    (λ o. picked (λ (w : Message). OneAnswer j (w ∷ [])) (isIncluded "CommandRequest" j) _ _ (λ c. responded o) (λ c. responded o))
+    (λ o. picked (Once j) (wantsReply (e .leaves) l j) _ _
+    (λ w. acked o (omega (arith, ap bit (reply-told (e .leaves) t id j))))
+    (λ w. acked o refl))
 
 pub once-received : (l t : ℕ) (id : Bytes) (m : Machine) (j : Json) → isAnswer j ≡ false → Once j (receives l t id m j)
 unfolding receives
