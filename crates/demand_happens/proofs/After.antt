@@ -2,15 +2,17 @@
 -- Assumes nothing.
 use Rattle.basis.proofs.Std.{ℕ, zero, suc, _≤_, _<_, String, _≡_, refl, _∙_, ap, subst, Bool, true, false, List, [], _∷_, some, none, eqb, length, getD, arith, eqb-true, pick, count, bool-cases, picked, not-both}
 use Rattle.json_value.specs.Grammar.{Json}
+use Rattle.write_message.specs.Message.{Message}
 use Rattle.write_message.specs.Message.Message.{ack, notAck}
 use Rattle.machine.specs.Words.{Bytes, keep, any, changed, upTo}
 use Rattle.machine.specs.State.{Awaited, Life, fresh, Machine, lifeAt, withLife, Act, Call, Outcome, Effect, handing, only}
 use Rattle.machine.specs.State.Act.{connect, disconnect, packet, alarmInput, statusValue, aggregatedValue, tick, pump}
 use Rattle.machine.specs.State.Outcome.{refused, done}
-use Rattle.machine.specs.Json.{readPacket, stringOf, isType}
+use Rattle.machine.specs.Json.{readPacket, stringOf, isType, isIncluded}
 use Rattle.machine.specs.Table.{lastSequence}
 use Rattle.machine.specs.Life.{answeredTo, isLate}
-use Rattle.machine.specs.Answers.{isAnswer, isIgnored, wantsReply, reasonOf, failsCheck}
+use Rattle.machine.specs.Answers.{isAnswer, isIgnored, wantsReply, repliesAtOnce, reasonOf, failsCheck}
+use Rattle.machine.specs.Messages.{includedMessage}
 use Rattle.machine.specs.Effects.{closes, ownIdentity, answerCloses, acknowledges, settle, answered, refuses, carriedOut, replying, receives, effectOf}
 use Rattle.machine.specs.Step.{numberOf, after, outcome, step}
 use Rattle.demand_held.proofs.Lists.{maybe-cases}
@@ -68,8 +70,17 @@ module _ (m : Machine) (t : ℕ) (mId because : Bytes) where
   replying-same : (k : ℕ) (id : Bytes) (j : Json) (x : Effect) → Same (replying k t id j x)
   unfolding replying
   replying-same k id j x =
-      picked Same (wantsReply (x .leaves) k j) _ _
-      (λ e f g. absurd (let z : _≡_ {A = ℕ} 0 1 = cc in omega arith)) (λ e f g. absurd (let z : _≡_ {A = ℕ} 0 1 = cc in omega arith))
+      picked Same (repliesAtOnce j) _ _ (λ o. response (x .leaves))
+      (λ o. picked Same (wantsReply (x .leaves) k j) _ _
+      (λ e f g. absurd (let z : _≡_ {A = ℕ} 0 1 = cc in omega arith)) (λ e f g. absurd (let z : _≡_ {A = ℕ} 0 1 = cc in omega arith)))
+    where
+      Responds : Message → Type 0
+      Responds w = Same (handing (x .commands) (x .leaves) (x .issues) (w ∷ []) (x .closed) (x .hint))
+
+      response : (n : Machine) → Responds (includedMessage n t j)
+      response n =
+          picked Responds (isIncluded "CommandRequest" j) _ _
+          (λ e f g. absurd (let z : _≡_ {A = ℕ} 0 1 = cc in omega arith)) (λ e f g. absurd (let z : _≡_ {A = ℕ} 0 1 = cc in omega arith))
 
   received-same : (k : ℕ) (id : Bytes) (j : Json) → Same (receives k t id m j)
   unfolding receives

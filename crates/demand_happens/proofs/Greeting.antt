@@ -25,7 +25,7 @@ use Rattle.demand_happens.specs.Greeting.Greets.{greeted, meanwhile, con
 use Rattle.demand_happens.proofs.Done.{configured-link, good-time, pump-unrefused}
 use Rattle.demand_happens.proofs.Pumped.{pump-effect}
 use Rattle.demand_happens.proofs.Sized.{run-sized}
-use Rattle.demand_happens.proofs.Limits.{run-limit}
+use Rattle.demand_told.proofs.Limits.{run-limit}
 use Rattle.demand_happens.proofs.Packets.{its-own, version-plain, version-reason, version-heard, version-carried, watchdog-plain, watchdog-reason, watchdog-heard, watchdog-carried}
 use Rattle.demand_happens.proofs.Example.{begun-example}
 use Rattle.demand_happens.proofs.Conversation.{greets-example, up-example}

@@ -6,7 +6,7 @@ use Rattle.write_message.specs.Message.Message.{ack}
 use Rattle.machine.specs.Words.{Bytes, maybe, isSome, reads, Case, firstOf}
 use Rattle.machine.specs.State.{Awaited, Exchange, Machine, lifeAt, withLife, handing, only}
 use Rattle.machine.specs.State.Act.{packet}
-use Rattle.machine.specs.Json.{shape, element, stringOf, elementIs, isType, isIdentityOf}
+use Rattle.machine.specs.Json.{shape, element, stringOf, elementIs, isType, isIncluded, isIdentityOf}
 use Rattle.machine.specs.Table.{lastSequence}
 use Rattle.machine.specs.Life.{isOver, isGreeting, isBeating, awaitedBy, answeredTo}
 use Rattle.machine.specs.Answers.{isAnswer, isIgnored, componentAsked, unknownComponent, unknownAlarm, unknownStatus, outOfRange, unknownCommand, wantsReply, isUnexpected, reasons, reasonOf}
@@ -14,7 +14,7 @@ use Rattle.machine.specs.Effects.{ownIdentity, answerCloses, acknowledges, sett
 use Rattle.machine.specs.Step.{isReplied, conditions, numberOf}
 use Rattle.demand_held.proofs.Lists.{Each}
 use Rattle.demand_held.proofs.Lists.Each.{no-more, one-more}
-use Rattle.demand_told.proofs.Replies.{one-type}
+use Rattle.demand_told.proofs.Replies.{one-type, not-included}
 use Rattle.demand_told.proofs.Checks.{has-common, site-named, sxl-equal}
 use Rattle.demand_told.specs.Greeted.{IsGoodVersion, IsTheirWatchdog}
 use Rattle.demand_happens.specs.Pumped.{at}
@@ -99,6 +99,8 @@ pub record Plain (j : Json) : Type 0 where
   pub no-subscribe : isType "StatusSubscribe" j ≡ false
   pub no-unsubscribe : isType "StatusUnsubscribe" j ≡ false
   pub no-order : isType "CommandRequest" j ≡ false
+  pub no-request-included : isIncluded "StatusRequest" j ≡ false
+  pub no-order-included : isIncluded "CommandRequest" j ≡ false
 
 plain-version : (j : Json) → isType "Version" j ≡ true → Plain j
 plain-version j e =
@@ -111,6 +113,8 @@ plain-version j e =
       no-subscribe = one-type "Version" "StatusSubscribe" refl j e;
       no-unsubscribe = one-type "Version" "StatusUnsubscribe" refl j e;
       no-order = one-type "Version" "CommandRequest" refl j e;
+      no-request-included = not-included "Version" "StatusRequest" refl j e;
+      no-order-included = not-included "Version" "CommandRequest" refl j e;
     }
 
 plain-watchdog : (j : Json) → isType "Watchdog" j ≡ true → Plain j
@@ -124,6 +128,8 @@ plain-watchdog j e =
       no-subscribe = one-type "Watchdog" "StatusSubscribe" refl j e;
       no-unsubscribe = one-type "Watchdog" "StatusUnsubscribe" refl j e;
       no-order = one-type "Watchdog" "CommandRequest" refl j e;
+      no-request-included = not-included "Watchdog" "StatusRequest" refl j e;
+      no-order-included = not-included "Watchdog" "CommandRequest" refl j e;
     }
 
 module _ (j : Json) (plain : Plain j) where
@@ -140,13 +146,13 @@ module _ (j : Json) (plain : Plain j) where
   no-alarm-number m = rw (plain .no-alarm)
 
   no-status : (m : Machine) → unknownStatus m j ≡ false
-  no-status m = rw (plain .no-request, plain .no-subscribe, plain .no-unsubscribe) (pick-same (isSome (componentAsked m j)) false)
+  no-status m = rw (plain .no-request, plain .no-request-included, plain .no-subscribe, plain .no-unsubscribe) (pick-same (isSome (componentAsked m j)) false)
 
   no-range : (m : Machine) → outOfRange m j ≡ false
-  no-range m = rw (plain .no-order)
+  no-range m = rw (plain .no-order, plain .no-order-included)
 
   no-command : (m : Machine) → unknownCommand m j ≡ false
-  no-command m = rw (plain .no-order)
+  no-command m = rw (plain .no-order, plain .no-order-included)
 
   module _ (m : Machine) (l t : ℕ) (id : Bytes) (reason : reasonOf m l j ≡ none) where
     pub plain-unreplied : isReplied m l j ≡ false
@@ -155,7 +161,7 @@ module _ (j : Json) (plain : Plain j) where
     pub plain-effect : receives l t id m j
         ≡ handing (carriedOut l t j m .commands) (carriedOut l t j m .leaves) (carriedOut l t j m .issues) (ack (stringOf "mId" j) ∷ []) (carriedOut l t j m .closed) (carriedOut l t j m .hint)
     unfolding receives replying
-    plain-effect = rw (no-answer, reason, no-reply (carriedOut l t j m .leaves) l)
+    plain-effect = rw (no-answer, reason, plain .no-request-included, plain .no-order-included, no-reply (carriedOut l t j m .leaves) l)
 
 -- ---- their Version, after ours went out
 module _ (m : Machine) (l t : ℕ) (j : Json) (formed : WellFormed j) (v : List ℕ) (good : IsGoodVersion m v j) (connected : lifeAt m l .connected ≡ true)

@@ -21,7 +21,7 @@ use Rattle.demand_told.proofs.GreetedDemand.{same-setup}
 use Rattle.demand_happens.specs.Pumped.{at, CanPump}
 use Rattle.demand_happens.specs.Records.{IsRound}
 use Rattle.demand_happens.proofs.Pumped.{sends-first-due}
-use Rattle.demand_happens.proofs.Limits.{run-limit}
+use Rattle.demand_told.proofs.Limits.{run-limit}
 use Rattle.demand_happens.proofs.Packets.{its-own}
 use Rattle.demand_happens.proofs.After.{set-at, is-there, answer-number, answer-lays}
 

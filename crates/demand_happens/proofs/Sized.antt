@@ -6,9 +6,9 @@ use Rattle.write_message.specs.Message.{Message}
 use Rattle.machine.specs.Words.{Bytes}
 use Rattle.machine.specs.State.{Alarm, Awaited, Life, fresh, Setup, Start, Machine, withLife, lifeAt, valueAt, Act, Call, Effect, only}
 use Rattle.machine.specs.State.Act.{connect, disconnect, packet, alarmInput, statusValue, aggregatedValue, tick, pump}
-use Rattle.machine.specs.Json.{readPacket, stringOf, isType}
+use Rattle.machine.specs.Json.{readPacket, stringOf, isType, asksFor}
 use Rattle.machine.specs.Life.{close, closeAll, awaitedBy, Due, due}
-use Rattle.machine.specs.Answers.{isAnswer, wantsReply, reasonOf, failsCheck}
+use Rattle.machine.specs.Answers.{isAnswer, wantsReply, repliesAtOnce, reasonOf, failsCheck}
 use Rattle.machine.specs.Items.{isNew, happens, subscribe, unsubscribe, intervals, becomes, commands, aggregates}
 use Rattle.machine.specs.Effects.{connects, closes, late, ticks, ownIdentity, sentAs, carried, markSent, sends, answerCloses, settle, answers, answered, refuses, carriedOut, replying, receives, effectOf}
 use Rattle.machine.specs.Table.Begins.{begins}
@@ -76,11 +76,12 @@ module _ (m : Machine) where
       (λ e. picked Leaves (isType "Alarm" j) _ _ (λ e. sized-happens _ _)
       (λ e. picked Leaves (isType "StatusSubscribe" j) _ _ (λ e. refl)
       (λ e. picked Leaves (isType "StatusUnsubscribe" j) _ _ (λ e. refl)
-      (λ e. picked Leaves (isType "CommandRequest" j) _ _ (λ e. refl) (λ e. refl))))))
+      (λ e. picked Leaves (asksFor "CommandRequest" j) _ _ (λ e. refl) (λ e. refl))))))
 
   sized-replying : (l t : ℕ) (id : Bytes) (j : Json) (e : Effect) → Leaves e → Leaves (replying l t id j e)
   unfolding replying
-  sized-replying l t id j e h = picked Leaves (wantsReply (e .leaves) l j) _ _ (λ w. sets l _ (e .leaves) h) (λ w. h)
+  sized-replying l t id j e h =
+      picked Leaves (repliesAtOnce j) _ _ (λ o. h) (λ o. picked Leaves (wantsReply (e .leaves) l j) _ _ (λ w. sets l _ (e .leaves) h) (λ w. h))
 
   sized-received : (l t : ℕ) (id : Bytes) (j : Json) → Leaves (receives l t id m j)
   unfolding receives

@@ -40,7 +40,7 @@ use Rattle.demand_told.specs.Typed.EachTyped.{one-more as typed-too}
 use Rattle.demand_told.proofs.Sane.{Tells, Tellable}
 use Rattle.demand_told.proofs.ReadDemand.{run-sane}
 use Rattle.demand_told.proofs.GreetedDemand.{same-setup}
-use Rattle.demand_happens.proofs.Limits.{run-limit}
+use Rattle.demand_told.proofs.Limits.{run-limit}
 use Rattle.demand_carried.specs.Carried.{Unanswered}
 use Rattle.demand_carried.specs.Carried.Unanswered.{at-once, and-then}
 use Rattle.demand_carried.proofs.Lists.{each-among}

@@ -33,7 +33,7 @@ use Rattle.demand_told.proofs.GreetedDemand.{same-setup, run-kept}
 use Rattle.demand_happens.specs.Pumped.{at}
 use Rattle.demand_happens.specs.Greeting.{Arrives, Answers, WellFormed}
 use Rattle.demand_happens.proofs.Packets.{mtype-there, not-over, packet-effect, packet-unrefused, its-own, answer-heard, answer-unreplied}
-use Rattle.demand_happens.proofs.Limits.{run-limit}
+use Rattle.demand_told.proofs.Limits.{run-limit}
 use Rattle.demand_taken.specs.Closing.{Fails, Unacknowledged, Judged, DemandClosing}
 use Rattle.demand_taken.specs.Closing.Fails.{no-version, no-site, other-sxl}
 use Rattle.demand_taken.proofs.Acked.{acked-heard}

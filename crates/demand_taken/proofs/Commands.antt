@@ -30,7 +30,7 @@ use Rattle.demand_happens.specs.Pumped.{at}
 use Rattle.demand_happens.specs.Greeting.{Arrives, WellFormed}
 use Rattle.demand_happens.proofs.Done.{configured-link, good-time, not-down}
 use Rattle.demand_happens.proofs.Packets.{first-none, mtype-there}
-use Rattle.demand_happens.proofs.Limits.{run-limit}
+use Rattle.demand_told.proofs.Limits.{run-limit}
 use Rattle.demand_taken.specs.Commands.{Asks, InTurn, For, recent, obeying, Obeyed, DemandCommands}
 use Rattle.demand_taken.specs.Commands.InTurn.{no-more as no-turn, one-more as one-turn}
 use Rattle.demand_taken.proofs.Acked.{Heard, acked-heard}

@@ -12,6 +12,8 @@ pub mod Kept
 pub mod Turns
 pub mod Goes
 pub mod GreetedDemand
+pub mod Limits
+pub mod IncludedDemand
 pub mod Sane
 pub mod Found
 pub mod Entries

@@ -15,12 +15,13 @@ use Rattle.write_message.specs.declared.Told.{Told}
 use Rattle.write_message.specs.Message.{Message, Status}
 use Rattle.write_message.specs.Message.Message.{ack, notAck, statuses, included}
 use Rattle.machine.specs.Words.{Bytes}
-use Rattle.machine.specs.State.{Command, Machine, lifeAt, Call, Outcome}
+use Rattle.machine.specs.State.{Command, Start, Machine, lifeAt, Call, Outcome}
 use Rattle.machine.specs.State.Act.{packet}
 use Rattle.machine.specs.State.Outcome.{refused, done}
 use Rattle.machine.specs.Json.{readPacket, stringOf, element, isType, isIncluded}
 use Rattle.machine.specs.Answers.{repliesAtOnce}
 use Rattle.machine.specs.Step.{step}
+use Rattle.machine.specs.Run.{Past, Run}
 
 -- a StatusRequest or a CommandRequest, and the same with AckIncluded behind its type
 pub data Named : String → Type 0 where
@@ -49,7 +50,7 @@ packetAt t l random bytes room = record { time = t; act = packet l random bytes 
 
 pub record DemandIncluded : Type 0 where
   -- one machine, link, time and random bytes, two packets that are alike but for the ending
-  pub shared : (m : Machine) (t l room : ℕ) (random bytes bytes' : Bytes) (name : String) (j j' : Json) → Named name
+  pub shared : (s : Start) (h : List Past) (m : Machine) → Run s h m → (t l room : ℕ) (random bytes bytes' : Bytes) (name : String) (j j' : Json) → Named name
       → readPacket bytes ≡ some j → readPacket bytes' ≡ some j' → AlikeBut name j j' → length bytes ≤ 4096 → length bytes' ≤ 4096
       → Shared (stringOf "mId" j) (step m (packetAt t l random bytes room) .0) (step m (packetAt t l random bytes' room) .0)
   -- what a link awaits stays as it was, on every link
