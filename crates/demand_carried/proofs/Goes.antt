@@ -10,11 +10,12 @@ use Rattle.machine.specs.Words.{Bytes, maybe, isNumber, any, butFirst, changed,
 use Rattle.machine.specs.State.{Alarm, Sent, Awaited, Life, fresh, Start, Machine, withLife, lifeAt, Act, Call, Outcome, Effect, handing, effect, only}
 use Rattle.machine.specs.State.Sent.{ourVersion, ourWatchdog, noRecord, theRecord}
 use Rattle.machine.specs.State.Act.{connect, disconnect, packet, alarmInput, statusValue, aggregatedValue, tick, pump}
-use Rattle.machine.specs.Json.{readPacket, stringOf, isType, isIdentityOf}
+use Rattle.machine.specs.Json.{readPacket, stringOf, isType, asksFor, isIdentityOf}
 use Rattle.machine.specs.Life.{isAwaited, awaitedBy, awaiting, answeredTo, Due, due}
 use Rattle.machine.specs.Life.Due.{theVersion, theWatchdog, theAggregated, theAlarm, theHeld}
-use Rattle.machine.specs.Answers.{isAnswer, wantsReply, reasonOf, failsCheck}
+use Rattle.machine.specs.Answers.{isAnswer, wantsReply, repliesAtOnce, reasonOf, failsCheck}
 use Rattle.machine.specs.Items.{happens, subscribe, unsubscribe, intervals, commands}
+use Rattle.machine.specs.Messages.{includedMessage}
 use Rattle.machine.specs.Effects.{connects, closes, late, ticks, ownIdentity, dueMessage, sentAs, afterSending, markSent, sends, answerCloses, acknowledges, settle, answers, answered, refusal, refuses, carriedOut, replyMessage, replying, receives, effectOf}
 use Rattle.machine.specs.Step.{identityAwaited, isReplied, conditions, outcome, step}
 use Rattle.machine.specs.Run.{Past, Run}
@@ -79,7 +80,7 @@ module _ (l : ℕ) (P : List Awaited → Type 0) where
         (λ e. picked Leaves (isType "Alarm" j) _ _ (λ e. happens-awaited _ _)
         (λ e. picked Leaves (isType "StatusSubscribe" j) _ _ (λ e. (p, refl))
         (λ e. picked Leaves (isType "StatusUnsubscribe" j) _ _ (λ e. (p, refl))
-        (λ e. picked Leaves (isType "CommandRequest" j) _ _ (λ e. (p, refl)) (λ e. (p, refl)))))))
+        (λ e. picked Leaves (asksFor "CommandRequest" j) _ _ (λ e. (p, refl)) (λ e. (p, refl)))))))
 
 -- ---- which calls bring no answer
 module _ (l : ℕ) (p : Past) where
@@ -196,6 +197,9 @@ module _ (s : Start) (h : List Past) (m : Machine) (run : Run s h m) (t l : ℕ)
               handing (out .commands) (withLife l (awaiting id t noRecord (lifeAt (out .leaves) l)) (out .leaves)) (out .issues)
               (ack (stringOf "mId" j) ∷ replyMessage (out .leaves) t id j ∷ []) (out .closed) (out .hint)
 
+          abbrev responded : Effect
+          responded = handing (out .commands) (out .leaves) (out .issues) (includedMessage (out .leaves) t j ∷ []) (out .closed) (out .hint)
+
           abbrev acked-only : Effect
           acked-only = handing (out .commands) (out .leaves) (out .issues) (ack (stringOf "mId" j) ∷ []) (out .closed) (out .hint)
 
@@ -215,12 +219,13 @@ module _ (s : Start) (h : List Past) (m : Machine) (run : Run s h m) (t l : ℕ)
           goes-replying : Goes this (replying l t id j out)
           unfolding replying
           goes-replying =
-              picked (Goes this) (wantsReply (out .leaves) l j) _ _
+              picked (Goes this) (repliesAtOnce j) _ _ (λ o. kept-by (pastOf this responded) (keeps responded unclosed))
+              (λ o. picked (Goes this) (wantsReply (out .leaves) l j) _ _
               (λ w. sets l (Backed s l (pastOf this replied ∷ h)) (awaiting id t noRecord (lifeAt (out .leaves) l)) (out .leaves .lives)
               (more s l (kept-by (pastOf this replied) (keeps replied unclosed)) (record { identity = id; time = t; message = noRecord })
               (λ n c. absurd (let z : _≡_ {A = ℕ} 0 1 = cc in omega arith)) sixteen (unawaited w))
               (none-backed s l (pastOf this replied ∷ h)))
-              (λ w. kept-by (pastOf this acked-only) (keeps acked-only unclosed))
+              (λ w. kept-by (pastOf this acked-only) (keeps acked-only unclosed)))
 
       goes-received : (id : Bytes) → SixteenBytes id → (isReplied m l j ≡ true → isAwaited (lifeAt m l) id ≡ false) → Goes this (receives l t id m j)
       unfolding receives

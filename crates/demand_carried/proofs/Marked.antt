@@ -10,10 +10,10 @@ use Rattle.machine.specs.State.{Alarm, issuedFor, Sent, Awaited, Life, fresh, S
 use Rattle.machine.specs.State.Sent.{ourVersion, ourWatchdog, noRecord, theRecord}
 use Rattle.machine.specs.State.Act.{connect, disconnect, packet, alarmInput, statusValue, aggregatedValue, tick, pump}
 use Rattle.machine.specs.Table.Begins.{begins}
-use Rattle.machine.specs.Json.{readPacket, stringOf, isType, isIdentityOf}
+use Rattle.machine.specs.Json.{readPacket, stringOf, isType, asksFor, isIdentityOf}
 use Rattle.machine.specs.Life.{close, closeAll, awaitedBy, awaiting, answeredTo, Due, due}
 use Rattle.machine.specs.Life.Due.{theVersion, theWatchdog, theAggregated, theAlarm, theHeld}
-use Rattle.machine.specs.Answers.{isAnswer, wantsReply, reasonOf, failsCheck}
+use Rattle.machine.specs.Answers.{isAnswer, wantsReply, repliesAtOnce, reasonOf, failsCheck}
 use Rattle.machine.specs.Items.{isNew, happens, subscribe, unsubscribe, intervals, becomes, commands, aggregates}
 use Rattle.machine.specs.Pool.{settled, marked}
 use Rattle.machine.specs.Effects.{connects, closes, late, ticks, ownIdentity, dueMessage, sentAs, carried, afterSending, sends, answerCloses, acknowledges, answers, answered, refuses, carriedOut, replying, receives, effectOf}
@@ -165,14 +165,15 @@ module _ (m : Machine) (a : Marked m) where
         (λ e. picked On (isType "Alarm" j) _ _ (λ e. on-happens _ _)
         (λ e. picked On (isType "StatusSubscribe" j) _ _ (λ e. a)
         (λ e. picked On (isType "StatusUnsubscribe" j) _ _ (λ e. a)
-        (λ e. picked On (isType "CommandRequest" j) _ _ (λ e. a) (λ e. a))))))
+        (λ e. picked On (asksFor "CommandRequest" j) _ _ (λ e. a) (λ e. a))))))
 
     on-replying : (e : Effect) → On e → On (replying l t id j e)
     unfolding replying
     on-replying e b =
-        picked On (wantsReply (e .leaves) l j) _ _
+        picked On (repliesAtOnce j) _ _ (λ f. b)
+        (λ f. picked On (wantsReply (e .leaves) l j) _ _
         (λ f. marks-life b l _ refl (λ n w. awaits-old (lifeAt (e .leaves) l .awaited) _ refl w) (λ n w. awaits-more _ w))
-        (λ f. b)
+        (λ f. b))
 
     on-received : On (receives l t id m j)
     unfolding receives
