@@ -27,9 +27,9 @@ use Rattle.demand_happens.proofs.Pumped.{pumping}
 use Rattle.demand_taken.specs.Beats.{LastBeat, DemandBeats}
 use Rattle.demand_taken.specs.Beats.LastBeat.{just-now, before}
 use Rattle.demand_taken.proofs.Moves.{Turned}
-use Rattle.demand_taken.proofs.Moves.Turned.{sent, answered-by, turned-down, accepted, beaten, taken, replied}
+use Rattle.demand_taken.proofs.Moves.Turned.{sent, answered-by, turned-down, accepted, beaten, taken, replied, responded}
 use Rattle.demand_taken.proofs.Lived.{Elsewhere, Goes, by-life}
-use Rattle.demand_taken.proofs.Said.{one-kind, watchdog-kind, Silent, silent-none, silent-one, silent-two, record-kind, reply-kind, no-watchdog-in, wrote-elsewhere}
+use Rattle.demand_taken.proofs.Said.{one-kind, watchdog-kind, Silent, silent-none, silent-one, silent-two, record-kind, reply-kind, response-kind, no-watchdog-in, wrote-elsewhere}
 
 -- ---- the last Watchdog of a life
 never : {l time : ℕ} {life : List Past} → LastBeat l time life → life ≡ [] → ⊥
@@ -94,6 +94,7 @@ module _ (l : ℕ) where
     turns act ms x (beaten read e) is gave q = quietly gave (silent-one _ refl) x refl q
     turns act ms x (taken read e) is gave q = quietly gave (silent-one _ refl) x refl q
     turns act ms x (replied {random} {j = j} n read e up) is gave q = quietly gave (silent-two _ _ refl (reply-kind n (p .call .time) (ownIdentity random) j)) x refl q
+    turns act ms x (responded {j = j} n read e) is gave q = quietly gave (silent-one _ (response-kind n (p .call .time) j)) x refl q
 
   goes : (s : Start) (h : List Past) (m : Machine) (p : Past) (x : Life) → Goes s l h m p x → Beat (lifeAt m l) (thisLife l h) → Beat x (goingOn p (thisLife l h))
   goes s h m p x g holds time b = turns m p (thisLife l h) holds time (p .call .act) (messagesOf (p .gave)) x (g .turned) refl refl (latest-of p (thisLife l h) b)

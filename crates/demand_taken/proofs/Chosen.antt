@@ -26,7 +26,7 @@ use Rattle.demand_told.proofs.Checks.{one-chosen}
 use Rattle.demand_told.proofs.Goes.{checked}
 use Rattle.demand_taken.proofs.Acked.{not-acked}
 use Rattle.demand_taken.proofs.Moves.{Turned}
-use Rattle.demand_taken.proofs.Moves.Turned.{sent, answered-by, turned-down, accepted, beaten, taken, replied}
+use Rattle.demand_taken.proofs.Moves.Turned.{sent, answered-by, turned-down, accepted, beaten, taken, replied, responded}
 use Rattle.demand_taken.proofs.Lived.{Elsewhere, Goes, by-life}
 use Rattle.demand_taken.proofs.Said.{came-elsewhere, its-value, no-packet, nothing-within, within-cases, first-within}
 
@@ -105,6 +105,7 @@ module _ (u : Machine) (l : ℕ) where
     turns act ms x (beaten {random} {bytes} {room} {j} read no-version) is gave q = other room random bytes j is read no-version q
     turns act ms x (taken {random} {bytes} {room} {j} read no-version) is gave q = other room random bytes j is read no-version q
     turns act ms x (replied {random} {bytes} {room} {j} n read no-version up) is gave q = other room random bytes j is read no-version q
+    turns act ms x (responded {random} {bytes} {room} {j} n read no-version) is gave q = other room random bytes j is read no-version q
 
   goes : (s : Start) (h : List Past) (m : Machine) (p : Past) (x : Life) → Goes s l h m p x → Chooses (lifeAt m l) (thisLife l h) → Chooses x (goingOn p (thisLife l h))
   goes s h m p x g holds v w = turns m p (thisLife l h) holds v (p .call .act) (messagesOf (p .gave)) x (g .turned) refl refl (within-cases p (thisLife l h) w)

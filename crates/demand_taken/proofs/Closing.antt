@@ -9,7 +9,7 @@ use Rattle.machine.specs.State.{Awaited, Start, Machine, lifeAt, Act, Effect}
 use Rattle.machine.specs.State.Sent.{ourVersion, ourWatchdog}
 use Rattle.machine.specs.State.Act.{packet}
 use Rattle.machine.specs.State.Outcome.{done}
-use Rattle.machine.specs.Json.{stringOf, isType}
+use Rattle.machine.specs.Json.{stringOf, isType, asksFor}
 use Rattle.machine.specs.Table.{lastSequence}
 use Rattle.machine.specs.Life.{isGreeting, isBeating, common, namesSite, equalSxl, awaitedBy}
 use Rattle.machine.specs.Readings.{reading}
@@ -26,7 +26,7 @@ use Rattle.demand_told.specs.Life.{thisLife}
 use Rattle.demand_told.specs.Greeted.{Within, Came, IsVersion, IsWatchdog, Wrote, Acknowledged, Answered, Ours, Theirs, NamesSite, IsGoodVersion}
 use Rattle.demand_told.specs.Greeted.Came.{came}
 use Rattle.demand_told.proofs.Tests.{no-not}
-use Rattle.demand_told.proofs.Replies.{one-type}
+use Rattle.demand_told.proofs.Replies.{one-type, not-included}
 use Rattle.demand_told.proofs.Checks.{chosen, has-common, site-named, names-site}
 use Rattle.demand_told.proofs.Goes.{checked}
 use Rattle.demand_told.proofs.GreetedDemand.{same-setup, run-kept}
@@ -123,8 +123,8 @@ module _ (m : Machine) (l t room : ℕ) (random bytes : Bytes) (j : Json) (arriv
       not-equal : (stringOf "SXL" j ≡ m .setup .table .sxl → ⊥) → equalSxl m j ≡ false
       not-equal n = bool-cases (equalSxl m j) (λ e. absurd (n (same-true (stringOf "SXL" j) (m .setup .table .sxl) e))) (λ e. e)
 
-      not-ordered : isType "CommandRequest" j ≡ false
-      not-ordered = one-type "Version" "CommandRequest" refl j typed
+      not-ordered : asksFor "CommandRequest" j ≡ false
+      not-ordered = rw (one-type "Version" "CommandRequest" refl j typed, not-included "Version" "CommandRequest" refl j typed)
 
       -- what stands before the checks does not apply
       before-checks : reasonOf m l j ≡ firstOf (drop 7 (reasons m l j))
@@ -191,7 +191,7 @@ module _ {s : Start} {h : List Past} {m : Machine} (r : Run s h m) (l : ℕ) whe
 judged : {s : Start} {p : Past} {h : List Past} {m : Machine} → Run s (p ∷ h) m → (l : ℕ) (j : Json) → Came l j p → isType "Version" j ≡ true
     → (id : Bytes) → Among (ack id) (messagesOf (p .gave)) → Judged m l j (thisLife l h)
 judged (next {h} {m} c r) l j (came {random} {bytes} {room} is read gave) typed id a =
-    let unrefused = acked-heard m (c .time) l room random bytes j read c refl is id a .reason in
+    let unrefused = acked-heard m (c .time) l room random bytes j read c refl is (ack id) refl a .reason in
     let flags = sent-not-taken m l j unrefused typed in
     let went = run-greets l r .went (no-not (lifeAt m l .versions .sent) (flags .0)) in
     record {

@@ -1,17 +1,17 @@
 -- A CommandRequest in order is obeyed, one that is acknowledged was in order, and nothing else hands anything over.
 -- Assumes nothing.
-use Rattle.basis.proofs.Std.{ℕ, suc, _+_, _<_, _≤_, String, _≡_, refl, sym, _∙_, ap, Bool, true, false, not, List, [], _∷_, map, Option, some, none, length, arith, le-ltb, lt-leb, both, text, sameBytes, not-both, both-true, both-false}
+use Rattle.basis.proofs.Std.{ℕ, suc, _+_, _<_, _≤_, String, _≡_, refl, sym, _∙_, ap, Bool, true, false, not, List, [], _∷_, map, Option, some, none, length, arith, le-ltb, leb, lt-leb, both, text, sameBytes, not-both, both-true, both-false, bool-cases}
 use Rattle.basis.specs.Lists.Among.{first, later}
 use Rattle.json_value.specs.Grammar.{Json}
 use Rattle.table_whole.specs.Allowed.{Allowed}
 use Rattle.machine.specs.Words.{Bytes, maybe, isSome, orElse, any}
 use Rattle.machine.specs.State.{Command, Start, Machine, lifeAt}
 use Rattle.machine.specs.State.Act.{packet}
-use Rattle.machine.specs.Json.{readPacket, stringOf, entriesOf, isType, integerIn}
+use Rattle.machine.specs.Json.{readPacket, stringOf, entriesOf, isType, asksFor, isIncluded, integerIn}
 use Rattle.machine.specs.Table.{lastSequence, commandNumber, commandRow}
 use Rattle.machine.specs.Table.Begins.{begins}
 use Rattle.machine.specs.Life.{isOver, isUp, isBeating, isAwaited, isOlder}
-use Rattle.machine.specs.Answers.{isAnswer, isIgnored, commanded, needs, isMissing, isBad, componentAsked, commandAsked, valueAsked, inRange, outOfRange, unknownCommand, wantsReply, isUnexpected, reasons, reasonOf}
+use Rattle.machine.specs.Answers.{isAnswer, isIgnored, commanded, needs, isMissing, isBad, componentAsked, commandAsked, valueAsked, inRange, outOfRange, unknownCommand, wantsReply, repliesAtOnce, isUnexpected, reasons, reasonOf}
 use Rattle.machine.specs.Items.{commandOfEntry, commandsAsked, commands}
 use Rattle.machine.specs.Messages.{commandEntry}
 use Rattle.machine.specs.Effects.{ownIdentity, carriedOut, replying, receives, effectOf}
@@ -21,7 +21,7 @@ use Rattle.machine.specs.Run.Run.{begun, next}
 use Rattle.demand_held.proofs.Lists.{Each}
 use Rattle.demand_held.proofs.Lists.Each.{no-more, one-more}
 use Rattle.demand_held.proofs.Steps.{step-done}
-use Rattle.demand_told.proofs.Replies.{none-at, one-type}
+use Rattle.demand_told.proofs.Replies.{none-at, withAck, included-only, asks-only, asks-nothing-else, either-form}
 use Rattle.demand_told.proofs.Tests.{no-not}
 use Rattle.demand_told.proofs.Found.{none-of-any}
 use Rattle.demand_told.proofs.Entries.{both-each, whole-entries, command-needs, command-entry}
@@ -34,7 +34,7 @@ use Rattle.demand_told.proofs.Limits.{run-limit}
 use Rattle.demand_taken.specs.Commands.{Asks, InTurn, For, recent, obeying, Obeyed, DemandCommands}
 use Rattle.demand_taken.specs.Commands.InTurn.{no-more as no-turn, one-more as one-turn}
 use Rattle.demand_taken.proofs.Acked.{Heard, acked-heard}
-use Rattle.demand_taken.proofs.Handed.{is-some, nothing-else}
+use Rattle.demand_taken.proofs.Handed.{is-some, acks-so, nothing-else}
 use Rattle.demand_taken.proofs.Entries.{asks, asked-at, value-of, component-at}
 
 -- ---- the table of a run
@@ -53,7 +53,7 @@ each-to : {P Q : Json → Type 0} → ((x : Json) → P x → Q x) → {xs : Lis
 each-to f no-more = no-more
 each-to f (one-more p r) = one-more (f _ p) (each-to f r)
 
-each-valued : (older : Bool) (j : Json) → isType "CommandRequest" j ≡ true → any (isMissing j) (needs older j) ≡ false → any (isBad j) (needs older j) ≡ false
+each-valued : (older : Bool) (j : Json) → asksFor "CommandRequest" j ≡ true → any (isMissing j) (needs older j) ≡ false → any (isBad j) (needs older j) ≡ false
     → Each Valued (entriesOf "arg" j)
 each-valued older j typed complete good = each-to (λ e w. command-entry e w .1) (whole-entries older "arg" commanded j (command-needs older j typed) complete good)
 
@@ -100,21 +100,32 @@ module _ (m : Machine) (j : Json) (component : ℕ) (known : componentAsked m j 
     none-unknown no-turn = refl
     none-unknown (one-turn {e} {x = x} a r) = rw (number-at e x a) (none-unknown r)
 
--- ---- a CommandRequest
-module _ (m : Machine) (l : ℕ) (j : Json) (component : ℕ) (typed : isType "CommandRequest" j ≡ true) (known : componentAsked m j ≡ some component) where
-  no-type : (a : String) → sameBytes (text "CommandRequest") (text a) ≡ false → isType a j ≡ false
-  no-type a e = one-type "CommandRequest" a e j typed
+-- ---- a CommandRequest, of either form
+module _ (m : Machine) (l : ℕ) (j : Json) (component : ℕ) (typed : asksFor "CommandRequest" j ≡ true) (known : componentAsked m j ≡ some component) where
+  no-type : (a : String) → sameBytes (text "CommandRequest") (text a) ≡ false → sameBytes (withAck "CommandRequest") (text a) ≡ false → isType a j ≡ false
+  no-type a e f = asks-only "CommandRequest" a e f j typed
+
+  no-status : isIncluded "StatusRequest" j ≡ false
+  no-status = asks-nothing-else "CommandRequest" "StatusRequest" refl refl j typed
 
   no-answer : isAnswer j ≡ false
-  no-answer = rw (no-type "MessageAck" refl, no-type "MessageNotAck" refl)
+  no-answer = rw (no-type "MessageAck" refl refl, no-type "MessageNotAck" refl refl)
 
-  wants : (n : Machine) → wantsReply n l j ≡ true
-  wants n = rw (no-type "Alarm" refl, no-type "AggregatedStatusRequest" refl, no-type "StatusRequest" refl, typed)
+  -- the old form is replied to, the new one is not
+  old-form : isIncluded "CommandRequest" j ≡ false → isType "CommandRequest" j ≡ true
+  old-form e = either-form "CommandRequest" j typed (λ o. o) (λ f. not-both f e)
+
+  wants : isIncluded "CommandRequest" j ≡ false → (n : Machine) → wantsReply n l j ≡ true
+  wants e n = rw (no-type "Alarm" refl refl, no-type "AggregatedStatusRequest" refl refl, no-type "StatusRequest" refl refl, old-form e)
+
+  wants-not : isIncluded "CommandRequest" j ≡ true → wantsReply m l j ≡ false
+  wants-not e =
+      rw (no-type "Alarm" refl refl, no-type "AggregatedStatusRequest" refl refl, no-type "StatusRequest" refl refl, included-only "CommandRequest" "CommandRequest" refl j e)
 
   carried-out : (t : ℕ) → carriedOut l t j m ≡ commands m j
   unfolding carriedOut
   carried-out t =
-      rw (no-type "Version" refl, no-type "Watchdog" refl, no-type "Alarm" refl, no-type "StatusSubscribe" refl, no-type "StatusUnsubscribe" refl, typed)
+      rw (no-type "Version" refl refl, no-type "Watchdog" refl refl, no-type "Alarm" refl refl, no-type "StatusSubscribe" refl refl, no-type "StatusUnsubscribe" refl refl, typed)
 
   module _ (table : HasTable m) (valued : Each Valued (entriesOf "arg" j)) (xs : List Command) (turns : InTurn (m .setup .table) component (entriesOf "arg" j) xs) where
     are-asked : commandsAsked m j ≡ xs
@@ -123,14 +134,19 @@ module _ (m : Machine) (l : ℕ) (j : Json) (component : ℕ) (typed : isType "C
     gives : (t : ℕ) (id : Bytes) → reasonOf m l j ≡ none → outcome (receives l t id m j) ≡ obeying (m .setup .table) t id j xs
     unfolding receives replying commands
     gives t id unrefused =
-        rw (no-answer, unrefused, carried-out t, wants m, no-type "Alarm" refl, no-type "AggregatedStatusRequest" refl, typed, are-asked, told-are m j component known table turns valued)
+        bool-cases (isIncluded "CommandRequest" j)
+        (λ e. rw (no-answer, unrefused, carried-out t, no-status, e, are-asked, told-are m j component known table turns valued))
+        (λ e. rw (no-answer, unrefused, carried-out t, no-status, e, wants e m, no-type "Alarm" refl refl, no-type "AggregatedStatusRequest" refl refl, old-form e, are-asked, told-are m j component known table turns valued))
 
     issues-none : (t : ℕ) (id : Bytes) → reasonOf m l j ≡ none → receives l t id m j .issues ≡ []
     unfolding receives replying commands
-    issues-none t id unrefused = rw (no-answer, unrefused, carried-out t, wants m)
+    issues-none t id unrefused =
+        bool-cases (isIncluded "CommandRequest" j)
+        (λ e. rw (no-answer, unrefused, carried-out t, no-status, e))
+        (λ e. rw (no-answer, unrefused, carried-out t, no-status, e, wants e m))
 
     -- no reason refuses it on an Up link
-    module _ (up : isUp (lifeAt m l) ≡ true) (few : length (lifeAt m l .awaited) < 16) (formed : WellFormed j) where
+    module _ (up : isUp (lifeAt m l) ≡ true) (few : isIncluded "CommandRequest" j ≡ false → length (lifeAt m l .awaited) < 16) (formed : WellFormed j) where
       phase : (lifeAt m l .connected ≡ true) × (isOver (lifeAt m l .versions) ≡ true) × (isOver (lifeAt m l .watchdogs) ≡ true)
       phase =
           let a = both-true (lifeAt m l .connected) _ up in
@@ -140,18 +156,23 @@ module _ (m : Machine) (l : ℕ) (j : Json) (component : ℕ) (typed : isType "C
       expected : isUnexpected (lifeAt m l) j ≡ false
       expected =
           rw (
-            no-type "Version" refl,
-            no-type "Watchdog" refl,
-            no-type "Alarm" refl,
-            no-type "AggregatedStatusRequest" refl,
-            no-type "StatusRequest" refl,
-            no-type "StatusSubscribe" refl,
-            no-type "StatusUnsubscribe" refl,
+            no-type "Version" refl refl,
+            no-type "Watchdog" refl refl,
+            no-type "Alarm" refl refl,
+            no-type "AggregatedStatusRequest" refl refl,
+            no-type "StatusRequest" refl refl,
+            no-type "StatusSubscribe" refl refl,
+            no-type "StatusUnsubscribe" refl refl,
+            no-status,
             typed,
           )
 
       ready : isBeating (lifeAt m l) ≡ false
       ready = rw (phase .0, phase .1, phase .2)
+
+      not-busy : both (wantsReply m l j) (leb 16 (length (lifeAt m l .awaited))) ≡ false
+      not-busy =
+          bool-cases (isIncluded "CommandRequest" j) (λ e. rw (wants-not e)) (λ e. rw (lt-leb 16 (length (lifeAt m l .awaited)) (few e)) (both-false (wantsReply m l j)))
 
       no-reason : reasonOf m l j ≡ none
       unfolding reasons
@@ -159,24 +180,25 @@ module _ (m : Machine) (l : ℕ) (j : Json) (component : ℕ) (typed : isType "C
           first-none (reasons m l j)
           (one-more (rw (mtype-there j (formed .marked))) (one-more (rw (formed .marked)) (one-more expected (one-more (rw ready)
           (one-more (formed .complete _) (one-more (formed .good _) (one-more (rw (typed, none-outside m j component known table turns valued))
-          (one-more (rw (no-type "Version" refl)) (one-more (rw (no-type "Version" refl)) (one-more (rw (no-type "Version" refl))
-          (one-more (rw (no-type "Alarm" refl, no-type "AggregatedStatusRequest" refl)) (one-more (rw (no-type "Alarm" refl))
-          (one-more (rw (known, no-type "StatusRequest" refl, no-type "StatusSubscribe" refl, no-type "StatusUnsubscribe" refl))
+          (one-more (rw (no-type "Version" refl refl)) (one-more (rw (no-type "Version" refl refl)) (one-more (rw (no-type "Version" refl refl))
+          (one-more (rw (no-type "Alarm" refl refl, no-type "AggregatedStatusRequest" refl refl)) (one-more (rw (no-type "Alarm" refl refl))
+          (one-more (rw (known, no-type "StatusRequest" refl refl, no-status, no-type "StatusSubscribe" refl refl, no-type "StatusUnsubscribe" refl refl))
           (one-more (rw (none-unknown m j component known table turns, typed) (both-false (isSome (componentAsked m j))))
-          (one-more (rw (wants m, lt-leb 16 (length (lifeAt m l .awaited)) few)) no-more)))))))))))))))
+          (one-more not-busy no-more)))))))))))))))
 
       heard : isIgnored (lifeAt m l) (some j) ≡ false
       unfolding isIgnored
       heard = rw (no-answer, formed .readable, phase .0, phase .1)
 
-      replied : isReplied m l j ≡ true
-      replied = rw (no-answer, no-reason, wants m)
-
       module _ (t room : ℕ) (random bytes : Bytes) (arrives : Arrives m t bytes room j) (configured : l < m .setup .links)
-          (limit : m .pool .next ≤ suc lastSequence) (fresh : isAwaited (lifeAt m l) (ownIdentity random) ≡ false) where
+          (limit : m .pool .next ≤ suc lastSequence) (fresh : isIncluded "CommandRequest" j ≡ false → isAwaited (lifeAt m l) (ownIdentity random) ≡ false) where
         lays : effectOf m t (packet l random bytes room) ≡ receives l t (ownIdentity random) m j
         unfolding effectOf
         lays = rw (arrives .reads)
+
+        not-nine : both (isReplied m l j) (isAwaited (lifeAt m l) (ownIdentity random)) ≡ false
+        not-nine =
+            bool-cases (isIncluded "CommandRequest" j) (λ e. rw (no-answer, no-reason, wants-not e)) (λ e. rw (fresh e) (both-false (isReplied m l j)))
 
         number : numberOf m (at t (packet l random bytes room)) ≡ none
         unfolding conditions
@@ -190,8 +212,7 @@ module _ (m : Machine) (l : ℕ) (j : Json) (component : ℕ) (typed : isType "C
               lays,
               arrives .reads,
               heard,
-              replied,
-              fresh,
+              not-nine,
               issues-none t (ownIdentity random) no-reason,
               le-ltb (suc lastSequence) (m .pool .next + 0) (omega (arith, limit)),
             )
@@ -223,8 +244,8 @@ module _ (m : Machine) (l : ℕ) (j : Json) (component : ℕ) (typed : isType "C
     all-fine : Each Fine (entriesOf "arg" j)
     all-fine =
         both-each (λ e p (q : (outside m j component known e ≡ false) × Valued e). (no-not (isSome (commandAsked m j e)) p, q .0, q .1))
-        (none-of-any (λ (e : Json). not (isSome (commandAsked m j e))) (entriesOf "arg" j) (when-all (isType "CommandRequest" j) (isSome (componentAsked m j)) _ typed (ap isSome known) there))
-        (both-each (λ e p q. (p, q)) (none-of-any (outside m j component known) (entriesOf "arg" j) (when-both (isType "CommandRequest" j) _ typed within)) (each-valued (isOlder (lifeAt m l)) j typed complete good))
+        (none-of-any (λ (e : Json). not (isSome (commandAsked m j e))) (entriesOf "arg" j) (when-all (asksFor "CommandRequest" j) (isSome (componentAsked m j)) _ typed (ap isSome known) there))
+        (both-each (λ e p q. (p, q)) (none-of-any (outside m j component known) (entriesOf "arg" j) (when-both (asksFor "CommandRequest" j) _ typed within)) (each-valued (isOlder (lifeAt m l)) j typed complete good))
 
     in-range : (e : Json) (o : Option ℕ) → isSome o ≡ true → maybe false (λ (i : ℕ). not (inRange (commandRow (m .setup .table) i) (valueAsked e))) o ≡ false
         → inRange (commandRow (m .setup .table) (orElse 0 o)) (valueAsked e) ≡ true
@@ -259,11 +280,11 @@ module _ (m : Machine) (table : HasTable m) (t l room : ℕ) (random bytes : Byt
 pub demand-commands : DemandCommands
 demand-commands =
     record {
-      obeyed = λ s h m r l t room random bytes j component xs configured up few fresh arrives formed asked turns.
+      obeyed = λ s h m r l t room random bytes j component xs configured up free arrives formed asked turns.
           obeyed m l j component (asked .typed) (component-at m (run-table r .allowed) j component asked) (run-table r) (each-valued false j (asked .typed) (formed .complete false) (formed .good false)) xs turns
-          up few formed t room random bytes arrives configured (run-limit r) fresh;
-      acknowledged = λ s h m r t l room random bytes j component read asked a.
+          up (λ e. free e .0) formed t room random bytes arrives configured (run-limit r) (λ e. free e .1);
+      acknowledged = λ s h m r t l room random bytes j component read asked w a acks.
           acknowledged m (run-table r) t l room random bytes j component read asked
-          (acked-heard m t l room random bytes j read (at t (packet l random bytes room)) refl refl (stringOf "mId" j) a);
+          (acked-heard m t l room random bytes j read (at t (packet l random bytes room)) refl refl w (acks-so acks) a);
       nothing-else = nothing-else;
     }

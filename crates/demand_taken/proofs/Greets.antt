@@ -23,9 +23,9 @@ use Rattle.demand_told.proofs.Tests.{found}
 use Rattle.demand_told.proofs.Kept.{Backed, still, now}
 use Rattle.demand_told.proofs.GreetedDemand.{run-kept}
 use Rattle.demand_taken.proofs.Moves.{Turned}
-use Rattle.demand_taken.proofs.Moves.Turned.{sent, answered-by, turned-down, accepted, beaten, taken, replied}
+use Rattle.demand_taken.proofs.Moves.Turned.{sent, answered-by, turned-down, accepted, beaten, taken, replied, responded}
 use Rattle.demand_taken.proofs.Lived.{Elsewhere, Goes, by-life}
-use Rattle.demand_taken.proofs.Said.{watchdog-kind, one-kind, Silent, silent-none, silent-one, no-version-in, no-watchdog-in, wrote-elsewhere, nothing-within, within-cases, first-within}
+use Rattle.demand_taken.proofs.Said.{watchdog-kind, one-kind, response-kind, Silent, silent-none, silent-one, no-version-in, no-watchdog-in, wrote-elsewhere, nothing-within, within-cases, first-within}
 
 pub record Alone (id : Bytes) (message : Sent) (ids : List Awaited) : Type 0 where
   pub time : ℕ
@@ -475,6 +475,7 @@ module _ (l : ℕ) where
           (record { connected-same = refl; version-sent = refl; version-acked = refl; over = λ q. q; watchdog-sent = refl; watchdog-acked = refl; awaited = refl })
       turns act ms x (taken read e) is gave = alike gave (silent-one _ refl) x same
       turns act ms x (replied n read e up) is gave = ups up x refl refl (g .watchdog-out (flags up .watchdog-acked)) (flags up .watchdog-acked)
+      turns act ms x (responded {j = j} n read e) is gave = alike gave (silent-one _ (response-kind n (p .call .time) j)) x same
 
   goes : (s : Start) (h : List Past) (m : Machine) (p : Past) (x : Life) → Goes s l h m p x → Greets (lifeAt m l) (thisLife l h) → Greets x (goingOn p (thisLife l h))
   goes s h m p x g holds =

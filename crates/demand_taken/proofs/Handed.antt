@@ -1,32 +1,34 @@
--- Nothing but a CommandRequest for a component of the table, answered with MessageAck, hands anything over.
+-- Nothing but a CommandRequest for a component of the table, acknowledged, hands anything over.
 -- Assumes nothing.
-use Rattle.basis.proofs.Std.{ℕ, String, _≡_, refl, sym, Bool, true, false, List, [], Option, some, none, eqb, sameBytes, Among, picked, not-both, same-true}
+use Rattle.basis.proofs.Std.{ℕ, String, _≡_, refl, sym, Bool, true, false, List, [], _∷_, Option, some, none, eqb, sameBytes, Among, picked, not-both, same-true}
 use Rattle.basis.specs.Lists.Among.{first}
 use Rattle.json_value.specs.Grammar.{Json}
+use Rattle.write_message.specs.Message.{Message}
 use Rattle.write_message.specs.Message.Message.{ack}
 use Rattle.machine.specs.Words.{Bytes, isSome, orElse}
 use Rattle.machine.specs.State.{Alarm, Awaited, Command, Machine, Act, Call, Effect, lifeAt, valueAt, only}
 use Rattle.machine.specs.State.Act.{connect, disconnect, packet, alarmInput, statusValue, aggregatedValue, tick, pump}
-use Rattle.machine.specs.Json.{readPacket, stringOf, isType}
+use Rattle.machine.specs.Json.{readPacket, stringOf, isType, isIncluded, asksFor}
 use Rattle.machine.specs.Life.{awaitedBy, due}
-use Rattle.machine.specs.Answers.{isAnswer, componentAsked, wantsReply, reasonOf, failsCheck}
+use Rattle.machine.specs.Answers.{isAnswer, componentAsked, wantsReply, repliesAtOnce, reasonOf, failsCheck}
 use Rattle.machine.specs.Items.{isNew, happens, subscribe, unsubscribe, becomes, commandsAsked, commands, aggregates}
 use Rattle.machine.specs.Effects.{connects, closes, ticks, ownIdentity, sends, answerCloses, answers, answered, refuses, carriedOut, replying, receives, effectOf}
 use Rattle.machine.specs.Step.{numberOf, step}
 use Rattle.demand_held.proofs.Lists.{maybe-cases}
 use Rattle.demand_held.proofs.Steps.{step-done}
 use Rattle.demand_told.specs.Demand.{messagesOf}
-use Rattle.demand_told.proofs.Replies.{nobody}
-use Rattle.demand_taken.specs.Commands.{commandsOf, For, Cause}
+use Rattle.demand_told.proofs.Replies.{nobody, asks-nothing-else, at-once}
+use Rattle.demand_taken.specs.Commands.{commandsOf, For, Acknowledges, Cause}
+use Rattle.demand_taken.specs.Commands.Acknowledges.{by-ack, by-response}
 use Rattle.demand_taken.proofs.Places.{stands}
-use Rattle.demand_taken.proofs.Acked.{by-outcome}
+use Rattle.demand_taken.proofs.Acked.{isAck, by-outcome}
 
 pub is-some : {A : Type 0} (d : A) (o : Option A) → isSome o ≡ true → o ≡ some (orElse d o)
 is-some d none e = not-both e refl
 is-some d (some a) e = refl
 
 -- a component that a request asks for is one of the table
-pub for-component : (m : Machine) (j : Json) (component : ℕ) → isType "CommandRequest" j ≡ true → componentAsked m j ≡ some component → For (m .setup .table) j component
+pub for-component : (m : Machine) (j : Json) (component : ℕ) → asksFor "CommandRequest" j ≡ true → componentAsked m j ≡ some component → For (m .setup .table) j component
 for-component m j component typed known =
     let s = stands [] (sameBytes (stringOf "cId" j)) (m .setup .table .components) component known in
     record { typed = typed; there = s .0; named = sym (same-true (stringOf "cId" j) _ (s .1)) }
@@ -54,17 +56,41 @@ idle-refuses l j m reason = picked Idle (failsCheck reason) _ _ (λ e. refl) (λ
 
 pub replying-hands : (l t : ℕ) (id : Bytes) (j : Json) (e : Effect) → replying l t id j e .commands ≡ e .commands
 unfolding replying
-replying-hands l t id j e = picked (λ (x : Effect). x .commands ≡ e .commands) (wantsReply (e .leaves) l j) _ _ (λ w. refl) (λ w. refl)
+replying-hands l t id j e =
+    picked (λ (x : Effect). x .commands ≡ e .commands) (repliesAtOnce j) _ _ (λ o. refl)
+    (λ o. picked (λ (x : Effect). x .commands ≡ e .commands) (wantsReply (e .leaves) l j) _ _ (λ w. refl) (λ w. refl))
 
-replying-acks : (l t : ℕ) (id : Bytes) (j : Json) (e : Effect) → Among (ack (stringOf "mId" j)) (replying l t id j e .messages)
+-- an acknowledgement among some messages
+record Acks (mId : Bytes) (ms : List Message) : Type 0 where
+  answer : Message
+  told : Among answer ms
+  acknowledged : Acknowledges mId answer
+
+pub acks-so : {mId : Bytes} {w : Message} → Acknowledges mId w → isAck w ≡ true
+acks-so by-ack = refl
+acks-so by-response = refl
+
+abbrev AcksIt : Json → Effect → Type 0
+AcksIt j x = Acks (stringOf "mId" j) (x .messages)
+
+replying-acks : (l t : ℕ) (id : Bytes) (j : Json) → asksFor "CommandRequest" j ≡ true → (e : Effect) → AcksIt j (replying l t id j e)
 unfolding replying
-replying-acks l t id j e = picked (λ (x : Effect). Among (ack (stringOf "mId" j)) (x .messages)) (wantsReply (e .leaves) l j) _ _ (λ w. first) (λ w. first)
+replying-acks l t id j typed e =
+    picked (AcksIt j) (repliesAtOnce j) _ _
+    (λ o. picked (λ (w : Message). Acks (stringOf "mId" j) (w ∷ [])) (isIncluded "CommandRequest" j) _ _
+    (λ c. record { answer = _; told = first; acknowledged = by-response }) (λ c. not-both (at-once j o (λ s. not-both s no-status) (λ x. x)) c))
+    (λ o. picked (AcksIt j) (wantsReply (e .leaves) l j) _ _
+    (λ w. record { answer = ack (stringOf "mId" j); told = first; acknowledged = by-ack })
+    (λ w. record { answer = ack (stringOf "mId" j); told = first; acknowledged = by-ack }))
+  where
+    no-status : isIncluded "StatusRequest" j ≡ false
+    no-status = asks-nothing-else "CommandRequest" "StatusRequest" refl refl j typed
 
 -- ---- nothing else hands anything over
 record Ordered (m : Machine) (l : ℕ) (j : Json) : Type 0 where
   other : isAnswer j ≡ false
   reason : reasonOf m l j ≡ none
-  typed : isType "CommandRequest" j ≡ true
+  typed : asksFor "CommandRequest" j ≡ true
   known : isSome (componentAsked m j) ≡ true
 
 module _ (x : Command) where
@@ -82,7 +108,7 @@ module _ (x : Command) where
       picked (λ (xs : List Command). Among x xs → isSome (componentAsked m j) ≡ true) (isSome (componentAsked m j)) _ [] (λ e a. e) (λ e a. absurd (nobody a))
 
   abbrev Asked : Machine → Json → Type 0
-  Asked m j = (isType "CommandRequest" j ≡ true) × (isSome (componentAsked m j) ≡ true)
+  Asked m j = (asksFor "CommandRequest" j ≡ true) × (isSome (componentAsked m j) ≡ true)
 
   carried-out-asked : (l t : ℕ) (j : Json) (m : Machine) → Hands (Asked m j) (carriedOut l t j m)
   unfolding carriedOut subscribe unsubscribe commands
@@ -92,7 +118,7 @@ module _ (x : Command) where
       (λ e. picked (Hands (Asked m j)) (isType "Alarm" j) _ _ (λ e. happens-hands m _ _)
       (λ e. picked (Hands (Asked m j)) (isType "StatusSubscribe" j) _ _ (λ e a. absurd (nobody a))
       (λ e. picked (Hands (Asked m j)) (isType "StatusUnsubscribe" j) _ _ (λ e a. absurd (nobody a))
-      (λ e. picked (Hands (Asked m j)) (isType "CommandRequest" j) _ _ (λ e a. (e, asked-hands m j a)) (λ e a. absurd (nobody a)))))))
+      (λ e. picked (Hands (Asked m j)) (asksFor "CommandRequest" j) _ _ (λ e a. (e, asked-hands m j a)) (λ e a. absurd (nobody a)))))))
 
   received-ordered : (l t : ℕ) (id : Bytes) (m : Machine) (j : Json) → Hands (Ordered m l j) (receives l t id m j)
   unfolding receives
@@ -104,12 +130,12 @@ module _ (x : Command) where
       record { other = e; reason = f; typed = p .0; known = p .1 })
       (λ reason f. idle-hands (refuses l j m reason) (idle-refuses l j m reason)))
 
-received-acks : (l t : ℕ) (id : Bytes) (m : Machine) (j : Json) → Ordered m l j → Among (ack (stringOf "mId" j)) (receives l t id m j .messages)
+received-acks : (l t : ℕ) (id : Bytes) (m : Machine) (j : Json) → Ordered m l j → AcksIt j (receives l t id m j)
 unfolding receives
-received-acks l t id m j o = rw (o .other, o .reason) (replying-acks l t id j (carriedOut l t j m))
+received-acks l t id m j o = rw (o .other, o .reason) (replying-acks l t id j (o .typed) (carriedOut l t j m))
 
 packet-acks : (m : Machine) (t l room : ℕ) (random bytes : Bytes) (j : Json) → readPacket bytes ≡ some j → Ordered m l j
-    → Among (ack (stringOf "mId" j)) (effectOf m t (packet l random bytes room) .messages)
+    → AcksIt j (effectOf m t (packet l random bytes room))
 unfolding effectOf
 packet-acks m t l room random bytes j r o = rw r (received-acks l t (ownIdentity random) m j o)
 
@@ -123,7 +149,7 @@ module _ (m : Machine) (c : Call) where
       maybe-cases (Hands x (Cause m c)) (only m) _ (readPacket bytes) (λ e a. absurd (nobody a))
       (λ j e a. by-order j e (received-ordered x l (c .time) (ownIdentity random) m j a))
     where
-      acks : (j : Json) → readPacket bytes ≡ some j → Ordered m l j → Among (ack (stringOf "mId" j)) (messagesOf (step m c .0))
+      acks : (j : Json) → readPacket bytes ≡ some j → Ordered m l j → Acks (stringOf "mId" j) (messagesOf (step m c .0))
       acks j e o = rw (step-done m c done, is) (packet-acks m (c .time) l room random bytes j e o)
 
       by-order : (j : Json) → readPacket bytes ≡ some j → Ordered m l j → Cause m c
@@ -138,7 +164,9 @@ module _ (m : Machine) (c : Call) where
             is-read = e;
             component = orElse 0 (componentAsked m j);
             asked = for-component m j (orElse 0 (componentAsked m j)) (o .typed) (is-some 0 (componentAsked m j) (o .known));
-            acked = acks j e o;
+            answer = acks j e o .answer;
+            told = acks j e o .told;
+            acknowledged = acks j e o .acknowledged;
           }
   caused x done (alarmInput i active) is = happens-hands x m i _
   caused x done (statusValue i v) is = picked (Hands x (Cause m c)) (isNew v (valueAt m i)) _ _ (λ e a. absurd (nobody a)) (λ e a. absurd (nobody a))

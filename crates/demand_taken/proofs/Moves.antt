@@ -9,15 +9,16 @@ use Rattle.machine.specs.Words.{Bytes, maybe, isSome, orElse, any, firstOf}
 use Rattle.machine.specs.State.{Alarm, Awaited, Life, fresh, Machine, withLife, lifeAt, Act, Effect}
 use Rattle.machine.specs.State.Sent.{noRecord}
 use Rattle.machine.specs.State.Act.{packet, pump}
-use Rattle.machine.specs.Json.{readPacket, stringAt, stringOf, elementIs, isType}
+use Rattle.machine.specs.Json.{readPacket, stringAt, stringOf, elementIs, isType, asksFor}
 use Rattle.machine.specs.Life.{isUp, nowTaken, withWatchdogs, common, awaitedBy, awaiting, answeredTo, Due, due}
-use Rattle.machine.specs.Answers.{isAnswer, awaitedHere, isIgnored, wantsReply, reasonOf, failsCheck}
+use Rattle.machine.specs.Answers.{isAnswer, awaitedHere, isIgnored, wantsReply, repliesAtOnce, reasonOf, failsCheck}
 use Rattle.machine.specs.Items.{happens, subscribe, unsubscribe, commands}
+use Rattle.machine.specs.Messages.{includedMessage}
 use Rattle.machine.specs.Effects.{closes, ownIdentity, dueMessage, sentAs, afterSending, markSent, sends, answerCloses, acknowledges, settle, answers, answered, refusal, refuses, agreed, versionAccepted, watchdogTaken, carriedOut, replyMessage, replying, receives, effectOf}
 use Rattle.machine.specs.Step.{conditions}
 use Rattle.demand_held.proofs.Lists.{maybe-cases}
 use Rattle.demand_told.proofs.Tests.{no-not}
-use Rattle.demand_told.proofs.Replies.{none-at, NoGreeting, asks, replied-up}
+use Rattle.demand_told.proofs.Replies.{none-at, NoGreeting, asks, at-once-only, replied-up}
 use Rattle.demand_told.proofs.Lives.{closed-there}
 use Rattle.demand_told.proofs.Apart.{mark-lives, settle-lives}
 use Rattle.demand_told.proofs.Goes.{open-carried-out}
@@ -40,6 +41,8 @@ pub data Turned (m : Machine) (t l : ℕ) : Act → List Message → Life → Ty
       → Turned m t l (packet l random bytes room) (ack (stringOf "mId" j) ∷ []) (lifeAt m l)
   replied : {random bytes : Bytes} {room : ℕ} {j : Json} (n : Machine) → readPacket bytes ≡ some j → isType "Version" j ≡ false → isUp (lifeAt m l) ≡ true
       → Turned m t l (packet l random bytes room) (ack (stringOf "mId" j) ∷ replyMessage n t (ownIdentity random) j ∷ []) (awaiting (ownIdentity random) t noRecord (lifeAt m l))
+  responded : {random bytes : Bytes} {room : ℕ} {j : Json} (n : Machine) → readPacket bytes ≡ some j → isType "Version" j ≡ false
+      → Turned m t l (packet l random bytes room) (includedMessage n t j ∷ []) (lifeAt m l)
 
 module _ (m : Machine) (t l : ℕ) (connected : lifeAt m l .connected ≡ true) where
   abbrev Fell : Effect → Type 0
@@ -120,7 +123,7 @@ module _ (m : Machine) (t l : ℕ) (connected : lifeAt m l .connected ≡ true) 
           (λ e. picked SameLives (isType "Alarm" j) _ _ (λ e. happens-lives _ _)
           (λ e. picked SameLives (isType "StatusSubscribe" j) _ _ (λ e. refl)
           (λ e. picked SameLives (isType "StatusUnsubscribe" j) _ _ (λ e. refl)
-          (λ e. picked SameLives (isType "CommandRequest" j) _ _ (λ e. refl) (λ e. refl))))))
+          (λ e. picked SameLives (asksFor "CommandRequest" j) _ _ (λ e. refl) (λ e. refl))))))
 
       version-carried : isType "Version" j ≡ true → carriedOut l t j m ≡ versionAccepted l j m
       unfolding carriedOut
@@ -149,7 +152,14 @@ module _ (m : Machine) (t l : ℕ) (connected : lifeAt m l .connected ≡ true) 
       moved-replying : Moved this (replying l t (ownIdentity random) j (carriedOut l t j m))
       unfolding replying
       moved-replying =
-          picked (Moved this) (wantsReply (carriedOut l t j m .leaves) l j) _ _
+          picked (Moved this) (repliesAtOnce j) _ _
+          (λ o.
+          let plain : NoGreeting j = (at-once-only "Version" refl refl j o, at-once-only "Watchdog" refl refl j o) in
+          inr (
+            open-carried-out m l t j l,
+            subst (Turned m t l this (includedMessage (carriedOut l t j m .leaves) t j ∷ [])) (sym (same-life plain)) (responded (carriedOut l t j m .leaves) read (plain .0)),
+          ))
+          (λ o. picked (Moved this) (wantsReply (carriedOut l t j m .leaves) l j) _ _
           (λ w.
           let plain = asks (carriedOut l t j m .leaves) l j w in
           inr (
@@ -159,7 +169,7 @@ module _ (m : Machine) (t l : ℕ) (connected : lifeAt m l .connected ≡ true) 
                 ∙ ap (awaiting (ownIdentity random) t noRecord) (same-life plain)))
                 (replied (carriedOut l t j m .leaves) read (plain .0) (up plain)),
           ))
-          (λ w. inr (open-carried-out m l t j l, acked))
+          (λ w. inr (open-carried-out m l t j l, acked)))
 
     moved-received : Moved this (receives l t (ownIdentity random) m j)
     unfolding receives

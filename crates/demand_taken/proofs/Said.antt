@@ -5,14 +5,14 @@ use Rattle.basis.specs.Lists.Among.{first, later}
 use Rattle.json_value.specs.Grammar.{Json}
 use Rattle.table_whole.specs.Table.{Table}
 use Rattle.write_message.specs.Message.{Message}
-use Rattle.write_message.specs.Message.Message.{version, watchdog, ack, notAck, alarm, aggregated, statuses}
+use Rattle.write_message.specs.Message.Message.{version, watchdog, ack, notAck, alarm, aggregated, statuses, included}
 use Rattle.machine.specs.Words.{Bytes, isNumber}
 use Rattle.machine.specs.State.{Content, Machine, Act, Outcome}
 use Rattle.machine.specs.State.Content.{ofAlarm, ofStatus, ofAggregated}
 use Rattle.machine.specs.State.Act.{packet, pump}
 use Rattle.machine.specs.State.Outcome.{refused, done}
-use Rattle.machine.specs.Json.{readPacket, isType}
-use Rattle.machine.specs.Messages.{recordMessage}
+use Rattle.machine.specs.Json.{readPacket, isType, isIncluded}
+use Rattle.machine.specs.Messages.{recordMessage, includedMessage}
 use Rattle.machine.specs.Effects.{replyMessage}
 use Rattle.machine.specs.Run.{Past}
 use Rattle.demand_told.specs.Demand.{messagesOf, linkOf}
@@ -35,6 +35,7 @@ kind (notAck id reason) = 0
 kind (alarm id component code state) = 0
 kind (aggregated id component t v) = 0
 kind (statuses told id component t entries) = 0
+kind (included told received component t entries) = 0
 
 pub version-kind : {id : Bytes} {w : Message} → IsVersion id w → kind w ≡ 1
 version-kind is-version = refl
@@ -52,6 +53,9 @@ reply-kind n t id j =
     picked (λ (w : Message). kind w ≡ 0) (isType "Alarm" j) _ _ (λ e. refl)
     (λ e. picked (λ (w : Message). kind w ≡ 0) (isType "AggregatedStatusRequest" j) _ _ (λ f. refl)
     (λ f. picked (λ (w : Message). kind w ≡ 0) (isType "CommandRequest" j) _ _ (λ g. refl) (λ g. refl)))
+
+pub response-kind : (n : Machine) (t : ℕ) (j : Json) → kind (includedMessage n t j) ≡ 0
+response-kind n t j = picked (λ (w : Message). kind w ≡ 0) (isIncluded "CommandRequest" j) _ _ (λ e. refl) (λ e. refl)
 
 -- messages none of which is either
 abbrev pub Silent : List Message → Type 0

@@ -3,6 +3,7 @@
 use Rattle.basis.proofs.Std.{ℕ, _≡_, refl, ap, subst, Bool, true, false, not, List, [], _∷_, some, _⊎_, inl, inr, arith, pick, both, Among, not-both}
 use Rattle.identity.specs.Read.{Says}
 use Rattle.json_value.specs.Grammar.{Json}
+use Rattle.write_message.specs.Message.{Message}
 use Rattle.write_message.specs.Message.Message.{ack}
 use Rattle.machine.specs.Words.{Bytes, Case, firstOf}
 use Rattle.machine.specs.State.{Command, Life, Start, Machine, Call, Outcome, lifeAt}
@@ -22,26 +23,27 @@ use Rattle.demand_told.specs.Demand.{messagesOf, linkOf}
 use Rattle.demand_told.specs.Life.{thisLife}
 use Rattle.demand_told.specs.Greeted.{Came, Greeted}
 use Rattle.demand_told.specs.Greeted.Came.{came}
-use Rattle.demand_told.proofs.Replies.{no-greeting}
+use Rattle.demand_told.proofs.Replies.{asks-only}
 use Rattle.demand_told.proofs.GreetedDemand.{by-number, same-setup, run-kept, greeted}
 use Rattle.demand_happens.specs.Pumped.{at}
 use Rattle.demand_taken.specs.Commands.{commandsOf, Cause}
 use Rattle.demand_taken.specs.Taken.{DemandTaken}
 use Rattle.demand_taken.proofs.Identities.{readable}
-use Rattle.demand_taken.proofs.Acked.{acked-heard, heard-up}
-use Rattle.demand_taken.proofs.Handed.{nothing-else}
+use Rattle.demand_taken.proofs.Acked.{isAck, acked-heard, heard-up}
+use Rattle.demand_taken.proofs.Handed.{acks-so, nothing-else}
 
 module _ {s : Start} {h : List Past} {m : Machine} (r : Run s h m) (c : Call) where
   acked-greeted : (l room : ℕ) (random bytes : Bytes) (j : Json) → c .act ≡ packet l random bytes room → readPacket bytes ≡ some j → isType "Version" j ≡ false → isType "Watchdog" j ≡ false
-      → (id : Bytes) → Among (ack id) (messagesOf (step m c .0)) → Greeted (step m c .1) l (thisLife l h)
-  acked-greeted l room random bytes j is read v w id a =
+      → (x : Message) → isAck x ≡ true → Among x (messagesOf (step m c .0)) → Greeted (step m c .1) l (thisLife l h)
+  acked-greeted l room random bytes j is read v w x acks a =
       greeted (step m c .1) l (lifeAt m l) (thisLife l h) (run-kept r (step m c .1) (same-setup r c) l)
-      (heard-up m (c .time) l room random bytes j read (acked-heard m (c .time) l room random bytes j read c refl is id a) v w)
+      (heard-up m (c .time) l room random bytes j read (acked-heard m (c .time) l room random bytes j read c refl is x acks a) v w)
 
   cause-greeted : (q : Cause m c) → Greeted (step m c .1) (q .link) (thisLife (q .link) h)
   cause-greeted q =
-      let plain = no-greeting "CommandRequest" refl refl (q .json) (q .asked .typed) in
-      acked-greeted (q .link) (q .room) (q .random) (q .bytes) (q .json) (q .is-packet) (q .is-read) (plain .0) (plain .1) (stringOf "mId" (q .json)) (q .acked)
+      acked-greeted (q .link) (q .room) (q .random) (q .bytes) (q .json) (q .is-packet) (q .is-read)
+      (asks-only "CommandRequest" "Version" refl refl (q .json) (q .asked .typed)) (asks-only "CommandRequest" "Watchdog" refl refl (q .json) (q .asked .typed))
+      (q .answer) (acks-so (q .acknowledged)) (q .told)
 
   handed-greeted : (x : Command) → Among x (commandsOf (step m c .0)) → (l : ℕ) → linkOf (c .act) ≡ some l → Greeted (step m c .1) l (thisLife l h)
   handed-greeted x a l e =
@@ -52,7 +54,7 @@ module _ {s : Start} {h : List Past} {m : Machine} (r : Run s h m) (c : Call) wh
 taken : {s : Start} {p : Past} {h : List Past} {m : Machine} → Run s (p ∷ h) m
     → (l : ℕ) (j : Json) → Came l j p → isType "Version" j ≡ false → isType "Watchdog" j ≡ false
     → (id : Bytes) → Among (ack id) (messagesOf (p .gave)) → Greeted m l (thisLife l h)
-taken (next c r) l j (came {random} {bytes} {room} is read gave) = acked-greeted r c l room random bytes j is read
+taken (next c r) l j (came {random} {bytes} {room} is read gave) v w id = acked-greeted r c l room random bytes j is read v w (ack id) refl
 
 handed : {s : Start} {p : Past} {h : List Past} {m : Machine} → Run s (p ∷ h) m
     → (x : Command) → Among x (commandsOf (p .gave)) → (l : ℕ) → linkOf (p .call .act) ≡ some l → Greeted m l (thisLife l h)
