@@ -6,9 +6,9 @@ use Rattle.write_message.specs.Message.{Message}
 use Rattle.machine.specs.Words.{Bytes, isNumber, any}
 use Rattle.machine.specs.State.{Alarm, Awaited, Issued, Held, heldAs, Pool, Machine, lifeAt, valueAt, Act, Effect, only}
 use Rattle.machine.specs.State.Act.{connect, disconnect, packet, alarmInput, statusValue, aggregatedValue, tick, pump}
-use Rattle.machine.specs.Json.{readPacket, stringOf, isType}
+use Rattle.machine.specs.Json.{readPacket, stringOf, isType, asksFor}
 use Rattle.machine.specs.Life.{unsent, close, closeAll, awaitedBy, Due, due}
-use Rattle.machine.specs.Answers.{isAnswer, wantsReply, reasonOf, failsCheck}
+use Rattle.machine.specs.Answers.{isAnswer, wantsReply, repliesAtOnce, reasonOf, failsCheck}
 use Rattle.machine.specs.Pool.{isFor, holds, isFull, fullest, lose, makeRoom, issue, issueAll, marked}
 use Rattle.machine.specs.Items.{isNew, happens, subscribe, unsubscribe, intervals, becomes, commands, aggregates}
 use Rattle.machine.specs.Effects.{connects, closes, late, ticks, ownIdentity, carried, sentAs, sends, answerCloses, answers, answered, refuses, carriedOut, replying, receives, effectOf}
@@ -128,11 +128,11 @@ module _ (l n : ℕ) where
           (λ e. picked Fewer (isType "Alarm" j) _ _ (λ e. fewer-happens _ _)
           (λ e. picked Fewer (isType "StatusSubscribe" j) _ _ (λ e. omega arith)
           (λ e. picked Fewer (isType "StatusUnsubscribe" j) _ _ (λ e. omega arith)
-          (λ e. picked Fewer (isType "CommandRequest" j) _ _ (λ e. omega arith) (λ e. omega arith))))))
+          (λ e. picked Fewer (asksFor "CommandRequest" j) _ _ (λ e. omega arith) (λ e. omega arith))))))
 
       fewer-replying : (t : ℕ) (id : Bytes) (j : Json) (e : Effect) → Fewer e → Fewer (replying k t id j e)
       unfolding replying
-      fewer-replying t id j e f = picked Fewer (wantsReply (e .leaves) k j) _ _ (λ w. f) (λ w. f)
+      fewer-replying t id j e f = picked Fewer (repliesAtOnce j) _ _ (λ o. f) (λ o. picked Fewer (wantsReply (e .leaves) k j) _ _ (λ w. f) (λ w. f))
 
       fewer-received : (t : ℕ) (id : Bytes) (j : Json) → Fewer (receives k t id m j)
       unfolding receives

@@ -11,10 +11,10 @@ use Rattle.machine.specs.State.Event.{Issue}
 use Rattle.machine.specs.State.Sent.{noRecord}
 use Rattle.machine.specs.State.Outcome.{refused}
 use Rattle.machine.specs.State.Act.{connect, disconnect, packet, alarmInput, statusValue, aggregatedValue, tick, pump}
-use Rattle.machine.specs.Json.{readPacket, stringOf, entriesOf, isType}
+use Rattle.machine.specs.Json.{readPacket, stringOf, entriesOf, isType, asksFor}
 use Rattle.machine.specs.Table.Begins.{begins}
 use Rattle.machine.specs.Life.{isOver, isUp, isOlder, close, closeAll, awaitedBy, awaiting, Due, due}
-use Rattle.machine.specs.Answers.{isAnswer, isIgnored, componentAsked, alarmAsked, statusAsked, isStatusType, unknownStatus, wantsReply, reasons, reasonOf, failsCheck}
+use Rattle.machine.specs.Answers.{isAnswer, isIgnored, componentAsked, alarmAsked, statusAsked, isStatusType, unknownStatus, wantsReply, repliesAtOnce, reasons, reasonOf, failsCheck}
 use Rattle.machine.specs.Items.{withInput, ordered, sameValue, isNew, happens, subscribe, unsubscribe, intervals, becomes, commands, aggregates}
 use Rattle.machine.specs.Effects.{connects, closes, late, ticks, ownIdentity, carried, sentAs, sends, answerCloses, answers, answered, refuses, carriedOut, replying, receives, effectOf}
 use Rattle.machine.specs.Step.{conditions, numberOf, outcome, step}
@@ -31,7 +31,7 @@ use Rattle.demand_carried.proofs.Marks.{life-cases}
 use Rattle.demand_issued.specs.History.{doing, isAck, did, alarmNamed, wasOlder}
 use Rattle.demand_issued.specs.Issues.{issued, DemandIssues}
 use Rattle.demand_issued.proofs.Kept.{KeptBy, Known, extended, ticks-on, became, stayed, aggregated-anew, aggregated-again, took-other, took-subscribe, took-unsubscribe, took-order, took-input, input-own, order-own}
-use Rattle.demand_issued.proofs.Older.{Told, replied, acked, answered-silent, refuses-silent, run-told}
+use Rattle.demand_issued.proofs.Older.{Told, responded, response-acks, replied, acked, answered-silent, refuses-silent, run-told}
 use Rattle.demand_issued.proofs.Issued.{value-same, nothing-issued, input-issued, order-issued, tick-issued, value-issued, value-silent, subscribe-issued, aggregate-issued, aggregate-silent, other-issued}
 
 -- ---- the entries of a packet that no reason refuses
@@ -56,14 +56,14 @@ module _ (m : Machine) (l : ℕ) (j : Json) (unrefused : reasonOf m l j ≡ none
       go false x y e f = not-both e f
 
   subscribed-known : isType "StatusSubscribe" j ≡ true → Each (Known m j) (entriesOf "sS" j)
-  subscribed-known typed = entries-known (go (isType "StatusRequest" j) typed) (component-known (rw typed))
+  subscribed-known typed = entries-known (go (asksFor "StatusRequest" j) typed) (component-known (rw typed))
     where
       go : (a : Bool) → isType "StatusSubscribe" j ≡ true → pick a true (pick (isType "StatusSubscribe" j) true (isType "StatusUnsubscribe" j)) ≡ true
       go true e = refl
       go false e = rw e
 
   ended-known : isType "StatusUnsubscribe" j ≡ true → Each (Known m j) (entriesOf "sS" j)
-  ended-known typed = entries-known (go (isType "StatusRequest" j) (isType "StatusSubscribe" j) typed) (component-known (go false (isType "StatusSubscribe" j) typed))
+  ended-known typed = entries-known (go (asksFor "StatusRequest" j) (isType "StatusSubscribe" j) typed) (component-known (go false (isType "StatusSubscribe" j) typed))
     where
       go : (a b : Bool) → isType "StatusUnsubscribe" j ≡ true → pick a true (pick b true (isType "StatusUnsubscribe" j)) ≡ true
       go true b e = refl
@@ -192,7 +192,7 @@ module _ (start : ℕ) (h : List Past) where
           issues = subscribe-issued start p h m k l j d e a (subscribed-known m l j unrefused e);
         })
         (λ s. picked (Lays p) (isType "StatusUnsubscribe" j) _ _ (λ e. calm _ (took-unsubscribe start p h m k l j d e s a (ended-known m l j unrefused e)) refl refl a s)
-        (λ u. picked (Lays p) (isType "CommandRequest" j) _ _ (λ e. calm _ (took-other start p h m k l j d a s u) refl refl a s) (λ e. calm _ (took-other start p h m k l j d a s u) refl refl a s))))))
+        (λ u. picked (Lays p) (asksFor "CommandRequest" j) _ _ (λ e. calm _ (took-other start p h m k l j d a s u) refl refl a s) (λ e. calm _ (took-other start p h m k l j d a s u) refl refl a s))))))
       where
         other : (name : String) → sameBytes (text name) (text "Alarm") ≡ false → sameBytes (text name) (text "StatusSubscribe") ≡ false → sameBytes (text name) (text "StatusUnsubscribe") ≡ false
             → isType name j ≡ true → KeptBy start (p ∷ h) m
@@ -222,8 +222,13 @@ module _ (start : ℕ) (h : List Past) where
       module _ (id : Bytes) (j : Json) (r : readPacket bytes ≡ some j) where
         replying-goes : (e : Effect) → ((o : Outcome) → did (gives o) ≡ doing none none none (some (l, j)) false → Lays (gives o) e) → Goes this (replying l t id j e)
         unfolding replying
-        replying-goes e each = picked (Goes this) (wantsReply (e .leaves) l j) (replied l t id j e) (acked l t id j e) (λ w. with-reply) (λ w. without-reply)
+        replying-goes e each =
+            picked (Goes this) (repliesAtOnce j) (responded l t id j e) _ (λ o. at-once)
+            (λ o. picked (Goes this) (wantsReply (e .leaves) l j) (replied l t id j e) (acked l t id j e) (λ w. with-reply) (λ w. without-reply))
           where
+            at-once : Goes this (responded l t id j e)
+            at-once = let x = each (outcome (responded l t id j e)) (rw (response-acks l t id j (e .leaves), r)) in record { kept = x .kept; issues = x .issues }
+
             with-reply : Goes this (replied l t id j e)
             with-reply =
                 let x = each (outcome (replied l t id j e)) (rw r) in

@@ -8,12 +8,13 @@ use Rattle.machine.specs.Words.{Bytes, isNumber, maybe, orElse, any, changed}
 use Rattle.machine.specs.State.{Alarm, Sent, Awaited, Life, fresh, Start, Machine, withLife, lifeAt, Act, Effect, handing, only}
 use Rattle.machine.specs.State.Sent.{ourVersion, ourWatchdog, noRecord, theRecord}
 use Rattle.machine.specs.State.Act.{connect, disconnect, packet, alarmInput, statusValue, aggregatedValue, tick, pump}
-use Rattle.machine.specs.Json.{readPacket, stringOf, isType}
+use Rattle.machine.specs.Json.{readPacket, stringOf, isType, isIncluded, asksFor}
 use Rattle.machine.specs.Table.Begins.{begins}
 use Rattle.machine.specs.Life.{offers, common, isOlder, awaitedBy, awaiting, Due, due}
 use Rattle.machine.specs.Life.Due.{theVersion, theWatchdog, theAggregated, theAlarm, theHeld}
-use Rattle.machine.specs.Answers.{isAnswer, wantsReply, reasonOf, failsCheck}
+use Rattle.machine.specs.Answers.{isAnswer, wantsReply, repliesAtOnce, reasonOf, failsCheck}
 use Rattle.machine.specs.Items.{happens, subscribe, unsubscribe, intervals, commands}
+use Rattle.machine.specs.Messages.{includedMessage}
 use Rattle.machine.specs.Effects.{connects, closes, late, ticks, ownIdentity, sentAs, afterSending, markSent, sends, answerCloses, acknowledges, settle, answers, answered, refuses, agreed, carriedOut, replyMessage, replying, receives, effectOf}
 use Rattle.machine.specs.Step.{outcome}
 use Rattle.machine.specs.Run.{Past, Run}
@@ -42,8 +43,14 @@ module _ (m : Machine) (l : ℕ) (j : Json) where
   unfolding refuses closes
   refuses-silent reason = picked (λ (e : Effect). (e .issues ≡ []) × (any isAck (e .messages) ≡ false)) (failsCheck reason) _ _ (λ e. (refl, refl)) (λ e. (refl, refl))
 
--- ---- the answer to a packet that no reason refuses, with a reply and without
+-- ---- the answer to a packet that no reason refuses: a response alone, with a reply and without
 module _ (l t : ℕ) (id : Bytes) (j : Json) where
+  abbrev pub responded : Effect → Effect
+  responded e = handing (e .commands) (e .leaves) (e .issues) (includedMessage (e .leaves) t j ∷ []) (e .closed) (e .hint)
+
+  pub response-acks : (m : Machine) → isAck (includedMessage m t j) ≡ true
+  response-acks m = picked (λ (w : Message). isAck w ≡ true) (isIncluded "CommandRequest" j) _ _ (λ e. refl) (λ e. refl)
+
   abbrev pub replied : Effect → Effect
   replied e =
       handing (e .commands) (withLife l (awaiting id t noRecord (lifeAt (e .leaves) l)) (e .leaves)) (e .issues)
@@ -155,7 +162,7 @@ module _ (l : ℕ) where
           (λ w. picked (On p) (isType "Alarm" j) _ _ (λ e. on-happens p (no-version v) _ _)
           (λ a. picked (On p) (isType "StatusSubscribe" j) _ _ (λ e. plain v)
           (λ s. picked (On p) (isType "StatusUnsubscribe" j) _ _ (λ e. plain v)
-          (λ u. picked (On p) (isType "CommandRequest" j) _ _ (λ e. plain v) (λ e. plain v))))))
+          (λ u. picked (On p) (asksFor "CommandRequest" j) _ _ (λ e. plain v) (λ e. plain v))))))
         where
           plain : isType "Version" j ≡ false → Told (p ∷ h) (lifeAt m l)
           plain v = as-before p (no-version v) (lifeAt m l) (refl, refl)
@@ -178,11 +185,12 @@ module _ (l : ℕ) where
         goes-replying : (e : Effect) → ((p : Past) → did p .took ≡ some (l, j) → On p e) → Goes this (replying l t id j e)
         unfolding replying
         goes-replying e each =
-            picked (Goes this) (wantsReply (e .leaves) l j) (replied l t id j e) (acked l t id j e)
+            picked (Goes this) (repliesAtOnce j) (responded l t id j e) _ (λ o. each (pastOf this (responded l t id j e)) (rw (response-acks l t id j (e .leaves), r)))
+            (λ o. picked (Goes this) (wantsReply (e .leaves) l j) (replied l t id j e) (acked l t id j e)
             (λ w.
             let p = pastOf this (replied l t id j e) in
             set-there (fresh false) (Told (p ∷ h)) l (awaiting id t noRecord (lifeAt (e .leaves) l)) (e .leaves .lives) (each p (rw r)) (untaken (p ∷ h) false))
-            (λ w. each (pastOf this (acked l t id j e)) (rw r))
+            (λ w. each (pastOf this (acked l t id j e)) (rw r)))
 
         goes-received : Goes this (receives l t id m j)
         unfolding receives

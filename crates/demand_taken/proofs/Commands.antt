@@ -11,7 +11,7 @@ use Rattle.machine.specs.Json.{readPacket, stringOf, entriesOf, isType, asksFor
 use Rattle.machine.specs.Table.{lastSequence, commandNumber, commandRow}
 use Rattle.machine.specs.Table.Begins.{begins}
 use Rattle.machine.specs.Life.{isOver, isUp, isBeating, isAwaited, isOlder}
-use Rattle.machine.specs.Answers.{isAnswer, isIgnored, commanded, needs, isMissing, isBad, componentAsked, commandAsked, valueAsked, inRange, outOfRange, unknownCommand, wantsReply, repliesAtOnce, isUnexpected, reasons, reasonOf}
+use Rattle.machine.specs.Answers.{isAnswer, isIgnored, commanded, needs, isMissing, isBad, componentAsked, commandAsked, valueAsked, inRange, outOfRange, unknownCommand, wantsReply, isUnexpected, reasons, reasonOf}
 use Rattle.machine.specs.Items.{commandOfEntry, commandsAsked, commands}
 use Rattle.machine.specs.Messages.{commandEntry}
 use Rattle.machine.specs.Effects.{ownIdentity, carriedOut, replying, receives, effectOf}
