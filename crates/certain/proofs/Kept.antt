@@ -21,6 +21,7 @@ use Rattle.demand_refused.proofs.Demand.{demand1}
 use Rattle.demand_told.proofs.Demand.{demand2}
 use Rattle.demand_told.proofs.GreetedDemand.{demand-greeted}
 use Rattle.demand_told.proofs.VersionDemand.{demand-version}
+use Rattle.demand_told.proofs.IncludedDemand.{demand-included}
 use Rattle.demand_told.proofs.ReadDemand.{demand-read}
 use Rattle.demand_held.proofs.Demand.{demand3}
 use Rattle.demand_carried.proofs.Demand.{demand-carried}
@@ -56,6 +57,7 @@ demands =
       commanding = demand-commands;
       closing = demand-closing;
       choosing = demand-version;
+      including = demand-included;
       beating = demand-beats;
       issuing = demand-issues;
       replying = demand-replies;

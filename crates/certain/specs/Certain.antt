@@ -150,6 +150,6 @@ pub record Certain : Type 1 where
   -- the cases that document 01 marks, and a conversation from bytes to bytes
   pub marked : Marked
   pub conversation : Conversation
-  -- a case, or several, of each rule of document 01 and of requests 01, 02 and 05
+  -- a case, or several, of each rule of document 01 and of requests 01, 02, 04, 05 and 07
   pub cases : Cases
   pub weekly : Weekly
