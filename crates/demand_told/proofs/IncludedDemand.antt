@@ -26,7 +26,7 @@ use Rattle.demand_told.specs.Demand.{messagesOf}
 use Rattle.demand_told.specs.IncludedDemand.{Named, AlikeBut, Shared, packetAt, DemandIncluded}
 use Rattle.demand_told.specs.IncludedDemand.Named.{status-request, command-request}
 use Rattle.demand_told.specs.IncludedDemand.Shared.{both-refused, both-not-acked, both-answered, one-busy, one-awaited}
-use Rattle.demand_told.proofs.Replies.{one-type, asks-old, asks-new, asks-only, asks-nothing-else, at-once, at-once-only, not-at-once}
+use Rattle.demand_told.proofs.Replies.{one-type, withAck, asks-old, asks-new, asks-only, asks-nothing-else, at-once, at-once-only, not-at-once}
 use Rattle.demand_told.proofs.Entries.{status-needs, command-needs}
 use Rattle.demand_told.proofs.GreetedDemand.{by-number}
 use Rattle.demand_told.proofs.Limits.{run-limit}
@@ -218,8 +218,8 @@ module _ (m : Machine) (t l room : ℕ) (random bytes : Bytes) (j : Json) (read 
         (λ n e. let q : refused n ≡ refused 9 = sym (gives-refused n e) ∙ d in let same : n ≡ 9 = cc in not-nine n e same)
 
 -- ---- two that are alike but for the ending
-asks-not : (a b : String) → sameBytes (text a) (text b) ≡ false → sameBytes (text a ++ text "AckIncluded") (text b) ≡ false → sameBytes (text a) (text b ++ text "AckIncluded") ≡ false
-    → sameBytes (text a ++ text "AckIncluded") (text b ++ text "AckIncluded") ≡ false → (j : Json) → asksFor a j ≡ true → asksFor b j ≡ false
+asks-not : (a b : String) → sameBytes (text a) (text b) ≡ false → sameBytes (withAck a) (text b) ≡ false → sameBytes (text a) (withAck b) ≡ false
+    → sameBytes (withAck a) (withAck b) ≡ false → (j : Json) → asksFor a j ≡ true → asksFor b j ≡ false
 asks-not a b w x y z j e = rw (asks-only a b w x j e, asks-nothing-else a b y z j e)
 
 module _ {name : String} (n : Named name) (old new : Json) (a : AlikeBut name old new) where
@@ -401,16 +401,16 @@ module _ {name : String} (n : Named name) (old new : Json) (a : AlikeBut name ol
       new-gives : reasonOf m l new ≡ none → outcome (receives l t id m new) ≡ done (includedMessage m t new ∷ []) [] none (handed m old)
       new-gives e = rw (responds new at-once-new m l t id e, handed-same)
 
-      record Told-alike : Type 0 where
+      record ToldAlike : Type 0 where
         kind : Told
         entries : List Status
         by-old : replyMessage m t id old ≡ statuses kind id (stringOf "cId" old) t entries
         by-new : includedMessage m t new ≡ included kind (stringOf "mId" old) (stringOf "cId" old) t entries
 
-      told-alike : Told-alike
+      told-alike : ToldAlike
       told-alike = go n (a .old-type) (a .new-type)
         where
-          go : {name : String} → Named name → isType name old ≡ true → isIncluded name new ≡ true → Told-alike
+          go : {name : String} → Named name → isType name old ≡ true → isIncluded name new ≡ true → ToldAlike
           go status-request x y =
               record {
                 kind = Response;
@@ -526,7 +526,7 @@ module _ {name : String} (n : Named name) (old new : Json) (a : AlikeBut name ol
     new-refused reason e =
         new-done ∙ ap outcome (refused-as new (other n old new a) m l t id reason e) ∙ ap (λ (x : Bytes). done (notAck x (text reason) ∷ []) [] none []) mId-same
 
-    abbrev told : Told-alike n old new a m l t id
+    abbrev told : ToldAlike n old new a m l t id
     told = told-alike n old new a m l t id
 
     new-answered : reasonOf m l new ≡ none
