@@ -1,6 +1,6 @@
 -- The claims about CommandRequest are kept.
 -- Assumes nothing.
-use Rattle.basis.proofs.Std.{ℕ, arith, _≡_, refl, sym, ap, ap₂, _∙_, Bool, true, List, [], _∷_, ltb, text, bool-cases}
+use Rattle.basis.proofs.Std.{ℕ, arith, _≡_, refl, sym, ap, ap₂, _∙_, Bool, true, false, List, [], _∷_, some, ltb, text, bool-cases}
 use Rattle.json_value.specs.Grammar.{Json}
 use Rattle.json_value.specs.Grammar.Json.{null}
 use Rattle.read_head.specs.declared.Verdict.{Verdict}
@@ -13,13 +13,14 @@ use Rattle.read_commands.specs.declared.CommandList.{CommandList}
 use Rattle.read_commands.specs.Command.{noCommand, commandOfItem, noCommands, pushCommand, commandsOf, commandIn}
 use Rattle.read_commands.proofs.Kept as Commands
 use Rattle.machine.specs.Json as Machine
-use Rattle.machine.specs.Json.{element, isType}
+use Rattle.machine.specs.Json.{element, stringAt}
 use Rattle.machine.specs.Answers as Answers
 use Rattle.machine.specs.Answers.{Need, one, _is_, label, commanded, anyEntry, needs}
 use Rattle.refine_read.specs.Verdicts.{verdict, judged}
 use Rattle.refine_read.specs.Commands.{commandOf, CommandReads, Claims}
 use Rattle.refine_read.proofs.Words.{foundOf, element-found, judged-more, both-good}
-use Rattle.refine_read.proofs.Types.{type-is}
+use Rattle.refine_read.specs.Head.{typeName}
+use Rattle.refine_read.proofs.Types.{asked-as}
 use Rattle.refine_read.proofs.Fields.{label-judged, label-kept, last-judged}
 use Rattle.refine_read.proofs.Kept.{only}
 use Rattle.refine_read.proofs.Indexed.{taken-at}
@@ -54,9 +55,11 @@ pushes l x = bool-cases (ltb (l .count) 16)
 abbrev theEntries : Need
 theEntries = Answers.entries "arg" commanded anyEntry
 
-command-needs : (older : Bool) (j : Json) → isType "CommandRequest" j ≡ true → needs older j ≡ one ("cId" is label) ∷ theEntries ∷ []
+command-needs : (older : Bool) (j : Json) (included : Bool) → stringAt "type" j ≡ some (typeName "CommandRequest" included)
+    → needs older j ≡ one ("cId" is label) ∷ theEntries ∷ []
 unfolding needs
-command-needs older j e = rw (type-is j "CommandRequest" e)
+command-needs older j false e = rw e
+command-needs older j true e = rw e
 
 module _ (j : Json) where
   list-in : listIn j (text "arg") ≡ listOf (foundOf (element "arg" j))
@@ -89,7 +92,7 @@ module _ (j : Json) where
         verdict = λ older e.
             ap₂ worst (label-judged j "cId") (entries-judged ∙ sym (last-judged j theEntries))
             ∙ sym (judged-more j (one ("cId" is label)) (theEntries ∷ []))
-            ∙ ap (judged j) (sym (command-needs older j e));
+            ∙ ap (judged j) (sym (asked-as j "CommandRequest" e (command-needs older j)));
         component = λ g. label-kept j "cId" (parts g .0);
         entries = λ g. entries-held (parts g .1) .all;
         at = λ g.

@@ -1,6 +1,6 @@
 -- The head that the code takes from a packet's value is the one by the machine's tests.
 -- Assumes nothing.
-use Rattle.basis.proofs.Std.{ℕ, _-_, String, arith, _≡_, refl, sym, ap, _∙_, Bool, true, false, not, List, [], _++_, append-nil, Option, some, none, length, replicate, pick, both, text, bool-cases, untrue, not-both, same-true}
+use Rattle.basis.proofs.Std.{ℕ, _-_, String, arith, _≡_, refl, sym, ap, _∙_, Bool, true, false, not, List, [], _++_, append-nil, Option, some, none, length, replicate, pick, both, sameBytes, text, bool-cases, untrue, not-both, same-true}
 use Rattle.identity.specs.declared.ReadIdentity.{ReadIdentity}
 use Rattle.identity.specs.Text.{identityText}
 use Rattle.identity.specs.Read.{readIdentity, notFound}
@@ -21,9 +21,9 @@ use Rattle.read_head.specs.Head as Code
 use Rattle.read_head.specs.Head.{identityOf, characters, typeOf, ignored, answered, asked, headBy, headIn}
 use Rattle.machine.specs.Words.{Bytes, if_then_else_, _or_, reads, maybe, isSome, orElse}
 use Rattle.machine.specs.Json.{shape, element, stringOf, elementIs, isIdentity}
-use Rattle.machine.specs.Answers.{isAnswer}
+use Rattle.machine.specs.Answers.{isAnswer, repliesAtOnce}
 use Rattle.refine_read.specs.Verdicts.{verdict}
-use Rattle.refine_read.specs.Head.{kindOf, mTypeOf, answerClass, answerOf, requestOf, headOf}
+use Rattle.refine_read.specs.Head.{kindOf, typeName, mTypeOf, answerClass, answerOf, requestOf, headOf}
 use Rattle.refine_read.proofs.Words.{at-text, wordOf, word-in, usable}
 use Rattle.refine_read.proofs.Usable.{usable-of}
 use Rattle.refine_read.proofs.Identity.{readable, identity-long, identity-ascii}
@@ -81,10 +81,10 @@ identity-in j name = ap identityOf (word-in j name) ∙ identity-of (element nam
 
 -- ---- an answer, and any other packet
 abbrev answeredBy : Class → ReadIdentity → Head
-answeredBy c r = record { class = c; received = record { bytes = replicate 36 0 }; identity = r .id }
+answeredBy c r = record { class = c; received = record { bytes = replicate 36 0 }; identity = r .id; included = false }
 
-abbrev askedBy : Class → Bytes → Head
-askedBy c d = record { class = c; received = record { bytes = d }; identity = record { bytes = replicate 16 0 } }
+abbrev askedBy : Class → Bool → Bytes → Head
+askedBy c included d = record { class = c; received = record { bytes = d }; identity = record { bytes = replicate 16 0 }; included = included }
 
 answered-of : (c : Class) (b m : Bool) (r : ReadIdentity) → (b ≡ true → m ≡ false) → answered c (verdict m (not b)) r ≡ pick (both b (r .found)) (answeredBy c r) ignored
 answered-of c true true r h = untrue (sym (h refl))
@@ -116,36 +116,45 @@ readable-of : (o : Option Bytes) → maybe false isIdentity o ≡ readIdentity (
 readable-of none = sym (ap (λ (r : ReadIdentity). r .found) nothing-read)
 readable-of (some d) = readable d
 
-asked-of : (k : Kind) (v : Verdict) (o : Option Json) → asked k v (wordOf o) ≡ pick (maybe false isIdentity (stringIn o)) (askedBy (Asked v k) (orElse [] (stringIn o))) ignored
-asked-of k v o =
+asked-of : (k : Kind) (n : Bool) (v : Verdict) (o : Option Json)
+    → asked k n v (wordOf o) ≡ pick (maybe false isIdentity (stringIn o)) (askedBy (Asked v k) n (orElse [] (stringIn o))) ignored
+asked-of k n v o =
     let e : maybe false isIdentity (stringIn o) ≡ identityOf (wordOf o) .found = readable-of (stringIn o) ∙ ap (λ (r : ReadIdentity). r .found) (sym (identity-of o)) in
     rw e (by (identityOf (wordOf o) .found) refl)
   where
-    by : (b : Bool) → identityOf (wordOf o) .found ≡ b → pick b (askedBy (Asked v k) (characters (wordOf o))) ignored ≡ pick b (askedBy (Asked v k) (orElse [] (stringIn o))) ignored
-    by true e = ap (askedBy (Asked v k)) (received-of o e)
+    by : (b : Bool) → identityOf (wordOf o) .found ≡ b → pick b (askedBy (Asked v k) n (characters (wordOf o))) ignored ≡ pick b (askedBy (Asked v k) n (orElse [] (stringIn o))) ignored
+    by true e = ap (askedBy (Asked v k) n) (received-of o e)
     by false e = refl
 
 -- ---- type
-abbrev kindSaid : (String → Bool) → Kind
-kindSaid is =
-    if is "Version" then Version
-    else if is "Watchdog" then Watchdog
-    else if is "Alarm" then Alarm
-    else if is "AggregatedStatusRequest" then AggregatedStatusRequest
-    else if is "StatusRequest" then StatusRequest
-    else if is "StatusSubscribe" then StatusSubscribe
-    else if is "StatusUnsubscribe" then StatusUnsubscribe
-    else if is "CommandRequest" then CommandRequest
-    else Unexpected
+module _ (is : Bytes → Bool) where
+  -- by either type
+  abbrev asks : String → Bool
+  asks name = is (typeName name false) or is (typeName name true)
 
-abbrev headSaid : (String → Bool) → Verdict → (List ℕ → Word) → Head
-headSaid is v f =
-    if is "MessageAck" or is "MessageNotAck" then answered (if is "MessageAck" then Acked else NotAcked) v (identityOf (f (text "oMId")))
-    else asked (kindSaid is) v (f (text "mId"))
+  abbrev kindSaid : Kind
+  kindSaid =
+      if is (text "Version") then Version
+      else if is (text "Watchdog") then Watchdog
+      else if is (text "Alarm") then Alarm
+      else if is (text "AggregatedStatusRequest") then AggregatedStatusRequest
+      else if asks "StatusRequest" then StatusRequest
+      else if is (text "StatusSubscribe") then StatusSubscribe
+      else if is (text "StatusUnsubscribe") then StatusUnsubscribe
+      else if asks "CommandRequest" then CommandRequest
+      else Unexpected
+
+  abbrev includedSaid : Bool
+  includedSaid = is (typeName "StatusRequest" true) or is (typeName "CommandRequest" true)
+
+  abbrev headSaid : Verdict → (List ℕ → Word) → Head
+  headSaid v f =
+      if is (text "MessageAck") or is (text "MessageNotAck") then answered (if is (text "MessageAck") then Acked else NotAcked) v (identityOf (f (text "oMId")))
+      else asked kindSaid includedSaid v (f (text "mId"))
 
 module _ (v : Verdict) (f : List ℕ → Word) where
   abbrev Said : Bytes → Type 0
-  Said d = Code.headOf (typeOf (wordFor d)) v f ≡ headSaid (λ n. reads n d) v f
+  Said d = Code.headOf (typeOf (wordFor d)) v f ≡ headSaid (sameBytes d) v f
 
   type-said : (d : Bytes) → Said d
   unfolding ascii
@@ -164,11 +173,15 @@ module _ (v : Verdict) (f : List ℕ → Word) where
       at-text Said d (text "StatusUpdate") refl (λ o.
       at-text Said d (text "CommandRequest") refl (λ p.
       at-text Said d (text "CommandResponse") refl (λ q.
+      at-text Said d (text "StatusRequestAckIncluded") refl (λ r.
+      at-text Said d (text "StatusResponseAckIncluded") refl (λ s.
+      at-text Said d (text "CommandRequestAckIncluded") refl (λ u.
+      at-text Said d (text "CommandResponseAckIncluded") refl (λ w.
       bool-cases (usable d)
-      (λ t. rw (t, a, b, c, e, g, h, i, k, l, m, n, o, p, q))
-      (λ t. rw (t, a, b, c, e, g, i, k, m, n, p))))))))))))))))
+      (λ t. rw (t, a, b, c, e, g, h, i, k, l, m, n, o, p, q, r, s, u, w))
+      (λ t. rw (t, a, b, c, e, g, i, k, m, n, p, r, u))))))))))))))))))))
 
-  type-of : (o : Option Json) → Code.headOf (typeOf (wordOf o)) v f ≡ headSaid (λ n. saysIn n o) v f
+  type-of : (o : Option Json) → Code.headOf (typeOf (wordOf o)) v f ≡ headSaid (λ n. maybe false (λ d. sameBytes d n) (stringIn o)) v f
   type-of none = refl
   type-of (some null) = refl
   type-of (some (bool b)) = refl
@@ -187,8 +200,8 @@ module _ (j : Json) where
       (answered-of (answerClass j) (elementIs "mType" "rSMsg" j) (not (isSome (element "mType" j))) (readIdentity (stringOf "oMId" j)) (there (element "mType" j))
       ∙ rw (readable (stringOf "oMId" j)))
 
-  request-is : asked (kindOf j) (mTypeOf j) (wordIn j (text "mId")) ≡ requestOf j
-  request-is = ap (asked (kindOf j) (mTypeOf j)) (word-in j "mId") ∙ asked-of (kindOf j) (mTypeOf j) (element "mId" j)
+  request-is : asked (kindOf j) (repliesAtOnce j) (mTypeOf j) (wordIn j (text "mId")) ≡ requestOf j
+  request-is = ap (asked (kindOf j) (repliesAtOnce j) (mTypeOf j)) (word-in j "mId") ∙ asked-of (kindOf j) (repliesAtOnce j) (mTypeOf j) (element "mId" j)
 
   pub head-is : headIn j ≡ headOf j
   unfolding headIn headBy
@@ -196,6 +209,6 @@ module _ (j : Json) where
       rw (mtype-in, word-in j "type")
       (type-of (mTypeOf j) (wordIn j) (element "type" j) ∙ by (isAnswer j))
     where
-      by : (b : Bool) → pick b (answered (answerClass j) (mTypeOf j) (identityOf (wordIn j (text "oMId")))) (asked (kindOf j) (mTypeOf j) (wordIn j (text "mId"))) ≡ pick b (answerOf j) (requestOf j)
+      by : (b : Bool) → pick b (answered (answerClass j) (mTypeOf j) (identityOf (wordIn j (text "oMId")))) (asked (kindOf j) (repliesAtOnce j) (mTypeOf j) (wordIn j (text "mId"))) ≡ pick b (answerOf j) (requestOf j)
       by true = answer-is
       by false = request-is

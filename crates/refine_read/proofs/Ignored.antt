@@ -8,9 +8,9 @@ use Rattle.read_head.specs.declared.Class.the-variants.{Acked, NotAcked, Asked}
 use Rattle.read_head.specs.Head.{ignored}
 use Rattle.machine.specs.Words.{Bytes, _and_, _or_, maybe, isSome, orElse, any, firstThat, butFirst}
 use Rattle.machine.specs.State.{Awaited, Life}
-use Rattle.machine.specs.Json.{stringAt, stringOf, elementIs, isType, isIdentity, isIdentityOf}
+use Rattle.machine.specs.Json.{stringAt, stringOf, elementIs, isType, asksFor, isIdentity, isIdentityOf}
 use Rattle.machine.specs.Life.{isGreeting, isAwaited, awaitedBy, withAwaited, answeredTo}
-use Rattle.machine.specs.Answers.{isAnswer, awaitedHere, isReadable, isIgnored}
+use Rattle.machine.specs.Answers.{isAnswer, awaitedHere, isReadable, isIgnored, repliesAtOnce}
 use Rattle.refine_read.specs.Head.{kindOf, mTypeOf, answerClass, answerOf, requestOf, headOf}
 use Rattle.refine_read.specs.Ignored.{AllSixteen, isOf, foundBy, leftBy, isVersion, ignoredAs, ignoredBy}
 use Rattle.refine_read.proofs.Identity.{readable, says-bytes}
@@ -74,13 +74,13 @@ module _ (k : Life) (v : AllSixteen (k .awaited)) where
         ap (λ (b : Bool). not (elementIs "mType" "rSMsg" j and b)) (here (stringAt "oMId" j)) ∙ by (elementIs "mType" "rSMsg" j) (isIdentity (stringOf "oMId" j))
       where
         by : (a b : Bool) → not (both a (both b (isAwaited k id)))
-            ≡ ignoredBy k (pick (both a b) (record { class = answerClass j; received = record { bytes = replicate 36 0 }; identity = readIdentity (stringOf "oMId" j) .id }) ignored)
+            ≡ ignoredBy k (pick (both a b) (record { class = answerClass j; received = record { bytes = replicate 36 0 }; identity = readIdentity (stringOf "oMId" j) .id; included = false }) ignored)
         by true true = sym either
         by true false = refl
         by false b = refl
 
     version-kind : isVersion (kindOf j) ≡ isType "Version" j
-    version-kind = by (isType "Version" j) (isType "Watchdog" j) (isType "Alarm" j) (isType "AggregatedStatusRequest" j) (isType "StatusRequest" j) (isType "StatusSubscribe" j) (isType "StatusUnsubscribe" j) (isType "CommandRequest" j)
+    version-kind = by (isType "Version" j) (isType "Watchdog" j) (isType "Alarm" j) (isType "AggregatedStatusRequest" j) (asksFor "StatusRequest" j) (isType "StatusSubscribe" j) (isType "StatusUnsubscribe" j) (asksFor "CommandRequest" j)
       where
         by : (a b c d e f g h : Bool)
             → isVersion (pick a Version (pick b Watchdog (pick c Alarm (pick d AggregatedStatusRequest (pick e StatusRequest (pick f StatusSubscribe (pick g StatusUnsubscribe (pick h CommandRequest Unexpected)))))))) ≡ a
@@ -98,7 +98,7 @@ module _ (k : Life) (v : AllSixteen (k .awaited)) where
     request-ignored = by (isReadable j)
       where
         by : (b : Bool) → (not b or (isGreeting k and not (isType "Version" j)))
-            ≡ ignoredBy k (pick b (record { class = Asked (mTypeOf j) (kindOf j); received = record { bytes = stringOf "mId" j }; identity = record { bytes = replicate 16 0 } }) ignored)
+            ≡ ignoredBy k (pick b (record { class = Asked (mTypeOf j) (kindOf j); received = record { bytes = stringOf "mId" j }; identity = record { bytes = replicate 16 0 }; included = repliesAtOnce j }) ignored)
         by true = ap (λ (b : Bool). both (isGreeting k) (not b)) (sym version-kind)
         by false = refl
 

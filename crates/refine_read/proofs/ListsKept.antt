@@ -1,6 +1,6 @@
 -- The claims about the status types are kept.
 -- Assumes nothing.
-use Rattle.basis.proofs.Std.{ℕ, arith, _≡_, refl, sym, ap, ap₂, _∙_, Bool, true, false, List, [], _∷_, ltb, text, bool-cases}
+use Rattle.basis.proofs.Std.{ℕ, arith, _≡_, refl, sym, ap, ap₂, _∙_, Bool, true, false, List, [], _∷_, some, ltb, text, bool-cases}
 use Rattle.json_value.specs.Grammar.{Json}
 use Rattle.json_value.specs.Grammar.Json.{null}
 use Rattle.read_head.specs.declared.Verdict.{Verdict}
@@ -13,12 +13,13 @@ use Rattle.read_lists.specs.Items.{Item, itemIn, listOf, listIn}
 use Rattle.read_lists.specs.Status.{noEntry, entryOfItem, noStatuses, pushEntry, statusesOf, statusIn}
 use Rattle.read_lists.proofs.Kept as Lists
 use Rattle.machine.specs.Json as Machine
-use Rattle.machine.specs.Json.{element, isType}
+use Rattle.machine.specs.Json.{element, stringAt, isType, asksFor}
 use Rattle.machine.specs.Answers as Answers
 use Rattle.machine.specs.Answers.{Need, one, _is_, label, needs}
 use Rattle.refine_read.specs.Verdicts.{verdict, judged}
 use Rattle.refine_read.proofs.Words.{foundOf, element-found, judged-more, both-good}
-use Rattle.refine_read.proofs.Types.{type-is}
+use Rattle.refine_read.specs.Head.{typeName}
+use Rattle.refine_read.proofs.Types.{type-is, asked-as}
 use Rattle.refine_read.proofs.Fields.{label-judged, label-kept, last-judged}
 use Rattle.refine_read.proofs.Kept.{only}
 use Rattle.refine_read.specs.Statuses.{askingFor, isRead, entryOf, StatusReads, Claims}
@@ -75,9 +76,11 @@ subscribe-needs : (older : Bool) (j : Json) → isType "StatusSubscribe" j ≡ t
 unfolding needs
 subscribe-needs older j e = rw (type-is j "StatusSubscribe" e)
 
-request-needs : (older : Bool) (j : Json) → isType "StatusRequest" j ≡ true → needs older j ≡ one ("cId" is label) ∷ theEntries false older ∷ []
+request-needs : (older : Bool) (j : Json) (included : Bool) → stringAt "type" j ≡ some (typeName "StatusRequest" included)
+    → needs older j ≡ one ("cId" is label) ∷ theEntries false older ∷ []
 unfolding needs
-request-needs older j e = rw (type-is j "StatusRequest" e)
+request-needs older j false e = rw e
+request-needs older j true e = rw e
 
 unsubscribe-needs : (older : Bool) (j : Json) → isType "StatusUnsubscribe" j ≡ true → needs older j ≡ one ("cId" is label) ∷ theEntries false older ∷ []
 unfolding needs
@@ -85,7 +88,8 @@ unsubscribe-needs older j e = rw (type-is j "StatusUnsubscribe" e)
 
 status-needs : (subscribing older : Bool) (j : Json) → isRead subscribing j ≡ true → needs older j ≡ one ("cId" is label) ∷ theEntries subscribing older ∷ []
 status-needs true older j e = subscribe-needs older j e
-status-needs false older j e = bool-cases (isType "StatusRequest" j) (λ t. request-needs older j t) (λ f. unsubscribe-needs older j (rw f at e))
+status-needs false older j e =
+    bool-cases (asksFor "StatusRequest" j) (λ t. asked-as j "StatusRequest" t (request-needs older j)) (λ f. unsubscribe-needs older j (rw f at e))
 
 module _ (subscribing older : Bool) (j : Json) where
   abbrev theList : StatusList

@@ -1,4 +1,4 @@
--- The fields of a CommandRequest, in the machine's words; proofs/CommandsKept.antt proves it.
+-- The fields of a CommandRequest, by either type, in the machine's words; proofs/CommandsKept.antt proves it.
 -- Assumes nothing.
 use Prim.Native.Nat.{ℕ, _≤_, _<_}
 use mathlib.Core.Path.{_≡_}
@@ -14,7 +14,7 @@ use Rattle.read_commands.specs.declared.CommandEntry.{CommandEntry}
 use Rattle.read_commands.specs.declared.CommandFields.{CommandFields}
 use Rattle.read_commands.specs.Command.{noCommand, commandAt}
 use Rattle.machine.specs.Words.{Bytes}
-use Rattle.machine.specs.Json.{readPacket, stringOf, entriesOf, isType}
+use Rattle.machine.specs.Json.{readPacket, stringOf, entriesOf, asksFor}
 use Rattle.machine.specs.Answers.{valueAsked}
 use Rattle.refine_read.specs.Verdicts.{verdictIn}
 
@@ -23,7 +23,7 @@ abbrev pub commandOf : Json → CommandEntry
 commandOf e = record { code = labelOf (stringOf "cCI" e); name = labelOf (stringOf "n" e); value = valueAsked e }
 
 pub record CommandReads (j : Json) (f : CommandFields) : Type 0 where
-  pub verdict : (older : Bool) → isType "CommandRequest" j ≡ true → f .verdict ≡ verdictIn older j
+  pub verdict : (older : Bool) → asksFor "CommandRequest" j ≡ true → f .verdict ≡ verdictIn older j
   pub component : f .verdict ≡ Good → f .component ≡ labelOf (stringOf "cId" j)
   -- all entries, in order, "at most 16"
   pub entries : f .verdict ≡ Good → take (f .count) (f .entries) ≡ map commandOf (entriesOf "arg" j)

@@ -12,12 +12,12 @@ use Rattle.read_head.specs.declared.Verdict.{Verdict}
 use Rattle.read_head.specs.declared.Verdict.the-variants.{Good, Missing, Bad}
 use Rattle.machine.specs.Words.{if_then_else_, _and_, maybe, isSome, isNumber, any, firstOf}
 use Rattle.machine.specs.State.{Machine, lifeAt}
-use Rattle.machine.specs.Json.{entriesOf, elementIs, isType}
+use Rattle.machine.specs.Json.{stringAt, entriesOf, elementIs, isType}
 use Rattle.machine.specs.Table.{commandRow}
 use Rattle.machine.specs.Life.{isBeating, isPrimary, isOlder}
 use Rattle.machine.specs.Answers.{componentAsked, alarmAsked, statusAsked, commandAsked, valueAsked, inRange, isUnexpected, reasons}
 use Rattle.refine_read.specs.Verdicts.{verdictIn}
-use Rattle.refine_read.specs.Head.{mTypeOf}
+use Rattle.refine_read.specs.Head.{typeName, mTypeOf}
 
 -- "Missing element", "Bad value", then what comes behind them
 abbrev pub byVerdict : Verdict → Option String → Option String
@@ -60,13 +60,14 @@ pub record FurtherReasons (m : Machine) (l : ℕ) (j : Json) : Type 0 where
       else some "Unknown component")
   pub aggregated : isType "AggregatedStatusRequest" j ≡ true
       → furtherReason m l j ≡ (if isNumber 0 (componentAsked m j) then busyIf m l true else some "Unknown component")
-  pub status-request : isType "StatusRequest" j ≡ true
-      → furtherReason m l j ≡ (if isSome (componentAsked m j) and anyUnknown m j then some "Unknown status" else busyIf m l true)
+  -- never "Busy" where the answer carries the acknowledgement
+  pub status-request : (included : Bool) → stringAt "type" j ≡ some (typeName "StatusRequest" included)
+      → furtherReason m l j ≡ (if isSome (componentAsked m j) and anyUnknown m j then some "Unknown status" else busyIf m l (not included))
   pub status-subscribe : isType "StatusSubscribe" j ≡ true
       → furtherReason m l j ≡ (if isSome (componentAsked m j) and not (anyUnknown m j) then none else some "Unknown status")
   pub status-unsubscribe : isType "StatusUnsubscribe" j ≡ true
       → furtherReason m l j ≡ (if isSome (componentAsked m j) and not (anyUnknown m j) then none else some "Unknown status")
-  pub command-request : isType "CommandRequest" j ≡ true
+  pub command-request : (included : Bool) → stringAt "type" j ≡ some (typeName "CommandRequest" included)
       → furtherReason m l j
-      ≡ (if isSome (componentAsked m j) then if anyOutOfRange m j then some "Bad value" else if anyUnknownCommand m j then some "Unknown command" else busyIf m l true
-      else busyIf m l true)
+      ≡ (if isSome (componentAsked m j) then if anyOutOfRange m j then some "Bad value" else if anyUnknownCommand m j then some "Unknown command" else busyIf m l (not included)
+      else busyIf m l (not included))

@@ -16,7 +16,7 @@ use Rattle.read_lists.specs.declared.StatusEntry.{StatusEntry}
 use Rattle.read_lists.specs.declared.StatusFields.{StatusFields}
 use Rattle.read_lists.specs.Status.{noEntry, statusAt}
 use Rattle.machine.specs.Words.{Bytes, if_then_else_, _or_, orElse}
-use Rattle.machine.specs.Json.{readPacket, stringOf, entriesOf, isType}
+use Rattle.machine.specs.Json.{readPacket, stringOf, entriesOf, isType, asksFor}
 use Rattle.machine.specs.Answers.{interval, asksChange}
 use Rattle.refine_read.specs.Verdicts.{verdictIn}
 
@@ -28,7 +28,7 @@ askingFor true true = Older
 
 abbrev pub isRead : Bool → Json → Bool
 isRead true j = isType "StatusSubscribe" j
-isRead false j = isType "StatusRequest" j or isType "StatusUnsubscribe" j
+isRead false j = asksFor "StatusRequest" j or isType "StatusUnsubscribe" j
 
 -- "each entry sCI, n; to subscribe also uRt, sOc"; request 07: "a subscription has no sOc" on a link of the edition before
 abbrev pub entryOf : Bool → Bool → Json → StatusEntry
