@@ -1,6 +1,6 @@
 -- The characters that a request's head keeps are its mId's.
 -- Assumes nothing.
-use Rattle.basis.proofs.Std.{ℕ, _-_, _≡_, refl, sym, _∙_, ap, subst, true, List, [], _∷_, _++_, arith, length, replicate, length-map, text, sameBytes, picked, untrue}
+use Rattle.basis.proofs.Std.{ℕ, _-_, _≡_, refl, sym, _∙_, ap, subst, Bool, true, List, [], _∷_, _++_, arith, length, replicate, length-map, text, sameBytes, picked, untrue}
 use Rattle.identity.specs.declared.ReadIdentity.{ReadIdentity}
 use Rattle.identity.specs.Hex.{lowerHex}
 use Rattle.identity.specs.Read.{Says, readIdentity}
@@ -19,7 +19,7 @@ use Rattle.read_head.specs.declared.Class.the-variants.{Ignored, Acked, NotAcke
 use Rattle.read_head.specs.declared.Head.{Head}
 use Rattle.read_head.specs.Word.{Word, absent, other, word, wordAt}
 use Rattle.read_head.specs.Values.{verdictOf}
-use Rattle.read_head.specs.Head.{identityOf, characters, typeOf, isType, kindFor, ignored, answered, asked, headFor, headOf, headBy, headAt}
+use Rattle.read_head.specs.Head.{identityOf, characters, typeOf, isType, kindFor, includedFor, ignored, answered, asked, headFor, headOf, headBy, headAt}
 use Rattle.call_laws.specs.Formedness.{ReceivedIn}
 
 -- a request's characters are those of an identity
@@ -53,8 +53,8 @@ characters-kept (word d) e =
     let h = answers d .accepted e in
     subst Received (all-of-it d (said-length d (readIdentity d .id .bytes) h)) (record { bytes = readIdentity d .id .bytes; says = h })
 
-asked-kept : (k : Kind) (v : Verdict) (w : Word) → Kept (asked k v w)
-asked-kept k v w =
+asked-kept : (k : Kind) (included : Bool) (v : Verdict) (w : Word) → Kept (asked k included v w)
+asked-kept k included v w =
     picked Kept (identityOf w .found) _ ignored (λ e. λ a b c. characters-kept w e) (λ e. ignored-kept)
 
 answer-kept : (c : Class) → ((v : Verdict) (k : Kind) → c ≡ Asked v k → ⊥) → (v : Verdict) (o : ReadIdentity) → Kept (answered c v o)
@@ -66,11 +66,11 @@ for-kept : (i : ℕ) (v : Verdict) (f : List ℕ → Word) → Kept (headFor i v
 for-kept i v f =
     picked Kept (isType "MessageAck" i) _ _ (λ e. answer-kept Acked (λ a b d. omega (arith, ap which d)) v (identityOf (f (text "oMId"))))
     (λ e. picked Kept (isType "MessageNotAck" i) _ _ (λ g. answer-kept NotAcked (λ a b d. omega (arith, ap which d)) v (identityOf (f (text "oMId"))))
-    (λ g. asked-kept (kindFor i) v (f (text "mId"))))
+    (λ g. asked-kept (kindFor i) (includedFor i) v (f (text "mId"))))
 
 of-kept : (t : Found) (v : Verdict) (f : List ℕ → Word) → Kept (headOf t v f)
 of-kept (At i) v f = for-kept i v f
-of-kept Nothing v f = asked-kept _ v (f (text "mId"))
+of-kept Nothing v f = asked-kept _ _ v (f (text "mId"))
 
 by-kept : (f : List ℕ → Word) → Kept (headBy f)
 unfolding headBy

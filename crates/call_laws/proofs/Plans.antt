@@ -1,9 +1,10 @@
 -- The messages of every call that writes are well-formed and have room in 4,096 bytes.
 -- Assumes nothing.
-use Rattle.basis.proofs.Std.{ℕ, _+_, _%_, _≤_, _<_, _≡_, refl, sym, _∙_, ap, subst, Bool, true, List, [], _∷_, _++_, _⊎_, inl, inr, arith, eqb, ltb, lit≤, length, getD, set, length-set, count, pick, picked, lt-or-ge, both-first}
+use Rattle.basis.proofs.Std.{ℕ, _+_, _%_, _≤_, _<_, _≡_, refl, sym, _∙_, ap, subst, Bool, true, List, [], _∷_, _++_, _⊎_, inl, inr, arith, eqb, ltb, lit≤, length, getD, set, length-set, length-append, count, picked, lt-or-ge, both-first}
 use Rattle.identity.specs.declared.Identity.{Identity}
 use Rattle.identity.specs.Read.{SixteenBytes}
 use Rattle.identity.specs.Version.{version4Of}
+use Rattle.label.specs.Label.{textOf}
 use Rattle.entry.specs.declared.Entry.{Entry}
 use Rattle.names.specs.Names.{nameOf, IsReason}
 use Rattle.pool.specs.declared.Place.{Place}
@@ -21,11 +22,14 @@ use Rattle.link.specs.declared.Due.the-variants.{Nothing, Version, Watchdog, Ag
 use Rattle.link.specs.declared.Role.{Role}
 use Rattle.link.specs.declared.Role.the-variants.{Primary, Secondary}
 use Rattle.link.specs.Steps.{fullOf, closesOf}
-use Rattle.write_message.specs.Message.{Message}
-use Rattle.write_message.specs.Message.Message.{ack, notAck}
+use Rattle.write_message.specs.declared.Told.{Told}
+use Rattle.write_message.specs.declared.Told.the-variants.{Response, Command as CommandResponse}
+use Rattle.write_message.specs.Message.{Message, Status}
+use Rattle.write_message.specs.Message.Message.{ack, notAck, statuses}
 use Rattle.write_message.specs.Listing.{bytesOf}
-use Rattle.write_laws.specs.Formed.{Received, Formed}
-use Rattle.write_laws.specs.Formed.Formed.{formed-watchdog, formed-ack, formed-notAck, formed-statuses}
+use Rattle.write_laws.specs.Formed.{Label, Received, FormedStatuses, Answering, Formed}
+use Rattle.write_laws.specs.Formed.Answering.{a-status, a-command}
+use Rattle.write_laws.specs.Formed.Formed.{formed-watchdog, formed-ack, formed-notAck, formed-statuses, formed-included}
 use Rattle.write_laws.specs.Size.{most, entriesIn}
 use Rattle.write_laws.proofs.Kept.{kept as lawful}
 use Rattle.read_head.specs.declared.Verdict.{Verdict}
@@ -56,14 +60,14 @@ use Rattle.site.specs.Call.{Command, Plan}
 use Rattle.call_pump.specs.Pump.{isHeld, Below, dueAt, entryPlan, planFor, pumpPlan}
 use Rattle.call_pump.proofs.Laws.{due-below}
 use Rattle.packet_answer.specs.declared.Question.{Question}
-use Rattle.packet_answer.specs.Taken.{Taken, notAcked, handing, replied, byVerdict, unlessBusy, missingElement, badValue, rsmpVersion, siteId, sxlVersion, busy, unknownComponent, unknownAlarm, unknownStatus, unknownCommand}
+use Rattle.packet_answer.specs.Taken.{Taken, notAcked, handing, replied, byVerdict, unlessBusy, answering, missingElement, badValue, rsmpVersion, siteId, sxlVersion, busy, unknownComponent, unknownAlarm, unknownStatus, unknownCommand}
 use Rattle.packet_greet.specs.Answered.{answeredPlan}
 use Rattle.packet_greet.specs.Version.{own, versionJudged, versionTaken}
 use Rattle.packet_greet.specs.Watchdog.{beat, watchdogTaken}
 use Rattle.packet_subscribe.specs.Subscribing.{changed, judged, asked, subscribingTaken}
 use Rattle.packet_alarm.specs.Orders.{changeTaken, isZero, requestBy, requestTaken, ordered, orderedOf, foundTaken, alarmTaken, aggregatedOf, aggregatedTaken}
-use Rattle.packet_status.specs.StatusReply.{passes, response, requestedOf, statusTaken}
-use Rattle.packet_command.specs.Commanding.{keepsRanges, commandsOf, orderedOf as commandedOf, commandTaken, passes as allThere, response as commandResponse}
+use Rattle.packet_status.specs.StatusReply.{passes, told, requestedOf, statusTaken}
+use Rattle.packet_command.specs.Commanding.{keepsRanges, commandsOf, orderedOf as commandedOf, commandTaken, passes as allThere, told as toldCommands}
 use Rattle.call_laws.specs.Sound.{EachHeld, EntryOf, SoundAt}
 use Rattle.call_laws.proofs.Held.{held-at}
 use Rattle.call_laws.proofs.Parts.{each-set}
@@ -95,6 +99,14 @@ and-reply received r m f h =
     record {
       formed = (formed-ack r, (f, tt));
       room = omega (arith, lawful .room received m r f h, ap (λ (z : List ℕ). length (bytesOf (ack received) ++ z)) (append-nil (bytesOf m)));
+    }
+
+-- a response that is the answer
+at-once : (received : List ℕ) → Received received → (m : Message) → Formed m → entriesIn m ≤ 16 → Sendable (m ∷ [])
+at-once received r m f h =
+    record {
+      formed = (f, tt);
+      room = omega (arith, lawful .room received m r f h, length-append (bytesOf (ack received)) (bytesOf m), ap length (append-nil (bytesOf m)));
     }
 
 -- ---- identities
@@ -199,6 +211,12 @@ module _ (s : Site) (q : Question) (r : Received (q .received .bytes)) where
     replied-sends : (m : Message) → Formed m → entriesIn m ≤ 16 → Sends (unlessBusy s q (replied s q m))
     replied-sends m f e = handing-sends m [] f e
 
+    answering-sends : (kind : Told) → Answering kind → (component : List ℕ) → Label component → (entries : List Status) → FormedStatuses entries → length entries ≤ 16
+        → (commands : List Command) → Sends (answering s q kind component entries commands)
+    answering-sends kind a component c entries f e commands =
+        picked Sends (q .included) _ _ (λ t. at-once (q .received .bytes) r _ (formed-included a r c (h .last) f) e)
+        (λ t. handing-sends (statuses kind (q .identity .bytes) component (q .time) entries) commands (formed-statuses sixteen c (h .last) f) e)
+
     request-sends : (k : ℕ) → k < s .table .alarmcount → (w : Role) → Sends (requestBy s q k w)
     request-sends k i Primary = replied-sends (alarmMessage s (q .identity .bytes) k) (alarm-formed (q .time) s h (q .identity .bytes) sixteen k i) (lit≤ tt)
     request-sends k i Secondary = an-ack (q .received .bytes) r
@@ -231,44 +249,31 @@ module _ (s : Site) (q : Question) (r : Received (q .received .bytes)) where
         (λ e. picked Sends (isZero x) (unlessBusy s q (replied s q m)) (notAcked s q unknownComponent)
         (λ t. replied-sends m (aggregated-formed (q .time) s h (q .identity .bytes) sixteen) (lit≤ tt)) (λ t. a-reason (q .received .bytes) r unknownComponent tt))
 
-    response-formed : (x : Sought) (f : StatusFields) → GoodFields f → f .verdict ≡ Good → Formed (response s (q .time) (q .identity .bytes) x f)
-    unfolding response
-    response-formed x f g e = formed-statuses sixteen (g .component e) (h .last) (told-to (q .time) s h x (f .entries) (f .count) (g .entries e))
-
-    response-few : (x : Sought) (f : StatusFields) → GoodFields f → entriesIn (response s (q .time) (q .identity .bytes) x f) ≤ 16
-    unfolding response
-    response-few x f g = let most = g .few in omega (arith, told-length (q .time) s h x (f .entries) (f .count), most)
-
     fields-send : (f : StatusFields) → GoodFields f → Sends (statusTaken s q f)
-    unfolding statusTaken
+    unfolding statusTaken told
     fields-send f g =
         let x = componentSought (s .table) (f .component) in
-        let m = response s (q .time) (q .identity .bytes) x f in
+        let most = g .few in
         by-verdict (f .verdict) (requestedOf s q f x)
-        (λ e. picked Sends (passes s f x) (unlessBusy s q (replied s q m)) (notAcked s q unknownStatus)
-        (λ t. replied-sends m (response-formed x f g e) (response-few x f g)) (λ t. a-reason (q .received .bytes) r unknownStatus tt))
+        (λ e. picked Sends (passes s f x) _ (notAcked s q unknownStatus)
+        (λ t. answering-sends Response a-status (textOf (f .component)) (g .component e) (told s x f) (told-to (q .time) s h x (f .entries) (f .count) (g .entries e))
+        (omega (arith, told-length (q .time) s h x (f .entries) (f .count), most)) [])
+        (λ t. a-reason (q .received .bytes) r unknownStatus tt))
 
     status-sends : (packet : List ℕ) → Sends (statusTaken s q (statusAt Plain packet))
     status-sends packet = fields-send (statusAt Plain packet) (fields-good Plain packet)
 
-    command-formed : (x : Sought) (f : CommandFields) → GoodCommands f → f .verdict ≡ Good → Formed (commandResponse (q .time) (q .identity .bytes) x f)
-    unfolding commandResponse
-    command-formed x f g e = formed-statuses sixteen (g .component e) (h .last) (told-commands x (f .entries) (f .count) (g .entries e))
-
-    command-few : (x : Sought) (f : CommandFields) → GoodCommands f → entriesIn (commandResponse (q .time) (q .identity .bytes) x f) ≤ 16
-    unfolding commandResponse
-    command-few x f g = let most = g .few in omega (arith, commands-length x (f .entries) (f .count), most)
-
     commands-send : (f : CommandFields) → GoodCommands f → Sends (commandTaken s q f)
-    unfolding commandTaken
+    unfolding commandTaken toldCommands
     commands-send f g =
         let x = componentSought (s .table) (f .component) in
-        let m = commandResponse (q .time) (q .identity .bytes) x f in
-        let t = unlessBusy s q (handing s q m (commandsOf (s .table) f x)) in
+        let most = g .few in
         by-verdict (f .verdict) (commandedOf s q f x)
-        (λ e. picked Sends (keepsRanges (s .table) f x) (pick (allThere (s .table) f x) t (notAcked s q unknownCommand)) (notAcked s q badValue)
-        (λ i. picked Sends (allThere (s .table) f x) t (notAcked s q unknownCommand)
-        (λ j. handing-sends m (commandsOf (s .table) f x) (command-formed x f g e) (command-few x f g)) (λ j. a-reason (q .received .bytes) r unknownCommand tt))
+        (λ e. picked Sends (keepsRanges (s .table) f x) _ (notAcked s q badValue)
+        (λ i. picked Sends (allThere (s .table) f x) _ (notAcked s q unknownCommand)
+        (λ j. answering-sends CommandResponse a-command (textOf (f .component)) (g .component e) (toldCommands x f) (told-commands x (f .entries) (f .count) (g .entries e))
+        (omega (arith, commands-length x (f .entries) (f .count), most)) (commandsOf (s .table) f x))
+        (λ j. a-reason (q .received .bytes) r unknownCommand tt))
         (λ i. a-reason (q .received .bytes) r badValue tt))
 
     command-sends : (packet : List ℕ) → Sends (commandTaken s q (commandAt packet))

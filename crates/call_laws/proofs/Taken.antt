@@ -1,7 +1,8 @@
 -- What every kind of packet but the subscribing ones comes to is a sound plan.
 -- Assumes nothing.
-use Rattle.basis.proofs.Std.{ℕ, _/_, _%_, _<_, Bool, List, [], ltb-true, pick, both, picked, both-true}
+use Rattle.basis.proofs.Std.{ℕ, _/_, _%_, _<_, Bool, List, [], ltb-true, both, picked, both-true}
 use Rattle.identity.specs.declared.Identity.{Identity}
+use Rattle.label.specs.Label.{textOf}
 use Rattle.awaited.specs.declared.Purpose.{Purpose}
 use Rattle.awaited.specs.declared.Purpose.the-variants.{Version, Watchdog, Entry, Other}
 use Rattle.awaited.specs.declared.Found.{Found}
@@ -14,7 +15,9 @@ use Rattle.link.specs.Steps.{messageOutOf, fullOf, closesOf, answeredOf, versio
 use Rattle.alarm.specs.declared.Order.{Order as Change}
 use Rattle.alarm.specs.Alarm.{orderOf}
 use Rattle.alarm.specs.Issued.{issuedOf}
-use Rattle.write_message.specs.Message.{Message}
+use Rattle.write_message.specs.declared.Told.{Told}
+use Rattle.write_message.specs.declared.Told.the-variants.{Response, Command as CommandResponse}
+use Rattle.write_message.specs.Message.{Message, Status}
 use Rattle.read_head.specs.declared.Verdict.{Verdict}
 use Rattle.read_head.specs.declared.Verdict.the-variants.{Good, Missing, Bad}
 use Rattle.read_head.specs.declared.Order.{Order}
@@ -37,13 +40,13 @@ use Rattle.site.specs.Site.{roleOf, linkAt, hasPrimary}
 use Rattle.site.specs.Parts.{alarmAt}
 use Rattle.site.specs.Call.{Command}
 use Rattle.packet_answer.specs.declared.Question.{Question}
-use Rattle.packet_answer.specs.Taken.{Taken, notAcked, closing, handing, replied, byVerdict, unlessBusy, badValue, rsmpVersion, siteId, sxlVersion, unknownComponent, unknownAlarm, unknownStatus, unknownCommand, busy}
+use Rattle.packet_answer.specs.Taken.{Taken, notAcked, closing, handing, replied, byVerdict, unlessBusy, answering, badValue, rsmpVersion, siteId, sxlVersion, unknownComponent, unknownAlarm, unknownStatus, unknownCommand, busy}
 use Rattle.packet_greet.specs.Answered.{settledFor, settled, answeredPlan}
 use Rattle.packet_greet.specs.Version.{own, versionJudged, versionTaken}
 use Rattle.packet_greet.specs.Watchdog.{beat, watchdogTaken}
 use Rattle.packet_alarm.specs.Orders.{changeTaken, isZero, requestBy, requestTaken, ordered, orderedOf, foundTaken, alarmTaken, aggregatedOf, aggregatedTaken}
-use Rattle.packet_status.specs.StatusReply.{passes, response, requestedOf, statusTaken}
-use Rattle.packet_command.specs.Commanding.{keepsRanges, commandsOf, orderedOf as commandedOf, commandTaken, passes as allThere, response as commandResponse}
+use Rattle.packet_status.specs.StatusReply.{passes, told, requestedOf, statusTaken}
+use Rattle.packet_command.specs.Commanding.{keepsRanges, commandsOf, orderedOf as commandedOf, commandTaken, passes as allThere, told as toldCommands}
 use Rattle.call_laws.specs.Sound.{EntryOf, SoundAt}
 use Rattle.call_laws.specs.SoundPlans.{SoundPlan}
 use Rattle.call_laws.proofs.Held.{held-settle}
@@ -95,6 +98,10 @@ module _ (s : Site) (q : Question) (h : SoundAt (q .time) s) where
 
   unless-busy : (t : Taken) → Good-plan t → SoundPlan (q .time) (unlessBusy s q t .plan)
   unless-busy t g = picked Good-plan (fullOf (linkAt s (q .link))) (notAcked s q busy) t (λ e. not-acked busy) (λ e. g)
+
+  answering-sound : (kind : Told) (component : List ℕ) (entries : List Status) (commands : List Command) → SoundPlan (q .time) (answering s q kind component entries commands .plan)
+  answering-sound kind component entries commands =
+      picked Good-plan (q .included) _ _ (λ e. record { site = h; issued = tt }) (λ e. unless-busy (handing s q _ commands) (handing-sound _ commands))
 
   -- ---- greeting
   judged-sound : (j : Judged) → SoundPlan (q .time) (versionJudged s q j .plan)
@@ -162,19 +169,17 @@ module _ (s : Site) (q : Question) (h : SoundAt (q .time) s) where
   unfolding statusTaken
   status-sound f =
       let x = componentSought (s .table) (f .component) in
-      let m = response s (q .time) (q .identity .bytes) x f in
       by-verdict (f .verdict) (requestedOf s q f x)
-      (picked Good-plan (passes s f x) (unlessBusy s q (replied s q m)) (notAcked s q unknownStatus)
-      (λ e. unless-busy (replied s q m) (replied-sound m)) (λ e. not-acked unknownStatus))
+      (picked Good-plan (passes s f x) _ (notAcked s q unknownStatus)
+      (λ e. answering-sound Response (textOf (f .component)) (told s x f) []) (λ e. not-acked unknownStatus))
 
   pub command-sound : (f : CommandFields) → SoundPlan (q .time) (commandTaken s q f .plan)
   unfolding commandTaken
   command-sound f =
       let x = componentSought (s .table) (f .component) in
-      let t = handing s q (commandResponse (q .time) (q .identity .bytes) x f) (commandsOf (s .table) f x) in
       by-verdict (f .verdict) (commandedOf s q f x)
-      (picked Good-plan (keepsRanges (s .table) f x) (pick (allThere (s .table) f x) (unlessBusy s q t) (notAcked s q unknownCommand)) (notAcked s q badValue)
-      (λ e. picked Good-plan (allThere (s .table) f x) (unlessBusy s q t) (notAcked s q unknownCommand)
-      (λ e. unless-busy t (handing-sound (commandResponse (q .time) (q .identity .bytes) x f) (commandsOf (s .table) f x)))
+      (picked Good-plan (keepsRanges (s .table) f x) _ (notAcked s q badValue)
+      (λ e. picked Good-plan (allThere (s .table) f x) _ (notAcked s q unknownCommand)
+      (λ e. answering-sound CommandResponse (textOf (f .component)) (toldCommands x f) (commandsOf (s .table) f x))
       (λ e. not-acked unknownCommand))
       (λ e. not-acked badValue))
