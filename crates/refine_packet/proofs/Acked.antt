@@ -11,12 +11,10 @@ use Rattle.site.specs.declared.Site.{Site}
 use Rattle.site.specs.Site.{roleOf}
 use Rattle.packet_answer.specs.Taken.{acked}
 use Rattle.machine.specs.Words.{Bytes, orElse, isNumber}
-use Rattle.machine.specs.State.{Machine, Effect, handing, withLife, lifeAt}
-use Rattle.machine.specs.State.Sent.{noRecord}
+use Rattle.machine.specs.State.{Machine, Effect, handing}
 use Rattle.machine.specs.Json.{stringOf}
-use Rattle.machine.specs.Life.{awaiting}
-use Rattle.machine.specs.Answers.{wantsReply}
-use Rattle.machine.specs.Effects.{carriedOut, replyMessage, replying}
+use Rattle.machine.specs.Answers.{wantsReply, repliesAtOnce}
+use Rattle.machine.specs.Effects.{carriedOut, replying}
 use Rattle.refine_parts.specs.Questions.{roleIn}
 use Rattle.refine_calls.specs.Abstracts.{Abstracts}
 use Rattle.refine_calls.specs.Calls.{SamePlan}
@@ -30,25 +28,20 @@ same-role s m h l b = ap (λ (q : ℕ). pick (eqb l q) Primary Secondary) (h .it
     by none = ap (λ (c : Bool). pick c Primary Secondary) (ne-eqb l 65535 (λ e. omega (arith, h .items .setup .few, b, e)))
     by (some q) = refl
 
-module _ (m : Machine) (l t : ℕ) (id : Bytes) (j : Json) where
-  unreplied : (e : Effect) → wantsReply (e .leaves) l j ≡ false
-      → replying l t id j e ≡ handing (e .commands) (e .leaves) (e .issues) (ack (stringOf "mId" j) ∷ []) (e .closed) (e .hint)
-  unfolding replying
-  unreplied e w =
-      ap (λ (b : Bool). pick b
-      (handing (e .commands) (withLife l (awaiting id t noRecord (lifeAt (e .leaves) l)) (e .leaves)) (e .issues)
-      (ack (stringOf "mId" j) ∷ replyMessage (e .leaves) t id j ∷ []) (e .closed) (e .hint))
-      (handing (e .commands) (e .leaves) (e .issues) (ack (stringOf "mId" j) ∷ []) (e .closed) (e .hint))) w
+unreplied : (l t : ℕ) (id : Bytes) (j : Json) (e : Effect) → repliesAtOnce j ≡ false → wantsReply (e .leaves) l j ≡ false
+    → replying l t id j e ≡ handing (e .commands) (e .leaves) (e .issues) (ack (stringOf "mId" j) ∷ []) (e .closed) (e .hint)
+unfolding replying
+unreplied l t id j e o w = rw (o, w)
 
 module _ (s : Site) (m : Machine) (l t : ℕ) (id : Identity) (j : Json) where
   -- e is what it does besides
   pub only-acked : (after : Site) (es : List Entry) (hint : Hint) (e : Effect) → carriedOut l t j m ≡ e
-      → wantsReply m l j ≡ false → wantsReply (e .leaves) l j ≡ false → after .next ≡ s .next
+      → repliesAtOnce j ≡ false → wantsReply m l j ≡ false → wantsReply (e .leaves) l j ≡ false → after .next ≡ s .next
       → SamePlan (acked after es (questionOn l t id j) hint .plan) (handing (e .commands) (e .leaves) (e .issues) (ack (stringOf "mId" j) ∷ []) (e .closed) (e .hint))
       → SameTaken s m l t id j (acked after es (questionOn l t id j) hint) none
-  only-acked after es hint e c w v n p =
+  only-acked after es hint e c o w v n p =
       record {
         replies = sym w;
         next = n;
-        plan = λ u. subst (SamePlan (acked after es (questionOn l t id j) hint .plan)) (sym (ap (replying l t (id .bytes) j) c ∙ unreplied m l t (id .bytes) j e v)) p;
+        plan = λ u. subst (SamePlan (acked after es (questionOn l t id j) hint .plan)) (sym (ap (replying l t (id .bytes) j) c ∙ unreplied l t (id .bytes) j e o v)) p;
       }

@@ -68,7 +68,7 @@ module _ (s : Site) (m : Machine) (h : Abstracts s m) (l : ℕ) (b : l < m .setu
       (pick z (unlessBusy s (questionOn l t id j) (replied s (questionOn l t id j) (aggregatedMessage s (id .bytes)))) (notAcked s (questionOn l t id j) unknownComponent))
       (pick z (busyIf m l true) (some "Unknown component"))
   by-component true =
-      reply s m h l b up t id v j (aggregatedMessage s (id .bytes)) (done-so j ty l t m) (replies j ty m l)
+      reply s m h l b up t id v j (aggregatedMessage s (id .bytes)) (done-so j ty l t m) (rw ty) (replies j ty m l)
       (messages .messages s m (h .items) (id .bytes) .aggregated ∙ sym (told-so j ty m t (id .bytes)))
   by-component false = reasons s m h l b t id j .unknown-component
 

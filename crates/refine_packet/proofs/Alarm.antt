@@ -108,11 +108,11 @@ module _ (s : Site) (m : Machine) (h : Abstracts s m) (l : ℕ) (b : l < m .setu
     by-role : stringAt "aSp" j ≡ some (text "Request") → (c : Bool) → isPrimary m l ≡ c
         → SameTaken s m l t id j (requestBy s (questionOn l t id j) k (pick c Primary Secondary)) (busyIf m l c)
     by-role e true q =
-        reply s m h l b up t id v j (alarmMessage s (id .bytes) k) (happens-so Request e ∙ nothing-happens m k) (wants-so Request e ∙ q)
+        reply s m h l b up t id v j (alarmMessage s (id .bytes) k) (happens-so Request e ∙ nothing-happens m k) (rw ty) (wants-so Request e ∙ q)
         (messages .messages s m (h .items) (id .bytes) .alarm k there
         ∙ sym (told-so j ty m t (id .bytes) ∙ ap (λ (x : Option ℕ). alarmTold (m .setup .table) (id .bytes) (orElse 0 x) (alarmAt m (orElse 0 x))) asked))
     by-role e false q =
-        only-acked s m l t id j s [] noHint (only m) (happens-so Request e ∙ nothing-happens m k) (wants-so Request e ∙ q) (wants-so Request e ∙ q) refl
+        only-acked s m l t id j s [] noHint (only m) (happens-so Request e ∙ nothing-happens m k) (rw ty) (wants-so Request e ∙ q) (wants-so Request e ∙ q) refl
         (left s m h _)
 
     by-order : (o : Order) → stringAt "aSp" j ≡ some (text (orderWord o))
@@ -122,13 +122,13 @@ module _ (s : Site) (m : Machine) (h : Abstracts s m) (l : ℕ) (b : l < m .setu
         subst (λ (r : Role). SameTaken s m l t id j (requestBy s (questionOn l t id j) k r) (busyIf m l (isPrimary m l))) (sym (same-role s m h l b))
         (by-role e (isPrimary m l) refl)
     by-order Acknowledge e =
-        changed s m h l t id j k Acknowledging (acknowledgedAt t (alarmAt m k)) (happens-so Acknowledge e) (wants-so Acknowledge e)
+        changed s m h l t id j k Acknowledging (acknowledgedAt t (alarmAt m k)) (happens-so Acknowledge e) (rw ty) (wants-so Acknowledge e)
         (item-acts .acts s m (h .items) .orders k (questionOn l t id j) there .acknowledge)
     by-order Suspend e =
-        changed s m h l t id j k Suspending (suspendedAt t (alarmAt m k)) (happens-so Suspend e) (wants-so Suspend e)
+        changed s m h l t id j k Suspending (suspendedAt t (alarmAt m k)) (happens-so Suspend e) (rw ty) (wants-so Suspend e)
         (item-acts .acts s m (h .items) .orders k (questionOn l t id j) there .suspend)
     by-order Resume e =
-        changed s m h l t id j k Resuming (resumedAt t (alarmAt m k)) (happens-so Resume e) (wants-so Resume e)
+        changed s m h l t id j k Resuming (resumedAt t (alarmAt m k)) (happens-so Resume e) (rw ty) (wants-so Resume e)
         (item-acts .acts s m (h .items) .orders k (questionOn l t id j) there .resume)
 
   module _ (p : Bytes) (read : readPacket p ≡ some j) where

@@ -55,7 +55,7 @@ module _ (s : Site) (m : Machine) (h : Abstracts s m) (l : ℕ) (b : l < m .setu
   to = readIdentity (stringOf "oMId" j) .id
 
   abbrev answerHead : Head
-  answerHead = record { class = answerClass j; received = record { bytes = replicate 36 0 }; identity = to }
+  answerHead = record { class = answerClass j; received = record { bytes = replicate 36 0 }; identity = to; included = false }
 
   head-is : elementIs "mType" "rSMsg" j ≡ true → isIdentity (stringOf "oMId" j) ≡ true → headOf j ≡ answerHead
   head-is e f = ap (λ (c : Bool). pick c (answerOf j) (requestOf j)) is ∙ ap (λ (c : Bool). pick c answerHead ignored) (both-of e f)

@@ -143,14 +143,18 @@ module _ (s : Site) (m : Machine) (h : Abstracts s m) (l : ℕ) (b : l < m .setu
         staged Alarm (rw ty) (λ e. rw (same-beating, ty)) (λ e n. same-alarm s m h l b (is-up (rw ty) (rw ty) n) t id v p j read ty)
     by-type k (aggregated-request ty) =
         staged AggregatedStatusRequest (rw ty) (λ e. rw (same-beating, ty)) (λ e n. same-aggregated s m h l b (is-up (rw ty) (rw ty) n) t id v p j read ty)
-    by-type k (status-request ty) =
-        staged StatusRequest (rw ty) (λ e. rw (same-beating, ty)) (λ e n. same-statuses .status-request s m h l b (is-up (rw ty) (rw ty) n) t id v p j read ty)
+    by-type k (status-request false ty) =
+        staged StatusRequest (rw ty) (λ e. rw (same-beating, ty)) (λ e n. same-statuses .status-request false s m h l b (is-up (rw ty) (rw ty) n) t id v p j read ty)
+    by-type k (status-request true ty) =
+        staged StatusRequest (rw ty) (λ e. rw (same-beating, ty)) (λ e n. same-statuses .status-request true s m h l b (is-up (rw ty) (rw ty) n) t id v p j read ty)
     by-type k (status-subscribe ty) =
         staged StatusSubscribe (rw ty) (λ e. rw (same-beating, ty)) (λ e n. same-statuses .status-subscribe s m h l b (is-up (rw ty) (rw ty) n) t id v p j read ty)
     by-type k (status-unsubscribe ty) =
         staged StatusUnsubscribe (rw ty) (λ e. rw (same-beating, ty)) (λ e n. same-statuses .status-unsubscribe s m h l b (is-up (rw ty) (rw ty) n) t id v p j read ty)
-    by-type k (command-request ty) =
-        staged CommandRequest (rw ty) (λ e. rw (same-beating, ty)) (λ e n. same-command s m h l b (is-up (rw ty) (rw ty) n) t id v p j read ty)
+    by-type k (command-request false ty) =
+        staged CommandRequest (rw ty) (λ e. rw (same-beating, ty)) (λ e n. same-command false s m h l b (is-up (rw ty) (rw ty) n) t id v p j read ty)
+    by-type k (command-request true ty) =
+        staged CommandRequest (rw ty) (λ e. rw (same-beating, ty)) (λ e n. same-command true s m h l b (is-up (rw ty) (rw ty) n) t id v p j read ty)
     by-type k (not-taken f) =
         let u : isUnexpected (lifeAt m l) j ≡ true =
         ap (λ (c : Bool). pick (not c) true (both (isType "Version" j) (pick (not (lifeAt m l .versions .sent)) true (lifeAt m l .versions .taken)))) f in

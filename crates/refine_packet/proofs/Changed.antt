@@ -12,7 +12,7 @@ use Rattle.packet_alarm.specs.Orders.{recordsOf, changeTaken}
 use Rattle.machine.specs.Words.{maybe}
 use Rattle.machine.specs.State.{Alarm, issuedFor, Machine, withAlarm, effect, only}
 use Rattle.machine.specs.State.Content.{ofAlarm}
-use Rattle.machine.specs.Answers.{wantsReply}
+use Rattle.machine.specs.Answers.{wantsReply, repliesAtOnce}
 use Rattle.machine.specs.Items.{isSilent, told, happens}
 use Rattle.machine.specs.Effects.{carriedOut}
 use Rattle.demand_held.proofs.Lists.{Each}
@@ -36,11 +36,11 @@ module _ (s : Site) (m : Machine) (h : Abstracts s m) where
       by false (some p) f = one-more (f p refl) no-more
 
   module _ (l t : ℕ) (id : Identity) (j : Json) (k : ℕ) (order : Change) where
-    pub changed : (o : Option Alarm) → carriedOut l t j m ≡ happens m k o → wantsReply m l j ≡ false
+    pub changed : (o : Option Alarm) → carriedOut l t j m ≡ happens m k o → repliesAtOnce j ≡ false → wantsReply m l j ≡ false
         → SameEffect (changeTaken s (questionOn l t id j) k order .plan) (happens m k o) → SameTaken s m l t id j (changeTaken s (questionOn l t id j) k order) none
     unfolding changeTaken happens
-    changed none c w e =
-        only-acked s m l t id j (withAlarmIn s k (orderOf (alarmIn s k) order t .alarm)) (recordsOf s k (orderOf (alarmIn s k) order t)) noHint (only m) c w w refl
+    changed none c r w e =
+        only-acked s m l t id j (withAlarmIn s k (orderOf (alarmIn s k) order t .alarm)) (recordsOf s k (orderOf (alarmIn s k) order t)) noHint (only m) c r w w refl
         (record {
           leaves = record { items = e .items; last = h .last; link-places = h .link-places; life-count = h .life-count; lives = h .lives; pool = h .pool };
           issued = record { issued = e .records .issued; told = e .records .told };
@@ -50,9 +50,9 @@ module _ (s : Site) (m : Machine) (h : Abstracts s m) where
           hint = refl;
           commands = no-command;
         })
-    changed (some a) c w e =
+    changed (some a) c r w e =
         only-acked s m l t id j (withAlarmIn s k (orderOf (alarmIn s k) order t .alarm)) (recordsOf s k (orderOf (alarmIn s k) order t)) noHint
-        (effect (withAlarm k a m) (told m k a) [] [] none) c w w refl
+        (effect (withAlarm k a m) (told m k a) [] [] none) c r w w refl
         (record {
           leaves = record { items = e .items; last = h .last; link-places = h .link-places; life-count = h .life-count; lives = h .lives; pool = h .pool };
           issued = record { issued = e .records .issued; told = e .records .told };

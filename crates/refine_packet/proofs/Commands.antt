@@ -1,6 +1,6 @@
--- Their CommandRequest is the machine's.
+-- Their CommandRequest, by either type, is the machine's.
 -- Assumes nothing.
-use Rattle.basis.proofs.Std.{ℕ, _^_, _<_, String, _≡_, refl, sym, ap, ap₂, subst, _∙_, Bool, true, false, not, List, [], _∷_, _++_, map, Option, some, none, lit<, ℤ, pos, length, getD, arith, pick, both, text}
+use Rattle.basis.proofs.Std.{ℕ, _^_, _<_, String, _≡_, refl, sym, ap, ap₂, subst, _∙_, Bool, true, false, not, List, [], _∷_, _++_, map, Option, some, none, lit<, ℤ, pos, length, getD, arith, pick, both}
 use Rattle.number.specs.Signed.{Signed32}
 use Rattle.number.specs.Reading.{ReadsInt, is-int}
 use Rattle.identity.specs.declared.Identity.{Identity}
@@ -14,7 +14,6 @@ use Rattle.json_value.specs.Grammar.Json.{null}
 use Rattle.write_message.specs.declared.Value.the-variants.{Recent, Undefined}
 use Rattle.write_message.specs.declared.Told.the-variants.{Command as CommandResponse}
 use Rattle.write_message.specs.Message.{Status, status}
-use Rattle.write_message.specs.Message.Message.{statuses}
 use Rattle.read_versions.proofs.Numerals.{integer}
 use Rattle.read_head.specs.declared.Verdict.{Verdict}
 use Rattle.read_head.specs.declared.Verdict.the-variants.{Good}
@@ -25,18 +24,19 @@ use Rattle.packet_lookup.specs.declared.Sought.{Sought}
 use Rattle.packet_lookup.specs.Sought.{componentSought, commandSought, isSought}
 use Rattle.site.specs.declared.Site.{Site}
 use Rattle.site.specs.Call.{Command}
-use Rattle.packet_answer.specs.Taken.{Taken, notAcked, handing, unlessBusy, badValue, unknownCommand}
-use Rattle.packet_command.specs.Commanding.{entryAt, inRange, within, allWithin, allCommands, passes, valueIn, toldOf, toldTo, response, numberOf, commandsTo, commandsOf, orderedOf, commandTaken}
+use Rattle.packet_answer.specs.Taken.{Taken, notAcked, answering, badValue, unknownCommand}
+use Rattle.packet_command.specs.Commanding.{entryAt, inRange, within, allWithin, allCommands, passes, valueIn, toldOf, toldTo, told, numberOf, commandsTo, commandsOf, orderedOf, commandTaken}
 use Rattle.machine.specs.Words.{Bytes, maybe, isSome, orElse, any}
-use Rattle.machine.specs.State.{Machine, lifeAt, handing as handingOf}
+use Rattle.machine.specs.State.{Machine, lifeAt}
 use Rattle.machine.specs.Life.{isOlder}
-use Rattle.machine.specs.Json.{stringAt, stringOf, entriesOf, isType, integerIn}
+use Rattle.machine.specs.Json.{stringAt, stringOf, entriesOf, asksFor, integerIn}
 use Rattle.machine.specs.Table.{commandNumber, commandRow}
-use Rattle.machine.specs.Answers.{componentAsked, commandAsked, valueAsked, wantsReply, inRange as inRangeOf}
+use Rattle.machine.specs.Answers.{componentAsked, commandAsked, valueAsked, inRange as inRangeOf}
 use Rattle.machine.specs.Items.{commandOfEntry, commandsAsked, commands}
-use Rattle.machine.specs.Messages.{commandMessage}
-use Rattle.machine.specs.Effects.{carriedOut, replyMessage}
+use Rattle.machine.specs.Messages.{commandEntries}
+use Rattle.machine.specs.Effects.{carriedOut}
 use Rattle.refine_read.specs.Verdicts.{verdictIn}
+use Rattle.refine_read.specs.Head.{typeName}
 use Rattle.refine_read.specs.Reasons.{byVerdict as reasonBy, furtherReason, busyIf, anyUnknownCommand, anyOutOfRange}
 use Rattle.refine_read.proofs.Kept as Reads
 use Rattle.refine_read.specs.Commands.{commandOf, CommandReads}
@@ -51,23 +51,19 @@ use Rattle.refine_packet.proofs.Lookups.{same-lookups}
 use Rattle.refine_packet.specs.Taken.{SameTaken, questionOn}
 use Rattle.refine_packet.proofs.Refused.{reasons, by-verdict}
 use Rattle.refine_packet.specs.Ordered.{IsUp}
-use Rattle.refine_packet.proofs.Replied.{hand}
+use Rattle.refine_packet.proofs.Replied.{Asks, answer as answering-so}
 use Rattle.refine_packet.proofs.Entries.{is-sought, all-pass, each-behind, named-component}
 use Rattle.refine_packet.specs.Commands.{SameCommandRequest}
 
-module _ (j : Json) (ty : stringAt "type" j ≡ some (text "CommandRequest")) where
-  is-request : isType "CommandRequest" j ≡ true
-  is-request = rw ty
+is-request : (j : Json) (n : Bool) → stringAt "type" j ≡ some (typeName "CommandRequest" n) → asksFor "CommandRequest" j ≡ true
+is-request j false ty = rw ty
+is-request j true ty = rw ty
 
-  replies : (m : Machine) (l : ℕ) → wantsReply m l j ≡ true
-  replies m l = rw ty
-
-  does : (l t : ℕ) (m : Machine) → carriedOut l t j m ≡ handingOf (commandsAsked m j) m [] [] [] none
-  unfolding carriedOut commands
-  does l t m = rw ty
-
-  told-so : (m : Machine) (t : ℕ) (id : Bytes) → replyMessage m t id j ≡ commandMessage m t id j
-  told-so m t id = rw ty
+asks : (m : Machine) (l t : ℕ) (id : Bytes) (j : Json) (n : Bool) → stringAt "type" j ≡ some (typeName "CommandRequest" n)
+    → Asks m l t id j n CommandResponse (commandEntries m j) (commandsAsked m j)
+unfolding carriedOut commands
+asks m l t id j false ty = record { at-once = rw ty; replies = rw ty; does = rw ty; told = rw ty }
+asks m l t id j true ty = record { at-once = rw ty; replies = rw ty; does = rw ty; told = rw ty }
 
 -- a value that is asked for has 32 bits
 read-range : (d : Bytes) (o : Option ℤ) → ReadsInt d (saidInteger o) → Signed32 (orElse (pos 0) o)
@@ -204,31 +200,26 @@ module _ (s : Site) (m : Machine) (h : Abstracts s m) (j : Json) (f : CommandFie
       (λ i b. ap (λ (x : Status). toldTo (soughtFor o) (f .entries) i ++ (x ∷ [])) (told-at o i b))
       ∙ each-behind (toldFor o) [] (entriesOf "arg" j)
 
-  response-so : (t : ℕ) (id : Bytes) → stringAt "type" j ≡ some (text "CommandRequest") → (o : Option ℕ) → componentAsked m j ≡ o
-      → response t id (soughtFor o) f ≡ replyMessage m t id j
-  unfolding response
-  response-so t id ty o a =
-      ap₂ (λ (c : Bytes) (xs : List Status). statuses CommandResponse id c t xs)
-      (ap textOf (r .component g) ∙ Reads.kept .kept (stringOf "cId" j))
-      (told-all o ∙ ap (λ (q : Option ℕ). map (toldFor q) (entriesOf "arg" j)) (sym a))
-      ∙ sym (told-so j ty m t id)
+  told-so : (o : Option ℕ) → componentAsked m j ≡ o → told (soughtFor o) f ≡ commandEntries m j
+  unfolding told
+  told-so o a = told-all o ∙ ap (λ (q : Option ℕ). map (toldFor q) (entriesOf "arg" j)) (sym a)
 
-module _ (s : Site) (m : Machine) (h : Abstracts s m) (l : ℕ) (b : l < m .setup .links) (up : IsUp (lifeAt m l)) (t : ℕ) (id : Identity) (v : SixteenBytes (id .bytes)) (j : Json) (ty : stringAt "type" j ≡ some (text "CommandRequest")) (f : CommandFields) (r : CommandReads j f) where
+module _ (s : Site) (m : Machine) (h : Abstracts s m) (l : ℕ) (b : l < m .setup .links) (up : IsUp (lifeAt m l)) (t : ℕ) (id : Identity) (v : SixteenBytes (id .bytes)) (j : Json) (n : Bool) (ty : stringAt "type" j ≡ some (typeName "CommandRequest" n)) (f : CommandFields) (r : CommandReads j f) where
   module _ (g : f .verdict ≡ Good) where
     abbrev answer : Option ℕ → Taken
-    answer o = unlessBusy s (questionOn l t id j) (handing s (questionOn l t id j) (response t (id .bytes) (soughtFor o) f) (commandsOf (s .table) f (soughtFor o)))
+    answer o = answering s (questionOn l t id j) CommandResponse (textOf (f .component)) (told (soughtFor o) f) (commandsOf (s .table) f (soughtFor o))
 
-    answered : (o : Option ℕ) → componentAsked m j ≡ o → SameTaken s m l t id j (answer o) (busyIf m l true)
+    answered : (o : Option ℕ) → componentAsked m j ≡ o → SameTaken s m l t id j (answer o) (busyIf m l (not n))
     answered o a =
-        hand s m h l b up t id v j (response t (id .bytes) (soughtFor o) f) (commandsOf (s .table) f (soughtFor o)) (commandsAsked m j) (handed-so s m h j f r g o a)
-        (does j ty l t m) (replies j ty m l) (response-so s m h j f r g t (id .bytes) ty o a)
+        answering-so s m h l b up t id v j n CommandResponse (textOf (f .component)) (told (soughtFor o) f) (commandEntries m j) (commandsOf (s .table) f (soughtFor o)) (commandsAsked m j)
+        (asks m l t (id .bytes) j n ty) (ap textOf (r .component g) ∙ Reads.kept .kept (stringOf "cId" j)) (told-so s m h j f r g o a) (handed-so s m h j f r g o a)
 
     abbrev judged : Bool → Bool → Option ℕ → Taken
     judged keeps knows o =
         pick keeps (pick knows (answer o) (notAcked s (questionOn l t id j) unknownCommand)) (notAcked s (questionOn l t id j) badValue)
 
     abbrev reasonFor : Bool → Bool → Option String
-    reasonFor outside unknown = pick outside (some "Bad value") (pick unknown (some "Unknown command") (busyIf m l true))
+    reasonFor outside unknown = pick outside (some "Bad value") (pick unknown (some "Unknown command") (busyIf m l (not n)))
 
     by-known : (c : ℕ) → componentAsked m j ≡ some c → (outside unknown : Bool)
         → SameTaken s m l t id j (judged (not outside) (not unknown) (some c)) (reasonFor outside unknown)
@@ -237,7 +228,7 @@ module _ (s : Site) (m : Machine) (h : Abstracts s m) (l : ℕ) (b : l < m .setu
     by-known c a false false = answered (some c) a
 
     abbrev reasonBehind : Option ℕ → Option String
-    reasonBehind o = pick (isSome o) (reasonFor (anyOutOfRange m j) (anyUnknownCommand m j)) (busyIf m l true)
+    reasonBehind o = pick (isSome o) (reasonFor (anyOutOfRange m j) (anyUnknownCommand m j)) (busyIf m l (not n))
 
     by-component : (o : Option ℕ) → componentAsked m j ≡ o → SameTaken s m l t id j (orderedOf s (questionOn l t id j) f (soughtFor o)) (reasonBehind o)
     by-component none a = answered none a
@@ -254,15 +245,15 @@ module _ (s : Site) (m : Machine) (h : Abstracts s m) (l : ℕ) (b : l < m .setu
   abbrev reason : Option String
   reason =
       pick (isSome (componentAsked m j))
-      (pick (anyOutOfRange m j) (some "Bad value") (pick (anyUnknownCommand m j) (some "Unknown command") (busyIf m l true))) (busyIf m l true)
+      (pick (anyOutOfRange m j) (some "Bad value") (pick (anyUnknownCommand m j) (some "Unknown command") (busyIf m l (not n)))) (busyIf m l (not n))
 
   taken : SameTaken s m l t id j (commandTaken s (questionOn l t id j) f) (reasonBy (verdictIn (isOlder (lifeAt m l)) j) (furtherReason m l j))
   unfolding commandTaken
   taken =
-      subst (λ (x : Verdict). SameTaken s m l t id j (commandTaken s (questionOn l t id j) f) (reasonBy x (furtherReason m l j))) (r .verdict (isOlder (lifeAt m l)) (is-request j ty))
+      subst (λ (x : Verdict). SameTaken s m l t id j (commandTaken s (questionOn l t id j) f) (reasonBy x (furtherReason m l j))) (r .verdict (isOlder (lifeAt m l)) (is-request j n ty))
       (subst (λ (x : Option String). SameTaken s m l t id j (commandTaken s (questionOn l t id j) f) (reasonBy (f .verdict) x))
-      (sym (Reads.kept .further m l j .command-request (is-request j ty)))
+      (sym (Reads.kept .further m l j .command-request n ty))
       (by-verdict s m h l b t id j (f .verdict) (orderedOf s (questionOn l t id j) f (componentSought (s .table) (f .component))) reason good))
 
 pub same-command : SameCommandRequest
-same-command s m h l b up t id v p j read ty = taken s m h l b up t id v j ty (commandAt p) (Lists.kept .commands p j read)
+same-command n s m h l b up t id v p j read ty = taken s m h l b up t id v j n ty (commandAt p) (Lists.kept .commands p j read)

@@ -15,7 +15,7 @@ use Rattle.machine.specs.Words.{Bytes, _and_, _or_, maybe, isSome, orElse, firs
 use Rattle.machine.specs.State.{Awaited, Machine, lifeAt}
 use Rattle.machine.specs.Json.{readPacket, stringAt, stringOf, elementIs, isType, isIdentity}
 use Rattle.machine.specs.Life.{isGreeting, awaitedBy}
-use Rattle.machine.specs.Answers.{isAnswer, awaitedHere, isReadable, isIgnored, wantsReply, reasonOf}
+use Rattle.machine.specs.Answers.{isAnswer, awaitedHere, isReadable, isIgnored, wantsReply, repliesAtOnce, reasonOf}
 use Rattle.machine.specs.Effects.{answered, receives}
 use Rattle.machine.specs.Step.{isDownAt}
 use Rattle.refine_read.specs.Head.{kindOf, mTypeOf, answerOf, requestOf, headOf}
@@ -72,7 +72,7 @@ module _ (s : Site) (m : Machine) (h : Abstracts s m) (l : ℕ) (b : l < m .setu
 
     -- any other
     abbrev askedHead : Head
-    askedHead = record { class = Asked (mTypeOf j) (kindOf j); received = record { bytes = stringOf "mId" j }; identity = record { bytes = replicate 16 0 } }
+    askedHead = record { class = Asked (mTypeOf j) (kindOf j); received = record { bytes = stringOf "mId" j }; identity = record { bytes = replicate 16 0 }; included = repliesAtOnce j }
 
     head-is : isAnswer j ≡ false → isReadable j ≡ true → headOf j ≡ askedHead
     head-is e f = ap (λ (c : Bool). pick c (answerOf j) (requestOf j)) e ∙ ap (λ (c : Bool). pick c askedHead ignored) f

@@ -1,6 +1,6 @@
--- Their StatusRequest is the machine's.
+-- Their StatusRequest, by either type, is the machine's.
 -- Assumes nothing.
-use Rattle.basis.proofs.Std.{ℕ, _<_, String, _≡_, refl, sym, ap, ap₂, subst, _∙_, Bool, true, false, not, List, [], _∷_, _++_, map, Option, some, none, ℤ, length, getD, arith, pick, both, text, untrue}
+use Rattle.basis.proofs.Std.{ℕ, _<_, String, _≡_, refl, sym, ap, ap₂, subst, _∙_, Bool, true, false, not, List, [], _∷_, _++_, map, Option, some, none, ℤ, length, getD, arith, pick, both, untrue}
 use Rattle.number.specs.Signed.{Signed32}
 use Rattle.number.proofs.RoundTrip.{signed-word}
 use Rattle.identity.specs.declared.Identity.{Identity}
@@ -12,7 +12,6 @@ use Rattle.write_message.specs.declared.Value.{Value}
 use Rattle.write_message.specs.declared.Value.the-variants.{Recent, Undefined}
 use Rattle.write_message.specs.declared.Told.the-variants.{Response}
 use Rattle.write_message.specs.Message.{Status, status}
-use Rattle.write_message.specs.Message.Message.{statuses}
 use Rattle.read_head.specs.declared.Verdict.{Verdict}
 use Rattle.read_head.specs.declared.Verdict.the-variants.{Good}
 use Rattle.read_lists.specs.declared.StatusEntry.{StatusEntry}
@@ -23,17 +22,18 @@ use Rattle.packet_lookup.specs.declared.Sought.{Sought}
 use Rattle.packet_lookup.specs.Sought.{componentSought, entryAt}
 use Rattle.send_message.specs.Sending.{statusValue}
 use Rattle.site.specs.declared.Site.{Site}
-use Rattle.packet_answer.specs.Taken.{Taken, notAcked, replied, unlessBusy, unknownStatus}
-use Rattle.packet_status.specs.StatusReply.{valueOf, toldOf, toldTo, response, passes, requestedOf, statusTaken}
+use Rattle.packet_answer.specs.Taken.{Taken, notAcked, answering, unknownStatus}
+use Rattle.packet_status.specs.StatusReply.{valueOf, toldOf, toldTo, told, passes, requestedOf, statusTaken}
 use Rattle.machine.specs.Words.{Bytes, maybe, isSome, orElse, any}
-use Rattle.machine.specs.State.{Machine, lifeAt, valueAt, only}
+use Rattle.machine.specs.State.{Machine, lifeAt, valueAt}
 use Rattle.machine.specs.Life.{isOlder}
-use Rattle.machine.specs.Json.{stringAt, stringOf, entriesOf, isType}
-use Rattle.machine.specs.Messages.{valueOf as valueIn, responseMessage}
-use Rattle.machine.specs.Answers.{componentAsked, statusAsked, wantsReply}
+use Rattle.machine.specs.Json.{stringAt, stringOf, entriesOf}
+use Rattle.machine.specs.Messages.{valueOf as valueIn, answerEntries}
+use Rattle.machine.specs.Answers.{componentAsked, statusAsked}
 use Rattle.machine.specs.Items.{numberAsked}
-use Rattle.machine.specs.Effects.{carriedOut, replyMessage}
+use Rattle.machine.specs.Effects.{carriedOut}
 use Rattle.refine_read.specs.Verdicts.{verdictIn}
+use Rattle.refine_read.specs.Head.{typeName}
 use Rattle.refine_read.specs.Reasons.{byVerdict as reasonBy, furtherReason, busyIf, anyUnknown}
 use Rattle.refine_read.proofs.Kept as Reads
 use Rattle.refine_read.specs.Statuses.{isRead, StatusReads}
@@ -41,30 +41,23 @@ use Rattle.refine_read.proofs.ListsKept as Lists
 use Rattle.refine_read.proofs.Indexed.{by-places}
 use Rattle.refine_parts.specs.Items.{statusFor}
 use Rattle.refine_calls.specs.Abstracts.{Abstracts}
+use Rattle.refine_calls.specs.Calls.SameCommands.{no-command}
 use Rattle.refine_packet.specs.Lookups.{soughtFor}
 use Rattle.refine_packet.specs.Taken.{SameTaken, questionOn}
 use Rattle.refine_packet.proofs.Refused.{reasons, by-verdict}
 use Rattle.refine_packet.specs.Ordered.{IsUp}
-use Rattle.refine_packet.proofs.Replied.{reply}
+use Rattle.refine_packet.proofs.Replied.{Asks, answer as answering-so}
 use Rattle.refine_packet.specs.Statuses.{SameStatusRequest}
 use Rattle.refine_packet.proofs.Entries.{each-behind, component-sought, sought-at, all-known, there, first-known}
 
-module _ (j : Json) (ty : stringAt "type" j ≡ some (text "StatusRequest")) where
-  is-request : isType "StatusRequest" j ≡ true
-  is-request = rw ty
+is-list : (j : Json) (n : Bool) → stringAt "type" j ≡ some (typeName "StatusRequest" n) → isRead false j ≡ true
+is-list j false ty = rw ty
+is-list j true ty = rw ty
 
-  is-list : isRead false j ≡ true
-  is-list = rw ty
-
-  replies : (m : Machine) (l : ℕ) → wantsReply m l j ≡ true
-  replies m l = rw ty
-
-  does : (l t : ℕ) (m : Machine) → carriedOut l t j m ≡ only m
-  unfolding carriedOut
-  does l t m = rw ty
-
-  told-so : (m : Machine) (t : ℕ) (id : Bytes) → replyMessage m t id j ≡ responseMessage m t id j
-  told-so m t id = rw ty
+asks : (m : Machine) (l t : ℕ) (id : Bytes) (j : Json) (n : Bool) → stringAt "type" j ≡ some (typeName "StatusRequest" n) → Asks m l t id j n Response (answerEntries m j) []
+unfolding carriedOut
+asks m l t id j false ty = record { at-once = rw ty; replies = rw ty; does = rw ty; told = rw ty }
+asks m l t id j true ty = record { at-once = rw ty; replies = rw ty; does = rw ty; told = rw ty }
 
 -- a status' value as it is
 value-same : (o : Option ℤ) → ((v : ℤ) → o ≡ some v → Signed32 v) → statusValue (statusFor o) ≡ valueIn false o
@@ -76,7 +69,7 @@ map-known q k n e [] u = refl
 map-known {B = B} q k n e (x ∷ xs) u =
     ap₂ (λ (y : B) (ys : List B). y ∷ ys) (e x (first-known q x xs u .0)) (map-known q k n e xs (first-known q x xs u .1))
 
-module _ (s : Site) (m : Machine) (h : Abstracts s m) (l : ℕ) (b : l < m .setup .links) (up : IsUp (lifeAt m l)) (t : ℕ) (id : Identity) (v : SixteenBytes (id .bytes)) (j : Json) (ty : stringAt "type" j ≡ some (text "StatusRequest")) (f : StatusFields) (r : StatusReads false (isOlder (lifeAt m l)) j f) where
+module _ (s : Site) (m : Machine) (h : Abstracts s m) (l : ℕ) (b : l < m .setup .links) (up : IsUp (lifeAt m l)) (t : ℕ) (id : Identity) (v : SixteenBytes (id .bytes)) (j : Json) (n : Bool) (ty : stringAt "type" j ≡ some (typeName "StatusRequest" n)) (f : StatusFields) (r : StatusReads false (isOlder (lifeAt m l)) j f) where
   -- an entry with a value
   abbrev entryWith : (Json → Value) → Json → Status
   entryWith value e = status (stringOf "sCI" e) (stringOf "n" e) (value e)
@@ -125,36 +118,32 @@ module _ (s : Site) (m : Machine) (h : Abstracts s m) (l : ℕ) (b : l < m .setu
         (λ e y. ap (status (stringOf "sCI" e) (stringOf "n" e)) (value-so c a e (statusAsked m j e) refl y))
         (entriesOf "sS" j) u
 
-    response-so : (o : Option ℕ) → componentAsked m j ≡ o → both (isSome o) (anyUnknown m j) ≡ false
-        → response s t (id .bytes) (soughtFor o) f ≡ replyMessage m t (id .bytes) j
-    unfolding response
-    response-so o a u =
-        ap₂ (λ (c : Bytes) (xs : List Status). statuses Response (id .bytes) c t xs)
-        (ap textOf (r .component g) ∙ Reads.kept .kept (stringOf "cId" j))
-        (told-all o a ∙ entries-so o a u ∙ ap (λ (q : Option ℕ). map (answerBy q) (entriesOf "sS" j)) (sym a))
-        ∙ sym (told-so j ty m t (id .bytes))
+    told-so : (o : Option ℕ) → componentAsked m j ≡ o → both (isSome o) (anyUnknown m j) ≡ false → told s (soughtFor o) f ≡ answerEntries m j
+    unfolding told
+    told-so o a u = told-all o a ∙ entries-so o a u ∙ ap (λ (q : Option ℕ). map (answerBy q) (entriesOf "sS" j)) (sym a)
 
     passes-so : (o : Option ℕ) → componentAsked m j ≡ o → passes s f (soughtFor o) ≡ not (both (isSome o) (anyUnknown m j))
     passes-so none a = refl
     passes-so (some c) a = all-known s m h false (isOlder (lifeAt m l)) j f r g c a
 
     abbrev answer : Option ℕ → Taken
-    answer o = unlessBusy s (questionOn l t id j) (replied s (questionOn l t id j) (response s t (id .bytes) (soughtFor o) f))
+    answer o = answering s (questionOn l t id j) Response (textOf (f .component)) (told s (soughtFor o) f) []
 
     by-known : (o : Option ℕ) → componentAsked m j ≡ o → (z : Bool) → both (isSome o) (anyUnknown m j) ≡ z
-        → SameTaken s m l t id j (pick (not z) (answer o) (notAcked s (questionOn l t id j) unknownStatus)) (pick z (some "Unknown status") (busyIf m l true))
+        → SameTaken s m l t id j (pick (not z) (answer o) (notAcked s (questionOn l t id j) unknownStatus)) (pick z (some "Unknown status") (busyIf m l (not n)))
     by-known o a true u = reasons s m h l b t id j .unknown-status
     by-known o a false u =
-        reply s m h l b up t id v j (response s t (id .bytes) (soughtFor o) f) (does j ty l t m) (replies j ty m l) (response-so o a u)
+        answering-so s m h l b up t id v j n Response (textOf (f .component)) (told s (soughtFor o) f) (answerEntries m j) [] [] (asks m l t (id .bytes) j n ty)
+        (ap textOf (r .component g) ∙ Reads.kept .kept (stringOf "cId" j)) (told-so o a u) no-command
 
     by-component : (o : Option ℕ) → componentAsked m j ≡ o
-        → SameTaken s m l t id j (requestedOf s (questionOn l t id j) f (soughtFor o)) (pick (both (isSome o) (anyUnknown m j)) (some "Unknown status") (busyIf m l true))
+        → SameTaken s m l t id j (requestedOf s (questionOn l t id j) f (soughtFor o)) (pick (both (isSome o) (anyUnknown m j)) (some "Unknown status") (busyIf m l (not n)))
     by-component o a =
-        subst (λ (x : Bool). SameTaken s m l t id j (pick x (answer o) (notAcked s (questionOn l t id j) unknownStatus)) (pick (both (isSome o) (anyUnknown m j)) (some "Unknown status") (busyIf m l true)))
+        subst (λ (x : Bool). SameTaken s m l t id j (pick x (answer o) (notAcked s (questionOn l t id j) unknownStatus)) (pick (both (isSome o) (anyUnknown m j)) (some "Unknown status") (busyIf m l (not n))))
         (sym (passes-so o a)) (by-known o a (both (isSome o) (anyUnknown m j)) refl)
 
   abbrev reason : Option String
-  reason = pick (both (isSome (componentAsked m j)) (anyUnknown m j)) (some "Unknown status") (busyIf m l true)
+  reason = pick (both (isSome (componentAsked m j)) (anyUnknown m j)) (some "Unknown status") (busyIf m l (not n))
 
   good : f .verdict ≡ Good → SameTaken s m l t id j (requestedOf s (questionOn l t id j) f (componentSought (s .table) (f .component))) reason
   good g =
@@ -164,10 +153,10 @@ module _ (s : Site) (m : Machine) (h : Abstracts s m) (l : ℕ) (b : l < m .setu
   taken : SameTaken s m l t id j (statusTaken s (questionOn l t id j) f) (reasonBy (verdictIn (isOlder (lifeAt m l)) j) (furtherReason m l j))
   unfolding statusTaken
   taken =
-      subst (λ (x : Verdict). SameTaken s m l t id j (statusTaken s (questionOn l t id j) f) (reasonBy x (furtherReason m l j))) (r .verdict (is-list j ty))
+      subst (λ (x : Verdict). SameTaken s m l t id j (statusTaken s (questionOn l t id j) f) (reasonBy x (furtherReason m l j))) (r .verdict (is-list j n ty))
       (subst (λ (x : Option String). SameTaken s m l t id j (statusTaken s (questionOn l t id j) f) (reasonBy (f .verdict) x))
-      (sym (Reads.kept .further m l j .status-request (is-request j ty)))
+      (sym (Reads.kept .further m l j .status-request n ty))
       (by-verdict s m h l b t id j (f .verdict) (requestedOf s (questionOn l t id j) f (componentSought (s .table) (f .component))) reason good))
 
 pub same-request : SameStatusRequest
-same-request s m h l b up t id v p j read ty = taken s m h l b up t id v j ty (statusAt Plain p) (Lists.kept .statuses false (isOlder (lifeAt m l)) p j read)
+same-request n s m h l b up t id v p j read ty = taken s m h l b up t id v j n ty (statusAt Plain p) (Lists.kept .statuses false (isOlder (lifeAt m l)) p j read)

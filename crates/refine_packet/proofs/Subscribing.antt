@@ -22,7 +22,7 @@ use Rattle.machine.specs.Words.{isSome}
 use Rattle.machine.specs.State.{Issued, Machine, withSubscriptions, Effect, effect, lifeAt}
 use Rattle.machine.specs.Life.{isOlder}
 use Rattle.machine.specs.Json.{stringAt, stringOf, entriesOf, isType}
-use Rattle.machine.specs.Answers.{componentAsked, wantsReply}
+use Rattle.machine.specs.Answers.{componentAsked, wantsReply, repliesAtOnce}
 use Rattle.machine.specs.Items.{subscribe, unsubscribe}
 use Rattle.machine.specs.Effects.{carriedOut}
 use Rattle.demand_held.proofs.Lists.{Each, each-of}
@@ -52,7 +52,7 @@ effectFor false m l t j = unsubscribe m l j
 abbrev reasonFor : Machine → Json → Option String
 reasonFor m j = pick (both (isSome (componentAsked m j)) (not (anyUnknown m j))) none (some "Unknown status")
 
-module _ (s : Site) (m : Machine) (h : Abstracts s m) (l : ℕ) (b : l < m .setup .links) (t : ℕ) (id : Identity) (subscribing : Bool) (j : Json) (f : StatusFields) (r : StatusReads subscribing (isOlder (lifeAt m l)) j f) (does : carriedOut l t j m ≡ effectFor subscribing m l t j) (silent : (n : Machine) → wantsReply n l j ≡ false) where
+module _ (s : Site) (m : Machine) (h : Abstracts s m) (l : ℕ) (b : l < m .setup .links) (t : ℕ) (id : Identity) (subscribing : Bool) (j : Json) (f : StatusFields) (r : StatusReads subscribing (isOlder (lifeAt m l)) j f) (does : carriedOut l t j m ≡ effectFor subscribing m l t j) (late : repliesAtOnce j ≡ false) (silent : (n : Machine) → wantsReply n l j ≡ false) where
   module _ (g : f .verdict ≡ Good) (c : ℕ) (a : componentAsked m j ≡ some c) (k : anyUnknown m j ≡ false) where
     abbrev issuedBy : Bool → List Issued
     issuedBy true = map (toldOf s m h l b t subscribing j f r g c a) (entriesOf "sS" j)
@@ -80,7 +80,7 @@ module _ (s : Site) (m : Machine) (h : Abstracts s m) (l : ℕ) (b : l < m .setu
     done-so =
         let now = subscriptions-so s m h l b t subscribing j f r g c a k in
         only-acked s m l t id j (replaced subscribing s l t c (f .entries) (f .count)) (pick subscribing (records s l t c (f .entries) (f .count)) []) noHint
-        (effect (leftBy subscribing) (issuedBy subscribing) [] [] none) (does ∙ effect-so subscribing) (silent m) (silent (leftBy subscribing)) (now .next)
+        (effect (leftBy subscribing) (issuedBy subscribing) [] [] none) (does ∙ effect-so subscribing) late (silent m) (silent (leftBy subscribing)) (now .next)
         (record {
           leaves = now .same;
           issued = issued-so subscribing (replaced subscribing s l t c (f .entries) (f .count));
@@ -162,10 +162,10 @@ pub same-subscribe : SameStatusSubscribe
 same-subscribe s m h l b up t id v p j read ty =
     subst (λ (a : Asking). SameTaken s m l t id j (subscribingTaken true s (questionOn l t id j) (statusAt a p)) (reasonBy (verdictIn (isOlder (lifeAt m l)) j) (furtherReason m l j)))
     (same-asking s m h l)
-    (taken s m h l b t id true j (statusAt (askingFor true (isOlder (lifeAt m l))) p) (Lists.kept .statuses true (isOlder (lifeAt m l)) p j read) (subscribe-does j ty l t m) (subscribe-silent j ty l) (is-subscribe j ty)
+    (taken s m h l b t id true j (statusAt (askingFor true (isOlder (lifeAt m l))) p) (Lists.kept .statuses true (isOlder (lifeAt m l)) p j read) (subscribe-does j ty l t m) (rw ty) (subscribe-silent j ty l) (is-subscribe j ty)
     (Reads.kept .further m l j .status-subscribe (is-subscribe j ty)))
 
 pub same-unsubscribe : SameStatusUnsubscribe
 same-unsubscribe s m h l b up t id v p j read ty =
-    taken s m h l b t id false j (statusAt Plain p) (Lists.kept .statuses false (isOlder (lifeAt m l)) p j read) (unsubscribe-does j ty l t m) (unsubscribe-silent j ty l) (is-list j ty)
+    taken s m h l b t id false j (statusAt Plain p) (Lists.kept .statuses false (isOlder (lifeAt m l)) p j read) (unsubscribe-does j ty l t m) (rw ty) (unsubscribe-silent j ty l) (is-list j ty)
     (Reads.kept .further m l j .status-unsubscribe (is-unsubscribe j ty))

@@ -70,7 +70,7 @@ module _ (s : Site) (m : Machine) (h : Abstracts s m) (l : ℕ) (b : l < m .setu
   so : (x y z a : ℕ) → common j ≡ some (x ∷ y ∷ z ∷ [])
       → versionAcceptedOf (linkAt s l) (a / 65536) (a / 256 % 256) (a % 256) ≡ versionAcceptedOf (linkAt s l) x y z → Same (Chosen a) none
   so x y z a c k =
-      only-acked s m l t id j (accepted s l a) [] noHint (versionAccepted l j m) (done-so j ty l t m)
+      only-acked s m l t id j (accepted s l a) [] noHint (versionAccepted l j m) (done-so j ty l t m) (rw ty)
       (no-reply j ty m l) (no-reply j ty (versionAccepted l j m .leaves) l) refl
       (record {
         leaves = subst (λ (o : Option (List ℕ)). Abstracts (accepted s l a) (withLife l (agreed (orElse [] o) (lifeAt m l)) m)) (sym c)

@@ -61,7 +61,7 @@ module _ (s : Site) (m : Machine) (h : Abstracts s m) (l : ℕ) (b : l < m .setu
 
   same-beat : f .verdict ≡ Good → SameTaken s m l t id j (beat s (questionOn l t id j) f) none
   same-beat g =
-      only-acked s m l t id j (beaten s l) [] (hintFrom (roleOf s l) f) (watchdogIn l j m) (done-so j ty l t m)
+      only-acked s m l t id j (beaten s l) [] (hintFrom (roleOf s l) f) (watchdogIn l j m) (done-so j ty l t m) (rw ty)
       (no-reply j ty m l) (no-reply j ty (watchdogIn l j m .leaves) l) refl
       (record {
         leaves = with-life s m h l b (watchdogTakenOf (linkAt s l)) (withWatchdogs (nowTaken (lifeAt m l .watchdogs)) (lifeAt m l))

@@ -6,11 +6,11 @@ use Rattle.read_lists.specs.Status.{statusAt}
 use Rattle.packet_status.specs.StatusReply.{statusTaken}
 use Rattle.packet_subscribe.specs.Subscribing.{askingOn, subscribingTaken}
 use Rattle.site.specs.Site.{linkAt}
-use Rattle.refine_packet.specs.Taken.{SameAsked}
+use Rattle.refine_packet.specs.Taken.{SameAsked, SameRequested}
 use Rattle.refine_packet.specs.Ordered.{IsUp}
 
 abbrev pub SameStatusRequest : Type 0
-SameStatusRequest = SameAsked "StatusRequest" IsUp (λ s q p. statusTaken s q (statusAt Plain p))
+SameStatusRequest = SameRequested "StatusRequest" IsUp (λ s q p. statusTaken s q (statusAt Plain p))
 
 abbrev pub SameStatusSubscribe : Type 0
 SameStatusSubscribe = SameAsked "StatusSubscribe" IsUp (λ s q p. subscribingTaken true s q (statusAt (askingOn (linkAt s (q .link))) p))

@@ -3,7 +3,7 @@
 use Prim.Native.Nat.{ℕ, _<_}
 use Prim.Native.String.{String}
 use mathlib.Core.Path.{_≡_}
-use mathlib.Core.Bool.{true, false, not}
+use mathlib.Core.Bool.{Bool, true, false, not}
 use mathlib.Core.Option.{Option, some}
 use Rattle.basis.specs.Text.{text}
 use Rattle.identity.specs.declared.Identity.{Identity}
@@ -16,9 +16,10 @@ use Rattle.machine.specs.Words.{Bytes, _and_, maybe, isSome}
 use Rattle.machine.specs.State.{Life, Machine, lifeAt, Effect}
 use Rattle.machine.specs.Json.{readPacket, stringAt, stringOf}
 use Rattle.machine.specs.Life.{isOlder, isAwaited}
-use Rattle.machine.specs.Answers.{wantsReply}
+use Rattle.machine.specs.Answers.{wantsReply, repliesAtOnce}
 use Rattle.machine.specs.Effects.{refuses, carriedOut, replying}
 use Rattle.refine_read.specs.Verdicts.{verdictIn}
+use Rattle.refine_read.specs.Head.{typeName}
 use Rattle.refine_read.specs.Reasons.{byVerdict, furtherReason}
 use Rattle.refine_calls.specs.Abstracts.{Abstracts}
 use Rattle.refine_calls.specs.Calls.{SamePlan}
@@ -36,11 +37,18 @@ pub record SameTaken (s : Site) (m : Machine) (l t : ℕ) (id : Identity) (j : J
 
 -- what the call of such a packet is asked
 abbrev pub questionOn : ℕ → ℕ → Identity → Json → Question
-questionOn l t id j = record { link = l; time = t; identity = id; received = record { bytes = stringOf "mId" j } }
+questionOn l t id j = record { link = l; time = t; identity = id; received = record { bytes = stringOf "mId" j }; included = repliesAtOnce j }
 
 -- of a type that is taken on such a link: the code takes what it reads of the bytes p to its answer
-abbrev pub SameAsked : String → (Life → Type 0) → (Site → Question → Bytes → Taken) → Type 0
-SameAsked type Ready takes =
+abbrev pub SameTyped : Bytes → (Life → Type 0) → (Site → Question → Bytes → Taken) → Type 0
+SameTyped type Ready takes =
     (s : Site) (m : Machine) → Abstracts s m → (l : ℕ) → l < m .setup .links → Ready (lifeAt m l) → (t : ℕ) (id : Identity) → SixteenBytes (id .bytes)
-    → (p : Bytes) (j : Json) → readPacket p ≡ some j → stringAt "type" j ≡ some (text type)
+    → (p : Bytes) (j : Json) → readPacket p ≡ some j → stringAt "type" j ≡ some type
     → SameTaken s m l t id j (takes s (questionOn l t id j) p) (byVerdict (verdictIn (isOlder (lifeAt m l)) j) (furtherReason m l j))
+
+abbrev pub SameAsked : String → (Life → Type 0) → (Site → Question → Bytes → Taken) → Type 0
+SameAsked name = SameTyped (text name)
+
+-- of a request by either type
+abbrev pub SameRequested : String → (Life → Type 0) → (Site → Question → Bytes → Taken) → Type 0
+SameRequested name Ready takes = (included : Bool) → SameTyped (typeName name included) Ready takes
