@@ -6,9 +6,9 @@ use Rattle.write_message.specs.Message.{Message}
 use Rattle.machine.specs.Words.{Bytes, firstOf, keep, upTo}
 use Rattle.machine.specs.State.{Alarm, Awaited, Machine, lifeAt, valueAt, Act, Call, Effect, only}
 use Rattle.machine.specs.State.Act.{connect, disconnect, packet, alarmInput, statusValue, aggregatedValue, tick, pump}
-use Rattle.machine.specs.Json.{readPacket, stringOf, isType}
+use Rattle.machine.specs.Json.{readPacket, stringOf, isType, asksFor}
 use Rattle.machine.specs.Life.{isLate, awaitedBy, Due, due}
-use Rattle.machine.specs.Answers.{isAnswer, wantsReply, reasonOf, failsCheck}
+use Rattle.machine.specs.Answers.{isAnswer, wantsReply, repliesAtOnce, reasonOf, failsCheck}
 use Rattle.machine.specs.Items.{isNew, happens, subscribe, unsubscribe, becomes, commands, aggregates}
 use Rattle.machine.specs.Effects.{connects, closes, ticks, ownIdentity, sends, answerCloses, answers, answered, refuses, carriedOut, replying, receives, effectOf}
 use Rattle.machine.specs.Step.{noSuchLink, conditions, step}
@@ -111,11 +111,11 @@ module _ (m : Machine) (few : m .setup .links ≤ 4) where
         (λ e. picked Lays (isType "Alarm" j) _ _ (λ e. of-happens _ _)
         (λ e. picked Lays (isType "StatusSubscribe" j) _ _ (λ e. refl)
         (λ e. picked Lays (isType "StatusUnsubscribe" j) _ _ (λ e. refl)
-        (λ e. picked Lays (isType "CommandRequest" j) _ _ (λ e. refl) (λ e. refl))))))
+        (λ e. picked Lays (asksFor "CommandRequest" j) _ _ (λ e. refl) (λ e. refl))))))
 
     of-replying : (t : ℕ) (id : Bytes) (j : Json) (e : Effect) → Lays e → Lays (replying l t id j e)
     unfolding replying
-    of-replying t id j e q = picked Lays (wantsReply (e .leaves) l j) _ _ (λ w. q) (λ w. q)
+    of-replying t id j e q = picked Lays (repliesAtOnce j) _ _ (λ w. q) (λ w. picked Lays (wantsReply (e .leaves) l j) _ _ (λ w. q) (λ w. q))
 
     of-received : (t : ℕ) (id : Bytes) (j : Json) → Lays (receives l t id m j)
     unfolding receives
