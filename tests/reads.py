@@ -5,8 +5,8 @@
   reads.py --fresh [SEED]   runs random packets through the program
 
 The program answers `-` for a packet that is ignored whatever the site's state; A or N and an identity's 32 digits for an answer;
-else the received mId, mType's verdict (G good, M "Missing element", B "Bad value"), the type's letter (X where it is not taken),
-and, where mType is good and the type taken, the verdict of its fields and, where that is good, the fields: labels in hexadecimal,
+else the received mId, mType's verdict (G good, M "Missing element", B "Bad value"), the type's letter (X where it is not taken; that of
+the old type, but small, where the acknowledgement is to be included), and, where mType is good and the type taken, the verdict of its fields and, where that is good, the fields: labels in hexadecimal,
 times, seconds and values in decimal, a version as one number, lists behind their length. An entry of a StatusRequest or StatusUnsubscribe
 has 0 and t for uRt and sOc. A Version's last word is what comes of it against OFFERED, SITE and SXL: the version that is chosen,
 or R, I or X for the check that fails.
@@ -25,7 +25,8 @@ from packets import damaged
 
 SITE, SXL = "O+14439=481WA001", "1.0.13"
 LETTERS = {"Version": "V", "Watchdog": "W", "Alarm": "A", "AggregatedStatusRequest": "G", "StatusRequest": "R",
-           "StatusSubscribe": "S", "StatusUnsubscribe": "U", "CommandRequest": "C"}
+           "StatusSubscribe": "S", "StatusUnsubscribe": "U", "CommandRequest": "C", "StatusRequestAckIncluded": "r",
+           "CommandRequestAckIncluded": "c"}
 ORDERS = {"Request": "Q", "Acknowledge": "A", "Suspend": "S", "Resume": "R"}
 FAILED = {"RSMP version": "R", "Site id": "I", "SXL version": "X"}
 LONGEST = 8191
@@ -44,6 +45,7 @@ def number(version):
 
 def words_of(kind, said):
     """The fields of a taken type as words."""
+    kind = message.plain(kind)
     if kind == "Version":
         versions, sites = said["versions"], said["sites"]
         words = [len(versions), *map(number, versions), len(sites), *map(hexed, sites), hexed(said["sxl"])]
@@ -124,9 +126,10 @@ REQUEST = head("StatusRequest") + [("cId", SITE), ("sS", [{"sCI": "S0003", "n": 
 SUBSCRIBE = head("StatusSubscribe") + [("cId", SITE), ("sS", [{"sCI": "S0001", "n": "cyclecounter", "uRt": "5", "sOc": False}])]
 UNSUBSCRIBE = head("StatusUnsubscribe") + [("cId", SITE), ("sS", [{"sCI": "S0001", "n": "cyclecounter"}])]
 COMMAND = head("CommandRequest") + [("cId", SITE), ("arg", [{"cCI": "M0001", "n": "boom", "cO": "setValue", "v": "-1"}])]
+REQUEST_INCLUDED, COMMAND_INCLUDED = (head(kind) + members[3:] for kind, members in zip(message.INCLUDED, (REQUEST, COMMAND)))
 ACK = [("mType", "rSMsg"), ("type", "MessageAck"), ("oMId", MID)]
 NOT_ACK = [("mType", "rSMsg"), ("type", "MessageNotAck"), ("oMId", MID), ("rea", "Unknown packet type: Watchdddog")]
-REQUESTS = (VERSION, WATCHDOG, ALARM, AGGREGATED, REQUEST, SUBSCRIBE, UNSUBSCRIBE, COMMAND)
+REQUESTS = (VERSION, WATCHDOG, ALARM, AGGREGATED, REQUEST, SUBSCRIBE, UNSUBSCRIBE, COMMAND, REQUEST_INCLUDED, COMMAND_INCLUDED)
 EVERY = (*REQUESTS, ACK, NOT_ACK)
 LISTED = {"RSMP": VERSION, "siteId": VERSION, "sS": SUBSCRIBE, "arg": COMMAND}
 
@@ -271,6 +274,9 @@ IDENTITIES = (MID.encode(), *(other.encode() for other in OTHER_CASES), b"", MID
 TYPES = (b"Version", b"version", b"VERSION", b"Versio", b"Versions", b"Version ", b"", b"\\u0056ersion", b"Watchdog", b"Alarm",
          b"AggregatedStatus", b"AggregatedStatusRequest", b"StatusRequest", b"StatusResponse", b"StatusSubscribe",
          b"StatusUpdate", b"StatusUnsubscribe", b"CommandRequest", b"CommandResponse", b"MessageAck", b"MessageNotAck",
+         b"StatusRequestAckIncluded", b"StatusResponseAckIncluded", b"CommandRequestAckIncluded", b"CommandResponseAckIncluded",
+         b"StatusRequestAckInclude", b"StatusRequestAckIncludedd", b"CommandRequestackIncluded", b"StatusSubscribeAckIncluded",
+         b"StatusUpdateAckIncluded", b"AckIncluded", b"StatusRequest\\u0041ckIncluded",
          b"messageAck", b"MessageAc", b"Message\\u0041ck", b"AggregatedStatusRequestAggregatedStatusRequest",
          b"Missing element", b"rSMsg")
 MTYPES = (b"rSMsg", b"rsmsg", b"RSMSG", b"rSMs", b"rSMsg ", b" rSMsg", b"rSMsmsg", b"", b"rS\\u004dsg", b"rSMsg\\u0000",
@@ -482,6 +488,7 @@ def some_version(source):
 
 
 def some_fields(source, kind):
+    kind = message.plain(kind)
     if kind == "Version":
         vers = lambda: calm(source, [("vers", some_text(source, ("3.2", "3.1.5", "3.1.4", "3.2.0", some_version(source)), VERSIONS))])
         site = lambda: calm(source, [("sId", text(SITE) if source.random() < 0.5 else some_label(source))])

@@ -303,10 +303,11 @@ def records(source, count):
         yield write_record([source.randrange(65536) for _ in range(4)] + [source.randrange(2**64), source.randrange(2**32), source.randrange(2**32)])
 
 
-# Names: the two tables as document 01 prints them.
+# Names: the two tables as document 01 prints them, and the types of source document 004.
 
 TYPES = ("Version Watchdog MessageAck MessageNotAck Alarm AggregatedStatus AggregatedStatusRequest StatusRequest StatusResponse "
-         "StatusSubscribe StatusUnsubscribe StatusUpdate CommandRequest CommandResponse").split()
+         "StatusSubscribe StatusUnsubscribe StatusUpdate CommandRequest CommandResponse StatusRequestAckIncluded StatusResponseAckIncluded "
+         "CommandRequestAckIncluded CommandResponseAckIncluded").split()
 REASONS = ["Missing element", "Bad value", "Unexpected", "Not ready", "RSMP version", "Site id", "SXL version",
            "Unknown component", "Unknown alarm", "Unknown status", "Unknown command", "Busy"]
 

@@ -9,7 +9,8 @@ of spaces. Each message is also read by Python's json, and what it says is compa
 
 Fields are hexadecimal digits of: the identity (16 bytes), the time (8), six bytes by type, and labels with their length before
 them; a status or a command is a byte (0 a value, 1 unknown, 2 undefined, 3 an old value), the value (4), its code and its name. Of
-an answer it is the received identity as it stands, behind two digits of the reason's number in the table of names.
+an answer it is the received identity as it stands, behind two digits of the reason's number in the table of names; of a response that
+carries its acknowledgement (r, c) that identity stands before the fields, whose own is not used.
 """
 import itertools
 import json
@@ -32,7 +33,7 @@ UNKNOWN, UNDEFINED, OLD = "unknown", "undefined", "old"
 OLD_VALUES = tuple((OLD, value) for value in VALUES)
 REASONS = ("Missing element", "Bad value", "Unexpected", "Not ready", "RSMP version", "Site id", "SXL version",
            "Unknown component", "Unknown alarm", "Unknown status", "Unknown command", "Busy")
-FIRST_REASON = 14
+FIRST_REASON = 18
 RECEIVED = ("e68a0010-c336-41ac-bd58-5c80a72c7092", "E68A0010-C336-41AC-BD58-5C80A72C7092", "e68A0010-c336-41AC-BD58-5c80a72C7092")
 STRING, SPACE = re.compile(rb'"[^"]*"'), re.compile(rb"\s")
 OURS = uuid.UUID("c014bd2d-5671-4a19-b37e-50deef301b82")
@@ -78,8 +79,8 @@ def not_ack(received, number):
                 {"type": "MessageNotAck", "oMId": received, "rea": reason})
 
 
-def about(kind, identity, component):
-    return {"type": kind, "mId": str(identity), "ntsOId": "", "xNId": "", "cId": component}
+def about(kind, identity, component, name="mId"):
+    return {"type": kind, name: str(identity), "ntsOId": "", "xNId": "", "cId": component}
 
 
 def alarm(identity, component, code, event, states, time, category, priority):
@@ -122,22 +123,41 @@ def told_fields(identity, component, time, given):
 def statuses(kind, identity, component, time, given):
     body = told_fields(identity, component, time, given)
     type_name = "StatusResponse" if kind == "R" else "StatusUpdate"
-    entries = [status_entry(*entry) for entry in given]
-    said = [{"sCI": code, "n": name, "s": None if value is None else f"{value:d}", "q": quality}
-            for code, name, value, quality in entries]
-    return pair(kind, body.hex(), message.statuses(type_name, str(identity), component, time, entries),
-                {**about(type_name, identity, component), "sTs": message.time_text(time), "sS": said})
+    return pair(kind, body.hex(), message.statuses(type_name, str(identity), component, time, entries_of(given)),
+                {**about(type_name, identity, component), **said_of_statuses(time, given)})
 
 
 def commands(identity, component, time, given):
     body = told_fields(identity, component, time, given)
-    entries = [status_entry(*entry) for entry in given]
-    said = [{"cCI": code, "n": name, "v": None if value is None else f"{value:d}", "age": age} for code, name, value, age in entries]
-    return pair("C", body.hex(), message.commands(str(identity), component, time, entries),
-                {**about("CommandResponse", identity, component), "cTS": message.time_text(time), "rvs": said})
+    return pair("C", body.hex(), message.commands("CommandResponse", str(identity), component, time, entries_of(given)),
+                {**about("CommandResponse", identity, component), **said_of_commands(time, given)})
+
+
+def included(kind, received, component, time, given):
+    body = received + told_fields(OURS, component, time, given).hex()
+    type_name, text, said = {"r": ("StatusResponseAckIncluded", message.statuses, said_of_statuses),
+                             "c": ("CommandResponseAckIncluded", message.commands, said_of_commands)}[kind]
+    return pair(kind, body, text(type_name, received, component, time, entries_of(given)),
+                {**about(type_name, received, component, "oMId"), **said(time, given)})
+
+
+def entries_of(given):
+    return [status_entry(*entry) for entry in given]
+
+
+def said_of_statuses(time, given):
+    return {"sTs": message.time_text(time), "sS": [{"sCI": code, "n": name, "s": None if value is None else f"{value:d}", "q": quality}
+                                                   for code, name, value, quality in entries_of(given)]}
+
+
+def said_of_commands(time, given):
+    return {"cTS": message.time_text(time), "rvs": [{"cCI": code, "n": name, "v": None if value is None else f"{value:d}", "age": age}
+                                                    for code, name, value, age in entries_of(given)]}
 
 
 def told(kind, identity, component, time, given):
+    if kind in "rc":
+        return included(kind, str(identity), component, time, given)
     if kind == "C":
         return commands(identity, component, time, given)
     return statuses(kind, identity, component, time, given)
@@ -186,7 +206,7 @@ def aggregates():
 def told_limits():
     longest = (LETTERS[:32], LETTERS[-32:])
     values = (*VALUES, *OLD_VALUES, UNKNOWN, UNDEFINED)
-    for kind in "RUC":
+    for kind in "RUCrc":
         for value in values:
             yield told(kind, OURS, "C", 1254398371571, [("S0001", "plan", value)])
         for count in (0, 1, 2, 15, 16):
@@ -196,6 +216,9 @@ def told_limits():
         yield statuses("1", OURS, "C", 1254398371571, [("S0001", "plan", value)])
     for label, time in zip(limit_labels(), TIMES):
         yield statuses("1", OURS, label, time, [(label, label, 7)])
+    for received in RECEIVED:
+        for kind in "rc":
+            yield included(kind, received, "C", 1254398371571, [("S0001", "plan", 7)])
 
 
 # Random ones.
@@ -220,12 +243,13 @@ def some_received(source):
 def some_told(source, kind):
     count = 1 if kind == "1" else source.choice((0, 1, 2, 16, source.randint(0, 16)))
     given = [(some_label(source), some_label(source), some_value(source)) for _ in range(count)]
-    return told(kind, uuid.UUID(int=source.getrandbits(128)), some_label(source), some_time(source), given)
+    identity = some_received(source) if kind in "rc" else uuid.UUID(int=source.getrandbits(128))
+    return told(kind, identity, some_label(source), some_time(source), given)
 
 
 def some_message(source):
     identity, time = uuid.UUID(int=source.getrandbits(128)), some_time(source)
-    kind = source.choice("VWKNAGRUC1")
+    kind = source.choice("VWKNAGRUC1rc")
     if kind == "V":
         return version(identity, some_label(source), some_label(source))
     if kind == "W":

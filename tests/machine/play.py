@@ -9,8 +9,7 @@ from .translate import Translation, files_of
 
 SPECS = ROOT / "crates" / "machine" / "specs"
 QUALITY = {"Recent": "recent", "Old": "old", "Unknown": "unknown", "Undefined": "undefined"}
-KIND = {"Response": "StatusResponse", "Update": "StatusUpdate"}
-COMMAND = "Command"
+KIND = {"Response": "StatusResponse", "Update": "StatusUpdate", "Command": "CommandResponse"}
 
 
 def played(lines, specs=SPECS):
@@ -120,10 +119,9 @@ def text(kind, *parts):
                              state["time"], state["category"], state["priority"])
     if kind == "aggregated":
         return message.aggregated(*head(parts), *parts[2:])
-    told, *rest = parts
-    if told[0] == COMMAND:
-        return message.commands(*head(rest), rest[2], list(map(entry, rest[3])))
-    return message.statuses(KIND[told[0]], *head(rest), rest[2], list(map(entry, rest[3])))
+    (told,), id_, component, time, entries = parts
+    name, id_ = (KIND[told] + "AckIncluded", string(id_)) if kind == "included" else (KIND[told], identity(id_))
+    return (message.commands if told == "Command" else message.statuses)(name, id_, string(component), time, list(map(entry, entries)))
 
 
 def head(parts):

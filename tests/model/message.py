@@ -15,7 +15,9 @@ DECIMAL = re.compile(r"0|[1-9][0-9]*")
 INTEGER = re.compile(r"0|-?[1-9][0-9]*")
 ANSWERS = ("MessageAck", "MessageNotAck")
 STATUS_TYPES = ("StatusRequest", "StatusSubscribe", "StatusUnsubscribe")
-TAKEN = ("Version", "Watchdog", "Alarm", "AggregatedStatusRequest") + STATUS_TYPES + ("CommandRequest",)
+INCLUDED = ("StatusRequestAckIncluded", "CommandRequestAckIncluded")
+TAKEN = ("Version", "Watchdog", "Alarm", "AggregatedStatusRequest") + STATUS_TYPES + ("CommandRequest",) + INCLUDED
+INCLUDED_RESPONSES = ("StatusResponseAckIncluded", "CommandResponseAckIncluded")
 OFFERED = ("3.1.4", "3.1.5", "3.2")
 OLDER = (3, 1, 4)
 
@@ -202,8 +204,14 @@ def command_fields(fields):
     return {"component": fields["cId"], "entries": entries}
 
 
+def plain(kind):
+    """The type whose elements, limits and reasons this one has: request 04's types have those of the old ones."""
+    return kind.removesuffix("AckIncluded")
+
+
 def fields_of(kind, fields, older=False):
     """The fields of a packet of a taken type, on a link of the edition before or not; Reason where one is missing or bad."""
+    kind = plain(kind)
     if kind == "Version":
         return version_fields(fields)
     if kind == "Watchdog":
@@ -268,7 +276,9 @@ def head(kind, identity_):
 
 
 def about(kind, identity_, component):
-    return {**head(kind, identity_), "ntsOId": "", "xNId": "", "cId": component}
+    """Request 04: a response that carries the acknowledgement has the identity that was received, as it came, and none of its own."""
+    begun = {"mType": "rSMsg", "type": kind, "oMId": identity_} if kind in INCLUDED_RESPONSES else head(kind, identity_)
+    return {**begun, "ntsOId": "", "xNId": "", "cId": component}
 
 
 def version(identity_, site, sxl):
@@ -308,8 +318,8 @@ def statuses(kind, identity_, component, time, entries):
                         for code, name, value, quality in entries]})
 
 
-def commands(identity_, component, time, entries):
+def commands(kind, identity_, component, time, entries):
     """Entries: code, name, value or None, age."""
-    return text({**about("CommandResponse", identity_, component), "cTS": time_text(time),
+    return text({**about(kind, identity_, component), "cTS": time_text(time),
                  "rvs": [{"cCI": code, "n": name, "v": None if value is None else str(value), "age": age}
                          for code, name, value, age in entries]})

@@ -286,6 +286,8 @@ class Site:
         if one.phase == links_.BEATING and kind != "Watchdog":
             raise message.Reason("Not ready")
         said = message.fields_of(kind, fields, one.chosen == message.OLDER)
+        if kind in message.INCLUDED:
+            return getattr(self, "take_" + kind)(time, received, said)
         answer = message.ack(received) + FORM_FEED
         return getattr(self, "take_" + kind)(link, time, random, said, answer)
 
@@ -300,6 +302,11 @@ class Site:
         self.last = time
         one.sent(links_.OTHER, identity, time)
         return Done(written=answer + text_of(identity) + FORM_FEED, commands=commands)
+
+    def respond(self, time, text, commands=()):
+        """Request 04: one message, which is the acknowledgement too. Nobody answers it: it takes no awaited place and no identity."""
+        self.last = time
+        return Done(written=text + FORM_FEED, commands=commands)
 
     def take_Version(self, link, time, random, said, answer):
         common = {message.read_version(offered) for offered in message.OFFERED} & set(said["versions"])
@@ -366,13 +373,19 @@ class Site:
             found.append(self.table.statuses.index(row))
         return found
 
-    def take_StatusRequest(self, link, time, random, said, answer):
+    def asked(self, said):
+        """The entries of the response."""
         if self.component(said) is None:
-            entries = [(code, name, None, "undefined") for code, name, _, _ in said["entries"]]
-        else:
-            entries = [self.status_entry(number) for number in self.numbers(said)]
+            return [(code, name, None, "undefined") for code, name, _, _ in said["entries"]]
+        return [self.status_entry(number) for number in self.numbers(said)]
+
+    def take_StatusRequest(self, link, time, random, said, answer):
+        entries = self.asked(said)
         return self.reply(link, time, random, answer,
                           lambda identity: message.statuses("StatusResponse", identity, said["component"], time, entries))
+
+    def take_StatusRequestAckIncluded(self, time, received, said):
+        return self.respond(time, message.statuses("StatusResponseAckIncluded", received, said["component"], time, self.asked(said)))
 
     def judge_component(self, said):
         if self.component(said) is None:
@@ -396,13 +409,21 @@ class Site:
             self.subscriptions[link].pop(number, None)
         return Done(written=answer)
 
-    def take_CommandRequest(self, link, time, random, said, answer):
+    def ordered(self, said):
+        """The entries of the response, and the commands that are handed over."""
         component = self.component(said)
         if component is None:
-            told, handed = [(code, name, None, "undefined") for code, name, _ in said["entries"]], []
-        else:
-            told, handed = [(*entry, "recent") for entry in said["entries"]], self.commanded(component, said["entries"])
-        return self.reply(link, time, random, answer, lambda identity: message.commands(identity, said["component"], time, told), handed)
+            return [(code, name, None, "undefined") for code, name, _ in said["entries"]], []
+        return [(*entry, "recent") for entry in said["entries"]], self.commanded(component, said["entries"])
+
+    def take_CommandRequest(self, link, time, random, said, answer):
+        told, handed = self.ordered(said)
+        return self.reply(link, time, random, answer,
+                          lambda identity: message.commands("CommandResponse", identity, said["component"], time, told), handed)
+
+    def take_CommandRequestAckIncluded(self, time, received, said):
+        told, handed = self.ordered(said)
+        return self.respond(time, message.commands("CommandResponseAckIncluded", received, said["component"], time, told), handed)
 
     def commanded(self, component, entries):
         """The commands of a known component, in order. A value outside its range is found before a command that is not there, whichever
