@@ -11,14 +11,15 @@ BAD_NUMBERS = (4, 5, 32, 33, 255, 256, 2**31, LAST_SEQUENCE)
 
 # How often each act comes, by the kind of life. What is not named comes with the weight of "ordinary".
 ORDINARY = {"rise": 30, "pump": 25, "pump_out": 4, "answer": 25, "answer_all": 6, "refuse": 2, "alarm": 8, "status": 8, "aggregated": 3,
-            "tick": 4, "late_tick": 0.5, "due_tick": 3, "good": 12, "command": 4, "subscribe": 2, "spoiled": 3, "damaged": 3, "disconnect": 0.6, "connect": 1,
+            "tick": 4, "late_tick": 0.5, "due_tick": 3, "good": 12, "command": 4, "poll": 4, "subscribe": 2, "spoiled": 3, "damaged": 3, "disconnect": 0.6, "connect": 1,
             "failing": 0.2, "bad_link": 0.6, "bad_number": 0.6, "bad_room": 0.6, "bad_length": 0.3, "bad_time": 1, "same_identity": 3,
             "stranger": 2, "restart": 0.2, "counts": 4, "readings": 1}
 LIVES = {
     "ordinary": {},
-    "deaf": {"answer": 3, "answer_all": 0.3, "pump": 40, "good": 60, "tick": 1, "same_identity": 10, "due_tick": 0.2},
+    "deaf": {"answer": 3, "answer_all": 0.3, "pump": 40, "good": 60, "poll": 20, "tick": 1, "same_identity": 10, "due_tick": 0.2},
     "flood": {"answer": 1, "answer_all": 0.2, "subscribe": 8, "status": 60, "alarm": 15, "aggregated": 15, "pump": 8, "due_tick": 10},
     "desk": {"command": 60, "answer": 60, "pump": 30, "spoiled": 10},
+    "gateway": {"poll": 60, "answer": 20, "subscribe": 6, "status": 20, "same_identity": 10},
     "busy": {"answer": 40, "status": 30, "alarm": 10, "pump": 40, "subscribe": 5, "due_tick": 10},
     "greeting": {"rise": 25, "connect": 8, "disconnect": 8, "failing": 8, "refuse": 8, "good": 10, "spoiled": 8, "stranger": 5},
     "crumbling": {"late_tick": 4, "disconnect": 4, "connect": 4, "alarm": 15, "status": 15, "subscribe": 4, "pump": 30},
@@ -242,6 +243,17 @@ class Life:
     def command(self):
         self.tell(self.link_in(links_.UP), self.supervisor.commands())
 
+    def poll(self):
+        """Now and then under an identity of ours that is awaited, and now and then answered, which nobody has to."""
+        link = self.link_in(links_.UP)
+        members, known = self.supervisor.polling(), self.awaited(link)
+        if known and self.source.random() < 0.1:
+            taken = self.source.choice(known)
+            members = [(name, taken if name == "mId" else value) for name, value in members]
+        self.tell(link, members)
+        if self.source.random() < 0.1:
+            self.tell(link, self.supervisor.answer(dict(members)["mId"], self.source.choice((ANSWER, NO_ANSWER))))
+
     def subscribe(self):
         rate = self.source.choice((None, None, ("0", True)))
         for _ in range(self.source.choice((1, 1, 1, 4))):
@@ -282,7 +294,7 @@ class Life:
             if self.source.random() < 0.4:
                 self.player.pump(link, self.later(), bytes(random))
             else:
-                asking = self.source.choice((self.supervisor.aggregated_request, lambda: self.supervisor.order("Request"),
+                asking = self.source.choice((self.supervisor.aggregated_request, lambda: self.supervisor.order("Request"), self.supervisor.polling,
                                              lambda: self.supervisor.of_statuses("StatusRequest"), self.supervisor.commands))
                 self.player.packet(link, self.later(), bytes(random), self.supervisor.written(asking()))
 

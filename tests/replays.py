@@ -693,9 +693,165 @@ def commands_of_edition_1():
     return hand.done()
 
 
+# Request 04: requests whose response carries the acknowledgement.
+
+POLLED, ORDERED = message.INCLUDED
+RELEASE = {"sCI": "S0001", "n": "release"}
+
+
+class Gateway(Hand):
+    """It polls the second component of the site with commands."""
+
+    def __init__(self):
+        super().__init__(site=COMMANDED)
+        self.north = self.supervisor.component(1)
+
+    def asking(self, kind, *entries, component=None):
+        return self.supervisor.head(kind) + [("cId", component or self.north), ("sS", list(entries))]
+
+    def ordering(self, kind, *entries, component=None):
+        return self.supervisor.command_request(component or self.north, entries, kind)
+
+    def both(self, link, **more):
+        """One of each kind."""
+        return self.tell(link, self.asking(POLLED, RELEASE), **more), self.tell(link, self.ordering(ORDERED, ("M0101", "boom", 1)), **more)
+
+    def both_up(self):
+        """The second link is of the edition before."""
+        for link, offer in ((0, ("3.2",)), (1, ("3.1.4",))):
+            self.up(link, offer=offer)
+            self.sent_out(link)
+
+
+def acknowledgement_included():
+    """Good and bad ones beside the old ones, in every phase, on a primary and on a secondary of the edition before; the calls that are refused; a
+    response sent to us."""
+    hand = Gateway()
+    player, supervisor, tell = hand.player, hand.supervisor, hand.tell
+    responses = lambda: [supervisor.head(kind) + [("oMId", supervisor.head(kind)[2][1])] for kind in message.INCLUDED_RESPONSES]
+    hand.both(0)
+    hand.connect(0)
+    hand.both(0)
+    hand.pump(0)
+    for members in (*responses(), *(lacking(members, "mId") for members in responses())):
+        tell(0, members)
+    hand.answer(0)
+    hand.both(0)
+    tell(0, supervisor.version())
+    hand.both(0)
+    for members in responses():
+        tell(0, members)
+    hand.pump(0)
+    hand.answer(0)
+    tell(0, supervisor.watchdog(hand.time))
+    player.disconnect(0, hand.time)
+    hand.both_up()
+
+    def settled(link, members):
+        tell(link, members)
+        for _ in hand.awaited(link):
+            hand.answer(link)
+
+    for link in (0, 1):
+        for asks, orders in (("StatusRequest", "CommandRequest"), (POLLED, ORDERED)):
+            hand.time += 1
+            ask = lambda *entries, **more: hand.asking(asks, *entries, **more)
+            order = lambda *entries, **more: hand.ordering(orders, *entries, **more)
+            other = {"sCI": "S0002", "n": "release"}
+            for members in (ask(RELEASE), ask(RELEASE, other, RELEASE), ask(), ask(*[other] * 16), ask(*[other] * 17), ask(RELEASE, component="no such"),
+                            ask({"sCI": "S0003", "n": "release"}), ask(RELEASE, {"sCI": "S0001", "n": "uptime"}), ask({"sCI": "S0001"}),
+                            ask({**RELEASE, "n": ""}), changed(ask(), "sS", {}), changed(ask(), "cId", 1)):
+                settled(link, members)
+            one, boom = ("M0102", "limit", 250), ("M0101", "boom", 1)
+            for members in (order(boom), order(boom, one, boom), order(), order(*[one] * 16), order(*[one] * 17), order(boom, component="no such"),
+                            order(("M0101", "boom", 5000), component="no such"), order(("M0101", "beam", 1)), order(boom, ("M0101", "boom", 2)),
+                            order(("M0101", "beam", 1), ("M0101", "boom", 2)), order(("M0101", "boom", "01")), changed(order(), "arg", [{}])):
+                settled(link, members)
+            for members in (ask(RELEASE), order(boom)):
+                for name in ("mType", "type", "mId", "cId", "sS", "arg"):
+                    settled(link, lacking(members, name))
+                for name, value in (("mType", "rsmsg"), ("mId", "1"), ("mId", members[2][1].upper()), ("mId", members[2][1].title()),
+                                    ("type", members[1][1] + "x"), ("type", members[1][1][:-1]), ("type", members[1][1].lower())):
+                    settled(link, changed(members, name, value))
+            player.status(1, -2**31, hand.time)
+            player.status(2, 190, hand.time)
+        for members in (*responses(), *(lacking(members, "mId") for members in responses()), hand.asking(message.INCLUDED_RESPONSES[0], RELEASE)):
+            tell(link, members)
+        for more in (dict(room=4095), dict(room=4096)):
+            hand.both(link, **more)
+    packet = supervisor.written(hand.ordering(ORDERED, ("M0101", "boom", 1)))
+    for link, time_, room, given in ((2, hand.time, 4096, packet), (0, hand.time - 1, 4096, packet), (0, message.LAST + 1, 4096, packet),
+                                     (0, hand.time, 4096, packet + b" " * (4097 - len(packet))), (0, hand.time, 4096, packet + b" " * (4096 - len(packet))),
+                                     (0, hand.time, 4096, packet[:-1]), (0, hand.time, 4096, packet), (0, hand.time, 4096, packet)):
+        player.packet(link, time_, hand.random(), given, room)
+    return hand.done()
+
+
+def included_awaits_nothing():
+    """A response that carries the acknowledgement takes no awaited place and no identity: neither 9 nor "Busy", nothing to answer, no closing after 30
+    seconds; on a link that subscribes and asks in the old way too."""
+    hand = Gateway()
+    player, supervisor, tell = hand.player, hand.supervisor, hand.tell
+    hand.both_up()
+    for link in (0, 1):
+        for members in (hand.asking(POLLED, RELEASE), hand.ordering(ORDERED, ("M0101", "boom", 1))):
+            for kind in (ANSWER, NO_ANSWER):
+                tell(link, members)
+                tell(link, supervisor.answer(dict(members)["mId"], kind))
+        # Under an identity of ours that is awaited: answering it answers ours.
+        player.aggregated(5 + link, hand.time)
+        hand.pump(link)
+        ours, = hand.awaited(link)
+        tell(link, changed(hand.asking(POLLED, RELEASE), "mId", ours.upper()))
+        player.counts()
+        tell(link, supervisor.answer(ours))
+        player.counts()
+        hand.subscribe(link)
+        hand.both(link)
+        player.status(1, 190 + link, hand.time)
+        hand.pump(link)
+        hand.both(link)
+        hand.sent_out(link)
+        # Random bytes of an awaited identity.
+        tell(link, hand.asking("StatusRequest", RELEASE))
+        awaited = bytes.fromhex(hand.awaited(link)[0].replace("-", ""))
+        for members in (hand.asking("StatusRequest", RELEASE), hand.asking(POLLED, RELEASE), hand.ordering("CommandRequest", ("M0101", "boom", 0)),
+                        hand.ordering(ORDERED, ("M0101", "boom", 0)), hand.ordering(ORDERED, ("M0101", "boom", 2))):
+            player.packet(link, hand.time, awaited, supervisor.written(members))
+        # Sixteen awaited.
+        while not tell(link, hand.asking("StatusRequest", RELEASE)).written.count(b"Busy"):
+            hand.both(link)
+        for members in (hand.asking(POLLED, RELEASE), hand.asking(POLLED, RELEASE, component="no such"), hand.asking(POLLED, {"sCI": "S", "n": "n"}),
+                        hand.ordering(ORDERED, ("M0101", "boom", 1)), hand.ordering("CommandRequest", ("M0101", "boom", 1)),
+                        hand.ordering(ORDERED, ("M0101", "boom", 2)), hand.ordering(ORDERED, ("M0109", "boom", 1))):
+            tell(link, members)
+        hand.pump(link)
+        hand.answer(link)
+        hand.both(link)
+        tell(link, hand.asking("StatusRequest", RELEASE))
+        tell(link, hand.asking("StatusRequest", RELEASE))
+        while hand.awaited(link):
+            hand.answer(link)
+    # Nothing is wanted after 30 seconds; link 1 awaits an answer besides.
+    tell(1, hand.asking("StatusRequest", RELEASE))
+    for later in (0, 1, 29998, 1, 1):
+        hand.time += later
+        hand.both(0)
+        hand.both(1)
+        player.tick(hand.time)
+    for later in (29999, 1):
+        hand.time += later
+        player.tick(hand.time)
+        hand.both(0)
+    player.readings()
+    hand.sent_out(0)
+    return hand.done()
+
+
 STORED = (start_limits, checks_in_order, without_packets, sequence_end, time_end, whole_life, decimals_of_a_watchdog, awaited_too_long,
           lengths, every_reason, numbers_of_a_link, closing_answers, alarm_orders, errors_met, filled_pool, late_answer, old_is_old,
-          edition_before, many_members, equal_marks, editions, commands, commands_refused, commands_of_edition_1)
+          edition_before, many_members, equal_marks, editions, commands, commands_refused, commands_of_edition_1,
+          acknowledgement_included, included_awaits_nothing)
 
 
 def texts(player):

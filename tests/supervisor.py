@@ -18,7 +18,7 @@ def new_identity(source):
 
 
 class Supervisor:
-    """The far end of the links of a player's site; of mixed editions where it is told so."""
+    """The far end of the links of a player's site; of mixed editions, and a gateway that polls, where it is told so."""
 
     def __init__(self, source, player, mixed=False):
         self.source, self.player, self.mixed = source, player, mixed
@@ -114,17 +114,17 @@ class Supervisor:
             return self.source.choice((lowest - 1, highest + 1, -2**31, 2**31 - 1, lowest - 65536, highest + 65536))
         return self.source.choice((lowest, highest, self.source.randint(lowest, highest)))
 
-    def commands(self, component=None, entries=None):
+    def commands(self, component=None, entries=None, kind="CommandRequest"):
         """A CommandRequest; entries are pairs of a command's number in the table and a value."""
         rows = self.site.table.commands
         if entries is not None:
             rows_of = [(rows[number], value) for number, value in entries]
             named = self.component(rows_of[0][0][0]) if component is None else component
-            return self.command_request(named, [(row[1].decode(), row[2].decode(), value) for row, value in rows_of])
+            return self.command_request(named, [(row[1].decode(), row[2].decode(), value) for row, value in rows_of], kind)
         many = self.source.choice((1, 1, 2, 3, 8, 16))
         if not rows or self.source.random() < 0.05:
             named = self.source.choice(("no such", self.some_component()))
-            return self.command_request(named, [("no such", "name", self.source.choice((0, -1, 2**31 - 1)))] * many)
+            return self.command_request(named, [("no such", "name", self.source.choice((0, -1, 2**31 - 1)))] * many, kind)
         number = self.source.choice(rows)[0]
         own = [self.source.choice([row for row in rows if row[0] == number]) for _ in range(many)]
         asked = [(row[1].decode(), row[2].decode(), self.value_for(row)) for row in own]
@@ -132,15 +132,22 @@ class Supervisor:
             asked[self.source.randrange(many)] = ("no such", "name", self.source.randrange(-2**31, 2**31))
         if self.source.random() < 0.02:
             asked = []
-        return self.command_request("no such" if self.source.random() < 0.05 else self.component(number), asked)
+        return self.command_request("no such" if self.source.random() < 0.05 else self.component(number), asked, kind)
 
-    def command_request(self, component, entries):
+    def command_request(self, component, entries, kind="CommandRequest"):
         order = self.source.choice(("setValue", "x", "~" * 32))
-        return self.head("CommandRequest") + [
+        return self.head(kind) + [
             ("cId", component), ("arg", [{"cCI": code, "n": name, "cO": order, "v": str(value)} for code, name, value in entries])]
+
+    def polling(self):
+        """A request whose response carries the acknowledgement."""
+        status, command = message.INCLUDED
+        return self.of_statuses(status) if self.source.random() < 0.5 else self.commands(kind=command)
 
     def good(self):
         """A packet that an Up link may get."""
+        if self.mixed and self.source.random() < 0.15:
+            return self.polling()
         way = self.source.randrange(12)
         if way > 9:
             return self.commands()

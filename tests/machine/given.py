@@ -7,7 +7,7 @@ import uuid
 LITERALS = {"true": True, "false": False, "zero": 0, "[]": ()}
 CONSTRUCTORS = dict(none=0, some=1, null=0, bool=1, num=1, str=1, arr=1, obj=1, jnil=0, jcons=2, mnil=0, mcons=3, Is=1, No=0,
                     pos=1, negsuc=1, Recent=1, Old=1, Unknown=0, Undefined=0, Response=0, Update=0, Command=0,
-                    version=3, watchdog=2, ack=1, notAck=2, alarm=4, aggregated=4, statuses=5)
+                    version=3, watchdog=2, ack=1, notAck=2, alarm=4, aggregated=4, statuses=5, included=5)
 NONE = ("none",)
 
 
