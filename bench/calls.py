@@ -103,9 +103,9 @@ def told_statuses(kind):
     return told(lambda supervisor: of_statuses(supervisor, kind))
 
 
-def commanded(hand):
+def commanded(kind):
     """Four entries, of the second component."""
-    return hand.command(0, (0, 1), (1, 250), (2, -1), (0, 0))
+    return told(lambda supervisor: supervisor.commands(entries=[(0, 1), (1, 250), (2, -1), (0, 0)], kind=kind))
 
 
 def later(act):
@@ -138,9 +138,11 @@ CASES = (
     ("packet Alarm", both_up, told(lambda supervisor: supervisor.order("Suspend", 1))),
     ("packet AggregatedStatusRequest", both_up, told(lambda supervisor: supervisor.aggregated_request())),
     ("packet StatusRequest", both_up, told_statuses("StatusRequest")),
+    ("packet StatusRequestAckIncluded", both_up, told_statuses("StatusRequestAckIncluded")),
     ("packet StatusSubscribe", both_up, told_statuses("StatusSubscribe")),
     ("packet StatusUnsubscribe", subscribed, told_statuses("StatusUnsubscribe")),
-    ("packet CommandRequest", both_up, commanded, COMMANDED),
+    ("packet CommandRequest", both_up, commanded("CommandRequest"), COMMANDED),
+    ("packet CommandRequestAckIncluded", both_up, commanded("CommandRequestAckIncluded"), COMMANDED),
     ("packet CommandRequest, refused", both_up, lambda hand: hand.command(0, (0, 1), (1, 250), (2, -1), (0, 2)), COMMANDED),
     ("start, edition 2", nothing, nothing, COMMANDED),
     ("held and lost", both_up, lambda hand: hand.player.counts()),
@@ -188,7 +190,7 @@ def main(words):
                 figures.append(told_as(taken, "us", 1e3, 1))
             if case.number is not None and numbers != {case.number}:
                 sys.exit(f"{case.name}: numbers {numbers} where {case.number} was expected")
-            print(f"{case.name:31} {len(case.packet):4} bytes  {'  '.join(figures)}", flush=True)
+            print(f"{case.name:32} {len(case.packet):4} bytes  {'  '.join(figures)}", flush=True)
     return 0
 
 

@@ -1,4 +1,4 @@
-"""The program `rsmp-site` over real sockets, by subject: talk, ends, links, time, state, files, commands, operators, hostile neighbours. Two tests at a time.
+"""The program `rsmp-site` over real sockets, by subject: talk, ends, links, time, state, files, commands, polls, operators, hostile neighbours. Two tests at a time.
 
   sockets.py --stored            what the gate runs
   sockets.py --only NAME ..      these tests
@@ -17,6 +17,7 @@ import socket_files
 import socket_hostile
 import socket_links
 import socket_operator
+import socket_polled
 import socket_state
 import socket_talk
 import socket_time
@@ -24,7 +25,8 @@ from process import Failed, Process
 
 AT_ONCE = 2
 # The longest first.
-SUBJECTS = socket_talk, socket_operator, socket_state, socket_files, socket_commands, socket_links, socket_time, socket_hostile, socket_end
+SUBJECTS = (socket_talk, socket_operator, socket_state, socket_files, socket_commands, socket_links, socket_time, socket_hostile, socket_end,
+            socket_polled)
 
 
 def run(test, *more):

@@ -56,8 +56,10 @@ class Supervisor:
 
     def take(self, said):
         kind = said["type"]
-        if kind in message.ANSWERS:
-            (self.acknowledged.add(said["oMId"]) if kind == "MessageAck" else self.refused.update({said["oMId"]: said["rea"]}))
+        if kind == "MessageNotAck":
+            self.refused[said["oMId"]] = said["rea"]
+        elif kind == "MessageAck" or kind in message.INCLUDED_RESPONSES:
+            self.acknowledged.add(said["oMId"])
         elif self.answers:
             self.send_raw(message.ack(said["mId"]) + FORM_FEED)
         if kind == "Version" and self.greets:

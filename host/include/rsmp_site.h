@@ -22,8 +22,8 @@ extern "C" {
 
 /* The version of the library, of this header, of the Rust crate and of the programs. A site is started by a function that has the
  * version in its name, so that the linker refuses a library of another one ("undefined reference to rsmp_lent_start_.."). */
-#define RSMP_VERSION "0.5.0"
-#define rsmp_lent_start rsmp_lent_start_0_5_0
+#define RSMP_VERSION "0.6.0"
+#define rsmp_lent_start rsmp_lent_start_0_6_0
 extern const char rsmp_library_version[];
 
 #define RSMP_SITE_WORDS 1173

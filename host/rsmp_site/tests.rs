@@ -227,6 +227,15 @@ fn commands_are_handed_over() {
     let unknown = asked(&raise).replace("481BR001", "481BR009");
     assert!(told(&mut up(COMMANDS), "CommandRequest", &unknown).commands.is_empty());
     assert!(told(&mut up(TABLE), "CommandRequest", &asked(&raise)).commands.is_empty());
+    // With one message, which nobody answers: the site awaits nothing more.
+    let (mut site, mut output) = (up(COMMANDS), [0; OUTPUT_BYTES]);
+    let before = site.clone();
+    let packet = format!("{{\"mType\":\"rSMsg\",\"type\":\"CommandRequestAckIncluded\",\"mId\":\"{}\",{}}}", THEIRS, asked(&raise));
+    let report = site.packet(0, NOON, [9; 16], packet.as_bytes(), &mut output).expect("it is taken");
+    let written = std::str::from_utf8(&output[..report.written]).expect("it is text");
+    let begins = format!("{{\"mType\":\"rSMsg\",\"type\":\"CommandResponseAckIncluded\",\"oMId\":\"{}\",", THEIRS);
+    assert!(written.starts_with(&begins) && written.matches('\u{c}').count() == 1, "{}", written);
+    assert!(report.commands[..] == [Command { number: 1, value: 1 }] && site == before);
 }
 
 #[test]

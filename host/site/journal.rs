@@ -40,7 +40,7 @@ impl Level {
 }
 
 /// The types of RSMP. Another word is a supervisor's own.
-const TYPES: [&str; 14] = [
+const TYPES: [&str; 18] = [
     "MessageAck",
     "MessageNotAck",
     "Version",
@@ -55,6 +55,10 @@ const TYPES: [&str; 14] = [
     "StatusUpdate",
     "CommandRequest",
     "CommandResponse",
+    "StatusRequestAckIncluded",
+    "StatusResponseAckIncluded",
+    "CommandRequestAckIncluded",
+    "CommandResponseAckIncluded",
 ];
 
 pub struct Journal {
