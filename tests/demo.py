@@ -65,6 +65,20 @@ def test_booms(process, centre, workshop, motor):
     say()
 
 
+def poll(centre):
+    asked = {"cId": NORTH, "sS": [{"sCI": "S0101", "n": "release"}]}
+    say("Behind the centre a city's gateway polls over the same link, in the way in which the response is the acknowledgement too:")
+    before = len(centre.messages)
+    for _ in range(20):
+        centre.ask("StatusRequestAckIncluded", **asked)
+    said = [one["sS"][0]["s"] for one in centre.messages[before:] if one["type"] == "StatusResponseAckIncluded"]
+    if said != [said[0]] * 20:
+        sys.exit(f"the gateway got {said}")
+    say(f"  20 questions, 20 messages back ({said[0]} ms each), none of them to be answered; and a status that is not there is refused: "
+        f"{centre.ask('StatusRequestAckIncluded', cId=NORTH, sS=[{'sCI': 'S0999', 'n': 'release'}])}.")
+    say()
+
+
 def show(process, centre, workshop, motor):
     say(f"The site of a road barrier starts and calls its two supervisors: the traffic centre (primary) on {centre.address},")
     say(f"the workshop (secondary) on {workshop.address}.")
@@ -81,6 +95,7 @@ def show(process, centre, workshop, motor):
     say(f"  and, above {LIMIT} ms, the alarm {centre.of('Alarm')[-1]['aCId']}. The workshop got {len(workshop.of('Alarm'))} alarms: "
         "they are the primary's.")
     say()
+    poll(centre)
     say("The centre's connection is cut. The barrier goes on measuring:")
     before = len(values(centre))
     centre.greets = False
