@@ -19,7 +19,7 @@ LIVES = {
     "deaf": {"answer": 3, "answer_all": 0.3, "pump": 40, "good": 60, "poll": 20, "tick": 1, "same_identity": 10, "due_tick": 0.2},
     "flood": {"answer": 1, "answer_all": 0.2, "subscribe": 8, "status": 60, "alarm": 15, "aggregated": 15, "pump": 8, "due_tick": 10},
     "desk": {"command": 60, "answer": 60, "pump": 30, "spoiled": 10},
-    "gateway": {"poll": 60, "answer": 20, "subscribe": 6, "status": 20, "same_identity": 10},
+    "gateway": {"poll": 60, "good": 40, "answer": 5, "answer_all": 0.5, "subscribe": 6, "status": 20, "same_identity": 10},
     "busy": {"answer": 40, "status": 30, "alarm": 10, "pump": 40, "subscribe": 5, "due_tick": 10},
     "greeting": {"rise": 25, "connect": 8, "disconnect": 8, "failing": 8, "refuse": 8, "good": 10, "spoiled": 8, "stranger": 5},
     "crumbling": {"late_tick": 4, "disconnect": 4, "connect": 4, "alarm": 15, "status": 15, "subscribe": 4, "pump": 30},
@@ -244,15 +244,16 @@ class Life:
         self.tell(self.link_in(links_.UP), self.supervisor.commands())
 
     def poll(self):
-        """Now and then under an identity of ours that is awaited, and now and then answered, which nobody has to."""
+        """Now and then under an identity of ours that is awaited, as a response, or answered, which nobody has to."""
         link = self.link_in(links_.UP)
-        members, known = self.supervisor.polling(), self.awaited(link)
+        members, known = dict(self.supervisor.polling()), self.awaited(link)
         if known and self.source.random() < 0.1:
-            taken = self.source.choice(known)
-            members = [(name, taken if name == "mId" else value) for name, value in members]
-        self.tell(link, members)
+            members["mId"] = self.source.choice(known)
+        if self.source.random() < 0.05:
+            members["type"] = members["type"].replace("Request", "Response")
+        self.tell(link, list(members.items()))
         if self.source.random() < 0.1:
-            self.tell(link, self.supervisor.answer(dict(members)["mId"], self.source.choice((ANSWER, NO_ANSWER))))
+            self.tell(link, self.supervisor.answer(members["mId"], self.source.choice((ANSWER, NO_ANSWER))))
 
     def subscribe(self):
         rate = self.source.choice((None, None, ("0", True)))

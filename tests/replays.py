@@ -843,6 +843,11 @@ def included_awaits_nothing():
         hand.time += later
         player.tick(hand.time)
         hand.both(0)
+    # Their time is the last.
+    for members in (hand.asking(POLLED, RELEASE), hand.ordering(ORDERED, ("M0101", "boom", 1))):
+        hand.time += 1
+        tell(0, members)
+        player.tick(hand.time - 1)
     player.readings()
     hand.sent_out(0)
     return hand.done()
