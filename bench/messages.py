@@ -33,6 +33,7 @@ def entries(count, **more):
     return [{"sCI": "S0001", "n": f"release{place}", **more} for place in range(count)]
 
 
+COMMANDS = [{"cCI": "M0001", "n": f"limit{place}", "cO": "setValue", "v": str(250 - place)} for place in range(4)]
 READ = {
     "Version": message.version(IDENTITY, COMPONENT, "1.0.13"),
     "Watchdog": message.watchdog(IDENTITY, 1254398371571),
@@ -42,7 +43,9 @@ READ = {
     "StatusRequest": request("StatusRequest", sS=entries(4)),
     "StatusSubscribe": request("StatusSubscribe", sS=entries(4, uRt="60", sOc=True)),
     "StatusUnsubscribe": request("StatusUnsubscribe", sS=entries(4)),
-    "CommandRequest": request("CommandRequest", arg=[{"cCI": "M0001", "n": f"limit{place}", "cO": "setValue", "v": str(250 - place)} for place in range(4)]),
+    "CommandRequest": request("CommandRequest", arg=COMMANDS),
+    "StatusRequestAckIncluded": request("StatusRequestAckIncluded", sS=entries(4)),
+    "CommandRequestAckIncluded": request("CommandRequestAckIncluded", arg=COMMANDS),
 }
 WRITTEN = {
     "Version": ("V", message.version(IDENTITY, COMPONENT, "1.0.13")),
@@ -91,7 +94,7 @@ def main():
                            ("writing", [(name, "w", letter.encode(), text) for name, (letter, text) in WRITTEN.items()])):
             for name, kind, body, text in rows:
                 mine, other = ours(kind, body), theirs(text)
-                print(f"{what} {name:24} {len(text):4} bytes {mine * 1e6:8.1f} us, libcjson {other * 1e6:8.1f} us, ratio {mine / other:5.2f}")
+                print(f"{what} {name:25} {len(text):4} bytes {mine * 1e6:8.1f} us, libcjson {other * 1e6:8.1f} us, ratio {mine / other:5.2f}")
     return 0
 
 
