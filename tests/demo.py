@@ -68,13 +68,13 @@ def test_booms(process, centre, workshop, motor):
 def poll(centre):
     asked = {"cId": NORTH, "sS": [{"sCI": "S0101", "n": "release"}]}
     say("Behind the centre a city's gateway polls over the same link, in the way in which the response is the acknowledgement too:")
-    before = len(centre.messages)
     for _ in range(20):
         centre.ask("StatusRequestAckIncluded", **asked)
-    said = [one["sS"][0]["s"] for one in centre.messages[before:] if one["type"] == "StatusResponseAckIncluded"]
-    if said != [said[0]] * 20:
-        sys.exit(f"the gateway got {said}")
-    say(f"  20 questions, 20 messages back ({said[0]} ms each), none of them to be answered; and a status that is not there is refused: "
+    got = lambda: [said["sS"][0]["s"] for said in centre.of("StatusResponseAckIncluded")]
+    centre.wait(lambda: len(got()) == 20, "the responses")
+    if set(got()) != {"340"}:
+        sys.exit(f"the gateway got {got()}")
+    say("  20 questions, 20 messages back (340 ms each), none of them to be answered; and a status that is not there is refused: "
         f"{centre.ask('StatusRequestAckIncluded', cId=NORTH, sS=[{'sCI': 'S0999', 'n': 'release'}])}.")
     say()
 
