@@ -96,7 +96,7 @@ def judge_commands():
     """What C gets of a packet's commands is what the stored answers say."""
     handed = 0
     with compiled("commands") as run:
-        for script in ("commands", "commands_refused", "commands_of_edition_1", "alarm_orders"):
+        for script in ("commands", "commands_refused", "commands_of_edition_1", "acknowledgement_included", "alarm_orders"):
             answers = [line.split() for line in (SCRIPTS / f"{script}.answers").read_text().splitlines()]
             given = (SCRIPTS / f"{script}.txt").read_bytes()
             reads = [line.split()[0] in (b"counts", b"readings") for line in given.splitlines()]

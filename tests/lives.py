@@ -11,9 +11,9 @@ BAD_NUMBERS = (4, 5, 32, 33, 255, 256, 2**31, LAST_SEQUENCE)
 
 # How often each act comes, by the kind of life. What is not named comes with the weight of "ordinary".
 ORDINARY = {"rise": 30, "pump": 25, "pump_out": 4, "answer": 25, "answer_all": 6, "refuse": 2, "alarm": 8, "status": 8, "aggregated": 3,
-            "tick": 4, "late_tick": 0.5, "due_tick": 3, "good": 12, "command": 4, "poll": 4, "subscribe": 2, "spoiled": 3, "damaged": 3, "disconnect": 0.6, "connect": 1,
-            "failing": 0.2, "bad_link": 0.6, "bad_number": 0.6, "bad_room": 0.6, "bad_length": 0.3, "bad_time": 1, "same_identity": 3,
-            "stranger": 2, "restart": 0.2, "counts": 4, "readings": 1}
+            "tick": 4, "late_tick": 0.5, "due_tick": 3, "good": 12, "command": 4, "poll": 4, "subscribe": 2, "spoiled": 3, "damaged": 3,
+            "disconnect": 0.6, "connect": 1, "failing": 0.2, "bad_link": 0.6, "bad_number": 0.6, "bad_room": 0.6, "bad_length": 0.3,
+            "bad_time": 1, "same_identity": 3, "stranger": 2, "restart": 0.2, "counts": 4, "readings": 1}
 LIVES = {
     "ordinary": {},
     "deaf": {"answer": 3, "answer_all": 0.3, "pump": 40, "good": 60, "poll": 20, "tick": 1, "same_identity": 10, "due_tick": 0.2},

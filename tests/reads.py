@@ -5,11 +5,11 @@
   reads.py --fresh [SEED]   runs random packets through the program
 
 The program answers `-` for a packet that is ignored whatever the site's state; A or N and an identity's 32 digits for an answer;
-else the received mId, mType's verdict (G good, M "Missing element", B "Bad value"), the type's letter (X where it is not taken; that of
-the old type, but small, where the acknowledgement is to be included), and, where mType is good and the type taken, the verdict of its fields and, where that is good, the fields: labels in hexadecimal,
-times, seconds and values in decimal, a version as one number, lists behind their length. An entry of a StatusRequest or StatusUnsubscribe
-has 0 and t for uRt and sOc. A Version's last word is what comes of it against OFFERED, SITE and SXL: the version that is chosen,
-or R, I or X for the check that fails.
+else the received mId, mType's verdict (G good, M "Missing element", B "Bad value"), the type's letter (X where it is not taken; that
+of the old type, but small, where the response carries the acknowledgement), and, where mType is good and the type taken, the verdict of
+its fields and, where that is good, the fields: labels in hexadecimal, times, seconds and values in decimal, a version as one number,
+lists behind their length. An entry of a StatusRequest or StatusUnsubscribe has 0 and t for uRt and sOc. A Version's last word is what
+comes of it against OFFERED, SITE and SXL: the version that is chosen, or R, I or X for the check that fails.
 """
 import itertools
 import json

@@ -34,7 +34,7 @@ def polled(room):
         identity, packet = one.packet(POLL, **ASKED)
         one.send_raw(packet.replace(identity.encode(), identity.upper().encode()))
         said = response(one, identity.upper())
-        hold(list(said) == ["mType", "type", "oMId", "ntsOId", "xNId", "cId", "sTs", "sS"] and said["type"] == STATUS_ANSWER and said["cId"] == NORTH, f"{said}")
+        hold(list(said) == ["mType", "type", "oMId", "ntsOId", "xNId", "cId", "sTs", "sS"] and said["type"] == STATUS_ANSWER, f"{said}")
         hold([list(entry.items()) for entry in said["sS"]] == [[("sCI", "S0101"), ("n", "release"), ("s", str(value)), ("q", "recent")]], f"{said}")
         said = response(one, one.send(ORDER, **commanding((*LIMIT, 250), ("M0101", "boom", 1), component=component)))
         hold(list(said) == ["mType", "type", "oMId", "ntsOId", "xNId", "cId", "cTS", "rvs"] and said["type"] == COMMAND_ANSWER, f"{said}")

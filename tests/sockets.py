@@ -1,4 +1,5 @@
-"""The program `rsmp-site` over real sockets, by subject: talk, ends, links, time, state, files, commands, polls, operators, hostile neighbours. Two tests at a time.
+"""The program `rsmp-site` over real sockets, by subject: talk, polls, ends, links, time, state, files, commands, operators, hostile
+neighbours. Two tests at a time.
 
   sockets.py --stored            what the gate runs
   sockets.py --only NAME ..      these tests
