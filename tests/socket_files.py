@@ -117,6 +117,39 @@ def garbage_is_counted(room):
     return f"{count} packets of garbage in {took:.1f} s leave {left} lines"
 
 
+def logs_that_stay(room):
+    """A long log that cannot be put aside begins anew where it lies and says so; a pipe is not taken for a file of a size. Lines of a message are short."""
+    room = pathlib.Path(room)
+    supervisor, log, most = Supervisor(SITE, SXL), room / "log", 20 << 10
+    (room / "log.1").mkdir()
+    process = Process(room, [supervisor], "--log", log, "--log-size", "20K", record=False)
+    supervisor.wait_up()
+    spoiled = b'{"type":"Alarm","cId":"%s"}\x0c' % (b"\xff" * 3900)
+    supervisor.send_raw(spoiled)
+    wait(lambda: "! Alarm" in log.read_text(), "a line of bytes that are no text")
+    hold(max(map(len, log.read_text().splitlines())) < 1000, "a line of the log is long")
+    for _ in range(40):
+        supervisor.flood("AggregatedStatusRequest", 8, cId=SITE, pad="x" * 300)
+        hold(log.stat().st_size <= most, f"a log of {log.stat().st_size} bytes")
+    process.quit()
+    said = log.read_text()
+    hold("the log is long and cannot be put aside, it begins anew: " in said and "ends as told" in said, f"the log ends with {said[-400:]}")
+    supervisor.wait(lambda: not supervisor.up, "the end")
+    pipes, read = [room / "pipe", room / "record.txt"], {}
+    for path in pipes:
+        os.mkfifo(path)
+        threading.Thread(target=lambda path=path: read.update({path: path.read_text()}), daemon=True).start()
+    process = Process(room, [supervisor], "--log", pipes[0], "--log-size", "4K", "--record-size", "4K")
+    supervisor.wait_up()
+    for _ in range(10):
+        supervisor.flood("AggregatedStatusRequest", 8, cId=SITE, pad="x" * 300)
+    hold(all(path.is_fifo() and not path.with_name(path.name + ".1").exists() for path in pipes), "a pipe is put aside")
+    process.quit()
+    wait(lambda: len(read) == 2, "the end of what was read")
+    hold("summary" in read[pipes[0]] and min(len(text) for text in read.values()) > 8 << 10, "what was read of the pipes")
+    supervisor.close()
+
+
 def full_disk(room):
     """A record and a log that cannot be written are tried again and lose no line in the middle; SIGHUP tells what came of it."""
     room = pathlib.Path(room)
@@ -232,4 +265,4 @@ def what_is_set_is_stored(room):
     supervisor.close()
 
 
-TESTS = [slow_disk, full_disk, record_has_its_size, no_line_is_torn, garbage_is_counted, what_is_set_is_stored]
+TESTS = [slow_disk, full_disk, record_has_its_size, no_line_is_torn, garbage_is_counted, logs_that_stay, what_is_set_is_stored]

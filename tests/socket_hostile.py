@@ -205,6 +205,48 @@ def numbers_end_early(room):
     return f"after {value} of 64 numbers"
 
 
+def silent_at_the_end(room):
+    """A secondary that answers nothing, and so holds records for ever, does not keep the new site from starting while the primary holds nothing."""
+    centre, workshop = Supervisor(SITE, SXL), Supervisor(SITE, SXL)
+    process = Process(room, [centre, workshop], "--first", str((1 << 32) - 64), record=False)
+    centre.wait_up()
+    workshop.wait_up()
+    hold(process.order("alarm 2 on") == "done", "an alarm")
+    hold(workshop.ask("StatusSubscribe", **subscription()) is True, "a subscription")
+    workshop.answers = False
+    for value in range(1, 64):
+        if process.logged("a new site starts with"):
+            break
+        hold(process.order(f"status {RELEASE} {value}") == "done", f"value {value}")
+        time.sleep(0.3 if value > 55 else 0)
+    hold(process.logged("the sequence numbers are nearly used up: a new site starts"), "the numbers come to their end first")
+    wait(lambda: any(re.search(r"the records \(link 0 holds 0, lost 0; link 1 holds [1-9]", line) for line in process.lines), "what is not carried over")
+    centre.wait(lambda: len(centre.connections) == 2 and told(centre)[1] == ["Active"], "the new site")
+    process.quit()
+    for one in (centre, workshop):
+        one.close()
+
+
+def without_packets(room):
+    """Bytes without an end, and ends without a packet, take no more of the processor than packets do."""
+    supervisor = Supervisor(SITE, SXL)
+    process = Process(room, [supervisor], "--quiet", record=False)
+    supervisor.wait_up()
+    sent = {}
+    for name, filler in (("no form feed", b"x"), ("form feeds alone", FORM_FEED)):
+        end, sent[name] = time.monotonic() + 2, 0
+        while time.monotonic() < end:
+            supervisor.send_raw(filler * 65536)
+            sent[name] += 65536
+        supervisor.send_raw(FORM_FEED)
+        hold(supervisor.ask("AggregatedStatusRequest", cId=SITE) is True, f"an answer behind {name}")
+    process.quit()
+    most = 3 * 1000 * 4096 + (8 << 20)  # a second's worth at once, two seconds, and what waits on the way
+    hold(max(sent.values()) < 2 * most, f"bytes that were read in two seconds: {sent}")
+    supervisor.close()
+    return ", ".join(f"{count >> 20} MB of {name}" for name, count in sent.items()) + " in two seconds"
+
+
 def held_back(room):
     """A link that sends more packets than are read in a second waits, loses nothing and does not hold up another; the log tells it once."""
     flooding, other = Supervisor(SITE, SXL), Supervisor(SITE, SXL)
@@ -251,4 +293,5 @@ def forged_state(room):
     hold(not process.logged("panicked"), process.lines)
 
 
-TESTS = [forged_lines, control_paths, open_files, many_connections, long_orders, constant_random_bytes, spent_numbers, numbers_end_early, held_back, forged_state]
+TESTS = [forged_lines, control_paths, open_files, many_connections, long_orders, constant_random_bytes, spent_numbers, numbers_end_early, silent_at_the_end, held_back,
+         without_packets, forged_state]

@@ -12,9 +12,7 @@ use std::time::{Duration, Instant};
 const DRAWS: u32 = 16;
 /// A record that could not be opened or written is tried again so often.
 const RECORD_AGAIN: Duration = Duration::from_secs(2);
-/// There are so many sequence numbers, and where but this part of them is left the site looks for a moment to begin anew.
 const NUMBERS: u64 = 1 << 32;
-const NEAR_THE_END: u64 = 16;
 /// More alarms or statuses than a table has.
 const ROWS: u32 = 32;
 
@@ -113,10 +111,10 @@ impl Calls {
         Ok(())
     }
 
-    /// Whether few sequence numbers are left.
-    pub fn is_near_its_end(&self) -> bool {
+    /// Whether this part of the sequence numbers, or less, is left.
+    pub fn has_left(&self, part: u64) -> bool {
         let (left, all) = (NUMBERS.saturating_sub(self.site.next_number()), NUMBERS - self.start.first);
-        left * NEAR_THE_END <= all
+        left * part <= all
     }
 
     pub fn now(&mut self) -> u64 {

@@ -23,6 +23,10 @@ const LAST_COMMANDS: Duration = Duration::from_secs(5);
 const CLOCKS_DIFFER: u64 = 1000;
 /// Nor is more than one line in so long a time.
 const CLOCK_LINES: Duration = Duration::from_secs(60);
+/// Where but this part of the sequence numbers is left a new site starts as soon as nothing is held ..
+const NEAR_THE_END: u64 = 16;
+/// .. and where but this part is left, as soon as the primary's is answered: who does not answer cannot keep the site from it.
+const NEARER: u64 = 32;
 
 pub const NOT_SAVED: &str = "refused: there is no state, or it cannot be written";
 
@@ -347,7 +351,7 @@ impl Host {
             Err(Refusal::SequenceSpent) => self.start_anew(Level::Error, "used up"),
             Err(refusal) => self.say_of_site(Level::Error, refusal),
         }
-        if self.calls.is_near_its_end() && !self.holds_something() {
+        if self.is_time_for_a_new_site() {
             self.start_anew(Level::Warning, "nearly used up");
         }
         for link in 0..self.links.len() as u32 {
@@ -397,6 +401,9 @@ impl Host {
                 self.say_of_site(Level::Error, format!("the log cannot be opened again, the former file is written on: {}", error))
             }
         }
+        if let Some(error) = self.journal.outlet.take_begun_anew() {
+            self.say_of_site(Level::Error, format!("the log is long and cannot be put aside, it begins anew: {}", error));
+        }
         for text in self.calls.take_trouble() {
             self.say_of_site(Level::Error, text);
         }
@@ -425,6 +432,12 @@ impl Host {
 
     pub fn holds_something(&self) -> bool {
         (0..self.links.len() as u32).any(|link| self.calls.site.held(link) > 0)
+    }
+
+    fn is_time_for_a_new_site(&self) -> bool {
+        let answered = |link: u32| self.calls.site.held(link) == 0;
+        self.calls.has_left(NEAR_THE_END) && !self.holds_something()
+            || self.calls.has_left(NEARER) && self.about.primary.map_or(false, answered)
     }
 
     /// A new site where the sequence numbers come to their end.

@@ -2,7 +2,7 @@
 
 use crate::form::Form;
 use crate::outlet::Outlet;
-use crate::readable::{clean, detail, kind};
+use crate::readable::{clean, clean_and_short, detail, kind};
 use crate::repeated::Repeated;
 use std::cell::RefCell;
 use std::fmt::Display;
@@ -106,7 +106,7 @@ impl Journal {
         if !self.repeated.borrow_mut().allows(Some(link), Level::Message, &format!("{} {}", mark, known)) {
             return;
         }
-        self.outlet.line(&self.form.message(time, link, mark, &type_, &clean(&detail(&text))));
+        self.outlet.line(&self.form.message(time, link, mark, &type_, &clean_and_short(&detail(&text))));
         if self.says(Level::Debug) {
             self.say_each(time, Level::Debug, Some(link), &format!("{} {}", mark, text));
         }

@@ -50,11 +50,11 @@ impl Metrics {
 fn write_all(path: &Path, pages: Receiver<String>, events: SyncSender<Event>) {
     let mut failed = false;
     for page in pages {
-        let written = replace(path, &page);
-        let failed_before = std::mem::replace(&mut failed, written.is_err());
-        if let (Err(error), false) = (written, failed_before) {
-            let _ = events.try_send(Event::Trouble(format!("{}: {}", path.display(), error)));
-        }
+        // Said once; what finds no room is said the next time.
+        failed = match replace(path, &page) {
+            Ok(()) => false,
+            Err(error) => failed || events.try_send(Event::Trouble(format!("{}: {}", path.display(), error))).is_ok(),
+        };
     }
     let _ = fs::remove_file(path);
 }

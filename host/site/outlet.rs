@@ -22,6 +22,7 @@ struct Waiting {
     writing: bool,
     reopen: bool,
     reopened: Option<io::Result<()>>,
+    begun_anew: Option<io::Error>,
     json: bool,
 }
 
@@ -41,18 +42,22 @@ struct Target {
     length: u64,
     /// Put aside rather than longer; 0 for never.
     most: u64,
+    /// No device and no pipe: such a one has no size and stays where it is.
+    plain: bool,
     /// The last line has no end.
     torn: bool,
+    /// Why the file could not be put aside when it was long.
+    not_aside: Option<io::Error>,
 }
 
 impl Target {
     fn standard_output() -> Target {
         let file = io::stdout().as_fd().try_clone_to_owned().ok().map(File::from);
-        Target { path: None, file, length: 0, most: 0, torn: false }
+        Target { path: None, file, length: 0, most: 0, plain: false, torn: false, not_aside: None }
     }
 
     fn file(path: PathBuf, most: u64) -> Target {
-        Target { path: Some(path), file: None, length: 0, most, torn: false }
+        Target { path: Some(path), file: None, length: 0, most, plain: false, torn: false, not_aside: None }
     }
 
     /// By its name; where that cannot be done, a former file is written on.
@@ -60,7 +65,8 @@ impl Target {
         if let Some(path) = &self.path {
             let file = appended(path)?;
             let about = file.metadata()?;
-            self.torn = about.is_file() && !ends_a_line(path).unwrap_or(true);
+            self.plain = about.is_file();
+            self.torn = self.plain && !ends_a_line(path).unwrap_or(true);
             (self.length, self.file) = (about.len(), Some(file));
         }
         Ok(())
@@ -70,14 +76,27 @@ impl Target {
         if self.file.is_none() {
             self.open()?;
         }
-        match &self.path {
-            Some(path) if self.most > 0 && self.length > 0 && self.length + count as u64 > self.most => {
-                put_aside(path)?;
+        let long = self.most > 0 && self.length > 0 && self.length + count as u64 > self.most;
+        match self.path.as_deref().filter(|_| long && self.plain).map(put_aside) {
+            None => Ok(()),
+            Some(Ok(())) => {
                 self.file = None;
                 self.open()
             }
-            _ => Ok(()),
+            Some(Err(error)) => {
+                self.not_aside = Some(error);
+                self.begin_anew()
+            }
         }
+    }
+
+    /// Where it lies: it neither grows without limit nor falls silent where its folder is not ours.
+    fn begin_anew(&mut self) -> io::Result<()> {
+        if let Some(file) = &self.file {
+            file.set_len(0)?;
+            (self.length, self.torn) = (0, false);
+        }
+        Ok(())
     }
 
     /// Writes these lines, or as many bytes of them as can be, and gives how many.
@@ -237,6 +256,11 @@ impl Outlet {
         self.waiting().reopened.take()
     }
 
+    /// Why the file was begun anew where it lies, once.
+    pub fn take_begun_anew(&self) -> Option<io::Error> {
+        self.waiting().begun_anew.take()
+    }
+
     /// Waits until all is written, or until then.
     pub fn drain(&self, until: Instant) {
         let mut waiting = self.waiting();
@@ -275,6 +299,7 @@ impl Outlet {
             let written = target.write(&chunk.bytes);
             lost = chunk.lost(lost, written);
             waiting = self.waiting();
+            waiting.begun_anew = target.not_aside.take().or(waiting.begun_anew.take());
             waiting.writing = false;
             self.waiting.1.notify_all();
         }
@@ -345,5 +370,30 @@ mod tests {
         let mut full = Target::file("/dev/full".into(), 0);
         assert_eq!((full.write(b"x\n"), full.file.is_none()), (0, true));
         let _ = (fs::remove_file(&path), fs::remove_file(&aside));
+    }
+
+    #[test]
+    fn a_long_file_that_cannot_be_put_aside_begins_anew() {
+        let path = place("outlet-stays");
+        let aside = PathBuf::from(format!("{}.1", path.display()));
+        fs::create_dir(&aside).unwrap();
+        let mut target = Target::file(path.clone(), 10);
+        assert_eq!((target.write(b"one two\n"), target.not_aside.is_none()), (8, true));
+        assert_eq!((target.write(b"three\n"), target.not_aside.is_some()), (6, true));
+        assert_eq!(fs::read_to_string(&path).unwrap(), "three\n");
+        let _ = (fs::remove_file(&path), fs::remove_dir(&aside));
+    }
+
+    #[test]
+    fn a_pipe_stays_where_it_is() {
+        let path = place("outlet-pipe");
+        assert!(std::process::Command::new("mkfifo").arg(&path).status().unwrap().success());
+        let reader = path.clone();
+        let read = thread::spawn(move || fs::read_to_string(reader).unwrap());
+        let mut target = Target::file(path.clone(), 10);
+        assert_eq!((target.write(b"one two\n"), target.write(b"three\n")), (8, 6));
+        drop(target);
+        assert_eq!(read.join().unwrap(), "one two\nthree\n");
+        let _ = fs::remove_file(&path);
     }
 }

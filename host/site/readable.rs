@@ -2,8 +2,10 @@
 
 /// No line shows more characters of a text: a packet has room.
 const LONGEST: usize = 4200;
-/// A message's own line is to be read, not to be complete.
+/// A message's own line is to be read, not to be complete: no value is added behind so many bytes ..
 const LONGEST_DETAIL: usize = 400;
+/// .. and so many are shown, whatever the last value is and however much of it is escaped.
+const LONGEST_SHOWN: usize = 800;
 
 /// The text with everything escaped that is neither a letter, a digit, a space nor a printable sign of ASCII, cut where it is long.
 pub fn clean(text: &str) -> String {
@@ -18,6 +20,16 @@ pub fn clean(text: &str) -> String {
         } else {
             cleaned.extend(letter.escape_default());
         }
+    }
+    cleaned
+}
+
+/// The same, as short as a message's own line is to be.
+pub fn clean_and_short(text: &str) -> String {
+    let mut cleaned = clean(text);
+    if let Some((end, _)) = cleaned.char_indices().find(|(at, _)| *at >= LONGEST_SHOWN) {
+        cleaned.truncate(end);
+        cleaned.push_str(" ..");
     }
     cleaned
 }
@@ -147,5 +159,10 @@ mod tests {
     fn cleaned() {
         assert_eq!(clean("a\u{1b}[2J\r\nå\u{202e}\u{9b}z"), "a\\u{1b}[2J\\r\\nå\\u{202e}\\u{9b}z");
         assert_eq!(clean(&"x".repeat(5000)).len(), LONGEST + 3);
+        for (sign, shown) in [("x", "x"), ("\u{fffd}", "\\u{fffd}"), ("å", "å")] {
+            let short = clean_and_short(&sign.repeat(4096));
+            assert!(short.starts_with(shown) && short.ends_with(" ..") && (LONGEST_SHOWN..LONGEST_SHOWN + 5).contains(&short.len()));
+            assert_eq!(clean_and_short(sign), shown);
+        }
     }
 }

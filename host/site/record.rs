@@ -25,6 +25,8 @@ pub struct Record {
     /// Of the line that the file begins with, where we have written it.
     first_line: u64,
     most: u64,
+    /// No device and no pipe: such a one has no size and stays where it is.
+    plain: bool,
 }
 
 impl Record {
@@ -37,7 +39,7 @@ impl Record {
 
     /// One that is to be opened later.
     pub fn closed(path: &str, most: u64) -> Record {
-        Record { path: PathBuf::from(path), file: None, waiting: Vec::new(), length: 0, first_line: 0, most }
+        Record { path: PathBuf::from(path), file: None, waiting: Vec::new(), length: 0, first_line: 0, most, plain: false }
     }
 
     pub fn is_open(&self) -> bool {
@@ -75,7 +77,7 @@ impl Record {
 
     /// Twice its first line at least, so that a file has more than the site that it begins with.
     pub fn is_long(&self) -> bool {
-        self.most > 0 && self.length >= self.most.max(2 * self.first_line)
+        self.plain && self.most > 0 && self.length >= self.most.max(2 * self.first_line)
     }
 
     /// Puts the file aside, in place of the one put aside before, and begins a new one.
@@ -99,7 +101,8 @@ impl Record {
         self.close();
         let file = appended(&self.path)?;
         let about = file.metadata()?;
-        let rest = if about.is_file() { torn(&self.path, about.len())? } else { 0 };
+        self.plain = about.is_file();
+        let rest = if self.plain { torn(&self.path, about.len())? } else { 0 };
         if rest > 0 {
             file.set_len(about.len() - rest)?;
         }
@@ -175,6 +178,16 @@ mod tests {
         let (record, _) = Record::open(&path, 20).unwrap();
         assert_eq!((record.length, fs::read_to_string(&aside).unwrap().len()), (0, 41), "a long file at opening");
         let _ = (fs::remove_file(&path), fs::remove_file(&aside));
+    }
+
+    #[test]
+    fn a_device_stays_where_it_is() {
+        let (mut record, _) = Record::open("/dev/null", 20).unwrap();
+        for _ in 0..9 {
+            record.line("tick 1790000000000").unwrap();
+            record.flush().unwrap();
+            assert!(!record.is_long());
+        }
     }
 
     #[test]

@@ -5,6 +5,7 @@ use crate::framing::{Frame, Framer};
 use crate::pace::Pace;
 use crate::pauses::Pauses;
 use crate::system::end_when_dead;
+use rsmp_site::PACKET_BYTES;
 use std::io::{self, Read, Write};
 use std::net::{Shutdown, TcpStream, ToSocketAddrs};
 use std::sync::atomic::{AtomicBool, AtomicUsize, Ordering};
@@ -176,18 +177,31 @@ fn connect(address: &str) -> io::Result<(TcpStream, Wire)> {
     Err(last)
 }
 
+/// Bytes without a packet, as many as one has, take a packet's time.
 fn read(link: u32, mut stream: TcpStream, pace: &mut Pace, events: &SyncSender<Event>) -> (String, u64) {
     let mut framer = Framer::default();
-    let mut buffer = [0; 4096];
+    let mut buffer = [0; PACKET_BYTES];
+    let mut without = 0;
+    let mut wait = || {
+        if pace.wait() {
+            let _ = events.send(Event::HeldBack(link));
+        }
+    };
     loop {
         match stream.read(&mut buffer) {
             Ok(0) => return (CLOSED.to_string(), framer.unfinished()),
-            Ok(count) => framer.push(&buffer[..count], |frame| {
-                if pace.wait() {
-                    let _ = events.send(Event::HeldBack(link));
+            Ok(count) => {
+                without += count;
+                framer.push(&buffer[..count], |frame| {
+                    without = 0;
+                    wait();
+                    let _ = events.send(Event::Frame(link, frame));
+                });
+                if without >= PACKET_BYTES {
+                    without = 0;
+                    wait();
                 }
-                let _ = events.send(Event::Frame(link, frame));
-            }),
+            }
             Err(error) if error.kind() == io::ErrorKind::Interrupted => {}
             Err(error) if error.kind() == io::ErrorKind::ConnectionReset => {
                 return (format!("{}: {}", CLOSED, error), framer.unfinished());
