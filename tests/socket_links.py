@@ -161,19 +161,24 @@ def flooded(supervisor, seconds):
     return count
 
 
-def memory_in_a_flood(room, short=4, long=14):
-    """As much memory after a longer flood as after a short one; the log is read slowly."""
+def memory_in_a_flood(room, short=4, long=14, looks=7):
+    """As much memory at any time of a longer flood as after a short one, and when it is over; the log is read slowly."""
     supervisor = Supervisor(SITE, SXL)
     process = Process(room, [supervisor], "--state", pathlib.Path(room) / "state", "--state-interval", "1", "--record-size", "1M")
     supervisor.wait_up()
+    idle = process.resident()
     count = flooded(supervisor, short)
-    before = process.resident()
-    count += flooded(supervisor, long)
+    before, during = process.resident(), []
+    for _ in range(looks):
+        count += flooded(supervisor, long / looks)
+        during.append(process.resident())
+    time.sleep(1)
     after = process.resident()
     process.quit()
     supervisor.close()
-    hold(after < before + (2 << 20), f"{before} bytes after {short} s of flood, {after} after {long} s more")
-    return f"{count} requests; {before >> 10} KB resident after {short} s of flood, {after >> 10} KB after {long} s more"
+    said = f"{idle >> 10} KB before, {before >> 10} KB after {short} s of flood, {min(during) >> 10} to {max(during) >> 10} KB in {long} s more, {after >> 10} KB behind it"
+    hold(max(*during, after) < before + (2 << 20), said)
+    return f"{count} requests; resident {said}"
 
 
 TESTS = [memory_in_a_flood, silent_in_greeting, who_closed, pauses_grow, slow_reader]

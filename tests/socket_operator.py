@@ -97,7 +97,7 @@ def shown_and_counted(room):
     centre.wait_up()
     workshop.wait_up()
     wait(metrics.exists, "the metrics")
-    first = metrics.stat().st_mtime_ns
+    first, file = metrics.stat().st_mtime_ns, metrics.open()
     hold(stat.S_IMODE(metrics.stat().st_mode) == 0o644 and ("info", process_version(), SITE) in metrics_of(metrics.read_text()), "the first metrics")
     hold(centre.ask("StatusSubscribe", **subscription(rate="60")) is True, "a subscription")
     hold(workshop.ask("StatusSubscribe", **subscription(change=False, rate="5")) is True, "another")
@@ -120,6 +120,8 @@ def shown_and_counted(room):
     hold(shown["statuses"][0]["value"] is None and shown["commands"] == {"handed": 1, "done": 1, "failed": 0, "running": 0, "waiting": 0, "not_taken": 0}, shown)
     hold((pathlib.Path(room) / "BR001.boom").read_text() == "1\n", "the example of --on-command")
     wait(lambda: metrics.stat().st_mtime_ns != first, "the metrics to be written again", 30)
+    hold(metrics.stat().st_ino != os.fstat(file.fileno()).st_ino and metrics_of(file.read()), "the metrics are written where they are read")
+    file.close()
     seen, page = metrics_of(metrics.read_text()), metrics.read_text()
     for wanted, value in ((("alarm_active", NORTH, "A0101"), 1), (("alarm_suspended", NORTH, "A0101"), 1), (("alarm_active", SITE, "A0001"), 0),
                           (("status", NORTH, "S0101", "release"), 190), (("aggregated",), 5), (("link_up", "0", centre.address), 1),
@@ -162,13 +164,17 @@ def forms_of_the_log(room):
     ours, its = os.pipe()
     about = os.fstat(its)
     for stream, priorities in ((f"{about.st_dev}:{about.st_ino}", True), (f"{about.st_dev}:{about.st_ino + 1}", False)):
-        process = Process(room, [supervisor], "--control", path, record=False, stdout=its, env={**os.environ, "JOURNAL_STREAM": stream})
+        process = Process(room, [supervisor], "--control", path, "--metrics", "/nowhere/at/all.prom", record=False, stdout=its,
+                          env={**os.environ, "JOURNAL_STREAM": stream})
         wait(lambda: supervisor.up, "the link")
+        supervisor.send_raw(b"x" * 5000 + FORM_FEED)
+        supervisor.ask("AggregatedStatusRequest", cId=SITE)
         process.terminate()
         said = os.read(ours, 1 << 16).decode().splitlines()
         hold(all(re.match(r"<[3-7]>", line) for line in said) == priorities, f"{stream}: {said}")
         if priorities:
-            hold(any(re.match(r"<6>.* info ", line) for line in said) and any(re.match(r"<7>.* message ", line) for line in said), said)
+            told = {(found[2], found[1]) for found in (re.match(r"<(\d+)>\S+ \S+ (\w+) +(?:link|site)", line) for line in said) if found}
+            hold(told == {("error", "3"), ("warning", "4"), ("info", "6"), ("message", "7")}, f"priorities: {told}")
         wait(lambda: not supervisor.up, "the end of the link")
     os.close(ours)
     os.close(its)

@@ -1,20 +1,24 @@
-"""The program `rsmp-site` over real sockets, by subject: talk, polls, ends, links, time, state, files, commands, operators, hostile
+"""The program `rsmp-site` over real sockets, by subject: talk, polls, ends, links, time, state, files, floods, commands, operators, hostile
 neighbours. Two tests at a time.
 
   sockets.py --stored            what the gate runs
   sockets.py --only NAME ..      these tests
+  sockets.py --program PATH --only NAME ..     of another build of rsmp-site; one of 0.4 knows the options and replies of socket_floods
   sockets.py --long              300 kills, a supervisor that never reads, memory after an hour's flood as after a minute's
   sockets.py --kills COUNT [SEED]
   sockets.py --flood SECONDS
 """
 import concurrent.futures
+import pathlib
 import sys
 import tempfile
 import time
 
+import process
 import socket_commands
 import socket_end
 import socket_files
+import socket_floods
 import socket_hostile
 import socket_links
 import socket_operator
@@ -26,8 +30,8 @@ from process import Failed, Process
 
 AT_ONCE = 2
 # The longest first.
-SUBJECTS = (socket_talk, socket_operator, socket_state, socket_files, socket_commands, socket_links, socket_time, socket_hostile, socket_end,
-            socket_polled)
+SUBJECTS = (socket_talk, socket_operator, socket_state, socket_files, socket_floods, socket_commands, socket_links, socket_time, socket_hostile,
+            socket_end, socket_polled)
 
 
 def run(test, *more):
@@ -58,17 +62,19 @@ def main(words):
         began, code = time.monotonic(), all_of(tests)
         print(f"rsmp-site: {len(tests)} tests over real sockets in {time.monotonic() - began:.0f} s{', some FAILED' if code else ''}")
         return code
+    if words[:1] == ["--program"] and len(words) > 1:
+        process.PROGRAM, words = pathlib.Path(words[1]).resolve(), words[2:]
     if words[:1] == ["--only"]:
         return all_of([test for test in tests + socket_links.LONG if test.__name__ in words[1:]])
     if words == ["--long"]:
         run(socket_state.kills, 300)
         run(socket_links.never_reads)
-        run(socket_links.memory_in_a_flood, 60, 3600)
+        run(socket_links.memory_in_a_flood, 60, 3600, 120)
         return 0
     if words[:1] == ["--kills"]:
         return run(socket_state.kills, *map(int, words[1:])) or 0
     if words[:1] == ["--flood"]:
-        return run(socket_links.memory_in_a_flood, 60, int(words[1])) or 0
+        return run(socket_links.memory_in_a_flood, 60, int(words[1]), 120) or 0
     print(__doc__)
     return 2
 
