@@ -234,17 +234,17 @@ def without_packets(room):
     supervisor.wait_up()
     sent = {}
     for name, filler in (("no form feed", b"x"), ("form feeds alone", FORM_FEED)):
-        end, sent[name] = time.monotonic() + 2, 0
+        end, sent[name] = time.monotonic() + 1, 0
         while time.monotonic() < end:
             supervisor.send_raw(filler * 65536)
             sent[name] += 65536
         supervisor.send_raw(FORM_FEED)
         hold(supervisor.ask("AggregatedStatusRequest", cId=SITE) is True, f"an answer behind {name}")
     process.quit()
-    most = 3 * 1000 * 4096 + (8 << 20)  # a second's worth at once, two seconds, and what waits on the way
-    hold(max(sent.values()) < 2 * most, f"bytes that were read in two seconds: {sent}")
+    most = 2 * 1000 * 4096 + (8 << 20)  # a second's worth at once, a second, and what waits on the way
+    hold(max(sent.values()) < 2 * most, f"bytes that were taken in a second: {sent}")
     supervisor.close()
-    return ", ".join(f"{count >> 20} MB of {name}" for name, count in sent.items()) + " in two seconds"
+    return ", ".join(f"{count >> 20} MB of {name}" for name, count in sent.items()) + " in a second"
 
 
 def held_back(room):
