@@ -68,3 +68,26 @@ fn replace(path: &Path, page: &str) -> io::Result<()> {
     file.set_permissions(Permissions::from_mode(0o644))?;
     fs::rename(name, path)
 }
+
+#[cfg(test)]
+mod tests {
+    use super::*;
+
+    #[test]
+    fn trouble_that_finds_no_room_is_told_later_and_once() {
+        let (events, heard) = sync_channel(1);
+        let (pages, to_write) = sync_channel(0);
+        events.send(Event::Stored).unwrap();
+        let writer = thread::spawn(move || write_all(Path::new("/nowhere/at/all.prom"), to_write, events));
+        pages.send("one".to_string()).unwrap();
+        pages.send("two".to_string()).unwrap(); // the first is done with
+        assert!(matches!(heard.recv(), Ok(Event::Stored)));
+        for _ in 0..3 {
+            pages.send("more".to_string()).unwrap();
+        }
+        drop(pages);
+        let told: Vec<Event> = heard.iter().collect();
+        writer.join().unwrap();
+        assert!(matches!(&told[..], [Event::Trouble(text)] if text.contains("/nowhere/at/all.prom")));
+    }
+}
