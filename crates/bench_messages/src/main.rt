@@ -5,6 +5,7 @@ ghost use Rattle.json_find.specs.Index.{Indexed};
 ghost use Rattle.json_packet.specs.Packet.{isPacket};
 use identity::Identity;
 use label::Label;
+use names::reasons;
 use read_head::Class;
 use read_head::Kind;
 use read_lists::Asking;
@@ -151,7 +152,7 @@ fn greet(out: &mut [u8], message: u8, n: u32) -> usize {
             out,
             0,
             b"d6d97f8b-e9db-4572-8084-70b55e312584",
-            14 + (n % 12) as usize,
+            reasons::MISSING_ELEMENT + (n % 12) as usize,
         ),
     }
 }
