@@ -1,4 +1,5 @@
 """Small supervisors over TCP: they listen, greet, answer, and keep what they got."""
+import contextlib
 import json
 import socket
 import threading
@@ -130,7 +131,8 @@ class Supervisor:
     def cut(self):
         stream = self.stream
         if stream:
-            stream.shutdown(socket.SHUT_RDWR)
+            with contextlib.suppress(OSError):  # the other end may have closed it
+                stream.shutdown(socket.SHUT_RDWR)
 
     def close(self):
         self.listener.close()
