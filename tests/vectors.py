@@ -222,9 +222,9 @@ def labels(source, count):
         yield label(damaged(source, text))
 
 
-# Records: 2, 2, 6, 6, 48, 32 and 32 bits, most significant first.
+# Records: 3 (the owner: the site, then its link), 2, 6, 6, 48, 32 and 31 bits, most significant first.
 
-WIDTHS = (2, 2, 6, 6, 48, 32, 32)
+WIDTHS = (3, 2, 6, 6, 48, 32, 31)
 
 
 def packed(fields):
@@ -267,7 +267,7 @@ def write_record(fields):
 
 
 def good_record(source):
-    link, ms, sequence = source.randrange(4), source.choice((0, LAST, source.randint(0, LAST))), source.randrange(2**32)
+    link, ms, sequence = source.randrange(8), source.choice((0, LAST, source.randint(0, LAST))), source.randrange(2**31)
     kind = source.randrange(3)
     if kind == 0:
         return [link, 0, source.randrange(32), source.randrange(3) << 4 | source.randrange(8) << 1, ms, 0, sequence]
@@ -281,8 +281,8 @@ def records(source, count):
     yield write_record([1, 1, 5, 32, 1254398371571, 2**32 - 2, 7])
     yield write_record([0, 0, 3, 0b000100, 0, 0, 0])
     plain = [0, 0, 0, 0, 0, 0, 0]
-    limits = ((0, 3), (0, 1, 2, 3), (0, 1, 31, 32, 63), tuple(range(64)), (0, LAST, LAST + 1, 2**48 - 1),
-              (0, 1, 255, 256, 2**31, 2**32 - 1), (0, 2**32 - 1))
+    limits = ((0, 3, 4, 7), (0, 1, 2, 3), (0, 1, 31, 32, 63), tuple(range(64)), (0, 1, LAST, LAST + 1, 2**48 - 1),
+              (0, 1, 255, 256, 2**31, 2**32 - 1), (0, 2**31 - 1))
     for kind in range(4):
         for place, values in enumerate(limits):
             for value in values:
@@ -290,7 +290,7 @@ def records(source, count):
                 fields[1] = kind
                 fields[place] = value
                 yield read_record(packed(fields))
-    for fields in ([65535] * 4 + [2**64 - 1, 2**32 - 1, 2**32 - 1], [4, 4, 64, 64, 2**48, 0, 0], [5, 7, 65, 66, 2**48 + 5, 1, 2]):
+    for fields in ([65535] * 4 + [2**64 - 1, 2**32 - 1, 2**32 - 1], [8, 4, 64, 64, 2**48, 0, 2**31], [13, 7, 65, 66, 2**48 + 5, 1, 2**31 + 2]):
         yield write_record(fields)
     for _ in range(count):
         fields = good_record(source)

@@ -255,7 +255,7 @@ def wordOf(value):
     return signed(value) % 2**32
 
 
-WIDTHS = dict(link=2, kind=2, item=6, flags=6, time=48, value=32, sequence=32)
+WIDTHS = dict(link=3, kind=2, item=6, flags=6, time=48, value=32, sequence=31)
 
 
 def bytesOf(entry):

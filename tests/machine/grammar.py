@@ -143,9 +143,10 @@ def clause(text):
 
 
 def claims(text):
-    """The fields of a record that are equations, by name: the two sides. `EachComputes` of a name is as many as its rows."""
-    _, *fields = FIELD.split(text)
-    for name, type_ in zip(fields[::2], fields[1::2]):
+    """The fields of a record without parameters that are equations, by name: the two sides. `EachComputes` of a name is as many as its
+    rows."""
+    head, *fields = FIELD.split(text)
+    for name, type_ in zip(fields[::2], fields[1::2]) if "(" not in head else ():
         if type_.startswith("EachComputes "):
             yield name, ("name", type_.split()[1]), None
         elif "≡" in type_ and "→" not in type_:

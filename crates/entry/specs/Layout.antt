@@ -6,9 +6,9 @@ use lib.ListN.{getD}
 use Rattle.bits.specs.Fields.{joined, bytesOf as bytesIn}
 use Rattle.entry.specs.declared.Entry.{Entry}
 
--- link 2, kind 2, item 6, flags 6, time 48, value 32, sequence 32
+-- link 3 (the first bit the site), kind 2, item 6, flags 6, time 48, value 32, sequence 31
 abbrev pub widths : List ℕ
-widths = 2 ∷ 2 ∷ 6 ∷ 6 ∷ 48 ∷ 32 ∷ 32 ∷ []
+widths = 3 ∷ 2 ∷ 6 ∷ 6 ∷ 48 ∷ 32 ∷ 31 ∷ []
 
 abbrev pub valuesOf : Entry → List ℕ
 valuesOf e = e .link ∷ e .kind ∷ e .item ∷ e .flags ∷ e .time ∷ e .value ∷ e .sequence ∷ []

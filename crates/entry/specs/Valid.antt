@@ -42,9 +42,9 @@ pub data OfKind (e : Entry) : Type 0 where
   an-aggregated : Aggregated e → OfKind e
 
 pub record Valid (e : Entry) : Type 0 where
-  pub link : e .link < 4
+  pub link : e .link < 8
   pub time : e .time ≤ lastTime
-  pub sequence : e .sequence < 2 ^ 32
+  pub sequence : e .sequence < 2 ^ 31
   pub of-kind : OfKind e
 
 -- a test that says whether P holds

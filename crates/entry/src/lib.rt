@@ -2,7 +2,7 @@
 ghost use mathlib.Core.Path.{_≡_};
 ghost use mathlib.Core.List.{[], _∷_};
 ghost use Prim.Native.Nat.{ℕ, _+_, _*_, _/_, _%_, _^_, _≤_, _<_};
-ghost use Rattle.bits.specs.Fields.{joined, split, numberOf};
+ghost use Rattle.bits.specs.Fields.{fieldOf, joined, split, numberOf};
 ghost use Rattle.entry.specs.Layout.{bytesOf, entryOf, widths};
 ghost use Rattle.entry.specs.Reading.{Reads};
 
@@ -37,23 +37,24 @@ pub enum Unpacked {
     Refused(answer::Refusal),
 }
 
-// The first 64 bits.
+// The first 64 bits: of the time all but its last bit.
 fn first_word(e: Entry) -> u64
-    ensures { λ r. ⌜ r ≡ joined 0 (2 ∷ 2 ∷ 6 ∷ 6 ∷ 48 ∷ []) (e .link ∷ e .kind ∷ e .item ∷ e .flags ∷ e .time ∷ []) ⌝ }
+    ensures { λ r. ⌜ r ≡ joined 0 (3 ∷ 2 ∷ 6 ∷ 6 ∷ 47 ∷ []) (e .link ∷ e .kind ∷ e .item ∷ e .flags ∷ e .time / 2 ∷ []) ⌝ }
 {
-    let w = bits::push(0, 2, e.link as u64);
+    let w = bits::push(0, 3, e.link as u64);
     let w = bits::push(w, 2, e.kind as u64);
     let w = bits::push(w, 6, e.item as u64);
     let w = bits::push(w, 6, e.flags as u64);
-    bits::push(w, 48, e.time)
+    bits::push(w, 47, e.time / 2)
 }
 
-// The last 64 bits.
+// The last 64 bits: the time's last bit before the others.
 fn last_word(e: Entry) -> u64
-    ensures { λ r. ⌜ r ≡ joined 0 (32 ∷ 32 ∷ []) (e .value ∷ e .sequence ∷ []) ⌝ }
+    ensures { λ r. ⌜ r ≡ joined 0 (1 ∷ 32 ∷ 31 ∷ []) (e .time ∷ e .value ∷ e .sequence ∷ []) ⌝ }
 {
-    let w = bits::push(0, 32, e.value as u64);
-    bits::push(w, 32, e.sequence as u64)
+    let w = bits::push(0, 1, e.time);
+    let w = bits::push(w, 32, e.value as u64);
+    bits::push(w, 31, e.sequence as u64)
 }
 
 // The record's bytes; each field in its width.
@@ -84,18 +85,25 @@ pub fn pack(e: Entry) -> Packed
     }
 }
 
+// The time, whose last bit stands in the second word.
+fn time_in(h: u64, l: u64) -> u64
+    ensures { λ r. ⌜ r ≡ fieldOf h 0 47 * 2 + fieldOf l 63 1 ⌝ }
+{
+    bits::field(h, 0, 47) * 2 + bits::field(l, 63, 1)
+}
+
 // The fields that stand in the two words.
 fn fields(h: u64, l: u64) -> Entry
     ensures { λ r. ⌜ r ≡ entryOf (split widths (h * 2 ^ 64 + l)) ⌝ }
 {
     Entry {
-        time: bits::field(h, 0, 48),
-        value: bits::field(l, 32, 32) as u32,
-        sequence: bits::field(l, 0, 32) as u32,
-        link: bits::field(h, 62, 2) as u16,
-        kind: bits::field(h, 60, 2) as u16,
-        item: bits::field(h, 54, 6) as u16,
-        flags: bits::field(h, 48, 6) as u16,
+        time: time_in(h, l),
+        value: bits::field(l, 31, 32) as u32,
+        sequence: bits::field(l, 0, 31) as u32,
+        link: bits::field(h, 61, 3) as u16,
+        kind: bits::field(h, 59, 2) as u16,
+        item: bits::field(h, 53, 6) as u16,
+        flags: bits::field(h, 47, 6) as u16,
     }
 }
 

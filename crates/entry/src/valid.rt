@@ -91,7 +91,10 @@ fn is_of_kind(e: Entry) -> bool
 pub fn valid(e: Entry) -> bool
     ensures { λ r. ⌜ Decides r (Valid e) ⌝ }
 {
-    if 4 <= e.link {
+    if 8 <= e.link {
+        return false;
+    }
+    if 2147483648 <= e.sequence {
         return false;
     }
     if answer::LAST_TIME < e.time {

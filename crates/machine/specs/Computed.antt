@@ -57,7 +57,7 @@ versionNumbers s = orElse [] (versionIn s)
 
 -- alarm 3, link 0, Issue, unacknowledged, active, not suspended
 abbrev pub alarmBytes : ℕ → ℕ → Bytes
-alarmBytes time sequence = recordBytes (heldAs 0 (ofAlarm 3 (alarmOf true false false Issue time)) sequence false)
+alarmBytes time sequence = recordBytes 0 (heldAs 0 (ofAlarm 3 (alarmOf true false false Issue time)) sequence false)
 
 -- ---- the cases that document 01 marks M, as one table: what is computed, and what the document says
 pub record Row : Type 0 where
@@ -72,8 +72,9 @@ table =
     row (timeText 951782400000) (text "2000-02-29T00:00:00.000Z")
     ∷ row (timeText 1254398371571) (text "2009-10-01T11:59:31.571Z")
     ∷ row (timeText lastTime) (text "9999-12-31T23:59:59.999Z")
-    ∷ row (recordBytes (heldAs 1 (ofStatus 5 (some (negsuc 1)) false 1254398371571) 7 false)) (0x51 ∷ 0x60 ∷ 0x01 ∷ 0x24 ∷ 0x0F ∷ 0xF8 ∷ 0x26 ∷ 0xF3 ∷ 0xFF ∷ 0xFF ∷ 0xFF ∷ 0xFE ∷ 0x00 ∷ 0x00 ∷ 0x00 ∷ 0x07 ∷ [])
-    ∷ row (take 2 (alarmBytes 1254398371571 7)) (0x00 ∷ 0xC4 ∷ [])
+    ∷ row (recordBytes 0 (heldAs 1 (ofStatus 5 (some (negsuc 1)) false 1254398371571) 7 false)) (0x28 ∷ 0xB0 ∷ 0x00 ∷ 0x92 ∷ 0x07 ∷ 0xFC ∷ 0x13 ∷ 0x79 ∷ 0xFF ∷ 0xFF ∷ 0xFF ∷ 0xFF ∷ 0x00 ∷ 0x00 ∷ 0x00 ∷ 0x07 ∷ [])
+    ∷ row (recordBytes 1 (heldAs 1 (ofStatus 5 (some (negsuc 1)) false 1254398371571) 7 false)) (0xA8 ∷ 0xB0 ∷ 0x00 ∷ 0x92 ∷ 0x07 ∷ 0xFC ∷ 0x13 ∷ 0x79 ∷ 0xFF ∷ 0xFF ∷ 0xFF ∷ 0xFF ∷ 0x00 ∷ 0x00 ∷ 0x00 ∷ 0x07 ∷ [])
+    ∷ row (alarmBytes 1254398371571 7) (0x00 ∷ 0x62 ∷ 0x00 ∷ 0x92 ∷ 0x07 ∷ 0xFC ∷ 0x13 ∷ 0x79 ∷ 0x80 ∷ 0x00 ∷ 0x00 ∷ 0x00 ∷ 0x00 ∷ 0x00 ∷ 0x00 ∷ 0x07 ∷ [])
     ∷ row (counts bothFull) (64 ∷ 64 ∷ 0 ∷ [])
     ∷ row (counts (issueAll (records 1 2) bothFull)) (63 ∷ 64 ∷ 1 ∷ [])
     ∷ row (counts (issueAll (records 16 2) bothFull)) (56 ∷ 56 ∷ 16 ∷ [])
@@ -92,8 +93,9 @@ EachComputes (r ∷ rs) = (r .computed ≡ r .said) × EachComputes rs
 
 pub record Marked : Type 0 where
   pub all : EachComputes table
-  -- the alarm's record begins so whatever its time and its number
-  pub begins : (time sequence : ℕ) → take 2 (alarmBytes time sequence) ≡ 0x00 ∷ 0xC4 ∷ []
+  -- the alarm's record begins so whatever its time and its number, and the next bit is 0
+  pub begins : (time sequence : ℕ) → take 2 (alarmBytes time sequence) ≡ 0x00 ∷ 0x62 ∷ []
+  pub next-bit : (time sequence : ℕ) → getD (alarmBytes time sequence) 2 0 < 128
 
 -- ---- what a host hears of a call: the number, the bytes that it writes, the links closed, the hint, the commands handed over
 pub record Heard : Type 0 where
@@ -182,9 +184,9 @@ pub record Conversation : Type 0 where
   -- the last of these has an mId in an object of its own alone
   pub numbers : hears up (atNoon (connect 0) ∷ record { time = 0; act = connect 2 } ∷ record { time = 5; act = tick } ∷ record { time = 0; act = alarmInput 1 true } ∷ atNoon (pump 1 (random 1) 4096) ∷ record { time = 0; act = pump 0 (random 1) 4095 } ∷ pumped 2 ∷ atNoon (gets "Alarm\"") ∷ atNoon (gets "Alarm\",\"x\":{\"mId\":\"CD613E30-d8f1-6adf-91b7-584a2265b1f5\"}}") ∷ [])
       ≡ gives 6 ∷ gives 2 ∷ gives 5 ∷ gives 3 ∷ gives 6 ∷ gives 4 ∷ writes (aggregatedAs "02020202-0202-4202-8202-020202020202") ∷ gives 1 ∷ gives 1 ∷ []
-  -- "the call would take sequence numbers past 4294967295": two records take the last two, the next call that issues is refused, one that issues
+  -- "the call would take sequence numbers past 2147483647": two records take the last two, the next call that issues is refused, one that issues
   -- none is not
-  pub last-numbers : hears (atEnd noon (poolOf 4294967294 [] (0 ∷ 0 ∷ [])) up) (atNoon (aggregatedValue 1) ∷ atNoon (aggregatedValue 2) ∷ atNoon tick ∷ [])
+  pub last-numbers : hears (atEnd noon (poolOf 2147483646 [] (0 ∷ 0 ∷ [])) up) (atNoon (aggregatedValue 1) ∷ atNoon (aggregatedValue 2) ∷ atNoon tick ∷ [])
       ≡ silent ∷ gives 10 ∷ silent ∷ []
   -- "Issue events while suspended make no record but are the last event": after Suspend and an input a Request tells the input
   pub suspends : leaves up (later 1 (orders "Suspend") ∷ later 2 (alarmInput 0 true) ∷ []) ≡ suspended

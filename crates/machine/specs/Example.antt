@@ -48,7 +48,7 @@ abbrev pub noon : ℕ
 noon = 1254398371571
 
 abbrev pub started : ℕ → Machine
-started links = first table (record { table = []; links = links; primary = some 0; period = 60; first = 0; time = noon })
+started links = first table (record { site = 0; table = []; links = links; primary = some 0; period = 60; first = 0; time = noon })
 
 abbrev pub records : ℕ → ℕ → List Issued
 records n l = replicate n (issuedFor l (ofAggregated 1 noon))

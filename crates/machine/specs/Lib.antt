@@ -10,7 +10,8 @@ pub mod Messages
 pub mod Pool
 pub mod Effects
 pub mod Step
-pub mod Run
 pub mod Readings
+pub mod Box
+pub mod Run
 pub mod Example
 pub mod Computed

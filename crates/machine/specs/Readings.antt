@@ -15,7 +15,7 @@ use Rattle.machine.specs.Words.{Bytes, if_then_else_, keep}
 use Rattle.machine.specs.State.{eventNumber, Alarm, Content, Held, Machine, lifeAt}
 use Rattle.machine.specs.State.Content.{ofAlarm, ofStatus, ofAggregated}
 use Rattle.machine.specs.Life.{isDown, isGreeting, isBeating}
-use Rattle.machine.specs.Pool.{isFor, holds}
+use Rattle.machine.specs.Pool.{isFor, holds, ownerOf}
 
 pub record Reading : Type 0 where
   pub held : ℕ
@@ -40,8 +40,9 @@ entryFor link sequence (ofAlarm i a) =
 entryFor link sequence (ofStatus i v old time) = statusEntry link i old time sequence v
 entryFor link sequence (ofAggregated v time) = entry link 2 0 0 time v sequence
 
-abbrev pub recordBytes : Held → Bytes
-recordBytes h = bytesOf (entryFor (h .link) (h .sequence) (h .content))
+-- request 10, "The record's link field becomes three bits (first bit the site)": it is the owner
+abbrev pub recordBytes : ℕ → Held → Bytes
+recordBytes site h = bytesOf (entryFor (ownerOf site (h .link)) (h .sequence) (h .content))
 
 abbrev pub phaseOf : Machine → ℕ → ℕ
 phaseOf m l = if isDown (lifeAt m l) then 0 else if isGreeting (lifeAt m l) then 1 else if isBeating (lifeAt m l) then 2 else 3
@@ -53,5 +54,5 @@ reading m l =
       lost = getD (m .pool .lost) l 0;
       phase = phaseOf m l;
       version = lifeAt m l .version;
-      records = map recordBytes (keep (isFor l) (m .pool .held));
+      records = map (recordBytes (m .pool .site)) (keep (isFor l) (m .pool .held));
     }

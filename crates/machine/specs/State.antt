@@ -68,13 +68,40 @@ pub record Held : Type 0 where
 abbrev pub heldAs : ℕ → Content → ℕ → Bool → Held
 heldAs link content sequence sent = record { link = link; content = content; sequence = sequence; sent = sent }
 
-pub record Pool : Type 0 where
-  pub next : ℕ  -- "the site's next sequence number"
+-- what a site has in the pool
+pub record Share : Type 0 where
   pub held : List Held  -- oldest first
   pub lost : List ℕ  -- by link
 
+abbrev pub shareOf : List Held → List ℕ → Share
+shareOf held lost = record { held = held; lost = lost }
+
+abbrev pub noShare : Share
+noShare = shareOf [] []
+
+-- request 10, "North and south boom shall share one box, .. and one pool of 128": the pool as a site has it, with the other's share beside its own
+pub record Pool : Type 0 where
+  pub site : ℕ  -- 0 or 1
+  pub next : ℕ  -- "the site's next sequence number"
+  pub held : List Held  -- oldest first
+  pub lost : List ℕ  -- by link
+  pub beside : Share  -- under the other's sequence numbers
+
+abbrev pub sharedPool : ℕ → ℕ → List Held → List ℕ → Share → Pool
+sharedPool site next held lost beside = record { site = site; next = next; held = held; lost = lost; beside = beside }
+
+-- site 0's, with no other site beside it
 abbrev pub poolOf : ℕ → List Held → List ℕ → Pool
-poolOf next held lost = record { next = next; held = held; lost = lost }
+poolOf next held lost = sharedPool 0 next held lost noShare
+
+abbrev pub ownOf : Pool → Share
+ownOf p = shareOf (p .held) (p .lost)
+
+abbrev pub withOwn : Share → Pool → Pool
+withOwn s p = sharedPool (p .site) (p .next) (s .held) (s .lost) (p .beside)
+
+abbrev pub withBeside : Share → Pool → Pool
+withBeside s p = sharedPool (p .site) (p .next) (p .held) (p .lost) s
 
 -- ---- request 01, "A value in its range is handed to the host": a command's number in the table, and its value
 pub record Command : Type 0 where
@@ -161,7 +188,7 @@ abbrev pub withLife : ℕ → Life → Machine → Machine
 withLife l k m = machine (m .setup) (m .last) (m .alarms) (m .statuses) (m .aggregated) (m .aggregatedTime) (m .subscriptions) (changed l (λ x. k) (m .lives)) (m .pool)
 
 abbrev pub withHeld : List Held → Machine → Machine
-withHeld hs m = machine (m .setup) (m .last) (m .alarms) (m .statuses) (m .aggregated) (m .aggregatedTime) (m .subscriptions) (m .lives) (poolOf (m .pool .next) hs (m .pool .lost))
+withHeld hs m = machine (m .setup) (m .last) (m .alarms) (m .statuses) (m .aggregated) (m .aggregatedTime) (m .subscriptions) (m .lives) (withOwn (shareOf hs (m .pool .lost)) (m .pool))
 
 abbrev pub atEnd : ℕ → Pool → Machine → Machine
 atEnd t p m = machine (m .setup) t (m .alarms) (m .statuses) (m .aggregated) (m .aggregatedTime) (m .subscriptions) (m .lives) p
@@ -169,6 +196,7 @@ atEnd t p m = machine (m .setup) t (m .alarms) (m .statuses) (m .aggregated) (m 
 -- ---- "Calls: start, connect, disconnect, packet (one message without its form feed), alarm input, status value, aggregated
 -- value, tick, pump (sends the next due message, one at most)."
 pub record Start : Type 0 where
+  pub site : ℕ
   pub table : Bytes
   pub links : ℕ
   pub primary : Option ℕ

@@ -42,7 +42,7 @@ identityAwaited m l random = isAwaited (lifeAt m l) (ownIdentity random)
 abbrev pub isReplied : Machine → ℕ → Json → Bool
 isReplied m l j = not (isAnswer j) and not (isSome (reasonOf m l j)) and wantsReply m l j
 
--- 10 the call would take sequence numbers past 4294967295
+-- 10 the call would take sequence numbers past 2147483647
 abbrev pub sequenceEnds : Machine → Effect → Bool
 sequenceEnds m e = ltb (suc lastSequence) (m .pool .next + length (e .issues))
 

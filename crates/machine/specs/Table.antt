@@ -13,11 +13,11 @@ use Rattle.table_whole.specs.Table.{Row, noRow, Table}
 use Rattle.table_whole.specs.Bytes.{tableBytes}
 use Rattle.table_whole.specs.Allowed.{Allowed}
 use Rattle.machine.specs.Words.{Bytes, _and_, maybe, placeOf}
-use Rattle.machine.specs.State.{Setup, Start, Machine, machine, poolOf, alarmOf, fresh}
+use Rattle.machine.specs.State.{Setup, Start, Machine, machine, noShare, sharedPool, alarmOf, fresh}
 use Rattle.machine.specs.State.Event.{Issue}
 
 abbrev pub lastSequence : ℕ
-lastSequence = 4294967295
+lastSequence = 2147483647
 
 abbrev pub componentText : Table → ℕ → Bytes
 componentText t c = getD (t .components) c []
@@ -48,7 +48,7 @@ abbrev pub commandNumber : Table → ℕ → Bytes → Bytes → Option ℕ
 commandNumber t c code name = placeOf (isCalled c code name) (t .commands)
 
 -- "link count [1 to 4], primary (or none), watchdog period (1 to 3,600 seconds), first sequence number (0 to number 10's limit)
--- and time (0 to 253402300799999)"
+-- and time (0 to 253402300799999)"; request 10: the site, 0 or 1
 abbrev pub goodStart : Start → Bool
 goodStart s =
     leb 1 (s .links) and leb (s .links) 4
@@ -56,6 +56,7 @@ goodStart s =
     and leb 1 (s .period) and leb (s .period) 3600
     and leb (s .first) lastSequence
     and leb (s .time) lastTime
+    and leb (s .site) 1
 
 -- "An alarm starts inactive, acknowledged, not suspended, last event Issue at start." "The aggregated value starts all false at the
 -- start time." "Lost counts are kept per link, from start."
@@ -69,7 +70,7 @@ first t s =
     (s .time)
     []
     (replicate (s .links) (fresh false))
-    (poolOf (s .first) [] (replicate (s .links) 0))
+    (sharedPool (s .site) (s .first) [] (replicate (s .links) 0) noShare)
 
 -- "11: start values, site table .. not accepted": the machine that a start makes, or none; "edition 1 tables are still read"
 pub data Begins (s : Start) : Option Machine → Type 0 where

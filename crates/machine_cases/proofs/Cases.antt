@@ -10,6 +10,7 @@ use Rattle.machine_cases.proofs.CasesCommands.{commanding-hold}
 use Rattle.machine_cases.proofs.CasesIncluded.{responding-hold, notResponding-hold, unawaited-hold}
 use Rattle.machine_cases.proofs.CasesEditions.{choices-hold, olderEntries-hold, newerEntries-hold, onItsLink-hold, overBreaks-hold}
 use Rattle.machine_cases.proofs.CasesPool.{losing-hold, others-hold, othersInTime-hold, settling-hold, records-hold}
+use Rattle.machine_cases.proofs.CasesBox.{owners-hold, turns-hold}
 use Rattle.machine_cases.proofs.CasesLinks.{links-hold, linkLives-hold}
 use Rattle.machine_cases.specs.Cases.{Cases}
 
@@ -52,6 +53,8 @@ cases =
       others-in-time = othersInTime-hold;
       settling = settling-hold;
       records = records-hold;
+      owners = owners-hold;
+      turns = turns-hold;
       links = links-hold;
       link-lives = linkLives-hold;
     }

@@ -20,14 +20,14 @@ use Rattle.machine.specs.Json.{versionIn}
 use Rattle.machine.specs.Life.{close, carriedBy, dueUp, due}
 use Rattle.machine.specs.Answers.{isIgnored, needs, reasons}
 use Rattle.machine.specs.Items.{happens, subscribe, unsubscribe, intervals, becomes, commands, aggregates}
-use Rattle.machine.specs.Pool.{lose, makeRoom, issue}
+use Rattle.machine.specs.Pool.{lose, loseOf, makeRoom, issue}
 use Rattle.machine.specs.Effects.{connects, closes, ticks, sends, answers, answered, refuses, carriedOut, replying, receives, effectOf}
 use Rattle.machine.specs.Step.{conditions, step}
 use Rattle.machine.specs.Readings.{reading}
 use Rattle.machine_cases.specs.CasesAnswers.{Ignoring, Passed, Reasons, BadValues, Known}
 
 pub ignoring-hold : Ignoring
-unfolding hexOf hex4Of unicodeOf escapeOf twoOf inThree threeOf inFour fourOf rawOf charOf readChars decoded skipWs literal readScalar readName readStart readMark readEntry readItems readInside readValue noTwice allOnce once isPacket meaningOf hexDigit lowerHex identityText digits digitsBelow decimalOf leapOf years months dayOf yearFrom monthFrom dateOf secondText milliText timeText readSecond readDecimals readRest readTime apart readNum readNumber alarmFlags statusFlags bytesOf versionIn close carriedBy dueUp due isIgnored needs reasons happens subscribe unsubscribe intervals becomes commands aggregates lose makeRoom issue connects closes ticks sends answers answered refuses carriedOut replying receives effectOf conditions step reading
+unfolding hexOf hex4Of unicodeOf escapeOf twoOf inThree threeOf inFour fourOf rawOf charOf readChars decoded skipWs literal readScalar readName readStart readMark readEntry readItems readInside readValue noTwice allOnce once isPacket meaningOf hexDigit lowerHex identityText digits digitsBelow decimalOf leapOf years months dayOf yearFrom monthFrom dateOf secondText milliText timeText readSecond readDecimals readRest readTime apart readNum readNumber alarmFlags statusFlags bytesOf versionIn close carriedBy dueUp due isIgnored needs reasons happens subscribe unsubscribe intervals becomes commands aggregates lose loseOf makeRoom issue connects closes ticks sends answers answered refuses carriedOut replying receives effectOf conditions step reading
 ignoring-hold =
     record {
       bad-json = refl;
@@ -42,7 +42,7 @@ ignoring-hold =
     }
 
 pub passed-hold : Passed
-unfolding hexOf hex4Of unicodeOf escapeOf twoOf inThree threeOf inFour fourOf rawOf charOf readChars decoded skipWs literal readScalar readName readStart readMark readEntry readItems readInside readValue noTwice allOnce once isPacket meaningOf hexDigit lowerHex identityText digits digitsBelow decimalOf leapOf years months dayOf yearFrom monthFrom dateOf secondText milliText timeText readSecond readDecimals readRest readTime apart readNum readNumber alarmFlags statusFlags bytesOf versionIn close carriedBy dueUp due isIgnored needs reasons happens subscribe unsubscribe intervals becomes commands aggregates lose makeRoom issue connects closes ticks sends answers answered refuses carriedOut replying receives effectOf conditions step reading
+unfolding hexOf hex4Of unicodeOf escapeOf twoOf inThree threeOf inFour fourOf rawOf charOf readChars decoded skipWs literal readScalar readName readStart readMark readEntry readItems readInside readValue noTwice allOnce once isPacket meaningOf hexDigit lowerHex identityText digits digitsBelow decimalOf leapOf years months dayOf yearFrom monthFrom dateOf secondText milliText timeText readSecond readDecimals readRest readTime apart readNum readNumber alarmFlags statusFlags bytesOf versionIn close carriedBy dueUp due isIgnored needs reasons happens subscribe unsubscribe intervals becomes commands aggregates lose loseOf makeRoom issue connects closes ticks sends answers answered refuses carriedOut replying receives effectOf conditions step reading
 passed-hold =
     record {
       of-statuses = refl;
@@ -52,7 +52,7 @@ passed-hold =
     }
 
 pub reasons-hold : Reasons
-unfolding hexOf hex4Of unicodeOf escapeOf twoOf inThree threeOf inFour fourOf rawOf charOf readChars decoded skipWs literal readScalar readName readStart readMark readEntry readItems readInside readValue noTwice allOnce once isPacket meaningOf hexDigit lowerHex identityText digits digitsBelow decimalOf leapOf years months dayOf yearFrom monthFrom dateOf secondText milliText timeText readSecond readDecimals readRest readTime apart readNum readNumber alarmFlags statusFlags bytesOf versionIn close carriedBy dueUp due isIgnored needs reasons happens subscribe unsubscribe intervals becomes commands aggregates lose makeRoom issue connects closes ticks sends answers answered refuses carriedOut replying receives effectOf conditions step reading
+unfolding hexOf hex4Of unicodeOf escapeOf twoOf inThree threeOf inFour fourOf rawOf charOf readChars decoded skipWs literal readScalar readName readStart readMark readEntry readItems readInside readValue noTwice allOnce once isPacket meaningOf hexDigit lowerHex identityText digits digitsBelow decimalOf leapOf years months dayOf yearFrom monthFrom dateOf secondText milliText timeText readSecond readDecimals readRest readTime apart readNum readNumber alarmFlags statusFlags bytesOf versionIn close carriedBy dueUp due isIgnored needs reasons happens subscribe unsubscribe intervals becomes commands aggregates lose loseOf makeRoom issue connects closes ticks sends answers answered refuses carriedOut replying receives effectOf conditions step reading
 reasons-hold =
     record {
       mtype = refl;
@@ -67,7 +67,7 @@ reasons-hold =
     }
 
 pub badValues-hold : BadValues
-unfolding hexOf hex4Of unicodeOf escapeOf twoOf inThree threeOf inFour fourOf rawOf charOf readChars decoded skipWs literal readScalar readName readStart readMark readEntry readItems readInside readValue noTwice allOnce once isPacket meaningOf hexDigit lowerHex identityText digits digitsBelow decimalOf leapOf years months dayOf yearFrom monthFrom dateOf secondText milliText timeText readSecond readDecimals readRest readTime apart readNum readNumber alarmFlags statusFlags bytesOf versionIn close carriedBy dueUp due isIgnored needs reasons happens subscribe unsubscribe intervals becomes commands aggregates lose makeRoom issue connects closes ticks sends answers answered refuses carriedOut replying receives effectOf conditions step reading
+unfolding hexOf hex4Of unicodeOf escapeOf twoOf inThree threeOf inFour fourOf rawOf charOf readChars decoded skipWs literal readScalar readName readStart readMark readEntry readItems readInside readValue noTwice allOnce once isPacket meaningOf hexDigit lowerHex identityText digits digitsBelow decimalOf leapOf years months dayOf yearFrom monthFrom dateOf secondText milliText timeText readSecond readDecimals readRest readTime apart readNum readNumber alarmFlags statusFlags bytesOf versionIn close carriedBy dueUp due isIgnored needs reasons happens subscribe unsubscribe intervals becomes commands aggregates lose loseOf makeRoom issue connects closes ticks sends answers answered refuses carriedOut replying receives effectOf conditions step reading
 badValues-hold =
     record {
       version-bad = refl;
@@ -83,7 +83,7 @@ badValues-hold =
     }
 
 pub known-hold : Known
-unfolding hexOf hex4Of unicodeOf escapeOf twoOf inThree threeOf inFour fourOf rawOf charOf readChars decoded skipWs literal readScalar readName readStart readMark readEntry readItems readInside readValue noTwice allOnce once isPacket meaningOf hexDigit lowerHex identityText digits digitsBelow decimalOf leapOf years months dayOf yearFrom monthFrom dateOf secondText milliText timeText readSecond readDecimals readRest readTime apart readNum readNumber alarmFlags statusFlags bytesOf versionIn close carriedBy dueUp due isIgnored needs reasons happens subscribe unsubscribe intervals becomes commands aggregates lose makeRoom issue connects closes ticks sends answers answered refuses carriedOut replying receives effectOf conditions step reading
+unfolding hexOf hex4Of unicodeOf escapeOf twoOf inThree threeOf inFour fourOf rawOf charOf readChars decoded skipWs literal readScalar readName readStart readMark readEntry readItems readInside readValue noTwice allOnce once isPacket meaningOf hexDigit lowerHex identityText digits digitsBelow decimalOf leapOf years months dayOf yearFrom monthFrom dateOf secondText milliText timeText readSecond readDecimals readRest readTime apart readNum readNumber alarmFlags statusFlags bytesOf versionIn close carriedBy dueUp due isIgnored needs reasons happens subscribe unsubscribe intervals becomes commands aggregates lose loseOf makeRoom issue connects closes ticks sends answers answered refuses carriedOut replying receives effectOf conditions step reading
 known-hold =
     record {
       unknown-component = refl;

@@ -20,14 +20,14 @@ use Rattle.machine.specs.Json.{versionIn}
 use Rattle.machine.specs.Life.{close, carriedBy, dueUp, due}
 use Rattle.machine.specs.Answers.{isIgnored, needs, reasons}
 use Rattle.machine.specs.Items.{happens, subscribe, unsubscribe, intervals, becomes, commands, aggregates}
-use Rattle.machine.specs.Pool.{lose, makeRoom, issue}
+use Rattle.machine.specs.Pool.{lose, loseOf, makeRoom, issue}
 use Rattle.machine.specs.Effects.{connects, closes, ticks, sends, answers, answered, refuses, carriedOut, replying, receives, effectOf}
 use Rattle.machine.specs.Step.{conditions, step}
 use Rattle.machine.specs.Readings.{reading}
 use Rattle.machine_cases.specs.CasesLife.{Greetings, Once, Judged, Checks, Closings, Dues, Carried}
 
 pub greetings-hold : Greetings
-unfolding hexOf hex4Of unicodeOf escapeOf twoOf inThree threeOf inFour fourOf rawOf charOf readChars decoded skipWs literal readScalar readName readStart readMark readEntry readItems readInside readValue noTwice allOnce once isPacket meaningOf hexDigit lowerHex identityText digits digitsBelow decimalOf leapOf years months dayOf yearFrom monthFrom dateOf secondText milliText timeText readSecond readDecimals readRest readTime apart readNum readNumber alarmFlags statusFlags bytesOf versionIn close carriedBy dueUp due isIgnored needs reasons happens subscribe unsubscribe intervals becomes commands aggregates lose makeRoom issue connects closes ticks sends answers answered refuses carriedOut replying receives effectOf conditions step reading
+unfolding hexOf hex4Of unicodeOf escapeOf twoOf inThree threeOf inFour fourOf rawOf charOf readChars decoded skipWs literal readScalar readName readStart readMark readEntry readItems readInside readValue noTwice allOnce once isPacket meaningOf hexDigit lowerHex identityText digits digitsBelow decimalOf leapOf years months dayOf yearFrom monthFrom dateOf secondText milliText timeText readSecond readDecimals readRest readTime apart readNum readNumber alarmFlags statusFlags bytesOf versionIn close carriedBy dueUp due isIgnored needs reasons happens subscribe unsubscribe intervals becomes commands aggregates lose loseOf makeRoom issue connects closes ticks sends answers answered refuses carriedOut replying receives effectOf conditions step reading
 greetings-hold =
     record {
       greets = refl;
@@ -39,7 +39,7 @@ greetings-hold =
     }
 
 pub once-hold : Once
-unfolding hexOf hex4Of unicodeOf escapeOf twoOf inThree threeOf inFour fourOf rawOf charOf readChars decoded skipWs literal readScalar readName readStart readMark readEntry readItems readInside readValue noTwice allOnce once isPacket meaningOf hexDigit lowerHex identityText digits digitsBelow decimalOf leapOf years months dayOf yearFrom monthFrom dateOf secondText milliText timeText readSecond readDecimals readRest readTime apart readNum readNumber alarmFlags statusFlags bytesOf versionIn close carriedBy dueUp due isIgnored needs reasons happens subscribe unsubscribe intervals becomes commands aggregates lose makeRoom issue connects closes ticks sends answers answered refuses carriedOut replying receives effectOf conditions step reading
+unfolding hexOf hex4Of unicodeOf escapeOf twoOf inThree threeOf inFour fourOf rawOf charOf readChars decoded skipWs literal readScalar readName readStart readMark readEntry readItems readInside readValue noTwice allOnce once isPacket meaningOf hexDigit lowerHex identityText digits digitsBelow decimalOf leapOf years months dayOf yearFrom monthFrom dateOf secondText milliText timeText readSecond readDecimals readRest readTime apart readNum readNumber alarmFlags statusFlags bytesOf versionIn close carriedBy dueUp due isIgnored needs reasons happens subscribe unsubscribe intervals becomes commands aggregates lose loseOf makeRoom issue connects closes ticks sends answers answered refuses carriedOut replying receives effectOf conditions step reading
 once-hold =
     record {
       one-each = refl;
@@ -47,7 +47,7 @@ once-hold =
     }
 
 pub judged-hold : Judged
-unfolding hexOf hex4Of unicodeOf escapeOf twoOf inThree threeOf inFour fourOf rawOf charOf readChars decoded skipWs literal readScalar readName readStart readMark readEntry readItems readInside readValue noTwice allOnce once isPacket meaningOf hexDigit lowerHex identityText digits digitsBelow decimalOf leapOf years months dayOf yearFrom monthFrom dateOf secondText milliText timeText readSecond readDecimals readRest readTime apart readNum readNumber alarmFlags statusFlags bytesOf versionIn close carriedBy dueUp due isIgnored needs reasons happens subscribe unsubscribe intervals becomes commands aggregates lose makeRoom issue connects closes ticks sends answers answered refuses carriedOut replying receives effectOf conditions step reading
+unfolding hexOf hex4Of unicodeOf escapeOf twoOf inThree threeOf inFour fourOf rawOf charOf readChars decoded skipWs literal readScalar readName readStart readMark readEntry readItems readInside readValue noTwice allOnce once isPacket meaningOf hexDigit lowerHex identityText digits digitsBelow decimalOf leapOf years months dayOf yearFrom monthFrom dateOf secondText milliText timeText readSecond readDecimals readRest readTime apart readNum readNumber alarmFlags statusFlags bytesOf versionIn close carriedBy dueUp due isIgnored needs reasons happens subscribe unsubscribe intervals becomes commands aggregates lose loseOf makeRoom issue connects closes ticks sends answers answered refuses carriedOut replying receives effectOf conditions step reading
 judged-hold =
     record {
       judged-after = refl;
@@ -57,7 +57,7 @@ judged-hold =
     }
 
 pub checks-hold : Checks
-unfolding hexOf hex4Of unicodeOf escapeOf twoOf inThree threeOf inFour fourOf rawOf charOf readChars decoded skipWs literal readScalar readName readStart readMark readEntry readItems readInside readValue noTwice allOnce once isPacket meaningOf hexDigit lowerHex identityText digits digitsBelow decimalOf leapOf years months dayOf yearFrom monthFrom dateOf secondText milliText timeText readSecond readDecimals readRest readTime apart readNum readNumber alarmFlags statusFlags bytesOf versionIn close carriedBy dueUp due isIgnored needs reasons happens subscribe unsubscribe intervals becomes commands aggregates lose makeRoom issue connects closes ticks sends answers answered refuses carriedOut replying receives effectOf conditions step reading
+unfolding hexOf hex4Of unicodeOf escapeOf twoOf inThree threeOf inFour fourOf rawOf charOf readChars decoded skipWs literal readScalar readName readStart readMark readEntry readItems readInside readValue noTwice allOnce once isPacket meaningOf hexDigit lowerHex identityText digits digitsBelow decimalOf leapOf years months dayOf yearFrom monthFrom dateOf secondText milliText timeText readSecond readDecimals readRest readTime apart readNum readNumber alarmFlags statusFlags bytesOf versionIn close carriedBy dueUp due isIgnored needs reasons happens subscribe unsubscribe intervals becomes commands aggregates lose loseOf makeRoom issue connects closes ticks sends answers answered refuses carriedOut replying receives effectOf conditions step reading
 checks-hold =
     record {
       no-version = refl;
@@ -77,7 +77,7 @@ checks-hold =
     }
 
 pub closings-hold : Closings
-unfolding hexOf hex4Of unicodeOf escapeOf twoOf inThree threeOf inFour fourOf rawOf charOf readChars decoded skipWs literal readScalar readName readStart readMark readEntry readItems readInside readValue noTwice allOnce once isPacket meaningOf hexDigit lowerHex identityText digits digitsBelow decimalOf leapOf years months dayOf yearFrom monthFrom dateOf secondText milliText timeText readSecond readDecimals readRest readTime apart readNum readNumber alarmFlags statusFlags bytesOf versionIn close carriedBy dueUp due isIgnored needs reasons happens subscribe unsubscribe intervals becomes commands aggregates lose makeRoom issue connects closes ticks sends answers answered refuses carriedOut replying receives effectOf conditions step reading
+unfolding hexOf hex4Of unicodeOf escapeOf twoOf inThree threeOf inFour fourOf rawOf charOf readChars decoded skipWs literal readScalar readName readStart readMark readEntry readItems readInside readValue noTwice allOnce once isPacket meaningOf hexDigit lowerHex identityText digits digitsBelow decimalOf leapOf years months dayOf yearFrom monthFrom dateOf secondText milliText timeText readSecond readDecimals readRest readTime apart readNum readNumber alarmFlags statusFlags bytesOf versionIn close carriedBy dueUp due isIgnored needs reasons happens subscribe unsubscribe intervals becomes commands aggregates lose loseOf makeRoom issue connects closes ticks sends answers answered refuses carriedOut replying receives effectOf conditions step reading
 closings-hold =
     record {
       disconnects = refl;
@@ -88,7 +88,7 @@ closings-hold =
     }
 
 pub dues-hold : Dues
-unfolding hexOf hex4Of unicodeOf escapeOf twoOf inThree threeOf inFour fourOf rawOf charOf readChars decoded skipWs literal readScalar readName readStart readMark readEntry readItems readInside readValue noTwice allOnce once isPacket meaningOf hexDigit lowerHex identityText digits digitsBelow decimalOf leapOf years months dayOf yearFrom monthFrom dateOf secondText milliText timeText readSecond readDecimals readRest readTime apart readNum readNumber alarmFlags statusFlags bytesOf versionIn close carriedBy dueUp due isIgnored needs reasons happens subscribe unsubscribe intervals becomes commands aggregates lose makeRoom issue connects closes ticks sends answers answered refuses carriedOut replying receives effectOf conditions step reading
+unfolding hexOf hex4Of unicodeOf escapeOf twoOf inThree threeOf inFour fourOf rawOf charOf readChars decoded skipWs literal readScalar readName readStart readMark readEntry readItems readInside readValue noTwice allOnce once isPacket meaningOf hexDigit lowerHex identityText digits digitsBelow decimalOf leapOf years months dayOf yearFrom monthFrom dateOf secondText milliText timeText readSecond readDecimals readRest readTime apart readNum readNumber alarmFlags statusFlags bytesOf versionIn close carriedBy dueUp due isIgnored needs reasons happens subscribe unsubscribe intervals becomes commands aggregates lose loseOf makeRoom issue connects closes ticks sends answers answered refuses carriedOut replying receives effectOf conditions step reading
 dues-hold =
     record {
       watchdog-due = refl;
@@ -100,7 +100,7 @@ dues-hold =
     }
 
 pub carried-hold : Carried
-unfolding hexOf hex4Of unicodeOf escapeOf twoOf inThree threeOf inFour fourOf rawOf charOf readChars decoded skipWs literal readScalar readName readStart readMark readEntry readItems readInside readValue noTwice allOnce once isPacket meaningOf hexDigit lowerHex identityText digits digitsBelow decimalOf leapOf years months dayOf yearFrom monthFrom dateOf secondText milliText timeText readSecond readDecimals readRest readTime apart readNum readNumber alarmFlags statusFlags bytesOf versionIn close carriedBy dueUp due isIgnored needs reasons happens subscribe unsubscribe intervals becomes commands aggregates lose makeRoom issue connects closes ticks sends answers answered refuses carriedOut replying receives effectOf conditions step reading
+unfolding hexOf hex4Of unicodeOf escapeOf twoOf inThree threeOf inFour fourOf rawOf charOf readChars decoded skipWs literal readScalar readName readStart readMark readEntry readItems readInside readValue noTwice allOnce once isPacket meaningOf hexDigit lowerHex identityText digits digitsBelow decimalOf leapOf years months dayOf yearFrom monthFrom dateOf secondText milliText timeText readSecond readDecimals readRest readTime apart readNum readNumber alarmFlags statusFlags bytesOf versionIn close carriedBy dueUp due isIgnored needs reasons happens subscribe unsubscribe intervals becomes commands aggregates lose loseOf makeRoom issue connects closes ticks sends answers answered refuses carriedOut replying receives effectOf conditions step reading
 carried-hold =
     record {
       carries-newest = refl;

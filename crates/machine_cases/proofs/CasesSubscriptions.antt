@@ -20,14 +20,14 @@ use Rattle.machine.specs.Json.{versionIn}
 use Rattle.machine.specs.Life.{close, carriedBy, dueUp, due}
 use Rattle.machine.specs.Answers.{isIgnored, needs, reasons}
 use Rattle.machine.specs.Items.{happens, subscribe, unsubscribe, intervals, becomes, commands, aggregates}
-use Rattle.machine.specs.Pool.{lose, makeRoom, issue}
+use Rattle.machine.specs.Pool.{lose, loseOf, makeRoom, issue}
 use Rattle.machine.specs.Effects.{connects, closes, ticks, sends, answers, answered, refuses, carriedOut, replying, receives, effectOf}
 use Rattle.machine.specs.Step.{conditions, step}
 use Rattle.machine.specs.Readings.{reading}
 use Rattle.machine_cases.specs.CasesSubscriptions.{Subscribing, Values, Intervals, Apart, Aggregates}
 
 pub subscribing-hold : Subscribing
-unfolding hexOf hex4Of unicodeOf escapeOf twoOf inThree threeOf inFour fourOf rawOf charOf readChars decoded skipWs literal readScalar readName readStart readMark readEntry readItems readInside readValue noTwice allOnce once isPacket meaningOf hexDigit lowerHex identityText digits digitsBelow decimalOf leapOf years months dayOf yearFrom monthFrom dateOf secondText milliText timeText readSecond readDecimals readRest readTime apart readNum readNumber alarmFlags statusFlags bytesOf versionIn close carriedBy dueUp due isIgnored needs reasons happens subscribe unsubscribe intervals becomes commands aggregates lose makeRoom issue connects closes ticks sends answers answered refuses carriedOut replying receives effectOf conditions step reading
+unfolding hexOf hex4Of unicodeOf escapeOf twoOf inThree threeOf inFour fourOf rawOf charOf readChars decoded skipWs literal readScalar readName readStart readMark readEntry readItems readInside readValue noTwice allOnce once isPacket meaningOf hexDigit lowerHex identityText digits digitsBelow decimalOf leapOf years months dayOf yearFrom monthFrom dateOf secondText milliText timeText readSecond readDecimals readRest readTime apart readNum readNumber alarmFlags statusFlags bytesOf versionIn close carriedBy dueUp due isIgnored needs reasons happens subscribe unsubscribe intervals becomes commands aggregates lose loseOf makeRoom issue connects closes ticks sends answers answered refuses carriedOut replying receives effectOf conditions step reading
 subscribing-hold =
     record {
       at-once = refl;
@@ -45,7 +45,7 @@ subscribing-hold =
     }
 
 pub values-hold : Values
-unfolding hexOf hex4Of unicodeOf escapeOf twoOf inThree threeOf inFour fourOf rawOf charOf readChars decoded skipWs literal readScalar readName readStart readMark readEntry readItems readInside readValue noTwice allOnce once isPacket meaningOf hexDigit lowerHex identityText digits digitsBelow decimalOf leapOf years months dayOf yearFrom monthFrom dateOf secondText milliText timeText readSecond readDecimals readRest readTime apart readNum readNumber alarmFlags statusFlags bytesOf versionIn close carriedBy dueUp due isIgnored needs reasons happens subscribe unsubscribe intervals becomes commands aggregates lose makeRoom issue connects closes ticks sends answers answered refuses carriedOut replying receives effectOf conditions step reading
+unfolding hexOf hex4Of unicodeOf escapeOf twoOf inThree threeOf inFour fourOf rawOf charOf readChars decoded skipWs literal readScalar readName readStart readMark readEntry readItems readInside readValue noTwice allOnce once isPacket meaningOf hexDigit lowerHex identityText digits digitsBelow decimalOf leapOf years months dayOf yearFrom monthFrom dateOf secondText milliText timeText readSecond readDecimals readRest readTime apart readNum readNumber alarmFlags statusFlags bytesOf versionIn close carriedBy dueUp due isIgnored needs reasons happens subscribe unsubscribe intervals becomes commands aggregates lose loseOf makeRoom issue connects closes ticks sends answers answered refuses carriedOut replying receives effectOf conditions step reading
 values-hold =
     record {
       first-value = refl;
@@ -60,7 +60,7 @@ values-hold =
     }
 
 pub intervals-hold : Intervals
-unfolding hexOf hex4Of unicodeOf escapeOf twoOf inThree threeOf inFour fourOf rawOf charOf readChars decoded skipWs literal readScalar readName readStart readMark readEntry readItems readInside readValue noTwice allOnce once isPacket meaningOf hexDigit lowerHex identityText digits digitsBelow decimalOf leapOf years months dayOf yearFrom monthFrom dateOf secondText milliText timeText readSecond readDecimals readRest readTime apart readNum readNumber alarmFlags statusFlags bytesOf versionIn close carriedBy dueUp due isIgnored needs reasons happens subscribe unsubscribe intervals becomes commands aggregates lose makeRoom issue connects closes ticks sends answers answered refuses carriedOut replying receives effectOf conditions step reading
+unfolding hexOf hex4Of unicodeOf escapeOf twoOf inThree threeOf inFour fourOf rawOf charOf readChars decoded skipWs literal readScalar readName readStart readMark readEntry readItems readInside readValue noTwice allOnce once isPacket meaningOf hexDigit lowerHex identityText digits digitsBelow decimalOf leapOf years months dayOf yearFrom monthFrom dateOf secondText milliText timeText readSecond readDecimals readRest readTime apart readNum readNumber alarmFlags statusFlags bytesOf versionIn close carriedBy dueUp due isIgnored needs reasons happens subscribe unsubscribe intervals becomes commands aggregates lose loseOf makeRoom issue connects closes ticks sends answers answered refuses carriedOut replying receives effectOf conditions step reading
 intervals-hold =
     record {
       too-soon = refl;
@@ -75,7 +75,7 @@ intervals-hold =
     }
 
 pub apart-hold : Apart
-unfolding hexOf hex4Of unicodeOf escapeOf twoOf inThree threeOf inFour fourOf rawOf charOf readChars decoded skipWs literal readScalar readName readStart readMark readEntry readItems readInside readValue noTwice allOnce once isPacket meaningOf hexDigit lowerHex identityText digits digitsBelow decimalOf leapOf years months dayOf yearFrom monthFrom dateOf secondText milliText timeText readSecond readDecimals readRest readTime apart readNum readNumber alarmFlags statusFlags bytesOf versionIn close carriedBy dueUp due isIgnored needs reasons happens subscribe unsubscribe intervals becomes commands aggregates lose makeRoom issue connects closes ticks sends answers answered refuses carriedOut replying receives effectOf conditions step reading
+unfolding hexOf hex4Of unicodeOf escapeOf twoOf inThree threeOf inFour fourOf rawOf charOf readChars decoded skipWs literal readScalar readName readStart readMark readEntry readItems readInside readValue noTwice allOnce once isPacket meaningOf hexDigit lowerHex identityText digits digitsBelow decimalOf leapOf years months dayOf yearFrom monthFrom dateOf secondText milliText timeText readSecond readDecimals readRest readTime apart readNum readNumber alarmFlags statusFlags bytesOf versionIn close carriedBy dueUp due isIgnored needs reasons happens subscribe unsubscribe intervals becomes commands aggregates lose loseOf makeRoom issue connects closes ticks sends answers answered refuses carriedOut replying receives effectOf conditions step reading
 apart-hold =
     record {
       by-value = refl;
@@ -87,7 +87,7 @@ apart-hold =
     }
 
 pub aggregates-hold : Aggregates
-unfolding hexOf hex4Of unicodeOf escapeOf twoOf inThree threeOf inFour fourOf rawOf charOf readChars decoded skipWs literal readScalar readName readStart readMark readEntry readItems readInside readValue noTwice allOnce once isPacket meaningOf hexDigit lowerHex identityText digits digitsBelow decimalOf leapOf years months dayOf yearFrom monthFrom dateOf secondText milliText timeText readSecond readDecimals readRest readTime apart readNum readNumber alarmFlags statusFlags bytesOf versionIn close carriedBy dueUp due isIgnored needs reasons happens subscribe unsubscribe intervals becomes commands aggregates lose makeRoom issue connects closes ticks sends answers answered refuses carriedOut replying receives effectOf conditions step reading
+unfolding hexOf hex4Of unicodeOf escapeOf twoOf inThree threeOf inFour fourOf rawOf charOf readChars decoded skipWs literal readScalar readName readStart readMark readEntry readItems readInside readValue noTwice allOnce once isPacket meaningOf hexDigit lowerHex identityText digits digitsBelow decimalOf leapOf years months dayOf yearFrom monthFrom dateOf secondText milliText timeText readSecond readDecimals readRest readTime apart readNum readNumber alarmFlags statusFlags bytesOf versionIn close carriedBy dueUp due isIgnored needs reasons happens subscribe unsubscribe intervals becomes commands aggregates lose loseOf makeRoom issue connects closes ticks sends answers answered refuses carriedOut replying receives effectOf conditions step reading
 aggregates-hold =
     record {
       every-link = refl;

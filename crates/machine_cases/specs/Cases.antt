@@ -10,6 +10,7 @@ use Rattle.machine_cases.specs.CasesCommands.{Commanding}
 use Rattle.machine_cases.specs.CasesIncluded.{Responding, NotResponding, Unawaited}
 use Rattle.machine_cases.specs.CasesEditions.{Choices, OlderEntries, NewerEntries, OnItsLink, OverBreaks}
 use Rattle.machine_cases.specs.CasesPool.{Losing, Others, OthersInTime, Settling, Records}
+use Rattle.machine_cases.specs.CasesBox.{Owners, Turns}
 use Rattle.machine_cases.specs.CasesLinks.{Links, LinkLives}
 
 pub record Cases : Type 0 where
@@ -59,6 +60,9 @@ pub record Cases : Type 0 where
   pub others-in-time : OthersInTime
   pub settling : Settling
   pub records : Records
+  -- request 10
+  pub owners : Owners
+  pub turns : Turns
   -- the same on every link
   pub links : Links
   pub link-lives : LinkLives

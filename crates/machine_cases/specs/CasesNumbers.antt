@@ -25,7 +25,7 @@ everySecond = everySecondSince noon
 
 -- ---- a machine of which every condition that may hold, holds: a record due by interval, no sequence number left
 abbrev pub ended : Machine
-ended = withSubscriptions (everySecondSince 0 ∷ []) (numberedFrom 4294967296)
+ended = withSubscriptions (everySecondSince 0 ∷ []) (numberedFrom 2147483648)
 
 abbrev pub early : Act → Call
 early act = record { time = noon - 1; act = act }
@@ -74,11 +74,11 @@ pub record Numbers : Type 0 where
       ∷ writes (tells "AggregatedStatus" "06060606-0606-4606-8606-060606060606"
       (json "K0','aSTS':'2009-10-01T11:59:31.571Z','fP':'','fS':'','se':[false,false,false,false,false,false,false,true]}" ++ (0x0C ∷ [])))
       ∷ gives 9 ∷ []
-  -- "10: the call would take sequence numbers past 4294967295": of each call that issues
+  -- "10: the call would take sequence numbers past 2147483647": of each call that issues
   pub numbers-end : hears ended (ask 0 0 "StatusSubscribe" ",'cId':'K0','sS':[{'sCI':'S1','n':'level','uRt':'1','sOc':true}]" ∷ atNoon (alarmInput 0 true)
       ∷ atNoon (statusValue 0 (pos 1)) ∷ atNoon (aggregatedValue 1) ∷ later 1000 tick ∷ order 0 0 "Suspend" ∷ [])
       ≡ gives 10 ∷ gives 10 ∷ gives 10 ∷ gives 10 ∷ gives 10 ∷ gives 10 ∷ []
-  pub four-numbers-left : hears (numberedFrom 4294967292) (atNoon (aggregatedValue 1) ∷ atNoon (alarmInput 0 true) ∷ []) ≡ silent ∷ gives 10 ∷ []
-  pub three-numbers-left : hears (numberedFrom 4294967293) (atNoon (aggregatedValue 1) ∷ []) ≡ gives 10 ∷ []
+  pub four-numbers-left : hears (numberedFrom 2147483644) (atNoon (aggregatedValue 1) ∷ atNoon (alarmInput 0 true) ∷ []) ≡ silent ∷ gives 10 ∷ []
+  pub three-numbers-left : hears (numberedFrom 2147483645) (atNoon (aggregatedValue 1) ∷ []) ≡ gives 10 ∷ []
   -- "All but 0 change nothing"
   pub stays : leaves ended (everyCall 0 ++ everyCall 4 ++ inputs ++ (atNoon (connect 0) ∷ pumped 0 0 1 ∷ atNoon (aggregatedValue 1) ∷ [])) ≡ ended

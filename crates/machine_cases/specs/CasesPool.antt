@@ -41,7 +41,7 @@ valueIn (ofAggregated v t) = v
 
 -- a record of link 2 and number 9
 abbrev pub told : Content → Bytes
-told c = recordBytes (heldAs 2 c 9 false)
+told c = recordBytes 0 (heldAs 2 c 9 false)
 
 abbrev pub keeping : Content → Machine
 keeping c = holding (heldAs 1 c 9 false ∷ [])
@@ -111,27 +111,31 @@ pub record Settling : Type 0 where
       ≡ aggregatedBy 1 5 ∷ []
 
 pub record Records : Type 0 where
-  -- "link 2, kind 2 (0 alarm, 1 status, 2 aggregated), item 6, flags 6, time 48, value 32, sequence 32"; "Flags of an alarm: aSp 2 (0 Issue, 1
+  -- request 10: link 3, "kind 2 (0 alarm, 1 status, 2 aggregated), item 6, flags 6, time 48, value 32", sequence 31; "Flags of an alarm: aSp 2 (0 Issue, 1
   -- Acknowledge, 2 Suspend), acknowledged, active, suspended, 0". The time is 1254398371571
   pub alarms : map (λ a. take 2 (told (ofAlarm 2 a)))
       (alarmOf false false false Issue noon ∷ alarmOf true false false Issue noon ∷ alarmOf false true false Issue noon ∷ alarmOf false false true Issue noon
       ∷ alarmOf false false false Acknowledge noon ∷ alarmOf false false false Suspend noon ∷ [])
-      ≡ (0x80 ∷ 0x80 ∷ []) ∷ (0x80 ∷ 0x84 ∷ []) ∷ (0x80 ∷ 0x88 ∷ []) ∷ (0x80 ∷ 0x82 ∷ []) ∷ (0x80 ∷ 0x90 ∷ []) ∷ (0x80 ∷ 0xA0 ∷ []) ∷ []
-  pub alarm-whole : recordBytes (heldAs 3 (ofAlarm 31 (alarmOf true true true Suspend noon)) 4294967295 false)
-      ≡ 0xC7 ∷ 0xEE ∷ 0x01 ∷ 0x24 ∷ 0x0F ∷ 0xF8 ∷ 0x26 ∷ 0xF3 ∷ 0x00 ∷ 0x00 ∷ 0x00 ∷ 0x00 ∷ 0xFF ∷ 0xFF ∷ 0xFF ∷ 0xFF ∷ []
+      ≡ (0x40 ∷ 0x40 ∷ []) ∷ (0x40 ∷ 0x42 ∷ []) ∷ (0x40 ∷ 0x44 ∷ []) ∷ (0x40 ∷ 0x41 ∷ []) ∷ (0x40 ∷ 0x48 ∷ []) ∷ (0x40 ∷ 0x50 ∷ []) ∷ []
+  pub alarm-whole : recordBytes 1 (heldAs 3 (ofAlarm 31 (alarmOf true true true Suspend noon)) 2147483647 false)
+      ≡ 0xE3 ∷ 0xF7 ∷ 0x00 ∷ 0x92 ∷ 0x07 ∷ 0xFC ∷ 0x13 ∷ 0x79 ∷ 0x80 ∷ 0x00 ∷ 0x00 ∷ 0x00 ∷ 0x7F ∷ 0xFF ∷ 0xFF ∷ 0xFF ∷ []
   -- "of a status: known" and (request 02) "that it was issued while its link was not Up"; "two's complement (0 if unknown)"
   pub statuses : map told (ofStatus 3 none false noon ∷ ofStatus 3 none true noon ∷ ofStatus 3 (some (pos 5)) false noon
       ∷ ofStatus 3 (some (negsuc 2147483647)) true noon ∷ [])
-      ≡ (0x90 ∷ 0xC0 ∷ 0x01 ∷ 0x24 ∷ 0x0F ∷ 0xF8 ∷ 0x26 ∷ 0xF3 ∷ 0x00 ∷ 0x00 ∷ 0x00 ∷ 0x00 ∷ 0x00 ∷ 0x00 ∷ 0x00 ∷ 0x09 ∷ [])
-      ∷ (0x90 ∷ 0xD0 ∷ 0x01 ∷ 0x24 ∷ 0x0F ∷ 0xF8 ∷ 0x26 ∷ 0xF3 ∷ 0x00 ∷ 0x00 ∷ 0x00 ∷ 0x00 ∷ 0x00 ∷ 0x00 ∷ 0x00 ∷ 0x09 ∷ [])
-      ∷ (0x90 ∷ 0xE0 ∷ 0x01 ∷ 0x24 ∷ 0x0F ∷ 0xF8 ∷ 0x26 ∷ 0xF3 ∷ 0x00 ∷ 0x00 ∷ 0x00 ∷ 0x05 ∷ 0x00 ∷ 0x00 ∷ 0x00 ∷ 0x09 ∷ [])
-      ∷ (0x90 ∷ 0xF0 ∷ 0x01 ∷ 0x24 ∷ 0x0F ∷ 0xF8 ∷ 0x26 ∷ 0xF3 ∷ 0x80 ∷ 0x00 ∷ 0x00 ∷ 0x00 ∷ 0x00 ∷ 0x00 ∷ 0x00 ∷ 0x09 ∷ []) ∷ []
+      ≡ (0x48 ∷ 0x60 ∷ 0x00 ∷ 0x92 ∷ 0x07 ∷ 0xFC ∷ 0x13 ∷ 0x79 ∷ 0x80 ∷ 0x00 ∷ 0x00 ∷ 0x00 ∷ 0x00 ∷ 0x00 ∷ 0x00 ∷ 0x09 ∷ [])
+      ∷ (0x48 ∷ 0x68 ∷ 0x00 ∷ 0x92 ∷ 0x07 ∷ 0xFC ∷ 0x13 ∷ 0x79 ∷ 0x80 ∷ 0x00 ∷ 0x00 ∷ 0x00 ∷ 0x00 ∷ 0x00 ∷ 0x00 ∷ 0x09 ∷ [])
+      ∷ (0x48 ∷ 0x70 ∷ 0x00 ∷ 0x92 ∷ 0x07 ∷ 0xFC ∷ 0x13 ∷ 0x79 ∷ 0x80 ∷ 0x00 ∷ 0x00 ∷ 0x02 ∷ 0x80 ∷ 0x00 ∷ 0x00 ∷ 0x09 ∷ [])
+      ∷ (0x48 ∷ 0x78 ∷ 0x00 ∷ 0x92 ∷ 0x07 ∷ 0xFC ∷ 0x13 ∷ 0x79 ∷ 0xC0 ∷ 0x00 ∷ 0x00 ∷ 0x00 ∷ 0x00 ∷ 0x00 ∷ 0x00 ∷ 0x09 ∷ []) ∷ []
   -- "aggregated the eight booleans, first highest, in the low byte"
   pub aggregated : told (ofAggregated 0xA1 noon)
-      ≡ 0xA0 ∷ 0x00 ∷ 0x01 ∷ 0x24 ∷ 0x0F ∷ 0xF8 ∷ 0x26 ∷ 0xF3 ∷ 0x00 ∷ 0x00 ∷ 0x00 ∷ 0xA1 ∷ 0x00 ∷ 0x00 ∷ 0x00 ∷ 0x09 ∷ []
-  pub links : map (λ l. take 1 (recordBytes (heldAs l (ofStatus 3 none false noon) 9 false))) (0 ∷ 1 ∷ 3 ∷ [])
-      ++ map (λ l. take 1 (recordBytes (heldAs l (ofAggregated 1 noon) 9 false))) (0 ∷ 1 ∷ 3 ∷ [])
-      ≡ (0x10 ∷ []) ∷ (0x50 ∷ []) ∷ (0xD0 ∷ []) ∷ (0x20 ∷ []) ∷ (0x60 ∷ []) ∷ (0xE0 ∷ []) ∷ []
+      ≡ 0x50 ∷ 0x00 ∷ 0x00 ∷ 0x92 ∷ 0x07 ∷ 0xFC ∷ 0x13 ∷ 0x79 ∷ 0x80 ∷ 0x00 ∷ 0x00 ∷ 0x50 ∷ 0x80 ∷ 0x00 ∷ 0x00 ∷ 0x09 ∷ []
+  -- "three bits (first bit the site)"
+  pub links : map (λ l. take 1 (recordBytes 0 (heldAs l (ofStatus 3 none false noon) 9 false))) (0 ∷ 1 ∷ 3 ∷ [])
+      ++ map (λ l. take 1 (recordBytes 0 (heldAs l (ofAggregated 1 noon) 9 false))) (0 ∷ 1 ∷ 3 ∷ [])
+      ≡ (0x08 ∷ []) ∷ (0x28 ∷ []) ∷ (0x68 ∷ []) ∷ (0x10 ∷ []) ∷ (0x30 ∷ []) ∷ (0x70 ∷ []) ∷ []
+  pub south-links : map (λ l. take 1 (recordBytes 1 (heldAs l (ofStatus 3 none false noon) 9 false))) (0 ∷ 1 ∷ 3 ∷ [])
+      ++ map (λ l. take 1 (recordBytes 1 (heldAs l (ofAggregated 1 noon) 9 false))) (0 ∷ 1 ∷ 3 ∷ [])
+      ≡ (0x88 ∷ []) ∷ (0xA8 ∷ []) ∷ (0xE8 ∷ []) ∷ (0x90 ∷ []) ∷ (0xB0 ∷ []) ∷ (0xF0 ∷ []) ∷ []
   -- what its message tells: "Messages carry their record's time"; sent nine milliseconds after
   pub alarm-sent : hears (keeping (ofAlarm 2 (alarmOf true false false Issue noon))) (pumped 9 1 1 ∷ [])
       ≡ writes (tells "Alarm" "01010101-0101-4101-8101-010101010101" (alarmSaid "K2','aCId':'A2"
@@ -152,7 +156,7 @@ pub record Records : Type 0 where
   -- what a host reads of each link: held, lost, the phase, the version, the records
   pub readings : map (reading (atEnd noon (poolOf 9 (aggregatedBy 0 5 ∷ aggregatedBy 3 6 ∷ aggregatedBy 0 7 ∷ []) (1 ∷ 2 ∷ 3 ∷ 4 ∷ [])) running)) (0 ∷ 1 ∷ 2
       ∷ 3 ∷ [])
-      ≡ readingOf 2 1 3 (3 ∷ 2 ∷ 0 ∷ []) (recordBytes (aggregatedBy 0 5) ∷ recordBytes (aggregatedBy 0 7) ∷ [])
+      ≡ readingOf 2 1 3 (3 ∷ 2 ∷ 0 ∷ []) (recordBytes 0 (aggregatedBy 0 5) ∷ recordBytes 0 (aggregatedBy 0 7) ∷ [])
       ∷ readingOf 0 2 3 (3 ∷ 2 ∷ 0 ∷ []) []
       ∷ readingOf 0 3 2 (3 ∷ 2 ∷ 0 ∷ []) []
-      ∷ readingOf 1 4 0 [] (recordBytes (aggregatedBy 3 6) ∷ []) ∷ []
+      ∷ readingOf 1 4 0 [] (recordBytes 0 (aggregatedBy 3 6) ∷ []) ∷ []

@@ -13,7 +13,7 @@ use Rattle.machine.specs.Example.{noon}
 use Rattle.machine_cases.specs.Junction.{table, begun}
 
 abbrev pub startOf : ℕ → Option ℕ → ℕ → ℕ → ℕ → Start
-startOf links primary period first time = record { table = []; links = links; primary = primary; period = period; first = first; time = time }
+startOf links primary period first time = record { site = 0; table = []; links = links; primary = primary; period = period; first = first; time = time }
 
 abbrev pub down : Life
 down = lifeOf false (exchange false false false) (exchange false false false) [] 0 0 []
@@ -28,7 +28,7 @@ pub record Starts : Type 0 where
   pub period : map goodStart (startOf 1 none 0 0 0 ∷ startOf 1 none 1 0 0 ∷ startOf 1 none 3600 0 0 ∷ startOf 1 none 3601 0 0 ∷ [])
       ≡ false ∷ true ∷ true ∷ false ∷ []
   -- "first sequence number (0 to number 10's limit)"
-  pub first : map goodStart (startOf 1 none 1 0 0 ∷ startOf 1 none 1 4294967295 0 ∷ startOf 1 none 1 4294967296 0 ∷ []) ≡ true ∷ true ∷ false ∷ []
+  pub first : map goodStart (startOf 1 none 1 0 0 ∷ startOf 1 none 1 2147483647 0 ∷ startOf 1 none 1 2147483648 0 ∷ []) ≡ true ∷ true ∷ false ∷ []
   -- "and time (0 to 253402300799999)"
   pub time : map goodStart (startOf 1 none 1 0 0 ∷ startOf 1 none 1 0 253402300799999 ∷ startOf 1 none 1 0 253402300800000 ∷ [])
       ≡ true ∷ true ∷ false ∷ []

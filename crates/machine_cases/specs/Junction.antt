@@ -65,7 +65,7 @@ table =
     }
 
 abbrev pub start : Start
-start = record { table = []; links = 4; primary = some 1; period = 2; first = 5; time = noon }
+start = record { site = 0; table = []; links = 4; primary = some 1; period = 2; first = 5; time = noon }
 
 abbrev pub begun : Machine
 begun = first table start

@@ -7,13 +7,13 @@ returns : tie.Need-returns
 returns c =
     let a = c .before .before .before .before .before .before .before in
     from-words (a .args .h) (a .args .l) (a .fits .l .fits)
-    (c .before .before .before .field4 .ensures)
-    (c .before .before .field5 .ensures)
-    (c .before .field6 .ensures)
-    (c .field7 .ensures)
-    (c .before .before .before .before .before .before .field .ensures)
-    (c .before .before .before .before .before .field2 .ensures)
-    (c .before .before .before .before .field3 .ensures)
+    (c .before .before .before .field3 .ensures)
+    (c .before .before .field4 .ensures)
+    (c .before .field5 .ensures)
+    (c .field6 .ensures)
+    (c .before .before .before .before .before .before .time-in .ensures)
+    (c .before .before .before .before .before .field .ensures)
+    (c .before .before .before .before .field2 .ensures)
 
 pub fields-spec : {M : Type 1} → statement M
 fields-spec = tie.close (tie.spec (λ c κs. search needs) (λ c κs. search needs) (λ c. search needs) (λ c κs. search needs) (λ c. search needs)
