@@ -1,13 +1,13 @@
 -- What the machine computes: the cases marked M, and a conversation from bytes to bytes. Claims; the proofs are `refl`.
 -- Assumes nothing.
-use Prim.Native.Nat.{ℕ, _+_}
+use Prim.Native.Nat.{ℕ, _+_, _<_}
 use Prim.Native.String.{String}
 use mathlib.Core.Path.{_≡_}
 use mathlib.Core.Bool.{Bool, true, false}
 use mathlib.Core.List.{List, [], _∷_, _++_, map}
 use mathlib.Core.Option.{Option, some, none}
 use lib.IntN.{pos, negsuc}
-use lib.ListN.{take}
+use lib.ListN.{take, getD}
 use Rattle.basis.specs.Text.{text}
 use Rattle.answer.specs.Times.{lastTime}
 use Rattle.calendar.specs.Text.{timeText}
