@@ -19,7 +19,7 @@ use Rattle.machine.specs.Pool.{isFor}
 use Rattle.machine.specs.Effects.{carried}
 use Rattle.machine.specs.Step.{step}
 use Rattle.machine.specs.Run.{Past, past, Run}
-use Rattle.machine.specs.Run.Run.{begun, next}
+use Rattle.machine.specs.Run.Run.{begun, begun-beside, next, other-starts, other-calls}
 use Rattle.demand_held.specs.Held.{IsDone, issuedBy, issuesOf, At}
 
 -- a done call of the run issued record r under number n
@@ -55,8 +55,14 @@ ifDone (done messages closed hint commands) n = n
 -- over the done calls of a run: how many records were issued for link l, and how many of them left because they were answered
 abbrev pub issuedCount : (l : ℕ) {s : Start} {h : List Past} {m : Machine} → Run s h m → ℕ
 issuedCount l (begun b) = 0
+issuedCount l (begun-beside b o two) = 0
+issuedCount l (other-starts r b two) = issuedCount l r
+issuedCount l (other-calls r o two c) = issuedCount l r
 issuedCount l (next {m = m} c r) = issuedCount l r + ifDone (step m c .0) (issuesOf m l c)
 
 abbrev pub answeredCount : (l : ℕ) {s : Start} {h : List Past} {m : Machine} → Run s h m → ℕ
 answeredCount l (begun b) = 0
+answeredCount l (begun-beside b o two) = 0
+answeredCount l (other-starts r b two) = answeredCount l r
+answeredCount l (other-calls r o two c) = answeredCount l r
 answeredCount l (next {m = m} c r) = answeredCount l r + ifDone (step m c .0) (answersOf m l (c .act))

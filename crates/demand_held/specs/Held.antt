@@ -19,7 +19,9 @@ use Rattle.machine.specs.Life.{awaitedBy}
 use Rattle.machine.specs.Answers.{isAnswer}
 use Rattle.machine.specs.Pool.{isFor, holds}
 use Rattle.machine.specs.Effects.{carried, effectOf}
-use Rattle.machine.specs.Step.{step, leaves}
+use Rattle.machine.specs.Step.{step}
+use Rattle.machine.specs.Box.{Box, siteOf, Turn, turned, turnedAll}
+use Rattle.machine.specs.Box.Turn.{starts, calls}
 
 -- the record r, issued under number n, is held
 pub data IsHeld (r : Issued) (n : ℕ) (hs : List Held) : Type 0 where
@@ -45,11 +47,14 @@ pub data Answered (m : Machine) (l n : ℕ) : Act → Type 0 where
 abbrev pub issuesOf : Machine → ℕ → Call → ℕ
 issuesOf m l c = count (λ (i : Issued). eqb (i .link) l) (issuedBy m c)
 
--- "if S holds 64, its oldest is lost; else a free place is taken": with the records that the call issues link l would hold more than 64, or all
--- links together more than 128
+-- "if S holds 64, its oldest is lost; else a free place is taken": with the records that the call issues both sites together would hold more than
+-- 128, or link l more than 64
+abbrev pub NoPlace : Machine → Call → Type 0
+NoPlace m c = 128 < length (m .pool .held) + length (m .pool .beside .held) + length (issuedBy m c)
+
 pub data NoRoom (m : Machine) (c : Call) (l : ℕ) : Type 0 where
   link-full : 64 < holds (m .pool) l + issuesOf m l c → NoRoom m c l
-  pool-full : 128 < length (m .pool .held) + length (issuedBy m c) → NoRoom m c l
+  pool-full : NoPlace m c → NoRoom m c l
 
 -- it stays, or there was no room for the records issued and at least 16 newer ones of its link are held after the call
 pub data Kept (m : Machine) (c : Call) (r : Issued) (n : ℕ) : Type 0 where
@@ -59,6 +64,12 @@ pub data Kept (m : Machine) (c : Call) (r : Issued) (n : ℕ) : Type 0 where
 pub data Fate (m : Machine) (c : Call) (r : Issued) (n : ℕ) : Type 0 where
   kept : Kept m c r n → Fate m c r n
   settled : IsDone m c → Answered m (r .link) n (c .act) → Fate m c r n
+
+-- a record of the other site in a call of this one: it stays, or there was no place for the records issued and at least 16 newer ones of its owner
+-- are held after the call
+pub data KeptBeside (m : Machine) (c : Call) (r : Issued) (n : ℕ) : Type 0 where
+  stays : IsHeld r n (step m c .1 .pool .beside .held) → KeptBeside m c r n
+  pushed : IsDone m c → NoPlace m c → 16 ≤ newer (r .link) n (step m c .1 .pool .beside .held) → KeptBeside m c r n
 
 -- the link that a packet came in on
 abbrev pub packetLink : Act → Option ℕ
@@ -71,13 +82,17 @@ packetLink (aggregatedValue v) = none
 packetLink tick = none
 packetLink (pump l random room) = none
 
--- over the calls of a list: it is held at the end, or one of them ended it
-pub data Until (r : Issued) (n : ℕ) : Machine → List Call → Type 0 where
-  lasts : {m : Machine} {cs : List Call} → IsHeld r n (leaves m cs .pool .held) → Until r n m cs
-  answered-now : {m : Machine} {c : Call} {cs : List Call} → IsDone m c → Answered m (r .link) n (c .act) → Until r n m (c ∷ cs)
-  pushed-now : {m : Machine} {c : Call} {cs : List Call} → IsDone m c → NoRoom m c (r .link) → 16 ≤ newer (r .link) n (step m c .1 .pool .held)
-      → Until r n m (c ∷ cs)
-  later : {m : Machine} {c : Call} {cs : List Call} → Until r n (step m c .1) cs → Until r n m (c ∷ cs)
+-- over turns of a box: site k holds it at the end, or one of them ended it: a call of its own, a call of the other's, or its next start
+pub data Until (k : ℕ) (r : Issued) (n : ℕ) : Box → List Turn → Type 0 where
+  lasts : {b : Box} {ts : List Turn} {m : Machine} → siteOf k (turnedAll ts b) ≡ some m → IsHeld r n (m .pool .held) → Until k r n b ts
+  answered-now : {b : Box} {c : Call} {ts : List Turn} {m : Machine} → siteOf k b ≡ some m → IsDone m c → Answered m (r .link) n (c .act)
+      → Until k r n b (calls k c ∷ ts)
+  pushed-now : {b : Box} {c : Call} {ts : List Turn} {m : Machine} → siteOf k b ≡ some m → IsDone m c → NoRoom m c (r .link)
+      → 16 ≤ newer (r .link) n (step m c .1 .pool .held) → Until k r n b (calls k c ∷ ts)
+  pushed-beside : {b : Box} {j : ℕ} {c : Call} {ts : List Turn} {o : Machine} → (j ≡ k → ⊥) → siteOf j b ≡ some o → IsDone o c → NoPlace o c
+      → 16 ≤ newer (r .link) n (step o c .1 .pool .beside .held) → Until k r n b (calls j c ∷ ts)
+  begins-anew : {b : Box} {m : Machine} {ts : List Turn} → Until k r n b (starts k (some m) ∷ ts)
+  later : {b : Box} {t : Turn} {ts : List Turn} → Until k r n (turned t b) ts → Until k r n b (t ∷ ts)
 
 -- the k-th of a list
 pub data At {A : Type 0} (x : A) : ℕ → List A → Type 0 where
