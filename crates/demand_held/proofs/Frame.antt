@@ -19,6 +19,8 @@ pub record Frame (E : ℕ → ℕ → Type 0) (m k : Machine) : Type 0 where
   pub setup : k .setup ≡ m .setup
   pub next : k .pool .next ≡ m .pool .next
   pub lost : k .pool .lost ≡ m .pool .lost
+  pub site : k .pool .site ≡ m .pool .site
+  pub beside : k .pool .beside ≡ m .pool .beside
   pub good : Good (m .pool) → Good (k .pool)
   pub every : (u : Setup) → Each (Fits u) (m .pool .held) → Each (Fits u) (k .pool .held)
   pub spared : (r : Issued) (n : ℕ) → IsHeld r n (m .pool .held) → IsHeld r n (k .pool .held) ⊎ E (r .link) n
@@ -34,6 +36,8 @@ still k s e =
       setup = s;
       next = ap (λ (p : Pool). p .next) e;
       lost = ap (λ (p : Pool). p .lost) e;
+      site = ap (λ (p : Pool). p .site) e;
+      beside = ap (λ (p : Pool). p .beside) e;
       good = λ g. rw e g;
       every = λ u h. rw e h;
       spared = λ r n h. inl (rw e h);
@@ -49,6 +53,8 @@ then {E} {m} {k} {j} a b =
       setup = b .setup ∙ a .setup;
       next = b .next ∙ a .next;
       lost = b .lost ∙ a .lost;
+      site = b .site ∙ a .site;
+      beside = b .beside ∙ a .beside;
       good = λ g. b .good (a .good g);
       every = λ u h. b .every u (a .every u h);
       spared = λ r n h. go r n (a .spared r n h);
@@ -80,12 +86,19 @@ module _ {E : ℕ → ℕ → Type 0} (m : Machine) (g : Held → Held) (same-li
         setup = refl;
         next = refl;
         lost = refl;
+        site = refl;
+        beside = refl;
         good = λ p. record {
-          few = p .few;
-          links = each-map g (λ h b. rw (same-link h) b) (p .links);
-          most = λ l. omega (arith, p .most l, as-before l);
+          own = record {
+            few = p .own .few;
+            links = each-map g (λ h b. rw (same-link h) b) (p .own .links);
+            most = λ l. omega (arith, p .own .most l, as-before l);
+            rising = rising-map g same-number (p .own .rising);
+          };
+          above = p .above;
+          other = p .other;
           all = omega (arith, p .all, length-map g (m .pool .held));
-          rising = rising-map g same-number (p .rising);
+          site = p .site;
         };
         every = λ u h. each-map g (λ x f. rw (same-link x, same-content x) f) h;
         spared = λ r n h. inl (again r n h);
@@ -115,12 +128,19 @@ module _ {E : ℕ → ℕ → Type 0} (m : Machine) (k i : ℕ) (ends : E k i) w
         setup = refl;
         next = refl;
         lost = refl;
+        site = refl;
+        beside = refl;
         good = λ p. record {
-          few = p .few;
-          links = each-keep other (p .links);
-          most = λ l. omega (arith, p .most l, count-keep other (isFor l) (m .pool .held));
+          own = record {
+            few = p .own .few;
+            links = each-keep other (p .own .links);
+            most = λ l. omega (arith, p .own .most l, count-keep other (isFor l) (m .pool .held));
+            rising = rising-keep other (p .own .rising);
+          };
+          above = p .above;
+          other = p .other;
           all = omega (arith, p .all, length-keep other (m .pool .held));
-          rising = rising-keep other (p .rising);
+          site = p .site;
         };
         every = λ u h. each-keep other h;
         spared = keeps;

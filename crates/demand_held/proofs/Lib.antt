@@ -1,10 +1,14 @@
 pub mod Lists
 pub mod Good
 pub mod Rising
+pub mod Shrunk
 pub mod Room
 pub mod Issue
 pub mod Frame
 pub mod Lays
 pub mod Counts
 pub mod Steps
+pub mod Runs
+pub mod Sides
+pub mod Turns
 pub mod Demand

@@ -32,7 +32,7 @@ pub shrunk-shorter : {s t : Share} → Shrunk s t → length (t .held) ≤ lengt
 shrunk-shorter as-it-was = omega arith
 shrunk-shorter (less {t} l one a) = omega (arith, shrunk-shorter a, length-butFirst (isFor l) (t .held) one)
 
-shrunk-lost : {s t : Share} → Shrunk s t → length (t .lost) ≡ length (s .lost)
+pub shrunk-lost : {s t : Share} → Shrunk s t → length (t .lost) ≡ length (s .lost)
 shrunk-lost as-it-was = refl
 shrunk-lost (less {t} l one a) = length-changed l suc (t .lost) ∙ shrunk-lost a
 

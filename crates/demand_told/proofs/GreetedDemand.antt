@@ -8,7 +8,7 @@ use Rattle.machine.specs.Life.{isOver, isUp}
 use Rattle.machine.specs.Table.Begins.{begins}
 use Rattle.machine.specs.Step.{numberOf, step}
 use Rattle.machine.specs.Run.{Past, Run}
-use Rattle.machine.specs.Run.Run.{begun, next}
+use Rattle.machine.specs.Run.Run.{begun, begun-beside, next, other-starts, other-calls}
 use Rattle.demand_held.proofs.Lays.{lays}
 use Rattle.demand_held.proofs.Steps.{step-done, step-refused, there}
 use Rattle.demand_held.proofs.Demand.{run-sound}
@@ -46,6 +46,9 @@ step-kept u m c l life same kept =
 
 pub run-kept : {s : Start} {h : List Past} {m : Machine} → Run s h m → (u : Machine) → u .setup ≡ m .setup → (l : ℕ) → Kept u l (lifeAt m l) (thisLife l h)
 run-kept {s} (begun (begins {t} a e g)) u same l = all-same (fresh false) (λ k. Kept u l k []) (s .links) l (kept-down u l [])
+run-kept {s} (begun-beside (begins {t} a e g) o two) u same l = all-same (fresh false) (λ k. Kept u l k []) (s .links) l (kept-down u l [])
+run-kept (other-starts r b two) u same l = run-kept r u same l
+run-kept (other-calls r q n c) u same l = run-kept r u same l
 run-kept (next {h} {m} c r) u same l = step-kept u m c l (thisLife l h) (same ∙ same-setup r c) (run-kept r u (same ∙ same-setup r c) l)
 
 -- ---- Up

@@ -23,9 +23,11 @@ use Rattle.machine.specs.Answers.{isIgnored}
 use Rattle.machine.specs.Effects.{connects, closes, ownIdentity, sends, effectOf}
 use Rattle.machine.specs.Step.{badTime, conditions, step}
 use Rattle.machine.specs.Run.{Past, Run}
-use Rattle.machine.specs.Run.Run.{begun, next}
+use Rattle.machine.specs.Run.Run.{begun, begun-beside, next, other-starts, other-calls}
 use Rattle.demand_held.proofs.Lists.{maybe-cases, each-of}
 use Rattle.demand_held.proofs.Lists.Each.{no-more}
+use Rattle.demand_held.proofs.Shrunk.{shrunk-each}
+use Rattle.demand_held.proofs.Demand.{other-leaves}
 use Rattle.demand_held.proofs.Steps.{step-done, step-refused}
 use Rattle.demand_told.specs.Demand.{messagesOf, linkOf}
 use Rattle.demand_told.proofs.Demand.{telling}
@@ -35,7 +37,7 @@ use Rattle.demand_told.proofs.GreetedDemand.{by-number}
 use Rattle.demand_told.specs.Typed.{Typed, EachTyped}
 use Rattle.demand_told.specs.Typed.EachTyped.{none-yet, one-more as typed-too}
 use Rattle.demand_told.specs.ReadDemand.{ReadsBack, DemandRead}
-use Rattle.demand_told.proofs.Sane.{Sane, sane-after}
+use Rattle.demand_told.proofs.Sane.{Sane, sane-pool, sane-after}
 use Rattle.demand_told.proofs.Lays.{lays}
 use Rattle.demand_told.proofs.Formed.{sixteen-still, due-formed}
 use Rattle.demand_told.proofs.ReadReplies.{EachFormed, received-formed}
@@ -64,7 +66,7 @@ start-time s g =
     let d = both-true (leb 1 (s .period)) _ (c .1) in
     let e = both-true (leb (s .period) 3600) _ (d .1) in
     let f = both-true (leb (s .first) lastSequence) _ (e .1) in
-    leb-true (s .time) lastTime (f .1)
+    leb-true (s .time) lastTime (both-true (leb (s .time) lastTime) _ (f .1) .0)
 
 abbrev unvalued : Row → Option ℤ
 unvalued r = none
@@ -91,6 +93,9 @@ step-sane m s c typed =
 
 pub run-sane : {s : Start} {h : List Past} {m : Machine} → Run s h m → EachTyped h → Sane m
 run-sane {s} (begun (begins {edition} {t} allowed e g)) none-yet = begun-sane s edition t allowed g
+run-sane {s} (begun-beside (begins {edition} {t} allowed e g) o two) none-yet = sane-pool (begun-sane s edition t allowed g) _ no-more
+run-sane (other-starts r b two) typed = sane-pool (run-sane r typed) _ (run-sane r typed .held)
+run-sane (other-calls r q n c) typed = sane-pool (run-sane r typed) _ (shrunk-each (other-leaves q n c) (run-sane r typed .held))
 run-sane (next {m} c r) (typed-too typed rest) = step-sane m (run-sane r rest) c typed
 
 -- ---- what each call writes

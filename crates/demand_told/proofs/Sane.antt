@@ -1,6 +1,6 @@
 -- What the machine keeps can be told: times up to the last, values of 32 bits, numbers that the table has.
 -- Assumes nothing.
-use Rattle.basis.proofs.Std.{ℕ, zero, suc, _≤_, _<_, _≡_, _∙_, Bool, true, false, not, List, [], _∷_, Option, some, none, leb, ltb, ℤ, length, getD, arith, picked}
+use Rattle.basis.proofs.Std.{ℕ, zero, suc, _%_, _≤_, _<_, _≡_, _∙_, Bool, true, false, not, List, [], _∷_, Option, some, none, leb, ltb, ℤ, length, getD, arith, picked}
 use Rattle.answer.specs.Times.{lastTime}
 use Rattle.number.specs.Signed.{Signed32}
 use Rattle.table_whole.specs.Table.{Table}
@@ -12,8 +12,9 @@ use Rattle.machine.specs.State.{Alarm, alarmOf, Subscription, Content, Issued, 
 use Rattle.machine.specs.State.Event.{Issue}
 use Rattle.machine.specs.State.Content.{ofAlarm, ofStatus, ofAggregated}
 use Rattle.machine.specs.Messages.{valueOf}
-use Rattle.machine.specs.Pool.{isFor, lose, makeRoom, holds, isFull, fullest, issue, issueAll}
+use Rattle.machine.specs.Pool.{isFor, isOwn, lose, loseOf, makeRoom, holds, isFull, fullest, issue, issueAll}
 use Rattle.machine.specs.Step.{after}
+use Rattle.machine.specs.Box.{withPool}
 use Rattle.demand_held.proofs.Lists.{length-changed, Each, each-append, each-butFirst}
 use Rattle.demand_held.proofs.Lists.Each.{no-more, one-more}
 
@@ -150,18 +151,37 @@ module _ {m : Machine} (s : Sane m) where
         held = s .held;
       }
 
+-- with other records, of its own and beside them
+pub sane-pool : {m : Machine} → Sane m → (p : Pool) → Each (HeldOf (m .setup .table)) (p .held) → Sane (withPool p m)
+sane-pool s p e =
+    record {
+      edition = s .edition;
+      table = s .table;
+      alarm-count = s .alarm-count;
+      status-count = s .status-count;
+      alarms = s .alarms;
+      statuses = s .statuses;
+      aggregated = s .aggregated;
+      aggregated-time = s .aggregated-time;
+      held = e;
+    }
+
 -- ---- issuing
 module _ (t : Table) where
   each-lose : (l : ℕ) (p : Pool) → Each (HeldOf t) (p .held) → Each (HeldOf t) (lose l p .held)
   unfolding lose
   each-lose l p e = each-butFirst (isFor l) e
 
+  each-lose-of : (o : ℕ) (p : Pool) → Each (HeldOf t) (p .held) → Each (HeldOf t) (loseOf o p .held)
+  unfolding loseOf
+  each-lose-of o p e = picked (λ (q : Pool). Each (HeldOf t) (q .held)) (isOwn p o) _ _ (λ f. each-lose (o % 4) p e) (λ f. e)
+
   each-room : (l : ℕ) (p : Pool) → Each (HeldOf t) (p .held) → Each (HeldOf t) (makeRoom l p .held)
   unfolding makeRoom
   each-room l p e =
       picked (λ (q : Pool). Each (HeldOf t) (q .held)) (leb 64 (holds p l)) _ _ (λ f. each-lose l p e)
       (λ f. picked (λ (q : Pool). Each (HeldOf t) (q .held)) (not (isFull p)) _ _ (λ f. e)
-      (λ f. picked (λ (q : Pool). Each (HeldOf t) (q .held)) (ltb (holds p l) 16) _ _ (λ f. each-lose (fullest p) p e) (λ f. each-lose l p e)))
+      (λ f. picked (λ (q : Pool). Each (HeldOf t) (q .held)) (ltb (holds p l) 16) _ _ (λ f. each-lose-of (fullest p) p e) (λ f. each-lose l p e)))
 
   each-issue : (i : Issued) (p : Pool) → IssuedOf t i → Each (HeldOf t) (p .held) → Each (HeldOf t) (issue i p .held)
   unfolding issue
