@@ -71,10 +71,12 @@ greeted u l k life kept up =
     watchdogs : (k .watchdogs .acknowledged ≡ true) × (k .watchdogs .taken ≡ true)
     watchdogs = both-true (k .watchdogs .acknowledged) _ (over .1)
 
-of-every-run : {s : Start} {p : Past} {h : List Past} {m : Machine} → Run s (p ∷ h) m
-    → (l : ℕ) → linkOf (p .call .act) ≡ some l → (w : Message) → Among w (messagesOf (p .gave)) → isTold w ≡ true → Greeted m l (thisLife l h)
-of-every-run (next {h} {m} c r) l e w a u =
-    greeted (step m c .1) l (lifeAt m l) (thisLife l h) (run-kept r (step m c .1) (same-setup r c) l) (telling m c .up-first w a u l e)
+of-every-run : {s : Start} {p : Past} {h : List Past} {m : Machine} → Run s (p ∷ h) m → (u : Machine) → u .setup ≡ m .setup
+    → (l : ℕ) → linkOf (p .call .act) ≡ some l → (w : Message) → Among w (messagesOf (p .gave)) → isTold w ≡ true → Greeted u l (thisLife l h)
+of-every-run (next {h} {m} c r) u same l e w a t =
+    greeted u l (lifeAt m l) (thisLife l h) (run-kept r u (same ∙ same-setup r c) l) (telling m c .up-first w a t l e)
+of-every-run (other-starts r b two) u same l e w a t = of-every-run r u same l e w a t
+of-every-run (other-calls r q n c) u same l e w a t = of-every-run r u same l e w a t
 
 pub demand-greeted : DemandGreeted
-demand-greeted = record { of-every-run = λ s p h m r. of-every-run r }
+demand-greeted = record { of-every-run = λ s p h m r. of-every-run r m refl }
