@@ -7,7 +7,7 @@ use Rattle.machine.specs.Json.{stringOf, isIdentityOf}
 use Rattle.machine.specs.Table.Begins.{begins}
 use Rattle.machine.specs.Step.{step}
 use Rattle.machine.specs.Run.{Past, past, Run}
-use Rattle.machine.specs.Run.Run.{begun, next}
+use Rattle.machine.specs.Run.Run.{begun, begun-beside, next, other-starts, other-calls}
 use Rattle.demand_held.specs.Held.{IsDone, Answered, Kept, Fate}
 use Rattle.demand_held.specs.Held.Answered.{answered as answered-by}
 use Rattle.demand_held.specs.Held.Fate.{kept, settled}
@@ -39,6 +39,9 @@ step-backed {s} {h} {m} r c typed l b =
 
 run-backed : {s : Start} {h : List Past} {m : Machine} → Run s h m → EachTyped h → (l : ℕ) → Backed s l h (lifeAt m l .awaited)
 run-backed {s} (begun (begins {t} a e g)) none-yet l = all-same (fresh false) (λ (k : Life). Backed s l [] (k .awaited)) (s .links) l (none-backed s l [])
+run-backed {s} (begun-beside (begins {t} a e g) o two) none-yet l = all-same (fresh false) (λ (k : Life). Backed s l [] (k .awaited)) (s .links) l (none-backed s l [])
+run-backed (other-starts r b two) typed l = run-backed r typed l
+run-backed (other-calls r q n c) typed l = run-backed r typed l
 run-backed (next c r) (typed-too typed rest) l = step-backed r c typed l (run-backed r rest l)
 
 module _ {s : Start} {h : List Past} {m : Machine} (r : Run s h m) (each : EachTyped h) where

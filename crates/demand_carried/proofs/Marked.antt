@@ -19,13 +19,14 @@ use Rattle.machine.specs.Pool.{settled, marked}
 use Rattle.machine.specs.Effects.{connects, closes, late, ticks, ownIdentity, dueMessage, sentAs, carried, afterSending, sends, answerCloses, acknowledges, answers, answered, refuses, carriedOut, replying, receives, effectOf}
 use Rattle.machine.specs.Step.{conditions}
 use Rattle.machine.specs.Run.{Past, Run}
-use Rattle.machine.specs.Run.Run.{begun, next}
+use Rattle.machine.specs.Run.Run.{begun, begun-beside, next, other-starts, other-calls}
 use Rattle.demand_held.specs.Held.{IsHeld}
 use Rattle.demand_held.specs.Held.IsHeld.{held}
 use Rattle.demand_held.proofs.Lists.{maybe-cases}
 use Rattle.demand_held.proofs.Good.{Rising}
 use Rattle.demand_held.proofs.Steps.{laid, step-done, step-refused}
-use Rattle.demand_held.proofs.Demand.{run-sound}
+use Rattle.demand_held.proofs.Shrunk.{shrunk-among}
+use Rattle.demand_held.proofs.Demand.{run-sound, other-leaves}
 use Rattle.demand_told.proofs.Replies.{none-at}
 use Rattle.demand_told.proofs.Tests.{no-not}
 use Rattle.demand_told.proofs.Lives.{all-same}
@@ -204,9 +205,25 @@ run-marked {s} (begun (begins {t} x e g)) =
       down = λ l x i w. among-none i;
       quiet = λ l n. all-same (fresh false) (λ (k : Life). k .connected ≡ false → Awaits n (k .awaited) → ⊥) (s .links) l (λ e. awaits-none);
     }
+run-marked {s} (begun-beside (begins {t} x e g) o two) =
+    record {
+      up = λ x i e. among-none i;
+      below = λ l n. all-same (fresh false) (λ (k : Life). Awaits n (k .awaited) → n < s .first) (s .links) l awaits-none;
+      down = λ l x i w. among-none i;
+      quiet = λ l n. all-same (fresh false) (λ (k : Life). k .connected ≡ false → Awaits n (k .awaited) → ⊥) (s .links) l (λ e. awaits-none);
+    }
+run-marked (other-starts r b two) = let a = run-marked r in record { up = a .up; below = a .below; down = a .down; quiet = a .quiet }
+run-marked (other-calls r q n c) =
+    let a = run-marked r in
+    record {
+      up = λ x i e. a .up x (shrunk-among (other-leaves q n c) i) e;
+      below = a .below;
+      down = λ l x i w. a .down l x (shrunk-among (other-leaves q n c) i) w;
+      quiet = a .quiet;
+    }
 run-marked (next {m = m} c r) =
     by-number m c
-    (λ e. rw (step-done m c e) (marks-issued (laid m c .issues) (laid m c .leaves .pool) (goes m (run-marked r) (run-sound r .good .rising) (c .time) (c .act) e)))
+    (λ e. rw (step-done m c e) (marks-issued (laid m c .issues) (laid m c .leaves .pool) (goes m (run-marked r) (run-sound r .good .own .rising) (c .time) (c .act) e)))
     (λ n e. rw (step-refused m c n e) (run-marked r))
 
 pub demand-marked : DemandMarked

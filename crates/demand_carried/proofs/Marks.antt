@@ -1,13 +1,13 @@
 -- Marks and awaited identities say the same: what sets a life, closes a link, sends, answers and issues keeps this.
 -- Assumes nothing.
-use Rattle.basis.proofs.Std.{ℕ, zero, suc, _≤_, _<_, _≡_, refl, sym, _∙_, ap, subst, Bool, true, false, not, List, [], _∷_, _++_, map, some, none, _⊎_, inl, inr, eqb, leb, ltb, getD, arith, eqb-true, eq-eqb, ne-eqb, pick, both, Among, bool-cases, picked, eq-or-ne, not-both, untrue}
+use Rattle.basis.proofs.Std.{ℕ, zero, suc, _%_, _≤_, _<_, _≡_, refl, sym, _∙_, ap, subst, Bool, true, false, not, List, [], _∷_, _++_, map, some, none, _⊎_, inl, inr, eqb, leb, ltb, getD, arith, eqb-true, eq-eqb, ne-eqb, pick, both, Among, bool-cases, picked, eq-or-ne, not-both, untrue}
 use Rattle.basis.specs.Lists.Among.{first, later}
 use Rattle.basis.proofs.Among.{among-none, among-one, among-left, among-either}
 use Rattle.machine.specs.Words.{firstThat, butFirst, changed}
-use Rattle.machine.specs.State.{Issued, Held, heldAs, Pool, poolOf, Sent, Awaited, Life, fresh}
+use Rattle.machine.specs.State.{Issued, Held, heldAs, Share, shareOf, Pool, withOwn, withBeside, Sent, Awaited, Life, fresh}
 use Rattle.machine.specs.State.Sent.{theRecord}
 use Rattle.machine.specs.Life.{unsent}
-use Rattle.machine.specs.Pool.{isFor, holds, isFull, fullest, lose, makeRoom, issue, issueAll, settled, marked}
+use Rattle.machine.specs.Pool.{isFor, holds, isFull, isOwn, fullest, lose, loseOf, makeRoom, issue, issueAll, settled, marked}
 use Rattle.machine.specs.Effects.{carried}
 use Rattle.demand_held.proofs.Lists.{each-kept, among-last, among-butFirst, among-kept, among-mapped}
 use Rattle.demand_held.proofs.Good.{Rising}
@@ -164,7 +164,7 @@ module _ {ls : List Life} {p : Pool} (a : Marks ls p) where
         (λ f. untrue (rw f at e))
         (λ f. ((λ q. not-both (eq-eqb (x .link) l (sym q)) f), rw f at e))
 
-    pub marks-closed : Marks (changed l (λ y. fresh false) ls) (poolOf (p .next) (map (unsent l) (p .held)) (p .lost))
+    pub marks-closed : Marks (changed l (λ y. fresh false) ls) (withOwn (shareOf (map (unsent l) (p .held)) (p .lost)) p)
     marks-closed =
         record {
           up = of-map (unsent l) (λ (x : Held). x .sent ≡ true → Awaits (x .sequence) (lifeIn (changed l (λ y. fresh false) ls) (x .link) .awaited)) up;
@@ -204,7 +204,7 @@ module _ {ls : List Life} {p : Pool} (a : Marks ls p) where
         go : l ≡ j → Awaits i (lifeIn ls l .awaited ++ (b ∷ [])) → Awaits i (lifeIn ls j .awaited) ⊎ ((l ≡ j) × (i ≡ n))
         go q (awaits r e) = of-new q (among-either (lifeIn ls l .awaited) (b ∷ []) r) e
 
-    pub marks-sent : Marks New (poolOf (p .next) (map (marked n) (p .held)) (p .lost))
+    pub marks-sent : Marks New (withOwn (shareOf (map (marked n) (p .held)) (p .lost)) p)
     marks-sent =
         record {
           up = of-map (marked n) (λ (x : Held). x .sent ≡ true → Awaits (x .sequence) (lifeIn New (x .link) .awaited)) up;
@@ -250,7 +250,7 @@ module _ {ls : List Life} {p : Pool} (a : Marks ls p) where
     was-awaited j i =
         life-cases (λ (z : Life). Awaits i (z .awaited) → Awaits i (lifeIn ls j .awaited)) l k ls j (λ q w. rw (← q) (awaits-left f (lifeIn ls l .awaited) (rw ids at w))) (λ w. w)
 
-    pub marks-settled : Marks (changed l (λ z. k) ls) (poolOf (p .next) (settled l n (p .held)) (p .lost))
+    pub marks-settled : Marks (changed l (λ z. k) ls) (withOwn (shareOf (settled l n (p .held)) (p .lost)) p)
     marks-settled =
         record {
           up = λ x i e. up x (among-kept stays (p .held) i) (each-among (each-kept stays (λ x e. e) (p .held)) i) (a .up x (among-kept stays (p .held) i) e);
@@ -280,12 +280,13 @@ lose-next : (l : ℕ) (p : Pool) → lose l p .next ≡ p .next
 unfolding lose
 lose-next l p = refl
 
--- room is the pool, or the pool but for the oldest of a link
-room-cases : (P : Pool → Type 0) (l : ℕ) (p : Pool) → P p → ((j : ℕ) → P (lose j p)) → P (makeRoom l p)
-unfolding makeRoom
-room-cases P l p same less =
+-- room is the pool, or the pool but for the oldest of a link, of this site or of the other
+room-cases : (P : Pool → Type 0) (l : ℕ) (p : Pool) → P p → ((j : ℕ) → P (lose j p)) → ((x : Share) → P (withBeside x p)) → P (makeRoom l p)
+unfolding makeRoom loseOf
+room-cases P l p same less other =
     picked P (leb 64 (holds p l)) _ _ (λ e. less l)
-    (λ e. picked P (not (isFull p)) _ _ (λ f. same) (λ f. picked P (ltb (holds p l) 16) _ _ (λ g. less (fullest p)) (λ g. less l)))
+    (λ e. picked P (not (isFull p)) _ _ (λ f. same)
+    (λ f. picked P (ltb (holds p l) 16) _ _ (λ g. picked P (isOwn p (fullest p)) _ _ (λ h. less (fullest p % 4)) (λ h. other _)) (λ g. less l)))
 
 marks-issue : {ls : List Life} (i : Issued) (p : Pool) → Marks ls p → Marks ls (issue i p)
 unfolding issue
@@ -301,10 +302,10 @@ marks-issue {ls} i p a =
     new = heldAs (i .link) (i .content) (makeRoom (i .link) p .next) false
 
     next : makeRoom (i .link) p .next ≡ p .next
-    next = room-cases (λ (q : Pool). q .next ≡ p .next) (i .link) p refl (λ j. lose-next j p)
+    next = room-cases (λ (q : Pool). q .next ≡ p .next) (i .link) p refl (λ j. lose-next j p) (λ x. refl)
 
     old : (x : Held) → Among x (makeRoom (i .link) p .held) → Among x (p .held)
-    old x = room-cases (λ (q : Pool). Among x (q .held) → Among x (p .held)) (i .link) p (λ j. j) (λ l. lose-among l p)
+    old x = room-cases (λ (q : Pool). Among x (q .held) → Among x (p .held)) (i .link) p (λ j. j) (λ l. lose-among l p) (λ s j. j)
 
     is-new : (x : Held) → Among x (new ∷ []) → x ≡ new
     is-new x = among-one (λ (y : Held). y ≡ new) x new refl

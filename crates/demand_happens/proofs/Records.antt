@@ -207,7 +207,7 @@ module _ (l : ℕ) (x : Held) where
         this : (y : Held) → Among y (m .pool .held) → maybe false (sameAlarm (alarmAt m i)) (alarmIn i (y .content)) ≡ true → carriedBy m l i ≡ theRecord (y .sequence)
             → (x .sequence ≡ y .sequence) ⊎ (x .sequence ≡ y .sequence → ⊥) → Turn m t room random end
         this y among same f (inl q) =
-            let own : x ≡ y = one-number (run-sound r .good .rising) (w .among) among q in
+            let own : x ≡ y = one-number (run-sound r .good .own .rising) (w .among) among q in
             goes (theAlarm i) is (own-message (m .setup .table) (ownIdentity random) i (alarmAt m i) (x .content) (rw own same)) (f ∙ ap theRecord (sym q))
         this y among same f (inr n) = pass-other (theAlarm i) is (y .sequence) f n refl left
 
@@ -226,7 +226,7 @@ module _ (l : ℕ) (x : Held) where
 
         go : (x .sequence ≡ o .one .sequence) ⊎ (x .sequence ≡ o .one .sequence → ⊥) → Turn m t room random end
         go (inl q) =
-            let own : x ≡ o .one = one-number (run-sound r .good .rising) (w .among) (o .among) q in
+            let own : x ≡ o .one = one-number (run-sound r .good .own .rising) (w .among) (o .among) q in
             goes (theHeld (o .one)) is (rw own) (ap theRecord (sym q))
         go (inr n) = other-record (o .one) is (o .among) before n
 
@@ -239,7 +239,7 @@ module _ (l : ℕ) (x : Held) where
         (λ f. record-turn first (due-record m l t (w .up) early e f (first .one) (first .found))))
       where
         first : Oldest (λ (y : Held). both (eqb (y .link) l) (not (y .sent))) x (m .pool .held)
-        first = oldest (λ (y : Held). both (eqb (y .link) l) (not (y .sent))) (m .pool .held) (run-sound r .good .rising) (w .among) (rw (eq-eqb (x .link) l (w .link), w .unsent))
+        first = oldest (λ (y : Held). both (eqb (y .link) l) (not (y .sent))) (m .pool .held) (run-sound r .good .own .rising) (w .among) (rw (eq-eqb (x .link) l (w .link), w .unsent))
 
     -- a due Watchdog goes first
     pub beaten : nextBeat m l ≤ t → Waits end × (ahead end l x ≤ ahead m l x)

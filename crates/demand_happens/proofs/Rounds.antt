@@ -22,7 +22,7 @@ use Rattle.machine.specs.Life.{close, carriedBy, dueUp, due}
 use Rattle.machine.specs.Answers.{isIgnored, needs, reasons}
 use Rattle.machine.specs.Items.{subscribe, intervals, becomes, aggregates, happens}
 use Rattle.machine.specs.Effects.{connects, closes, ticks, sends, answers, answered, refuses, carriedOut, replying, receives, effectOf}
-use Rattle.machine.specs.Pool.{lose, makeRoom, issue}
+use Rattle.machine.specs.Pool.{lose, loseOf, makeRoom, issue}
 use Rattle.machine.specs.Step.{conditions, step, outcomes, leaves}
 use Rattle.machine.specs.Example.{noon, started, own, quiet, says, alarmNow}
 use Rattle.demand_happens.specs.Records.{Rounds, ahead}
@@ -31,7 +31,7 @@ use Rattle.demand_happens.specs.Example.{inputs, theAggregatedRecord, ho
 use Rattle.demand_happens.proofs.Conversation.{timely}
 
 pub holds-three : leaves (started 2) inputs ≡ holding
-unfolding rawOf charOf readChars decoded skipWs literal readScalar readName readStart readMark readEntry readItems readInside readValue noTwice allOnce once isPacket meaningOf hexDigit lowerHex identityText digits digitsBelow leapOf years months dayOf yearFrom monthFrom dateOf secondText milliText timeText readSecond readDecimals readRest readTime versionIn close carriedBy dueUp due isIgnored needs reasons intervals becomes aggregates happens lose makeRoom issue connects closes ticks sends answers answered refuses carriedOut replying receives effectOf conditions step
+unfolding rawOf charOf readChars decoded skipWs literal readScalar readName readStart readMark readEntry readItems readInside readValue noTwice allOnce once isPacket meaningOf hexDigit lowerHex identityText digits digitsBelow leapOf years months dayOf yearFrom monthFrom dateOf secondText milliText timeText readSecond readDecimals readRest readTime versionIn close carriedBy dueUp due isIgnored needs reasons intervals becomes aggregates happens lose loseOf makeRoom issue connects closes ticks sends answers answered refuses carriedOut replying receives effectOf conditions step
 holds-three = refl
 
 pub three-rounds : Rounds 0 holding 3 threeRounds
@@ -72,7 +72,7 @@ told-three = refl
 
 -- ---- the secondary
 pub holds-one : leaves secondStarted subscribes ≡ updating
-unfolding rawOf charOf readChars decoded skipWs literal readScalar readName readStart readMark readEntry readItems readInside readValue noTwice allOnce once isPacket meaningOf hexDigit lowerHex identityText digits digitsBelow leapOf years months dayOf yearFrom monthFrom dateOf secondText milliText timeText readSecond readDecimals readRest readTime versionIn close carriedBy dueUp due isIgnored needs reasons intervals subscribe becomes aggregates happens lose makeRoom issue connects closes ticks sends answers answered refuses carriedOut replying receives effectOf conditions step
+unfolding rawOf charOf readChars decoded skipWs literal readScalar readName readStart readMark readEntry readItems readInside readValue noTwice allOnce once isPacket meaningOf hexDigit lowerHex identityText digits digitsBelow leapOf years months dayOf yearFrom monthFrom dateOf secondText milliText timeText readSecond readDecimals readRest readTime versionIn close carriedBy dueUp due isIgnored needs reasons intervals subscribe becomes aggregates happens lose loseOf makeRoom issue connects closes ticks sends answers answered refuses carriedOut replying receives effectOf conditions step
 holds-one = refl
 
 pub two-rounds : Rounds 0 updating 2 twoRounds

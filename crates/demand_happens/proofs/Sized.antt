@@ -14,7 +14,7 @@ use Rattle.machine.specs.Effects.{connects, closes, late, ticks, ownIdentity, s
 use Rattle.machine.specs.Table.Begins.{begins}
 use Rattle.machine.specs.Step.{step}
 use Rattle.machine.specs.Run.{Past, Run}
-use Rattle.machine.specs.Run.Run.{begun, next}
+use Rattle.machine.specs.Run.Run.{begun, begun-beside, next, other-starts, other-calls}
 use Rattle.demand_held.proofs.Lists.{maybe-cases, length-changed}
 use Rattle.demand_held.proofs.Steps.{step-done, step-refused}
 use Rattle.demand_told.proofs.GreetedDemand.{by-number, same-setup}
@@ -105,4 +105,7 @@ module _ (m : Machine) where
 
 pub run-sized : {s : Start} {h : List Past} {m : Machine} → Run s h m → length (m .lives) ≡ m .setup .links
 run-sized {s} (begun (begins {t} a e g)) = length-replicate {A = Life} (s .links) (fresh false)
+run-sized {s} (begun-beside (begins {t} a e g) o two) = length-replicate {A = Life} (s .links) (fresh false)
+run-sized (other-starts r b two) = run-sized r
+run-sized (other-calls r q n c) = run-sized r
 run-sized (next {m} c r) = step-sized m c ∙ run-sized r ∙ ap (λ (u : Setup). u .links) (sym (same-setup r c))

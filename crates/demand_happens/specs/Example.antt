@@ -16,7 +16,7 @@ use Rattle.machine.specs.Run.{Past, past}
 use Rattle.machine.specs.Example.{table, noon, started, later, atNoon, random, pumped, gets, asks, greeting, up}
 
 abbrev pub start : Start
-start = record { table = tableBytes 2 table; links = 2; primary = some 0; period = 60; first = 0; time = noon }
+start = record { site = 0; table = tableBytes 2 table; links = 2; primary = some 0; period = 60; first = 0; time = noon }
 
 -- the history that calls make of one
 abbrev pub pasts : List Past → Machine → List Call → List Past
@@ -66,7 +66,7 @@ threeRounds =
 
 -- ---- link 0 as a secondary, and a subscription of it after the greeting: a record of the status, which has no value so far
 abbrev pub secondStart : Start
-secondStart = record { table = tableBytes 2 table; links = 2; primary = some 1; period = 60; first = 0; time = noon }
+secondStart = record { site = 0; table = tableBytes 2 table; links = 2; primary = some 1; period = 60; first = 0; time = noon }
 
 abbrev pub secondStarted : Machine
 secondStarted = first table secondStart

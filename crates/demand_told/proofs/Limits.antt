@@ -12,7 +12,7 @@ use Rattle.machine.specs.Pool.{issue, issueAll}
 use Rattle.machine.specs.Effects.{connects, closes, sends, ownIdentity, effectOf}
 use Rattle.machine.specs.Step.{sequenceEnds, conditions, numberOf, step}
 use Rattle.machine.specs.Run.{Past, Run}
-use Rattle.machine.specs.Run.Run.{begun, next}
+use Rattle.machine.specs.Run.Run.{begun, begun-beside, next, other-starts, other-calls}
 use Rattle.demand_held.proofs.Lists.{maybe-cases, Each}
 use Rattle.demand_held.proofs.Lists.Each.{no-more, one-more}
 use Rattle.demand_held.proofs.Good.{Good}
@@ -79,4 +79,7 @@ first-limit s g =
 
 pub run-limit : {s : Start} {h : List Past} {m : Machine} → Run s h m → m .pool .next ≤ suc lastSequence
 run-limit {s} (begun (begins {t} a e g)) = first-limit s g
+run-limit {s} (begun-beside (begins {t} a e g) o two) = first-limit s g
+run-limit (other-starts r b two) = run-limit r
+run-limit (other-calls r q n c) = run-limit r
 run-limit (next {m} c r) = step-limit m (run-sound r) c (run-limit r)
