@@ -1,6 +1,6 @@
 -- A call that is not of link l makes no more records of it go before one that is held.
 -- Assumes nothing.
-use Rattle.basis.proofs.Std.{ℕ, _≤_, _<_, String, _≡_, refl, sym, _∙_, Bool, true, false, not, List, [], _∷_, map, Option, some, none, eqb, ltb, leb, arith, eqb-true, ne-eqb, lt-leb, pick, both, bit, count, picked, bool-cases, both-false}
+use Rattle.basis.proofs.Std.{ℕ, _%_, _≤_, _<_, String, _≡_, refl, sym, _∙_, Bool, true, false, not, List, [], _∷_, map, Option, some, none, eqb, ltb, leb, arith, eqb-true, ne-eqb, lt-leb, pick, both, bit, count, picked, bool-cases, both-false}
 use Rattle.json_value.specs.Grammar.{Json}
 use Rattle.write_message.specs.Message.{Message}
 use Rattle.machine.specs.Words.{Bytes, isNumber, any}
@@ -9,7 +9,7 @@ use Rattle.machine.specs.State.Act.{connect, disconnect, packet, alarmInput, st
 use Rattle.machine.specs.Json.{readPacket, stringOf, isType, asksFor}
 use Rattle.machine.specs.Life.{unsent, close, closeAll, awaitedBy, Due, due}
 use Rattle.machine.specs.Answers.{isAnswer, wantsReply, repliesAtOnce, reasonOf, failsCheck}
-use Rattle.machine.specs.Pool.{isFor, holds, isFull, fullest, lose, makeRoom, issue, issueAll, marked}
+use Rattle.machine.specs.Pool.{isFor, holds, isFull, isOwn, fullest, lose, loseOf, makeRoom, issue, issueAll, marked}
 use Rattle.machine.specs.Items.{isNew, happens, subscribe, unsubscribe, intervals, becomes, commands, aggregates}
 use Rattle.machine.specs.Effects.{connects, closes, late, ticks, ownIdentity, carried, sentAs, sends, answerCloses, answers, answered, refuses, carriedOut, replying, receives, effectOf}
 use Rattle.demand_held.proofs.Lists.{maybe-cases, bit-false, count-last, count-left, count-keep, count-map}
@@ -54,12 +54,16 @@ module _ (l n : ℕ) where
     abbrev Room : Pool → Type 0
     Room q = (Before (q .held) ≤ Before (p .held)) × (q .next ≡ p .next)
 
+    stolen-before : Room (loseOf (fullest p) p)
+    unfolding loseOf
+    stolen-before = picked Room (isOwn p (fullest p)) _ _ (λ e. (lost-before (fullest p % 4), lost-next (fullest p % 4))) (λ e. (omega arith, refl))
+
     room-before : (s : ℕ) → Room (makeRoom s p)
     unfolding makeRoom
     room-before s =
         picked Room (leb 64 (holds p s)) _ _ (λ e. (lost-before s, lost-next s))
         (λ e. picked Room (not (isFull p)) _ _ (λ e. (omega arith, refl))
-        (λ e. picked Room (ltb (holds p s) 16) _ _ (λ e. (lost-before (fullest p), lost-next (fullest p))) (λ e. (lost-before s, lost-next s))))
+        (λ e. picked Room (ltb (holds p s) 16) _ _ (λ e. stolen-before) (λ e. (lost-before s, lost-next s))))
 
     issue-before : (i : Issued) → (Before (issue i p .held) ≤ Before (p .held)) × (n < issue i p .next)
     unfolding issue

@@ -18,7 +18,7 @@ use Rattle.machine.specs.Messages.{includedMessage}
 use Rattle.machine.specs.Effects.{connects, closes, late, ticks, ownIdentity, sentAs, afterSending, markSent, sends, answerCloses, acknowledges, settle, answers, answered, refuses, agreed, carriedOut, replyMessage, replying, receives, effectOf}
 use Rattle.machine.specs.Step.{outcome}
 use Rattle.machine.specs.Run.{Past, Run}
-use Rattle.machine.specs.Run.Run.{begun, next}
+use Rattle.machine.specs.Run.Run.{begun, begun-beside, next, other-starts, other-calls}
 use Rattle.demand_held.proofs.Lists.{maybe-cases}
 use Rattle.demand_held.proofs.Steps.{step-done, step-refused}
 use Rattle.demand_told.specs.Demand.{linkOf}
@@ -264,6 +264,9 @@ module _ (l : ℕ) where
 
 pub run-told : {s : Start} {h : List Past} {m : Machine} → Run s h m → (l : ℕ) → Told l h (lifeAt m l)
 run-told {s} (begun (begins {t} x e g)) l = all-same (fresh false) (Told l []) (s .links) l (untaken l [] false)
+run-told {s} (begun-beside (begins {t} x e g) o two) l = all-same (fresh false) (Told l []) (s .links) l (untaken l [] false)
+run-told (other-starts r b two) l = run-told r l
+run-told (other-calls r q n c) l = run-told r l
 run-told (next {h} {m} c r) l =
     by-number m c
     (λ e. rw (step-done m c e) (goes l h m (run-told r l) (c .time) (c .act)))

@@ -73,7 +73,7 @@ module _ {s : Start} {h : List Past} {m : Machine} (run : Run s h m) (typed : Ea
   unfolding reading
   record-shown x a own =
       subst Tells (held-entry run typed id x a .1)
-      (a-record (among-map recordBytes (among-keep (isFor l) own a)) (reads (held-entry run typed id x a .0) refl))
+      (a-record (among-map (recordBytes (m .pool .site)) (among-keep (isFor l) own a)) (reads (held-entry run typed id x a .0) refl))
 
   due-told : (d : Due) → There m l d → Tells (dueMessage m t id d)
   due-told theVersion there = our-version

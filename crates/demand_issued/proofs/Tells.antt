@@ -24,12 +24,12 @@ use Rattle.machine.specs.State.{Event, eventNumber, Alarm, Content, issuedFor, 
 use Rattle.machine.specs.State.Event.{Issue, Acknowledge, Suspend}
 use Rattle.machine.specs.State.Content.{ofAlarm, ofStatus, ofAggregated}
 use Rattle.machine.specs.Table.{componentText, statusRow}
-use Rattle.machine.specs.Pool.{isFor}
+use Rattle.machine.specs.Pool.{isFor, ownerOf}
 use Rattle.machine.specs.Messages.{valueOf, recordMessage}
 use Rattle.machine.specs.Readings.{entryFor, statusEntry, recordBytes, reading}
 use Rattle.machine.specs.Table.Begins.{begins}
 use Rattle.machine.specs.Run.{Past, Run}
-use Rattle.machine.specs.Run.Run.{begun, next}
+use Rattle.machine.specs.Run.Run.{begun, begun-beside, next, other-starts, other-calls}
 use Rattle.demand_held.specs.Held.{IsHeld}
 use Rattle.demand_held.specs.Held.IsHeld.{held}
 use Rattle.demand_held.proofs.Lists.{MapOf, among-mapped, among-kept}
@@ -61,10 +61,13 @@ accepted-same e = cc
 -- "link count [1 to 4]"
 run-links : {s : Start} {h : List Past} {m : Machine} → Run s h m → m .setup .links ≤ 4
 run-links {s} (begun (begins x e g)) = leb-true (s .links) 4 (both-true (leb (s .links) 4) _ (both-true (leb 1 (s .links)) _ g .1) .0)
+run-links {s} (begun-beside (begins x e g) o two) = leb-true (s .links) 4 (both-true (leb (s .links) 4) _ (both-true (leb 1 (s .links)) _ g .1) .0)
+run-links (other-starts r b two) = run-links r
+run-links (other-calls r q n c) = run-links r
 run-links (next c r) = rw (same-setup r c) (run-links r)
 
 -- ---- a held record's entry is valid
-module _ (t : Table) (link sequence : ℕ) (linked : link < 4) (numbered : sequence < 2 ^ 32) (alarms : length (t .alarms) ≤ 32) (rows : length (t .statuses) ≤ 32) where
+module _ (t : Table) (link sequence : ℕ) (linked : link < 8) (numbered : sequence < 2 ^ 31) (alarms : length (t .alarms) ≤ 32) (rows : length (t .statuses) ≤ 32) where
   status-valid : (i time : ℕ) (old : Bool) (o : Option ℤ) → Tellable t (ofStatus i o old time) → Valid (statusEntry link i old time sequence o)
   status-valid i time old none h =
       record {
@@ -146,35 +149,38 @@ module _ {s : Start} {h : List Past} {m : Machine} (run : Run s h m) (typed : Ea
 
   -- a held record's entry is valid and says its message
   module _ (x : Held) (a : Among x (m .pool .held)) where
+    abbrev owner : ℕ
+    owner = ownerOf (m .pool .site) (x .link)
+
     abbrev entry : Entry
-    entry = entryFor (x .link) (x .sequence) (x .content)
+    entry = entryFor owner (x .sequence) (x .content)
 
     told : Tellable table (x .content)
     told = each-among (run-sane run typed .held) a
 
-    linked : x .link < 4
-    linked = omega (arith, each-among (run-sound run .good .links) a, run-sound run .counts, run-links run)
+    linked : owner < 8
+    linked = omega (arith, each-among (run-sound run .good .own .links) a, run-sound run .counts, run-links run, run-sound run .good .site)
 
-    numbered : x .sequence < 2 ^ 32
+    numbered : x .sequence < 2 ^ 31
     numbered = omega (arith, held-below (m .pool) (run-sound run .good) (issuedFor (x .link) (x .content)) (x .sequence) (held a refl refl refl), run-limit run)
 
     pub held-entry : Valid entry × (messageOf table id entry ≡ recordMessage table id (x .content))
     held-entry =
         let alarms : length (table .alarms) ≤ 32 = run-sane run typed .table .most-alarms in
         let rows : length (table .statuses) ≤ 32 = run-sane run typed .table .most-statuses in
-        (entry-valid table (x .link) (x .sequence) linked numbered alarms rows (x .content) told, entry-message table (x .link) (x .sequence) linked numbered alarms rows id (x .content) told)
+        (entry-valid table owner (x .sequence) linked numbered alarms rows (x .content) told, entry-message table owner (x .sequence) linked numbered alarms rows id (x .content) told)
 
-    of-held : (e : Entry) → Reads (recordBytes x) (Accepted e) → (e .sequence ≡ x .sequence) × (messageOf table id e ≡ recordMessage table id (x .content))
+    of-held : (e : Entry) → Reads (recordBytes (m .pool .site) x) (Accepted e) → (e .sequence ≡ x .sequence) × (messageOf table id e ≡ recordMessage table id (x .content))
     of-held e r = (ap (λ (y : Entry). y .sequence) same ∙ sequence-of (x .content), ap (messageOf table id) same ∙ held-entry .1)
       where
         same : e ≡ entry
         same = accepted-same (round-trip (held-entry .0) r)
 
-        status-sequence : (i time : ℕ) (old : Bool) (o : Option ℤ) → statusEntry (x .link) i old time (x .sequence) o .sequence ≡ x .sequence
+        status-sequence : (i time : ℕ) (old : Bool) (o : Option ℤ) → statusEntry owner i old time (x .sequence) o .sequence ≡ x .sequence
         status-sequence i time old none = refl
         status-sequence i time old (some v) = refl
 
-        sequence-of : (y : Content) → entryFor (x .link) (x .sequence) y .sequence ≡ x .sequence
+        sequence-of : (y : Content) → entryFor owner (x .sequence) y .sequence ≡ x .sequence
         sequence-of (ofAlarm i b) = refl
         sequence-of (ofStatus i v old time) = status-sequence i time old v
         sequence-of (ofAggregated v time) = refl
@@ -182,13 +188,13 @@ module _ {s : Start} {h : List Past} {m : Machine} (run : Run s h m) (typed : Ea
   shown : (l n : ℕ) (content : Content) (bytes : Bytes) (e : Entry) → IsHeld (issuedFor l content) n (m .pool .held) → Among bytes (reading m l .records) → Reads bytes (Accepted e) → e .sequence ≡ n
       → recordMessage table id content ≡ messageOf table id e
   unfolding reading
-  shown l n content bytes e (held {h = y} i own same number) a r f = go (among-mapped recordBytes (keep (isFor l) (m .pool .held)) a)
+  shown l n content bytes e (held {h = y} i own same number) a r f = go (among-mapped (recordBytes (m .pool .site)) (keep (isFor l) (m .pool .held)) a)
     where
-      go : MapOf recordBytes bytes (keep (isFor l) (m .pool .held)) → recordMessage table id content ≡ messageOf table id e
+      go : MapOf (recordBytes (m .pool .site)) bytes (keep (isFor l) (m .pool .held)) → recordMessage table id content ≡ messageOf table id e
       go x =
           let from : Among (x .of) (m .pool .held) = among-kept (isFor l) (m .pool .held) (x .among) in
           let both : (e .sequence ≡ x .of .sequence) × (messageOf table id e ≡ recordMessage table id (x .of .content)) = of-held (x .of) from e (rw (x .is) r) in
-          let one : x .of ≡ y = one-number (run-sound run .good .rising) from i (sym (both .0) ∙ f ∙ sym number) in
+          let one : x .of ≡ y = one-number (run-sound run .good .own .rising) from i (sym (both .0) ∙ f ∙ sym number) in
           sym (both .1 ∙ ap (λ (z : Held). recordMessage table id (z .content)) one ∙ ap (recordMessage table id) same)
 
 earlier : {l : ℕ} {id : Bytes} {from h : List Past} → Unanswered l id from h → EachTyped h → EachTyped from

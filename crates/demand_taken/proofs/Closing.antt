@@ -17,7 +17,7 @@ use Rattle.machine.specs.Answers.{isAnswer, isIgnored, isUnexpected, reasons, r
 use Rattle.machine.specs.Effects.{ownIdentity, closes, refusal, refuses, answerCloses, answers, answered, receives}
 use Rattle.machine.specs.Step.{isReplied, step}
 use Rattle.machine.specs.Run.{Past, Run}
-use Rattle.machine.specs.Run.Run.{next}
+use Rattle.machine.specs.Run.Run.{next, other-starts, other-calls}
 use Rattle.demand_held.proofs.Lists.{Each}
 use Rattle.demand_held.proofs.Lists.Each.{no-more, one-more}
 use Rattle.demand_held.proofs.Steps.{step-done}
@@ -188,24 +188,26 @@ module _ {s : Start} {h : List Past} {m : Machine} (r : Run s h m) (l : ℕ) whe
   unfolding reading
   chooses v w = run-chooses m l r v w .1
 
-judged : {s : Start} {p : Past} {h : List Past} {m : Machine} → Run s (p ∷ h) m → (l : ℕ) (j : Json) → Came l j p → isType "Version" j ≡ true
-    → (id : Bytes) → Among (ack id) (messagesOf (p .gave)) → Judged m l j (thisLife l h)
-judged (next {h} {m} c r) l j (came {random} {bytes} {room} is read gave) typed id a =
+judged : {s : Start} {p : Past} {h : List Past} {m : Machine} → Run s (p ∷ h) m → (u : Machine) → u .setup ≡ m .setup
+    → (l : ℕ) (j : Json) → Came l j p → isType "Version" j ≡ true → (id : Bytes) → Among (ack id) (messagesOf (p .gave)) → Judged u l j (thisLife l h)
+judged (next {h} {m} c r) u same l j (came {random} {bytes} {room} is read gave) typed id a =
     let unrefused = acked-heard m (c .time) l room random bytes j read c refl is (ack id) refl a .reason in
     let flags = sent-not-taken m l j unrefused typed in
     let went = run-greets l r .went (no-not (lifeAt m l .versions .sent) (flags .0)) in
     record {
       id = went .id;
       went = went .within;
-      only-one = λ v w. not-both (run-chooses (step m c .1) l r v w .0) (flags .1);
+      only-one = λ v w. not-both (run-chooses u l r v w .0) (flags .1);
       version = orElse [] (common j);
-      good = checked (step m c .1) m (same-setup r c) l j unrefused typed;
+      good = checked u m (same ∙ same-setup r c) l j unrefused typed;
     }
+judged (other-starts r b two) u same l j k typed id a = judged r u same l j k typed id a
+judged (other-calls r q n c) u same l j k typed id a = judged r u same l j k typed id a
 
 pub demand-closing : DemandClosing
 demand-closing =
     record {
-      judged = λ s p h m r. judged r;
+      judged = λ s p h m r. judged r m refl;
       failed = λ s h m r l t room random bytes j configured id went none-taken arrives formed typed reason f.
           check-failed r l t room random bytes j configured id arrives went none-taken formed typed reason f;
       version-refused = λ s h m r l t room random bytes j configured id u arrives typed says. version-refused r l t room random bytes j configured id arrives u typed says;

@@ -17,7 +17,7 @@ use Rattle.machine.specs.Messages.{commandEntry}
 use Rattle.machine.specs.Effects.{ownIdentity, carriedOut, replying, receives, effectOf}
 use Rattle.machine.specs.Step.{isReplied, conditions, numberOf, outcome, step}
 use Rattle.machine.specs.Run.{Past, Run}
-use Rattle.machine.specs.Run.Run.{begun, next}
+use Rattle.machine.specs.Run.Run.{begun, begun-beside, next, other-starts, other-calls}
 use Rattle.demand_held.proofs.Lists.{Each}
 use Rattle.demand_held.proofs.Lists.Each.{no-more, one-more}
 use Rattle.demand_held.proofs.Steps.{step-done}
@@ -44,6 +44,9 @@ record HasTable (m : Machine) : Type 0 where
 
 run-table : {s : Start} {h : List Past} {m : Machine} → Run s h m → HasTable m
 run-table (begun (begins {edition} {t} a e g)) = record { edition = edition; allowed = a }
+run-table (begun-beside (begins {edition} {t} a e g) o two) = record { edition = edition; allowed = a }
+run-table (other-starts r b two) = let t = run-table r in record { edition = t .edition; allowed = t .allowed }
+run-table (other-calls r q n c) = let t = run-table r in record { edition = t .edition; allowed = t .allowed }
 run-table (next {h} {m} c r) = let t = run-table r in record { edition = t .edition; allowed = rw (same-setup r c) (t .allowed) }
 
 abbrev Valued : Json → Type 0

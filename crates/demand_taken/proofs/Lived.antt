@@ -11,7 +11,7 @@ use Rattle.machine.specs.Effects.{connects, closes, late, ticks, effectOf}
 use Rattle.machine.specs.Items.{intervals}
 use Rattle.machine.specs.Step.{conditions, outcome}
 use Rattle.machine.specs.Run.{Past, Run}
-use Rattle.machine.specs.Run.Run.{begun, next}
+use Rattle.machine.specs.Run.Run.{begun, begun-beside, next, other-starts, other-calls}
 use Rattle.demand_held.proofs.Steps.{step-done, step-refused}
 use Rattle.demand_told.specs.Demand.{messagesOf, linkOf}
 use Rattle.demand_told.specs.Life.{isDone, connectedBy, goingOn, lived, thisLife}
@@ -122,6 +122,9 @@ module _ (s : Start) (l : ℕ) (Inv : Life → List Past → Type 0) (down : Inv
 
   pub by-life : {h : List Past} {m : Machine} → Run s h m → Inv (lifeAt m l) (thisLife l h)
   by-life (begun (begins {t} a e g)) = all-same (fresh false) (λ k. Inv k []) (s .links) l down
+  by-life (begun-beside (begins {t} a e g) o two) = all-same (fresh false) (λ k. Inv k []) (s .links) l down
+  by-life (other-starts r b two) = by-life r
+  by-life (other-calls r q n c) = by-life r
   by-life (next {h} {m} c r) =
       by-number m c
       (λ e. rw (step-done m c e) (after h m r (by-life r) (c .time) (c .act) e))

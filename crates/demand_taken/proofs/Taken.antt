@@ -1,6 +1,6 @@
 -- What is taken is taken of a greeted link, and what is to be heard is heard.
 -- Assumes nothing.
-use Rattle.basis.proofs.Std.{ℕ, _≡_, refl, ap, subst, Bool, true, false, not, List, [], _∷_, some, _⊎_, inl, inr, arith, pick, both, Among, not-both}
+use Rattle.basis.proofs.Std.{ℕ, _≡_, refl, _∙_, ap, subst, Bool, true, false, not, List, [], _∷_, some, _⊎_, inl, inr, arith, pick, both, Among, not-both}
 use Rattle.identity.specs.Read.{Says}
 use Rattle.json_value.specs.Grammar.{Json}
 use Rattle.write_message.specs.Message.{Message}
@@ -15,7 +15,7 @@ use Rattle.machine.specs.Answers.{isIgnored}
 use Rattle.machine.specs.Effects.{effectOf}
 use Rattle.machine.specs.Step.{conditions, outcome, step}
 use Rattle.machine.specs.Run.{Past, Run}
-use Rattle.machine.specs.Run.Run.{next}
+use Rattle.machine.specs.Run.Run.{next, other-starts, other-calls}
 use Rattle.demand_held.proofs.Lists.{Each}
 use Rattle.demand_held.proofs.Lists.Each.{no-more, one-more}
 use Rattle.demand_held.proofs.Steps.{step-done, step-refused}
@@ -33,32 +33,38 @@ use Rattle.demand_taken.proofs.Acked.{isAck, acked-heard, heard-up}
 use Rattle.demand_taken.proofs.Handed.{acks-so, nothing-else}
 
 module _ {s : Start} {h : List Past} {m : Machine} (r : Run s h m) (c : Call) where
-  acked-greeted : (l room : ℕ) (random bytes : Bytes) (j : Json) → c .act ≡ packet l random bytes room → readPacket bytes ≡ some j → isType "Version" j ≡ false → isType "Watchdog" j ≡ false
-      → (x : Message) → isAck x ≡ true → Among x (messagesOf (step m c .0)) → Greeted (step m c .1) l (thisLife l h)
-  acked-greeted l room random bytes j is read v w x acks a =
-      greeted (step m c .1) l (lifeAt m l) (thisLife l h) (run-kept r (step m c .1) (same-setup r c) l)
-      (heard-up m (c .time) l room random bytes j read (acked-heard m (c .time) l room random bytes j read c refl is x acks a) v w)
+  -- u is the machine that the call leaves, or that again when the other site has had its turns
+  module _ (u : Machine) (same : u .setup ≡ step m c .1 .setup) where
+    acked-greeted : (l room : ℕ) (random bytes : Bytes) (j : Json) → c .act ≡ packet l random bytes room → readPacket bytes ≡ some j → isType "Version" j ≡ false → isType "Watchdog" j ≡ false
+        → (x : Message) → isAck x ≡ true → Among x (messagesOf (step m c .0)) → Greeted u l (thisLife l h)
+    acked-greeted l room random bytes j is read v w x acks a =
+        greeted u l (lifeAt m l) (thisLife l h) (run-kept r u (same ∙ same-setup r c) l)
+        (heard-up m (c .time) l room random bytes j read (acked-heard m (c .time) l room random bytes j read c refl is x acks a) v w)
 
-  cause-greeted : (q : Cause m c) → Greeted (step m c .1) (q .link) (thisLife (q .link) h)
-  cause-greeted q =
-      acked-greeted (q .link) (q .room) (q .random) (q .bytes) (q .json) (q .is-packet) (q .is-read)
-      (asks-only "CommandRequest" "Version" refl refl (q .json) (q .asked .typed)) (asks-only "CommandRequest" "Watchdog" refl refl (q .json) (q .asked .typed))
-      (q .answer) (acks-so (q .acknowledged)) (q .told)
+    cause-greeted : (q : Cause m c) → Greeted u (q .link) (thisLife (q .link) h)
+    cause-greeted q =
+        acked-greeted (q .link) (q .room) (q .random) (q .bytes) (q .json) (q .is-packet) (q .is-read)
+        (asks-only "CommandRequest" "Version" refl refl (q .json) (q .asked .typed)) (asks-only "CommandRequest" "Watchdog" refl refl (q .json) (q .asked .typed))
+        (q .answer) (acks-so (q .acknowledged)) (q .told)
 
-  handed-greeted : (x : Command) → Among x (commandsOf (step m c .0)) → (l : ℕ) → linkOf (c .act) ≡ some l → Greeted (step m c .1) l (thisLife l h)
-  handed-greeted x a l e =
-      let q = nothing-else m c x a in
-      let same : q .link ≡ l = cc (e, q .is-packet) in
-      subst (λ (k : ℕ). Greeted (step m c .1) k (thisLife k h)) same (cause-greeted q)
+    handed-greeted : (x : Command) → Among x (commandsOf (step m c .0)) → (l : ℕ) → linkOf (c .act) ≡ some l → Greeted u l (thisLife l h)
+    handed-greeted x a l e =
+        let q = nothing-else m c x a in
+        let same : q .link ≡ l = cc (e, q .is-packet) in
+        subst (λ (k : ℕ). Greeted u k (thisLife k h)) same (cause-greeted q)
 
-taken : {s : Start} {p : Past} {h : List Past} {m : Machine} → Run s (p ∷ h) m
+taken : {s : Start} {p : Past} {h : List Past} {m : Machine} → Run s (p ∷ h) m → (u : Machine) → u .setup ≡ m .setup
     → (l : ℕ) (j : Json) → Came l j p → isType "Version" j ≡ false → isType "Watchdog" j ≡ false
-    → (id : Bytes) → Among (ack id) (messagesOf (p .gave)) → Greeted m l (thisLife l h)
-taken (next c r) l j (came {random} {bytes} {room} is read gave) v w id = acked-greeted r c l room random bytes j is read v w (ack id) refl
+    → (id : Bytes) → Among (ack id) (messagesOf (p .gave)) → Greeted u l (thisLife l h)
+taken (next c r) u same l j (came {random} {bytes} {room} is read gave) v w id a = acked-greeted r c u same l room random bytes j is read v w (ack id) refl a
+taken (other-starts r b two) u same l j k v w id a = taken r u same l j k v w id a
+taken (other-calls r q n c) u same l j k v w id a = taken r u same l j k v w id a
 
-handed : {s : Start} {p : Past} {h : List Past} {m : Machine} → Run s (p ∷ h) m
-    → (x : Command) → Among x (commandsOf (p .gave)) → (l : ℕ) → linkOf (p .call .act) ≡ some l → Greeted m l (thisLife l h)
-handed (next c r) = handed-greeted r c
+handed : {s : Start} {p : Past} {h : List Past} {m : Machine} → Run s (p ∷ h) m → (u : Machine) → u .setup ≡ m .setup
+    → (x : Command) → Among x (commandsOf (p .gave)) → (l : ℕ) → linkOf (p .call .act) ≡ some l → Greeted u l (thisLife l h)
+handed (next c r) u same x a l e = handed-greeted r c u same x a l e
+handed (other-starts r b two) u same x a l e = handed r u same x a l e
+handed (other-calls r q n c) u same x a l e = handed r u same x a l e
 
 -- ---- number 1
 heard-by : (k : Life) (j : Json) → isType "MessageAck" j ≡ false → isType "MessageNotAck" j ≡ false → (id : Bytes) → Says (stringOf "mId" j) id
@@ -106,7 +112,7 @@ module _ (m : Machine) (t l room : ℕ) (random bytes : Bytes) (j : Json) (read 
 pub demand-taken : DemandTaken
 demand-taken =
     record {
-      taken = λ s p h m r. taken r;
-      handed = λ s p h m r. handed r;
+      taken = λ s p h m r. taken r m refl;
+      handed = λ s p h m r. handed r m refl;
       heard = λ m t l room random bytes j read a n id says greets. unrefused m t l room random bytes j read (heard-by (lifeAt m l) j a n id says greets);
     }
