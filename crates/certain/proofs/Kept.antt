@@ -24,6 +24,8 @@ use Rattle.demand_told.proofs.VersionDemand.{demand-version}
 use Rattle.demand_told.proofs.IncludedDemand.{demand-included}
 use Rattle.demand_told.proofs.ReadDemand.{demand-read}
 use Rattle.demand_held.proofs.Demand.{demand3}
+use Rattle.demand_apart.proofs.Apart.{demand-apart}
+use Rattle.demand_apart.proofs.Example.{apart-example}
 use Rattle.demand_carried.proofs.Demand.{demand-carried}
 use Rattle.demand_carried.proofs.Marked.{demand-marked}
 use Rattle.demand_issued.proofs.Tells.{demand-tells}
@@ -64,6 +66,8 @@ demands =
       pumped = demand-pumps;
       telling-records = demand-tells;
       keeping = demand3;
+      keeping-apart = demand-apart;
+      apart-example = apart-example;
       carrying = demand-carried;
       marking = demand-marked;
       pumping = pumping;

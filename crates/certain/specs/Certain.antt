@@ -46,6 +46,8 @@ use Rattle.demand_told.specs.VersionDemand.{DemandVersion}
 use Rattle.demand_told.specs.IncludedDemand.{DemandIncluded}
 use Rattle.demand_told.specs.ReadDemand.{DemandRead}
 use Rattle.demand_held.specs.Demand.{Demand3}
+use Rattle.demand_apart.specs.Apart.{DemandApart}
+use Rattle.demand_apart.specs.Example.{ApartExample}
 use Rattle.demand_carried.specs.Demand.{DemandCarried}
 use Rattle.demand_carried.specs.Marked.{DemandMarked}
 use Rattle.demand_issued.specs.Tells.{DemandTells}
@@ -95,8 +97,12 @@ pub record Demands : Type 0 where
   pub pumped : DemandPumps
   pub telling-records : DemandTells
   -- 3. "a record issued for a supervisor stays held until that supervisor answers a message carrying it, or until a call issues a record after
-  -- which at least 16 newer records for the same supervisor are held. None ever has more than 64 held."
+  -- which at least 16 newer records for the same supervisor are held. None ever has more than 64 held." Request 10: of each of eight owners
   pub keeping : Demand3
+  -- request 10: "in every sequence where no record is issued while the pool is full, the numbers and bytes of one site are the same as if the other's
+  -- calls had never been made"; such a sequence, and one where the pool is full
+  pub keeping-apart : DemandApart
+  pub apart-example : ApartExample
   -- "a message carrying it": one that told the record, went out on its link in this life of it, and was not answered since
   pub carrying : DemandCarried
   -- "the oldest held record not sent": a record is marked sent exactly while its link awaits an answer to a message that carries it
@@ -150,6 +156,6 @@ pub record Certain : Type 1 where
   -- the cases that document 01 marks, and a conversation from bytes to bytes
   pub marked : Marked
   pub conversation : Conversation
-  -- a case, or several, of each rule of document 01 and of requests 01, 02, 04, 05 and 07
+  -- a case, or several, of each rule of document 01 and of requests 01, 02, 04, 05, 07 and 10
   pub cases : Cases
   pub weekly : Weekly

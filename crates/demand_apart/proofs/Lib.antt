@@ -2,3 +2,4 @@
 pub mod Natural
 pub mod Issue
 pub mod Apart
+pub mod Example

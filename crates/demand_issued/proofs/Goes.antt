@@ -6,7 +6,7 @@ use Rattle.json_value.specs.Grammar.{Json}
 use Rattle.table_whole.specs.Table.{Row, Table}
 use Rattle.write_message.specs.Message.{Message}
 use Rattle.machine.specs.Words.{Bytes, isSome, orElse, any, firstOf}
-use Rattle.machine.specs.State.{Alarm, alarmOf, Pool, Awaited, Life, Setup, Start, Machine, withLife, lifeAt, alarmAt, valueAt, Act, Call, Outcome, Effect, only}
+use Rattle.machine.specs.State.{Alarm, alarmOf, Awaited, Life, Setup, Start, Machine, withLife, lifeAt, alarmAt, valueAt, Act, Call, Outcome, Effect, only}
 use Rattle.machine.specs.State.Event.{Issue}
 use Rattle.machine.specs.State.Sent.{noRecord}
 use Rattle.machine.specs.State.Outcome.{refused}
@@ -17,9 +17,8 @@ use Rattle.machine.specs.Life.{isOver, isUp, isOlder, close, closeAll, awaitedB
 use Rattle.machine.specs.Answers.{isAnswer, isIgnored, componentAsked, alarmAsked, statusAsked, isStatusType, unknownStatus, wantsReply, repliesAtOnce, reasons, reasonOf, failsCheck}
 use Rattle.machine.specs.Items.{withInput, ordered, sameValue, isNew, happens, subscribe, unsubscribe, intervals, becomes, commands, aggregates}
 use Rattle.machine.specs.Effects.{connects, closes, late, ticks, ownIdentity, carried, sentAs, sends, answerCloses, answers, answered, refuses, carriedOut, replying, receives, effectOf}
-use Rattle.machine.specs.Table.{first}
+use Rattle.machine.specs.Table.{first as made}
 use Rattle.machine.specs.Step.{conditions, numberOf, outcome, step}
-use Rattle.machine.specs.Box.{withPool}
 use Rattle.machine.specs.Run.{Past, past, Run}
 use Rattle.machine.specs.Run.Run.{begun, begun-beside, next, other-starts, other-calls}
 use Rattle.demand_held.proofs.Lists.{maybe-cases, Each, length-map}
@@ -301,7 +300,7 @@ start-value [] i = refl
 start-value (r ∷ rows) zero = refl
 start-value (r ∷ rows) (suc i) = start-value rows i
 
-start-kept : (s : Start) (t : Table) → KeptBy (s .time) [] (first t s)
+start-kept : (s : Start) (t : Table) → KeptBy (s .time) [] (made t s)
 start-kept s t =
     record {
       alarm-count = length-map (λ (r : Row). alarmOf false true false Issue (s .time)) (t .alarms);
@@ -313,24 +312,11 @@ start-kept s t =
       subscriptions = λ l i. refl;
     }
 
--- the pool does not count here
-other-pool : {time : ℕ} {h : List Past} {m : Machine} (p : Pool) → KeptBy time h m → KeptBy time h (withPool p m)
-other-pool p k =
-    record {
-      alarm-count = k .alarm-count;
-      status-count = k .status-count;
-      alarms = k .alarms;
-      statuses = k .statuses;
-      aggregate = k .aggregate;
-      change = k .change;
-      subscriptions = k .subscriptions;
-    }
-
 pub run-kept : {s : Start} {h : List Past} {m : Machine} → Run s h m → KeptBy (s .time) h m
 run-kept {s} (begun (begins {t} x e g)) = start-kept s t
-run-kept {s} (begun-beside (begins {t} x e g) o two) = other-pool _ (start-kept s t)
-run-kept (other-starts r b two) = other-pool _ (run-kept r)
-run-kept (other-calls r q n c) = other-pool _ (run-kept r)
+run-kept {s} (begun-beside (begins {t} x e g) o two) = start-kept s t
+run-kept (other-starts r b two) = run-kept r
+run-kept (other-calls r q n c) = run-kept r
 run-kept {s} (next {h = h} {m = m} c r) =
     by-number m c
     (λ e. rw (step-done m c e) (goes (s .time) h m (run-kept r) (run-told r) (c .time) (c .act) e .kept))
