@@ -81,12 +81,12 @@ module _ (P : Entry → Type 0) where
   held-unmark p l a = held-map (unsentFor l) (unsent-place l) (p .places) a
 
   -- each is issued under a number of 32 bits
-  pub held-added : ((e : Entry) (q : ℕ) → q < 4294967296 → P e → P (renumbered e q)) → (n : ℕ) (b : Batch) (es : List Entry) → Each P es
+  pub held-added : ((e : Entry) (q : ℕ) → q < 2147483648 → P e → P (renumbered e q)) → (n : ℕ) (b : Batch) (es : List Entry) → Each P es
       → EachHeld P (b .pool .places) → EachHeld P (addedAll n b es .pool .places)
   unfolding added
   held-added f n b [] h a = a
   held-added f n b (e ∷ es) (g, h) a =
-      held-added f n (added n b e) es h (held-issue n (b .pool) (under e (b .next)) (f e (b .next % 4294967296) (mod-lt (b .next) (lit< tt)) g) a)
+      held-added f n (added n b e) es h (held-issue n (b .pool) (under e (b .next)) (f e (b .next % 2147483648) (mod-lt (b .next) (lit< tt)) g) a)
 
 -- what follows from it holds too
 pub held-so : (P Q : Entry → Type 0) → ((e : Entry) → P e → Q e) → (p : List Place) → EachHeld P p → EachHeld Q p

@@ -59,12 +59,12 @@ pub at-time : (s : Site) (time : ℕ) → Sound s → badTimeAt s time ≡ false
 at-time s time h e = later (s .last) s h time (not-before s time e) (not-above s time e)
 
 -- the numbers of a list that is not spent
-lasting : (p : Pool) (q : ℕ) (es : List Entry) → q ≤ 4294967296 → issuedAll 4 p q es .spent ≡ false → Lasting q es
+lasting : (p : Pool) (q : ℕ) (es : List Entry) → q ≤ 2147483648 → issuedAll 4 p q es .spent ≡ false → Lasting q es
 lasting p q es h e = by es (sym (batched 4 (omega arith) .spent p q es) ∙ e)
   where
-    by : (xs : List Entry) → both (ltb 0 (length xs)) (ltb 4294967296 (q + length xs)) ≡ false → Lasting q xs
+    by : (xs : List Entry) → both (ltb 0 (length xs)) (ltb 2147483648 (q + length xs)) ≡ false → Lasting q xs
     by [] g = omega (arith, h)
-    by (x ∷ xs) g = ltb-false 4294967296 (q + length (x ∷ xs)) (sym (rw (lt-ltb 0 (length (x ∷ xs)) (omega arith)) refl) ∙ g)
+    by (x ∷ xs) g = ltb-false 2147483648 (q + length (x ∷ xs)) (sym (rw (lt-ltb 0 (length (x ∷ xs)) (omega arith)) refl) ∙ g)
 
 pub issued-sound : (time : ℕ) (p : Plan) → SoundPlan time p → batchOf p .spent ≡ false → Sound (withIssued (p .site) (batchOf p) time)
 issued-sound time p h e =

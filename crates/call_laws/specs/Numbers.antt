@@ -27,8 +27,8 @@ pub record Numbers (refuses : Refusal → Bool) (p : Plan) (end : ℕ) : Type 0 
   -- 0 is given exactly when none applies, with the report of the plan
   pub done : None (conditions refuses p) inOrder → answerOf refuses p end ≡ Done (reportOf p end)
   pub done-only-so : (d : Report) → answerOf refuses p end ≡ Done d → None (conditions refuses p) inOrder × (d ≡ reportOf p end)
-  -- 10: the call issues, and the last number that it takes is past 4294967295
-  pub ten : conditions refuses p SequenceSpent ≡ both (ltb 0 (length (p .issued))) (ltb 4294967296 (p .site .next + length (p .issued)))
+  -- 10: the call issues, and the last number that it takes is past 2147483647
+  pub ten : conditions refuses p SequenceSpent ≡ both (ltb 0 (length (p .issued))) (ltb 2147483648 (p .site .next + length (p .issued)))
   -- every other number has the condition of the call's definition
   pub others : (r : Refusal) → (refusalNumber r ≡ 10 → ⊥) → conditions refuses p r ≡ refuses r
   -- 11 is given by start alone

@@ -98,7 +98,7 @@ EntryOf s now = SoundEntry (s .linkcount) (s .primary) (s .table) now
 pub record SoundAt (now : ℕ) (s : Site) : Type 0 where
   pub start : SoundStart (s .linkcount) (s .primary) (s .period) (s .table)
   pub last : now ≤ lastTime
-  pub next : s .next ≤ 4294967296
+  pub next : s .next ≤ 2147483648
   pub links : length (s .links) ≡ 4
   pub subscriptions : SoundSubscriptions (s .linkcount) (s .table .statuscount) (s .subscriptions)
   pub alarms : SoundAlarms now (s .alarms)

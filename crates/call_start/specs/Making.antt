@@ -16,10 +16,10 @@ use Rattle.site.specs.Call.{refused, nothingOf}
 use Rattle.call_start.specs.Fresh.{fresh, primaryOf, noSite}
 
 abbrev pub aLinkOrNone : ℕ → ℕ → Bool
-aLinkOrNone links primary = pick (ltb primary links) true (eqb primary 4294967295)
+aLinkOrNone links primary = pick (ltb primary links) true (eqb primary 2147483647)
 
 unfoldable pub valuesWithin : ℕ → ℕ → ℕ → Bool
-valuesWithin period first time = both (leb 1 period) (both (leb period 3600) (both (leb first 4294967295) (leb time lastTime)))
+valuesWithin period first time = both (leb 1 period) (both (leb period 3600) (both (leb first 2147483647) (leb time lastTime)))
 
 unfoldable pub isWithin : ℕ → ℕ → ℕ → ℕ → ℕ → Bool
 isWithin links primary period first time = both (leb 1 links) (both (leb links 4) (both (aLinkOrNone links primary) (valuesWithin period first time)))

@@ -51,7 +51,7 @@ fn values_within(period: u32, first: u64, time: u64) -> bool
     if 3600 < period {
         return false;
     }
-    if 4294967295 < first {
+    if 2147483647 < first {
         return false;
     }
     time <= answer::LAST_TIME

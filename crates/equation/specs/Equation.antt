@@ -18,10 +18,11 @@ use Rattle.equation.specs.Seen.Ask.{call, held, lost, phase, version, re
 use Rattle.equation.specs.Seen.Seen.{told}
 use Rattle.equation.specs.Contracts.{Starts, Packets, Allows, Run, Free}
 
--- the machine's start; no primary where it is 4294967295
+-- the machine's start, of site 0; no primary where it is 4294967295
 abbrev pub startFor : Bytes → ℕ → ℕ → ℕ → ℕ → ℕ → Start
 startFor table links primary period first time =
     record {
+      site = 0;
       table = table;
       links = links;
       primary = if eqb primary 4294967295 then none else some primary;

@@ -22,11 +22,11 @@ added-append n b [] ys = refl
 added-append n b (e ∷ xs) ys = added-append n (added n b e) xs ys
 
 -- one more, where it can grow
-more-is : (q : ℕ) → q < 4294967296 → moreOf q ≡ q + 1
+more-is : (q : ℕ) → q < 2147483648 → moreOf q ≡ q + 1
 more-is q h = rw (lt-ltb q 18446744073709551615 (omega arith))
 
 -- the number kept is the number taken, where it has 32 bits
-under-is : (e : Entry) (q : ℕ) → q < 4294967296 → under e q ≡ renumbered e q
+under-is : (e : Entry) (q : ℕ) → q < 2147483648 → under e q ≡ renumbered e q
 under-is e q h = ap (renumbered e) (mod-eq-of-lt h)
 
 spent-stays : (n : ℕ) (b : Batch) (es : List Entry) → b .spent ≡ true → addedAll n b es .spent ≡ true
@@ -35,21 +35,21 @@ spent-stays n b [] h = h
 spent-stays n b (e ∷ es) h = spent-stays n (added n b e) es (rw h)
 
 -- the numbers after q are past the limit, where k are left
-spent-tail : (q k : ℕ) → q < 4294967296 → both (ltb 0 k) (ltb 4294967296 (moreOf q + k)) ≡ ltb 4294967296 (q + suc k)
-spent-tail q zero h = sym (le-ltb 4294967296 (q + 1) (omega arith))
-spent-tail q (suc k) h = let m : moreOf q + suc k ≡ q + suc (suc k) = omega (arith, more-is q h) in rw (lt-ltb 0 (suc k) (omega arith)) (ap (ltb 4294967296) m)
+spent-tail : (q k : ℕ) → q < 2147483648 → both (ltb 0 k) (ltb 2147483648 (moreOf q + k)) ≡ ltb 2147483648 (q + suc k)
+spent-tail q zero h = sym (le-ltb 2147483648 (q + 1) (omega arith))
+spent-tail q (suc k) h = let m : moreOf q + suc k ≡ q + suc (suc k) = omega (arith, more-is q h) in rw (lt-ltb 0 (suc k) (omega arith)) (ap (ltb 2147483648) m)
 
-spent-all : (n : ℕ) (b : Batch) (es : List Entry) → b .spent ≡ false → addedAll n b es .spent ≡ both (ltb 0 (length es)) (ltb 4294967296 (b .next + length es))
+spent-all : (n : ℕ) (b : Batch) (es : List Entry) → b .spent ≡ false → addedAll n b es .spent ≡ both (ltb 0 (length es)) (ltb 2147483648 (b .next + length es))
 unfolding added
 spent-all n b [] h = h
-spent-all n b (e ∷ es) h = rw (lt-ltb 0 (suc (length es)) (omega arith)) (by (lt-or-ge (b .next) 4294967296) (spent-all n (added n b e) es))
+spent-all n b (e ∷ es) h = rw (lt-ltb 0 (suc (length es)) (omega arith)) (by (lt-or-ge (b .next) 2147483648) (spent-all n (added n b e) es))
   where
-    by : (b .next < 4294967296) ⊎ (4294967296 ≤ b .next)
-        → (added n b e .spent ≡ false → addedAll n (added n b e) es .spent ≡ both (ltb 0 (length es)) (ltb 4294967296 (moreOf (b .next) + length es)))
-        → addedAll n (added n b e) es .spent ≡ ltb 4294967296 (b .next + suc (length es))
-    by (inl k) rest = rest (rw h (le-ltb 4294967295 (b .next) (omega arith))) ∙ spent-tail (b .next) (length es) k
+    by : (b .next < 2147483648) ⊎ (2147483648 ≤ b .next)
+        → (added n b e .spent ≡ false → addedAll n (added n b e) es .spent ≡ both (ltb 0 (length es)) (ltb 2147483648 (moreOf (b .next) + length es)))
+        → addedAll n (added n b e) es .spent ≡ ltb 2147483648 (b .next + suc (length es))
+    by (inl k) rest = rest (rw h (le-ltb 2147483647 (b .next) (omega arith))) ∙ spent-tail (b .next) (length es) k
     by (inr k) rest =
-        spent-stays n (added n b e) es (rw h (lt-ltb 4294967295 (b .next) (omega arith))) ∙ sym (lt-ltb 4294967296 (b .next + suc (length es)) (omega arith))
+        spent-stays n (added n b e) es (rw h (lt-ltb 2147483647 (b .next) (omega arith))) ∙ sym (lt-ltb 2147483648 (b .next + suc (length es)) (omega arith))
 
 next-all : (n : ℕ) (b : Batch) (es : List Entry) → Lasting (b .next) es → addedAll n b es .next ≡ b .next + length es
 unfolding added
@@ -70,11 +70,11 @@ rising-all n q [] o h = none
 rising-all n q (e ∷ es) o h = then {q = q} {a = Issue (renumbered e q)} (o .0, (omega arith, omega arith)) (rising-all n (q + 1) es (o .1) (omega arith))
 
 module _ (n : ℕ) (small : 16 * n ≤ 128) where
-  step-reached : (b : Batch) (e : Entry) → Reached n (b .pool) (b .next) → e .link < n → b .next < 4294967296 → Reached n (added n b e .pool) (added n b e .next)
+  step-reached : (b : Batch) (e : Entry) → Reached n (b .pool) (b .next) → e .link < n → b .next < 2147483648 → Reached n (added n b e .pool) (added n b e .next)
   unfolding added
   step-reached b e r l h = rw (more-is (b .next) h, under-is e (b .next) h) (after (Issue (renumbered e (b .next))) r (l, (omega arith, h)))
 
-  step-next : (b : Batch) (e : Entry) → b .next < 4294967296 → added n b e .next ≡ b .next + 1
+  step-next : (b : Batch) (e : Entry) → b .next < 2147483648 → added n b e .next ≡ b .next + 1
   unfolding added
   step-next b e h = more-is (b .next) h
 
@@ -91,15 +91,15 @@ module _ (n : ℕ) (small : 16 * n ≤ 128) where
   uncrowded-all b (x ∷ xs) e ys r o h c =
       uncrowded-all (added n b x) xs e ys (step-reached b x r (o .0) (omega arith)) (o .1) (step-lasts b x (xs ++ e ∷ ys) h) c
 
-  may : (b : Batch) (e : Entry) → e .link < n → b .next < 4294967296 → May n (b .next) (Issue (renumbered e (b .next)))
+  may : (b : Batch) (e : Entry) → e .link < n → b .next < 2147483648 → May n (b .next) (Issue (renumbered e (b .next)))
   may b e l h = (l, (omega arith, h))
 
-  step-view : (b : Batch) (e : Entry) → Reached n (b .pool) (b .next) → e .link < n → b .next < 4294967296
+  step-view : (b : Batch) (e : Entry) → Reached n (b .pool) (b .next) → e .link < n → b .next < 2147483648
       → records (added n b e .pool) ≡ issueView n (records (b .pool)) (renumbered e (b .next))
   unfolding added
   step-view b e r l h = rw (under-is e (b .next) h) (fun-ext (viewed n small .issue (b .pool) (b .next) r (renumbered e (b .next)) (may b e l h)))
 
-  step-lost : (b : Batch) (e : Entry) → Reached n (b .pool) (b .next) → e .link < n → b .next < 4294967296 → (m : ℕ)
+  step-lost : (b : Batch) (e : Entry) → Reached n (b .pool) (b .next) → e .link < n → b .next < 2147483648 → (m : ℕ)
       → lostOf (added n b e .pool) m ≡ lostOf (b .pool) m + losses (loserIn n (records (b .pool)) (e .link)) m
   unfolding added
   step-lost b e r l h m = rw (under-is e (b .next) h) (viewed n small .issue-lost (b .pool) (b .next) r (renumbered e (b .next)) (may b e l h) m)

@@ -28,14 +28,14 @@ pub record Inv (n : ℕ) (p : Pool) (q : ℕ) : Type 0 where
   pub most : (l : ℕ) → heldIn (p .places) l ≤ 64
   pub marked : count mismarked (p .places) ≡ 0
   pub lost : (l : ℕ) → lostOf p l ≤ q
-  pub bound : q ≤ 4294967296
+  pub bound : q ≤ 2147483648
 
 replicate-at : (n i : ℕ) → _≡_ {A = ℕ} (getD (replicate n 0) i 0) 0
 replicate-at zero i = refl
 replicate-at (suc n) zero = refl
 replicate-at (suc n) (suc i) = replicate-at n i
 
-pub starts : (n q : ℕ) → q ≤ 4294967296 → Inv n (emptyOf n) q
+pub starts : (n q : ℕ) → q ≤ 2147483648 → Inv n (emptyOf n) q
 unfolding emptyOf
 starts n q h =
     record {

@@ -47,7 +47,7 @@ newer-is m k x e = ltb-true k _ (both-second (of m x) (ltb k (x .entry .sequence
 pub free-not : (l : ℕ) (x : Place) → x .mark ≡ 0 → of l x ≡ false
 free-not l x e = rw e
 
-module _ (n : ℕ) (small : 16 * n ≤ 128) (p : Pool) (q : ℕ) (inv : Inv n p q) (e : Entry) (mine : e .link < n) (rises : q ≤ e .sequence) (fits32 : e .sequence < 4294967296) where
+module _ (n : ℕ) (small : 16 * n ≤ 128) (p : Pool) (q : ℕ) (inv : Inv n p q) (e : Entry) (mine : e .link < n) (rises : q ≤ e .sequence) (fits32 : e .sequence < 2147483648) where
   abbrev pub it : Issued n p e
   it = issued n p e small mine (inv .size) (inv .owned)
 

@@ -52,7 +52,7 @@ module _ (n q : ℕ) (p : Pool) (inv : Inv n p q) (m i : ℕ) (inside : i < leng
           let t : from q (getD (p .places) i noPlace) ≡ true = both-of (of-used m (getD (p .places) i noPlace) o) (le-leb q number a) in
           absurd (omega (arith, count-pos (from q) (p .places) i noPlace inside t, inv .fresh))
 
-module _ (n : ℕ) (small : 16 * n ≤ 128) (p : Pool) (q : ℕ) (inv : Inv n p q) (e : Entry) (mine : e .link < n) (rises : q ≤ e .sequence) (fits32 : e .sequence < 4294967296) (m : ℕ) where
+module _ (n : ℕ) (small : 16 * n ≤ 128) (p : Pool) (q : ℕ) (inv : Inv n p q) (e : Entry) (mine : e .link < n) (rises : q ≤ e .sequence) (fits32 : e .sequence < 2147483648) (m : ℕ) where
   abbrev old : Place
   old = it n small p q inv e mine rises fits32 .old
 

@@ -42,7 +42,7 @@ tail-eq : (y : Place) (l r t : List Place) → 0 < length r → y ∷ l ≡ r ++
 tail-eq y l [] t h e = absurd (omega arith)
 tail-eq y l (z ∷ r) t h e = ap (drop 1) e
 
-module _ (n : ℕ) (small : 16 * n ≤ 128) (p : Pool) (q : ℕ) (inv : Inv n p q) (e : Entry) (mine : e .link < n) (rises : q ≤ e .sequence) (fits32 : e .sequence < 4294967296) (m : ℕ) where
+module _ (n : ℕ) (small : 16 * n ≤ 128) (p : Pool) (q : ℕ) (inv : Inv n p q) (e : Entry) (mine : e .link < n) (rises : q ≤ e .sequence) (fits32 : e .sequence < 2147483648) (m : ℕ) where
   abbrev here : Issued n p e
   here = it n small p q inv e mine rises fits32
 

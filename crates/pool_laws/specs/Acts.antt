@@ -31,7 +31,7 @@ acts n p (a ∷ xs) = acts n (act n p a) xs
 
 -- the act may be done where q is the next number: a record is issued for one of the n links, under q or a later number
 abbrev pub May : ℕ → ℕ → Act → Type 0
-May n q (Issue e) = (e .link < n) × ((q ≤ e .sequence) × (e .sequence < 4294967296))
+May n q (Issue e) = (e .link < n) × ((q ≤ e .sequence) × (e .sequence < 2147483648))
 May n q (Settle l k) = Unit {0}
 May n q (Mark l k) = Unit {0}
 May n q (Unmark l) = Unit {0}

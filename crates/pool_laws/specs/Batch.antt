@@ -20,18 +20,18 @@ renumbered e q = record { time = e .time; value = e .value; sequence = q; link =
 
 -- a record's number has 32 bits; a batch that takes a higher one is spent, and a call refuses it
 abbrev pub under : Entry → ℕ → Entry
-under e q = renumbered e (q % 4294967296)
+under e q = renumbered e (q % 2147483648)
 
 -- nothing issued yet; q is the next number
 abbrev pub beginning : Pool → ℕ → Batch
 beginning p q = record { pool = p; next = q; spent = false }
 
--- one record more; number 10 where it takes a number past 4294967295
+-- one record more; number 10 where it takes a number past 2147483647
 unfoldable pub added : ℕ → Batch → Entry → Batch
 added n b e = record {
   pool = issueOf n (b .pool) (under e (b .next));
   next = moreOf (b .next);
-  spent = either (b .spent) (ltb 4294967295 (b .next));
+  spent = either (b .spent) (ltb 2147483647 (b .next));
 }
 
 abbrev pub addedAll : ℕ → Batch → List Entry → Batch

@@ -43,15 +43,15 @@ abbrev pub lossesAll : ℕ → (ℕ → List Place) → List Entry → ℕ → �
 lossesAll n v [] m = 0
 lossesAll n v (e ∷ es) m = losses (loserIn n v (e .link)) m + lossesAll n (issueView n v e) es m
 
--- the numbers q, q + 1, .. of the list go up to 4294967295
+-- the numbers q, q + 1, .. of the list go up to 2147483647
 abbrev pub Lasting : ℕ → List Entry → Type 0
-Lasting q es = q + length es ≤ 4294967296
+Lasting q es = q + length es ≤ 2147483648
 
 pub record Laws (n : ℕ) : Type 0 where
   -- two lists, one behind the other
   pub append : (b : Batch) (xs ys : List Entry) → addedAll n b (xs ++ ys) ≡ addedAll n (addedAll n b xs) ys
-  -- number 10: there is a record to issue, and the last one's number is past 4294967295
-  pub spent : (p : Pool) (q : ℕ) (es : List Entry) → issuedAll n p q es .spent ≡ both (ltb 0 (length es)) (ltb 4294967296 (q + length es))
+  -- number 10: there is a record to issue, and the last one's number is past 2147483647
+  pub spent : (p : Pool) (q : ℕ) (es : List Entry) → issuedAll n p q es .spent ≡ both (ltb 0 (length es)) (ltb 2147483648 (q + length es))
   -- one number is taken for each record
   pub next : (p : Pool) (q : ℕ) (es : List Entry) → Lasting q es → issuedAll n p q es .next ≡ q + length es
   -- the records are issued under the numbers q, q + 1, ..

@@ -19,7 +19,7 @@ use Rattle.pool_laws.specs.Leaves.{Held, leftOver, SettlesFirst}
 
 -- the pool p is what some acts leave of the empty pool of n links, the numbers rising, and q is the next number
 pub data Reached (n : ℕ) : Pool → ℕ → Type 0 where
-  empty : {q : ℕ} → q ≤ 4294967296 → Reached n (emptyOf n) q
+  empty : {q : ℕ} → q ≤ 2147483648 → Reached n (emptyOf n) q
   after : {p : Pool} {q : ℕ} (a : Act) → Reached n p q → May n q a → Reached n (act n p a) (next q a)
 
 -- a record of link m numbered k was m's oldest, and after it 16 newer ones of m are held
@@ -57,4 +57,4 @@ pub record Promises (n : ℕ) : Type 0 where
   pub whole-new : (p : Pool) (q : ℕ) → Reached n p q → (xs : List Act) → Rising n q xs → SettlesFirst xs → (e : Entry) → Among (Issue e) xs
       → Held (acts n p xs) (e .link) (e .sequence) ⊎ (16 ≤ count (newerThan (e .link) (e .sequence)) (acts n p xs .places))
   -- a lost count is exactly the number of the link's records that left without a settle
-  pub lost : (first : ℕ) (xs : List Act) → first ≤ 4294967296 → Rising n first xs → (m : ℕ) → lostOf (acts n (emptyOf n) xs) m ≡ leftOver n (emptyOf n) xs m
+  pub lost : (first : ℕ) (xs : List Act) → first ≤ 2147483648 → Rising n first xs → (m : ℕ) → lostOf (acts n (emptyOf n) xs) m ≡ leftOver n (emptyOf n) xs m

@@ -18,10 +18,15 @@ primary-same links primary = by (eqb primary 4294967295) (ltb primary links) ref
     by false true h = h
     by false false h = h
 
+-- site 0 is one of the two
+and-yes : (b : Bool) → both b true ≡ b
+and-yes true = refl
+and-yes false = refl
+
 module _ (table : List ℕ) (links primary period first time : ℕ) where
   good-within : goodStart (startFor table links primary period first time) ≡ isWithin links primary period first time
   unfolding isWithin valuesWithin
-  good-within = rw (primary-same links primary)
+  good-within = rw (primary-same links primary, and-yes (leb time lastTime))
 
   pub within : goodStart (startFor table links primary period first time) ≡ true → Within links primary period first time
   within g = within-all links primary period first time (sym good-within ∙ g)

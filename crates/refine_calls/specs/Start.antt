@@ -21,10 +21,10 @@ use Rattle.refine_calls.specs.Abstracts.{Abstracts}
 abbrev pub primaryFor : ℕ → Option ℕ
 primaryFor primary = pick (eqb primary 4294967295) none (some primary)
 
--- the machine's start
+-- the machine's start: the code has site 0 alone
 abbrev pub startFor : List ℕ → ℕ → ℕ → ℕ → ℕ → ℕ → Start
 startFor table links primary period first time =
-    record { table = table; links = links; primary = primaryFor primary; period = period; first = first; time = time }
+    record { site = 0; table = table; links = links; primary = primaryFor primary; period = period; first = first; time = time }
 
 pub data SameStart : Step → Option Machine → Type 0 where
   not-accepted : SameStart (record { site = noSite; answer = Refused NotAccepted }) none

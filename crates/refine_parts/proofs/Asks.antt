@@ -68,11 +68,11 @@ less-suc a b = go (lt-or-ge a b)
     go (inl h) = lt-ltb (suc a) (suc b) (omega arith) ∙ sym (lt-ltb a b h)
     go (inr h) = le-ltb (suc a) (suc b) (omega arith) ∙ sym (le-ltb a b h)
 
-nth-place : (r : ℕ) (hs : List Held) → readingOf (nth r (map placeFor hs)) ≡ readingAt r (map recordBytes hs)
+nth-place : (r : ℕ) (hs : List Held) → readingOf (nth r (map placeFor hs)) ≡ readingAt r (map (recordBytes 0) hs)
 unfolding nth
 nth-place r [] = rw (le-ltb r 0 (omega arith))
-nth-place zero (h ∷ hs) = rw (lt-ltb 0 (suc (length (map recordBytes hs))) (omega arith))
-nth-place (suc r) (h ∷ hs) = rw (less-suc r (length (map recordBytes hs))) (nth-place r hs)
+nth-place zero (h ∷ hs) = rw (lt-ltb 0 (suc (length (map (recordBytes 0) hs))) (omega arith))
+nth-place (suc r) (h ∷ hs) = rw (less-suc r (length (map (recordBytes 0) hs))) (nth-place r hs)
 
 -- ---- what is found is in the list
 either-none : (s : Sought) → orElse s Nothing ≡ s
@@ -107,7 +107,7 @@ counts : {A : Type 0} (f : A → Bool) {x : A} {xs : List A} → f x ≡ true �
 counts f e (first {xs}) = omega (arith, bit-true _ e)
 counts f e (later a) = omega (arith, counts f e a)
 
-reached-next : {n q : ℕ} {p : Pool} → Reached n p q → q ≤ 4294967296
+reached-next : {n q : ℕ} {p : Pool} → Reached n p q → q ≤ 2147483648
 reached-next (empty h) = h
 reached-next (after (Issue e) r y) = omega (arith, y .1 .1)
 reached-next (after (Settle l k) r y) = reached-next r
@@ -180,9 +180,10 @@ module _ {links q : ℕ} {p : Pool} (m : Machine) (same : SamePool links p q (m 
   unfolding reading
   records-read l r =
       ap readingOf (viewed 4 (omega arith) .ranked p q (same .reached) l r ∙ ap (nth r) (same .held l)) ∙ nth-place r (keep (isFor l) hs)
+      ∙ ap (λ (k : ℕ). readingAt r (map (recordBytes k) (keep (isFor l) hs))) (sym (same .site))
 
-  spent-by : (n k : ℕ) → n ≡ k → both (ltb 0 n) (ltb 4294967296 (q + n)) ≡ ltb 4294967296 (m .pool .next + k)
-  spent-by zero k e = sym (le-ltb 4294967296 (m .pool .next + k) (omega (arith, same .next, reached-next (same .reached))))
+  spent-by : (n k : ℕ) → n ≡ k → both (ltb 0 n) (ltb 2147483648 (q + n)) ≡ ltb 2147483648 (m .pool .next + k)
+  spent-by zero k e = sym (le-ltb 2147483648 (m .pool .next + k) (omega (arith, same .next, reached-next (same .reached))))
   spent-by (suc n) k e = rw (lt-ltb 0 (suc n) (omega arith), e, same .next)
 
   pub spent-same : (left : Pool) (e : Effect) → batchOf left q (e .issues) .spent ≡ sequenceEnds m e

@@ -32,10 +32,10 @@ module _ (l q : ℕ) where
   entry-sequence (ofAggregated v t) = refl
 
 -- under its number
-pub numbered-entry : (i : Issued) (q : ℕ) → q ≤ 4294967295 → under (unnumbered i) q ≡ entryFor (i .link) q (i .content)
+pub numbered-entry : (i : Issued) (q : ℕ) → q ≤ 2147483647 → under (unnumbered i) q ≡ entryFor (i .link) q (i .content)
 numbered-entry i q h = ap (renumbered (unnumbered i)) (mod-eq-of-lt (small q h)) ∙ go (i .content)
   where
-    small : (q : ℕ) → q ≤ 4294967295 → q < 4294967296
+    small : (q : ℕ) → q ≤ 2147483647 → q < 2147483648
     small q h = omega arith
 
     go : (c : Content) → renumbered (entryFor (i .link) 0 c) q ≡ entryFor (i .link) q c

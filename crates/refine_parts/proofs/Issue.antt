@@ -43,6 +43,16 @@ module _ (m : Listed) where
   losing-configured Nobody = refl
   losing-configured (Owner w) = length-changed w suc (m .lost)
 
+  losing-site : (who : Loser) → losing who m .site ≡ m .site
+  unfolding lose
+  losing-site Nobody = refl
+  losing-site (Owner w) = refl
+
+  losing-beside : (who : Loser) → losing who m .beside ≡ m .beside
+  unfolding lose
+  losing-beside Nobody = refl
+  losing-beside (Owner w) = refl
+
   losing-told : (who : Loser) → Each ToldRecord (m .held) → Each ToldRecord (losing who m .held)
   unfolding lose
   losing-told Nobody a = a
@@ -66,7 +76,7 @@ module _ (m : Listed) where
       go false e =
           ap (map placeFor) (sym (keep-other (isFor w) (isFor l) (λ h t. ne-eqb (h .link) l (λ s. eqb-false w l e (sym (eqb-true (h .link) w t) ∙ s))) (m .held)))
 
-module _ {links q : ℕ} {p : Pool} {m : Listed} (same : SamePool links p q m) (i : Issued) (link : i .link < links) (told : IsTold (i .content)) (small : q ≤ 4294967295) where
+module _ {links q : ℕ} {p : Pool} {m : Listed} (same : SamePool links p q m) (i : Issued) (link : i .link < links) (told : IsTold (i .content)) (small : q ≤ 2147483647) where
   abbrev entry : Entry
   entry = entryFor (i .link) q (i .content)
 
@@ -140,15 +150,17 @@ module _ {links q : ℕ} {p : Pool} {m : Listed} (same : SamePool links p q m) (
         lost = λ l. after-lost l ∙ ap (λ (r : Listed). getD (r .lost) l 0) (sym issue-is);
         configured = ap (λ (r : Listed). length (r .lost)) issue-is ∙ losing-configured m who ∙ same .configured;
         few = same .few;
+        site = ap (λ (r : Listed). r .site) issue-is ∙ losing-site m who ∙ same .site;
+        alone = ap (λ (r : Listed). r .beside) issue-is ∙ losing-beside m who ∙ same .alone;
         reached = after-reached;
         good = issue-good i m (same .good) (omega (arith, same .configured));
       }
 
 -- ---- records one by one
-more-is : (q : ℕ) → q ≤ 4294967295 → moreOf q ≡ suc q
+more-is : (q : ℕ) → q ≤ 2147483647 → moreOf q ≡ suc q
 more-is q h = rw (lt-ltb q 18446744073709551615 (omega arith)) (omega arith)
 
-module _ (b : Batch) (i : Issued) (small : b .next ≤ 4294967295) where
+module _ (b : Batch) (i : Issued) (small : b .next ≤ 2147483647) where
   one-next : addedTo 4 b (unnumbered i) .next ≡ suc (b .next)
   unfolding addedTo
   one-next = more-is (b .next) small
@@ -159,9 +171,9 @@ module _ (b : Batch) (i : Issued) (small : b .next ≤ 4294967295) where
   one-same same f t = rw (more-is (b .next) small, numbered-entry i (b .next) small) (issue-same same i f t small)
 
 pub issue-all-same : {links : ℕ} (b : Batch) {m : Listed} → SamePool links (b .pool) (b .next) m → (is : List Issued) → Each (For links) is
-    → Each (λ (i : Issued). IsTold (i .content)) is → b .next + length is ≤ 4294967296
+    → Each (λ (i : Issued). IsTold (i .content)) is → b .next + length is ≤ 2147483648
     → SamePool links (addedAll 4 b (map unnumbered is) .pool) (addedAll 4 b (map unnumbered is) .next) (issueAll is m)
 issue-all-same b same [] fs ts h = same
 issue-all-same b same (i ∷ is) (one-more f fs) (one-more t ts) h =
-    let small : b .next ≤ 4294967295 = omega arith in
+    let small : b .next ≤ 2147483647 = omega arith in
     issue-all-same (addedTo 4 b (unnumbered i)) (one-same b i small same f t) is fs ts (omega (arith, one-next b i small))

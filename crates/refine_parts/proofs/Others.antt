@@ -29,7 +29,7 @@ nothing-lost zero l = refl
 nothing-lost (suc n) zero = refl
 nothing-lost (suc n) (suc l) = nothing-lost n l
 
-pub start-same : (links : ℕ) → links ≤ 4 → (first : ℕ) → first ≤ 4294967295 → SamePool links (emptyOf 4) first (poolOf first [] (replicate links 0))
+pub start-same : (links : ℕ) → links ≤ 4 → (first : ℕ) → first ≤ 2147483647 → SamePool links (emptyOf 4) first (poolOf first [] (replicate links 0))
 start-same links few first h =
     record {
       next = refl;
@@ -38,13 +38,20 @@ start-same links few first h =
       lost = λ l. viewed 4 (omega arith) .start-lost l ∙ sym (nothing-lost links l);
       configured = length-replicate links 0;
       few = few;
+      site = refl;
+      alone = refl;
       reached = empty {q = first} (omega arith);
       good = record {
-        few = omega (arith, length-replicate {A = ℕ} links 0);
-        links = no-more;
-        most = λ l. omega arith;
+        own = record {
+          few = omega (arith, length-replicate {A = ℕ} links 0);
+          links = no-more;
+          most = λ l. omega arith;
+          rising = ends {a = 0} (omega arith);
+        };
+        above = 0;
+        other = record { few = omega arith; links = no-more; most = λ l. omega arith; rising = ends {a = 0} (omega arith) };
         all = omega arith;
-        rising = ends {a = 0} (omega arith);
+        site = omega arith;
       };
     }
 
@@ -146,6 +153,8 @@ module _ {links q : ℕ} {p : Pool} (m : Machine) (same : SamePool links p q (m 
         lost = λ j. viewed 4 (omega arith) .settle-lost p l n j ∙ same .lost j;
         configured = same .configured;
         few = same .few;
+        site = same .site;
+        alone = same .alone;
         reached = after (Settle l n) (same .reached) tt;
         good = settles {E = λ l n. Unit {0}} m l n tt .good (same .good);
       }
@@ -159,7 +168,7 @@ module _ {links q : ℕ} {p : Pool} (m : Machine) (same : SamePool links p q (m 
         keep-count (isFor l) (isNumbered n) hs,
         keep-count (isFor j) (isNumbered n) hs,
         apart-count l j n d hs,
-        rising-once n hs (same .good .rising),
+        rising-once n hs (same .good .own .rising),
       )
 
   mark-held : (l n : ℕ) → IsHeld p l n → (j : ℕ) → records (markOf p l n) j ≡ map placeFor (keep (isFor j) (map (marked n) hs))
@@ -180,6 +189,8 @@ module _ {links q : ℕ} {p : Pool} (m : Machine) (same : SamePool links p q (m 
         lost = λ j. viewed 4 (omega arith) .mark-lost p l n j ∙ same .lost j;
         configured = same .configured;
         few = same .few;
+        site = same .site;
+        alone = same .alone;
         reached = after (Mark l n) (same .reached) tt;
         good = marks {E = λ l n. Unit {0}} m (marked n) (λ h. refl) (λ h. refl) (λ h. refl) .good (same .good);
       }
@@ -202,6 +213,8 @@ module _ {links q : ℕ} {p : Pool} (m : Machine) (same : SamePool links p q (m 
         lost = λ j. viewed 4 (omega arith) .unmark-lost p l j ∙ same .lost j;
         configured = same .configured;
         few = same .few;
+        site = same .site;
+        alone = same .alone;
         reached = after (Unmark l) (same .reached) tt;
         good = marks {E = λ l n. Unit {0}} m (unsent l) (λ h. refl) (λ h. refl) (λ h. refl) .good (same .good);
       }

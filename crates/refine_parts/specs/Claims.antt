@@ -41,12 +41,12 @@ abbrev pub batchOf : Pool → ℕ → List Issued → Batch
 batchOf p q is = issuedAll 4 p q (map unnumbered is)
 
 pub record SameActs (links : ℕ) : Type 0 where
-  pub start : (first : ℕ) → first ≤ 4294967295 → SamePool links (emptyOf 4) first (poolOf first [] (replicate links 0))
+  pub start : (first : ℕ) → first ≤ 2147483647 → SamePool links (emptyOf 4) first (poolOf first [] (replicate links 0))
   -- a record is issued for a configured link; records are issued one by one
-  pub issue : (p : Pool) (q : ℕ) (m : Listed) → SamePool links p q m → (i : Issued) → i .link < links → IsTold (i .content) → q ≤ 4294967295
+  pub issue : (p : Pool) (q : ℕ) (m : Listed) → SamePool links p q m → (i : Issued) → i .link < links → IsTold (i .content) → q ≤ 2147483647
       → SamePool links (issueOf 4 p (entryFor (i .link) q (i .content))) (suc q) (issue i m)
   pub issue-all : (p : Pool) (q : ℕ) (m : Listed) → SamePool links p q m → (is : List Issued) → Each (For links) is
-      → Each (λ (i : Issued). IsTold (i .content)) is → q + length is ≤ 4294967296 → SamePool links (batchOf p q is .pool) (batchOf p q is .next) (issueAll is m)
+      → Each (λ (i : Issued). IsTold (i .content)) is → q + length is ≤ 2147483648 → SamePool links (batchOf p q is .pool) (batchOf p q is .next) (issueAll is m)
   -- a record of link l is settled; one that is held is marked as sent; none of link l is sent any more
   pub settle : (p : Pool) (q : ℕ) (m : Machine) → SamePool links p q (m .pool) → (l n : ℕ)
       → SamePool links (settleOf p l n) q (withHeld (settled l n (m .pool .held)) m .pool)

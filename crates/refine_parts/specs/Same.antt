@@ -10,7 +10,7 @@ use Rattle.pool.specs.Pool.{lostOf}
 use Rattle.pool_laws.specs.Promises.{Reached}
 use Rattle.pool_laws.specs.View.{records}
 use Rattle.machine.specs.Words.{keep}
-use Rattle.machine.specs.State.{Held, Pool as Listed}
+use Rattle.machine.specs.State.{Held, noShare, Pool as Listed}
 use Rattle.machine.specs.Pool.{isFor}
 use Rattle.demand_held.proofs.Lists.{Each}
 use Rattle.demand_held.proofs.Good.{Good}
@@ -26,6 +26,9 @@ pub record SamePool (links : ℕ) (p : Pool) (q : ℕ) (m : Listed) : Type 0 whe
   pub lost : (l : ℕ) → lostOf p l ≡ getD (m .lost) l 0
   pub configured : length (m .lost) ≡ links
   pub few : links ≤ 4
+  -- the code has one site, 0, with no other beside it
+  pub site : m .site ≡ 0
+  pub alone : m .beside ≡ noShare
   -- pools as calls leave them
   pub reached : Reached 4 p q
   pub good : Good m

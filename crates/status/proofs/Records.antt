@@ -1,6 +1,6 @@
 -- The record of every status' value is one that the record reader accepts.
 -- Assumes nothing.
-use Rattle.basis.proofs.Std.{ℕ, _^_, _≤_, _<_, refl, ap, Bool, eqb, lit<, pick, picked}
+use Rattle.basis.proofs.Std.{ℕ, _^_, _≤_, _<_, refl, ap, Bool, eqb, lit<, pick, picked, arith}
 use Rattle.entry.specs.Valid.{Valid, lastTime as latest}
 use Rattle.entry.specs.Valid.OfKind.{a-status}
 use Rattle.status.specs.declared.Status.{Status}
@@ -9,7 +9,7 @@ use Rattle.status.specs.Issued.{issuedOf}
 pub issued-valid : (s : Status) (link number time : ℕ) (old : Bool) → s .value < 2 ^ 32 → link < 4 → number < 32 → time ≤ latest → Valid (issuedOf s link number time old)
 issued-valid s link number time old v l n t =
     record {
-      link = l;
+      link = omega arith;
       time = t;
       sequence = lit< tt;
       of-kind = a-status (record {

@@ -49,22 +49,22 @@ pub spent-any : (p o : Pool) (q : ℕ) (es : List Entry) → issuedAll 4 p q es 
 spent-any p o q es = kept 4 (omega arith) .spent p q es ∙ sym (kept 4 (omega arith) .spent o q es)
 
 module _ (s : Site) (es : List Entry) where
-  spent-is : batchIn s es .spent ≡ both (ltb 0 (length es)) (ltb 4294967296 (s .next + length es))
+  spent-is : batchIn s es .spent ≡ both (ltb 0 (length es)) (ltb 2147483648 (s .next + length es))
   spent-is = kept 4 (omega arith) .spent (s .pool) (s .next) es
 
   pub spent-none : length es ≡ 0 → false ≡ batchIn s es .spent
   spent-none h = sym (spent-is ∙ rw h refl)
 
   module _ (h : 0 < length es) where
-    pub spent-past : 4294967296 < s .next → true ≡ batchIn s es .spent
-    spent-past g = sym (spent-is ∙ rw (lt-ltb 0 (length es) h) (lt-ltb 4294967296 (s .next + length es) (omega arith)))
+    pub spent-past : 2147483648 < s .next → true ≡ batchIn s es .spent
+    spent-past g = sym (spent-is ∙ rw (lt-ltb 0 (length es) h) (lt-ltb 2147483648 (s .next + length es) (omega arith)))
 
-    pub spent-here : s .next ≤ 4294967296 → ltb (4294967296 - s .next) (length es) ≡ batchIn s es .spent
-    spent-here g = by (lt-or-ge 4294967296 (s .next + length es)) ∙ sym (spent-is ∙ rw (lt-ltb 0 (length es) h) refl)
+    pub spent-here : s .next ≤ 2147483648 → ltb (2147483648 - s .next) (length es) ≡ batchIn s es .spent
+    spent-here g = by (lt-or-ge 2147483648 (s .next + length es)) ∙ sym (spent-is ∙ rw (lt-ltb 0 (length es) h) refl)
       where
-        by : (4294967296 < s .next + length es) ⊎ (s .next + length es ≤ 4294967296) → ltb (4294967296 - s .next) (length es) ≡ ltb 4294967296 (s .next + length es)
-        by (inl k) = lt-ltb (4294967296 - s .next) (length es) (omega arith) ∙ sym (lt-ltb 4294967296 (s .next + length es) k)
-        by (inr k) = le-ltb (4294967296 - s .next) (length es) (omega arith) ∙ sym (le-ltb 4294967296 (s .next + length es) k)
+        by : (2147483648 < s .next + length es) ⊎ (s .next + length es ≤ 2147483648) → ltb (2147483648 - s .next) (length es) ≡ ltb 2147483648 (s .next + length es)
+        by (inl k) = lt-ltb (2147483648 - s .next) (length es) (omega arith) ∙ sym (lt-ltb 2147483648 (s .next + length es) k)
+        by (inr k) = le-ltb (2147483648 - s .next) (length es) (omega arith) ∙ sym (le-ltb 2147483648 (s .next + length es) k)
 
 -- a loop that issues place by place, the records of a place not being changed by what is issued
 module _ (f : Site → ℕ → List Entry) (steady : (s : Site) (es : List Entry) (i : ℕ) → f (issuedIn s es) i ≡ f s i) where

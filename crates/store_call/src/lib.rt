@@ -16,7 +16,7 @@ use link::Link;
 
 pub mod records; // records.rt: the record of a status, the record of an alarm's change
 
-// Number 10: whether one of so many records takes a number past 4294967295.
+// Number 10: whether one of so many records takes a number past 2147483647.
 pub fn spent(w: &[u64], n: u64) -> bool
     requires { ⌜ length (now w) ≡ siteWords ⌝ }
     ensures { λ r. ⌜ ((t : SiteTable) (es : List Entry) → length es ≡ n → r ≡ batchIn (siteOf (now (w .entry)) t) es .spent) ⌝ }
@@ -25,10 +25,10 @@ pub fn spent(w: &[u64], n: u64) -> bool
         return false;
     }
     let next = store_site::parts::next(w);
-    if 4294967296 < next {
+    if 2147483648 < next {
         return true;
     }
-    4294967296 - next < n
+    2147483648 - next < n
 }
 
 // The record under a number, of which 32 bits are kept.
@@ -38,7 +38,7 @@ fn numbered(e: Entry, next: u64) -> Entry
     Entry {
         time: e.time,
         value: e.value,
-        sequence: (next % 4294967296) as u32,
+        sequence: (next % 2147483648) as u32,
         link: e.link,
         kind: e.kind,
         item: e.item,
