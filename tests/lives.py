@@ -5,9 +5,9 @@ from model import message, table
 from player import ROOM, Player
 from supervisor import ANSWER, NO_ANSWER, Supervisor
 
-LAST_SEQUENCE = 4294967295
+LAST_SEQUENCE, HIGHEST = 2147483647, 4294967295
 LETTERS = bytes(sorted(table.ALPHABET))
-BAD_NUMBERS = (4, 5, 32, 33, 255, 256, 2**31, LAST_SEQUENCE)
+BAD_NUMBERS = (4, 5, 32, 33, 255, 256, 2**31, HIGHEST)
 
 # How often each act comes, by the kind of life. What is not named comes with the weight of "ordinary".
 ORDINARY = {"rise": 30, "pump": 25, "pump_out": 4, "answer": 25, "answer_all": 6, "refuse": 2, "alarm": 8, "status": 8, "aggregated": 3,
@@ -308,7 +308,7 @@ class Life:
     # Calls that are refused. More than one thing may be wrong at once.
 
     def any_link(self):
-        return self.source.choice((len(self.site.links), 4, 5, LAST_SEQUENCE)) if self.source.random() < 0.3 else self.link()
+        return self.source.choice((len(self.site.links), 4, 5, HIGHEST)) if self.source.random() < 0.3 else self.link()
 
     def any_room(self):
         return self.source.choice((0, 1, 4095)) if self.source.random() < 0.3 else ROOM
@@ -323,7 +323,7 @@ class Life:
         return packet + b" " * (4097 - len(packet)) if self.source.random() < 0.2 else packet
 
     def bad_link(self):
-        link, time = self.source.choice((len(self.site.links), 4, 5, LAST_SEQUENCE)), self.any_time()
+        link, time = self.source.choice((len(self.site.links), 4, 5, HIGHEST)), self.any_time()
         self.any_call(link, time, self.any_room(), self.any_packet())
 
     def bad_room(self):
@@ -371,8 +371,8 @@ class Life:
         source, site = self.source, self.site
         good = dict(table=some_table(source).bytes(), links=len(site.links), primary=site.primary, period=site.period, first=0,
                     time=self.time)
-        wrong = source.choice((("links", 0), ("links", 5), ("links", LAST_SEQUENCE), ("primary", len(site.links)),
-                               ("primary", LAST_SEQUENCE - 1), ("period", 0), ("period", 3601), ("first", LAST_SEQUENCE + 1), ("first", 2**64 - 1),
+        wrong = source.choice((("links", 0), ("links", 5), ("links", HIGHEST), ("primary", len(site.links)),
+                               ("primary", HIGHEST - 1), ("period", 0), ("period", 3601), ("first", LAST_SEQUENCE + 1), ("first", 2**64 - 1),
                                ("time", message.LAST + 1), ("time", 2**64 - 1), ("table", b""), ("table", good["table"][:-1]),
                                ("table", good["table"] + b"\0")))
         self.player.start(**{**good, wrong[0]: wrong[1]})

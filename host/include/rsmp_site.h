@@ -49,7 +49,7 @@ enum rsmp_number {
     RSMP_NOTHING_DUE = 7,     /* pump: nothing to send now */
     RSMP_FULL = 8,            /* pump: something is due, but 8 or more answers are outstanding. Pump again after a packet or a tick */
     RSMP_SAME_IDENTITY = 9,   /* the random bytes make an identity that is awaited: call again with fresh random bytes */
-    RSMP_SEQUENCE_SPENT = 10, /* sequence numbers would pass 4294967295: start a new site */
+    RSMP_SEQUENCE_SPENT = 10, /* sequence numbers would pass 2147483647: start a new site */
     RSMP_NOT_ACCEPTED = 11,   /* start: a value or the site table is out of its limits */
     RSMP_LONG_PACKET = 12     /* packet: longer than RSMP_PACKET_BYTES. Drop it and go on */
 };
@@ -143,7 +143,7 @@ static inline uint32_t rsmp_put_report(rsmp_outcome outcome, const uint64_t *com
 /* The calls. Time is in milliseconds since 1970 UTC in every call, and never before that of an earlier call on the site. */
 
 /* Makes *site a new site, whatever it was: its table's bits (rsmp-table makes them), 1 to 4 links, which of them is primary or
- * RSMP_NO_PRIMARY, the watchdog's period in seconds (1 to 3600), the first sequence number (0 to 4294967295; after a restart any will do)
+ * RSMP_NO_PRIMARY, the watchdog's period in seconds (1 to 3600), the first sequence number (0 to 2147483647; after a restart any will do)
  * and the time. Numbers: 11. */
 static inline uint32_t rsmp_start(rsmp_site *site, const uint8_t *bits, size_t length, uint32_t links, uint32_t primary, uint32_t period,
                                   uint64_t first, uint64_t time) {

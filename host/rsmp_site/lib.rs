@@ -51,7 +51,7 @@ pub struct Start {
     pub primary: Option<u32>,
     /// The watchdog's period in seconds, 1 to 3600.
     pub period: u32,
-    /// The first sequence number, 0 to 4294967295.
+    /// The first sequence number, 0 to 2147483647.
     pub first: u64,
     pub time: u64,
 }

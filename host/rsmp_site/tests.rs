@@ -101,7 +101,7 @@ fn readings() {
     assert_eq!((site.held(0), site.held(1), site.held(2), site.lost(0)), (2, 1, 0, 0));
     let records: Vec<[u8; 16]> = site.records(0).collect();
     assert_eq!(records.len(), 2);
-    assert_eq!(records[0][..2], [0x00, 0xC4]);
+    assert_eq!(records[0][..2], [0x00, 0x62]);
     assert_eq!((site.version(0), site.phase(9), site.records(1).count()), (None, Phase::Down, 1));
 }
 

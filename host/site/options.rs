@@ -276,8 +276,8 @@ impl Options {
                 self.period = seconds.ok_or_else(|| bad("1 to 3600 seconds"))?;
             }
             "first" => {
-                let first: u32 = value.parse().map_err(|_| bad("0 to 4294967295"))?;
-                self.first = u64::from(first);
+                let first = value.parse().ok().filter(|first| *first <= 2_147_483_647);
+                self.first = first.ok_or_else(|| bad("0 to 2147483647"))?;
             }
             "reconnect" => self.reconnect = seconds(0.01)?,
             "reconnect-limit" => self.reconnect_limit = seconds(0.01)?,

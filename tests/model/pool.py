@@ -11,8 +11,8 @@ class Record:
 
     def packed(self):
         whole = 0
-        for width, field in ((2, self.link), (2, self.kind), (6, self.item), (6, self.flags), (48, self.time), (32, self.value),
-                             (32, self.sequence)):
+        for width, field in ((3, self.link), (2, self.kind), (6, self.item), (6, self.flags), (48, self.time), (32, self.value),
+                             (31, self.sequence)):
             whole = whole << width | field
         return whole.to_bytes(16, "big")
 

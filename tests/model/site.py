@@ -8,7 +8,7 @@ from .alarm import Aggregated, Alarm, Status, Subscription
 from .link import Link
 from .pool import Pool, Record
 
-OUTPUT, PACKET, LAST, LAST_SEQUENCE = 4096, 4096, message.LAST, 4294967295
+OUTPUT, PACKET, LAST, LAST_SEQUENCE = 4096, 4096, message.LAST, 2147483647
 FORM_FEED = b"\x0c"
 
 

@@ -16,11 +16,19 @@ same e = cc
 
 example-roomy : Roomy talk emptyBox
 unfolding aggregates connects lose loseOf makeRoom issue effectOf conditions step turned
-example-roomy =
-    (tt, (tt,
-    (λ m e. subst (λ (y : Machine). RoomyCall y (atNoon (aggregatedValue 1))) (same e) (λ n. (refl, (refl, tt))),
-    (λ m e. subst (λ (y : Machine). RoomyCall y (atNoon (aggregatedValue 1))) (same e) (λ n. (refl, (refl, tt))),
-    (λ m e. subst (λ (y : Machine). RoomyCall y (atNoon (connect 2))) (same e) (λ n. tt), tt)))))
+example-roomy = (
+  tt,
+  (
+    tt,
+    (
+      λ m e. subst (λ (y : Machine). RoomyCall y (atNoon (aggregatedValue 1))) (same e) (λ n. (refl, (refl, tt))),
+      (
+        λ m e. subst (λ (y : Machine). RoomyCall y (atNoon (aggregatedValue 1))) (same e) (λ n. (refl, (refl, tt))),
+        (λ m e. subst (λ (y : Machine). RoomyCall y (atNoon (connect 2))) (same e) (λ n. tt), tt),
+      ),
+    ),
+  ),
+)
 
 pub apart-example : ApartExample
 unfolding aggregates connects lose loseOf makeRoom issue effectOf conditions step turned

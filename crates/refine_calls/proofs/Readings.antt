@@ -57,11 +57,11 @@ module _ (s : Site) (m : Machine) (h : Abstracts s m) (l : ℕ) where
   unfolding reading
   not-configured e =
       record {
-        held = rw e (sym (none-counted l past (h .pool .good .links)));
+        held = rw e (sym (none-counted l past (h .pool .good .own .links)));
         lost = rw e (sym (List·getD-eq-default (m .pool .lost) 0 past));
         phase = rw e (sym (ap (λ (x : Life). pick (not (x .connected)) 0 (pick (isGreeting x) 1 (pick (isBeating x) 2 3))) down));
         version = rw e (sym (ap (λ (x : Life). shown (x .version)) down));
-        records = λ r. rw e (nothing-read r ∙ sym (ap (λ (hs : List Held). readingAt r (map recordBytes hs)) (none-kept l past (h .pool .good .links))));
+        records = λ r. rw e (nothing-read r ∙ sym (ap (λ (hs : List Held). readingAt r (map (recordBytes (m .pool .site)) hs)) (none-kept l past (h .pool .good .own .links))));
       }
     where
       beyond : m .setup .links ≤ l

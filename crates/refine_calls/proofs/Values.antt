@@ -1,6 +1,7 @@
 -- The start values that the machine takes are those that the code takes.
 -- Assumes nothing.
-use Rattle.basis.proofs.Std.{ℕ, _≤_, _<_, _≡_, refl, sym, ap, _∙_, Bool, true, false, List, some, none, _⊎_, inl, inr, arith, eqb, ltb, lt-ltb, ne-eqb, pick}
+use Rattle.basis.proofs.Std.{ℕ, _≤_, _<_, _≡_, refl, sym, ap, _∙_, Bool, true, false, List, some, none, _⊎_, inl, inr, arith, eqb, ltb, leb, lt-ltb, ne-eqb, pick, both}
+use Rattle.answer.specs.Times.{lastTime}
 use Rattle.call_start.specs.Fresh.{primaryOf}
 use Rattle.call_start.specs.Starts.{Within}
 use Rattle.call_start.specs.Making.{aLinkOrNone, valuesWithin, isWithin}
