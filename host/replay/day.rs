@@ -249,12 +249,17 @@ fn stay_of(record: &[u8; 16]) -> Stay {
     Stay { sequence: sequence_of(record), from: time_of(record), to: time_of(record) }
 }
 
+/// The field of a record that is so wide and has so many bits behind it.
+fn field(record: &[u8; 16], width: u32, behind: u32) -> u64 {
+    (u128::from_be_bytes(*record) >> behind) as u64 & ((1 << width) - 1)
+}
+
 fn time_of(record: &[u8; 16]) -> u64 {
-    record[2..8].iter().fold(0, |time, byte| time << 8 | u64::from(*byte))
+    field(record, 48, 63)
 }
 
 fn sequence_of(record: &[u8; 16]) -> u32 {
-    u32::from_be_bytes([record[12], record[13], record[14], record[15]])
+    field(record, 31, 0) as u32
 }
 
 /// The component and the code of an Alarm message.
@@ -266,14 +271,13 @@ fn alarm_in(message: &str) -> String {
 
 /// The number of the alarm that a record is of.
 fn alarm_of(record: &[u8; 16]) -> Option<usize> {
-    let head = u16::from_be_bytes([record[0], record[1]]);
-    Some(usize::from(head >> 6 & 63)).filter(|_| head >> 12 & 3 == 0)
+    Some(field(record, 6, 117) as usize).filter(|_| field(record, 2, 123) == 0)
 }
 
 /// Whether an Alarm message says what a record of its alarm does.
 fn says(message: &str, record: &[u8; 16]) -> bool {
-    let flags = record[1] & 63;
-    let event = ["Issue", "Acknowledge", "Suspend"].get(usize::from(flags >> 4)).copied().unwrap_or("");
+    let flags = field(record, 6, 111);
+    let event = ["Issue", "Acknowledge", "Suspend"].get((flags >> 4) as usize).copied().unwrap_or("");
     let word = |bit: u8, yes: &'static str, no: &'static str| if flags >> bit & 1 == 1 { yes } else { no };
     let acknowledged = word(3, "Acknowledged", "notAcknowledged");
     let (active, suspended) = (word(2, "Active", "inActive"), word(1, "Suspended", "notSuspended"));

@@ -24,7 +24,7 @@ pub record Reading : Type 0 where
   pub version : List ℕ
   pub records : List Bytes  -- sixteen bytes each
 
--- "link 2, kind 2 (0 alarm, 1 status, 2 aggregated), item 6 (0 to 31, aggregated 0), flags 6, time 48, value 32, sequence 32"
+-- request 10: link 3, "kind 2 (0 alarm, 1 status, 2 aggregated), item 6 (0 to 31, aggregated 0), flags 6, time 48, value 32", sequence 31
 abbrev pub entry : ℕ → ℕ → ℕ → ℕ → ℕ → ℕ → ℕ → Entry
 entry link kind item flags time value sequence =
     record { time = time; value = value; sequence = sequence; link = link; kind = kind; item = item; flags = flags }
