@@ -2,8 +2,10 @@
 -- Assumes nothing.
 use Rattle.basis.proofs.Std.{ℕ, zero, suc, _+_, _≤_, _<_, _≡_, refl, sym, _∙_, ap, Bool, true, false, not, List, [], _∷_, map, Option, some, none, _⊎_, inl, inr, eqb, ltb, length, arith, eqb-true, eq-eqb, lt-ltb, le-ltb, pick, both, count, Among, lt-or-ge, both-first, both-second}
 use Rattle.basis.specs.Lists.Among.{first, later}
+use Rattle.entry.specs.Layout.{bytesOf}
 use Rattle.pool.specs.declared.Place.{Place}
 use Rattle.pool.specs.declared.Pool.{Pool}
+use Rattle.pool.specs.declared.Reading.{Reading}
 use Rattle.pool.specs.declared.Sought.{Sought}
 use Rattle.pool.specs.declared.Sought.the-variants.{Found, Nothing}
 use Rattle.pool.specs.Pool.{heldOf, lostOf, oldestUnsent, newestAlarm, rankedOf, readingOf}
@@ -16,9 +18,9 @@ use Rattle.pool_laws.proofs.BatchKept.{kept}
 use Rattle.machine.specs.Words.{maybe, isSome, keep, firstThat}
 use Rattle.machine.specs.State.{Held, Machine, alarmAt, Effect}
 use Rattle.machine.specs.State.Sent.{noRecord}
-use Rattle.machine.specs.Pool.{isFor, holds}
+use Rattle.machine.specs.Pool.{isFor, holds, ownerOf}
 use Rattle.machine.specs.Life.{alarmIn, newest, carries, carriedBy, oldestUnsent as oldestUnsentOf}
-use Rattle.machine.specs.Readings.{recordBytes, reading}
+use Rattle.machine.specs.Readings.{entryFor, recordBytes, reading}
 use Rattle.machine.specs.Step.{sequenceEnds}
 use Rattle.demand_held.proofs.Lists.{bit-true, Each, among-keep, length-map}
 use Rattle.demand_held.proofs.Lists.Each.{one-more}
@@ -68,10 +70,14 @@ less-suc a b = go (lt-or-ge a b)
     go (inl h) = lt-ltb (suc a) (suc b) (omega arith) ∙ sym (lt-ltb a b h)
     go (inr h) = le-ltb (suc a) (suc b) (omega arith) ∙ sym (le-ltb a b h)
 
+-- site 0's owner is the link itself
+own-bytes : (h : Held) → _≡_ {A = Reading} (readingOf (Found (placeFor h))) (record { found = true; bytes = recordBytes 0 h })
+own-bytes h = ap (λ (l : ℕ). record { found = true; bytes = bytesOf (entryFor l (h .sequence) (h .content)) }) (let e : h .link ≡ ownerOf 0 (h .link) = omega arith in e)
+
 nth-place : (r : ℕ) (hs : List Held) → readingOf (nth r (map placeFor hs)) ≡ readingAt r (map (recordBytes 0) hs)
 unfolding nth
 nth-place r [] = rw (le-ltb r 0 (omega arith))
-nth-place zero (h ∷ hs) = rw (lt-ltb 0 (suc (length (map (recordBytes 0) hs))) (omega arith))
+nth-place zero (h ∷ hs) = rw (lt-ltb 0 (suc (length (map (recordBytes 0) hs))) (omega arith)) (own-bytes h)
 nth-place (suc r) (h ∷ hs) = rw (less-suc r (length (map (recordBytes 0) hs))) (nth-place r hs)
 
 -- ---- what is found is in the list
