@@ -5,14 +5,14 @@ use Rattle.answer.specs.Times.{lastTime}
 use Rattle.call_start.specs.Starts.{Within}
 use Rattle.call_start.specs.Making.{aLinkOrNone, valuesWithin, isWithin}
 
-primary-within : (links primary : ℕ) → aLinkOrNone links primary ≡ true → (primary < links) ⊎ (primary ≡ 2147483647)
+primary-within : (links primary : ℕ) → aLinkOrNone links primary ≡ true → (primary < links) ⊎ (primary ≡ 4294967295)
 primary-within links primary e = bool-cases (ltb primary links)
     (λ l. inl (ltb-true primary links l))
-    (λ g. inr (eqb-true primary 2147483647 (rw g at e)))
+    (λ g. inr (eqb-true primary 4294967295 (rw g at e)))
 
-within-primary : (links primary : ℕ) → (primary < links) ⊎ (primary ≡ 2147483647) → aLinkOrNone links primary ≡ true
+within-primary : (links primary : ℕ) → (primary < links) ⊎ (primary ≡ 4294967295) → aLinkOrNone links primary ≡ true
 within-primary links primary (inl l) = rw (lt-ltb primary links l)
-within-primary links primary (inr n) = bool-cases (ltb primary links) (λ l. rw l) (λ g. rw g (eq-eqb primary 2147483647 n))
+within-primary links primary (inr n) = bool-cases (ltb primary links) (λ l. rw l) (λ g. rw g (eq-eqb primary 4294967295 n))
 
 module _ (links primary period first time : ℕ) where
   pub within-all : isWithin links primary period first time ≡ true → Within links primary period first time

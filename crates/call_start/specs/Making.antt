@@ -16,7 +16,7 @@ use Rattle.site.specs.Call.{refused, nothingOf}
 use Rattle.call_start.specs.Fresh.{fresh, primaryOf, noSite}
 
 abbrev pub aLinkOrNone : ℕ → ℕ → Bool
-aLinkOrNone links primary = pick (ltb primary links) true (eqb primary 2147483647)
+aLinkOrNone links primary = pick (ltb primary links) true (eqb primary 4294967295)
 
 unfoldable pub valuesWithin : ℕ → ℕ → ℕ → Bool
 valuesWithin period first time = both (leb 1 period) (both (leb period 3600) (both (leb first 2147483647) (leb time lastTime)))

@@ -15,11 +15,11 @@ use Rattle.site.specs.declared.Step.{Step}
 use Rattle.site.specs.Call.{nothingOf}
 use Rattle.call_start.specs.Fresh.{fresh, primaryOf, noSite}
 
--- each limit of a start value; the primary is one of the links, or 2147483647 where there is none
+-- each limit of a start value; the primary is one of the links, or 4294967295 where there is none
 pub record Within (links primary period first time : ℕ) : Type 0 where
   pub fewest-links : 1 ≤ links
   pub most-links : links ≤ 4
-  pub a-link-or-none : (primary < links) ⊎ (primary ≡ 2147483647)
+  pub a-link-or-none : (primary < links) ⊎ (primary ≡ 4294967295)
   pub shortest-period : 1 ≤ period
   pub longest-period : period ≤ 3600
   pub highest-first : first ≤ 2147483647

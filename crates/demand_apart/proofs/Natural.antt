@@ -6,10 +6,10 @@ use Rattle.write_message.specs.Message.{Message}
 use Rattle.machine.specs.Words.{Bytes, maybe, orElse}
 use Rattle.machine.specs.State.{Alarm, Share, Subscription, Sent, Awaited, Machine, withLife, withSubscriptions, withBeside, Act, Effect, handing, effect, only, lifeAt, alarmAt, valueAt}
 use Rattle.machine.specs.State.Act.{connect, disconnect, packet, alarmInput, statusValue, aggregatedValue, tick, pump}
-use Rattle.machine.specs.Json.{readPacket, stringOf, entriesOf, isType}
+use Rattle.machine.specs.Json.{readPacket, stringOf, entriesOf, isType, asksFor}
 use Rattle.machine.specs.Life.{close, closeAll, Due, carriedBy, awaitedBy, awaiting, answeredTo, dueUp, due}
 use Rattle.machine.specs.Life.Due.{theVersion, theWatchdog, theAggregated, theAlarm, theHeld}
-use Rattle.machine.specs.Answers.{isAnswer, reasons, reasonOf, wantsReply, failsCheck, alarmAsked}
+use Rattle.machine.specs.Answers.{isAnswer, reasons, reasonOf, wantsReply, repliesAtOnce, failsCheck, alarmAsked}
 use Rattle.machine.specs.Items.{update, numberAsked, subscribeAll, endAll, ordered, withInput, happens, subscribe, unsubscribe, intervals, isNew, becomes, commands, aggregates}
 use Rattle.machine.specs.Effects.{connects, closes, late, ticks, ownIdentity, dueMessage, sentAs, carried, afterSending, markSent, sends, answerCloses, acknowledges, versionAccepted, watchdogTaken, alarmOrdered, replyMessage, settle, answers, answered, refuses, carriedOut, replying, receives, effectOf}
 use Rattle.machine.specs.Box.{withPool}
@@ -24,7 +24,7 @@ maybe-nat f (some a) p q = q a
 
 -- what a packet does, kind by kind: `carriedOut` in small pieces
 unfoldable command : Json → Machine → Effect
-command j m = pick (isType "CommandRequest" j) (commands m j) (only m)
+command j m = pick (asksFor "CommandRequest" j) (commands m j) (only m)
 
 unfoldable ending : ℕ → Json → Machine → Effect
 ending l j m = pick (isType "StatusUnsubscribe" j) (unsubscribe m l j) (command j m)
@@ -168,7 +168,7 @@ module _ (s : Share) where
 
   command-nat : (j : Json) (m : Machine) → command j (w m) ≡ on (command j m)
   unfolding command
-  command-nat j m = pick-nat on (isType "CommandRequest" j) (commands-nat m j) refl
+  command-nat j m = pick-nat on (asksFor "CommandRequest" j) (commands-nat m j) refl
 
   ending-nat : (l : ℕ) (j : Json) (m : Machine) → ending l j (w m) ≡ on (ending l j m)
   unfolding ending
@@ -195,7 +195,7 @@ module _ (s : Share) where
 
   replying-nat : (l t : ℕ) (id : Bytes) (j : Json) (e : Effect) → replying l t id j (on e) ≡ on (replying l t id j e)
   unfolding replying
-  replying-nat l t id j e = pick-nat on (wantsReply (e .leaves) l j) refl refl
+  replying-nat l t id j e = pick-nat on (repliesAtOnce j) refl (pick-nat on (wantsReply (e .leaves) l j) refl refl)
 
   reason-nat : (m : Machine) (l : ℕ) (j : Json) → reasonOf (w m) l j ≡ reasonOf m l j
   unfolding reasons
