@@ -40,7 +40,7 @@ of-kind-too e q (a-status a) =
 of-kind-too e q (an-aggregated a) = an-aggregated (record { kind = a .kind; item = a .item; flags = a .flags; value = a .value })
 
 module _ (links primary : ℕ) (t : SiteTable) where
-  pub renumbered-too : (now : ℕ) (e : Entry) (q : ℕ) → q < 4294967296 → SoundEntry links primary t now e → SoundEntry links primary t now (renumbered e q)
+  pub renumbered-too : (now : ℕ) (e : Entry) (q : ℕ) → q < 2147483648 → SoundEntry links primary t now e → SoundEntry links primary t now (renumbered e q)
   renumbered-too now e q h s =
       record {
         valid = record { link = s .valid .link; time = s .valid .time; sequence = omega (arith, h); of-kind = of-kind-too e q (s .valid .of-kind) };
