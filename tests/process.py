@@ -21,6 +21,12 @@ LOGGED = re.compile(r"\d{4}-\d\d-\d\d \d\d:\d\d:\d\d\.\d{3}Z (error  |warning|in
 NO_REPLY = re.compile(r"summary|  link |  commands |\(\d+ lines")
 
 
+def last_numbers(count):
+    """The word for `--first` with so many sequence numbers left: they end at 2147483647, in builds before Req 10 at 4294967295."""
+    refused = subprocess.run([PROGRAM, "--first", str(1 << 31)], text=True, stderr=subprocess.PIPE).stderr
+    return str((1 << 31 if "2147483647" in refused else 1 << 32) - count)
+
+
 class Failed(Exception):
     """A test does not hold."""
 

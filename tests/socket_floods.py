@@ -3,7 +3,7 @@ and files, and with options that 0.4 has, so that `sockets.py --program` shows i
 import pathlib
 import time
 
-from process import NORTH, SITE, SXL, WITH_COMMANDS, Process, boom, commanding, hold, subscription, wait
+from process import NORTH, SITE, SXL, WITH_COMMANDS, Process, boom, commanding, hold, last_numbers, subscription, wait
 from socket_commands import LIMIT, Program
 from socket_files import SLACK
 from socket_time import HOUR, NOON, FedClock, watchdogs
@@ -53,7 +53,7 @@ def spends_the_numbers(room):
     """A secondary that subscribes in a flood and answers nothing does not bring the sequence numbers to their end, and never is the primary told that an active
     alarm is not."""
     centre, workshop = Supervisor(SITE, SXL), Supervisor(SITE, SXL)
-    process = Process(room, [centre, workshop], "--first", str((1 << 32) - 200_000), "--quiet", record=False)
+    process = Process(room, [centre, workshop], "--first", last_numbers(200_000), "--quiet", record=False)
     centre.wait_up()
     workshop.wait_up()
     process.process.stdin.write("alarm 2 on\n")

@@ -10,7 +10,7 @@ import time
 
 import stored
 from model import message
-from process import LOGGED, NORTH, PROGRAM, RELEASE, SITE, SXL, TABLE, Control, Process, hold, subscription, wait
+from process import LOGGED, NORTH, PROGRAM, RELEASE, SITE, SXL, TABLE, Control, Process, hold, last_numbers, subscription, wait
 from supervisors import FORM_FEED, Supervisor
 
 BUSY = "import time; end = time.monotonic() + 3\nwhile time.monotonic() < end: pass\nprint(time.process_time())"
@@ -151,7 +151,7 @@ def spent_numbers(room):
     """The last sequence number: the log says what is not carried over, a new site starts with the inputs as they are and takes the one that found
     the end."""
     supervisor = Supervisor(SITE, SXL)
-    process = Process(room, [supervisor], "--first", "4294967290", "--state", pathlib.Path(room) / "state", "--state-interval", "0")
+    process = Process(room, [supervisor], "--first", last_numbers(6), "--state", pathlib.Path(room) / "state", "--state-interval", "0")
     supervisor.wait_up()
     hold(process.order("alarm 2 on") == "done" and process.order("aggregated 5") == "done", "inputs")
     hold(supervisor.ask("StatusSubscribe", **subscription()) is True, "a subscription")
@@ -182,7 +182,7 @@ def spent_numbers(room):
 def numbers_end_early(room):
     """Where few numbers are left and nothing is held the new site starts: no record is lost, the inputs stay."""
     supervisor = Supervisor(SITE, SXL)
-    process = Process(room, [supervisor], "--first", str((1 << 32) - 64))
+    process = Process(room, [supervisor], "--first", last_numbers(64))
     supervisor.wait_up()
     hold(process.order("alarm 2 on") == "done" and process.order("aggregated 5") == "done", "inputs")
     hold(supervisor.ask("StatusSubscribe", **subscription()) is True, "a subscription")
@@ -208,7 +208,7 @@ def numbers_end_early(room):
 def silent_at_the_end(room):
     """A secondary that answers nothing, and so holds records for ever, does not keep the new site from starting while the primary holds nothing."""
     centre, workshop = Supervisor(SITE, SXL), Supervisor(SITE, SXL)
-    process = Process(room, [centre, workshop], "--first", str((1 << 32) - 64), record=False)
+    process = Process(room, [centre, workshop], "--first", last_numbers(64), record=False)
     centre.wait_up()
     workshop.wait_up()
     hold(process.order("alarm 2 on") == "done", "an alarm")

@@ -50,14 +50,14 @@ fn starts_are_judged() {
         Start { primary: Some(u32::MAX), ..GOOD },
         Start { period: 0, ..GOOD },
         Start { period: 3601, ..GOOD },
-        Start { first: 1 << 32, ..GOOD },
+        Start { first: 1 << 31, ..GOOD },
         Start { time: LAST_TIME + 1, ..GOOD },
     ] {
         assert_eq!(refused(start), Some(Refusal::NotAccepted), "{:?}", start);
     }
     assert_eq!(Site::start(&[], &GOOD).err(), Some(Refusal::NotAccepted));
     assert_eq!(Site::start(&TABLE[..TABLE.len() - 1], &GOOD).err(), Some(Refusal::NotAccepted));
-    assert!(refused(Start { primary: None, first: u64::from(u32::MAX), time: LAST_TIME, ..GOOD }).is_none());
+    assert!(refused(Start { primary: None, first: (1 << 31) - 1, time: LAST_TIME, ..GOOD }).is_none());
 }
 
 #[test]

@@ -12,7 +12,8 @@ use std::time::{Duration, Instant};
 const DRAWS: u32 = 16;
 /// A record that could not be opened or written is tried again so often.
 const RECORD_AGAIN: Duration = Duration::from_secs(2);
-const NUMBERS: u64 = 1 << 32;
+/// Sequence numbers are 0 to 2147483647.
+const NUMBERS: u64 = 1 << 31;
 /// More alarms or statuses than a table has.
 const ROWS: u32 = 32;
 
