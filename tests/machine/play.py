@@ -44,7 +44,7 @@ def whole(value):
 
 
 def started(machine, data, links, primary, period, first, time):
-    given = dict(table=tuple(data), links=int(links), primary=option(primary), period=int(period), first=int(first), time=int(time))
+    given = dict(site=0, table=tuple(data), links=int(links), primary=option(primary), period=int(period), first=int(first), time=int(time))
     try:
         rows = table.read(data)
     except table.Refused:
