@@ -1,0 +1,5 @@
+pub mod Grammar
+pub mod Marks
+pub mod Split
+pub mod Places
+pub mod Claims
