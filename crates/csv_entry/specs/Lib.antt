@@ -1,0 +1,4 @@
+pub mod Fields
+pub mod Raws
+pub mod Guess
+pub mod Judged
