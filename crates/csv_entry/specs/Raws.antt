@@ -2,17 +2,20 @@
 -- Assumes nothing.
 use mathlib.Core.Path.{_≡_}
 use mathlib.Core.List.{List, [], _∷_}
-use Prim.Native.Nat.{ℕ, _+_, _≤_, _<_}
+use Prim.Native.Nat.{ℕ, zero, suc, _+_, _≤_, _<_}
 use lib.ListN.{length, getD, take, drop}
 use Rattle.csv_field.specs.declared.Notes.{Notes}
 
 abbrev pub rawAt : List ℕ → Notes → ℕ → List ℕ
 rawAt s n j = take (getD (n .lengths) j 0) (drop (getD (n .starts) j 0) s)
 
+-- f at n places, from i on
+abbrev pub eachOf : {A : Type 0} → (ℕ → A) → ℕ → ℕ → List A
+eachOf f i zero = []
+eachOf f i (suc n) = f i ∷ eachOf f (suc i) n
+
 unfoldable pub rawsOf : List ℕ → Notes → List (List ℕ)
-rawsOf s n =
-    rawAt s n 0 ∷ rawAt s n 1 ∷ rawAt s n 2 ∷ rawAt s n 3 ∷ rawAt s n 4 ∷ rawAt s n 5 ∷ rawAt s n 6 ∷ rawAt s n 7
-    ∷ rawAt s n 8 ∷ rawAt s n 9 ∷ rawAt s n 10 ∷ rawAt s n 11 ∷ []
+rawsOf s n = eachOf (rawAt s n) 0 12
 
 pub record Within (s : List ℕ) (n : Notes) : Type 0 where
   pub room : (length (n .starts) ≡ 12) × (length (n .lengths) ≡ 12)
