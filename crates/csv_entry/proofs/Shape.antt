@@ -54,9 +54,12 @@ module _ (e : Entry) where
   unfolding fieldsOf
   as-status h = rw (ne-eqb (e .kind) 0 (λ q. omega arith), eq-eqb (e .kind) 1 h)
 
-  pub as-aggregated : e .kind ≡ 2 → fieldsOf e ≡ aggregatedFields e
+  pub as-other : (e .kind ≡ 0 → ⊥) → (e .kind ≡ 1 → ⊥) → fieldsOf e ≡ aggregatedFields e
   unfolding fieldsOf
-  as-aggregated h = rw (ne-eqb (e .kind) 0 (λ q. omega arith), ne-eqb (e .kind) 1 (λ q. omega arith))
+  as-other h g = rw (ne-eqb (e .kind) 0 h, ne-eqb (e .kind) 1 g)
+
+  pub as-aggregated : e .kind ≡ 2 → fieldsOf e ≡ aggregatedFields e
+  as-aggregated h = as-other (λ (q : e .kind ≡ 0). omega arith) (λ (q : e .kind ≡ 1). omega arith)
 
   alarm-simple : AllSimple (alarmFields e)
   alarm-simple =

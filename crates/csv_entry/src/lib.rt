@@ -1,4 +1,5 @@
 // A record's line written, and a line's fields read back to the record.
+pub mod write; // write.rt: a record's fields, by its kind
 
 // How long a line is at most.
 pub const ROOM: usize = 66;
