@@ -45,9 +45,18 @@ named {e} (an-aggregated g) = (rw (as-aggregated e (g .kind), g .kind), omega (a
 pub guessed : {e : Entry} → Valid e → guessOf (e .kind) (fieldsOf e) ≡ e
 unfolding guessOf
 guessed {e} v =
-    rw (link-is e, item-is e, time-is e, sequence-is e, flags-back (v .of-kind), value-is (v .of-kind),
-      small-back (2 ^ 16) (e .link) (omega (arith, v .link)) (omega arith), small-back (2 ^ 16) (e .item) (omega (arith, item-below (v .of-kind))) (omega arith),
-      small-back (2 ^ 32) (e .sequence) (omega (arith, v .sequence)) (omega arith), number-back (e .time) (omega (arith, v .time)))
+    rw (
+      link-is e,
+      item-is e,
+      time-is e,
+      sequence-is e,
+      flags-back (v .of-kind),
+      value-is (v .of-kind),
+      small-back (2 ^ 16) (e .link) (omega (arith, v .link)) (omega arith),
+      small-back (2 ^ 16) (e .item) (omega (arith, item-below (v .of-kind))) (omega arith),
+      small-back (2 ^ 32) (e .sequence) (omega (arith, v .sequence)) (omega arith),
+      number-back (e .time) (omega (arith, v .time)),
+    )
   where
     item-below : {e : Entry} → OfKind e → e .item < 32
     item-below (an-alarm a) = a .item
@@ -81,11 +90,30 @@ event-some (suc (suc (suc k))) h = absurd (omega arith)
 pub has-them : {e : Entry} → OfKind e → present (e .kind) (fieldsOf e) ≡ true
 unfolding presentFrom
 has-them {e} (an-alarm a) =
-    rw (as-alarm e (a .kind), a .kind, digits-some (e .link), digits-some (e .item), event-some (eventOf (e .flags)) (event-below a), digits-some (bit (isAcknowledged (e .flags))),
-      digits-some (bit (isActive (e .flags))), digits-some (bit (isSuspended (e .flags))), digits-some (e .time), digits-some (e .sequence))
+    rw (
+      as-alarm e (a .kind),
+      a .kind,
+      digits-some (e .link),
+      digits-some (e .item),
+      event-some (eventOf (e .flags)) (event-below a),
+      digits-some (bit (isAcknowledged (e .flags))),
+      digits-some (bit (isActive (e .flags))),
+      digits-some (bit (isSuspended (e .flags))),
+      digits-some (e .time),
+      digits-some (e .sequence),
+    )
 has-them {e} (a-status s) =
-    rw (as-status e (s .kind), s .kind, digits-some (e .link), digits-some (e .item), digits-some (bit (isKnown (e .flags))), digits-some (bit (isOld (e .flags))), digits-some (e .time),
-      decimal-some (signedOf (e .value)), digits-some (e .sequence))
+    rw (
+      as-status e (s .kind),
+      s .kind,
+      digits-some (e .link),
+      digits-some (e .item),
+      digits-some (bit (isKnown (e .flags))),
+      digits-some (bit (isOld (e .flags))),
+      digits-some (e .time),
+      decimal-some (signedOf (e .value)),
+      digits-some (e .sequence),
+    )
 has-them {e} (an-aggregated g) =
     rw (as-aggregated e (g .kind), g .kind, digits-some (e .link), digits-some (e .item), digits-some (e .time), digits-some (e .value), digits-some (e .sequence))
 

@@ -69,7 +69,7 @@ pub noted-judged : {s : List ℕ} {n : Notes} {ds : List (List ℕ)} {r : Judged
 unfolding rawsOf
 noted-judged {s} {n} {ds} {r} k h j =
     let e : meant (eachOf (rawAt s n) 0 12) ≡ ds =
-      each-map (rawAt s n) 0 12
-      ∙ each-same (λ i. unquoted false (rawAt s n i)) (λ i. getD ds i []) 0 12 (λ i g. sym (k .each i (omega arith) (omega arith) .is))
-      ∙ sym (twelve-of ds [] h) in
+    each-map (rawAt s n) 0 12
+    ∙ each-same (λ i. unquoted false (rawAt s n i)) (λ i. getD ds i []) 0 12 (λ i g. sym (k .each i (omega arith) (omega arith) .is))
+    ∙ sym (twelve-of ds [] h) in
     subst (λ (l : List (List ℕ)). Judges l r) e (quoted j)

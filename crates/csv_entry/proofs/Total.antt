@@ -79,8 +79,8 @@ holding k ds = ⊎-elim
 pub answer : (ds : List (List ℕ)) → (r : Judged) × Judges ds r
 answer ds = ⊎-elim
     (λ l. ⊎-elim (λ k. bool-cases (present (kindIn (getD ds 1 [])) ds)
-      (λ p. let h = holding (kindIn (getD ds 1 [])) ds in (h .0, held ds (kindIn (getD ds 1 [])) l refl k p (h .1)))
-      (λ p. (Presence, absent ds (kindIn (getD ds 1 [])) l refl k p)))
-      (λ k. (Kind, unnamed ds (kindIn (getD ds 1 [])) l refl k)) (lt-or-ge (kindIn (getD ds 1 [])) 3))
+    (λ p. let h = holding (kindIn (getD ds 1 [])) ds in (h .0, held ds (kindIn (getD ds 1 [])) l refl k p (h .1)))
+    (λ p. (Presence, absent ds (kindIn (getD ds 1 [])) l refl k p)))
+    (λ k. (Kind, unnamed ds (kindIn (getD ds 1 [])) l refl k)) (lt-or-ge (kindIn (getD ds 1 [])) 3))
     (λ n. (Count, other-count n))
     (eq-or-ne (length ds) 12)
