@@ -1,6 +1,7 @@
 pub mod Simple
 pub mod Shape
 pub mod Twelve
+pub mod Guessing
 pub mod Back
 pub mod Judging
 pub mod Room

@@ -2,7 +2,7 @@
 -- Assumes nothing.
 use mathlib.Core.Path.{_≡_}
 use mathlib.Core.List.{List, [], _∷_}
-use Prim.Native.Nat.{ℕ, zero, suc, _+_, _≤_, _<_}
+use Prim.Native.Nat.{ℕ, zero, suc, _+_, _-_, _≤_, _<_}
 use lib.ListN.{length, getD, take, drop}
 use Rattle.csv_field.specs.declared.Notes.{Notes}
 
@@ -20,6 +20,12 @@ rawsOf s n = eachOf (rawAt s n) 0 12
 pub record Within (s : List ℕ) (n : Notes) : Type 0 where
   pub room : (length (n .starts) ≡ 12) × (length (n .lengths) ≡ 12)
   pub each : (j : ℕ) → j < 12 → getD (n .starts) j 0 + getD (n .lengths) j 0 ≤ length s
+
+-- text j stands in s from a to e
+pub record Lies (s : List ℕ) (n : Notes) (j a e : ℕ) : Type 0 where
+  pub ordered : a ≤ e
+  pub within : e ≤ length s
+  pub is : take (e - a) (drop a s) ≡ rawAt s n j
 
 -- the same texts in both
 abbrev pub Agree : List ℕ → Notes → List ℕ → Notes → Type 0

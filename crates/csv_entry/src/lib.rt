@@ -1,5 +1,7 @@
 // A record's line written, and a line's fields read back to the record.
 pub mod write; // write.rt: a record's fields, by its kind
+pub mod texts; // texts.rt: where the twelve texts stand that were noted
+mod guess; // guess.rt: the one record that twelve texts can be the fields of
 
 // How long a line is at most.
 pub const ROOM: usize = 66;
