@@ -5,5 +5,6 @@ pub mod Guessing
 pub mod Back
 pub mod Judging
 pub mod Room
+pub mod Held
 pub mod Quoted
 pub mod Total
