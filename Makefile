@@ -7,7 +7,7 @@ export RSMP_VERSION := $(shell cat VERSION)
 export RSMP_SYMBOL := $(subst .,_,$(RSMP_VERSION))
 
 ## build      the library and the programs, into build/ (the default; the first time it proves the library, see README)
-build: build/rsmp-site build/rsmp-replay build/rsmp-table build/rsmp-week library build/site-tests build/frame-tests
+build: build/rsmp-site build/rsmp-replay build/rsmp-table build/rsmp-week build/rsmp-csv library build/site-tests build/frame-tests
 
 ## run        builds, then shows the main job: a site talks to two supervisors over TCP on this machine
 run: build
@@ -17,8 +17,8 @@ run: build
 test:
 	bash .ci/run
 
-## library    proves and compiles the libraries alone: build/librsmp_site.a and librsmp_week.a with their headers
-library: build/librsmp_site.a build/rsmp_site.h build/librsmp_week.a build/rsmp_week.h
+## library    proves and compiles the libraries alone: build/librsmp_site.a, librsmp_week.a and librsmp_csv.a with their headers
+library: build/librsmp_site.a build/rsmp_site.h build/librsmp_week.a build/rsmp_week.h build/librsmp_csv.a build/rsmp_csv.h
 
 ## install    programs, library, header, manual pages and a systemd unit below PREFIX (/usr/local), all of it below DESTDIR where given
 ## uninstall  takes away what install put there
@@ -32,8 +32,10 @@ help:
 
 PROVED = target/staticlib/libsitec.a
 WEEK_PROVED = target/staticlib/libweekc.a
+CSV_PROVED = target/staticlib/libcsvc.a
 LIBRARY = build/librsmp_site.a
 WEEK_LIBRARY = build/librsmp_week.a
+CSV_LIBRARY = build/librsmp_csv.a
 RUSTC = build/tools/rustc --edition 2021 -O -C strip=symbols
 OUT = build/x86-64
 SITE = $(OUT)/librsmp_site.rlib
@@ -50,6 +52,9 @@ $(PROVED): always
 $(WEEK_PROVED): always | $(PROVED)
 	@host/prove-library weekc
 
+$(CSV_PROVED): always | $(WEEK_PROVED)
+	@host/prove-library csvc
+
 always: ;
 
 # The proved archive, and what ties it to the header's version.
@@ -60,6 +65,10 @@ $(LIBRARY): $(PROVED) host/include/version.S VERSION build/tools/ready
 	build/tools/ar rs $@ $(OUT)/version.o
 
 $(WEEK_LIBRARY): $(WEEK_PROVED)
+	mkdir -p build
+	cp $< $@
+
+$(CSV_LIBRARY): $(CSV_PROVED)
 	mkdir -p build
 	cp $< $@
 
@@ -89,6 +98,10 @@ $(OUT)/rsmp-table: host/table/main.rs $(TABLE) VERSION
 $(OUT)/rsmp-week: host/week/main.rs $(WEEK_LIBRARY) VERSION build/tools/ready
 	mkdir -p $(OUT)
 	$(RUSTC) --crate-name rsmp_week_program -L $(dir $(WEEK_LIBRARY)) -o $@ $<
+
+$(OUT)/rsmp-csv: host/csv/main.rs $(CSV_LIBRARY) VERSION build/tools/ready
+	mkdir -p $(OUT)
+	$(RUSTC) --crate-name rsmp_csv_program -L $(dir $(CSV_LIBRARY)) -o $@ $<
 
 build/%.h: host/include/%.h
 	mkdir -p build
