@@ -49,6 +49,11 @@ one-result {t} {r} {q} {a} {b} (judged {ds} p j) (judged {ds = es} o k) =
     let g : es ≡ ds = cc in
     (one-answer j (subst (λ (l : List (List ℕ)). Judges l b) g k), cc)
 
+-- a line takes something of its text
+pub line-shorter : {t r : List ℕ} {j : Judged} → ReadsLine t j r → (t ≡ [] → ⊥) → length r < length t
+line-shorter (spoilt f) n = faulty-within f
+line-shorter (judged p j) n = parts-within p n
+
 some-line : (ds : List (List ℕ)) (rest : List ℕ) → 2 ≤ length ds → lineFrom ds ++ rest ≡ [] → ⊥
 some-line [] rest h e = omega arith
 some-line (d ∷ []) rest h e = omega arith

@@ -62,11 +62,21 @@ bytesFor Contents = zeros
 abbrev pub nothingRead : List ℕ → ℕ → ℕ → Read
 nothingRead s line answer = record { next = length s; line = line; own = line; answer = answer; bytes = zeros }
 
--- a line that begins at `at` and is not the header; the next one has another number by the line breaks in this one, those in quotes too
+-- a line from `at` to next; the next one has another number by the line breaks in this one, those in quotes too
+abbrev pub lineRead : List ℕ → ℕ → ℕ → ℕ → Judged → Read
+lineRead s at line next j = record {
+  next = next;
+  line = added line (breaks (take (next - at) (drop at s)));
+  own = line;
+  answer = numberFor j;
+  bytes = bytesFor j;
+}
+
+-- a line that begins at `at` and is not the header
 pub data ReadsOn (s : List ℕ) (at line : ℕ) : Read → Type 0 where
   ended : length s ≤ at → ReadsOn s at line (nothingRead s line 7)
   goes-on : {j : Judged} (next : ℕ) → at < length s → at ≤ next → next ≤ length s → ReadsLine (drop at s) j (drop next s)
-      → ReadsOn s at line (record { next = next; line = added line (breaks (take (next - at) (drop at s))); own = line; answer = numberFor j; bytes = bytesFor j })
+      → ReadsOn s at line (lineRead s at line next j)
 
 -- the header, and the line behind it, which is line 2
 pub data ReadsFirst (s : List ℕ) : Read → Type 0 where

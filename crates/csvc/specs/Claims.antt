@@ -1,0 +1,14 @@
+-- What is claimed of reading by calls. proofs/Kept.antt proves it.
+-- Assumes nothing.
+use mathlib.Core.Path.{_≡_}
+use mathlib.Core.List.{List}
+use Prim.Native.Nat.{ℕ, _≤_, _<_}
+use lib.ListN.{length}
+use Rattle.csvc.specs.Calls.{ReadsOn, Reads}
+use Rattle.csvc.specs.declared.Read.{Read}
+
+pub record Claims : Type 0 where
+  -- a call has one answer
+  pub one-result : {s : List ℕ} {at line : ℕ} {a b : Read} → Reads s at line a → Reads s at line b → a ≡ b
+  -- a line that is read ends behind its beginning, within the text: the calls come to the end
+  pub goes-further : {s : List ℕ} {at line : ℕ} {r : Read} → ReadsOn s at line r → (r .answer ≡ 7 → ⊥) → (at < r .next) × (r .next ≤ length s)
