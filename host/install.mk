@@ -7,10 +7,10 @@ UNITDIR = $(PREFIX)/lib/systemd/system
 COMPLETIONDIR = $(PREFIX)/share/bash-completion/completions
 EXAMPLEDIR = $(PREFIX)/share/doc/rsmp-site/examples
 
-PROGRAMS = rsmp-site rsmp-replay rsmp-table rsmp-week
-HEADERS = rsmp_site.h rsmp_week.h
-LIBRARIES = librsmp_site.a librsmp_week.a
-CONFIGS = rsmp_site.pc rsmp_week.pc
+PROGRAMS = rsmp-site rsmp-replay rsmp-table rsmp-week rsmp-csv
+HEADERS = rsmp_site.h rsmp_week.h rsmp_csv.h
+LIBRARIES = librsmp_site.a librsmp_week.a librsmp_csv.a
+CONFIGS = rsmp_site.pc rsmp_week.pc rsmp_csv.pc
 PAGES = $(addsuffix .1,$(PROGRAMS))
 EXAMPLES = examples/rsmp-site.conf examples/barrier.txt examples/commands.txt host/unit/rsmp-site.logrotate examples/move
 INSTALLED = $(addprefix $(BINDIR)/,$(PROGRAMS)) $(addprefix $(LIBDIR)/,$(LIBRARIES)) $(addprefix $(INCLUDEDIR)/,$(HEADERS)) $(addprefix $(LIBDIR)/pkgconfig/,$(CONFIGS)) \

@@ -15,9 +15,10 @@ from cases import ROOT
 
 VERSION = (ROOT / "VERSION").read_text().strip()
 CC, RUN = ROOT / "build" / "tools" / "cc", ROOT / "build" / "tools" / "run"
-PROGRAMS = ["rsmp-site", "rsmp-replay", "rsmp-table", "rsmp-week"]
+PROGRAMS = ["rsmp-site", "rsmp-replay", "rsmp-table", "rsmp-week", "rsmp-csv"]
 TREE = {*(f"bin/{name}" for name in PROGRAMS), *(f"share/man/man1/{name}.1" for name in PROGRAMS), "include/rsmp_site.h",
-        "include/rsmp_week.h", "lib/librsmp_site.a", "lib/librsmp_week.a", "lib/pkgconfig/rsmp_site.pc", "lib/pkgconfig/rsmp_week.pc",
+        "include/rsmp_week.h", "include/rsmp_csv.h", "lib/librsmp_site.a", "lib/librsmp_week.a", "lib/librsmp_csv.a",
+        "lib/pkgconfig/rsmp_site.pc", "lib/pkgconfig/rsmp_week.pc", "lib/pkgconfig/rsmp_csv.pc",
         "lib/systemd/system/rsmp-site.service",
         *(f"share/bash-completion/completions/{name}" for name in PROGRAMS),
         *(f"share/doc/rsmp-site/examples/{name}" for name in ("rsmp-site.conf", "rsmp-site.logrotate", "barrier.txt", "commands.txt", "move"))}
@@ -28,7 +29,10 @@ int main(void) { return (int)rsmp_start(&site, (const uint8_t *)"", 0, 1, 0, 60,
 """, 11), "rsmp_week": ("""#include <rsmp_week.h>
 static uint64_t words[RSMP_WEEK_WORDS];
 int main(void) { return (int)(rsmp_week_begin(words, RSMP_WEEK_WORDS) * 2 + rsmp_week_begin(words, 1)); }
-""", 1)}
+""", 1), "rsmp_csv": ("""#include <rsmp_csv.h>
+static uint8_t out[RSMP_CSV_HEADER];
+int main(void) { return (int)(rsmp_csv_header(out, sizeof out).written + rsmp_csv_read(out, sizeof out, 0, 1).answer + rsmp_csv_header(out, 72).number); }
+""", 84)}
 
 
 def hold(good, what):
@@ -146,7 +150,8 @@ def judge_completions(place):
             (("rsmp-site", "--log-level", "w"), ["warning"]), (("rsmp-site", "--quiet", "--met"), ["--metrics"]),
             (("rsmp-site", "--send", "/x", "s"), ["status", "show", "save"]), (("rsmp-site", "--send", "/x", "show", ""), ["--json"]),
             (("rsmp-site", "--send", "/x", "alarm", "2", "o"), ["on", "off"]), (("rsmp-site", "--table", f"{ROOT}/VER"), [f"{ROOT}/VERSION"]),
-            (("rsmp-replay", "--st"), ["--stream"]), (("rsmp-week", f"{ROOT}/VER"), [f"{ROOT}/VERSION"]), (("rsmp-table", "un"), ["unpack"])):
+            (("rsmp-replay", "--st"), ["--stream"]), (("rsmp-week", f"{ROOT}/VER"), [f"{ROOT}/VERSION"]), (("rsmp-table", "un"), ["unpack"]),
+            (("rsmp-csv", "rec"), ["records"])):
         hold(completed(place, *words) == wanted, f"bash completes {words} to {completed(place, *words)}")
 
 

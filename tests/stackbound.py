@@ -22,7 +22,7 @@ import stack
 
 LIMIT = 32 * 1024
 CC = ROOT / "build" / "tools" / "cc"
-SITE, WEEK = ROOT / "build" / "librsmp_site.a", ROOT / "build" / "librsmp_week.a"
+SITE, WEEK, CSV = (ROOT / "build" / f"librsmp_{name}.a" for name in ("site", "week", "csv"))
 
 # What the archive is linked with; those of the usual C libraries take less.
 OUTSIDE = dict.fromkeys(("memcpy", "memmove", "memset", "memcmp"), 256)
@@ -203,7 +203,7 @@ def judged(archive):
     return exported
 
 
-def stored(archives=(SITE, WEEK)):
+def stored(archives=(SITE, WEEK, CSV)):
     judge_ourselves()
     found = {archive: judged(archive) for archive in archives}
     if SITE in found:

@@ -13,7 +13,7 @@ from cases import ROOT
 VERSION = (ROOT / "VERSION").read_text().strip()
 PROVED, LIBRARY, HEADER = ROOT / "target" / "staticlib" / "libsitec.a", ROOT / "build" / "librsmp_site.a", ROOT / "build" / "rsmp_site.h"
 CC, RUN = ROOT / "build" / "tools" / "cc", ROOT / "build" / "tools" / "run"
-PROGRAMS = ("rsmp-site", "rsmp-replay", "rsmp-table", "rsmp-week")
+PROGRAMS = ("rsmp-site", "rsmp-replay", "rsmp-table", "rsmp-week", "rsmp-csv")
 STARTS = """#include "rsmp_site.h"
 #include <stdio.h>
 static rsmp_site site;

@@ -1,4 +1,4 @@
-# Completions of rsmp-site, rsmp-replay, rsmp-table and rsmp-week for bash. The options are those of a program's own help.
+# Completions of rsmp-site, rsmp-replay, rsmp-table, rsmp-week and rsmp-csv for bash. The options are those of a program's own help.
 
 _rsmp_options() {  # PROGRAM
     "$1" --help 2>/dev/null | grep -oE -e '(^|[^[:alnum:]-])--[a-z][a-z-]*' | grep -oE -e '--[a-z-]*' | sort -u
@@ -56,6 +56,13 @@ _rsmp_table() {
     if [ "$COMP_CWORD" = 1 ]; then _rsmp_words check pack unpack hex --version --help; else _rsmp_files; fi
 }
 
+_rsmp_csv() {
+    local cur=${COMP_WORDS[COMP_CWORD]}
+    COMPREPLY=()
+    if [ "$COMP_CWORD" = 1 ]; then _rsmp_words lines records --version --help; fi
+}
+
 complete -F _rsmp_site rsmp-site
 complete -F _rsmp_files_and_options rsmp-replay rsmp-week
 complete -F _rsmp_table rsmp-table
+complete -F _rsmp_csv rsmp-csv

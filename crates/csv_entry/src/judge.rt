@@ -6,9 +6,9 @@ ghost use Rattle.entry.specs.Valid.{Valid, Decides};
 ghost use Rattle.csv_entry.specs.Fields.{fieldsOf};
 ghost use Rattle.csv_entry.specs.Raws.{rawAt, rawsOf, Within, Agree};
 ghost use Rattle.csv_entry.specs.Judged.{hasColumn, differ as differBy, presentFrom, Judges, Holds};
+use super::Judged;
 use csv_field::Notes;
 use entry::Entry;
-use super::Judged;
 
 const MARKS: [u8; 36] = *b"111111100101111000011111111000000111";
 
@@ -23,11 +23,7 @@ fn has_column(k: u16, j: usize) -> bool
 fn differ(a: bool, b: bool) -> bool
     ensures { λ r. ⌜ r ≡ differBy a b ⌝ }
 {
-    if a {
-        if b { false } else { true }
-    } else {
-        b
-    }
+    if a { if b { false } else { true } } else { b }
 }
 
 // Whether the kind has each text that is not empty, and lacks each that is.

@@ -55,9 +55,9 @@ module _ {s : List ℕ} {n : Notes} {ds : List (List ℕ)} (k : Noted s n ds) wh
     columns-noted : {r : Bool} → Decides r (Columns s n) → Decides r (ds ≡ columns)
     columns-noted d = record {
       yes = λ e. twelve-of ds [] h ∙ each-same (λ j. getD ds j []) columnWord 0 12
-        (λ j g. k .each j (omega arith) (omega arith) .is ∙ ap (unquoted false) (d .yes e j (omega arith)) ∙ text-same (word-simple (6 + j)));
+          (λ j g. k .each j (omega arith) (omega arith) .is ∙ ap (unquoted false) (d .yes e j (omega arith)) ∙ text-same (word-simple (6 + j)));
       only = λ e. d .only (λ j g. same-text (rawAt s n j) (word-simple (6 + j))
-        (sym (k .each j g (omega arith) .is) ∙ ap (λ (l : List (List ℕ)). getD l j []) e ∙ column-is j g));
+          (sym (k .each j g (omega arith) .is) ∙ ap (λ (l : List (List ℕ)). getD l j []) e ∙ column-is j g));
     }
 
 module _ {s t : List ℕ} {l : Line} (g : Good s t l) where

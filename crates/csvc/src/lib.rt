@@ -100,7 +100,11 @@ fn add(line: u64, n: u64) -> u64
     ensures { λ r. ⌜ r ≡ added line n ⌝ }
 {
     let room = 0xffff_ffff_ffff_ffff - line;
-    if n <= room { line + n } else { 0xffff_ffff_ffff_ffff }
+    if n <= room {
+        line + n
+    } else {
+        0xffff_ffff_ffff_ffff
+    }
 }
 
 fn number(j: Judged) -> u64
