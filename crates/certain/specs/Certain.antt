@@ -1,6 +1,6 @@
 -- What is certain of the product: every statement that a reviewer need believe, each a field, and one theorem, `kept`, for all of them.
 -- A host of the exported functions sees what the machine shows (the equation); the three demands hold over every run of the machine; what the machine
--- reads and writes is RFC 8259's and document 01's; the weekly report of a stream is that of its entries. Of every function the checker itself gives that no
+-- reads and writes is RFC 8259's and document 01's; the weekly report of a stream is that of its entries; records go to CSV and back. Of every function the checker itself gives that no
 -- call crashes, hangs or leaves the memory it was lent.
 -- Assumes nothing.
 use Prim.Native.Nat.{ℕ, _≤_, _<_}
@@ -64,6 +64,9 @@ use Rattle.demand_taken.specs.Closing.{DemandClosing}
 use Rattle.demand_taken.specs.Beats.{DemandBeats}
 use Rattle.equation.specs.Equation.{Equation}
 use Rattle.week_promise.specs.Claims.{Claims as Weekly}
+use Rattle.csv_field.specs.Claims.{Claims as CsvFields}
+use Rattle.csv_line.specs.Claims.{Claims as CsvLines}
+use Rattle.csvc.specs.Claims.{Claims as CsvCalls}
 
 -- The three demands, over every sequence of calls of the machine.
 pub record Demands : Type 0 where
@@ -148,6 +151,12 @@ pub record Codecs : Type 0 where
   -- a message's text is one packet, whose fields are the message's
   pub messages : Messages
 
+-- Request 12, records as lines of RFC 4180 and back: a line's fields; what lines and files come to; what the calls answer.
+pub record Csv : Type 0 where
+  pub fields : CsvFields
+  pub lines : CsvLines
+  pub calls : CsvCalls
+
 pub record Certain : Type 1 where
   pub equation : Equation
   pub demands : Demands
@@ -159,3 +168,4 @@ pub record Certain : Type 1 where
   -- a case, or several, of each rule of document 01 and of requests 01, 02, 04, 05, 07 and 10
   pub cases : Cases
   pub weekly : Weekly
+  pub csv : Csv
