@@ -2,9 +2,9 @@
 -- Assumes nothing.
 use mathlib.Core.Bool.{Bool, true, false}
 use mathlib.Core.List.{List, [], _∷_}
-use Prim.Native.Nat.{ℕ, suc, _+_}
+use Prim.Native.Nat.{ℕ, suc, _+_, _-_}
 use lib.Dec.{eqb}
-use lib.ListN.{getD, drop}
+use lib.ListN.{length, getD, drop}
 use Rattle.basis.specs.Pick.{pick, both, bit}
 
 -- t begins with a quote, with a comma, with CRLF
@@ -50,6 +50,10 @@ behindBreak s i = pick (isBreak (drop i s)) (i + 2) i
 unfoldable pub breaks : List ℕ → ℕ
 breaks [] = 0
 breaks (b ∷ t) = bit (isBreak (b ∷ t)) + breaks t
+
+-- CRLF ends t
+abbrev pub isEnded : List ℕ → Bool
+isEnded t = isBreak (drop (length t - 2) t)
 
 -- a quoted field's text: of two quotes the second is left out; with `true`, behind the first of them
 unfoldable pub unquoted : Bool → List ℕ → List ℕ

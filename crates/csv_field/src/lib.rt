@@ -4,7 +4,7 @@ ghost use mathlib.Core.Bool.{false};
 ghost use Prim.Native.Nat.{ℕ, _+_, _≤_};
 ghost use lib.ListN.{length, drop};
 ghost use Rattle.basis.specs.Pick.{bit};
-ghost use Rattle.csv_field.specs.Marks.{isQuote, isComma, isBreak, isStop, plainRun, quotedRun, lineRun, behindBreak, breaks};
+ghost use Rattle.csv_field.specs.Marks.{isQuote, isComma, isBreak, isStop, plainRun, quotedRun, lineRun, behindBreak, breaks, isEnded};
 ghost use Rattle.csv_field.specs.Split.{plainBy, quotedBy, fieldOf, split};
 ghost use Rattle.csv_field.specs.Places.{Takes, Splits, noted};
 
@@ -238,4 +238,14 @@ pub fn count_breaks(t: &[u8]) -> usize
         i += 1;
     }
     n
+}
+
+// Whether CRLF ends t.
+pub fn is_ended(t: &[u8]) -> bool
+    ensures { λ r. ⌜ r ≡ isEnded (now (t .entry)) ⌝ }
+{
+    if t.len() < 2 {
+        return false;
+    }
+    is_break(t, t.len() - 2)
 }

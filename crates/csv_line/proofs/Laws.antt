@@ -68,7 +68,7 @@ lines-back : {es : List Entry} → AllValid es → ReadsLines (concat (map lineO
 lines-back AllValid.none = ReadsLines.end
 lines-back (AllValid.next {e} {es} v w) = ReadsLines.line (line-some e (concat (map lineOf es))) (read-written (concat (map lineOf es)) v) (lines-back w)
 
-columns-simple : AllSimple columns
+pub columns-simple : AllSimple columns
 columns-simple =
     AllSimple.next (word-simple 6) (AllSimple.next (word-simple 7) (AllSimple.next (word-simple 8) (AllSimple.next (word-simple 9)
     (AllSimple.next (word-simple 10) (AllSimple.next (word-simple 11) (AllSimple.next (word-simple 12) (AllSimple.next (word-simple 13)

@@ -9,6 +9,7 @@ use Rattle.csv_line.proofs.Laws as Lines
 use Rattle.csvc.specs.Calls.{lineRead, ReadsOn, ReadsFirst, Reads}
 use Rattle.csvc.specs.Claims.{Claims}
 use Rattle.csvc.specs.declared.Read.{Read}
+use Rattle.csvc.proofs.Whole.{whole}
 
 -- one place ends a text's part
 one-place : (s : List ℕ) (n m : ℕ) → n ≤ length s → m ≤ length s → drop n s ≡ drop m s → n ≡ m
@@ -42,4 +43,4 @@ further {s} {at} (ReadsOn.goes-on m g o l p) n =
     (omega (arith, Lines.line-shorter p some, length-drop m s, length-drop at s), l)
 
 pub kept : Claims
-kept = record { one-result = once; goes-further = further }
+kept = record { one-result = once; goes-further = further; whole = λ n c q. whole n c q }

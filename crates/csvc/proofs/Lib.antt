@@ -1,2 +1,5 @@
 mod Answers
+mod Ends
+mod Breaks
+mod Whole
 pub mod Kept

@@ -1,7 +1,7 @@
 -- What the calls answer, and what they leave in the output.
 -- Assumes nothing.
 use mathlib.Core.Path.{_≡_}
-use mathlib.Core.List.{List, [], _∷_}
+use mathlib.Core.List.{List}
 use Prim.Native.Nat.{ℕ, _+_, _-_, _^_, _≤_, _<_}
 use lib.Dec.{leb}
 use lib.ListN.{length, take, drop, replicate}
@@ -11,7 +11,7 @@ use Rattle.entry.specs.declared.Entry.{Entry}
 use Rattle.entry.specs.Layout.{bytesOf}
 use Rattle.entry.specs.Valid.{Valid}
 use Rattle.csv_field.specs.Grammar.{Parts}
-use Rattle.csv_field.specs.Marks.{breaks}
+use Rattle.csv_field.specs.Marks.{breaks, isEnded}
 use Rattle.csv_words.specs.Words.{columns}
 use Rattle.csv_entry.specs.Fields.{lineOf, headerLine}
 use Rattle.csv_entry.specs.declared.Judged.{Judged}
@@ -38,6 +38,10 @@ pub data Writes (bytes out out′ : List ℕ) : Told → Type 0 where
 unfoldable pub added : ℕ → ℕ → ℕ
 added line n = pick (leb n (2 ^ 64 - 1 - line)) (line + n) (2 ^ 64 - 1)
 
+-- the number of the line behind t: the line breaks in t count, those in quotes too, and its end where it is no line break
+unfoldable pub lineBehind : List ℕ → ℕ → ℕ
+lineBehind t line = pick (isEnded t) (added line (breaks t)) (added (added line (breaks t)) 1)
+
 abbrev pub zeros : List ℕ
 zeros = replicate 16 0
 
@@ -62,11 +66,11 @@ bytesFor Contents = zeros
 abbrev pub nothingRead : List ℕ → ℕ → ℕ → Read
 nothingRead s line answer = record { next = length s; line = line; own = line; answer = answer; bytes = zeros }
 
--- a line from `at` to next; the next one has another number by the line breaks in this one, those in quotes too
+-- a line from `at` to next
 abbrev pub lineRead : List ℕ → ℕ → ℕ → ℕ → Judged → Read
 lineRead s at line next j = record {
   next = next;
-  line = added line (breaks (take (next - at) (drop at s)));
+  line = lineBehind (take (next - at) (drop at s)) line;
   own = line;
   answer = numberFor j;
   bytes = bytesFor j;

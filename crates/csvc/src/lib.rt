@@ -2,7 +2,7 @@
 ghost use mathlib.Core.Path.{_≡_};
 ghost use Prim.Native.Nat.{ℕ, _≤_};
 ghost use lib.ListN.{length};
-ghost use Rattle.csvc.specs.Calls.{added, numberFor, bytesFor, zeros, Heads, Writes, ReadsOn, ReadsFirst, Reads};
+ghost use Rattle.csvc.specs.Calls.{added, lineBehind, numberFor, bytesFor, zeros, Heads, Writes, ReadsOn, ReadsFirst, Reads};
 use csv_entry::Judged;
 
 // How many bytes the header needs.
@@ -107,6 +107,19 @@ fn add(line: u64, n: u64) -> u64
     }
 }
 
+// The number of the line behind t, which is from its beginning on of line `line`.
+fn line_behind(t: &[u8], line: u64) -> u64
+    ensures { λ r. ⌜ r ≡ lineBehind (now (t .entry)) line ⌝ }
+{
+    let n = csv_field::count_breaks(t);
+    let next = add(line, n as u64);
+    if csv_field::is_ended(t) {
+        next
+    } else {
+        add(next, 1)
+    }
+}
+
 fn number(j: Judged) -> u64
     ensures { λ r. ⌜ r ≡ numberFor j ⌝ }
 {
@@ -155,12 +168,12 @@ fn read_on(text: &[u8], at: usize, line: u64) -> Read
     let l = csv_field::take_line(text, at);
     let j = csv_line::judge_line(text, at, l);
     let end = l.next;
-    let breaks = csv_field::count_breaks(&text[at..end]);
+    let behind = line_behind(&text[at..end], line);
     let p = packed(j);
     let bytes = p.bytes;
     Read {
         next: end as u64,
-        line: add(line, breaks as u64),
+        line: behind,
         own: line,
         answer: number(j),
         bytes,
