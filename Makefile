@@ -40,6 +40,7 @@ RUSTC = build/tools/rustc --edition 2021 -O -C strip=symbols
 OUT = build/x86-64
 SITE = $(OUT)/librsmp_site.rlib
 TABLE = $(OUT)/librsmp_table.rlib
+CSV = $(OUT)/librsmp_csv.rlib
 
 # The compilers for x86-64, and how its programs are run; host/tools says which.
 build/tools/ready: host/tools
@@ -83,14 +84,18 @@ $(TABLE): host/rsmp_table/lib.rs $(wildcard host/rsmp_table/*.rs) build/tools/re
 	mkdir -p $(OUT)
 	$(RUSTC) --crate-type rlib --crate-name rsmp_table -o $@ $<
 
-$(OUT)/rsmp-replay: host/replay/main.rs $(wildcard host/replay/*.rs) $(SITE) $(TABLE)
-	$(RUSTC) --crate-name rsmp_replay --extern rsmp_site=$(SITE) --extern rsmp_table=$(TABLE) -o $@ $<
+$(CSV): host/rsmp_csv/lib.rs $(CSV_LIBRARY) build/tools/ready
+	mkdir -p $(OUT)
+	$(RUSTC) --crate-type rlib --crate-name rsmp_csv -L $(dir $(CSV_LIBRARY)) -o $@ $<
 
-$(OUT)/rsmp-site: host/site/main.rs $(wildcard host/site/*.rs) $(SITE) $(TABLE)
-	$(RUSTC) --crate-name rsmp_site_program --extern rsmp_site=$(SITE) --extern rsmp_table=$(TABLE) -o $@ $<
+$(OUT)/rsmp-replay: host/replay/main.rs $(wildcard host/replay/*.rs) $(SITE) $(TABLE) $(CSV)
+	$(RUSTC) --crate-name rsmp_replay --extern rsmp_csv=$(CSV) --extern rsmp_site=$(SITE) --extern rsmp_table=$(TABLE) -o $@ $<
 
-$(OUT)/frame-tests: host/site/main.rs $(wildcard host/site/*.rs) $(SITE) $(TABLE)
-	$(RUSTC) --test --crate-name frame_tests --extern rsmp_site=$(SITE) --extern rsmp_table=$(TABLE) -o $@ $<
+$(OUT)/rsmp-site: host/site/main.rs $(wildcard host/site/*.rs) $(SITE) $(TABLE) $(CSV)
+	$(RUSTC) --crate-name rsmp_site_program --extern rsmp_csv=$(CSV) --extern rsmp_site=$(SITE) --extern rsmp_table=$(TABLE) -o $@ $<
+
+$(OUT)/frame-tests: host/site/main.rs $(wildcard host/site/*.rs) $(SITE) $(TABLE) $(CSV)
+	$(RUSTC) --test --crate-name frame_tests --extern rsmp_csv=$(CSV) --extern rsmp_site=$(SITE) --extern rsmp_table=$(TABLE) -o $@ $<
 
 $(OUT)/rsmp-table: host/table/main.rs $(TABLE) VERSION
 	$(RUSTC) --crate-name rsmp_table_program --extern rsmp_table=$(TABLE) -o $@ $<
@@ -99,9 +104,8 @@ $(OUT)/rsmp-week: host/week/main.rs $(WEEK_LIBRARY) VERSION build/tools/ready
 	mkdir -p $(OUT)
 	$(RUSTC) --crate-name rsmp_week_program -L $(dir $(WEEK_LIBRARY)) -o $@ $<
 
-$(OUT)/rsmp-csv: host/csv/main.rs $(CSV_LIBRARY) VERSION build/tools/ready
-	mkdir -p $(OUT)
-	$(RUSTC) --crate-name rsmp_csv_program -L $(dir $(CSV_LIBRARY)) -o $@ $<
+$(OUT)/rsmp-csv: host/csv/main.rs host/site/image.rs $(SITE) $(CSV) VERSION
+	$(RUSTC) --crate-name rsmp_csv_program --extern rsmp_csv=$(CSV) --extern rsmp_site=$(SITE) -o $@ $<
 
 build/%.h: host/include/%.h
 	mkdir -p build

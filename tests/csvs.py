@@ -4,11 +4,14 @@
   csvs.py --fresh [SEED]   random records; their lines quoted, damaged and cut
 """
 import csv
+import functools
 import io
+import pathlib
 import random
 import re
 import subprocess
 import sys
+import tempfile
 
 from cases import ROOT, stored_or_fresh
 
@@ -21,7 +24,7 @@ HAS = [set(names.split()) for names in ("link kind item event ack active suspend
                                         "link kind item time value sequence")]
 LAST_TIME, LAST_SEQUENCE = 253402300799999, 2**31 - 1
 WIDTHS = (3, 2, 6, 6, 48, 32, 31)
-REASONS = {1: "wrong header", 2: "bad quoting", 3: "wrong field count", 4: "unknown kind", 5: "a field that the kind lacks, or lacks one that it has",
+REASONS = {1: "wrong header", 2: "bad quoting", 3: "wrong field count", 4: "unknown kind", 5: "a field filled or empty against its kind",
            6: "fields no record is written with"}
 T = 1254398371571
 
@@ -123,22 +126,25 @@ def judged(fields):
     return record
 
 
-def read(text):
-    """The records' bytes, and (line, reason's number) of what is refused."""
+def calls(text):
+    """What each call gives: the answer, the line's own number, the next place and its line, the record's bytes."""
     fields, at = split(text, 0)
     if fields != [name.encode() for name in NAMES]:
-        return b"", [(1, 1)]
-    data, refused, number = [], [], 2
+        return [(1, 1, len(text), 1, bytes(16))]
+    given, number = [], 2
     while at < len(text):
-        start = at
+        start, own = at, number
         fields, at = split(text, at)
         found = judged(fields)
-        if isinstance(found, tuple):
-            data.append(bytes_of(found))
-        else:
-            refused.append((number, found))
-        number += text.count(b"\r\n", start, at)
-    return b"".join(data), refused
+        number += text.count(b"\r\n", start, at) + (not text.endswith(b"\r\n", start, at))
+        given.append((0, own, at, number, bytes_of(found)) if isinstance(found, tuple) else (found, own, at, number, bytes(16)))
+    return given + [(7, number, at, number, bytes(16))]
+
+
+def read(text):
+    """The records' bytes, and (line, reason's number) of what is refused."""
+    given = calls(text)
+    return b"".join(record for answer, *_, record in given if answer == 0), [(own, answer) for answer, own, *_ in given if answer not in (0, 7)]
 
 
 # Running the program.
@@ -153,6 +159,23 @@ def agree(what, order, given, output, told):
     got = run(order, given)
     if got != expected:
         sys.exit(f"rsmp-csv {order}: {what}:\n expected {str(expected)[:900]}\n got      {str(got)[:900]}\n for {given[:2000]!r}")
+
+
+@functools.cache
+def caller():
+    """A program that calls rsmp_csv_read, and the folder that it is in."""
+    room = tempfile.TemporaryDirectory()
+    made = pathlib.Path(room.name) / "csvcalls"
+    subprocess.run([ROOT / "build" / "tools" / "cc", "-std=c99", "-Wall", "-Wextra", "-Werror", "-O2", "-I", ROOT / "build", "-o", made,
+                    ROOT / "tests" / "csvcalls.c", ROOT / "build" / "librsmp_csv.a"], check=True)
+    return made, room
+
+
+def agree_calls(what, text):
+    said = subprocess.run([ROOT / "build" / "tools" / "run", caller()[0]], input=text, stdout=subprocess.PIPE, check=True).stdout.decode().splitlines()
+    wanted = [f"{answer} {own} {at} {number} {record.hex()}" for answer, own, at, number, record in calls(text)]
+    if said != wanted:
+        sys.exit(f"rsmp_csv_read: {what}:\n expected {wanted[-3:]}\n got      {said[-3:]}\n for {text[:2000]!r}")
 
 
 def agree_read(what, text):
@@ -224,6 +247,7 @@ def stored():
     for what, text, refused, count in WHOLE + [(what, HEADER + text, refused, count) for what, text, refused, count in BEHIND]:
         if agree_read(what, text) != (count, refused):
             sys.exit(f"csvs.py: {what}: this script answers {agree_read(what, text)}")
+        agree_calls(what, text)
     source, bad = random.Random(12), 0
     for _ in range(200):
         data = bytearray(bytes_of(some_record(source)))
@@ -273,6 +297,7 @@ def fresh(seed):
                 sys.exit(f"csvs.py: {what}: not all that Python's csv writes is read")
         damaged = HEADER + b"".join(rewritten(source, line_of(record)) for record in records)
         for one in (damaged, damaged[:source.randrange(len(damaged))], text[:source.randrange(len(text))]):
+            agree_calls(what, one)
             count, told = agree_read(what, one)
             accepted += count
             for _, reason in told:

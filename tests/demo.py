@@ -6,6 +6,8 @@ import sys
 import tempfile
 import time
 
+import csvs
+import replays
 import weeks
 from model import message
 from process import NORTH, SITE, SOUTH, SXL, WITH_COMMANDS, Process, boom, subscription
@@ -141,17 +143,36 @@ def report(centre):
     say()
 
 
+def spreadsheet(process, state):
+    """The whole day and what the state holds at its end, as CSV; and back to the records' bytes."""
+    held = subprocess.run([csvs.PROGRAM, "state", state], stdout=subprocess.PIPE, check=True).stdout
+    day = subprocess.run([replays.PROGRAM, "--records", process.record], stdout=subprocess.PIPE, check=True).stdout
+    for text in (held, day):
+        data = subprocess.run([csvs.PROGRAM, "records"], input=text, stdout=subprocess.PIPE, check=True).stdout
+        if subprocess.run([csvs.PROGRAM, "lines"], input=data, stdout=subprocess.PIPE, check=True).stdout != text:
+            sys.exit("CSV that was read and written is another")
+    day, held = day.decode().splitlines(), held.decode().splitlines()
+    if not set(held) <= set(day):
+        sys.exit("the state holds what the day has not issued")
+    say(f"The day for a spreadsheet: {len(day) - 1} records as CSV, of which the state holds {len(held) - 1} at the end. The first three:")
+    for row in day[:4]:
+        say("  " + row)
+    say()
+
+
 def main():
     centre, workshop = Supervisor(SITE, SXL), Supervisor(SITE, SXL, offer="3.1.4")
     with tempfile.TemporaryDirectory() as room:
         motor = Motor(room)
-        process = Process(room, [centre, workshop], "--on-command", motor.program, table=WITH_COMMANDS)
+        state = pathlib.Path(room) / "state"
+        process = Process(room, [centre, workshop], "--on-command", motor.program, "--state", state, table=WITH_COMMANDS)
         try:
             show(process, centre, workshop, motor)
             process.quit()
         finally:
             process.process.kill()
         summary(process)
+        spreadsheet(process, state)
     report(centre)
     say("Two of the messages that the centre got:")
     for said in (centre.messages[0], centre.of("StatusUpdate")[-1]):

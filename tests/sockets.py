@@ -23,6 +23,7 @@ import socket_hostile
 import socket_links
 import socket_operator
 import socket_polled
+import socket_records
 import socket_state
 import socket_talk
 import socket_time
@@ -31,7 +32,7 @@ from process import Failed, Process
 AT_ONCE = 2
 # The longest first.
 SUBJECTS = (socket_talk, socket_operator, socket_state, socket_files, socket_floods, socket_commands, socket_links, socket_time, socket_hostile,
-            socket_end, socket_polled)
+            socket_end, socket_polled, socket_records)
 
 
 def run(test, *more):

@@ -1,6 +1,12 @@
 //! Writes records as CSV and reads them back. The proved library writes and reads each line; this lends it memory.
 
+#[path = "../site/image.rs"]
+mod image;
+
+use rsmp_csv::{LINE, RECORD};
+use rsmp_site::Site;
 use std::env;
+use std::fs;
 use std::io::{self, BufWriter, Read, Write};
 use std::process::ExitCode;
 
@@ -8,82 +14,25 @@ const USAGE: &str = "rsmp-csv: records as CSV, and back
 
   rsmp-csv lines <RECORDS >CSV
   rsmp-csv records <CSV >RECORDS
+  rsmp-csv state FILE >CSV
   rsmp-csv --version | --help
 
-RECORDS has 16 bytes for each record, one after the other, as rsmp_record gives them. CSV has a header and a line for each record, ended by CRLF:
+RECORDS has 16 bytes for each record, one after the other, as rsmp_record gives them. FILE is the state of rsmp-site: the records that it holds, link by
+link, oldest first. CSV has a header and a line for each record, ended by CRLF:
 
   link,kind,item,event,ack,active,suspended,known,old,time,value,sequence
 
 What is not accepted is told on standard error, as `record N: reason` or `line N: reason`, and left out; the header is line 1, and a line break in
-quotes counts. Behind a wrong header nothing is read. Status: 0, 1 where something was left out or a stream fails, 2 for other arguments.
+quotes counts. Behind a wrong header nothing is read. Status: 0, 1 where something was left out, the file is no state or a stream fails, 2 for other
+arguments.
 ";
-
-/// As `rsmp_csv.h` has them.
-const HEADER: usize = 73;
-const LINE: usize = 66;
-const RECORD: usize = 16;
-const ACCEPTED: u64 = 0;
-const WRONG_HEADER: u64 = 1;
-const END: u64 = 7;
-
-#[repr(C)]
-struct Told {
-    written: u64,
-    number: u64,
-}
-
-#[repr(C)]
-struct Line {
-    next: u64,
-    line: u64,
-    own: u64,
-    answer: u64,
-    record: [u8; RECORD],
-}
-
-#[link(name = "rsmp_csv", kind = "static")]
-extern "C" {
-    fn rsmp_csv_header(out: *mut u8, out_len: usize) -> Told;
-    fn rsmp_csv_line(record: *const u8, record_len: usize, out: *mut u8, out_len: usize) -> Told;
-    fn rsmp_csv_read(text: *const u8, text_len: usize, at: u64, line: u64) -> Line;
-}
-
-fn header(out: &mut [u8; HEADER]) -> &[u8] {
-    // SAFETY: the output is lent with its own length, and for the call alone.
-    let told = unsafe { rsmp_csv_header(out.as_mut_ptr(), HEADER) };
-    assert_eq!(told.number, 0);
-    &out[..told.written as usize]
-}
-
-/// The record's line, if it is one.
-fn line<'a>(record: &[u8], out: &'a mut [u8; LINE]) -> Option<&'a [u8]> {
-    // SAFETY: each slice is lent with its own length, for the call alone, and they lie apart.
-    let told = unsafe { rsmp_csv_line(record.as_ptr(), record.len(), out.as_mut_ptr(), LINE) };
-    (told.number == 0).then(|| &out[..told.written as usize])
-}
-
-fn read(text: &[u8], at: u64, line: u64) -> Line {
-    // SAFETY: the text is lent with its own length, and for the call alone.
-    unsafe { rsmp_csv_read(text.as_ptr(), text.len(), at, line) }
-}
-
-fn reason(answer: u64) -> &'static str {
-    match answer {
-        WRONG_HEADER => "wrong header",
-        2 => "bad quoting",
-        3 => "wrong field count",
-        4 => "unknown kind",
-        5 => "a field that the kind lacks, or lacks one that it has",
-        _ => "fields no record is written with",
-    }
-}
 
 /// Whether every record was written.
 fn lines(records: &[u8], mut output: impl Write) -> io::Result<bool> {
     let mut whole = true;
-    output.write_all(header(&mut [0; HEADER]))?;
+    output.write_all(&rsmp_csv::header())?;
     for (i, record) in records.chunks(RECORD).enumerate() {
-        match line(record, &mut [0; LINE]) {
+        match rsmp_csv::line(record, &mut [0; LINE]) {
             Some(line) => output.write_all(line)?,
             None => {
                 whole = false;
@@ -98,24 +47,26 @@ fn lines(records: &[u8], mut output: impl Write) -> io::Result<bool> {
 
 /// Whether every line was accepted.
 fn records(text: &[u8], mut output: impl Write) -> io::Result<bool> {
-    let (mut at, mut number, mut whole) = (0, 1, true);
-    loop {
-        let line = read(text, at, number);
-        match line.answer {
-            ACCEPTED => output.write_all(&line.record)?,
-            END => break,
-            answer => {
+    let mut whole = true;
+    for (number, found) in rsmp_csv::lines(text) {
+        match found {
+            Ok(record) => output.write_all(&record)?,
+            Err(reason) => {
                 whole = false;
-                let _ = writeln!(io::stderr(), "line {}: {}", line.own, reason(answer));
-                if answer == WRONG_HEADER {
-                    break;
-                }
+                let _ = writeln!(io::stderr(), "line {}: {}", number, reason.text());
             }
         }
-        (at, number) = (line.next, line.line);
     }
     output.flush()?;
     Ok(whole)
+}
+
+/// The records that a state holds, link by link, oldest first.
+fn held(bytes: Vec<u8>) -> Result<Vec<u8>, String> {
+    let bytes = image::newest(bytes);
+    let (_, stored) = image::parts(&bytes)?;
+    let site = Site::from_stored(stored).map_err(|fault| format!("it is {fault}"))?;
+    Ok((0..site.links()).flat_map(|link| site.records(link)).flatten().collect())
 }
 
 fn failed(status: u8, message: &str) -> ExitCode {
@@ -131,22 +82,27 @@ fn done(result: io::Result<bool>) -> ExitCode {
     }
 }
 
-fn main() -> ExitCode {
-    let words: Vec<String> = env::args_os().skip(1).map(|word| word.to_string_lossy().into_owned()).collect();
-    let order: &str = match &words[..] {
-        [order] => order,
-        _ => "",
-    };
-    let mut output = BufWriter::new(io::stdout().lock());
-    match order {
-        "--help" | "-h" => return done(output.write_all(USAGE.as_bytes()).and_then(|()| output.flush()).map(|()| true)),
-        "--version" => return done(writeln!(output, "rsmp-csv {}", env!("RSMP_VERSION")).and_then(|()| output.flush()).map(|()| true)),
-        "lines" | "records" => {}
-        _ => return failed(2, "one of lines, records (see rsmp-csv --help)"),
-    }
+fn all_input() -> Result<Vec<u8>, String> {
     let mut input = Vec::new();
-    if let Err(error) = io::stdin().lock().read_to_end(&mut input) {
-        return failed(1, &format!("standard input: {error}"));
+    io::stdin().lock().read_to_end(&mut input).map(|_| input).map_err(|error| format!("standard input: {error}"))
+}
+
+fn main() -> ExitCode {
+    let words: Vec<_> = env::args_os().skip(1).collect();
+    let known: Vec<_> = words.iter().map(|word| word.to_string_lossy()).collect();
+    let known: Vec<&str> = known.iter().map(|word| word.as_ref()).collect();
+    let mut output = BufWriter::new(io::stdout().lock());
+    let given = match known[..] {
+        ["--help" | "-h"] => return done(output.write_all(USAGE.as_bytes()).and_then(|()| output.flush()).map(|()| true)),
+        ["--version"] => return done(writeln!(output, "rsmp-csv {}", env!("RSMP_VERSION")).and_then(|()| output.flush()).map(|()| true)),
+        ["lines" | "records"] => all_input(),
+        ["state", name] => fs::read(&words[1]).map_err(|error| error.to_string()).and_then(held).map_err(|why| format!("{name}: {why}")),
+        ["state"] => return failed(2, "state: wanted the state's file (see rsmp-csv --help)"),
+        _ => return failed(2, "one of lines, records, state FILE (see rsmp-csv --help)"),
+    };
+    match given {
+        Err(message) => failed(1, &message),
+        Ok(text) if known[0] == "records" => done(records(&text, output)),
+        Ok(bytes) => done(lines(&bytes, output)),
     }
-    done(if order == "lines" { lines(&input, output) } else { records(&input, output) })
 }

@@ -112,6 +112,11 @@ impl Player {
         self.links.map_or(Vec::new(), |_| records(&self.lent.site, link))
     }
 
+    /// A player of the same site, which holds no records.
+    pub fn emptied(&self) -> Player {
+        Player { lent: Box::new(Guarded { site: self.lent.site.without_records(), ..PATTERNED }), links: self.links, ..Player::new() }
+    }
+
     /// A site as `rsmp-site` stores it; what was played before does not matter from here on.
     fn restore(&mut self, bytes: &[u8]) -> Result<String, String> {
         let site = Site::from_stored(bytes).map_err(|fault| fault.to_string())?;

@@ -258,7 +258,7 @@ fn time_of(record: &[u8; 16]) -> u64 {
     field(record, 48, 63)
 }
 
-fn sequence_of(record: &[u8; 16]) -> u32 {
+pub fn sequence_of(record: &[u8; 16]) -> u32 {
     field(record, 31, 0) as u32
 }
 

@@ -2,12 +2,14 @@
 
 mod checked;
 mod day;
+mod issued;
 mod moment;
 mod picture;
 mod script;
 
 use checked::{Player, Violation};
 use day::Day;
+use issued::Issued;
 use script::Line;
 use std::fs::File;
 use std::io::{self, BufRead, BufReader, Write};
@@ -19,6 +21,7 @@ const USAGE: &str = "rsmp-replay: plays a script of calls on a site
   rsmp-replay --picture [SCRIPT]     plays it and prints a picture of it (SVG): phases, records issued, sent, answered, held and lost,
                                      commands handed over, alarms active
   rsmp-replay --stream LINK [SCRIPT]   plays it and writes what the link's supervisor was sent, as rsmp-week reads it
+  rsmp-replay --records [SCRIPT]     plays it and writes every record that it issued as CSV (as rsmp-csv does), in the order of the calls
   rsmp-replay --version | --help
 
 Lines, - standing for empty bytes or no primary:
@@ -121,6 +124,14 @@ fn stream(input: impl BufRead, wanted: u32) -> Result<(), End> {
     Ok(output.flush()?)
 }
 
+/// Every record that was issued, to the first line that cannot be played.
+fn records(input: impl BufRead) -> Result<(), End> {
+    let (mut output, mut issued) = (io::stdout().lock(), Issued::default());
+    output.write_all(&rsmp_csv::header())?;
+    play(input, |line, answer, player| issued.write(line, answer.starts_with("0 "), player, &mut output))?;
+    Ok(output.flush()?)
+}
+
 fn stream_of(link: &str, input: Result<impl BufRead, io::Error>) -> Result<(), End> {
     match link.parse() {
         Ok(link) if link < rsmp_site::LINKS => stream(input?, link),
@@ -141,6 +152,8 @@ fn main() -> ExitCode {
         ["--picture", name] => File::open(name).map_err(End::Broken).and_then(|file| picture(BufReader::new(file))),
         ["--stream", link] => stream_of(link, Ok(io::stdin().lock())),
         ["--stream", link, name] => stream_of(link, File::open(name).map(BufReader::new)),
+        ["--records"] => records(io::stdin().lock()),
+        ["--records", name] => File::open(name).map_err(End::Broken).and_then(|file| records(BufReader::new(file))),
         ["--version" | "-V"] => print(concat!("rsmp-replay ", env!("RSMP_VERSION"), "\n")),
         ["--help" | "-h"] => print(&help()),
         _ => print(&help()).and(Err(End::NoWords)),

@@ -1,13 +1,15 @@
 //! The inputs, values and subscriptions that stand in a site, for people to look at. The library has no readings of them: they are read from the words
 //! in which docs/ARCHITECTURE.md places them, of the edition `SITE_EDITION`.
 
-use crate::ffi::WORDS;
+use crate::ffi::{Block, WORDS};
 use crate::{Site, LINKS};
+use core::ops::Range;
 
 /// A link's share of the subscriptions, and the alarms and statuses there are places for.
 const ROWS: u32 = 32;
 const NEXT_NUMBER: usize = 0;
 const AGGREGATED: usize = 4;
+const POOL: Range<usize> = 9..521;
 const SUBSCRIPTIONS: usize = 821;
 const ALARMS: usize = 1077;
 const STATUSES: usize = 1141;
@@ -29,6 +31,15 @@ impl AlarmState {
         let (time, states) = (words[at], words[at + 1]);
         let is = |bit: u32| states >> bit & 0xFFFF != 0;
         Some(AlarmState { active: is(16), acknowledged: is(32), suspended: is(0), time })
+    }
+}
+
+impl Block {
+    /// The same site with every place of the pool free.
+    pub fn without_records(&self) -> Block {
+        let mut lent = self.clone();
+        lent.words[POOL].fill(0);
+        lent
     }
 }
 

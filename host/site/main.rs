@@ -11,6 +11,7 @@ mod drain;
 mod form;
 mod framing;
 mod host;
+mod image;
 mod journal;
 mod json;
 mod metrics;

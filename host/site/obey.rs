@@ -35,6 +35,7 @@ impl Host {
         let told = match order {
             Order::Counts => format!("done: {}", self.counts()),
             Order::Links => format!("done: {}", self.phases()),
+            Order::Records => self.records(),
             Order::Commands => format!("done: {}", self.commands.counts().unwrap_or_else(|| "the table has no commands".to_string())),
             Order::Show => followed(&self.shown().lines()),
             Order::ShowJson => followed(&[self.shown().json()]),
@@ -72,6 +73,19 @@ impl Host {
         each.collect::<Vec<_>>().join("; ")
     }
 
+    /// The held records as CSV, link by link, oldest first. Each line has the CR of its end.
+    fn records(&self) -> String {
+        let (site, mut out) = (&self.calls.site, [0; rsmp_csv::LINE]);
+        let mut lines = vec![without_feed(&rsmp_csv::header())];
+        for record in (0..site.links()).flat_map(|link| site.records(link)) {
+            match rsmp_csv::line(&record, &mut out) {
+                Some(line) => lines.push(without_feed(line)),
+                None => return "refused: what is held has no line".to_string(),
+            }
+        }
+        followed(&lines)
+    }
+
     /// A link's phase, and where it is Up its version.
     pub fn phase_of(&self, link: u32) -> String {
         let site = &self.calls.site;
@@ -85,4 +99,8 @@ impl Host {
         let each = (0..self.links.len() as u32).map(|link| format!("link {} {}", link, self.phase_of(link)));
         each.collect::<Vec<_>>().join("; ")
     }
+}
+
+fn without_feed(line: &[u8]) -> String {
+    String::from_utf8_lossy(&line[..line.len() - 1]).into_owned()
 }

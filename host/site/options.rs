@@ -63,6 +63,7 @@ Orders, a line each; a reply begins with done or refused (done, not stored: with
   aggregated 0..255          the eight booleans of the aggregated status, the first being 128
   counts                     the records held and lost of each link
   links                      the state of each link
+  records                    the held records as CSV, link by link, oldest first
   commands                   how many were handed over, done, failed, wait
   show, show --json          all of it: links, alarms, values, subscriptions, counters since the start
   save                       write the state now

@@ -5,7 +5,7 @@ use rsmp_table::Table;
 
 pub const HELP: &str =
     "alarm NUMBER on|off, alarm COMPONENT CODE on|off, status NUMBER VALUE, status COMPONENT CODE NAME VALUE, aggregated 0..255, \
-                        counts, links, commands, show, show --json, save, help, quit";
+                        counts, links, records, commands, show, show --json, save, help, quit";
 
 #[derive(Debug, PartialEq, Eq)]
 pub enum Order {
@@ -14,6 +14,7 @@ pub enum Order {
     Aggregated(u8),
     Counts,
     Links,
+    Records,
     Commands,
     Show,
     ShowJson,
@@ -35,6 +36,7 @@ pub fn read(line: &str, table: &Table) -> Result<Order, String> {
         ["aggregated", value] => Ok(Order::Aggregated(number_of(value, "the value")?)),
         ["counts"] => Ok(Order::Counts),
         ["links"] => Ok(Order::Links),
+        ["records"] => Ok(Order::Records),
         ["commands"] => Ok(Order::Commands),
         ["show"] => Ok(Order::Show),
         ["show", "--json"] => Ok(Order::ShowJson),

@@ -20,7 +20,9 @@ pub fn send(path: &str, words: &[String]) -> Result<(String, bool), String> {
     stream.set_read_timeout(Some(REPLY_WAIT)).map_err(told)?;
     // One that takes no more connections says so without reading, and is gone when we write.
     let given = writeln!(stream, "{}", line).and_then(|()| stream.shutdown(Shutdown::Write));
-    let lines = BufReader::new(stream).lines().collect::<Result<Vec<_>, _>>().map_err(told)?;
+    // A line of `records` keeps its CR.
+    let line = |bytes: Result<Vec<u8>, _>| bytes.map(|bytes| String::from_utf8_lossy(&bytes).into_owned());
+    let lines = BufReader::new(stream).split(b'\n').map(line).collect::<Result<Vec<_>, _>>().map_err(told)?;
     match (lines.split_first(), given) {
         (Some((reply, more)), _) => told_of(reply, more).ok_or_else(|| format!("{}: the reply breaks off: {}", path, reply)),
         (None, Err(error)) => Err(told(error)),

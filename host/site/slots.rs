@@ -1,6 +1,7 @@
 //! A file with two places that are written in turn, where they lie: one sync each, where a new file and its rename take two. What a power cut tears is the
 //! older place; then the other one is read.
 
+use crate::image::TURN_NAME;
 use crate::state::replace;
 use rsmp_site::check_sum;
 use std::fs::{self, File, OpenOptions};
@@ -8,10 +9,6 @@ use std::io;
 use std::os::unix::fs::{FileExt, MetadataExt};
 use std::path::{Path, PathBuf};
 
-const NAME: &[u8; 8] = b"RSMPTURN";
-/// Name, turn, length.
-const HEAD_BYTES: usize = 24;
-const SUM_BYTES: usize = 8;
 /// A place is a whole number of a disk's pages.
 const PAGE: usize = 4096;
 
@@ -80,7 +77,7 @@ fn beginning(content: &[u8]) -> Vec<u8> {
 }
 
 fn whole(turn: u64, content: &[u8]) -> Vec<u8> {
-    let mut bytes = NAME.to_vec();
+    let mut bytes = TURN_NAME.to_vec();
     bytes.extend_from_slice(&turn.to_le_bytes());
     bytes.extend_from_slice(&(content.len() as u64).to_le_bytes());
     bytes.extend_from_slice(content);
@@ -89,26 +86,10 @@ fn whole(turn: u64, content: &[u8]) -> Vec<u8> {
     bytes
 }
 
-/// What was put last; a file that has no two places is given as it is.
-pub fn newest(bytes: Vec<u8>) -> Vec<u8> {
-    let (first, second) = bytes.split_at(bytes.len() / 2);
-    match [first, second].into_iter().filter_map(read).max_by_key(|(turn, _)| *turn) {
-        Some((_, content)) => content.to_vec(),
-        None => bytes,
-    }
-}
-
-fn read(place: &[u8]) -> Option<(u64, &[u8])> {
-    let number = |at: usize| Some(u64::from_le_bytes(place.get(at..at + 8)?.try_into().ok()?));
-    let end = HEAD_BYTES.checked_add(usize::try_from(number(16)?).ok()?)?;
-    let told = place.get(..end).filter(|_| end.checked_add(SUM_BYTES).map_or(false, |end| end <= place.len()))?;
-    let good = told.starts_with(NAME) && number(end) == Some(check_sum(told));
-    Some((number(8)?, &told[HEAD_BYTES..])).filter(|_| good)
-}
-
 #[cfg(test)]
 mod tests {
     use super::*;
+    use crate::image::{newest, SUM_BYTES, TURN_HEAD_BYTES};
 
     fn path(name: &str) -> PathBuf {
         std::env::temp_dir().join(format!("rsmp-site-slots-{}-{}", name, std::process::id()))
@@ -159,7 +140,7 @@ mod tests {
         fs::write(&path, beginning(b"before")).unwrap();
         Slots::open(&path).unwrap().put(b"behind").unwrap();
         let good = fs::read(&path).unwrap();
-        for at in PAGE..PAGE + HEAD_BYTES + 6 + SUM_BYTES {
+        for at in PAGE..PAGE + TURN_HEAD_BYTES + 6 + SUM_BYTES {
             let mut bytes = good.clone();
             bytes[at] ^= 1;
             assert_eq!(newest(bytes), b"before", "byte {}", at);

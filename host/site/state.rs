@@ -1,7 +1,8 @@
 //! The site's bytes in a file, so that what is held and what is set survive a power loss. The file is replaced as a whole: it has the
 //! former site or the new one, never a part. Where every call is stored, the file has two places that are written in turn. A thread of its own writes it.
 
-use crate::slots::{self, Kept};
+use crate::image::{newest, parts, EDITION, NAME};
+use crate::slots::Kept;
 use crate::system::lock;
 use crate::wires::Event;
 use rsmp_site::{check_sum, Phase, Site, Start};
@@ -13,11 +14,6 @@ use std::sync::{Arc, Condvar, Mutex, MutexGuard};
 use std::thread;
 use std::time::{Duration, Instant};
 
-const NAME: &[u8; 8] = b"RSMPHOST";
-const EDITION: u32 = 1;
-/// Name, edition, what the site was started with, the last time.
-const HEAD_BYTES: usize = 40;
-const SUM_BYTES: usize = 8;
 const MOST_ASIDE: u32 = 9;
 /// While it is waited for, the watchdog is fed so often.
 const FEEDING: Duration = Duration::from_millis(200);
@@ -51,24 +47,14 @@ fn written(setup: &[u8; 20], site: &Site, time: u64) -> Vec<u8> {
 
 /// The site of a file's bytes, or why they are none of ours.
 fn read(setup: &[u8; 20], bytes: &[u8]) -> Result<Stored, String> {
-    if bytes.len() < HEAD_BYTES + SUM_BYTES || bytes[..8] != *NAME {
-        return Err("it is no state of rsmp-site".to_string());
-    }
-    let edition = u32::from_le_bytes([bytes[8], bytes[9], bytes[10], bytes[11]]);
-    if edition != EDITION {
-        return Err(format!("it is of edition {}, where {} is read", edition, EDITION));
-    }
-    let (told, sum) = bytes.split_at(bytes.len() - SUM_BYTES);
-    if check_sum(told).to_le_bytes() != sum {
-        return Err("it is damaged: its check sum is wrong".to_string());
-    }
-    if told[12..32] != *setup {
+    let (head, stored) = parts(bytes)?;
+    if head[12..32] != *setup {
         return Err("it is of another table, or of other links, primary or period".to_string());
     }
     let mut time = [0; 8];
-    time.copy_from_slice(&told[32..40]);
+    time.copy_from_slice(&head[32..40]);
     let time = u64::from_le_bytes(time);
-    let site = Site::from_stored(&told[HEAD_BYTES..]).map_err(|fault| format!("it is {}", fault))?;
+    let site = Site::from_stored(stored).map_err(|fault| format!("it is {}", fault))?;
     if site.links().to_le_bytes() != setup[..4] || !goes_on(site.clone(), time) {
         return Err("its site does not go on with its links at its time".to_string());
     }
@@ -98,7 +84,7 @@ pub fn looked_at(path: &str, table: &[u8], start: &Start) -> Look {
     match fs::read(path) {
         Err(error) if error.kind() == io::ErrorKind::NotFound => Look::Nothing,
         Err(error) => Look::Not(error.to_string()),
-        Ok(bytes) => read(&setup(table, start), &slots::newest(bytes)).map_or_else(Look::Not, Look::Site),
+        Ok(bytes) => read(&setup(table, start), &newest(bytes)).map_or_else(Look::Not, Look::Site),
     }
 }
 
@@ -163,7 +149,7 @@ impl Store {
         let found = match fs::read(&path) {
             Err(error) if error.kind() == io::ErrorKind::NotFound => Found::Nothing,
             Err(error) => return Err(told(error)),
-            Ok(bytes) => match read(&setup, &slots::newest(bytes)) {
+            Ok(bytes) => match read(&setup, &newest(bytes)) {
                 Ok(stored) => Found::Site(stored),
                 Err(why) => {
                     let aside = put_aside(&path).map_err(told)?;

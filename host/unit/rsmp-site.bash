@@ -15,7 +15,7 @@ _rsmp_files() {
 
 _rsmp_order() {  # the words of the order so far
     case ${1-} in
-    "") _rsmp_words alarm status aggregated counts links commands show save help quit ;;
+    "") _rsmp_words alarm status aggregated counts links records commands show save help quit ;;
     alarm) [ $# = 1 ] || _rsmp_words on off ;;
     show) [ $# != 1 ] || _rsmp_words --json ;;
     esac
@@ -59,7 +59,10 @@ _rsmp_table() {
 _rsmp_csv() {
     local cur=${COMP_WORDS[COMP_CWORD]}
     COMPREPLY=()
-    if [ "$COMP_CWORD" = 1 ]; then _rsmp_words lines records --version --help; fi
+    case $COMP_CWORD:${COMP_WORDS[1]} in
+    1:*) _rsmp_words lines records state --version --help ;;
+    2:state) _rsmp_files ;;
+    esac
 }
 
 complete -F _rsmp_site rsmp-site

@@ -7,5 +7,4 @@ fn main() {
     let place = env::var("RSMP_CSV_LIB").unwrap_or_else(|_| concat!(env!("CARGO_MANIFEST_DIR"), "/../../build").to_string());
     println!("cargo:rustc-link-search=native={}", place);
     println!("cargo:rerun-if-changed={}/librsmp_csv.a", place);
-    println!("cargo:rustc-env=RSMP_VERSION={}", env!("CARGO_PKG_VERSION"));
 }
