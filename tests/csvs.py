@@ -24,7 +24,7 @@ HAS = [set(names.split()) for names in ("link kind item event ack active suspend
                                         "link kind item time value sequence")]
 LAST_TIME, LAST_SEQUENCE = 253402300799999, 2**31 - 1
 WIDTHS = (3, 2, 6, 6, 48, 32, 31)
-REASONS = {1: "wrong header", 2: "bad quoting", 3: "wrong field count", 4: "unknown kind", 5: "a field filled or empty against its kind",
+REASONS = {1: "wrong header", 2: "bad quoting", 3: "wrong field count", 4: "unknown kind", 5: "field not allowed or lacking for its kind",
            6: "fields no record is written with"}
 T = 1254398371571
 
@@ -297,7 +297,8 @@ def fresh(seed):
                 sys.exit(f"csvs.py: {what}: not all that Python's csv writes is read")
         damaged = HEADER + b"".join(rewritten(source, line_of(record)) for record in records)
         for one in (damaged, damaged[:source.randrange(len(damaged))], text[:source.randrange(len(text))]):
-            agree_calls(what, one)
+            if turn < 100:
+                agree_calls(what, one)
             count, told = agree_read(what, one)
             accepted += count
             for _, reason in told:

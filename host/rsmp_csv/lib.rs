@@ -63,7 +63,7 @@ impl Reason {
             Reason::BadQuoting => "bad quoting",
             Reason::WrongCount => "wrong field count",
             Reason::UnknownKind => "unknown kind",
-            Reason::WrongPresence => "a field filled or empty against its kind",
+            Reason::WrongPresence => "field not allowed or lacking for its kind",
             Reason::NoRecord => "fields no record is written with",
         }
     }

@@ -43,9 +43,7 @@ use Rattle.demand_taken.proofs.Beats.{demand-beats}
 use Rattle.refine_read.proofs.Identity.{readable as identity-is}
 use Rattle.equation.proofs.Calls.{equation}
 use Rattle.week_promise.proofs.Kept.{kept as weekly}
-use Rattle.csv_field.proofs.Kept.{kept as csv-fields}
-use Rattle.csv_line.proofs.Kept.{kept as csv-lines}
-use Rattle.csvc.proofs.Kept.{kept as csv-calls}
+use Rattle.certain.proofs.Csv.{csv}
 use Rattle.certain.proofs.Editions.{same-edition}
 use Rattle.certain.proofs.Identities.{identity-of}
 use Rattle.certain.specs.Certain.{Demands, Grammar, Unpacks, Codecs, Certain}
@@ -113,5 +111,5 @@ kept =
       conversation = conversation;
       cases = cases;
       weekly = weekly;
-      csv = record { fields = csv-fields; lines = csv-lines; calls = csv-calls };
+      csv = csv;
     }

@@ -1,3 +1,4 @@
+pub mod Csv
 pub mod Editions
 pub mod Identities
 pub mod Kept

@@ -64,9 +64,7 @@ use Rattle.demand_taken.specs.Closing.{DemandClosing}
 use Rattle.demand_taken.specs.Beats.{DemandBeats}
 use Rattle.equation.specs.Equation.{Equation}
 use Rattle.week_promise.specs.Claims.{Claims as Weekly}
-use Rattle.csv_field.specs.Claims.{Claims as CsvFields}
-use Rattle.csv_line.specs.Claims.{Claims as CsvLines}
-use Rattle.csvc.specs.Claims.{Claims as CsvCalls}
+use Rattle.certain.specs.Csv.{Csv}
 
 -- The three demands, over every sequence of calls of the machine.
 pub record Demands : Type 0 where
@@ -151,12 +149,6 @@ pub record Codecs : Type 0 where
   -- a message's text is one packet, whose fields are the message's
   pub messages : Messages
 
--- Request 12, records as lines of RFC 4180 and back: a line's fields; what lines and files come to; what the calls answer.
-pub record Csv : Type 0 where
-  pub fields : CsvFields
-  pub lines : CsvLines
-  pub calls : CsvCalls
-
 pub record Certain : Type 1 where
   pub equation : Equation
   pub demands : Demands
@@ -168,4 +160,5 @@ pub record Certain : Type 1 where
   -- a case, or several, of each rule of document 01 and of requests 01, 02, 04, 05, 07 and 10
   pub cases : Cases
   pub weekly : Weekly
+  -- request 12
   pub csv : Csv
