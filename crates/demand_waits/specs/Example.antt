@@ -1,0 +1,2 @@
+-- Records that wait as long as they can, computed.
+-- Assumes nothing.
