@@ -5,3 +5,4 @@ pub mod Calls
 pub mod Beside
 pub mod Drained
 pub mod Waits
+pub mod Example
