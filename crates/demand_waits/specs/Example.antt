@@ -93,15 +93,18 @@ abbrev pub twoPumps : List Turn
 twoPumps = north (pumped 3 ∷ pumped 4 ∷ [])
 
 -- ---- a record with so many newer ones behind it, on the one link of a site
+abbrev pub oneLink : Start
+oneLink = record { site = 0; table = tableBytes 2 table; links = 1; primary = some 0; period = 60; first = 0; time = noon }
+
 abbrev pub crowded : ℕ → List Turn
-crowded newer = starts 0 (some (started 1)) ∷ north (greeting ++ values (1 + newer))
+crowded newer = starts 0 (some (first table oneLink)) ∷ north (greeting ++ values (1 + newer))
 
 -- ---- the pool full of the records of two sites: 34 for either link of the north boom, 15 for each of four links of the south one
 abbrev pub southStart : Start
 southStart = record { site = 1; table = tableBytes 2 table; links = 4; primary = some 0; period = 60; first = 0; time = noon }
 
 abbrev pub shared : List Turn
-shared = starts 0 (some (started 2)) ∷ starts 1 (some (first table southStart)) ∷ north (greeting ++ values 34) ++ map (calls 1) (values 15)
+shared = starts 0 (some (started 2)) ∷ starts 1 (some (first table southStart)) ∷ (north (greeting ++ values 34) ++ map (calls 1) (values 15))
 
 abbrev pub southValue : Turn
 southValue = calls 1 (atNoon (aggregatedValue 16))
@@ -132,13 +135,16 @@ pub record Computed : Type 0 where
   pub three-counted : pumps 0 0 (alone two) threePumps ≡ 3
   pub by-the-third : carrying (turnedAll threePumps (alone two)) ≡ noRecord ∷ theRecord 0 ∷ theRecord 2 ∷ []
   -- sooner, where the pass carries it
+  pub alarm-played : Played alarmed
   pub alarm-held : turnedAll alarmed emptyBox ≡ alone holding
   pub bound-four : bound holding 0 (heldAs 0 (ofAlarm 0 (alarmOf true false false Issue noon)) 2 false) ≡ 4
   pub by-the-second : carrying (turnedAll twoPumps (alone holding)) ≡ noRecord ∷ theRecord 2 ∷ []
   -- 64 newer ones push it out, 63 do not
+  pub crowded-played : Played (crowded 64)
   pub kept-by-63 : holdsFirst (turnedAll (crowded 63) emptyBox) ≡ 1
   pub lost-by-64 : holdsFirst (turnedAll (crowded 64) emptyBox) ≡ 0
   -- and a call of the other site does
+  pub shared-played : Played (shared ++ (southValue ∷ []))
   pub kept-beside : holdsFirst (turnedAll shared emptyBox) ≡ 1
   pub lost-beside : holdsFirst (turnedAll (shared ++ (southValue ∷ [])) emptyBox) ≡ 0
   pub newer-ones : newerOnes (turnedAll (shared ++ (southValue ∷ [])) emptyBox) ≡ 32
