@@ -36,6 +36,8 @@ use Rattle.demand_issued.proofs.Sends.{demand-sends}
 use Rattle.demand_happens.proofs.Pumped.{pumping}
 use Rattle.demand_happens.proofs.Greeting.{greeting}
 use Rattle.demand_happens.proofs.Records.{sending}
+use Rattle.demand_waits.proofs.Waits.{waiting}
+use Rattle.demand_waits.proofs.Example.{computed as waiting-example}
 use Rattle.demand_taken.proofs.Taken.{demand-taken}
 use Rattle.demand_taken.proofs.Commands.{demand-commands}
 use Rattle.demand_taken.proofs.Closing.{demand-closing}
@@ -75,6 +77,8 @@ demands =
       greeting = greeting;
       sending = sending;
       sending-among = demand-sends;
+      waiting = waiting;
+      waiting-example = waiting-example;
     }
 
 grammar : Grammar

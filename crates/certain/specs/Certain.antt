@@ -58,6 +58,8 @@ use Rattle.demand_issued.specs.Sends.{DemandSends}
 use Rattle.demand_happens.specs.Pumped.{Pumping}
 use Rattle.demand_happens.specs.Greeting.{Greeting}
 use Rattle.demand_happens.specs.Records.{Sending}
+use Rattle.demand_waits.specs.Waits.{Waiting}
+use Rattle.demand_waits.specs.Example.{Computed as WaitingExample}
 use Rattle.demand_taken.specs.Taken.{DemandTaken}
 use Rattle.demand_taken.specs.Commands.{DemandCommands}
 use Rattle.demand_taken.specs.Closing.{DemandClosing}
@@ -114,6 +116,9 @@ pub record Demands : Type 0 where
   pub sending : Sending
   -- with other calls in between, and again in a new life of its link
   pub sending-among : DemandSends
+  -- request 13: "A held record that has not been sent is sent or lost within 2 + A + K such pumps"; records that wait so long, and shorter
+  pub waiting : Waiting
+  pub waiting-example : WaitingExample
 
 -- RFC 8259: the readers that the machine cites read the grammar and nothing else, and each text has one meaning.
 pub record Grammar : Type 1 where

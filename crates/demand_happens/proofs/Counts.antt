@@ -20,7 +20,7 @@ module _ (l n : ℕ) where
   stays h = not (both (isFor l h) (eqb (h .sequence) n))
 
   module _ (x : ℕ) where
-    marked-fewer : (h : Held) → bit (isBefore l x (marked n h)) ≤ bit (isBefore l x h)
+    pub marked-fewer : (h : Held) → bit (isBefore l x (marked n h)) ≤ bit (isBefore l x h)
     marked-fewer h = go (eqb (h .link) l) (eqb (h .sequence) n) (h .sent) (leb (h .sequence) x)
       where
         go : (a b c d : Bool) → bit (both a (both (not (pick b true c)) d)) ≤ bit (both a (both (not c) d))
@@ -48,7 +48,7 @@ module _ (l n : ℕ) where
         (λ g. omega (arith, marked-fewer y, count-one-gone hs a f e))
         (λ g. omega (arith, count-one-gone hs a f e))
 
-  other-same : (h : Held) → eqb (h .sequence) n ≡ false → marked n h ≡ h
+  pub other-same : (h : Held) → eqb (h .sequence) n ≡ false → marked n h ≡ h
   other-same h e = rw e
 
   pub still-there : {h : Held} {hs : List Held} → Among h hs → (h .sequence ≡ n → ⊥) → Among h (gone l n hs)

@@ -26,7 +26,7 @@ two-ids (suc zero) (suc zero) p q e = refl
 two-ids (suc zero) (suc (suc j)) p q e = absurd (omega arith)
 two-ids (suc (suc i)) j p q e = absurd (omega arith)
 
-allowed : Allowed 2 table
+pub allowed : Allowed 2 table
 allowed =
     record {
       edition-of = second;

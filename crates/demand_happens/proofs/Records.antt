@@ -73,7 +73,7 @@ pub data Carries (m : Machine) (l i : ℕ) : Sent → Type 0 where
   nothing : Carries m l i noRecord
   one : (h : Held) → Among h (m .pool .held) → maybe false (sameAlarm (alarmAt m i)) (alarmIn i (h .content)) ≡ true → Carries m l i (theRecord (h .sequence))
 
-carries-what : (m : Machine) (l i : ℕ) → Carries m l i (carriedBy m l i)
+pub carries-what : (m : Machine) (l i : ℕ) → Carries m l i (carriedBy m l i)
 unfolding carriedBy
 carries-what m l i =
     maybe-cases (Carries m l i) noRecord (carries (alarmAt m i) i) (newest l i none (m .pool .held)) (λ e. nothing)
@@ -86,28 +86,28 @@ carries-what m l i =
 
 -- ---- what is due on an Up link
 module _ (m : Machine) (l t : ℕ) (up : isUp (lifeAt m l) ≡ true) where
-  due-is : due m l t ≡ dueUp m l t (lifeAt m l)
+  pub due-is : due m l t ≡ dueUp m l t (lifeAt m l)
   unfolding due
   due-is = rw (up-connected (lifeAt m l) up, up-over (lifeAt m l) up .0, up-over (lifeAt m l) up .1)
 
-  due-beat : nextBeat m l ≤ t → due m l t ≡ some theWatchdog
+  pub due-beat : nextBeat m l ≤ t → due m l t ≡ some theWatchdog
   unfolding dueUp
   due-beat h = due-is ∙ rw (le-leb (nextBeat m l) t h)
 
   module _ (early : t < nextBeat m l) where
-    due-aggregated : eqb (lifeAt m l .pass) 0 ≡ true → due m l t ≡ some theAggregated
+    pub due-aggregated : eqb (lifeAt m l .pass) 0 ≡ true → due m l t ≡ some theAggregated
     unfolding dueUp
     due-aggregated e = due-is ∙ rw (lt-leb (nextBeat m l) t early, e)
 
-    due-alarm : eqb (lifeAt m l .pass) 0 ≡ false → ltb (lifeAt m l .pass) (passLength m l) ≡ true → due m l t ≡ some (theAlarm (lifeAt m l .pass - 1))
+    pub due-alarm : eqb (lifeAt m l .pass) 0 ≡ false → ltb (lifeAt m l .pass) (passLength m l) ≡ true → due m l t ≡ some (theAlarm (lifeAt m l .pass - 1))
     unfolding dueUp
     due-alarm e f = due-is ∙ rw (lt-leb (nextBeat m l) t early, e, f)
 
-    due-record : eqb (lifeAt m l .pass) 0 ≡ false → ltb (lifeAt m l .pass) (passLength m l) ≡ false → (h : Held) → oldestUnsent m l ≡ some h → due m l t ≡ some (theHeld h)
+    pub due-record : eqb (lifeAt m l .pass) 0 ≡ false → ltb (lifeAt m l .pass) (passLength m l) ≡ false → (h : Held) → oldestUnsent m l ≡ some h → due m l t ≡ some (theHeld h)
     unfolding dueUp
     due-record e f h g = due-is ∙ rw (lt-leb (nextBeat m l) t early, e, f, g)
 
-pass-some : (m : Machine) (l : ℕ) → 1 ≤ passLength m l
+pub pass-some : (m : Machine) (l : ℕ) → 1 ≤ passLength m l
 pass-some m l = picked (λ (n : ℕ). 1 ≤ n) (isPrimary m l) _ 1 (λ e. omega arith) (λ e. omega arith)
 
 -- ---- one round

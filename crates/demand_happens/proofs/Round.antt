@@ -35,7 +35,7 @@ up-over k e = both-true (isOver (k .versions)) _ (both-true (k .connected) _ e .
 up-not-beating : (k : Life) → isUp k ≡ true → isBeating k ≡ false
 up-not-beating k e = rw (up-connected k e, up-over k e .0, up-over k e .1)
 
-sent-up : (t : ℕ) (d : Due) (k : Life) → isUp k ≡ true → isUp (afterSending t d k) ≡ true
+pub sent-up : (t : ℕ) (d : Due) (k : Life) → isUp k ≡ true → isUp (afterSending t d k) ≡ true
 sent-up t theVersion k e = e
 sent-up t theWatchdog k e = e
 sent-up t theAggregated k e = e
@@ -49,7 +49,7 @@ sent-awaited t theAggregated k = refl
 sent-awaited t (theAlarm i) k = refl
 sent-awaited t (theHeld h) k = refl
 
-acked-up : (b : Bool) (s : Sent) (k : Life) → isUp k ≡ true → isUp (acknowledges b s k) ≡ true
+pub acked-up : (b : Bool) (s : Sent) (k : Life) → isUp k ≡ true → isUp (acknowledges b s k) ≡ true
 acked-up b ourVersion k e =
     picked (λ (x : Life). isUp x ≡ true) b _ k
     (λ f. rw (up-connected k e, both-true (k .versions .acknowledged) _ (up-over k e .0) .1, up-over k e .1))
@@ -67,7 +67,7 @@ acked-awaited b ourWatchdog k = picked (λ (x : Life). x .awaited ≡ k .awaited
 acked-awaited b noRecord k = refl
 acked-awaited b (theRecord n) k = refl
 
-acked-pass : (b : Bool) (s : Sent) (k : Life) → acknowledges b s k .pass ≡ k .pass
+pub acked-pass : (b : Bool) (s : Sent) (k : Life) → acknowledges b s k .pass ≡ k .pass
 acked-pass b ourVersion k = picked (λ (x : Life). x .pass ≡ k .pass) b _ k (λ f. refl) (λ f. refl)
 acked-pass b ourWatchdog k = picked (λ (x : Life). x .pass ≡ k .pass) b _ k (λ f. refl) (λ f. refl)
 acked-pass b noRecord k = refl
@@ -95,7 +95,7 @@ abbrev pub settledBy : ℕ → Sent → List Held → List Held
 settledBy l s hs = maybe hs (λ n. settled l n hs) (carried s)
 
 module _ (m : Machine) where
-  mark-held : (s : Sent) → markSent s m .pool .held ≡ markedBy s (m .pool .held)
+  pub mark-held : (s : Sent) → markSent s m .pool .held ≡ markedBy s (m .pool .held)
   mark-held ourVersion = refl
   mark-held ourWatchdog = refl
   mark-held noRecord = refl
