@@ -1,6 +1,6 @@
 -- The site with something else in one part, and what every call asks of it.
 -- Assumes nothing.
-use Prim.Native.Nat.{ℕ, _+_, _*_}
+use Prim.Native.Nat.{ℕ, _+_, _*_, _/_}
 use mathlib.Core.Bool.{Bool, true, false}
 use mathlib.Core.List.{List}
 use lib.Dec.{eqb, leb, ltb}
@@ -100,6 +100,10 @@ owner site l = pick (ltb l 4) (4 * site + l) 8
 
 abbrev pub ownerOf : Site → ℕ → ℕ
 ownerOf s l = owner (s .site) l
+
+-- whether o is one of the site's four owners
+abbrev pub ownedBy : Site → ℕ → Bool
+ownedBy s o = eqb (o / 4) (s .site)
 
 -- Closing leaves the link Down, nothing awaited, no record of it marked sent; records and subscriptions stay
 abbrev pub closeAt : Site → ℕ → Site
