@@ -40,7 +40,7 @@ def judge_symbols():
     header = re.sub(r"/\*.*?\*/", "", HEADER.read_text(), flags=re.DOTALL)
     inline = r"^static inline .*?(?:^}| })$"
     declared = set(re.findall(r"\b(rsmp_[a-z_]+)\(", re.sub(inline, "", header, flags=re.DOTALL | re.MULTILINE)))
-    exported = {name for kind, name in symbols() if kind == "T" and not re.search(r"\d", name)}  # not rsmp_lent_start_0_6_0
+    exported = {name for kind, name in symbols() if kind == "T" and not re.search(r"\d", name)}  # not rsmp_lent_start_0_7_0
     hold(declared == {name for name in exported if name.startswith("rsmp_")}, f"header and archive differ: {sorted(declared ^ exported)}")
     called = {re.search(r"\b(rsmp_[a-z_]+)\(", body)[1] for body in re.findall(inline, header, re.DOTALL | re.MULTILINE)}
     hold({name.replace("lent_", "") for name in declared} <= called, f"not to be called: {sorted(declared - called)}")
