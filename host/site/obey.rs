@@ -3,23 +3,30 @@
 use crate::control::{Asked, Reply};
 use crate::host::{Host, NOT_SAVED};
 use crate::journal::Level;
+use crate::memory::{link_of, place_of, site_of};
 use crate::orders::{self, Order};
 use crate::send::followed;
 use rsmp_site::{Called, Phase, Refusal};
 
 impl Host {
     pub fn answer(&mut self, asked: Asked) {
-        let (text, input) = match orders::read(&asked.line, &self.about.table) {
-            Ok(Order::Quit) => {
+        let (text, input) = match self.read(&asked.line) {
+            Ok((_, Order::Quit)) => {
                 self.quitting = Some(asked.reply.say("done: goodbye"));
                 return;
             }
-            Ok(Order::Save) => return self.save_for(asked.reply),
-            Ok(order) => self.obey(order),
+            Ok((_, Order::Save)) => return self.save_for(asked.reply),
+            Ok((site, order)) => self.obey(site, order),
             Err(message) => (format!("refused: {}", message), false),
         };
         let stored = self.calls.save_before_it_is_seen();
         asked.reply.say(if input && !stored { "done, not stored" } else { &text });
+    }
+
+    /// The site that an order is for, and the order.
+    fn read(&self, line: &str) -> Result<(usize, Order), String> {
+        let (site, line) = orders::site_of(line, self.sites.len())?;
+        Ok((site, orders::read(line, &self.sites[site].about.table)?))
     }
 
     /// Replied to when it is written.
@@ -31,24 +38,27 @@ impl Host {
     }
 
     /// The reply, and whether an input was taken.
-    fn obey(&mut self, order: Order) -> (String, bool) {
+    fn obey(&mut self, site: usize, order: Order) -> (String, bool) {
         let told = match order {
-            Order::Counts => format!("done: {}", self.counts()),
-            Order::Links => format!("done: {}", self.phases()),
-            Order::Commands => format!("done: {}", self.commands.counts().unwrap_or_else(|| "the table has no commands".to_string())),
-            Order::Show => followed(&self.shown().lines()),
-            Order::ShowJson => followed(&[self.shown().json()]),
+            Order::Counts => format!("done: {}", self.counts(site)),
+            Order::Links => format!("done: {}", self.phases(site)),
+            Order::Commands => {
+                let counts = self.sites[site].commands.counts();
+                format!("done: {}", counts.unwrap_or_else(|| "the table has no commands".to_string()))
+            }
+            Order::Show => followed(&self.shown(site).lines()),
+            Order::ShowJson => followed(&[self.shown(site).json()]),
             Order::Help | Order::Quit | Order::Save => format!("done: {}", orders::HELP),
-            _ => return self.take_input(&order),
+            _ => return self.take_input(site, &order),
         };
         (told, false)
     }
 
-    fn take_input(&mut self, order: &Order) -> (String, bool) {
-        let mut called = self.input(order);
+    fn take_input(&mut self, site: usize, order: &Order) -> (String, bool) {
+        let mut called = self.input(site, order);
         if called == Err(Refusal::SequenceSpent) {
-            self.start_anew(Level::Error, "used up");
-            called = self.input(order);
+            self.start_anew(site, Level::Error, "used up");
+            called = self.input(site, order);
         }
         match called {
             Ok(_) => ("done".to_string(), true),
@@ -56,33 +66,38 @@ impl Host {
         }
     }
 
-    fn input(&mut self, order: &Order) -> Called {
+    fn input(&mut self, site: usize, order: &Order) -> Called {
         match *order {
-            Order::Alarm(number, active) => self.calls.alarm(number, active),
-            Order::Status(number, value) => self.calls.status(number, value),
-            Order::Aggregated(value) => self.calls.aggregated(value),
+            Order::Alarm(number, active) => self.calls.alarm(site, number, active),
+            Order::Status(number, value) => self.calls.status(site, number, value),
+            Order::Aggregated(value) => self.calls.aggregated(site, value),
             _ => Err(Refusal::Ignored),
         }
     }
 
     /// The records held and lost of each link.
-    pub fn counts(&self) -> String {
-        let site = &self.calls.site;
+    pub fn counts(&self, site: usize) -> String {
+        let site = self.calls.site(site);
         let each = (0..site.links()).map(|link| format!("link {} holds {}, lost {}", link, site.held(link), site.lost(link)));
+        each.collect::<Vec<_>>().join("; ")
+    }
+
+    pub fn counts_of_all(&self) -> String {
+        let each = (0..self.sites.len()).map(|site| format!("{}{}", self.named(site), self.counts(site)));
         each.collect::<Vec<_>>().join("; ")
     }
 
     /// A link's phase, and where it is Up its version.
     pub fn phase_of(&self, link: u32) -> String {
-        let site = &self.calls.site;
+        let (site, link) = (self.calls.site(site_of(link)), link_of(link));
         match (site.phase(link), site.version(link)) {
             (Phase::Up, Some((major, minor, patch))) => format!("Up, RSMP {}.{}.{}", major, minor, patch),
             (phase, _) => format!("{:?}", phase),
         }
     }
 
-    fn phases(&self) -> String {
-        let each = (0..self.links.len() as u32).map(|link| format!("link {} {}", link, self.phase_of(link)));
+    fn phases(&self, site: usize) -> String {
+        let each = (0..self.sites[site].links.len() as u32).map(|link| format!("link {} {}", link, self.phase_of(place_of(site, link))));
         each.collect::<Vec<_>>().join("; ")
     }
 }
