@@ -20,7 +20,12 @@ pub fn status(w: &[u64], x: Status, l: u16, number: u16, time: u64) -> Entry
     requires { ⌜ length (now w) ≡ siteWords ⌝ }
     ensures { λ r. ⌜ ((ps : List ℕ) (t : SiteTable) → r ≡ statusRecord (linkAt (siteOf ps (now (w .entry)) t) l) x (ownerOf (siteOf ps (now (w .entry)) t) l) number time) ⌝ }
 {
-    x.issued(store_site::head::owner(w, l), number, time, !store_site::items::up(w, l))
+    x.issued(
+        store_site::head::owner(w, l),
+        number,
+        time,
+        !store_site::items::up(w, l),
+    )
 }
 
 // How many records an alarm's change issues: one for the primary, or none.

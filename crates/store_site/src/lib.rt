@@ -5,4 +5,5 @@ pub mod parts; // parts.rt: each part of the site
 pub mod phases; // phases.rt: a link's phase, times, version and what has happened
 
 pub const WORDS: usize = 657;
+
 pub const POOL_WORDS: usize = 520;
