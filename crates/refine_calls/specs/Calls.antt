@@ -80,7 +80,7 @@ pub record SameCall (beside : Beside) (s : Site) (m : Machine) (c : Call) : Type
 
 -- of each call a crate of its own proves this
 abbrev pub SameFor : (Call → Type 0) → Type 0
-SameFor P = {beside : Beside} (s : Site) (m : Machine) → Abstracts beside s m → (c : Call) → P c → Typed c → SameCall beside s m c
+SameFor P = (beside : Beside) (s : Site) (m : Machine) → Abstracts beside s m → (c : Call) → P c → Typed c → SameCall beside s m c
 
 -- what the host is told: the number, or the messages, the links closed, the hint and the commands
 pub data SameOutcome (s : Site) (c : Call) : Answer → Outcome → Type 0 where
@@ -95,4 +95,4 @@ pub record SameStep (beside : Beside) (s : Site) (m : Machine) (c : Call) : Type
   pub leaves : Abstracts beside (stepBy s c .site) (step m (callFor c) .1)
 
 abbrev pub Steps : Type 0
-Steps = {beside : Beside} (s : Site) (m : Machine) → Abstracts beside s m → (c : Call) → SameCall beside s m c → SameStep beside s m c
+Steps = (beside : Beside) (s : Site) (m : Machine) → Abstracts beside s m → (c : Call) → SameCall beside s m c → SameStep beside s m c
