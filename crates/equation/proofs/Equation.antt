@@ -1,7 +1,7 @@
 -- The equation, from each call's.
 -- Assumes nothing.
 use Rattle.basis.proofs.Std.{ℕ, zero, suc, _+_, _<_, _≡_, refl, sym, ap, ap₂, _∙_, subst, true, List, [], _∷_, map, Option, some, none, arith, length, replicate}
-use Rattle.answer.specs.declared.Answer.{Answer}
+use Rattle.answer.specs.declared.Answer.the-variants.{Done}
 use Rattle.answer.specs.Number.{isDone}
 use Rattle.pool.specs.declared.Pool.{Pool}
 use Rattle.pool.specs.declared.Reading.{Reading}
@@ -14,14 +14,16 @@ use Rattle.site.specs.Call.{nothingOf}
 use Rattle.call_start.specs.Fresh.{alone}
 use Rattle.call_start.specs.Starts.{Starts as Starts-so}
 use Rattle.sitec.specs.declared.Outcome.{Outcome}
-use Rattle.store_site.specs.Layout.{poolIn, siteOf, poolWords, siteWords}
+use Rattle.store_site.specs.Rows.{placeFrom}
+use Rattle.store_site.specs.Layout.{lostIn, placesIn, poolIn, siteOf, poolWords, siteWords}
+use Rattle.store_site.proofs.SiteLaws.{pool-of as pool-at}
 use Rattle.store_table.specs.Layout.{tableOf, tableBytes}
 use Rattle.call_start.proofs.Again.{site-again}
 use Rattle.sitec.specs.Outcome.{outcomeOf}
 use Rattle.sitec.specs.Lent.{Made, Started}
 use Rattle.call_laws.specs.Sound.{Sound}
 use Rattle.call_laws.specs.Calls.{stepBy}
-use Rattle.call_laws.specs.Sequences.Since.{first, begun}
+use Rattle.call_laws.specs.Sequences.Since.{first as since-then, begun}
 use Rattle.call_laws.proofs.SequencesKept.{kept as sequences-kept}
 use Rattle.machine.specs.State.{Start, Machine, Call as MachineCall}
 use Rattle.machine.specs.Table.{Begins}
@@ -32,6 +34,7 @@ use Rattle.machine.specs.Box.{Box, box, emptyBox, siteOf as machineAt, otherOf,
 use Rattle.machine.specs.Box.Turn.{starts as a-start, calls as a-call}
 use Rattle.refine_parts.specs.Life.{shown as shown-so}
 use Rattle.refine_parts.specs.Same.{Beside, besideOf, nobody}
+use Rattle.refine_parts.specs.Claims.{Rest}
 use Rattle.refine_calls.specs.Abstracts.{Abstracts}
 use Rattle.refine_calls.specs.Calls.{callFor}
 use Rattle.refine_calls.specs.Start.{answerFor, SameBeginning}
@@ -42,7 +45,7 @@ use Rattle.equation.specs.Seen.Ask.{call, held, lost, phase, version, re
 use Rattle.equation.specs.Seen.Asking.{start-of, ask-of}
 use Rattle.equation.specs.Seen.Seen.{told, count, numbers, entry}
 use Rattle.equation.specs.Seen.BoxShows.{no-more, start-shows, ask-shows}
-use Rattle.equation.specs.Contracts.{Starts, Allows, Part, Memory, partOf, leaving, Run, Free}
+use Rattle.equation.specs.Contracts.{outcomeSeen, Starts, Allows, Memory, partOf, leaving, Run, Free}
 use Rattle.equation.specs.Contracts.Starts.{starts}
 use Rattle.equation.specs.Contracts.Allows.{reads-held, reads-lost, reads-phase, reads-version, reads-record}
 use Rattle.equation.specs.Contracts.Run.{ends, asks, begins}
@@ -53,7 +56,7 @@ use Rattle.equation.proofs.Fitting.{above, fitting}
 use Rattle.equation.proofs.Lawful.{lawful, misfit}
 use Rattle.equation.proofs.Closed.{closed-links}
 use Rattle.equation.proofs.Handed.{unhanded, behind, commands-misfit}
-use Rattle.equation.proofs.Boxed.{Stands, round, found, mirrored, AllCalls, Turned, own-call, rest-of}
+use Rattle.equation.proofs.Boxed.{Stands, round, found, mirrored, AllCalls, Turned, own-call, besideFor, besideShare, rest-of}
 use Rattle.equation.proofs.Boxed.Stands.{no-site, the-one, the-other, both-ones}
 
 same-shown : (v : List ℕ) → shown-so v ≡ shown v
@@ -63,10 +66,6 @@ same-shown (x ∷ xs) = refl
 -- ---- the sites of a memory
 abbrev siteIn : ℕ → Memory → Site
 siteIn k m = siteOf (m .pool) (partOf k m .words) (tableOf (partOf k m .table))
-
-pool-at : (ps ws : List ℕ) (t : SiteTable) → siteOf ps ws t .pool ≡ poolIn ps
-unfolding siteOf
-pool-at ps ws t = refl
 
 other-at : (ps qs ws : List ℕ) (t : SiteTable) (p : Pool) → poolIn qs ≡ p → siteOf qs ws t ≡ withPool (siteOf ps ws t) p
 unfolding siteOf
@@ -236,14 +235,188 @@ site-begun : (s : Start) (m : Machine) → Begins s (some m) → m .pool .site �
 site-begun s m (begins-so v e g) = refl
 
 -- the memory that a done start leaves stands for its site
-stands-for : (b : List ℕ) (p : Pool) (site links primary period first time : ℕ) (x : Step) (ps qs vs us : List ℕ) (o : Outcome) → p ≡ poolIn ps
-    → Starts-so b p site links primary period first time x → Made x qs vs us o → isDone (x .answer) ≡ true → siteOf qs vs (tableOf us) ≡ x .site
-stands-for b p site links primary period first time x ps qs vs us o e st m d =
-    site-again {ps = ps} {qs = qs} {ws = vs} {vs = vs} {xs = us} {ys = us} (record {
-      step = x;
-      starts = subst (λ (y : Pool). Starts-so b y site links primary period first time x) e st;
-      begun = record { answer = refl; pool = m .pool; words = m .words; bytes = m .bytes; pool-kept = λ h. absurd (not-both (x .answer) d h); words-kept = λ h. refl; bytes-kept = λ h. refl };
-    }) d
+module _ (b : List ℕ) (site links primary period first time : ℕ) (x : Step) (ps qs vs us : List ℕ) (o : Outcome) where
+  stands-for : Starts-so b (poolIn ps) site links primary period first time x → Made x qs vs us o → isDone (x .answer) ≡ true → siteOf qs vs (tableOf us) ≡ x .site
+  stands-for st m d =
+      site-again {ps = qs} {qs = qs} {ws = vs} {vs = vs} {xs = us} {ys = us} (record {
+        step = x;
+        starts = st;
+        begun = record { answer = refl; pool = m .pool; words = m .words; bytes = m .bytes; pool-kept = λ h. refl; words-kept = λ h. refl; bytes-kept = λ h. refl };
+      }) d
+
+module _ (k j : ℕ) (two : k + j ≡ 1) (ps ws ts ws2 ts2 table : List ℕ) (links primary period first time : ℕ) (x : Step)
+    (p : Starts-so table (poolIn ps) k links primary period first time x) where
+  not-alone : k ≡ alone → ⊥
+  not-alone e = omega (arith, two, e)
+
+  module _ (m : Machine) (g : Begins (startFor k table links primary period first time) (some m)) (done : x .answer ≡ Done nothingOf) where
+    begun-sound : Sound (x .site)
+    begun-sound = sequences-kept .started table (poolIn ps) k links primary period first time x nothingOf p done
+
+    beside-sound : Sound (siteOf ps ws2 (tableOf ts2)) → Sound (withPool (siteOf ps ws2 (tableOf ts2)) (x .site .pool))
+    beside-sound w =
+        sequences-kept .sound (siteOf ps ws2 (tableOf ts2)) (withPool (siteOf ps ws2 (tableOf ts2)) (x .site .pool)) w
+        (begun table k links primary period first time x nothingOf
+        (subst (λ (y : Pool). Starts-so table y k links primary period first time x) (sym (pool-at ps ws2 (tableOf ts2))) p) done since-then)
+
+    begun-as : {a o : Option Machine} → Stands k j (siteOf ps ws (tableOf ts)) (siteOf ps ws2 (tableOf ts2)) a o
+        → Abstracts (besideFor o (siteOf ps ws2 (tableOf ts2))) (x .site) (beginsBeside o m)
+    begun-as {o = o} st =
+        starting .stands table (poolIn ps) k links primary period first time x p not-alone m g
+        (subst (λ (y : Pool). Rest k (besideFor o (siteOf ps ws2 (tableOf ts2))) y (besideShare o)) (pool-at ps ws (tableOf ts))
+        (rest-of two (pool-at ps ws2 (tableOf ts2) ∙ sym (pool-at ps ws (tableOf ts))) st))
+
+    begun-at : {o : Option Machine} {y : Beside} → Abstracts y (x .site) (beginsBeside o m) → x .site .site ≡ k
+    begun-at h = sym (h .pool .site) ∙ site-begun (startFor k table links primary period first time) m g
+
+    beside-another : {y : Beside} {z : Machine} → Abstracts (besideOf (z .setup .links) (siteOf ps ws2 (tableOf ts2) .next)) (x .site) (beginsBeside (some z) m)
+        → Abstracts y (siteOf ps ws2 (tableOf ts2)) z → Sound (siteOf ps ws2 (tableOf ts2)) → siteOf ps ws2 (tableOf ts2) .site ≡ j
+        → Stands k j (x .site) (withPool (siteOf ps ws2 (tableOf ts2)) (x .site .pool)) (some (beginsBeside (some z) m)) (some (finds (beginsBeside (some z) m) z))
+    beside-another {z = z} h i w f =
+        let sites : m .pool .site + z .pool .site ≡ 1 = rw (site-begun (startFor k table links primary period first time) m g, i .pool .site, f) two in
+        both-ones h (found h i sites) begun-sound (beside-sound w) (begun-at {o = some z} h) f (mirrored (beginsBeside (some z) m) z sites)
+
+    begun-stands : {a o : Option Machine} → Stands k j (siteOf ps ws (tableOf ts)) (siteOf ps ws2 (tableOf ts2)) a o
+        → Stands k j (x .site) (withPool (siteOf ps ws2 (tableOf ts2)) (x .site .pool)) (some (beginsBeside o m)) (foundBy (beginsBeside o m) o)
+    begun-stands (no-site e) = let h = begun-as (no-site e) in the-one h begun-sound (begun-at {o = none} h)
+    begun-stands (the-one i v f) = let h = begun-as (the-one i v f) in the-one h begun-sound (begun-at {o = none} h)
+    begun-stands (the-other i w f) = beside-another (begun-as (the-other i w f)) i w f
+    begun-stands (both-ones l i v w e f n) = beside-another (begun-as (both-ones l i v w e f n)) i w f
+
+after-start-own : (k : ℕ) (b : Box) (m : Machine) → k < 2 → machineAt k (turned (a-start k (some m)) b) ≡ some (beginsBeside (otherOf k b) m)
+unfolding turned
+after-start-own zero b m low = refl
+after-start-own (suc zero) b m low = refl
+after-start-own (suc (suc k)) b m low = absurd (omega (arith, low))
+
+after-start-other : (k : ℕ) (b : Box) (m : Machine) → k < 2 → otherOf k (turned (a-start k (some m)) b) ≡ foundBy (beginsBeside (otherOf k b) m) (otherOf k b)
+unfolding turned
+after-start-other zero b m low = refl
+after-start-other (suc zero) b m low = refl
+after-start-other (suc (suc k)) b m low = absurd (omega (arith, low))
+
+not-turned : (k : ℕ) (b : Box) → turned (a-start k none) b ≡ b
+unfolding turned
+not-turned k b = refl
+
+number-for : (o : Option Machine) → outcomeOf (answerFor o) ≡ startNumber o
+number-for none = refl
+number-for (some m) = refl
+
+shown-for : (o : Option Machine) → outcomeSeen [] (startNumber o) ≡ startShows o
+shown-for none = refl
+shown-for (some m) = refl
+
+module _ (k : ℕ) (low : k < 2) (m : Memory) (b : Box) (r : Ready m b) (table : List ℕ) (links primary period first time : ℕ) (o : Outcome) (qs vs us : List ℕ)
+    (p : Started table k links primary period first time (m .pool) qs (partOf k m .words) vs (partOf k m .table) us o) where
+  abbrev its : Start
+  its = startFor k table links primary period first time
+
+  abbrev lent-fits : Fits (m .pool) (partOf k m .words) (partOf k m .table)
+  lent-fits = fits-at k m (r .fits)
+
+  abbrev made : (x : Step) × Starts-so table (poolIn (m .pool)) k links primary period first time x × Made x qs vs us o
+  made = p .made (lent-fits .words .pool, lent-fits .words .words, lent-fits .table)
+
+  answers-so : (n : Option Machine) → Begins its n → made .0 .answer ≡ answerFor n
+  answers-so n g =
+      let s : SameBeginning its (made .0) = starting .begins table (poolIn (m .pool)) k links primary period first time (made .0) (made .1) (λ e. omega (arith, low, e)) in
+      s .answer ∙ ap answerFor (sym (s .only n g))
+
+  number-so : (n : Option Machine) → Begins its n → o ≡ startNumber n
+  number-so n g = made .2 .outcome ∙ ap outcomeOf (answers-so n g) ∙ number-for n
+
+  started-ready : (n : Option Machine) → Begins its n → Ready (leaving k qs vs us m) (turned (a-start k n) b)
+  started-ready none g =
+      let number : o .number ≡ 11 = ap (λ (q : Outcome). q .number) (number-so none g) in
+      let more : 0 < o .number = omega (arith, number) in
+      subst (Ready (leaving k qs vs us m)) (sym (not-turned k b))
+      (left-ready k low m b qs vs us (r .fits) (p .pool-sized ∙ lent-fits .words .pool) (p .sized ∙ lent-fits .words .words) (p .table-sized ∙ lent-fits .table)
+      (rw (p .pool-kept more, p .kept more, p .table-kept more) (stands-from k low m b r)) refl refl)
+  started-ready (some n) g =
+      let x : Step = made .0 in
+      let done = answers-so (some n) g in
+      let site = stands-for table k links primary period first time x (m .pool) qs vs us o (made .1) (made .2) (ap isDone done) in
+      let beside = other-at (m .pool) qs (partOf (other-one k) m .words) (tableOf (partOf (other-one k) m .table)) (x .site .pool) (made .2 .pool (ap isDone done)) in
+      let st = begun-stands k (other-one k) (sum-one k low) (m .pool) (partOf k m .words) (partOf k m .table) (partOf (other-one k) m .words) (partOf (other-one k) m .table)
+      table links primary period first time x (made .1) n g done (stands-from k low m b r) in
+      left-ready k low m (turned (a-start k (some n)) b) qs vs us (r .fits) (p .pool-sized ∙ lent-fits .words .pool) (p .sized ∙ lent-fits .words .words) (p .table-sized ∙ lent-fits .table)
+      (rw (site, beside) st) (after-start-own k b n low) (after-start-other k b n low)
+
+-- ---- ask after ask
+module _ (all : AllCalls) where
+  sees-all : (m : Memory) (b : Box) → Ready m b → SeesBox m b
+  sees-all m b r [] typed xs seen no-more ends = refl
+  sees-all m b r (ask-of k a ∷ more) typed xs seen (ask-shows {m = n} {xs = zs} e rest) (asks {qs = qs} {vs = vs} {x = x} {xs = ys} low p run) =
+      let o = asked all k low m b r n e a (typed .0) x qs vs p in
+      ap₂ (λ (y : Seen) (l : List Seen). y ∷ l) (o .0) (sees-all (leaving k qs vs (partOf k m .table) m) (boxAfter k a b) (o .1) more (typed .1) zs ys rest run)
+  sees-all m b r (start-of s ∷ more) typed xs seen (start-shows {o = n} {xs = zs} g rest)
+      (begins {k = k} {table = table} {links = links} {primary = primary} {period = period} {first = first} {time = time} {o = o} {qs = qs} {vs = vs} {us = us} {xs = ys} low (starts κs pw w t bs c d f h i q oo e p) run) =
+      ap₂ (λ (y : Seen) (l : List Seen). y ∷ l)
+      (ap (outcomeSeen []) (number-so k low m b r table links primary period first time o qs vs us p n g) ∙ shown-for n)
+      (sees-all (leaving k qs vs us m) (turned (a-start k n) b) (started-ready k low m b r table links primary period first time o qs vs us p n g) more typed zs ys rest run)
+
+  -- a pool of zeros is the empty pool
+  zeros-empty : poolIn (replicate 520 0) ≡ emptyOf 8
+  unfolding emptyOf lostIn placesIn placeFrom
+  zeros-empty = refl
+
+  from-zeros : (m : Memory) → BoxFits m → m .pool ≡ replicate 520 0 → SeesBox m emptyBox
+  from-zeros m fit e =
+      sees-all m emptyBox (record { fits = fit; stands = no-site (pool-at (m .pool) (m .north .words) (tableOf (m .north .table)) ∙ ap poolIn e ∙ zeros-empty) })
+
+  from-alone : (m : Memory) → BoxFits m → (table : List ℕ) (links primary period first time : ℕ) (o : Outcome) (qs vs us : List ℕ)
+      → Starts (m .pool) (m .north .words) (m .north .table) table 4294967295 links primary period first time o qs vs us
+      → (x : Machine) → Begins (startFor 0 table links primary period first time) (some x) → SeesBox (leaving 0 qs vs us m) (box (some x) none)
+  from-alone m fit table links primary period first time o qs vs us (starts κs pw w t bs c d f h i q oo e p) n g =
+      let made = p .made (fit .north .words .pool, fit .north .words .words, fit .north .table) in
+      let x : Step = made .0 in
+      let s : SameBeginning (startFor 0 table links primary period first time) x = starting .begins-alone table (poolIn (m .pool)) links primary period first time x (made .1) in
+      let done : x .answer ≡ Done nothingOf = s .answer ∙ ap answerFor (sym (s .only (some n) g)) in
+      let h = starting .stands-alone table (poolIn (m .pool)) links primary period first time x (made .1) n g in
+      let sound = sequences-kept .started table (poolIn (m .pool)) alone links primary period first time x nothingOf (made .1) done in
+      let site = stands-for table alone links primary period first time x (m .pool) qs vs us o (made .1) (made .2) (ap isDone done) in
+      sees-all (leaving 0 qs vs us m) (box (some n) none)
+      (record {
+        fits = still-fits 0 m qs vs us fit (p .pool-sized ∙ fit .north .words .pool) (p .sized ∙ fit .north .words .words) (p .table-sized ∙ fit .north .table);
+        stands = rw site (the-one h sound (sym (h .pool .site) ∙ site-begun (startFor 0 table links primary period first time) n g));
+      })
+
+begun-of : (start : Start) (x : Step) (o : Outcome) → SameBeginning start x → o ≡ outcomeOf (x .answer) → Begun start o
+begun-of start x o s e = record { machine = s .machine; begins = s .begins; only = s .only; number = e ∙ ap outcomeOf (s .answer) ∙ number-for (s .machine) }
+
+started-one : (ps ws ts table : List ℕ) (site links primary period first time : ℕ) (o : Outcome) (qs vs us : List ℕ) → Fits ps ws ts → (site ≡ 4294967295 → ⊥)
+    → Starts ps ws ts table site links primary period first time o qs vs us → Begun (startFor site table links primary period first time) o
+started-one ps ws ts table site links primary period first time o qs vs us fit other (starts κs pw w t bs c d f h i q oo e p) =
+    let made = p .made (fit .words .pool, fit .words .words, fit .table) in
+    begun-of (startFor site table links primary period first time) (made .0) o
+    (starting .begins table (poolIn ps) site links primary period first time (made .0) (made .1) other) (made .2 .outcome)
+
+started-alone : (ps ws ts table : List ℕ) (links primary period first time : ℕ) (o : Outcome) (qs vs us : List ℕ) → Fits ps ws ts
+    → Starts ps ws ts table 4294967295 links primary period first time o qs vs us → Begun (startFor 0 table links primary period first time) o
+started-alone ps ws ts table links primary period first time o qs vs us fit (starts κs pw w t bs c d f h i q oo e p) =
+    let made = p .made (fit .words .pool, fit .words .words, fit .table) in
+    begun-of (startFor 0 table links primary period first time) (made .0) o
+    (starting .begins-alone table (poolIn ps) links primary period first time (made .0) (made .1)) (made .2 .outcome)
+
+one-site : (x : Machine) (more : List Ask) → BoxShows (box (some x) none) (map (ask-of 0) more) (showsAll x more)
+unfolding turned
+one-site x [] = no-more
+one-site x (call c output ∷ more) = ask-shows refl (one-site (step x c .1) more)
+one-site x (held l ∷ more) = ask-shows refl (one-site x more)
+one-site x (lost l ∷ more) = ask-shows refl (one-site x more)
+one-site x (phase l ∷ more) = ask-shows refl (one-site x more)
+one-site x (version l ∷ more) = ask-shows refl (one-site x more)
+one-site x (record-of l r ∷ more) = ask-shows refl (one-site x more)
+
+not-started : (ps ws ts table : List ℕ) (site links primary period first time : ℕ) (o : Outcome) (qs vs us : List ℕ) → Starts ps ws ts table site links primary period first time o qs vs us
+    → (o .number ≡ 0 → ⊥) → (qs ≡ ps) × (vs ≡ ws) × (us ≡ ts)
+not-started ps ws ts table site links primary period first time o qs vs us (starts κs pw w t bs c d f h i q oo e p) wrong =
+    let more = above (o .number) wrong in (p .pool-kept more, p .kept more, p .table-kept more)
+
+start-misfit : (ps ws ts table : List ℕ) (site links primary period first time : ℕ) (o : Outcome) (qs vs us : List ℕ) → Starts ps ws ts table site links primary period first time o qs vs us
+    → (Fits ps ws ts → ⊥) → o ≡ numbered 14
+start-misfit ps ws ts table site links primary period first time o qs vs us (starts κs pw w t bs c d f h i q oo e p) wrong = p .other (λ z. wrong (fitting ps ws ts z))
 
 free : Free
 free =
@@ -264,3 +437,22 @@ free =
       record-of = λ κs given. tt;
     }
 
+pub from-calls : AllCalls → Equation
+from-calls all =
+    record {
+      free = free;
+      start = λ ps ws ts table site links primary period first time o qs vs us. started-one ps ws ts table site links primary period first time o qs vs us;
+      start-alone = started-alone;
+      from-zeros = from-zeros all;
+      from-alone = from-alone all;
+      one-site = one-site;
+      refused = λ ts ps ws c output o ys commands qs vs p wrong.
+          let l = lawful ts ps ws c output (told o ys commands) qs vs p in (l .same-pool wrong, l .same-words wrong, l .number-only wrong);
+      not-started = not-started;
+      only-counted = λ ts ps ws c output o ys commands qs vs p short. lawful ts ps ws c output (told o ys commands) qs vs p .only-counted short;
+      misfit = misfit;
+      unhanded = unhanded;
+      behind = behind;
+      commands-misfit = commands-misfit;
+      start-misfit = start-misfit;
+    }
