@@ -1,6 +1,6 @@
 -- Every call keeps a site sound, the site's own and that of a site beside it, and so does every sequence.
 -- Assumes nothing.
-use Rattle.basis.proofs.Std.{ℕ, _/_, _%_, _≡_, refl, sym, _∙_, ap, subst, Bool, List, [], arith, lit≤, length, eqb-true}
+use Rattle.basis.proofs.Std.{ℕ, _/_, _%_, _≡_, refl, sym, _∙_, ap, subst, Bool, List, [], arith, lit≤, eqb-true}
 use Rattle.answer.specs.declared.Refusal.{Refusal}
 use Rattle.answer.specs.declared.Report.{Report}
 use Rattle.answer.specs.declared.Answer.{Answer}
