@@ -25,8 +25,12 @@ aLinkOrNone links primary = pick (ltb primary links) true (eqb primary 429496729
 unfoldable pub valuesWithin : ℕ → ℕ → ℕ → Bool
 valuesWithin period first time = both (leb 1 period) (both (leb period 3600) (both (leb first 2147483647) (leb time lastTime)))
 
+-- all but the site
+abbrev pub othersWithin : ℕ → ℕ → ℕ → ℕ → ℕ → Bool
+othersWithin links primary period first time = both (leb 1 links) (both (leb links 4) (both (aLinkOrNone links primary) (valuesWithin period first time)))
+
 unfoldable pub isWithin : ℕ → ℕ → ℕ → ℕ → ℕ → ℕ → Bool
-isWithin site links primary period first time = both (aSiteOrAlone site) (both (leb 1 links) (both (leb links 4) (both (aLinkOrNone links primary) (valuesWithin period first time))))
+isWithin site links primary period first time = both (aSiteOrAlone site) (othersWithin links primary period first time)
 
 abbrev pub notAccepted : Step
 notAccepted = refused noSite NotAccepted
