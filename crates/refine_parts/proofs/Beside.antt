@@ -1,6 +1,6 @@
 -- The other site of a box: what one leaves in the pool it finds, and a site that begins beside it.
 -- Assumes nothing.
-use Rattle.basis.proofs.Std.{ℕ, zero, suc, _+_, _*_, _/_, _%_, _≤_, _<_, _≡_, refl, sym, _∙_, ap, ap₂, subst, Bool, true, false, List, [], _∷_, map, _⊎_, inl, inr, eqb, leb, length, getD, replicate, length-replicate, arith, lt-leb, eq-eqb, ne-eqb, eqb-true, eqb-false, pick, bit, picked, eq-or-ne}
+use Rattle.basis.proofs.Std.{ℕ, zero, suc, _+_, _*_, _/_, _%_, _≤_, _<_, _≡_, refl, sym, _∙_, ap, ap₂, subst, Bool, true, false, List, [], map, _⊎_, inl, inr, eqb, leb, length, getD, replicate, length-replicate, arith, lt-leb, eq-eqb, ne-eqb, eqb-true, eqb-false, pick, eq-or-ne}
 use Rattle.pool.specs.declared.Place.{Place}
 use Rattle.pool.specs.declared.Pool.{Pool}
 use Rattle.pool.specs.Pool.{emptyOf, clearOf, lostOf}
@@ -13,10 +13,10 @@ use Rattle.machine.specs.Words.{keep}
 use Rattle.machine.specs.State.{Held, Share, noShare, Pool as Listed, sharedPool, poolOf, ownOf}
 use Rattle.machine.specs.Pool.{isFor, isOwn}
 use Rattle.demand_held.proofs.Lists.Each.{no-more}
-use Rattle.demand_held.proofs.Good.{GoodShare, Good}
+use Rattle.demand_held.proofs.Good.{GoodShare}
 use Rattle.demand_held.proofs.Good.Rising.{ends}
 use Rattle.refine_parts.specs.Record.{placeFor}
-use Rattle.refine_parts.specs.Same.{Beside, besideOf, nobody, heldFor, lostFor, nextFor, SamePool}
+use Rattle.refine_parts.specs.Same.{Beside, besideOf, nobody, nextFor, SamePool}
 use Rattle.refine_parts.specs.Claims.{Rest, clearedOf, Mirrors, SameBeside}
 use Rattle.refine_parts.proofs.Owners.{both-bounds, next-bound, seen-from, other-next}
 

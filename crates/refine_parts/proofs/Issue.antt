@@ -188,8 +188,8 @@ module _ {links k q : ℕ} {x : Beside} {p : Pool} {m : Listed} (same : SamePool
     omega (arith, of-owner, below-eight),
     (
       omega (arith, of-number, ap nexts of-owner, own-next k q (x .next) its below-eight its-site),
-      omega (arith, of-number)
-    )
+      omega (arith, of-number),
+    ),
   )
 
   after-reached : Reached 8 (issueOf 8 p entry) (nextFor k (suc q) (x .next))

@@ -1,6 +1,6 @@
 -- Who loses a record: of eight owners, in both pools.
 -- Assumes nothing.
-use Rattle.basis.proofs.Std.{ℕ, zero, suc, _+_, _*_, _-_, _/_, _%_, _≤_, _<_, _≡_, refl, sym, _∙_, ap, ap₂, Bool, true, false, not, List, [], _∷_, map, _⊎_, inl, inr, eqb, ltb, leb, length, getD, arith, lt-ltb, le-ltb, lt-leb, le-leb, leb-true, leb-false, ltb-true, eq-eqb, ne-eqb, eqb-true, eqb-false, not-false, pick, bit, count, picked, le-or-lt, lt-or-ge}
+use Rattle.basis.proofs.Std.{ℕ, zero, suc, _+_, _-_, _/_, _%_, _≤_, _<_, _≡_, refl, sym, _∙_, ap, Bool, true, false, not, List, [], _∷_, _⊎_, inl, inr, eqb, ltb, leb, length, arith, lt-ltb, le-ltb, lt-leb, le-leb, leb-true, ltb-true, eq-eqb, not-false, pick, bit, count, picked, le-or-lt, lt-or-ge}
 use Rattle.pool.specs.declared.Pool.{Pool}
 use Rattle.pool.specs.declared.Loser.{Loser}
 use Rattle.pool.specs.declared.Loser.the-variants.{Nobody, Owner}
@@ -107,8 +107,14 @@ module _ {links k q : ℕ} {x : Beside} {p : Pool} {m : Listed} (same : SamePool
   total-same =
       omega (
         arith,
-        held-same 0 (omega arith), held-same 1 (omega arith), held-same 2 (omega arith), held-same 3 (omega arith),
-        held-same 4 (omega arith), held-same 5 (omega arith), held-same 6 (omega arith), held-same 7 (omega arith),
+        held-same 0 (omega arith),
+        held-same 1 (omega arith),
+        held-same 2 (omega arith),
+        held-same 3 (omega arith),
+        held-same 4 (omega arith),
+        held-same 5 (omega arith),
+        held-same 6 (omega arith),
+        held-same 7 (omega arith),
         all-of-eight m (same .good .site),
         all-of-four (same .good .own .few) (m .held) (same .good .own .links),
         all-of-four (same .beside .few) (m .beside .held) (same .beside .links),
@@ -155,15 +161,23 @@ module _ {links k q : ℕ} {x : Beside} {p : Pool} {m : Listed} (same : SamePool
             by : (fullest m % 4 < length (m .lost)) ⊎ (length (m .lost) ≤ fullest m % 4) → fullest m % 4 < length (m .lost)
             by (inl f) = f
             by (inr f) =
-                absurd (omega (arith, most, ap (λ (t : Bool). count (isFor (fullest m % 4)) (pick t (m .held) (m .beside .held))) e,
-                beyond (fullest m % 4) f (m .held) (same .good .own .links)))
+                absurd (omega (
+                  arith,
+                  most,
+                  ap (λ (t : Bool). count (isFor (fullest m % 4)) (pick t (m .held) (m .beside .held))) e,
+                  beyond (fullest m % 4) f (m .held) (same .good .own .links),
+                ))
         go false e = by (lt-or-ge (fullest m % 4) (length (m .beside .lost)))
           where
             by : (fullest m % 4 < length (m .beside .lost)) ⊎ (length (m .beside .lost) ≤ fullest m % 4) → fullest m % 4 < length (m .beside .lost)
             by (inl f) = f
             by (inr f) =
-                absurd (omega (arith, most, ap (λ (t : Bool). count (isFor (fullest m % 4)) (pick t (m .held) (m .beside .held))) e,
-                beyond (fullest m % 4) f (m .beside .held) (same .beside .links)))
+                absurd (omega (
+                  arith,
+                  most,
+                  ap (λ (t : Bool). count (isFor (fullest m % 4)) (pick t (m .held) (m .beside .held))) e,
+                  beyond (fullest m % 4) f (m .beside .held) (same .beside .links),
+                ))
 
     pub loser-configured : Configured m (loserIn 8 (records p) (ownerOf (m .site) l))
     loser-configured =
