@@ -87,9 +87,12 @@ def judge_stored():
     with compiled("stored") as run:
         good = run("out", ROOT / "examples" / "barrier.bits")
         hold(stored.fault(good) is None, f"what C stores is not what it should be: {stored.fault(good)}")
-        hold(run("in", given=good) == b"0 1\n", "C does not take back what it stores")
-        for what, bytes_ in stored.spoiled(good):
-            hold(run("in", given=bytes_) == b"11 0\n", f"C takes {what}")
+        hold(run("in", given=good) == b"0 1 11 0\n", "C does not take back what it stores")
+        box = run("box", ROOT / "examples" / "barrier.bits")
+        hold(stored.fault(box, stored.BOX_BYTES) is None, f"what C stores of a box is not what it should be: {stored.fault(box, stored.BOX_BYTES)}")
+        hold(run("in", given=box) == b"11 0 0 1\n", "C does not take back the box that it stores")
+        for what, bytes_ in [*stored.spoiled(good), *stored.spoiled(box)]:
+            hold(run("in", given=bytes_) == b"11 0 11 0\n", f"C takes {what}")
 
 
 def judge_commands():

@@ -405,7 +405,7 @@ def reads_like(supervisor):
     return supervisor.written(supervisor.good()).rstrip()
 
 
-def boxed(source, count):
+def two_lives(source, count):
     """The player of a script of two sites. Now and then one of them is called more often than the other."""
     north = Player(NORTH)
     kinds = list(LIVES)
@@ -425,14 +425,14 @@ def boxed(source, count):
     return north
 
 
-def lives(source, count):
-    """Players whose scripts have together about so many lines."""
+def lives(source, count, boxed=None):
+    """Players whose scripts have together about so many lines; of a site alone, of two in a box, or of both kinds where it is not said."""
     total = 0
     kinds = list(LIVES)
     while total < count:
         length = source.choice((100, 300, 600, 1200))
-        if source.random() < 0.4:
-            player = boxed(source, length)
+        if source.random() < 0.4 if boxed is None else boxed:
+            player = two_lives(source, length)
         else:
             player = Player()
             Life(source, player, source.choice(kinds)).go(length)
