@@ -122,7 +122,7 @@ fn torn(path: &Path, length: u64) -> io::Result<u64> {
     let rest = &bytes[end.map_or(0, |end| end + 1)..];
     let begins = |line: &[u8], word: &str| line.starts_with(word.as_bytes()) || word.as_bytes().starts_with(line);
     let behind = NAMES.iter().find_map(|name| rest.strip_prefix(name.as_bytes())?.strip_prefix(b" ")).unwrap_or(rest);
-    let is_ours = CALLS.iter().any(|call| begins(behind, call)) || NAMES.iter().any(|name| begins(rest, name));
+    let is_ours = CALLS.iter().any(|call| begins(behind, call)) || NAMES.iter().any(|name| name.as_bytes().starts_with(rest));
     if end.is_none() && length > LONGEST_LINE || !is_ours {
         return Err(io::Error::new(io::ErrorKind::InvalidData, "it is no record: its last line has no end and is no call"));
     }
