@@ -93,19 +93,27 @@ def newest(state):
 
 def other_floods(room):
     """The south site is flooded by who answers nothing: the north keeps its share, and its values arrive."""
-    north, south = supervisors(1)
+    north, south = [Supervisor(SITE, SXL)], [Supervisor(SITE, SXL) for _ in range(2)]
     process = Process(room, north, beside=south)
     for one in (*north, *south):
         one.wait_up()
     north[0].ask("StatusSubscribe", **subscription())
     north[0].wait(lambda: process.order("counts") == "link 0 holds 0, lost 0", "the answer")
-    south[0].answers = north[0].answers = False
+    for one in (*north, *south):
+        one.answers = False
+
+    def flood():
+        for _ in range(10):
+            for one in south:
+                one.send("StatusSubscribe", cId=subscription()["cId"], sS=subscription()["sS"] * 16)
+
+    flood()
+    wait(lambda: process.order("south counts").count("holds 64, lost 96") == 2, "a pool full of the south's")
     for value in range(16):
         process.order(f"status {RELEASE} {value}")
-    for _ in range(40):
-        south[0].send("StatusSubscribe", cId=subscription()["cId"], sS=subscription()["sS"] * 16)
-    held = lambda name: int(process.order(f"{name} counts").split()[3].rstrip(","))
-    wait(lambda: held("south") == 64, "the flood")
+    hold(process.order("south counts") == "link 0 holds 56, lost 104; link 1 holds 56, lost 104", process.order("south counts"))
+    flood()
+    wait(lambda: process.order("south counts") == "link 0 holds 56, lost 264; link 1 holds 56, lost 264", "the flood that goes on")
     hold(process.order("north counts") == "link 0 holds 16, lost 0", f"north keeps its share: {process.order('north counts')}")
     north[0].answers = True
     north[0].cut()
