@@ -20,7 +20,7 @@ def stored_scripts():
 
 
 def random_scripts(seed, lines=LINES):
-    return ["".join(f"{line}\n" for line, _ in player.pairs) for player in lives.lives(random.Random(seed), lines)]
+    return ["".join(f"{line}\n" for line, _ in player.pairs) for player in lives.lives(random.Random(seed), lines, boxed=False)]
 
 
 def painted(scripts):

@@ -86,12 +86,13 @@ def overrun():
 
 
 def stored():
-    counts, at_once = [], 0
+    counts, at_once, south = [], 0, 0
     for script in (*replays.STORED, overrun):
         with Logging() as log:
             player = script()
         counts.append(judge(script.__name__, replays.texts(player)[0], log.bytes()))
         at_once += log.at_once
+        south += sum(record.owner >= 4 for record in log.records)
     whole = replays.paths(replays.whole_life)[0].read_text()
     hold(played(b"") == csvs.HEADER, "nothing was issued of nothing")
     hold(played((whole + "pump 0").encode(), status=2) == played(whole.encode()), "what was issued before a line that cannot be read")
@@ -101,7 +102,9 @@ def stored():
         hold(played(b"", file.name) == played(whole.encode()), "a script by its name")
     hold(played(b"", "/nowhere/at/all", status=2) == b"", "a script that is not there")
     hold(at_once == 16, f"{at_once} records were lost by the call that issued them")
-    print(f"rsmp-replay --records: {sum(counts)} records of {len(counts)} scripts, as the model issues them, {at_once} of them lost by the call that issued them")
+    hold(south, "no record of a second site")
+    print(f"rsmp-replay --records: {sum(counts)} records of {len(counts)} scripts, as the model issues them, {south} of them of a second site and {at_once} lost by "
+          "the call that issued them")
 
 
 def fresh(seed):

@@ -1,4 +1,4 @@
-"""`make run`: a barrier's site talks to two supervisors over TCP on this machine."""
+"""`make run`: a barrier's site talks to two supervisors over TCP on this machine; then two sites of one cabinet to one each."""
 import pathlib
 import re
 import subprocess
@@ -126,6 +126,43 @@ def show(process, centre, workshop, motor):
     say()
 
 
+def flood(*all_of_them):
+    for _ in range(40):
+        for one in all_of_them:
+            one.send("StatusSubscribe", cId=NORTH, sS=subscription()["sS"] * 16)
+
+
+def show_two(process, north, south):
+    say("Two barriers in one cabinet: the north and the south boom are two sites that share one pool of 128 records.")
+    for one in (north, *south):
+        one.wait_up()
+        one.ask("StatusSubscribe", **subscription())
+    say(f"  north: {process.order('north links')}; south: {process.order('south links')}")
+    north.wait(lambda: process.order("counts").startswith("link 0 holds 0"), "the answers")
+    north.greets = False
+    for one in south:
+        one.answers = False
+    north.cut()
+    north.wait(lambda: north.stream is None and "link 0 Up" not in process.order("links"), "the cut")
+    say("Both supervisors of the south boom flood it: each subscribes 640 times and answers nothing. The pool is full of the south's:")
+    flood(*south)
+    north.wait(lambda: process.order("south counts").count("holds 64") == 2, "the flood")
+    say(f"  north: {process.order('north counts')}; south: {process.order('south counts')}")
+    say("The north site, whose connection is cut, measures 16 release times, and the flood goes on:")
+    for value in range(190, 350, 10):
+        process.order(f"north status {RELEASE} {value}")
+    flood(*south)
+    for one in south:
+        one.ask("StatusUnsubscribe", cId=NORTH, sS=[{"sCI": "S0101", "n": "release"}])
+    say(f"  north: {process.order('north counts')}; south: {process.order('south counts')}")
+    before = len(values(north))
+    north.greets = True
+    north.cut()
+    north.wait(lambda: values(north)[before:][-16:] == [str(value) for value in range(190, 350, 10)], "what the north held")
+    say("The north's connection is back, and all 16 arrive: what the flood pushed out was the south site's own.")
+    say()
+
+
 def summary(process):
     say("The site ends. Its own count of messages and records:")
     for line in process.lines[process.lines.index("summary") + 1:]:
@@ -160,6 +197,17 @@ def spreadsheet(process, state):
     say()
 
 
+def two_sites():
+    north, south = Supervisor(SITE, SXL), [Supervisor(SITE, SXL) for _ in range(2)]
+    with tempfile.TemporaryDirectory() as room:
+        process = Process(room, [north], beside=south)
+        try:
+            show_two(process, north, south)
+            process.quit()
+        finally:
+            process.process.kill()
+
+
 def main():
     centre, workshop = Supervisor(SITE, SXL), Supervisor(SITE, SXL, offer="3.1.4")
     with tempfile.TemporaryDirectory() as room:
@@ -174,6 +222,7 @@ def main():
         summary(process)
         spreadsheet(process, state)
     report(centre)
+    two_sites()
     say("Two of the messages that the centre got:")
     for said in (centre.messages[0], centre.of("StatusUpdate")[-1]):
         say("  " + message.text(said).decode()[:180])

@@ -40,7 +40,7 @@ def judge_symbols():
     header = re.sub(r"/\*.*?\*/", "", HEADER.read_text(), flags=re.DOTALL)
     inline = r"^static inline .*?(?:^}| })$"
     declared = set(re.findall(r"\b(rsmp_[a-z_]+)\(", re.sub(inline, "", header, flags=re.DOTALL | re.MULTILINE)))
-    exported = {name for kind, name in symbols() if kind == "T" and not re.search(r"\d", name)}  # not rsmp_lent_start_0_6_0
+    exported = {name for kind, name in symbols() if kind == "T" and not re.search(r"\d", name)}  # not rsmp_lent_start_0_7_0
     hold(declared == {name for name in exported if name.startswith("rsmp_")}, f"header and archive differ: {sorted(declared ^ exported)}")
     called = {re.search(r"\b(rsmp_[a-z_]+)\(", body)[1] for body in re.findall(inline, header, re.DOTALL | re.MULTILINE)}
     hold({name.replace("lent_", "") for name in declared} <= called, f"not to be called: {sorted(declared - called)}")
@@ -87,9 +87,12 @@ def judge_stored():
     with compiled("stored") as run:
         good = run("out", ROOT / "examples" / "barrier.bits")
         hold(stored.fault(good) is None, f"what C stores is not what it should be: {stored.fault(good)}")
-        hold(run("in", given=good) == b"0 1\n", "C does not take back what it stores")
-        for what, bytes_ in stored.spoiled(good):
-            hold(run("in", given=bytes_) == b"11 0\n", f"C takes {what}")
+        hold(run("in", given=good) == b"0 1 11 0\n", "C does not take back what it stores")
+        box = run("box", ROOT / "examples" / "barrier.bits")
+        hold(stored.fault(box, stored.BOX_BYTES) is None, f"what C stores of a box is not what it should be: {stored.fault(box, stored.BOX_BYTES)}")
+        hold(run("in", given=box) == b"11 0 0 1\n", "C does not take back the box that it stores")
+        for what, bytes_ in [*stored.spoiled(good), *stored.spoiled(box)]:
+            hold(run("in", given=bytes_) == b"11 0 11 0\n", f"C takes {what}")
 
 
 def judge_commands():

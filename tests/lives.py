@@ -1,8 +1,8 @@
 """Random scripts of calls that get deep: links are greeted and stay Up, the pool fills and is stolen from, identities, sequence
-numbers and time run out."""
+numbers and time run out; of a site alone, and of two that share a box."""
 from model import link as links_
 from model import message, table
-from player import ROOM, Player
+from player import NORTH, ROOM, SOUTH, Player
 from supervisor import ANSWER, NO_ANSWER, Supervisor
 
 LAST_SEQUENCE, HIGHEST = 2147483647, 4294967295
@@ -60,19 +60,23 @@ def limits(source):
     return sorted((source.choice(ends), source.choice(ends)))
 
 
+# Of a site in a box: begins anew with the other beside it, and without.
+BOXED = {"anew": 0.3, "alone": 0.1}
+
+
 class Life:
     """One start and the calls after it."""
 
     def __init__(self, source, player, kind):
         self.source, self.player, self.supervisor = source, player, Supervisor(source, player, mixed=True)
-        self.kind, self.weights = kind, {**ORDINARY, **LIVES[kind]}
+        self.kind, self.weights = kind, {**ORDINARY, **LIVES[kind], **(BOXED if player.name else {})}
         self.time, self.spent = 0, []
 
     @property
     def site(self):
         return self.player.site
 
-    def begin(self):
+    def begin(self, alone=False):
         source = self.source
         crowded = self.kind == "flood"
         links = source.choice((2, 3, 3, 4)) if crowded else source.randint(1, 4)
@@ -84,15 +88,25 @@ class Life:
         if source.random() < 0.05:
             self.time = message.LAST - source.randrange(200000)
         made = some_table(source, full=crowded and source.random() < 0.5)
-        self.player.start(made.bytes(), links, primary, source.choice((1, 5, 30, 60, 60, 3600)), first, self.time)
+        start = self.player.start_alone if alone else self.player.start
+        start(made.bytes(), links, primary, source.choice((1, 5, 30, 60, 60, 3600)), first, self.time)
+
+    def acts(self, count):
+        names = list(self.weights)
+        return self.source.choices(names, [self.weights[name] for name in names], k=count)
 
     def go(self, count):
         self.begin()
-        names = list(self.weights)
-        for name in self.source.choices(names, [self.weights[name] for name in names], k=count):
+        for name in self.acts(count):
             getattr(self, name)()
         self.player.counts()
         self.player.readings()
+
+    def act(self, name):
+        """Of a site whose box the other shares: it begins again where the other's start has ended it."""
+        if self.site is None:
+            self.begin()
+        getattr(self, name)()
 
     # Arguments.
 
@@ -305,6 +319,15 @@ class Life:
     def readings(self):
         self.player.readings()
 
+    # Starts that are done.
+
+    def anew(self):
+        self.begin()
+
+    def alone(self):
+        if self.player.name == NORTH:
+            self.begin(alone=True)
+
     # Calls that are refused. More than one thing may be wrong at once.
 
     def any_link(self):
@@ -382,12 +405,36 @@ def reads_like(supervisor):
     return supervisor.written(supervisor.good()).rstrip()
 
 
-def lives(source, count):
-    """Players whose scripts have together about so many lines."""
+def two_lives(source, count):
+    """The player of a script of two sites. Now and then one of them is called more often than the other."""
+    north = Player(NORTH)
+    kinds = list(LIVES)
+    both = [Life(source, player, source.choice((*kinds, "flood"))) for player in (north, Player(SOUTH, north))]
+    both[0].begin(alone=True)
+    both[1].begin()
+    acts = [iter(life.acts(count)) for life in both]
+    weights = 1, 1
+    for _ in range(count):
+        if source.random() < 0.02:
+            weights = source.choice(((1, 1), (1, 9), (9, 1)))
+        one = source.choices((0, 1), weights)[0]
+        both[one].act(next(acts[one]))
+    for life in both:
+        life.act("counts")
+        life.act("readings")
+    return north
+
+
+def lives(source, count, boxed=None):
+    """Players whose scripts have together about so many lines; of a site alone, of two in a box, or of both kinds where it is not said."""
     total = 0
     kinds = list(LIVES)
     while total < count:
-        player = Player()
-        Life(source, player, source.choice(kinds)).go(source.choice((100, 300, 600, 1200)))
+        length = source.choice((100, 300, 600, 1200))
+        if source.random() < 0.4 if boxed is None else boxed:
+            player = two_lives(source, length)
+        else:
+            player = Player()
+            Life(source, player, source.choice(kinds)).go(length)
         total += len(player.pairs)
         yield player

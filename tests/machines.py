@@ -37,10 +37,15 @@ def compare(lines, model, what):
 
 
 def stored():
+    """Those of one site one after the other; those of two from the empty box each."""
     lines, answers = [], []
     for path in sorted(SCRIPTS.glob("*.txt")):
-        lines += path.read_text().splitlines()
-        answers += path.with_suffix(".answers").read_text().splitlines()
+        given, told = path.read_text().splitlines(), path.with_suffix(".answers").read_text().splitlines()
+        if given[0].startswith("start "):
+            lines += given
+            answers += told
+        else:
+            compare(given, told, f"stored script {path.stem}")
     compare(lines, answers, "stored scripts")
 
 

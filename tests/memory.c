@@ -1,7 +1,7 @@
 /* Plays a script of calls under valgrind's memcheck, without a C library, so that whatever memcheck finds is of the proved library.
  *
- * The packet, the table and the site are lent with nothing readable around them, the output with nothing writable around it and undefined
- * inside, and a start is lent a site that is undefined. What a call reports must be defined, and so must the site after it and what was
+ * The packet, the table and the site, or the box, are lent with nothing readable around them, the output with nothing writable around it and
+ * undefined inside, and a start is lent a site that is undefined; the pool too where it is alone. What a call reports must be defined, and so must the site after it and what was
  * written; what was not written must be as undefined as before.
  *
  *   memory <SCRIPT     prints the number of calls; status 1 where memcheck found something, 2 where the script cannot be played
@@ -93,13 +93,43 @@ static void judge_output(const uint8_t *output)
         if (bits[place] != 0xFF) give_up("a byte behind the written ones was written");
 }
 
+/* The parts of a site. */
+#ifdef BOX
+#define WORDS_OF(k) site->words[k]
+#define TABLE_OF(k) site->table[k]
+#define SITES RSMP_BOX_SITES
+#else
+#define WORDS_OF(k) site->words
+#define TABLE_OF(k) site->table
+#define SITES 1
+#endif
+
+static int pool_made, started[2];
+
+static void undefine(void)
+{
+    if (!line.named) VALGRIND_MAKE_MEM_UNDEFINED(site->pool, sizeof site->pool);
+    VALGRIND_MAKE_MEM_UNDEFINED(WORDS_OF(line.site), 8 * RSMP_SITE_WORDS);
+    VALGRIND_MAKE_MEM_UNDEFINED(TABLE_OF(line.site), RSMP_SITE_TABLE);
+}
+
 /* A refused start leaves the site as it was, undefined where there was none. */
 static void judge_site(int starts)
 {
-    static int started;
-    if (starts && report.number != RSMP_DONE && started) VALGRIND_MAKE_MEM_DEFINED(site, sizeof *site);
-    started |= starts && report.number == RSMP_DONE;
-    if (started) VALGRIND_CHECK_MEM_IS_DEFINED(site, RSMP_SITE_BYTES);
+    int done = report.number == RSMP_DONE;
+    if (starts && !done && (pool_made || SITES > 1)) VALGRIND_MAKE_MEM_DEFINED(site->pool, sizeof site->pool);
+    if (starts && !done && started[line.site]) {
+        VALGRIND_MAKE_MEM_DEFINED(WORDS_OF(line.site), 8 * RSMP_SITE_WORDS);
+        VALGRIND_MAKE_MEM_DEFINED(TABLE_OF(line.site), RSMP_SITE_TABLE);
+    }
+    pool_made |= starts && done;
+    started[line.site] |= starts && done;
+    if (pool_made) VALGRIND_CHECK_MEM_IS_DEFINED(site->pool, sizeof site->pool);
+    for (int k = 0; k < SITES; k++) {
+        if (!started[k]) continue;
+        VALGRIND_CHECK_MEM_IS_DEFINED(WORDS_OF(k), 8 * RSMP_SITE_WORDS);
+        VALGRIND_CHECK_MEM_IS_DEFINED(TABLE_OF(k), RSMP_SITE_TABLE);
+    }
 }
 
 static void play_line(void)
@@ -112,7 +142,7 @@ static void play_line(void)
     VALGRIND_MAKE_MEM_NOACCESS(bytes + line.length, sizeof given - GUARD - line.length);
     VALGRIND_MAKE_MEM_NOACCESS(lent, sizeof lent);
     VALGRIND_MAKE_MEM_UNDEFINED(output, line.room);
-    if (starts) VALGRIND_MAKE_MEM_UNDEFINED(site, sizeof *site);
+    if (starts) undefine();
     call(&line, bytes, output);
     judge_output(output);
     judge_site(starts);

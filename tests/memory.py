@@ -21,10 +21,10 @@ NO_MEMCHECK = 77
 LINES = 500
 
 
-def played(script, what):
+def played(script, what, boxed=False):
     with tempfile.TemporaryDirectory() as room:
         program = pathlib.Path(room) / "memory"
-        subprocess.run([TOOLS / "cc", *FLAGS, "-o", program, ROOT / "tests" / "memory.c", LIBRARY], check=True)
+        subprocess.run([TOOLS / "cc", *FLAGS, *["-DBOX"] * boxed, "-o", program, ROOT / "tests" / "memory.c", LIBRARY], check=True)
         done = subprocess.run([TOOLS / "memcheck", program], input=script, capture_output=True, text=True)
     if done.returncode == NO_MEMCHECK:
         print("memory: NOT RUN, valgrind is not installed and cannot be fetched")
@@ -36,12 +36,17 @@ def played(script, what):
 
 
 def stored():
-    played("".join(path.read_text() for path in sorted(SCRIPTS.glob("*.txt"))), "stored scripts")
+    texts = [path.read_text() for path in sorted(SCRIPTS.glob("*.txt"))]
+    played("".join(text for text in texts if text.startswith("start ")), "stored scripts")
+    for text in texts:
+        if not text.startswith("start "):
+            played(text, "a stored script of two sites", boxed=True)
 
 
 def fresh(seed):
     print(f"memory: seed {seed}")
-    played("".join(f"{line}\n" for line in damaged.scripts(random.Random(seed), LINES)), "spoiled sites")
+    for boxed in (False, True):
+        played("".join(f"{line}\n" for line in damaged.scripts(random.Random(seed), LINES, boxed)), "spoiled sites", boxed)
 
 
 if __name__ == "__main__":

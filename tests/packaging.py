@@ -148,7 +148,9 @@ def judge_completions(place):
     for words, wanted in (
             (("rsmp-site", "--check"), ["--check-config"]), (("rsmp-site", "--log-l"), ["--log-level"]),
             (("rsmp-site", "--log-level", "w"), ["warning"]), (("rsmp-site", "--quiet", "--met"), ["--metrics"]),
-            (("rsmp-site", "--send", "/x", "s"), ["status", "show", "save"]), (("rsmp-site", "--send", "/x", "show", ""), ["--json"]),
+            (("rsmp-site", "--send", "/x", "s"), ["status", "show", "save", "south"]), (("rsmp-site", "--send", "/x", "show", ""), ["--json"]),
+            (("rsmp-site", "--send", "/x", "south", "c"), ["counts", "commands"]), (("rsmp-site", "--send", "/x", "north", "show", ""), ["--json"]),
+            (("rsmp-site", "--beside", "--tab"), ["--table"]),
             (("rsmp-site", "--send", "/x", "alarm", "2", "o"), ["on", "off"]), (("rsmp-site", "--table", f"{ROOT}/VER"), [f"{ROOT}/VERSION"]),
             (("rsmp-replay", "--st"), ["--stream"]), (("rsmp-week", f"{ROOT}/VER"), [f"{ROOT}/VERSION"]), (("rsmp-table", "un"), ["unpack"]),
             (("rsmp-replay", "--rec"), ["--records"]), (("rsmp-site", "--send", "/x", "rec"), ["records"]), (("rsmp-csv", "rec"), ["records"]),

@@ -35,30 +35,30 @@ class Counting:
 
         def issuing(one, record):
             issue(one, record)
-            count["issued", record.link] += 1
+            count["issued", record.owner] += 1
 
         def losing(one, record):
             lose(one, record)
-            count["lost", record.link] += 1
+            count["lost", record.owner] += 1
 
-        def settling(one, link, sequence):
-            count["answered", link] += one.find(link, sequence) is not None
-            settle(one, link, sequence)
+        def settling(one, owner, sequence):
+            count["answered", owner] += one.find(owner, sequence) is not None
+            settle(one, owner, sequence)
 
         def pumping(one, link, *more):
             done = pump(one, link, *more)
-            count["sent", link] += list(one.links[link].awaited.values())[-1][0] == links_.RECORD
+            count["sent", one.owner(link)] += list(one.links[link].awaited.values())[-1][0] == links_.RECORD
             return done
 
         def packeting(one, link, *more):
             done = packet(one, link, *more)
-            count["commands", link] += len(done.commands)
+            count["commands", one.owner(link)] += len(done.commands)
             return done
 
         def alarming(one, number, active, *more):
             before = [alarm.active for alarm in one.alarms]
             done = alarm(one, number, active, *more)
-            count["raised"] += one.alarms[number].active and not before[number]
+            count["raised", 4 * one.number] += one.alarms[number].active and not before[number]
             return done
 
         self.put(issuing, losing, settling, pumping, packeting, alarming)
@@ -92,16 +92,23 @@ def judge_alarms(what, group, last, raised):
 
 
 def judge(what, player, count):
-    """The picture of a script that ends with this player's site."""
+    """The picture of a script that ends with this player's sites."""
     root = picture(replays.texts(player)[0])
     drawn = {group.get("id"): group for group in root.iter(NAME + "g")}
-    judge_alarms(what, drawn.pop("alarms"), player.site, count.pop("raised", 0))
-    most = max([link for _, link in count] + [len(player.site.links) - 1])
-    hold(len(drawn) >= most + 1, f"{what}: {len(drawn)} links are drawn")
-    for number, one in enumerate(player.site.links):
-        group = drawn[f"link{number}"]
-        wanted = {name: count[name, number] for name in WHAT}
-        wanted["held"] = player.site.pool.held(number)
+    raised = [count.pop(("raised", owner), 0) for owner in (0, 4)]
+    for site in filter(None, player.box.sites):
+        begins = ("", "south-")[site.number]
+        judge_alarms(what, drawn.pop(f"{begins}alarms"), site, raised[site.number])
+        judge_links(what, drawn, begins, site, count)
+    hold(len(drawn) >= len({owner for _, owner in count}), f"{what}: {len(drawn)} links are drawn")
+    return len(root.findall(".//*"))
+
+
+def judge_links(what, drawn, begins, site, count):
+    for number, one in enumerate(site.links):
+        group = drawn[f"{begins}link{number}"]
+        wanted = {name: count[name, site.owner(number)] for name in WHAT}
+        wanted["held"] = site.held(number)
         wanted["dropped"] = wanted["issued"] - wanted["answered"] - wanted["lost"] - wanted["held"]
         said = {name: int(group.get(f"data-{name}")) for name in wanted}
         hold(said == wanted, f"{what}, link {number}: {said}, and the model counts {wanted}")
@@ -109,7 +116,6 @@ def judge(what, player, count):
         words = " ".join("".join(text.itertext()) for text in group.iter(NAME + "text"))
         hold(f"{wanted['answered']} answered, {wanted['held']} held at the end, {wanted['lost']} lost" in words, f"{what}: {words}")
         hold((f"{wanted['commands']} command" in words) == (wanted["commands"] > 0), f"{what}: {words}")
-    return len(root.findall(".//*"))
 
 
 def stored():

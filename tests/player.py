@@ -7,6 +7,7 @@ from model import site as sites
 
 CALLS = ("start", "connect", "disconnect", "packet", "alarm", "status", "aggregated", "tick", "pump")
 METHODS = {"aggregated": "aggregate"}
+NORTH, SOUTH = "north", "south"
 NONE = 4294967295
 ROOM = sites.OUTPUT
 
@@ -26,23 +27,37 @@ def shown(answer):
 
 
 class Player:
-    def __init__(self):
-        self.site = None
-        self.pairs, self.came = [], collections.Counter()
+    """Of a site alone; or, by its name, of one of the two sites of a box, which write into one script."""
+
+    def __init__(self, name="", beside=None):
+        self.name, self.number = name, int(name == SOUTH)
+        self.box = beside.box if beside else sites.Box()
+        self.pairs, self.came = (beside.pairs, beside.came) if beside else ([], collections.Counter())
+
+    @property
+    def site(self):
+        return self.box.sites[self.number]
 
     def say(self, line, answer):
-        self.pairs.append((line, answer))
+        """A line without a name is north's: every other one of north's has none."""
+        named = self.name == SOUTH or self.name == NORTH and (len(self.pairs) % 2 or line.startswith("start "))
+        self.pairs.append((f"{self.name} {line}" if named else line, answer))
 
     # The calls. Each gives the model's answer.
 
     def start(self, table, links, primary, period, first, time):
-        made = sites.start(table, links, primary, period, first, time)
-        shown_primary = "-" if primary is None else primary
-        self.say(f"start {hexed(table)} {links} {shown_primary} {period} {first} {time}", "11" if made is None else "0 0 - -")
-        self.came["number", "start", 0 if made else 11] += 1
-        if made:
-            self.site = made
-        return made is not None
+        return self.begin(self.number if self.name else None, self.say, table, links, primary, period, first, time)
+
+    def start_alone(self, table, links, primary, period, first, time):
+        """The other site ends."""
+        return self.begin(None, lambda *pair: self.pairs.append(pair), table, links, primary, period, first, time)
+
+    def begin(self, site, say, table, links, primary, *rest):
+        done = self.box.start(site, table, links, primary, *rest)
+        words = hexed(table), links, "-" if primary is None else primary, *rest
+        say(" ".join(["start", *map(str, words)]), "0 0 - -" if done else "11")
+        self.came["number", "start", 0 if done else 11] += 1
+        return done
 
     def call(self, name, words, *arguments):
         answer = self.site.call(METHODS.get(name, name), *arguments)
@@ -89,12 +104,13 @@ class Player:
         return answer
 
     def counting_lost(self, name, words, *arguments):
-        before = list(self.site.pool.lost)
-        held = len(self.site.pool.records)
+        pool = self.box.pool
+        before, held = list(pool.lost), len(pool.records)
         answer = self.call(name, words, *arguments)
-        lost = [now - then for now, then in zip(self.site.pool.lost, before)]
+        lost = [now - then for now, then in zip(pool.lost, before)]
         self.came["lost"] += sum(lost)
         self.came["lost at a full pool"] += sum(lost) if held == 128 else 0
+        self.came["lost by the other site"] += sum(lost[4:] if self.number == 0 else lost[:4])
         return answer
 
     # What was due, for the count.
@@ -102,7 +118,7 @@ class Player:
     def due(self, link, time):
         if link >= len(self.site.links):
             return None
-        record = self.site.pool.oldest_unsent(link)
+        record = self.box.pool.oldest_unsent(self.site.owner(link))
         return self.site.links[link].due(time, self.site.period * 1000, link == self.site.primary, len(self.site.table.alarms),
                                          record is not None)
 
@@ -112,15 +128,15 @@ class Player:
         if due[0] == "alarm":
             return "first pass, alarm" + (" carrying its record" if purpose == links_.RECORD else "")
         if due[0] == "record":
-            return ("alarm", "status", "aggregated")[self.site.pool.find(link, sequence).kind] + " record"
+            return ("alarm", "status", "aggregated")[self.box.pool.find(self.site.owner(link), sequence).kind] + " record"
         return {"aggregated": "first pass, aggregated"}.get(due[0], due[0])
 
     # Readings.
 
     def counts(self):
         if self.site:
-            pool = self.site.pool
-            self.say("counts", " ".join(f"{pool.held(link)}/{pool.lost[link]}" for link in range(len(self.site.links))))
+            site = self.site
+            self.say("counts", " ".join(f"{site.held(link)}/{site.lost(link)}" for link in range(len(site.links))))
 
     def readings(self):
         if self.site:
@@ -128,5 +144,5 @@ class Player:
 
     def reading(self, link):
         one = self.site.links[link]
-        records = ",".join(record.packed().hex() for record in self.site.pool.of(link)) or "-"
+        records = ",".join(record.packed().hex() for record in self.site.records(link)) or "-"
         return f"{one.phase}/{'.'.join(map(str, one.chosen))}/{records}"

@@ -16,9 +16,9 @@ BARRIER = tabletexts.table_of(TABLE.read_text())
 SITE, SXL = BARRIER.site.decode(), BARRIER.sxl.decode()
 NORTH, SOUTH = (BARRIER.components[number].decode() for number in (1, 2))
 RELEASE = 1
-LOGGED = re.compile(r"\d{4}-\d\d-\d\d \d\d:\d\d:\d\d\.\d{3}Z (error  |warning|info   |message|debug  ) (site  |link \d)  ")
+LOGGED = re.compile(r"\d{4}-\d\d-\d\d \d\d:\d\d:\d\d\.\d{3}Z (error  |warning|info   |message|debug  ) (site  |link \d|south \d)  ")
 
-NO_REPLY = re.compile(r"summary|  link |  commands |\(\d+ lines")
+NO_REPLY = re.compile(r"summary|  (north |south )?(link|commands) |\(\d+ lines")
 
 
 def last_numbers(count):
@@ -68,15 +68,21 @@ def boom(value, component=NORTH):
     return commanding(("M0101", "boom", value), component=component)
 
 
+def addressed(supervisors):
+    return [word for one in supervisors for word in ("--supervisor", getattr(one, "address", one))]
+
+
 class Process:
-    """rsmp-site with supervisors."""
+    """rsmp-site with supervisors; and, beside, with those of a second site and the options of its own."""
     started = []
 
-    def __init__(self, room, supervisors, *options, record=True, table=TABLE, **more):
+    def __init__(self, room, supervisors, *options, record=True, table=TABLE, beside=None, beside_table=TABLE, beside_options=(), **more):
         self.record, self.lines, self.said = pathlib.Path(room) / "record.txt", [], []
         words = ["--table", table, "--reconnect", "0.2", "--reconnect-limit", "0.4"]
-        words += [word for one in supervisors for word in ("--supervisor", getattr(one, "address", one))]
+        words += addressed(supervisors)
         words += ["--record", self.record] if record else []
+        if beside is not None:
+            options += ("--beside", "--table", beside_table, *addressed(beside), *beside_options)
         more = {"stdin": subprocess.PIPE, "stdout": subprocess.PIPE, "stderr": subprocess.STDOUT, **more}
         self.process = subprocess.Popen([PROGRAM, *words, *options], text=True, bufsize=1, errors="replace", **more)
         self.pid, self.reader, self.room = self.process.pid, None, str(room)

@@ -17,7 +17,7 @@ import packets
 from cases import ROOT
 from model import message, table
 from model.site import LAST_SEQUENCE
-from player import CALLS, Player
+from player import CALLS, NORTH, SOUTH, Player
 from supervisor import ANSWER, NO_ANSWER, Supervisor
 
 PROGRAM = ROOT / "build" / "rsmp-replay"
@@ -43,8 +43,8 @@ COMMANDED = table.Table(BARRIER.site, BARRIER.sxl, [*BARRIER.components, b"O+144
 class Hand:
     """A player with a counter for random bytes, so that every identity is another one."""
 
-    def __init__(self, links=2, primary=0, period=60, first=0, at=NOON, site=BARRIER):
-        self.player = Player()
+    def __init__(self, links=2, primary=0, period=60, first=0, at=NOON, site=BARRIER, player=None):
+        self.player = player or Player()
         self.supervisor = Supervisor(Calm(1), self.player)
         self.time, self.count = at, 0
         self.player.start(site.bytes(), links, primary, period, first, at)
@@ -88,6 +88,12 @@ class Hand:
 
     def subscribe(self, link, count=1, rate=("0", True)):
         return self.tell(link, self.supervisor.of_statuses("StatusSubscribe", count, rate))
+
+    def release(self, link, count=1):
+        """Subscribes so many times to one status, a record each."""
+        one = [{"sCI": "S0001", "n": "release", "uRt": "0", "sOc": True}]
+        for _ in range(count):
+            self.tell(link, self.supervisor.head("StatusSubscribe") + [("cId", self.supervisor.component(1)), ("sS", one)])
 
     def command(self, link, *entries, **more):
         """Commands of one component, by their numbers and values."""
@@ -403,14 +409,10 @@ def filled_pool():
     for link in (0, 1, 2):
         hand.up(link)
         hand.sent_out(link)
-    component = hand.supervisor.site.table.components[1].decode()
-    one = [{"sCI": "S0001", "n": "release", "uRt": "0", "sOc": True}]
-    subscribing = lambda link: hand.tell(link, hand.supervisor.head("StatusSubscribe") + [("cId", component), ("sS", one)])
     for link in (0, 1):
-        for _ in range(64):
-            subscribing(link)
+        hand.release(link, 64)
     for _ in range(17):
-        subscribing(2)
+        hand.release(2)
         hand.player.counts()
     for link in (0, 1, 2):
         hand.sent_out(link)
@@ -853,10 +855,142 @@ def included_awaits_nothing():
     return hand.done()
 
 
+# Request 10: two sites in one box.
+
+def boxed(north=(), south=()):
+    """Both from the empty box, each with its own values."""
+    player = Player(NORTH)
+    return Hand(player=player, **dict(north)), Hand(player=Player(SOUTH, player), site=COMMANDED, **dict(south))
+
+
+def greeted(*hands):
+    for hand in hands:
+        for link in range(len(hand.player.site.links)):
+            hand.up(link)
+            hand.sent_out(link)
+
+
+def both_done(*hands):
+    for hand in hands:
+        hand.done()
+    return hands[0].player
+
+
+def shared_pool():
+    """Held 64 | 64 of owners 0 and 4: a record for owner 5 gives 63 | 64, 1, north losing; the 16th 56 | 56, 16; the 17th the same, lost 8 | 8, 1."""
+    north, south = boxed(dict(links=1), dict(links=2))
+    greeted(north, south)
+    north.release(0, 64)
+    south.release(0, 64)
+    for _ in range(17):
+        south.release(1)
+        north.player.counts()
+        south.player.counts()
+    for hand, link in ((north, 0), (south, 0), (south, 1)):
+        hand.player.readings()
+        hand.sent_out(link)
+    return both_done(north, south)
+
+
+def eight_owners():
+    """17, 16 six times, 15: a record for owner 7 gives 16 to each, owner 0 losing; then each loses its own. Owners 3 and 6 with 17: 3 loses first."""
+    hands = boxed(dict(links=4), dict(links=4))
+    greeted(*hands)
+    hold = lambda owner, count=1: hands[owner // 4].release(owner % 4, count)
+
+    def counts():
+        for hand in hands:
+            hand.player.counts()
+
+    for owner, count in enumerate((17, 16, 16, 16, 16, 16, 16, 15)):
+        hold(owner, count)
+    counts()
+    for owner in (7, 3, 4, 0, 7):
+        hold(owner)
+        counts()
+    for hand in hands:
+        for link in range(4):
+            hand.sent_out(link)
+    for owner, count in enumerate((16, 16, 16, 17, 15, 16, 17, 15)):
+        hold(owner, count)
+    for owner in (4, 7):
+        hold(owner)
+        counts()
+    return both_done(*hands)
+
+
+def same_numbers():
+    """Records of both sites under the same numbers: an answer settles, a message marks and a closing unmarks those of its own site."""
+    north, south = boxed(dict(first=7), dict(first=7))
+    greeted(north, south)
+    for hand in (north, south):
+        hand.player.alarm(1, True, hand.time)
+        for link in (0, 1):
+            hand.release(link, 2)
+    for hand in (north, south):
+        hand.pump(0)
+        hand.pump(0)
+        hand.player.readings()
+    south.answer(0)
+    both_done(north, south)
+    north.player.disconnect(0, north.time)
+    both_done(north, south)
+    south.pump(0)
+    north.up(0)
+    for hand in (north, south):
+        hand.sent_out(0)
+        hand.sent_out(1)
+    return both_done(north, south)
+
+
+def starts_of_two():
+    """South first; a start beside the other empties its own share, a refused one nothing, one that is alone ends the other."""
+    player = Player(NORTH)
+    south = Hand(player=Player(SOUTH, player), links=1, first=5)
+    greeted(south)
+    south.release(0, 3)
+    north = Hand(player=player, site=COMMANDED)
+    greeted(north)
+    north.release(1, 70)
+    both_done(north, south)
+    values = dict(links=2, primary=0, period=60, first=0, time=north.time)
+    for hand in (south, north):
+        for wrong in (dict(links=5), dict(first=LAST_SEQUENCE + 1), dict(table=b"")):
+            hand.player.start(**{"table": BARRIER.bytes(), **values, **wrong})
+        player.start_alone(**{"table": BARRIER.bytes(), **values, "period": 0})
+        both_done(north, south)
+    north.player.start(table=BARRIER.bytes(), **values)
+    both_done(north, south)
+    south.release(0)
+    greeted(north)
+    north.release(0, 5)
+    south.player.start(table=COMMANDED.bytes(), **values)
+    both_done(north, south)
+    player.start_alone(table=COMMANDED.bytes(), **values)
+    north.done()
+    south.player.start(table=BARRIER.bytes(), **values)
+    greeted(south)
+    south.release(0, 2)
+    return both_done(north, south)
+
+
+def ends_of_two():
+    """Each site has its own last time and its own last number."""
+    north, south = boxed(dict(first=LAST_SEQUENCE - 1, at=message.LAST - 5), dict(first=3, at=NOON))
+    for hand in (north, south):
+        for value in (1, 2):
+            hand.player.aggregated(value, hand.time)
+        hand.player.alarm(0, True, hand.time)
+        hand.player.tick(hand.time - 1)
+    north.player.tick(message.LAST + 1)
+    south.player.tick(NOON + 1)
+    return both_done(north, south)
+
+
 STORED = (start_limits, checks_in_order, without_packets, sequence_end, time_end, whole_life, decimals_of_a_watchdog, awaited_too_long,
           lengths, every_reason, numbers_of_a_link, closing_answers, alarm_orders, errors_met, filled_pool, late_answer, old_is_old,
           edition_before, many_members, equal_marks, editions, commands, commands_refused, commands_of_edition_1,
-          acknowledgement_included, included_awaits_nothing)
+          acknowledgement_included, included_awaits_nothing, shared_pool, eight_owners, same_numbers, starts_of_two, ends_of_two)
 
 
 def texts(player):
@@ -908,7 +1042,7 @@ def compare(players, what):
 
 
 def of_same_site(pairs):
-    """From the last start that was done."""
+    """From the last start that was done of a site alone."""
     last = max(place for place, (line, answer) in enumerate(pairs) if line.startswith("start ") and answer.startswith("0") or place == 0)
     return pairs[last:]
 
@@ -931,7 +1065,7 @@ def print_coverage(came):
         if rows:
             print(f"  {kind:12}  " + ", ".join(f"{name} {count}" for name, count in rows))
     print(f"  clock hints {came['hint']}, records lost {came['lost']}, of them at a full pool {came['lost at a full pool']}, "
-          f"commands handed over {came['command']}")
+          f"commands handed over {came['command']}; records of a site that the other pushed out {came['lost by the other site']}")
 
 
 def keyed(came):

@@ -1,5 +1,5 @@
-/* A script of calls, as rsmp-replay reads it, called from C on one site; and a line `damage SEED COUNT`. Wants nothing of a C library but
- * memcpy and memset, and `give_up` of the program that includes it, which ends the program. */
+/* A script of calls, as rsmp-replay reads it, called from C on one site, or with BOX defined on the two of a box; and a line `damage SEED COUNT`.
+ * Wants nothing of a C library but memcpy and memset, and `give_up` of the program that includes it, which ends the program. */
 #ifndef SCRIPT_H
 #define SCRIPT_H
 
@@ -10,6 +10,8 @@
 #define MOST_ROOM 65536
 
 struct line {
+    int named;                    /* whether it names its site */
+    uint32_t site;
     const char *words[MOST_WORDS];
     uint64_t numbers[MOST_WORDS]; /* by place; of no meaning where the word is no number */
     uint8_t bytes[MOST_BYTES];    /* the table or the packet */
@@ -19,12 +21,22 @@ struct line {
 
 #define SITE_GUARD 256
 
+#ifdef BOX
+typedef rsmp_box lent_site;
+#define LENT_BYTES RSMP_BOX_BYTES
+#define CALL(name, ...) rsmp_box_##name(site, line->site, __VA_ARGS__)
+#else
+typedef rsmp_site lent_site;
+#define LENT_BYTES RSMP_SITE_BYTES
+#define CALL(name, ...) rsmp_##name(site, __VA_ARGS__)
+#endif
+
 static struct {
     uint8_t before[SITE_GUARD];
-    rsmp_site site;
+    lent_site site;
     uint8_t behind[SITE_GUARD];
 } guarded;
-static rsmp_site *const site = &guarded.site;
+static lent_site *const site = &guarded.site;
 static rsmp_report report; /* of the last call; of one that has none its number alone */
 
 static void give_up(const char *what);
@@ -64,6 +76,9 @@ static size_t of_hex(const char *word, uint8_t *to, size_t most)
 static const char *read_line(const char *text, struct line *line)
 {
     size_t count = 0;
+    line->site = same(text, "south");
+    line->named = line->site || same(text, "north");
+    if (line->named) text += 6;
     for (; *text && *text != '\n'; text += *text == ' ') {
         if (count == MOST_WORDS) give_up("too many words");
         line->numbers[count] = of_digits(text);
@@ -83,14 +98,35 @@ static const char *read_line(const char *text, struct line *line)
 }
 
 /* So many bytes of the site become others, or all of them where it is 0: no call makes such a site, and every call must do with it. Where they
- * are many, the first 24 stay, the next number, the last time and the counts, by which most calls would be refused. */
+ * are many, the first 24 of a site's words stay, the next number, the last time and the counts, by which most calls would be refused. */
 static void damage(uint64_t seed, uint64_t count)
 {
-    uint64_t first = count && count < 20 ? 0 : 24, all = RSMP_SITE_BYTES - first;
-    for (uint64_t i = 0; i < (count ? count : all); i++) {
+    lent_site whole = *site;
+    for (uint64_t i = 0; i < (count ? count : LENT_BYTES); i++) {
         seed = seed * 6364136223846793005u + 1442695040888963407u;
-        ((uint8_t *)site)[first + (count ? (seed >> 17) % all : i)] = (uint8_t)(seed >> 53);
+        ((uint8_t *)site)[count ? (seed >> 17) % LENT_BYTES : i] = (uint8_t)(seed >> 53);
     }
+    if (count && count < 20) return;
+#ifdef BOX
+    for (int k = 0; k < RSMP_BOX_SITES; k++) memcpy(site->words[k], whole.words[k], 24);
+#else
+    memcpy(site->words, whole.words, 24);
+#endif
+}
+
+/* Without a name it is alone. */
+static uint32_t start(const struct line *line, const uint8_t *bytes)
+{
+    const uint64_t *n = line->numbers;
+#ifdef BOX
+    if (!line->named)
+        return rsmp_lent_start(site->pool, RSMP_POOL_WORDS, site->words[0], RSMP_SITE_WORDS, site->table[0], RSMP_SITE_TABLE, bytes, line->length,
+                               RSMP_ALONE, (uint32_t)n[2], (uint32_t)n[3], (uint32_t)n[4], n[5], n[6])
+            .number;
+#else
+    if (line->named) give_up("a line that names a site, where there is one alone");
+#endif
+    return CALL(start, bytes, line->length, (uint32_t)n[2], (uint32_t)n[3], (uint32_t)n[4], n[5], n[6]);
 }
 
 static void only(uint32_t number)
@@ -104,32 +140,32 @@ static void call(const struct line *line, const uint8_t *bytes, uint8_t *output)
 {
     const uint64_t *n = line->numbers;
     if (is(line, "start"))
-        only(rsmp_start(site, bytes, line->length, (uint32_t)n[2], (uint32_t)n[3], (uint32_t)n[4], n[5], n[6]));
+        only(start(line, bytes));
     else if (is(line, "connect"))
-        only(rsmp_connect(site, (uint32_t)n[1], n[2]));
+        only(CALL(connect, (uint32_t)n[1], n[2]));
     else if (is(line, "disconnect"))
-        only(rsmp_disconnect(site, (uint32_t)n[1], n[2]));
+        only(CALL(disconnect, (uint32_t)n[1], n[2]));
     else if (is(line, "packet"))
-        rsmp_packet(site, (uint32_t)n[1], n[2], &line->random, bytes, line->length, output, line->room, &report);
+        CALL(packet, (uint32_t)n[1], n[2], &line->random, bytes, line->length, output, line->room, &report);
     else if (is(line, "alarm"))
-        only(rsmp_alarm(site, (uint32_t)n[1], (uint32_t)n[2], n[3]));
+        only(CALL(alarm, (uint32_t)n[1], (uint32_t)n[2], n[3]));
     else if (is(line, "status"))
-        only(rsmp_status(site, (uint32_t)n[1], (int32_t)(int64_t)n[2], n[3]));
+        only(CALL(status, (uint32_t)n[1], (int32_t)(int64_t)n[2], n[3]));
     else if (is(line, "aggregated"))
-        only(rsmp_aggregated(site, (uint8_t)n[1], n[2]));
+        only(CALL(aggregated, (uint8_t)n[1], n[2]));
     else if (is(line, "tick"))
-        rsmp_tick(site, n[1], &report);
+        CALL(tick, n[1], &report);
     else if (is(line, "pump"))
-        rsmp_pump(site, (uint32_t)n[1], n[2], &line->random, output, line->room, &report);
+        CALL(pump, (uint32_t)n[1], n[2], &line->random, output, line->room, &report);
     else {
         only(RSMP_DONE);
         if (is(line, "counts")) {
-            rsmp_held(site, 0);
-            rsmp_lost(site, 0);
+            CALL(held, 0);
+            CALL(lost, 0);
         } else if (is(line, "readings")) {
-            rsmp_phase(site, 0);
-            rsmp_version_of(site, 0);
-            rsmp_record(site, 0, 63);
+            CALL(phase, 0);
+            CALL(version_of, 0);
+            CALL(record, 0, 63);
         } else if (is(line, "damage"))
             damage(n[1], n[2]);
         else

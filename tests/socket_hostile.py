@@ -274,15 +274,16 @@ def forged_state(room):
     hold(process.order("save") == "done", "save")
     process.quit()
     good = state.read_bytes()
-    words = list(struct.unpack("<1173Q", stored.of_state(good)[16:16 + 8 * 1173]))
+    count = stored.POOL_WORDS + stored.SITE_WORDS
+    words = list(struct.unpack(f"<{count}Q", stored.of_state(good)[16:16 + 8 * count]))
     for link in (1, 2, 3):
-        base = 521 + 75 * link
+        base = stored.POOL_WORDS + 5 + 75 * link
         words[base + 3:base + 11] = [1] * 8  # connected, greeted, Up
         for slot in range(16):
             words[base + 11 + 4 * slot:base + 15 + 4 * slot] = [1, 0x0000_0001_0000_0001, 7, 7]  # awaited for long
     for link in range(4):
-        words[9 + 4 * link + 2] = link << 48
-    site = struct.pack("<1173Q", *words) + stored.of_state(good)[16 + 8 * 1173:-8]
+        words[8 + 4 * link + 2] = link << 48
+    site = struct.pack(f"<{count}Q", *words) + stored.of_state(good)[16 + 8 * count:-8]
     state.write_bytes(stored.summed(good[:40] + stored.summed(stored.of_state(good)[:16] + site)))
     process = Process(room, ["127.0.0.1:1"], "--state", state, record=False)
     process.wait_logged("goes on from ")

@@ -6,7 +6,7 @@ import subprocess
 
 import csvs
 import stored
-from process import PROGRAM, RELEASE, SITE, SXL, Control, Process, hold, subscription, wait
+from process import PROGRAM, RELEASE, SITE, SXL, WITH_COMMANDS, Control, Process, hold, subscription, wait
 from supervisors import Supervisor
 
 
@@ -66,7 +66,9 @@ def held_as_csv(room):
     changed[len(good) // 2] ^= 4
     for bytes_, wanted in ((b"", "it is no state of rsmp-site"), (b"\x7fELF" * 4000, "it is no state of rsmp-site"), (bytes(changed), "its check sum is wrong"),
                            (good[:-9], "its check sum is wrong"), (good[:8] + b"\0\0\0\0" + good[12:], "it is of edition 0"),
-                           (stored.state_of_edition(2, good), "it is a site of edition 2, where 3 is read")):
+                           (stored.summed(good[:8] + b"\2\0\0\0" + good[12:20]), "it is no state of rsmp-site"),
+                           (stored.summed(good[:8] + b"\2\0\0\0" + good[12:32] + good[12:-8]), "it is not as long as a stored site"),
+                           *((stored.state_of_edition(edition, good), f"it is a site of edition {edition}, where 4 is read") for edition in stored.FORMER)):
         file.write_bytes(bytes_)
         code, text, told = ran(csvs.PROGRAM, "state", file)
         hold((code, text) == (1, b"") and told.startswith(f"rsmp-csv: {file}: ") and wanted in told and told.count("\n") == 1, f"{wanted}: {code} {text} {told}")
@@ -80,4 +82,31 @@ def held_as_csv(room):
         hold(code.returncode == 1 and b"standard output" in code.stderr, "a full disk")
 
 
-TESTS = [held_as_csv]
+def held_of_two(room):
+    """Of two sites: all that is held, or what the named one holds; the state has both, and the record has all of it in the order of the calls."""
+    path, state = pathlib.Path(room) / "control", pathlib.Path(room) / "state"
+    process = Process(room, ["127.0.0.1:1"] * 2, "--control", path, "--state", state, beside=["127.0.0.1:1"], beside_table=WITH_COMMANDS,
+                      beside_options=("--first", "2147483600"))
+    control = Control(path)
+    for order in ("south alarm 3 on", "aggregated 5", "south aggregated 9", "north alarm 2 on", "south alarm 3 off"):
+        hold(control.order(order) == "done", order)
+    told = {name: ran(PROGRAM, "--send", path, *name.split(), "records") for name in ("", "north", "south")}
+    hold(all((code, fault) == (0, "") for code, _, fault in told.values()), f"{told}")
+    rows = {name: list(csv.DictReader(io.StringIO(text.decode(), newline=""))) for name, (_, text, _) in told.items()}
+    hold([(row["link"], row["kind"], row["item"], row["active"], row["sequence"]) for row in rows[""]]
+         == [("0", "AggregatedStatus", "0", "", "0"), ("0", "Alarm", "2", "1", "2"), ("1", "AggregatedStatus", "0", "", "1"),
+             ("4", "Alarm", "3", "1", "2147483600"), ("4", "AggregatedStatus", "0", "", "2147483601"), ("4", "Alarm", "3", "0", "2147483602")], f"{rows['']}")
+    hold(rows[""] == rows["north"] + rows["south"] and len(rows["south"]) == 3, "north's and then south's")
+    hold(control.order("save") == "done", "save")
+    hold(ran(csvs.PROGRAM, "state", state) == told[""], "the state holds the same")
+    control.order("quit")
+    process.ended()
+    hold(ran(csvs.PROGRAM, "state", state) == told[""], "the state of sites that have ended")
+    code, day, fault = ran(PROGRAM.parent / "rsmp-replay", "--records", process.record)
+    day = list(csv.DictReader(io.StringIO(day.decode(), newline="")))
+    hold((code, fault) == (0, "") and [(row["link"], row["kind"]) for row in day]
+         == [("4", "Alarm"), ("0", "AggregatedStatus"), ("1", "AggregatedStatus"), ("4", "AggregatedStatus"), ("0", "Alarm"), ("4", "Alarm")], f"the day: {day}")
+    hold(sorted(map(str, day)) == sorted(map(str, rows[""])), "nothing was answered, so all that was issued is held")
+
+
+TESTS = [held_as_csv, held_of_two]

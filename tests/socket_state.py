@@ -73,8 +73,7 @@ def not_ours(room):
     changed[len(good) // 2] ^= 4
     cases = [(bytes(changed), "its check sum is wrong", ()), (good[:-9], "its check sum is wrong", ()), (b"", "no state of rsmp-site", ()),
              (b"\x7fELF" * 4000, "no state of rsmp-site", ()), (good[:8] + b"\0\0\0\0" + good[12:], "it is of edition 0", ()),
-             (stored.state_of_edition(1, good), "it is a site of edition 1, where 3 is read", ()),
-             (stored.state_of_edition(2, good), "it is a site of edition 2, where 3 is read", ()),
+             *((stored.state_of_edition(edition, good), f"it is a site of edition {edition}, where 4 is read", ()) for edition in stored.FORMER),
              (good, "of another table, or of other links", ("--period", "61"))]
     for number, (bytes_, words, options) in enumerate(cases, 1):
         state.write_bytes(bytes_)

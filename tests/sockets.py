@@ -1,5 +1,5 @@
-"""The program `rsmp-site` over real sockets, by subject: talk, polls, ends, links, time, state, files, floods, commands, operators, hostile
-neighbours. Two tests at a time.
+"""The program `rsmp-site` over real sockets, by subject: talk, polls, ends, links, time, state, files, floods, commands, operators, two
+sites in a cabinet, hostile neighbours. Two tests at a time.
 
   sockets.py --stored            what the gate runs
   sockets.py --only NAME ..      these tests
@@ -15,6 +15,7 @@ import tempfile
 import time
 
 import process
+import socket_beside
 import socket_commands
 import socket_end
 import socket_files
@@ -32,7 +33,7 @@ from process import Failed, Process
 AT_ONCE = 2
 # The longest first.
 SUBJECTS = (socket_talk, socket_operator, socket_state, socket_files, socket_floods, socket_commands, socket_links, socket_time, socket_hostile,
-            socket_end, socket_polled, socket_records)
+            socket_end, socket_polled, socket_records, socket_beside)
 
 
 def run(test, *more):

@@ -3,6 +3,7 @@ files one after the other. And what these programs and `rsmp-table` say where th
 
   streams.py --stored
 """
+import itertools
 import os
 import pathlib
 import subprocess
@@ -26,12 +27,14 @@ def run(*words, given=b""):
     return done.returncode, done.stdout, done.stderr.decode()
 
 
-def sent(pairs, wanted):
-    """What the answers of a script say was written on a link."""
+def sent(pairs, wanted, south=False):
+    """What the answers of a script say was written on a link of north, or of south."""
     written = b""
     for line, answer in pairs:
-        name, link, *_ = line.split() + ["-"]
-        if name in ("packet", "pump") and link == str(wanted) and answer.startswith("0 ") and answer.split()[3] != "-":
+        words = line.split()
+        named = words[0] == "south"
+        name, link, *_ = words[words[0] in ("north", "south"):] + ["-"]
+        if named == south and name in ("packet", "pump") and link == str(wanted) and answer.startswith("0 ") and answer.split()[3] != "-":
             written += bytes.fromhex(answer.split()[3])
     return written
 
@@ -41,13 +44,14 @@ def judge_streams(room):
     for script in replays.STORED:
         player, file = script(), room / "script"
         file.write_text(replays.texts(player)[0])
-        for link in range(4):
-            wanted = sent(player.pairs, link)
-            got = run(REPLAY, "--stream", str(link), file)
-            hold(got[:2] == (0, wanted), f"{script.__name__}, link {link}: status {got[0]}, {len(got[1])} bytes where {len(wanted)} were sent {got[2]}")
-            hold(link > 0 or run(REPLAY, "--stream", "0", given=file.read_bytes())[1] == wanted, "the same from standard input")
+        for south, link in itertools.product((False, True) if player.name else (False,), range(4)):
+            words = ["--stream", *["south"] * south, str(link)]
+            wanted = sent(player.pairs, link, south)
+            got = run(REPLAY, *words, file)
+            hold(got[:2] == (0, wanted), f"{script.__name__}, {words}: status {got[0]}, {len(got[1])} bytes where {len(wanted)} were sent {got[2]}")
+            hold(link > 0 or run(REPLAY, *words, given=file.read_bytes())[1] == wanted, "the same from standard input")
             if wanted:
-                hold(run(WEEK, given=wanted)[:2] == (0, weeks.report(wanted).encode()), f"{script.__name__}: the report of link {link}")
+                hold(run(WEEK, given=wanted)[:2] == (0, weeks.report(wanted).encode()), f"{script.__name__}: the report of {words}")
             total += len(wanted)
     for words, said in ((("4",), "0 to 3"), (("x",), "0 to 3"), (("0", "/nowhere/at/all"), "No such file")):
         code, out, error = run(REPLAY, "--stream", *words)

@@ -4,7 +4,7 @@
 mod image;
 
 use rsmp_csv::{LINE, RECORD};
-use rsmp_site::Site;
+use rsmp_site::{Cabinet, Site, SiteRef, SITES};
 use std::env;
 use std::fs;
 use std::io::{self, BufWriter, Read, Write};
@@ -18,7 +18,7 @@ const USAGE: &str = "rsmp-csv: records as CSV, and back
   rsmp-csv --version | --help
 
 RECORDS has 16 bytes for each record, one after the other, as rsmp_record gives them. FILE is the state of rsmp-site: the records that it holds, link by
-link, oldest first. CSV has a header and a line for each record, ended by CRLF:
+link, oldest first, links 4 to 7 being those of a second site. CSV has a header and a line for each record, ended by CRLF:
 
   link,kind,item,event,ack,active,suspended,known,old,time,value,sequence
 
@@ -61,12 +61,19 @@ fn records(text: &[u8], mut output: impl Write) -> io::Result<bool> {
     Ok(whole)
 }
 
-/// The records that a state holds, link by link, oldest first.
+/// The records that a state holds, of its first site and then of its second, link by link, oldest first.
 fn held(bytes: Vec<u8>) -> Result<Vec<u8>, String> {
     let bytes = image::newest(bytes);
-    let (_, stored) = image::parts(&bytes)?;
-    let site = Site::from_stored(stored).map_err(|fault| format!("it is {fault}"))?;
-    Ok((0..site.links()).flat_map(|link| site.records(link)).flatten().collect())
+    let (sites, _, stored) = image::parts(&bytes)?;
+    let found = match sites {
+        1 => Site::from_stored(stored).map(|site| held_of(site.lent())),
+        _ => Cabinet::from_stored(stored).map(|both| (0..SITES as u32).filter_map(|n| both.site(n)).flat_map(held_of).collect()),
+    };
+    found.map_err(|fault| format!("it is {fault}"))
+}
+
+fn held_of(site: SiteRef) -> Vec<u8> {
+    (0..site.links()).flat_map(|link| site.records(link)).flatten().collect()
 }
 
 fn failed(status: u8, message: &str) -> ExitCode {

@@ -1,9 +1,9 @@
-//! The calls on one site, each held to what may not change: the site and every lent byte where it is refused, the site's table where it
-//! is not started, the bytes behind the written ones and around the lent ones always.
+//! The calls on the sites of a box, each held to what may not change: everything that is lent where it is refused, a site's table where it is not
+//! started, the other site always, the bytes behind the written ones and around the lent ones always.
 
-use crate::script::Line;
-use rsmp_site::ffi::{self, Block, Id, Outcome, COMMAND_WORDS, TABLE_BYTES, WORDS};
-use rsmp_site::{AlarmState, Site};
+use crate::script::{Line, Whose};
+use rsmp_site::ffi::{self, BoxBlock, Id, Outcome, ALONE, COMMAND_WORDS, POOL_WORDS, SITES, TABLE_BYTES, WORDS};
+use rsmp_site::{AlarmState, Cabinet, Site, BOX_STORED_BYTES};
 
 const LAST_NUMBER: u32 = 12;
 const LINKS: u32 = 4;
@@ -13,8 +13,10 @@ pub struct Violation(pub String);
 
 pub struct Player {
     lent: Box<Guarded>,
-    /// How many the site has; none before there is one.
-    links: Option<u32>,
+    /// How many each site has; none before there is one.
+    links: [Option<u32>; SITES],
+    /// Whose line is played.
+    whose: Whose,
     output: Lent,
     written: usize,
     commands: Box<Handed>,
@@ -32,19 +34,19 @@ struct Handed {
 
 const EMPTY_HANDED: Handed = Handed { before: [PATTERN; GUARD / 8], words: [PATTERN; COMMAND_WORDS], behind: [PATTERN; GUARD / 8] };
 
-/// A site between two guards, filled with a pattern before there is a site.
+/// A box between two guards, filled with a pattern before there is a site.
 #[repr(C)]
 #[derive(Clone)]
 struct Guarded {
     before: [u64; GUARD / 8],
-    site: Block,
+    lent: BoxBlock,
     behind: [u64; GUARD / 8],
 }
 
 const PATTERN: u64 = 0xA5C3_F00F_9669_3C5A;
 const PATTERNED: Guarded = Guarded {
     before: [PATTERN; GUARD / 8],
-    site: Block { words: [PATTERN; WORDS], table: [0xA5; TABLE_BYTES] },
+    lent: BoxBlock { pool: [PATTERN; POOL_WORDS], words: [[PATTERN; WORDS]; SITES], table: [[0xA5; TABLE_BYTES]; SITES] },
     behind: [PATTERN; GUARD / 8],
 };
 
@@ -53,24 +55,42 @@ type Played = Result<Result<String, Violation>, String>;
 
 impl Player {
     pub fn new() -> Player {
-        Player { lent: Box::new(PATTERNED), links: None, output: Lent::new(), written: 0, commands: Box::new(EMPTY_HANDED), handed: 0 }
+        Player {
+            lent: Box::new(PATTERNED),
+            links: [None; SITES],
+            whose: Whose::Unnamed,
+            output: Lent::new(),
+            written: 0,
+            commands: Box::new(EMPTY_HANDED),
+            handed: 0,
+        }
     }
 
-    pub fn play(&mut self, line: &Line) -> Played {
-        self.written = 0;
-        self.handed = 0;
+    pub fn play(&mut self, whose: Whose, line: &Line) -> Played {
+        (self.written, self.handed, self.whose) = (0, 0, whose);
         match line {
             Line::Restore { bytes } => return self.restore(bytes).map(Ok),
+            Line::Start { .. } if whose != Whose::Unnamed && self.links == [None; SITES] => self.lent.lent.pool = [0; POOL_WORDS],
             Line::Start { .. } => {}
-            _ if self.links.is_none() => return Err("a call before any start that was done".to_string()),
+            _ if self.links[self.at()].is_none() => return Err("a call before any start of its site that was done".to_string()),
             _ => {}
         }
         let before = self.lent.clone();
-        let (outcome, text) = match self.answer(line) {
+        let (outcome, text) = match self.answer(whose, line) {
             Ok(answer) => answer,
             Err(violation) => return Ok(Err(violation)),
         };
         Ok(self.judge_site(&before, line, outcome).map(|()| text))
+    }
+
+    /// Whose line was played last.
+    pub fn whose(&self) -> Whose {
+        self.whose
+    }
+
+    /// The site whose line was played last.
+    pub fn at(&self) -> usize {
+        self.whose.site()
     }
 
     /// What the last call wrote.
@@ -87,56 +107,85 @@ impl Player {
         self.commands.words[..self.handed].iter().map(|word| ((word >> 32) as u32, *word as u32 as i32))
     }
 
-    /// How many links the site has; 0 before there is one.
-    pub fn links(&self) -> u32 {
-        self.links.unwrap_or(0)
+    /// How many links a site has; 0 before there is one.
+    pub fn links(&self, site: usize) -> u32 {
+        self.links[site].unwrap_or(0)
     }
 
     /// A link's phase and how many records it holds and has lost.
-    pub fn state(&self, link: u32) -> (u32, u64, u64) {
-        let words = self.lent.site.words.as_ptr();
-        // SAFETY: the words are lent for their length, and every content and value is allowed.
+    pub fn state(&self, site: usize, link: u32) -> (u32, u64, u64) {
+        let (pool, words) = (self.lent.lent.pool.as_ptr(), self.lent.lent.words[site].as_ptr());
+        // SAFETY: pool and words are lent for their lengths, and every content and value is allowed.
         let read = || unsafe {
-            (ffi::rsmp_lent_phase(words, WORDS, link), ffi::rsmp_lent_held(words, WORDS, link), ffi::rsmp_lent_lost(words, WORDS, link))
+            (
+                ffi::rsmp_lent_phase(pool, POOL_WORDS, words, WORDS, link),
+                ffi::rsmp_lent_held(pool, POOL_WORDS, words, WORDS, link),
+                ffi::rsmp_lent_lost(pool, POOL_WORDS, words, WORDS, link),
+            )
         };
-        self.links.map_or((0, 0, 0), |_| read())
+        self.links[site].map_or((0, 0, 0), |_| read())
     }
 
     /// Whether an alarm is active.
-    pub fn is_active(&self, alarm: u32) -> bool {
-        AlarmState::of(&self.lent.site.words, alarm).map_or(false, |state| self.links.is_some() && state.active)
+    pub fn is_active(&self, site: usize, alarm: u32) -> bool {
+        AlarmState::of(&self.lent.lent.words[site], alarm).map_or(false, |state| self.links[site].is_some() && state.active)
     }
 
     /// The records held for a link, oldest first.
-    pub fn records(&self, link: u32) -> Vec<[u8; 16]> {
-        self.links.map_or(Vec::new(), |_| records(&self.lent.site, link))
+    pub fn records(&self, site: usize, link: u32) -> Vec<[u8; 16]> {
+        self.links[site].map_or(Vec::new(), |_| records(&self.lent.lent, site, link))
     }
 
-    /// A player of the same site, which holds no records.
+    /// A player of the same sites, whose pool is empty.
     pub fn emptied(&self) -> Player {
-        Player { lent: Box::new(Guarded { site: self.lent.site.without_records(), ..PATTERNED }), links: self.links, ..Player::new() }
+        let lent = BoxBlock { pool: [0; POOL_WORDS], ..self.lent.lent.clone() };
+        Player { lent: Box::new(Guarded { lent, ..PATTERNED }), links: self.links, ..Player::new() }
     }
 
-    /// A site as `rsmp-site` stores it; what was played before does not matter from here on.
+    /// A site or two as `rsmp-site` stores them; what was played before does not matter from here on.
     fn restore(&mut self, bytes: &[u8]) -> Result<String, String> {
-        let site = Site::from_stored(bytes).map_err(|fault| fault.to_string())?;
-        self.links = Some(site.links());
-        self.lent.site = site.into();
+        if bytes.len() == BOX_STORED_BYTES {
+            let cabinet = Cabinet::from_stored(bytes).map_err(|fault| fault.to_string())?;
+            self.links = [0, 1].map(|site| cabinet.site(site).map(|site| site.links()).filter(|links| *links > 0));
+            self.lent.lent = cabinet.into();
+        } else {
+            let site = Site::from_stored(bytes).map_err(|fault| fault.to_string())?;
+            self.links = [Some(site.links()), None];
+            let block = ffi::Block::from(site);
+            (self.lent.lent.pool, self.lent.lent.words[0], self.lent.lent.table[0]) = (block.pool, block.words, block.table);
+        }
         Ok("0 0 - -".to_string())
     }
 
-    /// What a call gives and the line, both judged but for the site; a reading gives the line alone.
-    fn answer(&mut self, line: &Line) -> Result<(Option<Outcome>, String), Violation> {
+    /// What a call gives and the line, both judged but for what may not change; a reading gives the line alone.
+    fn answer(&mut self, whose: Whose, line: &Line) -> Result<(Option<Outcome>, String), Violation> {
+        let at = self.at();
         let (outcome, room) = match line {
-            Line::Counts => return Ok((None, counts(&self.lent.site, self.links()))),
-            Line::Readings => return Ok((None, readings(&self.lent.site, self.links()))),
+            Line::Counts => return Ok((None, counts(&self.lent.lent, at, self.links(at)))),
+            Line::Readings => return Ok((None, readings(&self.lent.lent, at, self.links(at)))),
             Line::Start { table, links, primary, period, first, time } => {
-                let (given, Block { words, table: kept }) = (table.clone(), &mut self.lent.site);
+                let (given, BoxBlock { pool, words, table: kept }) = (table.clone(), &mut self.lent.lent);
                 let (bits, length) = (given.as_ptr(), given.len());
-                // SAFETY: all three are lent for their lengths and lie apart, and nothing of them is kept.
+                let site = if whose == Whose::Unnamed { ALONE } else { at as u32 };
+                // SAFETY: all four are lent for their lengths and lie apart, and nothing of them is kept.
                 let outcome = unsafe {
-                    let (words, kept) = (words.as_mut_ptr(), kept.as_mut_ptr());
-                    ffi::rsmp_lent_start(words, WORDS, kept, TABLE_BYTES, bits, length, *links, *primary, *period, *first, *time)
+                    let (pool, words, kept) = (pool.as_mut_ptr(), words[at].as_mut_ptr(), kept[at].as_mut_ptr());
+                    ffi::rsmp_lent_start(
+                        pool,
+                        POOL_WORDS,
+                        words,
+                        WORDS,
+                        kept,
+                        TABLE_BYTES,
+                        bits,
+                        length,
+                        site,
+                        *links,
+                        *primary,
+                        *period,
+                        *first,
+                        *time,
+                    )
                 };
                 if given != *table {
                     return Err(Violation("the table's bytes changed".to_string()));
@@ -145,19 +194,25 @@ impl Player {
                     return Err(Violation(format!("start was done with {} links", links)));
                 }
                 if outcome.number == 0 {
-                    self.links = Some(*links);
+                    if site == ALONE {
+                        self.links = [None; SITES];
+                    }
+                    self.links[at] = Some(*links);
                 }
                 (outcome, 0)
             }
             Line::Packet { link, time, random, room, packet } => {
                 let (given, room, id) = (packet.clone(), *room, Id { bytes: *random });
-                let (out, Block { words, table }) = (self.output.lend(room), &mut self.lent.site);
+                let (out, BoxBlock { pool, words, table }) = (self.output.lend(room), &mut self.lent.lent);
                 let (packet_at, length) = (given.as_ptr(), given.len());
                 *self.commands = EMPTY_HANDED;
-                // SAFETY: all five are lent for their lengths and lie apart.
+                // SAFETY: all six are lent for their lengths and lie apart.
                 let outcome = unsafe {
-                    let (words, table, to) = (words.as_mut_ptr(), table.as_ptr(), self.commands.words.as_mut_ptr());
+                    let (pool, words, table) = (pool.as_mut_ptr(), words[at].as_mut_ptr(), table[at].as_ptr());
+                    let to = self.commands.words.as_mut_ptr();
                     ffi::rsmp_lent_packet(
+                        pool,
+                        POOL_WORDS,
                         words,
                         WORDS,
                         table,
@@ -181,13 +236,15 @@ impl Player {
             }
             Line::Pump { link, time, random, room } => {
                 let (room, id) = (*room, Id { bytes: *random });
-                let (out, Block { words, table }) = (self.output.lend(room), &mut self.lent.site);
-                // SAFETY: all three are lent for their lengths and lie apart.
-                let outcome =
-                    unsafe { ffi::rsmp_lent_pump(words.as_mut_ptr(), WORDS, table.as_ptr(), TABLE_BYTES, *link, *time, id, out, room) };
+                let (out, BoxBlock { pool, words, table }) = (self.output.lend(room), &mut self.lent.lent);
+                // SAFETY: all four are lent for their lengths and lie apart.
+                let outcome = unsafe {
+                    let (pool, words, table) = (pool.as_mut_ptr(), words[at].as_mut_ptr(), table[at].as_ptr());
+                    ffi::rsmp_lent_pump(pool, POOL_WORDS, words, WORDS, table, TABLE_BYTES, *link, *time, id, out, room)
+                };
                 (outcome, room)
             }
-            lending_nothing_more => (in_place(&mut self.lent.site, lending_nothing_more), 0),
+            lending_nothing_more => (in_place(&mut self.lent.lent, at, lending_nothing_more), 0),
         };
         judge_report(&outcome, room)?;
         if matches!(line, Line::Packet { .. } | Line::Pump { .. }) {
@@ -200,38 +257,53 @@ impl Player {
         Ok((Some(outcome), format!("{}{}", answer(&outcome, self.written()), commands(self.handed()))))
     }
 
-    /// What may not have changed of the site and around it.
+    /// What may not have changed of the box and around it.
     fn judge_site(&self, before: &Guarded, line: &Line, outcome: Option<Outcome>) -> Result<(), Violation> {
         let now = &self.lent;
         if (now.before, now.behind) != (PATTERNED.before, PATTERNED.behind) {
-            return Err(Violation("bytes around the site changed".to_string()));
+            return Err(Violation("bytes around the box changed".to_string()));
         }
+        let (now, before) = (&now.lent, &before.lent);
         let number = outcome.map_or("a reading".to_string(), |outcome| format!("number {}", outcome.number));
         let done = outcome.map_or(false, |outcome| outcome.number == 0);
-        let words = now.site.words.iter().zip(before.site.words.iter()).position(|(now, before)| now != before);
-        if let Some(place) = words.filter(|_| !done) {
-            return Err(Violation(format!("{}, and word {} of the site changed", number, place)));
+        let starts = done && matches!(line, Line::Start { .. });
+        let wrong = |what: String| Err(Violation(format!("{}, and {} changed", number, what)));
+        if let Some(place) = changed(&now.pool, &before.pool).filter(|_| !done) {
+            return wrong(format!("word {} of the pool", place));
         }
-        let table = now.site.table.iter().zip(before.site.table.iter()).position(|(now, before)| now != before);
-        match table.filter(|_| !(done && matches!(line, Line::Start { .. }))) {
-            Some(place) => Err(Violation(format!("{}, and byte {} of the site's table changed", number, place))),
-            None => Ok(()),
+        for site in 0..SITES {
+            let whose = if site == self.at() { "the site" } else { "the other site" };
+            if let Some(place) = changed(&now.words[site], &before.words[site]).filter(|_| !(done && site == self.at())) {
+                return wrong(format!("word {} of {}", place, whose));
+            }
+            if let Some(place) = changed(&now.table[site], &before.table[site]).filter(|_| !(starts && site == self.at())) {
+                return wrong(format!("byte {} of {}'s table", place, whose));
+            }
         }
+        Ok(())
     }
 }
 
-/// The calls that are lent nothing but the site.
-fn in_place(site: &mut Block, line: &Line) -> Outcome {
-    let (words, table) = (site.words.as_mut_ptr(), site.table.as_ptr());
-    // SAFETY: words and table are lent for their lengths, and every content and value is allowed.
+fn changed<T: PartialEq>(now: &[T], before: &[T]) -> Option<usize> {
+    now.iter().zip(before).position(|(now, before)| now != before)
+}
+
+/// The calls that are lent nothing but the pool and the site.
+fn in_place(lent: &mut BoxBlock, at: usize, line: &Line) -> Outcome {
+    let (pool, words, table) = (lent.pool.as_mut_ptr(), lent.words[at].as_mut_ptr(), lent.table[at].as_ptr());
+    // SAFETY: pool, words and table are lent for their lengths, and every content and value is allowed.
     unsafe {
         match *line {
-            Line::Connect { link, time } => ffi::rsmp_lent_connect(words, WORDS, link, time),
-            Line::Disconnect { link, time } => ffi::rsmp_lent_disconnect(words, WORDS, link, time),
-            Line::Alarm { number, active, time } => ffi::rsmp_lent_alarm(words, WORDS, table, TABLE_BYTES, number, active, time),
-            Line::Status { number, value, time } => ffi::rsmp_lent_status(words, WORDS, table, TABLE_BYTES, number, value, time),
-            Line::Aggregated { value, time } => ffi::rsmp_lent_aggregated(words, WORDS, value, time),
-            Line::Tick { time } => ffi::rsmp_lent_tick(words, WORDS, time),
+            Line::Connect { link, time } => ffi::rsmp_lent_connect(pool, POOL_WORDS, words, WORDS, link, time),
+            Line::Disconnect { link, time } => ffi::rsmp_lent_disconnect(pool, POOL_WORDS, words, WORDS, link, time),
+            Line::Alarm { number, active, time } => {
+                ffi::rsmp_lent_alarm(pool, POOL_WORDS, words, WORDS, table, TABLE_BYTES, number, active, time)
+            }
+            Line::Status { number, value, time } => {
+                ffi::rsmp_lent_status(pool, POOL_WORDS, words, WORDS, table, TABLE_BYTES, number, value, time)
+            }
+            Line::Aggregated { value, time } => ffi::rsmp_lent_aggregated(pool, POOL_WORDS, words, WORDS, value, time),
+            Line::Tick { time } => ffi::rsmp_lent_tick(pool, POOL_WORDS, words, WORDS, time),
             Line::Start { .. } | Line::Restore { .. } | Line::Packet { .. } | Line::Pump { .. } | Line::Counts | Line::Readings => {
                 unreachable!()
             }
@@ -301,27 +373,35 @@ fn each_link(links: u32, text: impl Fn(u32) -> String) -> String {
     (0..links).map(text).collect::<Vec<_>>().join(" ")
 }
 
-fn counts(site: &Block, links: u32) -> String {
-    let words = site.words.as_ptr();
-    // SAFETY: the words are lent for their length, and every content and value is allowed.
-    each_link(links, |link| unsafe { format!("{}/{}", ffi::rsmp_lent_held(words, WORDS, link), ffi::rsmp_lent_lost(words, WORDS, link)) })
+fn counts(lent: &BoxBlock, at: usize, links: u32) -> String {
+    let (pool, words) = (lent.pool.as_ptr(), lent.words[at].as_ptr());
+    each_link(links, |link| {
+        // SAFETY: pool and words are lent for their lengths, and every content and value is allowed.
+        let (held, lost) = unsafe {
+            (ffi::rsmp_lent_held(pool, POOL_WORDS, words, WORDS, link), ffi::rsmp_lent_lost(pool, POOL_WORDS, words, WORDS, link))
+        };
+        format!("{}/{}", held, lost)
+    })
 }
 
-fn readings(site: &Block, links: u32) -> String {
-    let words = site.words.as_ptr();
+fn readings(lent: &BoxBlock, at: usize, links: u32) -> String {
+    let (pool, words) = (lent.pool.as_ptr(), lent.words[at].as_ptr());
     each_link(links, |link| {
-        // SAFETY: the words are lent for their length, and every content and value is allowed.
-        let (phase, version) = unsafe { (ffi::rsmp_lent_phase(words, WORDS, link), ffi::rsmp_lent_version_of(words, WORDS, link)) };
-        let records: Vec<String> = records(site, link).iter().map(|record| hex(record)).collect();
+        // SAFETY: pool and words are lent for their lengths, and every content and value is allowed.
+        let (phase, version) = unsafe {
+            (ffi::rsmp_lent_phase(pool, POOL_WORDS, words, WORDS, link), ffi::rsmp_lent_version_of(pool, POOL_WORDS, words, WORDS, link))
+        };
+        let records: Vec<String> = records(lent, at, link).iter().map(|record| hex(record)).collect();
         let records = if records.is_empty() { "-".to_string() } else { records.join(",") };
         format!("{}/{}.{}.{}/{}", phase, version.major, version.minor, version.patch, records)
     })
 }
 
-fn records(site: &Block, link: u32) -> Vec<[u8; 16]> {
+fn records(lent: &BoxBlock, at: usize, link: u32) -> Vec<[u8; 16]> {
+    let (pool, words) = (lent.pool.as_ptr(), lent.words[at].as_ptr());
     (0u64..)
-        // SAFETY: the words are lent for their length, and every content and value is allowed.
-        .map(|rank| unsafe { ffi::rsmp_lent_record(site.words.as_ptr(), WORDS, link, rank) })
+        // SAFETY: pool and words are lent for their lengths, and every content and value is allowed.
+        .map(|rank| unsafe { ffi::rsmp_lent_record(pool, POOL_WORDS, words, WORDS, link, rank) })
         .take_while(|reading| reading.found != 0)
         .map(|reading| reading.bytes)
         .collect()

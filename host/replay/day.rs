@@ -1,8 +1,8 @@
-//! What a script of calls did: alarms while they were active, and link by link phases, and records issued, sent, answered, held and lost.
+//! What a script of calls did, site by site: alarms while they were active, and link by link phases, and records issued, sent, answered, held and lost.
 
 use crate::checked::Player;
 use crate::script::Line;
-use rsmp_site::ffi::NO_PRIMARY;
+use rsmp_site::ffi::{NO_PRIMARY, SITES};
 use rsmp_table::{bits, Table};
 
 /// A site has no more.
@@ -63,7 +63,16 @@ struct Pass {
 
 #[derive(Default)]
 pub struct Day {
-    pub site: String,
+    /// North and south. One that was never there has no links.
+    pub sites: [OfSite; SITES],
+    pub first: u64,
+    pub last: u64,
+    pub calls: usize,
+}
+
+#[derive(Default)]
+pub struct OfSite {
+    pub name: String,
     /// Where it is known and there is one.
     pub primary: Option<u32>,
     pub links: Vec<Link>,
@@ -73,9 +82,6 @@ pub struct Day {
     active: [Option<usize>; ALARMS],
     alarm_names: Vec<String>,
     pub starts: Vec<u64>,
-    pub first: u64,
-    pub last: u64,
-    pub calls: usize,
 }
 
 impl Day {
@@ -89,21 +95,68 @@ impl Day {
         self.first = if self.calls == 0 { time } else { self.first.min(time) };
         self.last = self.last.max(time);
         self.calls += 1;
+        self.sites[player.at()].note(line, time, player);
+        for (number, site) in self.sites.iter_mut().enumerate() {
+            site.follow(number, time, player);
+        }
+    }
+
+    /// Those that were there.
+    pub fn seen(&self) -> impl Iterator<Item = (usize, &OfSite)> {
+        self.sites.iter().enumerate().filter(|(_, site)| !site.links.is_empty())
+    }
+
+    pub fn links(&self) -> impl Iterator<Item = &Link> {
+        self.sites.iter().flat_map(|site| &site.links)
+    }
+
+    fn restore(&mut self, player: &Player) {
+        for (number, site) in self.sites.iter_mut().enumerate() {
+            site.restore(number, self.last, player);
+        }
+    }
+
+    /// The last call is behind us: what is held has been so up to it.
+    pub fn end(&mut self) {
+        for site in &mut self.sites {
+            for stay in site.links.iter_mut().flat_map(|link| &mut link.held) {
+                stay.to = self.last.max(stay.from);
+            }
+            for place in site.active.iter().flatten() {
+                site.alarms[*place].to = self.last;
+            }
+        }
+    }
+}
+
+impl OfSite {
+    /// A done call of it.
+    fn note(&mut self, line: &Line, time: u64, player: &Player) {
         match line {
-            Line::Start { table, primary, .. } => self.start(table, *primary, player.links() as usize, time),
+            Line::Start { table, primary, .. } => self.start(table, *primary, player.links(player.at()) as usize, time),
             Line::Pump { link, .. } => self.send(*link, time, player),
             Line::Packet { link, .. } => self.links[*link as usize].commands.extend(player.handed().map(|_| time)),
             _ => {}
         }
-        self.follow_alarms(time, player);
-        for link in 0..player.links() {
-            self.links[link as usize].follow(link, time, player);
+    }
+
+    /// What a done call, of this site or of the other, left of it.
+    fn follow(&mut self, site: usize, time: u64, player: &Player) {
+        self.follow_alarms(site, time, player);
+        if player.links(site) == 0 {
+            for link in &mut self.links {
+                link.end(time);
+            }
+        }
+        let links = if player.links(site) == 0 { self.links.len() } else { player.links(site) as usize };
+        for (number, link) in self.links.iter_mut().enumerate().take(links) {
+            link.follow(site, number as u32, time, player);
         }
     }
 
-    fn follow_alarms(&mut self, time: u64, player: &Player) {
+    fn follow_alarms(&mut self, site: usize, time: u64, player: &Player) {
         for number in 0..ALARMS {
-            match (self.active[number], player.is_active(number as u32)) {
+            match (self.active[number], player.is_active(site, number as u32)) {
                 (None, true) => {
                     self.active[number] = Some(self.alarms.len());
                     let name = self.alarm_names.get(number).cloned().unwrap_or_default();
@@ -126,7 +179,7 @@ impl Day {
     fn start(&mut self, table: &[u8], primary: u32, links: usize, time: u64) {
         let head = if table[0] >> 4 == 1 { 3 } else { 4 };
         let length = usize::from(table[head]);
-        self.site = table[head + 1..head + 1 + length].iter().map(|byte| char::from(*byte)).collect();
+        self.name = table[head + 1..head + 1 + length].iter().map(|byte| char::from(*byte)).collect();
         self.alarm_names = alarm_names(table);
         self.primary = Some(primary).filter(|primary| *primary != NO_PRIMARY);
         self.starts.push(time);
@@ -144,11 +197,11 @@ impl Day {
 
     /// A stored site goes on. What it holds and we do not know was issued before; what we know and it does not hold is left behind; a link
     /// that we first see Up has its first pass behind it.
-    fn restore(&mut self, player: &Player) {
-        self.widen(player.links() as usize);
+    fn restore(&mut self, site: usize, last: u64, player: &Player) {
+        self.widen(player.links(site) as usize);
         for (number, link) in self.links.iter_mut().enumerate() {
-            let (phase, _, lost) = player.state(number as u32);
-            link.restore(player.records(number as u32), phase, lost, self.last);
+            let (phase, _, lost) = player.state(site, number as u32);
+            link.restore(player.records(site, number as u32), phase, lost, last);
         }
     }
 
@@ -162,7 +215,8 @@ impl Day {
             std::mem::replace(&mut pass.aggregated, true) || pass.over
         } else if is("Alarm") && !pass.over && !pass.alarms.contains(&alarm_in(&message)) {
             let of_alarm = |record: &[u8; 16]| alarm_of(record) == Some(pass.alarms.len());
-            let carries = player.records(number).into_iter().rev().find(of_alarm).map_or(false, |record| says(&message, &record));
+            let carries =
+                player.records(player.at(), number).into_iter().rev().find(of_alarm).map_or(false, |record| says(&message, &record));
             pass.alarms.push(alarm_in(&message));
             carries
         } else {
@@ -172,21 +226,11 @@ impl Day {
             link.sent.push(time);
         }
     }
-
-    /// The last call is behind us: what is held has been so up to it.
-    pub fn end(&mut self) {
-        for stay in self.links.iter_mut().flat_map(|link| &mut link.held) {
-            stay.to = self.last.max(stay.from);
-        }
-        for place in self.active.iter().flatten() {
-            self.alarms[*place].to = self.last;
-        }
-    }
 }
 
 impl Link {
-    fn follow(&mut self, number: u32, time: u64, player: &Player) {
-        let (phase, held, lost) = player.state(number);
+    fn follow(&mut self, site: usize, number: u32, time: u64, player: &Player) {
+        let (phase, held, lost) = player.state(site, number);
         if self.phases.last().map(|(_, phase)| *phase) != Some(phase) {
             self.phases.push((time, phase));
         }
@@ -198,7 +242,7 @@ impl Link {
         if newly_lost == 0 && held as usize == self.held.len() {
             return;
         }
-        let records: Vec<u32> = player.records(number).iter().map(sequence_of).collect();
+        let records: Vec<u32> = player.records(site, number).iter().map(sequence_of).collect();
         let before = self.held.len();
         let (stay, left): (Vec<Stay>, Vec<Stay>) = self.held.drain(..).partition(|stay| records.contains(&stay.sequence));
         self.held = stay;

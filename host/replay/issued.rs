@@ -5,7 +5,7 @@ use crate::day::sequence_of;
 use crate::script::Line;
 use std::io::{self, Write};
 
-/// The site before a line, without its records: what it holds behind the line's call, that call has issued, also what it would lose at once of a full pool.
+/// The sites before a line, their pool empty: what is held behind the line's call, that call has issued, also what it would lose at once of a full pool.
 #[derive(Default)]
 pub struct Issued {
     before: Option<Player>,
@@ -15,9 +15,9 @@ impl Issued {
     /// After a line was played. A stored site brings records that were issued before.
     pub fn write(&mut self, line: &Line, done: bool, player: &Player, mut output: impl Write) -> io::Result<()> {
         let before = self.before.replace(player.emptied()).filter(|_| done && line.time().is_some());
-        if let Some(mut site) = before {
-            let _ = site.play(line);
-            let mut records: Vec<[u8; 16]> = (0..site.links()).flat_map(|link| site.records(link)).collect();
+        if let Some(mut sites) = before {
+            let (_, site) = (sites.play(player.whose(), line), player.at());
+            let mut records: Vec<[u8; 16]> = (0..sites.links(site)).flat_map(|link| sites.records(site, link)).collect();
             records.sort_by_key(sequence_of);
             for record in records {
                 output.write_all(line_of(&record, &mut [0; rsmp_csv::LINE])?)?;

@@ -1,4 +1,4 @@
-//! Plays a script of calls on a site, one line each, and prints one line per call, or a picture of the whole.
+//! Plays a script of calls on a site, or on the two of a box, one line each, and prints one line per call, or a picture of the whole.
 
 mod checked;
 mod day;
@@ -15,16 +15,18 @@ use std::fs::File;
 use std::io::{self, BufRead, BufReader, Write};
 use std::process::ExitCode;
 
-const USAGE: &str = "rsmp-replay: plays a script of calls on a site
+const USAGE: &str = "rsmp-replay: plays a script of calls on a site, or on the two of a box
 
   rsmp-replay <SCRIPT                plays it and prints one line per call
   rsmp-replay --picture [SCRIPT]     plays it and prints a picture of it (SVG): phases, records issued, sent, answered, held and lost,
                                      commands handed over, alarms active
-  rsmp-replay --stream LINK [SCRIPT]   plays it and writes what the link's supervisor was sent, as rsmp-week reads it
+  rsmp-replay --stream [south] LINK [SCRIPT]   plays it and writes what the link's supervisor was sent, as rsmp-week reads it
   rsmp-replay --records [SCRIPT]     plays it and writes every record that it issued as CSV (as rsmp-csv does), in the order of the calls
   rsmp-replay --version | --help
 
-Lines, - standing for empty bytes or no primary:
+Lines, - standing for empty bytes or no primary. Each but restore may begin with north or south: two sites share a box and its pool, and the
+line is for the one that it names, as a call, counts and readings are. Without a name it is for north, and start makes a site that is alone:
+south is none until its own start.
 ";
 
 const ANSWERS: &str = "
@@ -34,7 +36,7 @@ with their numbers in the table, in their order. `counts` prints HELD/LOST for e
 PHASE/VERSION/RECORD,RECORD.. (phase 0 Down, 1 Greeting, 2 Beating, 3 Up; the held records oldest first).
 
 After each call the site and all bytes that may not change are compared with those before it.
-Status: 0, 1 after a line `VIOLATION ..`, 2 at a line that cannot be read.
+Status: 0, 1 after a line `VIOLATION ..`, 2 at a line that cannot be read, or that is for a site which is not started.
 ";
 
 enum End {
@@ -82,8 +84,8 @@ fn play(input: impl BufRead, mut each: impl FnMut(&Line, &str, &Player) -> io::R
     for (place, line) in input.split(b'\n').enumerate() {
         let number = place + 1;
         let line = String::from_utf8(line?).map_err(|_| End::BadLine(number, "not UTF-8".to_string()))?;
-        let line = script::read(&line).map_err(|message| End::BadLine(number, message))?;
-        match player.play(&line).map_err(|message| End::BadLine(number, message))? {
+        let (whose, line) = script::read(&line).map_err(|message| End::BadLine(number, message))?;
+        match player.play(whose, &line).map_err(|message| End::BadLine(number, message))? {
             Ok(answer) => each(&line, &answer, &player)?,
             Err(Violation(what)) => {
                 print(&format!("VIOLATION line {}: {}\n", number, what))?;
@@ -115,10 +117,10 @@ fn picture(input: impl BufRead) -> Result<(), End> {
 }
 
 /// What was sent on a link, to the first line that cannot be played.
-fn stream(input: impl BufRead, wanted: u32) -> Result<(), End> {
+fn stream(input: impl BufRead, site: usize, wanted: u32) -> Result<(), End> {
     let mut output = io::stdout().lock();
     play(input, |line, _, player| match line {
-        Line::Packet { link, .. } | Line::Pump { link, .. } if *link == wanted => output.write_all(player.written()),
+        Line::Packet { link, .. } | Line::Pump { link, .. } if (player.at(), *link) == (site, wanted) => output.write_all(player.written()),
         _ => Ok(()),
     })?;
     Ok(output.flush()?)
@@ -132,9 +134,9 @@ fn records(input: impl BufRead) -> Result<(), End> {
     Ok(output.flush()?)
 }
 
-fn stream_of(link: &str, input: Result<impl BufRead, io::Error>) -> Result<(), End> {
+fn stream_of(site: usize, link: &str, input: Result<impl BufRead, io::Error>) -> Result<(), End> {
     match link.parse() {
-        Ok(link) if link < rsmp_site::LINKS => stream(input?, link),
+        Ok(link) if link < rsmp_site::LINKS => stream(input?, site, link),
         _ => Err(End::Words(format!("--stream: wanted a link's number, 0 to {}, not '{}'", rsmp_site::LINKS - 1, link.escape_default()))),
     }
 }
@@ -150,8 +152,10 @@ fn main() -> ExitCode {
         [] => answers(io::stdin().lock()),
         ["--picture"] => picture(io::stdin().lock()),
         ["--picture", name] => File::open(name).map_err(End::Broken).and_then(|file| picture(BufReader::new(file))),
-        ["--stream", link] => stream_of(link, Ok(io::stdin().lock())),
-        ["--stream", link, name] => stream_of(link, File::open(name).map(BufReader::new)),
+        ["--stream", "south", link] => stream_of(1, link, Ok(io::stdin().lock())),
+        ["--stream", "south", link, name] => stream_of(1, link, File::open(name).map(BufReader::new)),
+        ["--stream", link] => stream_of(0, link, Ok(io::stdin().lock())),
+        ["--stream", link, name] => stream_of(0, link, File::open(name).map(BufReader::new)),
         ["--records"] => records(io::stdin().lock()),
         ["--records", name] => File::open(name).map_err(End::Broken).and_then(|file| records(BufReader::new(file))),
         ["--version" | "-V"] => print(concat!("rsmp-replay ", env!("RSMP_VERSION"), "\n")),

@@ -1,7 +1,7 @@
-//! A day as one SVG page: a row for each alarm that was active, and a panel for each link, with its phases, the records it held and lost, and those issued,
+//! A day as one SVG page: for each site a row for each alarm that was active, and a panel for each link, with its phases, the records it held and lost, and those issued,
 //! sent and answered.
 
-use crate::day::{Active, Day, Link, Stay, PHASES};
+use crate::day::{Active, Day, Link, OfSite, Stay, PHASES};
 use crate::moment::{clock, day, span};
 use std::fmt::Write;
 
@@ -87,8 +87,9 @@ impl Scale {
 
 pub fn draw(day_: &Day) -> String {
     let scale = Scale::of(day_);
-    let panels = HEAD + height_of_alarms(day_);
-    let (width, height) = (LEFT + PLOT + RIGHT, panels + PANEL * day_.links.len() as u64 + FOOT);
+    let sites: Vec<Drawn> = day_.seen().map(|(number, site)| Drawn::of(day_, number, site)).collect();
+    let bottom = HEAD + sites.iter().map(|drawn| drawn.height(day_)).sum::<u64>();
+    let (width, height) = (LEFT + PLOT + RIGHT, bottom + FOOT);
     let mut page = String::new();
     let _ = writeln!(
         page,
@@ -99,16 +100,47 @@ pub fn draw(day_: &Day) -> String {
     let _ = writeln!(page, "<title>{}</title>", escaped(&title(day_)));
     let _ = writeln!(page, "<rect width=\"{}\" height=\"{}\" fill=\"#ffffff\"/>", width, height);
     head(&mut page, day_);
-    if day_.calls > 0 {
-        alarms(&mut page, day_, &scale, HEAD as f64);
+    let mut top = HEAD;
+    for drawn in &sites {
+        if day_.calls > 0 {
+            alarms(&mut page, drawn, &scale, top as f64);
+        }
+        for (number, link) in drawn.site.links.iter().enumerate() {
+            let panels = top + drawn.height_of_alarms(day_);
+            panel(&mut page, drawn, &scale, number, link, panels + PANEL * number as u64);
+        }
+        top += drawn.height(day_);
     }
-    for (number, link) in day_.links.iter().enumerate() {
-        let top = panels + PANEL * number as u64;
-        panel(&mut page, day_, &scale, number, link, top);
-    }
-    axis(&mut page, &scale, panels + PANEL * day_.links.len() as u64);
+    axis(&mut page, &scale, bottom);
     page.push_str("</svg>\n");
     page
+}
+
+/// A site as it is drawn, beside another or by itself.
+struct Drawn<'a> {
+    site: &'a OfSite,
+    /// What the names of its groups begin with, and what its titles do.
+    group: &'static str,
+    title: &'static str,
+}
+
+impl Drawn<'_> {
+    fn of<'a>(day_: &Day, number: usize, site: &'a OfSite) -> Drawn<'a> {
+        let group = ["", "south-"][number];
+        let title = if day_.seen().count() > 1 { ["North: ", "South: "][number] } else { "" };
+        Drawn { site, group, title }
+    }
+
+    fn height_of_alarms(&self, day_: &Day) -> u64 {
+        match day_.calls {
+            0 => 0,
+            _ => TITLE + GAP + (ROW + BETWEEN_ROWS) * rows(self.site).len() as u64,
+        }
+    }
+
+    fn height(&self, day_: &Day) -> u64 {
+        self.height_of_alarms(day_) + PANEL * self.site.links.len() as u64
+    }
 }
 
 fn title(day_: &Day) -> String {
@@ -117,7 +149,9 @@ fn title(day_: &Day) -> String {
     }
     let (from, to) = (day(day_.first), day(day_.last));
     let days = if from == to { from } else { format!("{} to {}", from, to) };
-    format!("Site {}, {}", if day_.site.is_empty() { "of a stored state" } else { &day_.site }, days)
+    let named = |site: &OfSite| if site.name.is_empty() { "of a stored state".to_string() } else { site.name.clone() };
+    let names: Vec<String> = day_.seen().map(|(_, site)| named(site)).collect();
+    format!("Site{} {}, {}", if names.len() > 1 { "s" } else { "" }, names.join(" and "), days)
 }
 
 fn text(page: &mut String, x: f64, y: f64, more: &str, words: &str) {
@@ -140,8 +174,8 @@ fn escaped(words: &str) -> String {
 /// What is written, and what the colours mean.
 fn head(page: &mut String, day_: &Day) {
     text(page, LEFT as f64, 30.0, "font-size=\"19\" font-weight=\"bold\"", &title(day_));
-    let lost: usize = day_.links.iter().map(|link| link.lost.len() + link.dropped.len()).sum();
-    let longest = day_.links.iter().filter_map(longest).map(Stay::length).max().unwrap_or(0);
+    let lost: usize = day_.links().map(|link| link.lost.len() + link.dropped.len()).sum();
+    let longest = day_.links().filter_map(longest).map(Stay::length).max().unwrap_or(0);
     let lost = if lost == 0 { "no record was lost".to_string() } else { format!("{} lost", plural(lost, "record")) };
     let from = format!("{} {}", day(day_.first), clock(day_.first, 1_000));
     let (calls, to) = (plural(day_.calls, "call"), format!("{} {}", day(day_.last), clock(day_.last, 1_000)));
@@ -156,8 +190,8 @@ fn head(page: &mut String, day_: &Day) {
         ("answered", ANSWERED_COLOUR),
         ("lost", LOST_COLOUR),
     ]);
-    let swatches = swatches.chain(Some(("commands", COMMAND_COLOUR)).filter(|_| day_.links.iter().any(|link| !link.commands.is_empty())));
-    let swatches = swatches.chain(Some(("alarm active", ALARM_COLOUR)).filter(|_| !day_.alarms.is_empty()));
+    let swatches = swatches.chain(Some(("commands", COMMAND_COLOUR)).filter(|_| day_.links().any(|link| !link.commands.is_empty())));
+    let swatches = swatches.chain(Some(("alarm active", ALARM_COLOUR)).filter(|_| day_.sites.iter().any(|site| !site.alarms.is_empty())));
     for (name, colour) in swatches {
         bar(page, (x, 66.0), (12.0, 12.0), colour, "");
         text(page, x + 17.0, 76.5, "", name);
@@ -170,33 +204,27 @@ fn plural(count: usize, what: &str) -> String {
 }
 
 /// Those that were ever active, by their numbers.
-fn rows(day_: &Day) -> Vec<usize> {
-    let mut numbers: Vec<usize> = day_.alarms.iter().map(|active| active.number).collect();
+fn rows(site: &OfSite) -> Vec<usize> {
+    let mut numbers: Vec<usize> = site.alarms.iter().map(|active| active.number).collect();
     numbers.sort_unstable();
     numbers.dedup();
     numbers
 }
 
-fn height_of_alarms(day_: &Day) -> u64 {
-    match day_.calls {
-        0 => 0,
-        _ => TITLE + GAP + (ROW + BETWEEN_ROWS) * rows(day_).len() as u64,
-    }
-}
-
 /// A row for each alarm that was active, with a bar while it was.
-fn alarms(page: &mut String, day_: &Day, scale: &Scale, top: f64) {
-    let (rows, still) = (rows(day_), day_.still_active());
-    let _ = writeln!(page, "<g id=\"alarms\" data-raised=\"{}\" data-active=\"{}\">", day_.alarms.len(), still);
-    text(page, LEFT as f64, top + 20.0, "font-size=\"15\" font-weight=\"bold\"", "Alarms");
+fn alarms(page: &mut String, drawn: &Drawn, scale: &Scale, top: f64) {
+    let site = drawn.site;
+    let (rows, still) = (rows(site), site.still_active());
+    let _ = writeln!(page, "<g id=\"{}alarms\" data-raised=\"{}\" data-active=\"{}\">", drawn.group, site.alarms.len(), still);
+    text(page, LEFT as f64, top + 20.0, "font-size=\"15\" font-weight=\"bold\"", &format!("{}Alarms", drawn.title));
     let said = match rows.len() {
         0 => "no alarm was active".to_string(),
-        count => format!("{} active, {} in all, {} still at the end", plural(count, "alarm"), plural(day_.alarms.len(), "time"), still),
+        count => format!("{} active, {} in all, {} still at the end", plural(count, "alarm"), plural(site.alarms.len(), "time"), still),
     };
     text(page, LEFT as f64, top + 37.0, &format!("fill=\"{}\"", SOFT), &said);
     for (place, number) in rows.into_iter().enumerate() {
         let y = top + (TITLE + (ROW + BETWEEN_ROWS) * place as u64) as f64;
-        let spans: Vec<&Active> = day_.alarms.iter().filter(|active| active.number == number).collect();
+        let spans: Vec<&Active> = site.alarms.iter().filter(|active| active.number == number).collect();
         let code = spans[0].name.split(' ').next().unwrap_or("");
         text(page, 10.0, y + 9.0, &format!("font-size=\"10\" fill=\"{}\"", SOFT), &format!("{} {}", number, code));
         for Active { name, from, to, .. } in spans {
@@ -214,7 +242,7 @@ fn longest(link: &Link) -> Option<&Stay> {
     link.gone.iter().chain(&link.held).max_by_key(|stay| stay.length())
 }
 
-fn panel(page: &mut String, day_: &Day, scale: &Scale, number: usize, link: &Link, top: u64) {
+fn panel(page: &mut String, drawn: &Drawn, scale: &Scale, number: usize, link: &Link, top: u64) {
     let counts = [
         ("issued", &link.issued),
         ("sent", &link.sent),
@@ -227,19 +255,20 @@ fn panel(page: &mut String, day_: &Day, scale: &Scale, number: usize, link: &Lin
     let phase = link.phases.last().map_or("", |(_, phase)| PHASES[*phase as usize]);
     let _ = writeln!(
         page,
-        "<g id=\"link{}\"{} data-held=\"{}\" data-brought=\"{}\" data-phase=\"{}\">",
+        "<g id=\"{}link{}\"{} data-held=\"{}\" data-brought=\"{}\" data-phase=\"{}\">",
+        drawn.group,
         number,
         said,
         link.held.len(),
         link.brought,
         phase
     );
-    let whose = match day_.primary {
+    let role = match drawn.site.primary {
         Some(primary) if primary == number as u32 => ", primary",
         Some(_) => ", secondary",
         None => "",
     };
-    text(page, LEFT as f64, top as f64 + 20.0, "font-size=\"15\" font-weight=\"bold\"", &format!("Link {}{}", number, whose));
+    text(page, LEFT as f64, top as f64 + 20.0, "font-size=\"15\" font-weight=\"bold\"", &format!("{}Link {}{}", drawn.title, number, role));
     summary(page, scale, link, top as f64 + 37.0);
 
     let strip = (top + TITLE) as f64;
@@ -252,7 +281,7 @@ fn panel(page: &mut String, day_: &Day, scale: &Scale, number: usize, link: &Lin
     commanding(page, scale, link, strip);
     holding(page, scale, link, held);
     flowing(page, scale, link, flow);
-    for start in day_.starts.iter().skip(1) {
+    for start in drawn.site.starts.iter().skip(1) {
         let x = scale.x(*start);
         line(page, (x, strip - 4.0), (x, flow + FLOW as f64), &format!("stroke=\"{}\" stroke-dasharray=\"4 3\"", INK));
         text(page, x + 3.0, strip - 1.0, "font-size=\"10\"", "new site");

@@ -5,6 +5,22 @@ use rsmp_site::ffi::NO_PRIMARY;
 /// The longest output a line may ask for.
 pub const MOST_ROOM: usize = 1 << 24;
 
+/// Whose line it is.
+#[derive(Clone, Copy, PartialEq, Eq)]
+pub enum Whose {
+    /// It names none: north's, and a start is one alone.
+    Unnamed,
+    North,
+    South,
+}
+
+impl Whose {
+    /// The site's number in its box.
+    pub fn site(self) -> usize {
+        usize::from(self == Whose::South)
+    }
+}
+
 pub enum Line {
     Start { table: Vec<u8>, links: u32, primary: u32, period: u32, first: u64, time: u64 },
     Restore { bytes: Vec<u8> },
@@ -49,12 +65,24 @@ const FORMS: [&str; 12] = [
     "readings",
 ];
 
+/// What a line may begin with.
+const NAMES: [(&str, Whose); 2] = [("north ", Whose::North), ("south ", Whose::South)];
+
 pub fn help() -> String {
     FORMS.iter().map(|form| format!("  {}\n", form)).collect()
 }
 
-/// The line, or what is wrong with it.
-pub fn read(line: &str) -> Result<Line, String> {
+/// Whose the line is, and the line; or what is wrong with it.
+pub fn read(line: &str) -> Result<(Whose, Line), String> {
+    let named = NAMES.iter().find_map(|(name, whose)| Some((*whose, line.strip_prefix(name)?)));
+    let (whose, line) = named.unwrap_or((Whose::Unnamed, line));
+    match (whose, call(line)?) {
+        (Whose::North | Whose::South, Line::Restore { .. }) => Err("what was stored is of no one site".to_string()),
+        (whose, line) => Ok((whose, line)),
+    }
+}
+
+fn call(line: &str) -> Result<Line, String> {
     let words: Vec<&str> = line.split_ascii_whitespace().collect();
     let name = *words.first().ok_or("an empty line")?;
     let form = FORMS.iter().find(|form| form.split(' ').next() == Some(name)).ok_or_else(|| format!("no such call: {}", shown(name)))?;

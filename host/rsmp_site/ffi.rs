@@ -3,25 +3,43 @@
 //! Safe to call with any values, as the library has no precondition, if every pointer is valid for the length beside it and nothing that is
 //! lent to be changed overlaps anything else that is lent.
 
-/// The words of a site, in which everything lies that changes.
-pub const WORDS: usize = 1173;
+/// The words of a pool, in which the records lie that are held.
+pub const POOL_WORDS: usize = 520;
+/// The words of a site, in which everything else lies that changes.
+pub const WORDS: usize = 657;
 /// The bytes of its table, as start leaves them.
 pub const TABLE_BYTES: usize = 6178;
+/// The sites of a box.
+pub const SITES: usize = 2;
 /// The bytes of a site; its block has six behind them, which nothing reads.
-pub const SITE_BYTES: usize = 8 * WORDS + TABLE_BYTES;
+pub const SITE_BYTES: usize = 8 * (POOL_WORDS + WORDS) + TABLE_BYTES;
+/// The bytes of a box; it has four behind them.
+pub const BOX_BYTES: usize = 8 * (POOL_WORDS + SITES * WORDS) + SITES * TABLE_BYTES;
 
 /// The words that a packet's commands are handed over in.
 pub const COMMAND_WORDS: usize = 16;
 
 /// The start value for "no primary".
 pub const NO_PRIMARY: u32 = u32::MAX;
+/// The start value for a site that is alone: site 0, and the whole pool is emptied, whatever it held.
+pub const ALONE: u32 = u32::MAX;
 
 /// A site as the library is lent it. Every content is allowed.
 #[repr(C)]
 #[derive(Clone, PartialEq, Eq)]
 pub struct Block {
+    pub pool: [u64; POOL_WORDS],
     pub words: [u64; WORDS],
     pub table: [u8; TABLE_BYTES],
+}
+
+/// Two sites and the pool that they share. Every content is allowed; all is 0 before the first start of either.
+#[repr(C)]
+#[derive(Clone, PartialEq, Eq)]
+pub struct BoxBlock {
+    pub pool: [u64; POOL_WORDS],
+    pub words: [[u64; WORDS]; SITES],
+    pub table: [[u8; TABLE_BYTES]; SITES],
 }
 
 /// The 16 random bytes of which an identity is made.
@@ -32,7 +50,7 @@ pub struct Id {
 }
 
 /// What a call gives: its number, and where it is 0 the written bytes, the closed links, the clock hint and how many commands were handed over.
-/// 14 is given where words, table or the commands' words are of another length than they are to be.
+/// 14 is given where pool, words, table or the commands' words are of another length than they are to be.
 #[repr(C)]
 #[derive(Clone, Copy, Debug)]
 pub struct Outcome {
@@ -64,21 +82,26 @@ pub struct Reading {
 extern "C" {
     #[link_name = concat!("rsmp_lent_start_", env!("RSMP_SYMBOL"))]
     pub fn rsmp_lent_start(
+        pool: *mut u64,
+        pool_len: usize,
         words: *mut u64,
         words_len: usize,
         table: *mut u8,
         table_len: usize,
         bits: *const u8,
         bits_len: usize,
+        site: u32,
         links: u32,
         primary: u32,
         period: u32,
         first: u64,
         time: u64,
     ) -> Outcome;
-    pub fn rsmp_lent_connect(words: *mut u64, words_len: usize, link: u32, time: u64) -> Outcome;
-    pub fn rsmp_lent_disconnect(words: *mut u64, words_len: usize, link: u32, time: u64) -> Outcome;
+    pub fn rsmp_lent_connect(pool: *mut u64, pool_len: usize, words: *mut u64, words_len: usize, link: u32, time: u64) -> Outcome;
+    pub fn rsmp_lent_disconnect(pool: *mut u64, pool_len: usize, words: *mut u64, words_len: usize, link: u32, time: u64) -> Outcome;
     pub fn rsmp_lent_packet(
+        pool: *mut u64,
+        pool_len: usize,
         words: *mut u64,
         words_len: usize,
         table: *const u8,
@@ -94,6 +117,8 @@ extern "C" {
         out_len: usize,
     ) -> Outcome;
     pub fn rsmp_lent_alarm(
+        pool: *mut u64,
+        pool_len: usize,
         words: *mut u64,
         words_len: usize,
         table: *const u8,
@@ -103,6 +128,8 @@ extern "C" {
         time: u64,
     ) -> Outcome;
     pub fn rsmp_lent_status(
+        pool: *mut u64,
+        pool_len: usize,
         words: *mut u64,
         words_len: usize,
         table: *const u8,
@@ -111,9 +138,11 @@ extern "C" {
         value: i32,
         time: u64,
     ) -> Outcome;
-    pub fn rsmp_lent_aggregated(words: *mut u64, words_len: usize, value: u8, time: u64) -> Outcome;
-    pub fn rsmp_lent_tick(words: *mut u64, words_len: usize, time: u64) -> Outcome;
+    pub fn rsmp_lent_aggregated(pool: *mut u64, pool_len: usize, words: *mut u64, words_len: usize, value: u8, time: u64) -> Outcome;
+    pub fn rsmp_lent_tick(pool: *mut u64, pool_len: usize, words: *mut u64, words_len: usize, time: u64) -> Outcome;
     pub fn rsmp_lent_pump(
+        pool: *mut u64,
+        pool_len: usize,
         words: *mut u64,
         words_len: usize,
         table: *const u8,
@@ -124,9 +153,9 @@ extern "C" {
         out: *mut u8,
         out_len: usize,
     ) -> Outcome;
-    pub fn rsmp_lent_held(words: *const u64, words_len: usize, link: u32) -> u64;
-    pub fn rsmp_lent_lost(words: *const u64, words_len: usize, link: u32) -> u64;
-    pub fn rsmp_lent_phase(words: *const u64, words_len: usize, link: u32) -> u32;
-    pub fn rsmp_lent_version_of(words: *const u64, words_len: usize, link: u32) -> Version;
-    pub fn rsmp_lent_record(words: *const u64, words_len: usize, link: u32, rank: u64) -> Reading;
+    pub fn rsmp_lent_held(pool: *const u64, pool_len: usize, words: *const u64, words_len: usize, link: u32) -> u64;
+    pub fn rsmp_lent_lost(pool: *const u64, pool_len: usize, words: *const u64, words_len: usize, link: u32) -> u64;
+    pub fn rsmp_lent_phase(pool: *const u64, pool_len: usize, words: *const u64, words_len: usize, link: u32) -> u32;
+    pub fn rsmp_lent_version_of(pool: *const u64, pool_len: usize, words: *const u64, words_len: usize, link: u32) -> Version;
+    pub fn rsmp_lent_record(pool: *const u64, pool_len: usize, words: *const u64, words_len: usize, link: u32, rank: u64) -> Reading;
 }

@@ -1,6 +1,7 @@
 //! The site end of RSMP 3.2, over the proved library: its calls without `unsafe`, each refusal a typed error.
 //!
-//! A call changes its site in place; one that is refused changes nothing. Links, alarms and statuses are numbered from 0; times are
+//! A [`Site`] stands alone, or shares a [`Cabinet`] and its pool of records with another. A call changes its site in place; one that is refused
+//! changes nothing. Links, alarms and statuses are numbered from 0; times are
 //! milliseconds since 1970 UTC and never go back from one call to the next. What the host brings is said in docs/EMBEDDING.md.
 
 #![no_std]
@@ -8,19 +9,23 @@
 #[cfg(feature = "std")]
 extern crate std;
 
+mod cabinet;
 mod commands;
 pub mod ffi;
 mod inside;
+mod lent;
 mod refusal;
 mod stored;
 
+pub use cabinet::Cabinet;
 pub use commands::{Command, Commands};
 use core::fmt;
-pub use ffi::SITE_BYTES;
-use ffi::{Block, COMMAND_WORDS, TABLE_BYTES, WORDS};
+use ffi::{Block, COMMAND_WORDS, POOL_WORDS, TABLE_BYTES, WORDS};
+pub use ffi::{BOX_BYTES, SITES, SITE_BYTES};
 pub use inside::{AlarmState, Subscription};
+pub use lent::{Lent, LentMut, Parts, PartsMut, SiteMut, SiteRef};
 pub use refusal::Refusal;
-pub use stored::{check_sum, NotStored, SITE_EDITION, STORED_BYTES};
+pub use stored::{check_sum, NotStored, BOX_STORED_BYTES, SITE_EDITION, STORED_BYTES};
 
 /// The version of this crate, which is that of the library, of the header and of the programs.
 pub const VERSION: &str = env!("RSMP_VERSION");
@@ -37,10 +42,11 @@ pub const LAST_TIME: u64 = 253_402_300_799_999;
 /// The word of a site that has its count of links, and the lowest of its sixteen bits there.
 const LINK_COUNT: (usize, u32) = (2, 16);
 
-/// A site: 15,562 plain bytes, no heap, no global state. Keep it where you like: in a static, in a box, on a stack.
+/// A site: 15,594 plain bytes, no heap, no global state. Keep it where you like: in a static, in a box, on a stack. A site of a cabinet lies there,
+/// and is the same otherwise.
 #[derive(Clone, PartialEq, Eq)]
-pub struct Site {
-    lent: Block,
+pub struct Site<M = Block> {
+    lent: M,
 }
 
 /// What a site starts with beside its table.
@@ -104,7 +110,7 @@ pub type Called = Result<Report, Refusal>;
 
 impl Site {
     /// A site without links: what a place for a site holds before `begin` makes one there.
-    pub const NONE: Site = Site { lent: Block { words: [0; WORDS], table: [0; TABLE_BYTES] } };
+    pub const NONE: Site = Site { lent: Block { pool: [0; POOL_WORDS], words: [0; WORDS], table: [0; TABLE_BYTES] } };
 
     /// A new site of a table's bits.
     pub fn start(table: &[u8], start: &Start) -> Result<Site, Refusal> {
@@ -112,7 +118,20 @@ impl Site {
         site.begin(table, start).map(|_| site)
     }
 
-    /// A new site of a table's bits, in the place of this one.
+    /// It, to be read where it lies, as a site of a cabinet is.
+    pub fn lent(&self) -> SiteRef<'_> {
+        Site { lent: self.lent.parts() }
+    }
+
+    /// It, to be called where it lies.
+    pub fn lent_mut(&mut self) -> SiteMut<'_> {
+        Site { lent: self.lent.parts_mut() }
+    }
+}
+
+/// The calls.
+impl<M: LentMut> Site<M> {
+    /// A new site of a table's bits, in the place of this one. In a cabinet the other site stays as it is.
     pub fn begin(&mut self, table: &[u8], start: &Start) -> Called {
         let primary = match start.primary {
             None => ffi::NO_PRIMARY,
@@ -120,93 +139,127 @@ impl Site {
             Some(link) => link,
         };
         let Start { links, period, first, time, .. } = *start;
-        let Block { words, table: kept } = &mut self.lent;
-        // SAFETY: all three are lent for their lengths, lie apart, and nothing of them is kept.
+        let PartsMut { pool, words, table: kept, number: site } = self.lent.parts_mut();
+        // SAFETY: all four are lent for their lengths, lie apart, and nothing of them is kept.
         called(unsafe {
-            let (words, kept, bits) = (words.as_mut_ptr(), kept.as_mut_ptr(), table.as_ptr());
-            ffi::rsmp_lent_start(words, WORDS, kept, TABLE_BYTES, bits, table.len(), links, primary, period, first, time)
+            let (pool, words, kept) = (pool.as_mut_ptr(), words.as_mut_ptr(), kept.as_mut_ptr());
+            let (bits, length) = (table.as_ptr(), table.len());
+            ffi::rsmp_lent_start(pool, POOL_WORDS, words, WORDS, kept, TABLE_BYTES, bits, length, site, links, primary, period, first, time)
         })
     }
 
     pub fn connect(&mut self, link: u32, time: u64) -> Called {
-        // SAFETY: the words are lent for their length, and every content and value is allowed.
-        called(unsafe { ffi::rsmp_lent_connect(self.lent.words.as_mut_ptr(), WORDS, link, time) })
+        let PartsMut { pool, words, .. } = self.lent.parts_mut();
+        // SAFETY: pool and words are lent for their lengths, and every content and value is allowed.
+        called(unsafe { ffi::rsmp_lent_connect(pool.as_mut_ptr(), POOL_WORDS, words.as_mut_ptr(), WORDS, link, time) })
     }
 
     pub fn disconnect(&mut self, link: u32, time: u64) -> Called {
-        // SAFETY: the words are lent for their length, and every content and value is allowed.
-        called(unsafe { ffi::rsmp_lent_disconnect(self.lent.words.as_mut_ptr(), WORDS, link, time) })
+        let PartsMut { pool, words, .. } = self.lent.parts_mut();
+        // SAFETY: pool and words are lent for their lengths, and every content and value is allowed.
+        called(unsafe { ffi::rsmp_lent_disconnect(pool.as_mut_ptr(), POOL_WORDS, words.as_mut_ptr(), WORDS, link, time) })
     }
 
     /// A packet that came, without form feeds; the answer is written to `output`, and what it commands is in the report.
     pub fn packet(&mut self, link: u32, time: u64, random: [u8; 16], packet: &[u8], output: &mut [u8]) -> Called {
-        let Block { words, table } = &mut self.lent;
+        let PartsMut { pool, words, table, .. } = self.lent.parts_mut();
         let (random, room) = (ffi::Id { bytes: random }, output.len());
         let (given, length) = (packet.as_ptr(), packet.len());
         let mut handed = [0; COMMAND_WORDS];
-        // SAFETY: all five are lent for their lengths; those that are changed are borrowed alone, so they overlap nothing.
+        // SAFETY: all six are lent for their lengths; those that are changed are borrowed alone, so they overlap nothing.
         let outcome = unsafe {
-            let (words, table, handed, output) = (words.as_mut_ptr(), table.as_ptr(), handed.as_mut_ptr(), output.as_mut_ptr());
-            ffi::rsmp_lent_packet(words, WORDS, table, TABLE_BYTES, link, time, random, given, length, handed, COMMAND_WORDS, output, room)
+            let (pool, words, table) = (pool.as_mut_ptr(), words.as_mut_ptr(), table.as_ptr());
+            let (handed, output) = (handed.as_mut_ptr(), output.as_mut_ptr());
+            ffi::rsmp_lent_packet(
+                pool,
+                POOL_WORDS,
+                words,
+                WORDS,
+                table,
+                TABLE_BYTES,
+                link,
+                time,
+                random,
+                given,
+                length,
+                handed,
+                COMMAND_WORDS,
+                output,
+                room,
+            )
         };
         let commands = Commands::of_words(&handed, outcome.commands as usize);
         called(outcome).map(|report| Report { commands, ..report })
     }
 
     pub fn alarm(&mut self, number: u32, active: bool, time: u64) -> Called {
-        let Block { words, table } = &mut self.lent;
-        // SAFETY: words and table are lent for their lengths, and every content and value is allowed.
-        called(unsafe { ffi::rsmp_lent_alarm(words.as_mut_ptr(), WORDS, table.as_ptr(), TABLE_BYTES, number, u32::from(active), time) })
+        let PartsMut { pool, words, table, .. } = self.lent.parts_mut();
+        // SAFETY: pool, words and table are lent for their lengths, and every content and value is allowed.
+        called(unsafe {
+            let (pool, words, table) = (pool.as_mut_ptr(), words.as_mut_ptr(), table.as_ptr());
+            ffi::rsmp_lent_alarm(pool, POOL_WORDS, words, WORDS, table, TABLE_BYTES, number, u32::from(active), time)
+        })
     }
 
     pub fn status(&mut self, number: u32, value: i32, time: u64) -> Called {
-        let Block { words, table } = &mut self.lent;
-        // SAFETY: words and table are lent for their lengths, and every content and value is allowed.
-        called(unsafe { ffi::rsmp_lent_status(words.as_mut_ptr(), WORDS, table.as_ptr(), TABLE_BYTES, number, value, time) })
+        let PartsMut { pool, words, table, .. } = self.lent.parts_mut();
+        // SAFETY: pool, words and table are lent for their lengths, and every content and value is allowed.
+        called(unsafe {
+            let (pool, words, table) = (pool.as_mut_ptr(), words.as_mut_ptr(), table.as_ptr());
+            ffi::rsmp_lent_status(pool, POOL_WORDS, words, WORDS, table, TABLE_BYTES, number, value, time)
+        })
     }
 
     /// The eight booleans, the first in the highest bit.
     pub fn aggregated(&mut self, value: u8, time: u64) -> Called {
-        // SAFETY: the words are lent for their length, and every content and value is allowed.
-        called(unsafe { ffi::rsmp_lent_aggregated(self.lent.words.as_mut_ptr(), WORDS, value, time) })
+        let PartsMut { pool, words, .. } = self.lent.parts_mut();
+        // SAFETY: pool and words are lent for their lengths, and every content and value is allowed.
+        called(unsafe { ffi::rsmp_lent_aggregated(pool.as_mut_ptr(), POOL_WORDS, words.as_mut_ptr(), WORDS, value, time) })
     }
 
     pub fn tick(&mut self, time: u64) -> Called {
-        // SAFETY: the words are lent for their length, and every content and value is allowed.
-        called(unsafe { ffi::rsmp_lent_tick(self.lent.words.as_mut_ptr(), WORDS, time) })
+        let PartsMut { pool, words, .. } = self.lent.parts_mut();
+        // SAFETY: pool and words are lent for their lengths, and every content and value is allowed.
+        called(unsafe { ffi::rsmp_lent_tick(pool.as_mut_ptr(), POOL_WORDS, words.as_mut_ptr(), WORDS, time) })
     }
 
     /// Writes the next message that is due on a link, one at most.
     pub fn pump(&mut self, link: u32, time: u64, random: [u8; 16], output: &mut [u8]) -> Called {
-        let Block { words, table } = &mut self.lent;
+        let PartsMut { pool, words, table, .. } = self.lent.parts_mut();
         let (random, room) = (ffi::Id { bytes: random }, output.len());
-        // SAFETY: all three are lent for their lengths; the words and the output are borrowed alone, so they overlap nothing.
+        // SAFETY: all four are lent for their lengths; pool, words and output are borrowed alone, so they overlap nothing.
         called(unsafe {
-            let (words, table, output) = (words.as_mut_ptr(), table.as_ptr(), output.as_mut_ptr());
-            ffi::rsmp_lent_pump(words, WORDS, table, TABLE_BYTES, link, time, random, output, room)
+            let (pool, words, table, output) = (pool.as_mut_ptr(), words.as_mut_ptr(), table.as_ptr(), output.as_mut_ptr());
+            ffi::rsmp_lent_pump(pool, POOL_WORDS, words, WORDS, table, TABLE_BYTES, link, time, random, output, room)
         })
     }
+}
 
+/// The readings.
+impl<M: Lent> Site<M> {
     /// How many links the site has.
     pub fn links(&self) -> u32 {
-        LINKS.min((self.lent.words[LINK_COUNT.0] >> LINK_COUNT.1 & 0xFFFF) as u32)
+        LINKS.min((self.lent.parts().words[LINK_COUNT.0] >> LINK_COUNT.1 & 0xFFFF) as u32)
     }
 
     /// The records that wait for a link's answer.
     pub fn held(&self, link: u32) -> u64 {
-        // SAFETY: the words are lent for their length, and every content and value is allowed.
-        unsafe { ffi::rsmp_lent_held(self.lent.words.as_ptr(), WORDS, link) }
+        let Parts { pool, words } = self.lent.parts();
+        // SAFETY: pool and words are lent for their lengths, and every content and value is allowed.
+        unsafe { ffi::rsmp_lent_held(pool.as_ptr(), POOL_WORDS, words.as_ptr(), WORDS, link) }
     }
 
     /// The records of a link that were pushed out of the pool, since start.
     pub fn lost(&self, link: u32) -> u64 {
-        // SAFETY: the words are lent for their length, and every content and value is allowed.
-        unsafe { ffi::rsmp_lent_lost(self.lent.words.as_ptr(), WORDS, link) }
+        let Parts { pool, words } = self.lent.parts();
+        // SAFETY: pool and words are lent for their lengths, and every content and value is allowed.
+        unsafe { ffi::rsmp_lent_lost(pool.as_ptr(), POOL_WORDS, words.as_ptr(), WORDS, link) }
     }
 
     pub fn phase(&self, link: u32) -> Phase {
-        // SAFETY: the words are lent for their length, and every content and value is allowed.
-        match unsafe { ffi::rsmp_lent_phase(self.lent.words.as_ptr(), WORDS, link) } {
+        let Parts { pool, words } = self.lent.parts();
+        // SAFETY: pool and words are lent for their lengths, and every content and value is allowed.
+        match unsafe { ffi::rsmp_lent_phase(pool.as_ptr(), POOL_WORDS, words.as_ptr(), WORDS, link) } {
             1 => Phase::Greeting,
             2 => Phase::Beating,
             3 => Phase::Up,
@@ -216,8 +269,9 @@ impl Site {
 
     /// The chosen version, where the link's greeting has come so far.
     pub fn version(&self, link: u32) -> Option<(u32, u32, u32)> {
-        // SAFETY: the words are lent for their length, and every content and value is allowed.
-        let found = unsafe { ffi::rsmp_lent_version_of(self.lent.words.as_ptr(), WORDS, link) };
+        let Parts { pool, words } = self.lent.parts();
+        // SAFETY: pool and words are lent for their lengths, and every content and value is allowed.
+        let found = unsafe { ffi::rsmp_lent_version_of(pool.as_ptr(), POOL_WORDS, words.as_ptr(), WORDS, link) };
         Some((found.major, found.minor, found.patch)).filter(|chosen| *chosen != (0, 0, 0))
     }
 
@@ -225,8 +279,9 @@ impl Site {
     pub fn records(&self, link: u32) -> impl Iterator<Item = [u8; 16]> + '_ {
         let ranks = 0..self.held(link);
         ranks.map_while(move |rank| {
-            // SAFETY: the words are lent for their length, and every content and value is allowed.
-            let reading = unsafe { ffi::rsmp_lent_record(self.lent.words.as_ptr(), WORDS, link, rank) };
+            let Parts { pool, words } = self.lent.parts();
+            // SAFETY: pool and words are lent for their lengths, and every content and value is allowed.
+            let reading = unsafe { ffi::rsmp_lent_record(pool.as_ptr(), POOL_WORDS, words.as_ptr(), WORDS, link, rank) };
             Some(reading.bytes).filter(|_| reading.found != 0)
         })
     }
@@ -260,7 +315,7 @@ struct Seen {
     lost: u64,
 }
 
-impl fmt::Debug for Site {
+impl<M: Lent> fmt::Debug for Site<M> {
     fn fmt(&self, formatter: &mut fmt::Formatter) -> fmt::Result {
         formatter.debug_list().entries((0..self.links()).map(|link| self.seen(link))).finish()
     }

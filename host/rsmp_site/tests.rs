@@ -1,7 +1,7 @@
 //! The safe crate over the library, run on x86-64: sizes on this side of the calling convention, typed refusals, clones.
 
-use rsmp_site::{ffi, AlarmState, Command, NotStored, Phase, Refusal, Report, Site, Start, Subscription};
-use rsmp_site::{LAST_TIME, OUTPUT_BYTES, SITE_BYTES, STORED_BYTES};
+use rsmp_site::{ffi, AlarmState, Cabinet, Command, NotStored, Phase, Refusal, Report, Site, Start, Subscription};
+use rsmp_site::{BOX_BYTES, BOX_STORED_BYTES, LAST_TIME, OUTPUT_BYTES, SITE_BYTES, STORED_BYTES};
 use std::mem::{align_of, size_of};
 
 const TABLE: &[u8] = include_bytes!("../../examples/barrier.bits");
@@ -15,7 +15,8 @@ fn site() -> Site {
 
 #[test]
 fn sizes() {
-    assert_eq!((size_of::<ffi::Block>(), align_of::<ffi::Block>(), SITE_BYTES), (15_568, 8, 15_562));
+    assert_eq!((size_of::<ffi::Block>(), align_of::<ffi::Block>(), SITE_BYTES), (15_600, 8, 15_594));
+    assert_eq!((size_of::<ffi::BoxBlock>(), align_of::<ffi::BoxBlock>(), BOX_BYTES), (27_032, 8, 27_028));
     assert_eq!((size_of::<ffi::Outcome>(), align_of::<ffi::Outcome>()), (32, 8));
     assert_eq!((size_of::<ffi::Id>(), size_of::<ffi::Version>(), size_of::<ffi::Reading>()), (16, 12, 17));
 }
@@ -31,7 +32,9 @@ macro_rules! places {
 #[test]
 fn offsets() {
     let block: ffi::Block = Site::NONE.into();
-    assert_eq!(places!(block, words table), [0, 9384]);
+    assert_eq!(places!(block, pool words table), [0, 4160, 9416]);
+    let two: ffi::BoxBlock = Cabinet::EMPTY.into();
+    assert_eq!(places!(two, pool words table), [0, 4160, 14672]);
     let outcome = ffi::Outcome { hint: 0, number: 0, written: 0, closed: 0, hinted: 0, commands: 0 };
     assert_eq!(places!(outcome, hint number written closed hinted commands), [0, 8, 12, 16, 20, 24]);
     let version = ffi::Version { major: 0, minor: 0, patch: 0 };
@@ -151,7 +154,7 @@ fn bytes_and_back() {
     assert!(Site::from_bytes(site.as_bytes()) == site);
     let stored = site.to_stored();
     assert!(Site::from_stored(&stored).as_ref() == Ok(&site));
-    assert_eq!((stored.len(), stored[8]), (STORED_BYTES, 3));
+    assert_eq!((stored.len(), stored[8]), (STORED_BYTES, 4));
     let fault = |change: &dyn Fn(&mut Vec<u8>)| {
         let mut bytes = stored.to_vec();
         change(&mut bytes);
@@ -165,6 +168,63 @@ fn bytes_and_back() {
     assert_eq!(fault(&|bytes| bytes[0] = 0), Some(NotStored::Foreign));
     assert_eq!(fault(&|bytes| bytes[12] ^= 8), Some(NotStored::Length));
     assert_eq!((fault(&|bytes| bytes.truncate(23)), fault(&|bytes| bytes.push(0))), (Some(NotStored::Length), Some(NotStored::Length)));
+}
+
+/// A cabinet whose second site begins with another number, and each has an alarm.
+fn cabinet() -> Cabinet {
+    let mut cabinet = Cabinet::EMPTY;
+    for (number, start) in [(0, GOOD), (1, Start { links: 1, first: 7, ..GOOD })] {
+        let mut site = cabinet.site_mut(number).expect("there are two");
+        assert!(site.begin(TABLE, &start).is_ok() && site.alarm(2, true, NOON).is_ok());
+    }
+    cabinet
+}
+
+#[test]
+fn two_sites_share_a_pool() {
+    let mut cabinet = cabinet();
+    assert!(cabinet.site(2).is_none() && cabinet.site_mut(2).is_none() && cabinet.site(u32::MAX).is_none());
+    let of = |cabinet: &Cabinet, number: u32| {
+        let site = cabinet.site(number).unwrap();
+        (
+            site.links(),
+            site.held(0),
+            site.lost(0),
+            site.next_number(),
+            site.records(0).map(|record| (record[0] >> 5, record[15])).collect::<Vec<_>>(),
+        )
+    };
+    assert_eq!((of(&cabinet, 0), of(&cabinet, 1)), ((2, 1, 0, 1, vec![(0, 0)]), (1, 1, 0, 8, vec![(4, 7)])));
+    // 64 of each, then the second's own go first, then those of link 1 push out the fuller's.
+    for number in [0, 1] {
+        for value in 1..=80 {
+            assert!(cabinet.site_mut(number).unwrap().aggregated(value, NOON).is_ok());
+        }
+    }
+    let held = |cabinet: &Cabinet| [0, 1].map(|number| cabinet.site(number).unwrap().held(0));
+    let lost = |cabinet: &Cabinet| [0, 1].map(|number| cabinet.site(number).unwrap().lost(0));
+    assert_eq!(held(&cabinet).iter().sum::<u64>() + cabinet.site(0).unwrap().held(1), 128);
+    assert!(lost(&cabinet).iter().all(|lost| *lost > 0));
+    // A refused start leaves all, a done one the other's share.
+    let before = cabinet.clone();
+    assert!(cabinet.site_mut(1).unwrap().begin(TABLE, &Start { links: 5, ..GOOD }).is_err() && cabinet == before);
+    let north = (held(&cabinet)[0], lost(&cabinet)[0]);
+    assert!(cabinet.site_mut(1).unwrap().begin(TABLE, &GOOD).is_ok());
+    assert_eq!((held(&cabinet), lost(&cabinet)), ([north.0, 0], [north.1, 0]));
+}
+
+#[test]
+fn a_cabinet_stored_and_back() {
+    let cabinet = cabinet();
+    assert!(Cabinet::from_bytes(cabinet.as_bytes()) == cabinet);
+    let stored = cabinet.to_stored();
+    assert!(Cabinet::from_stored(&stored).map_or(false, |back| back == cabinet));
+    assert_eq!((stored.len(), stored[8]), (BOX_STORED_BYTES, 4));
+    assert_eq!(Site::from_stored(&stored).err(), Some(NotStored::Length));
+    assert_eq!(Cabinet::from_stored(&site().to_stored()).err(), Some(NotStored::Length));
+    let mut damaged = stored;
+    damaged[20_000] ^= 1;
+    assert_eq!(Cabinet::from_stored(&damaged).err(), Some(NotStored::Damaged));
 }
 
 const THEIRS: &str = "6f968141-4de5-42ff-8032-45f8093762c5";

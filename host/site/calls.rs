@@ -1,11 +1,13 @@
-//! The calls on the site, at the clock's time, each written to the record where there is one, and the site to its file.
+//! The calls on the sites, at the clock's time, each written to the record where there is one, and the sites to their file. Links are numbered as in
+//! `memory`.
 
 use crate::clock::Clock;
+use crate::memory::{link_of, place_of, site_of, Memory};
 use crate::notify::Notifier;
 use crate::random::Random;
 use crate::record::{hex, Record};
 use crate::state::{Store, Stored};
-use rsmp_site::{Called, Phase, Refusal, Report, Site, Start, COMMANDS, OUTPUT_BYTES};
+use rsmp_site::{Called, Phase, Refusal, Report, SiteRef, Start, COMMANDS, OUTPUT_BYTES};
 use std::time::{Duration, Instant};
 
 /// Random bytes that repeat are drawn again so often; then their source is broken.
@@ -18,10 +20,10 @@ const NUMBERS: u64 = 1 << 31;
 const ROWS: u32 = 32;
 
 pub struct Calls {
-    pub site: Site,
+    memory: Memory,
     pub clock: Clock,
-    table: Vec<u8>,
-    start: Start,
+    /// The table of each site, and what it is started with.
+    starts: Vec<(Vec<u8>, Start)>,
     random: Random,
     record: Option<Record>,
     /// When a record that is not written is tried again.
@@ -51,23 +53,17 @@ pub struct Kit {
 }
 
 impl Calls {
-    /// A new site, or the one that was stored: then every link whose connection the end of the last process took is disconnected.
-    pub fn start(table: Vec<u8>, mut start: Start, mut kit: Kit, stored: Option<Stored>) -> Result<Calls, Refusal> {
+    /// New sites, or those that were stored: then every link whose connection the end of the last process took is disconnected.
+    pub fn start(starts: Vec<(Vec<u8>, Start)>, mut kit: Kit, stored: Option<Stored>) -> Result<Calls, Refusal> {
         if let Some(stored) = &stored {
             kit.clock.go_on_from(stored.time);
         }
-        start.time = kit.clock.now();
         let restored = stored.is_some();
-        let site = match stored {
-            Some(stored) => stored.site,
-            None => Site::start(&table, &start)?,
-        };
         let output = vec![0; OUTPUT_BYTES];
         let mut calls = Calls {
-            site,
+            memory: stored.map_or_else(|| Memory::of(starts.len()), |stored| stored.memory),
             clock: kit.clock,
-            table,
-            start,
+            starts,
             random: kit.random,
             record_again: kit.record.as_ref().filter(|record| !record.is_open()).map(|_| Instant::now()),
             record: kit.record,
@@ -77,44 +73,75 @@ impl Calls {
             trouble: Vec::new(),
             output,
         };
-        if restored {
-            calls.record_site();
-        } else {
-            calls.record_start();
+        let time = calls.now();
+        for (_, start) in &mut calls.starts {
+            start.time = time;
         }
-        for link in 0..calls.site.links() {
-            if calls.site.phase(link) != Phase::Down {
-                calls.disconnect(link)?;
+        if restored {
+            calls.record_sites();
+        } else {
+            for site in 0..calls.sites() {
+                calls.begin(site)?;
+            }
+        }
+        for site in 0..calls.sites() {
+            for link in 0..calls.site(site).links() {
+                if calls.site(site).phase(link) != Phase::Down {
+                    calls.disconnect(place_of(site, link))?;
+                }
             }
         }
         Ok(calls)
     }
 
+    /// How many there are.
+    pub fn sites(&self) -> usize {
+        self.memory.sites()
+    }
+
+    pub fn site(&self, number: usize) -> SiteRef<'_> {
+        self.memory.site(number)
+    }
+
+    /// What a line of one of two sites begins with.
+    pub fn named(&self, site: usize) -> String {
+        self.memory.named(site)
+    }
+
+    /// A site begins, whatever it was; the other goes on.
+    fn begin(&mut self, site: usize) -> Called {
+        let (table, start) = &self.starts[site];
+        let begun = self.memory.site_mut(site).begin(table, start)?;
+        self.record_start(site);
+        Ok(begun)
+    }
+
     /// A new site in place of one whose sequence numbers are used up. What the cabinet has set is given to it again.
-    pub fn start_anew(&mut self) -> Result<(), Refusal> {
-        let before = self.site.clone();
-        self.start.first = 0;
-        self.start.time = self.now();
-        self.site.begin(&self.table, &self.start)?;
-        self.record_start();
+    pub fn start_anew(&mut self, site: usize) -> Result<(), Refusal> {
+        let memory = self.memory.clone();
+        let before = memory.site(site);
+        let time = self.now();
+        let start = &mut self.starts[site].1;
+        (start.first, start.time) = (0, time);
+        self.begin(site)?;
         self.changed();
-        if before.aggregated_value() != self.site.aggregated_value() {
-            let _ = self.aggregated(before.aggregated_value());
+        if before.aggregated_value() != self.site(site).aggregated_value() {
+            let _ = self.aggregated(site, before.aggregated_value());
         }
         for number in 0..ROWS {
             if let Some(value) = before.status_value(number) {
-                let _ = self.status(number, value);
+                let _ = self.status(site, number, value);
             }
             if before.alarm_state(number).map_or(false, |alarm| alarm.active) {
-                let _ = self.alarm(number, true);
+                let _ = self.alarm(site, number, true);
             }
         }
         Ok(())
     }
 
-    /// Whether this part of the sequence numbers, or less, is left.
-    pub fn has_left(&self, part: u64) -> bool {
-        let (left, all) = (NUMBERS.saturating_sub(self.site.next_number()), NUMBERS - self.start.first);
+    /// Whether this part of a site's sequence numbers, or less, is left.
+    pub fn has_left(&self, site: usize, part: u64) -> bool {
+        let (left, all) = (NUMBERS.saturating_sub(self.site(site).next_number()), NUMBERS - self.starts[site].1.first);
         left * part <= all
     }
 
@@ -128,9 +155,11 @@ impl Calls {
 
     // The record.
 
-    fn record(&mut self, line: impl FnOnce() -> String) {
+    /// A call of a site.
+    fn record(&mut self, site: usize, line: impl FnOnce() -> String) {
         self.begin_record_where_long();
-        self.record_line(line);
+        let named = self.memory.named(site);
+        self.record_line(|| named + &line());
     }
 
     fn record_line(&mut self, line: impl FnOnce() -> String) {
@@ -151,23 +180,22 @@ impl Calls {
         }
     }
 
-    fn record_start(&mut self) {
-        let (start, table) = (self.start, std::mem::take(&mut self.table));
-        let primary = start.primary.map_or("-".to_string(), |link| link.to_string());
-        self.record(|| format!("start {} {} {} {} {} {}", hex(&table), start.links, primary, start.period, start.first, start.time));
-        self.table = table;
+    fn record_start(&mut self, site: usize) {
+        let (table, Start { links, primary, period, first, time }) = self.starts[site].clone();
+        let primary = primary.map_or("-".to_string(), |link| link.to_string());
+        self.record(site, || format!("start {} {} {} {} {} {}", hex(&table), links, primary, period, first, time));
     }
 
     /// So that what follows can be played without what came before.
-    fn record_site(&mut self) {
-        let stored = self.site.to_stored();
+    fn record_sites(&mut self) {
+        let stored = self.memory.to_stored();
         self.record_line(|| format!("restore {}", hex(&stored)));
     }
 
     fn begin_record_where_long(&mut self) {
         if let Some(record) = self.record.as_mut().filter(|record| record.is_open() && record.is_long()) {
             match record.put_aside() {
-                Ok(()) => self.record_site(),
+                Ok(()) => self.record_sites(),
                 Err(error) => self.record_fails(error),
             }
         }
@@ -195,7 +223,7 @@ impl Calls {
         let reopened = self.record.as_mut()?.reopen();
         let flushed = reopened.and_then(|cut| {
             self.say_what_was_cut(cut);
-            self.record_site();
+            self.record_sites();
             // With what waits, so that a full disk is seen at once.
             self.record.as_mut().map_or(Ok(()), Record::flush)
         });
@@ -257,7 +285,7 @@ impl Calls {
     /// Has the state written; its number, where there is a file for it.
     pub fn give_state(&mut self) -> Option<u64> {
         let time = self.now();
-        Some(self.store.as_mut()?.give(&self.site, time))
+        Some(self.store.as_mut()?.give(&self.memory, time))
     }
 
     /// Up to which number all is written or has failed, and whether it is written. That it fails is said once.
@@ -289,79 +317,80 @@ impl Calls {
     // The calls.
 
     pub fn connect(&mut self, link: u32) -> Called {
-        let time = self.now();
-        self.record(|| format!("connect {} {}", link, time));
-        let called = self.site.connect(link, time);
+        let (site, link, time) = (site_of(link), link_of(link), self.now());
+        self.record(site, || format!("connect {} {}", link, time));
+        let called = self.memory.site_mut(site).connect(link, time);
         self.changed_where_done(called)
     }
 
     pub fn disconnect(&mut self, link: u32) -> Called {
-        let time = self.now();
-        self.record(|| format!("disconnect {} {}", link, time));
-        let called = self.site.disconnect(link, time);
+        let (site, link, time) = (site_of(link), link_of(link), self.now());
+        self.record(site, || format!("disconnect {} {}", link, time));
+        let called = self.memory.site_mut(site).disconnect(link, time);
         self.changed_where_done(called)
     }
 
-    pub fn alarm(&mut self, number: u32, active: bool) -> Called {
+    pub fn alarm(&mut self, site: usize, number: u32, active: bool) -> Called {
         let time = self.now();
-        self.record(|| format!("alarm {} {} {}", number, u32::from(active), time));
-        let called = self.site.alarm(number, active, time);
+        self.record(site, || format!("alarm {} {} {}", number, u32::from(active), time));
+        let called = self.memory.site_mut(site).alarm(number, active, time);
         if let Some(store) = self.store.as_mut().filter(|_| called.is_ok()) {
             store.has_new_alarm();
         }
         called
     }
 
-    pub fn status(&mut self, number: u32, value: i32) -> Called {
+    pub fn status(&mut self, site: usize, number: u32, value: i32) -> Called {
         let time = self.now();
-        self.record(|| format!("status {} {} {}", number, value, time));
-        let called = self.site.status(number, value, time);
+        self.record(site, || format!("status {} {} {}", number, value, time));
+        let called = self.memory.site_mut(site).status(number, value, time);
         self.input_where_done(called)
     }
 
-    pub fn aggregated(&mut self, value: u8) -> Called {
+    pub fn aggregated(&mut self, site: usize, value: u8) -> Called {
         let time = self.now();
-        self.record(|| format!("aggregated {} {}", value, time));
-        let called = self.site.aggregated(value, time);
+        self.record(site, || format!("aggregated {} {}", value, time));
+        let called = self.memory.site_mut(site).aggregated(value, time);
         self.input_where_done(called)
     }
 
     /// A tick that issues and closes nothing is not worth a write.
-    pub fn tick(&mut self) -> Called {
+    pub fn tick(&mut self, site: usize) -> Called {
         let time = self.now();
-        self.record(|| format!("tick {}", time));
-        let before = self.store.as_ref().map(|_| self.counts());
-        let called = self.site.tick(time);
+        self.record(site, || format!("tick {}", time));
+        let before = self.store.as_ref().map(|_| self.counts(site));
+        let called = self.memory.site_mut(site).tick(time);
         let closed = called.map_or(false, |report: Report| !report.closed.is_empty());
-        if closed || before.map_or(false, |before| before != self.counts()) {
+        if closed || before.map_or(false, |before| before != self.counts(site)) {
             self.changed();
         }
         called
     }
 
     /// The records held and lost of each link.
-    fn counts(&self) -> Vec<(u64, u64)> {
-        let site = &self.site;
+    fn counts(&self, site: usize) -> Vec<(u64, u64)> {
+        let site = self.site(site);
         let each = (0..site.links()).map(|link| (site.held(link), site.lost(link)));
         each.collect()
     }
 
-    /// A packet that came, and room for so many commands. One that has more is not taken: the site and the record are as before.
+    /// A packet that came, and room for so many commands. One that has more is not taken: the sites and the record are as before.
     pub fn packet(&mut self, link: u32, packet: &[u8], room: usize) -> Result<Report, NotTaken> {
+        let (site, link) = (site_of(link), link_of(link));
         for _ in 0..DRAWS {
             let (time, random) = (self.now(), self.random().map_err(NotTaken::Refused)?);
             if room < COMMANDS {
-                let tried = self.site.clone().packet(link, time, random, packet, &mut self.output);
+                let tried = self.memory.clone().site_mut(site).packet(link, time, random, packet, &mut self.output);
                 let commands = tried.map_or(0, |report| report.commands.len());
                 if commands > room {
                     return Err(NotTaken::NoRoom(commands));
                 }
             }
-            self.record(|| {
+            self.record(site, || {
                 let (random, packet) = (hex(&random), hex(packet));
                 format!("packet {} {} {} {} {}", link, time, random, OUTPUT_BYTES, packet)
             });
-            match self.site.packet(link, time, random, packet, &mut self.output) {
+            match self.memory.site_mut(site).packet(link, time, random, packet, &mut self.output) {
                 Err(Refusal::SameIdentity) => continue,
                 called => return self.changed_where_done(called).map_err(NotTaken::Refused),
             }
@@ -371,10 +400,11 @@ impl Calls {
 
     /// What pump sends is sent again after a restart: only where every call is stored is it worth a write.
     pub fn pump(&mut self, link: u32) -> Called {
+        let (site, link) = (site_of(link), link_of(link));
         for _ in 0..DRAWS {
             let (time, random) = (self.now(), self.random()?);
-            self.record(|| format!("pump {} {} {} {}", link, time, hex(&random), OUTPUT_BYTES));
-            match self.site.pump(link, time, random, &mut self.output) {
+            self.record(site, || format!("pump {} {} {} {}", link, time, hex(&random), OUTPUT_BYTES));
+            match self.memory.site_mut(site).pump(link, time, random, &mut self.output) {
                 Err(Refusal::SameIdentity) => continue,
                 called => {
                     if called.is_ok() && self.store.as_ref().map_or(false, Store::at_once) {

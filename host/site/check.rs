@@ -1,11 +1,12 @@
-//! What a site would do with its words, its table and its state: `--check-config`. Nothing is changed and nothing is started.
+//! What a site, or two, would do with the words, the tables and the state: `--check-config`. Nothing is changed and nothing is started.
 
 use crate::access::Access;
 use crate::journal::moment;
-use crate::options::Options;
-use crate::state::{looked_at, Look};
+use crate::memory::NAMES;
+use crate::options::{OfSite, Options};
+use crate::state::{looked_at, setup, Look, Stored};
 use rsmp_site::{Site, Start};
-use rsmp_table::{bits, Table};
+use rsmp_table::Table;
 use std::path::Path;
 
 /// The lines so far, and what would keep it from starting, or from going on with all that it had.
@@ -16,12 +17,17 @@ struct Checked {
 }
 
 /// The lines, and whether it would start and go on with all that it had.
-pub fn check(options: &Options, table: &Table, start: &Start) -> (Vec<String>, bool) {
+pub fn check(options: &Options, tables: &[Table], starts: &[(Vec<u8>, Start)]) -> (Vec<String>, bool) {
     let mut checked = Checked::default();
-    checked.table(options, table, start);
-    checked.links(options);
-    checked.commands(options, table);
-    checked.state(options, table, start);
+    for (number, (of_site, table)) in options.sites.iter().zip(tables).enumerate() {
+        if number > 0 {
+            checked.say("beside", format!("the site {}", NAMES[number]));
+        }
+        checked.table(of_site, table, &starts[number]);
+        checked.links(of_site);
+        checked.commands(options, of_site, table);
+    }
+    checked.state(options, starts);
     checked.orders(options);
     for (name, file) in [("record", &options.record), ("log", &options.log), ("metrics", &options.metrics)] {
         checked.file(name, file.as_deref());
@@ -39,7 +45,7 @@ impl Checked {
         self.lines.push(format!("{:<9} {}", name, text.as_ref()).trim_start().to_string());
     }
 
-    fn table(&mut self, options: &Options, table: &Table, start: &Start) {
+    fn table(&mut self, options: &OfSite, table: &Table, (bits, start): &(Vec<u8>, Start)) {
         let (site, sxl) = (&table.site, &table.sxl);
         let counts = [
             (table.components.len(), "components"),
@@ -49,20 +55,20 @@ impl Checked {
         ];
         let counts: Vec<String> = counts.iter().map(|(count, what)| format!("{} {}", count, what)).collect();
         self.say("table", format!("{}: site {}, SXL {}, {}", options.table, site, sxl, counts.join(", ")));
-        if let Err(refusal) = Site::start(&bits::write(table), start) {
+        if let Err(refusal) = Site::start(bits, start) {
             self.bad.push(format!("the site does not start: {}", refusal));
         }
     }
 
-    fn links(&mut self, options: &Options) {
+    fn links(&mut self, options: &OfSite) {
         for (number, address) in options.supervisors.iter().enumerate() {
             let whose = if options.primary == Some(number as u32) { ", the primary" } else { "" };
             self.say(&format!("link {}", number), format!("{}{}", address, whose));
         }
     }
 
-    fn commands(&mut self, options: &Options, table: &Table) {
-        let said = match (&options.on_command, table.commands.is_empty()) {
+    fn commands(&mut self, options: &Options, of_site: &OfSite, table: &Table) {
+        let said = match (&of_site.on_command, table.commands.is_empty()) {
             (_, true) => "the table has none".to_string(),
             (None, false) => "are told of in the log alone".to_string(),
             (Some(program), false) => format!("run {}, each {} s at most", program, options.command_limit.as_secs_f64()),
@@ -70,7 +76,7 @@ impl Checked {
         self.say("commands", said);
     }
 
-    fn state(&mut self, options: &Options, table: &Table, start: &Start) {
+    fn state(&mut self, options: &Options, starts: &[(Vec<u8>, Start)]) {
         let path = match &options.state {
             None => return self.say("state", "is not kept: what is held is lost at the end"),
             Some(path) => path,
@@ -79,13 +85,9 @@ impl Checked {
             seconds if seconds == 0.0 => "before anything that depends on it is sent".to_string(),
             seconds => format!("every {} s at most", seconds),
         };
-        let found = match looked_at(path, &bits::write(table), start) {
+        let found = match looked_at(path, &setup(starts)) {
             Look::Nothing => "is not there: a new site starts".to_string(),
-            Look::Site(stored) => {
-                let held = |link| format!("link {} holds {}, lost {}", link, stored.site.held(link), stored.site.lost(link));
-                let held: Vec<String> = (0..stored.site.links()).map(held).collect();
-                format!("goes on from {}: {}", moment(stored.time), held.join("; "))
-            }
+            Look::Site(stored) => format!("goes on from {}: {}", moment(stored.time), held_in(&stored)),
             Look::Not(why) => {
                 self.bad.push("what is held would be lost".to_string());
                 format!("would NOT be taken, put aside, and a new site would start: {}", why)
@@ -120,4 +122,14 @@ impl Checked {
             self.bad.push(format!("there is no folder {}", folder.display()));
         }
     }
+}
+
+/// The records held and lost of each link.
+fn held_in(stored: &Stored) -> String {
+    let of_site = |number: usize| {
+        let (site, named) = (stored.memory.site(number), stored.memory.named(number));
+        let each = (0..site.links()).map(|link| format!("{}link {} holds {}, lost {}", named, link, site.held(link), site.lost(link)));
+        each.collect::<Vec<_>>()
+    };
+    (0..stored.memory.sites()).flat_map(of_site).collect::<Vec<_>>().join("; ")
 }

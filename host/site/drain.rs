@@ -33,13 +33,13 @@ impl Host {
         match self.drain.until {
             None => {
                 self.drain.until = Some(Instant::now() + self.drain.limit);
-                let text = format!("is to end, and waits up to {} s for answers: {}", self.drain.limit.as_secs_f64(), self.counts());
+                let text = format!("is to end, and waits up to {} s for answers: {}", self.drain.limit.as_secs_f64(), self.counts_of_all());
                 self.say_of_site(Level::Info, text);
                 false
             }
             Some(until) if Instant::now() < until => false,
             Some(_) => {
-                let text = format!("ends with records that are not answered: {}", self.counts());
+                let text = format!("ends with records that are not answered: {}", self.counts_of_all());
                 self.say_of_site(Level::Warning, text);
                 true
             }

@@ -2,6 +2,7 @@
 
 use crate::journal::{moment, Level};
 use crate::json::{self, or_null, quoted};
+use crate::memory::{link_of, site_of, NAMES};
 use std::os::unix::fs::MetadataExt;
 
 #[derive(Clone, Copy, Debug, PartialEq, Eq)]
@@ -24,7 +25,7 @@ impl Form {
     }
 
     pub fn line(self, time: u64, level: Level, link: Option<u32>, text: &str) -> String {
-        let whose = || link.map_or("site  ".to_string(), |link| format!("link {}", link));
+        let whose = || link.map_or("site  ".to_string(), |link| format!("{} {}", ["link", NAMES[1]][site_of(link)], link_of(link)));
         let plain = || format!("{} {:<7} {}  {}", moment(time), level.name(), whose(), text);
         match self {
             Form::Text => plain(),
@@ -57,8 +58,9 @@ impl Form {
 }
 
 fn object(time: u64, level: Level, link: Option<u32>, more: &str, text: &str) -> String {
-    let (time, level, link) = (json::time(time), quoted(level.name()), or_null(link));
-    format!("{{\"time\":{},\"level\":{},\"link\":{},{}\"text\":{}}}", time, level, link, more, quoted(text))
+    let site = link.filter(|link| site_of(*link) > 0).map_or(String::new(), |_| format!("\"site\":{},", quoted(NAMES[1])));
+    let (time, level, link) = (json::time(time), quoted(level.name()), or_null(link.map(link_of)));
+    format!("{{\"time\":{},\"level\":{},{}\"link\":{},{}\"text\":{}}}", time, level, site, link, more, quoted(text))
 }
 
 /// Of syslog.
@@ -78,6 +80,9 @@ mod tests {
     #[test]
     fn forms() {
         let line = |form: Form| form.line(0, Level::Warning, Some(1), "a \"b\"");
+        let south = |form: Form| form.line(0, Level::Info, Some(5), "a");
+        assert_eq!(south(Form::Text), "1970-01-01 00:00:00.000Z info    south 1  a");
+        assert!(south(Form::Json).ends_with("\"level\":\"info\",\"site\":\"south\",\"link\":1,\"text\":\"a\"}"));
         assert_eq!(line(Form::Text), "1970-01-01 00:00:00.000Z warning link 1  a \"b\"");
         assert_eq!(line(Form::Journald), "<4>1970-01-01 00:00:00.000Z warning link 1  a \"b\"");
         assert_eq!(line(Form::Json), "{\"time\":\"1970-01-01T00:00:00.000Z\",\"level\":\"warning\",\"link\":1,\"text\":\"a \\\"b\\\"\"}");

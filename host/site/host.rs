@@ -1,4 +1,4 @@
-//! What the process does with each event: calls on the site, bytes to the supervisors, lines to the log.
+//! What the process does with each event: calls on its sites, bytes to the supervisors, lines to the log.
 
 use crate::calls::{Calls, NotTaken};
 use crate::commands::{Commands, MOST_WAITING};
@@ -6,11 +6,12 @@ use crate::control::Reply;
 use crate::drain::Drain;
 use crate::framing::{Frame, FORM_FEED};
 use crate::journal::{Journal, Level};
+use crate::memory::{link_of, place_of, site_of, NAMES};
 use crate::options::Options;
 use crate::readable::{kind, value_of};
 use crate::show::{About, OfLink};
 use crate::wires::{Closing, Event, Wire, NOT_READ};
-use rsmp_site::{Called, Phase, Refusal, Report, Site};
+use rsmp_site::{Called, Phase, Refusal, Report, SiteRef};
 use rsmp_table::Table;
 use std::fmt::Display;
 use std::sync::mpsc::Receiver;
@@ -46,7 +47,22 @@ pub struct Link {
 }
 
 impl Link {
-    pub fn shown(&self, site: &Site, number: u32) -> OfLink {
+    fn new(address: &str) -> Link {
+        Link {
+            address: address.to_string(),
+            wire: None,
+            since: Instant::now(),
+            up: false,
+            connections: 0,
+            sent: 0,
+            received: 0,
+            unanswered: 0,
+            clock_ahead: 0,
+            clock_said: None,
+        }
+    }
+
+    pub fn shown(&self, site: &SiteRef, number: u32) -> OfLink {
         OfLink {
             address: self.address.clone(),
             phase: site.phase(number),
@@ -61,13 +77,18 @@ impl Link {
     }
 }
 
-pub struct Host {
-    pub calls: Calls,
+/// What the process has of a site beside its bytes.
+pub struct OfSite {
     pub about: About,
-    pub drain: Drain,
-    journal: Journal,
     pub links: Vec<Link>,
     pub commands: Commands,
+}
+
+pub struct Host {
+    pub calls: Calls,
+    pub sites: Vec<OfSite>,
+    pub drain: Drain,
+    journal: Journal,
     greeting_limit: Duration,
     closing: Vec<Closing>,
     system_behind: u64,
@@ -78,32 +99,36 @@ pub struct Host {
 }
 
 impl Host {
-    pub fn new(calls: Calls, commands: Commands, journal: Journal, table: Table, options: &Options) -> Host {
-        let link = |address: &String| Link {
-            address: address.clone(),
-            wire: None,
-            since: Instant::now(),
-            up: false,
-            connections: 0,
-            sent: 0,
-            received: 0,
-            unanswered: 0,
-            clock_ahead: 0,
-            clock_said: None,
-        };
+    pub fn new(calls: Calls, sites: Vec<(Table, Commands)>, journal: Journal, options: &Options) -> Host {
+        let sites = sites.into_iter().zip(&options.sites).map(|((table, commands), of_site)| OfSite {
+            about: About { table, primary: of_site.primary, began: Instant::now() },
+            links: of_site.supervisors.iter().map(|address| Link::new(address)).collect(),
+            commands,
+        });
         Host {
             calls,
-            about: About { table, primary: options.primary, began: Instant::now() },
+            sites: sites.collect(),
             drain: Drain::new(options.drain),
             journal,
-            links: options.supervisors.iter().map(link).collect(),
-            commands,
             greeting_limit: options.greeting_limit,
             closing: Vec::new(),
             system_behind: 0,
             saving: Vec::new(),
             quitting: None,
         }
+    }
+
+    fn link(&mut self, link: u32) -> &mut Link {
+        &mut self.sites[site_of(link)].links[link_of(link) as usize]
+    }
+
+    /// The links of a site.
+    fn links_of(&self, site: usize) -> impl Iterator<Item = u32> {
+        (0..self.sites[site].links.len() as u32).map(move |link| place_of(site, link))
+    }
+
+    fn links(&self) -> Vec<u32> {
+        (0..self.sites.len()).flat_map(|site| self.links_of(site)).collect()
     }
 
     pub fn is_quitting(&self) -> bool {
@@ -121,8 +146,12 @@ impl Host {
     }
 
     pub fn say_beginning(&mut self, version: &str, state: Option<(Level, String)>) {
-        let (links, counts) = (self.links.len(), self.counts());
-        let text = format!("rsmp-site {} begins with {} links", version, links);
+        let counts = self.counts_of_all();
+        let links: Vec<String> = self.sites.iter().map(|site| site.links.len().to_string()).collect();
+        let text = match &links[..] {
+            [links] => format!("rsmp-site {} begins with {} links", version, links),
+            links => format!("rsmp-site {} begins with two sites, north and south, with {} links", version, links.join(" and ")),
+        };
         self.say_of_site(Level::Info, text);
         if let Some((level, text)) = state {
             self.say_of_site(level, text);
@@ -151,7 +180,7 @@ impl Host {
     // Connections.
 
     fn connected(&mut self, link: u32, wire: Wire) {
-        let of_link = &mut self.links[link as usize];
+        let of_link = self.link(link);
         of_link.connections += 1;
         of_link.wire = Some(wire);
         of_link.since = Instant::now();
@@ -164,7 +193,7 @@ impl Host {
 
     /// Nothing to say where we closed it: that was said.
     fn gone(&mut self, link: u32, why: String, unfinished: u64) {
-        if self.links[link as usize].wire.take().is_none() {
+        if self.link(link).wire.take().is_none() {
             return;
         }
         let rest = match unfinished {
@@ -179,7 +208,7 @@ impl Host {
 
     /// We close it, and what waits to be sent with it.
     fn cut(&mut self, link: u32, why: &str) {
-        if let Some(wire) = self.links[link as usize].wire.take() {
+        if let Some(wire) = self.link(link).wire.take() {
             self.say(Level::Warning, link, format!("we close the connection: {}", why));
             wire.cut();
             let _ = self.calls.disconnect(link);
@@ -187,9 +216,11 @@ impl Host {
     }
 
     /// The site closes these.
-    fn close(&mut self, report: Report, why: &str) {
+    fn close(&mut self, site: usize, report: Report, why: &str) {
         for link in report.closed.iter() {
-            if let Some(wire) = self.links.get_mut(link as usize).and_then(|of_link| of_link.wire.take()) {
+            let of_link = self.sites[site].links.get_mut(link as usize);
+            let link = place_of(site, link);
+            if let Some(wire) = of_link.and_then(|of_link| of_link.wire.take()) {
                 self.say(Level::Warning, link, format!("we close the connection: {}", why));
                 self.closing.push(wire.close());
             }
@@ -198,13 +229,15 @@ impl Host {
     }
 
     fn look_whether_up(&mut self, link: u32) {
-        let site = &self.calls.site;
-        if self.links[link as usize].up || site.phase(link) != Phase::Up {
+        let site = self.calls.site(site_of(link));
+        let (held, is_up) = (site.held(link_of(link)), site.phase(link_of(link)) == Phase::Up);
+        if self.link(link).up || !is_up {
             return;
         }
-        let (held, version) = (site.held(link), self.phase_of(link));
-        self.links[link as usize].up = true;
-        if let Some(wire) = &self.links[link as usize].wire {
+        let version = self.phase_of(link);
+        let of_link = self.link(link);
+        of_link.up = true;
+        if let Some(wire) = &of_link.wire {
             wire.is_up();
         }
         self.say(Level::Info, link, format!("{}; {} records wait", version, held));
@@ -213,11 +246,11 @@ impl Host {
     // Calls and what they did.
 
     fn packet(&mut self, link: u32, packet: &[u8]) {
-        if self.links[link as usize].wire.is_none() {
+        if self.link(link).wire.is_none() {
             return;
         }
-        self.links[link as usize].received += 1;
-        let room = self.commands.room();
+        self.link(link).received += 1;
+        let room = self.sites[site_of(link)].commands.room();
         let called = self.calls.packet(link, packet, room);
         let now = self.calls.now();
         let mark = if called.is_ok() { '<' } else { '!' };
@@ -226,12 +259,12 @@ impl Host {
             Ok(report) => {
                 let why = self.why_closed(link, packet, report);
                 self.done(link, report, &why);
-                self.commands.take(link, &report.commands);
+                self.sites[site_of(link)].commands.take(link, &report.commands);
                 self.say_of_commands();
                 self.look_whether_up(link);
             }
             Err(why) => {
-                self.links[link as usize].unanswered += 1;
+                self.link(link).unanswered += 1;
                 match why {
                     NotTaken::Refused(refusal) => self.refused(link, refusal),
                     NotTaken::NoRoom(count) => self.no_room(link, count, room),
@@ -242,13 +275,13 @@ impl Host {
 
     /// A packet for whose commands there is no room is not taken: nothing is answered that would not be carried out.
     fn no_room(&mut self, link: u32, count: usize, room: usize) {
-        self.commands.not_taken(count);
+        self.sites[site_of(link)].commands.not_taken(count);
         let text = format!("a packet with {} commands is not taken: {} wait already", count, MOST_WAITING - room);
         self.say(Level::Error, link, text);
     }
 
     fn say_of_commands(&mut self) {
-        for said in self.commands.take_said() {
+        for said in self.sites.iter_mut().flat_map(|site| site.commands.take_said()) {
             let now = self.calls.now();
             self.journal.say_each(now, said.level, Some(said.link), &said.text);
         }
@@ -256,7 +289,7 @@ impl Host {
 
     /// Why a packet closed its link; a refused Version is worth a line of its own in any log.
     fn why_closed(&mut self, link: u32, packet: &[u8], report: Report) -> String {
-        let up = self.links[link as usize].up;
+        let up = self.link(link).up;
         if up && report.closed.is_empty() {
             return String::new();
         }
@@ -282,7 +315,7 @@ impl Host {
         match refusal {
             Refusal::Ignored => {}
             Refusal::SameIdentity => self.cut(link, "the random bytes repeat: their source is broken"),
-            Refusal::SequenceSpent => self.start_anew(Level::Error, "used up"),
+            Refusal::SequenceSpent => self.start_anew(site_of(link), Level::Error, "used up"),
             _ => self.say(Level::Warning, link, refusal),
         }
     }
@@ -297,7 +330,7 @@ impl Host {
     fn done(&mut self, link: u32, report: Report, why: &str) {
         self.calls.save_before_it_is_seen();
         self.send(link, report.written);
-        self.close(report, why);
+        self.close(site_of(link), report, why);
         if let Some(hint) = report.hint {
             self.calls.clock.hint(hint);
             self.compare_clocks(link, hint);
@@ -306,7 +339,7 @@ impl Host {
 
     fn compare_clocks(&mut self, link: u32, hint: u64) {
         let ahead = i128::from(hint) - i128::from(self.calls.now());
-        let of_link = &mut self.links[link as usize];
+        let of_link = self.link(link);
         let differs = (ahead - of_link.clock_ahead).unsigned_abs() >= u128::from(CLOCKS_DIFFER);
         if differs && of_link.clock_said.map_or(true, |said| said.elapsed() >= CLOCK_LINES) {
             of_link.clock_ahead = ahead;
@@ -325,17 +358,17 @@ impl Host {
         let messages = bytes.split(|byte| *byte == FORM_FEED);
         for message in messages.filter(|message| !message.is_empty()) {
             self.journal.message(now, link, '>', message);
-            self.links[link as usize].sent += 1;
+            self.sites[site_of(link)].links[link_of(link) as usize].sent += 1;
         }
-        let wire = self.links[link as usize].wire.as_ref();
+        let wire = self.sites[site_of(link)].links[link_of(link) as usize].wire.as_ref();
         if wire.map_or(false, |wire| !wire.send(bytes)) {
             self.cut(link, NOT_READ);
         }
     }
 
     pub fn pump(&mut self) {
-        for link in 0..self.links.len() as u32 {
-            while self.links[link as usize].wire.is_some() {
+        for link in self.links() {
+            while self.link(link).wire.is_some() {
                 match self.calls.pump(link) {
                     Ok(report) => self.keep(link, Ok(report)),
                     Err(Refusal::SameIdentity) => self.refused(link, Refusal::SameIdentity),
@@ -346,25 +379,31 @@ impl Host {
     }
 
     pub fn tick(&mut self) {
-        match self.calls.tick() {
-            Ok(report) => self.close(report, "no answer for 30 seconds"),
-            Err(Refusal::SequenceSpent) => self.start_anew(Level::Error, "used up"),
-            Err(refusal) => self.say_of_site(Level::Error, refusal),
+        for site in 0..self.sites.len() {
+            self.tick_of(site);
         }
-        if self.is_time_for_a_new_site() {
-            self.start_anew(Level::Warning, "nearly used up");
-        }
-        for link in 0..self.links.len() as u32 {
-            let of_link = &self.links[link as usize];
-            if of_link.wire.is_some() && !of_link.up && of_link.since.elapsed() >= self.greeting_limit {
-                let limit = self.greeting_limit.as_secs_f64();
-                self.cut(link, &format!("it is not Up after {} seconds", limit));
+        let limit = self.greeting_limit;
+        for link in self.links() {
+            let of_link = self.link(link);
+            if of_link.wire.is_some() && !of_link.up && of_link.since.elapsed() >= limit {
+                self.cut(link, &format!("it is not Up after {} seconds", limit.as_secs_f64()));
             }
         }
         self.look_at_clock();
         self.calls.flush();
         let now = self.calls.now();
         self.journal.say_what_is_left_out(now);
+    }
+
+    fn tick_of(&mut self, site: usize) {
+        match self.calls.tick(site) {
+            Ok(report) => self.close(site, report, "no answer for 30 seconds"),
+            Err(Refusal::SequenceSpent) => self.start_anew(site, Level::Error, "used up"),
+            Err(refusal) => self.say_of_site(Level::Error, format!("{}{}", self.named(site), refusal)),
+        }
+        if self.is_time_for_a_new_site(site) {
+            self.start_anew(site, Level::Warning, "nearly used up");
+        }
     }
 
     fn look_at_clock(&mut self) {
@@ -431,31 +470,44 @@ impl Host {
     }
 
     pub fn holds_something(&self) -> bool {
-        (0..self.links.len() as u32).any(|link| self.calls.site.held(link) > 0)
+        (0..self.sites.len()).any(|site| self.site_holds_something(site))
     }
 
-    fn is_time_for_a_new_site(&self) -> bool {
-        let answered = |link: u32| self.calls.site.held(link) == 0;
-        self.calls.has_left(NEAR_THE_END) && !self.holds_something()
-            || self.calls.has_left(NEARER) && self.about.primary.map_or(false, answered)
+    fn site_holds_something(&self, site: usize) -> bool {
+        let of_site = self.calls.site(site);
+        (0..of_site.links()).any(|link| of_site.held(link) > 0)
     }
 
-    /// A new site where the sequence numbers come to their end.
-    pub fn start_anew(&mut self, level: Level, numbers: &str) {
-        let counts = self.counts();
+    fn is_time_for_a_new_site(&self, site: usize) -> bool {
+        let answered = |link: u32| self.calls.site(site).held(link) == 0;
+        self.calls.has_left(site, NEAR_THE_END) && !self.site_holds_something(site)
+            || self.calls.has_left(site, NEARER) && self.sites[site].about.primary.map_or(false, answered)
+    }
+
+    /// A new site where the sequence numbers come to their end. The other goes on.
+    pub fn start_anew(&mut self, site: usize, level: Level, numbers: &str) {
+        let (named, counts) = (self.named(site), self.counts(site));
         self.say_of_site(
             level,
             format!(
-                "the sequence numbers are {}: a new site starts with the inputs, the values and the aggregated status as they are. \
+                "{}the sequence numbers are {}: a new site starts with the inputs, the values and the aggregated status as they are. \
                  Not carried over: the records ({}), the subscriptions, and which alarms are acknowledged or suspended",
-                numbers, counts
+                named, numbers, counts
             ),
         );
-        for link in 0..self.links.len() as u32 {
+        for link in self.links_of(site) {
             self.cut(link, "a new site starts");
         }
-        if let Err(refusal) = self.calls.start_anew() {
-            self.say_of_site(Level::Error, format!("the new site does not start: {}", refusal));
+        if let Err(refusal) = self.calls.start_anew(site) {
+            self.say_of_site(Level::Error, format!("{}the new site does not start: {}", named, refusal));
+        }
+    }
+
+    /// What a line about one of two sites begins with.
+    pub fn named(&self, site: usize) -> String {
+        match self.sites.len() {
+            1 => String::new(),
+            _ => format!("{}: ", NAMES[site]),
         }
     }
 
@@ -463,13 +515,16 @@ impl Host {
 
     pub fn goodbye(&mut self) {
         self.say_of_site(Level::Info, "ends as told");
-        for link in 0..self.links.len() as u32 {
-            if let Some(wire) = self.links[link as usize].wire.take() {
+        for link in self.links() {
+            if let Some(wire) = self.link(link).wire.take() {
                 let _ = self.calls.disconnect(link);
                 self.closing.push(wire.close());
             }
         }
-        self.commands.end(Instant::now() + LAST_COMMANDS);
+        let until = Instant::now() + LAST_COMMANDS;
+        for site in &mut self.sites {
+            site.commands.end(until);
+        }
         self.say_of_commands();
         self.calls.flush();
         self.calls.save();
@@ -488,17 +543,23 @@ impl Host {
         }
         let now = self.calls.now();
         self.journal.summary(now, "summary");
-        if let Some(counts) = self.commands.counts() {
-            self.journal.summary(now, &format!("  commands {}", counts));
+        for site in 0..self.sites.len() {
+            for text in self.summary_of(site) {
+                self.journal.summary(now, &text);
+            }
         }
-        for (number, link) in self.links.iter().enumerate() {
-            let site = &self.calls.site;
+    }
+
+    fn summary_of(&self, number: usize) -> Vec<String> {
+        let (site, of_site, named) = (self.calls.site(number), &self.sites[number], self.calls.named(number));
+        let commands = of_site.commands.counts().map(|counts| format!("  {}commands {}", named, counts));
+        let links = of_site.links.iter().enumerate().map(|(number, link)| {
             let (held, lost) = (site.held(number as u32), site.lost(number as u32));
-            let text = format!(
-                "  link {} {}: {} connections, {} messages sent, {} received, {} of them not answered, {} records held, {} lost",
-                number, link.address, link.connections, link.sent, link.received, link.unanswered, held, lost
-            );
-            self.journal.summary(now, &text);
-        }
+            format!(
+                "  {}link {} {}: {} connections, {} messages sent, {} received, {} of them not answered, {} records held, {} lost",
+                named, number, link.address, link.connections, link.sent, link.received, link.unanswered, held, lost
+            )
+        });
+        commands.into_iter().chain(links).collect()
     }
 }

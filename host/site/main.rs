@@ -1,4 +1,4 @@
-//! The site as a process: TCP to the supervisors, orders from the cabinet, a log.
+//! The site as a process, or two that share a cabinet: TCP to the supervisors, orders from the cabinet, a log.
 
 mod access;
 mod calls;
@@ -14,6 +14,7 @@ mod host;
 mod image;
 mod journal;
 mod json;
+mod memory;
 mod metrics;
 mod notify;
 mod obey;
@@ -42,9 +43,10 @@ use commands::Commands;
 use form::Form;
 use host::Host;
 use journal::{Journal, Level};
+use memory::{place_of, NAMES};
 use metrics::Metrics;
 use notify::Notifier;
-use options::{Options, Wanted};
+use options::{OfSite, Options, Wanted};
 use outlet::Outlet;
 use pace::Pace;
 use pauses::Pauses;
@@ -99,22 +101,33 @@ fn table_of(name: &str) -> Result<Table, NoTable> {
     text::read(&String::from_utf8_lossy(&bytes)).map_err(lines)
 }
 
-/// What is done with commands. A program must be one that can be run.
-fn commands_of(options: &Options, table: &Table) -> Result<Commands, String> {
-    let found = |name: &String| Program::find(name, options.command_limit, options.state.as_deref());
-    let program = options.on_command.as_ref().map(found).transpose()?;
+fn tables_of(options: &Options) -> Result<Vec<Table>, NoTable> {
+    options.sites.iter().map(|site| table_of(&site.table)).collect()
+}
+
+/// What is done with the commands of a site. A program must be one that can be run. Each site runs its own, and has its own lock.
+fn commands_of(options: &Options, number: usize, table: &Table) -> Result<Commands, String> {
+    let beside = |state: &String| if number == 0 { state.clone() } else { format!("{}.{}", state, NAMES[number]) };
+    let state = options.state.as_ref().map(beside);
+    let found = |name: &String| Program::find(name, options.command_limit, state.as_deref());
+    let program = options.sites[number].on_command.as_ref().map(found).transpose()?;
     Commands::new(table, program).map_err(|error| error.to_string())
 }
 
-fn start_of(options: &Options) -> Start {
-    Start { links: options.supervisors.len() as u32, primary: options.primary, period: options.period, first: options.first, time: 0 }
+/// Each site's table, and what it is started with.
+fn starts_of(options: &Options, tables: &[Table]) -> Vec<(Vec<u8>, Start)> {
+    let start =
+        |of: &OfSite| Start { links: of.supervisors.len() as u32, primary: of.primary, period: of.period, first: of.first, time: 0 };
+    tables.iter().zip(&options.sites).map(|(table, site)| (bits::write(table), start(site))).collect()
 }
 
 /// Prints what a start would do; false where it would not go on with all that it had.
 fn check(options: Options) -> Result<bool, String> {
-    let table = table_of(&options.table)?;
-    options.on_command.as_deref().map(program::found).transpose()?;
-    let (lines, good) = check::check(&options, &table, &start_of(&options));
+    let tables = tables_of(&options)?;
+    for site in &options.sites {
+        site.on_command.as_deref().map(program::found).transpose()?;
+    }
+    let (lines, good) = check::check(&options, &tables, &starts_of(&options, &tables));
     print(&(lines.join("\n") + "\n"));
     Ok(good)
 }
@@ -133,12 +146,15 @@ fn journal_of(options: &Options, replies: &Outlet) -> Result<Journal, String> {
 }
 
 /// The calls, and what is to be said of the state that was found.
-fn calls_of(options: &Options, table: Vec<u8>, events: SyncSender<Event>) -> Result<(Calls, Option<(Level, String)>), String> {
+fn calls_of(
+    options: &Options,
+    starts: Vec<(Vec<u8>, Start)>,
+    events: SyncSender<Event>,
+) -> Result<(Calls, Option<(Level, String)>), String> {
     let named = |name: &str, error: io::Error| format!("{}: {}", name, error);
-    let start = start_of(options);
     let (mut store, mut stored, mut said) = (None, None, None);
     if let Some(path) = &options.state {
-        let (opened, found) = Store::open(path, options.state_interval, &table, &start, events)?;
+        let (opened, found) = Store::open(path, options.state_interval, state::setup(&starts), events)?;
         store = Some(opened);
         match found {
             Found::Nothing => {}
@@ -168,15 +184,16 @@ fn calls_of(options: &Options, table: Vec<u8>, events: SyncSender<Event>) -> Res
         (record, cut) = (Some(opened.0), opened.1);
     }
     let kit = Kit { clock, random, record, store, notifier: Notifier::of_environment() };
-    let mut calls = Calls::start(table, start, kit, stored).map_err(|refusal| refusal.to_string())?;
+    let mut calls = Calls::start(starts, kit, stored).map_err(|refusal| refusal.to_string())?;
     calls.say_what_was_cut(cut);
     Ok((calls, said))
 }
 
-fn run(options: Options, table: Table) -> Result<(), String> {
-    let commands = commands_of(&options, &table)?;
+fn run(options: Options, tables: Vec<Table>) -> Result<(), String> {
+    let commands = |(number, table)| commands_of(&options, number, table);
+    let commands = tables.iter().enumerate().map(commands).collect::<Result<Vec<_>, _>>()?;
     let (sender, events) = sync_channel(EVENTS);
-    let (calls, said) = calls_of(&options, bits::write(&table), sender.clone())?;
+    let (calls, said) = calls_of(&options, starts_of(&options, &tables), sender.clone())?;
     let replies = Outlet::standard_output();
     let journal = journal_of(&options, &replies)?;
     let log = journal.outlet.clone();
@@ -192,12 +209,14 @@ fn run(options: Options, table: Table) -> Result<(), String> {
         }
     };
     signals::listen();
-    let mut host = Host::new(calls, commands, journal, table, &options);
+    let mut host = Host::new(calls, tables.into_iter().zip(commands).collect(), journal, &options);
     let mut metrics = options.metrics.as_ref().map(|path| Metrics::begin(path, sender.clone()));
     host.say_beginning(VERSION, said);
-    for (number, address) in options.supervisors.iter().enumerate() {
-        let pauses = Pauses::new(options.reconnect, options.reconnect_limit);
-        wires::keep(number as u32, address.clone(), pauses, Pace::new(options.link_rate), sender.clone());
+    for (site, of_site) in options.sites.iter().enumerate() {
+        for (number, address) in of_site.supervisors.iter().enumerate() {
+            let pauses = Pauses::new(options.reconnect, options.reconnect_limit);
+            wires::keep(place_of(site, number as u32), address.clone(), pauses, Pace::new(options.link_rate), sender.clone());
+        }
     }
     host.calls.notifier.tell("READY=1");
     let mut next_tick = Instant::now() + TICK;
@@ -214,7 +233,7 @@ fn run(options: Options, table: Table) -> Result<(), String> {
         host.pump();
         host.go_on();
         if let Some(metrics) = &mut metrics {
-            metrics.write_where_due(|| host.shown().metrics());
+            metrics.write_where_due(|| host.metrics());
         }
         if signals::take_reopening() {
             host.reopen();
@@ -259,8 +278,8 @@ fn main() -> ExitCode {
     match options::read(std::env::args_os().skip(1)) {
         Ok(Wanted::Help) => print(options::HELP),
         Ok(Wanted::Version) => print(&format!("rsmp-site {}\n", VERSION)),
-        Ok(Wanted::Run(options)) => match table_of(&options.table) {
-            Ok(table) => return status(run(options, table).map(|()| true)),
+        Ok(Wanted::Run(options)) => match tables_of(&options) {
+            Ok(tables) => return status(run(options, tables).map(|()| true)),
             Err(NoTable::Unreadable(message)) => return status(Err(message)),
             Err(NoTable::Wrong(message)) => {
                 complain(&message);

@@ -3,23 +3,30 @@
 use crate::control::{Asked, Reply};
 use crate::host::{Host, NOT_SAVED};
 use crate::journal::Level;
+use crate::memory::{link_of, place_of, site_of};
 use crate::orders::{self, Order};
 use crate::send::followed;
 use rsmp_site::{Called, Phase, Refusal};
 
 impl Host {
     pub fn answer(&mut self, asked: Asked) {
-        let (text, input) = match orders::read(&asked.line, &self.about.table) {
-            Ok(Order::Quit) => {
+        let (text, input) = match self.read(&asked.line) {
+            Ok((_, Order::Quit)) => {
                 self.quitting = Some(asked.reply.say("done: goodbye"));
                 return;
             }
-            Ok(Order::Save) => return self.save_for(asked.reply),
-            Ok(order) => self.obey(order),
+            Ok((_, Order::Save)) => return self.save_for(asked.reply),
+            Ok((named, order)) => self.obey(named, order),
             Err(message) => (format!("refused: {}", message), false),
         };
         let stored = self.calls.save_before_it_is_seen();
         asked.reply.say(if input && !stored { "done, not stored" } else { &text });
+    }
+
+    /// The site that an order names, and the order.
+    fn read(&self, line: &str) -> Result<(Option<usize>, Order), String> {
+        let (named, line) = orders::site_of(line, self.sites.len())?;
+        Ok((named, orders::read(line, &self.sites[named.unwrap_or(0)].about.table)?))
     }
 
     /// Replied to when it is written.
@@ -31,25 +38,29 @@ impl Host {
     }
 
     /// The reply, and whether an input was taken.
-    fn obey(&mut self, order: Order) -> (String, bool) {
+    fn obey(&mut self, named: Option<usize>, order: Order) -> (String, bool) {
+        let site = named.unwrap_or(0);
         let told = match order {
-            Order::Counts => format!("done: {}", self.counts()),
-            Order::Links => format!("done: {}", self.phases()),
-            Order::Records => self.records(),
-            Order::Commands => format!("done: {}", self.commands.counts().unwrap_or_else(|| "the table has no commands".to_string())),
-            Order::Show => followed(&self.shown().lines()),
-            Order::ShowJson => followed(&[self.shown().json()]),
+            Order::Counts => format!("done: {}", self.counts(site)),
+            Order::Links => format!("done: {}", self.phases(site)),
+            Order::Records => self.records(named),
+            Order::Commands => {
+                let counts = self.sites[site].commands.counts();
+                format!("done: {}", counts.unwrap_or_else(|| "the table has no commands".to_string()))
+            }
+            Order::Show => followed(&self.shown(site).lines()),
+            Order::ShowJson => followed(&[self.shown(site).json()]),
             Order::Help | Order::Quit | Order::Save => format!("done: {}", orders::HELP),
-            _ => return self.take_input(&order),
+            _ => return self.take_input(site, &order),
         };
         (told, false)
     }
 
-    fn take_input(&mut self, order: &Order) -> (String, bool) {
-        let mut called = self.input(order);
+    fn take_input(&mut self, site: usize, order: &Order) -> (String, bool) {
+        let mut called = self.input(site, order);
         if called == Err(Refusal::SequenceSpent) {
-            self.start_anew(Level::Error, "used up");
-            called = self.input(order);
+            self.start_anew(site, Level::Error, "used up");
+            called = self.input(site, order);
         }
         match called {
             Ok(_) => ("done".to_string(), true),
@@ -57,30 +68,37 @@ impl Host {
         }
     }
 
-    fn input(&mut self, order: &Order) -> Called {
+    fn input(&mut self, site: usize, order: &Order) -> Called {
         match *order {
-            Order::Alarm(number, active) => self.calls.alarm(number, active),
-            Order::Status(number, value) => self.calls.status(number, value),
-            Order::Aggregated(value) => self.calls.aggregated(value),
+            Order::Alarm(number, active) => self.calls.alarm(site, number, active),
+            Order::Status(number, value) => self.calls.status(site, number, value),
+            Order::Aggregated(value) => self.calls.aggregated(site, value),
             _ => Err(Refusal::Ignored),
         }
     }
 
     /// The records held and lost of each link.
-    pub fn counts(&self) -> String {
-        let site = &self.calls.site;
+    pub fn counts(&self, site: usize) -> String {
+        let site = self.calls.site(site);
         let each = (0..site.links()).map(|link| format!("link {} holds {}, lost {}", link, site.held(link), site.lost(link)));
         each.collect::<Vec<_>>().join("; ")
     }
 
-    /// The held records as CSV, link by link, oldest first. Each line has the CR of its end.
-    fn records(&self) -> String {
-        let (site, mut out) = (&self.calls.site, [0; rsmp_csv::LINE]);
-        let mut lines = vec![without_feed(&rsmp_csv::header())];
-        for record in (0..site.links()).flat_map(|link| site.records(link)) {
-            match rsmp_csv::line(&record, &mut out) {
-                Some(line) => lines.push(without_feed(line)),
-                None => return "refused: what is held has no line".to_string(),
+    pub fn counts_of_all(&self) -> String {
+        let each = (0..self.sites.len()).map(|site| format!("{}{}", self.named(site), self.counts(site)));
+        each.collect::<Vec<_>>().join("; ")
+    }
+
+    /// The held records as CSV, of the site that is named or of all, link by link, oldest first. Each line has the CR of its end.
+    fn records(&self, named: Option<usize>) -> String {
+        let (mut lines, mut out) = (vec![without_feed(&rsmp_csv::header())], [0; rsmp_csv::LINE]);
+        for number in (0..self.sites.len()).filter(|number| named.map_or(true, |named| named == *number)) {
+            let site = self.calls.site(number);
+            for record in (0..site.links()).flat_map(|link| site.records(link)) {
+                match rsmp_csv::line(&record, &mut out) {
+                    Some(line) => lines.push(without_feed(line)),
+                    None => return "refused: what is held has no line".to_string(),
+                }
             }
         }
         followed(&lines)
@@ -88,15 +106,15 @@ impl Host {
 
     /// A link's phase, and where it is Up its version.
     pub fn phase_of(&self, link: u32) -> String {
-        let site = &self.calls.site;
+        let (site, link) = (self.calls.site(site_of(link)), link_of(link));
         match (site.phase(link), site.version(link)) {
             (Phase::Up, Some((major, minor, patch))) => format!("Up, RSMP {}.{}.{}", major, minor, patch),
             (phase, _) => format!("{:?}", phase),
         }
     }
 
-    fn phases(&self) -> String {
-        let each = (0..self.links.len() as u32).map(|link| format!("link {} {}", link, self.phase_of(link)));
+    fn phases(&self, site: usize) -> String {
+        let each = (0..self.sites[site].links.len() as u32).map(|link| format!("link {} {}", link, self.phase_of(place_of(site, link))));
         each.collect::<Vec<_>>().join("; ")
     }
 }

@@ -9,13 +9,15 @@ use std::time::Duration;
 
 pub const HELP: &str = "rsmp-site: the site end of RSMP 3.2 for a road-barrier detector
 
-  rsmp-site --table FILE --supervisor HOST:PORT [--supervisor HOST:PORT ..] [options]
+  rsmp-site --table FILE --supervisor HOST:PORT [--supervisor HOST:PORT ..] [options] [--beside --table FILE --supervisor HOST:PORT ..]
 
   --table FILE               the site table, as text or bits (see rsmp-table --help)
   --supervisor HOST:PORT     one to four; the first is link 0
   --primary LINK|none        which link gets the alarms (default 0)
   --period SECONDS           between our Watchdog messages, 1 to 3600 (default 60)
   --first NUMBER             the first sequence number of a record (default 0)
+  --beside                   a second site, south, in the same cabinet: --table, --supervisor, --primary, --period, --first and --on-command
+                             behind it are its own; both share one pool of records, one state, record, log and control
 
   --reconnect SECONDS        before a connection that is gone or failed is tried again (default 2; 0.5 is half a second); twice as
                              long each time that it does not come to Up, a tenth more or less
@@ -55,7 +57,8 @@ pub const HELP: &str = "rsmp-site: the site end of RSMP 3.2 for a road-barrier d
 A value may also stand behind =, as in --period=60. SIGHUP has the log and the record opened again, SIGTERM and SIGINT say goodbye and
 end. Status 0: ended as told; 1: it cannot start; 2: wrong words; 3: the table is none.
 
-Orders, a line each; a reply begins with done or refused (done, not stored: with --state-interval 0, where the state cannot be written):
+Orders, a line each; a reply begins with done or refused (done, not stored: with --state-interval 0, where the state cannot be written).
+With --beside a line may begin with north or south and is for that site; without it is for north:
   alarm NUMBER on|off        the input of an alarm, numbered from 0 as the table lists them
   alarm COMPONENT CODE on|off          .. or by its component and code
   status NUMBER VALUE        the value of a status, numbered in the same way
@@ -63,7 +66,8 @@ Orders, a line each; a reply begins with done or refused (done, not stored: with
   aggregated 0..255          the eight booleans of the aggregated status, the first being 128
   counts                     the records held and lost of each link
   links                      the state of each link
-  records                    the held records as CSV, link by link, oldest first
+  records                    the held records as CSV, link by link, oldest first; without a name those of both sites,
+                             links 0 to 3 being north's and 4 to 7 south's
   commands                   how many were handed over, done, failed, wait
   show, show --json          all of it: links, alarms, values, subscriptions, counters since the start
   save                       write the state now
@@ -72,17 +76,29 @@ Orders, a line each; a reply begins with done or refused (done, not stored: with
 The log shows every message: > is sent, < is received, ! says that it was not answered.
 ";
 
-pub struct Options {
+/// What a site has of its own.
+pub struct OfSite {
     pub table: String,
     pub supervisors: Vec<String>,
     pub primary: Option<u32>,
     pub period: u32,
     pub first: u64,
+    pub on_command: Option<String>,
+}
+
+impl Default for OfSite {
+    fn default() -> OfSite {
+        OfSite { table: String::new(), supervisors: Vec::new(), primary: Some(0), period: 60, first: 0, on_command: None }
+    }
+}
+
+pub struct Options {
+    /// One, or two that share a cabinet.
+    pub sites: Vec<OfSite>,
     pub reconnect: Duration,
     pub reconnect_limit: Duration,
     pub greeting_limit: Duration,
     pub link_rate: u32,
-    pub on_command: Option<String>,
     pub command_limit: Duration,
     pub state: Option<String>,
     pub state_interval: Duration,
@@ -113,16 +129,11 @@ pub enum Wanted {
 /// What is wanted, or what is wrong.
 pub fn read(words: impl Iterator<Item = OsString>) -> Result<Wanted, String> {
     let mut options = Options {
-        table: String::new(),
-        supervisors: Vec::new(),
-        primary: Some(0),
-        period: 60,
-        first: 0,
+        sites: vec![OfSite::default()],
         reconnect: Duration::from_secs(2),
         reconnect_limit: Duration::from_secs(60),
         greeting_limit: Duration::from_secs(60),
         link_rate: 1000,
-        on_command: None,
         command_limit: Duration::from_secs(60),
         state: None,
         state_interval: Duration::from_secs(10),
@@ -148,6 +159,7 @@ pub fn read(words: impl Iterator<Item = OsString>) -> Result<Wanted, String> {
             "-h" | "--help" => return Ok(Wanted::Help),
             "--version" => return Ok(Wanted::Version),
             "--quiet" => options.level = Level::Info,
+            "--beside" => options.beside().map_err(|why| format!("--{}", why))?,
             "--check-config" => check = true,
             _ => {
                 let (name, value) = match word.split_once('=') {
@@ -214,9 +226,19 @@ impl Options {
         };
         match (name, &value) {
             ("quiet", None) => self.level = Level::Info,
-            ("config" | "quiet" | "version" | "help" | "check-config" | "send", _) => return Err(no_such(line)),
+            ("beside", None) => self.beside()?,
+            ("config" | "quiet" | "beside" | "version" | "help" | "check-config" | "send", _) => return Err(no_such(line)),
             _ => self.set(name, value)?,
         }
+        Ok(())
+    }
+
+    /// The words behind it are the second site's.
+    fn beside(&mut self) -> Result<(), String> {
+        if self.sites.len() == rsmp_site::SITES {
+            return Err("beside: there are two sites at most".to_string());
+        }
+        self.sites.push(OfSite::default());
         Ok(())
     }
 
@@ -261,24 +283,26 @@ impl Options {
             let seconds = seconds.ok_or_else(|| bad(&format!("{} to 86400 seconds", least)))?;
             Ok(Duration::from_secs_f64(seconds))
         };
+        let last = self.sites.len() - 1;
+        let site = &mut self.sites[last];
         match name {
-            "table" => self.table = value,
+            "table" => site.table = value,
             "supervisor" => {
                 judge_address(&value).map_err(|why| format!("{}: {}", name, why))?;
-                self.supervisors.push(value);
+                site.supervisors.push(value);
             }
-            "primary" if value == "none" => self.primary = None,
+            "primary" if value == "none" => site.primary = None,
             "primary" => {
                 let link = value.parse().map_err(|_| bad("a link's number or none"))?;
-                self.primary = Some(link);
+                site.primary = Some(link);
             }
             "period" => {
                 let seconds = value.parse().ok().filter(|seconds| (1..=3600).contains(seconds));
-                self.period = seconds.ok_or_else(|| bad("1 to 3600 seconds"))?;
+                site.period = seconds.ok_or_else(|| bad("1 to 3600 seconds"))?;
             }
             "first" => {
                 let first = value.parse().ok().filter(|first| *first <= 2_147_483_647);
-                self.first = first.ok_or_else(|| bad("0 to 2147483647"))?;
+                site.first = first.ok_or_else(|| bad("0 to 2147483647"))?;
             }
             "reconnect" => self.reconnect = seconds(0.01)?,
             "reconnect-limit" => self.reconnect_limit = seconds(0.01)?,
@@ -288,7 +312,7 @@ impl Options {
                 self.link_rate = rate.ok_or_else(|| bad("0 to 1000000 packets"))?;
             }
             "on-command" if value.is_empty() => return Err(bad("a program")),
-            "on-command" => self.on_command = Some(value),
+            "on-command" => site.on_command = Some(value),
             "command-limit" => self.command_limit = seconds(0.1)?,
             "state" => self.state = Some(value),
             "state-interval" => self.state_interval = seconds(0.0)?,
@@ -321,6 +345,16 @@ impl Options {
     }
 
     fn judged(self) -> Result<Options, String> {
+        for (number, site) in self.sites.iter().enumerate() {
+            let whose = if number == 0 { "" } else { ", behind --beside" };
+            site.judge().map_err(|why| format!("{}{}", why, whose))?;
+        }
+        Ok(self)
+    }
+}
+
+impl OfSite {
+    fn judge(&self) -> Result<(), String> {
         if self.table.is_empty() {
             return Err("--table is missing".to_string());
         }
@@ -331,7 +365,7 @@ impl Options {
         if self.primary.map_or(false, |primary| primary as usize >= links) {
             return Err(format!("--primary: the links are numbered 0 to {}", links - 1));
         }
-        Ok(self)
+        Ok(())
     }
 }
 
@@ -373,8 +407,8 @@ mod tests {
     #[test]
     fn words() {
         let options = of(&["--table=t", "--supervisor", "a:1", "--supervisor=[::1]:65535", "--period=9", "--quiet"]).unwrap();
-        assert_eq!(options.supervisors, ["a:1", "[::1]:65535"]);
-        assert_eq!((options.period, options.level, options.primary), (9, Level::Info, Some(0)));
+        assert_eq!(options.sites[0].supervisors, ["a:1", "[::1]:65535"]);
+        assert_eq!((options.sites[0].period, options.level, options.sites[0].primary), (9, Level::Info, Some(0)));
         for (given, wanted) in [
             ("a", "no port"),
             ("a:", "no port"),
@@ -389,13 +423,37 @@ mod tests {
     }
 
     #[test]
+    fn two_sites() {
+        let words =
+            ["--table=t", "--supervisor=a:1", "--period=9", "--beside", "--table=u", "--supervisor=b:2", "--supervisor=c:3", "--primary=1"];
+        let options = of(&[&words[..], &["--drain=5", "--on-command=x"]].concat()).unwrap();
+        let (north, south) = (&options.sites[0], &options.sites[1]);
+        assert_eq!((north.table.as_str(), north.period, north.primary, &north.on_command), ("t", 9, Some(0), &None));
+        assert_eq!((south.table.as_str(), south.period, south.primary, south.supervisors.len()), ("u", 60, Some(1), 2));
+        assert_eq!((south.on_command.as_deref(), options.drain.as_secs()), (Some("x"), 5));
+        for (more, wanted) in [
+            (&["--beside"][..], "two sites at most"),
+            (&["--primary=2"], "numbered 0 to 1, behind --beside"),
+            (&["--supervisor=d:4", "--supervisor=e:5", "--supervisor=f:6"], "5 supervisors, 1 to 4 are allowed, behind --beside"),
+        ] {
+            let said = of(&[&words[..], more].concat()).err().unwrap();
+            assert!(said.contains(wanted), "{}", said);
+        }
+        assert_eq!(of(&["--table=t", "--supervisor=a:1", "--beside"]).err().unwrap(), "--table is missing, behind --beside");
+    }
+
+    #[test]
     fn lines() {
         let mut options = of(&["--table=t", "--supervisor=a:1"]).unwrap();
         for line in ["", "# nothing", "supervisor  b:2  # the workshop", "quiet", "table a file#1.txt"] {
             options.read_line(line).unwrap();
         }
-        assert_eq!((options.supervisors.len(), options.table.as_str()), (2, "a file#1.txt"));
-        for line in ["period", "period x", "config again", "quiet yes", "nonsense 1"] {
+        assert_eq!((options.sites[0].supervisors.len(), options.sites[0].table.as_str()), (2, "a file#1.txt"));
+        for line in ["beside", "table another"] {
+            options.read_line(line).unwrap();
+        }
+        assert_eq!((options.sites.len(), options.sites[1].table.as_str()), (2, "another"));
+        for line in ["period", "period x", "config again", "quiet yes", "beside yes", "beside", "nonsense 1"] {
             assert!(options.read_line(line).is_err(), "{}", line);
         }
     }

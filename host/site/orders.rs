@@ -1,11 +1,12 @@
-//! Orders from the cabinet's own side, a line each. An alarm or a status is named by its number or by what the table has for it.
+//! Orders from the cabinet's own side, a line each. Of two sites it names one, or is for north. An alarm or a status is named by its number or by what the table has for it.
 
+use crate::memory::NAMES;
 use crate::readable::clean;
 use rsmp_table::Table;
 
 pub const HELP: &str =
     "alarm NUMBER on|off, alarm COMPONENT CODE on|off, status NUMBER VALUE, status COMPONENT CODE NAME VALUE, aggregated 0..255, \
-                        counts, links, records, commands, show, show --json, save, help, quit";
+                        counts, links, records, commands, show, show --json, save, help, quit; of two sites north or south may stand before it";
 
 #[derive(Debug, PartialEq, Eq)]
 pub enum Order {
@@ -21,6 +22,20 @@ pub enum Order {
     Save,
     Help,
     Quit,
+}
+
+/// The number of the site that a line names, of so many, and what stands behind its name.
+pub fn site_of(line: &str, sites: usize) -> Result<(Option<usize>, &str), String> {
+    let line = line.trim_start();
+    let named = NAMES.iter().enumerate().find_map(|(number, name)| {
+        let behind = line.strip_prefix(name)?;
+        Some((number, behind)).filter(|_| behind.starts_with(|c: char| c.is_ascii_whitespace()))
+    });
+    match named {
+        None => Ok((None, line)),
+        Some((number, _)) if number >= sites => Err(format!("there is no site {} here", NAMES[number])),
+        Some((number, behind)) => Ok((Some(number), behind)),
+    }
 }
 
 pub fn read(line: &str, table: &Table) -> Result<Order, String> {
@@ -147,6 +162,20 @@ mod tests {
             let said = read(line, &table).unwrap_err();
             assert!(said.contains(wanted), "{}: {}", line, said);
         }
+    }
+
+    #[test]
+    fn sites() {
+        for (line, sites, wanted) in [
+            ("counts", 1, Ok((None, "counts"))),
+            (" north  counts", 1, Ok((Some(0), "  counts"))),
+            ("south alarm 1 on", 2, Ok((Some(1), " alarm 1 on"))),
+            ("southern counts", 2, Ok((None, "southern counts"))),
+            ("south", 2, Ok((None, "south"))),
+        ] {
+            assert_eq!(site_of(line, sites), wanted);
+        }
+        assert_eq!(site_of("south counts", 1).unwrap_err(), "there is no site south here");
     }
 
     #[test]

@@ -1,6 +1,7 @@
 //! Every call as a line of a script that rsmp-replay plays: appended to a file, which is put aside when it is long. Lines go out whole, each with its
 //! end; one that a kill or a full disk has torn is cut off before the file is written on.
 
+use crate::memory::NAMES;
 use crate::outlet::{appended, put_aside};
 use std::fs::File;
 use std::io::{self, Read, Seek, SeekFrom, Write};
@@ -8,9 +9,9 @@ use std::path::{Path, PathBuf};
 
 /// So many bytes wait before they are written without being asked for.
 const MOST_WAITING: usize = 8192;
-/// No line of ours is longer: that of a stored site has half of it.
+/// No line of ours is longer: that of two stored sites has most of it.
 const LONGEST_LINE: u64 = 64 * 1024;
-/// What a line of ours begins with.
+/// What a line of ours begins with, behind its site's name where it has one.
 const CALLS: [&str; 10] =
     ["start ", "restore ", "connect ", "disconnect ", "packet ", "alarm ", "status ", "aggregated ", "tick ", "pump "];
 
@@ -119,8 +120,10 @@ fn torn(path: &Path, length: u64) -> io::Result<u64> {
     file.take(LONGEST_LINE).read_to_end(&mut bytes)?;
     let end = bytes.iter().rposition(|byte| *byte == b'\n');
     let rest = &bytes[end.map_or(0, |end| end + 1)..];
-    let is_ours = |call: &&str| rest.starts_with(call.as_bytes()) || call.as_bytes().starts_with(rest);
-    if end.is_none() && length > LONGEST_LINE || !CALLS.iter().any(|call| is_ours(&call)) {
+    let begins = |line: &[u8], word: &str| line.starts_with(word.as_bytes()) || word.as_bytes().starts_with(line);
+    let behind = NAMES.iter().find_map(|name| rest.strip_prefix(name.as_bytes())?.strip_prefix(b" ")).unwrap_or(rest);
+    let is_ours = CALLS.iter().any(|call| begins(behind, call)) || NAMES.iter().any(|name| name.as_bytes().starts_with(rest));
+    if end.is_none() && length > LONGEST_LINE || !is_ours {
         return Err(io::Error::new(io::ErrorKind::InvalidData, "it is no record: its last line has no end and is no call"));
     }
     Ok(rest.len() as u64)
@@ -193,7 +196,14 @@ mod tests {
     #[test]
     fn torn_lines_are_cut_off() {
         let path = place("record-torn");
-        for (found, left) in [("tick 1\n", "tick 1\n"), ("tick 1\ntick 2", "tick 1\n"), ("restore 52", ""), ("tick 1\npu", "tick 1\n")] {
+        for (found, left) in [
+            ("tick 1\n", "tick 1\n"),
+            ("tick 1\ntick 2", "tick 1\n"),
+            ("restore 52", ""),
+            ("tick 1\npu", "tick 1\n"),
+            ("sou", ""),
+            ("tick 1\nsouth tic", "tick 1\n"),
+        ] {
             fs::write(&path, found).unwrap();
             let (mut record, cut) = Record::open(&path, 0).unwrap();
             assert_eq!(cut as usize, found.len() - left.len());
@@ -201,7 +211,7 @@ mod tests {
             record.flush().unwrap();
             assert_eq!(fs::read_to_string(&path).unwrap(), format!("{}tick 3\n", left));
         }
-        for foreign in ["precious", "tick 1\nprecious", &"start ".repeat(20_000)] {
+        for foreign in ["precious", "tick 1\nprecious", "south precious", &"start ".repeat(20_000)] {
             fs::write(&path, foreign).unwrap();
             assert!(Record::open(&path, 0).is_err());
             assert_eq!(fs::read_to_string(&path).unwrap(), foreign);

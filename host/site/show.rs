@@ -1,9 +1,10 @@
-//! How the site stands: as lines, as JSON, and for Prometheus.
+//! How a site stands: as lines, as JSON, and for Prometheus.
 
 use crate::counted::Counted;
 use crate::host::Host;
 use crate::journal::moment;
 use crate::json::{self, list, or_null, quoted};
+use crate::memory::NAMES;
 use rsmp_site::{AlarmState, Phase, Subscription};
 use rsmp_table::Table;
 use std::fmt::Write;
@@ -45,6 +46,8 @@ pub struct OfStatus {
 }
 
 pub struct Shown {
+    /// Which of two it is.
+    place: Option<&'static str>,
     site: String,
     time: u64,
     up_seconds: u64,
@@ -57,10 +60,17 @@ pub struct Shown {
 }
 
 impl Host {
-    pub fn shown(&mut self) -> Shown {
+    /// All sites, in Prometheus' text form.
+    pub fn metrics(&mut self) -> String {
+        let all: Vec<Shown> = (0..self.sites.len()).map(|site| self.shown(site)).collect();
+        metrics(&all)
+    }
+
+    pub fn shown(&mut self, number: usize) -> Shown {
         let time = self.calls.now();
-        let (site, table) = (&self.calls.site, &self.about.table);
-        let links = (0..self.links.len() as u32).map(|link| self.links[link as usize].shown(site, link)).collect();
+        let (site, of_site) = (self.calls.site(number), &self.sites[number]);
+        let table = &of_site.about.table;
+        let links = of_site.links.iter().enumerate().map(|(number, link)| link.shown(&site, number as u32)).collect();
         let alarm = |(number, row): (usize, &rsmp_table::Alarm)| {
             let (component, code) = (table.components[row.component].clone(), row.code.clone());
             site.alarm_state(number as u32).map(|state| OfAlarm { component, code, state })
@@ -73,15 +83,16 @@ impl Host {
             subscriptions: (0..site.links()).filter_map(|link| Some((link, site.subscription(link, number as u32)?))).collect(),
         };
         Shown {
+            place: Some(NAMES[number]).filter(|_| self.sites.len() > 1),
             site: table.site.clone(),
             time,
-            up_seconds: self.about.began.elapsed().as_secs(),
-            primary: self.about.primary,
+            up_seconds: of_site.about.began.elapsed().as_secs(),
+            primary: of_site.about.primary,
             aggregated: site.aggregated_value(),
             links,
             alarms: table.alarms.iter().enumerate().filter_map(alarm).collect(),
             statuses: table.statuses.iter().enumerate().map(status).collect(),
-            commands: self.commands.counted(),
+            commands: of_site.commands.counted(),
         }
     }
 }
@@ -218,52 +229,67 @@ impl Shown {
         )
     }
 
-    /// In Prometheus' text form.
-    pub fn metrics(&self) -> String {
-        let mut page = Page::default();
-        page.family("info", "gauge", "The version that runs, and its site.");
-        page.value("info", &[("version", crate::VERSION), ("site", &self.site)], 1);
-        page.single("up_seconds", "gauge", "How long the process has run.", self.up_seconds);
-        page.single("aggregated", "gauge", "The eight booleans of the aggregated status, the first being 128.", self.aggregated);
-        let of_links: [(&str, &str, &str, fn(&OfLink) -> u64); 7] = [
-            ("link_up", "gauge", "1 where a link is greeted and reports flow.", |link| u64::from(link.phase == Phase::Up)),
-            ("held", "gauge", "Records that wait for a link's answer.", |link| link.held),
-            ("lost_total", "counter", "Records pushed out of the pool; kept over a restart with --state.", |link| link.lost),
-            ("connections_total", "counter", "Connections since the process began.", |link| link.connections),
-            ("sent_total", "counter", "Messages sent since the process began.", |link| link.sent),
-            ("received_total", "counter", "Messages received since the process began.", |link| link.received),
-            ("unanswered_total", "counter", "Of them those that were not answered.", |link| link.unanswered),
-        ];
-        for (name, kind, help, value) in of_links {
-            page.family(name, kind, help);
-            for (number, link) in self.links.iter().enumerate() {
-                page.value(name, &[("link", &number.to_string()), ("supervisor", &link.address)], value(link));
-            }
-        }
-        let of_alarms: [(&str, &str, fn(&AlarmState) -> bool); 3] = [
-            ("alarm_active", "1 where an alarm is active.", |state| state.active),
-            ("alarm_acknowledged", "1 where it is acknowledged.", |state| state.acknowledged),
-            ("alarm_suspended", "1 where it is suspended.", |state| state.suspended),
-        ];
-        for (name, help, value) in of_alarms {
-            page.family(name, "gauge", help);
-            for OfAlarm { component, code, state } in &self.alarms {
-                page.value(name, &[("component", component), ("code", code)], u8::from(value(state)));
-            }
-        }
-        page.family("status", "gauge", "The last value of a status, where one was set.");
-        for OfStatus { component, code, name, value, .. } in &self.statuses {
-            if let Some(value) = value {
-                page.value("status", &[("component", component), ("code", code), ("name", name)], value);
-            }
-        }
-        if let Some(counted) = &self.commands {
-            for (name, kind, help, value) in counted.each() {
-                page.single(&format!("commands_{}", name), kind, help, value);
-            }
-        }
-        page.text
+    /// A site of two has its place among its labels.
+    fn labelled<'a>(&self, labels: &[(&'a str, &'a str)]) -> Vec<(&'a str, &'a str)> {
+        self.place.map(|place| ("place", place)).into_iter().chain(labels.iter().copied()).collect()
     }
+}
+
+fn metrics(sites: &[Shown]) -> String {
+    let mut page = Page::default();
+    page.family("info", "gauge", "The version that runs, and its site.");
+    for shown in sites {
+        page.value("info", &shown.labelled(&[("version", crate::VERSION), ("site", &shown.site)]), 1);
+    }
+    page.each(sites, "up_seconds", "gauge", "How long the process has run.", |shown| Some(shown.up_seconds));
+    page.each(sites, "aggregated", "gauge", "The eight booleans of the aggregated status, the first being 128.", |shown| {
+        Some(u64::from(shown.aggregated))
+    });
+    let of_links: [(&str, &str, &str, fn(&OfLink) -> u64); 7] = [
+        ("link_up", "gauge", "1 where a link is greeted and reports flow.", |link| u64::from(link.phase == Phase::Up)),
+        ("held", "gauge", "Records that wait for a link's answer.", |link| link.held),
+        ("lost_total", "counter", "Records pushed out of the pool; kept over a restart with --state.", |link| link.lost),
+        ("connections_total", "counter", "Connections since the process began.", |link| link.connections),
+        ("sent_total", "counter", "Messages sent since the process began.", |link| link.sent),
+        ("received_total", "counter", "Messages received since the process began.", |link| link.received),
+        ("unanswered_total", "counter", "Of them those that were not answered.", |link| link.unanswered),
+    ];
+    for (name, kind, help, value) in of_links {
+        page.family(name, kind, help);
+        for shown in sites {
+            for (number, link) in shown.links.iter().enumerate() {
+                page.value(name, &shown.labelled(&[("link", &number.to_string()), ("supervisor", &link.address)]), value(link));
+            }
+        }
+    }
+    let of_alarms: [(&str, &str, fn(&AlarmState) -> bool); 3] = [
+        ("alarm_active", "1 where an alarm is active.", |state| state.active),
+        ("alarm_acknowledged", "1 where it is acknowledged.", |state| state.acknowledged),
+        ("alarm_suspended", "1 where it is suspended.", |state| state.suspended),
+    ];
+    for (name, help, value) in of_alarms {
+        page.family(name, "gauge", help);
+        for shown in sites {
+            for OfAlarm { component, code, state } in &shown.alarms {
+                page.value(name, &shown.labelled(&[("component", component), ("code", code)]), u8::from(value(state)));
+            }
+        }
+    }
+    page.family("status", "gauge", "The last value of a status, where one was set.");
+    for shown in sites {
+        for OfStatus { component, code, name, value, .. } in &shown.statuses {
+            if let Some(value) = value {
+                page.value("status", &shown.labelled(&[("component", component), ("code", code), ("name", name)]), value);
+            }
+        }
+    }
+    let counted = |shown: &Shown| shown.commands.as_ref().map_or(Vec::new(), Counted::each);
+    let names = sites.iter().map(counted).max_by_key(Vec::len).unwrap_or_default();
+    for (name, kind, help, _) in names {
+        let of_site = |shown: &Shown| counted(shown).into_iter().find(|(other, ..)| *other == name).map(|(.., value)| value);
+        page.each(sites, &format!("commands_{}", name), kind, help, of_site);
+    }
+    page.text
 }
 
 /// Prometheus' text form. Names begin with `rsmp_site_`.
@@ -284,8 +310,13 @@ impl Page {
         let _ = writeln!(self.text, "rsmp_site_{}{} {}", name, labels, value);
     }
 
-    fn single(&mut self, name: &str, kind: &str, help: &str, value: impl std::fmt::Display) {
+    /// One value a site.
+    fn each(&mut self, sites: &[Shown], name: &str, kind: &str, help: &str, value: impl Fn(&Shown) -> Option<u64>) {
         self.family(name, kind, help);
-        self.value(name, &[], value);
+        for shown in sites {
+            if let Some(value) = value(shown) {
+                self.value(name, &shown.labelled(&[]), value);
+            }
+        }
     }
 }

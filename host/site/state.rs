@@ -1,11 +1,12 @@
-//! The site's bytes in a file, so that what is held and what is set survive a power loss. The file is replaced as a whole: it has the
+//! The sites' bytes in a file, so that what is held and what is set survive a power loss. The file is replaced as a whole: it has the
 //! former site or the new one, never a part. Where every call is stored, the file has two places that are written in turn. A thread of its own writes it.
 
-use crate::image::{newest, parts, EDITION, NAME};
+use crate::image::{edition_of, newest, parts, NAME, SETUP_BYTES};
+use crate::memory::Memory;
 use crate::slots::Kept;
 use crate::system::lock;
 use crate::wires::Event;
-use rsmp_site::{check_sum, Phase, Site, Start};
+use rsmp_site::{check_sum, Phase, Start};
 use std::fs::{self, File};
 use std::io::{self, Write};
 use std::path::{Path, PathBuf};
@@ -19,14 +20,18 @@ const MOST_ASIDE: u32 = 9;
 const FEEDING: Duration = Duration::from_millis(200);
 
 pub struct Stored {
-    pub site: Site,
+    pub memory: Memory,
     /// No later call was at an earlier time.
     pub time: u64,
 }
 
-/// What a site was started with: one that was started with something else is another site.
-fn setup(table: &[u8], start: &Start) -> [u8; 20] {
-    let mut bytes = [0; 20];
+/// What the sites were started with, one after the other: one that was started with something else is another site.
+pub fn setup(sites: &[(Vec<u8>, Start)]) -> Vec<u8> {
+    sites.iter().flat_map(|(table, start)| setup_of(table, start)).collect()
+}
+
+fn setup_of(table: &[u8], start: &Start) -> [u8; SETUP_BYTES] {
+    let mut bytes = [0; SETUP_BYTES];
     bytes[..4].copy_from_slice(&start.links.to_le_bytes());
     bytes[4..8].copy_from_slice(&start.primary.unwrap_or(u32::MAX).to_le_bytes());
     bytes[8..12].copy_from_slice(&start.period.to_le_bytes());
@@ -34,36 +39,46 @@ fn setup(table: &[u8], start: &Start) -> [u8; 20] {
     bytes
 }
 
-fn written(setup: &[u8; 20], site: &Site, time: u64) -> Vec<u8> {
+fn sites_of(setup: &[u8]) -> usize {
+    setup.len() / SETUP_BYTES
+}
+
+fn written(setup: &[u8], memory: &Memory, time: u64) -> Vec<u8> {
     let mut bytes = NAME.to_vec();
-    bytes.extend_from_slice(&EDITION.to_le_bytes());
+    bytes.extend_from_slice(&edition_of(sites_of(setup)).to_le_bytes());
     bytes.extend_from_slice(setup);
     bytes.extend_from_slice(&time.to_le_bytes());
-    bytes.extend_from_slice(&site.to_stored());
+    bytes.extend_from_slice(&memory.to_stored());
     let sum = check_sum(&bytes);
     bytes.extend_from_slice(&sum.to_le_bytes());
     bytes
 }
 
-/// The site of a file's bytes, or why they are none of ours.
-fn read(setup: &[u8; 20], bytes: &[u8]) -> Result<Stored, String> {
-    let (head, stored) = parts(bytes)?;
-    if head[12..32] != *setup {
-        return Err("it is of another table, or of other links, primary or period".to_string());
+/// The sites of a file's bytes, or why they are none of ours.
+fn read(setup: &[u8], bytes: &[u8]) -> Result<Stored, String> {
+    let (sites, begun, stored) = parts(bytes)?;
+    let (setup_of_it, time) = begun.split_at(sites * SETUP_BYTES);
+    match (sites, sites_of(setup)) {
+        (1, 2) => return Err("it is of one site, where two are started".to_string()),
+        (2, 1) => return Err("it is of two sites, where one is started".to_string()),
+        _ if setup_of_it != setup => return Err("it is of another table, or of other links, primary or period".to_string()),
+        _ => {}
     }
-    let mut time = [0; 8];
-    time.copy_from_slice(&head[32..40]);
-    let time = u64::from_le_bytes(time);
-    let site = Site::from_stored(stored).map_err(|fault| format!("it is {}", fault))?;
-    if site.links().to_le_bytes() != setup[..4] || !goes_on(site.clone(), time) {
+    let time = time.iter().rev().fold(0, |time, byte| time << 8 | u64::from(*byte));
+    let memory = Memory::from_stored(stored, sites).map_err(|fault| format!("it is {}", fault))?;
+    let has_its_links = |(number, setup): (usize, &[u8])| memory.site(number).links().to_le_bytes() == setup[..4];
+    if !setup.chunks(SETUP_BYTES).enumerate().all(has_its_links) || !goes_on(memory.clone(), time) {
         return Err("its site does not go on with its links at its time".to_string());
     }
-    Ok(Stored { site, time })
+    Ok(Stored { memory, time })
 }
 
 /// Whether every link that is not Down can be disconnected, as it is after a restart.
-fn goes_on(mut site: Site, time: u64) -> bool {
-    (0..site.links()).all(|link| site.phase(link) == Phase::Down || site.disconnect(link, time).is_ok())
+fn goes_on(mut memory: Memory, time: u64) -> bool {
+    (0..memory.sites()).all(|number| {
+        let mut site = memory.site_mut(number);
+        (0..site.links()).all(|link| site.phase(link) == Phase::Down || site.disconnect(link, time).is_ok())
+    })
 }
 
 pub enum Found {
@@ -80,11 +95,11 @@ pub enum Look {
     Not(String),
 }
 
-pub fn looked_at(path: &str, table: &[u8], start: &Start) -> Look {
+pub fn looked_at(path: &str, setup: &[u8]) -> Look {
     match fs::read(path) {
         Err(error) if error.kind() == io::ErrorKind::NotFound => Look::Nothing,
         Err(error) => Look::Not(error.to_string()),
-        Ok(bytes) => read(&setup(table, start), &newest(bytes)).map_or_else(Look::Not, Look::Site),
+        Ok(bytes) => read(setup, &newest(bytes)).map_or_else(Look::Not, Look::Site),
     }
 }
 
@@ -126,7 +141,7 @@ fn write_all(mut kept: Kept, shared: &Shared, told: Option<SyncSender<Event>>) {
 
 pub struct Store {
     interval: Duration,
-    setup: [u8; 20],
+    setup: Vec<u8>,
     shared: Shared,
     given: u64,
     settled: u64,
@@ -141,10 +156,9 @@ pub struct Store {
 
 impl Store {
     /// What a file has, and the store that will write it. A file that is not taken is kept aside.
-    pub fn open(path: &str, interval: Duration, table: &[u8], start: &Start, events: SyncSender<Event>) -> Result<(Store, Found), String> {
+    pub fn open(path: &str, interval: Duration, setup: Vec<u8>, events: SyncSender<Event>) -> Result<(Store, Found), String> {
         let path = PathBuf::from(path);
         let lock = alone(&path)?;
-        let setup = setup(table, start);
         let told = |error: io::Error| format!("{}: {}", path.display(), error);
         let found = match fs::read(&path) {
             Err(error) if error.kind() == io::ErrorKind::NotFound => Found::Nothing,
@@ -208,15 +222,15 @@ impl Store {
         self.alarm || self.changed && rested(self.last) || self.input && rested(self.last_input)
     }
 
-    /// Hands the site to the writer and gives its number. The start's own write begins no interval.
-    pub fn give(&mut self, site: &Site, time: u64) -> u64 {
+    /// Hands the sites to the writer and gives their number. The start's own write begins no interval.
+    pub fn give(&mut self, memory: &Memory, time: u64) -> u64 {
         if self.given > 0 {
             self.last = Some(Instant::now());
             self.last_input = self.last.filter(|_| self.input).or(self.last_input);
         }
         self.given += 1;
         (self.changed, self.input, self.alarm) = (false, false, false);
-        locked(&self.shared).next = Some((self.given, written(&self.setup, site, time)));
+        locked(&self.shared).next = Some((self.given, written(&self.setup, memory, time)));
         self.shared.1.notify_all();
         self.given
     }
@@ -302,9 +316,19 @@ fn put_aside(path: &Path) -> io::Result<PathBuf> {
 #[cfg(test)]
 mod tests {
     use super::*;
+    use rsmp_site::Site;
 
     const TABLE: &[u8] = include_bytes!("../../examples/barrier.bits");
+    const OTHER: &[u8] = include_bytes!("../../examples/commands.bits");
     const START: Start = Start { links: 2, primary: Some(0), period: 60, first: 0, time: 1_254_398_371_571 };
+
+    fn setup_with(table: &[u8], start: Start) -> Vec<u8> {
+        setup(&[(table.to_vec(), start)])
+    }
+
+    fn one(site: Site) -> Memory {
+        Memory::One(Box::new(site))
+    }
 
     fn site() -> Site {
         let mut site = Site::start(TABLE, &START).unwrap();
@@ -312,20 +336,54 @@ mod tests {
         site
     }
 
+    const SOUTH: Start = Start { links: 1, period: 9, ..START };
+
+    /// Two sites, and what they were started with.
+    fn two() -> (Vec<u8>, Memory) {
+        let mut memory = Memory::of(2);
+        for (number, (table, start)) in [(TABLE, START), (OTHER, SOUTH)].into_iter().enumerate() {
+            memory.site_mut(number).begin(table, &start).unwrap();
+            memory.site_mut(number).alarm(2, true, START.time + 1).unwrap();
+        }
+        memory.site_mut(1).connect(0, START.time + 9).unwrap();
+        (setup(&[(TABLE.to_vec(), START), (OTHER.to_vec(), SOUTH)]), memory)
+    }
+
     #[test]
     fn bytes_and_back() {
-        let (setup, site) = (setup(TABLE, &START), site());
-        let bytes = written(&setup, &site, START.time + 77);
+        let (setup, memory) = (setup_with(TABLE, START), one(site()));
+        let bytes = written(&setup, &memory, START.time + 77);
         let stored = read(&setup, &bytes).unwrap_or_else(|why| panic!("{}", why));
         assert_eq!(stored.time, START.time + 77);
-        assert!(stored.site == site);
-        assert_eq!((stored.site.links(), stored.site.held(0)), (2, 1));
+        assert!(stored.memory == memory);
+        assert_eq!((stored.memory.site(0).links(), stored.memory.site(0).held(0)), (2, 1));
+    }
+
+    #[test]
+    fn two_sites() {
+        let (both, memory) = two();
+        let good = written(&both, &memory, START.time + 9);
+        let stored = read(&both, &good).unwrap_or_else(|why| panic!("{}", why));
+        assert!(stored.memory == memory);
+        assert_eq!([0, 1].map(|number| (memory.site(number).links(), memory.site(number).held(0))), [(2, 1), (1, 1)]);
+        let why = |setup: &[u8], bytes: &[u8]| read(setup, bytes).err().unwrap_or_default();
+        let alone = setup_with(TABLE, START);
+        assert!(why(&alone, &good).contains("of two sites, where one is started"));
+        assert!(why(&both, &written(&alone, &one(site()), START.time)).contains("of one site, where two are started"));
+        let swapped = setup(&[(OTHER.to_vec(), SOUTH), (TABLE.to_vec(), START)]);
+        assert!(why(&swapped, &good).contains("another table"));
+        assert!(why(&both, &written(&both, &memory, START.time + 8)).contains("does not go on"));
+        for at in (0..good.len()).step_by(97) {
+            let mut bytes = good.clone();
+            bytes[at] ^= 1;
+            assert!(!why(&both, &bytes).is_empty(), "byte {}", at);
+        }
     }
 
     #[test]
     fn other_bytes_are_refused() {
-        let (setup_, site) = (setup(TABLE, &START), site());
-        let good = written(&setup_, &site, 77);
+        let (setup_, memory) = (setup_with(TABLE, START), one(site()));
+        let good = written(&setup_, &memory, 77);
         let why = |bytes: &[u8]| read(&setup_, bytes).err().unwrap_or_default();
         for at in (0..good.len()).step_by(97).chain([0, 8, 12, 32, 40, good.len() - 1]) {
             let mut bytes = good.clone();
@@ -341,24 +399,25 @@ mod tests {
         let mut table = TABLE.to_vec();
         table[9] ^= 1;
         for other in [
-            setup(&table, &START),
-            setup(TABLE, &Start { links: 3, ..START }),
-            setup(TABLE, &Start { primary: None, ..START }),
-            setup(TABLE, &Start { period: 61, ..START }),
+            setup_with(&table, START),
+            setup_with(TABLE, Start { links: 3, ..START }),
+            setup_with(TABLE, Start { primary: None, ..START }),
+            setup_with(TABLE, Start { period: 61, ..START }),
         ] {
             assert!(read(&other, &good).err().unwrap().contains("another table"));
         }
         let first = Start { first: 9, time: 0, ..START };
-        assert!(read(&setup(TABLE, &first), &good).is_ok());
+        assert!(read(&setup_with(TABLE, first), &good).is_ok());
     }
 
     const DOES_NOT_GO_ON: Option<&str> = Some("its site does not go on with its links at its time");
 
     #[test]
     fn a_site_of_a_later_time_is_refused() {
-        let (setup, mut site) = (setup(TABLE, &START), site());
+        let (setup, mut site) = (setup_with(TABLE, START), site());
         site.connect(1, START.time + 9).unwrap();
-        let why = |time: u64| read(&setup, &written(&setup, &site, time)).err();
+        let memory = one(site);
+        let why = |time: u64| read(&setup, &written(&setup, &memory, time)).err();
         assert_eq!(why(START.time + 9), None);
         assert_eq!(why(START.time + 8).as_deref(), DOES_NOT_GO_ON);
         assert_eq!(why(u64::MAX).as_deref(), DOES_NOT_GO_ON);
@@ -366,9 +425,9 @@ mod tests {
 
     #[test]
     fn a_site_of_other_links_is_refused() {
-        let setup = setup(TABLE, &START);
-        let why = |site: &Site| read(&setup, &written(&setup, site, START.time)).err();
+        let setup = setup_with(TABLE, START);
+        let why = |site: Site| read(&setup, &written(&setup, &one(site), START.time)).err();
         let other = Site::start(TABLE, &Start { links: 3, ..START }).unwrap();
-        assert_eq!((why(&other).as_deref(), why(&Site::NONE).as_deref()), (DOES_NOT_GO_ON, DOES_NOT_GO_ON));
+        assert_eq!((why(other).as_deref(), why(Site::NONE).as_deref()), (DOES_NOT_GO_ON, DOES_NOT_GO_ON));
     }
 }

@@ -14,8 +14,13 @@ _rsmp_files() {
 }
 
 _rsmp_order() {  # the words of the order so far
+    local orders="alarm status aggregated counts links records commands show save help quit"
     case ${1-} in
-    "") _rsmp_words alarm status aggregated counts links records commands show save help quit ;;
+    "") _rsmp_words $orders north south; return ;;
+    north | south) shift ;;
+    esac
+    case ${1-} in
+    "") _rsmp_words $orders ;;
     alarm) [ $# = 1 ] || _rsmp_words on off ;;
     show) [ $# != 1 ] || _rsmp_words --json ;;
     esac
@@ -36,7 +41,7 @@ _rsmp_site() {
     --log-format) _rsmp_words text json ;;
     --primary) _rsmp_words none 0 1 2 3 ;;
     --control-group) COMPREPLY=($(compgen -g -- "$cur")) ;;
-    --[a-z]*) case $before in --quiet | --check-config) _rsmp_words $(_rsmp_options "$1") ;; esac ;;
+    --[a-z]*) case $before in --quiet | --check-config | --beside) _rsmp_words $(_rsmp_options "$1") ;; esac ;;
     *) _rsmp_words $(_rsmp_options "$1") ;;
     esac
 }

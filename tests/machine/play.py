@@ -9,24 +9,35 @@ from .translate import Translation, files_of
 
 SPECS = ROOT / "crates" / "machine" / "specs"
 QUALITY = {"Recent": "recent", "Old": "old", "Unknown": "unknown", "Undefined": "undefined"}
+SITES = {"north": 0, "south": 1}
 KIND = {"Response": "StatusResponse", "Update": "StatusUpdate", "Command": "CommandResponse"}
 
 
 def played(lines, specs=SPECS):
     machine = Translation(files_of(specs))
-    state = None
+    started, site_of, site_is, empty = (machine["Box", name] for name in ("started", "siteOf", "siteIs", "emptyBox"))
+    box = empty()
     for line in lines:
-        name, *words = line.split()
+        named, (name, *words) = named_site(line.split())
+        number = SITES.get(named, 0)
+        site = site_of(number, box)
         if name == "start":
-            made = started(machine, unhexed(words[0]), *words[1:])
-            state = made or state
-            yield "0 0 - -" if made else "11"
+            made = begun(machine, number, unhexed(words[0]), *words[1:])
+            if made != NONE:
+                box = started(number, made, box if named else empty())
+            yield "11" if made == NONE else "0 0 - -"
         elif name in ("counts", "readings"):
-            readings = [machine["Readings", "reading"](state, link) for link in range(state["setup"]["links"])]
+            readings = [machine["Readings", "reading"](site[1], link) for link in range(site[1]["setup"]["links"])]
             yield " ".join(map(counted if name == "counts" else read, readings))
         else:
-            outcome, state = machine["Step", "step"](state, call(name, words))
+            outcome, after = machine["Step", "step"](site[1], call(name, words))
+            box = site_is(number, after, box)
             yield shown(outcome)
+
+
+def named_site(words):
+    """The name that a line begins with, or None, and its other words."""
+    return (words[0], words[1:]) if words[0] in SITES else (None, words)
 
 
 # What is given.
@@ -43,13 +54,13 @@ def whole(value):
     return ("pos", value) if value >= 0 else ("negsuc", -1 - value)
 
 
-def started(machine, data, links, primary, period, first, time):
-    given = dict(site=0, table=tuple(data), links=int(links), primary=option(primary), period=int(period), first=int(first), time=int(time))
+def begun(machine, site, data, links, primary, period, first, time):
+    given = dict(site=site, table=tuple(data), links=int(links), primary=option(primary), period=int(period), first=int(first), time=int(time))
     try:
         rows = table.read(data)
     except table.Refused:
-        return None
-    return machine["Table", "first"](table_of(rows), given) if machine["Table", "goodStart"](given) else None
+        return NONE
+    return ("some", machine["Table", "first"](table_of(rows), given)) if machine["Table", "goodStart"](given) else NONE
 
 
 def table_of(rows):

@@ -1,43 +1,48 @@
-"""Document 01, "The pool"."""
+"""Document 01, "The pool", with the eight owners of document 02, request 10: a link of a site is one of them."""
 
-PLACES, MOST, SHARE = 128, 64, 16
+PLACES, MOST, SHARE, OWNERS = 128, 64, 16, 8
 
 
 class Record:
-    def __init__(self, link, kind, item, flags, time, value, sequence):
-        self.link, self.kind, self.item, self.flags = link, kind, item, flags
+    def __init__(self, owner, kind, item, flags, time, value, sequence):
+        self.owner, self.kind, self.item, self.flags = owner, kind, item, flags
         self.time, self.value, self.sequence = time, value, sequence
         self.sent = False
 
     def packed(self):
         whole = 0
-        for width, field in ((3, self.link), (2, self.kind), (6, self.item), (6, self.flags), (48, self.time), (32, self.value),
+        for width, field in ((3, self.owner), (2, self.kind), (6, self.item), (6, self.flags), (48, self.time), (32, self.value),
                              (31, self.sequence)):
             whole = whole << width | field
         return whole.to_bytes(16, "big")
 
 
 class Pool:
-    def __init__(self, links=4):
+    def __init__(self):
         self.records = []
-        self.lost = [0] * links
+        self.lost = [0] * OWNERS
 
-    def of(self, link):
-        """The records held for a link, oldest first."""
-        return sorted((r for r in self.records if r.link == link), key=lambda r: r.sequence)
+    def clear(self, owner):
+        """The owner begins anew."""
+        self.records = [r for r in self.records if r.owner != owner]
+        self.lost[owner] = 0
 
-    def held(self, link):
-        return len(self.of(link))
+    def of(self, owner):
+        """The records held for an owner, oldest first."""
+        return sorted((r for r in self.records if r.owner == owner), key=lambda r: r.sequence)
+
+    def held(self, owner):
+        return len(self.of(owner))
 
     def lose(self, record):
         self.records.remove(record)
-        self.lost[record.link] += 1
+        self.lost[record.owner] += 1
 
     def fullest(self):
-        return max(range(len(self.lost)), key=lambda link: (self.held(link), -link))
+        return max(range(OWNERS), key=lambda owner: (self.held(owner), -owner))
 
     def issue(self, record):
-        own = self.of(record.link)
+        own = self.of(record.owner)
         if len(own) == MOST:
             self.lose(own[0])
         elif len(self.records) < PLACES:
@@ -48,25 +53,25 @@ class Pool:
             self.lose(own[0])
         self.records.append(record)
 
-    def oldest_unsent(self, link):
-        return next((r for r in self.of(link) if not r.sent), None)
+    def oldest_unsent(self, owner):
+        return next((r for r in self.of(owner) if not r.sent), None)
 
-    def newest_of_alarm(self, link, item):
-        return next((r for r in reversed(self.of(link)) if r.kind == 0 and r.item == item), None)
+    def newest_of_alarm(self, owner, item):
+        return next((r for r in reversed(self.of(owner)) if r.kind == 0 and r.item == item), None)
 
-    def find(self, link, sequence):
-        return next((r for r in self.of(link) if r.sequence == sequence), None)
+    def find(self, owner, sequence):
+        return next((r for r in self.of(owner) if r.sequence == sequence), None)
 
-    def mark(self, link, sequence):
-        record = self.find(link, sequence)
+    def mark(self, owner, sequence):
+        record = self.find(owner, sequence)
         if record:
             record.sent = True
 
-    def unmark(self, link):
-        for record in self.of(link):
+    def unmark(self, owner):
+        for record in self.of(owner):
             record.sent = False
 
-    def settle(self, link, sequence):
-        record = self.find(link, sequence)
+    def settle(self, owner, sequence):
+        record = self.find(owner, sequence)
         if record:
             self.records.remove(record)

@@ -1,5 +1,5 @@
 """Document 01 whole, with the commands of request 01: the nine calls of a site. A call answers its number, and where it is done also the
-closed links, the hint, the written bytes and the commands that it hands over."""
+closed links, the hint, the written bytes and the commands that it hands over. Two sites share a box (document 02, request 10)."""
 import uuid
 
 from . import link as links_
@@ -8,7 +8,7 @@ from .alarm import Aggregated, Alarm, Status, Subscription
 from .link import Link
 from .pool import Pool, Record
 
-OUTPUT, PACKET, LAST, LAST_SEQUENCE = 4096, 4096, message.LAST, 2147483647
+LINKS, OUTPUT, PACKET, LAST, LAST_SEQUENCE = 4, 4096, 4096, message.LAST, 2147483647
 FORM_FEED = b"\x0c"
 
 
@@ -25,28 +25,53 @@ class Done:
         self.commands = list(commands)     # (number, value)
 
 
-def start(data, links, primary, period, first, time):
-    """A new site, or None where number 11 is given."""
-    try:
-        read = table.read(data)
-    except table.Refused:
-        return None
-    if not 1 <= links <= 4 or primary is not None and not 0 <= primary < links:
-        return None
-    if not 1 <= period <= 3600 or not 0 <= first <= LAST_SEQUENCE or not 0 <= time <= LAST:
-        return None
-    return Site(read, links, primary, period, first, time)
+class Box:
+    """Two sites, 0 north and 1 south, each None before its start, and the pool that they share."""
+
+    def __init__(self):
+        self.pool, self.sites = Pool(), [None, None]
+
+    def start(self, site, data, links, primary, period, first, time):
+        """Makes the site; not where number 11 is given. Site None is alone: site 0, and whatever the box held before is gone."""
+        try:
+            read = table.read(data)
+        except table.Refused:
+            return False
+        if not 1 <= links <= LINKS or primary is not None and not 0 <= primary < links:
+            return False
+        if not 1 <= period <= 3600 or not 0 <= first <= LAST_SEQUENCE or not 0 <= time <= LAST or site not in (None, 0, 1):
+            return False
+        if site is None:
+            self.__init__()
+        number = site or 0
+        for link in range(LINKS):
+            self.pool.clear(LINKS * number + link)
+        self.sites[number] = Site(self.pool, number, read, links, primary, period, first, time)
+        return True
 
 
 class Site:
-    def __init__(self, table_, links, primary, period, first, time):
+    def __init__(self, pool, number, table_, links, primary, period, first, time):
+        self.pool, self.number = pool, number
         self.table, self.primary, self.period, self.next, self.last = table_, primary, period, first, time
         self.links = [Link() for _ in range(links)]
-        self.pool = Pool(links)
         self.alarms = [Alarm(time) for _ in table_.alarms]
         self.statuses = [Status() for _ in table_.statuses]
         self.subscriptions = [{} for _ in range(links)]
         self.aggregated = Aggregated(time)
+
+    def owner(self, link):
+        return LINKS * self.number + link
+
+    def held(self, link):
+        return self.pool.held(self.owner(link))
+
+    def lost(self, link):
+        return self.pool.lost[self.owner(link)]
+
+    def records(self, link):
+        """Held for the link, oldest first."""
+        return self.pool.of(self.owner(link))
 
     # The checks, in document 01's order: 2, 3, 4, 12, 5, 6, 1, 7, 8, 9, 10.
 
@@ -83,7 +108,7 @@ class Site:
     # What calls share.
 
     def issue(self, link, kind, item, flags, time, value):
-        self.pool.issue(Record(link, kind, item, flags, time, value, self.next))
+        self.pool.issue(Record(self.owner(link), kind, item, flags, time, value, self.next))
         self.next += 1
 
     def issue_alarm(self, number):
@@ -97,7 +122,7 @@ class Site:
 
     def close(self, link):
         self.links[link].close()
-        self.pool.unmark(link)
+        self.pool.unmark(self.owner(link))
 
     def identity(self, random):
         return str(uuid.UUID(bytes=random, version=4))
@@ -204,7 +229,7 @@ class Site:
         self.judge_time(time)
         self.judge_phase(link, False)
         one, primary = self.links[link], link == self.primary
-        record = self.pool.oldest_unsent(link)
+        record = self.pool.oldest_unsent(self.owner(link))
         due = one.due(time, self.period * 1000, primary, len(self.table.alarms), record is not None)
         if due is None:
             raise Refused(7)
@@ -226,7 +251,7 @@ class Site:
             number = due[1]
             text = self.alarm_now(identity, number)
             one.next_alarm = number + 1
-            newest, alarm = self.pool.newest_of_alarm(link, number), self.alarms[number]
+            newest, alarm = self.pool.newest_of_alarm(self.owner(link), number), self.alarms[number]
             record = newest if newest and (newest.flags, newest.time) == (alarm.flags(), alarm.time) else None
         else:
             text = self.record_text(identity, record)
@@ -269,9 +294,9 @@ class Site:
         self.last = time
         purpose, sequence, closes = one.answered(awaited, fields["type"] == "MessageAck")
         if purpose == links_.RECORD:
-            self.pool.settle(link, sequence)
+            self.pool.settle(self.owner(link), sequence)
         if closes:
-            self.pool.unmark(link)
+            self.pool.unmark(self.owner(link))
         return Done(closed=[link] if closes else [])
 
     def request(self, link, time, random, received, fields):

@@ -10,24 +10,24 @@ use Rattle.pool_laws.specs.Upwards.{entriesTo}
 use Rattle.pool_laws.proofs.Entries.{none-to}
 use Rattle.table_whole.specs.declared.SiteTable.{SiteTable}
 use Rattle.site.specs.declared.Site.{Site}
-use Rattle.site.specs.Site.{linkAt}
+use Rattle.site.specs.Site.{linkAt, ownerOf}
 use Rattle.site.specs.Parts.{subscriptionAt}
 use Rattle.site.specs.Records.{statusRecord}
 use Rattle.store_site.specs.Layout.{siteOf}
-use Rattle.store_site.specs.Turns.{Turns}
-use Rattle.store_site.proofs.TurnsLaws.{turns-as}
+use Rattle.store_site.specs.Turns.{Moves}
+use Rattle.store_site.proofs.TurnsLaws.{moves-as}
 use Rattle.store_call.specs.Issued.{issuedIn}
 use Rattle.store_call.proofs.IssuedLaws.{issued-none, places-none, places-next, count-if, count-one}
 use Rattle.call_input.specs.Inputs.{statusEntry, aggregatedEntry}
 
 -- of the links below l
-pub record Issued (f : Site → ℕ → List Entry) (l : ℕ) (ws vs : List ℕ) : Type 0 where
-  pub turns : Turns (λ (s : Site). issuedIn s (entriesTo (f s) l)) ws vs
+pub record Issued (f : Site → ℕ → List Entry) (l : ℕ) (ps qs ws vs : List ℕ) : Type 0 where
+  pub moves : Moves (λ (s : Site). issuedIn s (entriesTo (f s) l)) ps qs ws vs
 
 -- of all that are configured
-pub issued-all : {f : Site → ℕ → List Entry} {l : ℕ} {ws vs : List ℕ} → ((t : SiteTable) → l ≡ siteOf ws t .linkcount) → Issued f l ws vs
-    → Turns (λ (s : Site). issuedIn s (entriesTo (f s) (s .linkcount))) ws vs
-issued-all {f} {l} {ws} e a = turns-as (a .turns) (λ t. ap (λ (n : ℕ). issuedIn (siteOf ws t) (entriesTo (f (siteOf ws t)) n)) (e t))
+pub issued-all : {f : Site → ℕ → List Entry} {l : ℕ} {ps qs ws vs : List ℕ} → ((t : SiteTable) → l ≡ siteOf ps ws t .linkcount) → Issued f l ps qs ws vs
+    → Moves (λ (s : Site). issuedIn s (entriesTo (f s) (s .linkcount))) ps qs ws vs
+issued-all {f} {l} {ps} {ws = ws} e a = moves-as (a .moves) (λ t. ap (λ (n : ℕ). issuedIn (siteOf ps ws t) (entriesTo (f (siteOf ps ws t)) n)) (e t))
 
 module _ (k : ℕ) (x : StatusSet) (time : ℕ) where
   -- link l's record, or none
@@ -35,7 +35,7 @@ module _ (k : ℕ) (x : StatusSet) (time : ℕ) where
   entryOf s l = statusEntry s k x time l
 
   module _ (s : Site) (l : ℕ) where
-    pub status-issues : issuesOn (subscriptionAt s (l * 32 + k)) (x .changed) ≡ true → issuedIn s (statusRecord (linkAt s l) (x .status) l k time ∷ []) ≡ issuedIn s (entryOf s l)
+    pub status-issues : issuesOn (subscriptionAt s (l * 32 + k)) (x .changed) ≡ true → issuedIn s (statusRecord (linkAt s l) (x .status) (ownerOf s l) k time ∷ []) ≡ issuedIn s (entryOf s l)
     status-issues h = rw h refl
 
     pub status-silent : issuesOn (subscriptionAt s (l * 32 + k)) (x .changed) ≡ false → s ≡ issuedIn s (entryOf s l)
@@ -45,40 +45,45 @@ module _ (k : ℕ) (x : StatusSet) (time : ℕ) where
         → m ≡ length (entriesTo (entryOf s) (l + 1))
     count-status p q =
         let b = issuesOn (subscriptionAt s (l * 32 + k)) (x .changed) in
-        count-one (entryOf s) l b p (count-if b (statusRecord (linkAt s l) (x .status) l k time)) q
+        count-one (entryOf s) l b p (count-if b (statusRecord (linkAt s l) (x .status) (ownerOf s l) k time)) q
 
   steady : (s : Site) (es : List Entry) (l : ℕ) → entryOf (issuedIn s es) l ≡ entryOf s l
   unfolding issuedIn
   steady s es l = refl
 
-  pub statuses-none : (ws : List ℕ) → Issued entryOf 0 ws ws
-  statuses-none ws = record { turns = places-none entryOf steady ws }
+  pub statuses-none : (ps ws : List ℕ) → Issued entryOf 0 ps ps ws ws
+  statuses-none ps ws = record { moves = places-none entryOf steady ps ws }
 
-  pub statuses-next : (l : ℕ) {ws us vs : List ℕ} → Issued entryOf l ws us → Turns (λ (s : Site). issuedIn s (entryOf s l)) us vs → Issued entryOf (l + 1) ws vs
-  statuses-next l a b = record { turns = places-next entryOf steady l (a .turns) b }
+  pub statuses-next : (l : ℕ) {ps os qs ws us vs : List ℕ} → Issued entryOf l ps os ws us → Moves (λ (s : Site). issuedIn s (entryOf s l)) os qs us vs → Issued entryOf (l + 1) ps qs ws vs
+  statuses-next l a b = record { moves = places-next entryOf steady l (a .moves) b }
 
 module _ (x : AggregatedSet) where
   abbrev pub each : Site → ℕ → List Entry
-  each s l = aggregatedEntry x l
+  each s l = aggregatedEntry s x l
 
   module _ (s : Site) (l : ℕ) where
-    pub aggregated-issues : x .changed ≡ true → issuedIn s (aggregatedRecord (x .aggregated) l ∷ []) ≡ issuedIn s (each s l)
+    pub aggregated-issues : x .changed ≡ true → issuedIn s (aggregatedRecord (x .aggregated) (ownerOf s l) ∷ []) ≡ issuedIn s (each s l)
     aggregated-issues h = rw h refl
 
     pub aggregated-silent : x .changed ≡ false → s ≡ issuedIn s (each s l)
     aggregated-silent h = rw h (sym (issued-none s))
 
-  pub aggregated-none : (ws : List ℕ) → Issued each 0 ws ws
-  aggregated-none ws = record { turns = places-none each (λ s es l. refl) ws }
+  same : (s : Site) (es : List Entry) (l : ℕ) → each (issuedIn s es) l ≡ each s l
+  unfolding issuedIn
+  same s es l = refl
 
-  pub aggregated-next : (l : ℕ) {ws us vs : List ℕ} → Issued each l ws us → Turns (λ (s : Site). issuedIn s (each s l)) us vs → Issued each (l + 1) ws vs
-  aggregated-next l a b = record { turns = places-next each (λ s es l. refl) l (a .turns) b }
+  pub aggregated-none : (ps ws : List ℕ) → Issued each 0 ps ps ws ws
+  aggregated-none ps ws = record { moves = places-none each same ps ws }
 
-  pub one-each : x .changed ≡ true → (n : ℕ) → n ≡ length (entriesTo (aggregatedEntry x) n)
-  one-each h zero = refl
-  one-each h (suc n) =
-      let one : length (aggregatedEntry x n) ≡ 1 = rw h refl in
-      omega (arith, one-each h n, one, length-append (entriesTo (aggregatedEntry x) n) (aggregatedEntry x n))
+  pub aggregated-next : (l : ℕ) {ps os qs ws us vs : List ℕ} → Issued each l ps os ws us → Moves (λ (s : Site). issuedIn s (each s l)) os qs us vs → Issued each (l + 1) ps qs ws vs
+  aggregated-next l a b = record { moves = places-next each same l (a .moves) b }
 
-  pub none-at-all : x .changed ≡ false → (n : ℕ) → 0 ≡ length (entriesTo (aggregatedEntry x) n)
-  none-at-all h n = sym (ap length (none-to (aggregatedEntry x) n (λ i g. rw h refl)))
+  module _ (s : Site) where
+    pub one-each : x .changed ≡ true → (n : ℕ) → n ≡ length (entriesTo (each s) n)
+    one-each h zero = refl
+    one-each h (suc n) =
+        let one : length (each s n) ≡ 1 = rw h refl in
+        omega (arith, one-each h n, one, length-append (entriesTo (each s) n) (each s n))
+
+    pub none-at-all : x .changed ≡ false → (n : ℕ) → 0 ≡ length (entriesTo (each s) n)
+    none-at-all h n = sym (ap length (none-to (each s) n (λ i g. rw h refl)))

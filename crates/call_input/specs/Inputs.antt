@@ -22,7 +22,7 @@ use Rattle.aggregated.specs.Issued.{issuedOf as aggregatedRecord}
 use Rattle.pool_laws.specs.Upwards.{entriesTo, entryIf}
 use Rattle.site.specs.declared.Site.{Site}
 use Rattle.site.specs.declared.Step.{Step}
-use Rattle.site.specs.Site.{badTimeAt, linkAt, withAggregated, hasPrimary}
+use Rattle.site.specs.Site.{badTimeAt, linkAt, withAggregated, hasPrimary, ownerOf}
 use Rattle.site.specs.Parts.{alarmAt, withAlarm, statusAt, withStatus, subscriptionAt}
 use Rattle.site.specs.Records.{statusRecord}
 use Rattle.site.specs.Call.{Plan, issues, batchOf, never, when, reportOf, concluded, stepOf}
@@ -37,7 +37,7 @@ planned s time p = concluded s (p .site) (batchOf p) time (reportOf p 0)
 
 -- an event's record, where it makes one: alarm records are issued for the primary alone
 abbrev pub alarmEntries : Site → ℕ → Changed → List Entry
-alarmEntries s k c = entryIf (both (c .records) (hasPrimary s)) (alarmRecord (c .alarm) (s .primary) k)
+alarmEntries s k c = entryIf (both (c .records) (hasPrimary s)) (alarmRecord (c .alarm) (ownerOf s (s .primary)) k)
 
 abbrev pub alarmChange : Site → ℕ → Bool → ℕ → Changed
 alarmChange s k active time = inputOf (alarmAt s k) active time
@@ -54,7 +54,7 @@ alarmStep s k active time = stepOf s time (alarmRefuses s k time) (alarmPlan s k
 
 -- link l's record of status k, where its subscription issues one
 abbrev pub statusEntry : Site → ℕ → StatusSet → ℕ → ℕ → List Entry
-statusEntry s k x time l = entryIf (issuesOn (subscriptionAt s (l * 32 + k)) (x .changed)) (statusRecord (linkAt s l) (x .status) l k time)
+statusEntry s k x time l = entryIf (issuesOn (subscriptionAt s (l * 32 + k)) (x .changed)) (statusRecord (linkAt s l) (x .status) (ownerOf s l) k time)
 
 abbrev pub statusEntries : Site → ℕ → StatusSet → ℕ → List Entry
 statusEntries s k x time = entriesTo (statusEntry s k x time) (s .linkcount)
@@ -73,11 +73,11 @@ abbrev pub statusStep : Site → ℕ → ℤ → ℕ → Step
 statusStep s k value time = stepOf s time (statusRefuses s k time) (statusPlan s k value time) 0
 
 -- a changed aggregated value issues a record for every link
-abbrev pub aggregatedEntry : AggregatedSet → ℕ → List Entry
-aggregatedEntry x l = entryIf (x .changed) (aggregatedRecord (x .aggregated) l)
+abbrev pub aggregatedEntry : Site → AggregatedSet → ℕ → List Entry
+aggregatedEntry s x l = entryIf (x .changed) (aggregatedRecord (x .aggregated) (ownerOf s l))
 
 abbrev pub aggregatedEntries : Site → AggregatedSet → List Entry
-aggregatedEntries s x = entriesTo (aggregatedEntry x) (s .linkcount)
+aggregatedEntries s x = entriesTo (aggregatedEntry s x) (s .linkcount)
 
 abbrev pub aggregatedChange : Site → ℕ → ℕ → AggregatedSet
 aggregatedChange s value time = aggregatedSet (s .aggregated) value time

@@ -3,7 +3,7 @@ ghost use mathlib.Core.Path.{_≡_};
 ghost use lib.ListN.{length};
 ghost use Rattle.table_whole.specs.declared.SiteTable.{SiteTable};
 ghost use Rattle.store_table.specs.Layout.{tableOf, tableBytes};
-ghost use Rattle.store_site.specs.Layout.{siteOf, siteWords};
+ghost use Rattle.store_site.specs.Layout.{siteOf, poolWords, siteWords};
 ghost use Rattle.store_call.specs.Called.{StepsIn};
 ghost use Rattle.call_input.specs.Inputs.{alarmStep, statusStep, aggregatedStep};
 use answer::Answer;
@@ -13,9 +13,9 @@ mod doing; // doing.rt: what an input does where nothing refuses it but its reco
 mod records; // records.rt: the records that a value issues
 
 // An alarm is active or not.
-pub fn alarm(w: &mut [u64], t: &[u8], number: u32, active: bool, time: u64) -> Answer
-    requires { ⌜ (length (now w) ≡ siteWords) × (length (now t) ≡ tableBytes) ⌝ }
-    ensures { λ r. ⌜ StepsIn (tableOf (now (t .entry))) (alarmStep (siteOf (now (w .entry)) (tableOf (now (t .entry)))) number active time) (now (w .entry)) (now (w .exit)) r ⌝ }
+pub fn alarm(p: &mut [u64], w: &mut [u64], t: &[u8], number: u32, active: bool, time: u64) -> Answer
+    requires { ⌜ (length (now p) ≡ poolWords) × ((length (now w) ≡ siteWords) × (length (now t) ≡ tableBytes)) ⌝ }
+    ensures { λ r. ⌜ StepsIn (tableOf (now (t .entry))) (alarmStep (siteOf (now (p .entry)) (now (w .entry)) (tableOf (now (t .entry)))) number active time) (now (p .entry)) (now (p .exit)) (now (w .entry)) (now (w .exit)) r ⌝ }
 {
     if (store_table::alarm_count(t) as u32) <= number {
         return Answer::Refused(Refusal::NoSuchItem);
@@ -23,13 +23,13 @@ pub fn alarm(w: &mut [u64], t: &[u8], number: u32, active: bool, time: u64) -> A
     if store_site::head::bad_time(w, time) {
         return Answer::Refused(Refusal::BadTime);
     }
-    doing::alarm(w, number as u16, active, time)
+    doing::alarm(p, w, number as u16, active, time)
 }
 
 // A status has a value.
-pub fn status(w: &mut [u64], t: &[u8], number: u32, value: i32, time: u64) -> Answer
-    requires { ⌜ (length (now w) ≡ siteWords) × (length (now t) ≡ tableBytes) ⌝ }
-    ensures { λ r. ⌜ StepsIn (tableOf (now (t .entry))) (statusStep (siteOf (now (w .entry)) (tableOf (now (t .entry)))) number value time) (now (w .entry)) (now (w .exit)) r ⌝ }
+pub fn status(p: &mut [u64], w: &mut [u64], t: &[u8], number: u32, value: i32, time: u64) -> Answer
+    requires { ⌜ (length (now p) ≡ poolWords) × ((length (now w) ≡ siteWords) × (length (now t) ≡ tableBytes)) ⌝ }
+    ensures { λ r. ⌜ StepsIn (tableOf (now (t .entry))) (statusStep (siteOf (now (p .entry)) (now (w .entry)) (tableOf (now (t .entry)))) number value time) (now (p .entry)) (now (p .exit)) (now (w .entry)) (now (w .exit)) r ⌝ }
 {
     if (store_table::status_count(t) as u32) <= number {
         return Answer::Refused(Refusal::NoSuchItem);
@@ -37,16 +37,16 @@ pub fn status(w: &mut [u64], t: &[u8], number: u32, value: i32, time: u64) -> An
     if store_site::head::bad_time(w, time) {
         return Answer::Refused(Refusal::BadTime);
     }
-    doing::status(w, number as u16, value, time)
+    doing::status(p, w, number as u16, value, time)
 }
 
 // The aggregated status is these eight booleans, the first highest.
-pub fn aggregated(w: &mut [u64], value: u8, time: u64) -> Answer
-    requires { ⌜ length (now w) ≡ siteWords ⌝ }
-    ensures { λ r. ⌜ ((t : SiteTable) → StepsIn t (aggregatedStep (siteOf (now (w .entry)) t) value time) (now (w .entry)) (now (w .exit)) r) ⌝ }
+pub fn aggregated(p: &mut [u64], w: &mut [u64], value: u8, time: u64) -> Answer
+    requires { ⌜ (length (now p) ≡ poolWords) × (length (now w) ≡ siteWords) ⌝ }
+    ensures { λ r. ⌜ ((t : SiteTable) → StepsIn t (aggregatedStep (siteOf (now (p .entry)) (now (w .entry)) t) value time) (now (p .entry)) (now (p .exit)) (now (w .entry)) (now (w .exit)) r) ⌝ }
 {
     if store_site::head::bad_time(w, time) {
         return Answer::Refused(Refusal::BadTime);
     }
-    doing::aggregated(w, value, time)
+    doing::aggregated(p, w, value, time)
 }

@@ -11,7 +11,9 @@ use Rattle.alarm.specs.declared.Order.the-variants.{Acknowledge, Suspend, Resum
 use Rattle.alarm.specs.Alarm.{nothing, event, issued, inputOf, acknowledgeOf, suspendOf, orderOf}
 use Rattle.alarm.specs.Issued.{issuedOf}
 use Rattle.table_whole.specs.declared.SiteTable.{SiteTable}
+use Rattle.site.specs.Site.{owner}
 use Rattle.call_laws.specs.Sound.{SoundAlarm, SoundStart, SoundEntry}
+use Rattle.call_laws.proofs.Owners.{owner-site, owner-link, owner-few}
 
 module _ (now : ℕ) (a : Alarm) (h : SoundAlarm now a) where
   abbrev Good : Changed → Type 0
@@ -57,16 +59,16 @@ module _ (links primary period : ℕ) (t : SiteTable) (s : SoundStart links prim
   few-statuses = rw (s .kept) (s .allowed .most-statuses)
 
   -- the record of a sound alarm for the primary
-  pub alarm-record : (now : ℕ) → now ≤ lastTime → (a : Alarm) → SoundAlarm now a → (k : ℕ) → primary < links → k < t .alarmcount
-      → SoundEntry links primary t now (issuedOf a primary k)
-  alarm-record now m a h k p i =
+  pub alarm-record : (site : ℕ) → site < 2 → (now : ℕ) → now ≤ lastTime → (a : Alarm) → SoundAlarm now a → (k : ℕ) → primary < links → k < t .alarmcount
+      → SoundEntry site links primary t now (issuedOf a (owner site primary) k)
+  alarm-record site b now m a h k p i =
       let few = few-alarms in
       let four = s .most-links in
       let before = h .time in
       let which = h .event in
       record {
         valid = record {
-          link = omega (arith, p, four);
+          link = owner-few site primary b (omega (arith, p, four));
           time = omega (arith, before, m);
           sequence = lit< tt;
           of-kind = an-alarm (record {
@@ -81,8 +83,9 @@ module _ (links primary period : ℕ) (t : SiteTable) (s : SoundStart links prim
             value = refl;
           });
         };
-        link = p;
+        of-site = owner-site site primary (omega (arith, p, four));
+        link = rw (owner-link site primary (omega (arith, p, four))) p;
         item = i;
         time = h .time;
-        for-primary = λ e. refl;
+        for-primary = λ e. owner-link site primary (omega (arith, p, four));
       }

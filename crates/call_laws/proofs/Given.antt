@@ -37,7 +37,7 @@ module _ (refuses : Refusal → Bool) (p : Plan) (end : ℕ) where
         only-so = λ r e. refused-first (conditions refuses p) inOrder (reportOf p end) r e;
         done = λ n. none-refuses (Done (reportOf p end)) n;
         done-only-so = λ d e. (done-none (conditions refuses p) inOrder (reportOf p end) d e, report d e);
-        ten = kept 4 (omega arith) .spent (p .site .pool) (p .site .next) (p .issued);
+        ten = kept 8 (omega arith) .spent (p .site .pool) (p .site .next) (p .issued);
         others = λ r h. rw (ne-eqb (refusalNumber r) 10 h) refl;
         no-eleven = λ e. eleven (refused-first (conditions refuses p) inOrder (reportOf p end) NotAccepted e);
       }

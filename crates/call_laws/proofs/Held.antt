@@ -1,6 +1,6 @@
 -- What holds of every held record after an act of the pool, and after a list of issues.
 -- Assumes nothing.
-use Rattle.basis.proofs.Std.{ℕ, suc, zero, _%_, _<_, _≡_, refl, sym, subst, List, [], _∷_, map, Bool, true, false, getD, set, replicate, ltb, lit<, mod-lt, pick, not-both, both-first}
+use Rattle.basis.proofs.Std.{ℕ, suc, zero, _%_, _<_, _≡_, refl, sym, subst, List, [], _∷_, map, Bool, true, false, getD, set, replicate, ltb, lit<, mod-lt, eq-eqb, pick, not-both, both-first, both-of}
 use Rattle.entry.specs.declared.Entry.{Entry}
 use Rattle.pool.specs.declared.Place.{Place}
 use Rattle.pool.specs.declared.Pool.{Pool}
@@ -9,7 +9,7 @@ use Rattle.pool.specs.declared.Spot.the-variants.{At, Nowhere}
 use Rattle.pool.specs.declared.Loser.{Loser}
 use Rattle.pool.specs.Places.{noPlace, of}
 use Rattle.pool.specs.Shares.{loser}
-use Rattle.pool.specs.Pool.{emptyOf, heldIn, freeIn, made, lossOf, roomOf, withOf, issueOf, settleOf, markOf, unsentFor, unmarkOf}
+use Rattle.pool.specs.Pool.{emptyOf, heldIn, freeIn, made, lossOf, roomOf, withOf, issueOf, settleOf, markOf, unsentFor, unmarkOf, freedFor, clearOf}
 use Rattle.pool_laws.proofs.Other.{Touched, settle-touches, mark-touches}
 use Rattle.pool_laws.proofs.Other.Touched.{absent, there}
 use Rattle.pool_laws.proofs.Inv.{of-used}
@@ -34,6 +34,10 @@ module _ (P : Entry → Type 0) where
   held-at [] i a u = not-both u refl
   held-at (x ∷ p) zero (b, a) u = b u
   held-at (x ∷ p) (suc i) (b, a) u = held-at p i a u
+
+  pub held-all : ((e : Entry) → P e) → (p : List Place) → EachHeld P p
+  held-all f [] = tt
+  held-all f (x ∷ p) = ((λ u. f (x .entry)), held-all f p)
 
   held-free : (k : ℕ) → EachHeld P (replicate k noPlace)
   held-free zero = tt
@@ -80,13 +84,26 @@ module _ (P : Entry → Type 0) where
   unfolding unmarkOf
   held-unmark p l a = held-map (unsentFor l) (unsent-place l) (p .places) a
 
-  -- each is issued under a number of 32 bits
-  pub held-added : ((e : Entry) (q : ℕ) → q < 2147483648 → P e → P (renumbered e q)) → (n : ℕ) (b : Batch) (es : List Entry) → Each P es
+  -- an owner begins anew: none of its records is held, and of the others it still holds
+  pub held-clear : (p : Pool) (o : ℕ) → EachHeld (λ (e : Entry). (e .link ≡ o → ⊥) → P e) (p .places) → EachHeld P (clearOf p o .places)
+  unfolding clearOf
+  held-clear p o a = go (p .places) a
+    where
+      place : (x : Place) → (ltb 0 (x .mark) ≡ true → (x .entry .link ≡ o → ⊥) → P (x .entry)) → (t : Bool) → of o x ≡ t → At-place (pick t noPlace x)
+      place x h true e = λ u. not-both u refl
+      place x h false e = λ u. h u (λ s. not-both (both-of u (eq-eqb (x .entry .link) o s)) e)
+
+      go : (xs : List Place) → EachHeld (λ (e : Entry). (e .link ≡ o → ⊥) → P e) xs → EachHeld P (map (freedFor o) xs)
+      go [] b = b
+      go (x ∷ xs) (h, b) = (place x h (of o x) refl, go xs b)
+
+  -- each is issued under a number of 31 bits
+  pub held-added : (n : ℕ) (b : Batch) (es : List Entry) → Each (λ (e : Entry). (q : ℕ) → q < 2147483648 → P (renumbered e q)) es
       → EachHeld P (b .pool .places) → EachHeld P (addedAll n b es .pool .places)
   unfolding added
-  held-added f n b [] h a = a
-  held-added f n b (e ∷ es) (g, h) a =
-      held-added f n (added n b e) es h (held-issue n (b .pool) (under e (b .next)) (f e (b .next % 2147483648) (mod-lt (b .next) (lit< tt)) g) a)
+  held-added n b [] h a = a
+  held-added n b (e ∷ es) (g, h) a =
+      held-added n (added n b e) es h (held-issue n (b .pool) (under e (b .next)) (g (b .next % 2147483648) (mod-lt (b .next) (lit< tt))) a)
 
 -- what follows from it holds too
 pub held-so : (P Q : Entry → Type 0) → ((e : Entry) → P e → Q e) → (p : List Place) → EachHeld P p → EachHeld Q p

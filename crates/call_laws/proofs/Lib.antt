@@ -4,13 +4,13 @@ pub mod Stepped
 pub mod Kept
 pub mod Held
 pub mod SoundEntries
+pub mod Owners
 pub mod Parts
 pub mod Started
 pub mod SoundKept
 pub mod Alarms
 pub mod Inputs
 pub mod Ticks
-pub mod SoundCalls
 pub mod Found
 pub mod Sends
 pub mod Taken
@@ -24,4 +24,6 @@ pub mod Entries
 pub mod Commands
 pub mod Plans
 pub mod PacketsKept
+pub mod SoundCalls
+pub mod BesideKept
 pub mod SequencesKept

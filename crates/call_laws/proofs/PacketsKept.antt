@@ -1,4 +1,4 @@
--- Packet and pump keep a site sound, and write what their plans say.
+-- A packet's plan is sound, and packet and pump write what their plans say.
 -- Assumes nothing.
 use Rattle.basis.proofs.Std.{ℕ, _<_, _≡_, refl, sym, _∙_, ap, Bool, true, false, true≢false, List, [], ltb, leb, length, ltb-false, leb-false, pick, picked}
 use Rattle.answer.specs.declared.Refusal.{Refusal}
@@ -26,7 +26,7 @@ use Rattle.write_laws.specs.Formed.{Received}
 use Rattle.site.specs.declared.Site.{Site}
 use Rattle.site.specs.declared.Step.{Step}
 use Rattle.site.specs.Site.{noLinkAt, linkAt}
-use Rattle.site.specs.Call.{Plan, Gives, stepOf, writtenTo}
+use Rattle.site.specs.Call.{Plan, Gives, writtenTo}
 use Rattle.call_laws.specs.Numbers.{conditions}
 use Rattle.call_laws.proofs.Given.{numbers}
 use Rattle.call_laws.proofs.Stepped.{steps}
@@ -37,7 +37,8 @@ use Rattle.call_pump.specs.Pump.{pumpRefuses, pumpPlan}
 use Rattle.call_packet.specs.Packet.{expected, unready, kindTaken, expectedTaken, askedTaken, classTaken, questionOf, packetTaken, packetRefuses}
 use Rattle.call_laws.specs.Sound.{SoundAt, Sound}
 use Rattle.call_laws.specs.SoundPlans.{SoundPlan}
-use Rattle.call_laws.proofs.SoundKept.{a-link, in-time, at-time, kept as keeps}
+use Rattle.call_laws.specs.SoundPlans.Reworked.{same}
+use Rattle.call_laws.proofs.SoundKept.{a-link, in-time, at-time}
 use Rattle.call_laws.proofs.SoundPackets.{kept as parts}
 use Rattle.call_laws.specs.Formedness.{Sendable, Wrote}
 use Rattle.call_laws.proofs.Plans.{plans, no-message}
@@ -59,7 +60,7 @@ long-enough (more a (more b (more h n))) = h
 -- ---- a sound plan
 module _ (s : Site) (q : Question) (h : SoundAt (q .time) s) (linked : q .link < s .linkcount) (p : List ℕ) where
   abbrev Keeps : Taken → Type 0
-  Keeps t = SoundPlan (q .time) (t .plan)
+  Keeps t = SoundPlan s (q .time) (t .plan)
 
   kind-keeps : (k : Kind) → Keeps (kindTaken s q p k)
   kind-keeps Version = parts .version s q h (versionAt p)
@@ -84,7 +85,7 @@ module _ (s : Site) (q : Question) (h : SoundAt (q .time) s) (linked : q .link <
   asked-keeps Bad k = parts .refused s q h badValue
 
   class-keeps : (answered : Identity) (c : Class) → Keeps (classTaken s q answered p c)
-  class-keeps answered NoClass = record { site = h; issued = tt }
+  class-keeps answered NoClass = record { site = h; number = refl; pool = same; issued = tt }
   class-keeps answered Acked = parts .answered s (q .time) h (q .link) answered true
   class-keeps answered NotAcked = parts .answered s (q .time) h (q .link) answered false
   class-keeps answered (Asked v k) = asked-keeps v k
@@ -130,11 +131,10 @@ packet-sends : (time : ℕ) (s : Site) → SoundAt time s → (l : ℕ) (id : Id
 packet-sends time s h l id sixteen p = class-sends s (questionOf l time id (headAt p)) h sixteen p (headAt p .identity) (headAt p .class) (received p)
 
 -- ---- the calls
-packet-keeps : (s : Site) → Sound s → (l time : ℕ) (id : Identity) (room end : ℕ) (p : List ℕ)
-    → Sound (stepOf s time (packetRefuses s l time id room p) (packetTaken s l time id p .plan) end .site)
-packet-keeps s h l time id room end p =
-    keeps s time (packetRefuses s l time id room p) (packetTaken s l time id p .plan) end h
-    (λ n. class-keeps s (questionOf l time id (headAt p)) (at-time s time h (in-time n)) (configured s l (a-link n)) p (headAt p .identity) (headAt p .class))
+pub packet-plan : (s : Site) → Sound s → (l time : ℕ) (id : Identity) (p : List ℕ) (room : ℕ) → None (conditions (packetRefuses s l time id room p) (packetTaken s l time id p .plan)) inOrder
+    → SoundPlan s time (packetTaken s l time id p .plan)
+packet-plan s h l time id p room n =
+    class-keeps s (questionOf l time id (headAt p)) (at-time s time h (in-time n)) (configured s l (a-link n)) p (headAt p .identity) (headAt p .class)
 
 -- where a call is done, none of its conditions applies
 free : (s : Site) (time : ℕ) (refuses : Refusal → Bool) (p : Plan) (xs ys : List ℕ) (r : Step) (d : Report)
@@ -162,4 +162,4 @@ pump-writes s h l time id sixteen xs ys r d g done =
     outputs s time refuses plan xs ys r d g done (ltb-false (length xs) 4096 (long-enough n)) (plans .pump time s (at-time s time h (in-time n)) l id sixteen)
 
 pub kept : PacketLaws
-kept = record { keeps = packet-keeps; sends = packet-sends; packet-writes = packet-writes; pump-writes = pump-writes }
+kept = record { sends = packet-sends; packet-writes = packet-writes; pump-writes = pump-writes }

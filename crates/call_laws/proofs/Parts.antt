@@ -13,9 +13,9 @@ use Rattle.status.specs.Status.{unknown}
 use Rattle.subscription.specs.declared.Subscription.{Subscription}
 use Rattle.aggregated.specs.declared.Aggregated.{Aggregated}
 use Rattle.site.specs.declared.Site.{Site}
-use Rattle.site.specs.Site.{withPool, withLinks, withSubscriptions, withAggregated, withLink, closeAt}
+use Rattle.site.specs.Site.{withPool, withLinks, withSubscriptions, withAggregated, withLink, ownerOf, closeAt}
 use Rattle.site.specs.Parts.{withAlarm, withStatus}
-use Rattle.call_laws.specs.Sound.{SoundAlarm, SoundStatus, SoundAggregated, SoundSubscriptions, EachHeld, EntryOf, SoundAt}
+use Rattle.call_laws.specs.Sound.{SoundAlarm, SoundStatus, SoundAggregated, SoundSubscriptions, EachHeld, HeldOf, SoundAt}
 use Rattle.call_laws.proofs.Held.{held-unmark, held-so}
 use Rattle.call_laws.proofs.SoundEntries.{later-entry}
 
@@ -44,6 +44,7 @@ module _ (now : ℕ) (s : Site) (h : SoundAt now s) where
   later then g m =
       let before : s .aggregated .time ≤ now = h .aggregated .time in
       record {
+        site = h .site;
         start = h .start;
         last = m;
         next = h .next;
@@ -52,12 +53,13 @@ module _ (now : ℕ) (s : Site) (h : SoundAt now s) where
         alarms = record { many = h .alarms .many; each = λ k. later-alarm now then g _ (h .alarms .each k) };
         statuses = h .statuses;
         aggregated = record { value = h .aggregated .value; time = omega (arith, before, g) };
-        held = held-so (EntryOf s now) (EntryOf s then) (later-entry (s .linkcount) (s .primary) (s .table) now then g) (s .pool .places) (h .held);
+        held = held-so (HeldOf s now) (HeldOf s then) (λ e f o. later-entry (s .site) (s .linkcount) (s .primary) (s .table) now then g e (f o)) (s .pool .places) (h .held);
       }
 
-  pub with-pool : (p : Pool) → EachHeld (EntryOf s now) (p .places) → SoundAt now (withPool s p)
+  pub with-pool : (p : Pool) → EachHeld (HeldOf s now) (p .places) → SoundAt now (withPool s p)
   with-pool p g =
       record {
+        site = h .site;
         start = h .start;
         last = h .last;
         next = h .next;
@@ -72,6 +74,7 @@ module _ (now : ℕ) (s : Site) (h : SoundAt now s) where
   pub with-links : (ls : List Link) → length ls ≡ 4 → SoundAt now (withLinks s ls)
   with-links ls g =
       record {
+        site = h .site;
         start = h .start;
         last = h .last;
         next = h .next;
@@ -89,6 +92,7 @@ module _ (now : ℕ) (s : Site) (h : SoundAt now s) where
   pub with-subscriptions : (xs : List Subscription) → SoundSubscriptions (s .linkcount) (s .table .statuscount) xs → SoundAt now (withSubscriptions s xs)
   with-subscriptions xs g =
       record {
+        site = h .site;
         start = h .start;
         last = h .last;
         next = h .next;
@@ -103,6 +107,7 @@ module _ (now : ℕ) (s : Site) (h : SoundAt now s) where
   pub with-alarm : (k : ℕ) (a : Alarm) → SoundAlarm now a → SoundAt now (withAlarm s k a)
   with-alarm k a g =
       record {
+        site = h .site;
         start = h .start;
         last = h .last;
         next = h .next;
@@ -120,6 +125,7 @@ module _ (now : ℕ) (s : Site) (h : SoundAt now s) where
   pub with-status : (k : ℕ) (x : Status) → SoundStatus x → SoundAt now (withStatus s k x)
   with-status k x g =
       record {
+        site = h .site;
         start = h .start;
         last = h .last;
         next = h .next;
@@ -137,6 +143,7 @@ module _ (now : ℕ) (s : Site) (h : SoundAt now s) where
   pub with-aggregated : (a : Aggregated) → SoundAggregated now a → SoundAt now (withAggregated s a)
   with-aggregated a g =
       record {
+        site = h .site;
         start = h .start;
         last = h .last;
         next = h .next;
@@ -150,4 +157,4 @@ module _ (now : ℕ) (s : Site) (h : SoundAt now s) where
 
 pub close : (now : ℕ) (s : Site) (l : ℕ) → SoundAt now s → SoundAt now (closeAt s l)
 close now s l h =
-    with-pool now (withLink s l closedLink) (with-link now s h l closedLink) (unmarkOf (s .pool) l) (held-unmark (EntryOf s now) (s .pool) l (h .held))
+    with-pool now (withLink s l closedLink) (with-link now s h l closedLink) (unmarkOf (s .pool) (ownerOf s l)) (held-unmark (HeldOf s now) (s .pool) (ownerOf s l) (h .held))

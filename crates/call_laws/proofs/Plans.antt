@@ -1,6 +1,6 @@
 -- The messages of every call that writes are well-formed and have room in 4,096 bytes.
 -- Assumes nothing.
-use Rattle.basis.proofs.Std.{ℕ, _+_, _%_, _≤_, _<_, _≡_, refl, sym, _∙_, ap, subst, Bool, true, List, [], _∷_, _++_, _⊎_, inl, inr, arith, eqb, ltb, lit≤, length, getD, set, length-set, length-append, count, picked, lt-or-ge, both-first}
+use Rattle.basis.proofs.Std.{ℕ, _+_, _%_, _≤_, _<_, _≡_, refl, sym, _∙_, ap, subst, Bool, true, List, [], _∷_, _++_, _⊎_, inl, inr, arith, eqb, ltb, lit≤, length, getD, set, length-set, length-append, count, eqb-true, List·getD-eq-default, picked, lt-or-ge, both-first, both-second}
 use Rattle.identity.specs.declared.Identity.{Identity}
 use Rattle.identity.specs.Read.{SixteenBytes}
 use Rattle.identity.specs.Version.{version4Of}
@@ -21,6 +21,9 @@ use Rattle.link.specs.declared.Due.{Due}
 use Rattle.link.specs.declared.Due.the-variants.{Nothing, Version, Watchdog, Aggregated, Alarm, Entry as DueEntry}
 use Rattle.link.specs.declared.Role.{Role}
 use Rattle.link.specs.declared.Role.the-variants.{Primary, Secondary}
+use Rattle.link.specs.Fields.{closedLink}
+use Rattle.link.specs.Phase.{phaseOf}
+use Rattle.link.specs.Due.{dueOf}
 use Rattle.link.specs.Steps.{fullOf, closesOf}
 use Rattle.write_message.specs.declared.Told.{Told}
 use Rattle.write_message.specs.declared.Told.the-variants.{Response, Command as CommandResponse}
@@ -55,7 +58,7 @@ use Rattle.packet_lookup.specs.declared.SoughtAlarm.the-variants.{Alarm as AnAl
 use Rattle.packet_lookup.specs.Sought.{componentSought, alarmSought, allStatuses}
 use Rattle.send_message.specs.Sending.{alarmMessage, aggregatedMessage, entryMessage}
 use Rattle.site.specs.declared.Site.{Site}
-use Rattle.site.specs.Site.{roleOf, linkAt}
+use Rattle.site.specs.Site.{roleOf, linkAt, ownerOf, ownedBy}
 use Rattle.site.specs.Call.{Command, Plan}
 use Rattle.call_pump.specs.Pump.{isHeld, Below, dueAt, entryPlan, planFor, pumpPlan}
 use Rattle.call_pump.proofs.Laws.{due-below}
@@ -68,8 +71,9 @@ use Rattle.packet_subscribe.specs.Subscribing.{changed, judged, asked, subscrib
 use Rattle.packet_alarm.specs.Orders.{changeTaken, isZero, requestBy, requestTaken, ordered, orderedOf, foundTaken, alarmTaken, aggregatedOf, aggregatedTaken}
 use Rattle.packet_status.specs.StatusReply.{passes, told, requestedOf, statusTaken}
 use Rattle.packet_command.specs.Commanding.{keepsRanges, commandsOf, orderedOf as commandedOf, commandTaken, passes as allThere, told as toldCommands}
-use Rattle.call_laws.specs.Sound.{EachHeld, EntryOf, SoundAt}
-use Rattle.call_laws.proofs.Held.{held-at}
+use Rattle.call_laws.specs.Sound.{EachHeld, EntryOf, HeldOf, SoundAt}
+use Rattle.call_laws.proofs.Held.{held-at, held-so}
+use Rattle.call_laws.proofs.Owners.{owns}
 use Rattle.call_laws.proofs.Parts.{each-set}
 use Rattle.call_laws.proofs.Found.{AlarmBelow, alarm-below}
 use Rattle.call_laws.specs.Formedness.{Sendable, Plans}
@@ -125,16 +129,17 @@ abbrev Holds : (Entry → Type 0) → Searched → Type 0
 Holds P (FoundEntry x) = P (x .entry)
 Holds P NoEntry = Unit {0}
 
--- what is found among the held records is one of them
-found-held : (P : Entry → Type 0) (p : Pool) (l : ℕ) → EachHeld P (p .places) → Holds P (oldestUnsent p l)
+-- what is found among the held records is one of them, and of the owner asked for
+found-held : (P : Entry → Type 0) (p : Pool) (l : ℕ) → EachHeld (λ (e : Entry). e .link ≡ l → P e) (p .places) → Holds P (oldestUnsent p l)
 found-held P p l a = go (lt-or-ge 0 (count (fits (Unsent l)) (p .places)))
   where
     go : (0 < count (fits (Unsent l)) (p .places)) ⊎ (count (fits (Unsent l)) (p .places) ≤ 0) → Holds P (oldestUnsent p l)
     go (inl h) =
         let o : Oldest (fits (Unsent l)) (p .places) = the-oldest (fits (Unsent l)) (p .places) h in
         subst (λ (b : Spot). Holds P (soughtAt b)) (sym (o .is))
-        (subst (λ (x : Place). ltb 0 (x .mark) ≡ true → P (x .entry)) (o .stands) (held-at P (p .places) (o .at) a)
-        (of-used l (o .what) (both-first (of l (o .what)) _ (o .passes))))
+        (subst (λ (x : Place). ltb 0 (x .mark) ≡ true → x .entry .link ≡ l → P (x .entry)) (o .stands) (held-at (λ (e : Entry). e .link ≡ l → P e) (p .places) (o .at) a)
+        (of-used l (o .what) (both-first (of l (o .what)) _ (o .passes)))
+        (eqb-true (o .what .entry .link) l (both-second (ltb 0 (o .what .mark)) _ (both-first (of l (o .what)) _ (o .passes)))))
     go (inr h) = subst (λ (b : Spot). Holds P (soughtAt b)) (sym (no-oldest (fits (Unsent l)) (p .places) (omega arith))) tt
 
 entry-small : (s : Site) (id : List ℕ) (e : Entry) → most (entryMessage s id e) ≤ 4096
@@ -147,18 +152,30 @@ module _ (time : ℕ) (s : Site) (h : SoundAt time s) (l : ℕ) (id : Identity) 
   entry-sends NoEntry g = no-message
   entry-sends (FoundEntry x) g = one-message (entryMessage s (id .bytes) (x .entry)) (entry-formed time s h (id .bytes) sixteen (x .entry) g) (entry-small s (id .bytes) (x .entry))
 
-  due-sends : (d : Due) → Below (s .table .alarmcount) d → Sendable (planFor d s l time id .messages)
-  due-sends Nothing b = no-message
-  due-sends Version b = one-message _ (version-formed time s h (id .bytes) sixteen) (lit≤ tt)
-  due-sends Watchdog b = one-message _ (formed-watchdog sixteen (h .last)) (lit≤ tt)
-  due-sends Aggregated b = one-message _ (aggregated-formed time s h (id .bytes) sixteen) (lit≤ tt)
-  due-sends (Alarm k) b = one-message _ (alarm-formed time s h (id .bytes) sixteen k b) (lit≤ tt)
-  due-sends DueEntry b = entry-sends (oldestUnsent (s .pool) l) (found-held (EntryOf s time) (s .pool) l (h .held))
+  held-here : l < 4 → EachHeld (λ (e : Entry). e .link ≡ ownerOf s l → EntryOf s time e) (s .pool .places)
+  held-here g = held-so (HeldOf s time) (λ (e : Entry). e .link ≡ ownerOf s l → EntryOf s time e) (λ e f o. f (ap (ownedBy s) o ∙ owns s l g)) (s .pool .places) (h .held)
+
+  due-sends : l < 4 → (d : Due) → Below (s .table .alarmcount) d → Sendable (planFor d s l time id .messages)
+  due-sends g Nothing b = no-message
+  due-sends g Version b = one-message _ (version-formed time s h (id .bytes) sixteen) (lit≤ tt)
+  due-sends g Watchdog b = one-message _ (formed-watchdog sixteen (h .last)) (lit≤ tt)
+  due-sends g Aggregated b = one-message _ (aggregated-formed time s h (id .bytes) sixteen) (lit≤ tt)
+  due-sends g (Alarm k) b = one-message _ (alarm-formed time s h (id .bytes) sixteen k b) (lit≤ tt)
+  due-sends g DueEntry b = entry-sends (oldestUnsent (s .pool) (ownerOf s l)) (found-held (EntryOf s time) (s .pool) (ownerOf s l) (held-here g))
+
+  -- on a link above 3 nothing is due
+  no-link : 4 ≤ l → dueAt s l time ≡ Nothing
+  unfolding dueOf phaseOf
+  no-link g = rw (List·getD-eq-default (s .links) closedLink {n = l} (omega (arith, g, h .links))) refl
 
   pump-sends : Sendable (pumpPlan s l time id .messages)
-  pump-sends =
-      due-sends (dueAt s l time)
-      (due-below (linkAt s l) time (s .period) (roleOf s l) (s .table .alarmcount) (isHeld (oldestUnsent (s .pool) l)) (s .table .alarmcount) (omega arith))
+  pump-sends = by (lt-or-ge l 4)
+    where
+      by : (l < 4) ⊎ (4 ≤ l) → Sendable (pumpPlan s l time id .messages)
+      by (inl g) =
+          due-sends g (dueAt s l time)
+          (due-below (linkAt s l) time (s .period) (roleOf s l) (s .table .alarmcount) (isHeld (oldestUnsent (s .pool) (ownerOf s l))) (s .table .alarmcount) (omega arith))
+      by (inr g) = subst (λ (d : Due). Sendable (planFor d s l time id .messages)) (sym (no-link g)) no-message
 
 answered-none : (s : Site) (l : ℕ) (id : Identity) (acknowledged : Bool) → answeredPlan s l id acknowledged .messages ≡ []
 answered-none s l id acknowledged = picked (λ (p : Plan). p .messages ≡ []) (closesOf (linkAt s l) id acknowledged) _ _ (λ e. refl) (λ e. refl)

@@ -19,10 +19,10 @@ use Rattle.site.specs.Call.{Plan, batchOf, answerOf, stepOf}
 use Rattle.call_laws.specs.Numbers.{conditions}
 use Rattle.call_laws.proofs.Given.{numbers}
 use Rattle.call_laws.proofs.Stepped.{steps}
-use Rattle.call_laws.specs.Sound.{EntryOf, SoundAt, Sound}
+use Rattle.call_laws.specs.Sound.{EntryOf, HeldOf, SoundAt, Sound}
 use Rattle.call_laws.specs.SoundPlans.{SoundPlan, Keeps}
 use Rattle.call_laws.proofs.Held.{held-added}
-use Rattle.call_laws.proofs.SoundEntries.{renumbered-too}
+use Rattle.call_laws.proofs.SoundEntries.{renumbered-too, each-so}
 use Rattle.call_laws.proofs.Parts.{later}
 
 -- where no condition of a call applies, each does not
@@ -59,28 +59,30 @@ pub at-time : (s : Site) (time : ℕ) → Sound s → badTimeAt s time ≡ false
 at-time s time h e = later (s .last) s h time (not-before s time e) (not-above s time e)
 
 -- the numbers of a list that is not spent
-lasting : (p : Pool) (q : ℕ) (es : List Entry) → q ≤ 2147483648 → issuedAll 4 p q es .spent ≡ false → Lasting q es
-lasting p q es h e = by es (sym (batched 4 (omega arith) .spent p q es) ∙ e)
+lasting : (p : Pool) (q : ℕ) (es : List Entry) → q ≤ 2147483648 → issuedAll 8 p q es .spent ≡ false → Lasting q es
+lasting p q es h e = by es (sym (batched 8 (omega arith) .spent p q es) ∙ e)
   where
     by : (xs : List Entry) → both (ltb 0 (length xs)) (ltb 2147483648 (q + length xs)) ≡ false → Lasting q xs
     by [] g = omega (arith, h)
     by (x ∷ xs) g = ltb-false 2147483648 (q + length (x ∷ xs)) (sym (rw (lt-ltb 0 (length (x ∷ xs)) (omega arith)) refl) ∙ g)
 
-pub issued-sound : (time : ℕ) (p : Plan) → SoundPlan time p → batchOf p .spent ≡ false → Sound (withIssued (p .site) (batchOf p) time)
-issued-sound time p h e =
+pub issued-sound : (s : Site) (time : ℕ) (p : Plan) → SoundPlan s time p → batchOf p .spent ≡ false → Sound (withIssued (p .site) (batchOf p) time)
+issued-sound s time p h e =
     let lasts : Lasting (p .site .next) (p .issued) = lasting (p .site .pool) (p .site .next) (p .issued) (h .site .next) e in
     record {
+      site = h .site .site;
       start = h .site .start;
       last = h .site .last;
-      next = omega (arith, lasts, batched 4 (omega arith) .next (p .site .pool) (p .site .next) (p .issued) lasts);
+      next = omega (arith, lasts, batched 8 (omega arith) .next (p .site .pool) (p .site .next) (p .issued) lasts);
       links = h .site .links;
       subscriptions = h .site .subscriptions;
       alarms = h .site .alarms;
       statuses = h .site .statuses;
       aggregated = h .site .aggregated;
       held =
-          held-added (EntryOf (p .site) time) (renumbered-too (p .site .linkcount) (p .site .primary) (p .site .table) time) 4
-          (beginning (p .site .pool) (p .site .next)) (p .issued) (h .issued) (h .site .held);
+          held-added (HeldOf (p .site) time) 8 (beginning (p .site .pool) (p .site .next)) (p .issued)
+          (each-so (EntryOf (p .site) time) _ (λ e g q b o. renumbered-too (p .site .site) (p .site .linkcount) (p .site .primary) (p .site .table) time e q b g) (p .issued) (h .issued))
+          (h .site .held);
     }
 
 pub kept : Keeps
@@ -91,4 +93,4 @@ kept s time refuses p end h f = by (answerOf refuses p end) refl
     by (Done d) e =
         let free : None (conditions refuses p) inOrder = numbers refuses p end .done-only-so d e .0 in
         subst Sound (sym (steps s time refuses p end .next-site d (steps s time refuses p end .answer ∙ e)))
-        (issued-sound time p (f free) (not-spent free))
+        (issued-sound s time p (f free) (not-spent free))

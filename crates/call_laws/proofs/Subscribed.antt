@@ -16,7 +16,8 @@ use Rattle.packet_answer.specs.declared.Question.{Question}
 use Rattle.packet_answer.specs.Taken.{Taken, notAcked, unknownStatus}
 use Rattle.packet_subscribe.specs.Subscribing.{wanted, replacedAt, replaced, recordOf, records, changed, judged, asked, subscribingTaken}
 use Rattle.call_laws.specs.Sound.{SoundSubscriptions, Each, EntryOf, SoundAt}
-use Rattle.call_laws.specs.SoundPlans.{SoundPlan}
+use Rattle.call_laws.specs.SoundPlans.{Reworked, SoundPlan}
+use Rattle.call_laws.specs.SoundPlans.Reworked.{same}
 use Rattle.call_laws.proofs.Parts.{with-subscriptions}
 use Rattle.call_laws.proofs.SoundEntries.{each-append}
 use Rattle.call_laws.proofs.Alarms.{few-statuses}
@@ -44,6 +45,8 @@ module _ (s : Site) (q : Question) (h : SoundAt (q .time) s) (configured : q .li
   -- the site with other subscriptions
   record So (t : Site) : Type 0 where
     site : SoundAt (q .time) t
+    number : t .site ≡ s .site
+    pool : Reworked (s .pool) (t .pool)
     links : t .linkcount ≡ s .linkcount
     table : t .table .statuscount ≡ s .table .statuscount
     entries : (es : List Entry) → Each (EntryOf s (q .time)) es → Each (EntryOf t (q .time)) es
@@ -53,6 +56,8 @@ module _ (s : Site) (q : Question) (h : SoundAt (q .time) s) (configured : q .li
       record {
         site = with-subscriptions (q .time) t (h .site) (set (t .subscriptions) ((q .link) * 32 + k) x)
             (store-sound (t .linkcount) (t .table .statuscount) (t .subscriptions) (h .site .subscriptions) (q .link) k x (rw (h .links) configured) (rw (h .table) i) (rw (h .table) few));
+        number = h .number;
+        pool = h .pool;
         links = h .links;
         table = h .table;
         entries = h .entries;
@@ -60,7 +65,7 @@ module _ (s : Site) (q : Question) (h : SoundAt (q .time) s) (configured : q .li
   replaced-at t h x Nothing i = h
 
   replaced-sound : (subscribing : Bool) (c : ℕ) (es : List StatusEntry) (n : ℕ) → So (replaced subscribing s (q .link) (q .time) c es n)
-  replaced-sound subscribing c es zero = record { site = h; links = refl; table = refl; entries = λ xs a. a }
+  replaced-sound subscribing c es zero = record { site = h; number = refl; pool = same; links = refl; table = refl; entries = λ xs a. a }
   replaced-sound subscribing c es (suc n) =
       replaced-at (replaced subscribing s (q .link) (q .time) c es n) (replaced-sound subscribing c es n) (wanted subscribing (entryAt es n) (q .time)) (statusSought (s .table) c (entryAt es n))
       (status-below (s .linkcount) (s .primary) (s .period) (s .table) (h .start) c (entryAt es n))
@@ -76,27 +81,29 @@ module _ (s : Site) (q : Question) (h : SoundAt (q .time) s) (configured : q .li
       (record-sound (statusSought (s .table) c (entryAt es n)) (status-below (s .linkcount) (s .primary) (s .period) (s .table) (h .start) c (entryAt es n)))
 
   module _ (subscribing : Bool) (f : StatusFields) where
-    changed-sound : (c : ℕ) → SoundPlan (q .time) (changed subscribing s q f c .plan)
+    changed-sound : (c : ℕ) → SoundPlan s (q .time) (changed subscribing s q f c .plan)
     unfolding changed
     changed-sound c =
         let so = replaced-sound subscribing c (f .entries) (f .count) in
         record {
           site = so .site;
+          number = so .number;
+          pool = so .pool;
           issued = so .entries (pick subscribing (records s (q .link) (q .time) c (f .entries) (f .count)) [])
               (picked (Each (EntryOf s (q .time))) subscribing (records s (q .link) (q .time) c (f .entries) (f .count)) [] (λ e. records-sound c (f .entries) (f .count)) (λ e. tt));
         }
 
-    judged-sound : (c : ℕ) → SoundPlan (q .time) (judged subscribing s q f c .plan)
+    judged-sound : (c : ℕ) → SoundPlan s (q .time) (judged subscribing s q f c .plan)
     unfolding judged
     judged-sound c =
-        picked (λ (t : Taken). SoundPlan (q .time) (t .plan)) (allStatuses (s .table) c (f .entries) (f .count)) (changed subscribing s q f c) (notAcked s q unknownStatus)
+        picked (λ (t : Taken). SoundPlan s (q .time) (t .plan)) (allStatuses (s .table) c (f .entries) (f .count)) (changed subscribing s q f c) (notAcked s q unknownStatus)
         (λ e. changed-sound c) (λ e. not-acked s q h unknownStatus)
 
-    asked-sound : (x : Sought) → SoundPlan (q .time) (asked subscribing s q f x .plan)
+    asked-sound : (x : Sought) → SoundPlan s (q .time) (asked subscribing s q f x .plan)
     asked-sound (Is c) = judged-sound c
     asked-sound Nothing = not-acked s q h unknownStatus
 
-    pub subscribing-sound : SoundPlan (q .time) (subscribingTaken subscribing s q f .plan)
+    pub subscribing-sound : SoundPlan s (q .time) (subscribingTaken subscribing s q f .plan)
     unfolding subscribingTaken
     subscribing-sound =
         by-verdict s q h (f .verdict) (asked subscribing s q f (componentSought (s .table) (f .component)))

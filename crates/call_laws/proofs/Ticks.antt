@@ -4,7 +4,7 @@ use Rattle.basis.proofs.Std.{ℕ, zero, suc, _+_, _*_, _/_, _%_, _≤_, _<_, _�
 use Rattle.subscription.specs.declared.Subscription.{Subscription}
 use Rattle.subscription.specs.Subscription.{none, dueAt, tickOf}
 use Rattle.site.specs.declared.Site.{Site}
-use Rattle.site.specs.Site.{linkAt, closeAt}
+use Rattle.site.specs.Site.{linkAt, ownerOf, closeAt}
 use Rattle.site.specs.Parts.{statusAt}
 use Rattle.site.specs.Records.{statusRecord}
 use Rattle.call_tick.specs.Closing.{lateAt, closeLate, closedTo}
@@ -13,7 +13,8 @@ use Rattle.call_tick.specs.Tick.{siteAfter, issuedAt, tickPlan}
 use Rattle.call_tick.specs.Claims.{exceptFor}
 use Rattle.call_tick.proofs.Closed.{stays}
 use Rattle.call_laws.specs.Sound.{SoundSubscriptions, Each, EntryOf, SoundAt}
-use Rattle.call_laws.specs.SoundPlans.{SoundPlan}
+use Rattle.call_laws.specs.SoundPlans.{Reworked, SoundPlan}
+use Rattle.call_laws.specs.SoundPlans.Reworked.{same, unmarks}
 use Rattle.call_laws.proofs.SoundEntries.{each-if, each-to}
 use Rattle.call_laws.proofs.Parts.{with-subscriptions, close}
 use Rattle.call_laws.proofs.Inputs.{status-entry}
@@ -42,6 +43,14 @@ module _ (s : Site) (time : ℕ) (h : SoundAt time s) where
       let before = closed-sound l in
       picked (SoundAt time) (lateAt (closedTo s time l) l time) (closeAt (closedTo s time l) l) (closedTo s time l)
       (λ e. close time (closedTo s time l) l before) (λ e. before)
+
+  closed-pool : (n : ℕ) → Reworked (s .pool) (closedTo s time n .pool)
+  unfolding closeLate
+  closed-pool zero = same
+  closed-pool (suc l) =
+      let before = closed-pool l in
+      picked (λ (t : Site). Reworked (s .pool) (t .pool)) (lateAt (closedTo s time l) l time) (closeAt (closedTo s time l) l) (closedTo s time l)
+      (λ e. unmarks (ownerOf (closedTo s time l) l) before) (λ e. before)
 
   -- what start was given is as it was
   as-given : exceptFor (s .pool) (s .links) (s .subscriptions) s ≡ exceptFor (s .pool) (s .links) (s .subscriptions) (closedTo s time 4)
@@ -81,10 +90,16 @@ module _ (s : Site) (time : ℕ) (h : SoundAt time s) where
   entries-sound : Each (EntryOf s time) (issuedAt s time)
   unfolding recordsOf
   entries-sound =
-      each-to (EntryOf s time) (recordAt (s .subscriptions) (s .statuses) (siteAfter s time .links) time) 128
-      (λ i g. each-if (EntryOf s time) (tickOf (getD (s .subscriptions) i none) time .issues) (statusRecord (linkAt (siteAfter s time) (i / 32)) (statusAt s (i % 32)) (i / 32) (i % 32) time)
+      each-to (EntryOf s time) (recordAt (s .site) (s .subscriptions) (s .statuses) (siteAfter s time .links) time) 128
+      (λ i g. each-if (EntryOf s time) (tickOf (getD (s .subscriptions) i none) time .issues) (statusRecord (linkAt (siteAfter s time) (i / 32)) (statusAt s (i % 32)) (ownerOf s (i / 32)) (i % 32) time)
       (λ t. status-entry s time h (linkAt (siteAfter s time) (i / 32)) (i / 32) (i % 32) (statusAt s (i % 32) .value) (statusAt s (i % 32) .known) (h .statuses .each (i % 32) .value) (configured i t) (in-table i t)))
 
-  pub tick-plan : SoundPlan time (tickPlan s time)
+  pub tick-plan : SoundPlan s time (tickPlan s time)
   unfolding siteAfter
-  tick-plan = record { site = site-sound; issued = subst (λ (t : Site). Each (EntryOf t time) (issuedAt s time)) as-given entries-sound }
+  tick-plan =
+      record {
+        site = site-sound;
+        number = sym (ap (λ (t : Site). t .site) as-given);
+        pool = closed-pool 4;
+        issued = subst (λ (t : Site). Each (EntryOf t time) (issuedAt s time)) as-given entries-sound;
+      }

@@ -2,7 +2,7 @@
 -- Assumes nothing.
 use Prim.Native.Nat.{ℕ}
 use mathlib.Core.Bool.{Bool}
-use mathlib.Core.List.{List, [], _∷_}
+use mathlib.Core.List.{List, []}
 use lib.IntN.{ℤ}
 use lib.ListN.{length}
 use Rattle.answer.specs.declared.Refusal.{Refusal}
@@ -81,8 +81,3 @@ stepBy s c = stepOf s (timeOf c) (refuses s c) (planOf s c) (endOf s c)
 -- the output after the call
 abbrev pub outBy : Site → Call → List ℕ
 outBy s c = outAfter (outputOf c) (planOf s c .messages) (stepBy s c .answer)
-
--- a sequence of calls, the LATEST FIRST, each on the state left by the one before
-abbrev pub siteAfter : Site → List Call → Site
-siteAfter s [] = s
-siteAfter s (c ∷ cs) = stepBy (siteAfter s cs) c .site

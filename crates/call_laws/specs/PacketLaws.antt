@@ -1,4 +1,4 @@
--- The calls packet and pump, whole: they leave a sound site sound, and a done one writes exactly its messages' bytes, 4,096 at most, each of
+-- The calls packet and pump, whole: a done one writes exactly its messages' bytes, 4,096 at most, each of
 -- which reads back to its message. Statements only: their proof is `kept`.
 -- Assumes nothing.
 use Prim.Native.Nat.{ℕ}
@@ -11,7 +11,7 @@ use Rattle.identity.specs.declared.Identity.{Identity}
 use Rattle.identity.specs.Read.{SixteenBytes}
 use Rattle.site.specs.declared.Site.{Site}
 use Rattle.site.specs.declared.Step.{Step}
-use Rattle.site.specs.Call.{Gives, stepOf}
+use Rattle.site.specs.Call.{Gives}
 use Rattle.call_pump.specs.Pump.{pumpRefuses, pumpPlan}
 use Rattle.call_packet.specs.Packet.{packetTaken, packetRefuses}
 use Rattle.call_laws.specs.Sound.{SoundAt, Sound}
@@ -19,8 +19,6 @@ use Rattle.call_laws.specs.Formedness.{Sendable, Wrote}
 
 -- p is the packet, id the identity to be sent; room is the length of the output
 pub record PacketLaws : Type 0 where
-  pub keeps : (s : Site) → Sound s → (l time : ℕ) (id : Identity) (room end : ℕ) (p : List ℕ)
-      → Sound (stepOf s time (packetRefuses s l time id room p) (packetTaken s l time id p .plan) end .site)
   pub sends : (time : ℕ) (s : Site) → SoundAt time s → (l : ℕ) (id : Identity) → SixteenBytes (id .bytes) → (p : List ℕ)
       → Sendable (packetTaken s l time id p .plan .messages)
   pub packet-writes : (s : Site) → Sound s → (l time : ℕ) (id : Identity) → SixteenBytes (id .bytes) → (p xs ys : List ℕ) (r : Step) (d : Report)

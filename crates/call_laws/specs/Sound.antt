@@ -1,6 +1,6 @@
 -- The invariants of a reachable site, each by its part of the site. Statements only: their proofs are `started` and `kept`.
 -- Assumes nothing.
-use Prim.Native.Nat.{ℕ, _+_, _*_, _^_, _≤_, _<_}
+use Prim.Native.Nat.{ℕ, _+_, _*_, _/_, _%_, _^_, _≤_, _<_}
 use mathlib.Core.Path.{_≡_}
 use mathlib.Core.Bool.{true}
 use mathlib.Core.List.{List, [], _∷_}
@@ -24,6 +24,7 @@ use Rattle.table_whole.specs.Table.{Table}
 use Rattle.table_whole.specs.Allowed.{Allowed}
 use Rattle.table_whole.specs.Memory.{memoryOf}
 use Rattle.site.specs.declared.Site.{Site}
+use Rattle.site.specs.Site.{ownedBy}
 
 -- what start was given: 1 to 4 links, the primary one of them or 65535, a period of 1 to 3600 seconds, an allowed table as it is kept
 pub record SoundStart (links primary period : ℕ) (table : SiteTable) : Type 0 where
@@ -72,13 +73,15 @@ pub record SoundSubscriptions (links statuses : ℕ) (xs : List Subscription) : 
 abbrev pub itemsOf : SiteTable → ℕ → ℕ
 itemsOf t kind = pick (eqb kind 0) (t .alarmcount) (pick (eqb kind 1) (t .statuscount) 1)
 
--- a record is one that the record reader accepts, of a configured link and an item of the table, made by now; alarm records are the primary's alone
-pub record SoundEntry (links primary : ℕ) (t : SiteTable) (now : ℕ) (e : Entry) : Type 0 where
+-- a record of a site is one that the record reader accepts, of a configured link and an item of the table, made by now; alarm records are
+-- the primary's alone
+pub record SoundEntry (site links primary : ℕ) (t : SiteTable) (now : ℕ) (e : Entry) : Type 0 where
   pub valid : Valid e
-  pub link : e .link < links
+  pub of-site : e .link / 4 ≡ site
+  pub link : e .link % 4 < links
   pub item : e .item < itemsOf t (e .kind)
   pub time : e .time ≤ now
-  pub for-primary : e .kind ≡ 0 → e .link ≡ primary
+  pub for-primary : e .kind ≡ 0 → e .link % 4 ≡ primary
 
 -- it holds of every record that stands in these places
 abbrev pub EachHeld : (Entry → Type 0) → List Place → Type 0
@@ -92,10 +95,15 @@ Each P (e ∷ es) = P e × Each P es
 
 -- a record of the site, made by now
 abbrev pub EntryOf : Site → ℕ → Entry → Type 0
-EntryOf s now = SoundEntry (s .linkcount) (s .primary) (s .table) now
+EntryOf s now = SoundEntry (s .site) (s .linkcount) (s .primary) (s .table) now
+
+-- a held record is the other site's, or one of the site, made by now
+abbrev pub HeldOf : Site → ℕ → Entry → Type 0
+HeldOf s now e = ownedBy s (e .link) ≡ true → EntryOf s now e
 
 -- the site's parts are sound, where `now` is the last time
 pub record SoundAt (now : ℕ) (s : Site) : Type 0 where
+  pub site : s .site < 2
   pub start : SoundStart (s .linkcount) (s .primary) (s .period) (s .table)
   pub last : now ≤ lastTime
   pub next : s .next ≤ 2147483648
@@ -104,7 +112,7 @@ pub record SoundAt (now : ℕ) (s : Site) : Type 0 where
   pub alarms : SoundAlarms now (s .alarms)
   pub statuses : SoundStatuses (s .statuses)
   pub aggregated : SoundAggregated now (s .aggregated)
-  pub held : EachHeld (EntryOf s now) (s .pool .places)
+  pub held : EachHeld (HeldOf s now) (s .pool .places)
 
 abbrev pub Sound : Site → Type 0
 Sound s = SoundAt (s .last) s

@@ -1,21 +1,12 @@
--- Connect, disconnect, the three inputs and tick leave a sound site sound, whatever they are given and whatever they answer.
--- Statements only: their proof is `kept`.
+-- The plan of every call of a sound site is sound, whatever it is given, where none of the call's conditions applies. Statement only: its proof is `planned`.
 -- Assumes nothing.
-use Prim.Native.Nat.{ℕ, _<_}
-use mathlib.Core.Bool.{Bool}
-use lib.IntN.{ℤ}
-use Rattle.number.specs.Signed.{Signed32}
+use Rattle.answer.specs.Order.{inOrder, None}
 use Rattle.site.specs.declared.Site.{Site}
-use Rattle.call_link.specs.Connect.{connectStep, disconnectStep}
-use Rattle.call_input.specs.Inputs.{alarmStep, statusStep, aggregatedStep}
-use Rattle.call_tick.specs.Tick.{tickStep}
+use Rattle.call_laws.specs.Numbers.{conditions}
+use Rattle.call_laws.specs.Calls.{Call, timeOf, refuses, planOf}
+use Rattle.call_laws.specs.Typed.{Typed}
 use Rattle.call_laws.specs.Sound.{Sound}
+use Rattle.call_laws.specs.SoundPlans.{SoundPlan}
 
-pub record Calls : Type 0 where
-  pub connect : (s : Site) → Sound s → (l time : ℕ) → Sound (connectStep s l time .site)
-  pub disconnect : (s : Site) → Sound s → (l time : ℕ) → Sound (disconnectStep s l time .site)
-  pub alarm : (s : Site) → Sound s → (k : ℕ) (active : Bool) (time : ℕ) → Sound (alarmStep s k active time .site)
-  -- a status' value has 32 bits, the aggregated value eight: these are the types of the calls' arguments
-  pub status : (s : Site) → Sound s → (k : ℕ) (value : ℤ) (time : ℕ) → Signed32 value → Sound (statusStep s k value time .site)
-  pub aggregated : (s : Site) → Sound s → (value time : ℕ) → value < 256 → Sound (aggregatedStep s value time .site)
-  pub tick : (s : Site) → Sound s → (time : ℕ) → Sound (tickStep s time .site)
+abbrev pub Planned : Type 0
+Planned = (s : Site) → Sound s → (c : Call) → Typed c → None (conditions (refuses s c) (planOf s c)) inOrder → SoundPlan s (timeOf c) (planOf s c)

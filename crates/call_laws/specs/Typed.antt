@@ -1,7 +1,6 @@
 -- What the types of a call's arguments say.
 -- Assumes nothing.
 use Prim.Native.Nat.{_<_}
-use mathlib.Core.List.{List, [], _∷_}
 use Rattle.number.specs.Signed.{Signed32}
 use Rattle.identity.specs.Read.{SixteenBytes}
 use Rattle.call_laws.specs.Calls.{Call}
@@ -16,7 +15,3 @@ Typed (status k value time) = Signed32 value
 Typed (aggregated value time) = value < 256
 Typed (tick time) = Unit {0}
 Typed (pump l time random out) = SixteenBytes (random .bytes)
-
-abbrev pub EachTyped : List Call → Type 0
-EachTyped [] = Unit {0}
-EachTyped (c ∷ cs) = Typed c × EachTyped cs

@@ -6,7 +6,7 @@ use Rattle.link.specs.declared.Role.the-variants.{Primary, Secondary}
 use Rattle.link.specs.Promises.{Order}
 use Rattle.link.proofs.Kept.{order}
 use Rattle.site.specs.declared.Site.{Site}
-use Rattle.site.specs.Site.{linkAt, roleOf}
+use Rattle.site.specs.Site.{linkAt, roleOf, ownerOf}
 use Rattle.call_pump.specs.Pump.{isHeld}
 use Rattle.call_pump.specs.Claims.{Passing, Passed, InOrder}
 
@@ -16,7 +16,7 @@ is-primary false e = let z : _≡_ {A = ℕ} 0 1 = cc in absurd (omega arith)
 
 pub in-order : (s : Site) (l time : ℕ) → InOrder s l time
 in-order s l time =
-    let u : Bool = isHeld (oldestUnsent (s .pool) l) in
+    let u : Bool = isHeld (oldestUnsent (s .pool) (ownerOf s l)) in
     let o : Order (linkAt s l) time (s .period) (s .table .alarmcount) (roleOf s l) u = order (linkAt s l) time (s .period) (s .table .alarmcount) (roleOf s l) u in
     record {
       watchdog = o .watchdog;

@@ -19,7 +19,7 @@ use Rattle.write_message.proofs.Kept.{kept as written-kept}
 use Rattle.alarm.specs.Issued.{issuedOf}
 use Rattle.site.specs.declared.Site.{Site}
 use Rattle.site.specs.declared.Step.{Step}
-use Rattle.site.specs.Site.{withIssued}
+use Rattle.site.specs.Site.{withIssued, ownerOf}
 use Rattle.site.specs.Parts.{alarmAt}
 use Rattle.site.specs.Call.{Plan, batchOf, reportOf, stepped, answerOf, stepOf, writtenTo, outAfter}
 use Rattle.send_message.specs.Sending.{alarmMessage}
@@ -112,5 +112,5 @@ kept =
       entry = λ s l time id x d e. ap (λ (y : Due). planFor y s l time id) d ∙ ap (λ (o : Sought). entryPlan o s l time id) e;
       carries = λ s l time id k x d f h. with-carried s l time id k (Held (x .entry .sequence)) d (carries s l k x f h);
       other = λ s l time id k x d f n. with-carried s l time id k NoRecord d (carries-none s l k x f n);
-      none = λ s l time id k d f. with-carried s l time id k NoRecord d (ap (carriedOf (issuedOf (alarmAt s k) l k)) f);
+      none = λ s l time id k d f. with-carried s l time id k NoRecord d (ap (carriedOf (issuedOf (alarmAt s k) (ownerOf s l) k)) f);
     }

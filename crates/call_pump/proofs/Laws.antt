@@ -29,14 +29,14 @@ use Rattle.write_message.specs.Pieces.{pieces}
 use Rattle.table_whole.specs.declared.SiteTable.{SiteTable}
 use Rattle.site.specs.declared.Site.{Site}
 use Rattle.site.specs.declared.Step.{Step}
-use Rattle.site.specs.Site.{noLinkAt, badTimeAt, linkAt, downAt, withIssued}
+use Rattle.site.specs.Site.{noLinkAt, badTimeAt, ownerOf, linkAt, downAt, withIssued}
 use Rattle.site.specs.Call.{Plan, only, batchOf, never, when, issuing, reportOf, stepped, refused, answerOf, stepOf, nothingOf, writtenTo, outAfter, Gives}
 use Rattle.site.proofs.Checks.{link-below}
 use Rattle.awaited.specs.Awaited.{findOf, isAwaited}
 use Rattle.link.specs.Steps.{crowdedOf}
 use Rattle.store_site.specs.Layout.{siteOf, withLast}
-use Rattle.store_site.specs.Turns.{Turns}
-use Rattle.store_site.proofs.TurnsLaws.{turns-then}
+use Rattle.store_site.specs.Turns.{Turns, Moves}
+use Rattle.store_site.proofs.TurnsLaws.{turns-moves, moves-then}
 use Rattle.store_call.specs.Called.{GivesIn}
 use Rattle.store_call.proofs.CallLaws.{gives-refused, gives-done}
 use Rattle.call_pump.specs.Pump.{dueAt, isNothing, pumpRefuses, sends, entryPlan, planFor, pumpPlan, verdictOf, finished, Below}
@@ -124,7 +124,7 @@ done-answer : (b : Batch) (p : Site) (o : Answer) → b ≡ beginning (p .pool) 
 done-answer b p o e = ap (λ (w : Batch). pick (w .spent) (Refused SequenceSpent) o) e
 
 no-batch : (p : Plan) → p .issued ≡ [] → batchOf p ≡ beginning (p .site .pool) (p .site .next)
-no-batch p i = ap (λ (es : List HeldEntry). issuedAll 4 (p .site .pool) (p .site .next) es) i
+no-batch p i = ap (λ (es : List HeldEntry). issuedAll 8 (p .site .pool) (p .site .next) es) i
 
 -- pump issues nothing
 entry-issues : (x : Sought) (s : Site) (l time : ℕ) (id : Identity) → entryPlan x s l time id .issued ≡ []
@@ -137,7 +137,7 @@ plan-issues Version s l time id = refl
 plan-issues Watchdog s l time id = refl
 plan-issues Aggregated s l time id = refl
 plan-issues (Alarm k) s l time id = refl
-plan-issues Entry s l time id = entry-issues (oldestUnsent (s .pool) l) s l time id
+plan-issues Entry s l time id = entry-issues (oldestUnsent (s .pool) (ownerOf s l)) s l time id
 
 -- what the answer is, where the checks gave their own
 module _ (s : Site) (l time : ℕ) (id : Identity) (room : ℕ) where
@@ -165,15 +165,15 @@ abbrev pub Ends : ℕ → ℕ → List ℕ → List ℕ → Answer → Type 0
 Ends time end us vs r = (r ≡ Done (record { hint = 0; written = end % 4294967296; closed = 0; hinted = 0; commands = 0 })) × Turns (λ (s : Site). withLast s time) us vs
 
 -- nothing written
-pub quiet : {t : SiteTable} {time : ℕ} {ws vs xs : List ℕ} {r : Answer} → Ends time 0 ws vs r → GivesIn t time never (only (siteOf ws t)) ws vs xs xs r
-quiet {t} {ws = ws} e = rw (e .0) (gives-done t ws _ (e .1) (record { step = refl; out = refl }))
+pub quiet : {t : SiteTable} {time : ℕ} {ws vs xs : List ℕ} {r : Answer} (ps : List ℕ) → Ends time 0 ws vs r → GivesIn t time never (only (siteOf ps ws t)) ps ps ws vs xs xs r
+quiet {t} {ws = ws} ps e = rw (e .0) (gives-done t ps ws _ (turns-moves ps (e .1)) (record { step = refl; out = refl }))
 
 -- a message that was written from the beginning on, then the change
-pub sent : {t : SiteTable} {f : Site → Site} {m : Message} {time end : ℕ} {ws us vs xs ys : List ℕ} {r : Answer}
-    → Wrote xs 0 (pieces m) ys end → Turns f ws us → Ends time end us vs r → GivesIn t time never (sends (f (siteOf ws t)) m) ws vs xs ys r
-sent {t} {f} {m} {time} {end} {ws} {us} {vs} {xs} w c e =
-    let a = w .all ∙ ap (λ (ps : List (List ℕ)). putAll (output xs 0) ps) (sym (append-nil (pieces m))) in
-    rw (e .0) (gives-done t ws _ (turns-then c (e .1)) (record { step = ap (λ (o : Out). finished (only (f (siteOf ws t))) time (o .end)) a; out = ap (λ (o : Out). o .bytes) a }))
+pub sent : {t : SiteTable} {f : Site → Site} {m : Message} {time end : ℕ} {ps qs ws us vs xs ys : List ℕ} {r : Answer}
+    → Wrote xs 0 (pieces m) ys end → Moves f ps qs ws us → Ends time end us vs r → GivesIn t time never (sends (f (siteOf ps ws t)) m) ps qs ws vs xs ys r
+sent {t} {f} {m} {time} {end} {ps} {qs} {ws} {us} {vs} {xs} w c e =
+    let a = w .all ∙ ap (λ (zs : List (List ℕ)). putAll (output xs 0) zs) (sym (append-nil (pieces m))) in
+    rw (e .0) (gives-done t ps ws _ (moves-then c (turns-moves qs (e .1))) (record { step = ap (λ (o : Out). finished (only (f (siteOf ps ws t))) time (o .end)) a; out = ap (λ (o : Out). o .bytes) a }))
 
 never-clear : (w : Batch) (o : Answer) → judged (issuing w never) inOrder o ≡ pick (w .spent) (Refused SequenceSpent) o
 never-clear w o = refl
@@ -183,18 +183,18 @@ never-steps s time p end i =
     ap (stepped s (withIssued (p .site) (batchOf p) time)) (never-clear (batchOf p) _ ∙ done-answer (batchOf p) (p .site) _ (no-batch p i))
     ∙ ap (λ (b : Batch). stepped s (withIssued (p .site) b time) (Done (reportOf p end))) (no-batch p i)
 
-module _ (t : SiteTable) (ws : List ℕ) (l time : ℕ) (id : Identity) where
-  abbrev pub Pumped : List ℕ → List ℕ → List ℕ → Answer → Type 0
-  Pumped xs vs ys r = GivesIn t time (pumpRefuses (siteOf ws t) l time id (length xs)) (pumpPlan (siteOf ws t) l time id) ws vs xs ys r
+module _ (t : SiteTable) (ps ws : List ℕ) (l time : ℕ) (id : Identity) where
+  abbrev pub Pumped : List ℕ → List ℕ → List ℕ → List ℕ → Answer → Type 0
+  Pumped xs qs vs ys r = GivesIn t time (pumpRefuses (siteOf ps ws t) l time id (length xs)) (pumpPlan (siteOf ps ws t) l time id) ps qs ws vs xs ys r
 
-  pub refused-in : {xs : List ℕ} {v : Answer} {x : Refusal} → v ≡ verdictOf (siteOf ws t) l time id (length xs) → v ≡ Refused x → Pumped xs ws xs (Refused x)
-  refused-in {x = x} e d = gives-refused t ws x (refused-gives (siteOf ws t) l time id (pumpPlan (siteOf ws t) l time id) (sym e ∙ d) refl)
+  pub refused-in : {xs : List ℕ} {v : Answer} {x : Refusal} → v ≡ verdictOf (siteOf ps ws t) l time id (length xs) → v ≡ Refused x → Pumped xs ps ws xs (Refused x)
+  refused-in {x = x} e d = gives-refused t ps ws x (refused-gives (siteOf ps ws t) l time id (pumpPlan (siteOf ps ws t) l time id) (sym e ∙ d) refl)
 
   -- where none of the checks refuses, what is due is all
-  pub done-in : {xs vs ys : List ℕ} {v : Answer} {q : Report} {r : Answer} → v ≡ verdictOf (siteOf ws t) l time id (length xs) → v ≡ Done q
-      → GivesIn t time never (pumpPlan (siteOf ws t) l time id) ws vs xs ys r → Pumped xs vs ys r
+  pub done-in : {xs qs vs ys : List ℕ} {v : Answer} {q : Report} {r : Answer} → v ≡ verdictOf (siteOf ps ws t) l time id (length xs) → v ≡ Done q
+      → GivesIn t time never (pumpPlan (siteOf ps ws t) l time id) ps qs ws vs xs ys r → Pumped xs qs vs ys r
   done-in {xs = xs} e d g =
-      let s = siteOf ws t in
+      let s = siteOf ps ws t in
       let p = pumpPlan s l time id in
       let end = writtenTo xs (p .messages) .end in
       let i = plan-issues (dueAt s l time) s l time id in

@@ -22,7 +22,7 @@ use Rattle.link.specs.Phase.{phaseOf}
 use Rattle.link.specs.Due.{alarmsFor, dueUp, dueIn, dueOf}
 use Rattle.write_message.specs.Message.{Message}
 use Rattle.site.specs.declared.Site.{Site}
-use Rattle.site.specs.Site.{linkAt, roleOf}
+use Rattle.site.specs.Site.{linkAt, roleOf, ownerOf}
 use Rattle.send_after.specs.declared.Carried.{Carried}
 use Rattle.send_after.specs.declared.Carried.the-variants.{Held, NoRecord}
 use Rattle.send_after.specs.Outgoing.{marked, sameEvent, carriedOf, carriedAt}
@@ -62,15 +62,15 @@ held-found : (x : Sought) → isHeld x ≡ true → (y : Place) × (x ≡ Found 
 held-found (Found y) e = (y, refl)
 held-found NoEntry e = let z : _≡_ {A = ℕ} 0 1 = cc in absurd (omega arith)
 
-pub found : (s : Site) (l time : ℕ) → dueAt s l time ≡ Entry → (x : Place) × (oldestUnsent (s .pool) l ≡ Found x)
+pub found : (s : Site) (l time : ℕ) → dueAt s l time ≡ Entry → (x : Place) × (oldestUnsent (s .pool) (ownerOf s l) ≡ Found x)
 found s l time e =
-    held-found (oldestUnsent (s .pool) l)
-    (subst (IfUnsent (isHeld (oldestUnsent (s .pool) l))) e
-    (due-unsent (linkAt s l) time (s .period) (roleOf s l) (s .table .alarmcount) (isHeld (oldestUnsent (s .pool) l))))
+    held-found (oldestUnsent (s .pool) (ownerOf s l))
+    (subst (IfUnsent (isHeld (oldestUnsent (s .pool) (ownerOf s l)))) e
+    (due-unsent (linkAt s l) time (s .period) (roleOf s l) (s .table .alarmcount) (isHeld (oldestUnsent (s .pool) (ownerOf s l)))))
 
 module _ (s : Site) (l time : ℕ) (id : Identity) where
   -- what is due is one message
-  pub one-for : (d : Due) → (d ≡ Nothing → ⊥) → (d ≡ Entry → (x : Place) × (oldestUnsent (s .pool) l ≡ Found x)) → (m : Message) × (planFor d s l time id .messages ≡ m ∷ [])
+  pub one-for : (d : Due) → (d ≡ Nothing → ⊥) → (d ≡ Entry → (x : Place) × (oldestUnsent (s .pool) (ownerOf s l) ≡ Found x)) → (m : Message) × (planFor d s l time id .messages ≡ m ∷ [])
   one-for Nothing n f = absurd (n refl)
   one-for Version n f = (_, refl)
   one-for Watchdog n f = (_, refl)
@@ -88,7 +88,7 @@ module _ (s : Site) (l time : ℕ) (id : Identity) where
   most-for Watchdog = omega arith
   most-for Aggregated = omega arith
   most-for (Alarm k) = omega arith
-  most-for Entry = most-entry (oldestUnsent (s .pool) l)
+  most-for Entry = most-entry (oldestUnsent (s .pool) (ownerOf s l))
 
   -- nothing is closed, and there is no hint
   quiet-entry : (x : Sought) → (entryPlan x s l time id .closed ≡ 0) × (entryPlan x s l time id .hint ≡ none) × (entryPlan x s l time id .commands ≡ [])
@@ -101,49 +101,49 @@ module _ (s : Site) (l time : ℕ) (id : Identity) where
   quiet-for Watchdog = (refl, refl, refl)
   quiet-for Aggregated = (refl, refl, refl)
   quiet-for (Alarm k) = (refl, refl, refl)
-  quiet-for Entry = quiet-entry (oldestUnsent (s .pool) l)
+  quiet-for Entry = quiet-entry (oldestUnsent (s .pool) (ownerOf s l))
 
   -- the pool's records stay
-  marked-held : (c : Carried) (q m k : ℕ) → Reached 4 (s .pool) q → HeldIn (s .pool) m k → HeldIn (marked (s .pool) l c) m k
-  marked-held (Held j) q m k r h = kept 4 (omega arith) .marking (s .pool) q r l j m k h
+  marked-held : (c : Carried) (q : ℕ → ℕ) (m k : ℕ) → Reached 8 (s .pool) q → HeldIn (s .pool) m k → HeldIn (marked (s .pool) (ownerOf s l) c) m k
+  marked-held (Held j) q m k r h = kept 8 (omega arith) .marking (s .pool) q r (ownerOf s l) j m k h
   marked-held NoRecord q m k r h = h
 
-  entry-held : (x : Sought) (q m k : ℕ) → Reached 4 (s .pool) q → HeldIn (s .pool) m k → HeldIn (entryPlan x s l time id .site .pool) m k
+  entry-held : (x : Sought) (q : ℕ → ℕ) (m k : ℕ) → Reached 8 (s .pool) q → HeldIn (s .pool) m k → HeldIn (entryPlan x s l time id .site .pool) m k
   entry-held NoEntry q m k r h = h
   entry-held (Found x) q m k r h = marked-held (Held (x .entry .sequence)) q m k r h
 
-  pub held-for : (d : Due) (q m k : ℕ) → Reached 4 (s .pool) q → HeldIn (s .pool) m k → HeldIn (planFor d s l time id .site .pool) m k
+  pub held-for : (d : Due) (q : ℕ → ℕ) (m k : ℕ) → Reached 8 (s .pool) q → HeldIn (s .pool) m k → HeldIn (planFor d s l time id .site .pool) m k
   held-for Nothing q m k r h = h
   held-for Version q m k r h = h
   held-for Watchdog q m k r h = h
   held-for Aggregated q m k r h = h
   held-for (Alarm j) q m k r h = marked-held (carriedAt s l j) q m k r h
-  held-for Entry q m k r h = entry-held (oldestUnsent (s .pool) l) q m k r h
+  held-for Entry q m k r h = entry-held (oldestUnsent (s .pool) (ownerOf s l)) q m k r h
 
-  marked-reached : (c : Carried) (q : ℕ) → Reached 4 (s .pool) q → Reached 4 (marked (s .pool) l c) q
-  marked-reached (Held j) q r = after (Mark l j) r tt
+  marked-reached : (c : Carried) (q : ℕ → ℕ) → Reached 8 (s .pool) q → Reached 8 (marked (s .pool) (ownerOf s l) c) q
+  marked-reached (Held j) q r = after (Mark (ownerOf s l) j) r tt
   marked-reached NoRecord q r = r
 
-  entry-reached : (x : Sought) (q : ℕ) → Reached 4 (s .pool) q → Reached 4 (entryPlan x s l time id .site .pool) q
+  entry-reached : (x : Sought) (q : ℕ → ℕ) → Reached 8 (s .pool) q → Reached 8 (entryPlan x s l time id .site .pool) q
   entry-reached NoEntry q r = r
   entry-reached (Found x) q r = marked-reached (Held (x .entry .sequence)) q r
 
-  pub reached-for : (d : Due) (q : ℕ) → Reached 4 (s .pool) q → Reached 4 (planFor d s l time id .site .pool) q
+  pub reached-for : (d : Due) (q : ℕ → ℕ) → Reached 8 (s .pool) q → Reached 8 (planFor d s l time id .site .pool) q
   reached-for Nothing q r = r
   reached-for Version q r = r
   reached-for Watchdog q r = r
   reached-for Aggregated q r = r
   reached-for (Alarm j) q r = marked-reached (carriedAt s l j) q r
-  reached-for Entry q r = entry-reached (oldestUnsent (s .pool) l) q r
+  reached-for Entry q r = entry-reached (oldestUnsent (s .pool) (ownerOf s l)) q r
 
 -- what the message of alarm k carries
-module _ (s : Site) (l k : ℕ) (x : Place) (f : newestAlarm (s .pool) l k ≡ Found x) where
+module _ (s : Site) (l k : ℕ) (x : Place) (f : newestAlarm (s .pool) (ownerOf s l) k ≡ Found x) where
   same : Bool
-  same = sameEvent (x .entry) (issuedOf (alarmAt s k) l k)
+  same = sameEvent (x .entry) (issuedOf (alarmAt s k) (ownerOf s l) k)
 
   newest : carriedAt s l k ≡ pick same (Held (x .entry .sequence)) NoRecord
   unfolding same
-  newest = ap (carriedOf (issuedOf (alarmAt s k) l k)) f
+  newest = ap (carriedOf (issuedOf (alarmAt s k) (ownerOf s l) k)) f
 
   pub carries : SameEvent s k x → carriedAt s l k ≡ Held (x .entry .sequence)
   unfolding same

@@ -26,7 +26,7 @@ use Rattle.write_message.specs.Listing.{bytesOf}
 use Rattle.alarm.specs.Issued.{issuedOf}
 use Rattle.site.specs.declared.Site.{Site}
 use Rattle.site.specs.declared.Step.{Step}
-use Rattle.site.specs.Site.{linkAt, withLink, withPool}
+use Rattle.site.specs.Site.{linkAt, withLink, withPool, ownerOf}
 use Rattle.site.specs.Parts.{alarmAt}
 use Rattle.site.specs.Call.{Gives}
 use Rattle.send_message.specs.Sending.{alarmMessage, entryMessage}
@@ -78,8 +78,8 @@ module _ (s : Site) (l time : ℕ) where
     -- then on the primary every alarm 0 upwards
     pub alarm : Passing → l ≡ s .primary → linkAt s l .alarm < s .table .alarmcount → dueAt s l time ≡ Alarm (linkAt s l .alarm)
     -- then the oldest held record not sent
-    pub entry : Passing → Passed → (x : Place) → oldestUnsent (s .pool) l ≡ Found x → dueAt s l time ≡ Entry
-    pub nothing : Passing → Passed → oldestUnsent (s .pool) l ≡ NoEntry → dueAt s l time ≡ Nothing
+    pub entry : Passing → Passed → (x : Place) → oldestUnsent (s .pool) (ownerOf s l) ≡ Found x → dueAt s l time ≡ Entry
+    pub nothing : Passing → Passed → oldestUnsent (s .pool) (ownerOf s l) ≡ NoEntry → dueAt s l time ≡ Nothing
 
 pub record Claims : Type 0 where
   pub in-order : (s : Site) (l time : ℕ) → InOrder s l time
@@ -98,21 +98,21 @@ pub record Claims : Type 0 where
   pub most : (s : Site) (l time : ℕ) (id : Identity) → length (pumpPlan s l time id .messages) ≤ 1
   pub issues-none : (s : Site) (l time : ℕ) (id : Identity) → pumpPlan s l time id .issued ≡ []
   -- a record that is sent stays held, and nothing is lost
-  pub held : (s : Site) (l time : ℕ) (id : Identity) (q m k : ℕ) → Reached 4 (s .pool) q → Held (s .pool) m k → Held (pumpPlan s l time id .site .pool) m k
-  pub reached : (s : Site) (l time : ℕ) (id : Identity) (q : ℕ) → Reached 4 (s .pool) q → Reached 4 (pumpPlan s l time id .site .pool) q
+  pub held : (s : Site) (l time : ℕ) (id : Identity) (q : ℕ → ℕ) (m k : ℕ) → Reached 8 (s .pool) q → Held (s .pool) m k → Held (pumpPlan s l time id .site .pool) m k
+  pub reached : (s : Site) (l time : ℕ) (id : Identity) (q : ℕ → ℕ) → Reached 8 (s .pool) q → Reached 8 (pumpPlan s l time id .site .pool) q
   -- after the first pass: the oldest held record not sent, which is marked
-  pub found : (s : Site) (l time : ℕ) → dueAt s l time ≡ Entry → (x : Place) × (oldestUnsent (s .pool) l ≡ Found x)
-  pub entry : (s : Site) (l time : ℕ) (id : Identity) (x : Place) → dueAt s l time ≡ Entry → oldestUnsent (s .pool) l ≡ Found x
+  pub found : (s : Site) (l time : ℕ) → dueAt s l time ≡ Entry → (x : Place) × (oldestUnsent (s .pool) (ownerOf s l) ≡ Found x)
+  pub entry : (s : Site) (l time : ℕ) (id : Identity) (x : Place) → dueAt s l time ≡ Entry → oldestUnsent (s .pool) (ownerOf s l) ≡ Found x
       → pumpPlan s l time id
-      ≡ sends (withPool (withLink s l (messageOutOf (linkAt s l) id time (ForEntry (x .entry .sequence)))) (markOf (s .pool) l (x .entry .sequence)))
+      ≡ sends (withPool (withLink s l (messageOutOf (linkAt s l) id time (ForEntry (x .entry .sequence)))) (markOf (s .pool) (ownerOf s l) (x .entry .sequence)))
       (entryMessage s (id .bytes) (x .entry))
   -- the first pass: where the newest held record of the alarm equals its last event, states and time, the message carries that record
-  pub carries : (s : Site) (l time : ℕ) (id : Identity) (k : ℕ) (x : Place) → dueAt s l time ≡ Alarm k → newestAlarm (s .pool) l k ≡ Found x → SameEvent s k x
+  pub carries : (s : Site) (l time : ℕ) (id : Identity) (k : ℕ) (x : Place) → dueAt s l time ≡ Alarm k → newestAlarm (s .pool) (ownerOf s l) k ≡ Found x → SameEvent s k x
       → pumpPlan s l time id
-      ≡ sends (withPool (withLink s l (alarmPassedOf (messageOutOf (linkAt s l) id time (ForEntry (x .entry .sequence))))) (markOf (s .pool) l (x .entry .sequence)))
+      ≡ sends (withPool (withLink s l (alarmPassedOf (messageOutOf (linkAt s l) id time (ForEntry (x .entry .sequence))))) (markOf (s .pool) (ownerOf s l) (x .entry .sequence)))
       (alarmMessage s (id .bytes) k)
   -- and none where it does not, or none is held
-  pub other : (s : Site) (l time : ℕ) (id : Identity) (k : ℕ) (x : Place) → dueAt s l time ≡ Alarm k → newestAlarm (s .pool) l k ≡ Found x → (SameEvent s k x → ⊥)
+  pub other : (s : Site) (l time : ℕ) (id : Identity) (k : ℕ) (x : Place) → dueAt s l time ≡ Alarm k → newestAlarm (s .pool) (ownerOf s l) k ≡ Found x → (SameEvent s k x → ⊥)
       → pumpPlan s l time id ≡ sends (withLink s l (alarmPassedOf (messageOutOf (linkAt s l) id time ForOther))) (alarmMessage s (id .bytes) k)
-  pub none : (s : Site) (l time : ℕ) (id : Identity) (k : ℕ) → dueAt s l time ≡ Alarm k → newestAlarm (s .pool) l k ≡ NoEntry
+  pub none : (s : Site) (l time : ℕ) (id : Identity) (k : ℕ) → dueAt s l time ≡ Alarm k → newestAlarm (s .pool) (ownerOf s l) k ≡ NoEntry
       → pumpPlan s l time id ≡ sends (withLink s l (alarmPassedOf (messageOutOf (linkAt s l) id time ForOther))) (alarmMessage s (id .bytes) k)

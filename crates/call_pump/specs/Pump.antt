@@ -27,7 +27,7 @@ use Rattle.write_message.specs.Message.{Message}
 use Rattle.write_message.specs.Message.Message.{version, watchdog}
 use Rattle.site.specs.declared.Site.{Site}
 use Rattle.site.specs.declared.Step.{Step}
-use Rattle.site.specs.Site.{noLinkAt, badTimeAt, roleOf, linkAt, downAt, withIssued}
+use Rattle.site.specs.Site.{noLinkAt, badTimeAt, roleOf, ownerOf, linkAt, downAt, withIssued}
 use Rattle.site.specs.Call.{Plan, only, never, when, reportOf, writtenTo, nothingOf}
 use Rattle.send_message.specs.Sending.{alarmMessage, aggregatedMessage, entryMessage}
 use Rattle.send_after.specs.Outgoing.{versionSent, watchdogSent, aggregatedSent, alarmSent, entrySent}
@@ -39,7 +39,7 @@ isHeld NoEntry = false
 -- what is due on the link
 abbrev pub dueAt : Site → ℕ → ℕ → Due
 dueAt s l time =
-    dueOf (linkAt s l) time (s .period) (roleOf s l) (s .table .alarmcount) (isHeld (oldestUnsent (s .pool) l))
+    dueOf (linkAt s l) time (s .period) (roleOf s l) (s .table .alarmcount) (isHeld (oldestUnsent (s .pool) (ownerOf s l)))
 
 -- an alarm that is due has a number below n
 abbrev pub Below : ℕ → Due → Type 0
@@ -97,7 +97,7 @@ planFor Version s l time id = versionPlan s l time id
 planFor Watchdog s l time id = watchdogPlan s l time id
 planFor Aggregated s l time id = aggregatedPlan s l time id
 planFor (Alarm k) s l time id = alarmPlan s l time id k
-planFor Entry s l time id = entryPlan (oldestUnsent (s .pool) l) s l time id
+planFor Entry s l time id = entryPlan (oldestUnsent (s .pool) (ownerOf s l)) s l time id
 
 abbrev pub pumpPlan : Site → ℕ → ℕ → Identity → Plan
 pumpPlan s l time id = planFor (dueAt s l time) s l time id

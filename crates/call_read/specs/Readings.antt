@@ -10,15 +10,15 @@ use Rattle.link.specs.declared.Phase.{Phase}
 use Rattle.link.specs.declared.Phase.the-variants.{Down, Greeting, Beating, Up}
 use Rattle.link.specs.Phase.{phaseOf}
 use Rattle.site.specs.declared.Site.{Site}
-use Rattle.site.specs.Site.{noLinkAt, linkAt}
+use Rattle.site.specs.Site.{noLinkAt, linkAt, ownerOf}
 use Rattle.call_read.specs.declared.ChosenVersion.{ChosenVersion}
 
 -- how many records of link l are held, and how many it lost since start
 abbrev pub heldAt : Site → ℕ → ℕ
-heldAt s l = pick (noLinkAt s l) 0 (heldOf (s .pool) l)
+heldAt s l = pick (noLinkAt s l) 0 (heldOf (s .pool) (ownerOf s l))
 
 abbrev pub lostAt : Site → ℕ → ℕ
-lostAt s l = pick (noLinkAt s l) 0 (lostOf (s .pool) l)
+lostAt s l = pick (noLinkAt s l) 0 (lostOf (s .pool) (ownerOf s l))
 
 abbrev pub phaseNumber : Phase → ℕ
 phaseNumber Down = 0
@@ -44,4 +44,4 @@ abbrev pub noReading : Reading
 noReading = readingOf Nothing
 
 abbrev pub recordAt : Site → ℕ → ℕ → Reading
-recordAt s l r = pick (noLinkAt s l) noReading (readingOf (rankedOf (s .pool) l r))
+recordAt s l r = pick (noLinkAt s l) noReading (readingOf (rankedOf (s .pool) (ownerOf s l) r))

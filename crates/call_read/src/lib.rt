@@ -1,9 +1,11 @@
-// What a host reads of a site, for every site table. Of a link that is not configured: Down, and zeros.
+// What a host reads of a site, for every site table; what is no record of its, for every pool ps. Of a link that is not configured: Down, and zeros.
+ghost use Prim.Native.Nat.{ℕ};
+ghost use mathlib.Core.List.{List};
 ghost use mathlib.Core.Path.{_≡_};
 ghost use lib.ListN.{length};
 ghost use Rattle.pool.specs.Pool.{readingOf};
 ghost use Rattle.table_whole.specs.declared.SiteTable.{SiteTable};
-ghost use Rattle.store_site.specs.Layout.{siteOf, siteWords};
+ghost use Rattle.store_site.specs.Layout.{siteOf, poolWords, siteWords};
 ghost use Rattle.call_read.specs.Readings.{heldAt, lostAt, phaseNumber, phaseAt, versionAt, recordAt};
 use link::Phase;
 use pool::Reading;
@@ -18,25 +20,25 @@ pub struct ChosenVersion {
 }
 
 // How many records of the link are held.
-pub fn held(w: &[u64], link: u32) -> u64
-    requires { ⌜ length (now w) ≡ siteWords ⌝ }
-    ensures { λ r. ⌜ ((t : SiteTable) → r ≡ heldAt (siteOf (now (w .entry)) t) link) ⌝ }
+pub fn held(p: &[u64], w: &[u64], link: u32) -> u64
+    requires { ⌜ (length (now p) ≡ poolWords) × (length (now w) ≡ siteWords) ⌝ }
+    ensures { λ r. ⌜ ((t : SiteTable) → r ≡ heldAt (siteOf (now (p .entry)) (now (w .entry)) t) link) ⌝ }
 {
     if store_site::head::no_link(w, link) {
         return 0;
     }
-    store_pool::read::held(w, link as u16) as u64
+    store_pool::read::held(p, store_site::head::owner(w, link as u16)) as u64
 }
 
 // How many records the link lost since start.
-pub fn lost(w: &[u64], link: u32) -> u64
-    requires { ⌜ length (now w) ≡ siteWords ⌝ }
-    ensures { λ r. ⌜ ((t : SiteTable) → r ≡ lostAt (siteOf (now (w .entry)) t) link) ⌝ }
+pub fn lost(p: &[u64], w: &[u64], link: u32) -> u64
+    requires { ⌜ (length (now p) ≡ poolWords) × (length (now w) ≡ siteWords) ⌝ }
+    ensures { λ r. ⌜ ((t : SiteTable) → r ≡ lostAt (siteOf (now (p .entry)) (now (w .entry)) t) link) ⌝ }
 {
     if store_site::head::no_link(w, link) {
         return 0;
     }
-    store_pool::read::lost(w, link as u16)
+    store_pool::read::lost(p, store_site::head::owner(w, link as u16))
 }
 
 fn phase_number(p: Phase) -> u32
@@ -53,7 +55,7 @@ fn phase_number(p: Phase) -> u32
 // 0 Down, 1 Greeting, 2 Beating, 3 Up.
 pub fn phase(w: &[u64], link: u32) -> u32
     requires { ⌜ length (now w) ≡ siteWords ⌝ }
-    ensures { λ r. ⌜ ((t : SiteTable) → r ≡ phaseAt (siteOf (now (w .entry)) t) link) ⌝ }
+    ensures { λ r. ⌜ ((ps : List ℕ) (t : SiteTable) → r ≡ phaseAt (siteOf ps (now (w .entry)) t) link) ⌝ }
 {
     if store_site::head::no_link(w, link) {
         return 0;
@@ -63,7 +65,7 @@ pub fn phase(w: &[u64], link: u32) -> u32
 
 pub fn version_of(w: &[u64], link: u32) -> ChosenVersion
     requires { ⌜ length (now w) ≡ siteWords ⌝ }
-    ensures { λ r. ⌜ ((t : SiteTable) → r ≡ versionAt (siteOf (now (w .entry)) t) link) ⌝ }
+    ensures { λ r. ⌜ ((ps : List ℕ) (t : SiteTable) → r ≡ versionAt (siteOf ps (now (w .entry)) t) link) ⌝ }
 {
     if store_site::head::no_link(w, link) {
         return ChosenVersion {
@@ -97,12 +99,13 @@ fn reading(s: Sought) -> Reading
 }
 
 // The sixteen bytes of the link's held record than which so many of the link are older.
-pub fn record_at(w: &[u64], link: u32, rank: u64) -> Reading
-    requires { ⌜ length (now w) ≡ siteWords ⌝ }
-    ensures { λ r. ⌜ ((t : SiteTable) → r ≡ recordAt (siteOf (now (w .entry)) t) link rank) ⌝ }
+pub fn record_at(p: &[u64], w: &[u64], link: u32, rank: u64) -> Reading
+    requires { ⌜ (length (now p) ≡ poolWords) × (length (now w) ≡ siteWords) ⌝ }
+    ensures { λ r. ⌜ ((t : SiteTable) → r ≡ recordAt (siteOf (now (p .entry)) (now (w .entry)) t) link rank) ⌝ }
 {
     if store_site::head::no_link(w, link) {
         return reading(Sought::Nothing);
     }
-    reading(store_pool::read::ranked(w, link as u16, rank as usize))
+    let owner = store_site::head::owner(w, link as u16);
+    reading(store_pool::read::ranked(p, owner, rank as usize))
 }

@@ -1,12 +1,11 @@
 -- What start left is read again: the site that it made, of the table that it was given.
 -- Assumes nothing.
-use Rattle.basis.proofs.Std.{ℕ, zero, suc, _<_, _≡_, refl, sym, ap, ap₂, subst, _∙_, true, true≢false, List, arith, ltb, getD, replicate, getD-replicate, ltb-true, bool-cases}
+use Rattle.basis.proofs.Std.{ℕ, zero, suc, _<_, _≡_, refl, sym, ap, ap₂, subst, _∙_, true, true≢false, _⊎_, inl, inr, List, arith, ltb, getD, replicate, getD-replicate, ltb-true, eq-eqb, ne-eqb, bool-cases}
 use Rattle.answer.specs.declared.Answer.{Answer}
 use Rattle.answer.specs.Number.{isDone}
 use Rattle.awaited.specs.Awaited.{nothingAwaited}
 use Rattle.awaited.specs.Slot.{freeSlot}
-use Rattle.pool.specs.Places.{noPlace}
-use Rattle.pool.specs.Pool.{emptyOf}
+use Rattle.pool.specs.declared.Pool.{Pool}
 use Rattle.link.specs.Fields.{closedLink}
 use Rattle.subscription.specs.Subscription.{none}
 use Rattle.alarm.specs.Alarm.{beginning}
@@ -14,16 +13,17 @@ use Rattle.status.specs.Status.{unknown}
 use Rattle.table_whole.specs.declared.SiteTable.{SiteTable}
 use Rattle.table_whole.specs.Memory.{memoryOf}
 use Rattle.site.specs.declared.Step.{Step}
-use Rattle.store_site.specs.Layout.{siteOf}
+use Rattle.store_site.specs.Layout.{poolIn, siteOf}
 use Rattle.store_site.specs.Turns.{Plain}
 use Rattle.store_table.specs.Layout.{tableOf, layoutOf}
 use Rattle.store_table.proofs.Kept.{kept-table}
-use Rattle.store_whole.specs.Range.{SlotFits, LinkFits, PlaceFits, SubscriptionFits, AlarmFits, StatusFits, InRange}
+use Rattle.store_whole.specs.Range.{SlotFits, LinkFits, SubscriptionFits, AlarmFits, StatusFits, InRange}
 use Rattle.store_whole.proofs.Forth.{site-forth, plain-forth}
-use Rattle.call_start.specs.Fresh.{fresh, primaryOf}
+use Rattle.call_start.specs.Fresh.{alone, siteFor, poolFor, fresh, primaryOf}
 use Rattle.call_start.specs.Starts.{Starts}
 use Rattle.call_start.specs.Starts.Starts.{starts, refuses}
 use Rattle.call_start.specs.Begun.{Begun, StartsIn}
+use Rattle.call_start.proofs.BegunLaws.{fresh-table}
 
 -- every element of a list that is filled with one
 filled : {A : Type 0} (P : A → Type 0) (n : ℕ) (x d : A) → P x → (k : ℕ) → k < n → P (getD (replicate n x) k d)
@@ -49,9 +49,6 @@ link-fits =
       slot = filled SlotFits 16 freeSlot freeSlot slot-fits;
     }
 
-place-fits : PlaceFits noPlace
-place-fits = record { value = omega arith; sequence = omega arith; link = omega arith; kind = omega arith; item = omega arith; flags = omega arith }
-
 subscription-fits : SubscriptionFits none
 subscription-fits = record { seconds = omega arith; state = omega arith }
 
@@ -61,29 +58,24 @@ alarm-fits time = record { event = omega arith; acknowledged = omega arith; acti
 status-fits : StatusFits unknown
 status-fits = record { value = omega arith; known = omega arith }
 
-pub fresh-range : (t : SiteTable) (links primary period first time : ℕ) → links < 65536 → primary < 65536 → period < 4294967296 → InRange (fresh t links primary period first time)
-unfolding fresh emptyOf
-fresh-range t links primary period first time l p q =
+pub fresh-range : (p : Pool) (site : ℕ) (t : SiteTable) (links primary period first time : ℕ) → site < 2 → links < 65536 → primary < 65536 → period < 2147483648
+    → InRange (fresh p site t links primary period first time)
+unfolding fresh
+fresh-range p site t links primary period first time o l m q =
     record {
+      site = o;
       period = q;
       linkcount = l;
-      primary = p;
-      lost = refl;
-      places = refl;
+      primary = m;
       links = refl;
       subscriptions = refl;
       alarms = refl;
       statuses = refl;
-      place = filled PlaceFits 128 noPlace noPlace place-fits;
       link = filled LinkFits 4 closedLink closedLink link-fits;
       subscription = filled SubscriptionFits 128 none none subscription-fits;
       alarm = filled AlarmFits 32 (beginning time) (beginning 0) (alarm-fits time);
       status = filled StatusFits 32 unknown unknown status-fits;
     }
-
-fresh-table : (t : SiteTable) (links primary period first time : ℕ) → fresh t links primary period first time .table ≡ t
-unfolding fresh
-fresh-table t links primary period first time = refl
 
 primary-small : (primary : ℕ) → primaryOf primary < 65536
 primary-small primary =
@@ -91,18 +83,23 @@ primary-small primary =
     (λ e. rw e (let h = ltb-true primary 4 e in omega arith))
     (λ e. rw e (omega arith))
 
-module _ {b : List ℕ} {links primary period first time : ℕ} {ws vs xs ys : List ℕ} {r : Answer} where
-  read : (x : Step) → Starts b links primary period first time x → Begun x ws vs xs ys r → isDone r ≡ true → (siteOf vs (tableOf ys) ≡ x .site) × Plain vs
+site-small : (site : ℕ) → (site < 2) ⊎ (site ≡ alone) → siteFor site < 2
+site-small site (inl l) = rw (ne-eqb site alone (λ h. omega (arith, h))) l
+site-small site (inr n) = rw (eq-eqb site alone n) (omega arith)
+
+module _ {b : List ℕ} {site links primary period first time : ℕ} {ps qs ws vs xs ys : List ℕ} {r : Answer} where
+  read : (x : Step) → Starts b (poolIn ps) site links primary period first time x → Begun x ps qs ws vs xs ys r → isDone r ≡ true → (siteOf qs vs (tableOf ys) ≡ x .site) × Plain vs
   read x (starts {t = t} a e w) g d =
-      let s = fresh (memoryOf t) links (primaryOf primary) period first time in
-      let own = fresh-table (memoryOf t) links (primaryOf primary) period first time in
-      let range = fresh-range (memoryOf t) links (primaryOf primary) period first time
+      let p = poolFor site (poolIn ps) in
+      let s = fresh p (siteFor site) (memoryOf t) links (primaryOf primary) period first time in
+      let own = fresh-table p (siteFor site) (memoryOf t) links (primaryOf primary) period first time in
+      let range = fresh-range p (siteFor site) (memoryOf t) links (primaryOf primary) period first time (site-small site (w .a-site-or-alone))
       (let h = w .most-links in omega arith) (primary-small primary) (let h = w .longest-period in omega arith) in
       let table : tableOf ys ≡ s .table = ap tableOf (g .bytes d ∙ ap layoutOf own) ∙ kept-table t a ∙ sym own in
-      (ap₂ siteOf (g .words d) table ∙ site-forth s range, subst Plain (sym (g .words d)) (plain-forth s range))
+      (ap₂ (siteOf qs) (g .words d) table ∙ site-forth s range qs (g .pool d), subst Plain (sym (g .words d)) (plain-forth s range))
   read x (refuses n) g d = absurd (true≢false (sym d ∙ ap isDone (g .answer)))
 
   -- where start is done, the words and the bytes are the site that it made, and what has happened on its links is 0 or 1
-  module _ (s : StartsIn b links primary period first time ws vs xs ys r) (d : isDone r ≡ true) where
-    pub site-again : siteOf vs (tableOf ys) ≡ s .step .site
+  module _ (s : StartsIn b site links primary period first time ps qs ws vs xs ys r) (d : isDone r ≡ true) where
+    pub site-again : siteOf qs vs (tableOf ys) ≡ s .step .site
     site-again = read (s .step) (s .starts) (s .begun) d .0

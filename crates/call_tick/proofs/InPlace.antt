@@ -12,13 +12,13 @@ use Rattle.subscription.specs.declared.Subscription.{Subscription}
 use Rattle.subscription.specs.Subscription.{none, tickOf}
 use Rattle.pool_laws.specs.Upwards.{entriesTo}
 use Rattle.site.specs.declared.Site.{Site}
-use Rattle.site.specs.Site.{linkAt, withSubscriptions, withIssued, closeAt, maskOf}
+use Rattle.site.specs.Site.{owner, ownerOf, linkAt, withSubscriptions, withIssued, closeAt, maskOf}
 use Rattle.site.specs.Parts.{statusAt, subscriptionAt, withSubscription}
 use Rattle.site.specs.Records.{statusRecord}
 use Rattle.site.specs.Call.{batchOf}
 use Rattle.store_site.specs.Layout.{siteOf, withLast}
-use Rattle.store_site.specs.Turns.{Turns}
-use Rattle.store_site.proofs.TurnsLaws.{turns-none, turns-then, turns-as}
+use Rattle.store_site.specs.Turns.{Turns, Moves}
+use Rattle.store_site.proofs.TurnsLaws.{turns-none, turns-then, turns-as, moves-as}
 use Rattle.store_site.proofs.PastLaws.{subscriptions-length}
 use Rattle.store_pool.proofs.PoolLaws.{part-rest}
 use Rattle.store_call.specs.Issued.{batchIn, issuedIn}
@@ -57,11 +57,11 @@ bits-closed s time e f g h = omega (arith, mask-before s time 1, mask-before s t
 
 -- the record of one place, or none
 abbrev pub recordIn : ℕ → Site → ℕ → List Entry
-recordIn time s i = recordAt (s .subscriptions) (s .statuses) (s .links) time i
+recordIn time s i = recordAt (s .site) (s .subscriptions) (s .statuses) (s .links) time i
 
 module _ (s : Site) (time i : ℕ) where
   pub place-issues : tickOf (subscriptionAt s i) time .issues ≡ true
-      → issuedIn s (statusRecord (linkAt s (i / 32)) (statusAt s (i % 32)) (i / 32) (i % 32) time ∷ []) ≡ issuedIn s (recordIn time s i)
+      → issuedIn s (statusRecord (linkAt s (i / 32)) (statusAt s (i % 32)) (ownerOf s (i / 32)) (i % 32) time ∷ []) ≡ issuedIn s (recordIn time s i)
   place-issues h = rw h refl
 
   pub place-silent : tickOf (subscriptionAt s i) time .issues ≡ false → s ≡ issuedIn s (recordIn time s i)
@@ -72,31 +72,33 @@ module _ (s : Site) (time i : ℕ) where
   steady es = refl
 
 -- the places below i
-pub record Issued (time i : ℕ) (ws vs : List ℕ) : Type 0 where
-  pub turns : Turns (λ (s : Site). issuedIn s (entriesTo (recordIn time s) i)) ws vs
+pub record Issued (time i : ℕ) (ps qs ws vs : List ℕ) : Type 0 where
+  pub moves : Moves (λ (s : Site). issuedIn s (entriesTo (recordIn time s) i)) ps qs ws vs
 
-pub issued-0 : (time : ℕ) (ws : List ℕ) → Issued time 0 ws ws
-issued-0 time ws = record { turns = places-none (recordIn time) (λ s es i. steady s time i es) ws }
+pub issued-0 : (time : ℕ) (ps ws : List ℕ) → Issued time 0 ps ps ws ws
+issued-0 time ps ws = record { moves = places-none (recordIn time) (λ s es i. steady s time i es) ps ws }
 
-pub issued-next : (time i : ℕ) {ws us vs : List ℕ} → Issued time i ws us → Turns (λ (s : Site). issuedIn s (recordIn time s i)) us vs → Issued time (i + 1) ws vs
-issued-next time i a b = record { turns = places-next (recordIn time) (λ s es i. steady s time i es) i (a .turns) b }
+pub issued-next : (time i : ℕ) {ps os qs ws us vs : List ℕ} → Issued time i ps os ws us → Moves (λ (s : Site). issuedIn s (recordIn time s i)) os qs us vs
+    → Issued time (i + 1) ps qs ws vs
+issued-next time i a b = record { moves = places-next (recordIn time) (λ s es i. steady s time i es) i (a .moves) b }
 
-pub issued-all : (time i : ℕ) {ws vs : List ℕ} → i ≡ 128 → Issued time i ws vs → Turns (λ (s : Site). issuedIn s (recordsOf (s .subscriptions) (s .statuses) (s .links) time)) ws vs
-issued-all time i {ws} e a = turns-as (a .turns) (λ t. let s = siteOf ws t in ap (issuedIn s) (all-places (s .subscriptions) (s .statuses) (s .links) time i e))
+pub issued-all : (time i : ℕ) {ps qs ws vs : List ℕ} → i ≡ 128 → Issued time i ps qs ws vs
+    → Moves (λ (s : Site). issuedIn s (recordsOf (s .site) (s .subscriptions) (s .statuses) (s .links) time)) ps qs ws vs
+issued-all time i {ps} {ws = ws} e a = moves-as (a .moves) (λ t. let s = siteOf ps ws t in ap (issuedIn s) (all-places (s .site) (s .subscriptions) (s .statuses) (s .links) time i e))
 
 -- how many the places below i issue
-pub count-place : (xs : List Subscription) (ks : List Status) (ns : List Link) (time i : ℕ) {n m : ℕ} → n ≡ length (entriesTo (recordAt xs ks ns time) i)
-    → m ≡ n + bit (tickOf (getD xs i none) time .issues) → m ≡ length (entriesTo (recordAt xs ks ns time) (i + 1))
-count-place xs ks ns time i p q =
+pub count-place : (site : ℕ) (xs : List Subscription) (ks : List Status) (ns : List Link) (time i : ℕ) {n m : ℕ} → n ≡ length (entriesTo (recordAt site xs ks ns time) i)
+    → m ≡ n + bit (tickOf (getD xs i none) time .issues) → m ≡ length (entriesTo (recordAt site xs ks ns time) (i + 1))
+count-place site xs ks ns time i p q =
     let b = tickOf (getD xs i none) time .issues in
-    count-one (recordAt xs ks ns time) i b p (count-if b (statusRecord (getD ns (i / 32) closedLink) (getD ks (i % 32) unknown) (i / 32) (i % 32) time)) q
+    count-one (recordAt site xs ks ns time) i b p (count-if b (statusRecord (getD ns (i / 32) closedLink) (getD ks (i % 32) unknown) (owner site (i / 32)) (i % 32) time)) q
 
 -- the first i subscriptions renewed
 pub record Renewed (time i : ℕ) (ws vs : List ℕ) : Type 0 where
   pub turns : Turns (λ (s : Site). withSubscriptions s (part (renewed time) i (s .subscriptions))) ws vs
 
 pub renewed-0 : (time : ℕ) (ws : List ℕ) → Renewed time 0 ws ws
-renewed-0 time ws = record { turns = turns-none ws (λ t. ap (withSubscriptions (siteOf ws t)) (sym (part-none (renewed time) (siteOf ws t .subscriptions)))) }
+renewed-0 time ws = record { turns = turns-none ws (λ ps t. ap (withSubscriptions (siteOf ps ws t)) (sym (part-none (renewed time) (siteOf ps ws t .subscriptions)))) }
 
 next-renewed : (time i : ℕ) (xs : List Subscription) → i < length xs
     → set (part (renewed time) i xs) i (renewed time (getD (part (renewed time) i xs) i none)) ≡ part (renewed time) (i + 1) xs
@@ -107,29 +109,29 @@ pub renewed-next : (time i : ℕ) {ws us vs : List ℕ} → i < 128 → Renewed 
 renewed-next time i {ws} h a b =
     record {
       turns = turns-as (turns-then (a .turns) b)
-          (λ t. ap (withSubscriptions (siteOf ws t)) (next-renewed time i (siteOf ws t .subscriptions) (omega (arith, subscriptions-length ws t))));
+          (λ ps t. ap (withSubscriptions (siteOf ps ws t)) (next-renewed time i (siteOf ps ws t .subscriptions) (omega (arith, subscriptions-length ps ws t))));
     }
 
 pub renewed-all : (time i : ℕ) {ws vs : List ℕ} → i ≡ 128 → Renewed time i ws vs → Turns (λ (s : Site). withSubscriptions s (map (renewed time) (s .subscriptions))) ws vs
 renewed-all time i {ws} e a =
-    turns-as (a .turns) (λ t. ap (withSubscriptions (siteOf ws t)) (part-all (renewed time) i (siteOf ws t .subscriptions) (omega (arith, subscriptions-length ws t))))
+    turns-as (a .turns) (λ ps t. ap (withSubscriptions (siteOf ps ws t)) (part-all (renewed time) i (siteOf ps ws t .subscriptions) (omega (arith, subscriptions-length ps ws t))))
 
 -- all of it, from the site u with the links closed
-ended : (s u : Site) (time : ℕ) → u .subscriptions ≡ s .subscriptions → u .statuses ≡ s .statuses
-    → withLast (withSubscriptions (issuedIn u (recordsOf (u .subscriptions) (u .statuses) (u .links) time)) (map (renewed time) (u .subscriptions))) time
-    ≡ withIssued (withSubscriptions u (map (renewed time) (s .subscriptions))) (issuedAll 4 (u .pool) (u .next) (recordsOf (s .subscriptions) (s .statuses) (u .links) time)) time
+ended : (s u : Site) (time : ℕ) → u .site ≡ s .site → u .subscriptions ≡ s .subscriptions → u .statuses ≡ s .statuses
+    → withLast (withSubscriptions (issuedIn u (recordsOf (u .site) (u .subscriptions) (u .statuses) (u .links) time)) (map (renewed time) (u .subscriptions))) time
+    ≡ withIssued (withSubscriptions u (map (renewed time) (s .subscriptions))) (issuedAll 8 (u .pool) (u .next) (recordsOf (s .site) (s .subscriptions) (s .statuses) (u .links) time)) time
 unfolding issuedIn
-ended s u time e f = rw (e, f) refl
+ended s u time d e f = rw (d, e, f) refl
 
 module _ (s : Site) (time : ℕ) where
   pub passed : withLast
       (withSubscriptions
-      (issuedIn (closedTo s time 4) (recordsOf (closedTo s time 4 .subscriptions) (closedTo s time 4 .statuses) (closedTo s time 4 .links) time))
-      (map (renewed time) (issuedIn (closedTo s time 4) (recordsOf (closedTo s time 4 .subscriptions) (closedTo s time 4 .statuses) (closedTo s time 4 .links) time) .subscriptions)))
+      (issuedIn (closedTo s time 4) (recordsOf (closedTo s time 4 .site) (closedTo s time 4 .subscriptions) (closedTo s time 4 .statuses) (closedTo s time 4 .links) time))
+      (map (renewed time) (issuedIn (closedTo s time 4) (recordsOf (closedTo s time 4 .site) (closedTo s time 4 .subscriptions) (closedTo s time 4 .statuses) (closedTo s time 4 .links) time) .subscriptions)))
       time
       ≡ withIssued (siteAfter s time) (batchOf (tickPlan s time)) time
   unfolding issuedIn siteAfter
-  passed = ended s (closedTo s time 4) time (stays (λ (t : Site). t .subscriptions) (λ t l. refl) s time 4) (stays (λ (t : Site). t .statuses) (λ t l. refl) s time 4)
+  passed = ended s (closedTo s time 4) time (stays (λ (t : Site). t .site) (λ t l. refl) s time 4) (stays (λ (t : Site). t .subscriptions) (λ t l. refl) s time 4) (stays (λ (t : Site). t .statuses) (λ t l. refl) s time 4)
 
   next-kept : siteAfter s time .next ≡ s .next
   unfolding siteAfter
@@ -138,5 +140,5 @@ module _ (s : Site) (time : ℕ) where
   -- number 10 is judged before the links are closed
   pub spent-before : batchIn s (issuedAt s time) .spent ≡ batchOf (tickPlan s time) .spent
   spent-before =
-      ap (λ (q : ℕ). issuedAll 4 (s .pool) q (issuedAt s time) .spent) (sym next-kept)
+      ap (λ (q : ℕ). issuedAll 8 (s .pool) q (issuedAt s time) .spent) (sym next-kept)
       ∙ spent-any (s .pool) (siteAfter s time .pool) (siteAfter s time .next) (issuedAt s time)

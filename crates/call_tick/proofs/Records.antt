@@ -7,6 +7,6 @@ use Rattle.subscription.specs.declared.Subscription.{Subscription}
 use Rattle.pool_laws.specs.Upwards.{entriesTo}
 use Rattle.call_tick.specs.Intervals.{recordAt, recordsOf}
 
-pub all-places : (xs : List Subscription) (ks : List Status) (ns : List Link) (time n : ℕ) → n ≡ 128 → entriesTo (recordAt xs ks ns time) n ≡ recordsOf xs ks ns time
+pub all-places : (site : ℕ) (xs : List Subscription) (ks : List Status) (ns : List Link) (time n : ℕ) → n ≡ 128 → entriesTo (recordAt site xs ks ns time) n ≡ recordsOf site xs ks ns time
 unfolding recordsOf
-all-places xs ks ns time n e = ap (entriesTo (recordAt xs ks ns time)) e
+all-places site xs ks ns time n e = ap (entriesTo (recordAt site xs ks ns time)) e

@@ -12,19 +12,20 @@ use Rattle.status.specs.Status.{unknown}
 use Rattle.subscription.specs.declared.Subscription.{Subscription}
 use Rattle.subscription.specs.Subscription.{none, tickOf}
 use Rattle.pool_laws.specs.Upwards.{entriesTo, entryIf}
+use Rattle.site.specs.Site.{owner}
 use Rattle.site.specs.Records.{statusRecord}
 
 -- one that issues has issued at this time
 abbrev pub renewed : ℕ → Subscription → Subscription
 renewed time x = tickOf x time .subscription
 
--- the record of the place i, link i / 32 and status i % 32, where its subscription x issues one; k is the status and n the link
-abbrev pub recordOf : Subscription → Status → Link → ℕ → ℕ → List Entry
-recordOf x k n time i = entryIf (tickOf x time .issues) (statusRecord n k (i / 32) (i % 32) time)
+-- the record of the place i of a site, link i / 32 and status i % 32, where its subscription x issues one; k is the status and n the link
+abbrev pub recordOf : ℕ → Subscription → Status → Link → ℕ → ℕ → List Entry
+recordOf site x k n time i = entryIf (tickOf x time .issues) (statusRecord n k (owner site (i / 32)) (i % 32) time)
 
-abbrev pub recordAt : List Subscription → List Status → List Link → ℕ → ℕ → List Entry
-recordAt xs ks ns time i = recordOf (getD xs i none) (getD ks (i % 32) unknown) (getD ns (i / 32) closedLink) time i
+abbrev pub recordAt : ℕ → List Subscription → List Status → List Link → ℕ → ℕ → List Entry
+recordAt site xs ks ns time i = recordOf site (getD xs i none) (getD ks (i % 32) unknown) (getD ns (i / 32) closedLink) time i
 
 -- the 128 places upwards are the links upwards, and of each link the statuses upwards
-unfoldable pub recordsOf : List Subscription → List Status → List Link → ℕ → List Entry
-recordsOf xs ks ns time = entriesTo (recordAt xs ks ns time) 128
+unfoldable pub recordsOf : ℕ → List Subscription → List Status → List Link → ℕ → List Entry
+recordsOf site xs ks ns time = entriesTo (recordAt site xs ks ns time) 128

@@ -23,7 +23,7 @@ siteAfter s time = withSubscriptions (closedTo s time 4) (map (renewed time) (s 
 
 -- "A tick closes its links before it issues": the links are as it leaves them
 abbrev pub issuedAt : Site → ℕ → List Entry
-issuedAt s time = recordsOf (s .subscriptions) (s .statuses) (siteAfter s time .links) time
+issuedAt s time = recordsOf (s .site) (s .subscriptions) (s .statuses) (siteAfter s time .links) time
 
 abbrev pub tickPlan : Site → ℕ → Plan
 tickPlan s time = record { site = siteAfter s time; issued = issuedAt s time; messages = []; closed = maskTo s time 4; hint = none; commands = [] }

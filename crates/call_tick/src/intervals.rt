@@ -1,7 +1,7 @@
 // What the subscriptions issue at a tick, and the subscriptions after it.
 ghost use mathlib.Core.Path.{_≡_};
 ghost use mathlib.Core.List.{List, map};
-ghost use Prim.Native.Nat.{_<_};
+ghost use Prim.Native.Nat.{ℕ, _<_};
 ghost use lib.ListN.{length};
 ghost use Rattle.link.specs.declared.Link.{Link};
 ghost use Rattle.subscription.specs.Subscription.{tickOf};
@@ -9,14 +9,14 @@ ghost use Rattle.table_whole.specs.declared.SiteTable.{SiteTable};
 ghost use Rattle.site.specs.declared.Site.{Site};
 ghost use Rattle.site.specs.Site.{withSubscriptions};
 ghost use Rattle.site.specs.Parts.{subscriptionAt, withSubscription};
-ghost use Rattle.store_site.specs.Layout.{siteOf, siteWords};
-ghost use Rattle.store_site.specs.Turns.{Turns};
+ghost use Rattle.store_site.specs.Layout.{siteOf, poolWords, siteWords};
+ghost use Rattle.store_site.specs.Turns.{Turns, Moves};
 ghost use Rattle.store_call.specs.Issued.{issuedIn};
 ghost use Rattle.call_tick.specs.Intervals.{renewed, recordAt, recordsOf};
 
 fn issues(w: &[u64], i: u16, time: u64) -> bool
     requires { ⌜ (length (now w) ≡ siteWords) × (i < 128) ⌝ }
-    ensures { λ r. ⌜ ((t : SiteTable) → r ≡ tickOf (subscriptionAt (siteOf (now (w .entry)) t) i) time .issues) ⌝ }
+    ensures { λ r. ⌜ ((ps : List ℕ) (t : SiteTable) → r ≡ tickOf (subscriptionAt (siteOf ps (now (w .entry)) t) i) time .issues) ⌝ }
 {
     let x = store_site::parts::subscription(w, i as usize);
     let t = x.on_tick(time);
@@ -26,7 +26,7 @@ fn issues(w: &[u64], i: u16, time: u64) -> bool
 // How many records are issued, whatever the links ns are.
 pub fn how_many(w: &[u64], time: u64) -> u64
     requires { ⌜ length (now w) ≡ siteWords ⌝ }
-    ensures { λ r. ⌜ ((t : SiteTable) (ns : List Link) → r ≡ length (recordsOf (siteOf (now (w .entry)) t .subscriptions) (siteOf (now (w .entry)) t .statuses) ns time)) ⌝ }
+    ensures { λ r. ⌜ ((ps : List ℕ) (t : SiteTable) (ns : List Link) → r ≡ length (recordsOf (siteOf ps (now (w .entry)) t .site) (siteOf ps (now (w .entry)) t .subscriptions) (siteOf ps (now (w .entry)) t .statuses) ns time)) ⌝ }
 {
     let mut n: u64 = 0;
     let mut i: u16 = 0;
@@ -38,25 +38,25 @@ pub fn how_many(w: &[u64], time: u64) -> u64
 }
 
 // The record of the place i, where its subscription issues one.
-fn issue_one(w: &mut [u64], i: u16, time: u64)
-    requires { ⌜ (length (now w) ≡ siteWords) × (i < 128) ⌝ }
-    ensures { λ _. ⌜ Turns (λ (s : Site). issuedIn s (recordAt (s .subscriptions) (s .statuses) (s .links) time i)) (now (w .entry)) (now (w .exit)) ⌝ }
+fn issue_one(p: &mut [u64], w: &mut [u64], i: u16, time: u64)
+    requires { ⌜ (length (now p) ≡ poolWords) × ((length (now w) ≡ siteWords) × (i < 128)) ⌝ }
+    ensures { λ _. ⌜ Moves (λ (s : Site). issuedIn s (recordAt (s .site) (s .subscriptions) (s .statuses) (s .links) time i)) (now (p .entry)) (now (p .exit)) (now (w .entry)) (now (w .exit)) ⌝ }
 {
     if issues(w, i, time) {
         let k = store_site::parts::status(w, (i % 32) as usize);
         let e = store_call::records::status(w, k, i / 32, i % 32, time);
-        store_call::add(w, e);
+        store_call::add(p, w, e);
         return;
     }
 }
 
-pub fn issue_all(w: &mut [u64], time: u64)
-    requires { ⌜ length (now w) ≡ siteWords ⌝ }
-    ensures { λ _. ⌜ Turns (λ (s : Site). issuedIn s (recordsOf (s .subscriptions) (s .statuses) (s .links) time)) (now (w .entry)) (now (w .exit)) ⌝ }
+pub fn issue_all(p: &mut [u64], w: &mut [u64], time: u64)
+    requires { ⌜ (length (now p) ≡ poolWords) × (length (now w) ≡ siteWords) ⌝ }
+    ensures { λ _. ⌜ Moves (λ (s : Site). issuedIn s (recordsOf (s .site) (s .subscriptions) (s .statuses) (s .links) time)) (now (p .entry)) (now (p .exit)) (now (w .entry)) (now (w .exit)) ⌝ }
 {
     let mut i: u16 = 0;
     while i < 128 {
-        issue_one(w, i, time);
+        issue_one(p, w, i, time);
         i += 1;
     }
 }

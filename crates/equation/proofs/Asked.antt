@@ -11,9 +11,10 @@ use Rattle.pool.specs.Pool.{oldestUnsent}
 use Rattle.link.specs.declared.Due.{Due}
 use Rattle.link.specs.declared.Due.the-variants.{Nothing, Version, Watchdog, Aggregated, Alarm, Entry}
 use Rattle.site.specs.declared.Site.{Site}
+use Rattle.site.specs.Site.{ownerOf}
 use Rattle.call_pump.specs.Pump.{dueAt, entryPlan, planFor}
 use Rattle.packet_command.specs.Handing.{commandWord}
-use Rattle.store_site.specs.Layout.{siteOf, siteWords}
+use Rattle.store_site.specs.Layout.{siteOf, poolWords, siteWords}
 use Rattle.store_table.specs.Layout.{tableOf, tableBytes}
 use Rattle.sitec.specs.declared.Outcome.{Outcome}
 use Rattle.sitec.specs.Outcome.{outcomeOf}
@@ -41,18 +42,19 @@ BytesIn (aggregated v t) = Unit {0}
 BytesIn (tick t) = Unit {0}
 BytesIn (pump l t random out) = Unit {0}
 
--- the call of the code that an ask is, and what its definition gives on the site s; the words go from ws to vs, its table stands in ts
-pub record Opened (ts ws : List ℕ) (k : MachineCall) (output : List ℕ) (x : Seen) (vs : List ℕ) : Type 0 where
+-- the call of the code that an ask is, and what its definition gives on the site s; the pool's words go from ps to qs, its own from ws to vs, its table stands in ts
+pub record Opened (ts ps ws : List ℕ) (k : MachineCall) (output : List ℕ) (x : Seen) (qs vs : List ℕ) : Type 0 where
   pub code : Call
   pub same-call : callFor code ≡ k
   pub same-output : outputOf code ≡ output
   pub typed : TypedAct (k .act) → Typed code × BytesIn code
   -- the words lent for commands, as they are afterwards: they begin with those of a done call
   pub words : List ℕ
-  pub handed : numberOf (stepBy (siteOf ws (tableOf ts)) code .answer) ≡ 0
-      → take (length (planOf (siteOf ws (tableOf ts)) code .commands)) words ≡ map commandWord (planOf (siteOf ws (tableOf ts)) code .commands)
-  pub seen : x ≡ packetSeen (outBy (siteOf ws (tableOf ts)) code) words (outcomeOf (stepBy (siteOf ws (tableOf ts)) code .answer))
-  pub after-it : siteOf vs (tableOf ts) ≡ stepBy (siteOf ws (tableOf ts)) code .site
+  pub handed : numberOf (stepBy (siteOf ps ws (tableOf ts)) code .answer) ≡ 0
+      → take (length (planOf (siteOf ps ws (tableOf ts)) code .commands)) words ≡ map commandWord (planOf (siteOf ps ws (tableOf ts)) code .commands)
+  pub seen : x ≡ packetSeen (outBy (siteOf ps ws (tableOf ts)) code) words (outcomeOf (stepBy (siteOf ps ws (tableOf ts)) code .answer))
+  pub after-it : siteOf qs vs (tableOf ts) ≡ stepBy (siteOf ps ws (tableOf ts)) code .site
+  pub pool-sized : length qs ≡ poolWords
   pub sized : length vs ≡ siteWords
 
 nil : (xs : List ℕ) → length xs ≡ 0 → xs ≡ []
@@ -70,19 +72,19 @@ due-none Version s l t id = refl
 due-none Watchdog s l t id = refl
 due-none Aggregated s l t id = refl
 due-none (Alarm k) s l t id = refl
-due-none Entry s l t id = entry-none (oldestUnsent (s .pool) l) s l t id
+due-none Entry s l t id = entry-none (oldestUnsent (s .pool) (ownerOf s l)) s l t id
 
-module _ (ts ws : List ℕ) (words : length ws ≡ siteWords) (table : length ts ≡ tableBytes) where
+module _ (ts ps ws : List ℕ) (pool : length ps ≡ poolWords) (words : length ws ≡ siteWords) (table : length ts ≡ tableBytes) where
   abbrev s : Site
-  s = siteOf ws (tableOf ts)
+  s = siteOf ps ws (tableOf ts)
 
   none-handed : (c : Call) → planOf s c .commands ≡ [] → take (length (planOf s c .commands)) [] ≡ map commandWord (planOf s c .commands)
   none-handed c n = rw n
 
   -- a call without an output
-  plain : {F : Type 0} (c : Call) (vs : List ℕ) (o : Outcome) → F → length (outputOf c) ≡ 0 → planOf s c .commands ≡ [] → (TypedAct (callFor c .act) → Typed c × BytesIn c)
-      → Called F (tableOf ts) (stepBy s c) ws vs o → Opened ts ws (callFor c) [] (outcomeSeen [] o) vs
-  plain c vs o f n none typed p =
+  plain : {F : Type 0} (c : Call) (qs vs : List ℕ) (o : Outcome) → F → length (outputOf c) ≡ 0 → planOf s c .commands ≡ [] → (TypedAct (callFor c .act) → Typed c × BytesIn c)
+      → Called F (tableOf ts) (stepBy s c) ps qs ws vs o → Opened ts ps ws (callFor c) [] (outcomeSeen [] o) qs vs
+  plain c qs vs o f n none typed p =
       record {
         code = c;
         same-call = refl;
@@ -92,14 +94,15 @@ module _ (ts ws : List ℕ) (words : length ws ≡ siteWords) (table : length ts
         handed = λ z. none-handed c none;
         seen = ap₂ outcomeSeen (sym (nil (outBy s c) (calls-kept .numbered s c .same-length ∙ n))) (p .outcome f);
         after-it = p .site f;
+        pool-sized = p .pool-sized ∙ pool;
         sized = p .sized ∙ words;
       }
 
   -- one with an output
-  lent : {F : Type 0} (c : Call) (vs ys ds : List ℕ) (o : Outcome) → F → (TypedAct (callFor c .act) → Typed c × BytesIn c)
+  lent : {F : Type 0} (c : Call) (qs vs ys ds : List ℕ) (o : Outcome) → F → (TypedAct (callFor c .act) → Typed c × BytesIn c)
       → (numberOf (stepBy s c .answer) ≡ 0 → take (length (planOf s c .commands)) ds ≡ map commandWord (planOf s c .commands))
-      → Told F (tableOf ts) (timeOf c) (refuses s c) (planOf s c) ws vs (outputOf c) ys o → Opened ts ws (callFor c) (outputOf c) (packetSeen ys ds o) vs
-  lent c vs ys ds o f typed handed p =
+      → Told F (tableOf ts) (timeOf c) (refuses s c) (planOf s c) ps qs ws vs (outputOf c) ys o → Opened ts ps ws (callFor c) (outputOf c) (packetSeen ys ds o) qs vs
+  lent c qs vs ys ds o f typed handed p =
       record {
         code = c;
         same-call = refl;
@@ -109,28 +112,30 @@ module _ (ts ws : List ℕ) (words : length ws ≡ siteWords) (table : length ts
         handed = handed;
         seen = ap₂ (λ (zs : List ℕ) (q : Outcome). packetSeen zs ds q) (p .out f) (p .called .outcome f);
         after-it = p .called .site f;
+        pool-sized = p .called .pool-sized ∙ pool;
         sized = p .called .sized ∙ words;
       }
 
   -- a packet
-  lent-words : {F : Type 0} (c : Call) (vs ys cs ds : List ℕ) (o : Outcome) → F → Told F (tableOf ts) (timeOf c) (refuses s c) (planOf s c) ws vs (outputOf c) ys o → Handed F (planOf s c .commands) cs ds o
+  lent-words : {F : Type 0} (c : Call) (qs vs ys cs ds : List ℕ) (o : Outcome) → F → Told F (tableOf ts) (timeOf c) (refuses s c) (planOf s c) ps qs ws vs (outputOf c) ys o → Handed F (planOf s c .commands) cs ds o
       → numberOf (stepBy s c .answer) ≡ 0 → take (length (planOf s c .commands)) ds ≡ map commandWord (planOf s c .commands)
-  lent-words c vs ys cs ds o f p h z =
+  lent-words c qs vs ys cs ds o f p h z =
       ap (take (length (planOf s c .commands))) (h .handed f (ap (λ (q : Outcome). q .number) (p .called .outcome f) ∙ z)) ∙ first-words (planOf s c .commands) cs
 
-pub opened : (ts ws : List ℕ) → length ws ≡ siteWords → length ts ≡ tableBytes → (k : MachineCall) (output : List ℕ) (x : Seen) (vs : List ℕ) → Allows ts ws (call k output) x vs → Opened ts ws k output x vs
-opened ts ws h g k output x vs (connects κs w l t o e p) = plain ts ws h g (connect l t) vs o h refl refl (λ u. (u, tt)) (p (tableOf ts))
-opened ts ws h g k output x vs (disconnects κs w l t o e p) = plain ts ws h g (disconnect l t) vs o h refl refl (λ u. (u, tt)) (p (tableOf ts))
-opened ts ws h g k output x vs (packets κs w table l t random rc cs xs o e p n) =
-    let c : Call = packet l t random (now rc) (now xs) in
-    let ys = now (e .1 .1 .1 .1 .1 .1 .1 .0) in
-    let ds = now (e .1 .1 .1 .1 .1 .1 .0) in
-    lent ts ws h g c vs ys ds o (h, g, n) (λ u. u) (lent-words ts ws h g c vs ys (now cs) ds o (h, g, n) (p .0) (p .1)) (p .0)
-opened ts ws h g k output x vs (alarms κs w table i active t o e p) = plain ts ws h g (alarm i (ltb 0 active) t) vs o (h, g) refl refl (λ u. (u, tt)) p
-opened ts ws h g k output x vs (statuses κs w table i v t o e p) = plain ts ws h g (status i v t) vs o (h, g) refl refl (λ u. (u, tt)) p
-opened ts ws h g k output x vs (aggregates κs w v t o e p) = plain ts ws h g (aggregated v t) vs o h refl refl (λ u. (u, tt)) (p (tableOf ts))
-opened ts ws h g k output x vs (ticks κs w t o e p) = plain ts ws h g (tick t) vs o h refl refl (λ u. (u, tt)) (p (tableOf ts))
-opened ts ws h g k output x vs (pumps κs w table l t random xs o e p) =
-    let s : Site = siteOf ws (tableOf ts) in
-    lent ts ws h g (pump l t random (now xs)) vs (now (e .1 .1 .1 .1 .1 .0)) [] o (h, g) (λ u. (u, tt))
-    (λ z. none-handed ts ws h g (pump l t random (now xs)) (due-none (dueAt s l t) s l t (identityOf random))) p
+module _ (ts ps ws : List ℕ) (f : length ps ≡ poolWords) (h : length ws ≡ siteWords) (g : length ts ≡ tableBytes) where
+  pub opened : (k : MachineCall) (output : List ℕ) (x : Seen) (qs vs : List ℕ) → Allows ts ps ws (call k output) x qs vs → Opened ts ps ws k output x qs vs
+  opened k output x qs vs (connects κs q w l t o e p) = plain ts ps ws f h g (connect l t) qs vs o (f, h) refl refl (λ u. (u, tt)) (p (tableOf ts))
+  opened k output x qs vs (disconnects κs q w l t o e p) = plain ts ps ws f h g (disconnect l t) qs vs o (f, h) refl refl (λ u. (u, tt)) (p (tableOf ts))
+  opened k output x qs vs (packets κs q w table l t random rc cs xs o e p n) =
+      let c : Call = packet l t random (now rc) (now xs) in
+      let ys = now (e .1 .1 .1 .1 .1 .1 .1 .1 .0) in
+      let ds = now (e .1 .1 .1 .1 .1 .1 .1 .0) in
+      lent ts ps ws f h g c qs vs ys ds o (f, h, g, n) (λ u. u) (lent-words ts ps ws f h g c qs vs ys (now cs) ds o (f, h, g, n) (p .0) (p .1)) (p .0)
+  opened k output x qs vs (alarms κs q w table i active t o e p) = plain ts ps ws f h g (alarm i (ltb 0 active) t) qs vs o (f, h, g) refl refl (λ u. (u, tt)) p
+  opened k output x qs vs (statuses κs q w table i v t o e p) = plain ts ps ws f h g (status i v t) qs vs o (f, h, g) refl refl (λ u. (u, tt)) p
+  opened k output x qs vs (aggregates κs q w v t o e p) = plain ts ps ws f h g (aggregated v t) qs vs o (f, h) refl refl (λ u. (u, tt)) (p (tableOf ts))
+  opened k output x qs vs (ticks κs q w t o e p) = plain ts ps ws f h g (tick t) qs vs o (f, h) refl refl (λ u. (u, tt)) (p (tableOf ts))
+  opened k output x qs vs (pumps κs q w table l t random xs o e p) =
+      let s : Site = siteOf ps ws (tableOf ts) in
+      lent ts ps ws f h g (pump l t random (now xs)) qs vs (now (e .1 .1 .1 .1 .1 .1 .0)) [] o (f, h, g) (λ u. (u, tt))
+      (λ z. none-handed ts ps ws f h g (pump l t random (now xs)) (due-none (dueAt s l t) s l t (identityOf random))) p

@@ -12,7 +12,8 @@ use Rattle.refine_calls.proofs.Pump.{pump-calls}
 use Rattle.refine_packet.specs.Packet.OfPacket.{packets}
 use Rattle.refine_packet.proofs.Packet.{packet-calls}
 use Rattle.equation.specs.Equation.{Equation}
-use Rattle.equation.proofs.Equation.{AllCalls, from-calls}
+use Rattle.equation.proofs.Boxed.{AllCalls}
+use Rattle.equation.proofs.Equation.{from-calls}
 
 all-calls : AllCalls
 all-calls s m h (connect l t) b u = link-calls s m h (connect l t) (connects l t) u

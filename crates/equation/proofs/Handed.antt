@@ -56,24 +56,24 @@ counts s c z =
     ap (λ (a : Answer). reportIn a .commands) (d .1) ∙ ap (λ (r : Report). r .commands) (calls-kept .numbered s c .done-only-so (d .0) (d .1) .1)
 
 -- ---- of any memory
-pub unhanded : (ts ws cs output : List ℕ) (o : Outcome) (vs ds ys : List ℕ) → Packets ts ws cs output o vs ds ys → (o .number ≡ 0 → ⊥) → ds ≡ cs
-unhanded ts ws cs output o vs ds ys (packet-call κs w table l t random received commands out q e p) wrong = p .1 .unhanded (above (o .number) wrong)
+pub unhanded : (ts ps ws cs output : List ℕ) (o : Outcome) (qs vs ds ys : List ℕ) → Packets ts ps ws cs output o qs vs ds ys → (o .number ≡ 0 → ⊥) → ds ≡ cs
+unhanded ts ps ws cs output o qs vs ds ys (packet-call κs pool w table l t random received commands out q e p) wrong = p .1 .unhanded (above (o .number) wrong)
 
-pub commands-misfit : (ts ws cs output : List ℕ) (o : Outcome) (vs ds ys : List ℕ) → Packets ts ws cs output o vs ds ys → (length cs ≡ 16 → ⊥)
-    → (o ≡ numbered 14) × (vs ≡ ws) × (ys ≡ output)
-commands-misfit ts ws cs output o vs ds ys (packet-call κs w table l t random received commands out q e p) wrong =
-    let all = p .0 .called .other (λ z. wrong (z .2)) in
+pub commands-misfit : (ts ps ws cs output : List ℕ) (o : Outcome) (qs vs ds ys : List ℕ) → Packets ts ps ws cs output o qs vs ds ys → (length cs ≡ 16 → ⊥)
+    → (o ≡ numbered 14) × (qs ≡ ps) × (vs ≡ ws) × (ys ≡ output)
+commands-misfit ts ps ws cs output o qs vs ds ys (packet-call κs pool w table l t random received commands out q e p) wrong =
+    let all = p .0 .called .other (λ z. wrong (z .3)) in
     let number : o .number ≡ 14 = ap (λ (x : Outcome). x .number) all in
-    (all, p .0 .called .kept (omega (arith, number)), p .0 .unwritten (omega (arith, number)))
+    (all, p .0 .called .pool-kept (omega (arith, number)), p .0 .called .kept (omega (arith, number)), p .0 .unwritten (omega (arith, number)))
 
-pub behind : (ts ws cs output : List ℕ) (o : Outcome) (vs ds ys : List ℕ) → Packets ts ws cs output o vs ds ys → drop (o .commands) ds ≡ drop (o .commands) cs
-behind ts ws cs output o vs ds ys (packet-call κs w table l t random received commands out q e p) = by (eq-or-ne (o .number) 0) (fits-with-commands ws ts cs)
+pub behind : (ts ps ws cs output : List ℕ) (o : Outcome) (qs vs ds ys : List ℕ) → Packets ts ps ws cs output o qs vs ds ys → drop (o .commands) ds ≡ drop (o .commands) cs
+behind ts ps ws cs output o qs vs ds ys (packet-call κs pool w table l t random received commands out q e p) = by (eq-or-ne (o .number) 0) (fits-with-commands ps ws ts cs)
   where
-    by : Either (o .number ≡ 0) → Either (WithCommands ws ts cs) → drop (o .commands) ds ≡ drop (o .commands) cs
+    by : Either (o .number ≡ 0) → Either (WithCommands ps ws ts cs) → drop (o .commands) ds ≡ drop (o .commands) cs
     by (inr n) f = ap (drop (o .commands)) (p .1 .unhanded (above (o .number) n))
     by (inl z) (inr f) = absurd (let number : o .number ≡ 14 = ap (λ (x : Outcome). x .number) (p .0 .called .other f) in omega (arith, z, number))
     by (inl z) (inl f) =
         let c : Call = packet l t random (now received) output in
         let done = p .0 .called .outcome f in
-        let count = ap (λ (x : Outcome). x .commands) done ∙ counts (siteOf ws (tableOf ts)) c (sym (ap (λ (x : Outcome). x .number) done) ∙ z) in
-        rest-so (planOf (siteOf ws (tableOf ts)) c .commands) cs ds (o .commands) count (p .1 .handed f z)
+        let count = ap (λ (x : Outcome). x .commands) done ∙ counts (siteOf ps ws (tableOf ts)) c (sym (ap (λ (x : Outcome). x .number) done) ∙ z) in
+        rest-so (planOf (siteOf ps ws (tableOf ts)) c .commands) cs ds (o .commands) count (p .1 .handed f z)

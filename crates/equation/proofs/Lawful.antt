@@ -22,7 +22,7 @@ use Rattle.call_laws.specs.Calls.Call.{packet, pump}
 use Rattle.call_laws.proofs.Kept.{kept as calls-kept}
 use Rattle.sitec.specs.declared.Outcome.{Outcome}
 use Rattle.sitec.specs.Outcome.{reportIn, outcomeOf}
-use Rattle.sitec.specs.Lent.{Called, Told}
+use Rattle.sitec.specs.Lent.{Words, Called, Told}
 use Rattle.machine.specs.State.{Call as MachineCall}
 use Rattle.machine.specs.State.Outcome.{refused}
 use Rattle.equation.specs.Seen.{Ask, Seen, numbered, tells, unfit}
@@ -31,7 +31,7 @@ use Rattle.equation.specs.Seen.Seen.{told, count, numbers, entry}
 use Rattle.equation.specs.Contracts.{Allows, packetSeen, outcomeSeen}
 use Rattle.equation.specs.Contracts.Allows.{connects, disconnects, packets, alarms, statuses, aggregates, ticks, pumps, reads-held, reads-lost, reads-phase, reads-version, reads-record}
 use Rattle.equation.specs.Equation.{ServesCall, Serves}
-use Rattle.equation.proofs.Fitting.{above, Either, fits-words, fits-with-table, fits-with-commands, fitting, fitting-words}
+use Rattle.equation.proofs.Fitting.{above, Either, fits-words, fits-with-table, fits-with-commands, fitting-both, fitting, fitting-words}
 
 abbrev numberIn : Seen → ℕ
 numberIn (told o ys commands) = o .number
@@ -45,14 +45,15 @@ Behind output (count n) = Unit {0}
 Behind output (numbers ns) = Unit {0}
 Behind output (entry found bytes) = Unit {0}
 
-pub record Lawful (Needs : Type 0) (ws output : List ℕ) (x : Seen) (vs : List ℕ) : Type 0 where
+pub record Lawful (Needs : Type 0) (ps ws output : List ℕ) (x : Seen) (qs vs : List ℕ) : Type 0 where
+  pub same-pool : (numberIn x ≡ 0 → ⊥) → qs ≡ ps
   pub same-words : (numberIn x ≡ 0 → ⊥) → vs ≡ ws
   pub number-only : (numberIn x ≡ 0 → ⊥) → x ≡ tells output (refused (numberIn x))
   pub only-counted : length output < 4294967295 → Behind output x
   pub no-site : (Needs → ⊥) → x ≡ tells output (refused 14)
 
 -- a refused call hands out its number and zeros
-module _ {F : Type 0} (t : SiteTable) (y : Step) (ws vs : List ℕ) (o : Outcome) (p : Called F t y ws vs o) (wrong : o .number ≡ 0 → ⊥) where
+module _ {F : Type 0} (t : SiteTable) (y : Step) (ps qs ws vs : List ℕ) (o : Outcome) (p : Called F t y ps qs ws vs o) (wrong : o .number ≡ 0 → ⊥) where
   alone : (n : ℕ) → o ≡ numbered n → o ≡ numbered (o .number)
   alone n e = e ∙ ap numbered (sym (ap (λ (q : Outcome). q .number) e))
 
@@ -64,12 +65,13 @@ module _ {F : Type 0} (t : SiteTable) (y : Step) (ws vs : List ℕ) (o : Outcome
   numbered-so (inl f) = answered (y .answer) (p .outcome f)
   numbered-so (inr n) = alone 14 (p .other n)
 
-lawful-of : {F N : Type 0} → Either F → (F → N) → (t : SiteTable) (y : Step) (ws vs xs ys ds : List ℕ) (o : Outcome) → Called F t y ws vs o → (0 < o .number → ys ≡ xs)
-    → (length xs < 4294967295 → drop (o .written) ys ≡ drop (o .written) xs) → Lawful N ws xs (packetSeen ys ds o) vs
-lawful-of fits f t y ws vs xs ys ds o p same counted =
+lawful-of : {F N : Type 0} → Either F → (F → N) → (t : SiteTable) (y : Step) (ps qs ws vs xs ys ds : List ℕ) (o : Outcome) → Called F t y ps qs ws vs o → (0 < o .number → ys ≡ xs)
+    → (length xs < 4294967295 → drop (o .written) ys ≡ drop (o .written) xs) → Lawful N ps ws xs (packetSeen ys ds o) qs vs
+lawful-of fits f t y ps qs ws vs xs ys ds o p same counted =
     record {
+      same-pool = λ h. p .pool-kept (above (o .number) h);
       same-words = λ h. p .kept (above (o .number) h);
-      number-only = λ h. ap₂ (λ (zs : List ℕ) (q : Outcome). packetSeen zs ds q) (same (above (o .number) h)) (numbered-so t y ws vs o p h fits);
+      number-only = λ h. ap₂ (λ (zs : List ℕ) (q : Outcome). packetSeen zs ds q) (same (above (o .number) h)) (numbered-so t y ps qs ws vs o p h fits);
       only-counted = counted;
       no-site = λ h.
           let e = p .other (λ z. h (f z)) in
@@ -77,13 +79,13 @@ lawful-of fits f t y ws vs xs ys ds o p same counted =
           ap₂ (λ (zs : List ℕ) (q : Outcome). packetSeen zs ds q) (same (omega (arith, number))) e;
     }
 
-plain : {F N : Type 0} → Either F → (F → N) → (t : SiteTable) (y : Step) (ws vs : List ℕ) (o : Outcome) → Called F t y ws vs o → Lawful N ws [] (outcomeSeen [] o) vs
-plain fits f t y ws vs o p = lawful-of fits f t y ws vs [] [] [] o p (λ h. refl) (λ h. refl)
+plain : {F N : Type 0} → Either F → (F → N) → (t : SiteTable) (y : Step) (ps qs ws vs : List ℕ) (o : Outcome) → Called F t y ps qs ws vs o → Lawful N ps ws [] (outcomeSeen [] o) qs vs
+plain fits f t y ps qs ws vs o p = lawful-of fits f t y ps qs ws vs [] [] [] o p (λ h. refl) (λ h. refl)
 
 -- a call with an output
-module _ {F : Type 0} (ts ws vs : List ℕ) (c : Call) (ys : List ℕ) (o : Outcome) (p : Told F (tableOf ts) (timeOf c) (refuses (siteOf ws (tableOf ts)) c) (planOf (siteOf ws (tableOf ts)) c) ws vs (outputOf c) ys o) where
+module _ {F : Type 0} (ts ps qs ws vs : List ℕ) (c : Call) (ys : List ℕ) (o : Outcome) (p : Told F (tableOf ts) (timeOf c) (refuses (siteOf ps ws (tableOf ts)) c) (planOf (siteOf ps ws (tableOf ts)) c) ps qs ws vs (outputOf c) ys o) where
   abbrev s : Site
-  s = siteOf ws (tableOf ts)
+  s = siteOf ps ws (tableOf ts)
 
   wrote : Wrote (outputOf c) 0 (piecesOf (planOf s c .messages)) (writtenTo (outputOf c) (planOf s c .messages) .bytes) (endOf s c)
   wrote = record { all = refl }
@@ -106,25 +108,30 @@ module _ {F : Type 0} (ts ws vs : List ℕ) (c : Call) (ys : List ℕ) (o : Outc
   counted (inl f) short = by-answer f short (stepBy s c .answer) refl
   counted (inr n) short = let number : o .number ≡ 14 = ap (λ (q : Outcome). q .number) (p .called .other n) in ap (drop (o .written)) (p .unwritten (omega (arith, number)))
 
-  lent : {N : Type 0} → Either F → (F → N) → (ds : List ℕ) → Lawful N ws (outputOf c) (packetSeen ys ds o) vs
-  lent fits f ds = lawful-of fits f (tableOf ts) (stepBy s c) ws vs (outputOf c) ys ds o (p .called) (p .unwritten) (counted fits)
+  lent : {N : Type 0} → Either F → (F → N) → (ds : List ℕ) → Lawful N ps ws (outputOf c) (packetSeen ys ds o) qs vs
+  lent fits f ds = lawful-of fits f (tableOf ts) (stepBy s c) ps qs ws vs (outputOf c) ys ds o (p .called) (p .unwritten) (counted fits)
 
-pub lawful : (ts ws : List ℕ) (k : MachineCall) (output : List ℕ) (x : Seen) (vs : List ℕ) → Allows ts ws (call k output) x vs → Lawful (ServesCall (k .act) ws ts) ws output x vs
-lawful ts ws k output x vs (connects κs w l t o e p) = plain (fits-words ws) (λ z. z) noTable _ ws vs o (p noTable)
-lawful ts ws k output x vs (disconnects κs w l t o e p) = plain (fits-words ws) (λ z. z) noTable _ ws vs o (p noTable)
-lawful ts ws k output x vs (packets κs w table l t random rc cs xs o e p n) =
-    lent ts ws vs (packet l t random (now rc) (now xs)) (now (e .1 .1 .1 .1 .1 .1 .1 .0)) o (p .0) (fits-with-commands ws ts (now cs)) (fitting-words ws ts (now cs)) (now (e .1 .1 .1 .1 .1 .1 .0))
-lawful ts ws k output x vs (alarms κs w table i active t o e p) = plain (fits-with-table ws ts) (fitting ws ts) _ _ ws vs o p
-lawful ts ws k output x vs (statuses κs w table i v t o e p) = plain (fits-with-table ws ts) (fitting ws ts) _ _ ws vs o p
-lawful ts ws k output x vs (aggregates κs w v t o e p) = plain (fits-words ws) (λ z. z) noTable _ ws vs o (p noTable)
-lawful ts ws k output x vs (ticks κs w t o e p) = plain (fits-words ws) (λ z. z) noTable _ ws vs o (p noTable)
-lawful ts ws k output x vs (pumps κs w table l t random xs o e p) =
-    lent ts ws vs (pump l t random (now xs)) (now (e .1 .1 .1 .1 .1 .0)) o p (fits-with-table ws ts) (fitting ws ts) []
+module _ (ts ps ws : List ℕ) where
+  pub lawful : (k : MachineCall) (output : List ℕ) (x : Seen) (qs vs : List ℕ) → Allows ts ps ws (call k output) x qs vs → Lawful (ServesCall (k .act) ps ws ts) ps ws output x qs vs
+  lawful k output x qs vs (connects κs q w l t o e p) = plain (fits-words ps ws) (fitting-both ps ws) noTable _ ps qs ws vs o (p noTable)
+  lawful k output x qs vs (disconnects κs q w l t o e p) = plain (fits-words ps ws) (fitting-both ps ws) noTable _ ps qs ws vs o (p noTable)
+  lawful k output x qs vs (packets κs q w table l t random rc cs xs o e p n) =
+      lent ts ps qs ws vs (packet l t random (now rc) (now xs)) (now (e .1 .1 .1 .1 .1 .1 .1 .1 .0)) o (p .0) (fits-with-commands ps ws ts (now cs)) (fitting-words ps ws ts (now cs)) (now (e .1 .1 .1 .1 .1 .1 .1 .0))
+  lawful k output x qs vs (alarms κs q w table i active t o e p) = plain (fits-with-table ps ws ts) (fitting ps ws ts) _ _ ps qs ws vs o p
+  lawful k output x qs vs (statuses κs q w table i v t o e p) = plain (fits-with-table ps ws ts) (fitting ps ws ts) _ _ ps qs ws vs o p
+  lawful k output x qs vs (aggregates κs q w v t o e p) = plain (fits-words ps ws) (fitting-both ps ws) noTable _ ps qs ws vs o (p noTable)
+  lawful k output x qs vs (ticks κs q w t o e p) = plain (fits-words ps ws) (fitting-both ps ws) noTable _ ps qs ws vs o (p noTable)
+  lawful k output x qs vs (pumps κs q w table l t random xs o e p) =
+      lent ts ps qs ws vs (pump l t random (now xs)) (now (e .1 .1 .1 .1 .1 .1 .0)) o p (fits-with-table ps ws ts) (fitting ps ws ts) []
 
-pub misfit : (ts ws : List ℕ) (a : Ask) (x : Seen) (vs : List ℕ) → Allows ts ws a x vs → (Serves a ws ts → ⊥) → x ≡ unfit a
-misfit ts ws (call c output) x vs p wrong = lawful ts ws c output x vs p .no-site wrong
-misfit ts ws (held l) x vs (reads-held κs w k n e p) wrong = ap count (p .other wrong)
-misfit ts ws (lost l) x vs (reads-lost κs w k n e p) wrong = ap count (p .other wrong)
-misfit ts ws (phase l) x vs (reads-phase κs w k n e p) wrong = ap count (p .other wrong)
-misfit ts ws (version l) x vs (reads-version κs w k v e p) wrong = ap (λ (u : ChosenVersion). numbers (u .major ∷ u .minor ∷ u .patch ∷ [])) (p .other wrong)
-misfit ts ws (record-of l r) x vs (reads-record κs w k j y e p) wrong = ap (λ (u : Reading). entry (u .found) (u .bytes)) (p .other wrong)
+  misread : {N : Type 0} → (N → ⊥) → (Words ps ws → N) → Words ps ws → ⊥
+  misread wrong f z = wrong (f z)
+
+  pub misfit : (a : Ask) (x : Seen) (qs vs : List ℕ) → Allows ts ps ws a x qs vs → (Serves a ps ws ts → ⊥) → x ≡ unfit a
+  misfit (call c output) x qs vs p wrong = lawful c output x qs vs p .no-site wrong
+  misfit (held l) x qs vs (reads-held κs q w k n e p) wrong = ap count (p .other (misread wrong (fitting-both ps ws)))
+  misfit (lost l) x qs vs (reads-lost κs q w k n e p) wrong = ap count (p .other (misread wrong (fitting-both ps ws)))
+  misfit (phase l) x qs vs (reads-phase κs q w k n e p) wrong = ap count (p .other (misread wrong (fitting-both ps ws)))
+  misfit (version l) x qs vs (reads-version κs q w k v e p) wrong =
+      ap (λ (u : ChosenVersion). numbers (u .major ∷ u .minor ∷ u .patch ∷ [])) (p .other (misread wrong (fitting-both ps ws)))
+  misfit (record-of l r) x qs vs (reads-record κs q w k j y e p) wrong = ap (λ (u : Reading). entry (u .found) (u .bytes)) (p .other (misread wrong (fitting-both ps ws)))

@@ -7,3 +7,4 @@ pub mod Lawful
 pub mod Asked
 pub mod Equation
 pub mod Calls
+pub mod Boxed

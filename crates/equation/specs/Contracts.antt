@@ -1,7 +1,7 @@
--- What the exported functions' own contracts allow: each constructor cites the contract of the function of its name. The host lends the site's words, which go from
--- ws to vs, and the bytes ts of its table.
+-- What the exported functions' own contracts allow: each constructor cites the contract of the function of its name. The host lends the pool's words,
+-- which go from ps to qs, a site's, which go from ws to vs, and the bytes ts of its table.
 -- Assumes nothing.
-use Prim.Native.Nat.{ℕ, _/_, _%_, _^_}
+use Prim.Native.Nat.{ℕ, zero, suc, _/_, _%_, _^_, _<_}
 use mathlib.Core.Path.{_≡_}
 use mathlib.Core.List.{List, [], _∷_, map}
 use lib.Dec.{ltb}
@@ -47,7 +47,8 @@ use Rattle.sitec.proofs.readings.rsmp_lent_record.Kinds as record-kinds
 use Rattle.machine.specs.Words.{Bytes}
 use Rattle.machine.specs.State.{Command, commandOf, Act}
 use Rattle.machine.specs.State.Act.{connect, disconnect, packet, alarmInput, statusValue, aggregatedValue, tick, pump}
-use Rattle.equation.specs.Seen.{Ask, Seen}
+use Rattle.equation.specs.Seen.{Ask, Asking, Seen, startFor}
+use Rattle.equation.specs.Seen.Asking.{start-of, ask-of}
 use Rattle.equation.specs.Seen.Ask.{call, held, lost, phase, version, record-of}
 use Rattle.equation.specs.Seen.Seen.{told, count, numbers, entry}
 
@@ -70,66 +71,95 @@ calls t act = call (record { time = t; act = act }) []
 abbrev pub lends : ℕ → (ℕ → Act) → Bytes → Ask
 lends t act output = call (record { time = t; act = act (length output) }) output
 
--- a packet call, whatever the lengths of what is lent: the words lent for commands, the output, and all three afterwards
-pub data Packets : Bytes → List ℕ → List ℕ → Bytes → Outcome → List ℕ → List ℕ → Bytes → Type 0 where
-  packet-call : (κs : Lfts 5) (w table : RefT (List ℕ)) (l t : ℕ) (random : Identity) (received commands out : RefT (List ℕ)) (o : Outcome) (e : AtExit (endedOf 5 packet-kinds.ps packet-kinds.r) κs)
-      → rsmp-packet.Learnt κs (w, (table, (l, (t, (random, (received, (commands, (out, tt)))))))) o e
-      → Packets (now table) (now w) (now commands) (now out) o (now (e .0)) (now (e .1 .1 .1 .1 .1 .1 .0)) (now (e .1 .1 .1 .1 .1 .1 .1 .0))
+-- a packet call, whatever the lengths of what is lent: table, pool and words, the words lent for commands, the output; and all four afterwards
+pub data Packets : Bytes → List ℕ → List ℕ → List ℕ → Bytes → Outcome → List ℕ → List ℕ → List ℕ → Bytes → Type 0 where
+  packet-call : (κs : Lfts 6) (p w table : RefT (List ℕ)) (l t : ℕ) (random : Identity) (received commands out : RefT (List ℕ)) (o : Outcome) (e : AtExit (endedOf 6 packet-kinds.ps packet-kinds.r) κs)
+      → rsmp-packet.Learnt κs (p, (w, (table, (l, (t, (random, (received, (commands, (out, tt))))))))) o e
+      → Packets (now table) (now p) (now w) (now commands) (now out) o (now (e .0)) (now (e .1 .0)) (now (e .1 .1 .1 .1 .1 .1 .1 .0)) (now (e .1 .1 .1 .1 .1 .1 .1 .1 .0))
 
--- words and table before; the bytes of a site table and the start values; what is handed out; words and table afterwards
-pub data Starts : List ℕ → Bytes → Bytes → ℕ → ℕ → ℕ → ℕ → ℕ → Outcome → List ℕ → Bytes → Type 0 where
-  starts : (κs : Lfts 3) (w t table : RefT (List ℕ)) (links primary period first time : ℕ) (o : Outcome) (e : AtExit (endedOf 3 start-kinds.ps start-kinds.r) κs)
-      → rsmp-start.Learnt κs (w, (t, (table, (links, (primary, (period, (first, (time, tt)))))))) o e
-      → Starts (now w) (now t) (now table) links primary period first time o (now (e .0)) (now (e .1 .0))
+-- pool, words and table before; the bytes of a site table and the start values; what is handed out; pool, words and table afterwards
+pub data Starts : List ℕ → List ℕ → Bytes → Bytes → ℕ → ℕ → ℕ → ℕ → ℕ → ℕ → Outcome → List ℕ → List ℕ → Bytes → Type 0 where
+  starts : (κs : Lfts 4) (p w t table : RefT (List ℕ)) (site links primary period first time : ℕ) (o : Outcome) (e : AtExit (endedOf 4 start-kinds.ps start-kinds.r) κs)
+      → rsmp-start.Learnt κs (p, (w, (t, (table, (site, (links, (primary, (period, (first, (time, tt)))))))))) o e
+      → Starts (now p) (now w) (now t) (now table) site links primary period first time o (now (e .0)) (now (e .1 .0)) (now (e .1 .1 .0))
 
--- table and words, an ask, what a host sees of it, and the words afterwards
-pub data Allows : Bytes → List ℕ → Ask → Seen → List ℕ → Type 0 where
-  connects : {ts : Bytes} (κs : Lfts 1) (w : RefT (List ℕ)) (l t : ℕ) (o : Outcome) (e : AtExit (endedOf 1 connect-kinds.ps connect-kinds.r) κs)
-      → rsmp-connect.Learnt κs (w, (l, (t, tt))) o e → Allows ts (now w) (calls t (connect l)) (outcomeSeen [] o) (now (e .0))
-  disconnects : {ts : Bytes} (κs : Lfts 1) (w : RefT (List ℕ)) (l t : ℕ) (o : Outcome) (e : AtExit (endedOf 1 disconnect-kinds.ps disconnect-kinds.r) κs)
-      → rsmp-disconnect.Learnt κs (w, (l, (t, tt))) o e → Allows ts (now w) (calls t (disconnect l)) (outcomeSeen [] o) (now (e .0))
+-- table, pool and words, an ask, what a host sees of it, and the pool and the words afterwards
+pub data Allows : Bytes → List ℕ → List ℕ → Ask → Seen → List ℕ → List ℕ → Type 0 where
+  connects : {ts : Bytes} (κs : Lfts 2) (p w : RefT (List ℕ)) (l t : ℕ) (o : Outcome) (e : AtExit (endedOf 2 connect-kinds.ps connect-kinds.r) κs)
+      → rsmp-connect.Learnt κs (p, (w, (l, (t, tt)))) o e → Allows ts (now p) (now w) (calls t (connect l)) (outcomeSeen [] o) (now p) (now (e .1 .0))
+  disconnects : {ts : Bytes} (κs : Lfts 2) (p w : RefT (List ℕ)) (l t : ℕ) (o : Outcome) (e : AtExit (endedOf 2 disconnect-kinds.ps disconnect-kinds.r) κs)
+      → rsmp-disconnect.Learnt κs (p, (w, (l, (t, tt)))) o e → Allows ts (now p) (now w) (calls t (disconnect l)) (outcomeSeen [] o) (now (e .0)) (now (e .1 .0))
   -- sixteen words are lent for its commands
-  packets : (κs : Lfts 5) (w table : RefT (List ℕ)) (l t : ℕ) (random : Identity) (received commands out : RefT (List ℕ)) (o : Outcome) (e : AtExit (endedOf 5 packet-kinds.ps packet-kinds.r) κs)
-      → rsmp-packet.Learnt κs (w, (table, (l, (t, (random, (received, (commands, (out, tt)))))))) o e → length (now commands) ≡ 16
-      → Allows (now table) (now w) (lends t (packet l (random .bytes) (now received)) (now out)) (packetSeen (now (e .1 .1 .1 .1 .1 .1 .1 .0)) (now (e .1 .1 .1 .1 .1 .1 .0)) o) (now (e .0))
+  packets : (κs : Lfts 6) (p w table : RefT (List ℕ)) (l t : ℕ) (random : Identity) (received commands out : RefT (List ℕ)) (o : Outcome) (e : AtExit (endedOf 6 packet-kinds.ps packet-kinds.r) κs)
+      → rsmp-packet.Learnt κs (p, (w, (table, (l, (t, (random, (received, (commands, (out, tt))))))))) o e → length (now commands) ≡ 16
+      → Allows (now table) (now p) (now w) (lends t (packet l (random .bytes) (now received)) (now out))
+      (packetSeen (now (e .1 .1 .1 .1 .1 .1 .1 .1 .0)) (now (e .1 .1 .1 .1 .1 .1 .1 .0)) o) (now (e .0)) (now (e .1 .0))
   -- active where it is not 0
-  alarms : (κs : Lfts 2) (w table : RefT (List ℕ)) (i active t : ℕ) (o : Outcome) (e : AtExit (endedOf 2 alarm-kinds.ps alarm-kinds.r) κs)
-      → rsmp-alarm.Learnt κs (w, (table, (i, (active, (t, tt))))) o e → Allows (now table) (now w) (calls t (alarmInput i (ltb 0 active))) (outcomeSeen [] o) (now (e .0))
-  statuses : (κs : Lfts 2) (w table : RefT (List ℕ)) (i : ℕ) (v : ℤ) (t : ℕ) (o : Outcome) (e : AtExit (endedOf 2 status-kinds.ps status-kinds.r) κs)
-      → rsmp-status.Learnt κs (w, (table, (i, (v, (t, tt))))) o e → Allows (now table) (now w) (calls t (statusValue i v)) (outcomeSeen [] o) (now (e .0))
-  aggregates : {ts : Bytes} (κs : Lfts 1) (w : RefT (List ℕ)) (v t : ℕ) (o : Outcome) (e : AtExit (endedOf 1 aggregated-kinds.ps aggregated-kinds.r) κs)
-      → rsmp-aggregated.Learnt κs (w, (v, (t, tt))) o e → Allows ts (now w) (calls t (aggregatedValue v)) (outcomeSeen [] o) (now (e .0))
-  ticks : {ts : Bytes} (κs : Lfts 1) (w : RefT (List ℕ)) (t : ℕ) (o : Outcome) (e : AtExit (endedOf 1 tick-kinds.ps tick-kinds.r) κs)
-      → rsmp-tick.Learnt κs (w, (t, tt)) o e → Allows ts (now w) (calls t tick) (outcomeSeen [] o) (now (e .0))
-  pumps : (κs : Lfts 3) (w table : RefT (List ℕ)) (l t : ℕ) (random : Identity) (out : RefT (List ℕ)) (o : Outcome) (e : AtExit (endedOf 3 pump-kinds.ps pump-kinds.r) κs)
-      → rsmp-pump.Learnt κs (w, (table, (l, (t, (random, (out, tt)))))) o e
-      → Allows (now table) (now w) (lends t (pump l (random .bytes)) (now out)) (outcomeSeen (now (e .1 .1 .1 .1 .1 .0)) o) (now (e .0))
-  reads-held : {ts : Bytes} (κs : Lfts 1) (w : RefT (List ℕ)) (l n : ℕ) (e : AtExit (endedOf 1 held-kinds.ps held-kinds.r) κs) → rsmp-held.Learnt κs (w, (l, tt)) n e → Allows ts (now w) (held l) (count n) (now w)
-  reads-lost : {ts : Bytes} (κs : Lfts 1) (w : RefT (List ℕ)) (l n : ℕ) (e : AtExit (endedOf 1 lost-kinds.ps lost-kinds.r) κs) → rsmp-lost.Learnt κs (w, (l, tt)) n e → Allows ts (now w) (lost l) (count n) (now w)
-  reads-phase : {ts : Bytes} (κs : Lfts 1) (w : RefT (List ℕ)) (l n : ℕ) (e : AtExit (endedOf 1 phase-kinds.ps phase-kinds.r) κs) → rsmp-phase.Learnt κs (w, (l, tt)) n e → Allows ts (now w) (phase l) (count n) (now w)
-  reads-version : {ts : Bytes} (κs : Lfts 1) (w : RefT (List ℕ)) (l : ℕ) (v : ChosenVersion) (e : AtExit (endedOf 1 version-of-kinds.ps version-of-kinds.r) κs)
-      → rsmp-version-of.Learnt κs (w, (l, tt)) v e → Allows ts (now w) (version l) (numbers (v .major ∷ v .minor ∷ v .patch ∷ [])) (now w)
-  reads-record : {ts : Bytes} (κs : Lfts 1) (w : RefT (List ℕ)) (l r : ℕ) (x : Reading) (e : AtExit (endedOf 1 record-kinds.ps record-kinds.r) κs)
-      → rsmp-record.Learnt κs (w, (l, (r, tt))) x e → Allows ts (now w) (record-of l r) (entry (x .found) (x .bytes)) (now w)
+  alarms : (κs : Lfts 3) (p w table : RefT (List ℕ)) (i active t : ℕ) (o : Outcome) (e : AtExit (endedOf 3 alarm-kinds.ps alarm-kinds.r) κs)
+      → rsmp-alarm.Learnt κs (p, (w, (table, (i, (active, (t, tt)))))) o e
+      → Allows (now table) (now p) (now w) (calls t (alarmInput i (ltb 0 active))) (outcomeSeen [] o) (now (e .0)) (now (e .1 .0))
+  statuses : (κs : Lfts 3) (p w table : RefT (List ℕ)) (i : ℕ) (v : ℤ) (t : ℕ) (o : Outcome) (e : AtExit (endedOf 3 status-kinds.ps status-kinds.r) κs)
+      → rsmp-status.Learnt κs (p, (w, (table, (i, (v, (t, tt)))))) o e
+      → Allows (now table) (now p) (now w) (calls t (statusValue i v)) (outcomeSeen [] o) (now (e .0)) (now (e .1 .0))
+  aggregates : {ts : Bytes} (κs : Lfts 2) (p w : RefT (List ℕ)) (v t : ℕ) (o : Outcome) (e : AtExit (endedOf 2 aggregated-kinds.ps aggregated-kinds.r) κs)
+      → rsmp-aggregated.Learnt κs (p, (w, (v, (t, tt)))) o e → Allows ts (now p) (now w) (calls t (aggregatedValue v)) (outcomeSeen [] o) (now (e .0)) (now (e .1 .0))
+  ticks : {ts : Bytes} (κs : Lfts 2) (p w : RefT (List ℕ)) (t : ℕ) (o : Outcome) (e : AtExit (endedOf 2 tick-kinds.ps tick-kinds.r) κs)
+      → rsmp-tick.Learnt κs (p, (w, (t, tt))) o e → Allows ts (now p) (now w) (calls t tick) (outcomeSeen [] o) (now (e .0)) (now (e .1 .0))
+  pumps : (κs : Lfts 4) (p w table : RefT (List ℕ)) (l t : ℕ) (random : Identity) (out : RefT (List ℕ)) (o : Outcome) (e : AtExit (endedOf 4 pump-kinds.ps pump-kinds.r) κs)
+      → rsmp-pump.Learnt κs (p, (w, (table, (l, (t, (random, (out, tt))))))) o e
+      → Allows (now table) (now p) (now w) (lends t (pump l (random .bytes)) (now out)) (outcomeSeen (now (e .1 .1 .1 .1 .1 .1 .0)) o) (now (e .0)) (now (e .1 .0))
+  reads-held : {ts : Bytes} (κs : Lfts 2) (p w : RefT (List ℕ)) (l n : ℕ) (e : AtExit (endedOf 2 held-kinds.ps held-kinds.r) κs)
+      → rsmp-held.Learnt κs (p, (w, (l, tt))) n e → Allows ts (now p) (now w) (held l) (count n) (now p) (now w)
+  reads-lost : {ts : Bytes} (κs : Lfts 2) (p w : RefT (List ℕ)) (l n : ℕ) (e : AtExit (endedOf 2 lost-kinds.ps lost-kinds.r) κs)
+      → rsmp-lost.Learnt κs (p, (w, (l, tt))) n e → Allows ts (now p) (now w) (lost l) (count n) (now p) (now w)
+  reads-phase : {ts : Bytes} (κs : Lfts 2) (p w : RefT (List ℕ)) (l n : ℕ) (e : AtExit (endedOf 2 phase-kinds.ps phase-kinds.r) κs)
+      → rsmp-phase.Learnt κs (p, (w, (l, tt))) n e → Allows ts (now p) (now w) (phase l) (count n) (now p) (now w)
+  reads-version : {ts : Bytes} (κs : Lfts 2) (p w : RefT (List ℕ)) (l : ℕ) (v : ChosenVersion) (e : AtExit (endedOf 2 version-of-kinds.ps version-of-kinds.r) κs)
+      → rsmp-version-of.Learnt κs (p, (w, (l, tt))) v e → Allows ts (now p) (now w) (version l) (numbers (v .major ∷ v .minor ∷ v .patch ∷ [])) (now p) (now w)
+  reads-record : {ts : Bytes} (κs : Lfts 2) (p w : RefT (List ℕ)) (l r : ℕ) (x : Reading) (e : AtExit (endedOf 2 record-kinds.ps record-kinds.r) κs)
+      → rsmp-record.Learnt κs (p, (w, (l, (r, tt)))) x e → Allows ts (now p) (now w) (record-of l r) (entry (x .found) (x .bytes)) (now p) (now w)
 
--- ask after ask, each on the words that the one before left
-pub data Run (ts : Bytes) : List ℕ → List Ask → List Seen → Type 0 where
-  ends : {ws : List ℕ} → Run ts ws [] []
-  asks : {ws vs : List ℕ} {a : Ask} {more : List Ask} {x : Seen} {xs : List Seen} → Allows ts ws a x vs → Run ts vs more xs → Run ts ws (a ∷ more) (x ∷ xs)
+-- what is lent of a site, and of a box: one pool, two sites
+pub record Part : Type 0 where
+  pub words : List ℕ
+  pub table : Bytes
+
+pub record Memory : Type 0 where
+  pub pool : List ℕ
+  pub north : Part
+  pub south : Part
+
+abbrev pub partOf : ℕ → Memory → Part
+partOf zero m = m .north
+partOf (suc k) m = m .south
+
+-- the memory with another pool, and other words and another table of site k
+abbrev pub leaving : ℕ → List ℕ → List ℕ → Bytes → Memory → Memory
+leaving zero qs vs us m = record { pool = qs; north = record { words = vs; table = us }; south = m .south }
+leaving (suc k) qs vs us m = record { pool = qs; north = m .north; south = record { words = vs; table = us } }
+
+-- ask after ask, each on the memory that the one before left
+pub data Run : Memory → List Asking → List Seen → Type 0 where
+  ends : {m : Memory} → Run m [] []
+  asks : {m : Memory} {k : ℕ} {qs vs : List ℕ} {a : Ask} {x : Seen} {more : List Asking} {xs : List Seen} → k < 2
+      → Allows (partOf k m .table) (m .pool) (partOf k m .words) a x qs vs → Run (leaving k qs vs (partOf k m .table) m) more xs → Run m (ask-of k a ∷ more) (x ∷ xs)
+  begins : {m : Memory} {k : ℕ} {table : Bytes} {links primary period first time : ℕ} {o : Outcome} {qs vs : List ℕ} {us : Bytes} {more : List Asking} {xs : List Seen} → k < 2
+      → Starts (m .pool) (partOf k m .words) (partOf k m .table) table k links primary period first time o qs vs us
+      → Run (leaving k qs vs us m) more xs → Run m (start-of (startFor k table links primary period first time) ∷ more) (outcomeSeen [] o ∷ xs)
 
 -- no function asks anything of what it is given
 pub record Free : Type 0 where
-  pub start : (κs : Lfts 3) (given : _) → rsmp-start.Asked κs given
-  pub connect : (κs : Lfts 1) (given : _) → rsmp-connect.Asked κs given
-  pub disconnect : (κs : Lfts 1) (given : _) → rsmp-disconnect.Asked κs given
-  pub packet : (κs : Lfts 5) (given : _) → rsmp-packet.Asked κs given
-  pub alarm : (κs : Lfts 2) (given : _) → rsmp-alarm.Asked κs given
-  pub status : (κs : Lfts 2) (given : _) → rsmp-status.Asked κs given
-  pub aggregated : (κs : Lfts 1) (given : _) → rsmp-aggregated.Asked κs given
-  pub tick : (κs : Lfts 1) (given : _) → rsmp-tick.Asked κs given
-  pub pump : (κs : Lfts 3) (given : _) → rsmp-pump.Asked κs given
-  pub held : (κs : Lfts 1) (given : _) → rsmp-held.Asked κs given
-  pub lost : (κs : Lfts 1) (given : _) → rsmp-lost.Asked κs given
-  pub phase : (κs : Lfts 1) (given : _) → rsmp-phase.Asked κs given
-  pub version : (κs : Lfts 1) (given : _) → rsmp-version-of.Asked κs given
-  pub record-of : (κs : Lfts 1) (given : _) → rsmp-record.Asked κs given
+  pub start : (κs : Lfts 4) (given : _) → rsmp-start.Asked κs given
+  pub connect : (κs : Lfts 2) (given : _) → rsmp-connect.Asked κs given
+  pub disconnect : (κs : Lfts 2) (given : _) → rsmp-disconnect.Asked κs given
+  pub packet : (κs : Lfts 6) (given : _) → rsmp-packet.Asked κs given
+  pub alarm : (κs : Lfts 3) (given : _) → rsmp-alarm.Asked κs given
+  pub status : (κs : Lfts 3) (given : _) → rsmp-status.Asked κs given
+  pub aggregated : (κs : Lfts 2) (given : _) → rsmp-aggregated.Asked κs given
+  pub tick : (κs : Lfts 2) (given : _) → rsmp-tick.Asked κs given
+  pub pump : (κs : Lfts 4) (given : _) → rsmp-pump.Asked κs given
+  pub held : (κs : Lfts 2) (given : _) → rsmp-held.Asked κs given
+  pub lost : (κs : Lfts 2) (given : _) → rsmp-lost.Asked κs given
+  pub phase : (κs : Lfts 2) (given : _) → rsmp-phase.Asked κs given
+  pub version : (κs : Lfts 2) (given : _) → rsmp-version-of.Asked κs given
+  pub record-of : (κs : Lfts 2) (given : _) → rsmp-record.Asked κs given

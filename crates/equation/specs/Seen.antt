@@ -1,27 +1,50 @@
 -- All that a host sees of a call or a reading, and what the machine shows of it.
 -- Assumes nothing.
 use Prim.Native.Nat.{ℕ, _+_, _^_, _<_}
+use mathlib.Core.Path.{_≡_}
 use mathlib.Core.Bool.{Bool, false}
 use mathlib.Core.List.{List, [], _∷_, _++_}
-use lib.Dec.{ltb}
+use mathlib.Core.Option.{Option, some, none}
+use lib.Dec.{eqb, ltb}
 use lib.ListN.{length, drop, getD, replicate}
 use Rattle.number.specs.Signed.{Signed32}
 use Rattle.identity.specs.Read.{SixteenBytes}
 use Rattle.write_message.specs.Message.{Message}
 use Rattle.write_message.specs.Listing.{bytesOf}
 use Rattle.sitec.specs.declared.Outcome.{Outcome as HandedOut}
-use Rattle.machine.specs.Words.{Bytes, maybe, orElse, flat}
-use Rattle.machine.specs.State.{Command, Machine, Act, Call, Outcome}
+use Rattle.machine.specs.Words.{Bytes, if_then_else_, maybe, orElse, flat}
+use Rattle.machine.specs.State.{Start, Command, Machine, Act, Call, Outcome}
 use Rattle.machine.specs.State.Act.{connect, disconnect, packet, alarmInput, statusValue, aggregatedValue, tick, pump}
 use Rattle.machine.specs.State.Outcome.{refused, done}
 use Rattle.machine.specs.Step.{step}
 use Rattle.machine.specs.Readings.{reading}
+use Rattle.machine.specs.Table.{Begins}
+use Rattle.machine.specs.Box.{Box, siteOf, turned}
+use Rattle.machine.specs.Box.Turn.{starts, calls}
 
 -- what a host asks: a call after start, with the bytes of the output that it lends (none where it lends none), or a reading of a link
 pub data Ask : Type 0 where
   call : (c : Call) (output : Bytes) → Ask
   held lost phase version : (link : ℕ) → Ask
   record-of : (link rank : ℕ) → Ask
+
+-- what is asked of a box: a start of one of its sites, or an ask of one
+pub data Asking : Type 0 where
+  start-of : (start : Start) → Asking
+  ask-of : (site : ℕ) (ask : Ask) → Asking
+
+-- the machine's start; no primary where it is 4294967295
+abbrev pub startFor : ℕ → Bytes → ℕ → ℕ → ℕ → ℕ → ℕ → Start
+startFor site table links primary period first time =
+    record {
+      site = site;
+      table = table;
+      links = links;
+      primary = if eqb primary 4294967295 then none else some primary;
+      period = period;
+      first = first;
+      time = time;
+    }
 
 -- all that the call hands out, the whole output afterwards and the commands handed over; or what is read: a number, the three of a version, whether there
 -- is such a record and its bytes
@@ -98,6 +121,29 @@ abbrev pub showsAll : Machine → List Ask → List Seen
 showsAll m [] = []
 showsAll m (a ∷ more) = shows m a ∷ showsAll (next m a) more
 
+-- ---- what a box shows
+-- a start: 11 where no machine begins, else 0
+abbrev pub startShows : Option Machine → Seen
+startShows none = told (numbered 11) [] []
+startShows (some m) = told (numbered 0) [] []
+
+-- a call is a turn of the box; a reading changes nothing
+abbrev pub boxAfter : ℕ → Ask → Box → Box
+boxAfter k (call c output) b = turned (calls k c) b
+boxAfter k (held l) b = b
+boxAfter k (lost l) b = b
+boxAfter k (phase l) b = b
+boxAfter k (version l) b = b
+boxAfter k (record-of l r) b = b
+
+-- what the machines of a box show, ask after ask; a site is asked once it has begun
+pub data BoxShows : Box → List Asking → List Seen → Type 0 where
+  no-more : {b : Box} → BoxShows b [] []
+  start-shows : {b : Box} {s : Start} {o : Option Machine} {more : List Asking} {xs : List Seen} → Begins s o → BoxShows (turned (starts (s .site) o) b) more xs
+      → BoxShows b (start-of s ∷ more) (startShows o ∷ xs)
+  ask-shows : {b : Box} {k : ℕ} {m : Machine} {a : Ask} {more : List Asking} {xs : List Seen} → siteOf k b ≡ some m → BoxShows (boxAfter k a b) more xs
+      → BoxShows b (ask-of k a ∷ more) (shows m a ∷ xs)
+
 -- ---- what the types of the arguments say: sixteen random bytes, a packet of bytes, a value of 32 bits, eight booleans
 abbrev pub TypedAct : Act → Type 0
 TypedAct (connect l) = Unit {0}
@@ -117,6 +163,7 @@ Typed (phase l) = Unit {0}
 Typed (version l) = Unit {0}
 Typed (record-of l r) = Unit {0}
 
-abbrev pub AllTyped : List Ask → Type 0
+abbrev pub AllTyped : List Asking → Type 0
 AllTyped [] = Unit {0}
-AllTyped (a ∷ more) = Typed a × AllTyped more
+AllTyped (start-of s ∷ more) = AllTyped more
+AllTyped (ask-of k a ∷ more) = Typed a × AllTyped more

@@ -1,4 +1,4 @@
--- The parts of an Alarm and of an AggregatedStatusRequest together: the words are ws, the site's table is t.
+-- The parts of an Alarm and of an AggregatedStatusRequest together: the pool's words are ps, the site's ws, its table is t.
 -- Assumes nothing.
 use Rattle.basis.proofs.Std.{ℕ, _≡_, refl, ap, _∙_, List, []}
 use Rattle.answer.specs.declared.Answer.{Answer}
@@ -23,44 +23,44 @@ use Rattle.packet_answer.proofs.Ends.{unreplied}
 use Rattle.packet_answer.proofs.Choices.{like}
 use Rattle.packet_alarm.specs.Orders.{requestBy, requestTaken, orderedOf, foundTaken, alarmTaken, aggregatedOf, aggregatedTaken}
 
-module _ (t : SiteTable) (ws : List ℕ) (q : Question) {vs xs ys : List ℕ} {r : Answer} where
+module _ (t : SiteTable) (ps ws : List ℕ) (q : Question) {qs vs xs ys : List ℕ} {r : Answer} where
   pub from-primary : (k : ℕ)
-      → roleOf (siteOf ws t) (q .link) ≡ Primary
-      → TakesIn t q (unlessBusy (siteOf ws t) q (replied (siteOf ws t) q (alarmMessage (siteOf ws t) (q .identity .bytes) k))) ws vs xs ys r
-      → TakesIn t q (requestTaken (siteOf ws t) q k) ws vs xs ys r
+      → roleOf (siteOf ps ws t) (q .link) ≡ Primary
+      → TakesIn t q (unlessBusy (siteOf ps ws t) q (replied (siteOf ps ws t) q (alarmMessage (siteOf ps ws t) (q .identity .bytes) k))) ps qs ws vs xs ys r
+      → TakesIn t q (requestTaken (siteOf ps ws t) q k) ps qs ws vs xs ys r
   unfolding requestTaken
-  from-primary k e g = like t ws q (λ (x : Role). requestBy (siteOf ws t) q k x) e g
+  from-primary k e g = like t ps ws q (λ (x : Role). requestBy (siteOf ps ws t) q k x) e g
 
   pub from-secondary : (k : ℕ)
-      → roleOf (siteOf ws t) (q .link) ≡ Secondary
-      → GivesIn t (q .time) never (acked (siteOf ws t) [] q none .plan) ws vs xs ys r
-      → TakesIn t q (requestTaken (siteOf ws t) q k) ws vs xs ys r
+      → roleOf (siteOf ps ws t) (q .link) ≡ Secondary
+      → GivesIn t (q .time) never (acked (siteOf ps ws t) [] q none .plan) ps qs ws vs xs ys r
+      → TakesIn t q (requestTaken (siteOf ps ws t) q k) ps qs ws vs xs ys r
   unfolding requestTaken
   from-secondary k e g =
-      like t ws q (λ (x : Role). requestBy (siteOf ws t) q k x) e
-      (unreplied t q (acked (siteOf ws t) [] q none) refl g)
+      like t ps ws q (λ (x : Role). requestBy (siteOf ps ws t) q k x) e
+      (unreplied t q (acked (siteOf ps ws t) [] q none) refl g)
 
   pub found : (f : AlarmFields) {x : SoughtAlarm}
       → alarmSought t (f .component) (f .code) ≡ x
-      → TakesIn t q (orderedOf (siteOf ws t) q (f .order) x) ws vs xs ys r
-      → TakesIn t q (foundTaken (siteOf ws t) q f) ws vs xs ys r
+      → TakesIn t q (orderedOf (siteOf ps ws t) q (f .order) x) ps qs ws vs xs ys r
+      → TakesIn t q (foundTaken (siteOf ps ws t) q f) ps qs ws vs xs ys r
   unfolding foundTaken
   found f e g =
-      like t ws q (λ (x : SoughtAlarm). orderedOf (siteOf ws t) q (f .order) x)
-      (ap (λ (u : SiteTable). alarmSought u (f .component) (f .code)) (table-of ws t) ∙ e)
+      like t ps ws q (λ (x : SoughtAlarm). orderedOf (siteOf ps ws t) q (f .order) x)
+      (ap (λ (u : SiteTable). alarmSought u (f .component) (f .code)) (table-of ps ws t) ∙ e)
       g
 
   pub alarm-judged : (f : AlarmFields)
-      → TakesIn t q (byVerdict (f .verdict) (siteOf ws t) q (foundTaken (siteOf ws t) q f)) ws vs xs ys r
-      → TakesIn t q (alarmTaken (siteOf ws t) q f) ws vs xs ys r
+      → TakesIn t q (byVerdict (f .verdict) (siteOf ps ws t) q (foundTaken (siteOf ps ws t) q f)) ps qs ws vs xs ys r
+      → TakesIn t q (alarmTaken (siteOf ps ws t) q f) ps qs ws vs xs ys r
   unfolding alarmTaken
   alarm-judged f g = g
 
   pub aggregated-judged : (f : GotLabel)
-      → TakesIn t q (byVerdict (f .verdict) (siteOf ws t) q (aggregatedOf (siteOf ws t) q (componentSought t (f .label)))) ws vs xs ys r
-      → TakesIn t q (aggregatedTaken (siteOf ws t) q f) ws vs xs ys r
+      → TakesIn t q (byVerdict (f .verdict) (siteOf ps ws t) q (aggregatedOf (siteOf ps ws t) q (componentSought t (f .label)))) ps qs ws vs xs ys r
+      → TakesIn t q (aggregatedTaken (siteOf ps ws t) q f) ps qs ws vs xs ys r
   unfolding aggregatedTaken
   aggregated-judged f g =
-      like t ws q (λ (u : SiteTable). byVerdict (f .verdict) (siteOf ws t) q (aggregatedOf (siteOf ws t) q (componentSought u (f .label))))
-      (table-of ws t)
+      like t ps ws q (λ (u : SiteTable). byVerdict (f .verdict) (siteOf ps ws t) q (aggregatedOf (siteOf ps ws t) q (componentSought u (f .label))))
+      (table-of ps ws t)
       g

@@ -25,14 +25,14 @@ use Rattle.packet_lookup.specs.declared.SoughtAlarm.the-variants.{Alarm, NoComp
 use Rattle.packet_lookup.specs.Sought.{componentSought, alarmSought}
 use Rattle.send_message.specs.Sending.{alarmMessage, aggregatedMessage}
 use Rattle.site.specs.declared.Site.{Site}
-use Rattle.site.specs.Site.{roleOf, hasPrimary}
+use Rattle.site.specs.Site.{roleOf, hasPrimary, ownerOf}
 use Rattle.site.specs.Parts.{alarmAt, withAlarm}
 use Rattle.packet_answer.specs.declared.Question.{Question}
 use Rattle.packet_answer.specs.Taken.{Taken, notAcked, acked, replied, byVerdict, unlessBusy, unknownComponent, unknownAlarm}
 
--- "alarm records are issued for the primary alone"
+-- "alarm records are issued for the primary alone": its owner
 abbrev pub recordsOf : Site → ℕ → Changed → List Entry
-recordsOf s k c = pick (both (c .records) (hasPrimary s)) (issuedOf (c .alarm) (s .primary) k ∷ []) []
+recordsOf s k c = pick (both (c .records) (hasPrimary s)) (issuedOf (c .alarm) (ownerOf s (s .primary)) k ∷ []) []
 
 abbrev pub changedTo : Site → Question → ℕ → Changed → Taken
 changedTo s q k c = acked (withAlarm s k (c .alarm)) (recordsOf s k c) q none

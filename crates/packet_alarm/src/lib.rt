@@ -1,7 +1,7 @@
 // What a supervisor orders of an alarm, and its request for the aggregated status, in place.
 ghost use mathlib.Core.Path.{_≡_};
-ghost use mathlib.Core.List.{[], _++_};
-ghost use Prim.Native.Nat.{_<_};
+ghost use mathlib.Core.List.{List, [], _++_};
+ghost use Prim.Native.Nat.{ℕ, _<_};
 ghost use lib.ListN.{length};
 ghost use Rattle.answer.specs.Given.Hint.{none};
 ghost use Rattle.table_whole.specs.declared.SiteTable.{SiteTable};
@@ -16,8 +16,8 @@ ghost use Rattle.send_message.specs.Sending.{alarmMessage, aggregatedMessage};
 ghost use Rattle.site.specs.declared.Site.{Site};
 ghost use Rattle.site.specs.Call.{never};
 ghost use Rattle.site.specs.Parts.{withAlarm};
-ghost use Rattle.store_site.specs.Layout.{siteOf, withLast, siteWords};
-ghost use Rattle.store_site.specs.Turns.{Turns};
+ghost use Rattle.store_site.specs.Layout.{siteOf, withLast, poolWords, siteWords};
+ghost use Rattle.store_site.specs.Turns.{Moves};
 ghost use Rattle.store_call.specs.Called.{GivesIn};
 ghost use Rattle.store_call.specs.Issued.{issuedIn};
 ghost use Rattle.packet_answer.specs.Taken.{acked, replied, unlessBusy};
@@ -38,43 +38,50 @@ use read_head::Order;
 use read_head::Verdict;
 
 // The alarm afterwards, the record of its change or none, and the time.
-fn keep(w: &mut [u64], time: u64, k: u8, c: Changed)
-    requires { ⌜ length (now w) ≡ siteWords ⌝ }
-    ensures { λ _. ⌜ Turns (λ (s : Site). withLast (issuedIn (withAlarm s k (c .alarm)) (recordsOf s k c)) time) (now (w .entry)) (now (w .exit)) ⌝ }
+fn keep(p: &mut [u64], w: &mut [u64], time: u64, k: u8, c: Changed)
+    requires { ⌜ (length (now p) ≡ poolWords) × (length (now w) ≡ siteWords) ⌝ }
+    ensures { λ _. ⌜ Moves (λ (s : Site). withLast (issuedIn (withAlarm s k (c .alarm)) (recordsOf s k c)) time) (now (p .entry)) (now (p .exit)) (now (w .entry)) (now (w .exit)) ⌝ }
 {
     let a = c.alarm;
     store_site::items::put_alarm(w, k as usize, a);
-    store_call::records::add_alarm(w, c, k as u16);
+    store_call::records::add_alarm(p, w, c, k as u16);
     store_site::parts::put_last(w, time);
 }
 
 // An alarm was changed, or not.
-fn changed(w: &mut [u64], q: Question, k: u8, c: Changed, out: &mut [u8]) -> Answer
-    requires { ⌜ length (now w) ≡ siteWords ⌝ }
-    ensures { λ r. ⌜ ((t : SiteTable) → GivesIn t (q .time) never (changedTo (siteOf (now (w .entry)) t) q k c .plan) (now (w .entry)) (now (w .exit)) (now (out .entry)) (now (out .exit)) r) ⌝ }
+fn changed(p: &mut [u64], w: &mut [u64], q: Question, k: u8, c: Changed, out: &mut [u8]) -> Answer
+    requires { ⌜ (length (now p) ≡ poolWords) × (length (now w) ≡ siteWords) ⌝ }
+    ensures { λ r. ⌜ ((t : SiteTable) → GivesIn t (q .time) never (changedTo (siteOf (now (p .entry)) (now (w .entry)) t) q k c .plan) (now (p .entry)) (now (p .exit)) (now (w .entry)) (now (w .exit)) (now (out .entry)) (now (out .exit)) r) ⌝ }
 {
     let n = store_call::records::of_alarm(w, c);
     if store_call::spent(w, n) {
         return Answer::Refused(Refusal::SequenceSpent);
     }
     let end = packet_answer::ack(q, out);
-    keep(w, q.time, k, c);
+    keep(p, w, q.time, k, c);
     Answer::Done(packet_answer::report(0, 0, end, 0))
 }
 
 // Acknowledge, Suspend or Resume of alarm k, from any link.
-fn change(w: &mut [u64], q: Question, k: u8, order: alarm::Order, out: &mut [u8]) -> Answer
-    requires { ⌜ length (now w) ≡ siteWords ⌝ }
-    ensures { λ r. ⌜ ((t : SiteTable) → GivesIn t (q .time) never (changeTaken (siteOf (now (w .entry)) t) q k order .plan) (now (w .entry)) (now (w .exit)) (now (out .entry)) (now (out .exit)) r) ⌝ }
+fn change(
+    p: &mut [u64],
+    w: &mut [u64],
+    q: Question,
+    k: u8,
+    order: alarm::Order,
+    out: &mut [u8],
+) -> Answer
+    requires { ⌜ (length (now p) ≡ poolWords) × (length (now w) ≡ siteWords) ⌝ }
+    ensures { λ r. ⌜ ((t : SiteTable) → GivesIn t (q .time) never (changeTaken (siteOf (now (p .entry)) (now (w .entry)) t) q k order .plan) (now (p .entry)) (now (p .exit)) (now (w .entry)) (now (w .exit)) (now (out .entry)) (now (out .exit)) r) ⌝ }
 {
     let a = store_site::items::alarm(w, k as usize);
-    changed(w, q, k, a.order(order, q.time), out)
+    changed(p, w, q, k, a.order(order, q.time), out)
 }
 
 // The acknowledgement, and the alarm in the rest of the output, lent from where it ends. Where it found no room, nothing follows.
 fn answer_and_alarm(w: &[u64], t: &[u8], q: Question, k: u8, out: &mut [u8]) -> usize
     requires { ⌜ (length (now w) ≡ siteWords) × (length (now t) ≡ tableBytes) ⌝ }
-    ensures { λ r. ⌜ Wrote (now (out .entry)) 0 (pieces (ack (q .received .bytes)) ++ pieces (alarmMessage (siteOf (now (w .entry)) (tableOf (now (t .entry)))) (q .identity .bytes) k)) (now (out .exit)) r ⌝ }
+    ensures { λ r. ⌜ ((ps : List ℕ) → Wrote (now (out .entry)) 0 (pieces (ack (q .received .bytes)) ++ pieces (alarmMessage (siteOf ps (now (w .entry)) (tableOf (now (t .entry)))) (q .identity .bytes) k)) (now (out .exit)) r) ⌝ }
 {
     let id = q.identity;
     let end = packet_answer::ack(q, out);
@@ -88,7 +95,7 @@ fn answer_and_alarm(w: &[u64], t: &[u8], q: Question, k: u8, out: &mut [u8]) -> 
 // The alarm as it is, behind the acknowledgement.
 fn reply_alarm(w: &mut [u64], t: &[u8], q: Question, k: u8, out: &mut [u8]) -> Answer
     requires { ⌜ (length (now w) ≡ siteWords) × ((length (now t) ≡ tableBytes) × (q .link < 4)) ⌝ }
-    ensures { λ r. ⌜ TakesIn (tableOf (now (t .entry))) q (unlessBusy (siteOf (now (w .entry)) (tableOf (now (t .entry)))) q (replied (siteOf (now (w .entry)) (tableOf (now (t .entry)))) q (alarmMessage (siteOf (now (w .entry)) (tableOf (now (t .entry)))) (q .identity .bytes) k))) (now (w .entry)) (now (w .exit)) (now (out .entry)) (now (out .exit)) r ⌝ }
+    ensures { λ r. ⌜ ((ps : List ℕ) → TakesIn (tableOf (now (t .entry))) q (unlessBusy (siteOf ps (now (w .entry)) (tableOf (now (t .entry)))) q (replied (siteOf ps (now (w .entry)) (tableOf (now (t .entry)))) q (alarmMessage (siteOf ps (now (w .entry)) (tableOf (now (t .entry)))) (q .identity .bytes) k))) ps ps (now (w .entry)) (now (w .exit)) (now (out .entry)) (now (out .exit)) r) ⌝ }
 {
     let id = q.identity;
     if packet_answer::is_busy(w, q.link) {
@@ -104,7 +111,7 @@ fn reply_alarm(w: &mut [u64], t: &[u8], q: Question, k: u8, out: &mut [u8]) -> A
 // Acknowledged, and nothing else.
 fn accept(w: &mut [u64], q: Question, out: &mut [u8]) -> Answer
     requires { ⌜ length (now w) ≡ siteWords ⌝ }
-    ensures { λ r. ⌜ ((t : SiteTable) → GivesIn t (q .time) never (acked (siteOf (now (w .entry)) t) [] q none .plan) (now (w .entry)) (now (w .exit)) (now (out .entry)) (now (out .exit)) r) ⌝ }
+    ensures { λ r. ⌜ ((ps : List ℕ) (t : SiteTable) → GivesIn t (q .time) never (acked (siteOf ps (now (w .entry)) t) [] q none .plan) ps ps (now (w .entry)) (now (w .exit)) (now (out .entry)) (now (out .exit)) r) ⌝ }
 {
     let end = packet_answer::ack(q, out);
     packet_answer::done(w, q.time, 0, 0, end, 0)
@@ -113,7 +120,7 @@ fn accept(w: &mut [u64], q: Question, out: &mut [u8]) -> Answer
 // Request of alarm k: a secondary's is acknowledged only.
 fn request(w: &mut [u64], t: &[u8], q: Question, k: u8, out: &mut [u8]) -> Answer
     requires { ⌜ (length (now w) ≡ siteWords) × ((length (now t) ≡ tableBytes) × (q .link < 4)) ⌝ }
-    ensures { λ r. ⌜ TakesIn (tableOf (now (t .entry))) q (requestTaken (siteOf (now (w .entry)) (tableOf (now (t .entry)))) q k) (now (w .entry)) (now (w .exit)) (now (out .entry)) (now (out .exit)) r ⌝ }
+    ensures { λ r. ⌜ ((ps : List ℕ) → TakesIn (tableOf (now (t .entry))) q (requestTaken (siteOf ps (now (w .entry)) (tableOf (now (t .entry)))) q k) ps ps (now (w .entry)) (now (w .exit)) (now (out .entry)) (now (out .exit)) r) ⌝ }
 {
     let role = store_site::head::role(w, q.link);
     match role {
@@ -122,15 +129,23 @@ fn request(w: &mut [u64], t: &[u8], q: Question, k: u8, out: &mut [u8]) -> Answe
     }
 }
 
-fn ordered(w: &mut [u64], t: &[u8], q: Question, k: u8, order: Order, out: &mut [u8]) -> Answer
-    requires { ⌜ (length (now w) ≡ siteWords) × ((length (now t) ≡ tableBytes) × (q .link < 4)) ⌝ }
-    ensures { λ r. ⌜ TakesIn (tableOf (now (t .entry))) q (orderedBy (siteOf (now (w .entry)) (tableOf (now (t .entry)))) q k order) (now (w .entry)) (now (w .exit)) (now (out .entry)) (now (out .exit)) r ⌝ }
+fn ordered(
+    p: &mut [u64],
+    w: &mut [u64],
+    t: &[u8],
+    q: Question,
+    k: u8,
+    order: Order,
+    out: &mut [u8],
+) -> Answer
+    requires { ⌜ (length (now p) ≡ poolWords) × ((length (now w) ≡ siteWords) × ((length (now t) ≡ tableBytes) × (q .link < 4))) ⌝ }
+    ensures { λ r. ⌜ TakesIn (tableOf (now (t .entry))) q (orderedBy (siteOf (now (p .entry)) (now (w .entry)) (tableOf (now (t .entry)))) q k order) (now (p .entry)) (now (p .exit)) (now (w .entry)) (now (w .exit)) (now (out .entry)) (now (out .exit)) r ⌝ }
 {
     match order {
         Order::Request => request(w, t, q, k, out),
-        Order::Acknowledge => change(w, q, k, alarm::Order::Acknowledge, out),
-        Order::Suspend => change(w, q, k, alarm::Order::Suspend, out),
-        Order::Resume => change(w, q, k, alarm::Order::Resume, out),
+        Order::Acknowledge => change(p, w, q, k, alarm::Order::Acknowledge, out),
+        Order::Suspend => change(p, w, q, k, alarm::Order::Suspend, out),
+        Order::Resume => change(p, w, q, k, alarm::Order::Resume, out),
     }
 }
 
@@ -143,14 +158,21 @@ fn alarm_of(t: &[u8], f: AlarmFields) -> SoughtAlarm
     packet_lookup::alarm(t, component, code)
 }
 
-fn find(w: &mut [u64], t: &[u8], q: Question, f: AlarmFields, out: &mut [u8]) -> Answer
-    requires { ⌜ (length (now w) ≡ siteWords) × ((length (now t) ≡ tableBytes) × (q .link < 4)) ⌝ }
-    ensures { λ r. ⌜ TakesIn (tableOf (now (t .entry))) q (foundTaken (siteOf (now (w .entry)) (tableOf (now (t .entry)))) q f) (now (w .entry)) (now (w .exit)) (now (out .entry)) (now (out .exit)) r ⌝ }
+fn find(
+    p: &mut [u64],
+    w: &mut [u64],
+    t: &[u8],
+    q: Question,
+    f: AlarmFields,
+    out: &mut [u8],
+) -> Answer
+    requires { ⌜ (length (now p) ≡ poolWords) × ((length (now w) ≡ siteWords) × ((length (now t) ≡ tableBytes) × (q .link < 4))) ⌝ }
+    ensures { λ r. ⌜ TakesIn (tableOf (now (t .entry))) q (foundTaken (siteOf (now (p .entry)) (now (w .entry)) (tableOf (now (t .entry)))) q f) (now (p .entry)) (now (p .exit)) (now (w .entry)) (now (w .exit)) (now (out .entry)) (now (out .exit)) r ⌝ }
 {
     let a = alarm_of(t, f);
     let order = f.order;
     match a {
-        SoughtAlarm::Alarm(k) => ordered(w, t, q, k, order, out),
+        SoughtAlarm::Alarm(k) => ordered(p, w, t, q, k, order, out),
         SoughtAlarm::NoComponent => {
             packet_answer::not_ack(w, q, reasons::UNKNOWN_COMPONENT, out)
         }
@@ -158,13 +180,20 @@ fn find(w: &mut [u64], t: &[u8], q: Question, f: AlarmFields, out: &mut [u8]) ->
     }
 }
 
-fn judge(w: &mut [u64], t: &[u8], q: Question, f: AlarmFields, out: &mut [u8]) -> Answer
-    requires { ⌜ (length (now w) ≡ siteWords) × ((length (now t) ≡ tableBytes) × (q .link < 4)) ⌝ }
-    ensures { λ r. ⌜ TakesIn (tableOf (now (t .entry))) q (alarmTaken (siteOf (now (w .entry)) (tableOf (now (t .entry)))) q f) (now (w .entry)) (now (w .exit)) (now (out .entry)) (now (out .exit)) r ⌝ }
+fn judge(
+    p: &mut [u64],
+    w: &mut [u64],
+    t: &[u8],
+    q: Question,
+    f: AlarmFields,
+    out: &mut [u8],
+) -> Answer
+    requires { ⌜ (length (now p) ≡ poolWords) × ((length (now w) ≡ siteWords) × ((length (now t) ≡ tableBytes) × (q .link < 4))) ⌝ }
+    ensures { λ r. ⌜ TakesIn (tableOf (now (t .entry))) q (alarmTaken (siteOf (now (p .entry)) (now (w .entry)) (tableOf (now (t .entry)))) q f) (now (p .entry)) (now (p .exit)) (now (w .entry)) (now (w .exit)) (now (out .entry)) (now (out .exit)) r ⌝ }
 {
     let v = f.verdict;
     match v {
-        Verdict::Good => find(w, t, q, f, out),
+        Verdict::Good => find(p, w, t, q, f, out),
         Verdict::Missing => packet_answer::not_ack(w, q, reasons::MISSING_ELEMENT, out),
         Verdict::Bad => packet_answer::not_ack(w, q, reasons::BAD_VALUE, out),
     }
@@ -172,6 +201,7 @@ fn judge(w: &mut [u64], t: &[u8], q: Question, f: AlarmFields, out: &mut [u8]) -
 
 // An Alarm of theirs.
 pub fn alarm(
+    p: &mut [u64],
     w: &mut [u64],
     t: &[u8],
     q: Question,
@@ -179,17 +209,17 @@ pub fn alarm(
     places: &[usize],
     out: &mut [u8],
 ) -> Answer
-    requires { ⌜ (length (now w) ≡ siteWords) × ((length (now t) ≡ tableBytes) × ((q .link < 4) × Indexed (now packet) (now places))) ⌝ }
-    ensures { λ r. ⌜ TakesIn (tableOf (now (t .entry))) q (alarmTaken (siteOf (now (w .entry)) (tableOf (now (t .entry)))) q (alarmAt (now (packet .entry)))) (now (w .entry)) (now (w .exit)) (now (out .entry)) (now (out .exit)) r ⌝ }
+    requires { ⌜ (length (now p) ≡ poolWords) × ((length (now w) ≡ siteWords) × ((length (now t) ≡ tableBytes) × ((q .link < 4) × Indexed (now packet) (now places)))) ⌝ }
+    ensures { λ r. ⌜ TakesIn (tableOf (now (t .entry))) q (alarmTaken (siteOf (now (p .entry)) (now (w .entry)) (tableOf (now (t .entry)))) q (alarmAt (now (packet .entry)))) (now (p .entry)) (now (p .exit)) (now (w .entry)) (now (w .exit)) (now (out .entry)) (now (out .exit)) r ⌝ }
 {
     let f = read_head::read_alarm(packet, places);
-    judge(w, t, q, f, out)
+    judge(p, w, t, q, f, out)
 }
 
 // The acknowledgement, and the aggregated status in the rest of the output, lent from where it ends. Where it found no room, nothing follows.
 fn answer_and_aggregated(w: &[u64], t: &[u8], q: Question, out: &mut [u8]) -> usize
     requires { ⌜ (length (now w) ≡ siteWords) × (length (now t) ≡ tableBytes) ⌝ }
-    ensures { λ r. ⌜ Wrote (now (out .entry)) 0 (pieces (ack (q .received .bytes)) ++ pieces (aggregatedMessage (siteOf (now (w .entry)) (tableOf (now (t .entry)))) (q .identity .bytes))) (now (out .exit)) r ⌝ }
+    ensures { λ r. ⌜ ((ps : List ℕ) → Wrote (now (out .entry)) 0 (pieces (ack (q .received .bytes)) ++ pieces (aggregatedMessage (siteOf ps (now (w .entry)) (tableOf (now (t .entry)))) (q .identity .bytes))) (now (out .exit)) r) ⌝ }
 {
     let id = q.identity;
     let end = packet_answer::ack(q, out);
@@ -203,7 +233,7 @@ fn answer_and_aggregated(w: &[u64], t: &[u8], q: Question, out: &mut [u8]) -> us
 // The aggregated status as it is, behind the acknowledgement.
 fn reply_aggregated(w: &mut [u64], t: &[u8], q: Question, out: &mut [u8]) -> Answer
     requires { ⌜ (length (now w) ≡ siteWords) × ((length (now t) ≡ tableBytes) × (q .link < 4)) ⌝ }
-    ensures { λ r. ⌜ TakesIn (tableOf (now (t .entry))) q (unlessBusy (siteOf (now (w .entry)) (tableOf (now (t .entry)))) q (replied (siteOf (now (w .entry)) (tableOf (now (t .entry)))) q (aggregatedMessage (siteOf (now (w .entry)) (tableOf (now (t .entry)))) (q .identity .bytes)))) (now (w .entry)) (now (w .exit)) (now (out .entry)) (now (out .exit)) r ⌝ }
+    ensures { λ r. ⌜ ((ps : List ℕ) → TakesIn (tableOf (now (t .entry))) q (unlessBusy (siteOf ps (now (w .entry)) (tableOf (now (t .entry)))) q (replied (siteOf ps (now (w .entry)) (tableOf (now (t .entry)))) q (aggregatedMessage (siteOf ps (now (w .entry)) (tableOf (now (t .entry)))) (q .identity .bytes)))) ps ps (now (w .entry)) (now (w .exit)) (now (out .entry)) (now (out .exit)) r) ⌝ }
 {
     let id = q.identity;
     if packet_answer::is_busy(w, q.link) {
@@ -234,7 +264,7 @@ fn carries(t: &[u8], id: Label) -> bool
 
 fn aggregated_for(w: &mut [u64], t: &[u8], q: Question, component: Label, out: &mut [u8]) -> Answer
     requires { ⌜ (length (now w) ≡ siteWords) × ((length (now t) ≡ tableBytes) × (q .link < 4)) ⌝ }
-    ensures { λ r. ⌜ TakesIn (tableOf (now (t .entry))) q (aggregatedOf (siteOf (now (w .entry)) (tableOf (now (t .entry)))) q (componentSought (tableOf (now (t .entry))) component)) (now (w .entry)) (now (w .exit)) (now (out .entry)) (now (out .exit)) r ⌝ }
+    ensures { λ r. ⌜ ((ps : List ℕ) → TakesIn (tableOf (now (t .entry))) q (aggregatedOf (siteOf ps (now (w .entry)) (tableOf (now (t .entry)))) q (componentSought (tableOf (now (t .entry))) component)) ps ps (now (w .entry)) (now (w .exit)) (now (out .entry)) (now (out .exit)) r) ⌝ }
 {
     if carries(t, component) {
         return reply_aggregated(w, t, q, out);
@@ -244,7 +274,7 @@ fn aggregated_for(w: &mut [u64], t: &[u8], q: Question, component: Label, out: &
 
 fn judge_aggregated(w: &mut [u64], t: &[u8], q: Question, f: GotLabel, out: &mut [u8]) -> Answer
     requires { ⌜ (length (now w) ≡ siteWords) × ((length (now t) ≡ tableBytes) × (q .link < 4)) ⌝ }
-    ensures { λ r. ⌜ TakesIn (tableOf (now (t .entry))) q (aggregatedTaken (siteOf (now (w .entry)) (tableOf (now (t .entry)))) q f) (now (w .entry)) (now (w .exit)) (now (out .entry)) (now (out .exit)) r ⌝ }
+    ensures { λ r. ⌜ ((ps : List ℕ) → TakesIn (tableOf (now (t .entry))) q (aggregatedTaken (siteOf ps (now (w .entry)) (tableOf (now (t .entry)))) q f) ps ps (now (w .entry)) (now (w .exit)) (now (out .entry)) (now (out .exit)) r) ⌝ }
 {
     let v = f.verdict;
     match v {
@@ -264,7 +294,7 @@ pub fn aggregated(
     out: &mut [u8],
 ) -> Answer
     requires { ⌜ (length (now w) ≡ siteWords) × ((length (now t) ≡ tableBytes) × ((q .link < 4) × Indexed (now packet) (now places))) ⌝ }
-    ensures { λ r. ⌜ TakesIn (tableOf (now (t .entry))) q (aggregatedTaken (siteOf (now (w .entry)) (tableOf (now (t .entry)))) q (aggregatedAt (now (packet .entry)))) (now (w .entry)) (now (w .exit)) (now (out .entry)) (now (out .exit)) r ⌝ }
+    ensures { λ r. ⌜ ((ps : List ℕ) → TakesIn (tableOf (now (t .entry))) q (aggregatedTaken (siteOf ps (now (w .entry)) (tableOf (now (t .entry)))) q (aggregatedAt (now (packet .entry)))) ps ps (now (w .entry)) (now (w .exit)) (now (out .entry)) (now (out .exit)) r) ⌝ }
 {
     let f = read_head::read_aggregated(packet, places);
     judge_aggregated(w, t, q, f, out)

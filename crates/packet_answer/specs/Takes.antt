@@ -9,6 +9,6 @@ use Rattle.store_call.specs.Called.{GivesIn}
 use Rattle.packet_answer.specs.declared.Question.{Question}
 use Rattle.packet_answer.specs.Taken.{Taken, takenRefuses}
 
--- the words go from ws to vs, the site's table being t
-abbrev pub TakesIn : SiteTable → Question → Taken → List ℕ → List ℕ → List ℕ → List ℕ → Answer → Type 0
-TakesIn t q x ws vs xs ys r = GivesIn t (q .time) (takenRefuses (siteOf ws t) q x) (x .plan) ws vs xs ys r
+-- the pool's words go from ps to qs, the site's from ws to vs, its table being t
+abbrev pub TakesIn : SiteTable → Question → Taken → List ℕ → List ℕ → List ℕ → List ℕ → List ℕ → List ℕ → Answer → Type 0
+TakesIn t q x ps qs ws vs xs ys r = GivesIn t (q .time) (takenRefuses (siteOf ps ws t) q x) (x .plan) ps qs ws vs xs ys r

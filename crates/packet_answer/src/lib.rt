@@ -1,6 +1,7 @@
 // The answer to a packet that is not ignored, and the end of its call, in place.
+ghost use mathlib.Core.List.{List};
 ghost use mathlib.Core.Path.{_≡_};
-ghost use Prim.Native.Nat.{_<_};
+ghost use Prim.Native.Nat.{ℕ, _<_};
 ghost use lib.ListN.{length};
 ghost use Rattle.answer.specs.declared.Answer.the-variants.{Done};
 ghost use Rattle.awaited.specs.Awaited.{findOf, isAwaited};
@@ -15,7 +16,7 @@ ghost use Rattle.write_message.specs.declared.Told.the-variants.{Update as upda
 ghost use Rattle.site.specs.declared.Site.{Site};
 ghost use Rattle.site.specs.Site.{linkAt};
 ghost use Rattle.site.specs.Call.{never};
-ghost use Rattle.store_site.specs.Layout.{siteOf, withLast, siteWords};
+ghost use Rattle.store_site.specs.Layout.{siteOf, withLast, poolWords, siteWords};
 ghost use Rattle.store_site.specs.Turns.{Turns};
 ghost use Rattle.store_call.specs.Called.{GivesIn};
 ghost use Rattle.packet_answer.specs.Taken.{notAcked, closing};
@@ -40,7 +41,7 @@ pub struct Question {
 // Number 9's condition, where something is to be sent.
 pub fn is_awaited(w: &[u64], l: u16, id: Identity) -> bool
     requires { ⌜ (length (now w) ≡ siteWords) × (l < 4) ⌝ }
-    ensures { λ r. ⌜ ((t : SiteTable) → r ≡ isAwaited (findOf (linkAt (siteOf (now (w .entry)) t) l .awaited) id)) ⌝ }
+    ensures { λ r. ⌜ ((ps : List ℕ) (t : SiteTable) → r ≡ isAwaited (findOf (linkAt (siteOf ps (now (w .entry)) t) l .awaited) id)) ⌝ }
 {
     store_site::phases::awaits(w, l as usize, id)
 }
@@ -48,7 +49,7 @@ pub fn is_awaited(w: &[u64], l: u16, id: Identity) -> bool
 // "Busy", where a reply is due.
 pub fn is_busy(w: &[u64], l: u16) -> bool
     requires { ⌜ (length (now w) ≡ siteWords) × (l < 4) ⌝ }
-    ensures { λ r. ⌜ ((t : SiteTable) → r ≡ fullOf (linkAt (siteOf (now (w .entry)) t) l)) ⌝ }
+    ensures { λ r. ⌜ ((ps : List ℕ) (t : SiteTable) → r ≡ fullOf (linkAt (siteOf ps (now (w .entry)) t) l)) ⌝ }
 {
     store_site::phases::full(w, l as usize)
 }
@@ -109,19 +110,19 @@ pub fn begin(out: &mut [u8], q: Question, kind: Told, component: Label) -> usize
 // Answered with a reason, and nothing is done.
 pub fn not_ack(w: &mut [u64], q: Question, reason: usize, out: &mut [u8]) -> Answer
     requires { ⌜ length (now w) ≡ siteWords ⌝ }
-    ensures { λ r. ⌜ ((t : SiteTable) → GivesIn t (q .time) never (notAcked (siteOf (now (w .entry)) t) q reason .plan) (now (w .entry)) (now (w .exit)) (now (out .entry)) (now (out .exit)) r) ⌝ }
+    ensures { λ r. ⌜ ((ps : List ℕ) (t : SiteTable) → GivesIn t (q .time) never (notAcked (siteOf ps (now (w .entry)) t) q reason .plan) ps ps (now (w .entry)) (now (w .exit)) (now (out .entry)) (now (out .exit)) r) ⌝ }
 {
     let end = refusal(q, reason, out);
     done(w, q.time, 0, 0, end, 0)
 }
 
 // Answered with a reason, and the link is closed.
-pub fn close(w: &mut [u64], q: Question, reason: usize, out: &mut [u8]) -> Answer
-    requires { ⌜ (length (now w) ≡ siteWords) × (q .link < 4) ⌝ }
-    ensures { λ r. ⌜ ((t : SiteTable) → GivesIn t (q .time) never (closing (siteOf (now (w .entry)) t) q reason .plan) (now (w .entry)) (now (w .exit)) (now (out .entry)) (now (out .exit)) r) ⌝ }
+pub fn close(p: &mut [u64], w: &mut [u64], q: Question, reason: usize, out: &mut [u8]) -> Answer
+    requires { ⌜ (length (now p) ≡ poolWords) × (length (now w) ≡ siteWords) × (q .link < 4) ⌝ }
+    ensures { λ r. ⌜ ((t : SiteTable) → GivesIn t (q .time) never (closing (siteOf (now (p .entry)) (now (w .entry)) t) q reason .plan) (now (p .entry)) (now (p .exit)) (now (w .entry)) (now (w .exit)) (now (out .entry)) (now (out .exit)) r) ⌝ }
 {
     let end = refusal(q, reason, out);
-    store_call::close(w, q.link);
+    store_call::close(p, w, q.link);
     done(w, q.time, 0, 0, end, site::bit_of(q.link))
 }
 

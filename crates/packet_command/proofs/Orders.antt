@@ -1,4 +1,4 @@
--- The parts of a CommandRequest together: the words are ws, the site's table is t.
+-- The parts of a CommandRequest together: the pool's words are ps, the site's ws, its table is t.
 -- Assumes nothing.
 use Rattle.basis.proofs.Std.{ℕ, _≡_, sym, true, false, List, pick}
 use Rattle.answer.specs.declared.Answer.{Answer}
@@ -18,56 +18,56 @@ use Rattle.packet_answer.specs.Takes.{TakesIn}
 use Rattle.packet_answer.proofs.Choices.{not-acked, picked-first, picked-second, like}
 use Rattle.packet_command.specs.Commanding.{keepsRanges, passes, told, commandsOf, orderedOf, commandTaken}
 
-module _ (t : SiteTable) (ws : List ℕ) (q : Question) (f : CommandFields) where
+module _ (t : SiteTable) (ps ws : List ℕ) (q : Question) (f : CommandFields) where
   -- the choices by a table u
   abbrev replyBy : SiteTable → Sought → Taken
-  replyBy u k = answering (siteOf ws t) q CommandResponse (textOf (f .component)) (told k f) (commandsOf u f k)
+  replyBy u k = answering (siteOf ps ws t) q CommandResponse (textOf (f .component)) (told k f) (commandsOf u f k)
 
   abbrev passedBy : SiteTable → Sought → Taken
-  passedBy u k = pick (passes u f k) (replyBy u k) (notAcked (siteOf ws t) q unknownCommand)
+  passedBy u k = pick (passes u f k) (replyBy u k) (notAcked (siteOf ps ws t) q unknownCommand)
 
   abbrev orderedBy : SiteTable → Sought → Taken
-  orderedBy u k = pick (keepsRanges u f k) (passedBy u k) (notAcked (siteOf ws t) q badValue)
+  orderedBy u k = pick (keepsRanges u f k) (passedBy u k) (notAcked (siteOf ps ws t) q badValue)
 
-module _ (t : SiteTable) (ws : List ℕ) (q : Question) (f : CommandFields) {vs xs ys : List ℕ} {r : Answer} where
+module _ (t : SiteTable) (ps ws : List ℕ) (q : Question) (f : CommandFields) {vs xs ys : List ℕ} {r : Answer} where
   pub command-judged : {g : CommandFields}
       → g ≡ f
-      → TakesIn t q (byVerdict (g .verdict) (siteOf ws t) q (orderedOf (siteOf ws t) q g (componentSought t (g .component)))) ws vs xs ys r
-      → TakesIn t q (commandTaken (siteOf ws t) q f) ws vs xs ys r
+      → TakesIn t q (byVerdict (g .verdict) (siteOf ps ws t) q (orderedOf (siteOf ps ws t) q g (componentSought t (g .component)))) ps ps ws vs xs ys r
+      → TakesIn t q (commandTaken (siteOf ps ws t) q f) ps ps ws vs xs ys r
   unfolding commandTaken
   command-judged {g} e x =
-      like t ws q (λ (y : CommandFields). commandTaken (siteOf ws t) q y) (sym e)
-      (like t ws q (λ (u : SiteTable). byVerdict (g .verdict) (siteOf ws t) q (orderedOf (siteOf ws t) q g (componentSought u (g .component)))) (table-of ws t) x)
+      like t ps ws q (λ (y : CommandFields). commandTaken (siteOf ps ws t) q y) (sym e)
+      (like t ps ws q (λ (u : SiteTable). byVerdict (g .verdict) (siteOf ps ws t) q (orderedOf (siteOf ps ws t) q g (componentSought u (g .component)))) (table-of ps ws t) x)
 
   module _ {k : Sought} (h : k ≡ componentSought t (f .component)) where
-    chosen : TakesIn t q (orderedBy t ws q f t k) ws vs xs ys r
-        → TakesIn t q (orderedOf (siteOf ws t) q f (componentSought t (f .component))) ws vs xs ys r
+    chosen : TakesIn t q (orderedBy t ps ws q f t k) ps ps ws vs xs ys r
+        → TakesIn t q (orderedOf (siteOf ps ws t) q f (componentSought t (f .component))) ps ps ws vs xs ys r
     chosen g =
-        like t ws q (λ (x : Sought). orderedOf (siteOf ws t) q f x) (sym h)
-        (like t ws q (λ (u : SiteTable). orderedBy t ws q f u k) (table-of ws t) g)
+        like t ps ws q (λ (x : Sought). orderedOf (siteOf ps ws t) q f x) (sym h)
+        (like t ps ws q (λ (u : SiteTable). orderedBy t ps ws q f u k) (table-of ps ws t) g)
 
     pub outside : keepsRanges t f k ≡ false
-        → GivesIn t (q .time) never (notAcked (siteOf ws t) q badValue .plan) ws vs xs ys r
-        → TakesIn t q (orderedOf (siteOf ws t) q f (componentSought t (f .component))) ws vs xs ys r
+        → GivesIn t (q .time) never (notAcked (siteOf ps ws t) q badValue .plan) ps ps ws vs xs ys r
+        → TakesIn t q (orderedOf (siteOf ps ws t) q f (componentSought t (f .component))) ps ps ws vs xs ys r
     outside e g =
         chosen
-        (picked-second t ws q (keepsRanges t f k) (passedBy t ws q f t k) (notAcked (siteOf ws t) q badValue) e
-        (not-acked t ws q badValue g))
+        (picked-second t ps ws q (keepsRanges t f k) (passedBy t ps ws q f t k) (notAcked (siteOf ps ws t) q badValue) e
+        (not-acked t ps ws q badValue g))
 
     module _ (e : keepsRanges t f k ≡ true) where
-      inside : TakesIn t q (passedBy t ws q f t k) ws vs xs ys r
-          → TakesIn t q (orderedOf (siteOf ws t) q f (componentSought t (f .component))) ws vs xs ys r
-      inside g = chosen (picked-first t ws q (keepsRanges t f k) (passedBy t ws q f t k) (notAcked (siteOf ws t) q badValue) e g)
+      inside : TakesIn t q (passedBy t ps ws q f t k) ps ps ws vs xs ys r
+          → TakesIn t q (orderedOf (siteOf ps ws t) q f (componentSought t (f .component))) ps ps ws vs xs ys r
+      inside g = chosen (picked-first t ps ws q (keepsRanges t f k) (passedBy t ps ws q f t k) (notAcked (siteOf ps ws t) q badValue) e g)
 
       pub all-pass : passes t f k ≡ true
-          → TakesIn t q (replyBy t ws q f t k) ws vs xs ys r
-          → TakesIn t q (orderedOf (siteOf ws t) q f (componentSought t (f .component))) ws vs xs ys r
-      all-pass p g = inside (picked-first t ws q (passes t f k) (replyBy t ws q f t k) (notAcked (siteOf ws t) q unknownCommand) p g)
+          → TakesIn t q (replyBy t ps ws q f t k) ps ps ws vs xs ys r
+          → TakesIn t q (orderedOf (siteOf ps ws t) q f (componentSought t (f .component))) ps ps ws vs xs ys r
+      all-pass p g = inside (picked-first t ps ws q (passes t f k) (replyBy t ps ws q f t k) (notAcked (siteOf ps ws t) q unknownCommand) p g)
 
       pub one-fails : passes t f k ≡ false
-          → GivesIn t (q .time) never (notAcked (siteOf ws t) q unknownCommand .plan) ws vs xs ys r
-          → TakesIn t q (orderedOf (siteOf ws t) q f (componentSought t (f .component))) ws vs xs ys r
+          → GivesIn t (q .time) never (notAcked (siteOf ps ws t) q unknownCommand .plan) ps ps ws vs xs ys r
+          → TakesIn t q (orderedOf (siteOf ps ws t) q f (componentSought t (f .component))) ps ps ws vs xs ys r
       one-fails p g =
           inside
-          (picked-second t ws q (passes t f k) (replyBy t ws q f t k) (notAcked (siteOf ws t) q unknownCommand) p
-          (not-acked t ws q unknownCommand g))
+          (picked-second t ps ws q (passes t f k) (replyBy t ps ws q f t k) (notAcked (siteOf ps ws t) q unknownCommand) p
+          (not-acked t ps ws q unknownCommand g))

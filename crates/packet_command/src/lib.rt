@@ -1,8 +1,8 @@
 // CommandRequest, of either form: every entry is judged, then all are answered and counted as handed over, or none is. Handing over writes them into lent words.
 ghost use mathlib.Core.Path.{_≡_};
 ghost use mathlib.Core.Bool.{true};
-ghost use mathlib.Core.List.{_++_};
-ghost use Prim.Native.Nat.{_+_, _*_, _^_, _<_};
+ghost use mathlib.Core.List.{List, _++_};
+ghost use Prim.Native.Nat.{ℕ, _+_, _*_, _^_, _<_};
 ghost use lib.ListN.{length};
 ghost use Rattle.basis.specs.Pick.{both};
 ghost use Rattle.number.specs.Signed.{wordOf};
@@ -224,7 +224,7 @@ fn reply(
     out: &mut [u8],
 ) -> Answer
     requires { ⌜ (length (now w) ≡ siteWords) × ((length (now t) ≡ tableBytes) × (q .link < 4)) ⌝ }
-    ensures { λ r. ⌜ TakesIn (tableOf (now (t .entry))) q (answering (siteOf (now (w .entry)) (tableOf (now (t .entry)))) q commandKind (textOf (f .component)) (told component f) (commandsOf (tableOf (now (t .entry))) f component)) (now (w .entry)) (now (w .exit)) (now (out .entry)) (now (out .exit)) r ⌝ }
+    ensures { λ r. ⌜ ((ps : List ℕ) → TakesIn (tableOf (now (t .entry))) q (answering (siteOf ps (now (w .entry)) (tableOf (now (t .entry)))) q commandKind (textOf (f .component)) (told component f) (commandsOf (tableOf (now (t .entry))) f component)) ps ps (now (w .entry)) (now (w .exit)) (now (out .entry)) (now (out .exit)) r) ⌝ }
 {
     if q.included {
         let end = write_response(out, q, component, f);
@@ -244,7 +244,7 @@ fn reply(
 // "Bad value" of a range, "Unknown command", then the reply.
 fn ordered(w: &mut [u64], t: &[u8], q: Question, f: CommandFields, out: &mut [u8]) -> Answer
     requires { ⌜ (length (now w) ≡ siteWords) × ((length (now t) ≡ tableBytes) × (q .link < 4)) ⌝ }
-    ensures { λ r. ⌜ TakesIn (tableOf (now (t .entry))) q (orderedOf (siteOf (now (w .entry)) (tableOf (now (t .entry)))) q f (componentSought (tableOf (now (t .entry))) (f .component))) (now (w .entry)) (now (w .exit)) (now (out .entry)) (now (out .exit)) r ⌝ }
+    ensures { λ r. ⌜ ((ps : List ℕ) → TakesIn (tableOf (now (t .entry))) q (orderedOf (siteOf ps (now (w .entry)) (tableOf (now (t .entry)))) q f (componentSought (tableOf (now (t .entry))) (f .component))) ps ps (now (w .entry)) (now (w .exit)) (now (out .entry)) (now (out .exit)) r) ⌝ }
 {
     let named = f.component;
     let component = packet_lookup::component(t, named);
@@ -267,7 +267,7 @@ pub fn command(
     out: &mut [u8],
 ) -> Answer
     requires { ⌜ (length (now w) ≡ siteWords) × ((length (now t) ≡ tableBytes) × ((q .link < 4) × Indexed (now packet) (now places))) ⌝ }
-    ensures { λ r. ⌜ TakesIn (tableOf (now (t .entry))) q (commandTaken (siteOf (now (w .entry)) (tableOf (now (t .entry)))) q (commandAt (now (packet .entry)))) (now (w .entry)) (now (w .exit)) (now (out .entry)) (now (out .exit)) r ⌝ }
+    ensures { λ r. ⌜ ((ps : List ℕ) → TakesIn (tableOf (now (t .entry))) q (commandTaken (siteOf ps (now (w .entry)) (tableOf (now (t .entry)))) q (commandAt (now (packet .entry)))) ps ps (now (w .entry)) (now (w .exit)) (now (out .entry)) (now (out .exit)) r) ⌝ }
 {
     let f = read_commands::read_command(packet, places);
     let v = f.verdict;

@@ -22,9 +22,9 @@ hints role f e h = rw (e, le-leb 3 (f .decimals) h) refl
 pub withholds : (role : Role) (f : GotTime) → role ≡ Primary → f .decimals < 3 → hintFrom role f ≡ none
 withholds role f e h = rw (e, lt-leb 3 (f .decimals) h) refl
 
-pub beats : (t : SiteTable) (q : Question) (f : GotTime) {ws vs xs ys : List ℕ} {r : Answer}
+pub beats : (t : SiteTable) (q : Question) (f : GotTime) {ps qs ws vs xs ys : List ℕ} {r : Answer}
     → f .verdict ≡ Good
-    → GivesIn t (q .time) never (beat (siteOf ws t) q f .plan) ws vs xs ys r
-    → GivesIn t (q .time) never (watchdogTaken (siteOf ws t) q f .plan) ws vs xs ys r
-beats t q f {ws} {vs} {xs} {ys} {r} e h =
-    subst (λ (v : Verdict). GivesIn t (q .time) never (byVerdict v (siteOf ws t) q (beat (siteOf ws t) q f) .plan) ws vs xs ys r) (sym e) h
+    → GivesIn t (q .time) never (beat (siteOf ps ws t) q f .plan) ps qs ws vs xs ys r
+    → GivesIn t (q .time) never (watchdogTaken (siteOf ps ws t) q f .plan) ps qs ws vs xs ys r
+beats t q f {ps} {qs} {ws} {vs} {xs} {ys} {r} e h =
+    subst (λ (v : Verdict). GivesIn t (q .time) never (byVerdict v (siteOf ps ws t) q (beat (siteOf ps ws t) q f) .plan) ps qs ws vs xs ys r) (sym e) h

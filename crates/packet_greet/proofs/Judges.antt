@@ -16,20 +16,20 @@ use Rattle.packet_answer.specs.declared.Question.{Question}
 use Rattle.packet_answer.specs.Taken.{byVerdict}
 use Rattle.packet_greet.specs.Version.{ownOffer, own, versionJudged, versionTaken}
 
-own-table : (ws : List ℕ) (t : SiteTable) → own (siteOf ws t) ≡ ownOffer t
+own-table : (ps ws : List ℕ) (t : SiteTable) → own (siteOf ps ws t) ≡ ownOffer t
 unfolding siteOf
-own-table ws t = refl
+own-table ps ws t = refl
 
-module _ (t : SiteTable) (q : Question) (f : VersionFields) {ws vs xs ys : List ℕ} {r : Answer} where
+module _ (t : SiteTable) (q : Question) (f : VersionFields) {ps qs ws vs xs ys : List ℕ} {r : Answer} where
   pub judges : {o : Offer} {j : Judged}
       → f .verdict ≡ Good
       → o ≡ ownOffer t
       → j ≡ judge o (f .offer)
-      → GivesIn t (q .time) never (versionJudged (siteOf ws t) q j .plan) ws vs xs ys r
-      → GivesIn t (q .time) never (versionTaken (siteOf ws t) q f .plan) ws vs xs ys r
+      → GivesIn t (q .time) never (versionJudged (siteOf ps ws t) q j .plan) ps qs ws vs xs ys r
+      → GivesIn t (q .time) never (versionTaken (siteOf ps ws t) q f .plan) ps qs ws vs xs ys r
   judges e y h g =
       subst
-      (λ (v : Verdict). GivesIn t (q .time) never (byVerdict v (siteOf ws t) q (versionJudged (siteOf ws t) q (judge (own (siteOf ws t)) (f .offer))) .plan) ws vs xs ys r)
+      (λ (v : Verdict). GivesIn t (q .time) never (byVerdict v (siteOf ps ws t) q (versionJudged (siteOf ps ws t) q (judge (own (siteOf ps ws t)) (f .offer))) .plan) ps qs ws vs xs ys r)
       (sym e)
-      (subst (λ (x : Judged). GivesIn t (q .time) never (versionJudged (siteOf ws t) q x .plan) ws vs xs ys r)
-      (h ∙ ap (λ (x : Offer). judge x (f .offer)) (y ∙ sym (own-table ws t))) g)
+      (subst (λ (x : Judged). GivesIn t (q .time) never (versionJudged (siteOf ps ws t) q x .plan) ps qs ws vs xs ys r)
+      (h ∙ ap (λ (x : Offer). judge x (f .offer)) (y ∙ sym (own-table ps ws t))) g)

@@ -26,7 +26,7 @@ use Rattle.read_versions.specs.Judge.{versionsIn, judge}
 use Rattle.table_whole.specs.declared.SiteTable.{SiteTable}
 use Rattle.write_message.specs.Listing.{offered}
 use Rattle.site.specs.declared.Site.{Site}
-use Rattle.site.specs.Site.{linkAt, roleOf, closeAt, maskOf}
+use Rattle.site.specs.Site.{linkAt, roleOf, ownerOf, closeAt, maskOf}
 use Rattle.packet_answer.specs.declared.Question.{Question}
 use Rattle.packet_answer.specs.Taken.{Taken, byVerdict}
 use Rattle.packet_greet.specs.Answered.{answeredPlan}
@@ -44,7 +44,7 @@ stays s l id false q e = rw e refl
 
 settles : (s : Site) (l : ℕ) (id : Identity) (acknowledged : Bool) (q : ℕ)
     → findOf (linkAt s l .awaited) id ≡ For (Entry q)
-    → answeredPlan s l id acknowledged .site .pool ≡ settleOf (s .pool) l q
+    → answeredPlan s l id acknowledged .site .pool ≡ settleOf (s .pool) (ownerOf s l) q
 settles s l id acknowledged q e = rw (stays s l id acknowledged q e, e) refl
 
 missed : (s : Site) (l q : ℕ) → numbered (s .pool) l q ≡ Nowhere → settleOf (s .pool) l q ≡ s .pool
@@ -110,7 +110,7 @@ pub kept : Claims
 kept =
     record {
       settles = settles;
-      late = λ s l id acknowledged q e h. settles s l id acknowledged q e ∙ missed s l q h;
+      late = λ s l id acknowledged q e h. settles s l id acknowledged q e ∙ missed s (ownerOf s l) q h;
       failed = failed;
       offers = offers;
       hints = hints;

@@ -14,14 +14,14 @@ use Rattle.awaited.specs.Awaited.{findOf}
 use Rattle.pool.specs.Pool.{settleOf}
 use Rattle.link.specs.Steps.{closesOf, answeredOf}
 use Rattle.site.specs.declared.Site.{Site}
-use Rattle.site.specs.Site.{withPool, linkAt, withLink, closeAt, maskOf}
+use Rattle.site.specs.Site.{withPool, linkAt, withLink, ownerOf, closeAt, maskOf}
 use Rattle.site.specs.Call.{Plan, only}
 
 -- "Either answer settles a record": the one that the message carried, if it is still held
 abbrev pub settledFor : Site → ℕ → Purpose → Site
 settledFor s l Version = s
 settledFor s l Watchdog = s
-settledFor s l (Entry q) = withPool s (settleOf (s .pool) l q)
+settledFor s l (Entry q) = withPool s (settleOf (s .pool) (ownerOf s l) q)
 settledFor s l Other = s
 
 abbrev pub settled : Site → ℕ → Found → Site

@@ -22,7 +22,7 @@ use Rattle.read_versions.specs.Judge.{versionsIn, judge}
 use Rattle.table_whole.specs.declared.SiteTable.{SiteTable}
 use Rattle.write_message.specs.Listing.{offered}
 use Rattle.site.specs.declared.Site.{Site}
-use Rattle.site.specs.Site.{linkAt, roleOf, closeAt, maskOf}
+use Rattle.site.specs.Site.{linkAt, roleOf, ownerOf, closeAt, maskOf}
 use Rattle.packet_answer.specs.declared.Question.{Question}
 use Rattle.packet_greet.specs.Answered.{answeredPlan}
 use Rattle.packet_greet.specs.Version.{ownOffer, own, versionTaken}
@@ -32,11 +32,11 @@ pub record Claims : Type 0 where
   -- either answer settles the record that its message carried, and no other
   pub settles : (s : Site) (l : ℕ) (id : Identity) (acknowledged : Bool) (q : ℕ)
       → findOf (linkAt s l .awaited) id ≡ For (Entry q)
-      → answeredPlan s l id acknowledged .site .pool ≡ settleOf (s .pool) l q
+      → answeredPlan s l id acknowledged .site .pool ≡ settleOf (s .pool) (ownerOf s l) q
   -- a late answer for a lost record leaves the pool as it was
   pub late : (s : Site) (l : ℕ) (id : Identity) (acknowledged : Bool) (q : ℕ)
       → findOf (linkAt s l .awaited) id ≡ For (Entry q)
-      → numbered (s .pool) l q ≡ Nowhere
+      → numbered (s .pool) (ownerOf s l) q ≡ Nowhere
       → answeredPlan s l id acknowledged .site .pool ≡ s .pool
   -- a Version that fails a check closes the link
   pub failed : (s : Site) (q : Question) (f : VersionFields)

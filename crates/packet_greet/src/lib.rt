@@ -1,6 +1,7 @@
 // What comes while a link greets and beats, in place: the answers to messages of ours, their Version and their Watchdog.
+ghost use mathlib.Core.List.{List};
 ghost use mathlib.Core.Path.{_≡_};
-ghost use Prim.Native.Nat.{_<_};
+ghost use Prim.Native.Nat.{ℕ, _<_};
 ghost use lib.ListN.{length};
 ghost use Rattle.table_whole.specs.declared.SiteTable.{SiteTable};
 ghost use Rattle.site.specs.declared.Site.{Site};
@@ -8,8 +9,8 @@ ghost use Rattle.site.specs.Call.{never, stepOf, hintTime, hintBit};
 ghost use Rattle.json_find.specs.Index.{Indexed};
 ghost use Rattle.read_head.specs.Small.{watchdogAt};
 ghost use Rattle.read_lists.specs.Version.{versionAt};
-ghost use Rattle.store_site.specs.Layout.{siteOf, siteWords};
-ghost use Rattle.store_site.specs.Turns.{Turns};
+ghost use Rattle.store_site.specs.Layout.{siteOf, poolWords, siteWords};
+ghost use Rattle.store_site.specs.Turns.{Turns, Moves};
 ghost use Rattle.store_table.specs.Layout.{tableOf, tableBytes};
 ghost use Rattle.store_call.specs.Called.{StepsIn, GivesIn};
 ghost use Rattle.packet_greet.specs.Answered.{settledFor, settled as settledOf, answeredPlan};
@@ -31,42 +32,53 @@ use read_versions::Offer;
 use read_versions::Sites;
 use read_versions::Versions;
 
-fn settled_for(w: &mut [u64], l: u16, sent: Purpose)
-    requires { ⌜ length (now w) ≡ siteWords ⌝ }
-    ensures { λ _. ⌜ Turns (λ (s : Site). settledFor s l sent) (now (w .entry)) (now (w .exit)) ⌝ }
+fn settled_for(p: &mut [u64], w: &[u64], l: u16, sent: Purpose)
+    requires { ⌜ (length (now p) ≡ poolWords) × (length (now w) ≡ siteWords) ⌝ }
+    ensures { λ _. ⌜ Moves (λ (s : Site). settledFor s l sent) (now (p .entry)) (now (p .exit)) (now (w .entry)) (now (w .entry)) ⌝ }
 {
     match sent {
         Purpose::Version => {}
         Purpose::Watchdog => {}
-        Purpose::Entry(sequence) => store_pool::change::settle(w, l, sequence),
+        Purpose::Entry(sequence) => store_pool::change::settle(
+            p,
+            store_site::head::owner(w, l),
+            sequence,
+        ),
         Purpose::Other => {}
     }
 }
 
-fn settled(w: &mut [u64], l: u16, found: Found)
-    requires { ⌜ length (now w) ≡ siteWords ⌝ }
-    ensures { λ _. ⌜ Turns (λ (s : Site). settledOf s l found) (now (w .entry)) (now (w .exit)) ⌝ }
+fn settled(p: &mut [u64], w: &[u64], l: u16, found: Found)
+    requires { ⌜ (length (now p) ≡ poolWords) × (length (now w) ≡ siteWords) ⌝ }
+    ensures { λ _. ⌜ Moves (λ (s : Site). settledOf s l found) (now (p .entry)) (now (p .exit)) (now (w .entry)) (now (w .entry)) ⌝ }
 {
     match found {
         Found::Nothing => {}
-        Found::For(sent) => settled_for(w, l, sent),
+        Found::For(sent) => settled_for(p, w, l, sent),
     }
 }
 
 // MessageAck or MessageNotAck to an awaited identity.
-pub fn answered(w: &mut [u64], l: u16, time: u64, id: Identity, acknowledged: bool) -> Answer
-    requires { ⌜ (length (now w) ≡ siteWords) × (l < 4) ⌝ }
-    ensures { λ r. ⌜ ((t : SiteTable) → StepsIn t (stepOf (siteOf (now (w .entry)) t) time never (answeredPlan (siteOf (now (w .entry)) t) l id acknowledged) 0) (now (w .entry)) (now (w .exit)) r) ⌝ }
+pub fn answered(
+    p: &mut [u64],
+    w: &mut [u64],
+    l: u16,
+    time: u64,
+    id: Identity,
+    acknowledged: bool,
+) -> Answer
+    requires { ⌜ (length (now p) ≡ poolWords) × (length (now w) ≡ siteWords) × (l < 4) ⌝ }
+    ensures { λ r. ⌜ ((t : SiteTable) → StepsIn t (stepOf (siteOf (now (p .entry)) (now (w .entry)) t) time never (answeredPlan (siteOf (now (p .entry)) (now (w .entry)) t) l id acknowledged) 0) (now (p .entry)) (now (p .exit)) (now (w .entry)) (now (w .exit)) r) ⌝ }
 {
     let k = store_site::parts::link(w, l as usize);
     let a = k.answered(id, acknowledged);
     if a.closes {
-        store_call::close(w, l);
+        store_call::close(p, w, l);
         return packet_answer::done(w, time, 0, 0, 0, site::bit_of(l));
     }
     let found = a.found;
     let next = a.link;
-    settled(w, l, found);
+    settled(p, w, l, found);
     store_site::parts::put_link(w, l as usize, next);
     packet_answer::done(w, time, 0, 0, 0, 0)
 }
@@ -119,34 +131,41 @@ fn accepted(w: &mut [u64], l: u16, v: u32)
 
 fn version_chosen(w: &mut [u64], q: Question, v: u32, out: &mut [u8]) -> Answer
     requires { ⌜ (length (now w) ≡ siteWords) × (q .link < 4) ⌝ }
-    ensures { λ r. ⌜ ((t : SiteTable) → GivesIn t (q .time) never (versionJudged (siteOf (now (w .entry)) t) q (Judged.Chosen v) .plan) (now (w .entry)) (now (w .exit)) (now (out .entry)) (now (out .exit)) r) ⌝ }
+    ensures { λ r. ⌜ ((ps : List ℕ) (t : SiteTable) → GivesIn t (q .time) never (versionJudged (siteOf ps (now (w .entry)) t) q (Judged.Chosen v) .plan) ps ps (now (w .entry)) (now (w .exit)) (now (out .entry)) (now (out .exit)) r) ⌝ }
 {
     let end = packet_answer::ack(q, out);
     accepted(w, q.link, v);
     packet_answer::done(w, q.time, 0, 0, end, 0)
 }
 
-fn version_judged(w: &mut [u64], q: Question, j: Judged, out: &mut [u8]) -> Answer
-    requires { ⌜ (length (now w) ≡ siteWords) × (q .link < 4) ⌝ }
-    ensures { λ r. ⌜ ((t : SiteTable) → GivesIn t (q .time) never (versionJudged (siteOf (now (w .entry)) t) q j .plan) (now (w .entry)) (now (w .exit)) (now (out .entry)) (now (out .exit)) r) ⌝ }
+fn version_judged(p: &mut [u64], w: &mut [u64], q: Question, j: Judged, out: &mut [u8]) -> Answer
+    requires { ⌜ (length (now p) ≡ poolWords) × (length (now w) ≡ siteWords) × (q .link < 4) ⌝ }
+    ensures { λ r. ⌜ ((t : SiteTable) → GivesIn t (q .time) never (versionJudged (siteOf (now (p .entry)) (now (w .entry)) t) q j .plan) (now (p .entry)) (now (p .exit)) (now (w .entry)) (now (w .exit)) (now (out .entry)) (now (out .exit)) r) ⌝ }
 {
     match j {
         Judged::Chosen(v) => version_chosen(w, q, v, out),
-        Judged::RsmpVersion => packet_answer::close(w, q, reasons::RSMP_VERSION, out),
-        Judged::SiteId => packet_answer::close(w, q, reasons::SITE_ID, out),
-        Judged::SxlVersion => packet_answer::close(w, q, reasons::SXL_VERSION, out),
+        Judged::RsmpVersion => packet_answer::close(p, w, q, reasons::RSMP_VERSION, out),
+        Judged::SiteId => packet_answer::close(p, w, q, reasons::SITE_ID, out),
+        Judged::SxlVersion => packet_answer::close(p, w, q, reasons::SXL_VERSION, out),
     }
 }
 
-fn version_by(w: &mut [u64], t: &[u8], q: Question, f: VersionFields, out: &mut [u8]) -> Answer
-    requires { ⌜ (length (now w) ≡ siteWords) × (length (now t) ≡ tableBytes) × (q .link < 4) ⌝ }
-    ensures { λ r. ⌜ GivesIn (tableOf (now (t .entry))) (q .time) never (versionTaken (siteOf (now (w .entry)) (tableOf (now (t .entry)))) q f .plan) (now (w .entry)) (now (w .exit)) (now (out .entry)) (now (out .exit)) r ⌝ }
+fn version_by(
+    p: &mut [u64],
+    w: &mut [u64],
+    t: &[u8],
+    q: Question,
+    f: VersionFields,
+    out: &mut [u8],
+) -> Answer
+    requires { ⌜ (length (now p) ≡ poolWords) × (length (now w) ≡ siteWords) × (length (now t) ≡ tableBytes) × (q .link < 4) ⌝ }
+    ensures { λ r. ⌜ GivesIn (tableOf (now (t .entry))) (q .time) never (versionTaken (siteOf (now (p .entry)) (now (w .entry)) (tableOf (now (t .entry)))) q f .plan) (now (p .entry)) (now (p .exit)) (now (w .entry)) (now (w .exit)) (now (out .entry)) (now (out .exit)) r ⌝ }
 {
     let v = f.verdict;
     match v {
         Verdict::Good => {
             let theirs = f.offer;
-            version_judged(w, q, read_versions::judge(own(t), theirs), out)
+            version_judged(p, w, q, read_versions::judge(own(t), theirs), out)
         }
         Verdict::Missing => packet_answer::not_ack(w, q, reasons::MISSING_ELEMENT, out),
         Verdict::Bad => packet_answer::not_ack(w, q, reasons::BAD_VALUE, out),
@@ -155,6 +174,7 @@ fn version_by(w: &mut [u64], t: &[u8], q: Question, f: VersionFields, out: &mut 
 
 // Version.
 pub fn version(
+    p: &mut [u64],
     w: &mut [u64],
     t: &[u8],
     q: Question,
@@ -162,10 +182,10 @@ pub fn version(
     places: &[usize],
     out: &mut [u8],
 ) -> Answer
-    requires { ⌜ (length (now w) ≡ siteWords) × (length (now t) ≡ tableBytes) × (q .link < 4) × Indexed (now packet) (now places) ⌝ }
-    ensures { λ r. ⌜ GivesIn (tableOf (now (t .entry))) (q .time) never (versionTaken (siteOf (now (w .entry)) (tableOf (now (t .entry)))) q (versionAt (now (packet .entry))) .plan) (now (w .entry)) (now (w .exit)) (now (out .entry)) (now (out .exit)) r ⌝ }
+    requires { ⌜ (length (now p) ≡ poolWords) × (length (now w) ≡ siteWords) × (length (now t) ≡ tableBytes) × (q .link < 4) × Indexed (now packet) (now places) ⌝ }
+    ensures { λ r. ⌜ GivesIn (tableOf (now (t .entry))) (q .time) never (versionTaken (siteOf (now (p .entry)) (now (w .entry)) (tableOf (now (t .entry)))) q (versionAt (now (packet .entry))) .plan) (now (p .entry)) (now (p .exit)) (now (w .entry)) (now (w .exit)) (now (out .entry)) (now (out .exit)) r ⌝ }
 {
-    version_by(w, t, q, read_lists::read_version(packet, places), out)
+    version_by(p, w, t, q, read_lists::read_version(packet, places), out)
 }
 
 // Only the primary's watchdog time is a clock hint, and only with three or more decimals.
@@ -197,7 +217,7 @@ fn beaten(w: &mut [u64], l: u16)
 
 fn beat(w: &mut [u64], q: Question, theirs: GotTime, out: &mut [u8]) -> Answer
     requires { ⌜ (length (now w) ≡ siteWords) × (q .link < 4) ⌝ }
-    ensures { λ r. ⌜ ((t : SiteTable) → GivesIn t (q .time) never (beatOf (siteOf (now (w .entry)) t) q theirs .plan) (now (w .entry)) (now (w .exit)) (now (out .entry)) (now (out .exit)) r) ⌝ }
+    ensures { λ r. ⌜ ((ps : List ℕ) (t : SiteTable) → GivesIn t (q .time) never (beatOf (siteOf ps (now (w .entry)) t) q theirs .plan) ps ps (now (w .entry)) (now (w .exit)) (now (out .entry)) (now (out .exit)) r) ⌝ }
 {
     let role = store_site::head::role(w, q.link);
     let at = hint(role, theirs);
@@ -209,7 +229,7 @@ fn beat(w: &mut [u64], q: Question, theirs: GotTime, out: &mut [u8]) -> Answer
 
 fn watchdog_by(w: &mut [u64], q: Question, f: GotTime, out: &mut [u8]) -> Answer
     requires { ⌜ (length (now w) ≡ siteWords) × (q .link < 4) ⌝ }
-    ensures { λ r. ⌜ ((t : SiteTable) → GivesIn t (q .time) never (watchdogTaken (siteOf (now (w .entry)) t) q f .plan) (now (w .entry)) (now (w .exit)) (now (out .entry)) (now (out .exit)) r) ⌝ }
+    ensures { λ r. ⌜ ((ps : List ℕ) (t : SiteTable) → GivesIn t (q .time) never (watchdogTaken (siteOf ps (now (w .entry)) t) q f .plan) ps ps (now (w .entry)) (now (w .exit)) (now (out .entry)) (now (out .exit)) r) ⌝ }
 {
     let v = f.verdict;
     match v {
@@ -228,7 +248,7 @@ pub fn watchdog(
     out: &mut [u8],
 ) -> Answer
     requires { ⌜ (length (now w) ≡ siteWords) × (q .link < 4) × Indexed (now packet) (now places) ⌝ }
-    ensures { λ r. ⌜ ((t : SiteTable) → GivesIn t (q .time) never (watchdogTaken (siteOf (now (w .entry)) t) q (watchdogAt (now (packet .entry))) .plan) (now (w .entry)) (now (w .exit)) (now (out .entry)) (now (out .exit)) r) ⌝ }
+    ensures { λ r. ⌜ ((ps : List ℕ) (t : SiteTable) → GivesIn t (q .time) never (watchdogTaken (siteOf ps (now (w .entry)) t) q (watchdogAt (now (packet .entry))) .plan) ps ps (now (w .entry)) (now (w .exit)) (now (out .entry)) (now (out .exit)) r) ⌝ }
 {
     watchdog_by(w, q, read_head::read_watchdog(packet, places), out)
 }

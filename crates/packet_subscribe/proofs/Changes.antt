@@ -31,7 +31,7 @@ use Rattle.packet_answer.specs.Taken.{Taken, notAcked, byVerdict, unknownStatus
 use Rattle.packet_answer.specs.Ending.{report}
 use Rattle.packet_answer.proofs.Ends.{acks, refuses-spent}
 use Rattle.packet_subscribe.specs.Subscribing.{wanted, replacedAt, replaced, recordOf, records, changed, judged, asked, subscribingTaken}
-use Rattle.packet_subscribe.specs.InPlace.{TurnsIn}
+use Rattle.packet_subscribe.specs.InPlace.{MovesIn}
 use Rattle.packet_subscribe.proofs.Kept.{kept}
 use Rattle.packet_subscribe.proofs.Loops.{table-is}
 
@@ -70,27 +70,27 @@ module _ (subscribing : Bool) (s : Site) (l time c : ℕ) (es : List StatusEntry
   spent-after xs = ap (λ (u : Site). batchIn u xs .spent) (only-subscriptions subscribing s l time c es n)
 
 -- both loops
-module _ (t : SiteTable) (l time c : ℕ) (es : List StatusEntry) (n : ℕ) {ws us vs : List ℕ} where
+module _ (t : SiteTable) (l time c : ℕ) (es : List StatusEntry) (n : ℕ) {ps qs ws us vs : List ℕ} where
   pub turned-on : (subscribing : Bool) → subscribing ≡ true
-      → TurnsIn t (λ (s : Site). replaced subscribing s l time c es n) ws us
-      → TurnsIn t (λ (s : Site). issuedIn s (records s l time c es n)) us vs
-      → TurnsIn t (λ (s : Site). issuedIn (replaced subscribing s l time c es n) (pick subscribing (records s l time c es n) [])) ws vs
+      → MovesIn t (λ (s : Site). replaced subscribing s l time c es n) ps ps ws us
+      → MovesIn t (λ (s : Site). issuedIn s (records s l time c es n)) ps qs us vs
+      → MovesIn t (λ (s : Site). issuedIn (replaced subscribing s l time c es n) (pick subscribing (records s l time c es n) [])) ps qs ws vs
   turned-on subscribing e a b =
       record {
         site =
             rw e
             (b .site
             ∙ ap (λ (u : Site). issuedIn u (records u l time c es n)) (rw e at (a .site))
-            ∙ ap (λ (xs : List Entry). issuedIn (replaced true (siteOf ws t) l time c es n) xs) (records-after true (siteOf ws t) l time c es n));
+            ∙ ap (λ (xs : List Entry). issuedIn (replaced true (siteOf ps ws t) l time c es n) xs) (records-after true (siteOf ps ws t) l time c es n));
         plain = λ p. b .plain (a .plain p);
       }
 
-module _ (t : SiteTable) (l time c : ℕ) (es : List StatusEntry) (n : ℕ) {ws vs : List ℕ} where
+module _ (t : SiteTable) (l time c : ℕ) (es : List StatusEntry) (n : ℕ) {ps ws vs : List ℕ} where
   pub turned-off : (subscribing : Bool) → subscribing ≡ false
-      → TurnsIn t (λ (s : Site). replaced subscribing s l time c es n) ws vs
-      → TurnsIn t (λ (s : Site). issuedIn (replaced subscribing s l time c es n) (pick subscribing (records s l time c es n) [])) ws vs
+      → MovesIn t (λ (s : Site). replaced subscribing s l time c es n) ps ps ws vs
+      → MovesIn t (λ (s : Site). issuedIn (replaced subscribing s l time c es n) (pick subscribing (records s l time c es n) [])) ps ps ws vs
   turned-off subscribing e a =
-      record { site = rw e (rw e at (a .site) ∙ sym (issued-none (replaced false (siteOf ws t) l time c es n))); plain = a .plain }
+      record { site = rw e (rw e at (a .site) ∙ sym (issued-none (replaced false (siteOf ps ws t) l time c es n))); plain = a .plain }
 
 module _ (subscribing : Bool) (s : Site) (q : Question) (f : StatusFields) (c : ℕ) where
   judged-all : allStatuses (s .table) c (f .entries) (f .count) ≡ true → judged subscribing s q f c ≡ changed subscribing s q f c
@@ -101,74 +101,74 @@ module _ (subscribing : Bool) (s : Site) (q : Question) (f : StatusFields) (c : 
   unfolding judged
   judged-not e = rw e refl
 
-module _ (subscribing : Bool) (t : SiteTable) (q : Question) (f : StatusFields) (c : ℕ) (ws : List ℕ) where
+module _ (subscribing : Bool) (t : SiteTable) (q : Question) (f : StatusFields) (c : ℕ) (ps ws : List ℕ) where
   abbrev issued : List Entry
-  issued = pick subscribing (records (siteOf ws t) (q .link) (q .time) c (f .entries) (f .count)) []
+  issued = pick subscribing (records (siteOf ps ws t) (q .link) (q .time) c (f .entries) (f .count)) []
 
   -- where every entry is a status there is a record for each
   numbers : (b : Bool) → allStatuses t c (f .entries) (f .count) ≡ true
-      → length (pick b (records (siteOf ws t) (q .link) (q .time) c (f .entries) (f .count)) []) ≡ pick b (f .count) 0
-  numbers true a = kept .one-each (siteOf ws t) (q .link) (q .time) c (f .entries) (f .count) (rw (table-is ws t) a)
+      → length (pick b (records (siteOf ps ws t) (q .link) (q .time) c (f .entries) (f .count)) []) ≡ pick b (f .count) 0
+  numbers true a = kept .one-each (siteOf ps ws t) (q .link) (q .time) c (f .entries) (f .count) (rw (table-is ps ws t) a)
   numbers false a = refl
 
   -- number 10 is judged by how many records there are
   module _ {n : ℕ} {b : Bool} (a : allStatuses t c (f .entries) (f .count) ≡ true) (e : n ≡ pick subscribing (f .count) 0)
-      (h : (u : SiteTable) (es : List Entry) → length es ≡ n → b ≡ batchIn (siteOf ws u) es .spent) where
-    spent-is : {d : Bool} → b ≡ d → batchIn (replaced subscribing (siteOf ws t) (q .link) (q .time) c (f .entries) (f .count)) issued .spent ≡ d
-    spent-is g = spent-after subscribing (siteOf ws t) (q .link) (q .time) c (f .entries) (f .count) issued ∙ sym (h t issued (numbers subscribing a ∙ sym e)) ∙ g
+      (h : (os : List ℕ) (u : SiteTable) (es : List Entry) → length es ≡ n → b ≡ batchIn (siteOf os ws u) es .spent) where
+    spent-is : {d : Bool} → b ≡ d → batchIn (replaced subscribing (siteOf ps ws t) (q .link) (q .time) c (f .entries) (f .count)) issued .spent ≡ d
+    spent-is g = spent-after subscribing (siteOf ps ws t) (q .link) (q .time) c (f .entries) (f .count) issued ∙ sym (h ps t issued (numbers subscribing a ∙ sym e)) ∙ g
 
     pub change-refused : {xs : List ℕ} → b ≡ true
-        → GivesIn t (q .time) never (changed subscribing (siteOf ws t) q f c .plan) ws ws xs xs (Refused SequenceSpent)
+        → GivesIn t (q .time) never (changed subscribing (siteOf ps ws t) q f c .plan) ps ps ws ws xs xs (Refused SequenceSpent)
     unfolding changed
-    change-refused g = refuses-spent t q (replaced subscribing (siteOf ws t) (q .link) (q .time) c (f .entries) (f .count)) issued none (spent-is g) refl
+    change-refused g = refuses-spent t q (replaced subscribing (siteOf ps ws t) (q .link) (q .time) c (f .entries) (f .count)) issued none (spent-is g) refl
 
-    pub change-done : {us vs xs ys : List ℕ} {end : ℕ} {r : Answer}
+    pub change-done : {qs us vs xs ys : List ℕ} {end : ℕ} {r : Answer}
         → b ≡ false
         → Wrote xs 0 (pieces (ack (q .received .bytes))) ys end
-        → TurnsIn t (λ (s : Site). issuedIn (replaced subscribing s (q .link) (q .time) c (f .entries) (f .count)) (pick subscribing (records s (q .link) (q .time) c (f .entries) (f .count)) [])) ws us
+        → MovesIn t (λ (s : Site). issuedIn (replaced subscribing s (q .link) (q .time) c (f .entries) (f .count)) (pick subscribing (records s (q .link) (q .time) c (f .entries) (f .count)) [])) ps qs ws us
         → r ≡ Done (report 0 0 end 0)
         → Turns (λ (s : Site). withLast s (q .time)) us vs
-        → GivesIn t (q .time) never (changed subscribing (siteOf ws t) q f c .plan) ws vs xs ys r
+        → GivesIn t (q .time) never (changed subscribing (siteOf ps ws t) q f c .plan) ps qs ws vs xs ys r
     unfolding changed
-    change-done g w p y m =
-        let after = replaced subscribing (siteOf ws t) (q .link) (q .time) c (f .entries) (f .count) in
+    change-done {qs} g w p y m =
+        let after = replaced subscribing (siteOf ps ws t) (q .link) (q .time) c (f .entries) (f .count) in
         acks t q after issued none (spent-is g) w y
-        (m .site t ∙ ap (λ (s : Site). withLast s (q .time)) (p .site) ∙ issued-end after issued (q .time)) (λ x. m .plain (p .plain x))
+        (m .site qs t ∙ ap (λ (s : Site). withLast s (q .time)) (p .site) ∙ issued-end after issued (q .time)) (λ x. m .plain (p .plain x))
 
-  pub passes : {vs xs ys : List ℕ} {r : Answer}
+  pub passes : {qs vs xs ys : List ℕ} {r : Answer}
       → allStatuses t c (f .entries) (f .count) ≡ true
-      → GivesIn t (q .time) never (changed subscribing (siteOf ws t) q f c .plan) ws vs xs ys r
-      → GivesIn t (q .time) never (judged subscribing (siteOf ws t) q f c .plan) ws vs xs ys r
-  passes {vs} {xs} {ys} {r} e g =
-      subst (λ (x : Taken). GivesIn t (q .time) never (x .plan) ws vs xs ys r)
-      (sym (judged-all subscribing (siteOf ws t) q f c (rw (table-is ws t) e))) g
+      → GivesIn t (q .time) never (changed subscribing (siteOf ps ws t) q f c .plan) ps qs ws vs xs ys r
+      → GivesIn t (q .time) never (judged subscribing (siteOf ps ws t) q f c .plan) ps qs ws vs xs ys r
+  passes {qs} {vs} {xs} {ys} {r} e g =
+      subst (λ (x : Taken). GivesIn t (q .time) never (x .plan) ps qs ws vs xs ys r)
+      (sym (judged-all subscribing (siteOf ps ws t) q f c (rw (table-is ps ws t) e))) g
 
-  pub fails : {vs xs ys : List ℕ} {r : Answer}
+  pub fails : {qs vs xs ys : List ℕ} {r : Answer}
       → allStatuses t c (f .entries) (f .count) ≡ false
-      → GivesIn t (q .time) never (notAcked (siteOf ws t) q unknownStatus .plan) ws vs xs ys r
-      → GivesIn t (q .time) never (judged subscribing (siteOf ws t) q f c .plan) ws vs xs ys r
-  fails {vs} {xs} {ys} {r} e g =
-      subst (λ (x : Taken). GivesIn t (q .time) never (x .plan) ws vs xs ys r)
-      (sym (judged-not subscribing (siteOf ws t) q f c (rw (table-is ws t) e))) g
+      → GivesIn t (q .time) never (notAcked (siteOf ps ws t) q unknownStatus .plan) ps qs ws vs xs ys r
+      → GivesIn t (q .time) never (judged subscribing (siteOf ps ws t) q f c .plan) ps qs ws vs xs ys r
+  fails {qs} {vs} {xs} {ys} {r} e g =
+      subst (λ (x : Taken). GivesIn t (q .time) never (x .plan) ps qs ws vs xs ys r)
+      (sym (judged-not subscribing (siteOf ps ws t) q f c (rw (table-is ps ws t) e))) g
 
-module _ (subscribing : Bool) (t : SiteTable) (q : Question) (f : StatusFields) (ws : List ℕ) where
-  pub asks : {b d : Sought} {vs xs ys : List ℕ} {r : Answer}
+module _ (subscribing : Bool) (t : SiteTable) (q : Question) (f : StatusFields) (ps ws : List ℕ) where
+  pub asks : {b d : Sought} {qs vs xs ys : List ℕ} {r : Answer}
       → b ≡ d
-      → GivesIn t (q .time) never (asked subscribing (siteOf ws t) q f b .plan) ws vs xs ys r
-      → GivesIn t (q .time) never (asked subscribing (siteOf ws t) q f d .plan) ws vs xs ys r
+      → GivesIn t (q .time) never (asked subscribing (siteOf ps ws t) q f b .plan) ps qs ws vs xs ys r
+      → GivesIn t (q .time) never (asked subscribing (siteOf ps ws t) q f d .plan) ps qs ws vs xs ys r
   asks e g = rw (← e) g
 
-  good : {v : Verdict} (x : Taken) {vs xs ys : List ℕ} {r : Answer}
+  good : {v : Verdict} (x : Taken) {qs vs xs ys : List ℕ} {r : Answer}
       → v ≡ Good
-      → GivesIn t (q .time) never (x .plan) ws vs xs ys r
-      → GivesIn t (q .time) never (byVerdict v (siteOf ws t) q x .plan) ws vs xs ys r
+      → GivesIn t (q .time) never (x .plan) ps qs ws vs xs ys r
+      → GivesIn t (q .time) never (byVerdict v (siteOf ps ws t) q x .plan) ps qs ws vs xs ys r
   good x e g = rw e g
 
-  pub takes : {vs xs ys : List ℕ} {r : Answer}
+  pub takes : {qs vs xs ys : List ℕ} {r : Answer}
       → f .verdict ≡ Good
-      → GivesIn t (q .time) never (asked subscribing (siteOf ws t) q f (componentSought t (f .component)) .plan) ws vs xs ys r
-      → GivesIn t (q .time) never (subscribingTaken subscribing (siteOf ws t) q f .plan) ws vs xs ys r
+      → GivesIn t (q .time) never (asked subscribing (siteOf ps ws t) q f (componentSought t (f .component)) .plan) ps qs ws vs xs ys r
+      → GivesIn t (q .time) never (subscribingTaken subscribing (siteOf ps ws t) q f .plan) ps qs ws vs xs ys r
   unfolding subscribingTaken
   takes e g =
-      good (asked subscribing (siteOf ws t) q f (componentSought (siteOf ws t .table) (f .component))) e
-      (asks (ap (λ (u : SiteTable). componentSought u (f .component)) (sym (table-is ws t))) g)
+      good (asked subscribing (siteOf ps ws t) q f (componentSought (siteOf ps ws t .table) (f .component))) e
+      (asks (ap (λ (u : SiteTable). componentSought u (f .component)) (sym (table-is ps ws t))) g)

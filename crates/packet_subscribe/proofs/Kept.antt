@@ -1,6 +1,6 @@
 -- The claims about StatusSubscribe and StatusUnsubscribe are kept.
 -- Assumes nothing.
-use Rattle.basis.proofs.Std.{ℕ, zero, suc, _+_, _<_, _≡_, refl, ap₂, _∙_, Bool, true, false, List, [], _∷_, _++_, add-one, arith, length, length-append, both-true}
+use Rattle.basis.proofs.Std.{ℕ, zero, suc, _+_, _*_, _/_, _<_, _≡_, refl, ap₂, _∙_, Bool, true, false, List, [], _∷_, _++_, add-one, arith, length, length-append, both-true, lt-ltb, eq-eqb}
 use Rattle.entry.specs.declared.Entry.{Entry}
 use Rattle.pool_laws.specs.BatchLaws.{Owned}
 use Rattle.read_head.specs.declared.Verdict.{Verdict}
@@ -11,6 +11,7 @@ use Rattle.packet_lookup.specs.declared.Sought.{Sought}
 use Rattle.packet_lookup.specs.declared.Sought.the-variants.{Is, Nothing}
 use Rattle.packet_lookup.specs.Sought.{componentSought, statusSought, entryAt, isSought, allStatuses}
 use Rattle.site.specs.declared.Site.{Site}
+use Rattle.site.specs.Site.{owner, ownerOf, ownedBy}
 use Rattle.packet_answer.specs.declared.Question.{Question}
 use Rattle.packet_answer.specs.Taken.{Taken, byVerdict}
 use Rattle.packet_subscribe.specs.Subscribing.{recordOf, records, changed, judged, asked, subscribingTaken}
@@ -28,18 +29,29 @@ one-each s l time c es (suc n) e =
     ∙ ap₂ (λ (a b : ℕ). a + b) (one-each s l time c es n (h .0)) (one s l time (statusSought (s .table) c (entryAt es n)) (h .1))
     ∙ add-one n
 
-owned-append : (xs ys : List Entry) → Owned 4 xs → Owned 4 ys → Owned 4 (xs ++ ys)
-owned-append [] ys g h = h
-owned-append (x ∷ xs) ys g h = (g .0, owned-append xs ys (g .1) h)
+owned-append : (own : ℕ → Bool) (xs ys : List Entry) → Owned 8 own xs → Owned 8 own ys → Owned 8 own (xs ++ ys)
+owned-append own [] ys g h = h
+owned-append own (x ∷ xs) ys g h = (g .0, (g .1 .0, owned-append own xs ys (g .1 .1) h))
 
-owned-one : (s : Site) (l time : ℕ) (x : Sought) → l < 4 → Owned 4 (recordOf s l time x)
-owned-one s l time (Is k) h = (h, tt)
-owned-one s l time Nothing h = tt
+module _ (s : Site) (l : ℕ) (site : s .site < 2) (link : l < 4) where
+  owner-is : ownerOf s l ≡ 4 * s .site + l
+  unfolding owner
+  owner-is = rw (lt-ltb l 4 link) refl
 
-owned : (s : Site) (l time c : ℕ) (es : List StatusEntry) (n : ℕ) → l < 4 → Owned 4 (records s l time c es n)
-owned s l time c es zero h = tt
-owned s l time c es (suc n) h =
-    owned-append (records s l time c es n) _ (owned s l time c es n h) (owned-one s l time (statusSought (s .table) c (entryAt es n)) h)
+  owner-below : ownerOf s l < 8
+  owner-below = omega (arith, owner-is)
+
+  owner-own : ownedBy s (ownerOf s l) ≡ true
+  owner-own = eq-eqb (ownerOf s l / 4) (s .site) (omega (arith, owner-is))
+
+  owned-one : (time : ℕ) (x : Sought) → Owned 8 (ownedBy s) (recordOf s l time x)
+  owned-one time (Is k) = (owner-below, (owner-own, tt))
+  owned-one time Nothing = tt
+
+  owned : (time c : ℕ) (es : List StatusEntry) (n : ℕ) → Owned 8 (ownedBy s) (records s l time c es n)
+  owned time c es zero = tt
+  owned time c es (suc n) =
+      owned-append (ownedBy s) (records s l time c es n) _ (owned time c es n) (owned-one time (statusSought (s .table) c (entryAt es n)))
 
 -- what holds of an answer with a reason and of what the packet asks for holds of what it comes to
 ends-judged : (s : Site) (q : Question) (f : StatusFields) (c : ℕ) (b : Bool)
@@ -89,4 +101,4 @@ only-answered subscribing s q f =
     (silent-asked subscribing s q f (componentSought (s .table) (f .component)))
 
 pub kept : Claims
-kept = record { one-each = one-each; owned = owned; ends = ends; only-answered = only-answered }
+kept = record { one-each = one-each; owned = λ s l time c es n site link. owned s l site link time c es n; ends = ends; only-answered = only-answered }

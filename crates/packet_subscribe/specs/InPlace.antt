@@ -8,6 +8,6 @@ use Rattle.site.specs.declared.Site.{Site}
 use Rattle.store_site.specs.Layout.{siteOf}
 use Rattle.store_site.specs.Turns.{Plain}
 
-pub record TurnsIn (t : SiteTable) (f : Site → Site) (ws vs : List ℕ) : Type 0 where
-  pub site : siteOf vs t ≡ f (siteOf ws t)
+pub record MovesIn (t : SiteTable) (f : Site → Site) (ps qs ws vs : List ℕ) : Type 0 where
+  pub site : siteOf qs vs t ≡ f (siteOf ps ws t)
   pub plain : Plain ws → Plain vs

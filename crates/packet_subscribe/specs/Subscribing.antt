@@ -18,7 +18,7 @@ use Rattle.packet_lookup.specs.declared.Sought.{Sought}
 use Rattle.packet_lookup.specs.declared.Sought.the-variants.{Is, Nothing}
 use Rattle.packet_lookup.specs.Sought.{componentSought, statusSought, entryAt, allStatuses}
 use Rattle.site.specs.declared.Site.{Site}
-use Rattle.site.specs.Site.{linkAt}
+use Rattle.site.specs.Site.{linkAt, ownerOf}
 use Rattle.site.specs.Parts.{statusAt, withSubscription}
 use Rattle.site.specs.Records.{statusRecord}
 use Rattle.packet_answer.specs.declared.Question.{Question}
@@ -46,9 +46,9 @@ replaced subscribing s l time c es zero = s
 replaced subscribing s l time c es (suc n) =
     replacedAt (replaced subscribing s l time c es n) l (wanted subscribing (entryAt es n) time) (statusSought (s .table) c (entryAt es n))
 
--- "A subscription issues a record at once": the status' value now, for the link
+-- "A subscription issues a record at once": the status' value now, for the link's owner
 abbrev pub recordOf : Site → ℕ → ℕ → Sought → List Entry
-recordOf s l time (Is k) = statusRecord (linkAt s l) (statusAt s k) l k time ∷ []
+recordOf s l time (Is k) = statusRecord (linkAt s l) (statusAt s k) (ownerOf s l) k time ∷ []
 recordOf s l time Nothing = []
 
 -- of the first n entries, "entries in order"

@@ -1,16 +1,16 @@
 // StatusSubscribe and StatusUnsubscribe, in place.
 ghost use mathlib.Core.Path.{_≡_};
 ghost use mathlib.Core.Bool.{true, false};
-ghost use mathlib.Core.List.{[]};
-ghost use Prim.Native.Nat.{_+_, _*_, _<_};
+ghost use mathlib.Core.List.{List, []};
+ghost use Prim.Native.Nat.{ℕ, _+_, _*_, _<_};
 ghost use lib.ListN.{length};
 ghost use Rattle.basis.specs.Pick.{pick};
 ghost use Rattle.table_whole.specs.declared.SiteTable.{SiteTable};
 ghost use Rattle.site.specs.declared.Site.{Site};
 ghost use Rattle.site.specs.Site.{linkAt};
 ghost use Rattle.site.specs.Call.{never};
-ghost use Rattle.store_site.specs.Layout.{siteOf, siteWords};
-ghost use Rattle.store_site.specs.Turns.{Turns};
+ghost use Rattle.store_site.specs.Layout.{siteOf, poolWords, siteWords};
+ghost use Rattle.store_site.specs.Turns.{Turns, Moves};
 ghost use Rattle.store_table.specs.Layout.{tableOf, tableBytes};
 ghost use Rattle.store_call.specs.Called.{GivesIn};
 ghost use Rattle.store_call.specs.Issued.{issuedIn};
@@ -18,7 +18,7 @@ ghost use Rattle.json_find.specs.Index.{Indexed};
 ghost use Rattle.read_lists.specs.Status.{statusAt as fieldsAt};
 ghost use Rattle.packet_lookup.specs.Sought.{componentSought, statusSought, allStatuses};
 ghost use Rattle.packet_subscribe.specs.Subscribing.{wanted as wantedOf, replacedAt, replaced as replacedOf, recordOf, records as recordsOf, changed, judged, asked, subscribingTaken, askingBy, askingOn};
-ghost use Rattle.packet_subscribe.specs.InPlace.{TurnsIn};
+ghost use Rattle.packet_subscribe.specs.InPlace.{MovesIn};
 use answer::Answer;
 use answer::Refusal;
 use names::reasons;
@@ -79,7 +79,7 @@ fn replaced(
     count: usize,
 )
     requires { ⌜ (length (now w) ≡ siteWords) × (length (now t) ≡ tableBytes) ⌝ }
-    ensures { λ _. ⌜ TurnsIn (tableOf (now (t .entry))) (λ (s : Site). replacedOf subscribing s l time component entries count) (now (w .entry)) (now (w .exit)) ⌝ }
+    ensures { λ _. ⌜ ((ps : List ℕ) → MovesIn (tableOf (now (t .entry))) (λ (s : Site). replacedOf subscribing s l time component entries count) ps ps (now (w .entry)) (now (w .exit))) ⌝ }
 {
     let mut i: usize = 0;
     while i < count {
@@ -89,27 +89,28 @@ fn replaced(
     }
 }
 
-fn issue_of(w: &mut [u64], l: u16, time: u64, k: u8)
-    requires { ⌜ length (now w) ≡ siteWords ⌝ }
-    ensures { λ _. ⌜ Turns (λ (s : Site). issuedIn s (recordOf s l time (Sought.Is k))) (now (w .entry)) (now (w .exit)) ⌝ }
+fn issue_of(p: &mut [u64], w: &mut [u64], l: u16, time: u64, k: u8)
+    requires { ⌜ (length (now p) ≡ poolWords) × (length (now w) ≡ siteWords) ⌝ }
+    ensures { λ _. ⌜ Moves (λ (s : Site). issuedIn s (recordOf s l time (Sought.Is k))) (now (p .entry)) (now (p .exit)) (now (w .entry)) (now (w .exit)) ⌝ }
 {
     let v = store_site::items::status(w, k as usize);
-    store_call::add(w, store_call::records::status(w, v, l, k as u16, time));
+    store_call::add(p, w, store_call::records::status(w, v, l, k as u16, time));
 }
 
-fn issue(w: &mut [u64], t: &[u8], l: u16, time: u64, component: u8, e: StatusEntry)
-    requires { ⌜ (length (now w) ≡ siteWords) × (length (now t) ≡ tableBytes) ⌝ }
-    ensures { λ _. ⌜ Turns (λ (s : Site). issuedIn s (recordOf s l time (statusSought (tableOf (now (t .entry))) component e))) (now (w .entry)) (now (w .exit)) ⌝ }
+fn issue(p: &mut [u64], w: &mut [u64], t: &[u8], l: u16, time: u64, component: u8, e: StatusEntry)
+    requires { ⌜ (length (now p) ≡ poolWords) × (length (now w) ≡ siteWords) × (length (now t) ≡ tableBytes) ⌝ }
+    ensures { λ _. ⌜ Moves (λ (s : Site). issuedIn s (recordOf s l time (statusSought (tableOf (now (t .entry))) component e))) (now (p .entry)) (now (p .exit)) (now (w .entry)) (now (w .exit)) ⌝ }
 {
     let status = packet_lookup::status(t, component, e);
     match status {
-        Sought::Is(k) => issue_of(w, l, time, k),
+        Sought::Is(k) => issue_of(p, w, l, time, k),
         Sought::Nothing => {}
     }
 }
 
 // A subscription issues a record at once, entries in order.
 fn records(
+    p: &mut [u64],
     w: &mut [u64],
     t: &[u8],
     l: u16,
@@ -118,19 +119,20 @@ fn records(
     entries: [StatusEntry; 16],
     count: usize,
 )
-    requires { ⌜ (length (now w) ≡ siteWords) × (length (now t) ≡ tableBytes) ⌝ }
-    ensures { λ _. ⌜ TurnsIn (tableOf (now (t .entry))) (λ (s : Site). issuedIn s (recordsOf s l time component entries count)) (now (w .entry)) (now (w .exit)) ⌝ }
+    requires { ⌜ (length (now p) ≡ poolWords) × (length (now w) ≡ siteWords) × (length (now t) ≡ tableBytes) ⌝ }
+    ensures { λ _. ⌜ MovesIn (tableOf (now (t .entry))) (λ (s : Site). issuedIn s (recordsOf s l time component entries count)) (now (p .entry)) (now (p .exit)) (now (w .entry)) (now (w .exit)) ⌝ }
 {
     let mut i: usize = 0;
     while i < count {
         let e = packet_lookup::entry_in(entries, i);
-        issue(w, t, l, time, component, e);
+        issue(p, w, t, l, time, component, e);
         i += 1;
     }
 }
 
 // Every entry is done. Replacing changes nothing that a record tells.
 fn turn(
+    p: &mut [u64],
     w: &mut [u64],
     t: &[u8],
     subscribing: bool,
@@ -140,12 +142,12 @@ fn turn(
     entries: [StatusEntry; 16],
     count: usize,
 )
-    requires { ⌜ (length (now w) ≡ siteWords) × (length (now t) ≡ tableBytes) ⌝ }
-    ensures { λ _. ⌜ TurnsIn (tableOf (now (t .entry))) (λ (s : Site). issuedIn (replacedOf subscribing s l time component entries count) (pick subscribing (recordsOf s l time component entries count) [])) (now (w .entry)) (now (w .exit)) ⌝ }
+    requires { ⌜ (length (now p) ≡ poolWords) × (length (now w) ≡ siteWords) × (length (now t) ≡ tableBytes) ⌝ }
+    ensures { λ _. ⌜ MovesIn (tableOf (now (t .entry))) (λ (s : Site). issuedIn (replacedOf subscribing s l time component entries count) (pick subscribing (recordsOf s l time component entries count) [])) (now (p .entry)) (now (p .exit)) (now (w .entry)) (now (w .exit)) ⌝ }
 {
     replaced(w, t, subscribing, l, time, component, entries, count);
     if subscribing {
-        records(w, t, l, time, component, entries, count);
+        records(p, w, t, l, time, component, entries, count);
     }
 }
 
@@ -158,6 +160,7 @@ fn number(subscribing: bool, count: usize) -> u64
 
 // All entries are statuses of the component.
 fn change(
+    p: &mut [u64],
     w: &mut [u64],
     t: &[u8],
     subscribing: bool,
@@ -166,8 +169,8 @@ fn change(
     f: StatusFields,
     out: &mut [u8],
 ) -> Answer
-    requires { ⌜ (length (now w) ≡ siteWords) × (length (now t) ≡ tableBytes) × (allStatuses (tableOf (now t)) component (f .entries) (f .count) ≡ true) ⌝ }
-    ensures { λ r. ⌜ GivesIn (tableOf (now (t .entry))) (q .time) never (changed subscribing (siteOf (now (w .entry)) (tableOf (now (t .entry)))) q f component .plan) (now (w .entry)) (now (w .exit)) (now (out .entry)) (now (out .exit)) r ⌝ }
+    requires { ⌜ (length (now p) ≡ poolWords) × (length (now w) ≡ siteWords) × (length (now t) ≡ tableBytes) × (allStatuses (tableOf (now t)) component (f .entries) (f .count) ≡ true) ⌝ }
+    ensures { λ r. ⌜ GivesIn (tableOf (now (t .entry))) (q .time) never (changed subscribing (siteOf (now (p .entry)) (now (w .entry)) (tableOf (now (t .entry)))) q f component .plan) (now (p .entry)) (now (p .exit)) (now (w .entry)) (now (w .exit)) (now (out .entry)) (now (out .exit)) r ⌝ }
 {
     if store_call::spent(w, number(subscribing, f.count)) {
         return Answer::Refused(Refusal::SequenceSpent);
@@ -175,6 +178,7 @@ fn change(
     let end = packet_answer::ack(q, out);
     let entries = f.entries;
     turn(
+        p,
         w,
         t,
         subscribing,
@@ -188,6 +192,7 @@ fn change(
 }
 
 fn judge(
+    p: &mut [u64],
     w: &mut [u64],
     t: &[u8],
     subscribing: bool,
@@ -196,17 +201,18 @@ fn judge(
     f: StatusFields,
     out: &mut [u8],
 ) -> Answer
-    requires { ⌜ (length (now w) ≡ siteWords) × (length (now t) ≡ tableBytes) ⌝ }
-    ensures { λ r. ⌜ GivesIn (tableOf (now (t .entry))) (q .time) never (judged subscribing (siteOf (now (w .entry)) (tableOf (now (t .entry)))) q f component .plan) (now (w .entry)) (now (w .exit)) (now (out .entry)) (now (out .exit)) r ⌝ }
+    requires { ⌜ (length (now p) ≡ poolWords) × (length (now w) ≡ siteWords) × (length (now t) ≡ tableBytes) ⌝ }
+    ensures { λ r. ⌜ GivesIn (tableOf (now (t .entry))) (q .time) never (judged subscribing (siteOf (now (p .entry)) (now (w .entry)) (tableOf (now (t .entry)))) q f component .plan) (now (p .entry)) (now (p .exit)) (now (w .entry)) (now (w .exit)) (now (out .entry)) (now (out .exit)) r ⌝ }
 {
     let entries = f.entries;
     if packet_lookup::all_statuses(t, component, entries, f.count) {
-        return change(w, t, subscribing, q, component, f, out);
+        return change(p, w, t, subscribing, q, component, f, out);
     }
     packet_answer::not_ack(w, q, reasons::UNKNOWN_STATUS, out)
 }
 
 fn ask(
+    p: &mut [u64],
     w: &mut [u64],
     t: &[u8],
     subscribing: bool,
@@ -214,18 +220,19 @@ fn ask(
     f: StatusFields,
     out: &mut [u8],
 ) -> Answer
-    requires { ⌜ (length (now w) ≡ siteWords) × (length (now t) ≡ tableBytes) ⌝ }
-    ensures { λ r. ⌜ GivesIn (tableOf (now (t .entry))) (q .time) never (asked subscribing (siteOf (now (w .entry)) (tableOf (now (t .entry)))) q f (componentSought (tableOf (now (t .entry))) (f .component)) .plan) (now (w .entry)) (now (w .exit)) (now (out .entry)) (now (out .exit)) r ⌝ }
+    requires { ⌜ (length (now p) ≡ poolWords) × (length (now w) ≡ siteWords) × (length (now t) ≡ tableBytes) ⌝ }
+    ensures { λ r. ⌜ GivesIn (tableOf (now (t .entry))) (q .time) never (asked subscribing (siteOf (now (p .entry)) (now (w .entry)) (tableOf (now (t .entry)))) q f (componentSought (tableOf (now (t .entry))) (f .component)) .plan) (now (p .entry)) (now (p .exit)) (now (w .entry)) (now (w .exit)) (now (out .entry)) (now (out .exit)) r ⌝ }
 {
     let id = f.component;
     let component = packet_lookup::component(t, id);
     match component {
-        Sought::Is(c) => judge(w, t, subscribing, q, c, f, out),
+        Sought::Is(c) => judge(p, w, t, subscribing, q, c, f, out),
         Sought::Nothing => packet_answer::not_ack(w, q, reasons::UNKNOWN_STATUS, out),
     }
 }
 
 fn take(
+    p: &mut [u64],
     w: &mut [u64],
     t: &[u8],
     subscribing: bool,
@@ -233,12 +240,12 @@ fn take(
     f: StatusFields,
     out: &mut [u8],
 ) -> Answer
-    requires { ⌜ (length (now w) ≡ siteWords) × (length (now t) ≡ tableBytes) ⌝ }
-    ensures { λ r. ⌜ GivesIn (tableOf (now (t .entry))) (q .time) never (subscribingTaken subscribing (siteOf (now (w .entry)) (tableOf (now (t .entry)))) q f .plan) (now (w .entry)) (now (w .exit)) (now (out .entry)) (now (out .exit)) r ⌝ }
+    requires { ⌜ (length (now p) ≡ poolWords) × (length (now w) ≡ siteWords) × (length (now t) ≡ tableBytes) ⌝ }
+    ensures { λ r. ⌜ GivesIn (tableOf (now (t .entry))) (q .time) never (subscribingTaken subscribing (siteOf (now (p .entry)) (now (w .entry)) (tableOf (now (t .entry)))) q f .plan) (now (p .entry)) (now (p .exit)) (now (w .entry)) (now (w .exit)) (now (out .entry)) (now (out .exit)) r ⌝ }
 {
     let v = f.verdict;
     match v {
-        Verdict::Good => ask(w, t, subscribing, q, f, out),
+        Verdict::Good => ask(p, w, t, subscribing, q, f, out),
         Verdict::Missing => packet_answer::not_ack(w, q, reasons::MISSING_ELEMENT, out),
         Verdict::Bad => packet_answer::not_ack(w, q, reasons::BAD_VALUE, out),
     }
@@ -260,7 +267,7 @@ fn asking_by(major: u32, minor: u32, patch: u32) -> Asking
 // How a subscription's entries are read on a link.
 fn asking_on(w: &[u64], l: u16) -> Asking
     requires { ⌜ (length (now w) ≡ siteWords) × (l < 4) ⌝ }
-    ensures { λ r. ⌜ ((t : SiteTable) → r ≡ askingOn (linkAt (siteOf (now (w .entry)) t) l)) ⌝ }
+    ensures { λ r. ⌜ ((ps : List ℕ) (t : SiteTable) → r ≡ askingOn (linkAt (siteOf ps (now (w .entry)) t) l)) ⌝ }
 {
     asking_by(
         store_site::phases::major(w, l as usize),
@@ -271,6 +278,7 @@ fn asking_on(w: &[u64], l: u16) -> Asking
 
 // StatusSubscribe.
 pub fn subscribe(
+    p: &mut [u64],
     w: &mut [u64],
     t: &[u8],
     q: Question,
@@ -278,16 +286,17 @@ pub fn subscribe(
     places: &[usize],
     out: &mut [u8],
 ) -> Answer
-    requires { ⌜ (length (now w) ≡ siteWords) × (length (now t) ≡ tableBytes) × (q .link < 4) × Indexed (now packet) (now places) ⌝ }
-    ensures { λ r. ⌜ GivesIn (tableOf (now (t .entry))) (q .time) never (subscribingTaken true (siteOf (now (w .entry)) (tableOf (now (t .entry)))) q (fieldsAt (askingOn (linkAt (siteOf (now (w .entry)) (tableOf (now (t .entry)))) (q .link))) (now (packet .entry))) .plan) (now (w .entry)) (now (w .exit)) (now (out .entry)) (now (out .exit)) r ⌝ }
+    requires { ⌜ (length (now p) ≡ poolWords) × (length (now w) ≡ siteWords) × (length (now t) ≡ tableBytes) × (q .link < 4) × Indexed (now packet) (now places) ⌝ }
+    ensures { λ r. ⌜ GivesIn (tableOf (now (t .entry))) (q .time) never (subscribingTaken true (siteOf (now (p .entry)) (now (w .entry)) (tableOf (now (t .entry)))) q (fieldsAt (askingOn (linkAt (siteOf (now (p .entry)) (now (w .entry)) (tableOf (now (t .entry)))) (q .link))) (now (packet .entry))) .plan) (now (p .entry)) (now (p .exit)) (now (w .entry)) (now (w .exit)) (now (out .entry)) (now (out .exit)) r ⌝ }
 {
     let asking = asking_on(w, q.link);
     let f = read_lists::read_status(packet, places, asking);
-    take(w, t, true, q, f, out)
+    take(p, w, t, true, q, f, out)
 }
 
 // StatusUnsubscribe.
 pub fn unsubscribe(
+    p: &mut [u64],
     w: &mut [u64],
     t: &[u8],
     q: Question,
@@ -295,9 +304,9 @@ pub fn unsubscribe(
     places: &[usize],
     out: &mut [u8],
 ) -> Answer
-    requires { ⌜ (length (now w) ≡ siteWords) × (length (now t) ≡ tableBytes) × Indexed (now packet) (now places) ⌝ }
-    ensures { λ r. ⌜ GivesIn (tableOf (now (t .entry))) (q .time) never (subscribingTaken false (siteOf (now (w .entry)) (tableOf (now (t .entry)))) q (fieldsAt Asking.Plain (now (packet .entry))) .plan) (now (w .entry)) (now (w .exit)) (now (out .entry)) (now (out .exit)) r ⌝ }
+    requires { ⌜ (length (now p) ≡ poolWords) × (length (now w) ≡ siteWords) × (length (now t) ≡ tableBytes) × Indexed (now packet) (now places) ⌝ }
+    ensures { λ r. ⌜ GivesIn (tableOf (now (t .entry))) (q .time) never (subscribingTaken false (siteOf (now (p .entry)) (now (w .entry)) (tableOf (now (t .entry)))) q (fieldsAt Asking.Plain (now (packet .entry))) .plan) (now (p .entry)) (now (p .exit)) (now (w .entry)) (now (w .exit)) (now (out .entry)) (now (out .exit)) r ⌝ }
 {
     let f = read_lists::read_status(packet, places, Asking::Plain);
-    take(w, t, false, q, f, out)
+    take(p, w, t, false, q, f, out)
 }

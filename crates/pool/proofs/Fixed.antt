@@ -1,9 +1,9 @@
--- The fullest of the first links: none holds more, and every lower one holds fewer.
+-- The fullest of the first owners: none holds more, and every lower one holds fewer.
 -- Assumes nothing.
 use Rattle.basis.proofs.Std.{ℕ, suc, zero, _≤_, _<_, _≡_, refl, Bool, true, false, _⊎_, inl, inr, ltb, arith, ltb-true, ltb-false, pick, eq-or-ne}
 use Rattle.pool.specs.Shares.{fullest}
 
--- the links 0 to k: the fullest is one of them, none holds more, and every lower one holds fewer
+-- the owners 0 to k: the fullest is one of them, none holds more, and every lower one holds fewer
 pub record Fullest (held : ℕ → ℕ) (k m : ℕ) : Type 0 where
   pub one : m ≤ k
   pub most : (j : ℕ) → j ≤ k → held j ≤ held m

@@ -22,11 +22,11 @@ noEntry = record { time = 0; value = 0; sequence = 0; link = 0; kind = 0; item =
 abbrev pub noPlace : Place
 noPlace = record { entry = noEntry; mark = 0 }
 
--- it holds a record of link l
+-- it holds a record of owner l
 abbrev pub of : ℕ → Place → Bool
 of l x = both (ltb 0 (x .mark)) (eqb (x .entry .link) l)
 
--- what is asked of a place: that it is free; that it holds a record of link l, one not sent, one older than the number q,
+-- what is asked of a place: that it is free; that it holds a record of owner l, one not sent, one older than the number q,
 -- the one numbered q, one of the alarm k
 abbrev pub fits : Wanted → Place → Bool
 fits Free x = eqb (x .mark) 0

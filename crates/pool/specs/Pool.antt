@@ -1,5 +1,5 @@
--- The pool's acts and what is read from it. For n links; the code has four.
--- A link outside the n issues nothing and none of its records is held.
+-- The pool's acts and what is read from it. For n owners; the code has eight, four links of either site.
+-- An owner outside the n issues nothing and none of its records is held.
 -- Assumes nothing.
 use Prim.Native.Nat.{ℕ, _+_}
 use mathlib.Core.List.{List, map}
@@ -23,11 +23,11 @@ use Rattle.basis.specs.Lists.{count}
 use Rattle.pool.specs.Places.{noPlace, of, fits, oldest, newest, soughtAt}
 use Rattle.pool.specs.Shares.{loser}
 
--- 128 free places; n links have lost nothing
+-- 128 free places; n owners have lost nothing
 unfoldable pub emptyOf : ℕ → Pool
 emptyOf n = record { places = replicate 128 noPlace; lost = replicate n 0 }
 
--- how many records of link l are held
+-- how many records of owner l are held
 abbrev pub heldIn : List Place → ℕ → ℕ
 heldIn p l = count (of l) p
 
@@ -64,7 +64,7 @@ withOf p Nowhere x lost = p
 abbrev pub issueFrom : Pool → Loser → Entry → Pool
 issueFrom p who e = withOf p (roomOf (p .places) who) (made e) (lossOf (p .lost) who)
 
--- a record is issued for its link
+-- a record is issued for its owner
 unfoldable pub issueOf : ℕ → Pool → Entry → Pool
 issueOf n p e = pick (ltb (e .link) n) (issueFrom p (loser n (heldIn (p .places)) (freeIn (p .places)) (e .link)) e) p
 
@@ -75,30 +75,37 @@ abbrev pub sent : Spot → Place
 sent (At i x) = record { entry = x .entry; mark = 2 }
 sent Nowhere = noPlace
 
--- a record is marked as sent: that of link l numbered q; where it is not held, nothing changes
+-- a record is marked as sent: that of owner l numbered q; where it is not held, nothing changes
 unfoldable pub markOf : Pool → ℕ → ℕ → Pool
 markOf p l q = withOf p (numbered p l q) (sent (numbered p l q)) (p .lost)
 
--- a record is settled and its place free: that of link l numbered q; where it is not held, nothing changes
+-- a record is settled and its place free: that of owner l numbered q; where it is not held, nothing changes
 unfoldable pub settleOf : Pool → ℕ → ℕ → Pool
 settleOf p l q = withOf p (numbered p l q) noPlace (p .lost)
 
--- no record of link l is marked as sent
+-- no record of owner l is marked as sent
 abbrev pub unsentFor : ℕ → Place → Place
 unsentFor l x = pick (of l x) (record { entry = x .entry; mark = 1 }) x
 
 unfoldable pub unmarkOf : Pool → ℕ → Pool
 unmarkOf p l = record { places = map (unsentFor l) (p .places); lost = p .lost }
 
--- the oldest record of link l that is not sent
+-- owner l begins anew: it holds nothing and has lost nothing
+abbrev pub freedFor : ℕ → Place → Place
+freedFor l x = pick (of l x) noPlace x
+
+unfoldable pub clearOf : Pool → ℕ → Pool
+clearOf p l = record { places = map (freedFor l) (p .places); lost = set (p .lost) l 0 }
+
+-- the oldest record of owner l that is not sent
 abbrev pub oldestUnsent : Pool → ℕ → Sought
 oldestUnsent p l = soughtAt (oldest (fits (Unsent l)) (p .places))
 
--- the newest record of link l of the alarm k
+-- the newest record of owner l of the alarm k
 abbrev pub newestAlarm : Pool → ℕ → ℕ → Sought
 newestAlarm p l k = soughtAt (newest (fits (Alarm l k)) (p .places))
 
--- the record of link l than which r records of l are older
+-- the record of owner l than which r records of l are older
 abbrev pub rankIs : List Place → ℕ → ℕ → Place → Bool
 rankIs p l r x = both (of l x) (eqb (count (fits (Older l (x .entry .sequence))) p) r)
 

@@ -1,4 +1,4 @@
--- Who gives a record up when one is issued: document 01's rule, as a function of how many records each link holds and how many places are free.
+-- Who gives a record up when one is issued: document 01's rule, as a function of how many records each owner holds and how many places are free.
 -- Assumes nothing.
 use Prim.Native.Nat.{ℕ, zero, suc, _-_}
 use lib.Dec.{leb, ltb}
@@ -9,13 +9,13 @@ use Rattle.pool.specs.declared.Loser.the-variants.{Nobody, Owner}
 abbrev pub fuller : (ℕ → ℕ) → ℕ → ℕ → ℕ
 fuller held a b = pick (ltb (held a) (held b)) b a
 
--- which of the links 0 to k holds most; of several the lowest
+-- which of the owners 0 to k holds most; of several the lowest
 unfoldable pub fullest : (ℕ → ℕ) → ℕ → ℕ
 fullest held zero = 0
 fullest held (suc k) = fuller held (fullest held k) (suc k)
 
--- of n links, the one whose oldest record is lost when one is issued for link l: l's own where it holds 64; nobody's where a place
--- is free; else, l below 16, that of the link holding most; else l's own
+-- of n owners, the one whose oldest record is lost when one is issued for owner l: l's own where it holds 64; nobody's where a place
+-- is free; else, l below 16, that of the owner holding most; else l's own
 unfoldable pub loser : ℕ → (ℕ → ℕ) → ℕ → ℕ → Loser
 loser n held free l =
     pick (leb 64 (held l)) (Owner l)

@@ -1,4 +1,5 @@
-// The pool of records that wait to be sent and answered: 128 places for all links, and how many records each link lost. store_pool has its acts.
+// The pool of records that wait to be sent and answered: 128 places for all owners, and how many records each owner lost. An owner is a
+// link of a site: 4 times the site's number and the link's. store_pool has its acts.
 use entry::Entry;
 ghost use mathlib.Core.Path.{_≡_};
 ghost use Rattle.pool.specs.Pool.{emptyOf};
@@ -13,7 +14,7 @@ pub struct Place {
 #[repr(C)]
 pub struct Pool {
     pub places: [Place; 128],
-    pub lost: [u64; 4],
+    pub lost: [u64; 8],
 }
 
 // What is asked of a place.
@@ -67,11 +68,11 @@ const FREE: Place = Place {
 impl Pool {
     // Every place free, nothing lost.
     pub fn empty() -> Pool
-        ensures { λ r. ⌜ r ≡ emptyOf 4 ⌝ }
+        ensures { λ r. ⌜ r ≡ emptyOf 8 ⌝ }
     {
         Pool {
             places: [FREE; 128],
-            lost: [0; 4],
+            lost: [0; 8],
         }
     }
 }

@@ -1,4 +1,4 @@
--- The pool is never crowded: 16 a link are a full pool or more than one, and one link holds fewer. And what issuing does where none of the
+-- The pool is never crowded: 16 an owner are a full pool or more than one, and one owner holds fewer. And what issuing does where none of the
 -- links holds a record.
 -- Assumes nothing.
 use Rattle.basis.proofs.Std.{ℕ, _*_, _≤_, _<_, _≡_, ap, _⊎_, inl, inr, arith, eq-or-ne}
@@ -14,7 +14,7 @@ module _ (n : ℕ) (p : Pool) (l : ℕ) (c : Crowded n p l) where
   each j h (inl d) = omega (arith, ap (heldOf p) d, c .few)
   each j h (inr d) = c .others j h d
 
-  not-all : (q : ℕ) → 16 * n ≤ 128 → Inv n p q → ⊥
+  not-all : (q : ℕ → ℕ) → 16 * n ≤ 128 → Inv n p q → ⊥
   not-all q small i =
       omega (
         arith,

@@ -6,6 +6,7 @@ pub mod Chosen
 pub mod Inv
 pub mod Issue
 pub mod Other
+pub mod Clear
 pub mod Lost
 pub mod Kept
 pub mod Crowded

@@ -9,8 +9,8 @@ use Rattle.pool.specs.Places.{noPlace, of, fits}
 use Rattle.pool.specs.Pool.{lostOf, made, issueOf}
 use Rattle.pool_laws.specs.Leaves.{gone}
 use Rattle.pool_laws.proofs.Counts.{bit-true, bit-false, count-pos}
-use Rattle.pool_laws.proofs.Inv.{Inv, from, of-used}
-use Rattle.pool_laws.proofs.Issue.{it, after, places-after, lost-after, change, loses}
+use Rattle.pool_laws.proofs.Inv.{Inv, from}
+use Rattle.pool_laws.proofs.Issue.{it, after, places-after, lost-after, change, loses, not-owner, not-number}
 use Rattle.pool_laws.proofs.Other.{Alike, alike-numbered}
 
 -- two tests that agree at every element count the same
@@ -33,31 +33,38 @@ eqb-swap a b = go (eqb a b) refl
     go true e = sym (eq-eqb b a (sym (eqb-true a b e)))
     go false e = sym (ne-eqb b a (λ s. eqb-false a b e (sym s)))
 
-module _ (n q : ℕ) (p : Pool) (inv : Inv n p q) (m i : ℕ) (inside : i < length (p .places)) (o : of m (getD (p .places) i noPlace) ≡ true) where
+module _ (n : ℕ) (q : ℕ → ℕ) (p : Pool) (inv : Inv n p q) (m i : ℕ) (inside : i < length (p .places)) (o : of m (getD (p .places) i noPlace) ≡ true) where
   abbrev number : ℕ
   number = getD (p .places) i noPlace .entry .sequence
 
-  -- a record that stands at a place is held once, under a number below the next
+  -- a record that stands at a place is held once, under a number below its owner's next
   held-once : count (fits (Numbered m number)) (p .places) ≡ 1
   held-once =
       let t : fits (Numbered m number) (getD (p .places) i noPlace) ≡ true = both-of o (eq-eqb number number refl) in
       omega (arith, count-pos (fits (Numbered m number)) (p .places) i noPlace inside t, inv .once m number)
 
-  below-next : number < q
-  below-next = go (lt-or-ge number q)
+  below-next : number < q m
+  below-next = go (lt-or-ge number (q m))
     where
-      go : (number < q) ⊎ (q ≤ number) → number < q
+      go : (number < q m) ⊎ (q m ≤ number) → number < q m
       go (inl a) = a
       go (inr a) =
-          let t : from q (getD (p .places) i noPlace) ≡ true = both-of (of-used m (getD (p .places) i noPlace) o) (le-leb q number a) in
-          absurd (omega (arith, count-pos (from q) (p .places) i noPlace inside t, inv .fresh))
+          let t : from m (q m) (getD (p .places) i noPlace) ≡ true = both-of o (le-leb (q m) number a) in
+          absurd (omega (arith, count-pos (from m (q m)) (p .places) i noPlace inside t, inv .fresh m))
 
-module _ (n : ℕ) (small : 16 * n ≤ 128) (p : Pool) (q : ℕ) (inv : Inv n p q) (e : Entry) (mine : e .link < n) (rises : q ≤ e .sequence) (fits32 : e .sequence < 2147483648) (m : ℕ) where
+module _ (n : ℕ) (small : 16 * n ≤ 128) (p : Pool) (q : ℕ → ℕ) (inv : Inv n p q) (e : Entry) (mine : e .link < n) (rises : q (e .link) ≤ e .sequence) (fits32 : e .sequence < 2147483648) (m : ℕ) where
   abbrev old : Place
   old = it n small p q inv e mine rises fits32 .old
 
   abbrev now-places : List Place
   now-places = after n small p q inv e mine rises fits32
+
+  -- a record that stood in the pool is not the one that is issued: another owner's, or numbered below
+  not-issued : (i : ℕ) → i < length (p .places) → of m (getD (p .places) i noPlace) ≡ true → (t : Bool) → eqb (e .link) m ≡ t
+      → bit (fits (Numbered m (getD (p .places) i noPlace .entry .sequence)) (made e)) ≡ 0
+  not-issued i h o true c =
+      not-number n small p q inv e mine rises fits32 m _ (λ s. omega (arith, below-next n q p inv m i h o, ap q (eqb-true (e .link) m c)))
+  not-issued i h o false c = not-owner n small p q inv e mine rises fits32 m _ c
 
   -- a record that stood in the pool is gone exactly where it stood at the place that was taken
   gone-is : (i : ℕ) → i < length (p .places)
@@ -71,10 +78,6 @@ module _ (n : ℕ) (small : 16 * n ≤ 128) (p : Pool) (q : ℕ) (inv : Inv n p 
       k : ℕ
       k = getD (p .places) i noPlace .entry .sequence
 
-      two : (t s : Bool) → s ≡ false → bit (both t s) ≡ 0
-      two true s z = bit-false s z
-      two false s z = refl
-
       go : of m (getD (p .places) i noPlace) ≡ true → (b : Bool) → fits (Numbered m (getD (p .places) i noPlace .entry .sequence)) old ≡ b
           → eqb (count (fits (Numbered m (getD (p .places) i noPlace .entry .sequence))) now-places) 0 ≡ b
       go o true t = eq-eqb (count (fits (Numbered m (getD (p .places) i noPlace .entry .sequence))) now-places) 0 (omega (
@@ -82,14 +85,14 @@ module _ (n : ℕ) (small : 16 * n ≤ 128) (p : Pool) (q : ℕ) (inv : Inv n p 
         change n small p q inv e mine rises fits32 (fits (Numbered m (getD (p .places) i noPlace .entry .sequence))),
         bit-true _ t,
         held-once n q p inv m i h o,
-        two (of m (made e)) (eqb (e .sequence) (getD (p .places) i noPlace .entry .sequence)) (ne-eqb (e .sequence) (getD (p .places) i noPlace .entry .sequence) (λ s. omega (arith, below-next n q p inv m i h o))),
+        not-issued i h o (eqb (e .link) m) refl,
       ))
       go o false t = ne-eqb (count (fits (Numbered m (getD (p .places) i noPlace .entry .sequence))) now-places) 0 (λ z. omega (
         arith,
         change n small p q inv e mine rises fits32 (fits (Numbered m (getD (p .places) i noPlace .entry .sequence))),
         bit-false _ t,
         held-once n q p inv m i h o,
-        two (of m (made e)) (eqb (e .sequence) (getD (p .places) i noPlace .entry .sequence)) (ne-eqb (e .sequence) (getD (p .places) i noPlace .entry .sequence) (λ s. omega (arith, below-next n q p inv m i h o))),
+        not-issued i h o (eqb (e .link) m) refl,
       ))
 
   taken-count : (b : Bool) → of m old ≡ b → count (λ (x : Place). both (of m x) (fits (Numbered m (x .entry .sequence)) old)) (p .places) ≡ bit b
@@ -115,7 +118,7 @@ module _ (n : ℕ) (small : 16 * n ≤ 128) (p : Pool) (q : ℕ) (inv : Inv n p 
       omega (arith, lost-after n small p q inv e mine rises fits32 m, loses n small p q inv e mine rises fits32 m)
 
 -- where every record is held as before, none is gone
-pub alike-leaves : (n q : ℕ) (p r : Pool) → Alike p r → Inv n p q → (m : ℕ) → count (gone r m) (p .places) ≡ 0
+pub alike-leaves : (n : ℕ) (q : ℕ → ℕ) (p r : Pool) → Alike p r → Inv n p q → (m : ℕ) → count (gone r m) (p .places) ≡ 0
 alike-leaves n q p r a inv m = count-never (gone r m) noPlace (p .places) (λ i h. go i h (of m (getD (p .places) i noPlace)) refl)
   where
     go : (i : ℕ) → i < length (p .places) → (b : Bool) → of m (getD (p .places) i noPlace) ≡ b

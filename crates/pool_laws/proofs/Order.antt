@@ -8,7 +8,7 @@ use Rattle.pool_laws.specs.View.{insert, insertIf, recordsIn, records, f
 use Rattle.pool_laws.specs.Views.{InOrder}
 use Rattle.pool_laws.specs.Views.InOrder.{end, next}
 use Rattle.pool_laws.proofs.Counts.{bit-true, bit-le, bit-lt, bit-ge, bit-eq, count-le}
-use Rattle.pool_laws.proofs.Inv.{Inv, from, mismarked, of-used, of-link}
+use Rattle.pool_laws.proofs.Inv.{Inv, mismarked, of-used, of-link}
 use Rattle.pool_laws.proofs.Insert.{number, under}
 use Rattle.pool_laws.proofs.Records.{Sorted, records-sorted, records-count}
 
@@ -87,25 +87,15 @@ in-order m q k (x ∷ l) (a, s) (b, o) d f w u =
     split j (inr h) (inl e) = omega (arith, bit-le (ltb j (number x + 1)), bit-eq j (number x) e)
     split j (inr h) (inr e) = omega (arith, bit-ge j (number x + 1) (omega arith))
 
--- every link's records, in a pool of which the invariant holds
-pub records-order : (n q : ℕ) (p : Pool) → Inv n p q → (m : ℕ) → InOrder m q 0 (records p m)
+-- every owner's records, in a pool of which the invariant holds
+pub records-order : (n : ℕ) (q : ℕ → ℕ) (p : Pool) → Inv n p q → (m : ℕ) → InOrder m (q m) 0 (records p m)
 records-order n q p i m =
-    in-order m q 0 (records p m) (records-sorted (p .places) m) (records-mine (p .places) m)
+    in-order m (q m) 0 (records p m) (records-sorted (p .places) m) (records-mine (p .places) m)
     (λ j. omega (arith, records-count (λ (y : Place). eqb (number y) j) (p .places) m, i .once m j))
-    (omega (
-      arith,
-      records-count (λ (y : Place). leb q (number y)) (p .places) m,
-      i .fresh,
-      count-le (λ (x : Place). both (of m x) (leb q (number x))) (from q) (λ x. late (ltb 0 (x .mark)) (eqb (x .entry .link) m) (leb q (number x))) (p .places),
-    ))
+    (omega (arith, records-count (λ (y : Place). leb (q m) (number y)) (p .places) m, i .fresh m))
     (omega (arith, records-count mismarked (p .places) m, i .marked, count-le (λ (x : Place). both (of m x) (mismarked x)) mismarked (λ x. any (of m x) (mismarked x)) (p .places)))
     (none-zero (records p m))
   where
-    late : (u s t : Bool) → bit (both (both u s) t) ≤ bit (both u t)
-    late false s t = omega arith
-    late true false t = omega (arith, bit-le t)
-    late true true t = omega arith
-
     any : (s t : Bool) → bit (both s t) ≤ bit t
     any false t = omega arith
     any true t = omega arith

@@ -69,17 +69,17 @@ settle-less p l k = go (settleOf p l k) (settle-touches p l k)
 pub lost-same : (p r : Pool) → r .lost ≡ p .lost → (l : ℕ) → lostOf r l ≡ lostOf p l
 lost-same p r e l = ap (λ (xs : List ℕ). getD xs l 0) e
 
-pub less-keeps : (n q : ℕ) (p r : Pool) → Less p r → Inv n p q → Inv n r q
+pub less-keeps : (n : ℕ) (q : ℕ → ℕ) (p r : Pool) → Less p r → Inv n p q → Inv n r q
 less-keeps n q p r s i =
     record {
       size = s .size ∙ i .size;
       links = ap length (s .lost) ∙ i .links;
       owned = omega (arith, s .less (outside n) refl, i .owned);
       once = λ l k. omega (arith, s .less (fits (Numbered l k)) refl, i .once l k);
-      fresh = omega (arith, s .less (from q) refl, i .fresh);
+      fresh = λ l. omega (arith, s .less (from l (q l)) refl, i .fresh l);
       most = λ l. omega (arith, s .less (of l) refl, i .most l);
       marked = omega (arith, s .less mismarked refl, i .marked);
-      lost = λ l. omega (arith, lost-same p r (s .lost) l, i .lost l);
+      lost = λ l. omega (arith, lost-same p r (s .lost) l, s .less (of l) refl, i .lost l);
       bound = i .bound;
     }
 
@@ -170,16 +170,16 @@ module _ (p r : Pool) (a : Alike p r) where
   pub alike-newer : (l k : ℕ) → count (newerThan l k) (r .places) ≡ count (newerThan l k) (p .places)
   alike-newer l k = a .same (λ u i j. both (both u (eqb i l)) (ltb k j))
 
-  pub alike-keeps : (n q : ℕ) → Inv n p q → Inv n r q
+  pub alike-keeps : (n : ℕ) (q : ℕ → ℕ) → Inv n p q → Inv n r q
   alike-keeps n q i =
       record {
         size = a .size ∙ i .size;
         links = ap length (a .lost) ∙ i .links;
         owned = omega (arith, a .same (λ u s j. both u (leb n s)), i .owned);
         once = λ l k. omega (arith, alike-numbered l k, i .once l k);
-        fresh = omega (arith, a .same (λ u s j. both u (leb q j)), i .fresh);
+        fresh = λ l. omega (arith, a .same (λ u s j. both (both u (eqb s l)) (leb (q l) j)), i .fresh l);
         most = λ l. omega (arith, alike-of l, i .most l);
         marked = omega (arith, a .right, i .marked);
-        lost = λ l. omega (arith, lost-same p r (a .lost) l, i .lost l);
+        lost = λ l. omega (arith, lost-same p r (a .lost) l, alike-of l, i .lost l);
         bound = i .bound;
       }

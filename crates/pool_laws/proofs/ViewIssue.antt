@@ -15,7 +15,7 @@ use Rattle.pool_laws.proofs.Counts.{bit-true, bit-false, bit-le, bit-ge
 use Rattle.pool_laws.proofs.Fullest.{every-place, total-same}
 use Rattle.pool_laws.proofs.Chosen.{Eldest, Why, Issued}
 use Rattle.pool_laws.proofs.Chosen.Why.{vacant, own, steal}
-use Rattle.pool_laws.proofs.Inv.{Inv, from, of-used, of-link, numbered-from}
+use Rattle.pool_laws.proofs.Inv.{Inv, of-used, of-link, from-less, numbered-from}
 use Rattle.pool_laws.proofs.Issue.{it, after, places-after, lost-after, change, loses, old-below, free-not}
 use Rattle.pool_laws.proofs.Insert.{number, insert-last, insert-first}
 use Rattle.pool_laws.proofs.Records.{records-count, records-length, records-set}
@@ -33,7 +33,7 @@ unfolding loser
 loser-same n g h a b l e s = rw (e l, s, fullest-same g h e (n - 1))
 
 -- the loser is the same, by the view
-pub loser-view : (n q : ℕ) (p : Pool) → Inv n p q → (l : ℕ) → loser n (heldIn (p .places)) (freeIn (p .places)) l ≡ loserIn n (records p) l
+pub loser-view : (n : ℕ) (q : ℕ → ℕ) (p : Pool) → Inv n p q → (l : ℕ) → loser n (heldIn (p .places)) (freeIn (p .places)) l ≡ loserIn n (records p) l
 loser-view n q p i l =
     loser-same n (heldIn (p .places)) (holds (records p)) _ _ l (λ j. sym (records-length (p .places) j))
     (omega (arith, every-place n (p .places), i .size, i .owned, total-same (heldIn (p .places)) (holds (records p)) (λ j. sym (records-length (p .places) j)) n))
@@ -42,7 +42,7 @@ tail-eq : (y : Place) (l r t : List Place) → 0 < length r → y ∷ l ≡ r ++
 tail-eq y l [] t h e = absurd (omega arith)
 tail-eq y l (z ∷ r) t h e = ap (drop 1) e
 
-module _ (n : ℕ) (small : 16 * n ≤ 128) (p : Pool) (q : ℕ) (inv : Inv n p q) (e : Entry) (mine : e .link < n) (rises : q ≤ e .sequence) (fits32 : e .sequence < 2147483648) (m : ℕ) where
+module _ (n : ℕ) (small : 16 * n ≤ 128) (p : Pool) (q : ℕ → ℕ) (inv : Inv n p q) (e : Entry) (mine : e .link < n) (rises : q (e .link) ≤ e .sequence) (fits32 : e .sequence < 2147483648) (m : ℕ) where
   abbrev here : Issued n p e
   here = it n small p q inv e mine rises fits32
 
@@ -52,32 +52,30 @@ module _ (n : ℕ) (small : 16 * n ≤ 128) (p : Pool) (q : ℕ) (inv : Inv n p 
   abbrev tail : List Place
   tail = pick (eqb (e .link) m) (made e ∷ []) []
 
+  -- where the new record is m's, m's next number is not above its number
+  next-below : of m (made e) ≡ true → q m ≤ e .sequence
+  next-below t = omega (arith, ap q (eqb-true (e .link) m t))
+
   key : insertIf (of m (here .old)) (here .old) (recordsIn then m) ≡ insertIf (of m (made e)) (made e) (recordsIn (p .places) m)
   key =
       subst (λ (x : Place). insertIf (of m x) x (recordsIn then m) ≡ insertIf (of m (made e)) (made e) (recordsIn (p .places) m)) (here .stands)
-      (records-set m (made e) (p .places) (here .at) (here .inside) (λ k. inv .once m k) (λ t. omega (arith, numbered-from m (e .sequence) q rises (p .places), inv .fresh)))
+      (records-set m (made e) (p .places) (here .at) (here .inside) (λ k. inv .once m k) (λ t. omega (arith, numbered-from m (e .sequence) (q m) (next-below t) (p .places), inv .fresh m)))
 
-  none-later : count (λ (y : Place). leb (e .sequence) (number y)) (recordsIn (p .places) m) ≡ 0
-  none-later = omega (arith, records-count (λ (y : Place). leb (e .sequence) (number y)) (p .places) m, late, inv .fresh)
-    where
-      go : (u s : Bool) (k : ℕ) → bit (both (both u s) (leb (e .sequence) k)) ≤ bit (both u (leb q k))
-      go false s k = omega arith
-      go true false k = omega arith
-      go true true k = tri (lt-or-ge k (e .sequence))
-        where
-          tri : (k < e .sequence) ⊎ (e .sequence ≤ k) → bit (leb (e .sequence) k) ≤ bit (leb q k)
-          tri (inl a) = omega (arith, bit-false _ (lt-leb (e .sequence) k a))
-          tri (inr a) = omega (arith, bit-le (leb (e .sequence) k), bit-true _ (le-leb q k (omega arith)))
-
-      late : count (λ (x : Place). both (of m x) (leb (e .sequence) (number x))) (p .places) ≤ count (from q) (p .places)
-      late = count-le (λ (x : Place). both (of m x) (leb (e .sequence) (number x))) (from q) (λ x. go (ltb 0 (x .mark)) (eqb (x .entry .link) m) (x .entry .sequence)) (p .places)
+  none-later : of m (made e) ≡ true → count (λ (y : Place). leb (e .sequence) (number y)) (recordsIn (p .places) m) ≡ 0
+  none-later t =
+      omega (
+        arith,
+        records-count (λ (y : Place). leb (e .sequence) (number y)) (p .places) m,
+        from-less m (q m) (e .sequence) (next-below t) (p .places),
+        inv .fresh m,
+      )
 
   appended : insertIf (of m (made e)) (made e) (recordsIn (p .places) m) ≡ recordsIn (p .places) m ++ tail
-  appended = go (eqb (e .link) m)
+  appended = go (eqb (e .link) m) refl
     where
-      go : (t : Bool) → insertIf t (made e) (recordsIn (p .places) m) ≡ recordsIn (p .places) m ++ pick t (made e ∷ []) []
-      go true = insert-last (made e) (recordsIn (p .places) m) none-later
-      go false = sym (append-nil (recordsIn (p .places) m))
+      go : (t : Bool) → eqb (e .link) m ≡ t → insertIf t (made e) (recordsIn (p .places) m) ≡ recordsIn (p .places) m ++ pick t (made e ∷ []) []
+      go true d = insert-last (made e) (recordsIn (p .places) m) (none-later d)
+      go false d = sym (append-nil (recordsIn (p .places) m))
 
   -- the place was not m's
   not-mine : of m (here .old) ≡ false → recordsIn then m ≡ recordsIn (p .places) m ++ tail
@@ -87,16 +85,16 @@ module _ (n : ℕ) (small : 16 * n ≤ 128) (p : Pool) (q : ℕ) (inv : Inv n p 
   was-mine : Eldest m (p .places) (here .old) → 0 < heldIn (p .places) m → recordsIn then m ≡ drop 1 (recordsIn (p .places) m) ++ tail
   was-mine v h =
       let c : count (fits (Older m (number (here .old)))) then ≡ 0 =
-      omega (arith, change n small p q inv e mine rises fits32 (fits (Older m (number (here .old)))), v .none-older, not-under (of m (made e))) in
+      omega (arith, change n small p q inv e mine rises fits32 (fits (Older m (number (here .old)))), v .none-older, not-under (of m (made e)) refl) in
       let f : insert (here .old) (recordsIn then m) ≡ here .old ∷ recordsIn then m =
       insert-first (here .old) (recordsIn then m) (records-count (λ (y : Place). ltb (number y) (number (here .old))) then m ∙ c) in
       let k : insert (here .old) (recordsIn then m) ≡ recordsIn (p .places) m ++ tail =
       subst (λ (t : Bool). insertIf t (here .old) (recordsIn then m) ≡ insertIf (of m (made e)) (made e) (recordsIn (p .places) m)) (v .mine) key ∙ appended in
       tail-eq (here .old) (recordsIn then m) (recordsIn (p .places) m) tail (omega (arith, records-length (p .places) m)) (sym f ∙ k)
     where
-      not-under : (t : Bool) → bit (both t (ltb (e .sequence) (number (here .old)))) ≡ 0
-      not-under false = refl
-      not-under true = bit-ge (e .sequence) (number (here .old)) (omega (arith, old-below n small p q inv e mine rises fits32 m (v .mine)))
+      not-under : (t : Bool) → of m (made e) ≡ t → bit (both t (ltb (e .sequence) (number (here .old)))) ≡ 0
+      not-under false d = refl
+      not-under true d = bit-ge (e .sequence) (number (here .old)) (omega (arith, old-below n small p q inv e mine rises fits32 m (v .mine), next-below d))
 
   -- the place was w's, whose oldest stood there
   by-owner : (w : ℕ) → Eldest w (p .places) (here .old) → 0 < heldIn (p .places) w → (t : Bool) → eqb w m ≡ t

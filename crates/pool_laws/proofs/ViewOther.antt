@@ -15,7 +15,7 @@ use Rattle.pool_laws.proofs.Insert.{number, without-insert, without-non
 use Rattle.pool_laws.proofs.Records.{records-count, records-set, records-map}
 
 -- a record of one link is of no other
-other-link : (l m : ℕ) (x : Place) → of l x ≡ true → eqb l m ≡ false → of m x ≡ false
+pub other-link : (l m : ℕ) (x : Place) → of l x ≡ true → eqb l m ≡ false → of m x ≡ false
 other-link l m x o d = rw (of-used l x o) (ne-eqb _ m (λ s. eqb-false l m d (sym (of-link l x o) ∙ s)))
 
 same-link : (l m : ℕ) (x : Place) → of m x ≡ true → of l x ≡ eqb l m

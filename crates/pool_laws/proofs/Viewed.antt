@@ -11,6 +11,7 @@ use Rattle.pool_laws.specs.Views.{Views}
 use Rattle.pool_laws.proofs.Fullest.{every-place, total-same}
 use Rattle.pool_laws.proofs.Inv.{Inv, starts}
 use Rattle.pool_laws.proofs.Other.{lost-same, settle-less, mark-alike, unmark-alike}
+use Rattle.pool_laws.proofs.Clear.{clear-view, clear-lost}
 use Rattle.pool_laws.proofs.Insert.{number, under}
 use Rattle.pool_laws.proofs.Records.{records-length, records-count}
 use Rattle.pool_laws.proofs.ViewIssue.{issue-view, issue-view-lost}
@@ -39,18 +40,18 @@ asks-alarm p m k =
     newest-view (fits (Alarm m k)) m (λ x t. both-first (of m x) (ofAlarm k x) t) 0 (p .places)
     ∙ last-mine m (ofAlarm k) (records p m) (records-mine (p .places) m)
 
-asks-rank : (n q : ℕ) (p : Pool) → Inv n p q → (m r : ℕ) → rankedOf p m r ≡ nth r (records p m)
+asks-rank : (n : ℕ) (q : ℕ → ℕ) (p : Pool) → Inv n p q → (m r : ℕ) → rankedOf p m r ≡ nth r (records p m)
 asks-rank n q p i m r =
     oldest-view (rankIs (p .places) m r) m (λ x t. both-first (of m x) _ t) 0 (p .places)
     ∙ first-mine m (λ (x : Place). eqb (count (fits (Older m (number x))) (p .places)) r) (records p m) (records-mine (p .places) m)
     ∙ first-same _ (λ (x : Place). eqb (count (fits (Older m (number x))) (p .places)) (0 + r)) (λ x. ap (eqb (count (fits (Older m (number x))) (p .places))) zero-first) (records p m)
-    ∙ rank-nth m q 0 0 r (λ (j : ℕ). count (fits (Older m j)) (p .places)) (records p m) (records-order n q p i m)
+    ∙ rank-nth m (q m) 0 0 r (λ (j : ℕ). count (fits (Older m j)) (p .places)) (records p m) (records-order n q p i m)
     (λ j h. omega (arith, records-count (under j) (p .places) m))
   where
     zero-first : r ≡ 0 + r
     zero-first = omega arith
 
-room-view : (n q : ℕ) (p : Pool) → Inv n p q → total (holds (records p)) n ≤ 128
+room-view : (n : ℕ) (q : ℕ → ℕ) (p : Pool) → Inv n p q → total (holds (records p)) n ≤ 128
 room-view n q p i =
     omega (arith, every-place n (p .places), i .size, total-same (heldIn (p .places)) (holds (records p)) (λ j. sym (records-length (p .places) j)) n)
 
@@ -60,7 +61,7 @@ module _ (n : ℕ) (small : 16 * n ≤ 128) where
   viewed =
       record {
         start = λ m. none-held 128 m;
-        start-lost = λ m. omega (arith, starts n 0 (omega arith) .lost m);
+        start-lost = λ m. omega (arith, starts n (λ l. 0) (λ l. omega arith) .lost m);
         held = λ p m. sym (records-length (p .places) m);
         room = λ p q r. room-view n q p (reached-keeps n small p q r);
         counted = λ p m g. sym (records-count g (p .places) m);
@@ -73,6 +74,8 @@ module _ (n : ℕ) (small : 16 * n ≤ 128) where
         mark-lost = λ p l k m. lost-same p (markOf p l k) (mark-alike p l k .lost) m;
         unmark = λ p l m. unmark-view p l m;
         unmark-lost = λ p l m. lost-same p (unmarkOf p l) (unmark-alike p l .lost) m;
+        clear = clear-view;
+        clear-lost = clear-lost;
         oldest-unsent = λ p m. asks-unsent p m;
         newest-alarm = λ p m k. asks-alarm p m k;
         ranked = λ p q r m k. asks-rank n q p (reached-keeps n small p q r) m k;

@@ -1,4 +1,4 @@
--- Several records issued in one call: a list of them, the first first, each under the site's next sequence number. For n links; the code has four.
+-- Several records issued in one call: a list of them, the first first, each under its site's next sequence number. For n owners; the code has eight.
 -- Assumes nothing.
 use Prim.Native.Nat.{ℕ, _%_}
 use mathlib.Core.Bool.{Bool, true, false}
@@ -18,7 +18,7 @@ either false b = b
 abbrev pub renumbered : Entry → ℕ → Entry
 renumbered e q = record { time = e .time; value = e .value; sequence = q; link = e .link; kind = e .kind; item = e .item; flags = e .flags }
 
--- a record's number has 32 bits; a batch that takes a higher one is spent, and a call refuses it
+-- a record's number has 31 bits; a batch that takes a higher one is spent, and a call refuses it
 abbrev pub under : Entry → ℕ → Entry
 under e q = renumbered e (q % 2147483648)
 

@@ -6,7 +6,7 @@ use mathlib.Core.Bool.{Bool, true, false}
 use mathlib.Core.List.{List, [], _∷_, _++_}
 use lib.Dec.{ltb}
 use lib.ListN.{length}
-use Rattle.basis.specs.Pick.{both}
+use Rattle.basis.specs.Pick.{pick, both}
 use Rattle.entry.specs.declared.Entry.{Entry}
 use Rattle.pool.specs.declared.Place.{Place}
 use Rattle.pool.specs.declared.Pool.{Pool}
@@ -29,12 +29,16 @@ abbrev pub issues : List Entry → List Act
 issues [] = []
 issues (e ∷ es) = Issue e ∷ issues es
 
--- every record is for one of the n links
-abbrev pub Owned : ℕ → List Entry → Type 0
-Owned n [] = Unit {0}
-Owned n (e ∷ es) = (e .link < n) × Owned n es
+-- every record is for one of the n owners, and for one of the site's
+abbrev pub Owned : ℕ → (ℕ → Bool) → List Entry → Type 0
+Owned n own [] = Unit {0}
+Owned n own (e ∷ es) = (e .link < n) × ((own (e .link) ≡ true) × Owned n own es)
 
--- each link's records after all the issues, and how many of them link m loses
+-- the owners of one site have the next number k together; of the others q says it
+abbrev pub together : (ℕ → Bool) → ℕ → (ℕ → ℕ) → ℕ → ℕ
+together own k q l = pick (own l) k (q l)
+
+-- each owner's records after all the issues, and how many of them owner m loses
 abbrev pub viewAll : ℕ → (ℕ → List Place) → List Entry → ℕ → List Place
 viewAll n v [] = v
 viewAll n v (e ∷ es) = viewAll n (issueView n v e) es
@@ -57,14 +61,15 @@ pub record Laws (n : ℕ) : Type 0 where
   -- the records are issued under the numbers q, q + 1, ..
   pub pool : (p : Pool) (q : ℕ) (es : List Entry) → Lasting q es → issuedAll n p q es .pool ≡ acts n p (issues (numbered q es))
   -- these numbers rise, so what holds of every list of acts holds of them
-  pub rising : (q : ℕ) (es : List Entry) → Owned n es → Lasting q es → Rising n q (issues (numbered q es))
-  -- from a pool that the site reaches it reaches another
-  pub reached : (p : Pool) (q : ℕ) → Reached n p q → (es : List Entry) → Owned n es → Lasting q es → Reached n (issuedAll n p q es .pool) (q + length es)
-  -- before no record of the list is the pool crowded for its link
-  pub uncrowded : (p : Pool) (q : ℕ) → Reached n p q → (es : List Entry) → Owned n es → Lasting q es
+  pub rising : (own : ℕ → Bool) (r : ℕ → ℕ) (q : ℕ) (es : List Entry) → Owned n own es → Lasting q es → Rising n (together own q r) (issues (numbered q es))
+  -- from a pool that the sites reach they reach another
+  pub reached : (own : ℕ → Bool) (r : ℕ → ℕ) (p : Pool) (q : ℕ) → Reached n p (together own q r) → (es : List Entry) → Owned n own es → Lasting q es
+      → Reached n (issuedAll n p q es .pool) (together own (q + length es) r)
+  -- before no record of the list is the pool crowded for its owner
+  pub uncrowded : (own : ℕ → Bool) (r : ℕ → ℕ) (p : Pool) (q : ℕ) → Reached n p (together own q r) → (es : List Entry) → Owned n own es → Lasting q es
       → (xs : List Entry) (e : Entry) (ys : List Entry) → es ≡ xs ++ e ∷ ys → Crowded n (issuedAll n p q xs .pool) (e .link) → ⊥
-  -- each link's records, and what each loses, are functions of the view
-  pub view : (p : Pool) (q : ℕ) → Reached n p q → (es : List Entry) → Owned n es → Lasting q es → (m : ℕ)
+  -- each owner's records, and what each loses, are functions of the view
+  pub view : (own : ℕ → Bool) (r : ℕ → ℕ) (p : Pool) (q : ℕ) → Reached n p (together own q r) → (es : List Entry) → Owned n own es → Lasting q es → (m : ℕ)
       → records (issuedAll n p q es .pool) m ≡ viewAll n (records p) (numbered q es) m
-  pub lost : (p : Pool) (q : ℕ) → Reached n p q → (es : List Entry) → Owned n es → Lasting q es → (m : ℕ)
+  pub lost : (own : ℕ → Bool) (r : ℕ → ℕ) (p : Pool) (q : ℕ) → Reached n p (together own q r) → (es : List Entry) → Owned n own es → Lasting q es → (m : ℕ)
       → lostOf (issuedAll n p q es .pool) m ≡ lostOf p m + lossesAll n (records p) (numbered q es) m

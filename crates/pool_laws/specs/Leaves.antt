@@ -13,15 +13,15 @@ use Rattle.pool.specs.Places.{of, fits}
 use Rattle.pool_laws.specs.Acts.{Act, act}
 use Rattle.pool_laws.specs.Acts.Act.{Issue, Settle, Mark, Unmark}
 
--- the record of link m numbered k is held
+-- the record of owner m numbered k is held
 abbrev pub Held : Pool → ℕ → ℕ → Type 0
 Held p m k = 0 < count (fits (Numbered m k)) (p .places)
 
--- it holds a record of link m that the pool r does not hold
+-- it holds a record of owner m that the pool r does not hold
 abbrev pub gone : Pool → ℕ → Place → Bool
 gone r m x = both (of m x) (eqb (count (fits (Numbered m (x .entry .sequence))) (r .places)) 0)
 
--- how many records of link m the acts made leave, those of a settle not counted
+-- how many records of owner m the acts made leave, those of a settle not counted
 unfoldable pub leftOver : ℕ → Pool → List Act → ℕ → ℕ
 leftOver n p [] m = 0
 leftOver n p (Issue e ∷ xs) m = count (gone (act n p (Issue e)) m) (p .places) + leftOver n (act n p (Issue e)) xs m

@@ -1,4 +1,4 @@
--- The view of the pool: each link's records, oldest first, each with its mark (1 not sent, 2 sent). No place's index appears here,
+-- The view of the pool: each owner's records, oldest first, each with its mark (1 not sent, 2 sent). No place's index appears here,
 -- and what every act does to the view and to the lost counts is a function of the view alone.
 -- Assumes nothing.
 use Prim.Native.Nat.{ℕ, zero, suc, _+_, _-_}
@@ -30,11 +30,11 @@ unfoldable pub recordsIn : List Place → ℕ → List Place
 recordsIn [] l = []
 recordsIn (x ∷ p) l = insertIf (of l x) x (recordsIn p l)
 
--- the records of link l, oldest first
+-- the records of owner l, oldest first
 abbrev pub records : Pool → ℕ → List Place
 records p l = recordsIn (p .places) l
 
--- the sum over the links below n
+-- the sum over the owners below n
 unfoldable pub total : (ℕ → ℕ) → ℕ → ℕ
 total held zero = 0
 total held (suc k) = total held k + held k
@@ -71,7 +71,7 @@ sentIf k x = pick (eqb (x .entry .sequence) k) (record { entry = x .entry; mark 
 abbrev pub unsent : Place → Place
 unsent x = record { entry = x .entry; mark = 1 }
 
--- ---- what is read, on one link's records
+-- ---- what is read, on one owner's records
 unfoldable pub firstWhere : (Place → Bool) → List Place → Sought
 firstWhere f [] = Nothing
 firstWhere f (x ∷ l) = pick (f x) (Found x) (firstWhere f l)

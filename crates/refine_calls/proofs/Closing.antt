@@ -10,6 +10,7 @@ use Rattle.machine.specs.Life.{close, closeAll, isLate}
 use Rattle.machine.specs.Effects.{late}
 use Rattle.demand_held.proofs.Lists.{Each, each-keep, each-below}
 use Rattle.demand_held.proofs.Lists.Each.{no-more, one-more}
+use Rattle.refine_parts.specs.Same.{Beside}
 use Rattle.refine_parts.proofs.Questions.{questions}
 use Rattle.refine_parts.proofs.ItemLists.{getD-changed-other, append-nil}
 use Rattle.refine_calls.specs.Abstracts.{Abstracts}
@@ -63,7 +64,7 @@ getD-past [] i d h = refl
 getD-past (x ∷ xs) zero d h = absurd (omega arith)
 getD-past (x ∷ xs) (suc i) d h = getD-past xs i d (omega arith)
 
-module _ (s : Site) (m : Machine) (h : Abstracts s m) (t : ℕ) where
+module _ {beside : Beside} (s : Site) (m : Machine) (h : Abstracts beside s m) (t : ℕ) where
   abbrev isClosed : ℕ → Bool
   isClosed l = isLate t (lifeAt m l)
 
@@ -85,13 +86,13 @@ module _ (s : Site) (m : Machine) (h : Abstracts s m) (t : ℕ) where
   closedBelow n = closeAll (keep isClosed (upTo n)) m
 
   -- one more link
-  module _ (n : ℕ) (before : Abstracts (closedTo s t n) (closedBelow n)) where
+  module _ (n : ℕ) (before : Abstracts beside (closedTo s t n) (closedBelow n)) where
     late-now : lateAt (closedTo s t n) n t ≡ isClosed n
     late-now =
         questions .waits (linkAt (closedTo s t n) n) (lifeAt (closedBelow n) n) (before .lives n) .late t
         ∙ ap (isLate t) (all-below n (keep isClosed (upTo n)) m (each-keep isClosed (each-below n)))
 
-    closed-if : (b : Bool) → isClosed n ≡ b → Abstracts (pick b (closeAt (closedTo s t n) n) (closedTo s t n)) (closeAll (pick b (n ∷ []) []) (closedBelow n))
+    closed-if : (b : Bool) → isClosed n ≡ b → Abstracts beside (pick b (closeAt (closedTo s t n) n) (closedTo s t n)) (closeAll (pick b (n ∷ []) []) (closedBelow n))
     closed-if true e =
         closed (closedTo s t n) (closedBelow n) before n
         (subst (λ (u : Setup). n < u .links) (sym (all-setup (keep isClosed (upTo n)) m)) (configured n e))
@@ -102,14 +103,14 @@ module _ (s : Site) (m : Machine) (h : Abstracts s m) (t : ℕ) where
         ap (λ (ls : List ℕ). closeAll ls m) (keep-last isClosed (upTo n) n)
         ∙ close-more (keep isClosed (upTo n)) (pick (isClosed n) (n ∷ []) []) m
 
-    one-closed : Abstracts (closeLate (closedTo s t n) n t) (closedBelow (suc n))
+    one-closed : Abstracts beside (closeLate (closedTo s t n) n t) (closedBelow (suc n))
     unfolding closeLate
     one-closed =
-        subst (λ (k : Machine). Abstracts (pick (lateAt (closedTo s t n) n t) (closeAt (closedTo s t n) n) (closedTo s t n)) k) (sym now-closed)
-        (subst (λ (b : Bool). Abstracts (pick b (closeAt (closedTo s t n) n) (closedTo s t n)) (closeAll (pick (isClosed n) (n ∷ []) []) (closedBelow n)))
+        subst (λ (k : Machine). Abstracts beside (pick (lateAt (closedTo s t n) n t) (closeAt (closedTo s t n) n) (closedTo s t n)) k) (sym now-closed)
+        (subst (λ (b : Bool). Abstracts beside (pick b (closeAt (closedTo s t n) n) (closedTo s t n)) (closeAll (pick (isClosed n) (n ∷ []) []) (closedBelow n)))
         (sym late-now) (closed-if (isClosed n) refl))
 
-  closed-below : (n : ℕ) → Abstracts (closedTo s t n) (closedBelow n)
+  closed-below : (n : ℕ) → Abstracts beside (closedTo s t n) (closedBelow n)
   closed-below zero = h
   closed-below (suc n) = one-closed n (closed-below n)
 
@@ -119,8 +120,8 @@ module _ (s : Site) (m : Machine) (h : Abstracts s m) (t : ℕ) where
       let e : m .setup .links + (4 - m .setup .links) ≡ 4 = omega (arith, h .items .setup .few) in
       subst (λ (n : ℕ). keep isClosed (upTo n) ≡ late t m) e (keep-beyond isClosed (m .setup .links) (4 - m .setup .links) none-beyond)
 
-  pub all-closed : Abstracts (closedTo s t 4) (closeAll (late t m) m)
-  all-closed = subst (λ (ls : List ℕ). Abstracts (closedTo s t 4) (closeAll ls m)) late-of-four (closed-below 4)
+  pub all-closed : Abstracts beside (closedTo s t 4) (closeAll (late t m) m)
+  all-closed = subst (λ (ls : List ℕ). Abstracts beside (closedTo s t 4) (closeAll ls m)) late-of-four (closed-below 4)
 
   -- ---- the links closed, as a report has them
   mask-if : (n : ℕ) (b : Bool) → pick b (maskOf n) 0 ≡ maskFor (pick b (n ∷ []) [])

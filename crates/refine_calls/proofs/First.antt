@@ -1,6 +1,7 @@
 -- The site that start makes is the machine that begins.
 -- Assumes nothing.
 use Rattle.basis.proofs.Std.{ℕ, zero, suc, _+_, _*_, _<_, _≡_, refl, sym, ap, _∙_, true, false, List, [], _∷_, map, Option, none, arith, ℤ, length, getD, replicate, length-replicate, getD-replicate, List·getD-map}
+use Rattle.pool.specs.declared.Pool.{Pool}
 use Rattle.alarm.specs.Alarm.{beginning}
 use Rattle.status.specs.Status.{unknown}
 use Rattle.subscription.specs.Subscription.{none as noSubscription}
@@ -11,11 +12,12 @@ use Rattle.table_whole.specs.Memory.{memoryOf}
 use Rattle.call_start.specs.Fresh.{fresh as freshSite, primaryOf}
 use Rattle.call_start.specs.Starts.{Within}
 use Rattle.machine.specs.Words.{maybe}
-use Rattle.machine.specs.State.{Alarm, alarmOf, fresh}
+use Rattle.machine.specs.State.{Alarm, alarmOf, fresh, Pool as Listed}
 use Rattle.machine.specs.State.Event.{Issue}
 use Rattle.machine.specs.Table.{first}
+use Rattle.machine.specs.Box.{withPool}
 use Rattle.demand_held.proofs.Lists.{length-map}
-use Rattle.refine_parts.proofs.Same.{same-acts}
+use Rattle.refine_parts.specs.Same.{Beside, SamePool}
 use Rattle.refine_parts.specs.Life.{SameLife}
 use Rattle.refine_parts.proofs.LifeLists.{among-none}
 use Rattle.refine_parts.proofs.LifeActs.{no-life}
@@ -48,8 +50,8 @@ no-value rows i = List·getD-map noValue rows i noRow
 all-down : (n k l : ℕ) → SameLife (getD (replicate n closedLink) l closedLink) (getD (replicate k (fresh false)) l (fresh false))
 all-down n k l = rw (all-alike n l closedLink, all-alike k l (fresh false)) no-life
 
-module _ (edition : ℕ) (t : Table) (v : Allowed edition t) (table : List ℕ) (links primary period q time : ℕ) (w : Within links primary period q time) where
-  first-items : SameItems (freshSite (memoryOf t) links (primaryOf primary) period q time) (first t (startFor table links primary period q time))
+module _ (edition : ℕ) (t : Table) (v : Allowed edition t) (p : Pool) (k : ℕ) (table : List ℕ) (links primary period q time : ℕ) {site : ℕ} (w : Within site links primary period q time) (other : Listed) where
+  first-items : SameItems (freshSite p k (memoryOf t) links (primaryOf primary) period q time) (withPool other (first t (startFor k table links primary period q time)))
   unfolding freshSite
   first-items =
       record {
@@ -81,14 +83,16 @@ module _ (edition : ℕ) (t : Table) (v : Allowed edition t) (table : List ℕ) 
         subscription-places = length-replicate 128 noSubscription;
       }
 
-  pub first-same : Abstracts (freshSite (memoryOf t) links (primaryOf primary) period q time) (first t (startFor table links primary period q time))
+  -- where its pool is the machine's
+  pub first-same : {beside : Beside} → SamePool links beside k p q other
+      → Abstracts beside (freshSite p k (memoryOf t) links (primaryOf primary) period q time) (withPool other (first t (startFor k table links primary period q time)))
   unfolding freshSite
-  first-same =
+  first-same same =
       record {
         items = first-items;
         last = refl;
         link-places = length-replicate 4 closedLink;
         life-count = length-replicate links (fresh false);
         lives = all-down 4 links;
-        pool = same-acts links (w .most-links) .start q (w .highest-first);
+        pool = same;
       }

@@ -16,6 +16,7 @@ use Rattle.demand_held.specs.Held.{packetLink}
 use Rattle.demand_held.proofs.Lists.{Each}
 use Rattle.demand_held.proofs.Issue.{For}
 use Rattle.demand_held.proofs.Lays.{lays}
+use Rattle.refine_parts.specs.Same.{Beside}
 use Rattle.refine_parts.proofs.Questions.{questions}
 use Rattle.refine_parts.specs.Items.{SameUp, SameEffect}
 use Rattle.refine_parts.specs.ItemActs.{SameInputs}
@@ -41,7 +42,7 @@ there : (x a b : Bool) → pick {A = Option ℕ} x (some 3) (pick a (some 5) (pi
 there true a b e = none-some (sym e)
 there false a b e = refl
 
-module _ (s : Site) (m : Machine) (h : Abstracts s m) where
+module _ {beside : Beside} (s : Site) (m : Machine) (h : Abstracts beside s m) where
   alarm-count : s .table .alarmcount ≡ length (m .setup .table .alarms)
   alarm-count = ap (λ (t : SiteTable). t .alarmcount) (h .items .setup .table)
 
@@ -66,14 +67,14 @@ module _ (s : Site) (m : Machine) (h : Abstracts s m) where
     unfolding effectOf
     alarm-links = for-links t (alarmInput i active) refl
 
-    alarm-same : SameCall s m (alarm i active t)
+    alarm-same : SameCall beside s m (alarm i active t)
     unfolding conditions effectOf
     alarm-same =
         record {
           number =
               rw alarm-count
               (same-numbers (leb (length (m .setup .table .alarms)) i) (same-time s m h t)
-              (λ e. same-spent s m h (alarmPlan s i active t) (happens m i (withInput active t (alarmAt m i))) refl (alarm-effect e .records)));
+              (λ e. same-spent s m h (alarmPlan s i active t) (happens m i (withInput active t (alarmAt m i))) refl refl (alarm-effect e .records)));
           plan = λ e.
               items-plan s m h _ _ _ _ _ (happens m i (withInput active t (alarmAt m i))) (of-happens m i (withInput active t (alarmAt m i))) alarm-links
               (alarm-effect (there (leb (length (m .setup .table .alarms)) i) (badTime m t) (sequenceEnds m (happens m i (withInput active t (alarmAt m i)))) e));
@@ -88,14 +89,14 @@ module _ (s : Site) (m : Machine) (h : Abstracts s m) where
     unfolding effectOf
     status-links = for-links t (statusValue i v) refl
 
-    status-same : SameCall s m (status i v t)
+    status-same : SameCall beside s m (status i v t)
     unfolding conditions effectOf
     status-same =
         record {
           number =
               rw status-count
               (same-numbers (leb (length (m .setup .table .statuses)) i) (same-time s m h t)
-              (λ e. same-spent s m h (statusPlan s i v t) (becomes m i v t) refl (status-effect e .records)));
+              (λ e. same-spent s m h (statusPlan s i v t) (becomes m i v t) refl refl (status-effect e .records)));
           plan = λ e.
               items-plan s m h _ _ _ _ _ (becomes m i v t) (of-becomes m i v t) status-links
               (status-effect (there (leb (length (m .setup .table .statuses)) i) (badTime m t) (sequenceEnds m (becomes m i v t)) e));
@@ -110,15 +111,15 @@ module _ (s : Site) (m : Machine) (h : Abstracts s m) where
     unfolding effectOf
     aggregated-links = for-links t (aggregatedValue v) refl
 
-    aggregated-same : SameCall s m (aggregated v t)
+    aggregated-same : SameCall beside s m (aggregated v t)
     unfolding conditions effectOf
     aggregated-same =
         record {
-          number = same-numbers false (same-time s m h t) (λ e. same-spent s m h (aggregatedPlan s v t) (aggregates m v t) refl (aggregated-effect .records));
+          number = same-numbers false (same-time s m h t) (λ e. same-spent s m h (aggregatedPlan s v t) (aggregates m v t) refl refl (aggregated-effect .records));
           plan = λ e. items-plan s m h _ _ _ _ _ (aggregates m v t) (of-aggregates m v t) aggregated-links aggregated-effect;
         }
 
 pub input-calls : InputCalls
-input-calls s m h c (of-alarm i active t) u = alarm-same s m h i active t
-input-calls s m h c (of-status i v t) u = status-same s m h i v u t
-input-calls s m h c (of-aggregated v t) u = aggregated-same s m h v u t
+input-calls beside s m h c (of-alarm i active t) u = alarm-same s m h i active t
+input-calls beside s m h c (of-status i v t) u = status-same s m h i v u t
+input-calls beside s m h c (of-aggregated v t) u = aggregated-same s m h v u t

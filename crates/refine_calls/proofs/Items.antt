@@ -14,6 +14,7 @@ use Rattle.machine.specs.Items.{isNew, happens, intervals, becomes, aggregates}
 use Rattle.machine.specs.Step.{sequenceEnds}
 use Rattle.demand_held.proofs.Lists.{Each}
 use Rattle.demand_held.proofs.Issue.{For}
+use Rattle.refine_parts.specs.Same.{Beside}
 use Rattle.refine_parts.proofs.Same.{same-answers}
 use Rattle.refine_parts.specs.Items.{SameItems, SameIssued, SameEffect}
 use Rattle.refine_calls.specs.Abstracts.{Abstracts}
@@ -21,9 +22,9 @@ use Rattle.refine_calls.specs.Calls.{SamePlan}
 use Rattle.refine_calls.specs.Calls.SameCommands.{no-command}
 
 -- number 10: the records are counted on from the number that the call finds
-pub same-spent : (s : Site) (m : Machine) → Abstracts s m → (p : Plan) (e : Effect) → p .site .next ≡ s .next → SameIssued p (e .issues)
+pub same-spent : {beside : Beside} (s : Site) (m : Machine) → Abstracts beside s m → (p : Plan) (e : Effect) → p .site .next ≡ s .next → p .site .site ≡ s .site → SameIssued p (e .issues)
     → batchOf p .spent ≡ sequenceEnds m e
-same-spent s m h p e n r = rw (n, r .issued) (same-answers m (h .pool) .spent (p .site .pool) e)
+same-spent s m h p e n i r = rw (n, r .issued, i) (same-answers m (h .pool) .spent (p .site .pool) e)
 
 -- nothing but the items is other than before
 pub record OfItems (m : Machine) (e : Effect) : Type 0 where
@@ -63,11 +64,11 @@ pub of-intervals : (t : ℕ) (m : Machine) → OfItems m (intervals t m)
 unfolding intervals
 of-intervals t m = with-items m _ _ refl refl refl refl
 
-module _ (s : Site) (m : Machine) (h : Abstracts s m) (xs : List Slot) (vs : List AlarmWord) (ks : List Status) (g : Aggregated) where
+module _ {beside : Beside} (s : Site) (m : Machine) (h : Abstracts beside s m) (xs : List Slot) (vs : List AlarmWord) (ks : List Status) (g : Aggregated) where
   abbrev changed : Site
   changed = site s (s .pool) (s .links) xs vs ks g (s .next) (s .last)
 
-  pub items-changed : (e : Effect) → OfItems m e → SameItems changed (e .leaves) → Abstracts changed (e .leaves)
+  pub items-changed : (e : Effect) → OfItems m e → SameItems changed (e .leaves) → Abstracts beside changed (e .leaves)
   items-changed e o i =
       record {
         items = i;
@@ -78,7 +79,7 @@ module _ (s : Site) (m : Machine) (h : Abstracts s m) (xs : List Slot) (vs : Lis
         pool = rw (o .setup, o .pool) (h .pool);
       }
 
-  pub items-plan : (es : List Entry) (e : Effect) → OfItems m e → Each (For (m .setup .links)) (e .issues) → SameEffect (issues changed es) e → SamePlan (issues changed es) e
+  pub items-plan : (es : List Entry) (e : Effect) → OfItems m e → Each (For (m .setup .links)) (e .issues) → SameEffect (issues changed es) e → SamePlan beside (issues changed es) e
   items-plan es e o f q =
       record {
         leaves = items-changed e o (q .items);

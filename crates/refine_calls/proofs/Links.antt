@@ -11,6 +11,7 @@ use Rattle.machine.specs.Life.{isGreeting, isBeating}
 use Rattle.machine.specs.Effects.{connects as connecting, closes as closing, effectOf}
 use Rattle.machine.specs.Step.{noSuchLink, badTime, isDownAt, conditions}
 use Rattle.demand_held.proofs.Lists.Each.{no-more}
+use Rattle.refine_parts.specs.Same.{Beside}
 use Rattle.refine_parts.proofs.Questions.{same-phase}
 use Rattle.refine_parts.proofs.LifeActs.{acts}
 use Rattle.refine_calls.specs.Abstracts.{Abstracts}
@@ -21,7 +22,7 @@ use Rattle.refine_calls.specs.Links.OfLink.{connects, disconnects}
 use Rattle.refine_calls.proofs.Parts.{with-life, closed}
 
 -- ---- numbers 2, 5 and 6
-module _ (s : Site) (m : Machine) (h : Abstracts s m) where
+module _ {beside : Beside} (s : Site) (m : Machine) (h : Abstracts beside s m) where
   pub same-link : (l : ℕ) → noLinkAt s l ≡ noSuchLink m l
   same-link l =
       bool-cases (ltb l 4)
@@ -51,8 +52,8 @@ not-not : (c : Bool) → not (not c) ≡ false → c ≡ false
 not-not true e = e
 not-not false e = refl
 
-module _ (s : Site) (m : Machine) (h : Abstracts s m) (l t : ℕ) where
-  connect-same : SameCall s m (connect l t)
+module _ {beside : Beside} (s : Site) (m : Machine) (h : Abstracts beside s m) (l t : ℕ) where
+  connect-same : SameCall beside s m (connect l t)
   unfolding conditions effectOf connecting
   connect-same =
       record {
@@ -75,7 +76,7 @@ module _ (s : Site) (m : Machine) (h : Abstracts s m) (l t : ℕ) where
       by a b true = refl
       by a b false = refl
 
-  disconnect-same : SameCall s m (disconnect l t)
+  disconnect-same : SameCall beside s m (disconnect l t)
   unfolding conditions effectOf closing
   disconnect-same =
       record {
@@ -94,5 +95,5 @@ module _ (s : Site) (m : Machine) (h : Abstracts s m) (l t : ℕ) where
       }
 
 pub link-calls : LinkCalls
-link-calls s m h c (connects l t) u = connect-same s m h l t
-link-calls s m h c (disconnects l t) u = disconnect-same s m h l t
+link-calls beside s m h c (connects l t) u = connect-same s m h l t
+link-calls beside s m h c (disconnects l t) u = disconnect-same s m h l t

@@ -12,7 +12,7 @@ use Rattle.link.specs.declared.Role.the-variants.{Primary, Secondary}
 use Rattle.link.specs.Due.{dueOf}
 use Rattle.table_whole.specs.declared.SiteTable.{SiteTable}
 use Rattle.site.specs.declared.Site.{Site}
-use Rattle.site.specs.Site.{roleOf, linkAt}
+use Rattle.site.specs.Site.{roleOf, linkAt, ownerOf}
 use Rattle.site.specs.Call.{issuing}
 use Rattle.call_pump.specs.Pump.{isHeld, dueAt, isNothing, pumpRefuses}
 use Rattle.call_laws.specs.Calls.Call.{pump}
@@ -21,6 +21,7 @@ use Rattle.machine.specs.State.{Held, Machine, lifeAt}
 use Rattle.machine.specs.Life.{Due, oldestUnsent as oldestUnsentOf, due}
 use Rattle.machine.specs.Life.Due.{theVersion, theWatchdog, theAggregated, theAlarm, theHeld}
 use Rattle.machine.specs.Step.{noSuchLink, conditions, numberOf}
+use Rattle.refine_parts.specs.Same.{Beside}
 use Rattle.refine_parts.specs.Questions.{roleIn, kindOf}
 use Rattle.refine_parts.proofs.Questions.{questions}
 use Rattle.refine_parts.specs.Record.{found}
@@ -40,11 +41,11 @@ is-nothing (some theAggregated) = refl
 is-nothing (some (theAlarm i)) = refl
 is-nothing (some (theHeld h)) = refl
 
-is-held : (o : Option Held) → isHeld (found o) ≡ isSome o
-is-held none = refl
-is-held (some x) = refl
+is-held : (k : ℕ) (o : Option Held) → isHeld (found k o) ≡ isSome o
+is-held k none = refl
+is-held k (some x) = refl
 
-module _ (s : Site) (m : Machine) (h : Abstracts s m) (l : ℕ) where
+module _ {beside : Beside} (s : Site) (m : Machine) (h : Abstracts beside s m) (l : ℕ) where
   -- the site keeps 65535 where there is no primary; a configured link is below 4
   same-role : l < m .setup .links → roleOf s l ≡ roleIn m l
   same-role b = ap (λ (p : ℕ). pick (eqb l p) Primary Secondary) (h .items .setup .primary) ∙ by (m .setup .primary)
@@ -57,7 +58,7 @@ module _ (s : Site) (m : Machine) (h : Abstracts s m) (l : ℕ) where
   due-same b t =
       due-by (linkAt s l) t (h .items .setup .period) (same-role b)
       (ap (λ (x : SiteTable). x .alarmcount) (h .items .setup .table) ∙ sym (h .items .alarm-count))
-      (ap isHeld (same-answers m (h .pool) .oldest-unsent l) ∙ is-held (oldestUnsentOf m l))
+      (ap isHeld (same-answers m (h .pool) .oldest-unsent l) ∙ is-held (ownerOf s l) (oldestUnsentOf m l))
       ∙ questions .dues (linkAt s l) m l (h .lives l) t
 
   -- of whatever pool and next number, since nothing is issued

@@ -11,7 +11,7 @@ use Rattle.machine.specs.Words.{changed}
 use Rattle.machine.specs.State.{Pool as Listed, Life, fresh, Machine, machine, withLife, atEnd}
 use Rattle.machine.specs.Life.{close}
 use Rattle.demand_held.proofs.Lists.{length-changed}
-use Rattle.refine_parts.specs.Same.{SamePool}
+use Rattle.refine_parts.specs.Same.{Beside, SamePool}
 use Rattle.refine_parts.proofs.Same.{same-acts}
 use Rattle.refine_parts.specs.Life.{SameLife}
 use Rattle.refine_parts.proofs.LifeActs.{no-life}
@@ -42,7 +42,7 @@ items-moved h =
       subscription-places = h .subscription-places;
     }
 
-module _ (s : Site) (m : Machine) (h : Abstracts s m) where
+module _ {beside : Beside} (s : Site) (m : Machine) (h : Abstracts beside s m) where
   module _ (l : ℕ) (b : l < m .setup .links) (k : Link) (x : Life) (same : SameLife k x) where
     lives-set : (j : ℕ) → SameLife (getD (set (s .links) l k) j closedLink) (getD (changed l (λ (y : Life). x) (m .lives)) j (fresh false))
     lives-set j = by (eq-or-ne j l)
@@ -58,7 +58,7 @@ module _ (s : Site) (m : Machine) (h : Abstracts s m) where
         by (inr n) =
             rw (getD-set-other (s .links) l j k closedLink n, getD-changed-other (λ (y : Life). x) (fresh false) (m .lives) l j n) (h .lives j)
 
-    pub with-life : Abstracts (withLink s l k) (withLife l x m)
+    pub with-life : Abstracts beside (withLink s l k) (withLife l x m)
     with-life =
         record {
           items = items-moved (h .items);
@@ -70,7 +70,7 @@ module _ (s : Site) (m : Machine) (h : Abstracts s m) where
         }
 
   -- "Closing (also disconnect) leaves the link Down, nothing awaited, no record of it marked sent; records and subscriptions stay."
-  pub closed : (l : ℕ) → l < m .setup .links → Abstracts (closeAt s l) (close l m)
+  pub closed : (l : ℕ) → l < m .setup .links → Abstracts beside (closeAt s l) (close l m)
   unfolding close
   closed l b =
       record {
@@ -79,11 +79,11 @@ module _ (s : Site) (m : Machine) (h : Abstracts s m) where
         link-places = length-set (s .links) l closedLink ∙ h .link-places;
         life-count = length-changed l (λ (y : Life). fresh false) (m .lives) ∙ h .life-count;
         lives = lives-set l b closedLink (fresh false) no-life;
-        pool = same-acts (m .setup .links) (h .items .setup .few) .unmark (s .pool) (s .next) m (h .pool) l;
+        pool = same-acts (m .setup .links) beside (s .site) .unmark (s .pool) (s .next) m (h .pool) l;
       }
 
   -- the records are issued, and the call's time is the last
-  pub ended : (b : Batch) (q : Listed) (t : ℕ) → SamePool (m .setup .links) (b .pool) (b .next) q → Abstracts (withIssued s b t) (atEnd t q m)
+  pub ended : (b : Batch) (q : Listed) (t : ℕ) → SamePool (m .setup .links) beside (s .site) (b .pool) (b .next) q → Abstracts beside (withIssued s b t) (atEnd t q m)
   ended b q t p =
       record {
         items = items-moved (h .items);

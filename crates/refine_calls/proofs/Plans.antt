@@ -9,7 +9,7 @@ use Rattle.link.specs.Steps.{messageOutOf, alarmPassedOf}
 use Rattle.write_message.specs.Message.{Message}
 use Rattle.write_message.specs.Message.Message.{version}
 use Rattle.site.specs.declared.Site.{Site}
-use Rattle.site.specs.Site.{linkAt}
+use Rattle.site.specs.Site.{linkAt, ownerOf}
 use Rattle.send_after.specs.declared.Carried.{Carried}
 use Rattle.send_after.specs.declared.Carried.the-variants.{Held as Carries}
 use Rattle.send_after.specs.Outgoing.{purposeOf, entrySent, alarmSentWith, carriedAt}
@@ -20,6 +20,7 @@ use Rattle.machine.specs.Life.{isUp, awaiting, Due, due, carriedBy}
 use Rattle.machine.specs.Life.Due.{theVersion, theWatchdog, theAggregated, theAlarm, theHeld}
 use Rattle.machine.specs.Effects.{passed, markSent, sends as sending}
 use Rattle.demand_held.proofs.Lists.Each.{no-more}
+use Rattle.refine_parts.specs.Same.{Beside}
 use Rattle.refine_parts.specs.Life.{SameLife}
 use Rattle.refine_parts.specs.LifeActs.{Sendable, SameSending}
 use Rattle.refine_parts.specs.Questions.{kindOf}
@@ -38,7 +39,7 @@ use Rattle.refine_calls.proofs.Due.{Alarms, why}
 use Rattle.refine_calls.proofs.After.{sentFor, same-purpose, sent-same, carried-same, carried-held}
 
 -- one message, and nothing else but the site afterwards
-sent-plan : (s : Site) (m : Machine) (x y : Message) → Abstracts s m → x ≡ y → SamePlan (sends s x) (effect m [] (y ∷ []) [] none)
+sent-plan : {beside : Beside} (s : Site) (m : Machine) (x y : Message) → Abstracts beside s m → x ≡ y → SamePlan beside (sends s x) (effect m [] (y ∷ []) [] none)
 sent-plan s m x y h e =
     record {
       leaves = h;
@@ -50,7 +51,7 @@ sent-plan s m x y h e =
       commands = no-command;
     }
 
-module _ (s : Site) (m : Machine) (h : Abstracts s m) (l : ℕ) (b : l < m .setup .links) (t : ℕ) (id : Identity) (ok : Sendable (lifeAt m l) id) where
+module _ {beside : Beside} (s : Site) (m : Machine) (h : Abstracts beside s m) (l : ℕ) (b : l < m .setup .links) (t : ℕ) (id : Identity) (ok : Sendable (lifeAt m l) id) where
   lives : SameSending (linkAt s l) (lifeAt m l) id t
   lives = acts .acts (linkAt s l) (lifeAt m l) (h .lives l) .sends id t ok
 
@@ -61,7 +62,7 @@ module _ (s : Site) (m : Machine) (h : Abstracts s m) (l : ℕ) (b : l < m .setu
   told = messages .messages s m (h .items) (id .bytes)
 
   abbrev Same : Due → Type 0
-  Same d = due m l t ≡ some d → SamePlan (planFor (kindOf (some d)) s l t id) (sending l t (id .bytes) m d)
+  Same d = due m l t ≡ some d → SamePlan beside (planFor (kindOf (some d)) s l t id) (sending l t (id .bytes) m d)
 
   version-same : Same theVersion
   unfolding sending
@@ -95,9 +96,9 @@ module _ (s : Site) (m : Machine) (h : Abstracts s m) (l : ℕ) (b : l < m .setu
         (same-purpose c)
         (lives .alarm (sentFor c) (w .up) (w .behind) few-passed)
 
-    alarm-after : Abstracts (alarmSentWith (carriedAt s l i) s l t id) (withLife l (awaiting (id .bytes) t (carriedBy m l i) (passed (lifeAt m l))) (markSent (carriedBy m l i) m))
+    alarm-after : Abstracts beside (alarmSentWith (carriedAt s l i) s l t id) (withLife l (awaiting (id .bytes) t (carriedBy m l i) (passed (lifeAt m l))) (markSent (carriedBy m l i) m))
     alarm-after =
-        subst (λ (z : Sent). Abstracts (alarmSentWith (carriedAt s l i) s l t id) (withLife l (awaiting (id .bytes) t z (passed (lifeAt m l))) (markSent z m)))
+        subst (λ (z : Sent). Abstracts beside (alarmSentWith (carriedAt s l i) s l t id) (withLife l (awaiting (id .bytes) t z (passed (lifeAt m l))) (markSent z m)))
         (carried-same s m h l i in-table)
         (sent-same s m h l b _ _ (alarm-life (carriedAt s l i)) (carriedAt s l i) (carried-held s m h l i in-table))
 
@@ -108,19 +109,19 @@ module _ (s : Site) (m : Machine) (h : Abstracts s m) (l : ℕ) (b : l < m .setu
 
   -- ---- a held record
   module _ (x : Held) where
-    entry-same : isUp (lifeAt m l) ≡ true → Stands (s .pool) l x → SamePlan (entryPlan (Found (placeFor x)) s l t id) (sending l t (id .bytes) m (theHeld x))
+    entry-same : isUp (lifeAt m l) ≡ true → Stands (s .pool) (ownerOf s l) l x → SamePlan beside (entryPlan (Found (placeFor (ownerOf s l) x)) s l t id) (sending l t (id .bytes) m (theHeld x))
     unfolding sending
     entry-same up w =
         sent-plan _ _ _ _
-        (subst (λ (n : ℕ). Abstracts (entrySent s l t id n) (withLife l (awaiting (id .bytes) t (theRecord (x .sequence)) (lifeAt m l)) (markSent (theRecord (x .sequence)) m)))
-        (sym (entry-sequence (x .link) (x .sequence) (x .content)))
+        (subst (λ (n : ℕ). Abstracts beside (entrySent s l t id n) (withLife l (awaiting (id .bytes) t (theRecord (x .sequence)) (lifeAt m l)) (markSent (theRecord (x .sequence)) m)))
+        (sym (entry-sequence (ownerOf s l) (x .sequence) (x .content)))
         (sent-same s m h l b _ _ (lives .other (theRecord (x .sequence)) up) (Carries (x .sequence)) (w .held)))
-        (told .held (x .link) (x .sequence) (x .content) (w .told))
+        (told .held (ownerOf s l) (x .sequence) (x .content) (w .told))
 
   held-same : (x : Held) → Same (theHeld x)
   held-same x e =
-      subst (λ (o : Sought). SamePlan (entryPlan o s l t id) (sending l t (id .bytes) m (theHeld x)))
-      (sym (same-answers m (h .pool) .oldest-unsent l ∙ ap found (why m l t (theHeld x) e .1)))
+      subst (λ (o : Sought). SamePlan beside (entryPlan o s l t id) (sending l t (id .bytes) m (theHeld x)))
+      (sym (same-answers m (h .pool) .oldest-unsent l ∙ ap (found (ownerOf s l)) (why m l t (theHeld x) e .1)))
       (entry-same x (why m l t (theHeld x) e .0) (same-answers m (h .pool) .unsent-stands l x (why m l t (theHeld x) e .1)))
 
   pub plan-same : (d : Due) → Same d

@@ -19,6 +19,7 @@ use Rattle.machine.specs.State.{Machine, only, lifeAt}
 use Rattle.machine.specs.Life.{Due, due}
 use Rattle.machine.specs.Effects.{sends as sending, effectOf}
 use Rattle.machine.specs.Step.{noSuchLink, badTime, isDownAt, manyAwaited, identityAwaited, conditions, numberOf}
+use Rattle.refine_parts.specs.Same.{Beside}
 use Rattle.refine_parts.specs.LifeActs.{Sendable}
 use Rattle.refine_parts.specs.Questions.{kindOf}
 use Rattle.refine_calls.specs.Abstracts.{Abstracts}
@@ -29,11 +30,11 @@ use Rattle.refine_calls.proofs.Identity.{own-sixteen}
 use Rattle.refine_calls.proofs.Numbers.{due-same, number-same, Passes, passes}
 use Rattle.refine_calls.proofs.Plans.{plan-same}
 
-module _ (s : Site) (m : Machine) (h : Abstracts s m) (l t : ℕ) (random : Identity) (out : List ℕ) (u : SixteenBytes (random .bytes)) where
+module _ {beside : Beside} (s : Site) (m : Machine) (h : Abstracts beside s m) (l t : ℕ) (random : Identity) (out : List ℕ) (u : SixteenBytes (random .bytes)) where
   -- nothing is issued
   no-batch : batchOf (pumpPlan s l t (identityOf random)) ≡ beginning (pumpPlan s l t (identityOf random) .site .pool) (pumpPlan s l t (identityOf random) .site .next)
   no-batch =
-      ap (λ (es : List Entry). issuedAll 4 (pumpPlan s l t (identityOf random) .site .pool) (pumpPlan s l t (identityOf random) .site .next) es)
+      ap (λ (es : List Entry). issuedAll 8 (pumpPlan s l t (identityOf random) .site .pool) (pumpPlan s l t (identityOf random) .site .next) es)
       (kept .issues-none s l t (identityOf random))
 
   none-passes : numberOf m (callFor (pump l t random out)) ≡ none
@@ -52,21 +53,21 @@ module _ (s : Site) (m : Machine) (h : Abstracts s m) (l t : ℕ) (random : Iden
 
   -- something is due
   plan-if : l < m .setup .links → Sendable (lifeAt m l) (identityOf random) → (o : Option Due) → due m l t ≡ o → isSome o ≡ true
-      → SamePlan (planFor (kindOf o) s l t (identityOf random)) (maybe (only m) (sending l t (version4Of (random .bytes)) m) o)
+      → SamePlan beside (planFor (kindOf o) s l t (identityOf random)) (maybe (only m) (sending l t (version4Of (random .bytes)) m) o)
   plan-if b ok none e q = absurd (let z : _≡_ {A = ℕ} 0 1 = cc in omega arith)
   plan-if b ok (some d) e q = plan-same s m h l b t (identityOf random) ok d e
 
   plan-is : numberOf m (callFor (pump l t random out)) ≡ none
-      → SamePlan (pumpPlan s l t (identityOf random)) (effectOf m t (callFor (pump l t random out) .act))
+      → SamePlan beside (pumpPlan s l t (identityOf random)) (effectOf m t (callFor (pump l t random out) .act))
   unfolding effectOf
   plan-is e =
       let p = none-passes e in
       let b = leb-false (m .setup .links) l (p .configured) in
-      subst (λ (d : DueKind). SamePlan (planFor d s l t (identityOf random)) (maybe (only m) (sending l t (version4Of (random .bytes)) m) (due m l t)))
+      subst (λ (d : DueKind). SamePlan beside (planFor d s l t (identityOf random)) (maybe (only m) (sending l t (version4Of (random .bytes)) m) (due m l t)))
       (sym (due-same s m h l b t))
       (plan-if b (sendable (p .few) (p .unawaited)) (due m l t) refl (p .something))
 
-  pump-same : SameCall s m (pump l t random out)
+  pump-same : SameCall beside s m (pump l t random out)
   pump-same =
       record {
         number =
@@ -76,4 +77,4 @@ module _ (s : Site) (m : Machine) (h : Abstracts s m) (l t : ℕ) (random : Iden
       }
 
 pub pump-calls : PumpCalls
-pump-calls s m h c (pumps l t random out) u = pump-same s m h l t random out u
+pump-calls beside s m h c (pumps l t random out) u = pump-same s m h l t random out u

@@ -4,6 +4,7 @@ use Rattle.basis.proofs.Std.{ℕ, _≤_, _≡_, refl, sym, ap, _∙_, Bool, tru
 use Rattle.link.specs.declared.Phase.the-variants.{Down, Greeting, Beating, Up}
 use Rattle.site.specs.declared.Site.{Site}
 use Rattle.site.specs.Site.{noLinkAt, linkAt}
+use Rattle.site.proofs.Checks.{link-below}
 use Rattle.call_read.specs.Readings.{phaseNumber, noReading}
 use Rattle.machine.specs.Words.{keep}
 use Rattle.machine.specs.State.{Held, Life, fresh, Machine, lifeAt}
@@ -13,6 +14,7 @@ use Rattle.machine.specs.Readings.{recordBytes, reading}
 use Rattle.demand_held.proofs.Lists.{Each, bit-false}
 use Rattle.demand_held.proofs.Lists.Each.{no-more, one-more}
 use Rattle.demand_held.proofs.Good.{Below}
+use Rattle.refine_parts.specs.Same.{Beside}
 use Rattle.refine_parts.specs.Record.{readingAt}
 use Rattle.refine_parts.proofs.Same.{same-answers}
 use Rattle.refine_parts.specs.Life.{shown}
@@ -39,14 +41,14 @@ phase-read true false true = refl
 phase-read true false false = refl
 phase-read false g b = refl
 
-module _ (s : Site) (m : Machine) (h : Abstracts s m) (l : ℕ) where
+module _ {beside : Beside} (s : Site) (m : Machine) (h : Abstracts beside s m) (l : ℕ) where
   configured : noLinkAt s l ≡ false → SameReadings s m l
   unfolding reading
   configured e =
       let answers = same-answers m (h .pool) in
       record {
         held = rw e (answers .held l);
-        lost = rw e (answers .lost l);
+        lost = rw e (answers .lost l (link-below s l e));
         phase = rw e (ap phaseNumber (same-phase (linkAt s l) (lifeAt m l) (h .lives l) .phase)
             ∙ phase-read (lifeAt m l .connected) (isGreeting (lifeAt m l)) (isBeating (lifeAt m l)));
         version = rw e (h .lives l .version);
@@ -74,4 +76,4 @@ module _ (s : Site) (m : Machine) (h : Abstracts s m) (l : ℕ) where
       down = List·getD-eq-default (m .lives) (fresh false) (omega (arith, beyond, h .life-count))
 
 pub readings : Reading
-readings s m h l = bool-cases (noLinkAt s l) (not-configured s m h l) (configured s m h l)
+readings beside s m h l = bool-cases (noLinkAt s l) (not-configured s m h l) (configured s m h l)

@@ -24,7 +24,7 @@ use Rattle.machine.specs.Pool.{issueAll}
 use Rattle.machine.specs.Table.{lastSequence}
 use Rattle.machine.specs.Step.{numberOf, after, outcome, step}
 use Rattle.refine_parts.specs.Record.{unnumbered}
-use Rattle.refine_parts.specs.Same.{SamePool}
+use Rattle.refine_parts.specs.Same.{Beside, SamePool}
 use Rattle.refine_parts.proofs.Same.{same-acts, same-answers}
 use Rattle.refine_calls.specs.Abstracts.{Abstracts}
 use Rattle.refine_calls.specs.Calls.{callFor, firstRefused, SamePlan, SameCall, SameOutcome, SameStep, Steps}
@@ -79,30 +79,30 @@ not-spent : (b : Batch) (rest : Refusal → Bool) → firstRefused (issuing b re
 not-spent b rest e = none-applies (issuing b rest) spent-in-order e
 
 -- the pool after the records
-issued-all : (p : Plan) (e : Effect) → SamePlan p e → batchOf p .spent ≡ false
-    → SamePool (e .leaves .setup .links) (batchOf p .pool) (batchOf p .next) (issueAll (e .issues) (e .leaves .pool))
-issued-all p e q f =
-    subst (λ (es : List Entry). issuedAll 4 (p .site .pool) (p .site .next) es .spent ≡ false
-    → SamePool (e .leaves .setup .links) (issuedAll 4 (p .site .pool) (p .site .next) es .pool) (issuedAll 4 (p .site .pool) (p .site .next) es .next)
+issued-all : {beside : Beside} (p : Plan) (e : Effect) → SamePlan beside p e → batchOf p .spent ≡ false
+    → SamePool (e .leaves .setup .links) beside (p .site .site) (batchOf p .pool) (batchOf p .next) (issueAll (e .issues) (e .leaves .pool))
+issued-all {beside} p e q f =
+    subst (λ (es : List Entry). issuedAll 8 (p .site .pool) (p .site .next) es .spent ≡ false
+    → SamePool (e .leaves .setup .links) beside (p .site .site) (issuedAll 8 (p .site .pool) (p .site .next) es .pool) (issuedAll 8 (p .site .pool) (p .site .next) es .next)
     (issueAll (e .issues) (e .leaves .pool)))
     (sym (q .issued .issued)) of-machine f
   where
-    of-machine : issuedAll 4 (p .site .pool) (p .site .next) (map unnumbered (e .issues)) .spent ≡ false
-        → SamePool (e .leaves .setup .links) (issuedAll 4 (p .site .pool) (p .site .next) (map unnumbered (e .issues)) .pool)
-        (issuedAll 4 (p .site .pool) (p .site .next) (map unnumbered (e .issues)) .next) (issueAll (e .issues) (e .leaves .pool))
+    of-machine : issuedAll 8 (p .site .pool) (p .site .next) (map (unnumbered (p .site .site)) (e .issues)) .spent ≡ false
+        → SamePool (e .leaves .setup .links) beside (p .site .site) (issuedAll 8 (p .site .pool) (p .site .next) (map (unnumbered (p .site .site)) (e .issues)) .pool)
+        (issuedAll 8 (p .site .pool) (p .site .next) (map (unnumbered (p .site .site)) (e .issues)) .next) (issueAll (e .issues) (e .leaves .pool))
     of-machine g =
         let most : e .leaves .pool .next + length (e .issues) ≤ suc lastSequence =
         ltb-false (suc lastSequence) (e .leaves .pool .next + length (e .issues))
         (sym (same-answers (e .leaves) (q .leaves .pool) .spent (p .site .pool) e) ∙ g) in
-        same-acts (e .leaves .setup .links) (q .leaves .items .setup .few) .issue-all (p .site .pool) (p .site .next) (e .leaves .pool) (q .leaves .pool)
+        same-acts (e .leaves .setup .links) beside (p .site .site) .issue-all (p .site .pool) (p .site .next) (e .leaves .pool) (q .leaves .pool)
         (e .issues) (q .for-links) (q .issued .told) (omega (arith, most, q .leaves .pool .next))
 
-module _ (s : Site) (m : Machine) (h : Abstracts s m) (c : Call) (same : SameCall s m c) where
+module _ {beside : Beside} (s : Site) (m : Machine) (h : Abstracts beside s m) (c : Call) (same : SameCall beside s m c) where
   abbrev next : Site
   next = withIssued (planOf s c .site) (batchOf (planOf s c)) (timeOf c)
 
   abbrev Both : Answer → Outcome × Machine → Type 0
-  Both x o = SameOutcome s c (stepped s next x .answer) (o .0) × Abstracts (stepped s next x .site) (o .1)
+  Both x o = SameOutcome s c (stepped s next x .answer) (o .0) × Abstracts beside (stepped s next x .site) (o .1)
 
   abbrev laid : Effect
   laid = effectOf m (callFor c .time) (callFor c .act)
@@ -115,14 +115,14 @@ module _ (s : Site) (m : Machine) (h : Abstracts s m) (c : Call) (same : SameCal
         (done ms (laid .closed) (laid .hint) (laid .commands)))
         (q .messages)
         (does-both (laid .closed) (laid .hint) (laid .commands) (q .closed) (q .hint) (q .commands)),
-    subst (λ (t : ℕ). Abstracts (withIssued (planOf s c .site) (batchOf (planOf s c)) t) (after (callFor c .time) laid))
+    subst (λ (t : ℕ). Abstracts beside (withIssued (planOf s c .site) (batchOf (planOf s c)) t) (after (callFor c .time) laid))
         (sym (same-time c))
         (ended (planOf s c .site) (laid .leaves) (q .leaves) (batchOf (planOf s c))
         (issueAll (laid .issues) (laid .leaves .pool)) (callFor c .time)
         (issued-all (planOf s c) laid q (not-spent (batchOf (planOf s c)) (refuses s c) (same .number ∙ e)))),
   )
     where
-      q : SamePlan (planOf s c) laid
+      q : SamePlan beside (planOf s c) laid
       q = same .plan e
 
   both : Both (judged (issuing (batchOf (planOf s c)) (refuses s c)) inOrder (Done (reportOf (planOf s c) (endOf s c)))) (step m (callFor c))
@@ -133,8 +133,8 @@ module _ (s : Site) (m : Machine) (h : Abstracts s m) (c : Call) (same : SameCal
       (λ e. subst (Both (Done (reportOf (planOf s c) (endOf s c)))) (sym (does m (callFor c) (sym e))) (done-both (sym e)))
       inOrder (same .number)
 
-  step-same : SameStep s m c
+  step-same : SameStep beside s m c
   step-same = record { outcome = both .0; leaves = both .1 }
 
 pub steps : Steps
-steps = step-same
+steps beside s m h c same = step-same s m h c same

@@ -21,6 +21,7 @@ use Rattle.machine.specs.Effects.{late, ticks, effectOf}
 use Rattle.machine.specs.Step.{badTime, sequenceEnds, conditions}
 use Rattle.demand_held.proofs.Lists.{Each}
 use Rattle.demand_held.proofs.Issue.{For}
+use Rattle.refine_parts.specs.Same.{Beside}
 use Rattle.refine_parts.specs.Items.{SameIssued, SameEffect}
 use Rattle.refine_parts.proofs.ItemActs.{item-acts}
 use Rattle.refine_calls.specs.Abstracts.{Abstracts}
@@ -33,7 +34,7 @@ use Rattle.refine_calls.specs.Tick.{TickCalls}
 use Rattle.refine_calls.specs.Tick.OfTick.{of-tick}
 use Rattle.refine_calls.proofs.Closing.{all-setup, all-closed, same-mask}
 
-module _ (s : Site) (m : Machine) (h : Abstracts s m) (t : ℕ) where
+module _ {beside : Beside} (s : Site) (m : Machine) (h : Abstracts beside s m) (t : ℕ) where
   -- once the links are closed
   abbrev left : Site
   left = closedTo s t 4
@@ -47,6 +48,13 @@ module _ (s : Site) (m : Machine) (h : Abstracts s m) (t : ℕ) where
 
   same-values : left .statuses ≡ s .statuses
   same-values = stays (λ (x : Site). x .statuses) (λ x l. refl) s t 4
+
+  same-site : left .site ≡ s .site
+  same-site = stays (λ (x : Site). x .site) (λ x l. refl) s t 4
+
+  site-kept : siteAfter s t .site ≡ s .site
+  unfolding siteAfter
+  site-kept = same-site
 
   same-next : siteAfter s t .next ≡ s .next
   unfolding siteAfter
@@ -63,22 +71,22 @@ module _ (s : Site) (m : Machine) (h : Abstracts s m) (t : ℕ) where
   same-links = refl
 
   abbrev issuedLeft : List Entry
-  issuedLeft = recordsOf (left .subscriptions) (left .statuses) (left .links) t
+  issuedLeft = recordsOf (left .site) (left .subscriptions) (left .statuses) (left .links) t
 
   issued-left : issuedAt s t ≡ issuedLeft
   issued-left =
-      ap (λ (ns : List Link). recordsOf (s .subscriptions) (s .statuses) ns t) same-links
-      ∙ ap₂ (λ (xs : List Slot) (ks : List Status). recordsOf xs ks (left .links) t) (sym same-slots) (sym same-values)
+      ap₂ (λ (k : ℕ) (ns : List Link). recordsOf k (s .subscriptions) (s .statuses) ns t) (sym same-site) same-links
+      ∙ ap₂ (λ (xs : List Slot) (ks : List Status). recordsOf (left .site) xs ks (left .links) t) (sym same-slots) (sym same-values)
 
   renewing : SameEffect (issues (withSlots left (map (renewed t) (left .subscriptions))) issuedLeft) (intervals t leftOf)
   renewing = item-acts .acts left leftOf (all-closed s m h t .items) .tick t (left .links) (same-up left leftOf (all-closed s m h t))
 
   same-records : SameIssued (tickPlan s t) (intervals t leftOf .issues)
-  same-records = record { issued = issued-left ∙ renewing .records .issued; told = renewing .records .told }
+  same-records = record { issued = issued-left ∙ rw site-left (renewing .records .issued); told = renewing .records .told }
 
-  leaves-same : Abstracts (siteAfter s t) (intervals t leftOf .leaves)
+  leaves-same : Abstracts beside (siteAfter s t) (intervals t leftOf .leaves)
   leaves-same =
-      subst (λ (x : Site). Abstracts x (intervals t leftOf .leaves)) (sym site-left)
+      subst (λ (x : Site). Abstracts beside x (intervals t leftOf .leaves)) (sym site-left)
       (items-changed left leftOf (all-closed s m h t) (map (renewed t) (left .subscriptions)) (left .alarms) (left .statuses) (left .aggregated)
       (intervals t leftOf) (of-intervals t leftOf) (renewing .items))
 
@@ -92,12 +100,12 @@ module _ (s : Site) (m : Machine) (h : Abstracts s m) (t : ℕ) where
   -- ---- number 10
   spent-same : batchOf (tickPlan s t) .spent ≡ sequenceEnds m (ticks t m)
   unfolding ticks
-  spent-same = same-spent s m h (tickPlan s t) (ticks t m) same-next same-records
+  spent-same = same-spent s m h (tickPlan s t) (ticks t m) same-next site-kept same-records
 
   abbrev numbered : Bool → Option ℕ
   numbered spent = pick (badTime m t) (some 5) (pick spent (some 10) none)
 
-  tick-same : SameCall s m (tick t)
+  tick-same : SameCall beside s m (tick t)
   unfolding conditions effectOf ticks
   tick-same =
       record {
@@ -115,4 +123,4 @@ module _ (s : Site) (m : Machine) (h : Abstracts s m) (t : ℕ) where
       }
 
 pub tick-calls : TickCalls
-tick-calls s m h c (of-tick t) u = tick-same s m h t
+tick-calls beside s m h c (of-tick t) u = tick-same s m h t

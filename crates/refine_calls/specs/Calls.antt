@@ -30,6 +30,7 @@ use Rattle.machine.specs.Effects.{effectOf}
 use Rattle.machine.specs.Step.{numberOf, step}
 use Rattle.demand_held.proofs.Lists.{Each}
 use Rattle.demand_held.proofs.Issue.{For}
+use Rattle.refine_parts.specs.Same.{Beside}
 use Rattle.refine_parts.specs.Items.{SameIssued}
 use Rattle.refine_calls.specs.Abstracts.{Abstracts}
 
@@ -64,8 +65,8 @@ pub data SameCommands : List Command → List MachineCommand → Type 0 where
       → SameCommands (record { number = number; value = value } ∷ cs) (commandOf number value ∷ ds)
 
 -- what a call lays down, but for its records and its time
-pub record SamePlan (p : Plan) (e : Effect) : Type 0 where
-  pub leaves : Abstracts (p .site) (e .leaves)
+pub record SamePlan (beside : Beside) (p : Plan) (e : Effect) : Type 0 where
+  pub leaves : Abstracts beside (p .site) (e .leaves)
   pub issued : SameIssued p (e .issues)
   pub for-links : Each (For (e .leaves .setup .links)) (e .issues)
   pub messages : p .messages ≡ e .messages
@@ -73,13 +74,13 @@ pub record SamePlan (p : Plan) (e : Effect) : Type 0 where
   pub hint : p .hint ≡ hintFor (e .hint)
   pub commands : SameCommands (p .commands) (e .commands)
 
-pub record SameCall (s : Site) (m : Machine) (c : Call) : Type 0 where
+pub record SameCall (beside : Beside) (s : Site) (m : Machine) (c : Call) : Type 0 where
   pub number : firstRefused (issuing (batchOf (planOf s c)) (refuses s c)) inOrder ≡ numberOf m (callFor c)
-  pub plan : numberOf m (callFor c) ≡ none → SamePlan (planOf s c) (effectOf m (callFor c .time) (callFor c .act))
+  pub plan : numberOf m (callFor c) ≡ none → SamePlan beside (planOf s c) (effectOf m (callFor c .time) (callFor c .act))
 
 -- of each call a crate of its own proves this
 abbrev pub SameFor : (Call → Type 0) → Type 0
-SameFor P = (s : Site) (m : Machine) → Abstracts s m → (c : Call) → P c → Typed c → SameCall s m c
+SameFor P = (beside : Beside) (s : Site) (m : Machine) → Abstracts beside s m → (c : Call) → P c → Typed c → SameCall beside s m c
 
 -- what the host is told: the number, or the messages, the links closed, the hint and the commands
 pub data SameOutcome (s : Site) (c : Call) : Answer → Outcome → Type 0 where
@@ -89,9 +90,9 @@ pub data SameOutcome (s : Site) (c : Call) : Answer → Outcome → Type 0 where
       → SameOutcome s c (Done (reportOf (planOf s c) (endOf s c))) (done (planOf s c .messages) closed hint commands)
 
 -- then the next site is the next machine
-pub record SameStep (s : Site) (m : Machine) (c : Call) : Type 0 where
+pub record SameStep (beside : Beside) (s : Site) (m : Machine) (c : Call) : Type 0 where
   pub outcome : SameOutcome s c (stepBy s c .answer) (step m (callFor c) .0)
-  pub leaves : Abstracts (stepBy s c .site) (step m (callFor c) .1)
+  pub leaves : Abstracts beside (stepBy s c .site) (step m (callFor c) .1)
 
 abbrev pub Steps : Type 0
-Steps = (s : Site) (m : Machine) → Abstracts s m → (c : Call) → SameCall s m c → SameStep s m c
+Steps = (beside : Beside) (s : Site) (m : Machine) → Abstracts beside s m → (c : Call) → SameCall beside s m c → SameStep beside s m c

@@ -8,6 +8,7 @@ use Rattle.call_read.specs.declared.ChosenVersion.{ChosenVersion}
 use Rattle.call_read.specs.Readings.{heldAt, lostAt, phaseAt, versionAt, recordAt}
 use Rattle.machine.specs.State.{Machine}
 use Rattle.machine.specs.Readings.{reading}
+use Rattle.refine_parts.specs.Same.{Beside}
 use Rattle.refine_parts.specs.Record.{readingAt}
 use Rattle.refine_parts.specs.Life.{shown}
 use Rattle.refine_calls.specs.Abstracts.{Abstracts}
@@ -25,4 +26,4 @@ pub record SameReadings (s : Site) (m : Machine) (l : ℕ) : Type 0 where
   pub records : (r : ℕ) → recordAt s l r ≡ readingAt r (reading m l .records)
 
 abbrev pub Reading : Type 0
-Reading = (s : Site) (m : Machine) → Abstracts s m → (l : ℕ) → SameReadings s m l
+Reading = (beside : Beside) (s : Site) (m : Machine) → Abstracts beside s m → (l : ℕ) → SameReadings s m l

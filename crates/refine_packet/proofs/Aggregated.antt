@@ -22,6 +22,7 @@ use Rattle.machine.specs.Json.{readPacket, stringAt, stringOf, isType}
 use Rattle.machine.specs.Messages.{aggregatedMessage as aggregatedTold}
 use Rattle.machine.specs.Answers.{componentAsked, wantsReply}
 use Rattle.machine.specs.Effects.{carriedOut, replyMessage}
+use Rattle.refine_parts.specs.Same.{Beside}
 use Rattle.refine_read.specs.Verdicts.{verdictIn}
 use Rattle.refine_read.specs.Reasons.{byVerdict as reasonBy, furtherReason, busyIf}
 use Rattle.refine_read.proofs.Kept as Reads
@@ -53,7 +54,7 @@ zero-is none = refl
 zero-is (some zero) = refl
 zero-is (some (suc k)) = ne-eqb (suc k) 0 (λ e. omega (arith, e)) ∙ sym (ne-eqb 0 (suc k) (λ e. omega (arith, e)))
 
-module _ (s : Site) (m : Machine) (h : Abstracts s m) (l : ℕ) (b : l < m .setup .links) (up : IsUp (lifeAt m l)) (t : ℕ) (id : Identity) (v : SixteenBytes (id .bytes)) (p : Bytes) (j : Json) (read : readPacket p ≡ some j) (ty : stringAt "type" j ≡ some (text "AggregatedStatusRequest")) where
+module _ {beside : Beside} (s : Site) (m : Machine) (h : Abstracts beside s m) (l : ℕ) (b : l < m .setup .links) (up : IsUp (lifeAt m l)) (t : ℕ) (id : Identity) (v : SixteenBytes (id .bytes)) (p : Bytes) (j : Json) (read : readPacket p ≡ some j) (ty : stringAt "type" j ≡ some (text "AggregatedStatusRequest")) where
   abbrev f : GotLabel
   f = aggregatedAt p
 
@@ -64,7 +65,7 @@ module _ (s : Site) (m : Machine) (h : Abstracts s m) (l : ℕ) (b : l < m .setu
       ∙ same-lookups (h .items .setup .edition) (m .setup .table) (h .items .setup .allowed) .component (stringOf "cId" j)
 
   by-component : (z : Bool)
-      → SameTaken s m l t id j
+      → SameTaken beside s m l t id j
       (pick z (unlessBusy s (questionOn l t id j) (replied s (questionOn l t id j) (aggregatedMessage s (id .bytes)))) (notAcked s (questionOn l t id j) unknownComponent))
       (pick z (busyIf m l true) (some "Unknown component"))
   by-component true =
@@ -73,24 +74,24 @@ module _ (s : Site) (m : Machine) (h : Abstracts s m) (l : ℕ) (b : l < m .setu
   by-component false = reasons s m h l b t id j .unknown-component
 
   good : f .verdict ≡ Good
-      → SameTaken s m l t id j (aggregatedOf s (questionOn l t id j) (componentSought (s .table) (f .label)))
+      → SameTaken beside s m l t id j (aggregatedOf s (questionOn l t id j) (componentSought (s .table) (f .label)))
       (pick (isNumber 0 (componentAsked m j)) (busyIf m l true) (some "Unknown component"))
   good g =
-      subst (λ (z : Bool). SameTaken s m l t id j
+      subst (λ (z : Bool). SameTaken beside s m l t id j
       (pick z (unlessBusy s (questionOn l t id j) (replied s (questionOn l t id j) (aggregatedMessage s (id .bytes)))) (notAcked s (questionOn l t id j) unknownComponent))
       (pick (isNumber 0 (componentAsked m j)) (busyIf m l true) (some "Unknown component")))
       (sym (ap isZero (sought g) ∙ zero-is (componentAsked m j)))
       (by-component (isNumber 0 (componentAsked m j)))
 
-  taken : SameTaken s m l t id j (aggregatedTaken s (questionOn l t id j) f) (reasonBy (verdictIn (isOlder (lifeAt m l)) j) (furtherReason m l j))
+  taken : SameTaken beside s m l t id j (aggregatedTaken s (questionOn l t id j) f) (reasonBy (verdictIn (isOlder (lifeAt m l)) j) (furtherReason m l j))
   unfolding aggregatedTaken
   taken =
-      subst (λ (x : Verdict). SameTaken s m l t id j (aggregatedTaken s (questionOn l t id j) f) (reasonBy x (furtherReason m l j)))
+      subst (λ (x : Verdict). SameTaken beside s m l t id j (aggregatedTaken s (questionOn l t id j) f) (reasonBy x (furtherReason m l j)))
       (Reads.kept .aggregated p j read .verdict (isOlder (lifeAt m l)) (is-request j ty))
-      (subst (λ (r : Option String). SameTaken s m l t id j (aggregatedTaken s (questionOn l t id j) f) (reasonBy (f .verdict) r))
+      (subst (λ (r : Option String). SameTaken beside s m l t id j (aggregatedTaken s (questionOn l t id j) f) (reasonBy (f .verdict) r))
       (sym (Reads.kept .further m l j .aggregated (is-request j ty)))
       (by-verdict s m h l b t id j (f .verdict) (aggregatedOf s (questionOn l t id j) (componentSought (s .table) (f .label)))
       (pick (isNumber 0 (componentAsked m j)) (busyIf m l true) (some "Unknown component")) good))
 
 pub same-aggregated : SameAggregated
-same-aggregated s m h l b up t id v p j read ty = taken s m h l b up t id v p j read ty
+same-aggregated beside s m h l b up t id v p j read ty = taken s m h l b up t id v p j read ty

@@ -37,6 +37,7 @@ use Rattle.refine_read.specs.Verdicts.{verdictIn}
 use Rattle.refine_read.specs.Reasons.{byVerdict as reasonBy, furtherReason, busyIf}
 use Rattle.refine_read.specs.Fields.{orderWord}
 use Rattle.refine_read.proofs.Kept as Reads
+use Rattle.refine_parts.specs.Same.{Beside}
 use Rattle.refine_parts.proofs.ItemActs.{item-acts}
 use Rattle.refine_calls.specs.Abstracts.{Abstracts}
 use Rattle.refine_calls.proofs.Messages.{messages}
@@ -95,7 +96,7 @@ nothing-happens : (m : Machine) (k : ℕ) → happens m k none ≡ only m
 unfolding happens
 nothing-happens m k = refl
 
-module _ (s : Site) (m : Machine) (h : Abstracts s m) (l : ℕ) (b : l < m .setup .links) (up : IsUp (lifeAt m l)) (t : ℕ) (id : Identity) (v : SixteenBytes (id .bytes)) (j : Json) (ty : stringAt "type" j ≡ some (text "Alarm")) where
+module _ {beside : Beside} (s : Site) (m : Machine) (h : Abstracts beside s m) (l : ℕ) (b : l < m .setup .links) (up : IsUp (lifeAt m l)) (t : ℕ) (id : Identity) (v : SixteenBytes (id .bytes)) (j : Json) (ty : stringAt "type" j ≡ some (text "Alarm")) where
   module _ (k : ℕ) (there : k < length (m .alarms)) (asked : alarmAsked m j ≡ some k) where
     happens-so : (o : Order) → stringAt "aSp" j ≡ some (text (orderWord o)) → carriedOut l t j m ≡ happens m k (orderBy o t (alarmAt m k))
     happens-so o e =
@@ -106,20 +107,20 @@ module _ (s : Site) (m : Machine) (h : Abstracts s m) (l : ℕ) (b : l < m .setu
         replies-so j ty m l ∙ same-pick (both (elementIs "aSp" "Request" j) (isPrimary m l)) ∙ ap (λ (c : Bool). both c (isPrimary m l)) (request-so j ty o e)
 
     by-role : stringAt "aSp" j ≡ some (text "Request") → (c : Bool) → isPrimary m l ≡ c
-        → SameTaken s m l t id j (requestBy s (questionOn l t id j) k (pick c Primary Secondary)) (busyIf m l c)
+        → SameTaken beside s m l t id j (requestBy s (questionOn l t id j) k (pick c Primary Secondary)) (busyIf m l c)
     by-role e true q =
         reply s m h l b up t id v j (alarmMessage s (id .bytes) k) (happens-so Request e ∙ nothing-happens m k) (rw ty) (wants-so Request e ∙ q)
         (messages .messages s m (h .items) (id .bytes) .alarm k there
         ∙ sym (told-so j ty m t (id .bytes) ∙ ap (λ (x : Option ℕ). alarmTold (m .setup .table) (id .bytes) (orElse 0 x) (alarmAt m (orElse 0 x))) asked))
     by-role e false q =
-        only-acked s m l t id j s [] noHint (only m) (happens-so Request e ∙ nothing-happens m k) (rw ty) (wants-so Request e ∙ q) (wants-so Request e ∙ q) refl
+        only-acked s m l t id j s [] noHint (only m) (happens-so Request e ∙ nothing-happens m k) (rw ty) (wants-so Request e ∙ q) (wants-so Request e ∙ q) refl refl
         (left s m h _)
 
     by-order : (o : Order) → stringAt "aSp" j ≡ some (text (orderWord o))
-        → SameTaken s m l t id j (ordered s (questionOn l t id j) k o) (busyIf m l (both (isRequest o) (isPrimary m l)))
+        → SameTaken beside s m l t id j (ordered s (questionOn l t id j) k o) (busyIf m l (both (isRequest o) (isPrimary m l)))
     unfolding requestTaken
     by-order Request e =
-        subst (λ (r : Role). SameTaken s m l t id j (requestBy s (questionOn l t id j) k r) (busyIf m l (isPrimary m l))) (sym (same-role s m h l b))
+        subst (λ (r : Role). SameTaken beside s m l t id j (requestBy s (questionOn l t id j) k r) (busyIf m l (isPrimary m l))) (sym (same-role s m h l b))
         (by-role e (isPrimary m l) refl)
     by-order Acknowledge e =
         changed s m h l t id j k Acknowledging (acknowledgedAt t (alarmAt m k)) (happens-so Acknowledge e) (rw ty) (wants-so Acknowledge e)
@@ -152,17 +153,17 @@ module _ (s : Site) (m : Machine) (h : Abstracts s m) (l : ℕ) (b : l < m .setu
         ∙ same-lookups (h .items .setup .edition) (m .setup .table) (h .items .setup .allowed) .alarm (stringOf "cId" j) (stringOf "aCId" j)
 
     by-alarm : f .verdict ≡ Good → (c : ℕ) → componentAsked m j ≡ some c → (o : Option ℕ) → alarmNumber (m .setup .table) c (stringOf "aCId" j) ≡ o
-        → SameTaken s m l t id j (orderedOf s (questionOn l t id j) (f .order) (maybe NoAlarm Found o)) (pick (isSome o) (busyIf m l asks) (some "Unknown alarm"))
+        → SameTaken beside s m l t id j (orderedOf s (questionOn l t id j) (f .order) (maybe NoAlarm Found o)) (pick (isSome o) (busyIf m l asks) (some "Unknown alarm"))
     by-alarm g c e none q = reasons s m h l b t id j .unknown-alarm
     by-alarm g c e (some k) q =
-        subst (λ (x : Bool). SameTaken s m l t id j (ordered s (questionOn l t id j) k (f .order)) (busyIf m l (both x (isPrimary m l))))
+        subst (λ (x : Bool). SameTaken beside s m l t id j (ordered s (questionOn l t id j) k (f .order)) (busyIf m l (both x (isPrimary m l))))
         (sym (request-so j ty (f .order) (Reads.kept .alarm p j read .order g)))
         (by-order k
         (omega (arith, same-lookups (h .items .setup .edition) (m .setup .table) (h .items .setup .allowed) .alarm-there c (stringOf "aCId" j) k q, h .items .alarm-count))
         (ap foundIn e ∙ q) (f .order) (Reads.kept .alarm p j read .order g))
 
     by-component : f .verdict ≡ Good → (o : Option ℕ) → componentAsked m j ≡ o
-        → SameTaken s m l t id j (orderedOf s (questionOn l t id j) (f .order) (soughtIn o))
+        → SameTaken beside s m l t id j (orderedOf s (questionOn l t id j) (f .order) (soughtIn o))
         (pick (isSome o) (pick (isSome (foundIn o)) (busyIf m l asks) (some "Unknown alarm")) (some "Unknown component"))
     by-component g none e = reasons s m h l b t id j .unknown-component
     by-component g (some c) e = by-alarm g c e (alarmNumber (m .setup .table) c (stringOf "aCId" j)) refl
@@ -170,20 +171,20 @@ module _ (s : Site) (m : Machine) (h : Abstracts s m) (l : ℕ) (b : l < m .setu
     abbrev reason : Option String
     reason = pick (isSome (componentAsked m j)) (pick (isSome (alarmAsked m j)) (busyIf m l asks) (some "Unknown alarm")) (some "Unknown component")
 
-    good : f .verdict ≡ Good → SameTaken s m l t id j (foundTaken s (questionOn l t id j) f) reason
+    good : f .verdict ≡ Good → SameTaken beside s m l t id j (foundTaken s (questionOn l t id j) f) reason
     unfolding foundTaken
     good g =
-        subst (λ (x : SoughtAlarm). SameTaken s m l t id j (orderedOf s (questionOn l t id j) (f .order) x) reason) (sym (sought g))
+        subst (λ (x : SoughtAlarm). SameTaken beside s m l t id j (orderedOf s (questionOn l t id j) (f .order) x) reason) (sym (sought g))
         (by-component g (componentAsked m j) refl)
 
-    taken : SameTaken s m l t id j (alarmTaken s (questionOn l t id j) f) (reasonBy (verdictIn (isOlder (lifeAt m l)) j) (furtherReason m l j))
+    taken : SameTaken beside s m l t id j (alarmTaken s (questionOn l t id j) f) (reasonBy (verdictIn (isOlder (lifeAt m l)) j) (furtherReason m l j))
     unfolding alarmTaken
     taken =
-        subst (λ (x : Verdict). SameTaken s m l t id j (alarmTaken s (questionOn l t id j) f) (reasonBy x (furtherReason m l j)))
+        subst (λ (x : Verdict). SameTaken beside s m l t id j (alarmTaken s (questionOn l t id j) f) (reasonBy x (furtherReason m l j)))
         (Reads.kept .alarm p j read .verdict (isOlder (lifeAt m l)) (is-alarm j ty))
-        (subst (λ (r : Option String). SameTaken s m l t id j (alarmTaken s (questionOn l t id j) f) (reasonBy (f .verdict) r))
+        (subst (λ (r : Option String). SameTaken beside s m l t id j (alarmTaken s (questionOn l t id j) f) (reasonBy (f .verdict) r))
         (sym (Reads.kept .further m l j .alarm (is-alarm j ty)))
         (by-verdict s m h l b t id j (f .verdict) (foundTaken s (questionOn l t id j) f) reason good))
 
 pub same-alarm : SameAlarm
-same-alarm s m h l b up t id v p j read ty = taken s m h l b up t id v j ty p read
+same-alarm beside s m h l b up t id v p j read ty = taken s m h l b up t id v j ty p read

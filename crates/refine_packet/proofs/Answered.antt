@@ -17,6 +17,7 @@ use Rattle.machine.specs.State.Sent.{ourVersion, ourWatchdog, noRecord, theReco
 use Rattle.machine.specs.Json.{stringOf, isType}
 use Rattle.machine.specs.Life.{awaitedBy, answeredTo}
 use Rattle.machine.specs.Effects.{answerCloses, acknowledges, settle, answers, answered}
+use Rattle.refine_parts.specs.Same.{Beside}
 use Rattle.refine_parts.proofs.Same.{same-acts}
 use Rattle.refine_parts.specs.Waits.{purposeFor, foundFor}
 use Rattle.refine_parts.specs.Life.{SameLife}
@@ -28,8 +29,8 @@ use Rattle.refine_calls.proofs.Parts.{items-moved, with-life}
 use Rattle.refine_packet.specs.Answered.{SameAnswered}
 use Rattle.refine_packet.proofs.Plans.{left, shut}
 
-module _ (s : Site) (m : Machine) (h : Abstracts s m) (l : ℕ) (b : l < m .setup .links) where
-  settled-one : (n : ℕ) → Abstracts (settledFor s l (purposeFor (theRecord n))) (settle l (theRecord n) m)
+module _ {beside : Beside} (s : Site) (m : Machine) (h : Abstracts beside s m) (l : ℕ) (b : l < m .setup .links) where
+  settled-one : (n : ℕ) → Abstracts beside (settledFor s l (purposeFor (theRecord n))) (settle l (theRecord n) m)
   settled-one n =
       record {
         items = items-moved (h .items);
@@ -37,11 +38,11 @@ module _ (s : Site) (m : Machine) (h : Abstracts s m) (l : ℕ) (b : l < m .setu
         link-places = h .link-places;
         life-count = h .life-count;
         lives = h .lives;
-        pool = same-acts (m .setup .links) (h .items .setup .few) .settle (s .pool) (s .next) m (h .pool) l n;
+        pool = same-acts (m .setup .links) beside (s .site) .settle (s .pool) (s .next) m (h .pool) l n;
       }
 
   -- "Either answer settles a record.", and the link goes on
-  goes-on : (x : Sent) (k : Link) (y : Life) → SameLife k y → Abstracts (withLink (settledFor s l (purposeFor x)) l k) (withLife l y (settle l x m))
+  goes-on : (x : Sent) (k : Link) (y : Life) → SameLife k y → Abstracts beside (withLink (settledFor s l (purposeFor x)) l k) (withLife l y (settle l x m))
   goes-on ourVersion k y e = with-life s m h l b k y e
   goes-on ourWatchdog k y e = with-life s m h l b k y e
   goes-on noRecord k y e = with-life s m h l b k y e
@@ -60,7 +61,7 @@ module _ (s : Site) (m : Machine) (h : Abstracts s m) (l : ℕ) (b : l < m .setu
         subst (λ (c : Bool). SameLife (answeredOf (linkAt s l) id isAck) (pick c (fresh false) (answeredTo o (acknowledges isAck (w .message) (lifeAt m l))))) e
         (acts .acts (linkAt s l) (lifeAt m l) (h .lives l) .answered o id isAck w says found)
 
-    by-answer : SamePlan (answeredPlan s l id isAck) (answers l o isAck m w)
+    by-answer : SamePlan beside (answeredPlan s l id isAck) (answers l o isAck m w)
     unfolding answers
     by-answer =
         rw same-closes
@@ -72,9 +73,9 @@ module _ (s : Site) (m : Machine) (h : Abstracts s m) (l : ℕ) (b : l < m .setu
         (goes-on (w .message) (answeredOf (linkAt s l) id isAck) (answeredTo o (acknowledges isAck (w .message) (lifeAt m l))) (open-life e)) [])))
 
   by-packet : (j : Json) (id : Identity) (w : Awaited) → Says (stringOf "oMId" j) (id .bytes) → awaitedBy (lifeAt m l) (stringOf "oMId" j) ≡ some w
-      → SamePlan (answeredPlan s l id (isType "MessageAck" j)) (answered l j m)
+      → SamePlan beside (answeredPlan s l id (isType "MessageAck" j)) (answered l j m)
   unfolding answered
   by-packet j id w says found = rw found (by-answer (stringOf "oMId" j) id (isType "MessageAck" j) w says found)
 
 pub same-answered : SameAnswered
-same-answered = by-packet
+same-answered beside s m h l b j id w = by-packet s m h l b j id w

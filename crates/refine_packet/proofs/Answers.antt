@@ -16,7 +16,7 @@ use Rattle.read_head.specs.declared.Head.{Head}
 use Rattle.read_head.specs.Head.{ignored}
 use Rattle.site.specs.declared.Site.{Site}
 use Rattle.site.specs.Site.{linkAt, withLink, closeAt, maskOf}
-use Rattle.site.specs.Call.{only}
+use Rattle.site.specs.Call.{Plan, only}
 use Rattle.packet_answer.specs.Taken.{Taken}
 use Rattle.packet_greet.specs.Answered.{settled, answeredPlan}
 use Rattle.call_packet.specs.Packet.{classTaken, questionOf, headTaken}
@@ -26,6 +26,7 @@ use Rattle.machine.specs.Json.{stringOf, elementIs, isType, isIdentity}
 use Rattle.machine.specs.Life.{awaitedBy}
 use Rattle.machine.specs.Answers.{isAnswer, wantsReply, reasonOf}
 use Rattle.machine.specs.Effects.{answered, refuses, carriedOut, replying, receives}
+use Rattle.refine_parts.specs.Same.{Beside}
 use Rattle.refine_read.specs.Head.{answerClass, answerOf, requestOf, headOf}
 use Rattle.refine_read.proofs.Identity.{readable}
 use Rattle.refine_calls.specs.Abstracts.{Abstracts}
@@ -34,23 +35,25 @@ use Rattle.refine_packet.proofs.Answered.{same-answered}
 use Rattle.refine_packet.specs.Heard.{SameHeard}
 
 -- an answer issues no records
-next-is : (s : Site) (l : ℕ) (k : Identity) (a : Bool) → answeredPlan s l k a .site .next ≡ s .next
-next-is s l k a = by (closesOf (linkAt s l) k a) (findOf (linkAt s l .awaited) k)
+stays : (s : Site) (l : ℕ) (k : Identity) (a : Bool) → (answeredPlan s l k a .site .next ≡ s .next) × (answeredPlan s l k a .site .site ≡ s .site)
+stays s l k a = by (closesOf (linkAt s l) k a) (findOf (linkAt s l .awaited) k)
   where
-    by : (c : Bool) (o : Found)
-        → pick c (record { site = closeAt s l; issued = []; messages = []; closed = maskOf l; hint = noHint; commands = [] }) (only (withLink (settled s l o) l (answeredOf (linkAt s l) k a))) .site .next ≡ s .next
-    by true o = refl
-    by false Nothing = refl
-    by false (For Version) = refl
-    by false (For Watchdog) = refl
-    by false (For (Entry q)) = refl
-    by false (For Other) = refl
+    plan : Bool → Found → Plan
+    plan c o = pick c (record { site = closeAt s l; issued = []; messages = []; closed = maskOf l; hint = noHint; commands = [] }) (only (withLink (settled s l o) l (answeredOf (linkAt s l) k a)))
+
+    by : (c : Bool) (o : Found) → (plan c o .site .next ≡ s .next) × (plan c o .site .site ≡ s .site)
+    by true o = (refl, refl)
+    by false Nothing = (refl, refl)
+    by false (For Version) = (refl, refl)
+    by false (For Watchdog) = (refl, refl)
+    by false (For (Entry q)) = (refl, refl)
+    by false (For Other) = (refl, refl)
 
 receives-answer : (l t : ℕ) (id : Bytes) (m : Machine) (j : Json) → isAnswer j ≡ true → receives l t id m j ≡ answered l j m
 unfolding receives
 receives-answer l t id m j e = ap (λ (c : Bool). pick c (answered l j m) (maybe (replying l t id j (carriedOut l t j m)) (refuses l j m) (reasonOf m l j))) e
 
-module _ (s : Site) (m : Machine) (h : Abstracts s m) (l : ℕ) (b : l < m .setup .links) (t : ℕ) (id : Identity) (p : Bytes) (j : Json) (is : isAnswer j ≡ true) where
+module _ {beside : Beside} (s : Site) (m : Machine) (h : Abstracts beside s m) (l : ℕ) (b : l < m .setup .links) (t : ℕ) (id : Identity) (p : Bytes) (j : Json) (is : isAnswer j ≡ true) where
   abbrev to : Identity
   to = readIdentity (stringOf "oMId" j) .id
 
@@ -68,18 +71,19 @@ module _ (s : Site) (m : Machine) (h : Abstracts s m) (l : ℕ) (b : l < m .setu
   says f = answers (stringOf "oMId" j) .accepted (sym (readable (stringOf "oMId" j)) ∙ f)
 
   planned : (w : Awaited) → isIdentity (stringOf "oMId" j) ≡ true → awaitedBy (lifeAt m l) (stringOf "oMId" j) ≡ some w
-      → SameHeard s m l t id (record { plan = answeredPlan s l to (isType "MessageAck" j); replies = false }) (some j)
+      → SameHeard beside s m l t id (record { plan = answeredPlan s l to (isType "MessageAck" j); replies = false }) (some j)
   planned w f g =
       record {
         replies = sym (ap (λ (c : Bool). both (not c) (both (not (isSome (reasonOf m l j))) (wantsReply m l j))) is);
-        next = next-is s l to (isType "MessageAck" j);
+        next = stays s l to (isType "MessageAck" j) .0;
+        site = stays s l to (isType "MessageAck" j) .1;
         plan = λ u.
-            subst (SamePlan (answeredPlan s l to (isType "MessageAck" j))) (sym (receives-answer l t (id .bytes) m j is))
-            (same-answered s m h l b j to w (says f) g);
+            subst (SamePlan beside (answeredPlan s l to (isType "MessageAck" j))) (sym (receives-answer l t (id .bytes) m j is))
+            (same-answered beside s m h l b j to w (says f) g);
       }
 
   pub heard-answer : (w : Awaited) → elementIs "mType" "rSMsg" j ≡ true → isIdentity (stringOf "oMId" j) ≡ true → awaitedBy (lifeAt m l) (stringOf "oMId" j) ≡ some w
-      → SameHeard s m l t id (headTaken s l t id p (headOf j)) (some j)
+      → SameHeard beside s m l t id (headTaken s l t id p (headOf j)) (some j)
   heard-answer w e f g =
-      subst (λ (x : Head). SameHeard s m l t id (headTaken s l t id p x) (some j)) (sym (head-is e f))
-      (subst (λ (x : Taken). SameHeard s m l t id x (some j)) (sym (class-is (isType "MessageAck" j))) (planned w f g))
+      subst (λ (x : Head). SameHeard beside s m l t id (headTaken s l t id p x) (some j)) (sym (head-is e f))
+      (subst (λ (x : Taken). SameHeard beside s m l t id x (some j)) (sym (class-is (isType "MessageAck" j))) (planned w f g))

@@ -21,6 +21,7 @@ use Rattle.refine_read.specs.Verdicts.{verdictIn}
 use Rattle.refine_read.specs.Head.{kindOf, mTypeOf, Typed, version, watchdog, alarm, aggregated-request, status-request, status-subscribe, status-unsubscribe, command-request, not-taken}
 use Rattle.refine_read.specs.Reasons.{byVerdict, furtherReason, reasonBy}
 use Rattle.refine_read.proofs.Kept as Reads
+use Rattle.refine_parts.specs.Same.{Beside}
 use Rattle.refine_parts.proofs.Questions.{questions}
 use Rattle.refine_calls.specs.Abstracts.{Abstracts}
 use Rattle.refine_packet.specs.Taken.{SameTaken, questionOn}
@@ -55,13 +56,13 @@ judges-taken : (a b : Bool) → pick (not a) true b ≡ false → b ≡ false
 judges-taken true b e = e
 judges-taken false b e = untrue (sym e)
 
-module _ (s : Site) (m : Machine) (h : Abstracts s m) (l : ℕ) (b : l < m .setup .links) (t : ℕ) (id : Identity) (v : SixteenBytes (id .bytes)) (p : Bytes) (j : Json) (read : readPacket p ≡ some j) (down : not (lifeAt m l .connected) ≡ false) where
+module _ {beside : Beside} (s : Site) (m : Machine) (h : Abstracts beside s m) (l : ℕ) (b : l < m .setup .links) (t : ℕ) (id : Identity) (v : SixteenBytes (id .bytes)) (p : Bytes) (j : Json) (read : readPacket p ≡ some j) (down : not (lifeAt m l .connected) ≡ false) where
   abbrev behind : Option String
   behind = byVerdict (verdictIn (isOlder (lifeAt m l)) j) (furtherReason m l j)
 
   -- "Unexpected", "Not ready", then those of the type
-  stage : (e u r n : Bool) {x : Taken} {o : Option String} → e ≡ not u → (u ≡ false → r ≡ n) → (u ≡ false → n ≡ false → SameTaken s m l t id j x o)
-      → SameTaken s m l t id j (pick e (pick r (notAcked s (questionOn l t id j) notReady) x) (notAcked s (questionOn l t id j) unexpected))
+  stage : (e u r n : Bool) {x : Taken} {o : Option String} → e ≡ not u → (u ≡ false → r ≡ n) → (u ≡ false → n ≡ false → SameTaken beside s m l t id j x o)
+      → SameTaken beside s m l t id j (pick e (pick r (notAcked s (questionOn l t id j) notReady) x) (notAcked s (questionOn l t id j) unexpected))
       (pick u (some "Unexpected") (pick n (some "Not ready") o))
   stage e true r n a c f = rw a (reasons s m h l b t id j .is-unexpected)
   stage e false r true a c f = rw (a, c refl) (reasons s m h l b t id j .not-ready)
@@ -75,12 +76,12 @@ module _ (s : Site) (m : Machine) (h : Abstracts s m) (l : ℕ) (b : l < m .setu
 
   abbrev Same : Kind → Type 0
   Same k =
-      SameTaken s m l t id j (expectedTaken s (questionOn l t id j) p k)
+      SameTaken beside s m l t id j (expectedTaken s (questionOn l t id j) p k)
       (pick (isUnexpected (lifeAt m l) j) (some "Unexpected") (pick (both (isBeating (lifeAt m l)) (not (isType "Watchdog" j))) (some "Not ready") behind))
 
   abbrev staged : (k : Kind) → expected (linkAt s l) k ≡ not (isUnexpected (lifeAt m l) j)
       → (isUnexpected (lifeAt m l) j ≡ false → unready (linkAt s l) k ≡ both (isBeating (lifeAt m l)) (not (isType "Watchdog" j)))
-      → (isUnexpected (lifeAt m l) j ≡ false → both (isBeating (lifeAt m l)) (not (isType "Watchdog" j)) ≡ false → SameTaken s m l t id j (kindTaken s (questionOn l t id j) p k) behind)
+      → (isUnexpected (lifeAt m l) j ≡ false → both (isBeating (lifeAt m l)) (not (isType "Watchdog" j)) ≡ false → SameTaken beside s m l t id j (kindTaken s (questionOn l t id j) p k) behind)
       → Same k
   staged k = stage (expected (linkAt s l) k) (isUnexpected (lifeAt m l) j) (unready (linkAt s l) k) (both (isBeating (lifeAt m l)) (not (isType "Watchdog" j)))
 
@@ -120,14 +121,14 @@ module _ (s : Site) (m : Machine) (h : Abstracts s m) (l : ℕ) (b : l < m .setu
         }
 
     of-version : Same Version
-    of-version = staged Version judged-if (λ e. rw (same-beating, ty)) (λ e n. same-version s m h l b (judges e) t id v p j read ty)
+    of-version = staged Version judged-if (λ e. rw (same-beating, ty)) (λ e n. same-version beside s m h l b (judges e) t id v p j read ty)
 
   -- number 1 ignores in Greeting all but type Version
   module _ (heard : both (isGreeting (lifeAt m l)) (not (isType "Version" j)) ≡ false) where
     of-watchdog : stringAt "type" j ≡ some (text "Watchdog") → Same Watchdog
     of-watchdog ty =
         let g : both (isGreeting (lifeAt m l)) true ≡ false = rw ty at heard in
-        staged Watchdog (rw ty) (λ e. rw (same-beating, ty)) (λ e n. same-watchdog s m h l b (beats (late g)) t id v p j read ty)
+        staged Watchdog (rw ty) (λ e. rw (same-beating, ty)) (λ e n. same-watchdog beside s m h l b (beats (late g)) t id v p j read ty)
 
     -- any other type
     module _ (no-version : isType "Version" j ≡ false) (no-watchdog : isType "Watchdog" j ≡ false) where
@@ -140,27 +141,27 @@ module _ (s : Site) (m : Machine) (h : Abstracts s m) (l : ℕ) (b : l < m .setu
     by-type k (version ty) = of-version ty
     by-type k (watchdog ty) = of-watchdog ty
     by-type k (alarm ty) =
-        staged Alarm (rw ty) (λ e. rw (same-beating, ty)) (λ e n. same-alarm s m h l b (is-up (rw ty) (rw ty) n) t id v p j read ty)
+        staged Alarm (rw ty) (λ e. rw (same-beating, ty)) (λ e n. same-alarm beside s m h l b (is-up (rw ty) (rw ty) n) t id v p j read ty)
     by-type k (aggregated-request ty) =
-        staged AggregatedStatusRequest (rw ty) (λ e. rw (same-beating, ty)) (λ e n. same-aggregated s m h l b (is-up (rw ty) (rw ty) n) t id v p j read ty)
+        staged AggregatedStatusRequest (rw ty) (λ e. rw (same-beating, ty)) (λ e n. same-aggregated beside s m h l b (is-up (rw ty) (rw ty) n) t id v p j read ty)
     by-type k (status-request false ty) =
-        staged StatusRequest (rw ty) (λ e. rw (same-beating, ty)) (λ e n. same-statuses .status-request false s m h l b (is-up (rw ty) (rw ty) n) t id v p j read ty)
+        staged StatusRequest (rw ty) (λ e. rw (same-beating, ty)) (λ e n. same-statuses .status-request false beside s m h l b (is-up (rw ty) (rw ty) n) t id v p j read ty)
     by-type k (status-request true ty) =
-        staged StatusRequest (rw ty) (λ e. rw (same-beating, ty)) (λ e n. same-statuses .status-request true s m h l b (is-up (rw ty) (rw ty) n) t id v p j read ty)
+        staged StatusRequest (rw ty) (λ e. rw (same-beating, ty)) (λ e n. same-statuses .status-request true beside s m h l b (is-up (rw ty) (rw ty) n) t id v p j read ty)
     by-type k (status-subscribe ty) =
-        staged StatusSubscribe (rw ty) (λ e. rw (same-beating, ty)) (λ e n. same-statuses .status-subscribe s m h l b (is-up (rw ty) (rw ty) n) t id v p j read ty)
+        staged StatusSubscribe (rw ty) (λ e. rw (same-beating, ty)) (λ e n. same-statuses .status-subscribe beside s m h l b (is-up (rw ty) (rw ty) n) t id v p j read ty)
     by-type k (status-unsubscribe ty) =
-        staged StatusUnsubscribe (rw ty) (λ e. rw (same-beating, ty)) (λ e n. same-statuses .status-unsubscribe s m h l b (is-up (rw ty) (rw ty) n) t id v p j read ty)
+        staged StatusUnsubscribe (rw ty) (λ e. rw (same-beating, ty)) (λ e n. same-statuses .status-unsubscribe beside s m h l b (is-up (rw ty) (rw ty) n) t id v p j read ty)
     by-type k (command-request false ty) =
-        staged CommandRequest (rw ty) (λ e. rw (same-beating, ty)) (λ e n. same-command false s m h l b (is-up (rw ty) (rw ty) n) t id v p j read ty)
+        staged CommandRequest (rw ty) (λ e. rw (same-beating, ty)) (λ e n. same-command false beside s m h l b (is-up (rw ty) (rw ty) n) t id v p j read ty)
     by-type k (command-request true ty) =
-        staged CommandRequest (rw ty) (λ e. rw (same-beating, ty)) (λ e n. same-command true s m h l b (is-up (rw ty) (rw ty) n) t id v p j read ty)
+        staged CommandRequest (rw ty) (λ e. rw (same-beating, ty)) (λ e n. same-command true beside s m h l b (is-up (rw ty) (rw ty) n) t id v p j read ty)
     by-type k (not-taken f) =
         let u : isUnexpected (lifeAt m l) j ≡ true =
         ap (λ (c : Bool). pick (not c) true (both (isType "Version" j) (pick (not (lifeAt m l .versions .sent)) true (lifeAt m l .versions .taken)))) f in
         staged Unexpected (ap not (sym u)) (λ e. not-both u e) (λ e n. not-both u e)
 
-    pub asked : SameTaken s m l t id j (askedTaken s (questionOn l t id j) p (mTypeOf j) (kindOf j)) (reasonBy m l j)
+    pub asked : SameTaken beside s m l t id j (askedTaken s (questionOn l t id j) p (mTypeOf j) (kindOf j)) (reasonBy m l j)
     asked =
         by-verdict s m h l b t id j (mTypeOf j) (expectedTaken s (questionOn l t id j) p (kindOf j)) _
         (λ g. by-type (kindOf j) (Reads.kept .typed j))

@@ -18,13 +18,14 @@ use Rattle.machine.specs.Effects.{carriedOut}
 use Rattle.demand_held.proofs.Lists.{Each}
 use Rattle.demand_held.proofs.Lists.Each.{no-more, one-more}
 use Rattle.demand_held.proofs.Issue.{For}
+use Rattle.refine_parts.specs.Same.{Beside}
 use Rattle.refine_parts.specs.Items.{SameEffect}
 use Rattle.refine_calls.specs.Abstracts.{Abstracts}
 use Rattle.refine_calls.specs.Calls.SameCommands.{no-command}
 use Rattle.refine_packet.specs.Taken.{SameTaken, questionOn}
 use Rattle.refine_packet.proofs.Acked.{only-acked}
 
-module _ (s : Site) (m : Machine) (h : Abstracts s m) where
+module _ {beside : Beside} (s : Site) (m : Machine) (h : Abstracts beside s m) where
   -- the primary is configured
   for-primary : (k : ℕ) (a : Alarm) → Each (For (m .setup .links)) (told m k a)
   for-primary k a = by (isSilent (a .event) (a .suspended)) (m .setup .primary) (h .items .setup .its-link)
@@ -37,10 +38,10 @@ module _ (s : Site) (m : Machine) (h : Abstracts s m) where
 
   module _ (l t : ℕ) (id : Identity) (j : Json) (k : ℕ) (order : Change) where
     pub changed : (o : Option Alarm) → carriedOut l t j m ≡ happens m k o → repliesAtOnce j ≡ false → wantsReply m l j ≡ false
-        → SameEffect (changeTaken s (questionOn l t id j) k order .plan) (happens m k o) → SameTaken s m l t id j (changeTaken s (questionOn l t id j) k order) none
+        → SameEffect (changeTaken s (questionOn l t id j) k order .plan) (happens m k o) → SameTaken beside s m l t id j (changeTaken s (questionOn l t id j) k order) none
     unfolding changeTaken happens
     changed none c r w e =
-        only-acked s m l t id j (withAlarmIn s k (orderOf (alarmIn s k) order t .alarm)) (recordsOf s k (orderOf (alarmIn s k) order t)) noHint (only m) c r w w refl
+        only-acked s m l t id j (withAlarmIn s k (orderOf (alarmIn s k) order t .alarm)) (recordsOf s k (orderOf (alarmIn s k) order t)) noHint (only m) c r w w refl refl
         (record {
           leaves = record { items = e .items; last = h .last; link-places = h .link-places; life-count = h .life-count; lives = h .lives; pool = h .pool };
           issued = record { issued = e .records .issued; told = e .records .told };
@@ -52,7 +53,7 @@ module _ (s : Site) (m : Machine) (h : Abstracts s m) where
         })
     changed (some a) c r w e =
         only-acked s m l t id j (withAlarmIn s k (orderOf (alarmIn s k) order t .alarm)) (recordsOf s k (orderOf (alarmIn s k) order t)) noHint
-        (effect (withAlarm k a m) (told m k a) [] [] none) c r w w refl
+        (effect (withAlarm k a m) (told m k a) [] [] none) c r w w refl refl
         (record {
           leaves = record { items = e .items; last = h .last; link-places = h .link-places; life-count = h .life-count; lives = h .lives; pool = h .pool };
           issued = record { issued = e .records .issued; told = e .records .told };

@@ -20,6 +20,7 @@ use Rattle.machine.specs.Answers.{componentAsked, statusAsked}
 use Rattle.machine.specs.Items.{update, numberAsked, without, subscribing as subscribingTo, subscribeAll, endAll}
 use Rattle.demand_held.proofs.Lists.{Each, each-append}
 use Rattle.demand_held.proofs.Lists.Each.{no-more}
+use Rattle.refine_parts.specs.Same.{Beside}
 use Rattle.refine_parts.specs.Record.{unnumbered, IsTold}
 use Rattle.refine_read.specs.Statuses.{entryOf, StatusReads}
 use Rattle.refine_read.proofs.Indexed.{done, by-places}
@@ -31,7 +32,7 @@ use Rattle.refine_calls.proofs.Inputs.{same-up}
 use Rattle.refine_packet.specs.Lookups.{soughtFor}
 use Rattle.refine_packet.proofs.Entries.{sought-at, there, first-known}
 
-module _ (s : Site) (m : Machine) (h : Abstracts s m) (l : ℕ) (b : l < m .setup .links) (t : ℕ) (subscribing : Bool) (j : Json) (f : StatusFields) (r : StatusReads subscribing (isOlder (lifeAt m l)) j f) (g : f .verdict ≡ Good) (c : ℕ) (asked : componentAsked m j ≡ some c) where
+module _ {beside : Beside} (s : Site) (m : Machine) (h : Abstracts beside s m) (l : ℕ) (b : l < m .setup .links) (t : ℕ) (subscribing : Bool) (j : Json) (f : StatusFields) (r : StatusReads subscribing (isOlder (lifeAt m l)) j f) (g : f .verdict ≡ Good) (c : ℕ) (asked : componentAsked m j ≡ some c) where
   abbrev unknown : List Json → Bool
   unknown es = any (λ e. not (isSome (statusAsked m j e))) es
 
@@ -49,8 +50,9 @@ module _ (s : Site) (m : Machine) (h : Abstracts s m) (l : ℕ) (b : l < m .setu
 
   -- as it stands after some entries
   pub record Now (now : Site) (subs : List Subscription) : Type 0 where
-    pub same : Abstracts now (withSubscriptions subs m)
+    pub same : Abstracts beside now (withSubscriptions subs m)
     pub next : now .next ≡ s .next
+    pub site : now .site ≡ s .site
 
   with-items : (now : Site) (subs news : List Subscription) → Now now subs → (i : ℕ) (x : Slot)
       → SameItems (withSubscription now i x) (withSubscriptions news m) → Now (withSubscription now i x) news
@@ -65,6 +67,7 @@ module _ (s : Site) (m : Machine) (h : Abstracts s m) (l : ℕ) (b : l < m .setu
           pool = n .same .pool;
         };
         next = n .next;
+        site = n .site;
       }
 
   one-done : (z : Bool) (now : Site) (subs : List Subscription) → Now now subs → (e : Json) (o : Option ℕ) → statusAsked m j e ≡ o → isSome o ≡ true
@@ -98,7 +101,7 @@ module _ (s : Site) (m : Machine) (h : Abstracts s m) (l : ℕ) (b : l < m .setu
       → Now (replaced subscribing s l t c (f .entries) (f .count)) (allBy subscribing (entriesOf "sS" j) (m .subscriptions))
   subscriptions-so k =
       subst (λ (x : Site). Now x (allBy subscribing (entriesOf "sS" j) (m .subscriptions))) (sym replaced-so)
-      (all-done subscribing (entriesOf "sS" j) k s (m .subscriptions) (record { same = h; next = refl }))
+      (all-done subscribing (entriesOf "sS" j) k s (m .subscriptions) (record { same = h; next = refl; site = refl }))
 
   -- ---- the records
   abbrev pub toldOf : Json → Issued
@@ -107,7 +110,7 @@ module _ (s : Site) (m : Machine) (h : Abstracts s m) (l : ℕ) (b : l < m .setu
   abbrev adding : List Entry → Json → List Entry
   adding rs e = rs ++ recordOf s l t (soughtFor (statusAsked m j e))
 
-  record-so : (e : Json) (o : Option ℕ) → statusAsked m j e ≡ o → isSome o ≡ true → recordOf s l t (soughtFor o) ≡ unnumbered (update m t l (orElse 0 o)) ∷ []
+  record-so : (e : Json) (o : Option ℕ) → statusAsked m j e ≡ o → isSome o ≡ true → recordOf s l t (soughtFor o) ≡ unnumbered (s .site) (update m t l (orElse 0 o)) ∷ []
   record-so e (some k) q y =
       item-acts .acts s m (h .items) .subscribing l k b (there s m h subscribing (isOlder (lifeAt m l)) j f r g c asked e k q) .at-once t (same-up s m h) .issued
   record-so e none q y = untrue y
@@ -117,18 +120,18 @@ module _ (s : Site) (m : Machine) (h : Abstracts s m) (l : ℕ) (b : l < m .setu
       item-acts .acts s m (h .items) .subscribing l k b (there s m h subscribing (isOlder (lifeAt m l)) j f r g c asked e k q) .at-once t (same-up s m h) .told
   told-so e none q y = untrue y
 
-  all-added : (es : List Json) → unknown es ≡ false → (rs : List Entry) → done adding rs es ≡ rs ++ map unnumbered (map toldOf es)
+  all-added : (es : List Json) → unknown es ≡ false → (rs : List Entry) → done adding rs es ≡ rs ++ map (unnumbered (s .site)) (map toldOf es)
   all-added [] k rs = sym (append-nil rs)
   all-added (e ∷ es) k rs =
       all-added es (known-first e es k .1) (adding rs e)
-      ∙ append-assoc rs (recordOf s l t (soughtFor (statusAsked m j e))) (map unnumbered (map toldOf es))
-      ∙ ap (λ (x : List Entry). rs ++ (x ++ map unnumbered (map toldOf es))) (record-so e (statusAsked m j e) refl (known-first e es k .0))
+      ∙ append-assoc rs (recordOf s l t (soughtFor (statusAsked m j e))) (map (unnumbered (s .site)) (map toldOf es))
+      ∙ ap (λ (x : List Entry). rs ++ (x ++ map (unnumbered (s .site)) (map toldOf es))) (record-so e (statusAsked m j e) refl (known-first e es k .0))
 
   pub all-told : (es : List Json) → unknown es ≡ false → Each (λ (i : Issued). IsTold (i .content)) (map toldOf es)
   all-told [] k = no-more
   all-told (e ∷ es) k = each-append (told-so e (statusAsked m j e) refl (known-first e es k .0)) (all-told es (known-first e es k .1))
 
-  pub records-so : unknown (entriesOf "sS" j) ≡ false → records s l t c (f .entries) (f .count) ≡ map unnumbered (map toldOf (entriesOf "sS" j))
+  pub records-so : unknown (entriesOf "sS" j) ≡ false → records s l t c (f .entries) (f .count) ≡ map (unnumbered (s .site)) (map toldOf (entriesOf "sS" j))
   records-so k =
       ap (records s l t c (f .entries)) (r .count g)
       ∙ by-places adding null (entriesOf "sS" j) (records s l t c (f .entries))

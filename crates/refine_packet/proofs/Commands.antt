@@ -35,6 +35,7 @@ use Rattle.machine.specs.Answers.{componentAsked, commandAsked, valueAsked, inR
 use Rattle.machine.specs.Items.{commandOfEntry, commandsAsked, commands}
 use Rattle.machine.specs.Messages.{commandEntries}
 use Rattle.machine.specs.Effects.{carriedOut}
+use Rattle.refine_parts.specs.Same.{Beside}
 use Rattle.refine_read.specs.Verdicts.{verdictIn}
 use Rattle.refine_read.specs.Head.{typeName}
 use Rattle.refine_read.specs.Reasons.{byVerdict as reasonBy, furtherReason, busyIf, anyUnknownCommand, anyOutOfRange}
@@ -86,7 +87,7 @@ not-maybe : {A : Type 0} (p : A → Bool) (o : Option A) → not (maybe true p o
 not-maybe p none = refl
 not-maybe p (some a) = refl
 
-module _ (s : Site) (m : Machine) (h : Abstracts s m) (j : Json) (f : CommandFields) (r : CommandReads j f) (g : f .verdict ≡ Good) where
+module _ {beside : Beside} (s : Site) (m : Machine) (h : Abstracts beside s m) (j : Json) (f : CommandFields) (r : CommandReads j f) (g : f .verdict ≡ Good) where
   abbrev entry : ℕ → Json
   entry i = getD (entriesOf "arg" j) i null
 
@@ -204,12 +205,12 @@ module _ (s : Site) (m : Machine) (h : Abstracts s m) (j : Json) (f : CommandFie
   unfolding told
   told-so o a = told-all o ∙ ap (λ (q : Option ℕ). map (toldFor q) (entriesOf "arg" j)) (sym a)
 
-module _ (s : Site) (m : Machine) (h : Abstracts s m) (l : ℕ) (b : l < m .setup .links) (up : IsUp (lifeAt m l)) (t : ℕ) (id : Identity) (v : SixteenBytes (id .bytes)) (j : Json) (n : Bool) (ty : stringAt "type" j ≡ some (typeName "CommandRequest" n)) (f : CommandFields) (r : CommandReads j f) where
+module _ {beside : Beside} (s : Site) (m : Machine) (h : Abstracts beside s m) (l : ℕ) (b : l < m .setup .links) (up : IsUp (lifeAt m l)) (t : ℕ) (id : Identity) (v : SixteenBytes (id .bytes)) (j : Json) (n : Bool) (ty : stringAt "type" j ≡ some (typeName "CommandRequest" n)) (f : CommandFields) (r : CommandReads j f) where
   module _ (g : f .verdict ≡ Good) where
     abbrev answer : Option ℕ → Taken
     answer o = answering s (questionOn l t id j) CommandResponse (textOf (f .component)) (told (soughtFor o) f) (commandsOf (s .table) f (soughtFor o))
 
-    answered : (o : Option ℕ) → componentAsked m j ≡ o → SameTaken s m l t id j (answer o) (busyIf m l (not n))
+    answered : (o : Option ℕ) → componentAsked m j ≡ o → SameTaken beside s m l t id j (answer o) (busyIf m l (not n))
     answered o a =
         answering-so s m h l b up t id v j n CommandResponse (textOf (f .component)) (told (soughtFor o) f) (commandEntries m j) (commandsOf (s .table) f (soughtFor o)) (commandsAsked m j)
         (asks m l t (id .bytes) j n ty) (ap textOf (r .component g) ∙ Reads.kept .kept (stringOf "cId" j)) (told-so s m h j f r g o a) (handed-so s m h j f r g o a)
@@ -222,7 +223,7 @@ module _ (s : Site) (m : Machine) (h : Abstracts s m) (l : ℕ) (b : l < m .setu
     reasonFor outside unknown = pick outside (some "Bad value") (pick unknown (some "Unknown command") (busyIf m l (not n)))
 
     by-known : (c : ℕ) → componentAsked m j ≡ some c → (outside unknown : Bool)
-        → SameTaken s m l t id j (judged (not outside) (not unknown) (some c)) (reasonFor outside unknown)
+        → SameTaken beside s m l t id j (judged (not outside) (not unknown) (some c)) (reasonFor outside unknown)
     by-known c a true unknown = reasons s m h l b t id j .bad-value
     by-known c a false true = reasons s m h l b t id j .unknown-command
     by-known c a false false = answered (some c) a
@@ -230,16 +231,16 @@ module _ (s : Site) (m : Machine) (h : Abstracts s m) (l : ℕ) (b : l < m .setu
     abbrev reasonBehind : Option ℕ → Option String
     reasonBehind o = pick (isSome o) (reasonFor (anyOutOfRange m j) (anyUnknownCommand m j)) (busyIf m l (not n))
 
-    by-component : (o : Option ℕ) → componentAsked m j ≡ o → SameTaken s m l t id j (orderedOf s (questionOn l t id j) f (soughtFor o)) (reasonBehind o)
+    by-component : (o : Option ℕ) → componentAsked m j ≡ o → SameTaken beside s m l t id j (orderedOf s (questionOn l t id j) f (soughtFor o)) (reasonBehind o)
     by-component none a = answered none a
     by-component (some c) a =
-        subst (λ (x : Bool). SameTaken s m l t id j (judged x (passes (s .table) f (soughtFor (some c))) (some c)) (reasonBehind (some c))) (sym (all-within s m h j f r g c a))
-        (subst (λ (x : Bool). SameTaken s m l t id j (judged (not (anyOutOfRange m j)) x (some c)) (reasonBehind (some c))) (sym (all-there s m h j f r g c a))
+        subst (λ (x : Bool). SameTaken beside s m l t id j (judged x (passes (s .table) f (soughtFor (some c))) (some c)) (reasonBehind (some c))) (sym (all-within s m h j f r g c a))
+        (subst (λ (x : Bool). SameTaken beside s m l t id j (judged (not (anyOutOfRange m j)) x (some c)) (reasonBehind (some c))) (sym (all-there s m h j f r g c a))
         (by-known c a (anyOutOfRange m j) (anyUnknownCommand m j)))
 
-    good : SameTaken s m l t id j (orderedOf s (questionOn l t id j) f (componentSought (s .table) (f .component))) (reasonBehind (componentAsked m j))
+    good : SameTaken beside s m l t id j (orderedOf s (questionOn l t id j) f (componentSought (s .table) (f .component))) (reasonBehind (componentAsked m j))
     good =
-        subst (λ (x : Sought). SameTaken s m l t id j (orderedOf s (questionOn l t id j) f x) (reasonBehind (componentAsked m j)))
+        subst (λ (x : Sought). SameTaken beside s m l t id j (orderedOf s (questionOn l t id j) f x) (reasonBehind (componentAsked m j)))
         (sym (named-component s m h j (f .component) (r .component g))) (by-component (componentAsked m j) refl)
 
   abbrev reason : Option String
@@ -247,13 +248,13 @@ module _ (s : Site) (m : Machine) (h : Abstracts s m) (l : ℕ) (b : l < m .setu
       pick (isSome (componentAsked m j))
       (pick (anyOutOfRange m j) (some "Bad value") (pick (anyUnknownCommand m j) (some "Unknown command") (busyIf m l (not n)))) (busyIf m l (not n))
 
-  taken : SameTaken s m l t id j (commandTaken s (questionOn l t id j) f) (reasonBy (verdictIn (isOlder (lifeAt m l)) j) (furtherReason m l j))
+  taken : SameTaken beside s m l t id j (commandTaken s (questionOn l t id j) f) (reasonBy (verdictIn (isOlder (lifeAt m l)) j) (furtherReason m l j))
   unfolding commandTaken
   taken =
-      subst (λ (x : Verdict). SameTaken s m l t id j (commandTaken s (questionOn l t id j) f) (reasonBy x (furtherReason m l j))) (r .verdict (isOlder (lifeAt m l)) (is-request j n ty))
-      (subst (λ (x : Option String). SameTaken s m l t id j (commandTaken s (questionOn l t id j) f) (reasonBy (f .verdict) x))
+      subst (λ (x : Verdict). SameTaken beside s m l t id j (commandTaken s (questionOn l t id j) f) (reasonBy x (furtherReason m l j))) (r .verdict (isOlder (lifeAt m l)) (is-request j n ty))
+      (subst (λ (x : Option String). SameTaken beside s m l t id j (commandTaken s (questionOn l t id j) f) (reasonBy (f .verdict) x))
       (sym (Reads.kept .further m l j .command-request n ty))
       (by-verdict s m h l b t id j (f .verdict) (orderedOf s (questionOn l t id j) f (componentSought (s .table) (f .component))) reason good))
 
 pub same-command : SameCommandRequest
-same-command n s m h l b up t id v p j read ty = taken s m h l b up t id v j n ty (commandAt p) (Lists.kept .commands p j read)
+same-command n beside s m h l b up t id v p j read ty = taken s m h l b up t id v j n ty (commandAt p) (Lists.kept .commands p j read)

@@ -20,6 +20,7 @@ use Rattle.refine_read.specs.Reasons.{anyUnknown}
 use Rattle.refine_read.proofs.Kept as Reads
 use Rattle.refine_read.specs.Statuses.{entryOf, StatusReads}
 use Rattle.refine_read.proofs.Indexed.{done, by-places}
+use Rattle.refine_parts.specs.Same.{Beside}
 use Rattle.refine_parts.proofs.ItemLists.{append-nil, append-assoc}
 use Rattle.refine_calls.specs.Abstracts.{Abstracts}
 use Rattle.refine_packet.specs.Lookups.{soughtFor}
@@ -46,13 +47,13 @@ each-behind k ys [] = sym (append-nil ys)
 each-behind k ys (x ∷ xs) = each-behind k (ys ++ (k x ∷ [])) xs ∙ append-assoc ys (k x ∷ []) (map k xs)
 
 -- the component that a packet names
-pub named-component : (s : Site) (m : Machine) → Abstracts s m → (j : Json) (id : Label) → id ≡ labelOf (stringOf "cId" j) → componentSought (s .table) id ≡ soughtFor (componentAsked m j)
+pub named-component : {beside : Beside} (s : Site) (m : Machine) → Abstracts beside s m → (j : Json) (id : Label) → id ≡ labelOf (stringOf "cId" j) → componentSought (s .table) id ≡ soughtFor (componentAsked m j)
 named-component s m h j id e =
     ap (λ (x : SiteTable). componentSought x id) (h .items .setup .table)
     ∙ ap (componentSought (memoryOf (m .setup .table))) e
     ∙ same-lookups (h .items .setup .edition) (m .setup .table) (h .items .setup .allowed) .component (stringOf "cId" j)
 
-module _ (s : Site) (m : Machine) (h : Abstracts s m) (subscribing older : Bool) (j : Json) (f : StatusFields) (r : StatusReads subscribing older j f) (g : f .verdict ≡ Good) where
+module _ {beside : Beside} (s : Site) (m : Machine) (h : Abstracts beside s m) (subscribing older : Bool) (j : Json) (f : StatusFields) (r : StatusReads subscribing older j f) (g : f .verdict ≡ Good) where
   pub component-sought : componentSought (s .table) (f .component) ≡ soughtFor (componentAsked m j)
   component-sought = named-component s m h j (f .component) (r .component g)
 

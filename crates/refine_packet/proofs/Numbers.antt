@@ -15,6 +15,7 @@ use Rattle.machine.specs.Json.{readPacket}
 use Rattle.machine.specs.Answers.{isIgnored}
 use Rattle.machine.specs.Effects.{receives, effectOf}
 use Rattle.machine.specs.Step.{noSuchLink, badTime, isDownAt, isReplied, identityAwaited, sequenceEnds, conditions}
+use Rattle.refine_parts.specs.Same.{Beside}
 use Rattle.refine_parts.proofs.Questions.{questions}
 use Rattle.refine_parts.proofs.Same.{same-answers}
 use Rattle.refine_calls.specs.Abstracts.{Abstracts}
@@ -69,9 +70,9 @@ both-true : (a b : Bool) → both a b ≡ false → a ≡ true → b ≡ false
 both-true true b e f = e
 both-true false b e f = absurd (let z : _≡_ {A = ℕ} 0 1 = cc in omega arith)
 
-module _ (s : Site) (m : Machine) (h : Abstracts s m) (l t : ℕ) (random : Identity) (p out : List ℕ) where
+module _ {beside : Beside} (s : Site) (m : Machine) (h : Abstracts beside s m) (l t : ℕ) (random : Identity) (p out : List ℕ) where
   abbrev heardAs : Type 0
-  heardAs = SameHeard s m l t (identityOf random) (packetTaken s l t (identityOf random) p) (readPacket p)
+  heardAs = SameHeard beside s m l t (identityOf random) (packetTaken s l t (identityOf random) p) (readPacket p)
 
   abbrev replies : Bool
   replies = maybe false (isReplied m l) (readPacket p)
@@ -85,16 +86,16 @@ module _ (s : Site) (m : Machine) (h : Abstracts s m) (l t : ℕ) (random : Iden
   awaited-same : heardAs → both (packetTaken s l t (identityOf random) p .replies) (isFound (findOf (linkAt s l .awaited) (identityOf random))) ≡ both replies awaits
   awaited-same x = rw (x .replies, questions .waits (linkAt s l) (lifeAt m l) (h .lives l) .is-awaited (identityOf random))
 
-  plan-same : heardAs → both replies awaits ≡ false → SamePlan (packetTaken s l t (identityOf random) p .plan) effects
+  plan-same : heardAs → both replies awaits ≡ false → SamePlan beside (packetTaken s l t (identityOf random) p .plan) effects
   plan-same x e = x .plan (λ r. both-true replies awaits e (sym (x .replies) ∙ r))
 
   spent-same : heardAs → both replies awaits ≡ false → batchOf (packetTaken s l t (identityOf random) p .plan) .spent ≡ sequenceEnds m effects
-  spent-same x e = rw (x .next, plan-same x e .issued .issued) (same-answers m (h .pool) .spent (packetTaken s l t (identityOf random) p .plan .site .pool) effects)
+  spent-same x e = rw (x .next, plan-same x e .issued .issued, x .site) (same-answers m (h .pool) .spent (packetTaken s l t (identityOf random) p .plan .site .pool) effects)
 
   abbrev Hears : Type 0
   Hears = l < m .setup .links → isDownAt m l ≡ false → isIgnored (lifeAt m l) (readPacket p) ≡ false → heardAs
 
-  pub packet-same : Hears → SameCall s m (packet l t random p out)
+  pub packet-same : Hears → SameCall beside s m (packet l t random p out)
   unfolding conditions effectOf
   packet-same hears =
       record {

@@ -18,6 +18,7 @@ use Rattle.machine.specs.Life.{isGreeting, awaitedBy}
 use Rattle.machine.specs.Answers.{isAnswer, awaitedHere, isReadable, isIgnored, wantsReply, repliesAtOnce, reasonOf}
 use Rattle.machine.specs.Effects.{answered, receives}
 use Rattle.machine.specs.Step.{isDownAt}
+use Rattle.refine_parts.specs.Same.{Beside}
 use Rattle.refine_read.specs.Head.{kindOf, mTypeOf, answerOf, requestOf, headOf}
 use Rattle.refine_read.specs.Ignored.{isOf}
 use Rattle.refine_read.proofs.Kept as Reads
@@ -49,9 +50,9 @@ receives-other : (l t : ℕ) (id : Bytes) (m : Machine) (j : Json) → isAnswer 
 unfolding receives
 receives-other l t id m j e = ap (λ (c : Bool). pick c (answered l j m) (effectBy m l t id j (reasonOf m l j))) e
 
-module _ (s : Site) (m : Machine) (h : Abstracts s m) (l : ℕ) (b : l < m .setup .links) (t : ℕ) (id : Identity) (v : SixteenBytes (id .bytes)) (p : Bytes) (down : isDownAt m l ≡ false) where
+module _ {beside : Beside} (s : Site) (m : Machine) (h : Abstracts beside s m) (l : ℕ) (b : l < m .setup .links) (t : ℕ) (id : Identity) (v : SixteenBytes (id .bytes)) (p : Bytes) (down : isDownAt m l ≡ false) where
   abbrev Heard : Head → Option Json → Type 0
-  Heard x o = SameHeard s m l t id (headTaken s l t id p x) o
+  Heard x o = SameHeard beside s m l t id (headTaken s l t id p x) o
 
   module _ (j : Json) where
     -- an answer to an awaited message
@@ -77,19 +78,20 @@ module _ (s : Site) (m : Machine) (h : Abstracts s m) (l : ℕ) (b : l < m .setu
     head-is : isAnswer j ≡ false → isReadable j ≡ true → headOf j ≡ askedHead
     head-is e f = ap (λ (c : Bool). pick c (answerOf j) (requestOf j)) e ∙ ap (λ (c : Bool). pick c askedHead ignored) f
 
-    taken-heard : (x : Taken) → isAnswer j ≡ false → SameTaken s m l t id j x (reasonOf m l j) → SameHeard s m l t id x (some j)
+    taken-heard : (x : Taken) → isAnswer j ≡ false → SameTaken beside s m l t id j x (reasonOf m l j) → SameHeard beside s m l t id x (some j)
     taken-heard x e same =
         record {
           replies = same .replies ∙ sym (ap (λ (c : Bool). both (not c) (both (not (isSome (reasonOf m l j))) (wantsReply m l j))) e);
           next = same .next;
-          plan = λ u. subst (SamePlan (x .plan)) (sym (receives-other l t (id .bytes) m j e)) (same .plan u);
+          site = same .site;
+          plan = λ u. subst (SamePlan beside (x .plan)) (sym (receives-other l t (id .bytes) m j e)) (same .plan u);
         }
 
     asking : readPacket p ≡ some j → isAnswer j ≡ false → isReadable j ≡ true → both (isGreeting (lifeAt m l)) (not (isType "Version" j)) ≡ false → Heard (headOf j) (some j)
     asking read e f g =
         subst (λ (x : Head). Heard x (some j)) (sym (head-is e f))
         (taken-heard (askedTaken s (questionOn l t id j) p (mTypeOf j) (kindOf j)) e
-        (subst (SameTaken s m l t id j (askedTaken s (questionOn l t id j) p (mTypeOf j) (kindOf j))) (sym (Reads.kept .reason m l j))
+        (subst (SameTaken beside s m l t id j (askedTaken s (questionOn l t id j) p (mTypeOf j) (kindOf j))) (sym (Reads.kept .reason m l j))
         (asked s m h l b t id v p j read down g)))
 
     ignored-answer : isAnswer j ≡ true → isIgnored (lifeAt m l) (some j) ≡ false → (elementIs "mType" "rSMsg" j and awaitedHere (lifeAt m l) j) ≡ true
@@ -118,9 +120,9 @@ module _ (s : Site) (m : Machine) (h : Abstracts s m) (l : ℕ) (b : l < m .setu
   by-packet none read i = untrue (sym i)
   by-packet (some j) read i = hearing j read i
 
-  heard : isIgnored (lifeAt m l) (readPacket p) ≡ false → SameHeard s m l t id (packetTaken s l t id p) (readPacket p)
+  heard : isIgnored (lifeAt m l) (readPacket p) ≡ false → SameHeard beside s m l t id (packetTaken s l t id p) (readPacket p)
   heard i = subst (λ (x : Head). Heard x (readPacket p)) (sym (Reads.kept .head p)) (by-packet (readPacket p) refl i)
 
 pub packet-calls : PacketCalls
-packet-calls s m h c (packets l t random p out) u =
+packet-calls beside s m h c (packets l t random p out) u =
     packet-same s m h l t random p out (λ b down i. heard s m h l b t (identityOf random) (own-sixteen (random .bytes) u) p down i)

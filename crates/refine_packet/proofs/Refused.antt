@@ -15,6 +15,7 @@ use Rattle.machine.specs.State.{Machine, effect}
 use Rattle.machine.specs.Json.{stringOf}
 use Rattle.machine.specs.Answers.{failsCheck}
 use Rattle.machine.specs.Effects.{closes, refusal, refuses}
+use Rattle.refine_parts.specs.Same.{Beside}
 use Rattle.refine_read.specs.Reasons.{byVerdict as reasonBy}
 use Rattle.refine_calls.specs.Abstracts.{Abstracts}
 use Rattle.refine_calls.specs.Calls.{SamePlan}
@@ -30,28 +31,30 @@ goes : (l : ℕ) (j : Json) (m : Machine) (r : String) → failsCheck r ≡ true
 unfolding refuses
 goes l j m r f = ap (λ (b : Bool). pick b (closes l (refusal j r ∷ []) m) (effect m [] (refusal j r ∷ []) [] none)) f
 
-module _ (s : Site) (m : Machine) (h : Abstracts s m) (l : ℕ) (b : l < m .setup .links) (t : ℕ) (id : Identity) (j : Json) where
-  noted : (n : ℕ) (r : String) → nameOf n ≡ text r → failsCheck r ≡ false → SameTaken s m l t id j (notAcked s (questionOn l t id j) n) (some r)
+module _ {beside : Beside} (s : Site) (m : Machine) (h : Abstracts beside s m) (l : ℕ) (b : l < m .setup .links) (t : ℕ) (id : Identity) (j : Json) where
+  noted : (n : ℕ) (r : String) → nameOf n ≡ text r → failsCheck r ≡ false → SameTaken beside s m l t id j (notAcked s (questionOn l t id j) n) (some r)
   noted n r e f =
       record {
         replies = refl;
         next = refl;
+        site = refl;
         plan = λ u.
-            subst (λ (bs : List ℕ). SamePlan (record { site = s; issued = []; messages = notAck (stringOf "mId" j) bs ∷ []; closed = 0; hint = noHint; commands = [] }) (refuses l j m r)) (sym e)
-            (subst (SamePlan (record { site = s; issued = []; messages = refusal j r ∷ []; closed = 0; hint = noHint; commands = [] })) (sym (stays l j m r f)) (left s m h (refusal j r ∷ [])));
+            subst (λ (bs : List ℕ). SamePlan beside (record { site = s; issued = []; messages = notAck (stringOf "mId" j) bs ∷ []; closed = 0; hint = noHint; commands = [] }) (refuses l j m r)) (sym e)
+            (subst (SamePlan beside (record { site = s; issued = []; messages = refusal j r ∷ []; closed = 0; hint = noHint; commands = [] })) (sym (stays l j m r f)) (left s m h (refusal j r ∷ [])));
       }
 
-  closed-for : (n : ℕ) (r : String) → nameOf n ≡ text r → failsCheck r ≡ true → SameTaken s m l t id j (closing s (questionOn l t id j) n) (some r)
+  closed-for : (n : ℕ) (r : String) → nameOf n ≡ text r → failsCheck r ≡ true → SameTaken beside s m l t id j (closing s (questionOn l t id j) n) (some r)
   closed-for n r e f =
       record {
         replies = refl;
         next = refl;
+        site = refl;
         plan = λ u.
-            subst (λ (bs : List ℕ). SamePlan (record { site = closeAt s l; issued = []; messages = notAck (stringOf "mId" j) bs ∷ []; closed = maskOf l; hint = noHint; commands = [] }) (refuses l j m r)) (sym e)
-            (subst (SamePlan (record { site = closeAt s l; issued = []; messages = refusal j r ∷ []; closed = maskOf l; hint = noHint; commands = [] })) (sym (goes l j m r f)) (shut s m h l b (refusal j r ∷ [])));
+            subst (λ (bs : List ℕ). SamePlan beside (record { site = closeAt s l; issued = []; messages = notAck (stringOf "mId" j) bs ∷ []; closed = maskOf l; hint = noHint; commands = [] }) (refuses l j m r)) (sym e)
+            (subst (SamePlan beside (record { site = closeAt s l; issued = []; messages = refusal j r ∷ []; closed = maskOf l; hint = noHint; commands = [] })) (sym (goes l j m r f)) (shut s m h l b (refusal j r ∷ [])));
       }
 
-  pub reasons : SameReasons s m l t id j
+  pub reasons : SameReasons beside s m l t id j
   reasons =
       record {
         missing-element = noted missingElement "Missing element" refl refl;
@@ -69,8 +72,8 @@ module _ (s : Site) (m : Machine) (h : Abstracts s m) (l : ℕ) (b : l < m .setu
       }
 
   -- "Missing element", "Bad value", then what comes behind them
-  pub by-verdict : (v : Verdict) (x : Taken) (r : Option String) → (v ≡ Good → SameTaken s m l t id j x r)
-      → SameTaken s m l t id j (byVerdict v s (questionOn l t id j) x) (reasonBy v r)
+  pub by-verdict : (v : Verdict) (x : Taken) (r : Option String) → (v ≡ Good → SameTaken beside s m l t id j x r)
+      → SameTaken beside s m l t id j (byVerdict v s (questionOn l t id j) x) (reasonBy v r)
   by-verdict Good x r f = f refl
   by-verdict Missing x r f = reasons .missing-element
   by-verdict Bad x r f = reasons .bad-value

@@ -22,6 +22,7 @@ use Rattle.machine.specs.Messages.{includedMessage}
 use Rattle.machine.specs.Effects.{carriedOut, replyMessage, replying}
 use Rattle.demand_held.proofs.Lists.Each.{no-more}
 use Rattle.refine_read.specs.Reasons.{busyIf}
+use Rattle.refine_parts.specs.Same.{Beside}
 use Rattle.refine_parts.proofs.Questions.{questions}
 use Rattle.refine_parts.proofs.LifeActs.{acts}
 use Rattle.refine_calls.specs.Abstracts.{Abstracts}
@@ -50,24 +51,25 @@ pub record Asks (m : Machine) (l t : ℕ) (id : List ℕ) (j : Json) (atOnce : B
   pub told : pick atOnce (includedMessage m t j) (replyMessage m t id j)
       ≡ pick atOnce (included kind (stringOf "mId" j) (stringOf "cId" j) t entries) (statuses kind id (stringOf "cId" j) t entries)
 
-module _ (s : Site) (m : Machine) (h : Abstracts s m) (l : ℕ) (b : l < m .setup .links) (up : isUp (lifeAt m l) ≡ true) (t : ℕ) (id : Identity) (v : SixteenBytes (id .bytes)) (j : Json) where
+module _ {beside : Beside} (s : Site) (m : Machine) (h : Abstracts beside s m) (l : ℕ) (b : l < m .setup .links) (up : isUp (lifeAt m l) ≡ true) (t : ℕ) (id : Identity) (v : SixteenBytes (id .bytes)) (j : Json) where
   -- with commands that are handed over, and without
   hand : (x : Message) (cs : List Command) (ds : List MachineCommand) → SameCommands cs ds → carriedOut l t j m ≡ handingOf ds m [] [] [] none → repliesAtOnce j ≡ false
       → wantsReply m l j ≡ true → x ≡ replyMessage m t (id .bytes) j
-      → SameTaken s m l t id j (unlessBusy s (questionOn l t id j) (handing s (questionOn l t id j) x cs)) (busyIf m l true)
+      → SameTaken beside s m l t id j (unlessBusy s (questionOn l t id j) (handing s (questionOn l t id j) x cs)) (busyIf m l true)
   hand x cs ds same c o w e =
-      subst (λ (f : Bool). SameTaken s m l t id j (pick f (notAcked s (questionOn l t id j) busy) (handing s (questionOn l t id j) x cs)) (busyIf m l true))
+      subst (λ (f : Bool). SameTaken beside s m l t id j (pick f (notAcked s (questionOn l t id j) busy) (handing s (questionOn l t id j) x cs)) (busyIf m l true))
       (sym (questions .waits (linkAt s l) (lifeAt m l) (h .lives l) .full)) (by (leb 16 (length (lifeAt m l .awaited))) refl)
     where
       by : (f : Bool) → leb 16 (length (lifeAt m l .awaited)) ≡ f
-          → SameTaken s m l t id j (pick f (notAcked s (questionOn l t id j) busy) (handing s (questionOn l t id j) x cs)) (pick f (some "Busy") none)
+          → SameTaken beside s m l t id j (pick f (notAcked s (questionOn l t id j) busy) (handing s (questionOn l t id j) x cs)) (pick f (some "Busy") none)
       by true f = reasons s m h l b t id j .is-busy
       by false f =
           record {
             replies = sym w;
             next = refl;
+            site = refl;
             plan = λ u.
-                subst (SamePlan (handing s (questionOn l t id j) x cs .plan)) (sym (ap (replying l t (id .bytes) j) c ∙ replied-so m l t (id .bytes) j ds o w))
+                subst (SamePlan beside (handing s (questionOn l t id j) x cs .plan)) (sym (ap (replying l t (id .bytes) j) c ∙ replied-so m l t (id .bytes) j ds o w))
                 (record {
                   leaves = with-life s m h l b (messageOutOf (linkAt s l) id t Other) (awaiting (id .bytes) t noRecord (lifeAt m l))
                       (acts .acts (linkAt s l) (lifeAt m l) (h .lives l)
@@ -82,17 +84,17 @@ module _ (s : Site) (m : Machine) (h : Abstracts s m) (l : ℕ) (b : l < m .setu
           }
 
   pub reply : (x : Message) → carriedOut l t j m ≡ only m → repliesAtOnce j ≡ false → wantsReply m l j ≡ true → x ≡ replyMessage m t (id .bytes) j
-      → SameTaken s m l t id j (unlessBusy s (questionOn l t id j) (replied s (questionOn l t id j) x)) (busyIf m l true)
+      → SameTaken beside s m l t id j (unlessBusy s (questionOn l t id j) (replied s (questionOn l t id j) x)) (busyIf m l true)
   reply x c o w e = hand x [] [] no-command c o w e
 
   -- .. or at once, which is never "Busy"
   pub answer : (n : Bool) (kind : Told) (component : List ℕ) (entries told : List Status) (cs : List Command) (ds : List MachineCommand)
       → Asks m l t (id .bytes) j n kind told ds → component ≡ stringOf "cId" j → entries ≡ told → SameCommands cs ds
-      → SameTaken s m l t id j (answering s (questionOn l t id j) kind component entries cs) (busyIf m l (not n))
+      → SameTaken beside s m l t id j (answering s (questionOn l t id j) kind component entries cs) (busyIf m l (not n))
   answer n kind component entries told cs ds a ec ee same = rw (a .at-once, ec, ee) (by n a)
     where
       by : (n : Bool) → Asks m l t (id .bytes) j n kind told ds
-          → SameTaken s m l t id j
+          → SameTaken beside s m l t id j
           (pick n (responded s (included kind (stringOf "mId" j) (stringOf "cId" j) t told) cs)
           (unlessBusy s (questionOn l t id j) (handing s (questionOn l t id j) (statuses kind (id .bytes) (stringOf "cId" j) t told) cs)))
           (busyIf m l (not n))
@@ -101,8 +103,9 @@ module _ (s : Site) (m : Machine) (h : Abstracts s m) (l : ℕ) (b : l < m .setu
           record {
             replies = sym (a .replies);
             next = refl;
+            site = refl;
             plan = λ u.
-                subst (SamePlan (responded s (included kind (stringOf "mId" j) (stringOf "cId" j) t told) cs .plan))
+                subst (SamePlan beside (responded s (included kind (stringOf "mId" j) (stringOf "cId" j) t told) cs .plan))
                 (sym (ap (replying l t (id .bytes) j) (a .does) ∙ responded-so m l t (id .bytes) j ds (a .at-once)))
                 (record {
                   leaves = h;

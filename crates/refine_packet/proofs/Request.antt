@@ -39,6 +39,7 @@ use Rattle.refine_read.proofs.Kept as Reads
 use Rattle.refine_read.specs.Statuses.{isRead, StatusReads}
 use Rattle.refine_read.proofs.ListsKept as Lists
 use Rattle.refine_read.proofs.Indexed.{by-places}
+use Rattle.refine_parts.specs.Same.{Beside}
 use Rattle.refine_parts.specs.Items.{statusFor}
 use Rattle.refine_calls.specs.Abstracts.{Abstracts}
 use Rattle.refine_calls.specs.Calls.SameCommands.{no-command}
@@ -69,7 +70,7 @@ map-known q k n e [] u = refl
 map-known {B = B} q k n e (x ∷ xs) u =
     ap₂ (λ (y : B) (ys : List B). y ∷ ys) (e x (first-known q x xs u .0)) (map-known q k n e xs (first-known q x xs u .1))
 
-module _ (s : Site) (m : Machine) (h : Abstracts s m) (l : ℕ) (b : l < m .setup .links) (up : IsUp (lifeAt m l)) (t : ℕ) (id : Identity) (v : SixteenBytes (id .bytes)) (j : Json) (n : Bool) (ty : stringAt "type" j ≡ some (typeName "StatusRequest" n)) (f : StatusFields) (r : StatusReads false (isOlder (lifeAt m l)) j f) where
+module _ {beside : Beside} (s : Site) (m : Machine) (h : Abstracts beside s m) (l : ℕ) (b : l < m .setup .links) (up : IsUp (lifeAt m l)) (t : ℕ) (id : Identity) (v : SixteenBytes (id .bytes)) (j : Json) (n : Bool) (ty : stringAt "type" j ≡ some (typeName "StatusRequest" n)) (f : StatusFields) (r : StatusReads false (isOlder (lifeAt m l)) j f) where
   -- an entry with a value
   abbrev entryWith : (Json → Value) → Json → Status
   entryWith value e = status (stringOf "sCI" e) (stringOf "n" e) (value e)
@@ -130,33 +131,33 @@ module _ (s : Site) (m : Machine) (h : Abstracts s m) (l : ℕ) (b : l < m .setu
     answer o = answering s (questionOn l t id j) Response (textOf (f .component)) (told s (soughtFor o) f) []
 
     by-known : (o : Option ℕ) → componentAsked m j ≡ o → (z : Bool) → both (isSome o) (anyUnknown m j) ≡ z
-        → SameTaken s m l t id j (pick (not z) (answer o) (notAcked s (questionOn l t id j) unknownStatus)) (pick z (some "Unknown status") (busyIf m l (not n)))
+        → SameTaken beside s m l t id j (pick (not z) (answer o) (notAcked s (questionOn l t id j) unknownStatus)) (pick z (some "Unknown status") (busyIf m l (not n)))
     by-known o a true u = reasons s m h l b t id j .unknown-status
     by-known o a false u =
         answering-so s m h l b up t id v j n Response (textOf (f .component)) (told s (soughtFor o) f) (answerEntries m j) [] [] (asks m l t (id .bytes) j n ty)
         (ap textOf (r .component g) ∙ Reads.kept .kept (stringOf "cId" j)) (told-so o a u) no-command
 
     by-component : (o : Option ℕ) → componentAsked m j ≡ o
-        → SameTaken s m l t id j (requestedOf s (questionOn l t id j) f (soughtFor o)) (pick (both (isSome o) (anyUnknown m j)) (some "Unknown status") (busyIf m l (not n)))
+        → SameTaken beside s m l t id j (requestedOf s (questionOn l t id j) f (soughtFor o)) (pick (both (isSome o) (anyUnknown m j)) (some "Unknown status") (busyIf m l (not n)))
     by-component o a =
-        subst (λ (x : Bool). SameTaken s m l t id j (pick x (answer o) (notAcked s (questionOn l t id j) unknownStatus)) (pick (both (isSome o) (anyUnknown m j)) (some "Unknown status") (busyIf m l (not n))))
+        subst (λ (x : Bool). SameTaken beside s m l t id j (pick x (answer o) (notAcked s (questionOn l t id j) unknownStatus)) (pick (both (isSome o) (anyUnknown m j)) (some "Unknown status") (busyIf m l (not n))))
         (sym (passes-so o a)) (by-known o a (both (isSome o) (anyUnknown m j)) refl)
 
   abbrev reason : Option String
   reason = pick (both (isSome (componentAsked m j)) (anyUnknown m j)) (some "Unknown status") (busyIf m l (not n))
 
-  good : f .verdict ≡ Good → SameTaken s m l t id j (requestedOf s (questionOn l t id j) f (componentSought (s .table) (f .component))) reason
+  good : f .verdict ≡ Good → SameTaken beside s m l t id j (requestedOf s (questionOn l t id j) f (componentSought (s .table) (f .component))) reason
   good g =
-      subst (λ (x : Sought). SameTaken s m l t id j (requestedOf s (questionOn l t id j) f x) reason) (sym (component-sought s m h false (isOlder (lifeAt m l)) j f r g))
+      subst (λ (x : Sought). SameTaken beside s m l t id j (requestedOf s (questionOn l t id j) f x) reason) (sym (component-sought s m h false (isOlder (lifeAt m l)) j f r g))
       (by-component g (componentAsked m j) refl)
 
-  taken : SameTaken s m l t id j (statusTaken s (questionOn l t id j) f) (reasonBy (verdictIn (isOlder (lifeAt m l)) j) (furtherReason m l j))
+  taken : SameTaken beside s m l t id j (statusTaken s (questionOn l t id j) f) (reasonBy (verdictIn (isOlder (lifeAt m l)) j) (furtherReason m l j))
   unfolding statusTaken
   taken =
-      subst (λ (x : Verdict). SameTaken s m l t id j (statusTaken s (questionOn l t id j) f) (reasonBy x (furtherReason m l j))) (r .verdict (is-list j n ty))
-      (subst (λ (x : Option String). SameTaken s m l t id j (statusTaken s (questionOn l t id j) f) (reasonBy (f .verdict) x))
+      subst (λ (x : Verdict). SameTaken beside s m l t id j (statusTaken s (questionOn l t id j) f) (reasonBy x (furtherReason m l j))) (r .verdict (is-list j n ty))
+      (subst (λ (x : Option String). SameTaken beside s m l t id j (statusTaken s (questionOn l t id j) f) (reasonBy (f .verdict) x))
       (sym (Reads.kept .further m l j .status-request n ty))
       (by-verdict s m h l b t id j (f .verdict) (requestedOf s (questionOn l t id j) f (componentSought (s .table) (f .component))) reason good))
 
 pub same-request : SameStatusRequest
-same-request n s m h l b up t id v p j read ty = taken s m h l b up t id v j n ty (statusAt Plain p) (Lists.kept .statuses false (isOlder (lifeAt m l)) p j read)
+same-request n beside s m h l b up t id v p j read ty = taken s m h l b up t id v j n ty (statusAt Plain p) (Lists.kept .statuses false (isOlder (lifeAt m l)) p j read)

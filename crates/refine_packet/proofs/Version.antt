@@ -31,6 +31,7 @@ use Rattle.refine_read.proofs.Kept as Reads
 use Rattle.refine_read.specs.Versions.{numberOf, checked, failed, Ours, VersionReads}
 use Rattle.refine_read.proofs.VersionsKept as Versions
 use Rattle.refine_read.proofs.Checks.{Parts, three, chosen-parts, ours-fall}
+use Rattle.refine_parts.specs.Same.{Beside}
 use Rattle.refine_parts.proofs.LifeActs.{acts}
 use Rattle.refine_calls.specs.Abstracts.{Abstracts}
 use Rattle.refine_calls.specs.Calls.SameCommands.{no-command}
@@ -52,7 +53,7 @@ module _ (j : Json) (ty : stringAt "type" j ≡ some (text "Version")) where
   done-so l t m = rw ty
 
 -- what we offer is what the machine offers
-own-ours : (s : Site) (m : Machine) → Abstracts s m → Ours m (own s)
+own-ours : {beside : Beside} (s : Site) (m : Machine) → Abstracts beside s m → Ours m (own s)
 own-ours s m h =
     record {
       site = s .table .site;
@@ -62,19 +63,19 @@ own-ours s m h =
       same-sxl = ap (λ (x : SiteTable). textOf (x .sxl)) (h .items .setup .table) ∙ Reads.kept .kept (m .setup .table .sxl);
     }
 
-module _ (s : Site) (m : Machine) (h : Abstracts s m) (l : ℕ) (b : l < m .setup .links) (judges : Judges (lifeAt m l)) (t : ℕ) (id : Identity) (j : Json) (ty : stringAt "type" j ≡ some (text "Version")) where
+module _ {beside : Beside} (s : Site) (m : Machine) (h : Abstracts beside s m) (l : ℕ) (b : l < m .setup .links) (judges : Judges (lifeAt m l)) (t : ℕ) (id : Identity) (j : Json) (ty : stringAt "type" j ≡ some (text "Version")) where
   abbrev Same : Judged → Option String → Type 0
-  Same c r = SameTaken s m l t id j (versionJudged s (questionOn l t id j) c) r
+  Same c r = SameTaken beside s m l t id j (versionJudged s (questionOn l t id j) c) r
 
   -- its three parts are in one number
   so : (x y z a : ℕ) → common j ≡ some (x ∷ y ∷ z ∷ [])
       → versionAcceptedOf (linkAt s l) (a / 65536) (a / 256 % 256) (a % 256) ≡ versionAcceptedOf (linkAt s l) x y z → Same (Chosen a) none
   so x y z a c k =
       only-acked s m l t id j (accepted s l a) [] noHint (versionAccepted l j m) (done-so j ty l t m) (rw ty)
-      (no-reply j ty m l) (no-reply j ty (versionAccepted l j m .leaves) l) refl
+      (no-reply j ty m l) (no-reply j ty (versionAccepted l j m .leaves) l) refl refl
       (record {
-        leaves = subst (λ (o : Option (List ℕ)). Abstracts (accepted s l a) (withLife l (agreed (orElse [] o) (lifeAt m l)) m)) (sym c)
-            (subst (λ (q : Link). Abstracts (withLink s l q) (withLife l (agreed (x ∷ y ∷ z ∷ []) (lifeAt m l)) m)) (sym k)
+        leaves = subst (λ (o : Option (List ℕ)). Abstracts beside (accepted s l a) (withLife l (agreed (orElse [] o) (lifeAt m l)) m)) (sym c)
+            (subst (λ (q : Link). Abstracts beside (withLink s l q) (withLife l (agreed (x ∷ y ∷ z ∷ []) (lifeAt m l)) m)) (sym k)
             (with-life s m h l b (versionAcceptedOf (linkAt s l) x y z) (agreed (x ∷ y ∷ z ∷ []) (lifeAt m l))
             (acts .acts (linkAt s l) (lifeAt m l) (h .lives l) .accepts x y z (judges .sent) (judges .not-taken))));
         issued = record { issued = refl; told = no-more };
@@ -106,10 +107,10 @@ module _ (s : Site) (m : Machine) (h : Abstracts s m) (l : ℕ) (b : l < m .setu
   by-checks (some v) e false q = reasons s m h l b t id j .site-id
 
   taken : (p : Bytes) → readPacket p ≡ some j
-      → SameTaken s m l t id j (versionTaken s (questionOn l t id j) (versionAt p)) (reasonBy (verdictIn (isOlder (lifeAt m l)) j) (furtherReason m l j))
+      → SameTaken beside s m l t id j (versionTaken s (questionOn l t id j) (versionAt p)) (reasonBy (verdictIn (isOlder (lifeAt m l)) j) (furtherReason m l j))
   taken p read =
-      subst (λ (v : Verdict). SameTaken s m l t id j (versionTaken s (questionOn l t id j) f) (reasonBy v (furtherReason m l j))) (reads .verdict (isOlder (lifeAt m l)) (is-version j ty))
-      (subst (λ (r : Option String). SameTaken s m l t id j (versionTaken s (questionOn l t id j) f) (reasonBy (f .verdict) r)) (sym (reads .reason (is-version j ty) m l))
+      subst (λ (v : Verdict). SameTaken beside s m l t id j (versionTaken s (questionOn l t id j) f) (reasonBy v (furtherReason m l j))) (reads .verdict (isOlder (lifeAt m l)) (is-version j ty))
+      (subst (λ (r : Option String). SameTaken beside s m l t id j (versionTaken s (questionOn l t id j) f) (reasonBy (f .verdict) r)) (sym (reads .reason (is-version j ty) m l))
       (by-verdict s m h l b t id j (f .verdict) (versionJudged s (questionOn l t id j) (judge (own s) (f .offer))) (failed (checked m j))
       (λ g. subst (λ (c : Judged). Same c (failed (checked m j))) (sym (reads .judged g m (own s) (own-ours s m h))) (by-checks (common j) refl (namesSite m j) (equalSxl m j)))))
     where
@@ -120,4 +121,4 @@ module _ (s : Site) (m : Machine) (h : Abstracts s m) (l : ℕ) (b : l < m .setu
       reads = Versions.kept .version p j read
 
 pub same-version : SameVersion
-same-version s m h l b judges t id v p j read ty = taken s m h l b judges t id j ty p read
+same-version beside s m h l b judges t id v p j read ty = taken s m h l b judges t id j ty p read

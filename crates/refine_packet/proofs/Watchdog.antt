@@ -23,6 +23,7 @@ use Rattle.demand_held.proofs.Lists.Each.{no-more}
 use Rattle.refine_read.specs.Verdicts.{verdictIn}
 use Rattle.refine_read.specs.Reasons.{byVerdict as reasonBy, furtherReason}
 use Rattle.refine_read.proofs.Kept as Reads
+use Rattle.refine_parts.specs.Same.{Beside}
 use Rattle.refine_parts.proofs.LifeActs.{acts}
 use Rattle.refine_calls.specs.Abstracts.{Abstracts}
 use Rattle.refine_calls.specs.Calls.{hintFor}
@@ -44,7 +45,7 @@ module _ (j : Json) (ty : stringAt "type" j ≡ some (text "Watchdog")) where
   unfolding carriedOut
   done-so l t m = rw ty
 
-module _ (s : Site) (m : Machine) (h : Abstracts s m) (l : ℕ) (b : l < m .setup .links) (beats : Beats (lifeAt m l)) (t : ℕ) (id : Identity) (p : Bytes) (j : Json) (read : readPacket p ≡ some j) (ty : stringAt "type" j ≡ some (text "Watchdog")) where
+module _ {beside : Beside} (s : Site) (m : Machine) (h : Abstracts beside s m) (l : ℕ) (b : l < m .setup .links) (beats : Beats (lifeAt m l)) (t : ℕ) (id : Identity) (p : Bytes) (j : Json) (read : readPacket p ≡ some j) (ty : stringAt "type" j ≡ some (text "Watchdog")) where
   abbrev f : GotTime
   f = watchdogAt p
 
@@ -59,10 +60,10 @@ module _ (s : Site) (m : Machine) (h : Abstracts s m) (l : ℕ) (b : l < m .setu
       by true = given (leb 3 (f .decimals))
       by false = refl
 
-  same-beat : f .verdict ≡ Good → SameTaken s m l t id j (beat s (questionOn l t id j) f) none
+  same-beat : f .verdict ≡ Good → SameTaken beside s m l t id j (beat s (questionOn l t id j) f) none
   same-beat g =
       only-acked s m l t id j (beaten s l) [] (hintFrom (roleOf s l) f) (watchdogIn l j m) (done-so j ty l t m) (rw ty)
-      (no-reply j ty m l) (no-reply j ty (watchdogIn l j m .leaves) l) refl
+      (no-reply j ty m l) (no-reply j ty (watchdogIn l j m .leaves) l) refl refl
       (record {
         leaves = with-life s m h l b (watchdogTakenOf (linkAt s l)) (withWatchdogs (nowTaken (lifeAt m l .watchdogs)) (lifeAt m l))
             (acts .acts (linkAt s l) (lifeAt m l) (h .lives l) .takes beats);
@@ -74,13 +75,13 @@ module _ (s : Site) (m : Machine) (h : Abstracts s m) (l : ℕ) (b : l < m .setu
         commands = no-command;
       })
 
-  taken : SameTaken s m l t id j (watchdogTaken s (questionOn l t id j) f) (reasonBy (verdictIn (isOlder (lifeAt m l)) j) (furtherReason m l j))
+  taken : SameTaken beside s m l t id j (watchdogTaken s (questionOn l t id j) f) (reasonBy (verdictIn (isOlder (lifeAt m l)) j) (furtherReason m l j))
   taken =
-      subst (λ (v : Verdict). SameTaken s m l t id j (watchdogTaken s (questionOn l t id j) f) (reasonBy v (furtherReason m l j)))
+      subst (λ (v : Verdict). SameTaken beside s m l t id j (watchdogTaken s (questionOn l t id j) f) (reasonBy v (furtherReason m l j)))
       (Reads.kept .watchdog p j read .verdict (isOlder (lifeAt m l)) (is-watchdog j ty))
-      (subst (λ (r : Option String). SameTaken s m l t id j (watchdogTaken s (questionOn l t id j) f) (reasonBy (f .verdict) r))
+      (subst (λ (r : Option String). SameTaken beside s m l t id j (watchdogTaken s (questionOn l t id j) f) (reasonBy (f .verdict) r))
       (sym (Reads.kept .further m l j .watchdog (is-watchdog j ty)))
       (by-verdict s m h l b t id j (f .verdict) (beat s (questionOn l t id j) f) none same-beat))
 
 pub same-watchdog : SameWatchdog
-same-watchdog s m h l b beats t id v p j read ty = taken s m h l b beats t id p j read ty
+same-watchdog beside s m h l b beats t id v p j read ty = taken s m h l b beats t id p j read ty

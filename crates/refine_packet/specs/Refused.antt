@@ -24,11 +24,12 @@ use Rattle.packet_answer.specs.Taken.{
   busy,
 }
 use Rattle.machine.specs.State.{Machine}
+use Rattle.refine_parts.specs.Same.{Beside}
 use Rattle.refine_packet.specs.Taken.{SameTaken, questionOn}
 
-module _ (s : Site) (m : Machine) (l t : ℕ) (id : Identity) (j : Json) where
+module _ (beside : Beside) (s : Site) (m : Machine) (l t : ℕ) (id : Identity) (j : Json) where
   abbrev Same : Taken → String → Type 0
-  Same x reason = SameTaken s m l t id j x (some reason)
+  Same x reason = SameTaken beside s m l t id j x (some reason)
 
   pub record SameReasons : Type 0 where
     pub missing-element : Same (notAcked s (questionOn l t id j) missingElement) "Missing element"

@@ -18,6 +18,7 @@ use Rattle.machine.specs.Json.{readPacket, stringAt, stringOf}
 use Rattle.machine.specs.Life.{isOlder, isAwaited}
 use Rattle.machine.specs.Answers.{wantsReply, repliesAtOnce}
 use Rattle.machine.specs.Effects.{refuses, carriedOut, replying}
+use Rattle.refine_parts.specs.Same.{Beside}
 use Rattle.refine_read.specs.Verdicts.{verdictIn}
 use Rattle.refine_read.specs.Head.{typeName}
 use Rattle.refine_read.specs.Reasons.{byVerdict, furtherReason}
@@ -28,12 +29,13 @@ use Rattle.refine_calls.specs.Calls.{SamePlan}
 abbrev pub effectBy : Machine → ℕ → ℕ → Bytes → Json → Option String → Effect
 effectBy m l t id j reason = maybe (replying l t id j (carriedOut l t j m)) (refuses l j m) reason
 
-pub record SameTaken (s : Site) (m : Machine) (l t : ℕ) (id : Identity) (j : Json) (x : Taken) (reason : Option String) : Type 0 where
+pub record SameTaken (beside : Beside) (s : Site) (m : Machine) (l t : ℕ) (id : Identity) (j : Json) (x : Taken) (reason : Option String) : Type 0 where
   pub replies : x .replies ≡ (not (isSome reason) and wantsReply m l j)
-  -- records are numbered from the same number
+  -- records are numbered from the same number, and are the same site's
   pub next : x .plan .site .next ≡ s .next
+  pub site : x .plan .site .site ≡ s .site
   -- number 9 refuses every other identity
-  pub plan : (x .replies ≡ true → isAwaited (lifeAt m l) (id .bytes) ≡ false) → SamePlan (x .plan) (effectBy m l t (id .bytes) j reason)
+  pub plan : (x .replies ≡ true → isAwaited (lifeAt m l) (id .bytes) ≡ false) → SamePlan beside (x .plan) (effectBy m l t (id .bytes) j reason)
 
 -- what the call of such a packet is asked
 abbrev pub questionOn : ℕ → ℕ → Identity → Json → Question
@@ -42,9 +44,9 @@ questionOn l t id j = record { link = l; time = t; identity = id; received = rec
 -- of a type that is taken on such a link: the code takes what it reads of the bytes p to its answer
 abbrev pub SameTyped : Bytes → (Life → Type 0) → (Site → Question → Bytes → Taken) → Type 0
 SameTyped type Ready takes =
-    (s : Site) (m : Machine) → Abstracts s m → (l : ℕ) → l < m .setup .links → Ready (lifeAt m l) → (t : ℕ) (id : Identity) → SixteenBytes (id .bytes)
+    (beside : Beside) (s : Site) (m : Machine) → Abstracts beside s m → (l : ℕ) → l < m .setup .links → Ready (lifeAt m l) → (t : ℕ) (id : Identity) → SixteenBytes (id .bytes)
     → (p : Bytes) (j : Json) → readPacket p ≡ some j → stringAt "type" j ≡ some type
-    → SameTaken s m l t id j (takes s (questionOn l t id j) p) (byVerdict (verdictIn (isOlder (lifeAt m l)) j) (furtherReason m l j))
+    → SameTaken beside s m l t id j (takes s (questionOn l t id j) p) (byVerdict (verdictIn (isOlder (lifeAt m l)) j) (furtherReason m l j))
 
 abbrev pub SameAsked : String → (Life → Type 0) → (Site → Question → Bytes → Taken) → Type 0
 SameAsked name = SameTyped (text name)

@@ -9,7 +9,7 @@ use Rattle.pool_laws.specs.Upwards.{entriesTo, entryIf}
 use Rattle.pool_laws.proofs.Entries.{none-to}
 use Rattle.call_input.specs.Inputs.{aggregatedPlan}
 use Rattle.site.specs.declared.Site.{Site}
-use Rattle.site.specs.Site.{withAggregated as withValue}
+use Rattle.site.specs.Site.{withAggregated as withValue, owner}
 use Rattle.machine.specs.Words.{upTo}
 use Rattle.machine.specs.State.{Issued, issuedFor, Machine, withAggregated}
 use Rattle.machine.specs.State.Content.{ofAggregated}
@@ -28,14 +28,14 @@ valued v t = record { time = t; value = v }
 abbrev issuedTo : ℕ → ℕ → ℕ → Issued
 issuedTo v t l = issuedFor l (ofAggregated v t)
 
-one-record : (v t l : ℕ) → v < 256 → issuedOf (valued v t) l ≡ unnumbered (issuedTo v t l)
-one-record v t l b = rw (mod-eq-of-lt b)
+one-record : (k v t l : ℕ) → v < 256 → issuedOf (valued v t) (owner k l) ≡ unnumbered k (issuedTo v t l)
+one-record k v t l b = rw (mod-eq-of-lt b)
 
-all-records : (v t : ℕ) → v < 256 → (n : ℕ) → entriesTo (λ l. entryIf true (issuedOf (valued v t) l)) n ≡ map unnumbered (map (issuedTo v t) (upTo n))
-all-records v t b zero = refl
-all-records v t b (suc n) =
-    ap₂ (λ (a c : List Entry). a ++ c) (all-records v t b n) (ap (λ (e : Entry). e ∷ []) (one-record v t n b))
-    ∙ sym (ap (map unnumbered) (map-append (issuedTo v t) (upTo n) (n ∷ [])) ∙ map-append unnumbered (map (issuedTo v t) (upTo n)) (issuedTo v t n ∷ []))
+all-records : (k v t : ℕ) → v < 256 → (n : ℕ) → entriesTo (λ l. entryIf true (issuedOf (valued v t) (owner k l))) n ≡ map (unnumbered k) (map (issuedTo v t) (upTo n))
+all-records k v t b zero = refl
+all-records k v t b (suc n) =
+    ap₂ (λ (a c : List Entry). a ++ c) (all-records k v t b n) (ap (λ (e : Entry). e ∷ []) (one-record k v t n b))
+    ∙ sym (ap (map (unnumbered k)) (map-append (issuedTo v t) (upTo n) (n ∷ [])) ∙ map-append (unnumbered k) (map (issuedTo v t) (upTo n)) (issuedTo v t n ∷ []))
 
 unchanged : (a : Aggregated) (v t : ℕ) → eqb (a .value) v ≡ true → setOf a v t ≡ record { aggregated = a; changed = false }
 unfolding setOf
@@ -79,7 +79,7 @@ module _ (s : Site) (m : Machine) (h : SameItems s m) (v t : ℕ) where
       (record {
         items = value-set b;
         records = record {
-          issued = rw (h .setup .links) (all-records v t b (m .setup .links));
+          issued = rw (h .setup .links) (all-records (s .site) v t b (m .setup .links));
           told = each-of (issuedTo v t) (λ l. contents .aggregated v t b) (upTo (m .setup .links));
         };
       }))

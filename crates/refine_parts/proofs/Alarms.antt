@@ -6,7 +6,7 @@ use Rattle.alarm.specs.Alarm.{beginning, inputOf, acknowledgeOf, suspendOf}
 use Rattle.alarm.specs.Issued.{issuedOf}
 use Rattle.call_input.proofs.Lists.{set-same}
 use Rattle.site.specs.declared.Site.{Site}
-use Rattle.site.specs.Site.{hasPrimary}
+use Rattle.site.specs.Site.{hasPrimary, ownerOf}
 use Rattle.site.specs.Parts.{alarmAt as alarmIn, withAlarm as withAlarmIn}
 use Rattle.packet_answer.specs.declared.Question.{Question}
 use Rattle.packet_alarm.specs.Orders.{recordsOf, changeTaken}
@@ -90,15 +90,15 @@ module _ (s : Site) (m : Machine) (h : SameItems s m) where
 
   -- the record for the primary, where an event makes one
   event-issued : (i : ℕ) (a : Alarm)
-      → recordsOf s i (record { alarm = alarmFor a; happened = true; records = not (isSilent (a .event) (a .suspended)) }) ≡ map unnumbered (told m i a)
+      → recordsOf s i (record { alarm = alarmFor a; happened = true; records = not (isSilent (a .event) (a .suspended)) }) ≡ map (unnumbered (s .site)) (told m i a)
   event-issued i a = by (isSilent (a .event) (a .suspended)) (m .setup .primary) refl
     where
       by : (silent : Bool) (p : Option ℕ) → m .setup .primary ≡ p
-          → pick (both (not silent) (hasPrimary s)) (issuedOf (alarmFor a) (s .primary) i ∷ []) []
-          ≡ map unnumbered (pick silent [] (maybe [] (λ x. issuedFor x (ofAlarm i a) ∷ []) (m .setup .primary)))
+          → pick (both (not silent) (hasPrimary s)) (issuedOf (alarmFor a) (ownerOf s (s .primary)) i ∷ []) []
+          ≡ map (unnumbered (s .site)) (pick silent [] (maybe [] (λ x. issuedFor x (ofAlarm i a) ∷ []) (m .setup .primary)))
       by true p e = refl
       by false none e = rw (has-primary none e, e)
-      by false (some p) e = rw (has-primary (some p) e, h .setup .primary, e, alarm-record a p i)
+      by false (some p) e = rw (has-primary (some p) e, h .setup .primary, e, alarm-record a (ownerOf s p) i)
 
   event-told : (i : ℕ) (a : Alarm) → Each (λ (x : Issued). IsTold (x .content)) (told m i a)
   event-told i a = by (isSilent (a .event) (a .suspended)) (m .setup .primary)
@@ -151,7 +151,7 @@ module _ (s : Site) (m : Machine) (h : SameItems s m) where
     event-items c none e = rw (e .alarm) alarm-kept
     event-items c (some a) e = rw (e .alarm) (alarm-set a)
 
-    event-records : (c : Changed) (o : Option Alarm) → SameChange c (alarmAt m i) o → recordsOf s i c ≡ map unnumbered (happens m i o .issues)
+    event-records : (c : Changed) (o : Option Alarm) → SameChange c (alarmAt m i) o → recordsOf s i c ≡ map (unnumbered (s .site)) (happens m i o .issues)
     unfolding happens
     event-records c none e = rw (e .records)
     event-records c (some a) e = rw (e .records, e .alarm) (event-issued i a)

@@ -1,6 +1,6 @@
 -- What is asked of both pools has the same answer.
 -- Assumes nothing.
-use Rattle.basis.proofs.Std.{ℕ, zero, suc, _+_, _≤_, _<_, _≡_, refl, sym, _∙_, ap, Bool, true, false, not, List, [], _∷_, map, Option, some, none, _⊎_, inl, inr, eqb, ltb, length, arith, eqb-true, eq-eqb, lt-ltb, le-ltb, pick, both, count, Among, lt-or-ge, both-first, both-second}
+use Rattle.basis.proofs.Std.{ℕ, zero, suc, _+_, _*_, _/_, _%_, _≤_, _<_, _≡_, refl, sym, _∙_, ap, ap₂, subst, Bool, true, false, not, List, [], _∷_, map, Option, some, none, _⊎_, inl, inr, eqb, ltb, length, getD, arith, eqb-true, eq-eqb, lt-ltb, le-ltb, pick, both, count, Among, lt-or-ge, both-first, both-second}
 use Rattle.basis.specs.Lists.Among.{first, later}
 use Rattle.entry.specs.Layout.{bytesOf}
 use Rattle.pool.specs.declared.Place.{Place}
@@ -9,58 +9,57 @@ use Rattle.pool.specs.declared.Reading.{Reading}
 use Rattle.pool.specs.declared.Sought.{Sought}
 use Rattle.pool.specs.declared.Sought.the-variants.{Found, Nothing}
 use Rattle.pool.specs.Pool.{heldOf, lostOf, oldestUnsent, newestAlarm, rankedOf, readingOf}
-use Rattle.pool_laws.specs.Promises.{Reached}
-use Rattle.pool_laws.specs.Promises.Reached.{empty, after}
-use Rattle.pool_laws.specs.Acts.Act.{Issue, Settle, Mark, Unmark}
 use Rattle.pool_laws.specs.View.{firstWhere, orElse, lastWhere, nth, notSent, ofAlarm}
 use Rattle.pool_laws.proofs.Viewed.{viewed}
 use Rattle.pool_laws.proofs.BatchKept.{kept}
+use Rattle.site.specs.Site.{owner}
 use Rattle.machine.specs.Words.{maybe, isSome, keep, firstThat}
 use Rattle.machine.specs.State.{Held, Machine, alarmAt, Effect}
 use Rattle.machine.specs.State.Sent.{noRecord}
-use Rattle.machine.specs.Pool.{isFor, holds, ownerOf}
+use Rattle.machine.specs.Pool.{isFor, ownerOf}
 use Rattle.machine.specs.Life.{alarmIn, newest, carries, carriedBy, oldestUnsent as oldestUnsentOf}
 use Rattle.machine.specs.Readings.{entryFor, recordBytes, reading}
 use Rattle.machine.specs.Step.{sequenceEnds}
-use Rattle.demand_held.proofs.Lists.{bit-true, Each, among-keep, length-map}
-use Rattle.demand_held.proofs.Lists.Each.{one-more}
+use Rattle.demand_held.proofs.Lists.{bit-true, Each, each-kept, among-keep, length-map}
+use Rattle.demand_held.proofs.Lists.Each.{no-more, one-more}
+use Rattle.demand_held.proofs.Good.{beyond}
 use Rattle.refine_parts.specs.Record.{placeFor, found, unnumbered, carriedLike, readingAt}
-use Rattle.refine_parts.specs.Same.{SamePool}
+use Rattle.refine_parts.specs.Same.{Beside, nextFor, SamePool}
 use Rattle.refine_parts.specs.Claims.{batchOf, Stands}
-use Rattle.refine_parts.proofs.PoolLists.{first-kept}
+use Rattle.refine_parts.proofs.PoolLists.{keep-length, first-kept}
 use Rattle.refine_parts.proofs.Entries.{alarm-entry, carried-entry}
-use Rattle.refine_parts.proofs.Room.{held-same}
-use Rattle.refine_parts.proofs.Others.{isNumbered, numbered-same}
+use Rattle.refine_parts.proofs.Owners.{owner-is, both-bounds}
+use Rattle.refine_parts.proofs.Others.{isNumbered, nothing-in, own-records, numbered-same}
 
 -- ---- the first, the newest and the r-th of a link's records
-first-place : (hs : List Held) → firstWhere notSent (map placeFor hs) ≡ found (firstThat (λ h. not (h .sent)) hs)
+first-place : (o : ℕ) (hs : List Held) → firstWhere notSent (map (placeFor o) hs) ≡ found o (firstThat (λ h. not (h .sent)) hs)
 unfolding firstWhere
-first-place [] = refl
-first-place (h ∷ hs) = go (h .sent) (first-place hs)
+first-place o [] = refl
+first-place o (h ∷ hs) = go (h .sent) (first-place o hs)
   where
-    go : (t : Bool) → firstWhere notSent (map placeFor hs) ≡ found (firstThat (λ h. not (h .sent)) hs)
-        → pick (eqb (pick t 2 1) 1) (Found (placeFor h)) (firstWhere notSent (map placeFor hs)) ≡ found (pick (not t) (some h) (firstThat (λ h. not (h .sent)) hs))
+    go : (t : Bool) → firstWhere notSent (map (placeFor o) hs) ≡ found o (firstThat (λ h. not (h .sent)) hs)
+        → pick (eqb (pick t 2 1) 1) (Found (placeFor o h)) (firstWhere notSent (map (placeFor o) hs)) ≡ found o (pick (not t) (some h) (firstThat (λ h. not (h .sent)) hs))
     go true r = r
     go false r = refl
 
-last-place : (l i : ℕ) (o : Option Held) (hs : List Held)
-    → found (newest l i o hs) ≡ orElse (lastWhere (ofAlarm i) (map placeFor (keep (isFor l) hs))) (found o)
+last-place : (w l i : ℕ) (o : Option Held) (hs : List Held)
+    → found w (newest l i o hs) ≡ orElse (lastWhere (ofAlarm i) (map (placeFor w) (keep (isFor l) hs))) (found w o)
 unfolding lastWhere
-last-place l i o [] = refl
-last-place l i o (h ∷ hs) =
-    last-place l i (pick (both (isFor l h) (isSome (alarmIn i (h .content)))) (some h) o) hs ∙ go (isFor l h) (isSome (alarmIn i (h .content))) (alarm-entry i h)
+last-place w l i o [] = refl
+last-place w l i o (h ∷ hs) =
+    last-place w l i (pick (both (isFor l h) (isSome (alarmIn i (h .content)))) (some h) o) hs ∙ go (isFor l h) (isSome (alarmIn i (h .content))) (alarm-entry w i h)
   where
     rest : Sought
-    rest = lastWhere (ofAlarm i) (map placeFor (keep (isFor l) hs))
+    rest = lastWhere (ofAlarm i) (map (placeFor w) (keep (isFor l) hs))
 
-    later-first : (s : Sought) (b : Bool) → orElse s (found (pick b (some h) o)) ≡ orElse (orElse s (pick b (Found (placeFor h)) Nothing)) (found o)
+    later-first : (s : Sought) (b : Bool) → orElse s (found w (pick b (some h) o)) ≡ orElse (orElse s (pick b (Found (placeFor w h)) Nothing)) (found w o)
     later-first (Found x) b = refl
     later-first Nothing true = refl
     later-first Nothing false = refl
 
-    go : (a b : Bool) → ofAlarm i (placeFor h) ≡ b
-        → orElse rest (found (pick (both a b) (some h) o)) ≡ orElse (lastWhere (ofAlarm i) (map placeFor (pick a (h ∷ keep (isFor l) hs) (keep (isFor l) hs)))) (found o)
-    go true b e = later-first rest b ∙ ap (λ (t : Bool). orElse (orElse rest (pick t (Found (placeFor h)) Nothing)) (found o)) (sym e)
+    go : (a b : Bool) → ofAlarm i (placeFor w h) ≡ b
+        → orElse rest (found w (pick (both a b) (some h) o)) ≡ orElse (lastWhere (ofAlarm i) (map (placeFor w) (pick a (h ∷ keep (isFor l) hs) (keep (isFor l) hs)))) (found w o)
+    go true b e = later-first rest b ∙ ap (λ (t : Bool). orElse (orElse rest (pick t (Found (placeFor w h)) Nothing)) (found w o)) (sym e)
     go false b e = refl
 
 less-suc : (a b : ℕ) → ltb (suc a) (suc b) ≡ ltb a b
@@ -70,15 +69,18 @@ less-suc a b = go (lt-or-ge a b)
     go (inl h) = lt-ltb (suc a) (suc b) (omega arith) ∙ sym (lt-ltb a b h)
     go (inr h) = le-ltb (suc a) (suc b) (omega arith) ∙ sym (le-ltb a b h)
 
--- site 0's owner is the link itself
-own-bytes : (h : Held) → _≡_ {A = Reading} (readingOf (Found (placeFor h))) (record { found = true; bytes = recordBytes 0 h })
-own-bytes h = ap (λ (l : ℕ). record { found = true; bytes = bytesOf (entryFor l (h .sequence) (h .content)) }) (let e : h .link ≡ ownerOf 0 (h .link) = omega arith in e)
+-- a record's bytes say its owner
+abbrev Owned : ℕ → ℕ → Held → Type 0
+Owned o k h = o ≡ ownerOf k (h .link)
 
-nth-place : (r : ℕ) (hs : List Held) → readingOf (nth r (map placeFor hs)) ≡ readingAt r (map (recordBytes 0) hs)
+own-bytes : (o k : ℕ) (h : Held) → Owned o k h → _≡_ {A = Reading} (readingOf (Found (placeFor o h))) (record { found = true; bytes = recordBytes k h })
+own-bytes o k h e = ap (λ (l : ℕ). record { found = true; bytes = bytesOf (entryFor l (h .sequence) (h .content)) }) e
+
+nth-place : (o k r : ℕ) (hs : List Held) → Each (Owned o k) hs → readingOf (nth r (map (placeFor o) hs)) ≡ readingAt r (map (recordBytes k) hs)
 unfolding nth
-nth-place r [] = rw (le-ltb r 0 (omega arith))
-nth-place zero (h ∷ hs) = rw (lt-ltb 0 (suc (length (map (recordBytes 0) hs))) (omega arith)) (own-bytes h)
-nth-place (suc r) (h ∷ hs) = rw (less-suc r (length (map (recordBytes 0) hs))) (nth-place r hs)
+nth-place o k r [] no-more = rw (le-ltb r 0 (omega arith))
+nth-place o k zero (h ∷ hs) (one-more e es) = rw (lt-ltb 0 (suc (length (map (recordBytes k) hs))) (omega arith)) (own-bytes o k h e)
+nth-place o k (suc r) (h ∷ hs) (one-more e es) = rw (less-suc r (length (map (recordBytes k) hs))) (nth-place o k r hs es)
 
 -- ---- what is found is in the list
 either-none : (s : Sought) → orElse s Nothing ≡ s
@@ -113,41 +115,37 @@ counts : {A : Type 0} (f : A → Bool) {x : A} {xs : List A} → f x ≡ true �
 counts f e (first {xs}) = omega (arith, bit-true _ e)
 counts f e (later a) = omega (arith, counts f e a)
 
-reached-next : {n q : ℕ} {p : Pool} → Reached n p q → q ≤ 2147483648
-reached-next (empty h) = h
-reached-next (after (Issue e) r y) = omega (arith, y .1 .1)
-reached-next (after (Settle l k) r y) = reached-next r
-reached-next (after (Mark l k) r y) = reached-next r
-reached-next (after (Unmark l) r y) = reached-next r
-
-module _ {links q : ℕ} {p : Pool} (m : Machine) (same : SamePool links p q (m .pool)) where
+module _ {links k q : ℕ} {x : Beside} {p : Pool} (m : Machine) (same : SamePool links x k p q (m .pool)) where
   abbrev hs : List Held
   hs = m .pool .held
 
-  pub unsent-same : (l : ℕ) → oldestUnsent p l ≡ found (oldestUnsentOf m l)
+  abbrev its : ℕ → ℕ
+  its l = owner k l
+
+  pub unsent-same : (l : ℕ) → oldestUnsent p (its l) ≡ found (its l) (oldestUnsentOf m l)
   unsent-same l =
-      viewed 4 (omega arith) .oldest-unsent p l ∙ ap (firstWhere notSent) (same .held l) ∙ first-place (keep (isFor l) hs)
-      ∙ ap found (sym (first-kept (isFor l) (λ h. not (h .sent)) hs))
+      viewed 8 (omega arith) .oldest-unsent p (its l) ∙ ap (firstWhere notSent) (own-records m same l) ∙ first-place (its l) (keep (isFor l) hs)
+      ∙ ap (found (its l)) (sym (first-kept (isFor l) (λ h. not (h .sent)) hs))
 
-  pub alarm-same : (l i : ℕ) → newestAlarm p l i ≡ found (newest l i none hs)
+  pub alarm-same : (l i : ℕ) → newestAlarm p (its l) i ≡ found (its l) (newest l i none hs)
   alarm-same l i =
-      viewed 4 (omega arith) .newest-alarm p l i ∙ ap (lastWhere (ofAlarm i)) (same .held l)
-      ∙ sym (last-place l i none hs ∙ either-none (lastWhere (ofAlarm i) (map placeFor (keep (isFor l) hs))))
+      viewed 8 (omega arith) .newest-alarm p (its l) i ∙ ap (lastWhere (ofAlarm i)) (own-records m same l)
+      ∙ sym (last-place (its l) l i none hs ∙ either-none (lastWhere (ofAlarm i) (map (placeFor (its l)) (keep (isFor l) hs))))
 
-  stands : (l : ℕ) (h : Held) → Among h hs → isFor l h ≡ true → Stands p l h
+  stands : (l : ℕ) (h : Held) → Among h hs → isFor l h ≡ true → Stands p (its l) l h
   stands l h a e =
       record {
         link = eqb-true (h .link) l e;
         held = omega (
           arith,
-          viewed 4 (omega arith) .counted p l (λ (x : Place). eqb (x .entry .sequence) (h .sequence)),
+          viewed 8 (omega arith) .counted p (its l) (λ (y : Place). eqb (y .entry .sequence) (h .sequence)),
           numbered-same m same l (h .sequence),
           counts (isNumbered (h .sequence)) (eq-eqb (h .sequence) (h .sequence) refl) (among-keep (isFor l) e a),
         );
         told = of-each (same .told) a;
       }
 
-  pub unsent-stands : (l : ℕ) (h : Held) → oldestUnsentOf m l ≡ some h → Stands p l h
+  pub unsent-stands : (l : ℕ) (h : Held) → oldestUnsentOf m l ≡ some h → Stands p (its l) l h
   unsent-stands l h e =
       let r = first-among (λ (h : Held). both (isFor l h) (not (h .sent))) hs h e in
       stands l h (r .0) (both-first (isFor l h) (not (h .sent)) (r .1))
@@ -160,38 +158,53 @@ module _ {links q : ℕ} {p : Pool} (m : Machine) (same : SamePool links p q (m 
       go (inl d) = absurd (let z : _≡_ {A = ℕ} 0 1 = cc in omega arith)
       go (inr r) = r
 
-  pub alarm-stands : (l i : ℕ) (h : Held) → newest l i none hs ≡ some h → Stands p l h
+  pub alarm-stands : (l i : ℕ) (h : Held) → newest l i none hs ≡ some h → Stands p (its l) l h
   alarm-stands l i h e = let r = newest-is l i h e in stands l h (r .0) (both-first (isFor l h) _ (r .1))
 
-  pub carried-same : (l i : ℕ) → carriedBy m l i ≡ carriedLike (alarmAt m i) (newestAlarm p l i)
+  pub carried-same : (l i : ℕ) → carriedBy m l i ≡ carriedLike (alarmAt m i) (newestAlarm p (its l) i)
   unfolding carriedBy
   carried-same l i = rw (alarm-same l i) (go (newest l i none hs) refl)
     where
-      go : (o : Option Held) → newest l i none hs ≡ o → maybe noRecord (carries (alarmAt m i) i) o ≡ carriedLike (alarmAt m i) (found o)
+      go : (o : Option Held) → newest l i none hs ≡ o → maybe noRecord (carries (alarmAt m i) i) o ≡ carriedLike (alarmAt m i) (found (its l) o)
       go none e = refl
-      go (some h) e = carried-entry (alarmAt m i) i h (both-second (isFor l h) _ (newest-is l i h e .1))
+      go (some h) e = carried-entry (its l) (alarmAt m i) i h (both-second (isFor l h) _ (newest-is l i h e .1))
 
-  holds-same : (l : ℕ) → heldOf p l ≡ holds (m .pool) l
-  holds-same l = viewed 4 (omega arith) .held p l ∙ held-same same l
-
-  pub lost-read : (l : ℕ) → lostOf p l ≡ reading m l .lost
+  pub held-read : (l : ℕ) → heldOf p (its l) ≡ reading m l .held
   unfolding reading
-  lost-read l = same .lost l
+  held-read l =
+      viewed 8 (omega arith) .held p (its l) ∙ ap length (own-records m same l) ∙ length-map (placeFor (its l)) (keep (isFor l) hs) ∙ keep-length (isFor l) hs
 
-  pub held-read : (l : ℕ) → heldOf p l ≡ reading m l .held
+  pub lost-read : (l : ℕ) → l < 4 → lostOf p (its l) ≡ reading m l .lost
   unfolding reading
-  held-read l = holds-same l
+  lost-read l f =
+      let s : (4 * k + l) / 4 ≡ m .pool .site = omega (arith, same .site) in
+      let r : (4 * k + l) % 4 ≡ l = omega arith in
+      rw (owner-is k l f) (same .lost (4 * k + l) (omega (arith, same .site, same .good .site))
+      ∙ ap₂ (λ (t : Bool) (j : ℕ). getD (pick t (m .pool .lost) (m .pool .beside .lost)) j 0) (eq-eqb ((4 * k + l) / 4) (m .pool .site) s) r)
 
-  pub records-read : (l r : ℕ) → readingOf (rankedOf p l r) ≡ readingAt r (reading m l .records)
+  -- those of link l are its owner's; a link that has none has no records
+  owned : (l : ℕ) → Each (Owned (its l) (m .pool .site)) (keep (isFor l) hs)
+  owned l = go (lt-or-ge l 4)
+    where
+      go : (l < 4) ⊎ (4 ≤ l) → Each (Owned (its l) (m .pool .site)) (keep (isFor l) hs)
+      go (inl f) =
+          each-kept (isFor l) (λ h e. owner-is k l f ∙ (let s : 4 * k + l ≡ ownerOf (m .pool .site) (h .link) = omega (arith, same .site, eqb-true (h .link) l e) in s)) hs
+      go (inr f) =
+          subst (Each (Owned (its l) (m .pool .site))) (sym (nothing-in (keep (isFor l) hs)
+          (omega (arith, keep-length (isFor l) hs, beyond l (omega (arith, same .configured, same .few)) hs (same .good .own .links))))) no-more
+
+  pub records-read : (l r : ℕ) → readingOf (rankedOf p (its l) r) ≡ readingAt r (reading m l .records)
   unfolding reading
   records-read l r =
-      ap readingOf (viewed 4 (omega arith) .ranked p q (same .reached) l r ∙ ap (nth r) (same .held l)) ∙ nth-place r (keep (isFor l) hs)
-      ∙ ap (λ (k : ℕ). readingAt r (map (recordBytes k) (keep (isFor l) hs))) (sym (same .site))
+      ap readingOf (viewed 8 (omega arith) .ranked p (nextFor k q (x .next)) (same .reached) (its l) r ∙ ap (nth r) (own-records m same l))
+      ∙ nth-place (its l) (m .pool .site) r (keep (isFor l) hs) (owned l)
 
-  spent-by : (n k : ℕ) → n ≡ k → both (ltb 0 n) (ltb 2147483648 (q + n)) ≡ ltb 2147483648 (m .pool .next + k)
-  spent-by zero k e = sym (le-ltb 2147483648 (m .pool .next + k) (omega (arith, same .next, reached-next (same .reached))))
-  spent-by (suc n) k e = rw (lt-ltb 0 (suc n) (omega arith), e, same .next)
+  spent-by : (n i : ℕ) → n ≡ i → both (ltb 0 n) (ltb 2147483648 (q + n)) ≡ ltb 2147483648 (m .pool .next + i)
+  spent-by zero i e =
+      sym (le-ltb 2147483648 (m .pool .next + i) (omega (arith, same .next, both-bounds (let f : k ≤ 1 = omega (arith, same .site, same .good .site) in f) (same .reached) .0)))
+  spent-by (suc n) i e = rw (lt-ltb 0 (suc n) (omega arith), e, same .next)
 
-  pub spent-same : (left : Pool) (e : Effect) → batchOf left q (e .issues) .spent ≡ sequenceEnds m e
+  pub spent-same : (left : Pool) (e : Effect) → batchOf k left q (e .issues) .spent ≡ sequenceEnds m e
   spent-same left e =
-      kept 4 (omega arith) .spent left q (map unnumbered (e .issues)) ∙ spent-by (length (map unnumbered (e .issues))) (length (e .issues)) (length-map unnumbered (e .issues))
+      kept 8 (omega arith) .spent left q (map (unnumbered k) (e .issues))
+      ∙ spent-by (length (map (unnumbered k) (e .issues))) (length (e .issues)) (length-map (unnumbered k) (e .issues))

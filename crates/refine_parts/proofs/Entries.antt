@@ -8,6 +8,7 @@ use Rattle.entry.proofs.FlagLaws.{event-back, acknowledged-back, active-back, s
 use Rattle.pool.specs.declared.Sought.the-variants.{Found}
 use Rattle.pool_laws.specs.View.{ofAlarm as isAlarm}
 use Rattle.pool_laws.specs.Batch.{renumbered, under}
+use Rattle.site.specs.Site.{owner}
 use Rattle.machine.specs.Words.{isSome, maybe, alike}
 use Rattle.machine.specs.State.{Event, eventNumber, Alarm, Content, Issued, Held}
 use Rattle.machine.specs.State.Event.{Issue, Acknowledge, Suspend}
@@ -32,27 +33,27 @@ module _ (l q : ℕ) where
   entry-sequence (ofAggregated v t) = refl
 
 -- under its number
-pub numbered-entry : (i : Issued) (q : ℕ) → q ≤ 2147483647 → under (unnumbered i) q ≡ entryFor (i .link) q (i .content)
-numbered-entry i q h = ap (renumbered (unnumbered i)) (mod-eq-of-lt (small q h)) ∙ go (i .content)
+pub numbered-entry : (k : ℕ) (i : Issued) (q : ℕ) → q ≤ 2147483647 → under (unnumbered k i) q ≡ entryFor (owner k (i .link)) q (i .content)
+numbered-entry k i q h = ap (renumbered (unnumbered k i)) (mod-eq-of-lt (small q h)) ∙ go (i .content)
   where
     small : (q : ℕ) → q ≤ 2147483647 → q < 2147483648
     small q h = omega arith
 
-    go : (c : Content) → renumbered (entryFor (i .link) 0 c) q ≡ entryFor (i .link) q c
-    go (ofAlarm k a) = refl
-    go (ofStatus k none old t) = refl
-    go (ofStatus k (some v) old t) = refl
+    go : (c : Content) → renumbered (entryFor (owner k (i .link)) 0 c) q ≡ entryFor (owner k (i .link)) q c
+    go (ofAlarm n a) = refl
+    go (ofStatus n none old t) = refl
+    go (ofStatus n (some v) old t) = refl
     go (ofAggregated v t) = refl
 
 -- an alarm's record
-pub alarm-entry : (k : ℕ) (h : Held) → isAlarm k (placeFor h) ≡ isSome (alarmOf k (h .content))
-alarm-entry k h = go (h .content)
+pub alarm-entry : (o k : ℕ) (h : Held) → isAlarm k (placeFor o h) ≡ isSome (alarmOf k (h .content))
+alarm-entry o k h = go (h .content)
   where
     yes : (a : Alarm) (t : Bool) → t ≡ isSome (pick t (some a) none)
     yes a true = refl
     yes a false = refl
 
-    go : (c : Content) → both (eqb (entryFor (h .link) (h .sequence) c .kind) 0) (eqb (entryFor (h .link) (h .sequence) c .item) k) ≡ isSome (alarmOf k c)
+    go : (c : Content) → both (eqb (entryFor o (h .sequence) c .kind) 0) (eqb (entryFor o (h .sequence) c .item) k) ≡ isSome (alarmOf k c)
     go (ofAlarm i a) = yes a (eqb i k)
     go (ofStatus i none old t) = refl
     go (ofStatus i (some v) old t) = refl
@@ -181,8 +182,8 @@ module _ (a b : Alarm) where
       (alike (b .suspended) (a .suspended)) (eqb (eventNumber (b .event)) (eventNumber (a .event))))
 
 -- the message of the first pass carries an alarm's record
-pub carried-entry : (b : Alarm) (i : ℕ) (h : Held) → isSome (alarmOf i (h .content)) ≡ true → carries b i h ≡ carriedLike b (Found (placeFor h))
-carried-entry b i h e = go (h .content) e
+pub carried-entry : (o : ℕ) (b : Alarm) (i : ℕ) (h : Held) → isSome (alarmOf i (h .content)) ≡ true → carries b i h ≡ carriedLike b (Found (placeFor o h))
+carried-entry o b i h e = go (h .content) e
   where
     number : (a : Alarm) (t : Bool) → isSome (pick t (some a) none) ≡ true → t ≡ true
     number a true e = refl
@@ -190,7 +191,7 @@ carried-entry b i h e = go (h .content) e
 
     go : (c : Content) → isSome (alarmOf i c) ≡ true
         → pick (maybe false (sameAlarm b) (alarmOf i c)) (theRecord (h .sequence)) noRecord
-        ≡ pick (both (eqb (entryFor (h .link) (h .sequence) c .time) (b .time)) (eqb (entryFor (h .link) (h .sequence) c .flags) (flagsFor b))) (theRecord (entryFor (h .link) (h .sequence) c .sequence)) noRecord
+        ≡ pick (both (eqb (entryFor o (h .sequence) c .time) (b .time)) (eqb (entryFor o (h .sequence) c .flags) (flagsFor b))) (theRecord (entryFor o (h .sequence) c .sequence)) noRecord
     go (ofAlarm n a) e = rw (number a (eqb n i) e, same-alarm a b)
     go (ofStatus n none old t) e = untrue e
     go (ofStatus n (some v) old t) e = untrue e

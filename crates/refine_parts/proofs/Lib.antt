@@ -6,10 +6,12 @@ pub mod Questions
 pub mod LifeActs
 pub mod PoolLists
 pub mod Entries
+pub mod Owners
 pub mod Room
 pub mod Issue
 pub mod Others
 pub mod Asks
+pub mod Beside
 pub mod Same
 pub mod ItemLists
 pub mod Setup

@@ -1,25 +1,20 @@
--- Who loses a record: the code asks four links, the machine eight owners; a link that is not configured holds nothing, nor does another site.
+-- Who loses a record: of eight owners, in both pools.
 -- Assumes nothing.
-use Rattle.basis.proofs.Std.{ℕ, zero, suc, _+_, _-_, _/_, _%_, _≤_, _<_, _≡_, refl, sym, _∙_, ap, ap₂, subst, Bool, true, false, not, List, [], _∷_, _⊎_, inl, inr, eqb, ltb, leb, length, arith, lt-ltb, le-ltb, lt-leb, le-leb, eq-eqb, ne-eqb, pick, bit, count, picked, le-or-lt}
+use Rattle.basis.proofs.Std.{ℕ, zero, suc, _+_, _-_, _/_, _%_, _≤_, _<_, _≡_, refl, sym, _∙_, ap, Bool, true, false, not, List, [], _∷_, _⊎_, inl, inr, eqb, ltb, leb, length, arith, lt-ltb, le-ltb, lt-leb, le-leb, leb-true, ltb-true, eq-eqb, not-false, pick, bit, count, picked, le-or-lt, lt-or-ge}
 use Rattle.pool.specs.declared.Pool.{Pool}
 use Rattle.pool.specs.declared.Loser.{Loser}
 use Rattle.pool.specs.declared.Loser.the-variants.{Nobody, Owner}
 use Rattle.pool.specs.Shares.{fuller, fullest as fullestTo, loser}
 use Rattle.pool_laws.specs.View.{records, total, loserIn, holds as heldBy}
 use Rattle.machine.specs.Words.{keep}
-use Rattle.machine.specs.State.{Held, Share, noShare, Pool as Listed}
-use Rattle.machine.specs.Pool.{isFor, holds, heldBy as ownedBy, isFull, fullestBelow, fullest, lose, loseOf, makeRoom}
-use Rattle.demand_held.proofs.Lists.{bit-false, Each, length-map}
+use Rattle.machine.specs.State.{Held, Pool as Listed}
+use Rattle.machine.specs.Pool.{isFor, holds, isOwn, heldBy as ownedBy, isFull, fullestBelow, fullest, lose, loseOf, makeRoom, ownerOf}
+use Rattle.demand_held.proofs.Lists.{Each, length-map}
 use Rattle.demand_held.proofs.Lists.Each.{no-more, one-more}
-use Rattle.demand_held.proofs.Good.{Below}
+use Rattle.demand_held.proofs.Good.{Below, beyond, own-held, fullest-holds}
 use Rattle.refine_parts.specs.Record.{placeFor}
-use Rattle.refine_parts.specs.Same.{SamePool}
+use Rattle.refine_parts.specs.Same.{Beside, heldFor, lostFor, SamePool}
 use Rattle.refine_parts.proofs.PoolLists.{keep-length}
-
--- ---- of links that hold nothing
-pub none-beyond : {n : ℕ} (l : ℕ) → n ≤ l → (hs : List Held) → Each (Below n) hs → count (isFor l) hs ≡ 0
-none-beyond l f [] no-more = refl
-none-beyond l f (h ∷ hs) (one-more b r) = omega (arith, bit-false (isFor l h) (ne-eqb (h .link) l (λ e. omega arith)), none-beyond l f hs r)
 
 one-of-four : (k : ℕ) → k < 4 → bit (eqb k 0) + bit (eqb k 1) + bit (eqb k 2) + bit (eqb k 3) ≡ 1
 one-of-four zero h = refl
@@ -33,17 +28,18 @@ all-of-four : {n : ℕ} → n ≤ 4 → (hs : List Held) → Each (Below n) hs
 all-of-four f [] no-more = refl
 all-of-four f (h ∷ hs) (one-more b r) = omega (arith, one-of-four (h .link) (omega arith), all-of-four f hs r)
 
--- ---- the fullest of the eight, where site 0 is alone
-own-link : (m : Listed) → m .site ≡ 0 → (l : ℕ) → l < 4 → ownedBy m l ≡ holds m l
-own-link m e l h =
-    let q : l / 4 ≡ m .site = omega (arith, e) in
-    let r : l % 4 ≡ l = omega arith in
-    ap₂ (λ (t : Bool) (k : ℕ). count (isFor k) (pick t (m .held) (m .beside .held))) (eq-eqb (l / 4) (m .site) q) r
-
-no-other : (m : Listed) → m .site ≡ 0 → m .beside ≡ noShare → (l : ℕ) → 4 ≤ l → ownedBy m l ≡ 0
-no-other m e f l h =
-    let q : l / 4 ≡ m .site → ⊥ = λ q. omega (arith, e, q) in
-    ap₂ (λ (t : Bool) (s : Share). count (isFor (l % 4)) (pick t (m .held) (s .held))) (ne-eqb (l / 4) (m .site) q) f
+all-of-eight : (m : Listed) → m .site ≤ 1
+    → ownedBy m 0 + ownedBy m 1 + ownedBy m 2 + ownedBy m 3 + ownedBy m 4 + ownedBy m 5 + ownedBy m 6 + ownedBy m 7
+    ≡ count (isFor 0) (m .held) + count (isFor 1) (m .held) + count (isFor 2) (m .held) + count (isFor 3) (m .held)
+    + (count (isFor 0) (m .beside .held) + count (isFor 1) (m .beside .held) + count (isFor 2) (m .beside .held) + count (isFor 3) (m .beside .held))
+all-of-eight m h = go (m .site) refl
+  where
+    go : (k : ℕ) → m .site ≡ k → ownedBy m 0 + ownedBy m 1 + ownedBy m 2 + ownedBy m 3 + ownedBy m 4 + ownedBy m 5 + ownedBy m 6 + ownedBy m 7
+        ≡ count (isFor 0) (m .held) + count (isFor 1) (m .held) + count (isFor 2) (m .held) + count (isFor 3) (m .held)
+        + (count (isFor 0) (m .beside .held) + count (isFor 1) (m .beside .held) + count (isFor 2) (m .beside .held) + count (isFor 3) (m .beside .held))
+    go zero e = rw e (omega arith)
+    go (suc zero) e = rw e (omega arith)
+    go (suc (suc k)) e = absurd (omega arith)
 
 fullest-below : (m : Listed) (k : ℕ) → 0 < k → fullestBelow k m < k
 fullest-below m zero h = absurd (omega arith)
@@ -53,7 +49,7 @@ fullest-below m (suc (suc k)) h =
     (λ e. omega arith)
     (λ e. omega (arith, fullest-below m (suc k) (omega arith)))
 
-fullest-to : (held : ℕ → ℕ) (m : Listed) → ((l : ℕ) → l < 4 → held l ≡ ownedBy m l) → (k : ℕ) → k < 4 → fullestTo held k ≡ fullestBelow (suc k) m
+fullest-to : (held : ℕ → ℕ) (m : Listed) → ((l : ℕ) → l < 8 → held l ≡ ownedBy m l) → (k : ℕ) → k < 8 → fullestTo held k ≡ fullestBelow (suc k) m
 unfolding fullestTo
 fullest-to held m e zero h = go (ltb (ownedBy m 0) (ownedBy m 0))
   where
@@ -65,102 +61,130 @@ fullest-to held m e (suc k) h = go (fullestTo held k) (fullestBelow (suc k) m) (
     go : (a b : ℕ) → a ≡ b → b < suc k → fuller held a (suc k) ≡ pick (ltb (ownedBy m b) (ownedBy m (suc k))) (suc k) b
     go a b s f = rw (s, e b (omega arith), e (suc k) h)
 
-fullest-beyond : (m : Listed) (k : ℕ) → ((l : ℕ) → k ≤ l → ownedBy m l ≡ 0) → (n : ℕ) → k ≤ n → fullestBelow n m ≡ fullestBelow k m
-fullest-beyond m k none zero h = let z : k ≡ 0 = omega arith in rw z
-fullest-beyond m k none (suc n) h = go (le-or-lt k n) (fullest-beyond m k none n)
-  where
-    go : (k ≤ n) ⊎ (n < k) → (k ≤ n → fullestBelow n m ≡ fullestBelow k m) → fullestBelow (suc n) m ≡ fullestBelow k m
-    go (inl a) r = rw (none n a, le-ltb (ownedBy m (fullestBelow n m)) 0 (omega arith)) (r a)
-    go (inr a) r = let z : k ≡ suc n = omega arith in rw z
-
 -- the loser, of the configured links
-abbrev pub Configured : ℕ → Loser → Type 0
-Configured n Nobody = Unit {0}
-Configured n (Owner w) = w < n
+abbrev pub Configured : Listed → Loser → Type 0
+Configured m Nobody = Unit {0}
+Configured m (Owner w) = (w < 8) × (w % 4 < length (lostFor m w))
 
 abbrev pub losing : Loser → Listed → Listed
 losing Nobody m = m
-losing (Owner w) m = lose w m
+losing (Owner w) m = loseOf w m
 
 abbrev loserOf : ℕ → Listed → Loser
-loserOf s m =
-    pick (leb 64 (holds m s)) (Owner s)
+loserOf o m =
+    pick (leb 64 (ownedBy m o)) (Owner o)
     (pick (not (isFull m)) Nobody
-    (pick (ltb (holds m s) 16) (Owner (fullest m)) (Owner s)))
+    (pick (ltb (ownedBy m o) 16) (Owner (fullest m)) (Owner o)))
 
-lose-own : (m : Listed) → m .site ≡ 0 → fullest m < 4 → loseOf (fullest m) m ≡ lose (fullest m) m
-unfolding loseOf
-lose-own m e h =
-    let q : fullest m / 4 ≡ m .site = omega (arith, e, h) in
-    let r : fullest m % 4 ≡ fullest m = omega (arith, h) in
-    rw (eq-eqb (fullest m / 4) (m .site) q) (ap (λ (k : ℕ). lose k m) r)
+module _ (m : Listed) (l : ℕ) (h : l < 4) where
+  own-is : isOwn m (ownerOf (m .site) l) ≡ true
+  own-is = let q : ownerOf (m .site) l / 4 ≡ m .site = omega arith in eq-eqb (ownerOf (m .site) l / 4) (m .site) q
 
-room-of : (s : ℕ) (m : Listed) → m .site ≡ 0 → fullest m < 4 → makeRoom s m ≡ losing (loserOf s m) m
-unfolding makeRoom
-room-of s m e h = rw (lose-own m e h) (go (leb 64 (holds m s)) (not (isFull m)) (ltb (holds m s) 16))
-  where
-    go : (a b c : Bool) → pick a (lose s m) (pick b m (pick c (lose (fullest m) m) (lose s m)))
-        ≡ losing (pick a (Owner s) (pick b Nobody (pick c (Owner (fullest m)) (Owner s)))) m
-    go true b c = refl
-    go false true c = refl
-    go false false true = refl
-    go false false false = refl
+  its-link : ownerOf (m .site) l % 4 ≡ l
+  its-link = omega arith
 
-module _ {links q : ℕ} {p : Pool} {m : Listed} (same : SamePool links p q m) where
-  pub held-same : (l : ℕ) → heldBy (records p) l ≡ holds m l
-  held-same l = ap length (same .held l) ∙ length-map placeFor (keep (isFor l) (m .held)) ∙ keep-length (isFor l) (m .held)
+  lose-own : loseOf (ownerOf (m .site) l) m ≡ lose l m
+  unfolding loseOf
+  lose-own = rw own-is (ap (λ (j : ℕ). lose j m) its-link)
 
-  few-links : length (m .lost) ≤ 4
-  few-links = omega (arith, same .configured, same .few)
+  room-of : makeRoom l m ≡ losing (loserOf (ownerOf (m .site) l) m) m
+  unfolding makeRoom
+  room-of = rw (own-held m l h) (go (leb 64 (holds m l)) (not (isFull m)) (ltb (holds m l) 16))
+    where
+      go : (a b c : Bool) → pick a (lose l m) (pick b m (pick c (loseOf (fullest m) m) (lose l m)))
+          ≡ losing (pick a (Owner (ownerOf (m .site) l)) (pick b Nobody (pick c (Owner (fullest m)) (Owner (ownerOf (m .site) l))))) m
+      go true b c = sym lose-own
+      go false true c = refl
+      go false false true = refl
+      go false false false = sym lose-own
 
-  none-held : (l : ℕ) → length (m .lost) ≤ l → holds m l ≡ 0
-  none-held l h = none-beyond l h (m .held) (same .good .own .links)
+module _ {links k q : ℕ} {x : Beside} {p : Pool} {m : Listed} (same : SamePool links x k p q m) where
+  pub held-same : (o : ℕ) → o < 8 → heldBy (records p) o ≡ ownedBy m o
+  held-same o h = ap length (same .held o h) ∙ length-map (placeFor o) (keep (isFor (o % 4)) (heldFor m o)) ∙ keep-length (isFor (o % 4)) (heldFor m o)
 
-  total-same : total (heldBy (records p)) 4 ≡ length (m .held)
+  total-same : total (heldBy (records p)) 8 ≡ length (m .held) + length (m .beside .held)
   unfolding total
   total-same =
-      omega (arith, held-same 0, held-same 1, held-same 2, held-same 3, all-of-four few-links (m .held) (same .good .own .links))
+      omega (
+        arith,
+        held-same 0 (omega arith),
+        held-same 1 (omega arith),
+        held-same 2 (omega arith),
+        held-same 3 (omega arith),
+        held-same 4 (omega arith),
+        held-same 5 (omega arith),
+        held-same 6 (omega arith),
+        held-same 7 (omega arith),
+        all-of-eight m (same .good .site),
+        all-of-four (same .good .own .few) (m .held) (same .good .own .links),
+        all-of-four (same .beside .few) (m .beside .held) (same .beside .links),
+      )
 
-  both-same : length (m .held) + length (m .beside .held) ≡ length (m .held)
-  both-same = omega (arith, ap (λ (s : Share). length (s .held)) (same .alone))
+  abbrev size : ℕ
+  size = length (m .held) + length (m .beside .held)
 
-  free-same : ltb 0 (128 - total (heldBy (records p)) 4) ≡ not (isFull m)
-  free-same = ap (λ (k : ℕ). ltb 0 (128 - k)) total-same ∙ go (le-or-lt 128 (length (m .held))) ∙ ap (λ (k : ℕ). not (leb 128 k)) (sym both-same)
+  free-same : ltb 0 (128 - total (heldBy (records p)) 8) ≡ not (isFull m)
+  free-same = ap (λ (n : ℕ). ltb 0 (128 - n)) total-same ∙ go (le-or-lt 128 size)
     where
-      go : (128 ≤ length (m .held)) ⊎ (length (m .held) < 128) → ltb 0 (128 - length (m .held)) ≡ not (leb 128 (length (m .held)))
-      go (inl h) = le-ltb 0 (128 - length (m .held)) (omega arith) ∙ ap not (sym (le-leb 128 (length (m .held)) h))
-      go (inr h) = lt-ltb 0 (128 - length (m .held)) (omega arith) ∙ ap not (sym (lt-leb 128 (length (m .held)) h))
+      go : (128 ≤ size) ⊎ (size < 128) → ltb 0 (128 - size) ≡ not (leb 128 size)
+      go (inl h) = le-ltb 0 (128 - size) (omega arith) ∙ ap not (sym (le-leb 128 size h))
+      go (inr h) = lt-ltb 0 (128 - size) (omega arith) ∙ ap not (sym (lt-leb 128 size h))
 
-  none-owned : (l : ℕ) → length (m .lost) ≤ l → ownedBy m l ≡ 0
-  none-owned l h = go (le-or-lt 4 l)
-    where
-      go : (4 ≤ l) ⊎ (l < 4) → ownedBy m l ≡ 0
-      go (inl f) = no-other m (same .site) (same .alone) l f
-      go (inr f) = own-link m (same .site) l f ∙ none-held l h
+  fullest-same : fullestTo (heldBy (records p)) 7 ≡ fullest m
+  fullest-same = fullest-to (heldBy (records p)) m held-same 7 (omega arith)
 
-  fullest-same : fullestTo (heldBy (records p)) 3 ≡ fullest m
-  fullest-same =
-      fullest-to (heldBy (records p)) m (λ l h. held-same l ∙ sym (own-link m (same .site) l h)) 3 (omega arith)
-      ∙ sym (fullest-beyond m 4 (no-other m (same .site) (same .alone)) 8 (omega arith))
-
-  fullest-own : 0 < length (m .lost) → fullest m < length (m .lost)
-  fullest-own h = subst (λ (k : ℕ). k < length (m .lost)) (sym (fullest-beyond m (length (m .lost)) none-owned 8 (omega (arith, few-links)))) (fullest-below m (length (m .lost)) h)
-
-  fullest-four : fullest m < 4
-  fullest-four = subst (λ (k : ℕ). k < 4) (sym (fullest-beyond m 4 (no-other m (same .site) (same .alone)) 8 (omega arith))) (fullest-below m 4 (omega arith))
-
-  loser-same : (s : ℕ) → loserIn 4 (records p) s ≡ loserOf s m
+  loser-same : (o : ℕ) → o < 8 → loserIn 8 (records p) o ≡ loserOf o m
   unfolding loser
-  loser-same s = rw (held-same s, free-same, fullest-same)
+  loser-same o h = rw (held-same o h, free-same, fullest-same)
 
-  -- the machine loses what the code's loser loses
-  pub room-same : (s : ℕ) → makeRoom s m ≡ losing (loserIn 4 (records p) s) m
-  room-same s = room-of s m (same .site) fullest-four ∙ ap (λ (who : Loser). losing who m) (sym (loser-same s))
+  module _ (l : ℕ) (link : l < links) where
+    below-four : l < 4
+    below-four = omega (arith, same .few)
 
-  pub loser-configured : (s : ℕ) → s < links → Configured links (loserIn 4 (records p) s)
-  loser-configured s h =
-      rw (loser-same s) (picked (Configured links) (leb 64 (holds m s)) (Owner s) _ (λ e. h)
-      (λ e. picked (Configured links) (not (isFull m)) Nobody _ (λ f. tt)
-      (λ f. picked (Configured links) (ltb (holds m s) 16) (Owner (fullest m)) (Owner s)
-      (λ g. let z : 0 < length (m .lost) = omega (arith, same .configured) in omega (arith, fullest-own z, same .configured))
-      (λ g. h))))
+    below-eight : ownerOf (m .site) l < 8
+    below-eight = omega (arith, same .few, same .good .site)
+
+    -- the machine loses what the code's loser loses
+    pub room-same : makeRoom l m ≡ losing (loserIn 8 (records p) (ownerOf (m .site) l)) m
+    room-same = room-of m l below-four ∙ ap (λ (who : Loser). losing who m) (sym (loser-same (ownerOf (m .site) l) below-eight))
+
+    own-configured : Configured m (Owner (ownerOf (m .site) l))
+    own-configured = (below-eight, rw (own-is m l below-four, its-link m l below-four) (omega (arith, same .configured)))
+
+    -- the fullest holds a record, so its link is configured
+    fullest-configured : 16 < ownedBy m (fullest m) → Configured m (Owner (fullest m))
+    fullest-configured most = (fullest-below m 8 (omega arith), go (isOwn m (fullest m)) refl)
+      where
+        go : (t : Bool) → isOwn m (fullest m) ≡ t → fullest m % 4 < length (pick t (m .lost) (m .beside .lost))
+        go true e = by (lt-or-ge (fullest m % 4) (length (m .lost)))
+          where
+            by : (fullest m % 4 < length (m .lost)) ⊎ (length (m .lost) ≤ fullest m % 4) → fullest m % 4 < length (m .lost)
+            by (inl f) = f
+            by (inr f) =
+                absurd (omega (
+                  arith,
+                  most,
+                  ap (λ (t : Bool). count (isFor (fullest m % 4)) (pick t (m .held) (m .beside .held))) e,
+                  beyond (fullest m % 4) f (m .held) (same .good .own .links),
+                ))
+        go false e = by (lt-or-ge (fullest m % 4) (length (m .beside .lost)))
+          where
+            by : (fullest m % 4 < length (m .beside .lost)) ⊎ (length (m .beside .lost) ≤ fullest m % 4) → fullest m % 4 < length (m .beside .lost)
+            by (inl f) = f
+            by (inr f) =
+                absurd (omega (
+                  arith,
+                  most,
+                  ap (λ (t : Bool). count (isFor (fullest m % 4)) (pick t (m .held) (m .beside .held))) e,
+                  beyond (fullest m % 4) f (m .beside .held) (same .beside .links),
+                ))
+
+    pub loser-configured : Configured m (loserIn 8 (records p) (ownerOf (m .site) l))
+    loser-configured =
+        rw (loser-same (ownerOf (m .site) l) below-eight) (picked (Configured m) (leb 64 (ownedBy m (ownerOf (m .site) l))) (Owner (ownerOf (m .site) l)) _ (λ e. own-configured)
+        (λ e. picked (Configured m) (not (isFull m)) Nobody _ (λ f. tt)
+        (λ f. picked (Configured m) (ltb (ownedBy m (ownerOf (m .site) l)) 16) (Owner (fullest m)) (Owner (ownerOf (m .site) l))
+        (λ g. fullest-configured
+        (fullest-holds m (same .good) l (omega (arith, same .configured))
+        (omega (arith, ltb-true (ownedBy m (ownerOf (m .site) l)) 16 g, own-held m l below-four)) (leb-true 128 size (not-false (isFull m) f))))
+        (λ g. own-configured))))

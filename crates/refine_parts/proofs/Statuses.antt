@@ -9,7 +9,7 @@ use Rattle.status.specs.Issued.{issuedOf}
 use Rattle.subscription.specs.declared.Subscription.{Subscription as Slot}
 use Rattle.subscription.specs.Subscription.{issuesOn}
 use Rattle.site.specs.declared.Site.{Site}
-use Rattle.site.specs.Site.{linkAt}
+use Rattle.site.specs.Site.{linkAt, ownerOf}
 use Rattle.site.specs.Parts.{statusAt, subscriptionAt, withStatus as withValue}
 use Rattle.site.specs.Records.{statusRecord}
 use Rattle.pool_laws.specs.Upwards.{entriesTo, entryIf}
@@ -116,18 +116,18 @@ module _ (s : Site) (m : Machine) (h : SameItems s m) (i : ℕ) (b : i < length 
   given x = recordFor m t (x .link) (some v) i
 
   of-link : (l : ℕ) → l < m .setup .links
-      → entryIf (issuesOn (subscriptionAt s (l * 32 + i)) true) (statusRecord (linkAt s l) (holding (wordOf v)) l i t)
-      ≡ map unnumbered (map given (flat (λ j. keep (λ x. both (isOf l j x) (asks x)) (m .subscriptions)) (upTo (length (m .statuses)))))
+      → entryIf (issuesOn (subscriptionAt s (l * 32 + i)) true) (statusRecord (linkAt s l) (holding (wordOf v)) (ownerOf s l) i t)
+      ≡ map (unnumbered (s .site)) (map given (flat (λ j. keep (λ x. both (isOf l j x) (asks x)) (m .subscriptions)) (upTo (length (m .statuses)))))
   of-link l lb =
       at-place s m h l i (omega (arith, lb, h .setup .few)) (omega (arith, b, h .status-count, h .setup .allowed .most-statuses)) asks given
-      (λ (k : Slot). entryIf (issuesOn k true) (statusRecord (linkAt s l) (holding (wordOf v)) l i t)) refl
+      (λ (k : Slot). entryIf (issuesOn k true) (statusRecord (linkAt s l) (holding (wordOf v)) (ownerOf s l) i t)) refl
       (λ x e a. by x (x .onChange) (its-link l i x e) (eq-eqb (x .status) i (its-status l i x e)) (upIn (phaseOf (linkAt s l))) (up l))
-      ∙ sym (ap (λ (xs : List Subscription). map unnumbered (map given xs))
+      ∙ sym (ap (λ (xs : List Subscription). map (unnumbered (s .site)) (map given xs))
       (flat-only (λ j. keep (λ x. both (isOf l j x) (asks x)) (m .subscriptions)) i (length (m .statuses)) b
       (λ j jb n. keep-none (λ x. both (isOf l j x) (asks x)) (none-else j n) (m .subscriptions))))
     where
       by : (x : Subscription) (soc : Bool) → x .link ≡ l → eqb (x .status) i ≡ true → (u : Bool) → u ≡ isUp (lifeAt m l)
-          → entryIf (both true (eqb (pick soc 2 1) 2)) (issuedOf (holding (wordOf v)) l i t (not u)) ≡ map unnumbered (map given (pick (both (eqb (x .status) i) soc) (x ∷ []) []))
+          → entryIf (both true (eqb (pick soc 2 1) 2)) (issuedOf (holding (wordOf v)) (ownerOf s l) i t (not u)) ≡ map (unnumbered (s .site)) (map given (pick (both (eqb (x .status) i) soc) (x ∷ []) []))
       by x true q e u same = rw (e, q, same)
       by x false q e u same = rw e
 
@@ -138,19 +138,19 @@ module _ (s : Site) (m : Machine) (h : SameItems s m) (i : ℕ) (b : i < length 
           (λ e. rw e)
 
   all-links : isNew v (valueAt m i) ≡ true
-      → entriesTo (λ l. entryIf (both (news (statusAt s i) (wordOf v)) (eqb (subscriptionAt s (l * 32 + i) .state) 2)) (statusRecord (linkAt s l) (holding (wordOf v)) l i t)) (s .linkcount)
-      ≡ map unnumbered (map given (upwards m asks))
+      → entriesTo (λ l. entryIf (both (news (statusAt s i) (wordOf v)) (eqb (subscriptionAt s (l * 32 + i) .state) 2)) (statusRecord (linkAt s l) (holding (wordOf v)) (ownerOf s l) i t)) (s .linkcount)
+      ≡ map (unnumbered (s .site)) (map given (upwards m asks))
   all-links e =
       rw (is-news ∙ e, h .setup .links)
-      (entries-flat (λ l. entryIf (issuesOn (subscriptionAt s (l * 32 + i)) true) (statusRecord (linkAt s l) (holding (wordOf v)) l i t)) (m .setup .links)
-      ∙ flat-same (λ l. entryIf (issuesOn (subscriptionAt s (l * 32 + i)) true) (statusRecord (linkAt s l) (holding (wordOf v)) l i t))
-      (λ l. map unnumbered (map given (flat (λ j. keep (λ x. both (isOf l j x) (asks x)) (m .subscriptions)) (upTo (length (m .statuses))))))
+      (entries-flat (λ l. entryIf (issuesOn (subscriptionAt s (l * 32 + i)) true) (statusRecord (linkAt s l) (holding (wordOf v)) (ownerOf s l) i t)) (m .setup .links)
+      ∙ flat-same (λ l. entryIf (issuesOn (subscriptionAt s (l * 32 + i)) true) (statusRecord (linkAt s l) (holding (wordOf v)) (ownerOf s l) i t))
+      (λ l. map (unnumbered (s .site)) (map given (flat (λ j. keep (λ x. both (isOf l j x) (asks x)) (m .subscriptions)) (upTo (length (m .statuses))))))
       (m .setup .links) of-link
-      ∙ sym (ap (map unnumbered) (map-flat given (λ l. flat (λ j. keep (λ x. both (isOf l j x) (asks x)) (m .subscriptions)) (upTo (length (m .statuses)))) (upTo (m .setup .links)))
-      ∙ map-flat unnumbered (λ l. map given (flat (λ j. keep (λ x. both (isOf l j x) (asks x)) (m .subscriptions)) (upTo (length (m .statuses))))) (upTo (m .setup .links))))
+      ∙ sym (ap (map (unnumbered (s .site))) (map-flat given (λ l. flat (λ j. keep (λ x. both (isOf l j x) (asks x)) (m .subscriptions)) (upTo (length (m .statuses)))) (upTo (m .setup .links)))
+      ∙ map-flat (unnumbered (s .site)) (λ l. map given (flat (λ j. keep (λ x. both (isOf l j x) (asks x)) (m .subscriptions)) (upTo (length (m .statuses))))) (upTo (m .setup .links))))
 
   no-links : isNew v (valueAt m i) ≡ false
-      → entriesTo (λ l. entryIf (both (news (statusAt s i) (wordOf v)) (eqb (subscriptionAt s (l * 32 + i) .state) 2)) (statusRecord (linkAt s l) (holding (wordOf v)) l i t)) (s .linkcount) ≡ []
+      → entriesTo (λ l. entryIf (both (news (statusAt s i) (wordOf v)) (eqb (subscriptionAt s (l * 32 + i) .state) 2)) (statusRecord (linkAt s l) (holding (wordOf v)) (ownerOf s l) i t)) (s .linkcount) ≡ []
   no-links e = rw (is-news ∙ e) (none-to (λ l. []) (s .linkcount) (λ l g. refl))
 
   pub same-status : SameEffect (statusPlan s i v t) (becomes m i v t)

@@ -10,7 +10,7 @@ use Rattle.status.specs.Issued.{issuedOf}
 use Rattle.subscription.specs.declared.Subscription.{Subscription as Slot}
 use Rattle.subscription.specs.Subscription.{none as noSubscription, subscribed}
 use Rattle.site.specs.declared.Site.{Site}
-use Rattle.site.specs.Site.{linkAt, withSubscriptions as withSlots}
+use Rattle.site.specs.Site.{linkAt, ownerOf, withSubscriptions as withSlots}
 use Rattle.site.specs.Parts.{statusAt, subscriptionAt, withSubscription}
 use Rattle.site.specs.Records.{statusRecord}
 use Rattle.machine.specs.Words.{maybe, keep, firstThat}
@@ -59,11 +59,11 @@ module _ (s : Site) (m : Machine) (h : SameItems s m) where
 
   -- the record of a status for link l, which k is
   pub same-record : (k : Link) (l i t : ℕ) → upIn (phaseOf k) ≡ isUp (lifeAt m l) → i < length (m .statuses)
-      → statusRecord k (statusAt s i) l i t ≡ unnumbered (update m t l i)
+      → statusRecord k (statusAt s i) (ownerOf s l) i t ≡ unnumbered (s .site) (update m t l i)
   same-record k l i t up b =
-      ap (λ (x : Status). statusRecord k x l i t) (h .statuses i b)
-      ∙ ap (λ (u : Bool). issuedOf (statusFor (valueAt m i)) l i t (not u)) up
-      ∙ status-record (valueAt m i) l i t (not (isUp (lifeAt m l)))
+      ap (λ (x : Status). statusRecord k x (ownerOf s l) i t) (h .statuses i b)
+      ∙ ap (λ (u : Bool). issuedOf (statusFor (valueAt m i)) (ownerOf s l) i t (not u)) up
+      ∙ status-record (valueAt m i) (ownerOf s l) i t (not (isUp (lifeAt m l)))
 
   -- the items with other subscriptions in both
   pub with-subscriptions : (xs : List Slot) (subs : List Subscription)
@@ -184,15 +184,15 @@ module _ (s : Site) (m : Machine) (h : SameItems s m) where
 
   -- ---- the records of a place: e says them by its subscription, g by the machine's, where it passes f
   pub at-place : (l i : ℕ) → l < 4 → i < 32 → (f : Subscription → Bool) (g : Subscription → Issued) (e : Slot → List Entry) → e noSubscription ≡ []
-      → ((x : Subscription) → isOf l i x ≡ true → Among x (m .subscriptions) → e (slotFor (some x)) ≡ map unnumbered (map g (pick (f x) (x ∷ []) [])))
-      → e (subscriptionAt s (l * 32 + i)) ≡ map unnumbered (map g (keep (λ x. both (isOf l i x) (f x)) (m .subscriptions)))
+      → ((x : Subscription) → isOf l i x ≡ true → Among x (m .subscriptions) → e (slotFor (some x)) ≡ map (unnumbered (s .site)) (map g (pick (f x) (x ∷ []) [])))
+      → e (subscriptionAt s (l * 32 + i)) ≡ map (unnumbered (s .site)) (map g (keep (λ x. both (isOf l i x) (f x)) (m .subscriptions)))
   at-place l i lb ib f g e z r =
       ap e (h .subscriptions l i lb ib)
       ∙ by (firstThat (isOf l i) (m .subscriptions)) refl
-      ∙ sym (ap (λ (xs : List Subscription). map unnumbered (map g xs)) (keep-first (isOf l i) f (m .subscriptions) (h .one-each l i)))
+      ∙ sym (ap (λ (xs : List Subscription). map (unnumbered (s .site)) (map g xs)) (keep-first (isOf l i) f (m .subscriptions) (h .one-each l i)))
     where
       by : (o : Option Subscription) → firstThat (isOf l i) (m .subscriptions) ≡ o
-          → e (slotFor o) ≡ map unnumbered (map g (maybe [] (λ x. pick (f x) (x ∷ []) []) o))
+          → e (slotFor o) ≡ map (unnumbered (s .site)) (map g (maybe [] (λ x. pick (f x) (x ∷ []) []) o))
       by none q = z
       by (some x) q = r x (first-passes (isOf l i) (m .subscriptions) x q) (first-among (isOf l i) (m .subscriptions) x q)
 

@@ -9,7 +9,7 @@ use Rattle.subscription.specs.declared.Ticked.{Ticked}
 use Rattle.subscription.specs.Subscription.{none as noSubscription, dueAt, tickOf}
 use Rattle.site.specs.declared.Site.{Site}
 use Rattle.site.specs.Call.{issues}
-use Rattle.site.specs.Site.{withSubscriptions as withSlots}
+use Rattle.site.specs.Site.{ownerOf, withSubscriptions as withSlots}
 use Rattle.site.specs.Parts.{statusAt, subscriptionAt}
 use Rattle.site.specs.Records.{statusRecord}
 use Rattle.pool_laws.specs.Upwards.{entryIf}
@@ -72,18 +72,18 @@ module _ (s : Site) (m : Machine) (h : SameItems s m) (t : ℕ) (left : List Lin
   place l i = keep (λ x. both (isOf l i x) (isTime t x)) (m .subscriptions)
 
   abbrev its-record : ℕ → ℕ → Entry
-  its-record l i = statusRecord (getD left l closedLink) (statusAt s i) l i t
+  its-record l i = statusRecord (getD left l closedLink) (statusAt s i) (ownerOf s l) i t
 
   abbrev entries : ℕ → ℕ → List Entry
-  entries l i = map unnumbered (map given (place l i))
+  entries l i = map (unnumbered (s .site)) (map given (place l i))
 
-  placed : (l i : ℕ) → i < 32 → recordAt (s .subscriptions) (s .statuses) left t (l * 32 + i) ≡ entryIf (tickOf (subscriptionAt s (l * 32 + i)) t .issues) (its-record l i)
+  placed : (l i : ℕ) → i < 32 → recordAt (s .site) (s .subscriptions) (s .statuses) left t (l * 32 + i) ≡ entryIf (tickOf (subscriptionAt s (l * 32 + i)) t .issues) (its-record l i)
   placed l i b =
       let d : (l * 32 + i) / 32 ≡ l = omega arith in
       let r : (l * 32 + i) % 32 ≡ i = omega arith in
       rw (d, r) refl
 
-  of-place : (l : ℕ) → l < 4 → (i : ℕ) → i < 32 → recordAt (s .subscriptions) (s .statuses) left t (l * 32 + i) ≡ entries l i
+  of-place : (l : ℕ) → l < 4 → (i : ℕ) → i < 32 → recordAt (s .site) (s .subscriptions) (s .statuses) left t (l * 32 + i) ≡ entries l i
   of-place l lb i ib =
       placed l i ib
       ∙ at-place s m h l i lb ib (isTime t) given (λ (k : Slot). entryIf (tickOf k t .issues) (its-record l i))
@@ -91,7 +91,7 @@ module _ (s : Site) (m : Machine) (h : SameItems s m) (t : ℕ) (left : List Lin
       (λ x e a. ap (λ (k : Ticked). entryIf (k .issues) (its-record l i)) (ticks t x) ∙ by x e (h .within x a) (isTime t x))
     where
       by : (x : Subscription) → isOf l i x ≡ true → Within m x → (b : Bool)
-          → entryIf b (its-record l i) ≡ map unnumbered (map given (pick b (x ∷ []) []))
+          → entryIf b (its-record l i) ≡ map (unnumbered (s .site)) (map given (pick b (x ∷ []) []))
       by x e w false = refl
       by x e w true =
           rw (its-link l i x e, its-status l i x e)
@@ -104,7 +104,7 @@ module _ (s : Site) (m : Machine) (h : SameItems s m) (t : ℕ) (left : List Lin
   few-statuses = omega (arith, h .status-count, h .setup .allowed .most-statuses)
 
   no-entries : (l i : ℕ) → (m .setup .links ≤ l) ⊎ (length (m .statuses) ≤ i) → entries l i ≡ []
-  no-entries l i b = ap (λ (xs : List Subscription). map unnumbered (map given xs)) (no-place s m h l i b (isTime t))
+  no-entries l i b = ap (λ (xs : List Subscription). map (unnumbered (s .site)) (map given xs)) (no-place s m h l i b (isTime t))
 
   -- as far as the statuses of the table, and the configured links
   short-row : (l : ℕ) → rows 32 l ≡ rows (length (m .statuses)) l
@@ -120,24 +120,24 @@ module _ (s : Site) (m : Machine) (h : SameItems s m) (t : ℕ) (left : List Lin
       (flat-beyond (rows (length (m .statuses))) (m .setup .links) (4 - m .setup .links)
       (λ l a b. flat-none (entries l) (length (m .statuses)) (λ i c. no-entries l i (inl a))))
 
-  machines : flat (rows (length (m .statuses))) (upTo (m .setup .links)) ≡ map unnumbered (map given (upwards m (isTime t)))
+  machines : flat (rows (length (m .statuses))) (upTo (m .setup .links)) ≡ map (unnumbered (s .site)) (map given (upwards m (isTime t)))
   machines =
-      flat-same (rows (length (m .statuses))) (λ l. map unnumbered (map given (flat (place l) (upTo (length (m .statuses)))))) (m .setup .links)
-      (λ l b. sym (ap (map unnumbered) (map-flat given (place l) (upTo (length (m .statuses)))) ∙ map-flat unnumbered (λ i. map given (place l i)) (upTo (length (m .statuses)))))
-      ∙ sym (ap (map unnumbered) (map-flat given (λ l. flat (place l) (upTo (length (m .statuses)))) (upTo (m .setup .links)))
-      ∙ map-flat unnumbered (λ l. map given (flat (place l) (upTo (length (m .statuses))))) (upTo (m .setup .links)))
+      flat-same (rows (length (m .statuses))) (λ l. map (unnumbered (s .site)) (map given (flat (place l) (upTo (length (m .statuses)))))) (m .setup .links)
+      (λ l b. sym (ap (map (unnumbered (s .site))) (map-flat given (place l) (upTo (length (m .statuses)))) ∙ map-flat (unnumbered (s .site)) (λ i. map given (place l i)) (upTo (length (m .statuses)))))
+      ∙ sym (ap (map (unnumbered (s .site))) (map-flat given (λ l. flat (place l) (upTo (length (m .statuses)))) (upTo (m .setup .links)))
+      ∙ map-flat (unnumbered (s .site)) (λ l. map given (flat (place l) (upTo (length (m .statuses))))) (upTo (m .setup .links)))
 
-  all-records : recordsOf (s .subscriptions) (s .statuses) left t ≡ map unnumbered (map given (upwards m (isTime t)))
+  all-records : recordsOf (s .site) (s .subscriptions) (s .statuses) left t ≡ map (unnumbered (s .site)) (map given (upwards m (isTime t)))
   all-records =
-      sym (all-places (s .subscriptions) (s .statuses) left t (4 * 32) refl)
-      ∙ entries-rows (recordAt (s .subscriptions) (s .statuses) left t) 4
-      ∙ flat-same (λ l. flat (λ i. recordAt (s .subscriptions) (s .statuses) left t (l * 32 + i)) (upTo 32)) (rows 32) 4
-      (λ l b. flat-same (λ i. recordAt (s .subscriptions) (s .statuses) left t (l * 32 + i)) (entries l) 32 (of-place l b))
+      sym (all-places (s .site) (s .subscriptions) (s .statuses) left t (4 * 32) refl)
+      ∙ entries-rows (recordAt (s .site) (s .subscriptions) (s .statuses) left t) 4
+      ∙ flat-same (λ l. flat (λ i. recordAt (s .site) (s .subscriptions) (s .statuses) left t (l * 32 + i)) (upTo 32)) (rows 32) 4
+      (λ l b. flat-same (λ i. recordAt (s .site) (s .subscriptions) (s .statuses) left t (l * 32 + i)) (entries l) 32 (of-place l b))
       ∙ flat-same (rows 32) (rows (length (m .statuses))) 4 (λ l b. short-row l)
       ∙ few-rows
       ∙ machines
 
-  pub same-tick : SameEffect (issues (withSlots s (map (renewed t) (s .subscriptions))) (recordsOf (s .subscriptions) (s .statuses) left t)) (intervals t m)
+  pub same-tick : SameEffect (issues (withSlots s (map (renewed t) (s .subscriptions))) (recordsOf (s .site) (s .subscriptions) (s .statuses) left t)) (intervals t m)
   unfolding intervals
   same-tick =
       record {

@@ -51,7 +51,7 @@ module _ (s : Site) (m : Machine) where
     pub subscribing : (l i : ℕ) → l < m .setup .links → i < length (m .statuses) → SameSubscribing l i
     -- a tick, but for the links that it closes: as it leaves them they are Up or not, and m is the machine that has closed them
     pub tick : (t : ℕ) (left : List Link) → UpIn left m
-        → SameEffect (issues (withSlots s (map (renewed t) (s .subscriptions))) (recordsOf (s .subscriptions) (s .statuses) left t)) (intervals t m)
+        → SameEffect (issues (withSlots s (map (renewed t) (s .subscriptions))) (recordsOf (s .site) (s .subscriptions) (s .statuses) left t)) (intervals t m)
 
 pub record ItemActs : Type 0 where
   pub acts : (s : Site) (m : Machine) → SameItems s m → SameItemActs s m

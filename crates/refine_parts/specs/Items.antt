@@ -79,7 +79,7 @@ SameUp s m = UpIn (s .links) m
 
 -- the records that a call issues are the machine's, and each entry tells its content
 pub record SameIssued (p : Plan) (is : List Issued) : Type 0 where
-  pub issued : p .issued ≡ map unnumbered is
+  pub issued : p .issued ≡ map (unnumbered (p .site .site)) is
   pub told : Each (λ (i : Issued). IsTold (i .content)) is
 
 pub record SameEffect (p : Plan) (e : Effect) : Type 0 where

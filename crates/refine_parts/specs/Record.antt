@@ -16,6 +16,7 @@ use Rattle.pool.specs.declared.Place.{Place}
 use Rattle.pool.specs.declared.Reading.{Reading}
 use Rattle.pool.specs.declared.Sought.{Sought}
 use Rattle.pool.specs.declared.Sought.the-variants.{Found, Nothing}
+use Rattle.site.specs.Site.{owner}
 use Rattle.machine.specs.Words.{Bytes, maybe}
 use Rattle.machine.specs.State.{Event, eventNumber, Alarm, alarmOf, Content, Issued, Held, Sent}
 use Rattle.machine.specs.State.Event.{Issue, Acknowledge, Suspend}
@@ -27,15 +28,16 @@ use Rattle.machine.specs.Readings.{entryFor}
 abbrev pub markFor : Bool → ℕ
 markFor sent = pick sent 2 1
 
-abbrev pub placeFor : Held → Place
-placeFor h = record { entry = entryFor (h .link) (h .sequence) (h .content); mark = markFor (h .sent) }
+-- one of owner o
+abbrev pub placeFor : ℕ → Held → Place
+placeFor o h = record { entry = entryFor o (h .sequence) (h .content); mark = markFor (h .sent) }
 
-abbrev pub found : Option Held → Sought
-found h = maybe Nothing (λ x. Found (placeFor x)) h
+abbrev pub found : ℕ → Option Held → Sought
+found o h = maybe Nothing (λ x. Found (placeFor o x)) h
 
--- a record to be issued: the pool gives the sequence number
-abbrev pub unnumbered : Issued → Entry
-unnumbered i = entryFor (i .link) 0 (i .content)
+-- a record of a site to be issued: the pool gives the sequence number
+abbrev pub unnumbered : ℕ → Issued → Entry
+unnumbered site i = entryFor (owner site (i .link)) 0 (i .content)
 
 -- ---- what an entry tells
 abbrev pub eventIn : ℕ → Event

@@ -1,4 +1,4 @@
-// Runs acts on the pool of a site's words, case by case from standard input, and writes a line for each; tests/pools.py makes the cases and the
+// Runs acts on the pool's words, case by case from standard input, and writes a line for each; tests/pools.py makes the cases and the
 // lines from a model of its own.
 use entry::Entry;
 use pool::Sought;
@@ -23,17 +23,17 @@ fn entry_in(b: [u8; 40]) -> Entry {
 
 // No record, nothing lost.
 fn empty(w: &mut [u64])
-    requires { ⌜ length (now w) ≡ 1173 ⌝ }
+    requires { ⌜ length (now w) ≡ 520 ⌝ }
 {
     let mut i: usize = 0;
-    while i < 1173 {
+    while i < 520 {
         w[i] = 0;
         i += 1;
     }
 }
 
 fn act(kind: u8, b: [u8; 40], w: &mut [u64])
-    requires { ⌜ length (now w) ≡ 1173 ⌝ }
+    requires { ⌜ length (now w) ≡ 520 ⌝ }
 {
     match kind {
         b'0' => empty(w),
@@ -41,6 +41,7 @@ fn act(kind: u8, b: [u8; 40], w: &mut [u64])
         b's' => change::settle(w, run_feed::short(b, 0), run_feed::long(b, 2)),
         b'm' => change::mark_sent(w, run_feed::short(b, 0), run_feed::long(b, 2)),
         b'u' => change::unmark(w, run_feed::short(b, 0)),
+        b'c' => change::clear(w, run_feed::short(b, 0)),
         _ => {}
     }
 }
@@ -51,19 +52,36 @@ fn put_number(line: &mut [u8], at: usize, n: u64) -> usize {
 }
 
 fn put_count(line: &mut [u8], at: usize, w: &[u64], link: u16) -> usize
-    requires { ⌜ length (now w) ≡ 1173 ⌝ }
+    requires { ⌜ length (now w) ≡ 520 ⌝ }
 {
     let end = put_number(line, at, read::held(w, link) as u64);
     put_number(line, end, read::lost(w, link))
 }
 
-fn put_counts(line: &mut [u8], w: &[u64]) -> usize
-    requires { ⌜ length (now w) ≡ 1173 ⌝ }
+// The four owners of a site.
+fn put_north(line: &mut [u8], w: &[u64]) -> usize
+    requires { ⌜ length (now w) ≡ 520 ⌝ }
 {
     let end = put_count(line, 0, w, 0);
     let end = put_count(line, end, w, 1);
     let end = put_count(line, end, w, 2);
     put_count(line, end, w, 3)
+}
+
+fn put_south(line: &mut [u8], at: usize, w: &[u64]) -> usize
+    requires { ⌜ length (now w) ≡ 520 ⌝ }
+{
+    let end = put_count(line, at, w, 4);
+    let end = put_count(line, end, w, 5);
+    let end = put_count(line, end, w, 6);
+    put_count(line, end, w, 7)
+}
+
+fn put_counts(line: &mut [u8], w: &[u64]) -> usize
+    requires { ⌜ length (now w) ≡ 520 ⌝ }
+{
+    let end = put_north(line, w);
+    put_south(line, end, w)
 }
 
 fn put_sought(line: &mut [u8], s: Sought) -> usize {
@@ -80,7 +98,7 @@ fn put_sought(line: &mut [u8], s: Sought) -> usize {
 }
 
 fn said(kind: u8, b: [u8; 40], w: &[u64], line: &mut [u8]) -> usize
-    requires { ⌜ length (now w) ≡ 1173 ⌝ }
+    requires { ⌜ length (now w) ≡ 520 ⌝ }
 {
     match kind {
         b'o' => put_sought(line, read::oldest_unsent(w, run_feed::short(b, 0))),
@@ -98,7 +116,7 @@ fn said(kind: u8, b: [u8; 40], w: &[u64], line: &mut [u8]) -> usize
 
 // Whether there was a case, and its line was written.
 fn taken(w: &mut [u64]) -> bool
-    requires { ⌜ length (now w) ≡ 1173 ⌝ }
+    requires { ⌜ length (now w) ≡ 520 ⌝ }
 {
     let mut body = [0u8; 64];
     let mut line = [0u8; 256];
@@ -114,7 +132,7 @@ fn taken(w: &mut [u64]) -> bool
 }
 
 fn main() {
-    let mut w = [0u64; 1173];
+    let mut w = [0u64; 520];
     let mut more = true;
     let mut turns = u64::MAX;
     while turns > 0 && more {

@@ -16,7 +16,7 @@ use Rattle.alarm.specs.Issued.{issuedOf}
 use Rattle.link.specs.declared.Link.{Link}
 use Rattle.link.specs.Steps.{versionOutOf, watchdogOutOf, messageOutOf, aggregatedPassedOf, alarmPassedOf}
 use Rattle.site.specs.declared.Site.{Site}
-use Rattle.site.specs.Site.{linkAt, withLink, withPool}
+use Rattle.site.specs.Site.{linkAt, withLink, withPool, ownerOf}
 use Rattle.site.specs.Parts.{alarmAt}
 use Rattle.send_after.specs.declared.Carried.{Carried}
 use Rattle.send_after.specs.declared.Carried.the-variants.{Held, NoRecord}
@@ -25,10 +25,10 @@ abbrev pub purposeOf : Carried → Purpose
 purposeOf (Held q) = ForEntry q
 purposeOf NoRecord = ForOther
 
--- a record that is sent stays held
+-- a record of owner o that is sent stays held
 abbrev pub marked : Pool → ℕ → Carried → Pool
-marked p l (Held q) = markOf p l q
-marked p l NoRecord = p
+marked p o (Held q) = markOf p o q
+marked p o NoRecord = p
 
 -- "equals that alarm's last event, states and time": the flags are the event and the states
 abbrev pub sameEvent : Entry → Entry → Bool
@@ -40,7 +40,7 @@ carriedOf e Nothing = NoRecord
 carriedOf e (Found x) = pick (sameEvent (x .entry) e) (Held (x .entry .sequence)) NoRecord
 
 abbrev pub carriedAt : Site → ℕ → ℕ → Carried
-carriedAt s l k = carriedOf (issuedOf (alarmAt s k) l k) (newestAlarm (s .pool) l k)
+carriedAt s l k = carriedOf (issuedOf (alarmAt s k) (ownerOf s l) k) (newestAlarm (s .pool) (ownerOf s l) k)
 
 abbrev pub messageOut : Link → Identity → ℕ → Carried → Link
 messageOut k id time c = messageOutOf k id time (purposeOf c)
@@ -56,11 +56,11 @@ abbrev pub aggregatedSent : Site → ℕ → ℕ → Identity → Site
 aggregatedSent s l time id = withLink s l (aggregatedPassedOf (messageOut (linkAt s l) id time NoRecord))
 
 abbrev pub alarmSentWith : Carried → Site → ℕ → ℕ → Identity → Site
-alarmSentWith c s l time id = withPool (withLink s l (alarmPassedOf (messageOut (linkAt s l) id time c))) (marked (s .pool) l c)
+alarmSentWith c s l time id = withPool (withLink s l (alarmPassedOf (messageOut (linkAt s l) id time c))) (marked (s .pool) (ownerOf s l) c)
 
 abbrev pub alarmSent : Site → ℕ → ℕ → Identity → ℕ → Site
 alarmSent s l time id k = alarmSentWith (carriedAt s l k) s l time id
 
 -- the held record numbered q
 abbrev pub entrySent : Site → ℕ → ℕ → Identity → ℕ → Site
-entrySent s l time id q = withPool (withLink s l (messageOut (linkAt s l) id time (Held q))) (marked (s .pool) l (Held q))
+entrySent s l time id q = withPool (withLink s l (messageOut (linkAt s l) id time (Held q))) (marked (s .pool) (ownerOf s l) (Held q))

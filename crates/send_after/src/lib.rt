@@ -4,9 +4,8 @@ ghost use Prim.Native.Nat.{_<_};
 ghost use lib.ListN.{length};
 ghost use Rattle.table_whole.specs.declared.SiteTable.{SiteTable};
 ghost use Rattle.site.specs.declared.Site.{Site};
-ghost use Rattle.site.specs.Site.{withPool};
-ghost use Rattle.store_site.specs.Layout.{siteOf, siteWords};
-ghost use Rattle.store_site.specs.Turns.{Turns};
+ghost use Rattle.store_site.specs.Layout.{siteOf, poolIn, poolWords, siteWords};
+ghost use Rattle.store_site.specs.Turns.{Turns, Moves};
 ghost use Rattle.send_after.specs.Outgoing.{marked, sameEvent, carriedOf, carriedAt, messageOut, versionSent, watchdogSent, aggregatedSent, alarmSentWith, alarmSent, entrySent};
 use entry::Entry;
 use identity::Identity;
@@ -45,12 +44,16 @@ fn carried_of(e: Entry, newest: Sought) -> Carried
 }
 
 // What the message of alarm k carries in the first pass of link l.
-fn first_pass(w: &[u64], l: u16, k: u16) -> Carried
-    requires { ⌜ length (now w) ≡ siteWords ⌝ }
-    ensures { λ r. ⌜ ((t : SiteTable) → r ≡ carriedAt (siteOf (now (w .entry)) t) l k) ⌝ }
+fn first_pass(p: &[u64], w: &[u64], l: u16, k: u16) -> Carried
+    requires { ⌜ (length (now p) ≡ poolWords) × (length (now w) ≡ siteWords) ⌝ }
+    ensures { λ r. ⌜ ((t : SiteTable) → r ≡ carriedAt (siteOf (now (p .entry)) (now (w .entry)) t) l k) ⌝ }
 {
     let a = store_site::items::alarm(w, k as usize);
-    carried_of(a.issued(l, k), store_pool::read::newest_alarm(w, l, k))
+    let owner = store_site::head::owner(w, l);
+    carried_of(
+        a.issued(owner, k),
+        store_pool::read::newest_alarm(p, owner, k),
+    )
 }
 
 fn message_out(k: Link, id: Identity, time: u64, c: Carried) -> Link
@@ -63,12 +66,12 @@ fn message_out(k: Link, id: Identity, time: u64, c: Carried) -> Link
 }
 
 // A record that is sent stays held.
-fn mark(w: &mut [u64], l: u16, c: Carried)
-    requires { ⌜ length (now w) ≡ siteWords ⌝ }
-    ensures { λ _. ⌜ Turns (λ (s : Site). withPool s (marked (s .pool) l c)) (now (w .entry)) (now (w .exit)) ⌝ }
+fn mark(p: &mut [u64], owner: u16, c: Carried)
+    requires { ⌜ length (now p) ≡ poolWords ⌝ }
+    ensures { λ _. ⌜ poolIn (now (p .exit)) ≡ marked (poolIn (now (p .entry))) owner c ⌝ }
 {
     match c {
-        Carried::Held(q) => store_pool::change::mark_sent(w, l, q),
+        Carried::Held(q) => store_pool::change::mark_sent(p, owner, q),
         Carried::NoRecord => {}
     }
 }
@@ -99,31 +102,31 @@ pub fn aggregated(w: &mut [u64], l: u16, time: u64, id: Identity)
     store_site::parts::put_link(w, l as usize, next.aggregated_passed());
 }
 
-fn alarm_with(c: Carried, w: &mut [u64], l: u16, time: u64, id: Identity)
-    requires { ⌜ (length (now w) ≡ siteWords) × (l < 4) ⌝ }
-    ensures { λ _. ⌜ Turns (λ (s : Site). alarmSentWith c s l time id) (now (w .entry)) (now (w .exit)) ⌝ }
+fn alarm_with(c: Carried, p: &mut [u64], w: &mut [u64], l: u16, time: u64, id: Identity)
+    requires { ⌜ (length (now p) ≡ poolWords) × ((length (now w) ≡ siteWords) × (l < 4)) ⌝ }
+    ensures { λ _. ⌜ Moves (λ (s : Site). alarmSentWith c s l time id) (now (p .entry)) (now (p .exit)) (now (w .entry)) (now (w .exit)) ⌝ }
 {
     let k = store_site::parts::link(w, l as usize);
     let next = message_out(k, id, time, c);
+    mark(p, store_site::head::owner(w, l), c);
     store_site::parts::put_link(w, l as usize, next.alarm_passed());
-    mark(w, l, c);
 }
 
 // The first pass: alarm k.
-pub fn alarm(w: &mut [u64], l: u16, time: u64, id: Identity, k: u16)
-    requires { ⌜ (length (now w) ≡ siteWords) × (l < 4) ⌝ }
-    ensures { λ _. ⌜ Turns (λ (s : Site). alarmSent s l time id k) (now (w .entry)) (now (w .exit)) ⌝ }
+pub fn alarm(p: &mut [u64], w: &mut [u64], l: u16, time: u64, id: Identity, k: u16)
+    requires { ⌜ (length (now p) ≡ poolWords) × ((length (now w) ≡ siteWords) × (l < 4)) ⌝ }
+    ensures { λ _. ⌜ Moves (λ (s : Site). alarmSent s l time id k) (now (p .entry)) (now (p .exit)) (now (w .entry)) (now (w .exit)) ⌝ }
 {
-    let c = first_pass(w, l, k);
-    alarm_with(c, w, l, time, id);
+    let c = first_pass(p, w, l, k);
+    alarm_with(c, p, w, l, time, id);
 }
 
 // The held record of this number.
-pub fn entry(w: &mut [u64], l: u16, time: u64, id: Identity, sequence: u32)
-    requires { ⌜ (length (now w) ≡ siteWords) × (l < 4) ⌝ }
-    ensures { λ _. ⌜ Turns (λ (s : Site). entrySent s l time id sequence) (now (w .entry)) (now (w .exit)) ⌝ }
+pub fn entry(p: &mut [u64], w: &mut [u64], l: u16, time: u64, id: Identity, sequence: u32)
+    requires { ⌜ (length (now p) ≡ poolWords) × ((length (now w) ≡ siteWords) × (l < 4)) ⌝ }
+    ensures { λ _. ⌜ Moves (λ (s : Site). entrySent s l time id sequence) (now (p .entry)) (now (p .exit)) (now (w .entry)) (now (w .exit)) ⌝ }
 {
+    store_pool::change::mark_sent(p, store_site::head::owner(w, l), sequence);
     let k = store_site::parts::link(w, l as usize);
     store_site::parts::put_link(w, l as usize, k.entry_out(id, time, sequence));
-    store_pool::change::mark_sent(w, l, sequence);
 }

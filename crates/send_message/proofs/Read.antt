@@ -8,9 +8,9 @@ use Rattle.site.specs.declared.Site.{Site}
 use Rattle.site.specs.Parts.{alarmRowAt, statusRowAt}
 use Rattle.store_site.specs.Layout.{siteOf}
 
-pub table-of : (ws : List ℕ) (t : SiteTable) → siteOf ws t .table ≡ t
+pub table-of : (ps ws : List ℕ) (t : SiteTable) → siteOf ps ws t .table ≡ t
 unfolding siteOf
-table-of ws t = refl
+table-of ps ws t = refl
 
 -- rows of the table t of a site
 module _ (s : Site) (k : ℕ) {t : SiteTable} {x : Item} (e : s .table ≡ t) where

@@ -1,7 +1,8 @@
-// The messages that tell a part of the site, put into a lent output. The site lies in the words w, its table in the bytes t.
+// The messages that tell a part of the site, put into a lent output. The site lies in the words w, its table in the bytes t; its pool ps is not told.
 ghost use mathlib.Core.Path.{_≡_};
 ghost use mathlib.Core.Bool.{true, false};
-ghost use Prim.Native.Nat.{_%_};
+ghost use mathlib.Core.List.{List};
+ghost use Prim.Native.Nat.{ℕ, _%_};
 ghost use lib.ListN.{length};
 ghost use Rattle.output.specs.Put.{Wrote};
 ghost use Rattle.write_message.specs.Pieces.{pieces};
@@ -110,7 +111,7 @@ fn tell_alarm(
 // Alarm k as it is.
 pub fn write_alarm(out: &mut [u8], at: usize, w: &[u64], t: &[u8], id: Identity, k: usize) -> usize
     requires { ⌜ (length (now w) ≡ siteWords) × (length (now t) ≡ tableBytes) ⌝ }
-    ensures { λ r. ⌜ Wrote (now (out .entry)) at (pieces (alarmMessage (siteOf (now (w .entry)) (tableOf (now (t .entry)))) (id .bytes) k)) (now (out .exit)) r ⌝ }
+    ensures { λ r. ⌜ ((ps : List ℕ) → Wrote (now (out .entry)) at (pieces (alarmMessage (siteOf ps (now (w .entry)) (tableOf (now (t .entry)))) (id .bytes) k)) (now (out .exit)) r) ⌝ }
 {
     let row = store_table::alarm_row(t, k);
     let state = state_of(store_site::items::alarm(w, k), row);
@@ -142,7 +143,7 @@ fn tell_aggregated(
 // The aggregated status as it is, with the time of its last change.
 pub fn write_aggregated(out: &mut [u8], at: usize, w: &[u64], t: &[u8], id: Identity) -> usize
     requires { ⌜ (length (now w) ≡ siteWords) × (length (now t) ≡ tableBytes) ⌝ }
-    ensures { λ r. ⌜ Wrote (now (out .entry)) at (pieces (aggregatedMessage (siteOf (now (w .entry)) (tableOf (now (t .entry)))) (id .bytes))) (now (out .exit)) r ⌝ }
+    ensures { λ r. ⌜ ((ps : List ℕ) → Wrote (now (out .entry)) at (pieces (aggregatedMessage (siteOf ps (now (w .entry)) (tableOf (now (t .entry)))) (id .bytes))) (now (out .exit)) r) ⌝ }
 {
     let a = store_site::head::aggregated(w);
     tell_aggregated(out, at, t, id, a.time, a.value)

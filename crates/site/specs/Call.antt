@@ -50,7 +50,7 @@ abbrev pub only : Site → Plan
 only s = issues s []
 
 abbrev pub batchOf : Plan → Batch
-batchOf p = issuedAll 4 (p .site .pool) (p .site .next) (p .issued)
+batchOf p = issuedAll 8 (p .site .pool) (p .site .next) (p .issued)
 
 -- the conditions of a call, one by one: `q` applies where b; of the others, `rest` says
 abbrev pub never : Refusal → Bool

@@ -1,6 +1,6 @@
 -- The site with something else in one part, and what every call asks of it.
 -- Assumes nothing.
-use Prim.Native.Nat.{ℕ}
+use Prim.Native.Nat.{ℕ, _+_, _*_, _/_}
 use mathlib.Core.Bool.{Bool, true, false}
 use mathlib.Core.List.{List}
 use lib.Dec.{eqb, leb, ltb}
@@ -35,6 +35,7 @@ site s pool links subscriptions alarms statuses aggregated next last =
       aggregated = aggregated;
       next = next;
       last = last;
+      site = s .site;
       period = s .period;
       linkcount = s .linkcount;
       primary = s .primary;
@@ -93,9 +94,20 @@ isDown Up = false
 abbrev pub downAt : Site → ℕ → Bool
 downAt s l = isDown (phaseOf (linkAt s l))
 
+-- the owner of link l's records in the pool; a link above 3 owns none, at either site
+unfoldable pub owner : ℕ → ℕ → ℕ
+owner site l = pick (ltb l 4) (4 * site + l) 8
+
+abbrev pub ownerOf : Site → ℕ → ℕ
+ownerOf s l = owner (s .site) l
+
+-- whether o is one of the site's four owners
+abbrev pub ownedBy : Site → ℕ → Bool
+ownedBy s o = eqb (o / 4) (s .site)
+
 -- Closing leaves the link Down, nothing awaited, no record of it marked sent; records and subscriptions stay
 abbrev pub closeAt : Site → ℕ → Site
-closeAt s l = withPool (withLink s l closedLink) (unmarkOf (s .pool) l)
+closeAt s l = withPool (withLink s l closedLink) (unmarkOf (s .pool) (ownerOf s l))
 
 -- the links closed, as a report has them: link 0 is bit 0
 abbrev pub maskOf : ℕ → ℕ

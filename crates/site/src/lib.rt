@@ -26,6 +26,8 @@ pub struct Site {
     pub next: u64,
     // the last time of a call done
     pub last: u64,
+    // which of the two in its box: 0 or 1
+    pub site: u16,
     // the watchdog period in seconds
     pub period: u32,
     pub linkcount: u16,

@@ -9,11 +9,11 @@ use Rattle.alarm.specs.Issued.{issuedOf}
 use Rattle.pool_laws.specs.declared.Batch.{Batch}
 use Rattle.pool_laws.specs.Batch.{issuedAll}
 use Rattle.site.specs.declared.Site.{Site}
-use Rattle.site.specs.Site.{site, hasPrimary}
+use Rattle.site.specs.Site.{site, hasPrimary, ownerOf}
 
 -- the records es issued from the site's pool under its next numbers
 abbrev pub batchIn : Site → List Entry → Batch
-batchIn s es = issuedAll 4 (s .pool) (s .next) es
+batchIn s es = issuedAll 8 (s .pool) (s .next) es
 
 -- the site with them: its pool and its next number, nothing else
 unfoldable pub issuedIn : Site → List Entry → Site
@@ -22,4 +22,4 @@ issuedIn s es =
 
 -- what an event of alarm k issues, which came to c
 abbrev pub alarmRecords : Site → ℕ → Changed → List Entry
-alarmRecords s k c = pick (both (c .records) (hasPrimary s)) (issuedOf (c .alarm) (s .primary) k ∷ []) []
+alarmRecords s k c = pick (both (c .records) (hasPrimary s)) (issuedOf (c .alarm) (ownerOf s (s .primary)) k ∷ []) []

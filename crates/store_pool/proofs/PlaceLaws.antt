@@ -1,38 +1,100 @@
 -- A place read from two of its words; a free place: the lowest one, where its number is 0, is the oldest, and one is found exactly
 -- where one is counted.
 -- Assumes nothing.
-use Rattle.basis.proofs.Std.{_≡_, refl, sym, ap, _∙_, _⊎_, inl, inr, Bool, true, false, List, [], _∷_, ℕ, zero, suc, _+_, _*_, _<_, _≤_, arith, le-leb, lt-ltb, ltb, leb, eqb, length, getD, pick, bit, count, eq-or-ne}
+use Rattle.basis.proofs.Std.{_≡_, refl, sym, ap, _∙_, _⊎_, inl, inr, Bool, true, false, List, [], _∷_, ℕ, zero, suc, _+_, _-_, _*_, _<_, _≤_, arith, le-leb, lt-ltb, eq-eqb, ne-eqb, ltb, leb, eqb, length, getD, set, drop, replicate, length-drop, getD-set-same, getD-set-other, List·getD-eq-default, pick, bit, count, eq-or-ne, lt-or-ge}
 use Rattle.bits.specs.Fields.{fieldOf}
 use Rattle.pool.specs.declared.Place.{Place}
 use Rattle.pool.specs.declared.Spot.{Spot}
 use Rattle.pool.specs.declared.Spot.the-variants.{At, Nowhere}
 use Rattle.pool.specs.declared.Wanted.the-variants.{Free}
 use Rattle.pool.specs.Places.{noPlace, of, fits, lower, older, oldestFrom, oldest}
-use Rattle.pool.specs.Pool.{freeIn}
+use Rattle.pool.specs.Shares.{fuller, fullest}
+use Rattle.pool.specs.Pool.{heldIn, freeIn}
+use Rattle.pool.proofs.Fixed.{fullest-is}
+use Rattle.pool.proofs.Down.{count-down, count-end, count-most}
 use Rattle.store_words.specs.Words.{word}
 use Rattle.store_site.specs.Rows.{placeFrom}
 use Rattle.store_site.specs.Layout.{placesIn}
 use Rattle.store_site.proofs.SiteLaws.{place-at, places-length}
+use Rattle.store_pool.specs.Pools.{Counts, Counted}
 use Rattle.store_pool.specs.Best.{Stands, Vacant}
 use Rattle.store_pool.specs.Best.Stands.{nowhere, there}
 
 -- two of a place's words
 module _ (ws : List ℕ) (k : ℕ) (h : k < 128) where
-  pub mark-at : word ws (9 + 4 * k + 3) ≡ getD (placesIn ws) k noPlace .mark
+  pub mark-at : word ws (8 + 4 * k + 3) ≡ getD (placesIn ws) k noPlace .mark
   unfolding placeFrom
   mark-at = ap (λ (x : Place). x .mark) (place-at ws k h)
 
-  link-at : fieldOf (word ws (9 + 4 * k + 2)) 48 16 ≡ getD (placesIn ws) k noPlace .entry .link
+  link-at : fieldOf (word ws (8 + 4 * k + 2)) 48 16 ≡ getD (placesIn ws) k noPlace .entry .link
   unfolding placeFrom
   link-at = ap (λ (x : Place). x .entry .link) (place-at ws k h)
 
-  pub mine-not : (l : ℕ) → word ws (9 + 4 * k + 3) ≡ 0 → false ≡ of l (getD (placesIn ws) k noPlace)
+  pub mine-not : (l : ℕ) → word ws (8 + 4 * k + 3) ≡ 0 → false ≡ of l (getD (placesIn ws) k noPlace)
   mine-not l e =
       let z : getD (placesIn ws) k noPlace .mark ≡ 0 = sym mark-at ∙ e in
       rw z refl
 
-  pub mine-if : (l : ℕ) {q : ℕ} → (word ws (9 + 4 * k + 3) ≡ 0 → ⊥) → q ≡ fieldOf (word ws (9 + 4 * k + 2)) 48 16 → eqb q l ≡ of l (getD (placesIn ws) k noPlace)
+  pub mine-if : (l : ℕ) {q : ℕ} → (word ws (8 + 4 * k + 3) ≡ 0 → ⊥) → q ≡ fieldOf (word ws (8 + 4 * k + 2)) 48 16 → eqb q l ≡ of l (getD (placesIn ws) k noPlace)
   mine-if l n e = rw (lt-ltb 0 (getD (placesIn ws) k noPlace .mark) (omega (arith, n, mark-at)), e, link-at)
+
+  -- a place counted for its owner
+  module _ (ns : List ℕ) where
+    pub count-free : word ws (8 + 4 * k + 3) ≡ 0 → Counts (getD (placesIn ws) k noPlace) ns ns
+    count-free e o g = omega (arith, ap bit (mine-not o e))
+
+    module _ {q : ℕ} (n : word ws (8 + 4 * k + 3) ≡ 0 → ⊥) (e : q ≡ fieldOf (word ws (8 + 4 * k + 2)) 48 16) where
+      pub count-out : 8 ≤ q → Counts (getD (placesIn ws) k noPlace) ns ns
+      count-out f o g = omega (arith, ap bit (mine-if o n e), ap bit (ne-eqb q o (λ s. omega (arith, s))))
+
+      pub count-one : q < 8 → length ns ≡ 8 → Counts (getD (placesIn ws) k noPlace) ns (set ns q (word ns q + 1))
+      count-one f m o g = by (eq-or-ne o q)
+        where
+          by : (o ≡ q) ⊎ (o ≡ q → ⊥) → word (set ns q (word ns q + 1)) o ≡ bit (of o (getD (placesIn ws) k noPlace)) + word ns o
+          by (inl z) = rw z (omega (arith, getD-set-same ns q (word ns q + 1) 0 (omega arith), ap bit (mine-if q n e), ap bit (eq-eqb q q refl)))
+          by (inr z) =
+              omega (arith, getD-set-other ns q o (word ns q + 1) 0 z, ap bit (mine-if o n e), ap bit (ne-eqb q o (λ s. z (sym s))))
+
+-- counted from the last place down
+zeros : (n o : ℕ) → _≡_ {A = ℕ} (getD (replicate n 0) o 0) 0
+zeros zero o = refl
+zeros (suc n) zero = refl
+zeros (suc n) (suc o) = zeros n o
+
+pub counted-none : (p : List Place) (i : ℕ) → length p ≤ i → Counted (drop i p) (replicate 8 0)
+counted-none p i h o g = zeros 8 o ∙ sym (count-end (of o) p i h)
+
+pub counted-next : (p : List Place) (i : ℕ) (ns ms : List ℕ) → i ≤ length p → 0 < i → Counted (drop i p) ns → Counts (getD p (i - 1) noPlace) ns ms → Counted (drop (i - 1) p) ms
+counted-next p i ns ms h g c t o f = t o f ∙ ap (λ (n : ℕ). bit (of o (getD p (i - 1) noPlace)) + n) (c o f) ∙ sym (count-down (of o) p i h g)
+
+-- a count has room for one more, where a place is left
+pub counted-below : (p : List Place) (i : ℕ) (ns : List ℕ) → length p ≡ 128 → length ns ≡ 8 → 0 < i → Counted (drop i p) ns → (o : ℕ) → word ns o < 128
+counted-below p i ns e m g c o = by (lt-or-ge o 8)
+  where
+    by : (o < 8) ⊎ (8 ≤ o) → word ns o < 128
+    by (inl f) = omega (arith, c o f, count-most (of o) (drop i p), length-drop i p)
+    by (inr f) = rw (List·getD-eq-default ns 0 {n = o} (omega arith)) (omega arith)
+
+-- the fullest by the counts is the fullest by the places
+pub fuller-counted : (p : List Place) (ns : List ℕ) → Counted p ns → (a b : ℕ) → a < 8 → b < 8 → fuller (word ns) a b ≡ fuller (heldIn p) a b
+fuller-counted p ns c a b f g = rw (c a f, c b g) refl
+
+fullest-step : (h : ℕ → ℕ) (j k : ℕ) → k ≡ suc j → fullest h k ≡ fuller h (fullest h j) k
+unfolding fullest
+fullest-step h j k e = rw e refl
+
+-- one owner more
+pub fullest-next : (h : ℕ → ℕ) (k m r : ℕ) → 1 ≤ k → m ≡ fullest h (k - 1) → r ≡ fuller h m k → r ≡ fullest h (k + 1 - 1)
+fullest-next h k m r g e f =
+    let z : k ≡ k + 1 - 1 = omega arith in
+    f ∙ ap (λ (n : ℕ). fuller h n k) e ∙ sym (fullest-step h (k - 1) k (omega arith)) ∙ ap (fullest h) z
+
+pub fullest-below : (h : ℕ → ℕ) (k r : ℕ) → k < 8 → r ≡ fullest h (k + 1 - 1) → r < 8
+fullest-below h k r g e = omega (arith, fullest-is h (k + 1 - 1) .one)
+
+pub fullest-first : (h : ℕ → ℕ) → 0 ≡ fullest h 0
+unfolding fullest
+fullest-first h = refl
 
 -- none of the first i places is free
 abbrev pub Taken : List Place → ℕ → Type 0

@@ -1,6 +1,6 @@
 -- A place found by its index is the spot that the definitions find.
 -- Assumes nothing.
-use Rattle.basis.proofs.Std.{_≡_, refl, sym, ap, ap₂, _∙_, ℕ, zero, suc, _+_, _*_, _<_, _≤_, arith, le-leb, lt-leb, List, [], _∷_, true, false, length, getD, set, List·getD-eq-default, lt-ltb, le-ltb, set-out, getD-set-same, getD-set-other}
+use Rattle.basis.proofs.Std.{_≡_, refl, sym, ap, ap₂, _∙_, ℕ, zero, suc, _+_, _*_, _<_, _≤_, arith, le-leb, lt-leb, List, [], _∷_, map, true, false, length, getD, set, List·getD-eq-default, lt-ltb, le-ltb, set-out, getD-set-same, getD-set-other}
 use Rattle.pool.specs.declared.Place.{Place}
 use Rattle.pool.specs.declared.Spot.{Spot}
 use Rattle.pool.specs.declared.Spot.the-variants.{At, Nowhere}
@@ -12,18 +12,14 @@ use Rattle.pool.specs.declared.Loser.the-variants.{Nobody, Owner}
 use Rattle.pool.specs.Places.{noPlace, of, lower, higher, soughtAt}
 use Rattle.pool.proofs.Part.{part, part-next, part-none, part-all}
 use Rattle.pool.specs.Shares.{loser}
-use Rattle.pool.specs.Pool.{heldIn, freeIn, lostOf, moreOf, lossOf, roomOf, made, withOf, issueOf, unsentFor, unmarkOf, numbered, sent, markOf, settleOf}
-use Rattle.table_whole.specs.declared.SiteTable.{SiteTable}
-use Rattle.site.specs.declared.Site.{Site}
-use Rattle.site.specs.Site.{withPool}
+use Rattle.pool.specs.Pool.{heldIn, freeIn, lostOf, moreOf, lossOf, roomOf, made, withOf, issueOf, unsentFor, freedFor, unmarkOf, clearOf, numbered, sent, markOf, settleOf}
 use Rattle.store_words.specs.Words.{word, Stored, Put}
 use Rattle.store_site.specs.Rows.{placeFrom, placeIn}
-use Rattle.store_site.specs.Layout.{lostIn, placesIn, poolIn, siteOf, siteWords}
-use Rattle.store_pool.specs.Pools.{Pools, Loss}
+use Rattle.store_site.specs.Layout.{lostIn, placesIn, poolIn, poolWords}
+use Rattle.store_pool.specs.Pools.{Loss}
 use Rattle.store_words.proofs.Elements.{list-at, list-length, list-put}
 use Rattle.store_words.proofs.Stores.{stored, nothing, wider, then, below, above}
-use Rattle.store_site.proofs.SiteLaws.{lost-same, places-same, places-put, place-at, places-length, only-pool, plain-before}
-use Rattle.store_site.specs.Turns.{Turns}
+use Rattle.store_site.proofs.SiteLaws.{lost-same, places-same, places-put, place-at, places-length}
 use Rattle.store_pool.specs.Best.{Is, Stands}
 use Rattle.store_pool.specs.Best.Is.{nowhere, there}
 use Rattle.store_pool.specs.Best.Stands.{nowhere as Stands·nowhere, there as Stands·there}
@@ -85,80 +81,56 @@ unfolding withOf
 sent-at p Nowhere i (Stands·nowhere e) h = absurd (omega arith)
 sent-at p (At k x) i (Stands·there e f g) h = rw (e, g) refl
 
--- the count of link m
-abbrev countAt : List ℕ → ℕ → ℕ
-countAt ws m = word ws (5 + m)
-
-pub lost-at : (ws : List ℕ) (m : ℕ) → m < 4 → word ws (5 + m) ≡ getD (lostIn ws) m 0
+pub lost-at : (ws : List ℕ) (m : ℕ) → m < 8 → word ws m ≡ getD (lostIn ws) m 0
 unfolding lostIn
-lost-at ws m h = sym (list-at (countAt ws) 4 m 0 h)
+lost-at ws m h = sym (list-at (word ws) 8 m 0 h)
 
-pub lost-length : (ws : List ℕ) → length (lostIn ws) ≡ 4
+pub lost-length : (ws : List ℕ) → length (lostIn ws) ≡ 8
 unfolding lostIn
-lost-length ws = list-length (countAt ws) 4
+lost-length ws = list-length (word ws) 8
 
-pub lost-read : (ws : List ℕ) (t : SiteTable) (l : ℕ) → l < 4 → word ws (5 + l) ≡ lostOf (siteOf ws t .pool) l
-unfolding siteOf
-lost-read ws t l h = lost-at ws l h
+pub lost-beyond : (ws : List ℕ) (l : ℕ) → 8 ≤ l → 0 ≡ lostOf (poolIn ws) l
+lost-beyond ws l h = sym (List·getD-eq-default (lostIn ws) 0 {n = l} (omega (arith, lost-length ws)))
 
-pub lost-beyond : (ws : List ℕ) (t : SiteTable) (l : ℕ) → 4 ≤ l → 0 ≡ lostOf (siteOf ws t .pool) l
-unfolding siteOf
-lost-beyond ws t l h = sym (List·getD-eq-default (lostIn ws) 0 {n = l} (omega (arith, lost-length ws)))
-
-lost-put : (ws : List ℕ) (m n : ℕ) → m < 4 → length ws ≡ siteWords → lostIn (set ws (5 + m) n) ≡ set (lostIn ws) m n
+lost-put : (ws : List ℕ) (m n : ℕ) → m < 8 → length ws ≡ poolWords → lostIn (set ws m n) ≡ set (lostIn ws) m n
 unfolding lostIn
 lost-put ws m n h e =
-    list-put (countAt ws) (countAt (set ws (5 + m) n)) 4 m n h
-    (λ j g ne. getD-set-other ws (5 + m) (5 + j) n 0 (λ q. ne (omega (arith, q)))) (getD-set-same ws (5 + m) n 0 (omega arith))
+    list-put (word ws) (word (set ws m n)) 8 m n h
+    (λ j g ne. getD-set-other ws m j n 0 ne) (getD-set-same ws m n 0 (omega arith))
 
 pub loss-none : (ws : List ℕ) → Loss ws ws Nobody
 unfolding lossOf
-loss-none ws = record { counts = refl; kept = wider 5 4 (nothing ws 5) (omega arith) (omega arith) }
+loss-none ws = record { counts = refl; kept = wider 0 8 (nothing ws 0) (omega arith) (omega arith) }
 
-pub loss-out : (ws : List ℕ) (m : ℕ) → 4 ≤ m → Loss ws ws (Owner m)
+pub loss-out : (ws : List ℕ) (m : ℕ) → 8 ≤ m → Loss ws ws (Owner m)
 unfolding lossOf
-loss-out ws m h = record { counts = sym (set-out (lostIn ws) m _ (omega (arith, lost-length ws))); kept = wider 5 4 (nothing ws 5) (omega arith) (omega arith) }
+loss-out ws m h = record { counts = sym (set-out (lostIn ws) m _ (omega (arith, lost-length ws))); kept = wider 0 8 (nothing ws 0) (omega arith) (omega arith) }
 
-pub loss-one : (ws : List ℕ) (m : ℕ) {n : ℕ} → length ws ≡ siteWords → m < 4 → n ≡ moreOf (word ws (5 + m)) → Loss ws (set ws (5 + m) n) (Owner m)
+pub loss-one : (ws : List ℕ) (m : ℕ) {n : ℕ} → length ws ≡ poolWords → m < 8 → n ≡ moreOf (word ws m) → Loss ws (set ws m n) (Owner m)
 unfolding lossOf
 loss-one ws m {n} e h q =
     record {
       counts = lost-put ws m n h e ∙ ap (set (lostIn ws) m) (q ∙ ap moreOf (lost-at ws m h));
-      kept = wider 5 4 (stored ws (5 + m) n [] (omega arith)) (omega arith) (omega arith);
+      kept = wider 0 8 (stored ws m n [] (omega arith)) (omega arith) (omega arith);
     }
 
 module _ (ws : List ℕ) (e : Entry) where
-  pub issue-none : 4 ≤ e .link → Pools (λ (p : Pool). issueOf 4 p e) ws ws
+  pub issue-none : 8 ≤ e .link → poolIn ws ≡ issueOf 8 (poolIn ws) e
   unfolding issueOf
-  issue-none h = record { pool = rw (le-ltb (e .link) 4 h); kept = wider 5 516 (nothing ws 5) (omega arith) (omega arith) }
+  issue-none h = rw (le-ltb (e .link) 8 h)
 
-  module _ (who : Loser) (i : ℕ) (h : e .link < 4) (w : who ≡ loser 4 (heldIn (placesIn ws)) (freeIn (placesIn ws)) (e .link)) (r : Stands (placesIn ws) i (roomOf (placesIn ws) who)) where
-    pub issue-full : 128 ≤ i → Pools (λ (p : Pool). issueOf 4 p e) ws ws
+  module _ (who : Loser) (i : ℕ) (h : e .link < 8) (w : who ≡ loser 8 (heldIn (placesIn ws)) (freeIn (placesIn ws)) (e .link)) (r : Stands (placesIn ws) i (roomOf (placesIn ws) who)) where
+    pub issue-full : 128 ≤ i → poolIn ws ≡ issueOf 8 (poolIn ws) e
     unfolding issueOf
     issue-full g =
-        record {
-          pool = rw (lt-ltb (e .link) 4 h, ← w) (with-none (poolIn ws) (roomOf (placesIn ws) who) (made e) (lossOf (lostIn ws) who) i r g);
-          kept = wider 5 516 (nothing ws 5) (omega arith) (omega arith);
-        }
+        rw (lt-ltb (e .link) 8 h, ← w) (with-none (poolIn ws) (roomOf (placesIn ws) who) (made e) (lossOf (lostIn ws) who) i r g)
 
-    pub issue-one : (us vs : List ℕ) → i < 128 → Put placeIn 4 ws us (9 + 4 * i) (made e) → Loss us vs who → Pools (λ (p : Pool). issueOf 4 p e) ws vs
+    pub issue-one : (us vs : List ℕ) → i < 128 → Put placeIn 4 ws us (8 + 4 * i) (made e) → Loss us vs who → poolIn vs ≡ issueOf 8 (poolIn ws) e
     unfolding issueOf
     issue-one us vs g p l =
-        let places : placesIn vs ≡ set (placesIn ws) i (made e) = places-same us vs (above 9 512 (l .kept) (omega arith)) ∙ places-put ws us i (made e) g p in
-        let lost : lostIn vs ≡ lossOf (lostIn ws) who = l .counts ∙ ap (λ (k : List ℕ). lossOf k who) (lost-same ws us (below 5 4 (p .kept) (omega arith))) in
-        record {
-          pool = rw (lt-ltb (e .link) 4 h, ← w, places, lost) (with-at (poolIn ws) (roomOf (placesIn ws) who) (made e) (lossOf (lostIn ws) who) i r g);
-          kept = then (wider 5 516 (p .kept) (omega arith) (omega arith)) (wider 5 516 (l .kept) (omega arith) (omega arith));
-        }
-
--- the site afterwards
-pub pool-turns : (f : Pool → Pool) (ws vs : List ℕ) → Pools f ws vs → Turns (λ (s : Site). withPool s (f (s .pool))) ws vs
-unfolding siteOf
-pool-turns f ws vs s =
-    record {
-      site = λ t. only-pool ws vs t (s .kept) (omega arith) (omega arith) ∙ ap (withPool (siteOf ws t)) (s .pool);
-      plain = plain-before (s .kept) (omega arith);
-    }
+        let places : placesIn vs ≡ set (placesIn ws) i (made e) = places-same us vs (above 8 512 (l .kept) (omega arith)) ∙ places-put ws us i (made e) g p in
+        let lost : lostIn vs ≡ lossOf (lostIn ws) who = l .counts ∙ ap (λ (k : List ℕ). lossOf k who) (lost-same ws us (below 0 8 (p .kept) (omega arith))) in
+        rw (lt-ltb (e .link) 8 h, ← w, places, lost) (with-at (poolIn ws) (roomOf (placesIn ws) who) (made e) (lossOf (lostIn ws) who) i r g)
 
 -- what stands behind the part that was changed
 pub part-rest : {A : Type 0} (f : A → A) (i j : ℕ) (p : List A) (d : A) → i ≤ j → getD (part f i p) j d ≡ getD p j d
@@ -180,78 +152,93 @@ marked ws i n h =
 
 -- a record numbered q of link l, found at the index i
 module _ (ws : List ℕ) (l q i : ℕ) (s : Stands (placesIn ws) i (numbered (poolIn ws) l q)) where
-  pub mark-none : 128 ≤ i → Pools (λ (p : Pool). markOf p l q) ws ws
+  pub mark-none : 128 ≤ i → poolIn ws ≡ markOf (poolIn ws) l q
   unfolding markOf
   mark-none h =
-      record {
-        pool = with-none (poolIn ws) (numbered (poolIn ws) l q) (sent (numbered (poolIn ws) l q)) (lostIn ws) i s h;
-        kept = wider 5 516 (nothing ws 5) (omega arith) (omega arith);
-      }
+      with-none (poolIn ws) (numbered (poolIn ws) l q) (sent (numbered (poolIn ws) l q)) (lostIn ws) i s h
 
-  pub mark-one : length ws ≡ siteWords → i < 128 → Pools (λ (p : Pool). markOf p l q) ws (set ws (9 + 4 * i + 3) 2)
+  pub mark-one : length ws ≡ poolWords → i < 128 → poolIn (set ws (8 + 4 * i + 3) 2) ≡ markOf (poolIn ws) l q
   unfolding markOf
   mark-one n h =
-      let vs = set ws (9 + 4 * i + 3) 2 in
+      let vs = set ws (8 + 4 * i + 3) 2 in
       let x : Place = record { entry = getD (placesIn ws) i noPlace .entry; mark = 2 } in
-      let here : placeIn vs (9 + 4 * i) ≡ x = rw (← place-at ws i h) (marked ws (9 + 4 * i) 2 (omega arith)) in
-      let kept = stored ws (9 + 4 * i + 3) 2 [] (omega arith) in
-      let put : Put placeIn 4 ws vs (9 + 4 * i) x = record { there = here; kept = wider (9 + 4 * i) 4 kept (omega arith) (omega arith) } in
-      record {
-        pool = rw (places-put ws vs i x h put, lost-same ws vs (below 5 4 kept (omega arith))) (sent-at (poolIn ws) (numbered (poolIn ws) l q) i s h);
-        kept = wider 5 516 kept (omega arith) (omega arith);
-      }
+      let here : placeIn vs (8 + 4 * i) ≡ x = rw (← place-at ws i h) (marked ws (8 + 4 * i) 2 (omega arith)) in
+      let kept = stored ws (8 + 4 * i + 3) 2 [] (omega arith) in
+      let put : Put placeIn 4 ws vs (8 + 4 * i) x = record { there = here; kept = wider (8 + 4 * i) 4 kept (omega arith) (omega arith) } in
+      rw (places-put ws vs i x h put, lost-same ws vs (below 0 8 kept (omega arith))) (sent-at (poolIn ws) (numbered (poolIn ws) l q) i s h)
 
-  pub settle-none : 128 ≤ i → Pools (λ (p : Pool). settleOf p l q) ws ws
+  pub settle-none : 128 ≤ i → poolIn ws ≡ settleOf (poolIn ws) l q
   unfolding settleOf
   settle-none h =
-      record {
-        pool = with-none (poolIn ws) (numbered (poolIn ws) l q) noPlace (lostIn ws) i s h;
-        kept = wider 5 516 (nothing ws 5) (omega arith) (omega arith);
-      }
+      with-none (poolIn ws) (numbered (poolIn ws) l q) noPlace (lostIn ws) i s h
 
-  pub settle-one : (vs : List ℕ) → i < 128 → Put placeIn 4 ws vs (9 + 4 * i) noPlace → Pools (λ (p : Pool). settleOf p l q) ws vs
+  pub settle-one : (vs : List ℕ) → i < 128 → Put placeIn 4 ws vs (8 + 4 * i) noPlace → poolIn vs ≡ settleOf (poolIn ws) l q
   unfolding settleOf
   settle-one vs h p =
+      rw (places-put ws vs i noPlace h p, lost-same ws vs (below 0 8 (p .kept) (omega arith)))
+      (with-at (poolIn ws) (numbered (poolIn ws) l q) noPlace (lostIn ws) i s h)
+
+module _ (ws : List ℕ) (k l : ℕ) (g : k < 128) where
+  pub unmark-other : of l (getD (placesIn ws) k noPlace) ≡ false → Put placeIn 4 ws ws (8 + 4 * k) (unsentFor l (getD (placesIn ws) k noPlace))
+  unmark-other e = record { there = rw e (place-at ws k g); kept = wider (8 + 4 * k) 4 (nothing ws (8 + 4 * k)) (omega arith) (omega arith) }
+
+  pub unmark-one : length ws ≡ poolWords → of l (getD (placesIn ws) k noPlace) ≡ true → Put placeIn 4 ws (set ws (8 + 4 * k + 3) 1) (8 + 4 * k) (unsentFor l (getD (placesIn ws) k noPlace))
+  unmark-one n e =
       record {
-        pool =
-            rw (places-put ws vs i noPlace h p, lost-same ws vs (below 5 4 (p .kept) (omega arith)))
-            (with-at (poolIn ws) (numbered (poolIn ws) l q) noPlace (lostIn ws) i s h);
-        kept = wider 5 516 (p .kept) (omega arith) (omega arith);
+        there = rw (e, ← place-at ws k g) (marked ws (8 + 4 * k) 1 (omega arith));
+        kept = wider (8 + 4 * k) 4 (stored ws (8 + 4 * k + 3) 1 [] (omega arith)) (omega arith) (omega arith);
       }
 
 module _ (ws : List ℕ) (k l : ℕ) (g : k < 128) where
-  pub unmark-other : of l (getD (placesIn ws) k noPlace) ≡ false → Put placeIn 4 ws ws (9 + 4 * k) (unsentFor l (getD (placesIn ws) k noPlace))
-  unmark-other e = record { there = rw e (place-at ws k g); kept = wider (9 + 4 * k) 4 (nothing ws (9 + 4 * k)) (omega arith) (omega arith) }
+  pub free-other : of l (getD (placesIn ws) k noPlace) ≡ false → Put placeIn 4 ws ws (8 + 4 * k) (freedFor l (getD (placesIn ws) k noPlace))
+  free-other e = record { there = rw e (place-at ws k g); kept = wider (8 + 4 * k) 4 (nothing ws (8 + 4 * k)) (omega arith) (omega arith) }
 
-  pub unmark-one : length ws ≡ siteWords → of l (getD (placesIn ws) k noPlace) ≡ true → Put placeIn 4 ws (set ws (9 + 4 * k + 3) 1) (9 + 4 * k) (unsentFor l (getD (placesIn ws) k noPlace))
-  unmark-one n e =
+  pub free-one : (vs : List ℕ) → of l (getD (placesIn ws) k noPlace) ≡ true → Put placeIn 4 ws vs (8 + 4 * k) noPlace
+      → Put placeIn 4 ws vs (8 + 4 * k) (freedFor l (getD (placesIn ws) k noPlace))
+  free-one vs e p = rw e p
+
+-- the first i places are changed by f
+module _ (f : Place → Place) where
+  pub record Upto (ws vs : List ℕ) (i : ℕ) : Type 0 where
+    pub places : placesIn vs ≡ part f i (placesIn ws)
+    pub kept : Stored ws vs 8 512
+
+  pub upto-none : (ws : List ℕ) → Upto ws ws 0
+  upto-none ws = record { places = sym (part-none f (placesIn ws)); kept = wider 8 512 (nothing ws 8) (omega arith) (omega arith) }
+
+  pub upto-next : (ws vs us : List ℕ) (i : ℕ) → i < 128 → Upto ws vs i → Put placeIn 4 vs us (8 + 4 * i) (f (getD (placesIn vs) i noPlace)) → Upto ws us (i + 1)
+  upto-next ws vs us i h u p =
+      let p0 = placesIn ws in
+      let q : getD (placesIn vs) i noPlace ≡ getD p0 i noPlace = ap (λ (x : List Place). getD x i noPlace) (u .places) ∙ part-rest f i i p0 noPlace (omega arith) in
       record {
-        there = rw (e, ← place-at ws k g) (marked ws (9 + 4 * k) 1 (omega arith));
-        kept = wider (9 + 4 * k) 4 (stored ws (9 + 4 * k + 3) 1 [] (omega arith)) (omega arith) (omega arith);
+        places =
+            places-put vs us i (f (getD (placesIn vs) i noPlace)) h p
+            ∙ ap₂ (λ (x : List Place) (y : Place). set x i (f y)) (u .places) q
+            ∙ part-next f i p0 noPlace (omega (arith, places-length ws));
+        kept = then (u .kept) (wider 8 512 (p .kept) (omega arith) (omega arith));
       }
 
--- the first i places are unmarked
-pub record Upto (ws vs : List ℕ) (l i : ℕ) : Type 0 where
-  pub places : placesIn vs ≡ part (unsentFor l) i (placesIn ws)
-  pub kept : Stored ws vs 9 512
+  upto-places : (ws vs : List ℕ) (i : ℕ) → 128 ≤ i → Upto ws vs i → placesIn vs ≡ map f (placesIn ws)
+  upto-places ws vs i h u = u .places ∙ part-all f i (placesIn ws) (omega (arith, places-length ws))
 
-pub upto-none : (ws : List ℕ) (l : ℕ) → Upto ws ws l 0
-upto-none ws l = record { places = sym (part-none (unsentFor l) (placesIn ws)); kept = wider 9 512 (nothing ws 9) (omega arith) (omega arith) }
+  upto-lost : (ws vs : List ℕ) (i : ℕ) → Upto ws vs i → lostIn vs ≡ lostIn ws
+  upto-lost ws vs i u = lost-same ws vs (below 0 8 (u .kept) (omega arith))
 
-pub upto-next : (ws vs us : List ℕ) (l i : ℕ) → i < 128 → Upto ws vs l i → Put placeIn 4 vs us (9 + 4 * i) (unsentFor l (getD (placesIn vs) i noPlace)) → Upto ws us l (i + 1)
-upto-next ws vs us l i h u p =
-    let p0 = placesIn ws in
-    let q : getD (placesIn vs) i noPlace ≡ getD p0 i noPlace = ap (λ (x : List Place). getD x i noPlace) (u .places) ∙ part-rest (unsentFor l) i i p0 noPlace (omega arith) in
-    record {
-      places =
-          places-put vs us i (unsentFor l (getD (placesIn vs) i noPlace)) h p
-          ∙ ap₂ (λ (x : List Place) (y : Place). set x i (unsentFor l y)) (u .places) q
-          ∙ part-next (unsentFor l) i p0 noPlace (omega (arith, places-length ws));
-      kept = then (u .kept) (wider 9 512 (p .kept) (omega arith) (omega arith));
-    }
-
-pub unmarked : (ws vs : List ℕ) (l i : ℕ) → 128 ≤ i → Upto ws vs l i → Pools (λ (p : Pool). unmarkOf p l) ws vs
+pub unmarked : (ws vs : List ℕ) (l i : ℕ) → 128 ≤ i → Upto (unsentFor l) ws vs i → poolIn vs ≡ unmarkOf (poolIn ws) l
 unfolding unmarkOf
-unmarked ws vs l i h u =
-    let places = u .places ∙ part-all (unsentFor l) i (placesIn ws) (omega (arith, places-length ws)) in
-    record { pool = rw (places, lost-same ws vs (below 5 4 (u .kept) (omega arith))); kept = wider 5 516 (u .kept) (omega arith) (omega arith) }
+unmarked ws vs l i h u = rw (upto-places (unsentFor l) ws vs i h u, upto-lost (unsentFor l) ws vs i u)
+
+pub cleared-out : (ws vs : List ℕ) (l i : ℕ) → 128 ≤ i → 8 ≤ l → Upto (freedFor l) ws vs i → poolIn vs ≡ clearOf (poolIn ws) l
+unfolding clearOf
+cleared-out ws vs l i h g u =
+    rw (upto-places (freedFor l) ws vs i h u, upto-lost (freedFor l) ws vs i u, set-out (lostIn ws) l 0 (omega (arith, lost-length ws)))
+
+pub cleared : (ws vs : List ℕ) (l i : ℕ) → 128 ≤ i → l < 8 → length vs ≡ poolWords → Upto (freedFor l) ws vs i → poolIn (set vs l 0) ≡ clearOf (poolIn ws) l
+unfolding clearOf
+cleared ws vs l i h g n u =
+    rw (
+      places-same vs (set vs l 0) (above 8 512 (stored vs l 0 [] (omega arith)) (omega arith)),
+      lost-put vs l 0 g n,
+      upto-places (freedFor l) ws vs i h u,
+      upto-lost (freedFor l) ws vs i u,
+    )

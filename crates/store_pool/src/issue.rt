@@ -1,46 +1,82 @@
 // A record issued in place.
 ghost use mathlib.Core.Path.{_≡_};
-ghost use lib.ListN.{length};
+ghost use Prim.Native.Nat.{ℕ, _<_};
+ghost use lib.ListN.{length, getD};
 ghost use Rattle.pool.specs.declared.Loser.the-variants.{Owner};
 ghost use Rattle.pool.specs.declared.Wanted.the-variants.{Free};
-ghost use Rattle.pool.specs.Places.{fits, oldest};
+ghost use Rattle.pool.specs.Places.{noPlace, fits, oldest};
 ghost use Rattle.pool.specs.Shares.{fuller, fullest, loser};
 ghost use Rattle.pool.specs.Pool.{heldIn, freeIn, moreOf, roomOf, issueOf};
-ghost use Rattle.site.specs.declared.Site.{Site};
-ghost use Rattle.site.specs.Site.{withPool};
-ghost use Rattle.store_site.specs.Turns.{Turns};
-ghost use Rattle.store_site.specs.Layout.{placesIn, siteWords};
+ghost use Rattle.store_words.specs.Words.{word};
+ghost use Rattle.store_site.specs.Layout.{placesIn, poolIn, poolWords};
 ghost use Rattle.store_pool.specs.Best.{Stands};
-ghost use Rattle.store_pool.specs.Pools.{Loss};
+ghost use Rattle.store_pool.specs.Pools.{Loss, Counts, Counted};
 use super::places;
 use entry::Entry;
 use pool::Loser;
 use pool::Place;
 use pool::Wanted;
 
-fn fuller_of(w: &[u64], a: u16, b: u16) -> u16
-    requires { ⌜ length (now w) ≡ siteWords ⌝ }
-    ensures { λ r. ⌜ r ≡ fuller (heldIn (placesIn (now (w .entry)))) a b ⌝ }
+// The place's record is counted for its owner.
+fn tally(w: &[u64], k: usize, held: &mut [u64])
+    requires { ⌜ (length (now w) ≡ poolWords) × ((k < 128) × ((length (now held) ≡ 8) × ((o : ℕ) → word (now held) o < 128))) ⌝ }
+    ensures { λ _. ⌜ Counts (getD (placesIn (now (w .entry))) k noPlace) (now (held .entry)) (now (held .exit)) ⌝ }
 {
-    if places::holds(w, a) < places::holds(w, b) {
+    let i = 8 + 4 * k;
+    if w[i + 3] == 0 {
+        return;
+    }
+    let o = store_words::quarter(w[i + 2], 48) as usize;
+    if 8 <= o {
+        return;
+    }
+    held[o] = held[o] + 1;
+}
+
+// How many records each owner holds, all counted in one pass.
+fn counts(w: &[u64]) -> [u64; 8]
+    requires { ⌜ length (now w) ≡ poolWords ⌝ }
+    ensures { λ r. ⌜ Counted (placesIn (now (w .entry))) r ⌝ }
+{
+    let mut held = [0u64; 8];
+    let mut i: usize = 128;
+    while 0 < i {
+        i -= 1;
+        tally(w, i, &mut held);
+    }
+    held
+}
+
+fn fuller_in(held: &[u64], a: u16, b: u16) -> u16
+    requires { ⌜ (length (now held) ≡ 8) × ((a < 8) × (b < 8)) ⌝ }
+    ensures { λ r. ⌜ r ≡ fuller (word (now (held .entry))) a b ⌝ }
+{
+    if held[a as usize] < held[b as usize] {
         b
     } else {
         a
     }
 }
 
-// The link that holds most; of several the lowest.
+// The owner that holds most; of several the lowest.
 fn fullest_of(w: &[u64]) -> u16
-    requires { ⌜ length (now w) ≡ siteWords ⌝ }
-    ensures { λ r. ⌜ r ≡ fullest (heldIn (placesIn (now (w .entry)))) 3 ⌝ }
+    requires { ⌜ length (now w) ≡ poolWords ⌝ }
+    ensures { λ r. ⌜ r ≡ fullest (heldIn (placesIn (now (w .entry)))) 7 ⌝ }
 {
-    fuller_of(w, fuller_of(w, fuller_of(w, 0, 1), 2), 3)
+    let held = counts(w);
+    let mut m: u16 = 0;
+    let mut k: u16 = 1;
+    while k < 8 {
+        m = fuller_in(&held, m, k);
+        k += 1;
+    }
+    m
 }
 
-// Whose oldest record is lost when one is issued for the link, the oldest free place being known.
+// Whose oldest record is lost when one is issued for the owner, the oldest free place being known.
 fn loser_for(w: &[u64], l: u16, free: usize) -> Loser
-    requires { ⌜ (length (now w) ≡ siteWords) × Stands (placesIn (now w)) free (oldest (fits Free) (placesIn (now w))) ⌝ }
-    ensures { λ r. ⌜ r ≡ loser 4 (heldIn (placesIn (now (w .entry)))) (freeIn (placesIn (now (w .entry)))) l ⌝ }
+    requires { ⌜ (length (now w) ≡ poolWords) × Stands (placesIn (now w)) free (oldest (fits Free) (placesIn (now w))) ⌝ }
+    ensures { λ r. ⌜ r ≡ loser 8 (heldIn (placesIn (now (w .entry)))) (freeIn (placesIn (now (w .entry)))) l ⌝ }
 {
     let held = places::holds(w, l);
     if 64 <= held {
@@ -58,7 +94,7 @@ fn loser_for(w: &[u64], l: u16, free: usize) -> Loser
 
 // The place that a new record takes, the oldest free place being known.
 fn room(w: &[u64], who: Loser, free: usize) -> usize
-    requires { ⌜ (length (now w) ≡ siteWords) × Stands (placesIn (now w)) free (oldest (fits Free) (placesIn (now w))) ⌝ }
+    requires { ⌜ (length (now w) ≡ poolWords) × Stands (placesIn (now w)) free (oldest (fits Free) (placesIn (now w))) ⌝ }
     ensures { λ r. ⌜ Stands (placesIn (now (w .entry))) r (roomOf (placesIn (now (w .entry))) who) ⌝ }
 {
     match who {
@@ -75,18 +111,18 @@ pub fn more(k: u64) -> u64
 }
 
 fn lose_of(w: &mut [u64], m: u16)
-    requires { ⌜ length (now w) ≡ siteWords ⌝ }
+    requires { ⌜ length (now w) ≡ poolWords ⌝ }
     ensures { λ _. ⌜ Loss (now (w .entry)) (now (w .exit)) (Owner m) ⌝ }
 {
-    if 4 <= m {
+    if 8 <= m {
         return;
     }
-    let i = 5 + m as usize;
+    let i = m as usize;
     w[i] = more(w[i]);
 }
 
 fn lose(w: &mut [u64], who: Loser)
-    requires { ⌜ length (now w) ≡ siteWords ⌝ }
+    requires { ⌜ length (now w) ≡ poolWords ⌝ }
     ensures { λ _. ⌜ Loss (now (w .entry)) (now (w .exit)) who ⌝ }
 {
     match who {
@@ -95,12 +131,12 @@ fn lose(w: &mut [u64], who: Loser)
     }
 }
 
-// A record is issued for its link; for a link above 3 nothing is.
+// A record is issued for its owner; for one above 7 nothing is.
 pub fn issue(w: &mut [u64], e: Entry)
-    requires { ⌜ length (now w) ≡ siteWords ⌝ }
-    ensures { λ _. ⌜ Turns (λ (s : Site). withPool s (issueOf 4 (s .pool) e)) (now (w .entry)) (now (w .exit)) ⌝ }
+    requires { ⌜ length (now w) ≡ poolWords ⌝ }
+    ensures { λ _. ⌜ poolIn (now (w .exit)) ≡ issueOf 8 (poolIn (now (w .entry))) e ⌝ }
 {
-    if 4 <= e.link {
+    if 8 <= e.link {
         return;
     }
     let free = places::free(w);

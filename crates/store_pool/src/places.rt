@@ -12,7 +12,7 @@ ghost use Rattle.pool.specs.Places.{noPlace, of, fits, older, newer, oldest, ne
 ghost use Rattle.pool.specs.Pool.{heldIn, rankIs};
 ghost use Rattle.store_site.specs.Rows.{placeIn};
 ghost use Rattle.store_words.specs.Words.{Put};
-ghost use Rattle.store_site.specs.Layout.{placesIn, siteWords};
+ghost use Rattle.store_site.specs.Layout.{placesIn, poolWords};
 ghost use Rattle.store_pool.specs.Best.{Is, Stands, Vacant};
 use entry::Entry;
 use pool::Place;
@@ -25,10 +25,10 @@ pub struct Best {
 }
 
 pub fn place(w: &[u64], k: usize) -> Place
-    requires { ⌜ (length (now w) ≡ siteWords) × (k < 128) ⌝ }
+    requires { ⌜ (length (now w) ≡ poolWords) × (k < 128) ⌝ }
     ensures { λ r. ⌜ r ≡ getD (placesIn (now (w .entry))) k noPlace ⌝ }
 {
-    let i = 9 + 4 * k;
+    let i = 8 + 4 * k;
     let numbers = w[i + 1];
     let narrow = w[i + 2];
     let entry = Entry {
@@ -47,10 +47,10 @@ pub fn place(w: &[u64], k: usize) -> Place
 }
 
 pub fn put_place(w: &mut [u64], k: usize, x: Place)
-    requires { ⌜ (length (now w) ≡ siteWords) × (k < 128) ⌝ }
-    ensures { λ _. ⌜ Put placeIn 4 (now (w .entry)) (now (w .exit)) (9 + 4 * k) x ⌝ }
+    requires { ⌜ (length (now w) ≡ poolWords) × (k < 128) ⌝ }
+    ensures { λ _. ⌜ Put placeIn 4 (now (w .entry)) (now (w .exit)) (8 + 4 * k) x ⌝ }
 {
-    let i = 9 + 4 * k;
+    let i = 8 + 4 * k;
     let e = x.entry;
     let numbers = store_words::pair(e.value, e.sequence);
     let narrow = store_words::quad(e.link, e.kind, e.item, e.flags);
@@ -66,7 +66,7 @@ fn and(a: bool, b: bool) -> bool
     if a { b } else { false }
 }
 
-// Whether a place holds a record of the link.
+// Whether a place holds a record of the owner.
 pub fn mine(x: Place, l: u16) -> bool
     ensures { λ r. ⌜ r ≡ of l x ⌝ }
 {
@@ -96,7 +96,7 @@ fn add(n: usize, t: bool) -> usize
 
 // How many places are what is asked for.
 pub fn number(w: &[u64], q: Wanted) -> usize
-    requires { ⌜ length (now w) ≡ siteWords ⌝ }
+    requires { ⌜ length (now w) ≡ poolWords ⌝ }
     ensures { λ r. ⌜ r ≡ count (fits q) (placesIn (now (w .entry))) ⌝ }
 {
     let mut n: usize = 0;
@@ -108,21 +108,21 @@ pub fn number(w: &[u64], q: Wanted) -> usize
     n
 }
 
-// Whether place k holds a record of the link; of a free place only the mark is read.
+// Whether place k holds a record of the owner; of a free place only the mark is read.
 fn is_mine(w: &[u64], k: usize, l: u16) -> bool
-    requires { ⌜ (length (now w) ≡ siteWords) × (k < 128) ⌝ }
+    requires { ⌜ (length (now w) ≡ poolWords) × (k < 128) ⌝ }
     ensures { λ r. ⌜ r ≡ of l (getD (placesIn (now (w .entry))) k noPlace) ⌝ }
 {
-    let i = 9 + 4 * k;
+    let i = 8 + 4 * k;
     if w[i + 3] == 0 {
         return false;
     }
     store_words::quarter(w[i + 2], 48) == l
 }
 
-// How many records of the link are held.
+// How many records of the owner are held.
 pub fn holds(w: &[u64], l: u16) -> usize
-    requires { ⌜ length (now w) ≡ siteWords ⌝ }
+    requires { ⌜ length (now w) ≡ poolWords ⌝ }
     ensures { λ r. ⌜ r ≡ heldIn (placesIn (now (w .entry))) l ⌝ }
 {
     let mut n: usize = 0;
@@ -152,7 +152,7 @@ fn nearer(t: bool, i: usize, q: u32, b: Best) -> Best
 
 // Where the oldest record stands, of the places that are what is asked for; 128 where there is none.
 pub fn first(w: &[u64], q: Wanted) -> usize
-    requires { ⌜ length (now w) ≡ siteWords ⌝ }
+    requires { ⌜ length (now w) ≡ poolWords ⌝ }
     ensures { λ r. ⌜ Stands (placesIn (now (w .entry))) r (oldest (fits q) (placesIn (now (w .entry)))) ⌝ }
 {
     let mut b = Best {
@@ -186,7 +186,7 @@ fn later(t: bool, i: usize, q: u32, b: Best) -> Best
 
 // Where the newest record stands, of the places that are what is asked for; 128 where there is none.
 pub fn last(w: &[u64], q: Wanted) -> usize
-    requires { ⌜ length (now w) ≡ siteWords ⌝ }
+    requires { ⌜ length (now w) ≡ poolWords ⌝ }
     ensures { λ r. ⌜ Stands (placesIn (now (w .entry))) r (newest (fits q) (placesIn (now (w .entry)))) ⌝ }
 {
     let mut b = Best {
@@ -204,16 +204,16 @@ pub fn last(w: &[u64], q: Wanted) -> usize
 
 // Whether a place is free.
 fn is_free(w: &[u64], k: usize) -> bool
-    requires { ⌜ (length (now w) ≡ siteWords) × (k < 128) ⌝ }
+    requires { ⌜ (length (now w) ≡ poolWords) × (k < 128) ⌝ }
     ensures { λ r. ⌜ r ≡ fits Free (getD (placesIn (now (w .entry))) k noPlace) ⌝ }
 {
-    let i = 9 + 4 * k;
+    let i = 8 + 4 * k;
     w[i + 3] == 0
 }
 
 // The lowest free place; 128 where there is none.
 fn vacant(w: &[u64]) -> usize
-    requires { ⌜ length (now w) ≡ siteWords ⌝ }
+    requires { ⌜ length (now w) ≡ poolWords ⌝ }
     ensures { λ r. ⌜ Vacant (placesIn (now (w .entry))) r ⌝ }
 {
     let mut i: usize = 0;
@@ -228,7 +228,7 @@ fn vacant(w: &[u64]) -> usize
 
 // What `first` answers for a free place. A place that a record left is all zero, and no number is below 0: the lowest free place.
 pub fn free(w: &[u64]) -> usize
-    requires { ⌜ length (now w) ≡ siteWords ⌝ }
+    requires { ⌜ length (now w) ≡ poolWords ⌝ }
     ensures { λ r. ⌜ Stands (placesIn (now (w .entry))) r (oldest (fits Free) (placesIn (now (w .entry)))) ⌝ }
 {
     let i = vacant(w);
@@ -242,7 +242,7 @@ pub fn free(w: &[u64]) -> usize
 }
 
 fn has_rank(w: &[u64], l: u16, rank: usize, x: Place) -> bool
-    requires { ⌜ length (now w) ≡ siteWords ⌝ }
+    requires { ⌜ length (now w) ≡ poolWords ⌝ }
     ensures { λ r. ⌜ r ≡ rankIs (placesIn (now (w .entry))) l rank x ⌝ }
 {
     if mine(x, l) {
@@ -251,9 +251,9 @@ fn has_rank(w: &[u64], l: u16, rank: usize, x: Place) -> bool
     false
 }
 
-// Where the record of the link stands than which so many of its records are older; 128 where there is none.
+// Where the record of the owner stands than which so many of its records are older; 128 where there is none.
 pub fn ranked(w: &[u64], l: u16, rank: usize) -> usize
-    requires { ⌜ length (now w) ≡ siteWords ⌝ }
+    requires { ⌜ length (now w) ≡ poolWords ⌝ }
     ensures { λ r. ⌜ Stands (placesIn (now (w .entry))) r (oldest (rankIs (placesIn (now (w .entry))) l rank) (placesIn (now (w .entry)))) ⌝ }
 {
     let mut b = Best {

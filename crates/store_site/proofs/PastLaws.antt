@@ -16,40 +16,40 @@ use Rattle.store_link.specs.Rows.{linkIn}
 use Rattle.store_site.specs.Rows.{subscriptionIn, alarmIn, statusIn}
 use Rattle.store_site.specs.Layout.{linksIn, subscriptionsIn, alarmsIn, statusesIn, siteOf}
 
-module _ (ws : List ℕ) (t : SiteTable) where
-  pub links-length : length (siteOf ws t .links) ≡ 4
+module _ (ps ws : List ℕ) (t : SiteTable) where
+  pub links-length : length (siteOf ps ws t .links) ≡ 4
   unfolding siteOf linksIn
-  links-length = list-length (λ (k : ℕ). linkIn ws (521 + 75 * k)) 4
+  links-length = list-length (λ (k : ℕ). linkIn ws (5 + 75 * k)) 4
 
-  pub subscriptions-length : length (siteOf ws t .subscriptions) ≡ 128
+  pub subscriptions-length : length (siteOf ps ws t .subscriptions) ≡ 128
   unfolding siteOf subscriptionsIn
-  subscriptions-length = list-length (λ (k : ℕ). subscriptionIn ws (821 + 2 * k)) 128
+  subscriptions-length = list-length (λ (k : ℕ). subscriptionIn ws (305 + 2 * k)) 128
 
-  pub alarms-length : length (siteOf ws t .alarms) ≡ 32
+  pub alarms-length : length (siteOf ps ws t .alarms) ≡ 32
   unfolding siteOf alarmsIn
-  alarms-length = list-length (λ (k : ℕ). alarmIn ws (1077 + 2 * k)) 32
+  alarms-length = list-length (λ (k : ℕ). alarmIn ws (561 + 2 * k)) 32
 
-  pub statuses-length : length (siteOf ws t .statuses) ≡ 32
+  pub statuses-length : length (siteOf ps ws t .statuses) ≡ 32
   unfolding siteOf statusesIn
-  statuses-length = list-length (λ (k : ℕ). statusIn ws (1141 + k)) 32
+  statuses-length = list-length (λ (k : ℕ). statusIn ws (625 + k)) 32
 
-  pub link-past : (l : ℕ) → 4 ≤ l → linkAt (siteOf ws t) l ≡ closedLink
-  link-past l h = List·getD-eq-default (siteOf ws t .links) closedLink {n = l} (omega (arith, links-length))
+  pub link-past : (l : ℕ) → 4 ≤ l → linkAt (siteOf ps ws t) l ≡ closedLink
+  link-past l h = List·getD-eq-default (siteOf ps ws t .links) closedLink {n = l} (omega (arith, links-length))
 
-  pub subscription-past : (k : ℕ) → 128 ≤ k → subscriptionAt (siteOf ws t) k ≡ none
-  subscription-past k h = List·getD-eq-default (siteOf ws t .subscriptions) none {n = k} (omega (arith, subscriptions-length))
+  pub subscription-past : (k : ℕ) → 128 ≤ k → subscriptionAt (siteOf ps ws t) k ≡ none
+  subscription-past k h = List·getD-eq-default (siteOf ps ws t .subscriptions) none {n = k} (omega (arith, subscriptions-length))
 
-  pub alarm-past : (k : ℕ) → 32 ≤ k → alarmAt (siteOf ws t) k ≡ beginning 0
-  alarm-past k h = List·getD-eq-default (siteOf ws t .alarms) (beginning 0) {n = k} (omega (arith, alarms-length))
+  pub alarm-past : (k : ℕ) → 32 ≤ k → alarmAt (siteOf ps ws t) k ≡ beginning 0
+  alarm-past k h = List·getD-eq-default (siteOf ps ws t .alarms) (beginning 0) {n = k} (omega (arith, alarms-length))
 
-  pub status-past : (k : ℕ) → 32 ≤ k → statusAt (siteOf ws t) k ≡ unknown
-  status-past k h = List·getD-eq-default (siteOf ws t .statuses) unknown {n = k} (omega (arith, statuses-length))
+  pub status-past : (k : ℕ) → 32 ≤ k → statusAt (siteOf ps ws t) k ≡ unknown
+  status-past k h = List·getD-eq-default (siteOf ps ws t .statuses) unknown {n = k} (omega (arith, statuses-length))
 
-  pub no-subscription-put : (k : ℕ) (x : Subscription) → 128 ≤ k → siteOf ws t ≡ withSubscription (siteOf ws t) k x
-  no-subscription-put k x h = ap (withSubscriptions (siteOf ws t)) (sym (set-out (siteOf ws t .subscriptions) k x (omega (arith, subscriptions-length))))
+  pub no-subscription-put : (k : ℕ) (x : Subscription) → 128 ≤ k → siteOf ps ws t ≡ withSubscription (siteOf ps ws t) k x
+  no-subscription-put k x h = ap (withSubscriptions (siteOf ps ws t)) (sym (set-out (siteOf ps ws t .subscriptions) k x (omega (arith, subscriptions-length))))
 
-  pub no-alarm-put : (k : ℕ) (x : Alarm) → 32 ≤ k → siteOf ws t ≡ withAlarm (siteOf ws t) k x
-  no-alarm-put k x h = ap (withAlarms (siteOf ws t)) (sym (set-out (siteOf ws t .alarms) k x (omega (arith, alarms-length))))
+  pub no-alarm-put : (k : ℕ) (x : Alarm) → 32 ≤ k → siteOf ps ws t ≡ withAlarm (siteOf ps ws t) k x
+  no-alarm-put k x h = ap (withAlarms (siteOf ps ws t)) (sym (set-out (siteOf ps ws t .alarms) k x (omega (arith, alarms-length))))
 
-  pub no-status-put : (k : ℕ) (x : Status) → 32 ≤ k → siteOf ws t ≡ withStatus (siteOf ws t) k x
-  no-status-put k x h = ap (withStatuses (siteOf ws t)) (sym (set-out (siteOf ws t .statuses) k x (omega (arith, statuses-length))))
+  pub no-status-put : (k : ℕ) (x : Status) → 32 ≤ k → siteOf ps ws t ≡ withStatus (siteOf ps ws t) k x
+  no-status-put k x h = ap (withStatuses (siteOf ps ws t)) (sym (set-out (siteOf ps ws t .statuses) k x (omega (arith, statuses-length))))

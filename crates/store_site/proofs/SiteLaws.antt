@@ -4,6 +4,7 @@ use Rattle.basis.proofs.Std.{_≡_, refl, sym, ap, _∙_, _⊎_, inl, inr, eq-o
 use Rattle.link.specs.declared.Link.{Link}
 use Rattle.link.specs.Fields.{closedLink}
 use Rattle.pool.specs.declared.Place.{Place}
+use Rattle.pool.specs.declared.Pool.{Pool}
 use Rattle.pool.specs.Places.{noPlace}
 use Rattle.subscription.specs.declared.Subscription.{Subscription}
 use Rattle.subscription.specs.Subscription.{none}
@@ -23,198 +24,194 @@ use Rattle.store_link.specs.Rows.{linkIn, PlainAt, PutLink}
 use Rattle.store_link.proofs.RowLaws.{link-same}
 use Rattle.store_site.specs.Rows.{placeIn, subscriptionIn, alarmIn, statusIn}
 use Rattle.store_site.specs.Layout.{lostIn, placesIn, poolIn, linksIn, subscriptionsIn, alarmsIn, statusesIn, siteOf, withNext, withLast, siteWords}
-use Rattle.store_site.specs.Turns.{Plain, Turns}
+use Rattle.store_site.specs.Turns.{Plain, Turns, Moves}
 use Rattle.store_site.proofs.RowLaws.{place-same, subscription-same, alarm-same, status-same}
 
 -- what has happened on each link stays 0 or 1
 module _ {ws vs : List ℕ} {i n : ℕ} (s : Stored ws vs i n) where
-  pub plain-before : i + n ≤ 521 → Plain ws → Plain vs
-  plain-before h p l g k f = rw (s .behind (521 + 75 * l + (3 + k)) (omega arith)) (p l g k f)
+  pub plain-before : i + n ≤ 5 → Plain ws → Plain vs
+  plain-before h p l g k f = rw (s .behind (5 + 75 * l + (3 + k)) (omega arith)) (p l g k f)
 
-  pub plain-behind : 821 ≤ i → Plain ws → Plain vs
-  plain-behind h p l g k f = rw (s .before (521 + 75 * l + (3 + k)) (omega arith)) (p l g k f)
+  pub plain-behind : 305 ≤ i → Plain ws → Plain vs
+  plain-behind h p l g k f = rw (s .before (5 + 75 * l + (3 + k)) (omega arith)) (p l g k f)
 
-pub plain-link : {ws vs : List ℕ} (l : ℕ) → l < 4 → Stored ws vs (521 + 75 * l) 75 → PlainAt vs (521 + 75 * l) → Plain ws → Plain vs
+pub plain-link : {ws vs : List ℕ} (l : ℕ) → l < 4 → Stored ws vs (5 + 75 * l) 75 → PlainAt vs (5 + 75 * l) → Plain ws → Plain vs
 plain-link {ws} {vs} l h s p q m g k f = by (eq-or-ne m l) (lt-or-ge m l)
   where
-    by : (m ≡ l) ⊎ (m ≡ l → ⊥) → (m < l) ⊎ (l ≤ m) → word vs (521 + 75 * m + (3 + k)) < 2
+    by : (m ≡ l) ⊎ (m ≡ l → ⊥) → (m < l) ⊎ (l ≤ m) → word vs (5 + 75 * m + (3 + k)) < 2
     by (inl e) o = rw e (p k f)
-    by (inr e) (inl o) = rw (s .before (521 + 75 * m + (3 + k)) (omega arith)) (q m g k f)
-    by (inr e) (inr o) = rw (s .behind (521 + 75 * m + (3 + k)) (omega (arith, e))) (q m g k f)
+    by (inr e) (inl o) = rw (s .before (5 + 75 * m + (3 + k)) (omega arith)) (q m g k f)
+    by (inr e) (inr o) = rw (s .behind (5 + 75 * m + (3 + k)) (omega (arith, e))) (q m g k f)
 
 -- each part, where its words are as they were
-pub lost-same : (ws vs : List ℕ) → Same ws vs 5 4 → lostIn vs ≡ lostIn ws
+pub lost-same : (ps qs : List ℕ) → Same ps qs 0 8 → lostIn qs ≡ lostIn ps
 unfolding lostIn
-lost-same ws vs h = list-same (λ (l : ℕ). word ws (5 + l)) (λ (l : ℕ). word vs (5 + l)) 4 (λ l g. h (5 + l) (omega arith) (omega arith))
+lost-same ps qs h = list-same (λ (l : ℕ). word ps l) (λ (l : ℕ). word qs l) 8 (λ l g. h l (omega arith) (omega arith))
 
-pub places-same : (ws vs : List ℕ) → Same ws vs 9 512 → placesIn vs ≡ placesIn ws
+pub places-same : (ws vs : List ℕ) → Same ws vs 8 512 → placesIn vs ≡ placesIn ws
 unfolding placesIn
 places-same ws vs h =
-    list-same (λ (k : ℕ). placeIn ws (9 + 4 * k)) (λ (k : ℕ). placeIn vs (9 + 4 * k)) 128
-    (λ k g. place-same ws vs (9 + 4 * k) (λ j e f. h j (omega arith) (omega arith)))
+    list-same (λ (k : ℕ). placeIn ws (8 + 4 * k)) (λ (k : ℕ). placeIn vs (8 + 4 * k)) 128
+    (λ k g. place-same ws vs (8 + 4 * k) (λ j e f. h j (omega arith) (omega arith)))
 
-pub links-same : (ws vs : List ℕ) → Same ws vs 521 300 → linksIn vs ≡ linksIn ws
+pub links-same : (ws vs : List ℕ) → Same ws vs 5 300 → linksIn vs ≡ linksIn ws
 unfolding linksIn
 links-same ws vs h =
-    list-same (λ (k : ℕ). linkIn ws (521 + 75 * k)) (λ (k : ℕ). linkIn vs (521 + 75 * k)) 4
-    (λ k g. link-same ws vs (521 + 75 * k) (λ j e f. h j (omega arith) (omega arith)))
+    list-same (λ (k : ℕ). linkIn ws (5 + 75 * k)) (λ (k : ℕ). linkIn vs (5 + 75 * k)) 4
+    (λ k g. link-same ws vs (5 + 75 * k) (λ j e f. h j (omega arith) (omega arith)))
 
-pub subscriptions-same : (ws vs : List ℕ) → Same ws vs 821 256 → subscriptionsIn vs ≡ subscriptionsIn ws
+pub subscriptions-same : (ws vs : List ℕ) → Same ws vs 305 256 → subscriptionsIn vs ≡ subscriptionsIn ws
 unfolding subscriptionsIn
 subscriptions-same ws vs h =
-    list-same (λ (k : ℕ). subscriptionIn ws (821 + 2 * k)) (λ (k : ℕ). subscriptionIn vs (821 + 2 * k)) 128
-    (λ k g. subscription-same ws vs (821 + 2 * k) (λ j e f. h j (omega arith) (omega arith)))
+    list-same (λ (k : ℕ). subscriptionIn ws (305 + 2 * k)) (λ (k : ℕ). subscriptionIn vs (305 + 2 * k)) 128
+    (λ k g. subscription-same ws vs (305 + 2 * k) (λ j e f. h j (omega arith) (omega arith)))
 
-pub alarms-same : (ws vs : List ℕ) → Same ws vs 1077 64 → alarmsIn vs ≡ alarmsIn ws
+pub alarms-same : (ws vs : List ℕ) → Same ws vs 561 64 → alarmsIn vs ≡ alarmsIn ws
 unfolding alarmsIn
 alarms-same ws vs h =
-    list-same (λ (k : ℕ). alarmIn ws (1077 + 2 * k)) (λ (k : ℕ). alarmIn vs (1077 + 2 * k)) 32
-    (λ k g. alarm-same ws vs (1077 + 2 * k) (λ j e f. h j (omega arith) (omega arith)))
+    list-same (λ (k : ℕ). alarmIn ws (561 + 2 * k)) (λ (k : ℕ). alarmIn vs (561 + 2 * k)) 32
+    (λ k g. alarm-same ws vs (561 + 2 * k) (λ j e f. h j (omega arith) (omega arith)))
 
-pub statuses-same : (ws vs : List ℕ) → Same ws vs 1141 32 → statusesIn vs ≡ statusesIn ws
+pub statuses-same : (ws vs : List ℕ) → Same ws vs 625 32 → statusesIn vs ≡ statusesIn ws
 unfolding statusesIn
 statuses-same ws vs h =
-    list-same (λ (k : ℕ). statusIn ws (1141 + k)) (λ (k : ℕ). statusIn vs (1141 + k)) 32
-    (λ k g. status-same ws vs (1141 + k) (λ j e f. h j (omega arith) (omega arith)))
+    list-same (λ (k : ℕ). statusIn ws (625 + k)) (λ (k : ℕ). statusIn vs (625 + k)) 32
+    (λ k g. status-same ws vs (625 + k) (λ j e f. h j (omega arith) (omega arith)))
 
 -- one element, read and replaced
-pub place-at : (ws : List ℕ) (k : ℕ) → k < 128 → placeIn ws (9 + 4 * k) ≡ getD (placesIn ws) k noPlace
+pub place-at : (ws : List ℕ) (k : ℕ) → k < 128 → placeIn ws (8 + 4 * k) ≡ getD (placesIn ws) k noPlace
 unfolding placesIn
-place-at ws k h = sym (list-at (λ (k : ℕ). placeIn ws (9 + 4 * k)) 128 k noPlace h)
+place-at ws k h = sym (list-at (λ (k : ℕ). placeIn ws (8 + 4 * k)) 128 k noPlace h)
 
-pub places-put : (ws vs : List ℕ) (k : ℕ) (x : Place) → k < 128 → Put placeIn 4 ws vs (9 + 4 * k) x → placesIn vs ≡ set (placesIn ws) k x
+pub places-put : (ws vs : List ℕ) (k : ℕ) (x : Place) → k < 128 → Put placeIn 4 ws vs (8 + 4 * k) x → placesIn vs ≡ set (placesIn ws) k x
 unfolding placesIn
 places-put ws vs k x h p =
-    list-put (λ (k : ℕ). placeIn ws (9 + 4 * k)) (λ (k : ℕ). placeIn vs (9 + 4 * k)) 128 k x h
-    (λ m g ne. place-same ws vs (9 + 4 * m) (λ j e f. by j m (lt-or-ge m k) ne e f)) (p .there)
+    list-put (λ (k : ℕ). placeIn ws (8 + 4 * k)) (λ (k : ℕ). placeIn vs (8 + 4 * k)) 128 k x h
+    (λ m g ne. place-same ws vs (8 + 4 * m) (λ j e f. by j m (lt-or-ge m k) ne e f)) (p .there)
   where
-    by : (j : ℕ) (m : ℕ) → (m < k) ⊎ (k ≤ m) → (m ≡ k → ⊥) → 9 + 4 * m ≤ j → j < 9 + 4 * m + 4 → word vs j ≡ word ws j
+    by : (j : ℕ) (m : ℕ) → (m < k) ⊎ (k ≤ m) → (m ≡ k → ⊥) → 8 + 4 * m ≤ j → j < 8 + 4 * m + 4 → word vs j ≡ word ws j
     by j m (inl z) ne e f = p .kept .before j (omega arith)
     by j m (inr z) ne e f = p .kept .behind j (omega (arith, ne))
 
-pub link-at : (ws : List ℕ) (k : ℕ) → k < 4 → linkIn ws (521 + 75 * k) ≡ getD (linksIn ws) k closedLink
+pub link-at : (ws : List ℕ) (k : ℕ) → k < 4 → linkIn ws (5 + 75 * k) ≡ getD (linksIn ws) k closedLink
 unfolding linksIn
-link-at ws k h = sym (list-at (λ (k : ℕ). linkIn ws (521 + 75 * k)) 4 k closedLink h)
+link-at ws k h = sym (list-at (λ (k : ℕ). linkIn ws (5 + 75 * k)) 4 k closedLink h)
 
-pub links-put : (ws vs : List ℕ) (k : ℕ) (x : Link) → k < 4 → Put linkIn 75 ws vs (521 + 75 * k) x → linksIn vs ≡ set (linksIn ws) k x
+pub links-put : (ws vs : List ℕ) (k : ℕ) (x : Link) → k < 4 → Put linkIn 75 ws vs (5 + 75 * k) x → linksIn vs ≡ set (linksIn ws) k x
 unfolding linksIn
 links-put ws vs k x h p =
-    list-put (λ (k : ℕ). linkIn ws (521 + 75 * k)) (λ (k : ℕ). linkIn vs (521 + 75 * k)) 4 k x h
-    (λ m g ne. link-same ws vs (521 + 75 * m) (λ j e f. by j m (lt-or-ge m k) ne e f)) (p .there)
+    list-put (λ (k : ℕ). linkIn ws (5 + 75 * k)) (λ (k : ℕ). linkIn vs (5 + 75 * k)) 4 k x h
+    (λ m g ne. link-same ws vs (5 + 75 * m) (λ j e f. by j m (lt-or-ge m k) ne e f)) (p .there)
   where
-    by : (j : ℕ) (m : ℕ) → (m < k) ⊎ (k ≤ m) → (m ≡ k → ⊥) → 521 + 75 * m ≤ j → j < 521 + 75 * m + 75 → word vs j ≡ word ws j
+    by : (j : ℕ) (m : ℕ) → (m < k) ⊎ (k ≤ m) → (m ≡ k → ⊥) → 5 + 75 * m ≤ j → j < 5 + 75 * m + 75 → word vs j ≡ word ws j
     by j m (inl z) ne e f = p .kept .before j (omega arith)
     by j m (inr z) ne e f = p .kept .behind j (omega (arith, ne))
 
-pub subscription-at : (ws : List ℕ) (k : ℕ) → k < 128 → subscriptionIn ws (821 + 2 * k) ≡ getD (subscriptionsIn ws) k none
+pub subscription-at : (ws : List ℕ) (k : ℕ) → k < 128 → subscriptionIn ws (305 + 2 * k) ≡ getD (subscriptionsIn ws) k none
 unfolding subscriptionsIn
-subscription-at ws k h = sym (list-at (λ (k : ℕ). subscriptionIn ws (821 + 2 * k)) 128 k none h)
+subscription-at ws k h = sym (list-at (λ (k : ℕ). subscriptionIn ws (305 + 2 * k)) 128 k none h)
 
-pub subscriptions-put : (ws vs : List ℕ) (k : ℕ) (x : Subscription) → k < 128 → Put subscriptionIn 2 ws vs (821 + 2 * k) x → subscriptionsIn vs ≡ set (subscriptionsIn ws) k x
+pub subscriptions-put : (ws vs : List ℕ) (k : ℕ) (x : Subscription) → k < 128 → Put subscriptionIn 2 ws vs (305 + 2 * k) x → subscriptionsIn vs ≡ set (subscriptionsIn ws) k x
 unfolding subscriptionsIn
 subscriptions-put ws vs k x h p =
-    list-put (λ (k : ℕ). subscriptionIn ws (821 + 2 * k)) (λ (k : ℕ). subscriptionIn vs (821 + 2 * k)) 128 k x h
-    (λ m g ne. subscription-same ws vs (821 + 2 * m) (λ j e f. by j m (lt-or-ge m k) ne e f)) (p .there)
+    list-put (λ (k : ℕ). subscriptionIn ws (305 + 2 * k)) (λ (k : ℕ). subscriptionIn vs (305 + 2 * k)) 128 k x h
+    (λ m g ne. subscription-same ws vs (305 + 2 * m) (λ j e f. by j m (lt-or-ge m k) ne e f)) (p .there)
   where
-    by : (j : ℕ) (m : ℕ) → (m < k) ⊎ (k ≤ m) → (m ≡ k → ⊥) → 821 + 2 * m ≤ j → j < 821 + 2 * m + 2 → word vs j ≡ word ws j
+    by : (j : ℕ) (m : ℕ) → (m < k) ⊎ (k ≤ m) → (m ≡ k → ⊥) → 305 + 2 * m ≤ j → j < 305 + 2 * m + 2 → word vs j ≡ word ws j
     by j m (inl z) ne e f = p .kept .before j (omega arith)
     by j m (inr z) ne e f = p .kept .behind j (omega (arith, ne))
 
-pub alarm-at : (ws : List ℕ) (k : ℕ) → k < 32 → alarmIn ws (1077 + 2 * k) ≡ getD (alarmsIn ws) k (beginning 0)
+pub alarm-at : (ws : List ℕ) (k : ℕ) → k < 32 → alarmIn ws (561 + 2 * k) ≡ getD (alarmsIn ws) k (beginning 0)
 unfolding alarmsIn
-alarm-at ws k h = sym (list-at (λ (k : ℕ). alarmIn ws (1077 + 2 * k)) 32 k (beginning 0) h)
+alarm-at ws k h = sym (list-at (λ (k : ℕ). alarmIn ws (561 + 2 * k)) 32 k (beginning 0) h)
 
-pub alarms-put : (ws vs : List ℕ) (k : ℕ) (x : Alarm) → k < 32 → Put alarmIn 2 ws vs (1077 + 2 * k) x → alarmsIn vs ≡ set (alarmsIn ws) k x
+pub alarms-put : (ws vs : List ℕ) (k : ℕ) (x : Alarm) → k < 32 → Put alarmIn 2 ws vs (561 + 2 * k) x → alarmsIn vs ≡ set (alarmsIn ws) k x
 unfolding alarmsIn
 alarms-put ws vs k x h p =
-    list-put (λ (k : ℕ). alarmIn ws (1077 + 2 * k)) (λ (k : ℕ). alarmIn vs (1077 + 2 * k)) 32 k x h
-    (λ m g ne. alarm-same ws vs (1077 + 2 * m) (λ j e f. by j m (lt-or-ge m k) ne e f)) (p .there)
+    list-put (λ (k : ℕ). alarmIn ws (561 + 2 * k)) (λ (k : ℕ). alarmIn vs (561 + 2 * k)) 32 k x h
+    (λ m g ne. alarm-same ws vs (561 + 2 * m) (λ j e f. by j m (lt-or-ge m k) ne e f)) (p .there)
   where
-    by : (j : ℕ) (m : ℕ) → (m < k) ⊎ (k ≤ m) → (m ≡ k → ⊥) → 1077 + 2 * m ≤ j → j < 1077 + 2 * m + 2 → word vs j ≡ word ws j
+    by : (j : ℕ) (m : ℕ) → (m < k) ⊎ (k ≤ m) → (m ≡ k → ⊥) → 561 + 2 * m ≤ j → j < 561 + 2 * m + 2 → word vs j ≡ word ws j
     by j m (inl z) ne e f = p .kept .before j (omega arith)
     by j m (inr z) ne e f = p .kept .behind j (omega (arith, ne))
 
-pub status-at : (ws : List ℕ) (k : ℕ) → k < 32 → statusIn ws (1141 + k) ≡ getD (statusesIn ws) k unknown
+pub status-at : (ws : List ℕ) (k : ℕ) → k < 32 → statusIn ws (625 + k) ≡ getD (statusesIn ws) k unknown
 unfolding statusesIn
-status-at ws k h = sym (list-at (λ (k : ℕ). statusIn ws (1141 + k)) 32 k unknown h)
+status-at ws k h = sym (list-at (λ (k : ℕ). statusIn ws (625 + k)) 32 k unknown h)
 
-pub statuses-put : (ws vs : List ℕ) (k : ℕ) (x : Status) → k < 32 → Put statusIn 1 ws vs (1141 + k) x → statusesIn vs ≡ set (statusesIn ws) k x
+pub statuses-put : (ws vs : List ℕ) (k : ℕ) (x : Status) → k < 32 → Put statusIn 1 ws vs (625 + k) x → statusesIn vs ≡ set (statusesIn ws) k x
 unfolding statusesIn
 statuses-put ws vs k x h p =
-    list-put (λ (k : ℕ). statusIn ws (1141 + k)) (λ (k : ℕ). statusIn vs (1141 + k)) 32 k x h
-    (λ m g ne. status-same ws vs (1141 + m) (λ j e f. by j m (lt-or-ge m k) ne e f)) (p .there)
+    list-put (λ (k : ℕ). statusIn ws (625 + k)) (λ (k : ℕ). statusIn vs (625 + k)) 32 k x h
+    (λ m g ne. status-same ws vs (625 + m) (λ j e f. by j m (lt-or-ge m k) ne e f)) (p .there)
   where
-    by : (j : ℕ) (m : ℕ) → (m < k) ⊎ (k ≤ m) → (m ≡ k → ⊥) → 1141 + m ≤ j → j < 1141 + m + 1 → word vs j ≡ word ws j
+    by : (j : ℕ) (m : ℕ) → (m < k) ⊎ (k ≤ m) → (m ≡ k → ⊥) → 625 + m ≤ j → j < 625 + m + 1 → word vs j ≡ word ws j
     by j m (inl z) ne e f = p .kept .before j (omega arith)
     by j m (inr z) ne e f = p .kept .behind j (omega (arith, ne))
 
 -- a store in one part leaves the others
-module _ (ws vs : List ℕ) (t : SiteTable) {i n : ℕ} (s : Stored ws vs i n) where
-  pub only-pool : 5 ≤ i → i + n ≤ 521 → siteOf vs t ≡ withPool (siteOf ws t) (poolIn vs)
+module _ (ps ws vs : List ℕ) (t : SiteTable) {i n : ℕ} (s : Stored ws vs i n) where
+  pub only-links : 5 ≤ i → i + n ≤ 305 → siteOf ps vs t ≡ withLinks (siteOf ps ws t) (linksIn vs)
   unfolding siteOf
-  only-pool f g = rw (s .before 0 (omega arith), s .before 1 (omega arith), s .before 2 (omega arith), s .before 3 (omega arith), s .before 4 (omega arith), links-same ws vs (above 521 300 s (omega arith)), subscriptions-same ws vs (above 821 256 s (omega arith)), alarms-same ws vs (above 1077 64 s (omega arith)), statuses-same ws vs (above 1141 32 s (omega arith)))
+  only-links f g = rw (s .before 0 (omega arith), s .before 1 (omega arith), s .before 2 (omega arith), s .before 3 (omega arith), s .before 4 (omega arith), subscriptions-same ws vs (above 305 256 s (omega arith)), alarms-same ws vs (above 561 64 s (omega arith)), statuses-same ws vs (above 625 32 s (omega arith)))
 
-  pub only-links : 521 ≤ i → i + n ≤ 821 → siteOf vs t ≡ withLinks (siteOf ws t) (linksIn vs)
+  pub only-subscriptions : 305 ≤ i → i + n ≤ 561 → siteOf ps vs t ≡ withSubscriptions (siteOf ps ws t) (subscriptionsIn vs)
   unfolding siteOf
-  only-links f g = rw (s .before 0 (omega arith), s .before 1 (omega arith), s .before 2 (omega arith), s .before 3 (omega arith), s .before 4 (omega arith), lost-same ws vs (below 5 4 s (omega arith)), places-same ws vs (below 9 512 s (omega arith)), subscriptions-same ws vs (above 821 256 s (omega arith)), alarms-same ws vs (above 1077 64 s (omega arith)), statuses-same ws vs (above 1141 32 s (omega arith)))
+  only-subscriptions f g = rw (s .before 0 (omega arith), s .before 1 (omega arith), s .before 2 (omega arith), s .before 3 (omega arith), s .before 4 (omega arith), links-same ws vs (below 5 300 s (omega arith)), alarms-same ws vs (above 561 64 s (omega arith)), statuses-same ws vs (above 625 32 s (omega arith)))
 
-  pub only-subscriptions : 821 ≤ i → i + n ≤ 1077 → siteOf vs t ≡ withSubscriptions (siteOf ws t) (subscriptionsIn vs)
+  pub only-alarms : 561 ≤ i → i + n ≤ 625 → siteOf ps vs t ≡ withAlarms (siteOf ps ws t) (alarmsIn vs)
   unfolding siteOf
-  only-subscriptions f g = rw (s .before 0 (omega arith), s .before 1 (omega arith), s .before 2 (omega arith), s .before 3 (omega arith), s .before 4 (omega arith), lost-same ws vs (below 5 4 s (omega arith)), places-same ws vs (below 9 512 s (omega arith)), links-same ws vs (below 521 300 s (omega arith)), alarms-same ws vs (above 1077 64 s (omega arith)), statuses-same ws vs (above 1141 32 s (omega arith)))
+  only-alarms f g = rw (s .before 0 (omega arith), s .before 1 (omega arith), s .before 2 (omega arith), s .before 3 (omega arith), s .before 4 (omega arith), links-same ws vs (below 5 300 s (omega arith)), subscriptions-same ws vs (below 305 256 s (omega arith)), statuses-same ws vs (above 625 32 s (omega arith)))
 
-  pub only-alarms : 1077 ≤ i → i + n ≤ 1141 → siteOf vs t ≡ withAlarms (siteOf ws t) (alarmsIn vs)
+  pub only-statuses : 625 ≤ i → i + n ≤ siteWords → siteOf ps vs t ≡ withStatuses (siteOf ps ws t) (statusesIn vs)
   unfolding siteOf
-  only-alarms f g = rw (s .before 0 (omega arith), s .before 1 (omega arith), s .before 2 (omega arith), s .before 3 (omega arith), s .before 4 (omega arith), lost-same ws vs (below 5 4 s (omega arith)), places-same ws vs (below 9 512 s (omega arith)), links-same ws vs (below 521 300 s (omega arith)), subscriptions-same ws vs (below 821 256 s (omega arith)), statuses-same ws vs (above 1141 32 s (omega arith)))
+  only-statuses f g = rw (s .before 0 (omega arith), s .before 1 (omega arith), s .before 2 (omega arith), s .before 3 (omega arith), s .before 4 (omega arith), links-same ws vs (below 5 300 s (omega arith)), subscriptions-same ws vs (below 305 256 s (omega arith)), alarms-same ws vs (below 561 64 s (omega arith)))
 
-  pub only-statuses : 1141 ≤ i → i + n ≤ siteWords → siteOf vs t ≡ withStatuses (siteOf ws t) (statusesIn vs)
-  unfolding siteOf
-  only-statuses f g = rw (s .before 0 (omega arith), s .before 1 (omega arith), s .before 2 (omega arith), s .before 3 (omega arith), s .before 4 (omega arith), lost-same ws vs (below 5 4 s (omega arith)), places-same ws vs (below 9 512 s (omega arith)), links-same ws vs (below 521 300 s (omega arith)), subscriptions-same ws vs (below 821 256 s (omega arith)), alarms-same ws vs (below 1077 64 s (omega arith)))
-
-pub link-read : (ws : List ℕ) (t : SiteTable) (k : ℕ) → k < 4 → linkIn ws (521 + 75 * k) ≡ linkAt (siteOf ws t) k
+pub link-read : (ps ws : List ℕ) (t : SiteTable) (k : ℕ) → k < 4 → linkIn ws (5 + 75 * k) ≡ linkAt (siteOf ps ws t) k
 unfolding siteOf
-link-read ws t k h = link-at ws k h
+link-read ps ws t k h = link-at ws k h
 
-pub link-turns : (ws vs : List ℕ) (k : ℕ) (x : Link) → k < 4 → PutLink ws vs (521 + 75 * k) x → Turns (λ (s : Site). withLink s k x) ws vs
+pub link-turns : (ws vs : List ℕ) (k : ℕ) (x : Link) → k < 4 → PutLink ws vs (5 + 75 * k) x → Turns (λ (s : Site). withLink s k x) ws vs
 unfolding siteOf
 link-turns ws vs k x h p =
     record {
-      site = λ t. only-links ws vs t (p .put .kept) (omega arith) (omega arith) ∙ ap (withLinks (siteOf ws t)) (links-put ws vs k x h (p .put));
+      site = λ ps t. only-links ps ws vs t (p .put .kept) (omega arith) (omega arith) ∙ ap (withLinks (siteOf ps ws t)) (links-put ws vs k x h (p .put));
       plain = plain-link k h (p .put .kept) (p .plain);
     }
 
-pub subscription-read : (ws : List ℕ) (t : SiteTable) (k : ℕ) → k < 128 → subscriptionIn ws (821 + 2 * k) ≡ subscriptionAt (siteOf ws t) k
+pub subscription-read : (ps ws : List ℕ) (t : SiteTable) (k : ℕ) → k < 128 → subscriptionIn ws (305 + 2 * k) ≡ subscriptionAt (siteOf ps ws t) k
 unfolding siteOf
-subscription-read ws t k h = subscription-at ws k h
+subscription-read ps ws t k h = subscription-at ws k h
 
-pub subscription-turns : (ws vs : List ℕ) (k : ℕ) (x : Subscription) → k < 128 → Put subscriptionIn 2 ws vs (821 + 2 * k) x → Turns (λ (s : Site). withSubscription s k x) ws vs
+pub subscription-turns : (ws vs : List ℕ) (k : ℕ) (x : Subscription) → k < 128 → Put subscriptionIn 2 ws vs (305 + 2 * k) x → Turns (λ (s : Site). withSubscription s k x) ws vs
 unfolding siteOf
 subscription-turns ws vs k x h p =
     record {
-      site = λ t. only-subscriptions ws vs t (p .kept) (omega arith) (omega arith) ∙ ap (withSubscriptions (siteOf ws t)) (subscriptions-put ws vs k x h p);
+      site = λ ps t. only-subscriptions ps ws vs t (p .kept) (omega arith) (omega arith) ∙ ap (withSubscriptions (siteOf ps ws t)) (subscriptions-put ws vs k x h p);
       plain = plain-behind (p .kept) (omega arith);
     }
 
-pub alarm-read : (ws : List ℕ) (t : SiteTable) (k : ℕ) → k < 32 → alarmIn ws (1077 + 2 * k) ≡ alarmAt (siteOf ws t) k
+pub alarm-read : (ps ws : List ℕ) (t : SiteTable) (k : ℕ) → k < 32 → alarmIn ws (561 + 2 * k) ≡ alarmAt (siteOf ps ws t) k
 unfolding siteOf
-alarm-read ws t k h = alarm-at ws k h
+alarm-read ps ws t k h = alarm-at ws k h
 
-pub alarm-turns : (ws vs : List ℕ) (k : ℕ) (x : Alarm) → k < 32 → Put alarmIn 2 ws vs (1077 + 2 * k) x → Turns (λ (s : Site). withAlarm s k x) ws vs
+pub alarm-turns : (ws vs : List ℕ) (k : ℕ) (x : Alarm) → k < 32 → Put alarmIn 2 ws vs (561 + 2 * k) x → Turns (λ (s : Site). withAlarm s k x) ws vs
 unfolding siteOf
 alarm-turns ws vs k x h p =
     record {
-      site = λ t. only-alarms ws vs t (p .kept) (omega arith) (omega arith) ∙ ap (withAlarms (siteOf ws t)) (alarms-put ws vs k x h p);
+      site = λ ps t. only-alarms ps ws vs t (p .kept) (omega arith) (omega arith) ∙ ap (withAlarms (siteOf ps ws t)) (alarms-put ws vs k x h p);
       plain = plain-behind (p .kept) (omega arith);
     }
 
-pub status-read : (ws : List ℕ) (t : SiteTable) (k : ℕ) → k < 32 → statusIn ws (1141 + k) ≡ statusAt (siteOf ws t) k
+pub status-read : (ps ws : List ℕ) (t : SiteTable) (k : ℕ) → k < 32 → statusIn ws (625 + k) ≡ statusAt (siteOf ps ws t) k
 unfolding siteOf
-status-read ws t k h = status-at ws k h
+status-read ps ws t k h = status-at ws k h
 
-pub status-turns : (ws vs : List ℕ) (k : ℕ) (x : Status) → k < 32 → Put statusIn 1 ws vs (1141 + k) x → Turns (λ (s : Site). withStatus s k x) ws vs
+pub status-turns : (ws vs : List ℕ) (k : ℕ) (x : Status) → k < 32 → Put statusIn 1 ws vs (625 + k) x → Turns (λ (s : Site). withStatus s k x) ws vs
 unfolding siteOf
 status-turns ws vs k x h p =
     record {
-      site = λ t. only-statuses ws vs t (p .kept) (omega arith) (omega arith) ∙ ap (withStatuses (siteOf ws t)) (statuses-put ws vs k x h p);
+      site = λ ps t. only-statuses ps ws vs t (p .kept) (omega arith) (omega arith) ∙ ap (withStatuses (siteOf ps ws t)) (statuses-put ws vs k x h p);
       plain = plain-behind (p .kept) (omega arith);
     }
 
@@ -222,7 +219,7 @@ pub next-turns : (ws : List ℕ) (n : ℕ) → length ws ≡ siteWords → Turns
 unfolding siteOf
 next-turns ws n h =
     record {
-      site = λ t.
+      site = λ ps t.
           let vs = set ws 0 n in
           let s = stored ws 0 n [] (omega arith) in
           rw (
@@ -231,12 +228,10 @@ next-turns ws n h =
             s .behind 2 (omega arith),
             s .behind 3 (omega arith),
             s .behind 4 (omega arith),
-            lost-same ws vs (above 5 4 s (omega arith)),
-            places-same ws vs (above 9 512 s (omega arith)),
-            links-same ws vs (above 521 300 s (omega arith)),
-            subscriptions-same ws vs (above 821 256 s (omega arith)),
-            alarms-same ws vs (above 1077 64 s (omega arith)),
-            statuses-same ws vs (above 1141 32 s (omega arith)),
+            links-same ws vs (above 5 300 s (omega arith)),
+            subscriptions-same ws vs (above 305 256 s (omega arith)),
+            alarms-same ws vs (above 561 64 s (omega arith)),
+            statuses-same ws vs (above 625 32 s (omega arith)),
           );
       plain = plain-before (stored ws 0 n [] (omega arith)) (omega arith);
     }
@@ -245,7 +240,7 @@ pub last-turns : (ws : List ℕ) (n : ℕ) → length ws ≡ siteWords → Turns
 unfolding siteOf
 last-turns ws n h =
     record {
-      site = λ t.
+      site = λ ps t.
           let vs = set ws 1 n in
           let s = stored ws 1 n [] (omega arith) in
           rw (
@@ -254,24 +249,31 @@ last-turns ws n h =
             s .behind 2 (omega arith),
             s .behind 3 (omega arith),
             s .behind 4 (omega arith),
-            lost-same ws vs (above 5 4 s (omega arith)),
-            places-same ws vs (above 9 512 s (omega arith)),
-            links-same ws vs (above 521 300 s (omega arith)),
-            subscriptions-same ws vs (above 821 256 s (omega arith)),
-            alarms-same ws vs (above 1077 64 s (omega arith)),
-            statuses-same ws vs (above 1141 32 s (omega arith)),
+            links-same ws vs (above 5 300 s (omega arith)),
+            subscriptions-same ws vs (above 305 256 s (omega arith)),
+            alarms-same ws vs (above 561 64 s (omega arith)),
+            statuses-same ws vs (above 625 32 s (omega arith)),
           );
       plain = plain-before (stored ws 1 n [] (omega arith)) (omega arith);
     }
 
--- the table is the one given
-pub table-of : (ws : List ℕ) (t : SiteTable) → siteOf ws t .table ≡ t
+-- the table is the one given, and the pool the one in its words
+pub table-of : (ps ws : List ℕ) (t : SiteTable) → siteOf ps ws t .table ≡ t
 unfolding siteOf
-table-of ws t = refl
+table-of ps ws t = refl
+
+pub pool-of : (ps ws : List ℕ) (t : SiteTable) → siteOf ps ws t .pool ≡ poolIn ps
+unfolding siteOf
+pool-of ps ws t = refl
+
+-- another pool, the site's words as they were
+pub pool-moves : (f : Pool → Pool) (ps qs ws : List ℕ) → poolIn qs ≡ f (poolIn ps) → Moves (λ (s : Site). withPool s (f (s .pool))) ps qs ws ws
+unfolding siteOf
+pool-moves f ps qs ws e = record { site = λ t. ap (withPool (siteOf ps ws t)) e; plain = λ p. p }
 
 pub places-length : (ws : List ℕ) → length (placesIn ws) ≡ 128
 unfolding placesIn
-places-length ws = list-length (λ (k : ℕ). placeIn ws (9 + 4 * k)) 128
+places-length ws = list-length (λ (k : ℕ). placeIn ws (8 + 4 * k)) 128
 
 pub aggregated-turns : (ws : List ℕ) (x : Aggregated) → length ws ≡ siteWords → Turns (λ (s : Site). withAggregated s x) ws (set (set ws 3 (x .time)) 4 (x .value))
 unfolding siteOf
@@ -279,19 +281,17 @@ aggregated-turns ws x h =
     let vs = set (set ws 3 (x .time)) 4 (x .value) in
     let s = stored ws 3 (x .time) (x .value ∷ []) (omega arith) in
     record {
-      site = λ t.
+      site = λ ps t.
           rw (
             first ws 3 (x .time) (x .value ∷ []) (omega arith),
             next ws 3 (x .time) (x .value ∷ []) (omega arith) 1 (lit≤ tt) (lit≤ tt),
             s .before 0 (omega arith),
             s .before 1 (omega arith),
             s .before 2 (omega arith),
-            lost-same ws vs (above 5 4 s (omega arith)),
-            places-same ws vs (above 9 512 s (omega arith)),
-            links-same ws vs (above 521 300 s (omega arith)),
-            subscriptions-same ws vs (above 821 256 s (omega arith)),
-            alarms-same ws vs (above 1077 64 s (omega arith)),
-            statuses-same ws vs (above 1141 32 s (omega arith)),
+            links-same ws vs (above 5 300 s (omega arith)),
+            subscriptions-same ws vs (above 305 256 s (omega arith)),
+            alarms-same ws vs (above 561 64 s (omega arith)),
+            statuses-same ws vs (above 625 32 s (omega arith)),
           );
       plain = plain-before s (omega arith);
     }

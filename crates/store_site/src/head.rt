@@ -1,9 +1,11 @@
-// What stands once in a site, and what every call asks of it, for every site table t.
+// What stands once in a site, and what every call asks of it, for every pool ps and site table t.
+ghost use Prim.Native.Nat.{ℕ};
+ghost use mathlib.Core.List.{List};
 ghost use mathlib.Core.Path.{_≡_};
 ghost use lib.ListN.{length};
 ghost use Rattle.table_whole.specs.declared.SiteTable.{SiteTable};
 ghost use Rattle.site.specs.declared.Site.{Site};
-ghost use Rattle.site.specs.Site.{noLinkAt, badTimeAt, hasPrimary, roleOf, withAggregated};
+ghost use Rattle.site.specs.Site.{noLinkAt, badTimeAt, hasPrimary, roleOf, ownerOf, withAggregated};
 ghost use Rattle.store_site.specs.Layout.{siteOf, siteWords};
 ghost use Rattle.store_site.specs.Turns.{Turns};
 use aggregated::Aggregated;
@@ -12,28 +14,50 @@ use link::Role;
 // The watchdog period in seconds.
 pub fn period(w: &[u64]) -> u32
     requires { ⌜ length (now w) ≡ siteWords ⌝ }
-    ensures { λ r. ⌜ ((t : SiteTable) → r ≡ siteOf (now (w .entry)) t .period) ⌝ }
+    ensures { λ r. ⌜ ((ps : List ℕ) (t : SiteTable) → r ≡ siteOf ps (now (w .entry)) t .period) ⌝ }
 {
-    store_words::upper(w[2])
+    store_words::below_top(w[2])
+}
+
+// Which of the two in its box it is.
+pub fn site(w: &[u64]) -> u16
+    requires { ⌜ length (now w) ≡ siteWords ⌝ }
+    ensures { λ r. ⌜ ((ps : List ℕ) (t : SiteTable) → r ≡ siteOf ps (now (w .entry)) t .site) ⌝ }
+{
+    store_words::top(w[2])
+}
+
+// The owner of the link's records in the pool, 8 for a link above 3.
+pub fn owner(w: &[u64], l: u16) -> u16
+    requires { ⌜ length (now w) ≡ siteWords ⌝ }
+    ensures { λ r. ⌜ ((ps : List ℕ) (t : SiteTable) → r ≡ ownerOf (siteOf ps (now (w .entry)) t) l) ⌝ }
+{
+    if l < 4 {
+        if store_words::top(w[2]) == 0 {
+            return l;
+        }
+        return 4 + l;
+    }
+    8
 }
 
 pub fn link_count(w: &[u64]) -> u16
     requires { ⌜ length (now w) ≡ siteWords ⌝ }
-    ensures { λ r. ⌜ ((t : SiteTable) → r ≡ siteOf (now (w .entry)) t .linkcount) ⌝ }
+    ensures { λ r. ⌜ ((ps : List ℕ) (t : SiteTable) → r ≡ siteOf ps (now (w .entry)) t .linkcount) ⌝ }
 {
     store_words::quarter(w[2], 16)
 }
 
 pub fn primary(w: &[u64]) -> u16
     requires { ⌜ length (now w) ≡ siteWords ⌝ }
-    ensures { λ r. ⌜ ((t : SiteTable) → r ≡ siteOf (now (w .entry)) t .primary) ⌝ }
+    ensures { λ r. ⌜ ((ps : List ℕ) (t : SiteTable) → r ≡ siteOf ps (now (w .entry)) t .primary) ⌝ }
 {
     store_words::quarter(w[2], 0)
 }
 
 pub fn has_primary(w: &[u64]) -> bool
     requires { ⌜ length (now w) ≡ siteWords ⌝ }
-    ensures { λ r. ⌜ ((t : SiteTable) → r ≡ hasPrimary (siteOf (now (w .entry)) t)) ⌝ }
+    ensures { λ r. ⌜ ((ps : List ℕ) (t : SiteTable) → r ≡ hasPrimary (siteOf ps (now (w .entry)) t)) ⌝ }
 {
     let first = store_words::quarter(w[2], 0);
     let count = store_words::quarter(w[2], 16);
@@ -42,7 +66,7 @@ pub fn has_primary(w: &[u64]) -> bool
 
 pub fn role(w: &[u64], l: u16) -> Role
     requires { ⌜ length (now w) ≡ siteWords ⌝ }
-    ensures { λ r. ⌜ ((t : SiteTable) → r ≡ roleOf (siteOf (now (w .entry)) t) l) ⌝ }
+    ensures { λ r. ⌜ ((ps : List ℕ) (t : SiteTable) → r ≡ roleOf (siteOf ps (now (w .entry)) t) l) ⌝ }
 {
     if l == store_words::quarter(w[2], 0) {
         return Role::Primary;
@@ -53,7 +77,7 @@ pub fn role(w: &[u64], l: u16) -> Role
 // Number 2.
 pub fn no_link(w: &[u64], link: u32) -> bool
     requires { ⌜ length (now w) ≡ siteWords ⌝ }
-    ensures { λ r. ⌜ ((t : SiteTable) → r ≡ noLinkAt (siteOf (now (w .entry)) t) link) ⌝ }
+    ensures { λ r. ⌜ ((ps : List ℕ) (t : SiteTable) → r ≡ noLinkAt (siteOf ps (now (w .entry)) t) link) ⌝ }
 {
     let count = store_words::quarter(w[2], 16);
     if link < 4 {
@@ -65,7 +89,7 @@ pub fn no_link(w: &[u64], link: u32) -> bool
 // Number 5.
 pub fn bad_time(w: &[u64], time: u64) -> bool
     requires { ⌜ length (now w) ≡ siteWords ⌝ }
-    ensures { λ r. ⌜ ((t : SiteTable) → r ≡ badTimeAt (siteOf (now (w .entry)) t) time) ⌝ }
+    ensures { λ r. ⌜ ((ps : List ℕ) (t : SiteTable) → r ≡ badTimeAt (siteOf ps (now (w .entry)) t) time) ⌝ }
 {
     if time < w[1] {
         return true;
@@ -75,7 +99,7 @@ pub fn bad_time(w: &[u64], time: u64) -> bool
 
 pub fn aggregated(w: &[u64]) -> Aggregated
     requires { ⌜ length (now w) ≡ siteWords ⌝ }
-    ensures { λ r. ⌜ ((t : SiteTable) → r ≡ siteOf (now (w .entry)) t .aggregated) ⌝ }
+    ensures { λ r. ⌜ ((ps : List ℕ) (t : SiteTable) → r ≡ siteOf ps (now (w .entry)) t .aggregated) ⌝ }
 {
     Aggregated {
         time: w[3],

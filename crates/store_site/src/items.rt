@@ -1,4 +1,6 @@
-// An element of a list of the site by any number, for every site table t. Past the list: what stands for none, and no change.
+// An element of a list of the site by any number, for every pool ps and site table t. Past the list: what stands for none, and no change.
+ghost use Prim.Native.Nat.{ℕ};
+ghost use mathlib.Core.List.{List};
 ghost use mathlib.Core.Path.{_≡_};
 ghost use lib.ListN.{length};
 ghost use Rattle.link.specs.Phase.{phaseOf, isUp};
@@ -16,7 +18,7 @@ use subscription::Subscription;
 
 pub fn up(w: &[u64], l: u16) -> bool
     requires { ⌜ length (now w) ≡ siteWords ⌝ }
-    ensures { λ r. ⌜ ((t : SiteTable) → r ≡ isUp (phaseOf (linkAt (siteOf (now (w .entry)) t) l))) ⌝ }
+    ensures { λ r. ⌜ ((ps : List ℕ) (t : SiteTable) → r ≡ isUp (phaseOf (linkAt (siteOf ps (now (w .entry)) t) l))) ⌝ }
 {
     if l < 4 {
         return phases::up(w, l as usize);
@@ -26,7 +28,7 @@ pub fn up(w: &[u64], l: u16) -> bool
 
 pub fn subscription(w: &[u64], k: usize) -> Subscription
     requires { ⌜ length (now w) ≡ siteWords ⌝ }
-    ensures { λ r. ⌜ ((t : SiteTable) → r ≡ subscriptionAt (siteOf (now (w .entry)) t) k) ⌝ }
+    ensures { λ r. ⌜ ((ps : List ℕ) (t : SiteTable) → r ≡ subscriptionAt (siteOf ps (now (w .entry)) t) k) ⌝ }
 {
     if k < 128 {
         return parts::subscription(w, k);
@@ -46,7 +48,7 @@ pub fn put_subscription(w: &mut [u64], k: usize, x: Subscription)
 
 pub fn alarm(w: &[u64], k: usize) -> Alarm
     requires { ⌜ length (now w) ≡ siteWords ⌝ }
-    ensures { λ r. ⌜ ((t : SiteTable) → r ≡ alarmAt (siteOf (now (w .entry)) t) k) ⌝ }
+    ensures { λ r. ⌜ ((ps : List ℕ) (t : SiteTable) → r ≡ alarmAt (siteOf ps (now (w .entry)) t) k) ⌝ }
 {
     if k < 32 {
         return parts::alarm(w, k);
@@ -66,7 +68,7 @@ pub fn put_alarm(w: &mut [u64], k: usize, x: Alarm)
 
 pub fn status(w: &[u64], k: usize) -> Status
     requires { ⌜ length (now w) ≡ siteWords ⌝ }
-    ensures { λ r. ⌜ ((t : SiteTable) → r ≡ statusAt (siteOf (now (w .entry)) t) k) ⌝ }
+    ensures { λ r. ⌜ ((ps : List ℕ) (t : SiteTable) → r ≡ statusAt (siteOf ps (now (w .entry)) t) k) ⌝ }
 {
     if k < 32 {
         return parts::status(w, k);

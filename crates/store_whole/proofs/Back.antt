@@ -1,17 +1,18 @@
--- Words that stand for a site are that site's words, where what has happened on a link is 0 or 1.
+-- Words that stand for a pool are that pool's words; words that stand for a site are that site's, where what has happened on a link is 0 or 1.
 -- Assumes nothing.
-use Rattle.basis.proofs.Std.{_≡_, refl, sym, ap, ap₂, _∙_, ℕ, zero, suc, _+_, _*_, _^_, _<_, add-zero, div-eq-of-lt, arith, List, [], _∷_, _++_, length, bit}
+use Rattle.basis.proofs.Std.{_≡_, refl, sym, ap, ap₂, _∙_, ℕ, zero, suc, _+_, _*_, _^_, _<_, zero-add, add-zero, div-eq-of-lt, arith, List, [], _∷_, _++_, length, bit}
 use Rattle.bits.specs.Fields.{fieldOf, joined, split, total}
 use Rattle.bits.proofs.Fields.{joined-split}
 use Rattle.bits.proofs.Bytes.{number-bytes}
 use Rattle.table_whole.specs.declared.SiteTable.{SiteTable}
 use Rattle.store_words.specs.Words.{word, flag, elements}
 use Rattle.store_words.specs.Narrow.{upper, lower, pair, quad, identityFrom}
+use Rattle.store_words.proofs.Elements.{list-same}
 use Rattle.store_link.specs.Rows.{slotFrom, slotIn, awaitedIn, linkIn, PlainAt}
 use Rattle.store_site.specs.Rows.{placeFrom, placeIn, subscriptionFrom, subscriptionIn, alarmFrom, alarmIn, statusFrom, statusIn}
-use Rattle.store_site.specs.Layout.{lostIn, placesIn, linksIn, subscriptionsIn, alarmsIn, statusesIn, siteOf, siteWords}
+use Rattle.store_site.specs.Layout.{lostIn, placesIn, poolIn, linksIn, subscriptionsIn, alarmsIn, statusesIn, siteOf, poolWords, siteWords}
 use Rattle.store_site.specs.Turns.{Plain}
-use Rattle.store_whole.specs.Image.{flat, slotWords, linkHead, linkWords, placeWords, subscriptionWords, alarmWords, statusWords, headWords, wordsOf, Wide}
+use Rattle.store_whole.specs.Image.{flat, slotWords, linkHead, linkWords, placeWords, subscriptionWords, alarmWords, statusWords, headWords, poolWordsOf, wordsOf, Wide}
 use Rattle.store_whole.proofs.Spans.{span, span-append, span-whole, flat-span}
 
 -- a word is the one that its fields are joined to
@@ -91,60 +92,63 @@ module _ (ws : List ℕ) (wide : Wide ws) where
       ap₂ (λ (x y : List ℕ). x ++ y) (link-head-back i p) (rw (awaited-of i) (slots-back (i + 11)))
       ∙ span-append ws i 11 64 (i + 11) 75 refl refl
 
-  head-back : (t : SiteTable) → headWords (siteOf ws t) ≡ span ws 0 5
+  head-back : (ps : List ℕ) (t : SiteTable) → headWords (siteOf ps ws t) ≡ span ws 0 5
   unfolding headWords siteOf elements
-  head-back t = rw (joined-back (32 ∷ 16 ∷ 16 ∷ []) (word ws 2) (wide 2))
+  head-back ps t = rw (joined-back (1 ∷ 31 ∷ 16 ∷ 16 ∷ []) (word ws 2) (wide 2))
 
-  lost-back : lostIn ws ≡ span ws 5 4
+  lost-back : lostIn ws ≡ span ws 0 8
   unfolding lostIn
-  lost-back = refl
+  lost-back = list-same (λ (l : ℕ). word ws (0 + l)) (word ws) 8 (λ l h. ap (word ws) (sym (zero-add l)))
 
-  places-back : flat placeWords (placesIn ws) ≡ span ws 9 512
+  places-back : flat placeWords (placesIn ws) ≡ span ws 8 512
   unfolding placesIn
   places-back =
-      flat-span placeWords (λ (k : ℕ). placeIn ws (9 + 4 * k)) (λ (k : ℕ). 9 + 4 * k) (λ (n : ℕ). 4 * n) 4 128 ws
-      (λ k. omega arith) refl (λ n. omega arith) (λ k h. place-back (9 + 4 * k))
+      flat-span placeWords (λ (k : ℕ). placeIn ws (8 + 4 * k)) (λ (k : ℕ). 8 + 4 * k) (λ (n : ℕ). 4 * n) 4 128 ws
+      (λ k. omega arith) refl (λ n. omega arith) (λ k h. place-back (8 + 4 * k))
 
-  links-back : Plain ws → flat linkWords (linksIn ws) ≡ span ws 521 300
+  links-back : Plain ws → flat linkWords (linksIn ws) ≡ span ws 5 300
   unfolding linksIn
   links-back p =
-      flat-span linkWords (λ (k : ℕ). linkIn ws (521 + 75 * k)) (λ (k : ℕ). 521 + 75 * k) (λ (n : ℕ). 75 * n) 75 4 ws
-      (λ k. omega arith) refl (λ n. omega arith) (λ k h. link-back (521 + 75 * k) (p k h))
+      flat-span linkWords (λ (k : ℕ). linkIn ws (5 + 75 * k)) (λ (k : ℕ). 5 + 75 * k) (λ (n : ℕ). 75 * n) 75 4 ws
+      (λ k. omega arith) refl (λ n. omega arith) (λ k h. link-back (5 + 75 * k) (p k h))
 
-  subscriptions-back : flat subscriptionWords (subscriptionsIn ws) ≡ span ws 821 256
+  subscriptions-back : flat subscriptionWords (subscriptionsIn ws) ≡ span ws 305 256
   unfolding subscriptionsIn
   subscriptions-back =
-      flat-span subscriptionWords (λ (k : ℕ). subscriptionIn ws (821 + 2 * k)) (λ (k : ℕ). 821 + 2 * k) (λ (n : ℕ). 2 * n) 2 128 ws
-      (λ k. omega arith) refl (λ n. omega arith) (λ k h. subscription-back (821 + 2 * k))
+      flat-span subscriptionWords (λ (k : ℕ). subscriptionIn ws (305 + 2 * k)) (λ (k : ℕ). 305 + 2 * k) (λ (n : ℕ). 2 * n) 2 128 ws
+      (λ k. omega arith) refl (λ n. omega arith) (λ k h. subscription-back (305 + 2 * k))
 
-  alarms-back : flat alarmWords (alarmsIn ws) ≡ span ws 1077 64
+  alarms-back : flat alarmWords (alarmsIn ws) ≡ span ws 561 64
   unfolding alarmsIn
   alarms-back =
-      flat-span alarmWords (λ (k : ℕ). alarmIn ws (1077 + 2 * k)) (λ (k : ℕ). 1077 + 2 * k) (λ (n : ℕ). 2 * n) 2 32 ws
-      (λ k. omega arith) refl (λ n. omega arith) (λ k h. alarm-back (1077 + 2 * k))
+      flat-span alarmWords (λ (k : ℕ). alarmIn ws (561 + 2 * k)) (λ (k : ℕ). 561 + 2 * k) (λ (n : ℕ). 2 * n) 2 32 ws
+      (λ k. omega arith) refl (λ n. omega arith) (λ k h. alarm-back (561 + 2 * k))
 
-  statuses-back : flat statusWords (statusesIn ws) ≡ span ws 1141 32
+  statuses-back : flat statusWords (statusesIn ws) ≡ span ws 625 32
   unfolding statusesIn
   statuses-back =
-      flat-span statusWords (λ (k : ℕ). statusIn ws (1141 + k)) (λ (k : ℕ). 1141 + k) (λ (n : ℕ). n) 1 32 ws
-      (λ k. omega arith) refl (λ n. omega arith) (λ k h. status-back (1141 + k))
+      flat-span statusWords (λ (k : ℕ). statusIn ws (625 + k)) (λ (k : ℕ). 625 + k) (λ (n : ℕ). n) 1 32 ws
+      (λ k. omega arith) refl (λ n. omega arith) (λ k h. status-back (625 + k))
 
-  -- the seven parts, one behind the other
-  parts : span ws 0 5 ++ (span ws 5 4 ++ (span ws 9 512 ++ (span ws 521 300 ++ (span ws 821 256 ++ (span ws 1077 64 ++ span ws 1141 32))))) ≡ span ws 0 siteWords
+  -- the pool's two parts, and the site's five, one behind the other
+  two : poolWordsOf (poolIn ws) ≡ span ws 0 8 ++ span ws 8 512
+  unfolding poolWordsOf
+  two = rw (lost-back, places-back) refl
+
+  pub pool-back : length ws ≡ poolWords → poolWordsOf (poolIn ws) ≡ ws
+  pool-back e = two ∙ span-append ws 0 8 512 8 poolWords refl refl ∙ sym (span-whole ws poolWords e)
+
+  parts : span ws 0 5 ++ (span ws 5 300 ++ (span ws 305 256 ++ (span ws 561 64 ++ span ws 625 32))) ≡ span ws 0 siteWords
   parts =
       ap (λ (x : List ℕ). span ws 0 5 ++ x)
-      (ap (λ (x : List ℕ). span ws 5 4 ++ x)
-      (ap (λ (x : List ℕ). span ws 9 512 ++ x)
-      (ap (λ (x : List ℕ). span ws 521 300 ++ x)
-      (ap (λ (x : List ℕ). span ws 821 256 ++ x) (span-append ws 1077 64 32 1141 96 refl refl) ∙ span-append ws 821 256 96 1077 352 refl refl)
-      ∙ span-append ws 521 300 352 821 652 refl refl)
-      ∙ span-append ws 9 512 652 521 1164 refl refl)
-      ∙ span-append ws 5 4 1164 9 1168 refl refl)
-      ∙ span-append ws 0 5 1168 5 siteWords refl refl
+      (ap (λ (x : List ℕ). span ws 5 300 ++ x)
+      (ap (λ (x : List ℕ). span ws 305 256 ++ x) (span-append ws 561 64 32 625 96 refl refl) ∙ span-append ws 305 256 96 561 352 refl refl)
+      ∙ span-append ws 5 300 352 305 652 refl refl)
+      ∙ span-append ws 0 5 652 5 siteWords refl refl
 
-  six : (t : SiteTable) → Plain ws → wordsOf (siteOf ws t) ≡ span ws 0 5 ++ (span ws 5 4 ++ (span ws 9 512 ++ (span ws 521 300 ++ (span ws 821 256 ++ (span ws 1077 64 ++ span ws 1141 32)))))
+  five : (ps : List ℕ) (t : SiteTable) → Plain ws → wordsOf (siteOf ps ws t) ≡ span ws 0 5 ++ (span ws 5 300 ++ (span ws 305 256 ++ (span ws 561 64 ++ span ws 625 32)))
   unfolding wordsOf siteOf
-  six t p = rw (head-back t, lost-back, places-back, links-back p, subscriptions-back, alarms-back, statuses-back) refl
+  five ps t p = rw (head-back ps t, links-back p, subscriptions-back, alarms-back, statuses-back) refl
 
-  pub words-back : (t : SiteTable) → length ws ≡ siteWords → Plain ws → wordsOf (siteOf ws t) ≡ ws
-  words-back t e p = six t p ∙ parts ∙ sym (span-whole ws siteWords e)
+  pub words-back : (ps : List ℕ) (t : SiteTable) → length ws ≡ siteWords → Plain ws → wordsOf (siteOf ps ws t) ≡ ws
+  words-back ps t e p = five ps t p ∙ parts ∙ sym (span-whole ws siteWords e)

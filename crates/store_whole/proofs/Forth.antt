@@ -1,9 +1,7 @@
 -- A site is read back from its own words.
 -- Assumes nothing.
 use Rattle.basis.proofs.Std.{_≡_, refl, sym, ap, ap₂, subst, _∙_, ℕ, zero, suc, _+_, _-_, _*_, _%_, _^_, _<_, add-zero, mod-eq-of-lt, arith, List, [], _∷_, _++_, length, getD, take, drop, replicate, length-append, length-drop, length-take-le}
-use Rattle.bits.specs.Fields.{fieldOf, joined, split, total, numberOf}
-use Rattle.bits.specs.Fields.Within.{none, next}
-use Rattle.bits.proofs.Fields.{split-joined}
+use Rattle.bits.specs.Fields.{total, numberOf}
 use Rattle.bits.proofs.Bytes.{number-lt}
 use Rattle.identity.specs.declared.Identity.{Identity}
 use Rattle.awaited.specs.declared.Slot.{Slot}
@@ -11,6 +9,7 @@ use Rattle.awaited.specs.Slot.{freeSlot}
 use Rattle.link.specs.declared.Link.{Link}
 use Rattle.link.specs.Fields.{closedLink}
 use Rattle.pool.specs.declared.Place.{Place}
+use Rattle.pool.specs.declared.Pool.{Pool}
 use Rattle.pool.specs.Places.{noPlace}
 use Rattle.subscription.specs.declared.Subscription.{Subscription}
 use Rattle.subscription.specs.Subscription.{none as noSubscription}
@@ -22,16 +21,17 @@ use Rattle.site.specs.declared.Site.{Site}
 use Rattle.site.specs.Site.{linkAt}
 use Rattle.site.specs.Parts.{subscriptionAt, alarmAt, statusAt}
 use Rattle.store_words.specs.Words.{word, flag}
-use Rattle.store_words.specs.Narrow.{upper, identityFrom}
+use Rattle.store_words.specs.Narrow.{identityFrom}
 use Rattle.store_words.proofs.Elements.{list-is}
 use Rattle.store_words.proofs.Joined.{upper-pair, lower-pair, quad-0, quad-1, quad-2, quad-3, flag-bit, bit-small, halves}
 use Rattle.store_link.specs.Rows.{slotFrom, slotIn, awaitedIn, linkIn, PlainAt}
 use Rattle.store_site.specs.Rows.{placeFrom, placeIn, subscriptionFrom, subscriptionIn, alarmFrom, alarmIn, statusFrom, statusIn}
-use Rattle.store_site.specs.Layout.{lostIn, placesIn, linksIn, subscriptionsIn, alarmsIn, statusesIn, siteOf}
+use Rattle.store_site.specs.Layout.{lostIn, placesIn, poolIn, linksIn, subscriptionsIn, alarmsIn, statusesIn, siteOf}
 use Rattle.store_site.specs.Turns.{Plain}
-use Rattle.store_whole.specs.Image.{flat, slotWords, linkHead, linkWords, placeWords, subscriptionWords, alarmWords, statusWords, headWords, wordsOf}
-use Rattle.store_whole.specs.Range.{SlotFits, LinkFits, PlaceFits, SubscriptionFits, AlarmFits, StatusFits, InRange}
+use Rattle.store_whole.specs.Image.{flat, slotWords, linkHead, linkWords, placeWords, subscriptionWords, alarmWords, statusWords, headWords, poolWordsOf, wordsOf}
+use Rattle.store_whole.specs.Range.{SlotFits, LinkFits, PlaceFits, SubscriptionFits, AlarmFits, StatusFits, PoolInRange, InRange}
 use Rattle.store_whole.proofs.Spans.{skip, keep}
+use Rattle.store_whole.proofs.ListLaws.{four-0, four-1, four-2, four-3}
 
 -- element k of elements whose words stand one behind the other, at `at k`
 module _ {A : Type 0} (f : A → List ℕ) (at : ℕ → ℕ) (w : ℕ) (start : at 0 ≡ 0) (grow : (n : ℕ) → at (suc n) ≡ w + at n) (d : A) where
@@ -228,19 +228,37 @@ module _ (k : Link) (r : LinkFits k) where
     link-plain (suc (suc (suc (suc (suc (suc (suc zero))))))) g = rw (in-head 10 (omega arith)) (bit-small (k .aggregatedout))
     link-plain (suc (suc (suc (suc (suc (suc (suc (suc m)))))))) g = absurd (omega arith)
 
--- a word of three numbers, the first of 32 bits and two of 16
-module _ (a b c : ℕ) (f : a < 4294967296) (g : b < 65536) (h : c < 65536) where
-  all : split (32 ∷ 16 ∷ 16 ∷ []) (joined 0 (32 ∷ 16 ∷ 16 ∷ []) (a ∷ b ∷ c ∷ [])) ≡ a ∷ b ∷ c ∷ []
-  all = split-joined (next {k = 32} f (next {k = 16} g (next {k = 16} h none))) 0
+-- a pool within its fields' ranges is read back from its words
+module _ (p : Pool) (r : PoolInRange p) where
+  abbrev held : List ℕ
+  held = flat placeWords (p .places)
 
-  three-0 : upper (joined 0 (32 ∷ 16 ∷ 16 ∷ []) (a ∷ b ∷ c ∷ [])) ≡ a
-  three-0 = ap (λ (l : List ℕ). getD l 0 0) all
+  in-lost : (m : ℕ) → m < 8 → word (poolWordsOf p) m ≡ word (p .lost) m
+  unfolding poolWordsOf
+  in-lost m h = keep (p .lost) held m (omega (arith, r .lost))
 
-  three-1 : fieldOf (joined 0 (32 ∷ 16 ∷ 16 ∷ []) (a ∷ b ∷ c ∷ [])) 16 16 ≡ b
-  three-1 = ap (λ (l : List ℕ). getD l 1 0) all
+  behind-lost : (m : ℕ) → word (poolWordsOf p) (8 + m) ≡ word held m
+  unfolding poolWordsOf
+  behind-lost m = skip (p .lost) held 8 (8 + m) m (r .lost) refl
 
-  three-2 : fieldOf (joined 0 (32 ∷ 16 ∷ 16 ∷ []) (a ∷ b ∷ c ∷ [])) 0 16 ≡ c
-  three-2 = ap (λ (l : List ℕ). getD l 2 0) all
+  lost-forth : lostIn (poolWordsOf p) ≡ p .lost
+  unfolding lostIn
+  lost-forth = sym (list-is (word (poolWordsOf p)) 8 (p .lost) 0 (r .lost) (λ l h. sym (in-lost l h)))
+
+  places-forth : placesIn (poolWordsOf p) ≡ p .places
+  unfolding placesIn
+  places-forth =
+      sym (list-is (λ (k : ℕ). placeIn (poolWordsOf p) (8 + 4 * k)) 128 (p .places) noPlace (r .places)
+      (λ k h. sym (place-forth (poolWordsOf p) (8 + 4 * k) (getD (p .places) k noPlace) (r .place k h) (holds k h))))
+    where
+      holds : (k : ℕ) → k < 128 → Holds (poolWordsOf p) (8 + 4 * k) 4 (placeWords (getD (p .places) k noPlace))
+      holds k h j f =
+          let z : 8 + 4 * k + j ≡ 8 + (4 * k + j) = omega arith in
+          ap (word (poolWordsOf p)) z ∙ behind-lost (4 * k + j)
+          ∙ flat-at placeWords (λ (n : ℕ). 4 * n) 4 refl (λ n. omega arith) noPlace (p .places) (λ m q. place-long (getD (p .places) m noPlace)) k j (omega (arith, r .places)) f
+
+  pub pool-forth : poolIn (poolWordsOf p) ≡ p
+  pool-forth = rw (lost-forth, places-forth) refl
 
 head-long : (s : Site) → length (headWords s) ≡ 5
 unfolding headWords
@@ -249,9 +267,6 @@ head-long s = refl
 module _ (s : Site) (r : InRange s) where
   abbrev ws : List ℕ
   ws = wordsOf s
-
-  abbrev places : List ℕ
-  places = flat placeWords (s .pool .places)
 
   abbrev links : List ℕ
   links = flat linkWords (s .links)
@@ -271,9 +286,6 @@ module _ (s : Site) (r : InRange s) where
   abbrev four : List ℕ
   four = flat subscriptionWords (s .subscriptions) ++ (flat alarmWords (s .alarms) ++ flat statusWords (s .statuses))
 
-  places-long : length places ≡ 512
-  places-long = flat-length placeWords (λ (n : ℕ). 4 * n) 4 refl (λ n. omega arith) noPlace (s .pool .places) (λ j h. place-long (getD (s .pool .places) j noPlace)) ∙ ap (λ (n : ℕ). 4 * n) (r .places)
-
   links-fit : (j : ℕ) → j < length (s .links) → length (linkWords (linkAt s j)) ≡ 75
   links-fit j h = link-long (linkAt s j) (r .link j (omega (arith, r .links)))
 
@@ -286,127 +298,95 @@ module _ (s : Site) (r : InRange s) where
   alarms-long : length alarms ≡ 64
   alarms-long = flat-length alarmWords (λ (n : ℕ). 2 * n) 2 refl (λ n. omega arith) (beginning 0) (s .alarms) (λ j h. alarm-long (alarmAt s j)) ∙ ap (λ (n : ℕ). 2 * n) (r .alarms)
 
-  -- behind the head, the counts, the places, ..
+  -- behind the head, the links, ..
   in-first : (m : ℕ) → m < 5 → word ws m ≡ word (headWords s) m
   unfolding wordsOf
-  in-first m h = keep (headWords s) (s .pool .lost ++ (places ++ (links ++ four))) m (omega (arith, head-long s))
+  in-first m h = keep (headWords s) (links ++ four) m (omega (arith, head-long s))
 
-  behind-head : (m : ℕ) → word ws (5 + m) ≡ word (s .pool .lost ++ (places ++ (links ++ four))) m
+  behind-head : (m : ℕ) → word ws (5 + m) ≡ word (links ++ four) m
   unfolding wordsOf
-  behind-head m = skip (headWords s) (s .pool .lost ++ (places ++ (links ++ four))) 5 (5 + m) m (head-long s) refl
+  behind-head m = skip (headWords s) (links ++ four) 5 (5 + m) m (head-long s) refl
 
-  in-lost : (m : ℕ) → m < 4 → word ws (5 + m) ≡ word (s .pool .lost) m
-  in-lost m h = behind-head m ∙ keep (s .pool .lost) (places ++ (links ++ four)) m (omega (arith, r .lost))
+  in-links : (m : ℕ) → m < 300 → word ws (5 + m) ≡ word links m
+  in-links m h = behind-head m ∙ keep links four m (omega (arith, links-long))
 
-  behind-lost : (m : ℕ) → word ws (9 + m) ≡ word (places ++ (links ++ four)) m
-  behind-lost m =
-      let z : 9 + m ≡ 5 + (4 + m) = omega arith in
-      ap (word ws) z ∙ behind-head (4 + m) ∙ skip (s .pool .lost) (places ++ (links ++ four)) 4 (4 + m) m (r .lost) refl
-
-  in-places : (m : ℕ) → m < 512 → word ws (9 + m) ≡ word places m
-  in-places m h = behind-lost m ∙ keep places (links ++ four) m (omega (arith, places-long))
-
-  behind-places : (m : ℕ) → word ws (521 + m) ≡ word (links ++ four) m
-  behind-places m =
-      let z : 521 + m ≡ 9 + (512 + m) = omega arith in
-      ap (word ws) z ∙ behind-lost (512 + m) ∙ skip places (links ++ four) 512 (512 + m) m places-long refl
-
-  in-links : (m : ℕ) → m < 300 → word ws (521 + m) ≡ word links m
-  in-links m h = behind-places m ∙ keep links four m (omega (arith, links-long))
-
-  behind-links : (m : ℕ) → word ws (821 + m) ≡ word four m
+  behind-links : (m : ℕ) → word ws (305 + m) ≡ word four m
   behind-links m =
-      let z : 821 + m ≡ 521 + (300 + m) = omega arith in
-      ap (word ws) z ∙ behind-places (300 + m) ∙ skip links four 300 (300 + m) m links-long refl
+      let z : 305 + m ≡ 5 + (300 + m) = omega arith in
+      ap (word ws) z ∙ behind-head (300 + m) ∙ skip links four 300 (300 + m) m links-long refl
 
-  in-subscriptions : (m : ℕ) → m < 256 → word ws (821 + m) ≡ word subscriptions m
+  in-subscriptions : (m : ℕ) → m < 256 → word ws (305 + m) ≡ word subscriptions m
   in-subscriptions m h = behind-links m ∙ keep subscriptions five m (omega (arith, subscriptions-long))
 
-  behind-subscriptions : (m : ℕ) → word ws (1077 + m) ≡ word five m
+  behind-subscriptions : (m : ℕ) → word ws (561 + m) ≡ word five m
   behind-subscriptions m =
-      let z : 1077 + m ≡ 821 + (256 + m) = omega arith in
+      let z : 561 + m ≡ 305 + (256 + m) = omega arith in
       ap (word ws) z ∙ behind-links (256 + m) ∙ skip subscriptions five 256 (256 + m) m subscriptions-long refl
 
-  in-alarms : (m : ℕ) → m < 64 → word ws (1077 + m) ≡ word alarms m
+  in-alarms : (m : ℕ) → m < 64 → word ws (561 + m) ≡ word alarms m
   in-alarms m h = behind-subscriptions m ∙ keep alarms statuses m (omega (arith, alarms-long))
 
-  in-statuses : (m : ℕ) → word ws (1141 + m) ≡ word statuses m
+  in-statuses : (m : ℕ) → word ws (625 + m) ≡ word statuses m
   in-statuses m =
-      let z : 1141 + m ≡ 1077 + (64 + m) = omega arith in
+      let z : 625 + m ≡ 561 + (64 + m) = omega arith in
       ap (word ws) z ∙ behind-subscriptions (64 + m) ∙ skip alarms statuses 64 (64 + m) m alarms-long refl
 
   -- each part read back
-  lost-forth : lostIn ws ≡ s .pool .lost
-  unfolding lostIn
-  lost-forth = sym (list-is (λ (l : ℕ). word ws (5 + l)) 4 (s .pool .lost) 0 (r .lost) (λ l h. sym (in-lost l h)))
-
-  places-forth : placesIn ws ≡ s .pool .places
-  unfolding placesIn
-  places-forth =
-      sym (list-is (λ (k : ℕ). placeIn ws (9 + 4 * k)) 128 (s .pool .places) noPlace (r .places)
-      (λ k h. sym (place-forth ws (9 + 4 * k) (getD (s .pool .places) k noPlace) (r .place k h) (holds k h))))
-    where
-      holds : (k : ℕ) → k < 128 → Holds ws (9 + 4 * k) 4 (placeWords (getD (s .pool .places) k noPlace))
-      holds k h j f =
-          let z : 9 + 4 * k + j ≡ 9 + (4 * k + j) = omega arith in
-          ap (word ws) z ∙ in-places (4 * k + j) (omega arith)
-          ∙ flat-at placeWords (λ (n : ℕ). 4 * n) 4 refl (λ n. omega arith) noPlace (s .pool .places) (λ m p. place-long (getD (s .pool .places) m noPlace)) k j (omega (arith, r .places)) f
-
-  link-holds : (k : ℕ) → k < 4 → Holds ws (521 + 75 * k) 75 (linkWords (linkAt s k))
+  link-holds : (k : ℕ) → k < 4 → Holds ws (5 + 75 * k) 75 (linkWords (linkAt s k))
   link-holds k h j f =
-      let z : 521 + 75 * k + j ≡ 521 + (75 * k + j) = omega arith in
+      let z : 5 + 75 * k + j ≡ 5 + (75 * k + j) = omega arith in
       ap (word ws) z ∙ in-links (75 * k + j) (omega arith)
       ∙ flat-at linkWords (λ (n : ℕ). 75 * n) 75 refl (λ n. omega arith) closedLink (s .links) links-fit k j (omega (arith, r .links)) f
 
   links-forth : linksIn ws ≡ s .links
   unfolding linksIn
   links-forth =
-      sym (list-is (λ (k : ℕ). linkIn ws (521 + 75 * k)) 4 (s .links) closedLink (r .links)
-      (λ k h. sym (link-forth (linkAt s k) (r .link k h) ws (521 + 75 * k) (link-holds k h))))
+      sym (list-is (λ (k : ℕ). linkIn ws (5 + 75 * k)) 4 (s .links) closedLink (r .links)
+      (λ k h. sym (link-forth (linkAt s k) (r .link k h) ws (5 + 75 * k) (link-holds k h))))
 
   subscriptions-forth : subscriptionsIn ws ≡ s .subscriptions
   unfolding subscriptionsIn
   subscriptions-forth =
-      sym (list-is (λ (k : ℕ). subscriptionIn ws (821 + 2 * k)) 128 (s .subscriptions) noSubscription (r .subscriptions)
-      (λ k h. sym (subscription-forth ws (821 + 2 * k) (subscriptionAt s k) (r .subscription k h) (holds k h))))
+      sym (list-is (λ (k : ℕ). subscriptionIn ws (305 + 2 * k)) 128 (s .subscriptions) noSubscription (r .subscriptions)
+      (λ k h. sym (subscription-forth ws (305 + 2 * k) (subscriptionAt s k) (r .subscription k h) (holds k h))))
     where
-      holds : (k : ℕ) → k < 128 → Holds ws (821 + 2 * k) 2 (subscriptionWords (subscriptionAt s k))
+      holds : (k : ℕ) → k < 128 → Holds ws (305 + 2 * k) 2 (subscriptionWords (subscriptionAt s k))
       holds k h j f =
-          let z : 821 + 2 * k + j ≡ 821 + (2 * k + j) = omega arith in
+          let z : 305 + 2 * k + j ≡ 305 + (2 * k + j) = omega arith in
           ap (word ws) z ∙ in-subscriptions (2 * k + j) (omega arith)
           ∙ flat-at subscriptionWords (λ (n : ℕ). 2 * n) 2 refl (λ n. omega arith) noSubscription (s .subscriptions) (λ m p. subscription-long (subscriptionAt s m)) k j (omega (arith, r .subscriptions)) f
 
   alarms-forth : alarmsIn ws ≡ s .alarms
   unfolding alarmsIn
   alarms-forth =
-      sym (list-is (λ (k : ℕ). alarmIn ws (1077 + 2 * k)) 32 (s .alarms) (beginning 0) (r .alarms)
-      (λ k h. sym (alarm-forth ws (1077 + 2 * k) (alarmAt s k) (r .alarm k h) (holds k h))))
+      sym (list-is (λ (k : ℕ). alarmIn ws (561 + 2 * k)) 32 (s .alarms) (beginning 0) (r .alarms)
+      (λ k h. sym (alarm-forth ws (561 + 2 * k) (alarmAt s k) (r .alarm k h) (holds k h))))
     where
-      holds : (k : ℕ) → k < 32 → Holds ws (1077 + 2 * k) 2 (alarmWords (alarmAt s k))
+      holds : (k : ℕ) → k < 32 → Holds ws (561 + 2 * k) 2 (alarmWords (alarmAt s k))
       holds k h j f =
-          let z : 1077 + 2 * k + j ≡ 1077 + (2 * k + j) = omega arith in
+          let z : 561 + 2 * k + j ≡ 561 + (2 * k + j) = omega arith in
           ap (word ws) z ∙ in-alarms (2 * k + j) (omega arith)
           ∙ flat-at alarmWords (λ (n : ℕ). 2 * n) 2 refl (λ n. omega arith) (beginning 0) (s .alarms) (λ m p. alarm-long (alarmAt s m)) k j (omega (arith, r .alarms)) f
 
   statuses-forth : statusesIn ws ≡ s .statuses
   unfolding statusesIn
   statuses-forth =
-      sym (list-is (λ (k : ℕ). statusIn ws (1141 + k)) 32 (s .statuses) unknown (r .statuses)
-      (λ k h. sym (status-forth ws (1141 + k) (statusAt s k) (r .status k h) (holds k h))))
+      sym (list-is (λ (k : ℕ). statusIn ws (625 + k)) 32 (s .statuses) unknown (r .statuses)
+      (λ k h. sym (status-forth ws (625 + k) (statusAt s k) (r .status k h) (holds k h))))
     where
-      holds : (k : ℕ) → k < 32 → Holds ws (1141 + k) 1 (statusWords (statusAt s k))
+      holds : (k : ℕ) → k < 32 → Holds ws (625 + k) 1 (statusWords (statusAt s k))
       holds k h j f =
-          let z : 1141 + k + j ≡ 1141 + (k + j) = omega arith in
+          let z : 625 + k + j ≡ 625 + (k + j) = omega arith in
           ap (word ws) z ∙ in-statuses (k + j)
           ∙ flat-at statusWords (λ (n : ℕ). n) 1 refl (λ n. omega arith) unknown (s .statuses) (λ m p. status-long (statusAt s m)) k j (omega (arith, r .statuses)) f
 
-  -- every site within its fields' ranges is read back from its own words
-  pub site-forth : siteOf ws (s .table) ≡ s
+  -- every site within its fields' ranges is read back from its own words and its pool's
+  pub site-forth : (ps : List ℕ) → poolIn ps ≡ s .pool → siteOf ps ws (s .table) ≡ s
   unfolding siteOf headWords
-  site-forth =
+  site-forth ps e =
       rw (
-        lost-forth,
-        places-forth,
+        ap (λ (p : Pool). p .places) e,
+        ap (λ (p : Pool). p .lost) e,
         links-forth,
         subscriptions-forth,
         alarms-forth,
@@ -416,10 +396,11 @@ module _ (s : Site) (r : InRange s) where
         in-first 2 (omega arith),
         in-first 3 (omega arith),
         in-first 4 (omega arith),
-        three-0 (s .period) (s .linkcount) (s .primary) (r .period) (r .linkcount) (r .primary),
-        three-1 (s .period) (s .linkcount) (s .primary) (r .period) (r .linkcount) (r .primary),
-        three-2 (s .period) (s .linkcount) (s .primary) (r .period) (r .linkcount) (r .primary),
+        four-0 (s .site) (s .period) (s .linkcount) (s .primary) (r .site) (r .period) (r .linkcount) (r .primary),
+        four-1 (s .site) (s .period) (s .linkcount) (s .primary) (r .site) (r .period) (r .linkcount) (r .primary),
+        four-2 (s .site) (s .period) (s .linkcount) (s .primary) (r .site) (r .period) (r .linkcount) (r .primary),
+        four-3 (s .site) (s .period) (s .linkcount) (s .primary) (r .site) (r .period) (r .linkcount) (r .primary),
       )
 
   pub plain-forth : Plain ws
-  plain-forth k h = link-plain (linkAt s k) (r .link k h) ws (521 + 75 * k) (link-holds k h)
+  plain-forth k h = link-plain (linkAt s k) (r .link k h) ws (5 + 75 * k) (link-holds k h)

@@ -8,6 +8,7 @@ use Rattle.bits.specs.Fields.{joined, numberOf}
 use Rattle.awaited.specs.declared.Slot.{Slot}
 use Rattle.link.specs.declared.Link.{Link}
 use Rattle.pool.specs.declared.Place.{Place}
+use Rattle.pool.specs.declared.Pool.{Pool}
 use Rattle.subscription.specs.declared.Subscription.{Subscription}
 use Rattle.alarm.specs.declared.Alarm.{Alarm}
 use Rattle.status.specs.declared.Status.{Status}
@@ -63,20 +64,22 @@ unfoldable pub headWords : Site → List ℕ
 headWords s =
     s .next
     ∷ s .last
-    ∷ joined 0 (32 ∷ 16 ∷ 16 ∷ []) (s .period ∷ s .linkcount ∷ s .primary ∷ [])
+    ∷ joined 0 (1 ∷ 31 ∷ 16 ∷ 16 ∷ []) (s .site ∷ s .period ∷ s .linkcount ∷ s .primary ∷ [])
     ∷ s .aggregated .time
     ∷ s .aggregated .value
     ∷ []
 
+-- the pool's words, and the site's own
+unfoldable pub poolWordsOf : Pool → List ℕ
+poolWordsOf p = p .lost ++ flat placeWords (p .places)
+
 unfoldable pub wordsOf : Site → List ℕ
 wordsOf s =
     headWords s
-    ++ (s .pool .lost
-    ++ (flat placeWords (s .pool .places)
     ++ (flat linkWords (s .links)
     ++ (flat subscriptionWords (s .subscriptions)
     ++ (flat alarmWords (s .alarms)
-    ++ flat statusWords (s .statuses))))))
+    ++ flat statusWords (s .statuses))))
 
 -- each is a word of 64 bits
 abbrev pub Wide : List ℕ → Type 0

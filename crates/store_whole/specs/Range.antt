@@ -7,6 +7,7 @@ use Rattle.awaited.specs.declared.Slot.{Slot}
 use Rattle.awaited.specs.Slot.{freeSlot}
 use Rattle.link.specs.declared.Link.{Link}
 use Rattle.pool.specs.declared.Place.{Place}
+use Rattle.pool.specs.declared.Pool.{Pool}
 use Rattle.pool.specs.Places.{noPlace}
 use Rattle.subscription.specs.declared.Subscription.{Subscription}
 use Rattle.alarm.specs.declared.Alarm.{Alarm}
@@ -51,17 +52,21 @@ pub record StatusFits (x : Status) : Type 0 where
   pub value : x .value < 4294967296
   pub known : x .known < 4294967296
 
+pub record PoolInRange (p : Pool) : Type 0 where
+  pub lost : length (p .lost) ≡ 8
+  pub places : length (p .places) ≡ 128
+  pub place : (k : ℕ) → k < 128 → PlaceFits (getD (p .places) k noPlace)
+
+-- all but its pool
 pub record InRange (s : Site) : Type 0 where
-  pub period : s .period < 4294967296
+  pub site : s .site < 2
+  pub period : s .period < 2147483648
   pub linkcount : s .linkcount < 65536
   pub primary : s .primary < 65536
-  pub lost : length (s .pool .lost) ≡ 4
-  pub places : length (s .pool .places) ≡ 128
   pub links : length (s .links) ≡ 4
   pub subscriptions : length (s .subscriptions) ≡ 128
   pub alarms : length (s .alarms) ≡ 32
   pub statuses : length (s .statuses) ≡ 32
-  pub place : (k : ℕ) → k < 128 → PlaceFits (getD (s .pool .places) k noPlace)
   pub link : (k : ℕ) → k < 4 → LinkFits (linkAt s k)
   pub subscription : (k : ℕ) → k < 128 → SubscriptionFits (subscriptionAt s k)
   pub alarm : (k : ℕ) → k < 32 → AlarmFits (alarmAt s k)

@@ -1,12 +1,11 @@
-// Each list of the site: the pool's by value, the others filled with one element.
-ghost use mathlib.Core.List.{[], _∷_};
+// Each list of the site filled with one element; the pool's by value, in its own words.
 ghost use mathlib.Core.Path.{_≡_};
 ghost use lib.ListN.{length, replicate};
 ghost use Rattle.site.specs.declared.Site.{Site};
 ghost use Rattle.site.specs.Site.{withSubscriptions, withAlarms, withStatuses};
 ghost use Rattle.store_site.specs.Turns.{Turns};
-ghost use Rattle.store_whole.specs.Filled.{withPlaces, withLost, PutLinks};
-ghost use Rattle.store_site.specs.Layout.{siteWords};
+ghost use Rattle.store_whole.specs.Filled.{PutLinks, PutLost};
+ghost use Rattle.store_site.specs.Layout.{placesIn, poolWords, siteWords};
 use alarm::Alarm;
 use link::Link;
 use pool::Place;
@@ -14,8 +13,8 @@ use status::Status;
 use subscription::Subscription;
 
 pub fn put_places(w: &mut [u64], places: [Place; 128])
-    requires { ⌜ length (now w) ≡ siteWords ⌝ }
-    ensures { λ _. ⌜ Turns (λ (s : Site). withPlaces s places) (now (w .entry)) (now (w .exit)) ⌝ }
+    requires { ⌜ length (now w) ≡ poolWords ⌝ }
+    ensures { λ _. ⌜ placesIn (now (w .exit)) ≡ places ⌝ }
 {
     let mut k: usize = 0;
     while k < 128 {
@@ -24,21 +23,15 @@ pub fn put_places(w: &mut [u64], places: [Place; 128])
     }
 }
 
-fn put_four(w: &mut [u64], a: u64, b: u64, c: u64, d: u64)
-    requires { ⌜ length (now w) ≡ siteWords ⌝ }
-    ensures { λ _. ⌜ Turns (λ (s : Site). withLost s (a ∷ b ∷ c ∷ d ∷ [])) (now (w .entry)) (now (w .exit)) ⌝ }
+pub fn put_lost(w: &mut [u64], lost: [u64; 8])
+    requires { ⌜ length (now w) ≡ poolWords ⌝ }
+    ensures { λ _. ⌜ PutLost (now (w .entry)) (now (w .exit)) lost ⌝ }
 {
-    w[5] = a;
-    w[6] = b;
-    w[7] = c;
-    w[8] = d;
-}
-
-pub fn put_lost(w: &mut [u64], lost: [u64; 4])
-    requires { ⌜ length (now w) ≡ siteWords ⌝ }
-    ensures { λ _. ⌜ Turns (λ (s : Site). withLost s lost) (now (w .entry)) (now (w .exit)) ⌝ }
-{
-    put_four(w, lost[0], lost[1], lost[2], lost[3]);
+    let mut k: usize = 0;
+    while k < 8 {
+        w[k] = lost[k];
+        k += 1;
+    }
 }
 
 pub fn fill_links(w: &mut [u64], x: Link)
@@ -47,7 +40,7 @@ pub fn fill_links(w: &mut [u64], x: Link)
 {
     let mut k: usize = 0;
     while k < 4 {
-        store_link::links::put_link_at(w, 521 + 75 * k, x);
+        store_link::links::put_link_at(w, 5 + 75 * k, x);
         k += 1;
     }
 }

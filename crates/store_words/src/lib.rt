@@ -25,6 +25,19 @@ pub fn quarter(x: u64, shift: u32) -> u16
     bits::field(x, shift, 16) as u16
 }
 
+// The highest bit, and the 31 behind it.
+pub fn top(x: u64) -> u16
+    ensures { λ r. ⌜ r ≡ fieldOf x 63 1 ⌝ }
+{
+    bits::field(x, 63, 1) as u16
+}
+
+pub fn below_top(x: u64) -> u32
+    ensures { λ r. ⌜ r ≡ fieldOf x 32 31 ⌝ }
+{
+    bits::field(x, 32, 31) as u32
+}
+
 pub fn pair(a: u32, b: u32) -> u64
     ensures { λ r. ⌜ r ≡ pairOf a b ⌝ }
 {

@@ -11,17 +11,17 @@ use Rattle.call_input.proofs.aggregated.Tie as tie
 
 returns : tie.Need-returns
 returns c =
-    let a = c .before .before .before .before .args in
+    let a = c .before .before .before .before .before .args in
     λ t.
-    let s = siteOf (a .w .now) t in
-    steps-refused t (a .w .now) BadTime (late s (a .time) (aggregatedPlan s (a .value) (a .time)) (sym (c .before .bad-time .ensures t) ∙ c .if1 .taken))
+    let s = siteOf (a .p .now) (a .w .now) t in
+    steps-refused t (a .p .now) (a .w .now) BadTime (late s (a .time) (aggregatedPlan s (a .value) (a .time)) (sym (c .before .bad-time .ensures (a .p .now) t) ∙ c .if1 .taken))
 
 returns-2 : tie.Need-returns-2
 returns-2 c =
-    let a = c .before .before .before .before .before .before .before .before .args in
+    let a = c .before .before .before .before .before .before .before .before .before .before .before .before .args in
     λ t.
-    let s = siteOf (a .w .now) t in
-    steps-as t (a .w .now) (c .before .before .aggregated .ensures t) (on-time s (a .time) (aggregatedPlan s (a .value) (a .time)) (sym (c .before .before .before .before .before .bad-time .ensures t) ∙ c .before .before .before .before .if1 .left))
+    let s = siteOf (a .p .now) (a .w .now) t in
+    steps-as t (a .p .now) (a .w .now) (c .before .before .before .before .aggregated .ensures t) (on-time s (a .time) (aggregatedPlan s (a .value) (a .time)) (sym (c .before .before .before .before .before .before .before .before .bad-time .ensures (a .p .now) t) ∙ c .before .before .before .before .before .before .before .if1 .left))
 
 pub aggregated-spec : {M : Type 1} → statement M
-aggregated-spec = tie.close (tie.spec (λ c κs. search needs) (λ c. search needs) returns (λ c κs. search needs) (λ c. search needs) returns-2)
+aggregated-spec = tie.close (tie.spec (λ c κs. search needs) (λ c. search needs) returns (λ c κs. search needs) (λ c. search needs) (λ c. search needs) returns-2)

@@ -11,7 +11,7 @@ returns c =
     let put = c .before .before .before .before .before .before .put-link in
     let last = c .before .before .put-last in
     record {
-      site = λ t. last .ensures .site t ∙ rw (← c .before .before .before .before .before .before .before .before .before .link .ensures t, ← c .before .before .before .before .before .before .before .connect .ensures) (ap (λ (s : Site). withLast s (c .before .before .before .before .before .before .before .before .before .before .before .before .args .time)) (put .ensures .site t));
+      site = λ ps t. last .ensures .site ps t ∙ rw (← c .before .before .before .before .before .before .before .before .before .link .ensures ps t, ← c .before .before .before .before .before .before .before .connect .ensures) (ap (λ (s : Site). withLast s (c .before .before .before .before .before .before .before .before .before .before .before .before .args .time)) (put .ensures .site ps t));
       plain = λ p. last .ensures .plain (put .ensures .plain p);
     }
 

@@ -7,25 +7,25 @@ use Rattle.packet_alarm.proofs.reply_alarm.Statement.{statement}
 use Rattle.packet_alarm.proofs.reply_alarm.Tie as tie
 
 returns : tie.Need-returns
-returns c =
+returns c ps =
     let a = c .before .before .before .before .before .before .before .before .before .before .before .before .before .before .args in
     let t = tableOf (a .t .now) in
     let ws = a .w .now in
-    is-busy t ws (a .q) (alarmMessage (siteOf ws t) (a .q .identity .bytes) (a .k)) (sym (c .before .before .before .before .before .before .before .before .is-busy .ensures t) ∙ c .before .before .before .before .before .before .before .if1 .taken) (c .before .before .before .before .not-ack .ensures t)
+    is-busy t ps ws (a .q) (alarmMessage (siteOf ps ws t) (a .q .identity .bytes) (a .k)) (sym (c .before .before .before .before .before .before .before .before .is-busy .ensures ps t) ∙ c .before .before .before .before .before .before .before .if1 .taken) (c .before .before .before .before .not-ack .ensures ps t)
 
 returns-2 : tie.Need-returns-2
-returns-2 c =
+returns-2 c ps =
     let a = c .before .before .before .before .before .before .before .before .before .before .args in
     let t = tableOf (a .t .now) in
     let ws = a .w .now in
-    is-awaited t ws (a .q) (alarmMessage (siteOf ws t) (a .q .identity .bytes) (a .k)) (sym (c .before .before .before .before .is-busy .ensures t) ∙ c .before .before .before .if1 .left) (sym (c .before .is-awaited .ensures t) ∙ c .if2 .taken) refl
+    is-awaited t ps ws (a .q) (alarmMessage (siteOf ps ws t) (a .q .identity .bytes) (a .k)) (sym (c .before .before .before .before .is-busy .ensures ps t) ∙ c .before .before .before .if1 .left) (sym (c .before .is-awaited .ensures ps t) ∙ c .if2 .taken) refl
 
 returns-3 : tie.Need-returns-3
-returns-3 c =
+returns-3 c ps =
     let a = c .before .before .before .before .before .before .before .before .before .before .before .before .before .before .before .before .before .before .before .args in
     let t = tableOf (a .t .now) in
     let ws = a .w .now in
-    is-sent t ws (a .q) (alarmMessage (siteOf ws t) (a .q .identity .bytes) (a .k)) (sym (c .before .before .before .before .before .before .before .before .before .before .before .before .before .is-busy .ensures t) ∙ c .before .before .before .before .before .before .before .before .before .before .before .before .if1 .left) (sym (c .before .before .before .before .before .before .before .before .before .before .is-awaited .ensures t) ∙ c .before .before .before .before .before .before .before .before .before .if2 .left) (c .before .before .before .before .before .before .answer-and-alarm .ensures) (c .before .before .reply-done .ensures .0) (c .before .before .reply-done .ensures .1)
+    is-sent t ps ws (a .q) (alarmMessage (siteOf ps ws t) (a .q .identity .bytes) (a .k)) (sym (c .before .before .before .before .before .before .before .before .before .before .before .before .before .is-busy .ensures ps t) ∙ c .before .before .before .before .before .before .before .before .before .before .before .before .if1 .left) (sym (c .before .before .before .before .before .before .before .before .before .before .is-awaited .ensures ps t) ∙ c .before .before .before .before .before .before .before .before .before .if2 .left) (c .before .before .before .before .before .before .answer-and-alarm .ensures ps) (c .before .before .reply-done .ensures .0) (c .before .before .reply-done .ensures .1)
 
 pub reply-alarm-spec : {M : Type 1} → statement M
 reply-alarm-spec = tie.close (tie.spec (λ c κs. search needs) (λ c κs. search needs) (λ c. search needs) (λ c. search needs) returns (λ c κs. search needs)

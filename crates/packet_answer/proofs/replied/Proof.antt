@@ -12,7 +12,7 @@ returns c =
     let put = c .before .before .before .before .before .before .put-link .ensures in
     let last = c .before .before .put-last .ensures in
     record {
-      site = λ t. last .site t ∙ rw (← c .before .before .before .before .before .before .before .before .before .link .ensures t, ← c .before .before .before .before .before .before .before .other-out .ensures) (ap (λ (s : Site). withLast s (a .q .time)) (put .site t));
+      site = λ ps t. last .site ps t ∙ rw (← c .before .before .before .before .before .before .before .before .before .link .ensures ps t, ← c .before .before .before .before .before .before .before .other-out .ensures) (ap (λ (s : Site). withLast s (a .q .time)) (put .site ps t));
       plain = λ p. last .plain (put .plain p);
     }
 

@@ -8,7 +8,7 @@ returns : tie.Need-returns
 returns c =
     let put = c .before .before .put-link .ensures in
     record {
-      site = λ t. rw (← c .before .before .before .before .before .link .ensures t, ← c .before .before .before .version-accepted .ensures) (put .site t);
+      site = λ ps t. rw (← c .before .before .before .before .before .link .ensures ps t, ← c .before .before .before .version-accepted .ensures) (put .site ps t);
       plain = put .plain;
     }
 

@@ -7,7 +7,7 @@ use Rattle.run_pool.proofs.main.Statement.{statement}
 use Rattle.run_pool.proofs.main.Tie as tie
 
 abbrev Inv-loop : tie.InvT-loop
-Inv-loop w₀ more₀ turns₀ w more turns = length w ≡ 1173
+Inv-loop w₀ more₀ turns₀ w more turns = length w ≡ 520
 
 abbrev μ-loop : tie.MeasureT-loop
 μ-loop w₀ more₀ turns₀ w more turns = turns

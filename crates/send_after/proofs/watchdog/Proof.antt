@@ -6,7 +6,7 @@ use Rattle.send_after.proofs.watchdog.Statement.{statement}
 use Rattle.send_after.proofs.watchdog.Tie as tie
 
 returns : tie.Need-returns
-returns c = turns-as (c .before .before .put-link .ensures) (λ t. rw (c .before .before .before .watchdog-out .ensures, c .before .before .before .before .before .link .ensures t) refl)
+returns c = turns-as (c .before .before .put-link .ensures) (λ ps t. rw (c .before .before .before .watchdog-out .ensures, c .before .before .before .before .before .link .ensures ps t) refl)
 
 pub watchdog-spec : {M : Type 1} → statement M
 watchdog-spec = tie.close (tie.spec (λ c κs. search needs) (λ c κs. search needs) (λ c κs. search needs) (λ c. search needs) returns)

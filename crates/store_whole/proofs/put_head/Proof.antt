@@ -9,7 +9,7 @@ returns : tie.Need-returns
 returns c =
     let s = c .before .before in
     let a = s .args in
-    head-turns (a .w .now) (a .next) (a .last) (a .period) (a .links) (a .primary) (a .changed) (search needs) (search needs) (search needs) (search needs) (c .numbers .ensures)
+    head-turns (a .w .now) (a .next) (a .last) (a .site) (a .period) (a .links) (a .primary) (a .changed) (search needs) (search needs) (search needs) (search needs) (search needs) (c .numbers .ensures)
 
 pub put-head-spec : {M : Type 1} → statement M
 put-head-spec = tie.close (tie.spec (λ c κs. search needs) (λ c. search needs) (λ c. search needs) (λ c. search needs) (λ c. search needs)

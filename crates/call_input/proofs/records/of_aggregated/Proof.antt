@@ -7,10 +7,14 @@ use Rattle.call_input.proofs.records.of_aggregated.Statement.{statement
 use Rattle.call_input.proofs.records.of_aggregated.Tie as tie
 
 returns : tie.Need-returns
-returns c = λ t. c .link-count .ensures t ∙ one-each (c .before .before .before .args .x) (c .before .if1 .taken) (siteOf (c .before .before .before .args .w .now) t .linkcount)
+returns c =
+    let a = c .before .before .before .args in
+    λ ps t. c .link-count .ensures ps t ∙ one-each (a .x) (siteOf ps (a .w .now) t) (c .before .if1 .taken) (siteOf ps (a .w .now) t .linkcount)
 
 returns-2 : tie.Need-returns-2
-returns-2 c = λ t. none-at-all (c .before .before .args .x) (c .if1 .left) (siteOf (c .before .before .args .w .now) t .linkcount)
+returns-2 c =
+    let a = c .before .before .args in
+    λ ps t. none-at-all (a .x) (siteOf ps (a .w .now) t) (c .if1 .left) (siteOf ps (a .w .now) t .linkcount)
 
 pub of-aggregated-spec : {M : Type 1} → statement M
 of-aggregated-spec = tie.close (tie.spec (λ c κs. search needs) (λ c. search needs) returns returns-2)

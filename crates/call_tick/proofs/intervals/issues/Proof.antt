@@ -5,7 +5,7 @@ use Rattle.call_tick.proofs.intervals.issues.Statement.{statement}
 use Rattle.call_tick.proofs.intervals.issues.Tie as tie
 
 returns : tie.Need-returns
-returns c = λ t. rw (c .on-tick .ensures, c .before .subscription .ensures t) refl
+returns c = λ ps t. rw (c .on-tick .ensures, c .before .subscription .ensures ps t) refl
 
 pub issues-spec : {M : Type 1} → statement M
 issues-spec = tie.close (tie.spec (λ c κs. search needs) (λ c κs. search needs) returns)

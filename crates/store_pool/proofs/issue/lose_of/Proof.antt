@@ -12,5 +12,5 @@ returns-2 : tie.Need-returns-2
 returns-2 c = loss-one (c .before .before .before .before .args .w .now) (c .before .before .before .before .args .m) (search needs) (c .before .before .if1 .left) (c .more .ensures)
 
 pub lose-of-spec : {M : Type 1} → statement M
-lose-of-spec = tie.close (tie.spec returns (λ c. search needs) (λ c. search needs) (λ c. search needs) (λ c κs. search needs) (λ c. search needs)
+lose-of-spec = tie.close (tie.spec returns (λ c. search needs) (λ c. search needs) (λ c κs. search needs) (λ c. search needs)
     (λ c. search needs) (λ c. search needs) returns-2)

@@ -8,7 +8,7 @@ use Rattle.store_pool.proofs.places.put_place.Tie as tie
 returns : tie.Need-returns
 returns c =
     let a = c .before .before .before .before .args in
-    place-put (a .w .now) (9 + 4 * a .k) (a .x) (search needs) (search needs) (search needs) (search needs) (search needs) (search needs) (search needs) (c .before .pair .ensures) (c .quad .ensures)
+    place-put (a .w .now) (8 + 4 * a .k) (a .x) (search needs) (search needs) (search needs) (search needs) (search needs) (search needs) (search needs) (c .before .pair .ensures) (c .quad .ensures)
 
 pub put-place-spec : {M : Type 1} → statement M
 put-place-spec = tie.close (tie.spec (λ c. search needs) (λ c. search needs) (λ c κs. search needs) (λ c κs. search needs) (λ c. search needs)

@@ -7,7 +7,7 @@ use Rattle.store_site.proofs.head.aggregated.Tie as tie
 
 returns : tie.Need-returns
 unfolding siteOf
-returns c = λ t. refl
+returns c = λ ps t. refl
 
 pub aggregated-spec : {M : Type 1} → statement M
 aggregated-spec = tie.close (tie.spec (λ c. search needs) (λ c. search needs) returns)

@@ -6,10 +6,10 @@ use Rattle.store_site.proofs.head.bad_time.Statement.{statement}
 use Rattle.store_site.proofs.head.bad_time.Tie as tie
 
 returns : tie.Need-returns
-returns c = λ t. time-early (c .before .before .args .w .now) t (c .before .before .args .time) (c .if1 .taken)
+returns c = λ ps t. time-early ps (c .before .before .args .w .now) t (c .before .before .args .time) (c .if1 .taken)
 
 returns-2 : tie.Need-returns-2
-returns-2 c = λ t. time-late (c .before .before .args .w .now) t (c .before .before .args .time) (c .if1 .left)
+returns-2 c = λ ps t. time-late ps (c .before .before .args .w .now) t (c .before .before .args .time) (c .if1 .left)
 
 pub bad-time-spec : {M : Type 1} → statement M
 bad-time-spec = tie.close (tie.spec (λ c. search needs) returns returns-2)

@@ -7,7 +7,7 @@ use Rattle.store_site.proofs.head.has_primary.Tie as tie
 
 returns : tie.Need-returns
 unfolding siteOf
-returns c = λ t. rw (← c .quarter2 .ensures, ← c .before .before .quarter .ensures)
+returns c = λ ps t. rw (← c .quarter2 .ensures, ← c .before .before .quarter .ensures)
 
 pub has-primary-spec : {M : Type 1} → statement M
 has-primary-spec = tie.close (tie.spec (λ c. search needs) (λ c κs. search needs) (λ c. search needs) (λ c κs. search needs) returns)

@@ -7,7 +7,7 @@ use Rattle.store_site.proofs.head.link_count.Tie as tie
 
 returns : tie.Need-returns
 unfolding siteOf
-returns c = λ t. c .quarter .ensures
+returns c = λ ps t. c .quarter .ensures
 
 pub link-count-spec : {M : Type 1} → statement M
 link-count-spec = tie.close (tie.spec (λ c. search needs) (λ c κs. search needs) returns)

@@ -7,7 +7,7 @@ use Rattle.store_site.proofs.head.period.Tie as tie
 
 returns : tie.Need-returns
 unfolding siteOf
-returns c = λ t. c .upper .ensures
+returns c = λ ps t. c .below-top .ensures
 
 pub period-spec : {M : Type 1} → statement M
 period-spec = tie.close (tie.spec (λ c. search needs) (λ c κs. search needs) returns)

@@ -7,7 +7,7 @@ use Rattle.store_site.proofs.head.primary.Tie as tie
 
 returns : tie.Need-returns
 unfolding siteOf
-returns c = λ t. c .quarter .ensures
+returns c = λ ps t. c .quarter .ensures
 
 pub primary-spec : {M : Type 1} → statement M
 primary-spec = tie.close (tie.spec (λ c. search needs) (λ c κs. search needs) returns)

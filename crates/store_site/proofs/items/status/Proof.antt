@@ -6,7 +6,7 @@ use Rattle.store_site.proofs.items.status.Statement.{statement}
 use Rattle.store_site.proofs.items.status.Tie as tie
 
 returns-2 : tie.Need-returns-2
-returns-2 c = λ t. c .unknown .ensures ∙ sym (status-past (c .before .before .before .args .w .now) t (c .before .before .before .args .k) (c .before .if1 .left))
+returns-2 c = λ ps t. c .unknown .ensures ∙ sym (status-past ps (c .before .before .before .args .w .now) t (c .before .before .before .args .k) (c .before .if1 .left))
 
 pub status-spec : {M : Type 1} → statement M
 status-spec = tie.close (tie.spec (λ c κs. search needs) (λ c. search needs) (λ c κs. search needs) returns-2)

@@ -6,7 +6,7 @@ use Rattle.store_site.proofs.parts.link.Statement.{statement}
 use Rattle.store_site.proofs.parts.link.Tie as tie
 
 returns : tie.Need-returns
-returns c = λ t. c .link-at .ensures ∙ link-read (c .before .before .args .w .now) t (c .before .before .args .l) (search needs)
+returns c = λ ps t. c .link-at .ensures ∙ link-read ps (c .before .before .args .w .now) t (c .before .before .args .l) (search needs)
 
 pub link-spec : {M : Type 1} → statement M
 link-spec = tie.close (tie.spec (λ c. search needs) (λ c. search needs) (λ c κs. search needs) returns)

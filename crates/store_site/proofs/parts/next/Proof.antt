@@ -7,7 +7,7 @@ use Rattle.store_site.proofs.parts.next.Tie as tie
 
 returns : tie.Need-returns
 unfolding siteOf
-returns c = λ t. refl
+returns c = λ ps t. refl
 
 pub next-spec : {M : Type 1} → statement M
 next-spec = tie.close (tie.spec (λ c. search needs) returns)

@@ -9,7 +9,7 @@ use Rattle.store_site.proofs.parts.put_status.Tie as tie
 returns : tie.Need-returns
 returns c =
     let a = c .before .before .args in
-    status-turns (a .w .now) _ (a .k) (a .x) (search needs) (status-put (a .w .now) (1141 + a .k) (a .x) (search needs) (search needs) (search needs) (c .pair .ensures))
+    status-turns (a .w .now) _ (a .k) (a .x) (search needs) (status-put (a .w .now) (625 + a .k) (a .x) (search needs) (search needs) (search needs) (c .pair .ensures))
 
 pub put-status-spec : {M : Type 1} → statement M
 put-status-spec = tie.close (tie.spec (λ c κs. search needs) (λ c. search needs) (λ c. search needs) (λ c. search needs) (λ c. search needs) returns)

@@ -9,7 +9,7 @@ use Rattle.store_site.proofs.parts.put_subscription.Tie as tie
 returns : tie.Need-returns
 returns c =
     let a = c .before .before .args in
-    subscription-turns (a .w .now) _ (a .k) (a .x) (search needs) (subscription-put (a .w .now) (821 + 2 * a .k) (a .x) (search needs) (search needs) (search needs) (c .pair .ensures))
+    subscription-turns (a .w .now) _ (a .k) (a .x) (search needs) (subscription-put (a .w .now) (305 + 2 * a .k) (a .x) (search needs) (search needs) (search needs) (c .pair .ensures))
 
 pub put-subscription-spec : {M : Type 1} → statement M
 put-subscription-spec = tie.close (tie.spec (λ c. search needs) (λ c. search needs) (λ c κs. search needs) (λ c. search needs) (λ c. search needs)

@@ -9,7 +9,7 @@ use Rattle.store_site.proofs.parts.status.Tie as tie
 returns : tie.Need-returns
 returns c =
     let a = c .before .before .before .before .args in
-    λ t. status-get (a .w .now) (1141 + a .k) (c .before .upper .ensures) (c .lower .ensures) ∙ status-read (a .w .now) t (a .k) (search needs)
+    λ ps t. status-get (a .w .now) (625 + a .k) (c .before .upper .ensures) (c .lower .ensures) ∙ status-read ps (a .w .now) t (a .k) (search needs)
 
 pub status-spec : {M : Type 1} → statement M
 status-spec = tie.close (tie.spec (λ c. search needs) (λ c. search needs) (λ c. search needs) (λ c κs. search needs) (λ c κs. search needs) returns)

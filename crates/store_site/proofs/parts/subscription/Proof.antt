@@ -9,7 +9,7 @@ use Rattle.store_site.proofs.parts.subscription.Tie as tie
 returns : tie.Need-returns
 returns c =
     let a = c .before .before .before .before .before .args in
-    λ t. subscription-get (a .w .now) (821 + 2 * a .k) (c .before .upper .ensures) (c .lower .ensures) ∙ subscription-read (a .w .now) t (a .k) (search needs)
+    λ ps t. subscription-get (a .w .now) (305 + 2 * a .k) (c .before .upper .ensures) (c .lower .ensures) ∙ subscription-read ps (a .w .now) t (a .k) (search needs)
 
 pub subscription-spec : {M : Type 1} → statement M
 subscription-spec = tie.close (tie.spec (λ c. search needs) (λ c. search needs) (λ c. search needs) (λ c. search needs) (λ c. search needs) (λ c. search needs)

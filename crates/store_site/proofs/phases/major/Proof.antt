@@ -9,7 +9,7 @@ use Rattle.store_site.proofs.phases.major.Tie as tie
 
 returns : tie.Need-returns
 unfolding linkIn
-returns c = λ t. link-says (λ (k : Link). k .major) (c .before .before .before .args .w .now) t (c .before .before .before .args .l) (search needs) (c .lower .ensures)
+returns c = λ ps t. link-says (λ (k : Link). k .major) ps (c .before .before .before .args .w .now) t (c .before .before .before .args .l) (search needs) (c .lower .ensures)
 
 pub major-spec : {M : Type 1} → statement M
 major-spec = tie.close (tie.spec (λ c. search needs) (λ c. search needs) (λ c. search needs) (λ c. search needs) (λ c. search needs) (λ c κs. search needs)

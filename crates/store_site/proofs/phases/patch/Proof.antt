@@ -9,7 +9,7 @@ use Rattle.store_site.proofs.phases.patch.Tie as tie
 
 returns : tie.Need-returns
 unfolding linkIn
-returns c = λ t. link-says (λ (k : Link). k .patch) (c .before .before .before .args .w .now) t (c .before .before .before .args .l) (search needs) (c .lower .ensures)
+returns c = λ ps t. link-says (λ (k : Link). k .patch) ps (c .before .before .before .args .w .now) t (c .before .before .before .args .l) (search needs) (c .lower .ensures)
 
 pub patch-spec : {M : Type 1} → statement M
 patch-spec = tie.close (tie.spec (λ c. search needs) (λ c. search needs) (λ c. search needs) (λ c. search needs) (λ c. search needs) (λ c κs. search needs)

@@ -12,7 +12,7 @@ use Rattle.store_whole.proofs.lists.fill_links.Statement.{statement}
 use Rattle.store_whole.proofs.lists.fill_links.Tie as tie
 
 abbrev Inv-loop : tie.InvT-loop
-Inv-loop w₀ x k₀ w k = (k ≤ 4) × ((length w ≡ siteWords) × ((length w₀ ≡ siteWords) × (Upto linksIn withLinks closedLink w₀ w (replicate 4 x) k × ((j : ℕ) → j < k → PlainAt w (521 + 75 * j)))))
+Inv-loop w₀ x k₀ w k = (k ≤ 4) × ((length w ≡ siteWords) × ((length w₀ ≡ siteWords) × (Upto linksIn withLinks closedLink w₀ w (replicate 4 x) k × ((j : ℕ) → j < k → PlainAt w (5 + 75 * j)))))
 
 abbrev μ-loop : tie.MeasureT-loop
 μ-loop w₀ x k₀ w k = 4 - k
