@@ -1008,8 +1008,20 @@ def write():
             path.write_text(text)
 
 
+def judge_unread():
+    """A line for a site that is not started, or that a start alone has ended, cannot be read: status 2, and nothing is said of it."""
+    start = f"start {BARRIER.bytes().hex()} 1 0 60 0 {NOON}"
+    for lines in (["south counts"], ["tick 5"], [start, "south readings"], [f"south {start}", f"tick {NOON}"], [f"south {start}", f"north tick {NOON}"],
+                  [f"north {start}", f"south {start}", "south counts", start, f"south tick {NOON}"], [start, "north restore 00"], [start, "east counts"],
+                  [start, "south"], [f"south start {BARRIER.bytes().hex()} 0 0 60 0 {NOON}", "south counts"]):
+        done = subprocess.run([PROGRAM], input="".join(f"{line}\n" for line in lines), capture_output=True, text=True)
+        if done.returncode != 2 or len(done.stdout.splitlines()) != len(lines) - 1 or f"line {len(lines)}: " not in done.stderr:
+            sys.exit(f"rsmp-replay: {[line[:20] for line in lines]}: status {done.returncode}: {done.stdout}{done.stderr}")
+
+
 def stored():
     good = True
+    judge_unread()
     for script in STORED:
         player = script()
         for path, text in zip(paths(script), texts(player)):

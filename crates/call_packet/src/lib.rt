@@ -1,7 +1,8 @@
 // Packet, in place: the call that strangers reach.
 ghost use mathlib.Core.Path.{_≡_};
 ghost use mathlib.Core.Bool.{true, false};
-ghost use Prim.Native.Nat.{_<_, _+_, _*_};
+ghost use mathlib.Core.List.{List};
+ghost use Prim.Native.Nat.{ℕ, _<_, _+_, _*_};
 ghost use lib.ListN.{length, getD};
 ghost use Rattle.basis.specs.Pick.{pick};
 ghost use Rattle.identity.specs.Version.{identityOf};
@@ -11,7 +12,7 @@ ghost use Rattle.link.specs.Phase.{isBeating};
 ghost use Rattle.link.specs.Steps.{mayJudgeOf};
 ghost use Rattle.table_whole.specs.declared.SiteTable.{SiteTable};
 ghost use Rattle.site.specs.Site.{linkAt};
-ghost use Rattle.store_site.specs.Layout.{siteOf, siteWords};
+ghost use Rattle.store_site.specs.Layout.{siteOf, poolWords, siteWords};
 ghost use Rattle.store_table.specs.Layout.{tableOf, tableBytes};
 ghost use Rattle.store_call.specs.Called.{GivesIn};
 ghost use Rattle.packet_answer.specs.Takes.{TakesIn};
@@ -69,7 +70,7 @@ fn is_beating(p: Phase) -> bool
 
 fn may_judge(w: &[u64], l: u16) -> bool
     requires { ⌜ (length (now w) ≡ siteWords) × (l < 4) ⌝ }
-    ensures { λ r. ⌜ ((t : SiteTable) → r ≡ mayJudgeOf (linkAt (siteOf (now (w .entry)) t) l)) ⌝ }
+    ensures { λ r. ⌜ ((ps : List ℕ) (t : SiteTable) → r ≡ mayJudgeOf (linkAt (siteOf ps (now (w .entry)) t) l)) ⌝ }
 {
     if store_site::phases::version_taken(w, l as usize) {
         return false;
@@ -79,7 +80,7 @@ fn may_judge(w: &[u64], l: u16) -> bool
 
 fn expected(w: &[u64], l: u16, kind: Kind) -> bool
     requires { ⌜ (length (now w) ≡ siteWords) × (l < 4) ⌝ }
-    ensures { λ r. ⌜ ((t : SiteTable) → r ≡ expectedOf (linkAt (siteOf (now (w .entry)) t) l) kind) ⌝ }
+    ensures { λ r. ⌜ ((ps : List ℕ) (t : SiteTable) → r ≡ expectedOf (linkAt (siteOf ps (now (w .entry)) t) l) kind) ⌝ }
 {
     if is_version(kind) {
         return may_judge(w, l);
@@ -89,7 +90,7 @@ fn expected(w: &[u64], l: u16, kind: Kind) -> bool
 
 fn unready(w: &[u64], l: u16, kind: Kind) -> bool
     requires { ⌜ (length (now w) ≡ siteWords) × (l < 4) ⌝ }
-    ensures { λ r. ⌜ ((t : SiteTable) → r ≡ unreadyOf (linkAt (siteOf (now (w .entry)) t) l) kind) ⌝ }
+    ensures { λ r. ⌜ ((ps : List ℕ) (t : SiteTable) → r ≡ unreadyOf (linkAt (siteOf ps (now (w .entry)) t) l) kind) ⌝ }
 {
     if is_beating(store_site::phases::phase(w, l as usize)) {
         return not(is_watchdog(kind));
@@ -99,7 +100,7 @@ fn unready(w: &[u64], l: u16, kind: Kind) -> bool
 
 fn early(w: &[u64], l: u16, kind: Kind) -> bool
     requires { ⌜ (length (now w) ≡ siteWords) × (l < 4) ⌝ }
-    ensures { λ r. ⌜ ((t : SiteTable) → r ≡ earlyOf (linkAt (siteOf (now (w .entry)) t) l) kind) ⌝ }
+    ensures { λ r. ⌜ ((ps : List ℕ) (t : SiteTable) → r ≡ earlyOf (linkAt (siteOf ps (now (w .entry)) t) l) kind) ⌝ }
 {
     if is_greeting(store_site::phases::phase(w, l as usize)) {
         return not(is_version(kind));
@@ -109,14 +110,14 @@ fn early(w: &[u64], l: u16, kind: Kind) -> bool
 
 fn unawaited(w: &[u64], l: u16, id: Identity) -> bool
     requires { ⌜ (length (now w) ≡ siteWords) × (l < 4) ⌝ }
-    ensures { λ r. ⌜ ((t : SiteTable) → r ≡ unawaitedOf (linkAt (siteOf (now (w .entry)) t) l) id) ⌝ }
+    ensures { λ r. ⌜ ((ps : List ℕ) (t : SiteTable) → r ≡ unawaitedOf (linkAt (siteOf ps (now (w .entry)) t) l) id) ⌝ }
 {
     not(packet_answer::is_awaited(w, l, id))
 }
 
 fn ignored(w: &[u64], l: u16, id: Identity, class: Class) -> bool
     requires { ⌜ (length (now w) ≡ siteWords) × (l < 4) ⌝ }
-    ensures { λ r. ⌜ ((t : SiteTable) → r ≡ ignoredBy (linkAt (siteOf (now (w .entry)) t) l) id class) ⌝ }
+    ensures { λ r. ⌜ ((ps : List ℕ) (t : SiteTable) → r ≡ ignoredBy (linkAt (siteOf ps (now (w .entry)) t) l) id class) ⌝ }
 {
     match class {
         Class::Ignored => true,
@@ -128,68 +129,71 @@ fn ignored(w: &[u64], l: u16, id: Identity, class: Class) -> bool
 
 // A request of a kind that is taken now.
 fn by_kind(
+    p: &mut [u64],
     w: &mut [u64],
     t: &[u8],
     q: Question,
-    p: &[u8],
+    packet: &[u8],
     places: &[usize],
     kind: Kind,
     out: &mut [u8],
 ) -> Answer
-    requires { ⌜ (length (now w) ≡ siteWords) × (length (now t) ≡ tableBytes) × (q .link < 4) × Indexed (now p) (now places) ⌝ }
-    ensures { λ r. ⌜ TakesIn (tableOf (now (t .entry))) q (kindTaken (siteOf (now (w .entry)) (tableOf (now (t .entry)))) q (now (p .entry)) kind) (now (w .entry)) (now (w .exit)) (now (out .entry)) (now (out .exit)) r ⌝ }
+    requires { ⌜ (length (now p) ≡ poolWords) × (length (now w) ≡ siteWords) × (length (now t) ≡ tableBytes) × (q .link < 4) × Indexed (now packet) (now places) ⌝ }
+    ensures { λ r. ⌜ TakesIn (tableOf (now (t .entry))) q (kindTaken (siteOf (now (p .entry)) (now (w .entry)) (tableOf (now (t .entry)))) q (now (packet .entry)) kind) (now (p .entry)) (now (p .exit)) (now (w .entry)) (now (w .exit)) (now (out .entry)) (now (out .exit)) r ⌝ }
 {
     match kind {
-        Kind::Version => packet_greet::version(w, t, q, p, places, out),
-        Kind::Watchdog => packet_greet::watchdog(w, q, p, places, out),
-        Kind::Alarm => packet_alarm::alarm(w, t, q, p, places, out),
-        Kind::AggregatedStatusRequest => packet_alarm::aggregated(w, t, q, p, places, out),
-        Kind::StatusRequest => packet_status::status_request(w, t, q, p, places, out),
-        Kind::StatusSubscribe => packet_subscribe::subscribe(w, t, q, p, places, out),
-        Kind::StatusUnsubscribe => packet_subscribe::unsubscribe(w, t, q, p, places, out),
-        Kind::CommandRequest => packet_command::command(w, t, q, p, places, out),
+        Kind::Version => packet_greet::version(p, w, t, q, packet, places, out),
+        Kind::Watchdog => packet_greet::watchdog(w, q, packet, places, out),
+        Kind::Alarm => packet_alarm::alarm(p, w, t, q, packet, places, out),
+        Kind::AggregatedStatusRequest => packet_alarm::aggregated(w, t, q, packet, places, out),
+        Kind::StatusRequest => packet_status::status_request(w, t, q, packet, places, out),
+        Kind::StatusSubscribe => packet_subscribe::subscribe(p, w, t, q, packet, places, out),
+        Kind::StatusUnsubscribe => packet_subscribe::unsubscribe(p, w, t, q, packet, places, out),
+        Kind::CommandRequest => packet_command::command(w, t, q, packet, places, out),
         Kind::Unexpected => packet_answer::not_ack(w, q, reasons::UNEXPECTED, out),
     }
 }
 
 // "Unexpected", "Not ready", then the reasons of the kind.
 fn expect(
+    p: &mut [u64],
     w: &mut [u64],
     t: &[u8],
     q: Question,
-    p: &[u8],
+    packet: &[u8],
     places: &[usize],
     kind: Kind,
     out: &mut [u8],
 ) -> Answer
-    requires { ⌜ (length (now w) ≡ siteWords) × (length (now t) ≡ tableBytes) × (q .link < 4) × Indexed (now p) (now places) ⌝ }
-    ensures { λ r. ⌜ TakesIn (tableOf (now (t .entry))) q (expectedTaken (siteOf (now (w .entry)) (tableOf (now (t .entry)))) q (now (p .entry)) kind) (now (w .entry)) (now (w .exit)) (now (out .entry)) (now (out .exit)) r ⌝ }
+    requires { ⌜ (length (now p) ≡ poolWords) × (length (now w) ≡ siteWords) × (length (now t) ≡ tableBytes) × (q .link < 4) × Indexed (now packet) (now places) ⌝ }
+    ensures { λ r. ⌜ TakesIn (tableOf (now (t .entry))) q (expectedTaken (siteOf (now (p .entry)) (now (w .entry)) (tableOf (now (t .entry)))) q (now (packet .entry)) kind) (now (p .entry)) (now (p .exit)) (now (w .entry)) (now (w .exit)) (now (out .entry)) (now (out .exit)) r ⌝ }
 {
     if expected(w, q.link, kind) {
         if unready(w, q.link, kind) {
             return packet_answer::not_ack(w, q, reasons::NOT_READY, out);
         }
-        return by_kind(w, t, q, p, places, kind, out);
+        return by_kind(p, w, t, q, packet, places, kind, out);
     }
     packet_answer::not_ack(w, q, reasons::UNEXPECTED, out)
 }
 
 // mType, then the rest.
 fn asked(
+    p: &mut [u64],
     w: &mut [u64],
     t: &[u8],
     q: Question,
-    p: &[u8],
+    packet: &[u8],
     places: &[usize],
     v: Verdict,
     kind: Kind,
     out: &mut [u8],
 ) -> Answer
-    requires { ⌜ (length (now w) ≡ siteWords) × (length (now t) ≡ tableBytes) × (q .link < 4) × Indexed (now p) (now places) ⌝ }
-    ensures { λ r. ⌜ TakesIn (tableOf (now (t .entry))) q (askedTaken (siteOf (now (w .entry)) (tableOf (now (t .entry)))) q (now (p .entry)) v kind) (now (w .entry)) (now (w .exit)) (now (out .entry)) (now (out .exit)) r ⌝ }
+    requires { ⌜ (length (now p) ≡ poolWords) × (length (now w) ≡ siteWords) × (length (now t) ≡ tableBytes) × (q .link < 4) × Indexed (now packet) (now places) ⌝ }
+    ensures { λ r. ⌜ TakesIn (tableOf (now (t .entry))) q (askedTaken (siteOf (now (p .entry)) (now (w .entry)) (tableOf (now (t .entry)))) q (now (packet .entry)) v kind) (now (p .entry)) (now (p .exit)) (now (w .entry)) (now (w .exit)) (now (out .entry)) (now (out .exit)) r ⌝ }
 {
     match v {
-        Verdict::Good => expect(w, t, q, p, places, kind, out),
+        Verdict::Good => expect(p, w, t, q, packet, places, kind, out),
         Verdict::Missing => packet_answer::not_ack(w, q, reasons::MISSING_ELEMENT, out),
         Verdict::Bad => packet_answer::not_ack(w, q, reasons::BAD_VALUE, out),
     }
@@ -197,39 +201,41 @@ fn asked(
 
 // An answer, or a request.
 fn by_class(
+    p: &mut [u64],
     w: &mut [u64],
     t: &[u8],
     q: Question,
     answered: Identity,
-    p: &[u8],
+    packet: &[u8],
     places: &[usize],
     class: Class,
     out: &mut [u8],
 ) -> Answer
-    requires { ⌜ (length (now w) ≡ siteWords) × (length (now t) ≡ tableBytes) × (q .link < 4) × Indexed (now p) (now places) ⌝ }
-    ensures { λ r. ⌜ TakesIn (tableOf (now (t .entry))) q (classTaken (siteOf (now (w .entry)) (tableOf (now (t .entry)))) q answered (now (p .entry)) class) (now (w .entry)) (now (w .exit)) (now (out .entry)) (now (out .exit)) r ⌝ }
+    requires { ⌜ (length (now p) ≡ poolWords) × (length (now w) ≡ siteWords) × (length (now t) ≡ tableBytes) × (q .link < 4) × Indexed (now packet) (now places) ⌝ }
+    ensures { λ r. ⌜ TakesIn (tableOf (now (t .entry))) q (classTaken (siteOf (now (p .entry)) (now (w .entry)) (tableOf (now (t .entry)))) q answered (now (packet .entry)) class) (now (p .entry)) (now (p .exit)) (now (w .entry)) (now (w .exit)) (now (out .entry)) (now (out .exit)) r ⌝ }
 {
     match class {
         Class::Ignored => packet_answer::done(w, q.time, 0, 0, 0, 0),
-        Class::Acked => packet_greet::answered(w, q.link, q.time, answered, true),
-        Class::NotAcked => packet_greet::answered(w, q.link, q.time, answered, false),
-        Class::Asked(v, kind) => asked(w, t, q, p, places, v, kind, out),
+        Class::Acked => packet_greet::answered(p, w, q.link, q.time, answered, true),
+        Class::NotAcked => packet_greet::answered(p, w, q.link, q.time, answered, false),
+        Class::Asked(v, kind) => asked(p, w, t, q, packet, places, v, kind, out),
     }
 }
 
 fn heed(
+    p: &mut [u64],
     w: &mut [u64],
     t: &[u8],
     l: u16,
     time: u64,
     id: Identity,
-    p: &[u8],
+    packet: &[u8],
     places: &[usize],
     h: Head,
     out: &mut [u8],
 ) -> Answer
-    requires { ⌜ (length (now w) ≡ siteWords) × (length (now t) ≡ tableBytes) × (l < 4) × Indexed (now p) (now places) ⌝ }
-    ensures { λ r. ⌜ GivesIn (tableOf (now (t .entry))) time (headRefuses (siteOf (now (w .entry)) (tableOf (now (t .entry)))) l time id (now (p .entry)) h) (headTaken (siteOf (now (w .entry)) (tableOf (now (t .entry)))) l time id (now (p .entry)) h .plan) (now (w .entry)) (now (w .exit)) (now (out .entry)) (now (out .exit)) r ⌝ }
+    requires { ⌜ (length (now p) ≡ poolWords) × (length (now w) ≡ siteWords) × (length (now t) ≡ tableBytes) × (l < 4) × Indexed (now packet) (now places) ⌝ }
+    ensures { λ r. ⌜ GivesIn (tableOf (now (t .entry))) time (headRefuses (siteOf (now (p .entry)) (now (w .entry)) (tableOf (now (t .entry)))) l time id (now (packet .entry)) h) (headTaken (siteOf (now (p .entry)) (now (w .entry)) (tableOf (now (t .entry)))) l time id (now (packet .entry)) h .plan) (now (p .entry)) (now (p .exit)) (now (w .entry)) (now (w .exit)) (now (out .entry)) (now (out .exit)) r ⌝ }
 {
     let class = h.class;
     let answered = h.identity;
@@ -244,7 +250,7 @@ fn heed(
         received,
         included: h.included,
     };
-    by_class(w, t, q, answered, p, places, class, out)
+    by_class(p, w, t, q, answered, packet, places, class, out)
 }
 
 fn word_of(a: u8, b: u8, c: u8, d: u8) -> u32
@@ -263,22 +269,23 @@ fn key_of(id: Identity) -> u32
 
 // A packet is judged once, and where the entries of its object begin is noted for all who read it.
 fn judged(
+    p: &mut [u64],
     w: &mut [u64],
     t: &[u8],
     l: u16,
     time: u64,
     id: Identity,
-    p: &[u8],
+    packet: &[u8],
     out: &mut [u8],
 ) -> Answer
-    requires { ⌜ (length (now w) ≡ siteWords) × (length (now t) ≡ tableBytes) × (l < 4) ⌝ }
-    ensures { λ r. ⌜ GivesIn (tableOf (now (t .entry))) time (headRefuses (siteOf (now (w .entry)) (tableOf (now (t .entry)))) l time id (now (p .entry)) (headAt (now (p .entry)))) (packetTaken (siteOf (now (w .entry)) (tableOf (now (t .entry)))) l time id (now (p .entry)) .plan) (now (w .entry)) (now (w .exit)) (now (out .entry)) (now (out .exit)) r ⌝ }
+    requires { ⌜ (length (now p) ≡ poolWords) × (length (now w) ≡ siteWords) × (length (now t) ≡ tableBytes) × (l < 4) ⌝ }
+    ensures { λ r. ⌜ GivesIn (tableOf (now (t .entry))) time (headRefuses (siteOf (now (p .entry)) (now (w .entry)) (tableOf (now (t .entry)))) l time id (now (packet .entry)) (headAt (now (packet .entry)))) (packetTaken (siteOf (now (p .entry)) (now (w .entry)) (tableOf (now (t .entry)))) l time id (now (packet .entry)) .plan) (now (p .entry)) (now (p .exit)) (now (w .entry)) (now (w .exit)) (now (out .entry)) (now (out .exit)) r ⌝ }
 {
     let mut places = [0usize; 32];
-    let j = json_packet::judge(p, key_of(id), &mut places);
+    let j = json_packet::judge(packet, key_of(id), &mut places);
     let n = j.count;
-    let h = read_head::read_head(p, &places[0..n], j.packet);
-    heed(w, t, l, time, id, p, &places[0..n], h, out)
+    let h = read_head::read_head(packet, &places[0..n], j.packet);
+    heed(p, w, t, l, time, id, packet, &places[0..n], h, out)
 }
 
 // Sixteen random bytes as an identity of version 4.
@@ -290,16 +297,17 @@ fn own_identity(random: Identity) -> Identity
 
 // One message without its form feed, received on a link; `random` is sixteen random bytes.
 pub fn packet(
+    p: &mut [u64],
     w: &mut [u64],
     t: &[u8],
     link: u32,
     time: u64,
     random: Identity,
-    p: &[u8],
+    packet: &[u8],
     out: &mut [u8],
 ) -> Answer
-    requires { ⌜ (length (now w) ≡ siteWords) × (length (now t) ≡ tableBytes) ⌝ }
-    ensures { λ r. ⌜ GivesIn (tableOf (now (t .entry))) time (packetRefuses (siteOf (now (w .entry)) (tableOf (now (t .entry)))) link time (identityOf random) (length (now (out .entry))) (now (p .entry))) (packetTaken (siteOf (now (w .entry)) (tableOf (now (t .entry)))) link time (identityOf random) (now (p .entry)) .plan) (now (w .entry)) (now (w .exit)) (now (out .entry)) (now (out .exit)) r ⌝ }
+    requires { ⌜ (length (now p) ≡ poolWords) × (length (now w) ≡ siteWords) × (length (now t) ≡ tableBytes) ⌝ }
+    ensures { λ r. ⌜ GivesIn (tableOf (now (t .entry))) time (packetRefuses (siteOf (now (p .entry)) (now (w .entry)) (tableOf (now (t .entry)))) link time (identityOf random) (length (now (out .entry))) (now (packet .entry))) (packetTaken (siteOf (now (p .entry)) (now (w .entry)) (tableOf (now (t .entry)))) link time (identityOf random) (now (packet .entry)) .plan) (now (p .entry)) (now (p .exit)) (now (w .entry)) (now (w .exit)) (now (out .entry)) (now (out .exit)) r ⌝ }
 {
     if store_site::head::no_link(w, link) {
         return Answer::Refused(Refusal::NoSuchLink);
@@ -307,7 +315,7 @@ pub fn packet(
     if out.len() < 4096 {
         return Answer::Refused(Refusal::ShortOutput);
     }
-    if 4096 < p.len() {
+    if 4096 < packet.len() {
         return Answer::Refused(Refusal::LongPacket);
     }
     if store_site::head::bad_time(w, time) {
@@ -318,5 +326,5 @@ pub fn packet(
         return Answer::Refused(Refusal::WrongPhase);
     }
     let id = own_identity(random);
-    judged(w, t, l, time, id, p, out)
+    judged(p, w, t, l, time, id, packet, out)
 }

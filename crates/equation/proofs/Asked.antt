@@ -28,19 +28,9 @@ use Rattle.refine_calls.specs.Calls.{callFor}
 use Rattle.equation.specs.Seen.{Seen, TypedAct}
 use Rattle.equation.specs.Seen.Ask.{call}
 use Rattle.equation.specs.Contracts.{Allows, packetSeen, outcomeSeen}
+use Rattle.equation.proofs.Boxed.{BytesIn}
 use Rattle.equation.proofs.Handed.{first-words}
 use Rattle.equation.specs.Contracts.Allows.{connects, disconnects, packets, alarms, statuses, aggregates, ticks, pumps}
-
--- a packet is bytes
-abbrev pub BytesIn : Call → Type 0
-BytesIn (connect l t) = Unit {0}
-BytesIn (disconnect l t) = Unit {0}
-BytesIn (packet l t random received out) = (k : ℕ) → getD received k 0 < 256
-BytesIn (alarm i active t) = Unit {0}
-BytesIn (status i v t) = Unit {0}
-BytesIn (aggregated v t) = Unit {0}
-BytesIn (tick t) = Unit {0}
-BytesIn (pump l t random out) = Unit {0}
 
 -- the call of the code that an ask is, and what its definition gives on the site s; the pool's words go from ps to qs, its own from ws to vs, its table stands in ts
 pub record Opened (ts ps ws : List ℕ) (k : MachineCall) (output : List ℕ) (x : Seen) (qs vs : List ℕ) : Type 0 where

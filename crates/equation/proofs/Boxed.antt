@@ -1,18 +1,19 @@
 -- Two sites over one pool that are the machines of a box: what a call and a start of one leave of both.
 -- Assumes nothing.
-use Rattle.basis.proofs.Std.{ℕ, zero, suc, _+_, _<_, _≡_, refl, sym, ap, ap₂, _∙_, subst, List, [], _∷_, Option, some, none, arith, length}
+use Rattle.basis.proofs.Std.{ℕ, zero, suc, _+_, _<_, _≡_, refl, sym, ap, ap₂, _∙_, subst, List, [], _∷_, Option, some, none, arith, length, getD}
 use Rattle.pool.specs.declared.Pool.{Pool}
 use Rattle.pool.specs.Pool.{emptyOf}
 use Rattle.site.specs.declared.Site.{Site}
 use Rattle.site.specs.Site.{withPool}
 use Rattle.call_laws.specs.Sound.{Sound}
 use Rattle.call_laws.specs.Calls.{Call, stepBy}
+use Rattle.call_laws.specs.Calls.Call.{connect, disconnect, packet, alarm, status, aggregated, tick, pump}
 use Rattle.call_laws.specs.Typed.{Typed}
 use Rattle.call_laws.specs.Sequences.{Beside as BesideIt, Since}
 use Rattle.call_laws.specs.Sequences.Since.{first, own, other, begun}
 use Rattle.call_laws.proofs.SequencesKept.{kept as sequences-kept}
 use Rattle.machine.specs.Words.{maybe}
-use Rattle.machine.specs.State.{Held, Share, shareOf, noShare, sharedPool, ownOf, Machine}
+use Rattle.machine.specs.State.{Held, Share, shareOf, noShare, Pool as Listed, sharedPool, ownOf, Machine}
 use Rattle.machine.specs.Step.{step}
 use Rattle.machine.specs.Box.{finds, foundBy, beginsBeside}
 use Rattle.demand_held.proofs.Lists.{Each}
@@ -25,7 +26,17 @@ use Rattle.refine_parts.proofs.Beside.{same-beside}
 use Rattle.refine_calls.specs.Abstracts.{Abstracts}
 use Rattle.refine_calls.specs.Calls.{callFor, SameFor, SameStep}
 use Rattle.refine_calls.proofs.Steps.{steps}
-use Rattle.equation.proofs.Asked.{BytesIn}
+
+-- a packet is bytes
+abbrev pub BytesIn : Call → Type 0
+BytesIn (connect l t) = Unit {0}
+BytesIn (disconnect l t) = Unit {0}
+BytesIn (packet l t random received out) = (k : ℕ) → getD received k 0 < 256
+BytesIn (alarm i active t) = Unit {0}
+BytesIn (status i v t) = Unit {0}
+BytesIn (aggregated v t) = Unit {0}
+BytesIn (tick t) = Unit {0}
+BytesIn (pump l t random out) = Unit {0}
 
 -- s is site k, t site j, if they have begun; where neither has, the pool is empty
 pub data Stands (k j : ℕ) (s t : Site) : Option Machine → Option Machine → Type 0 where
@@ -35,7 +46,7 @@ pub data Stands (k j : ℕ) (s t : Site) : Option Machine → Option Machine →
   both-ones : {m o : Machine} → Abstracts (besideOf (o .setup .links) (t .next)) s m → Abstracts (besideOf (m .setup .links) (s .next)) t o → Sound s → Sound t
       → s .site ≡ k → t .site ≡ j → Mirrors (m .pool) (o .pool) → Stands k j s t (some m) (some o)
 
-turned-round : {m o : Machine} → Mirrors (m .pool) (o .pool) → Mirrors (o .pool) (m .pool)
+turned-round : {p q : Listed} → Mirrors p q → Mirrors q p
 turned-round n = record { two = omega (arith, n .two); beside = n .own; own = n .beside }
 
 pub round : {k j : ℕ} {s t : Site} {a o : Option Machine} → t .pool ≡ s .pool → Stands k j s t a o → Stands j k t s o a
@@ -130,10 +141,10 @@ module _ (all : AllCalls) (k j : ℕ) (two : k + j ≡ 1) (s t : Site) (pools : 
 
   pub own-call : {m : Machine} {o : Option Machine} → Stands k j s t (some m) o → Turned k j s t m o c
   own-call {m = m} (the-one h v g) =
-      let st : SameStep nobody s m c = steps s m h c (all s m h c bytes typed) in
+      let st : SameStep nobody s m c = steps _ s m h c (all _ s m h c bytes typed) in
       record { beside = nobody; abstracts = h; same = st; sound = v; stands = the-one (st .leaves) (own-sound v) (stays v g) }
   own-call {m = m} (both-ones {o = o} h i v w g f n) =
-      let st : SameStep (besideOf (o .setup .links) (t .next)) s m c = steps s m h c (all s m h c bytes typed) in
+      let st : SameStep (besideOf (o .setup .links) (t .next)) s m c = steps _ s m h c (all _ s m h c bytes typed) in
       let m' : Machine = step m (callFor c) .1 in
       let sites : m' .pool .site + o .pool .site ≡ 1 = rw (st .leaves .pool .site, stays v g, i .pool .site, f) two in
       record {

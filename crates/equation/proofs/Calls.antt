@@ -16,14 +16,14 @@ use Rattle.equation.proofs.Boxed.{AllCalls}
 use Rattle.equation.proofs.Equation.{from-calls}
 
 all-calls : AllCalls
-all-calls s m h (connect l t) b u = link-calls s m h (connect l t) (connects l t) u
-all-calls s m h (disconnect l t) b u = link-calls s m h (disconnect l t) (disconnects l t) u
-all-calls s m h (packet l t random received out) b u = packet-calls s m h (packet l t random received out) (packets l t random received out) u
-all-calls s m h (alarm i active t) b u = input-calls s m h (alarm i active t) (of-alarm i active t) u
-all-calls s m h (status i v t) b u = input-calls s m h (status i v t) (of-status i v t) u
-all-calls s m h (aggregated v t) b u = input-calls s m h (aggregated v t) (of-aggregated v t) u
-all-calls s m h (tick t) b u = tick-calls s m h (tick t) (of-tick t) u
-all-calls s m h (pump l t random out) b u = pump-calls s m h (pump l t random out) (pumps l t random out) u
+all-calls x s m h (connect l t) b u = link-calls x s m h (connect l t) (connects l t) u
+all-calls x s m h (disconnect l t) b u = link-calls x s m h (disconnect l t) (disconnects l t) u
+all-calls x s m h (packet l t random received out) b u = packet-calls x s m h (packet l t random received out) (packets l t random received out) u
+all-calls x s m h (alarm i active t) b u = input-calls x s m h (alarm i active t) (of-alarm i active t) u
+all-calls x s m h (status i v t) b u = input-calls x s m h (status i v t) (of-status i v t) u
+all-calls x s m h (aggregated v t) b u = input-calls x s m h (aggregated v t) (of-aggregated v t) u
+all-calls x s m h (tick t) b u = tick-calls x s m h (tick t) (of-tick t) u
+all-calls x s m h (pump l t random out) b u = pump-calls x s m h (pump l t random out) (pumps l t random out) u
 
 pub equation : Equation
 equation = from-calls all-calls

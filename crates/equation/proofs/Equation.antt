@@ -145,22 +145,22 @@ module _ (all : AllCalls) (k j : ℕ) (two : k + j ≡ 1) (ps ws ts ws2 ts2 : Li
   one-ask : {m : Machine} {o : Option Machine} → Stands k j s t (some m) o → (a : Ask) → Typed a → (x : Seen) (qs vs : List ℕ) → Allows ts ps ws a x qs vs → One k j ts ws2 ts2 m o a x qs vs
   one-ask st (call c output) typed x qs vs p = one-call st c output typed x qs vs p
   one-ask {m = m} st (held l) typed x qs vs (reads-held κs y w i n e p) =
-      record { seen = ap count (p .reads (fit .words .pool, fit .words .words) (tableOf ts) ∙ readings s m (abstracts-of st .1) l .held); stands = st; pool-sized = fit .words .pool; sized = fit .words .words }
+      record { seen = ap count (p .reads (fit .words .pool, fit .words .words) (tableOf ts) ∙ readings _ s m (abstracts-of st .1) l .held); stands = st; pool-sized = fit .words .pool; sized = fit .words .words }
   one-ask {m = m} st (lost l) typed x qs vs (reads-lost κs y w i n e p) =
-      record { seen = ap count (p .reads (fit .words .pool, fit .words .words) (tableOf ts) ∙ readings s m (abstracts-of st .1) l .lost); stands = st; pool-sized = fit .words .pool; sized = fit .words .words }
+      record { seen = ap count (p .reads (fit .words .pool, fit .words .words) (tableOf ts) ∙ readings _ s m (abstracts-of st .1) l .lost); stands = st; pool-sized = fit .words .pool; sized = fit .words .words }
   one-ask {m = m} st (phase l) typed x qs vs (reads-phase κs y w i n e p) =
-      record { seen = ap count (p .reads (fit .words .pool, fit .words .words) (tableOf ts) ∙ readings s m (abstracts-of st .1) l .phase); stands = st; pool-sized = fit .words .pool; sized = fit .words .words }
+      record { seen = ap count (p .reads (fit .words .pool, fit .words .words) (tableOf ts) ∙ readings _ s m (abstracts-of st .1) l .phase); stands = st; pool-sized = fit .words .pool; sized = fit .words .words }
   one-ask {m = m} st (version l) typed x qs vs (reads-version κs y w i v e p) =
       record {
         seen = ap (λ w. numbers (w .major ∷ w .minor ∷ w .patch ∷ [])) (p .reads (fit .words .pool, fit .words .words) (tableOf ts))
-            ∙ ap numbers (readings s m (abstracts-of st .1) l .version ∙ same-shown (reading m l .version));
+            ∙ ap numbers (readings _ s m (abstracts-of st .1) l .version ∙ same-shown (reading m l .version));
         stands = st;
         pool-sized = fit .words .pool;
         sized = fit .words .words;
       }
   one-ask {m = m} st (record-of l r) typed x qs vs (reads-record κs y w i n z e p) =
       record {
-        seen = ap (λ (y : Reading). entry (y .found) (y .bytes)) (p .reads (fit .words .pool, fit .words .words) (tableOf ts) ∙ readings s m (abstracts-of st .1) l .records r);
+        seen = ap (λ (y : Reading). entry (y .found) (y .bytes)) (p .reads (fit .words .pool, fit .words .words) (tableOf ts) ∙ readings _ s m (abstracts-of st .1) l .records r);
         stands = st;
         pool-sized = fit .words .pool;
         sized = fit .words .words;

@@ -1,4 +1,5 @@
 -- What a host of the exported functions sees is what the machine says: the proofs.
+pub mod Boxed
 pub mod Closed
 pub mod Told
 pub mod Fitting
@@ -7,4 +8,3 @@ pub mod Lawful
 pub mod Asked
 pub mod Equation
 pub mod Calls
-pub mod Boxed

@@ -31,6 +31,7 @@ use Rattle.json_sure.specs.declared.Judged.{Judged}
 use Rattle.json_sure.specs.Judges.{Judges}
 use Rattle.table_whole.specs.declared.TableRead.{TableRead}
 use Rattle.table_whole.specs.Reads.{Reads as ReadsTable}
+use Rattle.pool.specs.declared.Pool.{Pool}
 use Rattle.pool_laws.specs.declared.Batch.{Batch}
 use Rattle.site.specs.declared.Site.{Site}
 use Rattle.site.specs.declared.Step.{Step}
@@ -43,25 +44,24 @@ use Rattle.sitec.specs.Lent.{Words, WordsAndTable, Called, Told, Handed, Starte
 use Rattle.table_whole.specs.declared.SiteTable.{SiteTable}
 use Rattle.store_site.specs.Turns.{Plain}
 use Rattle.store_whole.specs.Image.{Wide}
-use Rattle.store_site.specs.Layout.{siteWords}
 
 pub record Once : Type 1 where
-  -- ---- what is exported: the outcome, the words and the bytes of a lent output. Words in which what has happened on a link is 0 or 1 (start leaves such, and every
-  -- call keeps them so) are told to the last bit; a word has 64
-  pub called : {Fits : Type 0} {t : SiteTable} {x : Step} {ws vs us : List ℕ} {r q : Outcome} → Fits → length ws ≡ siteWords → Plain ws → Wide vs → Wide us
-      → Called Fits t x ws vs r → Called Fits t x ws us q → (r ≡ q) × (vs ≡ us)
-  pub told : {Fits : Type 0} {t : SiteTable} {time : ℕ} {refuses : Refusal → Bool} {p : Plan} {ws vs us xs ys zs : List ℕ} {r q : Outcome} → Fits → length ws ≡ siteWords → Plain ws → Wide vs → Wide us
-      → Told Fits t time refuses p ws vs xs ys r → Told Fits t time refuses p ws us xs zs q → (r ≡ q) × (vs ≡ us) × (ys ≡ zs)
+  -- ---- what is exported: the outcome, the words and the bytes of a lent output. A pool's words are told to the last bit; so are a site's, where what has happened on a
+  -- link is 0 or 1 (start leaves such, and every call keeps them so); a word has 64
+  pub called : {Fits : Type 0} {t : SiteTable} {x : Step} {ps qs os ws vs us : List ℕ} {r q : Outcome} → Fits → Words ps ws → Plain ws → Wide qs → Wide os → Wide vs → Wide us
+      → Called Fits t x ps qs ws vs r → Called Fits t x ps os ws us q → (r ≡ q) × (qs ≡ os) × (vs ≡ us)
+  pub told : {Fits : Type 0} {t : SiteTable} {time : ℕ} {refuses : Refusal → Bool} {p : Plan} {ps qs os ws vs us xs ys zs : List ℕ} {r q : Outcome} → Fits → Words ps ws → Plain ws → Wide qs → Wide os → Wide vs → Wide us
+      → Told Fits t time refuses p ps qs ws vs xs ys r → Told Fits t time refuses p ps os ws us xs zs q → (r ≡ q) × (qs ≡ os) × (vs ≡ us) × (ys ≡ zs)
   -- a packet call, with the words lent for its commands
-  pub handed : {Fits : Type 0} {t : SiteTable} {time : ℕ} {refuses : Refusal → Bool} {p : Plan} {ws vs us xs ys zs cs ds es : List ℕ} {r q : Outcome} → Fits → length ws ≡ siteWords → Plain ws → Wide vs → Wide us
-      → Told Fits t time refuses p ws vs xs ys r × Handed Fits (p .commands) cs ds r → Told Fits t time refuses p ws us xs zs q × Handed Fits (p .commands) cs es q
-      → (r ≡ q) × (vs ≡ us) × (ys ≡ zs) × (ds ≡ es)
-  pub started : {b : List ℕ} {links primary period first time : ℕ} {ws vs us xs ys zs : List ℕ} {r q : Outcome} → WordsAndTable ws xs
-      → Started b links primary period first time ws vs xs ys r → Started b links primary period first time ws us xs zs q → (r ≡ q) × (vs ≡ us) × (ys ≡ zs)
-  pub read : {A : Type 0} {f : Site → A} {none : A} {ws : List ℕ} {r q : A} → Words ws → ReadOut f none ws r → ReadOut f none ws q → r ≡ q
+  pub handed : {Fits : Type 0} {t : SiteTable} {time : ℕ} {refuses : Refusal → Bool} {p : Plan} {ps qs os ws vs us xs ys zs cs ds es : List ℕ} {r q : Outcome} → Fits → Words ps ws → Plain ws → Wide qs → Wide os → Wide vs → Wide us
+      → Told Fits t time refuses p ps qs ws vs xs ys r × Handed Fits (p .commands) cs ds r → Told Fits t time refuses p ps os ws us xs zs q × Handed Fits (p .commands) cs es q
+      → (r ≡ q) × (qs ≡ os) × (vs ≡ us) × (ys ≡ zs) × (ds ≡ es)
+  pub started : {b : List ℕ} {site links primary period first time : ℕ} {ps qs os ws vs us xs ys zs : List ℕ} {r q : Outcome} → WordsAndTable ps ws xs → Wide qs → Wide os
+      → Started b site links primary period first time ps qs ws vs xs ys r → Started b site links primary period first time ps os ws us xs zs q → (r ≡ q) × (qs ≡ os) × (vs ≡ us) × (ys ≡ zs)
+  pub read : {A : Type 0} {f : Site → A} {none : A} {ps ws : List ℕ} {r q : A} → Words ps ws → ReadOut f none ps ws r → ReadOut f none ps ws q → r ≡ q
   -- ---- the calls
-  pub starts : {b : List ℕ} {links primary period first time : ℕ} {r q : Step}
-      → Starts b links primary period first time r → Starts b links primary period first time q → r ≡ q
+  pub starts : {b : List ℕ} {p : Pool} {site links primary period first time : ℕ} {r q : Step}
+      → Starts b p site links primary period first time r → Starts b p site links primary period first time q → r ≡ q
   pub gives : {s : Site} {time : ℕ} {refuses : Refusal → Bool} {p : Plan} {xs ys zs : List ℕ} {r q : Step}
       → Gives s time refuses p xs ys r → Gives s time refuses p xs zs q → (r ≡ q) × (ys ≡ zs)
   pub acks : {s after : Site} {b : Batch} {time hint hinted : ℕ} {received xs ys zs : List ℕ} {r q : Step}

@@ -1,4 +1,4 @@
--- The parts of a StatusRequest together: the words are ws, the site's table is t.
+-- The parts of a StatusRequest together: the pool's words are ps, the site's ws, its table is t.
 -- Assumes nothing.
 use Rattle.basis.proofs.Std.{ℕ, _≡_, sym, ap, _∙_, Bool, true, false, List, []}
 use Rattle.answer.specs.declared.Answer.{Answer}
@@ -23,14 +23,14 @@ use Rattle.packet_answer.proofs.Choices.{not-acked, picked-first, picked-second
 use Rattle.packet_status.specs.StatusReply.{valueOf, valueIn, told, passes, requestedOf, statusTaken}
 
 -- the value of an entry of a known component
-pub known-value : (ws : List ℕ) (t : SiteTable) (component : ℕ) (e : StatusEntry) {k : Sought} {v : Value}
+pub known-value : (ps ws : List ℕ) (t : SiteTable) (component : ℕ) (e : StatusEntry) {k : Sought} {v : Value}
     → k ≡ Is component
-    → v ≡ valueOf (siteOf ws t) (statusSought t component e)
-    → v ≡ valueIn (siteOf ws t) k e
-known-value ws t component e f g =
+    → v ≡ valueOf (siteOf ps ws t) (statusSought t component e)
+    → v ≡ valueIn (siteOf ps ws t) k e
+known-value ps ws t component e f g =
     g
-    ∙ ap (λ (u : SiteTable). valueOf (siteOf ws t) (statusSought u component e)) (sym (table-of ws t))
-    ∙ ap (λ (x : Sought). valueIn (siteOf ws t) x e) (sym f)
+    ∙ ap (λ (u : SiteTable). valueOf (siteOf ps ws t) (statusSought u component e)) (sym (table-of ps ws t))
+    ∙ ap (λ (x : Sought). valueIn (siteOf ps ws t) x e) (sym f)
 
 -- all entries of a known component
 pub known-passes : (t : SiteTable) (component : ℕ) (f : StatusFields) {k : Sought} {b : Bool} (s : Site)
@@ -43,32 +43,32 @@ known-passes t component f s g h e =
     ∙ ap (λ (u : SiteTable). allStatuses u component (f .entries) (f .count)) (sym e)
     ∙ ap (λ (x : Sought). passes s f x) (sym g)
 
-abbrev answer : SiteTable → List ℕ → Question → StatusFields → Sought → Taken
-answer t ws q f k = answering (siteOf ws t) q Response (textOf (f .component)) (told (siteOf ws t) k f) []
+abbrev answer : SiteTable → List ℕ → List ℕ → Question → StatusFields → Sought → Taken
+answer t ps ws q f k = answering (siteOf ps ws t) q Response (textOf (f .component)) (told (siteOf ps ws t) k f) []
 
-module _ (t : SiteTable) (ws : List ℕ) (q : Question) (f : StatusFields) {vs xs ys : List ℕ} {r : Answer} where
+module _ (t : SiteTable) (ps ws : List ℕ) (q : Question) (f : StatusFields) {qs vs xs ys : List ℕ} {r : Answer} where
   pub status-judged : {g : StatusFields}
       → g ≡ f
-      → TakesIn t q (byVerdict (g .verdict) (siteOf ws t) q (requestedOf (siteOf ws t) q g (componentSought t (g .component)))) ws vs xs ys r
-      → TakesIn t q (statusTaken (siteOf ws t) q f) ws vs xs ys r
+      → TakesIn t q (byVerdict (g .verdict) (siteOf ps ws t) q (requestedOf (siteOf ps ws t) q g (componentSought t (g .component)))) ps qs ws vs xs ys r
+      → TakesIn t q (statusTaken (siteOf ps ws t) q f) ps qs ws vs xs ys r
   unfolding statusTaken
   status-judged {g} e x =
-      like t ws q (λ (y : StatusFields). statusTaken (siteOf ws t) q y) (sym e)
-      (like t ws q (λ (u : SiteTable). byVerdict (g .verdict) (siteOf ws t) q (requestedOf (siteOf ws t) q g (componentSought u (g .component)))) (table-of ws t) x)
+      like t ps ws q (λ (y : StatusFields). statusTaken (siteOf ps ws t) q y) (sym e)
+      (like t ps ws q (λ (u : SiteTable). byVerdict (g .verdict) (siteOf ps ws t) q (requestedOf (siteOf ps ws t) q g (componentSought u (g .component)))) (table-of ps ws t) x)
 
   -- by whether all entries pass
   module _ {k : Sought} (h : k ≡ componentSought t (f .component)) where
-    pub all-pass : passes (siteOf ws t) f k ≡ true
-        → TakesIn t q (answer t ws q f k) ws vs xs ys r
-        → TakesIn t q (requestedOf (siteOf ws t) q f (componentSought t (f .component))) ws vs xs ys r
+    pub all-pass : passes (siteOf ps ws t) f k ≡ true
+        → TakesIn t q (answer t ps ws q f k) ps qs ws vs xs ys r
+        → TakesIn t q (requestedOf (siteOf ps ws t) q f (componentSought t (f .component))) ps qs ws vs xs ys r
     all-pass e g =
-        like t ws q (λ (x : Sought). requestedOf (siteOf ws t) q f x) (sym h)
-        (picked-first t ws q (passes (siteOf ws t) f k) (answer t ws q f k) (notAcked (siteOf ws t) q unknownStatus) e g)
+        like t ps ws q (λ (x : Sought). requestedOf (siteOf ps ws t) q f x) (sym h)
+        (picked-first t ps ws q (passes (siteOf ps ws t) f k) (answer t ps ws q f k) (notAcked (siteOf ps ws t) q unknownStatus) e g)
 
-    pub one-fails : passes (siteOf ws t) f k ≡ false
-        → GivesIn t (q .time) never (notAcked (siteOf ws t) q unknownStatus .plan) ws vs xs ys r
-        → TakesIn t q (requestedOf (siteOf ws t) q f (componentSought t (f .component))) ws vs xs ys r
+    pub one-fails : passes (siteOf ps ws t) f k ≡ false
+        → GivesIn t (q .time) never (notAcked (siteOf ps ws t) q unknownStatus .plan) ps qs ws vs xs ys r
+        → TakesIn t q (requestedOf (siteOf ps ws t) q f (componentSought t (f .component))) ps qs ws vs xs ys r
     one-fails e g =
-        like t ws q (λ (x : Sought). requestedOf (siteOf ws t) q f x) (sym h)
-        (picked-second t ws q (passes (siteOf ws t) f k) (answer t ws q f k) (notAcked (siteOf ws t) q unknownStatus) e
-        (not-acked t ws q unknownStatus g))
+        like t ps ws q (λ (x : Sought). requestedOf (siteOf ps ws t) q f x) (sym h)
+        (picked-second t ps ws q (passes (siteOf ps ws t) f k) (answer t ps ws q f k) (notAcked (siteOf ps ws t) q unknownStatus) e
+        (not-acked t ps ws q unknownStatus g))

@@ -1,8 +1,8 @@
 // StatusRequest, of either form: its entries, told with their values, which are read from the words as they are written out.
 ghost use mathlib.Core.Path.{_≡_};
 ghost use mathlib.Core.Bool.{true, false};
-ghost use mathlib.Core.List.{[], _++_};
-ghost use Prim.Native.Nat.{_<_};
+ghost use mathlib.Core.List.{List, [], _++_};
+ghost use Prim.Native.Nat.{ℕ, _<_};
 ghost use lib.ListN.{length};
 ghost use Rattle.output.specs.Put.{Wrote};
 ghost use Rattle.write_message.specs.Message.Message.{ack};
@@ -34,7 +34,7 @@ use write_message::Value;
 // The value of a status of a known component.
 fn value_of(w: &[u64], t: &[u8], component: u8, e: StatusEntry) -> Value
     requires { ⌜ (length (now w) ≡ siteWords) × (length (now t) ≡ tableBytes) ⌝ }
-    ensures { λ r. ⌜ r ≡ valueOf (siteOf (now (w .entry)) (tableOf (now (t .entry)))) (statusSought (tableOf (now (t .entry))) component e) ⌝ }
+    ensures { λ r. ⌜ ((ps : List ℕ) → r ≡ valueOf (siteOf ps (now (w .entry)) (tableOf (now (t .entry)))) (statusSought (tableOf (now (t .entry))) component e)) ⌝ }
 {
     let k = packet_lookup::status(t, component, e);
     match k {
@@ -45,7 +45,7 @@ fn value_of(w: &[u64], t: &[u8], component: u8, e: StatusEntry) -> Value
 
 fn value_in(w: &[u64], t: &[u8], component: Sought, e: StatusEntry) -> Value
     requires { ⌜ (length (now w) ≡ siteWords) × (length (now t) ≡ tableBytes) ⌝ }
-    ensures { λ r. ⌜ r ≡ valueIn (siteOf (now (w .entry)) (tableOf (now (t .entry)))) component e ⌝ }
+    ensures { λ r. ⌜ ((ps : List ℕ) → r ≡ valueIn (siteOf ps (now (w .entry)) (tableOf (now (t .entry)))) component e) ⌝ }
 {
     match component {
         Sought::Is(c) => value_of(w, t, c, e),
@@ -64,7 +64,7 @@ fn write_entry(
     first: bool,
 ) -> usize
     requires { ⌜ (length (now w) ≡ siteWords) × (length (now t) ≡ tableBytes) ⌝ }
-    ensures { λ r. ⌜ Wrote (now (out .entry)) at (entryPieces responseKind first (toldOf (siteOf (now (w .entry)) (tableOf (now (t .entry)))) component e)) (now (out .exit)) r ⌝ }
+    ensures { λ r. ⌜ ((ps : List ℕ) → Wrote (now (out .entry)) at (entryPieces responseKind first (toldOf (siteOf ps (now (w .entry)) (tableOf (now (t .entry)))) component e)) (now (out .exit)) r) ⌝ }
 {
     let v = value_in(w, t, component, e);
     let code = e.code;
@@ -83,7 +83,7 @@ fn write_entries(
     count: usize,
 ) -> usize
     requires { ⌜ (length (now w) ≡ siteWords) × (length (now t) ≡ tableBytes) ⌝ }
-    ensures { λ r. ⌜ Wrote (now (out .entry)) at (entriesPieces responseKind true (toldTo (siteOf (now (w .entry)) (tableOf (now (t .entry)))) component entries count)) (now (out .exit)) r ⌝ }
+    ensures { λ r. ⌜ ((ps : List ℕ) → Wrote (now (out .entry)) at (entriesPieces responseKind true (toldTo (siteOf ps (now (w .entry)) (tableOf (now (t .entry)))) component entries count)) (now (out .exit)) r) ⌝ }
 {
     let mut end = at;
     let mut i: usize = 0;
@@ -105,7 +105,7 @@ fn write_response(
     f: StatusFields,
 ) -> usize
     requires { ⌜ (length (now w) ≡ siteWords) × (length (now t) ≡ tableBytes) ⌝ }
-    ensures { λ r. ⌜ Wrote (now (out .entry)) 0 (pieces (responseOf q responseKind (textOf (f .component)) (told (siteOf (now (w .entry)) (tableOf (now (t .entry)))) component f))) (now (out .exit)) r ⌝ }
+    ensures { λ r. ⌜ ((ps : List ℕ) → Wrote (now (out .entry)) 0 (pieces (responseOf q responseKind (textOf (f .component)) (told (siteOf ps (now (w .entry)) (tableOf (now (t .entry)))) component f))) (now (out .exit)) r) ⌝ }
 {
     let named = f.component;
     let entries = f.entries;
@@ -124,7 +124,7 @@ fn answer_and_response(
     out: &mut [u8],
 ) -> usize
     requires { ⌜ (length (now w) ≡ siteWords) × (length (now t) ≡ tableBytes) ⌝ }
-    ensures { λ r. ⌜ Wrote (now (out .entry)) 0 (pieces (ack (q .received .bytes)) ++ pieces (responseOf q responseKind (textOf (f .component)) (told (siteOf (now (w .entry)) (tableOf (now (t .entry)))) component f))) (now (out .exit)) r ⌝ }
+    ensures { λ r. ⌜ ((ps : List ℕ) → Wrote (now (out .entry)) 0 (pieces (ack (q .received .bytes)) ++ pieces (responseOf q responseKind (textOf (f .component)) (told (siteOf ps (now (w .entry)) (tableOf (now (t .entry)))) component f))) (now (out .exit)) r) ⌝ }
 {
     let end = packet_answer::ack(q, out);
     if out.len() < end {
@@ -156,7 +156,7 @@ fn reply(
     out: &mut [u8],
 ) -> Answer
     requires { ⌜ (length (now w) ≡ siteWords) × ((length (now t) ≡ tableBytes) × (q .link < 4)) ⌝ }
-    ensures { λ r. ⌜ TakesIn (tableOf (now (t .entry))) q (answering (siteOf (now (w .entry)) (tableOf (now (t .entry)))) q responseKind (textOf (f .component)) (told (siteOf (now (w .entry)) (tableOf (now (t .entry)))) component f) []) (now (w .entry)) (now (w .exit)) (now (out .entry)) (now (out .exit)) r ⌝ }
+    ensures { λ r. ⌜ ((ps : List ℕ) → TakesIn (tableOf (now (t .entry))) q (answering (siteOf ps (now (w .entry)) (tableOf (now (t .entry)))) q responseKind (textOf (f .component)) (told (siteOf ps (now (w .entry)) (tableOf (now (t .entry)))) component f) []) ps ps (now (w .entry)) (now (w .exit)) (now (out .entry)) (now (out .exit)) r) ⌝ }
 {
     if q.included {
         let end = write_response(out, w, t, q, component, f);
@@ -175,7 +175,7 @@ fn reply(
 
 fn requested(w: &mut [u64], t: &[u8], q: Question, f: StatusFields, out: &mut [u8]) -> Answer
     requires { ⌜ (length (now w) ≡ siteWords) × ((length (now t) ≡ tableBytes) × (q .link < 4)) ⌝ }
-    ensures { λ r. ⌜ TakesIn (tableOf (now (t .entry))) q (requestedOf (siteOf (now (w .entry)) (tableOf (now (t .entry)))) q f (componentSought (tableOf (now (t .entry))) (f .component))) (now (w .entry)) (now (w .exit)) (now (out .entry)) (now (out .exit)) r ⌝ }
+    ensures { λ r. ⌜ ((ps : List ℕ) → TakesIn (tableOf (now (t .entry))) q (requestedOf (siteOf ps (now (w .entry)) (tableOf (now (t .entry)))) q f (componentSought (tableOf (now (t .entry))) (f .component))) ps ps (now (w .entry)) (now (w .exit)) (now (out .entry)) (now (out .exit)) r) ⌝ }
 {
     let named = f.component;
     let component = packet_lookup::component(t, named);
@@ -195,7 +195,7 @@ pub fn status_request(
     out: &mut [u8],
 ) -> Answer
     requires { ⌜ (length (now w) ≡ siteWords) × ((length (now t) ≡ tableBytes) × ((q .link < 4) × Indexed (now packet) (now places))) ⌝ }
-    ensures { λ r. ⌜ TakesIn (tableOf (now (t .entry))) q (statusTaken (siteOf (now (w .entry)) (tableOf (now (t .entry)))) q (statusAt Asking.Plain (now (packet .entry)))) (now (w .entry)) (now (w .exit)) (now (out .entry)) (now (out .exit)) r ⌝ }
+    ensures { λ r. ⌜ ((ps : List ℕ) → TakesIn (tableOf (now (t .entry))) q (statusTaken (siteOf ps (now (w .entry)) (tableOf (now (t .entry)))) q (statusAt Asking.Plain (now (packet .entry)))) ps ps (now (w .entry)) (now (w .exit)) (now (out .entry)) (now (out .exit)) r) ⌝ }
 {
     let f = read_lists::read_status(packet, places, Asking::Plain);
     let v = f.verdict;

@@ -15,7 +15,6 @@ use Rattle.machine.specs.Table.{goodStart, first as firstOf, Begins}
 use Rattle.machine.specs.Table.Begins.{begins, not-good, no-table}
 use Rattle.machine.specs.Box.{withPool}
 use Rattle.refine_parts.specs.Same.{Beside, nobody, SamePool}
-use Rattle.refine_parts.specs.Claims.{Rest}
 use Rattle.refine_parts.proofs.Beside.{same-beside}
 use Rattle.refine_calls.specs.Abstracts.{Abstracts}
 use Rattle.refine_calls.specs.Start.{startFor, SameBeginning, Starting}

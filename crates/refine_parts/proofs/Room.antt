@@ -61,6 +61,14 @@ fullest-to held m e (suc k) h = go (fullestTo held k) (fullestBelow (suc k) m) (
     go : (a b : ℕ) → a ≡ b → b < suc k → fuller held a (suc k) ≡ pick (ltb (ownedBy m b) (ownedBy m (suc k))) (suc k) b
     go a b s f = rw (s, e b (omega arith), e (suc k) h)
 
+-- a link that holds a record is configured
+holds-configured : {n : ℕ} (l : ℕ) (hs : List Held) → Each (Below n) hs → 1 ≤ count (isFor l) hs → l < n
+holds-configured {n} l hs links one = go (lt-or-ge l n)
+  where
+    go : (l < n) ⊎ (n ≤ l) → l < n
+    go (inl h) = h
+    go (inr h) = absurd (omega (arith, one, beyond l h hs links))
+
 -- the loser, of the configured links
 abbrev pub Configured : Listed → Loser → Type 0
 Configured m Nobody = Unit {0}
@@ -155,29 +163,12 @@ module _ {links k q : ℕ} {x : Beside} {p : Pool} {m : Listed} (same : SamePool
     fullest-configured : 16 < ownedBy m (fullest m) → Configured m (Owner (fullest m))
     fullest-configured most = (fullest-below m 8 (omega arith), go (isOwn m (fullest m)) refl)
       where
+        counted : (t : Bool) → isOwn m (fullest m) ≡ t → 16 < count (isFor (fullest m % 4)) (pick t (m .held) (m .beside .held))
+        counted t e = omega (arith, most, ap (λ (t : Bool). count (isFor (fullest m % 4)) (pick t (m .held) (m .beside .held))) e)
+
         go : (t : Bool) → isOwn m (fullest m) ≡ t → fullest m % 4 < length (pick t (m .lost) (m .beside .lost))
-        go true e = by (lt-or-ge (fullest m % 4) (length (m .lost)))
-          where
-            by : (fullest m % 4 < length (m .lost)) ⊎ (length (m .lost) ≤ fullest m % 4) → fullest m % 4 < length (m .lost)
-            by (inl f) = f
-            by (inr f) =
-                absurd (omega (
-                  arith,
-                  most,
-                  ap (λ (t : Bool). count (isFor (fullest m % 4)) (pick t (m .held) (m .beside .held))) e,
-                  beyond (fullest m % 4) f (m .held) (same .good .own .links),
-                ))
-        go false e = by (lt-or-ge (fullest m % 4) (length (m .beside .lost)))
-          where
-            by : (fullest m % 4 < length (m .beside .lost)) ⊎ (length (m .beside .lost) ≤ fullest m % 4) → fullest m % 4 < length (m .beside .lost)
-            by (inl f) = f
-            by (inr f) =
-                absurd (omega (
-                  arith,
-                  most,
-                  ap (λ (t : Bool). count (isFor (fullest m % 4)) (pick t (m .held) (m .beside .held))) e,
-                  beyond (fullest m % 4) f (m .beside .held) (same .beside .links),
-                ))
+        go true e = holds-configured (fullest m % 4) (m .held) (same .good .own .links) (omega (arith, counted true e))
+        go false e = holds-configured (fullest m % 4) (m .beside .held) (same .beside .links) (omega (arith, counted false e))
 
     pub loser-configured : Configured m (loserIn 8 (records p) (ownerOf (m .site) l))
     loser-configured =

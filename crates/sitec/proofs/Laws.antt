@@ -38,53 +38,66 @@ refusal {P} a e f z = by a refl (rw e at z)
     by (Done y) q z = absurd (omega arith)
     by (Refused y) q z = f y q
 
-pub misfits : {Fits : Type 0} {t : SiteTable} {x : Step} {ws : List ℕ} {r : Outcome} → (Fits → ⊥) → r ≡ misfit → Called Fits t x ws ws r
+pub misfits : {Fits : Type 0} {t : SiteTable} {x : Step} {ps ws : List ℕ} {r : Outcome} → (Fits → ⊥) → r ≡ misfit → Called Fits t x ps ps ws ws r
 misfits n e =
-    record { outcome = λ f. absurd (n f); site = λ f. absurd (n f); plain = λ p. p; sized = refl; kept = λ z. refl; other = λ m. e }
+    record {
+      outcome = λ f. absurd (n f);
+      site = λ f. absurd (n f);
+      plain = λ p. p;
+      pool-sized = refl;
+      sized = refl;
+      pool-kept = λ z. refl;
+      kept = λ z. refl;
+      other = λ m. e;
+    }
 
-pub calls : {Fits : Type 0} {t : SiteTable} {x : Step} {ws vs : List ℕ} {a : Answer} {r : Outcome}
+pub calls : {Fits : Type 0} {t : SiteTable} {x : Step} {ps qs ws vs : List ℕ} {a : Answer} {r : Outcome}
     → Fits
+    → length qs ≡ length ps
     → length vs ≡ length ws
-    → StepsIn t x ws vs a
+    → StepsIn t x ps qs ws vs a
     → r ≡ outcomeOf a
-    → Called Fits t x ws vs r
-calls {a = a} fits n s e =
+    → Called Fits t x ps qs ws vs r
+calls {a = a} fits m n s e =
     record {
       outcome = λ f. e ∙ ap (λ (y : Step). outcomeOf (y .answer)) (s .step);
       site = λ f. ap (λ (y : Step). y .site) (s .step);
       plain = s .plain;
+      pool-sized = m;
       sized = n;
-      kept = refusal a e (s .kept);
-      other = λ m. absurd (m fits);
+      pool-kept = refusal a e (λ why q. s .kept why q .0);
+      kept = refusal a e (λ why q. s .kept why q .1);
+      other = λ z. absurd (z fits);
     }
 
-pub told-misfits : {Fits : Type 0} {t : SiteTable} {time : ℕ} {refuses : Refusal → Bool} {p : Plan} {ws xs : List ℕ} {r : Outcome}
+pub told-misfits : {Fits : Type 0} {t : SiteTable} {time : ℕ} {refuses : Refusal → Bool} {p : Plan} {ps ws xs : List ℕ} {r : Outcome}
     → (Fits → ⊥)
     → r ≡ misfit
-    → Told Fits t time refuses p ws ws xs xs r
+    → Told Fits t time refuses p ps ps ws ws xs xs r
 told-misfits n e = record { called = misfits n e; out = λ f. absurd (n f); unwritten = λ z. refl }
 
-pub tells : {Fits : Type 0} {t : SiteTable} {time : ℕ} {refuses : Refusal → Bool} {p : Plan} {ws vs xs ys : List ℕ} {a : Answer} {r : Outcome}
+pub tells : {Fits : Type 0} {t : SiteTable} {time : ℕ} {refuses : Refusal → Bool} {p : Plan} {ps qs ws vs xs ys : List ℕ} {a : Answer} {r : Outcome}
     → Fits
+    → length qs ≡ length ps
     → length vs ≡ length ws
-    → GivesIn t time refuses p ws vs xs ys a
+    → GivesIn t time refuses p ps qs ws vs xs ys a
     → r ≡ outcomeOf a
-    → Told Fits t time refuses p ws vs xs ys r
-tells {p = p} {xs = xs} {a = a} fits n g e =
+    → Told Fits t time refuses p ps qs ws vs xs ys r
+tells {p = p} {xs = xs} {a = a} fits m n g e =
     record {
-      called = calls fits n (record { step = g .gives .step; plain = g .plain; kept = g .kept }) e;
+      called = calls fits m n (record { step = g .gives .step; plain = g .plain; kept = g .kept }) e;
       out = λ f. g .gives .out ∙ ap (λ (y : Step). outAfter xs (p .messages) (y .answer)) (g .gives .step);
       unwritten = refusal a e (λ why q. g .gives .out ∙ ap (outAfter xs (p .messages)) q);
     }
 
 -- a done call reports its plan
-done-reports : {t : SiteTable} {time : ℕ} {refuses : Refusal → Bool} {p : Plan} {ws vs xs ys : List ℕ} {a : Answer} {x : Report}
-    → GivesIn t time refuses p ws vs xs ys a
+done-reports : {t : SiteTable} {time : ℕ} {refuses : Refusal → Bool} {p : Plan} {ps qs ws vs xs ys : List ℕ} {a : Answer} {x : Report}
+    → GivesIn t time refuses p ps qs ws vs xs ys a
     → a ≡ Done x
     → x .commands ≡ length (p .commands)
-done-reports {t} {time} {refuses} {p} {ws} {xs = xs} {x = x} g e =
+done-reports {t} {time} {refuses} {p} {ps} {ws = ws} {xs = xs} {x = x} g e =
     let end = writtenTo xs (p .messages) .end in
-    let d : judged (issuing (batchOf p) refuses) inOrder (Done (reportOf p end)) ≡ Done x = sym (stepped-answer (siteOf ws t) (withIssued (p .site) (batchOf p) time) (answerOf refuses p end)) ∙ ap (λ (y : Step). y .answer) (sym (g .gives .step)) ∙ e in
+    let d : judged (issuing (batchOf p) refuses) inOrder (Done (reportOf p end)) ≡ Done x = sym (stepped-answer (siteOf ps ws t) (withIssued (p .site) (batchOf p) time) (answerOf refuses p end)) ∙ ap (λ (y : Step). y .answer) (sym (g .gives .step)) ∙ e in
     let q : Done (reportOf p end) ≡ Done x = sym (none-refuses (Done (reportOf p end)) (done-none (issuing (batchOf p) refuses) inOrder (reportOf p end) x d)) ∙ d in
     let k : reportOf p end ≡ x = cc in
     ap (λ (y : Report). y .commands) (sym k)
@@ -93,8 +106,8 @@ done-reports {t} {time} {refuses} {p} {ws} {xs = xs} {x = x} g e =
 pub hand-misfits : {Fits : Type 0} {commands : List Command} {cs : List ℕ} {r : Outcome} → (Fits → ⊥) → Handed Fits commands cs cs r
 hand-misfits n = record { handed = λ f. absurd (n f); unhanded = λ z. refl }
 
-module _ {Fits : Type 0} {t : SiteTable} {time : ℕ} {refuses : Refusal → Bool} {p : Plan} {ws vs xs ys cs : List ℕ} {a : Answer} {r : Outcome} where
-  hands-none : GivesIn t time refuses p ws vs xs ys a → r ≡ outcomeOf a → handsOf a ≡ false → Handed Fits (p .commands) cs cs r
+module _ {Fits : Type 0} {t : SiteTable} {time : ℕ} {refuses : Refusal → Bool} {p : Plan} {ps qs ws vs xs ys cs : List ℕ} {a : Answer} {r : Outcome} where
+  hands-none : GivesIn t time refuses p ps qs ws vs xs ys a → r ≡ outcomeOf a → handsOf a ≡ false → Handed Fits (p .commands) cs cs r
   hands-none g e h = record { handed = λ f z. by a refl (rw e at z); unhanded = λ z. refl }
     where
       none : (ms : List Command) → length ms ≡ 0 → cs ≡ handedOver ms cs
@@ -109,7 +122,7 @@ module _ {Fits : Type 0} {t : SiteTable} {time : ℕ} {refuses : Refusal → Boo
 
   hands-some : (given : List Command) {ds : List ℕ}
       → (0 < length (p .commands) → p .commands ≡ given)
-      → GivesIn t time refuses p ws vs xs ys a
+      → GivesIn t time refuses p ps qs ws vs xs ys a
       → r ≡ outcomeOf a
       → handsOf a ≡ true
       → ds ≡ handedOver given cs
@@ -126,7 +139,7 @@ module _ {Fits : Type 0} {t : SiteTable} {time : ℕ} {refuses : Refusal → Boo
 
   pub hands-over : (given : List Command) {ds : List ℕ}
       → (0 < length (p .commands) → p .commands ≡ given)
-      → GivesIn t time refuses p ws vs xs ys a
+      → GivesIn t time refuses p ps qs ws vs xs ys a
       → r ≡ outcomeOf a
       → ds ≡ pick (handsOf a) (handedOver given cs) cs
       → Handed Fits (p .commands) cs ds r
@@ -135,46 +148,59 @@ module _ {Fits : Type 0} {t : SiteTable} {time : ℕ} {refuses : Refusal → Boo
       (λ h. subst (λ (z : List ℕ). Handed Fits (p .commands) cs z r) (sym (w ∙ ap (λ (b : Bool). pick b (handedOver given cs) cs) h)) (hands-none g e h))
 
 -- what a packet hands over it names
-pub named-only : (t : SiteTable) (ws : List ℕ) (l time : ℕ) (id : Identity) (p : List ℕ)
-    → 0 < length (packetTaken (siteOf ws t) l time id p .plan .commands)
-    → packetTaken (siteOf ws t) l time id p .plan .commands ≡ commandsIn t p
-named-only t ws l time id p = packet-hands (λ (ms : List Command). 0 < length ms → ms ≡ commandsIn t p) (siteOf ws t) l time id p
+pub named-only : (t : SiteTable) (ps ws : List ℕ) (l time : ℕ) (id : Identity) (p : List ℕ)
+    → 0 < length (packetTaken (siteOf ps ws t) l time id p .plan .commands)
+    → packetTaken (siteOf ps ws t) l time id p .plan .commands ≡ commandsIn t p
+named-only t ps ws l time id p = packet-hands (λ (ms : List Command). 0 < length ms → ms ≡ commandsIn t p) (siteOf ps ws t) l time id p
     (λ h. absurd (omega (arith, h)))
-    (λ h. ap (λ (u : SiteTable). commandsIn u p) (table-of ws t))
+    (λ h. ap (λ (u : SiteTable). commandsIn u p) (table-of ps ws t))
 
-module _ {b : List ℕ} {links primary period first time : ℕ} {r : Outcome} where
-  pub start-misfits : {ws ts : List ℕ} → (WordsAndTable ws ts → ⊥) → r ≡ misfit → Started b links primary period first time ws ws ts ts r
+module _ {b : List ℕ} {site links primary period first time : ℕ} {r : Outcome} where
+  pub start-misfits : {ps ws ts : List ℕ} → (WordsAndTable ps ws ts → ⊥) → r ≡ misfit → Started b site links primary period first time ps ps ws ws ts ts r
   start-misfits n e =
-      record { made = λ f. absurd (n f); sized = refl; table-sized = refl; kept = λ z. refl; table-kept = λ z. refl; other = λ m. e }
+      record {
+        made = λ f. absurd (n f);
+        pool-sized = refl;
+        sized = refl;
+        table-sized = refl;
+        pool-kept = λ z. refl;
+        kept = λ z. refl;
+        table-kept = λ z. refl;
+        other = λ m. e;
+      }
 
-  pub begins : {ws vs ts us : List ℕ} {a : Answer}
-      → WordsAndTable ws ts
+  pub begins : {ps qs ws vs ts us : List ℕ} {a : Answer}
+      → WordsAndTable ps ws ts
+      → length qs ≡ length ps
       → length vs ≡ length ws
       → length us ≡ length ts
-      → StartsIn b links primary period first time ws vs ts us a
+      → StartsIn b site links primary period first time ps qs ws vs ts us a
       → r ≡ outcomeOf a
-      → Started b links primary period first time ws vs ts us r
-  begins {a = a} fits n m s e =
+      → Started b site links primary period first time ps qs ws vs ts us r
+  begins {a = a} fits l n m s e =
       record {
         made = λ f. (
           s .step,
           s .starts,
           record {
             outcome = e ∙ ap outcomeOf (s .begun .answer);
+            pool = λ d. s .begun .pool (ap isDone (s .begun .answer) ∙ d);
             words = λ d. s .begun .words (ap isDone (s .begun .answer) ∙ d);
             bytes = λ d. s .begun .bytes (ap isDone (s .begun .answer) ∙ d);
           },
         );
+        pool-sized = l;
         sized = n;
         table-sized = m;
+        pool-kept = refusal a e (λ why q. s .begun .pool-kept (ap isDone q));
         kept = refusal a e (λ why q. s .begun .words-kept (ap isDone q));
         table-kept = refusal a e (λ why q. s .begun .bytes-kept (ap isDone q));
         other = λ q. absurd (q fits);
       }
 
-module _ {A : Type 0} {f : Site → A} {none : A} {ws : List ℕ} {r : A} where
-  pub reads : Words ws → ((t : SiteTable) → r ≡ f (siteOf ws t)) → Read f none ws r
+module _ {A : Type 0} {f : Site → A} {none : A} {ps ws : List ℕ} {r : A} where
+  pub reads : Words ps ws → ((t : SiteTable) → r ≡ f (siteOf ps ws t)) → Read f none ps ws r
   reads h e = record { reads = λ g. e; other = λ n. absurd (n h) }
 
-  pub unread : (Words ws → ⊥) → r ≡ none → Read f none ws r
+  pub unread : (Words ps ws → ⊥) → r ≡ none → Read f none ps ws r
   unread n e = record { reads = λ g. absurd (n g); other = λ m. e }

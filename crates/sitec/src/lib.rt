@@ -1,5 +1,5 @@
-// What C and Rust call, over memory that the host lends: the site in 1,173 words, its table in 6,178 bytes, one function a call, each the
-// call's own definition with its number. Where a length is another: number 14, and nothing is changed.
+// What C and Rust call, over memory that the host lends: the pool in 520 words, a site in 657, its table in 6,178 bytes, one function a call, each
+// the call's own definition with its number. Where a length is another: number 14, and nothing is changed.
 ghost use mathlib.Core.Path.{_≡_};
 ghost use Rattle.sitec.specs.Outcome.{reportIn, outcomeOf, misfit as misfitOf};
 use answer::Answer;
@@ -9,7 +9,7 @@ pub mod inputs; // inputs.rt: alarms, statuses, the aggregated status, time
 pub mod links; // links.rt: connect and disconnect
 pub mod messages; // messages.rt: packet and pump
 pub mod readings; // readings.rt: what a host reads of a site
-pub mod starting; // starting.rt: the first site
+pub mod starting; // starting.rt: a site begins
 
 // The number of the answer, and what a done call reports; zeros where it is refused.
 #[repr(C)]

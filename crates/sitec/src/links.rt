@@ -6,9 +6,12 @@ ghost use Rattle.sitec.specs.Lent.{Words, Called};
 use super::Outcome;
 
 #[no_mangle]
-pub extern "C" fn rsmp_lent_connect(w: &mut [u64], link: u32, time: u64) -> Outcome
-    ensures { λ r. ⌜ ((t : SiteTable) → Called (Words (now (w .entry))) t (connectStep (siteOf (now (w .entry)) t) link time) (now (w .entry)) (now (w .exit)) r) ⌝ }
+pub extern "C" fn rsmp_lent_connect(p: &[u64], w: &mut [u64], link: u32, time: u64) -> Outcome
+    ensures { λ r. ⌜ ((t : SiteTable) → Called (Words (now (p .entry)) (now (w .entry))) t (connectStep (siteOf (now (p .entry)) (now (w .entry)) t) link time) (now (p .entry)) (now (p .entry)) (now (w .entry)) (now (w .exit)) r) ⌝ }
 {
+    if p.len() != store_site::POOL_WORDS {
+        return super::misfit();
+    }
     if w.len() != store_site::WORDS {
         return super::misfit();
     }
@@ -16,11 +19,19 @@ pub extern "C" fn rsmp_lent_connect(w: &mut [u64], link: u32, time: u64) -> Outc
 }
 
 #[no_mangle]
-pub extern "C" fn rsmp_lent_disconnect(w: &mut [u64], link: u32, time: u64) -> Outcome
-    ensures { λ r. ⌜ ((t : SiteTable) → Called (Words (now (w .entry))) t (disconnectStep (siteOf (now (w .entry)) t) link time) (now (w .entry)) (now (w .exit)) r) ⌝ }
+pub extern "C" fn rsmp_lent_disconnect(
+    p: &mut [u64],
+    w: &mut [u64],
+    link: u32,
+    time: u64,
+) -> Outcome
+    ensures { λ r. ⌜ ((t : SiteTable) → Called (Words (now (p .entry)) (now (w .entry))) t (disconnectStep (siteOf (now (p .entry)) (now (w .entry)) t) link time) (now (p .entry)) (now (p .exit)) (now (w .entry)) (now (w .exit)) r) ⌝ }
 {
+    if p.len() != store_site::POOL_WORDS {
+        return super::misfit();
+    }
     if w.len() != store_site::WORDS {
         return super::misfit();
     }
-    super::outcome_of(call_link::disconnect(w, link, time))
+    super::outcome_of(call_link::disconnect(p, w, link, time))
 }

@@ -38,6 +38,7 @@ fn hand(a: Answer, t: &[u8], received: &[u8], commands: &mut [u64])
 // words. `random` is sixteen random bytes.
 #[no_mangle]
 pub extern "C" fn rsmp_lent_packet(
+    p: &mut [u64],
     w: &mut [u64],
     t: &[u8],
     link: u32,
@@ -47,8 +48,11 @@ pub extern "C" fn rsmp_lent_packet(
     commands: &mut [u64],
     out: &mut [u8],
 ) -> Outcome
-    ensures { λ r. ⌜ Told (WithCommands (now (w .entry)) (now (t .entry)) (now (commands .entry))) (tableOf (now (t .entry))) time (packetRefuses (siteOf (now (w .entry)) (tableOf (now (t .entry)))) link time (identityOf random) (length (now (out .entry))) (now (received .entry))) (packetTaken (siteOf (now (w .entry)) (tableOf (now (t .entry)))) link time (identityOf random) (now (received .entry)) .plan) (now (w .entry)) (now (w .exit)) (now (out .entry)) (now (out .exit)) r × Handed (WithCommands (now (w .entry)) (now (t .entry)) (now (commands .entry))) (packetTaken (siteOf (now (w .entry)) (tableOf (now (t .entry)))) link time (identityOf random) (now (received .entry)) .plan .commands) (now (commands .entry)) (now (commands .exit)) r ⌝ }
+    ensures { λ r. ⌜ Told (WithCommands (now (p .entry)) (now (w .entry)) (now (t .entry)) (now (commands .entry))) (tableOf (now (t .entry))) time (packetRefuses (siteOf (now (p .entry)) (now (w .entry)) (tableOf (now (t .entry)))) link time (identityOf random) (length (now (out .entry))) (now (received .entry))) (packetTaken (siteOf (now (p .entry)) (now (w .entry)) (tableOf (now (t .entry)))) link time (identityOf random) (now (received .entry)) .plan) (now (p .entry)) (now (p .exit)) (now (w .entry)) (now (w .exit)) (now (out .entry)) (now (out .exit)) r × Handed (WithCommands (now (p .entry)) (now (w .entry)) (now (t .entry)) (now (commands .entry))) (packetTaken (siteOf (now (p .entry)) (now (w .entry)) (tableOf (now (t .entry)))) link time (identityOf random) (now (received .entry)) .plan .commands) (now (commands .entry)) (now (commands .exit)) r ⌝ }
 {
+    if p.len() != store_site::POOL_WORDS {
+        return super::misfit();
+    }
     if w.len() != store_site::WORDS {
         return super::misfit();
     }
@@ -58,7 +62,7 @@ pub extern "C" fn rsmp_lent_packet(
     if commands.len() != 16 {
         return super::misfit();
     }
-    let a = call_packet::packet(w, t, link, time, random, received, out);
+    let a = call_packet::packet(p, w, t, link, time, random, received, out);
     hand(a, t, received, commands);
     super::outcome_of(a)
 }
@@ -66,6 +70,7 @@ pub extern "C" fn rsmp_lent_packet(
 // The next due message of the link goes into `out`, one at most; `random` is sixteen random bytes.
 #[no_mangle]
 pub extern "C" fn rsmp_lent_pump(
+    p: &mut [u64],
     w: &mut [u64],
     t: &[u8],
     link: u32,
@@ -73,13 +78,16 @@ pub extern "C" fn rsmp_lent_pump(
     random: Identity,
     out: &mut [u8],
 ) -> Outcome
-    ensures { λ r. ⌜ Told (WordsAndTable (now (w .entry)) (now (t .entry))) (tableOf (now (t .entry))) time (pumpRefuses (siteOf (now (w .entry)) (tableOf (now (t .entry)))) link time (identityOf random) (length (now (out .entry)))) (pumpPlan (siteOf (now (w .entry)) (tableOf (now (t .entry)))) link time (identityOf random)) (now (w .entry)) (now (w .exit)) (now (out .entry)) (now (out .exit)) r ⌝ }
+    ensures { λ r. ⌜ Told (WordsAndTable (now (p .entry)) (now (w .entry)) (now (t .entry))) (tableOf (now (t .entry))) time (pumpRefuses (siteOf (now (p .entry)) (now (w .entry)) (tableOf (now (t .entry)))) link time (identityOf random) (length (now (out .entry)))) (pumpPlan (siteOf (now (p .entry)) (now (w .entry)) (tableOf (now (t .entry)))) link time (identityOf random)) (now (p .entry)) (now (p .exit)) (now (w .entry)) (now (w .exit)) (now (out .entry)) (now (out .exit)) r ⌝ }
 {
+    if p.len() != store_site::POOL_WORDS {
+        return super::misfit();
+    }
     if w.len() != store_site::WORDS {
         return super::misfit();
     }
     if t.len() != store_table::BYTES {
         return super::misfit();
     }
-    super::outcome_of(call_pump::pump(w, t, link, time, random, out))
+    super::outcome_of(call_pump::pump(p, w, t, link, time, random, out))
 }

@@ -7,31 +7,40 @@ use pool::Reading;
 
 // How many records of the link are held.
 #[no_mangle]
-pub extern "C" fn rsmp_lent_held(w: &[u64], link: u32) -> u64
-    ensures { λ r. ⌜ Read (λ (s : Site). heldAt s link) 0 (now (w .entry)) r ⌝ }
+pub extern "C" fn rsmp_lent_held(p: &[u64], w: &[u64], link: u32) -> u64
+    ensures { λ r. ⌜ Read (λ (s : Site). heldAt s link) 0 (now (p .entry)) (now (w .entry)) r ⌝ }
 {
+    if p.len() != store_site::POOL_WORDS {
+        return 0;
+    }
     if w.len() != store_site::WORDS {
         return 0;
     }
-    call_read::held(w, link)
+    call_read::held(p, w, link)
 }
 
 // How many records the link lost since start.
 #[no_mangle]
-pub extern "C" fn rsmp_lent_lost(w: &[u64], link: u32) -> u64
-    ensures { λ r. ⌜ Read (λ (s : Site). lostAt s link) 0 (now (w .entry)) r ⌝ }
+pub extern "C" fn rsmp_lent_lost(p: &[u64], w: &[u64], link: u32) -> u64
+    ensures { λ r. ⌜ Read (λ (s : Site). lostAt s link) 0 (now (p .entry)) (now (w .entry)) r ⌝ }
 {
+    if p.len() != store_site::POOL_WORDS {
+        return 0;
+    }
     if w.len() != store_site::WORDS {
         return 0;
     }
-    call_read::lost(w, link)
+    call_read::lost(p, w, link)
 }
 
 // 0 Down, 1 Greeting, 2 Beating, 3 Up.
 #[no_mangle]
-pub extern "C" fn rsmp_lent_phase(w: &[u64], link: u32) -> u32
-    ensures { λ r. ⌜ Read (λ (s : Site). phaseAt s link) 0 (now (w .entry)) r ⌝ }
+pub extern "C" fn rsmp_lent_phase(p: &[u64], w: &[u64], link: u32) -> u32
+    ensures { λ r. ⌜ Read (λ (s : Site). phaseAt s link) 0 (now (p .entry)) (now (w .entry)) r ⌝ }
 {
+    if p.len() != store_site::POOL_WORDS {
+        return 0;
+    }
     if w.len() != store_site::WORDS {
         return 0;
     }
@@ -40,9 +49,16 @@ pub extern "C" fn rsmp_lent_phase(w: &[u64], link: u32) -> u32
 
 // The version chosen in this life of the link; zeros before.
 #[no_mangle]
-pub extern "C" fn rsmp_lent_version_of(w: &[u64], link: u32) -> ChosenVersion
-    ensures { λ r. ⌜ Read (λ (s : Site). versionAt s link) noVersion (now (w .entry)) r ⌝ }
+pub extern "C" fn rsmp_lent_version_of(p: &[u64], w: &[u64], link: u32) -> ChosenVersion
+    ensures { λ r. ⌜ Read (λ (s : Site). versionAt s link) noVersion (now (p .entry)) (now (w .entry)) r ⌝ }
 {
+    if p.len() != store_site::POOL_WORDS {
+        return ChosenVersion {
+            major: 0,
+            minor: 0,
+            patch: 0,
+        };
+    }
     if w.len() != store_site::WORDS {
         return ChosenVersion {
             major: 0,
@@ -55,14 +71,20 @@ pub extern "C" fn rsmp_lent_version_of(w: &[u64], link: u32) -> ChosenVersion
 
 // The sixteen bytes of the held record of the link with so many older ones.
 #[no_mangle]
-pub extern "C" fn rsmp_lent_record(w: &[u64], link: u32, rank: u64) -> Reading
-    ensures { λ r. ⌜ Read (λ (s : Site). recordAt s link rank) noReading (now (w .entry)) r ⌝ }
+pub extern "C" fn rsmp_lent_record(p: &[u64], w: &[u64], link: u32, rank: u64) -> Reading
+    ensures { λ r. ⌜ Read (λ (s : Site). recordAt s link rank) noReading (now (p .entry)) (now (w .entry)) r ⌝ }
 {
+    if p.len() != store_site::POOL_WORDS {
+        return Reading {
+            found: false,
+            bytes: [0; 16],
+        };
+    }
     if w.len() != store_site::WORDS {
         return Reading {
             found: false,
             bytes: [0; 16],
         };
     }
-    call_read::record_at(w, link, rank)
+    call_read::record_at(p, w, link, rank)
 }

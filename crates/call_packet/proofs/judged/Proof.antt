@@ -11,11 +11,11 @@ read-head-requires c κs =
     (n .packet, lent _ _ _ n)
 
 heed-requires : tie.Need-heed-requires
-heed-requires c κs = (search needs, search needs, search needs, lent _ _ _ (c .before .before .before .before .before .before .before .before .judge .ensures))
+heed-requires c κs = (search needs, search needs, search needs, search needs, lent _ _ _ (c .before .before .before .before .before .before .before .before .before .judge .ensures))
 
 returns : tie.Need-returns
-returns c = rw (c .before .before .before .before .before .before .before .before .before .read-head .ensures) at (c .before .before .before .before .heed .ensures)
+returns c = rw (c .before .before .before .before .before .before .before .before .before .before .before .before .read-head .ensures) at (c .before .before .before .before .before .before .heed .ensures)
 
 pub judged-spec : {M : Type 1} → statement M
 judged-spec = tie.close (tie.spec (λ c κs. search needs) (λ c. search needs) (λ c κs. search needs) (λ c. search needs) (λ c. search needs) (λ c. search needs)
-    read-head-requires (λ c. search needs) (λ c. search needs) (λ c. search needs) heed-requires (λ c. search needs) (λ c. search needs) returns)
+    read-head-requires (λ c. search needs) (λ c. search needs) (λ c. search needs) heed-requires (λ c. search needs) (λ c. search needs) (λ c. search needs) returns)

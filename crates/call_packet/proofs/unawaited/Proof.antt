@@ -5,7 +5,7 @@ use Rattle.call_packet.proofs.unawaited.Statement.{statement}
 use Rattle.call_packet.proofs.unawaited.Tie as tie
 
 returns : tie.Need-returns
-returns c = λ t. rw (← c .before .is-awaited .ensures t) (c .not .ensures)
+returns c = λ ps t. rw (← c .before .is-awaited .ensures ps t) (c .not .ensures)
 
 pub unawaited-spec : {M : Type 1} → statement M
 unawaited-spec = tie.close (tie.spec (λ c κs. search needs) (λ c κs. search needs) returns)

@@ -8,18 +8,18 @@ use Rattle.packet_status.proofs.value_of.Statement.{statement}
 use Rattle.packet_status.proofs.value_of.Tie as tie
 
 returns : tie.Need-returns
-returns c =
+returns c ps =
     let a = c .before .before .before .before .before .before .before .before .args in
     let t = tableOf (a .t .now) in
     let ws = a .w .now in
-    c .status-value .ensures ∙ ap statusValue (c .before .status2 .ensures t) ∙ ap (λ (x : Sought). valueOf (siteOf ws t) x) (sym (c .before .before .before .k .given .1) ∙ c .before .before .before .before .before .status .ensures)
+    c .status-value .ensures ∙ ap statusValue (c .before .status2 .ensures ps t) ∙ ap (λ (x : Sought). valueOf (siteOf ps ws t) x) (sym (c .before .before .before .k .given .1) ∙ c .before .before .before .before .before .status .ensures)
 
 returns-2 : tie.Need-returns-2
-returns-2 c =
+returns-2 c ps =
     let a = c .before .before .before .before .before .args in
     let t = tableOf (a .t .now) in
     let ws = a .w .now in
-    ap (λ (x : Sought). valueOf (siteOf ws t) x) (sym (c .enum-told .given .1) ∙ c .before .before .status .ensures)
+    ap (λ (x : Sought). valueOf (siteOf ps ws t) x) (sym (c .enum-told .given .1) ∙ c .before .before .status .ensures)
 
 pub value-of-spec : {M : Type 1} → statement M
 value-of-spec = tie.close (tie.spec (λ c κs. search needs) (λ c. search needs) (λ c. search needs) (λ c κs. search needs) (λ c κs. search needs)

@@ -6,9 +6,9 @@ use Rattle.packet_status.proofs.write_entry.Statement.{statement}
 use Rattle.packet_status.proofs.write_entry.Tie as tie
 
 returns : tie.Need-returns
-returns c =
+returns c ps =
     let a = c .before .before .before .before .before .before .before .before .before .before .args in
-    one-told (siteOf (a .w .now) (tableOf (a .t .now))) (a .component) (a .e) (a .first) (c .before .before .before .before .before .before .value-in .ensures) (c .before .before .entry .ensures)
+    one-told (siteOf ps (a .w .now) (tableOf (a .t .now))) (a .component) (a .e) (a .first) (c .before .before .before .before .before .before .value-in .ensures ps) (c .before .before .entry .ensures)
 
 pub write-entry-spec : {M : Type 1} → statement M
 write-entry-spec = tie.close (tie.spec (λ c κs. search needs) (λ c κs. search needs) (λ c. search needs) returns)
