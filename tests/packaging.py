@@ -154,7 +154,8 @@ def judge_completions(place):
             (("rsmp-site", "--send", "/x", "alarm", "2", "o"), ["on", "off"]), (("rsmp-site", "--table", f"{ROOT}/VER"), [f"{ROOT}/VERSION"]),
             (("rsmp-replay", "--st"), ["--stream"]), (("rsmp-week", f"{ROOT}/VER"), [f"{ROOT}/VERSION"]), (("rsmp-table", "un"), ["unpack"]),
             (("rsmp-replay", "--rec"), ["--records"]), (("rsmp-site", "--send", "/x", "rec"), ["records"]), (("rsmp-csv", "rec"), ["records"]),
-            (("rsmp-site", "--send", "/x", "south", "rec"), ["records"]), (("rsmp-csv", "st"), ["state"]), (("rsmp-csv", "state", f"{ROOT}/VER"), [f"{ROOT}/VERSION"])):
+            (("rsmp-site", "--send", "/x", "south", "rec"), ["records"]), (("rsmp-csv", "st"), ["state"]),
+            (("rsmp-csv", "state", f"{ROOT}/VER"), [f"{ROOT}/VERSION"])):
         hold(completed(place, *words) == wanted, f"bash completes {words} to {completed(place, *words)}")
 
 
