@@ -112,20 +112,19 @@ module _ (ts ps ws : List ℕ) (pool : length ps ≡ poolWords) (words : length 
   lent-words c qs vs ys cs ds o f p h z =
       ap (take (length (planOf s c .commands))) (h .handed f (ap (λ (q : Outcome). q .number) (p .called .outcome f) ∙ z)) ∙ first-words (planOf s c .commands) cs
 
-module _ (ts ps ws : List ℕ) (f : length ps ≡ poolWords) (h : length ws ≡ siteWords) (g : length ts ≡ tableBytes) where
-  pub opened : (k : MachineCall) (output : List ℕ) (x : Seen) (qs vs : List ℕ) → Allows ts ps ws (call k output) x qs vs → Opened ts ps ws k output x qs vs
-  opened k output x qs vs (connects κs q w l t o e p) = plain ts ps ws f h g (connect l t) qs vs o (f, h) refl refl (λ u. (u, tt)) (p (tableOf ts))
-  opened k output x qs vs (disconnects κs q w l t o e p) = plain ts ps ws f h g (disconnect l t) qs vs o (f, h) refl refl (λ u. (u, tt)) (p (tableOf ts))
-  opened k output x qs vs (packets κs q w table l t random rc cs xs o e p n) =
-      let c : Call = packet l t random (now rc) (now xs) in
-      let ys = now (e .1 .1 .1 .1 .1 .1 .1 .1 .0) in
-      let ds = now (e .1 .1 .1 .1 .1 .1 .1 .0) in
-      lent ts ps ws f h g c qs vs ys ds o (f, h, g, n) (λ u. u) (lent-words ts ps ws f h g c qs vs ys (now cs) ds o (f, h, g, n) (p .0) (p .1)) (p .0)
-  opened k output x qs vs (alarms κs q w table i active t o e p) = plain ts ps ws f h g (alarm i (ltb 0 active) t) qs vs o (f, h, g) refl refl (λ u. (u, tt)) p
-  opened k output x qs vs (statuses κs q w table i v t o e p) = plain ts ps ws f h g (status i v t) qs vs o (f, h, g) refl refl (λ u. (u, tt)) p
-  opened k output x qs vs (aggregates κs q w v t o e p) = plain ts ps ws f h g (aggregated v t) qs vs o (f, h) refl refl (λ u. (u, tt)) (p (tableOf ts))
-  opened k output x qs vs (ticks κs q w t o e p) = plain ts ps ws f h g (tick t) qs vs o (f, h) refl refl (λ u. (u, tt)) (p (tableOf ts))
-  opened k output x qs vs (pumps κs q w table l t random xs o e p) =
-      let s : Site = siteOf ps ws (tableOf ts) in
-      lent ts ps ws f h g (pump l t random (now xs)) qs vs (now (e .1 .1 .1 .1 .1 .1 .0)) [] o (f, h, g) (λ u. (u, tt))
-      (λ z. none-handed ts ps ws f h g (pump l t random (now xs)) (due-none (dueAt s l t) s l t (identityOf random))) p
+pub opened : (ts ps ws : List ℕ) → length ps ≡ poolWords → length ws ≡ siteWords → length ts ≡ tableBytes → (k : MachineCall) (output : List ℕ) (x : Seen) (qs vs : List ℕ) → Allows ts ps ws (call k output) x qs vs → Opened ts ps ws k output x qs vs
+opened ts ps ws f h g k output x qs vs (connects κs q w l t o e p) = plain ts ps ws f h g (connect l t) qs vs o (f, h) refl refl (λ u. (u, tt)) (p (tableOf ts))
+opened ts ps ws f h g k output x qs vs (disconnects κs q w l t o e p) = plain ts ps ws f h g (disconnect l t) qs vs o (f, h) refl refl (λ u. (u, tt)) (p (tableOf ts))
+opened ts ps ws f h g k output x qs vs (packets κs q w table l t random rc cs xs o e p n) =
+    let c : Call = packet l t random (now rc) (now xs) in
+    let ys = now (e .1 .1 .1 .1 .1 .1 .1 .1 .0) in
+    let ds = now (e .1 .1 .1 .1 .1 .1 .1 .0) in
+    lent ts ps ws f h g c qs vs ys ds o (f, h, g, n) (λ u. u) (lent-words ts ps ws f h g c qs vs ys (now cs) ds o (f, h, g, n) (p .0) (p .1)) (p .0)
+opened ts ps ws f h g k output x qs vs (alarms κs q w table i active t o e p) = plain ts ps ws f h g (alarm i (ltb 0 active) t) qs vs o (f, h, g) refl refl (λ u. (u, tt)) p
+opened ts ps ws f h g k output x qs vs (statuses κs q w table i v t o e p) = plain ts ps ws f h g (status i v t) qs vs o (f, h, g) refl refl (λ u. (u, tt)) p
+opened ts ps ws f h g k output x qs vs (aggregates κs q w v t o e p) = plain ts ps ws f h g (aggregated v t) qs vs o (f, h) refl refl (λ u. (u, tt)) (p (tableOf ts))
+opened ts ps ws f h g k output x qs vs (ticks κs q w t o e p) = plain ts ps ws f h g (tick t) qs vs o (f, h) refl refl (λ u. (u, tt)) (p (tableOf ts))
+opened ts ps ws f h g k output x qs vs (pumps κs q w table l t random xs o e p) =
+    let s : Site = siteOf ps ws (tableOf ts) in
+    lent ts ps ws f h g (pump l t random (now xs)) qs vs (now (e .1 .1 .1 .1 .1 .1 .0)) [] o (f, h, g) (λ u. (u, tt))
+    (λ z. none-handed ts ps ws f h g (pump l t random (now xs)) (due-none (dueAt s l t) s l t (identityOf random))) p

@@ -1,6 +1,6 @@
 -- The equation, from each call's.
 -- Assumes nothing.
-use Rattle.basis.proofs.Std.{ℕ, zero, suc, _+_, _<_, _≡_, refl, sym, ap, ap₂, _∙_, subst, true, List, [], _∷_, map, Option, some, none, arith, length, replicate}
+use Rattle.basis.proofs.Std.{ℕ, zero, suc, _+_, _<_, _≡_, refl, sym, ap, ap₂, _∙_, subst, true, true≢false, List, [], _∷_, map, Option, some, none, arith, length, replicate}
 use Rattle.answer.specs.declared.Answer.the-variants.{Done}
 use Rattle.answer.specs.Number.{isDone}
 use Rattle.pool.specs.declared.Pool.{Pool}
@@ -14,6 +14,7 @@ use Rattle.site.specs.Call.{nothingOf}
 use Rattle.call_start.specs.Fresh.{alone}
 use Rattle.call_start.specs.Starts.{Starts as Starts-so}
 use Rattle.sitec.specs.declared.Outcome.{Outcome}
+use Rattle.store_words.specs.Words.{elements}
 use Rattle.store_site.specs.Rows.{placeFrom}
 use Rattle.store_site.specs.Layout.{lostIn, placesIn, poolIn, siteOf, poolWords, siteWords}
 use Rattle.store_site.proofs.SiteLaws.{pool-of as pool-at}
@@ -113,58 +114,52 @@ record One (k j : ℕ) (ts ws2 ts2 : List ℕ) (m : Machine) (o : Option Machine
   pool-sized : length qs ≡ poolWords
   sized : length vs ≡ siteWords
 
-module _ (all : AllCalls) (k j : ℕ) (two : k + j ≡ 1) (ps ws ts ws2 ts2 : List ℕ) (fit : Fits ps ws ts) where
-  abbrev s : Site
-  s = siteOf ps ws (tableOf ts)
+module _ (all : AllCalls) (k j : ℕ) (two : k + j ≡ 1) (ws2 ts2 : List ℕ) where
+  abbrev other-in : List ℕ → Site
+  other-in ps = siteOf ps ws2 (tableOf ts2)
 
-  abbrev t : Site
-  t = siteOf ps ws2 (tableOf ts2)
-
-  abbrev pools : t .pool ≡ s .pool
-  pools = pool-at ps ws2 (tableOf ts2) ∙ sym (pool-at ps ws (tableOf ts))
-
-  one-call : {m : Machine} {o : Option Machine} → Stands k j s t (some m) o → (c : MachineCall) (output : List ℕ) → TypedAct (c .act) → (x : Seen) (qs vs : List ℕ)
-      → Allows ts ps ws (call c output) x qs vs → One k j ts ws2 ts2 m o (call c output) x qs vs
-  one-call {m = m} {o = o} st c output typed x qs vs p =
+  one-call : (ps ws ts : List ℕ) → Fits ps ws ts → {m : Machine} {o : Option Machine} → Stands k j (siteOf ps ws (tableOf ts)) (other-in ps) (some m) o → (c : MachineCall) (output : List ℕ)
+      → TypedAct (c .act) → (x : Seen) (qs vs : List ℕ) → Allows ts ps ws (call c output) x qs vs → One k j ts ws2 ts2 m o (call c output) x qs vs
+  one-call ps ws ts fit {m = m} {o = o} st c output typed x qs vs p =
+      let s : Site = siteOf ps ws (tableOf ts) in
       let q = opened ts ps ws (fit .words .pool) (fit .words .words) (fit .table) c output x qs vs p in
       let ok = q .typed typed in
-      let u : Turned k j s t m o (q .code) = own-call all k j two s t pools (q .code) (ok .0) (ok .1) st in
+      let u : Turned k j s (other-in ps) m o (q .code) =
+      own-call all k j two s (other-in ps) (pool-at ps ws2 (tableOf ts2) ∙ sym (pool-at ps ws (tableOf ts))) (q .code) (ok .0) (ok .1) st in
       let left : poolIn qs ≡ stepBy s (q .code) .site .pool = sym (pool-at qs vs (tableOf ts)) ∙ ap (λ (z : Site). z .pool) (q .after-it) in
       let found-so = other-at ps qs ws2 (tableOf ts2) (stepBy s (q .code) .site .pool) left in
+      let its : Machine = step m (callFor (q .code)) .1 in
       record {
         seen = q .seen
             ∙ told-same s (u .sound) (q .code) (ok .0) (q .words) (q .handed) _ _ (closed-links m (u .abstracts .items .setup .few) (callFor (q .code))) refl (u .same .outcome)
             ∙ ap₂ (λ (d : MachineCall) (ys : List ℕ). tells ys (step m d .0)) (q .same-call) (q .same-output);
         stands = subst (λ (d : MachineCall). Stands k j (siteOf qs vs (tableOf ts)) (siteOf qs ws2 (tableOf ts2)) (some (step m d .1)) (foundBy (step m d .1) o)) (q .same-call)
-            (subst (λ (y : Site). Stands k j (siteOf qs vs (tableOf ts)) y (some (step m (callFor (q .code)) .1)) (foundBy (step m (callFor (q .code)) .1) o)) (sym found-so)
-            (subst (λ (y : Site). Stands k j y (withPool t (stepBy s (q .code) .site .pool)) (some (step m (callFor (q .code)) .1)) (foundBy (step m (callFor (q .code)) .1) o)) (sym (q .after-it)) (u .stands)));
+            (subst (λ (y : Site). Stands k j (siteOf qs vs (tableOf ts)) y (some its) (foundBy its o)) (sym found-so)
+            (subst (λ (y : Site). Stands k j y (withPool (other-in ps) (stepBy s (q .code) .site .pool)) (some its) (foundBy its o)) (sym (q .after-it)) (u .stands)));
         pool-sized = q .pool-sized;
         sized = q .sized;
       }
 
-  one-ask : {m : Machine} {o : Option Machine} → Stands k j s t (some m) o → (a : Ask) → Typed a → (x : Seen) (qs vs : List ℕ) → Allows ts ps ws a x qs vs → One k j ts ws2 ts2 m o a x qs vs
-  one-ask st (call c output) typed x qs vs p = one-call st c output typed x qs vs p
-  one-ask {m = m} st (held l) typed x qs vs (reads-held κs y w i n e p) =
-      record { seen = ap count (p .reads (fit .words .pool, fit .words .words) (tableOf ts) ∙ readings _ s m (abstracts-of st .1) l .held); stands = st; pool-sized = fit .words .pool; sized = fit .words .words }
-  one-ask {m = m} st (lost l) typed x qs vs (reads-lost κs y w i n e p) =
-      record { seen = ap count (p .reads (fit .words .pool, fit .words .words) (tableOf ts) ∙ readings _ s m (abstracts-of st .1) l .lost); stands = st; pool-sized = fit .words .pool; sized = fit .words .words }
-  one-ask {m = m} st (phase l) typed x qs vs (reads-phase κs y w i n e p) =
-      record { seen = ap count (p .reads (fit .words .pool, fit .words .words) (tableOf ts) ∙ readings _ s m (abstracts-of st .1) l .phase); stands = st; pool-sized = fit .words .pool; sized = fit .words .words }
-  one-ask {m = m} st (version l) typed x qs vs (reads-version κs y w i v e p) =
-      record {
-        seen = ap (λ w. numbers (w .major ∷ w .minor ∷ w .patch ∷ [])) (p .reads (fit .words .pool, fit .words .words) (tableOf ts))
-            ∙ ap numbers (readings _ s m (abstracts-of st .1) l .version ∙ same-shown (reading m l .version));
-        stands = st;
-        pool-sized = fit .words .pool;
-        sized = fit .words .words;
-      }
-  one-ask {m = m} st (record-of l r) typed x qs vs (reads-record κs y w i n z e p) =
-      record {
-        seen = ap (λ (y : Reading). entry (y .found) (y .bytes)) (p .reads (fit .words .pool, fit .words .words) (tableOf ts) ∙ readings _ s m (abstracts-of st .1) l .records r);
-        stands = st;
-        pool-sized = fit .words .pool;
-        sized = fit .words .words;
-      }
+  as-read : (ps ws ts : List ℕ) → Fits ps ws ts → {m : Machine} {o : Option Machine} → Stands k j (siteOf ps ws (tableOf ts)) (other-in ps) (some m) o
+      → {a : Ask} {x : Seen} → next m a ≡ m → foundAfter m a o ≡ o → x ≡ shows m a → One k j ts ws2 ts2 m o a x ps ws
+  as-read ps ws ts fit st e f seen = record { seen = seen; stands = rw (e, f) st; pool-sized = fit .words .pool; sized = fit .words .words }
+
+  one-ask : (ps ws ts : List ℕ) → Fits ps ws ts → {m : Machine} {o : Option Machine} → Stands k j (siteOf ps ws (tableOf ts)) (other-in ps) (some m) o → (a : Ask) → Typed a
+      → (x : Seen) (qs vs : List ℕ) → Allows ts ps ws a x qs vs → One k j ts ws2 ts2 m o a x qs vs
+  one-ask ps ws ts fit st (call c output) typed x qs vs p = one-call ps ws ts fit st c output typed x qs vs p
+  one-ask ps ws ts fit {m = m} st (held l) typed x qs vs (reads-held κs y w i n e p) =
+      as-read ps ws ts fit st refl refl (ap count (p .reads (fit .words .pool, fit .words .words) (tableOf ts) ∙ readings _ (siteOf ps ws (tableOf ts)) m (abstracts-of st .1) l .held))
+  one-ask ps ws ts fit {m = m} st (lost l) typed x qs vs (reads-lost κs y w i n e p) =
+      as-read ps ws ts fit st refl refl (ap count (p .reads (fit .words .pool, fit .words .words) (tableOf ts) ∙ readings _ (siteOf ps ws (tableOf ts)) m (abstracts-of st .1) l .lost))
+  one-ask ps ws ts fit {m = m} st (phase l) typed x qs vs (reads-phase κs y w i n e p) =
+      as-read ps ws ts fit st refl refl (ap count (p .reads (fit .words .pool, fit .words .words) (tableOf ts) ∙ readings _ (siteOf ps ws (tableOf ts)) m (abstracts-of st .1) l .phase))
+  one-ask ps ws ts fit {m = m} st (version l) typed x qs vs (reads-version κs y w i v e p) =
+      as-read ps ws ts fit st refl refl
+      (ap (λ w. numbers (w .major ∷ w .minor ∷ w .patch ∷ [])) (p .reads (fit .words .pool, fit .words .words) (tableOf ts))
+      ∙ ap numbers (readings _ (siteOf ps ws (tableOf ts)) m (abstracts-of st .1) l .version ∙ same-shown (reading m l .version)))
+  one-ask ps ws ts fit {m = m} st (record-of l r) typed x qs vs (reads-record κs y w i n z e p) =
+      as-read ps ws ts fit st refl refl
+      (ap (λ (y : Reading). entry (y .found) (y .bytes)) (p .reads (fit .words .pool, fit .words .words) (tableOf ts) ∙ readings _ (siteOf ps ws (tableOf ts)) m (abstracts-of st .1) l .records r))
 
 -- the box after it: the site that was asked, and the other
 after-own : (k : ℕ) (b : Box) (m : Machine) (a : Ask) → k < 2 → machineAt k b ≡ some m → machineAt k (boxAfter k a b) ≡ some (next m a)
@@ -227,10 +222,14 @@ asked : AllCalls → (k : ℕ) → k < 2 → (m : Memory) (b : Box) → Ready m 
 asked all k low m b r n e a typed x qs vs p =
     let fit = fits-at k m (r .fits) in
     let st = subst (λ (z : Option Machine). Stands k (other-one k) (siteIn k m) (siteIn (other-one k) m) z (otherOf k b)) e (stands-from k low m b r) in
-    let o = one-ask all k (other-one k) (sum-one k low) (m .pool) (partOf k m .words) (partOf k m .table) (partOf (other-one k) m .words) (partOf (other-one k) m .table) fit st a typed x qs vs p in
+    let o = one-ask all k (other-one k) (sum-one k low) (partOf (other-one k) m .words) (partOf (other-one k) m .table) (m .pool) (partOf k m .words) (partOf k m .table) fit st a typed x qs vs p in
     (o .seen, left-ready k low m (boxAfter k a b) qs vs (partOf k m .table) (r .fits) (o .pool-sized) (o .sized) (fit .table) (o .stands) (after-own k b n a low e) (after-other k b n a low e))
 
 -- ---- a start of one of them
+contract-of : {ps ws ts table : List ℕ} {site links primary period first time : ℕ} {o : Outcome} {qs vs us : List ℕ} → Starts ps ws ts table site links primary period first time o qs vs us
+    → Started table site links primary period first time ps qs ws vs ts us o
+contract-of (starts κs pw w t bs c d f h i q oo e p) = p
+
 site-begun : (s : Start) (m : Machine) → Begins s (some m) → m .pool .site ≡ s .site
 site-begun s m (begins-so v e g) = refl
 
@@ -238,10 +237,10 @@ site-begun s m (begins-so v e g) = refl
 module _ (b : List ℕ) (site links primary period first time : ℕ) (x : Step) (ps qs vs us : List ℕ) (o : Outcome) where
   stands-for : Starts-so b (poolIn ps) site links primary period first time x → Made x qs vs us o → isDone (x .answer) ≡ true → siteOf qs vs (tableOf us) ≡ x .site
   stands-for st m d =
-      site-again {ps = qs} {qs = qs} {ws = vs} {vs = vs} {xs = us} {ys = us} (record {
+      site-again {ps = ps} {qs = qs} {ws = vs} {vs = vs} {xs = us} {ys = us} (record {
         step = x;
         starts = st;
-        begun = record { answer = refl; pool = m .pool; words = m .words; bytes = m .bytes; pool-kept = λ h. refl; words-kept = λ h. refl; bytes-kept = λ h. refl };
+        begun = record { answer = refl; pool = m .pool; words = m .words; bytes = m .bytes; pool-kept = λ h. absurd (true≢false (sym d ∙ h)); words-kept = λ h. refl; bytes-kept = λ h. refl };
       }) d
 
 module _ (k j : ℕ) (two : k + j ≡ 1) (ps ws ts ws2 ts2 table : List ℕ) (links primary period first time : ℕ) (x : Step)
@@ -266,20 +265,20 @@ module _ (k j : ℕ) (two : k + j ≡ 1) (ps ws ts ws2 ts2 table : List ℕ) (li
         (subst (λ (y : Pool). Rest k (besideFor o (siteOf ps ws2 (tableOf ts2))) y (besideShare o)) (pool-at ps ws (tableOf ts))
         (rest-of two (pool-at ps ws2 (tableOf ts2) ∙ sym (pool-at ps ws (tableOf ts))) st))
 
-    begun-at : {o : Option Machine} {y : Beside} → Abstracts y (x .site) (beginsBeside o m) → x .site .site ≡ k
-    begun-at h = sym (h .pool .site) ∙ site-begun (startFor k table links primary period first time) m g
+    begun-at : (o : Option Machine) {y : Beside} → Abstracts y (x .site) (beginsBeside o m) → x .site .site ≡ k
+    begun-at o h = sym (h .pool .site) ∙ site-begun (startFor k table links primary period first time) m g
 
     beside-another : {y : Beside} {z : Machine} → Abstracts (besideOf (z .setup .links) (siteOf ps ws2 (tableOf ts2) .next)) (x .site) (beginsBeside (some z) m)
         → Abstracts y (siteOf ps ws2 (tableOf ts2)) z → Sound (siteOf ps ws2 (tableOf ts2)) → siteOf ps ws2 (tableOf ts2) .site ≡ j
         → Stands k j (x .site) (withPool (siteOf ps ws2 (tableOf ts2)) (x .site .pool)) (some (beginsBeside (some z) m)) (some (finds (beginsBeside (some z) m) z))
     beside-another {z = z} h i w f =
         let sites : m .pool .site + z .pool .site ≡ 1 = rw (site-begun (startFor k table links primary period first time) m g, i .pool .site, f) two in
-        both-ones h (found h i sites) begun-sound (beside-sound w) (begun-at {o = some z} h) f (mirrored (beginsBeside (some z) m) z sites)
+        both-ones h (found h i sites) begun-sound (beside-sound w) (begun-at (some z) h) f (mirrored (beginsBeside (some z) m) z sites)
 
     begun-stands : {a o : Option Machine} → Stands k j (siteOf ps ws (tableOf ts)) (siteOf ps ws2 (tableOf ts2)) a o
         → Stands k j (x .site) (withPool (siteOf ps ws2 (tableOf ts2)) (x .site .pool)) (some (beginsBeside o m)) (foundBy (beginsBeside o m) o)
-    begun-stands (no-site e) = let h = begun-as (no-site e) in the-one h begun-sound (begun-at {o = none} h)
-    begun-stands (the-one i v f) = let h = begun-as (the-one i v f) in the-one h begun-sound (begun-at {o = none} h)
+    begun-stands (no-site e) = let h = begun-as (no-site e) in the-one h begun-sound (begun-at none h)
+    begun-stands (the-one i v f) = let h = begun-as (the-one i v f) in the-one h begun-sound (begun-at none h)
     begun-stands (the-other i w f) = beside-another (begun-as (the-other i w f)) i w f
     begun-stands (both-ones l i v w e f n) = beside-another (begun-as (both-ones l i v w e f n)) i w f
 
@@ -351,14 +350,15 @@ module _ (all : AllCalls) where
       let o = asked all k low m b r n e a (typed .0) x qs vs p in
       ap₂ (λ (y : Seen) (l : List Seen). y ∷ l) (o .0) (sees-all (leaving k qs vs (partOf k m .table) m) (boxAfter k a b) (o .1) more (typed .1) zs ys rest run)
   sees-all m b r (start-of s ∷ more) typed xs seen (start-shows {o = n} {xs = zs} g rest)
-      (begins {k = k} {table = table} {links = links} {primary = primary} {period = period} {first = first} {time = time} {o = o} {qs = qs} {vs = vs} {us = us} {xs = ys} low (starts κs pw w t bs c d f h i q oo e p) run) =
+      (begins {k = k} {table = table} {links = links} {primary = primary} {period = period} {first = first} {time = time} {o = o} {qs = qs} {vs = vs} {us = us} {xs = ys} low st run) =
+      let p = contract-of st in
       ap₂ (λ (y : Seen) (l : List Seen). y ∷ l)
       (ap (outcomeSeen []) (number-so k low m b r table links primary period first time o qs vs us p n g) ∙ shown-for n)
       (sees-all (leaving k qs vs us m) (turned (a-start k n) b) (started-ready k low m b r table links primary period first time o qs vs us p n g) more typed zs ys rest run)
 
   -- a pool of zeros is the empty pool
   zeros-empty : poolIn (replicate 520 0) ≡ emptyOf 8
-  unfolding emptyOf lostIn placesIn placeFrom
+  unfolding emptyOf lostIn placesIn placeFrom elements
   zeros-empty = refl
 
   from-zeros : (m : Memory) → BoxFits m → m .pool ≡ replicate 520 0 → SeesBox m emptyBox
@@ -368,7 +368,8 @@ module _ (all : AllCalls) where
   from-alone : (m : Memory) → BoxFits m → (table : List ℕ) (links primary period first time : ℕ) (o : Outcome) (qs vs us : List ℕ)
       → Starts (m .pool) (m .north .words) (m .north .table) table 4294967295 links primary period first time o qs vs us
       → (x : Machine) → Begins (startFor 0 table links primary period first time) (some x) → SeesBox (leaving 0 qs vs us m) (box (some x) none)
-  from-alone m fit table links primary period first time o qs vs us (starts κs pw w t bs c d f h i q oo e p) n g =
+  from-alone m fit table links primary period first time o qs vs us st n g =
+      let p = contract-of st in
       let made = p .made (fit .north .words .pool, fit .north .words .words, fit .north .table) in
       let x : Step = made .0 in
       let s : SameBeginning (startFor 0 table links primary period first time) x = starting .begins-alone table (poolIn (m .pool)) links primary period first time x (made .1) in
@@ -387,15 +388,15 @@ begun-of start x o s e = record { machine = s .machine; begins = s .begins; only
 
 started-one : (ps ws ts table : List ℕ) (site links primary period first time : ℕ) (o : Outcome) (qs vs us : List ℕ) → Fits ps ws ts → (site ≡ 4294967295 → ⊥)
     → Starts ps ws ts table site links primary period first time o qs vs us → Begun (startFor site table links primary period first time) o
-started-one ps ws ts table site links primary period first time o qs vs us fit other (starts κs pw w t bs c d f h i q oo e p) =
-    let made = p .made (fit .words .pool, fit .words .words, fit .table) in
+started-one ps ws ts table site links primary period first time o qs vs us fit other st =
+    let made = contract-of st .made (fit .words .pool, fit .words .words, fit .table) in
     begun-of (startFor site table links primary period first time) (made .0) o
     (starting .begins table (poolIn ps) site links primary period first time (made .0) (made .1) other) (made .2 .outcome)
 
 started-alone : (ps ws ts table : List ℕ) (links primary period first time : ℕ) (o : Outcome) (qs vs us : List ℕ) → Fits ps ws ts
     → Starts ps ws ts table 4294967295 links primary period first time o qs vs us → Begun (startFor 0 table links primary period first time) o
-started-alone ps ws ts table links primary period first time o qs vs us fit (starts κs pw w t bs c d f h i q oo e p) =
-    let made = p .made (fit .words .pool, fit .words .words, fit .table) in
+started-alone ps ws ts table links primary period first time o qs vs us fit st =
+    let made = contract-of st .made (fit .words .pool, fit .words .words, fit .table) in
     begun-of (startFor 0 table links primary period first time) (made .0) o
     (starting .begins-alone table (poolIn ps) links primary period first time (made .0) (made .1)) (made .2 .outcome)
 
@@ -411,12 +412,13 @@ one-site x (record-of l r ∷ more) = ask-shows refl (one-site x more)
 
 not-started : (ps ws ts table : List ℕ) (site links primary period first time : ℕ) (o : Outcome) (qs vs us : List ℕ) → Starts ps ws ts table site links primary period first time o qs vs us
     → (o .number ≡ 0 → ⊥) → (qs ≡ ps) × (vs ≡ ws) × (us ≡ ts)
-not-started ps ws ts table site links primary period first time o qs vs us (starts κs pw w t bs c d f h i q oo e p) wrong =
+not-started ps ws ts table site links primary period first time o qs vs us st wrong =
+    let p = contract-of st in
     let more = above (o .number) wrong in (p .pool-kept more, p .kept more, p .table-kept more)
 
 start-misfit : (ps ws ts table : List ℕ) (site links primary period first time : ℕ) (o : Outcome) (qs vs us : List ℕ) → Starts ps ws ts table site links primary period first time o qs vs us
     → (Fits ps ws ts → ⊥) → o ≡ numbered 14
-start-misfit ps ws ts table site links primary period first time o qs vs us (starts κs pw w t bs c d f h i q oo e p) wrong = p .other (λ z. wrong (fitting ps ws ts z))
+start-misfit ps ws ts table site links primary period first time o qs vs us st wrong = contract-of st .other (λ z. wrong (fitting ps ws ts z))
 
 free : Free
 free =

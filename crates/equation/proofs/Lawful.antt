@@ -111,27 +111,26 @@ module _ {F : Type 0} (ts ps qs ws vs : List ℕ) (c : Call) (ys : List ℕ) (o 
   lent : {N : Type 0} → Either F → (F → N) → (ds : List ℕ) → Lawful N ps ws (outputOf c) (packetSeen ys ds o) qs vs
   lent fits f ds = lawful-of fits f (tableOf ts) (stepBy s c) ps qs ws vs (outputOf c) ys ds o (p .called) (p .unwritten) (counted fits)
 
-module _ (ts ps ws : List ℕ) where
-  pub lawful : (k : MachineCall) (output : List ℕ) (x : Seen) (qs vs : List ℕ) → Allows ts ps ws (call k output) x qs vs → Lawful (ServesCall (k .act) ps ws ts) ps ws output x qs vs
-  lawful k output x qs vs (connects κs q w l t o e p) = plain (fits-words ps ws) (fitting-both ps ws) noTable _ ps qs ws vs o (p noTable)
-  lawful k output x qs vs (disconnects κs q w l t o e p) = plain (fits-words ps ws) (fitting-both ps ws) noTable _ ps qs ws vs o (p noTable)
-  lawful k output x qs vs (packets κs q w table l t random rc cs xs o e p n) =
-      lent ts ps qs ws vs (packet l t random (now rc) (now xs)) (now (e .1 .1 .1 .1 .1 .1 .1 .1 .0)) o (p .0) (fits-with-commands ps ws ts (now cs)) (fitting-words ps ws ts (now cs)) (now (e .1 .1 .1 .1 .1 .1 .1 .0))
-  lawful k output x qs vs (alarms κs q w table i active t o e p) = plain (fits-with-table ps ws ts) (fitting ps ws ts) _ _ ps qs ws vs o p
-  lawful k output x qs vs (statuses κs q w table i v t o e p) = plain (fits-with-table ps ws ts) (fitting ps ws ts) _ _ ps qs ws vs o p
-  lawful k output x qs vs (aggregates κs q w v t o e p) = plain (fits-words ps ws) (fitting-both ps ws) noTable _ ps qs ws vs o (p noTable)
-  lawful k output x qs vs (ticks κs q w t o e p) = plain (fits-words ps ws) (fitting-both ps ws) noTable _ ps qs ws vs o (p noTable)
-  lawful k output x qs vs (pumps κs q w table l t random xs o e p) =
-      lent ts ps qs ws vs (pump l t random (now xs)) (now (e .1 .1 .1 .1 .1 .1 .0)) o p (fits-with-table ps ws ts) (fitting ps ws ts) []
+pub lawful : (ts ps ws : List ℕ) (k : MachineCall) (output : List ℕ) (x : Seen) (qs vs : List ℕ) → Allows ts ps ws (call k output) x qs vs → Lawful (ServesCall (k .act) ps ws ts) ps ws output x qs vs
+lawful ts ps ws k output x qs vs (connects κs q w l t o e p) = plain (fits-words ps ws) (fitting-both ps ws) noTable _ ps qs ws vs o (p noTable)
+lawful ts ps ws k output x qs vs (disconnects κs q w l t o e p) = plain (fits-words ps ws) (fitting-both ps ws) noTable _ ps qs ws vs o (p noTable)
+lawful ts ps ws k output x qs vs (packets κs q w table l t random rc cs xs o e p n) =
+    lent ts ps qs ws vs (packet l t random (now rc) (now xs)) (now (e .1 .1 .1 .1 .1 .1 .1 .1 .0)) o (p .0) (fits-with-commands ps ws ts (now cs)) (fitting-words ps ws ts (now cs)) (now (e .1 .1 .1 .1 .1 .1 .1 .0))
+lawful ts ps ws k output x qs vs (alarms κs q w table i active t o e p) = plain (fits-with-table ps ws ts) (fitting ps ws ts) _ _ ps qs ws vs o p
+lawful ts ps ws k output x qs vs (statuses κs q w table i v t o e p) = plain (fits-with-table ps ws ts) (fitting ps ws ts) _ _ ps qs ws vs o p
+lawful ts ps ws k output x qs vs (aggregates κs q w v t o e p) = plain (fits-words ps ws) (fitting-both ps ws) noTable _ ps qs ws vs o (p noTable)
+lawful ts ps ws k output x qs vs (ticks κs q w t o e p) = plain (fits-words ps ws) (fitting-both ps ws) noTable _ ps qs ws vs o (p noTable)
+lawful ts ps ws k output x qs vs (pumps κs q w table l t random xs o e p) =
+    lent ts ps qs ws vs (pump l t random (now xs)) (now (e .1 .1 .1 .1 .1 .1 .0)) o p (fits-with-table ps ws ts) (fitting ps ws ts) []
 
-  misread : {N : Type 0} → (N → ⊥) → (Words ps ws → N) → Words ps ws → ⊥
-  misread wrong f z = wrong (f z)
+misread : {N : Type 0} (ps ws : List ℕ) → (N → ⊥) → (Words ps ws → N) → Words ps ws → ⊥
+misread ps ws wrong f z = wrong (f z)
 
-  pub misfit : (a : Ask) (x : Seen) (qs vs : List ℕ) → Allows ts ps ws a x qs vs → (Serves a ps ws ts → ⊥) → x ≡ unfit a
-  misfit (call c output) x qs vs p wrong = lawful c output x qs vs p .no-site wrong
-  misfit (held l) x qs vs (reads-held κs q w k n e p) wrong = ap count (p .other (misread wrong (fitting-both ps ws)))
-  misfit (lost l) x qs vs (reads-lost κs q w k n e p) wrong = ap count (p .other (misread wrong (fitting-both ps ws)))
-  misfit (phase l) x qs vs (reads-phase κs q w k n e p) wrong = ap count (p .other (misread wrong (fitting-both ps ws)))
-  misfit (version l) x qs vs (reads-version κs q w k v e p) wrong =
-      ap (λ (u : ChosenVersion). numbers (u .major ∷ u .minor ∷ u .patch ∷ [])) (p .other (misread wrong (fitting-both ps ws)))
-  misfit (record-of l r) x qs vs (reads-record κs q w k j y e p) wrong = ap (λ (u : Reading). entry (u .found) (u .bytes)) (p .other (misread wrong (fitting-both ps ws)))
+pub misfit : (ts ps ws : List ℕ) (a : Ask) (x : Seen) (qs vs : List ℕ) → Allows ts ps ws a x qs vs → (Serves a ps ws ts → ⊥) → x ≡ unfit a
+misfit ts ps ws (call c output) x qs vs p wrong = lawful ts ps ws c output x qs vs p .no-site wrong
+misfit ts ps ws (held l) x qs vs (reads-held κs q w k n e p) wrong = ap count (p .other (misread ps ws wrong (fitting-both ps ws)))
+misfit ts ps ws (lost l) x qs vs (reads-lost κs q w k n e p) wrong = ap count (p .other (misread ps ws wrong (fitting-both ps ws)))
+misfit ts ps ws (phase l) x qs vs (reads-phase κs q w k n e p) wrong = ap count (p .other (misread ps ws wrong (fitting-both ps ws)))
+misfit ts ps ws (version l) x qs vs (reads-version κs q w k v e p) wrong =
+    ap (λ (u : ChosenVersion). numbers (u .major ∷ u .minor ∷ u .patch ∷ [])) (p .other (misread ps ws wrong (fitting-both ps ws)))
+misfit ts ps ws (record-of l r) x qs vs (reads-record κs q w k j y e p) wrong = ap (λ (u : Reading). entry (u .found) (u .bytes)) (p .other (misread ps ws wrong (fitting-both ps ws)))
