@@ -1,6 +1,6 @@
 -- A call of the other site: the record waits on with no more ahead of it, or is lost.
 -- Assumes nothing.
-use Rattle.basis.proofs.Std.{ℕ, _+_, _≤_, _<_, _≡_, refl, sym, subst, List, some, none, _⊎_, inl, inr, length, arith, Among}
+use Rattle.basis.proofs.Std.{ℕ, _+_, _≤_, _<_, _≡_, refl, sym, subst, List, none, _⊎_, inl, inr, length, arith, Among}
 use Rattle.machine.specs.State.{issuedFor, Held, Share, Start, Machine, Call}
 use Rattle.machine.specs.Pool.{issueAll}
 use Rattle.machine.specs.Step.{numberOf, step}

@@ -1,8 +1,8 @@
 -- A call of its site that leaves the link open: the record goes out, is lost, or waits on with no more ahead of it.
 -- Assumes nothing.
-use Rattle.basis.proofs.Std.{ℕ, _+_, _≤_, _<_, _≡_, refl, sym, _∙_, ap, subst, Bool, true, false, List, [], _∷_, Option, some, none, _⊎_, inl, inr, eqb, length, arith, eq-eqb, eqb-true, ne-eqb, le-leb, not-true, bit, count, Among, bool-cases, eq-or-ne, both-false, not-both}
+use Rattle.basis.proofs.Std.{ℕ, _≤_, _<_, _≡_, refl, sym, _∙_, subst, Bool, false, List, [], _∷_, some, none, _⊎_, inl, inr, eqb, length, arith, eq-eqb, ne-eqb, le-leb, not-true, count, Among, bool-cases, eq-or-ne, both-false, not-both}
 use Rattle.basis.specs.Lists.Among.{first, later}
-use Rattle.machine.specs.Words.{Bytes, isNumber, any}
+use Rattle.machine.specs.Words.{isNumber, any}
 use Rattle.machine.specs.State.{Issued, issuedFor, Held, heldAs, Sent, Start, Machine, lifeAt, Act, Call}
 use Rattle.machine.specs.State.Sent.{ourVersion, ourWatchdog, noRecord, theRecord}
 use Rattle.machine.specs.State.Act.{connect, disconnect, packet, alarmInput, statusValue, aggregatedValue, tick, pump}
@@ -21,7 +21,7 @@ use Rattle.demand_held.proofs.Room.{Over}
 use Rattle.demand_held.proofs.Issue.{For, Short, held-below, all-fate}
 use Rattle.demand_held.proofs.Lays.{Lays, lays}
 use Rattle.demand_held.proofs.Steps.{laid, step-done, step-refused, number-done, there}
-use Rattle.demand_held.proofs.Demand.{Sound, run-sound}
+use Rattle.demand_held.proofs.Demand.{run-sound}
 use Rattle.demand_told.specs.Demand.{linkOf}
 use Rattle.demand_told.specs.Life.{ends}
 use Rattle.demand_told.proofs.Replies.{none-at}
@@ -30,7 +30,7 @@ use Rattle.demand_told.proofs.Lives.{apart-from}
 use Rattle.demand_told.proofs.Apart.{apart}
 use Rattle.demand_told.proofs.GreetedDemand.{same-setup, by-number}
 use Rattle.demand_happens.specs.Pumped.{at}
-use Rattle.demand_happens.specs.Records.{isBefore, ahead}
+use Rattle.demand_happens.specs.Records.{isBefore}
 use Rattle.demand_happens.proofs.Counts.{some-counted}
 use Rattle.demand_happens.proofs.Round.{up-connected}
 use Rattle.demand_carried.specs.Marked.{Awaits}
@@ -38,9 +38,9 @@ use Rattle.demand_carried.specs.Marked.Awaits.{awaits}
 use Rattle.demand_carried.proofs.Lists.{found-among}
 use Rattle.demand_carried.proofs.Marked.{demand-marked}
 use Rattle.demand_issued.proofs.Fewer.{all-before, fewer}
-use Rattle.demand_waits.specs.Waits.{isPumpOf, isCounted, Waits, IsLost}
+use Rattle.demand_waits.specs.Waits.{isPumpOf, isCounted, Waits}
 use Rattle.demand_waits.proofs.Counts.{same-passes}
-use Rattle.demand_waits.proofs.Hears.{Like, Hears, same, hears}
+use Rattle.demand_waits.proofs.Hears.{Like, same, hears}
 use Rattle.demand_waits.proofs.Pumps.{Next, pump-turn}
 use Rattle.demand_waits.proofs.Pumps.Next.{lost, on}
 
@@ -56,7 +56,7 @@ module _ {s : Start} {h : List Past} {m : Machine} (r : Run s h m) (c : Call) (e
   for-laid = rw (lay .frame .lost, run-sound r .counts) (lay .issued)
 
 -- ---- what is pushed out
-pub count-most : {A : Type 0} (f : A → Bool) (xs : List A) → count f xs ≤ length xs
+count-most : {A : Type 0} (f : A → Bool) (xs : List A) → count f xs ≤ length xs
 count-most f [] = omega arith
 count-most f (x ∷ xs) = omega (arith, bit-le (f x), count-most f xs)
 

@@ -1,6 +1,6 @@
 -- How many records go before one: what marks, and what is issued, do to it; it is within the bound.
 -- Assumes nothing.
-use Rattle.basis.proofs.Std.{ℕ, suc, _+_, _≤_, _<_, _≡_, refl, sym, _∙_, ap, Bool, true, false, not, List, [], _∷_, map, eqb, ltb, leb, length, arith, eq-eqb, ne-eqb, le-leb, lt-leb, lt-ltb, le-ltb, leb-true, pick, both, bit, count, Among, bool-cases, picked, both-true, lt-or-ge, _⊎_, inl, inr}
+use Rattle.basis.proofs.Std.{ℕ, suc, _+_, _≤_, _<_, _≡_, refl, sym, _∙_, ap, Bool, true, false, not, List, [], _∷_, map, eqb, ltb, leb, length, arith, eq-eqb, ne-eqb, le-leb, lt-ltb, leb-true, pick, both, bit, count, Among, bool-cases, lt-or-ge, _⊎_, inl, inr}
 use Rattle.basis.specs.Lists.Among.{first as here, later}
 use Rattle.machine.specs.State.{Held, Start, Machine, Call}
 use Rattle.machine.specs.Life.{isPrimary, passLength}
@@ -9,12 +9,12 @@ use Rattle.machine.specs.Step.{step}
 use Rattle.machine.specs.Run.{Past, Run}
 use Rattle.machine.specs.Run.Run.{next}
 use Rattle.demand_held.proofs.Lists.{bit-true, among-map}
-use Rattle.demand_held.proofs.Demand.{run-sound, demand3}
+use Rattle.demand_held.proofs.Demand.{demand3}
 use Rattle.demand_told.proofs.GreetedDemand.{same-setup}
 use Rattle.demand_happens.specs.Records.{isBefore, ahead}
 use Rattle.demand_happens.proofs.Counts.{marked-fewer, other-same, some-counted}
 use Rattle.demand_issued.proofs.Goes.{run-kept}
-use Rattle.demand_waits.specs.Waits.{alarmsFor, olderUnsent, bound, Waits}
+use Rattle.demand_waits.specs.Waits.{alarmsFor, bound, Waits}
 
 -- ---- marks
 module _ (l n x : ℕ) where

@@ -1,6 +1,6 @@
 -- Where a pump of an Up link gives number 7, nothing held for the link is unsent.
 -- Assumes nothing.
-use Rattle.basis.proofs.Std.{ℕ, _<_, _≤_, _≡_, refl, sym, _∙_, ap, Bool, true, false, not, List, [], _∷_, Option, some, none, _⊎_, inl, inr, eqb, ltb, arith, eq-eqb, pick, both, count, bool-cases, both-false, untrue, lt-or-ge}
+use Rattle.basis.proofs.Std.{ℕ, _<_, _≤_, _≡_, refl, _∙_, ap, Bool, true, false, not, List, [], _∷_, Option, some, none, _⊎_, inl, inr, eqb, ltb, arith, eq-eqb, pick, both, count, bool-cases, both-false, untrue, lt-or-ge}
 use Rattle.machine.specs.Words.{Bytes, isSome, any, firstThat, Case, firstOf}
 use Rattle.machine.specs.State.{Held, Machine, lifeAt, Outcome}
 use Rattle.machine.specs.State.Act.{pump}

@@ -19,7 +19,7 @@ use Rattle.machine.specs.Json.{versionIn}
 use Rattle.machine.specs.Table.Begins.{begins}
 use Rattle.machine.specs.Life.{close, carriedBy, dueUp, due}
 use Rattle.machine.specs.Answers.{isIgnored, needs, reasons}
-use Rattle.machine.specs.Items.{subscribe, intervals, becomes, aggregates, happens}
+use Rattle.machine.specs.Items.{intervals, becomes, aggregates, happens}
 use Rattle.machine.specs.Effects.{connects, closes, ticks, sends, answers, answered, refuses, carriedOut, replying, receives, effectOf}
 use Rattle.machine.specs.Pool.{lose, loseOf, makeRoom, issue}
 use Rattle.machine.specs.Step.{conditions, step}

@@ -6,7 +6,7 @@ use Rattle.machine.specs.State.{Held, Sent, Life, Start, Machine, lifeAt, alarm
 use Rattle.machine.specs.State.Sent.{noRecord, theRecord}
 use Rattle.machine.specs.State.Act.{pump}
 use Rattle.machine.specs.State.Outcome.{done}
-use Rattle.machine.specs.Life.{isUp, sameAlarm, alarmIn, carriedBy, passLength, awaiting, Due, due}
+use Rattle.machine.specs.Life.{sameAlarm, alarmIn, carriedBy, passLength, awaiting, Due, due}
 use Rattle.machine.specs.Life.Due.{theWatchdog, theAggregated, theAlarm, theHeld}
 use Rattle.machine.specs.Messages.{recordMessage}
 use Rattle.machine.specs.Effects.{ownIdentity, dueMessage, sentAs, afterSending, sends}

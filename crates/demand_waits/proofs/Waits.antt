@@ -1,7 +1,6 @@
 -- Turn after turn of a box: a record that waits is sent, is lost, or waits on within what stands before it.
 -- Assumes nothing.
 use Rattle.basis.proofs.Std.{ℕ, zero, suc, _+_, _≤_, _≡_, refl, sym, _∙_, ap, subst, Bool, true, false, List, [], _∷_, _++_, Option, some, none, _⊎_, inl, inr, arith, pick, bool-cases, not-both}
-use Rattle.machine.specs.Words.{isSome, maybe}
 use Rattle.machine.specs.State.{Held, Machine, Call}
 use Rattle.machine.specs.Step.{step}
 use Rattle.machine.specs.Box.{Box, emptyBox, siteOf, otherOf, finds, foundBy, siteIs, beginsBeside, Turn, called, turned, turnedAll}
@@ -12,10 +11,9 @@ use Rattle.demand_held.proofs.Lists.{bit-true}
 use Rattle.demand_held.proofs.Sides.{Two, Which, north-two, south-two, north-which, south-which}
 use Rattle.demand_held.proofs.Sides.Which.{own, other, no-site}
 use Rattle.demand_held.proofs.Demand.{demand3}
-use Rattle.demand_told.specs.Life.{ends}
 use Rattle.demand_happens.specs.Records.{ahead}
 use Rattle.demand_waits.specs.Waits.{isCounted, counts, pumps, bound, Waits, cuts, Stays, IsLost, Out, Gone, InTime, Waiting}
-use Rattle.demand_waits.specs.Waits.Stays.{no-turn as stays-so, one-more}
+use Rattle.demand_waits.specs.Waits.Stays.{one-more}
 use Rattle.demand_waits.specs.Waits.Ends.{sent, lost, lost-beside}
 use Rattle.demand_waits.specs.Waits.Out.{ended, waits, counted, uncounted}
 use Rattle.demand_waits.specs.Waits.Gone.{now, later}
