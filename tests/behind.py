@@ -9,7 +9,7 @@ import re
 import sys
 
 CRATES = pathlib.Path(__file__).resolve().parent.parent / "crates"
-LIMIT = 4190
+LIMIT = 4250
 COMMENT = re.compile(r"--[^\n]*")
 IMPORT = re.compile(r"^\s*(?:pub )?use [^{\n]*(?:\{[^}]*\})?", re.M)
 EXAMPLES = re.compile(r"machine_cases/specs/|/(?:Example|Computed|Spelled)\.antt$")
