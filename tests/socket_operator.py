@@ -207,13 +207,14 @@ def looked_at_before(room):
                           (("--control-group", "no such group"), "not ok: --control-group: no such group: no such group")):
         code, said = status("--check-config", "--config", file, *words)
         hold(code == 1 and said.endswith(f"\n{wanted}\n"), f"{words}: {code} {said}")
-    every = re.sub(r"^#(?=[a-z-]+ +[^ ]+( +#.*)?$)", "", (ROOT / "examples" / "rsmp-site.conf").read_text(), flags=re.MULTILINE)
+    every = re.sub(r"^#(?=[a-z-]+( +[^# ]+)?( +#.*)?$)", "", (ROOT / "examples" / "rsmp-site.conf").read_text(), flags=re.MULTILINE)
     hold("#" not in {line[:1] for line in every.splitlines()[3:]}, f"the example's lines: {every}")
     for folder in ("/etc/rsmp-site", "/var/lib/rsmp-site", "/run/rsmp-site", "/var/log/rsmp-site"):
         every = every.replace(folder + "/", f"{room}/")
     every = every.replace("barrier.txt", "commands.txt").replace("group adm", f"group {os.getgid()}")
     for name in ("commands.txt", "move"):
         shutil.copy(ROOT / "examples" / name, room)
+    shutil.copy(ROOT / "examples" / "commands.txt", room / "south.txt")
     file.write_text(every)
     code, said = status("--check-config", "--config", file, "--state", room / "none")
     hold(code == 0 and f"run {room}/move" in said and f"metrics   {room}/rsmp-site.prom" in said and "mode 660" in said, f"{code} {said}")
