@@ -23,16 +23,16 @@ library: build/librsmp_site.a build/rsmp_site.h build/librsmp_week.a build/rsmp_
 ## install    programs, library, header, manual pages and a systemd unit below PREFIX (/usr/local), all of it below DESTDIR where given
 ## uninstall  takes away what install put there
 ## deb        a Debian package of what install installs: build/deb/rsmp-site_VERSION_amd64.deb
-## clean      removes build/; what is proved and compiled stays in target/ (rm -r target: prove everything again)
+## clean      removes build/; what is proved and compiled stays in crates/*/out (rm -r crates/*/out: prove everything again)
 clean:
 	rm -rf build
 
 help:
 	@sed -n 's/^## /  make /p' Makefile
 
-PROVED = target/staticlib/libsitec.a
-WEEK_PROVED = target/staticlib/libweekc.a
-CSV_PROVED = target/staticlib/libcsvc.a
+PROVED = crates/sitec_c/out/libsitec_c.a
+WEEK_PROVED = crates/weekc_c/out/libweekc_c.a
+CSV_PROVED = crates/csvc_c/out/libcsvc_c.a
 LIBRARY = build/librsmp_site.a
 WEEK_LIBRARY = build/librsmp_week.a
 CSV_LIBRARY = build/librsmp_csv.a
@@ -48,13 +48,13 @@ build/tools/ready: host/tools
 
 # Asked each time, and only remade where a crate's files or the toolchain have changed.
 $(PROVED): always
-	@host/prove-library sitec
+	@host/prove-library sitec_c
 
 $(WEEK_PROVED): always | $(PROVED)
-	@host/prove-library weekc
+	@host/prove-library weekc_c
 
 $(CSV_PROVED): always | $(WEEK_PROVED)
-	@host/prove-library csvc
+	@host/prove-library csvc_c
 
 always: ;
 

@@ -1,7 +1,7 @@
 """How much processor time reading an ordinary packet of each taken type and writing each message takes, as a ratio to a C JSON library
 (Debian's libcjson) parsing the same packet, or the packet that was written, in the same run.
 
-  messages.py        runs the program `bench_messages`, which `rt check bench_messages` leaves in target/bin, and bench/peer.c
+  messages.py        runs the program `bench_messages`, which `rt ci`, or `rt run` in its folder, leaves in crates/bench_messages/out, and bench/peer.c
 
 The peer is compiled for x86-64, as the programs are, by the compiler in CC (default: cc; on another processor a cross compiler),
 with the flags in CJSON (default: -lcjson), and run in the same way. Under an emulator only the ratios say something.

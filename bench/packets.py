@@ -2,7 +2,7 @@
 are meant to be bad for the reader. Prints the time of one judging, the time per byte, and its ratio to the ordinary packet's, each out of so
 many judgings that starting the program is a small part of it.
 
-  packets.py         runs the program `bench_json`, which `rt check bench_json` leaves in target/bin
+  packets.py         runs the program `bench_json`, which `rt ci`, or `rt run` in its folder, leaves in crates/bench_json/out
 
 Where the program runs under an emulator (on a processor other than x86-64) only the ratios say something.
 """

@@ -13,7 +13,7 @@ LIMIT = 4250
 COMMENT = re.compile(r"--[^\n]*")
 IMPORT = re.compile(r"^\s*(?:pub )?use [^{\n]*(?:\{[^}]*\})?", re.M)
 EXAMPLES = re.compile(r"machine_cases/specs/|/(?:Example|Computed|Spelled)\.antt$")
-CITED = re.compile(r"Rattle·([A-Za-z0-9_]+)(?:·specs)?\.((?:[A-Za-z0-9_'-]+\.?)+)")
+CITED = re.compile(r"Rattle\.([A-Za-z0-9_]+)\.((?:[A-Za-z0-9_'-]+\.?)+)")
 
 
 def cited(text):

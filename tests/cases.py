@@ -48,7 +48,7 @@ def write(program, cases, answers):
 
 def command(program):
     """How one of the gate's programs is run."""
-    return wrapped(ROOT / "target" / "bin" / program)
+    return wrapped(ROOT / "crates" / program / "out" / program)
 
 
 def wrapped(path):

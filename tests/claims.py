@@ -53,7 +53,7 @@ class Claims:
                 yield Claim(found.crate, module, name, (left, right))
                 continue
             for place in range(len(self.translation.value(module, left))):
-                row = "apply", ("name", "getD"), [left, ("literal", place), ("literal", None)]
+                row = "apply", ("name", "get_or"), [left, ("literal", place), ("literal", None)]
                 yield Claim(found.crate, module, f"{name}-{place}", (("field", row, "computed"), ("field", row, "said")))
 
     def broken(self):

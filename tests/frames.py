@@ -165,20 +165,25 @@ class Walk:
             self.called(state.depth, one.symbol)
             return [] if ends else [(behind, state)]
         target = int(one.operands[0], 16)
-        if self.probes(target, one):
-            if state.r11 is None or state.r11 < state.depth or (state.r11 - state.depth) % PAGE:
+        step = self.probes(target, one)
+        if step:
+            # The loop has run once: what is left is a whole number of its steps.
+            if state.r11 is None or state.r11 < state.depth or (state.r11 - state.depth) % step:
                 self.unclear(one, "the pages that are touched")
             self.peak = max(self.peak, state.r11)
             return [(behind, state._replace(depth=state.r11))]
         return [(target, state)] + ([] if ends else [(behind, state)])
 
     def probes(self, target, one):
-        """Whether this jump ends the loop that touches a large frame page by page, down to %r11."""
+        """The step of the loop that touches a large frame down to %r11, a page at most, where this jump ends it; else 0."""
         loop = [self.code.get(target)]
         while loop[-1] and loop[-1].at < one.at:
             loop.append(self.code.get(self.behind[loop[-1].at]))
         said = [(each.name, *each.operands) for each in loop[:-1] if each]
-        return said == [("sub", f"${PAGE:#x}", "%rsp"), ("movq", "$0x0", "(%rsp)"), ("cmp", "%r11", "%rsp")] and one.name == "jne"
+        if len(said) != 3 or said[1:] != [("movq", "$0x0", "(%rsp)"), ("cmp", "%r11", "%rsp")] or one.name != "jne":
+            return 0
+        name, step, register = (*said[0], "", "")[:3]
+        return number(step) if name == "sub" and register == "%rsp" and step.startswith("$") and 0 < number(step) <= PAGE else 0
 
     def after(self, one, state):
         last = one.operands[-1] if one.operands else ""
@@ -188,7 +193,7 @@ class Walk:
             state = state._replace(depth=state.depth - WORD)
         elif one.name == "leave" and state.rbp is not None:
             return state._replace(depth=state.rbp - WORD, rbp=None)
-        elif one.name.startswith(("push", "pop", "enter", "leave", "iret", "sys")):
+        elif one.name != "popcnt" and one.name.startswith(("push", "pop", "enter", "leave", "iret", "sys")):
             self.unclear(one, "is not known")
         elif last in ("%rsp", "%esp", "%sp", "%spl") and one.name not in ("cmp", "test"):
             return state._replace(depth=self.moved(one, state))

@@ -13,14 +13,14 @@ import sys
 import claims
 from machines import deeply
 
-BUILT_IN = {("Words", "if_then_else_"), ("Words", "_and_"), ("Words", "_or_")}
+BUILT_IN = {("Words", "if'◌then◌else◌"), ("Words", "◌and◌"), ("Words", "◌or◌")}
 RULES = ["Words", "State", "Json", "Table", "Life", "Answers", "Items", "Messages", "Pool", "Effects", "Step", "Readings"]
 FAMILIES = [("Issue", "Acknowledge", "Suspend"), ("Recent", "Old"), ("Unknown", "Undefined"), ("Response", "Update", "Command"),
-            ("ourVersion", "ourWatchdog", "noRecord"), ("theVersion", "theWatchdog", "theAggregated"), ("true", "false"), ("leb", "ltb"),
+            ("own_version", "own_watchdog", "no_record"), ("the_version", "the_watchdog", "the_aggregated"), ("true", "false"), ("leb", "ltb"),
             ("pos", "negsuc")]
 FIELDS = [("active", "acknowledged", "suspended"), ("sent", "acknowledged", "taken"), ("versions", "watchdogs"),
           ("link", "status", "interval", "since"), ("beat", "pass"), ("lowest", "highest"), ("site", "sxl"), ("code", "name"),
-          ("alarms", "statuses", "commands"), ("aggregated", "aggregatedTime", "last"), ("component", "priority", "category"),
+          ("alarms", "statuses", "commands"), ("aggregated", "aggregated_time", "last"), ("component", "priority", "category"),
           ("link", "sequence"), ("period", "links", "first", "time")]
 NUMBERS = (0, 1, 2)
 SECONDS = 60
@@ -107,7 +107,7 @@ def replaced(kinds, module, bound, expression):
         function, parts = expression[1:]
         if function == ("name", "not"):
             yield parts[0]
-        if function in (("name", "leb"), ("name", "ltb"), ("name", "atMost")):
+        if function in (("name", "leb"), ("name", "ltb"), ("name", "at_most")):
             yield "apply", function, parts[::-1]
         if function == ("name", "some"):
             yield ("name", "none")
@@ -152,7 +152,7 @@ def shown(expression):
     if kind == "function":
         return f"(λ {' '.join(expression[1])}. {shown(expression[2])})"
     if kind == "field":
-        return f"{shown(expression[1])} .{expression[2]}"
+        return f"{shown(expression[1])}.{expression[2]}"
     if kind == "pair":
         return f"({', '.join(map(shown, expression[1]))})"
     if kind == "record":

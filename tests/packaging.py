@@ -56,7 +56,7 @@ def times():
     """Of what make made; the compilers are not made each time, and other tests may be writing where cargo builds."""
     made = [path for path in (ROOT / "build").iterdir() if path.name not in ("tools", "cargo")]
     paths = [path for one in made for path in (one.iterdir() if one.is_dir() else [one])]
-    return {path: path.stat().st_mtime_ns for path in [*paths, *(ROOT / "target" / "staticlib").iterdir()]}
+    return {path: path.stat().st_mtime_ns for path in [*paths, *(ROOT / "crates").glob("*_c/out/lib*.a")]}
 
 
 def judge_nothing_done():

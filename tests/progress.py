@@ -12,31 +12,32 @@ import tempfile
 
 from cases import ROOT
 
-CRATES = "# a comment\nlow:\nmiddle: low check   # another\nother: low\ntop: middle other\nbeside: low\n"
+CRATES = "# a comment\nlow:\nmiddle: low check   # another\nother: low\ntop staticlib: middle other\nbeside: low\n"
 RT = """#!/bin/sh
-# Proves as `rt` does, as far as files and lines go. A crate with a file src/bad is not proved.
+# Proves as `rt` does in a crate's folder, as far as files and lines go. A crate with a file src/bad is not proved.
 case $1 in
 version) cat kit ;;
-check)
-    shift
-    mkdir -p target/log target/stamp
-    for name; do
-        echo failed >target/log/$name.res
-        sum=$( (ls crates/$name/src; cat crates/$name/src/*) | cksum)
-        if [ "$(cat target/stamp/$name 2>/dev/null)" = "$sum" ]; then
-            echo "rt: $name proved (unchanged since it was last proved)" >target/log/$name.out
-        elif [ -e crates/$name/src/bad ]; then
-            echo "rt: $name NOT PROVED (exit 1, 2 s)" | tee target/log/$name.out
-            exit 1
-        else
-            echo "library std: modules loaded=0 checked=0" | tee target/log/$name.out
-            echo "rt: $name proved (2 s)" | tee -a target/log/$name.out
-            echo "$sum" >target/stamp/$name
-        fi
-        echo proved >target/log/$name.res
-    done ;;
-staticlib) mkdir -p target/staticlib; date +%N >target/staticlib/lib$2.a; echo "library std: modules loaded=0 checked=0" ;;
+lib)
+    name=$(basename "$PWD")
+    mkdir -p out
+    sum=$( (ls src; cat src/*) | cksum)
+    if [ -e src/bad ]; then
+        echo "src/lib.rt:1:1: error: a goal stays open"
+        echo "logic=not-proved"
+        exit 1
+    elif [ "$(cat out/stamp 2>/dev/null)" != "$sum" ] || [ "$name" = top ]; then
+        echo "library std: modules loaded=0 checked=0"
+        echo "logic=proved functions=1"
+        echo "$sum" >out/stamp
+    fi
+    if [ "$name" = top ]; then date +%N >out/libtop.a; fi ;;
 esac
+"""
+# The prover itself, as it is called for a static library over libraries that the gate made.
+RATTLE = """#!/bin/sh
+echo "$@" >>asked
+while [ "$1" != -o ]; do shift; done
+date +%N >"$2"
 """
 
 
@@ -45,18 +46,28 @@ def hold(good, what):
         sys.exit(f"progress: {what}")
 
 
-def prove(place):
+def run(place, word):
     path = f"{place / 'bin'}{os.pathsep}{os.environ['PATH']}"
-    done = subprocess.run([place / "host" / "prove-library", "top"], cwd=place, capture_output=True, text=True, env={**os.environ, "PATH": path})
+    kept = {name: value for name, value in os.environ.items() if name != "RATTLE_HOME"}
+    done = subprocess.run([place / "host" / "prove-library", word], cwd=place, capture_output=True, text=True, env={**kept, "PATH": path})
     return done.returncode, done.stdout.splitlines(), done.stderr
+
+
+def prove(place):
+    return run(place, "top")
+
+
+def program(path, text):
+    path.write_text(text)
+    path.chmod(0o755)
 
 
 def laid_out(place):
     for folder in ("host", "bin"):
         (place / folder).mkdir()
     shutil.copy(ROOT / "host" / "prove-library", place / "host")
-    (place / "bin" / "rt").write_text(RT)
-    (place / "bin" / "rt").chmod(0o755)
+    program(place / "bin" / "rt", RT)
+    program(place / "bin" / "rattle", RATTLE)
     (place / "crates.txt").write_text(CRATES)
     (place / "kit").write_text("kit 1\n")
     for name in ("low", "middle", "other", "top", "beside"):
@@ -68,11 +79,11 @@ def judge(place):
     laid_out(place)
     status, said, _ = prove(place)
     hold(status == 0 and said[0].startswith("proving the 3 crates below top"), f"the first time: {said}")
-    told = [re.fullmatch(r"(\w+) +proved in +2 s +(\d) left of 3 +\d+:\d\d so far", line) for line in said[1:4]]
+    told = [re.fullmatch(r"(\w+) +proved in +\d+ s +(\d) left of 3 +\d+:\d\d so far", line) for line in said[1:4]]
     hold(all(told) and {one[1] for one in told} == {"low", "middle", "other"} and [one[2] for one in told] == ["2", "1", "0"], f"a line a crate: {said}")
-    hold(not any("modules loaded" in line for line in said) and "modules loaded" in (place / "target" / "log" / "prove-library.log").read_text(),
+    hold(not any("modules loaded" in line for line in said) and "modules loaded" in (place / "build" / "prove-library.log").read_text(),
          "what the prover says goes to the file")
-    archive = place / "target" / "staticlib" / "libtop.a"
+    archive = place / "crates" / "top" / "out" / "libtop.a"
     made = archive.read_text()
 
     hold(prove(place)[:2] == (0, []) and archive.read_text() == made, "nothing changed, and something is done or said")
@@ -89,11 +100,35 @@ def judge(place):
         hold(prove(place)[0] == 0 and archive.read_text() != made, f"{name} changed, and the archive is not made again")
     archive.unlink()
     hold(prove(place)[0] == 0 and archive.exists(), "the archive is gone and not made again")
+    judge_noted(place, archive)
 
     (place / "crates" / "middle" / "src" / "bad").write_text("")
     status, said, faults = prove(place)
-    hold(status == 1 and "rt: middle NOT PROVED" in faults and "target/log/prove-library.log" in faults, f"a crate is not proved: {faults}")
+    hold(status == 1 and "middle is not proved" in faults and "a goal stays open" in faults and "build/prove-library.log" in faults,
+         f"a crate is not proved: {faults}")
     hold(prove(place)[0] == 1, "what is not proved is not proved the next time either")
+
+
+def judge_noted(place, archive):
+    """After the gate the crate alone is compiled, over the libraries that were noted, and over no others."""
+    asked, libraries = place / "crates" / "top" / "asked", {}
+    for name in ("low", "middle", "other"):
+        libraries[name] = place / "crates" / name / "out" / "rlib" / f"{name}.rlib" / "format"
+        libraries[name].parent.mkdir(parents=True)
+        libraries[name].write_text(name)
+    hold(run(place, "--made")[:2] == (0, []) and prove(place)[:2] == (0, []), "what the gate made is noted, and something is done or said")
+    archive.unlink()
+    status, said, _ = prove(place)
+    hold(status == 0 and archive.exists() and "over 3 crates" in said[0] and not any(" left of " in line for line in said), f"after the gate: {said}")
+    hold(asked.exists() and all(f"{libraries[name].parent}" in asked.read_text() for name in ("middle", "other")), "the libraries that it stands on")
+    for path in (libraries["low"], place / "crates" / "low" / "src" / "lib.rt"):
+        asked.unlink(missing_ok=True)
+        archive.unlink()
+        before = path.read_text()
+        path.write_text("another")
+        status, said, _ = prove(place)
+        hold(status == 0 and not asked.exists() and said[0].startswith("proving the 3 crates"), f"{path.name} is not the noted one, and is compiled over: {said}")
+        path.write_text(before)
 
 
 def main(words):

@@ -1,7 +1,7 @@
 """The library's read-only data by the functions that use it, and that the calendar holds no table.
 
 The compiler keeps a short array of constants in the instructions that use it, where no section of the archive shows it. So the
-calendar's arrays are counted in what it is compiled from, which `rt check` leaves in target/rlib, and its data in the archive.
+calendar's arrays are counted in what it is compiled from, which `rt` leaves in crates/calendar/out, and its data in the archive.
 
   readonly.py --stored     after `make build`
 """
@@ -12,8 +12,8 @@ import sys
 
 from cases import ROOT
 
-LIBRARY = ROOT / "target" / "staticlib" / "libsitec.a"
-CALENDAR = ROOT / "target" / "rlib" / "calendar.rlib" / "toolchain" / "mir.json"
+LIBRARY = ROOT / "crates" / "sitec_c" / "out" / "libsitec_c.a"
+CALENDAR = ROOT / "crates" / "calendar" / "out" / "rlib" / "calendar.rlib" / "toolchain" / "mir.json"
 # As measured: the date's template "0000-00-00T00:00:00.000Z", and no data.
 MOST_IN_ARRAYS, MOST_IN_DATA = 24, 0
 
@@ -63,12 +63,13 @@ def references(elf, found):
 
 
 def read_only(elf):
-    """The bytes of read-only data by function: jumps have a section a function, constants are pooled by their size."""
+    """The bytes of read-only data by function: a section of its own for jumps and for each array, constants are pooled by their size."""
     found = sections(elf)
     users = collections.defaultdict(set)
     for function, section, place in references(elf, found):
-        if section < len(found) and found[section].flags & MERGEABLE:
-            users[section, place // found[section].entry].add(function)
+        if section < len(found):
+            pooled = found[section].flags & MERGEABLE
+            users[section, place // found[section].entry if pooled else 0].add(function)
     bytes_of = collections.Counter()
     for number, section in enumerate(found):
         if not section.name.startswith((".rodata", ".data.rel.ro")):
@@ -77,7 +78,9 @@ def read_only(elf):
             for place in range(section.size // section.entry):
                 bytes_of["constants", " and ".join(sorted(users[number, place])) or "no function"] += section.entry
         else:
-            bytes_of["jumps", section.name[len(".rodata."):]] += section.size
+            name = section.name[len(".rodata."):]
+            kind, of = ("array", " and ".join(sorted(users[number, 0])) or name) if name.startswith(".L") else ("jumps", name)
+            bytes_of[kind, of] += section.size
     return bytes_of
 
 
@@ -100,8 +103,21 @@ def assignments(body):
             yield from assignments(part)
 
 
+def lent(body):
+    """The bytes of each array that is lent as it was written, whole."""
+    if isinstance(body, dict):
+        if "LendStatic" in body:
+            _, _, value = body["LendStatic"]
+            yield len(value["Ints"]["values"]) * value["Ints"]["width"] // 8
+        body = list(body.values())
+    if isinstance(body, list):
+        for part in body:
+            yield from lent(part)
+
+
 def arrays(function):
-    """The bytes of each array that is written out, element by element."""
+    """The bytes of each array that is written out, whole or element by element."""
+    yield from lent(function["body"])
     for place, value in assignments(function["body"]):
         kind = function["locals"][place["local"]]["ty"]
         if isinstance(value, dict) and "Aggregate" in value and not place["steps"] and "Array" in kind:

@@ -11,7 +11,7 @@ import tempfile
 from cases import ROOT
 
 VERSION = (ROOT / "VERSION").read_text().strip()
-PROVED, LIBRARY, HEADER = ROOT / "target" / "staticlib" / "libsitec.a", ROOT / "build" / "librsmp_site.a", ROOT / "build" / "rsmp_site.h"
+PROVED, LIBRARY, HEADER = ROOT / "crates" / "sitec_c" / "out" / "libsitec_c.a", ROOT / "build" / "librsmp_site.a", ROOT / "build" / "rsmp_site.h"
 CC, RUN = ROOT / "build" / "tools" / "cc", ROOT / "build" / "tools" / "run"
 PROGRAMS = ("rsmp-site", "rsmp-replay", "rsmp-table", "rsmp-week", "rsmp-csv")
 STARTS = """#include "rsmp_site.h"

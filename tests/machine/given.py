@@ -7,7 +7,7 @@ import uuid
 LITERALS = {"true": True, "false": False, "zero": 0, "[]": ()}
 CONSTRUCTORS = dict(none=0, some=1, null=0, bool=1, num=1, str=1, arr=1, obj=1, jnil=0, jcons=2, mnil=0, mcons=3, Is=1, No=0,
                     pos=1, negsuc=1, Recent=1, Old=1, Unknown=0, Undefined=0, Response=0, Update=0, Command=0,
-                    version=3, watchdog=2, ack=1, notAck=2, alarm=4, aggregated=4, statuses=5, included=5)
+                    version=3, watchdog=2, ack=1, not_ack=2, alarm=4, aggregated=4, statuses=5, included=5)
 NONE = ("none",)
 
 
@@ -16,7 +16,7 @@ def made(name):
 
 
 def spelled(name):
-    return {"not": "negated", "map": "mapped", "_+_": "sum_of"}.get(name, name)
+    return {"not": "negated", "map": "mapped", "◌+◌": "sum_of"}.get(name, name)
 
 
 # Numbers and lists.
@@ -45,7 +45,7 @@ def both(a, b):
     return a and b
 
 
-def sameBytes(a, b):
+def same_bytes(a, b):
     return a == b
 
 
@@ -65,7 +65,7 @@ def reverse(items):
     return items[::-1]
 
 
-def getD(items, i, default):
+def get_or(items, i, default):
     return items[i] if i < len(items) else default
 
 
@@ -91,7 +91,7 @@ def digits(n):
     return text(str(n))
 
 
-def decimalOf(value):
+def decimal_of(value):
     return digits(signed(value))
 
 
@@ -105,15 +105,15 @@ def lowered(characters):
     return tuple(c + 32 if 65 <= c <= 70 else c for c in characters)
 
 
-def isLabel(characters):
+def is_label(characters):
     return 1 <= len(characters) <= 32 and all(0x20 <= c <= 0x7E and c not in b'"\\' for c in characters)
 
 
-def identityText(identity):
+def identity_text(identity):
     return text(str(uuid.UUID(bytes=bytes(identity))))
 
 
-def version4Of(random):
+def version4_of(random):
     return tuple(uuid.UUID(bytes=bytes(random), version=4).bytes)
 
 
@@ -121,11 +121,11 @@ TIME = re.compile(r"(\d{4})-(\d\d)-(\d\d)T(\d\d):(\d\d):(\d\d)(?:\.(\d{1,6}))?Z"
 EPOCH = datetime.datetime(1970, 1, 1)
 
 
-def lastTime():
+def last_time():
     return (datetime.datetime.max - EPOCH) // datetime.timedelta(milliseconds=1)
 
 
-def readTime(characters):
+def read_time(characters):
     found = TIME.fullmatch("".join(map(chr, characters)))
     try:
         at = datetime.datetime(*map(int, found.groups()[:6])) if found else None
@@ -137,12 +137,12 @@ def readTime(characters):
     return "Is", (at - EPOCH) // datetime.timedelta(seconds=1) * 1000 + int((decimals + "000")[:3]), len(decimals)
 
 
-def timeText(ms):
+def time_text(ms):
     return text((EPOCH + datetime.timedelta(milliseconds=ms)).isoformat(timespec="milliseconds") + "Z")
 
 
-def momentText(ms):
-    return timeText(min(ms, lastTime()))
+def moment_text(ms):
+    return time_text(min(ms, last_time()))
 
 
 # Packets.
@@ -193,7 +193,7 @@ def value_of(value, level):
     return "obj", members
 
 
-def meaningOf(packet):
+def meaning_of(packet):
     try:
         value = json.loads(bytes(packet).decode("utf8"), object_pairs_hook=once, parse_constant=refuse, parse_int=Number, parse_float=Number)
         return value_of(value, 1) if isinstance(value, dict) else None
@@ -201,11 +201,11 @@ def meaningOf(packet):
         return None
 
 
-def isPacket(packet):
-    return meaningOf(packet) is not None
+def is_packet(packet):
+    return meaning_of(packet) is not None
 
 
-def textOf(value):
+def text_of(value):
     """The text of a value: no spaces, strings as they are."""
     kind = value[0]
     if kind == "null":
@@ -219,7 +219,7 @@ def textOf(value):
     parts, rest = [], value[1]
     while len(rest) > 1:
         named = text('"') + rest[1] + text('":') if kind == "obj" else ()
-        parts += [named + textOf(rest[-2]), text(",")]
+        parts += [named + text_of(rest[-2]), text(",")]
         rest = rest[-1]
     brackets = "[]" if kind == "arr" else "{}"
     return text(brackets[0]) + sum(parts[:-1], ()) + text(brackets[1])
@@ -227,7 +227,7 @@ def textOf(value):
 
 # The table's rows, a message's entries, a record's bytes.
 
-def noRow():
+def no_row():
     return dict(component=0, priority=0, category=0, code=(), name=(), lowest=("pos", 0), highest=("pos", 0))
 
 
@@ -235,11 +235,11 @@ def status(code, name, value):
     return dict(code=code, name=name, value=value)
 
 
-def alarmFlags(event, acknowledged, active, suspended):
+def alarm_flags(event, acknowledged, active, suspended):
     return event << 4 | acknowledged << 3 | active << 2 | suspended << 1
 
 
-def statusFlags(known, old):
+def status_flags(known, old):
     return known << 5 | old << 4
 
 
@@ -247,18 +247,18 @@ def signed(value):
     return value[1] if value[0] == "pos" else -1 - value[1]
 
 
-def atMost(a, b):
+def at_most(a, b):
     return signed(a) <= signed(b)
 
 
-def wordOf(value):
+def word_of(value):
     return signed(value) % 2**32
 
 
 WIDTHS = dict(link=3, kind=2, item=6, flags=6, time=48, value=32, sequence=31)
 
 
-def bytesOf(entry):
+def bytes_of(entry):
     packed = 0
     for field, width in WIDTHS.items():
         packed = packed << width | entry[field]

@@ -2,7 +2,7 @@
 import re
 
 NAME = r'[^\s(){}.;,"]+'
-TOKEN = re.compile(rf'"(?:[^"\\]|\\.)*"|(?<=[\s()])\.{NAME}|[(){{}};,.]|{NAME}')
+TOKEN = re.compile(rf'"(?:[^"\\]|\\.)*"|\.{NAME}|[(){{}};,.]|{NAME}')
 QUOTED_OR_COMMENT = re.compile(r'"(?:[^"\\]|\\.)*"|(?:^|(?<=\s))--(?=\s|$).*')
 INFIX = {"∷": (67, "r"), "++": (65, "l"), "+": (65, "l"), "-": (65, "l"), "*": (70, "l"), "/": (70, "l"), "%": (70, "l"),
          "and": (30, "r"), "or": (20, "r"), "when": (70, "r"), "is": (75, "n"), "≡": (4, "n")}
@@ -58,7 +58,7 @@ class Reader:
 
     def prefix(self):
         token = self.peek()
-        if token == "if":
+        if token == "if'":
             self.next()
             test = self.expression()
             self.want("then")
@@ -81,7 +81,7 @@ class Reader:
             return "function", names, self.expression()
         if token == "elim":
             self.next()
-            value, cases = self.atom(), []
+            value, cases = self.field(), []
             while self.next() in "[|":
                 pattern = self.expression()
                 self.want("↦")
@@ -95,18 +95,21 @@ class Reader:
             pass
 
     def application(self):
-        function, arguments = self.atom(), []
+        function, arguments = self.field(), []
         while self.peek() not in ENDS and self.peek() not in INFIX:
             token = self.peek()
             if token == "{":
                 self.implicit()
-            elif token[0] == "." and len(token) > 1:
-                self.next()
-                function = "field", ("apply", function, arguments) if arguments else function, token[1:]
-                arguments = []
             else:
-                arguments.append(self.prefix() if token == "λ" else self.atom())
+                arguments.append(self.prefix() if token == "λ" else self.field())
         return ("apply", function, arguments) if arguments else function
+
+    def field(self):
+        """What stands alone, and the field of it that a point without spaces asks for."""
+        of = self.atom()
+        while self.peek() is not None and self.peek()[0] == "." and len(self.peek()) > 1:
+            of = "field", of, self.next()[1:]
+        return of
 
     def atom(self):
         token = self.next()

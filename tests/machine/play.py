@@ -15,7 +15,7 @@ KIND = {"Response": "StatusResponse", "Update": "StatusUpdate", "Command": "Comm
 
 def played(lines, specs=SPECS):
     machine = Translation(files_of(specs))
-    started, site_of, site_is, empty = (machine["Box", name] for name in ("started", "siteOf", "siteIs", "emptyBox"))
+    started, site_of, site_is, empty = (machine["Box", name] for name in ("started", "site_of", "site_is", "empty_box"))
     box = empty()
     for line in lines:
         named, (name, *words) = named_site(line.split())
@@ -60,7 +60,7 @@ def begun(machine, site, data, links, primary, period, first, time):
         rows = table.read(data)
     except table.Refused:
         return NONE
-    return ("some", machine["Table", "first"](table_of(rows), given)) if machine["Table", "goodStart"](given) else NONE
+    return ("some", machine["Table", "first"](table_of(rows), given)) if machine["Table", "good_start"](given) else NONE
 
 
 def table_of(rows):
@@ -84,10 +84,10 @@ def call(name, words):
         return at(time, "pump", int(link), tuple(unhexed(random)), int(room))
     *numbers, time = map(int, words)
     if name == "alarm":
-        return at(time, "alarmInput", numbers[0], numbers[1] != 0)
+        return at(time, "alarm_input", numbers[0], numbers[1] != 0)
     if name == "status":
-        return at(time, "statusValue", numbers[0], whole(numbers[1]))
-    return at(time, {"aggregated": "aggregatedValue"}.get(name, name), *numbers)
+        return at(time, "status_value", numbers[0], whole(numbers[1]))
+    return at(time, {"aggregated": "aggregated_value"}.get(name, name), *numbers)
 
 
 def at(time, *act):
@@ -122,7 +122,7 @@ def text(kind, *parts):
         return message.watchdog(identity(parts[0]), parts[1])
     if kind == "ack":
         return message.ack(string(parts[0]))
-    if kind == "notAck":
+    if kind == "not_ack":
         return message.not_ack(string(parts[0]), string(parts[1]))
     if kind == "alarm":
         state = parts[3]

@@ -7,7 +7,7 @@ from . import given
 from .grammar import claims, clause, declarations, places
 
 USE = re.compile(r"use (\S+)\.\{(.*)\}", re.S)
-OWN = re.compile(r"Rattle·(\w+?)(?:·specs)?\.specs\.(\w+)")
+OWN = re.compile(r"Rattle\.(\w+)\.specs\.(\w+)")
 DEFINED = re.compile(r"use |pub |infix|abbrev|unfoldable")
 SIGNED = re.compile(r"(?:abbrev|unfoldable)(?: pub)? (\S+) : (.*)", re.S)
 
@@ -25,7 +25,8 @@ class Module:
             elif part.startswith("use "):
                 path, names = USE.match(part).groups()
                 own = OWN.match(path)
-                self.uses.update(dict.fromkeys(re.findall(r"[^,\s]+", names), own and own.groups()))
+                leaves = (leaf.rpartition(".")[2] for leaf in re.findall(r"[^,\s]+", names))
+                self.uses.update(dict.fromkeys(leaves, own and own.groups()))
             elif part.startswith("pub record"):
                 self.claims += claims(part)
             elif SIGNED.match(part):
@@ -203,7 +204,7 @@ class Translation:
         if operator == "when":
             return f"When({left}, lambda: {right})"
         forms = {"∷": f"(({left},) + {right})", "++": f"({left} + {right})", "-": f"max(0, {left} - {right})"}
-        return forms.get(operator) or self.applied(module, f"_{operator}_", [left, right], set())
+        return forms.get(operator) or self.applied(module, f"◌{operator}◌", [left, right], set())
 
     def applied(self, module, name, arguments, bound):
         if name in bound:
@@ -235,7 +236,7 @@ class When:
 
 
 def spelled(module, name):
-    return f"{module}_{name}"
+    return f"{module}_{name.replace('◌', '_')}"
 
 
 def local(name):

@@ -1,4 +1,6 @@
 // The aggregated status' value and the time of its last change.
+#![tactic(auto)]
+
 ghost use Rattle.std.specs.Prelude.{◌≡◌};
 ghost use Rattle.aggregated.specs.Aggregated.{beginning, set_of};
 ghost use Rattle.aggregated.specs.Issued.{issued_of};
@@ -7,13 +9,13 @@ use entry::Entry;
 
 // The eight booleans, first highest, in the low byte of value.
 #[repr(C)]
-#[derive(Drop)]
+#[derive(Clone, Copy)]
 pub struct Aggregated {
     pub time: u64,
     pub value: u64,
 }
 
-#[derive(Drop)]
+#[derive(Clone, Copy)]
 pub struct Set {
     pub aggregated: Aggregated,
     pub changed: bool,

@@ -1,4 +1,6 @@
 // One alarm: what an input and what a supervisor's order make of it.
+#![tactic(auto)]
+
 ghost use Rattle.std.specs.Prelude.{◌≡◌};
 ghost use Rattle.basis.specs.Pick.{pick, bit as bit_of};
 ghost use Rattle.alarm.specs.Issued.{issued_of};
@@ -8,7 +10,7 @@ use entry::{Entry, flags};
 
 // The last event, its aSp (0 Issue, 1 Acknowledge, 2 Suspend) and its time, and the states (1 or 0).
 #[repr(C)]
-#[derive(Drop)]
+#[derive(Clone, Copy)]
 pub struct Alarm {
     pub time: u64,
     pub event: u16,
@@ -18,7 +20,7 @@ pub struct Alarm {
 }
 
 // What a supervisor can order; to ask for the alarm's states changes nothing.
-#[derive(Drop)]
+#[derive(Clone, Copy)]
 pub enum Order {
     Acknowledge,
     Suspend,
@@ -26,7 +28,7 @@ pub enum Order {
 }
 
 // The alarm afterwards, whether there was an event, and whether it makes a record.
-#[derive(Drop)]
+#[derive(Clone, Copy)]
 pub struct Changed {
     pub alarm: Alarm,
     pub happened: bool,

@@ -1,11 +1,13 @@
 // What a call answers, and the numbers of document 01 for it.
+#![tactic(auto)]
+
 ghost use Rattle.std.specs.Prelude.{◌≡◌};
 ghost use Rattle.answer.specs.Number.{refusal_number, number_of};
 
 // The last millisecond of 9999.
 pub const LAST_TIME: u64 = 253402300799999;
 
-#[derive(Drop)]
+#[derive(Clone, Copy)]
 pub enum Refusal {
     Ignored,
     NoSuchLink,
@@ -24,7 +26,7 @@ pub enum Refusal {
 // What a done call says: hint is a time in milliseconds where hinted is not 0; bit l of closed is set where link l was closed; commands is how
 // many are handed over.
 #[repr(C)]
-#[derive(Drop)]
+#[derive(Clone, Copy)]
 pub struct Report {
     pub hint: u64,
     pub written: u32,
@@ -33,7 +35,7 @@ pub struct Report {
     pub commands: u64,
 }
 
-#[derive(Drop)]
+#[derive(Clone, Copy)]
 pub enum Answer {
     Done(Report),
     Refused(Refusal),

@@ -1,4 +1,6 @@
 // The identities that a link awaits an answer to: sixteen places, searched and changed at one place.
+#![tactic(auto)]
+
 ghost use Rattle.std.specs.Prelude.{◌≡◌, ◌+◌, ◌<◌, true, leb, length};
 ghost use Rattle.basis.specs.Pick.{pick, bit};
 ghost use Rattle.awaited.specs.Lists.{first_of, some};
@@ -9,7 +11,7 @@ ghost use Rattle.awaited.specs.Awaited.{nothing_awaited, add_of, find_of, take_o
 use identity::{Identity, same_identity};
 
 // What a message was sent for: our Version, a Watchdog, the held record with this sequence number, or anything else.
-#[derive(Drop)]
+#[derive(Clone, Copy)]
 pub enum Purpose {
     Version,
     Watchdog,
@@ -17,7 +19,7 @@ pub enum Purpose {
     Other,
 }
 
-#[derive(Drop)]
+#[derive(Clone, Copy)]
 pub enum Found {
     For(Purpose),
     Nothing,
@@ -25,7 +27,7 @@ pub enum Found {
 
 // A place. `purpose` is 0 where it is free; `sequence` is 0 but for a record.
 #[repr(C)]
-#[derive(Drop)]
+#[derive(Clone, Copy)]
 pub struct Slot {
     pub time: u64,
     pub sequence: u32,
@@ -34,12 +36,12 @@ pub struct Slot {
 }
 
 #[repr(C)]
-#[derive(Drop)]
+#[derive(Clone, Copy)]
 pub struct Awaited {
     pub slots: [Slot; 16],
 }
 
-#[derive(Drop)]
+#[derive(Clone, Copy)]
 pub struct Taken {
     pub awaited: Awaited,
     pub found: Found,

@@ -1,5 +1,7 @@
 // Judges each packet from standard input as often as its case's kind says, and writes how often it was accepted. bench/packets.py
 // measures it.
+#![tactic(auto)]
+
 use run_feed::Case;
 
 // How often kind k judges: 0 once, 1 ten times, and so on.

@@ -1,5 +1,7 @@
 // Reads each packet from standard input (kind r) or writes a message (kind w, by the letter in its body) as often as the first
 // digit of the body says, and writes a number that depends on every turn. bench/messages.py measures it.
+#![tactic(auto)]
+
 ghost use Rattle.std.specs.Prelude.{◌≡◌};
 ghost use Rattle.json_find.specs.Index.{Indexed};
 ghost use Rattle.json_packet.specs.Packet.{is_packet};

@@ -1,4 +1,6 @@
 // Fields shifted and masked, most significant first: each bit operator in one function over a width.
+#![tactic(auto)]
+
 ghost use Rattle.std.specs.Prelude.{◌≡◌, ℕ, ◌+◌, ◌*◌, ◌/◌, ◌%◌, ◌^◌, ◌≤◌, ◌<◌};
 ghost use Rattle.bits.specs.Fields.{pushed, field_of, number_of};
 

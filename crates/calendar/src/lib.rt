@@ -1,4 +1,6 @@
 // Times: milliseconds since 1970 UTC and YYYY-MM-DDThh:mm:ss.mmmZ, from 1970 to 9999, both ways; read with zero to six decimals.
+#![tactic(auto)]
+
 ghost use Rattle.std.specs.Prelude.{◌≡◌, ◌++◌, ℕ, ◌+◌, ◌-◌, ◌*◌, ◌/◌, ◌%◌, ◌≤◌, ◌<◌, length, get_or};
 ghost use Rattle.basis.specs.Text.{text};
 ghost use Rattle.output.specs.Put.{put};
@@ -8,7 +10,7 @@ ghost use Rattle.calendar.specs.Text.{last_time, last_second, decimals, date_tex
 ghost use Rattle.calendar.specs.Put.{WroteTime};
 ghost use Rattle.calendar.specs.Read.{Answers, is_digit, are_digits, one_at, two_at, millis as millis_of, date_said, clock_said, read_decimals, read_rest, TimeRead};
 
-#[derive(Drop)]
+#[derive(Clone, Copy)]
 struct Date {
     year: u64,
     month: u64,
@@ -16,20 +18,20 @@ struct Date {
 }
 
 // A year or a month, and how many of its days went before.
-#[derive(Drop)]
+#[derive(Clone, Copy)]
 struct Place {
     number: u64,
     passed: u64,
 }
 
-#[derive(Drop)]
+#[derive(Clone, Copy)]
 enum Second {
     Is(u64),
     No,
 }
 
 // The milliseconds, and how many decimals stood there.
-#[derive(Drop)]
+#[derive(Clone, Copy)]
 pub enum Time {
     Is(u64, usize),
     No,

@@ -1,4 +1,6 @@
 // The host's three inputs, in place: an alarm's, a status' value, the aggregated value.
+#![tactic(auto)]
+
 ghost use Rattle.std.specs.Prelude.{◌≡◌, length};
 ghost use Rattle.table_whole.specs.declared.SiteTable.{SiteTable};
 ghost use Rattle.store_table.specs.Layout.{table_of, table_bytes};

@@ -1,1 +1,3 @@
 // The laws over the calls; there is no code here.
+
+#![tactic(auto)]

@@ -1,4 +1,6 @@
 // Packet, in place: the call that strangers reach.
+#![tactic(auto)]
+
 ghost use Rattle.std.specs.Prelude.{◌≡◌, true, false, List, ℕ, ◌<◌, ◌+◌, ◌*◌, length, get_or};
 ghost use Rattle.basis.specs.Pick.{pick};
 ghost use Rattle.identity.specs.Version.{identity_of};

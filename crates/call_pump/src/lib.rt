@@ -1,4 +1,6 @@
 // The call pump, in place: sends the next due message of a link, one at most. The pool lies in the words p, the site in the words w, its table in the bytes t.
+#![tactic(auto)]
+
 ghost use Rattle.std.specs.Prelude.{◌≡◌, length};
 ghost use Rattle.identity.specs.Version.{identity_of};
 ghost use Rattle.store_site.specs.Layout.{site_of, pool_words, site_words};

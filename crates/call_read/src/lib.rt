@@ -1,4 +1,6 @@
 // What a host reads of a site, for every site table; what is no record of its, for every pool ps. Of a link that is not configured: Down, and zeros.
+#![tactic(auto)]
+
 ghost use Rattle.std.specs.Prelude.{ℕ, List, ◌≡◌, length};
 ghost use Rattle.pool.specs.Pool.{reading_of};
 ghost use Rattle.table_whole.specs.declared.SiteTable.{SiteTable};
@@ -10,7 +12,7 @@ use pool::{Reading, Sought};
 
 // The version that both ends chose; zeros before.
 #[repr(C)]
-#[derive(Drop)]
+#[derive(Clone, Copy)]
 pub struct ChosenVersion {
     pub major: u32,
     pub minor: u32,

@@ -1,4 +1,6 @@
 // Start: a site, from the site table's bytes and the values of the host, in words and bytes that the host lends. Of the pool, what its owners held goes.
+#![tactic(auto)]
+
 ghost use Rattle.std.specs.Prelude.{◌<◌, ◌≡◌, true, ltb, length, replicate};
 ghost use Rattle.basis.specs.Pick.{pick};
 ghost use Rattle.pool.specs.declared.Pool.{Pool};
@@ -24,7 +26,7 @@ use link::Link;
 use pool::Pool;
 use status::Status;
 use subscription::Subscription;
-use table_whole::{TableRead, Verdict};
+use table_whole::{SiteTable, Verdict};
 
 // There is no primary where it is 4294967295.
 fn primary_of(primary: u32) -> u16
@@ -152,12 +154,12 @@ fn put_fresh(w: &mut [u64], site: u16, links: u16, primary: u16, period: u32, fi
     store_whole::lists::fill_links(w, Link::closed());
 }
 
-// The table is stored, the site that it begins with, and its owners are cleared, where the table is accepted.
+// The table is stored, the site that it begins with, and its owners are cleared.
 fn begin(
     p: &mut [u64],
     w: &mut [u64],
     t: &mut [u8],
-    read: TableRead,
+    table: &SiteTable,
     site: u32,
     links: u16,
     primary: u16,
@@ -166,19 +168,12 @@ fn begin(
     time: u64,
 ) -> Answer
     requires { (length p.old ≡ pool_words) × ((length w.old ≡ site_words) × ((length t.old ≡ table_bytes) × ((a_site_or_alone site ≡ true) × (period < 2147483648)))) }
-    ensures { Begun (judged_by read.verdict (fresh (pool_for site (pool_in p.old)) (site_for site) read.table links primary period first time)) p.old p.new w.old w.new t.old t.new result }
+    ensures { Begun (judged_by Verdict.Accepted (fresh (pool_for site (pool_in p.old)) (site_for site) table.now links primary period first time)) p.old p.new w.old w.new t.old t.new result }
 {
-    let table = read.table;
-    let verdict = read.verdict;
-    match verdict {
-        Verdict::Refused(_) => Answer::Refused(Refusal::NotAccepted),
-        Verdict::Accepted => {
-            store_table::put(t, table);
-            begin_pool(p, site);
-            put_fresh(w, site_of(site), links, primary, period, first, time);
-            Answer::Done(site::nothing())
-        }
-    }
+    store_table::put(t, *table);
+    begin_pool(p, site);
+    put_fresh(w, site_of(site), links, primary, period, first, time);
+    Answer::Done(site::nothing())
 }
 
 // Accepts exactly values within their limits with the bytes of a table that is allowed.
@@ -198,18 +193,22 @@ pub fn start(
     ensures { StartsIn table.now site links primary period first time p.old p.new w.old w.new t.old t.new result }
 {
     if within(site, links, primary, period, first, time) {
-        return begin(
-            p,
-            w,
-            t,
-            table_whole::read(table),
-            site,
-            links as u16,
-            primary_of(primary),
-            period,
-            first,
-            time,
-        );
+        let l = &table_whole::laid_out(table);
+        if table_whole::is_accepted(l, table.len()) {
+            return begin(
+                p,
+                w,
+                t,
+                &l.table,
+                site,
+                links as u16,
+                primary_of(primary),
+                period,
+                first,
+                time,
+            );
+        }
+        return Answer::Refused(Refusal::NotAccepted);
     }
     Answer::Refused(Refusal::NotAccepted)
 }

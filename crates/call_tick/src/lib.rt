@@ -1,4 +1,6 @@
 // The passing of time, in place: links that waited too long for an answer are closed, and subscriptions issue at their intervals.
+#![tactic(auto)]
+
 ghost use Rattle.std.specs.Prelude.{◌≡◌, length};
 ghost use Rattle.table_whole.specs.declared.SiteTable.{SiteTable};
 ghost use Rattle.site.specs.declared.Site.{Site};

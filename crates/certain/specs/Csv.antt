@@ -2,7 +2,7 @@
 -- Assumes nothing.
 use Rattle.std.specs.Prelude.{ℕ, ◌^◌, ◌<◌, List, [], ◌∷◌, ◌++◌, map, length}
 use contract.Lifetimes.{Lfts}
-use Rattle.std.specs.Borrow.{Bor}
+use Rattle.std.specs.Borrow.{Bor, MutBor}
 use denote.Triple.Clauses.{AtExit}
 use borrow.Fn.Kinds.{ended_of}
 use Rattle.output.specs.Put.{concat}
@@ -27,12 +27,12 @@ use Rattle.csvc.proofs.rsmp_csv_read.Kinds as read_kinds
 
 -- each cites the contract of the function of its name: the output before and afterwards, and what is told
 pub data HeaderCall : List ℕ → List ℕ → Told → Type 0 where
-  header_call : (κs : Lfts 1) (out : Bor (List ℕ)) (r : Told) (e : AtExit (ended_of 1 header_kinds.ps header_kinds.r) κs)
+  header_call : (κs : Lfts 1) (out : MutBor (List ℕ)) (r : Told) (e : AtExit (ended_of 1 header_kinds.ps header_kinds.r) κs)
       → rsmp_header.Learnt κs (out, tt) r e → HeaderCall out.now e.0.now r
 
 -- the record's bytes come first
 pub data LineCall : List ℕ → List ℕ → List ℕ → Told → Type 0 where
-  line_call : (κs : Lfts 2) (bytes out : Bor (List ℕ)) (r : Told) (e : AtExit (ended_of 2 line_kinds.ps line_kinds.r) κs)
+  line_call : (κs : Lfts 2) (bytes : Bor (List ℕ)) (out : MutBor (List ℕ)) (r : Told) (e : AtExit (ended_of 2 line_kinds.ps line_kinds.r) κs)
       → rsmp_line.Learnt κs (bytes, (out, tt)) r e → LineCall bytes.now out.now e.1.0.now r
 
 pub data ReadCall : List ℕ → ℕ → ℕ → Read → Type 0 where

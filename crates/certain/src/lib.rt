@@ -1,1 +1,3 @@
 // The three demands in one place; there is no code here.
+
+#![tactic(auto)]

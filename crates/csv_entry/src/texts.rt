@@ -4,7 +4,7 @@ ghost use Rattle.csv_entry.specs.Raws.{Within, Lies};
 
 use csv_field::Notes;
 
-#[derive(Drop)]
+#[derive(Clone, Copy)]
 pub struct Span {
     pub start: usize,
     pub end: usize,

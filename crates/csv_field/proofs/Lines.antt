@@ -54,9 +54,9 @@ alike f g t h = go (field_of t) (sure t)
 enough : (n m : ℕ) (t : List ℕ) → length t ≤ n → length t ≤ m → split_within n t ≡ split_within m t
 unfolding split_within
 enough zero zero t h g = refl
-enough zero (suc m) t h g = alike _ _ t (λ u k. absurd (omega arith))
-enough (suc n) zero t h g = alike _ _ t (λ u k. absurd (omega arith))
-enough (suc n) (suc m) t h g = alike _ _ t (λ u k. enough n m u (omega arith) (omega arith))
+enough zero (suc m) t h g = alike (λ u. fields [] u) (λ u. split_within m u) t (λ u k. absurd (omega arith))
+enough (suc n) zero t h g = alike (λ u. split_within n u) (λ u. fields [] u) t (λ u k. absurd (omega arith))
+enough (suc n) (suc m) t h g = alike (λ u. split_within n u) (λ u. split_within m u) t (λ u k. enough n m u (omega arith) (omega arith))
 
 -- the definition with no count of fields in it
 pub unroll : (s : List ℕ) → split s ≡ on_field (λ t. split t) (field_of s)

@@ -1,4 +1,6 @@
 // A line of fields, RFC 4180: where each of them stands, up to twelve, and where the line ends.
+#![tactic(auto)]
+
 ghost use Rattle.std.specs.Prelude.{◌≡◌, false, ℕ, ◌+◌, ◌≤◌, length, drop};
 ghost use Rattle.basis.specs.Pick.{bit};
 ghost use Rattle.csv_field.specs.Marks.{is_quote, is_comma, is_break, is_stop, plain_run, quoted_run, line_run, behind_break, breaks, is_ended};
@@ -9,14 +11,14 @@ ghost use Rattle.csv_field.specs.Places.{Takes, Splits, noted};
 pub const MOST: usize = 12;
 
 // A field: where its text begins, how long that is, and the place behind the field; or the place of a fault.
-#[derive(Drop)]
+#[derive(Clone, Copy)]
 pub enum Field {
     Is(usize, usize, usize),
     Bad(usize),
 }
 
 // The texts of a line's fields. Behind the twelfth no more are noted; 13 counts all of them.
-#[derive(Drop)]
+#[derive(Clone, Copy)]
 pub struct Notes {
     pub count: usize,
     pub starts: [usize; 12],
@@ -24,7 +26,7 @@ pub struct Notes {
 }
 
 // A line whose quotes are good, or not, and the place behind it.
-#[derive(Drop)]
+#[derive(Clone, Copy)]
 pub struct Line {
     pub good: bool,
     pub next: usize,

@@ -1,4 +1,6 @@
 // A line read: the header, or the record that it is written with.
+#![tactic(auto)]
+
 ghost use Rattle.std.specs.Prelude.{◌≡◌, ℕ, ◌<◌, drop};
 ghost use Rattle.entry.specs.Valid.{Decides};
 ghost use Rattle.csv_field.specs.Split.{split};

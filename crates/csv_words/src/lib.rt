@@ -1,4 +1,6 @@
 // The words of a line: the kinds, an alarm's events, the columns; one table of bytes with starts and lengths.
+#![tactic(auto)]
+
 ghost use Rattle.std.specs.Prelude.{◌≡◌, [], ◌∷◌};
 ghost use Rattle.basis.specs.Lists.{same_bytes};
 ghost use Rattle.output.specs.Put.{Wrote};
@@ -21,7 +23,7 @@ const STARTS: [u8; COUNT] =
 const LENS: [u8; COUNT] =
     *b"\x05\x0c\x10\x05\x0b\x07\x04\x04\x04\x05\x03\x06\x09\x05\x03\x04\x05\x08";
 
-#[derive(Drop)]
+#[derive(Clone, Copy)]
 struct Span {
     start: usize,
     end: usize,

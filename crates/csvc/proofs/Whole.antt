@@ -80,7 +80,7 @@ module _ {s : List ℕ} (n : length s < 2 ^ 64) where
 
   -- behind the header
   behind : {next : ℕ} {rs : List Read} {a : Answers} → next ≤ length s → Parts s columns (drop next s) → ((next ≡ 0 → ⊥) → Calls s next 2 rs) → ReadsFile s a → SaysFile s a rs
-  behind {next} l p c (ReadsFile.no_Header x) = absurd (x (drop next s) p)
+  behind {next} l p c (ReadsFile.no_header x) = absurd (x (drop next s) p)
   behind {next} l p c (ReadsFile.header {r} {js} x y) =
       let z : (next ≡ 0 → ⊥) = λ e. omega (arith, rest_shorter p (omega arith), length-drop next s) in
       let q : fields columns r ≡ fields columns (drop next s) = sym (Meaning.complete x) ∙ Meaning.complete p in
@@ -88,7 +88,7 @@ module _ {s : List ℕ} (n : length s < 2 ^ 64) where
       SaysFile.tells next l p (says z (begins_first p) (c z) y f)
 
   pub whole : {line : ℕ} {rs : List Read} {a : Answers} → Calls s 0 line rs → ReadsFile s a → SaysFile s a rs
-  whole (Calls.stops (Reads.first e (ReadsFirst.wrong_header x)) st) (ReadsFile.no_Header y) = SaysFile.refuses refl refl
+  whole (Calls.stops (Reads.first e (ReadsFirst.wrong_header x)) st) (ReadsFile.no_header y) = SaysFile.refuses refl refl
   whole (Calls.stops (Reads.first e (ReadsFirst.wrong_header x)) st) (ReadsFile.header {r} p y) = absurd (x r p)
   whole (Calls.stops (Reads.first e (ReadsFirst.header next l p x)) st) q = behind l p (λ z. Calls.stops (Reads.further z x) st) q
   whole (Calls.stops (Reads.further z x) st) q = absurd (z refl)

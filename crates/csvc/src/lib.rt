@@ -1,4 +1,6 @@
 // What C and Rust call for records as lines of comma-separated fields. All memory is lent; each call answers a number, 0 where it is done.
+#![tactic(auto)]
+
 ghost use Rattle.std.specs.Prelude.{◌≡◌, ℕ, ◌≤◌, length};
 ghost use Rattle.csvc.specs.Calls.{added, line_behind, number_for, bytes_for, zeros, Heads, Writes, ReadsOn, ReadsFirst, Reads};
 
@@ -9,7 +11,7 @@ const HEADER: usize = 73;
 
 // How many bytes were written, and the number.
 #[repr(C)]
-#[derive(Drop)]
+#[derive(Clone, Copy)]
 pub struct Told {
     pub written: u64,
     pub number: u64,
@@ -17,7 +19,7 @@ pub struct Told {
 
 // What a line comes to: 0 a record, 1 to 6 the reason against it, 7 the end; the record's bytes, or zeros; the next place and its line; the line's own number.
 #[repr(C)]
-#[derive(Drop)]
+#[derive(Clone, Copy)]
 pub struct Read {
     pub next: u64,
     pub line: u64,
@@ -27,8 +29,7 @@ pub struct Read {
 }
 
 // The header, from the start of out.
-#[unsafe(no_mangle)]
-pub extern "C" fn rsmp_csv_header(out: &mut [u8]) -> Told
+pub fn rsmp_csv_header(out: &mut [u8]) -> Told
     ensures { Heads out.old out.new result }
 {
     if out.len() < HEADER {
@@ -77,8 +78,7 @@ fn write_line(bytes: &[u8], out: &mut [u8]) -> Told
 }
 
 // The line of the record whose 16 bytes are given, from the start of out.
-#[unsafe(no_mangle)]
-pub extern "C" fn rsmp_csv_line(bytes: &[u8], out: &mut [u8]) -> Told
+pub fn rsmp_csv_line(bytes: &[u8], out: &mut [u8]) -> Told
     ensures { Writes bytes.now out.old out.new result }
 {
     if out.len() < csv_entry::ROOM {
@@ -199,8 +199,7 @@ fn read_first(text: &[u8]) -> Read
 }
 
 // What stands at a place of the text: the first line behind the header at 0, else the line that begins there.
-#[unsafe(no_mangle)]
-pub extern "C" fn rsmp_csv_read(text: &[u8], at: u64, line: u64) -> Read
+pub fn rsmp_csv_read(text: &[u8], at: u64, line: u64) -> Read
     ensures { Reads text.now at line result }
 {
     if at == 0 {

@@ -8,7 +8,7 @@ use Rattle.machine.specs.State.{Alarm, Share, Subscription, Sent, Awaited, Machi
 use Rattle.machine.specs.State.Act.{connect, disconnect, packet, alarm_input, status_value, aggregated_value, tick, pump}
 use Rattle.machine.specs.Json.{read_packet, string_of, entries_of, is_type, asks_for}
 use Rattle.machine.specs.Life.{close, close_all, Due, carried_by, awaited_by, awaiting, answered_to, due_up, due}
-use Rattle.machine.specs.Life.Due.{theVersion, theWatchdog, theAggregated, the_alarm, the_held}
+use Rattle.machine.specs.Life.Due.{the_version, the_watchdog, the_aggregated, the_alarm, the_held}
 use Rattle.machine.specs.Answers.{is_answer, reasons, reason_of, wants_reply, replies_at_once, fails_check, alarm_asked}
 use Rattle.machine.specs.Items.{update, number_asked, subscribe_all, end_all, ordered, with_input, happens, subscribe, unsubscribe, intervals, is_new, becomes, commands, aggregates}
 use Rattle.machine.specs.Effects.{connects, closes, late, ticks, own_identity, due_message, sent_as, carried, after_sending, mark_sent, sends, answer_closes, acknowledges, version_accepted, watchdog_taken, alarm_ordered, reply_message, settle, answers, answered, refuses, carried_out, replying, receives, effect_of}
@@ -115,9 +115,9 @@ module _ (s : Share) where
   -- ---- pump
   sent_nat : (m : Machine) (l : ℕ) (d : Due) → sent_as (w m) l d ≡ sent_as m l d
   unfolding carried_by
-  sent_nat m l theVersion = refl
-  sent_nat m l theWatchdog = refl
-  sent_nat m l theAggregated = refl
+  sent_nat m l the_version = refl
+  sent_nat m l the_watchdog = refl
+  sent_nat m l the_aggregated = refl
   sent_nat m l (the_alarm i) = refl
   sent_nat m l (the_held h) = refl
 
@@ -125,9 +125,9 @@ module _ (s : Share) where
   mark_nat message m = maybe_nat w (carried message) refl (λ n. refl)
 
   message_nat : (m : Machine) (t : ℕ) (id : Bytes) (d : Due) → due_message (w m) t id d ≡ due_message m t id d
-  message_nat m t id theVersion = refl
-  message_nat m t id theWatchdog = refl
-  message_nat m t id theAggregated = refl
+  message_nat m t id the_version = refl
+  message_nat m t id the_watchdog = refl
+  message_nat m t id the_aggregated = refl
   message_nat m t id (the_alarm i) = refl
   message_nat m t id (the_held h) = refl
 

@@ -22,6 +22,7 @@ use Rattle.demand_carried.proofs.Lists.{both_each}
 
 -- ---- one more call
 still_lived : {q : Past} (p : Past) (life : List Past) → Among q life → Among q (going_on p life)
+still_lived {q = q} p [] a = elim a [ ]
 still_lived p (x ∷ life) a = later a
 
 pub carried_on : {s : Start} {h : List Past} {l n : ℕ} {id : Bytes} (p : Past) → opens l p ≡ false → ends l p ≡ false → (AnswerCame l id p → ⊥)

@@ -8,11 +8,11 @@ use Rattle.write_message.specs.Message.{Message}
 use Rattle.write_message.specs.Message.Message.{ack}
 use Rattle.machine.specs.Words.{Bytes, maybe, is_number, any, but_first, changed, first_of}
 use Rattle.machine.specs.State.{Alarm, Sent, Awaited, Life, fresh, Start, Machine, with_life, life_at, Act, Call, Outcome, Effect, handing, effect, only}
-use Rattle.machine.specs.State.Sent.{ourVersion, ourWatchdog, noRecord, the_record}
+use Rattle.machine.specs.State.Sent.{own_version, own_watchdog, no_record, the_record}
 use Rattle.machine.specs.State.Act.{connect, disconnect, packet, alarm_input, status_value, aggregated_value, tick, pump}
 use Rattle.machine.specs.Json.{read_packet, string_of, is_type, asks_for, is_identity_of}
 use Rattle.machine.specs.Life.{is_awaited, awaited_by, awaiting, answered_to, Due, due}
-use Rattle.machine.specs.Life.Due.{theVersion, theWatchdog, theAggregated, the_alarm, the_held}
+use Rattle.machine.specs.Life.Due.{the_version, the_watchdog, the_aggregated, the_alarm, the_held}
 use Rattle.machine.specs.Answers.{is_answer, wants_reply, replies_at_once, reason_of, fails_check}
 use Rattle.machine.specs.Items.{happens, subscribe, unsubscribe, intervals, commands}
 use Rattle.machine.specs.Messages.{included_message}
@@ -43,17 +43,17 @@ use Rattle.demand_carried.proofs.Sent.{Tells, due_tells}
 
 -- ---- what leaves the awaited identities
 pub ack_awaited : (is_ack : Bool) (message : Sent) (k : Life) → (acknowledges is_ack message k).awaited ≡ k.awaited
-ack_awaited true ourVersion k = refl
-ack_awaited false ourVersion k = refl
-ack_awaited true ourWatchdog k = refl
-ack_awaited false ourWatchdog k = refl
-ack_awaited is_ack noRecord k = refl
+ack_awaited true own_version k = refl
+ack_awaited false own_version k = refl
+ack_awaited true own_watchdog k = refl
+ack_awaited false own_watchdog k = refl
+ack_awaited is_ack no_record k = refl
 ack_awaited is_ack (the_record n) k = refl
 
 pub sending_awaited : (t : ℕ) (d : Due) (k : Life) → (after_sending t d k).awaited ≡ k.awaited
-sending_awaited t theVersion k = refl
-sending_awaited t theWatchdog k = refl
-sending_awaited t theAggregated k = refl
+sending_awaited t the_version k = refl
+sending_awaited t the_watchdog k = refl
+sending_awaited t the_aggregated k = refl
 sending_awaited t (the_alarm i) k = refl
 sending_awaited t (the_held h) k = refl
 
@@ -194,7 +194,7 @@ module _ (s : Start) (h : List Past) (m : Machine) (run : Run s h m) (t l : ℕ)
 
           abbrev replied : Effect
           replied =
-              handing out.commands (with_life l (awaiting id t noRecord (life_at out.leaves l)) out.leaves) out.issues
+              handing out.commands (with_life l (awaiting id t no_record (life_at out.leaves l)) out.leaves) out.issues
               (ack (string_of "mId" j) ∷ reply_message out.leaves t id j ∷ []) out.closed out.hint
 
           abbrev responded : Effect
@@ -221,8 +221,8 @@ module _ (s : Start) (h : List Past) (m : Machine) (run : Run s h m) (t l : ℕ)
           goes_replying =
               picked (Goes this) (replies_at_once j) _ _ (λ o. kept_by (past_of this responded) (keeps responded unclosed))
               (λ o. picked (Goes this) (wants_reply out.leaves l j) _ _
-              (λ w. sets l (Backed s l (past_of this replied ∷ h)) (awaiting id t noRecord (life_at out.leaves l)) out.leaves.lives
-              (more s l (kept_by (past_of this replied) (keeps replied unclosed)) (record { identity = id; time = t; message = noRecord })
+              (λ w. sets l (Backed s l (past_of this replied ∷ h)) (awaiting id t no_record (life_at out.leaves l)) out.leaves.lives
+              (more s l (kept_by (past_of this replied) (keeps replied unclosed)) (record { identity = id; time = t; message = no_record })
               (λ n c. absurd (let z : ◌≡◌ {A = ℕ} 0 1 = cc in omega arith)) sixteen (unawaited w))
               (none_backed s l (past_of this replied ∷ h)))
               (λ w. kept_by (past_of this acked_only) (keeps acked_only unclosed)))

@@ -19,6 +19,7 @@ every f [] = no_more
 every f (x ∷ xs) = one_more (f x) (every f xs)
 
 pub each_among : {A : Type 0} {P : A → Type 0} {x : A} {xs : List A} → Each P xs → Among x xs → P x
+each_among {A = A} {P = P} no_more x4 = elim x4 [ ]
 each_among (one_more p r) first = p
 each_among (one_more p r) (later a) = each_among r a
 

@@ -7,12 +7,12 @@ use Rattle.json_value.specs.Grammar.{Json}
 use Rattle.write_message.specs.Message.{Message}
 use Rattle.machine.specs.Words.{Bytes, but_first, changed, first_of}
 use Rattle.machine.specs.State.{Alarm, issued_for, Sent, Awaited, Life, fresh, Start, Machine, with_held, life_at, value_at, Act, Effect, only}
-use Rattle.machine.specs.State.Sent.{ourVersion, ourWatchdog, noRecord, the_record}
+use Rattle.machine.specs.State.Sent.{own_version, own_watchdog, no_record, the_record}
 use Rattle.machine.specs.State.Act.{connect, disconnect, packet, alarm_input, status_value, aggregated_value, tick, pump}
 use Rattle.machine.specs.Table.Begins.{begins}
 use Rattle.machine.specs.Json.{read_packet, string_of, is_type, asks_for, is_identity_of}
 use Rattle.machine.specs.Life.{close, close_all, awaited_by, awaiting, answered_to, Due, due}
-use Rattle.machine.specs.Life.Due.{theVersion, theWatchdog, theAggregated, the_alarm, the_held}
+use Rattle.machine.specs.Life.Due.{the_version, the_watchdog, the_aggregated, the_alarm, the_held}
 use Rattle.machine.specs.Answers.{is_answer, wants_reply, replies_at_once, reason_of, fails_check}
 use Rattle.machine.specs.Items.{is_new, happens, subscribe, unsubscribe, intervals, becomes, commands, aggregates}
 use Rattle.machine.specs.Pool.{settled, marked}
@@ -41,26 +41,26 @@ Marked m = Marks m.lives m.pool
 
 -- ---- what a message carries
 is_record : {n : ℕ} (x : Sent) → carried x ≡ some n → x ≡ the_record n
-is_record ourVersion e = absurd (let z : ◌≡◌ {A = ℕ} 0 1 = cc in omega arith)
-is_record ourWatchdog e = absurd (let z : ◌≡◌ {A = ℕ} 0 1 = cc in omega arith)
-is_record noRecord e = absurd (let z : ◌≡◌ {A = ℕ} 0 1 = cc in omega arith)
+is_record own_version e = absurd (let z : ◌≡◌ {A = ℕ} 0 1 = cc in omega arith)
+is_record own_watchdog e = absurd (let z : ◌≡◌ {A = ℕ} 0 1 = cc in omega arith)
+is_record no_record e = absurd (let z : ◌≡◌ {A = ℕ} 0 1 = cc in omega arith)
 is_record (the_record n) e = cc
 
-no_record : {n : ℕ} {P : Type 0} (x : Sent) → carried x ≡ none → x ≡ the_record n → P
-no_record {n} x e f = absurd (let g : carried x ≡ some n = rw f in let z : ◌≡◌ {A = ℕ} 0 1 = cc in omega arith)
+no_record_lem : {n : ℕ} {P : Type 0} (x : Sent) → carried x ≡ none → x ≡ the_record n → P
+no_record_lem {n} x e f = absurd (let g : carried x ≡ some n = rw f in let z : ◌≡◌ {A = ℕ} 0 1 = cc in omega arith)
 
 ack_connected : (is_ack : Bool) (message : Sent) (k : Life) → (acknowledges is_ack message k).connected ≡ k.connected
-ack_connected true ourVersion k = refl
-ack_connected false ourVersion k = refl
-ack_connected true ourWatchdog k = refl
-ack_connected false ourWatchdog k = refl
-ack_connected is_ack noRecord k = refl
+ack_connected true own_version k = refl
+ack_connected false own_version k = refl
+ack_connected true own_watchdog k = refl
+ack_connected false own_watchdog k = refl
+ack_connected is_ack no_record k = refl
 ack_connected is_ack (the_record n) k = refl
 
 sending_connected : (t : ℕ) (d : Due) (k : Life) → (after_sending t d k).connected ≡ k.connected
-sending_connected t theVersion k = refl
-sending_connected t theWatchdog k = refl
-sending_connected t theAggregated k = refl
+sending_connected t the_version k = refl
+sending_connected t the_watchdog k = refl
+sending_connected t the_aggregated k = refl
 sending_connected t (the_alarm i) k = refl
 sending_connected t (the_held h) k = refl
 
@@ -135,7 +135,7 @@ module _ (m : Machine) (a : Marked m) where
           (λ n w. rw (ack_awaited (is_type "MessageAck" j) b.message (life_at m l)) (go n (awaits_but its (life_at m l).awaited b found w)))
         where
           go : (n : ℕ) → (b.message ≡ the_record n) ⊎ Awaits n (but_first its (life_at m l).awaited) → Awaits n (but_first its (life_at m l).awaited)
-          go n (inl q) = no_record b.message f q
+          go n (inl q) = no_record_lem b.message f q
           go n (inr w) = w
 
       answers_record : (n : ℕ) → carried b.message ≡ some n → Marks (changed l (λ y. answered_life) m.lives) (with_held (settled l n m.pool.held) m).pool

@@ -20,10 +20,12 @@ use Rattle.demand_carried.proofs.Lists.{each_among}
 
 -- ---- numbers stand once
 rising_from : {b a : ℕ} {x : Held} {hs : List Held} → Rising b a hs → Among x hs → a ≤ x.sequence
+rising_from {b = b} (Rattle.demand_held.proofs.Good.ends {a = a} _) x8 = elim x8 [ ]
 rising_from (rises f r) first = f
 rising_from (rises {h = y} f r) (later i) = omega (arith, rising_from r i)
 
 pub one_number : {b a : ℕ} {x y : Held} {hs : List Held} → Rising b a hs → Among x hs → Among y hs → x.sequence ≡ y.sequence → x ≡ y
+one_number {b = b} {y = y} (Rattle.demand_held.proofs.Good.ends {a = a} _) x14 _ e = elim x14 [ ]
 one_number (rises f r) first first e = refl
 one_number (rises f r) first (later j) e = absurd (omega (arith, rising_from r j))
 one_number (rises f r) (later i) first e = absurd (omega (arith, rising_from r i))

@@ -4,9 +4,9 @@ use Rattle.basis.proofs.Std.{ℕ, ◌+◌, ◌-◌, ◌*◌, ◌≡◌, refl, su
 use Rattle.write_message.specs.Message.{Message}
 use Rattle.machine.specs.Words.{Bytes, maybe}
 use Rattle.machine.specs.State.{Content, issued_for, Held, Sent, Machine, life_at, alarm_at}
-use Rattle.machine.specs.State.Sent.{noRecord, the_record}
+use Rattle.machine.specs.State.Sent.{no_record, the_record}
 use Rattle.machine.specs.Life.{is_greeting, is_beating, is_up, same_alarm, alarm_in, newest, carries, carried_by, pass_length, oldest_unsent, Due, due_up, due}
-use Rattle.machine.specs.Life.Due.{theVersion, theWatchdog, theAggregated, the_alarm, the_held}
+use Rattle.machine.specs.Life.Due.{the_version, the_watchdog, the_aggregated, the_alarm, the_held}
 use Rattle.machine.specs.Messages.{alarm_message, record_message}
 use Rattle.machine.specs.Effects.{due_message, sent_as, carried}
 use Rattle.demand_held.specs.Held.{IsHeld}
@@ -27,9 +27,9 @@ TellsIf m l id w x = (n : ℕ) → carried x ≡ some n → Tells m l n id w
 
 -- ---- what is due of the held records is the link's own
 abbrev Own : Machine → ℕ → Due → Type 0
-Own m l theVersion = Unit {0}
-Own m l theWatchdog = Unit {0}
-Own m l theAggregated = Unit {0}
+Own m l the_version = Unit {0}
+Own m l the_watchdog = Unit {0}
+Own m l the_aggregated = Unit {0}
 Own m l (the_alarm i) = Unit {0}
 Own m l (the_held h) = Among h m.pool.held × (h.link ≡ l)
 
@@ -47,11 +47,11 @@ module _ (m : Machine) (l t : ℕ) where
   unfolding due due_up
   due_own =
       let k = life_at m l in
-      picked (OwnIf m l) (both (is_greeting k) (not k.versions.sent)) (some theVersion) _ (λ e. tt)
-      (λ e. picked (OwnIf m l) (both (is_beating k) (not k.watchdogs.sent)) (some theWatchdog) _ (λ e. tt)
+      picked (OwnIf m l) (both (is_greeting k) (not k.versions.sent)) (some the_version) _ (λ e. tt)
+      (λ e. picked (OwnIf m l) (both (is_beating k) (not k.watchdogs.sent)) (some the_watchdog) _ (λ e. tt)
       (λ e. picked (OwnIf m l) (is_up k) _ none
-      (λ up. picked (OwnIf m l) (leb (k.beat + 1000 * m.setup.period) t) (some theWatchdog) _ (λ e. tt)
-      (λ e. picked (OwnIf m l) (eqb k.pass 0) (some theAggregated) _ (λ e. tt)
+      (λ up. picked (OwnIf m l) (leb (k.beat + 1000 * m.setup.period) t) (some the_watchdog) _ (λ e. tt)
+      (λ e. picked (OwnIf m l) (eqb k.pass 0) (some the_aggregated) _ (λ e. tt)
       (λ e. picked (OwnIf m l) (ltb k.pass (pass_length m l)) (some (the_alarm (k.pass - 1))) _ (λ f. tt)
       (λ f. maybe_cases (OwnIf m l) none (λ (h : Held). some (the_held h)) (oldest_unsent m l) (λ g. tt) unsent_own))))
       (λ n. tt)))
@@ -67,8 +67,8 @@ module _ (m : Machine) (l t : ℕ) where
     pass_tells : (i : ℕ) → TellsIf m l id (alarm_message m.setup.table id i (alarm_at m i)) (carried_by m l i)
     unfolding carried_by
     pass_tells i =
-        maybe_cases (TellsIf m l id this) noRecord (carries (alarm_at m i) i) (newest l i none m.pool.held) (λ e n c. nothing c)
-        (λ h e. picked (TellsIf m l id this) (maybe false (same_alarm (alarm_at m i)) (alarm_in i h.content)) (the_record h.sequence) noRecord
+        maybe_cases (TellsIf m l id this) no_record (carries (alarm_at m i) i) (newest l i none m.pool.held) (λ e n c. nothing c)
+        (λ h e. picked (TellsIf m l id this) (maybe false (same_alarm (alarm_at m i)) (alarm_in i h.content)) (the_record h.sequence) no_record
         (λ f. from h (newest_of l i h none m.pool.held e) f) (λ f n c. nothing c))
       where
         this : Message
@@ -83,8 +83,8 @@ module _ (m : Machine) (l t : ℕ) where
     due_tells d e = go d (subst (OwnIf m l) e due_own)
       where
         go : (d : Due) → Own m l d → TellsIf m l id (due_message m t id d) (sent_as m l d)
-        go theVersion o n c = nothing c
-        go theWatchdog o n c = nothing c
-        go theAggregated o n c = nothing c
+        go the_version o n c = nothing c
+        go the_watchdog o n c = nothing c
+        go the_aggregated o n c = nothing c
         go (the_alarm i) o n c = pass_tells i n c
         go (the_held h) o n c = own_tells h _ o.0 o.1 refl n c

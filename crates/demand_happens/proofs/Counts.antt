@@ -39,6 +39,7 @@ module _ (l n : ℕ) where
 
     pub count_one_gone : {h : Held} (hs : List Held) → Among h hs → is_before l x h ≡ true → h.sequence ≡ n
         → suc (count (is_before l x) (gone l n hs)) ≤ count (is_before l x) hs
+    count_one_gone {h = h} [] x4 f e = elim x4 [ ]
     count_one_gone (h ∷ hs) here f e =
         picked (λ (r : List Held). suc (count (is_before l x) r) ≤ bit (is_before l x h) + count (is_before l x) hs) (stays (marked n h)) (marked n h ∷ gone l n hs) (gone l n hs)
         (λ g. not_both g (rw ((both_true (is_for l h) _ f).0, eq-eqb h.sequence n e)))
@@ -66,10 +67,12 @@ some_counted f (later a) e = omega (arith, some_counted f a e)
 
 -- ---- numbers that rise
 pub from_on : {b a : ℕ} {h : Held} {hs : List Held} → Rising b a hs → Among h hs → a ≤ h.sequence
+from_on {b = b} {h = h} (Rattle.demand_held.proofs.Good.ends {a = a} _) x5 = elim x5 [ ]
 from_on (rises le r) here = le
 from_on (rises le r) (later i) = omega (arith, le, from_on r i)
 
 pub one_number : {b a : ℕ} {h x : Held} {hs : List Held} → Rising b a hs → Among h hs → Among x hs → h.sequence ≡ x.sequence → h ≡ x
+one_number {b = b} {h = h} (Rattle.demand_held.proofs.Good.ends {a = a} _) x14 _ e = elim x14 [ ]
 one_number (rises le r) here here e = refl
 one_number (rises le r) here (later j) e = absurd (omega (arith, from_on r j, e))
 one_number (rises le r) (later i) here e = absurd (omega (arith, from_on r i, e))
@@ -83,6 +86,7 @@ pub record Oldest (f : Held → Bool) (x : Held) (hs : List Held) : Type 0 where
   pub older : one.sequence ≤ x.sequence
 
 pub oldest : {b a : ℕ} (f : Held → Bool) {x : Held} (hs : List Held) → Rising b a hs → Among x hs → f x ≡ true → Oldest f x hs
+oldest {b = b} {a = a} f {x = x} [] _ x5 e = elim x5 [ ]
 oldest f (x ∷ hs) (rises le r) here e = record { one = x; found = rw e; among = here; passes = e; older = omega arith }
 oldest f {x} (y ∷ hs) (rises le r) (later i) e = bool_cases (f y) (λ g. first g) (λ g. next g (oldest f hs r i e))
   where

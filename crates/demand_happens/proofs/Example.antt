@@ -7,8 +7,8 @@ use Rattle.table_whole.specs.Allowed.EditionOf.{second}
 use Rattle.machine.specs.Words.{Bytes}
 use Rattle.machine.specs.Table.Begins.{begins}
 use Rattle.machine.specs.State.{Start, Machine, Call}
-use Rattle.machine.specs.Step.{leaves}
-use Rattle.machine.specs.Run.{Past, Run}
+use Rattle.machine.specs.Step.{step, leaves}
+use Rattle.machine.specs.Run.{Past, past, Run}
 use Rattle.machine.specs.Run.Run.{begun, next}
 use Rattle.machine.specs.Example.{table, started}
 use Rattle.demand_happens.specs.Example.{start, pasts, second_start, second_started}
@@ -54,6 +54,6 @@ begun_example = begun (begins {edition = 2} {t = table} allowed refl refl)
 pub begun_second : Run second_start [] second_started
 begun_second = begun (begins {edition = 2} {t = table} allowed refl refl)
 
-pub goes_on_lem : {s : Start} {h : List Past} {m : Machine} → Run s h m → (cs : List Call) → Run s (pasts h m cs) (leaves m cs)
+pub goes_on_lem : {s : Start} {m : Machine} {h : List Past} → Run s h m → (cs : List Call) → Run s (pasts h m cs) (leaves m cs)
 goes_on_lem r [] = r
-goes_on_lem r (c ∷ cs) = goes_on_lem (next c r) cs
+goes_on_lem {m = m} {h = h} r (c ∷ cs) = goes_on_lem {m = (step m c).1} {h = past m c ∷ h} (next c r) cs

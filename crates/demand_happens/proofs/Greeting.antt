@@ -4,12 +4,12 @@ use Rattle.basis.proofs.Std.{ℕ, suc, ◌≤◌, ◌<◌, ◌≡◌, refl, sym,
 use Rattle.json_value.specs.Grammar.{Json}
 use Rattle.machine.specs.Words.{Bytes, or_else}
 use Rattle.machine.specs.State.{Sent, Awaited, exchange, Life, fresh, Start, Machine, life_at, with_life, Call, only}
-use Rattle.machine.specs.State.Sent.{ourVersion, ourWatchdog}
+use Rattle.machine.specs.State.Sent.{own_version, own_watchdog}
 use Rattle.machine.specs.State.Act.{connect, packet, pump}
 use Rattle.machine.specs.Table.{last_sequence}
 use Rattle.machine.specs.Json.{string_of, is_type}
 use Rattle.machine.specs.Life.{is_over, is_down, is_beating, is_up, now_taken, with_watchdogs, common, awaiting, answered_to, Due, due}
-use Rattle.machine.specs.Life.Due.{theVersion, theWatchdog}
+use Rattle.machine.specs.Life.Due.{the_version, the_watchdog}
 use Rattle.machine.specs.Answers.{is_answer}
 use Rattle.machine.specs.Effects.{connects, own_identity, after_sending, sends, acknowledges, agreed, version_accepted, watchdog_taken, effect_of}
 use Rattle.machine.specs.Step.{conditions, step, leaves}
@@ -46,7 +46,7 @@ pub record Talks (ov : Ours) (tv : Bool) (ow : Ours) (tw : Bool) (k : Life) : Ty
   pub connected : k.connected ≡ true
   pub versions : k.versions ≡ exchange (is_sent ov) (is_acknowledged ov) tv
   pub watchdogs : k.watchdogs ≡ exchange (is_sent ow) (is_acknowledged ow) tw
-  pub awaited : k.awaited ≡ awaited_as ourVersion ov ++ awaited_as ourWatchdog ow
+  pub awaited : k.awaited ≡ awaited_as own_version ov ++ awaited_as own_watchdog ow
 
 abbrev IsAt : Stage → Life → Type 0
 IsAt down k = k.connected ≡ false
@@ -73,25 +73,25 @@ module _ (m : Machine) (l t room : ℕ) (random : Bytes) (configured : l < m.set
   pump_life : (d : Due) → due m l t ≡ some d → life_at (step m (at t (pump l random room))).1 l ≡ life_at (sends l t (own_identity random) m d).leaves l
   pump_life d f = life_after m t (pump l random room) (sends l t (own_identity random) m d) l (pump_unrefused m l t room random d can_pump f) (pump_effect m l t room random d f)
 
-version_due : (m : Machine) (l t : ℕ) → Talks unsent false unsent false (life_at m l) → due m l t ≡ some theVersion
+version_due : (m : Machine) (l t : ℕ) → Talks unsent false unsent false (life_at m l) → due m l t ≡ some the_version
 unfolding due
 version_due m l t k = rw (k.connected, k.versions)
 
-watchdog_due : (m : Machine) (l t : ℕ) (tw : Bool) → Talks acknowledged true unsent tw (life_at m l) → due m l t ≡ some theWatchdog
+watchdog_due : (m : Machine) (l t : ℕ) (tw : Bool) → Talks acknowledged true unsent tw (life_at m l) → due m l t ≡ some the_watchdog
 unfolding due
 watchdog_due m l t tw k = rw (k.connected, k.versions, k.watchdogs)
 
 module _ (m : Machine) (l t : ℕ) (id : Bytes) where
-  version_sent : Talks unsent false unsent false (life_at m l) → Talks (sent id t) false unsent false (life_at (sends l t id m theVersion).leaves l)
+  version_sent : Talks unsent false unsent false (life_at m l) → Talks (sent id t) false unsent false (life_at (sends l t id m the_version).leaves l)
   unfolding sends
   version_sent k =
-      rw (set_life m l k.connected (awaiting id t ourVersion (after_sending t theVersion (life_at m l))))
+      rw (set_life m l k.connected (awaiting id t own_version (after_sending t the_version (life_at m l))))
       (record { connected = k.connected; versions = rw k.versions; watchdogs = k.watchdogs; awaited = rw k.awaited })
 
-  watchdog_sent : (tw : Bool) → Talks acknowledged true unsent tw (life_at m l) → Talks acknowledged true (sent id t) tw (life_at (sends l t id m theWatchdog).leaves l)
+  watchdog_sent : (tw : Bool) → Talks acknowledged true unsent tw (life_at m l) → Talks acknowledged true (sent id t) tw (life_at (sends l t id m the_watchdog).leaves l)
   unfolding sends
   watchdog_sent tw k =
-      rw (set_life m l k.connected (awaiting id t ourWatchdog (after_sending t theWatchdog (life_at m l))))
+      rw (set_life m l k.connected (awaiting id t own_watchdog (after_sending t the_watchdog (life_at m l))))
       (record { connected = k.connected; versions = k.versions; watchdogs = rw k.watchdogs; awaited = rw k.awaited })
 
 -- ---- packet
@@ -114,13 +114,13 @@ module _ (m : Machine) (l t room : ℕ) (random bytes : Bytes) (j : Json) (arriv
         })
       where
         a : Awaited
-        a = record { identity = id; time = time; message = ourVersion }
+        a = record { identity = id; time = time; message = own_version }
 
         lasts : not (is_type "MessageAck" j) ≡ false
         lasts = rw typed
 
         life : Life
-        life = answered_to (string_of "oMId" j) (acknowledges (is_type "MessageAck" j) ourVersion (life_at m l))
+        life = answered_to (string_of "oMId" j) (acknowledges (is_type "MessageAck" j) own_version (life_at m l))
 
     watchdog_acked : (tw : Bool) → Talks acknowledged true (sent id time) tw (life_at m l) → Talks acknowledged true acknowledged tw Then
     watchdog_acked tw k =
@@ -133,13 +133,13 @@ module _ (m : Machine) (l t room : ℕ) (random bytes : Bytes) (j : Json) (arriv
         })
       where
         a : Awaited
-        a = record { identity = id; time = time; message = ourWatchdog }
+        a = record { identity = id; time = time; message = own_watchdog }
 
         lasts : both (not (is_type "MessageAck" j)) (is_beating (life_at m l)) ≡ false
         lasts = rw typed
 
         life : Life
-        life = answered_to (string_of "oMId" j) (acknowledges (is_type "MessageAck" j) ourWatchdog (life_at m l))
+        life = answered_to (string_of "oMId" j) (acknowledges (is_type "MessageAck" j) own_watchdog (life_at m l))
 
   module _ (formed : WellFormed j) where
     version_taken : (v : List ℕ) → IsGoodVersion m v j → (ov : Ours) → is_sent ov ≡ true → Talks ov false unsent false (life_at m l) → Talks ov true unsent false Then
@@ -179,7 +179,7 @@ module _ (s : Start) (l : ℕ) where
   links_stay : {h : List Past} {m : Machine} (r : Run s h m) (c : Call) → l < m.setup.links → l < (step m c).1.setup.links
   links_stay r c h = rw (same_setup r c) h
 
-  greets_up : {h : List Past} {m : Machine} {g : Stage} {cs : List Call} → Run s h m → l < m.setup.links → IsAt g (life_at m l) → Greets l m g cs
+  greets_up : {m : Machine} {h : List Past} {g : Stage} {cs : List Call} → Run s h m → l < m.setup.links → IsAt g (life_at m l) → Greets l m g cs
       → (is_up (life_at (leaves m cs) l) ≡ true) × ((life_at (leaves m cs) l).awaited ≡ [])
   greets_up r here k (greeted {m}) = up_then (life_at m l) k
   greets_up r here k (meanwhile {m} {g} {c} w rest) =
@@ -189,7 +189,7 @@ module _ (s : Start) (l : ℕ) where
       (rw (connect_life m l t here (run_sized r) k timely) (record { connected = refl; versions = refl; watchdogs = refl; awaited = refl })) rest
   greets_up r here k (our_version {m} {t} {room} {random} timely roomy rest) =
       greets_up (next (at t (pump l random room)) r) (links_stay r (at t (pump l random room)) here)
-      (rw (pump_life m l t room random here timely roomy k.awaited theVersion (version_due m l t k)) (version_sent m l t (own_identity random) k)) rest
+      (rw (pump_life m l t room random here timely roomy k.awaited the_version (version_due m l t k)) (version_sent m l t (own_identity random) k)) rest
   greets_up r here k (version_acknowledged {m} {id} {time} {theirs} {t} {room} {random} {bytes} {j} arrives typed says rest) =
       greets_up (next (at t (packet l random bytes room)) r) (links_stay r (at t (packet l random bytes room)) here)
       (version_acked m l t room random bytes j arrives here (run_limit r) typed id time says theirs k) rest
@@ -198,7 +198,7 @@ module _ (s : Start) (l : ℕ) where
       (version_taken m l t room random bytes j arrives here (run_limit r) formed v good ours out k) rest
   greets_up r here k (our_watchdog {m} {theirs} {t} {room} {random} timely roomy rest) =
       greets_up (next (at t (pump l random room)) r) (links_stay r (at t (pump l random room)) here)
-      (rw (pump_life m l t room random here timely roomy k.awaited theWatchdog (watchdog_due m l t theirs k)) (watchdog_sent m l t (own_identity random) theirs k)) rest
+      (rw (pump_life m l t room random here timely roomy k.awaited the_watchdog (watchdog_due m l t theirs k)) (watchdog_sent m l t (own_identity random) theirs k)) rest
   greets_up r here k (watchdog_acknowledged {m} {id} {time} {theirs} {t} {room} {random} {bytes} {j} arrives typed says rest) =
       greets_up (next (at t (packet l random bytes room)) r) (links_stay r (at t (packet l random bytes room)) here)
       (watchdog_acked m l t room random bytes j arrives here (run_limit r) typed id time says theirs k) rest

@@ -8,10 +8,10 @@ use Rattle.machine.specs.Words.{Bytes, maybe, alike}
 use Rattle.machine.specs.State.{Event, event_number, Alarm, alarm_of, Content, Held, Sent, Start, Machine, life_at, alarm_at, Call}
 use Rattle.machine.specs.State.Event.{Issue, Acknowledge, Suspend}
 use Rattle.machine.specs.State.Content.{of_alarm, of_status, of_aggregated}
-use Rattle.machine.specs.State.Sent.{noRecord, the_record}
+use Rattle.machine.specs.State.Sent.{no_record, the_record}
 use Rattle.machine.specs.State.Act.{packet, pump}
 use Rattle.machine.specs.Life.{is_up, is_primary, same_alarm, alarm_in, newest, carries, carried_by, pass_length, oldest_unsent, Due, due_up, due}
-use Rattle.machine.specs.Life.Due.{theWatchdog, theAggregated, the_alarm, the_held}
+use Rattle.machine.specs.Life.Due.{the_watchdog, the_aggregated, the_alarm, the_held}
 use Rattle.machine.specs.Messages.{alarm_message, record_message}
 use Rattle.machine.specs.Effects.{own_identity, due_message, sent_as, after_sending}
 use Rattle.machine.specs.Step.{step}
@@ -70,14 +70,14 @@ own_message t id i a (of_status n v old time) e = not_both e refl
 own_message t id i a (of_aggregated v time) e = not_both e refl
 
 pub data Carries (m : Machine) (l i : ℕ) : Sent → Type 0 where
-  nothing : Carries m l i noRecord
+  nothing : Carries m l i no_record
   one : (h : Held) → Among h m.pool.held → maybe false (same_alarm (alarm_at m i)) (alarm_in i h.content) ≡ true → Carries m l i (the_record h.sequence)
 
 pub carries_what : (m : Machine) (l i : ℕ) → Carries m l i (carried_by m l i)
 unfolding carried_by
 carries_what m l i =
-    maybe_cases (Carries m l i) noRecord (carries (alarm_at m i) i) (newest l i none m.pool.held) (λ e. nothing)
-    (λ h e. picked (Carries m l i) (maybe false (same_alarm (alarm_at m i)) (alarm_in i h.content)) (the_record h.sequence) noRecord
+    maybe_cases (Carries m l i) no_record (carries (alarm_at m i) i) (newest l i none m.pool.held) (λ e. nothing)
+    (λ h e. picked (Carries m l i) (maybe false (same_alarm (alarm_at m i)) (alarm_in i h.content)) (the_record h.sequence) no_record
     (λ f. one h (held h (newest_of l i h none m.pool.held e)) f) (λ f. nothing))
   where
     held : (h : Held) → (none ≡ some h) ⊎ Newest l i h m.pool.held → Among h m.pool.held
@@ -90,12 +90,12 @@ module _ (m : Machine) (l t : ℕ) (up : is_up (life_at m l) ≡ true) where
   unfolding due
   due_is = rw (up_connected (life_at m l) up, (up_over (life_at m l) up).0, (up_over (life_at m l) up).1)
 
-  pub due_beat : next_beat m l ≤ t → due m l t ≡ some theWatchdog
+  pub due_beat : next_beat m l ≤ t → due m l t ≡ some the_watchdog
   unfolding due_up
   due_beat h = due_is ∙ rw (le-leb (next_beat m l) t h)
 
   module _ (early : t < next_beat m l) where
-    pub due_aggregated : eqb (life_at m l).pass 0 ≡ true → due m l t ≡ some theAggregated
+    pub due_aggregated : eqb (life_at m l).pass 0 ≡ true → due m l t ≡ some the_aggregated
     unfolding due_up
     due_aggregated e = due_is ∙ rw (lt-leb (next_beat m l) t early, e)
 
@@ -167,7 +167,7 @@ module _ (l : ℕ) (x : Held) where
           }
 
     -- a message of the pass that carries nothing
-    pass_quiet : (d : Due) → due m l t ≡ some d → sent_as m l d ≡ noRecord → (after_sending t d (life_at m l)).pass ≡ suc (life_at m l).pass → (life_at m l).pass < pass_length m l
+    pass_quiet : (d : Due) → due m l t ≡ some d → sent_as m l d ≡ no_record → (after_sending t d (life_at m l)).pass ≡ suc (life_at m l).pass → (life_at m l).pass < pass_length m l
         → Turn m t room random end
     pass_quiet d is e one_more left =
         on (then_waits d is (rw e tt) (rw same w.among))
@@ -233,7 +233,7 @@ module _ (l : ℕ) (x : Held) where
     pub turn : t < next_beat m l → Turn m t room random end
     turn early =
         bool_cases (eqb (life_at m l).pass 0)
-        (λ e. pass_quiet theAggregated (due_aggregated m l t w.up early e) refl refl (omega (arith, eqb-true (life_at m l).pass 0 e, pass_some m l)))
+        (λ e. pass_quiet the_aggregated (due_aggregated m l t w.up early e) refl refl (omega (arith, eqb-true (life_at m l).pass 0 e, pass_some m l)))
         (λ e. bool_cases (ltb (life_at m l).pass (pass_length m l))
         (λ f. alarm_turn e (ltb-true (life_at m l).pass (pass_length m l) f) (due_alarm m l t w.up early e f))
         (λ f. record_turn first (due_record m l t w.up early e f first.one first.found)))
@@ -244,18 +244,18 @@ module _ (l : ℕ) (x : Held) where
     -- a due Watchdog goes first
     pub beaten : next_beat m l ≤ t → Waits end × (ahead end l x ≤ ahead m l x)
     beaten late = (
-      then_waits theWatchdog is tt (rw same w.among),
-      omega (arith, then_passes theWatchdog is tt, then_pass theWatchdog is tt, ap (count (is_before l x.sequence)) same),
+      then_waits the_watchdog is tt (rw same w.among),
+      omega (arith, then_passes the_watchdog is tt, then_pass the_watchdog is tt, ap (count (is_before l x.sequence)) same),
     )
       where
-        is : due m l t ≡ some theWatchdog
+        is : due m l t ≡ some the_watchdog
         is = due_beat m l t w.up late
 
         same : end.pool.held ≡ m.pool.held
-        same = then_held theWatchdog is tt
+        same = then_held the_watchdog is tt
 
 -- ---- round after round
-goes_out : {start : Start} (l : ℕ) (x : Held) {h : List Past} {m : Machine} {n : ℕ} {cs : List Call} → Run start h m → Waits l x m → Rounds l m n cs → ahead m l x ≤ n
+goes_out : {start : Start} (l : ℕ) (x : Held) {m : Machine} {h : List Past} {n : ℕ} {cs : List Call} → Run start h m → Waits l x m → Rounds l m n cs → ahead m l x ≤ n
     → GoesOut l x m cs
 goes_out l x r w (over {m}) few = absurd (omega (arith, few, some_counted (is_before l x.sequence) w.among (own_count l x w)))
 goes_out l x r w (round {m} {n} {t} {room} {s} {place} {random} {other} {bytes} {j} {cs} is-round early rest) few =

@@ -4,12 +4,12 @@ use Rattle.basis.proofs.Std.{ℕ, ◌<◌, ◌≡◌, refl, ◌∙◌, ap, Bool,
 use Rattle.json_value.specs.Grammar.{Json}
 use Rattle.machine.specs.Words.{Bytes, maybe}
 use Rattle.machine.specs.State.{Held, Sent, Awaited, Life, fresh, Start, Machine, life_at, with_life, Outcome, only}
-use Rattle.machine.specs.State.Sent.{ourVersion, ourWatchdog, noRecord, the_record}
+use Rattle.machine.specs.State.Sent.{own_version, own_watchdog, no_record, the_record}
 use Rattle.machine.specs.State.Act.{packet, pump}
 use Rattle.machine.specs.State.Outcome.{done}
 use Rattle.machine.specs.Json.{string_of, is_type}
 use Rattle.machine.specs.Life.{is_over, is_beating, is_up, awaiting, answered_to, Due, due}
-use Rattle.machine.specs.Life.Due.{theVersion, theWatchdog, theAggregated, the_alarm, the_held}
+use Rattle.machine.specs.Life.Due.{the_version, the_watchdog, the_aggregated, the_alarm, the_held}
 use Rattle.machine.specs.Pool.{settled, marked}
 use Rattle.machine.specs.Effects.{own_identity, due_message, sent_as, carried, after_sending, mark_sent, sends, answer_closes, acknowledges, settle}
 use Rattle.machine.specs.Step.{after, step}
@@ -36,55 +36,55 @@ up_not_beating : (k : Life) → is_up k ≡ true → is_beating k ≡ false
 up_not_beating k e = rw (up_connected k e, (up_over k e).0, (up_over k e).1)
 
 pub sent_up : (t : ℕ) (d : Due) (k : Life) → is_up k ≡ true → is_up (after_sending t d k) ≡ true
-sent_up t theVersion k e = e
-sent_up t theWatchdog k e = e
-sent_up t theAggregated k e = e
+sent_up t the_version k e = e
+sent_up t the_watchdog k e = e
+sent_up t the_aggregated k e = e
 sent_up t (the_alarm i) k e = e
 sent_up t (the_held h) k e = e
 
 sent_awaited : (t : ℕ) (d : Due) (k : Life) → (after_sending t d k).awaited ≡ k.awaited
-sent_awaited t theVersion k = refl
-sent_awaited t theWatchdog k = refl
-sent_awaited t theAggregated k = refl
+sent_awaited t the_version k = refl
+sent_awaited t the_watchdog k = refl
+sent_awaited t the_aggregated k = refl
 sent_awaited t (the_alarm i) k = refl
 sent_awaited t (the_held h) k = refl
 
 pub acked_up : (b : Bool) (s : Sent) (k : Life) → is_up k ≡ true → is_up (acknowledges b s k) ≡ true
-acked_up b ourVersion k e =
+acked_up b own_version k e =
     picked (λ (x : Life). is_up x ≡ true) b _ k
     (λ f. rw (up_connected k e, (both_true k.versions.acknowledged _ (up_over k e).0).1, (up_over k e).1))
     (λ f. e)
-acked_up b ourWatchdog k e =
+acked_up b own_watchdog k e =
     picked (λ (x : Life). is_up x ≡ true) b _ k
     (λ f. rw (up_connected k e, (up_over k e).0, (both_true k.watchdogs.acknowledged _ (up_over k e).1).1))
     (λ f. e)
-acked_up b noRecord k e = e
+acked_up b no_record k e = e
 acked_up b (the_record n) k e = e
 
 acked_awaited : (b : Bool) (s : Sent) (k : Life) → (acknowledges b s k).awaited ≡ k.awaited
-acked_awaited b ourVersion k = picked (λ (x : Life). x.awaited ≡ k.awaited) b _ k (λ f. refl) (λ f. refl)
-acked_awaited b ourWatchdog k = picked (λ (x : Life). x.awaited ≡ k.awaited) b _ k (λ f. refl) (λ f. refl)
-acked_awaited b noRecord k = refl
+acked_awaited b own_version k = picked (λ (x : Life). x.awaited ≡ k.awaited) b _ k (λ f. refl) (λ f. refl)
+acked_awaited b own_watchdog k = picked (λ (x : Life). x.awaited ≡ k.awaited) b _ k (λ f. refl) (λ f. refl)
+acked_awaited b no_record k = refl
 acked_awaited b (the_record n) k = refl
 
 pub acked_pass : (b : Bool) (s : Sent) (k : Life) → (acknowledges b s k).pass ≡ k.pass
-acked_pass b ourVersion k = picked (λ (x : Life). x.pass ≡ k.pass) b _ k (λ f. refl) (λ f. refl)
-acked_pass b ourWatchdog k = picked (λ (x : Life). x.pass ≡ k.pass) b _ k (λ f. refl) (λ f. refl)
-acked_pass b noRecord k = refl
+acked_pass b own_version k = picked (λ (x : Life). x.pass ≡ k.pass) b _ k (λ f. refl) (λ f. refl)
+acked_pass b own_watchdog k = picked (λ (x : Life). x.pass ≡ k.pass) b _ k (λ f. refl) (λ f. refl)
+acked_pass b no_record k = refl
 acked_pass b (the_record n) k = refl
 
 -- our Version apart, no answer closes an Up link
 abbrev pub NoVersion : Sent → Type 0
-NoVersion ourVersion = ⊥
-NoVersion ourWatchdog = Unit {0}
-NoVersion noRecord = Unit {0}
+NoVersion own_version = ⊥
+NoVersion own_watchdog = Unit {0}
+NoVersion no_record = Unit {0}
 NoVersion (the_record n) = Unit {0}
 
 lasting : (k : Life) → is_up k ≡ true → (b : Bool) (s : Sent) → NoVersion s → answer_closes k b s ≡ false
-lasting k e b ourVersion n = absurd n
-lasting k e true ourWatchdog n = refl
-lasting k e false ourWatchdog n = up_not_beating k e
-lasting k e b noRecord n = refl
+lasting k e b own_version n = absurd n
+lasting k e true own_watchdog n = refl
+lasting k e false own_watchdog n = up_not_beating k e
+lasting k e b no_record n = refl
 lasting k e b (the_record i) n = refl
 
 -- ---- the pool
@@ -96,27 +96,27 @@ settled_by l s hs = maybe hs (λ n. settled l n hs) (carried s)
 
 module _ (m : Machine) where
   pub mark_held : (s : Sent) → (mark_sent s m).pool.held ≡ marked_by s m.pool.held
-  mark_held ourVersion = refl
-  mark_held ourWatchdog = refl
-  mark_held noRecord = refl
+  mark_held own_version = refl
+  mark_held own_watchdog = refl
+  mark_held no_record = refl
   mark_held (the_record n) = refl
 
   mark_alarms : (s : Sent) → (mark_sent s m).alarms ≡ m.alarms
-  mark_alarms ourVersion = refl
-  mark_alarms ourWatchdog = refl
-  mark_alarms noRecord = refl
+  mark_alarms own_version = refl
+  mark_alarms own_watchdog = refl
+  mark_alarms no_record = refl
   mark_alarms (the_record n) = refl
 
   settle_held : (l : ℕ) (s : Sent) → (settle l s m).pool.held ≡ settled_by l s m.pool.held
-  settle_held l ourVersion = refl
-  settle_held l ourWatchdog = refl
-  settle_held l noRecord = refl
+  settle_held l own_version = refl
+  settle_held l own_watchdog = refl
+  settle_held l no_record = refl
   settle_held l (the_record n) = refl
 
   settle_alarms : (l : ℕ) (s : Sent) → (settle l s m).alarms ≡ m.alarms
-  settle_alarms l ourVersion = refl
-  settle_alarms l ourWatchdog = refl
-  settle_alarms l noRecord = refl
+  settle_alarms l own_version = refl
+  settle_alarms l own_watchdog = refl
+  settle_alarms l no_record = refl
   settle_alarms l (the_record n) = refl
 
 -- ---- the round

@@ -55,7 +55,7 @@ is_sent acknowledged = true
 -- how far a greeting is: our Version, whether theirs is accepted, our Watchdog, whether theirs is taken
 pub data Stage : Type 0 where
   down : Stage
-  talking : (ourVersion : Ours) (theirVersion : Bool) (ourWatchdog : Ours) (theirWatchdog : Bool) → Stage
+  talking : (own_version : Ours) (their_version : Bool) (own_watchdog : Ours) (their_watchdog : Bool) → Stage
 
 -- a call in between: refused; or of another link or none, but no tick at which one is awaited on this link for 30,000 ms or longer; or any packet
 -- that is answered with MessageNotAck and closes nothing

@@ -10,7 +10,7 @@ use Rattle.machine.specs.State.{Machine, life_at, Act, Call}
 use Rattle.machine.specs.State.Act.{pump}
 use Rattle.machine.specs.State.Outcome.{done}
 use Rattle.machine.specs.Life.{is_awaited, Due, due}
-use Rattle.machine.specs.Life.Due.{theAggregated}
+use Rattle.machine.specs.Life.Due.{the_aggregated}
 use Rattle.machine.specs.Effects.{own_identity, due_message, sends}
 use Rattle.machine.specs.Step.{after, step}
 use Rattle.machine.specs.Example.{noon, random, own, pumped, says, up}
@@ -36,5 +36,5 @@ pub record Pumping : Type 0 where
       → step m (at t (pump l random room)) ≡ (done (due_message m t (own_identity random) d ∷ []) [] none [], after t (sends l t (own_identity random) m d))
   -- such a pump, computed
   pub can : CanPump up 0 noon (random 3) 4096
-  pub is_due : due up 0 noon ≡ some theAggregated
+  pub is_due : due up 0 noon ≡ some the_aggregated
   pub sends : (step up (pumped 3)).0 ≡ says (aggregated (own 3) (text "C0") noon 0 ∷ [])

@@ -4,7 +4,7 @@ use Rattle.basis.proofs.Std.{ℕ, ◌+◌, ◌<◌, ◌≡◌, refl, Bool, true,
 use Rattle.json_value.specs.Grammar.{Json}
 use Rattle.machine.specs.Words.{Bytes, maybe}
 use Rattle.machine.specs.State.{Held, Sent, Awaited, Machine, with_held, life_at, Act, Effect, only}
-use Rattle.machine.specs.State.Sent.{ourVersion, ourWatchdog, noRecord, the_record}
+use Rattle.machine.specs.State.Sent.{own_version, own_watchdog, no_record, the_record}
 use Rattle.machine.specs.State.Act.{connect, disconnect, packet, alarm_input, status_value, aggregated_value, tick, pump}
 use Rattle.machine.specs.Json.{read_packet, string_of, is_type}
 use Rattle.machine.specs.Life.{unsent, close, awaited_by}
@@ -38,9 +38,9 @@ module _ (m : Machine) (l : ℕ) where
   closed_holds = count_map (is_for l) (is_for l) (unsent l) (λ h. refl) m.pool.held
 
   closing_carries_none : (is_ack : Bool) (message : Sent) → answer_closes (life_at m l) is_ack message ≡ true → carried message ≡ none
-  closing_carries_none is_ack ourVersion e = refl
-  closing_carries_none is_ack ourWatchdog e = refl
-  closing_carries_none is_ack noRecord e = refl
+  closing_carries_none is_ack own_version e = refl
+  closing_carries_none is_ack own_watchdog e = refl
+  closing_carries_none is_ack no_record e = refl
   closing_carries_none is_ack (the_record n) e = not_both e refl
 
   answers_leaves : (s : Bytes) (is_ack : Bool) (a : Awaited) → Leaves (carried a.message) (answers l s is_ack m a)

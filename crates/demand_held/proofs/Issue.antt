@@ -238,6 +238,7 @@ all_counts (i ∷ is) p g (one_more f a) l = omega (arith, all_counts is (issue 
 -- the k-th that is issued
 pub all_issued : {k : ℕ} {i : Issued} (is : List Issued) (p : Pool) → Good p → Each (For (length p.lost)) is → At i k is
     → IsHeld i (p.next + k) (issue_all is p).held ⊎ (Over i.link (p.next + k) (issue_all is p).held × Short is p i.link)
+all_issued {k = k} {i = i} [] p g _ x4 = elim x4 [ ]
 all_issued (i ∷ is) p g (one_more f a) first =
     let e : p.next + 0 ≡ p.next = omega arith in
     rw e (or_later i is p g f i p.next (all_fate is (issue i p) (issue_good i p g f) (for_next i p g f a) i p.next (issue_has i p g f)))

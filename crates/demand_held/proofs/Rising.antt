@@ -34,6 +34,7 @@ rising_last {a = a} h e (ends f) = rises {a = a} {h = h} (omega arith) (ends {a 
 rising_last h e (rises f r) = rises f (rising_last h e r)
 
 pub rising_below : {b a : ℕ} {h : Held} {hs : List Held} → Rising b a hs → Among h hs → h.sequence < b
+rising_below {b = b} {h = h} (ends {a = a} _) x5 = elim x5 [ ]
 rising_below (rises f r) first = end r
   where
     end : {b a : ℕ} {hs : List Held} → Rising b (suc a) hs → a < b
@@ -78,6 +79,7 @@ newer_older l n (h ∷ hs) = omega (arith, one_side (is_for l h) n h.sequence, n
 -- a record is left, or it was the oldest of the link that lost one
 pub left_or_oldest : (k : ℕ) {b a : ℕ} {h : Held} {hs : List Held} → Rising b a hs → Among h hs
     → Among h (but_first (is_for k) hs) ⊎ ((h.link ≡ k) × (count (older k h.sequence) (but_first (is_for k) hs) ≡ 0))
+left_or_oldest k {b = b} {h = h} (ends {a = a} _) x5 = elim x5 [ ]
 left_or_oldest k {h = h} (rises {hs = hs} f r) first =
     picked (λ (q : List Held). Among h q ⊎ ((h.link ≡ k) × (count (older k h.sequence) q ≡ 0))) (is_for k h) hs (h ∷ but_first (is_for k) hs)
     (λ e. inr (eqb-true h.link k e, none_older k h.sequence hs (omega arith) r))

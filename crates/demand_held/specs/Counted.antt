@@ -4,7 +4,7 @@ use Rattle.std.specs.Prelude.{ℕ, ◌+◌, Bool, ◌≡◌, List, ◌∷◌, eq
 use Rattle.std.proofs.Math.Option.{Option, none}
 use Rattle.basis.specs.Lists.{count}
 use Rattle.json_value.specs.Grammar.{Json}
-use Rattle.machine.specs.Words.{if◌then◌else◌, ◌and◌, maybe}
+use Rattle.machine.specs.Words.{if'◌then◌else◌, ◌and◌, maybe}
 use Rattle.machine.specs.State.{Issued, Held, Awaited, Start, Machine, Act, Call, Outcome, life_at}
 use Rattle.machine.specs.State.Act.{connect, disconnect, packet, alarm_input, status_value, aggregated_value, tick, pump}
 use Rattle.machine.specs.State.Outcome.{refused, done}
@@ -25,12 +25,12 @@ pub data IssuedIn (s : Start) (r : Issued) (n : ℕ) : List Past → Type 0 wher
 
 -- the number of the record that the message carried which a packet on link l answers
 abbrev pub answered_in : Machine → ℕ → Json → Option ℕ
-answered_in m l j = if is_answer j then maybe none (λ (a : Awaited). carried a.message) (awaited_by (life_at m l) (string_of "oMId" j)) else none
+answered_in m l j = if' is_answer j then maybe none (λ (a : Awaited). carried a.message) (awaited_by (life_at m l) (string_of "oMId" j)) else none
 
 abbrev pub answered_by : Machine → ℕ → Act → Option ℕ
 answered_by m l (connect k) = none
 answered_by m l (disconnect k) = none
-answered_by m l (packet k random bytes room) = if eqb k l then maybe none (answered_in m l) (read_packet bytes) else none
+answered_by m l (packet k random bytes room) = if' eqb k l then maybe none (answered_in m l) (read_packet bytes) else none
 answered_by m l (alarm_input i active) = none
 answered_by m l (status_value i v) = none
 answered_by m l (aggregated_value v) = none

@@ -8,7 +8,7 @@ use Rattle.write_message.specs.Message.{Message}
 use Rattle.machine.specs.Words.{Bytes, is_some, or_else, any, first_of}
 use Rattle.machine.specs.State.{Alarm, alarm_of, Awaited, Life, Setup, Start, Machine, with_life, life_at, alarm_at, value_at, Act, Call, Outcome, Effect, only}
 use Rattle.machine.specs.State.Event.{Issue}
-use Rattle.machine.specs.State.Sent.{noRecord}
+use Rattle.machine.specs.State.Sent.{no_record}
 use Rattle.machine.specs.State.Outcome.{refused}
 use Rattle.machine.specs.State.Act.{connect, disconnect, packet, alarm_input, status_value, aggregated_value, tick, pump}
 use Rattle.machine.specs.Json.{read_packet, string_of, entries_of, is_type, asks_for}
@@ -214,7 +214,7 @@ module _ (start : ℕ) (h : List Past) where
       quiet : (e : Effect) → On e → e.issues ≡ [] → any is_ack e.messages ≡ false → Goes this e
       quiet e o i unacked = silent (past_of this e) e o i (rw unacked)
 
-      same_up : (id : Bytes) (x : Machine) (n : ℕ) → is_up (life_at x n) ≡ is_up (life_at (with_life l (awaiting id t noRecord (life_at x l)) x) n)
+      same_up : (id : Bytes) (x : Machine) (n : ℕ) → is_up (life_at x n) ≡ is_up (life_at (with_life l (awaiting id t no_record (life_at x l)) x) n)
       same_up id x n = life_cases (λ (y : Life). is_up (life_at x n) ≡ is_up y) l _ x.lives n (λ e. rw e) refl
 
       abbrev gives : Outcome → Past

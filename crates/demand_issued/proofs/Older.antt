@@ -6,12 +6,12 @@ use Rattle.write_message.specs.Message.{Message}
 use Rattle.write_message.specs.Message.Message.{ack}
 use Rattle.machine.specs.Words.{Bytes, is_number, maybe, or_else, any, changed}
 use Rattle.machine.specs.State.{Alarm, Sent, Awaited, Life, fresh, Start, Machine, with_life, life_at, Act, Effect, handing, only}
-use Rattle.machine.specs.State.Sent.{ourVersion, ourWatchdog, noRecord, the_record}
+use Rattle.machine.specs.State.Sent.{own_version, own_watchdog, no_record, the_record}
 use Rattle.machine.specs.State.Act.{connect, disconnect, packet, alarm_input, status_value, aggregated_value, tick, pump}
 use Rattle.machine.specs.Json.{read_packet, string_of, is_type, is_included, asks_for}
 use Rattle.machine.specs.Table.Begins.{begins}
 use Rattle.machine.specs.Life.{offers, common, is_older, awaited_by, awaiting, Due, due}
-use Rattle.machine.specs.Life.Due.{theVersion, theWatchdog, theAggregated, the_alarm, the_held}
+use Rattle.machine.specs.Life.Due.{the_version, the_watchdog, the_aggregated, the_alarm, the_held}
 use Rattle.machine.specs.Answers.{is_answer, wants_reply, replies_at_once, reason_of, fails_check}
 use Rattle.machine.specs.Items.{happens, subscribe, unsubscribe, intervals, commands}
 use Rattle.machine.specs.Messages.{included_message}
@@ -53,7 +53,7 @@ module _ (l t : ℕ) (id : Bytes) (j : Json) where
 
   abbrev pub replied : Effect → Effect
   replied e =
-      handing e.commands (with_life l (awaiting id t noRecord (life_at e.leaves l)) e.leaves) e.issues
+      handing e.commands (with_life l (awaiting id t no_record (life_at e.leaves l)) e.leaves) e.issues
       (ack (string_of "mId" j) ∷ reply_message e.leaves t id j ∷ []) e.closed e.hint
 
   abbrev pub acked : Effect → Effect
@@ -89,18 +89,18 @@ module _ (l : ℕ) where
     Like k = (k.versions.taken ≡ (life_at m l).versions.taken) × (k.version ≡ (life_at m l).version)
 
     sent_like : (d : Due) → Like (after_sending t d (life_at m l))
-    sent_like theVersion = (refl, refl)
-    sent_like theWatchdog = (refl, refl)
-    sent_like theAggregated = (refl, refl)
+    sent_like the_version = (refl, refl)
+    sent_like the_watchdog = (refl, refl)
+    sent_like the_aggregated = (refl, refl)
     sent_like (the_alarm i) = (refl, refl)
     sent_like (the_held x) = (refl, refl)
 
     acked_like : (acks : Bool) (message : Sent) → Like (acknowledges acks message (life_at m l))
-    acked_like true ourVersion = (refl, refl)
-    acked_like false ourVersion = (refl, refl)
-    acked_like true ourWatchdog = (refl, refl)
-    acked_like false ourWatchdog = (refl, refl)
-    acked_like acks noRecord = (refl, refl)
+    acked_like true own_version = (refl, refl)
+    acked_like false own_version = (refl, refl)
+    acked_like true own_watchdog = (refl, refl)
+    acked_like false own_watchdog = (refl, refl)
+    acked_like acks no_record = (refl, refl)
     acked_like acks (the_record n) = (refl, refl)
 
     -- a call that took no Version on this link
@@ -189,7 +189,7 @@ module _ (l : ℕ) where
             (λ o. picked (Goes this) (wants_reply e.leaves l j) (replied l t id j e) (acked l t id j e)
             (λ w.
             let p = past_of this (replied l t id j e) in
-            set_there (fresh false) (Told (p ∷ h)) l (awaiting id t noRecord (life_at e.leaves l)) e.leaves.lives (each p (rw r)) (untaken (p ∷ h) false))
+            set_there (fresh false) (Told (p ∷ h)) l (awaiting id t no_record (life_at e.leaves l)) e.leaves.lives (each p (rw r)) (untaken (p ∷ h) false))
             (λ w. each (past_of this (acked l t id j e)) (rw r)))
 
         goes_received : Goes this (receives l t id m j)

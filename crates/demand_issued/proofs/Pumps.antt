@@ -8,7 +8,7 @@ use Rattle.machine.specs.Words.{Bytes}
 use Rattle.machine.specs.State.{Held, Start, Machine, life_at, Act, Call, Effect, only}
 use Rattle.machine.specs.State.Act.{pump}
 use Rattle.machine.specs.Life.{is_greeting, is_beating, is_up, is_primary, pass_length, oldest_unsent, Due, due_up, due}
-use Rattle.machine.specs.Life.Due.{theVersion, theWatchdog, theAggregated, the_alarm, the_held}
+use Rattle.machine.specs.Life.Due.{the_version, the_watchdog, the_aggregated, the_alarm, the_held}
 use Rattle.machine.specs.Pool.{is_for}
 use Rattle.machine.specs.Messages.{record_message}
 use Rattle.machine.specs.Readings.{record_bytes, reading}
@@ -22,15 +22,15 @@ use Rattle.demand_told.specs.Typed.{EachTyped}
 use Rattle.demand_told.proofs.GreetedDemand.{by_number}
 use Rattle.demand_carried.proofs.Lists.{found_among}
 use Rattle.demand_issued.specs.Pumps.{Pumped, DemandPumps}
-use Rattle.demand_issued.specs.Pumps.Pumped.{our_version, our_watchdog, the_aggregated, an_alarm, a_record}
+use Rattle.demand_issued.specs.Pumps.Pumped.{our_version, our_watchdog, the_aggregated as told_aggregated, an_alarm, a_record}
 use Rattle.demand_issued.proofs.Tells.{held_entry}
 use Rattle.demand_issued.proofs.Goes.{run_kept}
 
 -- ---- what is due is an alarm that there is, or a held record of the link
 abbrev There : Machine → ℕ → Due → Type 0
-There m l theVersion = Unit {0}
-There m l theWatchdog = Unit {0}
-There m l theAggregated = Unit {0}
+There m l the_version = Unit {0}
+There m l the_watchdog = Unit {0}
+There m l the_aggregated = Unit {0}
 There m l (the_alarm i) = i < length m.alarms
 There m l (the_held h) = Among h m.pool.held × (is_for l h ≡ true)
 
@@ -56,11 +56,11 @@ module _ (m : Machine) (l t : ℕ) where
   unfolding due due_up
   due_there =
       let k = life_at m l in
-      picked (ThereIf m l) (both (is_greeting k) (not k.versions.sent)) (some theVersion) _ (λ e. tt)
-      (λ e. picked (ThereIf m l) (both (is_beating k) (not k.watchdogs.sent)) (some theWatchdog) _ (λ e. tt)
+      picked (ThereIf m l) (both (is_greeting k) (not k.versions.sent)) (some the_version) _ (λ e. tt)
+      (λ e. picked (ThereIf m l) (both (is_beating k) (not k.watchdogs.sent)) (some the_watchdog) _ (λ e. tt)
       (λ e. picked (ThereIf m l) (is_up k) _ none
-      (λ up. picked (ThereIf m l) (leb (k.beat + 1000 * m.setup.period) t) (some theWatchdog) _ (λ e. tt)
-      (λ e. picked (ThereIf m l) (eqb k.pass 0) (some theAggregated) _ (λ e. tt)
+      (λ up. picked (ThereIf m l) (leb (k.beat + 1000 * m.setup.period) t) (some the_watchdog) _ (λ e. tt)
+      (λ e. picked (ThereIf m l) (eqb k.pass 0) (some the_aggregated) _ (λ e. tt)
       (λ e. picked (ThereIf m l) (ltb k.pass (pass_length m l)) (some (the_alarm (k.pass - 1))) _ (λ f. pass_there e f)
       (λ f. maybe_cases (ThereIf m l) none (λ (h : Held). some (the_held h)) (oldest_unsent m l) (λ g. tt) unsent_there))))
       (λ n. tt)))
@@ -76,9 +76,9 @@ module _ {s : Start} {h : List Past} {m : Machine} (run : Run s h m) (typed : Ea
       (a_record (among_map (record_bytes m.pool.site) (among_keep (is_for l) own a)) (reads (held_entry run typed id x a).0 refl))
 
   due_told : (d : Due) → There m l d → Tells (due_message m t id d)
-  due_told theVersion there = our_version
-  due_told theWatchdog there = our_watchdog
-  due_told theAggregated there = subst Tells (rw ((run_kept run).aggregate, (run_kept run).change)) the_aggregated
+  due_told the_version there = our_version
+  due_told the_watchdog there = our_watchdog
+  due_told the_aggregated there = subst Tells (rw ((run_kept run).aggregate, (run_kept run).change)) told_aggregated
   due_told (the_alarm i) there = subst Tells (rw ((run_kept run).alarms i there)) (an_alarm {i = i} (omega (arith, there, (run_kept run).alarm_count)))
   due_told (the_held x) there = record_shown x there.0 there.1
 

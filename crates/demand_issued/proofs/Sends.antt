@@ -8,7 +8,7 @@ use Rattle.machine.specs.State.Act.{connect, disconnect, packet, alarm_input, st
 use Rattle.machine.specs.Life.{is_late, pass_length}
 use Rattle.machine.specs.Effects.{late}
 use Rattle.machine.specs.Step.{number_of, outcome, step, leaves}
-use Rattle.machine.specs.Run.{Past, Run}
+use Rattle.machine.specs.Run.{Past, past, Run}
 use Rattle.machine.specs.Run.Run.{next}
 use Rattle.demand_held.specs.Held.{IsHeld, Kept, packet_link}
 use Rattle.demand_held.specs.Held.IsHeld.{held}
@@ -135,7 +135,7 @@ module _ (l : ℕ) (x : Held) where
   and_later (inl g) = inl (later g)
   and_later (inr g) = inr (pushed_later g)
 
-  goes : {s : Start} {h : List Past} {m : Machine} {n : ℕ} {cs : List Call} → Run s h m → Waits l x m → RoundsAmong l m n cs → ahead m l x ≤ n → Ends m cs
+  goes : {s : Start} {m : Machine} {h : List Past} {n : ℕ} {cs : List Call} → Run s h m → Waits l x m → RoundsAmong l m n cs → ahead m l x ≤ n → Ends m cs
   goes r w (over {m}) few =
       absurd (omega (arith, few, some_counted (is_before l x.sequence) w.among (rw (eq-eqb x.link l w.link, w.unsent, le-leb x.sequence x.sequence (omega arith)))))
   goes r w (between {m} {n} {c} {cs} meanwhile rest) few = by (meanwhile_on r w c meanwhile) (λ v k. goes (next c r) v rest k)
@@ -158,9 +158,9 @@ module _ (l : ℕ) (x : Held) where
       let b = beaten l x r w t room s place random other bytes j is-round late in
       and_later (and_later (goes (next (at s (packet l other bytes place)) (next (at t (pump l random room)) r)) b.0 rest (omega (arith, few, b.1))))
 
-on_setup : {s : Start} {h : List Past} {m : Machine} → Run s h m → (cs : List Call) → (leaves m cs).setup ≡ m.setup
+on_setup : {s : Start} {m : Machine} {h : List Past} → Run s h m → (cs : List Call) → (leaves m cs).setup ≡ m.setup
 on_setup r [] = refl
-on_setup {m = m} r (c ∷ cs) = on_setup (next c r) cs ∙ same_setup r c
+on_setup {m = m} {h = h} r (c ∷ cs) = on_setup {m = (step m c).1} {h = past m c ∷ h} (next c r) cs ∙ same_setup r c
 
 pub demand_sends : DemandSends
 demand_sends =

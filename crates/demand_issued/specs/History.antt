@@ -8,7 +8,7 @@ use Rattle.json_value.specs.Grammar.{Json}
 use Rattle.table_whole.specs.Table.{Table}
 use Rattle.write_message.specs.Message.{Message}
 use Rattle.write_message.specs.Message.Message.{version, watchdog, ack, not_ack, alarm, aggregated, statuses, included}
-use Rattle.machine.specs.Words.{if◌then◌else◌, ◌and◌, ◌or◌, alike, maybe, or_else, is_number, any}
+use Rattle.machine.specs.Words.{if'◌then◌else◌, ◌and◌, ◌or◌, alike, maybe, or_else, is_number, any}
 use Rattle.machine.specs.State.{Event, Alarm, alarm_of, Act, Outcome}
 use Rattle.machine.specs.State.Event.{Issue, Acknowledge, Suspend}
 use Rattle.machine.specs.State.Act.{connect, disconnect, packet, alarm_input, status_value, aggregated_value, tick, pump}
@@ -40,7 +40,7 @@ is_ack (statuses kind id component t entries) = false
 is_ack (included kind received component t entries) = true
 
 abbrev pub took : ℕ → List Message → Option Json → Option (ℕ × Json)
-took l messages received = if any is_ack messages then maybe none (λ j. some (l, j)) received else none
+took l messages received = if' any is_ack messages then maybe none (λ j. some (l, j)) received else none
 
 abbrev pub done_by : Act → List Message → Did
 done_by (connect l) messages = doing none none none none false
@@ -69,7 +69,7 @@ status_named t j e = maybe none (λ c. status_number t c (string_of "sCI" e) (st
 -- ---- alarm i
 module _ (t : Table) (i : ℕ) where
   abbrev pub input_to : Past → Option Bool
-  input_to p = maybe none (λ x. if eqb x.0 i then some x.1 else none) (did p).input
+  input_to p = maybe none (λ x. if' eqb x.0 i then some x.1 else none) (did p).input
 
   abbrev pub is_order : String → Past → Bool
   is_order word p =
@@ -82,23 +82,23 @@ module _ (t : Table) (i : ℕ) where
 
   abbrev pub was_suspended : List Past → Bool
   was_suspended [] = false
-  was_suspended (p ∷ h) = if is_order "Suspend" p then true else if is_order "Resume" p then false else was_suspended h
+  was_suspended (p ∷ h) = if' is_order "Suspend" p then true else if' is_order "Resume" p then false else was_suspended h
 
   -- "Becoming active clears the acknowledgement", and Acknowledge gives it
   abbrev pub was_acknowledged : List Past → Bool
   was_acknowledged [] = true
   was_acknowledged (p ∷ h) =
-      if is_order "Acknowledge" p then true
-      else if maybe false (λ active. active and not (was_active h)) (input_to p) then false
+      if' is_order "Acknowledge" p then true
+      else if' maybe false (λ active. active and not (was_active h)) (input_to p) then false
       else was_acknowledged h
 
   -- "a change makes one event": of a call after those of h
   abbrev pub event_of : Past → List Past → Option Event
   event_of p h =
-      if maybe false (λ active. not (alike active (was_active h))) (input_to p) then some Issue
-      else if is_order "Acknowledge" p and not (was_acknowledged h) then some Acknowledge
-      else if is_order "Suspend" p and not (was_suspended h) then some Suspend
-      else if is_order "Resume" p and was_suspended h then some Suspend
+      if' maybe false (λ active. not (alike active (was_active h))) (input_to p) then some Issue
+      else if' is_order "Acknowledge" p and not (was_acknowledged h) then some Acknowledge
+      else if' is_order "Suspend" p and not (was_suspended h) then some Suspend
+      else if' is_order "Resume" p and was_suspended h then some Suspend
       else none
 
   abbrev pub last_event : List Past → Event
@@ -122,11 +122,11 @@ is_other p h = maybe false (λ v. not (eqb v (last_aggregated h))) (did p).aggre
 
 abbrev pub change_time : ℕ → List Past → ℕ
 change_time start [] = start
-change_time start (p ∷ h) = if is_other p h then p.call.time else change_time start h
+change_time start (p ∷ h) = if' is_other p h then p.call.time else change_time start h
 
 -- ---- status i: its last value
 abbrev pub value_to : ℕ → Past → Option ℤ
-value_to i p = maybe none (λ x. if eqb x.0 i then some x.1 else none) (did p).value
+value_to i p = maybe none (λ x. if' eqb x.0 i then some x.1 else none) (did p).value
 
 abbrev pub last_value : ℕ → List Past → Option ℤ
 last_value i [] = none
@@ -143,7 +143,7 @@ lists_older j = lists (3 ∷ 1 ∷ 4 ∷ []) j and not (lists (3 ∷ 1 ∷ 5 ∷
 -- the Version that link l took last lists so
 abbrev pub was_older : ℕ → List Past → Bool
 was_older l [] = false
-was_older l (p ∷ h) = maybe (was_older l h) (λ x. if is_type "Version" x.1 and eqb x.0 l then lists_older x.1 else was_older l h) (did p).took
+was_older l (p ∷ h) = maybe (was_older l h) (λ x. if' is_type "Version" x.1 and eqb x.0 l then lists_older x.1 else was_older l h) (did p).took
 
 -- ---- the subscription of link l to status i that stands: uRt, sOc, and the time of "the subscribing call or the last tick that did so"
 pub record Standing : Type 0 where
@@ -160,29 +160,29 @@ abbrev pub standing_from : Bool → ℕ → Json → Standing
 standing_from older now e =
     record {
       seconds = or_else 0 (number_in 86400 (string_of "uRt" e));
-      on_change = if older then is_number 0 (number_in 86400 (string_of "uRt" e)) else boolean_of "sOc" e;
+      on_change = if' older then is_number 0 (number_in 86400 (string_of "uRt" e)) else boolean_of "sOc" e;
       since = now;
     }
 
 abbrev pub ticked : ℕ → Standing → Standing
-ticked now s = record { seconds = s.seconds; on_change = s.on_change; since = if is_over now s then now else s.since }
+ticked now s = record { seconds = s.seconds; on_change = s.on_change; since = if' is_over now s then now else s.since }
 
 module _ (t : Table) (l i : ℕ) where
   -- "A link has one subscription per status; a new one replaces it": the entries of a packet in order
   abbrev pub subscribed_by : Bool → ℕ → Json → List Json → Option Standing → Option Standing
   subscribed_by older now j [] before = before
   subscribed_by older now j (e ∷ es) before =
-      subscribed_by older now j es (if is_number i (status_named t j e) then some (standing_from older now e) else before)
+      subscribed_by older now j es (if' is_number i (status_named t j e) then some (standing_from older now e) else before)
 
   abbrev pub standing_by : Bool → ℕ → ℕ × Json → Option Standing → Option Standing
   standing_by older now x before =
-      if not (eqb x.0 l) then before
-      else if is_type "StatusSubscribe" x.1 then subscribed_by older now x.1 (entries_of "sS" x.1) before
-      else if is_type "StatusUnsubscribe" x.1 and any (λ e. is_number i (status_named t x.1 e)) (entries_of "sS" x.1) then none
+      if' not (eqb x.0 l) then before
+      else if' is_type "StatusSubscribe" x.1 then subscribed_by older now x.1 (entries_of "sS" x.1) before
+      else if' is_type "StatusUnsubscribe" x.1 and any (λ e. is_number i (status_named t x.1 e)) (entries_of "sS" x.1) then none
       else before
 
   abbrev pub standing : List Past → Option Standing
   standing [] = none
   standing (p ∷ h) =
-      if (did p).ticked then maybe none (λ s. some (ticked p.call.time s)) (standing h)
+      if' (did p).ticked then maybe none (λ s. some (ticked p.call.time s)) (standing h)
       else maybe (standing h) (λ x. standing_by (was_older l h) p.call.time x (standing h)) (did p).took

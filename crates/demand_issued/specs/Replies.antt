@@ -11,7 +11,7 @@ use Rattle.write_message.specs.declared.Value.TheVariants.{Recent, Unknown, Unde
 use Rattle.write_message.specs.declared.Told.TheVariants.{Response}
 use Rattle.write_message.specs.Message.{Message, Status, status}
 use Rattle.write_message.specs.Message.Message.{ack, alarm, aggregated, statuses, included}
-use Rattle.machine.specs.Words.{Bytes, if◌then◌else◌, ◌and◌, maybe, is_number}
+use Rattle.machine.specs.Words.{Bytes, if'◌then◌else◌, ◌and◌, maybe, is_number}
 use Rattle.machine.specs.State.{event_number, Alarm, Setup, Start, Machine, Call}
 use Rattle.machine.specs.State.Act.{packet}
 use Rattle.machine.specs.Json.{string_of, entries_of, element_is, is_type, is_included, asks_for}
@@ -48,16 +48,16 @@ module _ (u : Setup) (start : ℕ) (h : List Past) (now : ℕ) (id : Bytes) wher
 
   abbrev pub reply_to : ℕ → Json → List Message
   reply_to l j =
-      if is_type "Alarm" j and element_is "aSp" "Request" j and is_number l u.primary then
+      if' is_type "Alarm" j and element_is "aSp" "Request" j and is_number l u.primary then
       maybe [] (λ i. alarm_reply (alarm_row u.table i) (alarm_after u.table i start h) ∷ []) (alarm_named u.table j)
-      else if is_type "AggregatedStatusRequest" j then aggregated_reply ∷ []
-      else if is_type "StatusRequest" j then statuses Response id (string_of "cId" j) now (map (entry_reply j) (entries_of "sS" j)) ∷ []
+      else if' is_type "AggregatedStatusRequest" j then aggregated_reply ∷ []
+      else if' is_type "StatusRequest" j then statuses Response id (string_of "cId" j) now (map (entry_reply j) (entries_of "sS" j)) ∷ []
       else []
 
   -- MessageAck and the reply; request 04: the response that carries it
   abbrev pub answer_to : ℕ → Json → List Message
   answer_to l j =
-      if is_included "StatusRequest" j then included Response (string_of "mId" j) (string_of "cId" j) now (map (entry_reply j) (entries_of "sS" j)) ∷ []
+      if' is_included "StatusRequest" j then included Response (string_of "mId" j) (string_of "cId" j) now (map (entry_reply j) (entries_of "sS" j)) ∷ []
       else ack (string_of "mId" j) ∷ reply_to l j
 
 -- a packet that is acknowledged and is no CommandRequest of either form gets exactly this

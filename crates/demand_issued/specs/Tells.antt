@@ -15,7 +15,7 @@ use Rattle.write_message.specs.declared.Value.TheVariants.{Recent, Old, Unknown}
 use Rattle.write_message.specs.declared.Told.TheVariants.{Update}
 use Rattle.write_message.specs.Message.{Message, status}
 use Rattle.write_message.specs.Message.Message.{alarm, aggregated, statuses}
-use Rattle.machine.specs.Words.{Bytes, if◌then◌else◌}
+use Rattle.machine.specs.Words.{Bytes, if'◌then◌else◌}
 use Rattle.machine.specs.State.{Start, Machine}
 use Rattle.machine.specs.State.Outcome.{done}
 use Rattle.machine.specs.Table.{component_text, alarm_row, status_row}
@@ -40,13 +40,13 @@ state_in r e =
 
 -- value and quality of a status' record
 abbrev pub value_in : Entry → Value
-value_in e = if is_known e.flags then if is_old e.flags then Old (signed_of e.value) else Recent (signed_of e.value) else Unknown
+value_in e = if' is_known e.flags then if' is_old e.flags then Old (signed_of e.value) else Recent (signed_of e.value) else Unknown
 
 -- the Alarm, StatusUpdate or AggregatedStatus of a record's fields: kind 0, 1 or 2
 abbrev pub message_of : Table → Bytes → Entry → Message
 message_of t id e =
-    if eqb e.kind 0 then alarm id (component_text t (alarm_row t e.item).component) (alarm_row t e.item).code (state_in (alarm_row t e.item) e)
-    else if eqb e.kind 1 then
+    if' eqb e.kind 0 then alarm id (component_text t (alarm_row t e.item).component) (alarm_row t e.item).code (state_in (alarm_row t e.item) e)
+    else if' eqb e.kind 1 then
     statuses Update id (component_text t (status_row t e.item).component) e.time
     (status (status_row t e.item).code (status_row t e.item).name (value_in e) ∷ [])
     else aggregated id (component_text t 0) e.time e.value

@@ -16,6 +16,7 @@ use Rattle.demand_refused.specs.Demand.NoneApplies.{none_applies, nor}
 use Rattle.demand_refused.specs.Demand.FirstIs.{first_is, behind}
 
 first_of_lem : (n : ℕ) (ks : List (Case ℕ)) → FirstIs n ks → first_of ks ≡ some n
+first_of_lem n [] x' = elim x' [ ]
 first_of_lem n (k ∷ ks) (first_is e a) = rw (a, e)
 first_of_lem n (k ∷ ks) (behind a r) = rw a (first_of_lem n ks r)
 
@@ -60,6 +61,7 @@ pub data Known : List (Case ℕ) → Type 0 where
   one_more : {k : Case ℕ} {ks : List (Case ℕ)} → Among k.gives numbers → Known ks → Known (k ∷ ks)
 
 known_first : (n : ℕ) (ks : List (Case ℕ)) → Known ks → FirstIs n ks → Among n numbers
+known_first n [] _ x3 = elim x3 [ ]
 known_first n (k ∷ ks) (one_more a r) (first_is e b) = rw (← e) a
 known_first n (k ∷ ks) (one_more a r) (behind b f) = known_first n ks r f
 

@@ -32,6 +32,7 @@ is_ack (statuses kind id component t entries) = false
 is_ack (included kind received component t entries) = true
 
 pub not_acked_lem : (w : Message) (id reason : Bytes) → Among w (not_ack id reason ∷ []) → is_ack w ≡ true → ⊥
+not_acked_lem w id reason (later x4) u = elim x4 [ ]
 not_acked_lem w id reason first u = not_both u refl
 
 refuses_no_ack : (l : ℕ) (j : Json) (m : Machine) (reason : String) (w : Message) → Among w (refuses l j m reason).messages → is_ack w ≡ true → ⊥

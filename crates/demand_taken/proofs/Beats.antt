@@ -6,10 +6,10 @@ use Rattle.write_message.specs.Message.{Message}
 use Rattle.write_message.specs.Message.Message.{watchdog}
 use Rattle.machine.specs.Words.{Bytes}
 use Rattle.machine.specs.State.{Sent, Life, fresh, Start, Machine, life_at, Act, Outcome, Effect, only}
-use Rattle.machine.specs.State.Sent.{ourVersion, ourWatchdog, noRecord, the_record}
+use Rattle.machine.specs.State.Sent.{own_version, own_watchdog, no_record, the_record}
 use Rattle.machine.specs.State.Act.{connect, pump}
 use Rattle.machine.specs.Life.{is_over, is_up, oldest_unsent, pass_length, Due, due_up, due}
-use Rattle.machine.specs.Life.Due.{theVersion, theWatchdog, theAggregated, the_alarm, the_held}
+use Rattle.machine.specs.Life.Due.{the_version, the_watchdog, the_aggregated, the_alarm, the_held}
 use Rattle.machine.specs.Effects.{own_identity, due_message, after_sending, acknowledges, sends, effect_of}
 use Rattle.machine.specs.Step.{step}
 use Rattle.machine.specs.Run.{Past, past, Run}
@@ -67,22 +67,22 @@ module _ (l : ℕ) where
     quietly gave silent x same (back n r) = same ∙ holds time r
 
     acked_beat : (is_ack : Bool) (message : Sent) → (acknowledges is_ack message (life_at m l)).beat ≡ (life_at m l).beat
-    acked_beat true ourVersion = refl
-    acked_beat false ourVersion = refl
-    acked_beat true ourWatchdog = refl
-    acked_beat false ourWatchdog = refl
-    acked_beat is_ack noRecord = refl
+    acked_beat true own_version = refl
+    acked_beat false own_version = refl
+    acked_beat true own_watchdog = refl
+    acked_beat false own_watchdog = refl
+    acked_beat is_ack no_record = refl
     acked_beat is_ack (the_record n) = refl
 
     pumped : {random : Bytes} {room : ℕ} (d : Due) → p.call.act ≡ pump l random room → messages_of p.gave ≡ due_message m p.call.time (own_identity random) d ∷ []
         → Latest l time p life → (after_sending p.call.time d (life_at m l)).beat ≡ time
-    pumped {random} theVersion is gave (here (wrote {w} on a q) f) =
-        absurd (omega (arith, watchdog_kind q, one_kind (due_message m p.call.time (own_identity random) theVersion) refl (subst (Among w) gave a)))
-    pumped theVersion is gave (back n r) = holds time r
-    pumped theWatchdog is gave (here w f) = f
-    pumped {random} theWatchdog is gave (back n r) =
+    pumped {random} the_version is gave (here (wrote {w} on a q) f) =
+        absurd (omega (arith, watchdog_kind q, one_kind (due_message m p.call.time (own_identity random) the_version) refl (subst (Among w) gave a)))
+    pumped the_version is gave (back n r) = holds time r
+    pumped the_watchdog is gave (here w f) = f
+    pumped {random} the_watchdog is gave (back n r) =
         absurd (n (own_identity random) (wrote {w = watchdog (own_identity random) p.call.time} (rw is) (rw gave first) is_watchdog))
-    pumped {random} theAggregated is gave q = quietly gave (silent_one (due_message m p.call.time (own_identity random) theAggregated) refl) (life_at m l) refl q
+    pumped {random} the_aggregated is gave q = quietly gave (silent_one (due_message m p.call.time (own_identity random) the_aggregated) refl) (life_at m l) refl q
     pumped {random} (the_alarm i) is gave q = quietly gave (silent_one (due_message m p.call.time (own_identity random) (the_alarm i)) refl) (life_at m l) refl q
     pumped {random} (the_held h) is gave q = quietly gave (silent_one (due_message m p.call.time (own_identity random) (the_held h)) (record_kind m.setup.table (own_identity random) h.content)) (life_at m l) refl q
 
@@ -114,13 +114,13 @@ module _ (m : Machine) (l t : ℕ) (up : is_up (life_at m l) ≡ true) where
   unfolding due
   due_in_up = rw (phase.0, phase.1, phase.2)
 
-  due_watchdog : (life_at m l).beat + 1000 * m.setup.period ≤ t → due m l t ≡ some theWatchdog
+  due_watchdog : (life_at m l).beat + 1000 * m.setup.period ≤ t → due m l t ≡ some the_watchdog
   unfolding due_up
   due_watchdog h = rw (due_in_up, le-leb ((life_at m l).beat + 1000 * m.setup.period) t h)
 
   -- no other that is due in Up is a Watchdog
   abbrev Sooner : Option Due → Type 0
-  Sooner o = o ≡ some theWatchdog → (life_at m l).beat + 1000 * m.setup.period ≤ t
+  Sooner o = o ≡ some the_watchdog → (life_at m l).beat + 1000 * m.setup.period ≤ t
 
   when_due : Sooner (due_up m l t (life_at m l))
   unfolding due_up
@@ -132,9 +132,9 @@ module _ (m : Machine) (l t : ℕ) (up : is_up (life_at m l) ≡ true) where
 
   module _ (random : Bytes) (id : Bytes) where
     is_due : (d : Due) {w : Message} → due m l t ≡ some d → IsWatchdog id w → Among w (due_message m t (own_identity random) d ∷ []) → (life_at m l).beat + 1000 * m.setup.period ≤ t
-    is_due theVersion e q a = absurd (omega (arith, watchdog_kind q, one_kind (due_message m t (own_identity random) theVersion) refl a))
-    is_due theWatchdog e q a = when_due (sym due_in_up ∙ e)
-    is_due theAggregated e q a = absurd (omega (arith, watchdog_kind q, one_kind (due_message m t (own_identity random) theAggregated) refl a))
+    is_due the_version e q a = absurd (omega (arith, watchdog_kind q, one_kind (due_message m t (own_identity random) the_version) refl a))
+    is_due the_watchdog e q a = when_due (sym due_in_up ∙ e)
+    is_due the_aggregated e q a = absurd (omega (arith, watchdog_kind q, one_kind (due_message m t (own_identity random) the_aggregated) refl a))
     is_due (the_alarm i) e q a = absurd (omega (arith, watchdog_kind q, one_kind (due_message m t (own_identity random) (the_alarm i)) refl a))
     is_due (the_held h) e q a =
         absurd (omega (arith, watchdog_kind q, one_kind (due_message m t (own_identity random) (the_held h)) (record_kind m.setup.table (own_identity random) h.content) a))
@@ -161,6 +161,6 @@ pub demand_beats : DemandBeats
 demand_beats =
     record {
       beats = λ s h m r l t room random can up time b late.
-          ap (λ (o : Outcome × Machine). o.0) (pumping.sends_first_due m l t room random theWatchdog can (due_watchdog m l t up (omega (arith, late, run_beat l r time b))));
+          ap (λ (o : Outcome × Machine). o.0) (pumping.sends_first_due m l t room random the_watchdog can (due_watchdog m l t up (omega (arith, late, run_beat l r time b))));
       no_sooner = λ s h m r l t room random up time b id w. omega (arith, no_sooner m l t room random id (this_life l h) up w, run_beat l r time b);
     }

@@ -7,11 +7,11 @@ use Rattle.write_message.specs.Message.{Message}
 use Rattle.write_message.specs.Message.Message.{ack}
 use Rattle.machine.specs.Words.{Bytes, or_else}
 use Rattle.machine.specs.State.{Sent, Life, fresh, Start, Machine, life_at, Act}
-use Rattle.machine.specs.State.Sent.{ourVersion, ourWatchdog, noRecord, the_record}
+use Rattle.machine.specs.State.Sent.{own_version, own_watchdog, no_record, the_record}
 use Rattle.machine.specs.State.Act.{connect, packet}
 use Rattle.machine.specs.Json.{read_packet, string_of, is_type}
 use Rattle.machine.specs.Life.{common, Due}
-use Rattle.machine.specs.Life.Due.{theVersion, theWatchdog, theAggregated, the_alarm, the_held}
+use Rattle.machine.specs.Life.Due.{the_version, the_watchdog, the_aggregated, the_alarm, the_held}
 use Rattle.machine.specs.Answers.{is_taken, reasons, reason_of}
 use Rattle.machine.specs.Effects.{acknowledges, after_sending}
 use Rattle.machine.specs.Run.{Past, Run}
@@ -70,18 +70,18 @@ module _ (u : Machine) (l : ℕ) where
 
   module _ (m : Machine) (p : Past) (life : List Past) (holds : Chooses (life_at m l) life) (v : List ℕ) where
     sent_same : (t : ℕ) (d : Due) → Has (life_at m l) v → Has (after_sending t d (life_at m l)) v
-    sent_same t theVersion e = e
-    sent_same t theWatchdog e = e
-    sent_same t theAggregated e = e
+    sent_same t the_version e = e
+    sent_same t the_watchdog e = e
+    sent_same t the_aggregated e = e
     sent_same t (the_alarm i) e = e
     sent_same t (the_held h) e = e
 
     acked_same : (is_ack : Bool) (message : Sent) → Has (life_at m l) v → Has (acknowledges is_ack message (life_at m l)) v
-    acked_same true ourVersion e = e
-    acked_same false ourVersion e = e
-    acked_same true ourWatchdog e = e
-    acked_same false ourWatchdog e = e
-    acked_same is_ack noRecord e = e
+    acked_same true own_version e = e
+    acked_same false own_version e = e
+    acked_same true own_watchdog e = e
+    acked_same false own_watchdog e = e
+    acked_same is_ack no_record e = e
     acked_same is_ack (the_record n) e = e
 
     abbrev Either : Type 0

@@ -6,7 +6,7 @@ use Rattle.write_message.specs.Message.{Message}
 use Rattle.write_message.specs.Message.Message.{ack, not_ack}
 use Rattle.machine.specs.Words.{Bytes, or_else, is_some, Case, first_of}
 use Rattle.machine.specs.State.{Awaited, Start, Machine, life_at, Act, Effect}
-use Rattle.machine.specs.State.Sent.{ourVersion, ourWatchdog}
+use Rattle.machine.specs.State.Sent.{own_version, own_watchdog}
 use Rattle.machine.specs.State.Act.{packet}
 use Rattle.machine.specs.State.Outcome.{done}
 use Rattle.machine.specs.Json.{string_of, is_type, asks_for}
@@ -169,14 +169,14 @@ module _ {s : Start} {h : List Past} {m : Machine} (r : Run s h m) (l : ℕ) whe
     version_refused : Unacknowledged l IsVersion id (this_life l h) → is_type "MessageNotAck" j ≡ true → Answers id j → Closed
     version_refused u typed says =
         let alone = ((run_greets l r).version id u.went).1 (version_unacked u.unacknowledged) in
-        refused m l t room random bytes j arrives configured (alive u.went) (run_limit r) typed (record { identity = id; time = alone.time; message = ourVersion }) alone.is says refl
+        refused m l t room random bytes j arrives configured (alive u.went) (run_limit r) typed (record { identity = id; time = alone.time; message = own_version }) alone.is says refl
 
     watchdog_refused : Unacknowledged l IsWatchdog id (this_life l h) → is_type "MessageNotAck" j ≡ true → Answers id j → Closed
     watchdog_refused u typed says =
         let w = (run_greets l r).watchdog id u.went in
         let unacked = watchdog_unacked u.unacknowledged in
         let alone = w.1.1 unacked in
-        refused m l t room random bytes j arrives configured (alive u.went) (run_limit r) typed (record { identity = id; time = alone.time; message = ourWatchdog }) alone.is says
+        refused m l t room random bytes j arrives configured (alive u.went) (run_limit r) typed (record { identity = id; time = alone.time; message = own_watchdog }) alone.is says
         (rw (alive u.went, w.0, unacked))
 
     check_failed : Within (Wrote l (IsVersion id)) (this_life l h) → ((v : List ℕ) → Within (Answered l (IsGoodVersion m v)) (this_life l h) → ⊥) → WellFormed j → is_type "Version" j ≡ true

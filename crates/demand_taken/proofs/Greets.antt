@@ -5,11 +5,11 @@ use Rattle.basis.specs.Lists.Among.{first}
 use Rattle.write_message.specs.Message.{Message}
 use Rattle.machine.specs.Words.{Bytes, but_first}
 use Rattle.machine.specs.State.{Sent, Awaited, Life, fresh, Start, Machine, life_at, Act}
-use Rattle.machine.specs.State.Sent.{ourVersion, ourWatchdog, noRecord, the_record}
+use Rattle.machine.specs.State.Sent.{own_version, own_watchdog, no_record, the_record}
 use Rattle.machine.specs.State.Act.{connect, pump}
 use Rattle.machine.specs.Json.{string_of, is_type, is_identity_of}
 use Rattle.machine.specs.Life.{is_over, is_greeting, is_beating, is_up, awaited_by, awaiting, answered_to, oldest_unsent, pass_length, Due, due_up, due}
-use Rattle.machine.specs.Life.Due.{theVersion, theWatchdog, theAggregated, the_alarm, the_held}
+use Rattle.machine.specs.Life.Due.{the_version, the_watchdog, the_aggregated, the_alarm, the_held}
 use Rattle.machine.specs.Effects.{own_identity, due_message, sent_as, after_sending, answer_closes, acknowledges}
 use Rattle.machine.specs.Run.{Past, Run}
 use Rattle.demand_held.proofs.Lists.{maybe_cases}
@@ -32,26 +32,27 @@ pub record Alone (id : Bytes) (message : Sent) (ids : List Awaited) : Type 0 whe
   pub is : ids ≡ record { identity = id; time = time; message = message } ∷ []
 
 one_only : {A : Type 0} {w : A} (x : A) → Among w (x ∷ []) → w ≡ x
+one_only {A = A} {w = w} x (Rattle.basis.specs.Lists.later x4) = elim x4 [ ]
 one_only x first = refl
 
 -- ---- what is due, and when
 abbrev When : Life → Due → Type 0
-When k theVersion = (is_greeting k ≡ true) × (k.versions.sent ≡ false)
-When k theWatchdog = ((is_beating k ≡ true) × (k.watchdogs.sent ≡ false)) ⊎ (is_up k ≡ true)
-When k theAggregated = is_up k ≡ true
+When k the_version = (is_greeting k ≡ true) × (k.versions.sent ≡ false)
+When k the_watchdog = ((is_beating k ≡ true) × (k.watchdogs.sent ≡ false)) ⊎ (is_up k ≡ true)
+When k the_aggregated = is_up k ≡ true
 When k (the_alarm i) = is_up k ≡ true
 When k (the_held h) = is_up k ≡ true
 
 -- of what is due in Up
-up_when : (k : Life) (d : Due) → is_up k ≡ true → (d ≡ theVersion → ⊥) → When k d
-up_when k theVersion up n = absurd (n refl)
-up_when k theWatchdog up n = inr up
-up_when k theAggregated up n = up
+up_when : (k : Life) (d : Due) → is_up k ≡ true → (d ≡ the_version → ⊥) → When k d
+up_when k the_version up n = absurd (n refl)
+up_when k the_watchdog up n = inr up
+up_when k the_aggregated up n = up
 up_when k (the_alarm i) up n = up
 up_when k (the_held h) up n = up
 
 abbrev NoVersion : Option Due → Type 0
-NoVersion o = o ≡ some theVersion → ⊥
+NoVersion o = o ≡ some the_version → ⊥
 
 up_no_version : (m : Machine) (l t : ℕ) (k : Life) → NoVersion (due_up m l t k)
 unfolding due_up
@@ -71,10 +72,10 @@ due_when : (m : Machine) (l t : ℕ) → DueWhen (life_at m l) (due m l t)
 unfolding due
 due_when m l t =
     let k = life_at m l in
-    picked (DueWhen k) (both (is_greeting k) (not k.versions.sent)) (some theVersion) _
-    (λ e d f. let p = both_true (is_greeting k) _ e in subst (When k) (same_due theVersion d f) (p.0, not_so k.versions.sent p.1))
-    (λ e. picked (DueWhen k) (both (is_beating k) (not k.watchdogs.sent)) (some theWatchdog) _
-    (λ e d f. let p = both_true (is_beating k) _ e in subst (When k) (same_due theWatchdog d f) (inl (p.0, not_so k.watchdogs.sent p.1)))
+    picked (DueWhen k) (both (is_greeting k) (not k.versions.sent)) (some the_version) _
+    (λ e d f. let p = both_true (is_greeting k) _ e in subst (When k) (same_due the_version d f) (p.0, not_so k.versions.sent p.1))
+    (λ e. picked (DueWhen k) (both (is_beating k) (not k.watchdogs.sent)) (some the_watchdog) _
+    (λ e d f. let p = both_true (is_beating k) _ e in subst (When k) (same_due the_watchdog d f) (inl (p.0, not_so k.watchdogs.sent p.1)))
     (λ e. picked (DueWhen k) (is_up k) (due_up m l t k) none
     (λ up d f. up_when k d up (λ q. up_no_version m l t k (f ∙ ap some q)))
     (λ e d f. absurd (let z : ◌≡◌ {A = ℕ} 0 1 = cc in omega arith))))
@@ -90,14 +91,14 @@ record Acked (k x : Life) (message : Sent) : Type 0 where
   version_sent : x.versions.sent ≡ k.versions.sent
   version_taken : x.versions.taken ≡ k.versions.taken
   watchdog_sent : x.watchdogs.sent ≡ k.watchdogs.sent
-  version_before : x.versions.acknowledged ≡ true → (k.versions.acknowledged ≡ true) ⊎ (message ≡ ourVersion)
+  version_before : x.versions.acknowledged ≡ true → (k.versions.acknowledged ≡ true) ⊎ (message ≡ own_version)
   version_still : k.versions.acknowledged ≡ true → x.versions.acknowledged ≡ true
-  version_now : message ≡ ourVersion → x.versions.acknowledged ≡ true
-  watchdog_before : x.watchdogs.acknowledged ≡ true → (k.watchdogs.acknowledged ≡ true) ⊎ (message ≡ ourWatchdog)
+  version_now : message ≡ own_version → x.versions.acknowledged ≡ true
+  watchdog_before : x.watchdogs.acknowledged ≡ true → (k.watchdogs.acknowledged ≡ true) ⊎ (message ≡ own_watchdog)
   watchdog_still : k.watchdogs.acknowledged ≡ true → x.watchdogs.acknowledged ≡ true
-  watchdog_now : message ≡ ourWatchdog → (x.watchdogs.acknowledged ≡ true) ⊎ (is_beating k ≡ false)
+  watchdog_now : message ≡ own_watchdog → (x.watchdogs.acknowledged ≡ true) ⊎ (is_beating k ≡ false)
 
-unmoved : (message : Sent) (k : Life) → (message ≡ ourVersion → ⊥) → (message ≡ ourWatchdog → is_beating k ≡ false) → Acked k k message
+unmoved : (message : Sent) (k : Life) → (message ≡ own_version → ⊥) → (message ≡ own_watchdog → is_beating k ≡ false) → Acked k k message
 unmoved message k no_version no_beat =
     record {
       connected = refl;
@@ -114,7 +115,7 @@ unmoved message k no_version no_beat =
     }
 
 acked : (is_ack : Bool) (message : Sent) (k : Life) → answer_closes k is_ack message ≡ false → Acked k (acknowledges is_ack message k) message
-acked true ourVersion k e =
+acked true own_version k e =
     record {
       connected = refl;
       awaited = refl;
@@ -128,8 +129,8 @@ acked true ourVersion k e =
       watchdog_still = λ f. f;
       watchdog_now = λ f. absurd (let z : ◌≡◌ {A = ℕ} 0 1 = cc in omega arith);
     }
-acked false ourVersion k e = not_both refl e
-acked true ourWatchdog k e =
+acked false own_version k e = not_both refl e
+acked true own_watchdog k e =
     record {
       connected = refl;
       awaited = refl;
@@ -143,8 +144,8 @@ acked true ourWatchdog k e =
       watchdog_still = λ f. refl;
       watchdog_now = λ f. inl refl;
     }
-acked false ourWatchdog k e = unmoved ourWatchdog k (λ f. let z : ◌≡◌ {A = ℕ} 0 1 = cc in omega arith) (λ f. e)
-acked is_ack noRecord k e = unmoved noRecord k (λ f. let z : ◌≡◌ {A = ℕ} 0 1 = cc in omega arith) (λ f. absurd (let z : ◌≡◌ {A = ℕ} 0 1 = cc in omega arith))
+acked false own_watchdog k e = unmoved own_watchdog k (λ f. let z : ◌≡◌ {A = ℕ} 0 1 = cc in omega arith) (λ f. e)
+acked is_ack no_record k e = unmoved no_record k (λ f. let z : ◌≡◌ {A = ℕ} 0 1 = cc in omega arith) (λ f. absurd (let z : ◌≡◌ {A = ℕ} 0 1 = cc in omega arith))
 acked is_ack (the_record n) k e = unmoved (the_record n) k (λ f. let z : ◌≡◌ {A = ℕ} 0 1 = cc in omega arith) (λ f. absurd (let z : ◌≡◌ {A = ℕ} 0 1 = cc in omega arith))
 
 -- ---- the invariant
@@ -160,9 +161,9 @@ module _ (l : ℕ) where
     pub watchdog_out : k.watchdogs.acknowledged ≡ true → k.watchdogs.sent ≡ true
     pub unsent : k.versions.sent ≡ false → k.awaited ≡ []
     pub unbeaten : k.versions.acknowledged ≡ true → k.watchdogs.sent ≡ false → k.awaited ≡ []
-    pub version : (id : Bytes) → Within (Wrote l (IsVersion id)) life → (k.versions.sent ≡ true) × (k.versions.acknowledged ≡ false → Alone id ourVersion k.awaited)
+    pub version : (id : Bytes) → Within (Wrote l (IsVersion id)) life → (k.versions.sent ≡ true) × (k.versions.acknowledged ≡ false → Alone id own_version k.awaited)
     pub watchdog : (id : Bytes) → Within (Wrote l (IsWatchdog id)) life
-        → (is_over k.versions ≡ true) × ((k.watchdogs.sent ≡ true) × (k.watchdogs.acknowledged ≡ false → Alone id ourWatchdog k.awaited))
+        → (is_over k.versions ≡ true) × ((k.watchdogs.sent ≡ true) × (k.watchdogs.acknowledged ≡ false → Alone id own_watchdog k.awaited))
 
   down : Greets (fresh false) []
   down =
@@ -246,10 +247,10 @@ module _ (l : ℕ) where
           unbeaten = λ f q. a.awaited ∙ g.unbeaten (sym a.version_acked ∙ f) (sym a.watchdog_sent ∙ q);
           version = λ id w.
               let v = g.version id (back p life (no_version_in gave silent) w) in
-              (a.version_sent ∙ v.0, λ f. subst (Alone id ourVersion) (sym a.awaited) (v.1 (sym a.version_acked ∙ f)));
+              (a.version_sent ∙ v.0, λ f. subst (Alone id own_version) (sym a.awaited) (v.1 (sym a.version_acked ∙ f)));
           watchdog = λ id w.
               let v = g.watchdog id (back p life (no_watchdog_in gave silent) w) in
-              (a.over v.0, (a.watchdog_sent ∙ v.1.0, λ f. subst (Alone id ourWatchdog) (sym a.awaited) (v.1.1 (sym a.watchdog_acked ∙ f))));
+              (a.over v.0, (a.watchdog_sent ∙ v.1.0, λ f. subst (Alone id own_watchdog) (sym a.awaited) (v.1.1 (sym a.watchdog_acked ∙ f))));
         }
 
     same : Alike k
@@ -297,12 +298,12 @@ module _ (l : ℕ) where
       abbrev sent_life : Due → Life
       sent_life d = awaiting (own_identity random) p.call.time (sent_as m l d) (after_sending p.call.time d k)
 
-      version_sent_now : is_greeting k ≡ true → k.versions.sent ≡ false → messages_of p.gave ≡ due_message m p.call.time (own_identity random) theVersion ∷ [] → Goal (sent_life theVersion)
+      version_sent_now : is_greeting k ≡ true → k.versions.sent ≡ false → messages_of p.gave ≡ due_message m p.call.time (own_identity random) the_version ∷ [] → Goal (sent_life the_version)
       version_sent_now greeting unsent gave =
           record {
             went = λ e. record {
               id = own_identity random;
-              within = now p life lives (wrote {w = due_message m p.call.time (own_identity random) theVersion} (rw is) (rw gave first) is_version);
+              within = now p life lives (wrote {w = due_message m p.call.time (own_identity random) the_version} (rw is) (rw gave first) is_version);
             };
             there = λ e. absurd (not_both connected e);
             version_out = λ e. refl;
@@ -313,21 +314,21 @@ module _ (l : ℕ) where
             watchdog = λ id w. not_both (g.watchdog id (back p life no_beat w)).0 (not_over greeting);
           }
         where
-          alone : (id : Bytes) → id ≡ own_identity random → Alone id ourVersion (k.awaited ++ (new (own_identity random) ourVersion ∷ []))
-          alone id e = record { time = p.call.time; is = rw e (only_new k.awaited (new (own_identity random) ourVersion) (g.unsent unsent)) }
+          alone : (id : Bytes) → id ≡ own_identity random → Alone id own_version (k.awaited ++ (new (own_identity random) own_version ∷ []))
+          alone id e = record { time = p.call.time; is = rw e (only_new k.awaited (new (own_identity random) own_version) (g.unsent unsent)) }
 
-          its_own : {id : Bytes} {w : Message} → IsVersion id w → Among w (due_message m p.call.time (own_identity random) theVersion ∷ []) → id ≡ own_identity random
+          its_own : {id : Bytes} {w : Message} → IsVersion id w → Among w (due_message m p.call.time (own_identity random) the_version ∷ []) → id ≡ own_identity random
           its_own is_version a = cc (one_only _ a)
 
           by_version : (id : Bytes) → Wrote l (IsVersion id) p life ⊎ Within (Wrote l (IsVersion id)) life
-              → (true ≡ true) × (k.versions.acknowledged ≡ false → Alone id ourVersion (k.awaited ++ (new (own_identity random) ourVersion ∷ [])))
+              → (true ≡ true) × (k.versions.acknowledged ≡ false → Alone id own_version (k.awaited ++ (new (own_identity random) own_version ∷ [])))
           by_version id (inl (wrote {w} on a is)) = (refl, λ f. alone id (its_own is (subst (Among w) gave a)))
           by_version id (inr r) = not_both (g.version id r).0 unsent
 
           no_beat : {id : Bytes} → Wrote l (IsWatchdog id) p life → ⊥
-          no_beat (wrote {w} on a is) = omega (arith, watchdog_kind is, one_kind (due_message m p.call.time (own_identity random) theVersion) refl (subst (Among w) gave a))
+          no_beat (wrote {w} on a is) = omega (arith, watchdog_kind is, one_kind (due_message m p.call.time (own_identity random) the_version) refl (subst (Among w) gave a))
 
-      watchdog_sent_now : is_beating k ≡ true → k.watchdogs.sent ≡ false → messages_of p.gave ≡ due_message m p.call.time (own_identity random) theWatchdog ∷ [] → Goal (sent_life theWatchdog)
+      watchdog_sent_now : is_beating k ≡ true → k.watchdogs.sent ≡ false → messages_of p.gave ≡ due_message m p.call.time (own_identity random) the_watchdog ∷ [] → Goal (sent_life the_watchdog)
       watchdog_sent_now beating unsent gave =
           record {
             went = λ e. still_went p (g.went e);
@@ -346,19 +347,19 @@ module _ (l : ℕ) where
           version_acked : k.versions.acknowledged ≡ true
           version_acked = (both_true k.versions.acknowledged _ over).0
 
-          its_own : {id : Bytes} {w : Message} → IsWatchdog id w → Among w (due_message m p.call.time (own_identity random) theWatchdog ∷ []) → id ≡ own_identity random
+          its_own : {id : Bytes} {w : Message} → IsWatchdog id w → Among w (due_message m p.call.time (own_identity random) the_watchdog ∷ []) → id ≡ own_identity random
           its_own is_watchdog a = cc (one_only _ a)
 
-          by_watchdog : (id : Bytes) → Wrote l (IsWatchdog id) p life ⊎ Within (Wrote l (IsWatchdog id)) life → Alone id ourWatchdog (k.awaited ++ (new (own_identity random) ourWatchdog ∷ []))
+          by_watchdog : (id : Bytes) → Wrote l (IsWatchdog id) p life ⊎ Within (Wrote l (IsWatchdog id)) life → Alone id own_watchdog (k.awaited ++ (new (own_identity random) own_watchdog ∷ []))
           by_watchdog id (inl (wrote {w} on a is)) =
-              record { time = p.call.time; is = rw (its_own is (subst (Among w) gave a)) (only_new k.awaited (new (own_identity random) ourWatchdog) (g.unbeaten version_acked unsent)) }
+              record { time = p.call.time; is = rw (its_own is (subst (Among w) gave a)) (only_new k.awaited (new (own_identity random) own_watchdog) (g.unbeaten version_acked unsent)) }
           by_watchdog id (inr r) = not_both (g.watchdog id r).1.0 unsent
 
       sends : (d : Due) → When k d → messages_of p.gave ≡ due_message m p.call.time (own_identity random) d ∷ [] → Goal (sent_life d)
-      sends theVersion w gave = version_sent_now w.0 w.1 gave
-      sends theWatchdog (inl w) gave = watchdog_sent_now w.0 w.1 gave
-      sends theWatchdog (inr up) gave = ups up (sent_life theWatchdog) refl refl refl (flags up).watchdog_acked
-      sends theAggregated up gave = ups up (sent_life theAggregated) refl refl (g.watchdog_out (flags up).watchdog_acked) (flags up).watchdog_acked
+      sends the_version w gave = version_sent_now w.0 w.1 gave
+      sends the_watchdog (inl w) gave = watchdog_sent_now w.0 w.1 gave
+      sends the_watchdog (inr up) gave = ups up (sent_life the_watchdog) refl refl refl (flags up).watchdog_acked
+      sends the_aggregated up gave = ups up (sent_life the_aggregated) refl refl (g.watchdog_out (flags up).watchdog_acked) (flags up).watchdog_acked
       sends (the_alarm i) up gave = ups up (sent_life (the_alarm i)) refl refl (g.watchdog_out (flags up).watchdog_acked) (flags up).watchdog_acked
       sends (the_held h) up gave = ups up (sent_life (the_held h)) refl refl (g.watchdog_out (flags up).watchdog_acked) (flags up).watchdog_acked
 
@@ -401,16 +402,16 @@ module _ (l : ℕ) where
       abbrev answered_life : Life
       answered_life = answered_to text x
 
-      its_version : a.message ≡ ourVersion → Within (Wrote l (IsVersion a.identity)) life
+      its_version : a.message ≡ own_version → Within (Wrote l (IsVersion a.identity)) life
       its_version e = subst (Backed l life a.identity) e backed
 
-      its_watchdog : a.message ≡ ourWatchdog → Within (Wrote l (IsWatchdog a.identity)) life
+      its_watchdog : a.message ≡ own_watchdog → Within (Wrote l (IsWatchdog a.identity)) life
       its_watchdog e = subst (Backed l life a.identity) e backed
 
       unbeaten : x.versions.acknowledged ≡ true → x.watchdogs.sent ≡ false → answered_life.awaited ≡ []
       unbeaten e q = rw moves.awaited (go k.versions.acknowledged refl (moves.version_before e))
         where
-          go : (b : Bool) → k.versions.acknowledged ≡ b → (k.versions.acknowledged ≡ true) ⊎ (a.message ≡ ourVersion) → but_first (λ (y : Awaited). is_identity_of y.identity text) k.awaited ≡ []
+          go : (b : Bool) → k.versions.acknowledged ≡ b → (k.versions.acknowledged ≡ true) ⊎ (a.message ≡ own_version) → but_first (λ (y : Awaited). is_identity_of y.identity text) k.awaited ≡ []
           go true f r = absurd (some_awaited (g.unbeaten f (sym moves.watchdog_sent ∙ q)))
           go false f (inl r) = not_both r f
           go false f (inr r) = emptied ((g.version a.identity (its_version r)).1 f)
@@ -419,7 +420,7 @@ module _ (l : ℕ) where
       still_unacked e f = not_both (moves.watchdog_still e) f
 
       answered_watchdog : (id : Bytes) → Within (Wrote l (IsWatchdog id)) life
-          → (is_over x.versions ≡ true) × ((x.watchdogs.sent ≡ true) × (x.watchdogs.acknowledged ≡ false → Alone id ourWatchdog answered_life.awaited))
+          → (is_over x.versions ≡ true) × ((x.watchdogs.sent ≡ true) × (x.watchdogs.acknowledged ≡ false → Alone id own_watchdog answered_life.awaited))
       answered_watchdog id w =
           let old = g.watchdog id w in
           let over = both_true k.versions.acknowledged _ old.0 in
@@ -429,7 +430,7 @@ module _ (l : ℕ) where
           beating over unacked = rw (connected, over, unacked)
 
           by_flag : (b : Bool) → k.watchdogs.acknowledged ≡ b → x.watchdogs.acknowledged ≡ false → is_over k.versions ≡ true
-              → (k.watchdogs.acknowledged ≡ false → Alone id ourWatchdog k.awaited) → ⊥
+              → (k.watchdogs.acknowledged ≡ false → Alone id own_watchdog k.awaited) → ⊥
           by_flag true f e over alone = still_unacked f e
           by_flag false f e over alone = at_last (moves.watchdog_now (its_message (alone f)))
             where
@@ -456,7 +457,7 @@ module _ (l : ℕ) where
             watchdog = λ id w. answered_watchdog id (back p life (no_watchdog_in gave silent_none) w);
           }
         where
-          beat_out : (k.watchdogs.acknowledged ≡ true) ⊎ (a.message ≡ ourWatchdog) → k.watchdogs.sent ≡ true
+          beat_out : (k.watchdogs.acknowledged ≡ true) ⊎ (a.message ≡ own_watchdog) → k.watchdogs.sent ≡ true
           beat_out (inl e) = g.watchdog_out e
           beat_out (inr e) = (g.watchdog a.identity (its_watchdog e)).1.0
 

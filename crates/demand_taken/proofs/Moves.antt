@@ -7,7 +7,7 @@ use Rattle.write_message.specs.Message.{Message}
 use Rattle.write_message.specs.Message.Message.{ack}
 use Rattle.machine.specs.Words.{Bytes, maybe, is_some, or_else, any, first_of}
 use Rattle.machine.specs.State.{Alarm, Awaited, Life, fresh, Machine, with_life, life_at, Act, Effect}
-use Rattle.machine.specs.State.Sent.{noRecord}
+use Rattle.machine.specs.State.Sent.{no_record}
 use Rattle.machine.specs.State.Act.{packet, pump}
 use Rattle.machine.specs.Json.{read_packet, string_at, string_of, element_is, is_type, asks_for}
 use Rattle.machine.specs.Life.{is_up, now_taken, with_watchdogs, common, awaited_by, awaiting, answered_to, Due, due}
@@ -40,7 +40,7 @@ pub data Turned (m : Machine) (t l : ℕ) : Act → List Message → Life → Ty
   taken : {random bytes : Bytes} {room : ℕ} {j : Json} → read_packet bytes ≡ some j → is_type "Version" j ≡ false
       → Turned m t l (packet l random bytes room) (ack (string_of "mId" j) ∷ []) (life_at m l)
   replied : {random bytes : Bytes} {room : ℕ} {j : Json} (n : Machine) → read_packet bytes ≡ some j → is_type "Version" j ≡ false → is_up (life_at m l) ≡ true
-      → Turned m t l (packet l random bytes room) (ack (string_of "mId" j) ∷ reply_message n t (own_identity random) j ∷ []) (awaiting (own_identity random) t noRecord (life_at m l))
+      → Turned m t l (packet l random bytes room) (ack (string_of "mId" j) ∷ reply_message n t (own_identity random) j ∷ []) (awaiting (own_identity random) t no_record (life_at m l))
   responded : {random bytes : Bytes} {room : ℕ} {j : Json} (n : Machine) → read_packet bytes ≡ some j → is_type "Version" j ≡ false
       → Turned m t l (packet l random bytes room) (included_message n t j ∷ []) (life_at m l)
 
@@ -165,8 +165,8 @@ module _ (m : Machine) (t l : ℕ) (connected : (life_at m l).connected ≡ true
           inr (
             open_carried_out m l t j l,
             subst (Turned m t l this (ack (string_of "mId" j) ∷ reply_message (carried_out l t j m).leaves t (own_identity random) j ∷ []))
-                (sym (set_on (awaiting (own_identity random) t noRecord (life_at (carried_out l t j m).leaves l)) (carried_out l t j m).leaves (other_lives plain)
-                ∙ ap (awaiting (own_identity random) t noRecord) (same_life plain)))
+                (sym (set_on (awaiting (own_identity random) t no_record (life_at (carried_out l t j m).leaves l)) (carried_out l t j m).leaves (other_lives plain)
+                ∙ ap (awaiting (own_identity random) t no_record) (same_life plain)))
                 (replied (carried_out l t j m).leaves read plain.0 (up plain)),
           ))
           (λ w. inr (open_carried_out m l t j l, acked)))

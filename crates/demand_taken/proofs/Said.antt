@@ -65,13 +65,16 @@ pub silent_none : Silent []
 silent_none w a = absurd (nobody a)
 
 pub silent_one : (x : Message) → kind x ≡ 0 → Silent (x ∷ [])
+silent_one x e w (later x4) = elim x4 [ ]
 silent_one x e w first = e
 
 pub silent_two : (x y : Message) → kind x ≡ 0 → kind y ≡ 0 → Silent (x ∷ y ∷ [])
+silent_two x y e f w (later (later x7)) = elim x7 [ ]
 silent_two x y e f w first = e
 silent_two x y e f w (later first) = f
 
 pub one_kind : {n : ℕ} {w : Message} (x : Message) → kind x ≡ n → Among w (x ∷ []) → kind w ≡ n
+one_kind {n = n} {w = w} x e (later x4) = elim x4 [ ]
 one_kind x e first = e
 
 module _ {l : ℕ} {p : Past} {before : List Past} {ms : List Message} (gave : messages_of p.gave ≡ ms) (silent : Silent ms) where

@@ -11,7 +11,7 @@ use Rattle.write_message.specs.declared.Value.TheVariants.{Recent}
 use Rattle.write_message.specs.declared.Told.TheVariants.{Command as CommandResponse}
 use Rattle.write_message.specs.Message.{Message, Status, status}
 use Rattle.write_message.specs.Message.Message.{ack, statuses, included}
-use Rattle.machine.specs.Words.{Bytes, if◌then◌else◌}
+use Rattle.machine.specs.Words.{Bytes, if'◌then◌else◌}
 use Rattle.machine.specs.State.{Command, Start, Machine, life_at, Call, Outcome}
 use Rattle.machine.specs.State.Act.{packet}
 use Rattle.machine.specs.State.Outcome.{refused, done}
@@ -60,7 +60,7 @@ recent t x = status (row_of t x).code (row_of t x).name (Recent x.value)
 abbrev pub obeying : Table → ℕ → Bytes → Json → List Command → Outcome
 obeying t time id j xs =
     done
-    (if is_included "CommandRequest" j then included CommandResponse (string_of "mId" j) (string_of "cId" j) time (map (recent t) xs) ∷ []
+    (if' is_included "CommandRequest" j then included CommandResponse (string_of "mId" j) (string_of "cId" j) time (map (recent t) xs) ∷ []
     else ack (string_of "mId" j) ∷ statuses CommandResponse id (string_of "cId" j) time (map (recent t) xs) ∷ [])
     [] none xs
 

@@ -45,6 +45,7 @@ not_after_itself [] = refl
 not_after_itself (n ∷ v) = rw (eq-eqb n n refl) (not_after_itself v)
 
 each_of : {A : Type 0} {P : A → Type 0} {x : A} {xs : List A} → Each P xs → Among x xs → P x
+each_of {A = A} {P = P} no_more x4 = elim x4 [ ]
 each_of (one_more p r) first = p
 each_of (one_more p r) (later a) = each_of r a
 

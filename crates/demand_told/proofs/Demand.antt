@@ -50,6 +50,7 @@ UpFirst m l w e = Among w e.messages → is_told w ≡ true → is_up (life_at m
 
 pumped_up : (m : Machine) (l t : ℕ) (id : Bytes) (d : Due) → due m l t ≡ some d → (w : Message) → UpFirst m l w (sends l t id m d)
 unfolding sends
+pumped_up m l t id d e w (later x4) u = elim x4 [ ]
 pumped_up m l t id d e w first u = due_up_lem m l t id d e u
 
 told_up : (m : Machine) (t : ℕ) (act : Act) (l : ℕ) → link_of act ≡ some l → first_of (conditions m t act) ≡ none → (w : Message) → UpFirst m l w (effect_of m t act)
@@ -136,6 +137,7 @@ ToPrimary m l w e = Among w e.messages → is_alarm w ≡ true → is_primary m 
 
 pumped_primary : (m : Machine) → Each (Fits m.setup) m.pool.held → (l t : ℕ) (id : Bytes) (d : Due) → due m l t ≡ some d → (w : Message) → ToPrimary m l w (sends l t id m d)
 unfolding sends
+pumped_primary m s l t id d e w (later x4) u = elim x4 [ ]
 pumped_primary m s l t id d e w first u = due_primary m s l t id d e u
 
 primary_of : (m : Machine) → Each (Fits m.setup) m.pool.held → (t : ℕ) (act : Act) (l : ℕ) → link_of act ≡ some l → (w : Message) → ToPrimary m l w (effect_of m t act)

@@ -16,7 +16,7 @@ use Rattle.machine.specs.State.Event.{Issue, Acknowledge, Suspend}
 use Rattle.machine.specs.State.Content.{of_alarm, of_status, of_aggregated}
 use Rattle.machine.specs.Table.{component_text, alarm_row, status_row}
 use Rattle.machine.specs.Life.{is_greeting, is_beating, is_up, is_primary, pass_length, oldest_unsent, Due, due_up, due}
-use Rattle.machine.specs.Life.Due.{theVersion, theWatchdog, theAggregated, the_alarm, the_held}
+use Rattle.machine.specs.Life.Due.{the_version, the_watchdog, the_aggregated, the_alarm, the_held}
 use Rattle.machine.specs.Messages.{alarm_message, aggregated_message, record_message}
 use Rattle.machine.specs.Effects.{due_message}
 use Rattle.demand_held.proofs.Lists.{maybe_cases}
@@ -75,9 +75,9 @@ module _ {edition : ℕ} (t : Table) (a : Allowed edition t) (id : Bytes) (sixte
 
 -- ---- what is due is in the table
 abbrev Known : Machine → Due → Type 0
-Known m theVersion = Unit {0}
-Known m theWatchdog = Unit {0}
-Known m theAggregated = Unit {0}
+Known m the_version = Unit {0}
+Known m the_watchdog = Unit {0}
+Known m the_aggregated = Unit {0}
 Known m (the_alarm i) = i < length m.alarms
 Known m (the_held h) = HeldOf m.setup.table h
 
@@ -107,11 +107,11 @@ module _ (m : Machine) (s : Sane m) (l t : ℕ) where
   unfolding due due_up
   due_known =
       let k = life_at m l in
-      picked (KnownIf m) (both (is_greeting k) (not k.versions.sent)) (some theVersion) _ (λ e. tt)
-      (λ e. picked (KnownIf m) (both (is_beating k) (not k.watchdogs.sent)) (some theWatchdog) _ (λ e. tt)
+      picked (KnownIf m) (both (is_greeting k) (not k.versions.sent)) (some the_version) _ (λ e. tt)
+      (λ e. picked (KnownIf m) (both (is_beating k) (not k.watchdogs.sent)) (some the_watchdog) _ (λ e. tt)
       (λ e. picked (KnownIf m) (is_up k) _ none
-      (λ up. picked (KnownIf m) (leb (k.beat + 1000 * m.setup.period) t) (some theWatchdog) _ (λ e. tt)
-      (λ e. picked (KnownIf m) (eqb k.pass 0) (some theAggregated) _ (λ e. tt)
+      (λ up. picked (KnownIf m) (leb (k.beat + 1000 * m.setup.period) t) (some the_watchdog) _ (λ e. tt)
+      (λ e. picked (KnownIf m) (eqb k.pass 0) (some the_aggregated) _ (λ e. tt)
       (λ e. picked (KnownIf m) (ltb k.pass (pass_length m l)) (some (the_alarm (k.pass - 1))) _ (λ f. pass_known e f)
       (λ f. maybe_cases (KnownIf m) none (λ (h : Held). some (the_held h)) (oldest_unsent m l) (λ g. tt) record_known))))
       (λ n. tt)))
@@ -120,8 +120,8 @@ module _ (m : Machine) (s : Sane m) (l t : ℕ) where
   due_formed id sixteen timely d e = go d (subst (KnownIf m) e due_known)
     where
       go : (d : Due) → Known m d → Formed (due_message m t id d)
-      go theVersion k = formed_version sixteen (record { label = s.table.site }) (record { label = s.table.sxl })
-      go theWatchdog k = formed_watchdog sixteen timely
-      go theAggregated k = aggregated_formed m.setup.table s.table id sixteen m.aggregated m.aggregated_time s.aggregated s.aggregated_time_lem
+      go the_version k = formed_version sixteen (record { label = s.table.site }) (record { label = s.table.sxl })
+      go the_watchdog k = formed_watchdog sixteen timely
+      go the_aggregated k = aggregated_formed m.setup.table s.table id sixteen m.aggregated m.aggregated_time s.aggregated s.aggregated_time_lem
       go (the_alarm i) k = alarm_formed m.setup.table s.table id sixteen i (alarm_at m i) (omega (arith, k, s.alarm_count)) (alarm_time s i)
       go (the_held h) k = record_formed m.setup.table s.table id sixteen h.content k

@@ -7,7 +7,7 @@ use Rattle.write_message.specs.Message.{Message}
 use Rattle.write_message.specs.Message.Message.{ack}
 use Rattle.machine.specs.Words.{Bytes, or_else, is_number, any, changed, first_of}
 use Rattle.machine.specs.State.{Alarm, Awaited, Life, fresh, Machine, with_life, life_at, Act, Effect, handing, effect, only}
-use Rattle.machine.specs.State.Sent.{noRecord}
+use Rattle.machine.specs.State.Sent.{no_record}
 use Rattle.machine.specs.State.Act.{connect, disconnect, packet, alarm_input, status_value, aggregated_value, tick, pump}
 use Rattle.machine.specs.Json.{read_packet, string_of, element_is, is_type, asks_for, is_identity_of}
 use Rattle.machine.specs.Life.{now_taken, with_watchdogs, common, names_site, equal_sxl, awaited_by, awaiting, answered_to, Due, due}
@@ -184,8 +184,8 @@ module _ (u m : Machine) (same : u.setup ≡ m.setup) (t l : ℕ) (life : List P
         (λ o. turns u m same t this l life kept responded refl (open_carried_out m l t j l) (on_carried_out unrefused (this_past responded) (came_by responded) (λ n. not_both o n)))
         (λ o. picked Received (wants_reply done.leaves l j) _ _
         (λ w. turns u m same t this l life kept replied refl (open_carried_out m l t j l)
-        (sets (awaiting id t noRecord (life_at done.leaves l)) done.leaves.lives (this_past replied)
-        (awaits (on_carried_out unrefused (this_past replied) (came_by replied) (λ n. first)) id t noRecord tt)))
+        (sets (awaiting id t no_record (life_at done.leaves l)) done.leaves.lives (this_past replied)
+        (awaits (on_carried_out unrefused (this_past replied) (came_by replied) (λ n. first)) id t no_record tt)))
         (λ w. turns u m same t this l life kept acked_only refl (open_carried_out m l t j l) (on_carried_out unrefused (this_past acked_only) (came_by acked_only) (λ n. first))))
       where
         done : Effect
@@ -193,7 +193,7 @@ module _ (u m : Machine) (same : u.setup ≡ m.setup) (t l : ℕ) (life : List P
 
         replied : Effect
         replied =
-            handing done.commands (with_life l (awaiting id t noRecord (life_at done.leaves l)) done.leaves) done.issues
+            handing done.commands (with_life l (awaiting id t no_record (life_at done.leaves l)) done.leaves) done.issues
             (ack (string_of "mId" j) ∷ reply_message done.leaves t id j ∷ []) done.closed done.hint
 
         responded : Effect

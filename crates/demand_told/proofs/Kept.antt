@@ -4,7 +4,7 @@
 use Rattle.basis.proofs.Std.{ℕ, ◌≡◌, refl, true, false, List, [], ◌∷◌, arith, not_both}
 use Rattle.machine.specs.Words.{Bytes}
 use Rattle.machine.specs.State.{Sent, Awaited, Life, fresh, Machine}
-use Rattle.machine.specs.State.Sent.{ourVersion, ourWatchdog, noRecord, the_record}
+use Rattle.machine.specs.State.Sent.{own_version, own_watchdog, no_record, the_record}
 use Rattle.machine.specs.Run.{Past}
 use Rattle.demand_held.proofs.Lists.{Each}
 use Rattle.demand_held.proofs.Lists.Each.{no_more, one_more}
@@ -13,9 +13,9 @@ use Rattle.demand_told.specs.Greeted.{Within, IsVersion, IsWatchdog, Wrote, Ackn
 use Rattle.demand_told.specs.Greeted.Within.{latest, earlier}
 
 abbrev pub Backed : ℕ → List Past → Bytes → Sent → Type 0
-Backed l life id ourVersion = Within (Wrote l (IsVersion id)) life
-Backed l life id ourWatchdog = Within (Wrote l (IsWatchdog id)) life
-Backed l life id noRecord = Unit {0}
+Backed l life id own_version = Within (Wrote l (IsVersion id)) life
+Backed l life id own_watchdog = Within (Wrote l (IsWatchdog id)) life
+Backed l life id no_record = Unit {0}
 Backed l life id (the_record n) = Unit {0}
 
 abbrev pub BackedBy : ℕ → List Past → Awaited → Type 0
@@ -69,9 +69,9 @@ on p [] n e = n e
 on p (q ∷ life) n e = some_there e
 
 pub still_backed : (l : ℕ) (p : Past) (life : List Past) (id : Bytes) (message : Sent) → Backed l life id message → Backed l (going_on p life) id message
-still_backed l p life id ourVersion b = still p b
-still_backed l p life id ourWatchdog b = still p b
-still_backed l p life id noRecord b = b
+still_backed l p life id own_version b = still p b
+still_backed l p life id own_watchdog b = still p b
+still_backed l p life id no_record b = b
 still_backed l p life id (the_record n) b = b
 
 pub still_awaited : (l : ℕ) (p : Past) (life : List Past) {ids : List Awaited} → Each (BackedBy l life) ids → Each (BackedBy l (going_on p life)) ids

@@ -11,7 +11,7 @@ use Rattle.machine.specs.State.{Setup, Content, Alarm, Held, Machine, life_at, E
 use Rattle.machine.specs.State.Content.{of_alarm, of_status, of_aggregated}
 use Rattle.machine.specs.Json.{string_of, is_type, is_included, asks_for, element_is}
 use Rattle.machine.specs.Life.{is_greeting, is_beating, is_up, is_primary, oldest_unsent, pass_length, Due, due_up, due}
-use Rattle.machine.specs.Life.Due.{theVersion, theWatchdog, theAggregated, the_alarm, the_held}
+use Rattle.machine.specs.Life.Due.{the_version, the_watchdog, the_aggregated, the_alarm, the_held}
 use Rattle.machine.specs.Answers.{is_answer, wants_reply, replies_at_once, reason_of, fails_check}
 use Rattle.machine.specs.Items.{happens, subscribe, unsubscribe, commands}
 use Rattle.machine.specs.Messages.{record_message, included_message}
@@ -72,11 +72,11 @@ module _ (m : Machine) (alarms : Each (Fits m.setup) m.pool.held) (l t : ℕ) (i
   unfolding due due_up
   due_primary =
       let k = life_at m l in
-      picked (ByPrimary m l t id) (both (is_greeting k) (not k.versions.sent)) (some theVersion) _ (λ e. other theVersion refl)
-      (λ e. picked (ByPrimary m l t id) (both (is_beating k) (not k.watchdogs.sent)) (some theWatchdog) _ (λ e. other theWatchdog refl)
+      picked (ByPrimary m l t id) (both (is_greeting k) (not k.versions.sent)) (some the_version) _ (λ e. other the_version refl)
+      (λ e. picked (ByPrimary m l t id) (both (is_beating k) (not k.watchdogs.sent)) (some the_watchdog) _ (λ e. other the_watchdog refl)
       (λ e. picked (ByPrimary m l t id) (is_up k) _ none
-      (λ up. picked (ByPrimary m l t id) (leb (k.beat + 1000 * m.setup.period) t) (some theWatchdog) _ (λ e. other theWatchdog refl)
-      (λ e. picked (ByPrimary m l t id) (eqb k.pass 0) (some theAggregated) _ (λ e. other theAggregated refl)
+      (λ up. picked (ByPrimary m l t id) (leb (k.beat + 1000 * m.setup.period) t) (some the_watchdog) _ (λ e. other the_watchdog refl)
+      (λ e. picked (ByPrimary m l t id) (eqb k.pass 0) (some the_aggregated) _ (λ e. other the_aggregated refl)
       (λ e. picked (ByPrimary m l t id) (ltb k.pass (pass_length m l)) (some (the_alarm (k.pass - 1))) _ (λ f d g w. passes k.pass e f)
       (λ f. maybe_cases (ByPrimary m l t id) none _ (oldest_unsent m l) (λ g d h w. absurd (nothing d h)) held_by))))
       (λ n d f w. absurd (nothing d f))))
@@ -106,6 +106,7 @@ reply_alarm m t id j =
     (λ f. picked (λ (w : Message). is_alarm w ≡ true → is_type "Alarm" j ≡ true) (is_type "CommandRequest" j) _ _ (λ g w. not_both w refl) (λ g w. not_both w refl)))
 
 two : (w : Message) (a : Bytes) (v : Message) → Among w (ack a ∷ v ∷ []) → is_alarm w ≡ true → w ≡ v
+two w a v (later (later x7)) u = elim x7 [ ]
 two w a v first u = not_both u refl
 two w a v (later first) u = refl
 
@@ -118,12 +119,14 @@ alarm_replying l t id j e w =
     (λ h a u. absurd (only_ack w _ a u)))
   where
     only_ack : (w : Message) (a : Bytes) → Among w (ack a ∷ []) → is_alarm w ≡ true → ⊥
+    only_ack w a (later x4) u = elim x4 [ ]
     only_ack w a first u = not_both u refl
 
     responses : is_alarm (included_message e.leaves t j) ≡ false
     responses = picked (λ (v : Message). is_alarm v ≡ false) (is_included "CommandRequest" j) _ _ (λ c. refl) (λ c. refl)
 
     no_alarm_lem : (v w : Message) → is_alarm v ≡ false → Among w (v ∷ []) → is_alarm w ≡ true → ⊥
+    no_alarm_lem v w f (later x4) u = elim x4 [ ]
     no_alarm_lem v w f first u = not_both u f
 
 alarm_refuses : (l : ℕ) (j : Json) (m : Machine) (reason : String) (w : Message) → ToPrimary m l w (refuses l j m reason)
@@ -132,6 +135,7 @@ alarm_refuses l j m reason w =
     picked (ToPrimary m l w) (fails_check reason) _ _ (λ h a u. absurd (only_not_ack w _ _ a u)) (λ h a u. absurd (only_not_ack w _ _ a u))
   where
     only_not_ack : (w : Message) (a r : Bytes) → Among w (not_ack a r ∷ []) → is_alarm w ≡ true → ⊥
+    only_not_ack w a r (later x4) u = elim x4 [ ]
     only_not_ack w a r first u = not_both u refl
 
 -- an order leaves the setup

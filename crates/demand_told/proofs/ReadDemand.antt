@@ -104,6 +104,7 @@ nothing_formed w a = absurd (nobody a)
 
 sent_formed : (m : Machine) → Sane m → (l t : ℕ) (random : Bytes) → SixteenBytes random → t ≤ last_time → (d : Due) → due m l t ≡ some d → EachFormed (sends l t (own_identity random) m d)
 unfolding sends
+sent_formed m s l t random sixteen late d e w (later x3) = elim x3 [ ]
 sent_formed m s l t random sixteen late d e w here = due_formed m s l t (own_identity random) (sixteen_still random sixteen) late d e
 
 pump_formed : (m : Machine) → Sane m → (l t room : ℕ) (random : Bytes) → SixteenBytes random → first_of (conditions m t (pump l random room)) ≡ none

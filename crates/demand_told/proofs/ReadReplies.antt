@@ -167,9 +167,11 @@ abbrev pub EachFormed : Effect → Type 0
 EachFormed e = (w : Message) → Among w e.messages → Formed w
 
 one_formed : (v : Message) → Formed v → (w : Message) → Among w (v ∷ []) → Formed w
+one_formed v f w (later x3) = elim x3 [ ]
 one_formed v f w first = f
 
 two_formed : (u v : Message) → Formed u → Formed v → (w : Message) → Among w (u ∷ v ∷ []) → Formed w
+two_formed u v f g w (later (later x6)) = elim x6 [ ]
 two_formed u v f g w first = f
 two_formed u v f g w (later first) = g
 

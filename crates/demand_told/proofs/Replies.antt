@@ -28,6 +28,7 @@ first_no false x rest e = (refl, e)
 
 -- where none applies, each does not
 pub none_at : {A : Type 0} {k : Case A} (ks : List (Case A)) → first_of ks ≡ none → Among k ks → k.applies ≡ false
+none_at {A = A} {k = k} [] e x'' = elim x'' [ ]
 none_at (k ∷ ks) e first = (first_no k.applies k.gives (first_of ks) e).0
 none_at (x ∷ ks) e (later a) = none_at ks (first_no x.applies x.gives (first_of ks) e).1 a
 
@@ -103,9 +104,11 @@ asks m l j e = go (is_type "Alarm" j) _ (is_type "AggregatedStatusRequest" j) (i
 
 -- ---- what is told is a reply
 only_ack : (w : Message) (a : Bytes) → Among w (ack a ∷ []) → is_told w ≡ true → ⊥
+only_ack w a (later x4) u = elim x4 [ ]
 only_ack w a first u = not_both u refl
 
 only_not_ack : (w : Message) (a r : Bytes) → Among w (not_ack a r ∷ []) → is_told w ≡ true → ⊥
+only_not_ack w a r (later x4) u = elim x4 [ ]
 only_not_ack w a r first u = not_both u refl
 
 abbrev Telling : Message → Effect → Type 0 → Type 0

@@ -6,10 +6,10 @@ use Rattle.json_value.specs.Grammar.{Json}
 use Rattle.write_message.specs.Message.Message.{version, watchdog}
 use Rattle.machine.specs.Words.{Bytes, maybe}
 use Rattle.machine.specs.State.{Sent, Awaited, Life, Machine, alarm_at}
-use Rattle.machine.specs.State.Sent.{ourVersion, ourWatchdog, noRecord, the_record}
+use Rattle.machine.specs.State.Sent.{own_version, own_watchdog, no_record, the_record}
 use Rattle.machine.specs.Json.{string_of, element_is, is_type, is_identity_of}
 use Rattle.machine.specs.Life.{now_taken, with_watchdogs, with_awaited, awaiting, answered_to, alarm_in, same_alarm, newest, carries, carried_by, Due}
-use Rattle.machine.specs.Life.Due.{theVersion, theWatchdog, theAggregated, the_alarm, the_held}
+use Rattle.machine.specs.Life.Due.{the_version, the_watchdog, the_aggregated, the_alarm, the_held}
 use Rattle.machine.specs.Effects.{due_message, sent_as, after_sending, acknowledges, agreed}
 use Rattle.machine.specs.Run.{Past}
 use Rattle.demand_held.proofs.Lists.{maybe_cases, Each, each_append, each_but_first}
@@ -44,8 +44,8 @@ module _ (u : Machine) (l : ℕ) (k : Life) (life : List Past) (kept : Kept u l 
   carried_backed : (m : Machine) (i : ℕ) (id : Bytes) → Backed l (going_on p life) id (carried_by m l i)
   unfolding carried_by
   carried_backed m i id =
-      maybe_cases (Backed l (going_on p life) id) noRecord (carries (alarm_at m i) i) (newest l i none m.pool.held) (λ e. tt)
-      (λ h e. picked (Backed l (going_on p life) id) (maybe false (same_alarm (alarm_at m i)) (alarm_in i h.content)) (the_record h.sequence) noRecord (λ f. tt) (λ f. tt))
+      maybe_cases (Backed l (going_on p life) id) no_record (carries (alarm_at m i) i) (newest l i none m.pool.held) (λ e. tt)
+      (λ h e. picked (Backed l (going_on p life) id) (maybe false (same_alarm (alarm_at m i)) (alarm_in i h.content)) (the_record h.sequence) no_record (λ f. tt) (λ f. tt))
 
   same_life : Goal k
   same_life = goes_on_lem p kept
@@ -53,7 +53,7 @@ module _ (u : Machine) (l : ℕ) (k : Life) (life : List Past) (kept : Kept u l 
   -- their MessageAck of one of ours, or any answer to another
   pub acked : (id : Bytes) (j : Json) → Came l j p → element_is "mType" "rSMsg" j ≡ true → is_identity_of id (string_of "oMId" j) ≡ true
       → (message : Sent) → Backed l life id message → Goal (acknowledges (is_type "MessageAck" j) message k)
-  acked id j c marked own ourVersion b =
+  acked id j c marked own own_version b =
       picked Goal (is_type "MessageAck" j) _ k
       (λ e. record {
         there = same_life.there;
@@ -64,7 +64,7 @@ module _ (u : Machine) (l : ℕ) (k : Life) (life : List Past) (kept : Kept u l 
         awaited = same_life.awaited;
       })
       (λ e. same_life)
-  acked id j c marked own ourWatchdog b =
+  acked id j c marked own own_watchdog b =
       picked Goal (is_type "MessageAck" j) _ k
       (λ e. record {
         there = same_life.there;
@@ -75,7 +75,7 @@ module _ (u : Machine) (l : ℕ) (k : Life) (life : List Past) (kept : Kept u l 
         awaited = same_life.awaited;
       })
       (λ e. same_life)
-  acked id j c marked own noRecord b = same_life
+  acked id j c marked own no_record b = same_life
   acked id j c marked own (the_record n) b = same_life
 
   -- theirs is accepted, or taken
@@ -103,17 +103,17 @@ module _ (u : Machine) (l : ℕ) (k : Life) (life : List Past) (kept : Kept u l 
 
   -- ours goes out
   pub sent : (t : ℕ) (d : Due) → Goal (after_sending t d k)
-  sent t theVersion = alike (after_sending t theVersion k) same_life refl refl refl refl refl refl refl
-  sent t theWatchdog = alike (after_sending t theWatchdog k) same_life refl refl refl refl refl refl refl
-  sent t theAggregated = alike (after_sending t theAggregated k) same_life refl refl refl refl refl refl refl
+  sent t the_version = alike (after_sending t the_version k) same_life refl refl refl refl refl refl refl
+  sent t the_watchdog = alike (after_sending t the_watchdog k) same_life refl refl refl refl refl refl refl
+  sent t the_aggregated = alike (after_sending t the_aggregated k) same_life refl refl refl refl refl refl refl
   sent t (the_alarm i) = alike (after_sending t (the_alarm i) k) same_life refl refl refl refl refl refl refl
   sent t (the_held h) = same_life
 
   pub waits : (id : Bytes) (m : Machine) (t : ℕ) (d : Due) → link_of p.call.act ≡ some l → messages_of p.gave ≡ due_message m t id d ∷ []
       → Backed l (going_on p life) id (sent_as m l d)
-  waits id m t theVersion f e = now p life lives (wrote {w = version id m.setup.table.site m.setup.table.sxl} f (rw e first) is_version)
-  waits id m t theWatchdog f e = now p life lives (wrote {w = watchdog id t} f (rw e first) is_watchdog)
-  waits id m t theAggregated f e = tt
+  waits id m t the_version f e = now p life lives (wrote {w = version id m.setup.table.site m.setup.table.sxl} f (rw e first) is_version)
+  waits id m t the_watchdog f e = now p life lives (wrote {w = watchdog id t} f (rw e first) is_watchdog)
+  waits id m t the_aggregated f e = tt
   waits id m t (the_alarm i) f e = carried_backed m i id
   waits id m t (the_held h) f e = tt
 

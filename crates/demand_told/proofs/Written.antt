@@ -9,7 +9,7 @@ use Rattle.machine.specs.State.{Content, Awaited, Machine, life_at, Effect, only
 use Rattle.machine.specs.State.Content.{of_alarm, of_status, of_aggregated}
 use Rattle.machine.specs.Json.{string_of, is_type, is_included}
 use Rattle.machine.specs.Life.{is_greeting, is_beating, is_up, Due, due_up, due, awaited_by}
-use Rattle.machine.specs.Life.Due.{theVersion, theWatchdog, theAggregated, the_alarm, the_held}
+use Rattle.machine.specs.Life.Due.{the_version, the_watchdog, the_aggregated, the_alarm, the_held}
 use Rattle.machine.specs.Answers.{is_answer, wants_reply, replies_at_once, reason_of, fails_check}
 use Rattle.machine.specs.Messages.{record_message}
 use Rattle.machine.specs.Effects.{answer_closes, closes, due_message, answers, answered, refuses, carried_out, reply_message, replying, receives}
@@ -24,9 +24,9 @@ record_no_answer t id (of_status i v old time) = refl
 record_no_answer t id (of_aggregated v time) = refl
 
 pub due_no_answer : (m : Machine) (t : ℕ) (id : Bytes) (d : Due) → is_an_answer (due_message m t id d) ≡ false
-due_no_answer m t id theVersion = refl
-due_no_answer m t id theWatchdog = refl
-due_no_answer m t id theAggregated = refl
+due_no_answer m t id the_version = refl
+due_no_answer m t id the_watchdog = refl
+due_no_answer m t id the_aggregated = refl
 due_no_answer m t id (the_alarm i) = refl
 due_no_answer m t id (the_held h) = record_no_answer m.setup.table id h.content
 
@@ -37,10 +37,10 @@ ToldUp m l t id o = (d : Due) → o ≡ some d → is_told (due_message m t id d
 pub due_up_lem : (m : Machine) (l t : ℕ) (id : Bytes) → ToldUp m l t id (due m l t)
 unfolding due
 due_up_lem m l t id =
-    picked (ToldUp m l t id) (both (is_greeting (life_at m l)) (not (life_at m l).versions.sent)) (some theVersion) _
-    (λ e d f u. silent theVersion d f refl u)
-    (λ e. picked (ToldUp m l t id) (both (is_beating (life_at m l)) (not (life_at m l).watchdogs.sent)) (some theWatchdog) _
-    (λ e d f u. silent theWatchdog d f refl u)
+    picked (ToldUp m l t id) (both (is_greeting (life_at m l)) (not (life_at m l).versions.sent)) (some the_version) _
+    (λ e d f u. silent the_version d f refl u)
+    (λ e. picked (ToldUp m l t id) (both (is_beating (life_at m l)) (not (life_at m l).watchdogs.sent)) (some the_watchdog) _
+    (λ e d f u. silent the_watchdog d f refl u)
     (λ e. picked (ToldUp m l t id) (is_up (life_at m l)) (due_up m l t (life_at m l)) none (λ up d f u. up) (λ n d f u. absurd (nothing d f))))
   where
     same : (x d : Due) → some x ≡ some d → x ≡ d

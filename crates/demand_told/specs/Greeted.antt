@@ -7,7 +7,7 @@ use Rattle.json_value.specs.Grammar.{Json}
 use Rattle.write_message.specs.Message.{Message}
 use Rattle.write_message.specs.Message.Message.{version, watchdog, ack}
 use Rattle.write_message.specs.Listing.{offered}
-use Rattle.machine.specs.Words.{Bytes, if◌then◌else◌}
+use Rattle.machine.specs.Words.{Bytes, if'◌then◌else◌}
 use Rattle.machine.specs.State.{Command, Machine}
 use Rattle.machine.specs.State.Act.{packet}
 use Rattle.machine.specs.State.Outcome.{done}
@@ -56,7 +56,7 @@ pub data Theirs (j : Json) (v : List ℕ) : Type 0 where
 abbrev pub not_later : List ℕ → List ℕ → Bool
 not_later [] vs = true
 not_later (w ∷ ws) [] = false
-not_later (w ∷ ws) (v ∷ vs) = if eqb w v then not_later ws vs else ltb w v
+not_later (w ∷ ws) (v ∷ vs) = if' eqb w v then not_later ws vs else ltb w v
 
 -- "the latest common one is chosen"
 pub record Chosen (j : Json) (v : List ℕ) : Type 0 where

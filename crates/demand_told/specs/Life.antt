@@ -2,7 +2,7 @@
 -- Assumes nothing.
 use Rattle.std.specs.Prelude.{ℕ, Bool, true, false, List, [], ◌∷◌, eqb}
 use Rattle.std.proofs.Math.Option.{Option, some, none}
-use Rattle.machine.specs.Words.{if◌then◌else◌, ◌and◌, is_number, any}
+use Rattle.machine.specs.Words.{if'◌then◌else◌, ◌and◌, is_number, any}
 use Rattle.machine.specs.State.{Act, Outcome}
 use Rattle.machine.specs.State.Act.{connect, disconnect, packet, alarm_input, status_value, aggregated_value, tick, pump}
 use Rattle.machine.specs.State.Outcome.{refused, done}
@@ -40,7 +40,7 @@ going_on p [] = []
 going_on p (q ∷ life) = p ∷ q ∷ life
 
 abbrev pub lived : ℕ → Past → List Past → List Past
-lived l p life = if opens l p then p ∷ [] else if ends l p then [] else going_on p life
+lived l p life = if' opens l p then p ∷ [] else if' ends l p then [] else going_on p life
 
 abbrev pub this_life : ℕ → List Past → List Past
 this_life l [] = []

@@ -4,7 +4,7 @@ use Rattle.basis.proofs.Std.{ℕ, ◌≤◌, ◌<◌, ◌≡◌, refl, sym, ◌�
 use Rattle.basis.specs.Lists.Among.{first, later}
 use Rattle.machine.specs.Words.{is_number, any}
 use Rattle.machine.specs.State.{Issued, issued_for, Held, held_as, Sent, Start, Machine, life_at, Act, Call}
-use Rattle.machine.specs.State.Sent.{ourVersion, ourWatchdog, noRecord, the_record}
+use Rattle.machine.specs.State.Sent.{own_version, own_watchdog, no_record, the_record}
 use Rattle.machine.specs.State.Act.{connect, disconnect, packet, alarm_input, status_value, aggregated_value, tick, pump}
 use Rattle.machine.specs.Pool.{issue_all}
 use Rattle.machine.specs.Effects.{closes, late, ticks, carried, effect_of}
@@ -69,9 +69,9 @@ module _ (l : ℕ) (x : Held) (hs : List Held) (o : Over l x.sequence hs) where
   sixteen = omega (arith, o.none, o.many, newer_older l x.sequence hs)
 
 is_record : {n : ℕ} (v : Sent) → carried v ≡ some n → v ≡ the_record n
-is_record ourVersion e = absurd (let z : ◌≡◌ {A = ℕ} 0 1 = cc in omega arith)
-is_record ourWatchdog e = absurd (let z : ◌≡◌ {A = ℕ} 0 1 = cc in omega arith)
-is_record noRecord e = absurd (let z : ◌≡◌ {A = ℕ} 0 1 = cc in omega arith)
+is_record own_version e = absurd (let z : ◌≡◌ {A = ℕ} 0 1 = cc in omega arith)
+is_record own_watchdog e = absurd (let z : ◌≡◌ {A = ℕ} 0 1 = cc in omega arith)
+is_record no_record e = absurd (let z : ◌≡◌ {A = ℕ} 0 1 = cc in omega arith)
 is_record (the_record n) e = cc
 
 same_held : (x y : Held) → y.link ≡ x.link → y.content ≡ x.content → y.sequence ≡ x.sequence → y.sent ≡ x.sent

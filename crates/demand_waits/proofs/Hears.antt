@@ -6,7 +6,7 @@ use Rattle.json_value.specs.Grammar.{Json}
 use Rattle.write_message.specs.Message.{Message}
 use Rattle.machine.specs.Words.{Bytes, any, or_else}
 use Rattle.machine.specs.State.{Alarm, Awaited, Life, Machine, with_life, life_at, Effect, only}
-use Rattle.machine.specs.State.Sent.{noRecord}
+use Rattle.machine.specs.State.Sent.{no_record}
 use Rattle.machine.specs.Json.{read_packet, string_of, is_type, asks_for, is_identity_of}
 use Rattle.machine.specs.Life.{is_up, now_taken, with_watchdogs, common, awaited_by, awaiting, answered_to}
 use Rattle.machine.specs.Answers.{is_answer, wants_reply, replies_at_once, reason_of, fails_check}
@@ -121,7 +121,7 @@ module _ (m : Machine) (l : ℕ) (up : is_up (life_at m l) ≡ true) where
         (λ w c. record { life = there (h c); fewer = (h c).fewer })
         (λ w c. record { life = (h c).life; fewer = (h c).fewer }))
       where
-        replied : Hears e → Like (awaiting id t noRecord (life_at e.leaves l))
+        replied : Hears e → Like (awaiting id t no_record (life_at e.leaves l))
         replied h =
             record {
               still_up = h.life.still_up;
@@ -129,8 +129,8 @@ module _ (m : Machine) (l : ℕ) (up : is_up (life_at m l) ≡ true) where
               awaited = λ n w. h.life.awaited n (awaits_old (life_at e.leaves l).awaited _ refl w);
             }
 
-        there : Hears e → Like (life_at (with_life l (awaiting id t noRecord (life_at e.leaves l)) e.leaves) l)
-        there h = rw (set_got l (awaiting id t noRecord (life_at e.leaves l)) e.leaves.lives (up_connected (life_at e.leaves l) h.life.still_up)) (replied h)
+        there : Hears e → Like (life_at (with_life l (awaiting id t no_record (life_at e.leaves l)) e.leaves) l)
+        there h = rw (set_got l (awaiting id t no_record (life_at e.leaves l)) e.leaves.lives (up_connected (life_at e.leaves l) h.life.still_up)) (replied h)
 
     hears_received : Open (receives l t id m j)
     unfolding receives

@@ -3,11 +3,11 @@
 use Rattle.basis.proofs.Std.{ℕ, suc, ◌+◌, ◌-◌, ◌≤◌, ◌<◌, ◌≡◌, refl, sym, ◌∙◌, ap, true, false, not, List, [], ◌∷◌, some, none, ◌⊎◌, inl, inr, eqb, ltb, arith, eq-eqb, eqb-true, le-leb, ltb-true, both, bit, count, Among, bool_cases, eq_or_ne, lt_or_ge, both_true, both_false}
 use Rattle.machine.specs.Words.{Bytes, maybe}
 use Rattle.machine.specs.State.{Held, Sent, Life, Start, Machine, life_at, alarm_at, Call, Outcome}
-use Rattle.machine.specs.State.Sent.{noRecord, the_record}
+use Rattle.machine.specs.State.Sent.{no_record, the_record}
 use Rattle.machine.specs.State.Act.{pump}
 use Rattle.machine.specs.State.Outcome.{done}
 use Rattle.machine.specs.Life.{same_alarm, alarm_in, carried_by, pass_length, awaiting, Due, due}
-use Rattle.machine.specs.Life.Due.{theWatchdog, theAggregated, the_alarm, the_held}
+use Rattle.machine.specs.Life.Due.{the_watchdog, the_aggregated, the_alarm, the_held}
 use Rattle.machine.specs.Messages.{record_message}
 use Rattle.machine.specs.Effects.{own_identity, due_message, sent_as, after_sending, sends}
 use Rattle.machine.specs.Step.{number_of, after, step}
@@ -94,17 +94,17 @@ module _ (l : ℕ) (x : Held) where
     own_one : (y : Held) → Among y m.pool.held → x.sequence ≡ y.sequence → x ≡ y
     own_one y a e = one_number (run_sound r).good.own.rising w.held a e
 
-    watchdog_turn : due m l t ≡ some theWatchdog → Next m this
+    watchdog_turn : due m l t ≡ some the_watchdog → Next m this
     watchdog_turn is =
-        on (waits_on theWatchdog is (rw (held_is theWatchdog is) w.held))
-        (omega (arith, bit_false (is_counted l (past m this)) uncounted, same_passes r this l, pass_is theWatchdog is, ap (count (is_before l x.sequence)) (held_is theWatchdog is)))
+        on (waits_on the_watchdog is (rw (held_is the_watchdog is) w.held))
+        (omega (arith, bit_false (is_counted l (past m this)) uncounted, same_passes r this l, pass_is the_watchdog is, ap (count (is_before l x.sequence)) (held_is the_watchdog is)))
       where
         uncounted : is_counted l (past m this) ≡ false
-        uncounted = rw (gave theWatchdog is) (both_false (eqb l l))
+        uncounted = rw (gave the_watchdog is) (both_false (eqb l l))
 
-    aggregated_turn : due m l t ≡ some theAggregated → (life_at m l).pass < pass_length m l → Next m this
+    aggregated_turn : due m l t ≡ some the_aggregated → (life_at m l).pass < pass_length m l → Next m this
     aggregated_turn is left =
-        passing theAggregated is refl left (rw (held_is theAggregated is) w.held) (rw (held_is theAggregated is) (omega arith))
+        passing the_aggregated is refl left (rw (held_is the_aggregated is) w.held) (rw (held_is the_aggregated is) (omega arith))
 
     alarm_turn : (i : ℕ) → due m l t ≡ some (the_alarm i) → (life_at m l).pass < pass_length m l → Next m this
     alarm_turn i is left = go (carried_by m l i) refl (carries_what m l i)
@@ -121,7 +121,7 @@ module _ (l : ℕ) (x : Held) where
             (rw (held_now (the_record y.sequence) f) (count_marked l y.sequence x.sequence m.pool.held))
 
         go : (v : Sent) → carried_by m l i ≡ v → Carries m l i v → Next m this
-        go v f nothing = passing (the_alarm i) is refl left (rw (held_now noRecord f) w.held) (rw (held_now noRecord f) (omega arith))
+        go v f nothing = passing (the_alarm i) is refl left (rw (held_now no_record f) w.held) (rw (held_now no_record f) (omega arith))
         go v f (one y a same) = by y a same f (eq_or_ne x.sequence y.sequence)
 
     record_turn : (o : Oldest (λ (y : Held). both (eqb y.link l) (not y.sent)) x m.pool.held) → due m l t ≡ some (the_held o.one) → Next m this

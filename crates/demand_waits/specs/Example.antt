@@ -8,7 +8,7 @@ use Rattle.machine.specs.Words.{maybe}
 use Rattle.machine.specs.State.{alarm_of, Held, held_as, pool_of, Sent, Start, Machine, machine, life_at, Call}
 use Rattle.machine.specs.State.Event.{Issue}
 use Rattle.machine.specs.State.Content.{of_alarm, of_aggregated}
-use Rattle.machine.specs.State.Sent.{ourWatchdog, noRecord, the_record}
+use Rattle.machine.specs.State.Sent.{own_watchdog, no_record, the_record}
 use Rattle.machine.specs.State.Act.{aggregated_value, pump}
 use Rattle.machine.specs.Table.{first}
 use Rattle.machine.specs.Box.{Box, box, empty_box, site_of, Turn, turned_all}
@@ -120,21 +120,21 @@ pub record Computed : Type 0 where
   pub three_stays : Stays 0 0 (alone three) five_pumps
   pub bound_five : bound three 0 third ≡ 5
   pub four_counted : pumps 0 0 (alone three) four_pumps ≡ 4
-  pub not_by_the_fourth : carrying (turned_all four_pumps (alone three)) ≡ noRecord ∷ noRecord ∷ ourWatchdog ∷ the_record 0 ∷ the_record 2 ∷ []
+  pub not_by_the_fourth : carrying (turned_all four_pumps (alone three)) ≡ no_record ∷ no_record ∷ own_watchdog ∷ the_record 0 ∷ the_record 2 ∷ []
   pub five_counted : pumps 0 0 (alone three) five_pumps ≡ 5
-  pub by_the_fifth : carrying (turned_all five_pumps (alone three)) ≡ noRecord ∷ noRecord ∷ ourWatchdog ∷ the_record 0 ∷ the_record 2 ∷ the_record 4 ∷ []
+  pub by_the_fifth : carrying (turned_all five_pumps (alone three)) ≡ no_record ∷ no_record ∷ own_watchdog ∷ the_record 0 ∷ the_record 2 ∷ the_record 4 ∷ []
   -- on a secondary by the third
   pub two_played : Played two_values
   pub two_held : turned_all two_values empty_box ≡ alone two
   pub two_waits : Waits 0 second two
   pub bound_three : bound two 0 second ≡ 3
   pub three_counted : pumps 0 0 (alone two) three_pumps ≡ 3
-  pub by_the_third : carrying (turned_all three_pumps (alone two)) ≡ noRecord ∷ the_record 0 ∷ the_record 2 ∷ []
+  pub by_the_third : carrying (turned_all three_pumps (alone two)) ≡ no_record ∷ the_record 0 ∷ the_record 2 ∷ []
   -- sooner, where the pass carries it
   pub alarm_played : Played alarmed
   pub alarm_held : turned_all alarmed empty_box ≡ alone holding
   pub bound_four : bound holding 0 (held_as 0 (of_alarm 0 (alarm_of true false false Issue noon)) 2 false) ≡ 4
-  pub by_the_second : carrying (turned_all two_pumps (alone holding)) ≡ noRecord ∷ the_record 2 ∷ []
+  pub by_the_second : carrying (turned_all two_pumps (alone holding)) ≡ no_record ∷ the_record 2 ∷ []
   -- 64 newer ones push it out, 63 do not
   pub crowded_played : Played (crowded 64)
   pub kept_by_63 : holds_first (turned_all (crowded 63) empty_box) ≡ 1

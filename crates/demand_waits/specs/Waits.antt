@@ -7,7 +7,7 @@ use Rattle.std.proofs.Math.Option.{some, none}
 use Rattle.basis.specs.Lists.{count, Among}
 use Rattle.write_message.specs.Message.{Message}
 use Rattle.write_message.specs.Message.Message.{version, watchdog, ack, not_ack, alarm, aggregated, statuses, included}
-use Rattle.machine.specs.Words.{Bytes, if◌then◌else◌, ◌and◌, maybe, is_some, any}
+use Rattle.machine.specs.Words.{Bytes, if'◌then◌else◌, ◌and◌, maybe, is_some, any}
 use Rattle.machine.specs.State.{issued_for, Held, Machine, life_at, Act, Call}
 use Rattle.machine.specs.State.Sent.{the_record}
 use Rattle.machine.specs.State.Act.{connect, disconnect, packet, alarm_input, status_value, aggregated_value, tick, pump}
@@ -57,11 +57,11 @@ counts k l b (calls i c) = eqb i k and maybe false (λ m. is_counted l (past m c
 
 abbrev pub pumps : ℕ → ℕ → Box → List Turn → ℕ
 pumps k l b [] = 0
-pumps k l b (t ∷ ts) = (if counts k l b t then 1 else 0) + pumps k l (turned t b) ts
+pumps k l b (t ∷ ts) = (if' counts k l b t then 1 else 0) + pumps k l (turned t b) ts
 
 -- ---- "2 + A + K"
 abbrev pub alarms_for : Machine → ℕ → ℕ
-alarms_for m l = if is_primary m l then length m.setup.table.alarms else 0
+alarms_for m l = if' is_primary m l then length m.setup.table.alarms else 0
 
 abbrev pub older_unsent : Machine → ℕ → Held → ℕ
 older_unsent m l x = count (λ (h : Held). is_for l h and not h.sent and ltb h.sequence x.sequence) m.pool.held

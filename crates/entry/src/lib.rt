@@ -1,4 +1,6 @@
 // The record: its fields in sixteen bytes and out again.
+#![tactic(auto)]
+
 ghost use Rattle.std.specs.Prelude.{◌≡◌, [], ◌∷◌, ℕ, ◌+◌, ◌*◌, ◌/◌, ◌%◌, ◌^◌, ◌≤◌, ◌<◌};
 ghost use Rattle.bits.specs.Fields.{field_of, joined, split, number_of};
 ghost use Rattle.entry.specs.Layout.{bytes_of, entry_of, widths};
@@ -15,7 +17,7 @@ pub const AGGREGATED: u16 = 2;
 
 // value is the word of 32 bits, a status's in two's complement.
 #[repr(C)]
-#[derive(Drop)]
+#[derive(Clone, Copy)]
 pub struct Entry {
     pub time: u64,
     pub value: u32,
@@ -27,12 +29,12 @@ pub struct Entry {
 }
 
 #[repr(C)]
-#[derive(Drop)]
+#[derive(Clone, Copy)]
 pub struct Packed {
     pub bytes: [u8; 16],
 }
 
-#[derive(Drop)]
+#[derive(Clone, Copy)]
 pub enum Unpacked {
     Accepted(Entry),
     Refused(answer::Refusal),

@@ -1,9 +1,9 @@
--- What the exported functions' own contracts allow: each constructor cites the contract of the function of its name. The host lends the pool's words,
--- which go from ps to qs, a site's, which go from ws to vs, and the bytes ts of its table.
+-- What the exported functions' contracts allow: each constructor cites the contract of sitec's function of its name, which sitec_c exports with the same
+-- clauses. The host lends the pool's words, which go from ps to qs, a site's, which go from ws to vs, and the bytes ts of its table.
 -- Assumes nothing.
 use Rattle.std.specs.Prelude.{ℕ, zero, suc, ◌/◌, ◌%◌, ◌^◌, ◌<◌, ◌≡◌, List, [], ◌∷◌, map, ltb, ℤ, length, take}
 use contract.Lifetimes.{Lfts}
-use Rattle.std.specs.Borrow.{Bor}
+use Rattle.std.specs.Borrow.{Bor, MutBor}
 use denote.Triple.Clauses.{AtExit}
 use borrow.Fn.Kinds.{ended_of}
 use Rattle.number.specs.Signed.{signed_of}
@@ -68,39 +68,39 @@ lends t act output = call (record { time = t; act = act (length output) }) outpu
 
 -- a packet call, whatever the lengths of what is lent: table, pool and words, the words lent for commands, the output; and all four afterwards
 pub data Packets : Bytes → List ℕ → List ℕ → List ℕ → Bytes → Outcome → List ℕ → List ℕ → List ℕ → Bytes → Type 0 where
-  packet_call : (κs : Lfts 6) (p w table : Bor (List ℕ)) (l t : ℕ) (random : Identity) (received commands out : Bor (List ℕ)) (o : Outcome) (e : AtExit (ended_of 6 packet_kinds.ps packet_kinds.r) κs)
+  packet_call : (κs : Lfts 6) (p w : MutBor (List ℕ)) (table : Bor (List ℕ)) (l t : ℕ) (random : Identity) (received : Bor (List ℕ)) (commands out : MutBor (List ℕ)) (o : Outcome) (e : AtExit (ended_of 6 packet_kinds.ps packet_kinds.r) κs)
       → rsmp_packet.Learnt κs (p, (w, (table, (l, (t, (random, (received, (commands, (out, tt))))))))) o e
       → Packets table.now p.now w.now commands.now out.now o e.0.now e.1.0.now e.1.1.1.1.1.1.1.0.now e.1.1.1.1.1.1.1.1.0.now
 
 -- pool, words and table before; the bytes of a site table and the start values; what is handed out; pool, words and table afterwards
 pub data Starts : List ℕ → List ℕ → Bytes → Bytes → ℕ → ℕ → ℕ → ℕ → ℕ → ℕ → Outcome → List ℕ → List ℕ → Bytes → Type 0 where
-  starts : (κs : Lfts 4) (p w t table : Bor (List ℕ)) (site links primary period first time : ℕ) (o : Outcome) (e : AtExit (ended_of 4 start_kinds.ps start_kinds.r) κs)
+  starts : (κs : Lfts 4) (p w t : MutBor (List ℕ)) (table : Bor (List ℕ)) (site links primary period first time : ℕ) (o : Outcome) (e : AtExit (ended_of 4 start_kinds.ps start_kinds.r) κs)
       → rsmp_start.Learnt κs (p, (w, (t, (table, (site, (links, (primary, (period, (first, (time, tt)))))))))) o e
       → Starts p.now w.now t.now table.now site links primary period first time o e.0.now e.1.0.now e.1.1.0.now
 
 -- table, pool and words, an ask, what a host sees of it, and the pool and the words afterwards
 pub data Allows : Bytes → List ℕ → List ℕ → Ask → Seen → List ℕ → List ℕ → Type 0 where
-  connects : {ts : Bytes} (κs : Lfts 2) (p w : Bor (List ℕ)) (l t : ℕ) (o : Outcome) (e : AtExit (ended_of 2 connect_kinds.ps connect_kinds.r) κs)
+  connects : {ts : Bytes} (κs : Lfts 2) (p : Bor (List ℕ)) (w : MutBor (List ℕ)) (l t : ℕ) (o : Outcome) (e : AtExit (ended_of 2 connect_kinds.ps connect_kinds.r) κs)
       → rsmp_connect.Learnt κs (p, (w, (l, (t, tt)))) o e → Allows ts p.now w.now (calls t (connect l)) (outcome_seen [] o) p.now e.1.0.now
-  disconnects : {ts : Bytes} (κs : Lfts 2) (p w : Bor (List ℕ)) (l t : ℕ) (o : Outcome) (e : AtExit (ended_of 2 disconnect_kinds.ps disconnect_kinds.r) κs)
+  disconnects : {ts : Bytes} (κs : Lfts 2) (p w : MutBor (List ℕ)) (l t : ℕ) (o : Outcome) (e : AtExit (ended_of 2 disconnect_kinds.ps disconnect_kinds.r) κs)
       → rsmp_disconnect.Learnt κs (p, (w, (l, (t, tt)))) o e → Allows ts p.now w.now (calls t (disconnect l)) (outcome_seen [] o) e.0.now e.1.0.now
   -- sixteen words are lent for its commands
-  packets : (κs : Lfts 6) (p w table : Bor (List ℕ)) (l t : ℕ) (random : Identity) (received commands out : Bor (List ℕ)) (o : Outcome) (e : AtExit (ended_of 6 packet_kinds.ps packet_kinds.r) κs)
+  packets : (κs : Lfts 6) (p w : MutBor (List ℕ)) (table : Bor (List ℕ)) (l t : ℕ) (random : Identity) (received : Bor (List ℕ)) (commands out : MutBor (List ℕ)) (o : Outcome) (e : AtExit (ended_of 6 packet_kinds.ps packet_kinds.r) κs)
       → rsmp_packet.Learnt κs (p, (w, (table, (l, (t, (random, (received, (commands, (out, tt))))))))) o e → length commands.now ≡ 16
       → Allows table.now p.now w.now (lends t (packet l random.bytes received.now) out.now)
       (packet_seen e.1.1.1.1.1.1.1.1.0.now e.1.1.1.1.1.1.1.0.now o) e.0.now e.1.0.now
   -- active where it is not 0
-  alarms : (κs : Lfts 3) (p w table : Bor (List ℕ)) (i active t : ℕ) (o : Outcome) (e : AtExit (ended_of 3 alarm_kinds.ps alarm_kinds.r) κs)
+  alarms : (κs : Lfts 3) (p w : MutBor (List ℕ)) (table : Bor (List ℕ)) (i active t : ℕ) (o : Outcome) (e : AtExit (ended_of 3 alarm_kinds.ps alarm_kinds.r) κs)
       → rsmp_alarm.Learnt κs (p, (w, (table, (i, (active, (t, tt)))))) o e
       → Allows table.now p.now w.now (calls t (alarm_input i (ltb 0 active))) (outcome_seen [] o) e.0.now e.1.0.now
-  statuses : (κs : Lfts 3) (p w table : Bor (List ℕ)) (i : ℕ) (v : ℤ) (t : ℕ) (o : Outcome) (e : AtExit (ended_of 3 status_kinds.ps status_kinds.r) κs)
+  statuses : (κs : Lfts 3) (p w : MutBor (List ℕ)) (table : Bor (List ℕ)) (i : ℕ) (v : ℤ) (t : ℕ) (o : Outcome) (e : AtExit (ended_of 3 status_kinds.ps status_kinds.r) κs)
       → rsmp_status.Learnt κs (p, (w, (table, (i, (v, (t, tt)))))) o e
       → Allows table.now p.now w.now (calls t (status_value i v)) (outcome_seen [] o) e.0.now e.1.0.now
-  aggregates : {ts : Bytes} (κs : Lfts 2) (p w : Bor (List ℕ)) (v t : ℕ) (o : Outcome) (e : AtExit (ended_of 2 aggregated_kinds.ps aggregated_kinds.r) κs)
+  aggregates : {ts : Bytes} (κs : Lfts 2) (p w : MutBor (List ℕ)) (v t : ℕ) (o : Outcome) (e : AtExit (ended_of 2 aggregated_kinds.ps aggregated_kinds.r) κs)
       → rsmp_aggregated.Learnt κs (p, (w, (v, (t, tt)))) o e → Allows ts p.now w.now (calls t (aggregated_value v)) (outcome_seen [] o) e.0.now e.1.0.now
-  ticks : {ts : Bytes} (κs : Lfts 2) (p w : Bor (List ℕ)) (t : ℕ) (o : Outcome) (e : AtExit (ended_of 2 tick_kinds.ps tick_kinds.r) κs)
+  ticks : {ts : Bytes} (κs : Lfts 2) (p w : MutBor (List ℕ)) (t : ℕ) (o : Outcome) (e : AtExit (ended_of 2 tick_kinds.ps tick_kinds.r) κs)
       → rsmp_tick.Learnt κs (p, (w, (t, tt))) o e → Allows ts p.now w.now (calls t tick) (outcome_seen [] o) e.0.now e.1.0.now
-  pumps : (κs : Lfts 4) (p w table : Bor (List ℕ)) (l t : ℕ) (random : Identity) (out : Bor (List ℕ)) (o : Outcome) (e : AtExit (ended_of 4 pump_kinds.ps pump_kinds.r) κs)
+  pumps : (κs : Lfts 4) (p w : MutBor (List ℕ)) (table : Bor (List ℕ)) (l t : ℕ) (random : Identity) (out : MutBor (List ℕ)) (o : Outcome) (e : AtExit (ended_of 4 pump_kinds.ps pump_kinds.r) κs)
       → rsmp_pump.Learnt κs (p, (w, (table, (l, (t, (random, (out, tt))))))) o e
       → Allows table.now p.now w.now (lends t (pump l random.bytes) out.now) (outcome_seen e.1.1.1.1.1.1.0.now o) e.0.now e.1.0.now
   reads_held : {ts : Bytes} (κs : Lfts 2) (p w : Bor (List ℕ)) (l n : ℕ) (e : AtExit (ended_of 2 held_kinds.ps held_kinds.r) κs)

@@ -80,22 +80,22 @@ pub record Equation : Type 0 where
   -- where it stays alone the box shows what its machine does
   pub one_site : (x : Machine) (more : List Ask) → BoxShows (box (some x) none) (map (ask_of 0) more) (shows_all x more)
   -- "All but 0 change nothing: state, last time and lent bytes stay", whatever the memory holds and however long it is; nothing but the number is told
-  pub refused : (ts : Bytes) (ps ws : List ℕ) (c : Call) (output : Bytes) (o : Outcome) (after-bytes : Bytes) (commands : List Command) (qs vs : List ℕ)
-      → Allows ts ps ws (call c output) (told o after-bytes commands) qs vs → (o.number ≡ 0 → ⊥)
-      → (qs ≡ ps) × (vs ≡ ws) × (told o after-bytes commands ≡ tells output (refuses o.number))
+  pub refused : (ts : Bytes) (ps ws : List ℕ) (c : Call) (output : Bytes) (o : Outcome) (after_bytes : Bytes) (commands : List Command) (qs vs : List ℕ)
+      → Allows ts ps ws (call c output) (told o after_bytes commands) qs vs → (o.number ≡ 0 → ⊥)
+      → (qs ≡ ps) × (vs ≡ ws) × (told o after_bytes commands ≡ tells output (refuses o.number))
   pub not_started : (ps ws : List ℕ) (ts table : Bytes) (site links primary period first time : ℕ) (o : Outcome) (qs vs : List ℕ) (us : Bytes)
       → Starts ps ws ts table site links primary period first time o qs vs us → (o.number ≡ 0 → ⊥) → (qs ≡ ps) × (vs ≡ ws) × (us ≡ ts)
   -- "A done call writes only the counted first bytes of the output", whatever the memory holds: the count is of 32 bits
-  pub only_counted : (ts : Bytes) (ps ws : List ℕ) (c : Call) (output : Bytes) (o : Outcome) (after-bytes : Bytes) (commands : List Command) (qs vs : List ℕ)
-      → Allows ts ps ws (call c output) (told o after-bytes commands) qs vs → length output < 4294967295 → drop o.written after-bytes ≡ drop o.written output
+  pub only_counted : (ts : Bytes) (ps ws : List ℕ) (c : Call) (output : Bytes) (o : Outcome) (after_bytes : Bytes) (commands : List Command) (qs vs : List ℕ)
+      → Allows ts ps ws (call c output) (told o after_bytes commands) qs vs → length output < 4294967295 → drop o.written after_bytes ≡ drop o.written output
   -- words, or a table that the call reads, of another length
   pub misfit : (ts : Bytes) (ps ws : List ℕ) (a : Ask) (x : Seen) (qs vs : List ℕ) → Allows ts ps ws a x qs vs → (Serves a ps ws ts → ⊥) → x ≡ unfit a
   -- the words lent for commands: a refused call leaves them; a done one those behind the commands that it counts; sixteen, or number 14 and nothing is changed
-  pub unhanded : (ts : Bytes) (ps ws cs : List ℕ) (output : Bytes) (o : Outcome) (qs vs ds : List ℕ) (after-bytes : Bytes)
-      → Packets ts ps ws cs output o qs vs ds after-bytes → (o.number ≡ 0 → ⊥) → ds ≡ cs
-  pub behind : (ts : Bytes) (ps ws cs : List ℕ) (output : Bytes) (o : Outcome) (qs vs ds : List ℕ) (after-bytes : Bytes)
-      → Packets ts ps ws cs output o qs vs ds after-bytes → drop o.commands ds ≡ drop o.commands cs
-  pub commands_misfit : (ts : Bytes) (ps ws cs : List ℕ) (output : Bytes) (o : Outcome) (qs vs ds : List ℕ) (after-bytes : Bytes)
-      → Packets ts ps ws cs output o qs vs ds after-bytes → (length cs ≡ 16 → ⊥) → (o ≡ numbered 14) × (qs ≡ ps) × (vs ≡ ws) × (after-bytes ≡ output)
+  pub unhanded : (ts : Bytes) (ps ws cs : List ℕ) (output : Bytes) (o : Outcome) (qs vs ds : List ℕ) (after_bytes : Bytes)
+      → Packets ts ps ws cs output o qs vs ds after_bytes → (o.number ≡ 0 → ⊥) → ds ≡ cs
+  pub behind : (ts : Bytes) (ps ws cs : List ℕ) (output : Bytes) (o : Outcome) (qs vs ds : List ℕ) (after_bytes : Bytes)
+      → Packets ts ps ws cs output o qs vs ds after_bytes → drop o.commands ds ≡ drop o.commands cs
+  pub commands_misfit : (ts : Bytes) (ps ws cs : List ℕ) (output : Bytes) (o : Outcome) (qs vs ds : List ℕ) (after_bytes : Bytes)
+      → Packets ts ps ws cs output o qs vs ds after_bytes → (length cs ≡ 16 → ⊥) → (o ≡ numbered 14) × (qs ≡ ps) × (vs ≡ ws) × (after_bytes ≡ output)
   pub start_misfit : (ps ws : List ℕ) (ts table : Bytes) (site links primary period first time : ℕ) (o : Outcome) (qs vs : List ℕ) (us : Bytes)
       → Starts ps ws ts table site links primary period first time o qs vs us → (Fits ps ws ts → ⊥) → o ≡ numbered 14

@@ -7,7 +7,7 @@ use Rattle.identity.specs.Read.{SixteenBytes}
 use Rattle.write_message.specs.Message.{Message}
 use Rattle.write_message.specs.Listing.{bytes_of}
 use Rattle.sitec.specs.declared.Outcome.{Outcome as HandedOut}
-use Rattle.machine.specs.Words.{Bytes, if◌then◌else◌, maybe, or_else, flat}
+use Rattle.machine.specs.Words.{Bytes, if'◌then◌else◌, maybe, or_else, flat}
 use Rattle.machine.specs.State.{Start, Command, Machine, Act, Call, Outcome}
 use Rattle.machine.specs.State.Act.{connect, disconnect, packet, alarm_input, status_value, aggregated_value, tick, pump}
 use Rattle.machine.specs.State.Outcome.{refused, done}
@@ -35,7 +35,7 @@ start_for site table links primary period first time =
       site = site;
       table = table;
       links = links;
-      primary = if eqb primary 4294967295 then none else some primary;
+      primary = if' eqb primary 4294967295 then none else some primary;
       period = period;
       first = first;
       time = time;

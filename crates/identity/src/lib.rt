@@ -1,4 +1,6 @@
 // Message identities: sixteen bytes, their text of 36 characters, and version 4 out of random bytes.
+#![tactic(auto)]
+
 ghost use Rattle.std.specs.Prelude.{◌≡◌, false, [], ◌∷◌, ◌<◌, ◌≤◌, ◌+◌, ◌/◌, ◌%◌, eqb, length};
 ghost use Rattle.basis.specs.Pick.{pick};
 ghost use Rattle.identity.specs.Hex.{hex_digit, hex_value, lower_hex, lowered};
@@ -8,7 +10,7 @@ ghost use Rattle.basis.specs.Lists.{same_bytes};
 ghost use Rattle.identity.specs.Read.{not_found, byte_at, bytes_of, IdentityRead};
 
 #[repr(C)]
-#[derive(Drop)]
+#[derive(Clone, Copy)]
 pub struct Identity {
     pub bytes: [u8; 16],
 }
@@ -177,7 +179,7 @@ fn same_lowered(s: &[u8], t: &[u8]) -> bool
     same
 }
 
-#[derive(Drop)]
+#[derive(Clone, Copy)]
 pub struct ReadIdentity {
     pub found: bool,
     pub id: Identity,

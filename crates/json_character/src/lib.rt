@@ -1,9 +1,11 @@
 // One character of a JSON string: UTF-8, escapes, pairs of surrogates.
+#![tactic(auto)]
+
 ghost use Rattle.std.specs.Prelude.{◌≡◌, ℕ, ◌+◌, ◌-◌, ◌≤◌, ◌<◌, ◌^◌, length, get_or, drop};
 ghost use Rattle.json_character.specs.Char.{hex_of, hex4_of, hex4_at, escape_of, unicode_of, two_of, three_of, four_of, raw_of, char_of, is_plain};
 
 // A character and how many bytes it has after its first, the closing quotation mark, or neither.
-#[derive(Drop)]
+#[derive(Clone, Copy)]
 pub enum Char {
     One(u32, usize),
     Close,

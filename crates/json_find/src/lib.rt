@@ -1,4 +1,6 @@
 // Places in a JSON text: strings compared, the entries of an object or array one after another, a member by its name.
+#![tactic(auto)]
+
 ghost use Rattle.std.specs.Prelude.{◌≡◌, drop};
 ghost use Rattle.json_text.specs.Ends.{Ends};
 ghost use Rattle.json_find.specs.Kinds.{string_at};
@@ -12,7 +14,7 @@ use json_text::Read;
 use json_value::Mark;
 
 // The places of the values of four names in an object, and where the object ends.
-#[derive(Drop)]
+#[derive(Clone, Copy)]
 pub struct FourFound {
     pub first: Read,
     pub second: Read,
@@ -22,7 +24,7 @@ pub struct FourFound {
 }
 
 // The value's place of an object's entry, with where the object ends or where the next entry begins.
-#[derive(Drop)]
+#[derive(Clone, Copy)]
 pub enum Turn {
     Last(usize, usize),
     Next(usize, usize),

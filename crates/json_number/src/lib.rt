@@ -1,4 +1,6 @@
 // A JSON number: a machine over its bytes, and the longest number at a place of a slice.
+#![tactic(auto)]
+
 ghost use Rattle.std.specs.Prelude.{◌≡◌, true, false, drop};
 ghost use Rattle.basis.specs.Pick.{both};
 ghost use Rattle.json_text.specs.Ends.{Ends};
@@ -7,7 +9,7 @@ ghost use Rattle.json_number.specs.Machine.{if_digit, lead_of, or_mark, or_point
 use json_text::Read;
 
 // Where in a number a byte stands.
-#[derive(Drop)]
+#[derive(Clone, Copy)]
 pub enum At {
     Start,
     Minus,

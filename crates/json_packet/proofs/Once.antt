@@ -31,11 +31,13 @@ begins d j ms e = by (called d ms) refl e
     by true f g = absurd (false≢true g)
     by false f g = let p = both_true (no_twice j) (once ms) g in record { new = f; value = p.0; rest = p.1 }
 
-distinct : {i k : ℕ} {name : List ℕ} {x y : Json} {ms : Members} → once ms ≡ true → Member i name x ms → Member k name y ms → i ≡ k
-distinct e first_member first_member = refl
-distinct e (first_member {name = name} {j = j} {ms = ms}) (next_member n) = absurd (false≢true (sym (begins name j ms e).new ∙ named n))
-distinct e (next_member m) (first_member {name = name} {j = j} {ms = ms}) = absurd (false≢true (sym (begins name j ms e).new ∙ named m))
-distinct e (next_member {other = other} {k = k} {ms = ms} m) (next_member n) = ap suc (distinct (begins other k ms e).rest m n)
+distinct : {i k : ℕ} {name other : List ℕ} {x y : Json} {ms : Members} → once ms ≡ true → name ≡ other → Member i name x ms → Member k other y ms → i ≡ k
+distinct e q first_member first_member = refl
+distinct e q (first_member {name = name} {j = j} {ms = ms}) (next_member n) =
+    absurd (false≢true (sym (begins name j ms e).new ∙ ap (λ (c : List ℕ). called c ms) q ∙ named n))
+distinct e q (next_member m) (first_member {name = name} {j = j} {ms = ms}) =
+    absurd (false≢true (sym (begins name j ms e).new ∙ ap (λ (c : List ℕ). called c ms) (sym q) ∙ named m))
+distinct e q (next_member {other = other} {k = k} {ms = ms} m) (next_member n) = ap suc (distinct (begins other k ms e).rest q m n)
 
 element_of : {i : ℕ} {j : Json} {js : Jsons} → all_once js ≡ true → Element i j js → no_twice j ≡ true
 unfolding all_once
@@ -57,7 +59,7 @@ unfolding no_twice
 object_once ms e = e
 
 pub sound : (j : Json) → no_twice j ≡ true → NoNameTwice j
-sound j e = record { objects = λ {ms} i. record { one = λ m n. distinct (object_once ms (inside e i)) m n } }
+sound j e = record { objects = λ {ms} i. record { one = λ m n. distinct (object_once ms (inside e i)) refl m n } }
 
 -- no member's name is called
 uncalled : (name : List ℕ) (ms : Members) → ((i : ℕ) (j : Json) → Member i name j ms → ⊥) → called name ms ≡ false

@@ -1,4 +1,6 @@
 // Whether a slice is a packet: one JSON object of at most eight levels with no name twice in an object.
+#![tactic(auto)]
+
 ghost use Rattle.std.specs.Prelude.{◌≡◌, ◌+◌, ◌<◌, length, drop};
 ghost use Rattle.json_text.specs.Decoded.{decoded};
 ghost use Rattle.json_text.specs.Ends.{Ends};
@@ -10,7 +12,7 @@ use json_sure::Listed;
 use json_text::Read;
 
 // Whether a slice is a packet, and how many places of its object's entries were noted: all of them, or none.
-#[derive(Drop)]
+#[derive(Clone, Copy)]
 pub struct Judgement {
     pub packet: bool,
     pub count: usize,

@@ -1,4 +1,6 @@
 // A JSON value read once for its end and for its names: each name has a mark, and where no mark comes twice no name does.
+#![tactic(auto)]
+
 ghost use Rattle.std.specs.Prelude.{◌≡◌, false, eqb, ◌≤◌, length, drop};
 ghost use Rattle.basis.specs.Pick.{pick};
 ghost use Rattle.json_text.specs.Decoded.{decoded};
@@ -20,14 +22,14 @@ const PRIME: u64 = 4294967291;
 const LEVELS_INSIDE: u8 = 7;
 
 // The end of a value, and whether its marks show that no name is twice in an object; or that there is no value.
-#[derive(Drop)]
+#[derive(Clone, Copy)]
 pub enum Judged {
     End(usize, bool),
     Bad,
 }
 
 // What follows a value between brackets, and whether that value is sure.
-#[derive(Drop)]
+#[derive(Clone, Copy)]
 pub enum Entered {
     Close(usize, bool),
     Comma(usize, bool),
@@ -35,14 +37,14 @@ pub enum Entered {
 }
 
 // The end of an object, whether its marks show that no name is twice, and how many places of its entries were noted: all, or none.
-#[derive(Drop)]
+#[derive(Clone, Copy)]
 pub enum Listed {
     End(usize, bool, usize),
     Bad,
 }
 
 // How many marks of an object's names stand in the lent marks, and whether all is sure so far.
-#[derive(Drop)]
+#[derive(Clone, Copy)]
 pub struct Seen {
     pub count: usize,
     pub sure: bool,

@@ -1,4 +1,6 @@
 // The strings of a JSON text: where they end, what they are compared with, and a copy. A character is one step.
+#![tactic(auto)]
+
 ghost use Rattle.std.specs.Prelude.{◌≡◌, ℕ, ◌+◌, ◌≤◌, eqb, ltb, get_or, drop};
 ghost use Rattle.basis.specs.Pick.{pick};
 ghost use Rattle.json_text.specs.Decoded.{decoded, is_text, same_text};
@@ -9,7 +11,7 @@ ghost use Rattle.json_text.specs.Copied.{no_copy, copy_of};
 use json_character::Char;
 
 // Where a reading ends, or that there is nothing to read.
-#[derive(Drop)]
+#[derive(Clone, Copy)]
 pub enum Read {
     End(usize),
     Bad,
@@ -127,7 +129,7 @@ pub fn same(s: &[u8], p: usize, q: usize) -> bool
 
 // A string that was copied out: its bytes, zeros after them, and how many they are. Where `ok` is false all the rest is zero.
 #[repr(C)]
-#[derive(Drop)]
+#[derive(Clone, Copy)]
 pub struct Copied {
     pub length: usize,
     pub bytes: [u8; 36],

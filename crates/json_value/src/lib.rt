@@ -1,4 +1,6 @@
 // A JSON reader: where the value at a place of a slice ends, by RFC 8259, with a limit on levels.
+#![tactic(auto)]
+
 ghost use Rattle.std.specs.Prelude.{◌≡◌, ◌≤◌, length, drop};
 ghost use Rattle.json_text.specs.Ends.{Ends};
 ghost use Rattle.json_value.specs.Grammar.{Json};
@@ -8,7 +10,7 @@ ghost use Rattle.json_value.specs.Answers.{Skipped, Marks, last_of};
 use json_text::Read;
 
 // What follows a value between brackets: the closing byte, or a comma, with the place after it.
-#[derive(Drop)]
+#[derive(Clone, Copy)]
 pub enum Mark {
     Close(usize),
     Comma(usize),

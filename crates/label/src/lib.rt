@@ -1,4 +1,6 @@
 // The strings of the site table: 1 to 32 bytes of its alphabet, kept in place.
+#![tactic(auto)]
+
 ghost use Rattle.std.specs.Prelude.{◌≡◌, min, take};
 ghost use Rattle.basis.specs.Lists.{same_bytes};
 ghost use Rattle.label.specs.Label.{label_of, no_label, text_of};
@@ -6,14 +8,14 @@ ghost use Rattle.label.specs.Reading.{missed as missed_of, read_at};
 
 // A text of at most 32 bytes, with zeros behind it.
 #[repr(C)]
-#[derive(Drop)]
+#[derive(Clone, Copy)]
 pub struct Label {
     pub bytes: [u8; 32],
     pub length: u8,
 }
 
 // A label that was read, and the place behind it.
-#[derive(Drop)]
+#[derive(Clone, Copy)]
 pub struct LabelRead {
     pub label: Label,
     pub next: usize,

@@ -1,4 +1,6 @@
 // The life of one link. What has happened in this life is kept; the phase follows from it.
+#![tactic(auto)]
+
 ghost use Rattle.std.specs.Prelude.{◌≡◌, ◌*◌};
 ghost use Rattle.awaited.specs.declared.Purpose.TheVariants.{Entry, Other};
 ghost use Rattle.awaited.specs.Awaited.{find_of, late_of};
@@ -10,7 +12,7 @@ ghost use Rattle.link.specs.Due.{alarms_for, due_up, due_of};
 use awaited::{Awaited, Found, Purpose, elapsed};
 use identity::Identity;
 
-#[derive(Drop)]
+#[derive(Clone, Copy)]
 pub enum Phase {
     Down,
     Greeting,
@@ -18,14 +20,14 @@ pub enum Phase {
     Up,
 }
 
-#[derive(Drop)]
+#[derive(Clone, Copy)]
 pub enum Role {
     Primary,
     Secondary,
 }
 
 // What pump sends next: an alarm by its number, or the oldest held record that is not sent.
-#[derive(Drop)]
+#[derive(Clone, Copy)]
 pub enum Due {
     Nothing,
     Version,
@@ -36,7 +38,7 @@ pub enum Due {
 }
 
 #[repr(C)]
-#[derive(Drop)]
+#[derive(Clone, Copy)]
 pub struct Link {
     pub awaited: Awaited,
     // when the last Watchdog of this life went out
@@ -60,7 +62,7 @@ pub struct Link {
 
 // What an answer comes to: the next link, what its identity was awaited for, and whether it closes: a MessageNotAck to our Version, or to
 // our Watchdog while Beating.
-#[derive(Drop)]
+#[derive(Clone, Copy)]
 pub struct Answered {
     pub link: Link,
     pub found: Found,

@@ -8,7 +8,7 @@ use Rattle.number.specs.Signed.{at_most}
 use Rattle.number.specs.Alphabet.{is_label}
 use Rattle.json_value.specs.Grammar.{Json}
 use Rattle.table_whole.specs.Table.{Row}
-use Rattle.machine.specs.Words.{Bytes, if◌then◌else◌, ◌and◌, ◌or◌, reads, maybe, is_some, or_else, is_number, any, Case, ◌when◌, first_of}
+use Rattle.machine.specs.Words.{Bytes, if'◌then◌else◌, ◌and◌, ◌or◌, reads, maybe, is_some, or_else, is_number, any, Case, ◌when◌, first_of}
 use Rattle.machine.specs.State.{Life, Machine, life_at}
 use Rattle.machine.specs.Json.{shape, element, string_at, string_of, boolean_of, entries_of, element_is, is_type, is_included, asks_for, is_identity, number_in, integer_in, version_in, time_in}
 use Rattle.machine.specs.Table.{component_of, alarm_number, status_number, command_number, command_row}
@@ -29,7 +29,7 @@ is_readable j = maybe false is_identity (string_at "mId" j)
 unfoldable pub is_ignored : Life → Option Json → Bool
 is_ignored k none = true
 is_ignored k (some j) =
-    if is_answer j then not (element_is "mType" "rSMsg" j and awaited_here k j)
+    if' is_answer j then not (element_is "mType" "rSMsg" j and awaited_here k j)
     else not (is_readable j) or (is_greeting k and not (is_type "Version" j))
 
 -- ---- "Needed besides mType, type and mId"
@@ -61,7 +61,7 @@ interval e = number_in 86400 (string_of "uRt" e)
 -- request 07, on a link of the edition before: "a subscription has no sOc; uRt 0 means send on change and any other number means by
 -- interval only"
 abbrev pub asks_change : Bool → Json → Bool
-asks_change older e = if older then is_number 0 (interval e) else boolean_of "sOc" e
+asks_change older e = if' older then is_number 0 (interval e) else boolean_of "sOc" e
 
 abbrev pub asks_never : Bool → Json → Bool
 asks_never older e = is_number 0 (interval e) and not (asks_change older e)
@@ -74,7 +74,7 @@ asked = "sCI" is label ∷ "n" is label ∷ []
 
 abbrev pub subscribed : Bool → List Element
 subscribed older =
-    "sCI" is label ∷ "n" is label ∷ "uRt" is a_string (λ s. is_some (number_in 86400 s)) ∷ (if older then [] else "sOc" is a_boolean ∷ [])
+    "sCI" is label ∷ "n" is label ∷ "uRt" is a_string (λ s. is_some (number_in 86400 s)) ∷ (if' older then [] else "sOc" is a_boolean ∷ [])
 
 -- request 01: "each entry needs cCI, n, cO (any used string) and v, shortest decimal text"
 abbrev pub commanded : List Element
@@ -85,17 +85,17 @@ any_entry e = true
 
 unfoldable pub needs : Bool → Json → List Need
 needs older j =
-    if is_type "Version" j then
+    if' is_type "Version" j then
     entries "RSMP" ("vers" is a_string (λ s. is_some (version_in s)) ∷ []) any_entry
     ∷ entries "siteId" ("sId" is label ∷ []) any_entry
     ∷ one ("SXL" is label) ∷ []
-    else if is_type "Watchdog" j then one ("wTs" is a_string (λ s. is_some (time_in s))) ∷ []
-    else if is_type "Alarm" j then
+    else if' is_type "Watchdog" j then one ("wTs" is a_string (λ s. is_some (time_in s))) ∷ []
+    else if' is_type "Alarm" j then
     one ("cId" is label) ∷ one ("aCId" is label)
     ∷ one ("aSp" is a_string (is_word ("Request" ∷ "Acknowledge" ∷ "Suspend" ∷ "Resume" ∷ []))) ∷ []
-    else if is_type "AggregatedStatusRequest" j then one ("cId" is label) ∷ []
-    else if is_type "StatusSubscribe" j then one ("cId" is label) ∷ entries "sS" (subscribed older) (λ e. not (asks_never older e)) ∷ []
-    else if asks_for "CommandRequest" j then one ("cId" is label) ∷ entries "arg" commanded any_entry ∷ []
+    else if' is_type "AggregatedStatusRequest" j then one ("cId" is label) ∷ []
+    else if' is_type "StatusSubscribe" j then one ("cId" is label) ∷ entries "sS" (subscribed older) (λ e. not (asks_never older e)) ∷ []
+    else if' asks_for "CommandRequest" j then one ("cId" is label) ∷ entries "arg" commanded any_entry ∷ []
     else one ("cId" is label) ∷ entries "sS" asked any_entry ∷ []
 
 abbrev pub is_object : Json → Bool
@@ -156,7 +156,7 @@ unknown_alarm m j = is_type "Alarm" j and not (is_some (alarm_asked m j))
 -- "Unknown status"."
 abbrev pub unknown_status : Machine → Json → Bool
 unknown_status m j =
-    if is_some (component_asked m j) then is_status_type j and any (λ e. not (is_some (status_asked m j e))) (entries_of "sS" j)
+    if' is_some (component_asked m j) then is_status_type j and any (λ e. not (is_some (status_asked m j e))) (entries_of "sS" j)
     else is_type "StatusSubscribe" j or is_type "StatusUnsubscribe" j
 
 -- "a value outside its range is "Bad value"", of a command that is there

@@ -3,7 +3,7 @@
 -- Assumes nothing.
 use Rattle.std.specs.Prelude.{ℕ, zero, suc, ◌≡◌, false, List, [], ◌∷◌, eqb}
 use Rattle.std.proofs.Math.Option.{Option, some, none}
-use Rattle.machine.specs.Words.{if◌then◌else◌, maybe}
+use Rattle.machine.specs.Words.{if'◌then◌else◌, maybe}
 use Rattle.machine.specs.State.{Issued, Share, no_share, Pool, own_of, with_own, with_beside, Machine, at_end, Call, Outcome}
 use Rattle.machine.specs.Pool.{is_full, issue}
 use Rattle.machine.specs.Effects.{effect_of}
@@ -84,7 +84,7 @@ abbrev pub given : ℕ → List Turn → Box → List Outcome
 given k [] b = []
 given k (starts j o ∷ ts) b = given k ts (turned (starts j o) b)
 given k (calls j c ∷ ts) b =
-    if eqb j k then giving c (site_of k b) (given k ts (turned (calls j c) b)) else given k ts (turned (calls j c) b)
+    if' eqb j k then giving c (site_of k b) (given k ts (turned (calls j c) b)) else given k ts (turned (calls j c) b)
 
 -- the turns of site k alone
 abbrev pub site_turned : Turn → ℕ
@@ -93,7 +93,7 @@ site_turned (calls k c) = k
 
 abbrev pub only : ℕ → List Turn → List Turn
 only k [] = []
-only k (t ∷ ts) = if eqb (site_turned t) k then t ∷ only k ts else only k ts
+only k (t ∷ ts) = if' eqb (site_turned t) k then t ∷ only k ts else only k ts
 
 -- ---- "no record is issued while the pool is full": before none of a call's records, each issued behind those before it
 abbrev pub NeverFull : List Issued → Pool → Type 0

@@ -3,7 +3,7 @@
 use Rattle.std.specs.Prelude.{ℕ, ◌+◌, ◌*◌, Bool, true, false, not, List, [], ◌∷◌, ◌++◌, map, eqb, ltb, leb, ℤ, pos, negsuc, length}
 use Rattle.std.proofs.Math.Option.{Option, some, none}
 use Rattle.json_value.specs.Grammar.{Json}
-use Rattle.machine.specs.Words.{if◌then◌else◌, ◌and◌, alike, maybe, is_some, or_else, keep, flat, up_to}
+use Rattle.machine.specs.Words.{if'◌then◌else◌, ◌and◌, alike, maybe, is_some, or_else, keep, flat, up_to}
 use Rattle.machine.specs.State.{
   Event,
   Alarm,
@@ -36,24 +36,24 @@ use Rattle.machine.specs.Answers.{interval, asks_change, component_asked, status
 -- "An input equal to the state does nothing. Becoming active clears the acknowledgement."
 abbrev pub with_input : Bool → ℕ → Alarm → Option Alarm
 with_input active t a =
-    if alike active a.active then none
-    else some (alarm_of active (if active then false else a.acknowledged) a.suspended Issue t)
+    if' alike active a.active then none
+    else some (alarm_of active (if' active then false else a.acknowledged) a.suspended Issue t)
 
 -- "Acknowledge, Suspend and Resume that change nothing are acknowledged only; a change makes one event (aSp Acknowledge or Suspend)."
 abbrev pub acknowledged_at : ℕ → Alarm → Option Alarm
-acknowledged_at t a = if a.acknowledged then none else some (alarm_of a.active true a.suspended Acknowledge t)
+acknowledged_at t a = if' a.acknowledged then none else some (alarm_of a.active true a.suspended Acknowledge t)
 
 abbrev pub suspended_at : ℕ → Alarm → Option Alarm
-suspended_at t a = if a.suspended then none else some (alarm_of a.active a.acknowledged true Suspend t)
+suspended_at t a = if' a.suspended then none else some (alarm_of a.active a.acknowledged true Suspend t)
 
 abbrev pub resumed_at : ℕ → Alarm → Option Alarm
-resumed_at t a = if a.suspended then some (alarm_of a.active a.acknowledged false Suspend t) else none
+resumed_at t a = if' a.suspended then some (alarm_of a.active a.acknowledged false Suspend t) else none
 
 abbrev pub ordered : ℕ → Json → Alarm → Option Alarm
 ordered t j a =
-    if element_is "aSp" "Acknowledge" j then acknowledged_at t a
-    else if element_is "aSp" "Suspend" j then suspended_at t a
-    else if element_is "aSp" "Resume" j then resumed_at t a
+    if' element_is "aSp" "Acknowledge" j then acknowledged_at t a
+    else if' element_is "aSp" "Suspend" j then suspended_at t a
+    else if' element_is "aSp" "Resume" j then resumed_at t a
     else none
 
 -- "Issue events while suspended make no record but are the last event."
@@ -64,7 +64,7 @@ is_silent Suspend suspended = false
 
 -- "Alarm records are issued for the primary alone."
 abbrev pub told : Machine → ℕ → Alarm → List Issued
-told m i a = if is_silent a.event a.suspended then [] else maybe [] (λ p. issued_for p (of_alarm i a) ∷ []) m.setup.primary
+told m i a = if' is_silent a.event a.suspended then [] else maybe [] (λ p. issued_for p (of_alarm i a) ∷ []) m.setup.primary
 
 -- an event of alarm i, or none
 unfoldable pub happens : Machine → ℕ → Option Alarm → Effect
@@ -125,7 +125,7 @@ is_time t s = ltb 0 s.interval and leb (s.since + 1000 * s.interval) t
 
 abbrev pub anew : ℕ → Subscription → Subscription
 anew t s =
-    record { link = s.link; status = s.status; interval = s.interval; on_change = s.on_change; since = if is_time t s then t else s.since }
+    record { link = s.link; status = s.status; interval = s.interval; on_change = s.on_change; since = if' is_time t s then t else s.since }
 
 unfoldable pub intervals : ℕ → Machine → Effect
 intervals t m =
@@ -143,7 +143,7 @@ is_new v w = maybe true (λ x. not (same_value v x)) w
 
 unfoldable pub becomes : Machine → ℕ → ℤ → ℕ → Effect
 becomes m i v t =
-    if is_new v (value_at m i) then
+    if' is_new v (value_at m i) then
     effect (with_status i v m) (map (λ s. status_for m t s.link (some v) i) (upwards m (λ s. eqb s.status i and s.on_change))) [] [] none
     else only m
 
@@ -152,7 +152,7 @@ abbrev pub command_of_entry : Machine → Json → Json → Command
 command_of_entry m j e = command_of (or_else 0 (command_asked m j e)) (value_asked e)
 
 abbrev pub commands_asked : Machine → Json → List Command
-commands_asked m j = if is_some (component_asked m j) then map (command_of_entry m j) (entries_of "arg" j) else []
+commands_asked m j = if' is_some (component_asked m j) then map (command_of_entry m j) (entries_of "arg" j) else []
 
 unfoldable pub commands : Machine → Json → Effect
 commands m j = handing (commands_asked m j) m [] [] [] none
@@ -160,5 +160,5 @@ commands m j = handing (commands_asked m j) m [] [] [] none
 -- ---- "The aggregated value starts all false at the start time; a changed one issues a record for every link."
 unfoldable pub aggregates : Machine → ℕ → ℕ → Effect
 aggregates m v t =
-    if eqb v m.aggregated then only m
+    if' eqb v m.aggregated then only m
     else effect (with_aggregated v t m) (map (λ l. issued_for l (of_aggregated v t)) (up_to m.setup.links)) [] [] none

@@ -17,17 +17,17 @@ use Rattle.json_value.specs.Grammar.Json.{null, bool, num, str, arr, obj}
 use Rattle.json_value.specs.Grammar.Jsons.{jnil, jcons}
 use Rattle.json_value.specs.Grammar.Members.{mnil, mcons}
 use Rattle.json_packet.specs.Packet.{is_packet, meaning_of}
-use Rattle.machine.specs.Words.{Bytes, if◌then◌else◌, ◌and◌, ◌or◌, reads, maybe, is_some, or_else, each}
+use Rattle.machine.specs.Words.{Bytes, if'◌then◌else◌, ◌and◌, ◌or◌, reads, maybe, is_some, or_else, each}
 
 -- "A packet is one JSON object, valid UTF-8, nesting to eight levels (the object is level 1), escapes resolved before comparing,
 -- no lone surrogate, no name twice in an object." jsonpacket's claims say that this is the relation `Packet` on RFC 8259's grammar
 abbrev pub read_packet : Bytes → Option Json
-read_packet s = if is_packet s then some (meaning_of s) else none
+read_packet s = if' is_packet s then some (meaning_of s) else none
 
 -- "Unknown elements are passed over; element names and type names are compared byte for byte."
 abbrev pub named : Bytes → Members → Option Json
 named name mnil = none
-named name (mcons d j ms) = if same_bytes d name then some j else named name ms
+named name (mcons d j ms) = if' same_bytes d name then some j else named name ms
 
 -- what a JSON value is: an object of members, a string, a boolean, an array of entries; null and numbers are used nowhere
 pub record Shape : Type 0 where
@@ -86,7 +86,7 @@ abbrev pub is_hex : ℕ → Bool
 is_hex b = (leb 48 b and leb b 57) or (leb 65 b and leb b 70) or (leb 97 b and leb b 102)
 
 abbrev pub is_identity : Bytes → Bool
-is_identity s = reads "xxxxxxxx-xxxx-xxxx-xxxx-xxxxxxxxxxxx" (map (λ b. if is_hex b then 120 else if eqb b 45 then 45 else 0) s)
+is_identity s = reads "xxxxxxxx-xxxx-xxxx-xxxx-xxxxxxxxxxxx" (map (λ b. if' is_hex b then 120 else if' eqb b 45 then 45 else 0) s)
 
 -- a text is the identity of these sixteen bytes
 abbrev pub is_identity_of : Bytes → Bytes → Bool
@@ -94,7 +94,7 @@ is_identity_of bytes s = same_bytes (lowered s) (identity_text bytes)
 
 -- "decimal text without leading zeros", up to a limit
 abbrev pub number_in : ℕ → Bytes → Option ℕ
-number_in limit s = if leb (says 0 s) limit and same_bytes s (digits (says 0 s)) then some (says 0 s) else none
+number_in limit s = if' leb (says 0 s) limit and same_bytes s (digits (says 0 s)) then some (says 0 s) else none
 
 -- request 01, "v, shortest decimal text": of a signed 32-bit number
 abbrev pub below : Option ℕ → Option ℤ
@@ -104,7 +104,7 @@ below (some (suc n)) = some (negsuc n)
 
 abbrev pub integer_in : Bytes → Option ℤ
 integer_in [] = none
-integer_in (b ∷ s) = if eqb b 45 then below (number_in 2147483648 s) else maybe none (λ n. some (pos n)) (number_in 2147483647 (b ∷ s))
+integer_in (b ∷ s) = if' eqb b 45 then below (number_in 2147483648 s) else maybe none (λ n. some (pos n)) (number_in 2147483647 (b ∷ s))
 
 -- "one to three dotted numbers, each 0 to 255 without leading zeros": the parts between dots
 abbrev pub grown : ℕ → List Bytes → List Bytes
@@ -113,14 +113,14 @@ grown b (p ∷ ps) = (b ∷ p) ∷ ps
 
 abbrev pub parts : Bytes → List Bytes
 parts [] = [] ∷ []
-parts (b ∷ s) = if eqb b 46 then [] ∷ parts s else grown b (parts s)
+parts (b ∷ s) = if' eqb b 46 then [] ∷ parts s else grown b (parts s)
 
 -- "a missing part is 0"
 abbrev pub numbered : List Bytes → List ℕ
 numbered ps = take 3 (map (λ p. or_else 0 (number_in 255 p)) ps ++ replicate 3 0)
 
 unfoldable pub version_in : Bytes → Option (List ℕ)
-version_in s = if leb (length (parts s)) 3 and each (λ p. is_some (number_in 255 p)) (parts s) then some (numbered (parts s)) else none
+version_in s = if' leb (length (parts s)) 3 and each (λ p. is_some (number_in 255 p)) (parts s) then some (numbered (parts s)) else none
 
 -- "Times are `YYYY-MM-DDThh:mm:ss.mmmZ`, 1970 to 9999, hh to 23, both ways." Request 05: "Reading a time shall accept zero to six decimals,
 -- drop those after the third, and say how many stood there."
@@ -133,7 +133,7 @@ time_in s = said (read_time s)
 
 -- Request 05: "The clock hint is given only where three or more stood"
 abbrev pub hinted : Time → Option ℕ
-hinted (Is t decimals) = if leb 3 decimals then some t else none
+hinted (Is t decimals) = if' leb 3 decimals then some t else none
 hinted No = none
 
 abbrev pub hint_in : Bytes → Option ℕ

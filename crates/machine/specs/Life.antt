@@ -4,7 +4,7 @@ use Rattle.std.specs.Prelude.{ℕ, suc, ◌+◌, ◌-◌, ◌*◌, Bool, true, f
 use Rattle.std.proofs.Math.Option.{Option, some, none}
 use Rattle.basis.specs.Lists.{same_bytes}
 use Rattle.json_value.specs.Grammar.{Json}
-use Rattle.machine.specs.Words.{Bytes, if◌then◌else◌, ◌and◌, ◌or◌, alike, maybe, is_some, is_number, any, first_that, but_first}
+use Rattle.machine.specs.Words.{Bytes, if'◌then◌else◌, ◌and◌, ◌or◌, alike, maybe, is_some, is_number, any, first_that, but_first}
 use Rattle.machine.specs.State.{
   event_number,
   Alarm,
@@ -25,7 +25,7 @@ use Rattle.machine.specs.State.{
   alarm_at,
 }
 use Rattle.machine.specs.State.Content.{of_alarm, of_status, of_aggregated}
-use Rattle.machine.specs.State.Sent.{noRecord, the_record}
+use Rattle.machine.specs.State.Sent.{no_record, the_record}
 use Rattle.machine.specs.Json.{is_identity_of, string_of, entries_of, version_in}
 
 -- ---- "A link is Down, Greeting, Beating or Up." "Ours acknowledged and theirs accepted: Beating."
@@ -66,7 +66,7 @@ with_watchdogs x k = life_of k.connected k.versions x k.version k.beat k.pass k.
 
 -- ---- "Closing (also disconnect) leaves the link Down, nothing awaited, no record of it marked sent; records and subscriptions stay."
 abbrev pub unsent : ℕ → Held → Held
-unsent l h = held_as h.link h.content h.sequence (if eqb h.link l then false else h.sent)
+unsent l h = held_as h.link h.content h.sequence (if' eqb h.link l then false else h.sent)
 
 unfoldable pub close : ℕ → Machine → Machine
 close l m = with_held (map (unsent l) m.pool.held) (with_life l (fresh false) m)
@@ -124,7 +124,7 @@ is_late t k = any (λ a. leb (a.time + 30000) t) k.awaited
 
 -- ---- what is due
 pub data Due : Type 0 where
-  theVersion theWatchdog theAggregated : Due
+  the_version the_watchdog the_aggregated : Due
   the_alarm : (number : ℕ) → Due
   the_held : (held : Held) → Due
 
@@ -135,23 +135,23 @@ same_alarm a b =
 
 -- "If the newest held record of an alarm equals that alarm's last event, states and time, the message of this pass carries that record."
 abbrev pub alarm_in : ℕ → Content → Option Alarm
-alarm_in i (of_alarm n a) = if eqb n i then some a else none
+alarm_in i (of_alarm n a) = if' eqb n i then some a else none
 alarm_in i (of_status n v old t) = none
 alarm_in i (of_aggregated v t) = none
 
 abbrev pub newest : ℕ → ℕ → Option Held → List Held → Option Held
 newest l i found [] = found
-newest l i found (h ∷ hs) = newest l i (if eqb h.link l and is_some (alarm_in i h.content) then some h else found) hs
+newest l i found (h ∷ hs) = newest l i (if' eqb h.link l and is_some (alarm_in i h.content) then some h else found) hs
 
 abbrev pub carries : Alarm → ℕ → Held → Sent
-carries a i h = if maybe false (same_alarm a) (alarm_in i h.content) then the_record h.sequence else noRecord
+carries a i h = if' maybe false (same_alarm a) (alarm_in i h.content) then the_record h.sequence else no_record
 
 unfoldable pub carried_by : Machine → ℕ → ℕ → Sent
-carried_by m l i = maybe noRecord (carries (alarm_at m i) i) (newest l i none m.pool.held)
+carried_by m l i = maybe no_record (carries (alarm_at m i) i) (newest l i none m.pool.held)
 
 -- "once per link life the AggregatedStatus, then on the primary every alarm 0 upwards"
 abbrev pub pass_length : Machine → ℕ → ℕ
-pass_length m l = if is_primary m l then suc (length m.alarms) else 1
+pass_length m l = if' is_primary m l then suc (length m.alarms) else 1
 
 -- "then the oldest held record not sent"
 abbrev pub oldest_unsent : Machine → ℕ → Option Held
@@ -160,16 +160,16 @@ oldest_unsent m l = first_that (λ h. eqb h.link l and not h.sent) m.pool.held
 -- "Due in Up, in this order: Watchdog a period or more after the last; [the pass]; then the oldest held record not sent."
 unfoldable pub due_up : Machine → ℕ → ℕ → Life → Option Due
 due_up m l t k =
-    if leb (k.beat + 1000 * m.setup.period) t then some theWatchdog
-    else if eqb k.pass 0 then some theAggregated
-    else if ltb k.pass (pass_length m l) then some (the_alarm (k.pass - 1))
+    if' leb (k.beat + 1000 * m.setup.period) t then some the_watchdog
+    else if' eqb k.pass 0 then some the_aggregated
+    else if' ltb k.pass (pass_length m l) then some (the_alarm (k.pass - 1))
     else maybe none (λ h. some (the_held h)) (oldest_unsent m l)
 
 -- "Pump sends our Version." "Beating; pump sends one Watchdog."
 unfoldable pub due : Machine → ℕ → ℕ → Option Due
 due m l t =
     let k = life_at m l in
-    if is_greeting k and not k.versions.sent then some theVersion
-    else if is_beating k and not k.watchdogs.sent then some theWatchdog
-    else if is_up k then due_up m l t k
+    if' is_greeting k and not k.versions.sent then some the_version
+    else if' is_beating k and not k.watchdogs.sent then some the_watchdog
+    else if' is_up k then due_up m l t k
     else none

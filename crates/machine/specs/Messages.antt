@@ -10,7 +10,7 @@ use Rattle.write_message.specs.declared.Value.TheVariants.{Recent, Old, Unknown,
 use Rattle.write_message.specs.declared.Told.TheVariants.{Response, Update, Command}
 use Rattle.write_message.specs.Message.{Message, Status, status}
 use Rattle.write_message.specs.Message.Message.{alarm, aggregated, statuses, included}
-use Rattle.machine.specs.Words.{Bytes, if◌then◌else◌, maybe}
+use Rattle.machine.specs.Words.{Bytes, if'◌then◌else◌, maybe}
 use Rattle.machine.specs.State.{event_number, Alarm, Content, Machine, value_at}
 use Rattle.machine.specs.State.Content.{of_alarm, of_status, of_aggregated}
 use Rattle.machine.specs.Json.{string_of, entries_of, is_included}
@@ -42,7 +42,7 @@ aggregated_message t id v time = aggregated id (component_text t 0) time v
 -- that is old
 abbrev pub value_of : Bool → Option ℤ → Value
 value_of old none = Unknown
-value_of old (some v) = if old then Old v else Recent v
+value_of old (some v) = if' old then Old v else Recent v
 
 abbrev pub record_message : Table → Bytes → Content → Message
 record_message t id (of_alarm i a) = alarm_message t id i a
@@ -74,5 +74,5 @@ command_message m t id j = statuses Command id (string_of "cId" j) t (command_en
 -- request 04: "one response with oMId equal to the request's mId and no identity of its own"; its entries are those of the old types
 abbrev pub included_message : Machine → ℕ → Json → Message
 included_message m t j =
-    if is_included "CommandRequest" j then included Command (string_of "mId" j) (string_of "cId" j) t (command_entries m j)
+    if' is_included "CommandRequest" j then included Command (string_of "mId" j) (string_of "cId" j) t (command_entries m j)
     else included Response (string_of "mId" j) (string_of "cId" j) t (answer_entries m j)

@@ -6,7 +6,7 @@ use Rattle.number.specs.Signed.{word_of}
 use Rattle.entry.specs.declared.Entry.{Entry}
 use Rattle.entry.specs.Flags.{alarm_flags, status_flags}
 use Rattle.entry.specs.Layout.{bytes_of}
-use Rattle.machine.specs.Words.{Bytes, if◌then◌else◌, keep}
+use Rattle.machine.specs.Words.{Bytes, if'◌then◌else◌, keep}
 use Rattle.machine.specs.State.{event_number, Alarm, Content, Held, Machine, life_at}
 use Rattle.machine.specs.State.Content.{of_alarm, of_status, of_aggregated}
 use Rattle.machine.specs.Life.{is_down, is_greeting, is_beating}
@@ -40,7 +40,7 @@ abbrev pub record_bytes : ℕ → Held → Bytes
 record_bytes site h = bytes_of (entry_for (owner_of site h.link) h.sequence h.content)
 
 abbrev pub phase_of : Machine → ℕ → ℕ
-phase_of m l = if is_down (life_at m l) then 0 else if is_greeting (life_at m l) then 1 else if is_beating (life_at m l) then 2 else 3
+phase_of m l = if' is_down (life_at m l) then 0 else if' is_greeting (life_at m l) then 1 else if' is_beating (life_at m l) then 2 else 3
 
 unfoldable pub reading : Machine → ℕ → Reading
 reading m l =

@@ -110,7 +110,7 @@ command_of number value = record { number = number; value = value }
 -- ---- a link's life
 -- what an awaited message was: our Version, a Watchdog of ours, one that carried the record of a number, any other
 pub data Sent : Type 0 where
-  ourVersion ourWatchdog noRecord : Sent
+  own_version own_watchdog no_record : Sent
   the_record : (sequence : ℕ) → Sent
 
 pub record Awaited : Type 0 where

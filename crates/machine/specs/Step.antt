@@ -4,7 +4,7 @@ use Rattle.std.specs.Prelude.{ℕ, suc, ◌+◌, Bool, true, false, not, List, [
 use Rattle.std.proofs.Math.Option.{Option, some, none}
 use Rattle.answer.specs.Times.{last_time}
 use Rattle.json_value.specs.Grammar.{Json}
-use Rattle.machine.specs.Words.{Bytes, if◌then◌else◌, ◌and◌, ◌or◌, maybe, is_some, Case, ◌when◌, first_of}
+use Rattle.machine.specs.Words.{Bytes, if'◌then◌else◌, ◌and◌, ◌or◌, maybe, is_some, Case, ◌when◌, first_of}
 use Rattle.machine.specs.State.{Machine, at_end, life_at, Act, Call, Outcome, Effect}
 use Rattle.machine.specs.State.Act.{connect, disconnect, packet, alarm_input, status_value, aggregated_value, tick, pump}
 use Rattle.machine.specs.State.Outcome.{refused, done}

@@ -19,15 +19,15 @@ use Rattle.basis.specs.Pick.{pick, both}
 use Rattle.basis.specs.Lists.{same_bytes}
 use Rattle.basis.specs.Text.{text}
 
-infixr 12 if◌then◌else◌
+infixr 12 if'◌then◌else◌
 infixr 30 ◌and◌
 infixr 20 ◌or◌
 infixr 70 ◌when◌
 abbrev pub Bytes : Type 0
 Bytes = List ℕ
 
-abbrev pub if◌then◌else◌ : {A : Type 0} → Bool → A → A → A
-if◌then◌else◌ test a b = pick test a b
+abbrev pub if'◌then◌else◌ : {A : Type 0} → Bool → A → A → A
+if'◌then◌else◌ test a b = pick test a b
 
 abbrev pub ◌and◌ : Bool → Bool → Bool
 ◌and◌ a b = both a b

@@ -5,7 +5,7 @@ use Prim.Native.String.{String}
 use Rattle.basis.specs.Text.{text}
 use Rattle.machine.specs.Words.{Bytes, flat}
 use Rattle.machine.specs.State.{Machine, with_life, with_status, with_aggregated, Call}
-use Rattle.machine.specs.State.Sent.{noRecord}
+use Rattle.machine.specs.State.Sent.{no_record}
 use Rattle.machine.specs.State.Act.{packet}
 use Rattle.machine.specs.Step.{leaves}
 use Rattle.machine.specs.Example.{noon, later, random}
@@ -84,14 +84,14 @@ pub record Ignoring : Type 0 where
       ∷ raw "{'m\\u0054ype':'rSMs\\u0067','type':'Watchdog','mId':'CD613E30-d8f1-6adf-91b7-584a2265b1f5','wTs':'2009-10-01T11:59:31.571Z'}" ∷ [])
       ≡ taken 4
   -- "type MessageAck or MessageNotAck whose mType is not rSMsg or whose oMId is not awaited on this link": it is on link 1
-  pub answers : each (awaiting_on 1 (awaits 1 noon noRecord ∷ []) running)
+  pub answers : each (awaiting_on 1 (awaits 1 noon no_record ∷ []) running)
       (answer 0 0 "MessageAck" 1 ∷ answer 0 1 "MessageAck" 2 ∷ answer 0 1 "MessageNotAck" 2
       ∷ gets 0 1 "{'mType':'rSMs','type':'MessageAck','oMId':'01010101-0101-4101-8101-010101010101'}"
       ∷ gets 0 1 "{'type':'MessageNotAck','oMId':'01010101-0101-4101-8101-010101010101'}"
       ∷ gets 0 1 "{'mType':'rSMsg','type':'MessageAck','oMId':5}"
       ∷ gets 0 1 "{'mType':'rSMsg','type':'MessageAck','mId':'01010101-0101-4101-8101-010101010101'}" ∷ []) ≡ ignored 7
   -- .. in either case
-  pub capitals : hears (awaiting_on 1 (awaits 0xA noon noRecord ∷ []) running)
+  pub capitals : hears (awaiting_on 1 (awaits 0xA noon no_record ∷ []) running)
       (gets 0 1 "{'mType':'rSMsg','type':'MessageAck','oMId':'0A0a0a0a-0A0a-4a0A-8a0a-0A0A0a0a0a0a'}" ∷ []) ≡ silent ∷ []
   -- "any other packet without a readable mId": lacking, no string, too short, hyphens, a digit past f, past F, below 0, past 9
   pub unreadable : each running
@@ -267,15 +267,15 @@ pub record Known : Type 0 where
   -- .. 15 are not too many; the reply is awaited as any message that carries no record
   pub fifteen : leaves (awaiting_on 0 (awaited 15) running) (of "AggregatedStatusRequest" ",'cId':'K0'" ∷ []) ≡ awaiting_on 0 (awaited 16) running
   -- "9: the identity to be sent is already awaited on that link": of a reply
-  pub reply_awaited : each (awaiting_on 0 (awaits 15 noon noRecord ∷ []) running)
+  pub reply_awaited : each (awaiting_on 0 (awaits 15 noon no_record ∷ []) running)
       (of "AggregatedStatusRequest" ",'cId':'K0'" ∷ of "AggregatedStatusRequest" ",'cId':'K1'" ∷ of "StatusUnsubscribe" ",'cId':'K0','sS':[]" ∷ [])
       ≡ gives 9 ∷ writes (refuses_for "Unknown component") ∷ writes acks ∷ []
-  pub reply_to_primary : hears (awaiting_on 1 (awaits 15 noon noRecord ∷ []) running) (order 0 1 "Request" ∷ []) ≡ gives 9 ∷ []
-  pub reply_to_secondary : hears (with_life 1 beating (awaiting_on 0 (awaits 15 noon noRecord ∷ []) running)) (of "AggregatedStatusRequest" ",'cId':'K0'" ∷ [])
+  pub reply_to_primary : hears (awaiting_on 1 (awaits 15 noon no_record ∷ []) running) (order 0 1 "Request" ∷ []) ≡ gives 9 ∷ []
+  pub reply_to_secondary : hears (with_life 1 beating (awaiting_on 0 (awaits 15 noon no_record ∷ []) running)) (of "AggregatedStatusRequest" ",'cId':'K0'" ∷ [])
       ≡ gives 9 ∷ []
-  pub awaited_of_link_1 : leaves running (ask 0 1 "AggregatedStatusRequest" ",'cId':'K0'" ∷ []) ≡ awaiting_on 1 (awaits 15 noon noRecord ∷ []) running
+  pub awaited_of_link_1 : leaves running (ask 0 1 "AggregatedStatusRequest" ",'cId':'K0'" ∷ []) ≡ awaiting_on 1 (awaits 15 noon no_record ∷ []) running
   -- .. behind 1
-  pub ignored_before : hears (awaiting_on 0 (awaits 15 noon noRecord ∷ []) running) (raw "{'mType':'rSMsg','type':'AggregatedStatusRequest','cId':'K0'}" ∷ [])
+  pub ignored_before : hears (awaiting_on 0 (awaits 15 noon no_record ∷ []) running) (raw "{'mType':'rSMsg','type':'AggregatedStatusRequest','cId':'K0'}" ∷ [])
       ≡ gives 1 ∷ []
   -- "A status without a value so far: `s` null, `q` unknown. Otherwise `s` is the shortest decimal text, `q` recent"; StatusResponse has the call's time
   pub response : hears (with_status 2 (negsuc 2147483647) (with_status 1 (pos 20) running))

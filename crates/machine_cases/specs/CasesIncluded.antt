@@ -6,7 +6,7 @@ use Rattle.std.proofs.Math.Option.{none}
 use Rattle.basis.specs.Text.{text}
 use Rattle.machine.specs.Words.{Bytes}
 use Rattle.machine.specs.State.{exchange, fresh, life_of, with_life, Call}
-use Rattle.machine.specs.State.Sent.{noRecord}
+use Rattle.machine.specs.State.Sent.{no_record}
 use Rattle.machine.specs.State.Act.{status_value, tick}
 use Rattle.machine.specs.Step.{leaves}
 use Rattle.machine.specs.Example.{noon, at_noon, later}
@@ -108,7 +108,7 @@ pub record Unawaited : Type 0 where
   pub never_busy : each (awaiting_on 0 (awaited 16) running) four_ask
       ≡ writes (refuses_for "Busy") ∷ writes no_status ∷ writes (refuses_for "Busy") ∷ writes no_command ∷ []
   -- no number 9: the call's random bytes make no identity
-  pub never_nine : each (awaiting_on 0 (awaits 15 noon noRecord ∷ []) running) four_ask ≡ gives 9 ∷ writes no_status ∷ gives 9 ∷ writes no_command ∷ []
+  pub never_nine : each (awaiting_on 0 (awaits 15 noon no_record ∷ []) running) four_ask ≡ gives 9 ∷ writes no_status ∷ gives 9 ∷ writes no_command ∷ []
   -- both kinds mix on a link: what the old one awaits is still awaited, and closes the link; the response alone does not
   pub mixed : hears running (of "StatusRequestAckIncluded" ",'cId':'K0','sS':[]" ∷ of "StatusRequest" ",'cId':'K0','sS':[]"
       ∷ of "StatusRequestAckIncluded" ",'cId':'K0','sS':[]" ∷ later 30000 tick ∷ [])

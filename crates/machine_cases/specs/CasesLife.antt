@@ -29,7 +29,7 @@ use Rattle.machine.specs.State.{
 }
 use Rattle.machine.specs.State.Event.{Issue, Acknowledge, Suspend}
 use Rattle.machine.specs.State.Content.{of_alarm, of_aggregated}
-use Rattle.machine.specs.State.Sent.{ourVersion, ourWatchdog, noRecord, the_record}
+use Rattle.machine.specs.State.Sent.{own_version, own_watchdog, no_record, the_record}
 use Rattle.machine.specs.State.Act.{connect, disconnect, tick}
 use Rattle.machine.specs.Life.{carried_by}
 use Rattle.machine.specs.Step.{leaves}
@@ -77,7 +77,7 @@ third k = with_life 3 k running
 
 -- our Version is on its way
 abbrev pub offering : Machine
-offering = third (versioned false false [] (awaits 1 noon ourVersion ∷ []))
+offering = third (versioned false false [] (awaits 1 noon own_version ∷ []))
 
 abbrev pub refusal : String → Heard
 refusal reason = heard 0 (refuses_for reason) (3 ∷ []) none []
@@ -128,11 +128,11 @@ pub record Greetings : Type 0 where
   -- one of theirs taken: Up."
   pub greets : phases 3 begun greeting ≡ 1 ∷ 1 ∷ 1 ∷ 2 ∷ 2 ∷ 2 ∷ 3 ∷ []
   -- .. call by call: our Version, our Watchdog, its answer, theirs
-  pub version_sent : life_at (leaves (third (fresh true)) (pumped 2 3 1 ∷ [])) 3 ≡ versioned false false [] (awaits 1 (noon + 2) ourVersion ∷ [])
+  pub version_sent : life_at (leaves (third (fresh true)) (pumped 2 3 1 ∷ [])) 3 ≡ versioned false false [] (awaits 1 (noon + 2) own_version ∷ [])
   pub version_acknowledged : leaves offering (answer 0 3 "MessageAck" 1 ∷ []) ≡ third (versioned true false [] [])
   pub watchdog_sent : life_at (leaves running (pumped 5 2 2 ∷ [])) 2
-      ≡ life_of true (exchange true true true) (exchange true false false) (3 ∷ 2 ∷ 0 ∷ []) (noon + 5) 0 (awaits 2 (noon + 5) ourWatchdog ∷ [])
-  pub watchdog_acknowledged : leaves (third (beating_with (exchange true false false) (awaits 2 noon ourWatchdog ∷ []))) (answer 0 3 "MessageAck" 2 ∷ [])
+      ≡ life_of true (exchange true true true) (exchange true false false) (3 ∷ 2 ∷ 0 ∷ []) (noon + 5) 0 (awaits 2 (noon + 5) own_watchdog ∷ [])
+  pub watchdog_acknowledged : leaves (third (beating_with (exchange true false false) (awaits 2 noon own_watchdog ∷ []))) (answer 0 3 "MessageAck" 2 ∷ [])
       ≡ third (beating_with (exchange true true false) [])
   pub comes_up : leaves (third (beating_with (exchange true true false) [])) (beats 0 3 ∷ []) ≡ third (up_life 0 [])
 
@@ -157,7 +157,7 @@ pub record Judged : Type 0 where
       ∷ writes (version_as "01010101-0101-4101-8101-010101010101")
       ∷ writes acks ∷ writes (refuses_for "Unexpected") ∷ []
   -- "the latest common one is chosen"
-  pub later_last : leaves offering (agrees 0 3 ∷ []) ≡ third (versioned false true (3 ∷ 2 ∷ 0 ∷ []) (awaits 1 noon ourVersion ∷ []))
+  pub later_last : leaves offering (agrees 0 3 ∷ []) ≡ third (versioned false true (3 ∷ 2 ∷ 0 ∷ []) (awaits 1 noon own_version ∷ []))
   pub later_first : (life_at (leaves offering (greet 0 3 "{'vers':'3.2.0'},{'vers':'3.1.5'}" "{'sId':'J4'}" "2.1" ∷ [])) 3).version ≡ 3 ∷ 2 ∷ 0 ∷ []
   pub earlier_alone : (life_at (leaves offering (greet 0 3 "{'vers':'3.1.5'},{'vers':'3.3'}" "{'sId':'J4'}" "2.1" ∷ [])) 3).version ≡ 3 ∷ 1 ∷ 5 ∷ []
 
@@ -179,12 +179,12 @@ pub record Checks : Type 0 where
   -- "A MessageNotAck to our Version, or to our Watchdog while Beating, closes the link", this one alone; in Up it does not, nor to any other message
   pub version_refused : hears offering (answer 0 3 "MessageNotAck" 1 ∷ []) ≡ heard 0 [] (3 ∷ []) none [] ∷ []
   pub closed_by_refusal : leaves offering (answer 0 3 "MessageNotAck" 1 ∷ []) ≡ running
-  pub watchdog_refused : hears (third (beating_with (exchange true false true) (awaits 1 noon ourWatchdog ∷ []))) (answer 0 3 "MessageNotAck" 1 ∷ [])
+  pub watchdog_refused : hears (third (beating_with (exchange true false true) (awaits 1 noon own_watchdog ∷ []))) (answer 0 3 "MessageNotAck" 1 ∷ [])
       ≡ heard 0 [] (3 ∷ []) none [] ∷ []
-  pub refused_in_up : leaves (awaiting_on 1 (awaits 1 noon ourWatchdog ∷ awaits 2 noon noRecord ∷ awaits 3 noon (the_record 9) ∷ []) running)
+  pub refused_in_up : leaves (awaiting_on 1 (awaits 1 noon own_watchdog ∷ awaits 2 noon no_record ∷ awaits 3 noon (the_record 9) ∷ []) running)
       (answer 0 1 "MessageNotAck" 1 ∷ answer 0 1 "MessageNotAck" 2 ∷ answer 0 1 "MessageNotAck" 3 ∷ []) ≡ running
   -- a MessageNotAck is no acknowledgement: an acknowledged one leads to Up, where theirs was taken
-  pub acknowledged : leaves (third (beating_with (exchange true false true) (awaits 1 noon ourWatchdog ∷ []))) (answer 0 3 "MessageAck" 1 ∷ [])
+  pub acknowledged : leaves (third (beating_with (exchange true false true) (awaits 1 noon own_watchdog ∷ []))) (answer 0 3 "MessageAck" 1 ∷ [])
       ≡ third (up_life 0 [])
 
 pub record Closings : Type 0 where
@@ -201,12 +201,12 @@ pub record Closings : Type 0 where
       ≡ awaiting_on 0 (awaits 1 noon (the_record 6) ∷ []) (awaiting_on 1 (awaits 2 noon (the_record 5) ∷ awaits 3 noon (the_record 7)
       ∷ []) (holding (aggregated_held 1 5 true ∷ aggregated_held 1 7 true ∷ [])))
   -- "Tick closes each link with one awaited 30,000 ms or longer": the second of link 0 and that of link 2, not link 1
-  pub tick_closes : hears (with_life 2 (beating_with (exchange true false false) (awaits 1 noon ourWatchdog ∷ []))
-      (awaiting_on 0 (awaits 1 (noon + 1) noRecord ∷ awaits 2 noon noRecord ∷ []) (awaiting_on 1 (awaits 1 (noon + 1) noRecord ∷ []) running)))
+  pub tick_closes : hears (with_life 2 (beating_with (exchange true false false) (awaits 1 noon own_watchdog ∷ []))
+      (awaiting_on 0 (awaits 1 (noon + 1) no_record ∷ awaits 2 noon no_record ∷ []) (awaiting_on 1 (awaits 1 (noon + 1) no_record ∷ []) running)))
       (later 29999 tick ∷ later 30000 tick ∷ []) ≡ silent ∷ heard 0 [] (0 ∷ 2 ∷ []) none [] ∷ []
-  pub tick_leaves : leaves (with_life 2 (beating_with (exchange true false false) (awaits 1 noon ourWatchdog ∷ []))
-      (awaiting_on 0 (awaits 1 noon noRecord ∷ []) (awaiting_on 1 (awaits 1 (noon + 1) noRecord ∷ []) running))) (later 30000 tick ∷ [])
-      ≡ with_life 2 (fresh false) (with_life 0 (fresh false) (awaiting_on 1 (awaits 1 (noon + 1) noRecord ∷ []) (at_end (noon + 30000) running.pool running)))
+  pub tick_leaves : leaves (with_life 2 (beating_with (exchange true false false) (awaits 1 noon own_watchdog ∷ []))
+      (awaiting_on 0 (awaits 1 noon no_record ∷ []) (awaiting_on 1 (awaits 1 (noon + 1) no_record ∷ []) running))) (later 30000 tick ∷ [])
+      ≡ with_life 2 (fresh false) (with_life 0 (fresh false) (awaiting_on 1 (awaits 1 (noon + 1) no_record ∷ []) (at_end (noon + 30000) running.pool running)))
 
 pub record Dues : Type 0 where
   -- "Due in Up, in this order: Watchdog a period or more after the last": before the pass and the records, again a period after it, on link 0
@@ -221,7 +221,7 @@ pub record Dues : Type 0 where
   pub watchdog_early : hears running (pumped 1999 0 1 ∷ []) ≡ gives 7 ∷ []
   pub watchdog_awaited : leaves running (pumped 2000 0 1 ∷ [])
       ≡ at_end (noon + 2000) running.pool (with_life 0 (life_of true (exchange true true true) (exchange true true true) (3 ∷ 2 ∷ 0
-      ∷ []) (noon + 2000) 1 (awaits 1 (noon + 2000) ourWatchdog ∷ [])) running)
+      ∷ []) (noon + 2000) 1 (awaits 1 (noon + 2000) own_watchdog ∷ [])) running)
   -- "once per link life the AggregatedStatus, then on the primary every alarm 0 upwards": each as it stands
   pub first_pass : hears (with_life 1 (up_life 0 []) (with_aggregated 0xA1 (noon + 5) (with_alarm 0 (alarm_of false true true Suspend (noon + 2)) (with_alarm 1
       (alarm_of true true false Acknowledge (noon + 3)) running))))
@@ -256,14 +256,14 @@ pub record Carried : Type 0 where
   pub carries_none : map (λ a. carried_by (behind_one a) 1 2)
       (alarm_of false false false Issue (noon + 1) ∷ alarm_of true true false Issue (noon + 1) ∷ alarm_of true false true Issue (noon + 1)
       ∷ alarm_of true false false Acknowledge (noon + 1) ∷ alarm_of true false false Issue noon ∷ [])
-      ≡ noRecord ∷ noRecord ∷ noRecord ∷ noRecord ∷ noRecord ∷ []
-  pub nothing_held : carried_by (ringing rung []) 1 2 ≡ noRecord
+      ≡ no_record ∷ no_record ∷ no_record ∷ no_record ∷ no_record ∷ []
+  pub nothing_held : carried_by (ringing rung []) 1 2 ≡ no_record
   pub pass_marks : leaves (with_life 1 (up_life 3 []) (ringing rung (alarm_held 2 6 rung ∷ []))) (pumped 1 1 1 ∷ [])
       ≡ at_end (noon + 1) (pool_of 5 (held_as 1 (of_alarm 2 rung) 6 true ∷ []) (0 ∷ 0 ∷ 0 ∷ 0 ∷ []))
       (with_life 1 (up_life 4 (awaits 1 (noon + 1) (the_record 6) ∷ [])) (with_alarm 2 rung running))
   pub pass_marks_none : leaves (with_life 1 (up_life 2 []) (ringing rung (alarm_held 2 6 rung ∷ []))) (pumped 0 1 1 ∷ [])
-      ≡ with_life 1 (up_life 3 (awaits 1 noon noRecord ∷ [])) (ringing rung (alarm_held 2 6 rung ∷ []))
-  pub pass_begins : leaves (with_life 1 (up_life 0 []) running) (pumped 0 1 1 ∷ []) ≡ with_life 1 (up_life 1 (awaits 1 noon noRecord ∷ [])) running
+      ≡ with_life 1 (up_life 3 (awaits 1 noon no_record ∷ [])) (ringing rung (alarm_held 2 6 rung ∷ []))
+  pub pass_begins : leaves (with_life 1 (up_life 0 []) running) (pumped 0 1 1 ∷ []) ≡ with_life 1 (up_life 1 (awaits 1 noon no_record ∷ [])) running
   -- a record sent, cut off, sent again in the new life; "Deleting a record when sent" is an error we have met
   pub sent_again : hears (holding (aggregated_held 0 5 false ∷ [])) (pumped 0 0 1 ∷ pumped 0 0 2 ∷ at_noon (disconnect 0) ∷ at_noon (connect 0) ∷ pumped 0 0 1
       ∷ answer 0 0 "MessageAck" 1 ∷ agrees 0 0 ∷ pumped 0 0 2 ∷ answer 0 0 "MessageAck" 2 ∷ beats 0 0 ∷ pumped 0 0 3 ∷ pumped 0 0 4

@@ -5,7 +5,7 @@ use Rattle.std.proofs.Math.Option.{some, none}
 use Rattle.machine.specs.State.{alarm_of, Subscription, Held, held_as, fresh, Machine, with_alarm, with_life, with_held, with_subscriptions, life_at, Call}
 use Rattle.machine.specs.State.Event.{Issue}
 use Rattle.machine.specs.State.Content.{of_alarm, of_aggregated}
-use Rattle.machine.specs.State.Sent.{ourVersion, the_record}
+use Rattle.machine.specs.State.Sent.{own_version, the_record}
 use Rattle.machine.specs.State.Act.{connect, disconnect, alarm_input}
 use Rattle.machine.specs.Life.{carried_by}
 use Rattle.machine.specs.Step.{leaves}
@@ -51,10 +51,10 @@ pub record Links : Type 0 where
   pub down : hears (with_life 2 (fresh false) running) (pumped 0 2 1 ∷ []) ≡ gives 6 ∷ []
   pub eight : both (awaiting_on 2 (awaited 8) (awaiting_on 3 (awaited 8) (holding_each false))) (λ l. pumped 0 l 9) ≡ same (gives 8)
   pub nine : both (awaiting_on 2 (awaited 7) (awaiting_on 3 (awaited 7) (holding_each false))) (λ l. pumped 0 l 6) ≡ same (gives 9)
-  pub nine_replied : both (awaiting_on 2 (awaits 15 noon ourVersion ∷ []) (awaiting_on 3 (awaits 15 noon ourVersion
+  pub nine_replied : both (awaiting_on 2 (awaits 15 noon own_version ∷ []) (awaiting_on 3 (awaits 15 noon own_version
       ∷ []) every_up)) (λ l. ask 0 l "AggregatedStatusRequest" ",'cId':'K0'")
       ≡ same (gives 9)
-  pub not_replied : both (awaiting_on 2 (awaits 15 noon ourVersion ∷ []) (awaiting_on 3 (awaits 15 noon ourVersion
+  pub not_replied : both (awaiting_on 2 (awaits 15 noon own_version ∷ []) (awaiting_on 3 (awaits 15 noon own_version
       ∷ []) every_up)) (λ l. ask 0 l "AggregatedStatusRequest" ",'cId':'K1'")
       ≡ same (writes (refuses_for "Unknown component"))
   pub sends : both (holding_each false) (λ l. pumped 0 l 1)
@@ -79,7 +79,7 @@ pub record LinkLives : Type 0 where
   pub connects : map (λ l. phase_of (leaves (with_life l (fresh false) running) (at_noon (connect l) ∷ [])) l) (0 ∷ 1 ∷ 2 ∷ []) ≡ 1 ∷ 1 ∷ 1 ∷ []
   pub disconnects : map (λ l. phase_of (leaves every_up (at_noon (disconnect l) ∷ [])) l) (0 ∷ 1 ∷ 2 ∷ 3 ∷ []) ≡ 0 ∷ 0 ∷ 0 ∷ 0 ∷ []
   pub accepts : map (λ l. phase_of (leaves (with_life l (versioned true false [] []) running) (agrees 0 l ∷ [])) l) (0 ∷ 1 ∷ 2 ∷ []) ≡ 2 ∷ 2 ∷ 2 ∷ []
-  pub acknowledged : map (λ l. phase_of (leaves (with_life l (versioned false true [] (awaits 1 noon ourVersion ∷ [])) running) (answer 0 l "MessageAck" 1
+  pub acknowledged : map (λ l. phase_of (leaves (with_life l (versioned false true [] (awaits 1 noon own_version ∷ [])) running) (answer 0 l "MessageAck" 1
       ∷ [])) l) (0 ∷ 1 ∷ 2 ∷ [])
       ≡ 2 ∷ 2 ∷ 2 ∷ []
   pub beaten : (life_at (leaves running (beats 0 2 ∷ [])) 2).watchdogs.taken ≡ true

@@ -6,7 +6,7 @@ use Rattle.machine.specs.Words.{Bytes, up_to}
 use Rattle.machine.specs.State.{alarm_of, issued_for, Content, Held, held_as, Pool, pool_of, Machine, with_subscriptions, at_end}
 use Rattle.machine.specs.State.Event.{Issue, Acknowledge, Suspend}
 use Rattle.machine.specs.State.Content.{of_alarm, of_status, of_aggregated}
-use Rattle.machine.specs.State.Sent.{noRecord, the_record}
+use Rattle.machine.specs.State.Sent.{no_record, the_record}
 use Rattle.machine.specs.State.Act.{tick, disconnect}
 use Rattle.machine.specs.Pool.{holds, issue_all}
 use Rattle.machine.specs.Step.{leaves}
@@ -102,7 +102,7 @@ pub record Settling : Type 0 where
       ∷ []))) (answer 0 1 "MessageAck" 1 ∷ [])
       ≡ awaiting_on 1 (awaits 2 noon (the_record 5) ∷ []) (holding (aggregated_by 1 5 ∷ aggregated_by 1 6 ∷ []))
   -- one that carried none settles none
-  pub without : (leaves (awaiting_on 1 (awaits 1 noon noRecord ∷ []) (holding (aggregated_by 1 5 ∷ []))) (answer 0 1 "MessageAck" 1 ∷ [])).pool.held
+  pub without : (leaves (awaiting_on 1 (awaits 1 noon no_record ∷ []) (holding (aggregated_by 1 5 ∷ []))) (answer 0 1 "MessageAck" 1 ∷ [])).pool.held
       ≡ aggregated_by 1 5 ∷ []
 
 pub record Records : Type 0 where

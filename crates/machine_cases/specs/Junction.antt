@@ -7,7 +7,7 @@ use Rattle.std.proofs.Math.Option.{some, none}
 use Rattle.basis.specs.Text.{text}
 use Rattle.identity.specs.Text.{identity_text}
 use Rattle.table_whole.specs.Table.{Row, Table}
-use Rattle.machine.specs.Words.{Bytes, if◌then◌else◌, flat, up_to}
+use Rattle.machine.specs.Words.{Bytes, if'◌then◌else◌, flat, up_to}
 use Rattle.machine.specs.State.{
   Alarm,
   alarm_of,
@@ -29,7 +29,7 @@ use Rattle.machine.specs.State.{
   Call,
 }
 use Rattle.machine.specs.State.Event.{Issue}
-use Rattle.machine.specs.State.Sent.{noRecord}
+use Rattle.machine.specs.State.Sent.{no_record}
 use Rattle.machine.specs.State.Act.{packet, pump}
 use Rattle.machine.specs.Table.{first}
 use Rattle.machine.specs.Readings.{phase_of}
@@ -78,7 +78,7 @@ awaits k time message = record { identity = own k; time = time; message = messag
 
 -- so many messages without a record on their way since noon, their random bytes 0 upwards
 abbrev pub awaited : ℕ → List Awaited
-awaited n = map (λ k. awaits k noon noRecord) (up_to n)
+awaited n = map (λ k. awaits k noon no_record) (up_to n)
 
 -- ---- links 0 and 1 Up, their first pass over; link 2 Beating, link 3 Down
 abbrev pub calm : Alarm
@@ -102,7 +102,7 @@ numbered_from next = at_end noon (pool_of next [] (0 ∷ 0 ∷ 0 ∷ 0 ∷ [])) 
 
 -- ---- a text with ' for "
 abbrev pub json : String → Bytes
-json s = map (λ b. if eqb b 39 then 34 else b) (text s)
+json s = map (λ b. if' eqb b 39 then 34 else b) (text s)
 
 -- .. in several parts
 abbrev pub jsons : List String → Bytes

@@ -1,4 +1,6 @@
 // The names of types and reasons: one table of bytes with starts and lengths, which readers and writers cite.
+#![tactic(auto)]
+
 ghost use Rattle.std.specs.Prelude.{◌≡◌, [], ◌∷◌, ℕ, ◌+◌, ◌-◌, ◌≤◌, ◌<◌};
 ghost use Rattle.basis.specs.Lists.{same_bytes};
 ghost use Rattle.output.specs.Put.{Wrote};
@@ -9,7 +11,7 @@ mod table; // table.rt: the bytes of all names, and where each stands
 pub mod types; // types.rt: the eighteen types of messages
 pub mod reasons; // reasons.rt: the twelve reasons of a MessageNotAck
 
-#[derive(Drop)]
+#[derive(Clone, Copy)]
 pub enum Found {
     At(usize),
     Nothing,

@@ -19,7 +19,7 @@ pub const STARTS: [u16; COUNT] = [
 pub const LENS: [u8; COUNT] =
     *b"\x07\x08\x0a\x0d\x05\x10\x17\x0d\x0e\x0f\x11\x0c\x0e\x0f\x18\x19\x19\x1a\x0f\x09\x0a\x09\x0c\x07\x0b\x11\x0d\x0e\x0f\x04";
 
-#[derive(Drop)]
+#[derive(Clone, Copy)]
 pub struct Span {
     pub start: usize,
     pub end: usize,

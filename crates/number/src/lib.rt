@@ -1,4 +1,6 @@
 // Numbers as bits, bytes and decimal text, both ways, and the table's alphabet.
+#![tactic(auto)]
+
 ghost use Rattle.std.specs.Prelude.{◌≡◌, [], ◌∷◌, ◌+◌, ◌-◌, ◌*◌, ◌%◌, ◌≤◌, ◌<◌, length, drop};
 ghost use Rattle.output.specs.Put.{Wrote};
 ghost use Rattle.number.specs.Signed.{word_of, signed_of, signed16_of, at_most, four_of, signed_in};
@@ -8,7 +10,7 @@ ghost use Rattle.number.specs.Alphabet.{in_alphabet, is_label};
 
 // Four bytes, most significant first.
 #[repr(C)]
-#[derive(Drop)]
+#[derive(Clone, Copy)]
 pub struct Four {
     pub bytes: [u8; 4],
 }
@@ -78,7 +80,7 @@ fn last_digit(n: u64) -> u8
 }
 
 // A text at the end of an array, with room for a sign before it.
-#[derive(Drop)]
+#[derive(Clone, Copy)]
 struct Text {
     bytes: [u8; 21],
     from: usize,
@@ -131,13 +133,13 @@ pub fn put_i32(out: &mut [u8], at: usize, v: i32) -> usize
     }
 }
 
-#[derive(Drop)]
+#[derive(Clone, Copy)]
 pub enum Number {
     Is(u32),
     No,
 }
 
-#[derive(Drop)]
+#[derive(Clone, Copy)]
 pub enum Int {
     Is(i32),
     No,

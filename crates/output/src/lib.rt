@@ -1,4 +1,6 @@
 // Bytes into a lent output, from its present end.
+#![tactic(auto)]
+
 ghost use Rattle.std.specs.Prelude.{[], ◌∷◌};
 ghost use Rattle.output.specs.Put.{Wrote};
 

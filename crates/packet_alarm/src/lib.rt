@@ -1,4 +1,6 @@
 // What a supervisor orders of an alarm, and its request for the aggregated status, in place.
+#![tactic(auto)]
+
 ghost use Rattle.std.specs.Prelude.{◌≡◌, List, [], ◌++◌, ℕ, ◌<◌, length};
 ghost use Rattle.answer.specs.Given.Hint.{none};
 ghost use Rattle.table_whole.specs.declared.SiteTable.{SiteTable};

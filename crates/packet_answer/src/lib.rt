@@ -1,4 +1,6 @@
 // The answer to a packet that is not ignored, and the end of its call, in place.
+#![tactic(auto)]
+
 ghost use Rattle.std.specs.Prelude.{List, ◌≡◌, ℕ, ◌<◌, length};
 ghost use Rattle.answer.specs.declared.Answer.TheVariants.{Done};
 ghost use Rattle.awaited.specs.Awaited.{find_of, is_awaited};
@@ -27,7 +29,7 @@ use write_message::Told;
 
 // What the call of a packet is asked: on a link, at a time, a reply going out under an identity; the characters of the packet's mId; and whether
 // the response is to carry the acknowledgement.
-#[derive(Drop)]
+#[derive(Clone, Copy)]
 pub struct Question {
     pub link: u16,
     pub time: u64,

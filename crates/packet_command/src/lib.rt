@@ -1,4 +1,6 @@
 // CommandRequest, of either form: every entry is judged, then all are answered and counted as handed over, or none is. Handing over writes them into lent words.
+#![tactic(auto)]
+
 ghost use Rattle.std.specs.Prelude.{◌≡◌, true, List, ◌++◌, ℕ, ◌+◌, ◌*◌, ◌^◌, ◌<◌, length};
 ghost use Rattle.basis.specs.Pick.{both};
 ghost use Rattle.number.specs.Signed.{word_of};

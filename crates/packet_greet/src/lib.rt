@@ -1,4 +1,6 @@
 // What comes while a link greets and beats, in place: the answers to messages of ours, their Version and their Watchdog.
+#![tactic(auto)]
+
 ghost use Rattle.std.specs.Prelude.{List, ◌≡◌, ℕ, ◌<◌, length};
 ghost use Rattle.table_whole.specs.declared.SiteTable.{SiteTable};
 ghost use Rattle.site.specs.declared.Site.{Site};

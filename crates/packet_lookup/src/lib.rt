@@ -1,4 +1,6 @@
 // What a packet names, looked up in the site table.
+#![tactic(auto)]
+
 ghost use Rattle.std.specs.Prelude.{◌≡◌, length};
 ghost use Rattle.basis.specs.Pick.{both};
 ghost use Rattle.label.specs.Label.{text_of};
@@ -13,13 +15,13 @@ use read_lists::StatusEntry;
 use table_item::Found;
 
 // The number of a component, an alarm, a status or a command.
-#[derive(Drop)]
+#[derive(Clone, Copy)]
 pub enum Sought {
     Is(u8),
     Nothing,
 }
 
-#[derive(Drop)]
+#[derive(Clone, Copy)]
 pub enum SoughtAlarm {
     Alarm(u8),
     NoComponent,

@@ -1,4 +1,6 @@
 // StatusSubscribe and StatusUnsubscribe, in place.
+#![tactic(auto)]
+
 ghost use Rattle.std.specs.Prelude.{◌≡◌, true, false, List, [], ℕ, ◌+◌, ◌*◌, ◌<◌, length};
 ghost use Rattle.basis.specs.Pick.{pick};
 ghost use Rattle.table_whole.specs.declared.SiteTable.{SiteTable};

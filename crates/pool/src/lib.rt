@@ -1,5 +1,7 @@
 // The pool of records that wait to be sent and answered: 128 places for all owners, and how many records each owner lost. An owner is a
 // link of a site: 4 times the site's number and the link's. store_pool has its acts.
+#![tactic(auto)]
+
 ghost use Rattle.std.specs.Prelude.{◌≡◌};
 ghost use Rattle.pool.specs.Pool.{empty_of};
 
@@ -7,21 +9,21 @@ use entry::Entry;
 
 // A place: 0 it is free, 1 its record is not sent, 2 it is sent.
 #[repr(C)]
-#[derive(Drop)]
+#[derive(Clone, Copy)]
 pub struct Place {
     pub entry: Entry,
     pub mark: u64,
 }
 
 #[repr(C)]
-#[derive(Drop)]
+#[derive(Clone, Copy)]
 pub struct Pool {
     pub places: [Place; 128],
     pub lost: [u64; 8],
 }
 
 // What is asked of a place.
-#[derive(Drop)]
+#[derive(Clone, Copy)]
 pub enum Wanted {
     Free,
     Of(u16),
@@ -32,21 +34,21 @@ pub enum Wanted {
 }
 
 // A place's index, and what stands there.
-#[derive(Drop)]
+#[derive(Clone, Copy)]
 pub enum Spot {
     At(usize, Place),
     Nowhere,
 }
 
 // Whose oldest record is lost.
-#[derive(Drop)]
+#[derive(Clone, Copy)]
 pub enum Loser {
     Nobody,
     Owner(u16),
 }
 
 // A record that is held, with its mark.
-#[derive(Drop)]
+#[derive(Clone, Copy)]
 pub enum Sought {
     Found(Place),
     Nothing,
@@ -54,7 +56,7 @@ pub enum Sought {
 
 // A record's sixteen bytes; zeros where there is none.
 #[repr(C)]
-#[derive(Drop)]
+#[derive(Clone, Copy)]
 pub struct Reading {
     pub found: bool,
     pub bytes: [u8; 16],

@@ -117,6 +117,7 @@ module _ (n : ℕ) (small : 16 * n ≤ 128) where
       fate_later p (Unmark l) xs m k (whole_list (unmark_of p l) q xs (act_keeps p q (Unmark l) y i) r s m k (unmark_held p l m k h))
 
   issued_safe : (p : Pool) (q : ℕ → ℕ) (xs : List Act) → Inv n p q → Rising n q xs → NoSettle xs → (e : Entry) → Among (Issue e) xs → Safe (acts n p xs) e.link e.sequence
+  issued_safe p q [] i r s e a = elim a [ ]
   issued_safe p q (Issue d ∷ xs) i (then y r) s e first =
       safe_stays (act n p (Issue d)) (next q (Issue d)) xs (act_keeps p q (Issue d) y i) r s d.link d.sequence (issue_held p q i d y)
   issued_safe p q (Issue d ∷ xs) i (then y r) s e (among_later a) = issued_safe (act n p (Issue d)) (next q (Issue d)) xs (act_keeps p q (Issue d) y i) r s e a
@@ -125,6 +126,7 @@ module _ (n : ℕ) (small : 16 * n ≤ 128) where
   issued_safe p q (Unmark l ∷ xs) i (then y r) s e (among_later a) = issued_safe (unmark_of p l) q xs (act_keeps p q (Unmark l) y i) r s e a
 
   pub whole_issued : (p : Pool) (q : ℕ → ℕ) (xs : List Act) → Inv n p q → Rising n q xs → SettlesFirst xs → (e : Entry) → Among (Issue e) xs → Safe (acts n p xs) e.link e.sequence
+  whole_issued p q [] i r s e a = elim a [ ]
   whole_issued p q (Issue d ∷ xs) i r s e a = issued_safe p q (Issue d ∷ xs) i r s e a
   whole_issued p q (Settle l j ∷ xs) i (then y r) s e (among_later a) = whole_issued (settle_of p l j) q xs (act_keeps p q (Settle l j) y i) r s e a
   whole_issued p q (Mark l j ∷ xs) i (then y r) s e (among_later a) = whole_issued (mark_of p l j) q xs (act_keeps p q (Mark l j) y i) r s e a

@@ -1,6 +1,6 @@
 -- A link's records are its own, each sent or not, and their numbers rise: so the rank of a record is its place in the list.
 -- Assumes nothing.
-use Rattle.basis.proofs.Std.{ℕ, suc, zero, ◌+◌, ◌≤◌, ◌<◌, ◌≡◌, refl, List, [], ◌∷◌, Bool, true, false, ◌⊎◌, inl, inr, ltb, leb, eqb, arith, ltb-true, le-leb, eq-eqb, ne_eqb, pick, both, bit, count, lt_or_ge, eq_or_ne}
+use Rattle.basis.proofs.Std.{sym, subst, ℕ, suc, zero, ◌+◌, ◌≤◌, ◌<◌, ◌≡◌, refl, List, [], ◌∷◌, Bool, true, false, ◌⊎◌, inl, inr, ltb, leb, eqb, arith, ltb-true, le-leb, eq-eqb, ne_eqb, pick, both, bit, count, lt_or_ge, eq_or_ne}
 use Rattle.pool.specs.declared.Place.{Place}
 use Rattle.pool.specs.declared.Pool.{Pool}
 use Rattle.pool.specs.Places.{of}
@@ -120,5 +120,6 @@ rank_nth m q k c (suc d) h (x ∷ l) (next a b w z o) e =
     let no : h (number x) ≡ c + suc d → ⊥ =
     λ s. omega (arith, e (number x) w, bit_ge (number x) (number x) (omega arith), order_under m q (number x + 1) (number x) l o (omega arith)) in
     let same : c + suc d ≡ (c + 1) + d = omega arith in
-    rw (ne_eqb (h (number x)) (c + suc d) no, same)
-    (rank_nth m q (number x + 1) (c + 1) d h l o (λ j g. omega (arith, e j (omega arith), bit_lt (number x) j (omega arith))))
+    rw (ne_eqb (h (number x)) (c + suc d) no)
+    (subst (λ (k : ℕ). first_where (λ (y : Place). eqb (h (number y)) k) l ≡ nth d l) (sym same)
+    (rank_nth m q (number x + 1) (c + 1) d h l o (λ j g. omega (arith, e j (omega arith), bit_lt (number x) j (omega arith)))))

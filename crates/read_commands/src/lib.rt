@@ -1,4 +1,6 @@
 // What a CommandRequest says.
+#![tactic(auto)]
+
 ghost use Rattle.std.specs.Prelude.{◌≡◌, drop};
 ghost use Rattle.basis.specs.Text.{text};
 ghost use Rattle.json_value.specs.Reader.{skip_ws};
@@ -16,41 +18,41 @@ use label::Label;
 use number::Int;
 use read_head::{GotLabel, Verdict};
 
-#[derive(Drop)]
+#[derive(Clone, Copy)]
 pub struct GotValue {
     pub verdict: Verdict,
     pub value: i32,
 }
 
 // A command that is asked for, and the value.
-#[derive(Drop)]
+#[derive(Clone, Copy)]
 pub struct CommandEntry {
     pub code: Label,
     pub name: Label,
     pub value: i32,
 }
 
-#[derive(Drop)]
+#[derive(Clone, Copy)]
 pub struct GotCommand {
     pub verdict: Verdict,
     pub entry: CommandEntry,
 }
 
 // An entry, and the place of the next.
-#[derive(Drop)]
+#[derive(Clone, Copy)]
 pub struct CommandStep {
     pub got: GotCommand,
     pub next: Read,
 }
 
-#[derive(Drop)]
+#[derive(Clone, Copy)]
 pub struct CommandList {
     pub verdict: Verdict,
     pub count: usize,
     pub entries: [CommandEntry; 16],
 }
 
-#[derive(Drop)]
+#[derive(Clone, Copy)]
 pub struct CommandFields {
     pub verdict: Verdict,
     pub component: Label,

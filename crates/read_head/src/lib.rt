@@ -1,4 +1,6 @@
 // What a packet says: its head, and the fields of the messages without lists.
+#![tactic(auto)]
+
 ghost use Rattle.std.specs.Prelude.{◌≡◌, min, drop};
 ghost use Rattle.basis.specs.Lists.{same_bytes};
 ghost use Rattle.basis.specs.Text.{text};
@@ -20,7 +22,7 @@ use label::Label;
 use names::{Found, types};
 
 // Whether an element is as it must be, and else the reason.
-#[derive(Drop)]
+#[derive(Clone, Copy)]
 pub enum Verdict {
     Good,
     Missing,
@@ -28,7 +30,7 @@ pub enum Verdict {
 }
 
 // What a supervisor orders of an alarm.
-#[derive(Drop)]
+#[derive(Clone, Copy)]
 pub enum Order {
     Request,
     Acknowledge,
@@ -37,7 +39,7 @@ pub enum Order {
 }
 
 // The types that are taken, besides the two answers.
-#[derive(Drop)]
+#[derive(Clone, Copy)]
 pub enum Kind {
     Version,
     Watchdog,
@@ -51,7 +53,7 @@ pub enum Kind {
 }
 
 // An answer, or a request with what its mType is; what is neither is ignored.
-#[derive(Drop)]
+#[derive(Clone, Copy)]
 pub enum Class {
     Ignored,
     Acked,
@@ -60,13 +62,13 @@ pub enum Class {
 }
 
 // The 36 characters of a request's mId, as they were received.
-#[derive(Drop)]
+#[derive(Clone, Copy)]
 pub struct Received {
     pub bytes: [u8; 36],
 }
 
 // An answer has the identity that it answers, a request the characters of its own, and whether its response is to carry the acknowledgement.
-#[derive(Drop)]
+#[derive(Clone, Copy)]
 pub struct Head {
     pub class: Class,
     pub received: Received,
@@ -74,27 +76,27 @@ pub struct Head {
     pub included: bool,
 }
 
-#[derive(Drop)]
+#[derive(Clone, Copy)]
 pub struct GotLabel {
     pub verdict: Verdict,
     pub label: Label,
 }
 
 // A time, and how many decimals stood there.
-#[derive(Drop)]
+#[derive(Clone, Copy)]
 pub struct GotTime {
     pub verdict: Verdict,
     pub time: u64,
     pub decimals: usize,
 }
 
-#[derive(Drop)]
+#[derive(Clone, Copy)]
 pub struct GotOrder {
     pub verdict: Verdict,
     pub order: Order,
 }
 
-#[derive(Drop)]
+#[derive(Clone, Copy)]
 pub struct AlarmFields {
     pub verdict: Verdict,
     pub component: Label,
@@ -103,7 +105,7 @@ pub struct AlarmFields {
 }
 
 // The copy of an element that may be a string.
-#[derive(Drop)]
+#[derive(Clone, Copy)]
 pub struct Element {
     pub there: bool,
     pub copy: Copied,

@@ -1,4 +1,6 @@
 // RSMP versions: their texts, and the three checks of a Version message.
+#![tactic(auto)]
+
 ghost use Rattle.std.specs.Prelude.{◌≡◌, true, min, take};
 ghost use Rattle.basis.specs.Pick.{pick};
 ghost use Rattle.read_versions.specs.Numeral.{number_in};
@@ -11,7 +13,7 @@ use number::Number;
 
 // At most sixteen versions, each as one number.
 #[repr(C)]
-#[derive(Drop)]
+#[derive(Clone, Copy)]
 pub struct Versions {
     pub count: usize,
     pub list: [u32; 16],
@@ -19,7 +21,7 @@ pub struct Versions {
 
 // At most sixteen site ids.
 #[repr(C)]
-#[derive(Drop)]
+#[derive(Clone, Copy)]
 pub struct Sites {
     pub count: usize,
     pub list: [Label; 16],
@@ -27,14 +29,14 @@ pub struct Sites {
 
 // What a Version message offers.
 #[repr(C)]
-#[derive(Drop)]
+#[derive(Clone, Copy)]
 pub struct Offer {
     pub versions: Versions,
     pub sites: Sites,
     pub sxl: Label,
 }
 
-#[derive(Drop)]
+#[derive(Clone, Copy)]
 pub enum Judged {
     Chosen(u32),
     RsmpVersion,

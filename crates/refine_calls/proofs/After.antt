@@ -16,7 +16,7 @@ use Rattle.send_after.specs.declared.Carried.{Carried}
 use Rattle.send_after.specs.declared.Carried.TheVariants.{Held as Carries, NoRecord}
 use Rattle.send_after.specs.Outgoing.{purpose_of, marked, same_event, carried_of, carried_at}
 use Rattle.machine.specs.State.{Held, Sent, Life, Machine, with_life, with_held, alarm_at}
-use Rattle.machine.specs.State.Sent.{noRecord, the_record}
+use Rattle.machine.specs.State.Sent.{no_record, the_record}
 use Rattle.machine.specs.State.Content.{of_alarm}
 use Rattle.machine.specs.Pool.{marked as now_marked}
 use Rattle.machine.specs.Life.{newest, carried_by}
@@ -36,7 +36,7 @@ use Rattle.refine_calls.proofs.Parts.{items_moved, with_life_lem}
 -- what a message that carries so was sent as
 abbrev pub sent_for : Carried → Sent
 sent_for (Carries q) = the_record q
-sent_for NoRecord = noRecord
+sent_for NoRecord = no_record
 
 pub same_purpose : (c : Carried) → purpose_for (sent_for c) ≡ purpose_of c
 same_purpose (Carries q) = refl
@@ -78,7 +78,7 @@ module _ {beside : Beside} (s : Site) (m : Machine) (h : Abstracts beside s m) (
     carried_like_lem Nothing = refl
     carried_like_lem (Found x) = by (same_event x.entry (entry_for (owner_of s l) 0 (of_alarm i (alarm_at m i)))) x.entry.sequence
       where
-        by : (t : Bool) (q : ℕ) → sent_for (pick t (Carries q) NoRecord) ≡ pick t (the_record q) noRecord
+        by : (t : Bool) (q : ℕ) → sent_for (pick t (Carries q) NoRecord) ≡ pick t (the_record q) no_record
         by true q = refl
         by false q = refl
 

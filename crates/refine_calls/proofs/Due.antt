@@ -4,7 +4,7 @@ use Rattle.basis.proofs.Std.{ℕ, zero, suc, ◌+◌, ◌-◌, ◌*◌, ◌≤�
 use Rattle.machine.specs.Words.{◌and◌, ◌or◌, maybe}
 use Rattle.machine.specs.State.{Held, Machine, life_at}
 use Rattle.machine.specs.Life.{is_greeting, is_beating, is_up, is_primary, pass_length, oldest_unsent, Due, due_up, due}
-use Rattle.machine.specs.Life.Due.{theVersion, theWatchdog, theAggregated, the_alarm, the_held}
+use Rattle.machine.specs.Life.Due.{the_version, the_watchdog, the_aggregated, the_alarm, the_held}
 
 not-true : (b : Bool) → not b ≡ true → b ≡ false
 not-true true e = sym e
@@ -27,9 +27,9 @@ pub record Alarms (m : Machine) (l i : ℕ) : Type 0 where
 
 module _ (m : Machine) (l t : ℕ) where
   abbrev pub Why : Due → Type 0
-  Why theVersion = (is_greeting (life_at m l) ≡ true) × ((life_at m l).versions.sent ≡ false)
-  Why theWatchdog = ((is_beating (life_at m l) and not (life_at m l).watchdogs.sent) or is_up (life_at m l)) ≡ true
-  Why theAggregated = (is_up (life_at m l) ≡ true) × ((life_at m l).pass ≡ 0)
+  Why the_version = (is_greeting (life_at m l) ≡ true) × ((life_at m l).versions.sent ≡ false)
+  Why the_watchdog = ((is_beating (life_at m l) and not (life_at m l).watchdogs.sent) or is_up (life_at m l)) ≡ true
+  Why the_aggregated = (is_up (life_at m l) ≡ true) × ((life_at m l).pass ≡ 0)
   Why (the_alarm i) = Alarms m l i
   Why (the_held h) = (is_up (life_at m l) ≡ true) × (oldest_unsent m l ≡ some h)
 

@@ -19,7 +19,7 @@ use Rattle.call_laws.specs.Calls.Call.{pump}
 use Rattle.machine.specs.Words.{is_some, is_number, or_else}
 use Rattle.machine.specs.State.{Held, Machine, life_at}
 use Rattle.machine.specs.Life.{Due, oldest_unsent as oldest_unsent_of, due}
-use Rattle.machine.specs.Life.Due.{theVersion, theWatchdog, theAggregated, the_alarm, the_held}
+use Rattle.machine.specs.Life.Due.{the_version, the_watchdog, the_aggregated, the_alarm, the_held}
 use Rattle.machine.specs.Step.{no_such_link, conditions, number_of}
 use Rattle.refine_parts.specs.Same.{Beside}
 use Rattle.refine_parts.specs.Questions.{role_in, kind_of}
@@ -35,9 +35,9 @@ due_by k t a b c d = rw (a, b, c, d)
 
 is_nothing_lem : (o : Option Due) → is_nothing (kind_of o) ≡ not (is_some o)
 is_nothing_lem none = refl
-is_nothing_lem (some theVersion) = refl
-is_nothing_lem (some theWatchdog) = refl
-is_nothing_lem (some theAggregated) = refl
+is_nothing_lem (some the_version) = refl
+is_nothing_lem (some the_watchdog) = refl
+is_nothing_lem (some the_aggregated) = refl
 is_nothing_lem (some (the_alarm i)) = refl
 is_nothing_lem (some (the_held h)) = refl
 

@@ -17,7 +17,7 @@ use Rattle.call_pump.specs.Pump.{sends, entry_plan, plan_for}
 use Rattle.machine.specs.State.{Held, Sent, Machine, effect, life_at, with_life}
 use Rattle.machine.specs.State.Sent.{the_record}
 use Rattle.machine.specs.Life.{is_up, awaiting, Due, due, carried_by}
-use Rattle.machine.specs.Life.Due.{theVersion, theWatchdog, theAggregated, the_alarm, the_held}
+use Rattle.machine.specs.Life.Due.{the_version, the_watchdog, the_aggregated, the_alarm, the_held}
 use Rattle.machine.specs.Effects.{passed, mark_sent, sends as sending}
 use Rattle.demand_held.proofs.Lists.Each.{no_more}
 use Rattle.refine_parts.specs.Same.{Beside}
@@ -64,22 +64,22 @@ module _ {beside : Beside} (s : Site) (m : Machine) (h : Abstracts beside s m) (
   abbrev Same : Due → Type 0
   Same d = due m l t ≡ some d → SamePlan beside (plan_for (kind_of (some d)) s l t id) (sending l t id.bytes m d)
 
-  version_same : Same theVersion
+  version_same : Same the_version
   unfolding sending
   version_same e =
       sent_plan _ _ _ _
-      (with_life_lem s m h l b _ _ (lives.version (why m l t theVersion e).0 (why m l t theVersion e).1))
+      (with_life_lem s m h l b _ _ (lives.version (why m l t the_version e).0 (why m l t the_version e).1))
       (ap₂ (version id.bytes) texts.site texts.sxl)
 
-  watchdog_same : Same theWatchdog
+  watchdog_same : Same the_watchdog
   unfolding sending
-  watchdog_same e = sent_plan _ _ _ _ (with_life_lem s m h l b _ _ (lives.watchdog (why m l t theWatchdog e))) refl
+  watchdog_same e = sent_plan _ _ _ _ (with_life_lem s m h l b _ _ (lives.watchdog (why m l t the_watchdog e))) refl
 
-  aggregated_same : Same theAggregated
+  aggregated_same : Same the_aggregated
   unfolding sending
   aggregated_same e =
       sent_plan _ _ _ _
-      (with_life_lem s m h l b _ _ (lives.aggregated (why m l t theAggregated e).0 (why m l t theAggregated e).1))
+      (with_life_lem s m h l b _ _ (lives.aggregated (why m l t the_aggregated e).0 (why m l t the_aggregated e).1))
       told.aggregated
 
   -- ---- an alarm of the first pass
@@ -125,8 +125,8 @@ module _ {beside : Beside} (s : Site) (m : Machine) (h : Abstracts beside s m) (
       (entry_same x (why m l t (the_held x) e).0 ((same_answers m h.pool).unsent_stands l x (why m l t (the_held x) e).1))
 
   pub plan_same : (d : Due) → Same d
-  plan_same theVersion = version_same
-  plan_same theWatchdog = watchdog_same
-  plan_same theAggregated = aggregated_same
+  plan_same the_version = version_same
+  plan_same the_watchdog = watchdog_same
+  plan_same the_aggregated = aggregated_same
   plan_same (the_alarm i) = alarm_same i
   plan_same (the_held x) = held_same x

@@ -13,7 +13,7 @@ use Rattle.site.specs.Site.{link_at, with_link}
 use Rattle.packet_greet.specs.Answered.{settled_for, answered_plan}
 use Rattle.machine.specs.Words.{Bytes}
 use Rattle.machine.specs.State.{Sent, Awaited, Life, fresh, Machine, life_at, with_life}
-use Rattle.machine.specs.State.Sent.{ourVersion, ourWatchdog, noRecord, the_record}
+use Rattle.machine.specs.State.Sent.{own_version, own_watchdog, no_record, the_record}
 use Rattle.machine.specs.Json.{string_of, is_type}
 use Rattle.machine.specs.Life.{awaited_by, answered_to}
 use Rattle.machine.specs.Effects.{answer_closes, acknowledges, settle, answers, answered}
@@ -43,9 +43,9 @@ module _ {beside : Beside} (s : Site) (m : Machine) (h : Abstracts beside s m) (
 
   -- "Either answer settles a record.", and the link goes on
   goes_on_lem : (x : Sent) (k : Link) (y : Life) → SameLife k y → Abstracts beside (with_link (settled_for s l (purpose_for x)) l k) (with_life l y (settle l x m))
-  goes_on_lem ourVersion k y e = with_life_lem s m h l b k y e
-  goes_on_lem ourWatchdog k y e = with_life_lem s m h l b k y e
-  goes_on_lem noRecord k y e = with_life_lem s m h l b k y e
+  goes_on_lem own_version k y e = with_life_lem s m h l b k y e
+  goes_on_lem own_watchdog k y e = with_life_lem s m h l b k y e
+  goes_on_lem no_record k y e = with_life_lem s m h l b k y e
   goes_on_lem (the_record n) k y e = with_life_lem (settled_for s l (purpose_for (the_record n))) (settle l (the_record n) m) (settled_one n) l b k y e
 
   module _ (o : Bytes) (id : Identity) (is_ack : Bool) (w : Awaited) (says : Says o id.bytes) (found : awaited_by (life_at m l) o ≡ some w) where

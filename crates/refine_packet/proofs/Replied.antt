@@ -14,7 +14,7 @@ use Rattle.site.specs.Site.{link_at}
 use Rattle.site.specs.Call.{Command}
 use Rattle.packet_answer.specs.Taken.{not_acked, handing, replied, responded, unless_busy, answering, busy}
 use Rattle.machine.specs.State.{Command as MachineCommand, Machine, life_at, with_life, handing as handing_of, only}
-use Rattle.machine.specs.State.Sent.{noRecord}
+use Rattle.machine.specs.State.Sent.{no_record}
 use Rattle.machine.specs.Json.{string_of}
 use Rattle.machine.specs.Life.{is_up, awaiting}
 use Rattle.machine.specs.Answers.{wants_reply, replies_at_once}
@@ -34,7 +34,7 @@ use Rattle.refine_packet.proofs.Refused.{reasons}
 
 replied_so : (m : Machine) (l t : ℕ) (id : List ℕ) (j : Json) (ds : List MachineCommand) → replies_at_once j ≡ false → wants_reply m l j ≡ true
     → replying l t id j (handing_of ds m [] [] [] none)
-    ≡ handing_of ds (with_life l (awaiting id t noRecord (life_at m l)) m) [] (ack (string_of "mId" j) ∷ reply_message m t id j ∷ []) [] none
+    ≡ handing_of ds (with_life l (awaiting id t no_record (life_at m l)) m) [] (ack (string_of "mId" j) ∷ reply_message m t id j ∷ []) [] none
 unfolding replying
 replied_so m l t id j ds o w = rw (o, w)
 
@@ -44,12 +44,12 @@ unfolding replying
 responded_so m l t id j ds o = rw o
 
 -- a request of a component by either type: what it does, and that it is told these entries
-pub record Asks (m : Machine) (l t : ℕ) (id : List ℕ) (j : Json) (at_once : Bool) (kind : Told) (entries : List Status) (ds : List MachineCommand) : Type 0 where
-  pub at_once : replies_at_once j ≡ at_once
-  pub replies : wants_reply m l j ≡ not at_once
+pub record Asks (m : Machine) (l t : ℕ) (id : List ℕ) (j : Json) (early : Bool) (kind : Told) (entries : List Status) (ds : List MachineCommand) : Type 0 where
+  pub at_once : replies_at_once j ≡ early
+  pub replies : wants_reply m l j ≡ not early
   pub does : carried_out l t j m ≡ handing_of ds m [] [] [] none
-  pub told : pick at_once (included_message m t j) (reply_message m t id j)
-      ≡ pick at_once (included kind (string_of "mId" j) (string_of "cId" j) t entries) (statuses kind id (string_of "cId" j) t entries)
+  pub told : pick early (included_message m t j) (reply_message m t id j)
+      ≡ pick early (included kind (string_of "mId" j) (string_of "cId" j) t entries) (statuses kind id (string_of "cId" j) t entries)
 
 module _ {beside : Beside} (s : Site) (m : Machine) (h : Abstracts beside s m) (l : ℕ) (b : l < m.setup.links) (up : is_up (life_at m l) ≡ true) (t : ℕ) (id : Identity) (v : SixteenBytes id.bytes) (j : Json) where
   -- with commands that are handed over, and without
@@ -71,9 +71,9 @@ module _ {beside : Beside} (s : Site) (m : Machine) (h : Abstracts beside s m) (
             plan = λ u.
                 subst (SamePlan beside (handing s (question_on l t id j) x cs).plan) (sym (ap (replying l t id.bytes j) c ∙ replied_so m l t id.bytes j ds o w))
                 (record {
-                  leaves = with_life_lem s m h l b (message_out_of (link_at s l) id t Other) (awaiting id.bytes t noRecord (life_at m l))
+                  leaves = with_life_lem s m h l b (message_out_of (link_at s l) id t Other) (awaiting id.bytes t no_record (life_at m l))
                       (((acts.acts (link_at s l) (life_at m l) (h.lives l)
-                      ).sends id t (record { bytes = v; unawaited = u refl; room = leb-false 16 (length (life_at m l).awaited) f })).other noRecord up);
+                      ).sends id t (record { bytes = v; unawaited = u refl; room = leb-false 16 (length (life_at m l).awaited) f })).other no_record up);
                   issued = record { issued = refl; told = no_more };
                   for_links = no_more;
                   messages = ap (λ (y : Message). ack (string_of "mId" j) ∷ y ∷ []) e;

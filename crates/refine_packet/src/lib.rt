@@ -1,1 +1,3 @@
 // What a packet comes to, by the code and by the machine.
+
+#![tactic(auto)]

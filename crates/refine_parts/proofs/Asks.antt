@@ -15,7 +15,7 @@ use Rattle.pool_laws.proofs.BatchKept.{kept}
 use Rattle.site.specs.Site.{owner}
 use Rattle.machine.specs.Words.{maybe, is_some, keep, first_that}
 use Rattle.machine.specs.State.{Held, Machine, alarm_at, Effect}
-use Rattle.machine.specs.State.Sent.{noRecord}
+use Rattle.machine.specs.State.Sent.{no_record}
 use Rattle.machine.specs.Pool.{is_for, owner_of}
 use Rattle.machine.specs.Life.{alarm_in, newest, carries, carried_by, oldest_unsent as oldest_unsent_of}
 use Rattle.machine.specs.Readings.{entry_for, record_bytes, reading}
@@ -108,6 +108,7 @@ newest_among l i o (x ∷ hs) h e = go (is_alarm_of l i x) refl (newest_among l 
     go false d (inl e) = inl e
 
 of_each : {A : Type 0} {P : A → Type 0} {x : A} {xs : List A} → Each P xs → Among x xs → P x
+of_each {A = A} {P = P} no_more x4 = elim x4 [ ]
 of_each (one_more p r) first = p
 of_each (one_more p r) (later a) = of_each r a
 
@@ -165,7 +166,7 @@ module _ {links k q : ℕ} {x : Beside} {p : Pool} (m : Machine) (same : SamePoo
   unfolding carried_by
   carried_same l i = rw (alarm_same l i) (go (newest l i none hs) refl)
     where
-      go : (o : Option Held) → newest l i none hs ≡ o → maybe noRecord (carries (alarm_at m i) i) o ≡ carried_like (alarm_at m i) (found (its l) o)
+      go : (o : Option Held) → newest l i none hs ≡ o → maybe no_record (carries (alarm_at m i) i) o ≡ carried_like (alarm_at m i) (found (its l) o)
       go none e = refl
       go (some h) e = carried_entry (its l) (alarm_at m i) i h (both_second (is_for l h) _ (newest_is l i h e).1)
 

@@ -13,7 +13,7 @@ use Rattle.machine.specs.Words.{is_some, maybe, alike}
 use Rattle.machine.specs.State.{Event, event_number, Alarm, Content, Issued, Held}
 use Rattle.machine.specs.State.Event.{Issue, Acknowledge, Suspend}
 use Rattle.machine.specs.State.Content.{of_alarm, of_status, of_aggregated}
-use Rattle.machine.specs.State.Sent.{noRecord, the_record}
+use Rattle.machine.specs.State.Sent.{no_record, the_record}
 use Rattle.machine.specs.Life.{alarm_in as alarm_of, same_alarm, carries}
 use Rattle.machine.specs.Readings.{entry_for}
 use Rattle.refine_parts.specs.Record.{place_for, unnumbered, event_in, IsTold, flags_for, carried_like}
@@ -97,8 +97,7 @@ booleans_of v (of_status i w old t) = v
 booleans_of v (of_aggregated w t) = w
 
 value_read : (i : ℕ) (v : ℤ) (old : Bool) (t : ℕ) → IsTold (of_status i (some v) old t) → signed_of (word_of v) ≡ v
-value_read i v old t h =
-    ap (λ (b : Bool). value_of (signed_of (word_of v)) (of_status i (pick b (some (signed_of (word_of v))) none) old t)) (sym (known_back true old)) ∙ ap (value_of (signed_of (word_of v))) (h 0 0)
+value_read i v old t h = rw (known_back true old) at (ap (value_of (signed_of (word_of v))) (h 0 0))
 
 aggregated_read : (v t : ℕ) → IsTold (of_aggregated v t) → v % 256 ≡ v
 aggregated_read v t h = ap (booleans_of v) (h 0 0)
@@ -190,8 +189,8 @@ carried_entry o b i h e = go h.content e
     number a false e = e
 
     go : (c : Content) → is_some (alarm_of i c) ≡ true
-        → pick (maybe false (same_alarm b) (alarm_of i c)) (the_record h.sequence) noRecord
-        ≡ pick (both (eqb (entry_for o h.sequence c).time b.time) (eqb (entry_for o h.sequence c).flags (flags_for b))) (the_record (entry_for o h.sequence c).sequence) noRecord
+        → pick (maybe false (same_alarm b) (alarm_of i c)) (the_record h.sequence) no_record
+        ≡ pick (both (eqb (entry_for o h.sequence c).time b.time) (eqb (entry_for o h.sequence c).flags (flags_for b))) (the_record (entry_for o h.sequence c).sequence) no_record
     go (of_alarm n a) e = rw (number a (eqb n i) e, same_alarm_lem a b)
     go (of_status n none old t) e = untrue e
     go (of_status n (some v) old t) e = untrue e

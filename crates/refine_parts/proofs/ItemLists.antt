@@ -81,6 +81,7 @@ module _ {A : Type 0} where
       among_pick false i r = later (r i)
 
   pub last_among : (P : A → Type 0) (xs : List A) (y : A) → ((w : A) → Among w xs → P w) → P y → (w : A) → Among w (xs ++ (y ∷ [])) → P w
+  last_among P [] y f p w (later a) = elim a [ ]
   last_among P [] y f p w first = p
   last_among P (x ∷ xs) y f p w first = f x first
   last_among P (x ∷ xs) y f p w (later a) = last_among P xs y (λ v i. f v (later i)) p w a
@@ -116,6 +117,7 @@ count_map f g h [] = refl
 count_map f g h (x ∷ xs) = rw (h x, count_map f g h xs)
 
 pub map_among : {A B : Type 0} (P : B → Type 0) (g : A → B) (xs : List A) → ((w : A) → Among w xs → P (g w)) → (y : B) → Among y (map g xs) → P y
+map_among {A = A} {B = B} P g [] h y x'' = elim x'' [ ]
 map_among P g (x ∷ xs) h y first = h x first
 map_among P g (x ∷ xs) h y (later a) = map_among P g xs (λ w i. h w (later i)) y a
 

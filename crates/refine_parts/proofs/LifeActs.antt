@@ -17,9 +17,9 @@ use Rattle.link.specs.Steps.{connect_of, version_out_of, may_judge_of, version_a
 use Rattle.machine.specs.Words.{Bytes}
 use Rattle.machine.specs.Json.{is_identity_of}
 use Rattle.machine.specs.State.{Sent, Awaited, Exchange, exchange, Life, fresh}
-use Rattle.machine.specs.State.Sent.{ourVersion, ourWatchdog, noRecord, the_record}
+use Rattle.machine.specs.State.Sent.{own_version, own_watchdog, no_record, the_record}
 use Rattle.machine.specs.Life.{is_over, is_greeting, is_beating, is_up, now_sent, now_acknowledged, now_taken, with_versions, with_watchdogs, awaited_by, awaiting, answered_to}
-use Rattle.machine.specs.Life.Due.{theVersion, theWatchdog, theAggregated}
+use Rattle.machine.specs.Life.Due.{the_version, the_watchdog, the_aggregated}
 use Rattle.machine.specs.Effects.{passed, beaten, after_sending, answer_closes, acknowledges, agreed}
 use Rattle.refine_parts.specs.Waits.{purpose_for, found_for}
 use Rattle.refine_parts.specs.Life.{pass_of, SameExchange, went_out, SameLife}
@@ -74,9 +74,9 @@ module _ {a b c : Bool} {x : Exchange} (h : SameExchange a b c x) where
 -- what went out went out, whatever else does
 still_out : (x y : Life) → (x.versions.sent ≡ true → y.versions.sent ≡ true) → (x.watchdogs.sent ≡ true → y.watchdogs.sent ≡ true)
     → (message : Sent) → went_out x message ≡ true → went_out y message ≡ true
-still_out x y f g ourVersion e = f e
-still_out x y f g ourWatchdog e = g e
-still_out x y f g noRecord e = refl
+still_out x y f g own_version e = f e
+still_out x y f g own_watchdog e = g e
+still_out x y f g no_record e = refl
 still_out x y f g (the_record n) e = refl
 
 module _ (k : Link) (x : Life) (h : SameLife k x) where
@@ -256,11 +256,11 @@ all_out k x h u message = out message
     exchanged = both_second x.connected (both (is_over x.versions) (is_over x.watchdogs)) u
 
     out : (message : Sent) → went_out x message ≡ true
-    out ourVersion =
+    out own_version =
         h.versions.first_sent (both_first x.versions.acknowledged x.versions.taken (both_first (is_over x.versions) (is_over x.watchdogs) exchanged))
-    out ourWatchdog =
+    out own_watchdog =
         h.watchdogs.first_sent (both_first x.watchdogs.acknowledged x.watchdogs.taken (both_second (is_over x.versions) (is_over x.watchdogs) exchanged))
-    out noRecord = refl
+    out no_record = refl
     out (the_record n) = refl
 
 may_beat : (k : Link) (x : Life) → SameLife k x → pick (both (is_beating x) (not x.watchdogs.sent)) true (is_up x) ≡ true → may_beat_of k ≡ true
@@ -282,21 +282,21 @@ module _ (k : Link) (x : Life) (h : SameLife k x) where
 
   module _ (id : Identity) (t : ℕ) (s : Sendable x id) where
     sends_version : is_greeting x ≡ true → x.versions.sent ≡ false
-        → SameLife (version_out_of k id t) (awaiting id.bytes t ourVersion (after_sending t theVersion x))
+        → SameLife (version_out_of k id t) (awaiting id.bytes t own_version (after_sending t the_version x))
     unfolding version_out_of
     sends_version g n =
-        taken (λ (j : Link). SameLife j (awaiting id.bytes t ourVersion (after_sending t theVersion x)))
+        taken (λ (j : Link). SameLife j (awaiting id.bytes t own_version (after_sending t the_version x)))
         (pick k.versionout false k.connected) (mark OurVersion (with_places k (add_of k.awaited id t Version))) k
         (rw (h.versions.is_sent, n, h.connected) (both_first x.connected (not (is_over x.versions)) g))
-        (awaits (mark OurVersion k) (with_versions (now_sent x.versions) x) (version_sent k x h) id t ourVersion
+        (awaits (mark OurVersion k) (with_versions (now_sent x.versions) x) (version_sent k x h) id t own_version
         (record { bytes = s.bytes; unawaited = s.unawaited; room = s.room }) refl)
 
     sends_watchdog : pick (both (is_beating x) (not x.watchdogs.sent)) true (is_up x) ≡ true
-        → SameLife (watchdog_out_of k id t) (awaiting id.bytes t ourWatchdog (after_sending t theWatchdog x))
+        → SameLife (watchdog_out_of k id t) (awaiting id.bytes t own_watchdog (after_sending t the_watchdog x))
     unfolding watchdog_out_of
     sends_watchdog e =
         rw (may_beat k x h e)
-        (awaits (mark OurWatchdog (with_beat k t)) (beaten t x) (watchdog_sent k x h t) id t ourWatchdog
+        (awaits (mark OurWatchdog (with_beat k t)) (beaten t x) (watchdog_sent k x h t) id t own_watchdog
         (record { bytes = s.bytes; unawaited = s.unawaited; room = s.room }) refl)
 
     sends_other : (message : Sent) → is_up x ≡ true → SameLife (message_out_of k id t (purpose_for message)) (awaiting id.bytes t message x)
@@ -304,12 +304,12 @@ module _ (k : Link) (x : Life) (h : SameLife k x) where
     sends_other message u = rw ((same_phase k x h).up, u) (awaits k x h id t message s (all_out k x h u message))
 
     sends_aggregated : is_up x ≡ true → x.pass ≡ 0
-        → SameLife (aggregated_passed_of (message_out_of k id t Other)) (awaiting id.bytes t noRecord (after_sending t theAggregated x))
+        → SameLife (aggregated_passed_of (message_out_of k id t Other)) (awaiting id.bytes t no_record (after_sending t the_aggregated x))
     unfolding aggregated_passed_of
     sends_aggregated u e =
-        let o : SameLife (message_out_of k id t Other) (awaiting id.bytes t noRecord x) = sends_other noRecord u in
-        rw ((same_phase (message_out_of k id t Other) (awaiting id.bytes t noRecord x) o).up, u)
-        (aggregated_passed (message_out_of k id t Other) (awaiting id.bytes t noRecord x) o e)
+        let o : SameLife (message_out_of k id t Other) (awaiting id.bytes t no_record x) = sends_other no_record u in
+        rw ((same_phase (message_out_of k id t Other) (awaiting id.bytes t no_record x) o).up, u)
+        (aggregated_passed (message_out_of k id t Other) (awaiting id.bytes t no_record x) o e)
 
     sends_alarm : (message : Sent) → is_up x ≡ true → 1 ≤ x.pass → x.pass < 4294967296
         → SameLife (alarm_passed_of (message_out_of k id t (purpose_for message))) (awaiting id.bytes t message (passed x))
@@ -349,13 +349,13 @@ module _ (k : Link) (x : Life) (h : SameLife k x) where
     closes = rw its_purpose (by is_ack w.message)
       where
         by : (b : Bool) (message : Sent) → pick b false (closes_for (phase_of k) (purpose_for message)) ≡ answer_closes x b message
-        by true ourVersion = refl
-        by true ourWatchdog = refl
-        by true noRecord = refl
+        by true own_version = refl
+        by true own_watchdog = refl
+        by true no_record = refl
         by true (the_record n) = refl
-        by false ourVersion = refl
-        by false ourWatchdog = (same_phase k x h).beating
-        by false noRecord = refl
+        by false own_version = refl
+        by false own_watchdog = (same_phase k x h).beating
+        by false no_record = refl
         by false (the_record n) = refl
 
     its_life : (message : Sent) → went_out x message ≡ true
@@ -368,13 +368,13 @@ module _ (k : Link) (x : Life) (h : SameLife k x) where
 
         by : (b : Bool) (message : Sent) → went_out x message ≡ true
             → SameLife (pick b (noted (For (purpose_for message)) (removed_of k id)) (removed_of k id)) (answered_to s (acknowledges b message x))
-        by true ourVersion o = version_acknowledged (removed_of k id) (answered_to s x) gone o
-        by true ourWatchdog o = watchdog_acknowledged (removed_of k id) (answered_to s x) gone o
-        by true noRecord o = gone
+        by true own_version o = version_acknowledged (removed_of k id) (answered_to s x) gone o
+        by true own_watchdog o = watchdog_acknowledged (removed_of k id) (answered_to s x) gone o
+        by true no_record o = gone
         by true (the_record n) o = gone
-        by false ourVersion o = gone
-        by false ourWatchdog o = gone
-        by false noRecord o = gone
+        by false own_version o = gone
+        by false own_watchdog o = gone
+        by false no_record o = gone
         by false (the_record n) o = gone
 
     answers : SameLife (answered_of k id is_ack) (answered_by s is_ack w x)

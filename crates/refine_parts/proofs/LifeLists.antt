@@ -22,6 +22,7 @@ module _ {A : Type 0} where
 
   -- what holds of each and of one more holds of each of both
   pub among_last : (P : A → Type 0) (xs : List A) (y : A) → ((w : A) → Among w xs → P w) → P y → (w : A) → Among w (xs ++ (y ∷ [])) → P w
+  among_last P [] y f p w (later a) = elim a [ ]
   among_last P [] y f p w first = p
   among_last P (x ∷ xs) y f p w first = f x first
   among_last P (x ∷ xs) y f p w (later a) = among_last P xs y (λ v i. f v (later i)) p w a

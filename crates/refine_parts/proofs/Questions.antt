@@ -13,7 +13,7 @@ use Rattle.link.specs.Due.{alarms_for, due_up as due_up_of, due_in, due_of}
 use Rattle.machine.specs.Words.{maybe, is_some, first_that}
 use Rattle.machine.specs.State.{Held, Awaited, Exchange, Life, Machine, life_at}
 use Rattle.machine.specs.Life.{is_over, is_greeting, is_beating, is_up, is_primary, Due, pass_length, oldest_unsent, due_up, due}
-use Rattle.machine.specs.Life.Due.{theVersion, theWatchdog, theAggregated, the_alarm, the_held}
+use Rattle.machine.specs.Life.Due.{the_version, the_watchdog, the_aggregated, the_alarm, the_held}
 use Rattle.refine_parts.specs.Waits.{says, found_for}
 use Rattle.refine_parts.specs.Life.{SameExchange, SameLife}
 use Rattle.refine_parts.specs.Questions.{SamePhase, SameWaits, role_in, kind_of, Questions}
@@ -90,8 +90,8 @@ module _ (k : Link) (x : Life) (h : SameLife k x) where
 
 -- ---- what is due
 due_in_lem : (k : Link) (c v w : Bool) (up : Option Due) → due_in (phase_by c v w) k (kind_of up)
-    ≡ kind_of (pick (both (both c (not v)) (not k.versionout)) (some theVersion)
-    (pick (both (both c (both v (not w))) (not k.watchdogout)) (some theWatchdog) (pick (both c (both v w)) up none)))
+    ≡ kind_of (pick (both (both c (not v)) (not k.versionout)) (some the_version)
+    (pick (both (both c (both v (not w))) (not k.watchdogout)) (some the_watchdog) (pick (both c (both v w)) up none)))
 due_in_lem k true true true up = refl
 due_in_lem k true true false up = bool_cases k.watchdogout (λ t. rw t) (λ t. rw t)
 due_in_lem k true false w up = bool_cases k.versionout (λ t. rw t) (λ t. rw t)
@@ -105,7 +105,7 @@ ltb_suc a n =
 
 due_up_lem : (w v p out : Bool) (i pass n : ℕ) (o : Option Held) → w ≡ v → pick out (suc i) 0 ≡ pass
     → pick w Watchdog (pick out (pick (ltb i (alarms_for (pick p Primary Secondary) n)) (Alarm i) (pick (is_some o) Entry Nothing)) Aggregated)
-    ≡ kind_of (pick v (some theWatchdog) (pick (eqb pass 0) (some theAggregated)
+    ≡ kind_of (pick v (some the_watchdog) (pick (eqb pass 0) (some the_aggregated)
     (pick (ltb pass (pick p (suc n) 1)) (some (the_alarm (pass - 1))) (maybe none (λ h. some (the_held h)) o))))
 due_up_lem w true p out i pass n o f e = rw f
 due_up_lem w false p false i pass n o f e = rw (f, ← e)
@@ -140,7 +140,7 @@ module _ (k : Link) (m : Machine) (l : ℕ) (h : SameLife k (life_at m l)) (t : 
 
 -- the record that is due is the oldest one not sent
 held_only : (a b d e f g : Bool) (i : ℕ) (o : Option Held) (h : Held)
-    → pick a (some theVersion) (pick b (some theWatchdog) (pick d (pick e (some theWatchdog) (pick f (some theAggregated)
+    → pick a (some the_version) (pick b (some the_watchdog) (pick d (pick e (some the_watchdog) (pick f (some the_aggregated)
     (pick g (some (the_alarm i)) (maybe none (λ x. some (the_held x)) o)))) none)) ≡ some (the_held h) → o ≡ some h
 held_only true b d e f g i o h q = absurd (let z : ◌≡◌ {A = ℕ} 0 1 = cc in omega arith)
 held_only false true d e f g i o h q = absurd (let z : ◌≡◌ {A = ℕ} 0 1 = cc in omega arith)

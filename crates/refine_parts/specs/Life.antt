@@ -5,7 +5,7 @@ use Rattle.basis.specs.Pick.{pick}
 use Rattle.basis.specs.Lists.{Among}
 use Rattle.link.specs.declared.Link.{Link}
 use Rattle.machine.specs.State.{Sent, Awaited, Exchange, Life}
-use Rattle.machine.specs.State.Sent.{ourVersion, ourWatchdog, noRecord, the_record}
+use Rattle.machine.specs.State.Sent.{own_version, own_watchdog, no_record, the_record}
 use Rattle.refine_parts.specs.Waits.{SameAwaited}
 
 -- none chosen reads as three zeros
@@ -26,9 +26,9 @@ pub record SameExchange (sent acknowledged taken : Bool) (x : Exchange) : Type 0
 
 -- an awaited Version or Watchdog of ours went out in this life
 abbrev pub went_out : Life → Sent → Bool
-went_out x ourVersion = x.versions.sent
-went_out x ourWatchdog = x.watchdogs.sent
-went_out x noRecord = true
+went_out x own_version = x.versions.sent
+went_out x own_watchdog = x.watchdogs.sent
+went_out x no_record = true
 went_out x (the_record n) = true
 
 pub record SameLife (k : Link) (x : Life) : Type 0 where

@@ -8,11 +8,11 @@ use Rattle.awaited.specs.declared.Purpose.TheVariants.{Other}
 use Rattle.link.specs.declared.Link.{Link}
 use Rattle.link.specs.Fields.{closed_link}
 use Rattle.link.specs.Steps.{connect_of, version_out_of, version_accepted_of, watchdog_out_of, watchdog_taken_of, message_out_of, closes_of, answered_of, aggregated_passed_of, alarm_passed_of}
-use Rattle.machine.specs.Words.{Bytes, if◌then◌else◌, ◌and◌, ◌or◌}
+use Rattle.machine.specs.Words.{Bytes, if'◌then◌else◌, ◌and◌, ◌or◌}
 use Rattle.machine.specs.State.{Sent, Awaited, Life, fresh}
-use Rattle.machine.specs.State.Sent.{ourVersion, ourWatchdog, noRecord}
+use Rattle.machine.specs.State.Sent.{own_version, own_watchdog, no_record}
 use Rattle.machine.specs.Life.{is_greeting, is_beating, is_up, now_taken, with_watchdogs, is_awaited, awaited_by, awaiting, answered_to}
-use Rattle.machine.specs.Life.Due.{theVersion, theWatchdog, theAggregated}
+use Rattle.machine.specs.Life.Due.{the_version, the_watchdog, the_aggregated}
 use Rattle.machine.specs.Effects.{passed, after_sending, answer_closes, acknowledges, agreed}
 use Rattle.refine_parts.specs.Waits.{purpose_for}
 use Rattle.refine_parts.specs.Life.{SameLife}
@@ -26,17 +26,17 @@ pub record Sendable (x : Life) (id : Identity) : Type 0 where
 -- a life after an answer to the awaited one w, whose identity the text s is
 abbrev pub answered_by : Bytes → Bool → Awaited → Life → Life
 answered_by s is_ack w x =
-    if answer_closes x is_ack w.message then fresh false else answered_to s (acknowledges is_ack w.message x)
+    if' answer_closes x is_ack w.message then fresh false else answered_to s (acknowledges is_ack w.message x)
 
 module _ (k : Link) (x : Life) where
   -- a message goes out under an identity at a time
   pub record SameSending (id : Identity) (t : ℕ) : Type 0 where
     pub version : is_greeting x ≡ true → x.versions.sent ≡ false
-        → SameLife (version_out_of k id t) (awaiting id.bytes t ourVersion (after_sending t theVersion x))
+        → SameLife (version_out_of k id t) (awaiting id.bytes t own_version (after_sending t the_version x))
     pub watchdog : ((is_beating x and not x.watchdogs.sent) or is_up x) ≡ true
-        → SameLife (watchdog_out_of k id t) (awaiting id.bytes t ourWatchdog (after_sending t theWatchdog x))
+        → SameLife (watchdog_out_of k id t) (awaiting id.bytes t own_watchdog (after_sending t the_watchdog x))
     pub aggregated : is_up x ≡ true → x.pass ≡ 0
-        → SameLife (aggregated_passed_of (message_out_of k id t Other)) (awaiting id.bytes t noRecord (after_sending t theAggregated x))
+        → SameLife (aggregated_passed_of (message_out_of k id t Other)) (awaiting id.bytes t no_record (after_sending t the_aggregated x))
     pub alarm : (message : Sent) → is_up x ≡ true → 1 ≤ x.pass → x.pass < 4294967296
         → SameLife (alarm_passed_of (message_out_of k id t (purpose_for message))) (awaiting id.bytes t message (passed x))
     -- a record, or a reply

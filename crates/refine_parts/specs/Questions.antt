@@ -16,15 +16,15 @@ use Rattle.link.specs.declared.Due.TheVariants.{Nothing, Version, Watchdog, Aggr
 use Rattle.link.specs.Phase.{phase_of, is_up as up_in, is_beating as beating_in, takes_in}
 use Rattle.link.specs.Steps.{crowded_of, full_of}
 use Rattle.link.specs.Due.{due_of}
-use Rattle.machine.specs.Words.{Bytes, if◌then◌else◌, ◌or◌, is_some, first_that}
+use Rattle.machine.specs.Words.{Bytes, if'◌then◌else◌, ◌or◌, is_some, first_that}
 use Rattle.machine.specs.State.{Held, Life, Machine, life_at}
 use Rattle.machine.specs.Life.{is_down, is_greeting, is_beating, is_up, is_primary, is_awaited, awaited_by, is_late, Due, oldest_unsent, due}
-use Rattle.machine.specs.Life.Due.{theVersion, theWatchdog, theAggregated, the_alarm, the_held}
+use Rattle.machine.specs.Life.Due.{the_version, the_watchdog, the_aggregated, the_alarm, the_held}
 use Rattle.refine_parts.specs.Waits.{found_for}
 use Rattle.refine_parts.specs.Life.{SameLife}
 
 abbrev pub phase_in : Life → Phase
-phase_in x = if is_down x then Down else if is_greeting x then Greeting else if is_beating x then Beating else Up
+phase_in x = if' is_down x then Down else if' is_greeting x then Greeting else if' is_beating x then Beating else Up
 
 module _ (k : Link) (x : Life) where
   pub record SamePhase : Type 0 where
@@ -46,13 +46,13 @@ module _ (k : Link) (x : Life) where
     pub late : (t : ℕ) → late_of k.awaited t ≡ is_late t x
 
 abbrev pub role_in : Machine → ℕ → Role
-role_in m l = if is_primary m l then Primary else Secondary
+role_in m l = if' is_primary m l then Primary else Secondary
 
 abbrev pub kind_of : Option Due → DueKind
 kind_of none = Nothing
-kind_of (some theVersion) = Version
-kind_of (some theWatchdog) = Watchdog
-kind_of (some theAggregated) = Aggregated
+kind_of (some the_version) = Version
+kind_of (some the_watchdog) = Watchdog
+kind_of (some the_aggregated) = Aggregated
 kind_of (some (the_alarm i)) = Alarm i
 kind_of (some (the_held h)) = Entry
 

@@ -16,7 +16,7 @@ use Rattle.machine.specs.Words.{Bytes, maybe}
 use Rattle.machine.specs.State.{Event, event_number, Alarm, alarm_of, Content, Issued, Held, Sent}
 use Rattle.machine.specs.State.Event.{Issue, Acknowledge, Suspend}
 use Rattle.machine.specs.State.Content.{of_alarm, of_status, of_aggregated}
-use Rattle.machine.specs.State.Sent.{noRecord, the_record}
+use Rattle.machine.specs.State.Sent.{no_record, the_record}
 use Rattle.machine.specs.Readings.{entry_for}
 
 -- a held record as it stands in a place: mark 2 it is sent, 1 it is not
@@ -60,9 +60,9 @@ flags_for a = alarm_flags (event_number a.event) a.acknowledged a.active a.suspe
 
 -- what the message of the first pass carries: the record that was found, where its time and flags are the alarm's
 abbrev pub carried_like : Alarm → Sought → Sent
-carried_like a Nothing = noRecord
+carried_like a Nothing = no_record
 carried_like a (Found x) =
-    pick (both (eqb x.entry.time a.time) (eqb x.entry.flags (flags_for a))) (the_record x.entry.sequence) noRecord
+    pick (both (eqb x.entry.time a.time) (eqb x.entry.flags (flags_for a))) (the_record x.entry.sequence) no_record
 
 -- ---- the reading of the record than which r are older, of a link's records
 abbrev pub reading_at : ℕ → List Bytes → Reading

@@ -15,13 +15,13 @@ use Rattle.awaited.specs.declared.Found.TheVariants.{For, Nothing}
 use Rattle.awaited.specs.Slot.{purpose_of, is_free, awaits_for}
 use Rattle.awaited.specs.Promises.{Wait}
 use Rattle.machine.specs.State.{Sent, Awaited}
-use Rattle.machine.specs.State.Sent.{ourVersion, ourWatchdog, noRecord, the_record}
+use Rattle.machine.specs.State.Sent.{own_version, own_watchdog, no_record, the_record}
 
 -- what a message was sent for
 abbrev pub purpose_for : Sent → Purpose
-purpose_for ourVersion = Version
-purpose_for ourWatchdog = Watchdog
-purpose_for noRecord = Other
+purpose_for own_version = Version
+purpose_for own_watchdog = Watchdog
+purpose_for no_record = Other
 purpose_for (the_record n) = Entry n
 
 abbrev pub identity_in : List ℕ → Identity

@@ -19,7 +19,7 @@ use Rattle.read_head.specs.Word.{Word, other, word, word_for, word_in}
 use Rattle.read_head.specs.Values.{verdict_of}
 use Rattle.read_head.specs.Head as Code
 use Rattle.read_head.specs.Head.{identity_of, characters, type_of, ignored, answered, asked, head_by, head_in}
-use Rattle.machine.specs.Words.{Bytes, if◌then◌else◌, ◌or◌, reads, maybe, is_some, or_else}
+use Rattle.machine.specs.Words.{Bytes, if'◌then◌else◌, ◌or◌, reads, maybe, is_some, or_else}
 use Rattle.machine.specs.Json.{shape, element, string_of, element_is, is_identity}
 use Rattle.machine.specs.Answers.{is_answer, replies_at_once}
 use Rattle.refine_read.specs.Verdicts.{verdict}
@@ -134,14 +134,14 @@ module _ (is : Bytes → Bool) where
 
   abbrev kind_said : Kind
   kind_said =
-      if is (text "Version") then Version
-      else if is (text "Watchdog") then Watchdog
-      else if is (text "Alarm") then Alarm
-      else if is (text "AggregatedStatusRequest") then AggregatedStatusRequest
-      else if asks "StatusRequest" then StatusRequest
-      else if is (text "StatusSubscribe") then StatusSubscribe
-      else if is (text "StatusUnsubscribe") then StatusUnsubscribe
-      else if asks "CommandRequest" then CommandRequest
+      if' is (text "Version") then Version
+      else if' is (text "Watchdog") then Watchdog
+      else if' is (text "Alarm") then Alarm
+      else if' is (text "AggregatedStatusRequest") then AggregatedStatusRequest
+      else if' asks "StatusRequest" then StatusRequest
+      else if' is (text "StatusSubscribe") then StatusSubscribe
+      else if' is (text "StatusUnsubscribe") then StatusUnsubscribe
+      else if' asks "CommandRequest" then CommandRequest
       else Unexpected
 
   abbrev included_said : Bool
@@ -149,7 +149,7 @@ module _ (is : Bytes → Bool) where
 
   abbrev head_said : Verdict → (List ℕ → Word) → Head
   head_said v f =
-      if is (text "MessageAck") or is (text "MessageNotAck") then answered (if is (text "MessageAck") then Acked else NotAcked) v (identity_of (f (text "oMId")))
+      if' is (text "MessageAck") or is (text "MessageNotAck") then answered (if' is (text "MessageAck") then Acked else NotAcked) v (identity_of (f (text "oMId")))
       else asked kind_said included_said v (f (text "mId"))
 
 module _ (v : Verdict) (f : List ℕ → Word) where

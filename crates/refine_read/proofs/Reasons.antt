@@ -28,17 +28,17 @@ reason_is m l j =
     ∙ two (not (is_some (element "mType" j))) (not (element_is "mType" "rSMsg" j)) _
 
 -- ---- behind the needs, by the type
-module _ {A : Type 0} (noComponent no_alarm no_status busy done : A) where
+module _ {A : Type 0} (no_component no_alarm no_status busy done : A) where
   alarm_further : (component alarm replies full : Bool)
-      → pick (pick (not component) true false) noComponent (pick (not alarm) no_alarm (pick (pick component false false) no_status (pick (both (pick replies true false) full) busy done)))
-      ≡ pick component (pick alarm (pick (both replies full) busy done) no_alarm) noComponent
+      → pick (pick (not component) true false) no_component (pick (not alarm) no_alarm (pick (pick component false false) no_status (pick (both (pick replies true false) full) busy done)))
+      ≡ pick component (pick alarm (pick (both replies full) busy done) no_alarm) no_component
   alarm_further false alarm replies full = refl
   alarm_further true false replies full = refl
   alarm_further true true true full = refl
   alarm_further true true false full = refl
 
   aggregated_further : (first component full : Bool)
-      → pick (not first) noComponent (pick (pick component false false) no_status (pick full busy done)) ≡ pick first (pick full busy done) noComponent
+      → pick (not first) no_component (pick (pick component false false) no_status (pick full busy done)) ≡ pick first (pick full busy done) no_component
   aggregated_further false component full = refl
   aggregated_further true true full = refl
   aggregated_further true false full = refl

@@ -13,21 +13,21 @@ use Rattle.read_head.specs.declared.Class.{Class}
 use Rattle.read_head.specs.declared.Class.TheVariants.{Acked, NotAcked, Asked}
 use Rattle.read_head.specs.declared.Head.{Head}
 use Rattle.read_head.specs.Head.{ignored}
-use Rattle.machine.specs.Words.{Bytes, if◌then◌else◌, ◌and◌, is_some}
+use Rattle.machine.specs.Words.{Bytes, if'◌then◌else◌, ◌and◌, is_some}
 use Rattle.machine.specs.Json.{element, string_at, string_of, element_is, is_type, asks_for, is_identity}
 use Rattle.machine.specs.Answers.{is_answer, is_readable, replies_at_once, is_taken}
 use Rattle.refine_read.specs.Verdicts.{verdict}
 
 abbrev pub kind_of : Json → Kind
 kind_of j =
-    if is_type "Version" j then Version
-    else if is_type "Watchdog" j then Watchdog
-    else if is_type "Alarm" j then Alarm
-    else if is_type "AggregatedStatusRequest" j then AggregatedStatusRequest
-    else if asks_for "StatusRequest" j then StatusRequest
-    else if is_type "StatusSubscribe" j then StatusSubscribe
-    else if is_type "StatusUnsubscribe" j then StatusUnsubscribe
-    else if asks_for "CommandRequest" j then CommandRequest
+    if' is_type "Version" j then Version
+    else if' is_type "Watchdog" j then Watchdog
+    else if' is_type "Alarm" j then Alarm
+    else if' is_type "AggregatedStatusRequest" j then AggregatedStatusRequest
+    else if' asks_for "StatusRequest" j then StatusRequest
+    else if' is_type "StatusSubscribe" j then StatusSubscribe
+    else if' is_type "StatusUnsubscribe" j then StatusUnsubscribe
+    else if' asks_for "CommandRequest" j then CommandRequest
     else Unexpected
 
 -- a type's name, and that of a request whose answer carries its acknowledgement
@@ -52,21 +52,21 @@ abbrev pub m_type_of : Json → Verdict
 m_type_of j = verdict (not (is_some (element "mType" j))) (not (element_is "mType" "rSMsg" j))
 
 abbrev pub answer_class : Json → Class
-answer_class j = if is_type "MessageAck" j then Acked else NotAcked
+answer_class j = if' is_type "MessageAck" j then Acked else NotAcked
 
 -- "type MessageAck or MessageNotAck whose mType is not rSMsg or whose oMId is not awaited": one that is no identity is not awaited
 abbrev pub answer_of : Json → Head
 answer_of j =
-    if element_is "mType" "rSMsg" j and is_identity (string_of "oMId" j) then
+    if' element_is "mType" "rSMsg" j and is_identity (string_of "oMId" j) then
     record { class = answer_class j; received = record { bytes = replicate 36 0 }; identity = (read_identity (string_of "oMId" j)).id; included = false }
     else ignored
 
 -- "any other packet without a readable mId"; "An answer's oMId repeats the received mId unchanged."
 abbrev pub request_of : Json → Head
 request_of j =
-    if is_readable j then
+    if' is_readable j then
     record { class = Asked (m_type_of j) (kind_of j); received = record { bytes = string_of "mId" j }; identity = record { bytes = replicate 16 0 }; included = replies_at_once j }
     else ignored
 
 abbrev pub head_of : Json → Head
-head_of j = if is_answer j then answer_of j else request_of j
+head_of j = if' is_answer j then answer_of j else request_of j

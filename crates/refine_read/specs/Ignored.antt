@@ -9,7 +9,7 @@ use Rattle.read_head.specs.declared.Kind.TheVariants.{Version, Watchdog, Alarm, 
 use Rattle.read_head.specs.declared.Class.{Class}
 use Rattle.read_head.specs.declared.Class.TheVariants.{Ignored, Acked, NotAcked, Asked}
 use Rattle.read_head.specs.declared.Head.{Head}
-use Rattle.machine.specs.Words.{Bytes, if◌then◌else◌, ◌and◌, first_that, but_first}
+use Rattle.machine.specs.Words.{Bytes, if'◌then◌else◌, ◌and◌, first_that, but_first}
 use Rattle.machine.specs.State.{Awaited, Life}
 use Rattle.machine.specs.Json.{is_identity}
 use Rattle.machine.specs.Life.{is_greeting, is_awaited}
@@ -24,10 +24,10 @@ abbrev pub is_of : Bytes → Awaited → Bool
 is_of id a = same_bytes a.identity id
 
 abbrev pub found_by : Life → Bytes → Option Awaited
-found_by k s = if is_identity s then first_that (is_of (read_identity s).id.bytes) k.awaited else none
+found_by k s = if' is_identity s then first_that (is_of (read_identity s).id.bytes) k.awaited else none
 
 abbrev pub left_by : Life → Bytes → List Awaited
-left_by k s = if is_identity s then but_first (is_of (read_identity s).id.bytes) k.awaited else k.awaited
+left_by k s = if' is_identity s then but_first (is_of (read_identity s).id.bytes) k.awaited else k.awaited
 
 abbrev pub is_version : Kind → Bool
 is_version Version = true

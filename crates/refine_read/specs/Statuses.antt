@@ -11,7 +11,7 @@ use Rattle.read_lists.specs.declared.Asking.TheVariants.{Plain, Full, Older}
 use Rattle.read_lists.specs.declared.StatusEntry.{StatusEntry}
 use Rattle.read_lists.specs.declared.StatusFields.{StatusFields}
 use Rattle.read_lists.specs.Status.{no_entry, status_at}
-use Rattle.machine.specs.Words.{Bytes, if◌then◌else◌, ◌or◌, or_else}
+use Rattle.machine.specs.Words.{Bytes, if'◌then◌else◌, ◌or◌, or_else}
 use Rattle.machine.specs.Json.{read_packet, string_of, entries_of, is_type, asks_for}
 use Rattle.machine.specs.Answers.{interval, asks_change}
 use Rattle.refine_read.specs.Verdicts.{verdict_in}
@@ -32,8 +32,8 @@ entry_of subscribing older e =
     record {
       code = label_of (string_of "sCI" e);
       name = label_of (string_of "n" e);
-      seconds = if subscribing then or_else 0 (interval e) else 0;
-      onchange = if subscribing then asks_change older e else true;
+      seconds = if' subscribing then or_else 0 (interval e) else 0;
+      onchange = if' subscribing then asks_change older e else true;
     }
 
 pub record StatusReads (subscribing older : Bool) (j : Json) (f : StatusFields) : Type 0 where

@@ -4,12 +4,12 @@ use Rattle.std.specs.Prelude.{Bool, List}
 use Rattle.json_value.specs.Grammar.{Json}
 use Rattle.read_head.specs.declared.Verdict.{Verdict}
 use Rattle.read_head.specs.declared.Verdict.TheVariants.{Good, Missing, Bad}
-use Rattle.machine.specs.Words.{if◌then◌else◌, any}
+use Rattle.machine.specs.Words.{if'◌then◌else◌, any}
 use Rattle.machine.specs.Answers.{Need, needs, is_missing, is_bad}
 
 -- "Missing element", then "Bad value"
 abbrev pub verdict : Bool → Bool → Verdict
-verdict missing bad = if missing then Missing else if bad then Bad else Good
+verdict missing bad = if' missing then Missing else if' bad then Bad else Good
 
 -- of these needs
 abbrev pub judged : Json → List Need → Verdict

@@ -16,7 +16,7 @@ use Rattle.read_versions.specs.Judge.{versions_in, sites_in, judge}
 use Rattle.read_head.specs.declared.Verdict.TheVariants.{Good}
 use Rattle.read_lists.specs.declared.VersionFields.{VersionFields}
 use Rattle.read_lists.specs.Version.{version_at}
-use Rattle.machine.specs.Words.{Bytes, if◌then◌else◌, maybe}
+use Rattle.machine.specs.Words.{Bytes, if'◌then◌else◌, maybe}
 use Rattle.machine.specs.State.{Machine}
 use Rattle.machine.specs.Json.{read_packet, is_type, version_in}
 use Rattle.machine.specs.Life.{ours as offers, common, names_site, equal_sxl}
@@ -35,7 +35,7 @@ numbered (some v) = Is (number_of v)
 abbrev pub checked : Machine → Json → Judged
 checked m j =
     maybe RsmpVersion
-    (λ v. if names_site m j then if equal_sxl m j then Chosen (number_of v) else SxlVersion else SiteId)
+    (λ v. if' names_site m j then if' equal_sxl m j then Chosen (number_of v) else SxlVersion else SiteId)
     (common j)
 
 -- the reason that a check gives

@@ -1,8 +1,10 @@
 // Cases from standard input, for the programs that are run and compared. A case is a head of six bytes: its kind, the four
 // decimal digits of its body's length, a line feed; then the body and a line feed.
+#![tactic(auto)]
+
 ghost use Rattle.std.specs.Prelude.{◌≤◌, ◌<◌};
 
-#[derive(Drop)]
+#[derive(Clone, Copy)]
 pub enum Case {
     Body(u8, usize),
     End,

@@ -1,12 +1,14 @@
 // Runs acts on a link, case by case from standard input, and writes a line for each; tests/links.py makes the cases and the
 // lines from a model of its own.
+#![tactic(auto)]
+
 use awaited::{Found, Purpose};
 use identity::Identity;
 use link::{Due, Link, Phase, Role};
 use run_feed::Case;
 
 // What an act is given: its own identity, time and sequence number or version, and what is asked after it.
-#[derive(Drop)]
+#[derive(Clone, Copy)]
 struct Given {
     id: Identity,
     time: u64,
@@ -20,7 +22,7 @@ struct Given {
     unsent: bool,
 }
 
-#[derive(Drop)]
+#[derive(Clone, Copy)]
 struct Turn {
     link: Link,
     more: bool,

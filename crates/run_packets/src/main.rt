@@ -1,10 +1,12 @@
 // Reads packets from standard input and writes what each means on a line, or `-` where it is none; tests/packets.py makes the
 // packets and the lines. The first part of a line walks the tokens, the second looks up the members of the packet's object.
+#![tactic(auto)]
+
 use json_character::Char;
 use json_text::Read;
 use run_feed::Case;
 
-#[derive(Drop)]
+#[derive(Clone, Copy)]
 struct Walk {
     next: usize,
     end: usize,

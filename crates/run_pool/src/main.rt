@@ -1,5 +1,7 @@
 // Runs acts on the pool's words, case by case from standard input, and writes a line for each; tests/pools.py makes the cases and the
 // lines from a model of its own.
+#![tactic(auto)]
+
 ghost use Rattle.std.specs.Prelude.{◌≡◌, length};
 
 use entry::Entry;

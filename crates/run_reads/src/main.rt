@@ -1,5 +1,7 @@
 // Reads packets case by case from standard input, and writes a line of what each says; tests/reads.py makes the packets, and the
 // lines with a reader of its own.
+#![tactic(auto)]
+
 ghost use Rattle.std.specs.Prelude.{◌≡◌};
 ghost use Rattle.json_find.specs.Index.{Indexed};
 ghost use Rattle.json_packet.specs.Packet.{is_packet};

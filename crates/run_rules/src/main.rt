@@ -1,5 +1,7 @@
 // Runs acts on one alarm, one status with one subscription to it, and the aggregated value, case by case from standard input,
 // and writes a line for each; tests/rules.py makes the cases and the lines from a model of its own.
+#![tactic(auto)]
+
 use aggregated::Aggregated;
 use alarm::{Alarm, Order};
 use entry::Entry;
@@ -7,7 +9,7 @@ use run_feed::Case;
 use status::Status;
 use subscription::Subscription;
 
-#[derive(Drop)]
+#[derive(Clone, Copy)]
 struct Rules {
     alarm: Alarm,
     status: Status,
@@ -16,7 +18,7 @@ struct Rules {
 }
 
 // What an act is given: the value is a status', or uRt in seconds.
-#[derive(Drop)]
+#[derive(Clone, Copy)]
 struct Given {
     time: u64,
     value: u32,
@@ -26,14 +28,14 @@ struct Given {
 }
 
 // The rules after an act, whether it changed anything (or the subscription is there), and whether it makes a record.
-#[derive(Drop)]
+#[derive(Clone, Copy)]
 struct Outcome {
     rules: Rules,
     happened: bool,
     issues: bool,
 }
 
-#[derive(Drop)]
+#[derive(Clone, Copy)]
 struct Turn {
     rules: Rules,
     more: bool,

@@ -1,11 +1,13 @@
 // Reads site tables and looks things up in the last one, as it is stored, case by case from standard input, and writes a line for each;
 // tests/tables.py makes the cases and the lines with a reader of its own.
+#![tactic(auto)]
+
 use label::Label;
 use run_feed::Case;
 use table_item::{Found, Item};
 use table_whole::{SiteTable, TableRead, Verdict};
 
-#[derive(Drop)]
+#[derive(Clone, Copy)]
 struct Turn {
     read: TableRead,
     more: bool,

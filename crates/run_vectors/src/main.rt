@@ -1,4 +1,6 @@
 // Runs the leaves on cases from standard input and writes a line for each; tests/vectors.py makes the cases and the lines.
+#![tactic(auto)]
+
 use run_feed::Case;
 
 fn refused(line: &mut [u8]) -> usize {

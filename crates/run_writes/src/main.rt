@@ -1,5 +1,7 @@
 // Writes the message that each case from standard input gives the fields of, its form feed behind it, and a line feed;
 // tests/writes.py makes the cases, and the messages with Python's json.
+#![tactic(auto)]
+
 ghost use Rattle.std.specs.Prelude.{◌≡◌};
 ghost use Rattle.write_message.specs.declared.Told.TheVariants.{Update as update_of};
 
@@ -15,7 +17,7 @@ const LABELS: usize = 30;
 const FAR: usize = 4096;
 
 // A status, and the place behind it.
-#[derive(Drop)]
+#[derive(Clone, Copy)]
 struct Status {
     code: Label,
     name: Label,

@@ -1,4 +1,6 @@
 // The site after a message went out, in place.
+#![tactic(auto)]
+
 ghost use Rattle.std.specs.Prelude.{◌≡◌, ◌<◌, length};
 ghost use Rattle.table_whole.specs.declared.SiteTable.{SiteTable};
 ghost use Rattle.site.specs.declared.Site.{Site};
@@ -12,7 +14,7 @@ use link::Link;
 use pool::Sought;
 
 // What a message carries: the held record of this number, or none.
-#[derive(Drop)]
+#[derive(Clone, Copy)]
 pub enum Carried {
     Held(u32),
     NoRecord,

@@ -1,4 +1,6 @@
 // The messages that tell a part of the site, put into a lent output. The site lies in the words w, its table in the bytes t; its pool ps is not told.
+#![tactic(auto)]
+
 ghost use Rattle.std.specs.Prelude.{◌≡◌, true, false, List, ℕ, ◌%◌, length};
 ghost use Rattle.output.specs.Put.{Wrote};
 ghost use Rattle.write_message.specs.Pieces.{pieces};

@@ -1,4 +1,6 @@
 // The site as definitions speak of it: its words and its table stand for one (store_site, store_table). No function takes or gives one.
+#![tactic(auto)]
+
 ghost use Rattle.std.specs.Prelude.{◌≡◌};
 ghost use Rattle.site.specs.Site.{is_down, mask_of};
 ghost use Rattle.site.specs.Call.{nothing_of};
@@ -14,7 +16,7 @@ use table_whole::SiteTable;
 
 // The subscription of link l to status k stands at l * 32 + k. There is no primary where primary is 65535.
 #[repr(C)]
-#[derive(Drop)]
+#[derive(Clone, Copy)]
 pub struct Site {
     pub pool: Pool,
     pub links: [Link; 4],
@@ -36,7 +38,7 @@ pub struct Site {
 }
 
 // What a call gives: its answer, and the next site.
-#[derive(Drop)]
+#[derive(Clone, Copy)]
 pub struct Step {
     pub site: Site,
     pub answer: Answer,

@@ -10,8 +10,7 @@ ghost use Rattle.sitec.specs.Lent.{Words, WordsAndTable, Called};
 use super::Outcome;
 
 // The alarm's input: active where `active` is not 0.
-#[unsafe(no_mangle)]
-pub extern "C" fn rsmp_lent_alarm(
+pub fn rsmp_lent_alarm(
     p: &mut [u64],
     w: &mut [u64],
     t: &[u8],
@@ -33,8 +32,7 @@ pub extern "C" fn rsmp_lent_alarm(
     super::outcome_of(call_input::alarm(p, w, t, number, 0 < active, time))
 }
 
-#[unsafe(no_mangle)]
-pub extern "C" fn rsmp_lent_status(
+pub fn rsmp_lent_status(
     p: &mut [u64],
     w: &mut [u64],
     t: &[u8],
@@ -56,13 +54,7 @@ pub extern "C" fn rsmp_lent_status(
     super::outcome_of(call_input::status(p, w, t, number, value, time))
 }
 
-#[unsafe(no_mangle)]
-pub extern "C" fn rsmp_lent_aggregated(
-    p: &mut [u64],
-    w: &mut [u64],
-    value: u8,
-    time: u64,
-) -> Outcome
+pub fn rsmp_lent_aggregated(p: &mut [u64], w: &mut [u64], value: u8, time: u64) -> Outcome
     ensures { (t : SiteTable) → Called (Words p.old w.old) t (aggregated_step (site_of p.old w.old t) value time) p.old p.new w.old w.new result }
 {
     if p.len() != store_site::POOL_WORDS {
@@ -74,8 +66,7 @@ pub extern "C" fn rsmp_lent_aggregated(
     super::outcome_of(call_input::aggregated(p, w, value, time))
 }
 
-#[unsafe(no_mangle)]
-pub extern "C" fn rsmp_lent_tick(p: &mut [u64], w: &mut [u64], time: u64) -> Outcome
+pub fn rsmp_lent_tick(p: &mut [u64], w: &mut [u64], time: u64) -> Outcome
     ensures { (t : SiteTable) → Called (Words p.old w.old) t (tick_step (site_of p.old w.old t) time) p.old p.new w.old w.new result }
 {
     if p.len() != store_site::POOL_WORDS {

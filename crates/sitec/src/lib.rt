@@ -1,5 +1,7 @@
 // What C and Rust call, over memory that the host lends: the pool in 520 words, a site in 657, its table in 6,178 bytes, one function a call, each
 // the call's own definition with its number. Where a length is another: number 14, and nothing is changed.
+#![tactic(auto)]
+
 ghost use Rattle.std.specs.Prelude.{◌≡◌};
 ghost use Rattle.sitec.specs.Outcome.{report_in, outcome_of, misfit as misfit_of};
 
@@ -13,7 +15,7 @@ pub mod starting; // starting.rt: a site begins
 
 // The number of the answer, and what a done call reports; zeros where it is refused.
 #[repr(C)]
-#[derive(Drop)]
+#[derive(Clone, Copy)]
 pub struct Outcome {
     pub hint: u64,
     pub number: u32,

@@ -6,8 +6,7 @@ ghost use Rattle.sitec.specs.Lent.{Words, Called};
 
 use super::Outcome;
 
-#[unsafe(no_mangle)]
-pub extern "C" fn rsmp_lent_connect(p: &[u64], w: &mut [u64], link: u32, time: u64) -> Outcome
+pub fn rsmp_lent_connect(p: &[u64], w: &mut [u64], link: u32, time: u64) -> Outcome
     ensures { (t : SiteTable) → Called (Words p.now w.old) t (connect_step (site_of p.now w.old t) link time) p.now p.now w.old w.new result }
 {
     if p.len() != store_site::POOL_WORDS {
@@ -19,13 +18,7 @@ pub extern "C" fn rsmp_lent_connect(p: &[u64], w: &mut [u64], link: u32, time: u
     super::outcome_of(call_link::connect(w, link, time))
 }
 
-#[unsafe(no_mangle)]
-pub extern "C" fn rsmp_lent_disconnect(
-    p: &mut [u64],
-    w: &mut [u64],
-    link: u32,
-    time: u64,
-) -> Outcome
+pub fn rsmp_lent_disconnect(p: &mut [u64], w: &mut [u64], link: u32, time: u64) -> Outcome
     ensures { (t : SiteTable) → Called (Words p.old w.old) t (disconnect_step (site_of p.old w.old t) link time) p.old p.new w.old w.new result }
 {
     if p.len() != store_site::POOL_WORDS {

@@ -36,8 +36,7 @@ fn hand(a: Answer, t: &[u8], received: &[u8], commands: &mut [u64])
 
 // One message without its form feed, received on the link; the answer and a reply go into `out`, the commands that it hands over into `commands`, sixteen
 // words. `random` is sixteen random bytes.
-#[unsafe(no_mangle)]
-pub extern "C" fn rsmp_lent_packet(
+pub fn rsmp_lent_packet(
     p: &mut [u64],
     w: &mut [u64],
     t: &[u8],
@@ -68,8 +67,7 @@ pub extern "C" fn rsmp_lent_packet(
 }
 
 // The next due message of the link goes into `out`, one at most; `random` is sixteen random bytes.
-#[unsafe(no_mangle)]
-pub extern "C" fn rsmp_lent_pump(
+pub fn rsmp_lent_pump(
     p: &mut [u64],
     w: &mut [u64],
     t: &[u8],

@@ -7,8 +7,7 @@ use call_read::ChosenVersion;
 use pool::Reading;
 
 // How many records of the link are held.
-#[unsafe(no_mangle)]
-pub extern "C" fn rsmp_lent_held(p: &[u64], w: &[u64], link: u32) -> u64
+pub fn rsmp_lent_held(p: &[u64], w: &[u64], link: u32) -> u64
     ensures { Read (λ (s : Site). held_at s link) 0 p.now w.now result }
 {
     if p.len() != store_site::POOL_WORDS {
@@ -21,8 +20,7 @@ pub extern "C" fn rsmp_lent_held(p: &[u64], w: &[u64], link: u32) -> u64
 }
 
 // How many records the link lost since start.
-#[unsafe(no_mangle)]
-pub extern "C" fn rsmp_lent_lost(p: &[u64], w: &[u64], link: u32) -> u64
+pub fn rsmp_lent_lost(p: &[u64], w: &[u64], link: u32) -> u64
     ensures { Read (λ (s : Site). lost_at s link) 0 p.now w.now result }
 {
     if p.len() != store_site::POOL_WORDS {
@@ -35,8 +33,7 @@ pub extern "C" fn rsmp_lent_lost(p: &[u64], w: &[u64], link: u32) -> u64
 }
 
 // 0 Down, 1 Greeting, 2 Beating, 3 Up.
-#[unsafe(no_mangle)]
-pub extern "C" fn rsmp_lent_phase(p: &[u64], w: &[u64], link: u32) -> u32
+pub fn rsmp_lent_phase(p: &[u64], w: &[u64], link: u32) -> u32
     ensures { Read (λ (s : Site). phase_at s link) 0 p.now w.now result }
 {
     if p.len() != store_site::POOL_WORDS {
@@ -49,8 +46,7 @@ pub extern "C" fn rsmp_lent_phase(p: &[u64], w: &[u64], link: u32) -> u32
 }
 
 // The version chosen in this life of the link; zeros before.
-#[unsafe(no_mangle)]
-pub extern "C" fn rsmp_lent_version_of(p: &[u64], w: &[u64], link: u32) -> ChosenVersion
+pub fn rsmp_lent_version_of(p: &[u64], w: &[u64], link: u32) -> ChosenVersion
     ensures { Read (λ (s : Site). version_at s link) no_version p.now w.now result }
 {
     if p.len() != store_site::POOL_WORDS {
@@ -71,8 +67,7 @@ pub extern "C" fn rsmp_lent_version_of(p: &[u64], w: &[u64], link: u32) -> Chose
 }
 
 // The sixteen bytes of the held record of the link with so many older ones.
-#[unsafe(no_mangle)]
-pub extern "C" fn rsmp_lent_record(p: &[u64], w: &[u64], link: u32, rank: u64) -> Reading
+pub fn rsmp_lent_record(p: &[u64], w: &[u64], link: u32, rank: u64) -> Reading
     ensures { Read (λ (s : Site). record_at s link rank) no_reading p.now w.now result }
 {
     if p.len() != store_site::POOL_WORDS {

@@ -4,8 +4,7 @@ ghost use Rattle.sitec.specs.Lent.{Started};
 use super::Outcome;
 
 // From the bytes of a site table: site 0 or 1 of its box, or 4294967295 where it is alone; no primary where primary is 4294967295.
-#[unsafe(no_mangle)]
-pub extern "C" fn rsmp_lent_start(
+pub fn rsmp_lent_start(
     p: &mut [u64],
     w: &mut [u64],
     t: &mut [u8],

@@ -1,4 +1,6 @@
 // One status' value: none so far, or the last that was set.
+#![tactic(auto)]
+
 ghost use Rattle.std.specs.Prelude.{◌≡◌};
 ghost use Rattle.number.specs.Signed.{word_of};
 ghost use Rattle.status.specs.Status.{unknown as unknown_of, set_of, held_of};
@@ -8,13 +10,13 @@ use entry::{Entry, flags};
 
 // A signed value in two's complement; known is 1 once one was set. All zero: no value so far.
 #[repr(C)]
-#[derive(Drop)]
+#[derive(Clone, Copy)]
 pub struct Status {
     pub value: u32,
     pub known: u32,
 }
 
-#[derive(Drop)]
+#[derive(Clone, Copy)]
 pub struct Set {
     pub status: Status,
     pub changed: bool,

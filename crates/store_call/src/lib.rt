@@ -1,4 +1,6 @@
 // What the calls in place share: their records issued one by one, a link closed.
+#![tactic(auto)]
+
 ghost use Rattle.std.specs.Prelude.{◌≡◌, List, [], ◌∷◌, ℕ, ◌<◌, length};
 ghost use Rattle.entry.specs.declared.Entry.{Entry};
 ghost use Rattle.pool_laws.specs.Batch.{under};

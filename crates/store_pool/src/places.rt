@@ -16,7 +16,7 @@ use entry::Entry;
 use pool::{Place, Wanted};
 
 // Where the best place so far stands, 128 for nowhere, and its record's number.
-#[derive(Drop)]
+#[derive(Clone, Copy)]
 pub struct Best {
     pub at: usize,
     pub sequence: u32,

@@ -1,4 +1,6 @@
 // The site in words that the host lends: each part read and replaced in place.
+#![tactic(auto)]
+
 pub mod head; // head.rt: what stands once, and what every call asks
 pub mod items; // items.rt: an element of a list by any number
 pub mod parts; // parts.rt: each part of the site

@@ -1,4 +1,6 @@
 // The site table in the bytes that the host lends: read, looked up and laid out in place.
+#![tactic(auto)]
+
 ghost use Rattle.std.specs.Prelude.{◌≡◌, length, get_or};
 ghost use Rattle.label.specs.Label.{no_label};
 ghost use Rattle.table_item.specs.Item.{no_item};

@@ -1,4 +1,6 @@
 // All of a part of the site stored in the words, whatever they were before.
+#![tactic(auto)]
+
 ghost use Rattle.std.specs.Prelude.{◌≡◌, ◌<◌, [], ◌∷◌, length};
 ghost use Rattle.bits.specs.Fields.{joined};
 ghost use Rattle.site.specs.declared.Site.{Site};

@@ -1,4 +1,6 @@
 // Numbers narrower than a word, the first in the highest bits, and an identity in two words.
+#![tactic(auto)]
+
 ghost use Rattle.std.specs.Prelude.{◌≡◌, ◌%◌, ◌^◌, take, drop};
 ghost use Rattle.basis.specs.Pick.{bit as bit_of};
 ghost use Rattle.bits.specs.Fields.{field_of, number_of};

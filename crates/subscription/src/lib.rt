@@ -1,18 +1,20 @@
 // One subscription: of one link to one status.
+#![tactic(auto)]
+
 ghost use Rattle.std.specs.Prelude.{◌≡◌, ◌+◌, leb};
 ghost use Rattle.subscription.specs.Subscription.{none as none_of, subscribed, issues_on, due_at, tick_of};
 
 // since: the time of the subscribing call, or of the last tick that issued; seconds: uRt, 0 for none;
 // state: 0 no subscription, 1 without sOc, 2 with sOc.
 #[repr(C)]
-#[derive(Drop)]
+#[derive(Clone, Copy)]
 pub struct Subscription {
     pub since: u64,
     pub seconds: u32,
     pub state: u32,
 }
 
-#[derive(Drop)]
+#[derive(Clone, Copy)]
 pub struct Ticked {
     pub subscription: Subscription,
     pub issues: bool,

@@ -1,4 +1,6 @@
 // Rows of the site table in place, found by what they are called, and whether one is called like another.
+#![tactic(auto)]
+
 ghost use Rattle.std.specs.Prelude.{◌≡◌, get_or};
 ghost use Rattle.label.specs.Label.{no_label, text_of};
 ghost use Rattle.basis.specs.Pick.{both};
@@ -10,7 +12,7 @@ use label::Label;
 // A row of the alarms, the statuses or the commands: an alarm has no name, only an alarm has priority and category, only a command a lowest and a
 // highest value, as 16 bits in two's complement.
 #[repr(C)]
-#[derive(Drop)]
+#[derive(Clone, Copy)]
 pub struct Item {
     pub code: Label,
     pub name: Label,
@@ -21,7 +23,7 @@ pub struct Item {
     pub highest: u16,
 }
 
-#[derive(Drop)]
+#[derive(Clone, Copy)]
 pub enum Found {
     At(usize),
     Nothing,

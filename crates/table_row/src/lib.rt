@@ -1,4 +1,6 @@
 // The head and the rows of the site table, read from its bits.
+#![tactic(auto)]
+
 ghost use Rattle.std.specs.Prelude.{◌≡◌, ◌≤◌, set};
 ghost use Rattle.table_row.specs.Head.{good_counts, good_first, good_second, no_head, counted, first_head, second_head, head_of};
 ghost use Rattle.table_row.specs.Rows.{good_alarm, good_status, missed_item, alarm_at, status_at, good_range, ranged as ranged_of, with_range, command_at, item_at, items_to, more_labels, labels_to};
@@ -7,7 +9,7 @@ use label::Label;
 use table_item::Item;
 
 // The counts, and the place behind the head.
-#[derive(Drop)]
+#[derive(Clone, Copy)]
 pub struct Head {
     pub components: u16,
     pub alarms: u16,
@@ -128,7 +130,7 @@ pub fn read_head(s: &[u8]) -> Head
 }
 
 // A row that was read, and the place behind it.
-#[derive(Drop)]
+#[derive(Clone, Copy)]
 pub struct ItemRead {
     pub item: Item,
     pub next: usize,
@@ -275,7 +277,7 @@ fn command_at(s: &[u8], at: usize, components: u64) -> ItemRead
     with_range(s, status_at(s, at, components))
 }
 
-#[derive(Drop)]
+#[derive(Clone, Copy)]
 pub enum Kind {
     Alarm,
     Status,
@@ -292,7 +294,7 @@ fn item_at(s: &[u8], at: usize, kind: Kind, components: u64) -> ItemRead
     }
 }
 
-#[derive(Drop)]
+#[derive(Clone, Copy)]
 pub struct ItemsRead {
     pub items: [Item; 32],
     pub next: usize,
@@ -318,7 +320,7 @@ pub fn read_items(s: &[u8], at: usize, kind: Kind, components: u64, count: usize
     ItemsRead { items, next }
 }
 
-#[derive(Drop)]
+#[derive(Clone, Copy)]
 pub struct LabelsRead {
     pub labels: [Label; 8],
     pub next: usize,

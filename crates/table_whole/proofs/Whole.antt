@@ -54,6 +54,13 @@ reads_table s b =
     subst (Reads s) (sym is) (reads r.allowed r.bytes))
     (λ e. subst (Reads s) (sym (not_accepted s e)) (refuses (λ edition t v w. true≢false (sym (passes t v s w) ∙ e))))
 
+-- the same of the parts as they are laid out
+pub reads_whole : (s : List ℕ) → ((i : ℕ) → get_or s i 0 < 256) → test s ≡ true → Reads s (record { table = (laid_out s).table; verdict = Accepted })
+reads_whole s b e = subst (Reads s) (accepted s e) (reads_table s b)
+
+pub reads_none : (s : List ℕ) → ((i : ℕ) → get_or s i 0 < 256) → test s ≡ false → Reads s refused
+reads_none s b e = subst (Reads s) (not_accepted s e) (reads_table s b)
+
 same_memory : {m n : ℕ} (t u : Table) → Allowed m t → Allowed n u → (s : List ℕ) → table_bytes m t ≡ s → table_bytes n u ≡ s → memory_of t ≡ memory_of u
 same_memory t u v w s p q = ap (λ (d : Laid). d.table) (sym (laid_is t v s p) ∙ laid_is u w s q)
 

@@ -1,4 +1,6 @@
 // The site table: read from bits that someone else made.
+#![tactic(auto)]
+
 ghost use Rattle.std.specs.Prelude.{◌≡◌, take};
 ghost use Rattle.label.specs.Padded.{padded};
 ghost use Rattle.table_item.specs.Item.{no_item};
@@ -12,7 +14,7 @@ use table_item::Item;
 use table_row::Kind;
 
 #[repr(C)]
-#[derive(Drop)]
+#[derive(Clone, Copy)]
 pub struct SiteTable {
     pub componentcount: u16,
     pub alarmcount: u16,
@@ -26,22 +28,23 @@ pub struct SiteTable {
     pub commands: [Item; 16],
 }
 
-#[derive(Drop)]
+#[derive(Clone, Copy)]
 pub enum Verdict {
     Accepted,
     Refused(Refusal),
 }
 
-#[derive(Drop)]
+#[derive(Clone, Copy)]
 pub struct TableRead {
     pub table: SiteTable,
     pub verdict: Verdict,
 }
 
-#[derive(Drop)]
-struct Laid {
-    table: SiteTable,
-    next: usize,
+// What the bytes are as a table, whether or not one is allowed, and where it ends.
+#[derive(Clone, Copy)]
+pub struct Laid {
+    pub table: SiteTable,
+    pub next: usize,
 }
 
 fn wide(n: u16) -> usize
@@ -96,7 +99,7 @@ fn widened(rows: [Item; 16]) -> [Item; 32]
 }
 
 // One part behind the other.
-fn laid_out(s: &[u8]) -> Laid
+pub fn laid_out(s: &[u8]) -> Laid
     ensures { result ≡ laid_out s.now }
 {
     let h = table_row::read_head(s);
@@ -170,6 +173,13 @@ impl SiteTable {
         }
         self.own_names()
     }
+}
+
+// Whether a table that was laid out of so many bytes is allowed: who needs no more than that and its parts need not have it by value.
+pub fn is_accepted(l: &Laid, size: usize) -> bool
+    ensures { result ≡ is_whole l.now.table l.now.next size }
+{
+    l.table.is_whole(l.next, size)
 }
 
 fn refused() -> TableRead

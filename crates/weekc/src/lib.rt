@@ -1,4 +1,6 @@
 // What C and Rust call for the weekly report of a captured stream. All memory is lent; each call answers a number, 0 where it is done.
+#![tactic(auto)]
+
 ghost use Rattle.std.specs.Prelude.{◌≡◌, leb};
 ghost use Rattle.basis.specs.Pick.{pick};
 ghost use Rattle.weekc.specs.Calls.{Begins, Feeds, Tells};
@@ -11,7 +13,7 @@ const HELD: usize = 4096;
 
 // The number, and how many bytes the packet has that has begun; above 4,096 it is too long to be looked at.
 #[repr(C)]
-#[derive(Drop)]
+#[derive(Clone, Copy)]
 pub struct Fed {
     pub number: u32,
     pub used: u32,
@@ -19,7 +21,7 @@ pub struct Fed {
 
 // How many bytes were written, and the number.
 #[repr(C)]
-#[derive(Drop)]
+#[derive(Clone, Copy)]
 pub struct Told {
     pub written: u64,
     pub number: u64,
@@ -38,8 +40,7 @@ fn room(written: usize, length: usize) -> u64
 }
 
 // A stream begins: nothing is counted.
-#[unsafe(no_mangle)]
-pub extern "C" fn rsmp_week_begin(w: &mut [u64]) -> u32
+pub fn rsmp_week_begin(w: &mut [u64]) -> u32
     ensures { Begins w.old w.new result }
 {
     if w.len() != WORDS {
@@ -50,8 +51,7 @@ pub extern "C" fn rsmp_week_begin(w: &mut [u64]) -> u32
 }
 
 // A piece of the stream. `used` is 0 at its beginning, and then what the call before answered.
-#[unsafe(no_mangle)]
-pub extern "C" fn rsmp_week_feed(w: &mut [u64], held: &mut [u8], used: u32, piece: &[u8]) -> Fed
+pub fn rsmp_week_feed(w: &mut [u64], held: &mut [u8], used: u32, piece: &[u8]) -> Fed
     ensures { Feeds w.old held.old used piece.now w.new held.new result }
 {
     if w.len() != WORDS {
@@ -67,8 +67,7 @@ pub extern "C" fn rsmp_week_feed(w: &mut [u64], held: &mut [u8], used: u32, piec
 }
 
 // The report of what was fed so far.
-#[unsafe(no_mangle)]
-pub extern "C" fn rsmp_week_report(w: &[u64], out: &mut [u8]) -> Told
+pub fn rsmp_week_report(w: &[u64], out: &mut [u8]) -> Told
     ensures { Tells w.now out.old out.new result }
 {
     if w.len() != WORDS {

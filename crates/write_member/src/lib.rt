@@ -1,4 +1,6 @@
 // The values that stand in written messages. Names and quotes are in the constant text that goes before a value or follows it.
+#![tactic(auto)]
+
 ghost use Rattle.std.specs.Prelude.{◌≡◌, [], ◌∷◌, min};
 ghost use Rattle.basis.specs.Pick.{pick};
 ghost use Rattle.calendar.specs.Text.{last_time};

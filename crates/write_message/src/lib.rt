@@ -1,4 +1,6 @@
 // The written messages, put piece by piece into a lent output, each with its form feed: how they begin, answers and greeting. The others are in `reports`.
+#![tactic(auto)]
+
 ghost use Rattle.label.specs.Label.{text_of};
 ghost use Rattle.names.specs.Names.{name_of};
 ghost use Rattle.basis.specs.Text.{text};
@@ -12,7 +14,7 @@ pub mod answers; // answers.rt: MessageAck and MessageNotAck
 pub mod greeting; // greeting.rt: Version and Watchdog
 
 // An alarm's states and its last event. The event: 0 Issue, 1 Acknowledge, 2 Suspend. The category: 0 T, 1 D.
-#[derive(Drop)]
+#[derive(Clone, Copy)]
 pub struct AlarmState {
     pub time: u64,
     pub event: u16,
@@ -24,7 +26,7 @@ pub struct AlarmState {
 }
 
 // What is told of a status or of a command: a value that is up to date or not, none so far, or of no known component.
-#[derive(Drop)]
+#[derive(Clone, Copy)]
 pub enum Value {
     Recent(i32),
     Old(i32),
@@ -33,7 +35,7 @@ pub enum Value {
 }
 
 // The types that tell statuses, and the one that answers commands.
-#[derive(Drop)]
+#[derive(Clone, Copy)]
 pub enum Told {
     Response,
     Update,

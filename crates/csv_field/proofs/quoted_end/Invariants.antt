@@ -1,0 +1,11 @@
+use Rattle.basis.proofs.Std.{◌-◌, ◌+◌, ◌≡◌, refl, ◌∙◌, sym, false, arith, rules, length, drop}
+use Rattle.csv_field.specs.Marks.{quoted_run}
+use Rattle.csv_field.proofs.Marks.{quote_in}
+use Rattle.csv_field.proofs.Runs.{quoted_past, quoted_on, quoted_close, quoted_twice}
+use Rattle.csv_field.proofs.quoted_end.Given as goal
+
+abbrev pub invariant-loop-i : goal.invariant-loop-i
+invariant-loop-i l = l.i + quoted_run false (drop l.i l.s) ≡ l.at + quoted_run false (drop l.at l.s)
+
+abbrev pub decreases-loop-i : goal.decreases-loop-i
+decreases-loop-i l = length l.s - l.i

@@ -1,0 +1,5 @@
+use Rattle.basis.proofs.Std.{ap, ℕ, eqb, rules}
+use Rattle.entry.proofs.flags.is_set.Goals as goal
+
+pub returns : goal.returns
+returns c = ap (λ (x : ℕ). eqb x 1) c.field.ensures

@@ -1,0 +1,7 @@
+use Rattle.entry.proofs.Words.{entry_bytes}
+use Rattle.basis.proofs.Std.{rules}
+use Rattle.entry.proofs.pack.Goals as goal
+
+pub returns : goal.returns
+returns c =
+    cc (entry_bytes c.args.e)

@@ -1,0 +1,5 @@
+use Rattle.basis.proofs.Std.{rules}
+use Rattle.identity.proofs.digits.Goals as goal
+
+pub returns : goal.returns
+returns c = cc

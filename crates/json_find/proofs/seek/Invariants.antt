@@ -1,0 +1,15 @@
+-- `json_find::seek` meets its contract.
+-- Assumes nothing.
+use Rattle.basis.proofs.Std.{◌≤◌, ◌-◌, sym, ◌∙◌, length, drop, arith, rules}
+use Rattle.json_text.specs.declared.Read.{Read}
+use Rattle.json_text.specs.Ends.{Ends}
+use Rattle.json_find.specs.Entries.{entries, first_named}
+use Rattle.json_find.proofs.Steps.{seek_here, seek_none, seek_next}
+use Rattle.json_find.proofs.Walks.{step_on, step_in}
+use Rattle.json_find.proofs.seek.Given as goal
+
+abbrev pub invariant-loop-at : goal.invariant-loop-at
+invariant-loop-at l = (l.at ≤ l.i) × ((r : Read) → Ends l.s l.i (first_named l.name (entries 0x7d (drop l.i l.s))) r → Ends l.s l.at (first_named l.name (entries 0x7d (drop l.at l.s))) r)
+
+abbrev pub decreases-loop-at : goal.decreases-loop-at
+decreases-loop-at l = length l.s - l.i

@@ -1,0 +1,13 @@
+-- `json_number::sign` meets its contract.
+-- Assumes nothing.
+use Rattle.basis.proofs.Std.{tests, rules}
+use Rattle.json_number.proofs.sign.Goals as goal
+
+pub returns-then-b-eq43 : goal.returns-then-b-eq43
+returns-then-b-eq43 c = search tests
+
+pub returns-then-b-eq45 : goal.returns-then-b-eq45
+returns-then-b-eq45 c = search tests
+
+pub returns : goal.returns
+returns c = rw c.digit.ensures (search tests)

@@ -1,0 +1,17 @@
+-- `packet_lookup::named` meets its contract.
+-- Assumes nothing.
+use Rattle.store_table.specs.Layout.{table_of}
+use Rattle.basis.proofs.Std.{◌≡◌, ap, ◌∙◌, length, rules}
+use Rattle.label.proofs.Text.{text_part}
+use Rattle.table_whole.specs.Lookup.{find_status}
+use Rattle.packet_lookup.proofs.named.Goals as goal
+
+pub slice_bounds-find_status-end : goal.slice_bounds-find_status-end
+slice_bounds-find_status-end c =
+    let e : length c.args.name.bytes ≡ 32 = search rules in
+    search rules
+
+pub returns : goal.returns
+returns c =
+    let k = text_part c.args.name (search rules) _ c.size-n.ensures in
+    c.find_status.ensures ∙ ap (find_status (table_of c.args.t.now) c.args.component _) k

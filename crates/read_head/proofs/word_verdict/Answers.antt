@@ -1,0 +1,8 @@
+use Rattle.basis.proofs.Std.{sym, ◌∙◌, rules}
+use Rattle.read_head.proofs.word_verdict.Goals as goal
+
+pub returns-then-is_word : goal.returns-then-is_word
+returns-then-is_word c = sym (rw (sym c.is_word.ensures ∙ c.if-is_word.true))
+
+pub returns-else-is_word : goal.returns-else-is_word
+returns-else-is_word c = sym (rw (sym c.is_word.ensures ∙ c.if-is_word.false))

@@ -1,0 +1,4 @@
+use Rattle.read_lists.proofs.no_sites.Goals as goal
+
+pub returns : goal.returns
+returns c = rw c.none.ensures

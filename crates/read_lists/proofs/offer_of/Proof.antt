@@ -1,9 +1,0 @@
-use Rattle.basis.proofs.Std.{rules}
-use Rattle.read_lists.proofs.offer_of.Statement.{statement}
-use Rattle.read_lists.proofs.offer_of.Tie as tie
-
-returns : tie.Need-returns
-returns c = rw (c.worst2.ensures, c.before.worst.ensures)
-
-pub offer-of-spec : {M : Type 1} → statement M
-offer-of-spec = tie.close (tie.spec (λ c κs. search rules) (λ c κs. search rules) returns)

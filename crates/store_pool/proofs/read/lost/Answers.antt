@@ -1,0 +1,10 @@
+-- `store_pool::read::lost` meets its contract.
+-- Assumes nothing.
+use Rattle.store_pool.proofs.PoolLaws.{lost_at, lost_beyond}
+use Rattle.store_pool.proofs.read.lost.Goals as goal
+
+pub returns-then-l-lt8 : goal.returns-then-l-lt8
+returns-then-l-lt8 c = lost_at c.args.w.now c.args.l c.if-l-lt8.true
+
+pub returns : goal.returns
+returns c = lost_beyond c.args.w.now c.args.l c.if-l-lt8.false

@@ -1,0 +1,11 @@
+-- `store_site::phases::aggregated_out` meets its contract.
+-- Assumes nothing.
+use Rattle.store_site.proofs.HeadLaws.{link_says}
+use Rattle.link.specs.declared.Link.{Link}
+use Rattle.store_link.specs.Rows.{link_in}
+use Rattle.basis.proofs.Std.{refl, rules}
+use Rattle.store_site.proofs.phases.aggregated_out.Goals as goal
+
+pub returns : goal.returns
+unfolding link_in
+returns c = λ ps t. link_says (λ (k : Link). k.aggregatedout) ps c.args.w.now t c.args.l (search rules) (refl)

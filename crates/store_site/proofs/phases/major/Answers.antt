@@ -1,0 +1,11 @@
+-- `store_site::phases::major` meets its contract.
+-- Assumes nothing.
+use Rattle.store_site.proofs.HeadLaws.{link_says}
+use Rattle.link.specs.declared.Link.{Link}
+use Rattle.store_link.specs.Rows.{link_in}
+use Rattle.basis.proofs.Std.{rules}
+use Rattle.store_site.proofs.phases.major.Goals as goal
+
+pub returns : goal.returns
+unfolding link_in
+returns c = λ ps t. link_says (λ (k : Link). k.major) ps c.args.w.now t c.args.l (search rules) c.lower.ensures

@@ -1,9 +1,0 @@
-use Rattle.basis.proofs.Std.{rules}
-use Rattle.table_whole.proofs.refused.Statement.{statement}
-use Rattle.table_whole.proofs.refused.Tie as tie
-
-returns : tie.Need-returns
-returns c = rw c.none.ensures
-
-pub refused-spec : {M : Type 1} → statement M
-refused-spec = tie.close (tie.spec (λ c κs. search rules) returns)
