@@ -2,6 +2,7 @@
 import os
 import pathlib
 import re
+import signal
 import socket
 import subprocess
 import threading
@@ -134,6 +135,16 @@ class Process:
         self.process.wait()
         if self.reader:
             self.reader.join(5)
+
+    def kill_between_calls(self):
+        """A kill in the middle of a write to a file ends it between two pages, whatever the program does; a stop waits until the write is done."""
+        self.process.send_signal(signal.SIGSTOP)
+        wait(self.is_stopped, "the process to stop")
+        self.kill()
+
+    def is_stopped(self):
+        states = [path.read_text().rsplit(")", 1)[1].split()[0] for path in pathlib.Path(f"/proc/{self.pid}/task").glob("*/stat")]
+        return set(states) == {"T"}
 
     @classmethod
     def end_all(cls, room):

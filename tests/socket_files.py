@@ -45,7 +45,7 @@ def record_has_its_size(room):
     for _ in range(40):
         supervisor.flood("AggregatedStatusRequest", 8, cId=SITE, pad="x" * 400)
     wait(aside.exists, "the record to be put aside")
-    process.kill()
+    process.kill_between_calls()
     (room / "go").touch()
     hold(max(record.stat().st_size, aside.stat().st_size) < most + SLACK, f"{record.stat().st_size} and {aside.stat().st_size} bytes of records")
     plays(record)
@@ -61,7 +61,7 @@ def record_has_its_size(room):
 
 
 def no_line_is_torn(room):
-    """A kill just after a start from a state or after a long packet leaves whole lines; a torn line is cut off and told of."""
+    """A kill just after a start from a state or after a long packet, between two system calls, leaves whole lines; a torn line is cut off and told of."""
     room = pathlib.Path(room)
     supervisor, record = Supervisor(SITE, SXL), room / "record.txt"
     process = Process(room, [supervisor], "--state", room / "state")
@@ -71,7 +71,7 @@ def no_line_is_torn(room):
         before = record.stat().st_size
         process = Process(room, [supervisor], "--state", room / "state")
         wait(lambda: record.stat().st_size > before, "the stored site in the record")
-        process.kill()
+        process.kill_between_calls()
         hold(record.read_bytes().endswith(b"\n"), "a line is torn by a kill after a start")
     before = plays(record)
     with record.open("a") as out:
@@ -81,8 +81,9 @@ def no_line_is_torn(room):
     supervisor.wait_up()
     supervisor.send_raw(b"x" * 4000 + FORM_FEED)
     hold(supervisor.ask("AggregatedStatusRequest", cId=SITE, pad="x" * 3800) is True, "a long packet")
-    process.kill()
-    hold(record.read_bytes().endswith(b"\n") and plays(record) > before and TORN not in record.read_text(), "the record after a torn line")
+    process.kill_between_calls()
+    hold(record.read_bytes().endswith(b"\n"), "a line is torn by a kill after a long packet")
+    hold(plays(record) > before and TORN not in record.read_text(), "the record after a torn line")
     supervisor.close()
     record.write_text("precious")
     code, said = status("--table", ROOT / "examples" / "barrier.txt", "--supervisor", NOWHERE, "--record", record)
