@@ -143,8 +143,10 @@ class Process:
         self.kill()
 
     def is_stopped(self):
-        states = [path.read_text().rsplit(")", 1)[1].split()[0] for path in pathlib.Path(f"/proc/{self.pid}/task").glob("*/stat")]
-        return set(states) == {"T"}
+        try:
+            return {path.read_text().rsplit(")", 1)[1].split()[0] for path in pathlib.Path(f"/proc/{self.pid}/task").glob("*/stat")} == {"T"}
+        except OSError:  # a thread of it has just ended
+            return False
 
     @classmethod
     def end_all(cls, room):
