@@ -80,10 +80,14 @@ def applies():
     return bad == 0
 
 
+# Of what stands on the goal that was refused.
+CONSEQUENCE = re.compile(r"\d+ declarations? that depends? on")
+
+
 def unread(line, edited):
     """Whether it says that the edited text has a name that is not there, so that no contract was tried."""
     at = re.match(r"(?:\./)?(\S+?):\d+:\d+: error: (?:(`[^`]*`): )?(.*)", line)
-    if not at or at[1] not in edited and not at[1].startswith(("src/", "specs/")):
+    if not at or at[1] not in edited and not at[1].startswith(("src/", "specs/")) or CONSEQUENCE.match(at[3]):
         return False
     return not at[2] or bool(re.search(r"is not in scope|has no field|is no name|operand is missing|expected the end|cannot continue", re.sub(r"`[^`]*`", "", at[3])))
 
