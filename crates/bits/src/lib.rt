@@ -48,21 +48,13 @@ pub fn byte(word: u64, shift: u32) -> u8
     low(high(word, shift), 8) as u8
 }
 
-fn wide(b: u8) -> u64
-    ensures { result ≡ b }
-{
-    b as u64
-}
-
 // The last 64 bits of the number that the bytes say.
 pub fn number(s: &[u8]) -> u64
     ensures { result ≡ number_of s.now % 2 ^ 64 }
 {
-    let mut n: u64 = 0;
-    let mut i = 0;
-    while i < s.len() {
-        n = push(n, 8, wide(s[i]));
-        i += 1;
+    let mut n = 0;
+    for b in s {
+        n = push(n, 8, u64::from(*b));
     }
     n
 }

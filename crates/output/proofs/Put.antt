@@ -1,6 +1,6 @@
 -- The laws of `put`: its length, what stands before and behind it, two in a row, one in a part that is lent on.
 -- Assumes nothing.
-use Rattle.basis.proofs.Std.{◌≡◌, sym, ap, ◌∙◌, List, [], ◌++◌, append_assoc, append-nil, ℕ, ◌+◌, ◌-◌, ◌≤◌, add_assoc, add-zero, arith, length, take, drop, length-append, length-take, length-drop, take-append-drop, paste, take-length, length-take-le, take_at, drop_at, take-take, take-append-le, drop-append-le, take-append-add, drop-append-add, drop-drop}
+use Rattle.basis.proofs.Std.{◌≡◌, sym, ap, ◌∙◌, List, [], ◌++◌, append_assoc, append-nil, ℕ, ◌+◌, ◌-◌, ◌≤◌, add_assoc, add-sub_cancel_left, add-zero, arith, length, take, drop, length-append, length-take, length-drop, take-append-drop, paste, take-length, length-take-le, take_at, drop_at, take-take, take-append-le, drop-append-le, take-append-add, drop-append-add, drop-drop}
 use borrow.Rule.Slice.PartMut.{post_of, put_mid}
 use Rattle.output.specs.Put.{put}
 
@@ -8,6 +8,11 @@ use Rattle.output.specs.Put.{put}
 pub pasted : (xs : List ℕ) (at : ℕ) (bs : List ℕ) → paste xs at bs (length bs) ≡ put xs at bs
 unfolding put
 pasted xs at bs = simp take-length
+
+-- bs in the place of the part that is as long is bs put
+pub copied : (xs : List ℕ) (at : ℕ) (bs : List ℕ) → put_mid at (at + length bs - at) xs bs ≡ put xs at bs
+unfolding put
+copied xs at bs = simp (append_assoc, add-sub_cancel_left, drop-drop)
 
 module _ (xs : List ℕ) (at : ℕ) (bs : List ℕ) (h : at + length bs ≤ length xs) where
   head_length : length (take at xs ++ bs) ≡ at + length bs

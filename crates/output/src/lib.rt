@@ -14,12 +14,9 @@ pub fn put_bytes(out: &mut [u8], at: usize, b: &[u8]) -> usize
     if out.len() - at < b.len() {
         return out.len() + 1;
     }
-    let mut i = 0;
-    while i < b.len() {
-        out[at + i] = b[i];
-        i += 1;
-    }
-    at + i
+    let end = at + b.len();
+    out[at..end].copy_from_slice(b);
+    end
 }
 
 pub fn put2(out: &mut [u8], at: usize, a: &[u8], b: &[u8]) -> usize

@@ -1,4 +1,3 @@
-use borrow.Author.Rules.{rules}
 use Rattle.bits.proofs.field.Goals as goal
 
 pub returns : goal.returns

@@ -1,5 +1,4 @@
 use Rattle.output.proofs.Laws.{then}
-use Rattle.basis.proofs.Std.{rules}
 use Rattle.output.proofs.put2.Goals as goal
 
 pub returns : goal.returns
