@@ -1,6 +1,8 @@
 -- What stands after the seconds: zero to six decimals behind a dot, and Z. The function reads exactly these texts.
 -- Assumes nothing.
-use Rattle.basis.proofs.Std.{◌≡◌, refl, sym, ap, ap₂, subst, ◌∙◌, Bool, true, false, not, List, [], ◌∷◌, ◌++◌, ℕ, zero, suc, ◌+◌, ◌-◌, ◌/◌, ◌%◌, ◌≤◌, ◌<◌, add-one, arith, length, take, drop, get_or, length-append, drop_of_length-le, drop-cons, take_at, get_or_at, take-suc, take_all, ltb, leb, eqb, ltb-true, ltb-false, leb-true, eqb-true, le-ltb, le-leb, eq-eqb, pick, both, text, picked}
+use Rattle.basis.proofs.Std.{◌≡◌, refl, sym, ap, ap₂, subst, ◌∙◌, Bool, true, false, List, [], ◌∷◌, ◌++◌, ℕ, zero, suc, ◌+◌, ◌-◌, ◌/◌, ◌%◌, ◌≤◌, ◌<◌, arith, length, take, drop, get_or, length-append, take_at, get_or_at, take-suc, take_all, ltb, leb, eqb, ltb-true, ltb-false, leb-true, eqb-true, le-ltb, le-leb, eq-eqb, pick, both, text, picked}
+use Rattle.std.specs.List.{list_all}
+use Rattle.std.specs.Prelude.{◌&&◌}
 use Rattle.calendar.specs.declared.Time.{Time}
 use Rattle.calendar.specs.declared.Time.TheVariants.{Is, No}
 use Rattle.calendar.specs.Text.{decimals}
@@ -8,20 +10,9 @@ use Rattle.calendar.specs.Read.{is_digit, are_digits, one_at, pointed, millis, r
 
 -- ---- a row of digits, one by one
 
-pub turn : (s : List ℕ) (i : ℕ) → i < length s → are_digits (drop i s) ≡ both (is_digit (get_or s i 0)) (are_digits (drop (i + 1) s))
-turn s i h = ap are_digits (drop-cons s i 0 h) ∙ ap (λ (k : ℕ). both (is_digit (get_or s i 0)) (are_digits (drop k s))) (sym (add-one i))
-
-pub all_read : (s : List ℕ) (i : ℕ) → length s ≤ i → are_digits (drop i s) ≡ true
-all_read s i h = ap are_digits (drop_of_length-le s {i = i} h)
-
--- the test `!b`
-pub not_taken : (b : Bool) → not b ≡ true → b ≡ false
-not_taken true e = sym e
-not_taken false e = refl
-
-pub not_left : (b : Bool) → not b ≡ false → b ≡ true
-not_left true e = refl
-not_left false e = sym e
+pub all_is : (s : List ℕ) → list_all is_digit s ≡ are_digits s
+all_is [] = refl
+all_is (b ∷ s) = elim (is_digit b) as (λ t. (t && list_all is_digit s) ≡ both t (are_digits s)) [ true ↦ all_is s | false ↦ refl ]
 
 -- ---- their number
 

@@ -2,13 +2,14 @@
 #![tactic(auto)]
 
 ghost use Rattle.std.specs.Prelude.{◌≡◌, ◌++◌, ℕ, ◌+◌, ◌-◌, ◌*◌, ◌/◌, ◌%◌, ◌≤◌, ◌<◌, length, get_or};
+ghost use Rattle.std.specs.List.{list_all};
 ghost use Rattle.basis.specs.Text.{text};
 ghost use Rattle.output.specs.Put.{put};
 ghost use Rattle.calendar.specs.Days.{leap_of, years, months, day_of, Valid, InYear, InMonth};
 ghost use Rattle.calendar.specs.Civil.{date_of};
 ghost use Rattle.calendar.specs.Text.{last_time, last_second, decimals, date_text, second_text, milli_text, time_text};
 ghost use Rattle.calendar.specs.Put.{WroteTime};
-ghost use Rattle.calendar.specs.Read.{Answers, is_digit, are_digits, one_at, two_at, millis as millis_of, date_said, clock_said, read_decimals, read_rest, TimeRead};
+ghost use Rattle.calendar.specs.Read.{Answers, is_digit, one_at, two_at, millis as millis_of, date_said, clock_said, read_decimals, read_rest, TimeRead};
 
 #[derive(Clone, Copy)]
 struct Date {
@@ -41,16 +42,7 @@ pub enum Time {
 fn leap(y: u64) -> u64
     ensures { (result ≡ leap_of y) × (result ≤ 1) }
 {
-    if y % 4 != 0 {
-        return 0;
-    }
-    if y % 100 != 0 {
-        return 1;
-    }
-    if y % 400 != 0 {
-        return 0;
-    }
-    1
+    u64::from(y % 4 == 0 && (y % 100 != 0 || y % 400 == 0))
 }
 
 // The year of day n, by its parts of 400, 100, 4 and 1 years from year 1 on; the last day of a part belongs to its last year.
@@ -132,27 +124,12 @@ fn month_start(l: u64, m: u64) -> u64
 fn day_of(d: Date) -> u64
     ensures { (Valid d → result ≡ day_of d) × (result < 2936000) }
 {
-    let y = d.year;
-    let m = d.month;
-    if y < 1970 {
-        return 0;
+    match (d.year, d.month, d.day) {
+        (y @ 1970..=9999, m @ 1..=12, day @ 1..=31) => year_start(y)
+            + month_start(leap(y), m)
+            + (day - 1),
+        _ => 0,
     }
-    if 9999 < y {
-        return 0;
-    }
-    if m < 1 {
-        return 0;
-    }
-    if 12 < m {
-        return 0;
-    }
-    if d.day < 1 {
-        return 0;
-    }
-    if 31 < d.day {
-        return 0;
-    }
-    year_start(y) + month_start(leap(y), m) + (d.day - 1)
 }
 
 // The last w digits of n from a place of the text on.
@@ -161,10 +138,8 @@ fn put_digits(into: [u8; 24], at: usize, w: usize, n: u64) -> [u8; 24]
     ensures { result ≡ put into at (decimals w n) }
 {
     let mut t = into;
-    let mut i = w;
     let mut m = n;
-    while 0 < i {
-        i -= 1;
+    for i in (0..w).rev() {
         t[at + i] = 48 + (m % 10) as u8;
         m = m / 10;
     }
@@ -214,14 +189,10 @@ pub fn put_time(out: &mut [u8], at: usize, ms: u64) -> usize
 fn one_at(s: &[u8], at: usize) -> u64
     ensures { (result ≡ one_at s.now at) × (result < 256) }
 {
-    if s.len() <= at {
-        return 0;
+    match s.get(at) {
+        Some(c) => u64::from(c.saturating_sub(b'0')),
+        None => 0,
     }
-    let c = s[at];
-    if c < 48 {
-        return 0;
-    }
-    (c - 48) as u64
 }
 
 fn two_at(s: &[u8], at: usize) -> u64
@@ -266,26 +237,13 @@ fn read_second(h: &[u8]) -> Second
 fn is_digit(b: u8) -> bool
     ensures { result ≡ is_digit b }
 {
-    if b < 48 {
-        return false;
-    }
-    if 57 < b {
-        return false;
-    }
-    true
+    b.is_ascii_digit()
 }
 
 fn are_digits(s: &[u8]) -> bool
-    ensures { result ≡ are_digits s.now }
+    ensures { result ≡ list_all is_digit s.now }
 {
-    let mut i = 0;
-    while i < s.len() {
-        if !is_digit(s[i]) {
-            return false;
-        }
-        i += 1;
-    }
-    true
+    s.iter().all(|b| is_digit(*b))
 }
 
 // The milliseconds that decimals say; those after the third are dropped.
@@ -300,13 +258,7 @@ fn read_decimals(ds: &[u8]) -> Time
     ensures { result ≡ read_decimals ds.now }
 {
     let k = ds.len();
-    if k < 1 {
-        return Time::No;
-    }
-    if 6 < k {
-        return Time::No;
-    }
-    if are_digits(ds) {
+    if 1 <= k && k <= 6 && are_digits(ds) {
         Time::Is(millis(ds), k)
     } else {
         Time::No
@@ -317,20 +269,11 @@ fn read_decimals(ds: &[u8]) -> Time
 fn read_rest(t: &[u8]) -> Time
     ensures { result ≡ read_rest t.now }
 {
-    let n = t.len();
-    if n < 1 {
-        return Time::No;
+    match t {
+        [b'Z'] => Time::Is(0, 0),
+        [b'.', ds @ .., b'Z'] => read_decimals(ds),
+        _ => Time::No,
     }
-    if t[n - 1] != b'Z' {
-        return Time::No;
-    }
-    if n < 2 {
-        return Time::Is(0, 0);
-    }
-    if t[0] != b'.' {
-        return Time::No;
-    }
-    read_decimals(&t[1..n - 1])
 }
 
 pub fn read_time(s: &[u8]) -> Time

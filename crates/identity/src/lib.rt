@@ -10,11 +10,12 @@ ghost use Rattle.basis.specs.Lists.{same_bytes};
 ghost use Rattle.identity.specs.Read.{not_found, byte_at, bytes_of, IdentityRead};
 
 #[repr(C)]
-#[derive(Clone, Copy)]
+#[derive(Clone, Copy, PartialEq, Eq)]
 pub struct Identity {
     pub bytes: [u8; 16],
 }
 
+#[tactic(auto, unfolding(crate::specs::Hex::hex_digit))]
 fn hex_digit(n: u8) -> u8
     requires { n < 16 }
     ensures { result ≡ hex_digit n }
@@ -78,40 +79,29 @@ pub fn version4(random: Identity) -> Identity
 pub fn same_identity(a: Identity, b: Identity) -> bool
     ensures { result ≡ same_bytes a.bytes b.bytes }
 {
-    let x = a.bytes;
-    let y = b.bytes;
-    check::same(&x, &y)
+    a == b
 }
 
 // A letter A to F made small.
+#[tactic(auto, unfolding(crate::specs::Hex::lower_hex))]
 fn lower_hex(c: u8) -> u8
     ensures { result ≡ lower_hex c }
 {
-    if c < 65 {
-        return c;
+    match c {
+        b'A'..=b'F' => c + 32,
+        _ => c,
     }
-    if c < 71 {
-        return c + 32;
-    }
-    c
 }
 
+#[tactic(auto, unfolding(crate::specs::Hex::hex_value))]
 fn hex_value(c: u8) -> u8
     ensures { result ≡ hex_value c }
 {
-    if c < 48 {
-        return 0;
+    match c {
+        b'0'..=b'9' => c - 48,
+        b'a'..=b'f' => c - 87,
+        _ => 0,
     }
-    if c < 58 {
-        return c - 48;
-    }
-    if c < 97 {
-        return 0;
-    }
-    if c < 103 {
-        return c - 87;
-    }
-    0
 }
 
 // The value of a digit, in either case.
@@ -154,15 +144,6 @@ fn bytes_of(s: &[u8]) -> [u8; 16]
     ]
 }
 
-fn still_same(same: bool, c: u8, d: u8) -> bool
-    ensures { result ≡ pick (eqb (lower_hex c) d) same false }
-{
-    if lower_hex(c) == d {
-        return same;
-    }
-    false
-}
-
 // Whether s with its letters A to F made small is t. All bytes are looked at, so that the compiler takes several at a time.
 fn same_lowered(s: &[u8], t: &[u8]) -> bool
     ensures { result ≡ same_bytes (lowered s.now) t.now }
@@ -171,10 +152,8 @@ fn same_lowered(s: &[u8], t: &[u8]) -> bool
         return false;
     }
     let mut same = true;
-    let mut i = 0;
-    while i < s.len() {
-        same = still_same(same, s[i], t[i]);
-        i += 1;
+    for (c, d) in s.iter().zip(t) {
+        same &= lower_hex(*c) == *d;
     }
     same
 }

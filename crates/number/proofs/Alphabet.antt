@@ -1,35 +1,23 @@
 -- The laws of the alphabet: one byte more, and a string that is or is not a label; decimal text is of the alphabet.
 -- Assumes nothing.
-use Rattle.basis.proofs.Std.{◌≡◌, refl, sym, ap, ◌∙◌, Bool, true, false, not, List, [], ◌∷◌, ◌++◌, ℕ, suc, ◌+◌, ◌/◌, ◌%◌, ◌≤◌, ◌<◌, add-one, arith, leb, ℤ, pos, negsuc, length, drop, get_or, drop_of_length-le, drop-cons, le-leb, ne_eqb, both, both_true}
+use Rattle.basis.proofs.Std.{◌≡◌, refl, sym, ap, ◌∙◌, Bool, true, false, not, List, [], ◌∷◌, ◌++◌, ℕ, suc, ◌+◌, ◌/◌, ◌%◌, ◌≤◌, ◌<◌, arith, ℤ, pos, negsuc, length, le-leb, ne_eqb, both, both_true}
+use Rattle.std.specs.List.{list_all}
+use Rattle.std.specs.Prelude.{◌&&◌}
 use Rattle.number.specs.Alphabet.{in_alphabet, all_in_alphabet, is_label}
 use Rattle.number.specs.Decimal.{digits, decimal_of}
 use Rattle.number.proofs.Digits.{by_digits, one_digit, more_digits}
 
-pub turn : (s : List ℕ) (i : ℕ) → i < length s → all_in_alphabet (drop i s) ≡ both (in_alphabet (get_or s i 0)) (all_in_alphabet (drop (i + 1) s))
-turn s i h = ap all_in_alphabet (drop-cons s i 0 h) ∙ ap (λ (k : ℕ). both (in_alphabet (get_or s i 0)) (all_in_alphabet (drop k s))) (sym (add-one i))
-
-both_none : (a b : Bool) → both a (both b false) ≡ false
-both_none true true = refl
-both_none true false = refl
-both_none false b = refl
-
-pub no_label : (s : List ℕ) → all_in_alphabet s ≡ false → is_label s ≡ false
-no_label s e = rw e (both_none (leb 1 (length s)) (leb (length s) 32))
+pub all_is : (s : List ℕ) → list_all in_alphabet s ≡ all_in_alphabet s
+all_is [] = refl
+all_is (b ∷ s) = elim (in_alphabet b) as (λ t. (t && list_all in_alphabet s) ≡ both t (all_in_alphabet s)) [ true ↦ all_is s | false ↦ refl ]
 
 -- the test `!b`
 pub not_taken : (b : Bool) → not b ≡ true → b ≡ false
 not_taken true e = sym e
 not_taken false e = refl
 
-pub not_left : (b : Bool) → not b ≡ false → b ≡ true
-not_left true e = refl
-not_left false e = sym e
-
 pub label : (s : List ℕ) → 1 ≤ length s → length s ≤ 32 → all_in_alphabet s ≡ true → is_label s ≡ true
 label s h k e = rw (le-leb 1 (length s) h, le-leb (length s) 32 k, e)
-
-pub all_read : (s : List ℕ) (i : ℕ) → length s ≤ i → all_in_alphabet (drop i s) ≡ true
-all_read s i h = ap all_in_alphabet (drop_of_length-le s {i = i} h)
 
 all_snoc : (s : List ℕ) (b : ℕ) → all_in_alphabet s ≡ true → in_alphabet b ≡ true → all_in_alphabet (s ++ (b ∷ [])) ≡ true
 all_snoc [] b e h = rw h

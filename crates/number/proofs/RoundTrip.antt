@@ -19,9 +19,6 @@ word_lt (negsuc n) h = omega arith
 pub signed_range : (w : ℕ) → w < 2 ^ 32 → Signed32 (signed_of w)
 signed_range w h = signed_fits (signed_of w) (rw signed_is at (sfits_to_z {w = w32} {n = w} (record { fits = h })))
 
-pub number_four : (bs : List ℕ) → length bs ≡ 4 → number_of bs < 2 ^ 32
-number_four bs l = subst (λ (k : ℕ). number_of bs < 2 ^ total (replicate k 8)) l (number_lt bs)
-
 -- a value as a signed function hands it on
 pub passed_on : (w : ℕ) → w < 2 ^ 32 → to_z w32 (of_z w32 (signed_of w)) ≡ signed_of w
 passed_on w h = to_z-of_z (fits_signed (signed_of w) (signed_range w h))

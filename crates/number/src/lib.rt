@@ -2,6 +2,7 @@
 #![tactic(auto)]
 
 ghost use Rattle.std.specs.Prelude.{◌≡◌, [], ◌∷◌, ◌+◌, ◌-◌, ◌*◌, ◌%◌, ◌≤◌, ◌<◌, length, drop};
+ghost use Rattle.std.specs.List.{list_all};
 ghost use Rattle.output.specs.Put.{Wrote};
 ghost use Rattle.number.specs.Signed.{word_of, signed_of, signed16_of, at_most, four_of, signed_in};
 ghost use Rattle.number.specs.Decimal.{digits, decimal_of};
@@ -19,30 +20,21 @@ pub struct Four {
 pub fn word_of(v: i32) -> u32
     ensures { result ≡ word_of v }
 {
-    let low = (v & 0x7fff_ffff) as u32;
-    if v < 0 { low | 0x8000_0000 } else { low }
+    v.cast_unsigned()
 }
 
 // The value whose two's complement is w.
 pub fn signed_of(w: u32) -> i32
     ensures { result ≡ signed_of w }
 {
-    if w < 0x8000_0000 {
-        w as i32
-    } else {
-        ((w & 0x7fff_ffff) as i32) | -2147483648
-    }
+    w.cast_signed()
 }
 
 // The value whose two's complement in 16 bits is w.
 pub fn signed16_of(w: u16) -> i32
     ensures { result ≡ signed16_of w }
 {
-    if w < 0x8000 {
-        w as i32
-    } else {
-        signed_of(0xffff_0000 + (w as u32))
-    }
+    i32::from(w.cast_signed())
 }
 
 // Whether a is not above b.
@@ -55,22 +47,15 @@ pub fn at_most(a: i32, b: i32) -> bool
 pub fn four_of(v: i32) -> Four
     ensures { result.bytes ≡ four_of v }
 {
-    let w = word_of(v) as u64;
     Four {
-        bytes: [
-            bits::byte(w, 24),
-            bits::byte(w, 16),
-            bits::byte(w, 8),
-            bits::byte(w, 0),
-        ],
+        bytes: v.to_be_bytes(),
     }
 }
 
 pub fn signed_in(b: Four) -> i32
     ensures { result ≡ signed_in b.bytes }
 {
-    let bytes = b.bytes;
-    signed_of(bits::number(&bytes) as u32)
+    i32::from_be_bytes(b.bytes)
 }
 
 fn last_digit(n: u64) -> u8
@@ -127,9 +112,9 @@ pub fn put_i32(out: &mut [u8], at: usize, v: i32) -> usize
 {
     let w = word_of(v);
     if w < 0x8000_0000 {
-        put_decimal(out, at, w as u64)
+        put_decimal(out, at, u64::from(w))
     } else {
-        put_negative(out, at, 0x1_0000_0000 - (w as u64))
+        put_negative(out, at, 0x1_0000_0000 - u64::from(w))
     }
 }
 
@@ -148,18 +133,16 @@ pub enum Int {
 fn digit_value(b: u8) -> u64
     ensures { (result ≡ b - 48) × (result < 208) }
 {
-    if b < 48 { 0 } else { (b - 48) as u64 }
+    u64::from(b.saturating_sub(b'0'))
 }
 
 fn said(s: &[u8]) -> u64
     requires { length s.now ≤ 10 }
     ensures { result ≡ says 0 s.now }
 {
-    let mut n: u64 = 0;
-    let mut i = 0;
-    while i < s.len() {
-        n = n * 10 + digit_value(s[i]);
-        i += 1;
+    let mut n = 0;
+    for b in s {
+        n = n * 10 + digit_value(*b);
     }
     n
 }
@@ -172,7 +155,7 @@ pub fn read_decimal(s: &[u8], limit: u32) -> Number
         return Number::No;
     }
     let n = said(s);
-    if (limit as u64) < n {
+    if u64::from(limit) < n {
         return Number::No;
     }
     let t = digits_of(n);
@@ -223,37 +206,18 @@ pub fn read_i32(s: &[u8]) -> Int
 pub fn in_alphabet(b: u8) -> bool
     ensures { result ≡ in_alphabet b }
 {
-    if b < 0x20 {
-        return false;
-    }
-    if 0x7e < b {
-        return false;
-    }
-    if b == b'"' {
-        return false;
-    }
-    if b == b'\\' {
-        return false;
-    }
-    true
+    0x20 <= b && b <= 0x7e && b != b'"' && b != b'\\'
+}
+
+fn all_in_alphabet(s: &[u8]) -> bool
+    ensures { result ≡ list_all in_alphabet s.now }
+{
+    s.iter().all(|b| in_alphabet(*b))
 }
 
 // Whether s is 1 to 32 bytes of the alphabet.
 pub fn is_label(s: &[u8]) -> bool
     ensures { result ≡ is_label s.now }
 {
-    if s.len() < 1 {
-        return false;
-    }
-    if 32 < s.len() {
-        return false;
-    }
-    let mut i = 0;
-    while i < s.len() {
-        if !in_alphabet(s[i]) {
-            return false;
-        }
-        i += 1;
-    }
-    true
+    1 <= s.len() && s.len() <= 32 && all_in_alphabet(s)
 }

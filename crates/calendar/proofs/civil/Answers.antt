@@ -1,5 +1,4 @@
 use Rattle.calendar.proofs.Counted.{date_is}
-use Rattle.basis.proofs.Std.{rules}
 use Rattle.calendar.proofs.civil.Goals as goal
 
 pub returns : goal.returns

@@ -1,4 +1,4 @@
-use Rattle.basis.proofs.Std.{ap₂, ℕ, ◌+◌, ◌*◌, rules}
+use Rattle.basis.proofs.Std.{ap₂, ℕ, ◌+◌, ◌*◌}
 use Rattle.calendar.proofs.date_said.Goals as goal
 
 pub returns : goal.returns

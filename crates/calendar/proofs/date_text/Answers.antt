@@ -1,5 +1,4 @@
 use Rattle.output.specs.Put.{put}
-use Rattle.basis.proofs.Std.{rules}
 use Rattle.calendar.proofs.date_text.Goals as goal
 
 pub returns : goal.returns

@@ -1,19 +1,12 @@
 use Rattle.basis.proofs.Std.{tests}
 use Rattle.calendar.specs.Days.{leap_of}
 use Rattle.calendar.proofs.leap.Goals as goal
-
-pub returns-then-y-ne0 : goal.returns-then-y-ne0
-unfolding leap_of
-returns-then-y-ne0 c = search tests
-
-pub returns-then-y-ne0-2 : goal.returns-then-y-ne0-2
-unfolding leap_of
-returns-then-y-ne0-2 c = search tests
-
-pub returns-then-y-ne0-3 : goal.returns-then-y-ne0-3
-unfolding leap_of
-returns-then-y-ne0-3 c = search tests
+use Rattle.calendar.proofs.leap.Goals.{then-y-eq0+then-y-ne0, then-y-eq0+else-y-ne0, else-y-eq0}
 
 pub returns : goal.returns
 unfolding leap_of
-returns c = search tests
+returns c =
+    elim c.if-y-eq0.branch
+    [ then-y-eq0+then-y-ne0 w ↦ search tests
+    | then-y-eq0+else-y-ne0 w ↦ search tests
+    | else-y-eq0 w ↦ search tests ]

@@ -1,4 +1,4 @@
-use Rattle.basis.proofs.Std.{refl, rules}
+use Rattle.basis.proofs.Std.{refl}
 use Rattle.calendar.proofs.Months.{from_january, after_february}
 use Rattle.calendar.proofs.month_of.Goals as goal
 

@@ -1,5 +1,4 @@
 use Rattle.calendar.proofs.Writing.{wrote, too_late}
-use Rattle.basis.proofs.Std.{rules}
 use Rattle.calendar.proofs.put_time.Goals as goal
 
 pub returns-then-ms-gt-LAST_TIME : goal.returns-then-ms-gt-LAST_TIME

@@ -1,23 +1,27 @@
-use Rattle.basis.proofs.Std.{tests, rules}
+use Rattle.basis.proofs.Std.{tests}
 use Rattle.calendar.specs.Read.{read_rest}
 use Rattle.calendar.proofs.read_rest.Goals as goal
 
-pub returns-then-n-lt1 : goal.returns-then-n-lt1
+pub returns-in-90 : goal.returns-in-90
 unfolding read_rest
-returns-then-n-lt1 c = search tests
+returns-in-90 c = search tests
 
-pub returns-then-t-n-ne90 : goal.returns-then-t-n-ne90
+pub returns-in-46 : goal.returns-in-46
 unfolding read_rest
-returns-then-t-n-ne90 c = search tests
+returns-in-46 c = search tests
 
-pub returns-then-n-lt2 : goal.returns-then-n-lt2
+pub returns-in_default : goal.returns-in_default
 unfolding read_rest
-returns-then-n-lt2 c = search tests
+returns-in_default c = search tests
 
-pub returns-then-t-ne46 : goal.returns-then-t-ne46
+pub returns-in_default-2 : goal.returns-in_default-2
 unfolding read_rest
-returns-then-t-ne46 c = search tests
+returns-in_default-2 c = search tests
 
-pub returns : goal.returns
+pub returns-in_default-3 : goal.returns-in_default-3
 unfolding read_rest
-returns c = search tests
+returns-in_default-3 c = search tests
+
+pub returns-in_default-4 : goal.returns-in_default-4
+unfolding read_rest
+returns-in_default-4 c = search tests

@@ -1,4 +1,4 @@
-use Rattle.basis.proofs.Std.{sym, ap, ◌∙◌, take, rules}
+use Rattle.basis.proofs.Std.{sym, ap, ◌∙◌, take}
 use Rattle.calendar.specs.Text.{second_text, last_second}
 use Rattle.calendar.proofs.Answers.{too_large, this, another, differs}
 use Rattle.calendar.proofs.Reading.{guess_second, second_part}

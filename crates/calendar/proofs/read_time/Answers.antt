@@ -1,6 +1,6 @@
 use Rattle.calendar.proofs.Rest.{ReadsRest, rest_most}
 use Rattle.calendar.proofs.Reading.{read_as, short, rest, joined}
-use Rattle.basis.proofs.Std.{refl, subst, arith, take, drop, rules}
+use Rattle.basis.proofs.Std.{refl, subst, arith, take, drop}
 use Rattle.calendar.specs.declared.Second.TheVariants.{Is as IsSecond, No as NoSecond}
 use Rattle.calendar.specs.declared.Time.TheVariants.{Is, No}
 use Rattle.calendar.specs.Text.{second_text, last_second}

@@ -1,6 +1,5 @@
 use Rattle.output.specs.Put.{put}
 use Rattle.calendar.specs.Text.{second_text, milli_text}
-use Rattle.basis.proofs.Std.{rules}
 use Rattle.calendar.proofs.second_text.Goals as goal
 
 pub returns : goal.returns

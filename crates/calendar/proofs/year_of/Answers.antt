@@ -1,5 +1,5 @@
 use Rattle.calendar.proofs.YearParts.{before_year, year_fits, ones_fit, year_parts}
-use Rattle.basis.proofs.Std.{refl, rules}
+use Rattle.basis.proofs.Std.{refl}
 use Rattle.calendar.proofs.year_of.Goals as goal
 
 pub overflow_add-result-3 : goal.overflow_add-result-3

@@ -1,6 +1,6 @@
 use Rattle.calendar.proofs.Years.{years_below, formula_fits, formula_is, years_formula}
 use Rattle.calendar.specs.Days.{years}
-use Rattle.basis.proofs.Std.{sym, subst, ℕ, ◌-◌, ◌/◌, ◌<◌, rules}
+use Rattle.basis.proofs.Std.{sym, subst, ℕ, ◌-◌, ◌/◌, ◌<◌}
 use Rattle.calendar.proofs.year_start.Goals as goal
 
 pub overflow_sub-result-2 : goal.overflow_sub-result-2

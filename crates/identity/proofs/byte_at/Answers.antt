@@ -1,4 +1,4 @@
-use Rattle.basis.proofs.Std.{◌≡◌, ◌+◌, arith, get_or, rules}
+use Rattle.basis.proofs.Std.{◌≡◌, ◌+◌, arith, get_or}
 use Rattle.identity.specs.Hex.{lower_hex, lowered}
 use Rattle.identity.proofs.Fill.{mapped}
 use Rattle.identity.proofs.byte_at.Goals as goal

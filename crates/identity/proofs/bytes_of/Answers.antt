@@ -1,5 +1,4 @@
 use Rattle.identity.specs.Read.{bytes_of}
-use Rattle.basis.proofs.Std.{rules}
 use Rattle.identity.proofs.bytes_of.Goals as goal
 
 pub returns : goal.returns

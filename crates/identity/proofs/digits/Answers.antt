@@ -1,4 +1,3 @@
-use Rattle.basis.proofs.Std.{rules}
 use Rattle.identity.proofs.digits.Goals as goal
 
 pub returns : goal.returns

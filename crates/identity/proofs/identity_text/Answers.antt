@@ -1,5 +1,4 @@
 use Rattle.identity.proofs.Text.{by_fours}
-use Rattle.basis.proofs.Std.{rules}
 use Rattle.identity.proofs.identity_text.Goals as goal
 
 pub returns : goal.returns

@@ -1,4 +1,4 @@
-use Rattle.basis.proofs.Std.{sym, ◌∙◌, rules}
+use Rattle.basis.proofs.Std.{sym, ◌∙◌}
 use Rattle.identity.proofs.Read.{read_as, short}
 use Rattle.identity.specs.Read.{read_identity}
 use Rattle.identity.proofs.read_identity.Goals as goal

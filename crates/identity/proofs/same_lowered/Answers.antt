@@ -1,5 +1,4 @@
-use Rattle.basis.proofs.Std.{◌≡◌, refl, sym, ◌∙◌, ◌-◌, ◌≤◌, ◌<◌, arith, rules, length, drop, same_bytes, both}
-use Rattle.identity.specs.Hex.{lowered}
+use Rattle.basis.proofs.Std.{◌≡◌, sym, ◌∙◌, ⊎_elim, length, arith}
 use Rattle.identity.proofs.Lowered.{lowered_length, lowered_step, lowered_end}
 use Rattle.identity.proofs.same_lowered.Goals as goal
 
@@ -8,21 +7,15 @@ returns-then-s-t c =
     let a = c.args in
     lowered_length a.s.now a.t.now c.if-s-t.true
 
-pub loop-i-init : goal.loop-i-init
-loop-i-init c = (search rules, search rules, refl)
-
-pub loop-i-preserved : goal.loop-i-preserved
-loop-i-preserved c =
-    let l = c.loop-i in
-    let a = c.args in
-    let h : l.i < length a.s.now = omega arith in
-    let g : l.i < length a.t.now = omega arith in
-    (l.invariant.0, search rules, l.invariant.2 ∙ rw c.still_same-same.ensures (lowered_step a.s.now a.t.now l.i h g l.same))
+pub loop-c-preserved : goal.loop-c-preserved
+loop-c-preserved c =
+    let e = c.in-Some.ensures.steps in
+    let i = c.loop-c.invariant in
+    let l : length c.next.new.self.a.rest.now ≡ length c.next.new.self.b.rest.now = let n = rw (e.0, e.1) at i.0 in omega (arith, n) in
+    (l, i.1 ∙ rw c.lower_hex.ensures (lowered_step e.0 e.1 c.loop-c.same))
 
 pub returns : goal.returns
 returns c =
-    let l = c.loop-i in
-    let a = c.args in
-    let h : length a.s.now ≤ l.i = omega arith in
-    let g : length a.t.now ≤ l.i = omega arith in
-    sym (l.invariant.2 ∙ lowered_end a.s.now a.t.now l.i h g l.same)
+    let i = c.loop-c.invariant in
+    let none : length c.loop-c.c-iterator.a.rest.now ≡ 0 = ⊎_elim (λ e. e.1.0) (λ e. i.0 ∙ e.1.0) c.in-None.ensures.steps in
+    sym (i.1 ∙ lowered_end _ _ none (sym i.0 ∙ none) c.loop-c.same)

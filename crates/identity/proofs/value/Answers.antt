@@ -1,4 +1,4 @@
-use Rattle.basis.proofs.Std.{◌≡◌, sym, ap, subst, ◌∙◌, ℕ, ◌≤◌, rules}
+use Rattle.basis.proofs.Std.{◌≡◌, sym, ap, subst, ◌∙◌, ℕ, ◌≤◌}
 use Rattle.identity.specs.Hex.{hex_value, lower_hex}
 use Rattle.identity.proofs.Hex.{value_below}
 use Rattle.identity.proofs.value.Goals as goal

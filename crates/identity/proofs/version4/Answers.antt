@@ -1,4 +1,4 @@
-use Rattle.basis.proofs.Std.{ap, ℕ, ◌+◌, ◌%◌, arith, get_or, set, get_or-set_other, rules}
+use Rattle.basis.proofs.Std.{ap, ℕ, ◌+◌, ◌%◌, arith, get_or, set, get_or-set_other}
 use Rattle.identity.proofs.version4.Goals as goal
 
 pub returns : goal.returns

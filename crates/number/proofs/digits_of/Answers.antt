@@ -1,4 +1,4 @@
-use Rattle.basis.proofs.Std.{◌≡◌, sym, ◌++◌, append-nil, ◌+◌, ◌^◌, ◌≤◌, ◌<◌, arith, length, drop, length-set, rules}
+use Rattle.basis.proofs.Std.{sym, append-nil, arith, length-set, rules}
 use Rattle.number.specs.Decimal.{digits}
 use Rattle.number.proofs.Places.{room, turn, ends}
 use Rattle.number.proofs.digits_of.Goals as goal

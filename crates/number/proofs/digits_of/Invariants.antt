@@ -1,6 +1,5 @@
-use Rattle.basis.proofs.Std.{◌≡◌, sym, ◌++◌, append-nil, ◌+◌, ◌^◌, ◌≤◌, ◌<◌, arith, length, drop, length-set, rules}
+use Rattle.basis.proofs.Std.{◌≡◌, ◌++◌, ◌+◌, ◌^◌, ◌≤◌, ◌<◌, length, drop}
 use Rattle.number.specs.Decimal.{digits}
-use Rattle.number.proofs.Places.{room, turn, ends}
 use Rattle.number.proofs.digits_of.Given as goal
 
 abbrev pub invariant-loop-left : goal.invariant-loop-left

@@ -8,8 +8,8 @@ use Rattle.number.proofs.read_decimal.Goals as goal
 pub returns-then-s-gt10 : goal.returns-then-s-gt10
 returns-then-s-gt10 c = too_long c.ranges.limit.fits c.if-s-gt10.true
 
-pub returns-then-limit-n : goal.returns-then-limit-n
-returns-then-limit-n c = too_much (omega (arith, c.said-n.ensures, c.if-limit-n.true))
+pub returns-then-from-n : goal.returns-then-from-n
+returns-then-from-n c = too_much (omega (arith, c.said-n.ensures, c.from.ensures, c.if-from-n.true))
 
 pub slice_bounds-same-end : goal.slice_bounds-same-end
 slice_bounds-same-end c =
@@ -20,7 +20,7 @@ pub returns-then-same : goal.returns-then-same
 returns-then-same c =
     let t = c.digits_of-t in
     let l : length t.result.bytes ≡ 21 = search rules in
-    is _ c.if-limit-n.false (c.same.ensures.0 c.if-same.true ∙ from_on t.result.bytes 21 t.result.from l ∙ t.ensures.0)
+    is _ (omega (arith, c.from.ensures, c.if-from-n.false)) (c.same.ensures.0 c.if-same.true ∙ from_on t.result.bytes 21 t.result.from l ∙ t.ensures.0)
 
 pub returns-else-same : goal.returns-else-same
 returns-else-same c =

@@ -1,4 +1,4 @@
-use Rattle.basis.proofs.Std.{◌≡◌, refl, sym, ap, subst, ◌∙◌, List, ◌∷◌, ℕ, ◌-◌, ◌<◌, arith, ℤ, length, take, drop, drop-cons, rules}
+use Rattle.basis.proofs.Std.{◌≡◌, refl, sym, ap, subst, ◌∙◌, List, ◌∷◌, ℕ, ◌-◌, ◌<◌, arith, ℤ, length, take, drop, drop-cons}
 use mir.Syntax.{w32}
 use mir.Val.{to_z, of_z}
 use Rattle.number.specs.Reading.{ReadsInt}

@@ -1,4 +1,4 @@
-use Rattle.basis.proofs.Std.{◌≡◌, ap, ◌∙◌, ◌+◌, ◌-◌, ◌^◌, ◌<◌, arith, ℤ, rules}
+use Rattle.basis.proofs.Std.{◌≡◌, ap, ◌∙◌, ◌+◌, ◌-◌, ◌^◌, ◌<◌, arith, ℤ}
 use mir.Syntax.{w32}
 use mir.Val.{to_z, of_z}
 use Rattle.number.specs.Decimal.{digits}
