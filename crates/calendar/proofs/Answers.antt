@@ -1,6 +1,6 @@
 -- An answer by a guess that is the number wherever there is one; and there is one answer only.
 -- Assumes nothing.
-use Rattle.basis.proofs.Std.{◌≡◌, sym, ap, subst, ◌∙◌, Bool, true, false, List, ℕ, ◌≤◌, ◌<◌, arith, leb, leb-true, le-leb, both, picked, same_bytes, same_true, same_self, not_both, both_true, both_of}
+use Rattle.basis.proofs.Std.{◌≡◌, sym, ap, subst, ◌∙◌, true, List, ℕ, ◌≤◌, ◌<◌, arith, leb, leb-true, le-leb, both, picked, same_bytes, same_true, same_self, not_both, both_true, both_of}
 use Rattle.calendar.specs.declared.Second.TheVariants.{Is, No}
 use Rattle.calendar.specs.Read.{Answers, checked}
 
@@ -12,9 +12,6 @@ is_no n e = no_is n (sym e)
 
 pub is_number_lem : (a b : ℕ) → Is a ≡ Is b → a ≡ b
 is_number_lem a b e = cc
-
-pub differs : (b : Bool) → b ≡ true → b ≡ false → ⊥
-differs b t f = not_both t f
 
 module _ (text_of : ℕ → List ℕ) (last : ℕ) (s : List ℕ) where
   pub nothing : ((n : ℕ) → n ≤ last → s ≡ text_of n → ⊥) → Answers text_of last s No

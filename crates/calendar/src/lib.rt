@@ -227,7 +227,7 @@ fn read_second(h: &[u8]) -> Second
         return Second::No;
     }
     let t = second_text(guess);
-    if check::same(h, &t[0..19]) {
+    if h == &t[..19] {
         Second::Is(guess)
     } else {
         Second::No

@@ -1,6 +1,6 @@
 -- What the tests of the kinds say of a record.
 -- Assumes nothing.
-use Rattle.basis.proofs.Std.{◌≡◌, refl, sym, ap, ◌∙◌, Bool, true, false, ℕ, ◌%◌, ◌^◌, ◌≤◌, ◌<◌, arith}
+use Rattle.basis.proofs.Std.{◌≡◌, refl, sym, ap, ◌∙◌, Bool, true, false, ℕ, ◌%◌, ◌^◌, ◌≤◌, ◌<◌, arith, eqb, eqb-true, eq-eqb}
 use Rattle.entry.specs.declared.Entry.{Entry}
 use Rattle.entry.specs.Flags.{event_of, is_acknowledged, is_active, is_suspended, is_known, is_old}
 use Rattle.entry.specs.Valid.{Alarm, Status, Aggregated, OfKind, an_alarm, a_status, an_aggregated, Decides}
@@ -31,6 +31,9 @@ an_alarm_of e k i f even v = record {
   value = v;
 }
 
+pub alarm_test : (e : Entry) → e.kind ≡ 0 → e.item < 32 → e.flags < 48 → e.flags % 2 ≡ 0 → Decides (eqb e.value 0) (Alarm e)
+alarm_test e k i f even = record { yes = λ t. an_alarm_of e k i f even (eqb-true e.value 0 t); only = λ a. eq-eqb e.value 0 a.value }
+
 pub status_flags_lem : {e : Entry} → Status e → (e.flags < 64) × (e.flags % 16 ≡ 0)
 status_flags_lem s =
     let lt = status_flags_lt s.known s.old in
@@ -55,8 +58,11 @@ a_status_of e k i f zeros v u = record {
 pub a_known : (e : Entry) → e.kind ≡ 1 → e.item < 32 → 32 ≤ e.flags → e.flags < 64 → e.flags % 16 ≡ 0 → e.value < 2 ^ 32 → Status e
 a_known e k i l f zeros v = a_status_of e k i f zeros v (λ u. absurd (let t = known_high e.flags l f in let z : ◌≡◌ {A = ℕ} 0 1 = cc in omega arith))
 
-pub an_unknown : (e : Entry) → e.kind ≡ 1 → e.item < 32 → e.flags < 32 → e.flags % 16 ≡ 0 → e.value ≡ 0 → Status e
-an_unknown e k i f zeros v = a_status_of e k i (omega arith) zeros (omega arith) (λ u. v)
+pub status_test : (e : Entry) → e.kind ≡ 1 → e.item < 32 → e.flags < 32 → e.flags % 16 ≡ 0 → Decides (eqb e.value 0) (Status e)
+status_test e k i f zeros = record {
+  yes = λ t. let v = eqb-true e.value 0 t in a_status_of e k i (omega arith) zeros (omega (arith, v)) (λ u. v);
+  only = λ s. eq-eqb e.value 0 (no_value_lem s f);
+}
 
 -- a test that was false
 pub not_held : {P : Type 0} {r : Bool} → Decides r P → r ≡ false → P → ⊥

@@ -13,7 +13,7 @@ pub const SUSPEND: u16 = 2;
 fn bit(b: bool) -> u64
     ensures { result ≡ bit_of b }
 {
-    if b { 1 } else { 0 }
+    u64::from(b)
 }
 
 // The flags of an alarm.

@@ -24,18 +24,6 @@ pub struct LabelRead {
 // A place behind every table's end: nothing is read there.
 pub const FAR: usize = 8192;
 
-fn wide(b: u8) -> usize
-    ensures { result ≡ b }
-{
-    b as usize
-}
-
-fn at_most_32(n: usize) -> usize
-    ensures { result ≡ min n 32 }
-{
-    if n <= 32 { n } else { 32 }
-}
-
 pub fn none() -> Label
     ensures { result ≡ no_label }
 {
@@ -49,15 +37,11 @@ pub fn none() -> Label
 pub fn of(s: &[u8]) -> Label
     ensures { result ≡ label_of (take 32 s.now) }
 {
-    let n = at_most_32(s.len());
+    let n = s.len().min(32);
     let mut bytes = [0u8; 32];
-    let mut i: usize = 0;
-    while i < n {
-        bytes[i] = s[i];
-        i += 1;
-    }
+    bytes[..n].copy_from_slice(&s[..n]);
     Label {
-        bytes: bytes,
+        bytes,
         length: n as u8,
     }
 }
@@ -66,7 +50,7 @@ pub fn of(s: &[u8]) -> Label
 pub fn size(l: Label) -> usize
     ensures { result ≡ min l.length 32 }
 {
-    at_most_32(wide(l.length))
+    usize::from(l.length).min(32)
 }
 
 // Whether the label is this text, byte for byte.
@@ -75,7 +59,7 @@ pub fn is(l: Label, s: &[u8]) -> bool
 {
     let n = size(l);
     let bytes = l.bytes;
-    check::same(&bytes[0..n], s)
+    &bytes[..n] == s
 }
 
 // No string stands there.
@@ -95,7 +79,7 @@ pub fn read(s: &[u8], at: usize) -> LabelRead
     if s.len() <= at {
         return missed();
     }
-    let n = wide(s[at]);
+    let n = usize::from(s[at]);
     let from = at + 1;
     if s.len() - from < n {
         return missed();

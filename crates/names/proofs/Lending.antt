@@ -1,9 +1,10 @@
 -- A table as lent: where a name stands in it, and what a comparison with a part of it says.
 -- Assumes nothing.
-use Rattle.basis.proofs.Std.{◌≡◌, refl, sym, ap, subst, ◌∙◌, Bool, true, false, List, [], ◌∷◌, ℕ, suc, ◌+◌, ◌-◌, ◌≤◌, ◌<◌, arith, eqb, length, get_or, take, drop, get_or-eq_default, ne_eqb, same_bytes, bool_cases, same_is, same_true}
+use Rattle.basis.proofs.Std.{◌≡◌, refl, sym, ap, subst, ◌∙◌, List, [], ◌∷◌, ℕ, suc, ◌+◌, ◌-◌, ◌≤◌, ◌<◌, arith, eqb, length, get_or, take, drop, get_or-eq_default, ne_eqb, same_bytes, same_is}
+use lib.Pointwise.{pointwise, bytes_decides}
 use Rattle.names.specs.Names.{names, name_of}
 use Rattle.names.specs.Table.{starts, Spans, Lent}
-use Rattle.names.proofs.Spans.{spans, spanned}
+use Rattle.names.proofs.Spans.{spans}
 
 is_empty : (s : List ℕ) → eqb (length s) 0 ≡ same_bytes s []
 is_empty [] = refl
@@ -35,16 +36,8 @@ module _ {bytes firsts lengths : List ℕ} (l : Lent bytes firsts lengths) (s : 
     pub in_bytes : a + n ≤ length bytes
     in_bytes = subst (λ (ks : List ℕ). a + n ≤ length ks) (sym l.bytes_are) spans_lent.within
 
-    pub few_bytes : a + n ≤ 418
-    few_bytes = spans_lent.within
-
-    pub other_length : ¬ (length s ≡ n) → false ≡ same_bytes s (name_of i)
-    other_length d =
-        bool_cases (same_bytes s (name_of i))
-        (λ e. absurd (d (ap length (same_true s (name_of i) e) ∙ (let k = spanned spans_lent in omega arith))))
-        sym
-
-    pub same_part : (b : Bool) → (b ≡ true → s ≡ take (a + n - a) (drop a bytes)) → (s ≡ take (a + n - a) (drop a bytes) → b ≡ true) → b ≡ same_bytes s (name_of i)
-    same_part b f g =
+    pub same_part : pointwise eqb s (take (a + n - a) (drop a bytes)) ≡ same_bytes s (name_of i)
+    same_part =
         let e : take (a + n - a) (drop a bytes) ≡ name_of i = ap (λ (t : List ℕ). take (a + n - a) (drop a t)) l.bytes_are ∙ spans_lent.named in
-        same_is s _ b f g ∙ ap (same_bytes s) e
+        let d = bytes_decides s (take (a + n - a) (drop a bytes)) in
+        same_is s _ _ d.0 d.1 ∙ ap (same_bytes s) e

@@ -1,6 +1,6 @@
 -- The table's rule, by one test that antt computes: what stands in it from a start on, as long as the length says, is the name.
 -- Assumes nothing.
-use Rattle.basis.proofs.Std.{◌≡◌, refl, ap, sym, ◌∙◌, Bool, true, false, [], ℕ, ◌+◌, ◌-◌, ◌≤◌, ◌<◌, add-sub_cancel_left, arith, T, leb, leb→le, lit≤, length, get_or, take, drop, length-drop, get_or-eq_default, length-take-le, both, same_bytes, same_true}
+use Rattle.basis.proofs.Std.{◌≡◌, refl, ap, sym, ◌∙◌, Bool, true, false, [], ℕ, ◌+◌, ◌≤◌, ◌<◌, add-sub_cancel_left, arith, T, leb, leb→le, lit≤, length, get_or, take, drop, get_or-eq_default, both, same_bytes, same_true}
 use Rattle.basis.proofs.Table.{at, both_left, both_right}
 use Rattle.names.specs.Names.{names, name_of}
 use Rattle.names.specs.Table.{table, starts, lens, Spans}
@@ -29,10 +29,3 @@ spans i h =
 -- past the last name
 pub past : (i : ℕ) → length names ≤ i → Spans i 0 0
 past i h = record { ordered = lit≤ tt; within = lit≤ tt; named = sym (get_or-eq_default names [] h) }
-
--- a name is as long as its part of the table
-pub spanned : {i a e : ℕ} → Spans i a e → length (name_of i) ≡ e - a
-spanned {i} {a} {e} s =
-    let o = s.ordered in
-    let w = s.within in
-    ap length (sym s.named) ∙ length-take-le (e - a) (drop a table) (rw (length-drop a table) (omega arith))

@@ -33,15 +33,11 @@ fn is_name_in(s: &[u8], i: usize, bytes: &[u8], starts: &[u16], lengths: &[u8]) 
     ensures { result ≡ same_bytes s.now (name_of i) }
 {
     if lengths.len() <= i {
-        return s.len() == 0;
+        return s.is_empty();
     }
-    let length = lengths[i] as usize;
-    if s.len() != length {
-        return false;
-    }
-    let start = starts[i] as usize;
-    let end = start + length;
-    check::same(s, &bytes[start..end])
+    let start = usize::from(starts[i]);
+    let end = start + usize::from(lengths[i]);
+    s == &bytes[start..end]
 }
 
 fn find_in(
@@ -55,12 +51,10 @@ fn find_in(
     requires { Lent bytes.now starts.now lengths.now }
     ensures { result ≡ find_in s.now first (end - first) }
 {
-    let mut i = first;
-    while i < end {
+    for i in first..end {
         if is_name_in(s, i, bytes, starts, lengths) {
             return Found::At(i);
         }
-        i += 1;
     }
     Found::Nothing
 }

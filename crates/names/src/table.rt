@@ -30,10 +30,10 @@ pub fn span_of(i: usize) -> Span
     ensures { Spans i result.start result.end }
 {
     if i < COUNT {
-        let start = STARTS[i] as usize;
+        let start = usize::from(STARTS[i]);
         Span {
             start,
-            end: start + LENS[i] as usize,
+            end: start + usize::from(LENS[i]),
         }
     } else {
         Span { start: 0, end: 0 }

@@ -1,11 +1,9 @@
 -- A signed value to its 32 bits, its four bytes or its 16 bits and back.
 -- Assumes nothing.
-use Rattle.basis.proofs.Std.{◌≡◌, refl, sym, ap, subst, ◌∙◌, List, ℕ, suc, ◌-◌, ◌^◌, ◌≤◌, ◌<◌, arith, ℤ, pos, negsuc, length, replicate, ltb, lt-ltb, le-ltb, ltb-true, ltb-false, picked}
+use Rattle.basis.proofs.Std.{◌≡◌, refl, sym, ap, ◌∙◌, ℕ, suc, ◌-◌, ◌^◌, ◌≤◌, ◌<◌, arith, ℤ, pos, negsuc, ltb, lt-ltb, le-ltb, ltb-true, ltb-false, picked}
 use mir.Syntax.{w32}
 use mir.Val.{to_z, of_z}
 use mir.Facts.{to_z-of_z, sfits_to_z}
-use Rattle.bits.specs.Fields.{total, number_of}
-use Rattle.bits.proofs.Bytes.{number_lt}
 use Rattle.number.specs.Signed.{Signed32, word_of, signed_of, Signed16, word16_of, signed16_of}
 use Rattle.number.proofs.Sign.{word_is, signed_is, signed_fits, fits_signed}
 

@@ -1,13 +1,9 @@
 -- A signed number and its bits: the machine's reading of them is that of the definitions.
 -- Assumes nothing.
-use Rattle.basis.proofs.Std.{◌≡◌, refl, sym, ap, subst, ◌∙◌, Bool, true, false, ⊎_elim, ℕ, suc, ◌+◌, ◌-◌, ◌%◌, ◌^◌, ◌≤◌, ◌<◌, mod-lt, arith, T, ltb, leb-suc-zero, ℤ, pos, negsuc, nat_abs, lt-ltb, le-ltb, pick, le_or_lt}
-use lib.Signed.{lt_z, non_neg}
-use lib.Pow.{pow_pos}
-use lib.Bits.{bit_and, bit_or, and_mask, mask_lt, or_shifted_r}
+use Rattle.basis.proofs.Std.{◌≡◌, refl, Bool, true, false, ℕ, suc, ◌-◌, ◌^◌, ltb, ℤ, pos, negsuc, pick}
 use mir.Syntax.{w32}
-use mir.Val.{SFits, Fits, to_z, of_z, sel}
-use mir.Facts.{to_z_pos, Fits-mask}
-use Rattle.number.specs.Signed.{Signed32, word_of, signed_of, signed16_of}
+use mir.Val.{SFits, to_z, of_z, sel}
+use Rattle.number.specs.Signed.{Signed32, word_of, signed_of}
 
 -- the machine's reading of bits is that of the definitions
 pub word_is : (v : ℤ) → of_z w32 v ≡ word_of v

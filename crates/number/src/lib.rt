@@ -77,6 +77,7 @@ fn digits_of(n: u64) -> Text
     let mut bytes = [0u8; 21];
     let mut from = 20;
     let mut left = n;
+    // no counted loop: it goes on while more than one digit is left
     while 10 <= left {
         bytes[from] = last_digit(left);
         from -= 1;
@@ -161,7 +162,7 @@ pub fn read_decimal(s: &[u8], limit: u32) -> Number
     let t = digits_of(n);
     let bytes = t.bytes;
     let from = t.from;
-    if check::same(s, &bytes[from..]) {
+    if s == &bytes[from..] {
         Number::Is(n as u32)
     } else {
         Number::No

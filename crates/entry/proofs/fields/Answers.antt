@@ -1,5 +1,4 @@
 use Rattle.entry.proofs.Words.{from_words}
-use Rattle.basis.proofs.Std.{rules}
 use Rattle.entry.proofs.fields.Goals as goal
 
 pub returns : goal.returns

@@ -1,4 +1,4 @@
-use Rattle.basis.proofs.Std.{refl, [], ◌∷◌, ◌/◌, lit≤, rules}
+use Rattle.basis.proofs.Std.{refl, [], ◌∷◌, ◌/◌, lit≤}
 use Rattle.bits.proofs.Fields.{next_field}
 use Rattle.entry.proofs.first_word.Goals as goal
 

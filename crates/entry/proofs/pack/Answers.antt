@@ -1,5 +1,4 @@
 use Rattle.entry.proofs.Words.{entry_bytes}
-use Rattle.basis.proofs.Std.{rules}
 use Rattle.entry.proofs.pack.Goals as goal
 
 pub returns : goal.returns

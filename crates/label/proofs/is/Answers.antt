@@ -1,15 +1,13 @@
-use Rattle.basis.proofs.Std.{◌≡◌, length, same_is, rules}
+use Rattle.basis.proofs.Std.{◌≡◌, ◌∙◌, sub-zero, length, same_is, rules}
+use lib.Pointwise.{bytes_decides}
+use Rattle.label.specs.Label.{text_of}
 use Rattle.label.proofs.Text.{text_part}
 use Rattle.label.proofs.is.Goals as goal
-
-pub slice_bounds-same-end : goal.slice_bounds-same-end
-slice_bounds-same-end c =
-    let e : length c.args.l.bytes ≡ 32 = search rules in
-    search rules
 
 pub returns : goal.returns
 returns c =
     let l = c.args.l in
-    let e = c.same.ensures in
-    let k = text_part l (search rules) _ c.size-n.ensures in
-    rw (← k) (same_is _ _ c.same.result e.0 e.1)
+    let whole : length l.bytes ≡ 32 = search rules in
+    let k = rw sub-zero at (text_part l whole _ c.size-n.ensures) in
+    let d = bytes_decides (text_of l) c.args.s.now in
+    (rw k at c.eq.ensures) ∙ same_is _ _ _ d.0 d.1

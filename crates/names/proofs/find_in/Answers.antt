@@ -1,13 +1,8 @@
--- `names::find_in` meets its contract.
--- Assumes nothing.
-use Rattle.basis.proofs.Std.{Bool, ◌≡◌, refl, sym, ap, ◌∙◌, ◌+◌, ◌-◌, arith, rules, pick}
+use Rattle.basis.proofs.Std.{Bool, ◌≡◌, sym, ap, ◌∙◌, ◌+◌, ◌-◌, arith, rules, pick}
 use Rattle.names.specs.Names.{find_in}
 use Rattle.names.specs.declared.Found.TheVariants.{At}
 use Rattle.names.proofs.Search.{turn}
 use Rattle.names.proofs.find_in.Goals as goal
-
-pub loop-i-init : goal.loop-i-init
-loop-i-init c = refl
 
 pub returns-then-is_name_in : goal.returns-then-is_name_in
 returns-then-is_name_in c =

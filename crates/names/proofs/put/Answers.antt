@@ -1,4 +1,3 @@
-use Rattle.basis.proofs.Std.{rules}
 use Rattle.names.proofs.put.Goals as goal
 
 pub returns : goal.returns

@@ -1,4 +1,4 @@
-use Rattle.basis.proofs.Std.{ap, ℕ, eqb, rules}
+use Rattle.basis.proofs.Std.{ap, ℕ, eqb}
 use Rattle.entry.proofs.flags.is_set.Goals as goal
 
 pub returns : goal.returns

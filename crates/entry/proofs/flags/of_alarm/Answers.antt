@@ -1,4 +1,4 @@
-use Rattle.basis.proofs.Std.{refl, ap, ◌∙◌, [], ◌∷◌, ℕ, ◌%◌, ◌^◌, lit≤, bit, rules}
+use Rattle.basis.proofs.Std.{refl, ap, ◌∙◌, [], ◌∷◌, ℕ, ◌%◌, ◌^◌, lit≤, bit}
 use Rattle.bits.specs.Fields.{pushed}
 use Rattle.bits.proofs.Fields.{next_field}
 use Rattle.entry.specs.Flags.{alarm_flags}
