@@ -3,7 +3,6 @@
 
 ghost use Rattle.std.specs.Prelude.{◌≡◌, get_or};
 ghost use Rattle.label.specs.Label.{no_label, text_of};
-ghost use Rattle.basis.specs.Pick.{both};
 ghost use Rattle.table_item.specs.Item.{no_item, is_item};
 ghost use Rattle.table_item.specs.Find.{find_label, find_item, own_label, own_item, own_labels, own_items, found_at, item_like};
 
@@ -59,49 +58,32 @@ pub fn item_in(items: [Item; 32], i: usize) -> Item
 pub fn find_label(labels: [Label; 8], count: usize, text: &[u8]) -> Found
     ensures { result ≡ find_label labels count text.now }
 {
-    let mut i: usize = 0;
-    while i < count {
+    for i in 0..count {
         if label::is(label_in(labels, i), text) {
             return Found::At(i);
         }
-        i += 1;
     }
     Found::Nothing
 }
 
 // Whether a row is called so.
+#[tactic(auto, unfolding(crate::specs::Item::is_item))]
 pub fn is(row: Item, component: u8, code: &[u8], name: &[u8]) -> bool
     ensures { result ≡ is_item component code.now name.now row }
 {
-    if row.component != component {
-        return false;
-    }
-    let own = row.code;
-    if !label::is(own, code) {
-        return false;
-    }
-    let own = row.name;
-    label::is(own, name)
+    row.component == component && label::is(row.code, code) && label::is(row.name, name)
 }
 
 // The first of the count rows that is called so.
 pub fn find_item(items: [Item; 32], count: usize, component: u8, code: &[u8], name: &[u8]) -> Found
     ensures { result ≡ find_item items count component code.now name.now }
 {
-    let mut i: usize = 0;
-    while i < count {
+    for i in 0..count {
         if is(item_in(items, i), component, code, name) {
             return Found::At(i);
         }
-        i += 1;
     }
     Found::Nothing
-}
-
-fn and(a: bool, b: bool) -> bool
-    ensures { result ≡ both a b }
-{
-    if a { b } else { false }
 }
 
 fn found_at(f: Found, i: usize) -> bool
@@ -149,24 +131,12 @@ fn own_item(items: [Item; 32], count: usize, i: usize) -> bool
 pub fn own_labels(labels: [Label; 8], count: usize) -> bool
     ensures { result ≡ own_labels labels count }
 {
-    let mut ok = true;
-    let mut i: usize = 0;
-    while i < count {
-        ok = and(ok, own_label(labels, count, i));
-        i += 1;
-    }
-    ok
+    (0..count).all(|i| own_label(labels, count, i))
 }
 
 // Whether none of the count rows is called like another.
 pub fn own_items(items: [Item; 32], count: usize) -> bool
     ensures { result ≡ own_items items count }
 {
-    let mut ok = true;
-    let mut i: usize = 0;
-    while i < count {
-        ok = and(ok, own_item(items, count, i));
-        i += 1;
-    }
-    ok
+    (0..count).all(|i| own_item(items, count, i))
 }
