@@ -42,21 +42,21 @@ pub fn none() -> Item
     }
 }
 
-pub fn label_in(labels: [Label; 8], i: usize) -> Label
-    ensures { result ≡ get_or labels i no_label }
+pub fn label_in(labels: &[Label], i: usize) -> Label
+    ensures { result ≡ get_or labels.now i no_label }
 {
-    if i < 8 { labels[i] } else { label::none() }
+    labels.get(i).copied().unwrap_or(label::none())
 }
 
-pub fn item_in(items: [Item; 32], i: usize) -> Item
-    ensures { result ≡ get_or items i no_item }
+pub fn item_in(items: &[Item], i: usize) -> Item
+    ensures { result ≡ get_or items.now i no_item }
 {
-    if i < 32 { items[i] } else { none() }
+    items.get(i).copied().unwrap_or(none())
 }
 
 // The first of the count labels that is this text.
-pub fn find_label(labels: [Label; 8], count: usize, text: &[u8]) -> Found
-    ensures { result ≡ find_label labels count text.now }
+pub fn find_label(labels: &[Label], count: usize, text: &[u8]) -> Found
+    ensures { result ≡ find_label labels.now count text.now }
 {
     for i in 0..count {
         if label::is(label_in(labels, i), text) {
@@ -75,8 +75,8 @@ pub fn is(row: Item, component: u8, code: &[u8], name: &[u8]) -> bool
 }
 
 // The first of the count rows that is called so.
-pub fn find_item(items: [Item; 32], count: usize, component: u8, code: &[u8], name: &[u8]) -> Found
-    ensures { result ≡ find_item items count component code.now name.now }
+pub fn find_item(items: &[Item], count: usize, component: u8, code: &[u8], name: &[u8]) -> Found
+    ensures { result ≡ find_item items.now count component code.now name.now }
 {
     for i in 0..count {
         if is(item_in(items, i), component, code, name) {
@@ -95,16 +95,16 @@ fn found_at(f: Found, i: usize) -> bool
     }
 }
 
-fn find_label_like(labels: [Label; 8], count: usize, l: Label) -> Found
-    ensures { result ≡ find_label labels count (text_of l) }
+fn find_label_like(labels: &[Label], count: usize, l: Label) -> Found
+    ensures { result ≡ find_label labels.now count (text_of l) }
 {
     let n = label::size(l);
     let bytes = l.bytes;
     find_label(labels, count, &bytes[0..n])
 }
 
-fn find_item_like(items: [Item; 32], count: usize, row: Item) -> Found
-    ensures { result ≡ item_like items count row }
+fn find_item_like(items: &[Item], count: usize, row: Item) -> Found
+    ensures { result ≡ item_like items.now count row }
 {
     let code = row.code;
     let name = row.name;
@@ -115,28 +115,28 @@ fn find_item_like(items: [Item; 32], count: usize, row: Item) -> Found
     find_item(items, count, row.component, &a[0..m], &b[0..n])
 }
 
-fn own_label(labels: [Label; 8], count: usize, i: usize) -> bool
-    ensures { result ≡ own_label labels count i }
+fn own_label(labels: &[Label], count: usize, i: usize) -> bool
+    ensures { result ≡ own_label labels.now count i }
 {
     found_at(find_label_like(labels, count, label_in(labels, i)), i)
 }
 
-fn own_item(items: [Item; 32], count: usize, i: usize) -> bool
-    ensures { result ≡ own_item items count i }
+fn own_item(items: &[Item], count: usize, i: usize) -> bool
+    ensures { result ≡ own_item items.now count i }
 {
     found_at(find_item_like(items, count, item_in(items, i)), i)
 }
 
 // Whether none of the count labels is like another.
-pub fn own_labels(labels: [Label; 8], count: usize) -> bool
-    ensures { result ≡ own_labels labels count }
+pub fn own_labels(labels: &[Label], count: usize) -> bool
+    ensures { result ≡ own_labels labels.now count }
 {
     (0..count).all(|i| own_label(labels, count, i))
 }
 
 // Whether none of the count rows is called like another.
-pub fn own_items(items: [Item; 32], count: usize) -> bool
-    ensures { result ≡ own_items items count }
+pub fn own_items(items: &[Item], count: usize) -> bool
+    ensures { result ≡ own_items items.now count }
 {
     (0..count).all(|i| own_item(items, count, i))
 }

@@ -6,4 +6,4 @@ use Rattle.table_item.proofs.Own.{all_each}
 use Rattle.table_item.proofs.own_items.Goals as goal
 
 pub returns : goal.returns
-returns c = all_from_yields_List (own_item c.args.items c.args.count) _ _ _ c.all.ensures.ran (YieldsList-from_range 0 c.args.count c.args.count refl (sub-zero _)) (λ x b q k. search (rules, tests)) ∙ all_each (own_item c.args.items c.args.count) c.args.count
+returns c = all_from_yields_List (own_item c.args.items.now c.args.count) _ _ _ c.all.ensures.ran (YieldsList-from_range 0 c.args.count c.args.count refl (sub-zero _)) (λ x b q k. search (rules, tests)) ∙ all_each (own_item c.args.items.now c.args.count) c.args.count

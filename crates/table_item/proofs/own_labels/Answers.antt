@@ -6,4 +6,4 @@ use Rattle.table_item.proofs.Own.{all_each}
 use Rattle.table_item.proofs.own_labels.Goals as goal
 
 pub returns : goal.returns
-returns c = all_from_yields_List (own_label c.args.labels c.args.count) _ _ _ c.all.ensures.ran (YieldsList-from_range 0 c.args.count c.args.count refl (sub-zero _)) (λ x b q k. search (rules, tests)) ∙ all_each (own_label c.args.labels c.args.count) c.args.count
+returns c = all_from_yields_List (own_label c.args.labels.now c.args.count) _ _ _ c.all.ensures.ran (YieldsList-from_range 0 c.args.count c.args.count refl (sub-zero _)) (λ x b q k. search (rules, tests)) ∙ all_each (own_label c.args.labels.now c.args.count) c.args.count
