@@ -21,12 +21,6 @@ pub struct Set {
     pub changed: bool,
 }
 
-fn wide(x: u8) -> u64
-    ensures { result ≡ x }
-{
-    x as u64
-}
-
 impl Aggregated {
     pub fn begin(time: u64) -> Aggregated
         ensures { result ≡ beginning time }
@@ -40,7 +34,7 @@ impl Aggregated {
     pub fn set(self, value: u8, time: u64) -> Set
         ensures { result ≡ set_of self value time }
     {
-        let next = wide(value);
+        let next = u64::from(value);
         if self.value == next {
             return Set {
                 aggregated: self,

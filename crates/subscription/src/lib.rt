@@ -20,21 +20,11 @@ pub struct Ticked {
     pub issues: bool,
 }
 
-fn wide(x: u32) -> u64
-    ensures { result ≡ x }
-{
-    x as u64
-}
-
 // Whether so long a time or more has passed since.
 fn passed(since: u64, milliseconds: u64, time: u64) -> bool
     ensures { result ≡ leb (since + milliseconds) time }
 {
-    if since <= time {
-        milliseconds <= time - since
-    } else {
-        false
-    }
+    since <= time && milliseconds <= time - since
 }
 
 impl Subscription {
@@ -64,37 +54,33 @@ impl Subscription {
     pub fn on_value(self, changed: bool) -> bool
         ensures { result ≡ issues_on self changed }
     {
-        if changed { self.state == 2 } else { false }
+        changed && self.state == 2
     }
 
     fn due(self, time: u64) -> bool
         ensures { result ≡ due_at self time }
     {
-        if 0 < self.state {
-            if 0 < self.seconds {
-                return passed(self.since, 1000 * wide(self.seconds), time);
-            }
-        }
-        false
+        0 < self.state
+            && 0 < self.seconds
+            && passed(self.since, 1000 * u64::from(self.seconds), time)
     }
 
     pub fn on_tick(self, time: u64) -> Ticked
         ensures { result ≡ tick_of self time }
     {
         if self.due(time) {
-            let s = Subscription {
-                since: time,
-                seconds: self.seconds,
-                state: self.state,
-            };
-            return Ticked {
-                subscription: s,
+            Ticked {
+                subscription: Subscription {
+                    since: time,
+                    ..self
+                },
                 issues: true,
-            };
-        }
-        Ticked {
-            subscription: self,
-            issues: false,
+            }
+        } else {
+            Ticked {
+                subscription: self,
+                issues: false,
+            }
         }
     }
 }
