@@ -31,6 +31,7 @@ impl Aggregated {
         }
     }
 
+    #[tactic(auto, unfolding(crate::specs::Aggregated::set_of))]
     pub fn set(self, value: u8, time: u64) -> Set
         ensures { result ≡ set_of self value time }
     {

@@ -55,6 +55,7 @@ impl Alarm {
         }
     }
 
+    #[tactic(auto, unfolding(crate::specs::Alarm::input_of))]
     pub fn input(self, active: bool, time: u64) -> Changed
         ensures { result ≡ input_of self active time }
     {
@@ -80,6 +81,7 @@ impl Alarm {
         }
     }
 
+    #[tactic(auto, unfolding(crate::specs::Alarm::acknowledge_of))]
     fn acknowledge(self, time: u64) -> Changed
         ensures { result ≡ acknowledge_of self time }
     {
@@ -104,6 +106,7 @@ impl Alarm {
         }
     }
 
+    #[tactic(auto, unfolding(crate::specs::Alarm::suspend_of))]
     fn suspend(self, suspended: bool, time: u64) -> Changed
         ensures { result ≡ suspend_of self suspended time }
     {

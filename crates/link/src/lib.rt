@@ -149,18 +149,21 @@ impl Link {
         }
     }
 
+    #[tactic(auto, unfolding(crate::specs::Phase::greeted))]
     fn is_greeted(self) -> bool
         ensures { result ≡ greeted self }
     {
         self.versionout && self.versionacked && self.versiontaken
     }
 
+    #[tactic(auto, unfolding(crate::specs::Phase::beaten))]
     fn is_beaten(self) -> bool
         ensures { result ≡ beaten self }
     {
         self.watchdogout && self.watchdogacked && self.watchdogtaken
     }
 
+    #[tactic(auto, unfolding(crate::specs::Phase::phase_of))]
     pub fn phase(self) -> Phase
         ensures { result ≡ phase_of self }
     {
@@ -175,6 +178,7 @@ impl Link {
         }
     }
 
+    #[tactic(auto, unfolding(crate::specs::Steps::connect_of))]
     pub fn connect(self) -> Link
         ensures { result ≡ connect_of self }
     {
@@ -188,6 +192,7 @@ impl Link {
     }
 
     // Our Version went out.
+    #[tactic(auto, unfolding(crate::specs::Steps::version_out_of))]
     pub fn version_out(self, id: Identity, time: u64) -> Link
         ensures { result ≡ version_out_of self id time }
     {
@@ -202,12 +207,14 @@ impl Link {
     }
 
     // Whether their Version is to be judged: ours is out, theirs is not accepted yet.
+    #[tactic(auto, unfolding(crate::specs::Steps::may_judge_of))]
     pub fn may_judge_version(self) -> bool
         ensures { result ≡ may_judge_of self }
     {
         self.versionout && !self.versiontaken
     }
 
+    #[tactic(auto, unfolding(crate::specs::Steps::version_accepted_of))]
     pub fn version_accepted(self, major: u32, minor: u32, patch: u32) -> Link
         ensures { result ≡ version_accepted_of self major minor patch }
     {
@@ -223,6 +230,7 @@ impl Link {
         }
     }
 
+    #[tactic(auto, unfolding(crate::specs::Steps::may_beat_of))]
     fn may_beat(self) -> bool
         ensures { result ≡ may_beat_of self }
     {
@@ -230,6 +238,7 @@ impl Link {
     }
 
     // A Watchdog of ours went out.
+    #[tactic(auto, unfolding(crate::specs::Steps::watchdog_out_of))]
     pub fn watchdog_out(self, id: Identity, time: u64) -> Link
         ensures { result ≡ watchdog_out_of self id time }
     {
@@ -245,6 +254,7 @@ impl Link {
     }
 
     // A Watchdog of theirs was taken.
+    #[tactic(auto, unfolding(crate::specs::Steps::watchdog_taken_of))]
     pub fn watchdog_taken(self) -> Link
         ensures { result ≡ watchdog_taken_of self }
     {
@@ -257,6 +267,7 @@ impl Link {
         }
     }
 
+    #[tactic(auto, unfolding(crate::specs::Steps::message_out_of))]
     fn message_out(self, id: Identity, time: u64, sent: Purpose) -> Link
         ensures { result ≡ message_out_of self id time sent }
     {
@@ -298,6 +309,7 @@ impl Link {
     }
 
     // Whether 8 or more are awaited: pump sends nothing then.
+    #[tactic(auto, unfolding(crate::specs::Steps::crowded_of))]
     pub fn crowded(self) -> bool
         ensures { result ≡ crowded_of self }
     {
@@ -305,6 +317,7 @@ impl Link {
     }
 
     // The answer MessageAck or MessageNotAck to an identity.
+    #[tactic(auto, unfolding(crate::specs::Steps::answered_of, crate::specs::Steps::closes_of, crate::specs::Steps::noted, crate::specs::Steps::noted_for, crate::specs::Steps::removed_of))]
     pub fn answered(self, id: Identity, acknowledged: bool) -> Answered
         ensures { result ≡ answered_by self id acknowledged }
     {
@@ -337,6 +350,7 @@ impl Link {
     }
 
     // The first pass goes on: its AggregatedStatus went out.
+    #[tactic(auto, unfolding(crate::specs::Steps::aggregated_passed_of))]
     pub fn aggregated_passed(self) -> Link
         ensures { result ≡ aggregated_passed_of self }
     {
@@ -350,6 +364,7 @@ impl Link {
     }
 
     // The first pass goes on: its next alarm went out.
+    #[tactic(auto, unfolding(crate::specs::Steps::alarm_passed_of))]
     pub fn alarm_passed(self) -> Link
         ensures { result ≡ alarm_passed_of self }
     {
@@ -362,6 +377,7 @@ impl Link {
         }
     }
 
+    #[tactic(auto, unfolding(crate::specs::Due::due_up))]
     fn due_up(self, time: u64, period: u32, role: Role, alarms: u32, unsent: bool) -> Due
         ensures { result ≡ due_up self time period role alarms unsent }
     {
@@ -381,6 +397,7 @@ impl Link {
     }
 
     // What is due: `period` in seconds, `alarms` how many the site table has, `unsent` whether a held record is not sent.
+    #[tactic(auto, unfolding(crate::specs::Due::due_of))]
     pub fn due(self, time: u64, period: u32, role: Role, alarms: u32, unsent: bool) -> Due
         ensures { result ≡ due_of self time period role alarms unsent }
     {

@@ -1,8 +1,10 @@
 // One subscription: of one link to one status.
 #![tactic(auto)]
 
-ghost use Rattle.std.specs.Prelude.{◌≡◌, ◌+◌, leb};
+ghost use Rattle.std.specs.Prelude.{◌≡◌};
 ghost use Rattle.subscription.specs.Subscription.{none as none_of, subscribed, issues_on, due_at, tick_of};
+
+use awaited::elapsed;
 
 // since: the time of the subscribing call, or of the last tick that issued; seconds: uRt, 0 for none;
 // state: 0 no subscription, 1 without sOc, 2 with sOc.
@@ -18,13 +20,6 @@ pub struct Subscription {
 pub struct Ticked {
     pub subscription: Subscription,
     pub issues: bool,
-}
-
-// Whether so long a time or more has passed since.
-fn passed(since: u64, milliseconds: u64, time: u64) -> bool
-    ensures { result ≡ leb (since + milliseconds) time }
-{
-    since <= time && milliseconds <= time - since
 }
 
 impl Subscription {
@@ -57,14 +52,16 @@ impl Subscription {
         changed && self.state == 2
     }
 
+    #[tactic(auto, unfolding(crate::specs::Subscription::due_at))]
     fn due(self, time: u64) -> bool
         ensures { result ≡ due_at self time }
     {
         0 < self.state
             && 0 < self.seconds
-            && passed(self.since, 1000 * u64::from(self.seconds), time)
+            && elapsed(self.since, 1000 * u64::from(self.seconds), time)
     }
 
+    #[tactic(auto, unfolding(crate::specs::Subscription::tick_of))]
     pub fn on_tick(self, time: u64) -> Ticked
         ensures { result ≡ tick_of self time }
     {
