@@ -3,7 +3,7 @@
 use Rattle.std.specs.Prelude.{Some, None}
 use Rattle.std.proofs.lemmas.List.Recursion.{is_count_by}
 use Rattle.std.specs.List.{position, position_or_len, count_by, list_any}
-use Rattle.basis.proofs.Std.{ℕ, suc, ◌+◌, ◌∙◌, ◌≤◌, ◌<◌, ◌≡◌, refl, sym, ap, Bool, true, false, List, [], ◌∷◌, arith, length, set, ltb, ltb-true, ltb-false, bool_cases, zero-add, count}
+use Rattle.basis.proofs.Std.{ℕ, suc, ◌+◌, ◌∙◌, ◌≤◌, ◌<◌, ◌≡◌, refl, sym, ap, Bool, List, [], ◌∷◌, arith, length, set, ltb, ltb-true, ltb-false, bool_cases, zero-add, count}
 use Rattle.awaited.specs.Lists.{change_first, some}
 
 set_behind : {A : Type 0} (x : A) (l : List A) (n : ℕ) (a : A) → set (x ∷ l) (1 + n) a ≡ x ∷ set l n a

@@ -1,4 +1,4 @@
-use Rattle.basis.proofs.Std.{rules, sym, ◌∙◌, set_out}
+use Rattle.basis.proofs.Std.{sym, ◌∙◌, set_out}
 use Rattle.awaited.proofs.Back.{change_set, position_here, position_none}
 use Rattle.awaited.specs.Awaited.{add_of}
 use Rattle.awaited.specs.Slot.{is_free}

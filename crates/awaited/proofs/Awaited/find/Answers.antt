@@ -1,4 +1,4 @@
-use Rattle.basis.proofs.Std.{sym, ◌∙◌, rules}
+use Rattle.basis.proofs.Std.{sym, ◌∙◌}
 use Rattle.awaited.proofs.Back.{position_none}
 use Rattle.awaited.proofs.Search.{find_at, find_none}
 use Rattle.awaited.specs.Awaited.{find_of}

@@ -1,6 +1,6 @@
 use Rattle.std.specs.List.{count_by}
 use Rattle.std.proofs.iter.runs.Made.{chains}
-use Rattle.basis.proofs.Std.{◌≡◌, ◌∙◌, sym, tests, rules}
+use Rattle.basis.proofs.Std.{◌≡◌, ◌∙◌, sym, tests}
 use Rattle.awaited.proofs.Back.{count_is}
 use Rattle.awaited.specs.Awaited.{how_many_of}
 use Rattle.awaited.specs.Slot.{is_taken}

@@ -1,5 +1,4 @@
-use Rattle.basis.proofs.Std.{◌≡◌, sym, ◌∙◌, rules, set_out}
-use Rattle.awaited.specs.declared.Found.{Found}
+use Rattle.basis.proofs.Std.{◌≡◌, sym, ◌∙◌, set_out}
 use Rattle.awaited.specs.declared.Found.TheVariants.{For}
 use Rattle.awaited.proofs.Back.{change_set, position_here, position_none}
 use Rattle.awaited.proofs.Search.{find_at, find_none}
