@@ -21,12 +21,6 @@ pub struct Set {
     pub changed: bool,
 }
 
-fn wide(x: u8) -> u64
-    ensures { result ≡ x }
-{
-    x as u64
-}
-
 impl Aggregated {
     pub fn begin(time: u64) -> Aggregated
         ensures { result ≡ beginning time }
@@ -37,10 +31,11 @@ impl Aggregated {
         }
     }
 
+    #[tactic(auto, unfolding(crate::specs::Aggregated::set_of))]
     pub fn set(self, value: u8, time: u64) -> Set
         ensures { result ≡ set_of self value time }
     {
-        let next = wide(value);
+        let next = u64::from(value);
         if self.value == next {
             return Set {
                 aggregated: self,

@@ -2,7 +2,7 @@
 #![tactic(auto)]
 
 ghost use Rattle.std.specs.Prelude.{◌≡◌};
-ghost use Rattle.basis.specs.Pick.{pick, bit as bit_of};
+ghost use Rattle.basis.specs.Pick.{pick};
 ghost use Rattle.alarm.specs.Issued.{issued_of};
 ghost use Rattle.alarm.specs.Alarm.{beginning, input_of, acknowledge_of, suspend_of, order_of};
 
@@ -35,12 +35,6 @@ pub struct Changed {
     pub records: bool,
 }
 
-fn bit(b: bool) -> u16
-    ensures { result ≡ bit_of b }
-{
-    if b { 1 } else { 0 }
-}
-
 // Becoming active clears the acknowledgement.
 fn acknowledged_after(acknowledged: u16, active: bool) -> u16
     ensures { result ≡ pick active 0 acknowledged }
@@ -61,10 +55,11 @@ impl Alarm {
         }
     }
 
+    #[tactic(auto, unfolding(crate::specs::Alarm::input_of))]
     pub fn input(self, active: bool, time: u64) -> Changed
         ensures { result ≡ input_of self active time }
     {
-        let next = bit(active);
+        let next = u16::from(active);
         if self.active == next {
             return Changed {
                 alarm: self,
@@ -86,6 +81,7 @@ impl Alarm {
         }
     }
 
+    #[tactic(auto, unfolding(crate::specs::Alarm::acknowledge_of))]
     fn acknowledge(self, time: u64) -> Changed
         ensures { result ≡ acknowledge_of self time }
     {
@@ -110,10 +106,11 @@ impl Alarm {
         }
     }
 
+    #[tactic(auto, unfolding(crate::specs::Alarm::suspend_of))]
     fn suspend(self, suspended: bool, time: u64) -> Changed
         ensures { result ≡ suspend_of self suspended time }
     {
-        let next = bit(suspended);
+        let next = u16::from(suspended);
         if self.suspended == next {
             return Changed {
                 alarm: self,

@@ -1,6 +1,5 @@
 pub mod Back
 pub mod Search
-pub mod Span
 pub mod Change
 pub mod Same
 pub mod Slots

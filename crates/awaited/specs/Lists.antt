@@ -1,12 +1,7 @@
--- Lists of places: the first that passes a test, changing it, and whether one passes.
+-- Lists of places: changing the first that passes a test, and whether one passes.
 -- Assumes nothing.
-use Rattle.std.specs.Prelude.{ℕ, suc, List, [], ◌∷◌, Bool, true, false}
+use Rattle.std.specs.Prelude.{List, [], ◌∷◌, Bool, true, false}
 use Rattle.basis.specs.Pick.{pick}
-
--- the place of the first that passes; the length where none does
-unfoldable pub first_of : {A : Type 0} → (A → Bool) → List A → ℕ
-first_of f [] = 0
-first_of f (x ∷ l) = pick (f x) 0 (suc (first_of f l))
 
 -- the first that passes becomes a; unchanged where none does
 unfoldable pub change_first : {A : Type 0} → (A → Bool) → A → List A → List A

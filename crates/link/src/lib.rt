@@ -72,32 +72,21 @@ pub struct Answered {
 fn is_up(p: Phase) -> bool
     ensures { result ≡ is_up p }
 {
-    match p {
-        Phase::Down => false,
-        Phase::Greeting => false,
-        Phase::Beating => false,
-        Phase::Up => true,
-    }
+    matches!(p, Phase::Up)
 }
 
 fn is_beating(p: Phase) -> bool
     ensures { result ≡ is_beating p }
 {
-    match p {
-        Phase::Down => false,
-        Phase::Greeting => false,
-        Phase::Beating => true,
-        Phase::Up => false,
-    }
+    matches!(p, Phase::Beating)
 }
 
 fn beats_in(p: Phase, out: bool) -> bool
     ensures { result ≡ beats_in p out }
 {
     match p {
-        Phase::Down => false,
-        Phase::Greeting => false,
-        Phase::Beating => { if out { false } else { true } }
+        Phase::Down | Phase::Greeting => false,
+        Phase::Beating => !out,
         Phase::Up => true,
     }
 }
@@ -105,12 +94,7 @@ fn beats_in(p: Phase, out: bool) -> bool
 fn takes_in(p: Phase) -> bool
     ensures { result ≡ takes_in p }
 {
-    match p {
-        Phase::Down => false,
-        Phase::Greeting => false,
-        Phase::Beating => true,
-        Phase::Up => true,
-    }
+    matches!(p, Phase::Beating | Phase::Up)
 }
 
 fn closes_for(p: Phase, sent: Purpose) -> bool
@@ -119,8 +103,7 @@ fn closes_for(p: Phase, sent: Purpose) -> bool
     match sent {
         Purpose::Version => true,
         Purpose::Watchdog => is_beating(p),
-        Purpose::Entry(_) => false,
-        Purpose::Other => false,
+        Purpose::Entry(_) | Purpose::Other => false,
     }
 }
 
@@ -140,13 +123,6 @@ fn alarms_for(role: Role, alarms: u32) -> u32
         Role::Primary => alarms,
         Role::Secondary => 0,
     }
-}
-
-fn milliseconds(seconds: u32) -> u64
-    ensures { result ≡ seconds * 1000 }
-{
-    let wide = seconds as u64;
-    wide * 1000
 }
 
 impl Link {
@@ -173,96 +149,88 @@ impl Link {
         }
     }
 
+    #[tactic(auto, unfolding(crate::specs::Phase::greeted))]
     fn is_greeted(self) -> bool
         ensures { result ≡ greeted self }
     {
-        if self.versionout {
-            if self.versionacked {
-                return self.versiontaken;
-            }
-        }
-        false
+        self.versionout && self.versionacked && self.versiontaken
     }
 
+    #[tactic(auto, unfolding(crate::specs::Phase::beaten))]
     fn is_beaten(self) -> bool
         ensures { result ≡ beaten self }
     {
-        if self.watchdogout {
-            if self.watchdogacked {
-                return self.watchdogtaken;
-            }
-        }
-        false
+        self.watchdogout && self.watchdogacked && self.watchdogtaken
     }
 
+    #[tactic(auto, unfolding(crate::specs::Phase::phase_of))]
     pub fn phase(self) -> Phase
         ensures { result ≡ phase_of self }
     {
-        if self.connected {
-            if self.is_greeted() {
-                if self.is_beaten() {
-                    return Phase::Up;
-                }
-                return Phase::Beating;
-            }
-            return Phase::Greeting;
+        if !self.connected {
+            Phase::Down
+        } else if !self.is_greeted() {
+            Phase::Greeting
+        } else if !self.is_beaten() {
+            Phase::Beating
+        } else {
+            Phase::Up
         }
-        Phase::Down
     }
 
+    #[tactic(auto, unfolding(crate::specs::Steps::connect_of))]
     pub fn connect(self) -> Link
         ensures { result ≡ connect_of self }
     {
         if self.connected {
             return self;
         }
-        let mut l = Link::closed();
-        l.connected = true;
-        l
+        Link {
+            connected: true,
+            ..Link::closed()
+        }
     }
 
     // Our Version went out.
+    #[tactic(auto, unfolding(crate::specs::Steps::version_out_of))]
     pub fn version_out(self, id: Identity, time: u64) -> Link
         ensures { result ≡ version_out_of self id time }
     {
-        if self.versionout {
+        if self.versionout || !self.connected {
             return self;
         }
-        if self.connected {
-            let before = self.awaited;
-            let after = before.add(id, time, Purpose::Version);
-            let mut l = self;
-            l.awaited = after;
-            l.versionout = true;
-            return l;
+        Link {
+            awaited: self.awaited.add(id, time, Purpose::Version),
+            versionout: true,
+            ..self
         }
-        self
     }
 
     // Whether their Version is to be judged: ours is out, theirs is not accepted yet.
+    #[tactic(auto, unfolding(crate::specs::Steps::may_judge_of))]
     pub fn may_judge_version(self) -> bool
         ensures { result ≡ may_judge_of self }
     {
-        if self.versiontaken {
-            return false;
-        }
-        self.versionout
+        self.versionout && !self.versiontaken
     }
 
+    #[tactic(auto, unfolding(crate::specs::Steps::version_accepted_of))]
     pub fn version_accepted(self, major: u32, minor: u32, patch: u32) -> Link
         ensures { result ≡ version_accepted_of self major minor patch }
     {
-        if self.may_judge_version() {
-            let mut l = self;
-            l.major = major;
-            l.minor = minor;
-            l.patch = patch;
-            l.versiontaken = true;
-            return l;
+        if !self.may_judge_version() {
+            return self;
         }
-        self
+        Link {
+            major,
+            minor,
+            patch,
+            versiontaken: true,
+            ..self
+        }
     }
 
+    #[tactic(auto, unfolding(crate::specs::Steps::may_beat_of))]
     fn may_beat(self) -> bool
         ensures { result ≡ may_beat_of self }
     {
@@ -270,44 +238,46 @@ impl Link {
     }
 
     // A Watchdog of ours went out.
+    #[tactic(auto, unfolding(crate::specs::Steps::watchdog_out_of))]
     pub fn watchdog_out(self, id: Identity, time: u64) -> Link
         ensures { result ≡ watchdog_out_of self id time }
     {
-        if self.may_beat() {
-            let before = self.awaited;
-            let after = before.add(id, time, Purpose::Watchdog);
-            let mut l = self;
-            l.awaited = after;
-            l.beat = time;
-            l.watchdogout = true;
-            return l;
+        if !self.may_beat() {
+            return self;
         }
-        self
+        Link {
+            awaited: self.awaited.add(id, time, Purpose::Watchdog),
+            beat: time,
+            watchdogout: true,
+            ..self
+        }
     }
 
     // A Watchdog of theirs was taken.
+    #[tactic(auto, unfolding(crate::specs::Steps::watchdog_taken_of))]
     pub fn watchdog_taken(self) -> Link
         ensures { result ≡ watchdog_taken_of self }
     {
-        if takes_in(self.phase()) {
-            let mut l = self;
-            l.watchdogtaken = true;
-            return l;
+        if !takes_in(self.phase()) {
+            return self;
         }
-        self
+        Link {
+            watchdogtaken: true,
+            ..self
+        }
     }
 
+    #[tactic(auto, unfolding(crate::specs::Steps::message_out_of))]
     fn message_out(self, id: Identity, time: u64, sent: Purpose) -> Link
         ensures { result ≡ message_out_of self id time sent }
     {
-        if is_up(self.phase()) {
-            let before = self.awaited;
-            let after = before.add(id, time, sent);
-            let mut l = self;
-            l.awaited = after;
-            return l;
+        if !is_up(self.phase()) {
+            return self;
         }
-        self
+        Link {
+            awaited: self.awaited.add(id, time, sent),
+            ..self
+        }
     }
 
     // A message that carries the held record with this sequence number went out.
@@ -328,27 +298,26 @@ impl Link {
     pub fn awaits(self, id: Identity) -> Found
         ensures { result ≡ find_of self.awaited id }
     {
-        let a = self.awaited;
-        a.find(id)
+        self.awaited.find(id)
     }
 
     // Whether one has been awaited 30,000 ms or longer.
     pub fn late(self, time: u64) -> bool
         ensures { result ≡ late_of self.awaited time }
     {
-        let a = self.awaited;
-        a.late(time)
+        self.awaited.late(time)
     }
 
     // Whether 8 or more are awaited: pump sends nothing then.
+    #[tactic(auto, unfolding(crate::specs::Steps::crowded_of))]
     pub fn crowded(self) -> bool
         ensures { result ≡ crowded_of self }
     {
-        let a = self.awaited;
-        8 <= a.how_many()
+        8 <= self.awaited.how_many()
     }
 
     // The answer MessageAck or MessageNotAck to an identity.
+    #[tactic(auto, unfolding(crate::specs::Steps::answered_of, crate::specs::Steps::closes_of, crate::specs::Steps::noted, crate::specs::Steps::noted_for, crate::specs::Steps::removed_of))]
     pub fn answered(self, id: Identity, acknowledged: bool) -> Answered
         ensures { result ≡ answered_by self id acknowledged }
     {
@@ -381,36 +350,38 @@ impl Link {
     }
 
     // The first pass goes on: its AggregatedStatus went out.
+    #[tactic(auto, unfolding(crate::specs::Steps::aggregated_passed_of))]
     pub fn aggregated_passed(self) -> Link
         ensures { result ≡ aggregated_passed_of self }
     {
-        if is_up(self.phase()) {
-            let mut l = self;
-            l.aggregatedout = true;
-            return l;
+        if !is_up(self.phase()) {
+            return self;
         }
-        self
+        Link {
+            aggregatedout: true,
+            ..self
+        }
     }
 
     // The first pass goes on: its next alarm went out.
+    #[tactic(auto, unfolding(crate::specs::Steps::alarm_passed_of))]
     pub fn alarm_passed(self) -> Link
         ensures { result ≡ alarm_passed_of self }
     {
-        if is_up(self.phase()) {
-            let n = self.alarm;
-            if n < 4294967295 {
-                let mut l = self;
-                l.alarm = n + 1;
-                return l;
-            }
+        if !is_up(self.phase()) {
+            return self;
         }
-        self
+        Link {
+            alarm: self.alarm.saturating_add(1),
+            ..self
+        }
     }
 
+    #[tactic(auto, unfolding(crate::specs::Due::due_up))]
     fn due_up(self, time: u64, period: u32, role: Role, alarms: u32, unsent: bool) -> Due
         ensures { result ≡ due_up self time period role alarms unsent }
     {
-        if elapsed(self.beat, milliseconds(period), time) {
+        if elapsed(self.beat, u64::from(period) * 1000, time) {
             return Due::Watchdog;
         }
         if self.aggregatedout {
@@ -426,11 +397,11 @@ impl Link {
     }
 
     // What is due: `period` in seconds, `alarms` how many the site table has, `unsent` whether a held record is not sent.
+    #[tactic(auto, unfolding(crate::specs::Due::due_of))]
     pub fn due(self, time: u64, period: u32, role: Role, alarms: u32, unsent: bool) -> Due
         ensures { result ≡ due_of self time period role alarms unsent }
     {
-        let p = self.phase();
-        match p {
+        match self.phase() {
             Phase::Down => Due::Nothing,
             Phase::Greeting => {
                 if self.versionout {

@@ -2,7 +2,6 @@
 #![tactic(auto)]
 
 ghost use Rattle.std.specs.Prelude.{◌≡◌, length};
-ghost use Rattle.basis.specs.Pick.{both};
 ghost use Rattle.label.specs.Label.{text_of};
 ghost use Rattle.table_whole.specs.Lookup.{find_status, find_command};
 ghost use Rattle.store_table.specs.Layout.{table_of, table_bytes};
@@ -76,8 +75,7 @@ pub fn alarm(t: &[u8], id: Label, code: Label) -> SoughtAlarm
     requires { length t.now ≡ table_bytes }
     ensures { result ≡ alarm_sought (table_of t.now) id code }
 {
-    let c = component(t, id);
-    match c {
+    match component(t, id) {
         Sought::Is(k) => or_no_alarm(alarm_in(t, k, code)),
         Sought::Nothing => SoughtAlarm::NoComponent,
     }
@@ -106,9 +104,7 @@ pub fn status(t: &[u8], component: u8, e: StatusEntry) -> Sought
     requires { length t.now ≡ table_bytes }
     ensures { result ≡ status_sought (table_of t.now) component e }
 {
-    let code = e.code;
-    let name = e.name;
-    number(called(t, component, code, name))
+    number(called(t, component, e.code, e.name))
 }
 
 fn named_command(t: &[u8], component: u8, code: &[u8], name: Label) -> Found
@@ -134,18 +130,13 @@ pub fn command(t: &[u8], component: u8, e: CommandEntry) -> Sought
     requires { length t.now ≡ table_bytes }
     ensures { result ≡ command_sought (table_of t.now) component e }
 {
-    let code = e.code;
-    let name = e.name;
-    number(called_command(t, component, code, name))
+    number(called_command(t, component, e.code, e.name))
 }
 
 pub fn is_sought(f: Sought) -> bool
     ensures { result ≡ is_sought f }
 {
-    match f {
-        Sought::Is(_) => true,
-        Sought::Nothing => false,
-    }
+    matches!(f, Sought::Is(_))
 }
 
 fn none() -> StatusEntry
@@ -162,10 +153,7 @@ fn none() -> StatusEntry
 pub fn entry_in(entries: [StatusEntry; 16], i: usize) -> StatusEntry
     ensures { result ≡ entry_at entries i }
 {
-    if i < 16 {
-        return entries[i];
-    }
-    none()
+    entries.get(i).copied().unwrap_or(none())
 }
 
 fn is_status(t: &[u8], component: u8, e: StatusEntry) -> bool
@@ -175,22 +163,10 @@ fn is_status(t: &[u8], component: u8, e: StatusEntry) -> bool
     is_sought(status(t, component, e))
 }
 
-fn and(a: bool, b: bool) -> bool
-    ensures { result ≡ both a b }
-{
-    if a { b } else { false }
-}
-
 // Whether each of the first count entries is a status of the component.
 pub fn all_statuses(t: &[u8], component: u8, entries: [StatusEntry; 16], count: usize) -> bool
     requires { length t.now ≡ table_bytes }
     ensures { result ≡ all_statuses (table_of t.now) component entries count }
 {
-    let mut ok = true;
-    let mut i: usize = 0;
-    while i < count {
-        ok = and(ok, is_status(t, component, entry_in(entries, i)));
-        i += 1;
-    }
-    ok
+    (0..count).all(|i| is_status(t, component, entry_in(entries, i)))
 }

@@ -2,5 +2,4 @@ pub mod Numerals
 pub mod Dots
 pub mod Parts
 pub mod Exact
-pub mod Backwards
-pub mod Judging
+pub mod Searches

@@ -1,8 +1,7 @@
 // RSMP versions: their texts, and the three checks of a Version message.
 #![tactic(auto)]
 
-ghost use Rattle.std.specs.Prelude.{◌≡◌, true, min, take};
-ghost use Rattle.basis.specs.Pick.{pick};
+ghost use Rattle.std.specs.Prelude.{◌≡◌, take};
 ghost use Rattle.read_versions.specs.Numeral.{number_in};
 ghost use Rattle.read_versions.specs.Version.{behind, rest_of, one_part, two_parts, version_of};
 ghost use Rattle.read_versions.specs.Judge.{same_label, has as has_of, later as later_of, shared as shared_of, latest as latest_of, lists as lists_of, meet as meet_of, judge as judge_of};
@@ -48,14 +47,12 @@ pub enum Judged {
 fn dot(s: &[u8]) -> usize
     ensures { Dot s.now result }
 {
-    let mut i = 0;
-    while i < s.len() {
-        if s[i] == b'.' {
+    for (i, b) in s.iter().enumerate() {
+        if *b == b'.' {
             return i;
         }
-        i += 1;
     }
-    i
+    s.len()
 }
 
 // The number from 0 to the limit whose shortest decimal text is s.
@@ -129,35 +126,47 @@ pub fn read_version(s: &[u8]) -> Number
     }
 }
 
-fn at_most_16(n: usize) -> usize
-    ensures { result ≡ min n 16 }
-{
-    if n <= 16 { n } else { 16 }
-}
-
-fn either(a: bool, b: bool) -> bool
-    ensures { result ≡ pick a true b }
-{
-    if a { true } else { b }
-}
-
-fn has(v: Versions, n: u32) -> bool
-    ensures { result ≡ has_of (take v.count v.list) n }
-{
-    let list = v.list;
-    let mut i = at_most_16(v.count);
-    let mut found = false;
-    while 0 < i {
-        i -= 1;
-        found = either(list[i] == n, found);
+impl Versions {
+    // Those that are there.
+    fn known(&self) -> &[u32]
+        ensures { result.now ≡ take self.now.count self.now.list }
+    {
+        &self.list[..self.count.min(16)]
     }
-    found
+
+    fn has(&self, n: u32) -> bool
+        ensures { result ≡ has_of (take self.now.count self.now.list) n }
+    {
+        self.known().contains(&n)
+    }
 }
 
-fn shared(theirs: Versions, n: u32) -> Number
-    ensures { result ≡ shared_of (take theirs.count theirs.list) n }
+impl Sites {
+    // Those that are there.
+    fn known(&self) -> &[Label]
+        ensures { result.now ≡ take self.now.count self.now.list }
+    {
+        &self.list[..self.count.min(16)]
+    }
+
+    fn lists(&self, l: Label) -> bool
+        ensures { result ≡ lists_of (take self.now.count self.now.list) l }
+    {
+        self.known().iter().any(|x| same_label(*x, l))
+    }
+
+    // Whether some id is in both.
+    fn meets(&self, theirs: &Sites) -> bool
+        ensures { result ≡ meet_of (take self.now.count self.now.list) (take theirs.now.count theirs.now.list) }
+    {
+        self.known().iter().any(|l| theirs.lists(*l))
+    }
+}
+
+fn shared(theirs: &Versions, n: u32) -> Number
+    ensures { result ≡ shared_of (take theirs.now.count theirs.now.list) n }
 {
-    if has(theirs, n) {
+    if theirs.has(n) {
         Number::Is(n)
     } else {
         Number::No
@@ -181,15 +190,12 @@ fn later(a: Number, b: Number) -> Number
     }
 }
 
-fn latest(own: Versions, theirs: Versions) -> Number
-    ensures { result ≡ latest_of (take own.count own.list) (take theirs.count theirs.list) }
+fn latest(own: &Versions, theirs: &Versions) -> Number
+    ensures { result ≡ latest_of (take own.now.count own.now.list) (take theirs.now.count theirs.now.list) }
 {
-    let list = own.list;
-    let mut i = at_most_16(own.count);
     let mut best = Number::No;
-    while 0 < i {
-        i -= 1;
-        best = later(shared(theirs, list[i]), best);
+    for n in own.known() {
+        best = later(best, shared(theirs, *n));
     }
     best
 }
@@ -202,55 +208,15 @@ fn same_label(a: Label, b: Label) -> bool
     label::is(a, &bytes[0..n])
 }
 
-fn lists(list: [Label; 16], count: usize, l: Label) -> bool
-    ensures { result ≡ lists_of (take count list) l }
-{
-    let mut i = at_most_16(count);
-    let mut found = false;
-    while 0 < i {
-        i -= 1;
-        found = either(same_label(list[i], l), found);
-    }
-    found
-}
-
-fn listed(sites: Sites, l: Label) -> bool
-    ensures { result ≡ lists_of (take sites.count sites.list) l }
-{
-    let list = sites.list;
-    lists(list, sites.count, l)
-}
-
-fn meet(list: [Label; 16], count: usize, theirs: Sites) -> bool
-    ensures { result ≡ meet_of (take count list) (take theirs.count theirs.list) }
-{
-    let mut i = at_most_16(count);
-    let mut found = false;
-    while 0 < i {
-        i -= 1;
-        found = either(listed(theirs, list[i]), found);
-    }
-    found
-}
-
-fn met(own: Sites, theirs: Sites) -> bool
-    ensures { result ≡ meet_of (take own.count own.list) (take theirs.count theirs.list) }
-{
-    let list = own.list;
-    meet(list, own.count, theirs)
-}
-
 // Whether what they offer is accepted, and which version is chosen.
+#[tactic(auto, unfolding(crate::specs::Judge::judge))]
 pub fn judge(own: Offer, theirs: Offer) -> Judged
     ensures { result ≡ judge_of own theirs }
 {
-    let mine = own.versions;
-    let best = latest(mine, theirs.versions);
-    match best {
+    match latest(&own.versions, &theirs.versions) {
         Number::No => Judged::RsmpVersion,
         Number::Is(v) => {
-            let here = own.sites;
-            if !met(here, theirs.sites) {
+            if !own.sites.meets(&theirs.sites) {
                 return Judged::SiteId;
             }
             if !same_label(own.sxl, theirs.sxl) {

@@ -43,15 +43,9 @@ impl Status {
             value: value,
             known: 1,
         };
-        if self.known != 1 {
-            return Set {
-                status: s,
-                changed: true,
-            };
-        }
         Set {
             status: s,
-            changed: self.value != value,
+            changed: self.known != 1 || self.value != value,
         }
     }
 

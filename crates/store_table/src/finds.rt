@@ -11,21 +11,20 @@ fn is_label(t: &[u8], i: usize, k: usize, text: &[u8]) -> bool
     ensures { result ≡ label_at (labels_in t.now i) text.now k }
 {
     if k < 8 {
-        return rows::label_is(t, i + 33 * k, text);
+        rows::label_is(t, i + 33 * k, text)
+    } else {
+        label::is(label::none(), text)
     }
-    label::is(label::none(), text)
 }
 
 pub fn label(t: &[u8], i: usize, count: usize, text: &[u8]) -> Found
     requires { i + 264 ≤ length t.now }
     ensures { result ≡ find_label (labels_in t.now i) count text.now }
 {
-    let mut k: usize = 0;
-    while k < count {
+    for k in 0..count {
         if is_label(t, i, k, text) {
             return Found::At(k);
         }
-        k += 1;
     }
     Found::Nothing
 }
@@ -35,9 +34,10 @@ fn is_item(t: &[u8], i: usize, n: usize, k: usize, component: u8, code: &[u8], n
     ensures { result ≡ item_at (items_in t.now i n) component code.now name.now k }
 {
     if k < n {
-        return rows::item_is(t, i + 73 * k, component, code, name);
+        rows::item_is(t, i + 73 * k, component, code, name)
+    } else {
+        table_item::is(table_item::none(), component, code, name)
     }
-    table_item::is(table_item::none(), component, code, name)
 }
 
 // Among n rows from i on.
@@ -53,12 +53,10 @@ pub fn item(
     requires { i + 73 * n ≤ length t.now }
     ensures { result ≡ find_item (items_in t.now i n) count component code.now name.now }
 {
-    let mut k: usize = 0;
-    while k < count {
+    for k in 0..count {
         if is_item(t, i, n, k, component, code, name) {
             return Found::At(k);
         }
-        k += 1;
     }
     Found::Nothing
 }

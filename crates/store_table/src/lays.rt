@@ -1,5 +1,5 @@
 // Each part of the table laid out behind the one before it.
-ghost use Rattle.std.specs.Prelude.{◌≡◌, [], ◌∷◌, ◌++◌, ◌+◌, ◌≤◌, length};
+ghost use Rattle.std.specs.Prelude.{◌≡◌, [], ◌∷◌, ◌++◌, ◌+◌, ◌*◌, ◌≤◌, length};
 ghost use Rattle.table_whole.specs.Bytes.{in_turn};
 ghost use Rattle.store_table.specs.Layout.{count_bytes, label_bytes, item_bytes};
 ghost use Rattle.store_table.specs.Laid.{Laid};
@@ -19,13 +19,8 @@ fn label(t: &mut [u8], at: usize, x: Label)
     requires { at + 33 ≤ length t.old }
     ensures { Laid t.old at 33 (label_bytes x) t.new }
 {
-    let bytes = x.bytes;
-    let mut k: usize = 0;
-    while k < 32 {
-        t[at + k] = bytes[k];
-        k += 1;
-    }
-    t[at + k] = x.length;
+    t[at..at + 32].copy_from_slice(&x.bytes);
+    t[at + 32] = x.length;
 }
 
 // How many of each, and what the site is called.
@@ -49,14 +44,12 @@ pub fn head(
     label(t, 41, sxl);
 }
 
-pub fn labels(t: &mut [u8], at: usize, rows: [Label; 8])
-    requires { at + 264 ≤ length t.old }
-    ensures { Laid t.old at 264 (in_turn label_bytes rows) t.new }
+pub fn labels(t: &mut [u8], at: usize, rows: &[Label])
+    requires { at + 33 * length rows.now ≤ length t.old }
+    ensures { Laid t.old at (33 * length rows.now) (in_turn label_bytes rows.now) t.new }
 {
-    let mut k: usize = 0;
-    while k < 8 {
-        label(t, at + 33 * k, rows[k]);
-        k += 1;
+    for (k, row) in rows.iter().enumerate() {
+        label(t, at + 33 * k, *row);
     }
 }
 
@@ -73,33 +66,18 @@ fn item(t: &mut [u8], at: usize, x: Item)
     requires { at + 73 ≤ length t.old }
     ensures { Laid t.old at 73 (item_bytes x) t.new }
 {
-    let code = x.code;
-    let name = x.name;
-    label(t, at, code);
-    label(t, at + 33, name);
+    label(t, at, x.code);
+    label(t, at + 33, x.name);
     three(t, at + 66, x.component, x.priority, x.category);
     count(t, at + 69, x.lowest);
     count(t, at + 71, x.highest);
 }
 
-pub fn items(t: &mut [u8], at: usize, rows: [Item; 32])
-    requires { at + 2336 ≤ length t.old }
-    ensures { Laid t.old at 2336 (in_turn item_bytes rows) t.new }
+pub fn items(t: &mut [u8], at: usize, rows: &[Item])
+    requires { at + 73 * length rows.now ≤ length t.old }
+    ensures { Laid t.old at (73 * length rows.now) (in_turn item_bytes rows.now) t.new }
 {
-    let mut k: usize = 0;
-    while k < 32 {
-        item(t, at + 73 * k, rows[k]);
-        k += 1;
-    }
-}
-
-pub fn commands(t: &mut [u8], at: usize, rows: [Item; 16])
-    requires { at + 1168 ≤ length t.old }
-    ensures { Laid t.old at 1168 (in_turn item_bytes rows) t.new }
-{
-    let mut k: usize = 0;
-    while k < 16 {
-        item(t, at + 73 * k, rows[k]);
-        k += 1;
+    for (k, row) in rows.iter().enumerate() {
+        item(t, at + 73 * k, *row);
     }
 }

@@ -1,5 +1,5 @@
 // The site table in the bytes that the host lends: read, looked up and laid out in place.
-#![tactic(auto)]
+#![tactic(auto, unfolding(crate::specs::Layout::table_of))]
 
 ghost use Rattle.std.specs.Prelude.{◌≡◌, length, get_or};
 ghost use Rattle.label.specs.Label.{no_label};
@@ -64,9 +64,10 @@ pub fn component(t: &[u8], k: usize) -> Label
     ensures { result ≡ get_or (table_of t.now).components k no_label }
 {
     if k < 8 {
-        return rows::label_at(t, 74 + 33 * k);
+        rows::label_at(t, 74 + 33 * k)
+    } else {
+        label::none()
     }
-    label::none()
 }
 
 pub fn alarm_row(t: &[u8], k: usize) -> Item
@@ -94,14 +95,22 @@ pub fn find_component(t: &[u8], id: &[u8]) -> Found
     requires { length t.now ≡ table_bytes }
     ensures { result ≡ find_component (table_of t.now) id.now }
 {
-    finds::label(t, 74, rows::wide(component_count(t)), id)
+    finds::label(t, 74, usize::from(component_count(t)), id)
 }
 
 pub fn find_alarm(t: &[u8], component: u8, code: &[u8]) -> Found
     requires { length t.now ≡ table_bytes }
     ensures { result ≡ find_alarm (table_of t.now) component code.now }
 {
-    finds::item(t, 338, 32, rows::wide(alarm_count(t)), component, code, b"")
+    finds::item(
+        t,
+        338,
+        32,
+        usize::from(alarm_count(t)),
+        component,
+        code,
+        b"",
+    )
 }
 
 pub fn find_status(t: &[u8], component: u8, code: &[u8], name: &[u8]) -> Found
@@ -112,7 +121,7 @@ pub fn find_status(t: &[u8], component: u8, code: &[u8], name: &[u8]) -> Found
         t,
         2674,
         32,
-        rows::wide(status_count(t)),
+        usize::from(status_count(t)),
         component,
         code,
         name,
@@ -127,7 +136,7 @@ pub fn find_command(t: &[u8], component: u8, code: &[u8], name: &[u8]) -> Found
         t,
         5010,
         16,
-        rows::wide(command_count(t)),
+        usize::from(command_count(t)),
         component,
         code,
         name,
@@ -139,23 +148,17 @@ pub fn put(t: &mut [u8], x: SiteTable)
     requires { length t.old ≡ table_bytes }
     ensures { t.new ≡ layout_of x }
 {
-    let site = x.site;
-    let sxl = x.sxl;
-    let components = x.components;
-    let alarms = x.alarms;
-    let statuses = x.statuses;
-    let commands = x.commands;
     lays::head(
         t,
         x.componentcount,
         x.alarmcount,
         x.statuscount,
         x.commandcount,
-        site,
-        sxl,
+        x.site,
+        x.sxl,
     );
-    lays::labels(t, 74, components);
-    lays::items(t, 338, alarms);
-    lays::items(t, 2674, statuses);
-    lays::commands(t, 5010, commands);
+    lays::labels(t, 74, &x.components);
+    lays::items(t, 338, &x.alarms);
+    lays::items(t, 2674, &x.statuses);
+    lays::items(t, 5010, &x.commands);
 }

@@ -1,5 +1,5 @@
 // A count, a label, a row of the table at a place.
-ghost use Rattle.std.specs.Prelude.{◌≡◌, ◌+◌, ◌*◌, ◌≤◌, min, length, get_or};
+ghost use Rattle.std.specs.Prelude.{◌≡◌, ◌+◌, ◌*◌, ◌≤◌, length, get_or};
 ghost use Rattle.basis.specs.Lists.{same_bytes};
 ghost use Rattle.label.specs.Label.{text_of};
 ghost use Rattle.table_item.specs.Item.{no_item, is_item};
@@ -8,23 +8,11 @@ ghost use Rattle.store_table.specs.Layout.{count_in, label_in, item_in, items_in
 use label::Label;
 use table_item::Item;
 
-pub fn wide(n: u16) -> usize
-    ensures { result ≡ n }
-{
-    n as usize
-}
-
-fn byte(b: u8) -> u16
-    ensures { result ≡ b }
-{
-    b as u16
-}
-
 pub fn count_at(t: &[u8], i: usize) -> u16
     requires { i + 2 ≤ length t.now }
     ensures { result ≡ count_in t.now i }
 {
-    256 * byte(t[i]) + byte(t[i + 1])
+    256 * u16::from(t[i]) + u16::from(t[i + 1])
 }
 
 pub fn label_at(t: &[u8], i: usize) -> Label
@@ -33,10 +21,9 @@ pub fn label_at(t: &[u8], i: usize) -> Label
 {
     let end = i + 32;
     let part = label::of(&t[i..end]);
-    let bytes = part.bytes;
     Label {
-        bytes: bytes,
         length: t[end],
+        ..part
     }
 }
 
@@ -63,15 +50,10 @@ pub fn row(t: &[u8], i: usize, n: usize, k: usize) -> Item
     ensures { result ≡ get_or (items_in t.now i n) k no_item }
 {
     if k < n {
-        return item_at(t, i + 73 * k);
+        item_at(t, i + 73 * k)
+    } else {
+        table_item::none()
     }
-    table_item::none()
-}
-
-fn at_most_32(n: u8) -> usize
-    ensures { result ≡ min n 32 }
-{
-    if n <= 32 { n as usize } else { 32 }
 }
 
 // Whether the label there is this text, byte for byte.
@@ -79,20 +61,15 @@ pub fn label_is(t: &[u8], i: usize, s: &[u8]) -> bool
     requires { i + 33 ≤ length t.now }
     ensures { result ≡ same_bytes (text_of (label_in t.now i)) s.now }
 {
-    let end = i + at_most_32(t[i + 32]);
+    let end = i + usize::from(t[i + 32]).min(32);
     check::same(&t[i..end], s)
 }
 
 // Whether the row there is called so.
+#[tactic(auto, unfolding(crate::specs::Layout::item_in, table_item::specs::Item::is_item))]
 pub fn item_is(t: &[u8], i: usize, component: u8, code: &[u8], name: &[u8]) -> bool
     requires { i + 73 ≤ length t.now }
     ensures { result ≡ is_item component code.now name.now (item_in t.now i) }
 {
-    if t[i + 66] != component {
-        return false;
-    }
-    if label_is(t, i, code) {
-        return label_is(t, i + 33, name);
-    }
-    false
+    t[i + 66] == component && label_is(t, i, code) && label_is(t, i + 33, name)
 }

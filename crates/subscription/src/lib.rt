@@ -1,8 +1,10 @@
 // One subscription: of one link to one status.
 #![tactic(auto)]
 
-ghost use Rattle.std.specs.Prelude.{◌≡◌, ◌+◌, leb};
+ghost use Rattle.std.specs.Prelude.{◌≡◌};
 ghost use Rattle.subscription.specs.Subscription.{none as none_of, subscribed, issues_on, due_at, tick_of};
+
+use awaited::elapsed;
 
 // since: the time of the subscribing call, or of the last tick that issued; seconds: uRt, 0 for none;
 // state: 0 no subscription, 1 without sOc, 2 with sOc.
@@ -18,23 +20,6 @@ pub struct Subscription {
 pub struct Ticked {
     pub subscription: Subscription,
     pub issues: bool,
-}
-
-fn wide(x: u32) -> u64
-    ensures { result ≡ x }
-{
-    x as u64
-}
-
-// Whether so long a time or more has passed since.
-fn passed(since: u64, milliseconds: u64, time: u64) -> bool
-    ensures { result ≡ leb (since + milliseconds) time }
-{
-    if since <= time {
-        milliseconds <= time - since
-    } else {
-        false
-    }
 }
 
 impl Subscription {
@@ -64,37 +49,35 @@ impl Subscription {
     pub fn on_value(self, changed: bool) -> bool
         ensures { result ≡ issues_on self changed }
     {
-        if changed { self.state == 2 } else { false }
+        changed && self.state == 2
     }
 
+    #[tactic(auto, unfolding(crate::specs::Subscription::due_at))]
     fn due(self, time: u64) -> bool
         ensures { result ≡ due_at self time }
     {
-        if 0 < self.state {
-            if 0 < self.seconds {
-                return passed(self.since, 1000 * wide(self.seconds), time);
-            }
-        }
-        false
+        0 < self.state
+            && 0 < self.seconds
+            && elapsed(self.since, 1000 * u64::from(self.seconds), time)
     }
 
+    #[tactic(auto, unfolding(crate::specs::Subscription::tick_of))]
     pub fn on_tick(self, time: u64) -> Ticked
         ensures { result ≡ tick_of self time }
     {
         if self.due(time) {
-            let s = Subscription {
-                since: time,
-                seconds: self.seconds,
-                state: self.state,
-            };
-            return Ticked {
-                subscription: s,
+            Ticked {
+                subscription: Subscription {
+                    since: time,
+                    ..self
+                },
                 issues: true,
-            };
-        }
-        Ticked {
-            subscription: self,
-            issues: false,
+            }
+        } else {
+            Ticked {
+                subscription: self,
+                issues: false,
+            }
         }
     }
 }

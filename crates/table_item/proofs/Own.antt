@@ -1,6 +1,7 @@
 -- What a search from the first place on finds; every place is found as itself exactly when no two are called the same.
 -- Assumes nothing.
-use Rattle.basis.proofs.Std.{◌≡◌, refl, sym, subst, Bool, true, false, true≢false, ⊎_elim, ℕ, zero, suc, ◌+◌, ◌≤◌, ◌<◌, le_antisymm, arith, eqb-true, eq-eqb, pick, bool_cases, lt_or_ge, both_true, both_of, not_both}
+use Rattle.std.specs.List.{list_all, range_with_len}
+use Rattle.basis.proofs.Std.{add-zero, zero-add, both, ◌∙◌, ◌≡◌, refl, sym, subst, Bool, true, false, true≢false, ⊎_elim, ℕ, zero, suc, ◌+◌, ◌≤◌, ◌<◌, le_antisymm, arith, eqb-true, eq-eqb, pick, bool_cases, lt_or_ge, both_true, both_of, not_both}
 use Rattle.table_item.specs.declared.Found.{Found}
 use Rattle.table_item.specs.declared.Found.TheVariants.{At, Nothing}
 use Rattle.table_item.specs.Find.{first_from, each, found_at}
@@ -35,6 +36,17 @@ each_is f (suc n) e i h =
 pub each_of : (f : ℕ → Bool) (n : ℕ) → ((i : ℕ) → i < n → f i ≡ true) → each f n ≡ true
 each_of f zero h = refl
 each_of f (suc n) h = both_of (each_of f n (λ i l. h i (omega arith))) (h n (omega arith))
+
+all_more : (f : ℕ → Bool) (a n : ℕ) → list_all f (range_with_len a (suc n)) ≡ both (list_all f (range_with_len a n)) (f (a + n))
+all_more f a zero = rw add-zero (bool_cases (f a) (λ e. rw e) (λ e. rw e))
+all_more f a (suc n) =
+    let k : a + 1 + n ≡ a + suc n = omega arith in
+    bool_cases (f a) (λ e. rw e (rw k at (all_more f (a + 1) n))) (λ e. rw e)
+
+-- `all` over the first n places
+pub all_each : (f : ℕ → Bool) (n : ℕ) → list_all f (range_with_len 0 n) ≡ each f n
+all_each f zero = refl
+all_each f (suc n) = all_more f 0 n ∙ rw (all_each f n, zero-add)
 
 -- same i j: place j is called like place i
 module _ (same : ℕ → ℕ → Bool) (n : ℕ) where

@@ -3,7 +3,6 @@
 
 ghost use Rattle.std.specs.Prelude.{◌≡◌, get_or};
 ghost use Rattle.label.specs.Label.{no_label, text_of};
-ghost use Rattle.basis.specs.Pick.{both};
 ghost use Rattle.table_item.specs.Item.{no_item, is_item};
 ghost use Rattle.table_item.specs.Find.{find_label, find_item, own_label, own_item, own_labels, own_items, found_at, item_like};
 
@@ -43,65 +42,48 @@ pub fn none() -> Item
     }
 }
 
-pub fn label_in(labels: [Label; 8], i: usize) -> Label
-    ensures { result ≡ get_or labels i no_label }
+pub fn label_in(labels: &[Label], i: usize) -> Label
+    ensures { result ≡ get_or labels.now i no_label }
 {
-    if i < 8 { labels[i] } else { label::none() }
+    labels.get(i).copied().unwrap_or(label::none())
 }
 
-pub fn item_in(items: [Item; 32], i: usize) -> Item
-    ensures { result ≡ get_or items i no_item }
+pub fn item_in(items: &[Item], i: usize) -> Item
+    ensures { result ≡ get_or items.now i no_item }
 {
-    if i < 32 { items[i] } else { none() }
+    items.get(i).copied().unwrap_or(none())
 }
 
 // The first of the count labels that is this text.
-pub fn find_label(labels: [Label; 8], count: usize, text: &[u8]) -> Found
-    ensures { result ≡ find_label labels count text.now }
+pub fn find_label(labels: &[Label], count: usize, text: &[u8]) -> Found
+    ensures { result ≡ find_label labels.now count text.now }
 {
-    let mut i: usize = 0;
-    while i < count {
+    for i in 0..count {
         if label::is(label_in(labels, i), text) {
             return Found::At(i);
         }
-        i += 1;
     }
     Found::Nothing
 }
 
 // Whether a row is called so.
+#[tactic(auto, unfolding(crate::specs::Item::is_item))]
 pub fn is(row: Item, component: u8, code: &[u8], name: &[u8]) -> bool
     ensures { result ≡ is_item component code.now name.now row }
 {
-    if row.component != component {
-        return false;
-    }
-    let own = row.code;
-    if !label::is(own, code) {
-        return false;
-    }
-    let own = row.name;
-    label::is(own, name)
+    row.component == component && label::is(row.code, code) && label::is(row.name, name)
 }
 
 // The first of the count rows that is called so.
-pub fn find_item(items: [Item; 32], count: usize, component: u8, code: &[u8], name: &[u8]) -> Found
-    ensures { result ≡ find_item items count component code.now name.now }
+pub fn find_item(items: &[Item], count: usize, component: u8, code: &[u8], name: &[u8]) -> Found
+    ensures { result ≡ find_item items.now count component code.now name.now }
 {
-    let mut i: usize = 0;
-    while i < count {
+    for i in 0..count {
         if is(item_in(items, i), component, code, name) {
             return Found::At(i);
         }
-        i += 1;
     }
     Found::Nothing
-}
-
-fn and(a: bool, b: bool) -> bool
-    ensures { result ≡ both a b }
-{
-    if a { b } else { false }
 }
 
 fn found_at(f: Found, i: usize) -> bool
@@ -113,16 +95,16 @@ fn found_at(f: Found, i: usize) -> bool
     }
 }
 
-fn find_label_like(labels: [Label; 8], count: usize, l: Label) -> Found
-    ensures { result ≡ find_label labels count (text_of l) }
+fn find_label_like(labels: &[Label], count: usize, l: Label) -> Found
+    ensures { result ≡ find_label labels.now count (text_of l) }
 {
     let n = label::size(l);
     let bytes = l.bytes;
     find_label(labels, count, &bytes[0..n])
 }
 
-fn find_item_like(items: [Item; 32], count: usize, row: Item) -> Found
-    ensures { result ≡ item_like items count row }
+fn find_item_like(items: &[Item], count: usize, row: Item) -> Found
+    ensures { result ≡ item_like items.now count row }
 {
     let code = row.code;
     let name = row.name;
@@ -133,40 +115,28 @@ fn find_item_like(items: [Item; 32], count: usize, row: Item) -> Found
     find_item(items, count, row.component, &a[0..m], &b[0..n])
 }
 
-fn own_label(labels: [Label; 8], count: usize, i: usize) -> bool
-    ensures { result ≡ own_label labels count i }
+fn own_label(labels: &[Label], count: usize, i: usize) -> bool
+    ensures { result ≡ own_label labels.now count i }
 {
     found_at(find_label_like(labels, count, label_in(labels, i)), i)
 }
 
-fn own_item(items: [Item; 32], count: usize, i: usize) -> bool
-    ensures { result ≡ own_item items count i }
+fn own_item(items: &[Item], count: usize, i: usize) -> bool
+    ensures { result ≡ own_item items.now count i }
 {
     found_at(find_item_like(items, count, item_in(items, i)), i)
 }
 
 // Whether none of the count labels is like another.
-pub fn own_labels(labels: [Label; 8], count: usize) -> bool
-    ensures { result ≡ own_labels labels count }
+pub fn own_labels(labels: &[Label], count: usize) -> bool
+    ensures { result ≡ own_labels labels.now count }
 {
-    let mut ok = true;
-    let mut i: usize = 0;
-    while i < count {
-        ok = and(ok, own_label(labels, count, i));
-        i += 1;
-    }
-    ok
+    (0..count).all(|i| own_label(labels, count, i))
 }
 
 // Whether none of the count rows is called like another.
-pub fn own_items(items: [Item; 32], count: usize) -> bool
-    ensures { result ≡ own_items items count }
+pub fn own_items(items: &[Item], count: usize) -> bool
+    ensures { result ≡ own_items items.now count }
 {
-    let mut ok = true;
-    let mut i: usize = 0;
-    while i < count {
-        ok = and(ok, own_item(items, count, i));
-        i += 1;
-    }
-    ok
+    (0..count).all(|i| own_item(items, count, i))
 }

@@ -1,9 +1,7 @@
 -- What reading the head gives, case by case.
 -- Assumes nothing.
-use Rattle.basis.proofs.Std.{◌≡◌, subst, ◌∙◌, true, false, List, ℕ, ◌%◌, ◌^◌, ◌≤◌, ◌<◌, mod-eq_of_lt, lt_of_lt_of_le, length, take, replicate, length-take-le, le-leb, lt-leb}
-use native.Mathlib.Bridge.{le_by_compare, IsLe}
-use Rattle.bits.specs.Fields.{field_of, number_of, total}
-use Rattle.bits.proofs.Bytes.{number_lt}
+use Rattle.basis.proofs.Std.{◌≡◌, true, false, List, ℕ, ◌≤◌, ◌<◌, length, take, le-leb, lt-leb}
+use Rattle.bits.specs.Fields.{field_of, number_of}
 use Rattle.table_row.specs.Head.{good_first, good_second, no_head, counted, first_head, second_head, head_of}
 
 module _ (s : List ℕ) where
@@ -42,18 +40,3 @@ module _ (s : List ℕ) where
   pub head_second : first_head s ≡ no_head → head_of s ≡ second_head s
   unfolding head_of
   head_second e = simp e
-
--- the number of k bytes, eight at most, fits
-pub fits : (k : ℕ) → 2 ^ total (replicate k 8) ≤ 2 ^ 64 → (s : List ℕ) → k ≤ length s → (n : ℕ) → n ≡ number_of (take k s) % 2 ^ 64 → n ≡ number_of (take k s)
-fits k m s h n e =
-    let l : length (take k s) ≡ k = length-take-le k s h in
-    let b : number_of (take k s) < 2 ^ total (replicate k 8) = subst (λ (j : ℕ). number_of (take k s) < 2 ^ total (replicate j 8)) l (number_lt (take k s)) in
-    e ∙ mod-eq_of_lt (lt_of_lt_of_le b m)
-
-pub three : (s : List ℕ) → 3 ≤ length s → (n : ℕ) → n ≡ number_of (take 3 s) % 2 ^ 64 → n ≡ number_of (take 3 s)
-unfolding IsLe
-three = fits 3 (le_by_compare (2 ^ 24) (2 ^ 64) tt)
-
-pub four : (s : List ℕ) → 4 ≤ length s → (n : ℕ) → n ≡ number_of (take 4 s) % 2 ^ 64 → n ≡ number_of (take 4 s)
-unfolding IsLe
-four = fits 4 (le_by_compare (2 ^ 32) (2 ^ 64) tt)

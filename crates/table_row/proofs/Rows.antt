@@ -1,11 +1,9 @@
 -- What reading a row at a place gives, case by case.
 -- Assumes nothing.
-use Rattle.basis.proofs.Std.{◌≡◌, ap, ◌∙◌, true, false, List, ℕ, ◌+◌, ◌-◌, ◌%◌, ◌^◌, ◌≤◌, ◌<◌, arith, length, get_or, take, drop, length-drop, lt-ltb, le-ltb, lt-leb, le-leb}
-use Rattle.bits.specs.Fields.{number_of}
+use Rattle.basis.proofs.Std.{◌≡◌, true, false, List, ℕ, ◌+◌, ◌≤◌, ◌<◌, length, get_or, lt-ltb, le-ltb, lt-leb, le-leb}
 use Rattle.label.specs.Reading.{read_at}
 use Rattle.table_row.specs.declared.ItemRead.{ItemRead}
 use Rattle.table_row.specs.Rows.{good_alarm, good_status, missed_item, alarm_with, status_with, alarm_at, status_at, range_at, ranged, good_range, with_range}
-use Rattle.table_row.proofs.Heads.{four}
 
 module _ (s : List ℕ) (components at : ℕ) where
   pub alarm_behind : length s ≤ at → alarm_at s components at ≡ missed_item
@@ -48,10 +46,3 @@ module _ (s : List ℕ) (r : ItemRead) where
         → with_range s r ≡ record { item = ranged r.item (range_at s r.next); next = r.next + 4 }
     unfolding with_range
     range_good e = simp (le-leb (r.next + 4) (length s) h, e)
-
-    -- the part that is lent
-    pub range_number : (n : ℕ) → n ≡ number_of (take (r.next + 4 - r.next) (drop r.next s)) % 2 ^ 64 → n ≡ range_at s r.next
-    range_number n e =
-        let k : r.next + 4 - r.next ≡ 4 = omega arith in
-        let l : 4 ≤ length (drop r.next s) = simp length-drop (omega arith) in
-        four (drop r.next s) l n (e ∙ ap (λ (m : ℕ). number_of (take m (drop r.next s)) % 2 ^ 64) k)

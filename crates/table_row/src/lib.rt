@@ -1,9 +1,9 @@
 // The head and the rows of the site table, read from its bits.
 #![tactic(auto)]
 
-ghost use Rattle.std.specs.Prelude.{◌≡◌, ◌≤◌, set};
+ghost use Rattle.std.specs.Prelude.{◌≡◌, ◌≤◌};
 ghost use Rattle.table_row.specs.Head.{good_counts, good_first, good_second, no_head, counted, first_head, second_head, head_of};
-ghost use Rattle.table_row.specs.Rows.{good_alarm, good_status, missed_item, alarm_at, status_at, good_range, ranged as ranged_of, with_range, command_at, item_at, items_to, more_labels, labels_to};
+ghost use Rattle.table_row.specs.Rows.{good_alarm, good_status, missed_item, alarm_at, status_at, good_range, ranged as ranged_of, with_range, command_at, item_at, items_to, labels_to};
 
 use label::Label;
 use table_item::Item;
@@ -19,50 +19,35 @@ pub struct Head {
 }
 
 // The counts that both editions have, with so many bits behind them.
+#[tactic(auto, unfolding(crate::specs::Head::good_counts))]
 fn good_counts(n: u64, behind: u32) -> bool
     requires { behind ≤ 12 }
     ensures { result ≡ good_counts behind n }
 {
     let components = bits::field(n, behind + 12, 4);
-    if components < 1 {
-        return false;
-    }
-    if 8 < components {
-        return false;
-    }
-    if 32 < bits::field(n, behind + 6, 6) {
-        return false;
-    }
-    bits::field(n, behind, 6) <= 32
+    1 <= components
+        && components <= 8
+        && bits::field(n, behind + 6, 6) <= 32
+        && bits::field(n, behind, 6) <= 32
 }
 
 // 24 bits: behind the counts are 4 zeros.
+#[tactic(auto, unfolding(crate::specs::Head::good_first))]
 fn good_first(n: u64) -> bool
     ensures { result ≡ good_first n }
 {
-    if bits::field(n, 20, 4) != 1 {
-        return false;
-    }
-    if bits::field(n, 0, 4) != 0 {
-        return false;
-    }
-    good_counts(n, 4)
+    bits::field(n, 20, 4) == 1 && bits::field(n, 0, 4) == 0 && good_counts(n, 4)
 }
 
 // 32 bits: behind the counts are that of the commands and 7 zeros.
+#[tactic(auto, unfolding(crate::specs::Head::good_second))]
 fn good_second(n: u64) -> bool
     ensures { result ≡ good_second n }
 {
-    if bits::field(n, 28, 4) != 2 {
-        return false;
-    }
-    if bits::field(n, 0, 7) != 0 {
-        return false;
-    }
-    if 16 < bits::field(n, 7, 5) {
-        return false;
-    }
-    good_counts(n, 12)
+    bits::field(n, 28, 4) == 2
+        && bits::field(n, 0, 7) == 0
+        && bits::field(n, 7, 5) <= 16
+        && good_counts(n, 12)
 }
 
 fn no_head() -> Head
@@ -90,6 +75,7 @@ fn head_with(n: u64, behind: u32, commands: u16, next: usize) -> Head
     }
 }
 
+#[tactic(auto, unfolding(crate::specs::Head::first_head))]
 fn first_head(s: &[u8]) -> Head
     ensures { result ≡ first_head s.now }
 {
@@ -104,6 +90,7 @@ fn first_head(s: &[u8]) -> Head
     }
 }
 
+#[tactic(auto, unfolding(crate::specs::Head::second_head))]
 fn second_head(s: &[u8]) -> Head
     ensures { result ≡ second_head s.now }
 {
@@ -119,6 +106,7 @@ fn second_head(s: &[u8]) -> Head
 }
 
 // The head of edition 1, or else of edition 2, with its counts.
+#[tactic(auto, unfolding(crate::specs::Head::head_of))]
 pub fn read_head(s: &[u8]) -> Head
     ensures { result ≡ head_of s.now }
 {
@@ -136,12 +124,6 @@ pub struct ItemRead {
     pub next: usize,
 }
 
-fn wide(b: u8) -> u64
-    ensures { result ≡ b }
-{
-    b as u64
-}
-
 fn missed() -> ItemRead
     ensures { result ≡ missed_item }
 {
@@ -151,34 +133,28 @@ fn missed() -> ItemRead
     }
 }
 
+#[tactic(auto, unfolding(crate::specs::Rows::good_alarm))]
 fn good_alarm(b: u64, components: u64) -> bool
     ensures { result ≡ good_alarm components b }
 {
-    if bits::field(b, 0, 2) != 0 {
-        return false;
-    }
-    if bits::field(b, 3, 2) < 1 {
-        return false;
-    }
-    bits::field(b, 5, 3) < components
+    bits::field(b, 0, 2) == 0 && 1 <= bits::field(b, 3, 2) && bits::field(b, 5, 3) < components
 }
 
+#[tactic(auto, unfolding(crate::specs::Rows::good_status))]
 fn good_status(b: u64, components: u64) -> bool
     ensures { result ≡ good_status components b }
 {
-    if bits::field(b, 0, 5) != 0 {
-        return false;
-    }
-    bits::field(b, 5, 3) < components
+    bits::field(b, 0, 5) == 0 && bits::field(b, 5, 3) < components
 }
 
+#[tactic(auto, unfolding(crate::specs::Rows::alarm_at))]
 fn alarm_at(s: &[u8], at: usize, components: u64) -> ItemRead
     ensures { result ≡ alarm_at s.now components at }
 {
     if s.len() <= at {
         return missed();
     }
-    let b = wide(s[at]);
+    let b = u64::from(s[at]);
     if good_alarm(b, components) {
         let code = label::read(s, at + 1);
         let text = code.label;
@@ -200,13 +176,14 @@ fn alarm_at(s: &[u8], at: usize, components: u64) -> ItemRead
     }
 }
 
+#[tactic(auto, unfolding(crate::specs::Rows::status_at))]
 fn status_at(s: &[u8], at: usize, components: u64) -> ItemRead
     ensures { result ≡ status_at s.now components at }
 {
     if s.len() <= at {
         return missed();
     }
-    let b = wide(s[at]);
+    let b = u64::from(s[at]);
     if good_status(b, components) {
         let code = label::read(s, at + 1);
         let name = label::read(s, code.next);
@@ -241,13 +218,15 @@ fn good_range(n: u64) -> bool
 fn ranged(row: Item, n: u64) -> Item
     ensures { result ≡ ranged_of row n }
 {
-    let mut i = row;
-    i.lowest = bits::field(n, 16, 16) as u16;
-    i.highest = bits::field(n, 0, 16) as u16;
-    i
+    Item {
+        lowest: bits::field(n, 16, 16) as u16,
+        highest: bits::field(n, 0, 16) as u16,
+        ..row
+    }
 }
 
 // A row with the two values that stand behind it: its lowest and its highest.
+#[tactic(auto, unfolding(crate::specs::Rows::with_range))]
 fn with_range(s: &[u8], r: ItemRead) -> ItemRead
     ensures { result ≡ with_range s.now r }
 {
@@ -271,6 +250,7 @@ fn with_range(s: &[u8], r: ItemRead) -> ItemRead
     }
 }
 
+#[tactic(auto, unfolding(crate::specs::Rows::command_at))]
 fn command_at(s: &[u8], at: usize, components: u64) -> ItemRead
     ensures { result ≡ command_at s.now components at }
 {
@@ -301,21 +281,19 @@ pub struct ItemsRead {
 }
 
 // As many rows of this kind as counted, one behind the other.
+#[tactic(auto, unfolding(crate::specs::Rows::items_to))]
 pub fn read_items(s: &[u8], at: usize, kind: Kind, components: u64, count: usize) -> ItemsRead
     ensures { result ≡ items_to s.now kind components at count }
 {
     let none = table_item::none();
     let mut items = [none; 32];
     let mut next = at;
-    let mut i: usize = 0;
-    while i < count {
+    for i in 0..count {
         let g = item_at(s, next, kind, components);
-        let row = g.item;
         if i < 32 {
-            items[i] = row;
+            items[i] = g.item;
         }
         next = g.next;
-        i += 1;
     }
     ItemsRead { items, next }
 }
@@ -326,42 +304,20 @@ pub struct LabelsRead {
     pub next: usize,
 }
 
-fn put_label(labels: [Label; 8], i: usize, l: Label) -> [Label; 8]
-    ensures { result ≡ set labels i l }
-{
-    let mut after = labels;
-    if i < 8 {
-        after[i] = l;
-    }
-    after
-}
-
-fn one_more_label(s: &[u8], r: LabelsRead, i: usize) -> LabelsRead
-    ensures { result ≡ more_labels s.now i r }
-{
-    let g = label::read(s, r.next);
-    let l = g.label;
-    let before = r.labels;
-    let after = put_label(before, i, l);
-    LabelsRead {
-        labels: after,
-        next: g.next,
-    }
-}
-
 // As many strings as counted, one behind the other.
+#[tactic(auto, unfolding(crate::specs::Rows::labels_to))]
 pub fn read_labels(s: &[u8], at: usize, count: usize) -> LabelsRead
     ensures { result ≡ labels_to s.now at count }
 {
     let none = label::none();
-    let mut r = LabelsRead {
-        labels: [none; 8],
-        next: at,
-    };
-    let mut i: usize = 0;
-    while i < count {
-        r = one_more_label(s, r, i);
-        i += 1;
+    let mut labels = [none; 8];
+    let mut next = at;
+    for i in 0..count {
+        let g = label::read(s, next);
+        if i < 8 {
+            labels[i] = g.label;
+        }
+        next = g.next;
     }
-    r
+    LabelsRead { labels, next }
 }

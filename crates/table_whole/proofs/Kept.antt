@@ -7,7 +7,7 @@ use Rattle.label.specs.declared.Label.{Label}
 use Rattle.label.proofs.Padded.{take_padded}
 use Rattle.table_item.specs.declared.Item.{Item}
 use Rattle.table_item.specs.Item.{no_item, is_item}
-use Rattle.table_item.specs.Find.{first_from, each, found_at, label_at, item_at, own_labels, own_items}
+use Rattle.table_item.specs.Find.{label_at, item_at, own_labels, own_items}
 use Rattle.table_item.proofs.Own.{own_once, once_own}
 use Rattle.table_whole.specs.Table.{Row, no_row}
 use Rattle.table_whole.specs.Allowed.{SameRow, NoneTwice}
@@ -41,12 +41,6 @@ pub behind_read : {X : Type 0} (m : ℕ) (z : X) (xs : List X) (i : ℕ) → get
 behind_read m z [] i = zeros_read m z i
 behind_read m z (x ∷ xs) zero = refl
 behind_read m z (x ∷ xs) (suc i) = behind_read m z xs i
-
--- rows in a wider place are called as before
-pub own_padded : (most : ℕ) (rows : List Item) (n : ℕ) → own_items (padded most no_item rows) n ≡ own_items rows n
-own_padded most rows n =
-    let p : (i : ℕ) → get_or (padded most no_item rows) i no_item ≡ get_or rows i no_item = behind_read (most - length rows) no_item rows in
-    (λ t. each (λ (i : ℕ). found_at i (first_from (λ (j : ℕ). is_item (p i t).component (text_of (p i t).code) (text_of (p i t).name) (p j t)) 0 n)) n)
 
 -- an element that is kept
 pub kept : {A X : Type 0} (f : A → X) (d : A) (n : ℕ) (xs : List A) (i : ℕ) → i < length xs → get_or (padded n (f d) (map f xs)) i (f d) ≡ f (get_or xs i d)

@@ -1,6 +1,6 @@
 -- A row that is read stands there and is allowed; an allowed row that stands there is read.
 -- Assumes nothing.
-use Rattle.basis.proofs.Std.{◌≡◌, refl, sym, ap, ap₂, subst, ◌∙◌, true, List, [], ◌∷◌, ◌++◌, ⊎_elim, ℕ, suc, ◌+◌, ◌-◌, ◌≤◌, ◌<◌, add-zero, arith, eqb, leb, pos, length, get_or, drop, length-drop, length-append, drop-cons, get_or-drop, eqb-true, leb-true, ltb-true, eq-eqb, le-leb, lt-ltb, both, bool_cases, le_or_lt, both_true, both_of}
+use Rattle.basis.proofs.Std.{◌≡◌, refl, sym, ap, ap₂, subst, ◌∙◌, true, List, [], ◌∷◌, ◌++◌, ⊎_elim, ℕ, suc, ◌+◌, ◌-◌, ◌≤◌, ◌<◌, add-zero, arith, eqb, leb, pos, length, get_or, drop, length-drop, length-append, drop-cons, get_or-drop, eqb-true, leb-true, ltb-true, eq-eqb, le-leb, lt-ltb, bool_cases, le_or_lt, both_true, both_of}
 use Rattle.bits.specs.Fields.{field_of}
 use Rattle.number.specs.Signed.{word16_of}
 use Rattle.label.specs.declared.LabelRead.{LabelRead}

@@ -1,6 +1,6 @@
 -- The bytes of a site table, most significant bit first: document 01, "Site table".
 -- Assumes nothing.
-use Rattle.std.specs.Prelude.{ℕ, ◌+◌, ◌/◌, List, [], ◌∷◌, ◌++◌, eqb, length}
+use Rattle.std.specs.Prelude.{ℕ, ◌/◌, List, [], ◌∷◌, ◌++◌, eqb, length}
 use Rattle.basis.specs.Pick.{pick}
 use Rattle.bits.specs.Fields.{joined, total, bytes_of}
 use Rattle.number.specs.Signed.{word16_of}

@@ -2,8 +2,6 @@
 #![tactic(auto)]
 
 ghost use Rattle.std.specs.Prelude.{◌≡◌, take};
-ghost use Rattle.label.specs.Padded.{padded};
-ghost use Rattle.table_item.specs.Item.{no_item};
 ghost use Rattle.table_whole.specs.Memory.{no_table};
 ghost use Rattle.table_whole.specs.Reading.{laid_out, own_names, is_whole, read_table, refused as refused_of};
 ghost use Rattle.table_whole.specs.Reads.{Reads};
@@ -47,12 +45,6 @@ pub struct Laid {
     pub next: usize,
 }
 
-fn wide(n: u16) -> usize
-    ensures { result ≡ n }
-{
-    n as usize
-}
-
 pub fn none() -> SiteTable
     ensures { result ≡ no_table }
 {
@@ -72,30 +64,13 @@ pub fn none() -> SiteTable
     }
 }
 
-fn first_sixteen(rows: [Item; 32]) -> [Item; 16]
-    ensures { result ≡ take 16 rows }
+fn first_sixteen(rows: &[Item; 32]) -> [Item; 16]
+    ensures { result ≡ take 16 rows.now }
 {
     let none = table_item::none();
     let mut first = [none; 16];
-    let mut i: usize = 0;
-    while i < 16 {
-        first[i] = rows[i];
-        i += 1;
-    }
+    first.copy_from_slice(&rows[..16]);
     first
-}
-
-fn widened(rows: [Item; 16]) -> [Item; 32]
-    ensures { result ≡ padded 32 no_item rows }
-{
-    let none = table_item::none();
-    let mut wider = [none; 32];
-    let mut i: usize = 0;
-    while i < 16 {
-        wider[i] = rows[i];
-        i += 1;
-    }
-    wider
 }
 
 // One part behind the other.
@@ -103,75 +78,58 @@ pub fn laid_out(s: &[u8]) -> Laid
     ensures { result ≡ laid_out s.now }
 {
     let h = table_row::read_head(s);
-    let components = wide(h.components);
+    let components = u64::from(h.components);
     let site = label::read(s, h.next);
     let sxl = label::read(s, site.next);
-    let ids = table_row::read_labels(s, sxl.next, components);
-    let a = table_row::read_items(s, ids.next, Kind::Alarm, components as u64, wide(h.alarms));
-    let b = table_row::read_items(s, a.next, Kind::Status, components as u64, wide(h.statuses));
+    let ids = table_row::read_labels(s, sxl.next, usize::from(h.components));
+    let a = table_row::read_items(s, ids.next, Kind::Alarm, components, usize::from(h.alarms));
+    let b = table_row::read_items(s, a.next, Kind::Status, components, usize::from(h.statuses));
     let c = table_row::read_items(
         s,
         b.next,
         Kind::Command,
-        components as u64,
-        wide(h.commands),
+        components,
+        usize::from(h.commands),
     );
-    let siteid = site.label;
-    let version = sxl.label;
     let labels = ids.labels;
     let alarms = a.items;
     let statuses = b.items;
-    let rows = c.items;
-    let t = SiteTable {
-        componentcount: h.components,
-        alarmcount: h.alarms,
-        statuscount: h.statuses,
-        commandcount: h.commands,
-        site: siteid,
-        sxl: version,
-        components: labels,
-        alarms: alarms,
-        statuses: statuses,
-        commands: first_sixteen(rows),
-    };
+    let commands = first_sixteen(&c.items);
     Laid {
-        table: t,
+        table: SiteTable {
+            componentcount: h.components,
+            alarmcount: h.alarms,
+            statuscount: h.statuses,
+            commandcount: h.commands,
+            site: site.label,
+            sxl: sxl.label,
+            components: labels,
+            alarms,
+            statuses,
+            commands,
+        },
         next: c.next,
     }
 }
 
 impl SiteTable {
     // No component id, no alarm, no status and no command twice.
-    fn own_names(self) -> bool
-        ensures { result ≡ own_names self }
+    #[tactic(auto, unfolding(crate::specs::Reading::own_names))]
+    fn own_names(&self) -> bool
+        ensures { result ≡ own_names self.now }
     {
-        let components = self.components;
-        if !table_item::own_labels(components, wide(self.componentcount)) {
-            return false;
-        }
-        let alarms = self.alarms;
-        if !table_item::own_items(alarms, wide(self.alarmcount)) {
-            return false;
-        }
-        let statuses = self.statuses;
-        if !table_item::own_items(statuses, wide(self.statuscount)) {
-            return false;
-        }
-        let commands = self.commands;
-        table_item::own_items(widened(commands), wide(self.commandcount))
+        table_item::own_labels(&self.components, usize::from(self.componentcount))
+            && table_item::own_items(&self.alarms, usize::from(self.alarmcount))
+            && table_item::own_items(&self.statuses, usize::from(self.statuscount))
+            && table_item::own_items(&self.commands, usize::from(self.commandcount))
     }
 
     // Nothing left over behind it in so many bytes, and nothing twice.
-    fn is_whole(self, next: usize, size: usize) -> bool
-        ensures { result ≡ is_whole self next size }
+    #[tactic(auto, unfolding(crate::specs::Reading::is_whole))]
+    fn is_whole(&self, next: usize, size: usize) -> bool
+        ensures { result ≡ is_whole self.now next size }
     {
-        if label::FAR <= size {
-            return false;
-        }
-        if next != size {
-            return false;
-        }
-        self.own_names()
+        size < label::FAR && next == size && self.own_names()
     }
 }
 
@@ -191,6 +149,7 @@ fn refused() -> TableRead
     }
 }
 
+#[tactic(auto, unfolding(crate::specs::Reading::read_table))]
 fn read_table(s: &[u8]) -> TableRead
     ensures { result ≡ read_table s.now }
 {

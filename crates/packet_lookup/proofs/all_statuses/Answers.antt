@@ -1,20 +1,12 @@
--- `packet_lookup::all_statuses` meets its contract.
--- Assumes nothing.
-use Rattle.basis.proofs.Std.{◌-◌, ◌≡◌, refl, ap, ◌∙◌, add-one, rules}
+use Rattle.basis.proofs.Std.{◌∙◌, ℕ, sub-zero, refl, tests, rules}
+use Rattle.std.proofs.lemmas.Iterator.{YieldsList-from_range}
+use Rattle.std.proofs.lemmas.Iterator.Search.{all_from_yields_List}
 use Rattle.store_table.specs.Layout.{table_of}
-use Rattle.packet_lookup.specs.Sought.{all_statuses}
+use Rattle.table_item.proofs.Own.{all_each}
+use Rattle.packet_lookup.specs.Sought.{is_sought, status_sought, entry_at}
 use Rattle.packet_lookup.proofs.all_statuses.Goals as goal
-
-pub loop-i-init : goal.loop-i-init
-loop-i-init c = (search rules, (search rules, refl))
-
-pub loop-i-preserved : goal.loop-i-preserved
-loop-i-preserved c =
-    let l = c.loop-i in
-    (search rules, (search rules, rw (add-one, ← l.invariant.1.1, ← c.entry_in.ensures, ← c.is_status.ensures) c.and-ok.ensures))
 
 pub returns : goal.returns
 returns c =
-    let l = c.loop-i in
-    let e : l.i ≡ c.args.count = search rules in
-    l.invariant.1.1 ∙ ap (all_statuses (table_of c.args.t.now) c.args.component c.args.entries) e
+    let test = λ (i : ℕ). is_sought (status_sought (table_of c.args.t.now) c.args.component (entry_at c.args.entries i)) in
+    all_from_yields_List test _ _ _ c.all.ensures.ran (YieldsList-from_range 0 c.args.count c.args.count refl (sub-zero _)) (λ x b q k. search (rules, tests)) ∙ all_each test c.args.count

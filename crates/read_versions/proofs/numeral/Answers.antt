@@ -1,4 +1,3 @@
-use Rattle.basis.proofs.Std.{rules}
 use Rattle.read_versions.proofs.Numerals.{numeral_once}
 use Rattle.read_versions.proofs.numeral.Goals as goal
 

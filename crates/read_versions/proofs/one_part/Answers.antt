@@ -1,4 +1,3 @@
-use Rattle.basis.proofs.Std.{rules}
 use Rattle.read_versions.proofs.Dots.{one_more, one_end}
 use Rattle.read_versions.proofs.one_part.Goals as goal
 

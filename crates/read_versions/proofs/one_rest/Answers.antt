@@ -1,4 +1,3 @@
-use Rattle.basis.proofs.Std.{rules}
 use Rattle.read_versions.proofs.Dots.{rest_none, after_dot}
 use Rattle.read_versions.specs.Version.{one_part}
 use Rattle.read_versions.proofs.one_rest.Goals as goal

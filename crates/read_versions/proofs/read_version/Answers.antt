@@ -1,4 +1,4 @@
-use Rattle.basis.proofs.Std.{rules, arith, sym, ◌∙◌}
+use Rattle.basis.proofs.Std.{arith, sym, ◌∙◌}
 use Rattle.read_versions.specs.Version.{behind, two_parts, version_of}
 use Rattle.read_versions.proofs.Parts.{both_there, rest_bad, first_bad, first_most, two_rest_most}
 use Rattle.read_versions.proofs.read_version.Goals as goal

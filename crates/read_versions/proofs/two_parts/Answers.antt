@@ -1,4 +1,4 @@
-use Rattle.basis.proofs.Std.{rules, arith, sym, ◌∙◌}
+use Rattle.basis.proofs.Std.{arith, sym, ◌∙◌}
 use Rattle.read_versions.specs.Version.{behind, one_part, two_parts}
 use Rattle.read_versions.proofs.Parts.{both_there, rest_bad, first_bad, first_most, one_rest_most}
 use Rattle.read_versions.proofs.two_parts.Goals as goal

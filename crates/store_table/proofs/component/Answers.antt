@@ -10,7 +10,7 @@ unfolding table_of
 returns-then-k-lt8 c =
     c.label_at.ensures ∙ label_at c.args.t.now 74 c.args.k (search rules)
 
-pub returns : goal.returns
+pub returns-else-k-lt8 : goal.returns-else-k-lt8
 unfolding table_of
-returns c =
+returns-else-k-lt8 c =
     c.none.ensures ∙ label_behind c.args.t.now 74 c.args.k (search rules)

@@ -11,4 +11,4 @@ slice_bounds-find_label-end c =
 pub returns : goal.returns
 returns c =
     let k = text_part c.args.l (search rules) _ c.size-n.ensures in
-    c.find_label.ensures ∙ ap (find_label c.args.labels c.args.count) k
+    c.find_label.ensures ∙ ap (find_label c.args.labels.now c.args.count) k

@@ -1,17 +1,9 @@
-use Rattle.basis.proofs.Std.{◌≤◌, ◌-◌, ◌≡◌, refl, ap, ◌∙◌, add-one, rules}
-use Rattle.table_item.specs.Find.{each, own_label}
+use Rattle.basis.proofs.Std.{◌∙◌, sub-zero, refl, tests, rules}
+use Rattle.std.proofs.lemmas.Iterator.{YieldsList-from_range}
+use Rattle.std.proofs.lemmas.Iterator.Search.{all_from_yields_List}
+use Rattle.table_item.specs.Find.{own_label}
+use Rattle.table_item.proofs.Own.{all_each}
 use Rattle.table_item.proofs.own_labels.Goals as goal
 
-pub loop-i-init : goal.loop-i-init
-loop-i-init c = (search rules, refl)
-
-pub loop-i-preserved : goal.loop-i-preserved
-loop-i-preserved c =
-    let l = c.loop-i in
-    (search rules, rw (add-one, ← l.invariant.1, ← c.own_label.ensures) c.and-ok.ensures)
-
 pub returns : goal.returns
-returns c =
-    let l = c.loop-i in
-    let e : l.i ≡ c.args.count = search rules in
-    l.invariant.1 ∙ ap (each _) e
+returns c = all_from_yields_List (own_label c.args.labels.now c.args.count) _ _ _ c.all.ensures.ran (YieldsList-from_range 0 c.args.count c.args.count refl (sub-zero _)) (λ x b q k. search (rules, tests)) ∙ all_each (own_label c.args.labels.now c.args.count) c.args.count

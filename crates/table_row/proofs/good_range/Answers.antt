@@ -1,4 +1,4 @@
-use Rattle.basis.proofs.Std.{ap, ◌∙◌, mod-lt, ℤ, rules}
+use Rattle.basis.proofs.Std.{ap, ◌∙◌, mod-lt, ℤ}
 use lib.Pow.{pow_pos}
 use mir.Syntax.{w32}
 use mir.Val.{to_z, of_z}

@@ -1,4 +1,4 @@
-use Rattle.basis.proofs.Std.{sym, subst, rules}
+use Rattle.basis.proofs.Std.{sym, subst}
 use Rattle.table_whole.specs.Reads.{Reads}
 use Rattle.table_whole.proofs.Whole.{reads_table}
 use Rattle.table_whole.proofs.read.Goals as goal

@@ -1,28 +1,20 @@
--- what a read past the end gives
-use Rattle.basis.proofs.Std.{◌≤◌, ◌<◌, ◌≡◌, [], arith, length, set_out, rules}
-use Rattle.awaited.proofs.Back.{change_set}
+use Rattle.basis.proofs.Std.{◌≡◌, sym, ◌∙◌, set_out}
+use Rattle.awaited.specs.declared.Found.TheVariants.{For}
+use Rattle.awaited.proofs.Back.{change_set, position_here, position_none}
 use Rattle.awaited.proofs.Search.{find_at, find_none}
-use Rattle.awaited.specs.declared.Slot.{Slot}
-use Rattle.awaited.specs.Lists.{first_of}
-use Rattle.awaited.specs.Awaited.{find_of, remove_of}
+use Rattle.awaited.specs.Awaited.{find_in, find_of, remove_of}
 use Rattle.awaited.specs.Slot.{awaits_for}
 use Rattle.awaited.proofs.Awaited.take.Goals as goal
 
-abbrev blank : Slot
-blank = record { time = 0; sequence = 0; purpose = 0; id = record { bytes = [] } }
-
-pub returns-then-at-lt16 : goal.returns-then-at-lt16
+pub returns-in-Some : goal.returns-in-Some
 unfolding find_of remove_of
-returns-then-at-lt16 c =
-    let l = c.args.self.slots in
-    let h : length l ≡ 16 = c.place_of-at.ensures.sixteen in
-    let inside : first_of (awaits_for c.args.id) l < length l = omega (arith, c.place_of-at.ensures.first, c.if-at-lt16.true) in
-    rw (change_set (awaits_for _) _ _, find_at c.args.id l blank inside, c.free_slot.ensures, c.sent_for.ensures, c.place_of-at.ensures.first)
+returns-in-Some c =
+    let e = sym c.place_of.ensures ∙ c.in-Some.is in
+    let found : For c.sent_for.result ≡ find_in c.args.id c.args.self.slots = rw c.sent_for.ensures (sym (find_at c.args.id _ _ _ e)) in
+    rw (change_set (awaits_for _) _ _, ← found, c.free_slot.ensures, (position_here (awaits_for c.args.id) _ _ e).0)
 
-pub returns-else-at-lt16 : goal.returns-else-at-lt16
+pub returns-in_default : goal.returns-in_default
 unfolding find_of remove_of
-returns-else-at-lt16 c =
-    let l = c.args.self.slots in
-    let h : length l ≡ 16 = c.place_of-at.ensures.sixteen in
-    let out : length l ≤ first_of (awaits_for c.args.id) l = omega (arith, c.place_of-at.ensures.first, c.if-at-lt16.false) in
-    rw (change_set (awaits_for _) _ _, set_out l _ _ out, find_none c.args.id l out)
+returns-in_default c =
+    let h = position_none (awaits_for c.args.id) c.args.self.slots (sym c.place_of.ensures ∙ c.in_default.is) in
+    rw (change_set (awaits_for _) _ _, set_out _ _ _ h, find_none c.args.id _ h)

@@ -8,6 +8,6 @@ pub returns-then-k-n : goal.returns-then-k-n
 returns-then-k-n c =
     rw (← (item_at_lem c.args.t.now c.args.i c.args.k c.args.n (search rules))) c.item_is.ensures
 
-pub returns : goal.returns
-returns c =
+pub returns-else-k-n : goal.returns-else-k-n
+returns-else-k-n c =
     rw (← (item_behind c.args.t.now c.args.i c.args.k c.args.n (search rules)), ← c.none.ensures) c.is.ensures

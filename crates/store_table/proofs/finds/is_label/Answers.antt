@@ -10,6 +10,6 @@ pub returns-then-k-lt8 : goal.returns-then-k-lt8
 returns-then-k-lt8 c =
     rw (← (label_at c.args.t.now c.args.i c.args.k (search rules))) c.label_is.ensures
 
-pub returns : goal.returns
-returns c =
+pub returns-else-k-lt8 : goal.returns-else-k-lt8
+returns-else-k-lt8 c =
     c.is.ensures ∙ ap (λ (l : Label). same_bytes (text_of l) c.args.text.now) (c.none.ensures ∙ label_behind c.args.t.now c.args.i c.args.k (search rules))

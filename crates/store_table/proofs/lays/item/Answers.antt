@@ -1,6 +1,6 @@
 -- `store_table::lays::item` meets its contract.
 -- Assumes nothing.
-use Rattle.basis.proofs.Std.{refl, arith, rules}
+use Rattle.basis.proofs.Std.{refl, arith}
 use Rattle.store_table.specs.Layout.{item_bytes}
 use Rattle.store_table.proofs.LayLaws.{then}
 use Rattle.store_table.proofs.lays.item.Goals as goal

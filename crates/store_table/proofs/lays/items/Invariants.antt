@@ -1,14 +1,8 @@
--- `store_table::lays::items` meets its contract.
--- Assumes nothing.
-use Rattle.basis.proofs.Std.{◌≤◌, ◌-◌, ◌+◌, ◌*◌, ◌≡◌, refl, arith, rules, length, take}
+use Rattle.basis.proofs.Std.{◌*◌, take}
 use Rattle.table_whole.specs.Bytes.{in_turn}
 use Rattle.store_table.specs.Layout.{item_bytes}
 use Rattle.store_table.specs.Laid.{Laid}
-use Rattle.store_table.proofs.LayLaws.{none, then, said, in_turn_next, all_laid}
 use Rattle.store_table.proofs.lays.items.Given as goal
 
 abbrev pub invariant-loop-k : goal.invariant-loop-k
-invariant-loop-k l = (l.k ≤ 32) × ((length l.t ≡ length l.initial.t) × ((l.at + 2336 ≤ length l.initial.t) × Laid l.initial.t l.at (73 * l.k) (in_turn item_bytes (take l.k l.rows)) l.t))
-
-abbrev pub decreases-loop-k : goal.decreases-loop-k
-decreases-loop-k l = 32 - l.k
+invariant-loop-k l = Laid l.initial.t l.at (73 * l.k) (in_turn item_bytes (take l.k l.rows)) l.t

@@ -1,7 +1,6 @@
 -- `store_table::rows::item_at` meets its contract.
 -- Assumes nothing.
 use Rattle.store_table.proofs.RowLaws.{item_get}
-use Rattle.basis.proofs.Std.{rules}
 use Rattle.store_table.proofs.rows.item_at.Goals as goal
 
 pub returns : goal.returns

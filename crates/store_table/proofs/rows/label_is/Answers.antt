@@ -6,7 +6,7 @@ use Rattle.store_table.proofs.rows.label_is.Goals as goal
 
 pub returns : goal.returns
 returns c =
-    let n = c.at_most_32 in
-    let k = text_is c.args.t.now c.args.i n.result (search rules) n.ensures in
+    let n = c.min in
+    let k = text_is c.args.t.now c.args.i n.result (search rules) (search rules) in
     let e = c.same.ensures in
     rw (← k) (same_is _ _ c.same.result e.0 e.1)

@@ -1,8 +1,0 @@
--- `packet_lookup::status` meets its contract.
--- Assumes nothing.
-use Rattle.basis.proofs.Std.{ap, ◌∙◌}
-use Rattle.packet_lookup.specs.Sought.{numbered}
-use Rattle.packet_lookup.proofs.status.Goals as goal
-
-pub returns : goal.returns
-returns c = c.number.ensures ∙ ap numbered c.called.ensures
