@@ -10,22 +10,6 @@ module _ (a b c d : ℕ) where
   unfolding hex4_of
   digits x y z w = simp (lt-ltb _ _ x, lt-ltb _ _ y, lt-ltb _ _ z, lt-ltb _ _ w)
 
-  pub no_digit_1 : 16 ≤ hex_of a → hex4_of a b c d ≡ 0x10000
-  unfolding hex4_of
-  no_digit_1 x = simp (le-ltb _ _ x)
-
-  pub no_digit_2 : hex_of a < 16 → 16 ≤ hex_of b → hex4_of a b c d ≡ 0x10000
-  unfolding hex4_of
-  no_digit_2 x y = simp (lt-ltb _ _ x, le-ltb _ _ y)
-
-  pub no_digit_3 : hex_of a < 16 → hex_of b < 16 → 16 ≤ hex_of c → hex4_of a b c d ≡ 0x10000
-  unfolding hex4_of
-  no_digit_3 x y z = simp (lt-ltb _ _ x, lt-ltb _ _ y, le-ltb _ _ z)
-
-  pub no_digit_4 : hex_of a < 16 → hex_of b < 16 → hex_of c < 16 → 16 ≤ hex_of d → hex4_of a b c d ≡ 0x10000
-  unfolding hex4_of
-  no_digit_4 x y z w = simp (lt-ltb _ _ x, lt-ltb _ _ y, lt-ltb _ _ z, le-ltb _ _ w)
-
 module _ (s : List ℕ) (at : ℕ) where
   first : get_or (drop at s) 0 0 ≡ get_or s at 0
   first = get_or-drop at s 0 0 ∙ ap (λ (k : ℕ). get_or s k 0) (add-zero at)
@@ -65,3 +49,6 @@ unfolding raw_of
 at_plain s at p =
     let h = plain_raw (get_or s at 0) p in
     at_raw s at h.2 h.3 ∙ rw (le-ltb _ _ h.0, lt-ltb _ _ h.1)
+
+-- what `any` comes to, by the byte at its place
+pub ruleset at_place = (at_end, at_close, at_unicode, at_escape, at_raw)

@@ -16,36 +16,24 @@ pub enum Char {
 fn byte(s: &[u8], at: usize) -> u8
     ensures { result ≡ get_or s.now at 0 }
 {
-    if at < s.len() { s[at] } else { 0 }
+    s.get(at).copied().unwrap_or(0)
 }
 
 // The value of a hexadecimal digit, or 16.
+#[tactic(auto, unfolding(crate::specs::Char::hex_of))]
 fn hex(b: u8) -> u32
     ensures { result ≡ hex_of b }
 {
-    let x = b as u32;
-    if x < 0x30 {
-        return 16;
+    match b {
+        b'0'..=b'9' => (b - b'0') as u32,
+        b'A'..=b'F' => (b - b'A') as u32 + 10,
+        b'a'..=b'f' => (b - b'a') as u32 + 10,
+        _ => 16,
     }
-    if x < 0x3a {
-        return x - 0x30;
-    }
-    if x < 0x41 {
-        return 16;
-    }
-    if x < 0x47 {
-        return x - 0x37;
-    }
-    if x < 0x61 {
-        return 16;
-    }
-    if x < 0x67 {
-        return x - 0x57;
-    }
-    16
 }
 
 // The number that four hexadecimal digits stand for, or 0x10000.
+#[tactic(auto, unfolding(crate::specs::Char::hex4_of))]
 fn hex4(a: u8, b: u8, c: u8, d: u8) -> u32
     ensures { result ≡ hex4_of a b c d }
 {
@@ -53,140 +41,82 @@ fn hex4(a: u8, b: u8, c: u8, d: u8) -> u32
     let x = hex(b);
     let y = hex(c);
     let z = hex(d);
-    if w < 16 {
-        if x < 16 {
-            if y < 16 {
-                if z < 16 {
-                    return w * 4096 + x * 256 + y * 16 + z;
-                }
-            }
-        }
+    if w < 16 && x < 16 && y < 16 && z < 16 {
+        w * 4096 + x * 256 + y * 16 + z
+    } else {
+        0x10000
     }
-    0x10000
 }
 
 // A \u escape of the number h, before the bytes m and u and the number l.
+#[tactic(auto, unfolding(crate::specs::Char::unicode_of))]
 fn unicode(h: u32, m: u8, u: u8, l: u32) -> Char
     ensures { result ≡ unicode_of h m u l }
 {
-    if h < 0xd800 {
-        return Char::One(h, 5);
-    }
-    if h < 0xdc00 {
-        if m == b'\\' {
-            if u == b'u' {
-                if 0xdc00 <= l {
-                    if l < 0xe000 {
-                        return Char::One(0x10000 + (h - 0xd800) * 1024 + (l - 0xdc00), 11);
-                    }
-                }
-            }
+    match h {
+        0xd800..=0xdbff if m == b'\\' && u == b'u' && matches!(l, 0xdc00..=0xdfff) => {
+            Char::One(0x10000 + (h - 0xd800) * 1024 + (l - 0xdc00), 11)
         }
-        return Char::Bad;
+        0xd800..=0xdfff | 0x10000.. => Char::Bad,
+        _ => Char::One(h, 5),
     }
-    if h < 0xe000 {
-        return Char::Bad;
-    }
-    if h < 0x10000 {
-        return Char::One(h, 5);
-    }
-    Char::Bad
 }
 
 // A character of two bytes, the first of them 0xc2 to 0xdf.
+#[tactic(auto, unfolding(crate::specs::Char::two_of))]
 fn two(x: u32, y: u32) -> Char
     requires { (0xc2 ≤ x) × (x < 0xe0) }
     ensures { result ≡ two_of x y }
 {
-    if 0x80 <= y {
-        if y < 0xc0 {
-            return Char::One((x - 0xc0) * 64 + (y - 0x80), 1);
-        }
+    if matches!(y, 0x80..=0xbf) {
+        Char::One((x - 0xc0) * 64 + (y - 0x80), 1)
+    } else {
+        Char::Bad
     }
-    Char::Bad
 }
 
 // A character of three bytes, the first of them 0xe0 to 0xef: no overlong form, no surrogate.
+#[tactic(auto, unfolding(crate::specs::Char::three_of, crate::specs::Char::in_three))]
 fn three(x: u32, y: u32, z: u32) -> Char
     requires { (0xe0 ≤ x) × (x < 0xf0) }
     ensures { result ≡ three_of x y z }
 {
-    if 0x80 <= y {
-        if y < 0xc0 {
-            if 0x80 <= z {
-                if z < 0xc0 {
-                    let n = (x - 0xe0) * 4096 + (y - 0x80) * 64 + (z - 0x80);
-                    if n < 0x800 {
-                        return Char::Bad;
-                    }
-                    if n < 0xd800 {
-                        return Char::One(n, 2);
-                    }
-                    if n < 0xe000 {
-                        return Char::Bad;
-                    }
-                    return Char::One(n, 2);
-                }
-            }
-        }
+    if !matches!((y, z), (0x80..=0xbf, 0x80..=0xbf)) {
+        return Char::Bad;
     }
-    Char::Bad
+    match (x - 0xe0) * 4096 + (y - 0x80) * 64 + (z - 0x80) {
+        ..0x800 | 0xd800..=0xdfff => Char::Bad,
+        n => Char::One(n, 2),
+    }
 }
 
 // A character of four bytes, the first of them 0xf0 to 0xf4: no overlong form, nothing above U+10FFFF.
+#[tactic(auto, unfolding(crate::specs::Char::four_of, crate::specs::Char::in_four))]
 fn four(x: u32, y: u32, z: u32, w: u32) -> Char
     requires { (0xf0 ≤ x) × (x < 0xf5) }
     ensures { result ≡ four_of x y z w }
 {
-    if 0x80 <= y {
-        if y < 0xc0 {
-            if 0x80 <= z {
-                if z < 0xc0 {
-                    if 0x80 <= w {
-                        if w < 0xc0 {
-                            let n = (x - 0xf0) * 262144
-                                + (y - 0x80) * 4096
-                                + (z - 0x80) * 64
-                                + (w - 0x80);
-                            if n < 0x10000 {
-                                return Char::Bad;
-                            }
-                            if n < 0x110000 {
-                                return Char::One(n, 3);
-                            }
-                        }
-                    }
-                }
-            }
-        }
+    if !matches!((y, z, w), (0x80..=0xbf, 0x80..=0xbf, 0x80..=0xbf)) {
+        return Char::Bad;
     }
-    Char::Bad
+    match (x - 0xf0) * 262144 + (y - 0x80) * 4096 + (z - 0x80) * 64 + (w - 0x80) {
+        n @ 0x10000..=0x10ffff => Char::One(n, 3),
+        _ => Char::Bad,
+    }
 }
 
 // A character that is no escape, of one to four bytes.
+#[tactic(auto, unfolding(crate::specs::Char::raw_of))]
 fn raw(a: u8, b: u8, c: u8, d: u8) -> Char
     ensures { result ≡ raw_of a b c d }
 {
-    let x = a as u32;
-    if x < 0x20 {
-        return Char::Bad;
+    match a {
+        0x20..=0x7f => Char::One(a as u32, 0),
+        0xc2..=0xdf => two(a as u32, b as u32),
+        0xe0..=0xef => three(a as u32, b as u32, c as u32),
+        0xf0..=0xf4 => four(a as u32, b as u32, c as u32, d as u32),
+        _ => Char::Bad,
     }
-    if x < 0x80 {
-        return Char::One(x, 0);
-    }
-    if x < 0xc2 {
-        return Char::Bad;
-    }
-    if x < 0xe0 {
-        return two(x, b as u32);
-    }
-    if x < 0xf0 {
-        return three(x, b as u32, c as u32);
-    }
-    if x < 0xf5 {
-        return four(x, b as u32, c as u32, d as u32);
-    }
-    Char::Bad
 }
 
 // The number that the four bytes from a place on stand for.
@@ -203,6 +133,7 @@ fn hex4_at(s: &[u8], at: usize) -> u32
 }
 
 // The character that a backslash and the byte e stand for.
+#[tactic(auto, unfolding(crate::specs::Char::escape_of))]
 fn escape(e: u8) -> Char
     ensures { result ≡ escape_of e }
 {
@@ -243,55 +174,39 @@ fn raw_at(s: &[u8], at: usize) -> Char
 }
 
 // The character or the closing quotation mark at a place.
+#[tactic(auto, using(crate::proofs::Laws::at_place))]
 pub fn any(s: &[u8], at: usize) -> Char
     ensures { result ≡ char_of (drop at s.now) }
 {
     if s.len() <= at {
         return Char::Bad;
     }
-    let b = byte(s, at);
-    if b == b'"' {
-        return Char::Close;
+    match s[at] {
+        b'"' => Char::Close,
+        b'\\' => match byte(s, at + 1) {
+            b'u' => unicode_at(s, at),
+            e => escape(e),
+        },
+        _ => raw_at(s, at),
     }
-    if b == b'\\' {
-        let e = byte(s, at + 1);
-        if e == b'u' {
-            return unicode_at(s, at);
-        }
-        return escape(e);
-    }
-    raw_at(s, at)
 }
 
 // Whether a byte is a character by itself: of ASCII, and no control character, no quotation mark and no backslash.
+#[tactic(auto, unfolding(crate::specs::Char::is_plain))]
 pub fn is_plain(b: u8) -> bool
     ensures { result ≡ is_plain b }
 {
-    if b < 0x20 {
-        return false;
-    }
-    if 0x80 <= b {
-        return false;
-    }
-    if b == b'"' {
-        return false;
-    }
-    if b == b'\\' {
-        return false;
-    }
-    true
+    matches!(b, 0x20..=0x7f) && b != b'"' && b != b'\\'
 }
 
 // The same as `any`, quickly where the byte is plain, as nearly all are.
+#[tactic(auto, using(crate::proofs::Laws::at_plain, crate::proofs::Laws::at_close))]
 pub fn step(s: &[u8], at: usize) -> Char
     ensures { result ≡ char_of (drop at s.now) }
 {
-    let b = byte(s, at);
-    if is_plain(b) {
-        return Char::One(b as u32, 0);
+    match byte(s, at) {
+        b if is_plain(b) => Char::One(b as u32, 0),
+        b'"' => Char::Close,
+        _ => any(s, at),
     }
-    if b == b'"' {
-        return Char::Close;
-    }
-    any(s, at)
 }

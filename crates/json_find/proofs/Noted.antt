@@ -2,7 +2,6 @@
 -- Assumes nothing.
 use Rattle.basis.proofs.Std.{ℕ, ◌+◌, ◌<◌, ◌≤◌, ◌≡◌, ap, true, false, List, length, get_or, drop, arith}
 use Rattle.json_text.specs.declared.Read.{Read}
-use Rattle.json_text.specs.declared.Read.TheVariants as Read
 use Rattle.json_text.specs.Ends.{Ends}
 use Rattle.json_text.specs.Ends.Ends.{fails}
 use Rattle.json_value.specs.Reader.{skip_ws, read_start}
@@ -30,3 +29,7 @@ module _ (s name : List ℕ) where
 
   pub noted : (places : List ℕ) → Indexed s places → ¬ (length places ≡ 0) → (r : Read) → Ends s 0 (first_named name (texts_at s places)) r → Ends s 0 (member_at name (skip_ws s)) r
   noted places x h r y = rw (← x.finds (λ e. h (ap length e)) name) y
+
+pub ruleset among_steps = (among_here, among_next, among_none)
+
+pub ruleset noted_steps = (unnoted, noted)

@@ -4,11 +4,9 @@ use Rattle.basis.proofs.Std.{ℕ, zero, suc, ◌<◌, ◌≤◌, ◌≡◌, refl
 use Rattle.json_text.specs.Decoded.{Parsed}
 use Rattle.json_text.specs.Decoded.Parsed.{ok, none}
 use Rattle.json_text.specs.declared.Read.{Read}
-use Rattle.json_text.specs.declared.Read.TheVariants as Read
 use Rattle.json_text.specs.Ends.{Ends}
 use Rattle.json_text.specs.Ends.Ends.{ends, fails}
 use Rattle.json_value.specs.declared.Mark.{Mark}
-use Rattle.json_value.specs.declared.Mark.TheVariants as Mark
 use Rattle.json_value.specs.Grammar.{Json}
 use Rattle.json_value.specs.Reader.{skip_ws, read_name, read_start, read_mark, Named, after_start, read_entry, after_entry, read_items, whole, whole_of, opened, read_inside, read_value, inside_of}
 use Rattle.json_value.specs.Answers.{Marks, last_of}
@@ -19,7 +17,6 @@ use Rattle.json_value.proofs.Deeper as Deeper
 use Rattle.json_value.proofs.Kept as Values
 use Rattle.json_find.specs.declared.FourFound.{FourFound}
 use Rattle.json_find.specs.declared.Turn.{Turn}
-use Rattle.json_find.specs.declared.Turn.TheVariants as Turn
 use Rattle.json_find.specs.Kinds.{string_at}
 use Rattle.json_find.specs.Entries.{next_entry, entries, unless_closed, inside_at, first_named, member_at}
 use Rattle.json_find.specs.Four.{or_else, here, with_entry, nothing, next_by, Follows, TurnAt, FindsFour}
@@ -186,3 +183,9 @@ next_after (next v e x m) = comma_after (m 6 (omega arith))
 
 pub next_in : {s : List ℕ} {i v e : ℕ} → TurnAt s i (Turn.Next v e) → e ≤ length s
 next_in (next v e x m) = comma_in (m 6 (omega arith))
+
+pub ruleset after_steps = (after_none, after_end)
+
+pub ruleset turn_steps = (turn_unstarted, turn_unread, turn_last, turn_next, turn_neither)
+
+pub ruleset walk_steps = (next_after, next_in)

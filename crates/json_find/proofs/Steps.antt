@@ -1,9 +1,8 @@
 -- Strings at a place, one turn of the loop over entries, and what the lookup makes of the first entry's place.
 -- Assumes nothing.
-use Rattle.basis.proofs.Std.{ℕ, ◌+◌, ◌<◌, ◌≤◌, ◌≡◌, ap, ◌∙◌, true, false, List, [], length, get_or, drop, ne_eqb}
+use Rattle.basis.proofs.Std.{ℕ, ◌+◌, ◌<◌, ◌≡◌, ap, ◌∙◌, true, false, List, [], length, get_or, drop, ne_eqb, ⊎_elim, lt_or_ge}
 use Rattle.json_text.specs.Decoded.{decoded, is_text}
 use Rattle.json_text.specs.declared.Read.{Read}
-use Rattle.json_text.specs.declared.Read.TheVariants as Read
 use Rattle.json_text.specs.Ends.{Ends}
 use Rattle.json_text.specs.Ends.Ends.{fails}
 use Rattle.json_value.specs.Reader.{read_start}
@@ -13,22 +12,20 @@ use Rattle.json_text.proofs.Endings.{failed}
 use Rattle.json_value.proofs.Places.{from, ended}
 use Rattle.json_find.specs.Kinds.{string_at}
 use Rattle.json_find.specs.Entries.{next_entry, entries, inside_at, entries_of, entries_at, first_named, member_at}
-use Rattle.json_find.proofs.Walks.{unroll, ends_here, goes_on_lem}
+use Rattle.json_find.proofs.Walks.{unroll, ends_here, goes_on_lem, step_on, step_in}
 
 -- strings
 
 module _ (s : List ℕ) (i : ℕ) where
-  pub string_past : (fixed : List ℕ) → length s ≤ i → false ≡ string_at fixed (drop i s)
+  pub string_other : (fixed : List ℕ) → ¬ (get_or s i 0 ≡ 0x22) → false ≡ string_at fixed (drop i s)
   unfolding string_at
-  string_past fixed h = rw (past s i h)
-
-  pub string_other : (fixed : List ℕ) → i < length s → ¬ (get_or s i 0 ≡ 0x22) → false ≡ string_at fixed (drop i s)
-  unfolding string_at
-  string_other fixed h e = rw (next s i h, ne_eqb _ _ e)
+  string_other fixed e = ⊎_elim (λ h. rw (next s i h, ne_eqb _ _ e)) (λ h. rw (past s i h)) (lt_or_ge i (length s))
 
   pub string_here : (fixed : List ℕ) → i < length s → get_or s i 0 ≡ 0x22 → is_text (decoded (drop (i + 1) s)) fixed ≡ string_at fixed (drop i s)
   unfolding string_at
   string_here fixed h e = rw (next s i h, e)
+
+pub ruleset string_steps = (string_other, string_here)
 
 -- a name among entries
 
@@ -44,6 +41,8 @@ module _ (s name : List ℕ) (i k : ℕ) (ws : Skipped s i k) where
       let z : first_named name (entries 0x7d (drop i s)) ≡ first_named name (entries 0x7d (drop e s)) =
       ap (first_named name) (goes_on_lem s i 0x7d e x) ∙ rw (ws.rest, ← q) in
       rw z (from (ended x).on y)
+
+pub ruleset seek_steps = (seek_here, seek_none, seek_next, step_on, step_in)
 
 module _ (s : List ℕ) (i first close : ℕ) where
   no_entries : Ends s i (inside_at first close (drop i s)) Read.Bad → entries_at first close (drop i s) ≡ []
@@ -62,3 +61,5 @@ module _ (s : List ℕ) (i : ℕ) where
   pub member_some : (name : List ℕ) (e : ℕ) → Ends s i (inside_at 0x7b 0x7d (drop i s)) (Read.End e) → (r : Read) → Ends s e (first_named name (entries 0x7d (drop e s))) r → Ends s i (member_at name (drop i s)) r
   unfolding member_at
   member_some name e x r y = rw (some_entries s i 0x7b 0x7d e x) (from (ended x).on y)
+
+pub ruleset member_steps = (member_none, member_some)

@@ -4,11 +4,9 @@ use Rattle.basis.proofs.Std.{ℕ, zero, suc, ◌+◌, ◌<◌, ◌≤◌, ◌≡
 use Rattle.json_text.specs.Decoded.{Parsed}
 use Rattle.json_text.specs.Decoded.Parsed.{ok, none}
 use Rattle.json_text.specs.declared.Read.{Read}
-use Rattle.json_text.specs.declared.Read.TheVariants as Read
 use Rattle.json_text.specs.Ends.{Ends}
 use Rattle.json_text.specs.Ends.Ends.{ends, fails}
 use Rattle.json_value.specs.declared.Mark.{Mark}
-use Rattle.json_value.specs.declared.Mark.TheVariants as Mark
 use Rattle.json_value.specs.Grammar.{Json, Value}
 use Rattle.json_value.specs.Reader.{skip_ws, read_name, unnamed, read_start, read_mark, Named, named, Entry, marked, after_value, after_start, read_entry, read_value}
 use Rattle.json_value.specs.Answers.{Skipped, Marks, last_of}
@@ -114,6 +112,8 @@ module _ (s : List ℕ) (i first close : ℕ) where
       pub inside_here : k < length s → ¬ (get_or s k 0 ≡ close) → Ends s i (inside_at first close (drop i s)) (Read.End (i + 1))
       inside_here g e = rw (opens ∙ ap (unless_closed close (drop (i + 1) s)) (next s k g), ne_eqb _ _ e) (ends (i + 1) (omega arith) (omega arith))
 
+pub ruleset inside_steps = (inside_past, inside_other, inside_short, inside_closed, inside_here)
+
 -- the next entry
 
 next_of : (p : Parsed Entry) (r : List ℕ) → last_of p ≡ ok false r → (x : Named) × (goes_on p ≡ ok x r)
@@ -171,3 +171,5 @@ module _ (s : List ℕ) (i close : ℕ) where
 
   pub step_in : (e : ℕ) → Ends s i (next_entry close (drop i s)) (Read.End e) → e ≤ length s
   step_in e x = (ended x).inside
+
+pub ruleset step_steps = (step_comma, step_close, step_neither)

@@ -32,66 +32,55 @@ pub enum Turn {
 }
 
 // Whether the value at a place is a string that is `fixed` after decoding.
+#[tactic(auto, using(crate::proofs::Steps::string_steps))]
 fn is_string(s: &[u8], at: usize, fixed: &[u8]) -> bool
     ensures { result ≡ string_at fixed.now (drop at s.now) }
 {
-    if s.len() <= at {
-        return false;
-    }
-    if s[at] != b'"' {
-        return false;
-    }
-    json_text::is_name(s, at + 1, fixed)
+    s.get(at) == Some(&b'"') && json_text::is_name(s, at + 1, fixed)
 }
 
 // The place of the first entry of what begins with `first`, unless `close` follows.
+#[tactic(auto, using(crate::proofs::Walks::inside_steps))]
 pub fn inside(s: &[u8], at: usize, first: u8, close: u8) -> Read
     ensures { Ends s.now at (inside_at first close (drop at s.now)) result }
 {
-    if s.len() <= at {
-        return Read::Bad;
-    }
-    if s[at] != first {
+    if s.len() <= at || s[at] != first {
         return Read::Bad;
     }
     let k = json_value::space(s, at + 1);
-    if s.len() <= k {
-        return Read::Bad;
-    }
-    if s[k] == close {
+    if s.len() <= k || s[k] == close {
         return Read::Bad;
     }
     Read::End(at + 1)
 }
 
 // The place of the entry after the one at a place. The entries of a value of eight levels have seven.
+#[tactic(auto, using(crate::proofs::Walks::step_steps))]
 pub fn step(s: &[u8], at: usize, close: u8) -> Read
     ensures { Ends s.now at (next_entry close (drop at s.now)) result }
 {
-    let m = json_value::entry(s, at, 7, close);
-    match m {
+    match json_value::entry(s, at, 7, close) {
         Mark::Comma(n) => Read::End(n),
-        Mark::Close(_) => Read::Bad,
-        Mark::Neither => Read::Bad,
+        Mark::Close(_) | Mark::Neither => Read::Bad,
     }
 }
 
 // The same where the end of the entry's value is known.
+#[tactic(auto, using(crate::proofs::Once::after_steps))]
 pub fn step_from(s: &[u8], end: Read, close: u8) -> Read
     ensures { Follows s.now close end result }
 {
     let Read::End(e) = end else {
         return Read::Bad;
     };
-    let m = json_value::after(s, e, close);
-    match m {
+    match json_value::after(s, e, close) {
         Mark::Comma(n) => Read::End(n),
-        Mark::Close(_) => Read::Bad,
-        Mark::Neither => Read::Bad,
+        Mark::Close(_) | Mark::Neither => Read::Bad,
     }
 }
 
 // The value's place of the first entry from the one at a place on that has a name.
+#[tactic(auto, using(crate::proofs::Steps::seek_steps))]
 fn seek(s: &[u8], at: usize, name: &[u8]) -> Read
     ensures { Ends s.now at (first_named name.now (entries 0x7d (drop at s.now))) result }
 {
@@ -100,46 +89,44 @@ fn seek(s: &[u8], at: usize, name: &[u8]) -> Read
         if is_string(s, json_value::space(s, i), name) {
             return json_value::start(s, i, b'}');
         }
-        let m = step(s, i, b'}');
-        match m {
-            Read::Bad => return Read::Bad,
-            Read::End(e) => i = e,
-        }
+        let Read::End(e) = step(s, i, b'}') else {
+            return Read::Bad;
+        };
+        i = e;
     }
 }
 
 // The place of the value of the member with a name, of the object at a place.
+#[tactic(auto, using(crate::proofs::Steps::member_steps))]
 pub fn member(s: &[u8], at: usize, name: &[u8]) -> Read
     ensures { Ends s.now at (member_at name.now (drop at s.now)) result }
 {
-    let p = inside(s, at, b'{', b'}');
-    match p {
-        Read::Bad => Read::Bad,
-        Read::End(i) => seek(s, i, name),
-    }
+    let Read::End(i) = inside(s, at, b'{', b'}') else {
+        return Read::Bad;
+    };
+    seek(s, i, name)
 }
 
 // The value's place of the first of the entries at noted places that has a name.
+#[tactic(auto, using(crate::proofs::Noted::among_steps))]
 fn among(s: &[u8], places: &[usize], name: &[u8]) -> Read
     ensures { Ends s.now 0 (first_named name.now (texts_at s.now places.now)) result }
 {
-    let mut k = 0;
-    while k < places.len() {
-        let at = places[k];
-        if is_string(s, json_value::space(s, at), name) {
-            return json_value::start(s, at, b'}');
+    for at in places {
+        if is_string(s, json_value::space(s, *at), name) {
+            return json_value::start(s, *at, b'}');
         }
-        k += 1;
     }
     Read::Bad
 }
 
 // The place of the value of the member with a name, of the packet's object, whose entries' places may be noted.
+#[tactic(auto, using(crate::proofs::Noted::noted_steps))]
 pub fn member_of(s: &[u8], places: &[usize], name: &[u8]) -> Read
     requires { Indexed s.now places.now }
     ensures { Ends s.now 0 (member_at name.now (skip_ws s.now)) result }
 {
-    if places.len() == 0 {
+    if places.is_empty() {
         return member(s, json_value::space(s, 0), name);
     }
     among(s, places, name)
@@ -166,19 +153,17 @@ fn each_alone(
 }
 
 // The entry at a place of an object that has seven levels.
+#[tactic(auto, using(crate::proofs::Once::turn_steps))]
 fn take_turn(s: &[u8], at: usize) -> Turn
     ensures { TurnAt s.now at result }
 {
-    let p = json_value::start(s, at, b'}');
-    let Read::End(v) = p else {
+    let Read::End(v) = json_value::start(s, at, b'}') else {
         return Turn::Stop;
     };
-    let q = json_value::value(s, v, 6);
-    let Read::End(e) = q else {
+    let Read::End(e) = json_value::value(s, v, 6) else {
         return Turn::Stop;
     };
-    let m = json_value::after(s, e, b'}');
-    match m {
+    match json_value::after(s, e, b'}') {
         Mark::Close(n) => Turn::Last(v, n),
         Mark::Comma(n) => Turn::Next(v, n),
         Mark::Neither => Turn::Stop,
@@ -190,13 +175,8 @@ fn or_else(found: Read, s: &[u8], at: usize, v: usize, name: &[u8]) -> Read
     ensures { result ≡ or_else found (pick (string_at name.now (drop at s.now)) (Read.End v) Read.Bad) }
 {
     match found {
-        Read::End(e) => Read::End(e),
-        Read::Bad => {
-            if is_string(s, at, name) {
-                return Read::End(v);
-            }
-            Read::Bad
-        }
+        Read::Bad if is_string(s, at, name) => Read::End(v),
+        _ => found,
     }
 }
 
@@ -241,6 +221,7 @@ fn nothing_yet() -> FourFound
 }
 
 // The places of the values of four names in the object at a place, and its end, in one walk.
+#[tactic(auto, using(crate::proofs::Once::walk_steps))]
 pub fn four(
     s: &[u8],
     at: usize,
@@ -251,15 +232,13 @@ pub fn four(
 ) -> FourFound
     ensures { FindsFour s.now at first.now second.now third.now fourth.now result }
 {
-    let p = inside(s, at, b'{', b'}');
-    let Read::End(start) = p else {
+    let Read::End(start) = inside(s, at, b'{', b'}') else {
         return each_alone(s, at, first, second, third, fourth);
     };
     let mut found = nothing_yet();
     let mut i = start;
     loop {
-        let t = take_turn(s, i);
-        match t {
+        match take_turn(s, i) {
             Turn::Last(v, e) => return with_entry(
                 found,
                 s,

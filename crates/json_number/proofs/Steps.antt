@@ -2,18 +2,13 @@
 -- Assumes nothing.
 use Rattle.basis.proofs.Std.{ℕ, ◌+◌, ◌<◌, ◌≤◌, ◌≡◌, sym, subst, true, false, List, ◌∷◌, length, get_or, drop, arith, both}
 use Rattle.json_character.proofs.Lists.{next, past}
-use Rattle.json_text.specs.Decoded.{Parsed, push}
 use Rattle.json_text.specs.declared.Read.{Read}
-use Rattle.json_text.specs.declared.Read.TheVariants as Read
 use Rattle.json_text.specs.Ends.{Ends}
 use Rattle.json_text.specs.Ends.Ends.{ends, fails}
+use Rattle.json_text.proofs.Texts.{pushed}
 use Rattle.json_number.specs.declared.At.{At}
 use Rattle.json_number.specs.declared.At.TheVariants.{Start}
 use Rattle.json_number.specs.Machine.{turn_of, is_stop, final_of, apart, stop_at, read_num, read_number}
-
-pushed : {s : List ℕ} {i k : ℕ} {p : Parsed (List ℕ)} {r : Read} (c : ℕ) → i ≤ k → Ends s k p r → Ends s i (push c p) r
-pushed c h (ends e a b) = ends e (omega arith) b
-pushed c h fails = fails
 
 pub start_past : (s : List ℕ) (at : ℕ) → length s ≤ at → Ends s at (read_number (drop at s)) Read.Bad
 unfolding read_number read_num
@@ -43,10 +38,14 @@ module _ (s : List ℕ) (q : At) (i : ℕ) where
   unfolding read_num
   goes_on_lem p h e f r x = rw (next s i h, ← e, f) (pushed (get_or s i 0) (omega arith) x)
 
-  pub end_here : i ≤ length s → length s ≤ i → final_of q ≡ true → Ends s i (read_num q (drop i s)) (Read.End i)
+  pub end_here : i ≤ length s → length s ≤ i → final_of q ≡ true → Ends s i (read_num q (drop i s)) (Read.End (length s))
   unfolding read_num
-  end_here g h f = subst (λ (u : List ℕ). Ends s i (read_num q u) (Read.End i)) (sym (past s i h)) (rw (f, ← past s i h) (ends i (omega arith) g))
+  end_here g h f =
+      let last : length s ≡ i = omega arith in
+      rw last (subst (λ (u : List ℕ). Ends s i (read_num q u) (Read.End i)) (sym (past s i h)) (rw (f, ← past s i h) (ends i (omega arith) g)))
 
   pub end_early : length s ≤ i → final_of q ≡ false → Ends s i (read_num q (drop i s)) Read.Bad
   unfolding read_num
   end_early h f = rw (past s i h, f) fails
+
+pub ruleset number_steps = (start_past, starts, stop_here, stop_early, stop_joined, goes_on_lem, end_here, end_early)

@@ -27,68 +27,59 @@ pub enum At {
 fn digit(b: u8, q: At) -> At
     ensures { result ≡ if_digit b q }
 {
-    if b < b'0' {
-        return At::Stop;
+    match b {
+        b'0'..=b'9' => q,
+        _ => At::Stop,
     }
-    if b < 0x3a {
-        return q;
-    }
-    At::Stop
 }
 
 // The first digit: a zero stands alone.
 fn lead(b: u8) -> At
     ensures { result ≡ lead_of b }
 {
-    if b == b'0' {
-        return At::Zero;
+    match b {
+        b'0' => At::Zero,
+        _ => digit(b, At::Int),
     }
-    digit(b, At::Int)
 }
 
 // On to the exponent with an e, else to q.
 fn or_mark(b: u8, q: At) -> At
     ensures { result ≡ or_mark b q }
 {
-    if b == b'e' {
-        return At::Mark;
+    match b {
+        b'e' | b'E' => At::Mark,
+        _ => q,
     }
-    if b == b'E' {
-        return At::Mark;
-    }
-    q
 }
 
 // On to the fraction with a point, else to q.
 fn or_point(b: u8, q: At) -> At
     ensures { result ≡ or_point b q }
 {
-    if b == b'.' {
-        return At::Dot;
+    match b {
+        b'.' => At::Dot,
+        _ => q,
     }
-    q
 }
 
 // On to the sign of an exponent, or to its first digit.
 fn sign(b: u8) -> At
     ensures { result ≡ sign_of b }
 {
-    if b == b'+' {
-        return At::Sign;
+    match b {
+        b'+' | b'-' => At::Sign,
+        _ => digit(b, At::Exp),
     }
-    if b == b'-' {
-        return At::Sign;
-    }
-    digit(b, At::Exp)
 }
 
 fn start(b: u8) -> At
     ensures { result ≡ start_of b }
 {
-    if b == b'-' {
-        return At::Minus;
+    match b {
+        b'-' => At::Minus,
+        _ => lead(b),
     }
-    lead(b)
 }
 
 fn turn(q: At, b: u8) -> At
@@ -111,59 +102,24 @@ fn turn(q: At, b: u8) -> At
 fn is_stop(q: At) -> bool
     ensures { result ≡ is_stop q }
 {
-    match q {
-        At::Start => false,
-        At::Minus => false,
-        At::Zero => false,
-        At::Int => false,
-        At::Dot => false,
-        At::Frac => false,
-        At::Mark => false,
-        At::Sign => false,
-        At::Exp => false,
-        At::Stop => true,
-    }
+    matches!(q, At::Stop)
 }
 
 fn is_final(q: At) -> bool
     ensures { result ≡ final_of q }
 {
-    match q {
-        At::Start => false,
-        At::Minus => false,
-        At::Zero => true,
-        At::Int => true,
-        At::Dot => false,
-        At::Frac => true,
-        At::Mark => false,
-        At::Sign => false,
-        At::Exp => true,
-        At::Stop => false,
-    }
+    matches!(q, At::Zero | At::Int | At::Frac | At::Exp)
 }
 
+#[tactic(auto, unfolding(crate::specs::Machine::apart))]
 fn is_apart(b: u8) -> bool
     ensures { result ≡ apart b }
 {
-    if b == b'.' {
-        return false;
-    }
-    if b == b'e' {
-        return false;
-    }
-    if b == b'E' {
-        return false;
-    }
-    if b < b'0' {
-        return true;
-    }
-    if b < 0x3a {
-        return false;
-    }
-    true
+    !matches!(b, b'.' | b'e' | b'E' | b'0'..=b'9')
 }
 
 // Where the number at a place ends.
+#[tactic(auto, using(crate::proofs::Steps::number_steps))]
 pub fn number(s: &[u8], at: usize) -> Read
     ensures { Ends s.now at (read_number (drop at s.now)) result }
 {
@@ -171,23 +127,18 @@ pub fn number(s: &[u8], at: usize) -> Read
         return Read::Bad;
     }
     let mut q = At::Start;
-    let mut i = at;
-    while i < s.len() {
-        let b = s[i];
-        let p = turn(q, b);
+    for i in at..s.len() {
+        let p = turn(q, s[i]);
         if is_stop(p) {
-            if is_final(q) {
-                if is_apart(b) {
-                    return Read::End(i);
-                }
+            if is_final(q) && is_apart(s[i]) {
+                return Read::End(i);
             }
             return Read::Bad;
         }
         q = p;
-        i += 1;
     }
     if is_final(q) {
-        return Read::End(i);
+        return Read::End(s.len());
     }
     Read::Bad
 }

@@ -1,10 +1,9 @@
 -- The scan for names with no count of calls in it, and at a place of a slice.
 -- Assumes nothing.
-use Rattle.basis.proofs.Std.{ℕ, zero, suc, ◌+◌, ◌<◌, ◌≤◌, ◌≡◌, refl, sym, subst, ap, ◌∙◌, true, false, List, [], ◌∷◌, eqb, length, get_or, drop, length-drop, arith, ne_eqb, pick, picked}
+use Rattle.basis.proofs.Std.{ℕ, zero, suc, ◌+◌, ◌<◌, ◌≤◌, ◌≡◌, refl, sym, subst, ap, ◌∙◌, true, false, List, [], ◌∷◌, eqb, length, get_or, drop, length-drop, arith, ne_eqb, ⊎_elim, lt_or_ge, pick, picked}
 use Rattle.json_text.specs.Decoded.{Parsed, decoded, same_text}
 use Rattle.json_text.specs.Decoded.Parsed.{ok, none}
 use Rattle.json_text.specs.declared.Read.{Read}
-use Rattle.json_text.specs.declared.Read.TheVariants as Read
 use Rattle.json_text.specs.Ends.{Ends}
 use Rattle.json_text.specs.Ends.Ends.{ends, fails}
 use Rattle.json_text.proofs.Meaning as Strings
@@ -14,19 +13,15 @@ use Rattle.json_text.proofs.Endings.{failed}
 use Rattle.json_value.proofs.Places.{from, ended}
 use Rattle.json_value.proofs.Shorter as Shorter
 use Rattle.json_find.specs.Entries.{next_entry, entries}
-use Rattle.json_find.proofs.Walks.{unroll, ends_here, goes_on_lem}
+use Rattle.json_find.proofs.Walks.{unroll, ends_here, goes_on_lem, step_on, step_in}
 use Rattle.json_packet.specs.Scan.{same_string, any_same, later, again, read_token, after_token, scan_from, scan}
 
 -- strings
 
 module _ (s : List ℕ) (x : Parsed (List ℕ)) (i : ℕ) where
-  pub same_past : length s ≤ i → false ≡ same_string x (drop i s)
+  pub same_other : ¬ (get_or s i 0 ≡ 0x22) → false ≡ same_string x (drop i s)
   unfolding same_string
-  same_past h = rw (past s i h)
-
-  pub same_other : i < length s → ¬ (get_or s i 0 ≡ 0x22) → false ≡ same_string x (drop i s)
-  unfolding same_string
-  same_other h e = rw (next s i h, ne_eqb _ _ e)
+  same_other e = ⊎_elim (λ h. rw (next s i h, ne_eqb _ _ e)) (λ h. rw (past s i h)) (lt_or_ge i (length s))
 
   pub same_here : i < length s → get_or s i 0 ≡ 0x22 → same_text x (decoded (drop (i + 1) s)) ≡ same_string x (drop i s)
   unfolding same_string
@@ -138,3 +133,11 @@ module _ (s : List ℕ) (i : ℕ) (h : i < length s) where
 
 pub scan_past : (s : List ℕ) (i : ℕ) → length s ≤ i → scan (drop i s) ≡ true
 scan_past s i h = ap scan (past s i h) ∙ scan_nil
+
+pub ruleset same_steps = (same_other, same_here)
+
+pub ruleset again_steps = (again_is, again_none, again_here, again_next, step_on, step_in)
+
+pub ruleset token_steps = (token_byte, token_again, token_string)
+
+pub ruleset scan_steps = (scan_bad, scan_on, scan_past, token_on, token_in)

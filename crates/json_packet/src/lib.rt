@@ -27,40 +27,32 @@ const NO_PACKET: Judgement = Judgement {
 };
 
 // Whether at q stands a string with the characters that begin at p.
+#[tactic(auto, using(crate::proofs::Scans::same_steps))]
 fn same_string(s: &[u8], p: usize, q: usize) -> bool
     ensures { result ≡ same_string (decoded (drop p s.now)) (drop q s.now) }
 {
-    if s.len() <= q {
-        return false;
-    }
-    if s[q] != b'"' {
-        return false;
-    }
-    json_text::same(s, p, q + 1)
+    s.get(q) == Some(&b'"') && json_text::same(s, p, q + 1)
 }
 
 // Whether the string at a place is the name of a member, and of a later one in the same object too.
+#[tactic(auto, using(crate::proofs::Scans::again_steps))]
 fn is_again(s: &[u8], at: usize) -> bool
     requires { at < length s.now }
     ensures { result ≡ again (drop (at + 1) s.now) (drop at s.now) }
 {
     let p = at + 1;
     let mut i = at;
-    loop {
-        let m = json_find::step(s, i, b'}');
-        match m {
-            Read::Bad => return false,
-            Read::End(e) => {
-                if same_string(s, p, json_value::space(s, e)) {
-                    return true;
-                }
-                i = e;
-            }
+    while let Read::End(e) = json_find::step(s, i, b'}') {
+        if same_string(s, p, json_value::space(s, e)) {
+            return true;
         }
+        i = e;
     }
+    false
 }
 
 // The place after the string or the byte at a place, unless the string is a name again.
+#[tactic(auto, using(crate::proofs::Scans::token_steps))]
 fn token(s: &[u8], at: usize) -> Read
     requires { at < length s.now }
     ensures { Ends s.now at (read_token (drop at s.now)) result }
@@ -74,16 +66,16 @@ fn token(s: &[u8], at: usize) -> Read
     json_text::chars(s, at + 1)
 }
 
+#[tactic(auto, using(crate::proofs::Scans::scan_steps))]
 fn names_once(s: &[u8]) -> bool
     ensures { result ≡ scan s.now }
 {
     let mut i = 0;
     while i < s.len() {
-        let t = token(s, i);
-        match t {
-            Read::Bad => return false,
-            Read::End(e) => i = e,
-        }
+        let Read::End(e) = token(s, i) else {
+            return false;
+        };
+        i = e;
     }
     true
 }

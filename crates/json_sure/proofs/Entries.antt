@@ -6,7 +6,6 @@ use Rattle.json_text.specs.Decoded.Parsed.{ok, none}
 use Rattle.json_text.specs.declared.Read.TheVariants as Read
 use Rattle.json_text.specs.Ends.{Ends}
 use Rattle.json_value.specs.declared.Mark.{Mark}
-use Rattle.json_value.specs.declared.Mark.TheVariants as Mark
 use Rattle.json_value.specs.Grammar.{Json}
 use Rattle.json_value.specs.Reader.{skip_ws, colon_at, colon, read_name, unnamed, read_start, read_mark, Named, named, Entry, marked, after_value, after_start, read_entry}
 use Rattle.json_value.specs.Answers.{Marks}

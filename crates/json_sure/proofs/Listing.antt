@@ -125,3 +125,5 @@ module _ (s : List ℕ) (at : ℕ) (places : List ℕ) (e : ℕ) (q : Bool) wher
       go false h =
           let all_noted : r ≡ n = is ∙ ap (λ (b : Bool). pick b 0 n) h in
           record { within = omega (arith, all_noted, ltb-false (length places) n h); finds = λ g. rw all_noted (x (ltb-false (length places) n h)); all = counted }
+
+pub ruleset place_steps = (place_noted, no_room)

@@ -6,6 +6,7 @@ use Rattle.json_character.proofs.Lists as Lists
 use Rattle.json_value.specs.Answers.{Skipped}
 use Rattle.json_character.specs.Char.{char_of}
 use Rattle.json_character.specs.declared.Char.TheVariants.{One, Close, Bad}
+use Rattle.json_text.proofs.Texts.{one_in}
 use Rattle.json_text.specs.Decoded.{Parsed, push, decoded}
 use Rattle.json_text.specs.Decoded.Parsed.{ok, none}
 use Rattle.json_text.proofs.Texts.{one, close, no_char}
@@ -52,3 +53,7 @@ module _ (key : ℕ) (s : List ℕ) (at k close : ℕ) where
 
     pub mark_there : k < length s → mark_read key 1 (decoded (drop (k + 1) s)) ≡ mark_at key (eqb close 0x7d) (drop at s)
     mark_there h = sym (named ∙ ap (name_mark key) (Lists.next s k h))
+
+pub ruleset mark_steps = (one_in, product_low, next_low, mark_one, mark_close, mark_bad)
+
+pub ruleset name_marks = (mark_none, mark_past, mark_there)

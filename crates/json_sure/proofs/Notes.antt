@@ -62,3 +62,5 @@ module _ (room : ℕ) (xs ys : List ℕ) (t : Seen) (same : length xs ≡ room) 
   pub sure_rest : length back ≡ length xs → (m : ℕ) (v : Bool) (zs : List ℕ) (r : Seen) → Notes back t m v zs r → (note_of room (noted_in xs t) m v).sure ≡ r.sure
   unfolding noted_in
   sure_rest l m v zs r n = ap (λ (u : Noted). u.sure) (sym (noted_rest l m v zs r n))
+
+pub ruleset note_steps = (notes_none, notes_full)

@@ -5,7 +5,6 @@ use Rattle.json_character.proofs.Lists.{next}
 use Rattle.json_text.specs.Decoded.{Parsed}
 use Rattle.json_text.specs.Decoded.Parsed.{ok, none}
 use Rattle.json_text.specs.declared.Read.{Read}
-use Rattle.json_text.specs.declared.Read.TheVariants as Read
 use Rattle.json_text.specs.Ends.{Ends}
 use Rattle.json_value.specs.Grammar.{Json, Value}
 use Rattle.json_value.specs.Grammar.Json.{arr, obj}
@@ -16,7 +15,6 @@ use Rattle.json_value.specs.declared.Mark.TheVariants as Mark
 use Rattle.json_value.proofs.Sound as Sound
 use Rattle.json_value.proofs.Nesting as Nesting
 use Rattle.json_sure.specs.declared.Judged.{Judged}
-use Rattle.json_sure.specs.declared.Judged.TheVariants as Judged
 use Rattle.json_sure.specs.declared.Entered.TheVariants as Entered
 use Rattle.json_sure.specs.Sure.{mark_at, Noted, none_noted, note_of, left, sure_in, sure_all, sure_once, sure_entry}
 use Rattle.json_sure.specs.Judges.{ended_of, place_of, Says, JudgesIn, EntersIn}

@@ -4,17 +4,13 @@ use Rattle.std.specs.Prelude.{ℕ, ◌≡◌, Bool, true, List}
 use Rattle.json_text.specs.Decoded.{Parsed}
 use Rattle.json_text.specs.Decoded.Parsed.{ok}
 use Rattle.json_text.specs.declared.Read.{Read}
-use Rattle.json_text.specs.declared.Read.TheVariants as Read
 use Rattle.json_text.specs.Ends.{Ends}
 use Rattle.json_value.specs.Grammar.{Json}
 use Rattle.json_value.specs.Reader.{Entry}
 use Rattle.json_value.specs.Answers.{Marks, last_of}
 use Rattle.json_value.specs.declared.Mark.{Mark}
-use Rattle.json_value.specs.declared.Mark.TheVariants as Mark
 use Rattle.json_sure.specs.declared.Judged.{Judged}
-use Rattle.json_sure.specs.declared.Judged.TheVariants as Judged
 use Rattle.json_sure.specs.declared.Entered.{Entered}
-use Rattle.json_sure.specs.declared.Entered.TheVariants as Entered
 use Rattle.json_sure.specs.Sure.{sure, sure_in, sure_entry}
 
 abbrev pub ended_of : Read → Judged

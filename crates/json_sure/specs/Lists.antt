@@ -6,9 +6,7 @@ use Rattle.json_value.specs.Reader.{skip_ws}
 use Rattle.json_find.specs.Entries.{unless_closed, entries_of, first_named}
 use Rattle.json_find.specs.Index.{texts_at}
 use Rattle.json_sure.specs.declared.Judged.{Judged}
-use Rattle.json_sure.specs.declared.Judged.TheVariants as Judged
 use Rattle.json_sure.specs.declared.Listed.{Listed}
-use Rattle.json_sure.specs.declared.Listed.TheVariants as Listed
 
 abbrev pub judged_of : Listed → Judged
 judged_of (Listed.End e q n) = Judged.End e q

@@ -1,8 +1,7 @@
 // A JSON value read once for its end and for its names: each name has a mark, and where no mark comes twice no name does.
 #![tactic(auto)]
 
-ghost use Rattle.std.specs.Prelude.{◌≡◌, false, eqb, ◌≤◌, length, drop};
-ghost use Rattle.basis.specs.Pick.{pick};
+ghost use Rattle.std.specs.Prelude.{◌≡◌, eqb, ◌≤◌, length, drop};
 ghost use Rattle.json_text.specs.Decoded.{decoded};
 ghost use Rattle.json_value.specs.Reader.{read_entry, read_value, inside_of};
 ghost use Rattle.json_sure.specs.Sure.{mark_read, mark_at, is_new, all_of, noted_in, note_of};
@@ -51,6 +50,7 @@ pub struct Seen {
 }
 
 // The mark of the string whose characters begin at a place.
+#[tactic(auto, using(crate::proofs::Marks::mark_steps))]
 fn mark(key: u32, s: &[u8], at: usize) -> u64
     ensures { result ≡ mark_read key 1 (decoded (drop at s.now)) }
 {
@@ -58,16 +58,7 @@ fn mark(key: u32, s: &[u8], at: usize) -> u64
     let mut i = at;
     let mut h: u64 = 1;
     loop {
-        if i < s.len() {
-            let b = s[i];
-            if json_character::is_plain(b) {
-                h = (h * factor + b as u64) % PRIME;
-                i += 1;
-                continue;
-            }
-        }
-        let c = json_character::any(s, i);
-        match c {
+        match json_character::step(s, i) {
             Char::One(x, w) => {
                 h = (h * factor + x as u64) % PRIME;
                 i += 1 + w;
@@ -79,6 +70,7 @@ fn mark(key: u32, s: &[u8], at: usize) -> u64
 }
 
 // The mark of the name of the entry at a place; an array's entries have none.
+#[tactic(auto, using(crate::proofs::Marks::name_marks))]
 fn mark_at(key: u32, s: &[u8], at: usize, close: u8) -> u64
     ensures { result ≡ mark_at key (eqb close 0x7d) (drop at s.now) }
 {
@@ -95,37 +87,23 @@ fn mark_at(key: u32, s: &[u8], at: usize, close: u8) -> u64
 fn all(before: bool, value: bool, new: bool) -> bool
     ensures { result ≡ all_of before value new }
 {
-    if new {
-        if before {
-            return value;
-        }
-    }
-    false
-}
-
-fn still_new(new: bool, k: u32, m: u32) -> bool
-    ensures { result ≡ pick (eqb k m) false new }
-{
-    if k == m {
-        return false;
-    }
-    new
+    before && value && new
 }
 
 // Whether a mark is none of the others. All are looked at, so that the compiler takes several at a time.
+#[tactic(auto, using(crate::proofs::New::new_steps))]
 fn is_new(marks: &[u32], m: u32) -> bool
     ensures { result ≡ is_new m marks.now }
 {
     let mut new = true;
-    let mut i = 0;
-    while i < marks.len() {
-        new = still_new(new, marks[i], m);
-        i += 1;
+    for k in marks {
+        new &= *k != m;
     }
     new
 }
 
 // One more name, and whether its value is sure. Its mark is put behind the others where there is room.
+#[tactic(auto, using(crate::proofs::Notes::note_steps))]
 fn note(marks: &mut [u32], t: Seen, m: u64, value: bool) -> Seen
     requires { t.count ≤ length marks.old }
     ensures { (result.count ≤ length marks.new) × (noted_in marks.new result ≡ note_of (length marks.old) (noted_in marks.old t) m value) }
@@ -177,14 +155,11 @@ fn value_in(key: u32, s: &[u8], at: usize, levels: u8, marks: &mut [u32]) -> Jud
     if s.len() <= at {
         return Judged::Bad;
     }
-    let b = s[at];
-    if b == b'[' {
-        return items(key, s, at + 1, levels, b']', marks);
+    match s[at] {
+        b'[' => items(key, s, at + 1, levels, b']', marks),
+        b'{' => items(key, s, at + 1, levels, b'}', marks),
+        _ => ended(json_value::value(s, at, levels)),
     }
-    if b == b'{' {
-        return items(key, s, at + 1, levels, b'}', marks);
-    }
-    ended(json_value::value(s, at, levels))
 }
 
 // What follows an opening bracket or brace.
@@ -229,20 +204,17 @@ fn items(key: u32, s: &[u8], at: usize, levels: u8, close: u8, marks: &mut [u32]
 fn entry(key: u32, s: &[u8], at: usize, levels: u8, close: u8, marks: &mut [u32]) -> Entered
     ensures { EntersIn key (length marks.old) s.now at (read_entry close (λ v. read_value levels v) (drop at s.now)) result }
 {
-    let p = json_value::start(s, at, close);
-    match p {
-        Read::Bad => Entered::Neither,
-        Read::End(v) => {
-            let q = value_in(key, s, v, levels, marks);
-            match q {
-                Judged::Bad => Entered::Neither,
-                Judged::End(e, sure) => followed(json_value::after(s, e, close), sure),
-            }
-        }
-    }
+    let Read::End(v) = json_value::start(s, at, close) else {
+        return Entered::Neither;
+    };
+    let Judged::End(e, sure) = value_in(key, s, v, levels, marks) else {
+        return Entered::Neither;
+    };
+    followed(json_value::after(s, e, close), sure)
 }
 
 // Notes the place of one more entry, where there is room.
+#[tactic(auto, using(crate::proofs::Listing::place_steps))]
 fn note_place(places: &mut [usize], n: usize, at: usize)
     ensures { Placed places.old n at places.new }
 {
@@ -254,10 +226,7 @@ fn note_place(places: &mut [usize], n: usize, at: usize)
 fn all_or_none(n: usize, room: usize) -> usize
     ensures { result ≡ all_or_none n room }
 {
-    if room < n {
-        return 0;
-    }
-    n
+    if room < n { 0 } else { n }
 }
 
 // What follows the opening brace of a packet's object, and the places where its entries begin. There is room for the marks of 820 names at

@@ -1,15 +1,16 @@
 -- A string copied byte by byte: what is copied so far, and what the rest adds to it.
 -- Assumes nothing.
-use Rattle.basis.proofs.Std.{ℕ, suc, ◌+◌, ◌-◌, ◌<◌, ◌≤◌, ◌≡◌, refl, sym, ap, ◌∙◌, Bool, true, false, List, [], ◌∷◌, ◌++◌, append_assoc, append-nil, ⊎_elim, arith, ltb, length, get_or, drop, set, replicate, length-append, set-append_seam, lt-ltb, le-ltb, le-leb, lt-leb, ltb-true, ltb-false, pick, both, lt_or_ge, picked, both_false}
+use Rattle.basis.proofs.Std.{ℕ, suc, ◌+◌, ◌-◌, ◌<◌, ◌≤◌, ◌≡◌, refl, sym, ap, ◌∙◌, Bool, true, false, List, [], ◌∷◌, ◌++◌, append_assoc, append-nil, ⊎_elim, arith, ltb, length, get_or, drop, set, replicate, length-append, set-append_seam, lt-ltb, le-ltb, le-leb, lt-leb, ltb-true, ltb-false, pick, both, lt_or_ge, picked, both_false, bool_cases, take, length-take-le, length-drop}
 use Rattle.json_character.specs.declared.Char.TheVariants.{One, Close, Bad}
 use Rattle.json_text.specs.declared.Copied.{Copied}
 use Rattle.json_character.specs.Char.{char_of, is_plain}
-use Rattle.json_character.proofs.Laws.{at_plain}
 use Rattle.json_text.specs.Decoded.{Parsed, push, decoded}
 use Rattle.json_text.specs.Decoded.Parsed.{ok, none}
 use Rattle.json_text.specs.Copied.{ascii, no_copy, copied, copy_of}
-use Rattle.json_text.proofs.Texts.{one, close, no_char}
-use Rattle.json_text.proofs.Runs.{plain_ascii}
+use Rattle.json_text.proofs.Texts.{one, one_in, close, no_char}
+use Rattle.std.proofs.lemmas.List.{drop-replicate}
+use Rattle.json_text.specs.Run.{run}
+use Rattle.json_text.proofs.Runs.{plain_ascii, quote_in, run_decoded}
 
 -- b holds k bytes, and the code points d follow
 unfoldable pub fill : ℕ → List ℕ → ℕ → List ℕ → Copied
@@ -75,9 +76,6 @@ module _ (n m : ℕ) (e : m ≡ room_for n) where
         sym (rw (one s i c w q) (other n b k (decoded (drop (i + (1 + w)) s)) c (omega arith) (omega arith) f))
 
 module _ (n : ℕ) (b : List ℕ) (k : ℕ) (s : List ℕ) (i : ℕ) where
-  pub copy_plain : is_plain (get_or s i 0) ≡ true → k < n → k < 36 → fill_of n (set b k (get_or s i 0)) (k + 1) (decoded (drop (i + 1) s)) ≡ fill_of n b k (decoded (drop i s))
-  copy_plain p h g = sym (rw (one s i (get_or s i 0) 0 (sym (at_plain s i p))) (room n b k (decoded (drop (i + 1) s)) (get_or s i 0) h g (plain_ascii _ p)))
-
   pub copy_close : Close ≡ char_of (drop i s) → fill_of n b k (decoded (drop i s)) ≡ record { length = k; bytes = b; ok = true }
   unfolding fill
   copy_close e = rw (close s i e)
@@ -144,3 +142,25 @@ pub filled : (n : ℕ) (p : Parsed (List ℕ)) → fill_of n (replicate 36 0) 0 
 unfolding ascii
 filled n (ok d r) = fill_all n d [] (omega arith) (omega arith) refl
 filled n none = refl
+
+pub ruleset copy_steps = (one_in, room_36, copy_one, copy_full, copy_other, copy_close, copy_bad, filled)
+
+-- a run of plain characters that a quotation mark follows is copied in one piece
+run_ascii : (t : List ℕ) → ascii (take (run t) t) ≡ true
+unfolding ascii run
+run_ascii [] = refl
+run_ascii (b ∷ t) = bool_cases (is_plain b) (yes (run_ascii t)) (λ p. rw p)
+  where
+    yes : ascii (take (run t) t) ≡ true → is_plain b ≡ true → ascii (take (pick (is_plain b) (suc (run t)) 0) (b ∷ t)) ≡ true
+    yes ih p = rw (p, lt-ltb _ _ (plain_ascii b p)) ih
+
+module _ (s : List ℕ) (at k : ℕ) (p : k ≡ at + run (drop at s)) (q : get_or s k 0 ≡ 0x22) (r : k ≤ at + 36) where
+  pub copied_plain : (most : ℕ) → k ≤ at + most → record { length = k - at; bytes = take (k - at) (drop at s) ++ drop (k - at) (replicate 36 0); ok = true } ≡ copy_of most (decoded (drop at s))
+  unfolding copied
+  copied_plain most h =
+      let d = take (k - at) (drop at s) in
+      let n : k - at ≡ run (drop at s) = omega arith in
+      let m : at + (k - at) ≡ k = omega arith in
+      let l : length d ≡ k - at = length-take-le (k - at) (drop at s) (omega (arith, length-drop at s, quote_in s at k p q)) in
+      let a : ascii d ≡ true = rw n (run_ascii (drop at s)) in
+      sym (rw (run_decoded s (k - at) at (sym n) (rw m q), l, le-leb (k - at) most (omega arith), le-leb (k - at) 36 (omega arith), a, drop-replicate))

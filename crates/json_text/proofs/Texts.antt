@@ -6,7 +6,6 @@ use Rattle.json_character.proofs.Sound.{Says, char_says}
 use Rattle.json_character.specs.declared.Char.{Char}
 use Rattle.json_character.specs.declared.Char.TheVariants.{One, Close, Bad}
 use Rattle.json_text.specs.declared.Read.{Read}
-use Rattle.json_text.specs.declared.Read.TheVariants as Read
 use Rattle.json_character.specs.Char.{char_of}
 use Rattle.json_text.specs.Decoded.{Parsed, push, by_char, read_chars, decoded, is_text, same_text}
 use Rattle.json_text.specs.Decoded.Parsed.{ok, none}
@@ -138,6 +137,8 @@ module _ (s : List ℕ) (i : ℕ) (name : List ℕ) (k : ℕ) where
   pub name_bad : Bad ≡ char_of (drop i s) → false ≡ is_text (decoded (drop i s)) (drop k name)
   name_bad e = sym (rw (no_char s i e))
 
+pub ruleset name_steps = (one_in, name_same, name_other, name_close, name_bad, name_long)
+
 -- a comparison of two texts, from i and from j on
 module _ (s : List ℕ) (i j : ℕ) where
   pub same_both : (c w d v : ℕ) → One c w ≡ char_of (drop i s) → One d v ≡ char_of (drop j s) → c ≡ d → same_text (decoded (drop (i + (1 + w)) s)) (decoded (drop (j + (1 + v)) s)) ≡ same_text (decoded (drop i s)) (decoded (drop j s))
@@ -160,3 +161,5 @@ module _ (s : List ℕ) (i j : ℕ) where
 
   pub same_bad_2 : Bad ≡ char_of (drop j s) → false ≡ same_text (decoded (drop i s)) (decoded (drop j s))
   same_bad_2 e = sym (rw (no_char s j e) (no_second (decoded (drop i s))))
+
+pub ruleset same_steps = (one_in, same_both, same_differ, same_longer, same_shorter, same_done, same_bad_1, same_bad_2)

@@ -18,27 +18,26 @@ pub enum Read {
 }
 
 // The place after the plain characters that begin at `at`.
+#[tactic(auto, using(crate::proofs::Runs::runs))]
 fn plain(s: &[u8], at: usize) -> usize
     ensures { result ≡ at + run (drop at s.now) }
 {
-    let mut i = at;
-    while i < s.len() {
-        if json_character::is_plain(s[i]) {
-            i += 1;
-        } else {
+    for i in at..s.len() {
+        if !json_character::is_plain(s[i]) {
             return i;
         }
     }
-    i
+    at.max(s.len())
 }
 
 fn is_quote(s: &[u8], at: usize) -> bool
     ensures { result ≡ eqb (get_or s.now at 0) 0x22 }
 {
-    if at < s.len() { s[at] == b'"' } else { false }
+    s.get(at) == Some(&b'"')
 }
 
 // The end of the string whose characters begin at `at`.
+#[tactic(auto, using(crate::proofs::Runs::char_steps))]
 pub fn chars(s: &[u8], at: usize) -> Read
     ensures { Ends s.now at (decoded (drop at s.now)) result }
 {
@@ -48,8 +47,7 @@ pub fn chars(s: &[u8], at: usize) -> Read
         if is_quote(s, k) {
             return Read::End(k + 1);
         }
-        let c = json_character::any(s, k);
-        match c {
+        match json_character::any(s, k) {
             Char::One(_, w) => i = k + (1 + w),
             Char::Close => return Read::End(k + 1),
             Char::Bad => return Read::Bad,
@@ -58,71 +56,35 @@ pub fn chars(s: &[u8], at: usize) -> Read
 }
 
 // Whether the string whose characters begin at `at` is `name`: its code points are the bytes of the name, which is of ASCII.
+#[tactic(auto, using(crate::proofs::Texts::name_steps))]
 pub fn is_name(s: &[u8], at: usize, name: &[u8]) -> bool
     ensures { result ≡ is_text (decoded (drop at s.now)) name.now }
 {
     let mut i = at;
-    let mut k = 0;
-    loop {
-        if i < s.len() {
-            let b = s[i];
-            if json_character::is_plain(b) {
-                if name.len() <= k {
-                    return false;
-                }
-                if b != name[k] {
-                    return false;
-                }
-                i += 1;
-                k += 1;
-                continue;
-            }
-        }
-        let c = json_character::any(s, i);
-        match c {
-            Char::One(x, w) => {
-                if name.len() <= k {
-                    return false;
-                }
-                if x != name[k] as u32 {
-                    return false;
-                }
-                i += 1 + w;
-                k += 1;
-            }
-            Char::Close => return k == name.len(),
-            Char::Bad => return false,
+    for b in name {
+        match json_character::step(s, i) {
+            Char::One(x, w) if x == *b as u32 => i += 1 + w,
+            _ => return false,
         }
     }
+    matches!(json_character::step(s, i), Char::Close)
 }
 
 // Whether the strings whose characters begin at p and q are the same.
+#[tactic(auto, using(crate::proofs::Texts::same_steps))]
 pub fn same(s: &[u8], p: usize, q: usize) -> bool
     ensures { result ≡ same_text (decoded (drop p s.now)) (decoded (drop q s.now)) }
 {
     let mut i = p;
     let mut j = q;
     loop {
-        let c = json_character::step(s, i);
-        let d = json_character::step(s, j);
-        match c {
-            Char::One(x, w) => match d {
-                Char::One(y, v) => {
-                    if x != y {
-                        return false;
-                    }
-                    i += 1 + w;
-                    j += 1 + v;
-                }
-                Char::Close => return false,
-                Char::Bad => return false,
-            },
-            Char::Close => match d {
-                Char::One(_, _) => return false,
-                Char::Close => return true,
-                Char::Bad => return false,
-            },
-            Char::Bad => return false,
+        match (json_character::step(s, i), json_character::step(s, j)) {
+            (Char::One(x, w), Char::One(y, v)) if x == y => {
+                i += 1 + w;
+                j += 1 + v;
+            }
+            (Char::Close, Char::Close) => return true,
+            _ => return false,
         }
     }
 }
@@ -136,6 +98,7 @@ pub struct Copied {
     pub ok: bool,
 }
 
+#[tactic(auto, unfolding(crate::specs::Copied::no_copy))]
 fn no_copy() -> Copied
     ensures { result ≡ no_copy }
 {
@@ -150,29 +113,26 @@ fn no_copy() -> Copied
 fn room_for(most: usize) -> usize
     ensures { result ≡ pick (ltb most 36) most 36 }
 {
-    if most < 36 { most } else { 36 }
+    most.min(36)
 }
 
 // The plain characters from `at` to before `end`, where the string closes.
+#[tactic(auto, using(crate::proofs::Copies::copied_plain))]
 fn copy_plain(s: &[u8], at: usize, end: usize) -> Copied
     requires { (end ≡ at + run (drop at s.now)) × (get_or s.now end 0 ≡ 0x22) × (end ≤ at + 36) }
     ensures { (most : ℕ) → end ≤ at + most → result ≡ copy_of most (decoded (drop at s.now)) }
 {
     let mut bytes = [0u8; 36];
-    let mut k = 0;
-    let mut i = at;
-    while i < end {
-        bytes[k] = s[i];
-        k += 1;
-        i += 1;
-    }
+    let length = end - at;
+    bytes[..length].copy_from_slice(&s[at..end]);
     Copied {
-        length: k,
+        length,
         bytes,
         ok: true,
     }
 }
 
+#[tactic(auto, using(crate::proofs::Copies::copy_steps))]
 fn copy_one_by_one(s: &[u8], at: usize, most: usize) -> Copied
     ensures { result ≡ copy_of most (decoded (drop at s.now)) }
 {
@@ -181,27 +141,8 @@ fn copy_one_by_one(s: &[u8], at: usize, most: usize) -> Copied
     let mut k = 0;
     let mut i = at;
     loop {
-        if i < s.len() {
-            let b = s[i];
-            if json_character::is_plain(b) {
-                if room <= k {
-                    return no_copy();
-                }
-                bytes[k] = b;
-                k += 1;
-                i += 1;
-                continue;
-            }
-        }
-        let c = json_character::any(s, i);
-        match c {
-            Char::One(x, w) => {
-                if room <= k {
-                    return no_copy();
-                }
-                if 128 <= x {
-                    return no_copy();
-                }
+        match json_character::step(s, i) {
+            Char::One(x, w) if k < room && x < 128 => {
                 bytes[k] = x as u8;
                 k += 1;
                 i += 1 + w;
@@ -211,7 +152,7 @@ fn copy_one_by_one(s: &[u8], at: usize, most: usize) -> Copied
                 bytes,
                 ok: true,
             },
-            Char::Bad => return no_copy(),
+            _ => return no_copy(),
         }
     }
 }
@@ -221,10 +162,8 @@ pub fn copy_text(s: &[u8], at: usize, most: usize) -> Copied
     ensures { result ≡ copy_of most (decoded (drop at s.now)) }
 {
     let end = plain(s, at);
-    if is_quote(s, end) {
-        if end - at <= room_for(most) {
-            return copy_plain(s, at, end);
-        }
+    if is_quote(s, end) && end - at <= room_for(most) {
+        return copy_plain(s, at, end);
     }
     copy_one_by_one(s, at, most)
 }

@@ -2,7 +2,7 @@
 -- Assumes nothing.
 use Rattle.basis.proofs.Std.{ℕ, zero, suc, ◌<◌, ◌≤◌, ◌≡◌, refl, sym, ap, ◌∙◌, Bool, true, false, List, [], ◌∷◌, ◌++◌, eqb, length, pick, arith, ne_eqb}
 use Rattle.json_text.specs.Decoded.{Parsed}
-use Rattle.json_text.specs.Decoded.Parsed.{ok, none}
+use Rattle.json_text.specs.Decoded.Parsed.{ok}
 use Rattle.json_text.specs.Grammar.{Chars}
 use Rattle.json_text.proofs.Meaning as Strings
 use Rattle.json_number.specs.Number.{Number, Ended}

@@ -1,6 +1,7 @@
 -- Laws of the reader, and the theorems about the grammar.
 pub mod Places
-mod Steps
+mod Words
+pub mod Steps
 pub mod Nesting
 pub mod Sound
 pub mod Shorter

@@ -4,11 +4,9 @@ use Rattle.basis.proofs.Std.{ℕ, zero, suc, ◌+◌, ◌-◌, ◌<◌, ◌≤�
 use Rattle.json_text.specs.Decoded.{Parsed}
 use Rattle.json_text.specs.Decoded.Parsed.{ok, none}
 use Rattle.json_text.specs.declared.Read.{Read}
-use Rattle.json_text.specs.declared.Read.TheVariants as Read
 use Rattle.json_text.specs.Ends.{Ends}
 use Rattle.json_text.specs.Ends.Ends.{ends, fails}
 use Rattle.json_value.specs.declared.Mark.{Mark}
-use Rattle.json_value.specs.declared.Mark.TheVariants as Mark
 use Rattle.json_value.specs.Grammar.{Json}
 use Rattle.json_value.specs.Reader.{read_scalar, read_start, read_mark, Named, named, Entry, marked, after_value, after_start, read_entry, cons_of, after_entry, read_items, whole_of, opened, read_inside, value_by, read_value, inside_of}
 use Rattle.json_value.specs.Answers.{Skipped, Marks, last_of}
@@ -180,3 +178,9 @@ module _ (s : List ℕ) (close l at i : ℕ) (pos : ¬ (l ≡ 0)) (ws : Skipped 
   inside_items h e r x =
       rw (opens, next s i h, ne_eqb _ _ e)
       (wholed close (from ws.from (rw (next s i h) at (x (length (drop at s)) (omega (arith, length-drop at s, ws.from))))))
+
+pub ruleset value_steps = (value_past, value_array, value_object, value_scalar)
+
+pub ruleset items_steps = (no_levels, inside_past, inside_empty, inside_items, items_last, items_next, items_neither, comma_after, comma_in)
+
+pub ruleset entry_steps = (entry_none, entry_bad, entry_mark)

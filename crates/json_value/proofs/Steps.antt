@@ -1,14 +1,12 @@
 -- One step of the readers that call no other, at a place of a slice.
 -- Assumes nothing.
-use Rattle.basis.proofs.Std.{ℕ, ◌+◌, ◌<◌, ◌≤◌, ◌≡◌, ◌∙◌, ap, true, false, List, eqb, length, get_or, drop, arith, ne_eqb, eq-eqb, text}
+use Rattle.basis.proofs.Std.{ℕ, ◌+◌, ◌<◌, ◌≤◌, ◌≡◌, ◌∙◌, ap, true, false, List, length, get_or, drop, arith, ne_eqb, eq-eqb, text, ⊎_elim, lt_or_ge}
 use Rattle.json_text.specs.Decoded.{Parsed, decoded}
 use Rattle.json_text.specs.declared.Read.{Read}
-use Rattle.json_text.specs.declared.Read.TheVariants as Read
 use Rattle.json_text.specs.Ends.{Ends}
 use Rattle.json_text.specs.Ends.Ends.{ends, fails}
 use Rattle.json_number.specs.Machine.{read_number}
 use Rattle.json_value.specs.declared.Mark.TheVariants as Mark
-use Rattle.json_value.specs.Grammar.{Json}
 use Rattle.json_value.specs.Grammar.Json.{null, bool}
 use Rattle.json_value.specs.Reader.{is_space, skip_ws, literal, str_of, num_of, read_scalar, colon, colon_at, read_name, read_start, read_mark}
 use Rattle.json_value.specs.Answers.{Skipped, Marks}
@@ -18,9 +16,6 @@ use Rattle.json_text.proofs.Endings.{failed}
 use Rattle.json_value.proofs.Places.{from, ended}
 
 -- white space
-
-pub space_last : (b : ℕ) → ¬ (b ≡ 0x20) → ¬ (b ≡ 0x09) → ¬ (b ≡ 0x0a) → eqb b 0x0d ≡ is_space b
-space_last b x y z = simp (ne_eqb _ _ x, ne_eqb _ _ y, ne_eqb _ _ z)
 
 pub skip_yes : (s : List ℕ) (i : ℕ) → i < length s → is_space (get_or s i 0) ≡ true → skip_ws (drop i s) ≡ skip_ws (drop (i + 1) s)
 unfolding skip_ws
@@ -34,24 +29,7 @@ pub skip_end : (s : List ℕ) (i : ℕ) → length s ≤ i → skip_ws (drop i s
 unfolding skip_ws
 skip_end s i h = rw (past s i h)
 
--- words
-
-module _ (s w : List ℕ) (i k : ℕ) (j : Json) where
-  pub word_same : i < length s → k < length w → get_or s i 0 ≡ get_or w k 0 → (r : Read) → Ends s (i + 1) (literal j (drop (k + 1) w) (drop (i + 1) s)) r → Ends s i (literal j (drop k w) (drop i s)) r
-  unfolding literal
-  word_same h g e r x = rw (next s i h, next w k g, eq-eqb _ _ e) (from (omega arith) x)
-
-  pub word_other : i < length s → k < length w → ¬ (get_or s i 0 ≡ get_or w k 0) → Ends s i (literal j (drop k w) (drop i s)) Read.Bad
-  unfolding literal
-  word_other h g e = rw (next s i h, next w k g, ne_eqb _ _ e) fails
-
-  pub word_short : length s ≤ i → k < length w → Ends s i (literal j (drop k w) (drop i s)) Read.Bad
-  unfolding literal
-  word_short h g = rw (past s i h, next w k g) fails
-
-  pub word_done : i ≤ length s → length w ≤ k → Ends s i (literal j (drop k w) (drop i s)) (Read.End i)
-  unfolding literal
-  word_done h g = rw (past w k g) (ends i (omega arith) h)
+pub ruleset space_steps = (skip_yes, skip_no, skip_end)
 
 -- scalars
 
@@ -89,6 +67,8 @@ module _ (s : List ℕ) (i : ℕ) where
     unfolding read_scalar
     scalar_number a b c d x = rw (next s i h, ne_eqb _ _ a, ne_eqb _ _ b, ne_eqb _ _ c, ne_eqb _ _ d) (numbered (rw (next s i h) at x))
 
+pub ruleset scalar_steps = (scalar_past, scalar_string, scalar_true, scalar_false, scalar_null, scalar_number)
+
 -- names
 
 module _ (s : List ℕ) (i : ℕ) where
@@ -118,14 +98,13 @@ module _ (s : List ℕ) (i : ℕ) where
         unfolding characters
         coloned = named ∙ ap colon (ended x).reads ∙ ap (colon_at (ended x).what) ws.rest
 
-        pub name_short : length s ≤ k → Ends s i (read_name (drop i s)) Read.Bad
-        name_short g = rw (coloned, past s k g) fails
-
-        pub name_other : k < length s → ¬ (get_or s k 0 ≡ 0x3a) → Ends s i (read_name (drop i s)) Read.Bad
-        name_other g n = rw (coloned, next s k g, ne_eqb _ _ n) fails
+        pub name_other : ¬ (get_or s k 0 ≡ 0x3a) → Ends s i (read_name (drop i s)) Read.Bad
+        name_other n = ⊎_elim (λ g. rw (coloned, next s k g, ne_eqb _ _ n) fails) (λ g. rw (coloned, past s k g) fails) (lt_or_ge k (length s))
 
         pub name_done : k < length s → get_or s k 0 ≡ 0x3a → (m : ℕ) → Skipped s (k + 1) m → Ends s i (read_name (drop i s)) (Read.End m)
         name_done g c m w = rw (coloned, next s k g, c, w.rest) (ends m (omega (arith, (ended x).on, ws.from, w.from)) (w.within (omega arith)))
+
+pub ruleset name_steps = (name_past, name_none, name_bad, name_other, name_done)
 
 -- the start of an entry, and what follows it
 
@@ -158,3 +137,7 @@ module _ (s : List ℕ) (i k close : ℕ) (ws : Skipped s i k) where
     pub mark_neither : ¬ (get_or s k 0 ≡ close) → ¬ (get_or s k 0 ≡ 0x2c) → Marks s i (read_mark close (drop i s)) Mark.Neither
     unfolding read_mark
     mark_neither n m = rw (ws.rest, next s k h, ne_eqb _ _ n, ne_eqb _ _ m) neither
+
+pub ruleset start_steps = (start_name, start_past, start_here)
+
+pub ruleset mark_steps = (mark_past, mark_close, mark_comma, mark_neither)

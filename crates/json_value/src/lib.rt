@@ -20,103 +20,71 @@ pub enum Mark {
 fn is_space(b: u8) -> bool
     ensures { result ≡ is_space b }
 {
-    if b == b' ' {
-        return true;
-    }
-    if b == b'\t' {
-        return true;
-    }
-    if b == b'\n' {
-        return true;
-    }
-    b == b'\r'
+    matches!(b, b' ' | b'\t' | b'\n' | b'\r')
 }
 
 // The place after white space.
+#[tactic(auto, using(crate::proofs::Steps::space_steps))]
 pub fn space(s: &[u8], at: usize) -> usize
     ensures { Skipped s.now at result }
 {
-    let mut i = at;
-    while i < s.len() {
-        if is_space(s[i]) {
-            i += 1;
-        } else {
+    for i in at..s.len() {
+        if !is_space(s[i]) {
             return i;
         }
     }
-    i
+    at.max(s.len())
 }
 
 // The rest of a word.
+#[tactic(auto, using(crate::proofs::Words::word_steps))]
 fn word(s: &[u8], at: usize, w: &[u8]) -> Read
     requires { at ≤ length s.now }
     ensures { (j : Json) → Ends s.now at (literal j w.now (drop at s.now)) result }
 {
-    let mut i = at;
-    let mut k = 0;
-    while k < w.len() {
-        if s.len() <= i {
-            return Read::Bad;
-        }
-        if s[i] != w[k] {
-            return Read::Bad;
-        }
-        i += 1;
-        k += 1;
+    if s[at..].starts_with(w) {
+        return Read::End(at + w.len());
     }
-    Read::End(i)
+    Read::Bad
 }
 
 // A value that is no array and no object.
+#[tactic(auto, using(crate::proofs::Steps::scalar_steps))]
 fn scalar(s: &[u8], at: usize) -> Read
     ensures { Ends s.now at (read_scalar (drop at s.now)) result }
 {
     if s.len() <= at {
         return Read::Bad;
     }
-    let b = s[at];
-    if b == b'"' {
-        return json_text::chars(s, at + 1);
+    match s[at] {
+        b'"' => json_text::chars(s, at + 1),
+        b't' => word(s, at + 1, b"rue"),
+        b'f' => word(s, at + 1, b"alse"),
+        b'n' => word(s, at + 1, b"ull"),
+        _ => json_number::number(s, at),
     }
-    if b == b't' {
-        return word(s, at + 1, b"rue");
-    }
-    if b == b'f' {
-        return word(s, at + 1, b"alse");
-    }
-    if b == b'n' {
-        return word(s, at + 1, b"ull");
-    }
-    json_number::number(s, at)
 }
 
 // The value's place after the name that stands at a place.
+#[tactic(auto, using(crate::proofs::Steps::name_steps))]
 pub fn name(s: &[u8], at: usize) -> Read
     ensures { Ends s.now at (read_name (drop at s.now)) result }
 {
-    if s.len() <= at {
+    if s.get(at) != Some(&b'"') {
         return Read::Bad;
     }
-    if s[at] != b'"' {
+    let Read::End(e) = json_text::chars(s, at + 1) else {
+        return Read::Bad;
+    };
+    let k = space(s, e);
+    if s.get(k) != Some(&b':') {
         return Read::Bad;
     }
-    let c = json_text::chars(s, at + 1);
-    match c {
-        Read::Bad => Read::Bad,
-        Read::End(e) => {
-            let k = space(s, e);
-            if s.len() <= k {
-                return Read::Bad;
-            }
-            if s[k] != b':' {
-                return Read::Bad;
-            }
-            Read::End(space(s, k + 1))
-        }
-    }
+    Read::End(space(s, k + 1))
 }
 
 // The place of the value that comes next between brackets, or after a name between braces.
+#[tactic(auto, using(crate::proofs::Steps::start_steps))]
 pub fn start(s: &[u8], at: usize, close: u8) -> Read
     ensures { Ends s.now at (read_start close (drop at s.now)) result }
 {
@@ -131,6 +99,7 @@ pub fn start(s: &[u8], at: usize, close: u8) -> Read
 }
 
 // The closing byte or the comma after a value.
+#[tactic(auto, using(crate::proofs::Steps::mark_steps))]
 pub fn after(s: &[u8], at: usize, close: u8) -> Mark
     ensures { Marks s.now at (read_mark close (drop at s.now)) result }
 {
@@ -138,36 +107,32 @@ pub fn after(s: &[u8], at: usize, close: u8) -> Mark
     if s.len() <= k {
         return Mark::Neither;
     }
-    let b = s[k];
-    if b == close {
-        return Mark::Close(k + 1);
+    match s[k] {
+        b if b == close => Mark::Close(k + 1),
+        b',' => Mark::Comma(k + 1),
+        _ => Mark::Neither,
     }
-    if b == b',' {
-        return Mark::Comma(k + 1);
-    }
-    Mark::Neither
 }
 
 // The end of the value at a place, with at most so many levels of arrays and objects.
 #[cycle(entry_items_value)]
+#[tactic(auto, using(crate::proofs::Nesting::value_steps))]
 pub fn value(s: &[u8], at: usize, levels: u8) -> Read
     ensures { Ends s.now at (read_value levels (drop at s.now)) result }
 {
     if s.len() <= at {
         return Read::Bad;
     }
-    let b = s[at];
-    if b == b'[' {
-        return items(s, at + 1, levels, b']');
+    match s[at] {
+        b'[' => items(s, at + 1, levels, b']'),
+        b'{' => items(s, at + 1, levels, b'}'),
+        _ => scalar(s, at),
     }
-    if b == b'{' {
-        return items(s, at + 1, levels, b'}');
-    }
-    scalar(s, at)
 }
 
 // What follows an opening bracket or brace.
 #[cycle(entry_items_value)]
+#[tactic(auto, using(crate::proofs::Nesting::items_steps))]
 fn items(s: &[u8], at: usize, levels: u8, close: u8) -> Read
     ensures { Ends s.now at (inside_of close levels (drop at s.now)) result }
 {
@@ -183,8 +148,7 @@ fn items(s: &[u8], at: usize, levels: u8, close: u8) -> Read
     }
     let mut i = k;
     loop {
-        let m = entry(s, i, levels - 1, close);
-        match m {
+        match entry(s, i, levels - 1, close) {
             Mark::Close(n) => return Read::End(n),
             Mark::Comma(n) => i = n,
             Mark::Neither => return Read::Bad,
@@ -194,18 +158,15 @@ fn items(s: &[u8], at: usize, levels: u8, close: u8) -> Read
 
 // One value between brackets, with its name between braces, and what follows it.
 #[cycle(entry_items_value)]
+#[tactic(auto, using(crate::proofs::Nesting::entry_steps))]
 pub fn entry(s: &[u8], at: usize, levels: u8, close: u8) -> Mark
     ensures { Marks s.now at (last_of (read_entry close (λ v. read_value levels v) (drop at s.now))) result }
 {
-    let p = start(s, at, close);
-    match p {
-        Read::Bad => Mark::Neither,
-        Read::End(v) => {
-            let q = value(s, v, levels);
-            match q {
-                Read::Bad => Mark::Neither,
-                Read::End(e) => after(s, e, close),
-            }
-        }
-    }
+    let Read::End(v) = start(s, at, close) else {
+        return Mark::Neither;
+    };
+    let Read::End(e) = value(s, v, levels) else {
+        return Mark::Neither;
+    };
+    after(s, e, close)
 }

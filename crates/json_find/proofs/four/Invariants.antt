@@ -1,7 +1,7 @@
 -- `json_find::four` meets its contract.
 -- Assumes nothing.
-use Rattle.basis.proofs.Std.{◌-◌, length, arith, rules}
-use Rattle.json_find.proofs.Once.{Walked, walk_begins, walk_ends, walk_goes_on, next_after, next_in}
+use Rattle.basis.proofs.Std.{◌-◌, length}
+use Rattle.json_find.proofs.Once.{Walked}
 use Rattle.json_find.proofs.four.Given as goal
 
 abbrev pub invariant-loop-v : goal.invariant-loop-v

@@ -1,11 +1,9 @@
 -- `json_find::seek` meets its contract.
 -- Assumes nothing.
-use Rattle.basis.proofs.Std.{◌≤◌, ◌-◌, sym, ◌∙◌, length, drop, arith, rules}
+use Rattle.basis.proofs.Std.{◌≤◌, ◌-◌, length, drop}
 use Rattle.json_text.specs.declared.Read.{Read}
 use Rattle.json_text.specs.Ends.{Ends}
 use Rattle.json_find.specs.Entries.{entries, first_named}
-use Rattle.json_find.proofs.Steps.{seek_here, seek_none, seek_next}
-use Rattle.json_find.proofs.Walks.{step_on, step_in}
 use Rattle.json_find.proofs.seek.Given as goal
 
 abbrev pub invariant-loop-at : goal.invariant-loop-at

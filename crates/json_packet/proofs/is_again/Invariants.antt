@@ -1,11 +1,9 @@
 -- `json_packet::is_again` meets its contract.
 -- Assumes nothing.
-use Rattle.basis.proofs.Std.{◌+◌, ◌-◌, length, drop, ◌≡◌, ◌∙◌, sym, arith, rules}
+use Rattle.basis.proofs.Std.{◌+◌, ◌-◌, length, drop, ◌≡◌}
 use Rattle.json_text.specs.Decoded.{decoded}
 use Rattle.json_find.specs.Entries.{entries}
-use Rattle.json_find.proofs.Walks.{step_on, step_in}
 use Rattle.json_packet.specs.Scan.{any_same, later, again}
-use Rattle.json_packet.proofs.Scans.{again_is, again_none, again_here, again_next}
 use Rattle.json_packet.proofs.is_again.Given as goal
 
 abbrev pub invariant-loop-e : goal.invariant-loop-e

@@ -1,6 +1,6 @@
 -- `json_packet::judge` meets its contract.
 -- Assumes nothing.
-use Rattle.basis.proofs.Std.{◌∙◌, sym, rules}
+use Rattle.basis.proofs.Std.{◌∙◌, sym}
 use Rattle.json_packet.proofs.Whole.{none_there, no_object, no_value_lem, more_follows, by_marks, by_names}
 use Rattle.json_packet.proofs.Judging.{refused, value_judged, taken}
 use Rattle.json_packet.proofs.judge.Goals as goal

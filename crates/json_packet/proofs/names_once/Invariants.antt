@@ -1,8 +1,7 @@
 -- `json_packet::names_once` meets its contract.
 -- Assumes nothing.
-use Rattle.basis.proofs.Std.{◌-◌, length, drop, ◌≡◌, ◌∙◌, sym, refl, arith, rules}
+use Rattle.basis.proofs.Std.{◌-◌, length, drop, ◌≡◌}
 use Rattle.json_packet.specs.Scan.{scan}
-use Rattle.json_packet.proofs.Scans.{scan_bad, scan_on, token_on, token_in, scan_past}
 use Rattle.json_packet.proofs.names_once.Given as goal
 
 abbrev pub invariant-loop-i : goal.invariant-loop-i

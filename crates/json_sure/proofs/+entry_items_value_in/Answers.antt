@@ -8,15 +8,6 @@ use Rattle.json_sure.proofs.Entries.{enters_none, enters_bad, enters}
 use Rattle.json_sure.proofs.Saying.{ItemsSay, say_last, say_next, judged_none, judged_past, judged_empty, inside_say, value_past, value_array, value_object, value_scalar}
 use Rattle.json_sure.proofs.+entry_items_value_in.Goals as goal
 
-pub entry-returns-in-Bad : goal.entry-returns-in-Bad
-entry-returns-in-Bad t c = enters_none _ _ _ _ _ _ (rw c.in-Bad.is at c.start-p.ensures)
-
-pub entry-returns-in-Bad-q : goal.entry-returns-in-Bad-q
-entry-returns-in-Bad-q t c = enters_bad _ _ _ _ _ _ _ (rw c.in-End.is at c.start-p.ensures) (rw c.in-Bad-q.is at c.value_in-q.ensures)
-
-pub entry-returns-in-End-q : goal.entry-returns-in-End-q
-entry-returns-in-End-q t c = rw c.followed.ensures (enters _ _ _ _ _ _ _ (rw c.in-End.is at c.start-p.ensures) _ _ (rw c.in-End-q.is at c.value_in-q.ensures) _ c.after.ensures)
-
 pub items-returns-then-levels-eq0 : goal.items-returns-then-levels-eq0
 items-returns-then-levels-eq0 t c = judged_none _ _ _ _ _ _ c.if-levels-eq0.true
 
@@ -63,14 +54,23 @@ items-returns-in-Neither t c =
     let e = rw c.in-Neither.is at c.entry-m.ensures in
     record { place = c.loop-n.invariant.3 _ (items_neither _ _ _ _ e.place); says = λ j u h. tt }
 
+pub entry-returns-in_default : goal.entry-returns-in_default
+entry-returns-in_default t c = enters_none _ _ _ _ _ _ (rw c.in_default.is at c.start.ensures)
+
+pub entry-returns-in_default-value_in : goal.entry-returns-in_default-value_in
+entry-returns-in_default-value_in t c = enters_bad _ _ _ _ _ _ _ (rw c.in-End.is at c.start.ensures) (rw c.in_default-value_in.is at c.value_in.ensures)
+
+pub entry-returns : goal.entry-returns
+entry-returns t c = rw c.followed.ensures (enters _ _ _ _ _ _ _ (rw c.in-End.is at c.start.ensures) _ _ (rw c.in-End-value_in.is at c.value_in.ensures) _ c.after.ensures)
+
 pub value_in-returns-then-s-at : goal.value_in-returns-then-s-at
 value_in-returns-then-s-at t c = value_past _ _ _ _ _ c.if-s-at.true
 
-pub value_in-returns-then-b-eq91 : goal.value_in-returns-then-b-eq91
-value_in-returns-then-b-eq91 t c = value_array _ _ _ _ _ c.if-s-at.false _ c.if-b-eq91.true c.items.ensures
+pub value_in-returns-in-91 : goal.value_in-returns-in-91
+value_in-returns-in-91 t c = value_array _ _ _ _ _ c.if-s-at.false _ c.in-91.is c.items.ensures
 
-pub value_in-returns-then-b-eq123 : goal.value_in-returns-then-b-eq123
-value_in-returns-then-b-eq123 t c = value_object _ _ _ _ _ c.if-s-at.false _ c.if-b-eq123.true c.items-then-b-eq123.ensures
+pub value_in-returns-in-123 : goal.value_in-returns-in-123
+value_in-returns-in-123 t c = value_object _ _ _ _ _ c.if-s-at.false _ c.in-123.is c.items-in-123.ensures
 
-pub value_in-returns : goal.value_in-returns
-value_in-returns t c = rw c.ended.ensures (value_scalar _ _ _ _ _ c.if-s-at.false _ c.if-b-eq91.false c.if-b-eq123.false c.value.ensures)
+pub value_in-returns-in_default : goal.value_in-returns-in_default
+value_in-returns-in_default t c = rw c.ended.ensures (value_scalar _ _ _ _ _ c.if-s-at.false _ (search rules) (search rules) c.value.ensures)

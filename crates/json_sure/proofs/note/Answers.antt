@@ -1,17 +1,9 @@
 -- `json_sure::note` meets its contract.
 -- Assumes nothing.
-use Rattle.basis.proofs.Std.{ap, ◌∙◌, arith, rules}
+use Rattle.basis.proofs.Std.{◌∙◌, ap, arith, rules}
 use Rattle.json_sure.specs.Sure.{all_of}
-use Rattle.json_sure.proofs.Notes.{notes_none, notes_full, notes_new}
+use Rattle.json_sure.proofs.Notes.{notes_new}
 use Rattle.json_sure.proofs.note.Goals as goal
-
-pub returns-then-m-ge-NO_MARK : goal.returns-then-m-ge-NO_MARK
-returns-then-m-ge-NO_MARK c =
-    notes_none c.args.marks.now c.args.t c.args.m c.args.value (search rules) (omega arith) _ c.all.ensures
-
-pub returns-then-marks-count : goal.returns-then-marks-count
-returns-then-marks-count c =
-    notes_full c.args.marks.now c.args.t c.args.m c.args.value (search rules) (omega arith) c.if-marks-count.true
 
 pub returns : goal.returns
 returns c =

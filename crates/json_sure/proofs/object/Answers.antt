@@ -1,6 +1,5 @@
 -- `json_sure::object` meets its contract.
 -- Assumes nothing.
-use Rattle.basis.proofs.Std.{rules}
 use Rattle.json_sure.proofs.Room.{judged_short}
 use Rattle.json_sure.proofs.object.Goals as goal
 

@@ -1,16 +1,15 @@
 -- `json_sure::object_in` meets its contract.
 -- Assumes nothing.
-use Rattle.basis.proofs.Std.{ℕ, ◌≤◌, ◌-◌, ◌≡◌, refl, subst, ◌∙◌, Bool, List, [], arith, rules, length, drop}
+use Rattle.basis.proofs.Std.{ℕ, ◌≤◌, ◌-◌, ◌≡◌, Bool, List, length, drop}
 use Rattle.json_text.specs.Decoded.Parsed.{ok}
 use Rattle.json_text.specs.declared.Read.{Read}
 use Rattle.json_text.specs.Ends.{Ends}
 use Rattle.json_value.specs.Grammar.{Json}
 use Rattle.json_value.specs.Reader.{inside_of}
-use Rattle.json_value.proofs.Nesting.{ItemsAt, items_last, items_neither, items_next, comma_after, comma_in, inside_items}
-use Rattle.json_sure.specs.Sure.{Noted, sure_in, noted_in}
-use Rattle.json_sure.proofs.Notes.{none_noted_lem, enters_rest, noted_rest, sure_rest}
-use Rattle.json_sure.proofs.Saying.{ItemsSay, say_last, say_next, judged_past, judged_empty, inside_say}
-use Rattle.json_sure.proofs.Listing.{eight, FoundFrom, found_first, found_next, found_last, CountFrom, count_first, count_next, count_last, count_none, finds_bad, finds_empty, finds_all}
+use Rattle.json_value.proofs.Nesting.{ItemsAt}
+use Rattle.json_sure.specs.Sure.{sure_in, noted_in}
+use Rattle.json_sure.proofs.Saying.{ItemsSay}
+use Rattle.json_sure.proofs.Listing.{FoundFrom, CountFrom}
 use Rattle.json_sure.proofs.object_in.Given as goal
 
 abbrev pub invariant-loop-e : goal.invariant-loop-e

@@ -1,13 +1,9 @@
 -- `json_text::chars` meets its contract.
 -- Assumes nothing.
-use Rattle.basis.proofs.Std.{◌≤◌, ◌-◌, ◌+◌, ◌∙◌, sym, arith, rules, eqb-true, length, drop}
+use Rattle.basis.proofs.Std.{◌≤◌, ◌-◌, length, drop}
 use Rattle.json_text.specs.declared.Read.{Read}
-use Rattle.json_text.specs.declared.Read.TheVariants as Read
 use Rattle.json_text.specs.Ends.{Ends}
-use Rattle.json_text.specs.Ends.Ends.{ends, fails}
 use Rattle.json_text.specs.Decoded.{decoded}
-use Rattle.json_text.proofs.Texts.{one, one_in, close, close_in, no_char, pushed}
-use Rattle.json_text.proofs.Runs.{run_to, run_close, quote_in}
 use Rattle.json_text.proofs.chars.Given as goal
 
 abbrev pub invariant-loop-at : goal.invariant-loop-at

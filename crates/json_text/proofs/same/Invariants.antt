@@ -1,8 +1,7 @@
 -- `json_text::same` meets its contract.
 -- Assumes nothing.
-use Rattle.basis.proofs.Std.{◌-◌, ◌≡◌, refl, ◌∙◌, sym, arith, rules, length, drop}
+use Rattle.basis.proofs.Std.{◌-◌, ◌≡◌, length, drop}
 use Rattle.json_text.specs.Decoded.{decoded, same_text}
-use Rattle.json_text.proofs.Texts.{one_in, close, same_both, same_differ, same_longer, same_shorter, same_done, same_bad_1, same_bad_2}
 use Rattle.json_text.proofs.same.Given as goal
 
 abbrev pub invariant-loop-x : goal.invariant-loop-x

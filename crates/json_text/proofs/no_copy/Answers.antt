@@ -1,9 +1,0 @@
--- `json_text::no_copy` meets its contract.
--- Assumes nothing.
-use Rattle.basis.proofs.Std.{refl}
-use Rattle.json_text.specs.Copied.{no_copy}
-use Rattle.json_text.proofs.no_copy.Goals as goal
-
-pub returns : goal.returns
-unfolding no_copy
-returns c = refl
