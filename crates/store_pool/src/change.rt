@@ -37,10 +37,8 @@ pub fn unmark(w: &mut [u64], l: u16)
     requires { length w.old ≡ pool_words }
     ensures { pool_in w.new ≡ unmark_of (pool_in w.old) l }
 {
-    let mut i: usize = 0;
-    while i < 128 {
+    for i in 0..128 {
         unmark_at(w, i, l);
-        i += 1;
     }
 }
 
@@ -67,10 +65,8 @@ pub fn clear(w: &mut [u64], l: u16)
     requires { length w.old ≡ pool_words }
     ensures { pool_in w.new ≡ clear_of (pool_in w.old) l }
 {
-    let mut i: usize = 0;
-    while i < 128 {
+    for i in 0..128 {
         free_at(w, i, l);
-        i += 1;
     }
     if l < 8 {
         w[l as usize] = 0;

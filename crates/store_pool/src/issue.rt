@@ -36,9 +36,7 @@ fn counts(w: &[u64]) -> [u64; 8]
     ensures { Counted (places_in w.now) result }
 {
     let mut held = [0u64; 8];
-    let mut i: usize = 128;
-    while 0 < i {
-        i -= 1;
+    for i in (0..128).rev() {
         tally(w, i, &mut held);
     }
     held
@@ -62,10 +60,8 @@ fn fullest_of(w: &[u64]) -> u16
 {
     let held = counts(w);
     let mut m: u16 = 0;
-    let mut k: u16 = 1;
-    while k < 8 {
+    for k in 1..8 {
         m = fuller_in(&held, m, k);
-        k += 1;
     }
     m
 }
@@ -104,7 +100,7 @@ fn room(w: &[u64], who: Loser, free: usize) -> usize
 pub fn more(k: u64) -> u64
     ensures { result ≡ more_of k }
 {
-    if k < 18446744073709551615 { k + 1 } else { k }
+    k.saturating_add(1)
 }
 
 fn lose_of(w: &mut [u64], m: u16)

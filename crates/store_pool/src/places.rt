@@ -58,17 +58,11 @@ pub fn put_place(w: &mut [u64], k: usize, x: Place)
     w[i + 3] = x.mark;
 }
 
-fn and(a: bool, b: bool) -> bool
-    ensures { result ≡ both a b }
-{
-    if a { b } else { false }
-}
-
 // Whether a place holds a record of the owner.
 pub fn mine(x: Place, l: u16) -> bool
     ensures { result ≡ of l x }
 {
-    and(0 < x.mark, x.entry.link == l)
+    0 < x.mark && x.entry.link == l
 }
 
 // Whether a place is what is asked for.
@@ -78,18 +72,11 @@ fn asked(x: Place, w: Wanted) -> bool
     match w {
         Wanted::Free => x.mark == 0,
         Wanted::Of(l) => mine(x, l),
-        Wanted::Unsent(l) => and(mine(x, l), x.mark == 1),
-        Wanted::Older(l, q) => and(mine(x, l), x.entry.sequence < q),
-        Wanted::Numbered(l, q) => and(mine(x, l), x.entry.sequence == q),
-        Wanted::Alarm(l, k) => and(mine(x, l), and(x.entry.kind == 0, x.entry.item == k)),
+        Wanted::Unsent(l) => mine(x, l) && x.mark == 1,
+        Wanted::Older(l, q) => mine(x, l) && x.entry.sequence < q,
+        Wanted::Numbered(l, q) => mine(x, l) && x.entry.sequence == q,
+        Wanted::Alarm(l, k) => mine(x, l) && x.entry.kind == 0 && x.entry.item == k,
     }
-}
-
-fn add(n: usize, t: bool) -> usize
-    requires { n < 128 }
-    ensures { result ≡ bit t + n }
-{
-    if t { n + 1 } else { n }
 }
 
 // How many places are what is asked for.
@@ -98,10 +85,10 @@ pub fn number(w: &[u64], q: Wanted) -> usize
     ensures { result ≡ count (fits q) (places_in w.now) }
 {
     let mut n: usize = 0;
-    let mut i: usize = 128;
-    while 0 < i {
-        i -= 1;
-        n = add(n, asked(place(w, i), q));
+    for i in (0..128).rev() {
+        if asked(place(w, i), q) {
+            n += 1;
+        }
     }
     n
 }
@@ -112,10 +99,7 @@ fn is_mine(w: &[u64], k: usize, l: u16) -> bool
     ensures { result ≡ of l (get_or (places_in w.now) k no_place) }
 {
     let i = 8 + 4 * k;
-    if w[i + 3] == 0 {
-        return false;
-    }
-    store_words::quarter(w[i + 2], 48) == l
+    w[i + 3] != 0 && store_words::quarter(w[i + 2], 48) == l
 }
 
 // How many records of the owner are held.
@@ -124,10 +108,10 @@ pub fn holds(w: &[u64], l: u16) -> usize
     ensures { result ≡ held_in (places_in w.now) l }
 {
     let mut n: usize = 0;
-    let mut i: usize = 128;
-    while 0 < i {
-        i -= 1;
-        n = add(n, is_mine(w, i, l));
+    for i in (0..128).rev() {
+        if is_mine(w, i, l) {
+            n += 1;
+        }
     }
     n
 }
@@ -138,10 +122,8 @@ fn nearer(t: bool, i: usize, q: u32, b: Best) -> Best
     ensures { (p : List Place) → (x : Place) → (s : Spot) → q ≡ x.entry.sequence → x ≡ get_or p i no_place → Is p b.at b.sequence s → Is p result.at result.sequence (older t i x s) }
 {
     if t {
-        if b.at < 128 {
-            if b.sequence < q {
-                return b;
-            }
+        if b.at < 128 && b.sequence < q {
+            return b;
         }
         return Best { at: i, sequence: q };
     }
@@ -157,9 +139,7 @@ pub fn first(w: &[u64], q: Wanted) -> usize
         at: 128,
         sequence: 0,
     };
-    let mut i: usize = 128;
-    while 0 < i {
-        i -= 1;
+    for i in (0..128).rev() {
         let x = place(w, i);
         b = nearer(asked(x, q), i, x.entry.sequence, b);
     }
@@ -172,10 +152,8 @@ fn later(t: bool, i: usize, q: u32, b: Best) -> Best
     ensures { (p : List Place) → (x : Place) → (s : Spot) → q ≡ x.entry.sequence → x ≡ get_or p i no_place → Is p b.at b.sequence s → Is p result.at result.sequence (newer t i x s) }
 {
     if t {
-        if b.at < 128 {
-            if q <= b.sequence {
-                return b;
-            }
+        if b.at < 128 && q <= b.sequence {
+            return b;
         }
         return Best { at: i, sequence: q };
     }
@@ -191,9 +169,7 @@ pub fn last(w: &[u64], q: Wanted) -> usize
         at: 128,
         sequence: 0,
     };
-    let mut i: usize = 128;
-    while 0 < i {
-        i -= 1;
+    for i in (0..128).rev() {
         let x = place(w, i);
         b = later(asked(x, q), i, x.entry.sequence, b);
     }
@@ -214,12 +190,10 @@ fn vacant(w: &[u64]) -> usize
     requires { length w.now ≡ pool_words }
     ensures { Vacant (places_in w.now) result }
 {
-    let mut i: usize = 0;
-    while i < 128 {
+    for i in 0..128 {
         if is_free(w, i) {
             return i;
         }
-        i += 1;
     }
     128
 }
@@ -243,10 +217,7 @@ fn has_rank(w: &[u64], l: u16, rank: usize, x: Place) -> bool
     requires { length w.now ≡ pool_words }
     ensures { result ≡ rank_is (places_in w.now) l rank x }
 {
-    if mine(x, l) {
-        return number(w, Wanted::Older(l, x.entry.sequence)) == rank;
-    }
-    false
+    mine(x, l) && number(w, Wanted::Older(l, x.entry.sequence)) == rank
 }
 
 // Where the record of the owner stands than which so many of its records are older; 128 where there is none.
@@ -258,9 +229,7 @@ pub fn ranked(w: &[u64], l: u16, rank: usize) -> usize
         at: 128,
         sequence: 0,
     };
-    let mut i: usize = 128;
-    while 0 < i {
-        i -= 1;
+    for i in (0..128).rev() {
         let x = place(w, i);
         b = nearer(has_rank(w, l, rank, x), i, x.entry.sequence, b);
     }

@@ -7,22 +7,16 @@ use Rattle.store_site.specs.Layout.{pool_words}
 use Rattle.store_pool.proofs.change.unmark.Goals as goal
 
 pub loop-i-init : goal.loop-i-init
-loop-i-init c = (omega arith, (search rules, (search rules, upto_none (unsent_for c.args.l) c.args.w.now)))
-
-pub overflow_add-i : goal.overflow_add-i
-overflow_add-i c = omega arith
-
-pub loop-i-smaller : goal.loop-i-smaller
-loop-i-smaller c = omega arith
+loop-i-init c = (search rules, (search rules, upto_none (unsent_for c.args.l) c.args.w.now))
 
 pub loop-i-preserved : goal.loop-i-preserved
 loop-i-preserved c =
     let l = c.loop-i in
     let put = c.unmark_at in
     let n : length put.new.w ≡ pool_words = search rules in
-    (omega arith, (n, (l.invariant.1.1.0, upto_next (unsent_for c.args.l) c.args.w.now l.w put.new.w l.i (omega arith) l.invariant.1.1.1 put.ensures)))
+    (n, (l.invariant.1.0, upto_next (unsent_for c.args.l) c.args.w.now l.w put.new.w l.i (omega arith) l.invariant.1.1 put.ensures))
 
 pub returns : goal.returns
 returns c =
     let l = c.loop-i in
-    unmarked c.args.w.now l.w c.args.l l.i (omega arith) l.invariant.1.1.1
+    unmarked c.args.w.now l.w c.args.l l.i (omega arith) l.invariant.1.1

@@ -6,7 +6,4 @@ use Rattle.store_pool.specs.Pools.{Counted}
 use Rattle.store_pool.proofs.issue.counts.Given as goal
 
 abbrev pub invariant-loop-i : goal.invariant-loop-i
-invariant-loop-i l = (l.i ≤ 128) × ((length l.held ≡ 8) × Counted (drop l.i (places_in l.w)) l.held)
-
-abbrev pub decreases-loop-i : goal.decreases-loop-i
-decreases-loop-i l = l.i
+invariant-loop-i l = ((length l.held ≡ 8) × Counted (drop l.i (places_in l.w)) l.held)

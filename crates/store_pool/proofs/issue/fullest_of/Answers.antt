@@ -20,12 +20,6 @@ fuller_in-m-requires c =
     let i = c.loop-k.invariant in
     (i.1.1.1.0, (i.1.1.0, omega arith))
 
-pub overflow_add-k : goal.overflow_add-k
-overflow_add-k c = omega arith
-
-pub loop-k-smaller : goal.loop-k-smaller
-loop-k-smaller c = omega arith
-
 pub loop-k-preserved : goal.loop-k-preserved
 loop-k-preserved c =
     let l = c.loop-k in

@@ -9,7 +9,4 @@ use Rattle.store_pool.proofs.issue.fullest_of.Given as goal
 
 abbrev pub invariant-loop-k : goal.invariant-loop-k
 invariant-loop-k l =
-    (1 ≤ l.k) × ((l.k ≤ 8) × ((l.m < 8) × ((length l.held ≡ 8) × (Counted (places_in l.w) l.held × (l.m ≡ fullest (held_in (places_in l.w)) (l.k - 1))))))
-
-abbrev pub decreases-loop-k : goal.decreases-loop-k
-decreases-loop-k l = 8 - l.k
+    (1 ≤ l.k) × (((l.m < 8) × ((length l.held ≡ 8) × (Counted (places_in l.w) l.held × (l.m ≡ fullest (held_in (places_in l.w)) (l.k - 1))))))

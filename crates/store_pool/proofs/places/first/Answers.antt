@@ -13,25 +13,16 @@ pub loop-i-init : goal.loop-i-init
 loop-i-init c =
     let p = places_in c.args.w.now in
     let h : length p ≡ 128 = places_length _ in
-    (omega arith, rw (oldest_end (fits c.args.q) p 128 (omega arith)) (nowhere refl))
-
-pub overflow_sub-i : goal.overflow_sub-i
-overflow_sub-i c = omega arith
-
-pub nearer-b-requires : goal.nearer-b-requires
-nearer-b-requires c = omega arith
-
-pub loop-i-smaller : goal.loop-i-smaller
-loop-i-smaller c = omega arith
+    rw (oldest_end (fits c.args.q) p 128 (omega arith)) (nowhere refl)
 
 pub loop-i-preserved : goal.loop-i-preserved
 loop-i-preserved c =
     let p = places_in c.args.w.now in
     let i = c.loop-i.i in
     let h : length p ≡ 128 = places_length _ in
-    (omega arith, rw (oldest_down (fits c.args.q) p i (omega arith) (omega arith), ← c.place-x.ensures, ← c.asked.ensures) (c.nearer-b.ensures p c.place-x.result (oldest_from (fits c.args.q) i (drop i p)) refl c.place-x.ensures c.loop-i.invariant.1))
+    rw (oldest_down (fits c.args.q) p i (omega arith) (omega arith), ← c.place-x.ensures, ← c.asked.ensures) (c.nearer-b.ensures p c.place-x.result (oldest_from (fits c.args.q) i (drop i p)) refl c.place-x.ensures c.loop-i.invariant)
 
 pub returns : goal.returns
 returns c =
     let e : c.loop-i.i ≡ 0 = omega arith in
-    stands (rw e at c.loop-i.invariant.1)
+    stands (rw e at c.loop-i.invariant)

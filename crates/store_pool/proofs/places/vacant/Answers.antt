@@ -6,23 +6,17 @@ use Rattle.store_pool.proofs.PlaceLaws.{taken_next}
 use Rattle.store_pool.proofs.places.vacant.Goals as goal
 
 pub loop-i-init : goal.loop-i-init
-loop-i-init c = (omega arith, λ j g. absurd (omega arith))
+loop-i-init c = λ j g. absurd (omega arith)
 
 pub returns-then-is_free : goal.returns-then-is_free
 returns-then-is_free c =
     let l = c.loop-i in
-    record { most = l.invariant.0; taken = l.invariant.1; free = λ h. sym c.is_free.ensures ∙ c.if-is_free.true }
-
-pub overflow_add-i : goal.overflow_add-i
-overflow_add-i c = omega arith
-
-pub loop-i-smaller : goal.loop-i-smaller
-loop-i-smaller c = omega arith
+    record { most = l.invariant.0; taken = l.invariant; free = λ h. sym c.is_free.ensures ∙ c.if-is_free.true }
 
 pub loop-i-preserved : goal.loop-i-preserved
 loop-i-preserved c =
-    (omega arith, taken_next (places_in c.args.w.now) c.loop-i.i c.loop-i.invariant.1 (sym c.is_free.ensures ∙ c.if-is_free.false))
+    taken_next (places_in c.args.w.now) c.loop-i.i c.loop-i.invariant (sym c.is_free.ensures ∙ c.if-is_free.false)
 
 pub returns : goal.returns
 returns c =
-    record { most = omega arith; taken = λ j g. c.loop-i.invariant.1 j (omega arith); free = λ h. absurd (omega arith) }
+    record { most = omega arith; taken = λ j g. c.loop-i.invariant j (omega arith); free = λ h. absurd (omega arith) }

@@ -9,7 +9,4 @@ use Rattle.store_whole.proofs.FillLaws.{Upto}
 use Rattle.store_whole.proofs.lists.fill_links.Given as goal
 
 abbrev pub invariant-loop-k : goal.invariant-loop-k
-invariant-loop-k l = (l.k ≤ 4) × ((length l.w ≡ site_words) × ((length l.initial.w ≡ site_words) × (Upto links_in with_links closed_link l.initial.w l.w (replicate 4 l.x) l.k × ((j : ℕ) → j < l.k → PlainAt l.w (5 + 75 * j)))))
-
-abbrev pub decreases-loop-k : goal.decreases-loop-k
-decreases-loop-k l = 4 - l.k
+invariant-loop-k l = ((length l.w ≡ site_words) × ((length l.initial.w ≡ site_words) × (Upto links_in with_links closed_link l.initial.w l.w (replicate 4 l.x) l.k × ((j : ℕ) → j < l.k → PlainAt l.w (5 + 75 * j)))))

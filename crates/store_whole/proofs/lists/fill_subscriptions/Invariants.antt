@@ -8,7 +8,4 @@ use Rattle.store_whole.proofs.FillLaws.{Upto}
 use Rattle.store_whole.proofs.lists.fill_subscriptions.Given as goal
 
 abbrev pub invariant-loop-k : goal.invariant-loop-k
-invariant-loop-k l = (l.k ≤ 128) × ((length l.w ≡ site_words) × ((length l.initial.w ≡ site_words) × Upto subscriptions_in with_subscriptions none l.initial.w l.w (replicate 128 l.x) l.k))
-
-abbrev pub decreases-loop-k : goal.decreases-loop-k
-decreases-loop-k l = 128 - l.k
+invariant-loop-k l = ((length l.w ≡ site_words) × ((length l.initial.w ≡ site_words) × Upto subscriptions_in with_subscriptions none l.initial.w l.w (replicate 128 l.x) l.k))

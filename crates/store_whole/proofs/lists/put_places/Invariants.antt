@@ -6,7 +6,4 @@ use Rattle.store_whole.proofs.FillLaws.{PlacesTo}
 use Rattle.store_whole.proofs.lists.put_places.Given as goal
 
 abbrev pub invariant-loop-k : goal.invariant-loop-k
-invariant-loop-k l = (l.k ≤ 128) × ((length l.w ≡ pool_words) × ((length l.initial.w ≡ pool_words) × PlacesTo l.w l.places l.k))
-
-abbrev pub decreases-loop-k : goal.decreases-loop-k
-decreases-loop-k l = 128 - l.k
+invariant-loop-k l = ((length l.w ≡ pool_words) × ((length l.initial.w ≡ pool_words) × PlacesTo l.w l.places l.k))
