@@ -16,8 +16,8 @@ pub fn put_places(w: &mut [u64], places: [Place; 128])
     requires { length w.old ≡ pool_words }
     ensures { places_in w.new ≡ places }
 {
-    for k in 0..128 {
-        store_pool::places::put_place(w, k, places[k]);
+    for (k, place) in places.iter().enumerate() {
+        store_pool::places::put_place(w, k, *place);
     }
 }
 
@@ -25,9 +25,7 @@ pub fn put_lost(w: &mut [u64], lost: [u64; 8])
     requires { length w.old ≡ pool_words }
     ensures { PutLost w.old w.new lost }
 {
-    for k in 0..8 {
-        w[k] = lost[k];
-    }
+    w[..8].copy_from_slice(&lost);
 }
 
 pub fn fill_links(w: &mut [u64], x: Link)

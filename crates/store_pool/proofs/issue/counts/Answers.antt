@@ -19,7 +19,7 @@ pub tally-requires : goal.tally-requires
 tally-requires c =
     let l = c.loop-i in
     let p = places_in c.args.w.now in
-    (search rules, (l.invariant.0, counted_below p l.i l.held (places_length _) l.invariant.0 (omega arith) l.invariant.1))
+    (search rules, (omega arith, (l.invariant.0, counted_below p l.i l.held (places_length _) l.invariant.0 (omega arith) l.invariant.1)))
 
 pub loop-i-preserved : goal.loop-i-preserved
 loop-i-preserved c =

@@ -1,6 +1,6 @@
 -- `store_pool::issue::counts` meets its contract.
 -- Assumes nothing.
-use Rattle.basis.proofs.Std.{◌≤◌, ◌≡◌, length, drop}
+use Rattle.basis.proofs.Std.{◌≡◌, length, drop}
 use Rattle.store_site.specs.Layout.{places_in}
 use Rattle.store_pool.specs.Pools.{Counted}
 use Rattle.store_pool.proofs.issue.counts.Given as goal

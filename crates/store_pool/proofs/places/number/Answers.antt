@@ -13,21 +13,17 @@ loop-i-init c =
     let h : length p ≡ 128 = places_length _ in
     sym (count_end _ p 128 (omega arith))
 
-pub add-n-requires : goal.add-n-requires
-add-n-requires c =
+pub overflow_add-n : goal.overflow_add-n
+overflow_add-n c = omega (arith, count_most (fits c.args.q) (drop c.loop-i.i (places_in c.args.w.now)), places_length c.args.w.now, length-drop c.loop-i.i (places_in c.args.w.now))
+
+pub loop-i-preserved-then-asked : goal.loop-i-preserved-then-asked
+loop-i-preserved-then-asked c =
     let p = places_in c.args.w.now in
-    let i = c.loop-i.i in
     let h : length p ≡ 128 = places_length _ in
-    omega (arith, count_most (fits c.args.q) (drop i p), length-drop i p)
+    rw (count_down _ p c.loop-i.i (omega arith) (omega arith), ← c.place.ensures, ← c.asked.ensures, c.if-asked.true) (omega arith)
 
 pub loop-i-preserved : goal.loop-i-preserved
 loop-i-preserved c =
     let p = places_in c.args.w.now in
-    let i = c.loop-i.i in
     let h : length p ≡ 128 = places_length _ in
-    rw (count_down _ p i (omega arith) (omega arith), ← c.place.ensures, ← c.asked.ensures, ← c.loop-i.invariant) c.add-n.ensures
-
-pub returns : goal.returns
-returns c =
-    let e : c.loop-i.i ≡ 0 = omega arith in
-    rw e at c.loop-i.invariant
+    rw (count_down _ p c.loop-i.i (omega arith) (omega arith), ← c.place.ensures, ← c.asked.ensures, c.if-asked.false) (omega arith)

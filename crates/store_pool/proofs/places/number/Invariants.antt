@@ -1,6 +1,6 @@
 -- `store_pool::places::number` meets its contract.
 -- Assumes nothing.
-use Rattle.basis.proofs.Std.{◌≤◌, ◌≡◌, drop, count}
+use Rattle.basis.proofs.Std.{◌≡◌, drop, count}
 use Rattle.pool.specs.Places.{fits}
 use Rattle.store_site.specs.Layout.{places_in}
 use Rattle.store_pool.proofs.places.number.Given as goal

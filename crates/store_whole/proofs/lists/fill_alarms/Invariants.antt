@@ -8,4 +8,4 @@ use Rattle.store_whole.proofs.FillLaws.{Upto}
 use Rattle.store_whole.proofs.lists.fill_alarms.Given as goal
 
 abbrev pub invariant-loop-k : goal.invariant-loop-k
-invariant-loop-k l = ((length l.w ≡ site_words) × ((length l.initial.w ≡ site_words) × Upto alarms_in with_alarms (beginning 0) l.initial.w l.w (replicate 32 l.x) l.k))
+invariant-loop-k l = Upto alarms_in with_alarms (beginning 0) l.initial.w l.w (replicate 32 l.x) l.k

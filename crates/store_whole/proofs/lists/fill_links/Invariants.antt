@@ -9,4 +9,4 @@ use Rattle.store_whole.proofs.FillLaws.{Upto}
 use Rattle.store_whole.proofs.lists.fill_links.Given as goal
 
 abbrev pub invariant-loop-k : goal.invariant-loop-k
-invariant-loop-k l = ((length l.w ≡ site_words) × ((length l.initial.w ≡ site_words) × (Upto links_in with_links closed_link l.initial.w l.w (replicate 4 l.x) l.k × ((j : ℕ) → j < l.k → PlainAt l.w (5 + 75 * j)))))
+invariant-loop-k l = (Upto links_in with_links closed_link l.initial.w l.w (replicate 4 l.x) l.k × ((j : ℕ) → j < l.k → PlainAt l.w (5 + 75 * j)))

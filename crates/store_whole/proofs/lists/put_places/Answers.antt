@@ -7,16 +7,16 @@ use Rattle.store_whole.proofs.FillLaws.{inside, places_next, places_all}
 use Rattle.store_whole.proofs.lists.put_places.Goals as goal
 
 pub loop-k-init : goal.loop-k-init
-loop-k-init c = (search rules, (search rules, λ j h. absurd (omega arith)))
+loop-k-init c = λ j h. absurd (omega arith)
 
 pub loop-k-preserved : goal.loop-k-preserved
 loop-k-preserved c =
     let l = c.loop-k in
-    let n : length c.put_place.new.w ≡ pool_words = search rules in
     let m : length c.args.places ≡ 128 = search (c, rules) in
-    (n, (l.invariant.1.0, places_next l.w c.put_place.new.w c.args.places l.k _ (omega arith) l.invariant.1.1 (inside c.args.places l.k _ no_place (omega arith)) c.put_place.ensures))
+    places_next l.w c.put_place.new.w c.args.places l.k _ (omega arith) l.invariant (inside c.args.places l.k _ no_place (omega arith)) c.put_place.ensures
 
 pub returns : goal.returns
 returns c =
     let l = c.loop-k in
-    places_all l.w c.args.places l.k (omega arith) (search (c, rules)) l.invariant.1.1
+    let m : length c.args.places ≡ 128 = search (c, rules) in
+    places_all l.w c.args.places l.k (omega arith) m l.invariant

@@ -6,4 +6,4 @@ use Rattle.store_whole.proofs.FillLaws.{PlacesTo}
 use Rattle.store_whole.proofs.lists.put_places.Given as goal
 
 abbrev pub invariant-loop-k : goal.invariant-loop-k
-invariant-loop-k l = ((length l.w ≡ pool_words) × ((length l.initial.w ≡ pool_words) × PlacesTo l.w l.places l.k))
+invariant-loop-k l = PlacesTo l.w l.fn.places l.k

@@ -1,9 +1,0 @@
--- `store_whole::lists::put_lost` meets its contract.
--- Assumes nothing.
-use Rattle.basis.proofs.Std.{◌≤◌, ◌-◌, ◌≡◌, length}
-use Rattle.store_site.specs.Layout.{pool_words}
-use Rattle.store_whole.proofs.FillLaws.{LostTo}
-use Rattle.store_whole.proofs.lists.put_lost.Given as goal
-
-abbrev pub invariant-loop-k : goal.invariant-loop-k
-invariant-loop-k l = ((length l.w ≡ pool_words) × ((length l.initial.w ≡ pool_words) × LostTo l.initial.w l.w l.lost l.k))
