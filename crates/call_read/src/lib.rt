@@ -90,11 +90,10 @@ fn reading(s: Sought) -> Reading
             found: false,
             bytes: [0; 16],
         },
-        Sought::Found(x) => {
-            let packed = entry::pack(x.entry);
-            let bytes = packed.bytes;
-            Reading { found: true, bytes }
-        }
+        Sought::Found(x) => Reading {
+            found: true,
+            bytes: entry::pack(x.entry).bytes,
+        },
     }
 }
 

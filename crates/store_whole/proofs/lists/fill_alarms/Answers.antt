@@ -1,8 +1,7 @@
 -- `store_whole::lists::fill_alarms` meets its contract.
 -- Assumes nothing.
-use Rattle.basis.proofs.Std.{◌-◌, ◌≡◌, sym, arith, rules, length, replicate, length-replicate, get_or-replicate}
+use Rattle.basis.proofs.Std.{sym, arith, replicate, length-replicate, get_or-replicate}
 use Rattle.alarm.specs.Alarm.{beginning}
-use Rattle.store_site.specs.Layout.{site_words}
 use Rattle.store_whole.proofs.FillLaws.{upto_none, upto_next, upto_all}
 use Rattle.store_whole.proofs.ListLaws.{alarms_part}
 use Rattle.store_whole.proofs.lists.fill_alarms.Goals as goal

@@ -1,9 +1,9 @@
 -- `store_whole::lists::fill_alarms` meets its contract.
 -- Assumes nothing.
-use Rattle.basis.proofs.Std.{◌≤◌, ◌-◌, ◌≡◌, length, replicate}
+use Rattle.basis.proofs.Std.{replicate}
 use Rattle.alarm.specs.Alarm.{beginning}
 use Rattle.site.specs.Site.{with_alarms}
-use Rattle.store_site.specs.Layout.{alarms_in, site_words}
+use Rattle.store_site.specs.Layout.{alarms_in}
 use Rattle.store_whole.proofs.FillLaws.{Upto}
 use Rattle.store_whole.proofs.lists.fill_alarms.Given as goal
 

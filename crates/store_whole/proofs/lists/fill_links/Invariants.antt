@@ -1,10 +1,10 @@
 -- `store_whole::lists::fill_links` meets its contract.
 -- Assumes nothing.
-use Rattle.basis.proofs.Std.{ℕ, ◌≤◌, ◌-◌, ◌<◌, ◌+◌, ◌*◌, ◌≡◌, length, replicate}
+use Rattle.basis.proofs.Std.{ℕ, ◌<◌, ◌+◌, ◌*◌, replicate}
 use Rattle.link.specs.Fields.{closed_link}
 use Rattle.site.specs.Site.{with_links}
 use Rattle.store_link.specs.Rows.{PlainAt}
-use Rattle.store_site.specs.Layout.{links_in, site_words}
+use Rattle.store_site.specs.Layout.{links_in}
 use Rattle.store_whole.proofs.FillLaws.{Upto}
 use Rattle.store_whole.proofs.lists.fill_links.Given as goal
 

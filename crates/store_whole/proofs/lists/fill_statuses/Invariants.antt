@@ -1,9 +1,9 @@
 -- `store_whole::lists::fill_statuses` meets its contract.
 -- Assumes nothing.
-use Rattle.basis.proofs.Std.{◌≤◌, ◌-◌, ◌≡◌, length, replicate}
+use Rattle.basis.proofs.Std.{replicate}
 use Rattle.status.specs.Status.{unknown}
 use Rattle.site.specs.Site.{with_statuses}
-use Rattle.store_site.specs.Layout.{statuses_in, site_words}
+use Rattle.store_site.specs.Layout.{statuses_in}
 use Rattle.store_whole.proofs.FillLaws.{Upto}
 use Rattle.store_whole.proofs.lists.fill_statuses.Given as goal
 

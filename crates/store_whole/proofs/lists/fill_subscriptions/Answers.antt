@@ -1,8 +1,7 @@
 -- `store_whole::lists::fill_subscriptions` meets its contract.
 -- Assumes nothing.
-use Rattle.basis.proofs.Std.{◌-◌, ◌≡◌, sym, arith, rules, length, replicate, length-replicate, get_or-replicate}
+use Rattle.basis.proofs.Std.{sym, arith, replicate, length-replicate, get_or-replicate}
 use Rattle.subscription.specs.Subscription.{none}
-use Rattle.store_site.specs.Layout.{site_words}
 use Rattle.store_whole.proofs.FillLaws.{upto_none, upto_next, upto_all}
 use Rattle.store_whole.proofs.ListLaws.{subscriptions_part}
 use Rattle.store_whole.proofs.lists.fill_subscriptions.Goals as goal

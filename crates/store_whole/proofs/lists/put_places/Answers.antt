@@ -1,8 +1,7 @@
 -- `store_whole::lists::put_places` meets its contract.
 -- Assumes nothing.
-use Rattle.basis.proofs.Std.{◌-◌, ◌≡◌, arith, rules, length}
+use Rattle.basis.proofs.Std.{◌≡◌, arith, rules, length}
 use Rattle.pool.specs.Places.{no_place}
-use Rattle.store_site.specs.Layout.{pool_words}
 use Rattle.store_whole.proofs.FillLaws.{inside, places_next, places_all}
 use Rattle.store_whole.proofs.lists.put_places.Goals as goal
 

@@ -1,7 +1,5 @@
 -- `store_whole::lists::put_places` meets its contract.
 -- Assumes nothing.
-use Rattle.basis.proofs.Std.{◌≤◌, ◌-◌, ◌≡◌, length}
-use Rattle.store_site.specs.Layout.{pool_words}
 use Rattle.store_whole.proofs.FillLaws.{PlacesTo}
 use Rattle.store_whole.proofs.lists.put_places.Given as goal
 
