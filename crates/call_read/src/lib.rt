@@ -90,10 +90,10 @@ fn reading(s: Sought) -> Reading
             found: false,
             bytes: [0; 16],
         },
-        Sought::Found(x) => Reading {
-            found: true,
-            bytes: entry::pack(x.entry).bytes,
-        },
+        Sought::Found(x) => {
+            let bytes = entry::pack(x.entry).bytes;
+            Reading { found: true, bytes }
+        }
     }
 }
 
