@@ -91,8 +91,7 @@ fn reading(s: Sought) -> Reading
             bytes: [0; 16],
         },
         Sought::Found(x) => {
-            let packed = entry::pack(x.entry);
-            let bytes = packed.bytes;
+            let bytes = entry::pack(x.entry).bytes;
             Reading { found: true, bytes }
         }
     }

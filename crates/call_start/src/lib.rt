@@ -45,58 +45,31 @@ fn site_of(site: u32) -> u16
 fn a_site_or_alone(site: u32) -> bool
     ensures { result ≡ a_site_or_alone site }
 {
-    if site < 2 {
-        return true;
-    }
-    site == 4294967295
+    site < 2 || site == 4294967295
 }
 
 fn a_link_or_none(links: u32, primary: u32) -> bool
     ensures { result ≡ a_link_or_none links primary }
 {
-    if primary < links {
-        return true;
-    }
-    primary == 4294967295
+    primary < links || primary == 4294967295
 }
 
 fn values_within(period: u32, first: u64, time: u64) -> bool
     ensures { result ≡ values_within period first time }
 {
-    if period < 1 {
-        return false;
-    }
-    if 3600 < period {
-        return false;
-    }
-    if 2147483647 < first {
-        return false;
-    }
-    time <= answer::LAST_TIME
+    1 <= period && period <= 3600 && first <= 2147483647 && time <= answer::LAST_TIME
 }
 
 fn others_within(links: u32, primary: u32, period: u32, first: u64, time: u64) -> bool
     ensures { result ≡ others_within links primary period first time }
 {
-    if links < 1 {
-        return false;
-    }
-    if 4 < links {
-        return false;
-    }
-    if a_link_or_none(links, primary) {
-        return values_within(period, first, time);
-    }
-    false
+    1 <= links && links <= 4 && a_link_or_none(links, primary) && values_within(period, first, time)
 }
 
 fn within(site: u32, links: u32, primary: u32, period: u32, first: u64, time: u64) -> bool
     ensures { result ≡ is_within site links primary period first time }
 {
-    if a_site_or_alone(site) {
-        return others_within(links, primary, period, first, time);
-    }
-    false
+    a_site_or_alone(site) && others_within(links, primary, period, first, time)
 }
 
 // Nothing held, nothing lost.
@@ -105,10 +78,8 @@ fn empty_pool(p: &mut [u64])
     ensures { pool_in p.new ≡ empty_of 8 }
 {
     let pool = Pool::empty();
-    let places = pool.places;
-    let lost = pool.lost;
-    store_whole::lists::put_places(p, places);
-    store_whole::lists::put_lost(p, lost);
+    store_whole::lists::put_places(p, pool.places);
+    store_whole::lists::put_lost(p, pool.lost);
 }
 
 // The four owners of the site begin anew.
@@ -116,10 +87,11 @@ fn clear_site(p: &mut [u64], site: u16)
     requires { (length p.old ≡ pool_words) × (site < 2) }
     ensures { pool_in p.new ≡ cleared_for site (pool_in p.old) }
 {
-    store_pool::change::clear(p, 4 * site);
-    store_pool::change::clear(p, 4 * site + 1);
-    store_pool::change::clear(p, 4 * site + 2);
-    store_pool::change::clear(p, 4 * site + 3);
+    let first = 4 * site;
+    store_pool::change::clear(p, first);
+    store_pool::change::clear(p, first + 1);
+    store_pool::change::clear(p, first + 2);
+    store_pool::change::clear(p, first + 3);
 }
 
 fn begin_pool(p: &mut [u64], site: u32)

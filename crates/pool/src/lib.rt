@@ -62,7 +62,7 @@ pub struct Reading {
     pub bytes: [u8; 16],
 }
 
-const FREE: Place = Place {
+pub const FREE: Place = Place {
     entry: Entry {
         time: 0,
         value: 0,

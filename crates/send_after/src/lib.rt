@@ -24,24 +24,15 @@ pub enum Carried {
 fn same_event(x: Entry, e: Entry) -> bool
     ensures { result ≡ same_event x e }
 {
-    if x.time == e.time {
-        return x.flags == e.flags;
-    }
-    false
+    x.time == e.time && x.flags == e.flags
 }
 
 fn carried_of(e: Entry, newest: Sought) -> Carried
     ensures { result ≡ carried_of e newest }
 {
     match newest {
-        Sought::Nothing => Carried::NoRecord,
-        Sought::Found(x) => {
-            let own = x.entry;
-            if same_event(own, e) {
-                return Carried::Held(own.sequence);
-            }
-            Carried::NoRecord
-        }
+        Sought::Found(x) if same_event(x.entry, e) => Carried::Held(x.entry.sequence),
+        _ => Carried::NoRecord,
     }
 }
 

@@ -47,25 +47,11 @@ fn held_state(e: Entry, row: Item) -> AlarmState
     }
 }
 
-fn recent_value(w: u32) -> Value
-    ensures { result ≡ known_value false w }
-{
-    Value::Recent(number::signed_of(w))
-}
-
-fn old_value(w: u32) -> Value
-    ensures { result ≡ known_value true w }
-{
-    Value::Old(number::signed_of(w))
-}
-
 fn known_value(old: bool, w: u32) -> Value
     ensures { result ≡ known_value old w }
 {
-    if old {
-        return old_value(w);
-    }
-    recent_value(w)
+    let n = number::signed_of(w);
+    if old { Value::Old(n) } else { Value::Recent(n) }
 }
 
 // What is told of a status.
@@ -73,7 +59,7 @@ pub fn status_value(x: Status) -> Value
     ensures { result ≡ status_value x }
 {
     if x.known == 1 {
-        return recent_value(x.value);
+        return known_value(false, x.value);
     }
     Value::Unknown
 }
@@ -101,8 +87,7 @@ fn tell_alarm(
     ensures { (s : Site) → s.table ≡ table_of t.now → Wrote out.old at (pieces (alarm_told s id.bytes row state)) out.new result }
 {
     let component = store_table::component(t, row.component as usize);
-    let code = row.code;
-    write_report::alarms::alarm(out, at, id, component, code, state)
+    write_report::alarms::alarm(out, at, id, component, row.code, state)
 }
 
 // Alarm k as it is.
@@ -113,12 +98,6 @@ pub fn write_alarm(out: &mut [u8], at: usize, w: &[u64], t: &[u8], id: Identity,
     let row = store_table::alarm_row(t, k);
     let state = state_of(store_site::items::alarm(w, k), row);
     tell_alarm(out, at, t, id, row, state)
-}
-
-fn low_byte(value: u64) -> u8
-    ensures { result ≡ value % 256 }
-{
-    bits::low(value, 8) as u8
 }
 
 fn tell_aggregated(
@@ -133,7 +112,7 @@ fn tell_aggregated(
     ensures { (s : Site) → s.table ≡ table_of t.now → Wrote out.old at (pieces (aggregated_told s id.bytes time value)) out.new result }
 {
     let component = store_table::component(t, 0);
-    let byte = low_byte(value);
+    let byte = bits::low(value, 8) as u8;
     write_report::aggregate::aggregated(out, at, id, component, time, byte)
 }
 
@@ -159,9 +138,7 @@ fn tell_status(
     ensures { (s : Site) → s.table ≡ table_of t.now → Wrote out.old at (pieces (status_told s id.bytes row time v)) out.new result }
 {
     let component = store_table::component(t, row.component as usize);
-    let code = row.code;
-    let name = row.name;
-    write_report::status::update(out, at, id, component, time, code, name, v)
+    write_report::status::update(out, at, id, component, time, row.code, row.name, v)
 }
 
 fn write_held_alarm(out: &mut [u8], at: usize, t: &[u8], id: Identity, e: Entry) -> usize

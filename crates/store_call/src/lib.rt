@@ -21,14 +21,8 @@ pub fn spent(w: &[u64], n: u64) -> bool
     requires { length w.now ≡ site_words }
     ensures { (ps : List ℕ) (t : SiteTable) (es : List Entry) → length es ≡ n → result ≡ (batch_in (site_of ps w.now t) es).spent }
 {
-    if n == 0 {
-        return false;
-    }
     let next = store_site::parts::next(w);
-    if 2147483648 < next {
-        return true;
-    }
-    2147483648 - next < n
+    0 < n && (2147483648 < next || 2147483648 - next < n)
 }
 
 // The record under a number, of which 31 bits are kept.
@@ -36,13 +30,8 @@ fn numbered(e: Entry, next: u64) -> Entry
     ensures { result ≡ under e next }
 {
     Entry {
-        time: e.time,
-        value: e.value,
         sequence: (next % 2147483648) as u32,
-        link: e.link,
-        kind: e.kind,
-        item: e.item,
-        flags: e.flags,
+        ..e
     }
 }
 

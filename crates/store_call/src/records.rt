@@ -31,12 +31,7 @@ pub fn of_alarm(w: &[u64], c: Changed) -> u64
     requires { length w.now ≡ site_words }
     ensures { (ps : List ℕ) (t : SiteTable) (k : ℕ) → result ≡ length (alarm_records (site_of ps w.now t) k c) }
 {
-    if c.records {
-        if store_site::head::has_primary(w) {
-            return 1;
-        }
-    }
-    0
+    u64::from(c.records && store_site::head::has_primary(w))
 }
 
 pub fn add_alarm(p: &mut [u64], w: &mut [u64], c: Changed, number: u16)
@@ -46,9 +41,8 @@ pub fn add_alarm(p: &mut [u64], w: &mut [u64], c: Changed, number: u16)
     if of_alarm(w, c) == 0 {
         return;
     }
-    let a = c.alarm;
     let owner = store_site::head::owner(w, store_site::head::primary(w));
-    super::add(p, w, a.issued(owner, number));
+    super::add(p, w, c.alarm.issued(owner, number));
 }
 
 // One more where one is issued.
@@ -56,5 +50,5 @@ pub fn more_if(n: u64, issues: bool) -> u64
     requires { n < 65536 }
     ensures { result ≡ n + bit issues }
 {
-    if issues { n + 1 } else { n }
+    n + u64::from(issues)
 }

@@ -45,10 +45,10 @@ fn put_mark(w: &mut [u64], i: usize, a: bool, b: bool, c: bool, d: bool)
     requires { i + 4 ≤ length w.old }
     ensures { PutMarks w.old w.new i a b c d }
 {
-    w[i] = store_words::bit(a);
-    w[i + 1] = store_words::bit(b);
-    w[i + 2] = store_words::bit(c);
-    w[i + 3] = store_words::bit(d);
+    w[i] = u64::from(a);
+    w[i + 1] = u64::from(b);
+    w[i + 2] = u64::from(c);
+    w[i + 3] = u64::from(d);
 }
 
 pub fn put_link_at(w: &mut [u64], i: usize, x: Link)

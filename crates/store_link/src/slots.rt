@@ -60,8 +60,7 @@ pub fn put_slot(w: &mut [u64], i: usize, x: Slot)
 {
     let id = x.id;
     let numbers = store_words::pair(x.sequence, x.purpose);
-    let a = store_words::first_half(id);
-    let b = store_words::second_half(id);
+    let (a, b) = store_words::halves(id);
     w[i] = x.time;
     w[i + 1] = numbers;
     w[i + 2] = a;
@@ -99,10 +98,8 @@ fn ids_at(w: &[u64], i: usize) -> [u8; 256]
     ensures { IdsIn w.now i result 16 }
 {
     let mut b = [0u8; 256];
-    let mut k: usize = 0;
-    while k < 16 {
+    for k in 0..16 {
         put_id(&mut b, 16 * k, w, i + 4 * k + 2);
-        k += 1;
     }
     b
 }
@@ -125,10 +122,8 @@ pub fn awaited_at(w: &[u64], i: usize) -> Awaited
 {
     let b = ids_at(w, i);
     let mut slots = [no_slot(); 16];
-    let mut k: usize = 0;
-    while k < 16 {
+    for k in 0..16 {
         slots[k] = slot_at(w, i + 4 * k, &b, 16 * k);
-        k += 1;
     }
     Awaited { slots }
 }
@@ -137,8 +132,7 @@ fn is_free(w: &[u64], i: usize) -> bool
     requires { i + 4 ≤ length w.now }
     ensures { result ≡ is_free (slot_in w.now i) }
 {
-    let numbers = w[i + 1];
-    store_words::lower(numbers) == 0
+    store_words::lower(w[i + 1]) == 0
 }
 
 // Whether the place at i awaits an answer to the identity of these two words.
@@ -146,13 +140,7 @@ fn answers_to(w: &[u64], i: usize, a: u64, b: u64) -> bool
     requires { i + 4 ≤ length w.now }
     ensures { result ≡ answers_to w.now i a b }
 {
-    if is_free(w, i) {
-        return false;
-    }
-    if w[i + 2] == a {
-        return w[i + 3] == b;
-    }
-    false
+    !is_free(w, i) && w[i + 2] == a && w[i + 3] == b
 }
 
 // Whether one of the sixteen from i on awaits an answer to the identity.
@@ -160,14 +148,11 @@ pub fn awaits_at(w: &[u64], i: usize, id: Identity) -> bool
     requires { i + 64 ≤ length w.now }
     ensures { result ≡ is_awaited (find_of (awaited_in w.now i) id) }
 {
-    let a = store_words::first_half(id);
-    let b = store_words::second_half(id);
-    let mut k: usize = 0;
-    while k < 16 {
+    let (a, b) = store_words::halves(id);
+    for k in 0..16 {
         if answers_to(w, i + 4 * k, a, b) {
             return true;
         }
-        k += 1;
     }
     false
 }
@@ -177,12 +162,10 @@ pub fn full_at(w: &[u64], i: usize) -> bool
     requires { i + 64 ≤ length w.now }
     ensures { result ≡ leb 16 (how_many_of (awaited_in w.now i)) }
 {
-    let mut k: usize = 0;
-    while k < 16 {
+    for k in 0..16 {
         if is_free(w, i + 4 * k) {
             return false;
         }
-        k += 1;
     }
     true
 }
@@ -191,10 +174,8 @@ fn put_slots(w: &mut [u64], i: usize, slots: [Slot; 16])
     requires { i + 64 ≤ length w.old }
     ensures { Put awaited_in 64 w.old w.new i (record { slots = slots }) }
 {
-    let mut k: usize = 0;
-    while k < 16 {
-        put_slot(w, i + 4 * k, slots[k]);
-        k += 1;
+    for (k, slot) in slots.iter().enumerate() {
+        put_slot(w, i + 4 * k, *slot);
     }
 }
 
@@ -202,6 +183,5 @@ pub fn put_awaited(w: &mut [u64], i: usize, x: Awaited)
     requires { i + 64 ≤ length w.old }
     ensures { Put awaited_in 64 w.old w.new i x }
 {
-    let slots = x.slots;
-    put_slots(w, i, slots);
+    put_slots(w, i, x.slots);
 }

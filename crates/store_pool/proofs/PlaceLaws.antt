@@ -17,8 +17,8 @@ use Rattle.store_site.specs.Rows.{place_from}
 use Rattle.store_site.specs.Layout.{places_in}
 use Rattle.store_site.proofs.SiteLaws.{place_at, places_length}
 use Rattle.store_pool.specs.Pools.{Counts, Counted}
-use Rattle.store_pool.specs.Best.{Stands, Vacant}
-use Rattle.store_pool.specs.Best.Stands.{nowhere, there}
+use Rattle.store_pool.specs.Vacant.{Vacant}
+use Rattle.store_pool.specs.Vacant.Vacant.{nowhere, there}
 
 -- two of a place's words
 module _ (ws : List ℕ) (k : ℕ) (h : k < 128) where
@@ -96,17 +96,6 @@ pub fullest_first : (h : ℕ → ℕ) → 0 ≡ fullest h 0
 unfolding fullest
 fullest_first h = refl
 
--- none of the first i places is free
-abbrev pub Taken : List Place → ℕ → Type 0
-Taken p i = (j : ℕ) → j < i → fits Free (get_or p j no_place) ≡ false
-
-pub taken_next : (p : List Place) (i : ℕ) → Taken p i → fits Free (get_or p i no_place) ≡ false → Taken p (i + 1)
-taken_next p i h e j g = by (eq_or_ne j i)
-  where
-    by : (j ≡ i) ⊎ (j ≡ i → ⊥) → fits Free (get_or p j no_place) ≡ false
-    by (inl z) = rw z e
-    by (inr z) = h j (omega (arith, z))
-
 -- no number is lower than 0
 first_lower : (i : ℕ) (x : Place) → x.entry.sequence ≡ 0 → (s : Spot) → lower i x s ≡ At i x
 first_lower i x e Nowhere = refl
@@ -152,26 +141,21 @@ module _ (f : Place → Bool) where
           let z : 0 + count f p ≡ count f p = omega arith in
           rw z e
 
-found_there : {p : List Place} {i : ℕ} {s : Spot} → Stands p i s → i < 128 → found s ≡ true
-found_there (nowhere e) h = absurd (omega arith)
-found_there (there e f g) h = refl
+-- one is found exactly where one is counted
+module _ (p : List Place) where
+  pub some_free : {i : ℕ} {x : Place} → At i x ≡ oldest (fits Free) p → ltb 0 (free_in p) ≡ true
+  some_free e = sym (found_counted (fits Free) 0 p) ∙ ap found (sym e)
 
-found_nowhere : {p : List Place} {i : ℕ} {s : Spot} → Stands p i s → 128 ≤ i → found s ≡ false
-found_nowhere (nowhere e) h = refl
-found_nowhere (there e f g) h = absurd (omega arith)
+  pub none_free : Nowhere ≡ oldest (fits Free) p → ltb 0 (free_in p) ≡ false
+  none_free e = sym (found_counted (fits Free) 0 p) ∙ ap found (sym e)
 
-module _ {p : List Place} {i : ℕ} (s : Stands p i (oldest (fits Free) p)) where
-  pub some_free : i < 128 → ltb 0 (free_in p) ≡ true
-  some_free h = sym (found_counted (fits Free) 0 p) ∙ found_there s h
+-- the lowest free place is the oldest, where its number is 0
+module _ (ws : List ℕ) where
+  pub vacant_none : Vacant (places_in ws) Nowhere → Nowhere ≡ oldest (fits Free) (places_in ws)
+  vacant_none (nowhere t) = sym (oldest_none (fits Free) 0 (places_in ws) (λ j g. t j (omega (arith, places_length ws))))
 
-  pub none_free : 128 ≤ i → ltb 0 (free_in p) ≡ false
-  none_free h = sym (found_counted (fits Free) 0 p) ∙ found_nowhere s h
-
-module _ (ws : List ℕ) (i : ℕ) (v : Vacant (places_in ws) i) where
-  pub vacant_none : 128 ≤ i → Stands (places_in ws) 128 (oldest (fits Free) (places_in ws))
-  vacant_none h = rw (oldest_none (fits Free) 0 (places_in ws) (λ j g. v.taken j (omega (arith, places_length ws)))) (nowhere refl)
-
-  pub vacant_first : i < 128 → (get_or (places_in ws) i no_place).entry.sequence ≡ 0 → Stands (places_in ws) i (oldest (fits Free) (places_in ws))
-  vacant_first h e =
+  pub vacant_first : {i : ℕ} {x : Place} → Vacant (places_in ws) (At i x) → x.entry.sequence ≡ 0 → At i x ≡ oldest (fits Free) (places_in ws)
+  vacant_first {i} {x} (there h t f g) e =
       let z : 0 + i ≡ i = omega arith in
-      rw (oldest_first (fits Free) 0 i (places_in ws) (omega (arith, places_length ws)) v.taken (v.free h) e, z) (there refl h refl)
+      let o = oldest_first (fits Free) 0 i (places_in ws) (omega (arith, places_length ws)) t (rw g at f) (rw g at e) in
+      rw g (sym (rw z at o))

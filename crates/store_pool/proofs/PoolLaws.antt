@@ -1,18 +1,17 @@
--- A place found by its index is the spot that the definitions find.
+-- The pool in place: what a search found stands there, and what each act leaves is what the definitions say.
 -- Assumes nothing.
-use Rattle.basis.proofs.Std.{◌≡◌, refl, sym, ap, ap₂, ◌∙◌, ℕ, zero, suc, ◌+◌, ◌*◌, ◌<◌, ◌≤◌, arith, le-leb, lt-leb, List, [], ◌∷◌, map, true, false, length, get_or, set, get_or-eq_default, lt-ltb, le-ltb, set_out, get_or-set_same, get_or-set_other}
+use Rattle.basis.proofs.Std.{◌≡◌, refl, sym, subst, ap, ap₂, ◌∙◌, ℕ, zero, suc, ◌+◌, ◌*◌, ◌<◌, ◌≤◌, arith, List, [], ◌∷◌, map, Bool, true, false, leb, pick, length, get_or, set, get_or-eq_default, lt-ltb, le-ltb, set_out, get_or-set_same, get_or-set_other}
 use Rattle.pool.specs.declared.Place.{Place}
 use Rattle.pool.specs.declared.Spot.{Spot}
 use Rattle.pool.specs.declared.Spot.TheVariants.{At, Nowhere}
-use Rattle.pool.specs.declared.Sought.TheVariants.{Found, Nothing}
+use Rattle.pool.specs.declared.Wanted.TheVariants.{Free, Numbered}
 use Rattle.entry.specs.declared.Entry.{Entry}
-use Rattle.pool.specs.declared.Pool.{Pool}
 use Rattle.pool.specs.declared.Loser.{Loser}
 use Rattle.pool.specs.declared.Loser.TheVariants.{Nobody, Owner}
-use Rattle.pool.specs.Places.{no_place, of, lower, higher, sought_at}
+use Rattle.pool.specs.Places.{no_place, of, fits, lower, older, oldest_from, oldest}
 use Rattle.pool.proofs.Part.{part, part_next, part_none, part_all}
 use Rattle.pool.specs.Shares.{loser}
-use Rattle.pool.specs.Pool.{held_in, free_in, lost_of, more_of, loss_of, room_of, made, with_of, issue_of, unsent_for, freed_for, unmark_of, clear_of, numbered, sent, mark_of, settle_of}
+use Rattle.pool.specs.Pool.{held_in, free_in, lost_of, more_of, loss_of, room_of, made, with_of, issue_of, unsent_for, freed_for, unmark_of, clear_of, numbered, mark_of, settle_of}
 use Rattle.store_words.specs.Words.{word, Stored, Put}
 use Rattle.store_site.specs.Rows.{place_from, place_in}
 use Rattle.store_site.specs.Layout.{lost_in, places_in, pool_in, pool_words}
@@ -20,66 +19,46 @@ use Rattle.store_pool.specs.Pools.{Loss}
 use Rattle.store_words.proofs.Elements.{list_at, list_length, list_put}
 use Rattle.store_words.proofs.Stores.{stored, nothing, wider, then, below, above}
 use Rattle.store_site.proofs.SiteLaws.{lost_same, places_same, places_put, place_at, places_length}
-use Rattle.store_pool.specs.Best.{Is, Stands}
-use Rattle.store_pool.specs.Best.Is.{nowhere, there}
-use Rattle.store_pool.specs.Best.Stands.{nowhere as stands_nowhere, there as stands_there}
 
-pub stands : {p : List Place} {i q : ℕ} {s : Spot} → Is p i q s → Stands p i s
-stands (nowhere e) = stands_nowhere e
-stands (there e f g h) = stands_there e f h
+-- what was found in the list p, whose first place has the index i, stands there
+data Within (i : ℕ) (p : List Place) : Spot → Type 0 where
+  nowhere : Within i p Nowhere
+  found : {j : ℕ} {x : Place} (k : ℕ) → j ≡ i + k → k < length p → x ≡ get_or p k no_place → Within i p (At j x)
 
--- another place at a spot, and other counts
-pub with_at : (p : Pool) (s : Spot) (x : Place) (l : List ℕ) (i : ℕ) → Stands p.places i s → i < 128 → record { places = set p.places i x; lost = l } ≡ with_of p s x l
-unfolding with_of
-with_at p Nowhere x l i (stands_nowhere e) h = absurd (omega arith)
-with_at p (At k y) x l i (stands_there e f g) h = rw e refl
+grown : (i : ℕ) (x : Place) (p : List Place) (s : Spot) → Within (suc i) p s → Within i (x ∷ p) s
+grown i x p Nowhere nowhere = nowhere
+grown i x p (At j y) (found k a h g) = found (suc k) (omega arith) (omega arith) g
 
-pub with_none : (p : Pool) (s : Spot) (x : Place) (l : List ℕ) (i : ℕ) → Stands p.places i s → 128 ≤ i → p ≡ with_of p s x l
-unfolding with_of
-with_none p Nowhere x l i (stands_nowhere e) h = refl
-with_none p (At k y) x l i (stands_there e f g) h = absurd (omega arith)
+weighed : (i : ℕ) (x : Place) (p : List Place) (s : Spot) → Within (suc i) p s → Within i (x ∷ p) (lower i x s)
+weighed i x p Nowhere h = found 0 (omega arith) (omega arith) refl
+weighed i x p (At j y) h = by (leb x.entry.sequence y.entry.sequence)
+  where
+    by : (t : Bool) → Within i (x ∷ p) (pick t (At i x) (At j y))
+    by true = found 0 (omega arith) (omega arith) refl
+    by false = grown i x p (At j y) h
 
--- the place i, where x stands, weighed against what was found behind it
-module _ (p : List Place) (i q at sq : ℕ) (x : Place) (e : q ≡ x.entry.sequence) (f : x ≡ get_or p i no_place) where
-  pub stays : at < 128 → sq < q → (s : Spot) → Is p at sq s → Is p at sq (lower i x s)
-  stays h g Nowhere (nowhere z) = absurd (omega arith)
-  stays h g (At k y) (there a b c d) = rw (lt-leb x.entry.sequence y.entry.sequence (omega arith)) (there a b c d)
+module _ (f : Place → Bool) where
+  within_from : (i : ℕ) (p : List Place) → Within i p (oldest_from f i p)
+  unfolding oldest_from
+  within_from i [] = nowhere
+  within_from i (x ∷ p) = by (f x) (within_from (suc i) p)
+    where
+      by : (t : Bool) → Within (suc i) p (oldest_from f (suc i) p) → Within i (x ∷ p) (older t i x (oldest_from f (suc i) p))
+      by true h = weighed i x p (oldest_from f (suc i) p) h
+      by false h = grown i x p (oldest_from f (suc i) p) h
 
-  pub comes : at < 128 → q ≤ sq → i < 128 → (s : Spot) → Is p at sq s → Is p i q (lower i x s)
-  comes h g l Nowhere (nowhere z) = absurd (omega arith)
-  comes h g l (At k y) (there a b c d) = rw (le-leb x.entry.sequence y.entry.sequence (omega arith)) (there refl l e f)
+  pub oldest_there : (ws : List ℕ) {i : ℕ} {x : Place} → At i x ≡ oldest f (places_in ws) → (i < 128) × (x ≡ get_or (places_in ws) i no_place)
+  oldest_there ws {i} {x} e = by (subst (Within 0 (places_in ws)) (sym e) (within_from 0 (places_in ws)))
+    where
+      by : Within 0 (places_in ws) (At i x) → (i < 128) × (x ≡ get_or (places_in ws) i no_place)
+      by (found k a h g) =
+          let s : i ≡ k = omega arith in
+          (omega (arith, places_length ws), rw s g)
 
-  pub alone : 128 ≤ at → i < 128 → (s : Spot) → Is p at sq s → Is p i q (lower i x s)
-  alone h l Nowhere (nowhere z) = there refl l e f
-  alone h l (At k y) (there a b c d) = absurd (omega arith)
-
-  pub stays_newest : at < 128 → q ≤ sq → (s : Spot) → Is p at sq s → Is p at sq (higher i x s)
-  stays_newest h g Nowhere (nowhere z) = absurd (omega arith)
-  stays_newest h g (At k y) (there a b c d) = rw (le-ltb y.entry.sequence x.entry.sequence (omega arith)) (there a b c d)
-
-  pub comes_newest : at < 128 → sq < q → i < 128 → (s : Spot) → Is p at sq s → Is p i q (higher i x s)
-  comes_newest h g l Nowhere (nowhere z) = absurd (omega arith)
-  comes_newest h g l (At k y) (there a b c d) = rw (lt-ltb y.entry.sequence x.entry.sequence (omega arith)) (there refl l e f)
-
-  pub alone_newest : 128 ≤ at → i < 128 → (s : Spot) → Is p at sq s → Is p i q (higher i x s)
-  alone_newest h l Nowhere (nowhere z) = there refl l e f
-  alone_newest h l (At k y) (there a b c d) = absurd (omega arith)
-
--- what is found at an index
-pub sought_none : (p : List Place) (s : Spot) (i : ℕ) → Stands p i s → 128 ≤ i → Nothing ≡ sought_at s
-sought_none p Nowhere i (stands_nowhere e) h = refl
-sought_none p (At k x) i (stands_there e f g) h = absurd (omega arith)
-
-pub sought_one : (p : List Place) (s : Spot) (i : ℕ) → Stands p i s → i < 128 → Found (get_or p i no_place) ≡ sought_at s
-sought_one p Nowhere i (stands_nowhere e) h = absurd (omega arith)
-sought_one p (At k x) i (stands_there e f g) h = rw (e, g) refl
-
--- the place at an index, marked as sent
-sent_at : (p : Pool) (s : Spot) (i : ℕ) → Stands p.places i s → i < 128
-    → record { places = set p.places i (record { entry = (get_or p.places i no_place).entry; mark = 2 }); lost = p.lost } ≡ with_of p s (sent s) p.lost
-unfolding with_of
-sent_at p Nowhere i (stands_nowhere e) h = absurd (omega arith)
-sent_at p (At k x) i (stands_there e f g) h = rw (e, g) refl
+pub room_there : (ws : List ℕ) (who : Loser) {i : ℕ} {x : Place} → At i x ≡ room_of (places_in ws) who → i < 128
+unfolding room_of
+room_there ws Nobody e = (oldest_there (fits Free) ws e).0
+room_there ws (Owner m) e = (oldest_there (of m) ws e).0
 
 pub lost_at : (ws : List ℕ) (m : ℕ) → m < 8 → word ws m ≡ get_or (lost_in ws) m 0
 unfolding lost_in
@@ -119,18 +98,17 @@ module _ (ws : List ℕ) (e : Entry) where
   unfolding issue_of
   issue_none h = rw (le-ltb e.link 8 h)
 
-  module _ (who : Loser) (i : ℕ) (h : e.link < 8) (w : who ≡ loser 8 (held_in (places_in ws)) (free_in (places_in ws)) e.link) (r : Stands (places_in ws) i (room_of (places_in ws) who)) where
-    pub issue_full : 128 ≤ i → pool_in ws ≡ issue_of 8 (pool_in ws) e
-    unfolding issue_of
-    issue_full g =
-        rw (lt-ltb e.link 8 h, ← w) (with_none (pool_in ws) (room_of (places_in ws) who) (made e) (loss_of (lost_in ws) who) i r g)
+  module _ (who : Loser) (h : e.link < 8) (w : who ≡ loser 8 (held_in (places_in ws)) (free_in (places_in ws)) e.link) where
+    pub issue_full : Nowhere ≡ room_of (places_in ws) who → pool_in ws ≡ issue_of 8 (pool_in ws) e
+    unfolding issue_of with_of
+    issue_full r = rw (lt-ltb e.link 8 h, ← w, ← r) refl
 
-    pub issue_one : (us vs : List ℕ) → i < 128 → Put place_in 4 ws us (8 + 4 * i) (made e) → Loss us vs who → pool_in vs ≡ issue_of 8 (pool_in ws) e
-    unfolding issue_of
-    issue_one us vs g p l =
-        let places : places_in vs ≡ set (places_in ws) i (made e) = places_same us vs (above 8 512 l.kept (omega arith)) ∙ places_put ws us i (made e) g p in
+    pub issue_one : (us vs : List ℕ) {i : ℕ} {x : Place} → At i x ≡ room_of (places_in ws) who → Put place_in 4 ws us (8 + 4 * i) (made e) → Loss us vs who → pool_in vs ≡ issue_of 8 (pool_in ws) e
+    unfolding issue_of with_of
+    issue_one us vs {i} r p l =
+        let places : places_in vs ≡ set (places_in ws) i (made e) = places_same us vs (above 8 512 l.kept (omega arith)) ∙ places_put ws us i (made e) (room_there ws who r) p in
         let lost : lost_in vs ≡ loss_of (lost_in ws) who = l.counts ∙ ap (λ (k : List ℕ). loss_of k who) (lost_same ws us (below 0 8 p.kept (omega arith))) in
-        rw (lt-ltb e.link 8 h, ← w, places, lost) (with_at (pool_in ws) (room_of (places_in ws) who) (made e) (loss_of (lost_in ws) who) i r g)
+        rw (lt-ltb e.link 8 h, ← w, ← r, places, lost) refl
 
 -- what stands behind the part that was changed
 pub part_rest : {A : Type 0} (f : A → A) (i j : ℕ) (p : List A) (d : A) → i ≤ j → get_or (part f i p) j d ≡ get_or p j d
@@ -150,33 +128,35 @@ marked ws i n h =
       get_or-set_same ws (i + 3) n 0 h,
     )
 
--- a record numbered q of link l, found at the index i
-module _ (ws : List ℕ) (l q i : ℕ) (s : Stands (places_in ws) i (numbered (pool_in ws) l q)) where
-  pub mark_none : 128 ≤ i → pool_in ws ≡ mark_of (pool_in ws) l q
-  unfolding mark_of
-  mark_none h =
-      with_none (pool_in ws) (numbered (pool_in ws) l q) (sent (numbered (pool_in ws) l q)) (lost_in ws) i s h
+-- a record numbered q of link l, found or not
+module _ (ws : List ℕ) (l q : ℕ) where
+  pub mark_none : Nowhere ≡ numbered (pool_in ws) l q → pool_in ws ≡ mark_of (pool_in ws) l q
+  unfolding mark_of with_of
+  mark_none r = rw (← r) refl
 
-  pub mark_one : length ws ≡ pool_words → i < 128 → pool_in (set ws (8 + 4 * i + 3) 2) ≡ mark_of (pool_in ws) l q
-  unfolding mark_of
-  mark_one n h =
-      let vs = set ws (8 + 4 * i + 3) 2 in
-      let x : Place = record { entry = (get_or (places_in ws) i no_place).entry; mark = 2 } in
-      let here : place_in vs (8 + 4 * i) ≡ x = rw (← place_at ws i h) (marked ws (8 + 4 * i) 2 (omega arith)) in
-      let kept = stored ws (8 + 4 * i + 3) 2 [] (omega arith) in
-      let put : Put place_in 4 ws vs (8 + 4 * i) x = record { there = here; kept = wider (8 + 4 * i) 4 kept (omega arith) (omega arith) } in
-      rw (places_put ws vs i x h put, lost_same ws vs (below 0 8 kept (omega arith))) (sent_at (pool_in ws) (numbered (pool_in ws) l q) i s h)
+  pub settle_none : Nowhere ≡ numbered (pool_in ws) l q → pool_in ws ≡ settle_of (pool_in ws) l q
+  unfolding settle_of with_of
+  settle_none r = rw (← r) refl
 
-  pub settle_none : 128 ≤ i → pool_in ws ≡ settle_of (pool_in ws) l q
-  unfolding settle_of
-  settle_none h =
-      with_none (pool_in ws) (numbered (pool_in ws) l q) no_place (lost_in ws) i s h
+  module _ {i : ℕ} {x : Place} (r : At i x ≡ numbered (pool_in ws) l q) where
+    pub index_within : i < 128
+    index_within = (oldest_there (fits (Numbered l q)) ws r).0
 
-  pub settle_one : (vs : List ℕ) → i < 128 → Put place_in 4 ws vs (8 + 4 * i) no_place → pool_in vs ≡ settle_of (pool_in ws) l q
-  unfolding settle_of
-  settle_one vs h p =
-      rw (places_put ws vs i no_place h p, lost_same ws vs (below 0 8 p.kept (omega arith)))
-      (with_at (pool_in ws) (numbered (pool_in ws) l q) no_place (lost_in ws) i s h)
+    pub mark_one : length ws ≡ pool_words → pool_in (set ws (8 + 4 * i + 3) 2) ≡ mark_of (pool_in ws) l q
+    unfolding mark_of with_of
+    mark_one n =
+        let h : i < 128 = index_within in
+        let vs = set ws (8 + 4 * i + 3) 2 in
+        let y : Place = record { entry = x.entry; mark = 2 } in
+        let here : place_in vs (8 + 4 * i) ≡ y =
+        marked ws (8 + 4 * i) 2 (omega arith) ∙ ap (λ (z : Place). record { entry = z.entry; mark = 2 }) (place_at ws i h ∙ sym (oldest_there (fits (Numbered l q)) ws r).1) in
+        let kept = stored ws (8 + 4 * i + 3) 2 [] (omega arith) in
+        let put : Put place_in 4 ws vs (8 + 4 * i) y = record { there = here; kept = wider (8 + 4 * i) 4 kept (omega arith) (omega arith) } in
+        rw (← r, places_put ws vs i y h put, lost_same ws vs (below 0 8 kept (omega arith))) refl
+
+    pub settle_one : (vs : List ℕ) → Put place_in 4 ws vs (8 + 4 * i) no_place → pool_in vs ≡ settle_of (pool_in ws) l q
+    unfolding settle_of with_of
+    settle_one vs p = rw (← r, places_put ws vs i no_place index_within p, lost_same ws vs (below 0 8 p.kept (omega arith))) refl
 
 module _ (ws : List ℕ) (k l : ℕ) (g : k < 128) where
   pub unmark_other : of l (get_or (places_in ws) k no_place) ≡ false → Put place_in 4 ws ws (8 + 4 * k) (unsent_for l (get_or (places_in ws) k no_place))

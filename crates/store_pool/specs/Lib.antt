@@ -1,2 +1,2 @@
-pub mod Best
 pub mod Pools
+pub mod Vacant

@@ -7,28 +7,15 @@ ghost use Rattle.store_site.specs.Rows.{place_in};
 ghost use Rattle.store_site.specs.Layout.{places_in, pool_in, pool_words};
 
 use super::places;
-use entry::Entry;
-use pool::{Place, Wanted};
-
-const NO_ENTRY: Entry = Entry {
-    time: 0,
-    value: 0,
-    sequence: 0,
-    link: 0,
-    kind: 0,
-    item: 0,
-    flags: 0,
-};
+use pool::{Spot, Wanted};
 
 // The place's record is not sent where it is one of the owner.
 fn unmark_at(w: &mut [u64], k: usize, l: u16)
     requires { (length w.old ≡ pool_words) × (k < 128) }
     ensures { Put place_in 4 w.old w.new (8 + 4 * k) (unsent_for l (get_or (places_in w.old) k no_place)) }
 {
-    let i = 8 + 4 * k;
     if places::mine(places::place(w, k), l) {
-        w[i + 3] = 1;
-        return;
+        places::put_mark(w, k, 1);
     }
 }
 
@@ -37,10 +24,8 @@ pub fn unmark(w: &mut [u64], l: u16)
     requires { length w.old ≡ pool_words }
     ensures { pool_in w.new ≡ unmark_of (pool_in w.old) l }
 {
-    let mut i: usize = 0;
-    while i < 128 {
+    for i in 0..128 {
         unmark_at(w, i, l);
-        i += 1;
     }
 }
 
@@ -50,15 +35,7 @@ fn free_at(w: &mut [u64], k: usize, l: u16)
     ensures { Put place_in 4 w.old w.new (8 + 4 * k) (freed_for l (get_or (places_in w.old) k no_place)) }
 {
     if places::mine(places::place(w, k), l) {
-        places::put_place(
-            w,
-            k,
-            Place {
-                entry: NO_ENTRY,
-                mark: 0,
-            },
-        );
-        return;
+        places::put_place(w, k, pool::FREE);
     }
 }
 
@@ -67,14 +44,11 @@ pub fn clear(w: &mut [u64], l: u16)
     requires { length w.old ≡ pool_words }
     ensures { pool_in w.new ≡ clear_of (pool_in w.old) l }
 {
-    let mut i: usize = 0;
-    while i < 128 {
+    for i in 0..128 {
         free_at(w, i, l);
-        i += 1;
     }
     if l < 8 {
         w[l as usize] = 0;
-        return;
     }
 }
 
@@ -83,12 +57,9 @@ pub fn mark_sent(w: &mut [u64], l: u16, sequence: u32)
     requires { length w.old ≡ pool_words }
     ensures { pool_in w.new ≡ mark_of (pool_in w.old) l sequence }
 {
-    let k = places::first(w, Wanted::Numbered(l, sequence));
-    if 128 <= k {
-        return;
+    if let Spot::At(k, _) = places::first(w, Wanted::Numbered(l, sequence)) {
+        places::put_mark(w, k, 2);
     }
-    let i = 8 + 4 * k;
-    w[i + 3] = 2;
 }
 
 // The owner's record of that number is settled.
@@ -96,16 +67,7 @@ pub fn settle(w: &mut [u64], l: u16, sequence: u32)
     requires { length w.old ≡ pool_words }
     ensures { pool_in w.new ≡ settle_of (pool_in w.old) l sequence }
 {
-    let k = places::first(w, Wanted::Numbered(l, sequence));
-    if 128 <= k {
-        return;
+    if let Spot::At(k, _) = places::first(w, Wanted::Numbered(l, sequence)) {
+        places::put_place(w, k, pool::FREE);
     }
-    places::put_place(
-        w,
-        k,
-        Place {
-            entry: NO_ENTRY,
-            mark: 0,
-        },
-    );
 }

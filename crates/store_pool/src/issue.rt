@@ -7,12 +7,11 @@ ghost use Rattle.pool.specs.Shares.{fuller, fullest, loser};
 ghost use Rattle.pool.specs.Pool.{held_in, free_in, more_of, room_of, issue_of};
 ghost use Rattle.store_words.specs.Words.{word};
 ghost use Rattle.store_site.specs.Layout.{places_in, pool_in, pool_words};
-ghost use Rattle.store_pool.specs.Best.{Stands};
 ghost use Rattle.store_pool.specs.Pools.{Loss, Counts, Counted};
 
 use super::places;
 use entry::Entry;
-use pool::{Loser, Place, Wanted};
+use pool::{Loser, Place, Spot, Wanted};
 
 // The place's record is counted for its owner.
 fn tally(w: &[u64], k: usize, held: &mut [u64])
@@ -36,9 +35,7 @@ fn counts(w: &[u64]) -> [u64; 8]
     ensures { Counted (places_in w.now) result }
 {
     let mut held = [0u64; 8];
-    let mut i: usize = 128;
-    while 0 < i {
-        i -= 1;
+    for i in (0..128).rev() {
         tally(w, i, &mut held);
     }
     held
@@ -62,37 +59,32 @@ fn fullest_of(w: &[u64]) -> u16
 {
     let held = counts(w);
     let mut m: u16 = 0;
-    let mut k: u16 = 1;
-    while k < 8 {
+    for k in 1..8 {
         m = fuller_in(&held, m, k);
-        k += 1;
     }
     m
 }
 
 // Whose oldest record is lost when one is issued for the owner, the oldest free place being known.
-fn loser_for(w: &[u64], l: u16, free: usize) -> Loser
-    requires { (length w.now ≡ pool_words) × Stands (places_in w.now) free (oldest (fits Free) (places_in w.now)) }
+fn loser_for(w: &[u64], l: u16, free: Spot) -> Loser
+    requires { (length w.now ≡ pool_words) × (free ≡ oldest (fits Free) (places_in w.now)) }
     ensures { result ≡ loser 8 (held_in (places_in w.now)) (free_in (places_in w.now)) l }
 {
     let held = places::holds(w, l);
     if 64 <= held {
         return Loser::Owner(l);
     }
-    if free < 128 {
-        return Loser::Nobody;
-    }
-    if held < 16 {
-        Loser::Owner(fullest_of(w))
-    } else {
-        Loser::Owner(l)
+    match free {
+        Spot::At(_, _) => Loser::Nobody,
+        Spot::Nowhere if held < 16 => Loser::Owner(fullest_of(w)),
+        Spot::Nowhere => Loser::Owner(l),
     }
 }
 
 // The place that a new record takes, the oldest free place being known.
-fn room(w: &[u64], who: Loser, free: usize) -> usize
-    requires { (length w.now ≡ pool_words) × Stands (places_in w.now) free (oldest (fits Free) (places_in w.now)) }
-    ensures { Stands (places_in w.now) result (room_of (places_in w.now) who) }
+fn room(w: &[u64], who: Loser, free: Spot) -> Spot
+    requires { (length w.now ≡ pool_words) × (free ≡ oldest (fits Free) (places_in w.now)) }
+    ensures { result ≡ room_of (places_in w.now) who }
 {
     match who {
         Loser::Nobody => free,
@@ -104,7 +96,7 @@ fn room(w: &[u64], who: Loser, free: usize) -> usize
 pub fn more(k: u64) -> u64
     ensures { result ≡ more_of k }
 {
-    if k < 18446744073709551615 { k + 1 } else { k }
+    k.saturating_add(1)
 }
 
 fn lose_of(w: &mut [u64], m: u16)
@@ -138,10 +130,8 @@ pub fn issue(w: &mut [u64], e: Entry)
     }
     let free = places::free(w);
     let who = loser_for(w, e.link, free);
-    let i = room(w, who, free);
-    if 128 <= i {
-        return;
+    if let Spot::At(i, _) = room(w, who, free) {
+        places::put_place(w, i, Place { entry: e, mark: 1 });
+        lose(w, who);
     }
-    places::put_place(w, i, Place { entry: e, mark: 1 });
-    lose(w, who);
 }

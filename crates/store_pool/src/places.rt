@@ -1,26 +1,17 @@
 // The pool in place: 128 places of four words, searched by index.
-ghost use Rattle.std.specs.Prelude.{◌≡◌, ◌+◌, ◌*◌, ◌<◌, List, length, get_or};
-ghost use Rattle.basis.specs.Pick.{both, bit};
+ghost use Rattle.std.specs.Prelude.{◌≡◌, ◌+◌, ◌*◌, ◌<◌, length, get_or, set};
+ghost use Rattle.basis.specs.Pick.{both};
 ghost use Rattle.basis.specs.Lists.{count};
-ghost use Rattle.pool.specs.declared.Place.{Place};
-ghost use Rattle.pool.specs.declared.Spot.{Spot};
 ghost use Rattle.pool.specs.declared.Wanted.TheVariants.{Free};
-ghost use Rattle.pool.specs.Places.{no_place, of, fits, older, newer, oldest, newest};
+ghost use Rattle.pool.specs.Places.{no_place, of, fits, lower, higher, oldest, newest};
 ghost use Rattle.pool.specs.Pool.{held_in, rank_is};
 ghost use Rattle.store_site.specs.Rows.{place_in};
 ghost use Rattle.store_words.specs.Words.{Put};
 ghost use Rattle.store_site.specs.Layout.{places_in, pool_words};
-ghost use Rattle.store_pool.specs.Best.{Is, Stands, Vacant};
+ghost use Rattle.store_pool.specs.Vacant.{Vacant};
 
 use entry::Entry;
-use pool::{Place, Wanted};
-
-// Where the best place so far stands, 128 for nowhere, and its record's number.
-#[derive(Clone, Copy)]
-pub struct Best {
-    pub at: usize,
-    pub sequence: u32,
-}
+use pool::{Place, Spot, Wanted};
 
 pub fn place(w: &[u64], k: usize) -> Place
     requires { (length w.now ≡ pool_words) × (k < 128) }
@@ -58,17 +49,20 @@ pub fn put_place(w: &mut [u64], k: usize, x: Place)
     w[i + 3] = x.mark;
 }
 
-fn and(a: bool, b: bool) -> bool
-    ensures { result ≡ both a b }
+// Of a place only the mark.
+pub fn put_mark(w: &mut [u64], k: usize, mark: u64)
+    requires { (length w.old ≡ pool_words) × (k < 128) }
+    ensures { w.new ≡ set w.old (8 + 4 * k + 3) mark }
 {
-    if a { b } else { false }
+    let i = 8 + 4 * k;
+    w[i + 3] = mark;
 }
 
 // Whether a place holds a record of the owner.
 pub fn mine(x: Place, l: u16) -> bool
     ensures { result ≡ of l x }
 {
-    and(0 < x.mark, x.entry.link == l)
+    0 < x.mark && x.entry.link == l
 }
 
 // Whether a place is what is asked for.
@@ -78,18 +72,11 @@ fn asked(x: Place, w: Wanted) -> bool
     match w {
         Wanted::Free => x.mark == 0,
         Wanted::Of(l) => mine(x, l),
-        Wanted::Unsent(l) => and(mine(x, l), x.mark == 1),
-        Wanted::Older(l, q) => and(mine(x, l), x.entry.sequence < q),
-        Wanted::Numbered(l, q) => and(mine(x, l), x.entry.sequence == q),
-        Wanted::Alarm(l, k) => and(mine(x, l), and(x.entry.kind == 0, x.entry.item == k)),
+        Wanted::Unsent(l) => mine(x, l) && x.mark == 1,
+        Wanted::Older(l, q) => mine(x, l) && x.entry.sequence < q,
+        Wanted::Numbered(l, q) => mine(x, l) && x.entry.sequence == q,
+        Wanted::Alarm(l, k) => mine(x, l) && x.entry.kind == 0 && x.entry.item == k,
     }
-}
-
-fn add(n: usize, t: bool) -> usize
-    requires { n < 128 }
-    ensures { result ≡ bit t + n }
-{
-    if t { n + 1 } else { n }
 }
 
 // How many places are what is asked for.
@@ -98,10 +85,10 @@ pub fn number(w: &[u64], q: Wanted) -> usize
     ensures { result ≡ count (fits q) (places_in w.now) }
 {
     let mut n: usize = 0;
-    let mut i: usize = 128;
-    while 0 < i {
-        i -= 1;
-        n = add(n, asked(place(w, i), q));
+    for i in (0..128).rev() {
+        if asked(place(w, i), q) {
+            n += 1;
+        }
     }
     n
 }
@@ -112,10 +99,7 @@ fn is_mine(w: &[u64], k: usize, l: u16) -> bool
     ensures { result ≡ of l (get_or (places_in w.now) k no_place) }
 {
     let i = 8 + 4 * k;
-    if w[i + 3] == 0 {
-        return false;
-    }
-    store_words::quarter(w[i + 2], 48) == l
+    w[i + 3] != 0 && store_words::quarter(w[i + 2], 48) == l
 }
 
 // How many records of the owner are held.
@@ -124,80 +108,62 @@ pub fn holds(w: &[u64], l: u16) -> usize
     ensures { result ≡ held_in (places_in w.now) l }
 {
     let mut n: usize = 0;
-    let mut i: usize = 128;
-    while 0 < i {
-        i -= 1;
-        n = add(n, is_mine(w, i, l));
+    for i in (0..128).rev() {
+        if is_mine(w, i, l) {
+            n += 1;
+        }
     }
     n
 }
 
-// The place i, whose record has the number q, or what was found behind it.
-fn nearer(t: bool, i: usize, q: u32, b: Best) -> Best
-    requires { i < 128 }
-    ensures { (p : List Place) → (x : Place) → (s : Spot) → q ≡ x.entry.sequence → x ≡ get_or p i no_place → Is p b.at b.sequence s → Is p result.at result.sequence (older t i x s) }
+// Of the place i, where x stands, and what was found behind it: the older record, the first where they are of one number.
+fn nearer(i: usize, x: Place, b: Spot) -> Spot
+    ensures { result ≡ lower i x b }
 {
-    if t {
-        if b.at < 128 {
-            if b.sequence < q {
-                return b;
-            }
-        }
-        return Best { at: i, sequence: q };
+    match b {
+        Spot::At(_, y) if y.entry.sequence < x.entry.sequence => b,
+        _ => Spot::At(i, x),
     }
-    b
 }
 
-// Where the oldest record stands, of the places that are what is asked for; 128 where there is none.
-pub fn first(w: &[u64], q: Wanted) -> usize
+// The newer record.
+fn later(i: usize, x: Place, b: Spot) -> Spot
+    ensures { result ≡ higher i x b }
+{
+    match b {
+        Spot::At(_, y) if x.entry.sequence <= y.entry.sequence => b,
+        _ => Spot::At(i, x),
+    }
+}
+
+// Where the oldest record stands, of the places that are what is asked for.
+pub fn first(w: &[u64], q: Wanted) -> Spot
     requires { length w.now ≡ pool_words }
-    ensures { Stands (places_in w.now) result (oldest (fits q) (places_in w.now)) }
+    ensures { result ≡ oldest (fits q) (places_in w.now) }
 {
-    let mut b = Best {
-        at: 128,
-        sequence: 0,
-    };
-    let mut i: usize = 128;
-    while 0 < i {
-        i -= 1;
+    let mut best = Spot::Nowhere;
+    for i in (0..128).rev() {
         let x = place(w, i);
-        b = nearer(asked(x, q), i, x.entry.sequence, b);
-    }
-    b.at
-}
-
-// The same for the newest record.
-fn later(t: bool, i: usize, q: u32, b: Best) -> Best
-    requires { i < 128 }
-    ensures { (p : List Place) → (x : Place) → (s : Spot) → q ≡ x.entry.sequence → x ≡ get_or p i no_place → Is p b.at b.sequence s → Is p result.at result.sequence (newer t i x s) }
-{
-    if t {
-        if b.at < 128 {
-            if q <= b.sequence {
-                return b;
-            }
+        if asked(x, q) {
+            best = nearer(i, x, best);
         }
-        return Best { at: i, sequence: q };
     }
-    b
+    best
 }
 
-// Where the newest record stands, of the places that are what is asked for; 128 where there is none.
-pub fn last(w: &[u64], q: Wanted) -> usize
+// Where the newest record stands, of the places that are what is asked for.
+pub fn last(w: &[u64], q: Wanted) -> Spot
     requires { length w.now ≡ pool_words }
-    ensures { Stands (places_in w.now) result (newest (fits q) (places_in w.now)) }
+    ensures { result ≡ newest (fits q) (places_in w.now) }
 {
-    let mut b = Best {
-        at: 128,
-        sequence: 0,
-    };
-    let mut i: usize = 128;
-    while 0 < i {
-        i -= 1;
+    let mut best = Spot::Nowhere;
+    for i in (0..128).rev() {
         let x = place(w, i);
-        b = later(asked(x, q), i, x.entry.sequence, b);
+        if asked(x, q) {
+            best = later(i, x, best);
+        }
     }
-    b.at
+    best
 }
 
 // Whether a place is free.
@@ -209,60 +175,49 @@ fn is_free(w: &[u64], k: usize) -> bool
     w[i + 3] == 0
 }
 
-// The lowest free place; 128 where there is none.
-fn vacant(w: &[u64]) -> usize
+// The lowest free place.
+fn vacant(w: &[u64]) -> Spot
     requires { length w.now ≡ pool_words }
     ensures { Vacant (places_in w.now) result }
 {
-    let mut i: usize = 0;
-    while i < 128 {
+    for i in 0..128 {
         if is_free(w, i) {
-            return i;
+            return Spot::At(i, place(w, i));
         }
-        i += 1;
     }
-    128
+    Spot::Nowhere
 }
 
 // What `first` answers for a free place. A place that a record left is all zero, and no number is below 0: the lowest free place.
-pub fn free(w: &[u64]) -> usize
+pub fn free(w: &[u64]) -> Spot
     requires { length w.now ≡ pool_words }
-    ensures { Stands (places_in w.now) result (oldest (fits Free) (places_in w.now)) }
+    ensures { result ≡ oldest (fits Free) (places_in w.now) }
 {
-    let i = vacant(w);
-    if 128 <= i {
-        return 128;
+    let lowest = vacant(w);
+    match lowest {
+        Spot::At(_, x) if 0 < x.entry.sequence => first(w, Wanted::Free),
+        _ => lowest,
     }
-    if place(w, i).entry.sequence == 0 {
-        return i;
-    }
-    first(w, Wanted::Free)
 }
 
 fn has_rank(w: &[u64], l: u16, rank: usize, x: Place) -> bool
     requires { length w.now ≡ pool_words }
     ensures { result ≡ rank_is (places_in w.now) l rank x }
 {
-    if mine(x, l) {
-        return number(w, Wanted::Older(l, x.entry.sequence)) == rank;
-    }
-    false
+    mine(x, l) && number(w, Wanted::Older(l, x.entry.sequence)) == rank
 }
 
-// Where the record of the owner stands than which so many of its records are older; 128 where there is none.
-pub fn ranked(w: &[u64], l: u16, rank: usize) -> usize
+// Where the record of the owner stands than which so many of its records are older.
+pub fn ranked(w: &[u64], l: u16, rank: usize) -> Spot
     requires { length w.now ≡ pool_words }
-    ensures { Stands (places_in w.now) result (oldest (rank_is (places_in w.now) l rank) (places_in w.now)) }
+    ensures { result ≡ oldest (rank_is (places_in w.now) l rank) (places_in w.now) }
 {
-    let mut b = Best {
-        at: 128,
-        sequence: 0,
-    };
-    let mut i: usize = 128;
-    while 0 < i {
-        i -= 1;
+    let mut best = Spot::Nowhere;
+    for i in (0..128).rev() {
         let x = place(w, i);
-        b = nearer(has_rank(w, l, rank, x), i, x.entry.sequence, b);
+        if has_rank(w, l, rank, x) {
+            best = nearer(i, x, best);
+        }
     }
-    b.at
+    best
 }

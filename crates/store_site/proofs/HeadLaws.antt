@@ -19,10 +19,6 @@ module _ (ps ws : List ℕ) (t : SiteTable) (l : ℕ) where
   unfolding site_of
   no_link_low e h = rw (lt-ltb l 4 h, e)
 
-  pub no_link_high : 4 ≤ l → true ≡ no_link_at (site_of ps ws t) l
-  unfolding site_of
-  no_link_high h = rw (le-ltb l 4 h)
-
   pub time_early : l < word ws 1 → true ≡ bad_time_at (site_of ps ws t) l
   unfolding site_of
   time_early h = rw (lt-ltb l (word ws 1) h)

@@ -78,10 +78,7 @@ pub fn no_link(w: &[u64], link: u32) -> bool
     ensures { (ps : List ℕ) (t : SiteTable) → result ≡ no_link_at (site_of ps w.now t) link }
 {
     let count = store_words::quarter(w[2], 16);
-    if link < 4 {
-        return (count as u32) <= link;
-    }
-    true
+    4 <= link || u32::from(count) <= link
 }
 
 // Number 5.

@@ -17,10 +17,7 @@ pub fn up(w: &[u64], l: u16) -> bool
     requires { length w.now ≡ site_words }
     ensures { (ps : List ℕ) (t : SiteTable) → result ≡ is_up (phase_of (link_at (site_of ps w.now t) l)) }
 {
-    if l < 4 {
-        return phases::up(w, l as usize);
-    }
-    false
+    l < 4 && phases::up(w, usize::from(l))
 }
 
 pub fn subscription(w: &[u64], k: usize) -> Subscription

@@ -15,12 +15,7 @@ use link::Phase;
 fn all_three(a: u64, b: u64, c: u64) -> bool
     ensures { result ≡ both (flag a) (both (flag b) (flag c)) }
 {
-    if 0 < a {
-        if 0 < b {
-            return 0 < c;
-        }
-    }
-    false
+    0 < a && 0 < b && 0 < c
 }
 
 pub fn phase(w: &[u64], l: usize) -> Phase
@@ -51,13 +46,7 @@ pub fn up(w: &[u64], l: usize) -> bool
     requires { (length w.now ≡ site_words) × (l < 4) }
     ensures { (ps : List ℕ) (t : SiteTable) → result ≡ is_up (phase_of (link_at (site_of ps w.now t) l)) }
 {
-    let p = phase(w, l);
-    match p {
-        Phase::Down => false,
-        Phase::Greeting => false,
-        Phase::Beating => false,
-        Phase::Up => true,
-    }
+    matches!(phase(w, l), Phase::Up)
 }
 
 // The time of the last Watchdog.

@@ -1,6 +1,6 @@
 -- A list of the site filled, one element after the other.
 -- Assumes nothing.
-use Rattle.basis.proofs.Std.{◌≡◌, refl, sym, ap, ◌∙◌, ℕ, zero, suc, ◌+◌, ◌*◌, ◌<◌, ◌≤◌, arith, List, [], ◌∷◌, length, get_or, set, ext_get_or}
+use Rattle.basis.proofs.Std.{◌≡◌, refl, sym, ap, ◌∙◌, ℕ, zero, suc, ◌+◌, ◌*◌, ◌<◌, ◌≤◌, arith, List, [], ◌∷◌, ◌++◌, ◌-◌, drop, length, get_or, set, ext_get_or, get_or-append, get_or-append-add, get_or-drop}
 use Rattle.table_whole.specs.declared.SiteTable.{SiteTable}
 use Rattle.table_whole.specs.Memory.{no_table}
 use Rattle.site.specs.declared.Site.{Site}
@@ -8,11 +8,11 @@ use Rattle.pool.specs.declared.Place.{Place}
 use Rattle.pool.specs.Places.{no_place}
 use Rattle.store_words.specs.Words.{word, Stored, Put}
 use Rattle.store_words.proofs.Elements.{fill_next, list_is}
-use Rattle.store_words.proofs.Stores.{stored, nothing, wider, then, above}
+use Rattle.store_words.proofs.Stores.{above}
 use Rattle.store_site.specs.Rows.{place_in}
 use Rattle.store_site.proofs.SiteLaws.{places_put, places_same, places_length}
 use Rattle.store_whole.specs.Filled.{PutLost}
-use Rattle.store_site.specs.Layout.{lost_in, places_in, site_of, pool_words}
+use Rattle.store_site.specs.Layout.{lost_in, places_in, site_of}
 use Rattle.store_site.specs.Turns.{Plain, Turns}
 
 -- a list that has the elements of another
@@ -88,25 +88,17 @@ places_next ps qs xs k x h e q p j g =
 pub places_all : (ps : List ℕ) (xs : List Place) (k : ℕ) → 128 ≤ k → length xs ≡ 128 → PlacesTo ps xs k → places_in ps ≡ xs
 places_all ps xs k h e g = filled no_place (places_in ps) xs 128 k (places_length ps) e h g
 
--- the first k lost counts are these, and the places as they were
-pub record LostTo (ps qs xs : List ℕ) (k : ℕ) : Type 0 where
-  pub there : (j : ℕ) → j < k → word qs j ≡ word xs j
-  pub kept : Stored ps qs 0 8
-
-pub lost_none : (ps xs : List ℕ) → LostTo ps ps xs 0
-lost_none ps xs = record { there = λ j h. absurd (omega arith); kept = wider 0 8 (nothing ps 0) (omega arith) (omega arith) }
-
-pub lost_next : (ps qs xs : List ℕ) (k x : ℕ) → length qs ≡ pool_words → k < 8 → LostTo ps qs xs k → x ≡ word xs k → LostTo ps (set qs k x) xs (k + 1)
-lost_next ps qs xs k x n h u e =
-    record {
-      there = fill_next (word xs) qs k 0 x (omega arith) u.there e;
-      kept = then u.kept (wider 0 8 (stored qs k x [] (omega arith)) (omega arith) (omega arith));
-    }
-
-pub lost_all : (ps qs xs : List ℕ) (k : ℕ) → 8 ≤ k → length xs ≡ 8 → LostTo ps qs xs k → PutLost ps qs xs
+-- the lost counts stored in front of what stands behind them
+pub lost_put : (ps xs : List ℕ) → length xs ≡ 8 → 8 ≤ length ps → PutLost ps (xs ++ drop 8 ps) xs
 unfolding lost_in
-lost_all ps qs xs k h e u =
+lost_put ps xs e h =
+    let qs = xs ++ drop 8 ps in
+    let behind : (j : ℕ) → 8 ≤ j → word qs j ≡ word ps j = λ j g.
+    let r : j ≡ length xs + (j - 8) = omega arith in
+    let s : 8 + (j - 8) ≡ j = omega arith in
+    ap (word qs) r ∙ get_or-append-add xs (drop 8 ps) (j - 8) 0 ∙ get_or-drop 8 ps (j - 8) 0 ∙ ap (word ps) s in
+    let kept : Stored ps qs 0 8 = record { before = λ j g. absurd (omega arith); behind = behind } in
     record {
-      counts = sym (list_is (word qs) 8 xs 0 e (λ j g. sym (u.there j (omega arith))));
-      places = places_same ps qs (above 8 512 u.kept (omega arith));
+      counts = sym (list_is (word qs) 8 xs 0 e (λ j g. sym (get_or-append xs (drop 8 ps) 0 j (omega arith))));
+      places = places_same ps qs (above 8 512 kept (omega arith));
     }

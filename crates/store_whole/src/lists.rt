@@ -16,10 +16,8 @@ pub fn put_places(w: &mut [u64], places: [Place; 128])
     requires { length w.old ≡ pool_words }
     ensures { places_in w.new ≡ places }
 {
-    let mut k: usize = 0;
-    while k < 128 {
-        store_pool::places::put_place(w, k, places[k]);
-        k += 1;
+    for (k, place) in places.iter().enumerate() {
+        store_pool::places::put_place(w, k, *place);
     }
 }
 
@@ -27,21 +25,15 @@ pub fn put_lost(w: &mut [u64], lost: [u64; 8])
     requires { length w.old ≡ pool_words }
     ensures { PutLost w.old w.new lost }
 {
-    let mut k: usize = 0;
-    while k < 8 {
-        w[k] = lost[k];
-        k += 1;
-    }
+    w[..8].copy_from_slice(&lost);
 }
 
 pub fn fill_links(w: &mut [u64], x: Link)
     requires { length w.old ≡ site_words }
     ensures { PutLinks w.old w.new (replicate 4 x) }
 {
-    let mut k: usize = 0;
-    while k < 4 {
+    for k in 0..4 {
         store_link::links::put_link_at(w, 5 + 75 * k, x);
-        k += 1;
     }
 }
 
@@ -49,10 +41,8 @@ pub fn fill_subscriptions(w: &mut [u64], x: Subscription)
     requires { length w.old ≡ site_words }
     ensures { Turns (λ (s : Site). with_subscriptions s (replicate 128 x)) w.old w.new }
 {
-    let mut k: usize = 0;
-    while k < 128 {
+    for k in 0..128 {
         store_site::parts::put_subscription(w, k, x);
-        k += 1;
     }
 }
 
@@ -60,10 +50,8 @@ pub fn fill_alarms(w: &mut [u64], x: Alarm)
     requires { length w.old ≡ site_words }
     ensures { Turns (λ (s : Site). with_alarms s (replicate 32 x)) w.old w.new }
 {
-    let mut k: usize = 0;
-    while k < 32 {
+    for k in 0..32 {
         store_site::parts::put_alarm(w, k, x);
-        k += 1;
     }
 }
 
@@ -71,9 +59,7 @@ pub fn fill_statuses(w: &mut [u64], x: Status)
     requires { length w.old ≡ site_words }
     ensures { Turns (λ (s : Site). with_statuses s (replicate 32 x)) w.old w.new }
 {
-    let mut k: usize = 0;
-    while k < 32 {
+    for k in 0..32 {
         store_site::parts::put_status(w, k, x);
-        k += 1;
     }
 }

@@ -2,7 +2,6 @@
 #![tactic(auto)]
 
 ghost use Rattle.std.specs.Prelude.{◌≡◌, ◌%◌, ◌^◌, take, drop};
-ghost use Rattle.basis.specs.Pick.{bit as bit_of};
 ghost use Rattle.bits.specs.Fields.{field_of, number_of};
 ghost use Rattle.store_words.specs.Narrow.{upper as upper_of, lower as lower_of, pair as pair_of, quad as quad_of};
 
@@ -55,23 +54,10 @@ pub fn quad(a: u16, b: u16, c: u16, d: u16) -> u64
     bits::push(w, 16, d as u64)
 }
 
-pub fn bit(b: bool) -> u64
-    ensures { result ≡ bit_of b }
-{
-    if b { 1 } else { 0 }
-}
-
 // The first and the second eight bytes of an identity.
-pub fn first_half(id: Identity) -> u64
-    ensures { result ≡ number_of (take 8 id.bytes) % 2 ^ 64 }
+pub fn halves(id: Identity) -> (u64, u64)
+    ensures first { result.0 ≡ number_of (take 8 id.bytes) % 2 ^ 64 }
+    ensures second { result.1 ≡ number_of (take 8 (drop 8 id.bytes)) % 2 ^ 64 }
 {
-    let bytes = id.bytes;
-    bits::number(&bytes[0..8])
-}
-
-pub fn second_half(id: Identity) -> u64
-    ensures { result ≡ number_of (take 8 (drop 8 id.bytes)) % 2 ^ 64 }
-{
-    let bytes = id.bytes;
-    bits::number(&bytes[8..16])
+    (bits::number(&id.bytes[..8]), bits::number(&id.bytes[8..]))
 }

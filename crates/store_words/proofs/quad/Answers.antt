@@ -1,6 +1,6 @@
 -- `store_words::quad` meets its contract.
 -- Assumes nothing.
-use Rattle.basis.proofs.Std.{refl, [], ◌∷◌, lit≤, rules}
+use Rattle.basis.proofs.Std.{refl, [], ◌∷◌, lit≤}
 use Rattle.bits.proofs.Fields.{next_field}
 use Rattle.store_words.proofs.quad.Goals as goal
 

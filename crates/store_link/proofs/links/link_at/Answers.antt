@@ -1,7 +1,6 @@
 -- `store_link::links::link_at` meets its contract.
 -- Assumes nothing.
 use Rattle.store_link.proofs.RowLaws.{link_get}
-use Rattle.basis.proofs.Std.{rules}
 use Rattle.store_link.proofs.links.link_at.Goals as goal
 
 pub returns : goal.returns

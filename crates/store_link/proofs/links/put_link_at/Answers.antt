@@ -1,7 +1,6 @@
 -- `store_link::links::put_link_at` meets its contract.
 -- Assumes nothing.
 use Rattle.store_link.proofs.RowLaws.{link_put}
-use Rattle.basis.proofs.Std.{rules}
 use Rattle.store_link.proofs.links.put_link_at.Goals as goal
 
 pub returns : goal.returns

@@ -15,4 +15,4 @@ bounds-w-i-4 c = simp length-set (omega arith)
 
 pub returns : goal.returns
 returns c =
-    marks_put c.args.w.now c.args.i c.args.a c.args.b c.args.c c.args.d (search rules) c.bit.ensures c.bit-2.ensures c.bit-3.ensures c.bit-4.ensures
+    marks_put c.args.w.now c.args.i c.args.a c.args.b c.args.c c.args.d (search rules) c.from.ensures c.from-2.ensures c.from-3.ensures c.from-4.ensures

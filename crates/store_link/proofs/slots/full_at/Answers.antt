@@ -1,31 +1,16 @@
 -- `store_link::slots::full_at` meets its contract.
 -- Assumes nothing.
-use Rattle.basis.proofs.Std.{◌-◌, sym, ◌∙◌, arith}
-use Rattle.store_link.proofs.Asked.{Taken, taken, taken_on, not_full, full}
+use Rattle.basis.proofs.Std.{sym, ◌∙◌, arith}
+use Rattle.store_link.proofs.Asked.{taken, taken_on, not_full, full}
 use Rattle.store_link.proofs.slots.full_at.Goals as goal
 
 pub loop-k-init : goal.loop-k-init
 loop-k-init c = taken c.args.w.now c.args.i
 
-pub overflow_mul-k : goal.overflow_mul-k
-overflow_mul-k c = omega arith
-
-pub overflow_add-i : goal.overflow_add-i
-overflow_add-i c = omega arith
-
-pub is_free-requires : goal.is_free-requires
-is_free-requires c = omega arith
-
 pub returns-then-is_free : goal.returns-then-is_free
 returns-then-is_free c =
     let l = c.loop-k in
     not_full c.args.w.now c.args.i l.k (omega arith) l.invariant (sym c.is_free.ensures ∙ c.if-is_free.true)
-
-pub overflow_add-k : goal.overflow_add-k
-overflow_add-k c = omega arith
-
-pub loop-k-smaller : goal.loop-k-smaller
-loop-k-smaller c = omega arith
 
 pub loop-k-preserved : goal.loop-k-preserved
 loop-k-preserved c =

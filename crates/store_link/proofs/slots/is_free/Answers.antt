@@ -1,6 +1,6 @@
 -- `store_link::slots::is_free` meets its contract.
 -- Assumes nothing.
-use Rattle.basis.proofs.Std.{ℕ, ap, eqb, rules}
+use Rattle.basis.proofs.Std.{ℕ, ap, eqb}
 use Rattle.store_link.specs.Rows.{slot_from}
 use Rattle.store_link.proofs.slots.is_free.Goals as goal
 

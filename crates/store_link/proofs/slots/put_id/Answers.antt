@@ -1,7 +1,6 @@
 -- `store_link::slots::put_id` meets its contract.
 -- Assumes nothing.
 use Rattle.store_link.proofs.Ids.{id_put}
-use Rattle.basis.proofs.Std.{rules}
 use Rattle.store_link.proofs.slots.put_id.Goals as goal
 
 pub returns : goal.returns

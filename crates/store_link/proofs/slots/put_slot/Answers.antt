@@ -18,4 +18,4 @@ bounds-w-i-4 c = simp length-set (omega arith)
 pub returns : goal.returns
 returns c =
     let f : (j : ℕ) → Fits w8 (get_or c.args.x.id.bytes j 0) = λ j. search (c, rules) in
-    slot_put c.args.w.now c.args.i c.args.x (search rules) (search rules) (search rules) (search (c, rules)) (λ j. (f j).fits) c.pair-numbers.ensures c.first_half-a.ensures c.second_half-b.ensures
+    slot_put c.args.w.now c.args.i c.args.x (search rules) (search rules) (search rules) (search (c, rules)) (λ j. (f j).fits) c.pair-numbers.ensures c.halves-a.ensures.first c.halves-a.ensures.second

@@ -1,6 +1,5 @@
 -- `store_link::slots::slot_at` meets its contract.
 -- Assumes nothing.
-use Rattle.basis.proofs.Std.{rules}
 use Rattle.store_link.proofs.slots.slot_at.Goals as goal
 
 pub returns : goal.returns

@@ -8,6 +8,6 @@ pub returns-then-mine : goal.returns-then-mine
 returns-then-mine c =
     free_one c.args.w.now c.args.k c.args.l (search rules) c.put_place.new.w (rw c.place.ensures at (sym c.mine.ensures ∙ c.if-mine.true)) c.put_place.ensures
 
-pub returns : goal.returns
-returns c =
+pub returns-else-mine : goal.returns-else-mine
+returns-else-mine c =
     free_other c.args.w.now c.args.k c.args.l (search rules) (rw c.place.ensures at (sym c.mine.ensures ∙ c.if-mine.false))

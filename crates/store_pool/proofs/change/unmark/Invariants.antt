@@ -1,13 +1,8 @@
 -- `store_pool::change::unmark` meets its contract.
 -- Assumes nothing.
-use Rattle.basis.proofs.Std.{◌≤◌, ◌-◌, ◌≡◌, length}
 use Rattle.store_pool.proofs.PoolLaws.{Upto}
 use Rattle.pool.specs.Pool.{unsent_for}
-use Rattle.store_site.specs.Layout.{pool_words}
 use Rattle.store_pool.proofs.change.unmark.Given as goal
 
 abbrev pub invariant-loop-i : goal.invariant-loop-i
-invariant-loop-i l = (l.i ≤ 128) × ((length l.w ≡ pool_words) × ((length l.initial.w ≡ pool_words) × Upto (unsent_for l.l) l.initial.w l.w l.i))
-
-abbrev pub decreases-loop-i : goal.decreases-loop-i
-decreases-loop-i l = 128 - l.i
+invariant-loop-i l = Upto (unsent_for l.l) l.initial.w l.w l.i

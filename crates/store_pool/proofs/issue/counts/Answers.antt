@@ -10,31 +10,25 @@ pub loop-i-init : goal.loop-i-init
 loop-i-init c =
     let p = places_in c.args.w.now in
     let h : length p ≡ 128 = places_length _ in
-    (omega arith, (refl, counted_none p 128 (omega arith)))
-
-pub overflow_sub-i : goal.overflow_sub-i
-overflow_sub-i c = omega arith
+    (refl, counted_none p 128 (omega arith))
 
 pub slice_bounds-tally-end : goal.slice_bounds-tally-end
-slice_bounds-tally-end c = sym c.loop-i.invariant.1.0
+slice_bounds-tally-end c = sym c.loop-i.invariant.0
 
 pub tally-requires : goal.tally-requires
 tally-requires c =
     let l = c.loop-i in
     let p = places_in c.args.w.now in
-    (search rules, (omega arith, (l.invariant.1.0, counted_below p l.i l.held (places_length _) l.invariant.1.0 (omega arith) l.invariant.1.1)))
-
-pub loop-i-smaller : goal.loop-i-smaller
-loop-i-smaller c = omega arith
+    (search rules, (omega arith, (l.invariant.0, counted_below p l.i l.held (places_length _) l.invariant.0 (omega arith) l.invariant.1)))
 
 pub loop-i-preserved : goal.loop-i-preserved
 loop-i-preserved c =
     let l = c.loop-i in
     let p = places_in c.args.w.now in
     let h : length p ≡ 128 = places_length _ in
-    (omega arith, (c.tally.auto.held ∙ l.invariant.1.0, counted_next p l.i l.held c.tally.new.held (omega arith) (omega arith) l.invariant.1.1 c.tally.ensures))
+    (c.tally.auto.held ∙ l.invariant.0, counted_next p l.i l.held c.tally.new.held (omega arith) (omega arith) l.invariant.1 c.tally.ensures)
 
 pub returns : goal.returns
 returns c =
     let e : c.loop-i.i ≡ 0 = omega arith in
-    rw e at c.loop-i.invariant.1.1
+    rw e at c.loop-i.invariant.1

@@ -1,37 +1,28 @@
 -- `store_pool::places::last` meets its contract.
 -- Assumes nothing.
-use Rattle.basis.proofs.Std.{◌≡◌, refl, arith, length, drop}
-use Rattle.pool.specs.Places.{fits, newest_from}
+use Rattle.basis.proofs.Std.{◌≡◌, sym, arith, length}
+use Rattle.pool.specs.Places.{fits}
 use Rattle.store_site.specs.Layout.{places_in}
 use Rattle.store_site.proofs.SiteLaws.{places_length}
 use Rattle.pool.proofs.Down.{newest_down, newest_end}
-use Rattle.store_pool.specs.Best.Is.{nowhere}
-use Rattle.store_pool.proofs.PoolLaws.{stands}
 use Rattle.store_pool.proofs.places.last.Goals as goal
 
 pub loop-i-init : goal.loop-i-init
 loop-i-init c =
     let p = places_in c.args.w.now in
     let h : length p ≡ 128 = places_length _ in
-    (omega arith, rw (newest_end (fits c.args.q) p 128 (omega arith)) (nowhere refl))
+    sym (newest_end (fits c.args.q) p 128 (omega arith))
 
-pub overflow_sub-i : goal.overflow_sub-i
-overflow_sub-i c = omega arith
-
-pub later-b-requires : goal.later-b-requires
-later-b-requires c = omega arith
-
-pub loop-i-smaller : goal.loop-i-smaller
-loop-i-smaller c = omega arith
+pub loop-i-preserved-then-asked : goal.loop-i-preserved-then-asked
+loop-i-preserved-then-asked c =
+    let p = places_in c.args.w.now in
+    let i = c.loop-i.i in
+    let h : length p ≡ 128 = places_length _ in
+    rw (newest_down (fits c.args.q) p i (omega arith) (omega arith), ← c.place-x.ensures, ← c.asked.ensures, c.if-asked.true, ← c.loop-i.invariant) c.later-best.ensures
 
 pub loop-i-preserved : goal.loop-i-preserved
 loop-i-preserved c =
     let p = places_in c.args.w.now in
     let i = c.loop-i.i in
     let h : length p ≡ 128 = places_length _ in
-    (omega arith, rw (newest_down (fits c.args.q) p i (omega arith) (omega arith), ← c.place-x.ensures, ← c.asked.ensures) (c.later-b.ensures p c.place-x.result (newest_from (fits c.args.q) i (drop i p)) refl c.place-x.ensures c.loop-i.invariant.1))
-
-pub returns : goal.returns
-returns c =
-    let e : c.loop-i.i ≡ 0 = omega arith in
-    stands (rw e at c.loop-i.invariant.1)
+    rw (newest_down (fits c.args.q) p i (omega arith) (omega arith), ← c.place-x.ensures, ← c.asked.ensures, c.if-asked.false) c.loop-i.invariant

@@ -11,29 +11,19 @@ pub loop-i-init : goal.loop-i-init
 loop-i-init c =
     let p = places_in c.args.w.now in
     let h : length p ≡ 128 = places_length _ in
-    (omega arith, sym (count_end _ p 128 (omega arith)))
+    sym (count_end _ p 128 (omega arith))
 
-pub overflow_sub-i : goal.overflow_sub-i
-overflow_sub-i c = omega arith
+pub overflow_add-n : goal.overflow_add-n
+overflow_add-n c = omega (arith, count_most (fits c.args.q) (drop c.loop-i.i (places_in c.args.w.now)), places_length c.args.w.now, length-drop c.loop-i.i (places_in c.args.w.now))
 
-pub add-n-requires : goal.add-n-requires
-add-n-requires c =
+pub loop-i-preserved-then-asked : goal.loop-i-preserved-then-asked
+loop-i-preserved-then-asked c =
     let p = places_in c.args.w.now in
-    let i = c.loop-i.i in
     let h : length p ≡ 128 = places_length _ in
-    omega (arith, count_most (fits c.args.q) (drop i p), length-drop i p)
-
-pub loop-i-smaller : goal.loop-i-smaller
-loop-i-smaller c = omega arith
+    rw (count_down _ p c.loop-i.i (omega arith) (omega arith), ← c.place.ensures, ← c.asked.ensures, c.if-asked.true) (omega arith)
 
 pub loop-i-preserved : goal.loop-i-preserved
 loop-i-preserved c =
     let p = places_in c.args.w.now in
-    let i = c.loop-i.i in
     let h : length p ≡ 128 = places_length _ in
-    (omega arith, rw (count_down _ p i (omega arith) (omega arith), ← c.place.ensures, ← c.asked.ensures, ← c.loop-i.invariant.1) c.add-n.ensures)
-
-pub returns : goal.returns
-returns c =
-    let e : c.loop-i.i ≡ 0 = omega arith in
-    rw e at c.loop-i.invariant.1
+    rw (count_down _ p c.loop-i.i (omega arith) (omega arith), ← c.place.ensures, ← c.asked.ensures, c.if-asked.false) (omega arith)

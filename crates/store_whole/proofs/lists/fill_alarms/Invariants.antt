@@ -1,14 +1,11 @@
 -- `store_whole::lists::fill_alarms` meets its contract.
 -- Assumes nothing.
-use Rattle.basis.proofs.Std.{◌≤◌, ◌-◌, ◌≡◌, length, replicate}
+use Rattle.basis.proofs.Std.{replicate}
 use Rattle.alarm.specs.Alarm.{beginning}
 use Rattle.site.specs.Site.{with_alarms}
-use Rattle.store_site.specs.Layout.{alarms_in, site_words}
+use Rattle.store_site.specs.Layout.{alarms_in}
 use Rattle.store_whole.proofs.FillLaws.{Upto}
 use Rattle.store_whole.proofs.lists.fill_alarms.Given as goal
 
 abbrev pub invariant-loop-k : goal.invariant-loop-k
-invariant-loop-k l = (l.k ≤ 32) × ((length l.w ≡ site_words) × ((length l.initial.w ≡ site_words) × Upto alarms_in with_alarms (beginning 0) l.initial.w l.w (replicate 32 l.x) l.k))
-
-abbrev pub decreases-loop-k : goal.decreases-loop-k
-decreases-loop-k l = 32 - l.k
+invariant-loop-k l = Upto alarms_in with_alarms (beginning 0) l.initial.w l.w (replicate 32 l.x) l.k

@@ -1,15 +1,12 @@
 -- `store_whole::lists::fill_links` meets its contract.
 -- Assumes nothing.
-use Rattle.basis.proofs.Std.{ℕ, ◌≤◌, ◌-◌, ◌<◌, ◌+◌, ◌*◌, ◌≡◌, length, replicate}
+use Rattle.basis.proofs.Std.{ℕ, ◌<◌, ◌+◌, ◌*◌, replicate}
 use Rattle.link.specs.Fields.{closed_link}
 use Rattle.site.specs.Site.{with_links}
 use Rattle.store_link.specs.Rows.{PlainAt}
-use Rattle.store_site.specs.Layout.{links_in, site_words}
+use Rattle.store_site.specs.Layout.{links_in}
 use Rattle.store_whole.proofs.FillLaws.{Upto}
 use Rattle.store_whole.proofs.lists.fill_links.Given as goal
 
 abbrev pub invariant-loop-k : goal.invariant-loop-k
-invariant-loop-k l = (l.k ≤ 4) × ((length l.w ≡ site_words) × ((length l.initial.w ≡ site_words) × (Upto links_in with_links closed_link l.initial.w l.w (replicate 4 l.x) l.k × ((j : ℕ) → j < l.k → PlainAt l.w (5 + 75 * j)))))
-
-abbrev pub decreases-loop-k : goal.decreases-loop-k
-decreases-loop-k l = 4 - l.k
+invariant-loop-k l = (Upto links_in with_links closed_link l.initial.w l.w (replicate 4 l.x) l.k × ((j : ℕ) → j < l.k → PlainAt l.w (5 + 75 * j)))

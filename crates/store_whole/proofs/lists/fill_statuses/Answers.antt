@@ -1,28 +1,20 @@
 -- `store_whole::lists::fill_statuses` meets its contract.
 -- Assumes nothing.
-use Rattle.basis.proofs.Std.{◌-◌, ◌≡◌, sym, arith, rules, length, replicate, length-replicate, get_or-replicate}
+use Rattle.basis.proofs.Std.{sym, arith, replicate, length-replicate, get_or-replicate}
 use Rattle.status.specs.Status.{unknown}
-use Rattle.store_site.specs.Layout.{site_words}
 use Rattle.store_whole.proofs.FillLaws.{upto_none, upto_next, upto_all}
 use Rattle.store_whole.proofs.ListLaws.{statuses_part}
 use Rattle.store_whole.proofs.lists.fill_statuses.Goals as goal
 
 pub loop-k-init : goal.loop-k-init
-loop-k-init c = (omega arith, (search rules, (search rules, upto_none statuses_part unknown c.args.w.now (replicate 32 c.args.x))))
-
-pub overflow_add-k : goal.overflow_add-k
-overflow_add-k c = omega arith
-
-pub loop-k-smaller : goal.loop-k-smaller
-loop-k-smaller c = omega arith
+loop-k-init c = upto_none statuses_part unknown c.args.w.now (replicate 32 c.args.x)
 
 pub loop-k-preserved : goal.loop-k-preserved
 loop-k-preserved c =
     let l = c.loop-k in
-    let n : length c.put_status.new.w ≡ site_words = search rules in
-    (omega arith, (n, (l.invariant.1.1.0, upto_next statuses_part unknown c.args.w.now l.w c.put_status.new.w (replicate 32 c.args.x) l.k l.invariant.1.1.1 (omega arith) (length-replicate 32 c.args.x) c.args.x (sym (get_or-replicate 32 l.k c.args.x unknown (omega arith))) c.put_status.ensures)))
+    upto_next statuses_part unknown c.args.w.now l.w c.put_status.new.w (replicate 32 c.args.x) l.k l.invariant (omega arith) (length-replicate 32 c.args.x) c.args.x (sym (get_or-replicate 32 l.k c.args.x unknown (omega arith))) c.put_status.ensures
 
 pub returns : goal.returns
 returns c =
     let l = c.loop-k in
-    upto_all statuses_part unknown c.args.w.now l.w (replicate 32 c.args.x) l.k (omega arith) (length-replicate 32 c.args.x) l.invariant.1.1.1
+    upto_all statuses_part unknown c.args.w.now l.w (replicate 32 c.args.x) l.k (omega arith) (length-replicate 32 c.args.x) l.invariant

@@ -1,14 +1,11 @@
 -- `store_whole::lists::fill_subscriptions` meets its contract.
 -- Assumes nothing.
-use Rattle.basis.proofs.Std.{◌≤◌, ◌-◌, ◌≡◌, length, replicate}
+use Rattle.basis.proofs.Std.{replicate}
 use Rattle.subscription.specs.Subscription.{none}
 use Rattle.site.specs.Site.{with_subscriptions}
-use Rattle.store_site.specs.Layout.{subscriptions_in, site_words}
+use Rattle.store_site.specs.Layout.{subscriptions_in}
 use Rattle.store_whole.proofs.FillLaws.{Upto}
 use Rattle.store_whole.proofs.lists.fill_subscriptions.Given as goal
 
 abbrev pub invariant-loop-k : goal.invariant-loop-k
-invariant-loop-k l = (l.k ≤ 128) × ((length l.w ≡ site_words) × ((length l.initial.w ≡ site_words) × Upto subscriptions_in with_subscriptions none l.initial.w l.w (replicate 128 l.x) l.k))
-
-abbrev pub decreases-loop-k : goal.decreases-loop-k
-decreases-loop-k l = 128 - l.k
+invariant-loop-k l = Upto subscriptions_in with_subscriptions none l.initial.w l.w (replicate 128 l.x) l.k

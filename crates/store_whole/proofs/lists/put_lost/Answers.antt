@@ -1,37 +1,8 @@
 -- `store_whole::lists::put_lost` meets its contract.
 -- Assumes nothing.
-use Rattle.basis.proofs.Std.{◌-◌, ◌≡◌, ◌∙◌, arith, rules, length, length-set}
-use Rattle.store_whole.proofs.FillLaws.{inside, lost_none, lost_next, lost_all}
+use Rattle.basis.proofs.Std.{arith, rules}
+use Rattle.store_whole.proofs.FillLaws.{lost_put}
 use Rattle.store_whole.proofs.lists.put_lost.Goals as goal
 
-pub loop-k-init : goal.loop-k-init
-loop-k-init c = (omega arith, (search rules, (search rules, lost_none c.args.w.now c.args.lost)))
-
-pub offset_bounds-lost-k : goal.offset_bounds-lost-k
-offset_bounds-lost-k c = omega arith
-
-pub bounds-lost-k : goal.bounds-lost-k
-bounds-lost-k c = omega arith
-
-pub offset_bounds-w-k : goal.offset_bounds-w-k
-offset_bounds-w-k c = omega arith
-
-pub bounds-w-k : goal.bounds-w-k
-bounds-w-k c = omega arith
-
-pub overflow_add-k : goal.overflow_add-k
-overflow_add-k c = omega arith
-
-pub loop-k-smaller : goal.loop-k-smaller
-loop-k-smaller c = omega arith
-
-pub loop-k-preserved : goal.loop-k-preserved
-loop-k-preserved c =
-    let l = c.loop-k in
-    let m : length c.args.lost ≡ 8 = search (c, rules) in
-    (omega arith, (length-set l.w l.k _ ∙ l.invariant.1.0, (l.invariant.1.1.0, lost_next c.args.w.now l.w c.args.lost l.k _ l.invariant.1.0 (omega arith) l.invariant.1.1.1 (inside c.args.lost l.k _ 0 (omega arith)))))
-
 pub returns : goal.returns
-returns c =
-    let l = c.loop-k in
-    lost_all c.args.w.now l.w c.args.lost l.k (omega arith) (search (c, rules)) l.invariant.1.1.1
+returns c = rw c.copy_from_slice.ensures.after (lost_put c.args.w.now c.args.lost (search (c, rules)) (omega arith))

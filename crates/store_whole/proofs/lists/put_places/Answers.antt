@@ -1,34 +1,21 @@
 -- `store_whole::lists::put_places` meets its contract.
 -- Assumes nothing.
-use Rattle.basis.proofs.Std.{◌-◌, ◌≡◌, arith, rules, length}
+use Rattle.basis.proofs.Std.{◌≡◌, arith, rules, length}
 use Rattle.pool.specs.Places.{no_place}
-use Rattle.store_site.specs.Layout.{pool_words}
 use Rattle.store_whole.proofs.FillLaws.{inside, places_next, places_all}
 use Rattle.store_whole.proofs.lists.put_places.Goals as goal
 
 pub loop-k-init : goal.loop-k-init
-loop-k-init c = (omega arith, (search rules, (search rules, λ j h. absurd (omega arith))))
-
-pub offset_bounds-places-k : goal.offset_bounds-places-k
-offset_bounds-places-k c = omega arith
-
-pub bounds-places-k : goal.bounds-places-k
-bounds-places-k c = omega arith
-
-pub overflow_add-k : goal.overflow_add-k
-overflow_add-k c = omega arith
-
-pub loop-k-smaller : goal.loop-k-smaller
-loop-k-smaller c = omega arith
+loop-k-init c = λ j h. absurd (omega arith)
 
 pub loop-k-preserved : goal.loop-k-preserved
 loop-k-preserved c =
     let l = c.loop-k in
-    let n : length c.put_place.new.w ≡ pool_words = search rules in
     let m : length c.args.places ≡ 128 = search (c, rules) in
-    (omega arith, (n, (l.invariant.1.1.0, places_next l.w c.put_place.new.w c.args.places l.k _ (omega arith) l.invariant.1.1.1 (inside c.args.places l.k _ no_place (omega arith)) c.put_place.ensures)))
+    places_next l.w c.put_place.new.w c.args.places l.k _ (omega arith) l.invariant (inside c.args.places l.k _ no_place (omega arith)) c.put_place.ensures
 
 pub returns : goal.returns
 returns c =
     let l = c.loop-k in
-    places_all l.w c.args.places l.k (omega arith) (search (c, rules)) l.invariant.1.1.1
+    let m : length c.args.places ≡ 128 = search (c, rules) in
+    places_all l.w c.args.places l.k (omega arith) m l.invariant
