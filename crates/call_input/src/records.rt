@@ -24,10 +24,8 @@ pub fn of_status(w: &[u64], x: status::Set, number: u16) -> u64
 {
     let count = store_site::head::link_count(w);
     let mut n: u64 = 0;
-    let mut l: u16 = 0;
-    while l < count {
+    for l in 0..count {
         n = store_call::records::more_if(n, issues(w, x, number, l));
-        l += 1;
     }
     n
 }
@@ -48,10 +46,8 @@ pub fn add_statuses(p: &mut [u64], w: &mut [u64], x: status::Set, number: u16, t
     ensures { Moves (λ (s : Site). issued_in s (status_entries s number x time)) p.old p.new w.old w.new }
 {
     let count = store_site::head::link_count(w);
-    let mut l: u16 = 0;
-    while l < count {
+    for l in 0..count {
         add_status(p, w, x, number, time, l);
-        l += 1;
     }
 }
 
@@ -82,9 +78,7 @@ pub fn add_aggregated(p: &mut [u64], w: &mut [u64], x: aggregated::Set)
     ensures { Moves (λ (s : Site). issued_in s (aggregated_entries s x)) p.old p.new w.old w.new }
 {
     let count = store_site::head::link_count(w);
-    let mut l: u16 = 0;
-    while l < count {
+    for l in 0..count {
         add_one(p, w, x, l);
-        l += 1;
     }
 }

@@ -26,10 +26,8 @@ pub fn how_many(w: &[u64], time: u64) -> u64
     ensures { (ps : List ℕ) (t : SiteTable) (ns : List Link) → result ≡ length (records_of (site_of ps w.now t).site (site_of ps w.now t).subscriptions (site_of ps w.now t).statuses ns time) }
 {
     let mut n: u64 = 0;
-    let mut i: u16 = 0;
-    while i < 128 {
+    for i in 0..128 {
         n = store_call::records::more_if(n, issues(w, i, time));
-        i += 1;
     }
     n
 }
@@ -51,10 +49,8 @@ pub fn issue_all(p: &mut [u64], w: &mut [u64], time: u64)
     requires { (length p.old ≡ pool_words) × (length w.old ≡ site_words) }
     ensures { Moves (λ (s : Site). issued_in s (records_of s.site s.subscriptions s.statuses s.links time)) p.old p.new w.old w.new }
 {
-    let mut i: u16 = 0;
-    while i < 128 {
+    for i in 0..128 {
         issue_one(p, w, i, time);
-        i += 1;
     }
 }
 
@@ -71,9 +67,7 @@ pub fn renew_all(w: &mut [u64], time: u64)
     requires { length w.old ≡ site_words }
     ensures { Turns (λ (s : Site). with_subscriptions s (map (renewed time) s.subscriptions)) w.old w.new }
 {
-    let mut i: usize = 0;
-    while i < 128 {
+    for i in 0..128 {
         renew(w, i, time);
-        i += 1;
     }
 }

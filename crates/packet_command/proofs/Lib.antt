@@ -1,3 +1,4 @@
 pub mod Entries
 pub mod Orders
 pub mod HandedWords
+pub mod Every

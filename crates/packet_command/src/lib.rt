@@ -2,7 +2,6 @@
 #![tactic(auto)]
 
 ghost use Rattle.std.specs.Prelude.{◌≡◌, true, List, ◌++◌, ℕ, ◌+◌, ◌*◌, ◌^◌, ◌<◌, length};
-ghost use Rattle.basis.specs.Pick.{both};
 ghost use Rattle.number.specs.Signed.{word_of};
 ghost use Rattle.output.specs.Put.{Wrote};
 ghost use Rattle.write_message.specs.declared.Told.TheVariants.{Command as command_kind};
@@ -50,18 +49,12 @@ fn entry_in(entries: [CommandEntry; 16], i: usize) -> CommandEntry
     none()
 }
 
-fn and(a: bool, b: bool) -> bool
-    ensures { result ≡ both a b }
-{
-    if a { b } else { false }
-}
-
 fn in_range(row: Item, v: i32) -> bool
     ensures { result ≡ in_range row v }
 {
     let lowest = number::signed16_of(row.lowest);
     let highest = number::signed16_of(row.highest);
-    and(number::at_most(lowest, v), number::at_most(v, highest))
+    number::at_most(lowest, v) && number::at_most(v, highest)
 }
 
 fn within(t: &[u8], k: Sought, v: i32) -> bool
@@ -85,13 +78,7 @@ fn all_within(t: &[u8], component: u8, entries: [CommandEntry; 16], count: usize
     requires { length t.now ≡ table_bytes }
     ensures { result ≡ all_within (table_of t.now) component entries count }
 {
-    let mut ok = true;
-    let mut i: usize = 0;
-    while i < count {
-        ok = and(ok, entry_within(t, component, entry_in(entries, i)));
-        i += 1;
-    }
-    ok
+    (0..count).all(|i| entry_within(t, component, entry_in(entries, i)))
 }
 
 fn is_command(t: &[u8], component: u8, e: CommandEntry) -> bool
@@ -105,13 +92,7 @@ fn all_commands(t: &[u8], component: u8, entries: [CommandEntry; 16], count: usi
     requires { length t.now ≡ table_bytes }
     ensures { result ≡ all_commands (table_of t.now) component entries count }
 {
-    let mut ok = true;
-    let mut i: usize = 0;
-    while i < count {
-        ok = and(ok, is_command(t, component, entry_in(entries, i)));
-        i += 1;
-    }
-    ok
+    (0..count).all(|i| is_command(t, component, entry_in(entries, i)))
 }
 
 // Whether no value of a known component's command is outside its range.
@@ -168,11 +149,9 @@ fn write_entries(
     ensures { Wrote out.old at (entries_pieces command_kind true (told_to component entries count)) out.new result }
 {
     let mut end = at;
-    let mut i: usize = 0;
-    while i < count {
+    for i in 0..count {
         let e = entry_in(entries, i);
         end = write_entry(out, end, component, e, i == 0);
-        i += 1;
     }
     end
 }
@@ -297,10 +276,8 @@ fn hand(t: &[u8], component: u8, entries: [CommandEntry; 16], count: usize, comm
     requires { (length t.now ≡ table_bytes) × ((length commands.old ≡ 16) × (count < 17)) }
     ensures { commands.new ≡ handed_over (commands_to (table_of t.now) component entries count) commands.old }
 {
-    let mut i: usize = 0;
-    while i < count {
+    for i in 0..count {
         commands[i] = word_of(t, component, entry_in(entries, i));
-        i += 1;
     }
 }
 

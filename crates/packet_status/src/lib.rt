@@ -81,11 +81,9 @@ fn write_entries(
     ensures { (ps : List ℕ) → Wrote out.old at (entries_pieces response_kind true (told_to (site_of ps w.now (table_of t.now)) component entries count)) out.new result }
 {
     let mut end = at;
-    let mut i: usize = 0;
-    while i < count {
+    for i in 0..count {
         let e = packet_lookup::entry_in(entries, i);
         end = write_entry(out, end, w, t, component, e, i == 0);
-        i += 1;
     }
     end
 }

@@ -77,11 +77,9 @@ fn replaced(
     requires { (length w.old ≡ site_words) × (length t.now ≡ table_bytes) }
     ensures { (ps : List ℕ) → MovesIn (table_of t.now) (λ (s : Site). replaced_of subscribing s l time component entries count) ps ps w.old w.new }
 {
-    let mut i: usize = 0;
-    while i < count {
+    for i in 0..count {
         let e = packet_lookup::entry_in(entries, i);
         replace(w, t, subscribing, l, time, component, e);
-        i += 1;
     }
 }
 
@@ -118,11 +116,9 @@ fn records(
     requires { (length p.old ≡ pool_words) × (length w.old ≡ site_words) × (length t.now ≡ table_bytes) }
     ensures { MovesIn (table_of t.now) (λ (s : Site). issued_in s (records_of s l time component entries count)) p.old p.new w.old w.new }
 {
-    let mut i: usize = 0;
-    while i < count {
+    for i in 0..count {
         let e = packet_lookup::entry_in(entries, i);
         issue(p, w, t, l, time, component, e);
-        i += 1;
     }
 }
 
@@ -250,14 +246,11 @@ fn take(
 fn asking_by(major: u32, minor: u32, patch: u32) -> Asking
     ensures { result ≡ asking_by major minor patch }
 {
-    if major == 3 {
-        if minor == 1 {
-            if patch == 4 {
-                return Asking::Older;
-            }
-        }
+    if major == 3 && minor == 1 && patch == 4 {
+        Asking::Older
+    } else {
+        Asking::Full
     }
-    Asking::Full
 }
 
 // How a subscription's entries are read on a link.

@@ -28,11 +28,7 @@ pub fn label_behind(out: &mut [u8], at: usize, before: &[u8], l: Label) -> usize
 fn no_later(ms: u64) -> u64
     ensures { result ≡ min ms last_time }
 {
-    if ms < answer::LAST_TIME {
-        ms
-    } else {
-        answer::LAST_TIME
-    }
+    ms.min(answer::LAST_TIME)
 }
 
 // A time past the last one is written as the last one.

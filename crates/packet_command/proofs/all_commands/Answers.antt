@@ -1,20 +1,16 @@
 -- `packet_command::all_commands` meets its contract.
 -- Assumes nothing.
-use Rattle.basis.proofs.Std.{◌-◌, ◌≡◌, refl, ap, ◌∙◌, add-one, rules}
+use Rattle.std.proofs.lemmas.Iterator.{cases_from_all, YieldsList-from_range}
+use Rattle.basis.proofs.Std.{ℕ, ◌≡◌, refl, Bool, true, false, arith, rules}
+use borrow.Author.Tests.{tests}
 use Rattle.store_table.specs.Layout.{table_of}
-use Rattle.packet_command.specs.Commanding.{all_commands}
+use Rattle.packet_lookup.specs.Sought.{command_sought, is_sought}
+use Rattle.packet_command.specs.Commanding.{entry_at}
+use Rattle.packet_command.proofs.Every.{every}
 use Rattle.packet_command.proofs.all_commands.Goals as goal
-
-pub loop-i-init : goal.loop-i-init
-loop-i-init c = (search rules, (search rules, refl))
-
-pub loop-i-preserved : goal.loop-i-preserved
-loop-i-preserved c =
-    let l = c.loop-i in
-    (search rules, (search rules, rw (add-one, ← l.invariant.1.1, ← c.entry_in.ensures, ← c.is_command.ensures) c.and-ok.ensures))
 
 pub returns : goal.returns
 returns c =
-    let l = c.loop-i in
-    let e : l.i ≡ c.args.count = search rules in
-    l.invariant.1.1 ∙ ap (all_commands (table_of c.args.t.now) c.args.component c.args.entries) e
+    let f : ℕ → Bool = λ i. is_sought (command_sought (table_of c.args.t.now) c.args.component (entry_at c.args.entries i)) in
+    every f c.args.count c.all.result
+    (cases_from_all _ _ _ (λ i. f i ≡ true) (λ i. f i ≡ false) c.all.ensures.ran (YieldsList-from_range 0 c.args.count c.args.count refl (omega arith)) (λ x q k. search (rules, tests)) (λ x q k. search (rules, tests)))

@@ -1,4 +1,4 @@
-use Rattle.basis.proofs.Std.{ℕ, ◌≤◌, ◌-◌, true, List}
+use Rattle.basis.proofs.Std.{ℕ, true, List}
 use Rattle.output.specs.Put.{Wrote}
 use Rattle.write_message.specs.declared.Told.TheVariants.{Response}
 use Rattle.write_message.specs.Pieces.{entries_pieces}
@@ -8,8 +8,4 @@ use Rattle.packet_status.specs.StatusReply.{told_to}
 use Rattle.packet_status.proofs.write_entries.Given as goal
 
 abbrev pub invariant-loop-i : goal.invariant-loop-i
-invariant-loop-i l =
-    (l.i ≤ l.count) × ((ps : List ℕ) → Wrote l.initial.out l.at (entries_pieces Response true (told_to (site_of ps l.w (table_of l.t)) l.component l.entries l.i)) l.out l.end)
-
-abbrev pub decreases-loop-i : goal.decreases-loop-i
-decreases-loop-i l = l.count - l.i
+invariant-loop-i l = (ps : List ℕ) → Wrote l.initial.out l.at (entries_pieces Response true (told_to (site_of ps l.w (table_of l.t)) l.component l.entries l.i)) l.out l.end
