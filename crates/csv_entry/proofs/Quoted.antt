@@ -31,11 +31,11 @@ unfolding present_from
 present_same k j [] = refl
 present_same k j (t ∷ ts) = ap₂ (λ (b c : Bool). both (differ b (has_column k j)) c) (empty_same t) (present_same k (suc j) ts)
 
-simple_meant : {ws : List (List ℕ)} → AllSimple ws → meant ws ≡ ws
+pub simple_meant : {ws : List (List ℕ)} → AllSimple ws → meant ws ≡ ws
 simple_meant AllSimple.none = refl
 simple_meant (AllSimple.next x y) = ap₂ (λ (w : List ℕ) (l : List (List ℕ)). w ∷ l) (text_same x) (simple_meant y)
 
-meant_simple : (ts : List (List ℕ)) {ws : List (List ℕ)} → AllSimple ws → meant ts ≡ ws → ts ≡ ws
+pub meant_simple : (ts : List (List ℕ)) {ws : List (List ℕ)} → AllSimple ws → meant ts ≡ ws → ts ≡ ws
 meant_simple [] AllSimple.none e = refl
 meant_simple [] (AllSimple.next x y) e = absurd (let z : ◌≡◌ {A = ℕ} 0 1 = cc in omega arith)
 meant_simple (t ∷ ts) AllSimple.none e = absurd (let z : ◌≡◌ {A = ℕ} 0 1 = cc in omega arith)
