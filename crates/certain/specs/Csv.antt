@@ -1,6 +1,6 @@
 -- Records as lines of RFC 4180 and back: what the contracts of the three exported functions allow a host to see, and what is claimed of it.
 -- Assumes nothing.
-use Rattle.std.specs.Prelude.{ℕ, ◌^◌, ◌<◌, List, [], ◌∷◌, ◌++◌, map, length}
+use Rattle.std.specs.Prelude.{ℕ, ◌^◌, ◌<◌, List, [], ◌∷◌, ◌++◌, map, length, Ok}
 use contract.Lifetimes.{Lfts}
 use Rattle.std.specs.Borrow.{Bor, MutBor}
 use denote.Triple.Clauses.{AtExit}
@@ -8,7 +8,6 @@ use borrow.Fn.Kinds.{ended_of}
 use Rattle.output.specs.Put.{concat}
 use Rattle.entry.specs.declared.Entry.{Entry}
 use Rattle.csv_entry.specs.Fields.{line_of, header_line}
-use Rattle.csv_entry.specs.declared.Judged.TheVariants.{Accepted}
 use Rattle.csv_line.specs.Reading.{Answers, ReadsFile}
 use Rattle.csv_line.specs.Claims.{AllValid}
 use Rattle.csv_field.specs.Claims.{Claims as CsvFields}
@@ -56,4 +55,4 @@ pub record Csv : Type 0 where
   -- a whole text by calls from place 0 on is what it comes to; the header and the lines of records come back to those records
   pub whole : {s : List ℕ} {from : ℕ} {rs : List Read} {a : Answers} → length s < 2 ^ 64 → ReadCalls s 0 from rs → ReadsFile s a → SaysFile s a rs
   pub back : {es : List Entry} {from : ℕ} {rs : List Read} → AllValid es → length (header_line ++ concat (map line_of es)) < 2 ^ 64
-      → ReadCalls (header_line ++ concat (map line_of es)) 0 from rs → SaysFile (header_line ++ concat (map line_of es)) (Answers.lines (map Accepted es)) rs
+      → ReadCalls (header_line ++ concat (map line_of es)) 0 from rs → SaysFile (header_line ++ concat (map line_of es)) (Answers.lines (map Ok es)) rs

@@ -1,12 +1,12 @@
 -- The record of its own fields, and that the kind has them.
 -- Assumes nothing.
-use Rattle.basis.proofs.Std.{ℕ, zero, suc, ◌+◌, ◌*◌, ◌-◌, ◌^◌, ◌≤◌, ◌<◌, ◌≡◌, refl, sym, ap, ap₂, subst, ◌∙◌, Bool, true, false, List, [], ◌∷◌, map, arith, eqb, eq-eqb, ne_eqb, bool_cases, picked, bit, get_or, length, same_bytes, same_true, pos, negsuc, ℤ}
+use Rattle.basis.proofs.Std.{ℕ, zero, suc, ◌^◌, ◌<◌, ◌≡◌, refl, sym, ap, ap₂, ◌∙◌, true, false, List, [], arith, eqb, eq-eqb, ne_eqb, picked, bit, get_or, length, same_bytes, same_true, pos, negsuc, ℤ}
 use Rattle.number.specs.Decimal.{digits, decimal_of}
 use Rattle.number.specs.Signed.{signed_of}
 use Rattle.number.proofs.Digits.{begins}
 use Rattle.entry.specs.declared.Entry.{Entry}
 use Rattle.entry.specs.Flags.{event_of, is_acknowledged, is_active, is_suspended, is_known, is_old}
-use Rattle.entry.specs.Valid.{Valid, Alarm, Status, Aggregated, OfKind, an_alarm, a_status, an_aggregated}
+use Rattle.entry.specs.Valid.{Valid, Alarm, OfKind, an_alarm, a_status, an_aggregated}
 use Rattle.entry.proofs.FlagLaws.{alarm_flags_again, status_flags_again}
 use Rattle.entry.proofs.ValidLaws.{alarm_flags_lem, status_flags_lem}
 use Rattle.csv_words.specs.Words.{kind_word, event_word}

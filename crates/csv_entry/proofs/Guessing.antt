@@ -1,16 +1,16 @@
 -- The record that is guessed of twelve texts, branch by branch as the code goes.
 -- Assumes nothing.
-use Rattle.basis.proofs.Std.{ℕ, zero, suc, ◌+◌, ◌-◌, ◌^◌, ◌≤◌, ◌<◌, ◌≡◌, refl, sym, ap, ◌∙◌, Bool, true, false, List, [], ◌∷◌, arith, eq-eqb, ne_eqb, le-leb, lt-leb, le-ltb, get_or, length, length-drop, take, take_all, drop, same_bytes}
+use Rattle.basis.proofs.Std.{ℕ, ◌+◌, ◌-◌, ◌^◌, ◌≤◌, ◌<◌, ◌≡◌, refl, true, false, List, [], ◌∷◌, arith, eq-eqb, ne_eqb, le-leb, lt-leb, lt-ltb, le-ltb, ⊎_elim, lt_or_ge, get_or, length, length-drop, take, take_all, drop, same_bytes}
+use Rattle.std.specs.Prelude.{Result, Ok, Err, OkIff}
+use Rattle.std.specs.Result.{result_unwrap_or}
 use Rattle.number.specs.Reading.{says}
-use Rattle.csv_field.specs.declared.Notes.{Notes}
 use Rattle.csv_words.specs.Words.{word_of}
-use Rattle.csv_entry.specs.Raws.{raw_at, raws_of, Within, Lies}
 use Rattle.csv_entry.specs.Guess.{number_in, below, signed_in, first_of, alarm_in, status_in, flags_in, value_in}
-use Rattle.csv_entry.proofs.Twelve.{raw_at_lem}
 
-pub below_past : (limit n : ℕ) → limit ≤ n → 0 ≡ below limit n
+pub below_tried : (limit n : ℕ) {E : Type 0} (r : Result ℕ E) → OkIff r (n < limit) n → result_unwrap_or r 0 ≡ below limit n
 unfolding below
-below_past limit n h = rw (le-ltb n limit h)
+below_tried limit n (Ok x) h = rw (lt-ltb n limit h.0) h.1
+below_tried limit n (Err e) h = ⊎_elim (λ (l : n < limit). absurd (h l)) (λ (l : limit ≤ n). rw (le-ltb n limit l)) (lt_or_ge n limit)
 
 module _ (f : List ℕ) where
   pub number_short : length f ≤ 15 → number_in f ≡ says 0 f
@@ -55,31 +55,23 @@ module _ (w : ℕ) (f : List ℕ) where
       unfolding first_of
       no_word d = rw (a, b, d)
 
-module _ (s : List ℕ) (n : Notes) where
-  pub lies : Within s n → (j : ℕ) → j < 12 → Lies s n j (get_or n.starts j 0) (get_or n.starts j 0 + get_or n.lengths j 0)
-  lies w j h = record {
-    ordered = omega arith;
-    within = w.each j h;
-    is = let e : get_or n.starts j 0 + get_or n.lengths j 0 - get_or n.starts j 0 ≡ get_or n.lengths j 0 = omega arith in ap (λ (k : ℕ). take k (drop (get_or n.starts j 0) s)) e;
-  }
+module _ (k : ℕ) (fs : List (List ℕ)) where
+  pub alarm_flags_in : k ≡ 0 → flags_in k fs ≡ alarm_in (get_or fs 3 []) (get_or fs 4 []) (get_or fs 5 []) (get_or fs 6 [])
+  unfolding flags_in
+  alarm_flags_in h = rw (eq-eqb k 0 h)
 
-  module _ (k : ℕ) where
-    pub alarm_flags_in : k ≡ 0 → flags_in k (raws_of s n) ≡ alarm_in (raw_at s n 3) (raw_at s n 4) (raw_at s n 5) (raw_at s n 6)
-    unfolding flags_in
-    alarm_flags_in h = rw (eq-eqb k 0 h, raw_at_lem s n 3 (omega arith), raw_at_lem s n 4 (omega arith), raw_at_lem s n 5 (omega arith), raw_at_lem s n 6 (omega arith))
+  pub status_flags_in : k ≡ 1 → flags_in k fs ≡ status_in (get_or fs 7 []) (get_or fs 8 [])
+  unfolding flags_in
+  status_flags_in h = rw (ne_eqb k 0 (λ (q : k ≡ 0). omega arith), eq-eqb k 1 h)
 
-    pub status_flags_in : k ≡ 1 → flags_in k (raws_of s n) ≡ status_in (raw_at s n 7) (raw_at s n 8)
-    unfolding flags_in
-    status_flags_in h = rw (ne_eqb k 0 (λ (q : k ≡ 0). omega arith), eq-eqb k 1 h, raw_at_lem s n 7 (omega arith), raw_at_lem s n 8 (omega arith))
+  pub no_flags_in : (k ≡ 0 → ⊥) → (k ≡ 1 → ⊥) → 0 ≡ flags_in k fs
+  unfolding flags_in
+  no_flags_in g h = rw (ne_eqb k 0 g, ne_eqb k 1 h)
 
-    pub no_flags_in : (k ≡ 0 → ⊥) → (k ≡ 1 → ⊥) → 0 ≡ flags_in k (raws_of s n)
-    unfolding flags_in
-    no_flags_in g h = rw (ne_eqb k 0 g, ne_eqb k 1 h)
+  pub no_value_in : k ≡ 0 → 0 ≡ value_in k fs
+  unfolding value_in
+  no_value_in h = rw (eq-eqb k 0 h)
 
-    pub no_value_in : k ≡ 0 → 0 ≡ value_in k (raws_of s n)
-    unfolding value_in
-    no_value_in h = rw (eq-eqb k 0 h)
-
-    pub value_in_lem : (k ≡ 0 → ⊥) → value_in k (raws_of s n) ≡ below (2 ^ 32) (signed_in (raw_at s n 10))
-    unfolding value_in
-    value_in_lem h = rw (ne_eqb k 0 h, raw_at_lem s n 10 (omega arith))
+  pub value_in_lem : (k ≡ 0 → ⊥) → value_in k fs ≡ below (2 ^ 32) (signed_in (get_or fs 10 []))
+  unfolding value_in
+  value_in_lem h = rw (ne_eqb k 0 h)

@@ -1,16 +1,18 @@
 -- What twelve texts come to, from the record that is guessed of them; and that there is one answer.
 -- Assumes nothing.
-use Rattle.basis.proofs.Std.{ℕ, suc, ◌+◌, ◌≤◌, ◌<◌, ◌≡◌, refl, sym, ap, subst, ◌∙◌, Bool, true, false, List, [], ◌∷◌, map, arith, not_both, get_or, length}
+use Rattle.basis.proofs.Std.{ℕ, ◌≤◌, ◌<◌, ◌≡◌, refl, sym, ap, subst, ◌∙◌, Bool, true, false, List, [], arith, ltb, ltb-true, ltb-false, pick, not_both, get_or, length}
 use Rattle.entry.specs.declared.Entry.{Entry}
-use Rattle.entry.specs.Valid.{Valid, Decides}
+use Rattle.entry.specs.Valid.{Valid}
 use Rattle.csv_words.specs.Words.{kind_word}
 use Rattle.csv_entry.specs.Fields.{fields_of}
-use Rattle.csv_entry.specs.Guess.{kind_in, guess_of}
-use Rattle.csv_entry.specs.Judged.{present, present_from, Judges, other_count, no_kind, not_present, no_record, a_record, Holds}
-use Rattle.csv_entry.specs.declared.Judged.{Judged}
-use Rattle.csv_entry.specs.declared.Judged.TheVariants.{Accepted, Quoting, Count, Kind, Presence, Contents}
+use Rattle.csv_entry.specs.Guess.{kind_in, kind_named, guess_of}
+use Rattle.csv_entry.specs.Judged.{Judged, present, Judges, other_count, no_kind, not_present, no_record, a_record, Holds}
+use Rattle.std.specs.Prelude.{Result, Ok, Err, Some, None, ok_or}
+use Rattle.csv_entry.specs.declared.Reason.{Reason}
+use Rattle.csv_entry.specs.declared.Reason.TheVariants.{Kind, Presence, Contents}
 use Rattle.csv_entry.proofs.Shape.{three, twelve}
-use Rattle.csv_entry.proofs.Back.{named, guessed, one_line, has_them, kind_named}
+use Rattle.csv_entry.proofs.Back.{named, guessed, one_line, has_them}
+use Rattle.csv_entry.proofs.Back as Back
 
 -- the kind of a record is the one that its fields name
 kind_is : {e : Entry} {ds : List (List ℕ)} → Valid e → fields_of e ≡ ds → (k : ℕ) → k < 3 → get_or ds 1 [] ≡ kind_word k → e.kind ≡ k
@@ -57,7 +59,7 @@ one_answer (a_record {e} v f) (other_count n) = absurd (n (is_twelve e v f))
 one_answer (a_record {e} v f) (no_kind l m) = absurd (has_kind e v f m)
 one_answer (a_record {e} v f) (not_present k l h q p) = absurd (not_both (is_present e v f k h q) p)
 one_answer (a_record {e} v f) (no_record k l h q p m) = absurd (m e v f)
-one_answer (a_record {e} v f) (a_record {e = g} w h) = ap Accepted (one_line v w (f ∙ sym h))
+one_answer (a_record {e} v f) (a_record {e = g} w h) = ap Ok (one_line v w (f ∙ sym h))
 
 -- as the code goes
 
@@ -65,20 +67,39 @@ module _ (k : ℕ) (ds : List (List ℕ)) (g : Entry) (is : g ≡ guess_of k ds)
   guess_is : (e : Entry) → Valid e → e.kind ≡ k → fields_of e ≡ ds → g ≡ e
   guess_is e v h f = is ∙ ap (λ (m : ℕ). guess_of m ds) (sym h) ∙ ap (guess_of e.kind) (sym f) ∙ guessed v
 
-  pub not_valid : (Valid g → ⊥) → Holds k ds Contents
+  pub not_valid : (Valid g → ⊥) → Holds k ds (Err Contents)
   not_valid n = Holds.none (λ e v h f. n (subst Valid (sym (guess_is e v h f)) v))
 
-  pub not_its : (fields_of g ≡ ds → ⊥) → Holds k ds Contents
+  pub not_its : (fields_of g ≡ ds → ⊥) → Holds k ds (Err Contents)
   not_its n = Holds.none (λ e v h f. n (ap fields_of (guess_is e v h f) ∙ f))
 
-pub unnamed : (ds : List (List ℕ)) (k : ℕ) → length ds ≡ 12 → k ≡ kind_in (get_or ds 1 []) → 3 ≤ k → Judges ds Kind
+-- the kind as the code takes it
+abbrev Taken : List ℕ → Result ℕ Reason
+Taken f = ok_or (kind_named f) Kind
+
+module _ (f : List ℕ) where
+  pub kind_none : {e : Reason} → Taken f ≡ Err e → (3 ≤ kind_in f) × (e ≡ Kind)
+  kind_none {e} = go (ltb (kind_in f) 3) refl
+    where
+      go : (b : Bool) → ltb (kind_in f) 3 ≡ b → ok_or (pick b (Some (kind_in f)) None) Kind ≡ Err e → (3 ≤ kind_in f) × (e ≡ Kind)
+      go true q h = absurd (let z : ◌≡◌ {A = ℕ} 0 1 = cc in omega arith)
+      go false q h = (omega (arith, ltb-false (kind_in f) 3 q), cc)
+
+  pub kind_some : {k : ℕ} → Taken f ≡ Ok k → (k ≡ kind_in f) × (k < 3)
+  kind_some {k} = go (ltb (kind_in f) 3) refl
+    where
+      go : (b : Bool) → ltb (kind_in f) 3 ≡ b → ok_or (pick b (Some (kind_in f)) None) Kind ≡ Ok k → (k ≡ kind_in f) × (k < 3)
+      go true q h = let z : kind_in f ≡ k = cc in (sym z, omega (arith, ltb-true (kind_in f) 3 q))
+      go false q h = absurd (let z : ◌≡◌ {A = ℕ} 0 1 = cc in omega arith)
+
+pub unnamed : (ds : List (List ℕ)) (k : ℕ) → length ds ≡ 12 → k ≡ kind_in (get_or ds 1 []) → 3 ≤ k → Judges ds (Err Kind)
 unnamed ds k l e h = no_kind l (λ m g q. omega (arith, e ∙ ap kind_in q ∙ (three m g).0))
 
-pub absent : (ds : List (List ℕ)) (k : ℕ) → length ds ≡ 12 → k ≡ kind_in (get_or ds 1 []) → k < 3 → present k ds ≡ false → Judges ds Presence
-absent ds k l e h p = not_present k l h (kind_named (get_or ds 1 []) (omega (arith, e)) ∙ ap kind_word (sym e)) p
+pub absent : (ds : List (List ℕ)) (k : ℕ) → length ds ≡ 12 → k ≡ kind_in (get_or ds 1 []) → k < 3 → present k ds ≡ false → Judges ds (Err Presence)
+absent ds k l e h p = not_present k l h (Back.kind_named (get_or ds 1 []) (omega (arith, e)) ∙ ap kind_word (sym e)) p
 
 pub held : (ds : List (List ℕ)) (k : ℕ) → length ds ≡ 12 → k ≡ kind_in (get_or ds 1 []) → k < 3 → present k ds ≡ true → {r : Judged} → Holds k ds r → Judges ds r
 held ds k l e h p (Holds.none n) =
-    let q = kind_named (get_or ds 1 []) (omega (arith, e)) ∙ ap kind_word (sym e) in
+    let q = Back.kind_named (get_or ds 1 []) (omega (arith, e)) ∙ ap kind_word (sym e) in
     no_record k l h q p (λ x v f. n x v (kind_is v f k h q) f)
 held ds k l e h p (Holds.one v f) = a_record v f

@@ -1,19 +1,13 @@
 -- What texts come to as they stand, they come to without their quotes.
 -- Assumes nothing.
-use Rattle.basis.proofs.Std.{ℕ, zero, suc, ◌+◌, ◌<◌, ◌≡◌, refl, sym, ap, ap₂, subst, ◌∙◌, Bool, true, false, List, [], ◌∷◌, map, arith, eqb, ne_eqb, both, get_or, length, length-map}
-use Rattle.entry.specs.declared.Entry.{Entry}
-use Rattle.entry.specs.Valid.{Valid}
+use Rattle.basis.proofs.Std.{ℕ, suc, ◌≡◌, refl, sym, ap, ap₂, subst, ◌∙◌, Bool, false, List, [], ◌∷◌, map, arith, eqb, ne_eqb, both, get_or, length, length-map}
 use Rattle.csv_field.specs.Marks.{unquoted}
-use Rattle.csv_field.specs.Places.{Noted}
+use Rattle.csv_field.specs.Places.{texts_of, Noted}
 use Rattle.csv_field.specs.declared.Notes.{Notes}
-use Rattle.csv_words.specs.Words.{kind_word}
-use Rattle.csv_entry.specs.Fields.{fields_of}
-use Rattle.csv_entry.specs.Raws.{each_of, raw_at, raws_of}
-use Rattle.csv_entry.specs.Judged.{differ, has_column, present, present_from, Judges, other_count, no_kind, not_present, no_record, a_record}
-use Rattle.csv_entry.specs.declared.Judged.{Judged}
-use Rattle.csv_entry.proofs.Simple.{Simple, AllSimple, same_text, text_same}
+use Rattle.csv_entry.specs.Judged.{Judged, differ, has_column, present_from, Judges, other_count, no_kind, not_present, no_record, a_record}
+use Rattle.csv_entry.proofs.Simple.{AllSimple, same_text, text_same}
 use Rattle.csv_entry.proofs.Shape.{word_simple, fields_simple}
-use Rattle.csv_entry.proofs.Twelve.{each_same, twelve_of}
+use Rattle.csv_entry.proofs.Twelve.{meant_raws}
 
 abbrev meant : List (List ℕ) → List (List ℕ)
 meant ts = map (unquoted false) ts
@@ -37,11 +31,11 @@ unfolding present_from
 present_same k j [] = refl
 present_same k j (t ∷ ts) = ap₂ (λ (b c : Bool). both (differ b (has_column k j)) c) (empty_same t) (present_same k (suc j) ts)
 
-simple_meant : {ws : List (List ℕ)} → AllSimple ws → meant ws ≡ ws
+pub simple_meant : {ws : List (List ℕ)} → AllSimple ws → meant ws ≡ ws
 simple_meant AllSimple.none = refl
 simple_meant (AllSimple.next x y) = ap₂ (λ (w : List ℕ) (l : List (List ℕ)). w ∷ l) (text_same x) (simple_meant y)
 
-meant_simple : (ts : List (List ℕ)) {ws : List (List ℕ)} → AllSimple ws → meant ts ≡ ws → ts ≡ ws
+pub meant_simple : (ts : List (List ℕ)) {ws : List (List ℕ)} → AllSimple ws → meant ts ≡ ws → ts ≡ ws
 meant_simple [] AllSimple.none e = refl
 meant_simple [] (AllSimple.next x y) e = absurd (let z : ◌≡◌ {A = ℕ} 0 1 = cc in omega arith)
 meant_simple (t ∷ ts) AllSimple.none e = absurd (let z : ◌≡◌ {A = ℕ} 0 1 = cc in omega arith)
@@ -60,16 +54,6 @@ quoted {ts} (no_record k l h q p n) =
     (λ e v f. n e v (sym (meant_simple ts (fields_simple e) (sym f))))
 quoted {ts} (a_record {e} v f) = a_record v (sym (simple_meant (fields_simple e)) ∙ ap meant f)
 
-each_map : (f : ℕ → List ℕ) (i n : ℕ) → map (unquoted false) (each_of f i n) ≡ each_of (λ j. unquoted false (f j)) i n
-each_map f i zero = refl
-each_map f i (suc n) = ap (λ (l : List (List ℕ)). unquoted false (f i) ∷ l) (each_map f (suc i) n)
-
 -- twelve fields that were noted
-pub noted_judged : {s : List ℕ} {n : Notes} {ds : List (List ℕ)} {r : Judged} → Noted s n ds → length ds ≡ 12 → Judges (raws_of s n) r → Judges ds r
-unfolding raws_of
-noted_judged {s} {n} {ds} {r} k h j =
-    let e : meant (each_of (raw_at s n) 0 12) ≡ ds =
-    each_map (raw_at s n) 0 12
-    ∙ each_same (λ i. unquoted false (raw_at s n i)) (λ i. get_or ds i []) 0 12 (λ i g. sym (k.each i (omega arith) (omega arith)).is)
-    ∙ sym (twelve_of ds [] h) in
-    subst (λ (l : List (List ℕ)). Judges l r) e (quoted j)
+pub noted_judged : {n : Notes} {ds : List (List ℕ)} {r : Judged} → Noted n ds → length ds ≡ 12 → Judges (texts_of n.texts) r → Judges ds r
+noted_judged {r = r} k h j = subst (λ (l : List (List ℕ)). Judges l r) (meant_raws k h) (quoted j)

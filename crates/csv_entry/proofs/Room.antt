@@ -1,6 +1,6 @@
 -- A record's line has at most 66 bytes, and is taken apart into its fields.
 -- Assumes nothing.
-use Rattle.basis.proofs.Std.{ℕ, zero, suc, ◌+◌, ◌-◌, ◌^◌, ◌≤◌, ◌<◌, ◌≡◌, refl, sym, ap, ◌∙◌, Bool, true, false, List, [], ◌∷◌, ◌++◌, append-nil, map, arith, bit, length, length-append, lt_or_ge, ⊎_elim, lit≤}
+use Rattle.basis.proofs.Std.{ℕ, zero, suc, ◌+◌, ◌-◌, ◌^◌, ◌≤◌, ◌<◌, ◌≡◌, refl, ap, ◌∙◌, Bool, true, false, List, [], ◌∷◌, ◌++◌, map, arith, bit, length, length-append, lt_or_ge, ⊎_elim, lit≤}
 use Rattle.output.specs.Put.{concat}
 use Rattle.number.specs.Decimal.{digits, decimal_of}
 use Rattle.number.specs.Signed.{signed_of}
@@ -11,7 +11,7 @@ use Rattle.entry.specs.Valid.{Valid, OfKind, an_alarm, a_status, an_aggregated}
 use Rattle.csv_field.specs.Split.{split, fields}
 use Rattle.csv_field.proofs.Meaning.{complete}
 use Rattle.csv_words.specs.Words.{event_word}
-use Rattle.csv_entry.specs.Fields.{pieces_of, line_from, line_of, fields_of}
+use Rattle.csv_entry.specs.Fields.{line_from, line_of, fields_of}
 use Rattle.csv_entry.proofs.Simple.{AllSimple, line_parts}
 use Rattle.csv_entry.proofs.Shape.{as_alarm, as_status, as_aggregated, fields_simple, twelve, decimal_low, decimal_high}
 use Rattle.csv_entry.proofs.Back.{event_below}

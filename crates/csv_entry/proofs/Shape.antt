@@ -1,20 +1,15 @@
 -- What the fields of a record are: simple texts, twelve of them; and the record that is guessed from them is the record.
 -- Assumes nothing.
-use Rattle.basis.proofs.Std.{ℕ, zero, suc, ◌+◌, ◌*◌, ◌-◌, ◌^◌, ◌≤◌, ◌<◌, ◌≡◌, refl, sym, ap, ap₂, subst, ◌∙◌, Bool, true, false, List, [], ◌∷◌, ◌++◌, map, arith, T, leb, le-leb, lt-ltb, le-ltb, leb→le, eqb, eq-eqb, ne_eqb, lt_or_ge, ⊎_elim, bool_cases, picked, pick, bit, both, both_true, get_or, length, drop, replicate, get_or-eq_default, same_bytes, same_self, pos, negsuc}
-use Rattle.basis.proofs.Table.{at, every, both_left, both_right}
+use Rattle.basis.proofs.Std.{ℕ, zero, suc, ◌+◌, ◌-◌, ◌^◌, ◌≤◌, ◌<◌, ◌≡◌, refl, sym, ap, subst, ◌∙◌, Bool, true, false, List, [], ◌∷◌, arith, T, leb, le-leb, lt-ltb, le-ltb, leb→le, eqb, eq-eqb, ne_eqb, lt_or_ge, ⊎_elim, picked, both, get_or, length, replicate, get_or-eq_default}
+use Rattle.basis.proofs.Table.{at, both_left, both_right}
 use Rattle.number.specs.Decimal.{digits, decimal_of}
 use Rattle.number.specs.Signed.{signed_of}
-use Rattle.number.specs.Reading.{says}
 use Rattle.number.proofs.Digits.{one_digit, says_digits, digits_length, begins}
 use Rattle.entry.specs.declared.Entry.{Entry}
-use Rattle.entry.specs.Flags.{alarm_flags, status_flags, event_of, is_acknowledged, is_active, is_suspended, is_known, is_old}
-use Rattle.entry.specs.Valid.{Valid, Alarm, Status, Aggregated, OfKind, an_alarm, a_status, an_aggregated}
-use Rattle.entry.proofs.FlagLaws.{event_back, alarm_flags_again, status_flags_again}
-use Rattle.entry.proofs.ValidLaws.{alarm_flags_lem, status_flags_lem}
+use Rattle.entry.specs.Flags.{event_of}
 use Rattle.csv_words.specs.Words.{words, word_of, kind_word, event_word}
 use Rattle.csv_entry.specs.Fields.{yes_no, alarm_fields, status_fields, aggregated_fields, fields_of}
-use Rattle.csv_entry.specs.Guess.{number_in, below, signed_in, is_one, first_of, kind_in, event_in, alarm_in, status_in, flags_in, value_in, guess_of}
-use Rattle.csv_entry.specs.Judged.{present_from, present}
+use Rattle.csv_entry.specs.Guess.{number_in, below, signed_in, is_one, first_of, kind_in, event_in}
 use Rattle.csv_entry.proofs.Simple.{Simple, AllSimple, digits_simple, decimal_simple}
 
 -- words

@@ -1,12 +1,11 @@
 -- The fields of records have no mark in them, so that a line of them is taken apart into them again.
 -- Assumes nothing.
-use Rattle.basis.proofs.Std.{ℕ, zero, suc, ◌+◌, ◌≤◌, ◌<◌, ◌≡◌, refl, sym, ap, ap₂, subst, ◌∙◌, Bool, true, false, List, [], ◌∷◌, ◌++◌, append_assoc, arith, eqb, ne_eqb, get_or, length, negsuc, pos, ℤ, get_or-eq_default, le_or_lt, ⊎_elim}
+use Rattle.basis.proofs.Std.{ℕ, suc, ◌≤◌, ◌≡◌, refl, sym, ap, ap₂, subst, Bool, false, List, [], ◌∷◌, ◌++◌, append_assoc, arith, eqb, ne_eqb, negsuc, pos, ℤ}
 use Rattle.output.specs.Put.{concat}
 use Rattle.number.specs.Decimal.{digits, decimal_of}
 use Rattle.number.proofs.Digits.{Row, digits_row}
 use Rattle.csv_field.specs.Grammar.{Stop, Unquoted, Plain, Field, Parts}
 use Rattle.csv_field.specs.Marks.{unquoted}
-use Rattle.csv_words.specs.Words.{word_of}
 use Rattle.csv_entry.specs.Fields.{crlf, comma, pieces_of, line_from}
 
 -- all bytes are above the comma

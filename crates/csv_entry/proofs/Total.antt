@@ -1,14 +1,14 @@
 -- Fields always come to something: whether there is such a record can be told.
 -- Assumes nothing.
-use Rattle.basis.proofs.Std.{ℕ, suc, ◌+◌, ◌%◌, ◌^◌, ◌≤◌, ◌<◌, ◌≡◌, refl, sym, ap, ap₂, subst, ◌∙◌, Bool, true, false, List, [], ◌∷◌, arith, ◌⊎◌, inl, inr, ⊎_elim, bool_cases, lt_or_ge, le_or_lt, eq_or_ne, get_or, length, same_bytes, same_true, same_self, not_both}
+use Rattle.basis.proofs.Std.{ℕ, ◌%◌, ◌^◌, ◌≤◌, ◌<◌, ◌≡◌, refl, ap₂, subst, true, List, [], ◌∷◌, arith, ◌⊎◌, inl, inr, ⊎_elim, bool_cases, lt_or_ge, le_or_lt, eq_or_ne, get_or, length, same_bytes, same_true, same_self, not_both}
 use Rattle.entry.specs.declared.Entry.{Entry}
 use Rattle.entry.specs.Valid.{Valid, Alarm, Status, Aggregated, OfKind, an_alarm, a_status, an_aggregated, last_time}
 use Rattle.entry.proofs.ValidLaws.{alarm_flags_lem, an_alarm_of, status_flags_lem, no_value_lem, a_known, an_unknown, of_no_kind}
 use Rattle.csv_entry.specs.Fields.{fields_of}
 use Rattle.csv_entry.specs.Guess.{kind_in, guess_of}
-use Rattle.csv_entry.specs.Judged.{present, Judges, other_count, Holds}
-use Rattle.csv_entry.specs.declared.Judged.{Judged}
-use Rattle.csv_entry.specs.declared.Judged.TheVariants.{Accepted, Count, Kind, Presence, Contents}
+use Rattle.csv_entry.specs.Judged.{Judged, present, Judges, other_count, Holds}
+use Rattle.std.specs.Prelude.{Ok, Err}
+use Rattle.csv_entry.specs.declared.Reason.TheVariants.{Count, Kind, Presence, Contents}
 use Rattle.csv_entry.proofs.Judging.{not_valid, not_its, unnamed, absent, held}
 
 -- it holds, or it does not
@@ -72,15 +72,15 @@ texts_told (t ∷ ts) (u ∷ us) = go (text_told t u) (texts_told ts us)
 
 holding : (k : ℕ) (ds : List (List ℕ)) → (r : Judged) × Holds k ds r
 holding k ds = ⊎_elim
-    (λ v. ⊎_elim (λ f. (Accepted (guess_of k ds), Holds.one v f)) (λ n. (Contents, not_its k ds (guess_of k ds) refl n)) (texts_told (fields_of (guess_of k ds)) ds))
-    (λ n. (Contents, not_valid k ds (guess_of k ds) refl n))
+    (λ v. ⊎_elim (λ f. (Ok (guess_of k ds), Holds.one v f)) (λ n. (Err Contents, not_its k ds (guess_of k ds) refl n)) (texts_told (fields_of (guess_of k ds)) ds))
+    (λ n. (Err Contents, not_valid k ds (guess_of k ds) refl n))
     (valid_told (guess_of k ds))
 
 pub answer : (ds : List (List ℕ)) → (r : Judged) × Judges ds r
 answer ds = ⊎_elim
     (λ l. ⊎_elim (λ k. bool_cases (present (kind_in (get_or ds 1 [])) ds)
     (λ p. let h = holding (kind_in (get_or ds 1 [])) ds in (h.0, held ds (kind_in (get_or ds 1 [])) l refl k p h.1))
-    (λ p. (Presence, absent ds (kind_in (get_or ds 1 [])) l refl k p)))
-    (λ k. (Kind, unnamed ds (kind_in (get_or ds 1 [])) l refl k)) (lt_or_ge (kind_in (get_or ds 1 [])) 3))
-    (λ n. (Count, other_count n))
+    (λ p. (Err Presence, absent ds (kind_in (get_or ds 1 [])) l refl k p)))
+    (λ k. (Err Kind, unnamed ds (kind_in (get_or ds 1 [])) l refl k)) (lt_or_ge (kind_in (get_or ds 1 [])) 3))
+    (λ n. (Err Count, other_count n))
     (eq_or_ne (length ds) 12)

@@ -1,6 +1,6 @@
 -- The one record that twelve texts can be the fields of: whatever they say is taken, and held against them afterwards.
 -- Assumes nothing.
-use Rattle.std.specs.Prelude.{Bool, List, [], ◌∷◌, ℕ, ◌+◌, ◌-◌, ◌^◌, eqb, ltb, leb, length, get_or, drop}
+use Rattle.std.specs.Prelude.{Bool, List, [], ℕ, ◌+◌, ◌-◌, ◌^◌, eqb, ltb, leb, length, get_or, drop, Option, Some, None}
 use Rattle.basis.specs.Pick.{pick}
 use Rattle.basis.specs.Lists.{same_bytes}
 use Rattle.basis.specs.Text.{text}
@@ -30,6 +30,9 @@ first_of w f = pick (same_bytes f (word_of w)) 0 (pick (same_bytes f (word_of (w
 
 abbrev pub kind_in : List ℕ → ℕ
 kind_in f = first_of 0 f
+
+abbrev pub kind_named : List ℕ → Option ℕ
+kind_named f = pick (ltb (kind_in f) 3) (Some (kind_in f)) None
 
 abbrev pub event_in : List ℕ → ℕ
 event_in f = first_of 3 f

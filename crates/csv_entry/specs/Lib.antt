@@ -1,4 +1,3 @@
 pub mod Fields
-pub mod Raws
 pub mod Guess
 pub mod Judged

@@ -1,12 +1,11 @@
 // Twelve texts held against the record that they may be the fields of.
-ghost use Rattle.std.specs.Prelude.{◌≡◌, ℕ, ◌*◌, ◌+◌, ◌<◌, length};
+ghost use Rattle.std.specs.Prelude.{◌≡◌, ℕ, ◌<◌};
 ghost use Rattle.entry.specs.Valid.{Valid, Decides};
+ghost use Rattle.csv_field.specs.Places.{texts_of};
 ghost use Rattle.csv_entry.specs.Fields.{fields_of};
-ghost use Rattle.csv_entry.specs.Raws.{raw_at, raws_of, Within, Agree};
-ghost use Rattle.csv_entry.specs.Judged.{has_column, differ as differ_by, present_from, Judges, Holds};
+ghost use Rattle.csv_entry.specs.Judged.{has_column, present, Judges, Holds};
 
-use super::Judged;
-use csv_field::Notes;
+use super::Reason;
 use entry::Entry;
 
 const MARKS: [u8; 36] = *b"111111100101111000011111111000000111";
@@ -19,50 +18,24 @@ fn has_column(k: u16, j: usize) -> bool
     MARKS[i] == b'1'
 }
 
-fn differ(a: bool, b: bool) -> bool
-    ensures { result ≡ differ_by a b }
-{
-    if a { if b { false } else { true } } else { b }
-}
-
 // Whether the kind has each text that is not empty, and lacks each that is.
-fn is_present(k: u16, lengths: &[usize]) -> bool
-    requires { (k < 3) × (length lengths.now ≡ 12) }
-    ensures { result ≡ present_from k 0 lengths.now }
+fn is_present(k: u16, texts: &[&[u8]; 12]) -> bool
+    requires { k < 3 }
+    ensures { result ≡ present k (texts_of texts.now) }
 {
-    let mut j = 0;
-    while j < lengths.len() {
-        if differ(lengths[j] == 0, has_column(k, j)) {
-            j += 1;
-        } else {
+    for (j, text) in texts.iter().enumerate() {
+        if text.is_empty() == has_column(k, j) {
             return false;
         }
     }
     true
 }
 
-fn agree_at(s: &[u8], n: Notes, t: &[u8], m: Notes, j: usize) -> bool
-    requires { Within s.now n × Within t.now m × (j < 12) }
-    ensures { Decides result (raw_at s.now n j ≡ raw_at t.now m j) }
+fn agree(texts: &[&[u8]; 12], others: &[&[u8]; 12]) -> bool
+    ensures { Decides result (texts_of texts.now ≡ texts_of others.now) }
 {
-    let p = super::texts::place(s, n, j);
-    let q = super::texts::place(t, m, j);
-    let a = p.start;
-    let end = p.end;
-    let b = q.start;
-    let last = q.end;
-    check::same(&s[a..end], &t[b..last])
-}
-
-fn agree(s: &[u8], n: Notes, t: &[u8], m: Notes) -> bool
-    requires { Within s.now n × Within t.now m }
-    ensures { Decides result (Agree s.now n t.now m) }
-{
-    let mut j = 0;
-    while j < 12 {
-        if agree_at(s, n, t, m, j) {
-            j += 1;
-        } else {
+    for j in 0..12 {
+        if !check::same(texts[j], others[j]) {
             return false;
         }
     }
@@ -70,41 +43,37 @@ fn agree(s: &[u8], n: Notes, t: &[u8], m: Notes) -> bool
 }
 
 // Whether the texts are the record's fields: it is written, and taken apart again.
-fn is_line_of(s: &[u8], n: Notes, e: Entry) -> bool
-    requires { Within s.now n × Valid e }
-    ensures { Decides result (fields_of e ≡ raws_of s.now n) }
+fn is_line_of(texts: &[&[u8]; 12], e: Entry) -> bool
+    requires { Valid e }
+    ensures { Decides result (fields_of e ≡ texts_of texts.now) }
 {
     let mut written = [0u8; 66];
     let end = super::write::put_line(&mut written, 0, e);
     let line = csv_field::take_line(&written[0..end], 0);
-    agree(s, n, &written[0..end], line.notes)
+    match line.notes {
+        Some(n) => agree(texts, &n.texts),
+        None => false,
+    }
 }
 
-fn contents(s: &[u8], n: Notes, k: u16) -> Judged
-    requires { Within s.now n × (k < 3) }
-    ensures { Holds k (raws_of s.now n) result }
+fn contents(texts: &[&[u8]; 12], k: u16) -> Result<Entry, Reason>
+    requires { k < 3 }
+    ensures { Holds k (texts_of texts.now) result }
 {
-    let e = super::guess::guess(s, n, k);
-    if entry::valid::valid(e) {
-        if is_line_of(s, n, e) {
-            return Judged::Accepted(e);
-        }
+    let e = super::guess::guess(texts, k);
+    if entry::valid::valid(e) && is_line_of(texts, e) {
+        return Ok(e);
     }
-    Judged::Contents
+    Err(Reason::Contents)
 }
 
 // What twelve texts come to.
-pub fn judge(s: &[u8], n: Notes) -> Judged
-    requires { Within s.now n }
-    ensures { Judges (raws_of s.now n) result }
+pub fn judge(texts: &[&[u8]; 12]) -> Result<Entry, Reason>
+    ensures { Judges (texts_of texts.now) result }
 {
-    let k = super::guess::kind(s, n);
-    if 3 <= k {
-        return Judged::Kind;
+    let k = super::guess::kind(texts).ok_or(Reason::Kind)?;
+    if !is_present(k, texts) {
+        return Err(Reason::Presence);
     }
-    let lengths = n.lengths;
-    if is_present(k, &lengths) {
-        return contents(s, n, k);
-    }
-    Judged::Presence
+    contents(texts, k)
 }

@@ -1,11 +1,13 @@
 -- A line, field by field: what is noted so far, and what the rest adds to it.
 -- Assumes nothing.
-use Rattle.basis.proofs.Std.{ℕ, zero, suc, ◌+◌, ◌<◌, ◌≤◌, ◌≡◌, refl, sym, ap, subst, ◌∙◌, Bool, true, false, List, [], ◌∷◌, ◌++◌, arith, add-zero, ⊎_elim, bool_cases, picked, lt_or_ge, untrue, ltb, lt-ltb, le-ltb, pick, length, get_or, set, take, drop, replicate, drop-drop, length-drop, length-append, length-set, get_or-append, get_or-append-add, get_or-set_same, get_or-set_other}
-use Rattle.csv_field.specs.Marks.{is_quote, is_comma, is_break, is_stop, plain_run, quoted_run, line_run, behind_break}
+use Rattle.basis.proofs.Std.{ℕ, zero, suc, ◌+◌, ◌<◌, ◌≤◌, ◌≡◌, refl, sym, ap, subst, ◌∙◌, Bool, true, false, List, [], ◌∷◌, ◌++◌, arith, add-zero, ⊎_elim, bool_cases, picked, lt_or_ge, untrue, ltb, lt-ltb, le-ltb, pick, length, get_or, set, drop, drop-drop, length-drop, length-map, length-append, length-set, get_or-append, get_or-append-add, get_or-set_same, get_or-set_other}
+use Rattle.csv_field.specs.Marks.{is_quote, is_comma, is_break, is_stop, plain_run, quoted_run, line_run, behind_break, unquoted}
 use Rattle.csv_field.specs.Split.{Took, field, fault, plain_by, quoted_by, field_of, Split, fields, faulty, push, on_field, split_within, split}
-use Rattle.csv_field.specs.Places.{Takes, takes, fails, text_at, noted, Stands, Noted, Splits, splits, spoilt}
+use Rattle.std.specs.Prelude.{Some, None, Ok, Err}
+use Rattle.std.specs.Borrow.{Bor}
+use Rattle.std.proofs.lemmas.List.{map-set}
+use Rattle.csv_field.specs.Places.{Takes, takes, fails, texts_of, noted, Noted, Splits, splits, spoilt}
 use Rattle.csv_field.specs.declared.Field.{Field}
-use Rattle.csv_field.specs.declared.Field.TheVariants.{Is, Bad}
 use Rattle.csv_field.specs.declared.Notes.{Notes}
 use Rattle.csv_field.proofs.Marks.{comma_in, break_in}
 use Rattle.csv_field.proofs.Runs.{line_within}
@@ -67,36 +69,39 @@ unroll s =
 
 -- at a place of a slice
 
-pub took : {s : List ℕ} {at a l e : ℕ} {p : Took} → Takes s at p (Is a l e) → (p ≡ field (text_at s a l) (drop e s)) × (a + l ≤ length s) × (at ≤ e) × (e ≤ length s)
-took {s} (takes a l e d w i j) = (ap (λ (x : List ℕ). field x (drop e s)) d, w, i, j)
+pub took : {s : List ℕ} {at : ℕ} {f : Field} {p : Took} → Takes s at p (Ok f) → (p ≡ field (unquoted false f.text.now) (drop f.next s)) × (at ≤ f.next) × (f.next ≤ length s)
+took {s} (takes f d i j) = (ap (λ (x : List ℕ). field x (drop f.next s)) d, i, j)
 
-pub missed : {s : List ℕ} {at e : ℕ} {p : Took} → Takes s at p (Bad e) → (p ≡ fault (drop e s)) × (at ≤ e) × (e ≤ length s)
+pub missed : {s : List ℕ} {at e : ℕ} {p : Took} → Takes s at p (Err e) → (p ≡ fault (drop e s)) × (at ≤ e) × (e ≤ length s)
 missed (fails e i j) = (refl, i, j)
 
-pub comma_after : {s : List ℕ} {at a l e : ℕ} {p : Took} → Takes s at p (Is a l e) → is_comma (drop e s) ≡ true → e < length s
-comma_after {s} {e = e} x q = comma_in s e q
+pub comma_after : {s : List ℕ} {at : ℕ} {f : Field} {p : Took} → Takes s at p (Ok f) → is_comma (drop f.next s) ≡ true → f.next < length s
+comma_after {s} {f = f} x q = comma_in s f.next q
 
 no_more : (r : List ℕ) → is_stop r ≡ true → is_comma r ≡ false → is_break r ≡ false → drop 2 r ≡ r
 no_more [] h f g = refl
 no_more (b ∷ r) h f g = untrue (sym (rw (f, g)) ∙ h)
 
-module _ (s : List ℕ) (i a l e : ℕ) (x : Takes s i (field_of (drop i s)) (Is a l e)) where
-  on_field_lem : split (drop i s) ≡ on_field (λ t. split t) (field (text_at s a l) (drop e s))
+module _ (s : List ℕ) (i : ℕ) (f : Field) (x : Takes s i (field_of (drop i s)) (Ok f)) where
+  abbrev its : List ℕ
+  its = unquoted false f.text.now
+
+  on_field_lem : split (drop i s) ≡ on_field (λ t. split t) (field its (drop f.next s))
   on_field_lem = unroll (drop i s) ∙ ap (on_field (λ t. split t)) (took x).0
 
-  stopped : is_stop (drop e s) ≡ true
+  stopped : is_stop (drop f.next s) ≡ true
   stopped = (subst (λ (p : Took). Sure (length (drop i s)) p) (took x).0 (sure (drop i s))).1
 
-  comma : is_comma (drop e s) ≡ true → split (drop i s) ≡ push (text_at s a l) (split (drop (e + 1) s))
-  comma q = on_field_lem ∙ rw (q, drop-drop 1 e s)
+  comma : is_comma (drop f.next s) ≡ true → split (drop i s) ≡ push its (split (drop (f.next + 1) s))
+  comma q = on_field_lem ∙ rw (q, drop-drop 1 f.next s)
 
-  next_is : is_comma (drop e s) ≡ false → drop 2 (drop e s) ≡ drop (behind_break s e) s
-  next_is q = picked (λ (n : ℕ). drop 2 (drop e s) ≡ drop n s) (is_break (drop e s)) (e + 2) e (λ _. drop-drop 2 e s) (λ f. no_more (drop e s) stopped q f)
+  next_is : is_comma (drop f.next s) ≡ false → drop 2 (drop f.next s) ≡ drop (behind_break s f.next) s
+  next_is q = picked (λ (n : ℕ). drop 2 (drop f.next s) ≡ drop n s) (is_break (drop f.next s)) (f.next + 2) f.next (λ _. drop-drop 2 f.next s) (λ g. no_more (drop f.next s) stopped q g)
 
-  last : is_comma (drop e s) ≡ false → split (drop i s) ≡ fields (text_at s a l ∷ []) (drop (behind_break s e) s)
+  last : is_comma (drop f.next s) ≡ false → split (drop i s) ≡ fields (its ∷ []) (drop (behind_break s f.next) s)
   last q = on_field_lem ∙ rw (q, next_is q)
 
-spoils : (s : List ℕ) (i e : ℕ) → Takes s i (field_of (drop i s)) (Bad e) → split (drop i s) ≡ faulty (drop (e + line_run (drop e s)) s)
+spoils : (s : List ℕ) (i e : ℕ) → Takes s i (field_of (drop i s)) (Err e) → split (drop i s) ≡ faulty (drop (e + line_run (drop e s)) s)
 spoils s i e x = unroll (drop i s) ∙ ap (on_field (λ t. split t)) (missed x).0 ∙ ap faulty (drop-drop (line_run (drop e s)) e s)
 
 -- fields before the rest of a line
@@ -117,9 +122,9 @@ before_fault [] r = refl
 before_fault (c ∷ ds) r = ap (push c) (before_fault ds r)
 
 -- one more field is noted
-module _ (s : List ℕ) (n : Notes) (ds : List (List ℕ)) (k : Noted s n ds) (a l : ℕ) (w : a + l ≤ length s) where
+module _ (n : Notes) (ds : List (List ℕ)) (k : Noted n ds) (b : Bor (List ℕ)) where
   abbrev d : List ℕ
-  d = text_at s a l
+  d = unquoted false b.now
 
   abbrev now : List (List ℕ)
   now = ds ++ (d ∷ [])
@@ -128,34 +133,30 @@ module _ (s : List ℕ) (n : Notes) (ds : List (List ℕ)) (k : Noted s n ds) (a
   longer = length-append ds (d ∷ [])
 
   module _ (h : length ds < 12) where
-    full : noted n a l ≡ record { count = n.count + 1; starts = set n.starts n.count a; lengths = set n.lengths n.count l }
+    full : noted n b ≡ record { count = n.count + 1; texts = set n.texts n.count b }
     unfolding noted
     full = rw (lt-ltb n.count 12 (omega (arith, k.count (omega arith))))
 
-    at_end : (j : ℕ) → j ≡ n.count → Stands s (noted n a l) j (get_or now j [])
+    texts_are : texts_of (noted n b).texts ≡ set (texts_of n.texts) n.count b.now
+    texts_are = rw full (map-set (λ (t : Bor (List ℕ)). t.now) n.texts n.count b)
+
+    at_end : (j : ℕ) → j ≡ length ds → get_or now j [] ≡ unquoted false (get_or (texts_of (noted n b).texts) j [])
     at_end j e =
-        let c = k.count (omega arith) in
-        let g : j ≡ length ds + 0 = omega arith in
-        rw (full, e) (record {
-          within = rw (get_or-set_same n.starts n.count a 0 (omega (arith, k.room.0)), get_or-set_same n.lengths n.count l 0 (omega (arith, k.room.1))) w;
-          is = rw (get_or-set_same n.starts n.count a 0 (omega (arith, k.room.0)), get_or-set_same n.lengths n.count l 0 (omega (arith, k.room.1))) (ap (λ (m : ℕ). get_or now m []) (sym e ∙ g) ∙ get_or-append-add ds (d ∷ []) 0 []);
-        })
+        let c : n.count ≡ length ds = k.count (omega arith) in
+        let l : length (texts_of n.texts) ≡ 12 = length-map n.texts (λ (t : Bor (List ℕ)). t.now) ∙ k.room in
+        rw (texts_are, e, c, get_or-set_same (texts_of n.texts) (length ds) b.now [] (omega (arith, l))) (ap (λ (m : ℕ). get_or now m []) (sym (add-zero (length ds))) ∙ get_or-append-add ds (d ∷ []) 0 [])
 
-    earlier : (j : ℕ) → j < length ds → Stands s (noted n a l) j (get_or now j [])
+    earlier : (j : ℕ) → j < length ds → get_or now j [] ≡ unquoted false (get_or (texts_of (noted n b).texts) j [])
     earlier j g =
-        let c = k.count (omega arith) in
+        let c : n.count ≡ length ds = k.count (omega arith) in
         let o : j ≡ n.count → ⊥ = λ q. omega arith in
-        let old = k.each j (omega arith) g in
-        rw (full, get_or-append ds (d ∷ []) [] j g) (record {
-          within = rw (get_or-set_other n.starts n.count j a 0 o, get_or-set_other n.lengths n.count j l 0 o) old.within;
-          is = rw (get_or-set_other n.starts n.count j a 0 o, get_or-set_other n.lengths n.count j l 0 o) old.is;
-        })
+        rw (texts_are, get_or-append ds (d ∷ []) [] j g, get_or-set_other (texts_of n.texts) n.count j b.now [] o) (k.each j (omega arith) g)
 
-    with_room : Noted s (noted n a l) now
+    with_room : Noted (noted n b) now
     with_room =
-        let c = k.count (omega arith) in
+        let c : n.count ≡ length ds = k.count (omega arith) in
         record {
-          room = rw full (length-set n.starts n.count a ∙ k.room.0, length-set n.lengths n.count l ∙ k.room.1);
+          room = rw full (length-set n.texts n.count b ∙ k.room);
           count = λ q. rw full (omega (arith, longer));
           more = λ q. absurd (omega (arith, longer));
           each = λ j q g. ⊎_elim (λ (f : j < length ds). earlier j f) (λ (f : length ds ≤ j). at_end j (omega (arith, longer))) (lt_or_ge j (length ds));
@@ -165,58 +166,58 @@ module _ (s : List ℕ) (n : Notes) (ds : List (List ℕ)) (k : Noted s n ds) (a
     past_12 : 12 ≤ n.count
     past_12 = ⊎_elim (λ (f : length ds < 13). omega (arith, k.count (omega arith))) (λ (f : 13 ≤ length ds). omega (arith, k.more (omega arith))) (lt_or_ge (length ds) 13)
 
-    kept : noted n a l ≡ record { count = 13; starts = n.starts; lengths = n.lengths }
+    kept : noted n b ≡ record { count = 13; texts = n.texts }
     unfolding noted
     kept = rw (le-ltb n.count 12 past_12)
 
-    without_room : Noted s (noted n a l) now
+    without_room : Noted (noted n b) now
     without_room = record {
       room = rw kept k.room;
       count = λ q. absurd (omega (arith, longer));
       more = λ q. rw kept;
-      each = λ j q g. let old = k.each j q (omega arith) in rw (kept, get_or-append ds (d ∷ []) [] j (omega arith)) (record { within = old.within; is = old.is });
+      each = λ j q g. rw (kept, get_or-append ds (d ∷ []) [] j (omega arith)) (k.each j q (omega arith));
     }
 
-  one_more : Noted s (noted n a l) now
+  one_more : Noted (noted n b) now
   one_more = ⊎_elim with_room without_room (lt_or_ge (length ds) 12)
 
 -- where the loop has come to
 pub record Reached (s : List ℕ) (at : ℕ) (n : Notes) (i : ℕ) : Type 0 where
   pub ds : List (List ℕ)
-  pub notes : Noted s n ds
+  pub notes : Noted n ds
   pub is : split (drop at s) ≡ before ds (split (drop i s))
   pub from : at ≤ i
   pub to : i ≤ length s
 
-pub none_yet : (s : List ℕ) (at : ℕ) → at ≤ length s → Reached s at (record { count = 0; starts = replicate 12 0; lengths = replicate 12 0 }) at
-none_yet s at h = record {
+pub none_yet : (s : List ℕ) (at : ℕ) → at ≤ length s → {n : Notes} → n.count ≡ 0 → length n.texts ≡ 12 → Reached s at n at
+none_yet s at h c l = record {
   ds = [];
-  notes = record { room = (refl, refl); count = λ q. refl; more = λ q. absurd (omega arith); each = λ j q g. absurd (omega arith) };
+  notes = record { room = l; count = λ q. c; more = λ q. absurd (omega arith); each = λ j q g. absurd (omega arith) };
   is = refl;
   from = omega arith;
   to = h;
 }
 
 module _ {s : List ℕ} {at : ℕ} {n : Notes} {i : ℕ} (z : Reached s at n i) where
-  module _ {a l e : ℕ} (x : Takes s i (field_of (drop i s)) (Is a l e)) where
-    pub go_on : is_comma (drop e s) ≡ true → Reached s at (noted n a l) (e + 1)
+  module _ {f : Field} (x : Takes s i (field_of (drop i s)) (Ok f)) where
+    pub go_on : is_comma (drop f.next s) ≡ true → Reached s at (noted n f.text) (f.next + 1)
     go_on q = record {
-      ds = z.ds ++ (text_at s a l ∷ []);
-      notes = one_more s n z.ds z.notes a l (took x).1;
-      is = z.is ∙ ap (before z.ds) (comma s i a l e x q) ∙ before_one z.ds (text_at s a l) (split (drop (e + 1) s));
-      from = omega (arith, z.from, (took x).2);
-      to = omega (arith, comma_in s e q);
+      ds = z.ds ++ (its s i f x ∷ []);
+      notes = one_more n z.ds z.notes f.text;
+      is = z.is ∙ ap (before z.ds) (comma s i f x q) ∙ before_one z.ds (its s i f x) (split (drop (f.next + 1) s));
+      from = omega (arith, z.from, (took x).1);
+      to = omega (arith, comma_in s f.next q);
     }
 
-    behind_in : (e ≤ behind_break s e) × (behind_break s e ≤ length s)
-    behind_in = picked (λ (k : ℕ). (e ≤ k) × (k ≤ length s)) (is_break (drop e s)) (e + 2) e (λ q. (omega arith, omega (arith, break_in s e q))) (λ q. (omega arith, (took x).3))
+    behind_in : (f.next ≤ behind_break s f.next) × (behind_break s f.next ≤ length s)
+    behind_in = picked (λ (k : ℕ). (f.next ≤ k) × (k ≤ length s)) (is_break (drop f.next s)) (f.next + 2) f.next (λ q. (omega arith, omega (arith, break_in s f.next q))) (λ q. (omega arith, (took x).2))
 
-    pub done : is_comma (drop e s) ≡ false → {k : ℕ} → k ≡ behind_break s e → {m : Notes} → m ≡ noted n a l → Splits s at (split (drop at s)) (record { good = true; next = k; notes = m })
+    pub done : is_comma (drop f.next s) ≡ false → {k : ℕ} → k ≡ behind_break s f.next → {m : Notes} → m ≡ noted n f.text → Splits s at (split (drop at s)) (record { notes = Some m; next = k })
     done q {k} g {m} h =
-        let f : split (drop at s) ≡ fields (z.ds ++ (text_at s a l ∷ [])) (drop (behind_break s e) s) = z.is ∙ ap (before z.ds) (last s i a l e x q) ∙ before_last z.ds (text_at s a l ∷ []) (drop (behind_break s e) s) in
-        rw (f, g, h) (splits (record { good = true; next = behind_break s e; notes = noted n a l }) refl (one_more s n z.ds z.notes a l (took x).1) (omega (arith, z.from, (took x).2, behind_in.0)) behind_in.1)
+        let e : split (drop at s) ≡ fields (z.ds ++ (its s i f x ∷ [])) (drop (behind_break s f.next) s) = z.is ∙ ap (before z.ds) (last s i f x q) ∙ before_last z.ds (its s i f x ∷ []) (drop (behind_break s f.next) s) in
+        rw (e, g, h) (splits (record { notes = Some (noted n f.text); next = behind_break s f.next }) (noted n f.text) refl (one_more n z.ds z.notes f.text) (omega (arith, z.from, (took x).1, behind_in.0)) behind_in.1)
 
-  pub stops : {e : ℕ} → Takes s i (field_of (drop i s)) (Bad e) → {k : ℕ} → k ≡ e + line_run (drop e s) → Splits s at (split (drop at s)) (record { good = false; next = k; notes = n })
+  pub stops : {e : ℕ} → Takes s i (field_of (drop i s)) (Err e) → {k : ℕ} → k ≡ e + line_run (drop e s) → Splits s at (split (drop at s)) (record { notes = None; next = k })
   stops {e} x {k} h =
       let f : split (drop at s) ≡ faulty (drop k s) = z.is ∙ ap (before z.ds) (spoils s i e x) ∙ before_fault z.ds (drop (e + line_run (drop e s)) s) ∙ ap (λ (m : ℕ). faulty (drop m s)) (sym h) in
-      rw f (spoilt (record { good = false; next = k; notes = n }) refl (omega (arith, z.from, (missed x).1)) (omega (arith, (missed x).2, line_within (drop e s), length-drop e s)))
+      rw f (spoilt (record { notes = None; next = k }) refl (omega (arith, z.from, (missed x).1)) (omega (arith, (missed x).2, line_within (drop e s), length-drop e s)))

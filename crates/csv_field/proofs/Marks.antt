@@ -1,6 +1,6 @@
 -- The marks at a place of a slice.
 -- Assumes nothing.
-use Rattle.basis.proofs.Std.{ℕ, suc, ◌+◌, ◌<◌, ◌≤◌, ◌≡◌, refl, sym, ap, ◌∙◌, Bool, true, false, List, [], ◌∷◌, arith, add-one, add-zero, ⊎_elim, bool_cases, lt_or_ge, untrue, both_first, both_second, both_false, eqb, eqb-true, ne_eqb, pick, length, get_or, drop, drop-cons, drop_of_length-le, get_or-drop, get_or-eq_default}
+use Rattle.basis.proofs.Std.{ℕ, ◌+◌, ◌<◌, ◌≤◌, ◌≡◌, refl, sym, ap, ◌∙◌, true, false, List, [], ◌∷◌, arith, add-one, add-zero, ⊎_elim, lt_or_ge, untrue, both_false, eqb, ne_eqb, length, get_or, drop, drop-cons, drop_of_length-le, get_or-drop, get_or-eq_default}
 use Rattle.csv_field.specs.Marks.{is_quote, is_comma, is_break, is_stop}
 
 module _ (s : List ℕ) (i : ℕ) where
@@ -13,17 +13,15 @@ module _ (s : List ℕ) (i : ℕ) where
   pub first : get_or (drop i s) 0 0 ≡ get_or s i 0
   first = get_or-drop i s 0 0 ∙ ap (λ (k : ℕ). get_or s k 0) (add-zero i)
 
-  pub quote_at : eqb (get_or s i 0) 34 ≡ is_quote (drop i s)
-  quote_at = ap (λ (b : ℕ). eqb b 34) (sym first)
+  module _ (b : ℕ) where
+    pub byte_at : eqb (get_or s i 0) b ≡ eqb (get_or (drop i s) 0 0) b
+    byte_at = ap (λ (x : ℕ). eqb x b) (sym first)
 
-  pub quote_past : length s ≤ i → false ≡ is_quote (drop i s)
-  quote_past h = sym (rw (past h))
+    pub byte_past : 0 < b → length s ≤ i → false ≡ eqb (get_or (drop i s) 0 0) b
+    byte_past n h = sym (rw (past h) (ne_eqb 0 b (λ e. omega arith)))
 
-  pub comma_at : eqb (get_or s i 0) 44 ≡ is_comma (drop i s)
-  comma_at = ap (λ (b : ℕ). eqb b 44) (sym first)
-
-  pub comma_past : length s ≤ i → false ≡ is_comma (drop i s)
-  comma_past h = sym (rw (past h))
+    byte_in : 0 < b → eqb (get_or (drop i s) 0 0) b ≡ true → i < length s
+    byte_in n e = ⊎_elim (λ (h : i < length s). h) (λ (h : length s ≤ i). untrue (byte_past n h ∙ e)) (lt_or_ge i (length s))
 
   pub break_past : length s ≤ i → false ≡ is_break (drop i s)
   break_past h = sym (rw (past h))
@@ -56,10 +54,10 @@ module _ (s : List ℕ) (i : ℕ) where
 
   -- a mark stands within the slice
   pub quote_in : is_quote (drop i s) ≡ true → i < length s
-  quote_in e = ⊎_elim (λ (h : i < length s). h) (λ (h : length s ≤ i). untrue (quote_past h ∙ e)) (lt_or_ge i (length s))
+  quote_in e = byte_in 34 (omega arith) e
 
   pub comma_in : is_comma (drop i s) ≡ true → i < length s
-  comma_in e = ⊎_elim (λ (h : i < length s). h) (λ (h : length s ≤ i). untrue (comma_past h ∙ e)) (lt_or_ge i (length s))
+  comma_in e = byte_in 44 (omega arith) e
 
   pub break_in : is_break (drop i s) ≡ true → i + 1 < length s
   break_in e = ⊎_elim (λ (h : i + 1 < length s). h) (λ (h : length s ≤ i + 1). untrue (break_short h ∙ e)) (lt_or_ge (i + 1) (length s))

@@ -1,9 +1,9 @@
 -- The grammar and the definition that the code equals take the same lines apart, in the same way.
 -- Assumes nothing.
-use Rattle.basis.proofs.Std.{ℕ, zero, suc, ◌+◌, add-one, ◌⊎◌, inl, inr, picked, lt-ltb, le-ltb, ◌<◌, ◌≤◌, ◌≡◌, refl, sym, ap, subst, ◌∙◌, Bool, true, false, List, [], ◌∷◌, arith, ⊎_elim, bool_cases, untrue, not_both, eqb, eqb-true, eqb-false, eq-eqb, ne_eqb, ltb, pick, both, both_first, both_second, length, get_or, take, drop}
+use Rattle.basis.proofs.Std.{ℕ, zero, suc, add-one, ◌⊎◌, inl, inr, picked, lt-ltb, le-ltb, ◌<◌, ◌≤◌, ◌≡◌, refl, sym, ap, subst, ◌∙◌, Bool, true, false, List, [], ◌∷◌, arith, bool_cases, untrue, not_both, eqb, eqb-true, eqb-false, ne_eqb, pick, both_first, both_second, length, take, drop}
 use Rattle.csv_field.specs.Grammar.{Stop, Unquoted, Quoted, Open, Plain, Field, Fault, Behind, Parts, Faulty}
 use Rattle.csv_field.specs.Marks.{is_quote, is_comma, is_break, is_stop, plain_run, quoted_run, line_run, unquoted}
-use Rattle.csv_field.specs.Split.{Took, field, fault, closed, plain_by, quoted_by, field_of, Split, fields, faulty, push, on_field, split}
+use Rattle.csv_field.specs.Split.{Took, field, fault, quoted_by, field_of, Split, fields, faulty, push, on_field, split}
 use Rattle.csv_field.proofs.Runs.{quoted_more, quoted_closed}
 use Rattle.csv_field.proofs.Lines.{Sure, sure, plain_stops, unroll}
 

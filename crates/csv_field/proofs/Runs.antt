@@ -1,8 +1,8 @@
 -- How far a text goes to the next mark: byte by byte, at a place of a slice.
 -- Assumes nothing.
-use Rattle.basis.proofs.Std.{ℕ, zero, suc, ◌+◌, ◌<◌, ◌≤◌, ◌≡◌, refl, sym, ap, ◌∙◌, Bool, true, false, List, [], ◌∷◌, arith, add_assoc, ⊎_elim, bool_cases, picked, lt_or_ge, untrue, both_first, both_second, eqb, eqb-true, pick, bit, length, get_or, take, drop, drop-drop}
-use Rattle.csv_field.specs.Marks.{is_quote, is_comma, is_break, is_stop, plain_run, quoted_run, line_run, breaks, unquoted}
-use Rattle.csv_field.proofs.Marks.{next, past, first, quote_at, quote_in, break_in}
+use Rattle.basis.proofs.Std.{ℕ, suc, ◌+◌, ◌<◌, ◌≤◌, ◌≡◌, refl, ap, ◌∙◌, Bool, true, false, List, [], ◌∷◌, arith, zero-add, picked, eqb, pick, bit, length, get_or, take, drop}
+use Rattle.csv_field.specs.Marks.{is_quote, is_break, is_stop, plain_run, quoted_run, line_run, breaks, unquoted}
+use Rattle.csv_field.proofs.Marks.{next, past, byte_at, quote_in, break_in}
 
 -- without quotes
 
@@ -76,7 +76,7 @@ module _ (s : List ℕ) (i : ℕ) where
   quoted_on h = rw (next s i h) (quoted_more (get_or s i 0) (drop (i + 1) s))
 
   opened : is_quote (drop i s) ≡ true → quoted_run false (drop i s) ≡ quoted_run true (drop (i + 1) s)
-  opened e = rw (next s i (quote_in s i e)) (quoted_one (get_or s i 0) (drop (i + 1) s) (quote_at s i ∙ e))
+  opened e = rw (next s i (quote_in s i e)) (quoted_one (get_or s i 0) (drop (i + 1) s) (byte_at s i 34 ∙ e))
 
   pub quoted_close : is_quote (drop i s) ≡ true → is_quote (drop (i + 1) s) ≡ false → quoted_run false (drop i s) ≡ 0
   quoted_close e f = opened e ∙ quoted_closed (drop (i + 1) s) f
@@ -84,7 +84,7 @@ module _ (s : List ℕ) (i : ℕ) where
   pub quoted_twice : is_quote (drop i s) ≡ true → is_quote (drop (i + 1) s) ≡ true → quoted_run false (drop i s) ≡ suc (suc (quoted_run false (drop (i + 2) s)))
   quoted_twice e f =
       let k : i + 1 + 1 ≡ i + 2 = omega arith in
-      opened e ∙ ap (quoted_run true) (next s (i + 1) (quote_in s (i + 1) f)) ∙ quoted_two (get_or s (i + 1) 0) (drop (i + 1 + 1) s) (quote_at s (i + 1) ∙ f) ∙ ap (λ (n : ℕ). suc (suc (quoted_run false (drop n s)))) k
+      opened e ∙ ap (quoted_run true) (next s (i + 1) (quote_in s (i + 1) f)) ∙ quoted_two (get_or s (i + 1) 0) (drop (i + 1 + 1) s) (byte_at s (i + 1) 34 ∙ f) ∙ ap (λ (n : ℕ). suc (suc (quoted_run false (drop n s)))) k
 
 pub quoted_within : (q : Bool) (t : List ℕ) → quoted_run q t ≤ bit q + length t
 unfolding quoted_run
@@ -131,10 +131,6 @@ line_within (b ∷ t) = go (line_within t) (is_break (b ∷ t)) refl
 
 -- how many CRLF
 
-pub bit_le : (b : Bool) → bit b ≤ 1
-bit_le true = omega arith
-bit_le false = omega arith
-
 pub breaks_past : (t : List ℕ) (i : ℕ) → length t ≤ i → breaks (drop i t) ≡ 0
 unfolding breaks
 breaks_past t i h = rw (past t i h)
@@ -143,5 +139,12 @@ breaks_more : (b : ℕ) (t : List ℕ) → breaks (b ∷ t) ≡ bit (is_break (b
 unfolding breaks
 breaks_more b t = refl
 
-pub breaks_on : (t : List ℕ) (i : ℕ) → i < length t → breaks (drop i t) ≡ bit (is_break (drop i t)) + breaks (drop (i + 1) t)
+breaks_on : (t : List ℕ) (i : ℕ) → i < length t → breaks (drop i t) ≡ bit (is_break (drop i t)) + breaks (drop (i + 1) t)
 breaks_on t i h = rw (next t i h) (breaks_more (get_or t i 0) (drop (i + 1) t))
+
+module _ (t : List ℕ) (i : ℕ) (h : i < length t) where
+  pub breaks_one : is_break (drop i t) ≡ true → breaks (drop i t) ≡ 1 + breaks (drop (i + 1) t)
+  breaks_one e = breaks_on t i h ∙ ap (λ (b : Bool). bit b + breaks (drop (i + 1) t)) e
+
+  pub breaks_none : is_break (drop i t) ≡ false → breaks (drop i t) ≡ breaks (drop (i + 1) t)
+  breaks_none e = breaks_on t i h ∙ ap (λ (b : Bool). bit b + breaks (drop (i + 1) t)) e ∙ zero-add (breaks (drop (i + 1) t))

@@ -1,6 +1,6 @@
 -- A line taken apart, as the code does it: field by field, each by how far it goes.
 -- Assumes nothing.
-use Rattle.std.specs.Prelude.{Bool, false, List, [], ◌∷◌, ℕ, zero, suc, ◌+◌, ltb, length, take, drop}
+use Rattle.std.specs.Prelude.{false, List, [], ◌∷◌, ℕ, zero, suc, ◌+◌, ltb, length, take, drop}
 use Rattle.basis.specs.Pick.{pick}
 use Rattle.csv_field.specs.Marks.{is_quote, is_comma, is_stop, plain_run, quoted_run, line_run, unquoted}
 

@@ -1,48 +1,41 @@
 // A line of fields, RFC 4180: where each of them stands, up to twelve, and where the line ends.
 #![tactic(auto)]
 
-ghost use Rattle.std.specs.Prelude.{◌≡◌, false, ℕ, ◌+◌, ◌≤◌, length, drop};
-ghost use Rattle.basis.specs.Pick.{bit};
-ghost use Rattle.csv_field.specs.Marks.{is_quote, is_comma, is_break, is_stop, plain_run, quoted_run, line_run, behind_break, breaks, is_ended};
+ghost use Rattle.std.specs.Prelude.{◌≡◌, false, ℕ, ◌+◌, ◌≤◌, ◌<◌, eqb, length, get_or, drop};
+ghost use Rattle.csv_field.specs.Marks.{is_break, is_stop, plain_run, quoted_run, line_run, behind_break, breaks, is_ended};
 ghost use Rattle.csv_field.specs.Split.{plain_by, quoted_by, field_of, split};
 ghost use Rattle.csv_field.specs.Places.{Takes, Splits, noted};
 
 // How many fields are noted.
 pub const MOST: usize = 12;
 
-// A field: where its text begins, how long that is, and the place behind the field; or the place of a fault.
+// A field's text as it stands there, and the place behind the field.
 #[derive(Clone, Copy)]
-pub enum Field {
-    Is(usize, usize, usize),
-    Bad(usize),
+pub struct Field<'a> {
+    pub text: &'a [u8],
+    pub next: usize,
 }
 
 // The texts of a line's fields. Behind the twelfth no more are noted; 13 counts all of them.
 #[derive(Clone, Copy)]
-pub struct Notes {
+pub struct Notes<'a> {
     pub count: usize,
-    pub starts: [usize; 12],
-    pub lengths: [usize; 12],
+    pub texts: [&'a [u8]; 12],
 }
 
-// A line whose quotes are good, or not, and the place behind it.
+// A line's texts, where its quotes are good, and the place behind it.
 #[derive(Clone, Copy)]
-pub struct Line {
-    pub good: bool,
+pub struct Line<'a> {
+    pub notes: Option<Notes<'a>>,
     pub next: usize,
-    pub notes: Notes,
 }
 
-fn is_quote(s: &[u8], at: usize) -> bool
-    ensures { result ≡ is_quote (drop at s.now) }
+// Whether this byte stands there.
+fn is_at(s: &[u8], at: usize, b: u8) -> bool
+    requires { 0 < b }
+    ensures { result ≡ eqb (get_or (drop at s.now) 0 0) b }
 {
-    if at < s.len() { s[at] == b'"' } else { false }
-}
-
-fn is_comma(s: &[u8], at: usize) -> bool
-    ensures { result ≡ is_comma (drop at s.now) }
-{
-    if at < s.len() { s[at] == b',' } else { false }
+    at < s.len() && s[at] == b
 }
 
 // Whether CRLF stands there.
@@ -64,39 +57,30 @@ fn is_break(s: &[u8], at: usize) -> bool
 fn is_stop(s: &[u8], at: usize) -> bool
     ensures { result ≡ is_stop (drop at s.now) }
 {
-    if s.len() <= at {
-        return true;
-    }
-    if is_comma(s, at) {
-        return true;
-    }
-    is_break(s, at)
+    s.len() <= at || is_at(s, at, b',') || is_break(s, at)
 }
 
 fn plain_end(s: &[u8], at: usize) -> usize
+    requires { at ≤ length s.now }
     ensures { result ≡ at + plain_run (drop at s.now) }
 {
-    let mut i = at;
-    while i < s.len() {
-        if is_quote(s, i) {
+    for i in at..s.len() {
+        if is_at(s, i, b'"') || is_stop(s, i) {
             return i;
         }
-        if is_stop(s, i) {
-            return i;
-        }
-        i += 1;
     }
-    i
+    s.len()
 }
 
 // The place of the closing quote.
 fn quoted_end(s: &[u8], at: usize) -> usize
     ensures { result ≡ at + quoted_run false (drop at s.now) }
 {
+    // an index: of two quotes in a row both are passed
     let mut i = at;
     while i < s.len() {
-        if is_quote(s, i) {
-            if is_quote(s, i + 1) {
+        if is_at(s, i, b'"') {
+            if is_at(s, i + 1, b'"') {
                 i += 2;
                 continue;
             }
@@ -109,73 +93,72 @@ fn quoted_end(s: &[u8], at: usize) -> usize
 
 // The place behind the first CRLF.
 fn line_end(s: &[u8], at: usize) -> usize
+    requires { at ≤ length s.now }
     ensures { result ≡ at + line_run (drop at s.now) }
 {
-    let mut i = at;
-    while i < s.len() {
+    for i in at..s.len() {
         if is_break(s, i) {
             return i + 2;
         }
-        i += 1;
     }
-    i
+    s.len()
 }
 
-fn plain(s: &[u8], at: usize) -> Field
+fn plain(s: &[u8], at: usize) -> Result<Field, usize>
     requires { at ≤ length s.now }
     ensures { Takes s.now at (plain_by (plain_run (drop at s.now)) (drop at s.now)) result }
 {
     let end = plain_end(s, at);
-    if is_quote(s, end) {
-        return Field::Bad(end);
+    if is_at(s, end, b'"') {
+        return Err(end);
     }
-    Field::Is(at, end - at, end)
+    Ok(Field {
+        text: &s[at..end],
+        next: end,
+    })
 }
 
-fn quoted(s: &[u8], at: usize) -> Field
+fn quoted(s: &[u8], at: usize) -> Result<Field, usize>
     requires { at ≤ length s.now }
     ensures { Takes s.now at (quoted_by (quoted_run false (drop at s.now)) (drop at s.now)) result }
 {
     let end = quoted_end(s, at);
     if s.len() <= end {
-        return Field::Bad(s.len());
+        return Err(s.len());
     }
     if is_stop(s, end + 1) {
-        return Field::Is(at, end - at, end + 1);
+        return Ok(Field {
+            text: &s[at..end],
+            next: end + 1,
+        });
     }
-    Field::Bad(end + 1)
+    Err(end + 1)
 }
 
-fn take_field(s: &[u8], at: usize) -> Field
+// The field that begins at `at`, or the place of a fault.
+fn take_field(s: &[u8], at: usize) -> Result<Field, usize>
     requires { at ≤ length s.now }
     ensures { Takes s.now at (field_of (drop at s.now)) result }
 {
-    if is_quote(s, at) {
+    if is_at(s, at, b'"') {
         return quoted(s, at + 1);
     }
     plain(s, at)
 }
 
-fn note(n: Notes, a: usize, l: usize) -> Notes
-    ensures { result ≡ noted n a l }
+fn note<'a>(n: Notes<'a>, text: &'a [u8]) -> Notes<'a>
+    ensures { result ≡ noted n.entry text.entry }
 {
-    let mut starts = n.starts;
-    let mut lengths = n.lengths;
+    let mut texts = n.texts;
     let k = n.count;
     if k < MOST {
-        starts[k] = a;
-        lengths[k] = l;
+        texts[k] = text;
         return Notes {
             count: k + 1,
-            starts,
-            lengths,
+            texts,
         };
     }
-    Notes {
-        count: 13,
-        starts,
-        lengths,
-    }
+    Notes { count: 13, texts }
 }
 
 // The place behind a line that ends at `at`.
@@ -193,40 +176,30 @@ pub fn take_line(s: &[u8], at: usize) -> Line
 {
     let mut notes = Notes {
         count: 0,
-        starts: [0usize; 12],
-        lengths: [0usize; 12],
+        texts: [b"" as &[u8]; 12],
     };
     let mut i = at;
     loop {
-        let f = take_field(s, i);
-        match f {
-            Field::Is(a, l, e) => {
-                notes = note(notes, a, l);
-                if is_comma(s, e) {
-                    i = e + 1;
+        match take_field(s, i) {
+            Ok(f) => {
+                notes = note(notes, f.text);
+                if is_at(s, f.next, b',') {
+                    i = f.next + 1;
                 } else {
                     return Line {
-                        good: true,
-                        next: behind(s, e),
-                        notes,
+                        notes: Some(notes),
+                        next: behind(s, f.next),
                     };
                 }
             }
-            Field::Bad(e) => {
+            Err(fault) => {
                 return Line {
-                    good: false,
-                    next: line_end(s, e),
-                    notes,
+                    notes: None,
+                    next: line_end(s, fault),
                 }
             }
         }
     }
-}
-
-fn one_if(b: bool) -> usize
-    ensures { result ≡ bit b }
-{
-    if b { 1 } else { 0 }
 }
 
 // How many CRLF stand in t.
@@ -234,10 +207,10 @@ pub fn count_breaks(t: &[u8]) -> usize
     ensures { result ≡ breaks t.now }
 {
     let mut n = 0;
-    let mut i = 0;
-    while i < t.len() {
-        n += one_if(is_break(t, i));
-        i += 1;
+    for i in 0..t.len() {
+        if is_break(t, i) {
+            n += 1;
+        }
     }
     n
 }
@@ -246,8 +219,5 @@ pub fn count_breaks(t: &[u8]) -> usize
 pub fn is_ended(t: &[u8]) -> bool
     ensures { result ≡ is_ended t.now }
 {
-    if t.len() < 2 {
-        return false;
-    }
-    is_break(t, t.len() - 2)
+    2 <= t.len() && is_break(t, t.len() - 2)
 }

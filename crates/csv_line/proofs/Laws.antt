@@ -1,6 +1,6 @@
 -- The laws of lines and files.
 -- Assumes nothing.
-use Rattle.basis.proofs.Std.{ℕ, zero, suc, ◌+◌, ◌≤◌, ◌<◌, ◌≡◌, refl, sym, ap, subst, ◌∙◌, List, [], ◌∷◌, ◌++◌, append_assoc, map, arith, length, ⊎_elim}
+use Rattle.basis.proofs.Std.{ℕ, zero, suc, ◌≤◌, ◌<◌, ◌≡◌, refl, sym, ap, subst, ◌∙◌, List, [], ◌∷◌, ◌++◌, map, arith, length, ⊎_elim}
 use Rattle.output.specs.Put.{concat}
 use Rattle.entry.specs.declared.Entry.{Entry}
 use Rattle.entry.specs.Valid.{Valid}
@@ -9,26 +9,27 @@ use Rattle.csv_field.specs.Split.{Split, split, fields, faulty}
 use Rattle.csv_field.proofs.Meaning as Meaning
 use Rattle.csv_words.specs.Words.{columns}
 use Rattle.csv_entry.specs.Fields.{fields_of, line_from, line_of, header_line}
-use Rattle.csv_entry.specs.Judged.{Judges, a_record}
-use Rattle.csv_entry.specs.declared.Judged.{Judged}
-use Rattle.csv_entry.specs.declared.Judged.TheVariants.{Accepted, Quoting}
-use Rattle.csv_entry.proofs.Simple.{AllSimple, line_parts}
-use Rattle.csv_entry.proofs.Shape.{twelve, word_simple}
+use Rattle.std.specs.Prelude.{Ok, Err}
+use Rattle.csv_entry.specs.Judged.{Judged, Judges, a_record}
+use Rattle.csv_entry.specs.declared.Reason.TheVariants.{Quoting}
+use Rattle.csv_entry.proofs.Simple.{line_parts}
+use Rattle.csv_entry.proofs.Shape.{twelve}
 use Rattle.csv_entry.proofs.Back as Back
 use Rattle.csv_entry.proofs.Judging.{one_answer}
 use Rattle.csv_entry.proofs.Room.{split_line}
 use Rattle.csv_entry.proofs.Total.{answer, texts_told}
 use Rattle.csv_line.specs.Reading.{ReadsLine, spoilt, judged, ReadsLines, ReadsFile, Answers, lines, wrong_header, header, no_header}
 use Rattle.csv_line.specs.Claims.{AllValid}
+use Rattle.csv_line.proofs.Taken.{columns_simple}
 use Rattle.csv_line.proofs.Shorter.{parts_within, faulty_within}
 
-pub read_written : {e : Entry} (rest : List ℕ) → Valid e → ReadsLine (line_of e ++ rest) (Accepted e) rest
+pub read_written : {e : Entry} (rest : List ℕ) → Valid e → ReadsLine (line_of e ++ rest) (Ok e) rest
 read_written {e} rest v = judged (Meaning.sound (line_of e ++ rest) rest (fields_of e) (split_line e rest)) (a_record v refl)
 
-pub written_read : {t r : List ℕ} {e : Entry} → ReadsLine t (Accepted e) r → Valid e × Parts t (fields_of e) r
+pub written_read : {t r : List ℕ} {e : Entry} → ReadsLine t (Ok e) r → Valid e × Parts t (fields_of e) r
 written_read {t} {r} {e} (judged {ds} p j) = go j
   where
-    go : Judges ds (Accepted e) → Valid e × Parts t (fields_of e) r
+    go : Judges ds (Ok e) → Valid e × Parts t (fields_of e) r
     go (a_record v f) = (v, subst (λ (l : List (List ℕ)). Parts t l r) (sym f) p)
 
 pub one_line : {e f : Entry} → Valid e → Valid f → line_of e ≡ line_of f → e ≡ f
@@ -64,21 +65,15 @@ line_some : (e : Entry) (rest : List ℕ) → line_of e ++ rest ≡ [] → ⊥
 unfolding line_of
 line_some e rest = some_line (fields_of e) rest (omega (arith, twelve e))
 
-lines_back : {es : List Entry} → AllValid es → ReadsLines (concat (map line_of es)) (map Accepted es)
+lines_back : {es : List Entry} → AllValid es → ReadsLines (concat (map line_of es)) (map Ok es)
 lines_back AllValid.none = ReadsLines.end
 lines_back (AllValid.next {e} {es} v w) = ReadsLines.line (line_some e (concat (map line_of es))) (read_written (concat (map line_of es)) v) (lines_back w)
-
-pub columns_simple : AllSimple columns
-columns_simple =
-    AllSimple.next (word_simple 6) (AllSimple.next (word_simple 7) (AllSimple.next (word_simple 8) (AllSimple.next (word_simple 9)
-    (AllSimple.next (word_simple 10) (AllSimple.next (word_simple 11) (AllSimple.next (word_simple 12) (AllSimple.next (word_simple 13)
-    (AllSimple.next (word_simple 14) (AllSimple.next (word_simple 15) (AllSimple.next (word_simple 16) (AllSimple.next (word_simple 17) AllSimple.none)))))))))))
 
 header_parts : (rest : List ℕ) → Parts (header_line ++ rest) columns rest
 unfolding header_line
 header_parts rest = line_parts _ _ rest columns_simple
 
-pub file_back : {es : List Entry} → AllValid es → ReadsFile (header_line ++ concat (map line_of es)) (lines (map Accepted es))
+pub file_back : {es : List Entry} → AllValid es → ReadsFile (header_line ++ concat (map line_of es)) (lines (map Ok es))
 file_back {es} v = header (header_parts (concat (map line_of es))) (lines_back v)
 
 -- every text
@@ -91,7 +86,7 @@ line_read t = go (split t) refl
   where
     go : (p : Split) → split t ≡ p → Read t
     go (fields ds r) e = let a = answer ds in let p = Meaning.sound t r ds e in (a.0, r, judged p a.1, λ n. parts_within p n)
-    go (faulty r) e = let f = Meaning.spoilt t r e in (Quoting, r, spoilt f, λ n. faulty_within f)
+    go (faulty r) e = let f = Meaning.spoilt t r e in (Err Quoting, r, spoilt f, λ n. faulty_within f)
 
 lines_read : (n : ℕ) (t : List ℕ) → length t < n → (js : List Judged) × ReadsLines t js
 lines_read zero t h = absurd (omega arith)

@@ -1,4 +1,4 @@
 mod Shorter
-mod Taken
+pub mod Taken
 pub mod Laws
 pub mod Kept

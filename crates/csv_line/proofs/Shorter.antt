@@ -1,6 +1,6 @@
 -- What follows a line is shorter than what the line begins.
 -- Assumes nothing.
-use Rattle.basis.proofs.Std.{ℕ, suc, ◌+◌, ◌≤◌, ◌<◌, ◌≡◌, refl, List, [], ◌∷◌, arith, length}
+use Rattle.basis.proofs.Std.{ℕ, ◌≤◌, ◌<◌, ◌≡◌, refl, List, [], ◌∷◌, arith, length}
 use Rattle.csv_field.specs.Grammar.{Quoted, Plain, Field, Fault, Behind, Parts, Faulty}
 
 quoted_rest : {t r d : List ℕ} → Quoted t r d → length r < length t

@@ -1,96 +1,108 @@
 -- What a line comes to whose texts were noted, as the code goes.
 -- Assumes nothing.
-use Rattle.basis.proofs.Std.{ℕ, ◌+◌, ◌≤◌, ◌<◌, ◌≡◌, refl, sym, ap, subst, ◌∙◌, Bool, true, false, List, [], ◌∷◌, arith, zero-add, not_both, le_or_lt, ⊎_elim, get_or, length, drop, same_bytes, same_true, same_self}
+use Rattle.basis.proofs.Std.{ℕ, ◌≤◌, ◌<◌, ◌≡◌, refl, sym, ap, subst, ◌∙◌, Bool, false, List, [], map, arith, not_both, le_or_lt, ⊎_elim, length, get_or, get_or-append-add, ◌++◌, drop}
+use Rattle.std.specs.Prelude.{Option, Some, None, Ok, Err, ok_or}
+use Rattle.csv_entry.specs.declared.Reason.{Reason}
 use Rattle.entry.specs.Valid.{Decides}
 use Rattle.csv_field.specs.Grammar.{Parts}
 use Rattle.csv_field.specs.Marks.{unquoted}
 use Rattle.csv_field.specs.Split.{Split, split, fields, faulty}
-use Rattle.csv_field.specs.Places.{Noted, Splits, splits, spoilt}
+use Rattle.csv_field.specs.Places.{texts_of, Noted, Splits, splits, spoilt}
 use Rattle.csv_field.specs.declared.Notes.{Notes}
 use Rattle.csv_field.specs.declared.Line.{Line}
 use Rattle.csv_field.proofs.Meaning as Meaning
-use Rattle.csv_words.specs.Words.{columns, column_word}
-use Rattle.csv_entry.specs.Raws.{each_of, raw_at, raws_of, Within}
-use Rattle.csv_entry.specs.Judged.{Judges, other_count}
-use Rattle.csv_entry.specs.declared.Judged.{Judged}
-use Rattle.csv_entry.specs.declared.Judged.TheVariants.{Quoting, Count}
-use Rattle.csv_entry.proofs.Simple.{same_text, text_same}
+use Rattle.csv_words.specs.Words.{kinds, events, columns, column_word}
+use Rattle.csv_entry.specs.Judged.{Judged, Judges, other_count}
+use Rattle.csv_entry.specs.declared.Reason.TheVariants.{Quoting, Count}
+use Rattle.csv_entry.proofs.Simple.{AllSimple}
 use Rattle.csv_entry.proofs.Shape.{word_simple}
-use Rattle.csv_entry.proofs.Twelve.{each_same, each_at, twelve_of, within}
-use Rattle.csv_entry.proofs.Quoted.{noted_judged}
-use Rattle.csv_line.specs.Reading.{ReadsLine, judged, HasHeader, Columns}
-use Rattle.csv_line.specs.Reading as Reading
+use Rattle.csv_entry.proofs.Twelve.{meant_raws}
+use Rattle.csv_entry.proofs.Quoted.{noted_judged, simple_meant, meant_simple}
+use Rattle.csv_line.specs.Reading.{ReadsLine, HasHeader, TellsHeader, JudgesLine}
 
--- a line whose quotes are good
-pub record Good (s t : List ℕ) (l : Line) : Type 0 where
-  pub texts : List (List ℕ)
-  pub is : split t ≡ fields texts (drop l.next s)
-  pub noted : Noted s l.notes texts
+pub columns_simple : AllSimple columns
+columns_simple =
+    AllSimple.next (word_simple 6) (AllSimple.next (word_simple 7) (AllSimple.next (word_simple 8) (AllSimple.next (word_simple 9)
+    (AllSimple.next (word_simple 10) (AllSimple.next (word_simple 11) (AllSimple.next (word_simple 12) (AllSimple.next (word_simple 13)
+    (AllSimple.next (word_simple 14) (AllSimple.next (word_simple 15) (AllSimple.next (word_simple 16) (AllSimple.next (word_simple 17) AllSimple.none)))))))))))
 
-pub good_line : {s : List ℕ} {at : ℕ} {l : Line} (t : List ℕ) → Splits s at (split t) l → l.good ≡ true → Good s t l
-good_line {s} {at} {l} t p h = go refl p
-  where
-    go : {x : Split} → split t ≡ x → Splits s at x l → Good s t l
-    go e (splits {ds} l g n a b) = record { texts = ds; is = e; noted = n }
-    go e (spoilt l g a b) = absurd (not_both h g)
+pub column_is : (j : ℕ) → j < 12 → get_or columns j [] ≡ column_word j
+column_is j h = sym (get_or-append-add (kinds ++ events) columns j [])
 
-bad_line : {s : List ℕ} {at : ℕ} {l : Line} (t : List ℕ) → Splits s at (split t) l → l.good ≡ false → split t ≡ faulty (drop l.next s)
-bad_line {s} {at} {l} t p h = go refl p
-  where
-    go : {x : Split} → split t ≡ x → Splits s at x l → split t ≡ faulty (drop l.next s)
-    go e (splits {ds} l g n a b) = absurd (not_both g h)
-    go e (spoilt l g a b) = e
-
-module _ {s : List ℕ} {n : Notes} {ds : List (List ℕ)} (k : Noted s n ds) where
+module _ {n : Notes} {ds : List (List ℕ)} (k : Noted n ds) where
   counted : n.count ≡ 12 → length ds ≡ 12
   counted h = ⊎_elim (λ (l : length ds ≤ 12). omega (arith, k.count l, h)) (λ (l : 12 < length ds). absurd (omega (arith, k.more l, h))) (le_or_lt (length ds) 12)
 
   not_counted : (n.count ≡ 12 → ⊥) → length ds ≡ 12 → ⊥
   not_counted h e = h (k.count (omega (arith, e)) ∙ e)
 
-  module _ (h : length ds ≡ 12) where
-    column_is : (j : ℕ) → j < 12 → get_or columns j [] ≡ column_word j
-    column_is j g = each_at column_word [] 0 12 j g ∙ ap column_word (zero-add j)
-
-    columns_noted : {r : Bool} → Decides r (Columns s n) → Decides r (ds ≡ columns)
-    columns_noted d = record {
-      yes = λ e. twelve_of ds [] h ∙ each_same (λ j. get_or ds j []) column_word 0 12
-          (λ j g. (k.each j (omega arith) (omega arith)).is ∙ ap (unquoted false) (d.yes e j (omega arith)) ∙ text_same (word_simple (6 + j)));
-      only = λ e. d.only (λ j g. same_text (raw_at s n j) (word_simple (6 + j))
-          (sym (k.each j g (omega arith)).is ∙ ap (λ (l : List (List ℕ)). get_or l j []) e ∙ column_is j g));
-    }
-
-module _ {s t : List ℕ} {l : Line} (g : Good s t l) where
-  pub twelve_within : l.notes.count ≡ 12 → Within s l.notes
-  twelve_within h = within g.noted (counted g.noted h)
-
-  pub twelve_judged : l.notes.count ≡ 12 → {r : Judged} → Judges (raws_of s l.notes) r → ReadsLine t r (drop l.next s)
-  twelve_judged h j = judged (Meaning.sound t (drop l.next s) g.texts g.is) (noted_judged g.noted (counted g.noted h) j)
-
-  pub not_twelve : (l.notes.count ≡ 12 → ⊥) → ReadsLine t Count (drop l.next s)
-  not_twelve h = judged (Meaning.sound t (drop l.next s) g.texts g.is) (other_count (not_counted g.noted h))
-
-  its_texts : Parts t columns (drop l.next s) → g.texts ≡ columns
-  its_texts p = let e : fields g.texts (drop l.next s) ≡ fields columns (drop l.next s) = sym g.is ∙ Meaning.complete p in cc
-
-  pub header_noted : l.notes.count ≡ 12 → {r : Bool} → Decides r (Columns s l.notes) → Decides r (Parts t columns (drop l.next s))
-  header_noted h d =
-      let e = columns_noted g.noted (counted g.noted h) d in
+  pub columns_told : n.count ≡ 12 → {r : Bool} → Decides r (texts_of n.texts ≡ columns) → Decides r (ds ≡ columns)
+  columns_told c d =
+      let m = meant_raws k (counted c) in
       record {
-        yes = λ q. subst (λ (ds : List (List ℕ)). Parts t ds (drop l.next s)) (e.yes q) (Meaning.sound t (drop l.next s) g.texts g.is);
-        only = λ p. e.only (its_texts p);
+        yes = λ q. sym m ∙ ap (λ (l : List (List ℕ)). map (unquoted false) l) (d.yes q) ∙ simple_meant columns_simple;
+        only = λ e. d.only (meant_simple (texts_of n.texts) columns_simple (m ∙ e));
       }
 
-  pub no_twelve_header : (l.notes.count ≡ 12 → ⊥) → Parts t columns (drop l.next s) → ⊥
-  no_twelve_header h p = not_counted g.noted h (ap length (its_texts p))
+  pub no_columns : (n.count ≡ 12 → ⊥) → Decides false (ds ≡ columns)
+  no_columns h = record { yes = λ q. absurd (not_both q refl); only = λ e. absurd (not_counted h (ap length e)) }
 
-module _ {s : List ℕ} {at : ℕ} {l : Line} (t : List ℕ) (p : Splits s at (split t) l) (h : l.good ≡ false) where
-  pub bad_quoting : ReadsLine t Quoting (drop l.next s)
-  bad_quoting = Reading.spoilt (Meaning.spoilt t (drop l.next s) (bad_line t p h))
+  pub twelve_judged : n.count ≡ 12 → {r : Judged} → Judges (texts_of n.texts) r → Judges ds r
+  twelve_judged h j = noted_judged k (counted h) j
 
-  pub no_bad_header : Parts t columns (drop l.next s) → ⊥
-  no_bad_header q = let e : faulty (drop l.next s) ≡ fields columns (drop l.next s) = sym (bad_line t p h) ∙ Meaning.complete q in let z : ◌≡◌ {A = ℕ} 0 1 = cc in omega arith
+  pub not_twelve : (n.count ≡ 12 → ⊥) → Judges ds (Err Count)
+  not_twelve h = other_count (not_counted h)
 
--- a text held against a word
-pub word_decides : {r : Bool} {xs : List ℕ} (ys ws : List ℕ) → r ≡ same_bytes xs ws → xs ≡ ys → Decides r (ys ≡ ws)
-word_decides {r} {xs} ys ws e h = record { yes = λ q. sym h ∙ same_true xs ws (sym e ∙ q); only = λ q. e ∙ subst (λ (l : List ℕ). same_bytes xs l ≡ true) (h ∙ q) (same_self xs) }
+-- as the code goes, from the notes that it has
+
+ok_some : {A : Type 0} (o : Option A) {a : A} → ok_or o Quoting ≡ Ok a → o ≡ Some a
+ok_some (Some x) {a} h = let z : x ≡ a = cc in ap Some z
+ok_some None h = absurd (let z : ◌≡◌ {A = ℕ} 0 1 = cc in omega arith)
+
+no_some : {A : Type 0} (o : Option A) {e : Reason} → ok_or o Quoting ≡ Err e → o ≡ None
+no_some (Some x) h = absurd (let z : ◌≡◌ {A = ℕ} 0 1 = cc in omega arith)
+no_some None h = refl
+
+module _ {l : Line} where
+  pub header_noted : {n : Notes} → l.notes ≡ Some n → n.count ≡ 12 → {r : Bool} → Decides r (texts_of n.texts ≡ columns) → TellsHeader l r
+  header_noted {n} i c d =
+      record {
+        spoilt = λ e. absurd (let z : ◌≡◌ {A = ℕ} 0 1 = cc in omega arith);
+        noted = λ m e ds k. let z : m ≡ n = cc in columns_told (subst (λ (o : Notes). Noted o ds) z k) c d;
+      }
+
+  pub line_judged : {n : Notes} → ok_or l.notes Quoting ≡ Ok n → n.count ≡ 12 → {r : Judged} → Judges (texts_of n.texts) r → JudgesLine l r
+  line_judged {n} i c j = JudgesLine.judged n (ok_some l.notes i) (λ ds k. twelve_judged k c j)
+
+  pub line_counted : {n : Notes} → ok_or l.notes Quoting ≡ Ok n → (n.count ≡ 12 → ⊥) → JudgesLine l (Err Count)
+  line_counted {n} i h = JudgesLine.judged n (ok_some l.notes i) (λ ds k. not_twelve k h)
+
+  pub line_spoilt : {e : Reason} → ok_or l.notes Quoting ≡ Err e → JudgesLine l (Err Quoting)
+  line_spoilt i = JudgesLine.spoilt (no_some l.notes i)
+
+-- what the code says of a line holds of the text that it was taken from
+
+pub line_reads : {s : List ℕ} {at : ℕ} {l : Line} {r : Judged} (t : List ℕ) → Splits s at (split t) l → JudgesLine l r → ReadsLine t r (drop l.next s)
+line_reads {s} {at} {l} t p j = go refl p j
+  where
+    go : {x : Split} {r : Judged} → split t ≡ x → Splits s at x l → JudgesLine l r → ReadsLine t r (drop l.next s)
+    go e (splits {ds} l n is k a b) (JudgesLine.judged m i f) = let z : n ≡ m = cc in ReadsLine.judged (Meaning.sound t (drop l.next s) ds e) (f ds (subst (λ (o : Notes). Noted o ds) z k))
+    go e (splits {ds} l n is k a b) (JudgesLine.spoilt i) = absurd (let z : ◌≡◌ {A = ℕ} 0 1 = cc in omega arith)
+    go e (spoilt l is a b) (JudgesLine.judged m i f) = absurd (let z : ◌≡◌ {A = ℕ} 0 1 = cc in omega arith)
+    go e (spoilt l is a b) (JudgesLine.spoilt i) = ReadsLine.spoilt (Meaning.spoilt t (drop l.next s) e)
+
+pub header_decided : {s : List ℕ} {at : ℕ} {l : Line} {r : Bool} → Splits s at (split s) l → TellsHeader l r → Decides r (HasHeader s l)
+header_decided {s} {at} {l} {r} p h = go refl p
+  where
+    go : {x : Split} → split s ≡ x → Splits s at x l → Decides r (HasHeader s l)
+    go e (splits {ds} l n is k a b) =
+        let d = h.noted n is ds k in
+        record {
+          yes = λ q. subst (λ (fs : List (List ℕ)). Parts s fs (drop l.next s)) (d.yes q) (Meaning.sound s (drop l.next s) ds e);
+          only = λ q. let f : fields ds (drop l.next s) ≡ fields columns (drop l.next s) = sym e ∙ Meaning.complete q in d.only cc;
+        }
+    go e (spoilt l is a b) =
+        record {
+          yes = λ q. absurd (not_both q (h.spoilt is));
+          only = λ q. let f : faulty (drop l.next s) ≡ fields columns (drop l.next s) = sym e ∙ Meaning.complete q in absurd (let z : ◌≡◌ {A = ℕ} 0 1 = cc in omega arith);
+        }

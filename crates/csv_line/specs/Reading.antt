@@ -1,18 +1,18 @@
 -- What a line comes to, what all lines of a text come to, and the header before them.
 -- Assumes nothing.
-use Rattle.std.specs.Prelude.{◌≡◌, List, [], ◌∷◌, ℕ, ◌<◌, drop}
+use Rattle.std.specs.Prelude.{◌≡◌, Bool, false, List, [], ◌∷◌, ℕ, drop, Some, None, Err}
 use Rattle.csv_field.specs.Grammar.{Parts, Faulty}
+use Rattle.entry.specs.Valid.{Decides}
+use Rattle.csv_field.specs.Places.{Noted}
 use Rattle.csv_field.specs.declared.Notes.{Notes}
 use Rattle.csv_field.specs.declared.Line.{Line}
-use Rattle.csv_words.specs.Words.{columns, column_word}
-use Rattle.csv_entry.specs.Raws.{raw_at}
-use Rattle.csv_entry.specs.Judged.{Judges}
-use Rattle.csv_entry.specs.declared.Judged.{Judged}
-use Rattle.csv_entry.specs.declared.Judged.TheVariants.{Quoting}
+use Rattle.csv_words.specs.Words.{columns}
+use Rattle.csv_entry.specs.Judged.{Judged, Judges}
+use Rattle.csv_entry.specs.declared.Reason.TheVariants.{Quoting}
 
 -- a line that begins t: bad quotes first, then what its fields come to; r follows it
 pub data ReadsLine (t : List ℕ) : Judged → List ℕ → Type 0 where
-  spoilt : {r : List ℕ} → Faulty t r → ReadsLine t Quoting r
+  spoilt : {r : List ℕ} → Faulty t r → ReadsLine t (Err Quoting) r
   judged : {ds : List (List ℕ)} {j : Judged} {r : List ℕ} → Parts t ds r → Judges ds j → ReadsLine t j r
 
 -- line by line; behind a last CRLF there is no line
@@ -33,6 +33,12 @@ pub data ReadsFile (s : List ℕ) : Answers → Type 0 where
 abbrev pub HasHeader : List ℕ → Line → Type 0
 HasHeader s l = Parts s columns (drop l.next s)
 
--- the twelve texts that were noted are the columns
-abbrev pub Columns : List ℕ → Notes → Type 0
-Columns s n = (j : ℕ) → j < 12 → raw_at s n j ≡ column_word j
+-- whether a line that was taken is the header: none is without notes, and others are where the fields that were noted are the columns
+pub record TellsHeader (l : Line) (r : Bool) : Type 0 where
+  pub spoilt : l.notes ≡ None → r ≡ false
+  pub noted : (n : Notes) → l.notes ≡ Some n → (ds : List (List ℕ)) → Noted n ds → Decides r (ds ≡ columns)
+
+-- what a line that was taken comes to: without notes bad quotes, else what the fields come to that were noted
+pub data JudgesLine (l : Line) : Judged → Type 0 where
+  spoilt : l.notes ≡ None → JudgesLine l (Err Quoting)
+  judged : {r : Judged} (n : Notes) → l.notes ≡ Some n → ((ds : List (List ℕ)) → Noted n ds → Judges ds r) → JudgesLine l r

@@ -1,7 +1,7 @@
 -- What the calls answer, from what the functions that they call leave.
 -- Assumes nothing.
-use Rattle.basis.proofs.Std.{ℕ, suc, ◌+◌, ◌≤◌, ◌<◌, ◌≡◌, refl, sym, ap, subst, ◌∙◌, Bool, true, false, List, [], ◌∷◌, ◌++◌, arith, add-one, zero-add, get_or, length, take, drop, set, take_all, take-suc, take-suc-set}
-use Rattle.output.specs.Put.{Out, Wrote, concat, output, put}
+use Rattle.basis.proofs.Std.{ℕ, ◌+◌, ◌≤◌, ◌≡◌, refl, ap, subst, ◌∙◌, List, [], ◌∷◌, arith, length, drop}
+use Rattle.output.specs.Put.{Out, Wrote, concat}
 use Rattle.output.proofs.Laws.{piece_fits, fits}
 use Rattle.entry.specs.declared.Entry.{Entry}
 use Rattle.entry.specs.declared.Unpacked.TheVariants.{Accepted, Refused}
@@ -11,7 +11,7 @@ use Rattle.entry.specs.Reading.{reads, refuses}
 use Rattle.entry.specs.Reading as Entries
 use Rattle.answer.specs.declared.Refusal.{Refusal}
 use Rattle.csv_field.specs.Grammar.{Parts}
-use Rattle.csv_field.specs.Split.{Split, split, fields, faulty}
+use Rattle.csv_field.specs.Split.{Split, split, fields}
 use Rattle.csv_field.specs.Places.{Splits, splits, spoilt}
 use Rattle.csv_field.specs.declared.Line.{Line}
 use Rattle.csv_field.proofs.Meaning as Meaning
@@ -39,14 +39,6 @@ line_told {xs} {ys} {bytes} {r} {e} w h v b =
     let k : length (concat (pieces_of (fields_of e))) ≡ r = omega (arith, f.1) in
     subst (λ (m : ℕ). Writes bytes xs ys (told m 0)) k (Writes.written {e = e} h v b f.0)
 
--- sixteen bytes copied
-
-pub copied : (given bytes : List ℕ) (i : ℕ) → i < length bytes → i < length given → take i bytes ≡ take i given → take (i + 1) (set bytes i (get_or given i 0)) ≡ take (i + 1) given
-copied given bytes i h g e = rw (add-one i) (take-suc-set bytes i (get_or given i 0) h ∙ ap (λ (l : List ℕ). l ++ (get_or given i 0 ∷ [])) e ∙ sym (take-suc given i 0 g))
-
-pub all_copied : (given bytes : List ℕ) (i : ℕ) → 16 ≤ i → length bytes ≡ 16 → length given ≡ 16 → take i bytes ≡ take i given → bytes ≡ given
-all_copied given bytes i h a b e = sym (take_all i bytes (omega (arith, a))) ∙ e ∙ take_all i given (omega (arith, b))
-
 pub accepted : {b : List ℕ} {e : Entry} → Entries.Reads b (Accepted e) → Valid e × (bytes_of e ≡ b)
 accepted (reads v f) = (v, f)
 
@@ -60,7 +52,7 @@ sixteen_bytes e = refl
 -- a line that was taken
 
 pub ordered : {s : List ℕ} {at : ℕ} {p : Split} {l : Line} → Splits s at p l → (at ≤ l.next) × (l.next ≤ length s)
-ordered (splits l g n a b) = (a, b)
+ordered (splits l n g k a b) = (a, b)
 ordered (spoilt l g a b) = (a, b)
 
 -- the header ends where the line does
@@ -68,5 +60,5 @@ pub header_end : {s : List ℕ} {l : Line} → Splits s 0 (split s) l → (r : L
 header_end {s} {l} p r q = go (Meaning.complete q) p
   where
     go : {x : Split} → x ≡ fields columns r → Splits s 0 x l → Parts s columns (drop l.next s)
-    go e (splits {ds} l g n a b) = let z : r ≡ drop l.next s = cc in subst (Parts s columns) z q
+    go e (splits {ds} l n g k a b) = let z : r ≡ drop l.next s = cc in subst (Parts s columns) z q
     go e (spoilt l g a b) = absurd (let z : ◌≡◌ {A = ℕ} 0 1 = cc in omega arith)

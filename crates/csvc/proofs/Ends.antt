@@ -1,9 +1,9 @@
 -- The text of a line: what stands before what follows the line, and the CRLF at its end.
 -- Assumes nothing.
-use Rattle.basis.proofs.Std.{ℕ, ◌+◌, ◌≤◌, ◌<◌, ◌≡◌, refl, sym, ap, ◌∙◌, List, [], ◌∷◌, ◌++◌, append_assoc, append-nil, arith, length, length-append}
+use Rattle.basis.proofs.Std.{ℕ, ◌≤◌, ◌<◌, ◌≡◌, refl, sym, ap, ◌∙◌, List, [], ◌∷◌, ◌++◌, append_assoc, append-nil, arith, length, length-append}
 use Rattle.csv_field.specs.Grammar.{Quoted, Plain, Field, Fault, Behind, Parts, Faulty}
 use Rattle.csv_entry.proofs.Simple.{Simple, AllSimple}
-use Rattle.csv_entry.specs.declared.Judged.{Judged}
+use Rattle.csv_entry.specs.Judged.{Judged}
 use Rattle.csv_line.specs.Reading.{ReadsLine, spoilt, judged}
 
 -- no byte is CR

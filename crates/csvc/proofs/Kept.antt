@@ -1,8 +1,7 @@
 -- Claims of the calls, kept.
 -- Assumes nothing.
-use Rattle.basis.proofs.Std.{ℕ, ◌+◌, ◌-◌, ◌≤◌, ◌<◌, ◌≡◌, refl, sym, ap, ap₂, subst, ◌∙◌, List, [], ◌∷◌, arith, length, length-drop, drop}
-use Rattle.csv_field.specs.Grammar.{Parts}
-use Rattle.csv_field.specs.Split.{split, fields}
+use Rattle.basis.proofs.Std.{ℕ, ◌≤◌, ◌<◌, ◌≡◌, refl, sym, ap, ap₂, subst, ◌∙◌, List, [], arith, length, length-drop, drop}
+use Rattle.csv_field.specs.Split.{fields}
 use Rattle.csv_field.proofs.Meaning as Meaning
 use Rattle.csv_words.specs.Words.{columns}
 use Rattle.csv_line.proofs.Laws as Lines

@@ -6,10 +6,12 @@ use Rattle.csv_field.specs.Split.{fields}
 use Rattle.csv_field.specs.Marks.{breaks}
 use Rattle.csv_field.proofs.Meaning as Meaning
 use Rattle.csv_words.specs.Words.{columns}
-use Rattle.csv_entry.specs.declared.Judged.{Judged}
-use Rattle.csv_entry.specs.declared.Judged.TheVariants.{Accepted, Quoting, Count, Kind, Presence, Contents}
+use Rattle.csv_entry.specs.Judged.{Judged}
+use Rattle.std.specs.Prelude.{Ok, Err}
+use Rattle.csv_entry.specs.declared.Reason.TheVariants.{Quoting, Count, Kind, Presence, Contents}
 use Rattle.csv_line.specs.Reading.{ReadsLine, ReadsLines, ReadsFile, Answers}
 use Rattle.csv_line.proofs.Laws as Lines
+use Rattle.csv_line.proofs.Taken.{columns_simple}
 use Rattle.csvc.specs.Calls.{number_for, bytes_for, line_behind, ReadsOn, ReadsFirst, Reads}
 use Rattle.csvc.specs.Whole.{Stop, Calls, Says, SaysFile}
 use Rattle.csvc.specs.declared.Read.{Read}
@@ -30,18 +32,18 @@ begins_first : {s : List ℕ} {at : ℕ} → Parts s columns (drop at s) → at 
 begins_first {s} {at} p h =
     let w = parts_ended p (left_of s at h) in
     let e = part_is w.part (drop at s) at w.is (omega (arith, length-drop at s)) in
-    record { part = w.part; is = e; counted = omega (arith, ap breaks e, clear_breaks (w.clear Lines.columns_simple)) }
+    record { part = w.part; is = e; counted = omega (arith, ap breaks e, clear_breaks (w.clear columns_simple)) }
 
 no_stop : (j : Judged) → Stop (number_for j) → ⊥
 no_stop j x = go (number_for j) (below j) x
   where
     below : (j : Judged) → (number_for j ≡ 1 → ⊥) × (number_for j ≡ 7 → ⊥)
-    below (Accepted e) = ((λ e. omega arith), (λ e. omega arith))
-    below Quoting = ((λ e. omega arith), (λ e. omega arith))
-    below Count = ((λ e. omega arith), (λ e. omega arith))
-    below Kind = ((λ e. omega arith), (λ e. omega arith))
-    below Presence = ((λ e. omega arith), (λ e. omega arith))
-    below Contents = ((λ e. omega arith), (λ e. omega arith))
+    below (Ok e) = ((λ e. omega arith), (λ e. omega arith))
+    below (Err Quoting) = ((λ e. omega arith), (λ e. omega arith))
+    below (Err Count) = ((λ e. omega arith), (λ e. omega arith))
+    below (Err Kind) = ((λ e. omega arith), (λ e. omega arith))
+    below (Err Presence) = ((λ e. omega arith), (λ e. omega arith))
+    below (Err Contents) = ((λ e. omega arith), (λ e. omega arith))
 
     go : (m : ℕ) → (m ≡ 1 → ⊥) × (m ≡ 7 → ⊥) → Stop m → ⊥
     go m n Stop.at_header = n.0 refl

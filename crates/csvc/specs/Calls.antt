@@ -1,6 +1,6 @@
 -- What the calls answer, and what they leave in the output.
 -- Assumes nothing.
-use Rattle.std.specs.Prelude.{◌≡◌, List, ℕ, ◌+◌, ◌-◌, ◌^◌, ◌≤◌, ◌<◌, leb, length, take, drop, replicate}
+use Rattle.std.specs.Prelude.{◌≡◌, List, ℕ, ◌+◌, ◌-◌, ◌^◌, ◌≤◌, ◌<◌, leb, length, take, drop, replicate, Ok, Err}
 use Rattle.basis.specs.Pick.{pick}
 use Rattle.output.specs.Put.{put}
 use Rattle.entry.specs.declared.Entry.{Entry}
@@ -10,8 +10,8 @@ use Rattle.csv_field.specs.Grammar.{Parts}
 use Rattle.csv_field.specs.Marks.{breaks, is_ended}
 use Rattle.csv_words.specs.Words.{columns}
 use Rattle.csv_entry.specs.Fields.{line_of, header_line}
-use Rattle.csv_entry.specs.declared.Judged.{Judged}
-use Rattle.csv_entry.specs.declared.Judged.TheVariants.{Accepted, Quoting, Count, Kind, Presence, Contents}
+use Rattle.csv_entry.specs.Judged.{Judged}
+use Rattle.csv_entry.specs.declared.Reason.TheVariants.{Quoting, Count, Kind, Presence, Contents}
 use Rattle.csv_line.specs.Reading.{ReadsLine}
 use Rattle.csvc.specs.declared.Told.{Told}
 use Rattle.csvc.specs.declared.Read.{Read}
@@ -43,20 +43,16 @@ zeros = replicate 16 0
 
 -- the reason's number, and the record's bytes
 abbrev pub number_for : Judged → ℕ
-number_for (Accepted e) = 0
-number_for Quoting = 2
-number_for Count = 3
-number_for Kind = 4
-number_for Presence = 5
-number_for Contents = 6
+number_for (Ok e) = 0
+number_for (Err Quoting) = 2
+number_for (Err Count) = 3
+number_for (Err Kind) = 4
+number_for (Err Presence) = 5
+number_for (Err Contents) = 6
 
 abbrev pub bytes_for : Judged → List ℕ
-bytes_for (Accepted e) = bytes_of e
-bytes_for Quoting = zeros
-bytes_for Count = zeros
-bytes_for Kind = zeros
-bytes_for Presence = zeros
-bytes_for Contents = zeros
+bytes_for (Ok e) = bytes_of e
+bytes_for (Err r) = zeros
 
 -- no line: the text's end, a wrong header
 abbrev pub nothing_read : List ℕ → ℕ → ℕ → Read

@@ -4,7 +4,7 @@ use Rattle.std.specs.Prelude.{◌≡◌, List, [], ◌∷◌, ℕ, ◌+◌, ◌�
 use Rattle.csv_field.specs.Grammar.{Parts}
 use Rattle.csv_field.specs.Marks.{breaks}
 use Rattle.csv_words.specs.Words.{columns}
-use Rattle.csv_entry.specs.declared.Judged.{Judged}
+use Rattle.csv_entry.specs.Judged.{Judged}
 use Rattle.csv_line.specs.Reading.{Answers, wrong_header, lines}
 use Rattle.csvc.specs.Calls.{number_for, bytes_for, Reads}
 use Rattle.csvc.specs.declared.Read.{Read}

@@ -2,9 +2,10 @@
 #![tactic(auto)]
 
 ghost use Rattle.std.specs.Prelude.{◌≡◌, ℕ, ◌≤◌, length};
-ghost use Rattle.csvc.specs.Calls.{added, line_behind, number_for, bytes_for, zeros, Heads, Writes, ReadsOn, ReadsFirst, Reads};
+ghost use Rattle.csvc.specs.Calls.{added, line_behind, number_for, bytes_for, Heads, Writes, ReadsOn, ReadsFirst, Reads};
 
-use csv_entry::Judged;
+use csv_entry::Reason;
+use entry::Entry;
 
 // How many bytes the header needs.
 const HEADER: usize = 73;
@@ -50,11 +51,7 @@ fn sixteen(given: &[u8]) -> entry::Packed
     ensures { result.bytes ≡ given.now }
 {
     let mut bytes = [0u8; 16];
-    let mut i = 0;
-    while i < 16 {
-        bytes[i] = given[i];
-        i += 1;
-    }
+    bytes.copy_from_slice(given);
     entry::Packed { bytes }
 }
 
@@ -100,12 +97,7 @@ pub fn rsmp_csv_line(bytes: &[u8], out: &mut [u8]) -> Told
 fn add(line: u64, n: u64) -> u64
     ensures { result ≡ added line n }
 {
-    let room = 0xffff_ffff_ffff_ffff - line;
-    if n <= room {
-        line + n
-    } else {
-        0xffff_ffff_ffff_ffff
-    }
+    line.saturating_add(n)
 }
 
 // The number of the line behind t, which is from its beginning on of line `line`.
@@ -121,35 +113,25 @@ fn line_behind(t: &[u8], line: u64) -> u64
     }
 }
 
-fn number(j: Judged) -> u64
+fn number(j: Result<Entry, Reason>) -> u64
     ensures { result ≡ number_for j }
 {
     match j {
-        Judged::Accepted(_) => 0,
-        Judged::Quoting => 2,
-        Judged::Count => 3,
-        Judged::Kind => 4,
-        Judged::Presence => 5,
-        Judged::Contents => 6,
+        Ok(_) => 0,
+        Err(Reason::Quoting) => 2,
+        Err(Reason::Count) => 3,
+        Err(Reason::Kind) => 4,
+        Err(Reason::Presence) => 5,
+        Err(Reason::Contents) => 6,
     }
 }
 
-fn nothing() -> entry::Packed
-    ensures { result.bytes ≡ zeros }
-{
-    entry::Packed { bytes: [0u8; 16] }
-}
-
-fn packed(j: Judged) -> entry::Packed
+fn packed(j: Result<Entry, Reason>) -> entry::Packed
     ensures { result.bytes ≡ bytes_for j }
 {
     match j {
-        Judged::Accepted(e) => entry::pack(e),
-        Judged::Quoting => nothing(),
-        Judged::Count => nothing(),
-        Judged::Kind => nothing(),
-        Judged::Presence => nothing(),
-        Judged::Contents => nothing(),
+        Ok(e) => entry::pack(e),
+        Err(_) => entry::Packed { bytes: [0u8; 16] },
     }
 }
 
@@ -167,7 +149,7 @@ fn read_on(text: &[u8], at: usize, line: u64) -> Read
         };
     }
     let l = csv_field::take_line(text, at);
-    let j = csv_line::judge_line(text, at, l);
+    let j = csv_line::judge_line(l);
     let end = l.next;
     let behind = line_behind(&text[at..end], line);
     let p = packed(j);
@@ -186,7 +168,7 @@ fn read_first(text: &[u8]) -> Read
     ensures { ReadsFirst text.now result }
 {
     let l = csv_field::take_line(text, 0);
-    if csv_line::is_header(text, l) {
+    if csv_line::is_header(l) {
         return read_on(text, l.next, 2);
     }
     Read {

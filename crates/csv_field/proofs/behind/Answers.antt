@@ -1,4 +1,4 @@
-use Rattle.basis.proofs.Std.{◌∙◌, sym, arith, rules}
+use Rattle.basis.proofs.Std.{◌∙◌, sym, arith}
 use Rattle.csv_field.proofs.Marks.{break_in}
 use Rattle.csv_field.proofs.behind.Goals as goal
 

@@ -1,4 +1,4 @@
-use Rattle.basis.proofs.Std.{sym, lt-ltb, le-ltb, rules}
+use Rattle.basis.proofs.Std.{sym, lt-ltb, le-ltb}
 use Rattle.csv_field.specs.Places.{noted}
 use Rattle.csv_field.proofs.note.Goals as goal
 

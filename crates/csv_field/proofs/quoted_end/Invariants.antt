@@ -1,7 +1,5 @@
-use Rattle.basis.proofs.Std.{◌-◌, ◌+◌, ◌≡◌, refl, ◌∙◌, sym, false, arith, rules, length, drop}
+use Rattle.basis.proofs.Std.{◌-◌, ◌+◌, ◌≡◌, false, length, drop}
 use Rattle.csv_field.specs.Marks.{quoted_run}
-use Rattle.csv_field.proofs.Marks.{quote_in}
-use Rattle.csv_field.proofs.Runs.{quoted_past, quoted_on, quoted_close, quoted_twice}
 use Rattle.csv_field.proofs.quoted_end.Given as goal
 
 abbrev pub invariant-loop-i : goal.invariant-loop-i

@@ -1,10 +1,7 @@
-use Rattle.basis.proofs.Std.{ℕ, ◌-◌, ◌≤◌, ◌<◌, ◌≡◌}
-use Rattle.csv_words.specs.Words.{column_word}
-use Rattle.csv_entry.specs.Raws.{raw_at}
+use Rattle.basis.proofs.Std.{ℕ, ◌<◌, ◌≡◌, [], get_or}
+use Rattle.csv_field.specs.Places.{texts_of}
+use Rattle.csv_words.specs.Words.{columns}
 use Rattle.csv_line.proofs.are_columns.Given as goal
 
 abbrev pub invariant-loop-j : goal.invariant-loop-j
-invariant-loop-j l = (l.j ≤ 12) × ((i : ℕ) → i < l.j → raw_at l.s l.n i ≡ column_word i)
-
-abbrev pub decreases-loop-j : goal.decreases-loop-j
-decreases-loop-j l = 12 - l.j
+invariant-loop-j l = (i : ℕ) → i < l.j → get_or (texts_of l.texts) i [] ≡ get_or columns i []

@@ -1,22 +1,16 @@
-use Rattle.basis.proofs.Std.{drop, rules}
-use Rattle.csv_line.proofs.Taken.{good_line, twelve_within, twelve_judged, not_twelve, bad_quoting}
+use Rattle.basis.proofs.Std.{◌≡◌, sym, ◌∙◌, rules}
+use Rattle.std.specs.Prelude.{Err}
+use Rattle.csv_entry.specs.declared.Reason.TheVariants.{Quoting}
+use Rattle.csv_line.proofs.Taken.{line_judged, line_counted, line_spoilt}
 use Rattle.csv_line.proofs.judge_line.Goals as goal
 
-pub judge-requires : goal.judge-requires
-judge-requires c =
-    let g = good_line (drop c.args.at c.args.s.now) c.requires c.if-l.true in
-    let w = twelve_within g c.if-n-eq12.true in
-    search rules
+pub returns-in_err-n : goal.returns-in_err-n
+returns-in_err-n c =
+    let is : c.from_residual.result ≡ Err Quoting = search rules in
+    rw is (line_spoilt (sym c.ok_or.ensures.value ∙ c.in_err-n.was))
 
-pub returns-then-n-eq12 : goal.returns-then-n-eq12
-returns-then-n-eq12 c =
-    let g = good_line (drop c.args.at c.args.s.now) c.requires c.if-l.true in
-    twelve_judged g c.if-n-eq12.true c.judge.ensures
-
-pub returns-then-l : goal.returns-then-l
-returns-then-l c =
-    let g = good_line (drop c.args.at c.args.s.now) c.requires c.if-l.true in
-    not_twelve g c.if-n-eq12.false
+pub returns-then-n-ne12 : goal.returns-then-n-ne12
+returns-then-n-ne12 c = line_counted (sym c.ok_or.ensures.value ∙ c.in_ok-n.was) c.if-n-ne12.true
 
 pub returns : goal.returns
-returns c = bad_quoting (drop c.args.at c.args.s.now) c.requires c.if-l.false
+returns c = line_judged (sym c.ok_or.ensures.value ∙ c.in_ok-n.was) c.if-n-ne12.false c.judge.ensures

@@ -1,5 +1,6 @@
 use Rattle.basis.proofs.Std.{rules}
 use Rattle.csvc.specs.Calls.{ReadsOn}
+use Rattle.csv_line.proofs.Taken.{line_reads}
 use Rattle.csvc.proofs.Answers.{ordered}
 use Rattle.csvc.proofs.read_on.Goals as goal
 
@@ -18,4 +19,4 @@ slice_bounds-line_behind-end c = let h = (ordered c.take_line-l.ensures).1 in se
 pub returns : goal.returns
 returns c =
     let h = ordered c.take_line-l.ensures in
-    rw (c.number.ensures, c.packed-p.ensures, c.line_behind-behind.ensures) (ReadsOn.goes_on_lem _ c.if-text-at.false h.0 h.1 c.judge_line-j.ensures)
+    rw (c.number.ensures, c.packed-p.ensures, c.line_behind-behind.ensures) (ReadsOn.goes_on_lem _ c.if-text-at.false h.0 h.1 (line_reads _ c.take_line-l.ensures c.judge_line-j.ensures))

@@ -1,23 +1,23 @@
-use Rattle.basis.proofs.Std.{arith}
 use Rattle.csv_entry.specs.Guess.{guess_of}
-use Rattle.csv_entry.proofs.Twelve.{raw_at_lem}
+use Rattle.csv_entry.proofs.Twelve.{text_at}
 use Rattle.csv_entry.proofs.guess.guess.Goals as goal
 
 pub returns : goal.returns
 unfolding guess_of
 returns c =
+    let ts = c.args.texts.now in
     rw (
       c.flags.ensures,
       c.below_16-2.ensures,
       c.below_16.ensures,
       c.below_32.ensures,
       c.value.ensures,
-      c.number_at.ensures,
-      c.number_at-sequence.ensures,
-      c.number_at-item.ensures,
-      c.number_at-link.ensures,
-      raw_at_lem c.args.s.now c.args.n 0 (omega arith),
-      raw_at_lem c.args.s.now c.args.n 2 (omega arith),
-      raw_at_lem c.args.s.now c.args.n 9 (omega arith),
-      raw_at_lem c.args.s.now c.args.n 11 (omega arith),
+      c.number-4.ensures,
+      c.number-3.ensures,
+      c.number-2.ensures,
+      c.number.ensures,
+      text_at ts 0,
+      text_at ts 2,
+      text_at ts 9,
+      text_at ts 11,
     )

@@ -1,21 +1,28 @@
-use Rattle.basis.proofs.Std.{ℕ, ◌-◌, ◌≡◌, refl, arith, not_both}
-use Rattle.csv_entry.specs.Raws.{raw_at}
-use Rattle.csv_entry.proofs.Held.{one_more}
+use Rattle.basis.proofs.Std.{List, ℕ, refl, sym, ap, ◌∙◌, [], arith, not_both, get_or, rules}
+use Rattle.std.proofs.Common.{below_more}
+use Rattle.csv_field.specs.Places.{texts_of}
+use Rattle.csv_entry.proofs.Twelve.{text_at, texts_length, twelve_same}
 use Rattle.csv_entry.proofs.judge.agree.Goals as goal
 
-pub loop-j-init : goal.loop-j-init
-loop-j-init c = (omega arith, λ i h. absurd (omega arith))
-
-pub loop-j-smaller : goal.loop-j-smaller
-loop-j-smaller c = omega (arith, c.loop-j-test.true)
+pub returns-then-not-same : goal.returns-then-not-same
+returns-then-not-same c =
+    let j = c.loop-j.j in
+    let h = c.if-not-same.ensures.1 in
+    record {
+      yes = λ q. absurd (not_both q refl);
+      only = λ e. h (sym (text_at c.args.texts.now j) ∙ ap (λ (l : List (List ℕ)). get_or l j []) e ∙ text_at c.args.others.now j);
+    }
 
 pub loop-j-preserved : goal.loop-j-preserved
 loop-j-preserved c =
-    (omega (arith, c.loop-j-test.true), one_more (λ (i : ℕ). raw_at c.args.s.now c.args.n i ≡ raw_at c.args.t.now c.args.m i) c.loop-j.j c.loop-j.invariant.1 (c.agree_at.ensures.yes c.if-agree_at.true))
-
-pub returns-else-agree_at : goal.returns-else-agree_at
-returns-else-agree_at c =
-    record { yes = λ h. absurd (not_both h refl); only = λ h. absurd (not_both (c.agree_at.ensures.only (h c.loop-j.j c.loop-j-test.true)) c.if-agree_at.false) }
+    let j = c.loop-j.j in
+    below_more _ _ c.loop-j.invariant (text_at c.args.texts.now j ∙ c.if-not-same.ensures.0 refl ∙ sym (text_at c.args.others.now j))
 
 pub returns : goal.returns
-returns c = record { yes = λ h i k. c.loop-j.invariant.1 i (omega (arith, c.loop-j-test.false)); only = λ h. refl }
+returns c =
+    let ts = c.args.texts.now in
+    let us = c.args.others.now in
+    record {
+      yes = λ q. twelve_same (texts_of ts) (texts_of us) (texts_length ts ∙ search rules) (texts_length us ∙ search rules) (λ j g. c.loop-j.invariant j (omega (arith, c.loop-j-test.false)));
+      only = λ e. refl;
+    }

@@ -1,9 +1,0 @@
-use Rattle.basis.proofs.Std.{rules}
-use Rattle.csv_field.proofs.Marks.{comma_at, comma_past}
-use Rattle.csv_field.proofs.is_comma.Goals as goal
-
-pub returns-then-at-s : goal.returns-then-at-s
-returns-then-at-s c = comma_at c.args.s.now c.args.at
-
-pub returns-else-at-s : goal.returns-else-at-s
-returns-else-at-s c = comma_past c.args.s.now c.args.at c.if-at-s.false
