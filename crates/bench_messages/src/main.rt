@@ -2,28 +2,15 @@
 // digit of the body says, and writes a number that depends on every turn. bench/messages.py measures it.
 #![tactic(auto)]
 
-ghost use Rattle.std.specs.Prelude.{◌≡◌};
-ghost use Rattle.json_find.specs.Index.{Indexed};
-ghost use Rattle.json_packet.specs.Packet.{is_packet};
-
 use identity::Identity;
 use label::Label;
 use names::reasons;
 use read_head::{Class, Kind};
 use read_lists::Asking;
 use run_feed::Case;
+use run_feed::packet::Packet;
+use std::fmt::Write;
 use write_message::{AlarmState, Value};
-
-// How often the digit says: 0 once, 1 ten times, and so on.
-fn times(digit: u8) -> u32 {
-    match digit {
-        b'0' => 1,
-        b'1' => 10,
-        b'2' => 100,
-        b'3' => 1000,
-        _ => 10000,
-    }
-}
 
 fn order_number(o: read_head::Order) -> u64 {
     match o {
@@ -34,86 +21,30 @@ fn order_number(o: read_head::Order) -> u64 {
     }
 }
 
-fn versions_said(s: &[u8], places: &[usize]) -> u64
-    requires { Indexed s.now places.now }
-{
-    let f = read_lists::read_version(s, places);
-    let o = f.offer;
-    let v = o.versions;
-    v.count as u64
-}
-
-fn time_said(s: &[u8], places: &[usize]) -> u64
-    requires { Indexed s.now places.now }
-{
-    let f = read_head::read_watchdog(s, places);
-    f.time % 1000
-}
-
-fn order_said(s: &[u8], places: &[usize]) -> u64
-    requires { Indexed s.now places.now }
-{
-    let f = read_head::read_alarm(s, places);
-    let o = f.order;
-    order_number(o)
-}
-
-fn component_said(s: &[u8], places: &[usize]) -> u64
-    requires { Indexed s.now places.now }
-{
-    let f = read_head::read_aggregated(s, places);
-    let l = f.label;
-    l.length as u64
-}
-
-fn entries_said(s: &[u8], places: &[usize], asking: Asking) -> u64
-    requires { Indexed s.now places.now }
-{
-    let f = read_lists::read_status(s, places, asking);
-    f.count as u64
-}
-
-fn commands_said(s: &[u8], places: &[usize]) -> u64
-    requires { Indexed s.now places.now }
-{
-    let f = read_commands::read_command(s, places);
-    f.count as u64
-}
-
-fn said_by(s: &[u8], places: &[usize], k: Kind) -> u64
-    requires { Indexed s.now places.now }
-{
+fn said_by(p: Packet<'_>, k: Kind) -> u64 {
+    let entries_said = |asking| read_lists::read_status(p.s, p.places, asking).count as u64;
     match k {
-        Kind::Version => versions_said(s, places),
-        Kind::Watchdog => time_said(s, places),
-        Kind::Alarm => order_said(s, places),
-        Kind::AggregatedStatusRequest => component_said(s, places),
-        Kind::StatusRequest => entries_said(s, places, Asking::Plain),
-        Kind::StatusSubscribe => entries_said(s, places, Asking::Full),
-        Kind::StatusUnsubscribe => entries_said(s, places, Asking::Plain),
-        Kind::CommandRequest => commands_said(s, places),
+        Kind::Version => read_lists::read_version(p.s, p.places).offer.versions.count as u64,
+        Kind::Watchdog => read_head::read_watchdog(p.s, p.places).time % 1000,
+        Kind::Alarm => order_number(read_head::read_alarm(p.s, p.places).order),
+        Kind::AggregatedStatusRequest => {
+            read_head::read_aggregated(p.s, p.places).label.length as u64
+        }
+        Kind::StatusRequest => entries_said(Asking::Plain),
+        Kind::StatusSubscribe => entries_said(Asking::Full),
+        Kind::StatusUnsubscribe => entries_said(Asking::Plain),
+        Kind::CommandRequest => read_commands::read_command(p.s, p.places).count as u64,
         Kind::Unexpected => 0,
     }
 }
 
-fn judged(s: &[u8], places: &[usize], packet: bool) -> u64
-    requires { (packet ≡ is_packet s.now) × Indexed s.now places.now }
-{
-    let h = read_head::read_head(s, places, packet);
-    let c = h.class;
-    match c {
+fn judged(p: Packet<'_>) -> u64 {
+    match read_head::read_head(p.s, p.places, p.is_packet).class {
         Class::Ignored => 0,
         Class::Acked => 1,
         Class::NotAcked => 2,
-        Class::Asked(_, k) => said_by(s, places, k),
+        Class::Asked(_, k) => said_by(p, k),
     }
-}
-
-fn read_once(s: &[u8]) -> u64 {
-    let mut places = [0usize; 32];
-    let j = json_packet::judge(s, json_packet::FIXED_KEY, &mut places);
-    let n = j.count;
-    judged(s, &places[0..n], j.packet)
 }
 
 fn id_of(n: u32) -> Identity {
@@ -194,58 +125,36 @@ fn sum(total: u64, more: u64) -> u64 {
     (total % 1000000007 + more % 1000000007) % 1000000007
 }
 
-fn reading(s: &[u8], often: u32) -> u64 {
-    let mut total: u64 = 0;
-    let mut left = often;
-    while 0 < left {
-        total = sum(total, read_once(s));
-        left -= 1;
+// The sum of what each turn gives; turns are counted down to 1.
+fn total<F: FnMut(u32) -> u64>(often: u32, mut turn: F) -> u64
+    requires { F.IsAlwaysCallable turn }
+{
+    let mut total = 0;
+    for n in (1..=often).rev() {
+        total = sum(total, turn(n));
     }
     total
 }
 
-fn writing(out: &mut [u8], message: u8, often: u32) -> u64 {
-    let mut total: u64 = 0;
-    let mut left = often;
-    while 0 < left {
-        total = sum(total, write_once(out, message, left) as u64);
-        left -= 1;
-    }
-    total
-}
-
-fn measured(kind: u8, body: &[u8]) -> u64 {
-    if body.len() < 2 {
+// The letter of a case's kind is read here alone, so no enum stands between it and what is measured.
+fn measured(case: Case<'_>) -> u64 {
+    let [digit, rest @ ..] = case.body() else {
         return 0;
-    }
-    let often = times(body[0]);
-    if kind == b'r' {
-        reading(&body[1..], often)
+    };
+    let Some(message) = rest.first() else {
+        return 0;
+    };
+    let often = run_feed::times(*digit);
+    if case.kind == b'r' {
+        total(often, |_| judged(Packet::judge(rest, &mut [0; 32])))
     } else {
         let mut out = [0u8; 4096];
-        writing(&mut out, body[1], often)
-    }
-}
-
-// Takes one case; whether there was one.
-fn turn() -> bool {
-    let mut body = [0u8; 8192];
-    let mut line = [0u8; 64];
-    match run_feed::next(&mut body) {
-        Case::Body(kind, n) => {
-            if body.len() < n {
-                return false;
-            }
-            let end = number::put_decimal(&mut line, 0, measured(kind, &body[0..n]));
-            run_feed::say(&line, end)
-        }
-        Case::End => false,
+        total(often, |n| write_once(&mut out, *message, n) as u64)
     }
 }
 
 fn main() {
-    let mut turns = u64::MAX;
-    while turns > 0 && turn() {
-        turns -= 1;
-    }
+    run_feed::answer_each(&mut [0; 8192], &mut [0; 64], |case, line| {
+        write!(line, "{}", measured(case))
+    });
 }

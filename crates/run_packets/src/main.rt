@@ -1,185 +1,139 @@
 // Reads packets from standard input and writes what each means on a line, or `-` where it is none; tests/packets.py makes the
 // packets and the lines. The first part of a line walks the tokens, the second looks up the members of the packet's object.
+// Where a walk goes on is what a reader answers, so each is bounded by the bytes that it can have steps at.
 #![tactic(auto)]
 
 use json_character::Char;
 use json_text::Read;
-use run_feed::Case;
+use run_feed::Line;
+use std::fmt;
+use std::fmt::Write;
 
-#[derive(Clone, Copy)]
-struct Walk {
-    next: usize,
-    end: usize,
-}
+// The place behind a token or a string that was put.
+type Walked = Result<usize, fmt::Error>;
 
-// One code point in hexadecimal, with a point before all but the first.
-fn put_point(line: &mut [u8], at: usize, first: bool, point: u32) -> usize {
-    let mut digits = [0u8; 16];
-    let n = io::hex(point as u64, 1, &mut digits);
-    if first {
-        output::put_bytes(line, at, &digits[..n])
-    } else {
-        let end = output::put_bytes(line, at, b".");
-        output::put_bytes(line, end, &digits[..n])
-    }
-}
-
-// The code points of the string whose characters begin at i, up to its end.
-fn put_string(s: &[u8], i: usize, line: &mut [u8], at: usize) -> Walk {
-    let mut next = i;
-    let mut end = at;
-    let mut left = s.len();
-    while 0 < left {
-        left -= 1;
+// The code points of the string whose characters begin at a place, in hexadecimal, with points between.
+fn put_string(line: &mut Line<'_>, s: &[u8], first: usize) -> Walked {
+    let mut next = first;
+    for _ in 0..s.len() {
         match json_character::step(s, next) {
             Char::One(point, width) => {
-                end = put_point(line, end, next == i, point);
+                if next != first {
+                    line.write_str(".")?;
+                }
+                write!(line, "{point:x}")?;
                 next = forward(next, width);
             }
-            Char::Close => return Walk {
-                next: forward(next, 0),
-                end,
-            },
-            Char::Bad => left = 0,
+            Char::Close => return Ok(forward(next, 0)),
+            Char::Bad => break,
         }
     }
-    Walk { next, end }
+    Ok(next)
 }
 
 fn forward(at: usize, width: usize) -> usize {
-    if at < 10000 {
-        if width < 100 {
-            return at + 1 + width;
-        }
+    if at < 10000 && width < 100 {
+        at + 1 + width
+    } else {
+        10000
     }
-    10000
 }
 
-fn put_number(s: &[u8], i: usize, line: &mut [u8], at: usize) -> Walk {
+fn put_number(line: &mut Line<'_>, s: &[u8], i: usize) -> Walked {
     match json_number::number(s, i) {
         Read::End(e) => {
-            let end = output::put_bytes(line, at, b"#");
-            if e <= s.len() {
-                if i <= e {
-                    return Walk {
-                        next: e,
-                        end: output::put_bytes(line, end, &s[i..e]),
-                    };
-                }
+            line.write_str("#")?;
+            if let Some(text) = s.get(i..e) {
+                line.put_bytes(text)?;
             }
-            Walk { next: e, end }
+            Ok(e)
         }
-        Read::Bad => Walk {
-            next: s.len(),
-            end: output::put_bytes(line, at, b"?"),
-        },
+        Read::Bad => {
+            line.write_str("?")?;
+            Ok(s.len())
+        }
     }
 }
 
-fn put_text(s: &[u8], i: usize, line: &mut [u8], at: usize) -> Walk {
-    let end = output::put_bytes(line, at, b"\"");
-    put_string(s, forward(i, 0), line, end)
+fn put_text(line: &mut Line<'_>, s: &[u8], i: usize) -> Walked {
+    line.write_str("\"")?;
+    put_string(line, s, forward(i, 0))
 }
 
-fn put_word(line: &mut [u8], at: usize, b: u8, next: usize) -> Walk {
-    Walk {
-        next,
-        end: output::put_bytes(line, at, &[b]),
-    }
-}
-
-fn is_number(b: u8) -> bool {
-    if b == b'-' {
-        return true;
-    }
-    b'0' <= b && b <= b'9'
+fn put_word(line: &mut Line<'_>, b: u8, next: usize) -> Walked {
+    line.put_bytes(&[b])?;
+    Ok(next)
 }
 
 // The token at i; a bracket, a brace, a comma and a colon are themselves.
-fn put_token(s: &[u8], i: usize, line: &mut [u8], at: usize) -> Walk {
-    if s.len() <= i {
-        return Walk { next: i, end: at };
-    }
-    let b = s[i];
-    if is_number(b) {
-        return put_number(s, i, line, at);
-    }
+fn put_token(line: &mut Line<'_>, s: &[u8], i: usize, b: u8) -> Walked {
     match b {
-        b'"' => put_text(s, i, line, at),
-        b'n' => put_word(line, at, b, forward(i, 3)),
-        b't' => put_word(line, at, b, forward(i, 3)),
-        b'f' => put_word(line, at, b, forward(i, 4)),
-        _ => put_word(line, at, b, forward(i, 0)),
+        b'-' | b'0'..=b'9' => put_number(line, s, i),
+        b'"' => put_text(line, s, i),
+        b'n' | b't' => put_word(line, b, forward(i, 3)),
+        b'f' => put_word(line, b, forward(i, 4)),
+        _ => put_word(line, b, forward(i, 0)),
     }
 }
 
-fn put_tokens(s: &[u8], line: &mut [u8]) -> usize {
+fn put_tokens(line: &mut Line<'_>, s: &[u8]) -> fmt::Result {
     let mut next = json_value::space(s, 0);
-    let mut end = 0;
-    let mut left = s.len();
-    while 0 < left {
-        left -= 1;
-        if next < s.len() {
-            let w = put_token(s, next, line, end);
-            next = json_value::space(s, w.next);
-            end = w.end;
-        }
+    for _ in 0..s.len() {
+        let Some(b) = s.get(next) else { break };
+        next = json_value::space(s, put_token(line, s, next, *b)?);
     }
-    end
+    Ok(())
 }
 
 // The kind of the value at a place, by its first byte.
 fn letter(s: &[u8], at: usize) -> u8 {
-    if s.len() <= at {
-        return b'?';
-    }
-    let b = s[at];
-    if is_number(b) {
-        return b'#';
-    }
-    match b {
-        b't' => b'b',
-        b'f' => b'b',
-        _ => b,
+    match s.get(at) {
+        None => b'?',
+        Some(b'-' | b'0'..=b'9') => b'#',
+        Some(b't' | b'f') => b'b',
+        Some(b) => *b,
     }
 }
 
-fn put_kind(s: &[u8], place: Read, line: &mut [u8], at: usize) -> usize {
+fn put_kind(line: &mut Line<'_>, s: &[u8], place: Read) -> fmt::Result {
     match place {
-        Read::End(p) => output::put_bytes(line, at, &[letter(s, p)]),
-        Read::Bad => output::put_bytes(line, at, b"!"),
+        Read::End(p) => line.put_bytes(&[letter(s, p)]),
+        Read::Bad => line.write_str("!"),
     }
 }
 
-// The kinds of an element and of those behind it.
-fn put_elements(s: &[u8], first: usize, line: &mut [u8], at: usize) -> usize {
+// Puts the entry of an object or an array that begins at a place, and each behind it.
+fn put_each<F>(line: &mut Line<'_>, s: &[u8], first: usize, close: u8, put: F) -> fmt::Result
+where
+    F: Fn(&mut Line<'_>, usize) -> fmt::Result,
+    requires { F.IsAlwaysCallable put }
+{
     let mut i = first;
-    let mut end = at;
-    let mut left = s.len();
-    while 0 < left {
-        left -= 1;
-        end = put_kind(s, json_value::start(s, i, b']'), line, end);
-        match json_find::step(s, i, b']') {
+    for _ in 0..s.len() {
+        put(line, i)?;
+        match json_find::step(s, i, close) {
             Read::End(e) => i = e,
-            Read::Bad => left = 0,
+            Read::Bad => break,
         }
     }
-    end
+    Ok(())
 }
 
 // The kinds of the elements of an array at a place; of no other value.
-fn put_array(s: &[u8], array: usize, line: &mut [u8], at: usize) -> usize {
+fn put_array(line: &mut Line<'_>, s: &[u8], array: usize) -> fmt::Result {
     match json_find::inside(s, array, b'[', b']') {
-        Read::End(i) => put_elements(s, i, line, at),
-        Read::Bad => at,
+        Read::End(first) => put_each(line, s, first, b']', |line, i| {
+            put_kind(line, s, json_value::start(s, i, b']'))
+        }),
+        Read::Bad => Ok(()),
     }
 }
 
-fn put_value(s: &[u8], place: Read, line: &mut [u8], at: usize) -> usize {
-    let end = put_kind(s, place, line, at);
+fn put_value(line: &mut Line<'_>, s: &[u8], place: Read) -> fmt::Result {
+    put_kind(line, s, place)?;
     match place {
-        Read::End(p) => put_array(s, p, line, end),
-        Read::Bad => end,
+        Read::End(p) => put_array(line, s, p),
+        Read::Bad => Ok(()),
     }
 }
 
@@ -195,90 +149,57 @@ fn agree(a: Read, b: Read) -> bool {
 
 // The value of the member whose name is the first n bytes.
 fn looked_up(s: &[u8], object: usize, bytes: &[u8], n: usize) -> Read {
-    if n <= bytes.len() {
-        json_find::member(s, object, &bytes[0..n])
-    } else {
-        Read::Bad
+    match bytes.get(..n) {
+        Some(name) => json_find::member(s, object, name),
+        None => Read::Bad,
     }
 }
 
 // Whether looking a name up finds the value that stands behind it: = it does, ! it does not, ~ the name is too long for a fixed one.
-fn found(s: &[u8], object: usize, name: usize, value: Read) -> u8 {
+fn found(s: &[u8], object: usize, name: usize, value: Read) -> char {
     let c = json_text::copy_text(s, forward(name, 0), 36);
-    let bytes = c.bytes;
-    if c.ok {
-        if agree(looked_up(s, object, &bytes, c.length), value) {
-            return b'=';
-        }
-        return b'!';
+    if !c.ok {
+        '~'
+    } else if agree(looked_up(s, object, &c.bytes, c.length), value) {
+        '='
+    } else {
+        '!'
     }
-    b'~'
 }
 
 // The member at a place of an object.
-fn put_member(s: &[u8], object: usize, i: usize, line: &mut [u8], at: usize) -> usize {
+fn put_member(line: &mut Line<'_>, s: &[u8], object: usize, i: usize) -> fmt::Result {
     let value = json_value::start(s, i, b'}');
-    let end = output::put_bytes(line, at, b" ");
-    let end = output::put_bytes(
-        line,
-        end,
-        &[found(s, object, json_value::space(s, i), value)],
-    );
-    put_value(s, value, line, end)
+    let found = found(s, object, json_value::space(s, i), value);
+    write!(line, " {found}")?;
+    put_value(line, s, value)
 }
 
-// A member and those behind it.
-fn put_members(s: &[u8], object: usize, first: usize, line: &mut [u8], at: usize) -> usize {
-    let mut i = first;
-    let mut end = at;
-    let mut left = s.len();
-    while 0 < left {
-        left -= 1;
-        end = put_member(s, object, i, line, end);
-        match json_find::step(s, i, b'}') {
-            Read::End(e) => i = e,
-            Read::Bad => left = 0,
-        }
-    }
-    end
-}
-
-fn put_object(s: &[u8], line: &mut [u8], at: usize) -> usize {
+fn put_object(line: &mut Line<'_>, s: &[u8]) -> fmt::Result {
     let object = json_value::space(s, 0);
     match json_find::inside(s, object, b'{', b'}') {
-        Read::End(i) => put_members(s, object, i, line, at),
-        Read::Bad => at,
+        Read::End(first) => put_each(
+            line,
+            s,
+            first,
+            b'}',
+            |line, i| put_member(line, s, object, i),
+        ),
+        Read::Bad => Ok(()),
     }
 }
 
-fn put_meaning(s: &[u8], line: &mut [u8]) -> usize {
+fn put_meaning(line: &mut Line<'_>, s: &[u8]) -> fmt::Result {
     if json_packet::is_packet(s) {
-        let end = put_tokens(s, line);
-        put_object(s, line, end)
+        put_tokens(line, s)?;
+        put_object(line, s)
     } else {
-        output::put_bytes(line, 0, b"-")
-    }
-}
-
-// Takes one case; whether there was one.
-fn turn() -> bool {
-    let mut body = [0u8; 8192];
-    let mut line = io::large_buffer();
-    match run_feed::next(&mut body) {
-        Case::Body(_, n) => {
-            if body.len() < n {
-                return false;
-            }
-            let end = put_meaning(&body[0..n], &mut line);
-            run_feed::say(&line, end)
-        }
-        Case::End => false,
+        line.write_str("-")
     }
 }
 
 fn main() {
-    let mut turns = u64::MAX;
-    while turns > 0 && turn() {
-        turns -= 1;
-    }
+    run_feed::answer_each(&mut [0; 8192], &mut [0; 65536], |case, line| {
+        put_meaning(line, case.body())
+    });
 }

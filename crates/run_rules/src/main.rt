@@ -5,8 +5,10 @@
 use aggregated::Aggregated;
 use alarm::{Alarm, Order};
 use entry::Entry;
-use run_feed::Case;
+use run_feed::{Case, Fields, Hex, Line};
 use status::Status;
+use std::fmt;
+use std::fmt::Write;
 use subscription::Subscription;
 
 #[derive(Clone, Copy)]
@@ -15,6 +17,42 @@ struct Rules {
     status: Status,
     subscription: Subscription,
     aggregated: Aggregated,
+}
+
+// What a case asks for: an act on a part of the rules, or a look at it.
+#[derive(Clone, Copy)]
+enum Act {
+    Begin,
+    Input,
+    Order(Order),
+    SeeAlarm,
+    Value,
+    Tick,
+    Subscribe,
+    Unsubscribe,
+    SeeStatus,
+    Aggregate,
+    SeeAggregated,
+}
+
+impl From<u8> for Act {
+    fn from(kind: u8) -> Act {
+        match kind {
+            b'0' => Act::Begin,
+            b'i' => Act::Input,
+            b'k' => Act::Order(Order::Acknowledge),
+            b's' => Act::Order(Order::Suspend),
+            b'r' => Act::Order(Order::Resume),
+            b'A' => Act::SeeAlarm,
+            b'v' => Act::Value,
+            b't' => Act::Tick,
+            b'b' => Act::Subscribe,
+            b'e' => Act::Unsubscribe,
+            b'g' => Act::Aggregate,
+            b'G' => Act::SeeAggregated,
+            _ => Act::SeeStatus,
+        }
+    }
 }
 
 // What an act is given: the value is a status', or uRt in seconds.
@@ -27,198 +65,130 @@ struct Given {
     byte: u8,
 }
 
-// The rules after an act, whether it changed anything (or the subscription is there), and whether it makes a record.
+// Time 8 bytes, value 4, link and number 2 each, one more byte.
+impl From<Case<'_>> for Given {
+    fn from(case: Case<'_>) -> Given {
+        let f = Fields::<40>::of(case.bytes);
+        Given {
+            time: f.wide(0),
+            value: f.long(8),
+            link: f.short(12),
+            number: f.short(14),
+            byte: f.byte(16),
+        }
+    }
+}
+
+// Whether an act changed anything (or the subscription is there), and whether it makes a record.
 #[derive(Clone, Copy)]
 struct Outcome {
-    rules: Rules,
     happened: bool,
     issues: bool,
 }
 
-#[derive(Clone, Copy)]
-struct Turn {
-    rules: Rules,
-    more: bool,
-}
+const UNCHANGED: Outcome = Outcome {
+    happened: false,
+    issues: false,
+};
 
-// Time 8 bytes, value 4, link and number 2 each, one more byte.
-fn given_in(body: &[u8]) -> Given {
-    let b = run_feed::forty(body);
-    Given {
-        time: run_feed::wide(b, 0),
-        value: run_feed::long(b, 8),
-        link: run_feed::short(b, 12),
-        number: run_feed::short(b, 14),
-        byte: b[16],
-    }
-}
-
-fn begin(time: u64) -> Rules {
-    Rules {
-        alarm: Alarm::begin(time),
-        status: Status::unknown(),
-        subscription: Subscription::none(),
-        aggregated: Aggregated::begin(time),
-    }
-}
-
-fn unchanged(rules: Rules) -> Outcome {
-    Outcome {
-        rules,
-        happened: false,
-        issues: false,
-    }
-}
-
-fn changed_alarm(kind: u8, g: Given, a: Alarm) -> alarm::Changed {
-    match kind {
-        b'k' => a.order(Order::Acknowledge, g.time),
-        b's' => a.order(Order::Suspend, g.time),
-        b'r' => a.order(Order::Resume, g.time),
-        _ => a.input(g.byte == 1, g.time),
-    }
-}
-
-fn on_alarm(kind: u8, g: Given, rules: Rules) -> Outcome {
-    let before = rules.alarm;
-    let changed = changed_alarm(kind, g, before);
-    let after = changed.alarm;
-    let mut next = rules;
-    next.alarm = after;
-    Outcome {
-        rules: next,
-        happened: changed.happened,
-        issues: changed.records,
-    }
-}
-
-fn on_value(g: Given, rules: Rules) -> Outcome {
-    let before = rules.status;
-    let s = rules.subscription;
-    let set = before.set(number::signed_of(g.value));
-    let after = set.status;
-    let mut next = rules;
-    next.status = after;
-    Outcome {
-        rules: next,
-        happened: set.changed,
-        issues: s.on_value(set.changed),
-    }
-}
-
-fn on_tick(g: Given, rules: Rules) -> Outcome {
-    let before = rules.subscription;
-    let ticked = before.on_tick(g.time);
-    let after = ticked.subscription;
-    let mut next = rules;
-    next.subscription = after;
-    Outcome {
-        rules: next,
-        happened: 0 < before.state,
-        issues: ticked.issues,
-    }
-}
-
-fn with_subscription(s: Subscription, rules: Rules) -> Outcome {
-    let mut next = rules;
-    next.subscription = s;
-    Outcome {
-        rules: next,
-        happened: 0 < s.state,
-        issues: false,
-    }
-}
-
-fn on_aggregated(g: Given, rules: Rules) -> Outcome {
-    let before = rules.aggregated;
-    let set = before.set(g.byte, g.time);
-    let after = set.aggregated;
-    let mut next = rules;
-    next.aggregated = after;
-    Outcome {
-        rules: next,
-        happened: set.changed,
-        issues: set.changed,
-    }
-}
-
-fn is_of_alarm(kind: u8) -> bool {
-    kind == b'i' || kind == b'k' || kind == b's' || kind == b'r'
-}
-
-fn acted(kind: u8, g: Given, rules: Rules) -> Outcome {
-    if is_of_alarm(kind) {
-        return on_alarm(kind, g, rules);
-    }
-    match kind {
-        b'0' => unchanged(begin(g.time)),
-        b'v' => on_value(g, rules),
-        b't' => on_tick(g, rules),
-        b'b' => with_subscription(
-            Subscription::subscribe(g.value, g.byte % 2 == 1, g.time),
-            rules,
-        ),
-        b'e' => with_subscription(Subscription::none(), rules),
-        b'g' => on_aggregated(g, rules),
-        _ => unchanged(rules),
-    }
-}
-
-// The record that the act's part of the rules now has: of the alarm, the aggregated value, or else the status, which is old by the byte's
-// second bit.
-fn entry_of(kind: u8, g: Given, rules: Rules) -> Entry {
-    let alarm = rules.alarm;
-    let status = rules.status;
-    let aggregated = rules.aggregated;
-    if is_of_alarm(kind) || kind == b'A' {
-        return alarm.issued(g.link, g.number);
-    }
-    if kind == b'g' || kind == b'G' {
-        return aggregated.issued(g.link);
-    }
-    status.issued(g.link, g.number, g.time, g.byte / 2 % 2 == 1)
-}
-
-fn put_bool(line: &mut [u8], at: usize, b: bool) -> usize {
-    if b {
-        output::put_bytes(line, at, b"1 ")
-    } else {
-        output::put_bytes(line, at, b"0 ")
-    }
-}
-
-fn put_acted(line: &mut [u8], a: Outcome, e: Entry) -> usize {
-    let packed = entry::pack(e);
-    let bytes = packed.bytes;
-    let end = put_bool(line, 0, a.happened);
-    let end = put_bool(line, end, a.issues);
-    run_feed::put_hex(line, end, &bytes)
-}
-
-fn taken(rules: Rules) -> Turn {
-    let mut body = [0u8; 64];
-    let mut line = [0u8; 64];
-    match run_feed::next(&mut body) {
-        Case::Body(kind, n) => {
-            let g = given_in(&body);
-            let a = acted(kind, g, rules);
-            let next = a.rules;
-            let end = put_acted(&mut line, a, entry_of(kind, g, next));
-            let more = run_feed::say(&line, end);
-            Turn { rules: next, more }
+impl Rules {
+    fn begin(time: u64) -> Rules {
+        Rules {
+            alarm: Alarm::begin(time),
+            status: Status::unknown(),
+            subscription: Subscription::none(),
+            aggregated: Aggregated::begin(time),
         }
-        Case::End => Turn { rules, more: false },
     }
+
+    fn set_alarm(&mut self, changed: alarm::Changed) -> Outcome {
+        self.alarm = changed.alarm;
+        Outcome {
+            happened: changed.happened,
+            issues: changed.records,
+        }
+    }
+
+    fn on_value(&mut self, value: i32) -> Outcome {
+        let set = self.status.set(value);
+        self.status = set.status;
+        Outcome {
+            happened: set.changed,
+            issues: self.subscription.on_value(set.changed),
+        }
+    }
+
+    fn on_tick(&mut self, time: u64) -> Outcome {
+        let before = self.subscription;
+        let ticked = before.on_tick(time);
+        self.subscription = ticked.subscription;
+        Outcome {
+            happened: 0 < before.state,
+            issues: ticked.issues,
+        }
+    }
+
+    fn set_subscription(&mut self, s: Subscription) -> Outcome {
+        self.subscription = s;
+        Outcome {
+            happened: 0 < s.state,
+            issues: false,
+        }
+    }
+
+    fn set_aggregated(&mut self, byte: u8, time: u64) -> Outcome {
+        let set = self.aggregated.set(byte, time);
+        self.aggregated = set.aggregated;
+        Outcome {
+            happened: set.changed,
+            issues: set.changed,
+        }
+    }
+
+    fn act(&mut self, act: Act, g: Given) -> Outcome {
+        match act {
+            Act::Begin => {
+                *self = Rules::begin(g.time);
+                UNCHANGED
+            }
+            Act::Input => self.set_alarm(self.alarm.input(g.byte == 1, g.time)),
+            Act::Order(order) => self.set_alarm(self.alarm.order(order, g.time)),
+            Act::Value => self.on_value(number::signed_of(g.value)),
+            Act::Tick => self.on_tick(g.time),
+            Act::Subscribe => {
+                self.set_subscription(Subscription::subscribe(g.value, g.byte % 2 == 1, g.time))
+            }
+            Act::Unsubscribe => self.set_subscription(Subscription::none()),
+            Act::Aggregate => self.set_aggregated(g.byte, g.time),
+            Act::SeeAlarm | Act::SeeStatus | Act::SeeAggregated => UNCHANGED,
+        }
+    }
+
+    // The record that the act's part now has; the status is old by the byte's second bit.
+    fn entry_of(&self, act: Act, g: Given) -> Entry {
+        match act {
+            Act::Input | Act::Order(_) | Act::SeeAlarm => self.alarm.issued(g.link, g.number),
+            Act::Aggregate | Act::SeeAggregated => self.aggregated.issued(g.link),
+            _ => self
+                .status
+                .issued(g.link, g.number, g.time, g.byte / 2 % 2 == 1),
+        }
+    }
+}
+
+fn put_acted(line: &mut Line<'_>, outcome: Outcome, e: Entry) -> fmt::Result {
+    let packed = entry::pack(e);
+    let happened = u8::from(outcome.happened);
+    let issues = u8::from(outcome.issues);
+    write!(line, "{happened} {issues} {}", Hex(&packed.bytes))
 }
 
 fn main() {
-    let mut rules = begin(0);
-    let mut more = true;
-    let mut turns = u64::MAX;
-    while turns > 0 && more {
-        let t = taken(rules);
-        rules = t.rules;
-        more = t.more;
-        turns -= 1;
-    }
+    let mut rules = Rules::begin(0);
+    run_feed::answer_each(&mut [0; 64], &mut [0; 64], |case, line| {
+        let act = Act::from(case.kind);
+        let g = Given::from(case);
+        let outcome = rules.act(act, g);
+        put_acted(line, outcome, rules.entry_of(act, g))
+    });
 }

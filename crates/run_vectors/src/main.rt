@@ -1,158 +1,124 @@
 // Runs the leaves on cases from standard input and writes a line for each; tests/vectors.py makes the cases and the lines.
 #![tactic(auto)]
 
-use run_feed::Case;
+use identity::Identity;
+use run_feed::{Case, Fields, Hex, Line};
+use std::fmt;
+use std::fmt::Write;
 
-fn refused(line: &mut [u8]) -> usize {
-    output::put_bytes(line, 0, b"-")
+fn refused(line: &mut Line<'_>) -> fmt::Result {
+    line.write_str("-")
 }
 
-fn time_written(body: &[u8], line: &mut [u8]) -> usize {
-    let end = calendar::put_time(line, 0, run_feed::decimal(body));
-    if line.len() < end { refused(line) } else { end }
+fn time_written(body: &[u8], line: &mut Line<'_>) -> fmt::Result {
+    line.put(|out, at| calendar::put_time(out, at, run_feed::decimal(body)))
+        .or_else(|_| refused(line))
 }
 
-fn time_read(body: &[u8], line: &mut [u8]) -> usize {
+fn time_read(body: &[u8], line: &mut Line<'_>) -> fmt::Result {
     match calendar::read_time(body) {
-        calendar::Time::Is(ms, decimals) => {
-            let end = number::put_decimal(line, 0, ms);
-            let end = output::put_bytes(line, end, b" ");
-            number::put_decimal(line, end, decimals as u64)
-        }
+        calendar::Time::Is(ms, decimals) => write!(line, "{ms} {decimals}"),
         calendar::Time::No => refused(line),
     }
 }
 
-fn sixteen(body: &[u8]) -> identity::Identity {
-    let mut bytes = [0u8; 16];
-    run_feed::unhex(body, &mut bytes);
-    identity::Identity { bytes }
+fn identity_in(body: &[u8]) -> Identity {
+    Identity {
+        bytes: run_feed::unhex(body),
+    }
 }
 
-fn identity_read(body: &[u8], line: &mut [u8]) -> usize {
+fn identity_read(body: &[u8], line: &mut Line<'_>) -> fmt::Result {
     let r = identity::read_identity(body);
     if r.found {
-        let id = r.id;
-        let bytes = id.bytes;
-        run_feed::put_hex(line, 0, &bytes)
+        write!(line, "{}", Hex(&r.id.bytes))
     } else {
         refused(line)
     }
 }
 
-fn identity_written(id: identity::Identity, line: &mut [u8]) -> usize {
+fn identity_written(id: Identity, line: &mut Line<'_>) -> fmt::Result {
     let text = identity::identity_text(id);
-    output::put_bytes(line, 0, &text)
+    line.put_bytes(&text)
 }
 
-fn signed_read(body: &[u8], line: &mut [u8]) -> usize {
+fn put_signed(v: i32, line: &mut Line<'_>) -> fmt::Result {
+    line.put(|out, at| number::put_i32(out, at, v))
+}
+
+fn signed_read(body: &[u8], line: &mut Line<'_>) -> fmt::Result {
     match number::read_i32(body) {
         number::Int::Is(v) => {
-            let four = number::four_of(v);
-            let bytes = four.bytes;
-            let end = number::put_i32(line, 0, v);
-            let end = output::put_bytes(line, end, b" ");
-            run_feed::put_hex(line, end, &bytes)
+            put_signed(v, line)?;
+            write!(line, " {}", Hex(&number::four_of(v).bytes))
         }
         number::Int::No => refused(line),
     }
 }
 
-fn signed_written(body: &[u8], line: &mut [u8]) -> usize {
-    let mut bytes = [0u8; 4];
-    run_feed::unhex(body, &mut bytes);
-    number::put_i32(line, 0, number::signed_in(number::Four { bytes }))
+fn signed_written(body: &[u8], line: &mut Line<'_>) -> fmt::Result {
+    let bytes = run_feed::unhex(body);
+    put_signed(number::signed_in(number::Four { bytes }), line)
 }
 
-fn number_read(body: &[u8], limit: u32, line: &mut [u8]) -> usize {
+fn put_number(n: u64, line: &mut Line<'_>) -> fmt::Result {
+    line.put(|out, at| number::put_decimal(out, at, n))
+}
+
+fn number_read(body: &[u8], limit: u32, line: &mut Line<'_>) -> fmt::Result {
     match number::read_decimal(body, limit) {
-        number::Number::Is(n) => number::put_decimal(line, 0, n as u64),
+        number::Number::Is(n) => put_number(n as u64, line),
         number::Number::No => refused(line),
     }
 }
 
-fn label_judged(body: &[u8], line: &mut [u8]) -> usize {
-    if number::is_label(body) {
-        output::put_bytes(line, 0, b"1")
-    } else {
-        output::put_bytes(line, 0, b"0")
-    }
+fn label_judged(body: &[u8], line: &mut Line<'_>) -> fmt::Result {
+    write!(line, "{}", u8::from(number::is_label(body)))
 }
 
-fn put_field(line: &mut [u8], at: usize, n: u64) -> usize {
-    let end = output::put_bytes(line, at, b" ");
-    number::put_decimal(line, end, n)
-}
-
-fn put_head(line: &mut [u8], e: entry::Entry) -> usize {
-    let end = number::put_decimal(line, 0, e.link as u64);
-    let end = put_field(line, end, e.kind as u64);
-    let end = put_field(line, end, e.item as u64);
-    put_field(line, end, e.flags as u64)
-}
-
-fn put_entry(line: &mut [u8], e: entry::Entry) -> usize {
-    let end = put_head(line, e);
-    let end = put_field(line, end, e.time);
-    let end = put_field(line, end, e.value as u64);
-    put_field(line, end, e.sequence as u64)
-}
-
-fn record_read(body: &[u8], line: &mut [u8]) -> usize {
-    let mut bytes = [0u8; 16];
-    run_feed::unhex(body, &mut bytes);
+fn record_read(body: &[u8], line: &mut Line<'_>) -> fmt::Result {
+    let bytes = run_feed::unhex(body);
     match entry::unpack(entry::Packed { bytes }) {
-        entry::Unpacked::Accepted(e) => put_entry(line, e),
-        entry::Unpacked::Refused(r) => number::put_decimal(
-            line,
-            0,
-            answer::refusal_number(r) as u64,
-        ),
+        entry::Unpacked::Accepted(e) => {
+            write!(line, "{} {} {} {} ", e.link, e.kind, e.item, e.flags)?;
+            write!(line, "{} {} {}", e.time, e.value, e.sequence)
+        }
+        entry::Unpacked::Refused(r) => write!(line, "{}", answer::refusal_number(r)),
     }
 }
 
-fn record_written(body: &[u8], line: &mut [u8]) -> usize {
-    let b = run_feed::forty(body);
-    let e = entry::Entry {
-        time: run_feed::wide(b, 8),
-        value: run_feed::long(b, 16),
-        sequence: run_feed::long(b, 20),
-        link: run_feed::short(b, 0),
-        kind: run_feed::short(b, 2),
-        item: run_feed::short(b, 4),
-        flags: run_feed::short(b, 6),
-    };
-    let p = entry::pack(e);
-    let bytes = p.bytes;
-    run_feed::put_hex(line, 0, &bytes)
+fn record_written(body: &[u8], line: &mut Line<'_>) -> fmt::Result {
+    let p = entry::pack(Fields::<40>::of(body).entry());
+    write!(line, "{}", Hex(&p.bytes))
 }
 
-fn type_found(body: &[u8], line: &mut [u8]) -> usize {
+fn type_found(body: &[u8], line: &mut Line<'_>) -> fmt::Result {
     match names::find_type(body) {
-        names::Found::At(i) => number::put_decimal(line, 0, i as u64),
+        names::Found::At(i) => write!(line, "{i}"),
         names::Found::Nothing => refused(line),
     }
 }
 
 // Name k of the table whose first name is name `first`.
-fn name_written(body: &[u8], first: usize, line: &mut [u8]) -> usize {
+fn name_written(body: &[u8], first: usize, line: &mut Line<'_>) -> fmt::Result {
     let k = (run_feed::decimal(body) % 100) as usize;
-    names::put(line, 0, first % 100 + k)
+    line.put(|out, at| names::put(out, at, first % 100 + k))
 }
 
-fn of_texts(kind: u8, body: &[u8], line: &mut [u8]) -> usize {
-    match kind {
+// The letter of a case's kind is read here alone, so no enum stands between it and what is run.
+fn answered(case: Case<'_>, line: &mut Line<'_>) -> fmt::Result {
+    let body = case.body();
+    match case.kind {
+        b'd' => signed_read(body, line),
+        b'D' => signed_written(body, line),
+        b'p' => number_read(body, 255, line),
+        b's' => number_read(body, 86400, line),
+        b'l' => label_judged(body, line),
         b't' => time_written(body, line),
         b'T' => time_read(body, line),
         b'i' => identity_read(body, line),
-        b'I' => identity_written(sixteen(body), line),
-        b'v' => identity_written(identity::version4(sixteen(body)), line),
-        _ => of_tables(kind, body, line),
-    }
-}
-
-fn of_tables(kind: u8, body: &[u8], line: &mut [u8]) -> usize {
-    match kind {
+        b'I' => identity_written(identity_in(body), line),
+        b'v' => identity_written(identity::version4(identity_in(body)), line),
         b'r' => record_read(body, line),
         b'R' => record_written(body, line),
         b'Y' => type_found(body, line),
@@ -162,36 +128,6 @@ fn of_tables(kind: u8, body: &[u8], line: &mut [u8]) -> usize {
     }
 }
 
-fn answered(kind: u8, body: &[u8], line: &mut [u8]) -> usize {
-    match kind {
-        b'd' => signed_read(body, line),
-        b'D' => signed_written(body, line),
-        b'p' => number_read(body, 255, line),
-        b's' => number_read(body, 86400, line),
-        b'l' => label_judged(body, line),
-        _ => of_texts(kind, body, line),
-    }
-}
-
-// Takes one case; whether there was one.
-fn turn() -> bool {
-    let mut body = [0u8; 256];
-    let mut line = [0u8; 256];
-    match run_feed::next(&mut body) {
-        Case::Body(kind, n) => {
-            if body.len() < n {
-                return false;
-            }
-            let end = answered(kind, &body[0..n], &mut line);
-            run_feed::say(&line, end)
-        }
-        Case::End => false,
-    }
-}
-
 fn main() {
-    let mut turns = u64::MAX;
-    while turns > 0 && turn() {
-        turns -= 1;
-    }
+    run_feed::answer_each(&mut [0; 256], &mut [0; 256], answered);
 }

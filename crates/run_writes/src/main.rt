@@ -7,7 +7,8 @@ ghost use Rattle.write_message.specs.declared.Told.TheVariants.{Update as update
 
 use identity::Identity;
 use label::Label;
-use run_feed::Case;
+use run_feed::{Case, Fields, Line};
+use std::fmt;
 use write_message::{AlarmState, Told, Value};
 
 // Where the labels begin: before them stand the identity, a time of 8 bytes, and six bytes by type.
@@ -16,249 +17,195 @@ const LABELS: usize = 30;
 // Behind every case's end.
 const FAR: usize = 4096;
 
-// A status, and the place behind it.
+// What a message is written from.
+#[derive(Clone, Copy)]
+struct Given {
+    id: Identity,
+    fields: Fields<1280>,
+}
+
+impl Given {
+    fn of(body: &[u8]) -> Given {
+        Given {
+            id: Identity {
+                bytes: run_feed::unhex(body),
+            },
+            fields: Fields::of(body),
+        }
+    }
+
+    fn time(&self) -> u64 {
+        self.fields.wide(16)
+    }
+
+    fn state(&self) -> AlarmState {
+        let f = self.fields;
+        AlarmState {
+            time: self.time(),
+            event: f.byte(24) as u16,
+            category: f.byte(25),
+            priority: f.byte(26),
+            acknowledged: f.is_one(27),
+            active: f.is_one(28),
+            suspended: f.is_one(29),
+        }
+    }
+
+    fn texts(&self) -> Texts<'_> {
+        Texts {
+            fields: &self.fields,
+            next: LABELS,
+        }
+    }
+}
+
 #[derive(Clone, Copy)]
 struct Status {
     code: Label,
     name: Label,
     value: Value,
+}
+
+// The labels and statuses of a case, from a place on.
+#[derive(Drop)]
+struct Texts<'a> {
+    fields: &'a Fields<1280>,
     next: usize,
 }
 
-fn byte_in(s: &[u8], at: usize) -> u8 {
-    if at < s.len() { s[at] } else { 0 }
-}
-
-// The number of the n bytes from byte at on.
-fn number_in(s: &[u8], at: usize, n: usize) -> u64 {
-    if s.len() < at {
-        return 0;
+impl Texts<'_> {
+    fn label(&mut self) -> Label {
+        let read = label::read(&self.fields.bytes, self.next);
+        self.next = read.next;
+        read.label
     }
-    if s.len() - at < n {
-        return 0;
+
+    // A value after the byte that says what it is.
+    fn value(&mut self) -> Value {
+        let at = self.next;
+        if FAR <= at {
+            return Value::Undefined;
+        }
+        self.next = at + 5;
+        let v = number::signed_of(self.fields.long(at + 1));
+        match self.fields.byte(at) {
+            0 => Value::Recent(v),
+            1 => Value::Unknown,
+            3 => Value::Old(v),
+            _ => Value::Undefined,
+        }
     }
-    let end = at + n;
-    bits::number(&s[at..end])
-}
 
-fn identity_in(body: &[u8]) -> Identity {
-    let mut bytes = [0u8; 16];
-    run_feed::unhex(body, &mut bytes);
-    Identity { bytes }
-}
-
-fn time_in(s: &[u8]) -> u64 {
-    number_in(s, 16, 8)
-}
-
-fn signed_in(s: &[u8], at: usize) -> i32 {
-    number::signed_of((number_in(s, at, 4) % 4294967296) as u32)
-}
-
-// A value after the byte that says what it is.
-fn value_in(s: &[u8], at: usize) -> Value {
-    if FAR <= at {
-        return Value::Undefined;
-    }
-    match byte_in(s, at) {
-        0 => Value::Recent(signed_in(s, at + 1)),
-        1 => Value::Unknown,
-        3 => Value::Old(signed_in(s, at + 1)),
-        _ => Value::Undefined,
+    fn status(&mut self) -> Status {
+        let value = self.value();
+        let code = self.label();
+        let name = self.label();
+        Status { code, name, value }
     }
 }
 
-fn behind_value(at: usize) -> usize {
-    if at < FAR { at + 5 } else { FAR }
+fn put_version(line: &mut Line<'_>, g: &Given) -> fmt::Result {
+    let mut texts = g.texts();
+    let site = texts.label();
+    let sxl = texts.label();
+    line.put(|out, at| write_message::greeting::version(out, at, g.id, site, sxl))
 }
 
-fn status_in(s: &[u8], at: usize) -> Status {
-    let value = value_in(s, at);
-    let a = label::read(s, behind_value(at));
-    let code = a.label;
-    let b = label::read(s, a.next);
-    let name = b.label;
-    Status {
-        code,
-        name,
-        value,
-        next: b.next,
-    }
+fn put_watchdog(line: &mut Line<'_>, g: &Given) -> fmt::Result {
+    line.put(|out, at| write_message::greeting::watchdog(out, at, g.id, g.time()))
 }
 
-fn state_in(s: &[u8]) -> AlarmState {
-    AlarmState {
-        time: time_in(s),
-        event: byte_in(s, 24) as u16,
-        category: byte_in(s, 25),
-        priority: byte_in(s, 26),
-        acknowledged: byte_in(s, 27) == 1,
-        active: byte_in(s, 28) == 1,
-        suspended: byte_in(s, 29) == 1,
-    }
+fn put_alarm(line: &mut Line<'_>, g: &Given) -> fmt::Result {
+    let mut texts = g.texts();
+    let component = texts.label();
+    let code = texts.label();
+    line.put(|out, at| write_report::alarms::alarm(out, at, g.id, component, code, g.state()))
 }
 
-fn put_version(line: &mut [u8], id: Identity, s: &[u8]) -> usize {
-    let a = label::read(s, LABELS);
-    let site = a.label;
-    let b = label::read(s, a.next);
-    let sxl = b.label;
-    write_message::greeting::version(line, 0, id, site, sxl)
-}
-
-fn put_alarm(line: &mut [u8], id: Identity, s: &[u8]) -> usize {
-    let a = label::read(s, LABELS);
-    let component = a.label;
-    let b = label::read(s, a.next);
-    let code = b.label;
-    write_report::alarms::alarm(line, 0, id, component, code, state_in(s))
-}
-
-fn put_aggregated(line: &mut [u8], id: Identity, s: &[u8]) -> usize {
-    let a = label::read(s, LABELS);
-    let component = a.label;
-    write_report::aggregate::aggregated(line, 0, id, component, time_in(s), byte_in(s, 24))
+fn put_aggregated(line: &mut Line<'_>, g: &Given) -> fmt::Result {
+    let component = g.texts().label();
+    line.put(|out, at| {
+        write_report::aggregate::aggregated(out, at, g.id, component, g.time(), g.fields.byte(24))
+    })
 }
 
 // A StatusUpdate with one entry.
-fn put_update(line: &mut [u8], id: Identity, s: &[u8]) -> usize {
-    let a = label::read(s, LABELS);
-    let component = a.label;
-    let e = status_in(s, a.next);
-    let code = e.code;
-    let name = e.name;
-    let value = e.value;
-    write_report::status::update(line, 0, id, component, time_in(s), code, name, value)
+fn put_update(line: &mut Line<'_>, g: &Given) -> fmt::Result {
+    let mut texts = g.texts();
+    let component = texts.label();
+    let e = texts.status();
+    line.put(|out, at| {
+        write_report::status::update(out, at, g.id, component, g.time(), e.code, e.name, e.value)
+    })
 }
 
-fn put_status(line: &mut [u8], at: usize, kind: Told, first: bool, e: Status) -> usize {
-    let code = e.code;
-    let name = e.name;
-    let value = e.value;
-    write_report::status::entry(line, at, kind, first, code, name, value)
-}
-
-fn put_entries(
-    line: &mut [u8],
-    at: usize,
-    kind: Told,
-    s: &[u8],
-    from: usize,
-    count: usize,
-) -> usize {
-    let mut end = at;
-    let mut next = from;
-    let mut i = 0;
-    while i < count {
-        let e = status_in(s, next);
-        end = put_status(line, end, kind, i == 0, e);
-        next = e.next;
-        i += 1;
+fn put_entries(line: &mut Line<'_>, kind: Told, texts: &mut Texts<'_>, count: u8) -> fmt::Result {
+    for i in 0..count {
+        let e = texts.status();
+        line.put(|out, at| {
+            write_report::status::entry(out, at, kind, i == 0, e.code, e.name, e.value)
+        })?;
     }
-    end
+    line.put(|out, at| write_report::status::finish(out, at))
 }
 
-fn put_statuses(line: &mut [u8], kind: Told, id: Identity, s: &[u8]) -> usize {
-    let a = label::read(s, LABELS);
-    let component = a.label;
-    let end = write_report::status::begin(line, 0, kind, id, component, time_in(s));
-    let end = put_entries(line, end, kind, s, a.next, byte_in(s, 24) as usize);
-    write_report::status::finish(line, end)
-}
-
-fn put_told(line: &mut [u8], kind: u8, id: Identity, s: &[u8]) -> usize {
-    match kind {
-        b'R' => put_statuses(line, Told::Response, id, s),
-        b'U' => put_statuses(line, Told::Update, id, s),
-        b'C' => put_statuses(line, Told::Command, id, s),
-        _ => put_update(line, id, s),
-    }
-}
-
-fn put_own(line: &mut [u8], kind: u8, id: Identity, s: &[u8]) -> usize {
-    match kind {
-        b'V' => put_version(line, id, s),
-        b'W' => write_message::greeting::watchdog(line, 0, id, time_in(s)),
-        b'A' => put_alarm(line, id, s),
-        b'G' => put_aggregated(line, id, s),
-        _ => put_told(line, kind, id, s),
-    }
+fn put_statuses(line: &mut Line<'_>, kind: Told, g: &Given) -> fmt::Result {
+    let mut texts = g.texts();
+    let component = texts.label();
+    line.put(|out, at| write_report::status::begin(out, at, kind, g.id, component, g.time()))?;
+    put_entries(line, kind, &mut texts, g.fields.byte(24))
 }
 
 // The reason's number is in two decimal digits, the received identity behind it.
-fn put_not_ack(line: &mut [u8], body: &[u8]) -> usize {
-    let n = body.len();
-    if n < 2 {
-        return 0;
-    }
-    let reason = run_feed::decimal(&body[0..2]) as usize;
-    write_message::answers::not_ack(line, 0, &body[2..n], reason)
+fn put_not_ack(line: &mut Line<'_>, body: &[u8]) -> fmt::Result {
+    let Some((digits, received)) = body.split_at_checked(2) else {
+        return Ok(());
+    };
+    let reason = run_feed::decimal(digits) as usize;
+    line.put(|out, at| write_message::answers::not_ack(out, at, received, reason))
 }
 
-// A response that carries its acknowledgement.
-fn put_response(line: &mut [u8], kind: Told, received: &[u8], s: &[u8]) -> usize
+// A response that carries its acknowledgement: the received identity stands before the fields.
+fn put_included(line: &mut Line<'_>, kind: Told, body: &[u8]) -> fmt::Result
     requires { kind ≡ update_of → ⊥ }
 {
-    let a = label::read(s, LABELS);
-    let component = a.label;
-    let end = write_report::status::begin_included(line, 0, kind, received, component, time_in(s));
-    let end = put_entries(line, end, kind, s, a.next, byte_in(s, 24) as usize);
-    write_report::status::finish(line, end)
+    let Some((received, fields)) = body.split_at_checked(36) else {
+        return Ok(());
+    };
+    let g = Given::of(fields);
+    let mut texts = g.texts();
+    let component = texts.label();
+    line.put(|out, at| {
+        write_report::status::begin_included(out, at, kind, received, component, g.time())
+    })?;
+    put_entries(line, kind, &mut texts, g.fields.byte(24))
 }
 
-// The received identity stands before the fields.
-fn put_included(line: &mut [u8], command: bool, body: &[u8]) -> usize {
-    let n = body.len();
-    if n < 36 {
-        return 0;
-    }
-    let mut fields = [0u8; 1280];
-    run_feed::unhex(&body[36..n], &mut fields);
-    if command {
-        put_response(line, Told::Command, &body[0..36], &fields)
-    } else {
-        put_response(line, Told::Response, &body[0..36], &fields)
+fn put_own(line: &mut Line<'_>, kind: u8, g: &Given) -> fmt::Result {
+    match kind {
+        b'V' => put_version(line, g),
+        b'W' => put_watchdog(line, g),
+        b'A' => put_alarm(line, g),
+        b'G' => put_aggregated(line, g),
+        b'R' => put_statuses(line, Told::Response, g),
+        b'U' => put_statuses(line, Told::Update, g),
+        b'C' => put_statuses(line, Told::Command, g),
+        _ => put_update(line, g),
     }
 }
 
-fn written_in(line: &mut [u8], kind: u8, body: &[u8]) -> usize {
-    if kind == b'K' {
-        return write_message::answers::ack(line, 0, body);
-    }
-    if kind == b'N' {
-        return put_not_ack(line, body);
-    }
-    if kind == b'r' {
-        return put_included(line, false, body);
-    }
-    if kind == b'c' {
-        return put_included(line, true, body);
-    }
-    let mut fields = [0u8; 1280];
-    run_feed::unhex(body, &mut fields);
-    put_own(line, kind, identity_in(body), &fields)
-}
-
-fn taken() -> bool {
-    let mut body = [0u8; 2600];
-    let mut line = [0u8; 4096];
-    match run_feed::next(&mut body) {
-        Case::Body(kind, n) => {
-            if body.len() < n {
-                return false;
-            }
-            let end = written_in(&mut line, kind, &body[0..n]);
-            run_feed::say(&line, end)
-        }
-        Case::End => false,
+// The letter of a case's kind is read here and in `put_own` alone, so no enum stands between it and what is written.
+fn answered(case: Case<'_>, line: &mut Line<'_>) -> fmt::Result {
+    let body = case.body();
+    match case.kind {
+        b'K' => line.put(|out, at| write_message::answers::ack(out, at, body)),
+        b'N' => put_not_ack(line, body),
+        b'r' => put_included(line, Told::Response, body),
+        b'c' => put_included(line, Told::Command, body),
+        kind => put_own(line, kind, &Given::of(body)),
     }
 }
 
 fn main() {
-    let mut more = true;
-    let mut turns = u64::MAX;
-    while turns > 0 && more {
-        more = taken();
-        turns -= 1;
-    }
+    run_feed::answer_each(&mut [0; 2600], &mut [0; 4096], answered);
 }

@@ -1,9 +1,0 @@
--- The loop ends: it counts its turns down from a number that no run uses up.
--- Assumes nothing.
-use Rattle.run_packets.proofs.main.Given as goal
-
-abbrev pub invariant-loop-turns : goal.invariant-loop-turns
-invariant-loop-turns l = Unit {0}
-
-abbrev pub decreases-loop-turns : goal.decreases-loop-turns
-decreases-loop-turns l = l.turns
