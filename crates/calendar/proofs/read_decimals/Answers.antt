@@ -16,7 +16,8 @@ pub returns-else-k-ge1 : goal.returns-else-k-ge1
 unfolding read_decimals
 returns-else-k-ge1 c =
     let ds = c.args.ds.now in
-    elim c.else-k-ge1.branch
-    [ else-k-ge1-via-then-k-ge1+then-k-le6+else-are_digits w ↦ sym (decimals_refused ds (sym (w.are_digits.ensures ∙ all_is ds) ∙ w.if-are_digits.false))
-    | else-k-ge1-via-then-k-ge1+else-k-le6 w ↦ search tests
-    | else-k-ge1-via-else-k-ge1 w ↦ search tests ]
+    elim c.else-k-ge1.branch [
+      | else-k-ge1-via-then-k-ge1+then-k-le6+else-are_digits w ↦ sym (decimals_refused ds (sym (w.are_digits.ensures ∙ all_is ds) ∙ w.if-are_digits.false))
+      | else-k-ge1-via-then-k-ge1+else-k-le6 w ↦ search tests
+      | else-k-ge1-via-else-k-ge1 w ↦ search tests
+    ]
