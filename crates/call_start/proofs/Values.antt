@@ -1,10 +1,10 @@
 -- The values that start takes are those within their limits.
 -- Assumes nothing.
-use Rattle.basis.proofs.Std.{ℕ, ◌≤◌, ◌<◌, ◌≡◌, refl, true, false, ◌⊎◌, inl, inr, arith, leb, ltb, ltb-true, leb-true, eqb-true, lt-ltb, le-ltb, le-leb, eq-eqb, ne_eqb, bool_cases, both_true, both_of, pick}
+use Rattle.basis.proofs.Std.{ℕ, ◌≤◌, ◌<◌, ◌≡◌, refl, true, ◌⊎◌, inl, inr, arith, leb, ltb, ltb-true, leb-true, eqb-true, lt-ltb, le-ltb, le-leb, eq-eqb, ne_eqb, bool_cases, both_true, both_of, pick}
 use Rattle.answer.specs.Times.{last_time}
 use Rattle.call_start.specs.Fresh.{alone, site_for}
 use Rattle.call_start.specs.Starts.{Within}
-use Rattle.call_start.specs.Making.{a_site_or_alone, a_link_or_none, values_within, others_within, is_within}
+use Rattle.call_start.specs.Making.{a_site_or_alone, a_link_or_none, values_within, is_within}
 
 pub site_within : (site : ℕ) → a_site_or_alone site ≡ true → (site < 2) ⊎ (site ≡ alone)
 site_within site e = bool_cases (ltb site 2)
@@ -76,20 +76,3 @@ module _ (site links primary period first time : ℕ) where
   pub within_site_so : is_within site links primary period first time ≡ true → a_site_or_alone site ≡ true
   unfolding is_within
   within_site_so e = (both_true (a_site_or_alone site) _ e).0
-
-  -- of a site, the other values decide
-  pub to_others : a_site_or_alone site ≡ true → others_within links primary period first time ≡ is_within site links primary period first time
-  unfolding is_within
-  to_others e = rw e refl
-
-  pub no_site : a_site_or_alone site ≡ false → false ≡ is_within site links primary period first time
-  unfolding is_within
-  no_site e = rw e refl
-
-module _ (links primary period first time : ℕ) where
-  -- of the links, the last test decides
-  pub to_values : 1 ≤ links → links ≤ 4 → a_link_or_none links primary ≡ true → values_within period first time ≡ others_within links primary period first time
-  to_values l m e = rw (le-leb 1 links l, le-leb links 4 m, e) refl
-
-  pub no_link : 1 ≤ links → links ≤ 4 → a_link_or_none links primary ≡ false → false ≡ others_within links primary period first time
-  no_link l m e = rw (le-leb 1 links l, le-leb links 4 m, e) refl

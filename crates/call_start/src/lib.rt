@@ -54,6 +54,7 @@ fn a_link_or_none(links: u32, primary: u32) -> bool
     primary < links || primary == 4294967295
 }
 
+#[tactic(auto, unfolding(crate::specs::Making::values_within))]
 fn values_within(period: u32, first: u64, time: u64) -> bool
     ensures { result ≡ values_within period first time }
 {
@@ -66,6 +67,7 @@ fn others_within(links: u32, primary: u32, period: u32, first: u64, time: u64) -
     1 <= links && links <= 4 && a_link_or_none(links, primary) && values_within(period, first, time)
 }
 
+#[tactic(auto, unfolding(crate::specs::Making::is_within))]
 fn within(site: u32, links: u32, primary: u32, period: u32, first: u64, time: u64) -> bool
     ensures { result ≡ is_within site links primary period first time }
 {

@@ -54,7 +54,7 @@ pub enum Sought {
     Nothing,
 }
 
-// A record's sixteen bytes; zeros where there is none.
+// A record's sixteen bytes; zeros where there is none. Of the C interface: no Option.
 #[repr(C)]
 #[derive(Clone, Copy)]
 pub struct Reading {

@@ -116,6 +116,7 @@ pub fn holds(w: &[u64], l: u16) -> usize
     n
 }
 
+// Two functions, as the definitions lower and higher are two.
 // Of the place i, where x stands, and what was found behind it: the older record, the first where they are of one number.
 fn nearer(i: usize, x: Place, b: Spot) -> Spot
     ensures { result ≡ lower i x b }

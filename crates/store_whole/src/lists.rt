@@ -28,6 +28,7 @@ pub fn put_lost(w: &mut [u64], lost: [u64; 8])
     w[..8].copy_from_slice(&lost);
 }
 
+// One function for each list: a generic one would take what stores an element, and be this loop.
 pub fn fill_links(w: &mut [u64], x: Link)
     requires { length w.old ≡ site_words }
     ensures { PutLinks w.old w.new (replicate 4 x) }

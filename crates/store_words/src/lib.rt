@@ -7,6 +7,7 @@ ghost use Rattle.store_words.specs.Narrow.{upper as upper_of, lower as lower_of,
 
 use identity::Identity;
 
+// Each is bits::field at one place, under a name and with a narrow result: one function for all would be bits::field again.
 pub fn upper(x: u64) -> u32
     ensures { result ≡ upper_of x }
 {
