@@ -25,7 +25,7 @@ use Rattle.read_lists.specs.Status.{status_at}
 use Rattle.read_commands.specs.Command.{command_at}
 use Rattle.site.specs.declared.Site.{Site}
 use Rattle.site.specs.Site.{no_link_at, bad_time_at, down_at, link_at}
-use Rattle.site.specs.Call.{Plan, only, when}
+use Rattle.site.specs.Call.{only, when}
 use Rattle.packet_answer.specs.declared.Question.{Question}
 use Rattle.packet_answer.specs.Taken.{Taken, taken_refuses, not_acked, by_verdict, unexpected, not_ready}
 use Rattle.packet_greet.specs.Answered.{answered_plan}

@@ -2,7 +2,6 @@
 #![tactic(auto)]
 
 ghost use Rattle.std.specs.Prelude.{◌≡◌, true, false, List, ℕ, ◌<◌, ◌+◌, ◌*◌, length, get_or};
-ghost use Rattle.basis.specs.Pick.{pick};
 ghost use Rattle.identity.specs.Version.{identity_of};
 ghost use Rattle.json_find.specs.Index.{Indexed};
 ghost use Rattle.read_head.specs.Head.{head_at};
@@ -23,12 +22,6 @@ use names::reasons;
 use packet_answer::Question;
 use read_head::{Class, Head, Kind, Verdict};
 
-fn not(b: bool) -> bool
-    ensures { result ≡ pick b false true }
-{
-    if b { false } else { true }
-}
-
 fn is_version(k: Kind) -> bool
     ensures { result ≡ is_version k }
 {
@@ -44,33 +37,21 @@ fn is_watchdog(k: Kind) -> bool
 fn is_greeting(p: Phase) -> bool
     ensures { result ≡ is_greeting p }
 {
-    match p {
-        Phase::Down => false,
-        Phase::Greeting => true,
-        Phase::Beating => false,
-        Phase::Up => false,
-    }
+    matches!(p, Phase::Greeting)
 }
 
 fn is_beating(p: Phase) -> bool
     ensures { result ≡ is_beating p }
 {
-    match p {
-        Phase::Down => false,
-        Phase::Greeting => false,
-        Phase::Beating => true,
-        Phase::Up => false,
-    }
+    matches!(p, Phase::Beating)
 }
 
 fn may_judge(w: &[u64], l: u16) -> bool
     requires { (length w.now ≡ site_words) × (l < 4) }
     ensures { (ps : List ℕ) (t : SiteTable) → result ≡ may_judge_of (link_at (site_of ps w.now t) l) }
 {
-    if store_site::phases::version_taken(w, l as usize) {
-        return false;
-    }
-    store_site::phases::version_out(w, l as usize)
+    !store_site::phases::version_taken(w, l as usize)
+        && store_site::phases::version_out(w, l as usize)
 }
 
 fn expected(w: &[u64], l: u16, kind: Kind) -> bool
@@ -87,27 +68,21 @@ fn unready(w: &[u64], l: u16, kind: Kind) -> bool
     requires { (length w.now ≡ site_words) × (l < 4) }
     ensures { (ps : List ℕ) (t : SiteTable) → result ≡ unready_of (link_at (site_of ps w.now t) l) kind }
 {
-    if is_beating(store_site::phases::phase(w, l as usize)) {
-        return not(is_watchdog(kind));
-    }
-    false
+    is_beating(store_site::phases::phase(w, l as usize)) && !is_watchdog(kind)
 }
 
 fn early(w: &[u64], l: u16, kind: Kind) -> bool
     requires { (length w.now ≡ site_words) × (l < 4) }
     ensures { (ps : List ℕ) (t : SiteTable) → result ≡ early_of (link_at (site_of ps w.now t) l) kind }
 {
-    if is_greeting(store_site::phases::phase(w, l as usize)) {
-        return not(is_version(kind));
-    }
-    false
+    is_greeting(store_site::phases::phase(w, l as usize)) && !is_version(kind)
 }
 
 fn unawaited(w: &[u64], l: u16, id: Identity) -> bool
     requires { (length w.now ≡ site_words) × (l < 4) }
     ensures { (ps : List ℕ) (t : SiteTable) → result ≡ unawaited_of (link_at (site_of ps w.now t) l) id }
 {
-    not(packet_answer::is_awaited(w, l, id))
+    !packet_answer::is_awaited(w, l, id)
 }
 
 fn ignored(w: &[u64], l: u16, id: Identity, class: Class) -> bool
