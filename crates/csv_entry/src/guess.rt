@@ -2,7 +2,7 @@
 ghost use Rattle.std.specs.Prelude.{◌≡◌, [], ◌-◌, ◌^◌, ◌≤◌, ◌<◌, length, get_or};
 ghost use Rattle.number.specs.Reading.{says};
 ghost use Rattle.csv_field.specs.Places.{texts_of};
-ghost use Rattle.csv_entry.specs.Guess.{number_in, below, signed_in, is_one, first_of, kind_in, kind_named, flags_in, value_in, guess_of};
+ghost use Rattle.csv_entry.specs.Guess.{number_in, signed_in, is_one, first_of, kind_in, kind_named, flags_in, value_in, guess_of};
 
 use entry::Entry;
 
@@ -30,18 +30,6 @@ fn number(f: &[u8]) -> u64
         return said(f);
     }
     0
-}
-
-fn below_16(n: u64) -> u16
-    ensures { result ≡ below (2 ^ 16) n }
-{
-    u16::try_from(n).unwrap_or(0)
-}
-
-fn below_32(n: u64) -> u32
-    ensures { result ≡ below (2 ^ 32) n }
-{
-    u32::try_from(n).unwrap_or(0)
 }
 
 fn signed(f: &[u8]) -> u64
@@ -106,7 +94,7 @@ fn value(texts: &[&[u8]; 12], k: u16) -> u32
     if k == entry::ALARM {
         return 0;
     }
-    below_32(signed(texts[10]))
+    u32::try_from(signed(texts[10])).unwrap_or(0)
 }
 
 pub fn guess(texts: &[&[u8]; 12], k: u16) -> Entry
@@ -115,10 +103,10 @@ pub fn guess(texts: &[&[u8]; 12], k: u16) -> Entry
     Entry {
         time: number(texts[9]),
         value: value(texts, k),
-        sequence: below_32(number(texts[11])),
-        link: below_16(number(texts[0])),
+        sequence: u32::try_from(number(texts[11])).unwrap_or(0),
+        link: u16::try_from(number(texts[0])).unwrap_or(0),
         kind: k,
-        item: below_16(number(texts[2])),
+        item: u16::try_from(number(texts[2])).unwrap_or(0),
         flags: flags(texts, k),
     }
 }

@@ -1,7 +1,7 @@
 -- The marks at a place of a slice.
 -- Assumes nothing.
-use Rattle.basis.proofs.Std.{ℕ, ◌+◌, ◌<◌, ◌≤◌, ◌≡◌, refl, sym, ap, ◌∙◌, true, false, List, [], ◌∷◌, arith, add-one, add-zero, ⊎_elim, lt_or_ge, untrue, both_false, eqb, ne_eqb, length, get_or, drop, drop-cons, drop_of_length-le, get_or-drop, get_or-eq_default}
-use Rattle.csv_field.specs.Marks.{is_quote, is_comma, is_break, is_stop}
+use Rattle.basis.proofs.Std.{ℕ, ◌+◌, ◌<◌, ◌≤◌, ◌≡◌, sym, ap, ◌∙◌, true, false, List, [], ◌∷◌, arith, add-one, add-zero, ⊎_elim, lt_or_ge, untrue, both_false, eqb, ne_eqb, length, get_or, drop, drop-cons, drop_of_length-le, get_or-drop, get_or-eq_default}
+use Rattle.csv_field.specs.Marks.{is_quote, is_comma, is_break}
 
 module _ (s : List ℕ) (i : ℕ) where
   pub next : i < length s → drop i s ≡ get_or s i 0 ∷ drop (i + 1) s
@@ -23,34 +23,8 @@ module _ (s : List ℕ) (i : ℕ) where
     byte_in : 0 < b → eqb (get_or (drop i s) 0 0) b ≡ true → i < length s
     byte_in n e = ⊎_elim (λ (h : i < length s). h) (λ (h : length s ≤ i). untrue (byte_past n h ∙ e)) (lt_or_ge i (length s))
 
-  pub break_past : length s ≤ i → false ≡ is_break (drop i s)
-  break_past h = sym (rw (past h))
-
-  pub break_other : (get_or s i 0 ≡ 13 → ⊥) → false ≡ is_break (drop i s)
-  break_other h = sym (rw (first, ne_eqb (get_or s i 0) 13 h))
-
   pub break_short : length s ≤ i + 1 → false ≡ is_break (drop i s)
   break_short h = sym (rw (get_or-drop i s 1 0, get_or-eq_default s 0 h) (both_false (eqb (get_or (drop i s) 0 0) 13)))
-
-  pub break_at : get_or s i 0 ≡ 13 → eqb (get_or s (i + 1) 0) 10 ≡ is_break (drop i s)
-  break_at h = sym (rw (first, h, get_or-drop i s 1 0))
-
-  pub stop_past : length s ≤ i → true ≡ is_stop (drop i s)
-  stop_past h = sym (rw (past h))
-
-  pub stop_comma : i < length s → is_comma (drop i s) ≡ true → true ≡ is_stop (drop i s)
-  stop_comma h e = sym (stops (drop i s) e)
-    where
-      stops : (t : List ℕ) → is_comma t ≡ true → is_stop t ≡ true
-      stops [] f = refl
-      stops (b ∷ t) f = rw f
-
-  pub stop_break : i < length s → is_comma (drop i s) ≡ false → is_break (drop i s) ≡ is_stop (drop i s)
-  stop_break h e = go (drop i s) (next h) e
-    where
-      go : (t : List ℕ) → t ≡ get_or s i 0 ∷ drop (i + 1) s → is_comma t ≡ false → is_break t ≡ is_stop t
-      go [] f g = absurd (let z : ◌≡◌ {A = ℕ} 0 1 = cc in omega arith)
-      go (b ∷ t) f g = rw g
 
   -- a mark stands within the slice
   pub quote_in : is_quote (drop i s) ≡ true → i < length s

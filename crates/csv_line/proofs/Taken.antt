@@ -44,9 +44,6 @@ module _ {n : Notes} {ds : List (List ℕ)} (k : Noted n ds) where
         only = λ e. d.only (meant_simple (texts_of n.texts) columns_simple (m ∙ e));
       }
 
-  pub no_columns : (n.count ≡ 12 → ⊥) → Decides false (ds ≡ columns)
-  no_columns h = record { yes = λ q. absurd (not_both q refl); only = λ e. absurd (not_counted h (ap length e)) }
-
   pub twelve_judged : n.count ≡ 12 → {r : Judged} → Judges (texts_of n.texts) r → Judges ds r
   twelve_judged h j = noted_judged k (counted h) j
 
