@@ -2,7 +2,7 @@
 // bytes: its kind, the four decimal digits of its body's length, a line feed; then the body and a line feed.
 #![tactic(auto)]
 
-ghost use Rattle.std.specs.Prelude.{◌≤◌, length as len};
+ghost use Rattle.std.specs.Prelude.{◌≤◌, ◌<◌, length as len};
 
 pub mod packet;
 
@@ -90,6 +90,15 @@ pub fn digit(b: u8) -> usize
     }
 }
 
+// What a head's four digits say.
+fn length_of(head: [u8; 6]) -> usize
+    ensures { result < 10000 }
+{
+    let [_, a, b, c, d, _] = head;
+    digit(a) * 1000 + digit(b) * 100 + digit(c) * 10 + digit(d)
+}
+
+// Reads all of the bytes; none where the input ends before.
 fn fill(bytes: &mut [u8]) -> Option<()> {
     if io::read_full(0, bytes) < bytes.len() {
         None
@@ -102,7 +111,7 @@ fn fill(bytes: &mut [u8]) -> Option<()> {
 fn next(bytes: &mut [u8]) -> Option<Case<'_>> {
     let mut head = [0u8; 6];
     fill(&mut head)?;
-    let length = decimal(&head[1..5]) as usize;
+    let length = length_of(head);
     bytes.fill(0);
     fill(bytes.get_mut(..=length)?)?;
     Some(Case {
@@ -140,6 +149,7 @@ pub fn decimal(s: &[u8]) -> u64 {
     s.iter().fold(0, |n, b| behind(n, *b))
 }
 
+// No saturating arithmetic: that would answer otherwise from 18446744073709551610 on.
 fn behind(n: u64, b: u8) -> u64 {
     if 1844674407370955160 < n {
         return u64::MAX;

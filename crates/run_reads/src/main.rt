@@ -12,6 +12,7 @@ use run_feed::{Hex, Line};
 use std::fmt;
 use std::fmt::Write;
 
+// Letters of other crates' enums, which can be given no Display here.
 fn verdict_letter(v: Verdict) -> char {
     match v {
         Verdict::Good => 'G',
@@ -59,9 +60,7 @@ fn order_letter(o: Order) -> char {
 // What we offer: 3.2, 3.1.5 and 3.1.4.
 fn own_versions() -> Versions {
     let mut list = [0u32; 16];
-    list[0] = 0x030200;
-    list[1] = 0x030105;
-    list[2] = 0x030104;
+    list[..3].copy_from_slice(&[0x030200, 0x030105, 0x030104]);
     Versions { count: 3, list }
 }
 
