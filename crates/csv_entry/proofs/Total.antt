@@ -1,9 +1,9 @@
 -- Fields always come to something: whether there is such a record can be told.
 -- Assumes nothing.
-use Rattle.basis.proofs.Std.{ℕ, ◌%◌, ◌^◌, ◌≤◌, ◌<◌, ◌≡◌, refl, ap₂, subst, true, List, [], ◌∷◌, arith, ◌⊎◌, inl, inr, ⊎_elim, bool_cases, lt_or_ge, le_or_lt, eq_or_ne, get_or, length, same_bytes, same_true, same_self, not_both}
+use Rattle.basis.proofs.Std.{ℕ, ◌%◌, ◌^◌, ◌≤◌, ◌<◌, ◌≡◌, refl, ap₂, subst, true, List, [], ◌∷◌, arith, ◌⊎◌, inl, inr, ⊎_elim, bool_cases, lt_or_ge, le_or_lt, eq_or_ne, eq-eqb, get_or, length, same_bytes, same_true, same_self, not_both}
 use Rattle.entry.specs.declared.Entry.{Entry}
 use Rattle.entry.specs.Valid.{Valid, Alarm, Status, Aggregated, OfKind, an_alarm, a_status, an_aggregated, last_time}
-use Rattle.entry.proofs.ValidLaws.{alarm_flags_lem, an_alarm_of, status_flags_lem, no_value_lem, a_known, an_unknown, of_no_kind}
+use Rattle.entry.proofs.ValidLaws.{alarm_flags_lem, an_alarm_of, status_flags_lem, no_value_lem, a_known, status_test, of_no_kind}
 use Rattle.csv_entry.specs.Fields.{fields_of}
 use Rattle.csv_entry.specs.Guess.{kind_in, guess_of}
 use Rattle.csv_entry.specs.Judged.{Judged, present, Judges, other_count, Holds}
@@ -28,7 +28,7 @@ module _ (e : Entry) where
   status_told_lem : Told (Status e)
   status_told_lem =
       ⊎_elim (λ k. ⊎_elim (λ i. ⊎_elim (λ f. ⊎_elim (λ z. ⊎_elim
-      (λ (l : e.flags < 32). ⊎_elim (λ v. inl (an_unknown e k i l z v)) (λ n. inr (λ s. n (no_value_lem s l))) (eq_or_ne e.value 0))
+      (λ (l : e.flags < 32). ⊎_elim (λ v. inl ((status_test e k i l z).yes (eq-eqb e.value 0 v))) (λ n. inr (λ s. n (no_value_lem s l))) (eq_or_ne e.value 0))
       (λ (l : 32 ≤ e.flags). ⊎_elim (λ v. inl (a_known e k i l f z v)) (λ n. inr (λ s. omega (arith, s.value))) (lt_or_ge e.value (2 ^ 32)))
       (lt_or_ge e.flags 32))
       (λ n. inr (λ s. n (status_flags_lem s).1)) (eq_or_ne (e.flags % 16) 0))

@@ -1,12 +1,19 @@
 -- Things read one behind the other into a place of n: what is read stands there, and what stands there is read.
 -- Assumes nothing.
-use Rattle.basis.proofs.Std.{◌≡◌, refl, sym, ap, ap₂, subst, ◌∙◌, List, [], ◌∷◌, ◌++◌, map, map-append, append_assoc, append-nil, ℕ, zero, suc, ◌+◌, ◌≤◌, ◌<◌, sub-zero, add-zero, arith, length, drop, set, replicate, length-append, length-map, append_snoc}
+use Rattle.basis.proofs.Std.{◌≡◌, refl, sym, ap, ap₂, subst, ◌∙◌, List, [], ◌∷◌, ◌++◌, map, map-append, append_assoc, append-nil, ℕ, zero, suc, ◌+◌, ◌-◌, ◌≤◌, ◌<◌, sub-zero, add-zero, arith, length, drop, set, set_at, replicate, length-append, length-map, append_snoc}
 use Rattle.label.specs.Padded.{padded}
-use Rattle.label.proofs.Padded.{set_padded}
 use Rattle.label.proofs.Stands.{Stands, first, second, joined}
 use Rattle.table_whole.specs.Bytes.{in_turn}
 use Rattle.table_whole.specs.Allowed.{Every}
 use Rattle.table_whole.specs.Allowed.Every.{none, more}
+
+-- the element behind the list, set: the list has it at its end
+set_padded : {A : Type 0} (n : ℕ) (z : A) (xs : List A) (i : ℕ) (x : A) → length xs ≡ i → i < n → set (padded n z xs) i x ≡ padded n z (xs ++ (x ∷ []))
+set_padded n z xs i x e h =
+    let k : n - length xs ≡ suc (n - length (xs ++ (x ∷ []))) = omega (arith, length-append xs (x ∷ [])) in
+    ap (λ (m : ℕ). set (xs ++ replicate m z) i x) k
+    ∙ set_at xs z _ x i e
+    ∙ sym (append_snoc xs x _)
 
 -- the place after i turns, and what was kept by then
 abbrev pub place_to : (ℕ → ℕ) → ℕ → ℕ → ℕ
