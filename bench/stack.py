@@ -26,9 +26,9 @@ def random_scripts(seed, lines=LINES):
 
 
 def painted(scripts):
-    """The calls and the most bytes, by the name of the line."""
+    """The calls and the most bytes, by the name of the line. Bound at the start: what looks up memcpy at its first call is no part of a call."""
     with tempfile.TemporaryDirectory() as room:
-        said = output([TOOLS / "run", program("stack", room, more=["-maccumulate-outgoing-args"])], "".join(scripts))
+        said = output([TOOLS / "run", program("stack", room, more=["-maccumulate-outgoing-args", "-Wl,-z,now"])], "".join(scripts))
     return {name: (int(calls), int(most)) for name, calls, most in map(str.split, said.splitlines())}
 
 
