@@ -2,7 +2,7 @@
 other than a Watchdog, counted from any call after which its link is Up and it is not sent, and within what stands before it.
 
   waits.py --stored         models that let one wait longer, or lose one too soon: each is found out
-  waits.py --fresh [SEED]   2,000 sequences
+  waits.py --fresh [SEED]   2,000 sequences, and so many again until a record has waited as long as it may and one was lost
   waits.py COUNT [SEED]     so many
 """
 import collections
@@ -152,13 +152,13 @@ def stored():
 def fresh(seed, count=SEQUENCES):
     print(f"waits: seed {seed}")
     came, chance = collections.Counter(), random.Random(seed)
-    for _ in range(TIMES):
+    for turn in range(1, TIMES + 1):
         play(chance, count, came)
         if came["sent by the last pump"] and came["lost while it waited"]:
             break
     else:
         sys.exit("waits: no record waited as long as it may, or none was lost")
-    print(f"waits: {count} sequences, {came['sent']} records sent, {came['sent by the last pump']} of them by the last pump that the bound leaves, "
+    print(f"waits: {turn * count} sequences, {came['sent']} records sent, {came['sent by the last pump']} of them by the last pump that the bound leaves, "
           f"{came['lost while it waited']} lost while they waited")
 
 
