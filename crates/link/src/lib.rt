@@ -271,13 +271,12 @@ impl Link {
     fn message_out(self, id: Identity, time: u64, sent: Purpose) -> Link
         ensures { result ≡ message_out_of self id time sent }
     {
-        if !is_up(self.phase()) {
-            return self;
-        }
-        Link {
-            awaited: self.awaited.add(id, time, sent),
-            ..self
-        }
+        let awaited = if is_up(self.phase()) {
+            self.awaited.add(id, time, sent)
+        } else {
+            self.awaited
+        };
+        Link { awaited, ..self }
     }
 
     // A message that carries the held record with this sequence number went out.

@@ -14,9 +14,10 @@ pub fn put_bytes(out: &mut [u8], at: usize, b: &[u8]) -> usize
     if out.len() - at < b.len() {
         return out.len() + 1;
     }
-    let end = at + b.len();
-    out[at..end].copy_from_slice(b);
-    end
+    for (k, byte) in b.iter().enumerate() {
+        out[at + k] = *byte;
+    }
+    at + b.len()
 }
 
 pub fn put2(out: &mut [u8], at: usize, a: &[u8], b: &[u8]) -> usize
