@@ -52,6 +52,9 @@ module _ (s : Site) (es : List Entry) where
   spent_is : (batch_in s es).spent ≡ both (ltb 0 (length es)) (ltb 2147483648 (s.next + length es))
   spent_is = (kept 8 (omega arith)).spent s.pool s.next es
 
+  pub spent_none : length es ≡ 0 → false ≡ (batch_in s es).spent
+  spent_none h = sym (spent_is ∙ rw h refl)
+
   module _ (h : 0 < length es) where
     pub spent_past : 2147483648 < s.next → true ≡ (batch_in s es).spent
     spent_past g = sym (spent_is ∙ rw (lt-ltb 0 (length es) h) (lt-ltb 2147483648 (s.next + length es) (omega arith)))

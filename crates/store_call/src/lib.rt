@@ -21,8 +21,11 @@ pub fn spent(w: &[u64], n: u64) -> bool
     requires { length w.now ≡ site_words }
     ensures { (ps : List ℕ) (t : SiteTable) (es : List Entry) → length es ≡ n → result ≡ (batch_in (site_of ps w.now t) es).spent }
 {
+    if n == 0 {
+        return false;
+    }
     let next = store_site::parts::next(w);
-    0 < n && (2147483648 < next || 2147483648 - next < n)
+    2147483648 < next || 2147483648 - next < n
 }
 
 // The record under a number, of which 31 bits are kept.

@@ -56,9 +56,13 @@ impl Subscription {
     fn due(self, time: u64) -> bool
         ensures { result ≡ due_at self time }
     {
-        0 < self.state
-            && 0 < self.seconds
-            && elapsed(self.since, 1000 * u64::from(self.seconds), time)
+        if self.state == 0 {
+            return false;
+        }
+        if self.seconds == 0 {
+            return false;
+        }
+        elapsed(self.since, 1000 * u64::from(self.seconds), time)
     }
 
     #[tactic(auto, unfolding(crate::specs::Subscription::tick_of))]
