@@ -146,19 +146,15 @@ fn take_field(s: &[u8], at: usize) -> Result<Field, usize>
     plain(s, at)
 }
 
-fn note<'a>(n: Notes<'a>, text: &'a [u8]) -> Notes<'a>
-    ensures { result ≡ noted n.entry text.entry }
+fn note<'a>(n: &mut Notes<'a>, text: &'a [u8])
+    ensures { n.new ≡ noted n.old text.entry }
 {
-    let mut texts = n.texts;
-    let k = n.count;
-    if k < MOST {
-        texts[k] = text;
-        return Notes {
-            count: k + 1,
-            texts,
-        };
+    if n.count < MOST {
+        n.texts[n.count] = text;
+        n.count += 1;
+    } else {
+        n.count = 13;
     }
-    Notes { count: 13, texts }
 }
 
 // The place behind a line that ends at `at`.
@@ -182,13 +178,14 @@ pub fn take_line(s: &[u8], at: usize) -> Line
     loop {
         match take_field(s, i) {
             Ok(f) => {
-                notes = note(notes, f.text);
+                note(&mut notes, f.text);
                 if is_at(s, f.next, b',') {
                     i = f.next + 1;
                 } else {
+                    let next = behind(s, f.next);
                     return Line {
                         notes: Some(notes),
-                        next: behind(s, f.next),
+                        next,
                     };
                 }
             }

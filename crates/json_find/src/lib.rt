@@ -33,6 +33,7 @@ pub enum Turn {
 
 // Whether the value at a place is a string that is `fixed` after decoding.
 #[tactic(auto, using(crate::proofs::Steps::string_steps))]
+#[inline(always)]
 fn is_string(s: &[u8], at: usize, fixed: &[u8]) -> bool
     ensures { result ≡ string_at fixed.now (drop at s.now) }
 {

@@ -1,10 +1,11 @@
 -- Marks, character by character.
 -- Assumes nothing.
-use Rattle.basis.proofs.Std.{ℕ, ◌+◌, ◌*◌, ◌<◌, ◌≤◌, ◌≡◌, refl, sym, ap, ◌∙◌, List, mul-le-mul, mod-lt, arith, eqb, length, drop, ne_eqb, eq-eqb}
+use Rattle.basis.proofs.Std.{ℕ, ◌+◌, ◌*◌, ◌<◌, ◌≤◌, ◌≡◌, refl, sym, ap, ◌∙◌, true, List, mul-le-mul, mod-lt, arith, eqb, length, get_or, drop, ne_eqb, eq-eqb}
 use Rattle.json_character.proofs.Lists.{past}
 use Rattle.json_character.proofs.Lists as Lists
 use Rattle.json_value.specs.Answers.{Skipped}
-use Rattle.json_character.specs.Char.{char_of}
+use Rattle.json_character.specs.Char.{char_of, is_plain}
+use Rattle.json_character.proofs.Laws.{at_plain}
 use Rattle.json_character.specs.declared.Char.TheVariants.{One, Close, Bad}
 use Rattle.json_text.proofs.Texts.{one_in}
 use Rattle.json_text.specs.Decoded.{Parsed, push, decoded}
@@ -30,6 +31,9 @@ module _ (key : ℕ) (s : List ℕ) (i h : ℕ) where
   pub mark_one : (c w : ℕ) → One c w ≡ char_of (drop i s) → mark_read key h (decoded (drop i s)) ≡ mark_read key (next key h c) (decoded (drop (i + (1 + w)) s))
   mark_one c w e = ap (mark_read key h) (one s i c w e) ∙ pushed key h c (decoded (drop (i + (1 + w)) s))
 
+  pub mark_plain : is_plain (get_or s i 0) ≡ true → mark_read key h (decoded (drop i s)) ≡ mark_read key (next key h (get_or s i 0)) (decoded (drop (i + 1) s))
+  mark_plain p = mark_one (get_or s i 0) 0 (sym (at_plain s i p))
+
   pub mark_close : Close ≡ char_of (drop i s) → mark_read key h (decoded (drop i s)) ≡ h
   unfolding mark_from
   mark_close e = ap (mark_read key h) (close s i e)
@@ -54,6 +58,6 @@ module _ (key : ℕ) (s : List ℕ) (at k close : ℕ) where
     pub mark_there : k < length s → mark_read key 1 (decoded (drop (k + 1) s)) ≡ mark_at key (eqb close 0x7d) (drop at s)
     mark_there h = sym (named ∙ ap (name_mark key) (Lists.next s k h))
 
-pub ruleset mark_steps = (one_in, product_low, next_low, mark_one, mark_close, mark_bad)
+pub ruleset mark_steps = (one_in, product_low, next_low, mark_one, mark_plain, mark_close, mark_bad)
 
 pub ruleset name_marks = (mark_none, mark_past, mark_there)

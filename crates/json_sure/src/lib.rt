@@ -58,13 +58,19 @@ fn mark(key: u32, s: &[u8], at: usize) -> u64
     let mut i = at;
     let mut h: u64 = 1;
     loop {
-        match json_character::step(s, i) {
-            Char::One(x, w) => {
-                h = (h * factor + x as u64) % PRIME;
-                i += 1 + w;
+        match s.get(i) {
+            Some(b) if json_character::is_plain(*b) => {
+                h = (h * factor + *b as u64) % PRIME;
+                i += 1;
             }
-            Char::Close => return h,
-            Char::Bad => return NO_MARK,
+            _ => match json_character::step(s, i) {
+                Char::One(x, w) => {
+                    h = (h * factor + x as u64) % PRIME;
+                    i += 1 + w;
+                }
+                Char::Close => return h,
+                Char::Bad => return NO_MARK,
+            },
         }
     }
 }

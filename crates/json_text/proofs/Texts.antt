@@ -6,7 +6,8 @@ use Rattle.json_character.proofs.Sound.{Says, char_says}
 use Rattle.json_character.specs.declared.Char.{Char}
 use Rattle.json_character.specs.declared.Char.TheVariants.{One, Close, Bad}
 use Rattle.json_text.specs.declared.Read.{Read}
-use Rattle.json_character.specs.Char.{char_of}
+use Rattle.json_character.specs.Char.{char_of, is_plain}
+use Rattle.json_character.proofs.Laws.{at_plain}
 use Rattle.json_text.specs.Decoded.{Parsed, push, by_char, read_chars, decoded, is_text, same_text}
 use Rattle.json_text.specs.Decoded.Parsed.{ok, none}
 use Rattle.json_text.specs.Ends.{Ends}
@@ -137,7 +138,15 @@ module _ (s : List ℕ) (i : ℕ) (name : List ℕ) (k : ℕ) where
   pub name_bad : Bad ≡ char_of (drop i s) → false ≡ is_text (decoded (drop i s)) (drop k name)
   name_bad e = sym (rw (no_char s i e))
 
-pub ruleset name_steps = (one_in, name_same, name_other, name_close, name_bad, name_long)
+  -- the same of a plain byte
+  module _ (p : is_plain (get_or s i 0) ≡ true) (h : k < length name) where
+    pub plain_same : get_or s i 0 ≡ get_or name k 0 → is_text (decoded (drop (i + 1) s)) (drop (k + 1) name) ≡ is_text (decoded (drop i s)) (drop k name)
+    plain_same q = name_same (get_or s i 0) 0 (sym (at_plain s i p)) h q
+
+    pub plain_other : ¬ (get_or s i 0 ≡ get_or name k 0) → false ≡ is_text (decoded (drop i s)) (drop k name)
+    plain_other q = name_other (get_or s i 0) 0 (sym (at_plain s i p)) h q
+
+pub ruleset name_steps = (one_in, name_same, name_other, name_close, name_bad, name_long, plain_same, plain_other)
 
 -- a comparison of two texts, from i and from j on
 module _ (s : List ℕ) (i j : ℕ) where

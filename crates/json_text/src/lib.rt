@@ -57,14 +57,23 @@ pub fn chars(s: &[u8], at: usize) -> Read
 
 // Whether the string whose characters begin at `at` is `name`: its code points are the bytes of the name, which is of ASCII.
 #[tactic(auto, using(crate::proofs::Texts::name_steps))]
+#[inline(always)]
 pub fn is_name(s: &[u8], at: usize, name: &[u8]) -> bool
     ensures { result ≡ is_text (decoded (drop at s.now)) name.now }
 {
     let mut i = at;
     for b in name {
-        match json_character::step(s, i) {
-            Char::One(x, w) if x == *b as u32 => i += 1 + w,
-            _ => return false,
+        match s.get(i) {
+            Some(c) if json_character::is_plain(*c) => {
+                if c != b {
+                    return false;
+                }
+                i += 1;
+            }
+            _ => match json_character::step(s, i) {
+                Char::One(x, w) if x == *b as u32 => i += 1 + w,
+                _ => return false,
+            },
         }
     }
     matches!(json_character::step(s, i), Char::Close)

@@ -2,7 +2,7 @@
 // bytes: its kind, the four decimal digits of its body's length, a line feed; then the body and a line feed.
 #![tactic(auto)]
 
-ghost use Rattle.std.specs.Prelude.{◌≤◌, ◌<◌, length as len};
+ghost use Rattle.std.specs.Prelude.{◌≡◌, ◌+◌, ◌≤◌, ◌<◌, [], ◌∷◌, length as len};
 
 pub mod packet;
 
@@ -62,6 +62,32 @@ impl fmt::Write for Line<'_> {
     }
 }
 
+// The hexadecimal digit in lower case of a value below 16; of any other value f.
+pub fn hex_digit(value: u8) -> &'static str
+    ensures one { len result.now ≡ 1 }
+    ensures figure { value ≤ 9 → result.now ≡ (48 + value) ∷ [] }
+    ensures letter { 10 ≤ value → value ≤ 15 → result.now ≡ (87 + value) ∷ [] }
+{
+    match value {
+        0 => "0",
+        1 => "1",
+        2 => "2",
+        3 => "3",
+        4 => "4",
+        5 => "5",
+        6 => "6",
+        7 => "7",
+        8 => "8",
+        9 => "9",
+        10 => "a",
+        11 => "b",
+        12 => "c",
+        13 => "d",
+        14 => "e",
+        _ => "f",
+    }
+}
+
 // Bytes that print as hexadecimal digits.
 #[derive(Clone, Copy)]
 pub struct Hex<'a>(pub &'a [u8]);
@@ -69,7 +95,8 @@ pub struct Hex<'a>(pub &'a [u8]);
 impl fmt::Display for Hex<'_> {
     fn fmt<W: fmt::Write>(&self, f: &mut fmt::Formatter<W>) -> fmt::Result {
         for b in self.0 {
-            write!(f, "{b:02x}")?;
+            f.write_str(hex_digit(*b / 16))?;
+            f.write_str(hex_digit(*b % 16))?;
         }
         Ok(())
     }
@@ -182,12 +209,12 @@ fn hex_value(b: u8) -> u8
 // The bytes that stand in s as hexadecimal digits, zeros behind them.
 pub fn unhex<const N: usize>(s: &[u8]) -> [u8; N] {
     let mut bytes = [0; N];
-    for (b, digits) in bytes.iter_mut().zip(s.chunks(2)) {
-        *b = match digits {
-            [high, low] => hex_value(*high) * 16 + hex_value(*low),
-            [high] => hex_value(*high) * 16,
-            _ => 0,
-        };
+    let (pairs, rest) = s.as_chunks::<2>();
+    for (b, [high, low]) in bytes.iter_mut().zip(pairs) {
+        *b = hex_value(*high) * 16 + hex_value(*low);
+    }
+    if let ([high], Some(b)) = (rest, bytes.get_mut(pairs.len())) {
+        *b = hex_value(*high) * 16;
     }
     bytes
 }

@@ -24,14 +24,18 @@ struct Given {
     unsent: bool,
 }
 
+fn identity_in(f: &Fields<40>) -> Identity {
+    let mut bytes = [0; 16];
+    bytes.copy_from_slice(&f.bytes[..16]);
+    Identity { bytes }
+}
+
 // Identity 16 bytes, or three numbers of 4; time 8; sequence number, period, alarms 4 each; primary, unsent 1 each.
 impl From<Case<'_>> for Given {
     fn from(case: Case<'_>) -> Given {
         let f = Fields::<40>::of(case.bytes);
         Given {
-            id: Identity {
-                bytes: run_feed::unhex(case.bytes),
-            },
+            id: identity_in(&f),
             time: f.wide(16),
             major: f.long(0),
             minor: f.long(4),
@@ -69,7 +73,7 @@ fn acted(kind: u8, g: Given, link: Link) -> Link {
 }
 
 // Numbers of other crates' enums, which can be given no Display or From here.
-fn phase_number(p: Phase) -> u8 {
+fn phase_number(p: Phase) -> u64 {
     match p {
         Phase::Down => 0,
         Phase::Greeting => 1,
@@ -105,16 +109,28 @@ fn found_number(f: Found) -> u64 {
     }
 }
 
+fn put_number(line: &mut Line<'_>, n: u64) -> fmt::Result {
+    line.put(|out, at| number::put_decimal(out, at, n))?;
+    line.write_str(" ")
+}
+
 fn put_bool(line: &mut Line<'_>, b: bool) -> fmt::Result {
-    write!(line, "{} ", u8::from(b))
+    line.write_str(if b { "1 " } else { "0 " })
 }
 
 // The phase, how many are awaited, whether that is 8 or more, and 16.
 fn put_phase(line: &mut Line<'_>, link: Link) -> fmt::Result {
     let n = link.awaited.how_many();
-    write!(line, "{} {n} ", phase_number(link.phase()))?;
+    put_number(line, phase_number(link.phase()))?;
+    put_number(line, n as u64)?;
     put_bool(line, link.crowded())?;
     put_bool(line, 16 <= n)
+}
+
+fn put_version(line: &mut Line<'_>, link: Link) -> fmt::Result {
+    put_number(line, u64::from(link.major))?;
+    put_number(line, u64::from(link.minor))?;
+    put_number(line, u64::from(link.patch))
 }
 
 // The link after an act: also what is late and due at the given time, the chosen version, and whether theirs is to be judged.
@@ -122,21 +138,15 @@ fn put_link(line: &mut Line<'_>, g: Given, link: Link) -> fmt::Result {
     let due = link.due(g.time, g.period, g.role, g.alarms, g.unsent);
     put_phase(line, link)?;
     put_bool(line, link.late(g.time))?;
-    write!(
-        line,
-        "{} {} {} {} ",
-        due_number(due),
-        link.major,
-        link.minor,
-        link.patch
-    )?;
+    put_number(line, due_number(due))?;
+    put_version(line, link)?;
     put_bool(line, link.may_judge_version())
 }
 
 // The link before an act: what an answer to the identity is for, and whether it closes.
 fn put_answer(line: &mut Line<'_>, kind: u8, g: Given, link: Link) -> fmt::Result {
     let a = link.answered(g.id, kind == b'y');
-    write!(line, "{} ", found_number(a.found))?;
+    put_number(line, found_number(a.found))?;
     put_bool(line, a.closes)
 }
 

@@ -12,6 +12,17 @@ use std::fmt::Write;
 // The place behind a token or a string that was put.
 type Walked = Result<usize, fmt::Error>;
 
+// A code point in hexadecimal.
+fn put_point(line: &mut Line<'_>, point: u32) -> fmt::Result {
+    for place in [28, 24, 20, 16, 12, 8, 4] {
+        let rest = point.wrapping_shr(place);
+        if 0 < rest {
+            line.write_str(run_feed::hex_digit((rest % 16) as u8))?;
+        }
+    }
+    line.write_str(run_feed::hex_digit((point % 16) as u8))
+}
+
 // The code points of the string whose characters begin at a place, in hexadecimal, with points between.
 fn put_string(line: &mut Line<'_>, s: &[u8], first: usize) -> Walked {
     let mut next = first;
@@ -21,7 +32,7 @@ fn put_string(line: &mut Line<'_>, s: &[u8], first: usize) -> Walked {
                 if next != first {
                     line.write_str(".")?;
                 }
-                write!(line, "{point:x}")?;
+                put_point(line, point)?;
                 next = forward(next, width);
             }
             Char::Close => return Ok(forward(next, 0)),

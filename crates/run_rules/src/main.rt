@@ -68,7 +68,7 @@ struct Given {
 // Time 8 bytes, value 4, link and number 2 each, one more byte.
 impl From<Case<'_>> for Given {
     fn from(case: Case<'_>) -> Given {
-        let f = Fields::<40>::of(case.bytes);
+        let f = Fields::<17>::of(case.bytes);
         Given {
             time: f.wide(0),
             value: f.long(8),
@@ -176,11 +176,15 @@ impl Rules {
     }
 }
 
+fn put_bool(line: &mut Line<'_>, b: bool) -> fmt::Result {
+    line.write_str(if b { "1 " } else { "0 " })
+}
+
 fn put_acted(line: &mut Line<'_>, outcome: Outcome, e: Entry) -> fmt::Result {
     let packed = entry::pack(e);
-    let happened = u8::from(outcome.happened);
-    let issues = u8::from(outcome.issues);
-    write!(line, "{happened} {issues} {}", Hex(&packed.bytes))
+    put_bool(line, outcome.happened)?;
+    put_bool(line, outcome.issues)?;
+    write!(line, "{}", Hex(&packed.bytes))
 }
 
 fn main() {

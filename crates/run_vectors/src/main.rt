@@ -1,6 +1,7 @@
 // Runs the leaves on cases from standard input and writes a line for each; tests/vectors.py makes the cases and the lines.
 #![tactic(auto)]
 
+use entry::Entry;
 use identity::Identity;
 use run_feed::{Case, Fields, Hex, Line};
 use std::fmt;
@@ -17,7 +18,7 @@ fn time_written(body: &[u8], line: &mut Line<'_>) -> fmt::Result {
 
 fn time_read(body: &[u8], line: &mut Line<'_>) -> fmt::Result {
     match calendar::read_time(body) {
-        calendar::Time::Is(ms, decimals) => write!(line, "{ms} {decimals}"),
+        calendar::Time::Is(ms, decimals) => put_numbers(&[ms, decimals as u64], line),
         calendar::Time::No => refused(line),
     }
 }
@@ -65,6 +66,17 @@ fn put_number(n: u64, line: &mut Line<'_>) -> fmt::Result {
     line.put(|out, at| number::put_decimal(out, at, n))
 }
 
+// Each number, with a space before all but the first.
+fn put_numbers(numbers: &[u64], line: &mut Line<'_>) -> fmt::Result {
+    for (i, n) in numbers.iter().enumerate() {
+        if 0 < i {
+            line.write_str(" ")?;
+        }
+        put_number(*n, line)?;
+    }
+    Ok(())
+}
+
 fn number_read(body: &[u8], limit: u32, line: &mut Line<'_>) -> fmt::Result {
     match number::read_decimal(body, limit) {
         number::Number::Is(n) => put_number(n as u64, line),
@@ -73,17 +85,27 @@ fn number_read(body: &[u8], limit: u32, line: &mut Line<'_>) -> fmt::Result {
 }
 
 fn label_judged(body: &[u8], line: &mut Line<'_>) -> fmt::Result {
-    write!(line, "{}", u8::from(number::is_label(body)))
+    line.write_str(if number::is_label(body) { "1" } else { "0" })
+}
+
+fn put_entry(e: Entry, line: &mut Line<'_>) -> fmt::Result {
+    let numbers = [
+        u64::from(e.link),
+        u64::from(e.kind),
+        u64::from(e.item),
+        u64::from(e.flags),
+        e.time,
+        u64::from(e.value),
+        u64::from(e.sequence),
+    ];
+    put_numbers(&numbers, line)
 }
 
 fn record_read(body: &[u8], line: &mut Line<'_>) -> fmt::Result {
     let bytes = run_feed::unhex(body);
     match entry::unpack(entry::Packed { bytes }) {
-        entry::Unpacked::Accepted(e) => {
-            write!(line, "{} {} {} {} ", e.link, e.kind, e.item, e.flags)?;
-            write!(line, "{} {} {}", e.time, e.value, e.sequence)
-        }
-        entry::Unpacked::Refused(r) => write!(line, "{}", answer::refusal_number(r)),
+        entry::Unpacked::Accepted(e) => put_entry(e, line),
+        entry::Unpacked::Refused(r) => put_number(u64::from(answer::refusal_number(r)), line),
     }
 }
 
@@ -94,7 +116,7 @@ fn record_written(body: &[u8], line: &mut Line<'_>) -> fmt::Result {
 
 fn type_found(body: &[u8], line: &mut Line<'_>) -> fmt::Result {
     match names::find_type(body) {
-        names::Found::At(i) => write!(line, "{i}"),
+        names::Found::At(i) => put_number(i as u64, line),
         names::Found::Nothing => refused(line),
     }
 }

@@ -15,13 +15,13 @@ pub loop-f-smaller : goal.loop-f-smaller
 loop-f-smaller c = omega (arith, (took c.in-Ok.ensures).1, comma_after c.in-Ok.ensures (sym c.is_at.ensures ∙ c.if-is_at.true))
 
 pub loop-f-preserved : goal.loop-f-preserved
-loop-f-preserved c = rw c.note-notes.ensures (go_on c.loop-f.invariant c.in-Ok.ensures (sym c.is_at.ensures ∙ c.if-is_at.true))
+loop-f-preserved c = rw c.note.ensures (go_on c.loop-f.invariant c.in-Ok.ensures (sym c.is_at.ensures ∙ c.if-is_at.true))
 
-pub behind-requires : goal.behind-requires
-behind-requires c = (took c.in-Ok.ensures).2
+pub behind-next-requires : goal.behind-next-requires
+behind-next-requires c = (took c.in-Ok.ensures).2
 
 pub returns-else-is_at : goal.returns-else-is_at
-returns-else-is_at c = done c.loop-f.invariant c.in-Ok.ensures (sym c.is_at.ensures ∙ c.if-is_at.false) c.behind.ensures c.note-notes.ensures
+returns-else-is_at c = done c.loop-f.invariant c.in-Ok.ensures (sym c.is_at.ensures ∙ c.if-is_at.false) c.behind-next.ensures c.note.ensures
 
 pub line_end-requires : goal.line_end-requires
 line_end-requires c = (missed c.in-Err.ensures).2
